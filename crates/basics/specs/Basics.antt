@@ -1,0 +1,86 @@
+-- A choice, and the searches and tests on lists that the definitions above use.
+use Prim.Native.Nat.{ℕ, zero, suc, _+_}
+use mathlib.Core.Bool.{Bool, true, false, not, _&&_}
+use mathlib.Core.Option.{Option, none, some}
+use mathlib.Core.List.{List, [], _∷_}
+use lib.Dec.{eqb}
+
+infixr 5 if_then_else_
+-- both branches are computed: where one of them is a recursive call that must wait, write `elim test [ true ↦ .. | false ↦ .. ]`
+unfoldable pub if_then_else_ {ℓ} : {X : Type ℓ} → Bool → X → X → X
+if_then_else_ true x y = x
+if_then_else_ false x y = y
+
+module _ {A : Type 0} where
+  -- some element passes
+  unfoldable pub any : (A → Bool) → List A → Bool
+  any f [] = false
+  any f (x ∷ xs) = elim (f x) [ true ↦ true | false ↦ any f xs ]
+
+  -- every element passes
+  unfoldable pub all : (A → Bool) → List A → Bool
+  all f [] = true
+  all f (x ∷ xs) = f x && all f xs
+
+  -- each neighbouring pair passes
+  unfoldable pub paired : (A → A → Bool) → List A → Bool
+  paired f [] = true
+  paired f (x ∷ []) = true
+  paired f (x ∷ y ∷ ys) = f x y && paired f (y ∷ ys)
+
+  -- the elements that pass
+  unfoldable pub keep : (A → Bool) → List A → List A
+  keep f [] = []
+  keep f (x ∷ xs) = if f x then x ∷ keep f xs else keep f xs
+
+  -- how many elements pass
+  unfoldable pub howMany : (A → Bool) → List A → ℕ
+  howMany f [] = 0
+  howMany f (x ∷ xs) = if f x then suc (howMany f xs) else howMany f xs
+
+  -- the first that passes
+  unfoldable pub first : (A → Bool) → List A → Option A
+  first f [] = none
+  first f (x ∷ xs) = elim (f x) [ true ↦ some x | false ↦ first f xs ]
+
+  -- the last that passes
+  unfoldable pub last : (A → Bool) → List A → Option A
+  last f [] = none
+  last f (x ∷ xs) = elim (last f xs) [ some y ↦ some y | none ↦ if f x then some x else none ]
+
+  unfoldable pub isEmpty : List A → Bool
+  isEmpty [] = true
+  isEmpty (x ∷ xs) = false
+
+  unfoldable pub isSome : Option A → Bool
+  isSome none = false
+  isSome (some a) = true
+
+  -- the sum of what f gives
+  unfoldable pub sum : (A → ℕ) → List A → ℕ
+  sum f [] = 0
+  sum f (x ∷ xs) = f x + sum f xs
+
+-- every test of the list holds
+unfoldable pub every : List Bool → Bool
+every [] = true
+every (b ∷ bs) = b && every bs
+
+-- n stands in the list
+unfoldable pub isIn : ℕ → List ℕ → Bool
+isIn n ns = any (eqb n) ns
+
+-- no number stands twice
+unfoldable pub distinct : List ℕ → Bool
+distinct [] = true
+distinct (x ∷ xs) = not (isIn x xs) && distinct xs
+
+-- k numbers from n on
+unfoldable pub from : ℕ → ℕ → List ℕ
+from n zero = []
+from n (suc k) = n ∷ from (suc n) k
+
+-- opens all of this module: `unfolding basics`
+unfoldable pub basics : ℕ
+unfolding if_then_else_ any all paired keep howMany first last isEmpty isSome sum every isIn distinct from
+basics = 0

@@ -1,0 +1,104 @@
+-- What 512 bytes are as a block. A block is what it spells: its fields are read, and the value is accepted only if these very
+-- bytes spell it, so that counts, sums and stray bits are all tested by one comparison.
+use Prim.Native.Nat.{ℕ, zero, suc, _+_, _*_, _/_, _%_}
+use mathlib.Core.Bool.{Bool, true, false, _&&_}
+use mathlib.Core.Option.{Option, none, some, Option·map}
+use mathlib.Core.List.{List, [], _∷_}
+use lib.ListN.{length, getD, take, drop}
+use lib.Dec.{ltb, leb, eqb}
+use Rattle.basics.specs.Basics.{if_then_else_}
+use Rattle.bits.specs.Bits.{bitsIn, field}
+use Rattle.blocks.specs.Limits.{payloadLimit, entriesPerBlock}
+use Rattle.blocks.specs.Numbers.{num4, same}
+use Rattle.blocks.specs.Tuple.{Owner, committed, tentative, Tuple, ownerSize}
+use Rattle.blocks.specs.Block.{Block, malformed, header, page, directory, encodeBlock}
+use Rattle.blocks.specs.declared.Header.{Header}
+
+-- the first four bits of a block
+unfoldable pub kind : List ℕ → ℕ
+kind xs = field (bitsIn xs) 0 4
+
+-- the value, if these bytes spell it
+unfoldable pub spelledBy : List ℕ → Block → Block
+spelledBy xs b = if same (encodeBlock b) xs then b else malformed
+
+-- ---- header
+
+unfoldable pub readHeader : List ℕ → Header
+readHeader xs = record {
+  blocks = field (bitsIn xs) 4 13; capacity = field (bitsIn xs) 17 11; level = field (bitsIn xs) 28 32; next = field (bitsIn xs) 60 32;
+  pages = field (bitsIn xs) 92 11; directories = field (bitsIn xs) 103 3;
+  d0 = field (bitsIn xs) 106 12; d1 = field (bitsIn xs) 118 12; d2 = field (bitsIn xs) 130 12; d3 = field (bitsIn xs) 142 12 }
+
+unfoldable pub headerIn : List ℕ → Block
+headerIn xs = spelledBy xs (header (readHeader xs))
+
+-- ---- page
+
+-- the owner of a record whose ninth byte is f, and whose next four bytes are the number w
+unfoldable pub readOwner : ℕ → ℕ → Owner
+readOwner f w = if ltb f 128 then tentative (w / 1048576) (w % 1048576) else committed
+
+-- the record at the front of xs: a record starts at a byte, and so do all its fields but those of its ninth byte and its owner
+unfoldable pub readTuple : List ℕ → Tuple
+readTuple xs =
+    let f = getD xs 8 0 in
+    let o = readOwner f (num4 xs 9) in
+    record { key = num4 xs 0; number = num4 xs 4; owner = o; mark = leb 64 (f % 128); payload = take (f % 64) (drop (9 + ownerSize o) xs) }
+
+-- how many bytes the record at the front of xs takes
+unfoldable pub taken : List ℕ → ℕ
+taken xs = 9 + (if ltb (getD xs 8 0) 128 then 4 else 0) + getD xs 8 0 % 64
+
+-- a whole record is there, with a payload within the limit
+unfoldable pub whole : List ℕ → Bool
+whole xs = leb 9 (length xs) && (leb (getD xs 8 0 % 64) payloadLimit && leb (taken xs) (length xs))
+
+-- n records from the front on, each whole
+unfoldable pub readTuples : ℕ → List ℕ → Option (List Tuple)
+readTuples zero xs = some []
+readTuples (suc n) xs = if whole xs then Option·map (λ ts. readTuple xs ∷ ts) (readTuples n (drop (taken xs) xs)) else none
+
+unfoldable pub pageTable : List ℕ → ℕ
+pageTable xs = field (bitsIn xs) 4 3
+
+unfoldable pub pageCount : List ℕ → ℕ
+pageCount xs = field (bitsIn xs) 7 6
+
+unfoldable pub pageLevel : List ℕ → ℕ
+pageLevel xs = field (bitsIn xs) 22 32
+
+unfoldable pub pageOf : List ℕ → Option (List Tuple) → Block
+pageOf xs none = malformed
+pageOf xs (some ts) = spelledBy xs (page (pageTable xs) (pageLevel xs) ts)
+
+unfoldable pub pageIn : List ℕ → Block
+pageIn xs = pageOf xs (readTuples (pageCount xs) (drop 8 xs))
+
+-- ---- directory
+
+-- n entries of 12 bits from bit at on
+unfoldable pub readEntries : List ℕ → ℕ → ℕ → List ℕ
+readEntries xs at zero = []
+readEntries xs at (suc n) = field (bitsIn xs) at 12 ∷ readEntries xs (at + 12) n
+
+unfoldable pub directoryCount : List ℕ → ℕ
+directoryCount xs = field (bitsIn xs) 4 9
+
+unfoldable pub directoryLevel : List ℕ → ℕ
+directoryLevel xs = field (bitsIn xs) 13 32
+
+-- more than 336 entries would not be in the block
+unfoldable pub directoryIn : List ℕ → Block
+directoryIn xs =
+    if leb (directoryCount xs) entriesPerBlock
+    then spelledBy xs (directory (directoryLevel xs) (readEntries xs 64 (directoryCount xs)))
+    else malformed
+
+-- 1 header, 2 page, 3 directory, any other is refused
+unfoldable pub decodeBlock : List ℕ → Block
+decodeBlock xs =
+    if eqb (kind xs) 1 then headerIn xs
+    else if eqb (kind xs) 2 then pageIn xs
+    else if eqb (kind xs) 3 then directoryIn xs
+    else malformed

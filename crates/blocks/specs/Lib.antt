@@ -1,0 +1,10 @@
+pub mod Limits
+pub mod Numbers
+pub mod Tuple
+pub mod Spell
+pub mod Block
+pub mod Decode
+pub mod Bytes
+pub mod Answers
+pub mod Laws
+pub mod Cases
