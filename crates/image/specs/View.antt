@@ -1,0 +1,19 @@
+-- An image is a list of bytes; block i is its i-th 512 bytes, and what it is as a block.
+use Prim.Native.Nat.{ℕ, _*_, _/_}
+use mathlib.Core.List.{List}
+use lib.ListN.{length, take, drop}
+use Rattle.blocks.specs.Block.{Block}
+use Rattle.blocks.specs.Decode.{decodeBlock}
+
+unfoldable pub blockAt : List ℕ → ℕ → List ℕ
+blockAt bytes i = take 512 (drop (512 * i) bytes)
+
+unfoldable pub blockCount : List ℕ → ℕ
+blockCount bytes = length bytes / 512
+
+-- what each block is
+abbrev pub View : Type 0
+View = ℕ → Block
+
+unfoldable pub view : List ℕ → View
+view bytes i = decodeBlock (blockAt bytes i)

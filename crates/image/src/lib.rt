@@ -1,0 +1,1 @@
+// What any bytes are as an image: recovery's tests but that of the memory.

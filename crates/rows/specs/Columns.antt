@@ -1,0 +1,64 @@
+-- Rows as the code holds them for its tests: four columns of numbers. A row read from them has no payload.
+use Prim.Native.Nat.{ℕ, zero, suc, _+_, _-_, _*_, _/_, _%_}
+use mathlib.Core.Bool.{Bool, true, false, not}
+use mathlib.Core.List.{List, [], _∷_, map}
+use lib.ListN.{length, getD}
+use lib.Dec.{eqb, leb}
+use Rattle.basics.specs.Basics.{if_then_else_, any, all, every, paired, distinct}
+use Rattle.blocks.specs.Tuple.{Owner, committed, tentative, Tuple}
+use Rattle.rows.specs.Rows.{Row, number, isOwn, follows, startsWell, isBelow, transactions, openLimit, statementOk}
+
+-- place: table and key
+unfoldable pub placeCode : Row → ℕ
+placeCode r = r .0 * 4294967296 + r .1 .key
+
+-- owner: 0 for committed, else 1 + transaction and statement
+unfoldable pub ownerCode : Owner → ℕ
+ownerCode committed = 0
+ownerCode (tentative t s) = 1 + (t * 1048576 + s)
+
+unfoldable pub codedOwner : ℕ → Owner
+codedOwner o = if eqb o 0 then committed else tentative ((o - 1) / 1048576) ((o - 1) % 1048576)
+
+-- mark: 0 or 1
+unfoldable pub markCode : Bool → ℕ
+markCode true = 1
+markCode false = 0
+
+-- the row with these codes
+unfoldable pub coded : ℕ → ℕ → ℕ → ℕ → Row
+coded p n o m = (p / 4294967296, record { key = p % 4294967296; number = n; owner = codedOwner o; mark = leb 1 m; payload = [] })
+
+-- the row at index i of four columns
+unfoldable pub rowAt : List ℕ → List ℕ → List ℕ → List ℕ → ℕ → Row
+rowAt ps ns os ms i = coded (getD ps i 0) (getD ns i 0) (getD os i 0) (getD ms i 0)
+
+module _ {A : Type 0} where
+  -- f i, f (i + 1), .., n of them
+  unfoldable pub tab : (ℕ → A) → ℕ → ℕ → List A
+  tab f i zero = []
+  tab f i (suc n) = f i ∷ tab f (i + 1) n
+
+-- the first n rows of four columns
+unfoldable pub rowsIn : List ℕ → List ℕ → List ℕ → List ℕ → ℕ → List Row
+rowsIn ps ns os ms n = tab (rowAt ps ns os ms) 0 n
+
+-- r is tentative, and no row after it is its transaction's
+unfoldable pub isLastBy : Owner → List Row → Bool
+isLastBy committed rs = false
+isLastBy (tentative t s) rs = not (any (isOwn t) rs)
+
+unfoldable pub isLast : Row → List Row → Bool
+isLast r rs = isLastBy (r .1 .owner) rs
+
+-- the tests of `rowsOk` that columns show: all but the count and the delete marks' payloads
+unfoldable pub columnsOk : ℕ → List Row → Bool
+columnsOk next rs =
+    every (
+    paired follows rs
+    ∷ startsWell rs
+    ∷ distinct (map number rs)
+    ∷ all (isBelow next) rs
+    ∷ leb (length (transactions rs)) openLimit
+    ∷ all (statementOk rs) rs
+    ∷ [])
