@@ -1,0 +1,6 @@
+// The lister: prints what the image on standard input holds, or the refusal's number.
+use libc::STDIN_FILENO;
+
+fn main() {
+    listing::print(STDIN_FILENO);
+}
