@@ -53,7 +53,9 @@ same-length c = search needs
 
 -- src/lib.rt:203:1
 returns : tie.Need-returns
-returns c = ?
+returns c = let s = c .before .before .before .before .before .before .before .before .before in
+    rw (c .before .before .put42 .ensures, c .before .before .before .before .before .before .put4 .ensures)
+    (put-head (s .args .block .now) (s .args .table) (s .args .count) (s .args .bytes) (s .args .level) (omega arith))
 
 pub put-page-head-spec : {M : Type 1} → statement M
 put-page-head-spec =

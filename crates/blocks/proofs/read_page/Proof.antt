@@ -9,10 +9,10 @@ use Rattle.blocks.proofs.put_page_head.Reads as put-page-head-reads
 use Rattle.blocks.proofs.same_block.Reads as same-block-reads
 
 abbrev Inv-loop : tie.InvT-loop
-Inv-loop block table count level copy₀ at₀ i₀ copy at i = ?
+Inv-loop block table count level copy₀ at₀ i₀ copy at i = ⊥
 
 abbrev μ-loop : tie.MeasureT-loop
-μ-loop block table count level copy₀ at₀ i₀ copy at i = ?
+μ-loop block table count level copy₀ at₀ i₀ copy at i = 0
 
 -- src/lib.rt:222:9
 get32-requires : tie.Need-get32-requires Inv-loop μ-loop
@@ -92,7 +92,7 @@ returns-2 c = ?
 
 -- src/lib.rt:219:1
 returns-3 : tie.Need-returns-3 Inv-loop μ-loop
-returns-3 c = ?
+returns-3 c = let a = c .before .before .before .before .before .before .before .before .before .before .before .before .good in let b = c .before .before .same-block-arg .given in let d = c .before .before .before .copy4 .given in let e = c .before .before .before .before .copy3 .given in ?
 
 pub read-page-spec : {M : Type 1} → statement M
 read-page-spec =
