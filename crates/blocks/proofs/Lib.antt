@@ -1,3 +1,6 @@
 pub mod Same
 pub mod Stores
 pub mod Cursors
+pub mod Spelled
+pub mod Entries
+pub mod Answering
