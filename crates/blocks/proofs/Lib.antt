@@ -4,3 +4,5 @@ pub mod Cursors
 pub mod Spelled
 pub mod Entries
 pub mod Answering
+pub mod Tuples
+pub mod Bitwise

@@ -45,7 +45,8 @@ pub over-whole : (m s : List ℕ) (n : ℕ) → length m ≡ n → length s ≡ 
 unfolding over
 over-whole m s n hm hs =
     let t : take n s ≡ s = take-all n s (omega arith) in
-    let d : drop (0 + length s) m ≡ [] = drop-of-length-le m (omega arith) in
+    let e : length m ≤ 0 + length s = omega arith in
+    let d : drop (0 + length s) m ≡ [] = drop-of-length-le m e in
     rw (t, d) (append-nil s)
 
 pub over-then : (m xs ys : List ℕ) (at n : ℕ) → n ≡ length xs → at + length xs ≤ length m → over (over m at xs) (at + n) ys ≡ over m at (xs ++ ys)

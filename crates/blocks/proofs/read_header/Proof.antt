@@ -1,3 +1,8 @@
+use Rattle.blocks.proofs.Answering.{header-got, header-yes, header-no}
+use Rattle.blocks.specs.Numbers.{same}
+use Prim.Native.Nat.{ℕ}
+use mathlib.Core.List.{List}
+use mathlib.Core.Path.{_≡_, sym, ap, _∙_}
 use borrow.Author.Needs.{needs}
 use Rattle.blocks.proofs.read_header.Statement.{statement}
 use Rattle.blocks.proofs.read_header.Tie as tie
@@ -65,11 +70,15 @@ same-block-requires c κs = search needs
 
 -- src/lib.rt:341:9
 returns : tie.Need-returns
-returns c = ?
+returns c = let xs : List ℕ = c .before .before .before .before .before .before .before .before .before .before .before .before .before .before .before .before .before .args .block .now in
+    let e = header-got xs (c .before .before .before .before .before .before .before .before .before .before .before .before .before .before .before .before .get32 .ensures) (c .before .before .before .before .before .before .before .before .before .before .before .before .before .before .before .get322 .ensures) (c .before .before .before .before .before .before .before .before .before .before .before .before .before .before .get323 .ensures) (c .before .before .before .before .before .before .before .before .before .before .before .before .before .get324 .ensures) (c .before .before .before .before .before .before .before .before .before .before .before .before .get325 .ensures) (c .before .before .before .before .before .before .before .before .before .before .before .get326 .ensures) (c .before .before .before .before .before .before .before .before .before .before .get327 .ensures) (c .before .before .before .before .before .before .before .before .before .get328 .ensures) (c .before .before .before .before .before .before .before .before .get329 .ensures) (c .before .before .before .before .before .before .before .get3210 .ensures) in
+    sym (header-yes xs _ e (ap (λ (k : List ℕ). same k xs) (sym (c .before .before .before .before .before .spell-header .ensures)) ∙ sym (c .before .same-block .ensures) ∙ c .if1 .taken))
 
 -- src/lib.rt:323:1
 returns-2 : tie.Need-returns-2
-returns-2 c = ?
+returns-2 c = let xs : List ℕ = c .before .before .before .before .before .before .before .before .before .before .before .before .before .before .before .before .before .args .block .now in
+    let e = header-got xs (c .before .before .before .before .before .before .before .before .before .before .before .before .before .before .before .before .get32 .ensures) (c .before .before .before .before .before .before .before .before .before .before .before .before .before .before .before .get322 .ensures) (c .before .before .before .before .before .before .before .before .before .before .before .before .before .before .get323 .ensures) (c .before .before .before .before .before .before .before .before .before .before .before .before .before .get324 .ensures) (c .before .before .before .before .before .before .before .before .before .before .before .before .get325 .ensures) (c .before .before .before .before .before .before .before .before .before .before .before .get326 .ensures) (c .before .before .before .before .before .before .before .before .before .before .get327 .ensures) (c .before .before .before .before .before .before .before .before .before .get328 .ensures) (c .before .before .before .before .before .before .before .before .get329 .ensures) (c .before .before .before .before .before .before .before .get3210 .ensures) in
+    sym (header-no xs _ e (ap (λ (k : List ℕ). same k xs) (sym (c .before .before .before .before .before .spell-header .ensures)) ∙ sym (c .before .same-block .ensures) ∙ c .if1 .left))
 
 pub read-header-spec : {M : Type 1} → statement M
 read-header-spec =

@@ -1,3 +1,7 @@
+use Rattle.blocks.proofs.Spelled.{whole-block}
+use Rattle.blocks.specs.Block.{header, headerFields, encodeBlock}
+use mathlib.Core.Path.{refl}
+use native.Mathlib.Omega.{arith}
 use borrow.Author.Needs.{needs}
 use Rattle.blocks.proofs.spell_header.Statement.{statement}
 use Rattle.blocks.proofs.spell_header.Tie as tie
@@ -43,7 +47,7 @@ cast-t13 c = search needs
 
 -- src/lib.rt:317:9
 cast-t14 : tie.Need-cast-t14
-cast-t14 c = ?
+cast-t14 c = omega (arith, c .struct-known10)
 
 -- src/lib.rt:319:32
 slice-aggregate-put-fields : tie.Need-slice-aggregate-put-fields
@@ -55,7 +59,12 @@ slice-aggregate-put-fields-2 c = search needs
 
 -- src/lib.rt:319:5
 put-fields-requires : tie.Need-put-fields-requires
-put-fields-requires c κs = ?
+put-fields-requires c κs = let s = c .before .before .before .before .before .before .before .before .before .before .before .before .before .before in
+    (record {
+      words = (omega arith, (omega arith, (omega arith, (omega arith, (omega arith, (omega arith, (omega arith, (omega arith, (omega arith, (omega arith, (omega arith, tt)))))))))));
+      within = omega (arith, s .pre .0);
+      small = omega arith
+    }, refl)
 
 -- src/lib.rt:301:1
 same-length : tie.Need-same-length
@@ -63,7 +72,10 @@ same-length c = search needs
 
 -- src/lib.rt:301:1
 returns : tie.Need-returns
-returns c = ?
+unfolding encodeBlock
+returns c = let s = c .before .before .before .before .before .before .before .before .before .before .before .before .before .before .before .before .before in
+    let p = c .before .before .put-fields in
+    whole-block (headerFields (s .args .h)) (s .args .block .now) (p .last .0) (s .pre .1) (omega arith) (omega (arith, p .kept, s .pre .0)) (λ j. omega (arith, c .slice-known2 .given j)) (p .ensures)
 
 pub spell-header-spec : {M : Type 1} → statement M
 spell-header-spec =

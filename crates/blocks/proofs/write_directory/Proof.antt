@@ -1,3 +1,12 @@
+use Rattle.blocks.specs.Block.{directory, encodeBlock}
+use lib.Seq.{take-all}
+use lib.ListN.{length}
+use Prim.Native.Nat.{ℕ}
+use mathlib.Core.List.{List}
+use mathlib.Core.Path.{ap}
+use Rattle.blocks.proofs.Stores.{over-whole}
+use mathlib.Core.Path.{_≡_, _∙_}
+use native.Mathlib.Omega.{arith}
 use borrow.Author.Needs.{needs}
 use Rattle.blocks.proofs.write_directory.Statement.{statement}
 use Rattle.blocks.proofs.write_directory.Tie as tie
@@ -28,7 +37,10 @@ same-length c = search needs
 
 -- src/lib.rt:371:1
 returns : tie.Need-returns
-returns c = ?
+returns c = let s = c .before .before .before .before .before .before .before .before .before .before in
+    let p = c .before .before .before .before .before .before .spell-directory in
+    let es : List ℕ = s .args .entries .now in
+    c .before .before .copy .ensures ∙ over-whole (s .args .out .now) (p .last .0) 512 (s .pre .0) (omega arith) ∙ p .ensures ∙ ap (λ (k : List ℕ). encodeBlock (directory (s .args .level) k)) (take-all (length es) es (omega arith))
 
 pub write-directory-spec : {M : Type 1} → statement M
 write-directory-spec =

@@ -1,3 +1,6 @@
+use Rattle.blocks.proofs.Stores.{over-whole}
+use mathlib.Core.Path.{_≡_, _∙_}
+use native.Mathlib.Omega.{arith}
 use borrow.Author.Needs.{needs}
 use Rattle.blocks.proofs.write_header.Statement.{statement}
 use Rattle.blocks.proofs.write_header.Tie as tie
@@ -28,7 +31,9 @@ same-length c = search needs
 
 -- src/lib.rt:361:1
 returns : tie.Need-returns
-returns c = ?
+returns c = let s = c .before .before .before .before .before .before .before .before .before in
+    let p = c .before .before .before .before .before .before .spell-header in
+    c .before .before .copy .ensures ∙ over-whole (s .args .out .now) (p .last .0) 512 (s .pre) (omega arith) ∙ p .ensures
 
 pub write-header-spec : {M : Type 1} → statement M
 write-header-spec =
