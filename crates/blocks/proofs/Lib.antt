@@ -6,3 +6,6 @@ pub mod Entries
 pub mod Answering
 pub mod Tuples
 pub mod Bitwise
+pub mod ReadTuples
+pub mod Built
+pub mod Again
