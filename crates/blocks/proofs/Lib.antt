@@ -9,3 +9,5 @@ pub mod Bitwise
 pub mod ReadTuples
 pub mod Built
 pub mod Again
+pub mod ReadBack
+pub mod Laws
