@@ -149,7 +149,7 @@ module _ (t l : ℕ) (ts : List Tuple) (fit : PageFits t l ts) where
   unfolding pageLevel
   page-level = let e = page-all in cc
 
-  page-tuples : readTuples (length ts) (drop 8 (encodeBlock (page t l ts))) ≡ some ts
+  pub page-tuples : readTuples (length ts) (drop 8 (encodeBlock (page t l ts))) ≡ some ts
   page-tuples =
       let H = pageHead t (length ts) (sizes ts) l in
       rw (page-bytes t l ts fit, drop-at H (body ts) 8 (length-head t (length ts) (sizes ts) l)) (read-records ts _ (fit .tuples))
@@ -230,7 +230,7 @@ read-directory xs g =
       rw h (read-spelled xs (directory (directoryLevel xs) es) (λ q. fits) (rw h at g)))
     (λ h. absurd (g (rw h)))
 
-pub decode-read : (xs : List ℕ) → Reads xs (decodeBlock xs)
+decode-read : (xs : List ℕ) → Reads xs (decodeBlock xs)
 unfolding decodeBlock if_then_else_
 decode-read xs g =
     by (eqb (kind xs) 1) (λ a. rw a (read-header xs (rw a at g)))
@@ -241,5 +241,8 @@ decode-read xs g =
 pub encode-decode : EncodeOfDecode
 encode-decode xs g = decode-read xs g .spelling
 
+pub decode-is : (xs : List ℕ) (b : Block) → decodeBlock xs ≡ b → (b ≡ malformed → ⊥) → Read xs b
+decode-is xs b e g = rw e at (decode-read xs (λ m. g (sym e ∙ m)))
+
 pub decode-in-range : (xs : List ℕ) (b : Block) → decodeBlock xs ≡ b → (b ≡ malformed → ⊥) → InRange b
-decode-in-range xs b e g = rw e at (decode-read xs (λ m. g (sym e ∙ m)) .range)
+decode-in-range xs b e g = decode-is xs b e g .range

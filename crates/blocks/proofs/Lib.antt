@@ -11,3 +11,5 @@ pub mod Built
 pub mod Again
 pub mod ReadBack
 pub mod Laws
+pub mod Cases
+pub mod Walk
