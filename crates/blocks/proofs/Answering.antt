@@ -4,6 +4,7 @@ use mathlib.Core.Bool.{Bool, true, false}
 use mathlib.Core.Option.{Option, none, some}
 use mathlib.Core.List.{List, []}
 use Prim.Native.Nat.{ℕ, _≤_, _<_}
+use native.Mathlib.Omega.{arith}
 use lib.ListN.{length, take, drop}
 use borrow.Author.Tests.{le-leb, lt-leb, ne-eqb}
 use Rattle.basics.specs.Basics.{if_then_else_}
@@ -108,3 +109,47 @@ module _ (xs : List ℕ) (k : ℕ) (e : k ≡ field (bitsIn xs) 0 4) where
   pub reads-other : (k ≡ 1 → ⊥) → (k ≡ 2 → ⊥) → (k ≡ 3 → ⊥) → reading (decodeBlock xs) ≡ Malformed
   unfolding reading
   reads-other a b c = rw (kind-other a b c)
+
+-- ---- what an answer says of the block
+
+pub record PageIs (b : Block) (t n l : ℕ) : Type 0 where
+  pub tuples : List Tuple
+  pub is : b ≡ page t l tuples
+  pub count : length tuples ≡ n
+
+pub record DirectoryIs (b : Block) (n l : ℕ) : Type 0 where
+  pub entries : List ℕ
+  pub is : b ≡ directory l entries
+  pub count : length entries ≡ n
+
+-- one constructor is not another
+other : {X : Type 0} → _≡_ {A = ℕ} 0 1 → X
+other z = absurd (omega arith)
+
+pub answer-header : (b : Block) (h : Header) → reading b ≡ IsHeader h → b ≡ header h
+unfolding reading
+answer-header malformed h e = other cc
+answer-header (header k) h e = cc
+answer-header (page t l ts) h e = other cc
+answer-header (directory l es) h e = other cc
+
+pub answer-page : (b : Block) (t n l : ℕ) → reading b ≡ IsPage t n l → PageIs b t n l
+unfolding reading
+answer-page malformed t n l e = other cc
+answer-page (header k) t n l e = other cc
+answer-page (page t′ l′ ts) t n l e = record { tuples = ts; is = cc; count = cc }
+answer-page (directory l′ es) t n l e = other cc
+
+pub answer-directory : (b : Block) (n l : ℕ) → reading b ≡ IsDirectory n l → DirectoryIs b n l
+unfolding reading
+answer-directory malformed n l e = other cc
+answer-directory (header k) n l e = other cc
+answer-directory (page t l′ ts) n l e = other cc
+answer-directory (directory l′ es) n l e = record { entries = es; is = cc; count = cc }
+
+pub answer-malformed : (b : Block) → reading b ≡ Malformed → b ≡ malformed
+unfolding reading
+answer-malformed malformed e = refl
+answer-malformed (header k) e = other cc
+answer-malformed (page t l ts) e = other cc
+answer-malformed (directory l es) e = other cc

@@ -246,3 +246,9 @@ decode-is xs b e g = rw e at (decode-read xs (λ m. g (sym e ∙ m)))
 
 pub decode-in-range : (xs : List ℕ) (b : Block) → decodeBlock xs ≡ b → (b ≡ malformed → ⊥) → InRange b
 decode-in-range xs b e g = decode-is xs b e g .range
+
+-- the entries of a directory's block are those that are read from it
+pub decode-entries : (xs : List ℕ) (l : ℕ) (es : List ℕ) → decodeBlock xs ≡ directory l es → readEntries xs 64 (length es) ≡ es
+decode-entries xs l es e =
+    let r = decode-is xs (directory l es) e (λ m. let z : _≡_ {A = ℕ} 0 1 = cc in omega arith) in
+    rw (← r .spelling) (dir-entries l es (r .range))
