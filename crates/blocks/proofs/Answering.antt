@@ -29,15 +29,6 @@ module _ (xs : List ℕ) (b : Block) where
 
 -- ---- header
 
-module _ (xs : List ℕ) {blocks capacity level next pages directories d0 d1 d2 d3 : ℕ} where
-  -- the fields got one by one are the header
-  pub header-got : blocks ≡ field (bitsIn xs) 4 13 → capacity ≡ field (bitsIn xs) 17 11 → level ≡ field (bitsIn xs) 28 32 → next ≡ field (bitsIn xs) 60 32
-      → pages ≡ field (bitsIn xs) 92 11 → directories ≡ field (bitsIn xs) 103 3 → d0 ≡ field (bitsIn xs) 106 12 → d1 ≡ field (bitsIn xs) 118 12
-      → d2 ≡ field (bitsIn xs) 130 12 → d3 ≡ field (bitsIn xs) 142 12
-      → record { blocks = blocks; capacity = capacity; level = level; next = next; pages = pages; directories = directories; d0 = d0; d1 = d1; d2 = d2; d3 = d3 } ≡ readHeader xs
-  unfolding readHeader
-  header-got a b c d e f g h k l = λ i. record { blocks = a i; capacity = b i; level = c i; next = d i; pages = e i; directories = f i; d0 = g i; d1 = h i; d2 = k i; d3 = l i }
-
 module _ (xs : List ℕ) (h : Header) (e : h ≡ readHeader xs) where
   pub header-yes : same (encodeBlock (header h)) xs ≡ true → reading (headerIn xs) ≡ IsHeader h
   unfolding headerIn reading

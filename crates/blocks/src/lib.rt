@@ -9,7 +9,7 @@ ghost use Rattle.blocks.specs.Limits.{payloadLimit, recordSpace, joinSum
 ghost use Rattle.blocks.specs.Numbers.{num4, be4, same};
 ghost use Rattle.blocks.specs.Spell.{zeros, blockOf};
 ghost use Rattle.blocks.specs.Block.{headerFields, directoryFields, header, directory, encodeBlock};
-ghost use Rattle.blocks.specs.Decode.{readEntries, headerIn, pageIn, directoryIn, decodeBlock};
+ghost use Rattle.blocks.specs.Decode.{readHeader, readEntries, headerIn, pageIn, directoryIn, decodeBlock};
 ghost use Rattle.blocks.specs.Bytes.{recordAt, nextAt, sizeOf, bytesOfRecord, pageHead};
 ghost use Rattle.blocks.specs.Answers.{reading};
 
@@ -320,11 +320,11 @@ fn spell_header(block: &mut [u8], h: Header)
     bits::put_fields(block, 0, &widths, &values);
 }
 
-// A header is what it spells.
-fn read_header(block: &[u8; 512]) -> Reading
-    ensures { λ r. ⌜ r ≡ reading (headerIn (now (block .entry))) ⌝ }
+// The fields of a header's block.
+fn get_header(block: &[u8; 512]) -> Header
+    ensures { λ r. ⌜ r ≡ readHeader (now (block .entry)) ⌝ }
 {
-    let h = Header {
+    Header {
         blocks: get32(block, 4, 13),
         capacity: get32(block, 17, 11),
         level: get32(block, 28, 32),
@@ -335,7 +335,14 @@ fn read_header(block: &[u8; 512]) -> Reading
         d1: get32(block, 118, 12),
         d2: get32(block, 130, 12),
         d3: get32(block, 142, 12),
-    };
+    }
+}
+
+// A header is what it spells.
+fn read_header(block: &[u8; 512]) -> Reading
+    ensures { λ r. ⌜ r ≡ reading (headerIn (now (block .entry))) ⌝ }
+{
+    let h = get_header(block);
     let mut copy = [0u8; 512];
     spell_header(&mut copy, h);
     if same_block(&copy, block) {
