@@ -1,6 +1,6 @@
 -- A page is spelled again, record by record, as it is read.
 use mathlib.Core.Path.{_≡_, refl, sym, ap, _∙_}
-use mathlib.Core.Bool.{Bool, true, false}
+use mathlib.Core.Bool.{false}
 use mathlib.Core.Option.{Option, none, some, Option·map}
 use mathlib.Core.List.{List, [], _∷_, _++_, append-assoc, append-nil}
 use Prim.Native.Nat.{ℕ, suc, _+_, _-_, _≤_, _<_}
@@ -10,7 +10,6 @@ use lib.Seq.{drop-drop}
 use Rattle.basics.specs.Basics.{if_then_else_}
 use Rattle.bits.specs.Bits.{over, bitsIn, field}
 use Rattle.bits.proofs.Blocks.{field-lt}
-use Rattle.blocks.specs.Numbers.{same}
 use Rattle.blocks.specs.Tuple.{Tuple, AllBytes}
 use Rattle.blocks.specs.Block.{page, encodeBlock, PageFits}
 use Rattle.blocks.specs.Decode.{readTuple, taken, whole, readTuples}
@@ -19,7 +18,6 @@ use Rattle.blocks.specs.Bytes.{sizeOf, bytesOfRecord, payloadIn, tupleOf
 use Rattle.blocks.specs.declared.Record.{Record}
 use Rattle.blocks.specs.declared.Cursor.{Cursor}
 use Rattle.blocks.proofs.Spelled.{bytes-drop}
-use Rattle.blocks.proofs.Cursors.{flagsAt}
 use Rattle.blocks.proofs.ReadTuples.{Found-is, read-all-fit, read-room}
 use Rattle.blocks.proofs.Built.{Built, built-start, built-turn, built-end}
 
@@ -65,7 +63,7 @@ module _ (xs copy : List ℕ) (n at i : ℕ) (a : Again xs copy n at i) where
         turn = omega arith;
         count = length-append (a .done) (tupleOf r (payloadIn xs r) ∷ []) ∙ omega (arith, a .count);
         built = built-turn copy at (a .done) (a .built) r (payloadIn xs r) f (g .length-flags) (g .payload) room;
-        rest = rw (g .tuple, g .takes) next
+        rest = rw (g .tuple, g .takes) next;
       }
 
   pub again-end : n ≤ i → readTuples n (drop 8 xs) ≡ some (a .done)
@@ -89,6 +87,6 @@ module _ (xs copy : List ℕ) (n at i : ℕ) (a : Again xs copy n at i) where
         table = omega arith;
         level = omega arith;
         tuples = read-all-fit n (drop 8 xs) (a .done) (bytes-drop 8 xs b) e;
-        room = omega (arith, read-room n (drop 8 xs) (a .done) e)
+        room = omega (arith, read-room n (drop 8 xs) (a .done) e);
       } in
       rw c (built-end copy at (a .done) (a .built) t l fit)

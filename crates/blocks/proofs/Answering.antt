@@ -1,8 +1,8 @@
 -- What reading a block answers, once its fields are read and spelled again.
-use mathlib.Core.Path.{_≡_, refl, sym, ap, _∙_}
-use mathlib.Core.Bool.{Bool, true, false}
-use mathlib.Core.Option.{Option, none, some}
-use mathlib.Core.List.{List, []}
+use mathlib.Core.Path.{_≡_, refl}
+use mathlib.Core.Bool.{true, false}
+use mathlib.Core.Option.{none, some}
+use mathlib.Core.List.{List}
 use Prim.Native.Nat.{ℕ, _≤_, _<_}
 use native.Mathlib.Omega.{arith}
 use lib.ListN.{length, take, drop}
@@ -15,7 +15,6 @@ use Rattle.blocks.specs.Block.{Block, malformed, header, page, directory
 use Rattle.blocks.specs.Decode.{spelledBy, readHeader, headerIn, readTuples, pageTable, pageCount, pageLevel, pageOf, pageIn, readEntries, directoryCount, directoryLevel, directoryIn, kind, decodeBlock}
 use Rattle.blocks.specs.Answers.{reading}
 use Rattle.blocks.specs.declared.Header.{Header}
-use Rattle.blocks.specs.declared.Reading.{Reading}
 use Rattle.blocks.specs.declared.Reading.the-variants.{IsHeader, IsPage, IsDirectory, Malformed}
 
 module _ (xs : List ℕ) (b : Block) where

@@ -1,12 +1,12 @@
 -- A directory: its entries are read one by one, and it is filled from the front.
 use mathlib.Core.Path.{_≡_, refl, sym, ap, _∙_}
 use mathlib.Core.List.{List, [], _∷_, _++_, append-assoc, append-nil}
-use Prim.Native.Nat.{ℕ, zero, suc, _+_, _-_, _*_, _/_, _%_, _^_, _≤_, _<_}
+use Prim.Native.Nat.{ℕ, zero, suc, _+_, _*_, _≤_, _<_}
 use native.Mathlib.Omega.{arith}
 use native.Mathlib.Numerals.{add-one}
-use lib.ListN.{length, take, drop, getD, set, length-append, length-take}
+use lib.ListN.{length, take, getD, set, length-append, length-take}
 use lib.Seq.{take-suc, take-suc-set}
-use Rattle.bits.specs.Bits.{bitsOf, bitsIn, number, field, over}
+use Rattle.bits.specs.Bits.{bitsOf, bitsIn, field, over}
 use Rattle.bits.proofs.Numbers.{length-bitsOf}
 use Rattle.blocks.specs.Spell.{zeros, spell, filled}
 use Rattle.blocks.specs.Block.{directory, entryFields, directoryFields, encodeBlock}
@@ -76,4 +76,3 @@ pub dir-done : (l n : ℕ) (es s : List ℕ) → n ≤ length es → length s �
 dir-done l n es s h k b e =
     let t : length (take n es) ≡ n = simp length-take (omega arith) in
     dir-whole l (take n es) s k b (e ∙ ap (λ (m : ℕ). filled (dirBits l m (take n es))) (sym t))
-

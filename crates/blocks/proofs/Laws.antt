@@ -1,9 +1,8 @@
 -- One reading and one spelling of a block (`decode-encode`, `encode-decode`); a block's length and bytes; what is read is in range.
 use mathlib.Core.Path.{_≡_, refl, sym, ap, _∙_}
-use mathlib.Core.Bool.{Bool, true, false}
-use mathlib.Core.Option.{Option, none, some}
+use mathlib.Core.Option.{some}
 use mathlib.Core.List.{List, [], _∷_, _++_, append-nil}
-use Prim.Native.Nat.{ℕ, zero, suc, _+_, _*_, _^_, _≤_, _<_}
+use Prim.Native.Nat.{ℕ, zero, suc, _+_, _*_, _≤_, _<_}
 use native.Mathlib.Omega.{arith}
 use lib.ListN.{length, drop, length-drop}
 use lib.Seq.{drop-at}
@@ -24,7 +23,7 @@ use Rattle.blocks.specs.Bytes.{pageHead}
 use Rattle.blocks.specs.declared.Header.{Header}
 use Rattle.blocks.proofs.Same.{same-eq, same-refl}
 use Rattle.blocks.proofs.Spelled.{block-fields, get-spelled, length-block, block-bytes, bytes-drop}
-use Rattle.blocks.proofs.Tuples.{records, count-sizes}
+use Rattle.blocks.proofs.Tuples.{count-sizes}
 use Rattle.blocks.proofs.Bitwise.{body, head-bits, length-head, page-bytes}
 use Rattle.blocks.proofs.ReadTuples.{read-all-fit, read-room}
 use Rattle.blocks.proofs.ReadBack.{read-records}
@@ -195,8 +194,27 @@ read-spelled xs b f g =
 read-header : (xs : List ℕ) → Reads xs (headerIn xs)
 unfolding headerIn readHeader
 read-header xs = read-spelled xs (header (readHeader xs)) (λ q. (
-  omega arith, (field-lt xs 4 13, (field-lt xs 17 11, (field-lt xs 28 32, (field-lt xs 60 32, (field-lt xs 92 11, (field-lt xs 103 3,
-  (field-lt xs 106 12, (field-lt xs 118 12, (field-lt xs 130 12, (field-lt xs 142 12, tt))))))))))))
+  omega arith,
+  (
+    field-lt xs 4 13,
+    (
+      field-lt xs 17 11,
+      (
+        field-lt xs 28 32,
+        (
+          field-lt xs 60 32,
+          (
+            field-lt xs 92 11,
+            (
+              field-lt xs 103 3,
+              (field-lt xs 106 12, (field-lt xs 118 12, (field-lt xs 130 12, (field-lt xs 142 12, tt)))),
+            ),
+          ),
+        ),
+      ),
+    ),
+  ),
+))
 
 read-page : (xs : List ℕ) → Reads xs (pageIn xs)
 unfolding pageIn pageOf pageTable pageLevel
@@ -204,18 +222,18 @@ read-page xs g =
     by-option (readTuples (pageCount xs) (drop 8 xs))
     (λ h. absurd (g (rw h)))
     (λ ts h.
-      let b = page (pageTable xs) (pageLevel xs) ts in
-      let fits : encodeBlock b ≡ xs → PageFits (pageTable xs) (pageLevel xs) ts = λ q.
-        let bytes : AllBytes xs = rw q at (encode-bytes b) in
-        let k : length xs ≡ 512 = rw q at (encode-length b) in
-        let d : length (drop 8 xs) ≡ 504 = rw (length-drop 8 xs, k) in
-        record {
-          table = field-lt xs 4 3;
-          level = field-lt xs 22 32;
-          tuples = read-all-fit (pageCount xs) (drop 8 xs) ts (bytes-drop 8 xs bytes) h;
-          room = omega (arith, read-room (pageCount xs) (drop 8 xs) ts h)
-        } in
-      rw h (read-spelled xs b fits (rw h at g)))
+    let b = page (pageTable xs) (pageLevel xs) ts in
+    let fits : encodeBlock b ≡ xs → PageFits (pageTable xs) (pageLevel xs) ts = λ q.
+    let bytes : AllBytes xs = rw q at (encode-bytes b) in
+    let k : length xs ≡ 512 = rw q at (encode-length b) in
+    let d : length (drop 8 xs) ≡ 504 = rw (length-drop 8 xs, k) in
+    record {
+      table = field-lt xs 4 3;
+      level = field-lt xs 22 32;
+      tuples = read-all-fit (pageCount xs) (drop 8 xs) ts (bytes-drop 8 xs bytes) h;
+      room = omega (arith, read-room (pageCount xs) (drop 8 xs) ts h);
+    } in
+    rw h (read-spelled xs b fits (rw h at g)))
 
 read-directory : (xs : List ℕ) → Reads xs (directoryIn xs)
 unfolding directoryIn directoryLevel if_then_else_
@@ -224,10 +242,10 @@ read-directory xs g =
     let es = readEntries xs 64 n in
     by (leb n 336)
     (λ h.
-      let le : n ≤ 336 = leb-true n 336 h in
-      let fits : DirectoryFits (directoryLevel xs) es =
-      record { level = field-lt xs 13 32; count = omega (arith, entries-count xs 64 n); entries = entries-fit xs 64 n } in
-      rw h (read-spelled xs (directory (directoryLevel xs) es) (λ q. fits) (rw h at g)))
+    let le : n ≤ 336 = leb-true n 336 h in
+    let fits : DirectoryFits (directoryLevel xs) es =
+    record { level = field-lt xs 13 32; count = omega (arith, entries-count xs 64 n); entries = entries-fit xs 64 n } in
+    rw h (read-spelled xs (directory (directoryLevel xs) es) (λ q. fits) (rw h at g)))
     (λ h. absurd (g (rw h)))
 
 decode-read : (xs : List ℕ) → Reads xs (decodeBlock xs)

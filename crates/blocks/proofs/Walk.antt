@@ -1,6 +1,5 @@
 -- The cursor goes through a page: at each of its places it finds the record of the next tuple.
 use mathlib.Core.Path.{_≡_, sym, ap, _∙_}
-use mathlib.Core.Bool.{true}
 use mathlib.Core.Option.{some}
 use mathlib.Core.List.{List, [], _∷_, _++_}
 use Prim.Native.Nat.{ℕ, suc, _+_, _-_, _≤_, _<_}
@@ -63,5 +62,5 @@ module _ (xs : List ℕ) (ts : List Tuple) (at i : ℕ) (w : Walk xs ts at i) (h
         found = f;
         left = left;
         done = take-add i 1 ts ∙ ap (λ (l : List Tuple). take i ts ++ take 1 l) cons;
-        walk = record { turn = omega arith; room = f .ends; rest = rest }
+        walk = record { turn = omega arith; room = f .ends; rest = rest };
       }

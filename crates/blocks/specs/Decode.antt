@@ -26,9 +26,17 @@ spelledBy xs b = if same (encodeBlock b) xs then b else malformed
 
 unfoldable pub readHeader : List ℕ → Header
 readHeader xs = record {
-  blocks = field (bitsIn xs) 4 13; capacity = field (bitsIn xs) 17 11; level = field (bitsIn xs) 28 32; next = field (bitsIn xs) 60 32;
-  pages = field (bitsIn xs) 92 11; directories = field (bitsIn xs) 103 3;
-  d0 = field (bitsIn xs) 106 12; d1 = field (bitsIn xs) 118 12; d2 = field (bitsIn xs) 130 12; d3 = field (bitsIn xs) 142 12 }
+  blocks = field (bitsIn xs) 4 13;
+  capacity = field (bitsIn xs) 17 11;
+  level = field (bitsIn xs) 28 32;
+  next = field (bitsIn xs) 60 32;
+  pages = field (bitsIn xs) 92 11;
+  directories = field (bitsIn xs) 103 3;
+  d0 = field (bitsIn xs) 106 12;
+  d1 = field (bitsIn xs) 118 12;
+  d2 = field (bitsIn xs) 130 12;
+  d3 = field (bitsIn xs) 142 12;
+}
 
 unfoldable pub headerIn : List ℕ → Block
 headerIn xs = spelledBy xs (header (readHeader xs))

@@ -97,7 +97,10 @@ pub fn get4(block: &[u8], at: usize) -> u32
     requires { ⌜ at + 4 ≤ length (now block) ⌝ }
     ensures { λ r. ⌜ r ≡ num4 (now (block .entry)) at ⌝ }
 {
-    (wide(block[at]) * 16777216 + wide(block[at + 1]) * 65536 + wide(block[at + 2]) * 256 + wide(block[at + 3])) as u32
+    (wide(block[at]) * 16777216
+        + wide(block[at + 1]) * 65536
+        + wide(block[at + 2]) * 256
+        + wide(block[at + 3])) as u32
 }
 
 pub fn put4(block: &mut [u8], at: usize, v: u32)
@@ -175,7 +178,14 @@ impl Cursor {
         if tentative {
             owner = get4(block, at + 9);
         }
-        let found = Record { key: get4(block, at), number: get4(block, at + 4), flags: flags, owner: owner, start: end - len, len: len };
+        let found = Record {
+            key: get4(block, at),
+            number: get4(block, at + 4),
+            flags: flags,
+            owner: owner,
+            start: end - len,
+            len: len,
+        };
         Next::Found(found, Cursor { at: end })
     }
 }
@@ -204,7 +214,11 @@ pub fn put_page_head(block: &mut [u8], table: u32, count: u32, bytes: u32, level
     requires { ⌜ (length (now block) ≡ 512) × (table < 8) × (count < 64) × (bytes < 512) ⌝ }
     ensures { λ _. ⌜ now (block .exit) ≡ over (now (block .entry)) 0 (pageHead table count bytes level) ⌝ }
 {
-    put4(block, 0, 536870912 + table * 33554432 + count * 524288 + bytes * 1024 + level / 4194304);
+    put4(
+        block,
+        0,
+        536870912 + table * 33554432 + count * 524288 + bytes * 1024 + level / 4194304,
+    );
     put4(block, 4, level % 4194304 * 1024);
 }
 
@@ -239,7 +253,11 @@ fn read_page(block: &[u8]) -> Reading
     }
     put_page_head(&mut copy, table, count, at as u32 - 8, level);
     if same_block(&copy, block) {
-        return Reading::IsPage { table: table, count: count, level: level };
+        return Reading::IsPage {
+            table: table,
+            count: count,
+            level: level,
+        };
     }
     Reading::Malformed
 }
@@ -293,7 +311,10 @@ fn read_directory(block: &[u8; 512]) -> Reading
     let mut copy = [0u8; 512];
     spell_directory(&mut copy, level, &entries, count);
     if same_block(&copy, block) {
-        return Reading::IsDirectory { count: count, level: level };
+        return Reading::IsDirectory {
+            count: count,
+            level: level,
+        };
     }
     Reading::Malformed
 }
