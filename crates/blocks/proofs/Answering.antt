@@ -28,7 +28,7 @@ module _ (xs : List ℕ) (b : Block) where
 
 -- ---- header
 
-module _ (xs : List ℕ) (h : Header) (e : h ≡ readHeader xs) where
+module _ (xs : List ℕ) {h : Header} (e : h ≡ readHeader xs) where
   pub header-yes : same (encodeBlock (header h)) xs ≡ true → reading (headerIn xs) ≡ IsHeader h
   unfolding headerIn reading
   header-yes s = rw (← e, spelled-yes xs (header h) s)
@@ -39,12 +39,12 @@ module _ (xs : List ℕ) (h : Header) (e : h ≡ readHeader xs) where
 
 -- ---- directory
 
-module _ (xs : List ℕ) (n l : ℕ) (es : List ℕ) (en : n ≡ field (bitsIn xs) 4 9) (el : l ≡ field (bitsIn xs) 13 32) where
+module _ (xs : List ℕ) {n : ℕ} (en : n ≡ field (bitsIn xs) 4 9) where
   pub directory-many : 336 < n → reading (directoryIn xs) ≡ Malformed
   unfolding directoryIn directoryCount reading if_then_else_
   directory-many h = rw (← en, lt-leb n 336 h)
 
-  module _ (h : n ≤ 336) (e : take n es ≡ readEntries xs 64 n) where
+  module _ {l : ℕ} (el : l ≡ field (bitsIn xs) 13 32) (es : List ℕ) (h : n ≤ 336) (e : take n es ≡ readEntries xs 64 n) where
     here : directoryIn xs ≡ spelledBy xs (directory l (take n es))
     unfolding directoryIn directoryCount directoryLevel if_then_else_
     here = rw (← en, ← el, le-leb n 336 h, e)
@@ -59,12 +59,12 @@ module _ (xs : List ℕ) (n l : ℕ) (es : List ℕ) (en : n ≡ field (bitsIn x
 
 -- ---- page
 
-module _ (xs : List ℕ) (t n l : ℕ) (et : t ≡ field (bitsIn xs) 4 3) (en : n ≡ field (bitsIn xs) 7 6) (el : l ≡ field (bitsIn xs) 22 32) where
+module _ (xs : List ℕ) {t n l : ℕ} (et : t ≡ field (bitsIn xs) 4 3) (en : n ≡ field (bitsIn xs) 7 6) (el : l ≡ field (bitsIn xs) 22 32) where
   pub page-none : readTuples n (drop 8 xs) ≡ none → reading (pageIn xs) ≡ Malformed
   unfolding pageIn pageOf pageCount reading
   page-none h = rw (← en, h)
 
-  module _ (ts : List Tuple) (g : readTuples n (drop 8 xs) ≡ some ts) where
+  module _ {ts : List Tuple} (g : readTuples n (drop 8 xs) ≡ some ts) where
     there : pageIn xs ≡ spelledBy xs (page t l ts)
     unfolding pageIn pageOf pageCount pageTable pageLevel
     there = rw (← en, g, ← et, ← el)
@@ -79,7 +79,7 @@ module _ (xs : List ℕ) (t n l : ℕ) (et : t ≡ field (bitsIn xs) 4 3) (en : 
 
 -- ---- by the first four bits
 
-module _ (xs : List ℕ) (k : ℕ) (e : k ≡ field (bitsIn xs) 0 4) where
+module _ (xs : List ℕ) {k : ℕ} (e : k ≡ field (bitsIn xs) 0 4) where
   pub kind-header : k ≡ 1 → decodeBlock xs ≡ headerIn xs
   unfolding decodeBlock kind if_then_else_
   kind-header h = rw (← e, h)

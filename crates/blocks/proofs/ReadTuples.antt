@@ -175,9 +175,9 @@ module _ (xs : List ℕ) (at : ℕ) where
     pub next : c .at ≡ at + taken (drop at xs)
     pub ends : c .at ≤ length xs
 
-  pub found-is : (r : Record) (c : Cursor) → at ≤ length xs → Found r c ≡ nextAt xs at → Found-is r c
+  pub found-is : {r : Record} {c : Cursor} → at ≤ length xs → Found r c ≡ nextAt xs at → Found-is r c
   unfolding nextAt if_then_else_
-  found-is r c room e =
+  found-is {r} {c} room e =
       by (whole (drop at xs))
       (λ w.
       let k : Found r c ≡ Found (recordAt xs at) (record { at = at + taken (drop at xs) }) = rw w at e in

@@ -38,7 +38,7 @@ pub record Handed (xs : List ℕ) (ts : List Tuple) (at i : ℕ) (r : Record) (n
   pub done : take (i + 1) ts ≡ take i ts ++ (tupleOf r (payloadIn xs r) ∷ [])
   pub walk : Walk xs ts next (i + 1)
 
-module _ (xs : List ℕ) (ts : List Tuple) (at i : ℕ) (w : Walk xs ts at i) (h : i < length ts) where
+module _ {xs : List ℕ} {ts : List Tuple} {at i : ℕ} (w : Walk xs ts at i) (h : i < length ts) where
   more : length ts - i ≡ suc (length ts - (i + 1))
   more = omega arith
 
@@ -49,11 +49,11 @@ module _ (xs : List ℕ) (ts : List Tuple) (at i : ℕ) (w : Walk xs ts at i) (h
       let s = split (length ts - (i + 1)) (drop at xs) (drop i ts) k in
       lie (sym (bad-is xs at e) ∙ s .whole-first)
 
-  pub walk-found : (r : Record) (c : Cursor) → Found r c ≡ nextAt xs at → Handed xs ts at i r (c .at)
-  walk-found r c e =
+  pub walk-found : {r : Record} {c : Cursor} → Found r c ≡ nextAt xs at → Handed xs ts at i r (c .at)
+  walk-found {r} {c} e =
       let k : readTuples (suc (length ts - (i + 1))) (drop at xs) ≡ some (drop i ts) = rw more at (w .rest) in
       let s = split (length ts - (i + 1)) (drop at xs) (drop i ts) k in
-      let f = found-is xs at r c (w .room) e in
+      let f = found-is xs at (w .room) e in
       let cons : drop i ts ≡ tupleOf r (payloadIn xs r) ∷ s .others = s .is ∙ ap (λ (y : Tuple). y ∷ s .others) (sym (f .tuple)) in
       let d : drop (i + 1) ts ≡ s .others = sym (drop-drop 1 i ts) ∙ ap (drop 1) cons in
       let rest : readTuples (length ts - (i + 1)) (drop (c .at) xs) ≡ some (drop (i + 1) ts) = rw (f .next, ← drop-drop (taken (drop at xs)) at xs, d) (s .read) in

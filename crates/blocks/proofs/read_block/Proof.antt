@@ -20,22 +20,28 @@ read-directory-requires : tie.Need-read-directory-requires
 read-directory-requires c κs = search needs
 
 returns : tie.Need-returns
-returns c = c .read-header .ensures ∙ ap reading (sym (kind-header (c .before .before .before .args .block .now) (c .before .before .get32 .result) (c .before .before .get32 .ensures) (omega arith)))
+returns c = let s = c .before .before .before in
+    c .read-header .ensures ∙ ap reading (sym (kind-header (s .args .block .now) (c .before .before .get32 .ensures) (omega arith)))
 
 returns-2 : tie.Need-returns-2
-returns-2 c = c .read-page .ensures ∙ ap reading (sym (kind-page (c .before .before .before .before .args .block .now) (c .before .before .before .get32 .result) (c .before .before .before .get32 .ensures) (omega arith)))
+returns-2 c = let s = c .before .before .before .before in
+    c .read-page .ensures ∙ ap reading (sym (kind-page (s .args .block .now) (c .before .before .before .get32 .ensures) (omega arith)))
 
 returns-3 : tie.Need-returns-3
-returns-3 c = c .read-directory .ensures ∙ ap reading (sym (kind-directory (c .before .before .before .args .block .now) (c .before .before .get32 .result) (c .before .before .get32 .ensures) (omega arith)))
+returns-3 c = let s = c .before .before .before in
+    c .read-directory .ensures ∙ ap reading (sym (kind-directory (s .args .block .now) (c .before .before .get32 .ensures) (omega arith)))
 
 returns-4 : tie.Need-returns-4
-returns-4 c = sym (reads-other (c .before .before .before .args .block .now) (c .before .before .get32 .result) (c .before .before .get32 .ensures) (λ h. omega arith) (λ h. omega arith) (λ h. omega arith))
+returns-4 c = let s = c .before .before .before in
+    sym (reads-other (s .args .block .now) (c .before .before .get32 .ensures) (λ h. omega arith) (λ h. omega arith) (λ h. omega arith))
 
 returns-5 : tie.Need-returns-5
-returns-5 c = sym (reads-other (c .before .before .args .block .now) (c .before .get32 .result) (c .before .get32 .ensures) (λ h. omega arith) (λ h. omega arith) (λ h. omega arith))
+returns-5 c = let s = c .before .before in
+    sym (reads-other (s .args .block .now) (c .before .get32 .ensures) (λ h. omega arith) (λ h. omega arith) (λ h. omega arith))
 
 returns-6 : tie.Need-returns-6
-returns-6 c = sym (reads-other (c .before .before .before .args .block .now) (c .before .before .get32 .result) (c .before .before .get32 .ensures) (λ h. omega arith) (λ h. omega arith) (λ h. omega arith))
+returns-6 c = let s = c .before .before .before in
+    sym (reads-other (s .args .block .now) (c .before .before .get32 .ensures) (λ h. omega arith) (λ h. omega arith) (λ h. omega arith))
 
 pub read-block-spec : {M : Type 1} → statement M
 read-block-spec =

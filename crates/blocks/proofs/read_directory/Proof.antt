@@ -15,7 +15,7 @@ get-bits-requires c κs = search needs
 
 returns : tie.Need-returns
 returns c = let xs : List ℕ = c .before .before .before .args .block .now in
-    sym (directory-many xs (c .before .get-bits .result) (field (bitsIn xs) 13 32) [] (c .before .get-bits .ensures .0) refl (omega arith))
+    sym (directory-many xs (c .before .get-bits .ensures .0) (omega arith))
 
 get32-requires : tie.Need-get32-requires
 get32-requires c κs = search needs
@@ -40,17 +40,22 @@ same-block-requires c κs = search needs
 
 returns-2 : tie.Need-returns-2
 returns-2 c = let xs : List ℕ = c .before .before .before .before .before .before .before .before .before .before .before .before .before .args .block .now in
-    let n = c .before .before .before .before .before .before .before .before .before .before .before .get-bits .result in
-    let es : List ℕ = c .before .before .before .before .before .before .before .before .read-entries .result in
+    let n = c .before .before .before .before .before .before .before .before .before .before .before .get-bits in
+    let l = c .before .before .before .before .before .before .before .before .before .get32 .ensures in
+    let r = c .before .before .before .before .before .before .before .before .read-entries in
+    let es : List ℕ = r .result in
     let k : length es ≡ 336 = omega (arith, c .before .before .before .before .before .before .before .before) in
-    let t : length (take n es) ≡ n = simp length-take (omega arith) in
-    sym (directory-yes xs n (c .before .before .before .before .before .before .before .before .before .get32 .result) es (c .before .before .before .before .before .before .before .before .before .before .before .get-bits .ensures .0) (c .before .before .before .before .before .before .before .before .before .get32 .ensures) (omega arith) (c .before .before .before .before .before .before .before .before .read-entries .ensures) t (rw (← c .before .before .before .before .before .spell-directory .ensures) (sym (c .before .same-block .ensures) ∙ c .if2 .taken)))
+    let t : length (take (n .result) es) ≡ n .result = simp length-take (omega arith) in
+    let s = sym (c .before .same-block .ensures) ∙ c .if2 .taken in
+    sym (directory-yes xs (n .ensures .0) l es (omega arith) (r .ensures) t (rw (← c .before .before .before .before .before .spell-directory .ensures) s))
 
 returns-3 : tie.Need-returns-3
 returns-3 c = let xs : List ℕ = c .before .before .before .before .before .before .before .before .before .before .before .before .before .args .block .now in
-    let n = c .before .before .before .before .before .before .before .before .before .before .before .get-bits .result in
-    let es : List ℕ = c .before .before .before .before .before .before .before .before .read-entries .result in
-    sym (directory-no xs n (c .before .before .before .before .before .before .before .before .before .get32 .result) es (c .before .before .before .before .before .before .before .before .before .before .before .get-bits .ensures .0) (c .before .before .before .before .before .before .before .before .before .get32 .ensures) (omega arith) (c .before .before .before .before .before .before .before .before .read-entries .ensures) (rw (← c .before .before .before .before .before .spell-directory .ensures) (sym (c .before .same-block .ensures) ∙ c .if2 .left)))
+    let n = c .before .before .before .before .before .before .before .before .before .before .before .get-bits in
+    let l = c .before .before .before .before .before .before .before .before .before .get32 .ensures in
+    let r = c .before .before .before .before .before .before .before .before .read-entries in
+    let s = sym (c .before .same-block .ensures) ∙ c .if2 .left in
+    sym (directory-no xs (n .ensures .0) l (r .result) (omega arith) (r .ensures) (rw (← c .before .before .before .before .before .spell-directory .ensures) s))
 
 pub read-directory-spec : {M : Type 1} → statement M
 read-directory-spec =

@@ -25,15 +25,13 @@ same-block-requires c κs = search needs
 
 returns : tie.Need-returns
 returns c = let xs : List ℕ = c .before .before .before .before .before .before .before .before .args .block .now in
-    let h = c .before .before .before .before .before .before .before .get-header in
     let e = ap (λ (k : List ℕ). same k xs) (sym (c .before .before .before .before .before .spell-header .ensures)) ∙ sym (c .before .same-block .ensures) in
-    sym (header-yes xs (h .result) (h .ensures) (e ∙ c .if1 .taken))
+    sym (header-yes xs (c .before .before .before .before .before .before .before .get-header .ensures) (e ∙ c .if1 .taken))
 
 returns-2 : tie.Need-returns-2
 returns-2 c = let xs : List ℕ = c .before .before .before .before .before .before .before .before .args .block .now in
-    let h = c .before .before .before .before .before .before .before .get-header in
     let e = ap (λ (k : List ℕ). same k xs) (sym (c .before .before .before .before .before .spell-header .ensures)) ∙ sym (c .before .same-block .ensures) in
-    sym (header-no xs (h .result) (h .ensures) (e ∙ c .if1 .left))
+    sym (header-no xs (c .before .before .before .before .before .before .before .get-header .ensures) (e ∙ c .if1 .left))
 
 pub read-header-spec : {M : Type 1} → statement M
 read-header-spec =

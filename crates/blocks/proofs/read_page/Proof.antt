@@ -4,7 +4,7 @@ use mathlib.Core.List.{List}
 use Prim.Native.Nat.{ℕ, _+_, _-_, _<_}
 use native.Mathlib.Omega.{arith}
 use lib.ListN.{length}
-use Rattle.blocks.specs.Block.{page, encodeBlock}
+use Rattle.blocks.specs.Block.{Block, page, encodeBlock}
 use Rattle.blocks.specs.Tuple.{AllBytes}
 use Rattle.blocks.specs.Numbers.{same}
 use Rattle.blocks.proofs.Answering.{page-none, page-yes, page-no}
@@ -57,23 +57,22 @@ enum-known-r c = omega arith
 
 append-requires : tie.Need-append-requires Inv-loop μ-loop
 append-requires c κs = let s = c .before .before .before .before .before .before .before .before .before .before .before in
-    let xs : List ℕ = s .args .block .now in
     let p = c .before .before .before .before .before .before .loop in
     let r = c .before .before .r .given in
-    let room = p .inv .1 .built .room in
-    let g = found-is xs (p .at) (r .0 .0) (r .0 .1 .0) (omega (arith, s .pre, room)) (sym (r .1) ∙ c .before .before .before .before .next .ensures) in
+    let g = found-is (s .args .block .now) (p .at) (omega (arith, s .pre, p .inv .1 .built .room)) (sym (r .1) ∙ c .before .before .before .before .next .ensures) in
     (omega (arith, s .pre, g .takes, g .next, g .ends), g .inside)
 
 enum-told : tie.Need-enum-told Inv-loop μ-loop
 enum-told c = omega arith
 
 returns : tie.Need-returns Inv-loop μ-loop
-returns c = let s = c .before .before .before .before .before .before .before .before .before in
-    let xs : List ℕ = s .args .block .now in
+returns c = let xs : List ℕ = c .before .before .before .before .before .before .before .before .before .args .block .now in
     let p = c .before .before .before .before .loop in
-    let n = c .before .before .before .before .before .before .get-bits2 .result in
     let w = bad-is xs (p .at) (sym (c .enum-told .given .1) ∙ c .before .before .next .ensures) in
-    sym (page-none xs (c .before .before .before .before .before .before .before .get-bits .result) n (c .before .before .before .before .before .get-bits3 .result) (c .before .before .before .before .before .before .before .get-bits .ensures .0) (c .before .before .before .before .before .before .get-bits2 .ensures .0) (c .before .before .before .before .before .get-bits3 .ensures .0) (again-bad xs (p .copy) n (p .at) (p .i) (p .inv .1) (omega arith) w))
+    let t = c .before .before .before .before .before .before .before .get-bits .ensures .0 in
+    let n = c .before .before .before .before .before .before .get-bits2 .ensures .0 in
+    let l = c .before .before .before .before .before .get-bits3 .ensures .0 in
+    sym (page-none xs t n l (again-bad (p .inv .1) (omega arith) w))
 
 add-i : tie.Need-add-i Inv-loop μ-loop
 add-i c = omega arith
@@ -86,13 +85,12 @@ loop-again c = let s = c .before .before .before .before .before .before .before
     let xs : List ℕ = s .args .block .now in
     let p = c .before .before .before .before .before .before .before .loop in
     let r = c .before .before .before .r .given in
-    let a = p .inv .1 in
-    let room = a .built .room in
-    let g = found-is xs (p .at) (r .0 .0) (r .0 .1 .0) (omega (arith, s .pre, room)) (sym (r .1) ∙ c .before .before .before .before .before .next .ensures) in
+    let n = c .before .before .before .before .before .before .before .before .before .get-bits2 .result in
+    let g = found-is xs (p .at) (omega (arith, s .pre, p .inv .1 .built .room)) (sym (r .1) ∙ c .before .before .before .before .before .next .ensures) in
     let f : r .0 .0 .flags < 256 = omega (arith, c .before .before .known-told) in
-    let more : Again xs (c .append .last .0) (c .before .before .before .before .before .before .before .before .before .get-bits2 .result) (c .append .result) (p .i + 1) =
-    rw (c .append .ensures .1, c .append .ensures .0) (again-turn xs (p .copy) (c .before .before .before .before .before .before .before .before .before .get-bits2 .result) (p .at) (p .i) a (omega arith) (s .pre) (r .0 .0) (r .0 .1 .0) f g) in
-    (built-length _ _ _ (more .built), more)
+    let more : Again xs (c .append .last .0) n (c .append .result) (p .i + 1) =
+    rw (c .append .ensures .1, c .append .ensures .0) (again-turn (p .inv .1) (omega arith) (s .pre) f g) in
+    (built-length (more .built), more)
 
 slice-aggregate-put-page-head : tie.Need-slice-aggregate-put-page-head Inv-loop μ-loop
 slice-aggregate-put-page-head c = omega arith
@@ -112,30 +110,43 @@ slice-aggregate-same-block c = omega arith
 same-block-requires : tie.Need-same-block-requires Inv-loop μ-loop
 same-block-requires c κs = omega arith
 
--- the comparison is that of what the tuples read spell
-spells : (c : lts.After-same-block (get-bits-reads.Asked, get-bits-reads.Learnt, next-reads.Asked, next-reads.Learnt, append-reads.Asked, append-reads.Learnt, put-page-head-reads.Asked, put-page-head-reads.Learnt, same-block-reads.Asked, same-block-reads.Learnt) reads.Pre reads.Post Inv-loop μ-loop)
-    → c .same-block .result ≡ same (encodeBlock (page (c .before .before .before .before .before .before .before .before .before .get-bits .result) (c .before .before .before .before .before .before .before .get-bits3 .result) (c .before .before .before .before .before .before .loop .inv .1 .done))) (c .before .before .before .before .before .before .before .before .before .before .before .args .block .now)
+abbrev Compared : Type 0
+Compared =
+    lts.After-same-block
+    (get-bits-reads.Asked, get-bits-reads.Learnt, next-reads.Asked, next-reads.Learnt, append-reads.Asked, append-reads.Learnt,
+    put-page-head-reads.Asked, put-page-head-reads.Learnt, same-block-reads.Asked, same-block-reads.Learnt)
+    reads.Pre reads.Post Inv-loop μ-loop
+
+-- the page that was read
+abbrev again : Compared → Block
+again c = page (c .before .before .before .before .before .before .before .before .before .get-bits .result) (c .before .before .before .before .before .before .before .get-bits3 .result) (c .before .before .before .before .before .before .loop .inv .1 .done)
+
+-- what was compared is its spelling
+spells : (c : Compared) → c .same-block .result ≡ same (encodeBlock (again c)) (c .before .before .before .before .before .before .before .before .before .before .before .args .block .now)
 spells c =
     let s = c .before .before .before .before .before .before .before .before .before .before .before in
     let xs : List ℕ = s .args .block .now in
-    let p = c .before .before .before .before .before .before .loop in
     let bytes : AllBytes xs = all-bytes xs (λ j. omega (arith, c .before .before .before .before .before .before .before .before .before .before .shared-slice-known .given j)) in
-    let e = again-spells xs (p .copy) (c .before .before .before .before .before .before .before .before .get-bits2 .result) (p .at) (p .i) (p .inv .1) (omega arith) (s .pre) bytes (c .before .before .before .before .before .before .before .before .before .get-bits .result) (c .before .before .before .before .before .before .before .get-bits3 .result) (c .before .before .before .before .before .before .before .before .before .get-bits .ensures .0) (c .before .before .before .before .before .before .before .get-bits3 .ensures .0) in
+    let t = c .before .before .before .before .before .before .before .before .before .get-bits .ensures .0 in
+    let l = c .before .before .before .before .before .before .before .get-bits3 .ensures .0 in
+    let e = again-spells (c .before .before .before .before .before .before .loop .inv .1) (omega arith) (s .pre) bytes t l in
     c .same-block .ensures ∙ ap (λ (k : List ℕ). same k xs) (c .before .before .before .put-page-head .ensures ∙ e)
 
 returns-2 : tie.Need-returns-2 Inv-loop μ-loop
-returns-2 c = let s = c .before .before .before .before .before .before .before .before .before .before .before .before in
-    let p = c .before .before .before .before .before .before .before .loop in
-    let a = p .inv .1 in
-    let n = c .before .before .before .before .before .before .before .before .before .get-bits2 .result in
-    sym (page-yes (s .args .block .now) (c .before .before .before .before .before .before .before .before .before .before .get-bits .result) n (c .before .before .before .before .before .before .before .before .get-bits3 .result) (c .before .before .before .before .before .before .before .before .before .before .get-bits .ensures .0) (c .before .before .before .before .before .before .before .before .before .get-bits2 .ensures .0) (c .before .before .before .before .before .before .before .before .get-bits3 .ensures .0) (a .done) (again-end (s .args .block .now) (p .copy) n (p .at) (p .i) a (omega arith)) (omega (arith, a .count)) (sym (spells (c .before)) ∙ c .if1 .taken))
+returns-2 c = let xs : List ℕ = c .before .before .before .before .before .before .before .before .before .before .before .before .args .block .now in
+    let a = c .before .before .before .before .before .before .before .loop .inv .1 in
+    let t = c .before .before .before .before .before .before .before .before .before .before .get-bits .ensures .0 in
+    let n = c .before .before .before .before .before .before .before .before .before .get-bits2 .ensures .0 in
+    let l = c .before .before .before .before .before .before .before .before .get-bits3 .ensures .0 in
+    sym (page-yes xs t n l (again-end a (omega arith)) (omega (arith, a .count)) (sym (spells (c .before)) ∙ c .if1 .taken))
 
 returns-3 : tie.Need-returns-3 Inv-loop μ-loop
-returns-3 c = let s = c .before .before .before .before .before .before .before .before .before .before .before .before in
-    let p = c .before .before .before .before .before .before .before .loop in
-    let a = p .inv .1 in
-    let n = c .before .before .before .before .before .before .before .before .before .get-bits2 .result in
-    sym (page-no (s .args .block .now) (c .before .before .before .before .before .before .before .before .before .before .get-bits .result) n (c .before .before .before .before .before .before .before .before .get-bits3 .result) (c .before .before .before .before .before .before .before .before .before .before .get-bits .ensures .0) (c .before .before .before .before .before .before .before .before .before .get-bits2 .ensures .0) (c .before .before .before .before .before .before .before .before .get-bits3 .ensures .0) (a .done) (again-end (s .args .block .now) (p .copy) n (p .at) (p .i) a (omega arith)) (sym (spells (c .before)) ∙ c .if1 .left))
+returns-3 c = let xs : List ℕ = c .before .before .before .before .before .before .before .before .before .before .before .before .args .block .now in
+    let a = c .before .before .before .before .before .before .before .loop .inv .1 in
+    let t = c .before .before .before .before .before .before .before .before .before .before .get-bits .ensures .0 in
+    let n = c .before .before .before .before .before .before .before .before .before .get-bits2 .ensures .0 in
+    let l = c .before .before .before .before .before .before .before .before .get-bits3 .ensures .0 in
+    sym (page-no xs t n l (again-end a (omega arith)) (sym (spells (c .before)) ∙ c .if1 .left))
 
 pub read-page-spec : {M : Type 1} → statement M
 read-page-spec =
