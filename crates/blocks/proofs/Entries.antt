@@ -63,7 +63,8 @@ unfolding dirBits
 dir-snoc l n es e = rw (spell-entries-snoc es e) (append-assoc (spell (headFields l n)) (spell (entryFields es)) (bitsOf 12 e))
 
 -- an entry more
-pub entry-put : (l n : ℕ) (es : List ℕ) (i : ℕ) → i < length es → i < 336 → over (filled (dirBits l n (take i es))) (64 + 12 * i) (bitsOf 12 (getD es i 0)) ≡ filled (dirBits l n (take (i + 1) es))
+pub entry-put : (l n : ℕ) (es : List ℕ) (i : ℕ) → i < length es → i < 336
+    → over (filled (dirBits l n (take i es))) (64 + 12 * i) (bitsOf 12 (getD es i 0)) ≡ filled (dirBits l n (take (i + 1) es))
 entry-put l n es i h k =
     let t : length (take i es) ≡ i = simp length-take (omega arith) in
     let d : length (dirBits l n (take i es)) ≡ 64 + 12 * i = length-dir l n (take i es) ∙ ap (λ (m : ℕ). 64 + 12 * m) t in
@@ -72,7 +73,8 @@ entry-put l n es i h k =
     put-next (dirBits l n (take i es)) (bitsOf 12 (getD es i 0)) (omega arith) in
     rw (← d, p, add-one i, take-suc es i 0 h) (ap filled (dir-snoc l n (take i es) (getD es i 0)))
 
-pub dir-done : (l n : ℕ) (es s : List ℕ) → n ≤ length es → length s ≡ 512 → ((i : ℕ) → getD s i 0 < 256) → bitsIn s ≡ filled (dirBits l n (take n es)) → s ≡ encodeBlock (directory l (take n es))
+pub dir-done : (l n : ℕ) (es s : List ℕ) → n ≤ length es → length s ≡ 512 → ((i : ℕ) → getD s i 0 < 256)
+    → bitsIn s ≡ filled (dirBits l n (take n es)) → s ≡ encodeBlock (directory l (take n es))
 dir-done l n es s h k b e =
     let t : length (take n es) ≡ n = simp length-take (omega arith) in
     dir-whole l (take n es) s k b (e ∙ ap (λ (m : ℕ). filled (dirBits l m (take n es))) (sym t))

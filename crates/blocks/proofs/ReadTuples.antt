@@ -1,5 +1,5 @@
 -- The tuples that are read from bytes: their sizes and ranges, and the record of the cursor that each of them is.
-use mathlib.Core.Path.{_≡_, refl, ap, _∙_}
+use mathlib.Core.Path.{_≡_, refl}
 use mathlib.Core.Bool.{true, false, _&&_}
 use mathlib.Core.Option.{none, some}
 use mathlib.Core.List.{List, [], _∷_}
@@ -91,12 +91,6 @@ split n xs ts e =
 pub none-is : (xs : List ℕ) (ts : List Tuple) → readTuples 0 xs ≡ some ts → ts ≡ []
 unfolding readTuples
 none-is xs ts e = cc
-
-pub read-length : (n : ℕ) (xs : List ℕ) (ts : List Tuple) → readTuples n xs ≡ some ts → length ts ≡ n
-read-length zero xs ts e = ap length (none-is xs ts e)
-read-length (suc n) xs ts e =
-    let s = split n xs ts e in
-    ap length (s .is) ∙ ap suc (read-length n (drop (taken xs) xs) (s .others) (s .read))
 
 pub read-all-fit : (n : ℕ) (xs : List ℕ) (ts : List Tuple) → AllBytes xs → readTuples n xs ≡ some ts → AllFit ts
 read-all-fit zero xs ts b e = rw (none-is xs ts e) tt

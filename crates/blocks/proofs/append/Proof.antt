@@ -28,17 +28,18 @@ add-put4-2 : tie.Need-add-put4-2
 add-put4-2 c = search needs
 
 put4-requires-3 : tie.Need-put4-requires-3
-put4-requires-3 c κs = let s = c .before .before .before .before .before .before .before .before .before .before in
-    let h : s .args .r .flags < 128 = omega arith in
-    omega (arith, size-tentative (s .args .r) h)
+put4-requires-3 c κs = let r = c .before .before .before .before .before .before .before .before .before .before .args .r in
+    let h : r .flags < 128 = omega arith in
+    omega (arith, size-tentative r h)
 
 add-copy : tie.Need-add-copy
 add-copy c = search needs
 
 copy-requires : tie.Need-copy-requires
 copy-requires c κs = let s = c .before .before .before .before .before .before .before .before .before .before .before .before in
-    let h : s .args .r .flags < 128 = omega arith in
-    let g = size-tentative (s .args .r) h in
+    let r = s .args .r in
+    let h : r .flags < 128 = omega arith in
+    let g = size-tentative r h in
     (omega arith, omega (arith, s .pre .1))
 
 add-result : tie.Need-add-result
@@ -55,15 +56,20 @@ returns c = let s = c .before .before .before .before .before .before .before .b
     let P : List ℕ = take (r .len) (drop (r .start) (s .args .from .now)) in
     let l : length P ≡ r .len = length-part (r .len) (r .start) (s .args .from .now) (s .pre .1) in
     let k : length (s .args .block .now) ≡ 512 = omega (arith, c .before .before .before .before .before .before .before .before .before .before .before .put4-arg) in
-    (omega arith, rw (c .copy .ensures, c .before .before .put43 .ensures, c .before .before .before .before .before .before .put1 .ensures, c .before .before .before .before .before .before .before .before .put42 .ensures, c .before .before .before .before .before .before .before .before .before .before .put4 .ensures) (append-tentative (s .args .block .now) P (s .args .at) r h (omega arith)))
+    let key = c .before .before .before .before .before .before .before .before .before .before .put4 .ensures in
+    let number = c .before .before .before .before .before .before .before .before .put42 .ensures in
+    let flags = c .before .before .before .before .before .before .put1 .ensures in
+    let owner = c .before .before .put43 .ensures in
+    (omega arith, rw (c .copy .ensures, owner, flags, number, key) (append-tentative (s .args .block .now) P (s .args .at) r h (omega arith)))
 
 add-copy-2 : tie.Need-add-copy-2
 add-copy-2 c = search needs
 
 copy-requires-2 : tie.Need-copy-requires-2
 copy-requires-2 c κs = let s = c .before .before .before .before .before .before .before .before .before .before in
-    let h : 128 ≤ s .args .r .flags = omega arith in
-    let g = size-committed (s .args .r) h in
+    let r = s .args .r in
+    let h : 128 ≤ r .flags = omega arith in
+    let g = size-committed r h in
     (omega arith, omega (arith, s .pre .1))
 
 add-result-3 : tie.Need-add-result-3
@@ -80,7 +86,10 @@ returns-2 c = let s = c .before .before .before .before .before .before .before 
     let P : List ℕ = take (r .len) (drop (r .start) (s .args .from .now)) in
     let l : length P ≡ r .len = length-part (r .len) (r .start) (s .args .from .now) (s .pre .1) in
     let k : length (s .args .block .now) ≡ 512 = omega (arith, c .before .before .before .before .before .before .before .before .before .put4-arg) in
-    (omega arith, rw (c .copy2 .ensures, c .before .before .before .before .put1 .ensures, c .before .before .before .before .before .before .put42 .ensures, c .before .before .before .before .before .before .before .before .put4 .ensures) (append-committed (s .args .block .now) P (s .args .at) r h (omega arith)))
+    let key = c .before .before .before .before .before .before .before .before .put4 .ensures in
+    let number = c .before .before .before .before .before .before .put42 .ensures in
+    let flags = c .before .before .before .before .put1 .ensures in
+    (omega arith, rw (c .copy2 .ensures, flags, number, key) (append-committed (s .args .block .now) P (s .args .at) r h (omega arith)))
 
 pub append-spec : {M : Type 1} → statement M
 append-spec =

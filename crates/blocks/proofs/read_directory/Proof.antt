@@ -1,10 +1,9 @@
 -- `blocks::read_directory` meets its contract.
-use mathlib.Core.Path.{_≡_, refl, sym, _∙_}
-use mathlib.Core.List.{List, []}
+use mathlib.Core.Path.{_≡_, sym, _∙_}
+use mathlib.Core.List.{List}
 use Prim.Native.Nat.{ℕ}
 use native.Mathlib.Omega.{arith}
 use lib.ListN.{length, take, length-take}
-use Rattle.bits.specs.Bits.{bitsIn, field}
 use Rattle.blocks.proofs.Answering.{directory-many, directory-yes, directory-no}
 use borrow.Author.Needs.{needs}
 use Rattle.blocks.proofs.read_directory.Statement.{statement}

@@ -112,14 +112,25 @@ same-block-requires c κs = omega arith
 
 abbrev Compared : Type 0
 Compared =
-    lts.After-same-block
-    (get-bits-reads.Asked, get-bits-reads.Learnt, next-reads.Asked, next-reads.Learnt, append-reads.Asked, append-reads.Learnt,
-    put-page-head-reads.Asked, put-page-head-reads.Learnt, same-block-reads.Asked, same-block-reads.Learnt)
+    lts.After-same-block (
+      get-bits-reads.Asked,
+      get-bits-reads.Learnt,
+      next-reads.Asked,
+      next-reads.Learnt,
+      append-reads.Asked,
+      append-reads.Learnt,
+      put-page-head-reads.Asked,
+      put-page-head-reads.Learnt,
+      same-block-reads.Asked,
+      same-block-reads.Learnt,
+    )
     reads.Pre reads.Post Inv-loop μ-loop
 
 -- the page that was read
 abbrev again : Compared → Block
-again c = page (c .before .before .before .before .before .before .before .before .before .get-bits .result) (c .before .before .before .before .before .before .before .get-bits3 .result) (c .before .before .before .before .before .before .loop .inv .1 .done)
+again c =
+    let s = c .before .before .before .before .before .before in
+    page (s .before .before .before .get-bits .result) (s .before .get-bits3 .result) (s .loop .inv .1 .done)
 
 -- what was compared is its spelling
 spells : (c : Compared) → c .same-block .result ≡ same (encodeBlock (again c)) (c .before .before .before .before .before .before .before .before .before .before .before .args .block .now)

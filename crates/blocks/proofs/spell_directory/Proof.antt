@@ -31,7 +31,10 @@ loop-holds : tie.Need-loop-holds Inv-loop μ-loop
 loop-holds c = let s = c .before .before .before .before .before .before .before .before .before .before .before .before .before .before .before .before .before .before in
     let k = c .before .before .put-bits4 .kept in
     let head = head-put (s .args .level) (s .args .count) (bitsIn (s .args .block .now)) (ap bitsIn (s .pre .1 .1 .1)) in
-    (omega arith, (omega arith, (λ j. omega (arith, c .slice-known5 .given j), rw (c .before .before .put-bits4 .ensures, c .before .before .before .before .before .before .put-bits3 .ensures, c .before .before .before .before .before .before .before .before .before .before .put-bits2 .ensures, c .before .before .before .before .before .before .before .before .before .before .before .before .before .before .put-bits .ensures) head)))
+    let kind = c .before .before .before .before .before .before .before .before .before .before .before .before .before .before .put-bits .ensures in
+    let count = c .before .before .before .before .before .before .before .before .before .before .put-bits2 .ensures in
+    let level = c .before .before .before .before .before .before .put-bits3 .ensures in
+    (omega arith, (omega arith, (λ j. omega (arith, c .slice-known5 .given j), rw (c .before .before .put-bits4 .ensures, level, count, kind) head)))
 
 mul-put-bits : tie.Need-mul-put-bits Inv-loop μ-loop
 mul-put-bits c = omega arith
@@ -62,10 +65,12 @@ loop-again c = let s = c .before .before .before .before .before .before .before
     let p = c .before .before .before .before .before .before .before .loop in
     let t = c .before .before .before .before .before .before .loop-test in
     let more = entry-put (s .args .level) (s .args .count) (s .args .entries .now) (p .i) (omega (arith, s .pre .1 .0, t)) (omega (arith, s .pre .0, t)) in
-    (omega arith, (omega arith, (λ j. omega (arith, c .slice-known6 .given j), rw (c .before .before .put-bits5 .ensures, c .before .before .before .big .ensures, p .inv .1 .1 .1) more)))
+    let put = c .before .before .put-bits5 .ensures in
+    (omega arith, (omega arith, (λ j. omega (arith, c .slice-known6 .given j), rw (put, c .before .before .before .big .ensures, p .inv .1 .1 .1) more)))
 
 same-length : tie.Need-same-length Inv-loop μ-loop
-same-length c = omega (arith, c .before .before .before .before .before .before .before .before .before .before .before .before .before .before .before .before .before .before .before .before .pre .1 .1 .0)
+same-length c = let s = c .before .before .before .before .before .before .before .before .before .before .before .before .before .before .before .before .before .before .before .before in
+    omega (arith, s .pre .1 .1 .0)
 
 returns : tie.Need-returns Inv-loop μ-loop
 returns c = let s = c .before .before .before .before .before .before .before .before .before .before .before .before .before .before .before .before .before .before .before .before in

@@ -1,5 +1,5 @@
 -- `blocks::write_directory` meets its contract.
-use mathlib.Core.Path.{ap, _∙_}
+use mathlib.Core.Path.{_≡_, ap, _∙_}
 use mathlib.Core.List.{List}
 use Prim.Native.Nat.{ℕ}
 use native.Mathlib.Omega.{arith}
@@ -30,7 +30,8 @@ returns : tie.Need-returns
 returns c = let s = c .before .before .before .before .before .before .before .before .before .before in
     let p = c .before .before .before .before .before .before .spell-directory in
     let es : List ℕ = s .args .entries .now in
-    c .before .before .copy .ensures ∙ over-whole (s .args .out .now) (p .last .0) 512 (s .pre .0) (omega arith) ∙ p .ensures ∙ ap (λ (k : List ℕ). encodeBlock (directory (s .args .level) k)) (take-all (length es) es (omega arith))
+    let out : c .before .before .copy .last .0 ≡ p .last .0 = c .before .before .copy .ensures ∙ over-whole (s .args .out .now) (p .last .0) 512 (s .pre .0) (omega arith) in
+    out ∙ p .ensures ∙ ap (λ (k : List ℕ). encodeBlock (directory (s .args .level) k)) (take-all (length es) es (omega arith))
 
 pub write-directory-spec : {M : Type 1} → statement M
 write-directory-spec =

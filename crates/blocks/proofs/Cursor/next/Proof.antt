@@ -40,7 +40,8 @@ add-end c = let s = c .before .before .before .before .before in
 
 returns-3 : tie.Need-returns-3
 returns-3 c = let s = c .before .before .before .before .before .before in
-    sym (none-short (s .args .block .now) (s .args .self .at) (s .pre) (omega arith) (omega arith) (c .before .record-size .result) (c .before .record-size .ensures) (omega arith))
+    let z = c .before .record-size in
+    sym (none-short (s .args .block .now) (s .args .self .at) (s .pre) (omega arith) (omega arith) (z .result) (z .ensures) (omega arith))
 
 add-get4 : tie.Need-add-get4
 add-get4 c = search needs
@@ -68,9 +69,12 @@ returns-4 c = let s = c .before .before .before .before .before .before .before 
     let xs : List ℕ = s .args .block .now in
     let at : ℕ = s .args .self .at in
     let f : ℕ = flagsAt xs at in
-    let o : c .before .before .if4 .owner ≡ (if ltb f 128 then num4 xs (at + 9) else 0) =
-    ⊎-elim (λ w. w .2 ∙ w .1 .ensures ∙ owner-tentative f (num4 xs (at + 9)) (w .0 .taken)) (λ w. w .1 ∙ owner-committed f (num4 xs (at + 9)) (w .0 .left)) (c .before .before .if4 .came) in
-    rw (c .get43 .ensures, c .before .get42 .ensures) (sym (found-whole xs at (s .pre) (omega arith) (omega arith) (c .before .before .before .before .record-size .result) (c .before .before .before .before .record-size .ensures) (c .before .before .if4 .owner) o (omega arith)))
+    let w : ℕ = num4 xs (at + 9) in
+    let z = c .before .before .before .before .record-size in
+    let o : c .before .before .if4 .owner ≡ (if ltb f 128 then w else 0) =
+    ⊎-elim (λ h. h .2 ∙ h .1 .ensures ∙ owner-tentative f w (h .0 .taken)) (λ h. h .1 ∙ owner-committed f w (h .0 .left)) (c .before .before .if4 .came) in
+    let found = found-whole xs at (s .pre) (omega arith) (omega arith) (z .result) (z .ensures) (c .before .before .if4 .owner) o (omega arith) in
+    rw (c .get43 .ensures, c .before .get42 .ensures) (sym found)
 
 pub next-spec : {M : Type 1} → statement M
 next-spec =
