@@ -102,11 +102,13 @@ module _ (xs : List ℕ) {k : ℕ} (e : k ≡ field (bitsIn xs) 0 4) where
 
 -- ---- what an answer says of the block
 
+-- b is a page of n tuples
 pub record PageIs (b : Block) (t n l : ℕ) : Type 0 where
   pub tuples : List Tuple
   pub is : b ≡ page t l tuples
   pub count : length tuples ≡ n
 
+-- b is a directory of n entries
 pub record DirectoryIs (b : Block) (n l : ℕ) : Type 0 where
   pub entries : List ℕ
   pub is : b ≡ directory l entries

@@ -26,9 +26,11 @@ entries-turn xs out i v h e q = rw (add-one i, take-suc-set out i v h, e, q) (sy
 
 -- ---- bits from the front
 
+-- the fields before the entries
 abbrev pub headFields : ℕ → ℕ → List (ℕ × ℕ)
 headFields l n = (4, 3) ∷ (9, n) ∷ (32, l) ∷ (19, 0) ∷ []
 
+-- the bits of a directory that says n entries, with the entries es
 unfoldable pub dirBits : ℕ → ℕ → List ℕ → List ℕ
 dirBits l n es = spell (headFields l n) ++ spell (entryFields es)
 

@@ -57,6 +57,7 @@ ninth-tentative t s false n h = lt-ltb (0 + (0 + n)) 128 (omega arith)
 
 -- ---- a record
 
+-- a tuple of its fields
 abbrev tuple : ℕ → ℕ → Owner → Bool → List ℕ → Tuple
 tuple k n o m p = record { key = k; number = n; owner = o; mark = m; payload = p }
 

@@ -58,6 +58,7 @@ over-then m xs ys at n e h = rw e (over-over m xs ys at h)
 -- ---- a record is appended
 
 module _ (m p : List ℕ) (at : ℕ) (r : Record) where
+  -- m with the first nine bytes of r's record at at
   abbrev front : List ℕ
   front = over (over (over m at (be4 (r .key))) (at + 4) (be4 (r .number))) (at + 8) (r .flags ∷ [])
 

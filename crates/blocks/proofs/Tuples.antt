@@ -21,13 +21,16 @@ use Rattle.blocks.proofs.Spelled.{bytes-append}
 unfoldable pub flags : Tuple → ℕ
 flags x = committedBit (x .owner) * 128 + (markBit (x .mark) * 64 + length (x .payload))
 
+-- an owner's four bytes, if tentative
 unfoldable pub ownerBytes : Owner → List ℕ
 ownerBytes committed = []
 ownerBytes (tentative t s) = be4 (t * 1048576 + s)
 
+-- a tuple's record
 unfoldable pub recordBytes : Tuple → List ℕ
 recordBytes x = be4 (x .key) ++ (be4 (x .number) ++ (flags x ∷ (ownerBytes (x .owner) ++ x .payload)))
 
+-- records one after another
 unfoldable pub records : List Tuple → List ℕ
 records [] = []
 records (x ∷ xs) = recordBytes x ++ records xs

@@ -31,8 +31,10 @@ booked = record {
   rest = 489;
 }
 
+-- the block is spelled by those bytes
 abbrev pub Holds : Case → Type 0
 Holds c = same (encodeBlock (c .block)) (c .bytes ++ zeros (c .rest)) ≡ true
 
+-- every case of the table holds
 abbrev pub Cases : Type 0
 Cases = Holds empty × Holds booked

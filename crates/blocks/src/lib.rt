@@ -1,16 +1,16 @@
 // The block forms: header, page and directory, each a value and 512 bytes.
 ghost use mathlib.Core.Path.{_≡_};
-ghost use mathlib.Core.List.{List, [], _∷_, _++_};
-ghost use Prim.Native.Nat.{ℕ, _+_, _*_, _/_, _%_, _<_, _≤_};
-ghost use lib.ListN.{length, take, drop, getD};
+ghost use mathlib.Core.List.{[], _∷_};
+ghost use Prim.Native.Nat.{_+_, _%_, _<_, _≤_};
+ghost use lib.ListN.{length, take, drop};
 ghost use Rattle.basics.specs.Basics.{if_then_else_};
 ghost use Rattle.bits.specs.Bits.{over, bitsIn, field};
-ghost use Rattle.blocks.specs.Limits.{payloadLimit, recordSpace, joinSum, entriesPerBlock};
+ghost use Rattle.blocks.specs.Limits.{entriesPerBlock};
 ghost use Rattle.blocks.specs.Numbers.{num4, be4, same};
-ghost use Rattle.blocks.specs.Spell.{zeros, blockOf};
-ghost use Rattle.blocks.specs.Block.{headerFields, directoryFields, header, directory, encodeBlock};
+ghost use Rattle.blocks.specs.Spell.{zeros};
+ghost use Rattle.blocks.specs.Block.{header, directory, encodeBlock};
 ghost use Rattle.blocks.specs.Decode.{readHeader, readEntries, headerIn, pageIn, directoryIn, decodeBlock};
-ghost use Rattle.blocks.specs.Bytes.{recordAt, nextAt, sizeOf, bytesOfRecord, pageHead};
+ghost use Rattle.blocks.specs.Bytes.{nextAt, sizeOf, bytesOfRecord, pageHead};
 ghost use Rattle.blocks.specs.Answers.{reading};
 
 // A header block's fields.
@@ -103,6 +103,7 @@ pub fn get4(block: &[u8], at: usize) -> u32
         + wide(block[at + 3])) as u32
 }
 
+// Four bytes, high byte first.
 pub fn put4(block: &mut [u8], at: usize, v: u32)
     requires { ⌜ at + 4 ≤ length (now block) ⌝ }
     ensures { λ _. ⌜ now (block .exit) ≡ over (now (block .entry)) at (be4 v) ⌝ }
@@ -113,6 +114,7 @@ pub fn put4(block: &mut [u8], at: usize, v: u32)
     block[at + 3] = low(v);
 }
 
+// One byte.
 pub fn put1(block: &mut [u8], at: usize, v: u8)
     requires { ⌜ at < length (now block) ⌝ }
     ensures { λ _. ⌜ now (block .exit) ≡ over (now (block .entry)) at (v ∷ []) ⌝ }
@@ -222,6 +224,7 @@ pub fn put_page_head(block: &mut [u8], table: u32, count: u32, bytes: u32, level
     put4(block, 4, level % 4194304 * 1024);
 }
 
+// The number in at most 32 bits of a block.
 fn get32(block: &[u8; 512], at: usize, width: usize) -> u32
     requires { ⌜ (at + width ≤ 4096) × (width ≤ 32) ⌝ }
     ensures { λ r. ⌜ r ≡ field (bitsIn (now (block .entry))) at width ⌝ }
