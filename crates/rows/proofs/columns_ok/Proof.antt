@@ -1,0 +1,70 @@
+use borrow.Author.Needs.{needs}
+use Rattle.rows.proofs.columns_ok.Statement.{statement}
+use Rattle.rows.proofs.columns_ok.Tie as tie
+use Rattle.rows.proofs.columns_ok.Reads as reads
+use Rattle.rows.proofs.columns_ok.Lts as lts
+use Rattle.rows.proofs.below.Reads as below-reads
+use Rattle.rows.proofs.distinct.Reads as distinct-reads
+use Rattle.rows.proofs.rising.Reads as rising-reads
+use Rattle.rows.proofs.statements.Reads as statements-reads
+use Rattle.rows.proofs.transactions.Reads as transactions-reads
+
+-- src/lib.rt:209:9
+rising-requires : tie.Need-rising-requires
+rising-requires c κs = search needs
+
+-- src/lib.rt:210:9
+returns : tie.Need-returns
+returns c = ?
+
+-- src/lib.rt:212:18
+slice-aggregate-distinct : tie.Need-slice-aggregate-distinct
+slice-aggregate-distinct c = ?
+
+-- src/lib.rt:212:9
+distinct-requires : tie.Need-distinct-requires
+distinct-requires c κs = search needs
+
+-- src/lib.rt:213:9
+returns-2 : tie.Need-returns-2
+returns-2 c = ?
+
+-- src/lib.rt:215:9
+below-requires : tie.Need-below-requires
+below-requires c κs = search needs
+
+-- src/lib.rt:216:9
+returns-3 : tie.Need-returns-3
+returns-3 c = ?
+
+-- src/lib.rt:218:13
+transactions-requires : tie.Need-transactions-requires
+transactions-requires c κs = search needs
+
+-- src/lib.rt:219:9
+returns-4 : tie.Need-returns-4
+returns-4 c = ?
+
+-- src/lib.rt:221:5
+statements-requires : tie.Need-statements-requires
+statements-requires c κs = search needs
+
+-- src/lib.rt:205:1
+returns-5 : tie.Need-returns-5
+returns-5 c = ?
+
+pub columns-ok-spec : {M : Type 1} → statement M
+columns-ok-spec =
+    tie.close
+    (tie.spec
+    rising-requires
+    returns
+    slice-aggregate-distinct
+    distinct-requires
+    returns-2
+    below-requires
+    returns-3
+    transactions-requires
+    returns-4
+    statements-requires
+    returns-5)
