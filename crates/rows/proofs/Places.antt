@@ -57,6 +57,12 @@ unmarked m =
     (λ e. let t = eqb-true m 0 e in rw (e, lt-leb 1 m (omega arith)))
     (λ e. let t = eqb-false m 0 e in rw (e, le-leb 1 m (omega arith)))
 
+-- no committed version comes after another of its key
+pub none-after : (o : Owner) → ownerAfter o committed ≡ false
+unfolding ownerAfter
+none-after committed = refl
+none-after (tentative t s) = refl
+
 module _ (p n o p′ n′ o′ m : ℕ) where
   pub follows-rising : p < p′ → follows (coded p n o 0) (coded p′ n′ o′ m) ≡ eqb m 0
   unfolding follows isAt isLower coded if_then_else_
@@ -96,3 +102,10 @@ module _ (ps ns os ms : List ℕ) (n : ℕ) where
       → (paired follows (rowsIn ps ns os ms n) && startsWell (rowsIn ps ns os ms n)) ≡ paired follows (tab (rowAt ps ns os ms) 0 (n - 0))
   unfolding rowsIn
   rising-first h m = rw (tab-whole (rowAt ps ns os ms) n, well h, eq-eqb (getD ms 0 0) 0 m, and-yes)
+
+-- the mark of the first of two does not matter
+pub follows-unmarked : (ps ns os ms : List ℕ) (i j : ℕ)
+    → follows (coded (getD ps i 0) (getD ns i 0) (getD os i 0) 0) (coded (getD ps j 0) (getD ns j 0) (getD os j 0) (getD ms j 0))
+    ≡ follows (rowAt ps ns os ms i) (rowAt ps ns os ms j)
+unfolding follows isAt isLower rowAt coded
+follows-unmarked ps ns os ms i j = refl

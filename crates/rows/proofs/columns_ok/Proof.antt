@@ -1,3 +1,15 @@
+use Rattle.rows.specs.Columns.{rowsIn, columnsOk}
+use Rattle.rows.specs.Rows.{Row, number, follows, startsWell, isBelow, transactions, statementOk}
+use Rattle.basics.specs.Basics.{all, every, paired, distinct}
+use lib.Dec.{eqb, ltb, leb}
+use lib.ListN.{length, take, drop, getD}
+use Prim.Native.Nat.{ℕ, suc, _+_, _-_, _*_, _/_, _%_, _≤_, _<_}
+use mathlib.Core.Logic.{⊎-elim}
+use mathlib.Core.List.{List, [], _∷_, map}
+use mathlib.Core.Bool.{Bool, true, false, not, _&&_}
+use mathlib.Core.Path.{_≡_, refl, sym, ap, _∙_}
+use borrow.Author.Tests.{not-true, not-false, lt-ltb, le-ltb, le-leb, lt-leb, eq-eqb, ne-eqb}
+use native.Mathlib.Omega.{arith}
 use borrow.Author.Needs.{needs}
 use Rattle.rows.proofs.columns_ok.Statement.{statement}
 use Rattle.rows.proofs.columns_ok.Tie as tie

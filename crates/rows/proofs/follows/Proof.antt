@@ -1,4 +1,4 @@
-use Rattle.rows.proofs.Places.{follows-rising, follows-falling, follows-there}
+use Rattle.rows.proofs.Places.{follows-rising, follows-falling, follows-there, none-after}
 use Rattle.rows.specs.Columns.{codedOwner}
 use Rattle.rows.specs.Rows.{follows, ownerAfter}
 use Rattle.basics.specs.Basics.{if_then_else_}
@@ -31,8 +31,8 @@ returns-3 c = let a = c .before .before .before .args in sym (follows-there (a .
 
 -- src/lib.rt:115:9
 returns-4 : tie.Need-returns-4
-unfolding codedOwner ownerAfter if_then_else_
-returns-4 c = let a = c .before .before .before .before .args in sym (follows-there (a .p) (a .n) (a .o) (a .p2) (a .n2) (a .o2) (a .m2) (c .before .before .if2 .left) ∙ rw (eq-eqb _ _ (c .if4 .taken)) ?)
+unfolding codedOwner if_then_else_
+returns-4 c = let a = c .before .before .before .before .args in sym (follows-there (a .p) (a .n) (a .o) (a .p2) (a .n2) (a .o2) (a .m2) (c .before .before .if2 .left) ∙ rw (eq-eqb _ _ (c .if4 .taken), none-after, lt-ltb _ _ (c .before .if3 .left)))
 
 -- src/lib.rt:118:9
 returns-5 : tie.Need-returns-5

@@ -44,7 +44,7 @@ has-written-requires c κs = search needs
 -- src/lib.rt:177:1
 returns-2 : tie.Need-returns-2
 unfolding isLast isLastBy rowAt coded codedOwner if_then_else_
-returns-2 c = rw (ne-eqb _ _ (c .before .before .if1 .left), c .has-written .ensures)
+returns-2 c = rw (ne-eqb _ _ (c .before .if1 .left), c .has-written .ensures)
 
 pub is-last-spec : {M : Type 1} → statement M
 is-last-spec =
