@@ -12,6 +12,7 @@ use Rattle.basics.proofs.Facts.{by}
 use Rattle.blocks.specs.Tuple.{Owner, committed, tentative}
 use Rattle.rows.specs.Rows.{isAt, isLower, ownerAfter, follows, startsWell}
 use Rattle.rows.specs.Columns.{coded, codedOwner, rowAt, tab, rowsIn}
+use Rattle.rows.proofs.Ands.{and-yes, and-no}
 use Rattle.rows.proofs.Turns.{tab-whole}
 
 abbrev B : ℕ
@@ -77,14 +78,6 @@ module _ (p n o p′ n′ o′ m : ℕ) where
   follows-there h = rw (stays-same p p′ h)
 
 -- ---- the first row
-
-and-yes : (a : Bool) → (a && true) ≡ a
-and-yes true = refl
-and-yes false = refl
-
-and-no : (a : Bool) → (a && false) ≡ false
-and-no true = refl
-and-no false = refl
 
 module _ (ps ns os ms : List ℕ) (n : ℕ) where
   pub rising-none : n ≡ 0 → (paired follows (rowsIn ps ns os ms n) && startsWell (rowsIn ps ns os ms n)) ≡ true

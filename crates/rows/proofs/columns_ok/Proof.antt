@@ -1,3 +1,6 @@
+use Rattle.rows.proofs.Ands.{and-no}
+use Rattle.rows.proofs.Kept.{columns-tests}
+use lib.ListN.{length-take}
 use Rattle.rows.specs.Columns.{rowsIn, columnsOk}
 use Rattle.rows.specs.Rows.{Row, number, follows, startsWell, isBelow, transactions, statementOk}
 use Rattle.basics.specs.Basics.{all, every, paired, distinct}
@@ -27,11 +30,12 @@ rising-requires c κs = search needs
 
 -- src/lib.rt:210:9
 returns : tie.Need-returns
-returns c = ?
+returns c = let a = c .before .before .before .before .before .before .args in
+    sym (columns-tests (a .places .now) (a .numbers .now) (a .owners .now) (a .marks .now) (a .count) (c .before .before .before .before .before .before .pre .1 .0) (a .next) ∙ rw (sym (c .before .rising .ensures) ∙ not-true _ (c .if1 .taken)))
 
 -- src/lib.rt:212:18
 slice-aggregate-distinct : tie.Need-slice-aggregate-distinct
-slice-aggregate-distinct c = ?
+slice-aggregate-distinct c = simp length-take (omega arith)
 
 -- src/lib.rt:212:9
 distinct-requires : tie.Need-distinct-requires
@@ -39,7 +43,8 @@ distinct-requires c κs = search needs
 
 -- src/lib.rt:213:9
 returns-2 : tie.Need-returns-2
-returns-2 c = ?
+returns-2 c = let a = c .before .before .before .before .before .before .before .before .before .args in
+    sym (columns-tests (a .places .now) (a .numbers .now) (a .owners .now) (a .marks .now) (a .count) (c .before .before .before .before .before .before .before .before .before .pre .1 .0) (a .next) ∙ rw (sym (c .before .distinct .ensures) ∙ not-true _ (c .if2 .taken), and-no))
 
 -- src/lib.rt:215:9
 below-requires : tie.Need-below-requires
@@ -47,7 +52,8 @@ below-requires c κs = search needs
 
 -- src/lib.rt:216:9
 returns-3 : tie.Need-returns-3
-returns-3 c = ?
+returns-3 c = let a = c .before .before .before .before .before .before .before .before .before .before .before .args in
+    sym (columns-tests (a .places .now) (a .numbers .now) (a .owners .now) (a .marks .now) (a .count) (c .before .before .before .before .before .before .before .before .before .before .before .pre .1 .0) (a .next) ∙ rw (sym (c .before .below .ensures) ∙ not-true _ (c .if3 .taken), and-no, and-no))
 
 -- src/lib.rt:218:13
 transactions-requires : tie.Need-transactions-requires
@@ -55,7 +61,8 @@ transactions-requires c κs = search needs
 
 -- src/lib.rt:219:9
 returns-4 : tie.Need-returns-4
-returns-4 c = ?
+returns-4 c = let a = c .before .before .before .before .before .before .before .before .before .before .before .before .before .args in
+    sym (columns-tests (a .places .now) (a .numbers .now) (a .owners .now) (a .marks .now) (a .count) (c .before .before .before .before .before .before .before .before .before .before .before .before .before .pre .1 .0) (a .next) ∙ rw (← c .before .transactions .ensures, lt-leb _ _ (c .if4 .taken), and-no, and-no, and-no))
 
 -- src/lib.rt:221:5
 statements-requires : tie.Need-statements-requires
@@ -63,7 +70,11 @@ statements-requires c κs = search needs
 
 -- src/lib.rt:205:1
 returns-5 : tie.Need-returns-5
-returns-5 c = ?
+returns-5 c = let a = c .before .before .before .before .before .before .before .before .before .before .before .before .before .before .args in
+    let r = sym (c .before .before .before .before .before .before .before .before .before .rising .ensures) ∙ not-false _ (c .before .before .before .before .before .before .before .before .if1 .left) in
+    let d = sym (c .before .before .before .before .before .before .distinct .ensures) ∙ not-false _ (c .before .before .before .before .before .if2 .left) in
+    let b = sym (c .before .before .before .before .below .ensures) ∙ not-false _ (c .before .before .before .if3 .left) in
+    sym (columns-tests (a .places .now) (a .numbers .now) (a .owners .now) (a .marks .now) (a .count) (c .before .before .before .before .before .before .before .before .before .before .before .before .before .before .pre .1 .0) (a .next) ∙ rw (r, d, b, ← c .before .before .transactions .ensures, le-leb _ _ (c .before .if4 .left), c .statements .ensures))
 
 pub columns-ok-spec : {M : Type 1} → statement M
 columns-ok-spec =
