@@ -1,14 +1,14 @@
 -- Rows without their payloads: what columns hold of rows, and the tests on them.
-use mathlib.Core.Path.{_≡_, refl, sym, ap, _∙_}
-use mathlib.Core.Bool.{Bool, true, false, not, _&&_}
+use mathlib.Core.Path.{_≡_, refl}
+use mathlib.Core.Bool.{Bool, true, false, _&&_}
 use mathlib.Core.List.{List, [], _∷_, map}
-use Prim.Native.Nat.{ℕ, _+_, _-_, _*_, _/_, _%_, _<_}
+use Prim.Native.Nat.{ℕ, _+_, _-_, _*_, _/_, _%_}
 use native.Mathlib.Omega.{arith}
 use lib.ListN.{length}
-use lib.Dec.{eqb, leb}
-use borrow.Author.Tests.{eq-eqb, ne-eqb}
+use lib.Dec.{leb}
+use borrow.Author.Tests.{ne-eqb}
 use Rattle.basics.specs.Basics.{if_then_else_, all, every, paired, distinct}
-use Rattle.blocks.specs.Tuple.{Owner, committed, tentative, Tuple, OwnerFits, Fits}
+use Rattle.blocks.specs.Tuple.{Owner, committed, tentative, OwnerFits, Fits}
 use Rattle.rows.specs.Rows.{Row, number, isAt, isLower, follows, startsWell, isBelow, statementOk, transactions, openLimit, markOk, rowsOk}
 use Rattle.rows.specs.Columns.{placeCode, ownerCode, codedOwner, markCode, coded, columnsOk}
 use Rattle.rows.proofs.Ands.{and-assoc, and-comm, and-swap}
@@ -58,12 +58,13 @@ pub columns-bare : (next : ℕ) (rs : List Row) → columnsOk next (map bare rs)
 unfolding columnsOk number
 columns-bare next rs =
     rw (
-    follows-bare rs,
-    starts-bare rs,
-    numbers-kept bare (λ r. refl) rs,
-    below-kept bare (λ r. refl) next rs,
-    transactions-kept bare (λ r. refl) rs,
-    statements-kept bare (λ r. refl) (λ r. refl) rs)
+      follows-bare rs,
+      starts-bare rs,
+      numbers-kept bare (λ r. refl) rs,
+      below-kept bare (λ r. refl) next rs,
+      transactions-kept bare (λ r. refl) rs,
+      statements-kept bare (λ r. refl) (λ r. refl) rs,
+    )
 
 -- ---- all tests, in the order of the code
 

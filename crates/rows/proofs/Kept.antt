@@ -1,15 +1,15 @@
 -- Rows that are changed but for what a test looks at: the test answers the same. So the tests read columns with the others missing, and rows
 -- without payloads.
 use mathlib.Core.Path.{_≡_, refl, sym, ap, _∙_}
-use mathlib.Core.Bool.{Bool, true, false, not, _&&_}
+use mathlib.Core.Bool.{Bool, false, _&&_}
 use mathlib.Core.List.{List, [], _∷_, map}
-use Prim.Native.Nat.{ℕ, zero, suc, _+_, _-_, _*_, _/_, _%_, _≤_, _<_}
+use Prim.Native.Nat.{ℕ, zero, suc, _+_, _≤_}
 use native.Mathlib.Omega.{arith}
 use native.Mathlib.Numerals.{add-one}
 use lib.ListN.{length, take, getD}
-use lib.Dec.{eqb, ltb, leb}
+use lib.Dec.{ltb, leb}
 use Rattle.basics.specs.Basics.{if_then_else_, all, every, paired, howMany, distinct}
-use Rattle.blocks.specs.Tuple.{Owner, committed, tentative, Tuple}
+use Rattle.blocks.specs.Tuple.{Owner, committed, tentative}
 use Rattle.rows.specs.Rows.{Row, number, isBy, isOwn, follows, startsWell, isBelow, earlierBy, statementIs, statementOk, transactions, openLimit}
 use Rattle.rows.specs.Columns.{codedOwner, coded, rowAt, tab, rowsIn, columnsOk}
 use Rattle.rows.proofs.Ands.{and-yes, and-assoc}
@@ -132,9 +132,10 @@ module _ (ps ns os ms : List ℕ) (n : ℕ) (h : n ≤ length ns) where
   unfolding columnsOk every
   columns-tests next =
       rw (
-      and-assoc (paired follows (rowsIn ps ns os ms n)) (startsWell (rowsIn ps ns os ms n)),
-      below-columns ps ns os ms n next,
-      transactions-columns ps ns os ms n,
-      statements-columns ps ns os ms n,
-      ← numbers-columns,
-      and-yes)
+        and-assoc (paired follows (rowsIn ps ns os ms n)) (startsWell (rowsIn ps ns os ms n)),
+        below-columns ps ns os ms n next,
+        transactions-columns ps ns os ms n,
+        statements-columns ps ns os ms n,
+        ← numbers-columns,
+        and-yes,
+      )

@@ -1,15 +1,15 @@
 -- Places in order: what `follows` is where the place rises, stays or falls; the first row. A place is table and key in one number.
-use mathlib.Core.Path.{_≡_, refl, sym, ap, _∙_}
+use mathlib.Core.Path.{_≡_, refl}
 use mathlib.Core.Bool.{Bool, true, false, not, _&&_, _||_}
-use mathlib.Core.List.{List, [], _∷_}
-use Prim.Native.Nat.{ℕ, suc, _-_, _/_, _%_, _≤_, _<_}
+use mathlib.Core.List.{List}
+use Prim.Native.Nat.{ℕ, suc, _-_, _/_, _%_, _<_}
 use native.Mathlib.Omega.{arith}
 use lib.ListN.{getD}
 use lib.Dec.{eqb, ltb, leb}
 use borrow.Author.Tests.{eqb-true, eqb-false, lt-ltb, le-ltb, le-leb, lt-leb, eq-eqb, ne-eqb}
 use Rattle.basics.specs.Basics.{if_then_else_, paired}
 use Rattle.basics.proofs.Facts.{by}
-use Rattle.blocks.specs.Tuple.{Owner, committed, tentative}
+use Rattle.blocks.specs.Tuple.{committed}
 use Rattle.rows.specs.Rows.{isAt, isLower, ownerAfter, follows, startsWell}
 use Rattle.rows.specs.Columns.{coded, codedOwner, rowAt, tab, rowsIn}
 use Rattle.rows.proofs.Ands.{and-yes, and-no}
@@ -58,11 +58,13 @@ unmarked m =
     (λ e. let t = eqb-true m 0 e in rw (e, lt-leb 1 m (omega arith)))
     (λ e. let t = eqb-false m 0 e in rw (e, le-leb 1 m (omega arith)))
 
--- no committed version comes after another of its key
-pub none-after : (o : Owner) → ownerAfter o committed ≡ false
-unfolding ownerAfter
-none-after committed = refl
-none-after (tentative t s) = refl
+-- after a committed version of its key, none that is committed
+pub after-committed : (o : ℕ) → ownerAfter committed (codedOwner o) ≡ ltb 0 o
+unfolding ownerAfter codedOwner if_then_else_
+after-committed o =
+    by (eqb o 0)
+    (λ e. let t = eqb-true o 0 e in rw (e, le-ltb 0 o (omega arith)))
+    (λ e. let t = eqb-false o 0 e in rw (e, lt-ltb 0 o (omega arith)))
 
 module _ (p n o p′ n′ o′ m : ℕ) where
   pub follows-rising : p < p′ → follows (coded p n o 0) (coded p′ n′ o′ m) ≡ eqb m 0

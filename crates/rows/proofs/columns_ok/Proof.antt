@@ -1,74 +1,49 @@
-use Rattle.rows.proofs.Ands.{and-no}
-use Rattle.rows.proofs.Kept.{columns-tests}
 use lib.ListN.{length-take}
-use Rattle.rows.specs.Columns.{rowsIn, columnsOk}
-use Rattle.rows.specs.Rows.{Row, number, follows, startsWell, isBelow, transactions, statementOk}
-use Rattle.basics.specs.Basics.{all, every, paired, distinct}
-use lib.Dec.{eqb, ltb, leb}
-use lib.ListN.{length, take, drop, getD}
-use Prim.Native.Nat.{ℕ, suc, _+_, _-_, _*_, _/_, _%_, _≤_, _<_}
-use mathlib.Core.Logic.{⊎-elim}
-use mathlib.Core.List.{List, [], _∷_, map}
-use mathlib.Core.Bool.{Bool, true, false, not, _&&_}
-use mathlib.Core.Path.{_≡_, refl, sym, ap, _∙_}
-use borrow.Author.Tests.{not-true, not-false, lt-ltb, le-ltb, le-leb, lt-leb, eq-eqb, ne-eqb}
+use mathlib.Core.Path.{sym, _∙_}
+use borrow.Author.Tests.{not-true, not-false, le-leb, lt-leb}
 use native.Mathlib.Omega.{arith}
 use borrow.Author.Needs.{needs}
+use Rattle.rows.proofs.Ands.{and-no}
+use Rattle.rows.proofs.Kept.{columns-tests}
+use Rattle.rows.specs.Rows.{transactions}
+use Rattle.basics.specs.Basics.{distinct}
 use Rattle.rows.proofs.columns_ok.Statement.{statement}
 use Rattle.rows.proofs.columns_ok.Tie as tie
-use Rattle.rows.proofs.columns_ok.Reads as reads
-use Rattle.rows.proofs.columns_ok.Lts as lts
-use Rattle.rows.proofs.below.Reads as below-reads
-use Rattle.rows.proofs.distinct.Reads as distinct-reads
-use Rattle.rows.proofs.rising.Reads as rising-reads
-use Rattle.rows.proofs.statements.Reads as statements-reads
-use Rattle.rows.proofs.transactions.Reads as transactions-reads
 
--- src/lib.rt:209:9
 rising-requires : tie.Need-rising-requires
 rising-requires c κs = search needs
 
--- src/lib.rt:210:9
 returns : tie.Need-returns
 returns c = let a = c .before .before .before .before .before .before .args in
     sym (columns-tests (a .places .now) (a .numbers .now) (a .owners .now) (a .marks .now) (a .count) (c .before .before .before .before .before .before .pre .1 .0) (a .next) ∙ rw (sym (c .before .rising .ensures) ∙ not-true _ (c .if1 .taken)))
 
--- src/lib.rt:212:18
 slice-aggregate-distinct : tie.Need-slice-aggregate-distinct
 slice-aggregate-distinct c = simp length-take (omega arith)
 
--- src/lib.rt:212:9
 distinct-requires : tie.Need-distinct-requires
 distinct-requires c κs = search needs
 
--- src/lib.rt:213:9
 returns-2 : tie.Need-returns-2
 returns-2 c = let a = c .before .before .before .before .before .before .before .before .before .args in
     sym (columns-tests (a .places .now) (a .numbers .now) (a .owners .now) (a .marks .now) (a .count) (c .before .before .before .before .before .before .before .before .before .pre .1 .0) (a .next) ∙ rw (sym (c .before .distinct .ensures) ∙ not-true _ (c .if2 .taken), and-no))
 
--- src/lib.rt:215:9
 below-requires : tie.Need-below-requires
 below-requires c κs = search needs
 
--- src/lib.rt:216:9
 returns-3 : tie.Need-returns-3
 returns-3 c = let a = c .before .before .before .before .before .before .before .before .before .before .before .args in
     sym (columns-tests (a .places .now) (a .numbers .now) (a .owners .now) (a .marks .now) (a .count) (c .before .before .before .before .before .before .before .before .before .before .before .pre .1 .0) (a .next) ∙ rw (sym (c .before .below .ensures) ∙ not-true _ (c .if3 .taken), and-no, and-no))
 
--- src/lib.rt:218:13
 transactions-requires : tie.Need-transactions-requires
 transactions-requires c κs = search needs
 
--- src/lib.rt:219:9
 returns-4 : tie.Need-returns-4
 returns-4 c = let a = c .before .before .before .before .before .before .before .before .before .before .before .before .before .args in
     sym (columns-tests (a .places .now) (a .numbers .now) (a .owners .now) (a .marks .now) (a .count) (c .before .before .before .before .before .before .before .before .before .before .before .before .before .pre .1 .0) (a .next) ∙ rw (← c .before .transactions .ensures, lt-leb _ _ (c .if4 .taken), and-no, and-no, and-no))
 
--- src/lib.rt:221:5
 statements-requires : tie.Need-statements-requires
 statements-requires c κs = search needs
 
--- src/lib.rt:205:1
 returns-5 : tie.Need-returns-5
 returns-5 c = let a = c .before .before .before .before .before .before .before .before .before .before .before .before .before .before .args in
     let r = sym (c .before .before .before .before .before .before .before .before .before .rising .ensures) ∙ not-false _ (c .before .before .before .before .before .before .before .before .if1 .left) in

@@ -1,20 +1,11 @@
-use Rattle.rows.proofs.Turns.{drop-turn, drop-end, distinct-yes, distinct-not, distinct-end}
-use Rattle.basics.specs.Basics.{isIn, distinct}
-use lib.Dec.{eqb, ltb, leb}
 use lib.ListN.{length, drop}
-use Prim.Native.Nat.{ℕ, suc, _+_, _-_, _*_, _/_, _%_, _≤_, _<_}
-use mathlib.Core.Logic.{⊎-elim}
-use mathlib.Core.List.{List, [], _∷_, map}
-use mathlib.Core.Bool.{Bool, true, false, not, _&&_}
-use mathlib.Core.Path.{_≡_, refl, sym, ap, _∙_}
-use borrow.Author.Tests.{not-true, not-false, lt-ltb, le-ltb, le-leb, lt-leb, eq-eqb, ne-eqb}
-use borrow.Author.Needs.{needs}
+use Prim.Native.Nat.{_-_}
+use mathlib.Core.Path.{_≡_, refl, sym, _∙_}
 use native.Mathlib.Omega.{arith}
+use Rattle.rows.proofs.Turns.{drop-turn, drop-end, distinct-yes, distinct-not, distinct-end}
+use Rattle.basics.specs.Basics.{distinct}
 use Rattle.rows.proofs.distinct.Statement.{statement}
 use Rattle.rows.proofs.distinct.Tie as tie
-use Rattle.rows.proofs.distinct.Reads as reads
-use Rattle.rows.proofs.distinct.Lts as lts
-use Rattle.rows.proofs.is_in.Reads as is-in-reads
 
 abbrev Inv-loop : tie.InvT-loop
 Inv-loop s i₀ i = distinct s ≡ distinct (drop i s)
@@ -22,45 +13,35 @@ Inv-loop s i₀ i = distinct s ≡ distinct (drop i s)
 abbrev μ-loop : tie.MeasureT-loop
 μ-loop s i₀ i = length s - i
 
--- src/lib.rt:30:5
 loop-holds : tie.Need-loop-holds Inv-loop μ-loop
 loop-holds c = refl
 
--- src/lib.rt:31:21
 add-is-in : tie.Need-add-is-in Inv-loop μ-loop
 add-is-in c = omega arith
 
--- src/lib.rt:31:28
 mul-is-in : tie.Need-mul-is-in Inv-loop μ-loop
 mul-is-in c = omega arith
 
--- src/lib.rt:31:28
 shared-slice-read-is-in : tie.Need-shared-slice-read-is-in Inv-loop μ-loop
 shared-slice-read-is-in c = omega arith
 
--- src/lib.rt:31:12
 is-in-requires : tie.Need-is-in-requires Inv-loop μ-loop
 is-in-requires c κs = tt
 
--- src/lib.rt:32:13
 returns : tie.Need-returns Inv-loop μ-loop
 returns c = let s = c .before .before .before .before .before .before in let p = c .before .before .before .before .loop in
     sym (p .inv ∙ distinct-not (drop-turn (s .args .s .now) (p .i) (omega arith)) (sym (c .before .is-in .ensures) ∙ c .if1 .taken))
 
--- src/lib.rt:34:13
 add-i : tie.Need-add-i Inv-loop μ-loop
 add-i c = omega arith
 
--- src/lib.rt:30:5
 loop-less : tie.Need-loop-less Inv-loop μ-loop
 loop-less c = omega arith
 
--- src/lib.rt:30:5
 loop-again : tie.Need-loop-again Inv-loop μ-loop
 loop-again c = let s = c .before .before .before .before .before .before in let p = c .before .before .before .before .loop in
     p .inv ∙ distinct-yes (drop-turn (s .args .s .now) (p .i) (omega arith)) (sym (c .before .is-in .ensures) ∙ c .if1 .left)
 
--- src/lib.rt:26:1
 returns-2 : tie.Need-returns-2 Inv-loop μ-loop
 returns-2 c = let s = c .before .before .before in let p = c .before .loop in sym (p .inv ∙ distinct-end (drop-end (s .args .s .now) (p .i) (omega arith)))
 

@@ -1,22 +1,14 @@
+use lib.ListN.{drop}
+use Prim.Native.Nat.{_-_}
+use mathlib.Core.List.{[]}
+use mathlib.Core.Path.{_≡_, sym, ap, _∙_}
+use native.Mathlib.Omega.{arith}
 use Rattle.rows.proofs.Turns.{tab-turn, tab-end, tab-left, any-yes, any-not, any-end}
 use Rattle.rows.specs.Columns.{coded, rowAt, rowsIn, tab}
-use Rattle.rows.specs.Rows.{Row, isOwn}
+use Rattle.rows.specs.Rows.{isOwn}
 use Rattle.basics.specs.Basics.{any}
-use lib.Dec.{eqb, ltb, leb}
-use lib.ListN.{length, take, drop, getD}
-use Prim.Native.Nat.{ℕ, suc, _+_, _-_, _*_, _/_, _%_, _≤_, _<_}
-use mathlib.Core.Logic.{⊎-elim}
-use mathlib.Core.List.{List, [], _∷_, map}
-use mathlib.Core.Bool.{Bool, true, false, not, _&&_}
-use mathlib.Core.Path.{_≡_, refl, sym, ap, _∙_}
-use borrow.Author.Tests.{not-true, not-false, lt-ltb, le-ltb, le-leb, lt-leb, eq-eqb, ne-eqb}
-use borrow.Author.Needs.{needs}
-use native.Mathlib.Omega.{arith}
 use Rattle.rows.proofs.has_written.Statement.{statement}
 use Rattle.rows.proofs.has_written.Tie as tie
-use Rattle.rows.proofs.has_written.Reads as reads
-use Rattle.rows.proofs.has_written.Lts as lts
-use Rattle.rows.proofs.is_own.Reads as is-own-reads
 
 abbrev Inv-loop : tie.InvT-loop
 Inv-loop owners from count t i₀ i = any (isOwn t) (drop from (rowsIn [] [] owners [] count)) ≡ any (isOwn t) (tab (rowAt [] [] owners []) i (count - i))
@@ -24,44 +16,35 @@ Inv-loop owners from count t i₀ i = any (isOwn t) (drop from (rowsIn [] [] own
 abbrev μ-loop : tie.MeasureT-loop
 μ-loop owners from count t i₀ i = count - i
 
--- src/lib.rt:167:5
 loop-holds : tie.Need-loop-holds Inv-loop μ-loop
 unfolding rowsIn
 loop-holds c = let s = c .before in ap (any (isOwn (s .args .t))) (tab-left (rowAt [] [] (s .args .owners .now) []) (s .args .count) (s .args .from))
 
--- src/lib.rt:168:22
 mul-is-own : tie.Need-mul-is-own Inv-loop μ-loop
 mul-is-own c = omega arith
 
--- src/lib.rt:168:22
 shared-slice-read-is-own : tie.Need-shared-slice-read-is-own Inv-loop μ-loop
 shared-slice-read-is-own c = omega arith
 
--- src/lib.rt:168:12
 is-own-requires : tie.Need-is-own-requires Inv-loop μ-loop
 is-own-requires c κs = omega arith
 
--- src/lib.rt:169:13
 returns : tie.Need-returns Inv-loop μ-loop
 unfolding rowAt coded isOwn
 returns c = let s = c .before .before .before .before .before .before in let p = c .before .before .before .before .loop in
     sym (p .inv ∙ any-yes (isOwn (s .args .t)) (tab-turn (rowAt [] [] (s .args .owners .now) []) (p .i) (s .args .count) (omega arith)) (sym (c .before .is-own .ensures) ∙ c .if1 .taken))
 
--- src/lib.rt:171:13
 add-i : tie.Need-add-i Inv-loop μ-loop
 add-i c = omega arith
 
--- src/lib.rt:167:5
 loop-less : tie.Need-loop-less Inv-loop μ-loop
 loop-less c = omega arith
 
--- src/lib.rt:167:5
 loop-again : tie.Need-loop-again Inv-loop μ-loop
 unfolding rowAt coded isOwn
 loop-again c = let s = c .before .before .before .before .before .before in let p = c .before .before .before .before .loop in
     p .inv ∙ any-not (isOwn (s .args .t)) (tab-turn (rowAt [] [] (s .args .owners .now) []) (p .i) (s .args .count) (omega arith)) (sym (c .before .is-own .ensures) ∙ c .if1 .left)
 
--- src/lib.rt:162:1
 returns-2 : tie.Need-returns-2 Inv-loop μ-loop
 returns-2 c = let s = c .before .before .before in let p = c .before .loop in
     sym (p .inv ∙ any-end (isOwn (s .args .t)) (tab-end (rowAt [] [] (s .args .owners .now) []) (p .i) (s .args .count) (omega arith)))

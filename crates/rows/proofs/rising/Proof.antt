@@ -1,23 +1,15 @@
+use Prim.Native.Nat.{_+_, _-_, _≤_}
+use mathlib.Core.Bool.{_&&_}
+use mathlib.Core.Path.{_≡_, sym, _∙_}
+use borrow.Author.Tests.{not-true, not-false}
+use native.Mathlib.Omega.{arith}
 use Rattle.rows.proofs.Places.{rising-none, rising-first, rising-marked, follows-unmarked}
 use Rattle.rows.proofs.Turns.{pair-turn, pair-stop, pair-end}
-use Rattle.rows.specs.Columns.{rowAt, rowsIn, tab, coded}
-use Rattle.rows.specs.Rows.{Row, follows, startsWell}
+use Rattle.rows.specs.Columns.{rowAt, rowsIn, tab}
+use Rattle.rows.specs.Rows.{follows, startsWell}
 use Rattle.basics.specs.Basics.{paired}
-use lib.Dec.{eqb, ltb, leb}
-use lib.ListN.{length, take, drop, getD}
-use Prim.Native.Nat.{ℕ, suc, _+_, _-_, _*_, _/_, _%_, _≤_, _<_}
-use mathlib.Core.Logic.{⊎-elim}
-use mathlib.Core.List.{List, [], _∷_, map}
-use mathlib.Core.Bool.{Bool, true, false, not, _&&_}
-use mathlib.Core.Path.{_≡_, refl, sym, ap, _∙_}
-use borrow.Author.Tests.{not-true, not-false, lt-ltb, le-ltb, le-leb, lt-leb, eq-eqb, ne-eqb}
-use borrow.Author.Needs.{needs}
-use native.Mathlib.Omega.{arith}
 use Rattle.rows.proofs.rising.Statement.{statement}
 use Rattle.rows.proofs.rising.Tie as tie
-use Rattle.rows.proofs.rising.Reads as reads
-use Rattle.rows.proofs.rising.Lts as lts
-use Rattle.rows.proofs.follows.Reads as follows-reads
 
 abbrev Inv-loop : tie.InvT-loop
 Inv-loop places numbers owners marks count i₀ i = (1 ≤ i) × ((i ≤ count) × ((paired follows (rowsIn places numbers owners marks count) && startsWell (rowsIn places numbers owners marks count)) ≡ paired follows (tab (rowAt places numbers owners marks) (i - 1) (count - (i - 1)))))
@@ -25,98 +17,75 @@ Inv-loop places numbers owners marks count i₀ i = (1 ≤ i) × ((i ≤ count) 
 abbrev μ-loop : tie.MeasureT-loop
 μ-loop places numbers owners marks count i₀ i = count - i
 
--- src/lib.rt:130:9
 returns : tie.Need-returns Inv-loop μ-loop
 returns c = let a = c .before .before .before .before .before .args in sym (rising-none (a .places .now) (a .numbers .now) (a .owners .now) (a .marks .now) (a .count) (c .if1 .taken))
 
--- src/lib.rt:132:8
 shared-slice-read-if2 : tie.Need-shared-slice-read-if2 Inv-loop μ-loop
 shared-slice-read-if2 c = omega arith
 
--- src/lib.rt:133:9
 returns-2 : tie.Need-returns-2 Inv-loop μ-loop
 returns-2 c = let a = c .before .before .before .before .before .before .before .args in sym (rising-marked (a .places .now) (a .numbers .now) (a .owners .now) (a .marks .now) (a .count) (omega arith) (c .if2 .taken))
 
--- src/lib.rt:136:5
 loop-holds : tie.Need-loop-holds Inv-loop μ-loop
 loop-holds c = let a = c .before .before .before .before .before .before .before .args in (omega arith, (omega arith, rising-first (a .places .now) (a .numbers .now) (a .owners .now) (a .marks .now) (a .count) (omega arith) (c .if2 .left)))
 
--- src/lib.rt:137:17
 sub-j : tie.Need-sub-j Inv-loop μ-loop
 sub-j c = omega arith
 
--- src/lib.rt:138:21
 mul-follows : tie.Need-mul-follows Inv-loop μ-loop
 mul-follows c = omega arith
 
--- src/lib.rt:138:21
 shared-slice-read-follows : tie.Need-shared-slice-read-follows Inv-loop μ-loop
 shared-slice-read-follows c = omega arith
 
--- src/lib.rt:138:32
 mul-follows-2 : tie.Need-mul-follows-2 Inv-loop μ-loop
 mul-follows-2 c = omega arith
 
--- src/lib.rt:138:32
 shared-slice-read-follows-2 : tie.Need-shared-slice-read-follows-2 Inv-loop μ-loop
 shared-slice-read-follows-2 c = omega arith
 
--- src/lib.rt:138:44
 mul-follows-3 : tie.Need-mul-follows-3 Inv-loop μ-loop
 mul-follows-3 c = omega arith
 
--- src/lib.rt:138:44
 shared-slice-read-follows-3 : tie.Need-shared-slice-read-follows-3 Inv-loop μ-loop
 shared-slice-read-follows-3 c = omega arith
 
--- src/lib.rt:138:55
 mul-follows-4 : tie.Need-mul-follows-4 Inv-loop μ-loop
 mul-follows-4 c = omega arith
 
--- src/lib.rt:138:55
 shared-slice-read-follows-4 : tie.Need-shared-slice-read-follows-4 Inv-loop μ-loop
 shared-slice-read-follows-4 c = omega arith
 
--- src/lib.rt:138:66
 mul-follows-5 : tie.Need-mul-follows-5 Inv-loop μ-loop
 mul-follows-5 c = omega arith
 
--- src/lib.rt:138:66
 shared-slice-read-follows-5 : tie.Need-shared-slice-read-follows-5 Inv-loop μ-loop
 shared-slice-read-follows-5 c = omega arith
 
--- src/lib.rt:138:78
 mul-follows-6 : tie.Need-mul-follows-6 Inv-loop μ-loop
 mul-follows-6 c = omega arith
 
--- src/lib.rt:138:78
 shared-slice-read-follows-6 : tie.Need-shared-slice-read-follows-6 Inv-loop μ-loop
 shared-slice-read-follows-6 c = omega arith
 
--- src/lib.rt:138:89
 shared-slice-read-follows-7 : tie.Need-shared-slice-read-follows-7 Inv-loop μ-loop
 shared-slice-read-follows-7 c = omega arith
 
--- src/lib.rt:138:13
 follows-requires : tie.Need-follows-requires Inv-loop μ-loop
 follows-requires c κs = omega arith
 
--- src/lib.rt:139:13
 returns-3 : tie.Need-returns-3 Inv-loop μ-loop
 returns-3 c = let a = c .before .before .before .before .before .before .before .before .before .before .before .before .before .before .before .before .before .before .args in let p = c .before .before .before .before .before .before .before .before .before .before .loop in
     let g = rowAt (a .places .now) (a .numbers .now) (a .owners .now) (a .marks .now) in
     let e = follows-unmarked (a .places .now) (a .numbers .now) (a .owners .now) (a .marks .now) (p .i - 1) (p .i) in
     sym (p .inv .1 .1 ∙ pair-stop follows g (p .i) (a .count) (p .inv .0) (omega arith) (sym e ∙ sym (c .before .follows .ensures) ∙ not-true _ (c .if3 .taken)))
 
--- src/lib.rt:141:13
 add-i : tie.Need-add-i Inv-loop μ-loop
 add-i c = omega arith
 
--- src/lib.rt:136:5
 loop-less : tie.Need-loop-less Inv-loop μ-loop
 loop-less c = omega arith
 
--- src/lib.rt:136:5
 loop-again : tie.Need-loop-again Inv-loop μ-loop
 loop-again c = let a = c .before .before .before .before .before .before .before .before .before .before .before .before .before .before .before .before .before .before .args in let p = c .before .before .before .before .before .before .before .before .before .before .loop in
     let g = rowAt (a .places .now) (a .numbers .now) (a .owners .now) (a .marks .now) in
@@ -124,7 +93,6 @@ loop-again c = let a = c .before .before .before .before .before .before .before
     let e : p .i + 1 - 1 ≡ p .i = omega arith in
     (omega arith, (omega arith, p .inv .1 .1 ∙ rw e (pair-turn follows g (p .i) (a .count) (p .inv .0) (omega arith) (sym d ∙ sym (c .before .follows .ensures) ∙ not-false _ (c .if3 .left)))))
 
--- src/lib.rt:124:1
 returns-4 : tie.Need-returns-4 Inv-loop μ-loop
 returns-4 c = let a = c .before .before .before .before .before .before .before .before .before .args in let p = c .before .loop in
     sym (p .inv .1 .1 ∙ pair-end follows (rowAt (a .places .now) (a .numbers .now) (a .owners .now) (a .marks .now)) (p .i) (a .count) (p .inv .0) (omega arith))

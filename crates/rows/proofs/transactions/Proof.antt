@@ -1,22 +1,15 @@
+use lib.ListN.{length}
+use Prim.Native.Nat.{_+_, _-_, _≤_}
+use mathlib.Core.Logic.{⊎-elim}
+use mathlib.Core.List.{[]}
+use mathlib.Core.Path.{_≡_, sym, ap, _∙_}
+use native.Mathlib.Omega.{arith}
 use Rattle.rows.proofs.Owners.{last-yes, last-not, none-open}
 use Rattle.rows.proofs.Turns.{tab-turn, tab-end, tab-whole, tab-left}
 use Rattle.rows.specs.Columns.{rowAt, rowsIn, isLast, tab}
-use Rattle.rows.specs.Rows.{Row, transactions}
-use lib.Dec.{eqb, ltb, leb}
-use lib.ListN.{length, take, drop, getD}
-use Prim.Native.Nat.{ℕ, suc, _+_, _-_, _*_, _/_, _%_, _≤_, _<_}
-use mathlib.Core.Logic.{⊎-elim}
-use mathlib.Core.List.{List, [], _∷_, map}
-use mathlib.Core.Bool.{Bool, true, false, not, _&&_}
-use mathlib.Core.Path.{_≡_, refl, sym, ap, _∙_}
-use borrow.Author.Tests.{not-true, not-false, lt-ltb, le-ltb, le-leb, lt-leb, eq-eqb, ne-eqb}
-use borrow.Author.Needs.{needs}
-use native.Mathlib.Omega.{arith}
+use Rattle.rows.specs.Rows.{transactions}
 use Rattle.rows.proofs.transactions.Statement.{statement}
 use Rattle.rows.proofs.transactions.Tie as tie
-use Rattle.rows.proofs.transactions.Reads as reads
-use Rattle.rows.proofs.transactions.Lts as lts
-use Rattle.rows.proofs.is_last.Reads as is-last-reads
 
 abbrev Inv-loop : tie.InvT-loop
 Inv-loop owners count k₀ i₀ k i = (i ≤ count) × ((k ≤ i) × (k + length (transactions (tab (rowAt [] [] owners []) i (count - i))) ≡ length (transactions (rowsIn [] [] owners [] count))))
@@ -24,28 +17,22 @@ Inv-loop owners count k₀ i₀ k i = (i ≤ count) × ((k ≤ i) × (k + length
 abbrev μ-loop : tie.MeasureT-loop
 μ-loop owners count k₀ i₀ k i = count - i
 
--- src/lib.rt:195:5
 loop-holds : tie.Need-loop-holds Inv-loop μ-loop
 unfolding rowsIn
 loop-holds c = let s = c .before in let e = tab-whole (rowAt [] [] (s .args .owners .now) []) (s .args .count) in (omega arith, (omega arith, rw e (omega arith)))
 
--- src/lib.rt:196:12
 is-last-requires : tie.Need-is-last-requires Inv-loop μ-loop
 is-last-requires c κs = omega arith
 
--- src/lib.rt:197:17
 add-k : tie.Need-add-k Inv-loop μ-loop
 add-k c = omega arith
 
--- src/lib.rt:199:13
 add-i : tie.Need-add-i Inv-loop μ-loop
 add-i c = omega arith
 
--- src/lib.rt:195:5
 loop-less : tie.Need-loop-less Inv-loop μ-loop
 loop-less c = omega arith
 
--- src/lib.rt:195:5
 loop-again : tie.Need-loop-again Inv-loop μ-loop
 unfolding rowsIn
 loop-again c = let s = c .before .before .before .before .before in let p = c .before .before .before .loop in
@@ -57,7 +44,6 @@ loop-again c = let s = c .before .before .before .before .before in let p = c .b
     (λ w. let h = last-not t (e ∙ w .0 .left) in (omega arith, (omega arith, omega (arith, p .inv .1 .1))))
     (c .if1 .came)
 
--- src/lib.rt:189:1
 returns : tie.Need-returns Inv-loop μ-loop
 returns c = let s = c .before .before .before in let p = c .before .loop in
     let h = none-open (tab-end (rowAt [] [] (s .args .owners .now) []) (p .i) (s .args .count) (omega arith)) in

@@ -1,22 +1,14 @@
+use Prim.Native.Nat.{_+_, _-_, _≤_}
+use mathlib.Core.Logic.{⊎-elim}
+use mathlib.Core.List.{[]}
+use mathlib.Core.Path.{_≡_, sym, _∙_}
+use native.Mathlib.Omega.{arith}
 use Rattle.rows.proofs.Turns.{tab-turn, tab-end, tab-whole, count-yes, count-not, count-end}
 use Rattle.rows.specs.Columns.{coded, rowAt, rowsIn, tab}
-use Rattle.rows.specs.Rows.{Row, earlierBy, isOwn, number}
+use Rattle.rows.specs.Rows.{earlierBy, isOwn, number}
 use Rattle.basics.specs.Basics.{howMany}
-use lib.Dec.{eqb, ltb, leb}
-use lib.ListN.{length, take, drop, getD}
-use Prim.Native.Nat.{ℕ, suc, _+_, _-_, _*_, _/_, _%_, _≤_, _<_}
-use mathlib.Core.Logic.{⊎-elim}
-use mathlib.Core.List.{List, [], _∷_, map}
-use mathlib.Core.Bool.{Bool, true, false, not, _&&_}
-use mathlib.Core.Path.{_≡_, refl, sym, ap, _∙_}
-use borrow.Author.Tests.{not-true, not-false, lt-ltb, le-ltb, le-leb, lt-leb, eq-eqb, ne-eqb}
-use borrow.Author.Needs.{needs}
-use native.Mathlib.Omega.{arith}
 use Rattle.rows.proofs.written.Statement.{statement}
 use Rattle.rows.proofs.written.Tie as tie
-use Rattle.rows.proofs.written.Reads as reads
-use Rattle.rows.proofs.written.Lts as lts
-use Rattle.rows.proofs.earlier.Reads as earlier-reads
 
 abbrev Inv-loop : tie.InvT-loop
 Inv-loop numbers owners count t n k₀ i₀ k i = (i ≤ count) × ((k ≤ i) × (k + howMany (earlierBy t n) (tab (rowAt [] numbers owners []) i (count - i)) ≡ howMany (earlierBy t n) (rowsIn [] numbers owners [] count)))
@@ -24,44 +16,34 @@ Inv-loop numbers owners count t n k₀ i₀ k i = (i ≤ count) × ((k ≤ i) ×
 abbrev μ-loop : tie.MeasureT-loop
 μ-loop numbers owners count t n k₀ i₀ k i = count - i
 
--- src/lib.rt:66:5
 loop-holds : tie.Need-loop-holds Inv-loop μ-loop
 unfolding rowsIn
 loop-holds c = let s = c .before .before in let e = tab-whole (rowAt [] (s .args .numbers .now) (s .args .owners .now) []) (s .args .count) in (omega arith, (omega arith, rw e (omega arith)))
 
--- src/lib.rt:67:26
 mul-earlier : tie.Need-mul-earlier Inv-loop μ-loop
 mul-earlier c = omega arith
 
--- src/lib.rt:67:26
 shared-slice-read-earlier : tie.Need-shared-slice-read-earlier Inv-loop μ-loop
 shared-slice-read-earlier c = omega arith
 
--- src/lib.rt:67:37
 mul-earlier-2 : tie.Need-mul-earlier-2 Inv-loop μ-loop
 mul-earlier-2 c = omega arith
 
--- src/lib.rt:67:37
 shared-slice-read-earlier-2 : tie.Need-shared-slice-read-earlier-2 Inv-loop μ-loop
 shared-slice-read-earlier-2 c = omega arith
 
--- src/lib.rt:67:12
 earlier-requires : tie.Need-earlier-requires Inv-loop μ-loop
 earlier-requires c κs = omega arith
 
--- src/lib.rt:68:17
 add-k : tie.Need-add-k Inv-loop μ-loop
 add-k c = omega arith
 
--- src/lib.rt:70:13
 add-i : tie.Need-add-i Inv-loop μ-loop
 add-i c = omega arith
 
--- src/lib.rt:66:5
 loop-less : tie.Need-loop-less Inv-loop μ-loop
 loop-less c = omega arith
 
--- src/lib.rt:66:5
 loop-again : tie.Need-loop-again Inv-loop μ-loop
 unfolding rowAt earlierBy isOwn number coded
 loop-again c = let s = c .before .before .before .before .before .before .before .before in let p = c .before .before .before .before .before .loop in
@@ -73,7 +55,6 @@ loop-again c = let s = c .before .before .before .before .before .before .before
     (λ w. let h = count-not f t (sym (c .before .earlier .ensures) ∙ w .0 .left) in (omega arith, (omega arith, omega (arith, p .inv .1 .1))))
     (c .if1 .came)
 
--- src/lib.rt:60:1
 returns : tie.Need-returns Inv-loop μ-loop
 returns c = let s = c .before .before .before .before in let p = c .before .loop in
     let h = count-end (earlierBy (s .args .t) (s .args .n)) (tab-end (rowAt [] (s .args .numbers .now) (s .args .owners .now) []) (p .i) (s .args .count) (omega arith)) in
