@@ -1,0 +1,87 @@
+-- What reading a block answers, once its fields are read and spelled again.
+use mathlib.Core.Path.{_≡_, refl, sym, ap, _∙_}
+use mathlib.Core.Bool.{Bool, true, false}
+use mathlib.Core.Option.{Option, none, some}
+use mathlib.Core.List.{List, []}
+use Prim.Native.Nat.{ℕ, _≤_, _<_}
+use lib.ListN.{length, take, drop}
+use borrow.Author.Tests.{le-leb, lt-leb}
+use Rattle.basics.specs.Basics.{if_then_else_}
+use Rattle.bits.specs.Bits.{bitsIn, field}
+use Rattle.blocks.specs.Numbers.{same}
+use Rattle.blocks.specs.Tuple.{Tuple}
+use Rattle.blocks.specs.Block.{Block, malformed, header, page, directory, encodeBlock}
+use Rattle.blocks.specs.Decode.{spelledBy, readHeader, headerIn, readTuples, pageTable, pageCount, pageLevel, pageOf, pageIn, readEntries, directoryCount, directoryLevel, directoryIn}
+use Rattle.blocks.specs.Answers.{reading}
+use Rattle.blocks.specs.declared.Header.{Header}
+use Rattle.blocks.specs.declared.Reading.{Reading}
+use Rattle.blocks.specs.declared.Reading.the-variants.{IsHeader, IsPage, IsDirectory, Malformed}
+
+module _ (xs : List ℕ) (b : Block) where
+  pub spelled-yes : same (encodeBlock b) xs ≡ true → spelledBy xs b ≡ b
+  unfolding spelledBy if_then_else_
+  spelled-yes s = rw s
+
+  pub spelled-no : same (encodeBlock b) xs ≡ false → spelledBy xs b ≡ malformed
+  unfolding spelledBy if_then_else_
+  spelled-no s = rw s
+
+-- ---- header
+
+module _ (xs : List ℕ) {blocks capacity level next pages directories d0 d1 d2 d3 : ℕ} where
+  -- the fields got one by one are the header
+  pub header-got : blocks ≡ field (bitsIn xs) 4 13 → capacity ≡ field (bitsIn xs) 17 11 → level ≡ field (bitsIn xs) 28 32 → next ≡ field (bitsIn xs) 60 32
+      → pages ≡ field (bitsIn xs) 92 11 → directories ≡ field (bitsIn xs) 103 3 → d0 ≡ field (bitsIn xs) 106 12 → d1 ≡ field (bitsIn xs) 118 12
+      → d2 ≡ field (bitsIn xs) 130 12 → d3 ≡ field (bitsIn xs) 142 12
+      → record { blocks = blocks; capacity = capacity; level = level; next = next; pages = pages; directories = directories; d0 = d0; d1 = d1; d2 = d2; d3 = d3 } ≡ readHeader xs
+  unfolding readHeader
+  header-got a b c d e f g h k l = λ i. record { blocks = a i; capacity = b i; level = c i; next = d i; pages = e i; directories = f i; d0 = g i; d1 = h i; d2 = k i; d3 = l i }
+
+module _ (xs : List ℕ) (h : Header) (e : h ≡ readHeader xs) where
+  pub header-yes : same (encodeBlock (header h)) xs ≡ true → reading (headerIn xs) ≡ IsHeader h
+  unfolding headerIn reading
+  header-yes s = rw (← e, spelled-yes xs (header h) s)
+
+  pub header-no : same (encodeBlock (header h)) xs ≡ false → reading (headerIn xs) ≡ Malformed
+  unfolding headerIn reading
+  header-no s = rw (← e, spelled-no xs (header h) s)
+
+-- ---- directory
+
+module _ (xs : List ℕ) (n l : ℕ) (es : List ℕ) (en : n ≡ field (bitsIn xs) 4 9) (el : l ≡ field (bitsIn xs) 13 32) where
+  pub directory-many : 336 < n → reading (directoryIn xs) ≡ Malformed
+  unfolding directoryIn directoryCount reading if_then_else_
+  directory-many h = rw (← en, lt-leb n 336 h)
+
+  module _ (h : n ≤ 336) (e : take n es ≡ readEntries xs 64 n) where
+    here : directoryIn xs ≡ spelledBy xs (directory l (take n es))
+    unfolding directoryIn directoryCount directoryLevel if_then_else_
+    here = rw (← en, ← el, le-leb n 336 h, e)
+
+    pub directory-yes : length (take n es) ≡ n → same (encodeBlock (directory l (take n es))) xs ≡ true → reading (directoryIn xs) ≡ IsDirectory n l
+    unfolding reading
+    directory-yes t s = rw (here, spelled-yes xs (directory l (take n es)) s, t)
+
+    pub directory-no : same (encodeBlock (directory l (take n es))) xs ≡ false → reading (directoryIn xs) ≡ Malformed
+    unfolding reading
+    directory-no s = rw (here, spelled-no xs (directory l (take n es)) s)
+
+-- ---- page
+
+module _ (xs : List ℕ) (t n l : ℕ) (et : t ≡ field (bitsIn xs) 4 3) (en : n ≡ field (bitsIn xs) 7 6) (el : l ≡ field (bitsIn xs) 22 32) where
+  pub page-none : readTuples n (drop 8 xs) ≡ none → reading (pageIn xs) ≡ Malformed
+  unfolding pageIn pageOf pageCount reading
+  page-none h = rw (← en, h)
+
+  module _ (ts : List Tuple) (g : readTuples n (drop 8 xs) ≡ some ts) where
+    there : pageIn xs ≡ spelledBy xs (page t l ts)
+    unfolding pageIn pageOf pageCount pageTable pageLevel
+    there = rw (← en, g, ← et, ← el)
+
+    pub page-yes : length ts ≡ n → same (encodeBlock (page t l ts)) xs ≡ true → reading (pageIn xs) ≡ IsPage t n l
+    unfolding reading
+    page-yes c s = rw (there, spelled-yes xs (page t l ts) s, c)
+
+    pub page-no : same (encodeBlock (page t l ts)) xs ≡ false → reading (pageIn xs) ≡ Malformed
+    unfolding reading
+    page-no s = rw (there, spelled-no xs (page t l ts) s)
