@@ -5,13 +5,13 @@ use mathlib.Core.Option.{Option, none, some}
 use mathlib.Core.List.{List, []}
 use Prim.Native.Nat.{ℕ, _≤_, _<_}
 use lib.ListN.{length, take, drop}
-use borrow.Author.Tests.{le-leb, lt-leb}
+use borrow.Author.Tests.{le-leb, lt-leb, ne-eqb}
 use Rattle.basics.specs.Basics.{if_then_else_}
 use Rattle.bits.specs.Bits.{bitsIn, field}
 use Rattle.blocks.specs.Numbers.{same}
 use Rattle.blocks.specs.Tuple.{Tuple}
 use Rattle.blocks.specs.Block.{Block, malformed, header, page, directory, encodeBlock}
-use Rattle.blocks.specs.Decode.{spelledBy, readHeader, headerIn, readTuples, pageTable, pageCount, pageLevel, pageOf, pageIn, readEntries, directoryCount, directoryLevel, directoryIn}
+use Rattle.blocks.specs.Decode.{spelledBy, readHeader, headerIn, readTuples, pageTable, pageCount, pageLevel, pageOf, pageIn, readEntries, directoryCount, directoryLevel, directoryIn, kind, decodeBlock}
 use Rattle.blocks.specs.Answers.{reading}
 use Rattle.blocks.specs.declared.Header.{Header}
 use Rattle.blocks.specs.declared.Reading.{Reading}
@@ -85,3 +85,26 @@ module _ (xs : List ℕ) (t n l : ℕ) (et : t ≡ field (bitsIn xs) 4 3) (en : 
     pub page-no : same (encodeBlock (page t l ts)) xs ≡ false → reading (pageIn xs) ≡ Malformed
     unfolding reading
     page-no s = rw (there, spelled-no xs (page t l ts) s)
+
+-- ---- by the first four bits
+
+module _ (xs : List ℕ) (k : ℕ) (e : k ≡ field (bitsIn xs) 0 4) where
+  pub kind-header : k ≡ 1 → decodeBlock xs ≡ headerIn xs
+  unfolding decodeBlock kind if_then_else_
+  kind-header h = rw (← e, h)
+
+  pub kind-page : k ≡ 2 → decodeBlock xs ≡ pageIn xs
+  unfolding decodeBlock kind if_then_else_
+  kind-page h = rw (← e, h)
+
+  pub kind-directory : k ≡ 3 → decodeBlock xs ≡ directoryIn xs
+  unfolding decodeBlock kind if_then_else_
+  kind-directory h = rw (← e, h)
+
+  kind-other : (k ≡ 1 → ⊥) → (k ≡ 2 → ⊥) → (k ≡ 3 → ⊥) → decodeBlock xs ≡ malformed
+  unfolding decodeBlock kind if_then_else_
+  kind-other a b c = rw (← e, ne-eqb k 1 a, ne-eqb k 2 b, ne-eqb k 3 c)
+
+  pub reads-other : (k ≡ 1 → ⊥) → (k ≡ 2 → ⊥) → (k ≡ 3 → ⊥) → reading (decodeBlock xs) ≡ Malformed
+  unfolding reading
+  reads-other a b c = rw (kind-other a b c)

@@ -216,12 +216,13 @@ fn get32(block: &[u8; 512], at: usize, width: usize) -> u32
 }
 
 // A page is what it spells: its records are copied one by one into an empty block, then its head, and the two are compared.
-fn read_page(block: &[u8; 512]) -> Reading
+fn read_page(block: &[u8]) -> Reading
+    requires { ⌜ length (now block) ≡ 512 ⌝ }
     ensures { λ r. ⌜ r ≡ reading (pageIn (now (block .entry))) ⌝ }
 {
-    let table = get32(block, 4, 3);
-    let count = get32(block, 7, 6);
-    let level = get32(block, 22, 32);
+    let table = bits::get_bits(block, 4, 3) as u32;
+    let count = bits::get_bits(block, 7, 6) as u32;
+    let level = bits::get_bits(block, 22, 32) as u32;
     let mut copy = [0u8; 512];
     let mut at: usize = 8;
     let mut i: u32 = 0;

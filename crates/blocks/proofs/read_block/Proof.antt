@@ -1,3 +1,7 @@
+use Rattle.blocks.proofs.Answering.{kind-header, kind-page, kind-directory, reads-other}
+use Rattle.blocks.specs.Answers.{reading}
+use mathlib.Core.Path.{_≡_, sym, ap, _∙_}
+use native.Mathlib.Omega.{arith}
 use borrow.Author.Needs.{needs}
 use Rattle.blocks.proofs.read_block.Statement.{statement}
 use Rattle.blocks.proofs.read_block.Tie as tie
@@ -26,27 +30,27 @@ read-directory-requires c κs = search needs
 
 -- src/lib.rt:347:1
 returns : tie.Need-returns
-returns c = ?
+returns c = c .read-header .ensures ∙ ap reading (sym (kind-header (c .before .before .before .args .block .now) (c .before .before .get32 .result) (c .before .before .get32 .ensures) (omega arith)))
 
 -- src/lib.rt:347:1
 returns-2 : tie.Need-returns-2
-returns-2 c = ?
+returns-2 c = c .read-page .ensures ∙ ap reading (sym (kind-page (c .before .before .before .before .args .block .now) (c .before .before .before .get32 .result) (c .before .before .before .get32 .ensures) (omega arith)))
 
 -- src/lib.rt:347:1
 returns-3 : tie.Need-returns-3
-returns-3 c = ?
+returns-3 c = c .read-directory .ensures ∙ ap reading (sym (kind-directory (c .before .before .before .args .block .now) (c .before .before .get32 .result) (c .before .before .get32 .ensures) (omega arith)))
 
 -- src/lib.rt:347:1
 returns-4 : tie.Need-returns-4
-returns-4 c = ?
+returns-4 c = sym (reads-other (c .before .before .before .args .block .now) (c .before .before .get32 .result) (c .before .before .get32 .ensures) (λ h. omega arith) (λ h. omega arith) (λ h. omega arith))
 
 -- src/lib.rt:347:1
 returns-5 : tie.Need-returns-5
-returns-5 c = ?
+returns-5 c = sym (reads-other (c .before .before .args .block .now) (c .before .get32 .result) (c .before .get32 .ensures) (λ h. omega arith) (λ h. omega arith) (λ h. omega arith))
 
 -- src/lib.rt:347:1
 returns-6 : tie.Need-returns-6
-returns-6 c = ?
+returns-6 c = sym (reads-other (c .before .before .before .args .block .now) (c .before .before .get32 .result) (c .before .before .get32 .ensures) (λ h. omega arith) (λ h. omega arith) (λ h. omega arith))
 
 pub read-block-spec : {M : Type 1} → statement M
 read-block-spec =
