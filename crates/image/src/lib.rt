@@ -1,1 +1,233 @@
 // What any bytes are as an image: recovery's tests but that of the memory.
+ghost use mathlib.Core.Path.{_≡_};
+ghost use mathlib.Core.Bool.{Bool, true, not};
+ghost use mathlib.Core.Option.{some};
+ghost use mathlib.Core.List.{List, [], _∷_, _++_, map};
+ghost use Prim.Native.Nat.{ℕ, _+_, _*_, _<_, _≤_, min};
+ghost use lib.ListN.{length, take, drop};
+ghost use Rattle.basics.specs.Basics.{all, isIn};
+ghost use Rattle.bits.specs.Bits.{over};
+ghost use Rattle.blocks.specs.Limits.{entriesPerBlock};
+ghost use Rattle.blocks.specs.Tuple.{Tuple};
+ghost use Rattle.blocks.specs.Spell.{zeros};
+ghost use Rattle.blocks.specs.Decode.{readOwner, readTuples, decodeBlock};
+ghost use Rattle.blocks.specs.Bytes.{tupleOf};
+ghost use Rattle.rows.specs.Rows.{Row, rowsOf, markOk};
+ghost use Rattle.rows.specs.Columns.{codedOwner, rowsIn, bare};
+ghost use Rattle.image.specs.View.{View, view, blockAt, blockCount};
+ghost use Rattle.image.specs.Stages.{holds, blockOk, isZero, headerOk, addEntries, readDirectories, entriesOk, directoriesFor, pageTest};
+ghost use Rattle.image.specs.Whole.{headerStage, pagesStage, readImage};
+ghost use Rattle.image.specs.Answers.{countsOk, Filled, goodPage, accepts, noEntries, headerAnswer, pagesAnswer, imageAnswer};
+
+// A header, or the refusal's number.
+pub enum HeaderTest {
+    Passed(blocks::Header),
+    Refused(u64),
+}
+
+// The refusal's number, or 0 and the blocks of the pages in order; the other entries are 0.
+pub struct PagesTest {
+    pub refusal: u64,
+    pub entries: [u32; 1024],
+}
+
+// The refusal's number, or 0 and what the image holds; all else is 0.
+pub struct ImageTest {
+    pub refusal: u64,
+    pub header: blocks::Header,
+    pub entries: [u32; 1024],
+}
+
+// A page that may stand in an image.
+pub enum GoodPage {
+    Good { table: u32, count: u32 },
+    Bad,
+}
+
+fn wide(x: u32) -> usize
+    ensures { λ r. ⌜ r ≡ x ⌝ }
+{
+    x as usize
+}
+
+fn number(x: u16) -> u32
+    ensures { λ r. ⌜ r ≡ x ⌝ }
+{
+    x as u32
+}
+
+// Block e of an image, copied out whole.
+pub fn block_at(image: &[u8], e: usize) -> [u8; 512]
+    requires { ⌜ 512 * e + 512 ≤ length (now image) ⌝ }
+    ensures { λ r. ⌜ r ≡ blockAt (now (image .entry)) e ⌝ }
+{
+    let mut block = [0u8; 512];
+    blocks::copy(&mut block, 0, image, 512 * e, 512);
+    block
+}
+
+// A block that may be named in an image of n blocks.
+fn block_ok(n: u32, b: u32) -> bool
+    ensures { λ r. ⌜ r ≡ blockOk n b ⌝ }
+{
+    if 0 < b {
+        return b < n;
+    }
+    false
+}
+
+fn in_blocks(s: &[u32], n: u32) -> bool
+    ensures { λ r. ⌜ r ≡ all (blockOk n) (now (s .entry)) ⌝ }
+{
+    let mut i: usize = 0;
+    while i < s.len() {
+        if !block_ok(n, s[i]) {
+            return false;
+        }
+        i = i + 1;
+    }
+    true
+}
+
+fn all_zero(s: &[u32]) -> bool
+    ensures { λ r. ⌜ r ≡ all isZero (now (s .entry)) ⌝ }
+{
+    let mut i: usize = 0;
+    while i < s.len() {
+        if s[i] != 0 {
+            return false;
+        }
+        i = i + 1;
+    }
+    true
+}
+
+// None of s stands in t.
+fn apart(s: &[u32], t: &[u32]) -> bool
+    ensures { λ r. ⌜ r ≡ all (λ e. not (isIn e (now (t .entry)))) (now (s .entry)) ⌝ }
+{
+    let mut i: usize = 0;
+    while i < s.len() {
+        if rows::is_in(t, 0, s[i]) {
+            return false;
+        }
+        i = i + 1;
+    }
+    true
+}
+
+// The directories' entries, in an image of n blocks.
+pub fn entries_ok(entries: &[u32], directories: &[u32], n: u32) -> bool
+    ensures { λ r. ⌜ r ≡ entriesOk n (now (directories .entry)) (now (entries .entry)) ⌝ }
+{
+    if !in_blocks(entries, n) {
+        return false;
+    }
+    if !apart(entries, directories) {
+        return false;
+    }
+    rows::distinct(entries)
+}
+
+// The counts in a header of an image of n blocks.
+fn counts_ok(h: blocks::Header, n: u32) -> bool
+    ensures { λ r. ⌜ r ≡ countsOk n h ⌝ }
+{
+    if h.blocks != n {
+        return false;
+    }
+    if h.capacity < 1 {
+        return false;
+    }
+    if 1024 < h.capacity {
+        return false;
+    }
+    if h.capacity < h.pages {
+        return false;
+    }
+    h.directories == (h.pages + 335) / 336
+}
+
+// A header of an image of n blocks.
+pub fn head_ok(h: blocks::Header, n: u32) -> bool
+    ensures { λ r. ⌜ r ≡ headerOk n h ⌝ }
+{
+    if !counts_ok(h, n) {
+        return false;
+    }
+    let at = wide(h.directories);
+    let ds = [h.d0, h.d1, h.d2, h.d3];
+    if !in_blocks(&ds[..at], n) {
+        return false;
+    }
+    if !rows::distinct(&ds[..at]) {
+        return false;
+    }
+    all_zero(&ds[at..])
+}
+
+// A delete mark is tentative and has no payload.
+fn mark_ok(r: blocks::Record) -> bool
+    ensures { λ b. ⌜ ((t : ℕ) (p : List ℕ) → length p ≡ r .len → b ≡ markOk (t, tupleOf r p)) ⌝ }
+{
+    if r.flags % 128 < 64 {
+        return true;
+    }
+    if 128 <= r.flags {
+        return false;
+    }
+    r.len == 0
+}
+
+// The delete marks of a page's block.
+fn marks_ok(block: &[u8], count: u32) -> bool
+    requires { ⌜ length (now block) ≡ 512 ⌝ }
+    ensures { λ r. ⌜ ((t : ℕ) (ts : List Tuple) → readTuples count (drop 8 (now (block .entry))) ≡ some ts → r ≡ all markOk (rowsOf t ts)) ⌝ }
+{
+    let mut at: usize = 8;
+    let mut i: u32 = 0;
+    while i < count {
+        match (blocks::Cursor { at: at }).next(block) {
+            blocks::Next::Found(r, c) => {
+                if !mark_ok(r) {
+                    return false;
+                }
+                at = c.at;
+            }
+            blocks::Next::Bad => {
+                return false;
+            }
+        }
+        i = i + 1;
+    }
+    true
+}
+
+// Table and key in one number.
+fn place(table: u32, key: u32) -> u64
+    ensures { λ r. ⌜ (r ≡ table * 4294967296 + key) × (key < 4294967296) ⌝ }
+{
+    table as u64 * 4294967296 + key as u64
+}
+
+// An owner's code, from a record's ninth byte and its owner's number.
+fn owner_code(flags: u8, owner: u32) -> u64
+    ensures { λ r. ⌜ codedOwner r ≡ readOwner flags owner ⌝ }
+{
+    if flags < 128 {
+        return 1 + owner as u64;
+    }
+    0
+}
+
+// A record's row goes into place k of the columns.
+fn put_row(places: &mut [u64], numbers: &mut [u32], owners: &mut [u64], marks: &mut [u8], k: usize, table: u32, r: blocks::Record)
+    requires { ⌜ (k < length (now places)) × ((k < length (now numbers)) × ((k < length (now owners)) × (k < length (now marks)))) ⌝ }
+    ensures { λ _. ⌜ rowsIn (now (places .exit)) (now (numbers .exit)) (now (owners .exit)) (now (marks .exit)) (k + 1)
+        ≡ rowsIn (now (places .entry)) (now (numbers .entry)) (now (owners .entry)) (now (marks .entry)) k ++ ((table, tupleOf r []) ∷ []) ⌝ }
+{
+    places[k] = place(table, r.key);
+    numbers[k] = r.number;
+    owners[k] = owner_code(r.flags, r.owner);
+    marks[k] = r.flags / 64 % 2;
+}

@@ -10,13 +10,9 @@ use borrow.Author.Tests.{ne-eqb}
 use Rattle.basics.specs.Basics.{if_then_else_, all, every, paired, distinct}
 use Rattle.blocks.specs.Tuple.{Owner, committed, tentative, OwnerFits, Fits}
 use Rattle.rows.specs.Rows.{Row, number, isAt, isLower, follows, startsWell, isBelow, statementOk, transactions, openLimit, markOk, rowsOk}
-use Rattle.rows.specs.Columns.{placeCode, ownerCode, codedOwner, markCode, coded, columnsOk}
+use Rattle.rows.specs.Columns.{placeCode, ownerCode, codedOwner, markCode, coded, bare, columnsOk}
 use Rattle.rows.proofs.Ands.{and-assoc, and-comm, and-swap}
 use Rattle.rows.proofs.Kept.{paired-kept, numbers-kept, below-kept, transactions-kept, statements-kept}
-
--- without its payload
-abbrev pub bare : Row → Row
-bare r = (r .0, record { key = r .1 .key; number = r .1 .number; owner = r .1 .owner; mark = r .1 .mark; payload = [] })
 
 -- ---- codes read back
 
