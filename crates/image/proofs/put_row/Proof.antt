@@ -1,3 +1,15 @@
+use Rattle.image.proofs.Places.{record-row, row-put}
+use Rattle.rows.specs.Rows.{Row}
+use Rattle.rows.specs.Columns.{coded, rowsIn}
+use lib.Dec.{eqb, ltb, leb}
+use lib.ListN.{length, take, drop, getD}
+use Prim.Native.Nat.{ℕ, suc, _+_, _-_, _*_, _/_, _%_, _≤_, _<_}
+use mathlib.Core.Logic.{⊎-elim}
+use mathlib.Core.List.{List, [], _∷_, _++_, map}
+use mathlib.Core.Bool.{Bool, true, false, not, _&&_}
+use mathlib.Core.Path.{_≡_, refl, sym, ap, _∙_}
+use borrow.Author.Tests.{not-true, not-false, lt-ltb, le-ltb, le-leb, lt-leb, eq-eqb, ne-eqb}
+use native.Mathlib.Omega.{arith}
 use borrow.Author.Needs.{needs}
 use Rattle.image.proofs.put_row.Statement.{statement}
 use Rattle.image.proofs.put_row.Tie as tie
@@ -60,7 +72,10 @@ same-length-4 c = search needs
 
 -- src/lib.rt:224:1
 returns : tie.Need-returns
-returns c = ?
+returns c = let s = c .before .before .before .before .before .before .before in let a = s .args in
+    let e = record-row (a .table) (c .before .before .place .result) (c .before .owner-code .result) (a .r) (c .before .before .place .ensures .0) (c .before .before .place .ensures .1) (c .before .owner-code .ensures) in
+    row-put (a .places .now) (a .numbers .now) (a .owners .now) (a .marks .now) (a .k) (c .before .before .place .result) (a .r .number) (c .before .owner-code .result) (a .r .flags / 64 % 2) (s .pre)
+    ∙ ap (λ (x : Row). rowsIn (a .places .now) (a .numbers .now) (a .owners .now) (a .marks .now) (a .k) ++ (x ∷ [])) e
 
 pub put-row-spec : {M : Type 1} → statement M
 put-row-spec =

@@ -1,0 +1,44 @@
+-- What a header that passed its tests says.
+use mathlib.Core.Path.{_≡_, refl, sym, ap, _∙_}
+use mathlib.Core.Bool.{Bool, true, false, _&&_}
+use mathlib.Core.List.{List, [], _∷_}
+use Prim.Native.Nat.{ℕ, _+_, _-_, _*_, _/_, _%_, _≤_, _<_}
+use native.Mathlib.Omega.{arith}
+use lib.ListN.{length}
+use lib.Dec.{eqb, leb}
+use borrow.Author.Tests.{eqb-true, leb-true}
+use Rattle.basics.specs.Basics.{all, every, distinct}
+use Rattle.basics.proofs.Facts.{and-true}
+use Rattle.blocks.specs.declared.Header.{Header}
+use Rattle.rows.proofs.Ands.{and-yes, and-assoc}
+use Rattle.image.specs.Stages.{blockOk, isZero, directoriesFor, directoryBlocks, unusedNumbers, headerOk}
+use Rattle.image.specs.Answers.{countsOk}
+
+-- the counts of a header that passed
+pub record Counts (n : ℕ) (h : Header) : Type 0 where
+  pub blocks : h .blocks ≡ n
+  pub low : 1 ≤ h .capacity
+  pub high : h .capacity ≤ 1024
+  pub pages : h .pages ≤ h .capacity
+  pub directories : h .directories ≡ (h .pages + 335) / 336
+  pub four : h .directories ≤ 4
+
+pub counts-are : (n : ℕ) (h : Header) → countsOk n h ≡ true → Counts n h
+unfolding countsOk every directoriesFor
+counts-are n h e =
+    let a = and-true (eqb (h .blocks) n) _ e in
+    let b = and-true (leb 1 (h .capacity)) _ (a .1) in
+    let c = and-true (leb (h .capacity) 1024) _ (b .1) in
+    let d = and-true (leb (h .pages) (h .capacity)) _ (c .1) in
+    let f = and-true (eqb (h .directories) (directoriesFor (h .pages))) _ (d .1) in
+    let low = leb-true 1 (h .capacity) (b .0) in
+    let high = leb-true (h .capacity) 1024 (c .0) in
+    let pages = leb-true (h .pages) (h .capacity) (d .0) in
+    let ds = eqb-true (h .directories) ((h .pages + 335) / 336) (f .0) in
+    record { blocks = eqb-true (h .blocks) n (a .0); low = low; high = high; pages = pages; directories = ds; four = omega arith }
+
+-- the tests of a header in two parts
+pub header-tests : (n : ℕ) (h : Header) → headerOk n h
+    ≡ (countsOk n h && (all (blockOk n) (directoryBlocks h) && (distinct (directoryBlocks h) && all isZero (unusedNumbers h))))
+unfolding headerOk countsOk every
+header-tests n h = simp (and-assoc, and-yes)
