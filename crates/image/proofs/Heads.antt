@@ -1,17 +1,18 @@
 -- What a header that passed its tests says.
 use mathlib.Core.Path.{_≡_, refl, sym, ap, _∙_}
-use mathlib.Core.Bool.{Bool, true, false, _&&_}
+use mathlib.Core.Bool.{Bool, true, false, not, _&&_}
 use mathlib.Core.List.{List, [], _∷_}
 use Prim.Native.Nat.{ℕ, _+_, _-_, _*_, _/_, _%_, _≤_, _<_}
 use native.Mathlib.Omega.{arith}
-use lib.ListN.{length}
+use lib.ListN.{length, take, drop, length-drop}
+use lib.Seq.{take-all}
 use lib.Dec.{eqb, leb}
-use borrow.Author.Tests.{eqb-true, leb-true}
+use borrow.Author.Tests.{eqb-true, leb-true, not-false}
 use Rattle.basics.specs.Basics.{all, every, distinct}
 use Rattle.basics.proofs.Facts.{and-true}
 use Rattle.blocks.specs.declared.Header.{Header}
 use Rattle.rows.proofs.Ands.{and-yes, and-assoc}
-use Rattle.image.specs.Stages.{blockOk, isZero, directoriesFor, directoryBlocks, unusedNumbers, headerOk}
+use Rattle.image.specs.Stages.{blockOk, isZero, directoriesFor, numbersOf, directoryBlocks, unusedNumbers, headerOk}
 use Rattle.image.specs.Answers.{countsOk}
 
 -- the counts of a header that passed
@@ -42,3 +43,20 @@ pub header-tests : (n : ℕ) (h : Header) → headerOk n h
     ≡ (countsOk n h && (all (blockOk n) (directoryBlocks h) && (distinct (directoryBlocks h) && all isZero (unusedNumbers h))))
 unfolding headerOk countsOk every
 header-tests n h = simp (and-assoc, and-yes)
+
+-- at most four directory numbers are in use
+pub four-used : (n w : ℕ) (h : Header) (b : Bool) → b ≡ countsOk n h → not b ≡ false → w ≡ h .directories → w ≤ 4
+four-used n w h b e t d =
+    let f = counts-are n h (sym e ∙ not-false b t) in omega (arith, f .four)
+
+module _ (n w : ℕ) (h : Header) (d : w ≡ h .directories) where
+  -- a test on the numbers in use, as the code takes them
+  pub used : {A : Type 0} (f : List ℕ → A) → f (take w (numbersOf h)) ≡ f (directoryBlocks h)
+  unfolding directoryBlocks
+  used f = ap (λ (k : ℕ). f (take k (numbersOf h))) d
+
+  pub unused : {A : Type 0} (f : List ℕ → A) → w ≤ 4 → f (take (4 - w) (drop w (numbersOf h))) ≡ f (unusedNumbers h)
+  unfolding unusedNumbers
+  unused f l =
+      ap f (take-all (4 - w) (drop w (numbersOf h)) (rw (length-drop w (numbersOf h)) (omega arith)))
+      ∙ ap (λ (k : ℕ). f (drop k (numbersOf h))) d
