@@ -231,3 +231,72 @@ fn put_row(places: &mut [u64], numbers: &mut [u32], owners: &mut [u64], marks: &
     owners[k] = owner_code(r.flags, r.owner);
     marks[k] = r.flags / 64 % 2;
 }
+
+// The tuples of a page's block go into the columns from place k on.
+fn add_rows(
+    block: &[u8],
+    table: u32,
+    count: u32,
+    places: &mut [u64],
+    numbers: &mut [u32],
+    owners: &mut [u64],
+    marks: &mut [u8],
+    k: usize,
+)
+    requires { ⌜ length (now block) ≡ 512 ⌝ }
+    requires { ⌜ (k + count ≤ length (now places)) × ((k + count ≤ length (now numbers)) × ((k + count ≤ length (now owners)) × (k + count ≤ length (now marks)))) ⌝ }
+    ensures { λ _. ⌜ ((ts : List Tuple) → readTuples count (drop 8 (now (block .entry))) ≡ some ts
+        → rowsIn (now (places .exit)) (now (numbers .exit)) (now (owners .exit)) (now (marks .exit)) (k + count)
+        ≡ rowsIn (now (places .entry)) (now (numbers .entry)) (now (owners .entry)) (now (marks .entry)) k ++ map bare (rowsOf table ts)) ⌝ }
+{
+    let mut at: usize = 8;
+    let mut i: u32 = 0;
+    let mut to = k;
+    while i < count {
+        match (blocks::Cursor { at: at }).next(block) {
+            blocks::Next::Found(r, c) => {
+                put_row(places, numbers, owners, marks, to, table, r);
+                at = c.at;
+            }
+            blocks::Next::Bad => {
+                return;
+            }
+        }
+        to = to + 1;
+        i = i + 1;
+    }
+}
+
+// A page of an image below a header of this level, with at most `room` tuples.
+fn good_page(block: &[u8; 512], level: u32, room: usize) -> GoodPage
+    ensures { λ r. ⌜ r ≡ goodPage level room (decodeBlock (now (block .entry))) ⌝ }
+{
+    match blocks::read_block(block) {
+        blocks::Reading::IsPage {
+            table,
+            count,
+            level: k,
+        } => {
+            if count < 1 {
+                return GoodPage::Bad;
+            }
+            if k < 1 {
+                return GoodPage::Bad;
+            }
+            if level < k {
+                return GoodPage::Bad;
+            }
+            if room < wide(count) {
+                return GoodPage::Bad;
+            }
+            if !marks_ok(block, count) {
+                return GoodPage::Bad;
+            }
+            GoodPage::Good {
+                table: table,
+                count: count,
+            }
+        }
+        _ => GoodPage::Bad,
+    }
+}
