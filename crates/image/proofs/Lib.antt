@@ -1,3 +1,4 @@
 pub mod Places
 pub mod Heads
 pub mod Walk
+pub mod Decoded

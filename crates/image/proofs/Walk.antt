@@ -2,12 +2,12 @@
 use mathlib.Core.Path.{_≡_, refl, sym, ap, _∙_}
 use mathlib.Core.Bool.{Bool, true, false}
 use mathlib.Core.Option.{Option, none, some, Option·map}
-use mathlib.Core.List.{List, [], _∷_, _++_, map}
+use mathlib.Core.List.{List, [], _∷_, _++_, map, append-assoc, append-nil}
 use Prim.Native.Nat.{ℕ, zero, suc, _+_, _-_, _≤_, _<_}
 use native.Mathlib.Omega.{arith}
 use native.Mathlib.Numerals.{add-one}
-use lib.ListN.{length, take, drop}
-use lib.Seq.{drop-drop}
+use lib.ListN.{length, take, drop, take-append-drop}
+use lib.Seq.{drop-drop, take-add}
 use Rattle.basics.specs.Basics.{if_then_else_, all}
 use Rattle.basics.proofs.Facts.{never}
 use Rattle.blocks.specs.Tuple.{Tuple}
@@ -17,6 +17,7 @@ use Rattle.blocks.specs.declared.Record.{Record}
 use Rattle.blocks.specs.declared.Cursor.{Cursor}
 use Rattle.blocks.proofs.ReadTuples.{split, none-is, Found-is}
 use Rattle.rows.specs.Rows.{Row, rowsOf, markOk}
+use Rattle.rows.specs.Columns.{bare}
 use Rattle.rows.proofs.Turns.{all-yes, all-not}
 
 -- of the tuples ts, n in number, those from i on are still to be read, from place at on
@@ -73,3 +74,40 @@ module _ (xs : List ℕ) (n at i : ℕ) (ts : List Tuple) (h : i < n) (e : Left 
 pub marks-end : (t : ℕ) (l : List Tuple) → l ≡ [] → all markOk (rowsOf t l) ≡ true
 unfolding rowsOf all
 marks-end t l e = rw e
+
+-- ---- the rows that are put into columns
+
+pub map-append : {A B : Type 0} (f : A → B) (xs ys : List A) → map f (xs ++ ys) ≡ map f xs ++ map f ys
+map-append f [] ys = refl
+map-append f (x ∷ xs) ys = ap (λ (l : List _). f x ∷ l) (map-append f xs ys)
+
+pub rows-append : (t : ℕ) (xs ys : List Tuple) → rowsOf t (xs ++ ys) ≡ rowsOf t xs ++ rowsOf t ys
+unfolding rowsOf
+rows-append t [] ys = refl
+rows-append t (x ∷ xs) ys = ap (λ (l : List Row). (t, x) ∷ l) (rows-append t xs ys)
+
+take-next : {A : Type 0} (i : ℕ) (l : List A) (x : A) (xs : List A) → drop i l ≡ x ∷ xs → take (i + 1) l ≡ take i l ++ (x ∷ [])
+take-next i l x xs e = take-add i 1 l ∙ ap (λ (r : List _). take i l ++ take 1 r) e
+
+module _ (t i : ℕ) (ts : List Tuple) (front before : List Row) (e : before ≡ front ++ map bare (rowsOf t (take i ts))) where
+  -- one row more
+  pub row-next : (after : List Row) (r : Record) (p : List ℕ) (us : List Tuple) → drop i ts ≡ tupleOf r p ∷ us → after ≡ before ++ ((t, tupleOf r []) ∷ [])
+      → after ≡ front ++ map bare (rowsOf t (take (i + 1) ts))
+  unfolding rowsOf tupleOf
+  row-next after r p us d a =
+      let x : Tuple = tupleOf r p in
+      let n = ap (λ (l : List Tuple). front ++ map bare (rowsOf t l)) (take-next i ts x us d) in
+      let m : map bare (rowsOf t (take i ts ++ (x ∷ []))) ≡ map bare (rowsOf t (take i ts)) ++ ((t, tupleOf r []) ∷ []) =
+      rw (rows-append t (take i ts) (x ∷ []), map-append bare (rowsOf t (take i ts)) ((t, x) ∷ [])) in
+      a ∙ rw e (append-assoc front (map bare (rowsOf t (take i ts))) ((t, tupleOf r []) ∷ [])) ∙ sym (n ∙ ap (λ (l : List Row). front ++ l) m)
+
+  -- none left
+  pub row-last : drop i ts ≡ [] → before ≡ front ++ map bare (rowsOf t ts)
+  row-last d =
+      let k : take i ts ≡ ts = sym (append-nil (take i ts)) ∙ ap (λ (l : List Tuple). take i ts ++ l) (sym d) ∙ take-append-drop i ts in
+      e ∙ ap (λ (l : List Tuple). front ++ map bare (rowsOf t l)) k
+
+-- none yet
+pub row-first : (t : ℕ) (ts : List Tuple) (front : List Row) → front ≡ front ++ map bare (rowsOf t (take 0 ts))
+unfolding rowsOf
+row-first t ts front = sym (append-nil front)
