@@ -2,3 +2,4 @@ pub mod Places
 pub mod Heads
 pub mod Walk
 pub mod Decoded
+pub mod Collect

@@ -300,3 +300,50 @@ fn good_page(block: &[u8; 512], level: u32, room: usize) -> GoodPage
         _ => GoodPage::Bad,
     }
 }
+
+// The tests of refusal 24, with columns for the tuples of all pages.
+fn test_rows(
+    image: &[u8],
+    entries: &[u32],
+    h: blocks::Header,
+    places: &mut [u64],
+    numbers: &mut [u32],
+    owners: &mut [u64],
+    marks: &mut [u8],
+) -> bool
+    requires { ⌜ all (blockOk (blockCount (now image))) (now entries) ≡ true ⌝ }
+    requires { ⌜ (h .capacity ≤ length (now places)) × ((h .capacity ≤ length (now numbers)) × ((h .capacity ≤ length (now owners)) × (h .capacity ≤ length (now marks)))) ⌝ }
+    ensures { λ r. ⌜ r ≡ accepts (pageTest (view (now (image .entry))) h (now (entries .entry))) ⌝ }
+{
+    let level = h.level;
+    let cap = wide(h.capacity);
+    let mut i: usize = 0;
+    let mut to: usize = 0;
+    while i < entries.len() {
+        let block = block_at(image, wide(entries[i]));
+        match good_page(&block, level, cap - to) {
+            GoodPage::Good { table, count } => {
+                add_rows(&block, table, count, places, numbers, owners, marks, to);
+                to = to + wide(count);
+            }
+            GoodPage::Bad => {
+                return false;
+            }
+        }
+        i = i + 1;
+    }
+    rows::columns_ok(places, numbers, owners, marks, to, h.next)
+}
+
+// The tests of refusal 24.
+fn pages_ok(image: &[u8], entries: &[u32], h: blocks::Header) -> bool
+    requires { ⌜ all (blockOk (blockCount (now image))) (now entries) ≡ true ⌝ }
+    requires { ⌜ h .capacity ≤ 1024 ⌝ }
+    ensures { λ r. ⌜ r ≡ accepts (pageTest (view (now (image .entry))) h (now (entries .entry))) ⌝ }
+{
+    let mut places = [0u64; 1024];
+    let mut numbers = [0u32; 1024];
+    let mut owners = [0u64; 1024];
+    let mut marks = [0u8; 1024];
+    test_rows(image, entries, h, &mut places, &mut numbers, &mut owners, &mut marks)
+}
