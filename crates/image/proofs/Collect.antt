@@ -12,7 +12,7 @@ use Rattle.basics.specs.Basics.{if_then_else_, all, every}
 use Rattle.basics.proofs.Facts.{by, by-option, never, and-true}
 use Rattle.blocks.specs.Tuple.{Tuple}
 use Rattle.blocks.specs.Block.{Block, malformed, header, page, directory}
-use Rattle.blocks.specs.Decode.{decodeBlock}
+use Rattle.blocks.specs.Decode.{readTuples, decodeBlock}
 use Rattle.blocks.specs.declared.Header.{Header}
 use Rattle.rows.specs.Rows.{Row, rowsOf, markOk, rowsOk}
 use Rattle.rows.specs.Columns.{bare, tab, rowsIn, columnsOk}
@@ -25,6 +25,7 @@ use Rattle.image.specs.Answers.{goodPage, accepts}
 use Rattle.image.specs.declared.GoodPage.{GoodPage}
 use Rattle.image.specs.declared.GoodPage.the-variants.{Good, Bad}
 use Rattle.image.proofs.Walk.{map-append}
+use Rattle.image.proofs.Decoded.{page-tuples}
 
 -- ---- lists
 
@@ -235,3 +236,16 @@ module _ (v : View) (h : Header) (es : List ℕ) where
       refused (λ ps q.
         bad-page (h .level) (h .capacity - to) (h .capacity) (h .next) e (a .done) ps f (v e) bad o
         (ap (Option·map (λ qs. a .done ++ qs)) (sym (next i to columns a l)) ∙ sym (a .rest) ∙ q))
+
+-- ---- the block that the code holds
+
+module _ (xs es : List ℕ) (i x : ℕ) (bs : List ℕ) (b : bs ≡ blockAt xs x) (e : x ≡ getD es i 0) where
+  seen : decodeBlock bs ≡ view xs (getD es i 0)
+  unfolding view
+  seen = rw (b, e)
+
+  pub page-here : (l cap w to : ℕ) (r : GoodPage) → w ≡ cap → r ≡ goodPage l (w - to) (decodeBlock bs) → goodPage l (cap - to) (view xs (getD es i 0)) ≡ r
+  page-here l cap w to r c q = rw (← seen, ← c) (sym q)
+
+  pub tuples-here : (l room t n : ℕ) (g : Goods l room t n (view xs (getD es i 0))) → readTuples n (drop 8 bs) ≡ some (g .tuples)
+  tuples-here l room t n g = rw (← g .count) (page-tuples bs t (g .level) (g .tuples) (seen ∙ g .block))
