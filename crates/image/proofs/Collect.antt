@@ -240,7 +240,7 @@ module _ (v : View) (h : Header) (es : List ℕ) where
 -- ---- the block that the code holds
 
 module _ (xs es : List ℕ) (i x : ℕ) (bs : List ℕ) (b : bs ≡ blockAt xs x) (e : x ≡ getD es i 0) where
-  seen : decodeBlock bs ≡ view xs (getD es i 0)
+  pub seen : decodeBlock bs ≡ view xs (getD es i 0)
   unfolding view
   seen = rw (b, e)
 

@@ -30,7 +30,7 @@ use Rattle.image.specs.declared.GoodPage.{GoodPage}
 use Rattle.image.specs.declared.GoodPage.the-variants.{Good, Bad}
 
 -- where two blocks are of two kinds
-clash {ℓ} : {X : Type ℓ} → _≡_ {A = ℕ} 0 1 → X
+pub clash {ℓ} : {X : Type ℓ} → _≡_ {A = ℕ} 0 1 → X
 clash z = absurd (omega arith)
 
 -- what is read is what is spelled, or malformed

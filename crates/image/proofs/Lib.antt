@@ -3,3 +3,4 @@ pub mod Heads
 pub mod Walk
 pub mod Decoded
 pub mod Collect
+pub mod Named

@@ -347,3 +347,66 @@ fn pages_ok(image: &[u8], entries: &[u32], h: blocks::Header) -> bool
     let mut marks = [0u8; 1024];
     test_rows(image, entries, h, &mut places, &mut numbers, &mut owners, &mut marks)
 }
+
+// How many entries the next directory block has, where so many pages are still to be named.
+fn due(left: usize) -> usize
+    ensures { λ r. ⌜ r ≡ min entriesPerBlock left ⌝ }
+{
+    if left < 336 {
+        return left;
+    }
+    336
+}
+
+// The first entries of a directory block over those of out from a place on.
+fn put_entries(out: &mut [u32], at: usize, entries: &[u16], count: usize)
+    requires { ⌜ (at + count ≤ length (now out)) × (count ≤ length (now entries)) ⌝ }
+    ensures { λ _. ⌜ now (out .exit) ≡ over (now (out .entry)) at (take count (now (entries .entry))) ⌝ }
+{
+    let mut i: usize = 0;
+    while i < count {
+        out[at + i] = number(entries[i]);
+        i = i + 1;
+    }
+}
+
+// The entries of a directory block of this level go into out from a place on, if they are as many as are due.
+fn add_entries(block: &[u8; 512], level: u32, left: usize, out: &mut [u32], at: usize) -> bool
+    requires { ⌜ at + left ≤ length (now out) ⌝ }
+    ensures { λ r. ⌜ Filled (addEntries level left (decodeBlock (now (block .entry))) (some [])) at (now (out .entry)) r (now (out .exit)) ⌝ }
+{
+    match blocks::read_block(block) {
+        blocks::Reading::IsDirectory { count, level: k } => {
+            if k != level {
+                return false;
+            }
+            if count != due(left) {
+                return false;
+            }
+            let entries = blocks::read_entries(block, count);
+            put_entries(out, at, &entries, count);
+            true
+        }
+        _ => false,
+    }
+}
+
+// The entries of the directory blocks go into out, if there are as many as pages.
+fn gather(image: &[u8], level: u32, pages: usize, directories: &[u32], out: &mut [u32]) -> bool
+    requires { ⌜ all (blockOk (blockCount (now image))) (now directories) ≡ true ⌝ }
+    requires { ⌜ pages ≤ length (now out) ⌝ }
+    ensures { λ r. ⌜ Filled (readDirectories (view (now (image .entry))) level pages (now (directories .entry))) 0 (now (out .entry)) r (now (out .exit)) ⌝ }
+{
+    let mut i: usize = 0;
+    let mut at: usize = 0;
+    while i < directories.len() {
+        let block = block_at(image, wide(directories[i]));
+        let left = pages - at;
+        if !add_entries(&block, level, left, out, at) {
+            return false;
+        }
+        at = at + due(left);
+        i = i + 1;
+    }
+    true
+}
