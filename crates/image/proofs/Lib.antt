@@ -4,3 +4,4 @@ pub mod Walk
 pub mod Decoded
 pub mod Collect
 pub mod Named
+pub mod Staged

@@ -15,7 +15,7 @@ ghost use Rattle.blocks.specs.Bytes.{tupleOf};
 ghost use Rattle.rows.specs.Rows.{Row, rowsOf, markOk};
 ghost use Rattle.rows.specs.Columns.{codedOwner, rowsIn, bare};
 ghost use Rattle.image.specs.View.{View, view, blockAt, blockCount};
-ghost use Rattle.image.specs.Stages.{holds, blockOk, isZero, headerOk, addEntries, readDirectories, entriesOk, directoriesFor, pageTest};
+ghost use Rattle.image.specs.Stages.{refuses, holds, blockOk, isZero, headerOk, addEntries, readDirectories, entriesOk, directoriesFor, pageTest};
 ghost use Rattle.image.specs.Whole.{headerStage, pagesStage, readImage};
 ghost use Rattle.image.specs.Answers.{countsOk, Filled, goodPage, accepts, noEntries, headerAnswer, pagesAnswer, imageAnswer};
 
@@ -409,4 +409,116 @@ fn gather(image: &[u8], level: u32, pages: usize, directories: &[u32], out: &mut
         i = i + 1;
     }
     true
+}
+
+// Tests 1 and 22.
+pub fn test_header(image: &[u8]) -> HeaderTest
+    ensures { λ r. ⌜ r ≡ headerAnswer (headerStage (now (image .entry))) ⌝ }
+{
+    let len = image.len();
+    if len % 512 != 0 {
+        return HeaderTest::Refused(1);
+    }
+    let n = len / 512;
+    if n < 2 {
+        return HeaderTest::Refused(1);
+    }
+    if 4096 < n {
+        return HeaderTest::Refused(1);
+    }
+    let block = block_at(image, 0);
+    match blocks::read_block(&block) {
+        blocks::Reading::IsHeader(h) => {
+            if head_ok(h, n as u32) {
+                return HeaderTest::Passed(h);
+            }
+            HeaderTest::Refused(22)
+        }
+        _ => HeaderTest::Refused(22),
+    }
+}
+
+// The entries of no page.
+fn no_entries() -> [u32; 1024]
+    ensures { λ r. ⌜ r ≡ noEntries ⌝ }
+{
+    [0u32; 1024]
+}
+
+fn refused_pages(n: u64) -> PagesTest
+    ensures { λ r. ⌜ r ≡ pagesAnswer (refuses n) ⌝ }
+{
+    let entries = no_entries();
+    PagesTest {
+        refusal: n,
+        entries: entries,
+    }
+}
+
+// Tests 23 and 24, below a header that passed.
+pub fn test_pages(image: &[u8], h: blocks::Header) -> PagesTest
+    requires { ⌜ headerStage (now image) ≡ holds h ⌝ }
+    ensures { λ r. ⌜ r ≡ pagesAnswer (pagesStage (view (now (image .entry))) h) ⌝ }
+{
+    let pages = wide(h.pages);
+    let used = wide(h.directories);
+    let directories = [h.d0, h.d1, h.d2, h.d3];
+    let mut entries = no_entries();
+    if !gather(image, h.level, pages, &directories[..used], &mut entries) {
+        return refused_pages(23);
+    }
+    if !entries_ok(&entries[..pages], &directories[..used], h.blocks) {
+        return refused_pages(23);
+    }
+    if !pages_ok(image, &entries[..pages], h) {
+        return refused_pages(24);
+    }
+    PagesTest {
+        refusal: 0,
+        entries: entries,
+    }
+}
+
+fn refused_image(n: u64) -> ImageTest
+    ensures { λ r. ⌜ r ≡ imageAnswer (refuses n) ⌝ }
+{
+    let entries = no_entries();
+    let none = blocks::Header {
+        blocks: 0,
+        capacity: 0,
+        level: 0,
+        next: 0,
+        pages: 0,
+        directories: 0,
+        d0: 0,
+        d1: 0,
+        d2: 0,
+        d3: 0,
+    };
+    ImageTest {
+        refusal: n,
+        header: none,
+        entries: entries,
+    }
+}
+
+// All of recovery's tests but that of the memory.
+pub fn test_image(image: &[u8]) -> ImageTest
+    ensures { λ r. ⌜ r ≡ imageAnswer (readImage (now (image .entry))) ⌝ }
+{
+    match test_header(image) {
+        HeaderTest::Passed(h) => {
+            let t = test_pages(image, h);
+            if t.refusal != 0 {
+                return refused_image(t.refusal);
+            }
+            let entries = t.entries;
+            ImageTest {
+                refusal: 0,
+                header: h,
+                entries: entries,
+            }
+        }
+        HeaderTest::Refused(n) => refused_image(n),
+    }
 }
