@@ -95,16 +95,16 @@ not-put o at out out′ e = rw e refl
 
 -- ---- what was put
 
-record Put (o : Option (List ℕ)) (at : ℕ) (out out′ : List ℕ) : Type 0 where
+pub record Put (o : Option (List ℕ)) (at : ℕ) (out out′ : List ℕ) : Type 0 where
   pub entries : List ℕ
   pub some-are : o ≡ some entries
   pub put : out′ ≡ over out at entries
 
-filled-yes : (o : Option (List ℕ)) (at : ℕ) (out out′ : List ℕ) (r : Bool) → r ≡ true → Filled o at out r out′ → Put o at out out′
+pub filled-yes : (o : Option (List ℕ)) (at : ℕ) (out out′ : List ℕ) (r : Bool) → r ≡ true → Filled o at out r out′ → Put o at out out′
 filled-yes none at out out′ r t f = lie (sym f ∙ t)
 filled-yes (some es) at out out′ r t f = record { entries = es; some-are = refl; put = f .1 }
 
-filled-not : (o : Option (List ℕ)) (at : ℕ) (out out′ : List ℕ) (r : Bool) → r ≡ false → Filled o at out r out′ → o ≡ none
+pub filled-not : (o : Option (List ℕ)) (at : ℕ) (out out′ : List ℕ) (r : Bool) → r ≡ false → Filled o at out r out′ → o ≡ none
 filled-not none at out out′ r t f = refl
 filled-not (some es) at out out′ r t f = lie (sym t ∙ f .0)
 

@@ -6,7 +6,7 @@ use mathlib.Core.Option.{Option, none, some, Option·map}
 use mathlib.Core.List.{List, [], _∷_, _++_, map}
 use Prim.Native.Nat.{ℕ, zero, suc, _+_, _-_, _*_, _/_, _%_, _≤_, _<_, min}
 use native.Mathlib.Omega.{arith}
-use lib.ListN.{length, take, drop, length-take, length-append}
+use lib.ListN.{length, take, drop, length-take, length-append, length-replicate}
 use lib.Seq.{take-at}
 use lib.Dec.{eqb, leb}
 use borrow.Author.Tests.{eqb-true, eq-eqb, ne-eqb, le-leb, lt-leb}
@@ -31,6 +31,7 @@ use Rattle.image.specs.declared.HeaderTest.the-variants.{Passed, Refused
 use Rattle.image.specs.declared.PagesTest.{PagesTest}
 use Rattle.image.proofs.Heads.{Counts, counts-are, header-tests}
 use Rattle.image.proofs.Decoded.{clash, OneOfThese}
+use Rattle.image.proofs.Named.{filled-yes, filled-not}
 
 -- ---- 1 and 22
 
@@ -211,3 +212,165 @@ module _ (v : View) (h : Header) where
       pub all-good : accepts (pageTest v h es) ≡ true → pagesAnswer (pagesStage v h) ≡ record { refusal = 0; entries = over noEntries 0 es }
       unfolding pageTest
       all-good q = ap pagesAnswer by-pages ∙ pages-accepted (readPages v (h .level) es) refl q
+
+-- ---- the same, as the code has it
+
+none-many : length noEntries ≡ 1024
+unfolding noEntries
+none-many = length-replicate {A = ℕ} 1024 0
+
+module _ (xs : List ℕ) (h : Header) (pages used : ℕ) where
+  -- the counts that the code works with
+  pub record Begun : Type 0 where
+    pub passed : Passing xs h
+    pub pages-are : pages ≡ h .pages
+    pub used-are : used ≡ h .directories
+
+  module _ (b : Begun) where
+    pub four : used ≤ 4
+    four = omega (arith, b .used-are, b .passed .counts .four)
+
+    pub fits : pages ≤ 1024
+    fits = omega (arith, b .pages-are, b .passed .counts .pages, b .passed .counts .high)
+
+    pub within-none : (l : List ℕ) → l ≡ noEntries → pages ≤ length l
+    within-none l e = omega (arith, fits, ap length e, none-many)
+
+    pub named : all (blockOk (blockCount xs)) (take used (numbersOf h)) ≡ true
+    unfolding directoryBlocks
+    named = ap (λ (k : ℕ). all (blockOk (blockCount xs)) (take k (numbersOf h))) (b .used-are) ∙ b .passed .directories
+
+    read-are : readDirectories (view xs) (h .level) pages (take used (numbersOf h)) ≡ entriesRead (view xs) h
+    unfolding directoryBlocks
+    read-are = rw (b .pages-are, b .used-are)
+
+    -- each directory block but the last has 336 entries
+    enough : pages ≤ 336 * length (take used (numbersOf h))
+    enough = simp length-take (omega (arith, four, b .used-are, b .pages-are, b .passed .counts .directories))
+
+    module _ (none out : List ℕ) (e : none ≡ noEntries) (r : Bool)
+        (f : Filled (readDirectories (view xs) (h .level) pages (take used (numbersOf h))) 0 none r out) where
+      pub not-read : r ≡ false → pagesStage (view xs) h ≡ refuses 23
+      not-read t = bad-directory (view xs) h (sym read-are ∙ filled-not _ 0 none out r t f)
+
+      -- the entries that were read
+      pub record Got : Type 0 where
+        pub entries : List ℕ
+        pub read : entriesRead (view xs) h ≡ some entries
+        pub out-are : out ≡ over noEntries 0 entries
+        pub front : take pages out ≡ entries
+
+      pub got : r ≡ true → Got
+      unfolding over
+      got t =
+          let q = filled-yes (readDirectories (view xs) (h .level) pages (take used (numbersOf h))) 0 none out r t f in
+          let n = entries-count (view xs) (h .level) (take used (numbersOf h)) pages (q .entries) enough (q .some-are) in
+          let o : out ≡ over noEntries 0 (q .entries) = q .put ∙ ap (λ (l : List ℕ). over l 0 (q .entries)) e in
+          record {
+            entries = q .entries;
+            read = sym read-are ∙ q .some-are;
+            out-are = o;
+            front = ap (take pages) o ∙ take-at (q .entries) (drop (0 + length (q .entries)) noEntries) pages n
+          }
+
+      module _ (g : Got) (k : Bool) (ok : k ≡ entriesOk (h .blocks) (take used (numbersOf h)) (take pages out)) where
+        ok-are : k ≡ entriesOk (h .blocks) (directoryBlocks h) (g .entries)
+        unfolding directoryBlocks
+        ok-are = ok ∙ rw (b .used-are, g .front)
+
+        pub not-ok : k ≡ false → pagesStage (view xs) h ≡ refuses 23
+        not-ok t = bad-entries (view xs) h (g .entries) (g .read) (sym ok-are ∙ t)
+
+        module _ (t : k ≡ true) where
+          -- every entry is a block of the image
+          pub in-image : all (blockOk (blockCount xs)) (take pages out) ≡ true
+          unfolding entriesOk every
+          in-image = rw (g .front, ← b .passed .counts .blocks) (and-true (all (blockOk (h .blocks)) (g .entries)) _ (sym ok-are ∙ t) .0)
+
+          module _ (m : Bool) (pages-ok : m ≡ accepts (pageTest (view xs) h (take pages out))) where
+            test-are : accepts (pageTest (view xs) h (g .entries)) ≡ m
+            test-are = sym (pages-ok ∙ rw (g .front))
+
+            pub wrong-pages : m ≡ false → pagesStage (view xs) h ≡ refuses 24
+            wrong-pages q = bad-pages (view xs) h (g .entries) (g .read) (sym ok-are ∙ t) (test-are ∙ q)
+
+            pub right-pages : m ≡ true → record { refusal = 0; entries = out } ≡ pagesAnswer (pagesStage (view xs) h)
+            right-pages q =
+                let a = all-good (view xs) h (g .entries) (g .read) (sym ok-are ∙ t) (test-are ∙ q) in
+                let o = g .out-are in
+                (λ i. record { refusal = 0; entries = o i }) ∙ sym a
+
+-- ---- all together
+
+-- no stage refuses with the number 0
+module _ (v : View) (h : Header) (n : ℕ) where
+  entries-number : (o : Option (List ℕ)) → testedEntries h o ≡ refuses n → 0 < n
+  unfolding testedEntries if_then_else_
+  entries-number none e = let z : n ≡ 23 = cc in omega arith
+  entries-number (some es) e =
+      by (entriesOk (h .blocks) (directoryBlocks h) es)
+      (λ t. let k : holds es ≡ refuses n = rw t at e in let c : _≡_ {A = ℕ} 0 1 = cc in clash c)
+      (λ t. let k : _≡_ {A = Stage (List ℕ)} (refuses 23) (refuses n) = rw t at e in let z : n ≡ 23 = cc in omega arith)
+
+  pages-number : (o : Option (List StoredPage)) → testedPages h o ≡ refuses n → 0 < n
+  unfolding testedPages if_then_else_
+  pages-number none e = let z : n ≡ 24 = cc in omega arith
+  pages-number (some ps) e =
+      by (rowsOk (h .capacity) (h .next) (rowsOfPages ps))
+      (λ t. let k : holds ps ≡ refuses n = rw t at e in let c : _≡_ {A = ℕ} 0 1 = cc in clash c)
+      (λ t. let k : _≡_ {A = Stage (List StoredPage)} (refuses 24) (refuses n) = rw t at e in let z : n ≡ 24 = cc in omega arith)
+
+  below-number : (d : Stage (List ℕ)) → (d ≡ refuses n → 0 < n) → pagesBelow v h d ≡ refuses n → 0 < n
+  unfolding pagesBelow pageTest
+  below-number (refuses m) f e = let z : m ≡ n = cc in f (ap refuses z)
+  below-number (holds es) f e = pages-number (readPages v (h .level) es) e
+
+  stage-number : pagesStage v h ≡ refuses n → 0 < n
+  unfolding pagesStage directoryTest
+  stage-number e = below-number (directoryTest v h) (entries-number (readDirectories v (h .level) (h .pages) (directoryBlocks h))) e
+
+-- what the answers of the stages say
+stage-passed : (s : Stage Header) (h : Header) → Passed h ≡ headerAnswer s → s ≡ holds h
+unfolding headerAnswer
+stage-passed (refuses n) h e = let c : _≡_ {A = ℕ} 0 1 = cc in clash c
+stage-passed (holds g) h e = let z : h ≡ g = cc in ap holds (sym z)
+
+stage-refused : (s : Stage Header) (n : ℕ) → Refused n ≡ headerAnswer s → s ≡ refuses n
+unfolding headerAnswer
+stage-refused (refuses m) n e = let z : n ≡ m = cc in ap refuses (sym z)
+stage-refused (holds g) n e = let c : _≡_ {A = ℕ} 0 1 = cc in clash c
+
+pages-refusal : (s : Stage (List StoredPage)) (t : PagesTest) → t ≡ pagesAnswer s → (t .refusal ≡ 0 → ⊥) → s ≡ refuses (t .refusal)
+unfolding pagesAnswer
+pages-refusal (refuses m) t e d = ap refuses (sym (ap (λ (x : PagesTest). x .refusal) e))
+pages-refusal (holds ps) t e d = absurd (d (ap (λ (x : PagesTest). x .refusal) e))
+
+-- an accepted image
+accepted-image : (h : Header) (s : Stage (List StoredPage)) (t : PagesTest) → t ≡ pagesAnswer s → t .refusal ≡ 0 → (s ≡ refuses 0 → ⊥)
+    → record { refusal = 0; header = h; entries = t .entries } ≡ imageAnswer (withHeader h s)
+unfolding pagesAnswer imageAnswer withHeader
+accepted-image h (refuses m) t e z n =
+    let k : m ≡ 0 = sym (ap (λ (x : PagesTest). x .refusal) e) ∙ z in absurd (n (ap refuses k))
+accepted-image h (holds ps) t e z n =
+    let k = ap (λ (x : PagesTest). x .entries) e in λ i. record { refusal = 0; header = h; entries = k i }
+
+module _ (xs : List ℕ) where
+  pub passed-is : (h : Header) → Passed h ≡ headerAnswer (headerStage xs) → headerStage xs ≡ holds h
+  passed-is h e = stage-passed (headerStage xs) h e
+
+  pub image-refused : (n : ℕ) → Refused n ≡ headerAnswer (headerStage xs) → imageAnswer (refuses n) ≡ imageAnswer (readImage xs)
+  unfolding readImage afterHeader
+  image-refused n e = rw (stage-refused (headerStage xs) n e)
+
+  module _ (h : Header) (e : headerStage xs ≡ holds h) (t : PagesTest) (q : t ≡ pagesAnswer (pagesStage (view xs) h)) where
+    then-pages : imageAnswer (withHeader h (pagesStage (view xs) h)) ≡ imageAnswer (readImage xs)
+    unfolding readImage afterHeader
+    then-pages = rw e
+
+    pub image-stopped : (t .refusal ≡ 0 → ⊥) → imageAnswer (refuses (t .refusal)) ≡ imageAnswer (readImage xs)
+    unfolding withHeader
+    image-stopped d = sym (ap (λ (s : Stage (List StoredPage)). imageAnswer (withHeader h s)) (pages-refusal (pagesStage (view xs) h) t q d)) ∙ then-pages
+
+    pub image-holds : t .refusal ≡ 0 → record { refusal = 0; header = h; entries = t .entries } ≡ imageAnswer (readImage xs)
+    image-holds z =
+        accepted-image h (pagesStage (view xs) h) t q z (λ r. let k = stage-number (view xs) h 0 r in omega arith) ∙ then-pages
