@@ -1,6 +1,6 @@
 -- The pages of an image one after another, their rows in columns; and what the tests make of them.
 use mathlib.Core.Path.{_≡_, refl, sym, ap, _∙_}
-use mathlib.Core.Bool.{Bool, true, false, not, _&&_}
+use mathlib.Core.Bool.{Bool, true, false, _&&_}
 use mathlib.Core.Option.{Option, none, some, Option·map}
 use mathlib.Core.List.{List, [], _∷_, _++_, map, append-assoc, append-nil}
 use Prim.Native.Nat.{ℕ, zero, suc, _+_, _-_, _*_, _/_, _≤_, _<_}
@@ -20,7 +20,7 @@ use Rattle.rows.proofs.Ands.{and-yes, and-no, and-assoc}
 use Rattle.rows.proofs.Turns.{drop-turn, drop-end}
 use Rattle.rows.proofs.Bare.{columns-bare, rows-tests}
 use Rattle.image.specs.View.{View, view, blockAt, blockCount}
-use Rattle.image.specs.Stages.{Stage, refuses, holds, blockOk, StoredPage, pageOk, addPage, readPages, rowsOfPages, testedPages, pageTest}
+use Rattle.image.specs.Stages.{refuses, holds, blockOk, StoredPage, pageOk, addPage, readPages, rowsOfPages, testedPages, pageTest}
 use Rattle.image.specs.Answers.{goodPage, accepts}
 use Rattle.image.specs.declared.GoodPage.{GoodPage}
 use Rattle.image.specs.declared.GoodPage.the-variants.{Good, Bad}
@@ -72,15 +72,21 @@ unfolding if_then_else_ every
 good-page l room t n u k ts e =
     by (pageOk l k ts && (leb (length ts) room && (all markOk (rowsOf u ts) && true)))
     (λ h.
-      let g : Good u (length ts) ≡ Good t n = rw h at e in
-      let eu : u ≡ t = cc in
-      let en : length ts ≡ n = cc in
-      let a = and-true (pageOk l k ts) _ h in
-      let b = and-true (leb (length ts) room) _ (a .1) in
-      let m = and-true (all markOk (rowsOf u ts)) true (b .1) in
-      record {
-        level = k; tuples = ts; block = rw eu; right = a .0; count = en;
-        room-left = rw (← en) (leb-true (length ts) room (b .0)); marks = rw (← eu) (m .0) })
+    let g : Good u (length ts) ≡ Good t n = rw h at e in
+    let eu : u ≡ t = cc in
+    let en : length ts ≡ n = cc in
+    let a = and-true (pageOk l k ts) _ h in
+    let b = and-true (leb (length ts) room) _ (a .1) in
+    let m = and-true (all markOk (rowsOf u ts)) true (b .1) in
+    record {
+      level = k;
+      tuples = ts;
+      block = rw eu;
+      right = a .0;
+      count = en;
+      room-left = rw (← en) (leb-true (length ts) room (b .0));
+      marks = rw (← eu) (m .0);
+    })
     (λ h. no-good (rw h at e))
 
 pub goods : (l room t n : ℕ) (b : Block) → goodPage l room b ≡ Good t n → Goods l room t n b
@@ -128,11 +134,11 @@ module _ (l room cap next e : ℕ) (done ps : List StoredPage) (full : length (r
         (λ b. mark-wrong cap next (rowsOfPages ps)
         (ap (all markOk) rs ∙ rw (all-append markOk (rowsOfPages done) (rowsOf t ts ++ rowsOfPages qs), all-append markOk (rowsOf t ts) (rowsOfPages qs), b, and-no))))
         (λ a.
-          let m = leb-false (length ts) room a in
-          let n = ap length rs ∙ length-append (rowsOfPages done) (rowsOf t ts ++ rowsOfPages qs) in
-          let o = length-append (rowsOf t ts) (rowsOfPages qs) in
-          let p = length-rows t ts in
-          too-many cap next (rowsOfPages ps) (omega arith))
+        let m = leb-false (length ts) room a in
+        let n = ap length rs ∙ length-append (rowsOfPages done) (rowsOf t ts ++ rowsOfPages qs) in
+        let o = length-append (rowsOf t ts) (rowsOfPages qs) in
+        let p = length-rows t ts in
+        too-many cap next (rowsOfPages ps) (omega arith))
 
   bad-list : (t k : ℕ) (ts : List Tuple) → goodPage l room (page t k ts) ≡ Bad → (o : Option (List StoredPage))
       → Option·map (λ qs. done ++ qs) (addPage l e (page t k ts) o) ≡ some ps → rowsOk cap next (rowsOfPages ps) ≡ false
@@ -142,9 +148,9 @@ module _ (l room cap next e : ℕ) (done ps : List StoredPage) (full : length (r
   bad-list t k ts bad (some qs) q =
       by (pageOk l k ts)
       (λ r.
-        let z : some (done ++ (record { block = e; table = t; tuples = ts } ∷ qs)) ≡ some ps = rw r at q in
-        let y : ps ≡ done ++ (record { block = e; table = t; tuples = ts } ∷ qs) = cc in
-        bad-rows t k ts bad r qs y)
+      let z : some (done ++ (record { block = e; table = t; tuples = ts } ∷ qs)) ≡ some ps = rw r at q in
+      let y : ps ≡ done ++ (record { block = e; table = t; tuples = ts } ∷ qs) = cc in
+      bad-rows t k ts bad r qs y)
       (λ r. never (rw r at q))
 
   -- no list of pages that goes on with it passes
@@ -209,7 +215,7 @@ module _ (v : View) (h : Header) (es : List ℕ) where
           count = len;
           rows = m ∙ rw (a .rows, rs, map-append bare (rowsOfPages (a .done)) (rowsOf t (g .tuples)));
           marks = ap (all markOk) rs ∙ rw (all-append markOk (rowsOfPages (a .done)) (rowsOf t (g .tuples)), a .marks, g .marks);
-          rest = a .rest ∙ ap (Option·map (λ ps. a .done ++ ps)) q ∙ map-twice (a .done) p o
+          rest = a .rest ∙ ap (Option·map (λ ps. a .done ++ ps)) q ∙ map-twice (a .done) p o;
         }
 
     -- all pages are read
@@ -234,8 +240,8 @@ module _ (v : View) (h : Header) (es : List ℕ) where
       let o = readPages v (h .level) (drop (i + 1) es) in
       let f : length (rowsOfPages (a .done)) + (h .capacity - to) ≡ h .capacity = omega (arith, a .count, a .room) in
       refused (λ ps q.
-        bad-page (h .level) (h .capacity - to) (h .capacity) (h .next) e (a .done) ps f (v e) bad o
-        (ap (Option·map (λ qs. a .done ++ qs)) (sym (next i to columns a l)) ∙ sym (a .rest) ∙ q))
+      bad-page (h .level) (h .capacity - to) (h .capacity) (h .next) e (a .done) ps f (v e) bad o
+      (ap (Option·map (λ qs. a .done ++ qs)) (sym (next i to columns a l)) ∙ sym (a .rest) ∙ q))
 
 -- ---- the block that the code holds
 

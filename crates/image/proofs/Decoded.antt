@@ -1,13 +1,13 @@
 -- What a block that was read says of its bytes, and what the tests of a page or a directory make of it.
 use mathlib.Core.Path.{_≡_, refl, sym, ap, subst, _∙_}
 use mathlib.Core.Logic.{⊎-elim}
-use mathlib.Core.Bool.{Bool, true, false, not, _&&_}
-use mathlib.Core.Option.{Option, none, some}
-use mathlib.Core.List.{List, [], _∷_, _++_}
-use Prim.Native.Nat.{ℕ, zero, suc, _+_, _-_, _≤_, _<_}
+use mathlib.Core.Bool.{true, false, not}
+use mathlib.Core.Option.{some}
+use mathlib.Core.List.{List, [], _∷_}
+use Prim.Native.Nat.{ℕ, zero, suc, _+_, _≤_}
 use native.Mathlib.Omega.{arith}
-use lib.ListN.{length, take, drop}
-use lib.Dec.{eqb, ltb, leb}
+use lib.ListN.{length, drop}
+use lib.Dec.{eqb, leb}
 use borrow.Author.Tests.{leb-true, le-leb}
 use types.Run.{OneOf}
 use denote.Enum.Declared.{tagOf}
@@ -20,13 +20,12 @@ use Rattle.blocks.specs.Decode.{kind, spelledBy, readHeader, headerIn, readTupl
 use Rattle.blocks.specs.Answers.{reading}
 use Rattle.blocks.specs.declared.Reading.{Reading}
 use Rattle.blocks.proofs.Reading.{the-type}
-use Rattle.blocks.specs.declared.Reading.the-variants.{IsHeader, IsPage, IsDirectory, Malformed}
+use Rattle.blocks.specs.declared.Reading.the-variants.{IsPage}
 use Rattle.blocks.proofs.ReadTuples.{read-length}
 use Rattle.rows.specs.Rows.{rowsOf, markOk}
 use Rattle.rows.proofs.Ands.{and-assoc}
 use Rattle.image.specs.Stages.{pageOk}
 use Rattle.image.specs.Answers.{goodPage}
-use Rattle.image.specs.declared.GoodPage.{GoodPage}
 use Rattle.image.specs.declared.GoodPage.the-variants.{Good, Bad}
 
 -- where two blocks are of two kinds
@@ -93,9 +92,9 @@ directory-entries xs k es e =
     (λ p. let c : _≡_ {A = ℕ} 0 1 = cc in clash c)
     (λ us q p. let c : _≡_ {A = ℕ} 0 1 = cc in clash c)
     (λ l p.
-      let u : readEntries xs 64 (directoryCount xs) ≡ es = cc in
-      let n : length es ≡ directoryCount xs = ap length (sym u) ∙ length-entries xs 64 (directoryCount xs) in
-      record { most = omega arith; read = rw n u })
+    let u : readEntries xs 64 (directoryCount xs) ≡ es = cc in
+    let n : length es ≡ directoryCount xs = ap length (sym u) ∙ length-entries xs 64 (directoryCount xs) in
+    record { most = omega arith; read = rw n u })
     (λ p. let c : _≡_ {A = ℕ} 0 1 = cc in clash c)
     e
 
@@ -108,6 +107,7 @@ module _ (t n k : ℕ) where
     pub block : b ≡ page t k tuples
     pub count : length tuples ≡ n
     pub read : readTuples n (drop 8 xs) ≡ some tuples
+
   -- a page that was read
   pub is-page : (xs : List ℕ) (b : Block) → decodeBlock xs ≡ b → IsPage t n k ≡ reading b → Passed xs b
   unfolding reading

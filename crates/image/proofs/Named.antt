@@ -1,10 +1,10 @@
 -- The entries of directory blocks, one block after another.
 use mathlib.Core.Path.{_≡_, refl, sym, ap, subst, _∙_}
 use mathlib.Core.Logic.{⊎-elim}
-use mathlib.Core.Bool.{Bool, true, false, not, _&&_}
+use mathlib.Core.Bool.{Bool, true, false, _&&_}
 use mathlib.Core.Option.{Option, none, some, Option·map}
 use mathlib.Core.List.{List, [], _∷_, _++_, append-assoc, append-nil}
-use Prim.Native.Nat.{ℕ, zero, suc, _+_, _-_, _*_, _≤_, _<_, min}
+use Prim.Native.Nat.{ℕ, _+_, _-_, _≤_, _<_, min}
 use native.Mathlib.Omega.{arith}
 use native.Mathlib.Numerals.{add-one}
 use lib.ListN.{length, take, drop, getD, set, length-take, length-append}
@@ -19,14 +19,14 @@ use Rattle.blocks.specs.Block.{Block, malformed, header, page, directory}
 use Rattle.blocks.specs.Decode.{readEntries, decodeBlock}
 use Rattle.blocks.specs.Answers.{reading}
 use Rattle.blocks.specs.declared.Reading.{Reading}
-use Rattle.blocks.specs.declared.Reading.the-variants.{IsHeader, IsPage, IsDirectory, Malformed}
+use Rattle.blocks.specs.declared.Reading.the-variants.{IsDirectory}
 use Rattle.blocks.proofs.Stores.{set-next, over-then}
 use Rattle.rows.proofs.Ands.{and-no}
 use Rattle.rows.proofs.Turns.{drop-turn, drop-end}
 use Rattle.image.specs.View.{View}
 use Rattle.image.specs.Stages.{addEntries, readDirectories}
 use Rattle.image.specs.Answers.{Filled}
-use Rattle.image.proofs.Decoded.{clash, OneOfThese, Entries, directory-entries}
+use Rattle.image.proofs.Decoded.{clash, OneOfThese, directory-entries}
 
 -- one entry more
 pub put-turn : (m s : List ℕ) (at i v : ℕ) → at + i < length m → i < length s → v ≡ getD s i 0
@@ -121,11 +121,11 @@ module _ (l p k : ℕ) (fs : List ℕ) where
   directory-some es e =
       by (eqb k l && eqb (length fs) (min 336 p))
       (λ t.
-        let z : some (fs ++ []) ≡ some es = rw t at e in
-        let y : fs ++ [] ≡ es = cc in
-        let x : es ≡ fs = sym y ∙ append-nil fs in
-        let n = eqb-true (length fs) (min 336 p) (and-true (eqb k l) (eqb (length fs) (min 336 p)) t .1) in
-        (ap length x ∙ n, λ more. rw (t, x)))
+      let z : some (fs ++ []) ≡ some es = rw t at e in
+      let y : fs ++ [] ≡ es = cc in
+      let x : es ≡ fs = sym y ∙ append-nil fs in
+      let n = eqb-true (length fs) (min 336 p) (and-true (eqb k l) (eqb (length fs) (min 336 p)) t .1) in
+      (ap length x ∙ n, λ more. rw (t, x)))
       (λ t. let z : none ≡ some es = rw t at e in never z)
 
 added-none : (l p : ℕ) (b : Block) → addEntries l p b (some []) ≡ none → (more : Option (List ℕ)) → addEntries l p b more ≡ none
@@ -168,7 +168,8 @@ module _ (v : View) (l pages : ℕ) (ds out₀ : List ℕ) where
     count = refl;
     room = omega arith;
     put = sym (over-nil out₀ 0);
-    rest = let z : pages - 0 ≡ pages = omega arith in rw z (map-same (readDirectories v l pages ds)) }
+    rest = let z : pages - 0 ≡ pages = omega arith in rw z (map-same (readDirectories v l pages ds));
+  }
 
   module _ (i at : ℕ) (out : List ℕ) (a : Gathering i at out) where
     next : i < length ds → readDirectories v l (pages - at) (drop i ds) ≡ addEntries l (pages - at) (v (getD ds i 0)) (readDirectories v l (pages - at - 336) (drop (i + 1) ds))
@@ -192,8 +193,8 @@ module _ (v : View) (l pages : ℕ) (ds out₀ : List ℕ) where
           count = length-append (a .done) (p .entries) ∙ omega (arith, a .count);
           room = omega arith;
           put = p .put ∙ ap (λ (o : List ℕ). over o at (p .entries)) (a .put) ∙ ap (λ (k : ℕ). over (over out₀ 0 (a .done)) k (p .entries)) y
-          ∙ over-then out₀ (a .done) (p .entries) 0 at (sym (a .count)) (omega (arith, a .count));
-          rest = a .rest ∙ ap (Option·map (λ es. a .done ++ es)) q ∙ map-twice (a .done) (p .entries) (readDirectories v l (pages - (at + min 336 (pages - at))) (drop (i + 1) ds))
+              ∙ over-then out₀ (a .done) (p .entries) 0 at (sym (a .count)) (omega (arith, a .count));
+          rest = a .rest ∙ ap (Option·map (λ es. a .done ++ es)) q ∙ map-twice (a .done) (p .entries) (readDirectories v l (pages - (at + min 336 (pages - at))) (drop (i + 1) ds));
         }
 
     pub gathering-stop : (out′ out″ : List ℕ) (r : Bool) → i < length ds → r ≡ false

@@ -1,22 +1,21 @@
 -- A block copied out of an image; rows put into columns.
 use mathlib.Core.Path.{_≡_, refl, sym, ap, _∙_}
-use mathlib.Core.Bool.{Bool, true, false}
+use mathlib.Core.Bool.{true, false}
 use mathlib.Core.List.{List, [], _∷_, _++_, append-nil}
 use Prim.Native.Nat.{ℕ, zero, suc, _+_, _-_, _*_, _/_, _%_, _≤_, _<_}
 use native.Mathlib.Omega.{arith}
-use native.Mathlib.Numerals.{add-one}
-use lib.ListN.{length, take, drop, getD, set, length-take, length-drop, drop-of-length-le}
+use lib.ListN.{length, take, drop, set, length-take, length-drop, drop-of-length-le}
 use lib.Seq.{getD-set-same, getD-set-other}
-use lib.Dec.{ltb, leb, eqb}
-use borrow.Author.Tests.{lt-ltb, le-ltb, le-leb, lt-leb, leb-true, leb-false, ltb-true, ltb-false, eq-eqb, ne-eqb}
+use lib.Dec.{leb, eqb}
+use borrow.Author.Tests.{lt-ltb, le-ltb, le-leb, lt-leb, leb-true, leb-false, ne-eqb}
 use Rattle.basics.specs.Basics.{if_then_else_, isEmpty}
 use Rattle.basics.proofs.Facts.{by}
 use Rattle.bits.specs.Bits.{over}
-use Rattle.blocks.specs.Tuple.{Owner, committed, tentative, Tuple, isTentative}
+use Rattle.blocks.specs.Tuple.{isTentative}
 use Rattle.blocks.specs.Decode.{readOwner}
 use Rattle.blocks.specs.Bytes.{tupleOf}
 use Rattle.blocks.specs.declared.Record.{Record}
-use Rattle.rows.specs.Rows.{Row, markOk}
+use Rattle.rows.specs.Rows.{markOk}
 use Rattle.rows.specs.Columns.{codedOwner, coded, rowAt, tab, rowsIn}
 use Rattle.image.specs.View.{blockAt}
 

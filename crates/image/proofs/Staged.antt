@@ -1,32 +1,30 @@
 -- The stages of the tests, put together.
 use mathlib.Core.Path.{_≡_, refl, sym, ap, subst, _∙_}
 use mathlib.Core.Logic.{⊎-elim}
-use mathlib.Core.Bool.{Bool, true, false, not, _&&_}
-use mathlib.Core.Option.{Option, none, some, Option·map}
+use mathlib.Core.Bool.{Bool, true, false, _&&_}
+use mathlib.Core.Option.{Option, none, some}
 use mathlib.Core.List.{List, [], _∷_, _++_, map}
-use Prim.Native.Nat.{ℕ, zero, suc, _+_, _-_, _*_, _/_, _%_, _≤_, _<_, min}
+use Prim.Native.Nat.{ℕ, _+_, _-_, _*_, _/_, _%_, _≤_, _<_, min}
 use native.Mathlib.Omega.{arith}
 use lib.ListN.{length, take, drop, length-take, length-append, length-replicate}
 use lib.Seq.{take-at}
-use lib.Dec.{eqb, leb}
+use lib.Dec.{eqb}
 use borrow.Author.Tests.{eqb-true, eq-eqb, ne-eqb, le-leb, lt-leb}
-use Rattle.basics.specs.Basics.{if_then_else_, all, every, isIn, distinct}
-use Rattle.basics.proofs.Facts.{by, by-option, never, lie, and-true}
+use Rattle.basics.specs.Basics.{if_then_else_, all, every}
+use Rattle.basics.proofs.Facts.{by, never, lie, and-true}
 use Rattle.bits.specs.Bits.{over}
-use Rattle.blocks.specs.Spell.{zeros}
 use Rattle.blocks.specs.Block.{Block, malformed, header, page, directory}
 use Rattle.blocks.specs.Decode.{decodeBlock}
 use Rattle.blocks.specs.Answers.{reading}
 use Rattle.blocks.specs.declared.Header.{Header}
 use Rattle.blocks.specs.declared.Reading.{Reading}
-use Rattle.blocks.specs.declared.Reading.the-variants.{IsHeader, IsPage, IsDirectory, Malformed}
+use Rattle.blocks.specs.declared.Reading.the-variants.{IsHeader}
 use Rattle.rows.specs.Rows.{rowsOk}
 use Rattle.rows.proofs.Ands.{and-no}
 use Rattle.image.specs.View.{View, view, blockAt, blockCount}
 use Rattle.image.specs.Stages.{Stage, refuses, holds, wholeBlocks, blockOk, numbersOf, directoryBlocks, headerOk, headerTest, addEntries, readDirectories, entriesOk, testedEntries, directoryTest, StoredPage, addPage, pageOk, readPages, rowsOfPages, testedPages, pageTest}
-use Rattle.image.specs.Whole.{Contents, headerStage, pagesBelow, pagesStage, withHeader, afterHeader, readImage}
+use Rattle.image.specs.Whole.{headerStage, pagesBelow, pagesStage, withHeader, afterHeader, readImage}
 use Rattle.image.specs.Answers.{Filled, accepts, headerAnswer, noEntries, entriesIn, pagesAnswer, imageAnswer}
-use Rattle.image.specs.declared.HeaderTest.{HeaderTest}
 use Rattle.image.specs.declared.HeaderTest.the-variants.{Passed, Refused}
 use Rattle.image.specs.declared.PagesTest.{PagesTest}
 use Rattle.image.proofs.Heads.{Counts, counts-are, header-tests}
@@ -103,12 +101,12 @@ unfolding headerStage if_then_else_
 passing xs h e =
     by (wholeBlocks (length xs))
     (λ w.
-      let t = tested-ok (blockCount xs) (view xs 0) h (rw w at e) in
-      let n = blockCount xs in
-      let p = sym (header-tests (blockCount xs) h) ∙ t in
-      let a = and-true _ _ p in
-      let b = and-true (all (blockOk (blockCount xs)) (directoryBlocks h)) _ (a .1) in
-      record { counts = counts-are (blockCount xs) h (a .0); directories = b .0 })
+    let t = tested-ok (blockCount xs) (view xs 0) h (rw w at e) in
+    let n = blockCount xs in
+    let p = sym (header-tests (blockCount xs) h) ∙ t in
+    let a = and-true _ _ p in
+    let b = and-true (all (blockOk (blockCount xs)) (directoryBlocks h)) _ (a .1) in
+    record { counts = counts-are (blockCount xs) h (a .0); directories = b .0 })
     (λ w. let k : refuses 1 ≡ holds h = rw w at e in let c : _≡_ {A = ℕ} 0 1 = cc in clash c)
 
 -- ---- 23: as many entries as pages
@@ -127,9 +125,9 @@ joined-directory l p k fs none es e =
 joined-directory l p k fs (some gs) es e =
     by (eqb k l && eqb (length fs) (min 336 p))
     (λ t.
-      let z : some (fs ++ gs) ≡ some es = rw t at e in
-      let y : es ≡ fs ++ gs = cc in
-      record { first = fs; others = gs; more-are = refl; are = y; due = eqb-true (length fs) (min 336 p) (and-true (eqb k l) _ t .1) })
+    let z : some (fs ++ gs) ≡ some es = rw t at e in
+    let y : es ≡ fs ++ gs = cc in
+    record { first = fs; others = gs; more-are = refl; are = y; due = eqb-true (length fs) (min 336 p) (and-true (eqb k l) _ t .1) })
     (λ t. never (rw t at e))
 
 joined : (l p : ℕ) (b : Block) (more : Option (List ℕ)) (es : List ℕ) → addEntries l p b more ≡ some es → Joined l p more es
@@ -158,9 +156,9 @@ blocks-page l e (page t k ts) es none ps f q = by (pageOk l k ts) (λ r. never (
 blocks-page l e (page t k ts) es (some qs) ps f q =
     by (pageOk l k ts)
     (λ r.
-      let z : some (record { block = e; table = t; tuples = ts } ∷ qs) ≡ some ps = rw r at q in
-      let y : ps ≡ record { block = e; table = t; tuples = ts } ∷ qs = cc in
-      ap (map (λ p. p .block)) y ∙ ap (λ (m : List ℕ). e ∷ m) (f qs refl))
+    let z : some (record { block = e; table = t; tuples = ts } ∷ qs) ≡ some ps = rw r at q in
+    let y : ps ≡ record { block = e; table = t; tuples = ts } ∷ qs = cc in
+    ap (map (λ p. p .block)) y ∙ ap (λ (m : List ℕ). e ∷ m) (f qs refl))
     (λ r. never (rw r at q))
 blocks-page l e (directory k fs) es o ps f q = never q
 
@@ -270,7 +268,7 @@ module _ (xs : List ℕ) (h : Header) (pages used : ℕ) where
             entries = q .entries;
             read = sym read-are ∙ q .some-are;
             out-are = o;
-            front = ap (take pages) o ∙ take-at (q .entries) (drop (0 + length (q .entries)) noEntries) pages n
+            front = ap (take pages) o ∙ take-at (q .entries) (drop (0 + length (q .entries)) noEntries) pages n;
           }
 
       module _ (g : Got) (k : Bool) (ok : k ≡ entriesOk (h .blocks) (take used (numbersOf h)) (take pages out)) where

@@ -1,11 +1,10 @@
 -- A walk of the cursor over a page's tuples: at each place the tuples that are left are still to be read.
 use mathlib.Core.Path.{_≡_, refl, sym, ap, _∙_}
 use mathlib.Core.Bool.{Bool, true, false}
-use mathlib.Core.Option.{Option, none, some, Option·map}
+use mathlib.Core.Option.{none, some}
 use mathlib.Core.List.{List, [], _∷_, _++_, map, append-assoc, append-nil}
-use Prim.Native.Nat.{ℕ, zero, suc, _+_, _-_, _≤_, _<_}
+use Prim.Native.Nat.{ℕ, suc, _+_, _-_, _≤_, _<_}
 use native.Mathlib.Omega.{arith}
-use native.Mathlib.Numerals.{add-one}
 use lib.ListN.{length, take, drop, take-append-drop}
 use lib.Seq.{drop-drop, take-add}
 use Rattle.basics.specs.Basics.{if_then_else_, all}
@@ -55,7 +54,7 @@ module _ (xs : List ℕ) (n at i : ℕ) (ts : List Tuple) (h : i < n) (e : Left 
       let d = drop-next i ts (readTuple (drop at xs)) (s .others) (s .is) in
       record {
         first = rw (d, f .tuple) (s .is);
-        left = rw (d, f .next, ← drop-drop (taken (drop at xs)) at xs) (s .read)
+        left = rw (d, f .next, ← drop-drop (taken (drop at xs)) at xs) (s .read);
       }
 
   rows-first : (t : ℕ) → rowsOf t (drop i ts) ≡ (t, tupleOf r (payloadIn xs r)) ∷ rowsOf t (drop (i + 1) ts)

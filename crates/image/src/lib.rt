@@ -221,7 +221,15 @@ fn owner_code(flags: u8, owner: u32) -> u64
 }
 
 // A record's row goes into place k of the columns.
-fn put_row(places: &mut [u64], numbers: &mut [u32], owners: &mut [u64], marks: &mut [u8], k: usize, table: u32, r: blocks::Record)
+fn put_row(
+    places: &mut [u64],
+    numbers: &mut [u32],
+    owners: &mut [u64],
+    marks: &mut [u8],
+    k: usize,
+    table: u32,
+    r: blocks::Record,
+)
     requires { ⌜ (k < length (now places)) × ((k < length (now numbers)) × ((k < length (now owners)) × (k < length (now marks)))) ⌝ }
     ensures { λ _. ⌜ rowsIn (now (places .exit)) (now (numbers .exit)) (now (owners .exit)) (now (marks .exit)) (k + 1)
         ≡ rowsIn (now (places .entry)) (now (numbers .entry)) (now (owners .entry)) (now (marks .entry)) k ++ ((table, tupleOf r []) ∷ []) ⌝ }
@@ -345,7 +353,15 @@ fn pages_ok(image: &[u8], entries: &[u32], h: blocks::Header) -> bool
     let mut numbers = [0u32; 1024];
     let mut owners = [0u64; 1024];
     let mut marks = [0u8; 1024];
-    test_rows(image, entries, h, &mut places, &mut numbers, &mut owners, &mut marks)
+    test_rows(
+        image,
+        entries,
+        h,
+        &mut places,
+        &mut numbers,
+        &mut owners,
+        &mut marks,
+    )
 }
 
 // How many entries the next directory block has, where so many pages are still to be named.

@@ -1,22 +1,13 @@
+use lib.ListN.{length-set, length, take, set}
+use Prim.Native.Nat.{ℕ, _+_, _-_, _≤_}
+use mathlib.Core.List.{List}
+use mathlib.Core.Path.{_≡_, refl, sym, ap, _∙_}
+use native.Mathlib.Omega.{arith}
 use Rattle.image.proofs.Named.{put-turn}
 use Rattle.bits.proofs.Lists.{over-nil}
 use Rattle.bits.specs.Bits.{over}
-use lib.ListN.{length-set}
-use lib.Dec.{eqb, ltb, leb}
-use lib.ListN.{length, take, drop, getD, set}
-use Prim.Native.Nat.{ℕ, suc, _+_, _-_, _*_, _/_, _%_, _≤_, _<_}
-use mathlib.Core.Logic.{⊎-elim}
-use mathlib.Core.List.{List, [], _∷_, map}
-use mathlib.Core.Bool.{Bool, true, false, not, _&&_}
-use mathlib.Core.Path.{_≡_, refl, sym, ap, _∙_}
-use borrow.Author.Tests.{not-true, not-false, lt-ltb, le-ltb, le-leb, lt-leb, eq-eqb, ne-eqb}
-use borrow.Author.Needs.{needs}
-use native.Mathlib.Omega.{arith}
 use Rattle.image.proofs.put_entries.Statement.{statement}
 use Rattle.image.proofs.put_entries.Tie as tie
-use Rattle.image.proofs.put_entries.Reads as reads
-use Rattle.image.proofs.put_entries.Lts as lts
-use Rattle.image.proofs.number.Reads as number-reads
 
 abbrev Inv-loop : tie.InvT-loop
 Inv-loop out₀ at entries count i₀ out i = (i ≤ count) × ((length out ≡ length out₀) × (out ≡ over out₀ at (take i entries)))
@@ -24,53 +15,45 @@ Inv-loop out₀ at entries count i₀ out i = (i ≤ count) × ((length out ≡ 
 abbrev μ-loop : tie.MeasureT-loop
 μ-loop out₀ at entries count i₀ out i = count - i
 
--- src/lib.rt:367:5
 loop-holds : tie.Need-loop-holds Inv-loop μ-loop
 loop-holds c = let a = c .before .before .args in (omega arith, (refl, sym (over-nil (a .out .now) (a .at))))
 
--- src/lib.rt:368:30
 mul-number : tie.Need-mul-number Inv-loop μ-loop
 mul-number c = omega arith
 
--- src/lib.rt:368:30
 shared-slice-read-number : tie.Need-shared-slice-read-number Inv-loop μ-loop
 shared-slice-read-number c = omega arith
 
--- src/lib.rt:368:23
 number-requires : tie.Need-number-requires Inv-loop μ-loop
 number-requires c κs = omega arith
 
--- src/lib.rt:368:13
 add-out : tie.Need-add-out Inv-loop μ-loop
 add-out c = omega arith
 
--- src/lib.rt:368:9
 mul-out : tie.Need-mul-out Inv-loop μ-loop
 mul-out c = omega arith
 
--- src/lib.rt:368:9
 slice-write-out : tie.Need-slice-write-out Inv-loop μ-loop
 slice-write-out c = omega arith
 
--- src/lib.rt:369:13
 add-i : tie.Need-add-i Inv-loop μ-loop
 add-i c = omega arith
 
--- src/lib.rt:367:5
 loop-less : tie.Need-loop-less Inv-loop μ-loop
 loop-less c = omega arith
 
--- src/lib.rt:367:5
 loop-again : tie.Need-loop-again Inv-loop μ-loop
-loop-again c = let a = c .before .before .before .before .before .before .args in let p = c .before .before .before .loop in
-    (omega arith, (length-set (p .out) (a .at + p .i) (c .number .result) ∙ p .inv .1 .0,
-    ap (λ (o : List ℕ). set o (a .at + p .i) (c .number .result)) (p .inv .1 .1) ∙ put-turn (a .out .now) (a .entries .now) (a .at) (p .i) (c .number .result) (omega arith) (omega arith) (c .number .ensures)))
+loop-again c = let a = c .before .before .before .before .before .before .args in let p = c .before .before .before .loop in (
+  omega arith,
+  (
+    length-set (p .out) (a .at + p .i) (c .number .result) ∙ p .inv .1 .0,
+    ap (λ (o : List ℕ). set o (a .at + p .i) (c .number .result)) (p .inv .1 .1) ∙ put-turn (a .out .now) (a .entries .now) (a .at) (p .i) (c .number .result) (omega arith) (omega arith) (c .number .ensures),
+  ),
+)
 
--- src/lib.rt:362:1
 same-length : tie.Need-same-length Inv-loop μ-loop
 same-length c = omega arith
 
--- src/lib.rt:362:1
 returns : tie.Need-returns Inv-loop μ-loop
 returns c = let a = c .before .before .before .before .args in let p = c .before .loop in let e : p .i ≡ a .count = omega arith in p .inv .1 .1 ∙ ap (λ (k : ℕ). over (a .out .now) (a .at) (take k (a .entries .now))) e
 

@@ -1,31 +1,13 @@
-use Rattle.image.proofs.Staged.{Begun, passing, four, fits, within-none, named, not-read, got, not-ok, in-image, wrong-pages, right-pages}
-use Rattle.image.specs.Answers.{pagesAnswer}
-use Rattle.image.specs.Whole.{pagesStage}
-use Rattle.image.specs.Stages.{numbersOf}
-use Rattle.image.specs.View.{view}
 use lib.ListN.{length-take}
-use lib.Dec.{eqb, ltb, leb}
-use lib.ListN.{length, take, drop, getD}
-use Prim.Native.Nat.{ℕ, suc, _+_, _-_, _*_, _/_, _%_, _≤_, _<_}
-use mathlib.Core.Logic.{⊎-elim}
-use mathlib.Core.List.{List, [], _∷_, map}
-use mathlib.Core.Bool.{Bool, true, false, not, _&&_}
-use mathlib.Core.Path.{_≡_, refl, sym, ap, _∙_}
-use borrow.Author.Tests.{not-true, not-false, lt-ltb, le-ltb, le-leb, lt-leb, eq-eqb, ne-eqb}
+use mathlib.Core.Path.{sym, ap, _∙_}
+use borrow.Author.Tests.{not-true, not-false}
 use native.Mathlib.Omega.{arith}
 use borrow.Author.Needs.{needs}
+use Rattle.image.proofs.Staged.{Begun, passing, four, within-none, named, not-read, got, not-ok, in-image, wrong-pages, right-pages}
+use Rattle.image.specs.Answers.{pagesAnswer}
 use Rattle.image.proofs.test_pages.Statement.{statement}
 use Rattle.image.proofs.test_pages.Tie as tie
-use Rattle.image.proofs.test_pages.Reads as reads
-use Rattle.image.proofs.test_pages.Lts as lts
-use Rattle.image.proofs.entries_ok.Reads as entries-ok-reads
-use Rattle.image.proofs.gather.Reads as gather-reads
-use Rattle.image.proofs.no_entries.Reads as no-entries-reads
-use Rattle.image.proofs.pages_ok.Reads as pages-ok-reads
-use Rattle.image.proofs.refused_pages.Reads as refused-pages-reads
-use Rattle.image.proofs.wide.Reads as wide-reads
 
--- src/lib.rt:463:9
 -- the counts that the tests work with
 begun : (c : tie.After-wide2) → Begun (c .before .before .before .args .image .now) (c .before .before .before .args .h) (c .before .wide .result) (c .wide2 .result)
 begun c = record { passed = passing (c .before .before .before .args .image .now) (c .before .before .before .args .h) (c .before .before .before .pre); pages-are = c .before .wide .ensures; used-are = c .wide2 .ensures }
@@ -33,94 +15,73 @@ begun c = record { passed = passing (c .before .before .before .args .image .now
 wide-requires : tie.Need-wide-requires
 wide-requires c κs = search needs
 
--- src/lib.rt:464:9
 wide-requires-2 : tie.Need-wide-requires-2
 wide-requires-2 c κs = search needs
 
--- src/lib.rt:466:23
 no-entries-requires : tie.Need-no-entries-requires
 no-entries-requires c κs = search needs
 
--- src/lib.rt:467:39
 array-share-prefix-directories : tie.Need-array-share-prefix-directories
 array-share-prefix-directories c = four _ _ _ _ (begun (c .before))
 
--- src/lib.rt:467:39
 slice-aggregate-gather : tie.Need-slice-aggregate-gather
 slice-aggregate-gather c = let k = four _ _ _ _ (begun (c .before .before)) in simp length-take (omega arith)
 
--- src/lib.rt:467:61
 slice-aggregate-gather-2 : tie.Need-slice-aggregate-gather-2
 slice-aggregate-gather-2 c = search needs
 
--- src/lib.rt:467:9
 gather-requires : tie.Need-gather-requires
 gather-requires c κs = let b = begun (c .before .before .before) in (named _ _ _ _ b, within-none _ _ _ _ b _ (c .before .before .no-entries .ensures))
 
--- src/lib.rt:468:9
 refused-pages-requires : tie.Need-refused-pages-requires
 refused-pages-requires c κs = search needs
 
--- src/lib.rt:468:9
 returns : tie.Need-returns
 returns c = let b = begun (c .before .before .before .before .before .before .before) in let g = c .before .before .before .gather in
     c .refused-pages .ensures ∙ ap pagesAnswer (sym (not-read _ _ _ _ b _ (g .last .1 .1 .1 .1 .0) (c .before .before .before .before .before .before .no-entries .ensures) (g .result) (g .ensures) (not-true _ (c .before .if1 .taken))))
 
--- src/lib.rt:470:20
 array-share-prefix-entries : tie.Need-array-share-prefix-entries
 array-share-prefix-entries c = let b = begun (c .before .before .before .before .before .before) in omega (arith, within-none _ _ _ _ b _ (c .before .before .before .before .before .no-entries .ensures), c .before .before .gather .kept .1 .1 .1 .1 .0)
 
--- src/lib.rt:470:20
 slice-aggregate-entries-ok : tie.Need-slice-aggregate-entries-ok
 slice-aggregate-entries-ok c = let b = begun (c .before .before .before .before .before .before .before) in simp length-take (omega (arith, within-none _ _ _ _ b _ (c .before .before .before .before .before .before .no-entries .ensures), c .before .before .before .gather .kept .1 .1 .1 .1 .0))
 
--- src/lib.rt:470:39
 array-share-prefix-directories-2 : tie.Need-array-share-prefix-directories-2
 array-share-prefix-directories-2 c = four _ _ _ _ (begun (c .before .before .before .before .before .before .before))
 
--- src/lib.rt:470:39
 slice-aggregate-entries-ok-2 : tie.Need-slice-aggregate-entries-ok-2
 slice-aggregate-entries-ok-2 c = let k = four _ _ _ _ (begun (c .before .before .before .before .before .before .before .before)) in simp length-take (omega arith)
 
--- src/lib.rt:470:9
 entries-ok-requires : tie.Need-entries-ok-requires
 entries-ok-requires c κs = search needs
 
--- src/lib.rt:471:9
 refused-pages-requires-2 : tie.Need-refused-pages-requires-2
 refused-pages-requires-2 c κs = search needs
 
--- src/lib.rt:471:9
 returns-2 : tie.Need-returns-2
 returns-2 c = let b = begun (c .before .before .before .before .before .before .before .before .before .before .before) in let g = c .before .before .before .before .before .before .before .gather in let o = g .last .1 .1 .1 .1 .0 in let e = c .before .before .before .before .before .before .before .before .before .before .no-entries .ensures in
     let r = got _ _ _ _ b _ o e (g .result) (g .ensures) (not-false _ (c .before .before .before .before .before .if1 .left)) in
     c .refused-pages2 .ensures ∙ ap pagesAnswer (sym (not-ok _ _ _ _ b _ o e (g .result) (g .ensures) r _ (c .before .before .entries-ok .ensures) (not-true _ (c .before .if2 .taken))))
 
--- src/lib.rt:473:25
 array-share-prefix-entries-2 : tie.Need-array-share-prefix-entries-2
 array-share-prefix-entries-2 c = let b = begun (c .before .before .before .before .before .before .before .before .before .before) in omega (arith, within-none _ _ _ _ b _ (c .before .before .before .before .before .before .before .before .before .no-entries .ensures), c .before .before .before .before .before .before .gather .kept .1 .1 .1 .1 .0)
 
--- src/lib.rt:473:25
 slice-aggregate-pages-ok : tie.Need-slice-aggregate-pages-ok
 slice-aggregate-pages-ok c = let b = begun (c .before .before .before .before .before .before .before .before .before .before .before) in simp length-take (omega (arith, within-none _ _ _ _ b _ (c .before .before .before .before .before .before .before .before .before .before .no-entries .ensures), c .before .before .before .before .before .before .before .gather .kept .1 .1 .1 .1 .0))
 
--- src/lib.rt:473:9
 pages-ok-requires : tie.Need-pages-ok-requires
 pages-ok-requires c κs = let b = begun (c .before .before .before .before .before .before .before .before .before .before .before) in let g = c .before .before .before .before .before .before .before .gather in let o = g .last .1 .1 .1 .1 .0 in let e = c .before .before .before .before .before .before .before .before .before .before .no-entries .ensures in
     let r = got _ _ _ _ b _ o e (g .result) (g .ensures) (not-false _ (c .before .before .before .before .before .if1 .left)) in
     (in-image _ _ _ _ b _ o e (g .result) (g .ensures) r _ (c .before .before .entries-ok .ensures) (not-false _ (c .before .if2 .left)), b .passed .counts .high)
 
--- src/lib.rt:474:9
 refused-pages-requires-3 : tie.Need-refused-pages-requires-3
 refused-pages-requires-3 c κs = search needs
 
--- src/lib.rt:474:9
 returns-3 : tie.Need-returns-3
 returns-3 c = let b = begun (c .before .before .before .before .before .before .before .before .before .before .before .before .before .before) in let g = c .before .before .before .before .before .before .before .before .before .before .gather in let o = g .last .1 .1 .1 .1 .0 in let e = c .before .before .before .before .before .before .before .before .before .before .before .before .before .no-entries .ensures in
     let r = got _ _ _ _ b _ o e (g .result) (g .ensures) (not-false _ (c .before .before .before .before .before .before .before .before .if1 .left)) in
     c .refused-pages3 .ensures ∙ ap pagesAnswer (sym (wrong-pages _ _ _ _ b _ o e (g .result) (g .ensures) r _ (c .before .before .before .before .before .entries-ok .ensures) (not-false _ (c .before .before .before .before .if2 .left)) _ (c .before .before .pages-ok .ensures) (not-true _ (c .before .if3 .taken))))
 
--- src/lib.rt:459:1
 returns-4 : tie.Need-returns-4
 returns-4 c = let b = begun (c .before .before .before .before .before .before .before .before .before .before .before .before .before) in let g = c .before .before .before .before .before .before .before .before .before .gather in let o = g .last .1 .1 .1 .1 .0 in let e = c .before .before .before .before .before .before .before .before .before .before .before .before .no-entries .ensures in
     let r = got _ _ _ _ b _ o e (g .result) (g .ensures) (not-false _ (c .before .before .before .before .before .before .before .if1 .left)) in
