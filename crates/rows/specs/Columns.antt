@@ -43,6 +43,10 @@ module _ {A : Type 0} where
 unfoldable pub rowsIn : List ℕ → List ℕ → List ℕ → List ℕ → ℕ → List Row
 rowsIn ps ns os ms n = tab (rowAt ps ns os ms) 0 n
 
+-- a row without its payload
+abbrev pub bare : Row → Row
+bare r = (r .0, record { key = r .1 .key; number = r .1 .number; owner = r .1 .owner; mark = r .1 .mark; payload = [] })
+
 -- r is tentative, and no row after it is its transaction's
 unfoldable pub isLastBy : Owner → List Row → Bool
 isLastBy committed rs = false

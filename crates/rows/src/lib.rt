@@ -111,11 +111,11 @@ fn follows(p: u64, n: u32, o: u64, p2: u64, n2: u32, o2: u64, m2: u8) -> bool
     if n2 <= n {
         return false;
     }
+    if o == 0 {
+        return 0 < o2;
+    }
     if o2 == 0 {
         return false;
-    }
-    if o == 0 {
-        return true;
     }
     (o - 1) / 1048576 == (o2 - 1) / 1048576
 }
@@ -135,7 +135,15 @@ pub fn rising(places: &[u64], numbers: &[u32], owners: &[u64], marks: &[u8], cou
     let mut i: usize = 1;
     while i < count {
         let j = i - 1;
-        if !follows(places[j], numbers[j], owners[j], places[i], numbers[i], owners[i], marks[i]) {
+        if !follows(
+            places[j],
+            numbers[j],
+            owners[j],
+            places[i],
+            numbers[i],
+            owners[i],
+            marks[i],
+        ) {
             return false;
         }
         i = i + 1;
@@ -202,7 +210,14 @@ pub fn transactions(owners: &[u64], count: usize) -> usize
 }
 
 // The rows in the columns are right together.
-pub fn columns_ok(places: &[u64], numbers: &[u32], owners: &[u64], marks: &[u8], count: usize, next: u32) -> bool
+pub fn columns_ok(
+    places: &[u64],
+    numbers: &[u32],
+    owners: &[u64],
+    marks: &[u8],
+    count: usize,
+    next: u32,
+) -> bool
     requires { ⌜ (count ≤ length (now places)) × ((count ≤ length (now numbers)) × ((count ≤ length (now owners)) × (count ≤ length (now marks)))) ⌝ }
     ensures { λ r. ⌜ r ≡ columnsOk next (rowsIn (now (places .entry)) (now (numbers .entry)) (now (owners .entry)) (now (marks .entry)) count) ⌝ }
 {

@@ -1,0 +1,257 @@
+-- The pages of an image one after another, their rows in columns; and what the tests make of them.
+use mathlib.Core.Path.{_≡_, refl, sym, ap, _∙_}
+use mathlib.Core.Bool.{Bool, true, false, _&&_}
+use mathlib.Core.Option.{Option, none, some, Option·map}
+use mathlib.Core.List.{List, [], _∷_, _++_, map, append-assoc, append-nil}
+use Prim.Native.Nat.{ℕ, zero, suc, _+_, _-_, _*_, _/_, _≤_, _<_}
+use native.Mathlib.Omega.{arith}
+use lib.ListN.{length, drop, getD, length-append}
+use lib.Dec.{ltb, leb}
+use borrow.Author.Tests.{le-leb, lt-leb, leb-true, leb-false, ltb-true}
+use Rattle.basics.specs.Basics.{if_then_else_, all, every}
+use Rattle.basics.proofs.Facts.{by, by-option, never, and-true}
+use Rattle.blocks.specs.Tuple.{Tuple}
+use Rattle.blocks.specs.Block.{Block, malformed, header, page, directory}
+use Rattle.blocks.specs.Decode.{readTuples, decodeBlock}
+use Rattle.blocks.specs.declared.Header.{Header}
+use Rattle.rows.specs.Rows.{Row, rowsOf, markOk, rowsOk}
+use Rattle.rows.specs.Columns.{bare, tab, rowsIn, columnsOk}
+use Rattle.rows.proofs.Ands.{and-yes, and-no, and-assoc}
+use Rattle.rows.proofs.Turns.{drop-turn, drop-end}
+use Rattle.rows.proofs.Bare.{columns-bare, rows-tests}
+use Rattle.image.specs.View.{View, view, blockAt, blockCount}
+use Rattle.image.specs.Stages.{refuses, holds, blockOk, StoredPage, pageOk, addPage, readPages, rowsOfPages, testedPages, pageTest}
+use Rattle.image.specs.Answers.{goodPage, accepts}
+use Rattle.image.specs.declared.GoodPage.{GoodPage}
+use Rattle.image.specs.declared.GoodPage.the-variants.{Good, Bad}
+use Rattle.image.proofs.Walk.{map-append}
+use Rattle.image.proofs.Decoded.{page-tuples}
+
+-- ---- lists
+
+all-append : {A : Type 0} (f : A → Bool) (xs ys : List A) → all f (xs ++ ys) ≡ (all f xs && all f ys)
+unfolding all
+all-append f [] ys = refl
+all-append f (x ∷ xs) ys = rw (all-append f xs ys, and-assoc)
+
+all-at : (f : ℕ → Bool) (s : List ℕ) (i : ℕ) → all f s ≡ true → i < length s → f (getD s i 0) ≡ true
+unfolding all
+all-at f [] i e h = absurd (omega arith)
+all-at f (x ∷ s) zero e h = and-true (f x) (all f s) e .0
+all-at f (x ∷ s) (suc i) e h = all-at f s i (and-true (f x) (all f s) e .1) (omega arith)
+
+rows-pages : (ps qs : List StoredPage) → rowsOfPages (ps ++ qs) ≡ rowsOfPages ps ++ rowsOfPages qs
+unfolding rowsOfPages
+rows-pages [] qs = refl
+rows-pages (p ∷ ps) qs = rw (rows-pages ps qs) (sym (append-assoc (rowsOf (p .table) (p .tuples)) (rowsOfPages ps) (rowsOfPages qs)))
+
+-- a block that may be named is in the image
+pub within : (xs es : List ℕ) (i : ℕ) → all (blockOk (blockCount xs)) es ≡ true → i < length es → 512 * getD es i 0 + 512 ≤ length xs
+unfolding blockOk blockCount
+within xs es i e h =
+    let b = and-true (ltb 0 (getD es i 0)) (ltb (getD es i 0) (length xs / 512)) (all-at (blockOk (blockCount xs)) es i e h) in
+    let l = ltb-true (getD es i 0) (length xs / 512) (b .1) in omega arith
+
+-- ---- a good page
+
+pub record Goods (l room t n : ℕ) (b : Block) : Type 0 where
+  pub level : ℕ
+  pub tuples : List Tuple
+  pub block : b ≡ page t level tuples
+  pub right : pageOk l level tuples ≡ true
+  pub count : length tuples ≡ n
+  pub room-left : n ≤ room
+  pub marks : all markOk (rowsOf t tuples) ≡ true
+
+no-good {ℓ} : {X : Type ℓ} {t n : ℕ} → Bad ≡ Good t n → X
+no-good e = let z : _≡_ {A = ℕ} 0 1 = cc in absurd (omega arith)
+
+good-page : (l room t n u k : ℕ) (ts : List Tuple)
+    → (if every (pageOk l k ts ∷ leb (length ts) room ∷ all markOk (rowsOf u ts) ∷ []) then Good u (length ts) else Bad) ≡ Good t n → Goods l room t n (page u k ts)
+unfolding if_then_else_ every
+good-page l room t n u k ts e =
+    by (pageOk l k ts && (leb (length ts) room && (all markOk (rowsOf u ts) && true)))
+    (λ h.
+    let g : Good u (length ts) ≡ Good t n = rw h at e in
+    let eu : u ≡ t = cc in
+    let en : length ts ≡ n = cc in
+    let a = and-true (pageOk l k ts) _ h in
+    let b = and-true (leb (length ts) room) _ (a .1) in
+    let m = and-true (all markOk (rowsOf u ts)) true (b .1) in
+    record {
+      level = k;
+      tuples = ts;
+      block = rw eu;
+      right = a .0;
+      count = en;
+      room-left = rw (← en) (leb-true (length ts) room (b .0));
+      marks = rw (← eu) (m .0);
+    })
+    (λ h. no-good (rw h at e))
+
+pub goods : (l room t n : ℕ) (b : Block) → goodPage l room b ≡ Good t n → Goods l room t n b
+unfolding goodPage
+goods l room t n malformed e = no-good e
+goods l room t n (header h) e = no-good e
+goods l room t n (page u k ts) e = good-page l room t n u k ts e
+goods l room t n (directory k es) e = no-good e
+
+-- a good page is one more
+page-added : (l room t n e : ℕ) (b : Block) (g : Goods l room t n b) (o : Option (List StoredPage))
+    → addPage l e b o ≡ Option·map (λ ps. record { block = e; table = t; tuples = g .tuples } ∷ ps) o
+unfolding addPage if_then_else_
+page-added l room t n e b g o = rw (g .block, g .right)
+
+length-rows : (t : ℕ) (ts : List Tuple) → length (rowsOf t ts) ≡ length ts
+unfolding rowsOf
+length-rows t [] = refl
+length-rows t (x ∷ ts) = ap suc (length-rows t ts)
+
+-- a page at the end
+one-more : (ps : List StoredPage) (p : StoredPage) → rowsOfPages (ps ++ (p ∷ [])) ≡ rowsOfPages ps ++ rowsOf (p .table) (p .tuples)
+unfolding rowsOfPages
+one-more ps p = rows-pages ps (p ∷ []) ∙ ap (λ (x : List Row). rowsOfPages ps ++ x) (append-nil (rowsOf (p .table) (p .tuples)))
+
+-- ---- a page that is not good
+
+too-many : (cap next : ℕ) (rs : List Row) → cap < length rs → rowsOk cap next rs ≡ false
+too-many cap next rs h = rows-tests cap next rs ∙ rw (lt-leb (length rs) cap h, and-no)
+
+mark-wrong : (cap next : ℕ) (rs : List Row) → all markOk rs ≡ false → rowsOk cap next rs ≡ false
+mark-wrong cap next rs e = rows-tests cap next rs ∙ rw (e, and-no, and-no)
+
+module _ (l room cap next e : ℕ) (done ps : List StoredPage) (full : length (rowsOfPages done) + room ≡ cap) where
+  module _ (t k : ℕ) (ts : List Tuple) (bad : goodPage l room (page t k ts) ≡ Bad) (right : pageOk l k ts ≡ true) where
+    -- too many tuples, or a wrong delete mark
+    bad-rows : (qs : List StoredPage) → ps ≡ done ++ (record { block = e; table = t; tuples = ts } ∷ qs) → rowsOk cap next (rowsOfPages ps) ≡ false
+    unfolding rowsOfPages goodPage if_then_else_ every
+    bad-rows qs q =
+        let rs : rowsOfPages ps ≡ rowsOfPages done ++ (rowsOf t ts ++ rowsOfPages qs) =
+        ap rowsOfPages q ∙ rows-pages done (record { block = e; table = t; tuples = ts } ∷ qs) in
+        by (leb (length ts) room)
+        (λ a. by (all markOk (rowsOf t ts))
+        (λ b. let z : Good t (length ts) ≡ Bad = rw (right, a, b) at bad in no-good (sym z))
+        (λ b. mark-wrong cap next (rowsOfPages ps)
+        (ap (all markOk) rs ∙ rw (all-append markOk (rowsOfPages done) (rowsOf t ts ++ rowsOfPages qs), all-append markOk (rowsOf t ts) (rowsOfPages qs), b, and-no))))
+        (λ a.
+        let m = leb-false (length ts) room a in
+        let n = ap length rs ∙ length-append (rowsOfPages done) (rowsOf t ts ++ rowsOfPages qs) in
+        let o = length-append (rowsOf t ts) (rowsOfPages qs) in
+        let p = length-rows t ts in
+        too-many cap next (rowsOfPages ps) (omega arith))
+
+  bad-list : (t k : ℕ) (ts : List Tuple) → goodPage l room (page t k ts) ≡ Bad → (o : Option (List StoredPage))
+      → Option·map (λ qs. done ++ qs) (addPage l e (page t k ts) o) ≡ some ps → rowsOk cap next (rowsOfPages ps) ≡ false
+  unfolding addPage if_then_else_
+  bad-list t k ts bad none q =
+      by (pageOk l k ts) (λ r. never (rw r at q)) (λ r. never (rw r at q))
+  bad-list t k ts bad (some qs) q =
+      by (pageOk l k ts)
+      (λ r.
+      let z : some (done ++ (record { block = e; table = t; tuples = ts } ∷ qs)) ≡ some ps = rw r at q in
+      let y : ps ≡ done ++ (record { block = e; table = t; tuples = ts } ∷ qs) = cc in
+      bad-rows t k ts bad r qs y)
+      (λ r. never (rw r at q))
+
+  -- no list of pages that goes on with it passes
+  pub bad-page : (b : Block) → goodPage l room b ≡ Bad → (o : Option (List StoredPage)) → Option·map (λ qs. done ++ qs) (addPage l e b o) ≡ some ps
+      → rowsOk cap next (rowsOfPages ps) ≡ false
+  unfolding addPage
+  bad-page malformed bad o q = never q
+  bad-page (header h) bad o q = never q
+  bad-page (page t k ts) bad o q = bad-list t k ts bad o q
+  bad-page (directory k es) bad o q = never q
+
+-- ---- the turns
+
+accepted : {A : Type 0} (b : Bool) (x : A) → accepts (if b then holds x else refuses 24) ≡ b
+unfolding accepts if_then_else_
+accepted true x = refl
+accepted false x = refl
+
+module _ (v : View) (h : Header) (es : List ℕ) where
+  -- the pages of the first i entries, with their rows
+  pub record Collecting (i to : ℕ) (columns : List Row) : Type 0 where
+    pub done : List StoredPage
+    pub room : to ≤ h .capacity
+    pub count : length (rowsOfPages done) ≡ to
+    pub rows : columns ≡ map bare (rowsOfPages done)
+    pub marks : all markOk (rowsOfPages done) ≡ true
+    pub rest : readPages v (h .level) es ≡ Option·map (λ ps. done ++ ps) (readPages v (h .level) (drop i es))
+
+  map-same : (o : Option (List StoredPage)) → o ≡ Option·map (λ ps. [] ++ ps) o
+  map-same none = refl
+  map-same (some ps) = refl
+
+  pub collecting-start : (ps ns os ms : List ℕ) → Collecting 0 0 (rowsIn ps ns os ms 0)
+  unfolding rowsIn tab rowsOfPages all
+  collecting-start ps ns os ms =
+      record { done = []; room = omega arith; count = refl; rows = refl; marks = refl; rest = map-same (readPages v (h .level) es) }
+
+  map-twice : (d : List StoredPage) (p : StoredPage) (o : Option (List StoredPage))
+      → Option·map (λ ps. d ++ ps) (Option·map (λ ps. p ∷ ps) o) ≡ Option·map (λ ps. (d ++ (p ∷ [])) ++ ps) o
+  map-twice d p none = refl
+  map-twice d p (some ps) = ap some (sym (append-assoc d (p ∷ []) ps))
+
+  module _ (i to : ℕ) (columns : List Row) (a : Collecting i to columns) where
+    next : i < length es → readPages v (h .level) (drop i es) ≡ addPage (h .level) (getD es i 0) (v (getD es i 0)) (readPages v (h .level) (drop (i + 1) es))
+    unfolding readPages
+    next l = ap (readPages v (h .level)) (drop-turn es i l)
+
+    pub collecting-turn : (t n : ℕ) (more : List Row) → i < length es → (g : Goods (h .level) (h .capacity - to) t n (v (getD es i 0)))
+        → more ≡ columns ++ map bare (rowsOf t (g .tuples)) → Collecting (i + 1) (to + n) more
+    collecting-turn t n more l g m =
+        let e = getD es i 0 in
+        let p : StoredPage = record { block = getD es i 0; table = t; tuples = g .tuples } in
+        let d : List StoredPage = a .done ++ (p ∷ []) in
+        let rs : rowsOfPages d ≡ rowsOfPages (a .done) ++ rowsOf t (g .tuples) = one-more (a .done) p in
+        let o = readPages v (h .level) (drop (i + 1) es) in
+        let q = next l ∙ page-added (h .level) (h .capacity - to) t n e (v e) g o in
+        let len : length (rowsOfPages d) ≡ to + n =
+        ap length rs ∙ length-append (rowsOfPages (a .done)) (rowsOf t (g .tuples)) ∙ omega (arith, a .count, length-rows t (g .tuples), g .count) in
+        record {
+          done = d;
+          room = omega (arith, a .room, g .room-left);
+          count = len;
+          rows = m ∙ rw (a .rows, rs, map-append bare (rowsOfPages (a .done)) (rowsOf t (g .tuples)));
+          marks = ap (all markOk) rs ∙ rw (all-append markOk (rowsOfPages (a .done)) (rowsOf t (g .tuples)), a .marks, g .marks);
+          rest = a .rest ∙ ap (Option·map (λ ps. a .done ++ ps)) q ∙ map-twice (a .done) p o;
+        }
+
+    -- all pages are read
+    pub collecting-end : length es ≤ i → columnsOk (h .next) columns ≡ accepts (pageTest v h es)
+    unfolding pageTest testedPages readPages accepts if_then_else_
+    collecting-end l =
+        let q : readPages v (h .level) es ≡ some (a .done) = a .rest ∙ rw (drop-end es i l) (ap some (append-nil (a .done))) in
+        let r : length (rowsOfPages (a .done)) ≤ h .capacity = omega (arith, a .count, a .room) in
+        let t = rows-tests (h .capacity) (h .next) (rowsOfPages (a .done)) in
+        let c : columnsOk (h .next) columns ≡ columnsOk (h .next) (rowsOfPages (a .done)) = ap (columnsOk (h .next)) (a .rows) ∙ columns-bare (h .next) (rowsOfPages (a .done)) in
+        c ∙ sym (rw (q, t, le-leb (length (rowsOfPages (a .done))) (h .capacity) r, a .marks, and-yes) (accepted (columnsOk (h .next) (rowsOfPages (a .done))) (a .done)))
+
+  -- no page list that passes
+  pub refused : ((ps : List StoredPage) → readPages v (h .level) es ≡ some ps → rowsOk (h .capacity) (h .next) (rowsOfPages ps) ≡ false) → false ≡ accepts (pageTest v h es)
+  unfolding pageTest testedPages accepts if_then_else_
+  refused f = by-option (readPages v (h .level) es) (λ q. rw q) (λ ps q. rw (q, f ps q))
+
+  pub collecting-bad : (i to : ℕ) (columns : List Row) → Collecting i to columns → i < length es
+      → goodPage (h .level) (h .capacity - to) (v (getD es i 0)) ≡ Bad → false ≡ accepts (pageTest v h es)
+  collecting-bad i to columns a l bad =
+      let e = getD es i 0 in
+      let o = readPages v (h .level) (drop (i + 1) es) in
+      let f : length (rowsOfPages (a .done)) + (h .capacity - to) ≡ h .capacity = omega (arith, a .count, a .room) in
+      refused (λ ps q.
+      bad-page (h .level) (h .capacity - to) (h .capacity) (h .next) e (a .done) ps f (v e) bad o
+      (ap (Option·map (λ qs. a .done ++ qs)) (sym (next i to columns a l)) ∙ sym (a .rest) ∙ q))
+
+-- ---- the block that the code holds
+
+module _ (xs es : List ℕ) (i x : ℕ) (bs : List ℕ) (b : bs ≡ blockAt xs x) (e : x ≡ getD es i 0) where
+  pub seen : decodeBlock bs ≡ view xs (getD es i 0)
+  unfolding view
+  seen = rw (b, e)
+
+  pub page-here : (l cap w to : ℕ) (r : GoodPage) → w ≡ cap → r ≡ goodPage l (w - to) (decodeBlock bs) → goodPage l (cap - to) (view xs (getD es i 0)) ≡ r
+  page-here l cap w to r c q = rw (← seen, ← c) (sym q)
+
+  pub tuples-here : (l room t n : ℕ) (g : Goods l room t n (view xs (getD es i 0))) → readTuples n (drop 8 bs) ≡ some (g .tuples)
+  tuples-here l room t n g = rw (← g .count) (page-tuples bs t (g .level) (g .tuples) (seen ∙ g .block))

@@ -1,0 +1,374 @@
+-- The stages of the tests, put together.
+use mathlib.Core.Path.{_≡_, refl, sym, ap, subst, _∙_}
+use mathlib.Core.Logic.{⊎-elim}
+use mathlib.Core.Bool.{Bool, true, false, _&&_}
+use mathlib.Core.Option.{Option, none, some}
+use mathlib.Core.List.{List, [], _∷_, _++_, map}
+use Prim.Native.Nat.{ℕ, _+_, _-_, _*_, _/_, _%_, _≤_, _<_, min}
+use native.Mathlib.Omega.{arith}
+use lib.ListN.{length, take, drop, length-take, length-append, length-replicate}
+use lib.Seq.{take-at}
+use lib.Dec.{eqb}
+use borrow.Author.Tests.{eqb-true, eq-eqb, ne-eqb, le-leb, lt-leb}
+use Rattle.basics.specs.Basics.{if_then_else_, all, every}
+use Rattle.basics.proofs.Facts.{by, never, lie, and-true}
+use Rattle.bits.specs.Bits.{over}
+use Rattle.blocks.specs.Block.{Block, malformed, header, page, directory}
+use Rattle.blocks.specs.Decode.{decodeBlock}
+use Rattle.blocks.specs.Answers.{reading}
+use Rattle.blocks.specs.declared.Header.{Header}
+use Rattle.blocks.specs.declared.Reading.{Reading}
+use Rattle.blocks.specs.declared.Reading.the-variants.{IsHeader}
+use Rattle.rows.specs.Rows.{rowsOk}
+use Rattle.rows.proofs.Ands.{and-no}
+use Rattle.image.specs.View.{View, view, blockAt, blockCount}
+use Rattle.image.specs.Stages.{Stage, refuses, holds, wholeBlocks, blockOk, numbersOf, directoryBlocks, headerOk, headerTest, addEntries, readDirectories, entriesOk, testedEntries, directoryTest, StoredPage, addPage, pageOk, readPages, rowsOfPages, testedPages, pageTest}
+use Rattle.image.specs.Whole.{headerStage, pagesBelow, pagesStage, withHeader, afterHeader, readImage}
+use Rattle.image.specs.Answers.{Filled, accepts, headerAnswer, noEntries, entriesIn, pagesAnswer, imageAnswer}
+use Rattle.image.specs.declared.HeaderTest.the-variants.{Passed, Refused}
+use Rattle.image.specs.declared.PagesTest.{PagesTest}
+use Rattle.image.proofs.Heads.{Counts, counts-are, header-tests}
+use Rattle.image.proofs.Decoded.{clash, OneOfThese}
+use Rattle.image.proofs.Named.{filled-yes, filled-not}
+
+-- ---- 1 and 22
+
+module _ (xs : List ℕ) where
+  ragged : wholeBlocks (length xs) ≡ false → Refused 1 ≡ headerAnswer (headerStage xs)
+  unfolding headerStage headerAnswer if_then_else_
+  ragged e = rw e
+
+  pub not-whole : (length xs % 512 ≡ 0 → ⊥) → Refused 1 ≡ headerAnswer (headerStage xs)
+  unfolding wholeBlocks
+  not-whole h = ragged (rw (ne-eqb (length xs % 512) 0 h))
+
+  pub too-few : length xs / 512 < 2 → Refused 1 ≡ headerAnswer (headerStage xs)
+  unfolding wholeBlocks
+  too-few h = ragged (rw (lt-leb 2 (length xs / 512) h, and-no))
+
+  pub too-many : 4096 < length xs / 512 → Refused 1 ≡ headerAnswer (headerStage xs)
+  unfolding wholeBlocks
+  too-many h = ragged (rw (lt-leb (length xs / 512) 4096 h, and-no, and-no))
+
+  module _ (w : length xs % 512 ≡ 0) (l : 2 ≤ length xs / 512) (m : length xs / 512 ≤ 4096) (bs : List ℕ) (b : bs ≡ blockAt xs 0) where
+    -- the first block decides
+    pub by-block : headerTest (length xs / 512) (decodeBlock bs) ≡ headerStage xs
+    unfolding headerStage wholeBlocks blockCount view if_then_else_
+    by-block = rw (b, eq-eqb (length xs % 512) 0 w, le-leb 2 (length xs / 512) l, le-leb (length xs / 512) 4096 m)
+
+module _ (n : ℕ) where
+  header-if : (b : Block) (h : Header) → IsHeader h ≡ reading b → headerTest n b ≡ (if headerOk n h then holds h else refuses 22)
+  unfolding reading headerTest
+  header-if malformed h e = let c : _≡_ {A = ℕ} 0 1 = cc in clash c
+  header-if (header g) h e = let q : h ≡ g = cc in rw q
+  header-if (page t k ts) h e = let c : _≡_ {A = ℕ} 0 1 = cc in clash c
+  header-if (directory k es) h e = let c : _≡_ {A = ℕ} 0 1 = cc in clash c
+
+  pub header-yes : (b : Block) (h : Header) → IsHeader h ≡ reading b → headerOk n h ≡ true → Passed h ≡ headerAnswer (headerTest n b)
+  unfolding headerAnswer if_then_else_
+  header-yes b h e t = rw (header-if b h e, t)
+
+  pub header-no : (b : Block) (h : Header) → IsHeader h ≡ reading b → headerOk n h ≡ false → Refused 22 ≡ headerAnswer (headerTest n b)
+  unfolding headerAnswer if_then_else_
+  header-no b h e t = rw (header-if b h e, t)
+
+  pub no-header : (x : Reading) (b : Block) → x ≡ reading b → OneOfThese (1 ∷ 2 ∷ 3 ∷ []) x → Refused 22 ≡ headerAnswer (headerTest n b)
+  unfolding headerAnswer headerTest reading
+  no-header x malformed e k = refl
+  no-header x (header h) e k =
+      let z = subst (OneOfThese (1 ∷ 2 ∷ 3 ∷ [])) e k in
+      ⊎-elim (λ y. absurd (omega arith)) (⊎-elim (λ y. absurd (omega arith)) (λ y. absurd (omega arith))) z
+  no-header x (page t j ts) e k = refl
+  no-header x (directory j es) e k = refl
+
+-- what a header that passed says
+pub record Passing (xs : List ℕ) (h : Header) : Type 0 where
+  pub counts : Counts (blockCount xs) h
+  pub directories : all (blockOk (blockCount xs)) (directoryBlocks h) ≡ true
+
+tested-ok : (n : ℕ) (b : Block) (h : Header) → headerTest n b ≡ holds h → headerOk n h ≡ true
+unfolding headerTest if_then_else_
+tested-ok n malformed h e = let c : _≡_ {A = ℕ} 0 1 = cc in clash c
+tested-ok n (header g) h e =
+    by (headerOk n g)
+    (λ t. let k : holds g ≡ holds h = rw t at e in let q : g ≡ h = cc in rw (← q) t)
+    (λ t. let k : refuses 22 ≡ holds h = rw t at e in let c : _≡_ {A = ℕ} 0 1 = cc in clash c)
+tested-ok n (page t k ts) h e = let c : _≡_ {A = ℕ} 0 1 = cc in clash c
+tested-ok n (directory k es) h e = let c : _≡_ {A = ℕ} 0 1 = cc in clash c
+
+pub passing : (xs : List ℕ) (h : Header) → headerStage xs ≡ holds h → Passing xs h
+unfolding headerStage if_then_else_
+passing xs h e =
+    by (wholeBlocks (length xs))
+    (λ w.
+    let t = tested-ok (blockCount xs) (view xs 0) h (rw w at e) in
+    let n = blockCount xs in
+    let p = sym (header-tests (blockCount xs) h) ∙ t in
+    let a = and-true _ _ p in
+    let b = and-true (all (blockOk (blockCount xs)) (directoryBlocks h)) _ (a .1) in
+    record { counts = counts-are (blockCount xs) h (a .0); directories = b .0 })
+    (λ w. let k : refuses 1 ≡ holds h = rw w at e in let c : _≡_ {A = ℕ} 0 1 = cc in clash c)
+
+-- ---- 23: as many entries as pages
+
+record Joined (l p : ℕ) (more : Option (List ℕ)) (es : List ℕ) : Type 0 where
+  pub first : List ℕ
+  pub others : List ℕ
+  pub more-are : more ≡ some others
+  pub are : es ≡ first ++ others
+  pub due : length first ≡ min 336 p
+
+joined-directory : (l p k : ℕ) (fs : List ℕ) (more : Option (List ℕ)) (es : List ℕ) → addEntries l p (directory k fs) more ≡ some es → Joined l p more es
+unfolding addEntries if_then_else_
+joined-directory l p k fs none es e =
+    by (eqb k l && eqb (length fs) (min 336 p)) (λ t. never (rw t at e)) (λ t. never (rw t at e))
+joined-directory l p k fs (some gs) es e =
+    by (eqb k l && eqb (length fs) (min 336 p))
+    (λ t.
+    let z : some (fs ++ gs) ≡ some es = rw t at e in
+    let y : es ≡ fs ++ gs = cc in
+    record { first = fs; others = gs; more-are = refl; are = y; due = eqb-true (length fs) (min 336 p) (and-true (eqb k l) _ t .1) })
+    (λ t. never (rw t at e))
+
+joined : (l p : ℕ) (b : Block) (more : Option (List ℕ)) (es : List ℕ) → addEntries l p b more ≡ some es → Joined l p more es
+unfolding addEntries
+joined l p malformed more es e = never e
+joined l p (header h) more es e = never e
+joined l p (page t k ts) more es e = never e
+joined l p (directory k fs) more es e = joined-directory l p k fs more es e
+
+entries-count : (v : View) (l : ℕ) (ds : List ℕ) (p : ℕ) (es : List ℕ) → p ≤ 336 * length ds → readDirectories v l p ds ≡ some es → length es ≡ p
+unfolding readDirectories
+entries-count v l [] p es h e = let z : es ≡ [] = cc in ap length z ∙ omega arith
+entries-count v l (d ∷ ds) p es h e =
+    let j = joined l p (v d) (readDirectories v l (p - 336) ds) es e in
+    let n = entries-count v l ds (p - 336) (j .others) (omega arith) (j .more-are) in
+    ap length (j .are) ∙ length-append (j .first) (j .others) ∙ omega (arith, j .due)
+
+-- ---- 24: the blocks of the pages are the entries
+
+blocks-page : (l e : ℕ) (b : Block) (es : List ℕ) (o : Option (List StoredPage)) (ps : List StoredPage)
+    → ((qs : List StoredPage) → o ≡ some qs → map (λ p. p .block) qs ≡ es) → addPage l e b o ≡ some ps → map (λ p. p .block) ps ≡ e ∷ es
+unfolding addPage if_then_else_
+blocks-page l e malformed es o ps f q = never q
+blocks-page l e (header h) es o ps f q = never q
+blocks-page l e (page t k ts) es none ps f q = by (pageOk l k ts) (λ r. never (rw r at q)) (λ r. never (rw r at q))
+blocks-page l e (page t k ts) es (some qs) ps f q =
+    by (pageOk l k ts)
+    (λ r.
+    let z : some (record { block = e; table = t; tuples = ts } ∷ qs) ≡ some ps = rw r at q in
+    let y : ps ≡ record { block = e; table = t; tuples = ts } ∷ qs = cc in
+    ap (map (λ p. p .block)) y ∙ ap (λ (m : List ℕ). e ∷ m) (f qs refl))
+    (λ r. never (rw r at q))
+blocks-page l e (directory k fs) es o ps f q = never q
+
+blocks-are : (v : View) (l : ℕ) (es : List ℕ) (ps : List StoredPage) → readPages v l es ≡ some ps → map (λ p. p .block) ps ≡ es
+unfolding readPages
+blocks-are v l [] ps e = let z : ps ≡ [] = cc in ap (map (λ p. p .block)) z
+blocks-are v l (x ∷ es) ps e = blocks-page l x (v x) es (readPages v l es) ps (λ qs q. blocks-are v l es qs q) e
+
+-- ---- 23 and 24 together
+
+module _ (v : View) (h : Header) where
+  abbrev entriesRead : Option (List ℕ)
+  entriesRead = readDirectories v (h .level) (h .pages) (directoryBlocks h)
+
+  pub bad-directory : entriesRead ≡ none → pagesStage v h ≡ refuses 23
+  unfolding pagesStage pagesBelow directoryTest testedEntries
+  bad-directory e = rw e
+
+  module _ (es : List ℕ) (e : entriesRead ≡ some es) where
+    pub bad-entries : entriesOk (h .blocks) (directoryBlocks h) es ≡ false → pagesStage v h ≡ refuses 23
+    unfolding pagesStage pagesBelow directoryTest testedEntries if_then_else_
+    bad-entries t = rw (e, t)
+
+    module _ (t : entriesOk (h .blocks) (directoryBlocks h) es ≡ true) where
+      by-pages : pagesStage v h ≡ pageTest v h es
+      unfolding pagesStage pagesBelow directoryTest testedEntries if_then_else_
+      by-pages = rw (e, t)
+
+      pages-refused : (o : Option (List StoredPage)) → accepts (testedPages h o) ≡ false → testedPages h o ≡ refuses 24
+      unfolding accepts testedPages if_then_else_
+      pages-refused none q = refl
+      pages-refused (some ps) q =
+          by (rowsOk (h .capacity) (h .next) (rowsOfPages ps))
+          (λ r. let z : true ≡ false = rw r at q in lie (sym z))
+          (λ r. rw r)
+
+      pub bad-pages : accepts (pageTest v h es) ≡ false → pagesStage v h ≡ refuses 24
+      unfolding pageTest
+      bad-pages q = by-pages ∙ pages-refused (readPages v (h .level) es) q
+
+      pages-accepted : (o : Option (List StoredPage)) → readPages v (h .level) es ≡ o → accepts (testedPages h o) ≡ true → pagesAnswer (testedPages h o) ≡ record { refusal = 0; entries = over noEntries 0 es }
+      unfolding accepts testedPages pagesAnswer entriesIn if_then_else_
+      pages-accepted none r q = lie q
+      pages-accepted (some ps) r q =
+          by (rowsOk (h .capacity) (h .next) (rowsOfPages ps))
+          (λ k. rw (k, blocks-are v (h .level) es ps r))
+          (λ k. let z : false ≡ true = rw k at q in lie z)
+
+      pub all-good : accepts (pageTest v h es) ≡ true → pagesAnswer (pagesStage v h) ≡ record { refusal = 0; entries = over noEntries 0 es }
+      unfolding pageTest
+      all-good q = ap pagesAnswer by-pages ∙ pages-accepted (readPages v (h .level) es) refl q
+
+-- ---- the same, as the code has it
+
+none-many : length noEntries ≡ 1024
+unfolding noEntries
+none-many = length-replicate {A = ℕ} 1024 0
+
+module _ (xs : List ℕ) (h : Header) (pages used : ℕ) where
+  -- the counts that the code works with
+  pub record Begun : Type 0 where
+    pub passed : Passing xs h
+    pub pages-are : pages ≡ h .pages
+    pub used-are : used ≡ h .directories
+
+  module _ (b : Begun) where
+    pub four : used ≤ 4
+    four = omega (arith, b .used-are, b .passed .counts .four)
+
+    pub fits : pages ≤ 1024
+    fits = omega (arith, b .pages-are, b .passed .counts .pages, b .passed .counts .high)
+
+    pub within-none : (l : List ℕ) → l ≡ noEntries → pages ≤ length l
+    within-none l e = omega (arith, fits, ap length e, none-many)
+
+    pub named : all (blockOk (blockCount xs)) (take used (numbersOf h)) ≡ true
+    unfolding directoryBlocks
+    named = ap (λ (k : ℕ). all (blockOk (blockCount xs)) (take k (numbersOf h))) (b .used-are) ∙ b .passed .directories
+
+    read-are : readDirectories (view xs) (h .level) pages (take used (numbersOf h)) ≡ entriesRead (view xs) h
+    unfolding directoryBlocks
+    read-are = rw (b .pages-are, b .used-are)
+
+    -- each directory block but the last has 336 entries
+    enough : pages ≤ 336 * length (take used (numbersOf h))
+    enough = simp length-take (omega (arith, four, b .used-are, b .pages-are, b .passed .counts .directories))
+
+    module _ (none out : List ℕ) (e : none ≡ noEntries) (r : Bool)
+        (f : Filled (readDirectories (view xs) (h .level) pages (take used (numbersOf h))) 0 none r out) where
+      pub not-read : r ≡ false → pagesStage (view xs) h ≡ refuses 23
+      not-read t = bad-directory (view xs) h (sym read-are ∙ filled-not _ 0 none out r t f)
+
+      -- the entries that were read
+      pub record Got : Type 0 where
+        pub entries : List ℕ
+        pub read : entriesRead (view xs) h ≡ some entries
+        pub out-are : out ≡ over noEntries 0 entries
+        pub front : take pages out ≡ entries
+
+      pub got : r ≡ true → Got
+      unfolding over
+      got t =
+          let q = filled-yes (readDirectories (view xs) (h .level) pages (take used (numbersOf h))) 0 none out r t f in
+          let n = entries-count (view xs) (h .level) (take used (numbersOf h)) pages (q .entries) enough (q .some-are) in
+          let o : out ≡ over noEntries 0 (q .entries) = q .put ∙ ap (λ (l : List ℕ). over l 0 (q .entries)) e in
+          record {
+            entries = q .entries;
+            read = sym read-are ∙ q .some-are;
+            out-are = o;
+            front = ap (take pages) o ∙ take-at (q .entries) (drop (0 + length (q .entries)) noEntries) pages n;
+          }
+
+      module _ (g : Got) (k : Bool) (ok : k ≡ entriesOk (h .blocks) (take used (numbersOf h)) (take pages out)) where
+        ok-are : k ≡ entriesOk (h .blocks) (directoryBlocks h) (g .entries)
+        unfolding directoryBlocks
+        ok-are = ok ∙ rw (b .used-are, g .front)
+
+        pub not-ok : k ≡ false → pagesStage (view xs) h ≡ refuses 23
+        not-ok t = bad-entries (view xs) h (g .entries) (g .read) (sym ok-are ∙ t)
+
+        module _ (t : k ≡ true) where
+          -- every entry is a block of the image
+          pub in-image : all (blockOk (blockCount xs)) (take pages out) ≡ true
+          unfolding entriesOk every
+          in-image = rw (g .front, ← b .passed .counts .blocks) (and-true (all (blockOk (h .blocks)) (g .entries)) _ (sym ok-are ∙ t) .0)
+
+          module _ (m : Bool) (pages-ok : m ≡ accepts (pageTest (view xs) h (take pages out))) where
+            test-are : accepts (pageTest (view xs) h (g .entries)) ≡ m
+            test-are = sym (pages-ok ∙ rw (g .front))
+
+            pub wrong-pages : m ≡ false → pagesStage (view xs) h ≡ refuses 24
+            wrong-pages q = bad-pages (view xs) h (g .entries) (g .read) (sym ok-are ∙ t) (test-are ∙ q)
+
+            pub right-pages : m ≡ true → record { refusal = 0; entries = out } ≡ pagesAnswer (pagesStage (view xs) h)
+            right-pages q =
+                let a = all-good (view xs) h (g .entries) (g .read) (sym ok-are ∙ t) (test-are ∙ q) in
+                let o = g .out-are in
+                (λ i. record { refusal = 0; entries = o i }) ∙ sym a
+
+-- ---- all together
+
+-- no stage refuses with the number 0
+module _ (v : View) (h : Header) (n : ℕ) where
+  entries-number : (o : Option (List ℕ)) → testedEntries h o ≡ refuses n → 0 < n
+  unfolding testedEntries if_then_else_
+  entries-number none e = let z : n ≡ 23 = cc in omega arith
+  entries-number (some es) e =
+      by (entriesOk (h .blocks) (directoryBlocks h) es)
+      (λ t. let k : holds es ≡ refuses n = rw t at e in let c : _≡_ {A = ℕ} 0 1 = cc in clash c)
+      (λ t. let k : _≡_ {A = Stage (List ℕ)} (refuses 23) (refuses n) = rw t at e in let z : n ≡ 23 = cc in omega arith)
+
+  pages-number : (o : Option (List StoredPage)) → testedPages h o ≡ refuses n → 0 < n
+  unfolding testedPages if_then_else_
+  pages-number none e = let z : n ≡ 24 = cc in omega arith
+  pages-number (some ps) e =
+      by (rowsOk (h .capacity) (h .next) (rowsOfPages ps))
+      (λ t. let k : holds ps ≡ refuses n = rw t at e in let c : _≡_ {A = ℕ} 0 1 = cc in clash c)
+      (λ t. let k : _≡_ {A = Stage (List StoredPage)} (refuses 24) (refuses n) = rw t at e in let z : n ≡ 24 = cc in omega arith)
+
+  below-number : (d : Stage (List ℕ)) → (d ≡ refuses n → 0 < n) → pagesBelow v h d ≡ refuses n → 0 < n
+  unfolding pagesBelow pageTest
+  below-number (refuses m) f e = let z : m ≡ n = cc in f (ap refuses z)
+  below-number (holds es) f e = pages-number (readPages v (h .level) es) e
+
+  stage-number : pagesStage v h ≡ refuses n → 0 < n
+  unfolding pagesStage directoryTest
+  stage-number e = below-number (directoryTest v h) (entries-number (readDirectories v (h .level) (h .pages) (directoryBlocks h))) e
+
+-- what the answers of the stages say
+stage-passed : (s : Stage Header) (h : Header) → Passed h ≡ headerAnswer s → s ≡ holds h
+unfolding headerAnswer
+stage-passed (refuses n) h e = let c : _≡_ {A = ℕ} 0 1 = cc in clash c
+stage-passed (holds g) h e = let z : h ≡ g = cc in ap holds (sym z)
+
+stage-refused : (s : Stage Header) (n : ℕ) → Refused n ≡ headerAnswer s → s ≡ refuses n
+unfolding headerAnswer
+stage-refused (refuses m) n e = let z : n ≡ m = cc in ap refuses (sym z)
+stage-refused (holds g) n e = let c : _≡_ {A = ℕ} 0 1 = cc in clash c
+
+pages-refusal : (s : Stage (List StoredPage)) (t : PagesTest) → t ≡ pagesAnswer s → (t .refusal ≡ 0 → ⊥) → s ≡ refuses (t .refusal)
+unfolding pagesAnswer
+pages-refusal (refuses m) t e d = ap refuses (sym (ap (λ (x : PagesTest). x .refusal) e))
+pages-refusal (holds ps) t e d = absurd (d (ap (λ (x : PagesTest). x .refusal) e))
+
+-- an accepted image
+accepted-image : (h : Header) (s : Stage (List StoredPage)) (t : PagesTest) → t ≡ pagesAnswer s → t .refusal ≡ 0 → (s ≡ refuses 0 → ⊥)
+    → record { refusal = 0; header = h; entries = t .entries } ≡ imageAnswer (withHeader h s)
+unfolding pagesAnswer imageAnswer withHeader
+accepted-image h (refuses m) t e z n =
+    let k : m ≡ 0 = sym (ap (λ (x : PagesTest). x .refusal) e) ∙ z in absurd (n (ap refuses k))
+accepted-image h (holds ps) t e z n =
+    let k = ap (λ (x : PagesTest). x .entries) e in λ i. record { refusal = 0; header = h; entries = k i }
+
+module _ (xs : List ℕ) where
+  pub passed-is : (h : Header) → Passed h ≡ headerAnswer (headerStage xs) → headerStage xs ≡ holds h
+  passed-is h e = stage-passed (headerStage xs) h e
+
+  pub image-refused : (n : ℕ) → Refused n ≡ headerAnswer (headerStage xs) → imageAnswer (refuses n) ≡ imageAnswer (readImage xs)
+  unfolding readImage afterHeader
+  image-refused n e = rw (stage-refused (headerStage xs) n e)
+
+  module _ (h : Header) (e : headerStage xs ≡ holds h) (t : PagesTest) (q : t ≡ pagesAnswer (pagesStage (view xs) h)) where
+    then-pages : imageAnswer (withHeader h (pagesStage (view xs) h)) ≡ imageAnswer (readImage xs)
+    unfolding readImage afterHeader
+    then-pages = rw e
+
+    pub image-stopped : (t .refusal ≡ 0 → ⊥) → imageAnswer (refuses (t .refusal)) ≡ imageAnswer (readImage xs)
+    unfolding withHeader
+    image-stopped d = sym (ap (λ (s : Stage (List StoredPage)). imageAnswer (withHeader h s)) (pages-refusal (pagesStage (view xs) h) t q d)) ∙ then-pages
+
+    pub image-holds : t .refusal ≡ 0 → record { refusal = 0; header = h; entries = t .entries } ≡ imageAnswer (readImage xs)
+    image-holds z =
+        accepted-image h (pagesStage (view xs) h) t q z (λ r. let k = stage-number (view xs) h 0 r in omega arith) ∙ then-pages

@@ -1,0 +1,64 @@
+use mathlib.Core.Option.{some}
+use mathlib.Core.List.{[]}
+use mathlib.Core.Path.{refl, sym, _∙_}
+use borrow.Author.Needs.{needs}
+use Rattle.image.proofs.Named.{is-directory, no-directory, other-level, other-count, entries-put, not-put}
+use Rattle.blocks.specs.Decode.{decodeBlock}
+use Rattle.image.proofs.add_entries.Statement.{statement}
+use Rattle.image.proofs.add_entries.Tie as tie
+
+read-block-requires : tie.Need-read-block-requires
+read-block-requires c κs = search needs
+
+enum-known-count : tie.Need-enum-known-count
+enum-known-count c = search needs
+
+returns : tie.Need-returns
+returns c = let a = c .before .before .before .before .before .before .args in let g = c .before .before .count .given in
+    let r = is-directory (g .0 .0) (g .0 .1 .0) (a .block .now) _ refl (sym (g .1) ∙ c .before .before .before .before .read-block .ensures) in
+    not-put _ (a .at) (a .out .now) _ (other-level (a .level) (a .left) (some []) (g .0 .0) (g .0 .1 .0) (a .block .now) _ r (c .if1 .taken))
+
+due-requires : tie.Need-due-requires
+due-requires c κs = search needs
+
+returns-2 : tie.Need-returns-2
+returns-2 c = let a = c .before .before .before .before .before .before .before .before .args in let g = c .before .before .before .before .count .given in
+    let r = is-directory (g .0 .0) (g .0 .1 .0) (a .block .now) _ refl (sym (g .1) ∙ c .before .before .before .before .before .before .read-block .ensures) in
+    not-put _ (a .at) (a .out .now) _ (other-count (a .level) (a .left) (some []) (g .0 .0) (g .0 .1 .0) (a .block .now) _ r (λ e. c .if2 .taken (e ∙ sym (c .before .due .ensures))))
+
+read-entries-requires : tie.Need-read-entries-requires
+read-entries-requires c κs = search needs
+
+slice-aggregate-put-entries : tie.Need-slice-aggregate-put-entries
+slice-aggregate-put-entries c = search needs
+
+put-entries-requires : tie.Need-put-entries-requires
+put-entries-requires c κs = search needs
+
+same-length : tie.Need-same-length
+same-length c = search needs
+
+returns-3 : tie.Need-returns-3
+returns-3 c = let a = c .before .before .before .before .before .before .before .before .before .before .before .before .before .before .args in let g = c .before .before .before .before .before .before .before .before .before .before .count .given in
+    let r = is-directory (g .0 .0) (g .0 .1 .0) (a .block .now) _ refl (sym (g .1) ∙ c .before .before .before .before .before .before .before .before .before .before .before .before .read-block .ensures) in
+    entries-put (a .level) (a .left) (some []) (g .0 .0) (g .0 .1 .0) (a .block .now) _ r (a .at) (a .out .now) _ _ (c .before .before .before .before .before .before .before .before .if1 .left) (c .before .before .before .before .before .before .if2 .left ∙ c .before .before .before .before .before .before .before .due .ensures) (c .before .before .before .before .before .read-entries .ensures) (c .before .before .put-entries .ensures) refl
+
+returns-4 : tie.Need-returns-4
+returns-4 c = let a = c .before .before .before .args in
+    not-put _ (a .at) (a .out .now) _ (no-directory (a .level) (a .left) (some []) _ (decodeBlock (a .block .now)) (c .before .read-block .ensures) (c .match .keys2))
+
+pub add-entries-spec : {M : Type 1} → statement M
+add-entries-spec =
+    tie.close
+    (tie.spec
+    read-block-requires
+    enum-known-count
+    returns
+    due-requires
+    returns-2
+    read-entries-requires
+    slice-aggregate-put-entries
+    put-entries-requires
+    same-length
+    returns-3
+    returns-4)

@@ -1,0 +1,127 @@
+use mathlib.Core.List.{List, map, _++_}
+use mathlib.Core.Option.{some}
+use lib.ListN.{length, take, drop}
+use Prim.Native.Nat.{_+_, _-_, _≤_, _<_}
+use mathlib.Core.Path.{_≡_, refl, sym, _∙_}
+use native.Mathlib.Omega.{arith}
+use Rattle.image.proofs.Walk.{Left, left-start, left-end, left-bad, turn, row-first, row-next, row-last}
+use Rattle.rows.specs.Columns.{rowsIn, bare}
+use Rattle.rows.specs.Rows.{rowsOf}
+use Rattle.blocks.proofs.ReadTuples.{found-is, bad-is}
+use Rattle.blocks.specs.Bytes.{payloadIn}
+use Rattle.blocks.specs.Decode.{readTuples}
+use Rattle.blocks.specs.Tuple.{Tuple}
+use Rattle.image.proofs.add_rows.Statement.{statement}
+use Rattle.image.proofs.add_rows.Tie as tie
+
+abbrev Inv-loop : tie.InvT-loop
+Inv-loop block table count places₀ numbers₀ owners₀ marks₀ k at₀ i₀ to₀ places numbers owners marks at i to = (i ≤ count) × ((at ≤ 512) × ((to ≡ k + i) × (((length places ≡ length places₀) × ((length numbers ≡ length numbers₀) × ((length owners ≡ length owners₀) × (length marks ≡ length marks₀))))
+    × ((ts : List Tuple) → readTuples count (drop 8 block) ≡ some ts → Left block count at i ts × (rowsIn places numbers owners marks to ≡ rowsIn places₀ numbers₀ owners₀ marks₀ k ++ map bare (rowsOf table (take i ts)))))))
+
+abbrev μ-loop : tie.MeasureT-loop
+μ-loop block table count places₀ numbers₀ owners₀ marks₀ k at₀ i₀ to₀ places numbers owners marks at i to = count - i
+
+loop-holds : tie.Need-loop-holds Inv-loop μ-loop
+loop-holds c = let a = c .before .before .before .before .before .args in
+    (omega arith, (omega arith, (omega arith, ((refl, (refl, (refl, refl))), λ ts e. (left-start (a .block .now) (a .count) ts e, row-first (a .table) ts _)))))
+
+next-requires : tie.Need-next-requires Inv-loop μ-loop
+next-requires c κs = omega arith
+
+enum-known-r : tie.Need-enum-known-r Inv-loop μ-loop
+enum-known-r c = omega arith
+
+put-row-requires : tie.Need-put-row-requires Inv-loop μ-loop
+put-row-requires c κs = omega arith
+
+enum-told : tie.Need-enum-told Inv-loop μ-loop
+enum-told c = omega arith
+
+same-length : tie.Need-same-length Inv-loop μ-loop
+same-length c = omega arith
+
+same-length-2 : tie.Need-same-length-2 Inv-loop μ-loop
+same-length-2 c = omega arith
+
+same-length-3 : tie.Need-same-length-3 Inv-loop μ-loop
+same-length-3 c = omega arith
+
+same-length-4 : tie.Need-same-length-4 Inv-loop μ-loop
+same-length-4 c = omega arith
+
+returns : tie.Need-returns Inv-loop μ-loop
+returns c = let a = c .before .before .before .before .before .before .before .before .before .before .args in let p = c .before .before .before .before .loop in
+    let w = bad-is (a .block .now) (p .at) (sym (c .enum-told .given .1) ∙ c .before .before .next .ensures) in
+    λ ts e. left-bad (a .block .now) (a .count) (p .at) (p .i) ts (omega arith) w (p .inv .1 .1 .1 .1 ts e .0)
+
+add-to : tie.Need-add-to Inv-loop μ-loop
+add-to c = omega (arith, c .before .before .before .before .before .before .before .before .before .before .before .before .before .before .before .before .before .before .before .before .before .before .before .before .pre, c .before .before .before .before .before .before .before .before .before .before .before .before .before .before .before .before .before .before .before .before .before .before .before .before .good, c .before .before .before .before .before .before .before .before .before .before .before .before .before .before .before .before .before .before .loop .inv .1 .1 .0, c .before .before .before .before .before .before .before .before .before .before .before .before .before .before .before .before .before .loop-test)
+
+add-i : tie.Need-add-i Inv-loop μ-loop
+add-i c = omega arith
+
+loop-less : tie.Need-loop-less Inv-loop μ-loop
+loop-less c = omega arith
+
+loop-again : tie.Need-loop-again Inv-loop μ-loop
+loop-again c = let a = c .before .before .before .before .before .before .before .before .before .before .before .before .before .before .before .before .before .before .before .before .before .before .before .before .args in let p = c .before .before .before .before .before .before .before .before .before .before .before .before .before .before .before .before .before .before .loop in let g = c .before .before .before .before .before .before .before .before .before .before .before .before .before .before .r .given in let l = p .inv .1 .1 .1 .0 in let k = p .inv .1 .1 .1 .1 in let d = c .before .before .before .before .before .before .before .before .put-row .kept in
+    let room : p .at ≤ length (a .block .now) = omega (arith, c .before .before .before .before .before .before .before .before .before .before .before .before .before .before .before .before .before .before .before .before .before .before .before .before .pre .0, p .inv .1 .0) in
+    let f = found-is (a .block .now) (p .at) (g .0 .0) (g .0 .1 .0) room (sym (g .1) ∙ c .before .before .before .before .before .before .before .before .before .before .before .before .before .before .before .before .next .ensures) in
+    let h : p .i < a .count = omega (arith, c .before .before .before .before .before .before .before .before .before .before .before .before .before .before .before .before .before .loop-test) in (
+      omega arith,
+      (
+        omega (arith, f .ends, c .before .before .before .before .before .before .before .before .before .before .before .before .before .before .before .before .before .before .before .before .before .before .before .before .pre .0),
+        (
+          omega (arith, p .inv .1 .1 .0),
+          (
+            (d .0 ∙ l .0, (d .1 .0 ∙ l .1 .0, (d .1 .1 .0 ∙ l .1 .1 .0, d .1 .1 .1 .0 ∙ l .1 .1 .1))),
+            λ ts e.
+                let t = turn (a .block .now) (a .count) (p .at) (p .i) ts h (k ts e .0) (g .0 .0) (g .0 .1 .0) f in
+                (t .left, row-next (a .table) (p .i) ts (rowsIn (a .places .now) (a .numbers .now) (a .owners .now) (a .marks .now) (a .k)) _ (k ts e .1) _ (g .0 .0) (payloadIn (a .block .now) (g .0 .0)) (drop (p .i + 1) ts) (t .first) (c .before .before .before .before .before .before .before .before .put-row .ensures)),
+          ),
+        ),
+      ),
+    )
+
+same-length-5 : tie.Need-same-length-5 Inv-loop μ-loop
+same-length-5 c = omega arith
+
+same-length-6 : tie.Need-same-length-6 Inv-loop μ-loop
+same-length-6 c = omega arith
+
+same-length-7 : tie.Need-same-length-7 Inv-loop μ-loop
+same-length-7 c = omega arith
+
+same-length-8 : tie.Need-same-length-8 Inv-loop μ-loop
+same-length-8 c = omega arith
+
+returns-2 : tie.Need-returns-2 Inv-loop μ-loop
+returns-2 c = let a = c .before .before .before .before .before .before .before .args in let p = c .before .loop in
+    let e : a .k + a .count ≡ p .to = omega (arith, p .inv .1 .1 .0, p .inv .0, c .loop-test) in
+    λ ts h. rw e (row-last (a .table) (p .i) ts (rowsIn (a .places .now) (a .numbers .now) (a .owners .now) (a .marks .now) (a .k)) _ (p .inv .1 .1 .1 .1 ts h .1) (left-end (a .block .now) (a .count) (p .at) (p .i) ts (omega arith) (p .inv .1 .1 .1 .1 ts h .0)))
+
+pub add-rows-spec : {M : Type 1} → statement M
+add-rows-spec =
+    tie.close
+    (tie.spec
+    Inv-loop
+    μ-loop
+    loop-holds
+    next-requires
+    enum-known-r
+    put-row-requires
+    enum-told
+    same-length
+    same-length-2
+    same-length-3
+    same-length-4
+    returns
+    add-to
+    add-i
+    loop-less
+    loop-again
+    same-length-5
+    same-length-6
+    same-length-7
+    same-length-8
+    returns-2)

@@ -1,0 +1,34 @@
+use borrow.Author.Tests.{le-leb, lt-leb, eq-eqb, ne-eqb}
+use borrow.Author.Needs.{needs}
+use Rattle.rows.proofs.Ands.{and-yes, and-no}
+use Rattle.image.specs.Stages.{directoriesFor}
+use Rattle.image.specs.Answers.{countsOk}
+use Rattle.basics.specs.Basics.{every}
+use Rattle.image.proofs.counts_ok.Statement.{statement}
+use Rattle.image.proofs.counts_ok.Tie as tie
+
+returns : tie.Need-returns
+unfolding countsOk every
+returns c = rw (ne-eqb _ _ (c .if1 .taken))
+
+returns-2 : tie.Need-returns-2
+unfolding countsOk every
+returns-2 c = rw (lt-leb _ _ (c .if2 .taken), and-no)
+
+returns-3 : tie.Need-returns-3
+unfolding countsOk every
+returns-3 c = rw (lt-leb _ _ (c .if3 .taken), and-no, and-no)
+
+returns-4 : tie.Need-returns-4
+unfolding countsOk every
+returns-4 c = rw (lt-leb _ _ (c .if4 .taken), and-no, and-no, and-no)
+
+add-result : tie.Need-add-result
+add-result c = search needs
+
+returns-5 : tie.Need-returns-5
+unfolding countsOk every directoriesFor
+returns-5 c = rw (eq-eqb _ _ (c .before .before .before .before .before .before .before .before .if1 .left), le-leb _ _ (c .before .before .before .before .before .before .if2 .left), le-leb _ _ (c .before .before .before .before .if3 .left), le-leb _ _ (c .before .before .if4 .left), and-yes)
+
+pub counts-ok-spec : {M : Type 1} → statement M
+counts-ok-spec = tie.close (tie.spec returns returns-2 returns-3 returns-4 add-result returns-5)

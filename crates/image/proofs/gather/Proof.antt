@@ -1,0 +1,95 @@
+use lib.ListN.{length}
+use Prim.Native.Nat.{_-_}
+use mathlib.Core.Path.{_≡_, refl, _∙_}
+use borrow.Author.Tests.{not-true, not-false}
+use native.Mathlib.Omega.{arith}
+use Rattle.image.proofs.Named.{Gathering, filled-there, gathering-start, gathering-turn, gathering-stop, gathering-end}
+use Rattle.image.proofs.Collect.{within, seen}
+use Rattle.image.specs.View.{view}
+use Rattle.image.proofs.gather.Statement.{statement}
+use Rattle.image.proofs.gather.Tie as tie
+
+abbrev Inv-loop : tie.InvT-loop
+Inv-loop image level pages directories out₀ i₀ at₀ out i at = Gathering (view image) level pages directories out₀ i at out × (length out ≡ length out₀)
+
+abbrev μ-loop : tie.MeasureT-loop
+μ-loop image level pages directories out₀ i₀ at₀ out i at = length directories - i
+
+loop-holds : tie.Need-loop-holds Inv-loop μ-loop
+loop-holds c = let a = c .before .before .before .args in (gathering-start (view (a .image .now)) (a .level) (a .pages) (a .directories .now) (a .out .now), refl)
+
+mul-wide : tie.Need-mul-wide Inv-loop μ-loop
+mul-wide c = omega arith
+
+shared-slice-read-wide : tie.Need-shared-slice-read-wide Inv-loop μ-loop
+shared-slice-read-wide c = omega arith
+
+wide-requires : tie.Need-wide-requires Inv-loop μ-loop
+wide-requires c κs = omega arith
+
+block-at-requires : tie.Need-block-at-requires Inv-loop μ-loop
+block-at-requires c κs = let a = c .before .before .before .before .before .before .before .args in let p = c .before .before .before .loop in omega (arith, within (a .image .now) (a .directories .now) (p .i) (c .before .before .before .before .before .before .before .pre .0) (omega arith), c .wide .ensures)
+
+sub-left : tie.Need-sub-left Inv-loop μ-loop
+sub-left c = omega arith
+
+add-entries-requires : tie.Need-add-entries-requires Inv-loop μ-loop
+add-entries-requires c κs = omega arith
+
+same-length : tie.Need-same-length Inv-loop μ-loop
+same-length c = omega arith
+
+returns : tie.Need-returns Inv-loop μ-loop
+returns c = let a = c .before .before .before .before .before .before .before .before .before .before .before .before .before .before .args in let p = c .before .before .before .before .before .before .before .before .before .before .loop in
+    let e = seen (a .image .now) (a .directories .now) (p .i) _ _ (c .before .before .before .before .before .before .block-at .ensures) (c .before .before .before .before .before .before .before .wide .ensures) in
+    let f = filled-there _ _ e (a .level) (a .pages - p .at) (p .at) (p .out) _ _ (c .before .before .before .add-entries .ensures) in
+    gathering-stop (view (a .image .now)) (a .level) (a .pages) (a .directories .now) (a .out .now) (p .i) (p .at) (p .out) (p .inv .0) _ _ _ (omega (arith, c .before .before .before .before .before .before .before .before .before .loop-test)) (not-true _ (c .if1 .taken)) f
+
+due-requires : tie.Need-due-requires Inv-loop μ-loop
+due-requires c κs = omega arith
+
+add-at : tie.Need-add-at Inv-loop μ-loop
+add-at c = omega arith
+
+add-i : tie.Need-add-i Inv-loop μ-loop
+add-i c = omega arith
+
+loop-less : tie.Need-loop-less Inv-loop μ-loop
+loop-less c = omega arith
+
+loop-again : tie.Need-loop-again Inv-loop μ-loop
+loop-again c = let a = c .before .before .before .before .before .before .before .before .before .before .before .before .before .before .before .args in let p = c .before .before .before .before .before .before .before .before .before .before .before .loop in
+    let e = seen (a .image .now) (a .directories .now) (p .i) _ _ (c .before .before .before .before .before .before .before .block-at .ensures) (c .before .before .before .before .before .before .before .before .wide .ensures) in
+    let f = filled-there _ _ e (a .level) (a .pages - p .at) (p .at) (p .out) _ _ (c .before .before .before .before .add-entries .ensures) in
+    let t = gathering-turn (view (a .image .now)) (a .level) (a .pages) (a .directories .now) (a .out .now) (p .i) (p .at) (p .out) (p .inv .0) _ _ (omega (arith, c .before .before .before .before .before .before .before .before .before .before .loop-test)) (c .before .before .before .before .before .before .before .before .before .before .before .before .before .before .before .pre .1) (not-false _ (c .before .if1 .left)) f in
+    (rw (c .due .ensures) t, c .before .before .before .before .add-entries .kept .1 .1 .1 .0 ∙ p .inv .1)
+
+same-length-2 : tie.Need-same-length-2 Inv-loop μ-loop
+same-length-2 c = omega arith
+
+returns-2 : tie.Need-returns-2 Inv-loop μ-loop
+returns-2 c = let a = c .before .before .before .before .before .args in let p = c .before .loop in
+    gathering-end (view (a .image .now)) (a .level) (a .pages) (a .directories .now) (a .out .now) (p .i) (p .at) (p .out) (p .inv .0) (omega arith)
+
+pub gather-spec : {M : Type 1} → statement M
+gather-spec =
+    tie.close
+    (tie.spec
+    Inv-loop
+    μ-loop
+    loop-holds
+    mul-wide
+    shared-slice-read-wide
+    wide-requires
+    block-at-requires
+    sub-left
+    add-entries-requires
+    same-length
+    returns
+    due-requires
+    add-at
+    add-i
+    loop-less
+    loop-again
+    same-length-2
+    returns-2)

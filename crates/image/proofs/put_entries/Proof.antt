@@ -1,0 +1,77 @@
+use lib.ListN.{length-set, length, take, set}
+use Prim.Native.Nat.{ℕ, _+_, _-_, _≤_}
+use mathlib.Core.List.{List}
+use mathlib.Core.Path.{_≡_, refl, sym, ap, _∙_}
+use native.Mathlib.Omega.{arith}
+use Rattle.image.proofs.Named.{put-turn}
+use Rattle.bits.proofs.Lists.{over-nil}
+use Rattle.bits.specs.Bits.{over}
+use Rattle.image.proofs.put_entries.Statement.{statement}
+use Rattle.image.proofs.put_entries.Tie as tie
+
+abbrev Inv-loop : tie.InvT-loop
+Inv-loop out₀ at entries count i₀ out i = (i ≤ count) × ((length out ≡ length out₀) × (out ≡ over out₀ at (take i entries)))
+
+abbrev μ-loop : tie.MeasureT-loop
+μ-loop out₀ at entries count i₀ out i = count - i
+
+loop-holds : tie.Need-loop-holds Inv-loop μ-loop
+loop-holds c = let a = c .before .before .args in (omega arith, (refl, sym (over-nil (a .out .now) (a .at))))
+
+mul-number : tie.Need-mul-number Inv-loop μ-loop
+mul-number c = omega arith
+
+shared-slice-read-number : tie.Need-shared-slice-read-number Inv-loop μ-loop
+shared-slice-read-number c = omega arith
+
+number-requires : tie.Need-number-requires Inv-loop μ-loop
+number-requires c κs = omega arith
+
+add-out : tie.Need-add-out Inv-loop μ-loop
+add-out c = omega arith
+
+mul-out : tie.Need-mul-out Inv-loop μ-loop
+mul-out c = omega arith
+
+slice-write-out : tie.Need-slice-write-out Inv-loop μ-loop
+slice-write-out c = omega arith
+
+add-i : tie.Need-add-i Inv-loop μ-loop
+add-i c = omega arith
+
+loop-less : tie.Need-loop-less Inv-loop μ-loop
+loop-less c = omega arith
+
+loop-again : tie.Need-loop-again Inv-loop μ-loop
+loop-again c = let a = c .before .before .before .before .before .before .args in let p = c .before .before .before .loop in (
+  omega arith,
+  (
+    length-set (p .out) (a .at + p .i) (c .number .result) ∙ p .inv .1 .0,
+    ap (λ (o : List ℕ). set o (a .at + p .i) (c .number .result)) (p .inv .1 .1) ∙ put-turn (a .out .now) (a .entries .now) (a .at) (p .i) (c .number .result) (omega arith) (omega arith) (c .number .ensures),
+  ),
+)
+
+same-length : tie.Need-same-length Inv-loop μ-loop
+same-length c = omega arith
+
+returns : tie.Need-returns Inv-loop μ-loop
+returns c = let a = c .before .before .before .before .args in let p = c .before .loop in let e : p .i ≡ a .count = omega arith in p .inv .1 .1 ∙ ap (λ (k : ℕ). over (a .out .now) (a .at) (take k (a .entries .now))) e
+
+pub put-entries-spec : {M : Type 1} → statement M
+put-entries-spec =
+    tie.close
+    (tie.spec
+    Inv-loop
+    μ-loop
+    loop-holds
+    mul-number
+    shared-slice-read-number
+    number-requires
+    add-out
+    mul-out
+    slice-write-out
+    add-i
+    loop-less
+    loop-again
+    same-length
+    returns)

@@ -1,0 +1,64 @@
+use lib.ListN.{length}
+use Prim.Native.Nat.{_/_}
+use mathlib.Core.Path.{sym, ap, _∙_}
+use borrow.Author.Needs.{needs}
+use Rattle.image.proofs.Staged.{not-whole, too-few, too-many, by-block, header-yes, header-no, no-header}
+use Rattle.image.specs.Answers.{headerAnswer}
+use Rattle.blocks.specs.Decode.{decodeBlock}
+use Rattle.image.proofs.test_header.Statement.{statement}
+use Rattle.image.proofs.test_header.Tie as tie
+
+returns : tie.Need-returns
+returns c = not-whole (c .before .before .args .image .now) (c .if1 .taken)
+
+returns-2 : tie.Need-returns-2
+returns-2 c = too-few (c .before .before .before .args .image .now) (c .if2 .taken)
+
+returns-3 : tie.Need-returns-3
+returns-3 c = too-many (c .before .before .before .before .args .image .now) (c .if3 .taken)
+
+block-at-requires : tie.Need-block-at-requires
+block-at-requires c κs = search needs
+
+read-block-requires : tie.Need-read-block-requires
+read-block-requires c κs = search needs
+
+enum-known-h : tie.Need-enum-known-h
+enum-known-h c = search needs
+
+cast-head-ok : tie.Need-cast-head-ok
+cast-head-ok c = search needs
+
+head-ok-requires : tie.Need-head-ok-requires
+head-ok-requires c κs = search needs
+
+returns-4 : tie.Need-returns-4
+returns-4 c = let x = c .before .before .before .before .before .before .before .before .before .before .before .before .args .image .now in let g = c .before .before .before .h .given in
+    let e = by-block x (c .before .before .before .before .before .before .before .before .before .before .if1 .left) (c .before .before .before .before .before .before .before .before .before .if2 .left) (c .before .before .before .before .before .before .before .before .if3 .left) _ (c .before .before .before .before .before .before .before .block-at .ensures) in
+    header-yes (length x / 512) (decodeBlock (c .before .before .before .before .before .before .before .block-at .result)) (g .0 .0) (sym (g .1) ∙ c .before .before .before .before .before .read-block .ensures) (sym (c .before .head-ok .ensures) ∙ c .if4 .taken) ∙ ap headerAnswer e
+
+returns-5 : tie.Need-returns-5
+returns-5 c = let x = c .before .before .before .before .before .before .before .before .before .before .before .before .args .image .now in let g = c .before .before .before .h .given in
+    let e = by-block x (c .before .before .before .before .before .before .before .before .before .before .if1 .left) (c .before .before .before .before .before .before .before .before .before .if2 .left) (c .before .before .before .before .before .before .before .before .if3 .left) _ (c .before .before .before .before .before .before .before .block-at .ensures) in
+    header-no (length x / 512) (decodeBlock (c .before .before .before .before .before .before .before .block-at .result)) (g .0 .0) (sym (g .1) ∙ c .before .before .before .before .before .read-block .ensures) (sym (c .before .head-ok .ensures) ∙ c .if4 .left) ∙ ap headerAnswer e
+
+returns-6 : tie.Need-returns-6
+returns-6 c = let x = c .before .before .before .before .before .before .before .before .args .image .now in
+    let e = by-block x (c .before .before .before .before .before .before .if1 .left) (c .before .before .before .before .before .if2 .left) (c .before .before .before .before .if3 .left) _ (c .before .before .before .block-at .ensures) in
+    no-header (length x / 512) _ (decodeBlock (c .before .before .before .block-at .result)) (c .before .read-block .ensures) (c .match .keys2) ∙ ap headerAnswer e
+
+pub test-header-spec : {M : Type 1} → statement M
+test-header-spec =
+    tie.close
+    (tie.spec
+    returns
+    returns-2
+    returns-3
+    block-at-requires
+    read-block-requires
+    enum-known-h
+    cast-head-ok
+    head-ok-requires
+    returns-4
+    returns-5
+    returns-6)

@@ -1,0 +1,50 @@
+use mathlib.Core.Path.{sym, _∙_}
+use borrow.Author.Needs.{needs}
+use Rattle.image.proofs.Staged.{passed-is, image-refused, image-stopped, image-holds}
+use Rattle.image.proofs.test_image.Statement.{statement}
+use Rattle.image.proofs.test_image.Tie as tie
+
+test-header-requires : tie.Need-test-header-requires
+test-header-requires c κs = search needs
+
+enum-known-h : tie.Need-enum-known-h
+enum-known-h c = search needs
+
+test-pages-requires : tie.Need-test-pages-requires
+test-pages-requires c κs = let g = c .before .h .given in passed-is (c .before .before .before .before .before .args .image .now) (g .0 .0) (sym (g .1) ∙ c .before .before .before .test-header .ensures)
+
+refused-image-requires : tie.Need-refused-image-requires
+refused-image-requires c κs = search needs
+
+returns : tie.Need-returns
+returns c = let x = c .before .before .before .before .before .before .before .before .before .args .image .now in let g = c .before .before .before .before .before .h .given in
+    let e = passed-is x (g .0 .0) (sym (g .1) ∙ c .before .before .before .before .before .before .before .test-header .ensures) in
+    c .refused-image .ensures ∙ image-stopped x (g .0 .0) e _ (c .before .before .before .test-pages .ensures) (c .before .if1 .taken)
+
+enum-known-n : tie.Need-enum-known-n
+enum-known-n c = search needs
+
+refused-image-requires-2 : tie.Need-refused-image-requires-2
+refused-image-requires-2 c κs = search needs
+
+returns-2 : tie.Need-returns-2
+returns-2 c = let x = c .before .before .before .before .before .before .before .before .before .args .image .now in let g = c .before .before .before .before .before .h .given in
+    let e = passed-is x (g .0 .0) (sym (g .1) ∙ c .before .before .before .before .before .before .before .test-header .ensures) in
+    image-holds x (g .0 .0) e _ (c .before .before .before .test-pages .ensures) (c .before .if1 .left)
+
+returns-3 : tie.Need-returns-3
+returns-3 c = let g = c .before .before .n .given in c .refused-image2 .ensures ∙ image-refused (c .before .before .before .before .before .before .args .image .now) (g .0 .0) (sym (g .1) ∙ c .before .before .before .before .test-header .ensures)
+
+pub test-image-spec : {M : Type 1} → statement M
+test-image-spec =
+    tie.close
+    (tie.spec
+    test-header-requires
+    enum-known-h
+    test-pages-requires
+    refused-image-requires
+    returns
+    enum-known-n
+    refused-image-requires-2
+    returns-2
+    returns-3)

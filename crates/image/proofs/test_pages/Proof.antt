@@ -1,0 +1,115 @@
+use lib.ListN.{length-take}
+use mathlib.Core.Path.{sym, ap, _∙_}
+use borrow.Author.Tests.{not-true, not-false}
+use native.Mathlib.Omega.{arith}
+use borrow.Author.Needs.{needs}
+use Rattle.image.proofs.Staged.{Begun, passing, four, within-none, named, not-read, got, not-ok, in-image, wrong-pages, right-pages}
+use Rattle.image.specs.Answers.{pagesAnswer}
+use Rattle.image.proofs.test_pages.Statement.{statement}
+use Rattle.image.proofs.test_pages.Tie as tie
+
+-- the counts that the tests work with
+begun : (c : tie.After-wide2) → Begun (c .before .before .before .args .image .now) (c .before .before .before .args .h) (c .before .wide .result) (c .wide2 .result)
+begun c = record { passed = passing (c .before .before .before .args .image .now) (c .before .before .before .args .h) (c .before .before .before .pre); pages-are = c .before .wide .ensures; used-are = c .wide2 .ensures }
+
+wide-requires : tie.Need-wide-requires
+wide-requires c κs = search needs
+
+wide-requires-2 : tie.Need-wide-requires-2
+wide-requires-2 c κs = search needs
+
+no-entries-requires : tie.Need-no-entries-requires
+no-entries-requires c κs = search needs
+
+array-share-prefix-directories : tie.Need-array-share-prefix-directories
+array-share-prefix-directories c = four _ _ _ _ (begun (c .before))
+
+slice-aggregate-gather : tie.Need-slice-aggregate-gather
+slice-aggregate-gather c = let k = four _ _ _ _ (begun (c .before .before)) in simp length-take (omega arith)
+
+slice-aggregate-gather-2 : tie.Need-slice-aggregate-gather-2
+slice-aggregate-gather-2 c = search needs
+
+gather-requires : tie.Need-gather-requires
+gather-requires c κs = let b = begun (c .before .before .before) in (named _ _ _ _ b, within-none _ _ _ _ b _ (c .before .before .no-entries .ensures))
+
+refused-pages-requires : tie.Need-refused-pages-requires
+refused-pages-requires c κs = search needs
+
+returns : tie.Need-returns
+returns c = let b = begun (c .before .before .before .before .before .before .before) in let g = c .before .before .before .gather in
+    c .refused-pages .ensures ∙ ap pagesAnswer (sym (not-read _ _ _ _ b _ (g .last .1 .1 .1 .1 .0) (c .before .before .before .before .before .before .no-entries .ensures) (g .result) (g .ensures) (not-true _ (c .before .if1 .taken))))
+
+array-share-prefix-entries : tie.Need-array-share-prefix-entries
+array-share-prefix-entries c = let b = begun (c .before .before .before .before .before .before) in omega (arith, within-none _ _ _ _ b _ (c .before .before .before .before .before .no-entries .ensures), c .before .before .gather .kept .1 .1 .1 .1 .0)
+
+slice-aggregate-entries-ok : tie.Need-slice-aggregate-entries-ok
+slice-aggregate-entries-ok c = let b = begun (c .before .before .before .before .before .before .before) in simp length-take (omega (arith, within-none _ _ _ _ b _ (c .before .before .before .before .before .before .no-entries .ensures), c .before .before .before .gather .kept .1 .1 .1 .1 .0))
+
+array-share-prefix-directories-2 : tie.Need-array-share-prefix-directories-2
+array-share-prefix-directories-2 c = four _ _ _ _ (begun (c .before .before .before .before .before .before .before))
+
+slice-aggregate-entries-ok-2 : tie.Need-slice-aggregate-entries-ok-2
+slice-aggregate-entries-ok-2 c = let k = four _ _ _ _ (begun (c .before .before .before .before .before .before .before .before)) in simp length-take (omega arith)
+
+entries-ok-requires : tie.Need-entries-ok-requires
+entries-ok-requires c κs = search needs
+
+refused-pages-requires-2 : tie.Need-refused-pages-requires-2
+refused-pages-requires-2 c κs = search needs
+
+returns-2 : tie.Need-returns-2
+returns-2 c = let b = begun (c .before .before .before .before .before .before .before .before .before .before .before) in let g = c .before .before .before .before .before .before .before .gather in let o = g .last .1 .1 .1 .1 .0 in let e = c .before .before .before .before .before .before .before .before .before .before .no-entries .ensures in
+    let r = got _ _ _ _ b _ o e (g .result) (g .ensures) (not-false _ (c .before .before .before .before .before .if1 .left)) in
+    c .refused-pages2 .ensures ∙ ap pagesAnswer (sym (not-ok _ _ _ _ b _ o e (g .result) (g .ensures) r _ (c .before .before .entries-ok .ensures) (not-true _ (c .before .if2 .taken))))
+
+array-share-prefix-entries-2 : tie.Need-array-share-prefix-entries-2
+array-share-prefix-entries-2 c = let b = begun (c .before .before .before .before .before .before .before .before .before .before) in omega (arith, within-none _ _ _ _ b _ (c .before .before .before .before .before .before .before .before .before .no-entries .ensures), c .before .before .before .before .before .before .gather .kept .1 .1 .1 .1 .0)
+
+slice-aggregate-pages-ok : tie.Need-slice-aggregate-pages-ok
+slice-aggregate-pages-ok c = let b = begun (c .before .before .before .before .before .before .before .before .before .before .before) in simp length-take (omega (arith, within-none _ _ _ _ b _ (c .before .before .before .before .before .before .before .before .before .before .no-entries .ensures), c .before .before .before .before .before .before .before .gather .kept .1 .1 .1 .1 .0))
+
+pages-ok-requires : tie.Need-pages-ok-requires
+pages-ok-requires c κs = let b = begun (c .before .before .before .before .before .before .before .before .before .before .before) in let g = c .before .before .before .before .before .before .before .gather in let o = g .last .1 .1 .1 .1 .0 in let e = c .before .before .before .before .before .before .before .before .before .before .no-entries .ensures in
+    let r = got _ _ _ _ b _ o e (g .result) (g .ensures) (not-false _ (c .before .before .before .before .before .if1 .left)) in
+    (in-image _ _ _ _ b _ o e (g .result) (g .ensures) r _ (c .before .before .entries-ok .ensures) (not-false _ (c .before .if2 .left)), b .passed .counts .high)
+
+refused-pages-requires-3 : tie.Need-refused-pages-requires-3
+refused-pages-requires-3 c κs = search needs
+
+returns-3 : tie.Need-returns-3
+returns-3 c = let b = begun (c .before .before .before .before .before .before .before .before .before .before .before .before .before .before) in let g = c .before .before .before .before .before .before .before .before .before .before .gather in let o = g .last .1 .1 .1 .1 .0 in let e = c .before .before .before .before .before .before .before .before .before .before .before .before .before .no-entries .ensures in
+    let r = got _ _ _ _ b _ o e (g .result) (g .ensures) (not-false _ (c .before .before .before .before .before .before .before .before .if1 .left)) in
+    c .refused-pages3 .ensures ∙ ap pagesAnswer (sym (wrong-pages _ _ _ _ b _ o e (g .result) (g .ensures) r _ (c .before .before .before .before .before .entries-ok .ensures) (not-false _ (c .before .before .before .before .if2 .left)) _ (c .before .before .pages-ok .ensures) (not-true _ (c .before .if3 .taken))))
+
+returns-4 : tie.Need-returns-4
+returns-4 c = let b = begun (c .before .before .before .before .before .before .before .before .before .before .before .before .before) in let g = c .before .before .before .before .before .before .before .before .before .gather in let o = g .last .1 .1 .1 .1 .0 in let e = c .before .before .before .before .before .before .before .before .before .before .before .before .no-entries .ensures in
+    let r = got _ _ _ _ b _ o e (g .result) (g .ensures) (not-false _ (c .before .before .before .before .before .before .before .if1 .left)) in
+    right-pages _ _ _ _ b _ o e (g .result) (g .ensures) r _ (c .before .before .before .before .entries-ok .ensures) (not-false _ (c .before .before .before .if2 .left)) _ (c .before .pages-ok .ensures) (not-false _ (c .if3 .left))
+
+pub test-pages-spec : {M : Type 1} → statement M
+test-pages-spec =
+    tie.close
+    (tie.spec
+    wide-requires
+    wide-requires-2
+    no-entries-requires
+    array-share-prefix-directories
+    slice-aggregate-gather
+    slice-aggregate-gather-2
+    gather-requires
+    refused-pages-requires
+    returns
+    array-share-prefix-entries
+    slice-aggregate-entries-ok
+    array-share-prefix-directories-2
+    slice-aggregate-entries-ok-2
+    entries-ok-requires
+    refused-pages-requires-2
+    returns-2
+    array-share-prefix-entries-2
+    slice-aggregate-pages-ok
+    pages-ok-requires
+    refused-pages-requires-3
+    returns-3
+    returns-4)

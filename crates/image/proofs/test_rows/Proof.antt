@@ -1,0 +1,153 @@
+use lib.ListN.{length, getD}
+use Prim.Native.Nat.{_-_}
+use mathlib.Core.Path.{_≡_, refl, _∙_}
+use native.Mathlib.Omega.{arith}
+use Rattle.image.proofs.Collect.{Collecting, within, Goods, goods, page-here, tuples-here, collecting-start, collecting-turn, collecting-end, collecting-bad}
+use Rattle.image.specs.View.{view}
+use Rattle.rows.specs.Columns.{rowsIn}
+use Rattle.image.proofs.test_rows.Statement.{statement}
+use Rattle.image.proofs.test_rows.Tie as tie
+
+abbrev Inv-loop : tie.InvT-loop
+Inv-loop image entries h places₀ numbers₀ owners₀ marks₀ level cap i₀ to₀ places numbers owners marks i to = Collecting (view image) h entries i to (rowsIn places numbers owners marks to)
+    × ((length places ≡ length places₀) × ((length numbers ≡ length numbers₀) × ((length owners ≡ length owners₀) × (length marks ≡ length marks₀))))
+
+abbrev μ-loop : tie.MeasureT-loop
+μ-loop image entries h places₀ numbers₀ owners₀ marks₀ level cap i₀ to₀ places numbers owners marks i to = length entries - i
+
+-- the good page of a turn
+found : (c : tie.After-known-told Inv-loop μ-loop)
+    → let k = c .before .before .before .before .before .before .before .before .before .before .before .before .before .before .before .before .before in
+    let p = c .before .before .before .before .before .before .before .before .before .loop in
+    let g = c .before .table .given .0 in
+    Goods (k .args .h .level) (k .args .h .capacity - p .to) (g .0) (g .1 .0) (view (k .args .image .now) (getD (k .args .entries .now) (p .i) 0))
+found c = let a = c .before .before .before .before .before .before .before .before .before .before .before .before .before .before .before .before .before .args in let p = c .before .before .before .before .before .before .before .before .before .loop in let g = c .before .table .given in
+    let e = page-here (a .image .now) (a .entries .now) (p .i) _ _ (c .before .before .before .before .before .block-at .ensures) (c .before .before .before .before .before .before .wide2 .ensures) (a .h .level) (a .h .capacity) _ (p .to) _ (c .before .before .before .before .before .before .before .before .before .before .wide .ensures) (c .before .before .before .good-page .ensures) in
+    goods (a .h .level) (a .h .capacity - p .to) (g .0 .0) (g .0 .1 .0) _ (e ∙ g .1)
+
+wide-requires : tie.Need-wide-requires Inv-loop μ-loop
+wide-requires c κs = omega arith
+
+loop-holds : tie.Need-loop-holds Inv-loop μ-loop
+loop-holds c = let a = c .before .before .before .before .before .before .before .args in
+    (collecting-start (view (a .image .now)) (a .h) (a .entries .now) (a .places .now) (a .numbers .now) (a .owners .now) (a .marks .now), (refl, (refl, (refl, refl))))
+
+mul-wide : tie.Need-mul-wide Inv-loop μ-loop
+mul-wide c = omega arith
+
+shared-slice-read-wide : tie.Need-shared-slice-read-wide Inv-loop μ-loop
+shared-slice-read-wide c = omega arith
+
+wide-requires-2 : tie.Need-wide-requires-2 Inv-loop μ-loop
+wide-requires-2 c κs = omega arith
+
+block-at-requires : tie.Need-block-at-requires Inv-loop μ-loop
+block-at-requires c κs = let a = c .before .before .before .before .before .before .before .before .before .before .before .args in let p = c .before .before .before .loop in omega (arith, within (a .image .now) (a .entries .now) (p .i) (c .before .before .before .before .before .before .before .before .before .before .before .pre .0) (omega arith), c .wide2 .ensures)
+
+sub-good-page : tie.Need-sub-good-page Inv-loop μ-loop
+sub-good-page c = omega arith
+
+good-page-requires : tie.Need-good-page-requires Inv-loop μ-loop
+good-page-requires c κs = omega arith
+
+enum-known-table : tie.Need-enum-known-table Inv-loop μ-loop
+enum-known-table c = omega arith
+
+slice-aggregate-add-rows : tie.Need-slice-aggregate-add-rows Inv-loop μ-loop
+slice-aggregate-add-rows c = omega arith
+
+add-rows-requires : tie.Need-add-rows-requires Inv-loop μ-loop
+add-rows-requires c κs = let g = found (c .before .before .before .before .before) in let k = c .before .before .before .before .before .before .before .before .before .before .before .before .before .before .before .before .before .before .before .before .before .before .pre .1 in let p = c .before .before .before .before .before .before .before .before .before .before .before .before .before .before .loop in let l = p .inv .1 in let r = p .inv .0 .room in let m = g .room-left in
+    (omega (arith, c .before .before .before .before .before .before .before .before .before .before), (omega arith, (omega arith, (omega arith, omega arith))))
+
+wide-requires-3 : tie.Need-wide-requires-3 Inv-loop μ-loop
+wide-requires-3 c κs = omega arith
+
+add-to : tie.Need-add-to Inv-loop μ-loop
+add-to c = let g = found (c .before .before .before .before .before .before .before .before .before .before .before .before .before .before .before) in omega (arith, g .room-left, c .before .before .before .before .before .before .before .before .before .before .before .before .before .before .before .before .before .before .before .before .before .before .before .before .loop .inv .0 .room, c .before .before .before .before .before .before .before .before .before .before .before .before .before .before .before .before .before .before .before .before .before .before .before .before .before .before .before .before .before .before .before .before .pre .1, c .before .before .before .before .before .before .before .before .before .before .before .before .before .before .before .before .before .before .before .before .before .before .before .before .before .before .before .before .before .before .before .before .good, c .wide3 .ensures)
+
+enum-told : tie.Need-enum-told Inv-loop μ-loop
+enum-told c = omega arith
+
+same-length : tie.Need-same-length Inv-loop μ-loop
+same-length c = omega arith
+
+same-length-2 : tie.Need-same-length-2 Inv-loop μ-loop
+same-length-2 c = omega arith
+
+same-length-3 : tie.Need-same-length-3 Inv-loop μ-loop
+same-length-3 c = omega arith
+
+same-length-4 : tie.Need-same-length-4 Inv-loop μ-loop
+same-length-4 c = omega arith
+
+returns : tie.Need-returns Inv-loop μ-loop
+returns c = let a = c .before .before .before .before .before .before .before .before .before .before .before .before .before .before .before .before .args in let p = c .before .before .before .before .before .before .before .before .loop in
+    let e = page-here (a .image .now) (a .entries .now) (p .i) _ _ (c .before .before .before .before .block-at .ensures) (c .before .before .before .before .before .wide2 .ensures) (a .h .level) (a .h .capacity) _ (p .to) _ (c .before .before .before .before .before .before .before .before .before .wide .ensures) (c .before .before .good-page .ensures) in
+    collecting-bad (view (a .image .now)) (a .h) (a .entries .now) (p .i) (p .to) _ (p .inv .0) (omega arith) (e ∙ c .enum-told .given .1)
+
+add-i : tie.Need-add-i Inv-loop μ-loop
+add-i c = omega (arith, c .before .before .before .before .before .before .before .before .before .before .before .before .before .before .before .before .before .before .before .before .before .before .before .before .before .before .before .before .before .before .before .before .good, c .before .before .before .before .before .before .before .before .before .before .before .before .before .before .before .before .before .before .before .before .before .before .before .loop-test)
+
+loop-less : tie.Need-loop-less Inv-loop μ-loop
+loop-less c = omega arith
+
+loop-again : tie.Need-loop-again Inv-loop μ-loop
+loop-again c = let a = c .before .before .before .before .before .before .before .before .before .before .before .before .before .before .before .before .before .before .before .before .before .before .before .before .before .before .before .before .before .before .before .before .args in let p = c .before .before .before .before .before .before .before .before .before .before .before .before .before .before .before .before .before .before .before .before .before .before .before .before .loop in let g = found (c .before .before .before .before .before .before .before .before .before .before .before .before .before .before .before) in let l = p .inv .1 in let d = c .before .before .before .before .before .before .before .before .before .add-rows .kept in let n = c .before .before .before .before .before .before .before .before .before .before .before .before .before .before .before .before .table .given .0 in
+    let r = tuples-here (a .image .now) (a .entries .now) (p .i) _ _ (c .before .before .before .before .before .before .before .before .before .before .before .before .before .before .before .before .before .before .before .before .block-at .ensures) (c .before .before .before .before .before .before .before .before .before .before .before .before .before .before .before .before .before .before .before .before .before .wide2 .ensures) (a .h .level) (a .h .capacity - p .to) (n .0) (n .1 .0) g in
+    let t = collecting-turn (view (a .image .now)) (a .h) (a .entries .now) (p .i) (p .to) _ (p .inv .0) (n .0) (n .1 .0) _ (omega (arith, c .before .before .before .before .before .before .before .before .before .before .before .before .before .before .before .before .before .before .before .before .before .before .before .loop-test)) g (c .before .before .before .before .before .before .before .before .before .add-rows .ensures (g .tuples) r) in
+    (rw (c .wide3 .ensures) t, (d .1 .1 .1 .0 ∙ l .0, (d .1 .1 .1 .1 .0 ∙ l .1 .0, (d .1 .1 .1 .1 .1 .0 ∙ l .1 .1 .0, d .1 .1 .1 .1 .1 .1 .0 ∙ l .1 .1 .1))))
+
+columns-ok-requires : tie.Need-columns-ok-requires Inv-loop μ-loop
+columns-ok-requires c κs = omega arith
+
+same-length-5 : tie.Need-same-length-5 Inv-loop μ-loop
+same-length-5 c = omega arith
+
+same-length-6 : tie.Need-same-length-6 Inv-loop μ-loop
+same-length-6 c = omega arith
+
+same-length-7 : tie.Need-same-length-7 Inv-loop μ-loop
+same-length-7 c = omega arith
+
+same-length-8 : tie.Need-same-length-8 Inv-loop μ-loop
+same-length-8 c = omega arith
+
+returns-2 : tie.Need-returns-2 Inv-loop μ-loop
+returns-2 c = let a = c .before .before .before .before .before .before .before .before .before .before .before .before .before .before .args in let p = c .before .before .before .before .before .before .loop in
+    c .columns-ok .ensures ∙ collecting-end (view (a .image .now)) (a .h) (a .entries .now) (p .i) (p .to) _ (p .inv .0) (omega arith)
+
+pub test-rows-spec : {M : Type 1} → statement M
+test-rows-spec =
+    tie.close
+    (tie.spec
+    Inv-loop
+    μ-loop
+    wide-requires
+    loop-holds
+    mul-wide
+    shared-slice-read-wide
+    wide-requires-2
+    block-at-requires
+    sub-good-page
+    good-page-requires
+    enum-known-table
+    slice-aggregate-add-rows
+    add-rows-requires
+    wide-requires-3
+    add-to
+    enum-told
+    same-length
+    same-length-2
+    same-length-3
+    same-length-4
+    returns
+    add-i
+    loop-less
+    loop-again
+    columns-ok-requires
+    same-length-5
+    same-length-6
+    same-length-7
+    same-length-8
+    returns-2)

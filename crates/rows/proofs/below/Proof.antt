@@ -1,0 +1,62 @@
+use Prim.Native.Nat.{_-_}
+use mathlib.Core.List.{[]}
+use mathlib.Core.Path.{_≡_, sym, ap, _∙_}
+use borrow.Author.Tests.{lt-ltb, le-ltb}
+use native.Mathlib.Omega.{arith}
+use Rattle.rows.proofs.Turns.{tab-turn, tab-end, tab-whole, all-yes, all-not, all-end}
+use Rattle.rows.specs.Columns.{coded, rowAt, rowsIn, tab}
+use Rattle.rows.specs.Rows.{isBelow, number}
+use Rattle.basics.specs.Basics.{all}
+use Rattle.rows.proofs.below.Statement.{statement}
+use Rattle.rows.proofs.below.Tie as tie
+
+abbrev Inv-loop : tie.InvT-loop
+Inv-loop numbers count next i₀ i = all (isBelow next) (rowsIn [] numbers [] [] count) ≡ all (isBelow next) (tab (rowAt [] numbers [] []) i (count - i))
+
+abbrev μ-loop : tie.MeasureT-loop
+μ-loop numbers count next i₀ i = count - i
+
+loop-holds : tie.Need-loop-holds Inv-loop μ-loop
+unfolding rowsIn
+loop-holds c = ap (all (isBelow (c .args .next))) (sym (tab-whole (rowAt [] (c .args .numbers .now) [] []) (c .args .count)))
+
+mul-if1 : tie.Need-mul-if1 Inv-loop μ-loop
+mul-if1 c = omega arith
+
+shared-slice-read-if1 : tie.Need-shared-slice-read-if1 Inv-loop μ-loop
+shared-slice-read-if1 c = omega arith
+
+returns : tie.Need-returns Inv-loop μ-loop
+unfolding rowAt coded isBelow number
+returns c = let s = c .before .before .before .before in let p = c .before .before .before .loop in
+    sym (p .inv ∙ all-not (isBelow (s .args .next)) (tab-turn (rowAt [] (s .args .numbers .now) [] []) (p .i) (s .args .count) (omega arith)) (le-ltb _ _ (c .if1 .taken)))
+
+add-i : tie.Need-add-i Inv-loop μ-loop
+add-i c = omega arith
+
+loop-less : tie.Need-loop-less Inv-loop μ-loop
+loop-less c = omega arith
+
+loop-again : tie.Need-loop-again Inv-loop μ-loop
+unfolding rowAt coded isBelow number
+loop-again c = let s = c .before .before .before .before in let p = c .before .before .before .loop in
+    p .inv ∙ all-yes (isBelow (s .args .next)) (tab-turn (rowAt [] (s .args .numbers .now) [] []) (p .i) (s .args .count) (omega arith)) (lt-ltb _ _ (c .if1 .left))
+
+returns-2 : tie.Need-returns-2 Inv-loop μ-loop
+returns-2 c = let s = c .before .before in let p = c .before .loop in
+    sym (p .inv ∙ all-end (isBelow (s .args .next)) (tab-end (rowAt [] (s .args .numbers .now) [] []) (p .i) (s .args .count) (omega arith)))
+
+pub below-spec : {M : Type 1} → statement M
+below-spec =
+    tie.close
+    (tie.spec
+    Inv-loop
+    μ-loop
+    loop-holds
+    mul-if1
+    shared-slice-read-if1
+    returns
+    add-i
+    loop-less
+    loop-again
+    returns-2)
