@@ -4,24 +4,24 @@ use mathlib.Core.Logic.{⊎-elim}
 use mathlib.Core.Bool.{true, false, not}
 use mathlib.Core.Option.{some}
 use mathlib.Core.List.{List, [], _∷_}
-use Prim.Native.Nat.{ℕ, zero, suc, _+_, _≤_}
+use Prim.Native.Nat.{ℕ, suc, _-_, _≤_}
 use native.Mathlib.Omega.{arith}
 use lib.ListN.{length, drop}
-use lib.Dec.{eqb, leb}
-use borrow.Author.Tests.{leb-true, le-leb}
+use lib.Dec.{leb}
+use borrow.Author.Tests.{le-leb}
 use types.Run.{OneOf}
 use denote.Enum.Declared.{tagOf}
 use Rattle.basics.specs.Basics.{if_then_else_, all, every, isEmpty}
-use Rattle.basics.proofs.Facts.{by, by-option}
 use Rattle.blocks.specs.Tuple.{Tuple}
-use Rattle.blocks.specs.Numbers.{same}
-use Rattle.blocks.specs.Block.{Block, malformed, header, page, directory, encodeBlock}
-use Rattle.blocks.specs.Decode.{kind, spelledBy, readHeader, headerIn, readTuples, pageTable, pageCount, pageLevel, pageOf, pageIn, readEntries, directoryCount, directoryLevel, directoryIn, decodeBlock}
+use Rattle.blocks.specs.Block.{Block, malformed, header, page, directory}
+use Rattle.blocks.specs.Decode.{readTuples, readEntries, decodeBlock}
 use Rattle.blocks.specs.Answers.{reading}
 use Rattle.blocks.specs.declared.Reading.{Reading}
 use Rattle.blocks.proofs.Reading.{the-type}
 use Rattle.blocks.specs.declared.Reading.the-variants.{IsPage}
-use Rattle.blocks.proofs.ReadTuples.{read-length}
+use Rattle.blocks.proofs.Laws.{decode-in-range, decode-entries}
+use Rattle.blocks.proofs.Answering.{answer-page}
+use Rattle.blocks.proofs.Walk.{walk-start}
 use Rattle.rows.specs.Rows.{rowsOf, markOk}
 use Rattle.rows.proofs.Ands.{and-assoc}
 use Rattle.image.specs.Stages.{pageOk}
@@ -32,54 +32,9 @@ use Rattle.image.specs.declared.GoodPage.the-variants.{Good, Bad}
 pub clash {ℓ} : {X : Type ℓ} → _≡_ {A = ℕ} 0 1 → X
 clash z = absurd (omega arith)
 
--- what is read is what is spelled, or malformed
-spelled : {X : Type 0} (xs : List ℕ) (b d : Block) → spelledBy xs b ≡ d → (b ≡ d → X) → (malformed ≡ d → X) → X
-unfolding spelledBy if_then_else_
-spelled xs b d e f g = by (same (encodeBlock b) xs) (λ h. f (rw h at e)) (λ h. g (rw h at e))
-
--- the four readings of a block
-module _ {X : Type 0} (xs : List ℕ) (d : Block)
-    (f : header (readHeader xs) ≡ d → X)
-    (g : (us : List Tuple) → readTuples (pageCount xs) (drop 8 xs) ≡ some us → page (pageTable xs) (pageLevel xs) us ≡ d → X)
-    (h : directoryCount xs ≤ 336 → directory (directoryLevel xs) (readEntries xs 64 (directoryCount xs)) ≡ d → X)
-    (m : malformed ≡ d → X) where
-  page-cases : pageIn xs ≡ d → X
-  unfolding pageIn pageOf
-  page-cases e =
-      by-option (readTuples (pageCount xs) (drop 8 xs))
-      (λ q. m (rw q at e))
-      (λ us q. spelled xs (page (pageTable xs) (pageLevel xs) us) d (rw q at e) (g us q) m)
-
-  directory-cases : directoryIn xs ≡ d → X
-  unfolding directoryIn if_then_else_
-  directory-cases e =
-      by (leb (directoryCount xs) 336)
-      (λ l. spelled xs (directory (directoryLevel xs) (readEntries xs 64 (directoryCount xs))) d (rw l at e) (h (leb-true (directoryCount xs) 336 l)) m)
-      (λ l. m (rw l at e))
-
-  cases : decodeBlock xs ≡ d → X
-  unfolding decodeBlock headerIn if_then_else_
-  cases e =
-      by (eqb (kind xs) 1)
-      (λ a. spelled xs (header (readHeader xs)) d (rw a at e) f m)
-      (λ a. by (eqb (kind xs) 2)
-      (λ b. page-cases (rw (a, b) at e))
-      (λ b. by (eqb (kind xs) 3) (λ c. directory-cases (rw (a, b, c) at e)) (λ c. m (rw (a, b, c) at e))))
-
 -- the tuples of a page are those that are read from its block
 pub page-tuples : (xs : List ℕ) (t k : ℕ) (ts : List Tuple) → decodeBlock xs ≡ page t k ts → readTuples (length ts) (drop 8 xs) ≡ some ts
-page-tuples xs t k ts e =
-    cases xs (page t k ts)
-    (λ p. let c : _≡_ {A = ℕ} 0 1 = cc in clash c)
-    (λ us q p. let u : us ≡ ts = cc in rw (← u, read-length (pageCount xs) (drop 8 xs) us q) q)
-    (λ l p. let c : _≡_ {A = ℕ} 0 1 = cc in clash c)
-    (λ p. let c : _≡_ {A = ℕ} 0 1 = cc in clash c)
-    e
-
-length-entries : (xs : List ℕ) (at n : ℕ) → length (readEntries xs at n) ≡ n
-unfolding readEntries
-length-entries xs at zero = refl
-length-entries xs at (suc n) = ap suc (length-entries xs (at + 12) n)
+page-tuples xs t k ts e = let z : length ts - 0 ≡ length ts = omega arith in rw z at (walk-start xs t k ts e .rest)
 
 pub record Entries (xs es : List ℕ) : Type 0 where
   pub most : length es ≤ 336
@@ -88,15 +43,8 @@ pub record Entries (xs es : List ℕ) : Type 0 where
 -- the entries of a directory are those that are read from its block
 pub directory-entries : (xs : List ℕ) (k : ℕ) (es : List ℕ) → decodeBlock xs ≡ directory k es → Entries xs es
 directory-entries xs k es e =
-    cases xs (directory k es)
-    (λ p. let c : _≡_ {A = ℕ} 0 1 = cc in clash c)
-    (λ us q p. let c : _≡_ {A = ℕ} 0 1 = cc in clash c)
-    (λ l p.
-    let u : readEntries xs 64 (directoryCount xs) ≡ es = cc in
-    let n : length es ≡ directoryCount xs = ap length (sym u) ∙ length-entries xs 64 (directoryCount xs) in
-    record { most = omega arith; read = rw n u })
-    (λ p. let c : _≡_ {A = ℕ} 0 1 = cc in clash c)
-    e
+    let range = decode-in-range xs (directory k es) e (λ m. clash cc) in
+    record { most = range .count; read = decode-entries xs k es e }
 
 -- ---- a good page
 
@@ -110,13 +58,10 @@ module _ (t n k : ℕ) where
 
   -- a page that was read
   pub is-page : (xs : List ℕ) (b : Block) → decodeBlock xs ≡ b → IsPage t n k ≡ reading b → Passed xs b
-  unfolding reading
-  is-page xs malformed q e = let c : _≡_ {A = ℕ} 0 1 = cc in clash c
-  is-page xs (header h) q e = let c : _≡_ {A = ℕ} 0 1 = cc in clash c
-  is-page xs (page u j ts) q e =
-      let et : t ≡ u = cc in let ek : k ≡ j = cc in let en : n ≡ length ts = cc in
-      record { tuples = ts; block = rw (et, ek); count = sym en; read = rw en (page-tuples xs u j ts q) }
-  is-page xs (directory j es) q e = let c : _≡_ {A = ℕ} 0 1 = cc in clash c
+  is-page xs b q e =
+      let p = answer-page b t n k (sym e) in
+      let read = page-tuples xs t k (p .tuples) (q ∙ p .is) in
+      record { tuples = p .tuples; block = p .is; count = p .count; read = subst (λ m. readTuples m (drop 8 xs) ≡ some (p .tuples)) (p .count) read }
 
 -- the reading is one of some variants, by their numbers
 abbrev pub OneOfThese : List ℕ → Reading → Type 0

@@ -104,10 +104,14 @@ fn page(out: &mut [u8], at: usize, image: &[u8], e: u32) -> usize {
     }
 }
 
-fn pages(out: &mut [u8], at: usize, image: &[u8], entries: &[u32]) -> usize {
+// The pages in the first count of the blocks.
+fn pages(out: &mut [u8], at: usize, image: &[u8], blocks: [u32; 1024], count: u32) -> usize {
     let mut to = at;
-    for i in 0..entries.len() {
-        to = page(out, to, image, entries[i]);
+    for i in 0..1024usize {
+        if count as usize <= i {
+            return to;
+        }
+        to = page(out, to, image, blocks[i]);
     }
     to
 }
@@ -124,11 +128,7 @@ pub fn list(image: &[u8], out: &mut [u8]) -> usize {
     let h = found.header;
     let to = store_line(out, 0, h.level, h.next, h.pages);
     let entries = found.entries;
-    let count = h.pages as usize;
-    if count <= 1024 {
-        return pages(out, to, image, &entries[..count]);
-    }
-    to
+    pages(out, to, image, entries, h.pages)
 }
 
 fn print_first(out: &[u8], len: usize) {

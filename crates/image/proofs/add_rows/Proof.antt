@@ -66,7 +66,7 @@ loop-less c = omega arith
 loop-again : tie.Need-loop-again Inv-loop μ-loop
 loop-again c = let a = c .before .before .before .before .before .before .before .before .before .before .before .before .before .before .before .before .before .before .before .before .before .before .before .before .args in let p = c .before .before .before .before .before .before .before .before .before .before .before .before .before .before .before .before .before .before .loop in let g = c .before .before .before .before .before .before .before .before .before .before .before .before .before .before .r .given in let l = p .inv .1 .1 .1 .0 in let k = p .inv .1 .1 .1 .1 in let d = c .before .before .before .before .before .before .before .before .put-row .kept in
     let room : p .at ≤ length (a .block .now) = omega (arith, c .before .before .before .before .before .before .before .before .before .before .before .before .before .before .before .before .before .before .before .before .before .before .before .before .pre .0, p .inv .1 .0) in
-    let f = found-is (a .block .now) (p .at) (g .0 .0) (g .0 .1 .0) room (sym (g .1) ∙ c .before .before .before .before .before .before .before .before .before .before .before .before .before .before .before .before .next .ensures) in
+    let f = found-is (a .block .now) (p .at) room (sym (g .1) ∙ c .before .before .before .before .before .before .before .before .before .before .before .before .before .before .before .before .next .ensures) in
     let h : p .i < a .count = omega (arith, c .before .before .before .before .before .before .before .before .before .before .before .before .before .before .before .before .before .loop-test) in (
       omega arith,
       (

@@ -34,7 +34,7 @@ mark-ok-requires c κs = omega arith
 
 returns : tie.Need-returns Inv-loop μ-loop
 returns c = let a = c .before .before .before .before .before .before .before .before .before .args in let p = c .before .before .before .before .before .before .before .loop in let g = c .before .before .before .r .given in
-    let f = found-is (a .block .now) (p .at) (g .0 .0) (g .0 .1 .0) (omega arith) (sym (g .1) ∙ c .before .before .before .before .before .next .ensures) in
+    let f = found-is (a .block .now) (p .at) (omega arith) (sym (g .1) ∙ c .before .before .before .before .before .next .ensures) in
     λ t ts e. sym (p .inv .1 .1 t ts e .1 ∙ mark-wrong (a .block .now) (a .count) (p .at) (p .i) ts (omega arith) (p .inv .1 .1 t ts e .0) (g .0 .0) (g .0 .1 .0) f t _ (c .before .mark-ok .ensures) (not-true _ (c .if1 .taken)))
 
 enum-told : tie.Need-enum-told Inv-loop μ-loop
@@ -54,7 +54,7 @@ loop-less c = omega arith
 loop-again : tie.Need-loop-again Inv-loop μ-loop
 loop-again c = let a = c .before .before .before .before .before .before .before .before .before .args in let p = c .before .before .before .before .before .before .before .loop in let g = c .before .before .before .r .given in let k = p .inv .1 .1 in
     let h : p .i < a .count = omega arith in
-    let f = found-is (a .block .now) (p .at) (g .0 .0) (g .0 .1 .0) (omega arith) (sym (g .1) ∙ c .before .before .before .before .before .next .ensures) in (
+    let f = found-is (a .block .now) (p .at) (omega arith) (sym (g .1) ∙ c .before .before .before .before .before .next .ensures) in (
       omega arith,
       (
         omega (arith, f .ends),
