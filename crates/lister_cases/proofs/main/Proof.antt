@@ -1,3 +1,4 @@
+-- `main` ends after 59 turns.
 use native.Mathlib.Omega.{arith}
 use Prim.Native.Nat.{_≤_, _-_}
 use Rattle.lister_cases.proofs.main.Statement.{statement}

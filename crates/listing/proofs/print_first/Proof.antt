@@ -1,3 +1,4 @@
+-- `print_first` writes a part of the lent buffer.
 use lib.ListN.{length-take}
 use native.Mathlib.Omega.{arith}
 use borrow.Author.Needs.{needs}
