@@ -1,6 +1,6 @@
 // What any bytes are as an image: recovery's tests but that of the memory.
 ghost use mathlib.Core.Path.{_≡_};
-ghost use mathlib.Core.Bool.{Bool, true, not};
+ghost use mathlib.Core.Bool.{true, not};
 ghost use mathlib.Core.Option.{some};
 ghost use mathlib.Core.List.{List, [], _∷_, _++_, map};
 ghost use Prim.Native.Nat.{ℕ, _+_, _*_, _<_, _≤_, min};
@@ -9,13 +9,12 @@ ghost use Rattle.basics.specs.Basics.{all, isIn};
 ghost use Rattle.bits.specs.Bits.{over};
 ghost use Rattle.blocks.specs.Limits.{entriesPerBlock};
 ghost use Rattle.blocks.specs.Tuple.{Tuple};
-ghost use Rattle.blocks.specs.Spell.{zeros};
 ghost use Rattle.blocks.specs.Decode.{readOwner, readTuples, decodeBlock};
 ghost use Rattle.blocks.specs.Bytes.{tupleOf};
-ghost use Rattle.rows.specs.Rows.{Row, rowsOf, markOk};
+ghost use Rattle.rows.specs.Rows.{rowsOf, markOk};
 ghost use Rattle.rows.specs.Columns.{codedOwner, rowsIn, bare};
-ghost use Rattle.image.specs.View.{View, view, blockAt, blockCount};
-ghost use Rattle.image.specs.Stages.{refuses, holds, blockOk, isZero, headerOk, addEntries, readDirectories, entriesOk, directoriesFor, pageTest};
+ghost use Rattle.image.specs.View.{view, blockAt, blockCount};
+ghost use Rattle.image.specs.Stages.{refuses, holds, blockOk, isZero, headerOk, addEntries, readDirectories, entriesOk, pageTest};
 ghost use Rattle.image.specs.Whole.{headerStage, pagesStage, readImage};
 ghost use Rattle.image.specs.Answers.{countsOk, Filled, goodPage, accepts, noEntries, headerAnswer, pagesAnswer, imageAnswer};
 

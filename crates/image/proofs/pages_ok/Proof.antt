@@ -15,10 +15,14 @@ slice-aggregate-test-rows-4 : tie.Need-slice-aggregate-test-rows-4
 slice-aggregate-test-rows-4 c = refl
 
 test-rows-requires : tie.Need-test-rows-requires
-test-rows-requires c κs = let p = c .before .before .before .before .before .before .pre in (p .0, (p .1, (p .1, (p .1, p .1))))
+test-rows-requires c κs =
+    let p6 = c .before .before .before .before .before .before in
+    let p = p6 .pre in (p .0, (p .1, (p .1, (p .1, p .1))))
 
 returns : tie.Need-returns
-returns c = c .before .before .before .before .test-rows .ensures
+returns c =
+    let p4 = c .before .before .before .before in
+    p4 .test-rows .ensures
 
 pub pages-ok-spec : {M : Type 1} → statement M
 pages-ok-spec =

@@ -35,7 +35,9 @@ loop-less c = omega arith
 
 loop-again : tie.Need-loop-again Inv-loop μ-loop
 unfolding rowsIn
-loop-again c = let s = c .before .before .before .before .before in let p = c .before .before .before .loop in
+loop-again c =
+    let p3 = c .before .before .before in let p5 = p3 .before .before in
+    let s = p5 in let p = p3 .loop in
     let g = rowAt [] [] (s .args .owners .now) [] in
     let t = tab-turn g (p .i) (s .args .count) (omega arith) in
     let e = ap (isLast (g (p .i))) (sym (tab-left g (s .args .count) (p .i + 1))) ∙ sym (c .before .is-last .ensures) in
@@ -45,7 +47,9 @@ loop-again c = let s = c .before .before .before .before .before in let p = c .b
     (c .if1 .came)
 
 returns : tie.Need-returns Inv-loop μ-loop
-returns c = let s = c .before .before .before in let p = c .before .loop in
+returns c =
+    let p3 = c .before .before .before in
+    let s = p3 in let p = c .before .loop in
     let h = none-open (tab-end (rowAt [] [] (s .args .owners .now) []) (p .i) (s .args .count) (omega arith)) in
     omega (arith, p .inv .1 .1)
 
