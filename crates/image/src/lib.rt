@@ -43,12 +43,14 @@ pub enum GoodPage {
     Bad,
 }
 
+// The same number, as a size.
 fn wide(x: u32) -> usize
     ensures { λ r. ⌜ r ≡ x ⌝ }
 {
     x as usize
 }
 
+// The same number, as a block number.
 fn number(x: u16) -> u32
     ensures { λ r. ⌜ r ≡ x ⌝ }
 {
@@ -75,6 +77,7 @@ fn block_ok(n: u32, b: u32) -> bool
     false
 }
 
+// Each may be named in an image of n blocks.
 fn in_blocks(s: &[u32], n: u32) -> bool
     ensures { λ r. ⌜ r ≡ all (blockOk n) (now (s .entry)) ⌝ }
 {
@@ -88,6 +91,7 @@ fn in_blocks(s: &[u32], n: u32) -> bool
     true
 }
 
+// Each is 0.
 fn all_zero(s: &[u32]) -> bool
     ensures { λ r. ⌜ r ≡ all isZero (now (s .entry)) ⌝ }
 {
@@ -460,6 +464,7 @@ fn no_entries() -> [u32; 1024]
     [0u32; 1024]
 }
 
+// A refusal by its number.
 fn refused_pages(n: u64) -> PagesTest
     ensures { λ r. ⌜ r ≡ pagesAnswer (refuses n) ⌝ }
 {
@@ -494,6 +499,7 @@ pub fn test_pages(image: &[u8], h: blocks::Header) -> PagesTest
     }
 }
 
+// A refusal by its number.
 fn refused_image(n: u64) -> ImageTest
     ensures { λ r. ⌜ r ≡ imageAnswer (refuses n) ⌝ }
 {

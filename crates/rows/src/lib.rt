@@ -72,6 +72,7 @@ fn written(numbers: &[u32], owners: &[u64], count: usize, t: u64, n: u32) -> usi
     k
 }
 
+// The statement of the tuple at a place is how many its transaction wrote before.
 fn statement_ok(numbers: &[u32], owners: &[u64], count: usize, i: usize) -> bool
     requires { ⌜ (i < count) × ((count ≤ length (now numbers)) × (count ≤ length (now owners))) ⌝ }
     ensures { λ r. ⌜ r ≡ statementOk (rowsIn [] (now (numbers .entry)) (now (owners .entry)) [] count) (rowAt [] (now (numbers .entry)) (now (owners .entry)) [] i) ⌝ }

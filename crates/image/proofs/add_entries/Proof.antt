@@ -28,7 +28,8 @@ returns-2 c =
     let p4 = c .before .before .before .before in let p6 = p4 .before .before in let p8 = p6 .before .before in
     let a = p8 .args in let g = p4 .count .given in
     let r = is-directory (g .0 .0) (g .0 .1 .0) (a .block .now) _ refl (sym (g .1) ∙ p6 .read-block .ensures) in
-    not-put _ (a .at) (a .out .now) _ (other-count (a .level) (a .left) (some []) (g .0 .0) (g .0 .1 .0) (a .block .now) _ r (λ e. c .if2 .taken (e ∙ sym (c .before .due .ensures))))
+    not-put _ (a .at) (a .out .now) _ (other-count (a .level) (a .left) (some []) (g .0 .0) (g .0 .1 .0) (a .block .now) _ r
+    (λ e. c .if2 .taken (e ∙ sym (c .before .due .ensures))))
 
 read-entries-requires : tie.Need-read-entries-requires
 read-entries-requires c κs = search needs
@@ -48,7 +49,8 @@ returns-3 c =
     let p10 = p8 .before .before in let p12 = p10 .before .before in let p14 = p12 .before .before in
     let a = p14 .args in let g = p10 .count .given in
     let r = is-directory (g .0 .0) (g .0 .1 .0) (a .block .now) _ refl (sym (g .1) ∙ p12 .read-block .ensures) in
-    entries-put (a .level) (a .left) (some []) (g .0 .0) (g .0 .1 .0) (a .block .now) _ r (a .at) (a .out .now) _ _ (p8 .if1 .left) (p6 .if2 .left ∙ p7 .due .ensures) (p5 .read-entries .ensures) (p2 .put-entries .ensures) refl
+    entries-put (a .level) (a .left) (some []) (g .0 .0) (g .0 .1 .0) (a .block .now) _ r (a .at) (a .out .now) _ _ (p8 .if1 .left)
+    (p6 .if2 .left ∙ p7 .due .ensures) (p5 .read-entries .ensures) (p2 .put-entries .ensures) refl
 
 returns-4 : tie.Need-returns-4
 returns-4 c =

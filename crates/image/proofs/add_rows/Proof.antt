@@ -15,8 +15,11 @@ use Rattle.image.proofs.add_rows.Statement.{statement}
 use Rattle.image.proofs.add_rows.Tie as tie
 
 abbrev Inv-loop : tie.InvT-loop
-Inv-loop block table count places₀ numbers₀ owners₀ marks₀ k at₀ i₀ to₀ places numbers owners marks at i to = (i ≤ count) × ((at ≤ 512) × ((to ≡ k + i) × (((length places ≡ length places₀) × ((length numbers ≡ length numbers₀) × ((length owners ≡ length owners₀) × (length marks ≡ length marks₀))))
-    × ((ts : List Tuple) → readTuples count (drop 8 block) ≡ some ts → Left block count at i ts × (rowsIn places numbers owners marks to ≡ rowsIn places₀ numbers₀ owners₀ marks₀ k ++ map bare (rowsOf table (take i ts)))))))
+Inv-loop block table count places₀ numbers₀ owners₀ marks₀ k at₀ i₀ to₀ places numbers owners marks at i to = (i ≤ count) ×
+    ((at ≤ 512) × ((to ≡ k + i) × (((length places ≡ length places₀) ×
+    ((length numbers ≡ length numbers₀) × ((length owners ≡ length owners₀) × (length marks ≡ length marks₀))))
+    × ((ts : List Tuple) → readTuples count (drop 8 block) ≡ some ts → Left block count at i ts ×
+    (rowsIn places numbers owners marks to ≡ rowsIn places₀ numbers₀ owners₀ marks₀ k ++ map bare (rowsOf table (take i ts)))))))
 
 abbrev μ-loop : tie.MeasureT-loop
 μ-loop block table count places₀ numbers₀ owners₀ marks₀ k at₀ i₀ to₀ places numbers owners marks at i to = count - i
@@ -86,8 +89,11 @@ loop-again c =
           (
             (d .0 ∙ l .0, (d .1 .0 ∙ l .1 .0, (d .1 .1 .0 ∙ l .1 .1 .0, d .1 .1 .1 .0 ∙ l .1 .1 .1))),
             λ ts e.
-                let t = turn (a .block .now) (a .count) (p .at) (p .i) ts h (k ts e .0) (g .0 .0) (g .0 .1 .0) f in
-                (t .left, row-next (a .table) (p .i) ts (rowsIn (a .places .now) (a .numbers .now) (a .owners .now) (a .marks .now) (a .k)) _ (k ts e .1) _ (g .0 .0) (payloadIn (a .block .now) (g .0 .0)) (drop (p .i + 1) ts) (t .first) (p8 .put-row .ensures)),
+                let t = turn (a .block .now) (a .count) (p .at) (p .i) ts h (k ts e .0) (g .0 .0) (g .0 .1 .0) f in (
+                  t .left,
+                  row-next (a .table) (p .i) ts (rowsIn (a .places .now) (a .numbers .now) (a .owners .now) (a .marks .now) (a .k)) _ (k ts e .1) _ (g .0 .0)
+                      (payloadIn (a .block .now) (g .0 .0)) (drop (p .i + 1) ts) (t .first) (p8 .put-row .ensures),
+                ),
           ),
         ),
       ),
@@ -110,7 +116,8 @@ returns-2 c =
     let p7 = c .before .before .before .before .before .before .before in
     let a = p7 .args in let p = c .before .loop in
     let e : a .k + a .count ≡ p .to = omega (arith, p .inv .1 .1 .0, p .inv .0, c .loop-test) in
-    λ ts h. rw e (row-last (a .table) (p .i) ts (rowsIn (a .places .now) (a .numbers .now) (a .owners .now) (a .marks .now) (a .k)) _ (p .inv .1 .1 .1 .1 ts h .1) (left-end (a .block .now) (a .count) (p .at) (p .i) ts (omega arith) (p .inv .1 .1 .1 .1 ts h .0)))
+    λ ts h. rw e (row-last (a .table) (p .i) ts (rowsIn (a .places .now) (a .numbers .now) (a .owners .now) (a .marks .now) (a .k)) _ (p .inv .1 .1 .1 .1 ts h .1)
+    (left-end (a .block .now) (a .count) (p .at) (p .i) ts (omega arith) (p .inv .1 .1 .1 .1 ts h .0)))
 
 pub add-rows-spec : {M : Type 1} → statement M
 add-rows-spec =

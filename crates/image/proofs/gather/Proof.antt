@@ -50,7 +50,8 @@ returns c =
     let a = p14 .args in let p = p10 .loop in
     let e = seen (a .image .now) (a .directories .now) (p .i) _ _ (p6 .block-at .ensures) (p7 .wide .ensures) in
     let f = filled-there _ _ e (a .level) (a .pages - p .at) (p .at) (p .out) _ _ (p3 .add-entries .ensures) in
-    gathering-stop (view (a .image .now)) (a .level) (a .pages) (a .directories .now) (a .out .now) (p .i) (p .at) (p .out) (p .inv .0) _ _ _ (omega (arith, p9 .loop-test)) (not-true _ (c .if1 .taken)) f
+    gathering-stop (view (a .image .now)) (a .level) (a .pages) (a .directories .now) (a .out .now) (p .i) (p .at) (p .out) (p .inv .0) _ _ _
+    (omega (arith, p9 .loop-test)) (not-true _ (c .if1 .taken)) f
 
 due-requires : tie.Need-due-requires Inv-loop μ-loop
 due-requires c κs = omega arith
@@ -71,7 +72,8 @@ loop-again c =
     let a = p15 .args in let p = p11 .loop in
     let e = seen (a .image .now) (a .directories .now) (p .i) _ _ (p7 .block-at .ensures) (p8 .wide .ensures) in
     let f = filled-there _ _ e (a .level) (a .pages - p .at) (p .at) (p .out) _ _ (p4 .add-entries .ensures) in
-    let t = gathering-turn (view (a .image .now)) (a .level) (a .pages) (a .directories .now) (a .out .now) (p .i) (p .at) (p .out) (p .inv .0) _ _ (omega (arith, p10 .loop-test)) (p15 .pre .1) (not-false _ (c .before .if1 .left)) f in
+    let t = gathering-turn (view (a .image .now)) (a .level) (a .pages) (a .directories .now) (a .out .now) (p .i) (p .at) (p .out) (p .inv .0) _ _
+    (omega (arith, p10 .loop-test)) (p15 .pre .1) (not-false _ (c .before .if1 .left)) f in
     (rw (c .due .ensures) t, p4 .add-entries .kept .1 .1 .1 .0 ∙ p .inv .1)
 
 same-length-2 : tie.Need-same-length-2 Inv-loop μ-loop

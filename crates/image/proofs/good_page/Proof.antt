@@ -69,7 +69,8 @@ returns-6 c =
     let a = p12 .args in let g = p9 .table .given .0 in
     let p = is-page (g .0) (g .1 .0) (g .1 .1 .0) (a .block .now) _ refl (sym (p9 .table .given .1) ∙ p11 .read-block .ensures) in
     let m = sym (c .before .marks-ok .ensures (g .0) (p .tuples) (p .read)) ∙ not-false _ (c .if5 .left) in
-    good-yes (a .level) (a .room) (g .0) (g .1 .0) (g .1 .1 .0) (a .block .now) _ p (rw (le-leb 1 (g .1 .0) (omega arith), le-leb 1 (g .1 .1 .0) (omega arith), le-leb (g .1 .1 .0) (a .level) (omega arith), le-leb (g .1 .0) (a .room) (omega arith), m))
+    good-yes (a .level) (a .room) (g .0) (g .1 .0) (g .1 .1 .0) (a .block .now) _ p
+    (rw (le-leb 1 (g .1 .0) (omega arith), le-leb 1 (g .1 .1 .0) (omega arith), le-leb (g .1 .1 .0) (a .level) (omega arith), le-leb (g .1 .0) (a .room) (omega arith), m))
 
 returns-7 : tie.Need-returns-7
 returns-7 c =

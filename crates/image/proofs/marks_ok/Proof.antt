@@ -15,7 +15,8 @@ use Rattle.image.proofs.marks_ok.Statement.{statement}
 use Rattle.image.proofs.marks_ok.Tie as tie
 
 abbrev Inv-loop : tie.InvT-loop
-Inv-loop block count at₀ i₀ at i = (i ≤ count) × ((at ≤ 512) × ((t : ℕ) (ts : List Tuple) → readTuples count (drop 8 block) ≡ some ts → Left block count at i ts × (all markOk (rowsOf t ts) ≡ all markOk (rowsOf t (drop i ts)))))
+Inv-loop block count at₀ i₀ at i = (i ≤ count) × ((at ≤ 512) ×
+    ((t : ℕ) (ts : List Tuple) → readTuples count (drop 8 block) ≡ some ts → Left block count at i ts × (all markOk (rowsOf t ts) ≡ all markOk (rowsOf t (drop i ts)))))
 
 abbrev μ-loop : tie.MeasureT-loop
 μ-loop block count at₀ i₀ at i = count - i
@@ -37,7 +38,8 @@ returns c =
     let p3 = c .before .before .before in let p5 = p3 .before .before in let p7 = p5 .before .before in let p9 = p7 .before .before in
     let a = p9 .args in let p = p7 .loop in let g = p3 .r .given in
     let f = found-is (a .block .now) (p .at) (g .0 .0) (g .0 .1 .0) (omega arith) (sym (g .1) ∙ p5 .next .ensures) in
-    λ t ts e. sym (p .inv .1 .1 t ts e .1 ∙ mark-wrong (a .block .now) (a .count) (p .at) (p .i) ts (omega arith) (p .inv .1 .1 t ts e .0) (g .0 .0) (g .0 .1 .0) f t _ (c .before .mark-ok .ensures) (not-true _ (c .if1 .taken)))
+    λ t ts e. sym (p .inv .1 .1 t ts e .1 ∙ mark-wrong (a .block .now) (a .count) (p .at) (p .i) ts (omega arith) (p .inv .1 .1 t ts e .0) (g .0 .0) (g .0 .1 .0) f t
+    _ (c .before .mark-ok .ensures) (not-true _ (c .if1 .taken)))
 
 enum-told : tie.Need-enum-told Inv-loop μ-loop
 enum-told c = omega arith
@@ -66,7 +68,8 @@ loop-again c =
         omega (arith, f .ends),
         λ t ts e. (
           turn (a .block .now) (a .count) (p .at) (p .i) ts h (k t ts e .0) (g .0 .0) (g .0 .1 .0) f .left,
-          k t ts e .1 ∙ mark-right (a .block .now) (a .count) (p .at) (p .i) ts h (k t ts e .0) (g .0 .0) (g .0 .1 .0) f t _ (c .before .mark-ok .ensures) (not-false _ (c .if1 .left)),
+          k t ts e .1 ∙ mark-right (a .block .now) (a .count) (p .at) (p .i) ts h (k t ts e .0) (g .0 .0) (g .0 .1 .0) f t _ (c .before .mark-ok .ensures)
+              (not-false _ (c .if1 .left)),
         ),
       ),
     )

@@ -51,7 +51,8 @@ loop-again c =
       omega arith,
       (
         length-set (p .out) (a .at + p .i) (c .number .result) ∙ p .inv .1 .0,
-        ap (λ (o : List ℕ). set o (a .at + p .i) (c .number .result)) (p .inv .1 .1) ∙ put-turn (a .out .now) (a .entries .now) (a .at) (p .i) (c .number .result) (omega arith) (omega arith) (c .number .ensures),
+        ap (λ (o : List ℕ). set o (a .at + p .i) (c .number .result)) (p .inv .1 .1) ∙ put-turn (a .out .now) (a .entries .now) (a .at) (p .i) (c .number .result)
+            (omega arith) (omega arith) (c .number .ensures),
       ),
     )
 
@@ -61,7 +62,8 @@ same-length c = omega arith
 returns : tie.Need-returns Inv-loop μ-loop
 returns c =
     let p4 = c .before .before .before .before in
-    let a = p4 .args in let p = c .before .loop in let e : p .i ≡ a .count = omega arith in p .inv .1 .1 ∙ ap (λ (k : ℕ). over (a .out .now) (a .at) (take k (a .entries .now))) e
+    let a = p4 .args in let p = c .before .loop in let e : p .i ≡ a .count = omega arith in p .inv .1 .1 ∙ ap
+    (λ (k : ℕ). over (a .out .now) (a .at) (take k (a .entries .now))) e
 
 pub put-entries-spec : {M : Type 1} → statement M
 put-entries-spec =

@@ -44,7 +44,8 @@ returns-4 c =
     let p10 = p9 .before in let p12 = p10 .before .before in
     let x = p12 .args .image .now in let g = p3 .h .given in
     let e = by-block x (p10 .if1 .left) (p9 .if2 .left) (p8 .if3 .left) _ (p7 .block-at .ensures) in
-    header-yes (length x / 512) (decodeBlock (p7 .block-at .result)) (g .0 .0) (sym (g .1) ∙ p5 .read-block .ensures) (sym (c .before .head-ok .ensures) ∙ c .if4 .taken) ∙ ap headerAnswer e
+    header-yes (length x / 512) (decodeBlock (p7 .block-at .result)) (g .0 .0) (sym (g .1) ∙ p5 .read-block .ensures)
+    (sym (c .before .head-ok .ensures) ∙ c .if4 .taken) ∙ ap headerAnswer e
 
 returns-5 : tie.Need-returns-5
 returns-5 c =
@@ -52,7 +53,8 @@ returns-5 c =
     let p10 = p9 .before in let p12 = p10 .before .before in
     let x = p12 .args .image .now in let g = p3 .h .given in
     let e = by-block x (p10 .if1 .left) (p9 .if2 .left) (p8 .if3 .left) _ (p7 .block-at .ensures) in
-    header-no (length x / 512) (decodeBlock (p7 .block-at .result)) (g .0 .0) (sym (g .1) ∙ p5 .read-block .ensures) (sym (c .before .head-ok .ensures) ∙ c .if4 .left) ∙ ap headerAnswer e
+    header-no (length x / 512) (decodeBlock (p7 .block-at .result)) (g .0 .0) (sym (g .1) ∙ p5 .read-block .ensures)
+    (sym (c .before .head-ok .ensures) ∙ c .if4 .left) ∙ ap headerAnswer e
 
 returns-6 : tie.Need-returns-6
 returns-6 c =

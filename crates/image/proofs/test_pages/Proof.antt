@@ -46,7 +46,8 @@ returns : tie.Need-returns
 returns c =
     let p3 = c .before .before .before in let p6 = p3 .before .before .before in let p7 = p6 .before in
     let b = begun p7 in let g = p3 .gather in
-    c .refused-pages .ensures ∙ ap pagesAnswer (sym (not-read _ _ _ _ b _ (g .last .1 .1 .1 .1 .0) (p6 .no-entries .ensures) (g .result) (g .ensures) (not-true _ (c .before .if1 .taken))))
+    c .refused-pages .ensures ∙ ap pagesAnswer (sym (not-read _ _ _ _ b _ (g .last .1 .1 .1 .1 .0) (p6 .no-entries .ensures) (g .result) (g .ensures)
+    (not-true _ (c .before .if1 .taken))))
 
 array-share-prefix-entries : tie.Need-array-share-prefix-entries
 array-share-prefix-entries c =
@@ -109,7 +110,8 @@ returns-3 c =
     let p10 = p8 .before .before in let p13 = p10 .before .before .before in let p14 = p13 .before in
     let b = begun p14 in let g = p10 .gather in let o = g .last .1 .1 .1 .1 .0 in let e = p13 .no-entries .ensures in
     let r = got _ _ _ _ b _ o e (g .result) (g .ensures) (not-false _ (p8 .if1 .left)) in
-    c .refused-pages3 .ensures ∙ ap pagesAnswer (sym (wrong-pages _ _ _ _ b _ o e (g .result) (g .ensures) r _ (p5 .entries-ok .ensures) (not-false _ (p4 .if2 .left)) _ (p2 .pages-ok .ensures) (not-true _ (c .before .if3 .taken))))
+    c .refused-pages3 .ensures ∙ ap pagesAnswer (sym (wrong-pages _ _ _ _ b _ o e (g .result) (g .ensures) r _ (p5 .entries-ok .ensures)
+    (not-false _ (p4 .if2 .left)) _ (p2 .pages-ok .ensures) (not-true _ (c .before .if3 .taken))))
 
 returns-4 : tie.Need-returns-4
 returns-4 c =
@@ -117,7 +119,8 @@ returns-4 c =
     let p12 = p9 .before .before .before in let p13 = p12 .before in
     let b = begun p13 in let g = p9 .gather in let o = g .last .1 .1 .1 .1 .0 in let e = p12 .no-entries .ensures in
     let r = got _ _ _ _ b _ o e (g .result) (g .ensures) (not-false _ (p7 .if1 .left)) in
-    right-pages _ _ _ _ b _ o e (g .result) (g .ensures) r _ (p4 .entries-ok .ensures) (not-false _ (p3 .if2 .left)) _ (c .before .pages-ok .ensures) (not-false _ (c .if3 .left))
+    right-pages _ _ _ _ b _ o e (g .result) (g .ensures) r _ (p4 .entries-ok .ensures) (not-false _ (p3 .if2 .left)) _ (c .before .pages-ok .ensures)
+    (not-false _ (c .if3 .left))
 
 pub test-pages-spec : {M : Type 1} → statement M
 test-pages-spec =

@@ -9,7 +9,8 @@ use Rattle.image.proofs.test_rows.Statement.{statement}
 use Rattle.image.proofs.test_rows.Tie as tie
 
 abbrev Inv-loop : tie.InvT-loop
-Inv-loop image entries h places₀ numbers₀ owners₀ marks₀ level cap i₀ to₀ places numbers owners marks i to = Collecting (view image) h entries i to (rowsIn places numbers owners marks to)
+Inv-loop image entries h places₀ numbers₀ owners₀ marks₀ level cap i₀ to₀ places numbers owners marks i to = Collecting (view image) h entries i to
+    (rowsIn places numbers owners marks to)
     × ((length places ≡ length places₀) × ((length numbers ≡ length numbers₀) × ((length owners ≡ length owners₀) × (length marks ≡ length marks₀))))
 
 abbrev μ-loop : tie.MeasureT-loop
@@ -25,7 +26,8 @@ found c =
     let p3 = c .before .before .before in let p5 = p3 .before .before in let p6 = p5 .before in let p9 = p6 .before .before .before in
     let p10 = p9 .before in let p17 = p10 .before .before .before .before .before .before .before in
     let a = p17 .args in let p = p9 .loop in let g = c .before .table .given in
-    let e = page-here (a .image .now) (a .entries .now) (p .i) _ _ (p5 .block-at .ensures) (p6 .wide2 .ensures) (a .h .level) (a .h .capacity) _ (p .to) _ (p10 .wide .ensures) (p3 .good-page .ensures) in
+    let e = page-here (a .image .now) (a .entries .now) (p .i) _ _ (p5 .block-at .ensures) (p6 .wide2 .ensures) (a .h .level) (a .h .capacity) _ (p .to) _
+    (p10 .wide .ensures) (p3 .good-page .ensures) in
     goods (a .h .level) (a .h .capacity - p .to) (g .0 .0) (g .0 .1 .0) _ (e ∙ g .1)
 
 wide-requires : tie.Need-wide-requires Inv-loop μ-loop
@@ -100,7 +102,8 @@ returns c =
     let p2 = c .before .before in let p4 = p2 .before .before in let p5 = p4 .before in let p8 = p5 .before .before .before in let p9 = p8 .before in
     let p16 = p9 .before .before .before .before .before .before .before in
     let a = p16 .args in let p = p8 .loop in
-    let e = page-here (a .image .now) (a .entries .now) (p .i) _ _ (p4 .block-at .ensures) (p5 .wide2 .ensures) (a .h .level) (a .h .capacity) _ (p .to) _ (p9 .wide .ensures) (p2 .good-page .ensures) in
+    let e = page-here (a .image .now) (a .entries .now) (p .i) _ _ (p4 .block-at .ensures) (p5 .wide2 .ensures) (a .h .level) (a .h .capacity) _ (p .to) _
+    (p9 .wide .ensures) (p2 .good-page .ensures) in
     collecting-bad (view (a .image .now)) (a .h) (a .entries .now) (p .i) (p .to) _ (p .inv .0) (omega arith) (e ∙ c .enum-told .given .1)
 
 add-i : tie.Need-add-i Inv-loop μ-loop
@@ -118,8 +121,10 @@ loop-again c =
     let p16 = p15 .before in let p20 = p16 .before .before .before .before in let p21 = p20 .before in let p23 = p21 .before .before in
     let p24 = p23 .before in let p32 = p24 .before .before .before .before .before .before .before .before in
     let a = p32 .args in let p = p24 .loop in let g = found p15 in let l = p .inv .1 in let d = p9 .add-rows .kept in let n = p16 .table .given .0 in
-    let r = tuples-here (a .image .now) (a .entries .now) (p .i) _ _ (p20 .block-at .ensures) (p21 .wide2 .ensures) (a .h .level) (a .h .capacity - p .to) (n .0) (n .1 .0) g in
-    let t = collecting-turn (view (a .image .now)) (a .h) (a .entries .now) (p .i) (p .to) _ (p .inv .0) (n .0) (n .1 .0) _ (omega (arith, p23 .loop-test)) g (p9 .add-rows .ensures (g .tuples) r) in
+    let r = tuples-here (a .image .now) (a .entries .now) (p .i) _ _ (p20 .block-at .ensures) (p21 .wide2 .ensures) (a .h .level) (a .h .capacity - p .to) (n .0)
+    (n .1 .0) g in
+    let t = collecting-turn (view (a .image .now)) (a .h) (a .entries .now) (p .i) (p .to) _ (p .inv .0) (n .0) (n .1 .0) _ (omega (arith, p23 .loop-test)) g
+    (p9 .add-rows .ensures (g .tuples) r) in
     (rw (c .wide3 .ensures) t, (d .1 .1 .1 .0 ∙ l .0, (d .1 .1 .1 .1 .0 ∙ l .1 .0, (d .1 .1 .1 .1 .1 .0 ∙ l .1 .1 .0, d .1 .1 .1 .1 .1 .1 .0 ∙ l .1 .1 .1))))
 
 columns-ok-requires : tie.Need-columns-ok-requires Inv-loop μ-loop

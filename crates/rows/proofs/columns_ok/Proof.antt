@@ -17,7 +17,8 @@ returns : tie.Need-returns
 returns c =
     let p6 = c .before .before .before .before .before .before in
     let a = p6 .args in
-    sym (columns-tests (a .places .now) (a .numbers .now) (a .owners .now) (a .marks .now) (a .count) (p6 .pre .1 .0) (a .next) ∙ rw (sym (c .before .rising .ensures) ∙ not-true _ (c .if1 .taken)))
+    sym (columns-tests (a .places .now) (a .numbers .now) (a .owners .now) (a .marks .now) (a .count) (p6 .pre .1 .0) (a .next) ∙ rw
+    (sym (c .before .rising .ensures) ∙ not-true _ (c .if1 .taken)))
 
 slice-aggregate-distinct : tie.Need-slice-aggregate-distinct
 slice-aggregate-distinct c = simp length-take (omega arith)
@@ -29,7 +30,8 @@ returns-2 : tie.Need-returns-2
 returns-2 c =
     let p9 = c .before .before .before .before .before .before .before .before .before in
     let a = p9 .args in
-    sym (columns-tests (a .places .now) (a .numbers .now) (a .owners .now) (a .marks .now) (a .count) (p9 .pre .1 .0) (a .next) ∙ rw (sym (c .before .distinct .ensures) ∙ not-true _ (c .if2 .taken), and-no))
+    sym (columns-tests (a .places .now) (a .numbers .now) (a .owners .now) (a .marks .now) (a .count) (p9 .pre .1 .0) (a .next) ∙ rw
+    (sym (c .before .distinct .ensures) ∙ not-true _ (c .if2 .taken), and-no))
 
 below-requires : tie.Need-below-requires
 below-requires c κs = search needs
@@ -38,7 +40,8 @@ returns-3 : tie.Need-returns-3
 returns-3 c =
     let p11 = c .before .before .before .before .before .before .before .before .before .before .before in
     let a = p11 .args in
-    sym (columns-tests (a .places .now) (a .numbers .now) (a .owners .now) (a .marks .now) (a .count) (p11 .pre .1 .0) (a .next) ∙ rw (sym (c .before .below .ensures) ∙ not-true _ (c .if3 .taken), and-no, and-no))
+    sym (columns-tests (a .places .now) (a .numbers .now) (a .owners .now) (a .marks .now) (a .count) (p11 .pre .1 .0) (a .next) ∙ rw
+    (sym (c .before .below .ensures) ∙ not-true _ (c .if3 .taken), and-no, and-no))
 
 transactions-requires : tie.Need-transactions-requires
 transactions-requires c κs = search needs
@@ -47,7 +50,8 @@ returns-4 : tie.Need-returns-4
 returns-4 c =
     let p13 = c .before .before .before .before .before .before .before .before .before .before .before .before .before in
     let a = p13 .args in
-    sym (columns-tests (a .places .now) (a .numbers .now) (a .owners .now) (a .marks .now) (a .count) (p13 .pre .1 .0) (a .next) ∙ rw (← c .before .transactions .ensures, lt-leb _ _ (c .if4 .taken), and-no, and-no, and-no))
+    sym (columns-tests (a .places .now) (a .numbers .now) (a .owners .now) (a .marks .now) (a .count) (p13 .pre .1 .0) (a .next) ∙ rw
+    (← c .before .transactions .ensures, lt-leb _ _ (c .if4 .taken), and-no, and-no, and-no))
 
 statements-requires : tie.Need-statements-requires
 statements-requires c κs = search needs
@@ -60,7 +64,8 @@ returns-5 c =
     let r = sym (p9 .rising .ensures) ∙ not-false _ (p8 .if1 .left) in
     let d = sym (p6 .distinct .ensures) ∙ not-false _ (p5 .if2 .left) in
     let b = sym (p4 .below .ensures) ∙ not-false _ (p3 .if3 .left) in
-    sym (columns-tests (a .places .now) (a .numbers .now) (a .owners .now) (a .marks .now) (a .count) (p14 .pre .1 .0) (a .next) ∙ rw (r, d, b, ← p2 .transactions .ensures, le-leb _ _ (c .before .if4 .left), c .statements .ensures))
+    sym (columns-tests (a .places .now) (a .numbers .now) (a .owners .now) (a .marks .now) (a .count) (p14 .pre .1 .0) (a .next) ∙ rw
+    (r, d, b, ← p2 .transactions .ensures, le-leb _ _ (c .before .if4 .left), c .statements .ensures))
 
 pub columns-ok-spec : {M : Type 1} → statement M
 columns-ok-spec =

@@ -34,7 +34,8 @@ unfolding rowAt coded isOwn
 returns c =
     let p4 = c .before .before .before .before in let p6 = p4 .before .before in
     let s = p6 in let p = p4 .loop in
-    sym (p .inv ∙ any-yes (isOwn (s .args .t)) (tab-turn (rowAt [] [] (s .args .owners .now) []) (p .i) (s .args .count) (omega arith)) (sym (c .before .is-own .ensures) ∙ c .if1 .taken))
+    sym (p .inv ∙ any-yes (isOwn (s .args .t)) (tab-turn (rowAt [] [] (s .args .owners .now) []) (p .i) (s .args .count) (omega arith))
+    (sym (c .before .is-own .ensures) ∙ c .if1 .taken))
 
 add-i : tie.Need-add-i Inv-loop μ-loop
 add-i c = omega arith
@@ -47,7 +48,8 @@ unfolding rowAt coded isOwn
 loop-again c =
     let p4 = c .before .before .before .before in let p6 = p4 .before .before in
     let s = p6 in let p = p4 .loop in
-    p .inv ∙ any-not (isOwn (s .args .t)) (tab-turn (rowAt [] [] (s .args .owners .now) []) (p .i) (s .args .count) (omega arith)) (sym (c .before .is-own .ensures) ∙ c .if1 .left)
+    p .inv ∙ any-not (isOwn (s .args .t)) (tab-turn (rowAt [] [] (s .args .owners .now) []) (p .i) (s .args .count) (omega arith))
+    (sym (c .before .is-own .ensures) ∙ c .if1 .left)
 
 returns-2 : tie.Need-returns-2 Inv-loop μ-loop
 returns-2 c =

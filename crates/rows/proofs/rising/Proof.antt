@@ -12,7 +12,9 @@ use Rattle.rows.proofs.rising.Statement.{statement}
 use Rattle.rows.proofs.rising.Tie as tie
 
 abbrev Inv-loop : tie.InvT-loop
-Inv-loop places numbers owners marks count i₀ i = (1 ≤ i) × ((i ≤ count) × ((paired follows (rowsIn places numbers owners marks count) && startsWell (rowsIn places numbers owners marks count)) ≡ paired follows (tab (rowAt places numbers owners marks) (i - 1) (count - (i - 1)))))
+Inv-loop places numbers owners marks count i₀ i = (1 ≤ i) × ((i ≤ count) ×
+    ((paired follows (rowsIn places numbers owners marks count) && startsWell (rowsIn places numbers owners marks count)) ≡ paired follows
+    (tab (rowAt places numbers owners marks) (i - 1) (count - (i - 1)))))
 
 abbrev μ-loop : tie.MeasureT-loop
 μ-loop places numbers owners marks count i₀ i = count - i
@@ -102,8 +104,14 @@ loop-again c =
     let a = p18 .args in let p = p10 .loop in
     let g = rowAt (a .places .now) (a .numbers .now) (a .owners .now) (a .marks .now) in
     let d = follows-unmarked (a .places .now) (a .numbers .now) (a .owners .now) (a .marks .now) (p .i - 1) (p .i) in
-    let e : p .i + 1 - 1 ≡ p .i = omega arith in
-    (omega arith, (omega arith, p .inv .1 .1 ∙ rw e (pair-turn follows g (p .i) (a .count) (p .inv .0) (omega arith) (sym d ∙ sym (c .before .follows .ensures) ∙ not-false _ (c .if3 .left)))))
+    let e : p .i + 1 - 1 ≡ p .i = omega arith in (
+      omega arith,
+      (
+        omega arith,
+        p .inv .1 .1 ∙ rw e (pair-turn follows g (p .i) (a .count) (p .inv .0) (omega arith)
+            (sym d ∙ sym (c .before .follows .ensures) ∙ not-false _ (c .if3 .left))),
+      ),
+    )
 
 returns-4 : tie.Need-returns-4 Inv-loop μ-loop
 returns-4 c =

@@ -11,7 +11,8 @@ use Rattle.rows.proofs.statements.Statement.{statement}
 use Rattle.rows.proofs.statements.Tie as tie
 
 abbrev Inv-loop : tie.InvT-loop
-Inv-loop numbers owners count i₀ i = all (statementOk (rowsIn [] numbers owners [] count)) (rowsIn [] numbers owners [] count) ≡ all (statementOk (rowsIn [] numbers owners [] count)) (tab (rowAt [] numbers owners []) i (count - i))
+Inv-loop numbers owners count i₀ i = all (statementOk (rowsIn [] numbers owners [] count)) (rowsIn [] numbers owners [] count) ≡ all
+    (statementOk (rowsIn [] numbers owners [] count)) (tab (rowAt [] numbers owners []) i (count - i))
 
 abbrev μ-loop : tie.MeasureT-loop
 μ-loop numbers owners count i₀ i = count - i
@@ -30,7 +31,8 @@ returns : tie.Need-returns Inv-loop μ-loop
 returns c =
     let p3 = c .before .before .before in let p6 = p3 .before .before .before in
     let s = p6 in let p = p3 .loop in let g = rowAt [] (s .args .numbers .now) (s .args .owners .now) [] in
-    sym (p .inv ∙ all-not (statementOk (rowsIn [] (s .args .numbers .now) (s .args .owners .now) [] (s .args .count))) (tab-turn g (p .i) (s .args .count) (omega arith)) (sym (c .before .statement-ok .ensures) ∙ not-true _ (c .if1 .taken)))
+    sym (p .inv ∙ all-not (statementOk (rowsIn [] (s .args .numbers .now) (s .args .owners .now) [] (s .args .count)))
+    (tab-turn g (p .i) (s .args .count) (omega arith)) (sym (c .before .statement-ok .ensures) ∙ not-true _ (c .if1 .taken)))
 
 add-i : tie.Need-add-i Inv-loop μ-loop
 add-i c = omega arith
@@ -42,7 +44,8 @@ loop-again : tie.Need-loop-again Inv-loop μ-loop
 loop-again c =
     let p3 = c .before .before .before in let p6 = p3 .before .before .before in
     let s = p6 in let p = p3 .loop in let g = rowAt [] (s .args .numbers .now) (s .args .owners .now) [] in
-    p .inv ∙ all-yes (statementOk (rowsIn [] (s .args .numbers .now) (s .args .owners .now) [] (s .args .count))) (tab-turn g (p .i) (s .args .count) (omega arith)) (sym (c .before .statement-ok .ensures) ∙ not-false _ (c .if1 .left))
+    p .inv ∙ all-yes (statementOk (rowsIn [] (s .args .numbers .now) (s .args .owners .now) [] (s .args .count))) (tab-turn g (p .i) (s .args .count) (omega arith))
+    (sym (c .before .statement-ok .ensures) ∙ not-false _ (c .if1 .left))
 
 returns-2 : tie.Need-returns-2 Inv-loop μ-loop
 returns-2 c =

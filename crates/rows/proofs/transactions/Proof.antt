@@ -12,7 +12,8 @@ use Rattle.rows.proofs.transactions.Statement.{statement}
 use Rattle.rows.proofs.transactions.Tie as tie
 
 abbrev Inv-loop : tie.InvT-loop
-Inv-loop owners count k₀ i₀ k i = (i ≤ count) × ((k ≤ i) × (k + length (transactions (tab (rowAt [] [] owners []) i (count - i))) ≡ length (transactions (rowsIn [] [] owners [] count))))
+Inv-loop owners count k₀ i₀ k i = (i ≤ count) × ((k ≤ i) × (k + length (transactions (tab (rowAt [] [] owners []) i (count - i))) ≡ length
+    (transactions (rowsIn [] [] owners [] count))))
 
 abbrev μ-loop : tie.MeasureT-loop
 μ-loop owners count k₀ i₀ k i = count - i

@@ -11,7 +11,8 @@ use Rattle.rows.proofs.written.Statement.{statement}
 use Rattle.rows.proofs.written.Tie as tie
 
 abbrev Inv-loop : tie.InvT-loop
-Inv-loop numbers owners count t n k₀ i₀ k i = (i ≤ count) × ((k ≤ i) × (k + howMany (earlierBy t n) (tab (rowAt [] numbers owners []) i (count - i)) ≡ howMany (earlierBy t n) (rowsIn [] numbers owners [] count)))
+Inv-loop numbers owners count t n k₀ i₀ k i = (i ≤ count) × ((k ≤ i) ×
+    (k + howMany (earlierBy t n) (tab (rowAt [] numbers owners []) i (count - i)) ≡ howMany (earlierBy t n) (rowsIn [] numbers owners [] count)))
 
 abbrev μ-loop : tie.MeasureT-loop
 μ-loop numbers owners count t n k₀ i₀ k i = count - i
