@@ -225,7 +225,8 @@ module _ (v : View) (h : Header) (es : List ℕ) where
         let q : readPages v (h .level) es ≡ some (a .done) = a .rest ∙ rw (drop-end es i l) (ap some (append-nil (a .done))) in
         let r : length (rowsOfPages (a .done)) ≤ h .capacity = omega (arith, a .count, a .room) in
         let t = rows-tests (h .capacity) (h .next) (rowsOfPages (a .done)) in
-        let c : columnsOk (h .next) columns ≡ columnsOk (h .next) (rowsOfPages (a .done)) = ap (columnsOk (h .next)) (a .rows) ∙ columns-bare (h .next) (rowsOfPages (a .done)) in
+        let c : columnsOk (h .next) columns ≡ columnsOk (h .next) (rowsOfPages (a .done)) = ap (columnsOk (h .next)) (a .rows) ∙ columns-bare (h .next)
+        (rowsOfPages (a .done)) in
         c ∙ sym (rw (q, t, le-leb (length (rowsOfPages (a .done))) (h .capacity) r, a .marks, and-yes) (accepted (columnsOk (h .next) (rowsOfPages (a .done))) (a .done)))
 
   -- no page list that passes

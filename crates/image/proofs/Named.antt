@@ -116,7 +116,8 @@ module _ (l p k : ℕ) (fs : List ℕ) where
       (λ t. let z : some (fs ++ []) ≡ none = rw t at e in never (sym z))
       (λ t. rw t)
 
-  directory-some : (es : List ℕ) → addEntries l p (directory k fs) (some []) ≡ some es → (length es ≡ min 336 p) × ((more : Option (List ℕ)) → addEntries l p (directory k fs) more ≡ Option·map (λ gs. es ++ gs) more)
+  directory-some : (es : List ℕ) → addEntries l p (directory k fs) (some []) ≡ some es
+      → (length es ≡ min 336 p) × ((more : Option (List ℕ)) → addEntries l p (directory k fs) more ≡ Option·map (λ gs. es ++ gs) more)
   unfolding addEntries if_then_else_
   directory-some es e =
       by (eqb k l && eqb (length fs) (min 336 p))
@@ -172,7 +173,8 @@ module _ (v : View) (l pages : ℕ) (ds out₀ : List ℕ) where
   }
 
   module _ (i at : ℕ) (out : List ℕ) (a : Gathering i at out) where
-    next : i < length ds → readDirectories v l (pages - at) (drop i ds) ≡ addEntries l (pages - at) (v (getD ds i 0)) (readDirectories v l (pages - at - 336) (drop (i + 1) ds))
+    next : i < length ds → readDirectories v l (pages - at) (drop i ds)
+        ≡ addEntries l (pages - at) (v (getD ds i 0)) (readDirectories v l (pages - at - 336) (drop (i + 1) ds))
     unfolding readDirectories
     next h = ap (readDirectories v l (pages - at)) (drop-turn ds i h)
 
@@ -186,7 +188,8 @@ module _ (v : View) (l pages : ℕ) (ds out₀ : List ℕ) where
         let ro = a .room in
         let y : at ≡ 0 + at = omega arith in
         let z : pages - at - 336 ≡ pages - (at + min 336 (pages - at)) = omega arith in
-        let q : readDirectories v l (pages - at) (drop i ds) ≡ Option·map (λ es. p .entries ++ es) (readDirectories v l (pages - (at + min 336 (pages - at))) (drop (i + 1) ds)) =
+        let q : readDirectories v l (pages - at) (drop i ds) ≡ Option·map (λ es. p .entries ++ es)
+        (readDirectories v l (pages - (at + min 336 (pages - at))) (drop (i + 1) ds)) =
         next h ∙ s .1 (readDirectories v l (pages - at - 336) (drop (i + 1) ds)) ∙ rw z in
         record {
           done = a .done ++ p .entries;
@@ -194,7 +197,8 @@ module _ (v : View) (l pages : ℕ) (ds out₀ : List ℕ) where
           room = omega arith;
           put = p .put ∙ ap (λ (o : List ℕ). over o at (p .entries)) (a .put) ∙ ap (λ (k : ℕ). over (over out₀ 0 (a .done)) k (p .entries)) y
               ∙ over-then out₀ (a .done) (p .entries) 0 at (sym (a .count)) (omega (arith, a .count));
-          rest = a .rest ∙ ap (Option·map (λ es. a .done ++ es)) q ∙ map-twice (a .done) (p .entries) (readDirectories v l (pages - (at + min 336 (pages - at))) (drop (i + 1) ds));
+          rest = a .rest ∙ ap (Option·map (λ es. a .done ++ es)) q ∙ map-twice (a .done) (p .entries)
+              (readDirectories v l (pages - (at + min 336 (pages - at))) (drop (i + 1) ds));
         }
 
     pub gathering-stop : (out′ out″ : List ℕ) (r : Bool) → i < length ds → r ≡ false

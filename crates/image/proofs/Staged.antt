@@ -199,7 +199,8 @@ module _ (v : View) (h : Header) where
       unfolding pageTest
       bad-pages q = by-pages ∙ pages-refused (readPages v (h .level) es) q
 
-      pages-accepted : (o : Option (List StoredPage)) → readPages v (h .level) es ≡ o → accepts (testedPages h o) ≡ true → pagesAnswer (testedPages h o) ≡ record { refusal = 0; entries = over noEntries 0 es }
+      pages-accepted : (o : Option (List StoredPage)) → readPages v (h .level) es ≡ o → accepts (testedPages h o) ≡ true
+          → pagesAnswer (testedPages h o) ≡ record { refusal = 0; entries = over noEntries 0 es }
       unfolding accepts testedPages pagesAnswer entriesIn if_then_else_
       pages-accepted none r q = lie q
       pages-accepted (some ps) r q =

@@ -46,12 +46,14 @@ goodPage l room (header h) = Bad
 goodPage l room (page t k ts) = if every (pageOk l k ts ∷ leb (length ts) room ∷ all markOk (rowsOf t ts) ∷ []) then Good t (length ts) else Bad
 goodPage l room (directory k es) = Bad
 
+-- the stage passed
 unfoldable pub accepts : {A : Type 0} → Stage A → Bool
 accepts (refuses n) = false
 accepts (holds a) = true
 
 -- ---- the answers
 
+-- the answer of tests 1 and 22
 unfoldable pub headerAnswer : Stage Header → HeaderTest
 headerAnswer (refuses n) = Refused n
 headerAnswer (holds h) = Passed h
@@ -64,13 +66,16 @@ noEntries = zeros 1024
 unfoldable pub entriesIn : List StoredPage → List ℕ
 entriesIn ps = over noEntries 0 (map (λ p. p .block) ps)
 
+-- the answer of tests 23 and 24: refusal 0 says that they passed
 unfoldable pub pagesAnswer : Stage (List StoredPage) → PagesTest
 pagesAnswer (refuses n) = record { refusal = n; entries = noEntries }
 pagesAnswer (holds ps) = record { refusal = 0; entries = entriesIn ps }
 
+-- in the place of a header
 abbrev pub noHeader : Header
 noHeader = record { blocks = 0; capacity = 0; level = 0; next = 0; pages = 0; directories = 0; d0 = 0; d1 = 0; d2 = 0; d3 = 0 }
 
+-- the answer of all tests
 unfoldable pub imageAnswer : Stage Contents → ImageTest
 imageAnswer (refuses n) = record { refusal = n; header = noHeader; entries = noEntries }
 imageAnswer (holds c) = record { refusal = 0; header = c .header; entries = entriesIn (c .pages) }

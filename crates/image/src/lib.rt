@@ -1,6 +1,6 @@
 // What any bytes are as an image: recovery's tests but that of the memory.
 ghost use mathlib.Core.Path.{_≡_};
-ghost use mathlib.Core.Bool.{Bool, true, not};
+ghost use mathlib.Core.Bool.{true, not};
 ghost use mathlib.Core.Option.{some};
 ghost use mathlib.Core.List.{List, [], _∷_, _++_, map};
 ghost use Prim.Native.Nat.{ℕ, _+_, _*_, _<_, _≤_, min};
@@ -9,13 +9,12 @@ ghost use Rattle.basics.specs.Basics.{all, isIn};
 ghost use Rattle.bits.specs.Bits.{over};
 ghost use Rattle.blocks.specs.Limits.{entriesPerBlock};
 ghost use Rattle.blocks.specs.Tuple.{Tuple};
-ghost use Rattle.blocks.specs.Spell.{zeros};
 ghost use Rattle.blocks.specs.Decode.{readOwner, readTuples, decodeBlock};
 ghost use Rattle.blocks.specs.Bytes.{tupleOf};
-ghost use Rattle.rows.specs.Rows.{Row, rowsOf, markOk};
+ghost use Rattle.rows.specs.Rows.{rowsOf, markOk};
 ghost use Rattle.rows.specs.Columns.{codedOwner, rowsIn, bare};
-ghost use Rattle.image.specs.View.{View, view, blockAt, blockCount};
-ghost use Rattle.image.specs.Stages.{refuses, holds, blockOk, isZero, headerOk, addEntries, readDirectories, entriesOk, directoriesFor, pageTest};
+ghost use Rattle.image.specs.View.{view, blockAt, blockCount};
+ghost use Rattle.image.specs.Stages.{refuses, holds, blockOk, isZero, headerOk, addEntries, readDirectories, entriesOk, pageTest};
 ghost use Rattle.image.specs.Whole.{headerStage, pagesStage, readImage};
 ghost use Rattle.image.specs.Answers.{countsOk, Filled, goodPage, accepts, noEntries, headerAnswer, pagesAnswer, imageAnswer};
 
@@ -44,12 +43,14 @@ pub enum GoodPage {
     Bad,
 }
 
+// The same number, as a size.
 fn wide(x: u32) -> usize
     ensures { λ r. ⌜ r ≡ x ⌝ }
 {
     x as usize
 }
 
+// The same number, as a block number.
 fn number(x: u16) -> u32
     ensures { λ r. ⌜ r ≡ x ⌝ }
 {
@@ -76,6 +77,7 @@ fn block_ok(n: u32, b: u32) -> bool
     false
 }
 
+// Each may be named in an image of n blocks.
 fn in_blocks(s: &[u32], n: u32) -> bool
     ensures { λ r. ⌜ r ≡ all (blockOk n) (now (s .entry)) ⌝ }
 {
@@ -89,6 +91,7 @@ fn in_blocks(s: &[u32], n: u32) -> bool
     true
 }
 
+// Each is 0.
 fn all_zero(s: &[u32]) -> bool
     ensures { λ r. ⌜ r ≡ all isZero (now (s .entry)) ⌝ }
 {
@@ -461,6 +464,7 @@ fn no_entries() -> [u32; 1024]
     [0u32; 1024]
 }
 
+// A refusal by its number.
 fn refused_pages(n: u64) -> PagesTest
     ensures { λ r. ⌜ r ≡ pagesAnswer (refuses n) ⌝ }
 {
@@ -495,6 +499,7 @@ pub fn test_pages(image: &[u8], h: blocks::Header) -> PagesTest
     }
 }
 
+// A refusal by its number.
 fn refused_image(n: u64) -> ImageTest
     ensures { λ r. ⌜ r ≡ imageAnswer (refuses n) ⌝ }
 {

@@ -1,8 +1,8 @@
 // The tests over all tuples of an image, on columns: one number of each tuple in each.
 ghost use mathlib.Core.Path.{_≡_};
 ghost use mathlib.Core.Bool.{_&&_};
-ghost use mathlib.Core.List.{List, [], _∷_, map};
-ghost use Prim.Native.Nat.{ℕ, _+_, _<_, _≤_};
+ghost use mathlib.Core.List.{[]};
+ghost use Prim.Native.Nat.{_+_, _<_, _≤_};
 ghost use lib.ListN.{length, drop};
 ghost use Rattle.basics.specs.Basics.{any, all, paired, howMany, isIn, distinct};
 ghost use Rattle.rows.specs.Rows.{isOwn, earlierBy, statementOk, follows, startsWell, isBelow, transactions};
@@ -72,6 +72,7 @@ fn written(numbers: &[u32], owners: &[u64], count: usize, t: u64, n: u32) -> usi
     k
 }
 
+// The statement of the tuple at a place is how many its transaction wrote before.
 fn statement_ok(numbers: &[u32], owners: &[u64], count: usize, i: usize) -> bool
     requires { ⌜ (i < count) × ((count ≤ length (now numbers)) × (count ≤ length (now owners))) ⌝ }
     ensures { λ r. ⌜ r ≡ statementOk (rowsIn [] (now (numbers .entry)) (now (owners .entry)) [] count) (rowAt [] (now (numbers .entry)) (now (owners .entry)) [] i) ⌝ }

@@ -26,7 +26,9 @@ shared-slice-read-if1 c = omega arith
 
 returns : tie.Need-returns Inv-loop μ-loop
 unfolding isZero
-returns c = let s = c .before .before .before .before in let p = c .before .before .before .loop in
+returns c =
+    let p3 = c .before .before .before in let p4 = p3 .before in
+    let s = p4 in let p = p3 .loop in
     sym (p .inv ∙ all-not isZero (drop-turn (s .args .s .now) (p .i) (omega arith)) (ne-eqb _ _ (c .if1 .taken)))
 
 add-i : tie.Need-add-i Inv-loop μ-loop
@@ -37,11 +39,15 @@ loop-less c = omega arith
 
 loop-again : tie.Need-loop-again Inv-loop μ-loop
 unfolding isZero
-loop-again c = let s = c .before .before .before .before in let p = c .before .before .before .loop in
+loop-again c =
+    let p3 = c .before .before .before in let p4 = p3 .before in
+    let s = p4 in let p = p3 .loop in
     p .inv ∙ all-yes isZero (drop-turn (s .args .s .now) (p .i) (omega arith)) (eq-eqb _ _ (c .if1 .left))
 
 returns-2 : tie.Need-returns-2 Inv-loop μ-loop
-returns-2 c = let s = c .before .before in let p = c .before .loop in sym (p .inv ∙ all-end isZero (drop-end (s .args .s .now) (p .i) (omega arith)))
+returns-2 c =
+    let p2 = c .before .before in
+    let s = p2 in let p = c .before .loop in sym (p .inv ∙ all-end isZero (drop-end (s .args .s .now) (p .i) (omega arith)))
 
 pub all-zero-spec : {M : Type 1} → statement M
 all-zero-spec =

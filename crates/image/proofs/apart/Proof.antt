@@ -27,7 +27,9 @@ is-in-requires : tie.Need-is-in-requires Inv-loop μ-loop
 is-in-requires c κs = tt
 
 returns : tie.Need-returns Inv-loop μ-loop
-returns c = let s = c .before .before .before .before .before .before .before in let p = c .before .before .before .before .loop in let f : ℕ → Bool = λ e. not (isIn e (s .args .t .now)) in
+returns c =
+    let p4 = c .before .before .before .before in let p7 = p4 .before .before .before in
+    let s = p7 in let p = p4 .loop in let f : ℕ → Bool = λ e. not (isIn e (s .args .t .now)) in
     sym (p .inv ∙ all-not f (drop-turn (s .args .s .now) (p .i) (omega arith)) (ap not (sym (c .before .is-in .ensures) ∙ c .if1 .taken)))
 
 add-i : tie.Need-add-i Inv-loop μ-loop
@@ -37,11 +39,15 @@ loop-less : tie.Need-loop-less Inv-loop μ-loop
 loop-less c = omega arith
 
 loop-again : tie.Need-loop-again Inv-loop μ-loop
-loop-again c = let s = c .before .before .before .before .before .before .before in let p = c .before .before .before .before .loop in let f : ℕ → Bool = λ e. not (isIn e (s .args .t .now)) in
+loop-again c =
+    let p4 = c .before .before .before .before in let p7 = p4 .before .before .before in
+    let s = p7 in let p = p4 .loop in let f : ℕ → Bool = λ e. not (isIn e (s .args .t .now)) in
     p .inv ∙ all-yes f (drop-turn (s .args .s .now) (p .i) (omega arith)) (ap not (sym (c .before .is-in .ensures) ∙ c .if1 .left))
 
 returns-2 : tie.Need-returns-2 Inv-loop μ-loop
-returns-2 c = let s = c .before .before .before .before in let p = c .before .loop in
+returns-2 c =
+    let p4 = c .before .before .before .before in
+    let s = p4 in let p = c .before .loop in
     sym (p .inv ∙ all-end (λ (e : ℕ). not (isIn e (s .args .t .now))) (drop-end (s .args .s .now) (p .i) (omega arith)))
 
 pub apart-spec : {M : Type 1} → statement M

@@ -15,7 +15,9 @@ copy-requires : tie.Need-copy-requires
 copy-requires c κs = search needs
 
 returns : tie.Need-returns
-returns c = let a = c .before .before .before .before .args in c .before .copy .ensures ∙ whole-copy (zeros 512) (a .image .now) (a .e) refl (c .before .before .before .before .pre)
+returns c =
+    let p4 = c .before .before .before .before in
+    let a = p4 .args in c .before .copy .ensures ∙ whole-copy (zeros 512) (a .image .now) (a .e) refl (p4 .pre)
 
 pub block-at-spec : {M : Type 1} → statement M
 block-at-spec = tie.close (tie.spec slice-aggregate-copy mul-copy copy-requires returns)

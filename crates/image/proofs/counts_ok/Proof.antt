@@ -28,7 +28,9 @@ add-result c = search needs
 
 returns-5 : tie.Need-returns-5
 unfolding countsOk every directoriesFor
-returns-5 c = rw (eq-eqb _ _ (c .before .before .before .before .before .before .before .before .if1 .left), le-leb _ _ (c .before .before .before .before .before .before .if2 .left), le-leb _ _ (c .before .before .before .before .if3 .left), le-leb _ _ (c .before .before .if4 .left), and-yes)
+returns-5 c =
+    let p2 = c .before .before in let p4 = p2 .before .before in let p6 = p4 .before .before in let p8 = p6 .before .before in
+    rw (eq-eqb _ _ (p8 .if1 .left), le-leb _ _ (p6 .if2 .left), le-leb _ _ (p4 .if3 .left), le-leb _ _ (p2 .if4 .left), and-yes)
 
 pub counts-ok-spec : {M : Type 1} → statement M
 counts-ok-spec = tie.close (tie.spec returns returns-2 returns-3 returns-4 add-result returns-5)

@@ -26,7 +26,9 @@ distinct-requires c κs = search needs
 
 returns-3 : tie.Need-returns-3
 unfolding entriesOk every
-returns-3 c = rw (sym (c .before .before .before .before .in-blocks .ensures) ∙ not-false _ (c .before .before .before .if1 .left), sym (c .before .before .apart .ensures) ∙ not-false _ (c .before .if2 .left), c .distinct .ensures, and-yes)
+returns-3 c =
+    let p2 = c .before .before in let p3 = p2 .before in let p4 = p3 .before in
+    rw (sym (p4 .in-blocks .ensures) ∙ not-false _ (p3 .if1 .left), sym (p2 .apart .ensures) ∙ not-false _ (c .before .if2 .left), c .distinct .ensures, and-yes)
 
 pub entries-ok-spec : {M : Type 1} → statement M
 entries-ok-spec =

@@ -16,7 +16,9 @@ abbrev μ-loop : tie.MeasureT-loop
 μ-loop image level pages directories out₀ i₀ at₀ out i at = length directories - i
 
 loop-holds : tie.Need-loop-holds Inv-loop μ-loop
-loop-holds c = let a = c .before .before .before .args in (gathering-start (view (a .image .now)) (a .level) (a .pages) (a .directories .now) (a .out .now), refl)
+loop-holds c =
+    let p3 = c .before .before .before in
+    let a = p3 .args in (gathering-start (view (a .image .now)) (a .level) (a .pages) (a .directories .now) (a .out .now), refl)
 
 mul-wide : tie.Need-mul-wide Inv-loop μ-loop
 mul-wide c = omega arith
@@ -28,7 +30,9 @@ wide-requires : tie.Need-wide-requires Inv-loop μ-loop
 wide-requires c κs = omega arith
 
 block-at-requires : tie.Need-block-at-requires Inv-loop μ-loop
-block-at-requires c κs = let a = c .before .before .before .before .before .before .before .args in let p = c .before .before .before .loop in omega (arith, within (a .image .now) (a .directories .now) (p .i) (c .before .before .before .before .before .before .before .pre .0) (omega arith), c .wide .ensures)
+block-at-requires c κs =
+    let p3 = c .before .before .before in let p7 = p3 .before .before .before .before in
+    let a = p7 .args in let p = p3 .loop in omega (arith, within (a .image .now) (a .directories .now) (p .i) (p7 .pre .0) (omega arith), c .wide .ensures)
 
 sub-left : tie.Need-sub-left Inv-loop μ-loop
 sub-left c = omega arith
@@ -40,10 +44,14 @@ same-length : tie.Need-same-length Inv-loop μ-loop
 same-length c = omega arith
 
 returns : tie.Need-returns Inv-loop μ-loop
-returns c = let a = c .before .before .before .before .before .before .before .before .before .before .before .before .before .before .args in let p = c .before .before .before .before .before .before .before .before .before .before .loop in
-    let e = seen (a .image .now) (a .directories .now) (p .i) _ _ (c .before .before .before .before .before .before .block-at .ensures) (c .before .before .before .before .before .before .before .wide .ensures) in
-    let f = filled-there _ _ e (a .level) (a .pages - p .at) (p .at) (p .out) _ _ (c .before .before .before .add-entries .ensures) in
-    gathering-stop (view (a .image .now)) (a .level) (a .pages) (a .directories .now) (a .out .now) (p .i) (p .at) (p .out) (p .inv .0) _ _ _ (omega (arith, c .before .before .before .before .before .before .before .before .before .loop-test)) (not-true _ (c .if1 .taken)) f
+returns c =
+    let p3 = c .before .before .before in let p6 = p3 .before .before .before in let p7 = p6 .before in let p9 = p7 .before .before in
+    let p10 = p9 .before in let p14 = p10 .before .before .before .before in
+    let a = p14 .args in let p = p10 .loop in
+    let e = seen (a .image .now) (a .directories .now) (p .i) _ _ (p6 .block-at .ensures) (p7 .wide .ensures) in
+    let f = filled-there _ _ e (a .level) (a .pages - p .at) (p .at) (p .out) _ _ (p3 .add-entries .ensures) in
+    gathering-stop (view (a .image .now)) (a .level) (a .pages) (a .directories .now) (a .out .now) (p .i) (p .at) (p .out) (p .inv .0) _ _ _
+    (omega (arith, p9 .loop-test)) (not-true _ (c .if1 .taken)) f
 
 due-requires : tie.Need-due-requires Inv-loop μ-loop
 due-requires c κs = omega arith
@@ -58,17 +66,23 @@ loop-less : tie.Need-loop-less Inv-loop μ-loop
 loop-less c = omega arith
 
 loop-again : tie.Need-loop-again Inv-loop μ-loop
-loop-again c = let a = c .before .before .before .before .before .before .before .before .before .before .before .before .before .before .before .args in let p = c .before .before .before .before .before .before .before .before .before .before .before .loop in
-    let e = seen (a .image .now) (a .directories .now) (p .i) _ _ (c .before .before .before .before .before .before .before .block-at .ensures) (c .before .before .before .before .before .before .before .before .wide .ensures) in
-    let f = filled-there _ _ e (a .level) (a .pages - p .at) (p .at) (p .out) _ _ (c .before .before .before .before .add-entries .ensures) in
-    let t = gathering-turn (view (a .image .now)) (a .level) (a .pages) (a .directories .now) (a .out .now) (p .i) (p .at) (p .out) (p .inv .0) _ _ (omega (arith, c .before .before .before .before .before .before .before .before .before .before .loop-test)) (c .before .before .before .before .before .before .before .before .before .before .before .before .before .before .before .pre .1) (not-false _ (c .before .if1 .left)) f in
-    (rw (c .due .ensures) t, c .before .before .before .before .add-entries .kept .1 .1 .1 .0 ∙ p .inv .1)
+loop-again c =
+    let p4 = c .before .before .before .before in let p7 = p4 .before .before .before in let p8 = p7 .before in let p10 = p8 .before .before in
+    let p11 = p10 .before in let p15 = p11 .before .before .before .before in
+    let a = p15 .args in let p = p11 .loop in
+    let e = seen (a .image .now) (a .directories .now) (p .i) _ _ (p7 .block-at .ensures) (p8 .wide .ensures) in
+    let f = filled-there _ _ e (a .level) (a .pages - p .at) (p .at) (p .out) _ _ (p4 .add-entries .ensures) in
+    let t = gathering-turn (view (a .image .now)) (a .level) (a .pages) (a .directories .now) (a .out .now) (p .i) (p .at) (p .out) (p .inv .0) _ _
+    (omega (arith, p10 .loop-test)) (p15 .pre .1) (not-false _ (c .before .if1 .left)) f in
+    (rw (c .due .ensures) t, p4 .add-entries .kept .1 .1 .1 .0 ∙ p .inv .1)
 
 same-length-2 : tie.Need-same-length-2 Inv-loop μ-loop
 same-length-2 c = omega arith
 
 returns-2 : tie.Need-returns-2 Inv-loop μ-loop
-returns-2 c = let a = c .before .before .before .before .before .args in let p = c .before .loop in
+returns-2 c =
+    let p5 = c .before .before .before .before .before in
+    let a = p5 .args in let p = c .before .loop in
     gathering-end (view (a .image .now)) (a .level) (a .pages) (a .directories .now) (a .out .now) (p .i) (p .at) (p .out) (p .inv .0) (omega arith)
 
 pub gather-spec : {M : Type 1} → statement M

@@ -28,7 +28,9 @@ block-ok-requires : tie.Need-block-ok-requires Inv-loop μ-loop
 block-ok-requires c κs = tt
 
 returns : tie.Need-returns Inv-loop μ-loop
-returns c = let s = c .before .before .before .before .before .before in let p = c .before .before .before .before .loop in
+returns c =
+    let p4 = c .before .before .before .before in let p6 = p4 .before .before in
+    let s = p6 in let p = p4 .loop in
     sym (p .inv ∙ all-not (blockOk (s .args .n)) (drop-turn (s .args .s .now) (p .i) (omega arith)) (sym (c .before .block-ok .ensures) ∙ not-true _ (c .if1 .taken)))
 
 add-i : tie.Need-add-i Inv-loop μ-loop
@@ -38,11 +40,15 @@ loop-less : tie.Need-loop-less Inv-loop μ-loop
 loop-less c = omega arith
 
 loop-again : tie.Need-loop-again Inv-loop μ-loop
-loop-again c = let s = c .before .before .before .before .before .before in let p = c .before .before .before .before .loop in
+loop-again c =
+    let p4 = c .before .before .before .before in let p6 = p4 .before .before in
+    let s = p6 in let p = p4 .loop in
     p .inv ∙ all-yes (blockOk (s .args .n)) (drop-turn (s .args .s .now) (p .i) (omega arith)) (sym (c .before .block-ok .ensures) ∙ not-false _ (c .if1 .left))
 
 returns-2 : tie.Need-returns-2 Inv-loop μ-loop
-returns-2 c = let s = c .before .before .before in let p = c .before .loop in sym (p .inv ∙ all-end (blockOk (s .args .n)) (drop-end (s .args .s .now) (p .i) (omega arith)))
+returns-2 c =
+    let p3 = c .before .before .before in
+    let s = p3 in let p = c .before .loop in sym (p .inv ∙ all-end (blockOk (s .args .n)) (drop-end (s .args .s .now) (p .i) (omega arith)))
 
 pub in-blocks-spec : {M : Type 1} → statement M
 in-blocks-spec =

@@ -15,7 +15,8 @@ use Rattle.image.proofs.marks_ok.Statement.{statement}
 use Rattle.image.proofs.marks_ok.Tie as tie
 
 abbrev Inv-loop : tie.InvT-loop
-Inv-loop block count at₀ i₀ at i = (i ≤ count) × ((at ≤ 512) × ((t : ℕ) (ts : List Tuple) → readTuples count (drop 8 block) ≡ some ts → Left block count at i ts × (all markOk (rowsOf t ts) ≡ all markOk (rowsOf t (drop i ts)))))
+Inv-loop block count at₀ i₀ at i = (i ≤ count) × ((at ≤ 512) ×
+    ((t : ℕ) (ts : List Tuple) → readTuples count (drop 8 block) ≡ some ts → Left block count at i ts × (all markOk (rowsOf t ts) ≡ all markOk (rowsOf t (drop i ts)))))
 
 abbrev μ-loop : tie.MeasureT-loop
 μ-loop block count at₀ i₀ at i = count - i
@@ -33,16 +34,21 @@ mark-ok-requires : tie.Need-mark-ok-requires Inv-loop μ-loop
 mark-ok-requires c κs = omega arith
 
 returns : tie.Need-returns Inv-loop μ-loop
-returns c = let a = c .before .before .before .before .before .before .before .before .before .args in let p = c .before .before .before .before .before .before .before .loop in let g = c .before .before .before .r .given in
-    let f = found-is (a .block .now) (p .at) (omega arith) (sym (g .1) ∙ c .before .before .before .before .before .next .ensures) in
-    λ t ts e. sym (p .inv .1 .1 t ts e .1 ∙ mark-wrong (a .block .now) (a .count) (p .at) (p .i) ts (omega arith) (p .inv .1 .1 t ts e .0) (g .0 .0) (g .0 .1 .0) f t _ (c .before .mark-ok .ensures) (not-true _ (c .if1 .taken)))
+returns c =
+    let p3 = c .before .before .before in let p5 = p3 .before .before in let p7 = p5 .before .before in let p9 = p7 .before .before in
+    let a = p9 .args in let p = p7 .loop in let g = p3 .r .given in
+    let f = found-is (a .block .now) (p .at) (omega arith) (sym (g .1) ∙ p5 .next .ensures) in
+    λ t ts e. sym (p .inv .1 .1 t ts e .1 ∙ mark-wrong (a .block .now) (a .count) (p .at) (p .i) ts (omega arith) (p .inv .1 .1 t ts e .0) (g .0 .0) (g .0 .1 .0) f t
+    _ (c .before .mark-ok .ensures) (not-true _ (c .if1 .taken)))
 
 enum-told : tie.Need-enum-told Inv-loop μ-loop
 enum-told c = omega arith
 
 returns-2 : tie.Need-returns-2 Inv-loop μ-loop
-returns-2 c = let a = c .before .before .before .before .before .before .args in let p = c .before .before .before .before .loop in
-    let w = bad-is (a .block .now) (p .at) (sym (c .enum-told .given .1) ∙ c .before .before .next .ensures) in
+returns-2 c =
+    let p2 = c .before .before in let p4 = p2 .before .before in let p6 = p4 .before .before in
+    let a = p6 .args in let p = p4 .loop in
+    let w = bad-is (a .block .now) (p .at) (sym (c .enum-told .given .1) ∙ p2 .next .ensures) in
     λ t ts e. left-bad (a .block .now) (a .count) (p .at) (p .i) ts (omega arith) w (p .inv .1 .1 t ts e .0)
 
 add-i : tie.Need-add-i Inv-loop μ-loop
@@ -52,21 +58,26 @@ loop-less : tie.Need-loop-less Inv-loop μ-loop
 loop-less c = omega arith
 
 loop-again : tie.Need-loop-again Inv-loop μ-loop
-loop-again c = let a = c .before .before .before .before .before .before .before .before .before .args in let p = c .before .before .before .before .before .before .before .loop in let g = c .before .before .before .r .given in let k = p .inv .1 .1 in
+loop-again c =
+    let p3 = c .before .before .before in let p5 = p3 .before .before in let p7 = p5 .before .before in let p9 = p7 .before .before in
+    let a = p9 .args in let p = p7 .loop in let g = p3 .r .given in let k = p .inv .1 .1 in
     let h : p .i < a .count = omega arith in
-    let f = found-is (a .block .now) (p .at) (omega arith) (sym (g .1) ∙ c .before .before .before .before .before .next .ensures) in (
+    let f = found-is (a .block .now) (p .at) (omega arith) (sym (g .1) ∙ p5 .next .ensures) in (
       omega arith,
       (
         omega (arith, f .ends),
         λ t ts e. (
           turn (a .block .now) (a .count) (p .at) (p .i) ts h (k t ts e .0) (g .0 .0) (g .0 .1 .0) f .left,
-          k t ts e .1 ∙ mark-right (a .block .now) (a .count) (p .at) (p .i) ts h (k t ts e .0) (g .0 .0) (g .0 .1 .0) f t _ (c .before .mark-ok .ensures) (not-false _ (c .if1 .left)),
+          k t ts e .1 ∙ mark-right (a .block .now) (a .count) (p .at) (p .i) ts h (k t ts e .0) (g .0 .0) (g .0 .1 .0) f t _ (c .before .mark-ok .ensures)
+              (not-false _ (c .if1 .left)),
         ),
       ),
     )
 
 returns-3 : tie.Need-returns-3 Inv-loop μ-loop
-returns-3 c = let a = c .before .before .before .args in let p = c .before .loop in
+returns-3 c =
+    let p3 = c .before .before .before in
+    let a = p3 .args in let p = c .before .loop in
     λ t ts e. sym (p .inv .1 .1 t ts e .1 ∙ marks-end t (drop (p .i) ts) (left-end (a .block .now) (a .count) (p .at) (p .i) ts (omega arith) (p .inv .1 .1 t ts e .0)))
 
 pub marks-ok-spec : {M : Type 1} → statement M

@@ -16,7 +16,9 @@ abbrev μ-loop : tie.MeasureT-loop
 μ-loop out₀ at entries count i₀ out i = count - i
 
 loop-holds : tie.Need-loop-holds Inv-loop μ-loop
-loop-holds c = let a = c .before .before .args in (omega arith, (refl, sym (over-nil (a .out .now) (a .at))))
+loop-holds c =
+    let p2 = c .before .before in
+    let a = p2 .args in (omega arith, (refl, sym (over-nil (a .out .now) (a .at))))
 
 mul-number : tie.Need-mul-number Inv-loop μ-loop
 mul-number c = omega arith
@@ -43,19 +45,25 @@ loop-less : tie.Need-loop-less Inv-loop μ-loop
 loop-less c = omega arith
 
 loop-again : tie.Need-loop-again Inv-loop μ-loop
-loop-again c = let a = c .before .before .before .before .before .before .args in let p = c .before .before .before .loop in (
-  omega arith,
-  (
-    length-set (p .out) (a .at + p .i) (c .number .result) ∙ p .inv .1 .0,
-    ap (λ (o : List ℕ). set o (a .at + p .i) (c .number .result)) (p .inv .1 .1) ∙ put-turn (a .out .now) (a .entries .now) (a .at) (p .i) (c .number .result) (omega arith) (omega arith) (c .number .ensures),
-  ),
-)
+loop-again c =
+    let p3 = c .before .before .before in let p6 = p3 .before .before .before in
+    let a = p6 .args in let p = p3 .loop in (
+      omega arith,
+      (
+        length-set (p .out) (a .at + p .i) (c .number .result) ∙ p .inv .1 .0,
+        ap (λ (o : List ℕ). set o (a .at + p .i) (c .number .result)) (p .inv .1 .1) ∙ put-turn (a .out .now) (a .entries .now) (a .at) (p .i) (c .number .result)
+            (omega arith) (omega arith) (c .number .ensures),
+      ),
+    )
 
 same-length : tie.Need-same-length Inv-loop μ-loop
 same-length c = omega arith
 
 returns : tie.Need-returns Inv-loop μ-loop
-returns c = let a = c .before .before .before .before .args in let p = c .before .loop in let e : p .i ≡ a .count = omega arith in p .inv .1 .1 ∙ ap (λ (k : ℕ). over (a .out .now) (a .at) (take k (a .entries .now))) e
+returns c =
+    let p4 = c .before .before .before .before in
+    let a = p4 .args in let p = c .before .loop in let e : p .i ≡ a .count = omega arith in p .inv .1 .1 ∙ ap
+    (λ (k : ℕ). over (a .out .now) (a .at) (take k (a .entries .now))) e
 
 pub put-entries-spec : {M : Type 1} → statement M
 put-entries-spec =

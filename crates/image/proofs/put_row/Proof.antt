@@ -48,9 +48,13 @@ same-length-4 : tie.Need-same-length-4
 same-length-4 c = search needs
 
 returns : tie.Need-returns
-returns c = let s = c .before .before .before .before .before .before .before in let a = s .args in
-    let e = record-row (a .table) (c .before .before .place .result) (c .before .owner-code .result) (a .r) (c .before .before .place .ensures .0) (c .before .before .place .ensures .1) (c .before .owner-code .ensures) in
-    row-put (a .places .now) (a .numbers .now) (a .owners .now) (a .marks .now) (a .k) (c .before .before .place .result) (a .r .number) (c .before .owner-code .result) (a .r .flags / 64 % 2) (s .pre)
+returns c =
+    let p2 = c .before .before in let p7 = p2 .before .before .before .before .before in
+    let s = p7 in let a = s .args in
+    let e = record-row (a .table) (p2 .place .result) (c .before .owner-code .result) (a .r) (p2 .place .ensures .0) (p2 .place .ensures .1)
+    (c .before .owner-code .ensures) in
+    row-put (a .places .now) (a .numbers .now) (a .owners .now) (a .marks .now) (a .k) (p2 .place .result) (a .r .number) (c .before .owner-code .result)
+    (a .r .flags / 64 % 2) (s .pre)
     ∙ ap (λ (x : Row). rowsIn (a .places .now) (a .numbers .now) (a .owners .now) (a .marks .now) (a .k) ++ (x ∷ [])) e
 
 pub put-row-spec : {M : Type 1} → statement M

@@ -9,13 +9,19 @@ use Rattle.image.proofs.test_header.Statement.{statement}
 use Rattle.image.proofs.test_header.Tie as tie
 
 returns : tie.Need-returns
-returns c = not-whole (c .before .before .args .image .now) (c .if1 .taken)
+returns c =
+    let p2 = c .before .before in
+    not-whole (p2 .args .image .now) (c .if1 .taken)
 
 returns-2 : tie.Need-returns-2
-returns-2 c = too-few (c .before .before .before .args .image .now) (c .if2 .taken)
+returns-2 c =
+    let p3 = c .before .before .before in
+    too-few (p3 .args .image .now) (c .if2 .taken)
 
 returns-3 : tie.Need-returns-3
-returns-3 c = too-many (c .before .before .before .before .args .image .now) (c .if3 .taken)
+returns-3 c =
+    let p4 = c .before .before .before .before in
+    too-many (p4 .args .image .now) (c .if3 .taken)
 
 block-at-requires : tie.Need-block-at-requires
 block-at-requires c κs = search needs
@@ -33,19 +39,29 @@ head-ok-requires : tie.Need-head-ok-requires
 head-ok-requires c κs = search needs
 
 returns-4 : tie.Need-returns-4
-returns-4 c = let x = c .before .before .before .before .before .before .before .before .before .before .before .before .args .image .now in let g = c .before .before .before .h .given in
-    let e = by-block x (c .before .before .before .before .before .before .before .before .before .before .if1 .left) (c .before .before .before .before .before .before .before .before .before .if2 .left) (c .before .before .before .before .before .before .before .before .if3 .left) _ (c .before .before .before .before .before .before .before .block-at .ensures) in
-    header-yes (length x / 512) (decodeBlock (c .before .before .before .before .before .before .before .block-at .result)) (g .0 .0) (sym (g .1) ∙ c .before .before .before .before .before .read-block .ensures) (sym (c .before .head-ok .ensures) ∙ c .if4 .taken) ∙ ap headerAnswer e
+returns-4 c =
+    let p3 = c .before .before .before in let p5 = p3 .before .before in let p7 = p5 .before .before in let p8 = p7 .before in let p9 = p8 .before in
+    let p10 = p9 .before in let p12 = p10 .before .before in
+    let x = p12 .args .image .now in let g = p3 .h .given in
+    let e = by-block x (p10 .if1 .left) (p9 .if2 .left) (p8 .if3 .left) _ (p7 .block-at .ensures) in
+    header-yes (length x / 512) (decodeBlock (p7 .block-at .result)) (g .0 .0) (sym (g .1) ∙ p5 .read-block .ensures)
+    (sym (c .before .head-ok .ensures) ∙ c .if4 .taken) ∙ ap headerAnswer e
 
 returns-5 : tie.Need-returns-5
-returns-5 c = let x = c .before .before .before .before .before .before .before .before .before .before .before .before .args .image .now in let g = c .before .before .before .h .given in
-    let e = by-block x (c .before .before .before .before .before .before .before .before .before .before .if1 .left) (c .before .before .before .before .before .before .before .before .before .if2 .left) (c .before .before .before .before .before .before .before .before .if3 .left) _ (c .before .before .before .before .before .before .before .block-at .ensures) in
-    header-no (length x / 512) (decodeBlock (c .before .before .before .before .before .before .before .block-at .result)) (g .0 .0) (sym (g .1) ∙ c .before .before .before .before .before .read-block .ensures) (sym (c .before .head-ok .ensures) ∙ c .if4 .left) ∙ ap headerAnswer e
+returns-5 c =
+    let p3 = c .before .before .before in let p5 = p3 .before .before in let p7 = p5 .before .before in let p8 = p7 .before in let p9 = p8 .before in
+    let p10 = p9 .before in let p12 = p10 .before .before in
+    let x = p12 .args .image .now in let g = p3 .h .given in
+    let e = by-block x (p10 .if1 .left) (p9 .if2 .left) (p8 .if3 .left) _ (p7 .block-at .ensures) in
+    header-no (length x / 512) (decodeBlock (p7 .block-at .result)) (g .0 .0) (sym (g .1) ∙ p5 .read-block .ensures)
+    (sym (c .before .head-ok .ensures) ∙ c .if4 .left) ∙ ap headerAnswer e
 
 returns-6 : tie.Need-returns-6
-returns-6 c = let x = c .before .before .before .before .before .before .before .before .args .image .now in
-    let e = by-block x (c .before .before .before .before .before .before .if1 .left) (c .before .before .before .before .before .if2 .left) (c .before .before .before .before .if3 .left) _ (c .before .before .before .block-at .ensures) in
-    no-header (length x / 512) _ (decodeBlock (c .before .before .before .block-at .result)) (c .before .read-block .ensures) (c .match .keys2) ∙ ap headerAnswer e
+returns-6 c =
+    let p3 = c .before .before .before in let p4 = p3 .before in let p5 = p4 .before in let p6 = p5 .before in let p8 = p6 .before .before in
+    let x = p8 .args .image .now in
+    let e = by-block x (p6 .if1 .left) (p5 .if2 .left) (p4 .if3 .left) _ (p3 .block-at .ensures) in
+    no-header (length x / 512) _ (decodeBlock (p3 .block-at .result)) (c .before .read-block .ensures) (c .match .keys2) ∙ ap headerAnswer e
 
 pub test-header-spec : {M : Type 1} → statement M
 test-header-spec =

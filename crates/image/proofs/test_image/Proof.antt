@@ -11,15 +11,19 @@ enum-known-h : tie.Need-enum-known-h
 enum-known-h c = search needs
 
 test-pages-requires : tie.Need-test-pages-requires
-test-pages-requires c κs = let g = c .before .h .given in passed-is (c .before .before .before .before .before .args .image .now) (g .0 .0) (sym (g .1) ∙ c .before .before .before .test-header .ensures)
+test-pages-requires c κs =
+    let p3 = c .before .before .before in let p5 = p3 .before .before in
+    let g = c .before .h .given in passed-is (p5 .args .image .now) (g .0 .0) (sym (g .1) ∙ p3 .test-header .ensures)
 
 refused-image-requires : tie.Need-refused-image-requires
 refused-image-requires c κs = search needs
 
 returns : tie.Need-returns
-returns c = let x = c .before .before .before .before .before .before .before .before .before .args .image .now in let g = c .before .before .before .before .before .h .given in
-    let e = passed-is x (g .0 .0) (sym (g .1) ∙ c .before .before .before .before .before .before .before .test-header .ensures) in
-    c .refused-image .ensures ∙ image-stopped x (g .0 .0) e _ (c .before .before .before .test-pages .ensures) (c .before .if1 .taken)
+returns c =
+    let p3 = c .before .before .before in let p5 = p3 .before .before in let p7 = p5 .before .before in let p9 = p7 .before .before in
+    let x = p9 .args .image .now in let g = p5 .h .given in
+    let e = passed-is x (g .0 .0) (sym (g .1) ∙ p7 .test-header .ensures) in
+    c .refused-image .ensures ∙ image-stopped x (g .0 .0) e _ (p3 .test-pages .ensures) (c .before .if1 .taken)
 
 enum-known-n : tie.Need-enum-known-n
 enum-known-n c = search needs
@@ -28,12 +32,16 @@ refused-image-requires-2 : tie.Need-refused-image-requires-2
 refused-image-requires-2 c κs = search needs
 
 returns-2 : tie.Need-returns-2
-returns-2 c = let x = c .before .before .before .before .before .before .before .before .before .args .image .now in let g = c .before .before .before .before .before .h .given in
-    let e = passed-is x (g .0 .0) (sym (g .1) ∙ c .before .before .before .before .before .before .before .test-header .ensures) in
-    image-holds x (g .0 .0) e _ (c .before .before .before .test-pages .ensures) (c .before .if1 .left)
+returns-2 c =
+    let p3 = c .before .before .before in let p5 = p3 .before .before in let p7 = p5 .before .before in let p9 = p7 .before .before in
+    let x = p9 .args .image .now in let g = p5 .h .given in
+    let e = passed-is x (g .0 .0) (sym (g .1) ∙ p7 .test-header .ensures) in
+    image-holds x (g .0 .0) e _ (p3 .test-pages .ensures) (c .before .if1 .left)
 
 returns-3 : tie.Need-returns-3
-returns-3 c = let g = c .before .before .n .given in c .refused-image2 .ensures ∙ image-refused (c .before .before .before .before .before .before .args .image .now) (g .0 .0) (sym (g .1) ∙ c .before .before .before .before .test-header .ensures)
+returns-3 c =
+    let p2 = c .before .before in let p4 = p2 .before .before in let p6 = p4 .before .before in
+    let g = p2 .n .given in c .refused-image2 .ensures ∙ image-refused (p6 .args .image .now) (g .0 .0) (sym (g .1) ∙ p4 .test-header .ensures)
 
 pub test-image-spec : {M : Type 1} → statement M
 test-image-spec =

@@ -9,7 +9,8 @@ use Rattle.image.proofs.test_rows.Statement.{statement}
 use Rattle.image.proofs.test_rows.Tie as tie
 
 abbrev Inv-loop : tie.InvT-loop
-Inv-loop image entries h places₀ numbers₀ owners₀ marks₀ level cap i₀ to₀ places numbers owners marks i to = Collecting (view image) h entries i to (rowsIn places numbers owners marks to)
+Inv-loop image entries h places₀ numbers₀ owners₀ marks₀ level cap i₀ to₀ places numbers owners marks i to = Collecting (view image) h entries i to
+    (rowsIn places numbers owners marks to)
     × ((length places ≡ length places₀) × ((length numbers ≡ length numbers₀) × ((length owners ≡ length owners₀) × (length marks ≡ length marks₀))))
 
 abbrev μ-loop : tie.MeasureT-loop
@@ -21,15 +22,21 @@ found : (c : tie.After-known-told Inv-loop μ-loop)
     let p = c .before .before .before .before .before .before .before .before .before .loop in
     let g = c .before .table .given .0 in
     Goods (k .args .h .level) (k .args .h .capacity - p .to) (g .0) (g .1 .0) (view (k .args .image .now) (getD (k .args .entries .now) (p .i) 0))
-found c = let a = c .before .before .before .before .before .before .before .before .before .before .before .before .before .before .before .before .before .args in let p = c .before .before .before .before .before .before .before .before .before .loop in let g = c .before .table .given in
-    let e = page-here (a .image .now) (a .entries .now) (p .i) _ _ (c .before .before .before .before .before .block-at .ensures) (c .before .before .before .before .before .before .wide2 .ensures) (a .h .level) (a .h .capacity) _ (p .to) _ (c .before .before .before .before .before .before .before .before .before .before .wide .ensures) (c .before .before .before .good-page .ensures) in
+found c =
+    let p3 = c .before .before .before in let p5 = p3 .before .before in let p6 = p5 .before in let p9 = p6 .before .before .before in
+    let p10 = p9 .before in let p17 = p10 .before .before .before .before .before .before .before in
+    let a = p17 .args in let p = p9 .loop in let g = c .before .table .given in
+    let e = page-here (a .image .now) (a .entries .now) (p .i) _ _ (p5 .block-at .ensures) (p6 .wide2 .ensures) (a .h .level) (a .h .capacity) _ (p .to) _
+    (p10 .wide .ensures) (p3 .good-page .ensures) in
     goods (a .h .level) (a .h .capacity - p .to) (g .0 .0) (g .0 .1 .0) _ (e ∙ g .1)
 
 wide-requires : tie.Need-wide-requires Inv-loop μ-loop
 wide-requires c κs = omega arith
 
 loop-holds : tie.Need-loop-holds Inv-loop μ-loop
-loop-holds c = let a = c .before .before .before .before .before .before .before .args in
+loop-holds c =
+    let p7 = c .before .before .before .before .before .before .before in
+    let a = p7 .args in
     (collecting-start (view (a .image .now)) (a .h) (a .entries .now) (a .places .now) (a .numbers .now) (a .owners .now) (a .marks .now), (refl, (refl, (refl, refl))))
 
 mul-wide : tie.Need-mul-wide Inv-loop μ-loop
@@ -42,7 +49,9 @@ wide-requires-2 : tie.Need-wide-requires-2 Inv-loop μ-loop
 wide-requires-2 c κs = omega arith
 
 block-at-requires : tie.Need-block-at-requires Inv-loop μ-loop
-block-at-requires c κs = let a = c .before .before .before .before .before .before .before .before .before .before .before .args in let p = c .before .before .before .loop in omega (arith, within (a .image .now) (a .entries .now) (p .i) (c .before .before .before .before .before .before .before .before .before .before .before .pre .0) (omega arith), c .wide2 .ensures)
+block-at-requires c κs =
+    let p3 = c .before .before .before in let p11 = p3 .before .before .before .before .before .before .before .before in
+    let a = p11 .args in let p = p3 .loop in omega (arith, within (a .image .now) (a .entries .now) (p .i) (p11 .pre .0) (omega arith), c .wide2 .ensures)
 
 sub-good-page : tie.Need-sub-good-page Inv-loop μ-loop
 sub-good-page c = omega arith
@@ -57,14 +66,21 @@ slice-aggregate-add-rows : tie.Need-slice-aggregate-add-rows Inv-loop μ-loop
 slice-aggregate-add-rows c = omega arith
 
 add-rows-requires : tie.Need-add-rows-requires Inv-loop μ-loop
-add-rows-requires c κs = let g = found (c .before .before .before .before .before) in let k = c .before .before .before .before .before .before .before .before .before .before .before .before .before .before .before .before .before .before .before .before .before .before .pre .1 in let p = c .before .before .before .before .before .before .before .before .before .before .before .before .before .before .loop in let l = p .inv .1 in let r = p .inv .0 .room in let m = g .room-left in
-    (omega (arith, c .before .before .before .before .before .before .before .before .before .before), (omega arith, (omega arith, (omega arith, omega arith))))
+add-rows-requires c κs =
+    let p5 = c .before .before .before .before .before in let p10 = p5 .before .before .before .before .before in
+    let p14 = p10 .before .before .before .before in let p22 = p14 .before .before .before .before .before .before .before .before in
+    let g = found p5 in let k = p22 .pre .1 in let p = p14 .loop in let l = p .inv .1 in let r = p .inv .0 .room in let m = g .room-left in
+    (omega (arith, p10), (omega arith, (omega arith, (omega arith, omega arith))))
 
 wide-requires-3 : tie.Need-wide-requires-3 Inv-loop μ-loop
 wide-requires-3 c κs = omega arith
 
 add-to : tie.Need-add-to Inv-loop μ-loop
-add-to c = let g = found (c .before .before .before .before .before .before .before .before .before .before .before .before .before .before .before) in omega (arith, g .room-left, c .before .before .before .before .before .before .before .before .before .before .before .before .before .before .before .before .before .before .before .before .before .before .before .before .loop .inv .0 .room, c .before .before .before .before .before .before .before .before .before .before .before .before .before .before .before .before .before .before .before .before .before .before .before .before .before .before .before .before .before .before .before .before .pre .1, c .before .before .before .before .before .before .before .before .before .before .before .before .before .before .before .before .before .before .before .before .before .before .before .before .before .before .before .before .before .before .before .before .good, c .wide3 .ensures)
+add-to c =
+    let p15 = c .before .before .before .before .before .before .before .before .before .before .before .before .before .before .before in
+    let p24 = p15 .before .before .before .before .before .before .before .before .before in
+    let p32 = p24 .before .before .before .before .before .before .before .before in
+    let g = found p15 in omega (arith, g .room-left, p24 .loop .inv .0 .room, p32 .pre .1, p32 .good, c .wide3 .ensures)
 
 enum-told : tie.Need-enum-told Inv-loop μ-loop
 enum-told c = omega arith
@@ -82,20 +98,33 @@ same-length-4 : tie.Need-same-length-4 Inv-loop μ-loop
 same-length-4 c = omega arith
 
 returns : tie.Need-returns Inv-loop μ-loop
-returns c = let a = c .before .before .before .before .before .before .before .before .before .before .before .before .before .before .before .before .args in let p = c .before .before .before .before .before .before .before .before .loop in
-    let e = page-here (a .image .now) (a .entries .now) (p .i) _ _ (c .before .before .before .before .block-at .ensures) (c .before .before .before .before .before .wide2 .ensures) (a .h .level) (a .h .capacity) _ (p .to) _ (c .before .before .before .before .before .before .before .before .before .wide .ensures) (c .before .before .good-page .ensures) in
+returns c =
+    let p2 = c .before .before in let p4 = p2 .before .before in let p5 = p4 .before in let p8 = p5 .before .before .before in let p9 = p8 .before in
+    let p16 = p9 .before .before .before .before .before .before .before in
+    let a = p16 .args in let p = p8 .loop in
+    let e = page-here (a .image .now) (a .entries .now) (p .i) _ _ (p4 .block-at .ensures) (p5 .wide2 .ensures) (a .h .level) (a .h .capacity) _ (p .to) _
+    (p9 .wide .ensures) (p2 .good-page .ensures) in
     collecting-bad (view (a .image .now)) (a .h) (a .entries .now) (p .i) (p .to) _ (p .inv .0) (omega arith) (e ∙ c .enum-told .given .1)
 
 add-i : tie.Need-add-i Inv-loop μ-loop
-add-i c = omega (arith, c .before .before .before .before .before .before .before .before .before .before .before .before .before .before .before .before .before .before .before .before .before .before .before .before .before .before .before .before .before .before .before .before .good, c .before .before .before .before .before .before .before .before .before .before .before .before .before .before .before .before .before .before .before .before .before .before .before .loop-test)
+add-i c =
+    let p23 = c .before .before .before .before .before .before .before .before .before .before .before .before .before .before .before .before .before .before .before .before .before .before .before in
+    let p32 = p23 .before .before .before .before .before .before .before .before .before in
+    omega (arith, p32 .good, p23 .loop-test)
 
 loop-less : tie.Need-loop-less Inv-loop μ-loop
 loop-less c = omega arith
 
 loop-again : tie.Need-loop-again Inv-loop μ-loop
-loop-again c = let a = c .before .before .before .before .before .before .before .before .before .before .before .before .before .before .before .before .before .before .before .before .before .before .before .before .before .before .before .before .before .before .before .before .args in let p = c .before .before .before .before .before .before .before .before .before .before .before .before .before .before .before .before .before .before .before .before .before .before .before .before .loop in let g = found (c .before .before .before .before .before .before .before .before .before .before .before .before .before .before .before) in let l = p .inv .1 in let d = c .before .before .before .before .before .before .before .before .before .add-rows .kept in let n = c .before .before .before .before .before .before .before .before .before .before .before .before .before .before .before .before .table .given .0 in
-    let r = tuples-here (a .image .now) (a .entries .now) (p .i) _ _ (c .before .before .before .before .before .before .before .before .before .before .before .before .before .before .before .before .before .before .before .before .block-at .ensures) (c .before .before .before .before .before .before .before .before .before .before .before .before .before .before .before .before .before .before .before .before .before .wide2 .ensures) (a .h .level) (a .h .capacity - p .to) (n .0) (n .1 .0) g in
-    let t = collecting-turn (view (a .image .now)) (a .h) (a .entries .now) (p .i) (p .to) _ (p .inv .0) (n .0) (n .1 .0) _ (omega (arith, c .before .before .before .before .before .before .before .before .before .before .before .before .before .before .before .before .before .before .before .before .before .before .before .loop-test)) g (c .before .before .before .before .before .before .before .before .before .add-rows .ensures (g .tuples) r) in
+loop-again c =
+    let p9 = c .before .before .before .before .before .before .before .before .before in let p15 = p9 .before .before .before .before .before .before in
+    let p16 = p15 .before in let p20 = p16 .before .before .before .before in let p21 = p20 .before in let p23 = p21 .before .before in
+    let p24 = p23 .before in let p32 = p24 .before .before .before .before .before .before .before .before in
+    let a = p32 .args in let p = p24 .loop in let g = found p15 in let l = p .inv .1 in let d = p9 .add-rows .kept in let n = p16 .table .given .0 in
+    let r = tuples-here (a .image .now) (a .entries .now) (p .i) _ _ (p20 .block-at .ensures) (p21 .wide2 .ensures) (a .h .level) (a .h .capacity - p .to) (n .0)
+    (n .1 .0) g in
+    let t = collecting-turn (view (a .image .now)) (a .h) (a .entries .now) (p .i) (p .to) _ (p .inv .0) (n .0) (n .1 .0) _ (omega (arith, p23 .loop-test)) g
+    (p9 .add-rows .ensures (g .tuples) r) in
     (rw (c .wide3 .ensures) t, (d .1 .1 .1 .0 ∙ l .0, (d .1 .1 .1 .1 .0 ∙ l .1 .0, (d .1 .1 .1 .1 .1 .0 ∙ l .1 .1 .0, d .1 .1 .1 .1 .1 .1 .0 ∙ l .1 .1 .1))))
 
 columns-ok-requires : tie.Need-columns-ok-requires Inv-loop μ-loop
@@ -114,7 +143,9 @@ same-length-8 : tie.Need-same-length-8 Inv-loop μ-loop
 same-length-8 c = omega arith
 
 returns-2 : tie.Need-returns-2 Inv-loop μ-loop
-returns-2 c = let a = c .before .before .before .before .before .before .before .before .before .before .before .before .before .before .args in let p = c .before .before .before .before .before .before .loop in
+returns-2 c =
+    let p6 = c .before .before .before .before .before .before in let p14 = p6 .before .before .before .before .before .before .before .before in
+    let a = p14 .args in let p = p6 .loop in
     c .columns-ok .ensures ∙ collecting-end (view (a .image .now)) (a .h) (a .entries .now) (p .i) (p .to) _ (p .inv .0) (omega arith)
 
 pub test-rows-spec : {M : Type 1} → statement M

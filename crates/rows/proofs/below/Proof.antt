@@ -28,7 +28,9 @@ shared-slice-read-if1 c = omega arith
 
 returns : tie.Need-returns Inv-loop μ-loop
 unfolding rowAt coded isBelow number
-returns c = let s = c .before .before .before .before in let p = c .before .before .before .loop in
+returns c =
+    let p3 = c .before .before .before in let p4 = p3 .before in
+    let s = p4 in let p = p3 .loop in
     sym (p .inv ∙ all-not (isBelow (s .args .next)) (tab-turn (rowAt [] (s .args .numbers .now) [] []) (p .i) (s .args .count) (omega arith)) (le-ltb _ _ (c .if1 .taken)))
 
 add-i : tie.Need-add-i Inv-loop μ-loop
@@ -39,11 +41,15 @@ loop-less c = omega arith
 
 loop-again : tie.Need-loop-again Inv-loop μ-loop
 unfolding rowAt coded isBelow number
-loop-again c = let s = c .before .before .before .before in let p = c .before .before .before .loop in
+loop-again c =
+    let p3 = c .before .before .before in let p4 = p3 .before in
+    let s = p4 in let p = p3 .loop in
     p .inv ∙ all-yes (isBelow (s .args .next)) (tab-turn (rowAt [] (s .args .numbers .now) [] []) (p .i) (s .args .count) (omega arith)) (lt-ltb _ _ (c .if1 .left))
 
 returns-2 : tie.Need-returns-2 Inv-loop μ-loop
-returns-2 c = let s = c .before .before in let p = c .before .loop in
+returns-2 c =
+    let p2 = c .before .before in
+    let s = p2 in let p = c .before .loop in
     sym (p .inv ∙ all-end (isBelow (s .args .next)) (tab-end (rowAt [] (s .args .numbers .now) [] []) (p .i) (s .args .count) (omega arith)))
 
 pub below-spec : {M : Type 1} → statement M

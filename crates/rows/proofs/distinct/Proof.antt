@@ -29,7 +29,9 @@ is-in-requires : tie.Need-is-in-requires Inv-loop μ-loop
 is-in-requires c κs = tt
 
 returns : tie.Need-returns Inv-loop μ-loop
-returns c = let s = c .before .before .before .before .before .before in let p = c .before .before .before .before .loop in
+returns c =
+    let p4 = c .before .before .before .before in let p6 = p4 .before .before in
+    let s = p6 in let p = p4 .loop in
     sym (p .inv ∙ distinct-not (drop-turn (s .args .s .now) (p .i) (omega arith)) (sym (c .before .is-in .ensures) ∙ c .if1 .taken))
 
 add-i : tie.Need-add-i Inv-loop μ-loop
@@ -39,11 +41,15 @@ loop-less : tie.Need-loop-less Inv-loop μ-loop
 loop-less c = omega arith
 
 loop-again : tie.Need-loop-again Inv-loop μ-loop
-loop-again c = let s = c .before .before .before .before .before .before in let p = c .before .before .before .before .loop in
+loop-again c =
+    let p4 = c .before .before .before .before in let p6 = p4 .before .before in
+    let s = p6 in let p = p4 .loop in
     p .inv ∙ distinct-yes (drop-turn (s .args .s .now) (p .i) (omega arith)) (sym (c .before .is-in .ensures) ∙ c .if1 .left)
 
 returns-2 : tie.Need-returns-2 Inv-loop μ-loop
-returns-2 c = let s = c .before .before .before in let p = c .before .loop in sym (p .inv ∙ distinct-end (drop-end (s .args .s .now) (p .i) (omega arith)))
+returns-2 c =
+    let p3 = c .before .before .before in
+    let s = p3 in let p = c .before .loop in sym (p .inv ∙ distinct-end (drop-end (s .args .s .now) (p .i) (omega arith)))
 
 pub distinct-spec : {M : Type 1} → statement M
 distinct-spec =

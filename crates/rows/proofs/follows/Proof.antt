@@ -13,10 +13,12 @@ returns : tie.Need-returns
 returns c = let a = c .before .args in sym (follows-rising (a .p) (a .n) (a .o) (a .p2) (a .n2) (a .o2) (a .m2) (c .if1 .taken))
 
 returns-2 : tie.Need-returns-2
-returns-2 c = let a = c .before .before .args in sym (follows-falling (a .p) (a .n) (a .o) (a .p2) (a .n2) (a .o2) (a .m2) (omega (arith, c .before .if1 .left, c .if2 .taken)))
+returns-2 c = let a = c .before .before .args in sym (follows-falling (a .p) (a .n) (a .o) (a .p2) (a .n2) (a .o2) (a .m2)
+    (omega (arith, c .before .if1 .left, c .if2 .taken)))
 
 returns-3 : tie.Need-returns-3
-returns-3 c = let a = c .before .before .before .args in sym (follows-there (a .p) (a .n) (a .o) (a .p2) (a .n2) (a .o2) (a .m2) (c .before .if2 .left) ∙ rw (le-ltb _ _ (c .if3 .taken)))
+returns-3 c = let a = c .before .before .before .args in sym
+    (follows-there (a .p) (a .n) (a .o) (a .p2) (a .n2) (a .o2) (a .m2) (c .before .if2 .left) ∙ rw (le-ltb _ _ (c .if3 .taken)))
 
 returns-4 : tie.Need-returns-4
 unfolding codedOwner if_then_else_

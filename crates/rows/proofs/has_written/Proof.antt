@@ -31,8 +31,11 @@ is-own-requires c κs = omega arith
 
 returns : tie.Need-returns Inv-loop μ-loop
 unfolding rowAt coded isOwn
-returns c = let s = c .before .before .before .before .before .before in let p = c .before .before .before .before .loop in
-    sym (p .inv ∙ any-yes (isOwn (s .args .t)) (tab-turn (rowAt [] [] (s .args .owners .now) []) (p .i) (s .args .count) (omega arith)) (sym (c .before .is-own .ensures) ∙ c .if1 .taken))
+returns c =
+    let p4 = c .before .before .before .before in let p6 = p4 .before .before in
+    let s = p6 in let p = p4 .loop in
+    sym (p .inv ∙ any-yes (isOwn (s .args .t)) (tab-turn (rowAt [] [] (s .args .owners .now) []) (p .i) (s .args .count) (omega arith))
+    (sym (c .before .is-own .ensures) ∙ c .if1 .taken))
 
 add-i : tie.Need-add-i Inv-loop μ-loop
 add-i c = omega arith
@@ -42,11 +45,16 @@ loop-less c = omega arith
 
 loop-again : tie.Need-loop-again Inv-loop μ-loop
 unfolding rowAt coded isOwn
-loop-again c = let s = c .before .before .before .before .before .before in let p = c .before .before .before .before .loop in
-    p .inv ∙ any-not (isOwn (s .args .t)) (tab-turn (rowAt [] [] (s .args .owners .now) []) (p .i) (s .args .count) (omega arith)) (sym (c .before .is-own .ensures) ∙ c .if1 .left)
+loop-again c =
+    let p4 = c .before .before .before .before in let p6 = p4 .before .before in
+    let s = p6 in let p = p4 .loop in
+    p .inv ∙ any-not (isOwn (s .args .t)) (tab-turn (rowAt [] [] (s .args .owners .now) []) (p .i) (s .args .count) (omega arith))
+    (sym (c .before .is-own .ensures) ∙ c .if1 .left)
 
 returns-2 : tie.Need-returns-2 Inv-loop μ-loop
-returns-2 c = let s = c .before .before .before in let p = c .before .loop in
+returns-2 c =
+    let p3 = c .before .before .before in
+    let s = p3 in let p = c .before .loop in
     sym (p .inv ∙ any-end (isOwn (s .args .t)) (tab-end (rowAt [] [] (s .args .owners .now) []) (p .i) (s .args .count) (omega arith)))
 
 pub has-written-spec : {M : Type 1} → statement M

@@ -12,22 +12,30 @@ use Rattle.rows.proofs.rising.Statement.{statement}
 use Rattle.rows.proofs.rising.Tie as tie
 
 abbrev Inv-loop : tie.InvT-loop
-Inv-loop places numbers owners marks count i₀ i = (1 ≤ i) × ((i ≤ count) × ((paired follows (rowsIn places numbers owners marks count) && startsWell (rowsIn places numbers owners marks count)) ≡ paired follows (tab (rowAt places numbers owners marks) (i - 1) (count - (i - 1)))))
+Inv-loop places numbers owners marks count i₀ i = (1 ≤ i) × ((i ≤ count) ×
+    ((paired follows (rowsIn places numbers owners marks count) && startsWell (rowsIn places numbers owners marks count)) ≡ paired follows
+    (tab (rowAt places numbers owners marks) (i - 1) (count - (i - 1)))))
 
 abbrev μ-loop : tie.MeasureT-loop
 μ-loop places numbers owners marks count i₀ i = count - i
 
 returns : tie.Need-returns Inv-loop μ-loop
-returns c = let a = c .before .before .before .before .before .args in sym (rising-none (a .places .now) (a .numbers .now) (a .owners .now) (a .marks .now) (a .count) (c .if1 .taken))
+returns c =
+    let p5 = c .before .before .before .before .before in
+    let a = p5 .args in sym (rising-none (a .places .now) (a .numbers .now) (a .owners .now) (a .marks .now) (a .count) (c .if1 .taken))
 
 shared-slice-read-if2 : tie.Need-shared-slice-read-if2 Inv-loop μ-loop
 shared-slice-read-if2 c = omega arith
 
 returns-2 : tie.Need-returns-2 Inv-loop μ-loop
-returns-2 c = let a = c .before .before .before .before .before .before .before .args in sym (rising-marked (a .places .now) (a .numbers .now) (a .owners .now) (a .marks .now) (a .count) (omega arith) (c .if2 .taken))
+returns-2 c =
+    let p7 = c .before .before .before .before .before .before .before in
+    let a = p7 .args in sym (rising-marked (a .places .now) (a .numbers .now) (a .owners .now) (a .marks .now) (a .count) (omega arith) (c .if2 .taken))
 
 loop-holds : tie.Need-loop-holds Inv-loop μ-loop
-loop-holds c = let a = c .before .before .before .before .before .before .before .args in (omega arith, (omega arith, rising-first (a .places .now) (a .numbers .now) (a .owners .now) (a .marks .now) (a .count) (omega arith) (c .if2 .left)))
+loop-holds c =
+    let p7 = c .before .before .before .before .before .before .before in
+    let a = p7 .args in (omega arith, (omega arith, rising-first (a .places .now) (a .numbers .now) (a .owners .now) (a .marks .now) (a .count) (omega arith) (c .if2 .left)))
 
 sub-j : tie.Need-sub-j Inv-loop μ-loop
 sub-j c = omega arith
@@ -75,7 +83,10 @@ follows-requires : tie.Need-follows-requires Inv-loop μ-loop
 follows-requires c κs = omega arith
 
 returns-3 : tie.Need-returns-3 Inv-loop μ-loop
-returns-3 c = let a = c .before .before .before .before .before .before .before .before .before .before .before .before .before .before .before .before .before .before .args in let p = c .before .before .before .before .before .before .before .before .before .before .loop in
+returns-3 c =
+    let p10 = c .before .before .before .before .before .before .before .before .before .before in
+    let p18 = p10 .before .before .before .before .before .before .before .before in
+    let a = p18 .args in let p = p10 .loop in
     let g = rowAt (a .places .now) (a .numbers .now) (a .owners .now) (a .marks .now) in
     let e = follows-unmarked (a .places .now) (a .numbers .now) (a .owners .now) (a .marks .now) (p .i - 1) (p .i) in
     sym (p .inv .1 .1 ∙ pair-stop follows g (p .i) (a .count) (p .inv .0) (omega arith) (sym e ∙ sym (c .before .follows .ensures) ∙ not-true _ (c .if3 .taken)))
@@ -87,14 +98,25 @@ loop-less : tie.Need-loop-less Inv-loop μ-loop
 loop-less c = omega arith
 
 loop-again : tie.Need-loop-again Inv-loop μ-loop
-loop-again c = let a = c .before .before .before .before .before .before .before .before .before .before .before .before .before .before .before .before .before .before .args in let p = c .before .before .before .before .before .before .before .before .before .before .loop in
+loop-again c =
+    let p10 = c .before .before .before .before .before .before .before .before .before .before in
+    let p18 = p10 .before .before .before .before .before .before .before .before in
+    let a = p18 .args in let p = p10 .loop in
     let g = rowAt (a .places .now) (a .numbers .now) (a .owners .now) (a .marks .now) in
     let d = follows-unmarked (a .places .now) (a .numbers .now) (a .owners .now) (a .marks .now) (p .i - 1) (p .i) in
-    let e : p .i + 1 - 1 ≡ p .i = omega arith in
-    (omega arith, (omega arith, p .inv .1 .1 ∙ rw e (pair-turn follows g (p .i) (a .count) (p .inv .0) (omega arith) (sym d ∙ sym (c .before .follows .ensures) ∙ not-false _ (c .if3 .left)))))
+    let e : p .i + 1 - 1 ≡ p .i = omega arith in (
+      omega arith,
+      (
+        omega arith,
+        p .inv .1 .1 ∙ rw e (pair-turn follows g (p .i) (a .count) (p .inv .0) (omega arith)
+            (sym d ∙ sym (c .before .follows .ensures) ∙ not-false _ (c .if3 .left))),
+      ),
+    )
 
 returns-4 : tie.Need-returns-4 Inv-loop μ-loop
-returns-4 c = let a = c .before .before .before .before .before .before .before .before .before .args in let p = c .before .loop in
+returns-4 c =
+    let p9 = c .before .before .before .before .before .before .before .before .before in
+    let a = p9 .args in let p = c .before .loop in
     sym (p .inv .1 .1 ∙ pair-end follows (rowAt (a .places .now) (a .numbers .now) (a .owners .now) (a .marks .now)) (p .i) (a .count) (p .inv .0) (omega arith))
 
 pub rising-spec : {M : Type 1} → statement M

@@ -33,7 +33,9 @@ written-requires c κs = search needs
 
 returns-2 : tie.Need-returns-2
 unfolding statementOk statementIs number rowAt coded codedOwner if_then_else_
-returns-2 c = rw (ne-eqb _ _ (c .before .before .if1 .left), c .written .ensures)
+returns-2 c =
+    let p2 = c .before .before in
+    rw (ne-eqb _ _ (p2 .if1 .left), c .written .ensures)
 
 pub statement-ok-spec : {M : Type 1} → statement M
 statement-ok-spec =

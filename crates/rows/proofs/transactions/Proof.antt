@@ -12,7 +12,8 @@ use Rattle.rows.proofs.transactions.Statement.{statement}
 use Rattle.rows.proofs.transactions.Tie as tie
 
 abbrev Inv-loop : tie.InvT-loop
-Inv-loop owners count k₀ i₀ k i = (i ≤ count) × ((k ≤ i) × (k + length (transactions (tab (rowAt [] [] owners []) i (count - i))) ≡ length (transactions (rowsIn [] [] owners [] count))))
+Inv-loop owners count k₀ i₀ k i = (i ≤ count) × ((k ≤ i) × (k + length (transactions (tab (rowAt [] [] owners []) i (count - i))) ≡ length
+    (transactions (rowsIn [] [] owners [] count))))
 
 abbrev μ-loop : tie.MeasureT-loop
 μ-loop owners count k₀ i₀ k i = count - i
@@ -35,7 +36,9 @@ loop-less c = omega arith
 
 loop-again : tie.Need-loop-again Inv-loop μ-loop
 unfolding rowsIn
-loop-again c = let s = c .before .before .before .before .before in let p = c .before .before .before .loop in
+loop-again c =
+    let p3 = c .before .before .before in let p5 = p3 .before .before in
+    let s = p5 in let p = p3 .loop in
     let g = rowAt [] [] (s .args .owners .now) [] in
     let t = tab-turn g (p .i) (s .args .count) (omega arith) in
     let e = ap (isLast (g (p .i))) (sym (tab-left g (s .args .count) (p .i + 1))) ∙ sym (c .before .is-last .ensures) in
@@ -45,7 +48,9 @@ loop-again c = let s = c .before .before .before .before .before in let p = c .b
     (c .if1 .came)
 
 returns : tie.Need-returns Inv-loop μ-loop
-returns c = let s = c .before .before .before in let p = c .before .loop in
+returns c =
+    let p3 = c .before .before .before in
+    let s = p3 in let p = c .before .loop in
     let h = none-open (tab-end (rowAt [] [] (s .args .owners .now) []) (p .i) (s .args .count) (omega arith)) in
     omega (arith, p .inv .1 .1)
 

@@ -11,14 +11,17 @@ use Rattle.rows.proofs.written.Statement.{statement}
 use Rattle.rows.proofs.written.Tie as tie
 
 abbrev Inv-loop : tie.InvT-loop
-Inv-loop numbers owners count t n k₀ i₀ k i = (i ≤ count) × ((k ≤ i) × (k + howMany (earlierBy t n) (tab (rowAt [] numbers owners []) i (count - i)) ≡ howMany (earlierBy t n) (rowsIn [] numbers owners [] count)))
+Inv-loop numbers owners count t n k₀ i₀ k i = (i ≤ count) × ((k ≤ i) ×
+    (k + howMany (earlierBy t n) (tab (rowAt [] numbers owners []) i (count - i)) ≡ howMany (earlierBy t n) (rowsIn [] numbers owners [] count)))
 
 abbrev μ-loop : tie.MeasureT-loop
 μ-loop numbers owners count t n k₀ i₀ k i = count - i
 
 loop-holds : tie.Need-loop-holds Inv-loop μ-loop
 unfolding rowsIn
-loop-holds c = let s = c .before .before in let e = tab-whole (rowAt [] (s .args .numbers .now) (s .args .owners .now) []) (s .args .count) in (omega arith, (omega arith, rw e (omega arith)))
+loop-holds c =
+    let p2 = c .before .before in
+    let s = p2 in let e = tab-whole (rowAt [] (s .args .numbers .now) (s .args .owners .now) []) (s .args .count) in (omega arith, (omega arith, rw e (omega arith)))
 
 mul-earlier : tie.Need-mul-earlier Inv-loop μ-loop
 mul-earlier c = omega arith
@@ -46,7 +49,9 @@ loop-less c = omega arith
 
 loop-again : tie.Need-loop-again Inv-loop μ-loop
 unfolding rowAt earlierBy isOwn number coded
-loop-again c = let s = c .before .before .before .before .before .before .before .before in let p = c .before .before .before .before .before .loop in
+loop-again c =
+    let p5 = c .before .before .before .before .before in let p8 = p5 .before .before .before in
+    let s = p8 in let p = p5 .loop in
     let g = rowAt [] (s .args .numbers .now) (s .args .owners .now) [] in
     let t = tab-turn g (p .i) (s .args .count) (omega arith) in
     let f = earlierBy (s .args .t) (s .args .n) in
@@ -56,7 +61,9 @@ loop-again c = let s = c .before .before .before .before .before .before .before
     (c .if1 .came)
 
 returns : tie.Need-returns Inv-loop μ-loop
-returns c = let s = c .before .before .before .before in let p = c .before .loop in
+returns c =
+    let p4 = c .before .before .before .before in
+    let s = p4 in let p = c .before .loop in
     let h = count-end (earlierBy (s .args .t) (s .args .n)) (tab-end (rowAt [] (s .args .numbers .now) (s .args .owners .now) []) (p .i) (s .args .count) (omega arith)) in
     omega (arith, p .inv .1 .1)
 
