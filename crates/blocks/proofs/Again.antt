@@ -1,6 +1,6 @@
 -- A page is spelled again, record by record, as it is read.
 use mathlib.Core.Path.{_≡_, refl, sym, ap, _∙_}
-use mathlib.Core.Bool.{Bool, true, false}
+use mathlib.Core.Bool.{false}
 use mathlib.Core.Option.{Option, none, some, Option·map}
 use mathlib.Core.List.{List, [], _∷_, _++_, append-assoc, append-nil}
 use Prim.Native.Nat.{ℕ, suc, _+_, _-_, _≤_, _<_}
@@ -10,7 +10,6 @@ use lib.Seq.{drop-drop}
 use Rattle.basics.specs.Basics.{if_then_else_}
 use Rattle.bits.specs.Bits.{over, bitsIn, field}
 use Rattle.bits.proofs.Blocks.{field-lt}
-use Rattle.blocks.specs.Numbers.{same}
 use Rattle.blocks.specs.Tuple.{Tuple, AllBytes}
 use Rattle.blocks.specs.Block.{page, encodeBlock, PageFits}
 use Rattle.blocks.specs.Decode.{readTuple, taken, whole, readTuples}
@@ -19,7 +18,6 @@ use Rattle.blocks.specs.Bytes.{sizeOf, bytesOfRecord, payloadIn, tupleOf
 use Rattle.blocks.specs.declared.Record.{Record}
 use Rattle.blocks.specs.declared.Cursor.{Cursor}
 use Rattle.blocks.proofs.Spelled.{bytes-drop}
-use Rattle.blocks.proofs.Cursors.{flagsAt}
 use Rattle.blocks.proofs.ReadTuples.{Found-is, read-all-fit, read-room}
 use Rattle.blocks.proofs.Built.{Built, built-start, built-turn, built-end}
 
@@ -44,17 +42,17 @@ again-start xs n =
     let z : n - 0 ≡ n = omega arith in
     record { done = []; turn = omega arith; count = refl; built = built-start; rest = rw z (sym (map-same (readTuples n (drop 8 xs)))) }
 
-module _ (xs copy : List ℕ) (n at i : ℕ) (a : Again xs copy n at i) where
+module _ {xs copy : List ℕ} {n at i : ℕ} (a : Again xs copy n at i) where
   pub again-bad : i < n → whole (drop at xs) ≡ false → readTuples n (drop 8 xs) ≡ none
   unfolding readTuples if_then_else_
   again-bad h w =
       let e : n - i ≡ suc (n - (i + 1)) = omega arith in
       a .rest ∙ rw (e, w)
 
-  pub again-turn : i < n → length xs ≡ 512 → (r : Record) (c : Cursor) → r .flags < 256 → Found-is xs at r c
+  pub again-turn : i < n → length xs ≡ 512 → {r : Record} {c : Cursor} → r .flags < 256 → Found-is xs at r c
       → Again xs (over copy at (bytesOfRecord r (payloadIn xs r))) n (at + sizeOf r) (i + 1)
   unfolding readTuples if_then_else_
-  again-turn h l r c f g =
+  again-turn h l {r} f g =
       let x = readTuple (drop at xs) in
       let e : n - i ≡ suc (n - (i + 1)) = omega arith in
       let room : at + sizeOf r ≤ 512 = omega (arith, g .next, g .ends, g .takes) in
@@ -64,8 +62,8 @@ module _ (xs copy : List ℕ) (n at i : ℕ) (a : Again xs copy n at i) where
         done = a .done ++ (tupleOf r (payloadIn xs r) ∷ []);
         turn = omega arith;
         count = length-append (a .done) (tupleOf r (payloadIn xs r) ∷ []) ∙ omega (arith, a .count);
-        built = built-turn copy at (a .done) (a .built) r (payloadIn xs r) f (g .length-flags) (g .payload) room;
-        rest = rw (g .tuple, g .takes) next
+        built = built-turn (a .built) r (payloadIn xs r) f (g .length-flags) (g .payload) room;
+        rest = rw (g .tuple, g .takes) next;
       }
 
   pub again-end : n ≤ i → readTuples n (drop 8 xs) ≡ some (a .done)
@@ -76,9 +74,9 @@ module _ (xs copy : List ℕ) (n at i : ℕ) (a : Again xs copy n at i) where
       a .rest ∙ rw e (ap some (append-nil (a .done)))
 
   -- the copy with its head is what the tuples spell
-  pub again-spells : n ≤ i → length xs ≡ 512 → AllBytes xs → (t l : ℕ) → t ≡ field (bitsIn xs) 4 3 → l ≡ field (bitsIn xs) 22 32
+  pub again-spells : n ≤ i → length xs ≡ 512 → AllBytes xs → {t l : ℕ} → t ≡ field (bitsIn xs) 4 3 → l ≡ field (bitsIn xs) 22 32
       → over copy 0 (pageHead t n (at - 8) l) ≡ encodeBlock (page t l (a .done))
-  again-spells h k b t l et el =
+  again-spells h k b {t} {l} et el =
       let u = a .turn in
       let e = again-end h in
       let c : n ≡ length (a .done) = omega (arith, a .count) in
@@ -89,6 +87,6 @@ module _ (xs copy : List ℕ) (n at i : ℕ) (a : Again xs copy n at i) where
         table = omega arith;
         level = omega arith;
         tuples = read-all-fit n (drop 8 xs) (a .done) (bytes-drop 8 xs b) e;
-        room = omega (arith, read-room n (drop 8 xs) (a .done) e)
+        room = omega (arith, read-room n (drop 8 xs) (a .done) e);
       } in
-      rw c (built-end copy at (a .done) (a .built) t l fit)
+      rw c (built-end (a .built) t l fit)

@@ -2,7 +2,7 @@
 use mathlib.Core.Path.{_≡_, refl, sym, ap, _∙_}
 use mathlib.Core.Bool.{Bool, true, false}
 use mathlib.Core.List.{List, [], _∷_, _++_, append-assoc, append-nil}
-use Prim.Native.Nat.{ℕ, _+_, _-_, _*_, _/_, _%_, _^_, _≤_, _<_}
+use Prim.Native.Nat.{ℕ, _+_, _-_, _*_, _/_, _%_, _≤_, _<_}
 use native.Mathlib.Omega.{arith}
 use lib.ListN.{length, length-append}
 use Rattle.bits.specs.Bits.{bitsOf, bitsIn}
@@ -10,7 +10,7 @@ use Rattle.bits.proofs.Numbers.{bitsOf-add, bitsOf-mod, bitsOf-digits}
 use Rattle.bits.proofs.Blocks.{bitsIn-append, length-bitsIn}
 use Rattle.blocks.specs.Numbers.{be4}
 use Rattle.blocks.specs.Tuple.{Owner, committed, tentative, Tuple, sizes, AllBytes, OwnerFits, Fits, AllFit}
-use Rattle.blocks.specs.Spell.{zeros, spell, filled, blockOf}
+use Rattle.blocks.specs.Spell.{zeros, spell, filled}
 use Rattle.blocks.specs.Block.{page, committedBit, markBit, ownerFields, payloadFields, recordFields, recordsFields, pageFields, encodeBlock, PageFits}
 use Rattle.blocks.specs.Bytes.{pageHead}
 use Rattle.blocks.proofs.Spelled.{spell-append, zero-bits-in, length-zeros, bytes-append, bytes-zeros, block-is}
@@ -65,9 +65,18 @@ unfolding recordBytes recordFields spell
 record-bits x f =
     let h : length (x .payload) < 64 = omega (arith, f .payload) in
     let O = ownerBytes (x .owner) in
-    rw (bitsIn-append (be4 (x .key)) (be4 (x .number) ++ (flags x ∷ (O ++ x .payload))), bitsIn-append (be4 (x .number)) (flags x ∷ (O ++ x .payload)),
-    byte-then (flags x) (O ++ x .payload), bitsIn-append O (x .payload), be4-bits (x .key), be4-bits (x .number), flag-bits x h, owner-bits (x .owner) (f .owner), payload-bits (x .payload),
-    spell-append (ownerFields (x .owner)) (payloadFields (x .payload)))
+    rw (
+      bitsIn-append (be4 (x .key)) (be4 (x .number) ++ (flags x ∷ (O ++ x .payload))),
+      bitsIn-append (be4 (x .number)) (flags x ∷ (O ++ x .payload)),
+      byte-then (flags x) (O ++ x .payload),
+      bitsIn-append O (x .payload),
+      be4-bits (x .key),
+      be4-bits (x .number),
+      flag-bits x h,
+      owner-bits (x .owner) (f .owner),
+      payload-bits (x .payload),
+      spell-append (ownerFields (x .owner)) (payloadFields (x .payload)),
+    )
     (simp append-assoc)
 
 pub records-bits : (ts : List Tuple) → AllFit ts → bitsIn (records ts) ≡ spell (recordsFields ts)
@@ -133,8 +142,17 @@ module _ (t l : ℕ) (ts : List Tuple) (fit : PageFits t l ts) where
       let lR : length (spell (recordsFields ts)) ≡ 8 * sizes ts = ap length (sym (records-bits ts (fit .tuples))) ∙ length-bitsIn (records ts) ∙ ap (λ (m : ℕ). 8 * m) (length-records ts) in
       let lH : length (bitsIn (pageHead t (length ts) (sizes ts) l)) ≡ 64 = length-bitsIn H ∙ ap (λ (m : ℕ). 8 * m) (length-head t (length ts) (sizes ts) l) in
       let z : 8 * (504 - sizes ts) ≡ 4096 - (64 + 8 * sizes ts) = omega arith in
-      rw (bitsIn-append H (records ts ++ zeros k), bitsIn-append (records ts) (zeros k), records-bits ts (fit .tuples), zero-bits-in k,
-      ← head-bits t (length ts) (sizes ts) l (fit .table) hn hb (fit .level) (recordsFields ts), length-append (bitsIn H) R, lH, lR, z)
+      rw (
+        bitsIn-append H (records ts ++ zeros k),
+        bitsIn-append (records ts) (zeros k),
+        records-bits ts (fit .tuples),
+        zero-bits-in k,
+        ← head-bits t (length ts) (sizes ts) l (fit .table) hn hb (fit .level) (recordsFields ts),
+        length-append (bitsIn H) R,
+        lH,
+        lR,
+        z,
+      )
       (sym (append-assoc (bitsIn H) R (zeros (4096 - (64 + 8 * sizes ts)))))
 
   -- a page's block, byte by byte

@@ -39,7 +39,7 @@ put-record ts x at pl h =
     rw (z, ← append-assoc (zeros 8) (records ts) (zeros (size x) ++ Z), ← l, m, records-more ts x, sizes-more ts x, append-assoc (records ts) R Z)
     (append-assoc (zeros 8) (records ts) (R ++ Z))
 
-module _ (block : List ℕ) (at : ℕ) (ts : List Tuple) (b : Built block at ts) where
+module _ {block : List ℕ} {at : ℕ} {ts : List Tuple} (b : Built block at ts) where
   -- one record more
   pub built-turn : (r : Record) (p : List ℕ) → r .flags < 256 → r .len ≡ r .flags % 64 → length p ≡ r .len → at + sizeOf r ≤ 512
       → Built (over block at (bytesOfRecord r p)) (at + sizeOf r) (ts ++ (tupleOf r p ∷ []))

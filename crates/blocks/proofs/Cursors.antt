@@ -1,8 +1,8 @@
 -- What the cursor finds at a place of a block.
-use mathlib.Core.Path.{_≡_, refl, sym, ap, _∙_}
-use mathlib.Core.Bool.{Bool, true, false, _&&_}
+use mathlib.Core.Path.{_≡_}
+use mathlib.Core.Bool.{true, false}
 use mathlib.Core.List.{List}
-use Prim.Native.Nat.{ℕ, _+_, _-_, _*_, _/_, _%_, _≤_, _<_}
+use Prim.Native.Nat.{ℕ, _+_, _-_, _%_, _≤_, _<_}
 use native.Mathlib.Omega.{arith}
 use lib.ListN.{length, drop, getD, length-drop}
 use lib.Seq.{getD-drop}
@@ -13,7 +13,6 @@ use Rattle.basics.proofs.Facts.{by}
 use Rattle.blocks.specs.Numbers.{num4}
 use Rattle.blocks.specs.Decode.{taken, whole}
 use Rattle.blocks.specs.Bytes.{recordAt, nextAt}
-use Rattle.blocks.specs.declared.Next.{Next}
 use Rattle.blocks.specs.declared.Next.the-variants.{Found, Bad}
 
 -- the ninth byte of the record at a place

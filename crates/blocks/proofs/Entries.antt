@@ -1,12 +1,12 @@
 -- A directory: its entries are read one by one, and it is filled from the front.
 use mathlib.Core.Path.{_≡_, refl, sym, ap, _∙_}
 use mathlib.Core.List.{List, [], _∷_, _++_, append-assoc, append-nil}
-use Prim.Native.Nat.{ℕ, zero, suc, _+_, _-_, _*_, _/_, _%_, _^_, _≤_, _<_}
+use Prim.Native.Nat.{ℕ, zero, suc, _+_, _*_, _≤_, _<_}
 use native.Mathlib.Omega.{arith}
 use native.Mathlib.Numerals.{add-one}
-use lib.ListN.{length, take, drop, getD, set, length-append, length-take}
+use lib.ListN.{length, take, getD, set, length-append, length-take}
 use lib.Seq.{take-suc, take-suc-set}
-use Rattle.bits.specs.Bits.{bitsOf, bitsIn, number, field, over}
+use Rattle.bits.specs.Bits.{bitsOf, bitsIn, field, over}
 use Rattle.bits.proofs.Numbers.{length-bitsOf}
 use Rattle.blocks.specs.Spell.{zeros, spell, filled}
 use Rattle.blocks.specs.Block.{directory, entryFields, directoryFields, encodeBlock}
@@ -26,9 +26,11 @@ entries-turn xs out i v h e q = rw (add-one i, take-suc-set out i v h, e, q) (sy
 
 -- ---- bits from the front
 
+-- the fields before the entries
 abbrev pub headFields : ℕ → ℕ → List (ℕ × ℕ)
 headFields l n = (4, 3) ∷ (9, n) ∷ (32, l) ∷ (19, 0) ∷ []
 
+-- the bits of a directory that says n entries, with the entries es
 unfoldable pub dirBits : ℕ → ℕ → List ℕ → List ℕ
 dirBits l n es = spell (headFields l n) ++ spell (entryFields es)
 
@@ -63,7 +65,8 @@ unfolding dirBits
 dir-snoc l n es e = rw (spell-entries-snoc es e) (append-assoc (spell (headFields l n)) (spell (entryFields es)) (bitsOf 12 e))
 
 -- an entry more
-pub entry-put : (l n : ℕ) (es : List ℕ) (i : ℕ) → i < length es → i < 336 → over (filled (dirBits l n (take i es))) (64 + 12 * i) (bitsOf 12 (getD es i 0)) ≡ filled (dirBits l n (take (i + 1) es))
+pub entry-put : (l n : ℕ) (es : List ℕ) (i : ℕ) → i < length es → i < 336
+    → over (filled (dirBits l n (take i es))) (64 + 12 * i) (bitsOf 12 (getD es i 0)) ≡ filled (dirBits l n (take (i + 1) es))
 entry-put l n es i h k =
     let t : length (take i es) ≡ i = simp length-take (omega arith) in
     let d : length (dirBits l n (take i es)) ≡ 64 + 12 * i = length-dir l n (take i es) ∙ ap (λ (m : ℕ). 64 + 12 * m) t in
@@ -72,8 +75,8 @@ entry-put l n es i h k =
     put-next (dirBits l n (take i es)) (bitsOf 12 (getD es i 0)) (omega arith) in
     rw (← d, p, add-one i, take-suc es i 0 h) (ap filled (dir-snoc l n (take i es) (getD es i 0)))
 
-pub dir-done : (l n : ℕ) (es s : List ℕ) → n ≤ length es → length s ≡ 512 → ((i : ℕ) → getD s i 0 < 256) → bitsIn s ≡ filled (dirBits l n (take n es)) → s ≡ encodeBlock (directory l (take n es))
+pub dir-done : (l n : ℕ) (es s : List ℕ) → n ≤ length es → length s ≡ 512 → ((i : ℕ) → getD s i 0 < 256)
+    → bitsIn s ≡ filled (dirBits l n (take n es)) → s ≡ encodeBlock (directory l (take n es))
 dir-done l n es s h k b e =
     let t : length (take n es) ≡ n = simp length-take (omega arith) in
     dir-whole l (take n es) s k b (e ∙ ap (λ (m : ℕ). filled (dirBits l m (take n es))) (sym t))
-

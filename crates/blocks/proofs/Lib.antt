@@ -9,3 +9,7 @@ pub mod Bitwise
 pub mod ReadTuples
 pub mod Built
 pub mod Again
+pub mod ReadBack
+pub mod Laws
+pub mod Cases
+pub mod Walk

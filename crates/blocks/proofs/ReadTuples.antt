@@ -1,12 +1,12 @@
 -- The tuples that are read from bytes: their sizes and ranges, and the record of the cursor that each of them is.
-use mathlib.Core.Path.{_≡_, refl, sym, ap, _∙_}
-use mathlib.Core.Bool.{Bool, true, false, _&&_}
-use mathlib.Core.Option.{Option, none, some, Option·map}
+use mathlib.Core.Path.{_≡_, refl}
+use mathlib.Core.Bool.{true, false, _&&_}
+use mathlib.Core.Option.{none, some}
 use mathlib.Core.List.{List, [], _∷_}
-use Prim.Native.Nat.{ℕ, zero, suc, _+_, _-_, _*_, _/_, _%_, _≤_, _<_}
+use Prim.Native.Nat.{ℕ, zero, suc, _+_, _%_, _≤_, _<_}
 use native.Mathlib.Omega.{arith}
 use native.Mathlib.Nat.{add-assoc, add-zero}
-use lib.ListN.{length, take, drop, getD, length-take, length-drop}
+use lib.ListN.{length, drop, getD, length-take, length-drop}
 use lib.Seq.{getD-drop, drop-drop}
 use lib.Dec.{ltb, leb}
 use borrow.Author.Tests.{leb-true}
@@ -18,7 +18,6 @@ use Rattle.blocks.specs.Decode.{readOwner, readTuple, taken, whole, read
 use Rattle.blocks.specs.Bytes.{recordAt, nextAt, sizeOf, payloadIn, tupleOf}
 use Rattle.blocks.specs.declared.Record.{Record}
 use Rattle.blocks.specs.declared.Cursor.{Cursor}
-use Rattle.blocks.specs.declared.Next.{Next}
 use Rattle.blocks.specs.declared.Next.the-variants.{Found, Bad}
 use Rattle.blocks.proofs.Cursors.{flagsAt, ownerPart, taken-at}
 use Rattle.blocks.proofs.Spelled.{bytes-at, bytes-take, bytes-drop}
@@ -68,7 +67,7 @@ module _ (ys : List ℕ) (w : whole ys ≡ true) where
         number = num4-small 4 b;
         owner = owner-fits f (num4 ys 9) (num4-small 9 b);
         payload = omega (arith, payload-length);
-        bytes = bytes-take (f % 64) (drop k ys) (bytes-drop k ys b)
+        bytes = bytes-take (f % 64) (drop k ys) (bytes-drop k ys b);
       }
 
 -- ---- a list of tuples
@@ -92,12 +91,6 @@ split n xs ts e =
 pub none-is : (xs : List ℕ) (ts : List Tuple) → readTuples 0 xs ≡ some ts → ts ≡ []
 unfolding readTuples
 none-is xs ts e = cc
-
-pub read-length : (n : ℕ) (xs : List ℕ) (ts : List Tuple) → readTuples n xs ≡ some ts → length ts ≡ n
-read-length zero xs ts e = ap length (none-is xs ts e)
-read-length (suc n) xs ts e =
-    let s = split n xs ts e in
-    ap length (s .is) ∙ ap suc (read-length n (drop (taken xs) xs) (s .others) (s .read))
 
 pub read-all-fit : (n : ℕ) (xs : List ℕ) (ts : List Tuple) → AllBytes xs → readTuples n xs ≡ some ts → AllFit ts
 read-all-fit zero xs ts b e = rw (none-is xs ts e) tt
@@ -135,8 +128,17 @@ module _ (xs : List ℕ) (at : ℕ) where
   unfolding tupleOf recordAt readTuple
   record-tuple =
       let f = flagsAt xs at in
-      rw (num4-drop xs at 0, num4-drop xs at 4, num4-drop xs at 9, getD-drop at xs 8 0, add-zero at, owner-read f (num4 xs (at + 9)), owner-size f (num4 xs (at + 9)),
-      start-read f, drop-drop (9 + ownerPart f) at xs)
+      rw (
+        num4-drop xs at 0,
+        num4-drop xs at 4,
+        num4-drop xs at 9,
+        getD-drop at xs 8 0,
+        add-zero at,
+        owner-read f (num4 xs (at + 9)),
+        owner-size f (num4 xs (at + 9)),
+        start-read f,
+        drop-drop (9 + ownerPart f) at xs,
+      )
 
   pub record-taken : sizeOf (recordAt xs at) ≡ taken (drop at xs)
   unfolding sizeOf recordAt if_then_else_
@@ -167,31 +169,31 @@ module _ (xs : List ℕ) (at : ℕ) where
     pub next : c .at ≡ at + taken (drop at xs)
     pub ends : c .at ≤ length xs
 
-  pub found-is : (r : Record) (c : Cursor) → at ≤ length xs → Found r c ≡ nextAt xs at → Found-is r c
+  pub found-is : {r : Record} {c : Cursor} → at ≤ length xs → Found r c ≡ nextAt xs at → Found-is r c
   unfolding nextAt if_then_else_
-  found-is r c room e =
+  found-is {r} {c} room e =
       by (whole (drop at xs))
       (λ w.
-        let k : Found r c ≡ Found (recordAt xs at) (record { at = at + taken (drop at xs) }) = rw w at e in
-        let er : r ≡ recordAt xs at = cc in
-        let ec : c ≡ record { at = at + taken (drop at xs) } = cc in
-        let h = whole-parts (drop at xs) w in
-        let d = length-drop at xs in
-        let fl = getD-drop at xs 8 0 in
-        let end : recordAt xs at .start + recordAt xs at .len ≤ length xs = omega (arith, record-ends, h .1 .1) in
-        let l : length (payloadIn xs (recordAt xs at)) ≡ recordAt xs at .len = simp (length-take, length-drop) (omega arith) in
-        rw (er, ec) (record {
-          is-whole = w;
-          flags = record-flags;
-          length-flags = record-length;
-          limit = omega (arith, record-length, record-flags, h .1 .0, fl);
-          payload = l;
-          inside = end;
-          tuple = record-tuple;
-          takes = record-taken;
-          next = refl;
-          ends = omega (arith, h .1 .1)
-        }))
+      let k : Found r c ≡ Found (recordAt xs at) (record { at = at + taken (drop at xs) }) = rw w at e in
+      let er : r ≡ recordAt xs at = cc in
+      let ec : c ≡ record { at = at + taken (drop at xs) } = cc in
+      let h = whole-parts (drop at xs) w in
+      let d = length-drop at xs in
+      let fl = getD-drop at xs 8 0 in
+      let end : recordAt xs at .start + recordAt xs at .len ≤ length xs = omega (arith, record-ends, h .1 .1) in
+      let l : length (payloadIn xs (recordAt xs at)) ≡ recordAt xs at .len = simp (length-take, length-drop) (omega arith) in
+      rw (er, ec) (record {
+        is-whole = w;
+        flags = record-flags;
+        length-flags = record-length;
+        limit = omega (arith, record-length, record-flags, h .1 .0, fl);
+        payload = l;
+        inside = end;
+        tuple = record-tuple;
+        takes = record-taken;
+        next = refl;
+        ends = omega (arith, h .1 .1);
+      }))
       (λ w. let k : Found r c ≡ Bad = rw w at e in let z : _≡_ {A = ℕ} 0 1 = cc in absurd (omega arith))
 
   pub bad-is : Bad ≡ nextAt xs at → whole (drop at xs) ≡ false

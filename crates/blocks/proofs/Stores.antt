@@ -1,8 +1,7 @@
 -- Runs of stores: a number's bytes, a part copied, a record appended, a page's head.
 use mathlib.Core.Path.{_≡_, refl, sym, ap, _∙_}
-use mathlib.Core.Bool.{Bool, true, false}
 use mathlib.Core.List.{List, [], _∷_, _++_, append-nil}
-use Prim.Native.Nat.{ℕ, _+_, _-_, _*_, _/_, _%_, _≤_, _<_}
+use Prim.Native.Nat.{ℕ, _+_, _*_, _/_, _%_, _≤_, _<_}
 use native.Mathlib.Omega.{arith}
 use native.Mathlib.Numerals.{add-one}
 use lib.ListN.{length, take, drop, getD, set, length-take, length-drop, drop-of-length-le}
@@ -29,8 +28,12 @@ set-next m xs at n v e h =
 pub put-four : (m : List ℕ) (at a b c d : ℕ) → at + 4 ≤ length m
     → set (set (set (set m at a) (at + 1) b) (at + 2) c) (at + 3) d ≡ over m at (a ∷ b ∷ c ∷ d ∷ [])
 put-four m at a b c d h =
-    rw (set-over m at a (omega arith), set-next m (a ∷ []) at 1 b refl (omega arith), set-next m (a ∷ b ∷ []) at 2 c refl (omega arith),
-    set-next m (a ∷ b ∷ c ∷ []) at 3 d refl (omega arith))
+    rw (
+      set-over m at a (omega arith),
+      set-next m (a ∷ []) at 1 b refl (omega arith),
+      set-next m (a ∷ b ∷ []) at 2 c refl (omega arith),
+      set-next m (a ∷ b ∷ c ∷ []) at 3 d refl (omega arith),
+    )
 
 pub copy-turn : (m s : List ℕ) (at start i : ℕ) → at + i < length m → start + i < length s
     → set (over m at (take i (drop start s))) (at + i) (getD s (start + i) 0) ≡ over m at (take (i + 1) (drop start s))
@@ -55,6 +58,7 @@ over-then m xs ys at n e h = rw e (over-over m xs ys at h)
 -- ---- a record is appended
 
 module _ (m p : List ℕ) (at : ℕ) (r : Record) where
+  -- m with the first nine bytes of r's record at at
   abbrev front : List ℕ
   front = over (over (over m at (be4 (r .key))) (at + 4) (be4 (r .number))) (at + 8) (r .flags ∷ [])
 
@@ -64,8 +68,13 @@ module _ (m p : List ℕ) (at : ℕ) (r : Record) where
       let k = be4 (r .key) in
       let n = be4 (r .number) in
       let f : List ℕ = r .flags ∷ [] in
-      rw (over-then m k n at 4 refl (omega arith), over-then m (k ++ n) f at 8 refl (omega arith), over-then m (k ++ n ++ f) (be4 (r .owner)) at 9 refl (omega arith),
-      over-then m (k ++ n ++ f ++ be4 (r .owner)) p at 13 refl (omega arith), lt-ltb (r .flags) 128 o)
+      rw (
+        over-then m k n at 4 refl (omega arith),
+        over-then m (k ++ n) f at 8 refl (omega arith),
+        over-then m (k ++ n ++ f) (be4 (r .owner)) at 9 refl (omega arith),
+        over-then m (k ++ n ++ f ++ be4 (r .owner)) p at 13 refl (omega arith),
+        lt-ltb (r .flags) 128 o,
+      )
 
   pub append-committed : 128 ≤ r .flags → at + (9 + length p) ≤ length m → over front (at + 9) p ≡ over m at (bytesOfRecord r p)
   unfolding bytesOfRecord be4 if_then_else_

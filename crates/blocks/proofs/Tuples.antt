@@ -1,5 +1,5 @@
 -- A tuple's record and a page's records byte by byte, their sizes and bounds.
-use mathlib.Core.Path.{_≡_, refl, sym, ap, _∙_}
+use mathlib.Core.Path.{_≡_, refl, sym}
 use mathlib.Core.Bool.{Bool, true, false}
 use mathlib.Core.List.{List, [], _∷_, _++_, append-assoc, append-nil}
 use Prim.Native.Nat.{ℕ, _+_, _*_, _/_, _%_, _≤_, _<_}
@@ -21,13 +21,16 @@ use Rattle.blocks.proofs.Spelled.{bytes-append}
 unfoldable pub flags : Tuple → ℕ
 flags x = committedBit (x .owner) * 128 + (markBit (x .mark) * 64 + length (x .payload))
 
+-- an owner's four bytes, if tentative
 unfoldable pub ownerBytes : Owner → List ℕ
 ownerBytes committed = []
 ownerBytes (tentative t s) = be4 (t * 1048576 + s)
 
+-- a tuple's record
 unfoldable pub recordBytes : Tuple → List ℕ
 recordBytes x = be4 (x .key) ++ (be4 (x .number) ++ (flags x ∷ (ownerBytes (x .owner) ++ x .payload)))
 
+-- records one after another
 unfoldable pub records : List Tuple → List ℕ
 records [] = []
 records (x ∷ xs) = recordBytes x ++ records xs

@@ -27,6 +27,7 @@ unfoldable pub committedBit : Owner → ℕ
 committedBit committed = 1
 committedBit (tentative t s) = 0
 
+-- the delete mark's bit
 unfoldable pub markBit : Bool → ℕ
 markBit true = 1
 markBit false = 0
@@ -36,6 +37,7 @@ unfoldable pub ownerFields : Owner → List (ℕ × ℕ)
 ownerFields committed = []
 ownerFields (tentative t s) = (12, t) ∷ (20, s) ∷ []
 
+-- a payload's bytes
 unfoldable pub payloadFields : List ℕ → List (ℕ × ℕ)
 payloadFields [] = []
 payloadFields (b ∷ bs) = (8, b) ∷ payloadFields bs
@@ -46,6 +48,7 @@ recordFields x =
     (32, x .key) ∷ (32, x .number) ∷ (1, committedBit (x .owner)) ∷ (1, markBit (x .mark)) ∷ (6, length (x .payload))
     ∷ (ownerFields (x .owner) ++ payloadFields (x .payload))
 
+-- records one after another
 unfoldable pub recordsFields : List Tuple → List (ℕ × ℕ)
 recordsFields [] = []
 recordsFields (x ∷ xs) = recordFields x ++ recordsFields xs
@@ -54,6 +57,7 @@ recordsFields (x ∷ xs) = recordFields x ++ recordsFields xs
 abbrev pub pageFields : ℕ → ℕ → List Tuple → List (ℕ × ℕ)
 pageFields t l ts = (4, 2) ∷ (3, t) ∷ (6, length ts) ∷ (9, sizes ts) ∷ (32, l) ∷ (10, 0) ∷ recordsFields ts
 
+-- a directory's block numbers
 unfoldable pub entryFields : List ℕ → List (ℕ × ℕ)
 entryFields [] = []
 entryFields (e ∷ es) = (12, e) ∷ entryFields es
@@ -62,6 +66,7 @@ entryFields (e ∷ es) = (12, e) ∷ entryFields es
 abbrev pub directoryFields : ℕ → List ℕ → List (ℕ × ℕ)
 directoryFields l es = (4, 3) ∷ (9, length es) ∷ (32, l) ∷ (19, 0) ∷ entryFields es
 
+-- the fields of a block of any kind
 abbrev pub blockFields : Block → List (ℕ × ℕ)
 blockFields malformed = []
 blockFields (header h) = headerFields h
@@ -72,16 +77,19 @@ blockFields (directory l es) = directoryFields l es
 unfoldable pub encodeBlock : Block → List ℕ
 encodeBlock b = blockOf (blockFields b)
 
+-- every entry has 12 bits
 abbrev pub EntriesFit : List ℕ → Type 0
 EntriesFit [] = Unit {0}
 EntriesFit (e ∷ es) = (e < 4096) × EntriesFit es
 
+-- every field of a page is in its range, and its records have room
 pub record PageFits (t l : ℕ) (ts : List Tuple) : Type 0 where
   pub table : t < 8
   pub level : l < 4294967296
   pub tuples : AllFit ts
   pub room : sizes ts ≤ recordSpace
 
+-- every field of a directory is in its range
 pub record DirectoryFits (l : ℕ) (es : List ℕ) : Type 0 where
   pub level : l < 4294967296
   pub count : length es ≤ entriesPerBlock

@@ -23,7 +23,7 @@ recordAt xs at =
       flags = f;
       owner = if ltb f 128 then num4 xs (at + 9) else 0;
       start = if ltb f 128 then at + 13 else at + 9;
-      len = f % 64
+      len = f % 64;
     }
 
 -- the payload of a record that stands in xs
@@ -33,7 +33,12 @@ payloadIn xs r = take (r .len) (drop (r .start) xs)
 -- the tuple of a record whose payload is p
 unfoldable pub tupleOf : Record → List ℕ → Tuple
 tupleOf r p = record {
-  key = r .key; number = r .number; owner = readOwner (r .flags) (r .owner); mark = leb 64 (r .flags % 128); payload = p }
+  key = r .key;
+  number = r .number;
+  owner = readOwner (r .flags) (r .owner);
+  mark = leb 64 (r .flags % 128);
+  payload = p;
+}
 
 -- the record at a cursor's place, with the cursor behind it
 unfoldable pub nextAt : List ℕ → ℕ → Next

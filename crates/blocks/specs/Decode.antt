@@ -24,12 +24,22 @@ spelledBy xs b = if same (encodeBlock b) xs then b else malformed
 
 -- ---- header
 
+-- a header's fields, each at its place
 unfoldable pub readHeader : List ℕ → Header
 readHeader xs = record {
-  blocks = field (bitsIn xs) 4 13; capacity = field (bitsIn xs) 17 11; level = field (bitsIn xs) 28 32; next = field (bitsIn xs) 60 32;
-  pages = field (bitsIn xs) 92 11; directories = field (bitsIn xs) 103 3;
-  d0 = field (bitsIn xs) 106 12; d1 = field (bitsIn xs) 118 12; d2 = field (bitsIn xs) 130 12; d3 = field (bitsIn xs) 142 12 }
+  blocks = field (bitsIn xs) 4 13;
+  capacity = field (bitsIn xs) 17 11;
+  level = field (bitsIn xs) 28 32;
+  next = field (bitsIn xs) 60 32;
+  pages = field (bitsIn xs) 92 11;
+  directories = field (bitsIn xs) 103 3;
+  d0 = field (bitsIn xs) 106 12;
+  d1 = field (bitsIn xs) 118 12;
+  d2 = field (bitsIn xs) 130 12;
+  d3 = field (bitsIn xs) 142 12;
+}
 
+-- the header that these bytes spell
 unfoldable pub headerIn : List ℕ → Block
 headerIn xs = spelledBy xs (header (readHeader xs))
 
@@ -59,19 +69,24 @@ unfoldable pub readTuples : ℕ → List ℕ → Option (List Tuple)
 readTuples zero xs = some []
 readTuples (suc n) xs = if whole xs then Option·map (λ ts. readTuple xs ∷ ts) (readTuples n (drop (taken xs) xs)) else none
 
+-- a page's table
 unfoldable pub pageTable : List ℕ → ℕ
 pageTable xs = field (bitsIn xs) 4 3
 
+-- a page's tuple count
 unfoldable pub pageCount : List ℕ → ℕ
 pageCount xs = field (bitsIn xs) 7 6
 
+-- a page's level of writing
 unfoldable pub pageLevel : List ℕ → ℕ
 pageLevel xs = field (bitsIn xs) 22 32
 
+-- the page of these tuples, if these bytes spell it
 unfoldable pub pageOf : List ℕ → Option (List Tuple) → Block
 pageOf xs none = malformed
 pageOf xs (some ts) = spelledBy xs (page (pageTable xs) (pageLevel xs) ts)
 
+-- the page that these bytes spell
 unfoldable pub pageIn : List ℕ → Block
 pageIn xs = pageOf xs (readTuples (pageCount xs) (drop 8 xs))
 
@@ -82,13 +97,15 @@ unfoldable pub readEntries : List ℕ → ℕ → ℕ → List ℕ
 readEntries xs at zero = []
 readEntries xs at (suc n) = field (bitsIn xs) at 12 ∷ readEntries xs (at + 12) n
 
+-- a directory's entry count
 unfoldable pub directoryCount : List ℕ → ℕ
 directoryCount xs = field (bitsIn xs) 4 9
 
+-- a directory's level
 unfoldable pub directoryLevel : List ℕ → ℕ
 directoryLevel xs = field (bitsIn xs) 13 32
 
--- more than 336 entries would not be in the block
+-- the directory that these bytes spell; more than 336 entries would not be in the block
 unfoldable pub directoryIn : List ℕ → Block
 directoryIn xs =
     if leb (directoryCount xs) entriesPerBlock

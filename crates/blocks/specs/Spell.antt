@@ -4,6 +4,7 @@ use mathlib.Core.List.{List, [], _∷_, _++_}
 use lib.ListN.{length, take, drop, replicate}
 use Rattle.bits.specs.Bits.{bitsOf, number}
 
+-- n zeros
 abbrev pub zeros : ℕ → List ℕ
 zeros n = replicate n 0
 
@@ -21,5 +22,6 @@ bytesOf (suc n) b = number (take 8 b) ∷ bytesOf n (drop 8 b)
 unfoldable pub filled : List ℕ → List ℕ
 filled d = d ++ zeros (4096 - length d)
 
+-- the 512 bytes of fields
 unfoldable pub blockOf : List (ℕ × ℕ) → List ℕ
 blockOf fs = bytesOf 512 (filled (spell fs))

@@ -19,6 +19,7 @@ pub record Tuple : Type 0 where
   pub mark : Bool
   pub payload : List ℕ
 
+-- not committed
 unfoldable pub isTentative : Owner → Bool
 isTentative committed = false
 isTentative (tentative t s) = true
@@ -54,6 +55,7 @@ pub record Fits (x : Tuple) : Type 0 where
   pub payload : length (x .payload) ≤ payloadLimit
   pub bytes : AllBytes (x .payload)
 
+-- every tuple's fields are in their ranges
 abbrev pub AllFit : List Tuple → Type 0
 AllFit [] = Unit {0}
 AllFit (x ∷ xs) = Fits x × AllFit xs

@@ -1,16 +1,16 @@
 // The block forms: header, page and directory, each a value and 512 bytes.
 ghost use mathlib.Core.Path.{_≡_};
-ghost use mathlib.Core.List.{List, [], _∷_, _++_};
-ghost use Prim.Native.Nat.{ℕ, _+_, _*_, _/_, _%_, _<_, _≤_};
-ghost use lib.ListN.{length, take, drop, getD};
+ghost use mathlib.Core.List.{[], _∷_};
+ghost use Prim.Native.Nat.{_+_, _%_, _<_, _≤_};
+ghost use lib.ListN.{length, take, drop};
 ghost use Rattle.basics.specs.Basics.{if_then_else_};
 ghost use Rattle.bits.specs.Bits.{over, bitsIn, field};
-ghost use Rattle.blocks.specs.Limits.{payloadLimit, recordSpace, joinSum, entriesPerBlock};
+ghost use Rattle.blocks.specs.Limits.{entriesPerBlock};
 ghost use Rattle.blocks.specs.Numbers.{num4, be4, same};
-ghost use Rattle.blocks.specs.Spell.{zeros, blockOf};
-ghost use Rattle.blocks.specs.Block.{headerFields, directoryFields, header, directory, encodeBlock};
-ghost use Rattle.blocks.specs.Decode.{readEntries, headerIn, pageIn, directoryIn, decodeBlock};
-ghost use Rattle.blocks.specs.Bytes.{recordAt, nextAt, sizeOf, bytesOfRecord, pageHead};
+ghost use Rattle.blocks.specs.Spell.{zeros};
+ghost use Rattle.blocks.specs.Block.{header, directory, encodeBlock};
+ghost use Rattle.blocks.specs.Decode.{readHeader, readEntries, headerIn, pageIn, directoryIn, decodeBlock};
+ghost use Rattle.blocks.specs.Bytes.{nextAt, sizeOf, bytesOfRecord, pageHead};
 ghost use Rattle.blocks.specs.Answers.{reading};
 
 // A header block's fields.
@@ -97,9 +97,13 @@ pub fn get4(block: &[u8], at: usize) -> u32
     requires { ⌜ at + 4 ≤ length (now block) ⌝ }
     ensures { λ r. ⌜ r ≡ num4 (now (block .entry)) at ⌝ }
 {
-    (wide(block[at]) * 16777216 + wide(block[at + 1]) * 65536 + wide(block[at + 2]) * 256 + wide(block[at + 3])) as u32
+    (wide(block[at]) * 16777216
+        + wide(block[at + 1]) * 65536
+        + wide(block[at + 2]) * 256
+        + wide(block[at + 3])) as u32
 }
 
+// Four bytes, high byte first.
 pub fn put4(block: &mut [u8], at: usize, v: u32)
     requires { ⌜ at + 4 ≤ length (now block) ⌝ }
     ensures { λ _. ⌜ now (block .exit) ≡ over (now (block .entry)) at (be4 v) ⌝ }
@@ -110,6 +114,7 @@ pub fn put4(block: &mut [u8], at: usize, v: u32)
     block[at + 3] = low(v);
 }
 
+// One byte.
 pub fn put1(block: &mut [u8], at: usize, v: u8)
     requires { ⌜ at < length (now block) ⌝ }
     ensures { λ _. ⌜ now (block .exit) ≡ over (now (block .entry)) at (v ∷ []) ⌝ }
@@ -175,7 +180,14 @@ impl Cursor {
         if tentative {
             owner = get4(block, at + 9);
         }
-        let found = Record { key: get4(block, at), number: get4(block, at + 4), flags: flags, owner: owner, start: end - len, len: len };
+        let found = Record {
+            key: get4(block, at),
+            number: get4(block, at + 4),
+            flags: flags,
+            owner: owner,
+            start: end - len,
+            len: len,
+        };
         Next::Found(found, Cursor { at: end })
     }
 }
@@ -204,10 +216,15 @@ pub fn put_page_head(block: &mut [u8], table: u32, count: u32, bytes: u32, level
     requires { ⌜ (length (now block) ≡ 512) × (table < 8) × (count < 64) × (bytes < 512) ⌝ }
     ensures { λ _. ⌜ now (block .exit) ≡ over (now (block .entry)) 0 (pageHead table count bytes level) ⌝ }
 {
-    put4(block, 0, 536870912 + table * 33554432 + count * 524288 + bytes * 1024 + level / 4194304);
+    put4(
+        block,
+        0,
+        536870912 + table * 33554432 + count * 524288 + bytes * 1024 + level / 4194304,
+    );
     put4(block, 4, level % 4194304 * 1024);
 }
 
+// The number in at most 32 bits of a block.
 fn get32(block: &[u8; 512], at: usize, width: usize) -> u32
     requires { ⌜ (at + width ≤ 4096) × (width ≤ 32) ⌝ }
     ensures { λ r. ⌜ r ≡ field (bitsIn (now (block .entry))) at width ⌝ }
@@ -239,7 +256,11 @@ fn read_page(block: &[u8]) -> Reading
     }
     put_page_head(&mut copy, table, count, at as u32 - 8, level);
     if same_block(&copy, block) {
-        return Reading::IsPage { table: table, count: count, level: level };
+        return Reading::IsPage {
+            table: table,
+            count: count,
+            level: level,
+        };
     }
     Reading::Malformed
 }
@@ -293,7 +314,10 @@ fn read_directory(block: &[u8; 512]) -> Reading
     let mut copy = [0u8; 512];
     spell_directory(&mut copy, level, &entries, count);
     if same_block(&copy, block) {
-        return Reading::IsDirectory { count: count, level: level };
+        return Reading::IsDirectory {
+            count: count,
+            level: level,
+        };
     }
     Reading::Malformed
 }
@@ -320,11 +344,11 @@ fn spell_header(block: &mut [u8], h: Header)
     bits::put_fields(block, 0, &widths, &values);
 }
 
-// A header is what it spells.
-fn read_header(block: &[u8; 512]) -> Reading
-    ensures { λ r. ⌜ r ≡ reading (headerIn (now (block .entry))) ⌝ }
+// The fields of a header's block.
+fn get_header(block: &[u8; 512]) -> Header
+    ensures { λ r. ⌜ r ≡ readHeader (now (block .entry)) ⌝ }
 {
-    let h = Header {
+    Header {
         blocks: get32(block, 4, 13),
         capacity: get32(block, 17, 11),
         level: get32(block, 28, 32),
@@ -335,7 +359,14 @@ fn read_header(block: &[u8; 512]) -> Reading
         d1: get32(block, 118, 12),
         d2: get32(block, 130, 12),
         d3: get32(block, 142, 12),
-    };
+    }
+}
+
+// A header is what it spells.
+fn read_header(block: &[u8; 512]) -> Reading
+    ensures { λ r. ⌜ r ≡ reading (headerIn (now (block .entry))) ⌝ }
+{
+    let h = get_header(block);
     let mut copy = [0u8; 512];
     spell_header(&mut copy, h);
     if same_block(&copy, block) {

@@ -1,20 +1,16 @@
-use Rattle.blocks.proofs.Stores.{set-over}
+-- `blocks::put1` meets its contract.
 use native.Mathlib.Omega.{arith}
+use Rattle.blocks.proofs.Stores.{set-over}
 use borrow.Author.Needs.{needs}
 use Rattle.blocks.proofs.put1.Statement.{statement}
 use Rattle.blocks.proofs.put1.Tie as tie
-use Rattle.blocks.proofs.put1.Reads as reads
-use Rattle.blocks.proofs.put1.Lts as lts
 
--- src/lib.rt:117:5
 slice-write-block : tie.Need-slice-write-block
 slice-write-block c = search needs
 
--- src/lib.rt:113:1
 same-length : tie.Need-same-length
 same-length c = search needs
 
--- src/lib.rt:113:1
 returns : tie.Need-returns
 returns c = set-over (c .args .block .now) (c .args .at) (c .args .v) (omega arith)
 

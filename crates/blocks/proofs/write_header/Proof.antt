@@ -1,35 +1,26 @@
-use Rattle.blocks.proofs.Stores.{over-whole}
-use mathlib.Core.Path.{_≡_, _∙_}
+-- `blocks::write_header` meets its contract.
+use mathlib.Core.Path.{_∙_}
 use native.Mathlib.Omega.{arith}
+use Rattle.blocks.proofs.Stores.{over-whole}
 use borrow.Author.Needs.{needs}
 use Rattle.blocks.proofs.write_header.Statement.{statement}
 use Rattle.blocks.proofs.write_header.Tie as tie
-use Rattle.blocks.proofs.write_header.Reads as reads
-use Rattle.blocks.proofs.write_header.Lts as lts
-use Rattle.blocks.proofs.copy.Reads as copy-reads
-use Rattle.blocks.proofs.spell_header.Reads as spell-header-reads
 
--- src/lib.rt:366:18
 slice-aggregate-spell-header : tie.Need-slice-aggregate-spell-header
 slice-aggregate-spell-header c = search needs
 
--- src/lib.rt:366:5
 spell-header-requires : tie.Need-spell-header-requires
 spell-header-requires c κs = search needs
 
--- src/lib.rt:367:18
 slice-aggregate-copy : tie.Need-slice-aggregate-copy
 slice-aggregate-copy c = search needs
 
--- src/lib.rt:367:5
 copy-requires : tie.Need-copy-requires
 copy-requires c κs = search needs
 
--- src/lib.rt:361:1
 same-length : tie.Need-same-length
 same-length c = search needs
 
--- src/lib.rt:361:1
 returns : tie.Need-returns
 returns c = let s = c .before .before .before .before .before .before .before .before .before in
     let p = c .before .before .before .before .before .before .spell-header in
