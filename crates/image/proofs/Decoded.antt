@@ -16,12 +16,12 @@ use Rattle.basics.proofs.Facts.{by, by-option}
 use Rattle.blocks.specs.Tuple.{Tuple}
 use Rattle.blocks.specs.Numbers.{same}
 use Rattle.blocks.specs.Block.{Block, malformed, header, page, directory, encodeBlock}
-use Rattle.blocks.specs.Decode.{kind, spelledBy, readHeader, headerIn, readTuples, pageTable, pageCount, pageLevel, pageOf, pageIn, readEntries, directoryCount, directoryLevel, directoryIn, decodeBlock}
+use Rattle.blocks.specs.Decode.{kind, spelledBy, readHeader, headerIn, taken, readTuples, pageTable, pageCount, pageLevel, pageOf, pageIn, readEntries, directoryCount, directoryLevel, directoryIn, decodeBlock}
 use Rattle.blocks.specs.Answers.{reading}
 use Rattle.blocks.specs.declared.Reading.{Reading}
 use Rattle.blocks.proofs.Reading.{the-type}
 use Rattle.blocks.specs.declared.Reading.the-variants.{IsPage}
-use Rattle.blocks.proofs.ReadTuples.{read-length}
+use Rattle.blocks.proofs.ReadTuples.{split, none-is}
 use Rattle.rows.specs.Rows.{rowsOf, markOk}
 use Rattle.rows.proofs.Ands.{and-assoc}
 use Rattle.image.specs.Stages.{pageOk}
@@ -65,6 +65,12 @@ module _ {X : Type 0} (xs : List ℕ) (d : Block)
       (λ a. by (eqb (kind xs) 2)
       (λ b. page-cases (rw (a, b) at e))
       (λ b. by (eqb (kind xs) 3) (λ c. directory-cases (rw (a, b, c) at e)) (λ c. m (rw (a, b, c) at e))))
+
+read-length : (n : ℕ) (xs : List ℕ) (ts : List Tuple) → readTuples n xs ≡ some ts → length ts ≡ n
+read-length zero xs ts e = ap length (none-is xs ts e)
+read-length (suc n) xs ts e =
+    let s = split n xs ts e in
+    ap length (s .is) ∙ ap suc (read-length n (drop (taken xs) xs) (s .others) (s .read))
 
 -- the tuples of a page are those that are read from its block
 pub page-tuples : (xs : List ℕ) (t k : ℕ) (ts : List Tuple) → decodeBlock xs ≡ page t k ts → readTuples (length ts) (drop 8 xs) ≡ some ts

@@ -79,7 +79,7 @@ loop-again c =
     let p16 = p14 .before .before in let p17 = p16 .before in let p18 = p17 .before in let p24 = p18 .before .before .before .before .before .before in
     let a = p24 .args in let p = p18 .loop in let g = p14 .r .given in let l = p .inv .1 .1 .1 .0 in let k = p .inv .1 .1 .1 .1 in let d = p8 .put-row .kept in
     let room : p .at ≤ length (a .block .now) = omega (arith, p24 .pre .0, p .inv .1 .0) in
-    let f = found-is (a .block .now) (p .at) (g .0 .0) (g .0 .1 .0) room (sym (g .1) ∙ p16 .next .ensures) in
+    let f = found-is (a .block .now) (p .at) room (sym (g .1) ∙ p16 .next .ensures) in
     let h : p .i < a .count = omega (arith, p17 .loop-test) in (
       omega arith,
       (

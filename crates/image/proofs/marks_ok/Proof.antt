@@ -37,7 +37,7 @@ returns : tie.Need-returns Inv-loop μ-loop
 returns c =
     let p3 = c .before .before .before in let p5 = p3 .before .before in let p7 = p5 .before .before in let p9 = p7 .before .before in
     let a = p9 .args in let p = p7 .loop in let g = p3 .r .given in
-    let f = found-is (a .block .now) (p .at) (g .0 .0) (g .0 .1 .0) (omega arith) (sym (g .1) ∙ p5 .next .ensures) in
+    let f = found-is (a .block .now) (p .at) (omega arith) (sym (g .1) ∙ p5 .next .ensures) in
     λ t ts e. sym (p .inv .1 .1 t ts e .1 ∙ mark-wrong (a .block .now) (a .count) (p .at) (p .i) ts (omega arith) (p .inv .1 .1 t ts e .0) (g .0 .0) (g .0 .1 .0) f t
     _ (c .before .mark-ok .ensures) (not-true _ (c .if1 .taken)))
 
@@ -62,7 +62,7 @@ loop-again c =
     let p3 = c .before .before .before in let p5 = p3 .before .before in let p7 = p5 .before .before in let p9 = p7 .before .before in
     let a = p9 .args in let p = p7 .loop in let g = p3 .r .given in let k = p .inv .1 .1 in
     let h : p .i < a .count = omega arith in
-    let f = found-is (a .block .now) (p .at) (g .0 .0) (g .0 .1 .0) (omega arith) (sym (g .1) ∙ p5 .next .ensures) in (
+    let f = found-is (a .block .now) (p .at) (omega arith) (sym (g .1) ∙ p5 .next .ensures) in (
       omega arith,
       (
         omega (arith, f .ends),
