@@ -1,1 +1,5 @@
 pub mod Views
+pub mod Lists
+pub mod Splits
+pub mod Frozen
+pub mod Pages
