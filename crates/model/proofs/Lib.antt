@@ -1,5 +1,6 @@
 pub mod Views
 pub mod Lists
+pub mod Owners
 pub mod Splits
 pub mod Frozen
 pub mod Pages
@@ -7,3 +8,4 @@ pub mod Recovery
 pub mod Stored
 pub mod Alloc
 pub mod Inv
+pub mod Steps
