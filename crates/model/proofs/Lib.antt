@@ -9,3 +9,5 @@ pub mod Stored
 pub mod Alloc
 pub mod Inv
 pub mod Steps
+pub mod Begin
+pub mod Crash
