@@ -11,3 +11,4 @@ pub mod Inv
 pub mod Steps
 pub mod Begin
 pub mod Crash
+pub mod Start

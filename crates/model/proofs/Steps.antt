@@ -28,7 +28,7 @@ use Rattle.model.specs.QuotedLine.{content}
 use Rattle.model.proofs.Views.{put}
 use Rattle.model.proofs.Lists.{eqb-self, eqb-true, eqb-sym, all-map, first-all, first-passes, pos-not-zero, not-zero, not-in, in-append, leb-true, all-take, all-drop, all-append, all-true, le-true, leb-false, all-two, in-all}
 use Rattle.model.proofs.Owners.{in-transactions}
-use Rattle.model.proofs.Frozen.{Content, images-first, images, images-thaw, shown-calm, images-none, bare}
+use Rattle.model.proofs.Frozen.{Content, images, images-first, images-thaw, shown-calm, images-none, bare}
 use Rattle.model.proofs.Pages.{all-thaw}
 use Rattle.model.proofs.Recovery.{Found, found, read-blocks}
 use Rattle.model.proofs.Stored.{Stored, end, todo, stands, Dirs, put-other, stored-fill, put-same, stored-put, dirs-snoc, dirs-put, contentOf, stored-read, dirs-read, stored-written}
@@ -227,7 +227,7 @@ header-numbers s l n p (a ∷ b ∷ c ∷ []) h = (refl, refl)
 header-numbers s l n p (a ∷ b ∷ c ∷ d ∷ []) h = (refl, refl)
 header-numbers s l n p (a ∷ b ∷ c ∷ d ∷ e ∷ ds) h = absurd (omega arith)
 
-bare-calm : (ts : List Tuple) → bare (map calm ts) ≡ ts
+pub bare-calm : (ts : List Tuple) → bare (map calm ts) ≡ ts
 unfolding calm
 bare-calm [] = refl
 bare-calm (x ∷ xs) = rw (bare-calm xs)
