@@ -12,3 +12,4 @@ pub mod Steps
 pub mod Begin
 pub mod Crash
 pub mod Start
+pub mod Sound
