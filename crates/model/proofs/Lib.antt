@@ -13,3 +13,4 @@ pub mod Begin
 pub mod Crash
 pub mod Start
 pub mod Sound
+pub mod Rows
