@@ -14,3 +14,4 @@ pub mod Crash
 pub mod Start
 pub mod Sound
 pub mod Rows
+pub mod Placing
