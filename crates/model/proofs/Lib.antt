@@ -15,3 +15,4 @@ pub mod Start
 pub mod Sound
 pub mod Rows
 pub mod Placing
+pub mod Fate

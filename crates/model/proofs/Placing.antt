@@ -8,7 +8,7 @@ use mathlib.Core.Option.{some, none}
 use lib.Dec.{leb, eqb, ltb}
 use lib.ListN.{length}
 use Rattle.basics.specs.Basics.{if_then_else_}
-use Rattle.basics.proofs.Facts.{AllOf, lie, never, by, by-option}
+use Rattle.basics.proofs.Facts.{AllOf, lie, never, by-option, by}
 use Rattle.blocks.specs.Tuple.{Tuple}
 use Rattle.rows.specs.Rows.{Row}
 use Rattle.model.specs.State.{Held, Page}
@@ -17,7 +17,7 @@ use Rattle.model.specs.Sight.{rows, held}
 use Rattle.model.proofs.Lists.{Pairs, some-eq, leb-true, all-append, all-map, eqb-self, all-two, pairs-parts, all-parts, eqb-true, leb-false, all-mapped}
 use Rattle.model.proofs.Splits.{after-none, once-together}
 use Rattle.model.proofs.Sound.{PageOk}
-use Rattle.model.proofs.Rows.{Entry, asRow, withTable, all-table, entries, entries-append, entries-fresh, live, plain, sub-all, live-sub, plain-append, live-append, held-plain, rows-live}
+use Rattle.model.proofs.Rows.{Entry, asRow, withTable, all-table, entries, entries-append, entries-fresh, live, plain, sub-all, live-sub, plain-append, live-append, pairs-plain, held-plain, rows-live}
 
 -- a stands before b: by table, key, number
 abbrev pub Before : Row → Row → Type 0
@@ -281,14 +281,6 @@ module _ (t : ℕ) (x : Tuple) where
       (λ qs n. let r = placeAfter-put ps qs n o s in rw (n, place) (r .0, r .1, r .2 .put))
 
 -- ---- what is held, and what is live
-
-pairs-plain : (R : Row → Row → Type 0) (es : List Entry) → Pairs R (plain es) → Pairs (λ a b. R (asRow a) (asRow b)) es
-pairs-plain R [] p = tt
-pairs-plain R (e ∷ es) p = (go es (p .0), pairs-plain R es (p .1))
-  where
-    go : (fs : List Entry) → AllOf (R (asRow e)) (plain fs) → AllOf (λ b. R (asRow e) (asRow b)) fs
-    go [] a = tt
-    go (f ∷ fs) a = (a .0, go fs (a .1))
 
 low-live : (t k : ℕ) (es : List Entry) → AllOf (NotAbove t k) (plain es) → AllOf (NotAbove t k) (live es)
 low-live t k es a =

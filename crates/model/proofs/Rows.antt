@@ -13,7 +13,7 @@ use Rattle.basics.proofs.Facts.{by, lie, and-true, AllOf}
 use Rattle.blocks.specs.Tuple.{Tuple}
 use Rattle.rows.specs.Rows.{Row, rowsOf, number}
 use Rattle.model.specs.State.{Held, Page}
-use Rattle.model.specs.Rules.{isRemoving, ripe, ripened, fresh, joins, joined, settleNext, settle, settleFull, listOf, asCommitted, isCommitting, around, calm, splitAll, thaw, thawOn, isPending, isFrozen, isNumber, edit, hasNumber, gone, goneLater, withPending, isAdding, kept, keptLater, remove, removeOn, withTuples, commit, commitOn, freeze}
+use Rattle.model.specs.Rules.{isRemoving, ripe, ripened, fresh, joins, joined, settle, settleNext, settleFull, listOf, asCommitted, isCommitting, around, calm, splitAll, thaw, thawOn, isPending, isFrozen, isNumber, edit, hasNumber, gone, goneLater, withPending, isAdding, kept, keptLater, remove, removeOn, withTuples, commit, commitOn, freeze}
 use Rattle.model.specs.Sight.{rows, held}
 use Rattle.model.specs.Transactions.{isRow}
 use Rattle.model.proofs.Lists.{eqb-true, nothing-left, has-some, here, Pairs, all-map, off-any, pairs-parts}
@@ -420,3 +420,13 @@ pub entries-freeze : (ps : List Page) → entries (map freeze ps) ≡ entries ps
 unfolding entries freeze
 entries-freeze [] = refl
 entries-freeze (p ∷ ps) = rw (entries-freeze ps)
+
+-- ---- pairs of rows and of entries
+
+pub pairs-plain : (R : Row → Row → Type 0) (es : List Entry) → Pairs R (plain es) → Pairs (λ a b. R (asRow a) (asRow b)) es
+pairs-plain R [] p = tt
+pairs-plain R (e ∷ es) p = (go es (p .0), pairs-plain R es (p .1))
+  where
+    go : (fs : List Entry) → AllOf (R (asRow e)) (plain fs) → AllOf (λ b. R (asRow e) (asRow b)) fs
+    go [] a = tt
+    go (f ∷ fs) a = (a .0, go fs (a .1))
