@@ -16,3 +16,4 @@ pub mod Sound
 pub mod Rows
 pub mod Placing
 pub mod Fate
+pub mod Valid
