@@ -17,3 +17,5 @@ pub mod Rows
 pub mod Placing
 pub mod Fate
 pub mod Valid
+pub mod Closing
+pub mod Keeps

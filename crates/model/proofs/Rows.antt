@@ -13,7 +13,7 @@ use Rattle.basics.proofs.Facts.{by, lie, and-true, AllOf}
 use Rattle.blocks.specs.Tuple.{Tuple}
 use Rattle.rows.specs.Rows.{Row, rowsOf, number}
 use Rattle.model.specs.State.{Held, Page}
-use Rattle.model.specs.Rules.{isRemoving, ripe, ripened, fresh, joins, joined, settle, settleNext, settleFull, listOf, asCommitted, isCommitting, around, calm, splitAll, thaw, thawOn, isPending, isFrozen, isNumber, edit, hasNumber, gone, goneLater, withPending, isAdding, kept, keptLater, remove, removeOn, withTuples, commit, commitOn, freeze}
+use Rattle.model.specs.Rules.{isRemoving, ripe, ripened, fresh, joins, joined, settleNext, settle, settleFull, listOf, asCommitted, isCommitting, around, calm, splitAll, thaw, thawOn, isPending, isFrozen, isNumber, edit, hasNumber, gone, goneLater, withPending, isAdding, kept, keptLater, remove, removeOn, withTuples, commit, commitOn, freeze}
 use Rattle.model.specs.Sight.{rows, held}
 use Rattle.model.specs.Transactions.{isRow}
 use Rattle.model.proofs.Lists.{eqb-true, nothing-left, has-some, here, Pairs, all-map, off-any, pairs-parts}
@@ -240,7 +240,7 @@ still-thawOn b o p ps ok =
     (λ h. rw (h, entries-page o (record { table = p .table; block = b; frozen = false; tuples = p .tuples }) ps) (still-mid o p ps (withTable (p .table) (p .tuples)) (still-refl (withTable (p .table) (p .tuples)))))
 
 -- a step of the checkpoint changes nothing that a transaction sees
-pub still-thaw : (b : ℕ) (ps : List Page) → AllOf PageOk ps → Still (entries (thaw b ps)) (entries ps)
+still-thaw : (b : ℕ) (ps : List Page) → AllOf PageOk ps → Still (entries (thaw b ps)) (entries ps)
 unfolding thaw listOf live entries
 still-thaw b ps a = around-held Still isFrozen (thawOn b) (empty, refl) (λ p h a b s. let c = withTable (p .table) (p .tuples) in still-append c c a b (still-refl c) s) (λ o p ps h k ok. still-thawOn b o p ps (ok .0)) none ps tt a
 
@@ -414,12 +414,22 @@ pub amends-commit : (n : ℕ) (ps : List Page) → AllOf PageOk ps → Amends se
 unfolding commit listOf
 amends-commit n ps a = around-held (Amends settled n) (hasNumber n) (commitOn n) (amends-none settled n) (λ p h a b s. amends-past settled n (withTable (p .table) (p .tuples)) a b (hasNumber-off n p h) s) (λ o p ps h k ok. amends-commitOn n o p ps h k) none ps tt a
 
--- ---- freezing
+-- ---- freezing and thawing change no row
 
-pub entries-freeze : (ps : List Page) → entries (map freeze ps) ≡ entries ps
-unfolding entries freeze
-entries-freeze [] = refl
-entries-freeze (p ∷ ps) = rw (entries-freeze ps)
+pub held-freeze : (ps : List Page) → held (map freeze ps) ≡ held ps
+unfolding held freeze
+held-freeze [] = refl
+held-freeze (p ∷ ps) = rw (held-freeze ps)
+
+pub rows-freeze : (ps : List Page) → rows (map freeze ps) ≡ rows ps
+unfolding rows freeze
+rows-freeze [] = refl
+rows-freeze (p ∷ ps) = rw (rows-freeze ps)
+
+pub thaw-rows : (b : ℕ) (ps : List Page) → AllOf PageOk ps → Sub (held (thaw b ps)) (held ps) × (rows (thaw b ps) ≡ rows ps)
+thaw-rows b ps a =
+    let r = still-thaw b ps a in
+    (rw (held-plain ps, held-plain (thaw b ps)) (r .0), rows-live (thaw b ps) ∙ r .1 ∙ sym (rows-live ps))
 
 -- ---- pairs of rows and of entries
 
