@@ -19,3 +19,4 @@ pub mod Fate
 pub mod Valid
 pub mod Closing
 pub mod Keeps
+pub mod Tests
