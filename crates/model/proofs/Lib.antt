@@ -20,3 +20,4 @@ pub mod Valid
 pub mod Closing
 pub mod Keeps
 pub mod Tests
+pub mod Whole
