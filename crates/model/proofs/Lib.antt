@@ -21,3 +21,5 @@ pub mod Closing
 pub mod Keeps
 pub mod Tests
 pub mod Whole
+pub mod Inserted
+pub mod Tally
