@@ -16,15 +16,14 @@ use Rattle.image.specs.Stages.{directoriesFor}
 use Rattle.model.specs.State.{Store, Outcome, Page, Held, idle, running, nothing, Checkpoint}
 use Rattle.model.specs.Rules.{heldSize, isPending, freeze, isFrozen}
 use Rattle.model.specs.Sight.{rows, held, isForeign, versions, seen, seenOf}
-use Rattle.model.specs.Transactions.{Test, _when_, unless, gives, openCall, changed, newTuple, written, insertCall, notOpen, noTable, tooLong, foreign, present, full, replaceCall, unseen, deleteCall, readCall, readSeen, listCall, commitCall, plan, planRows, others, abortCall, removeAll}
+use Rattle.model.specs.Transactions.{Test, _when_, unless, gives, openCall, changed, newTuple, written, insertCall, notOpen, noTable, tooLong, foreign, present, full, replaceCall, unseen, deleteCall, readCall, readSeen, listCall, commitCall, planRows, plan, others, abortCall, removeAll}
 use Rattle.model.specs.Checkpoint.{beginCall, stored, storePage, made, allocate, storeDirectory, storeHeader, stepAt, stepOf, inTurn, stepCall, runCall, left}
 use Rattle.model.specs.Calls.{Call, call, opens, inserts, replaces, deletes, commits, aborts, reads, lists, begins, steps, runs}
 use Rattle.model.proofs.Views.{put}
 use Rattle.model.proofs.Lists.{in-append, all-map, leb-false, Pairs, not-false}
 use Rattle.model.proofs.Owners.{others-length}
 use Rattle.model.proofs.Splits.{mostSize}
-use Rattle.model.proofs.Frozen.{images, images-place, images-perform, shown-calm, images-none}
-use Rattle.model.proofs.Steps.{still}
+use Rattle.model.proofs.Frozen.{images-place, images, images-perform, shown-calm, images-none}
 use Rattle.model.proofs.Begin.{below-most}
 use Rattle.model.proofs.Crash.{idle-of}
 use Rattle.model.proofs.Sound.{place-ok, perform-ok, PageOk, bare-size, thaw-ok}

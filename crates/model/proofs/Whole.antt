@@ -27,7 +27,6 @@ use Rattle.model.proofs.Owners.{pigeon, transactions-distinct, in-trans
 use Rattle.model.proofs.Frozen.{bare, shown-calm, images}
 use Rattle.model.proofs.Recovery.{Found}
 use Rattle.model.proofs.Inv.{Ready}
-use Rattle.model.proofs.Steps.{still}
 use Rattle.model.proofs.Start.{Read, loaded-held, head-range, pages-read}
 use Rattle.model.proofs.Sound.{Calm, PageOk, small}
 use Rattle.model.proofs.Placing.{page-full}
