@@ -23,3 +23,5 @@ pub mod Tests
 pub mod Whole
 pub mod Inserted
 pub mod Tally
+pub mod Range
+pub mod Claim
