@@ -1,11 +1,12 @@
 -- The calls together: one clause a call in each table.
 use Prim.Native.Nat.{ℕ, _<_}
-use mathlib.Core.Bool.{Bool, true, false}
+use mathlib.Core.Bool.{Bool, true, false, not}
 use mathlib.Core.List.{List, [], _∷_}
-use Rattle.basics.specs.Basics.{if_then_else_, isIn}
+use lib.Dec.{eqb}
+use Rattle.basics.specs.Basics.{if_then_else_, isIn, keep}
 use Rattle.blocks.specs.Tuple.{AllBytes}
 use Rattle.model.specs.State.{Store, Answer, refused, done, count, filled, Outcome}
-use Rattle.model.specs.Transactions.{openCall, commitCall, abortCall, insertCall, replaceCall, deleteCall, readCall, listCall, others}
+use Rattle.model.specs.Transactions.{openCall, commitCall, abortCall, insertCall, replaceCall, deleteCall, readCall, listCall}
 use Rattle.model.specs.Checkpoint.{beginCall, stepCall, runCall}
 
 -- with transaction, table, key, payload; the length of the reply (read, list) or of the image (step, run)
@@ -65,6 +66,10 @@ isBegin (lists room) = false
 isBegin begins = true
 isBegin (steps len) = false
 isBegin (runs limit len) = false
+
+-- without transaction tx
+unfoldable pub others : ℕ → List ℕ → List ℕ
+others tx ws = keep (λ w. not (eqb w tx)) ws
 
 -- the open transactions that had written, after an accepted call: those with an accepted insert, replace or delete since they opened
 unfoldable pub withWriter : ℕ → List ℕ → List ℕ

@@ -10,6 +10,7 @@ use Rattle.blocks.specs.Tuple.{Tuple, AllBytes}
 use Rattle.blocks.specs.Block.{encodeBlock}
 use Rattle.image.specs.Stages.{holds}
 use Rattle.model.specs.State.{Held, Page, Store, Write}
+use Rattle.model.specs.Transactions.{openNumbers}
 use Rattle.model.specs.Calls.{Call, call, AllTyped, isBegin, accepted, afterCalls, hadWritten}
 use Rattle.model.specs.Recover.{memoryFor, putBlock, make, madeImage, recover}
 
@@ -73,7 +74,7 @@ content p = (p .table, map (λ h. h .tuple) (p .tuples))
 pub record Same (r s : Store) (calls : List Call) : Type 0 where
   pub pages : map content (r .pages) ≡ map content (afterCalls calls s .pages)
   pub next : r .next ≡ afterCalls calls s .next
-  pub writers : (tx : ℕ) → isIn tx (r .active) ≡ isIn tx (hadWritten calls s (s .active))
+  pub writers : (tx : ℕ) → isIn tx (openNumbers (r .active)) ≡ isIn tx (hadWritten calls s (openNumbers (s .active)))
 
 -- From any start, for every list of calls and every cut of its stores, recovery with memory enough is accepted and gives what the
 -- run of the calls before the begin of the last landed checkpoint had.

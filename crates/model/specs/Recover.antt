@@ -4,14 +4,14 @@ use mathlib.Core.Bool.{Bool, true, false, not, _||_}
 use mathlib.Core.List.{List, [], _∷_, _++_, map}
 use lib.ListN.{length, take, drop}
 use lib.Dec.{leb, ltb, eqb}
-use Rattle.basics.specs.Basics.{if_then_else_, isIn}
+use Rattle.basics.specs.Basics.{if_then_else_, howMany, isIn}
 use Rattle.blocks.specs.Block.{header, encodeBlock}
 use Rattle.blocks.specs.declared.Header.{Header}
-use Rattle.rows.specs.Rows.{transactions}
+use Rattle.rows.specs.Rows.{Row, isOwn, transactions}
 use Rattle.image.specs.View.{View, view, blockCount}
 use Rattle.image.specs.Stages.{Stage, refuses, holds, capacityLimit, wholeBlocks, directoryBlocks, StoredPage, rowsOfPages}
 use Rattle.image.specs.Whole.{headerStage, pagesStage}
-use Rattle.model.specs.State.{Page, Checkpoint, idle, Store}
+use Rattle.model.specs.State.{Page, Active, Checkpoint, idle, Store}
 use Rattle.model.specs.Rules.{calm}
 use Rattle.model.specs.Checkpoint.{headerFor}
 
@@ -48,11 +48,15 @@ madeImage img n = putBlock img 0 (encodeBlock (header (headerFor (freshStore (le
 unfoldable pub loaded : StoredPage → Page
 loaded p = record { table = p .table; block = p .block; frozen = false; tuples = map calm (p .tuples) }
 
+-- an open transaction of the rows rs
+unfoldable pub reopened : List Row → ℕ → Active
+reopened rs tx = record { transaction = tx; written = howMany (isOwn tx) rs }
+
 -- what the header, directory and page blocks hold; the transactions of the tentative tuples are open
 unfoldable pub recoveredStore : Header → List StoredPage → Store
 recoveredStore h ps =
     record { blocks = h .blocks; capacity = h .capacity; level = h .level; next = h .next; pages = map loaded ps;
-      active = transactions (rowsOfPages ps); used = λ b. isIn b (map (λ p. p .block) ps ++ directoryBlocks h); taken = 0; checkpoint = idle }
+      active = map (reopened (rowsOfPages ps)) (transactions (rowsOfPages ps)); used = λ b. isIn b (map (λ p. p .block) ps ++ directoryBlocks h); taken = 0; checkpoint = idle }
 
 unfoldable pub recoverPages : Header → Stage (List StoredPage) → Stage Store
 recoverPages h (refuses n) = refuses n

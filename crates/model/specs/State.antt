@@ -26,6 +26,11 @@ pub data Checkpoint : Type 0 where
   idle : Checkpoint
   running : ℕ → List ℕ → List ℕ → Checkpoint
 
+-- an open transaction, and how many tuples it has written since it opened (for a recovered one: how many the image has)
+pub record Active : Type 0 where
+  pub transaction : ℕ
+  pub written : ℕ
+
 -- used: the blocks named by the landed header or its directory or written by the running checkpoint; taken: the block last taken
 pub record Store : Type 0 where
   pub blocks : ℕ
@@ -33,7 +38,7 @@ pub record Store : Type 0 where
   pub level : ℕ
   pub next : ℕ
   pub pages : List Page
-  pub active : List ℕ
+  pub active : List Active
   pub used : ℕ → Bool
   pub taken : ℕ
   pub checkpoint : Checkpoint

@@ -1,15 +1,15 @@
 -- Open, insert, replace, delete, read, list, commit, abort: each with its refusals in the order in which they are tested.
-use Prim.Native.Nat.{ℕ, suc, _*_, _/_, _%_}
+use Prim.Native.Nat.{ℕ, suc, _*_, _/_, _%_, min}
 use mathlib.Core.Bool.{Bool, true, false, not, _&&_}
 use mathlib.Core.Option.{Option, none, some}
-use mathlib.Core.List.{List, [], _∷_, _++_}
+use mathlib.Core.List.{List, [], _∷_, _++_, map}
 use lib.ListN.{length}
 use lib.Dec.{leb, ltb, eqb}
-use Rattle.basics.specs.Basics.{if_then_else_, any, keep, howMany, isEmpty, isSome, isIn}
+use Rattle.basics.specs.Basics.{if_then_else_, any, keep, isEmpty, isSome, isIn}
 use Rattle.blocks.specs.Limits.{payloadLimit, mostNumber}
 use Rattle.blocks.specs.Tuple.{Tuple, tentative}
 use Rattle.rows.specs.Rows.{Row, number, isOwn, isAt, openLimit}
-use Rattle.model.specs.State.{Page, Store, Answer, refused, done, filled, Outcome}
+use Rattle.model.specs.State.{Page, Active, Store, Answer, refused, done, filled, Outcome}
 use Rattle.model.specs.Rules.{place, remove, commit}
 use Rattle.model.specs.Sight.{held, rows, isForeign, versions, seen}
 
@@ -30,23 +30,46 @@ unless [] s o = o
 unless ((n when b) ∷ ts) s o = if b then gives (refused n) s else unless ts s o
 
 -- the store with another next number, other pages, other open transactions
-unfoldable pub changed : Store → ℕ → List Page → List ℕ → Store
+unfoldable pub changed : Store → ℕ → List Page → List Active → Store
 changed s n ps os =
     record { blocks = s .blocks; capacity = s .capacity; level = s .level; next = n; pages = ps; active = os; used = s .used; taken = s .taken; checkpoint = s .checkpoint }
+
+-- ---- open transactions
+
+unfoldable pub openNumbers : List Active → List ℕ
+openNumbers os = map (λ o. o .transaction) os
+
+unfoldable pub isFor : ℕ → Active → Bool
+isFor tx o = eqb (o .transaction) tx
+
+-- how many tuples a transaction has written
+unfoldable pub writtenBy : ℕ → List Active → ℕ
+writtenBy tx [] = 0
+writtenBy tx (o ∷ os) = if isFor tx o then o .written else writtenBy tx os
+
+-- it has written one more. (A count has 20 bits; no transaction has more tuples than a store holds.)
+unfoldable pub withWrite : ℕ → List Active → List Active
+withWrite tx [] = []
+withWrite tx (o ∷ os) =
+    if isFor tx o then record { transaction = o .transaction; written = min (suc (o .written)) 1048575 } ∷ os else o ∷ withWrite tx os
+
+-- it is closed
+unfoldable pub without : ℕ → List Active → List Active
+without tx os = keep (λ o. not (isFor tx o)) os
 
 -- ---- open
 
 -- 6 transaction above 4,095; 8 already open; 9 when 64 are open
 unfoldable pub openCall : ℕ → Store → Outcome
 openCall tx s =
-    unless (6 when ltb 4095 tx ∷ 8 when isIn tx (s .active) ∷ 9 when leb openLimit (length (s .active)) ∷ []) s
-    (gives done (changed s (s .next) (s .pages) (s .active ++ tx ∷ [])))
+    unless (6 when ltb 4095 tx ∷ 8 when isIn tx (openNumbers (s .active)) ∷ 9 when leb openLimit (length (s .active)) ∷ []) s
+    (gives done (changed s (s .next) (s .pages) (s .active ++ record { transaction = tx; written = 0 } ∷ [])))
 
 -- ---- insert, replace, delete
 
 -- 6 transaction above 4,095; 7 not open
 unfoldable pub notOpen : ℕ → Store → List Test
-notOpen tx s = 6 when ltb 4095 tx ∷ 7 when not (isIn tx (s .active)) ∷ []
+notOpen tx s = 6 when ltb 4095 tx ∷ 7 when not (isIn tx (openNumbers (s .active))) ∷ []
 
 -- 10 table above 7
 unfoldable pub noTable : ℕ → Test
@@ -75,10 +98,10 @@ full s = 15 when leb (s .capacity) (length (held (s .pages))) ∷ 16 when eqb (s
 -- a tentative tuple; its statement is how many tuples the transaction had written before
 unfoldable pub newTuple : ℕ → ℕ → List ℕ → Bool → Store → Tuple
 newTuple tx k bs m s =
-    record { key = k; number = s .next; owner = tentative tx (howMany (isOwn tx) (rows (s .pages))); mark = m; payload = bs }
+    record { key = k; number = s .next; owner = tentative tx (writtenBy tx (s .active)); mark = m; payload = bs }
 
 unfoldable pub written : ℕ → ℕ → ℕ → List ℕ → Bool → Store → Outcome
-written tx t k bs m s = gives done (changed s (suc (s .next)) (place t (newTuple tx k bs m s) (s .pages)) (s .active))
+written tx t k bs m s = gives done (changed s (suc (s .next)) (place t (newTuple tx k bs m s) (s .pages)) (withWrite tx (s .active)))
 
 unfoldable pub insertCall : ℕ → ℕ → ℕ → List ℕ → Store → Outcome
 insertCall tx t k bs s =
@@ -111,7 +134,7 @@ listing (tx ∷ txs) = tx / 256 % 256 ∷ tx % 256 ∷ listing txs
 
 unfoldable pub listCall : ℕ → Store → Outcome
 listCall room s =
-    unless (21 when ltb room (2 * length (s .active)) ∷ []) s (gives (filled (length (s .active)) (listing (s .active))) s)
+    unless (21 when ltb room (2 * length (s .active)) ∷ []) s (gives (filled (length (s .active)) (listing (openNumbers (s .active)))) s)
 
 -- ---- commit, abort: a plan of operations on tuples by number, made from the rows at entry
 
@@ -148,15 +171,12 @@ planRows tx everything (x ∷ xs) =
 unfoldable pub plan : ℕ → List Page → List Op
 plan tx ps = let rs = rows ps in planRows tx rs rs
 
-unfoldable pub others : ℕ → List ℕ → List ℕ
-others tx os = keep (λ o. not (eqb o tx)) os
-
 unfoldable pub commitCall : ℕ → Store → Outcome
 commitCall tx s =
-    unless (notOpen tx s) s (gives done (changed s (s .next) (perform (plan tx (s .pages)) (s .pages)) (others tx (s .active))))
+    unless (notOpen tx s) s (gives done (changed s (s .next) (perform (plan tx (s .pages)) (s .pages)) (without tx (s .active))))
 
 -- abort removes the transaction's tuples in that order
 unfoldable pub abortCall : ℕ → Store → Outcome
 abortCall tx s =
     unless (notOpen tx s) s
-    (gives done (changed s (s .next) (perform (removeAll (keep (isOwn tx) (rows (s .pages)))) (s .pages)) (others tx (s .active))))
+    (gives done (changed s (s .next) (perform (removeAll (keep (isOwn tx) (rows (s .pages)))) (s .pages)) (without tx (s .active))))
