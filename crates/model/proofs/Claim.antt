@@ -13,17 +13,17 @@ use Rattle.model.proofs.Recovery.{Found, found}
 use Rattle.model.proofs.Inv.{Ready, Inv}
 use Rattle.model.proofs.Crash.{main}
 use Rattle.model.proofs.Start.{start-idle, start-inv, start-active}
-use Rattle.model.proofs.Valid.{Valid}
+use Rattle.model.proofs.Valid.{Valid, Counted}
 use Rattle.model.proofs.Keeps.{keeps, step-valid}
 use Rattle.model.proofs.Whole.{Fitting, starts, ready}
-use Rattle.model.proofs.Tally.{writers-law}
+use Rattle.model.proofs.Tally.{keeps-count, counted-step, writers-law}
 use Rattle.model.proofs.Range.{keeps-fits, step-fits, frozen-fit}
 
 module _ (v : View) (sane : AllSane v) (s : Store) (two : 2 ≤ s .blocks) (e : recoverView (s .blocks) v ≡ holds s) where
   at-start : Found (s .blocks) v s
   at-start = found (s .blocks) v s e
 
-  start-valid : Valid s × Fitting s
+  start-valid : Valid s × Counted s × Fitting s
   start-valid = starts (s .blocks) v s sane at-start
 
   start-ready : Ready s
@@ -44,14 +44,15 @@ module _ (v : View) (sane : AllSane v) (s : Store) (two : 2 ≤ s .blocks) (e : 
   recovers-cut : (calls : List Call) (v′ : View) (base : List Call) → CutV v [] (log [] [] s calls) v′ base
       → (r : Store) × (recoverView (s .blocks) v′ ≡ holds r) × Same r s base
   recovers-cut calls v′ base cut =
-      let g = main (s .blocks) s (λ c. Unit {0}) Valid (λ c t o k. keeps c t k) step-valid ready calls [] [] [] v s start-after (all-calls calls) (start-valid .0) start-now in
+      let g = main (s .blocks) s (λ c. Unit {0}) (λ t. Valid t × Counted t) (λ c t o k. (keeps c t (k .0) (k .1), keeps-count c t (k .0) (k .1)))
+          (λ t k. (step-valid t (k .0), counted-step t (k .0) (k .1))) (λ t k. ready t (k .0)) calls [] [] [] v s start-after (all-calls calls) (start-valid .0, start-valid .1) start-now in
       let r = g .safe v′ base cut in (
         r .0,
         r .1,
         record {
           pages = r .2 .pages;
           next = r .2 .next;
-          writers = λ tx. r .2 .active tx ∙ writers-law s (start-valid .0) (start-active (s .blocks) v s at-start (start-ready .same)) base tx;
+          writers = λ tx. r .2 .active tx ∙ writers-law s (start-valid .0) (start-valid .1) (start-active (s .blocks) v s at-start (start-ready .same)) base tx;
         },
       )
 
@@ -61,8 +62,9 @@ module _ (v : View) (sane : AllSane v) (s : Store) (two : 2 ≤ s .blocks) (e : 
 
   writes-range : s .blocks ≤ 4096 → (calls : List Call) → AllTyped calls → AllOf (WriteOk (s .blocks)) (log [] [] s calls)
   writes-range most calls a =
-      main (s .blocks) s Typed (λ t. Valid t × Fitting t) (λ c t o k. (keeps c t (k .0), keeps-fits c t o (k .0) (k .1))) (λ t k. (step-valid t (k .0), step-fits t (k .0) (k .1)))
-      (λ t k. ready t (k .0)) calls [] [] [] v s start-after (typed-calls calls a) start-valid start-now .ranged most (λ t k. frozen-fit t (k .0) (k .1))
+      main (s .blocks) s Typed (λ t. Valid t × Counted t × Fitting t) (λ c t o k. (keeps c t (k .0) (k .1), keeps-count c t (k .0) (k .1), keeps-fits c t o (k .0) (k .1) (k .2)))
+      (λ t k. (step-valid t (k .0), counted-step t (k .0) (k .1), step-fits t (k .0) (k .2)))
+      (λ t k. ready t (k .0)) calls [] [] [] v s start-after (typed-calls calls a) start-valid start-now .ranged most (λ t k. frozen-fit t (k .0) (k .2))
 
 pub crash-views : CrashViews
 crash-views v sane s two e calls v′ base cut = recovers-cut v sane s two e calls v′ base cut

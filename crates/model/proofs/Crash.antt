@@ -15,7 +15,7 @@ use Rattle.blocks.specs.Limits.{mostNumber}
 use Rattle.rows.specs.Rows.{Row}
 use Rattle.image.specs.Stages.{directoriesFor, holds}
 use Rattle.image.specs.View.{View}
-use Rattle.model.specs.State.{Store, Write, Outcome, Checkpoint, Page, idle, running, Held, Answer, refused, done, count}
+use Rattle.model.specs.State.{Store, Write, Outcome, Checkpoint, Page, idle, running, Held, Active, Answer, refused, done, count}
 use Rattle.model.specs.Rules.{fresh, isFrozen}
 use Rattle.model.specs.Sight.{seen}
 use Rattle.model.specs.Transactions.{unless, Test, gives, _when_, written, changed, perform, Op, openCall, insertCall, replaceCall, deleteCall, readSeen, readCall, listCall, commitCall, abortCall}
@@ -58,7 +58,7 @@ record Quiet (img : View) (s : Store) (o : Outcome) : Type 0 where
   none-written : o .writes ≡ []
   next : ℕ
   pages : List Page
-  active : List ℕ
+  active : List Active
   eq : o .store ≡ changed s next pages active
   same : images pages ≡ images (s .pages)
   kept : AllOf (Tie img s (s .checkpoint)) (s .pages) → AllOf (Tie img s (s .checkpoint)) pages
@@ -78,7 +78,7 @@ module _ (img : View) (s : Store) where
   quiet-written tx t k bs m =
       record { none-written = refl; next = _; pages = _; active = _; eq = refl; same = images-place t _ (s .pages); kept = all-place (Tie img s (s .checkpoint)) (tie-fresh img s (s .checkpoint)) (tie-frozen img s (s .checkpoint)) t _ (s .pages) }
 
-  quiet-performed : (os : List Op) (active : List ℕ) → Quiet img s (gives done (changed s (s .next) (perform os (s .pages)) active))
+  quiet-performed : (os : List Op) (active : List Active) → Quiet img s (gives done (changed s (s .next) (perform os (s .pages)) active))
   unfolding gives
   quiet-performed os active =
       record { none-written = refl; next = _; pages = _; active = _; eq = refl; same = images-perform os (s .pages); kept = all-perform (Tie img s (s .checkpoint)) (tie-fresh img s (s .checkpoint)) (tie-frozen img s (s .checkpoint)) os (s .pages) }
@@ -120,7 +120,7 @@ module _ (img : View) (s : Store) where
   unfolding abortCall
   quiet-abort tx = quiet-unless img _ s _ (quiet-performed _ _)
 
-phase-changed : (img : View) (s b : Store) (nx : ℕ) (ps : List Page) (os : List ℕ) → images ps ≡ images (s .pages) → (c : Checkpoint)
+phase-changed : (img : View) (s b : Store) (nx : ℕ) (ps : List Page) (os : List Active) → images ps ≡ images (s .pages) → (c : Checkpoint)
     → (AllOf (Tie img s c) (s .pages) → AllOf (Tie img s c) ps) → Phase img s b c → Phase img (changed s nx ps os) b c
 unfolding changed freeCount isFree
 phase-changed img s b nx ps os e idle k ph = record { lvl = ph .lvl; tied = k (ph .tied) }

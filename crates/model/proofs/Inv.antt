@@ -17,6 +17,7 @@ use Rattle.image.specs.View.{View}
 use Rattle.model.specs.State.{Page, Held, Store, Checkpoint, idle, running}
 use Rattle.model.specs.Rules.{fresh, shown}
 use Rattle.model.specs.Sight.{rows, held}
+use Rattle.model.specs.Transactions.{openNumbers}
 use Rattle.model.specs.Checkpoint.{fill, stored, freeCount}
 use Rattle.model.specs.QuotedLine.{content}
 use Rattle.model.proofs.Views.{put}
@@ -133,7 +134,7 @@ pub record Ready (s : Store) : Type 0 where
 pub record Like (r b : Store) : Type 0 where
   pub pages : map content (r .pages) ≡ map content (b .pages)
   pub next : r .next ≡ b .next
-  pub active : (tx : ℕ) → isIn tx (r .active) ≡ any (isOwn tx) (rows (b .pages))
+  pub active : (tx : ℕ) → isIn tx (openNumbers (r .active)) ≡ any (isOwn tx) (rows (b .pages))
 
 -- used: blocks in use, among which are all that recovery reads
 pub record Good (n : ℕ) (img : View) (used : ℕ → Bool) (b : Store) : Type 0 where

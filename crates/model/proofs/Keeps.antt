@@ -7,30 +7,30 @@ use mathlib.Core.List.{List, [], _∷_, _++_, map}
 use mathlib.Core.Option.{some, Option, none}
 use lib.Dec.{ltb}
 use lib.ListN.{length, length-append, length-map}
-use Rattle.basics.specs.Basics.{keep, if_then_else_, isIn, any, first, isEmpty, howMany, isSome, last}
+use Rattle.basics.specs.Basics.{keep, if_then_else_, isIn, howMany, any, first, isEmpty, isSome, last}
 use Rattle.basics.proofs.Facts.{by, AllOf, lie, by-option}
 use Rattle.blocks.specs.Limits.{payloadLimit, mostNumber}
 use Rattle.blocks.specs.Tuple.{Owner, committed, tentative, Tuple, size, ownerSize, isTentative}
-use Rattle.rows.specs.Rows.{Row, markOk, isOwn, isAt}
+use Rattle.rows.specs.Rows.{Row, isOwn, markOk, isAt, openLimit}
 use Rattle.image.specs.Stages.{directoriesFor}
-use Rattle.model.specs.State.{Store, Outcome, Page, Held, idle, running, nothing, Checkpoint}
-use Rattle.model.specs.Rules.{heldSize, isPending, freeze, isFrozen}
+use Rattle.model.specs.State.{Store, Outcome, count, Page, Held, idle, running, nothing, Checkpoint}
+use Rattle.model.specs.Rules.{place, heldSize, isPending, freeze, isFrozen}
 use Rattle.model.specs.Sight.{rows, held, isForeign, versions, seen, seenOf}
-use Rattle.model.specs.Transactions.{Test, _when_, unless, gives, openCall, changed, newTuple, written, insertCall, notOpen, noTable, tooLong, foreign, present, full, replaceCall, unseen, deleteCall, readCall, readSeen, listCall, commitCall, plan, planRows, others, abortCall, removeAll}
+use Rattle.model.specs.Transactions.{Test, _when_, unless, gives, openCall, changed, written, openNumbers, writtenBy, newTuple, withWrite, insertCall, notOpen, noTable, tooLong, foreign, present, full, replaceCall, unseen, deleteCall, readCall, readSeen, listCall, commitCall, plan, planRows, without, abortCall, removeAll}
 use Rattle.model.specs.Checkpoint.{beginCall, stored, storePage, made, allocate, storeDirectory, storeHeader, stepAt, stepOf, inTurn, stepCall, runCall, left}
-use Rattle.model.specs.Calls.{Call, call, opens, inserts, replaces, deletes, commits, aborts, reads, lists, begins, steps, runs}
+use Rattle.model.specs.Calls.{Call, others, call, opens, inserts, replaces, deletes, commits, aborts, reads, lists, begins, steps, runs}
 use Rattle.model.proofs.Views.{put}
 use Rattle.model.proofs.Lists.{in-append, all-map, leb-false, Pairs, not-false}
-use Rattle.model.proofs.Owners.{others-length}
+use Rattle.model.proofs.Owners.{numbers-append, numbers-write, numbers-length, others-length, numbers-without}
 use Rattle.model.proofs.Splits.{mostSize}
-use Rattle.model.proofs.Frozen.{images-place, images, images-perform, shown-calm, images-none}
+use Rattle.model.proofs.Frozen.{images, images-place, images-perform, shown-calm, images-none}
 use Rattle.model.proofs.Begin.{below-most}
 use Rattle.model.proofs.Crash.{idle-of}
 use Rattle.model.proofs.Sound.{place-ok, perform-ok, PageOk, bare-size, thaw-ok}
 use Rattle.model.proofs.Rows.{Sub, rows-live, held-plain, live-sub, entries, sub-all, Differ, sub-pairs, held-freeze, rows-freeze, thaw-rows}
 use Rattle.model.proofs.Placing.{Before, Put, place-put}
 use Rattle.model.proofs.Fate.{differ-alike, perform-rows, commit-rows, abort-rows}
-use Rattle.model.proofs.Valid.{Opened, LiveOk, Valid, before-alike, HeldOk, held-insert, live-insert, held-sub}
+use Rattle.model.proofs.Valid.{Opened, LiveOk, Valid, before-alike, HeldOk, held-insert, live-insert, Counted, held-sub}
 use Rattle.model.proofs.Closing.{commit-live, abort-live}
 
 -- ---- refusals
@@ -61,8 +61,8 @@ open-valid tx s v =
       pages = v .pages;
       still = v .still;
       has = v .has;
-      sees = live-open tx (s .active) (rows (s .pages)) (v .sees);
-      opened = let l = leb-false 64 (length (s .active)) (p .1 .1 .0) in let m = length-append (s .active) (tx ∷ []) in omega arith;
+      sees = subst (λ z. LiveOk z (rows (s .pages))) (sym (numbers-append (s .active) (record { transaction = tx; written = 0 }))) (live-open tx (openNumbers (s .active)) (rows (s .pages)) (v .sees));
+      opened = let l = leb-false 64 (length (s .active)) (p .1 .1 .0) in let m = length-append (s .active) (record { transaction = tx; written = 0 } ∷ []) in omega arith;
       nx = v .nx;
       cap = v .cap;
     })
@@ -82,7 +82,7 @@ pub rows-rising : (s : Store) → Valid s → Pairs Before (rows (s .pages))
 rows-rising s v = sub-pairs Before before-alike (rows-sub (s .pages)) (v .has .rising)
 
 -- a new tuple is placed
-module _ (s : Store) (v : Valid s) (tx t k : ℕ) (bs : List ℕ) (m : Bool) (i : isIn tx (s .active) ≡ true) (lt : t ≤ 7) (lb : length bs ≤ payloadLimit)
+module _ (s : Store) (v : Valid s) (tx t k : ℕ) (bs : List ℕ) (m : Bool) (i : isIn tx (openNumbers (s .active)) ≡ true) (count : writtenBy tx (s .active) ≡ howMany (isOwn tx) (rows (s .pages))) (lt : t ≤ 7) (lb : length bs ≤ payloadLimit)
     (nf : any (isForeign tx) (versions t k (s .pages)) ≡ false) (room : length (held (s .pages)) < s .capacity) (more : suc (s .next) ≤ mostNumber)
     (first : isEmpty (versions t k (s .pages)) ≡ true → m ≡ false) (plain : (not m || isEmpty bs) ≡ true) where
   x : Tuple
@@ -102,14 +102,14 @@ module _ (s : Store) (v : Valid s) (tx t k : ℕ) (bs : List ℕ) (m : Bool) (i 
       subst (HeldOk (s .capacity) (suc (s .next))) (sym (p .now))
       (held-insert t k (s .next) (p .low) (p .high) (p .below) (p .above) (s .capacity) x refl refl lt (subst (λ z. length z < s .capacity) (p .was) l) (subst (HeldOk (s .capacity) (s .next)) (p .was) h))
 
-  written-sees : (a : List Row) → Put (t, x) a (rows (s .pages)) → LiveOk (s .active) a
+  written-sees : (a : List Row) → Put (t, x) a (rows (s .pages)) → LiveOk (openNumbers (s .active)) a
   unfolding x newTuple versions
   written-sees a p =
       let old = p .was in
       let nums = subst (AllOf (λ r. r .1 .number < s .next)) old (rows-known s v) in
-      subst (LiveOk (s .active)) (sym (p .now))
-      (live-insert t tx x (p .low) (p .high) (p .below) (p .above) nums (ap (λ z. tentative tx (howMany (isOwn tx) z)) old) (s .active) i x-marked
-      (ap (λ z. any (isForeign tx) (keep (isAt t k) z)) (sym old) ∙ nf) (λ e. first (ap (λ z. isEmpty (keep (isAt t k) z)) old ∙ e)) (subst (LiveOk (s .active)) old (v .sees)))
+      subst (LiveOk (openNumbers (s .active))) (sym (p .now))
+      (live-insert t tx x (p .low) (p .high) (p .below) (p .above) nums (ap (tentative tx) count ∙ ap (λ z. tentative tx (howMany (isOwn tx) z)) old) (openNumbers (s .active)) i x-marked
+      (ap (λ z. any (isForeign tx) (keep (isAt t k) z)) (sym old) ∙ nf) (λ e. first (ap (λ z. isEmpty (keep (isAt t k) z)) old ∙ e)) (subst (LiveOk (openNumbers (s .active))) old (v .sees)))
 
   pub written-valid : Valid (written tx t k bs m s .store)
   unfolding written gives changed x
@@ -119,26 +119,26 @@ module _ (s : Store) (v : Valid s) (tx t k : ℕ) (bs : List ℕ) (m : Bool) (i 
         pages = place-ok t x x-size (s .pages) (v .pages);
         still = λ h. images-place t x (s .pages) ∙ v .still h;
         has = written-has _ _ (put .0) (v .has) room;
-        sees = written-sees _ (put .1);
-        opened = v .opened;
+        sees = subst (λ z. LiveOk z (rows (place t x (s .pages)))) (sym (numbers-write tx (s .active))) (written-sees _ (put .1));
+        opened = subst (λ n. n ≤ openLimit) (sym (numbers-length (s .active)) ∙ ap length (sym (numbers-write tx (s .active))) ∙ numbers-length (withWrite tx (s .active))) (v .opened);
         nx = more;
         cap = v .cap;
       }
 
-insert-valid : (tx t k : ℕ) (bs : List ℕ) (s : Store) → Valid s → Valid (insertCall tx t k bs s .store)
+insert-valid : (tx t k : ℕ) (bs : List ℕ) (s : Store) → Valid s → Counted s → Valid (insertCall tx t k bs s .store)
 unfolding insertCall notOpen noTable tooLong foreign present full
-insert-valid tx t k bs s v =
+insert-valid tx t k bs s v c =
     unless-keeps Valid _ s _ v (λ p.
     let q = p .1 .1 .1 .1 .1 .1 in
-    written-valid s v tx t k bs false (not-false _ (p .1 .0)) (omega (arith, leb-false 8 t (p .1 .1 .0))) (omega (arith, leb-false (suc payloadLimit) (length bs) (p .1 .1 .1 .0))) (p .1 .1 .1 .1 .0)
+    written-valid s v tx t k bs false (not-false _ (p .1 .0)) (c tx (not-false _ (p .1 .0))) (omega (arith, leb-false 8 t (p .1 .1 .0))) (omega (arith, leb-false (suc payloadLimit) (length bs) (p .1 .1 .1 .0))) (p .1 .1 .1 .1 .0)
     (leb-false (s .capacity) (length (held (s .pages))) (q .0)) (below-most (s .next) (v .nx) (q .1 .0)) (λ e. refl) refl)
 
-replace-valid : (tx t k : ℕ) (bs : List ℕ) (s : Store) → Valid s → Valid (replaceCall tx t k bs s .store)
+replace-valid : (tx t k : ℕ) (bs : List ℕ) (s : Store) → Valid s → Counted s → Valid (replaceCall tx t k bs s .store)
 unfolding replaceCall notOpen noTable tooLong foreign unseen full
-replace-valid tx t k bs s v =
+replace-valid tx t k bs s v c =
     unless-keeps Valid _ s _ v (λ p.
     let q = p .1 .1 .1 .1 .1 .1 in
-    written-valid s v tx t k bs false (not-false _ (p .1 .0)) (omega (arith, leb-false 8 t (p .1 .1 .0))) (omega (arith, leb-false (suc payloadLimit) (length bs) (p .1 .1 .1 .0))) (p .1 .1 .1 .1 .0)
+    written-valid s v tx t k bs false (not-false _ (p .1 .0)) (c tx (not-false _ (p .1 .0))) (omega (arith, leb-false 8 t (p .1 .1 .0))) (omega (arith, leb-false (suc payloadLimit) (length bs) (p .1 .1 .1 .0))) (p .1 .1 .1 .1 .0)
     (leb-false (s .capacity) (length (held (s .pages))) (q .0)) (below-most (s .next) (v .nx) (q .1 .0)) (λ e. refl) refl)
 
 -- what is seen is a version
@@ -147,12 +147,12 @@ unfolding seenOf isSome isEmpty last first
 seen-some tx [] h e = lie h
 seen-some tx (r ∷ vs) h e = lie e
 
-delete-valid : (tx t k : ℕ) (s : Store) → Valid s → Valid (deleteCall tx t k s .store)
+delete-valid : (tx t k : ℕ) (s : Store) → Valid s → Counted s → Valid (deleteCall tx t k s .store)
 unfolding deleteCall notOpen noTable foreign unseen full seen
-delete-valid tx t k s v =
+delete-valid tx t k s v c =
     unless-keeps Valid _ s _ v (λ p.
     let q = p .1 .1 .1 .1 .1 in
-    written-valid s v tx t k [] true (not-false _ (p .1 .0)) (omega (arith, leb-false 8 t (p .1 .1 .0))) (omega arith) (p .1 .1 .1 .0)
+    written-valid s v tx t k [] true (not-false _ (p .1 .0)) (c tx (not-false _ (p .1 .0))) (omega (arith, leb-false 8 t (p .1 .1 .0))) (omega arith) (p .1 .1 .1 .0)
     (leb-false (s .capacity) (length (held (s .pages))) (q .0)) (below-most (s .next) (v .nx) (q .1 .0)) (seen-some tx (versions t k (s .pages)) (not-false _ (p .1 .1 .1 .1 .0))) (unfold isEmpty in refl))
 
 -- ---- read, list
@@ -172,18 +172,20 @@ list-valid r s v = unless-keeps Valid _ s _ v (λ p. v)
 -- ---- commit, abort
 
 commit-valid : (tx : ℕ) (s : Store) → Valid s → Valid (commitCall tx s .store)
-unfolding commitCall gives changed
+unfolding commitCall gives changed plan
 commit-valid tx s v =
     let d = rows-differ s v in
     let os = planRows tx (rows (s .pages)) (rows (s .pages)) in
     let r = perform-rows os (s .pages) (v .pages) (v .has .differ) in
-    let l = others-length tx (s .active) in
-    unless-keeps Valid _ s _ v (λ p. unfold plan in record {
+    let l = others-length tx (openNumbers (s .active)) in
+    let o = numbers-without tx (s .active) in
+    let fewer : length (without tx (s .active)) ≤ 64 = omega (arith, v .opened, numbers-length (s .active), numbers-length (without tx (s .active)), ap length o) in
+    unless-keeps Valid _ s _ v (λ p. record {
       pages = perform-ok os (s .pages) (v .pages);
       still = λ h. images-perform os (s .pages) ∙ v .still h;
       has = held-sub (s .capacity) (s .next) (r .0) (v .has);
-      sees = subst (LiveOk (others tx (s .active))) (sym (r .1 ∙ commit-rows tx (rows (s .pages)) d)) (commit-live tx (s .active) (rows (s .pages)) (v .sees) d);
-      opened = omega (arith, v .opened);
+      sees = rw o (subst (LiveOk (others tx (openNumbers (s .active)))) (sym (r .1 ∙ commit-rows tx (rows (s .pages)) d)) (commit-live tx (openNumbers (s .active)) (rows (s .pages)) (v .sees) d));
+      opened = fewer;
       nx = v .nx;
       cap = v .cap;
     })
@@ -194,13 +196,15 @@ abort-valid tx s v =
     let d = rows-differ s v in
     let os = removeAll (keep (isOwn tx) (rows (s .pages))) in
     let r = perform-rows os (s .pages) (v .pages) (v .has .differ) in
-    let l = others-length tx (s .active) in
+    let l = others-length tx (openNumbers (s .active)) in
+    let o = numbers-without tx (s .active) in
+    let fewer : length (without tx (s .active)) ≤ 64 = omega (arith, v .opened, numbers-length (s .active), numbers-length (without tx (s .active)), ap length o) in
     unless-keeps Valid _ s _ v (λ p. record {
       pages = perform-ok os (s .pages) (v .pages);
       still = λ h. images-perform os (s .pages) ∙ v .still h;
       has = held-sub (s .capacity) (s .next) (r .0) (v .has);
-      sees = subst (LiveOk (others tx (s .active))) (sym (r .1 ∙ abort-rows tx (rows (s .pages)) d)) (abort-live tx (s .active) (rows (s .pages)) (v .sees) d);
-      opened = omega (arith, v .opened);
+      sees = rw o (subst (LiveOk (others tx (openNumbers (s .active)))) (sym (r .1 ∙ abort-rows tx (rows (s .pages)) d)) (abort-live tx (openNumbers (s .active)) (rows (s .pages)) (v .sees) d));
+      opened = fewer;
       nx = v .nx;
       cap = v .cap;
     })
@@ -299,16 +303,16 @@ run-valid : (limit len : ℕ) (s : Store) → Valid s → Valid (runCall limit l
 unfolding runCall
 run-valid limit len s v = unless-keeps Valid _ s _ v (λ p. turn-valid (min limit (left s)) s v)
 
-pub keeps : (c : Call) (s : Store) → Valid s → Valid (call c s .store)
+pub keeps : (c : Call) (s : Store) → Valid s → Counted s → Valid (call c s .store)
 unfolding call
-keeps (opens tx) s v = open-valid tx s v
-keeps (inserts tx t k bs) s v = insert-valid tx t k bs s v
-keeps (replaces tx t k bs) s v = replace-valid tx t k bs s v
-keeps (deletes tx t k) s v = delete-valid tx t k s v
-keeps (commits tx) s v = commit-valid tx s v
-keeps (aborts tx) s v = abort-valid tx s v
-keeps (reads tx t k r) s v = read-valid tx t k r s v
-keeps (lists r) s v = list-valid r s v
-keeps begins s v = begin-valid s v
-keeps (steps len) s v = stepCall-valid len s v
-keeps (runs limit len) s v = run-valid limit len s v
+keeps (opens tx) s v c = open-valid tx s v
+keeps (inserts tx t k bs) s v c = insert-valid tx t k bs s v c
+keeps (replaces tx t k bs) s v c = replace-valid tx t k bs s v c
+keeps (deletes tx t k) s v c = delete-valid tx t k s v c
+keeps (commits tx) s v c = commit-valid tx s v
+keeps (aborts tx) s v c = abort-valid tx s v
+keeps (reads tx t k r) s v c = read-valid tx t k r s v
+keeps (lists r) s v c = list-valid r s v
+keeps begins s v c = begin-valid s v
+keeps (steps len) s v c = stepCall-valid len s v
+keeps (runs limit len) s v c = run-valid limit len s v

@@ -384,3 +384,9 @@ in-keep x f (o ∷ os) =
     by (f o) (λ k. rw (k, e, any) (sym (ap f q ∙ k)))
     (λ k. let n : f x ≡ false = ap f q ∙ k in rw (k, e, any) (r ∙ ap (λ z. isIn x os && z) n ∙ and-no (isIn x os) ∙ sym n)))
     (λ e. by (f o) (λ k. rw (k, e, any) r) (λ k. rw (k, e, any) r))
+
+-- no more pass than there are
+pub many-length : {A : Type 0} (f : A → Bool) (xs : List A) → howMany f xs ≤ length xs
+unfolding howMany if_then_else_
+many-length f [] = omega arith
+many-length f (x ∷ xs) = let k = many-length f xs in by (f x) (λ h. rw h (omega arith)) (λ h. rw h (omega arith))

@@ -16,17 +16,17 @@ use Rattle.image.specs.Stages.{directoriesFor}
 use Rattle.model.specs.State.{Store, Page, Checkpoint, idle, running, Held}
 use Rattle.model.specs.Rules.{isFrozen, shown, isAdding}
 use Rattle.model.specs.Sight.{rows, held, seen}
-use Rattle.model.specs.Transactions.{newTuple, written, gives, changed, perform, Op, openCall, insertCall, replaceCall, deleteCall, commitCall, abortCall, readCall, readSeen, listCall, notOpen, noTable, tooLong}
+use Rattle.model.specs.Transactions.{written, writtenBy, newTuple, gives, changed, perform, Op, openCall, insertCall, replaceCall, deleteCall, commitCall, abortCall, readCall, readSeen, listCall, notOpen, noTable, tooLong}
 use Rattle.model.specs.Checkpoint.{stepAt, stepOf, storePage, storeDirectory, storeHeader, made, stored, allocate, inTurn, beginCall, stepCall, runCall, left}
 use Rattle.model.specs.Calls.{Call, Typed, call, opens, inserts, replaces, deletes, commits, aborts, reads, lists, begins, steps, runs}
-use Rattle.model.proofs.Lists.{all-insert, leb-false, all-map, all-two}
+use Rattle.model.proofs.Lists.{many-length, all-insert, leb-false, not-false, all-map, all-two}
 use Rattle.model.proofs.Frozen.{bare}
 use Rattle.model.proofs.Steps.{FrozenFit}
 use Rattle.model.proofs.Sound.{PageOk}
 use Rattle.model.proofs.Rows.{Since, still, settled, Alike, Sub, sub-all, sub-length, thaw-rows, held-freeze}
 use Rattle.model.proofs.Placing.{place-put, page-full}
 use Rattle.model.proofs.Fate.{perform-rows}
-use Rattle.model.proofs.Valid.{Valid}
+use Rattle.model.proofs.Valid.{Valid, Counted}
 use Rattle.model.proofs.Keeps.{rows-sub, step-valid, unless-keeps}
 use Rattle.model.proofs.Whole.{Fitting}
 
@@ -46,17 +46,12 @@ alike-fits a b e f = record {
 sub-fits : {a b : List Row} → Sub a b → AllOf (λ r. Fits (r .1)) b → AllOf (λ r. Fits (r .1)) a
 sub-fits s h = sub-all _ _ alike-fits s h
 
-many-length : {A : Type 0} (f : A → Bool) (xs : List A) → howMany f xs ≤ length xs
-unfolding howMany if_then_else_
-many-length f [] = omega arith
-many-length f (x ∷ xs) = let k = many-length f xs in by (f x) (λ h. rw h (omega arith)) (λ h. rw h (omega arith))
-
 -- ---- insert, replace, delete
 
-new-fits : (s : Store) → Valid s → (tx k : ℕ) (bs : List ℕ) (m : Bool) → tx ≤ 4095 → k < 4294967296 → length bs ≤ payloadLimit → AllBytes bs
+new-fits : (s : Store) → Valid s → (tx k : ℕ) (bs : List ℕ) (m : Bool) → writtenBy tx (s .active) ≡ howMany (isOwn tx) (rows (s .pages)) → tx ≤ 4095 → k < 4294967296 → length bs ≤ payloadLimit → AllBytes bs
     → Fits (newTuple tx k bs m s)
 unfolding newTuple
-new-fits s v tx k bs m lt lk lb ab = record {
+new-fits s v tx k bs m told lt lk lb ab = record {
   key = lk;
   number = omega (arith, v .nx);
   owner = (omega arith, omega (arith, many-length (isOwn tx) (rows (s .pages)), sub-length (rows-sub (s .pages)), v .has .few, v .cap));
@@ -64,14 +59,14 @@ new-fits s v tx k bs m lt lk lb ab = record {
   bytes = ab;
 }
 
-written-fits : (s : Store) → Valid s → Fitting s → (tx t k : ℕ) (bs : List ℕ) (m : Bool) → ltb 4095 tx ≡ false → k < 4294967296
+written-fits : (s : Store) → Valid s → Fitting s → (tx t k : ℕ) (bs : List ℕ) (m : Bool) → writtenBy tx (s .active) ≡ howMany (isOwn tx) (rows (s .pages)) → ltb 4095 tx ≡ false → k < 4294967296
     → length bs ≤ payloadLimit → AllBytes bs
     → Fitting (written tx t k bs m s .store)
 unfolding written gives changed
-written-fits s v f tx t k bs m lt lk lb ab =
+written-fits s v f tx t k bs m told lt lk lb ab =
     let p = place-put t (newTuple tx k bs m s) (s .pages) (v .pages) (v .has .rising) .0 in
     subst (AllOf (λ r. Fits (r .1))) (sym (p .now))
-    (all-insert (λ r. Fits (r .1)) (p .low) _ (p .high) (subst (AllOf (λ r. Fits (r .1))) (p .was) f) (new-fits s v tx k bs m (omega (arith, leb-false 4096 tx lt)) lk lb ab))
+    (all-insert (λ r. Fits (r .1)) (p .low) _ (p .high) (subst (AllOf (λ r. Fits (r .1))) (p .was) f) (new-fits s v tx k bs m told (omega (arith, leb-false 4096 tx lt)) lk lb ab))
 
 -- ---- commit, abort
 
@@ -98,25 +93,25 @@ turn-fits (suc k) s v f = turn-fits k (stepAt (s .checkpoint) s .store) (step-va
 
 -- ---- all calls
 
-pub keeps-fits : (c : Call) (s : Store) → Typed c → Valid s → Fitting s → Fitting (call c s .store)
+pub keeps-fits : (c : Call) (s : Store) → Typed c → Valid s → Counted s → Fitting s → Fitting (call c s .store)
 unfolding call openCall insertCall replaceCall deleteCall commitCall abortCall readCall readSeen listCall beginCall stepCall runCall notOpen noTable tooLong gives changed stored
-keeps-fits (opens tx) s t v f = unless-keeps Fitting _ s _ f (λ p. f)
-keeps-fits (inserts tx tb k bs) s t v f =
-    unless-keeps Fitting _ s _ f (λ p. written-fits s v f tx tb k bs false (p .0) (t .0) (omega (arith, leb-false (suc payloadLimit) (length bs) (p .1 .1 .1 .0))) (t .1))
-keeps-fits (replaces tx tb k bs) s t v f =
-    unless-keeps Fitting _ s _ f (λ p. written-fits s v f tx tb k bs false (p .0) (t .0) (omega (arith, leb-false (suc payloadLimit) (length bs) (p .1 .1 .1 .0))) (t .1))
-keeps-fits (deletes tx tb k) s t v f = unless-keeps Fitting _ s _ f (λ p. written-fits s v f tx tb k [] true (p .0) t (omega arith) tt)
-keeps-fits (commits tx) s t v f = unless-keeps Fitting _ s _ f (λ p. performed-fits s v f _)
-keeps-fits (aborts tx) s t v f = unless-keeps Fitting _ s _ f (λ p. performed-fits s v f _)
-keeps-fits (reads tx tb k r) s t v f = unless-keeps Fitting _ s _ f (λ p. seen-fits (seen tx tb k s))
+keeps-fits (opens tx) s t v c f = unless-keeps Fitting _ s _ f (λ p. f)
+keeps-fits (inserts tx tb k bs) s t v c f =
+    unless-keeps Fitting _ s _ f (λ p. written-fits s v f tx tb k bs false (c tx (not-false _ (p .1 .0))) (p .0) (t .0) (omega (arith, leb-false (suc payloadLimit) (length bs) (p .1 .1 .1 .0))) (t .1))
+keeps-fits (replaces tx tb k bs) s t v c f =
+    unless-keeps Fitting _ s _ f (λ p. written-fits s v f tx tb k bs false (c tx (not-false _ (p .1 .0))) (p .0) (t .0) (omega (arith, leb-false (suc payloadLimit) (length bs) (p .1 .1 .1 .0))) (t .1))
+keeps-fits (deletes tx tb k) s t v c f = unless-keeps Fitting _ s _ f (λ p. written-fits s v f tx tb k [] true (c tx (not-false _ (p .1 .0))) (p .0) t (omega arith) tt)
+keeps-fits (commits tx) s t v c f = unless-keeps Fitting _ s _ f (λ p. performed-fits s v f _)
+keeps-fits (aborts tx) s t v c f = unless-keeps Fitting _ s _ f (λ p. performed-fits s v f _)
+keeps-fits (reads tx tb k r) s t v c f = unless-keeps Fitting _ s _ f (λ p. seen-fits (seen tx tb k s))
   where
     seen-fits : (o : Option Row) → Fitting (readSeen r o s .store)
     seen-fits none = f
     seen-fits (some x) = unless-keeps Fitting _ s _ f (λ p. f)
-keeps-fits (lists r) s t v f = unless-keeps Fitting _ s _ f (λ p. f)
-keeps-fits begins s t v f = unless-keeps Fitting _ s _ f (λ p. rw (held-freeze (s .pages)) f)
-keeps-fits (steps len) s t v f = unless-keeps Fitting _ s _ f (λ p. step-fits s v f)
-keeps-fits (runs limit len) s t v f = unless-keeps Fitting _ s _ f (λ p. turn-fits (min limit (left s)) s v f)
+keeps-fits (lists r) s t v c f = unless-keeps Fitting _ s _ f (λ p. f)
+keeps-fits begins s t v c f = unless-keeps Fitting _ s _ f (λ p. rw (held-freeze (s .pages)) f)
+keeps-fits (steps len) s t v c f = unless-keeps Fitting _ s _ f (λ p. step-fits s v f)
+keeps-fits (runs limit len) s t v c f = unless-keeps Fitting _ s _ f (λ p. turn-fits (min limit (left s)) s v f)
 
 -- ---- what the frozen pages show can be written
 

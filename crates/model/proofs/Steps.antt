@@ -27,8 +27,8 @@ use Rattle.model.specs.Recover.{loaded, recoveredStore}
 use Rattle.model.specs.QuotedLine.{content}
 use Rattle.model.proofs.Views.{put}
 use Rattle.model.proofs.Lists.{eqb-self, eqb-true, eqb-sym, all-map, first-all, first-passes, pos-not-zero, not-zero, not-in, in-append, leb-true, all-take, all-drop, all-append, all-true, le-true, leb-false, all-two, in-all}
-use Rattle.model.proofs.Owners.{in-transactions}
-use Rattle.model.proofs.Frozen.{Content, images, images-first, images-thaw, shown-calm, images-none, bare}
+use Rattle.model.proofs.Owners.{numbers-reopened, in-transactions}
+use Rattle.model.proofs.Frozen.{Content, images-first, images, images-thaw, shown-calm, images-none, bare}
 use Rattle.model.proofs.Pages.{all-thaw}
 use Rattle.model.proofs.Recovery.{Found, found, read-blocks}
 use Rattle.model.proofs.Stored.{Stored, end, todo, stands, Dirs, put-other, stored-fill, put-same, stored-put, dirs-snoc, dirs-put, contentOf, stored-read, dirs-read, stored-written}
@@ -316,7 +316,7 @@ module _ (n : ℕ) (img : View) (s b : Store) (n₀ : ℕ) (es ds : List ℕ) (b
         like = record {
           pages = loaded-content ps ∙ c;
           next = run .nxt;
-          active = λ tx. ap (λ z. isIn tx (transactions z)) rs ∙ in-transactions tx (held (b .pages)) ∙ ap (any (isOwn tx)) (sym (run .base .same));
+          active = λ tx. ap (isIn tx) (numbers-reopened _ _) ∙ ap (λ z. isIn tx (transactions z)) rs ∙ in-transactions tx (held (b .pages)) ∙ ap (any (isOwn tx)) (sym (run .base .same));
         };
         names = λ c u. ap₂ (λ y z. isIn c (y ++ z)) (sym bs) (sym q) ∙ u;
       }

@@ -1,6 +1,6 @@
 -- A transaction's live rows are as many as the writes accepted since it opened: the count is kept from the calls and answers alone.
 use mathlib.Core.Path.{_≡_, refl, ap, _∙_, sym}
-use Prim.Native.Nat.{ℕ, suc, zero, min}
+use Prim.Native.Nat.{ℕ, suc, zero, min, _≤_}
 use native.Mathlib.Omega.{arith}
 use mathlib.Core.Bool.{not, Bool, false, true}
 use mathlib.Core.List.{List, [], _∷_, _++_}
@@ -8,23 +8,24 @@ use mathlib.Core.Option.{none, Option, some}
 use lib.Dec.{eqb, ltb}
 use lib.ListN.{length}
 use Rattle.basics.specs.Basics.{if_then_else_, howMany, any, keep, first, isIn}
-use Rattle.basics.proofs.Facts.{by, AllOf, by-option}
-use Rattle.blocks.specs.Tuple.{tentative}
+use Rattle.basics.proofs.Facts.{lie, by, AllOf, by-option, and-true}
+use Rattle.blocks.specs.Tuple.{tentative, committed, Owner}
 use Rattle.rows.specs.Rows.{isOwn, isBy, Row}
 use Rattle.image.specs.Stages.{directoriesFor}
-use Rattle.model.specs.State.{Answer, Store, Outcome, Page, Checkpoint, idle, running, done, refused, filled}
+use Rattle.model.specs.State.{Answer, Store, Outcome, Page, Checkpoint, idle, running, done, refused, filled, Active}
 use Rattle.model.specs.Rules.{isFrozen}
 use Rattle.model.specs.Sight.{rows, seen}
-use Rattle.model.specs.Transactions.{unless, Test, gives, _when_, newTuple, written, changed, perform, plan, planRows, removeAll, openCall, insertCall, replaceCall, deleteCall, commitCall, abortCall, readCall, readSeen, listCall, listing, others}
+use Rattle.model.specs.Transactions.{unless, Test, gives, _when_, newTuple, written, changed, perform, plan, planRows, removeAll, openCall, insertCall, replaceCall, deleteCall, openNumbers, commitCall, abortCall, readCall, readSeen, listCall, listing, writtenBy, withWrite, without}
 use Rattle.model.specs.Checkpoint.{beginCall, stored, storePage, made, allocate, stepAt, stepOf, storeDirectory, storeHeader, inTurn, stepCall, runCall, left}
-use Rattle.model.specs.Calls.{Call, opens, commits, aborts, inserts, replaces, deletes, reads, lists, begins, steps, runs, accepted, call, withWriter, writers, afterCalls, hadWritten}
-use Rattle.model.proofs.Lists.{Mem, many-none, all-map, eqb-true, all-mem, eqb-sym, le-true, in-here, eqb-self, in-cons, in-keep, and-no, and-yes, any-many}
+use Rattle.model.specs.Calls.{Call, opens, commits, aborts, inserts, replaces, deletes, reads, lists, begins, steps, runs, accepted, call, others, withWriter, writers, afterCalls, hadWritten}
+use Rattle.model.proofs.Lists.{Mem, many-none, all-map, eqb-true, all-mem, eqb-sym, many-length, in-keep, not-true, le-true, in-here, eqb-self, in-cons, and-no, and-yes, any-many}
+use Rattle.model.proofs.Owners.{count-append, count-new, numbers-write, count-write, count-other, numbers-without, count-without}
 use Rattle.model.proofs.Crash.{unless-out}
-use Rattle.model.proofs.Rows.{rows-freeze, thaw-rows}
+use Rattle.model.proofs.Rows.{rows-freeze, thaw-rows, sub-length}
 use Rattle.model.proofs.Fate.{gather, afterCommit, perform-rows, commit-rows, afterAbort, abort-rows}
-use Rattle.model.proofs.Valid.{Valid}
+use Rattle.model.proofs.Valid.{Valid, Counted, Opened}
 use Rattle.model.proofs.Closing.{Comes, as-is, final, not-own, own-owner, gather-all, many-gather, commit-comes, commit-stays, abort-comes, abort-stays}
-use Rattle.model.proofs.Keeps.{rows-differ, step-valid, keeps}
+use Rattle.model.proofs.Keeps.{rows-differ, step-valid, unless-keeps, keeps, rows-sub}
 use Rattle.model.proofs.Inserted.{insertRow, place-rows, many-inserted}
 
 -- ---- the count, from the calls and their answers
@@ -168,7 +169,7 @@ quiet-tally c s o e r u = by (accepted (o .answer)) (λ h. rw h (ap (howMany (is
 
 open-tally : (tx : ℕ) (s : Store) → Tallies (opens tx) s (openCall tx s)
 unfolding openCall gives changed noted
-open-tally tx s = unless-tally (opens tx) _ s _ (quiet-tally (opens tx) s (gives done (changed s (s .next) (s .pages) (s .active ++ tx ∷ []))) (λ u n. refl) refl)
+open-tally tx s = unless-tally (opens tx) _ s _ (quiet-tally (opens tx) s (gives done (changed s (s .next) (s .pages) (s .active ++ record { transaction = tx; written = 0 } ∷ []))) (λ u n. refl) refl)
 
 insert-tally : (tx t k : ℕ) (bs : List ℕ) (s : Store) → Valid s → Tallies (inserts tx t k bs) s (insertCall tx t k bs s)
 unfolding insertCall noted
@@ -182,15 +183,29 @@ delete-tally : (tx t k : ℕ) (s : Store) → Valid s → Tallies (deletes tx t 
 unfolding deleteCall noted
 delete-tally tx t k s v = unless-tally (deletes tx t k) _ s _ (written-tally (deletes tx t k) s v tx t k [] true (λ u n. refl))
 
+committed-own : (tx : ℕ) (s : Store) → Valid s → (u : ℕ) → howMany (isOwn u) (rows (perform (plan tx (s .pages)) (s .pages))) ≡ closed u tx (own u s)
+unfolding own
+committed-own tx s v u =
+    let os = openNumbers (s .active) in
+    let rs = rows (s .pages) in
+    let d = rows-differ s v in
+    ap (howMany (isOwn u)) (committed-rows tx s v) ∙ closed-own tx rs (afterCommit tx rs) (commit-comes tx os rs (v .sees) d) (commit-stays tx os rs (v .sees) d) u
+
+aborted-own : (tx : ℕ) (s : Store) → Valid s → (u : ℕ) → howMany (isOwn u) (rows (perform (removeAll (keep (isOwn tx) (rows (s .pages)))) (s .pages))) ≡ closed u tx (own u s)
+unfolding own
+aborted-own tx s v u =
+    let os = openNumbers (s .active) in
+    let rs = rows (s .pages) in
+    let d = rows-differ s v in
+    ap (howMany (isOwn u)) (aborted-rows tx s v) ∙ closed-own tx rs (afterAbort tx) (abort-comes tx os rs (v .sees) d) (abort-stays tx os rs (v .sees) d) u
+
 commit-tally : (tx : ℕ) (s : Store) → Valid s → Tallies (commits tx) s (commitCall tx s)
 unfolding commitCall gives changed
-commit-tally tx s v = unless-tally (commits tx) _ s _ (λ u. unfold tally accepted noted if_then_else_ own in
-    ap (howMany (isOwn u)) (committed-rows tx s v) ∙ closed-own tx (rows (s .pages)) (afterCommit tx (rows (s .pages))) (commit-comes tx (s .active) (rows (s .pages)) (v .sees) (rows-differ s v)) (commit-stays tx (s .active) (rows (s .pages)) (v .sees) (rows-differ s v)) u)
+commit-tally tx s v = unless-tally (commits tx) _ s _ (λ u. unfold tally accepted noted if_then_else_ own in committed-own tx s v u)
 
 abort-tally : (tx : ℕ) (s : Store) → Valid s → Tallies (aborts tx) s (abortCall tx s)
 unfolding abortCall gives changed
-abort-tally tx s v = unless-tally (aborts tx) _ s _ (λ u. unfold tally accepted noted if_then_else_ own in
-    ap (howMany (isOwn u)) (aborted-rows tx s v) ∙ closed-own tx (rows (s .pages)) (afterAbort tx) (abort-comes tx (s .active) (rows (s .pages)) (v .sees) (rows-differ s v)) (abort-stays tx (s .active) (rows (s .pages)) (v .sees) (rows-differ s v)) u)
+abort-tally tx s v = unless-tally (aborts tx) _ s _ (λ u. unfold tally accepted noted if_then_else_ own in aborted-own tx s v u)
 
 read-tally : (tx t k r : ℕ) (s : Store) → Tallies (reads tx t k r) s (readCall tx t k r s)
 unfolding readCall noted
@@ -202,7 +217,7 @@ read-tally tx t k r s = unless-tally (reads tx t k r) _ s _ (go (seen tx t k s))
 
 list-tally : (r : ℕ) (s : Store) → Tallies (lists r) s (listCall r s)
 unfolding listCall gives noted
-list-tally r s = unless-tally (lists r) _ s _ (quiet-tally (lists r) s (gives (filled (length (s .active)) (listing (s .active))) s) (λ u n. refl) refl)
+list-tally r s = unless-tally (lists r) _ s _ (quiet-tally (lists r) s (gives (filled (length (s .active)) (listing (openNumbers (s .active)))) s) (λ u n. refl) refl)
 
 -- every call counts as it answers
 pub tallies : (c : Call) (s : Store) → Valid s → Tallies c s (call c s)
@@ -218,6 +233,114 @@ tallies (lists r) s v = list-tally r s
 tallies begins s v = quiet-tally begins s (beginCall s) (λ u n. refl) (begin-rows s)
 tallies (steps len) s v = quiet-tally (steps len) s (stepCall len s) (λ u n. refl) (stepCall-rows len s v)
 tallies (runs limit len) s v = quiet-tally (runs limit len) s (runCall limit len s) (λ u n. refl) (run-rows limit len s v)
+
+-- ---- the counts of the open transactions
+
+counted-rows : (s z : Store) → z .active ≡ s .active → rows (z .pages) ≡ rows (s .pages) → Counted s → Counted z
+counted-rows s z a e c tx i = ap (writtenBy tx) a ∙ c tx (ap (λ y. isIn tx (openNumbers y)) (sym a) ∙ i) ∙ ap (howMany (isOwn tx)) (sym e)
+
+-- a transaction that is not open has no row
+not-open : (tx : ℕ) (os : List ℕ) (o : Owner) → isIn tx os ≡ false → Opened os o → isBy tx o ≡ false
+unfolding isBy
+not-open tx os committed n h = refl
+not-open tx os (tentative u st) n h = by (eqb u tx) (λ e. lie (sym n ∙ ap (λ z. isIn z os) (sym (eqb-true u tx e)) ∙ h)) (λ e. e)
+
+not-own-open : (tx : ℕ) (os : List ℕ) (r : Row) → isIn tx os ≡ false → Opened os (r .1 .owner) → isOwn tx r ≡ false
+unfolding isOwn
+not-own-open tx os r n h = not-open tx os (r .1 .owner) n h
+
+-- a right count is that of its live rows
+own-count : (s : Store) → Counted s → (u : ℕ) → isIn u (openNumbers (s .active)) ≡ true → writtenBy u (s .active) ≡ own u s
+unfolding own
+own-count s c u i = c u i
+
+counted-open : (tx : ℕ) (s : Store) → Valid s → Counted s → Counted (openCall tx s .store)
+unfolding openCall gives changed
+counted-open tx s v c =
+    unless-keeps Counted _ s _ c (λ p u i.
+    by (isIn u (openNumbers (s .active)))
+    (λ h. count-append u tx (s .active) h ∙ c u h)
+    (λ h. count-new u tx (s .active) h
+    ∙ sym (many-none (isOwn u) (rows (s .pages)) (all-map (λ r. Opened (openNumbers (s .active)) (r .1 .owner)) (λ r. isOwn u r ≡ false) (λ r k. not-own-open u (openNumbers (s .active)) r h k) (rows (s .pages)) (v .sees .open′)))))
+
+more-rows : (s : Store) → Valid s → (u : ℕ) → suc (own u s) ≤ 1048575
+unfolding own
+more-rows s v u = omega (arith, many-length (isOwn u) (rows (s .pages)), sub-length (rows-sub (s .pages)), v .has .few, v .cap)
+
+min-under : (n m : ℕ) → n ≤ m → min n m ≡ n
+min-under n m h = omega arith
+
+counted-written : (s : Store) → Valid s → Counted s → (tx t k : ℕ) (bs : List ℕ) (m : Bool) → Counted (written tx t k bs m s .store)
+unfolding written gives changed own
+counted-written s v c tx t k bs m u i =
+    let j : isIn u (openNumbers (s .active)) ≡ true = ap (isIn u) (sym (numbers-write tx (s .active))) ∙ i in
+    let o = written-own s v tx t k bs m u in
+    by (eqb tx u)
+    (λ e. let q = eqb-true tx u e in
+    ap (λ z. writtenBy u (withWrite z (s .active))) q ∙ count-write u (s .active) j ∙ ap (λ n. min (suc n) 1048575) (own-count s c u j)
+    ∙ min-under (suc (own u s)) 1048575 (more-rows s v u) ∙ sym (wrote-own u tx (own u s) e) ∙ sym o)
+    (λ e. count-other tx u (s .active) e ∙ own-count s c u j ∙ sym (wrote-other u tx (own u s) e) ∙ sym o)
+  where
+    wrote-own : (u tx n : ℕ) → eqb tx u ≡ true → wrote u tx n ≡ suc n
+    wrote-own u tx n e = unfold wrote if_then_else_ in rw e
+
+    wrote-other : (u tx n : ℕ) → eqb tx u ≡ false → wrote u tx n ≡ n
+    wrote-other u tx n e = unfold wrote if_then_else_ in rw e
+
+-- u is open without tx: it is another transaction, and is open
+stays-open : (tx u : ℕ) (os : List Active) → isIn u (openNumbers (without tx os)) ≡ true → (eqb tx u ≡ false) × (isIn u (openNumbers os) ≡ true)
+unfolding others
+stays-open tx u os i =
+    let k = sym (in-keep u (λ o. not (eqb o tx)) (openNumbers os)) ∙ ap (isIn u) (sym (numbers-without tx os)) ∙ i in
+    let q = and-true (isIn u (openNumbers os)) (not (eqb u tx)) k in
+    (eqb-sym u tx (not-true (eqb u tx) (q .1)), q .0)
+
+counted-closed : (tx : ℕ) (s : Store) (ps : List Page) → ((u : ℕ) → howMany (isOwn u) (rows ps) ≡ closed u tx (own u s)) → Counted s
+    → Counted (changed s (s .next) ps (without tx (s .active)))
+unfolding changed own
+counted-closed tx s ps own-after c u i =
+    let q = stays-open tx u (s .active) i in
+    count-without tx u (s .active) (q .0) ∙ own-count s c u (q .1) ∙ sym (closed-other u tx (own u s) (q .0)) ∙ sym (own-after u)
+  where
+    closed-other : (u tx n : ℕ) → eqb tx u ≡ false → closed u tx n ≡ n
+    closed-other u tx n e = unfold closed if_then_else_ in rw e
+
+step-active : (s : Store) → stepAt (s .checkpoint) s .store .active ≡ s .active
+unfolding stepAt stepOf gives if_then_else_ storePage storeDirectory storeHeader made stored
+step-active s = go (s .checkpoint)
+  where
+    go : (c : Checkpoint) → stepAt c s .store .active ≡ s .active
+    go idle = refl
+    go (running n es ds) =
+        by-option (first isFrozen (s .pages))
+        (λ f. rw (f, stepOf) (by (ltb (length ds) (directoriesFor (length es))) (λ k. rw (k, if_then_else_)) (λ k. rw (k, if_then_else_))))
+        (λ p f. rw (f, stepOf))
+
+pub counted-step : (s : Store) → Valid s → Counted s → Counted (stepAt (s .checkpoint) s .store)
+counted-step s v c = counted-rows s (stepAt (s .checkpoint) s .store) (step-active s) (step-rows s v) c
+
+counted-turn : (k : ℕ) (s : Store) → Valid s → Counted s → Counted (inTurn k s .store)
+unfolding inTurn gives
+counted-turn zero s v c = c
+counted-turn (suc k) s v c = counted-turn k (stepAt (s .checkpoint) s .store) (step-valid s v) (counted-step s v c)
+
+pub keeps-count : (c : Call) (s : Store) → Valid s → Counted s → Counted (call c s .store)
+unfolding call insertCall replaceCall deleteCall commitCall abortCall readCall listCall beginCall stepCall runCall gives stored
+keeps-count (opens tx) s v c = counted-open tx s v c
+keeps-count (inserts tx t k bs) s v c = unless-keeps Counted _ s _ c (λ p. counted-written s v c tx t k bs false)
+keeps-count (replaces tx t k bs) s v c = unless-keeps Counted _ s _ c (λ p. counted-written s v c tx t k bs false)
+keeps-count (deletes tx t k) s v c = unless-keeps Counted _ s _ c (λ p. counted-written s v c tx t k [] true)
+keeps-count (commits tx) s v c = unless-keeps Counted _ s _ c (λ p. counted-closed tx s _ (committed-own tx s v) c)
+keeps-count (aborts tx) s v c = unless-keeps Counted _ s _ c (λ p. counted-closed tx s _ (aborted-own tx s v) c)
+keeps-count (reads tx t k r) s v c = unless-keeps Counted _ s _ c (λ p. go (seen tx t k s))
+  where
+    go : (o : Option Row) → Counted (readSeen r o s .store)
+    go none = unfold readSeen in c
+    go (some q) = unfold readSeen in unless-keeps Counted _ s _ c (λ p. c)
+keeps-count (lists r) s v c = unless-keeps Counted _ s _ c (λ p. c)
+keeps-count begins s v c = unless-keeps Counted _ s _ c (λ p. counted-rows s _ refl (rows-freeze (s .pages)) c)
+keeps-count (steps len) s v c = unless-keeps Counted _ s _ c (λ p. counted-step s v c)
+keeps-count (runs limit len) s v c = unless-keeps Counted _ s _ c (λ p. counted-turn (min limit (left s)) s v c)
 
 -- ---- a run
 
@@ -271,16 +394,16 @@ right-step c s v w r u =
     (λ h. rw h (right-noted c (λ u. own u s) w r u ∙ ap (ltb 0) (sym (tallies c s v u ∙ tally-yes c (call c s .answer) u (own u s) h))))
     (λ h. rw h (r u ∙ ap (ltb 0) (sym (tallies c s v u ∙ tally-no c (call c s .answer) u (own u s) h))))
 
-right-run : (cs : List Call) (s : Store) → Valid s → (w : List ℕ) → Right (λ u. own u s) w → Right (λ u. own u (afterCalls cs s)) (hadWritten cs s w)
+right-run : (cs : List Call) (s : Store) → Valid s → Counted s → (w : List ℕ) → Right (λ u. own u s) w → Right (λ u. own u (afterCalls cs s)) (hadWritten cs s w)
 unfolding afterCalls hadWritten
-right-run [] s v w r = r
-right-run (c ∷ cs) s v w r = right-run cs (call c s .store) (keeps c s v) (if accepted (call c s .answer) then writers c w else w) (right-step c s v w r)
+right-run [] s v c₀ w r = r
+right-run (c ∷ cs) s v c₀ w r = right-run cs (call c s .store) (keeps c s v c₀) (keeps-count c s v c₀) (if accepted (call c s .answer) then writers c w else w) (right-step c s v w r)
 
 own-any : (u : ℕ) (s : Store) → any (isOwn u) (rows (s .pages)) ≡ ltb 0 (own u s)
 unfolding own
 own-any u s = any-many (isOwn u) (rows (s .pages))
 
 -- the transactions of the live rows are those that had written by the calls and their answers
-pub writers-law : (s : Store) → Valid s → ((u : ℕ) → isIn u (s .active) ≡ any (isOwn u) (rows (s .pages))) → (cs : List Call) (tx : ℕ)
-    → any (isOwn tx) (rows (afterCalls cs s .pages)) ≡ isIn tx (hadWritten cs s (s .active))
-writers-law s v a cs tx = own-any tx (afterCalls cs s) ∙ sym (right-run cs s v (s .active) (λ u. a u ∙ own-any u s) tx)
+pub writers-law : (s : Store) → Valid s → Counted s → ((u : ℕ) → isIn u (openNumbers (s .active)) ≡ any (isOwn u) (rows (s .pages))) → (cs : List Call) (tx : ℕ)
+    → any (isOwn tx) (rows (afterCalls cs s .pages)) ≡ isIn tx (hadWritten cs s (openNumbers (s .active)))
+writers-law s v c a cs tx = own-any tx (afterCalls cs s) ∙ sym (right-run cs s v c (openNumbers (s .active)) (λ u. a u ∙ own-any u s) tx)

@@ -6,14 +6,15 @@ use mathlib.Core.Bool.{true, _&&_, not, false}
 use mathlib.Core.List.{List, [], _++_, _∷_, append-nil}
 use lib.Dec.{eqb, ltb}
 use lib.ListN.{length}
-use Rattle.basics.specs.Basics.{isIn, keep, isEmpty, howMany, any}
+use Rattle.basics.specs.Basics.{isIn, keep, howMany, any, isEmpty}
 use Rattle.basics.proofs.Facts.{AllOf, by, lie}
 use Rattle.blocks.specs.Limits.{mostNumber}
 use Rattle.blocks.specs.Tuple.{Owner, committed, tentative, Tuple, isTentative}
-use Rattle.rows.specs.Rows.{Row, number, ownerAfter, statementOk, markOk, startsWell, isAt, isBy, earlierBy, statementIs, isOwn}
+use Rattle.rows.specs.Rows.{Row, number, ownerAfter, statementOk, markOk, startsWell, isAt, isOwn, isBy, earlierBy, statementIs}
 use Rattle.image.specs.Stages.{capacityLimit}
 use Rattle.model.specs.State.{Store, idle}
 use Rattle.model.specs.Sight.{held, rows, isForeign}
+use Rattle.model.specs.Transactions.{openNumbers, writtenBy}
 use Rattle.model.proofs.Lists.{Pairs, all-parts, pairs-insert, all-two, all-map, all-insert, length-insert, lt-false, and-no, many-ext, le-true, and-yes, many-insert, eqb-self, keep-append, keep-cons, keep-none, keep-past, any-keep}
 use Rattle.model.proofs.Frozen.{images}
 use Rattle.model.proofs.Sound.{PageOk}
@@ -50,10 +51,14 @@ pub record Valid (s : Store) : Type 0 where
   pub pages : AllOf PageOk (s .pages)
   pub still : s .checkpoint ≡ idle → images (s .pages) ≡ []
   pub has : HeldOk (s .capacity) (s .next) (held (s .pages))
-  pub sees : LiveOk (s .active) (rows (s .pages))
+  pub sees : LiveOk (openNumbers (s .active)) (rows (s .pages))
   pub opened : length (s .active) ≤ 64
   pub nx : s .next ≤ mostNumber
   pub cap : s .capacity ≤ capacityLimit
+
+-- the counts of the open transactions are right
+abbrev pub Counted : Store → Type 0
+Counted s = (tx : ℕ) → isIn tx (openNumbers (s .active)) ≡ true → writtenBy tx (s .active) ≡ howMany (isOwn tx) (rows (s .pages))
 
 -- ---- what is held: fewer rows
 

@@ -7,30 +7,31 @@ use mathlib.Core.List.{List, [], _∷_, map}
 use lib.Dec.{leb}
 use lib.ListN.{length, length-map, length-append}
 use lib.Pow.{low}
-use Rattle.basics.specs.Basics.{if_then_else_, all, isEmpty, any, isIn, every, distinct, sum, paired}
+use Rattle.basics.specs.Basics.{if_then_else_, all, isEmpty, any, isIn, every, distinct, sum, paired, howMany}
 use Rattle.basics.proofs.Facts.{AllOf, lie, by}
 use Rattle.blocks.specs.Block.{PageFits}
 use Rattle.blocks.specs.Limits.{recordSpace, mostNumber}
-use Rattle.blocks.specs.Tuple.{Tuple, AllFit, size, sizes, Fits, Owner, ownerSize, committed, tentative}
+use Rattle.blocks.specs.Tuple.{Tuple, AllFit, sizes, size, Fits, Owner, ownerSize, committed, tentative}
 use Rattle.blocks.specs.declared.Header.{Header}
 use Rattle.rows.specs.Rows.{rowsOf, Row, isOwn, openLimit, rowsOk, transactions, markOk, statementOk, number, isBelow, isBy, follows, startsWell}
 use Rattle.image.specs.Stages.{StoredPage, rowsOfPages, capacityLimit}
 use Rattle.image.specs.View.{View}
 use Rattle.model.specs.State.{Held, Page, Store, idle}
-use Rattle.model.specs.Rules.{ripened, ripe, isRemoving, isCommitting, calm, shown, heldSize}
+use Rattle.model.specs.Rules.{ripe, ripened, isRemoving, isCommitting, calm, shown, heldSize}
 use Rattle.model.specs.Sight.{rows, held}
-use Rattle.model.specs.Recover.{loaded, recoveredStore}
+use Rattle.model.specs.Transactions.{openNumbers}
+use Rattle.model.specs.Recover.{loaded, recoveredStore, reopened}
 use Rattle.model.specs.QuotedLine.{content}
 use Rattle.model.proofs.Views.{AllSane, Sane}
 use Rattle.model.proofs.Lists.{all-two, nonempty, all-in, le-true, all-true, here, all-map, all-mapped, has-some, all-append, Mem, there, all-mem, eqb-self, every-all, leb-true, all-split}
-use Rattle.model.proofs.Owners.{pigeon, transactions-distinct, in-transactions}
+use Rattle.model.proofs.Owners.{pigeon, transactions-distinct, in-transactions, numbers-length, numbers-reopened, count-reopened}
 use Rattle.model.proofs.Frozen.{bare, shown-calm, images}
 use Rattle.model.proofs.Recovery.{Found}
 use Rattle.model.proofs.Inv.{Ready}
 use Rattle.model.proofs.Start.{Read, loaded-held, head-range, headed, pages-read}
 use Rattle.model.proofs.Sound.{Calm, PageOk, small}
 use Rattle.model.proofs.Placing.{page-full}
-use Rattle.model.proofs.Valid.{Opened, HeldOk, LiveOk, Valid}
+use Rattle.model.proofs.Valid.{Opened, HeldOk, LiveOk, Valid, Counted}
 use Rattle.model.proofs.Closing.{own-owner}
 use Rattle.model.proofs.Keeps.{nothing-pending, all-free}
 use Rattle.model.proofs.Tests.{order-tests, differ-distinct, paired-pairs, distinct-differ, all-heads}
@@ -108,7 +109,7 @@ ready s v e =
     record {
       calm = free-calm (s .pages) free (v .pages);
       some = all-mapped (λ c. isEmpty (c .1) ≡ false) content (s .pages) (all-map PageOk _ page-some (s .pages) (v .pages));
-      ok = rows-tests (s .capacity) (s .next) (s .active) (held (s .pages)) (v .has) (subst (LiveOk (s .active)) same (v .sees)) (v .opened);
+      ok = rows-tests (s .capacity) (s .next) (openNumbers (s .active)) (held (s .pages)) (v .has) (subst (LiveOk (openNumbers (s .active))) same (v .sees)) (omega (arith, numbers-length (s .active), v .opened));
       few = omega (arith, pages-few (s .pages) (v .pages), v .has .few);
       most = v .nx;
       same = same;
@@ -223,7 +224,7 @@ abbrev pub Fitting : Store → Type 0
 Fitting s = AllOf (λ r. Fits (r .1)) (held (s .pages))
 
 loaded-valid : (h : Header) (ps : List StoredPage) → h .next ≤ mostNumber → h .capacity ≤ capacityLimit
-    → rowsOk (h .capacity) (h .next) (rowsOfPages ps) ≡ true → AllOf Tested ps → Valid (recoveredStore h ps) × Fitting (recoveredStore h ps)
+    → rowsOk (h .capacity) (h .next) (rowsOfPages ps) ≡ true → AllOf Tested ps → Valid (recoveredStore h ps) × Counted (recoveredStore h ps) × Fitting (recoveredStore h ps)
 unfolding recoveredStore
 loaded-valid h ps nx cap ok t =
     let rs = rowsOfPages ps in
@@ -234,17 +235,18 @@ loaded-valid h ps nx cap ok t =
         pages = pages;
         still = λ q. images-loaded ps;
         has = subst (HeldOk (h .capacity) (h .next)) (sym e) (tested-held (h .capacity) (h .next) rs ok (all-map _ _ (λ r k. k .0) rs r));
-        sees = subst (LiveOk (transactions rs)) (sym (rows-free (map loaded ps) (free-loaded ps) pages ∙ e)) (tested-live (h .capacity) (h .next) rs ok);
-        opened = tested-few (h .capacity) (h .next) rs ok;
+        sees = subst (λ z. LiveOk z (rows (map loaded ps))) (sym (numbers-reopened rs (transactions rs))) (subst (LiveOk (transactions rs)) (sym (rows-free (map loaded ps) (free-loaded ps) pages ∙ e)) (tested-live (h .capacity) (h .next) rs ok));
+        opened = omega (arith, tested-few (h .capacity) (h .next) rs ok, numbers-length (map (reopened rs) (transactions rs)), ap length (numbers-reopened rs (transactions rs)));
         nx = nx;
         cap = cap;
       },
+      λ tx i. count-reopened rs tx (transactions rs) (ap (isIn tx) (sym (numbers-reopened rs (transactions rs))) ∙ i) ∙ ap (howMany (isOwn tx)) (sym (rows-free (map loaded ps) (free-loaded ps) pages ∙ e)),
       subst (AllOf (λ r. Fits (r .1))) (sym e) (all-map _ _ (λ r k. k .1) rs r),
     )
 
-pub starts : (n : ℕ) (v : View) (s : Store) → AllSane v → Found n v s → Valid s × Fitting s
+pub starts : (n : ℕ) (v : View) (s : Store) → AllSane v → Found n v s → Valid s × Counted s × Fitting s
 starts n v s sane f =
     let h = f .head in
-    subst (λ z. Valid z × Fitting z) (f .store)
+    subst (λ z. Valid z × Counted z × Fitting z) (f .store)
     (loaded-valid h (f .pages) (head-range v h sane (f .top) .1) (headed n h (f .head-ok) .cap .1) (f .rows-ok)
     (all-map (Read v (h .level) (f .entries)) Tested (tested v (h .level) (f .entries) sane) (f .pages) (pages-read v (h .level) (f .entries) (f .pages) (f .read))))
