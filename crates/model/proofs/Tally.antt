@@ -338,7 +338,7 @@ keeps-count (reads tx t k r) s v c = unless-keeps Counted _ s _ c (λ p. go (see
     go none = unfold readSeen in c
     go (some q) = unfold readSeen in unless-keeps Counted _ s _ c (λ p. c)
 keeps-count (lists r) s v c = unless-keeps Counted _ s _ c (λ p. c)
-keeps-count begins s v c = unless-keeps Counted _ s _ c (λ p. counted-rows s _ refl (rows-freeze (s .pages)) c)
+keeps-count begins s v c = unless-keeps Counted _ s _ c (λ p u i. c u i ∙ ap (howMany (isOwn u)) (sym (rows-freeze (s .pages))))
 keeps-count (steps len) s v c = unless-keeps Counted _ s _ c (λ p. counted-step s v c)
 keeps-count (runs limit len) s v c = unless-keeps Counted _ s _ c (λ p. counted-turn (min limit (left s)) s v c)
 
