@@ -1,0 +1,112 @@
+-- The starred cases of the specification that are about the rules, as one table; worked runs of the four places where builds go
+-- astray; and one run cut at every store. All are proved in proofs/ by computation.
+use Prim.Native.Nat.{ℕ, zero, suc, _+_, _*_}
+use mathlib.Core.Path.{_≡_}
+use mathlib.Core.Bool.{Bool, true, false, _&&_}
+use mathlib.Core.List.{List, [], _∷_, _++_, map}
+use lib.ListN.{length, replicate, take, drop}
+use lib.Dec.{eqb}
+use Rattle.basics.specs.Basics.{if_then_else_, all, sum, isIn, from, basics}
+use Rattle.bits.specs.Bits.{bitsOf, number as numberOf, bitsIn, field}
+use Rattle.blocks.specs.Numbers.{num4, same}
+use Rattle.blocks.specs.Tuple.{Owner, committed, tentative, Tuple, isTentative, ownerSize, size}
+use Rattle.blocks.specs.Spell.{zeros, spell, bytesOf, filled as filledUp, blockOf}
+use Rattle.blocks.specs.Block.{Block, committedBit, markBit, ownerFields, payloadFields, recordFields, recordsFields, entryFields, encodeBlock}
+use Rattle.blocks.specs.Decode.{kind, spelledBy, readHeader, headerIn, readOwner, readTuple, taken, whole, readTuples, pageTable, pageCount, pageLevel, pageOf as pageOfBytes, pageIn, readEntries, directoryCount, directoryLevel, directoryIn, decodeBlock}
+use Rattle.rows.specs.Rows.{rowRules}
+use Rattle.image.specs.View.{blockAt, blockCount, view}
+use Rattle.image.specs.Stages.{Stage, refuses, holds, wholeBlocks, blockOk, isZero, directoriesFor, directoryBlocks, unusedNumbers, headerOk, headerTest, addEntries, readDirectories, entriesOk, testedEntries, directoryTest, pageOk, addPage, readPages, rowsOfPages, testedPages, pageTest}
+use Rattle.image.specs.Whole.{headerStage, pagesBelow, pagesStage}
+use Rattle.model.specs.State.{Held, Page, idle, Store, Write, Answer, refused, done, count, filled}
+use Rattle.model.specs.Rules.{heldSize, fresh, calm, joins, rules}
+use Rattle.model.specs.Sight.{held, rows, isForeign, versions, seenOf, seen}
+use Rattle.model.specs.Transactions.{gives, unless, changed, openCall, notOpen, noTable, tooLong, foreign, present, unseen, full, newTuple, written, insertCall, replaceCall, deleteCall, readSeen, readCall, listing, listCall, perform, isRow, removeAll, planKey, ownAt, planRows, plan, others, commitCall, abortCall}
+use Rattle.model.specs.Checkpoint.{stored as storedStore, isFree, allocate, freeCount, usedToo, isRunning, blocksNeeded, beginCall, leftOf, left, made, fill, storePage, storeDirectory, headerFor, storeHeader, stepOf, stepAt, badImage, stepCall, inTurn, runCall}
+use Rattle.model.specs.Calls.{Call, opens, inserts, replaces, deletes, commits, aborts, reads, begins, steps, runs, call, isBegin, withWriter, writers, accepted, afterCalls, hadWritten}
+use Rattle.model.specs.Recover.{memoryFor, putBlock, freshStore, make, madeImage, loaded, recoveredStore, recoverPages, recoverBelow, recover}
+use Rattle.model.specs.QuotedLine.{Logged, tag, log, isHeader, landed, stored, content}
+
+-- ---- runs of calls
+
+-- the answers of a list of calls
+unfoldable pub answers : List Call → Store → List Answer
+answers [] s = []
+answers (c ∷ cs) s = let o = call c s in o .answer ∷ answers cs (o .store)
+
+-- the block stores of a list of calls
+unfoldable pub writes : List Call → Store → List Write
+writes [] s = []
+writes (c ∷ cs) s = let o = call c s in o .writes ++ writes cs (o .store)
+
+-- how many tuples each page has, and its size
+unfoldable pub shape : Store → List (ℕ × ℕ)
+shape s = map (λ p. (length (p .tuples), sum heldSize (p .tuples))) (s .pages)
+
+-- n inserts by transaction 5 into table 0, of payloads of size bytes at the keys from k on
+unfoldable pub many : ℕ → ℕ → ℕ → List Call
+many k zero size = []
+many k (suc n) size = inserts 5 0 k (replicate size 65) ∷ many (suc k) n size
+
+-- the pages after transaction 5 made these calls on an empty store of 16 blocks, N 64
+unfoldable pub after5 : List Call → List (ℕ × ℕ)
+after5 cs = shape (afterCalls (opens 5 ∷ cs) (freshStore 16 64))
+
+-- ---- the table
+
+-- committed, with a payload of n bytes
+unfoldable pub tuple : ℕ → Tuple
+tuple n = record { key = 0; number = 0; owner = committed; mark = false; payload = replicate n 0 }
+
+-- a page of k tuples of 42 bytes, and one of 42 + n
+unfoldable pub pageOf : ℕ → ℕ → Page
+pageOf k n = fresh 0 (map calm (replicate k (tuple 33) ++ tuple (33 + n) ∷ []))
+
+-- a store of 512 blocks with p clean pages of one tuple each
+unfoldable pub clean : ℕ → Store
+clean p =
+    record { blocks = 512; capacity = 1024; level = 1; next = p;
+      pages = map (λ b. record { table = 0; block = b; frozen = false; tuples = calm (tuple 0) ∷ [] }) (from 1 p);
+      active = []; used = λ b. isIn b (from 1 p); taken = p; checkpoint = idle }
+
+-- open 5, insert table 0, key 7, payload 41 42; checkpoint
+unfoldable pub booking : List Call
+booking = opens 5 ∷ inserts 5 0 7 (0x41 ∷ 0x42 ∷ []) ∷ begins ∷ runs 9 8192 ∷ []
+
+-- this block store spells these bytes and then zeros
+unfoldable pub spells : Write → ℕ → List ℕ → ℕ → Bool
+spells w at xs k = eqb (w .at) at && same (encodeBlock (w .what)) (xs ++ zeros k)
+
+-- the first block store
+unfoldable pub firstOf : List Write → (Write → Bool) → Bool
+firstOf [] f = false
+firstOf (w ∷ ws) f = f w
+
+pub record Cases : Type 0 where
+  -- empty store, 16 blocks, N 8: header 10 08 00 80, then zeros
+  pub empty-header : same (madeImage (replicate 8192 0xFF) 8) (0x10 ∷ 0x08 ∷ 0x00 ∷ 0x80 ∷ zeros 508 ++ replicate 7680 0xFF) ≡ true
+  -- ten tentative payloads of 40: 530 bytes, split 5 and 5; nine: 477, no split
+  pub ten : after5 (many 0 10 40) ≡ (5, 265) ∷ (5, 265) ∷ []
+  pub nine : after5 (many 0 9 40) ≡ (9, 477) ∷ []
+  -- 504 stays, 505 splits
+  pub stays : after5 (many 0 9 40 ++ many 9 1 14) ≡ (10, 504) ∷ []
+  pub splits : after5 (many 0 9 40 ++ many 9 1 15) ≡ (5, 265) ∷ (5, 240) ∷ []
+  -- sum 336 joins, 337 does not
+  pub joins-336 : joins (pageOf 3 0) (pageOf 3 0) ≡ true
+  pub joins-337 : joins (pageOf 3 0) (pageOf 3 1) ≡ false
+  -- frozen nine, ten more pending: 1,007 at thaw, pages of 5, 5, 9
+  pub frozen-nineteen : after5 (many 10 9 40 ++ (begins ∷ many 20 10 40)) ≡ (19, 1007) ∷ []
+  pub thawed : after5 (many 10 9 40 ++ (begins ∷ many 20 10 40 ++ (steps 8192 ∷ []))) ≡ (5, 265) ∷ (5, 265) ∷ (9, 477) ∷ []
+  -- 336 pages, none frozen: 2 stores; 337: 3; empty: 1
+  pub stores-336 : answers (begins ∷ []) (clean 336) ≡ count 2 ∷ []
+  pub stores-337 : answers (begins ∷ []) (clean 337) ≡ count 3 ∷ []
+  pub stores-empty : answers (begins ∷ []) (freshStore 16 8) ≡ count 1 ∷ []
+  -- the booking in the 16-block store: its answers and the bytes of page block 1
+  pub booking-answers : answers booking (freshStore 16 8) ≡ done ∷ done ∷ count 3 ∷ count 3 ∷ []
+  pub booking-bytes : firstOf (writes booking (freshStore 16 8)) (λ w. spells w 1 (
+      0x20 ∷ 0x08 ∷ 0x3C ∷ 0x00 ∷ 0x00 ∷ 0x00 ∷ 0x04 ∷ 0x00
+      ∷ 0x00 ∷ 0x00 ∷ 0x00 ∷ 0x07 ∷ 0x00 ∷ 0x00 ∷ 0x00 ∷ 0x00 ∷ 0x02 ∷ 0x00 ∷ 0x50 ∷ 0x00 ∷ 0x00 ∷ 0x41 ∷ 0x42 ∷ []) 489) ≡ true
+
+-- opens all that the cases compute with: `unfolding cases`
+unfoldable pub cases : ℕ
+unfolding basics bitsOf numberOf bitsIn field num4 same isTentative ownerSize size spell bytesOf filledUp blockOf committedBit markBit ownerFields payloadFields recordFields recordsFields entryFields encodeBlock kind spelledBy readHeader headerIn readOwner readTuple taken whole readTuples pageTable pageCount pageLevel pageOfBytes pageIn readEntries directoryCount directoryLevel directoryIn decodeBlock rowRules blockAt blockCount view wholeBlocks blockOk isZero directoriesFor directoryBlocks unusedNumbers headerOk headerTest addEntries readDirectories entriesOk testedEntries directoryTest pageOk addPage readPages rowsOfPages testedPages pageTest headerStage pagesBelow pagesStage rules held rows isForeign versions seenOf seen gives unless changed openCall notOpen noTable tooLong foreign present unseen full newTuple written insertCall replaceCall deleteCall readSeen readCall listing listCall perform isRow removeAll planKey ownAt planRows plan others commitCall abortCall storedStore isFree allocate freeCount usedToo isRunning blocksNeeded beginCall leftOf left made fill storePage storeDirectory headerFor storeHeader stepOf stepAt badImage stepCall inTurn runCall call isBegin withWriter writers accepted afterCalls hadWritten memoryFor putBlock freshStore make madeImage loaded recoveredStore recoverPages recoverBelow recover tag log isHeader landed stored content answers writes shape many after5 tuple pageOf clean booking spells firstOf
+cases = 0
