@@ -1,3 +1,5 @@
+pub mod Views
 pub mod Cases
 pub mod Traps
 pub mod Cuts
+pub mod Bytes
