@@ -1,5 +1,9 @@
-pub mod Views
 pub mod Cases
 pub mod Traps
 pub mod Cuts
 pub mod Bytes
+pub mod Views
+pub mod Lists
+pub mod Splits
+pub mod Frozen
+pub mod Pages
