@@ -6,8 +6,8 @@ use mathlib.Core.Bool.{Bool, true, false, not, _&&_, _||_}
 use mathlib.Core.List.{List, [], _∷_, _++_, map}
 use lib.ListN.{length, take, drop, length-append, length-take, length-drop, take-append-drop}
 use lib.Seq.{take-at, drop-at, drop-append-le, take-append-le, drop-append-add, drop-drop}
-use lib.Dec.{eqb, leb, ltb, leb→le, le→leb, nleb→lt, eqb→eq, eqb-refl}
-use Rattle.basics.specs.Basics.{if_then_else_, every, all, distinct}
+use lib.Dec.{eqb, leb, ltb}
+use Rattle.basics.specs.Basics.{if_then_else_, basics}
 use Rattle.basics.proofs.Facts.{by, lie, and-true}
 use Rattle.blocks.specs.Limits.{entriesPerBlock}
 use Rattle.blocks.specs.Tuple.{AllBytes}
@@ -18,12 +18,13 @@ use Rattle.blocks.specs.declared.Header.{Header}
 use Rattle.blocks.proofs.Spelled.{bytes-append, bytes-take, bytes-drop, length-block, block-bytes}
 use Rattle.rows.specs.Rows.{rowRules}
 use Rattle.image.specs.View.{View, view, blockAt, blockCount}
-use Rattle.image.specs.Stages.{Stage, refuses, holds, wholeBlocks, capacityLimit, directoriesFor, directoryBlocks, unusedNumbers, blockOk, isZero, headerOk, headerTest}
-use Rattle.image.specs.Whole.{headerStage, pagesStage}
+use Rattle.image.specs.Stages.{Stage, refuses, holds, wholeBlocks, capacityLimit, directoriesFor, directoryBlocks, unusedNumbers, blockOk, isZero, headerOk, headerTest, readDirectories, entriesOk, testedEntries, directoryTest, StoredPage, readPages, rowsOfPages, testedPages, pageTest}
+use Rattle.image.specs.Whole.{headerStage, pagesBelow, pagesStage}
 use Rattle.model.specs.State.{Store}
 use Rattle.model.specs.Checkpoint.{headerFor}
 use Rattle.model.specs.Recover.{memoryFor, putBlock, freshStore, make, madeImage, recoveredStore, recoverPages, recoverBelow, recover}
 use Rattle.model.proofs.Views.{put, recoverFrom, recoverView}
+use Rattle.model.proofs.Lists.{eqb-self, eqb-true, le-true, leb-true, leb-false, lt-false, not-false, or-false, every-all}
 
 -- ---- a block of an image exchanged
 
@@ -63,19 +64,184 @@ module _ (img xs : List ℕ) (b : ℕ) (fits : 512 * b + 512 ≤ length img) (bl
 
   pub bytes-put : AllBytes img → AllBytes xs → AllBytes (putBlock img b xs)
   unfolding putBlock
-  bytes-put h k = bytes-append _ _ (bytes-take (512 * b) img h) (bytes-append xs _ k (bytes-drop (512 * b + 512) img h))
+  bytes-put h k =
+      bytes-append (take (512 * b) img) (xs ++ drop (512 * b + 512) img) (bytes-take (512 * b) img h)
+      (bytes-append xs (drop (512 * b + 512) img) k (bytes-drop (512 * b + 512) img h))
+
+  apart : (i : ℕ) → eqb b i ≡ false → b < suc i → b < i
+  apart i h k = by (leb (suc b) i) (leb-true (suc b) i) (λ l. let g : i < suc b = leb-false (suc b) i l in let e : b ≡ i = omega arith in lie (sym h ∙ subst (λ z. eqb b z ≡ true) e (eqb-self b)))
 
   block-put : (i : ℕ) → view (putBlock img b xs) i ≡ put (view img) b (decodeBlock xs) i
   unfolding view put if_then_else_
   block-put i =
       by (eqb b i)
-      (λ h. let e : b ≡ i = eqb→eq b i (rw h tt) in rw h (ap decodeBlock (subst (λ z. blockAt (putBlock img b xs) z ≡ xs) e at-put)))
+      (λ h. rw h (ap decodeBlock (subst (λ z. blockAt (putBlock img b xs) z ≡ xs) (eqb-true b i h) at-put)))
       (λ h. by (leb (suc i) b)
-      (λ k. rw h (ap decodeBlock (below-put i (leb→le (suc i) b (rw k tt)))))
-      (λ k. rw h (ap decodeBlock (above-put i (apart i h (nleb→lt (suc i) b (rw k tt)))))))
-    where
-      apart : (i : ℕ) → eqb b i ≡ false → b < suc i → b < i
-      apart i h k = ?apart
+      (λ k. rw h (ap decodeBlock (below-put i (leb-true (suc i) b k))))
+      (λ k. rw h (ap decodeBlock (above-put i (apart i h (leb-false (suc i) b k))))))
 
   pub view-put : view (putBlock img b xs) ≡ put (view img) b (decodeBlock xs)
   view-put = fun-ext block-put
+
+-- a written block has 512 bytes
+pub length-encode : (x : Block) → length (encodeBlock x) ≡ 512
+unfolding encodeBlock
+length-encode x = length-block _
+
+pub bytes-encode : (x : Block) → AllBytes (encodeBlock x)
+unfolding encodeBlock
+bytes-encode x = block-bytes _
+
+-- ---- recovery of bytes and of the view
+
+refuses-holds {ℓ} : {A : Type 0} {X : Type ℓ} {n : ℕ} {a : A} → refuses n ≡ holds a → X
+refuses-holds e = let z : _≡_ {A = ℕ} 0 1 = cc in absurd (omega arith)
+
+holds-eq : {A : Type 0} {a b : A} → holds a ≡ holds b → a ≡ b
+holds-eq e = cc
+
+-- an image of n whole blocks
+whole-blocks : (len n : ℕ) → len ≡ 512 * n → 2 ≤ n → n ≤ 4096 → wholeBlocks len ≡ true
+unfolding wholeBlocks
+whole-blocks len n e l u =
+    let q : len / 512 ≡ n = omega arith in
+    let r : len % 512 ≡ 0 = omega arith in
+    rw (q, r, le-true 2 n l, le-true n 4096 u)
+
+blocks-whole : (len : ℕ) → wholeBlocks len ≡ true → (len ≡ 512 * (len / 512)) × (2 ≤ len / 512) × (len / 512 ≤ 4096)
+unfolding wholeBlocks
+blocks-whole len e =
+    let k = and-true (eqb (len % 512) 0) _ e in
+    let l = and-true (leb 2 (len / 512)) (leb (len / 512) 4096) (k .1) in
+    let z : len % 512 ≡ 0 = eqb-true _ _ (k .0) in
+    (omega arith, leb-true 2 (len / 512) (l .0), leb-true (len / 512) 4096 (l .1))
+
+stage-is : (img : List ℕ) (n : ℕ) → length img ≡ 512 * n → 2 ≤ n → n ≤ 4096 → headerStage img ≡ headerTest n (view img 0)
+unfolding headerStage blockCount if_then_else_
+stage-is img n e l u = let q : length img / 512 ≡ n = omega arith in rw (whole-blocks (length img) n e l u, q)
+
+-- what recovery below a header gives has the header's capacity and blocks
+pages-store : (h : Header) (st : Stage (List StoredPage)) (s : Store) → recoverPages h st ≡ holds s → (ps : List StoredPage) × (s ≡ recoveredStore h ps)
+unfolding recoverPages
+pages-store h (refuses n) s e = refuses-holds e
+pages-store h (holds ps) s e = (ps, sym (holds-eq e))
+
+-- with memory enough
+enough : (m : ℕ) (v : View) (st : Stage Header) (s : Store) → recoverFrom v st ≡ holds s → memoryFor (s .capacity) ≤ m → recoverBelow m v st ≡ holds s
+unfolding recoverFrom recoverBelow if_then_else_ recoveredStore
+enough m v (refuses n) s e h = refuses-holds e
+enough m v (holds c) s e h =
+    let k = pages-store c (pagesStage v c) s e in
+    let q : s .capacity ≡ c .capacity = ap (λ z. z .capacity) (k .1) in
+    rw (lt-false m (memoryFor (c .capacity)) (subst (λ z. memoryFor z ≤ m) q h)) e
+
+pub recover-view : (m : ℕ) (img : List ℕ) (s : Store) (n : ℕ) → length img ≡ 512 * n → 2 ≤ n → n ≤ 4096 → recoverView n (view img) ≡ holds s → memoryFor (s .capacity) ≤ m
+    → recover m img ≡ holds s
+unfolding recoverView recover
+recover-view m img s n e l u r h = enough m (view img) (headerStage img) s (rw (stage-is img n e l u) r) h
+
+-- ---- what an accepted recovery says of its image
+
+pub record Accepted (img : List ℕ) (s : Store) : Type 0 where
+  pub long : length img ≡ 512 * s .blocks
+  pub least : 2 ≤ s .blocks
+  pub most : s .blocks ≤ 4096
+  pub some-room : 1 ≤ s .capacity
+  pub limit : s .capacity ≤ capacityLimit
+  pub seen : recoverView (s .blocks) (view img) ≡ holds s
+
+-- without the test of the memory
+below : (m : ℕ) (v : View) (st : Stage Header) (s : Store) → recoverBelow m v st ≡ holds s → recoverFrom v st ≡ holds s
+unfolding recoverFrom recoverBelow if_then_else_
+below m v (refuses n) s e = refuses-holds e
+below m v (holds h) s e = by (ltb m (memoryFor (h .capacity))) (λ k. refuses-holds (rw k at e)) (λ k. rw k at e)
+
+-- the header that was accepted
+header-store : (n : ℕ) (v : View) (x : Block) (s : Store) → recoverFrom v (headerTest n x) ≡ holds s
+    → (h : Header) × (ps : List StoredPage) × (headerOk n h ≡ true) × (s ≡ recoveredStore h ps)
+unfolding recoverFrom headerTest if_then_else_
+header-store n v malformed s e = refuses-holds e
+header-store n v (page t l ts) s e = refuses-holds e
+header-store n v (directory l es) s e = refuses-holds e
+header-store n v (header h) s e =
+    by (headerOk n h) (λ k. let r = pages-store h (pagesStage v h) s (rw k at e) in (h, r .0, k, r .1)) (λ k. refuses-holds (rw k at e))
+
+-- the bounds of a header that passes
+bounds : (n : ℕ) (h : Header) → headerOk n h ≡ true → (h .blocks ≡ n) × (1 ≤ h .capacity) × (h .capacity ≤ capacityLimit)
+unfolding headerOk
+bounds n h e =
+    let k = every-all _ e in
+    (eqb-true (h .blocks) n (k .0), leb-true 1 (h .capacity) (k .1 .0), leb-true (h .capacity) capacityLimit (k .1 .1 .0))
+
+accepted-stage : (img : List ℕ) (s : Store) → recoverFrom (view img) (headerStage img) ≡ holds s → Accepted img s
+unfolding recoverView recoverFrom headerStage blockCount if_then_else_ recoveredStore
+accepted-stage img s e =
+    by (wholeBlocks (length img))
+    (λ w.
+    let n = length img / 512 in
+    let q : recoverView n (view img) ≡ holds s = rw w at e in
+    let k = header-store n (view img) (view img 0) s q in
+    let b = bounds n (k .0) (k .2) in
+    let c = blocks-whole (length img) w in
+    let f : s .blocks ≡ n = ap (λ z. z .blocks) (k .3) ∙ b .0 in
+    let g : s .capacity ≡ k .0 .capacity = ap (λ z. z .capacity) (k .3) in
+    record {
+      long = rw f (c .0);
+      least = rw f (c .1);
+      most = rw f (c .2);
+      some-room = rw g (b .1);
+      limit = rw g (b .2);
+      seen = subst (λ z. recoverView z (view img) ≡ holds s) (sym f) q;
+    })
+    (λ w. refuses-holds (rw w at e))
+
+pub accepted-recovery : (m : ℕ) (img : List ℕ) (s : Store) → recover m img ≡ holds s → Accepted img s
+unfolding recover
+accepted-recovery m img s e = accepted-stage img s (below m (view img) (headerStage img) s e)
+
+-- ---- a store just made
+
+-- what an accepted make says
+pub make-accepted : (len m n : ℕ) (s : Store) → make len m n ≡ holds s
+    → (wholeBlocks len ≡ true) × (1 ≤ n) × (n ≤ capacityLimit) × (memoryFor n ≤ m) × (s ≡ freshStore (len / 512) n)
+unfolding make if_then_else_
+make-accepted len m n s e =
+    by (not (wholeBlocks len)) (λ a. refuses-holds (rw a at e))
+    (λ a. by (ltb n 1 || ltb capacityLimit n) (λ b. refuses-holds (rw (a, b) at e))
+    (λ b. by (ltb m (memoryFor n)) (λ c. refuses-holds (rw (a, b, c) at e))
+    (λ c.
+    let k = or-false (ltb n 1) (ltb capacityLimit n) b in
+    let lo : 1 < suc n = leb-false (suc n) 1 (k .0) in
+    let hi : n < suc capacityLimit = leb-false (suc capacityLimit) n (k .1) in
+    let mem : memoryFor n < suc m = leb-false (suc m) (memoryFor n) c in
+    (not-false (wholeBlocks len) a, omega arith, omega arith, omega arith, sym (holds-eq (rw (a, b, c) at e))))))
+
+-- the header that make writes passes, and the store below it is empty
+fresh-view : (v : View) (b n : ℕ) → 1 ≤ n → n ≤ capacityLimit → v 0 ≡ header (headerFor (freshStore b n) 0 0 0 [])
+    → recoverView b v ≡ holds (freshStore b n)
+unfolding recoverView recoverFrom headerTest headerOk directoriesFor directoryBlocks unusedNumbers blockOk isZero basics headerFor freshStore pagesStage pagesBelow directoryTest readDirectories testedEntries entriesOk pageTest readPages testedPages rowsOfPages rowRules recoverPages recoveredStore
+fresh-view v b n l u e = rw (e, eqb-self b, le-true 1 n l, le-true n capacityLimit u, zero) (rw zero)
+  where
+    zero : leb 0 n ≡ true
+    zero = le-true 0 n (omega arith)
+
+module _ (decodes : DecodeOfEncode) where
+  -- the image of a store just made holds that store
+  pub made-accepted : (img : List ℕ) (m n : ℕ) (s : Store) → make (length img) m n ≡ holds s → Accepted (madeImage img n) s
+  unfolding madeImage headerFor freshStore put if_then_else_
+  made-accepted img m n s e =
+      let k = make-accepted (length img) m n s e in
+      let c = blocks-whole (length img) (k .0) in
+      let b = length img / 512 in
+      let h = headerFor (freshStore b n) 0 0 0 [] in
+      let x = encodeBlock (header h) in
+      let fits : 512 * 0 + 512 ≤ length img = omega arith in
+      let eq : view (madeImage img n) 0 ≡ header h = ap (λ v. v 0) (view-put img x 0 fits (length-encode (header h))) ∙ decodes (header h) (omega arith) in
+      rw (k .4) (record {
+        long = length-put img x 0 fits (length-encode (header h)) ∙ c .0;
+        least = c .1;
+        most = c .2;
+        some-room = k .1;
+        limit = k .2;
+        seen = fresh-view (view (madeImage img n)) b n (k .1) (k .2) eq;
+      })
