@@ -3,19 +3,27 @@
 use mathlib.Core.Path.{_≡_, refl, _∙_, sym}
 use Prim.Native.Nat.{ℕ}
 use mathlib.Core.Bool.{true, false, Bool}
-use mathlib.Core.List.{List, [], _∷_, _++_, map, append-nil, tail}
+use mathlib.Core.List.{List, map, [], _∷_, _++_, append-nil, tail}
 use mathlib.Core.Option.{some, Option, none}
 use lib.Dec.{leb, eqb, ltb}
 use Rattle.basics.specs.Basics.{if_then_else_, isEmpty, any, first}
 use Rattle.basics.proofs.Facts.{by, never, by-option, lie}
 use Rattle.blocks.specs.Tuple.{Tuple}
-use Rattle.model.specs.State.{Page, Held}
-use Rattle.model.specs.Rules.{shown, fresh, after, isAdding, grown, withTuples, entering, place, placeAfter, placeFront, joins, settle, settleNext, joined, settleFull, listOf, around, goneLater, edit, withPending, isNumber, kept, keptLater, asCommitted, isRemoving, remove, removeOn, commitOn, commit, hasNumber, thawOn, thaw, isPending, splitAll, calm, ripened, isFrozen}
+use Rattle.model.specs.State.{Held, Page, adding, Pending, nothing, committing, removing}
+use Rattle.model.specs.Rules.{shown, fresh, after, isAdding, grown, withTuples, entering, placeAfter, place, placeFront, joins, settleNext, settle, joined, settleFull, listOf, around, goneLater, edit, withPending, isNumber, kept, keptLater, asCommitted, isRemoving, remove, removeOn, commit, commitOn, hasNumber, thaw, thawOn, isPending, splitAll, calm, ripened, isFrozen}
 use Rattle.model.specs.Transactions.{Op, perform, toCommit, toRemove}
 use Rattle.model.proofs.Lists.{some-eq}
 
+-- a page's table and tuples, as an image has them
+abbrev pub Content : Type 0
+Content = ℕ × List Tuple
+
+-- the tuples alone
+abbrev pub bare : List Held → List Tuple
+bare hs = map (λ h. h .tuple) hs
+
 -- the frozen pages' images
-unfoldable pub images : List Page → List (ℕ × List Tuple)
+unfoldable pub images : List Page → List Content
 images [] = []
 images (p ∷ ps) = if p .frozen then (p .table, shown (p .tuples)) ∷ images ps else images ps
 
@@ -186,3 +194,15 @@ pub images-none : (ps : List Page) → first isFrozen ps ≡ none → images ps 
 unfolding first images isFrozen if_then_else_
 images-none [] e = refl
 images-none (q ∷ ps) e = by (q .frozen) (λ h. never (sym (rw (h, first) at e))) (λ h. rw h (images-none ps (rw (h, first) at e)))
+
+-- nothing pending: the image is the page
+pub shown-calm : (ts : List Held) → any (λ x. isPending (x .pending)) ts ≡ false → shown ts ≡ bare ts
+unfolding shown any if_then_else_ isAdding isPending
+shown-calm [] e = refl
+shown-calm (x ∷ xs) e = go (x .pending) refl (shown-calm xs)
+  where
+    go : (o : Pending) → x .pending ≡ o → (any (λ x. isPending (x .pending)) xs ≡ false → shown xs ≡ bare xs) → shown (x ∷ xs) ≡ bare (x ∷ xs)
+    go nothing h r = rw (h, r (rw (h, any) at e)) refl
+    go adding h r = lie (sym (rw (h, any) at e))
+    go committing h r = lie (sym (rw (h, any) at e))
+    go removing h r = lie (sym (rw (h, any) at e))

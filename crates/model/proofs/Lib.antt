@@ -7,3 +7,7 @@ pub mod Lists
 pub mod Splits
 pub mod Frozen
 pub mod Pages
+pub mod Recovery
+pub mod Stored
+pub mod Alloc
+pub mod Inv
