@@ -185,7 +185,7 @@ images-thaw b ps = images-aroundFirst (thawOn b) (images-thawOn b) none ps refl
 
 -- the first frozen page has the first image
 pub images-first : (ps : List Page) (p : Page) → first isFrozen ps ≡ some p → images ps ≡ (p .table, shown (p .tuples)) ∷ tail (images ps)
-unfolding first images isFrozen if_then_else_
+unfolding first images isFrozen if_then_else_ 
 images-first [] p e = never e
 images-first (q ∷ ps) p e =
     by (q .frozen) (λ h. let k : q ≡ p = some-eq (rw (h, first) at e) in rw (h, k)) (λ h. rw h (images-first ps p (rw (h, first) at e)))

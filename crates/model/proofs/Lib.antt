@@ -2,6 +2,7 @@ pub mod Cases
 pub mod Traps
 pub mod Cuts
 pub mod Bytes
+pub mod Ranged
 pub mod Views
 pub mod Lists
 pub mod Splits

@@ -383,3 +383,4 @@ in-keep x f (o ∷ os) =
     by (f o) (λ k. rw (k, e, any) (sym (ap f q ∙ k)))
     (λ k. let n : f x ≡ false = ap f q ∙ k in rw (k, e, any) (r ∙ ap (λ z. isIn x os && z) n ∙ and-no (isIn x os) ∙ sym n)))
     (λ e. by (f o) (λ k. rw (k, e, any) r) (λ k. rw (k, e, any) r))
+
