@@ -13,9 +13,9 @@ use Rattle.blocks.specs.Limits.{entriesPerBlock}
 use Rattle.blocks.specs.Tuple.{AllBytes}
 use Rattle.blocks.specs.Block.{Block, malformed, header, page, directory, encodeBlock}
 use Rattle.blocks.specs.Decode.{decodeBlock}
-use Rattle.blocks.specs.Laws.{DecodeOfEncode}
 use Rattle.blocks.specs.declared.Header.{Header}
-use Rattle.blocks.proofs.Spelled.{bytes-append, bytes-take, bytes-drop, length-block, block-bytes}
+use Rattle.blocks.proofs.Spelled.{bytes-append, bytes-take, bytes-drop}
+use Rattle.blocks.proofs.Laws.{encode-length, decode-encode, decode-in-range}
 use Rattle.rows.specs.Rows.{rowRules}
 use Rattle.image.specs.View.{View, view, blockAt, blockCount}
 use Rattle.image.specs.Stages.{Stage, refuses, holds, wholeBlocks, capacityLimit, directoriesFor, directoryBlocks, unusedNumbers, blockOk, isZero, headerOk, headerTest, readDirectories, entriesOk, testedEntries, directoryTest, StoredPage, readPages, rowsOfPages, testedPages, pageTest}
@@ -23,7 +23,8 @@ use Rattle.image.specs.Whole.{headerStage, pagesBelow, pagesStage}
 use Rattle.model.specs.State.{Store}
 use Rattle.model.specs.Checkpoint.{headerFor}
 use Rattle.model.specs.Recover.{memoryFor, putBlock, freshStore, make, madeImage, recoveredStore, recoverPages, recoverBelow, recover}
-use Rattle.model.proofs.Views.{put, recoverFrom, recoverView}
+use Rattle.model.proofs.Views.{put, recoverFrom, recoverView, Sane, AllSane}
+use Rattle.model.proofs.Recovery.{found}
 use Rattle.model.proofs.Lists.{eqb-self, eqb-true, le-true, leb-true, leb-false, lt-false, not-false, or-false, every-all}
 
 -- ---- a block of an image exchanged
@@ -83,14 +84,22 @@ module _ (img xs : List ℕ) (b : ℕ) (fits : 512 * b + 512 ≤ length img) (bl
   pub view-put : view (putBlock img b xs) ≡ put (view img) b (decodeBlock xs)
   view-put = fun-ext block-put
 
--- a written block has 512 bytes
-pub length-encode : (x : Block) → length (encodeBlock x) ≡ 512
-unfolding encodeBlock
-length-encode x = length-block _
+abbrev Read : Block → Type 0
+Read malformed = ⊥
+Read (header h) = Unit {0}
+Read (page t l ts) = Unit {0}
+Read (directory l es) = Unit {0}
 
-pub bytes-encode : (x : Block) → AllBytes (encodeBlock x)
-unfolding encodeBlock
-bytes-encode x = block-bytes _
+-- every block of a view is malformed or in range
+pub view-sane : (img : List ℕ) → AllSane (view img)
+unfolding view
+view-sane img i = go (decodeBlock (blockAt img i)) refl
+  where
+    go : (x : Block) → decodeBlock (blockAt img i) ≡ x → Sane x
+    go malformed e = tt
+    go (header h) e = decode-in-range (blockAt img i) (header h) e (λ q. subst Read q tt)
+    go (page t l ts) e = decode-in-range (blockAt img i) (page t l ts) e (λ q. subst Read q tt)
+    go (directory l es) e = decode-in-range (blockAt img i) (directory l es) e (λ q. subst Read q tt)
 
 -- ---- recovery of bytes and of the view
 
@@ -156,16 +165,6 @@ unfolding recoverFrom recoverBelow if_then_else_
 below m v (refuses n) s e = refuses-holds e
 below m v (holds h) s e = by (ltb m (memoryFor (h .capacity))) (λ k. refuses-holds (rw k at e)) (λ k. rw k at e)
 
--- the header that was accepted
-header-store : (n : ℕ) (v : View) (x : Block) (s : Store) → recoverFrom v (headerTest n x) ≡ holds s
-    → (h : Header) × (ps : List StoredPage) × (headerOk n h ≡ true) × (s ≡ recoveredStore h ps)
-unfolding recoverFrom headerTest if_then_else_
-header-store n v malformed s e = refuses-holds e
-header-store n v (page t l ts) s e = refuses-holds e
-header-store n v (directory l es) s e = refuses-holds e
-header-store n v (header h) s e =
-    by (headerOk n h) (λ k. let r = pages-store h (pagesStage v h) s (rw k at e) in (h, r .0, k, r .1)) (λ k. refuses-holds (rw k at e))
-
 -- the bounds of a header that passes
 bounds : (n : ℕ) (h : Header) → headerOk n h ≡ true → (h .blocks ≡ n) × (1 ≤ h .capacity) × (h .capacity ≤ capacityLimit)
 unfolding headerOk
@@ -180,11 +179,11 @@ accepted-stage img s e =
     (λ w.
     let n = length img / 512 in
     let q : recoverView n (view img) ≡ holds s = rw w at e in
-    let k = header-store n (view img) (view img 0) s q in
-    let b = bounds n (k .0) (k .2) in
+    let k = found n (view img) s q in
+    let b = bounds n (k .head) (k .head-ok) in
     let c = blocks-whole (length img) w in
-    let f : s .blocks ≡ n = ap (λ z. z .blocks) (k .3) ∙ b .0 in
-    let g : s .capacity ≡ k .0 .capacity = ap (λ z. z .capacity) (k .3) in
+    let f : s .blocks ≡ n = ap (λ z. z .blocks) (sym (k .store)) ∙ b .0 in
+    let g : s .capacity ≡ k .head .capacity = ap (λ z. z .capacity) (sym (k .store)) in
     record {
       long = rw f (c .0);
       least = rw f (c .1);
@@ -225,23 +224,22 @@ fresh-view v b n l u e = rw (e, eqb-self b, le-true 1 n l, le-true n capacityLim
     zero : leb 0 n ≡ true
     zero = le-true 0 n (omega arith)
 
-module _ (decodes : DecodeOfEncode) where
-  -- the image of a store just made holds that store
-  pub made-accepted : (img : List ℕ) (m n : ℕ) (s : Store) → make (length img) m n ≡ holds s → Accepted (madeImage img n) s
-  unfolding madeImage headerFor freshStore put if_then_else_
-  made-accepted img m n s e =
-      let k = make-accepted (length img) m n s e in
-      let c = blocks-whole (length img) (k .0) in
-      let b = length img / 512 in
-      let h = headerFor (freshStore b n) 0 0 0 [] in
-      let x = encodeBlock (header h) in
-      let fits : 512 * 0 + 512 ≤ length img = omega arith in
-      let eq : view (madeImage img n) 0 ≡ header h = ap (λ v. v 0) (view-put img x 0 fits (length-encode (header h))) ∙ decodes (header h) (omega arith) in
-      rw (k .4) (record {
-        long = length-put img x 0 fits (length-encode (header h)) ∙ c .0;
-        least = c .1;
-        most = c .2;
-        some-room = k .1;
-        limit = k .2;
-        seen = fresh-view (view (madeImage img n)) b n (k .1) (k .2) eq;
-      })
+-- the image of a store just made holds that store
+pub made-accepted : (img : List ℕ) (m n : ℕ) (s : Store) → make (length img) m n ≡ holds s → Accepted (madeImage img n) s
+unfolding madeImage headerFor freshStore put if_then_else_
+made-accepted img m n s e =
+    let k = make-accepted (length img) m n s e in
+    let c = blocks-whole (length img) (k .0) in
+    let b = length img / 512 in
+    let h = headerFor (freshStore b n) 0 0 0 [] in
+    let x = encodeBlock (header h) in
+    let fits : 512 * 0 + 512 ≤ length img = omega arith in
+    let eq : view (madeImage img n) 0 ≡ header h = ap (λ v. v 0) (view-put img x 0 fits (encode-length (header h))) ∙ decode-encode (header h) (omega arith) in
+    rw (k .4) (record {
+      long = length-put img x 0 fits (encode-length (header h)) ∙ c .0;
+      least = c .1;
+      most = c .2;
+      some-room = k .1;
+      limit = k .2;
+      seen = fresh-view (view (madeImage img n)) b n (k .1) (k .2) eq;
+    })
