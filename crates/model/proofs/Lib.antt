@@ -3,6 +3,7 @@ pub mod Traps
 pub mod Cuts
 pub mod Bytes
 pub mod Ranged
+pub mod Line
 pub mod Views
 pub mod Lists
 pub mod Splits

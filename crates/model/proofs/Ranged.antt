@@ -360,7 +360,7 @@ module _ (s : Store) (ranged : Ranged s) where
       (λ h. rw h (record { ranged = record { tuples = ranged .tuples; next = ranged .next; capacity = ranged .capacity }; capacity = refl; apt = (tt, tt) }))
       (λ h. rw h (record { ranged = record { tuples = ranged .tuples; next = ranged .next; capacity = ranged .capacity }; capacity = refl; apt = (refl, tt) }))
 
-  kept-at : (c : Checkpoint) → Kept s (stepAt c s)
+  pub kept-at : (c : Checkpoint) → Kept s (stepAt c s)
   unfolding stepAt
   kept-at idle = same-store s ranged _
   kept-at (running n es ds) = kept-of (first isFrozen (s .pages)) refl n es ds
@@ -386,6 +386,14 @@ kept-run : (limit len : ℕ) (s : Store) → Ranged s → Kept s (runCall limit 
 unfolding runCall
 kept-run limit len s r =
     kept-unless s r _ _ (λ p. let k = kept-turn (min limit (left s)) s r in record { ranged = k .ranged; capacity = k .capacity; apt = k .apt })
+
+fit-all : (ts : List Tuple) → AllOf Fits ts → AllFit ts
+fit-all [] a = tt
+fit-all (x ∷ ts) a = (a .0, fit-all ts (a .1))
+
+-- what can be stored of the pages is in range
+pub shown-fit : (s : Store) → Ranged s → AllOf (λ p. AllFit (shown (p .tuples))) (s .pages)
+shown-fit s r = all-map _ _ (λ p a. fit-all (shown (p .tuples)) (shows Fits commit-fits (p .tuples) a)) (s .pages) (r .tuples)
 
 -- every call keeps the ranges, and writes tuples in range
 pub keeps : (c : Call) → Typed c → (s : Store) → Ranged s → Kept s (call c s)
