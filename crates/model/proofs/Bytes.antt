@@ -243,3 +243,12 @@ made-accepted img m n s e =
       limit = k .2;
       seen = fresh-view (view (madeImage img n)) b n (k .1) (k .2) eq;
     })
+
+-- whatever the image held before, and with any memory that suffices
+pub made-recovers : (img : List ℕ) (m n : ℕ) (s : Store) → make (length img) m n ≡ holds s
+    → (m′ : ℕ) → memoryFor n ≤ m′ → recover m′ (madeImage img n) ≡ holds (freshStore (length img / 512) n)
+unfolding freshStore
+made-recovers img m n s e m′ h =
+    let k = make-accepted (length img) m n s e in
+    let a = subst (Accepted (madeImage img n)) (k .4) (made-accepted img m n s e) in
+    recover-view m′ (madeImage img n) (freshStore (length img / 512) n) (length img / 512) (a .long) (a .least) (a .most) (a .seen) h

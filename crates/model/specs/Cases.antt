@@ -146,10 +146,11 @@ commitMeanwhile = opens 5 ∷ inserts 5 0 7 (0x41 ∷ []) ∷ begins ∷ commits
 unfoldable pub committedLate : Owner → Tuple
 committedLate o = record { key = 7; number = 0; owner = o; mark = false; payload = 0x41 ∷ [] }
 
--- three checkpoints of one page that changes before each
+-- three checkpoints of two pages: of both, of the second, of the first, whose block is the next that the search meets
 unfoldable pub threeTimes : ℕ → List Call
 threeTimes len =
-    opens 5 ∷ inserts 5 0 7 [] ∷ begins ∷ runs 9 len ∷ inserts 5 0 8 [] ∷ begins ∷ runs 9 len ∷ inserts 5 0 9 [] ∷ begins ∷ runs 9 len ∷ []
+    opens 5 ∷ inserts 5 0 7 [] ∷ inserts 5 1 7 [] ∷ begins ∷ runs 9 len ∷ inserts 5 1 8 [] ∷ begins ∷ runs 9 len
+    ∷ inserts 5 0 8 [] ∷ begins ∷ runs 9 len ∷ []
 
 -- two frozen pages of five committed tuples of 49 bytes; four of the first and one of the second are deleted
 unfoldable pub bothFrozen : List Call
@@ -165,9 +166,9 @@ pub record Traps : Type 0 where
   pub written-tentative : writes commitMeanwhile (freshStore 16 64) ≡ record { at = 1; what = page 0 1 (committedLate (tentative 5 0) ∷ []) } ∷ []
   pub thawed-committed : held (afterCalls commitMeanwhile (freshStore 16 64) .pages) ≡ (0, committedLate committed) ∷ []
   -- a replaced page's block is free only when the header has landed
-  pub not-reused : places (threeTimes 3072) 6 ≡ 1 ∷ 2 ∷ 0 ∷ 3 ∷ 4 ∷ 0 ∷ 5 ∷ 1 ∷ 0 ∷ []
-  pub no-room : answers (threeTimes 2048) (freshStore 4 64) ≡
-      done ∷ done ∷ count 3 ∷ count 3 ∷ done ∷ refused 20 ∷ refused 18 ∷ done ∷ refused 20 ∷ refused 18 ∷ []
+  pub not-reused : places (threeTimes 3072) 6 ≡ 1 ∷ 2 ∷ 3 ∷ 0 ∷ 4 ∷ 5 ∷ 0 ∷ 2 ∷ 3 ∷ 0 ∷ []
+  pub no-room : answers (threeTimes 2560) (freshStore 5 64)
+      ≡ done ∷ done ∷ done ∷ count 4 ∷ count 4 ∷ done ∷ refused 20 ∷ refused 18 ∷ done ∷ refused 20 ∷ refused 18 ∷ []
   -- a thawed page of 49 bytes is not joined with its frozen neighbour of 245; when that is thawed too, they are joined
   pub frozen-both : after5 bothFrozen ≡ (5, 245) ∷ (5, 245) ∷ []
   pub not-joined : after5 (bothFrozen ++ (steps 8192 ∷ [])) ≡ (1, 49) ∷ (5, 245) ∷ []
