@@ -6,6 +6,7 @@ pub mod Ranged
 pub mod Line
 pub mod Views
 pub mod Lists
+pub mod Owners
 pub mod Splits
 pub mod Frozen
 pub mod Pages
@@ -13,3 +14,14 @@ pub mod Recovery
 pub mod Stored
 pub mod Alloc
 pub mod Inv
+pub mod Steps
+pub mod Begin
+pub mod Crash
+pub mod Start
+pub mod Sound
+pub mod Rows
+pub mod Placing
+pub mod Fate
+pub mod Valid
+pub mod Closing
+pub mod Keeps

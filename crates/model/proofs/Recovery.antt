@@ -65,7 +65,7 @@ recovers n v s f = rw (f .top, f .head-ok, f .listed, f .entries-ok, f .read, f 
 
 -- ---- the blocks named
 
-read-blocks : (v : View) (l : ℕ) (es : List ℕ) (ps : List StoredPage) → readPages v l es ≡ some ps → map (λ p. p .block) ps ≡ es
+pub read-blocks : (v : View) (l : ℕ) (es : List ℕ) (ps : List StoredPage) → readPages v l es ≡ some ps → map (λ p. p .block) ps ≡ es
 unfolding readPages addPage if_then_else_
 read-blocks v l [] ps e = ap (map (λ p. p .block)) (sym (some-eq e))
 read-blocks v l (e ∷ es) ps h = go (v e) h (read-blocks v l es)

@@ -1,0 +1,128 @@
+-- A store just recovered.
+use mathlib.Core.Path.{_≡_, subst, refl, ap, sym, _∙_}
+use Prim.Native.Nat.{ℕ, _<_, _≤_, suc}
+use native.Mathlib.Omega.{arith}
+use mathlib.Core.Bool.{true, false, not, _&&_}
+use mathlib.Core.List.{List, [], _∷_, map, _++_}
+use mathlib.Core.Option.{some}
+use lib.Dec.{leb, ltb}
+use Rattle.basics.specs.Basics.{isIn, isEmpty, if_then_else_, all, any}
+use Rattle.basics.proofs.Facts.{AllOf, never, by, by-option, and-true}
+use Rattle.blocks.specs.Block.{page, Block, malformed, header, directory, InRange}
+use Rattle.blocks.specs.Decode.{taken}
+use Rattle.blocks.specs.Limits.{mostNumber}
+use Rattle.blocks.specs.declared.Header.{Header}
+use Rattle.rows.specs.Rows.{isOwn}
+use Rattle.image.specs.Stages.{StoredPage, readPages, addPage, pageOk, blockOk, capacityLimit, directoryBlocks, headerOk, entriesOk, rowsOfPages}
+use Rattle.image.specs.View.{View}
+use Rattle.model.specs.State.{Store}
+use Rattle.model.specs.Sight.{held}
+use Rattle.model.specs.Recover.{loaded, recoveredStore}
+use Rattle.model.proofs.Views.{AllSane, Sane}
+use Rattle.model.proofs.Lists.{some-eq, leb-true, in-head, not-true, all-map, in-weak, all-split, every-all, eqb-true, all-mapped, in-append, in-all, all-append}
+use Rattle.model.proofs.Owners.{in-transactions}
+use Rattle.model.proofs.Recovery.{Found, read-blocks, found}
+use Rattle.model.proofs.Inv.{listed, listed-held, listed-read, Tied, Ready, Inv}
+use Rattle.model.proofs.Steps.{loaded-content, bare-calm}
+
+-- a page that was read stands in its block
+abbrev pub Read : View → ℕ → List ℕ → StoredPage → Type 0
+Read v l es p =
+    (k : ℕ) × (v (p .block) ≡ page (p .table) k (p .tuples)) × (0 < k) × (k ≤ l) × (isIn (p .block) es ≡ true) × (isEmpty (p .tuples) ≡ false)
+
+pub pages-read : (v : View) (l : ℕ) (es : List ℕ) (ps : List StoredPage) → readPages v l es ≡ some ps → AllOf (Read v l es) ps
+unfolding readPages addPage if_then_else_ pageOk
+pages-read v l [] ps e = subst (AllOf (Read v l [])) (some-eq e) tt
+pages-read v l (e ∷ es) ps h = go (v e) refl h (pages-read v l es)
+  where
+    go : (x : Block) → v e ≡ x → addPage l e x (readPages v l es) ≡ some ps → ((qs : List StoredPage) → readPages v l es ≡ some qs → AllOf (Read v l es) qs)
+        → AllOf (Read v l (e ∷ es)) ps
+    go malformed q h r = never h
+    go (header a) q h r = never h
+    go (directory k ds) q h r = never h
+    go (page t k ts) q h r =
+        by (pageOk l k ts)
+        (λ y. by-option (readPages v l es)
+        (λ z. never (rw (y, z) at h))
+        (λ qs z.
+        let a = and-true (not (isEmpty ts)) (leb 1 k && leb k l) y in
+        let b = and-true (leb 1 k) (leb k l) (a .1) in
+        subst (AllOf (Read v l (e ∷ es))) (some-eq (rw (y, z) at h)) (
+          (k, q, leb-true 1 k (b .0), leb-true k l (b .1), in-head e es, not-true (isEmpty ts) (a .0)),
+          all-map (Read v l es) (Read v l (e ∷ es)) (λ p w. (w .0, w .1, w .2, w .3, in-weak (p .block) e es (w .4), w .5)) qs (r qs z),
+        )))
+        (λ y. never (rw y at h))
+
+blocks-in : (n : ℕ) (ds : List ℕ) → all (blockOk n) ds ≡ true → AllOf (λ d. (0 < d) × (d < n)) ds
+unfolding blockOk
+blocks-in n ds e =
+    all-map (λ d. blockOk n d ≡ true) (λ d. (0 < d) × (d < n)) (λ d u. let k = and-true (ltb 0 d) (ltb d n) u in (leb-true 1 d (k .0), leb-true (suc d) n (k .1))) ds
+    (all-split (blockOk n) ds e)
+
+-- what the header says
+pub record Headed (n : ℕ) (h : Header) : Type 0 where
+  pub blocks : h .blocks ≡ n
+  pub cap : (1 ≤ h .capacity) × (h .capacity ≤ capacityLimit)
+  pub dirs : AllOf (λ d. (0 < d) × (d < n)) (directoryBlocks h)
+
+pub headed : (n : ℕ) (h : Header) → headerOk n h ≡ true → Headed n h
+unfolding headerOk
+headed n h e =
+    let a = every-all _ e in
+    record {
+      blocks = eqb-true (h .blocks) n (a .0);
+      cap = (leb-true 1 (h .capacity) (a .1 .0), leb-true (h .capacity) capacityLimit (a .1 .1 .0));
+      dirs = blocks-in n (directoryBlocks h) (a .1 .1 .1 .1 .1 .0);
+    }
+
+entries-in : (n : ℕ) (ds es : List ℕ) → entriesOk n ds es ≡ true → AllOf (λ d. (0 < d) × (d < n)) es
+unfolding entriesOk
+entries-in n ds es e = blocks-in n es (every-all _ e .0)
+
+loaded-held : (ps : List StoredPage) → held (map loaded ps) ≡ rowsOfPages ps
+loaded-held ps = sym (listed-held (map loaded ps)) ∙ ap listed (loaded-content ps) ∙ listed-read ps
+
+-- the fields of the header are in range
+pub head-range : (v : View) (h : Header) → AllSane v → v 0 ≡ header h → (h .level ≤ mostNumber) × (h .next ≤ mostNumber)
+head-range v h a e = let f : InRange (header h) = subst Sane e (a 0) in (omega (arith, f .1 .1 .1 .0), omega (arith, f .1 .1 .1 .1 .0))
+
+start-tied : (v : View) (l : ℕ) (es ds : List ℕ) (ps : List StoredPage) → AllOf (Read v l es) ps → map (λ p. p .block) ps ≡ es
+    → AllOf (Tied v l (λ b. isIn b (map (λ p. p .block) ps ++ ds))) (map loaded ps)
+start-tied v l es ds ps r e =
+    all-mapped (Tied v l (λ b. isIn b (map (λ p. p .block) ps ++ ds))) loaded ps
+    (all-map (Read v l es) _ (λ p w. tie p w) ps r)
+  where
+    tie : (p : StoredPage) → Read v l es p → Tied v l (λ b. isIn b (map (λ p. p .block) ps ++ ds)) (loaded p)
+    tie p w = unfold loaded in λ c. (w .0, w .1 ∙ ap (page (p .table) (w .0)) (sym (bare-calm (p .tuples))), w .2, w .3, rw (in-append (p .block) (map (λ p. p .block) ps), e, w .4))
+
+start-store : (n : ℕ) (v : View) (s : Store) → 2 ≤ n → AllSane v → (f : Found n v s) → Ready (recoveredStore (f .head) (f .pages))
+    → Inv n v (recoveredStore (f .head) (f .pages)) (recoveredStore (f .head) (f .pages)) (recoveredStore (f .head) (f .pages))
+unfolding recoveredStore
+start-store n v s two sane f rd =
+    let h = f .head in
+    let ps = f .pages in
+    let g = headed n h (f .head-ok) in
+    let bs = read-blocks v (h .level) (f .entries) ps (f .read) in
+    record {
+      blocks = g .blocks;
+      cap = g .cap;
+      taken = omega (arith, g .blocks);
+      good = record {
+        back = recoveredStore h ps;
+        found = subst (Found n v) (sym (f .store)) f;
+        like = record {
+          pages = refl;
+          next = refl;
+          active = λ tx. in-transactions tx (rowsOfPages ps) ∙ ap (any (isOwn tx)) (sym (rd .same ∙ loaded-held ps));
+        };
+        names = λ c u. u;
+      };
+      within = λ c u. in-all (λ d. (0 < d) × (d < h .blocks)) c (map (λ p. p .block) ps ++ directoryBlocks h) u
+          (all-append _ (map (λ p. p .block) ps) (directoryBlocks h) (subst (AllOf (λ d. (0 < d) × (d < h .blocks))) (sym bs) (entries-in (h .blocks) (directoryBlocks h) (f .entries) (f .entries-ok)))
+          (subst (λ m. AllOf (λ d. (0 < d) × (d < m)) (directoryBlocks h)) (sym (g .blocks)) (g .dirs)));
+      phase = record { lvl = head-range v h sane (f .top) .0; tied = start-tied v (h .level) (f .entries) (directoryBlocks h) ps (pages-read v (h .level) (f .entries) ps (f .read)) bs };
+    }
+
+pub start-inv : (n : ℕ) (v : View) (s : Store) → 2 ≤ n → AllSane v → Found n v s → Ready s → Inv n v s s s
+start-inv n v s two sane f rd = subst (λ z. Inv n v z z z) (f .store) (start-store n v s two sane f (subst Ready (sym (f .store)) rd))
+

@@ -1,0 +1,344 @@
+-- One step of a running checkpoint keeps what holds, and writes a block whose fields are in range.
+use mathlib.Core.Path.{_≡_, refl, _∙_, sym, subst, ap, ap₂}
+use Prim.Native.Nat.{_<_, _≤_, ℕ, _-_, suc, zero, _+_, _*_, min}
+use native.Mathlib.Omega.{arith}
+use mathlib.Core.Bool.{true, false, Bool, not}
+use mathlib.Core.List.{[], _∷_, List, tail, map, _++_}
+use mathlib.Core.Option.{none, some}
+use lib.Dec.{eqb, ltb}
+use lib.ListN.{length, take, drop, length-append, length-take, length-map, getD}
+use lib.Pow.{low}
+use Rattle.basics.specs.Basics.{if_then_else_, isIn, any, first, all, distinct, every}
+use Rattle.basics.proofs.Facts.{AllOf, by, lie}
+use Rattle.blocks.specs.Block.{page, InRange, Block, EntriesFit, directory, header}
+use Rattle.blocks.specs.Decode.{taken}
+use Rattle.blocks.specs.Limits.{recordSpace}
+use Rattle.blocks.specs.Tuple.{AllFit, sizes, Tuple}
+use Rattle.blocks.specs.declared.Header.{Header}
+use Rattle.rows.specs.Rows.{rowsOk, transactions, isOwn}
+use Rattle.image.specs.Stages.{directoriesFor, blockOk, directoryBlocks, isZero, unusedNumbers, StoredPage, capacityLimit, headerOk, entriesOk, readDirectories, rowsOfPages, readPages}
+use Rattle.image.specs.View.{View}
+use Rattle.model.specs.State.{Store, Outcome, Write, Page}
+use Rattle.model.specs.Rules.{shown, isFrozen, calm}
+use Rattle.model.specs.Sight.{held}
+use Rattle.model.specs.Transactions.{full}
+use Rattle.model.specs.Checkpoint.{fill, usedToo, storePage, made, stored, freeCount, isFree, allocate, storeDirectory, headerFor, storeHeader}
+use Rattle.model.specs.Recover.{loaded, recoveredStore}
+use Rattle.model.specs.QuotedLine.{content}
+use Rattle.model.proofs.Views.{put}
+use Rattle.model.proofs.Lists.{eqb-self, eqb-true, eqb-sym, all-map, first-all, first-passes, pos-not-zero, not-zero, not-in, in-append, leb-true, all-take, all-drop, all-append, all-true, le-true, leb-false, all-two, in-all}
+use Rattle.model.proofs.Owners.{in-transactions}
+use Rattle.model.proofs.Frozen.{Content, images, images-first, images-thaw, shown-calm, images-none, bare}
+use Rattle.model.proofs.Pages.{all-thaw}
+use Rattle.model.proofs.Recovery.{Found, found, read-blocks}
+use Rattle.model.proofs.Stored.{Stored, end, todo, stands, Dirs, put-other, stored-fill, put-same, stored-put, dirs-snoc, dirs-put, contentOf, stored-read, dirs-read, stored-written}
+use Rattle.model.proofs.Alloc.{Fresh, allocate-fresh, count-one, used-old, used-new}
+use Rattle.model.proofs.Inv.{Inv, Good, Tied, test-other, in-fill, clean-pos, Run, off-used, good-put, good-more, length-fill, apart-fill, all-fill, tied-fresh, tied-frozen, in-one, apart-snoc, Apart, listed-read, listed, listed-held}
+
+-- what the frozen pages show can be written
+abbrev pub FrozenFit : Store → Type 0
+FrozenFit s = AllOf (λ p. p .frozen ≡ true → (p .table < 8) × AllFit (shown (p .tuples)) × (sizes (shown (p .tuples)) ≤ recordSpace)) (s .pages)
+
+pub data Stepped (n : ℕ) (img : View) (s b b₀ : Store) (o : Outcome) : Type 0 where
+  still : o .writes ≡ [] → Inv n img (o .store) b b₀ → Stepped n img s b b₀ o
+  wrote : (w : Write) → o .writes ≡ w ∷ [] → w .at < n → (n ≤ 4096 → FrozenFit s → InRange (w .what))
+      → (eqb (w .at) 0 ≡ false → (x : Block) → Good n (put img (w .at) x) (s .used) b₀)
+      → Inv n (put img (w .at) (w .what)) (o .store) b (if eqb (w .at) 0 then b else b₀) → Stepped n img s b b₀ o
+
+filled-in : {img : View} {l : ℕ} {es : List ℕ} {cs : List Content} (b : ℕ) (c : Content) (js is : List Content) → js ≡ c ∷ is → Stored img l es cs js → isIn b (fill b es) ≡ true
+unfolding fill if_then_else_ isIn any
+filled-in b c js is e end = let z : _≡_ {A = ℕ} 0 1 = cc in absurd (omega arith)
+filled-in b c js is e (todo r) = rw (eqb-self b, any)
+filled-in b c js is e (stands {es = es} {e = d} k v w x y r) =
+    by (eqb d 0) (λ h. let z = eqb-true d 0 h in absurd (omega arith))
+    (λ h. by (eqb b d) (λ i. rw (h, i, any)) (λ i. rw (h, i, any) (filled-in b c js is e r)))
+
+no-dirs : (img : View) (l : ℕ) (es ds : List ℕ) → length ds ≡ 0 → Dirs img l es ds
+no-dirs img l es [] h = tt
+no-dirs img l es (d ∷ ds) h = absurd (omega arith)
+
+none-yet′ : {c : Content} (js is : List Content) (ds : List ℕ) → (0 < length ds → js ≡ []) → js ≡ c ∷ is → length ds ≡ 0
+none-yet′ js is [] f e = refl
+none-yet′ js is (d ∷ ds) f e = let k = f (omega arith) in let z : _≡_ {A = ℕ} 0 1 = cc in absurd (omega arith)
+
+-- the tie of a page to its block survives a store to a block that is not in the pool
+tied-put : (img : View) (l : ℕ) (pool : ℕ → Bool) (b : ℕ) (x : Block) (p : Page) → pool b ≡ false → Tied img l pool p → Tied (put img b x) l pool p
+tied-put img l pool b x p h t c = let u = t c in (u .0, put-other img b x (p .block) (test-other pool (p .block) b (u .4) h) ∙ u .1, u .2, u .3, u .4)
+
+tied-fill : (img : View) (l b : ℕ) (es : List ℕ) (p : Page) → isIn b es ≡ false → Tied img l (λ c. isIn c es) p → Tied img l (λ c. isIn c (fill b es)) p
+tied-fill img l b es p h t c =
+    let u = t c in
+    (u .0, u .1, u .2, u .3, in-fill b (p .block) es (clean-pos p c) (eqb-sym b (p .block) (test-other (λ c. isIn c es) (p .block) b (u .4) h)) ∙ u .4)
+
+-- the block taken is in use, and those before it still
+within-more : (s : Store) (i : ℕ) → (0 < i) × (i < s .blocks) → ((c : ℕ) → s .used c ≡ true → (0 < c) × (c < s .blocks)) → (c : ℕ) → usedToo s i c ≡ true
+    → (0 < c) × (c < s .blocks)
+unfolding usedToo
+within-more s i a f c h = by (eqb i c) (λ k. subst (λ z. (0 < z) × (z < s .blocks)) (eqb-true i c k) a) (λ k. f c (rw k at h))
+
+pub page-step : (n : ℕ) (img : View) (s b b₀ : Store) (n₀ : ℕ) (es ds : List ℕ) (p : Page) → Inv n img s b b₀ → Run img s b n₀ es ds
+    → first isFrozen (s .pages) ≡ some p → Stepped n img s b b₀ (storePage n₀ es ds p s)
+unfolding storePage made stored if_then_else_ freeCount isFree isFrozen
+page-step n img s b b₀ n₀ es ds p inv run e =
+    let ims = images-first (s .pages) p e in
+    let is = tail (images (s .pages)) in
+    let one : length (images (s .pages)) ≡ suc (length is) = ap length ims in
+    let none-yet : length ds ≡ 0 = none-yet′ (images (s .pages)) is ds (run .late) ims in
+    let i = allocate s in
+    let fr : Fresh (s .blocks) (s .used) i = allocate-fresh s (inv .taken) (omega (arith, run .room)) in
+    let off = off-used (s .used) i es (fr .pos) (fr .free) (run .es-used) in
+    let off′ = off-used (s .used) i ds (fr .pos) (fr .free) (all-map _ _ (λ d h q. h) ds (run .ds-used)) in
+    let L = suc (s .level) in
+    let x : Block = page (p .table) L (shown (p .tuples)) in
+    let img′ : View = put img i x in
+    let g : (y : Block) → Good n (put img i y) (s .used) b₀ = λ y. good-put n img (s .used) b₀ i y (fr .pos) (fr .free) (inv .good) in
+    let st : Stored img′ L (fill i es) (map content (b .pages)) is
+    = stored-fill i (p .table, shown (p .tuples)) (images (s .pages)) is ims (fr .pos) (omega arith) (put-same img i x) (stored-put i x off (run .stored)) in
+    let cnt = count-one s i 1 (s .blocks - 1) in
+    let pool : ℕ → Bool = λ c. isIn c (fill i es) in
+    let ti : AllOf (Tied img′ L pool) (s .pages)
+    = all-map _ _ (λ q t. tied-fill img′ L i es q off (tied-put img L (λ c. isIn c es) i x q off t)) (s .pages) (run .tied) in
+    wrote (record { at = i; what = x }) refl (omega (arith, fr .low, inv .blocks))
+    (λ small fit. let f = first-all isFrozen (λ p. p .frozen ≡ true → (p .table < 8) × AllFit (shown (p .tuples)) × (sizes (shown (p .tuples)) ≤ recordSpace)) (s .pages) p e fit
+    (first-passes isFrozen (s .pages) p e) in
+    record { table = f .0; level = omega (arith, run .lvl); tuples = f .1; room = f .2 })
+    (λ h. g)
+    (rw (pos-not-zero i (fr .pos)) (record {
+      blocks = inv .blocks;
+      cap = inv .cap;
+      taken = fr .low;
+      good = good-more n img′ (s .used) (usedToo s i) b₀ (used-old s i) (g x);
+      within = within-more s i (fr .pos, fr .low) (inv .within);
+      phase = record {
+        nxt = run .nxt;
+        stored = rw images-thaw st;
+        dirs = no-dirs img′ L (fill i es) ds none-yet;
+        late = λ h. absurd (omega arith);
+        dcount = rw length-fill (run .dcount);
+        base = run .base;
+        bcap = run .bcap;
+        es-apart = apart-fill i es off (run .es-apart);
+        es-used = all-fill _ i es (λ q. used-new s i) (all-map _ _ (λ e h q. used-old s i e (h q)) es (run .es-used));
+        es-off = all-fill _ i es off′ (run .es-off);
+        ds-used = all-map _ _ (λ d h. used-old s i d h) ds (run .ds-used);
+        ds-apart = run .ds-apart;
+        room = rw (images-thaw, length-fill) (omega (arith, run .room));
+        lvl = run .lvl;
+        tied = all-thaw (Tied img′ L pool) (tied-fresh img′ L pool) (tied-frozen img′ L pool) i p (s .pages) e
+            (λ h c. (L, put-same img i x ∙ ap (page (p .table) L) (shown-calm (p .tuples) h), omega arith, omega arith, filled-in i (p .table, shown (p .tuples)) (images (s .pages)) is ims (run .stored))) ti;
+      };
+    }))
+
+off-snoc : (b : ℕ) (es ds : List ℕ) → isIn b es ≡ false → AllOf (λ e. isIn e ds ≡ false) es → AllOf (λ e. isIn e (ds ++ b ∷ []) ≡ false) es
+off-snoc b [] ds h a = tt
+off-snoc b (e ∷ es) ds h a =
+    let n = not-in b e es h in
+    (rw (in-append e ds, a .0, in-one e b (eqb-sym b e (n .0))), off-snoc b es ds (n .1) (a .1))
+
+entries-fit : (es : List ℕ) → AllOf (λ e. e < 4096) es → EntriesFit es
+entries-fit [] a = tt
+entries-fit (e ∷ es) a = (a .0, entries-fit es (a .1))
+
+-- the entries of a running checkpoint are blocks of the view
+entries-low : (s : Store) (es : List ℕ) → 0 < s .blocks → ((c : ℕ) → s .used c ≡ true → (0 < c) × (c < s .blocks)) → AllOf (λ e. 0 < e → s .used e ≡ true) es
+    → AllOf (λ e. e < s .blocks) es
+entries-low s es z f a = all-map _ _ (λ e h. by (eqb e 0) (λ k. let q = eqb-true e 0 k in omega arith) (λ k. f e (h (not-zero e k)) .1)) es a
+
+pub directory-step : (n : ℕ) (img : View) (s b b₀ : Store) (n₀ : ℕ) (es ds : List ℕ) → Inv n img s b b₀ → Run img s b n₀ es ds
+    → first isFrozen (s .pages) ≡ none → ltb (length ds) (directoriesFor (length es)) ≡ true → Stepped n img s b b₀ (storeDirectory n₀ es ds s)
+unfolding storeDirectory made stored if_then_else_ freeCount isFree
+directory-step n img s b b₀ n₀ es ds inv run e lt =
+    let ims = images-none (s .pages) e in
+    let few : length ds < directoriesFor (length es) = leb-true (suc (length ds)) (directoriesFor (length es)) lt in
+    let i = allocate s in
+    let fr : Fresh (s .blocks) (s .used) i = allocate-fresh s (inv .taken) (omega (arith, run .room)) in
+    let off = off-used (s .used) i es (fr .pos) (fr .free) (run .es-used) in
+    let off′ = off-used (s .used) i ds (fr .pos) (fr .free) (all-map _ _ (λ d h q. h) ds (run .ds-used)) in
+    let L = suc (s .level) in
+    let part = take 336 (drop (336 * length ds) es) in
+    let x : Block = directory L part in
+    let img′ : View = put img i x in
+    let g : (y : Block) → Good n (put img i y) (s .used) b₀ = λ y. good-put n img (s .used) b₀ i y (fr .pos) (fr .free) (inv .good) in
+    let len : length (ds ++ i ∷ []) ≡ length ds + 1 = length-append ds (i ∷ []) in
+    let cnt = count-one s i 1 (s .blocks - 1) in
+    let tl : length part ≡ min 336 (length (drop (336 * length ds) es)) = length-take 336 (drop (336 * length ds) es) in
+    wrote (record { at = i; what = x }) refl (omega (arith, fr .low, inv .blocks))
+    (λ small fit. record {
+      level = omega (arith, run .lvl);
+      count = omega arith;
+      entries = entries-fit part (all-take _ 336 (drop (336 * length ds) es) (all-drop _ (336 * length ds) es
+          (all-map _ _ (λ e h. omega (arith, inv .blocks)) es (entries-low s es (omega (arith, fr .low)) (inv .within) (run .es-used)))));
+    })
+    (λ h. g)
+    (rw (pos-not-zero i (fr .pos)) (record {
+      blocks = inv .blocks;
+      cap = inv .cap;
+      taken = fr .low;
+      good = good-more n img′ (s .used) (usedToo s i) b₀ (used-old s i) (g x);
+      within = within-more s i (fr .pos, fr .low) (inv .within);
+      phase = record {
+        nxt = run .nxt;
+        stored = stored-put i x off (run .stored);
+        dirs = dirs-snoc img′ L i es ds (put-same img i x) (dirs-put img L i x es ds off′ (run .dirs));
+        late = λ h. ims;
+        dcount = rw len (omega arith);
+        base = run .base;
+        bcap = run .bcap;
+        es-apart = run .es-apart;
+        es-used = all-map _ _ (λ e h q. used-old s i e (h q)) es (run .es-used);
+        es-off = off-snoc i es ds off (run .es-off);
+        ds-used = all-append _ ds (i ∷ []) (all-map _ _ (λ d h. used-old s i d h) ds (run .ds-used)) (used-new s i, tt);
+        ds-apart = apart-snoc i ds off′ (run .ds-apart);
+        room = rw len (omega (arith, run .room));
+        lvl = run .lvl;
+        tied = all-map _ _ (λ q t. tied-put img L (λ c. isIn c es) i x q off t) (s .pages) (run .tied);
+      };
+    }))
+
+-- ---- the header
+
+distinct-true : (ds : List ℕ) → AllOf (λ d. 0 < d) ds → Apart ds → distinct ds ≡ true
+unfolding distinct
+distinct-true [] p a = refl
+distinct-true (d ∷ ds) p a = rw (a .0 (p .0), distinct-true ds (p .1) (a .1))
+
+zero-not-in : (ds : List ℕ) → AllOf (λ d. 0 < d) ds → isIn 0 ds ≡ false
+unfolding isIn any
+zero-not-in [] p = refl
+zero-not-in (d ∷ ds) p = by (eqb 0 d) (λ h. let z = eqb-true 0 d h in let q = p .0 in absurd (omega arith)) (λ h. rw (h, any) (zero-not-in ds (p .1)))
+
+blocks-ok : (n : ℕ) (ds : List ℕ) → AllOf (λ d. (0 < d) × (d < n)) ds → all (blockOk n) ds ≡ true
+unfolding blockOk
+blocks-ok n ds a = all-true (blockOk n) ds (all-map (λ d. (0 < d) × (d < n)) (λ d. blockOk n d ≡ true) (λ d h. rw (le-true 1 d (h .0), le-true (suc d) n (h .1))) ds a)
+
+stored-length : {img : View} {l : ℕ} {es : List ℕ} {cs is : List Content} → Stored img l es cs is → length es ≡ length cs
+stored-length end = refl
+stored-length (todo r) = ap suc (stored-length r)
+stored-length (stands k p q u v r) = ap suc (stored-length r)
+
+-- what the header spells is what it was made for
+header-numbers : (s : Store) (l n p : ℕ) (ds : List ℕ) → length ds ≤ 4
+    → (directoryBlocks (headerFor s l n p ds) ≡ ds) × (all isZero (unusedNumbers (headerFor s l n p ds)) ≡ true)
+unfolding directoryBlocks unusedNumbers headerFor all isZero
+header-numbers s l n p [] h = (refl, refl)
+header-numbers s l n p (a ∷ []) h = (refl, refl)
+header-numbers s l n p (a ∷ b ∷ []) h = (refl, refl)
+header-numbers s l n p (a ∷ b ∷ c ∷ []) h = (refl, refl)
+header-numbers s l n p (a ∷ b ∷ c ∷ d ∷ []) h = (refl, refl)
+header-numbers s l n p (a ∷ b ∷ c ∷ d ∷ e ∷ ds) h = absurd (omega arith)
+
+pub bare-calm : (ts : List Tuple) → bare (map calm ts) ≡ ts
+unfolding calm
+bare-calm [] = refl
+bare-calm (x ∷ xs) = rw (bare-calm xs)
+
+pub loaded-content : (ps : List StoredPage) → map content (map loaded ps) ≡ map contentOf ps
+unfolding content loaded contentOf
+loaded-content [] = refl
+loaded-content (p ∷ ps) = rw (bare-calm (p .tuples), loaded-content ps)
+
+module _ (n : ℕ) (img : View) (s b : Store) (n₀ : ℕ) (es ds : List ℕ) (bl : s .blocks ≡ n) (lim : (1 ≤ s .capacity) × (s .capacity ≤ capacityLimit)) (run : Run img s b n₀ es ds)
+    (ims : images (s .pages) ≡ []) (full : directoriesFor (length es) ≤ length ds) (eok : AllOf (λ e. (0 < e) × (e < s .blocks)) es) (dok : AllOf (λ d. (0 < d) × (d < s .blocks)) ds) where
+  abbrev top : Header
+  top = headerFor s (suc (s .level)) n₀ (length es) ds
+
+  few-pages : length es ≤ s .capacity
+  few-pages = let len : length es ≡ length (b .pages) = stored-length (run .stored) ∙ length-map (b .pages) content in omega (arith, run .base .few, run .bcap)
+
+  all-dirs : length ds ≡ directoriesFor (length es)
+  all-dirs = omega (arith, run .dcount)
+
+  few-dirs : length ds ≤ 4
+  unfolding directoriesFor
+  few-dirs = let f = few-pages in let a = all-dirs in omega (arith, lim .1)
+
+  top-ok : headerOk n top ≡ true
+  unfolding headerOk every headerFor
+  top-ok =
+      let hn = header-numbers s (suc (s .level)) n₀ (length es) ds few-dirs in
+      let h1 : eqb (s .blocks) n ≡ true = rw bl (eqb-self n) in
+      let h5 : eqb (length ds) (directoriesFor (length es)) ≡ true = rw all-dirs (eqb-self (directoriesFor (length es))) in
+      let h6 : all (blockOk n) ds ≡ true = subst (λ m. all (blockOk m) ds ≡ true) bl (blocks-ok (s .blocks) ds dok) in
+      let h7 = distinct-true ds (all-map _ _ (λ d h. h .0) ds dok) (run .ds-apart) in
+      rw (h1, le-true 1 (s .capacity) (lim .0), le-true (s .capacity) capacityLimit (lim .1), le-true (length es) (s .capacity) few-pages, h5, hn .1, hn .0, h6, h7)
+
+  top-entries : entriesOk (s .blocks) ds es ≡ true
+  unfolding entriesOk every
+  top-entries =
+      rw (blocks-ok (s .blocks) es eok, all-true (λ e. not (isIn e ds)) es (all-map _ _ (λ d h. ap not h) es (run .es-off)),
+        distinct-true es (all-map _ _ (λ d h. h .0) es eok) (run .es-apart))
+
+  header-good : Good n (put img 0 (header top)) (λ c. isIn c (es ++ ds)) b
+  header-good =
+      let img′ : View = put img 0 (header top) in
+      let L = suc (s .level) in
+      let hn = header-numbers s L n₀ (length es) ds few-dirs in
+      let epos = all-map _ _ (λ d h. h .0) es eok in
+      let dpos = all-map _ _ (λ d h. h .0) ds dok in
+      let t = stored-read ims (run .base .some) (stored-put 0 (header top) (zero-not-in es epos) (run .stored)) in
+      let dr : readDirectories img′ L (length es) ds ≡ some es = dirs-read img′ L es ds (enough all-dirs) (dirs-put img L 0 (header top) es ds (zero-not-in ds dpos) (run .dirs)) in
+      let rs : rowsOfPages (t .0) ≡ held (b .pages) = sym (listed-read (t .0)) ∙ ap listed (t .2) ∙ listed-held (b .pages) in
+      let f : Found n img′ (recoveredStore top (t .0)) = made-found img′ (t .0) (put-same img 0 (header top)) (hn .0) dr (t .1) (ap (rowsOk (s .capacity) n₀) rs ∙ rw (run .nxt, ← run .bcap) (run .base .ok)) in
+      made-good img′ (t .0) f (hn .0) (t .2) rs (read-blocks img′ L es (t .0) (t .1))
+    where
+      enough : length ds ≡ directoriesFor (length es) → length es ≤ 336 * length ds
+      enough e = unfold directoriesFor in omega arith
+
+      made-found : (img′ : View) (ps : List StoredPage) → img′ 0 ≡ header top → directoryBlocks top ≡ ds → readDirectories img′ (suc (s .level)) (length es) ds ≡ some es
+          → readPages img′ (suc (s .level)) es ≡ some ps → rowsOk (s .capacity) n₀ (rowsOfPages ps) ≡ true → Found n img′ (recoveredStore top ps)
+      made-found img′ ps z q dr rp ok = unfold headerFor in record {
+        head = top; entries = es; pages = ps; top = z; head-ok = top-ok; listed = rw q dr; entries-ok = rw q top-entries; read = rp; rows-ok = ok; store = refl;
+      }
+
+      made-good : (img′ : View) (ps : List StoredPage) (f : Found n img′ (recoveredStore top ps)) → directoryBlocks top ≡ ds → map contentOf ps ≡ map content (b .pages)
+          → rowsOfPages ps ≡ held (b .pages) → map (λ p. p .block) ps ≡ es → Good n img′ (λ c. isIn c (es ++ ds)) b
+      made-good img′ ps f q c rs bs = unfold recoveredStore headerFor in record {
+        back = recoveredStore top ps;
+        found = f;
+        like = record {
+          pages = loaded-content ps ∙ c;
+          next = run .nxt;
+          active = λ tx. ap (λ z. isIn tx (transactions z)) rs ∙ in-transactions tx (held (b .pages)) ∙ ap (any (isOwn tx)) (sym (run .base .same));
+        };
+        names = λ c u. ap₂ (λ y z. isIn c (y ++ z)) (sym bs) (sym q) ∙ u;
+      }
+
+  header-fits : s .blocks ≤ 4096 → InRange (header top)
+  unfolding headerFor
+  header-fits m =
+      let f = few-pages in
+      let q = few-dirs in
+      let low : AllOf (λ d. d < 4096) ds = all-map _ _ (λ d h. omega (arith, h .1)) ds dok in
+      (omega arith, (omega arith, (omega (arith, lim .1), (omega (arith, run .lvl), (omega (arith, run .nxt, run .base .most), (omega (arith, lim .1), (omega arith,
+        (low-at 0 ds low, (low-at 1 ds low, (low-at 2 ds low, (low-at 3 ds low, tt)))))))))))
+    where
+      low-at : (i : ℕ) (ds : List ℕ) → AllOf (λ d. d < 4096) ds → getD ds i 0 < 4096
+      low-at i [] a = omega arith
+      low-at zero (d ∷ ds) a = a .0
+      low-at (suc i) (d ∷ ds) a = low-at i ds (a .1)
+
+pub header-step : (n : ℕ) (img : View) (s b b₀ : Store) (n₀ : ℕ) (es ds : List ℕ) → Inv n img s b b₀ → Run img s b n₀ es ds
+    → first isFrozen (s .pages) ≡ none → ltb (length ds) (directoriesFor (length es)) ≡ false → Stepped n img s b b₀ (storeHeader n₀ es ds s)
+unfolding storeHeader made stored if_then_else_
+header-step n img s b b₀ n₀ es ds inv run e lt =
+    let ims = images-none (s .pages) e in
+    let L = suc (s .level) in
+    let full : directoriesFor (length es) ≤ length ds = omega (arith, leb-false (suc (length ds)) (directoriesFor (length es)) lt) in
+    let epos = stored-written ims (run .stored) in
+    let eok : AllOf (λ e. (0 < e) × (e < s .blocks)) es = all-two (λ e. 0 < e) (λ e. 0 < e → s .used e ≡ true) _ (λ e p u. inv .within e (u p)) es epos (run .es-used) in
+    let dok : AllOf (λ d. (0 < d) × (d < s .blocks)) ds = all-map _ _ (λ d u. inv .within d u) ds (run .ds-used) in
+    let x = header (headerFor s L n₀ (length es) ds) in
+    wrote (record { at = 0; what = x }) refl (omega (arith, inv .taken, inv .blocks))
+    (λ small fit. header-fits n img s b n₀ es ds (inv .blocks) (inv .cap) run ims full eok dok (omega (arith, inv .blocks)))
+    (λ h. lie (sym h))
+    (record {
+      blocks = inv .blocks;
+      cap = inv .cap;
+      taken = inv .taken;
+      good = header-good n img s b n₀ es ds (inv .blocks) (inv .cap) run ims full eok dok;
+      within = λ c h. in-all (λ d. (0 < d) × (d < s .blocks)) c (es ++ ds) h (all-append _ es ds eok dok);
+      phase = record {
+        lvl = run .lvl;
+        tied = all-map _ _ (λ q t c. let u = tied-put img L (λ c. isIn c es) 0 x q (zero-not-in es epos) t c in (u .0, u .1, u .2, u .3, rw (in-append (q .block) es, u .4))) (s .pages) (run .tied);
+      };
+    })
