@@ -2,14 +2,13 @@
 use mathlib.Core.Path.{_≡_, refl, sym, ap, _∙_, subst, fun-ext}
 use Prim.Native.Nat.{ℕ, zero, suc, _+_, _-_, _*_, _/_, _%_, _≤_, _<_}
 use native.Mathlib.Omega.{arith}
-use mathlib.Core.Bool.{Bool, true, false, not, _&&_, _||_}
-use mathlib.Core.List.{List, [], _∷_, _++_, map}
+use mathlib.Core.Bool.{true, false, not, _||_}
+use mathlib.Core.List.{List, [], _++_}
 use lib.ListN.{length, take, drop, length-append, length-take, length-drop, take-append-drop}
 use lib.Seq.{take-at, drop-at, drop-append-le, take-append-le, drop-append-add, drop-drop}
 use lib.Dec.{eqb, leb, ltb}
 use Rattle.basics.specs.Basics.{if_then_else_, basics}
 use Rattle.basics.proofs.Facts.{by, lie, and-true}
-use Rattle.blocks.specs.Limits.{entriesPerBlock}
 use Rattle.blocks.specs.Tuple.{AllBytes}
 use Rattle.blocks.specs.Block.{Block, malformed, header, page, directory, encodeBlock}
 use Rattle.blocks.specs.Decode.{decodeBlock}

@@ -1,24 +1,23 @@
 -- The quoted line: a cut of an image's bytes is a cut of its view, and recovery of the one is recovery of the other.
-use mathlib.Core.Path.{_≡_, refl, sym, ap, _∙_, subst}
+use mathlib.Core.Path.{_≡_, sym, ap, _∙_, subst}
 use Prim.Native.Nat.{ℕ, _+_, _*_, _≤_, _<_}
 use native.Mathlib.Omega.{arith}
-use mathlib.Core.Bool.{Bool, true, false, _&&_}
+use mathlib.Core.Bool.{_&&_}
 use mathlib.Core.List.{List, [], _∷_, _++_, map}
 use lib.ListN.{length}
 use lib.Dec.{eqb}
 use Rattle.basics.specs.Basics.{if_then_else_}
 use Rattle.basics.proofs.Facts.{AllOf, by}
-use Rattle.blocks.specs.Tuple.{AllBytes}
-use Rattle.blocks.specs.Block.{Block, header, encodeBlock}
+use Rattle.blocks.specs.Block.{header, encodeBlock}
 use Rattle.blocks.specs.Decode.{decodeBlock}
 use Rattle.blocks.proofs.Laws.{encode-length, decode-encode}
 use Rattle.image.specs.View.{View, view}
 use Rattle.image.specs.Stages.{holds}
-use Rattle.model.specs.State.{Store, Outcome}
+use Rattle.model.specs.State.{Store}
 use Rattle.model.specs.Calls.{Call, call, AllTyped, isBegin, accepted}
-use Rattle.model.specs.Recover.{memoryFor, putBlock, make, madeImage, recoveredStore, recover}
-use Rattle.model.specs.QuotedLine.{Start, fresh, recovered, Logged, tag, log, isHeader, landed, stored, Cut, stop, torn, whole, Same, QuotedLine}
-use Rattle.model.proofs.Views.{put, recoverView, CutV, Sane, AllSane, WriteOk, CrashViews, WritesOk}
+use Rattle.model.specs.Recover.{memoryFor, recoveredStore}
+use Rattle.model.specs.QuotedLine.{Start, fresh, recovered, Logged, tag, log, isHeader, landed, stored, Cut, stop, torn, whole, QuotedLine}
+use Rattle.model.proofs.Views.{put, recoverView, CutV, WriteOk, CrashViews, WritesOk}
 use Rattle.model.proofs.Lists.{all-append, all-mapped}
 use Rattle.model.proofs.Recovery.{found}
 use Rattle.model.proofs.Bytes.{length-put, view-put, view-sane, recover-view, Accepted, accepted-recovery, made-accepted}

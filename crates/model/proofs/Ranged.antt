@@ -1,7 +1,7 @@
 -- The rules only move, drop or commit the tuples that are held, or add one: a property of tuples that committing keeps is kept.
 -- So every tuple's fields stay in their ranges.
 use mathlib.Core.Path.{_≡_, refl, sym, ap, _∙_, subst}
-use Prim.Native.Nat.{ℕ, zero, suc, _+_, _≤_, _<_, min}
+use Prim.Native.Nat.{ℕ, zero, suc, _≤_, _<_, min}
 use native.Mathlib.Omega.{arith}
 use mathlib.Core.Bool.{Bool, true, false}
 use mathlib.Core.Option.{Option, none, some}
@@ -11,16 +11,16 @@ use lib.Dec.{eqb, leb, ltb}
 use Rattle.basics.specs.Basics.{if_then_else_, any, first, howMany, isEmpty}
 use Rattle.basics.proofs.Facts.{AllOf, by, by-option, never, lie}
 use Rattle.blocks.specs.Limits.{payloadLimit, mostNumber}
-use Rattle.blocks.specs.Tuple.{Owner, Tuple, AllBytes, Fits, AllFit}
+use Rattle.blocks.specs.Tuple.{Tuple, AllBytes, Fits, AllFit}
 use Rattle.blocks.specs.Block.{Block, malformed, header, page, directory}
 use Rattle.rows.specs.Rows.{Row, rowsOf, isOwn}
 use Rattle.image.specs.View.{View}
 use Rattle.image.specs.Stages.{holds, capacityLimit, directoriesFor, StoredPage, pageOk, addPage, readPages}
-use Rattle.model.specs.State.{Held, Page, Checkpoint, idle, running, Store, Write, Answer, refused, Outcome}
+use Rattle.model.specs.State.{Held, Page, Checkpoint, idle, running, Store, Answer, refused, Outcome}
 use Rattle.model.specs.Rules.{fresh, withTuples, fits, half, splitOnce, splitDeep, splitAll, after, grown, entering, calm, placeAfter, placeFront, place, joins, joined, listOf, settleNext, settleFull, settle, around, isAdding, isRemoving, isCommitting, isPending, withPending, asCommitted, isNumber, hasNumber, edit, gone, goneLater, kept, keptLater, removeOn, commitOn, remove, commit, freeze, shown, ripe, ripened, isFrozen, thawOn, thaw}
 use Rattle.model.specs.Sight.{held, rows, seen}
 use Rattle.model.specs.Transactions.{Test, _when_, gives, unless, changed, openCall, notOpen, noTable, tooLong, foreign, present, unseen, full, newTuple, written, insertCall, replaceCall, deleteCall, readSeen, readCall, listCall, Op, toCommit, toRemove, perform, commitCall, abortCall}
-use Rattle.model.specs.Checkpoint.{stored, allocate, beginCall, made, storePage, storeDirectory, headerFor, storeHeader, stepOf, stepAt, stepCall, inTurn, left, runCall}
+use Rattle.model.specs.Checkpoint.{stored, beginCall, made, storePage, storeDirectory, headerFor, storeHeader, stepOf, stepAt, stepCall, inTurn, left, runCall}
 use Rattle.model.specs.Calls.{Call, opens, inserts, replaces, deletes, commits, aborts, reads, lists, begins, steps, runs, call, Typed}
 use Rattle.model.specs.Recover.{freshStore, loaded, recoveredStore}
 use Rattle.model.proofs.Lists.{some-eq, eqb-self, leb-true, leb-false, all-append, all-take, all-drop, all-map, all-mapped, first-all}

@@ -1,28 +1,28 @@
 -- The starred cases of the specification that are about the rules, as one table; worked runs of the four places where builds go
 -- astray; and one run cut at every store. All are proved in proofs/ by computation.
-use Prim.Native.Nat.{ℕ, zero, suc, _+_, _*_}
+use Prim.Native.Nat.{ℕ, zero, suc, _+_}
 use mathlib.Core.Path.{_≡_}
 use mathlib.Core.Bool.{Bool, true, false, _&&_, _||_}
 use mathlib.Core.List.{List, [], _∷_, _++_, map}
 use lib.ListN.{length, replicate, take, drop}
 use lib.Dec.{eqb}
-use Rattle.basics.specs.Basics.{if_then_else_, all, every, sum, isIn, from, basics}
+use Rattle.basics.specs.Basics.{all, every, sum, isIn, from, basics}
 use Rattle.bits.specs.Bits.{bitsOf, number as numberOf, bitsIn, field}
 use Rattle.blocks.specs.Numbers.{num4, same}
 use Rattle.blocks.specs.Tuple.{Owner, committed, tentative, Tuple, isTentative, ownerSize, size}
 use Rattle.blocks.specs.Spell.{zeros, spell, bytesOf, filled as filledUp, blockOf}
-use Rattle.blocks.specs.Block.{Block, page, committedBit, markBit, ownerFields, payloadFields, recordFields, recordsFields, entryFields, encodeBlock}
+use Rattle.blocks.specs.Block.{page, committedBit, markBit, ownerFields, payloadFields, recordFields, recordsFields, entryFields, encodeBlock}
 use Rattle.blocks.specs.Decode.{kind, spelledBy, readHeader, headerIn, readOwner, readTuple, taken, whole, readTuples, pageTable, pageCount, pageLevel, pageOf as pageOfBytes, pageIn, readEntries, directoryCount, directoryLevel, directoryIn, decodeBlock}
 use Rattle.rows.specs.Rows.{rowRules}
 use Rattle.image.specs.View.{blockAt, blockCount, view}
 use Rattle.image.specs.Stages.{Stage, refuses, holds, wholeBlocks, blockOk, isZero, directoriesFor, directoryBlocks, unusedNumbers, headerOk, headerTest, addEntries, readDirectories, entriesOk, testedEntries, directoryTest, pageOk, addPage, readPages, rowsOfPages, testedPages, pageTest}
 use Rattle.image.specs.Whole.{headerStage, pagesBelow, pagesStage}
-use Rattle.model.specs.State.{Held, Page, idle, Store, Write, Answer, refused, done, count, filled}
+use Rattle.model.specs.State.{Held, Page, idle, Store, Write, Answer, refused, done, count}
 use Rattle.model.specs.Rules.{heldSize, fresh, calm, joins, rules}
 use Rattle.model.specs.Sight.{held, rows, isForeign, versions, seenOf, seen}
 use Rattle.model.specs.Transactions.{gives, unless, changed, openCall, notOpen, noTable, tooLong, foreign, present, unseen, full, newTuple, written, insertCall, replaceCall, deleteCall, readSeen, readCall, listing, listCall, perform, isRow, removeAll, planKey, ownAt, planRows, plan, others, commitCall, abortCall}
 use Rattle.model.specs.Checkpoint.{stored as storedStore, isFree, allocate, freeCount, usedToo, isRunning, blocksNeeded, beginCall, leftOf, left, made, fill, storePage, storeDirectory, headerFor, storeHeader, stepOf, stepAt, badImage, stepCall, inTurn, runCall}
-use Rattle.model.specs.Calls.{Call, opens, inserts, replaces, deletes, commits, aborts, reads, begins, steps, runs, call, isBegin, withWriter, writers, accepted, afterCalls, hadWritten}
+use Rattle.model.specs.Calls.{Call, opens, inserts, replaces, deletes, commits, begins, steps, runs, call, isBegin, withWriter, writers, accepted, afterCalls, hadWritten}
 use Rattle.model.specs.Recover.{memoryFor, putBlock, freshStore, make, madeImage, loaded, recoveredStore, recoverPages, recoverBelow, recover}
 use Rattle.model.specs.QuotedLine.{Logged, tag, log, isHeader, landed, stored, content}
 
