@@ -25,3 +25,5 @@ pub mod Fate
 pub mod Valid
 pub mod Closing
 pub mod Keeps
+pub mod Tests
+pub mod Whole

@@ -22,7 +22,7 @@ use Rattle.model.proofs.Views.{AllSane, Sane}
 use Rattle.model.proofs.Lists.{some-eq, leb-true, in-head, not-true, all-map, in-weak, all-split, every-all, eqb-true, all-mapped, in-append, in-all, all-append}
 use Rattle.model.proofs.Owners.{in-transactions}
 use Rattle.model.proofs.Recovery.{Found, read-blocks, found}
-use Rattle.model.proofs.Inv.{listed, listed-held, listed-read, Tied, Ready, Inv}
+use Rattle.model.proofs.Inv.{listed-held, listed, listed-read, Tied, Ready, Inv}
 use Rattle.model.proofs.Steps.{loaded-content, bare-calm}
 
 -- a page that was read stands in its block
@@ -79,7 +79,7 @@ entries-in : (n : ℕ) (ds es : List ℕ) → entriesOk n ds es ≡ true → All
 unfolding entriesOk
 entries-in n ds es e = blocks-in n es (every-all _ e .0)
 
-loaded-held : (ps : List StoredPage) → held (map loaded ps) ≡ rowsOfPages ps
+pub loaded-held : (ps : List StoredPage) → held (map loaded ps) ≡ rowsOfPages ps
 loaded-held ps = sym (listed-held (map loaded ps)) ∙ ap listed (loaded-content ps) ∙ listed-read ps
 
 -- the fields of the header are in range
