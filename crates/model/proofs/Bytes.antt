@@ -24,7 +24,8 @@ use Rattle.model.specs.Checkpoint.{headerFor}
 use Rattle.model.specs.Recover.{memoryFor, putBlock, freshStore, make, madeImage, recoveredStore, recoverPages, recoverBelow, recover}
 use Rattle.model.proofs.Views.{put, recoverFrom, recoverView, Sane, AllSane}
 use Rattle.model.proofs.Recovery.{found}
-use Rattle.model.proofs.Lists.{eqb-self, eqb-true, le-true, leb-true, leb-false, lt-false, not-false, or-false, every-all}
+use Rattle.model.proofs.Start.{headed}
+use Rattle.model.proofs.Lists.{eqb-self, eqb-true, le-true, leb-true, leb-false, lt-false, not-false, or-false}
 
 -- ---- a block of an image exchanged
 
@@ -164,13 +165,6 @@ unfolding recoverFrom recoverBelow if_then_else_
 below m v (refuses n) s e = refuses-holds e
 below m v (holds h) s e = by (ltb m (memoryFor (h .capacity))) (λ k. refuses-holds (rw k at e)) (λ k. rw k at e)
 
--- the bounds of a header that passes
-bounds : (n : ℕ) (h : Header) → headerOk n h ≡ true → (h .blocks ≡ n) × (1 ≤ h .capacity) × (h .capacity ≤ capacityLimit)
-unfolding headerOk
-bounds n h e =
-    let k = every-all _ e in
-    (eqb-true (h .blocks) n (k .0), leb-true 1 (h .capacity) (k .1 .0), leb-true (h .capacity) capacityLimit (k .1 .1 .0))
-
 accepted-stage : (img : List ℕ) (s : Store) → recoverFrom (view img) (headerStage img) ≡ holds s → Accepted img s
 unfolding recoverView recoverFrom headerStage blockCount if_then_else_ recoveredStore
 accepted-stage img s e =
@@ -179,16 +173,16 @@ accepted-stage img s e =
     let n = length img / 512 in
     let q : recoverView n (view img) ≡ holds s = rw w at e in
     let k = found n (view img) s q in
-    let b = bounds n (k .head) (k .head-ok) in
+    let b = headed n (k .head) (k .head-ok) in
     let c = blocks-whole (length img) w in
-    let f : s .blocks ≡ n = ap (λ z. z .blocks) (sym (k .store)) ∙ b .0 in
+    let f : s .blocks ≡ n = ap (λ z. z .blocks) (sym (k .store)) ∙ b .blocks in
     let g : s .capacity ≡ k .head .capacity = ap (λ z. z .capacity) (sym (k .store)) in
     record {
       long = rw f (c .0);
       least = rw f (c .1);
       most = rw f (c .2);
-      some-room = rw g (b .1);
-      limit = rw g (b .2);
+      some-room = rw g (b .cap .0);
+      limit = rw g (b .cap .1);
       seen = subst (λ z. recoverView z (view img) ≡ holds s) (sym f) q;
     })
     (λ w. refuses-holds (rw w at e))

@@ -92,7 +92,7 @@ module _ (crash-views : CrashViews) (writes-ok : WritesOk) where
       let c = cut-view (s .blocks) cut (a .long) (writes-ok (view img) sane s (a .least) (a .most) (a .seen) calls typed) in
       let k = crash-views (view img) sane s (a .least) (a .seen) calls (view img′) base (c .0) in
       let r = k .0 in
-      let ranged = recovered-ranged (s .blocks) (view img) s sane (a .seen) (a .limit) in
+      let ranged = recovered-ranged (s .blocks) (view img) s sane (a .seen) in
       let q : r .capacity ≡ s .capacity =
       apt-top (s .blocks) (s .capacity) (view img′) r (k .1)
       (cut-apt (s .capacity) (c .0) (top-apt (s .blocks) (view img) s (a .seen)) (log-apt [] [] s calls ranged typed)) in

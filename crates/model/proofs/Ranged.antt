@@ -12,10 +12,10 @@ use Rattle.basics.specs.Basics.{if_then_else_, any, first, howMany, isEmpty}
 use Rattle.basics.proofs.Facts.{AllOf, by, by-option, never, lie}
 use Rattle.blocks.specs.Limits.{payloadLimit, mostNumber}
 use Rattle.blocks.specs.Tuple.{Tuple, AllBytes, Fits, AllFit}
-use Rattle.blocks.specs.Block.{Block, malformed, header, page, directory}
+use Rattle.blocks.specs.Block.{Block, malformed, header, page, directory, PageFits}
 use Rattle.rows.specs.Rows.{Row, rowsOf, isOwn}
 use Rattle.image.specs.View.{View}
-use Rattle.image.specs.Stages.{holds, capacityLimit, directoriesFor, StoredPage, pageOk, addPage, readPages}
+use Rattle.image.specs.Stages.{holds, capacityLimit, directoriesFor, StoredPage}
 use Rattle.model.specs.State.{Held, Page, Checkpoint, idle, running, Store, Answer, refused, Outcome}
 use Rattle.model.specs.Rules.{fresh, withTuples, fits, half, splitOnce, splitDeep, splitAll, after, grown, entering, calm, placeAfter, placeFront, place, joins, joined, listOf, settleNext, settleFull, settle, around, isAdding, isRemoving, isCommitting, isPending, withPending, asCommitted, isNumber, hasNumber, edit, gone, goneLater, kept, keptLater, removeOn, commitOn, remove, commit, freeze, shown, ripe, ripened, isFrozen, thawOn, thaw}
 use Rattle.model.specs.Sight.{held, rows, seen}
@@ -27,6 +27,7 @@ use Rattle.model.proofs.Lists.{some-eq, eqb-self, leb-true, leb-false, 
 use Rattle.model.proofs.Splits.{after-all}
 use Rattle.model.proofs.Views.{recoverView, Sane, AllSane}
 use Rattle.model.proofs.Recovery.{found}
+use Rattle.model.proofs.Start.{Read, pages-read, headed, head-range}
 
 -- of every tuple of some pages
 abbrev pub Tuples : (Tuple → Type 0) → List Page → Type 0
@@ -420,30 +421,18 @@ all-fit : (ts : List Tuple) → AllFit ts → AllOf Fits ts
 all-fit [] a = tt
 all-fit (x ∷ ts) a = (a .0, all-fit ts (a .1))
 
-read-fits : (v : View) → AllSane v → (l : ℕ) (es : List ℕ) (ps : List StoredPage) → readPages v l es ≡ some ps → AllOf (λ p. AllOf Fits (p .tuples)) ps
-unfolding readPages addPage if_then_else_
-read-fits v sane l [] ps h = subst (AllOf (λ p. AllOf Fits (p .tuples))) (some-eq h) tt
-read-fits v sane l (e ∷ es) ps h = go (v e) (sane e) h (read-fits v sane l es)
-  where
-    go : (x : Block) → Sane x → addPage l e x (readPages v l es) ≡ some ps
-        → ((qs : List StoredPage) → readPages v l es ≡ some qs → AllOf (λ p. AllOf Fits (p .tuples)) qs) → AllOf (λ p. AllOf Fits (p .tuples)) ps
-    go malformed f h r = never h
-    go (header c) f h r = never h
-    go (directory k ds) f h r = never h
-    go (page t k ts) f h r =
-        by (pageOk l k ts)
-        (λ a. by-option (readPages v l es) (λ z. never (rw (a, z) at h))
-        (λ qs z. subst (AllOf (λ p. AllOf Fits (p .tuples))) (some-eq (rw (a, z) at h)) (all-fit ts (f .tuples), r qs z)))
-        (λ a. never (rw a at h))
+-- the tuples of a page that was read
+read-fits : (v : View) (l : ℕ) (es : List ℕ) → AllSane v → (p : StoredPage) → Read v l es p → AllOf Fits (p .tuples)
+read-fits v l es sane p r = let f : PageFits (p .table) (r .0) (p .tuples) = subst Sane (r .1) (sane (p .block)) in all-fit (p .tuples) (f .tuples)
 
-pub recovered-ranged : (n : ℕ) (v : View) (s : Store) → AllSane v → recoverView n v ≡ holds s → s .capacity ≤ capacityLimit → Ranged s
+pub recovered-ranged : (n : ℕ) (v : View) (s : Store) → AllSane v → recoverView n v ≡ holds s → Ranged s
 unfolding recoveredStore loaded calm
-recovered-ranged n v s sane e c =
+recovered-ranged n v s sane e =
     let f = found n v s e in
-    let h : Sane (header (f .head)) = subst Sane (f .top) (sane 0) in
-    let next : s .next ≡ f .head .next = ap (λ z. z .next) (sym (f .store)) in
-    record {
-      tuples = subst (λ z. Tuples Fits (z .pages)) (f .store) (all-mapped _ loaded (f .pages) (all-map _ _ (λ p a. all-mapped _ calm (p .tuples) a) (f .pages) (read-fits v sane _ _ _ (f .read))));
-      next = rw next (omega arith);
-      capacity = c;
-    }
+    let h = f .head in
+    let read = pages-read v (h .level) (f .entries) (f .pages) (f .read) in
+    subst Ranged (f .store) (record {
+      tuples = all-mapped _ loaded (f .pages) (all-map _ _ (λ p r. all-mapped _ calm (p .tuples) (read-fits v (h .level) (f .entries) sane p r)) (f .pages) read);
+      next = head-range v h sane (f .top) .1;
+      capacity = headed n h (f .head-ok) .cap .1;
+    })
