@@ -2,6 +2,7 @@ pub mod Cases
 pub mod Traps
 pub mod Cuts
 pub mod Bytes
+pub mod Capacity
 pub mod Ranged
 pub mod Line
 pub mod Views

@@ -2,27 +2,23 @@
 use mathlib.Core.Path.{_≡_, refl, sym, ap, _∙_, subst}
 use Prim.Native.Nat.{ℕ, _+_, _*_, _≤_, _<_}
 use native.Mathlib.Omega.{arith}
-use mathlib.Core.Bool.{_&&_}
-use mathlib.Core.List.{List, [], _∷_, _++_, map}
+use mathlib.Core.List.{List, [], _∷_, map}
 use lib.ListN.{length, length-map}
-use lib.Dec.{eqb}
-use Rattle.basics.specs.Basics.{if_then_else_}
-use Rattle.basics.proofs.Facts.{AllOf, by}
+use Rattle.basics.proofs.Facts.{AllOf}
 use Rattle.blocks.specs.Tuple.{Tuple, AllFit}
-use Rattle.blocks.specs.Block.{header, encodeBlock}
+use Rattle.blocks.specs.Block.{encodeBlock}
 use Rattle.blocks.specs.Decode.{decodeBlock}
 use Rattle.blocks.proofs.Laws.{encode-length, decode-encode}
 use Rattle.rows.specs.Rows.{rowsOf}
-use Rattle.image.specs.View.{View, view}
-use Rattle.image.specs.Stages.{holds}
+use Rattle.image.specs.View.{view}
 use Rattle.model.specs.State.{Page, Store}
 use Rattle.model.specs.Rules.{shown}
 use Rattle.model.specs.Sight.{held}
-use Rattle.model.specs.Calls.{Call, call, Typed, AllTyped, isBegin, accepted, afterCalls}
+use Rattle.model.specs.Calls.{Call, Typed, AllTyped, afterCalls}
 use Rattle.model.specs.Recover.{memoryFor, recoveredStore}
-use Rattle.model.specs.QuotedLine.{Start, fresh, recovered, Logged, tag, log, isHeader, landed, stored, Cut, stop, torn, whole, QuotedLine}
-use Rattle.model.proofs.Views.{put, recoverView, CutV, WriteOk, CrashViews, WritesOk}
-use Rattle.model.proofs.Lists.{all-append, all-parts, all-map, all-two, all-mapped}
+use Rattle.model.specs.QuotedLine.{Start, fresh, recovered, Logged, landed, stored, Cut, stop, torn, whole, QuotedLine}
+use Rattle.model.proofs.Views.{put, CutV, WriteOk, CrashViews, WritesOk}
+use Rattle.model.proofs.Lists.{all-parts, all-map, all-two}
 use Rattle.model.proofs.Recovery.{found}
 use Rattle.model.proofs.Sound.{PageOk}
 use Rattle.model.proofs.Steps.{FrozenFit}
@@ -33,34 +29,8 @@ use Rattle.model.proofs.Placing.{page-full}
 use Rattle.model.proofs.Keeps.{keeps, step-valid}
 use Rattle.model.proofs.Whole.{ready, starts}
 use Rattle.model.proofs.Bytes.{length-put, view-put, view-sane, recover-view, Accepted, accepted-recovery, made-accepted}
-use Rattle.model.proofs.Ranged.{Ranged, Apt, kept-at, keeps as keeps-range, shown-fit, recovered-ranged}
-
--- ---- every header has the capacity of the store
-
-log-apt : (past base : List Call) (s : Store) (cs : List Call) → Ranged s → AllTyped cs → AllOf (λ w. Apt (s .capacity) (w .write .what)) (log past base s cs)
-unfolding log tag
-log-apt past base s [] r t = tt
-log-apt past base s (c ∷ cs) r t =
-    let o = call c s in
-    let k = keeps-range c (t .0) s r in
-    let base′ = if isBegin c && accepted (o .answer) then past else base in
-    all-append _ (map (tag base′) (o .writes)) (log (past ++ c ∷ []) base′ (o .store) cs) (all-mapped _ (tag base′) (o .writes) (k .apt))
-    (subst (λ z. AllOf (λ w. Apt z (w .write .what)) (log (past ++ c ∷ []) base′ (o .store) cs)) (k .capacity) (log-apt (past ++ c ∷ []) base′ (o .store) cs (k .ranged) (t .1)))
-
-cut-apt : (cap : ℕ) {v : View} {base : List Call} {ws : List Logged} {v′ : View} {base′ : List Call} → CutV v base ws v′ base′ → Apt cap (v 0)
-    → AllOf (λ w. Apt cap (w .write .what)) ws → Apt cap (v′ 0)
-unfolding put isHeader if_then_else_
-cut-apt cap CutV.stop a b = a
-cut-apt cap (CutV.torn h x) a b = rw h a
-cut-apt cap {v} (CutV.whole {w = w} c) a b = cut-apt cap c (by (eqb (w .write .at) 0) (λ h. rw h (b .0)) (λ h. rw h a)) (b .1)
-
-top-apt : (n : ℕ) (v : View) (s : Store) → recoverView n v ≡ holds s → Apt (s .capacity) (v 0)
-unfolding recoveredStore
-top-apt n v s e = let f = found n v s e in subst (Apt (s .capacity)) (sym (f .top)) (ap (λ z. z .capacity) (f .store))
-
-apt-top : (n cap : ℕ) (v : View) (s : Store) → recoverView n v ≡ holds s → Apt cap (v 0) → s .capacity ≡ cap
-unfolding recoveredStore
-apt-top n cap v s e a = let f = found n v s e in ap (λ z. z .capacity) (sym (f .store)) ∙ subst (Apt cap) (f .top) a
+use Rattle.model.proofs.Capacity.{same-capacity}
+use Rattle.model.proofs.Ranged.{Ranged, kept-at, keeps as keeps-range, shown-fit, recovered-ranged}
 
 -- ---- a cut of the bytes is a cut of the view
 
@@ -140,8 +110,5 @@ module _ (crash-views : CrashViews) (writes-ok : WritesOk) where
       let c = cut-view (s .blocks) cut (a .long) (writes-ok (view img) sane s (a .least) (a .most) (a .seen) calls typed) in
       let k = crash-views (view img) sane s (a .least) (a .seen) calls (view img′) base (c .0) in
       let r = k .0 in
-      let ranged = recovered-ranged (s .blocks) (view img) s sane (a .seen) in
-      let q : r .capacity ≡ s .capacity =
-      apt-top (s .blocks) (s .capacity) (view img′) r (k .1)
-      (cut-apt (s .capacity) (c .0) (top-apt (s .blocks) (view img) s (a .seen)) (log-apt [] [] s calls ranged typed)) in
+      let q = same-capacity (s .blocks) (view img) s (a .seen) calls (c .0) r (k .1) in
       (r, recover-view m img′ r (s .blocks) (c .1) (a .least) (a .most) (k .1) (subst (λ z. memoryFor z ≤ m) (sym q) h), k .2)
