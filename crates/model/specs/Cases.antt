@@ -89,6 +89,7 @@ unfoldable pub firstOf : List Write → (Write → Bool) → Bool
 firstOf [] f = false
 firstOf (w ∷ ws) f = f w
 
+-- what the rules give, and what the specification says
 pub record Cases : Type 0 where
   -- empty store, 16 blocks, N 8: header 10 08 00 80, then zeros
   pub empty-header : same (madeImage (replicate 8192 0xFF) 8) (0x10 ∷ 0x08 ∷ 0x00 ∷ 0x80 ∷ zeros 508 ++ replicate 7680 0xFF) ≡ true
@@ -121,11 +122,12 @@ unfoldable pub imageAfter : List Write → List ℕ → List ℕ
 imageAfter [] img = img
 imageAfter (w ∷ ws) img = imageAfter ws (putBlock img (w .at) (encodeBlock (w .what)))
 
--- power fails after these calls on an empty store of 16 blocks, N 64: the pages that recovery gives
+-- the pages of what recovery gives
 unfoldable pub shapeOf : Stage Store → List (ℕ × ℕ)
 shapeOf (refuses n) = []
 shapeOf (holds s) = shape s
 
+-- power fails after these calls on an empty store of 16 blocks, N 64: what recovery gives
 unfoldable pub recoveredAfter : List Call → Stage Store
 recoveredAfter cs = recover (memoryFor 64) (imageAfter (writes cs (freshStore 16 64)) (madeImage (replicate 8192 0xFF) 64))
 
@@ -157,6 +159,7 @@ unfoldable pub bothFrozen : List Call
 bothFrozen =
     many 0 10 40 ++ (commits 5 ∷ begins ∷ opens 6 ∷ deletes 6 0 0 ∷ deletes 6 0 1 ∷ deletes 6 0 2 ∷ deletes 6 0 3 ∷ deletes 6 0 9 ∷ commits 6 ∷ [])
 
+-- what the runs above give
 pub record Traps : Type 0 where
   -- the pages at the end are not those listed: the page that was clean at begin is listed whole, with the block that it had
   pub at-the-end : shape (afterCalls splitMeanwhile (freshStore 16 64)) ≡ (5, 265) ∷ (5, 265) ∷ (1, 13) ∷ []
@@ -176,24 +179,26 @@ pub record Traps : Type 0 where
 
 -- ---- one run cut at every store
 
--- a tuple with all its fields, as numbers
+-- an owner as numbers
 unfoldable pub ownerNumbers : Owner → List ℕ
 ownerNumbers committed = 0 ∷ []
 ownerNumbers (tentative t n) = 1 ∷ t ∷ n ∷ []
 
+-- a tuple with all its fields
 unfoldable pub tupleNumbers : Tuple → List ℕ
 tupleNumbers x = x .key ∷ x .number ∷ markBit (x .mark) ∷ length (x .payload) ∷ (x .payload ++ ownerNumbers (x .owner))
 
--- the pages as they are compared, each with its table and how many tuples it has
+-- the tuples of a page, in order
 unfoldable pub heldNumbers : List Held → List ℕ
 heldNumbers [] = []
 heldNumbers (h ∷ hs) = tupleNumbers (h .tuple) ++ heldNumbers hs
 
+-- the pages as they are compared, each with its table and how many tuples it has
 unfoldable pub pageNumbers : List Page → List ℕ
 pageNumbers [] = []
 pageNumbers (p ∷ ps) = p .table ∷ length (p .tuples) ∷ (heldNumbers (p .tuples) ++ pageNumbers ps)
 
--- what is recovered is what the run of the calls from s had
+-- what is recovered has the pages and the next number of s, and the transactions ws are open
 unfoldable pub agrees : Stage Store → Store → List ℕ → Bool
 agrees (refuses n) s ws = false
 agrees (holds r) s ws =
@@ -204,6 +209,7 @@ agrees (holds r) s ws =
     ∷ all (λ tx. isIn tx (r .active)) ws
     ∷ [])
 
+-- recovery of the image gives what the run of the calls base from s had
 unfoldable pub recoversTo : Store → List Call → List ℕ → Bool
 recoversTo s base img = agrees (recover (memoryFor (s .capacity)) img) (afterCalls base s) (hadWritten base s (s .active))
 
@@ -229,9 +235,11 @@ script =
     ++ (steps 8192 ∷ replaces 6 1 7 (3 ∷ []) ∷ commits 6 ∷ runs 2 8192 ∷ deletes 5 0 12 ∷ commits 5 ∷ runs 9 8192
     ∷ begins ∷ opens 7 ∷ deletes 7 0 11 ∷ replaces 7 0 13 [] ∷ runs 2 8192 ∷ commits 7 ∷ runs 9 8192 ∷ begins ∷ runs 1 8192 ∷ [])))
 
+-- its block stores
 unfoldable pub scriptLog : List Logged
 scriptLog = log [] [] (freshStore 16 64) script
 
+-- the run makes eleven stores, and wherever they are cut, recovery gives what it must
 pub record Cuts : Type 0 where
   pub stores : length scriptLog ≡ 11
   pub everywhere : cutEverywhere (freshStore 16 64) (madeImage (replicate 8192 0xFF) 64) [] scriptLog ≡ true
