@@ -13,7 +13,7 @@ use Rattle.model.specs.Rules.{asCommitted}
 use Rattle.model.specs.Transactions.{others, isRow, ownAt}
 use Rattle.model.proofs.Lists.{all-append, all-map, Pairs, pairs-append, many-append, eqb-true, keep-append, keep-all, keep-cons, keep-none, keep-past, Mem, many-none, all-mem, mem-all, and-yes, last-off, last-mem, eqb-self, mem-pairs, some-eq, all-keep, pairs-map, pairs-both, pairs-keep}
 use Rattle.model.proofs.Owners.{in-others}
-use Rattle.model.proofs.Rows.{settled, Differ}
+use Rattle.model.proofs.Rows.{kept-row, Differ}
 use Rattle.model.proofs.Fate.{gather, With, verdict, at-join, afterCommit, at-split, row-number, afterAbort}
 use Rattle.model.proofs.Valid.{LiveOk, Opened, Chain}
 
@@ -180,9 +180,9 @@ unfolding verdict
 verdict-all P none r f g = (f refl, tt)
 verdict-all P (some x) r f g = go (x .1 .mark) refl (isRow (number x) r) refl
   where
-    go : (m : Bool) → x .1 .mark ≡ m → (b : Bool) → isRow (number x) r ≡ b → AllOf P (if m then [] else if b then settled x else [])
+    go : (m : Bool) → x .1 .mark ≡ m → (b : Bool) → isRow (number x) r ≡ b → AllOf P (if m then [] else if b then kept-row x else [])
     go true m b k = unfold if_then_else_ in tt
-    go false m true k = unfold if_then_else_ settled in (g x refl m k, tt)
+    go false m true k = unfold if_then_else_ kept-row in (g x refl m k, tt)
     go false m false k = unfold if_then_else_ in tt
 
 verdict-one : (R : Row → Row → Type 0) (o : Option Row) (r : Row) → Pairs R (verdict o r)
@@ -190,9 +190,9 @@ unfolding verdict
 verdict-one R none r = (tt, tt)
 verdict-one R (some x) r = go (x .1 .mark) (isRow (number x) r)
   where
-    go : (m b : Bool) → Pairs R (if m then [] else if b then settled x else [])
+    go : (m b : Bool) → Pairs R (if m then [] else if b then kept-row x else [])
     go true b = unfold if_then_else_ in tt
-    go false true = unfold if_then_else_ settled in (tt, tt)
+    go false true = unfold if_then_else_ kept-row in (tt, tt)
     go false false = unfold if_then_else_ in tt
 
 own-both : (tx t k : ℕ) (r : Row) → ownAt tx t k r ≡ true → (isOwn tx r ≡ true) × (isAt t k r ≡ true)

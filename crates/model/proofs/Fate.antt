@@ -15,7 +15,7 @@ use Rattle.model.specs.Sight.{rows, held}
 use Rattle.model.specs.Transactions.{Op, toCommit, isRow, toRemove, perform, removeAll, planKey, ownAt, planRows}
 use Rattle.model.proofs.Lists.{Pairs, Mem, here, all-map, there, mem-all, eqb-self, eqb-true, all-keep, all-mem, all-append, mem-keep}
 use Rattle.model.proofs.Sound.{PageOk, perform-ok}
-use Rattle.model.proofs.Rows.{amend, away, settled, Alike, Differ, Entry, Sub, plain, live, entries, sub-refl, amends-commit, sub-pairs, sub-trans, pairs-plain, amends-remove, held-plain, rows-live}
+use Rattle.model.proofs.Rows.{amend, away, kept-row, Alike, Differ, Entry, Sub, plain, live, entries, sub-refl, amends-commit, sub-pairs, sub-trans, pairs-plain, amends-remove, held-plain, rows-live}
 
 -- ---- a list of operations on the rows
 
@@ -39,8 +39,8 @@ unfolding gather fate amend away if_then_else_
 gather-removes n os [] = refl
 gather-removes n os (r ∷ rs) = by (isRow n r) (λ h. rw (h, gather-removes n os rs)) (λ h. rw (h, gather-removes n os rs))
 
-gather-commits : (n : ℕ) (os : List Op) (rs : List Row) → gather (fate os) (amend settled n rs) ≡ gather (fate (toCommit n ∷ os)) rs
-unfolding gather fate amend settled if_then_else_
+gather-commits : (n : ℕ) (os : List Op) (rs : List Row) → gather (fate os) (amend kept-row n rs) ≡ gather (fate (toCommit n ∷ os)) rs
+unfolding gather fate amend kept-row if_then_else_
 gather-commits n os [] = refl
 gather-commits n os (r ∷ rs) = by (isRow n r) (λ h. rw (h, gather-commits n os rs)) (λ h. rw (h, gather-commits n os rs))
 
@@ -139,7 +139,7 @@ row-false n r h = by (isRow n r) (λ k. absurd (h (row-number n r k))) (λ k. k)
 -- of the rows at one key: the newest own one, if there is one, and a row
 unfoldable pub verdict : Option Row → Row → List Row
 verdict none r = r ∷ []
-verdict (some x) r = if x .1 .mark then [] else if isRow (number x) r then settled x else []
+verdict (some x) r = if x .1 .mark then [] else if isRow (number x) r then kept-row x else []
 
 module _ (tx : ℕ) (all : List Row) (d : Pairs Differ all) where
   -- of x, what is planned for its key does not touch rows of other keys
@@ -199,7 +199,7 @@ module _ (tx : ℕ) (all : List Row) (d : Pairs Differ all) where
   commits-self x os k = rw k
 
   verdict-live : (x r : Row) → x .1 .mark ≡ false → isRow (number x) r ≡ true → verdict (some x) r ≡ (x .0, asCommitted (x .1)) ∷ []
-  unfolding verdict if_then_else_ settled number
+  unfolding verdict if_then_else_ kept-row number
   verdict-live x r m k = rw (m, k)
 
   hit-step : (x : Row) (os : List Op) → x .1 .mark ≡ false → isRow (number x) x ≡ true
@@ -210,7 +210,7 @@ module _ (tx : ℕ) (all : List Row) (d : Pairs Differ all) where
       ∙ sym (verdict-live x x m k)
 
   hit-self : (x : Row) (os : List Op) → x .1 .mark ≡ false → AllOf (Off x) os → fate (planKey x (keep (With x) all) ++ os) x ≡ verdict (some x) x
-  unfolding planKey if_then_else_ verdict fate settled
+  unfolding planKey if_then_else_ verdict fate kept-row
   hit-self x os m off =
       let y : Row = (x .0, asCommitted (x .1)) in
       let vs = keep (With x) all in

@@ -7,7 +7,7 @@ use mathlib.Core.List.{List, [], _∷_, _++_, map}
 use mathlib.Core.Option.{some, Option, none}
 use lib.Dec.{ltb}
 use lib.ListN.{length, length-append, length-map}
-use Rattle.basics.specs.Basics.{if_then_else_, isIn, any, first, isEmpty, howMany, keep, isSome, last}
+use Rattle.basics.specs.Basics.{keep, if_then_else_, isIn, any, first, isEmpty, howMany, isSome, last}
 use Rattle.basics.proofs.Facts.{by, AllOf, lie, by-option}
 use Rattle.blocks.specs.Limits.{payloadLimit, mostNumber}
 use Rattle.blocks.specs.Tuple.{Owner, committed, tentative, Tuple, size, ownerSize, isTentative}
@@ -23,27 +23,27 @@ use Rattle.model.proofs.Views.{put}
 use Rattle.model.proofs.Lists.{in-append, all-map, leb-false, Pairs, not-false}
 use Rattle.model.proofs.Owners.{others-length}
 use Rattle.model.proofs.Splits.{mostSize}
-use Rattle.model.proofs.Frozen.{images, images-place, images-perform, shown-calm, images-none}
-use Rattle.model.proofs.Steps.{still}
+use Rattle.model.proofs.Frozen.{images-place, images, images-perform, shown-calm, images-none}
 use Rattle.model.proofs.Begin.{below-most}
 use Rattle.model.proofs.Crash.{idle-of}
 use Rattle.model.proofs.Sound.{place-ok, perform-ok, PageOk, bare-size, thaw-ok}
 use Rattle.model.proofs.Rows.{Sub, rows-live, held-plain, live-sub, entries, sub-all, Differ, sub-pairs, held-freeze, rows-freeze, thaw-rows}
 use Rattle.model.proofs.Placing.{Before, Put, place-put}
 use Rattle.model.proofs.Fate.{differ-alike, perform-rows, commit-rows, abort-rows}
-use Rattle.model.proofs.Valid.{Valid, Opened, LiveOk, before-alike, HeldOk, held-insert, live-insert, held-sub}
+use Rattle.model.proofs.Valid.{Opened, LiveOk, Valid, before-alike, HeldOk, held-insert, live-insert, held-sub}
 use Rattle.model.proofs.Closing.{commit-live, abort-live}
 
 -- ---- refusals
 
-abbrev Passed : List Test → Type 0
+abbrev pub Passed : List Test → Type 0
 Passed [] = Unit {0}
 Passed ((n when b) ∷ ts) = (b ≡ false) × Passed ts
 
-unless-valid : (ts : List Test) (s : Store) (o : Outcome) → Valid s → (Passed ts → Valid (o .store)) → Valid (unless ts s o .store)
+-- a property of the store that an accepted call keeps: the tests passed
+pub unless-keeps : (P : Store → Type 0) (ts : List Test) (s : Store) (o : Outcome) → P s → (Passed ts → P (o .store)) → P (unless ts s o .store)
 unfolding unless if_then_else_ gives
-unless-valid [] s o v f = f tt
-unless-valid ((n when b) ∷ ts) s o v f = by b (λ h. rw h v) (λ h. rw h (unless-valid ts s o v (λ p. f (h, p))))
+unless-keeps P [] s o v f = f tt
+unless-keeps P ((n when b) ∷ ts) s o v f = by b (λ h. rw h v) (λ h. rw h (unless-keeps P ts s o v (λ p. f (h, p))))
 
 -- ---- open
 
@@ -57,13 +57,14 @@ live-open tx os rs h = record { chain = h .chain; counted = h .counted; marked =
 open-valid : (tx : ℕ) (s : Store) → Valid s → Valid (openCall tx s .store)
 unfolding openCall gives changed
 open-valid tx s v =
-    unless-valid _ s _ v (λ p. record {
+    unless-keeps Valid _ s _ v (λ p. record {
       pages = v .pages;
       still = v .still;
       has = v .has;
       sees = live-open tx (s .active) (rows (s .pages)) (v .sees);
       opened = let l = leb-false 64 (length (s .active)) (p .1 .1 .0) in let m = length-append (s .active) (tx ∷ []) in omega arith;
       nx = v .nx;
+      cap = v .cap;
     })
 
 -- ---- insert, replace, delete
@@ -121,12 +122,13 @@ module _ (s : Store) (v : Valid s) (tx t k : ℕ) (bs : List ℕ) (m : Bool) (i 
         sees = written-sees _ (put .1);
         opened = v .opened;
         nx = more;
+        cap = v .cap;
       }
 
 insert-valid : (tx t k : ℕ) (bs : List ℕ) (s : Store) → Valid s → Valid (insertCall tx t k bs s .store)
 unfolding insertCall notOpen noTable tooLong foreign present full
 insert-valid tx t k bs s v =
-    unless-valid _ s _ v (λ p.
+    unless-keeps Valid _ s _ v (λ p.
     let q = p .1 .1 .1 .1 .1 .1 in
     written-valid s v tx t k bs false (not-false _ (p .1 .0)) (omega (arith, leb-false 8 t (p .1 .1 .0))) (omega (arith, leb-false (suc payloadLimit) (length bs) (p .1 .1 .1 .0))) (p .1 .1 .1 .1 .0)
     (leb-false (s .capacity) (length (held (s .pages))) (q .0)) (below-most (s .next) (v .nx) (q .1 .0)) (λ e. refl) refl)
@@ -134,7 +136,7 @@ insert-valid tx t k bs s v =
 replace-valid : (tx t k : ℕ) (bs : List ℕ) (s : Store) → Valid s → Valid (replaceCall tx t k bs s .store)
 unfolding replaceCall notOpen noTable tooLong foreign unseen full
 replace-valid tx t k bs s v =
-    unless-valid _ s _ v (λ p.
+    unless-keeps Valid _ s _ v (λ p.
     let q = p .1 .1 .1 .1 .1 .1 in
     written-valid s v tx t k bs false (not-false _ (p .1 .0)) (omega (arith, leb-false 8 t (p .1 .1 .0))) (omega (arith, leb-false (suc payloadLimit) (length bs) (p .1 .1 .1 .0))) (p .1 .1 .1 .1 .0)
     (leb-false (s .capacity) (length (held (s .pages))) (q .0)) (below-most (s .next) (v .nx) (q .1 .0)) (λ e. refl) refl)
@@ -148,7 +150,7 @@ seen-some tx (r ∷ vs) h e = lie e
 delete-valid : (tx t k : ℕ) (s : Store) → Valid s → Valid (deleteCall tx t k s .store)
 unfolding deleteCall notOpen noTable foreign unseen full seen
 delete-valid tx t k s v =
-    unless-valid _ s _ v (λ p.
+    unless-keeps Valid _ s _ v (λ p.
     let q = p .1 .1 .1 .1 .1 in
     written-valid s v tx t k [] true (not-false _ (p .1 .0)) (omega (arith, leb-false 8 t (p .1 .1 .0))) (omega arith) (p .1 .1 .1 .0)
     (leb-false (s .capacity) (length (held (s .pages))) (q .0)) (below-most (s .next) (v .nx) (q .1 .0)) (seen-some tx (versions t k (s .pages)) (not-false _ (p .1 .1 .1 .1 .0))) (unfold isEmpty in refl))
@@ -157,15 +159,15 @@ delete-valid tx t k s v =
 
 read-valid : (tx t k r : ℕ) (s : Store) → Valid s → Valid (readCall tx t k r s .store)
 unfolding readCall
-read-valid tx t k r s v = unless-valid _ s _ v (λ p. go (seen tx t k s))
+read-valid tx t k r s v = unless-keeps Valid _ s _ v (λ p. go (seen tx t k s))
   where
     go : (o : Option Row) → Valid (readSeen r o s .store)
     go none = unfold readSeen gives in v
-    go (some q) = unfold readSeen in unless-valid _ s _ v (λ p. unfold gives in v)
+    go (some q) = unfold readSeen in unless-keeps Valid _ s _ v (λ p. unfold gives in v)
 
 list-valid : (r : ℕ) (s : Store) → Valid s → Valid (listCall r s .store)
 unfolding listCall gives
-list-valid r s v = unless-valid _ s _ v (λ p. v)
+list-valid r s v = unless-keeps Valid _ s _ v (λ p. v)
 
 -- ---- commit, abort
 
@@ -176,13 +178,14 @@ commit-valid tx s v =
     let os = planRows tx (rows (s .pages)) (rows (s .pages)) in
     let r = perform-rows os (s .pages) (v .pages) (v .has .differ) in
     let l = others-length tx (s .active) in
-    unless-valid _ s _ v (λ p. unfold plan in record {
+    unless-keeps Valid _ s _ v (λ p. unfold plan in record {
       pages = perform-ok os (s .pages) (v .pages);
       still = λ h. images-perform os (s .pages) ∙ v .still h;
       has = held-sub (s .capacity) (s .next) (r .0) (v .has);
       sees = subst (LiveOk (others tx (s .active))) (sym (r .1 ∙ commit-rows tx (rows (s .pages)) d)) (commit-live tx (s .active) (rows (s .pages)) (v .sees) d);
       opened = omega (arith, v .opened);
       nx = v .nx;
+      cap = v .cap;
     })
 
 abort-valid : (tx : ℕ) (s : Store) → Valid s → Valid (abortCall tx s .store)
@@ -192,13 +195,14 @@ abort-valid tx s v =
     let os = removeAll (keep (isOwn tx) (rows (s .pages))) in
     let r = perform-rows os (s .pages) (v .pages) (v .has .differ) in
     let l = others-length tx (s .active) in
-    unless-valid _ s _ v (λ p. record {
+    unless-keeps Valid _ s _ v (λ p. record {
       pages = perform-ok os (s .pages) (v .pages);
       still = λ h. images-perform os (s .pages) ∙ v .still h;
       has = held-sub (s .capacity) (s .next) (r .0) (v .has);
       sees = subst (LiveOk (others tx (s .active))) (sym (r .1 ∙ abort-rows tx (rows (s .pages)) d)) (abort-live tx (s .active) (rows (s .pages)) (v .sees) d);
       opened = omega (arith, v .opened);
       nx = v .nx;
+      cap = v .cap;
     })
 
 -- ---- the checkpoint
@@ -235,7 +239,7 @@ freeze-all (p ∷ ps) a b = (freeze-ok p (a .0) (b .0), freeze-all ps (a .1) (b 
 begin-valid : (s : Store) → Valid s → Valid (beginCall s .store)
 unfolding beginCall gives stored
 begin-valid s v =
-    unless-valid _ s _ v (λ p.
+    unless-keeps Valid _ s _ v (λ p.
     let free = all-free (s .pages) (v .still (idle-of (s .checkpoint) (p .0))) in
     record {
       pages = freeze-all (s .pages) free (v .pages);
@@ -244,6 +248,7 @@ begin-valid s v =
       sees = rw (rows-freeze (s .pages)) (v .sees);
       opened = v .opened;
       nx = v .nx;
+      cap = v .cap;
     })
 
 page-valid : (n : ℕ) (es ds : List ℕ) (p : Page) (s : Store) → Valid s → Valid (storePage n es ds p s .store)
@@ -258,15 +263,16 @@ page-valid n es ds p s v =
       sees = rw (r .1) (v .sees);
       opened = v .opened;
       nx = v .nx;
+      cap = v .cap;
     }
 
 directory-valid : (n : ℕ) (es ds : List ℕ) (s : Store) → Valid s → Valid (storeDirectory n es ds s .store)
 unfolding storeDirectory made stored
-directory-valid n es ds s v = record { pages = v .pages; still = λ e. no-idle e; has = v .has; sees = v .sees; opened = v .opened; nx = v .nx }
+directory-valid n es ds s v = record { pages = v .pages; still = λ e. no-idle e; has = v .has; sees = v .sees; opened = v .opened; nx = v .nx; cap = v .cap }
 
 header-valid : (n : ℕ) (es ds : List ℕ) (s : Store) → first isFrozen (s .pages) ≡ none → Valid s → Valid (storeHeader n es ds s .store)
 unfolding storeHeader made stored
-header-valid n es ds s f v = record { pages = v .pages; still = λ e. images-none (s .pages) f; has = v .has; sees = v .sees; opened = v .opened; nx = v .nx }
+header-valid n es ds s f v = record { pages = v .pages; still = λ e. images-none (s .pages) f; has = v .has; sees = v .sees; opened = v .opened; nx = v .nx; cap = v .cap }
 
 pub step-valid : (s : Store) → Valid s → Valid (stepAt (s .checkpoint) s .store)
 unfolding stepAt stepOf gives if_then_else_
@@ -286,11 +292,11 @@ turn-valid (suc k) s v = turn-valid k (stepAt (s .checkpoint) s .store) (step-va
 
 stepCall-valid : (len : ℕ) (s : Store) → Valid s → Valid (stepCall len s .store)
 unfolding stepCall
-stepCall-valid len s v = unless-valid _ s _ v (λ p. step-valid s v)
+stepCall-valid len s v = unless-keeps Valid _ s _ v (λ p. step-valid s v)
 
 run-valid : (limit len : ℕ) (s : Store) → Valid s → Valid (runCall limit len s .store)
 unfolding runCall
-run-valid limit len s v = unless-valid _ s _ v (λ p. turn-valid (min limit (left s)) s v)
+run-valid limit len s v = unless-keeps Valid _ s _ v (λ p. turn-valid (min limit (left s)) s v)
 
 pub keeps : (c : Call) (s : Store) → Valid s → Valid (call c s .store)
 unfolding call

@@ -28,3 +28,7 @@ pub mod Closing
 pub mod Keeps
 pub mod Tests
 pub mod Whole
+pub mod Inserted
+pub mod Tally
+pub mod Range
+pub mod Claim

@@ -8,7 +8,7 @@ use mathlib.Core.Option.{some, none}
 use lib.Dec.{leb, eqb, ltb}
 use lib.ListN.{length}
 use Rattle.basics.specs.Basics.{if_then_else_}
-use Rattle.basics.proofs.Facts.{AllOf, lie, never, by-option, by}
+use Rattle.basics.proofs.Facts.{AllOf, lie, never, by, by-option}
 use Rattle.blocks.specs.Tuple.{Tuple}
 use Rattle.rows.specs.Rows.{Row}
 use Rattle.model.specs.State.{Held, Page}

@@ -10,10 +10,10 @@ use lib.Dec.{eqb}
 use lib.ListN.{length}
 use Rattle.basics.specs.Basics.{if_then_else_, isEmpty, any}
 use Rattle.basics.proofs.Facts.{by, lie, and-true, AllOf}
-use Rattle.blocks.specs.Tuple.{Tuple}
+use Rattle.blocks.specs.Tuple.{Owner, committed, Tuple}
 use Rattle.rows.specs.Rows.{Row, rowsOf, number}
 use Rattle.model.specs.State.{Held, Page}
-use Rattle.model.specs.Rules.{isRemoving, ripe, ripened, fresh, joins, joined, settleNext, settle, settleFull, listOf, asCommitted, isCommitting, around, calm, splitAll, thaw, thawOn, isPending, isFrozen, isNumber, edit, hasNumber, gone, goneLater, withPending, isAdding, kept, keptLater, remove, removeOn, withTuples, commit, commitOn, freeze}
+use Rattle.model.specs.Rules.{isRemoving, ripe, ripened, fresh, joins, joined, settle, settleNext, settleFull, listOf, commit, asCommitted, isCommitting, around, calm, splitAll, thaw, thawOn, isPending, isFrozen, kept, isNumber, edit, hasNumber, gone, goneLater, withPending, isAdding, keptLater, remove, removeOn, withTuples, commitOn, freeze}
 use Rattle.model.specs.Sight.{rows, held}
 use Rattle.model.specs.Transactions.{isRow}
 use Rattle.model.proofs.Lists.{eqb-true, nothing-left, has-some, here, Pairs, all-map, off-any, pairs-parts}
@@ -125,10 +125,18 @@ entries-settle rest o p ps r =
     empty-page : p .tuples ≡ [] → entries ps ≡ entries (p ∷ ps)
     empty-page e = unfold entries withTable in rw e
 
--- ---- a sublist, whose rows keep table, key and number
+-- ---- a sublist, whose rows keep all but that they may be committed since
+
+pub data Since : Owner → Owner → Type 0 where
+  still : {o : Owner} → Since o o
+  settled : {o : Owner} → Since committed o
+
+since-trans : {a b c : Owner} → Since a b → Since b c → Since a c
+since-trans still t = t
+since-trans settled t = settled
 
 abbrev pub Alike : Row → Row → Type 0
-Alike a b = (a .0 ≡ b .0) × (a .1 .key ≡ b .1 .key) × (a .1 .number ≡ b .1 .number)
+Alike a b = (a .0 ≡ b .0) × (a .1 .key ≡ b .1 .key) × (a .1 .number ≡ b .1 .number) × (a .1 .payload ≡ b .1 .payload) × Since (a .1 .owner) (b .1 .owner)
 
 pub data Sub : List Row → List Row → Type 0 where
   empty : Sub [] []
@@ -137,7 +145,7 @@ pub data Sub : List Row → List Row → Type 0 where
 
 pub sub-refl : (rs : List Row) → Sub rs rs
 sub-refl [] = empty
-sub-refl (r ∷ rs) = take (refl, refl, refl) (sub-refl rs)
+sub-refl (r ∷ rs) = take (refl, refl, refl, refl, still) (sub-refl rs)
 
 sub-append : {xs ys zs ws : List Row} → Sub xs ys → Sub zs ws → Sub (xs ++ zs) (ys ++ ws)
 sub-append empty t = t
@@ -148,7 +156,7 @@ pub sub-trans : {xs ys zs : List Row} → Sub xs ys → Sub ys zs → Sub xs zs
 sub-trans s empty = s
 sub-trans s (skip t) = skip (sub-trans s t)
 sub-trans (skip s) (take e t) = skip (sub-trans s t)
-sub-trans (take f s) (take e t) = take (f .0 ∙ e .0, f .1 ∙ e .1, f .2 ∙ e .2) (sub-trans s t)
+sub-trans (take f s) (take e t) = take (f .0 ∙ e .0, f .1 ∙ e .1, f .2 ∙ e .2, f .3 ∙ e .3, since-trans (f .4) (e .4)) (sub-trans s t)
 
 pub sub-length : {xs ys : List Row} → Sub xs ys → length xs ≤ length ys
 sub-length empty = omega arith
@@ -173,8 +181,8 @@ live-sub [] = empty
 live-sub (e ∷ es) = by (isRemoving (e .1 .pending)) (λ h. rw h (skip (live-sub es))) (λ h. rw h (take (go (isCommitting (e .1 .pending)) refl) (live-sub es)))
   where
     go : (b : Bool) → isCommitting (e .1 .pending) ≡ b → Alike (e .0, ripe (e .1)) (asRow e)
-    go true h = rw h (refl, refl, refl)
-    go false h = rw h (refl, refl, refl)
+    go true h = rw h (refl, refl, refl, refl, settled)
+    go false h = rw h (refl, refl, refl, refl, still)
 
 -- ---- what is done at one page, to all that is entries
 
@@ -253,8 +261,8 @@ amend G n (r ∷ rs) = if isRow n r then G r ++ amend G n rs else r ∷ amend G 
 unfoldable pub away : Row → List Row
 away r = []
 
-unfoldable pub settled : Row → List Row
-settled r = (r .0, asCommitted (r .1)) ∷ []
+unfoldable pub kept-row : Row → List Row
+kept-row r = (r .0, asCommitted (r .1)) ∷ []
 
 abbrev pub Differ : Row → Row → Type 0
 Differ a b = a .1 .number ≢ b .1 .number
@@ -291,7 +299,7 @@ module _ (g : Held → List Held) (G : Row → List Row) (E : Edits g G) (n t : 
   edit-sub [] = empty
   edit-sub (x ∷ xs) =
       by (isNumber n x) (λ h. rw (h, table-append t (g x) xs, plain-append (withTable t (g x))) (sub-append (E .among t x) (sub-refl (plain (withTable t xs)))))
-      (λ h. rw h (take (refl, refl, refl) (edit-sub xs)))
+      (λ h. rw h (take (refl, refl, refl, refl, still) (edit-sub xs)))
 
   edit-live : (ts : List Held) (rest : List Entry) → any (isNumber n) ts ≡ true → Pairs Apart (withTable t ts ++ rest) → live (withTable t (edit g n ts) ++ rest) ≡ amend G n (live (withTable t ts ++ rest))
   unfolding edit withTable live amend any if_then_else_
@@ -354,23 +362,23 @@ unfolding goneLater away withTable live if_then_else_ withPending isRemoving
 goneLater-edits = record {
   dead = λ t x h. by (isAdding (x .pending)) (λ k. rw k) (λ k. rw k);
   alive = λ t x h. by (isAdding (x .pending)) (λ k. rw k) (λ k. rw k);
-  among = λ t x. by (isAdding (x .pending)) (λ k. rw k (skip empty)) (λ k. rw k (take (refl, refl, refl) empty));
+  among = λ t x. by (isAdding (x .pending)) (λ k. rw k (skip empty)) (λ k. rw k (take (refl, refl, refl, refl, still) empty));
 }
 
-kept-edits : Edits kept settled
-unfolding kept settled withTable live if_then_else_ asCommitted ripe withPending
+kept-edits : Edits kept kept-row
+unfolding kept kept-row withTable live if_then_else_ asCommitted ripe withPending
 kept-edits = record {
   dead = λ t x h. rw h;
   alive = λ t x h. by (isCommitting (x .pending)) (λ k. rw (h, k)) (λ k. rw (h, k));
-  among = λ t x. take (refl, refl, refl) empty;
+  among = λ t x. take (refl, refl, refl, refl, settled) empty;
 }
 
-keptLater-edits : Edits keptLater settled
-unfolding keptLater kept settled withTable live if_then_else_ asCommitted ripe withPending isRemoving isCommitting
+keptLater-edits : Edits keptLater kept-row
+unfolding keptLater kept kept-row withTable live if_then_else_ asCommitted ripe withPending isRemoving isCommitting
 keptLater-edits = record {
   dead = λ t x h. by (isAdding (x .pending)) (λ k. rw (k, h)) (λ k. rw (k, h, h));
   alive = λ t x h. by (isAdding (x .pending)) (λ k. by (isCommitting (x .pending)) (λ m. rw (k, h, m)) (λ m. rw (k, h, m))) (λ k. by (isCommitting (x .pending)) (λ m. rw (k, h, m)) (λ m. rw (k, h, m)));
-  among = λ t x. by (isAdding (x .pending)) (λ k. rw k (take (refl, refl, refl) empty)) (λ k. by (isRemoving (x .pending)) (λ m. rw (k, m) (take (refl, refl, refl) empty)) (λ m. rw (k, m) (take (refl, refl, refl) empty)));
+  among = λ t x. by (isAdding (x .pending)) (λ k. rw k (take (refl, refl, refl, refl, settled) empty)) (λ k. by (isRemoving (x .pending)) (λ m. rw (k, m) (take (refl, refl, refl, refl, still) empty)) (λ m. rw (k, m) (take (refl, refl, refl, refl, still) empty)));
 }
 
 -- (equations of lists first: `rw` by a field rewrites the whole record)
@@ -396,11 +404,11 @@ amends-removeOn n o p ps off h =
     (λ f. subst (λ z. Amends away n z (entries (listOf o ++ p ∷ ps))) (sym (entries-remove-frozen n o p ps f)) (amends-here goneLater away goneLater-edits n o p ps off h))
     (λ f. subst (λ z. Amends away n z (entries (listOf o ++ p ∷ ps))) (sym (entries-remove-free n o p ps f)) (amends-here gone away gone-edits n o p ps off h))
 
-amends-commitOn : (n : ℕ) (o : Option Page) (p : Page) (ps : List Page) → AllOf (λ q. hasNumber n q ≡ false) (listOf o) → hasNumber n p ≡ true → Amends settled n (entries (commitOn n o p ps)) (entries (listOf o ++ p ∷ ps))
+amends-commitOn : (n : ℕ) (o : Option Page) (p : Page) (ps : List Page) → AllOf (λ q. hasNumber n q ≡ false) (listOf o) → hasNumber n p ≡ true → Amends kept-row n (entries (commitOn n o p ps)) (entries (listOf o ++ p ∷ ps))
 amends-commitOn n o p ps off h =
     by (p .frozen)
-    (λ f. subst (λ z. Amends settled n z (entries (listOf o ++ p ∷ ps))) (sym (entries-commit-frozen n o p ps f)) (amends-here keptLater settled keptLater-edits n o p ps off h))
-    (λ f. subst (λ z. Amends settled n z (entries (listOf o ++ p ∷ ps))) (sym (entries-commit-free n o p ps f)) (amends-here kept settled kept-edits n o p ps off h))
+    (λ f. subst (λ z. Amends kept-row n z (entries (listOf o ++ p ∷ ps))) (sym (entries-commit-frozen n o p ps f)) (amends-here keptLater kept-row keptLater-edits n o p ps off h))
+    (λ f. subst (λ z. Amends kept-row n z (entries (listOf o ++ p ∷ ps))) (sym (entries-commit-free n o p ps f)) (amends-here kept kept-row kept-edits n o p ps off h))
 
 amends-none : (G : Row → List Row) (n : ℕ) → Amends G n [] []
 unfolding live amend
@@ -410,9 +418,9 @@ pub amends-remove : (n : ℕ) (ps : List Page) → AllOf PageOk ps → Amends aw
 unfolding remove listOf
 amends-remove n ps a = around-held (Amends away n) (hasNumber n) (removeOn n) (amends-none away n) (λ p h a b s. amends-past away n (withTable (p .table) (p .tuples)) a b (hasNumber-off n p h) s) (λ o p ps h k ok. amends-removeOn n o p ps h k) none ps tt a
 
-pub amends-commit : (n : ℕ) (ps : List Page) → AllOf PageOk ps → Amends settled n (entries (commit n ps)) (entries ps)
+pub amends-commit : (n : ℕ) (ps : List Page) → AllOf PageOk ps → Amends kept-row n (entries (commit n ps)) (entries ps)
 unfolding commit listOf
-amends-commit n ps a = around-held (Amends settled n) (hasNumber n) (commitOn n) (amends-none settled n) (λ p h a b s. amends-past settled n (withTable (p .table) (p .tuples)) a b (hasNumber-off n p h) s) (λ o p ps h k ok. amends-commitOn n o p ps h k) none ps tt a
+amends-commit n ps a = around-held (Amends kept-row n) (hasNumber n) (commitOn n) (amends-none kept-row n) (λ p h a b s. amends-past kept-row n (withTable (p .table) (p .tuples)) a b (hasNumber-off n p h) s) (λ o p ps h k ok. amends-commitOn n o p ps h k) none ps tt a
 
 -- ---- freezing and thawing change no row
 

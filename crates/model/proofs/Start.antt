@@ -15,14 +15,14 @@ use Rattle.blocks.specs.declared.Header.{Header}
 use Rattle.rows.specs.Rows.{isOwn}
 use Rattle.image.specs.Stages.{StoredPage, readPages, addPage, pageOk, blockOk, capacityLimit, directoryBlocks, headerOk, entriesOk, rowsOfPages}
 use Rattle.image.specs.View.{View}
-use Rattle.model.specs.State.{Store}
-use Rattle.model.specs.Sight.{held}
+use Rattle.model.specs.State.{Store, idle}
+use Rattle.model.specs.Sight.{held, rows}
 use Rattle.model.specs.Recover.{loaded, recoveredStore}
 use Rattle.model.proofs.Views.{AllSane, Sane}
 use Rattle.model.proofs.Lists.{some-eq, leb-true, in-head, not-true, all-map, in-weak, all-split, every-all, eqb-true, all-mapped, in-append, in-all, all-append}
 use Rattle.model.proofs.Owners.{in-transactions}
 use Rattle.model.proofs.Recovery.{Found, read-blocks, found}
-use Rattle.model.proofs.Inv.{listed-held, listed, listed-read, Tied, Ready, Inv}
+use Rattle.model.proofs.Inv.{listed, listed-held, listed-read, Tied, Ready, Inv}
 use Rattle.model.proofs.Steps.{loaded-content, bare-calm}
 
 -- a page that was read stands in its block
@@ -126,3 +126,14 @@ start-store n v s two sane f rd =
 pub start-inv : (n : ℕ) (v : View) (s : Store) → 2 ≤ n → AllSane v → Found n v s → Ready s → Inv n v s s s
 start-inv n v s two sane f rd = subst (λ z. Inv n v z z z) (f .store) (start-store n v s two sane f (subst Ready (sym (f .store)) rd))
 
+-- the transactions of its rows are open, and nothing runs
+pub start-active : (n : ℕ) (v : View) (s : Store) → Found n v s → rows (s .pages) ≡ held (s .pages) → (u : ℕ) → isIn u (s .active) ≡ any (isOwn u) (rows (s .pages))
+start-active n v s f e u = subst (λ z. rows (z .pages) ≡ held (z .pages) → isIn u (z .active) ≡ any (isOwn u) (rows (z .pages))) (f .store) loaded-active e
+  where
+    loaded-active : rows (recoveredStore (f .head) (f .pages) .pages) ≡ held (recoveredStore (f .head) (f .pages) .pages)
+        → isIn u (recoveredStore (f .head) (f .pages) .active) ≡ any (isOwn u) (rows (recoveredStore (f .head) (f .pages) .pages))
+    loaded-active = unfold recoveredStore in λ e. in-transactions u (rowsOfPages (f .pages)) ∙ ap (any (isOwn u)) (sym (e ∙ loaded-held (f .pages)))
+
+pub start-idle : (n : ℕ) (v : View) (s : Store) → Found n v s → s .checkpoint ≡ idle
+unfolding recoveredStore
+start-idle n v s f = ap (λ z. z .checkpoint) (sym (f .store))

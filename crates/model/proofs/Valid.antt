@@ -11,11 +11,11 @@ use Rattle.basics.proofs.Facts.{AllOf, by, lie}
 use Rattle.blocks.specs.Limits.{mostNumber}
 use Rattle.blocks.specs.Tuple.{Owner, committed, tentative, Tuple, isTentative}
 use Rattle.rows.specs.Rows.{Row, number, ownerAfter, statementOk, markOk, startsWell, isAt, isBy, earlierBy, statementIs, isOwn}
+use Rattle.image.specs.Stages.{capacityLimit}
 use Rattle.model.specs.State.{Store, idle}
 use Rattle.model.specs.Sight.{held, rows, isForeign}
 use Rattle.model.proofs.Lists.{Pairs, all-parts, pairs-insert, all-two, all-map, all-insert, length-insert, lt-false, and-no, many-ext, le-true, and-yes, many-insert, eqb-self, keep-append, keep-cons, keep-none, keep-past, any-keep}
 use Rattle.model.proofs.Frozen.{images}
-use Rattle.model.proofs.Steps.{still}
 use Rattle.model.proofs.Sound.{PageOk}
 use Rattle.model.proofs.Rows.{Differ, Alike, Sub, sub-pairs, sub-all, sub-length}
 use Rattle.model.proofs.Placing.{Before, NotAbove, Above}
@@ -53,6 +53,7 @@ pub record Valid (s : Store) : Type 0 where
   pub sees : LiveOk (s .active) (rows (s .pages))
   pub opened : length (s .active) ≤ 64
   pub nx : s .next ≤ mostNumber
+  pub cap : s .capacity ≤ capacityLimit
 
 -- ---- what is held: fewer rows
 

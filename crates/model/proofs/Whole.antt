@@ -5,19 +5,19 @@ use native.Mathlib.Omega.{arith}
 use mathlib.Core.Bool.{false, true}
 use mathlib.Core.List.{List, [], _∷_, map}
 use lib.Dec.{leb}
-use lib.ListN.{length-map, length, length-append}
+use lib.ListN.{length, length-map, length-append}
 use lib.Pow.{low}
 use Rattle.basics.specs.Basics.{if_then_else_, all, isEmpty, any, isIn, every, distinct, sum, paired}
 use Rattle.basics.proofs.Facts.{AllOf, lie, by}
 use Rattle.blocks.specs.Block.{PageFits}
 use Rattle.blocks.specs.Limits.{recordSpace, mostNumber}
-use Rattle.blocks.specs.Tuple.{Tuple, AllFit, size, sizes, Fits, Owner, ownerSize, committed, tentative}
+use Rattle.blocks.specs.Tuple.{Tuple, AllFit, sizes, size, Fits, Owner, ownerSize, committed, tentative}
 use Rattle.blocks.specs.declared.Header.{Header}
 use Rattle.rows.specs.Rows.{rowsOf, Row, isOwn, openLimit, rowsOk, transactions, markOk, statementOk, number, isBelow, isBy, follows, startsWell}
-use Rattle.image.specs.Stages.{StoredPage, rowsOfPages}
+use Rattle.image.specs.Stages.{StoredPage, rowsOfPages, capacityLimit}
 use Rattle.image.specs.View.{View}
 use Rattle.model.specs.State.{Held, Page, Store, idle}
-use Rattle.model.specs.Rules.{ripe, ripened, isRemoving, isCommitting, calm, shown, heldSize}
+use Rattle.model.specs.Rules.{ripened, ripe, isRemoving, isCommitting, calm, shown, heldSize}
 use Rattle.model.specs.Sight.{rows, held}
 use Rattle.model.specs.Recover.{loaded, recoveredStore}
 use Rattle.model.specs.QuotedLine.{content}
@@ -27,8 +27,7 @@ use Rattle.model.proofs.Owners.{pigeon, transactions-distinct, in-trans
 use Rattle.model.proofs.Frozen.{bare, shown-calm, images}
 use Rattle.model.proofs.Recovery.{Found}
 use Rattle.model.proofs.Inv.{Ready}
-use Rattle.model.proofs.Steps.{still}
-use Rattle.model.proofs.Start.{Read, loaded-held, head-range, pages-read}
+use Rattle.model.proofs.Start.{Read, loaded-held, head-range, headed, pages-read}
 use Rattle.model.proofs.Sound.{Calm, PageOk, small}
 use Rattle.model.proofs.Placing.{page-full}
 use Rattle.model.proofs.Valid.{Opened, HeldOk, LiveOk, Valid}
@@ -214,9 +213,9 @@ module _ (most nx : ℕ) (rs : List Row) (ok : rowsOk most nx rs ≡ true) where
 abbrev pub Fitting : Store → Type 0
 Fitting s = AllOf (λ r. Fits (r .1)) (held (s .pages))
 
-loaded-valid : (h : Header) (ps : List StoredPage) → h .next ≤ mostNumber → rowsOk (h .capacity) (h .next) (rowsOfPages ps) ≡ true → AllOf Tested ps → Valid (recoveredStore h ps) × Fitting (recoveredStore h ps)
+loaded-valid : (h : Header) (ps : List StoredPage) → h .next ≤ mostNumber → h .capacity ≤ capacityLimit → rowsOk (h .capacity) (h .next) (rowsOfPages ps) ≡ true → AllOf Tested ps → Valid (recoveredStore h ps) × Fitting (recoveredStore h ps)
 unfolding recoveredStore
-loaded-valid h ps nx ok t =
+loaded-valid h ps nx cap ok t =
     let rs = rowsOfPages ps in
     let e = loaded-held ps in
     let pages = all-mapped PageOk loaded ps (all-map Tested _ loaded-ok ps t) in
@@ -228,6 +227,7 @@ loaded-valid h ps nx ok t =
         sees = subst (LiveOk (transactions rs)) (sym (rows-free (map loaded ps) (free-loaded ps) pages ∙ e)) (tested-live (h .capacity) (h .next) rs ok);
         opened = tested-few (h .capacity) (h .next) rs ok;
         nx = nx;
+        cap = cap;
       },
       subst (AllOf (λ r. Fits (r .1))) (sym e) (all-map _ _ (λ r k. k .1) rs r),
     )
@@ -236,5 +236,5 @@ pub starts : (n : ℕ) (v : View) (s : Store) → AllSane v → Found n v s → 
 starts n v s sane f =
     let h = f .head in
     subst (λ z. Valid z × Fitting z) (f .store)
-    (loaded-valid h (f .pages) (head-range v h sane (f .top) .1) (f .rows-ok)
+    (loaded-valid h (f .pages) (head-range v h sane (f .top) .1) (headed n h (f .head-ok) .cap .1) (f .rows-ok)
     (all-map (Read v (h .level) (f .entries)) Tested (tested v (h .level) (f .entries) sane) (f .pages) (pages-read v (h .level) (f .entries) (f .pages) (f .read))))

@@ -1,0 +1,67 @@
+-- The claims on views, with no assumption left.
+use mathlib.Core.Path.{_≡_, refl, _∙_}
+use Prim.Native.Nat.{_≤_}
+use mathlib.Core.List.{[], List, _∷_}
+use Rattle.basics.proofs.Facts.{AllOf}
+use Rattle.image.specs.Stages.{holds}
+use Rattle.image.specs.View.{View}
+use Rattle.model.specs.State.{Store}
+use Rattle.model.specs.Calls.{afterCalls, Call, AllTyped, Typed}
+use Rattle.model.specs.QuotedLine.{log, Same}
+use Rattle.model.proofs.Views.{AllSane, recoverView, CutV, WriteOk, CrashViews, WritesOk}
+use Rattle.model.proofs.Recovery.{Found, found}
+use Rattle.model.proofs.Inv.{Ready, Inv}
+use Rattle.model.proofs.Crash.{main}
+use Rattle.model.proofs.Start.{start-idle, start-inv, start-active}
+use Rattle.model.proofs.Valid.{Valid}
+use Rattle.model.proofs.Keeps.{keeps, step-valid}
+use Rattle.model.proofs.Whole.{Fitting, starts, ready}
+use Rattle.model.proofs.Tally.{writers-law}
+use Rattle.model.proofs.Range.{keeps-fits, step-fits, frozen-fit}
+
+module _ (v : View) (sane : AllSane v) (s : Store) (two : 2 ≤ s .blocks) (e : recoverView (s .blocks) v ≡ holds s) where
+  at-start : Found (s .blocks) v s
+  at-start = found (s .blocks) v s e
+
+  start-valid : Valid s × Fitting s
+  start-valid = starts (s .blocks) v s sane at-start
+
+  start-ready : Ready s
+  start-ready = ready s (start-valid .0) (start-idle (s .blocks) v s at-start)
+
+  start-now : Inv (s .blocks) v s (afterCalls [] s) (afterCalls [] s)
+  unfolding afterCalls
+  start-now = start-inv (s .blocks) v s two sane at-start start-ready
+
+  all-calls : (calls : List Call) → AllOf (λ c. Unit {0}) calls
+  all-calls [] = tt
+  all-calls (c ∷ calls) = (tt, all-calls calls)
+
+  start-after : s ≡ afterCalls [] s
+  unfolding afterCalls
+  start-after = refl
+
+  recovers-cut : (calls : List Call) (v′ : View) (base : List Call) → CutV v [] (log [] [] s calls) v′ base → (r : Store) × (recoverView (s .blocks) v′ ≡ holds r) × Same r s base
+  recovers-cut calls v′ base cut =
+      let g = main (s .blocks) s (λ c. Unit {0}) Valid (λ c t o k. keeps c t k) step-valid ready calls [] [] [] v s start-after (all-calls calls) (start-valid .0) start-now in
+      let r = g .safe v′ base cut in
+      (r .0, r .1, record {
+        pages = r .2 .pages;
+        next = r .2 .next;
+        writers = λ tx. r .2 .active tx ∙ writers-law s (start-valid .0) (start-active (s .blocks) v s at-start (start-ready .same)) base tx;
+      })
+
+  typed-calls : (calls : List Call) → AllTyped calls → AllOf Typed calls
+  typed-calls [] a = tt
+  typed-calls (c ∷ calls) a = (a .0, typed-calls calls (a .1))
+
+  writes-range : s .blocks ≤ 4096 → (calls : List Call) → AllTyped calls → AllOf (WriteOk (s .blocks)) (log [] [] s calls)
+  writes-range most calls a =
+      main (s .blocks) s Typed (λ t. Valid t × Fitting t) (λ c t o k. (keeps c t (k .0), keeps-fits c t o (k .0) (k .1))) (λ t k. (step-valid t (k .0), step-fits t (k .0) (k .1)))
+      (λ t k. ready t (k .0)) calls [] [] [] v s start-after (typed-calls calls a) start-valid start-now .ranged most (λ t k. frozen-fit t (k .0) (k .1))
+
+pub crash-views : CrashViews
+crash-views v sane s two e calls v′ base cut = recovers-cut v sane s two e calls v′ base cut
+
+pub writes-ok : WritesOk
+writes-ok v sane s two most e calls a = writes-range v sane s two e most calls a
