@@ -3,7 +3,6 @@ pub mod Traps
 pub mod Cuts
 pub mod Bytes
 pub mod Capacity
-pub mod Ranged
 pub mod Line
 pub mod Views
 pub mod Lists
