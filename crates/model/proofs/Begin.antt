@@ -52,7 +52,7 @@ in-own : (ps : List Page) → AllOf (λ p. isIn (p .block) (map (λ p. p .block)
 in-own [] = tt
 in-own (p ∷ ps) = (in-head (p .block) _, all-map _ _ (λ q h. in-weak (q .block) (p .block) _ h) ps (in-own ps))
 
-pub dirty-count : (ps : List Page) → howMany isDirty ps ≡ length (images (map freeze ps))
+dirty-count : (ps : List Page) → howMany isDirty ps ≡ length (images (map freeze ps))
 unfolding howMany images freeze if_then_else_
 dirty-count [] = refl
 dirty-count (p ∷ ps) = by (isDirty p) (λ h. rw (h, dirty-count ps)) (λ h. rw (h, dirty-count ps))
@@ -107,7 +107,8 @@ ok-distinct cap nx ps h = every-all _ h .1 .1 .0
 
 module _ (img : View) (l : ℕ) (pool : ℕ → Bool) where
   -- two pages that stand in one block have the same tuples
-  one-block : (p q : Page) → Tied img l pool p → Tied img l pool q → Calm p → Calm q → 0 < p .block → p .block ≡ q .block → bare (p .tuples) ≡ bare (q .tuples)
+  one-block : (p q : Page) → Tied img l pool p → Tied img l pool q → Calm p → Calm q → 0 < p .block → p .block ≡ q .block
+      → bare (p .tuples) ≡ bare (q .tuples)
   one-block p q t u c d h e =
       let v = t (tied-clean p c h) in
       let w = u (tied-clean q d (subst (λ b. 0 < b) e h)) in
@@ -116,7 +117,8 @@ module _ (img : View) (l : ℕ) (pool : ℕ → Bool) where
       same-page : {t k u j : ℕ} {xs ys : List Tuple} → page t k xs ≡ page u j ys → xs ≡ ys
       same-page e = cc
 
-  other-blocks : (p : Page) (x : Tuple) (xs : List Tuple) (ps : List Page) (ns : List ℕ) → Tied img l pool p → Calm p → 0 < p .block → bare (p .tuples) ≡ x ∷ xs
+  other-blocks : (p : Page) (x : Tuple) (xs : List Tuple) (ps : List Page) (ns : List ℕ) → Tied img l pool p → Calm p → 0 < p .block
+      → bare (p .tuples) ≡ x ∷ xs
       → AllOf (Tied img l pool) ps → AllOf Calm ps → AllOf (Shows ns) ps → isIn (x .number) ns ≡ false → isIn (p .block) (map (λ p. p .block) ps) ≡ false
   unfolding isIn any
   other-blocks p x xs [] ns t c h e ts cs f g = refl
@@ -125,7 +127,8 @@ module _ (img : View) (l : ℕ) (pool : ℕ → Bool) where
       (λ k. lie (sym g ∙ f .0 x xs (sym (one-block p q t (ts .0) c (cs .0) h (eqb-true (p .block) (q .block) k)) ∙ e)))
       (λ k. rw (k, any) (other-blocks p x xs ps ns t c h e (ts .1) (cs .1) (f .1) g))
 
-  blocks-apart : (ps : List Page) → AllOf (Tied img l pool) ps → AllOf Calm ps → AllOf (λ c. isEmpty (c .1) ≡ false) (map content ps) → distinct (numbers ps) ≡ true
+  blocks-apart : (ps : List Page) → AllOf (Tied img l pool) ps → AllOf Calm ps → AllOf (λ c. isEmpty (c .1) ≡ false) (map content ps)
+      → distinct (numbers ps) ≡ true
       → Apart (map (λ p. p .block) ps)
   unfolding isEmpty content
   blocks-apart [] t c s d = tt

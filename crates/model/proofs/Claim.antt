@@ -41,15 +41,19 @@ module _ (v : View) (sane : AllSane v) (s : Store) (two : 2 ≤ s .blocks) (e : 
   unfolding afterCalls
   start-after = refl
 
-  recovers-cut : (calls : List Call) (v′ : View) (base : List Call) → CutV v [] (log [] [] s calls) v′ base → (r : Store) × (recoverView (s .blocks) v′ ≡ holds r) × Same r s base
+  recovers-cut : (calls : List Call) (v′ : View) (base : List Call) → CutV v [] (log [] [] s calls) v′ base
+      → (r : Store) × (recoverView (s .blocks) v′ ≡ holds r) × Same r s base
   recovers-cut calls v′ base cut =
       let g = main (s .blocks) s (λ c. Unit {0}) Valid (λ c t o k. keeps c t k) step-valid ready calls [] [] [] v s start-after (all-calls calls) (start-valid .0) start-now in
-      let r = g .safe v′ base cut in
-      (r .0, r .1, record {
-        pages = r .2 .pages;
-        next = r .2 .next;
-        writers = λ tx. r .2 .active tx ∙ writers-law s (start-valid .0) (start-active (s .blocks) v s at-start (start-ready .same)) base tx;
-      })
+      let r = g .safe v′ base cut in (
+        r .0,
+        r .1,
+        record {
+          pages = r .2 .pages;
+          next = r .2 .next;
+          writers = λ tx. r .2 .active tx ∙ writers-law s (start-valid .0) (start-active (s .blocks) v s at-start (start-ready .same)) base tx;
+        },
+      )
 
   typed-calls : (calls : List Call) → AllTyped calls → AllOf Typed calls
   typed-calls [] a = tt

@@ -1,4 +1,4 @@
--- Commit and abort keep what hasNumber of the live rows.
+-- Commit and abort keep what holds of the live rows.
 use mathlib.Core.Path.{_≡_, ap, refl, _∙_, ap₂, sym, subst}
 use Prim.Native.Nat.{ℕ, _+_}
 use mathlib.Core.Bool.{false, Bool, true, not}
@@ -28,19 +28,22 @@ unfolding gather
 gather-all P F [] h = tt
 gather-all P F (r ∷ rs) h = all-append P (F r) (gather F rs) (h .0) (gather-all P F rs (h .1))
 
-all-swap : (R : Row → Row → Type 0) (F : Row → List Row) (xs rs : List Row) → AllOf (λ r. AllOf (λ a. AllOf (R a) (F r)) xs) rs → AllOf (λ a. AllOf (R a) (gather F rs)) xs
+all-swap : (R : Row → Row → Type 0) (F : Row → List Row) (xs rs : List Row) → AllOf (λ r. AllOf (λ a. AllOf (R a) (F r)) xs) rs
+    → AllOf (λ a. AllOf (R a) (gather F rs)) xs
 all-swap R F [] rs h = tt
 all-swap R F (a ∷ xs) rs h = (
   gather-all (R a) F rs (all-map (λ r. AllOf (λ a. AllOf (R a) (F r)) (a ∷ xs)) (λ r. AllOf (R a) (F r)) (λ r k. k .0) rs h),
   all-swap R F xs rs (all-map (λ r. AllOf (λ a. AllOf (R a) (F r)) (a ∷ xs)) (λ r. AllOf (λ a. AllOf (R a) (F r)) xs) (λ r k. k .1) rs h),
 )
 
-pairs-gather : (R : Row → Row → Type 0) (F : Row → List Row) (rs : List Row) → AllOf (λ r. Pairs R (F r)) rs → Pairs (λ r q. AllOf (λ a. AllOf (R a) (F q)) (F r)) rs → Pairs R (gather F rs)
+pairs-gather : (R : Row → Row → Type 0) (F : Row → List Row) (rs : List Row) → AllOf (λ r. Pairs R (F r)) rs
+    → Pairs (λ r q. AllOf (λ a. AllOf (R a) (F q)) (F r)) rs → Pairs R (gather F rs)
 unfolding gather
 pairs-gather R F [] s p = tt
 pairs-gather R F (r ∷ rs) s p = pairs-append R (F r) (gather F rs) (s .0) (pairs-gather R F rs (s .1) (p .1)) (all-swap R F (F r) rs (p .0))
 
-pub many-gather : (f : Row → Bool) (F : Row → List Row) (rs : List Row) → AllOf (λ r. howMany f (F r) ≡ howMany f (r ∷ [])) rs → howMany f (gather F rs) ≡ howMany f rs
+pub many-gather : (f : Row → Bool) (F : Row → List Row) (rs : List Row) → AllOf (λ r. howMany f (F r) ≡ howMany f (r ∷ [])) rs
+    → howMany f (gather F rs) ≡ howMany f rs
 unfolding gather
 many-gather f F [] h = refl
 many-gather f F (r ∷ rs) h = many-append f (F r) (gather F rs) ∙ ap₂ (λ a b. a + b) (h .0) (many-gather f F rs (h .1)) ∙ sym (many-append f (r ∷ []) rs)
@@ -65,7 +68,8 @@ gather-cons : (F : Row → List Row) (r : Row) (rs : List Row) → gather F (r �
 unfolding gather
 gather-cons F r rs = refl
 
-keep-gather : (f : Row → Bool) (F : Row → List Row) (rs : List Row) → AllOf (λ r. AllOf (λ a. f a ≡ f r) (F r)) rs → keep f (gather F rs) ≡ gather F (keep f rs)
+keep-gather : (f : Row → Bool) (F : Row → List Row) (rs : List Row) → AllOf (λ r. AllOf (λ a. f a ≡ f r) (F r)) rs
+    → keep f (gather F rs) ≡ gather F (keep f rs)
 keep-gather f F [] h = unfold gather keep in refl
 keep-gather f F (r ∷ rs) h =
     let ih = keep-gather f F rs (h .1) in
@@ -125,7 +129,8 @@ module _ (tx : ℕ) (os : List ℕ) (rs : List Row) (L : LiveOk os rs) (F : Row 
   came-all : (P : Row → Type 0) → ((r a : Row) → Mem r rs → Comes tx r a → P a) → AllOf P (gather F rs)
   came-all P f = gather-all P F rs (all-mem _ rs (λ r m. all-map (Comes tx r) P (λ a c. f r a m c) (F r) (comes r m)))
 
-  pub closing : AllOf (λ r. Pairs Chain (F r)) rs → Pairs (λ r q. AllOf (λ a. AllOf (Chain a) (F q)) (F r)) rs → ((t k : ℕ) → startsWell (keep (isAt t k) (gather F rs)) ≡ true) → LiveOk (others tx os) (gather F rs)
+  closing : AllOf (λ r. Pairs Chain (F r)) rs → Pairs (λ r q. AllOf (λ a. AllOf (Chain a) (F q)) (F r)) rs
+      → ((t k : ℕ) → startsWell (keep (isAt t k) (gather F rs)) ≡ true) → LiveOk (others tx os) (gather F rs)
   closing one two hs = record {
     chain = pairs-gather Chain F rs one two;
     counted = came-all (λ a. statementOk (gather F rs) a ≡ true) came-counted;
@@ -140,7 +145,7 @@ module _ (tx : ℕ) (os : List ℕ) (rs : List Row) (L : LiveOk os rs) (F : Row 
   came-at t k r a (as-is n) = refl
   came-at t k r a (final p q o z) = rw (p, q)
 
-  pub keep-came : (t k : ℕ) → keep (isAt t k) (gather F rs) ≡ gather F (keep (isAt t k) rs)
+  keep-came : (t k : ℕ) → keep (isAt t k) (gather F rs) ≡ gather F (keep (isAt t k) rs)
   keep-came t k = keep-gather (isAt t k) F rs (all-mem _ rs (λ r m. all-map (Comes tx r) (λ a. isAt t k a ≡ isAt t k r) (λ a c. came-at t k r a c) (F r) (comes r m)))
 
 -- ---- pairs and members
@@ -175,7 +180,8 @@ gather-none F (r ∷ rs) h = rw (h .0) (gather-none F rs (h .1))
 
 -- ---- commit
 
-verdict-all : (P : Row → Type 0) (o : Option Row) (r : Row) → (o ≡ none → P r) → ((x : Row) → o ≡ some x → x .1 .mark ≡ false → isRow (number x) r ≡ true → P (x .0, asCommitted (x .1))) → AllOf P (verdict o r)
+verdict-all : (P : Row → Type 0) (o : Option Row) (r : Row) → (o ≡ none → P r)
+    → ((x : Row) → o ≡ some x → x .1 .mark ≡ false → isRow (number x) r ≡ true → P (x .0, asCommitted (x .1))) → AllOf P (verdict o r)
 unfolding verdict
 verdict-all P none r f g = (f refl, tt)
 verdict-all P (some x) r f g = go (x .1 .mark) refl (isRow (number x) r) refl
@@ -219,7 +225,8 @@ module _ (tx : ℕ) (os : List ℕ) (rs : List Row) (L : LiveOk os rs) (D : Pair
       came x r p q m = unfold asCommitted in final p q refl m
 
   -- tentative rows of another transaction have no own row at their key
-  clash : (o o′ : Owner) (u s v : ℕ) → o ≡ tentative u s → o′ ≡ tentative tx v → eqb u tx ≡ false → (ownerAfter o o′ ≡ true → ⊥) × (ownerAfter o′ o ≡ true → ⊥)
+  clash : (o o′ : Owner) (u s v : ℕ) → o ≡ tentative u s → o′ ≡ tentative tx v → eqb u tx ≡ false
+      → (ownerAfter o o′ ≡ true → ⊥) × (ownerAfter o′ o ≡ true → ⊥)
   unfolding ownerAfter
   clash o o′ u s v e f n = (
     λ h. lie (sym n ∙ (sym (ap₂ ownerAfter e f) ∙ h)),
@@ -307,7 +314,8 @@ module _ (tx : ℕ) (os : List ℕ) (rs : List Row) (L : LiveOk os rs) (D : Pair
   unfolding isOwn
   own-next r q c o = own-after (r .1 .owner) (q .1 .owner) o c
 
-  abort-starts : (t k : ℕ) (K : List Row) → AllOf (λ r. isAt t k r ≡ true) K → Pairs Chain K → startsWell K ≡ true → startsWell (gather (afterAbort tx) K) ≡ true
+  abort-starts : (t k : ℕ) (K : List Row) → AllOf (λ r. isAt t k r ≡ true) K → Pairs Chain K → startsWell K ≡ true
+      → startsWell (gather (afterAbort tx) K) ≡ true
   abort-starts t k [] a p h = unfold gather startsWell in refl
   abort-starts t k (r ∷ K) a p h =
       by (isOwn tx r)

@@ -185,7 +185,8 @@ step-inv n img s b b₀ inv = go (s .checkpoint) (inv .phase)
 
 -- ---- the stores of a list of calls: every cut recovers, and every block written is in range
 
-landed-after : (c : Bool) (base base₀ : List Call) (s₀ : Store) → (if c then afterCalls base s₀ else afterCalls base₀ s₀) ≡ afterCalls (if c then base else base₀) s₀
+landed-after : (c : Bool) (base base₀ : List Call) (s₀ : Store)
+    → (if c then afterCalls base s₀ else afterCalls base₀ s₀) ≡ afterCalls (if c then base else base₀) s₀
 unfolding if_then_else_
 landed-after true base base₀ s₀ = refl
 landed-after false base base₀ s₀ = refl
@@ -200,19 +201,22 @@ module _ (n : ℕ) (s₀ : Store) (Okay : Call → Type 0) (Valid : Store → Ty
     (keeps : (c : Call) (s : Store) → Okay c → Valid s → Valid (call c s .store)) (steps-keep : (s : Store) → Valid s → Valid (stepAt (s .checkpoint) s .store))
     (ready : (s : Store) → Valid s → s .checkpoint ≡ idle → Ready s) where
   pub record Goes (img : View) (base₀ : List Call) (ws : List Logged) : Type 0 where
-    pub safe : (img′ : View) (base′ : List Call) → CutV img base₀ ws img′ base′ → (r : Store) × (recoverView n img′ ≡ holds r) × Like r (afterCalls base′ s₀)
+    pub safe : (img′ : View) (base′ : List Call) → CutV img base₀ ws img′ base′
+        → (r : Store) × (recoverView n img′ ≡ holds r) × Like r (afterCalls base′ s₀)
     pub ranged : n ≤ 4096 → ((s : Store) → Valid s → FrozenFit s) → AllOf (WriteOk n) ws
 
   abbrev Now : View → Store → List Call → List Call → Type 0
   Now img s base base₀ = Inv n img s (afterCalls base s₀) (afterCalls base₀ s₀)
 
-  good-safe : (img : View) (used : ℕ → Bool) (base₀ : List Call) → Good n img used (afterCalls base₀ s₀) → (r : Store) × (recoverView n img ≡ holds r) × Like r (afterCalls base₀ s₀)
+  good-safe : (img : View) (used : ℕ → Bool) (base₀ : List Call) → Good n img used (afterCalls base₀ s₀)
+      → (r : Store) × (recoverView n img ≡ holds r) × Like r (afterCalls base₀ s₀)
   good-safe img used base₀ g = (g .back, recovers n img (g .back) (g .found), g .like)
 
   goes-nil : (img : View) (used : ℕ → Bool) (base₀ : List Call) → Good n img used (afterCalls base₀ s₀) → Goes img base₀ []
   goes-nil img used base₀ g = record { safe = cuts; ranged = λ m f. tt }
     where
-      cuts : (img′ : View) (base′ : List Call) → CutV img base₀ [] img′ base′ → (r : Store) × (recoverView n img′ ≡ holds r) × Like r (afterCalls base′ s₀)
+      cuts : (img′ : View) (base′ : List Call) → CutV img base₀ [] img′ base′
+          → (r : Store) × (recoverView n img′ ≡ holds r) × Like r (afterCalls base′ s₀)
       cuts img′ base′ stop = good-safe img used base₀ g
 
   goes-cons : (img : View) (used : ℕ → Bool) (base₀ : List Call) (w : Logged) (ws : List Logged) → Good n img used (afterCalls base₀ s₀)
@@ -221,12 +225,14 @@ module _ (n : ℕ) (s₀ : Store) (Okay : Call → Type 0) (Valid : Store → Ty
       → Goes (put img (w .write .at) (w .write .what)) (landed w base₀) ws → Goes img base₀ (w ∷ ws)
   goes-cons img used base₀ w ws g t ok r = record { safe = cuts; ranged = λ m f. (ok m f, r .ranged m f) }
     where
-      cuts : (img′ : View) (base′ : List Call) → CutV img base₀ (w ∷ ws) img′ base′ → (r : Store) × (recoverView n img′ ≡ holds r) × Like r (afterCalls base′ s₀)
+      cuts : (img′ : View) (base′ : List Call) → CutV img base₀ (w ∷ ws) img′ base′
+          → (r : Store) × (recoverView n img′ ≡ holds r) × Like r (afterCalls base′ s₀)
       cuts img′ base′ stop = good-safe img used base₀ g
       cuts img′ base′ (torn h x) = good-safe (put img (w .write .at) x) used base₀ (t h x)
       cuts img′ base′ (whole c) = r .safe img′ base′ c
 
-  step-goes : (img : View) (s : Store) (base base₀ : List Call) (o : Outcome) (more : List Write) (rest : List Logged) → Valid s → Now img s base base₀
+  step-goes : (img : View) (s : Store) (base base₀ : List Call) (o : Outcome) (more : List Write) (rest : List Logged) → Valid s
+      → Now img s base base₀
       → Stepped n img s (afterCalls base s₀) (afterCalls base₀ s₀) o
       → ((img′ : View) (base₀′ : List Call) → Now img′ (o .store) base base₀′ → Goes img′ base₀′ (map (tag base) more ++ rest))
       → Goes img base₀ (map (tag base) (o .writes ++ more) ++ rest)
@@ -273,7 +279,8 @@ module _ (n : ℕ) (s₀ : Store) (Okay : Call → Type 0) (Valid : Store → Ty
       (record { answer = count k; store = inTurn k s .store; writes = inTurn k s .writes })
       (λ r. r img base₀ inv) (λ r. turn-goes k img s base base₀ _ v inv r) r
 
-  quietly : (c : Call) (img : View) (s : Store) (past base base₀ : List Call) (cs : List Call) → isBegin c ≡ false → Quiet img s (call c s) → Now img s base base₀
+  quietly : (c : Call) (img : View) (s : Store) (past base base₀ : List Call) (cs : List Call) → isBegin c ≡ false → Quiet img s (call c s)
+      → Now img s base base₀
       → Rest (past ++ c ∷ []) base (call c s .store) cs → Goes img base₀ (log past base s (c ∷ cs))
   unfolding log if_then_else_
   quietly c img s past base base₀ cs h q inv r =

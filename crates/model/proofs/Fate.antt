@@ -7,13 +7,13 @@ use mathlib.Core.Logic.{_≢_}
 use mathlib.Core.Option.{Option, none, some}
 use lib.Dec.{eqb}
 use Rattle.basics.specs.Basics.{if_then_else_, keep, any, last}
-use Rattle.basics.proofs.Facts.{by, AllOf, and-true, lie, by-option, never}
+use Rattle.basics.proofs.Facts.{by, AllOf, and-true, lie, never, by-option}
 use Rattle.rows.specs.Rows.{Row, number, isAt, isOwn}
 use Rattle.model.specs.State.{Page}
 use Rattle.model.specs.Rules.{asCommitted, remove, commit}
 use Rattle.model.specs.Sight.{rows, held}
 use Rattle.model.specs.Transactions.{Op, toCommit, isRow, toRemove, perform, removeAll, planKey, ownAt, planRows}
-use Rattle.model.proofs.Lists.{Pairs, Mem, here, all-map, there, mem-all, eqb-self, eqb-true, all-keep, all-mem, all-append, mem-keep}
+use Rattle.model.proofs.Lists.{Pairs, Mem, here, all-map, there, mem-all, eqb-self, eqb-true, all-keep, all-mem, all-append, mem-keep, any-off, last-off}
 use Rattle.model.proofs.Sound.{PageOk, perform-ok}
 use Rattle.model.proofs.Rows.{amend, away, kept-row, Alike, Differ, Entry, Sub, plain, live, entries, sub-refl, amends-commit, sub-pairs, sub-trans, pairs-plain, amends-remove, held-plain, rows-live}
 
@@ -51,7 +51,8 @@ differ-alike a b c d e f h k = h (sym (e .2) ∙ k ∙ f .2)
 abbrev Performed : List Op → List Entry → List Entry → Type 0
 Performed os a b = Sub (plain a) (plain b) × (live a ≡ gather (fate os) (live b))
 
-perform-entries : (os : List Op) (ps : List Page) → AllOf PageOk ps → Pairs Differ (plain (entries ps)) → Performed os (entries (perform os ps)) (entries ps)
+perform-entries : (os : List Op) (ps : List Page) → AllOf PageOk ps → Pairs Differ (plain (entries ps))
+    → Performed os (entries (perform os ps)) (entries ps)
 unfolding perform
 perform-entries [] ps a d = (sub-refl (plain (entries ps)), sym (gather-nil (live (entries ps))))
 perform-entries (toCommit n ∷ os) ps a d =
@@ -73,7 +74,7 @@ perform-rows os ps a d =
 abbrev Only : Row → List Row → Type 0
 Only r rs = AllOf (λ y. y .1 .number ≡ r .1 .number → y ≡ r) rs
 
-pub mem-only : {r : Row} {rs : List Row} → Mem r rs → Pairs Differ rs → Only r rs
+mem-only : {r : Row} {rs : List Row} → Mem r rs → Pairs Differ rs → Only r rs
 mem-only {r} (here {rs}) d = (λ e. refl, all-map (Differ r) _ (λ y h e. absurd (h (sym e))) rs (d .0))
 mem-only {r} (there {y} m) d = (λ e. absurd (mem-all (Differ y) m (d .0) e), mem-only m (d .1))
 
@@ -171,11 +172,13 @@ module _ (tx : ℕ) (all : List Row) (d : Pairs Differ all) where
       (λ o. rw o rest))
 
   -- a row at the key of x, the newest own one
-  hit-mark : (x r : Row) (os : List Op) → Mem r all → With x r ≡ true → x .1 .mark ≡ true → fate (planKey x (keep (With x) all) ++ os) r ≡ verdict (some x) r
+  hit-mark : (x r : Row) (os : List Op) → Mem r all → With x r ≡ true → x .1 .mark ≡ true
+      → fate (planKey x (keep (With x) all) ++ os) r ≡ verdict (some x) r
   unfolding planKey if_then_else_ verdict
   hit-mark x r os mr h m = rw m (hit-removeAll os (mem-keep (With x) mr h))
 
-  hit-other : (x r : Row) (os : List Op) → Mem r all → With x r ≡ true → x .1 .mark ≡ false → isRow (number x) r ≡ false → fate (planKey x (keep (With x) all) ++ os) r ≡ verdict (some x) r
+  hit-other : (x r : Row) (os : List Op) → Mem r all → With x r ≡ true → x .1 .mark ≡ false → isRow (number x) r ≡ false
+      → fate (planKey x (keep (With x) all) ++ os) r ≡ verdict (some x) r
   unfolding planKey if_then_else_ verdict fate number
   hit-other x r os mr h m k = rw (m, k) (hit-removeAll os (mem-keep (λ y. not (isRow (number x) y)) (mem-keep (With x) mr h) (ap not k)))
 
@@ -190,7 +193,8 @@ module _ (tx : ℕ) (all : List Row) (d : Pairs Differ all) where
   unfolding isRow number asCommitted
   off-settled x os h = h
 
-  planKey-live : (x : Row) (vs : List Row) → x .1 .mark ≡ false → planKey x vs ≡ toCommit (number x) ∷ removeAll (keep (λ y. not (isRow (number x) y)) vs)
+  planKey-live : (x : Row) (vs : List Row) → x .1 .mark ≡ false
+      → planKey x vs ≡ toCommit (number x) ∷ removeAll (keep (λ y. not (isRow (number x) y)) vs)
   unfolding planKey if_then_else_
   planKey-live x vs m = rw m
 
@@ -218,7 +222,8 @@ module _ (tx : ℕ) (all : List Row) (d : Pairs Differ all) where
       let e = off-append (removeAll (keep (λ y. not (isRow (number x) y)) vs)) os y (off-removeAll y (keep (λ y. not (isRow (number x) y)) vs) (others-miss x vs)) ∙ off-fate os y (off-settled x os off) in
       hit-step x os m k e
 
-  planKey-hit : (x r : Row) (os : List Op) → Mem x all → Mem r all → With x r ≡ true → AllOf (Off r) os → fate (planKey x (keep (With x) all) ++ os) r ≡ verdict (some x) r
+  planKey-hit : (x r : Row) (os : List Op) → Mem x all → Mem r all → With x r ≡ true → AllOf (Off r) os
+      → fate (planKey x (keep (With x) all) ++ os) r ≡ verdict (some x) r
   unfolding number
   planKey-hit x r os mx mr h off =
       by (x .1 .mark) (λ m. hit-mark x r os mr h m)
@@ -229,14 +234,6 @@ module _ (tx : ℕ) (all : List Row) (d : Pairs Differ all) where
 
   abbrev Own : Row → Row → Bool
   Own r y = ownAt tx (r .0) (r .1 .key) y
-
-  any-last : (f : Row → Bool) (xs : List Row) → last f xs ≡ none → any f xs ≡ false
-  unfolding last any if_then_else_
-  any-last f [] h = refl
-  any-last f (x ∷ xs) h =
-      by-option (last f xs)
-      (λ n. by (f x) (λ k. never (sym (rw (n, k) at h))) (λ k. rw (k, any) (any-last f xs n)))
-      (λ y n. never (sym (rw (n, last) at h)))
 
   last-any : (f : Row → Bool) (xs : List Row) (y : Row) → last f xs ≡ some y → any f xs ≡ true
   unfolding last any if_then_else_
@@ -260,7 +257,8 @@ module _ (tx : ℕ) (all : List Row) (d : Pairs Differ all) where
   unfolding planRows if_then_else_
   plan-skip x xs h = rw h
 
-  plan-take : (x : Row) (xs : List Row) → (isOwn tx x && not (any (Own x) xs)) ≡ true → planRows tx all (x ∷ xs) ≡ planKey x (keep (With x) all) ++ planRows tx all xs
+  plan-take : (x : Row) (xs : List Row) → (isOwn tx x && not (any (Own x) xs)) ≡ true
+      → planRows tx all (x ∷ xs) ≡ planKey x (keep (With x) all) ++ planRows tx all xs
   unfolding planRows if_then_else_
   plan-take x xs h = rw h
 
@@ -279,12 +277,13 @@ module _ (tx : ℕ) (all : List Row) (d : Pairs Differ all) where
   with-true : (x r : Row) → With r x ≡ true → With x r ≡ true
   with-true x r h = let s = at-split (r .0) (r .1 .key) x h in at-join (x .0) (x .1 .key) r (sym (s .0)) (sym (s .1))
 
-  plan-step : (r x : Row) (xs : List Row) → Mem r all → Mem x all → Within xs → fate (planRows tx all xs) r ≡ verdict (last (Own r) xs) r → fate (planRows tx all (x ∷ xs)) r ≡ verdict (last (Own r) (x ∷ xs)) r
+  plan-step : (r x : Row) (xs : List Row) → Mem r all → Mem x all → Within xs → fate (planRows tx all xs) r ≡ verdict (last (Own r) xs) r
+      → fate (planRows tx all (x ∷ xs)) r ≡ verdict (last (Own r) (x ∷ xs)) r
   plan-step r x xs mr mx w ih =
       by (Own r x)
       (λ k. let o = own-parts r x k in
       by-option (last (Own r) xs)
-      (λ n. let q : any (Own r) xs ≡ false = any-last (Own r) xs n in
+      (λ n. let q : any (Own r) xs ≡ false = any-off (Own r) xs (last-off (Own r) xs n) in
       let e : (isOwn tx x && not (any (Own x) xs)) ≡ true = rw (o .0, own-same x r (o .1) xs, q) in
       ap (λ z. fate z r) (plan-take x xs e) ∙ planKey-hit x r (planRows tx all xs) mx mr (with-true x r (o .1)) (plan-off r mr xs w q) ∙ ap (λ z. verdict z r) (sym (last-here (Own r) x xs n k)))
       (λ y n. let e : (isOwn tx x && not (any (Own x) xs)) ≡ false = rw (o .0, own-same x r (o .1) xs, last-any (Own r) xs y n) in

@@ -49,7 +49,8 @@ after-shown x (y ∷ ys) zs a e =
     (λ t. never (rw (n, t) at e)))
     (λ ws n. let k : y ∷ ws ≡ zs = some-eq (rw (n, after) at e) in rw (← k, after-shown x ys ws a n))
 
-images-grown : (p : Page) (ts : List Held) (ps : List Page) → (p .frozen ≡ true → shown ts ≡ shown (p .tuples)) → images (grown p ts ++ ps) ≡ images (p ∷ ps)
+images-grown : (p : Page) (ts : List Held) (ps : List Page) → (p .frozen ≡ true → shown ts ≡ shown (p .tuples))
+    → images (grown p ts ++ ps) ≡ images (p ∷ ps)
 unfolding images grown withTuples if_then_else_
 images-grown p ts ps f =
     by (p .frozen) (λ h. rw (h, f h)) (λ h. rw (h, images-append, images-fresh))
@@ -102,13 +103,15 @@ images-settleNext rest p [] r = r
 images-settleNext rest p (q ∷ qs) r =
     by (joins p q) (λ h. rw (h, joins-right p q h)) (λ h. rw (h, images-append rest (q ∷ qs), r))
 
-images-settleFull : (rest : List Page) (o : Option Page) (p : Page) (ps : List Page) → images rest ≡ [] → images (settleFull rest o p ps) ≡ images (listOf o ++ ps)
+images-settleFull : (rest : List Page) (o : Option Page) (p : Page) (ps : List Page) → images rest ≡ []
+    → images (settleFull rest o p ps) ≡ images (listOf o ++ ps)
 unfolding settleFull images if_then_else_ joined fresh listOf
 images-settleFull rest none p ps r = images-settleNext rest p ps r
 images-settleFull rest (some o) p ps r =
     by (joins o p) (λ h. rw (h, joins-left o p h)) (λ h. rw (h, images-settleNext rest p ps r))
 
-images-settle : (rest : List Page) (o : Option Page) (p : Page) (ps : List Page) → images rest ≡ [] → images (settle rest o p ps) ≡ images (listOf o ++ ps)
+images-settle : (rest : List Page) (o : Option Page) (p : Page) (ps : List Page) → images rest ≡ []
+    → images (settle rest o p ps) ≡ images (listOf o ++ ps)
 unfolding settle if_then_else_
 images-settle rest o p ps r = by (isEmpty (p .tuples)) (λ h. rw h) (λ h. rw h (images-settleFull rest o p ps r))
 
@@ -185,7 +188,7 @@ images-thaw b ps = images-aroundFirst (thawOn b) (images-thawOn b) none ps refl
 
 -- the first frozen page has the first image
 pub images-first : (ps : List Page) (p : Page) → first isFrozen ps ≡ some p → images ps ≡ (p .table, shown (p .tuples)) ∷ tail (images ps)
-unfolding first images isFrozen if_then_else_ 
+unfolding first images isFrozen if_then_else_
 images-first [] p e = never e
 images-first (q ∷ ps) p e =
     by (q .frozen) (λ h. let k : q ≡ p = some-eq (rw (h, first) at e) in rw (h, k)) (λ h. rw h (images-first ps p (rw (h, first) at e)))

@@ -39,7 +39,8 @@ high-no x r h =
     (λ e. by (leb (r .1 .key) (x .1 .key)) (λ l. absurd (omega (arith, h .1 (omega (arith, eqb-true (r .0) (x .0) e)), leb-true (r .1 .key) (x .1 .key) l))) (λ l. rw (k, e, l)))
     (λ e. rw (k, e)))
 
-put-insert : (x : Row) (low high : List Row) → AllOf (NotAbove (x .0) (x .1 .key)) low → AllOf (Above (x .0) (x .1 .key)) high → insertRow x (low ++ high) ≡ low ++ x ∷ high
+put-insert : (x : Row) (low high : List Row) → AllOf (NotAbove (x .0) (x .1 .key)) low → AllOf (Above (x .0) (x .1 .key)) high
+    → insertRow x (low ++ high) ≡ low ++ x ∷ high
 unfolding insertRow if_then_else_
 put-insert x [] [] a b = refl
 put-insert x [] (r ∷ high) a b = rw (high-no x r (b .0))

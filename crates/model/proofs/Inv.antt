@@ -143,7 +143,8 @@ pub record Good (n : ℕ) (img : View) (used : ℕ → Bool) (b : Store) : Type 
   pub names : (c : ℕ) → back .used c ≡ true → used c ≡ true
 
 -- a block that is neither 0 nor in use may hold anything
-pub good-put : (n : ℕ) (img : View) (used : ℕ → Bool) (b : Store) (i : ℕ) (x : Block) → 0 < i → used i ≡ false → Good n img used b → Good n (put img i x) used b
+pub good-put : (n : ℕ) (img : View) (used : ℕ → Bool) (b : Store) (i : ℕ) (x : Block) → 0 < i → used i ≡ false → Good n img used b
+    → Good n (put img i x) used b
 good-put n img used b i x p h g =
     record {
       back = g .back;
@@ -153,7 +154,8 @@ good-put n img used b i x p h g =
       names = g .names;
     }
 
-pub good-more : (n : ℕ) (img : View) (used used′ : ℕ → Bool) (b : Store) → ((c : ℕ) → used c ≡ true → used′ c ≡ true) → Good n img used b → Good n img used′ b
+pub good-more : (n : ℕ) (img : View) (used used′ : ℕ → Bool) (b : Store) → ((c : ℕ) → used c ≡ true → used′ c ≡ true) → Good n img used b
+    → Good n img used′ b
 good-more n img used used′ b f g = record { back = g .back; found = g .found; like = g .like; names = λ c u. f c (g .names c u) }
 
 -- ---- a running checkpoint

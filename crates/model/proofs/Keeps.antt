@@ -210,7 +210,8 @@ abort-valid tx s v =
 no-idle : {X : Type 0} {n : ℕ} {es ds : List ℕ} → running n es ds ≡ idle → X
 no-idle e = let z : _≡_ {A = ℕ} 0 1 = cc in absurd (omega arith)
 
-pub nothing-pending : (ts : List Held) → AllOf (λ x. (heldSize x ≤ mostSize) × (x .pending ≡ nothing)) ts → any (λ x. isPending (x .pending)) ts ≡ false
+pub nothing-pending : (ts : List Held) → AllOf (λ x. (heldSize x ≤ mostSize) × (x .pending ≡ nothing)) ts
+    → any (λ x. isPending (x .pending)) ts ≡ false
 unfolding any isPending
 nothing-pending [] a = refl
 nothing-pending (x ∷ xs) a = rw (a .0 .1, any) (nothing-pending xs (a .1))

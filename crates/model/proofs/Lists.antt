@@ -55,7 +55,7 @@ pub and-yes : (b : Bool) → (b && true) ≡ b
 and-yes true = refl
 and-yes false = refl
 
-pub or-false : (a b : Bool) → (a || b) ≡ false → (a ≡ false) × (b ≡ false)
+or-false : (a b : Bool) → (a || b) ≡ false → (a ≡ false) × (b ≡ false)
 or-false true b e = lie (sym e)
 or-false false b e = (refl, e)
 
@@ -175,7 +175,8 @@ module _ {A : Type 0} where
   all-keep P f (r ∷ rs) a = by (f r) (λ h. rw h ((h, a .0), all-keep P f rs (a .1))) (λ h. rw h (all-keep P f rs (a .1)))
 
   -- of two members: they are one, or either stands first
-  pub mem-pairs : (R : A → A → Type 0) {X : Type 0} {a b : A} {rs : List A} → Mem a rs → Mem b rs → Pairs R rs → (a ≡ b → X) → (R a b → X) → (R b a → X) → X
+  pub mem-pairs : (R : A → A → Type 0) {X : Type 0} {a b : A} {rs : List A} → Mem a rs → Mem b rs → Pairs R rs → (a ≡ b → X) → (R a b → X)
+      → (R b a → X) → X
   mem-pairs R here here p f g h = f refl
   mem-pairs R {a = a} here (there n) p f g h = g (mem-all (R a) n (p .0))
   mem-pairs R {b = b} (there m) here p f g h = h (mem-all (R b) m (p .0))
@@ -383,4 +384,3 @@ in-keep x f (o ∷ os) =
     by (f o) (λ k. rw (k, e, any) (sym (ap f q ∙ k)))
     (λ k. let n : f x ≡ false = ap f q ∙ k in rw (k, e, any) (r ∙ ap (λ z. isIn x os && z) n ∙ and-no (isIn x os) ∙ sym n)))
     (λ e. by (f o) (λ k. rw (k, e, any) r) (λ k. rw (k, e, any) r))
-

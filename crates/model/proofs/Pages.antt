@@ -52,12 +52,14 @@ module _ (Q : Page → Type 0) (Q-fresh : (t : ℕ) (ts : List Held) → Q (fres
   all-settleNext rest p [] r a = r
   all-settleNext rest p (q ∷ qs) r a = by (joins p q) (λ h. rw h (Q-fresh _ _, a .1)) (λ h. rw h (all-append Q rest (q ∷ qs) r a))
 
-  all-settleFull : (rest : List Page) (o : Option Page) (p : Page) (ps : List Page) → AllOf Q rest → AllOf Q (listOf o) → AllOf Q ps → AllOf Q (settleFull rest o p ps)
+  all-settleFull : (rest : List Page) (o : Option Page) (p : Page) (ps : List Page) → AllOf Q rest → AllOf Q (listOf o) → AllOf Q ps
+      → AllOf Q (settleFull rest o p ps)
   unfolding settleFull if_then_else_ joined listOf
   all-settleFull rest none p ps r l a = all-settleNext rest p ps r a
   all-settleFull rest (some o) p ps r l a = by (joins o p) (λ h. rw h (Q-fresh _ _, a)) (λ h. rw h (l .0, all-settleNext rest p ps r a))
 
-  all-settle : (rest : List Page) (o : Option Page) (p : Page) (ps : List Page) → AllOf Q rest → AllOf Q (listOf o) → AllOf Q ps → AllOf Q (settle rest o p ps)
+  all-settle : (rest : List Page) (o : Option Page) (p : Page) (ps : List Page) → AllOf Q rest → AllOf Q (listOf o) → AllOf Q ps
+      → AllOf Q (settle rest o p ps)
   unfolding settle if_then_else_
   all-settle rest o p ps r l a = by (isEmpty (p .tuples)) (λ h. rw h (all-append Q (listOf o) ps l a)) (λ h. rw h (all-settleFull rest o p ps r l a))
 
@@ -70,13 +72,15 @@ module _ (Q : Page → Type 0) (Q-fresh : (t : ℕ) (ts : List Held) → Q (fres
       by (hit p) (λ h. rw (h, around) (F o p ps h l a))
       (λ h. rw (h, around) (all-append Q (listOf o) _ l (all-around hit f F (some p) ps (a .0, tt) (a .1))))
 
-  all-removeOn : (n : ℕ) (o : Option Page) (p : Page) (ps : List Page) → hasNumber n p ≡ true → AllOf Q (listOf o) → AllOf Q (p ∷ ps) → AllOf Q (removeOn n o p ps)
+  all-removeOn : (n : ℕ) (o : Option Page) (p : Page) (ps : List Page) → hasNumber n p ≡ true → AllOf Q (listOf o) → AllOf Q (p ∷ ps)
+      → AllOf Q (removeOn n o p ps)
   unfolding removeOn if_then_else_ withTuples
   all-removeOn n o p ps e l a =
       by (p .frozen) (λ h. rw h (all-append Q (listOf o) _ l (Q-frozen _ refl, a .1)))
       (λ h. rw h (all-settle _ o _ ps (Q-fresh _ _, tt) l (a .1)))
 
-  all-commitOn : (n : ℕ) (o : Option Page) (p : Page) (ps : List Page) → hasNumber n p ≡ true → AllOf Q (listOf o) → AllOf Q (p ∷ ps) → AllOf Q (commitOn n o p ps)
+  all-commitOn : (n : ℕ) (o : Option Page) (p : Page) (ps : List Page) → hasNumber n p ≡ true → AllOf Q (listOf o) → AllOf Q (p ∷ ps)
+      → AllOf Q (commitOn n o p ps)
   unfolding commitOn if_then_else_ withTuples
   all-commitOn n o p ps e l a =
       by (p .frozen) (λ h. rw h (all-append Q (listOf o) _ l (Q-frozen _ refl, a .1))) (λ h. rw h (all-append Q (listOf o) _ l (Q-fresh _ _, a .1)))

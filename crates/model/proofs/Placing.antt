@@ -62,7 +62,8 @@ record SlotAfter (t : ℕ) (x : Held) (a b : List Entry) : Type 0 where
   put : Slot t x a b
   under : (z : Entry) → AllOf (Earlier z) b → Low t (x .tuple .key) z
 
-after-put : (t : ℕ) (x : Held) (ys zs : List Held) → after x ys ≡ some zs → Pairs Earlier (withTable t ys) → SlotAfter t x (withTable t zs) (withTable t ys)
+after-put : (t : ℕ) (x : Held) (ys zs : List Held) → after x ys ≡ some zs → Pairs Earlier (withTable t ys)
+    → SlotAfter t x (withTable t zs) (withTable t ys)
 unfolding after withTable if_then_else_
 after-put t x [] zs e s = never e
 after-put t x (y ∷ ys) zs e s =
@@ -121,12 +122,13 @@ shown-full (x ∷ xs) h = omega arith
 pub page-full : (p : Page) → PageOk p → 0 < length (p .tuples)
 page-full p o = by (p .frozen) (λ h. shown-full (p .tuples) (o .2 h .1)) (λ h. o .1 h .2)
 
--- all that is entries from a page on has its table or a higher one
+-- all that is held from a page on has its table or a higher one
 tables-up : (p : Page) (ps : List Page) → PageOk p → Pairs Earlier (entries (p ∷ ps)) → AllOf (λ r. p .table ≤ r .0) (entries (p ∷ ps))
 unfolding entries
 tables-up p ps o s = go (p .tuples) (page-full p o) s
   where
-    go : (ts : List Held) → 0 < length ts → Pairs Earlier (withTable (p .table) ts ++ entries ps) → AllOf (λ r. p .table ≤ r .0) (withTable (p .table) ts ++ entries ps)
+    go : (ts : List Held) → 0 < length ts → Pairs Earlier (withTable (p .table) ts ++ entries ps)
+        → AllOf (λ r. p .table ≤ r .0) (withTable (p .table) ts ++ entries ps)
     go [] h s = absurd (omega arith)
     go (x ∷ xs) h s = unfold withTable in (omega arith, all-map (Earlier (p .table, x)) (λ r. p .table ≤ r .0) (λ r u. u .0) (withTable (p .table) xs ++ entries ps) (s .0))
 
@@ -180,7 +182,8 @@ module _ (t : ℕ) (x : Tuple) where
   abbrev PlacedAfter : List Entry → List Entry → Type 0
   PlacedAfter a b = (y : Held) × Enters x y × SlotAfter t y a b
 
-  here-put : (p : Page) (ts : List Held) (ps : List Page) → p .table ≡ t → after (entering p x) (p .tuples) ≡ some ts → PageOk p → Pairs Earlier (entries (p ∷ ps)) → AllOf (Clear t (x .key)) (entries ps)
+  here-put : (p : Page) (ts : List Held) (ps : List Page) → p .table ≡ t → after (entering p x) (p .tuples) ≡ some ts → PageOk p
+      → Pairs Earlier (entries (p ∷ ps)) → AllOf (Clear t (x .key)) (entries ps)
       → PlacedAfter (entries (grown p ts ++ ps)) (entries (p ∷ ps))
   unfolding entries entering
   here-put p ts ps e m o s c =
@@ -198,7 +201,8 @@ module _ (t : ℕ) (x : Tuple) where
   all-under : (c a b : List Entry) (y : Held) → SlotAfter t y a b → Pairs Earlier (c ++ b) → AllOf (Low t (y .tuple .key)) c
   all-under c a b y r s = all-map (λ z. AllOf (Earlier z) b) (Low t (y .tuple .key)) (λ z h. r .under z h) c (pairs-parts Earlier c b s .2)
 
-  placeAfter-put : (ps qs : List Page) → placeAfter t x ps ≡ some qs → AllOf PageOk ps → Pairs Earlier (entries ps) → PlacedAfter (entries qs) (entries ps)
+  placeAfter-put : (ps qs : List Page) → placeAfter t x ps ≡ some qs → AllOf PageOk ps → Pairs Earlier (entries ps)
+      → PlacedAfter (entries qs) (entries ps)
   unfolding placeAfter if_then_else_
   placeAfter-put [] qs e o s = never e
   placeAfter-put (p ∷ ps) qs e o s =
@@ -214,7 +218,8 @@ module _ (t : ℕ) (x : Tuple) where
       let r = placeAfter-put ps ws n (o .1) (pairs-parts Earlier (withTable (p .table) (p .tuples)) (entries ps) s′ .1) in
       subst (λ q. PlacedAfter (entries q) (entries (p ∷ ps))) k (past p ps ws s′ r))
     where
-      past : (p : Page) (ps ws : List Page) → Pairs Earlier (withTable (p .table) (p .tuples) ++ entries ps) → PlacedAfter (entries ws) (entries ps) → PlacedAfter (entries (p ∷ ws)) (entries (p ∷ ps))
+      past : (p : Page) (ps ws : List Page) → Pairs Earlier (withTable (p .table) (p .tuples) ++ entries ps) → PlacedAfter (entries ws) (entries ps)
+          → PlacedAfter (entries (p ∷ ws)) (entries (p ∷ ps))
       past p ps ws s r = unfold entries in (
         r .0,
         r .1,
@@ -236,7 +241,8 @@ module _ (t : ℕ) (x : Tuple) where
   unfolding entries
   front-past p ps qs r h = (r .0, r .1, put-front t (r .0) (withTable (p .table) (p .tuples)) (entries qs) (entries ps) (lower-rows t (r .0 .tuple .key) (p .table) (p .tuples) h) (r .2))
 
-  front-same : (p : Page) (ps : List Page) → p .table ≡ t → AllOf (High t (x .key)) (entries (p ∷ ps)) → Placed (entries (grown p (entering p x ∷ p .tuples) ++ ps)) (entries (p ∷ ps))
+  front-same : (p : Page) (ps : List Page) → p .table ≡ t → AllOf (High t (x .key)) (entries (p ∷ ps))
+      → Placed (entries (grown p (entering p x ∷ p .tuples) ++ ps)) (entries (p ∷ ps))
   unfolding entering
   front-same p ps e a =
       (entering p x, enters-page p x, subst (λ u. Slot t (entering p x) u (entries (p ∷ ps))) (sym (front-eq p ps ∙ ap (λ u. (u, entering p x) ∷ entries (p ∷ ps)) e)) (put-first t (entering p x) (entries (p ∷ ps)) a))
@@ -245,7 +251,8 @@ module _ (t : ℕ) (x : Tuple) where
   unfolding calm
   front-other ps a = (calm x, enters-calm x, subst (λ u. Slot t (calm x) u (entries ps)) (sym (front-new ps)) (put-first t (calm x) (entries ps) a))
 
-  front-step : (p : Page) (ps : List Page) → AllOf (Clear t (x .key)) (entries (p ∷ ps)) → PageOk p → Pairs Earlier (entries (p ∷ ps)) → Placed (entries (placeFront t x ps)) (entries ps) → Placed (entries (placeFront t x (p ∷ ps))) (entries (p ∷ ps))
+  front-step : (p : Page) (ps : List Page) → AllOf (Clear t (x .key)) (entries (p ∷ ps)) → PageOk p → Pairs Earlier (entries (p ∷ ps))
+      → Placed (entries (placeFront t x ps)) (entries ps) → Placed (entries (placeFront t x (p ∷ ps))) (entries (p ∷ ps))
   unfolding placeFront if_then_else_
   front-step p ps c o s r =
       let up = tables-up p ps o s in
@@ -269,7 +276,8 @@ module _ (t : ℕ) (x : Tuple) where
   unfolding placeFront entries
   front-nil = front-other [] tt
 
-  placeFront-put : (ps : List Page) → AllOf (Clear t (x .key)) (entries ps) → AllOf PageOk ps → Pairs Earlier (entries ps) → Placed (entries (placeFront t x ps)) (entries ps)
+  placeFront-put : (ps : List Page) → AllOf (Clear t (x .key)) (entries ps) → AllOf PageOk ps → Pairs Earlier (entries ps)
+      → Placed (entries (placeFront t x ps)) (entries ps)
   placeFront-put [] c o s = front-nil
   placeFront-put (p ∷ ps) c o s = front-step p ps c (o .0) s (placeFront-put ps (tail-clear p ps c) (o .1) (tail-rising p ps s))
 
@@ -317,7 +325,8 @@ module _ (t : ℕ) (x : Tuple) (y : Held) (e : Enters x y) (a b : List Entry) (s
     above = high-live t (x .key) (s .high) above;
   }
 
-pub place-put : (t : ℕ) (x : Tuple) (ps : List Page) → AllOf PageOk ps → Pairs Before (held ps) → Put (t, x) (held (place t x ps)) (held ps) × Put (t, x) (rows (place t x ps)) (rows ps)
+pub place-put : (t : ℕ) (x : Tuple) (ps : List Page) → AllOf PageOk ps → Pairs Before (held ps)
+    → Put (t, x) (held (place t x ps)) (held ps) × Put (t, x) (rows (place t x ps)) (rows ps)
 place-put t x ps o s =
     let qs = place t x ps in
     let r = place-entries t x ps o (pairs-plain Before (entries ps) (subst (Pairs Before) (held-plain ps) s)) in (

@@ -53,7 +53,8 @@ many-length f (x ∷ xs) = let k = many-length f xs in by (f x) (λ h. rw h (ome
 
 -- ---- insert, replace, delete
 
-new-fits : (s : Store) → Valid s → (tx k : ℕ) (bs : List ℕ) (m : Bool) → tx ≤ 4095 → k < 4294967296 → length bs ≤ payloadLimit → AllBytes bs → Fits (newTuple tx k bs m s)
+new-fits : (s : Store) → Valid s → (tx k : ℕ) (bs : List ℕ) (m : Bool) → tx ≤ 4095 → k < 4294967296 → length bs ≤ payloadLimit → AllBytes bs
+    → Fits (newTuple tx k bs m s)
 unfolding newTuple
 new-fits s v tx k bs m lt lk lb ab = record {
   key = lk;
@@ -63,7 +64,8 @@ new-fits s v tx k bs m lt lk lb ab = record {
   bytes = ab;
 }
 
-written-fits : (s : Store) → Valid s → Fitting s → (tx t k : ℕ) (bs : List ℕ) (m : Bool) → ltb 4095 tx ≡ false → k < 4294967296 → length bs ≤ payloadLimit → AllBytes bs
+written-fits : (s : Store) → Valid s → Fitting s → (tx t k : ℕ) (bs : List ℕ) (m : Bool) → ltb 4095 tx ≡ false → k < 4294967296
+    → length bs ≤ payloadLimit → AllBytes bs
     → Fitting (written tx t k bs m s .store)
 unfolding written gives changed
 written-fits s v f tx t k bs m lt lk lb ab =
@@ -141,8 +143,11 @@ pages-fit (p ∷ ps) o a =
     let r = page-rows (λ r. (r .0 ≤ 7) × Fits (r .1)) (p .table) (bare (p .tuples)) (held ps) a in
     let y = length-map (p .tuples) (λ h. h .tuple) in
     let l = page-full p (o .0) in (
-      λ h. (some-one (p .table < 8) (λ x. (p .table ≤ 7) × Fits x) (bare (p .tuples)) (omega arith) (r .0) (λ x q. omega (arith, q .0)),
-        shown-fits (p .tuples) (all-map _ _ (λ x q. q .1) (bare (p .tuples)) (r .0)), o .0 .2 h .0),
+      λ h. (
+        some-one (p .table < 8) (λ x. (p .table ≤ 7) × Fits x) (bare (p .tuples)) (omega arith) (r .0) (λ x q. omega (arith, q .0)),
+        shown-fits (p .tuples) (all-map _ _ (λ x q. q .1) (bare (p .tuples)) (r .0)),
+        o .0 .2 h .0,
+      ),
       pages-fit ps (o .1) (r .1),
     )
 

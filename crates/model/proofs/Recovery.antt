@@ -70,7 +70,8 @@ unfolding readPages addPage if_then_else_
 read-blocks v l [] ps e = ap (map (λ p. p .block)) (sym (some-eq e))
 read-blocks v l (e ∷ es) ps h = go (v e) h (read-blocks v l es)
   where
-    go : (x : Block) → addPage l e x (readPages v l es) ≡ some ps → ((qs : List StoredPage) → readPages v l es ≡ some qs → map (λ p. p .block) qs ≡ es)
+    go : (x : Block) → addPage l e x (readPages v l es) ≡ some ps
+        → ((qs : List StoredPage) → readPages v l es ≡ some qs → map (λ p. p .block) qs ≡ es)
         → map (λ p. p .block) ps ≡ e ∷ es
     go malformed h r = never h
     go (header a) h r = never h

@@ -13,7 +13,7 @@ use Rattle.basics.proofs.Facts.{by, lie, and-true, AllOf}
 use Rattle.blocks.specs.Tuple.{Owner, committed, Tuple}
 use Rattle.rows.specs.Rows.{Row, rowsOf, number}
 use Rattle.model.specs.State.{Held, Page}
-use Rattle.model.specs.Rules.{isRemoving, ripe, ripened, fresh, joins, joined, settle, settleNext, settleFull, listOf, commit, asCommitted, isCommitting, around, calm, splitAll, thaw, thawOn, isPending, isFrozen, kept, isNumber, edit, hasNumber, gone, goneLater, withPending, isAdding, keptLater, remove, removeOn, withTuples, commitOn, freeze}
+use Rattle.model.specs.Rules.{isRemoving, ripe, ripened, fresh, joins, joined, settle, settleNext, settleFull, listOf, commit, asCommitted, isCommitting, around, calm, splitAll, thawOn, thaw, isPending, isFrozen, kept, isNumber, edit, hasNumber, gone, goneLater, withPending, isAdding, keptLater, remove, removeOn, withTuples, commitOn, freeze}
 use Rattle.model.specs.Sight.{rows, held}
 use Rattle.model.specs.Transactions.{isRow}
 use Rattle.model.proofs.Lists.{eqb-true, nothing-left, has-some, here, Pairs, all-map, off-any, pairs-parts}
@@ -47,7 +47,7 @@ live (e ∷ es) = if isRemoving (e .1 .pending) then live es else (e .0, ripe (e
 
 -- ---- appending
 
-pub table-append : (t : ℕ) (a b : List Held) → withTable t (a ++ b) ≡ withTable t a ++ withTable t b
+table-append : (t : ℕ) (a b : List Held) → withTable t (a ++ b) ≡ withTable t a ++ withTable t b
 unfolding withTable
 table-append t [] b = refl
 table-append t (x ∷ a) b = rw (table-append t a b)
@@ -101,21 +101,24 @@ entries-joined : (p q : Page) (ps : List Page) → p .table ≡ q .table → ent
 unfolding entries joined fresh
 entries-joined p q ps e = rw (← e, table-append (p .table), append-assoc)
 
-entries-settleNext : (rest : List Page) (p : Page) (ps : List Page) → entries rest ≡ entries (p ∷ []) → entries (settleNext rest p ps) ≡ entries (p ∷ ps)
+entries-settleNext : (rest : List Page) (p : Page) (ps : List Page) → entries rest ≡ entries (p ∷ [])
+    → entries (settleNext rest p ps) ≡ entries (p ∷ ps)
 unfolding settleNext if_then_else_
 entries-settleNext rest p [] r = r
 entries-settleNext rest p (q ∷ qs) r =
     by (joins p q) (λ h. rw h (entries-joined p q qs (joins-table p q h)))
     (λ h. rw h (entries-append rest (q ∷ qs) ∙ ap (λ z. z ++ entries (q ∷ qs)) r ∙ sym (entries-append (p ∷ []) (q ∷ qs))))
 
-entries-settleFull : (rest : List Page) (o : Option Page) (p : Page) (ps : List Page) → entries rest ≡ entries (p ∷ []) → entries (settleFull rest o p ps) ≡ entries (listOf o ++ p ∷ ps)
+entries-settleFull : (rest : List Page) (o : Option Page) (p : Page) (ps : List Page) → entries rest ≡ entries (p ∷ [])
+    → entries (settleFull rest o p ps) ≡ entries (listOf o ++ p ∷ ps)
 unfolding settleFull listOf if_then_else_
 entries-settleFull rest none p ps r = entries-settleNext rest p ps r
 entries-settleFull rest (some o) p ps r =
     by (joins o p) (λ h. rw h (entries-joined o p ps (joins-table o p h)))
     (λ h. rw h (entries-append (o ∷ []) (settleNext rest p ps) ∙ ap (λ z. entries (o ∷ []) ++ z) (entries-settleNext rest p ps r) ∙ sym (entries-append (o ∷ []) (p ∷ ps))))
 
-entries-settle : (rest : List Page) (o : Option Page) (p : Page) (ps : List Page) → (0 < length (p .tuples) → entries rest ≡ entries (p ∷ [])) → entries (settle rest o p ps) ≡ entries (listOf o ++ p ∷ ps)
+entries-settle : (rest : List Page) (o : Option Page) (p : Page) (ps : List Page) → (0 < length (p .tuples) → entries rest ≡ entries (p ∷ []))
+    → entries (settle rest o p ps) ≡ entries (listOf o ++ p ∷ ps)
 unfolding settle if_then_else_
 entries-settle rest o p ps r =
     by (isEmpty (p .tuples))
@@ -168,7 +171,8 @@ sub-all P Q f empty h = tt
 sub-all P Q f (skip s) h = sub-all P Q f s (h .1)
 sub-all P Q f (take {a} {b} e s) h = (f a b e (h .0), sub-all P Q f s (h .1))
 
-pub sub-pairs : (R : Row → Row → Type 0) → ((a b c d : Row) → Alike a b → Alike c d → R b d → R a c) → {xs ys : List Row} → Sub xs ys → Pairs R ys → Pairs R xs
+pub sub-pairs : (R : Row → Row → Type 0) → ((a b c d : Row) → Alike a b → Alike c d → R b d → R a c) → {xs ys : List Row} → Sub xs ys → Pairs R ys
+    → Pairs R xs
 sub-pairs R f empty h = tt
 sub-pairs R f (skip s) h = sub-pairs R f s (h .1)
 sub-pairs R f (take {a} {b} e s) h =
@@ -184,7 +188,7 @@ live-sub (e ∷ es) = by (isRemoving (e .1 .pending)) (λ h. rw h (skip (live-su
     go true h = rw h (refl, refl, refl, refl, settled)
     go false h = rw h (refl, refl, refl, refl, still)
 
--- ---- what is done at one page, to all that is entries
+-- ---- what is done at one page, to all entries
 
 module _ (P : List Entry → List Entry → Type 0) (hit : Page → Bool) (f : Option Page → Page → List Page → List Page)
     (none-held : P [] []) (past : (p : Page) → hit p ≡ false → (a b : List Entry) → P a b → P (withTable (p .table) (p .tuples) ++ a) (withTable (p .table) (p .tuples) ++ b))
@@ -196,7 +200,8 @@ module _ (P : List Entry → List Entry → Type 0) (hit : Page → Bool) (f : O
       let c = withTable (q .table) (q .tuples) in
       rw (append-assoc c (entries qs) a, append-assoc c (entries qs) b) (past q (h .0) (entries qs ++ a) (entries qs ++ b) (past-list qs (h .1) a b r))
 
-  around-held : (o : Option Page) (ps : List Page) → AllOf (λ q. hit q ≡ false) (listOf o) → AllOf PageOk ps → P (entries (around hit f o ps)) (entries (listOf o ++ ps))
+  around-held : (o : Option Page) (ps : List Page) → AllOf (λ q. hit q ≡ false) (listOf o) → AllOf PageOk ps
+      → P (entries (around hit f o ps)) (entries (listOf o ++ ps))
   unfolding around listOf
   around-held o [] h k = rw (append-nil (listOf o)) (subst (λ z. P z z) (append-nil (entries (listOf o))) (past-list (listOf o) h [] [] none-held))
   around-held o (p ∷ ps) h k =
@@ -223,7 +228,8 @@ still-refl a = (sub-refl (plain a), refl)
 entries-parts : (t : ℕ) (ts : List Held) → AllOf Small ts → 0 < length ts → entries (map (fresh t) (splitAll ts)) ≡ entries (fresh t ts ∷ [])
 entries-parts t ts s l = entries-fresh t (splitAll ts) ∙ ap (withTable t) (split-all ts l s .1) ∙ (unfold entries fresh in sym (append-nil (withTable t ts)))
 
-still-mid : (o : Option Page) (p : Page) (ps : List Page) (X : List Entry) → Still X (withTable (p .table) (p .tuples)) → Still (entries (listOf o) ++ (X ++ entries ps)) (entries (listOf o ++ p ∷ ps))
+still-mid : (o : Option Page) (p : Page) (ps : List Page) (X : List Entry) → Still X (withTable (p .table) (p .tuples))
+    → Still (entries (listOf o) ++ (X ++ entries ps)) (entries (listOf o ++ p ∷ ps))
 unfolding entries
 still-mid o p ps X s = rw (entries-append (listOf o) (p ∷ ps))
     (still-append (entries (listOf o)) (entries (listOf o)) _ _ (still-refl (entries (listOf o))) (still-append X (withTable (p .table) (p .tuples)) (entries ps) (entries ps) s (still-refl (entries ps))))
@@ -233,7 +239,8 @@ still-ripe t ts =
     let c = calm-plain t (ripened ts) in
     (subst (λ z. Sub z (plain (withTable t ts))) (live-rows t ts ∙ sym (c .0)) (live-sub (withTable t ts)), c .1 ∙ sym (live-rows t ts))
 
-entries-page : (o : Option Page) (p : Page) (ps : List Page) → entries (listOf o ++ p ∷ ps) ≡ entries (listOf o) ++ (withTable (p .table) (p .tuples) ++ entries ps)
+entries-page : (o : Option Page) (p : Page) (ps : List Page)
+    → entries (listOf o ++ p ∷ ps) ≡ entries (listOf o) ++ (withTable (p .table) (p .tuples) ++ entries ps)
 unfolding entries
 entries-page o p ps = entries-append (listOf o) (p ∷ ps)
 
@@ -301,7 +308,8 @@ module _ (g : Held → List Held) (G : Row → List Row) (E : Edits g G) (n t : 
       by (isNumber n x) (λ h. rw (h, table-append t (g x) xs, plain-append (withTable t (g x))) (sub-append (E .among t x) (sub-refl (plain (withTable t xs)))))
       (λ h. rw h (take (refl, refl, refl, refl, still) (edit-sub xs)))
 
-  edit-live : (ts : List Held) (rest : List Entry) → any (isNumber n) ts ≡ true → Pairs Apart (withTable t ts ++ rest) → live (withTable t (edit g n ts) ++ rest) ≡ amend G n (live (withTable t ts ++ rest))
+  edit-live : (ts : List Held) (rest : List Entry) → any (isNumber n) ts ≡ true → Pairs Apart (withTable t ts ++ rest)
+      → live (withTable t (edit g n ts) ++ rest) ≡ amend G n (live (withTable t ts ++ rest))
   unfolding edit withTable live amend any if_then_else_
   edit-live [] rest e d = lie e
   edit-live (x ∷ xs) rest e d =
@@ -322,7 +330,8 @@ unfolding amend if_then_else_
 amend-append G n [] b = refl
 amend-append G n (r ∷ a) b = by (isRow n r) (λ h. rw (h, amend-append G n a b, append-assoc)) (λ h. rw (h, amend-append G n a b))
 
-pub all-table : (P : Entry → Type 0) (Q : Held → Type 0) (t : ℕ) → ((x : Held) → Q x → P (t, x)) → (ts : List Held) → AllOf Q ts → AllOf P (withTable t ts)
+pub all-table : (P : Entry → Type 0) (Q : Held → Type 0) (t : ℕ) → ((x : Held) → Q x → P (t, x)) → (ts : List Held) → AllOf Q ts
+    → AllOf P (withTable t ts)
 unfolding withTable
 all-table P Q t f [] a = tt
 all-table P Q t f (x ∷ xs) a = (f x (a .0), all-table P Q t f xs (a .1))
@@ -331,20 +340,23 @@ hasNumber-off : (n : ℕ) (p : Page) → hasNumber n p ≡ false → AllOf (λ r
 unfolding hasNumber
 hasNumber-off n p h = all-table (λ r. isNumber n (r .1) ≡ false) (λ x. isNumber n x ≡ false) (p .table) (λ x k. k) (p .tuples) (off-any (isNumber n) (p .tuples) h)
 
-amends-past : (G : Row → List Row) (n : ℕ) (c a b : List Entry) → AllOf (λ r. isNumber n (r .1) ≡ false) c → Amends G n a b → Amends G n (c ++ a) (c ++ b)
+amends-past : (G : Row → List Row) (n : ℕ) (c a b : List Entry) → AllOf (λ r. isNumber n (r .1) ≡ false) c → Amends G n a b
+    → Amends G n (c ++ a) (c ++ b)
 amends-past G n c a b h s = (
   rw (plain-append c a, plain-append c b) (sub-append (sub-refl (plain c)) (s .0)),
   λ d. live-append c a ∙ ap (λ z. live c ++ z) (s .1 (pairs-parts Apart c b d .1)) ∙ ap (λ z. z ++ amend G n (live b)) (sym (amend-off G n c h)) ∙ sym (amend-append G n (live c) (live b)) ∙ ap (amend G n) (sym (live-append c b)),
 )
 
-amends-list : (G : Row → List Row) (n : ℕ) (qs : List Page) (a b : List Entry) → AllOf (λ q. hasNumber n q ≡ false) qs → Amends G n a b → Amends G n (entries qs ++ a) (entries qs ++ b)
+amends-list : (G : Row → List Row) (n : ℕ) (qs : List Page) (a b : List Entry) → AllOf (λ q. hasNumber n q ≡ false) qs → Amends G n a b
+    → Amends G n (entries qs ++ a) (entries qs ++ b)
 unfolding entries
 amends-list G n [] a b off r = r
 amends-list G n (q ∷ qs) a b off r =
     let c = withTable (q .table) (q .tuples) in
     rw (append-assoc c (entries qs) a, append-assoc c (entries qs) b) (amends-past G n c (entries qs ++ a) (entries qs ++ b) (hasNumber-off n q (off .0)) (amends-list G n qs a b (off .1) r))
 
-amends-here : (g : Held → List Held) (G : Row → List Row) → Edits g G → (n : ℕ) (o : Option Page) (p : Page) (ps : List Page) → AllOf (λ q. hasNumber n q ≡ false) (listOf o) → hasNumber n p ≡ true
+amends-here : (g : Held → List Held) (G : Row → List Row) → Edits g G → (n : ℕ) (o : Option Page) (p : Page) (ps : List Page)
+    → AllOf (λ q. hasNumber n q ≡ false) (listOf o) → hasNumber n p ≡ true
     → Amends G n (entries (listOf o) ++ (withTable (p .table) (edit g n (p .tuples)) ++ entries ps)) (entries (listOf o ++ p ∷ ps))
 unfolding hasNumber
 amends-here g G E n o p ps off h =
@@ -382,29 +394,35 @@ keptLater-edits = record {
 }
 
 -- (equations of lists first: `rw` by a field rewrites the whole record)
-entries-remove-frozen : (n : ℕ) (o : Option Page) (p : Page) (ps : List Page) → p .frozen ≡ true → entries (removeOn n o p ps) ≡ entries (listOf o) ++ (withTable (p .table) (edit goneLater n (p .tuples)) ++ entries ps)
+entries-remove-frozen : (n : ℕ) (o : Option Page) (p : Page) (ps : List Page) → p .frozen ≡ true
+    → entries (removeOn n o p ps) ≡ entries (listOf o) ++ (withTable (p .table) (edit goneLater n (p .tuples)) ++ entries ps)
 unfolding removeOn if_then_else_ withTuples
 entries-remove-frozen n o p ps f = rw (f, entries-page o _ ps)
 
-entries-remove-free : (n : ℕ) (o : Option Page) (p : Page) (ps : List Page) → p .frozen ≡ false → entries (removeOn n o p ps) ≡ entries (listOf o) ++ (withTable (p .table) (edit gone n (p .tuples)) ++ entries ps)
+entries-remove-free : (n : ℕ) (o : Option Page) (p : Page) (ps : List Page) → p .frozen ≡ false
+    → entries (removeOn n o p ps) ≡ entries (listOf o) ++ (withTable (p .table) (edit gone n (p .tuples)) ++ entries ps)
 unfolding removeOn if_then_else_ fresh
 entries-remove-free n o p ps f = let q = fresh (p .table) (edit gone n (p .tuples)) in rw (f, entries-settle (q ∷ []) o q ps (λ m. refl), entries-page o q ps)
 
-entries-commit-frozen : (n : ℕ) (o : Option Page) (p : Page) (ps : List Page) → p .frozen ≡ true → entries (commitOn n o p ps) ≡ entries (listOf o) ++ (withTable (p .table) (edit keptLater n (p .tuples)) ++ entries ps)
+entries-commit-frozen : (n : ℕ) (o : Option Page) (p : Page) (ps : List Page) → p .frozen ≡ true
+    → entries (commitOn n o p ps) ≡ entries (listOf o) ++ (withTable (p .table) (edit keptLater n (p .tuples)) ++ entries ps)
 unfolding commitOn if_then_else_ withTuples
 entries-commit-frozen n o p ps f = rw (f, entries-page o _ ps)
 
-entries-commit-free : (n : ℕ) (o : Option Page) (p : Page) (ps : List Page) → p .frozen ≡ false → entries (commitOn n o p ps) ≡ entries (listOf o) ++ (withTable (p .table) (edit kept n (p .tuples)) ++ entries ps)
+entries-commit-free : (n : ℕ) (o : Option Page) (p : Page) (ps : List Page) → p .frozen ≡ false
+    → entries (commitOn n o p ps) ≡ entries (listOf o) ++ (withTable (p .table) (edit kept n (p .tuples)) ++ entries ps)
 unfolding commitOn if_then_else_ fresh
 entries-commit-free n o p ps f = rw (f, entries-page o _ ps)
 
-amends-removeOn : (n : ℕ) (o : Option Page) (p : Page) (ps : List Page) → AllOf (λ q. hasNumber n q ≡ false) (listOf o) → hasNumber n p ≡ true → Amends away n (entries (removeOn n o p ps)) (entries (listOf o ++ p ∷ ps))
+amends-removeOn : (n : ℕ) (o : Option Page) (p : Page) (ps : List Page) → AllOf (λ q. hasNumber n q ≡ false) (listOf o) → hasNumber n p ≡ true
+    → Amends away n (entries (removeOn n o p ps)) (entries (listOf o ++ p ∷ ps))
 amends-removeOn n o p ps off h =
     by (p .frozen)
     (λ f. subst (λ z. Amends away n z (entries (listOf o ++ p ∷ ps))) (sym (entries-remove-frozen n o p ps f)) (amends-here goneLater away goneLater-edits n o p ps off h))
     (λ f. subst (λ z. Amends away n z (entries (listOf o ++ p ∷ ps))) (sym (entries-remove-free n o p ps f)) (amends-here gone away gone-edits n o p ps off h))
 
-amends-commitOn : (n : ℕ) (o : Option Page) (p : Page) (ps : List Page) → AllOf (λ q. hasNumber n q ≡ false) (listOf o) → hasNumber n p ≡ true → Amends kept-row n (entries (commitOn n o p ps)) (entries (listOf o ++ p ∷ ps))
+amends-commitOn : (n : ℕ) (o : Option Page) (p : Page) (ps : List Page) → AllOf (λ q. hasNumber n q ≡ false) (listOf o) → hasNumber n p ≡ true
+    → Amends kept-row n (entries (commitOn n o p ps)) (entries (listOf o ++ p ∷ ps))
 amends-commitOn n o p ps off h =
     by (p .frozen)
     (λ f. subst (λ z. Amends kept-row n z (entries (listOf o ++ p ∷ ps))) (sym (entries-commit-frozen n o p ps f)) (amends-here keptLater kept-row keptLater-edits n o p ps off h))

@@ -11,7 +11,7 @@ use Rattle.basics.specs.Basics.{sum, if_then_else_, isEmpty, any}
 use Rattle.basics.proofs.Facts.{AllOf, lie, by, never, by-option, and-true}
 use Rattle.blocks.specs.Tuple.{Tuple, size, ownerSize}
 use Rattle.model.specs.State.{Held, nothing, Page, adding, Pending, removing, committing}
-use Rattle.model.specs.Rules.{heldSize, shown, fresh, withTuples, lead, splitOnce, fits, half, after, entering, calm, grown, placeAfter, place, placeFront, joins, joined, settleNext, settle, settleFull, listOf, edit, isNumber, commit, asCommitted, withPending, kept, gone, goneLater, isAdding, keptLater, isRemoving, removeOn, remove, commitOn, around, hasNumber, ripe, isCommitting, ripened, splitAll, isPending, thawOn, thaw, isFrozen}
+use Rattle.model.specs.Rules.{heldSize, shown, fresh, withTuples, lead, splitOnce, fits, half, after, entering, calm, grown, placeAfter, place, placeFront, joins, joined, settleNext, settle, settleFull, listOf, edit, isNumber, commit, asCommitted, withPending, kept, goneLater, gone, isAdding, keptLater, isRemoving, removeOn, remove, commitOn, around, hasNumber, ripe, isCommitting, ripened, splitAll, isPending, thawOn, thaw, isFrozen}
 use Rattle.model.specs.Transactions.{Op, perform, toCommit, toRemove}
 use Rattle.model.proofs.Lists.{all-map, leb-true, leb-false, all-take, all-drop, some-eq, all-append, not-true, has-some, all-parts}
 use Rattle.model.proofs.Splits.{mostSize, Small, half-between, after-all, together, split-all}
@@ -43,7 +43,8 @@ all-fresh : (t : ℕ) (tss : List (List Held)) → AllOf Fine tss → AllOf Page
 all-fresh t [] a = tt
 all-fresh t (ts ∷ tss) a = (fresh-ok t ts (a .0), all-fresh t tss (a .1))
 
-frozen-ok : (p : Page) (ts : List Held) → p .frozen ≡ true → AllOf Small ts → shown ts ≡ shown (p .tuples) → Whole (shown (p .tuples)) → PageOk (withTuples p ts)
+frozen-ok : (p : Page) (ts : List Held) → p .frozen ≡ true → AllOf Small ts → shown ts ≡ shown (p .tuples) → Whole (shown (p .tuples))
+    → PageOk (withTuples p ts)
 unfolding withTuples
 frozen-ok p ts h a e w = (a, λ k. lie (sym k ∙ h), λ k. rw e w)
 
@@ -100,14 +101,17 @@ unfolding entering if_then_else_
 entering-calm p x h = rw h
 
 -- a page takes the tuples zs, which are its own and x
-all-grown : (p : Page) (zs : List Held) (ps : List Page) → AllOf Small zs → (p .frozen ≡ true → (shown zs ≡ shown (p .tuples)) × Whole (shown (p .tuples))) → (p .frozen ≡ false → AllOf Calm zs × (sum heldSize zs ≤ 504 + mostSize) × (0 < length zs)) → AllOf PageOk ps → AllOf PageOk (grown p zs ++ ps)
+all-grown : (p : Page) (zs : List Held) (ps : List Page) → AllOf Small zs
+    → (p .frozen ≡ true → (shown zs ≡ shown (p .tuples)) × Whole (shown (p .tuples)))
+    → (p .frozen ≡ false → AllOf Calm zs × (sum heldSize zs ≤ 504 + mostSize) × (0 < length zs)) → AllOf PageOk ps → AllOf PageOk (grown p zs ++ ps)
 unfolding grown if_then_else_
 all-grown p zs ps s w f a =
     by (p .frozen) (λ h. rw h (frozen-ok _ zs refl s (w h .0) (w h .1), a))
     (λ h. let g = f h in rw h (all-append PageOk (map (fresh (p .table)) (splitOnce zs)) ps (all-fresh (p .table) (splitOnce zs) (split-once zs (g .0) (g .2) (g .1))) a))
 
 module _ (t : ℕ) (x : Tuple) (sx : size x ≤ mostSize) where
-  grown-after : (p : Page) (zs : List Held) (ps : List Page) → after (entering p x) (p .tuples) ≡ some zs → PageOk p → AllOf PageOk ps → AllOf PageOk (grown p zs ++ ps)
+  grown-after : (p : Page) (zs : List Held) (ps : List Page) → after (entering p x) (p .tuples) ≡ some zs → PageOk p → AllOf PageOk ps
+      → AllOf PageOk (grown p zs ++ ps)
   grown-after p zs ps e o a =
       let k = after-sum (entering p x) (p .tuples) zs e in
       let eq = entering-size p x in
@@ -153,7 +157,8 @@ module _ (t : ℕ) (x : Tuple) (sx : size x ≤ mostSize) where
 -- ---- joining
 
 -- pages that join are not frozen, and their sizes sum to at most 336
-pub joins-in : (p q : Page) → joins p q ≡ true → (p .frozen ≡ false) × (q .frozen ≡ false) × (sum heldSize (p .tuples) + sum heldSize (q .tuples) ≤ 336)
+joins-in : (p q : Page) → joins p q ≡ true
+    → (p .frozen ≡ false) × (q .frozen ≡ false) × (sum heldSize (p .tuples) + sum heldSize (q .tuples) ≤ 336)
 unfolding joins
 joins-in p q e =
     let a = and-true (not (p .frozen)) (not (q .frozen) && (eqb (p .table) (q .table) && leb (sum heldSize (p .tuples) + sum heldSize (q .tuples)) 336)) e in
@@ -169,20 +174,23 @@ joined-ok p q e a h b =
     let l = length-append (p .tuples) (q .tuples) in
     fresh-ok (p .table) (p .tuples ++ q .tuples) (all-append Calm (p .tuples) (q .tuples) a b, omega arith, omega arith)
 
-settleNext-ok : (rest : List Page) (p : Page) (ps : List Page) → AllOf PageOk rest → AllOf Calm (p .tuples) → 0 < length (p .tuples) → AllOf PageOk ps → AllOf PageOk (settleNext rest p ps)
+settleNext-ok : (rest : List Page) (p : Page) (ps : List Page) → AllOf PageOk rest → AllOf Calm (p .tuples) → 0 < length (p .tuples) → AllOf PageOk ps
+    → AllOf PageOk (settleNext rest p ps)
 unfolding settleNext if_then_else_
 settleNext-ok rest p [] r c l a = r
 settleNext-ok rest p (q ∷ qs) r c l a =
     by (joins p q) (λ h. rw h (joined-ok p q h c l (a .0 .1 (joins-in p q h .1) .0), a .1)) (λ h. rw h (all-append PageOk rest (q ∷ qs) r a))
 
-settleFull-ok : (rest : List Page) (o : Option Page) (p : Page) (ps : List Page) → AllOf PageOk rest → AllOf PageOk (listOf o) → AllOf Calm (p .tuples) → 0 < length (p .tuples) → AllOf PageOk ps
+settleFull-ok : (rest : List Page) (o : Option Page) (p : Page) (ps : List Page) → AllOf PageOk rest → AllOf PageOk (listOf o)
+    → AllOf Calm (p .tuples) → 0 < length (p .tuples) → AllOf PageOk ps
     → AllOf PageOk (settleFull rest o p ps)
 unfolding settleFull if_then_else_ listOf
 settleFull-ok rest none p ps r l c n a = settleNext-ok rest p ps r c n a
 settleFull-ok rest (some o) p ps r l c n a =
     by (joins o p) (λ h. let f = l .0 .1 (joins-in o p h .0) in rw h (joined-ok o p h (f .0) (f .2) c, a)) (λ h. rw h (l .0, settleNext-ok rest p ps r c n a))
 
-settle-ok : (rest : List Page) (o : Option Page) (p : Page) (ps : List Page) → (0 < length (p .tuples) → AllOf PageOk rest) → AllOf PageOk (listOf o) → AllOf Calm (p .tuples) → AllOf PageOk ps → AllOf PageOk (settle rest o p ps)
+settle-ok : (rest : List Page) (o : Option Page) (p : Page) (ps : List Page) → (0 < length (p .tuples) → AllOf PageOk rest) → AllOf PageOk (listOf o)
+    → AllOf Calm (p .tuples) → AllOf PageOk ps → AllOf PageOk (settle rest o p ps)
 unfolding settle if_then_else_
 settle-ok rest o p ps r l c a =
     by (isEmpty (p .tuples)) (λ h. rw h (all-append PageOk (listOf o) ps l a))
@@ -190,12 +198,14 @@ settle-ok rest o p ps r l c a =
 
 -- ---- removing and committing
 
-edit-all : (P : Held → Type 0) (g : Held → List Held) (n : ℕ) → ((x : Held) → P x → AllOf P (g x)) → (ts : List Held) → AllOf P ts → AllOf P (edit g n ts)
+edit-all : (P : Held → Type 0) (g : Held → List Held) (n : ℕ) → ((x : Held) → P x → AllOf P (g x)) → (ts : List Held) → AllOf P ts
+    → AllOf P (edit g n ts)
 unfolding edit if_then_else_
 edit-all P g n f [] a = tt
 edit-all P g n f (x ∷ xs) a = by (isNumber n x) (λ h. rw h (all-append P (g x) xs (f x (a .0)) (a .1))) (λ h. rw h (a .0, edit-all P g n f xs (a .1)))
 
-edit-sum : (g : Held → List Held) (n : ℕ) → ((x : Held) → sum heldSize (g x) ≤ heldSize x) → (ts : List Held) → sum heldSize (edit g n ts) ≤ sum heldSize ts
+edit-sum : (g : Held → List Held) (n : ℕ) → ((x : Held) → sum heldSize (g x) ≤ heldSize x) → (ts : List Held)
+    → sum heldSize (edit g n ts) ≤ sum heldSize ts
 unfolding edit if_then_else_ sum
 edit-sum g n f [] = omega arith
 edit-sum g n f (x ∷ xs) = by (isNumber n x) (λ h. let k = f x in rw (h, sum-append (g x) xs) (omega arith)) (λ h. let k = edit-sum g n f xs in rw h (omega arith))
@@ -230,7 +240,8 @@ kept-calm : (x : Held) → Calm x → AllOf Calm (kept x)
 unfolding kept heldSize
 kept-calm x c = let k = committed-size (x .tuple) in ((omega (arith, c .0), c .1), tt)
 
-removeOn-ok : (n : ℕ) (o : Option Page) (p : Page) (ps : List Page) → AllOf PageOk (listOf o) → AllOf PageOk (p ∷ ps) → AllOf PageOk (removeOn n o p ps)
+removeOn-ok : (n : ℕ) (o : Option Page) (p : Page) (ps : List Page) → AllOf PageOk (listOf o) → AllOf PageOk (p ∷ ps)
+    → AllOf PageOk (removeOn n o p ps)
 unfolding removeOn if_then_else_ gone sum fresh
 removeOn-ok n o p ps l a =
     by (p .frozen)
@@ -246,7 +257,8 @@ unfolding edit if_then_else_ kept
 kept-length n [] = refl
 kept-length n (x ∷ xs) = by (isNumber n x) (λ h. rw h) (λ h. rw (h, kept-length n xs))
 
-commitOn-ok : (n : ℕ) (o : Option Page) (p : Page) (ps : List Page) → AllOf PageOk (listOf o) → AllOf PageOk (p ∷ ps) → AllOf PageOk (commitOn n o p ps)
+commitOn-ok : (n : ℕ) (o : Option Page) (p : Page) (ps : List Page) → AllOf PageOk (listOf o) → AllOf PageOk (p ∷ ps)
+    → AllOf PageOk (commitOn n o p ps)
 unfolding commitOn if_then_else_ kept sum
 commitOn-ok n o p ps l a =
     by (p .frozen)
@@ -316,7 +328,8 @@ calm-of (x ∷ xs) e a = go (x .pending) refl (calm-of xs)
     go committing h r = lie (sym (rw (h, any) at e))
     go removing h r = lie (sym (rw (h, any) at e))
 
-thawOn-ok : (b : ℕ) (o : Option Page) (p : Page) (ps : List Page) → p .frozen ≡ true → AllOf PageOk (listOf o) → AllOf PageOk (p ∷ ps) → AllOf PageOk (thawOn b o p ps)
+thawOn-ok : (b : ℕ) (o : Option Page) (p : Page) (ps : List Page) → p .frozen ≡ true → AllOf PageOk (listOf o) → AllOf PageOk (p ∷ ps)
+    → AllOf PageOk (thawOn b o p ps)
 unfolding thawOn if_then_else_ fresh
 thawOn-ok b o p ps f l a =
     by (any (λ x. isPending (x .pending)) (p .tuples))

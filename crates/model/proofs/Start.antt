@@ -35,7 +35,8 @@ unfolding readPages addPage if_then_else_ pageOk
 pages-read v l [] ps e = subst (AllOf (Read v l [])) (some-eq e) tt
 pages-read v l (e ∷ es) ps h = go (v e) refl h (pages-read v l es)
   where
-    go : (x : Block) → v e ≡ x → addPage l e x (readPages v l es) ≡ some ps → ((qs : List StoredPage) → readPages v l es ≡ some qs → AllOf (Read v l es) qs)
+    go : (x : Block) → v e ≡ x → addPage l e x (readPages v l es) ≡ some ps
+        → ((qs : List StoredPage) → readPages v l es ≡ some qs → AllOf (Read v l es) qs)
         → AllOf (Read v l (e ∷ es)) ps
     go malformed q h r = never h
     go (header a) q h r = never h
@@ -127,7 +128,8 @@ pub start-inv : (n : ℕ) (v : View) (s : Store) → 2 ≤ n → AllSane v → F
 start-inv n v s two sane f rd = subst (λ z. Inv n v z z z) (f .store) (start-store n v s two sane f (subst Ready (sym (f .store)) rd))
 
 -- the transactions of its rows are open, and nothing runs
-pub start-active : (n : ℕ) (v : View) (s : Store) → Found n v s → rows (s .pages) ≡ held (s .pages) → (u : ℕ) → isIn u (s .active) ≡ any (isOwn u) (rows (s .pages))
+pub start-active : (n : ℕ) (v : View) (s : Store) → Found n v s → rows (s .pages) ≡ held (s .pages) → (u : ℕ)
+    → isIn u (s .active) ≡ any (isOwn u) (rows (s .pages))
 start-active n v s f e u = subst (λ z. rows (z .pages) ≡ held (z .pages) → isIn u (z .active) ≡ any (isOwn u) (rows (z .pages))) (f .store) loaded-active e
   where
     loaded-active : rows (recoveredStore (f .head) (f .pages) .pages) ≡ held (recoveredStore (f .head) (f .pages) .pages)

@@ -45,7 +45,8 @@ pub data Stepped (n : ℕ) (img : View) (s b b₀ : Store) (o : Outcome) : Type 
       → (eqb (w .at) 0 ≡ false → (x : Block) → Good n (put img (w .at) x) (s .used) b₀)
       → Inv n (put img (w .at) (w .what)) (o .store) b (if eqb (w .at) 0 then b else b₀) → Stepped n img s b b₀ o
 
-filled-in : {img : View} {l : ℕ} {es : List ℕ} {cs : List Content} (b : ℕ) (c : Content) (js is : List Content) → js ≡ c ∷ is → Stored img l es cs js → isIn b (fill b es) ≡ true
+filled-in : {img : View} {l : ℕ} {es : List ℕ} {cs : List Content} (b : ℕ) (c : Content) (js is : List Content) → js ≡ c ∷ is → Stored img l es cs js
+    → isIn b (fill b es) ≡ true
 unfolding fill if_then_else_ isIn any
 filled-in b c js is e end = let z : _≡_ {A = ℕ} 0 1 = cc in absurd (omega arith)
 filled-in b c js is e (todo r) = rw (eqb-self b, any)
@@ -65,13 +66,15 @@ none-yet′ js is (d ∷ ds) f e = let k = f (omega arith) in let z : _≡_ {A =
 tied-put : (img : View) (l : ℕ) (pool : ℕ → Bool) (b : ℕ) (x : Block) (p : Page) → pool b ≡ false → Tied img l pool p → Tied (put img b x) l pool p
 tied-put img l pool b x p h t c = let u = t c in (u .0, put-other img b x (p .block) (test-other pool (p .block) b (u .4) h) ∙ u .1, u .2, u .3, u .4)
 
-tied-fill : (img : View) (l b : ℕ) (es : List ℕ) (p : Page) → isIn b es ≡ false → Tied img l (λ c. isIn c es) p → Tied img l (λ c. isIn c (fill b es)) p
+tied-fill : (img : View) (l b : ℕ) (es : List ℕ) (p : Page) → isIn b es ≡ false → Tied img l (λ c. isIn c es) p
+    → Tied img l (λ c. isIn c (fill b es)) p
 tied-fill img l b es p h t c =
     let u = t c in
     (u .0, u .1, u .2, u .3, in-fill b (p .block) es (clean-pos p c) (eqb-sym b (p .block) (test-other (λ c. isIn c es) (p .block) b (u .4) h)) ∙ u .4)
 
 -- the block taken is in use, and those before it still
-within-more : (s : Store) (i : ℕ) → (0 < i) × (i < s .blocks) → ((c : ℕ) → s .used c ≡ true → (0 < c) × (c < s .blocks)) → (c : ℕ) → usedToo s i c ≡ true
+within-more : (s : Store) (i : ℕ) → (0 < i) × (i < s .blocks) → ((c : ℕ) → s .used c ≡ true → (0 < c) × (c < s .blocks)) → (c : ℕ)
+    → usedToo s i c ≡ true
     → (0 < c) × (c < s .blocks)
 unfolding usedToo
 within-more s i a f c h = by (eqb i c) (λ k. subst (λ z. (0 < z) × (z < s .blocks)) (eqb-true i c k) a) (λ k. f c (rw k at h))
@@ -140,7 +143,8 @@ entries-fit [] a = tt
 entries-fit (e ∷ es) a = (a .0, entries-fit es (a .1))
 
 -- the entries of a running checkpoint are blocks of the view
-entries-low : (s : Store) (es : List ℕ) → 0 < s .blocks → ((c : ℕ) → s .used c ≡ true → (0 < c) × (c < s .blocks)) → AllOf (λ e. 0 < e → s .used e ≡ true) es
+entries-low : (s : Store) (es : List ℕ) → 0 < s .blocks → ((c : ℕ) → s .used c ≡ true → (0 < c) × (c < s .blocks))
+    → AllOf (λ e. 0 < e → s .used e ≡ true) es
     → AllOf (λ e. e < s .blocks) es
 entries-low s es z f a = all-map _ _ (λ e h. by (eqb e 0) (λ k. let q = eqb-true e 0 k in omega arith) (λ k. f e (h (not-zero e k)) .1)) es a
 
@@ -265,8 +269,11 @@ module _ (n : ℕ) (img : View) (s b : Store) (n₀ : ℕ) (es ds : List ℕ) (b
   top-entries : entriesOk (s .blocks) ds es ≡ true
   unfolding entriesOk every
   top-entries =
-      rw (blocks-ok (s .blocks) es eok, all-true (λ e. not (isIn e ds)) es (all-map _ _ (λ d h. ap not h) es (run .es-off)),
-        distinct-true es (all-map _ _ (λ d h. h .0) es eok) (run .es-apart))
+      rw (
+        blocks-ok (s .blocks) es eok,
+        all-true (λ e. not (isIn e ds)) es (all-map _ _ (λ d h. ap not h) es (run .es-off)),
+        distinct-true es (all-map _ _ (λ d h. h .0) es eok) (run .es-apart),
+      )
 
   header-good : Good n (put img 0 (header top)) (λ c. isIn c (es ++ ds)) b
   header-good =
@@ -284,13 +291,24 @@ module _ (n : ℕ) (img : View) (s b : Store) (n₀ : ℕ) (es ds : List ℕ) (b
       enough : length ds ≡ directoriesFor (length es) → length es ≤ 336 * length ds
       enough e = unfold directoriesFor in omega arith
 
-      made-found : (img′ : View) (ps : List StoredPage) → img′ 0 ≡ header top → directoryBlocks top ≡ ds → readDirectories img′ (suc (s .level)) (length es) ds ≡ some es
+      made-found : (img′ : View) (ps : List StoredPage) → img′ 0 ≡ header top → directoryBlocks top ≡ ds
+          → readDirectories img′ (suc (s .level)) (length es) ds ≡ some es
           → readPages img′ (suc (s .level)) es ≡ some ps → rowsOk (s .capacity) n₀ (rowsOfPages ps) ≡ true → Found n img′ (recoveredStore top ps)
       made-found img′ ps z q dr rp ok = unfold headerFor in record {
-        head = top; entries = es; pages = ps; top = z; head-ok = top-ok; listed = rw q dr; entries-ok = rw q top-entries; read = rp; rows-ok = ok; store = refl;
+        head = top;
+        entries = es;
+        pages = ps;
+        top = z;
+        head-ok = top-ok;
+        listed = rw q dr;
+        entries-ok = rw q top-entries;
+        read = rp;
+        rows-ok = ok;
+        store = refl;
       }
 
-      made-good : (img′ : View) (ps : List StoredPage) (f : Found n img′ (recoveredStore top ps)) → directoryBlocks top ≡ ds → map contentOf ps ≡ map content (b .pages)
+      made-good : (img′ : View) (ps : List StoredPage) (f : Found n img′ (recoveredStore top ps)) → directoryBlocks top ≡ ds
+          → map contentOf ps ≡ map content (b .pages)
           → rowsOfPages ps ≡ held (b .pages) → map (λ p. p .block) ps ≡ es → Good n img′ (λ c. isIn c (es ++ ds)) b
       made-good img′ ps f q c rs bs = unfold recoveredStore headerFor in record {
         back = recoveredStore top ps;
@@ -308,9 +326,28 @@ module _ (n : ℕ) (img : View) (s b : Store) (n₀ : ℕ) (es ds : List ℕ) (b
   header-fits m =
       let f = few-pages in
       let q = few-dirs in
-      let low : AllOf (λ d. d < 4096) ds = all-map _ _ (λ d h. omega (arith, h .1)) ds dok in
-      (omega arith, (omega arith, (omega (arith, lim .1), (omega (arith, run .lvl), (omega (arith, run .nxt, run .base .most), (omega (arith, lim .1), (omega arith,
-        (low-at 0 ds low, (low-at 1 ds low, (low-at 2 ds low, (low-at 3 ds low, tt)))))))))))
+      let low : AllOf (λ d. d < 4096) ds = all-map _ _ (λ d h. omega (arith, h .1)) ds dok in (
+        omega arith,
+        (
+          omega arith,
+          (
+            omega (arith, lim .1),
+            (
+              omega (arith, run .lvl),
+              (
+                omega (arith, run .nxt, run .base .most),
+                (
+                  omega (arith, lim .1),
+                  (
+                    omega arith,
+                    (low-at 0 ds low, (low-at 1 ds low, (low-at 2 ds low, (low-at 3 ds low, tt)))),
+                  ),
+                ),
+              ),
+            ),
+          ),
+        ),
+      )
     where
       low-at : (i : ℕ) (ds : List ℕ) → AllOf (λ d. d < 4096) ds → getD ds i 0 < 4096
       low-at i [] a = omega arith

@@ -1,4 +1,4 @@
--- The running checkpoint's entries, the base's pages and the blocks written: what hasNumber all along, and what is read back at the end.
+-- The running checkpoint's entries, the base's pages and the blocks written: what holds all along, and what is read back at the end.
 use mathlib.Core.Path.{_≡_, _∙_, subst, refl}
 use Prim.Native.Nat.{_-_, ℕ, _<_, _≤_, _*_, _+_, suc, min}
 use native.Mathlib.Omega.{arith}
@@ -26,7 +26,7 @@ pub put-other : (img : View) (b : ℕ) (x : Block) (i : ℕ) → eqb b i ≡ fal
 unfolding put if_then_else_
 put-other img b x i h = rw h
 
--- ---- the entries: 0 for a page still to be written, whose image is next among `is`; else its block, which hasNumber its content
+-- ---- the entries: 0 for a page still to be written, whose image is next among `is`; else its block, which holds its content
 
 pub data Stored (img : View) (l : ℕ) : List ℕ → List Content → List Content → Type 0 where
   end : Stored img l [] [] []
@@ -34,16 +34,12 @@ pub data Stored (img : View) (l : ℕ) : List ℕ → List Content → List Cont
   stands : {es : List ℕ} {cs is : List Content} {c : Content} {e : ℕ} (k : ℕ) → 0 < e → img e ≡ page (c .0) k (c .1) → 0 < k → k ≤ l
       → Stored img l es cs is → Stored img l (e ∷ es) (c ∷ cs) is
 
-pub stored-put : {img : View} {l : ℕ} {es : List ℕ} {cs is : List Content} (b : ℕ) (x : Block) → isIn b es ≡ false → Stored img l es cs is → Stored (put img b x) l es cs is
+pub stored-put : {img : View} {l : ℕ} {es : List ℕ} {cs is : List Content} (b : ℕ) (x : Block) → isIn b es ≡ false → Stored img l es cs is
+    → Stored (put img b x) l es cs is
 stored-put b x h end = end
 stored-put b x h (todo {es = es} r) = todo (stored-put b x (not-in b 0 es h .1) r)
 stored-put {img} b x h (stands {es = es} {e = e} k p q u v r) =
     let n = not-in b e es h in stands k p (put-other img b x e (n .0) ∙ q) u v (stored-put b x (n .1) r)
-
-pub stored-up : {img : View} {l : ℕ} {es : List ℕ} {cs is : List Content} (m : ℕ) → l ≤ m → Stored img l es cs is → Stored img m es cs is
-stored-up m h end = end
-stored-up m h (todo r) = todo (stored-up m h r)
-stored-up m h (stands k p q u v r) = stands k p q u (omega arith) (stored-up m h r)
 
 -- the first page still to be written is written
 pub stored-fill : {img : View} {l : ℕ} {es : List ℕ} {cs : List Content} (b : ℕ) (c : Content) (js : List Content) (is : List Content) → js ≡ c ∷ is
@@ -89,13 +85,15 @@ pub dirs-put : (img : View) (l b : ℕ) (x : Block) (es ds : List ℕ) → isIn 
 dirs-put img l b x es [] h r = tt
 dirs-put img l b x es (d ∷ ds) h r = let n = not-in b d ds h in (put-other img b x d (n .0) ∙ r .0, dirs-put img l b x (drop 336 es) ds (n .1) (r .1))
 
-pub dirs-snoc : (img : View) (l b : ℕ) (es ds : List ℕ) → img b ≡ directory l (take 336 (drop (336 * length ds) es)) → Dirs img l es ds → Dirs img l es (ds ++ b ∷ [])
+pub dirs-snoc : (img : View) (l b : ℕ) (es ds : List ℕ) → img b ≡ directory l (take 336 (drop (336 * length ds) es)) → Dirs img l es ds
+    → Dirs img l es (ds ++ b ∷ [])
 dirs-snoc img l b es [] h r = (h, tt)
 dirs-snoc img l b es (d ∷ ds) h r =
     let m : 336 + 336 * length ds ≡ 336 * suc (length ds) = omega arith in
     (r .0, dirs-snoc img l b (drop 336 es) ds (h ∙ rw (drop-drop, m)) (r .1))
 
-pub dirs-read : (img : View) (l : ℕ) (es ds : List ℕ) → length es ≤ 336 * length ds → Dirs img l es ds → readDirectories img l (length es) ds ≡ some es
+pub dirs-read : (img : View) (l : ℕ) (es ds : List ℕ) → length es ≤ 336 * length ds → Dirs img l es ds
+    → readDirectories img l (length es) ds ≡ some es
 unfolding readDirectories addEntries if_then_else_
 dirs-read img l [] [] h r = refl
 dirs-read img l (e ∷ es) [] h r = absurd (omega arith)

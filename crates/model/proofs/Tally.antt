@@ -17,7 +17,7 @@ use Rattle.model.specs.Rules.{isFrozen}
 use Rattle.model.specs.Sight.{rows, seen}
 use Rattle.model.specs.Transactions.{unless, Test, gives, _when_, newTuple, written, changed, perform, plan, planRows, removeAll, openCall, insertCall, replaceCall, deleteCall, commitCall, abortCall, readCall, readSeen, listCall, listing, others}
 use Rattle.model.specs.Checkpoint.{beginCall, stored, storePage, made, allocate, stepAt, stepOf, storeDirectory, storeHeader, inTurn, stepCall, runCall, left}
-use Rattle.model.specs.Calls.{Call, opens, commits, aborts, inserts, replaces, deletes, reads, lists, begins, steps, runs, accepted, call, afterCalls, withWriter, writers, hadWritten}
+use Rattle.model.specs.Calls.{Call, opens, commits, aborts, inserts, replaces, deletes, reads, lists, begins, steps, runs, accepted, call, withWriter, writers, afterCalls, hadWritten}
 use Rattle.model.proofs.Lists.{Mem, many-none, all-map, eqb-true, all-mem, eqb-sym, le-true, in-here, eqb-self, in-cons, in-keep, and-no, and-yes, any-many}
 use Rattle.model.proofs.Crash.{unless-out}
 use Rattle.model.proofs.Rows.{rows-freeze, thaw-rows}
@@ -72,7 +72,8 @@ own-new : (u tx k : ℕ) (bs : List ℕ) (m : Bool) (t : ℕ) (s : Store) → is
 unfolding isOwn isBy newTuple
 own-new u tx k bs m t s = refl
 
-pub written-rows : (s : Store) → Valid s → (tx t k : ℕ) (bs : List ℕ) (m : Bool) → rows (written tx t k bs m s .store .pages) ≡ insertRow (t, newTuple tx k bs m s) (rows (s .pages))
+pub written-rows : (s : Store) → Valid s → (tx t k : ℕ) (bs : List ℕ) (m : Bool)
+    → rows (written tx t k bs m s .store .pages) ≡ insertRow (t, newTuple tx k bs m s) (rows (s .pages))
 unfolding written gives changed newTuple
 written-rows s v tx t k bs m = place-rows t (newTuple tx k bs m s) (s .pages) (v .pages) (v .has .rising)
 
@@ -82,7 +83,8 @@ written-own s v tx t k bs m u =
     ap (howMany (isOwn u)) (written-rows s v tx t k bs m) ∙ many-inserted (isOwn u) (t, newTuple tx k bs m s) (rows (s .pages))
     ∙ ap (λ b. if b then suc (howMany (isOwn u) (rows (s .pages))) else howMany (isOwn u) (rows (s .pages))) (own-new u tx k bs m t s)
 
-written-tally : (c : Call) (s : Store) → Valid s → (tx t k : ℕ) (bs : List ℕ) (m : Bool) → ((u n : ℕ) → noted c u n ≡ wrote u tx n) → Tallies c s (written tx t k bs m s)
+written-tally : (c : Call) (s : Store) → Valid s → (tx t k : ℕ) (bs : List ℕ) (m : Bool) → ((u n : ℕ) → noted c u n ≡ wrote u tx n)
+    → Tallies c s (written tx t k bs m s)
 unfolding tally accepted if_then_else_ written gives
 written-tally c s v tx t k bs m e u = written-own s v tx t k bs m u ∙ sym (e u (own u s))
 
@@ -112,16 +114,19 @@ module _ (tx : ℕ) (rs : List Row) (F : Row → List Row)
       (λ e. let q = eqb-true tx u e in rw e (many-none (isOwn u) (gather F rs) (gather-all (λ a. isOwn u a ≡ false) F rs (all-mem _ rs (λ r m. all-map (Comes tx r) (λ a. isOwn u a ≡ false) (λ a c. ap (λ z. isOwn z a) (sym q) ∙ gone-own r a c) (F r) (comes r m))))))
       (λ e. rw e (many-gather (isOwn u) F rs (all-mem _ rs (λ r m. one-own u (eqb-sym tx u e) r m))))
 
-pub committed-rows : (tx : ℕ) (s : Store) → Valid s → rows (perform (plan tx (s .pages)) (s .pages)) ≡ gather (afterCommit tx (rows (s .pages))) (rows (s .pages))
+pub committed-rows : (tx : ℕ) (s : Store) → Valid s
+    → rows (perform (plan tx (s .pages)) (s .pages)) ≡ gather (afterCommit tx (rows (s .pages))) (rows (s .pages))
 unfolding plan
 committed-rows tx s v = perform-rows (planRows tx (rows (s .pages)) (rows (s .pages))) (s .pages) (v .pages) (v .has .differ) .1 ∙ commit-rows tx (rows (s .pages)) (rows-differ s v)
 
-pub aborted-rows : (tx : ℕ) (s : Store) → Valid s → rows (perform (removeAll (keep (isOwn tx) (rows (s .pages)))) (s .pages)) ≡ gather (afterAbort tx) (rows (s .pages))
+pub aborted-rows : (tx : ℕ) (s : Store) → Valid s
+    → rows (perform (removeAll (keep (isOwn tx) (rows (s .pages)))) (s .pages)) ≡ gather (afterAbort tx) (rows (s .pages))
 aborted-rows tx s v = perform-rows (removeAll (keep (isOwn tx) (rows (s .pages)))) (s .pages) (v .pages) (v .has .differ) .1 ∙ abort-rows tx (rows (s .pages)) (rows-differ s v)
 
 -- ---- the checkpoint leaves the rows
 
-rows-unless : (ts : List Test) (s : Store) (o : Outcome) → rows (o .store .pages) ≡ rows (s .pages) → rows (unless ts s o .store .pages) ≡ rows (s .pages)
+rows-unless : (ts : List Test) (s : Store) (o : Outcome) → rows (o .store .pages) ≡ rows (s .pages)
+    → rows (unless ts s o .store .pages) ≡ rows (s .pages)
 rows-unless ts s o e = unless-out (λ t ws. rows (t .pages) ≡ rows (s .pages)) ts s o refl e
 
 pub begin-rows : (s : Store) → rows (beginCall s .store .pages) ≡ rows (s .pages)
@@ -216,11 +221,6 @@ tallies (runs limit len) s v = quiet-tally (runs limit len) s (runCall limit len
 
 -- ---- a run
 
-valid-after : (cs : List Call) (s : Store) → Valid s → Valid (afterCalls cs s)
-unfolding afterCalls
-valid-after [] s v = v
-valid-after (c ∷ cs) s v = valid-after cs (call c s .store) (keeps c s v)
-
 -- w is right for the counts n
 abbrev Right : (ℕ → ℕ) → List ℕ → Type 0
 Right n w = (u : ℕ) → isIn u w ≡ ltb 0 (n u)
@@ -263,7 +263,8 @@ tally-no : (c : Call) (a : Answer) (u n : ℕ) → accepted a ≡ false → tall
 unfolding tally if_then_else_
 tally-no c a u n h = rw h
 
-right-step : (c : Call) (s : Store) → Valid s → (w : List ℕ) → Right (λ u. own u s) w → Right (λ u. own u (call c s .store)) (if accepted (call c s .answer) then writers c w else w)
+right-step : (c : Call) (s : Store) → Valid s → (w : List ℕ) → Right (λ u. own u s) w
+    → Right (λ u. own u (call c s .store)) (if accepted (call c s .answer) then writers c w else w)
 unfolding if_then_else_
 right-step c s v w r u =
     by (accepted (call c s .answer))

@@ -165,7 +165,8 @@ pairs-paired r (s ∷ rs) b c f =
         (λ e. ap startsWell (keep-none (isAt t k) rs (all-map (Before s) (λ q. isAt t k q ≡ false) (λ q l. passed t k r s q n e (b .0 .0) l) rs (b .1 .0))) ∙ (unfold startsWell in refl))
         (λ e. sym (ap startsWell (keep-past (isAt t k) s rs n)) ∙ f t k e)
 
-pub order-tests : (rs : List Row) → Pairs Before rs → Pairs Chain rs → ((t k : ℕ) → startsWell (keep (isAt t k) rs) ≡ true) → (paired follows rs ≡ true) × (startsWell rs ≡ true)
+pub order-tests : (rs : List Row) → Pairs Before rs → Pairs Chain rs → ((t k : ℕ) → startsWell (keep (isAt t k) rs) ≡ true)
+    → (paired follows rs ≡ true) × (startsWell rs ≡ true)
 order-tests [] b c h = (unfold paired in refl, unfold startsWell in refl)
 order-tests (r ∷ rs) b c h = (
   pairs-paired r rs b c (λ t k n. sym (ap startsWell (keep-past (isAt t k) r rs n)) ∙ h t k),

@@ -71,7 +71,8 @@ held-sub cap nx s h = record {
 -- ---- one row more
 
 module _ (t k nx : ℕ) (low high : List Row) (below : AllOf (NotAbove t k) low) (above : AllOf (Above t k) high) where
-  pub held-insert : (cap : ℕ) (y : Tuple) → y .key ≡ k → y .number ≡ nx → t ≤ 7 → suc (length (low ++ high)) ≤ cap → HeldOk cap nx (low ++ high) → HeldOk cap (suc nx) (low ++ (t, y) ∷ high)
+  pub held-insert : (cap : ℕ) (y : Tuple) → y .key ≡ k → y .number ≡ nx → t ≤ 7 → suc (length (low ++ high)) ≤ cap → HeldOk cap nx (low ++ high)
+      → HeldOk cap (suc nx) (low ++ (t, y) ∷ high)
   held-insert cap y ek en lt room h =
       let kn = all-parts (λ r. (r .1 .number < nx) × (r .0 ≤ 7)) low high (h .known) in
       record {
@@ -98,7 +99,8 @@ unfolding startsWell isEmpty
 starts-snoc [] x h e = rw (e refl)
 starts-snoc (r ∷ rs) x h e = h
 
-same-count : (rs qs : List Row) (n : ℕ) (o : Owner) → ((u : ℕ) → howMany (earlierBy u n) qs ≡ howMany (earlierBy u n) rs) → statementIs rs n o ≡ true → statementIs qs n o ≡ true
+same-count : (rs qs : List Row) (n : ℕ) (o : Owner) → ((u : ℕ) → howMany (earlierBy u n) qs ≡ howMany (earlierBy u n) rs) → statementIs rs n o ≡ true
+    → statementIs qs n o ≡ true
 unfolding statementIs
 same-count rs qs n committed e h = h
 same-count rs qs n (tentative u s) e h = rw (e u) h
@@ -136,7 +138,9 @@ module _ (t tx : ℕ) (x : Tuple) (low high : List Row) (below : AllOf (NotAbove
   keep-off : (t′ k′ : ℕ) → isAt t′ k′ (t, x) ≡ false → keep (isAt t′ k′) (low ++ (t, x) ∷ high) ≡ keep (isAt t′ k′) (low ++ high)
   keep-off t′ k′ h = keep-append (isAt t′ k′) low ((t, x) ∷ high) ∙ ap (λ z. keep (isAt t′ k′) low ++ z) (keep-past (isAt t′ k′) (t, x) high h) ∙ sym (keep-append (isAt t′ k′) low high)
 
-  new-heads : ((t′ k′ : ℕ) → startsWell (keep (isAt t′ k′) (low ++ high)) ≡ true) → (isEmpty (keep (isAt t (x .key)) (low ++ high)) ≡ true → x .mark ≡ false) → (t′ k′ : ℕ) → startsWell (keep (isAt t′ k′) (low ++ (t, x) ∷ high)) ≡ true
+  new-heads : ((t′ k′ : ℕ) → startsWell (keep (isAt t′ k′) (low ++ high)) ≡ true)
+      → (isEmpty (keep (isAt t (x .key)) (low ++ high)) ≡ true → x .mark ≡ false) → (t′ k′ : ℕ)
+      → startsWell (keep (isAt t′ k′) (low ++ (t, x) ∷ high)) ≡ true
   new-heads hs first t′ k′ =
       by (isAt t′ k′ (t, x))
       (λ h. let s = at-split t′ k′ (t, x) h in

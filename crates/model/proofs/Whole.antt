@@ -11,7 +11,7 @@ use Rattle.basics.specs.Basics.{if_then_else_, all, isEmpty, any, isIn, every, 
 use Rattle.basics.proofs.Facts.{AllOf, lie, by}
 use Rattle.blocks.specs.Block.{PageFits}
 use Rattle.blocks.specs.Limits.{recordSpace, mostNumber}
-use Rattle.blocks.specs.Tuple.{Tuple, AllFit, sizes, size, Fits, Owner, ownerSize, committed, tentative}
+use Rattle.blocks.specs.Tuple.{Tuple, AllFit, size, sizes, Fits, Owner, ownerSize, committed, tentative}
 use Rattle.blocks.specs.declared.Header.{Header}
 use Rattle.rows.specs.Rows.{rowsOf, Row, isOwn, openLimit, rowsOk, transactions, markOk, statementOk, number, isBelow, isBy, follows, startsWell}
 use Rattle.image.specs.Stages.{StoredPage, rowsOfPages, capacityLimit}
@@ -49,7 +49,8 @@ rows-free (p ∷ ps) a b = rw (ripened-bare (p .tuples) (b .0 .1 (a .0) .0), row
 
 -- ---- ready
 
-free-calm : (ps : List Page) → AllOf (λ p. p .frozen ≡ false) ps → AllOf PageOk ps → AllOf (λ p. (p .frozen ≡ false) × (shown (p .tuples) ≡ bare (p .tuples))) ps
+free-calm : (ps : List Page) → AllOf (λ p. p .frozen ≡ false) ps → AllOf PageOk ps
+    → AllOf (λ p. (p .frozen ≡ false) × (shown (p .tuples) ≡ bare (p .tuples))) ps
 free-calm ps a b = all-two (λ p. p .frozen ≡ false) PageOk _ (λ p h o. (h, shown-calm (p .tuples) (nothing-pending (p .tuples) (o .1 h .0)))) ps a b
 
 page-some : (p : Page) → PageOk p → isEmpty (content p .1) ≡ false
@@ -72,7 +73,7 @@ pages-few (p ∷ ps) a =
     omega arith
 
 -- an own row's transaction is open
-pub open-own : (tx : ℕ) (os : List ℕ) (rs : List Row) → AllOf (λ r. Opened os (r .1 .owner)) rs → any (isOwn tx) rs ≡ true → isIn tx os ≡ true
+open-own : (tx : ℕ) (os : List ℕ) (rs : List Row) → AllOf (λ r. Opened os (r .1 .owner)) rs → any (isOwn tx) rs ≡ true → isIn tx os ≡ true
 unfolding any
 open-own tx os [] a h = lie h
 open-own tx os (r ∷ rs) a h =
@@ -83,8 +84,16 @@ unfolding rowsOk every
 rows-tests most nx os rs h l few =
     let o = order-tests rs (h .rising) (l .chain) (l .heads) in
     let p = pigeon (transactions rs) os (transactions-distinct rs) (all-in _ (transactions rs) (λ x i. open-own x os rs (l .open′) (sym (in-transactions x rs) ∙ i))) in
-    rw (o .0, o .1, differ-distinct rs (h .differ), all-below, le-true (length rs) most (h .few), le-true (length (transactions rs)) openLimit (omega arith),
-      all-true markOk rs (l .marked), all-true (statementOk rs) rs (l .counted))
+    rw (
+      o .0,
+      o .1,
+      differ-distinct rs (h .differ),
+      all-below,
+      le-true (length rs) most (h .few),
+      le-true (length (transactions rs)) openLimit (omega arith),
+      all-true markOk rs (l .marked),
+      all-true (statementOk rs) rs (l .counted),
+    )
   where
     below : (r : Row) → (r .1 .number < nx) × (r .0 ≤ 7) → isBelow nx r ≡ true
     below r k = unfold isBelow number in le-true (suc (r .1 .number)) nx (k .0)
@@ -154,7 +163,7 @@ unfolding rowsOf
 all-rows P Q t f [] a = tt
 all-rows P Q t f (x ∷ xs) a = (f x (a .0), all-rows P Q t f xs (a .1))
 
-pub all-fit : (ts : List Tuple) → AllFit ts → AllOf Fits ts
+all-fit : (ts : List Tuple) → AllFit ts → AllOf Fits ts
 all-fit [] a = tt
 all-fit (x ∷ xs) a = (a .0, all-fit xs (a .1))
 
@@ -213,7 +222,8 @@ module _ (most nx : ℕ) (rs : List Row) (ok : rowsOk most nx rs ≡ true) where
 abbrev pub Fitting : Store → Type 0
 Fitting s = AllOf (λ r. Fits (r .1)) (held (s .pages))
 
-loaded-valid : (h : Header) (ps : List StoredPage) → h .next ≤ mostNumber → h .capacity ≤ capacityLimit → rowsOk (h .capacity) (h .next) (rowsOfPages ps) ≡ true → AllOf Tested ps → Valid (recoveredStore h ps) × Fitting (recoveredStore h ps)
+loaded-valid : (h : Header) (ps : List StoredPage) → h .next ≤ mostNumber → h .capacity ≤ capacityLimit
+    → rowsOk (h .capacity) (h .next) (rowsOfPages ps) ≡ true → AllOf Tested ps → Valid (recoveredStore h ps) × Fitting (recoveredStore h ps)
 unfolding recoveredStore
 loaded-valid h ps nx cap ok t =
     let rs = rowsOfPages ps in
