@@ -2,7 +2,7 @@
 use mathlib.Core.Path.{_≡_, refl, sym, ap, _∙_, subst, fun-ext}
 use Prim.Native.Nat.{ℕ, zero, suc, _+_, _-_, _*_, _/_, _%_, _≤_, _<_}
 use native.Mathlib.Omega.{arith}
-use mathlib.Core.Bool.{true, false, not, _||_}
+use mathlib.Core.Bool.{true, false, not}
 use mathlib.Core.List.{List, [], _++_}
 use lib.ListN.{length, take, drop, length-append, length-take, length-drop, take-append-drop}
 use lib.Seq.{take-at, drop-at, drop-append-le, take-append-le, drop-append-add, drop-drop}
@@ -25,7 +25,7 @@ use Rattle.model.specs.Recover.{memoryFor, putBlock, freshStore, make, m
 use Rattle.model.proofs.Views.{put, recoverFrom, recoverView, Sane, AllSane}
 use Rattle.model.proofs.Recovery.{found}
 use Rattle.model.proofs.Start.{headed}
-use Rattle.model.proofs.Lists.{eqb-self, eqb-true, le-true, leb-true, leb-false, lt-false, not-false, or-false}
+use Rattle.model.proofs.Lists.{eqb-self, eqb-true, le-true, leb-true, leb-false, lt-false, not-false}
 
 -- ---- a block of an image exchanged
 
@@ -199,14 +199,14 @@ pub make-accepted : (len m n : ℕ) (s : Store) → make len m n ≡ holds s
 unfolding make if_then_else_
 make-accepted len m n s e =
     by (not (wholeBlocks len)) (λ a. refuses-holds (rw a at e))
-    (λ a. by (ltb n 1 || ltb capacityLimit n) (λ b. refuses-holds (rw (a, b) at e))
-    (λ b. by (ltb m (memoryFor n)) (λ c. refuses-holds (rw (a, b, c) at e))
-    (λ c.
-    let k = or-false (ltb n 1) (ltb capacityLimit n) b in
-    let lo : 1 < suc n = leb-false (suc n) 1 (k .0) in
-    let hi : n < suc capacityLimit = leb-false (suc capacityLimit) n (k .1) in
-    let mem : memoryFor n < suc m = leb-false (suc m) (memoryFor n) c in
-    (not-false (wholeBlocks len) a, omega arith, omega arith, omega arith, sym (holds-eq (rw (a, b, c) at e))))))
+    (λ a. by (ltb n 1) (λ b. refuses-holds (rw (a, b) at e))
+    (λ b. by (ltb capacityLimit n) (λ c. refuses-holds (rw (a, b, c) at e))
+    (λ c. by (ltb m (memoryFor n)) (λ d. refuses-holds (rw (a, b, c, d) at e))
+    (λ d.
+    let lo : 1 < suc n = leb-false (suc n) 1 b in
+    let hi : n < suc capacityLimit = leb-false (suc capacityLimit) n c in
+    let mem : memoryFor n < suc m = leb-false (suc m) (memoryFor n) d in
+    (not-false (wholeBlocks len) a, omega arith, omega arith, omega arith, sym (holds-eq (rw (a, b, c, d) at e)))))))
 
 -- the header that make writes passes, and the store below it is empty
 fresh-view : (v : View) (b n : ℕ) → 1 ≤ n → n ≤ capacityLimit → v 0 ≡ header (headerFor (freshStore b n) 0 0 0 [])
