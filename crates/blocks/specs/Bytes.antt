@@ -3,10 +3,11 @@ use Prim.Native.Nat.{ℕ, _+_, _*_, _/_, _%_}
 use mathlib.Core.Bool.{Bool, true, false}
 use mathlib.Core.List.{List, [], _∷_, _++_}
 use lib.ListN.{length, getD, take, drop}
-use lib.Dec.{ltb}
+use lib.Dec.{ltb, leb}
 use Rattle.basics.specs.Basics.{if_then_else_}
 use Rattle.blocks.specs.Numbers.{be4, num4}
-use Rattle.blocks.specs.Decode.{taken, whole}
+use Rattle.blocks.specs.Tuple.{Tuple}
+use Rattle.blocks.specs.Decode.{readOwner, taken, whole}
 use Rattle.blocks.specs.declared.Record.{Record}
 use Rattle.blocks.specs.declared.Cursor.{Cursor}
 use Rattle.blocks.specs.declared.Next.{Next}
@@ -24,6 +25,15 @@ recordAt xs at =
       start = if ltb f 128 then at + 13 else at + 9;
       len = f % 64
     }
+
+-- the payload of a record that stands in xs
+abbrev pub payloadIn : List ℕ → Record → List ℕ
+payloadIn xs r = take (r .len) (drop (r .start) xs)
+
+-- the tuple of a record whose payload is p
+unfoldable pub tupleOf : Record → List ℕ → Tuple
+tupleOf r p = record {
+  key = r .key; number = r .number; owner = readOwner (r .flags) (r .owner); mark = leb 64 (r .flags % 128); payload = p }
 
 -- the record at a cursor's place, with the cursor behind it
 unfoldable pub nextAt : List ℕ → ℕ → Next

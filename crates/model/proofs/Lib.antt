@@ -1,3 +1,9 @@
+pub mod Cases
+pub mod Traps
+pub mod Cuts
+pub mod Bytes
+pub mod Capacity
+pub mod Line
 pub mod Views
 pub mod Lists
 pub mod Owners

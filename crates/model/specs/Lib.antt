@@ -6,3 +6,4 @@ pub mod Checkpoint
 pub mod Calls
 pub mod Recover
 pub mod QuotedLine
+pub mod Cases

@@ -1,0 +1,79 @@
+-- A directory: its entries are read one by one, and it is filled from the front.
+use mathlib.Core.Path.{_≡_, refl, sym, ap, _∙_}
+use mathlib.Core.List.{List, [], _∷_, _++_, append-assoc, append-nil}
+use Prim.Native.Nat.{ℕ, zero, suc, _+_, _-_, _*_, _/_, _%_, _^_, _≤_, _<_}
+use native.Mathlib.Omega.{arith}
+use native.Mathlib.Numerals.{add-one}
+use lib.ListN.{length, take, drop, getD, set, length-append, length-take}
+use lib.Seq.{take-suc, take-suc-set}
+use Rattle.bits.specs.Bits.{bitsOf, bitsIn, number, field, over}
+use Rattle.bits.proofs.Numbers.{length-bitsOf}
+use Rattle.blocks.specs.Spell.{zeros, spell, filled}
+use Rattle.blocks.specs.Block.{directory, entryFields, directoryFields, encodeBlock}
+use Rattle.blocks.specs.Decode.{readEntries}
+use Rattle.blocks.proofs.Spelled.{all-bytes, block-is, put-next, length-spell, spell-append, put-fields, empty-block}
+
+entries-snoc : (xs : List ℕ) (at n : ℕ) → readEntries xs at (suc n) ≡ readEntries xs at n ++ (field (bitsIn xs) (at + 12 * n) 12 ∷ [])
+unfolding readEntries
+entries-snoc xs at zero = let z : at + 12 * 0 ≡ at = omega arith in rw z
+entries-snoc xs at (suc n) =
+    let e : at + 12 + 12 * n ≡ at + 12 * suc n = omega arith in
+    ap (λ (l : List ℕ). field (bitsIn xs) at 12 ∷ l) (entries-snoc xs (at + 12) n ∙ ap (λ (k : ℕ). readEntries xs (at + 12) n ++ (field (bitsIn xs) k 12 ∷ [])) e)
+
+pub entries-turn : (xs out : List ℕ) (i v : ℕ) → i < length out → take i out ≡ readEntries xs 64 i → v ≡ field (bitsIn xs) (64 + 12 * i) 12
+    → take (i + 1) (set out i v) ≡ readEntries xs 64 (i + 1)
+entries-turn xs out i v h e q = rw (add-one i, take-suc-set out i v h, e, q) (sym (entries-snoc xs 64 i))
+
+-- ---- bits from the front
+
+abbrev pub headFields : ℕ → ℕ → List (ℕ × ℕ)
+headFields l n = (4, 3) ∷ (9, n) ∷ (32, l) ∷ (19, 0) ∷ []
+
+unfoldable pub dirBits : ℕ → ℕ → List ℕ → List ℕ
+dirBits l n es = spell (headFields l n) ++ spell (entryFields es)
+
+dir-whole : (l : ℕ) (es s : List ℕ) → length s ≡ 512 → ((i : ℕ) → getD s i 0 < 256) → bitsIn s ≡ filled (dirBits l (length es) es) → s ≡ encodeBlock (directory l es)
+unfolding dirBits encodeBlock
+dir-whole l es s k b e =
+    let a : spell (directoryFields l es) ≡ spell (headFields l (length es)) ++ spell (entryFields es) = spell-append (headFields l (length es)) (entryFields es) in
+    block-is (directoryFields l es) s k (all-bytes s b) (e ∙ ap filled (sym a))
+
+spell-entries-snoc : (es : List ℕ) (e : ℕ) → spell (entryFields (es ++ (e ∷ []))) ≡ spell (entryFields es) ++ bitsOf 12 e
+unfolding spell entryFields
+spell-entries-snoc [] e = append-nil (bitsOf 12 e)
+spell-entries-snoc (x ∷ es) e = rw (spell-entries-snoc es e) (sym (append-assoc (bitsOf 12 x) (spell (entryFields es)) (bitsOf 12 e)))
+
+length-entries : (es : List ℕ) → length (spell (entryFields es)) ≡ 12 * length es
+unfolding spell entryFields
+length-entries [] = refl
+length-entries (x ∷ es) = rw (length-append (bitsOf 12 x) (spell (entryFields es)), length-bitsOf 12 x, length-entries es) (omega arith)
+
+length-dir : (l n : ℕ) (es : List ℕ) → length (dirBits l n es) ≡ 64 + 12 * length es
+unfolding dirBits
+length-dir l n es =
+    rw (length-append (spell (headFields l n)) (spell (entryFields es)), length-entries es, length-spell (headFields l n))
+
+-- the head, field by field
+pub head-put : (l n : ℕ) (b : List ℕ) → b ≡ bitsIn (zeros 512) → over (over (over (over b 0 (bitsOf 4 3)) 4 (bitsOf 9 n)) 13 (bitsOf 32 l)) 45 (bitsOf 19 0) ≡ filled (dirBits l n [])
+unfolding dirBits entryFields spell
+head-put l n b e = rw (e, empty-block) (put-fields (headFields l n) [] 0 refl (omega arith) ∙ ap filled (sym (append-nil (spell (headFields l n)))))
+
+dir-snoc : (l n : ℕ) (es : List ℕ) (e : ℕ) → dirBits l n es ++ bitsOf 12 e ≡ dirBits l n (es ++ (e ∷ []))
+unfolding dirBits
+dir-snoc l n es e = rw (spell-entries-snoc es e) (append-assoc (spell (headFields l n)) (spell (entryFields es)) (bitsOf 12 e))
+
+-- an entry more
+pub entry-put : (l n : ℕ) (es : List ℕ) (i : ℕ) → i < length es → i < 336 → over (filled (dirBits l n (take i es))) (64 + 12 * i) (bitsOf 12 (getD es i 0)) ≡ filled (dirBits l n (take (i + 1) es))
+entry-put l n es i h k =
+    let t : length (take i es) ≡ i = simp length-take (omega arith) in
+    let d : length (dirBits l n (take i es)) ≡ 64 + 12 * i = length-dir l n (take i es) ∙ ap (λ (m : ℕ). 64 + 12 * m) t in
+    let w = length-bitsOf 12 (getD es i 0) in
+    let p : over (filled (dirBits l n (take i es))) (length (dirBits l n (take i es))) (bitsOf 12 (getD es i 0)) ≡ filled (dirBits l n (take i es) ++ bitsOf 12 (getD es i 0)) =
+    put-next (dirBits l n (take i es)) (bitsOf 12 (getD es i 0)) (omega arith) in
+    rw (← d, p, add-one i, take-suc es i 0 h) (ap filled (dir-snoc l n (take i es) (getD es i 0)))
+
+pub dir-done : (l n : ℕ) (es s : List ℕ) → n ≤ length es → length s ≡ 512 → ((i : ℕ) → getD s i 0 < 256) → bitsIn s ≡ filled (dirBits l n (take n es)) → s ≡ encodeBlock (directory l (take n es))
+dir-done l n es s h k b e =
+    let t : length (take n es) ≡ n = simp length-take (omega arith) in
+    dir-whole l (take n es) s k b (e ∙ ap (λ (m : ℕ). filled (dirBits l m (take n es))) (sym t))
+

@@ -1,0 +1,113 @@
+-- Records that are spelled are read back.
+use mathlib.Core.Path.{_≡_, refl, sym, ap, _∙_}
+use mathlib.Core.Bool.{Bool, true, false, _&&_}
+use mathlib.Core.Option.{Option, none, some, Option·map}
+use mathlib.Core.List.{List, [], _∷_, _++_, append-assoc}
+use Prim.Native.Nat.{ℕ, zero, suc, _+_, _*_, _/_, _%_, _≤_, _<_}
+use native.Mathlib.Omega.{arith}
+use lib.ListN.{length, take, drop, getD, length-append}
+use lib.Seq.{drop-at, take-append-seam}
+use lib.Dec.{ltb, leb}
+use borrow.Author.Tests.{lt-ltb, le-ltb, le-leb, lt-leb}
+use Rattle.basics.specs.Basics.{if_then_else_}
+use Rattle.blocks.specs.Numbers.{be4, num4}
+use Rattle.blocks.specs.Tuple.{Owner, committed, tentative, Tuple, ownerSize, size, OwnerFits, Fits, AllFit}
+use Rattle.blocks.specs.Block.{committedBit, markBit}
+use Rattle.blocks.specs.Decode.{readOwner, readTuple, taken, whole, readTuples}
+use Rattle.blocks.proofs.Tuples.{flags, ownerBytes, recordBytes, records, length-record}
+
+four : (v : ℕ) → v < 4294967296 → v / 16777216 % 256 * 16777216 + v / 65536 % 256 * 65536 + v / 256 % 256 * 256 + v % 256 ≡ v
+four v h =
+    let a : v / 65536 ≡ v / 256 / 256 = omega arith in
+    let b : v / 16777216 ≡ v / 65536 / 256 = omega arith in
+    let c : v / 16777216 % 256 ≡ v / 16777216 = omega arith in
+    omega arith
+
+-- ---- the ninth byte
+
+-- the byte of a payload of n bytes
+abbrev ninth : Owner → Bool → ℕ → ℕ
+ninth o m n = committedBit o * 128 + (markBit m * 64 + n)
+
+module _ (o : Owner) (m : Bool) (n : ℕ) (h : n ≤ 40) where
+  ninth-length : ninth o m n % 64 ≡ n
+  unfolding committedBit markBit
+  ninth-length = elim o [
+    | committed ↦ elim m [ true ↦ omega arith | false ↦ omega arith ]
+    | tentative t s ↦ elim m [ true ↦ omega arith | false ↦ omega arith ]
+  ]
+
+  ninth-mark : leb 64 (ninth o m n % 128) ≡ m
+  unfolding committedBit markBit
+  ninth-mark = elim o [
+    | committed ↦ elim m [ true ↦ le-leb 64 ((128 + (64 + n)) % 128) (omega arith) | false ↦ lt-leb 64 ((128 + (0 + n)) % 128) (omega arith) ]
+    | tentative t s ↦ elim m [ true ↦ le-leb 64 ((0 + (64 + n)) % 128) (omega arith) | false ↦ lt-leb 64 ((0 + (0 + n)) % 128) (omega arith) ]
+  ]
+
+ninth-committed : (m : Bool) (n : ℕ) → ltb (ninth committed m n) 128 ≡ false
+unfolding committedBit
+ninth-committed m n = le-ltb (128 + (markBit m * 64 + n)) 128 (omega arith)
+
+ninth-tentative : (t s : ℕ) (m : Bool) (n : ℕ) → n ≤ 40 → ltb (ninth (tentative t s) m n) 128 ≡ true
+unfolding committedBit markBit
+ninth-tentative t s true n h = lt-ltb (0 + (64 + n)) 128 (omega arith)
+ninth-tentative t s false n h = lt-ltb (0 + (0 + n)) 128 (omega arith)
+
+-- ---- a record
+
+abbrev tuple : ℕ → ℕ → Owner → Bool → List ℕ → Tuple
+tuple k n o m p = record { key = k; number = n; owner = o; mark = m; payload = p }
+
+read-fields : (k n : ℕ) (o : Owner) (m : Bool) (p rest : List ℕ) → k < 4294967296 → n < 4294967296 → OwnerFits o → length p ≤ 40
+    → readTuple (recordBytes (tuple k n o m p) ++ rest) ≡ tuple k n o m p
+unfolding readTuple recordBytes flags be4 num4 ownerBytes ownerSize readOwner if_then_else_
+read-fields k n committed m p rest hk hn ho hp =
+    let a = four k hk in
+    let b = four n hn in
+    let d = ninth-mark committed m (length p) hp in
+    let q : take (ninth committed m (length p) % 64) (p ++ rest) ≡ p = rw (ninth-length committed m (length p) hp) (take-append-seam p rest) in
+    rw (ninth-committed m (length p)) (λ i. record { key = a i; number = b i; owner = committed; mark = d i; payload = q i })
+read-fields k n (tentative t s) m p rest hk hn ho hp =
+    let a = four k hk in
+    let b = four n hn in
+    let hw : t * 1048576 + s < 4294967296 = omega arith in
+    let g = four (t * 1048576 + s) hw in
+    let g1 : (t * 1048576 + s) / 1048576 ≡ t = omega arith in
+    let g2 : (t * 1048576 + s) % 1048576 ≡ s = omega arith in
+    let d = ninth-mark (tentative t s) m (length p) hp in
+    let q : take (ninth (tentative t s) m (length p) % 64) (p ++ rest) ≡ p = rw (ninth-length (tentative t s) m (length p) hp) (take-append-seam p rest) in
+    rw (ninth-tentative t s m (length p) hp, g) (λ i. record { key = a i; number = b i; owner = tentative (g1 i) (g2 i); mark = d i; payload = q i })
+
+record-takes : (k n : ℕ) (o : Owner) (m : Bool) (p rest : List ℕ) → length p ≤ 40 → taken (recordBytes (tuple k n o m p) ++ rest) ≡ size (tuple k n o m p)
+unfolding taken recordBytes flags be4 ownerSize size if_then_else_
+record-takes k n committed m p rest hp = rw (ninth-committed m (length p), ninth-length committed m (length p) hp)
+record-takes k n (tentative t s) m p rest hp = rw (ninth-tentative t s m (length p) hp, ninth-length (tentative t s) m (length p) hp)
+
+module _ (x : Tuple) (rest : List ℕ) (fit : Fits x) where
+  at-least : 9 ≤ size x + length rest
+  unfolding size
+  at-least = omega arith
+
+  limit : getD (recordBytes x ++ rest) 8 0 % 64 ≤ 40
+  unfolding recordBytes be4 flags
+  limit = omega (arith, ninth-length (x .owner) (x .mark) (length (x .payload)) (fit .payload), fit .payload)
+
+  takes : taken (recordBytes x ++ rest) ≡ size x
+  takes = record-takes (x .key) (x .number) (x .owner) (x .mark) (x .payload) rest (fit .payload)
+
+  whole-record : whole (recordBytes x ++ rest) ≡ true
+  unfolding whole
+  whole-record =
+      let l : length (recordBytes x ++ rest) ≡ size x + length rest = rw (length-append (recordBytes x) rest, length-record x) in
+      rw (l, takes, le-leb 9 (size x + length rest) at-least, le-leb (getD (recordBytes x ++ rest) 8 0 % 64) 40 limit, le-leb (size x) (size x + length rest) (omega arith))
+
+  read-record : readTuple (recordBytes x ++ rest) ≡ x
+  read-record = read-fields (x .key) (x .number) (x .owner) (x .mark) (x .payload) rest (fit .key) (fit .number) (fit .owner) (fit .payload)
+
+pub read-records : (ts : List Tuple) (rest : List ℕ) → AllFit ts → readTuples (length ts) (records ts ++ rest) ≡ some ts
+unfolding readTuples records if_then_else_
+read-records [] rest fit = refl
+read-records (x ∷ ts) rest fit =
+    let R = records ts ++ rest in
+    let d : drop (size x) (recordBytes x ++ R) ≡ R = drop-at (recordBytes x) R (size x) (length-record x) in
+    rw (append-assoc (recordBytes x) (records ts) rest, whole-record x R (fit .0), takes x R (fit .0), d, read-record x R (fit .0), read-records ts rest (fit .1))

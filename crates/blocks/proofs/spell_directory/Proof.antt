@@ -1,0 +1,116 @@
+use Rattle.blocks.proofs.Entries.{dirBits, head-put, entry-put, dir-done}
+use Rattle.blocks.specs.Spell.{filled}
+use Rattle.bits.specs.Bits.{bitsIn}
+use lib.ListN.{length, take, getD}
+use Prim.Native.Nat.{ℕ, _-_, _≤_, _<_}
+use mathlib.Core.Path.{_≡_, ap}
+use native.Mathlib.Omega.{arith}
+use Rattle.blocks.proofs.spell_directory.Statement.{statement}
+use Rattle.blocks.proofs.spell_directory.Tie as tie
+use Rattle.blocks.proofs.spell_directory.Reads as reads
+use Rattle.blocks.proofs.spell_directory.Lts as lts
+use Rattle.bits.proofs.put_bits.Reads as put-bits-reads
+use Rattle.blocks.proofs.big.Reads as big-reads
+
+abbrev Inv-loop : tie.InvT-loop
+Inv-loop block₀ level entries count i₀ block i = (i ≤ count) × ((length block ≡ 512) × (((j : ℕ) → getD block j 0 < 256) × (bitsIn block ≡ filled (dirBits level count (take i entries)))))
+
+abbrev μ-loop : tie.MeasureT-loop
+μ-loop block₀ level entries count i₀ block i = count - i
+
+-- src/lib.rt:271:5
+put-bits-requires : tie.Need-put-bits-requires Inv-loop μ-loop
+put-bits-requires c κs = omega arith
+
+-- src/lib.rt:272:5
+put-bits-requires-2 : tie.Need-put-bits-requires-2 Inv-loop μ-loop
+put-bits-requires-2 c κs = omega arith
+
+-- src/lib.rt:273:5
+put-bits-requires-3 : tie.Need-put-bits-requires-3 Inv-loop μ-loop
+put-bits-requires-3 c κs = omega arith
+
+-- src/lib.rt:274:5
+put-bits-requires-4 : tie.Need-put-bits-requires-4 Inv-loop μ-loop
+put-bits-requires-4 c κs = omega arith
+
+-- src/lib.rt:276:5
+loop-holds : tie.Need-loop-holds Inv-loop μ-loop
+loop-holds c = let s = c .before .before .before .before .before .before .before .before .before .before .before .before .before .before .before .before .before .before in
+    let k = c .before .before .put-bits4 .kept in
+    let head = head-put (s .args .level) (s .args .count) (bitsIn (s .args .block .now)) (ap bitsIn (s .pre .1 .1 .1)) in
+    (omega arith, (omega arith, (λ j. omega (arith, c .slice-known5 .given j), rw (c .before .before .put-bits4 .ensures, c .before .before .before .before .before .before .put-bits3 .ensures, c .before .before .before .before .before .before .before .before .before .before .put-bits2 .ensures, c .before .before .before .before .before .before .before .before .before .before .before .before .before .before .put-bits .ensures) head)))
+
+-- src/lib.rt:277:36
+mul-put-bits : tie.Need-mul-put-bits Inv-loop μ-loop
+mul-put-bits c = omega arith
+
+-- src/lib.rt:277:31
+add-put-bits : tie.Need-add-put-bits Inv-loop μ-loop
+add-put-bits c = omega arith
+
+-- src/lib.rt:277:52
+mul-big : tie.Need-mul-big Inv-loop μ-loop
+mul-big c = omega arith
+
+-- src/lib.rt:277:52
+shared-slice-read-big : tie.Need-shared-slice-read-big Inv-loop μ-loop
+shared-slice-read-big c = omega arith
+
+-- src/lib.rt:277:48
+big-requires : tie.Need-big-requires Inv-loop μ-loop
+big-requires c κs = omega arith
+
+-- src/lib.rt:277:9
+put-bits-requires-5 : tie.Need-put-bits-requires-5 Inv-loop μ-loop
+put-bits-requires-5 c κs = omega arith
+
+-- src/lib.rt:278:13
+add-i : tie.Need-add-i Inv-loop μ-loop
+add-i c = omega arith
+
+-- src/lib.rt:276:5
+loop-less : tie.Need-loop-less Inv-loop μ-loop
+loop-less c = omega arith
+
+-- src/lib.rt:276:5
+loop-again : tie.Need-loop-again Inv-loop μ-loop
+loop-again c = let s = c .before .before .before .before .before .before .before .before .before .before .before .before .before .before .before .before .before .before .before .before .before .before .before .before .before .before in
+    let p = c .before .before .before .before .before .before .before .loop in
+    let t = c .before .before .before .before .before .before .loop-test in
+    let more = entry-put (s .args .level) (s .args .count) (s .args .entries .now) (p .i) (omega (arith, s .pre .1 .0, t)) (omega (arith, s .pre .0, t)) in
+    (omega arith, (omega arith, (λ j. omega (arith, c .slice-known6 .given j), rw (c .before .before .put-bits5 .ensures, c .before .before .before .big .ensures, p .inv .1 .1 .1) more)))
+
+-- src/lib.rt:267:1
+same-length : tie.Need-same-length Inv-loop μ-loop
+same-length c = omega (arith, c .before .before .before .before .before .before .before .before .before .before .before .before .before .before .before .before .before .before .before .before .pre .1 .1 .0)
+
+-- src/lib.rt:267:1
+returns : tie.Need-returns Inv-loop μ-loop
+returns c = let s = c .before .before .before .before .before .before .before .before .before .before .before .before .before .before .before .before .before .before .before .before in
+    let p = c .before .loop in
+    let e : p .i ≡ s .args .count = omega arith in
+    dir-done (s .args .level) (s .args .count) (s .args .entries .now) (p .block) (s .pre .1 .0) (p .inv .1 .0) (p .inv .1 .1 .0) (rw e at (p .inv .1 .1 .1))
+
+pub spell-directory-spec : {M : Type 1} → statement M
+spell-directory-spec =
+    tie.close
+    (tie.spec
+    Inv-loop
+    μ-loop
+    put-bits-requires
+    put-bits-requires-2
+    put-bits-requires-3
+    put-bits-requires-4
+    loop-holds
+    mul-put-bits
+    add-put-bits
+    mul-big
+    shared-slice-read-big
+    big-requires
+    put-bits-requires-5
+    add-i
+    loop-less
+    loop-again
+    same-length
+    returns)
