@@ -20,10 +20,10 @@ use Rattle.image.specs.Whole.{headerStage, pagesBelow, pagesStage}
 use Rattle.model.specs.State.{Held, Page, idle, Store, Write, Answer, refused, done, count}
 use Rattle.model.specs.Rules.{heldSize, fresh, calm, joins, rules}
 use Rattle.model.specs.Sight.{held, rows, isForeign, versions, seenOf, seen}
-use Rattle.model.specs.Transactions.{gives, unless, changed, openCall, notOpen, noTable, tooLong, foreign, present, unseen, full, newTuple, written, insertCall, replaceCall, deleteCall, readSeen, readCall, listing, listCall, perform, isRow, removeAll, planKey, ownAt, planRows, plan, others, commitCall, abortCall}
+use Rattle.model.specs.Transactions.{gives, unless, changed, openCall, notOpen, noTable, tooLong, foreign, present, unseen, full, newTuple, written, insertCall, replaceCall, deleteCall, readSeen, readCall, listing, listCall, perform, isRow, removeAll, planKey, ownAt, planRows, plan, openNumbers, isFor, writtenBy, withWrite, without, commitCall, abortCall}
 use Rattle.model.specs.Checkpoint.{stored as storedStore, isFree, allocate, freeCount, usedToo, isRunning, blocksNeeded, beginCall, leftOf, left, made, fill, storePage, storeDirectory, headerFor, storeHeader, stepOf, stepAt, badImage, stepCall, inTurn, runCall}
-use Rattle.model.specs.Calls.{Call, opens, inserts, replaces, deletes, commits, begins, steps, runs, call, isBegin, withWriter, writers, accepted, afterCalls, hadWritten}
-use Rattle.model.specs.Recover.{memoryFor, putBlock, freshStore, make, madeImage, loaded, recoveredStore, recoverPages, recoverBelow, recover}
+use Rattle.model.specs.Calls.{Call, opens, inserts, replaces, deletes, commits, begins, steps, runs, call, isBegin, others, withWriter, writers, accepted, afterCalls, hadWritten}
+use Rattle.model.specs.Recover.{memoryFor, putBlock, freshStore, make, madeImage, loaded, reopened, recoveredStore, recoverPages, recoverBelow, recover}
 use Rattle.model.specs.QuotedLine.{Logged, tag, log, isHeader, landed, stored, content}
 
 -- ---- runs of calls
@@ -205,13 +205,13 @@ agrees (holds r) s ws =
     every (
     same (pageNumbers (r .pages)) (pageNumbers (s .pages))
     ∷ eqb (r .next) (s .next)
-    ∷ all (λ tx. isIn tx ws) (r .active)
-    ∷ all (λ tx. isIn tx (r .active)) ws
+    ∷ all (λ tx. isIn tx ws) (openNumbers (r .active))
+    ∷ all (λ tx. isIn tx (openNumbers (r .active))) ws
     ∷ [])
 
 -- recovery of the image gives what the run of the calls base from s had
 unfoldable pub recoversTo : Store → List Call → List ℕ → Bool
-recoversTo s base img = agrees (recover (memoryFor (s .capacity)) img) (afterCalls base s) (hadWritten base s (s .active))
+recoversTo s base img = agrees (recover (memoryFor (s .capacity)) img) (afterCalls base s) (hadWritten base s (openNumbers (s .active)))
 
 -- what a cut store may leave: the bytes of the header; the new block's first bytes over the old one's
 unfoldable pub tears : List ℕ → Logged → List (List ℕ)
@@ -246,5 +246,5 @@ pub record Cuts : Type 0 where
 
 -- opens all that the cases compute with: `unfolding cases`
 unfoldable pub cases : ℕ
-unfolding basics bitsOf numberOf bitsIn field num4 same isTentative ownerSize size spell bytesOf filledUp blockOf committedBit markBit ownerFields payloadFields recordFields recordsFields entryFields encodeBlock kind spelledBy readHeader headerIn readOwner readTuple taken whole readTuples pageTable pageCount pageLevel pageOfBytes pageIn readEntries directoryCount directoryLevel directoryIn decodeBlock rowRules blockAt blockCount view wholeBlocks blockOk isZero directoriesFor directoryBlocks unusedNumbers headerOk headerTest addEntries readDirectories entriesOk testedEntries directoryTest pageOk addPage readPages rowsOfPages testedPages pageTest headerStage pagesBelow pagesStage rules held rows isForeign versions seenOf seen gives unless changed openCall notOpen noTable tooLong foreign present unseen full newTuple written insertCall replaceCall deleteCall readSeen readCall listing listCall perform isRow removeAll planKey ownAt planRows plan others commitCall abortCall storedStore isFree allocate freeCount usedToo isRunning blocksNeeded beginCall leftOf left made fill storePage storeDirectory headerFor storeHeader stepOf stepAt badImage stepCall inTurn runCall call isBegin withWriter writers accepted afterCalls hadWritten memoryFor putBlock freshStore make madeImage loaded recoveredStore recoverPages recoverBelow recover tag log isHeader landed stored content answers writes shape many after5 tuple pageOf clean booking spells firstOf imageAfter shapeOf recoveredAfter places splitMeanwhile commitMeanwhile committedLate threeTimes bothFrozen ownerNumbers tupleNumbers heldNumbers pageNumbers agrees recoversTo tears cutHere cutEverywhere script scriptLog
+unfolding basics bitsOf numberOf bitsIn field num4 same isTentative ownerSize size spell bytesOf filledUp blockOf committedBit markBit ownerFields payloadFields recordFields recordsFields entryFields encodeBlock kind spelledBy readHeader headerIn readOwner readTuple taken whole readTuples pageTable pageCount pageLevel pageOfBytes pageIn readEntries directoryCount directoryLevel directoryIn decodeBlock rowRules blockAt blockCount view wholeBlocks blockOk isZero directoriesFor directoryBlocks unusedNumbers headerOk headerTest addEntries readDirectories entriesOk testedEntries directoryTest pageOk addPage readPages rowsOfPages testedPages pageTest headerStage pagesBelow pagesStage rules held rows isForeign versions seenOf seen gives unless changed openCall notOpen noTable tooLong foreign present unseen full newTuple written insertCall replaceCall deleteCall readSeen readCall listing listCall perform isRow removeAll planKey ownAt planRows plan openNumbers isFor writtenBy withWrite without others commitCall abortCall storedStore isFree allocate freeCount usedToo isRunning blocksNeeded beginCall leftOf left made fill storePage storeDirectory headerFor storeHeader stepOf stepAt badImage stepCall inTurn runCall call isBegin withWriter writers accepted afterCalls hadWritten memoryFor putBlock freshStore make madeImage loaded reopened recoveredStore recoverPages recoverBelow recover tag log isHeader landed stored content answers writes shape many after5 tuple pageOf clean booking spells firstOf imageAfter shapeOf recoveredAfter places splitMeanwhile commitMeanwhile committedLate threeTimes bothFrozen ownerNumbers tupleNumbers heldNumbers pageNumbers agrees recoversTo tears cutHere cutEverywhere script scriptLog
 cases = 0
