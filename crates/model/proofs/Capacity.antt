@@ -23,7 +23,7 @@ use Rattle.model.specs.QuotedLine.{Logged, tag, log, isHeader}
 use Rattle.model.proofs.Views.{put, recoverView, CutV, stop, torn, whole}
 use Rattle.model.proofs.Lists.{all-append, all-mapped}
 use Rattle.model.proofs.Recovery.{found}
-use Rattle.model.proofs.Crash.{unless-out}
+use Rattle.model.proofs.Quiet.{unless-out}
 
 -- of a block that is written
 abbrev Apt : ℕ → Block → Type 0

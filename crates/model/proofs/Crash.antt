@@ -1,43 +1,33 @@
 -- The claims over an invariant of the store alone: `Valid`, which every call keeps and which makes an idle store `Ready`.
-use mathlib.Core.Path.{_≡_, refl, _∙_, ap, subst, sym}
+use mathlib.Core.Path.{_≡_, _∙_, ap, subst, sym, refl}
 use Prim.Native.Nat.{suc, ℕ, _≤_, zero, min}
-use mathlib.Core.Bool.{true, Bool, false, not}
-use mathlib.Core.List.{List, [], _∷_, _++_, map, append-nil}
-use mathlib.Core.Option.{none, Option, some}
+use mathlib.Core.Bool.{true, false, Bool, not}
+use mathlib.Core.List.{List, [], _++_, _∷_, map, append-nil}
 use lib.Dec.{eqb, ltb}
 use lib.ListN.{length}
 use lib.Pow.{low}
-use Rattle.basics.specs.Basics.{if_then_else_, isIn, first}
-use Rattle.basics.proofs.Facts.{by, AllOf, lie, by-option}
+use Rattle.basics.specs.Basics.{isIn, if_then_else_, first}
+use Rattle.basics.proofs.Facts.{AllOf, lie, by, by-option}
 use Rattle.blocks.specs.Block.{Block}
 use Rattle.blocks.specs.Decode.{taken}
 use Rattle.blocks.specs.Limits.{mostNumber}
-use Rattle.rows.specs.Rows.{Row}
 use Rattle.image.specs.Stages.{directoriesFor, holds}
 use Rattle.image.specs.View.{View}
-use Rattle.model.specs.State.{Store, Write, Outcome, Checkpoint, Page, idle, running, Held, Active, Answer, refused, done, count}
+use Rattle.model.specs.Cases.{writes}
+use Rattle.model.specs.State.{Store, Checkpoint, Page, idle, running, Held, Active, count, Outcome, Write}
 use Rattle.model.specs.Rules.{fresh, isFrozen}
-use Rattle.model.specs.Sight.{seen}
-use Rattle.model.specs.Transactions.{unless, Test, gives, _when_, written, changed, perform, Op, openCall, insertCall, replaceCall, deleteCall, readSeen, readCall, listCall, commitCall, abortCall}
+use Rattle.model.specs.Transactions.{changed, unless, gives, _when_}
 use Rattle.model.specs.Checkpoint.{freeCount, isFree, stored, isRunning, beginCall, blocksNeeded, stepAt, stepOf, inTurn, stepCall, badImage, runCall, left}
 use Rattle.model.specs.Calls.{Call, accepted, afterCalls, call, steps, isBegin, runs, begins, opens, inserts, replaces, deletes, commits, aborts, reads, lists}
 use Rattle.model.specs.QuotedLine.{landed, Logged, isHeader, tag, log}
 use Rattle.model.proofs.Views.{CutV, recoverView, WriteOk, stop, put, torn, whole}
-use Rattle.model.proofs.Frozen.{images, images-place, images-perform}
-use Rattle.model.proofs.Pages.{all-place, all-perform}
+use Rattle.model.proofs.Frozen.{images}
+use Rattle.model.proofs.Pages.{stillFrozen}
 use Rattle.model.proofs.Recovery.{recovers}
 use Rattle.model.proofs.Inv.{Tied, tied-fresh, tied-frozen, Phase, Inv, Ready, Like, Good}
-use Rattle.model.proofs.Steps.{Stepped, still, directory-step, header-step, page-step, FrozenFit, wrote}
+use Rattle.model.proofs.Steps.{still, Stepped, directory-step, header-step, page-step, FrozenFit, wrote}
 use Rattle.model.proofs.Begin.{begin-inv}
-
--- ---- refusals
-
--- a property of the store after a call and the blocks written: none if it is refused
-pub unless-out : (P : Store → List Write → Type 0) (ts : List Test) (s : Store) (o : Outcome) → P s [] → P (o .store) (o .writes)
-    → P (unless ts s o .store) (unless ts s o .writes)
-unfolding unless if_then_else_ gives
-unless-out P [] s o p q = q
-unless-out P ((n when b) ∷ ts) s o p q = by b (λ h. rw h p) (λ h. rw h (unless-out P ts s o p q))
+use Rattle.model.proofs.Quiet.{quiet, Quiet, unless-out, isPlain}
 
 -- ---- calls that make no store and touch no checkpoint
 
@@ -50,75 +40,9 @@ tie-fresh : (img : View) (s : Store) (c : Checkpoint) (t : ℕ) (ts : List Held)
 tie-fresh img s idle t ts = tied-fresh img (s .level) (s .used) t ts
 tie-fresh img s (running n₀ es ds) t ts = tied-fresh img (suc (s .level)) (λ b. isIn b es) t ts
 
-tie-frozen : (img : View) (s : Store) (c : Checkpoint) (p : Page) → p .frozen ≡ true → Tie img s c p
-tie-frozen img s idle p h = tied-frozen img (s .level) (s .used) p h
-tie-frozen img s (running n₀ es ds) p h = tied-frozen img (suc (s .level)) (λ b. isIn b es) p h
-
-record Quiet (img : View) (s : Store) (o : Outcome) : Type 0 where
-  none-written : o .writes ≡ []
-  next : ℕ
-  pages : List Page
-  active : List Active
-  eq : o .store ≡ changed s next pages active
-  same : images pages ≡ images (s .pages)
-  kept : AllOf (Tie img s (s .checkpoint)) (s .pages) → AllOf (Tie img s (s .checkpoint)) pages
-
-quiet-same : (img : View) (s : Store) (a : Answer) → Quiet img s (gives a s)
-unfolding gives changed
-quiet-same img s a = record { none-written = refl; next = s .next; pages = s .pages; active = s .active; eq = refl; same = refl; kept = λ h. h }
-
-quiet-unless : (img : View) (ts : List Test) (s : Store) (o : Outcome) → Quiet img s o → Quiet img s (unless ts s o)
-unfolding unless if_then_else_
-quiet-unless img [] s o q = q
-quiet-unless img ((n when b) ∷ ts) s o q = by b (λ h. rw h (quiet-same img s (refused n))) (λ h. rw h (quiet-unless img ts s o q))
-
-module _ (img : View) (s : Store) where
-  quiet-written : (tx t k : ℕ) (bs : List ℕ) (m : Bool) → Quiet img s (written tx t k bs m s)
-  unfolding written gives
-  quiet-written tx t k bs m =
-      record { none-written = refl; next = _; pages = _; active = _; eq = refl; same = images-place t _ (s .pages); kept = all-place (Tie img s (s .checkpoint)) (tie-fresh img s (s .checkpoint)) (tie-frozen img s (s .checkpoint)) t _ (s .pages) }
-
-  quiet-performed : (os : List Op) (active : List Active) → Quiet img s (gives done (changed s (s .next) (perform os (s .pages)) active))
-  unfolding gives
-  quiet-performed os active =
-      record { none-written = refl; next = _; pages = _; active = _; eq = refl; same = images-perform os (s .pages); kept = all-perform (Tie img s (s .checkpoint)) (tie-fresh img s (s .checkpoint)) (tie-frozen img s (s .checkpoint)) os (s .pages) }
-
-  quiet-open : (tx : ℕ) → Quiet img s (openCall tx s)
-  unfolding openCall gives
-  quiet-open tx = quiet-unless img _ s _ (record { none-written = refl; next = _; pages = _; active = _; eq = refl; same = refl; kept = λ h. h })
-
-  quiet-insert : (tx t k : ℕ) (bs : List ℕ) → Quiet img s (insertCall tx t k bs s)
-  unfolding insertCall
-  quiet-insert tx t k bs = quiet-unless img _ s _ (quiet-written tx t k bs false)
-
-  quiet-replace : (tx t k : ℕ) (bs : List ℕ) → Quiet img s (replaceCall tx t k bs s)
-  unfolding replaceCall
-  quiet-replace tx t k bs = quiet-unless img _ s _ (quiet-written tx t k bs false)
-
-  quiet-delete : (tx t k : ℕ) → Quiet img s (deleteCall tx t k s)
-  unfolding deleteCall
-  quiet-delete tx t k = quiet-unless img _ s _ (quiet-written tx t k [] true)
-
-  quiet-seen : (r : ℕ) (o : Option Row) → Quiet img s (readSeen r o s)
-  unfolding readSeen
-  quiet-seen r none = quiet-same img s (refused 14)
-  quiet-seen r (some x) = quiet-unless img _ s _ (quiet-same img s _)
-
-  quiet-read : (tx t k r : ℕ) → Quiet img s (readCall tx t k r s)
-  unfolding readCall
-  quiet-read tx t k r = quiet-unless img _ s _ (quiet-seen r (seen tx t k s))
-
-  quiet-list : (r : ℕ) → Quiet img s (listCall r s)
-  unfolding listCall
-  quiet-list r = quiet-unless img _ s _ (quiet-same img s _)
-
-  quiet-commit : (tx : ℕ) → Quiet img s (commitCall tx s)
-  unfolding commitCall
-  quiet-commit tx = quiet-unless img _ s _ (quiet-performed _ _)
-
-  quiet-abort : (tx : ℕ) → Quiet img s (abortCall tx s)
-  unfolding abortCall
-  quiet-abort tx = quiet-unless img _ s _ (quiet-performed _ _)
+tie-frozen : (img : View) (s : Store) (c : Checkpoint) (p : Page) (ts : List Held) → p .frozen ≡ true → Tie img s c p → Tie img s c (stillFrozen p ts)
+tie-frozen img s idle p ts h t = tied-frozen img (s .level) (s .used) p ts h t
+tie-frozen img s (running n₀ es ds) p ts h t = tied-frozen img (suc (s .level)) (λ b. isIn b es) p ts h t
 
 phase-changed : (img : View) (s b : Store) (nx : ℕ) (ps : List Page) (os : List Active) → images ps ≡ images (s .pages) → (c : Checkpoint)
     → (AllOf (Tie img s c) (s .pages) → AllOf (Tie img s c) ps) → Phase img s b c → Phase img (changed s nx ps os) b c
@@ -143,7 +67,7 @@ phase-changed img s b nx ps os e (running n₀ es ds) k r =
       tied = k (r .tied);
     }
 
-inv-quiet : (n : ℕ) (img : View) (s b b₀ : Store) (o : Outcome) → Quiet img s o → Inv n img s b b₀ → Inv n img (o .store) b b₀
+inv-quiet : (n : ℕ) (img : View) (s b b₀ : Store) (o : Outcome) → Quiet (Tie img s (s .checkpoint)) s o → Inv n img s b b₀ → Inv n img (o .store) b b₀
 inv-quiet n img s b b₀ o q inv =
     subst (λ t. Inv n img t b b₀) (sym (q .eq))
     (unfold changed in record {
@@ -279,12 +203,12 @@ module _ (n : ℕ) (s₀ : Store) (Okay : Call → Type 0) (Valid : Store → Ty
       (record { answer = count k; store = inTurn k s .store; writes = inTurn k s .writes })
       (λ r. r img base₀ inv) (λ r. turn-goes k img s base base₀ _ v inv r) r
 
-  quietly : (c : Call) (img : View) (s : Store) (past base base₀ : List Call) (cs : List Call) → isBegin c ≡ false → Quiet img s (call c s)
-      → Now img s base base₀
-      → Rest (past ++ c ∷ []) base (call c s .store) cs → Goes img base₀ (log past base s (c ∷ cs))
+  quietly : (c : Call) (img : View) (s : Store) (past base base₀ : List Call) (cs : List Call) → isBegin c ≡ false → isPlain c ≡ true
+      → Now img s base base₀ → Rest (past ++ c ∷ []) base (call c s .store) cs → Goes img base₀ (log past base s (c ∷ cs))
   unfolding log if_then_else_
-  quietly c img s past base base₀ cs h q inv r =
+  quietly c img s past base base₀ cs h p inv r =
       let o = call c s in
+      let q = quiet (Tie img s (s .checkpoint)) (tie-fresh img s (s .checkpoint)) (tie-frozen img s (s .checkpoint)) s c p in
       rw h (subst (λ ws. Goes img base₀ (map (tag base) ws ++ log (past ++ c ∷ []) base (o .store) cs)) (sym (q .none-written)) (r img base₀ (inv-quiet n img s _ _ o q inv)))
 
   begin-safe : (img : View) (s : Store) (past base base₀ : List Call) (cs : List Call) → s ≡ afterCalls past s₀ → Valid s → Now img s base base₀
@@ -299,15 +223,15 @@ module _ (n : ℕ) (s₀ : Store) (Okay : Call → Type 0) (Valid : Store → Ty
 
   one : (c : Call) (img : View) (s : Store) (past base base₀ : List Call) (cs : List Call) → s ≡ afterCalls past s₀ → Valid s → Now img s base base₀
       → ((base′ : List Call) → Rest (past ++ c ∷ []) base′ (call c s .store) cs) → Goes img base₀ (log past base s (c ∷ cs))
-  unfolding call isBegin
-  one (opens tx) img s past base base₀ cs e v inv r = quietly (opens tx) img s past base base₀ cs refl (quiet-open img s tx) inv (r base)
-  one (inserts tx t k bs) img s past base base₀ cs e v inv r = quietly (inserts tx t k bs) img s past base base₀ cs refl (quiet-insert img s tx t k bs) inv (r base)
-  one (replaces tx t k bs) img s past base base₀ cs e v inv r = quietly (replaces tx t k bs) img s past base base₀ cs refl (quiet-replace img s tx t k bs) inv (r base)
-  one (deletes tx t k) img s past base base₀ cs e v inv r = quietly (deletes tx t k) img s past base base₀ cs refl (quiet-delete img s tx t k) inv (r base)
-  one (commits tx) img s past base base₀ cs e v inv r = quietly (commits tx) img s past base base₀ cs refl (quiet-commit img s tx) inv (r base)
-  one (aborts tx) img s past base base₀ cs e v inv r = quietly (aborts tx) img s past base base₀ cs refl (quiet-abort img s tx) inv (r base)
-  one (reads tx t k m) img s past base base₀ cs e v inv r = quietly (reads tx t k m) img s past base base₀ cs refl (quiet-read img s tx t k m) inv (r base)
-  one (lists m) img s past base base₀ cs e v inv r = quietly (lists m) img s past base base₀ cs refl (quiet-list img s m) inv (r base)
+  unfolding call isBegin isPlain
+  one (opens tx) img s past base base₀ cs e v inv r = quietly (opens tx) img s past base base₀ cs refl refl inv (r base)
+  one (inserts tx t k bs) img s past base base₀ cs e v inv r = quietly (inserts tx t k bs) img s past base base₀ cs refl refl inv (r base)
+  one (replaces tx t k bs) img s past base base₀ cs e v inv r = quietly (replaces tx t k bs) img s past base base₀ cs refl refl inv (r base)
+  one (deletes tx t k) img s past base base₀ cs e v inv r = quietly (deletes tx t k) img s past base base₀ cs refl refl inv (r base)
+  one (commits tx) img s past base base₀ cs e v inv r = quietly (commits tx) img s past base base₀ cs refl refl inv (r base)
+  one (aborts tx) img s past base base₀ cs e v inv r = quietly (aborts tx) img s past base base₀ cs refl refl inv (r base)
+  one (reads tx t k m) img s past base base₀ cs e v inv r = quietly (reads tx t k m) img s past base base₀ cs refl refl inv (r base)
+  one (lists m) img s past base base₀ cs e v inv r = quietly (lists m) img s past base base₀ cs refl refl inv (r base)
   one begins img s past base base₀ cs e v inv r = begin-safe img s past base base₀ cs e v inv r
   one (steps len) img s past base base₀ cs e v inv r = step-log len img s past base base₀ cs v inv (r base)
   one (runs limit len) img s past base base₀ cs e v inv r = run-log limit len img s past base base₀ cs v inv (r base)

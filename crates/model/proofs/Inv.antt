@@ -23,6 +23,7 @@ use Rattle.model.specs.QuotedLine.{content}
 use Rattle.model.proofs.Views.{put}
 use Rattle.model.proofs.Lists.{leb-true, eqb-true, not-in, eqb-sym, in-append, pos-not-zero}
 use Rattle.model.proofs.Frozen.{bare, Content, images}
+use Rattle.model.proofs.Pages.{stillFrozen}
 use Rattle.model.proofs.Recovery.{found, Found, found-frame}
 use Rattle.model.proofs.Stored.{Stored, contentOf, put-other, Dirs}
 
@@ -40,9 +41,9 @@ pub tied-fresh : (img : View) (l : ℕ) (pool : ℕ → Bool) (t : ℕ) (ts : Li
 unfolding isClean fresh
 tied-fresh img l pool t ts e = lie e
 
-pub tied-frozen : (img : View) (l : ℕ) (pool : ℕ → Bool) (p : Page) → p .frozen ≡ true → Tied img l pool p
-unfolding isClean
-tied-frozen img l pool p h e = lie (rw (h, isClean) at e)
+pub tied-frozen : (img : View) (l : ℕ) (pool : ℕ → Bool) (p : Page) (ts : List Held) → p .frozen ≡ true → Tied img l pool p → Tied img l pool (stillFrozen p ts)
+unfolding isClean stillFrozen
+tied-frozen img l pool p ts h t e = lie e
 
 pub clean-pos : (p : Page) → isClean p ≡ true → 0 < p .block
 unfolding isClean

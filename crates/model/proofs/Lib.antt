@@ -1,9 +1,3 @@
-pub mod Cases
-pub mod Traps
-pub mod Cuts
-pub mod Bytes
-pub mod Capacity
-pub mod Line
 pub mod Views
 pub mod Lists
 pub mod Owners
@@ -16,6 +10,7 @@ pub mod Alloc
 pub mod Inv
 pub mod Steps
 pub mod Begin
+pub mod Quiet
 pub mod Crash
 pub mod Start
 pub mod Sound
@@ -31,3 +26,9 @@ pub mod Inserted
 pub mod Tally
 pub mod Range
 pub mod Claim
+pub mod Capacity
+pub mod Bytes
+pub mod Line
+pub mod Cases
+pub mod Traps
+pub mod Cuts

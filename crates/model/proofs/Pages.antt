@@ -1,5 +1,5 @@
--- A property of pages that every fresh page has and every frozen page has (so: a property of the clean pages) is kept by the rules.
-use mathlib.Core.Path.{_≡_, refl, subst, sym}
+-- A property of pages that every fresh page has, and a frozen page whatever its tuples, is kept by the rules.
+use mathlib.Core.Path.{_≡_, subst, sym}
 use Prim.Native.Nat.{ℕ}
 use mathlib.Core.Bool.{true, Bool, false}
 use mathlib.Core.List.{List, map, [], _∷_, _++_}
@@ -9,19 +9,24 @@ use Rattle.basics.specs.Basics.{if_then_else_, isEmpty, first, any}
 use Rattle.basics.proofs.Facts.{AllOf, by, never, by-option}
 use Rattle.blocks.specs.Tuple.{Tuple}
 use Rattle.model.specs.State.{Page, Held}
-use Rattle.model.specs.Rules.{fresh, grown, withTuples, splitOnce, place, placeAfter, after, entering, placeFront, settleNext, settle, joined, joins, settleFull, listOf, around, remove, removeOn, hasNumber, commitOn, commit, thaw, isFrozen, isPending, thawOn, splitAll, calm, ripened}
+use Rattle.model.specs.Rules.{fresh, grown, withTuples, splitOnce, placeAfter, place, after, entering, placeFront, settle, settleNext, joined, joins, settleFull, listOf, around, remove, removeOn, hasNumber, commitOn, commit, thaw, isFrozen, isPending, thawOn, splitAll, calm, ripened}
 use Rattle.model.specs.Transactions.{Op, perform, toCommit, toRemove}
 use Rattle.model.proofs.Lists.{all-append, some-eq}
 
-module _ (Q : Page → Type 0) (Q-fresh : (t : ℕ) (ts : List Held) → Q (fresh t ts)) (Q-frozen : (p : Page) → p .frozen ≡ true → Q p) where
+-- a page that is frozen, with other tuples
+unfoldable pub stillFrozen : Page → List Held → Page
+stillFrozen p ts = record { table = p .table; block = p .block; frozen = true; tuples = ts }
+
+module _ (Q : Page → Type 0) (Q-fresh : (t : ℕ) (ts : List Held) → Q (fresh t ts)) 
+    (Q-frozen : (p : Page) (ts : List Held) → p .frozen ≡ true → Q p → Q (stillFrozen p ts)) where
   all-fresh : (t : ℕ) (tss : List (List Held)) → AllOf Q (map (fresh t) tss)
   all-fresh t [] = tt
   all-fresh t (ts ∷ tss) = (Q-fresh t ts, all-fresh t tss)
 
-  all-grown : (p : Page) (ts : List Held) (ps : List Page) → AllOf Q ps → AllOf Q (grown p ts ++ ps)
-  unfolding grown withTuples if_then_else_
-  all-grown p ts ps a =
-      by (p .frozen) (λ h. rw h (Q-frozen _ refl, a)) (λ h. rw h (all-append Q (map (fresh (p .table)) (splitOnce ts)) ps (all-fresh (p .table) (splitOnce ts)) a))
+  all-grown : (p : Page) (ts : List Held) (ps : List Page) → Q p → AllOf Q ps → AllOf Q (grown p ts ++ ps)
+  unfolding grown withTuples stillFrozen if_then_else_
+  all-grown p ts ps q a =
+      by (p .frozen) (λ h. rw h (Q-frozen p ts h q, a)) (λ h. rw h (all-append Q (map (fresh (p .table)) (splitOnce ts)) ps (all-fresh (p .table) (splitOnce ts)) a))
 
   all-placeAfter : (t : ℕ) (x : Tuple) (ps qs : List Page) → placeAfter t x ps ≡ some qs → AllOf Q ps → AllOf Q qs
   unfolding placeAfter if_then_else_
@@ -31,7 +36,7 @@ module _ (Q : Page → Type 0) (Q-fresh : (t : ℕ) (ts : List Held) → Q (fres
       (λ n. by (eqb (p .table) t)
       (λ h. by-option (after (entering p x) (p .tuples))
       (λ m. never (rw (n, h, m) at e))
-      (λ ts m. let k : grown p ts ++ ps ≡ qs = some-eq (rw (n, h, m) at e) in subst (AllOf Q) k (all-grown p ts ps (a .1))))
+      (λ ts m. let k : grown p ts ++ ps ≡ qs = some-eq (rw (n, h, m) at e) in subst (AllOf Q) k (all-grown p ts ps (a .0) (a .1))))
       (λ h. never (rw (n, h) at e)))
       (λ ws n. let k : p ∷ ws ≡ qs = some-eq (rw (n, placeAfter) at e) in subst (AllOf Q) k (a .0, all-placeAfter t x ps ws n (a .1)))
 
@@ -40,7 +45,7 @@ module _ (Q : Page → Type 0) (Q-fresh : (t : ℕ) (ts : List Held) → Q (fres
   all-placeFront t x [] a = (Q-fresh t _, tt)
   all-placeFront t x (p ∷ ps) a =
       by (ltb (p .table) t) (λ h. rw h (a .0, all-placeFront t x ps (a .1)))
-      (λ h. by (eqb (p .table) t) (λ k. rw (h, k) (all-grown p _ ps (a .1))) (λ k. rw (h, k) (Q-fresh t _, a)))
+      (λ h. by (eqb (p .table) t) (λ k. rw (h, k) (all-grown p _ ps (a .0) (a .1))) (λ k. rw (h, k) (Q-fresh t _, a)))
 
   pub all-place : (t : ℕ) (x : Tuple) (ps : List Page) → AllOf Q ps → AllOf Q (place t x ps)
   unfolding place
@@ -74,16 +79,16 @@ module _ (Q : Page → Type 0) (Q-fresh : (t : ℕ) (ts : List Held) → Q (fres
 
   all-removeOn : (n : ℕ) (o : Option Page) (p : Page) (ps : List Page) → hasNumber n p ≡ true → AllOf Q (listOf o) → AllOf Q (p ∷ ps)
       → AllOf Q (removeOn n o p ps)
-  unfolding removeOn if_then_else_ withTuples
+  unfolding removeOn withTuples stillFrozen if_then_else_
   all-removeOn n o p ps e l a =
-      by (p .frozen) (λ h. rw h (all-append Q (listOf o) _ l (Q-frozen _ refl, a .1)))
+      by (p .frozen) (λ h. rw h (all-append Q (listOf o) _ l (Q-frozen p _ h (a .0), a .1)))
       (λ h. rw h (all-settle _ o _ ps (Q-fresh _ _, tt) l (a .1)))
 
   all-commitOn : (n : ℕ) (o : Option Page) (p : Page) (ps : List Page) → hasNumber n p ≡ true → AllOf Q (listOf o) → AllOf Q (p ∷ ps)
       → AllOf Q (commitOn n o p ps)
-  unfolding commitOn if_then_else_ withTuples
+  unfolding commitOn withTuples stillFrozen if_then_else_
   all-commitOn n o p ps e l a =
-      by (p .frozen) (λ h. rw h (all-append Q (listOf o) _ l (Q-frozen _ refl, a .1))) (λ h. rw h (all-append Q (listOf o) _ l (Q-fresh _ _, a .1)))
+      by (p .frozen) (λ h. rw h (all-append Q (listOf o) _ l (Q-frozen p _ h (a .0), a .1))) (λ h. rw h (all-append Q (listOf o) _ l (Q-fresh _ _, a .1)))
 
   pub all-perform : (os : List Op) (ps : List Page) → AllOf Q ps → AllOf Q (perform os ps)
   unfolding perform remove commit listOf

@@ -20,7 +20,7 @@ use Rattle.model.specs.Checkpoint.{beginCall, stored, storePage, made, a
 use Rattle.model.specs.Calls.{Call, opens, commits, aborts, inserts, replaces, deletes, reads, lists, begins, steps, runs, accepted, call, others, withWriter, writers, afterCalls, hadWritten}
 use Rattle.model.proofs.Lists.{Mem, many-none, all-map, eqb-true, all-mem, eqb-sym, many-length, in-keep, not-true, le-true, in-here, eqb-self, in-cons, and-no, and-yes, any-many}
 use Rattle.model.proofs.Owners.{count-append, count-new, numbers-write, count-write, count-other, numbers-without, count-without}
-use Rattle.model.proofs.Crash.{unless-out}
+use Rattle.model.proofs.Quiet.{unless-out}
 use Rattle.model.proofs.Rows.{rows-freeze, thaw-rows, sub-length}
 use Rattle.model.proofs.Fate.{gather, afterCommit, perform-rows, commit-rows, afterAbort, abort-rows}
 use Rattle.model.proofs.Valid.{Valid, Counted, Opened}

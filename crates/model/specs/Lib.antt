@@ -6,4 +6,5 @@ pub mod Checkpoint
 pub mod Calls
 pub mod Recover
 pub mod QuotedLine
+pub mod WellFormed
 pub mod Cases

@@ -1,0 +1,112 @@
+-- Calls that make no store and touch no checkpoint: they change the next number, the pages and the open transactions only, and
+-- not what the frozen pages show.
+use mathlib.Core.Path.{_≡_, refl}
+use Prim.Native.Nat.{ℕ, _≤_}
+use native.Mathlib.Omega.{arith}
+use mathlib.Core.Bool.{Bool, true, false}
+use mathlib.Core.List.{List, [], _∷_}
+use mathlib.Core.Option.{none, Option, some}
+use Rattle.basics.specs.Basics.{if_then_else_}
+use Rattle.basics.proofs.Facts.{by, AllOf, lie}
+use Rattle.rows.specs.Rows.{Row}
+use Rattle.model.specs.State.{Store, Write, Outcome, Page, Active, Held, Answer, refused, done}
+use Rattle.model.specs.Rules.{kept, fresh}
+use Rattle.model.specs.Sight.{seen}
+use Rattle.model.specs.Transactions.{unless, Test, gives, _when_, written, changed, perform, Op, readSeen, openCall, insertCall, replaceCall, deleteCall, commitCall, abortCall, readCall, listCall}
+use Rattle.model.specs.Calls.{Call, opens, inserts, replaces, deletes, commits, aborts, reads, lists, begins, steps, runs, call}
+use Rattle.model.proofs.Frozen.{images, images-place, images-perform}
+use Rattle.model.proofs.Pages.{stillFrozen, all-place, all-perform}
+
+-- a property of the store after a call and the blocks written: none if it is refused
+pub unless-out : (P : Store → List Write → Type 0) (ts : List Test) (s : Store) (o : Outcome) → P s [] → P (o .store) (o .writes)
+    → P (unless ts s o .store) (unless ts s o .writes)
+unfolding unless if_then_else_ gives
+unless-out P [] s o p q = q
+unless-out P ((n when b) ∷ ts) s o p q = by b (λ h. rw h p) (λ h. rw h (unless-out P ts s o p q))
+
+-- no begin, step or run
+unfoldable pub isPlain : Call → Bool
+isPlain (opens tx) = true
+isPlain (inserts tx t k bs) = true
+isPlain (replaces tx t k bs) = true
+isPlain (deletes tx t k) = true
+isPlain (commits tx) = true
+isPlain (aborts tx) = true
+isPlain (reads tx t k room) = true
+isPlain (lists room) = true
+isPlain begins = false
+isPlain (steps len) = false
+isPlain (runs limit len) = false
+
+-- Q: a property of every page
+pub record Quiet (Q : Page → Type 0) (s : Store) (o : Outcome) : Type 0 where
+  pub none-written : o .writes ≡ []
+  pub next : ℕ
+  pub pages : List Page
+  pub active : List Active
+  pub eq : o .store ≡ changed s next pages active
+  pub more : s .next ≤ next
+  pub same : images pages ≡ images (s .pages)
+  pub kept : AllOf Q (s .pages) → AllOf Q pages
+
+module _ (Q : Page → Type 0) (Q-fresh : (t : ℕ) (ts : List Held) → Q (fresh t ts))
+    (Q-frozen : (p : Page) (ts : List Held) → p .frozen ≡ true → Q p → Q (stillFrozen p ts)) (s : Store) where
+  quiet-same : (a : Answer) → Quiet Q s (gives a s)
+  unfolding gives changed
+  quiet-same a = record { none-written = refl; next = s .next; pages = s .pages; active = s .active; eq = refl; more = omega arith; same = refl; kept = λ h. h }
+
+  quiet-unless : (ts : List Test) (o : Outcome) → Quiet Q s o → Quiet Q s (unless ts s o)
+  unfolding unless if_then_else_
+  quiet-unless [] o q = q
+  quiet-unless ((n when b) ∷ ts) o q = by b (λ h. rw h (quiet-same (refused n))) (λ h. rw h (quiet-unless ts o q))
+
+  quiet-opened : (os : List Active) → Quiet Q s (gives done (changed s (s .next) (s .pages) os))
+  unfolding gives
+  quiet-opened os = record { none-written = refl; next = _; pages = _; active = _; eq = refl; more = omega arith; same = refl; kept = λ h. h }
+
+  quiet-written : (tx t k : ℕ) (bs : List ℕ) (m : Bool) → Quiet Q s (written tx t k bs m s)
+  unfolding written gives
+  quiet-written tx t k bs m =
+      record {
+        none-written = refl;
+        next = _;
+        pages = _;
+        active = _;
+        eq = refl;
+        more = omega arith;
+        same = images-place t _ (s .pages);
+        kept = all-place Q Q-fresh Q-frozen t _ (s .pages);
+      }
+
+  quiet-performed : (ops : List Op) (os : List Active) → Quiet Q s (gives done (changed s (s .next) (perform ops (s .pages)) os))
+  unfolding gives
+  quiet-performed ops os =
+      record {
+        none-written = refl;
+        next = _;
+        pages = _;
+        active = _;
+        eq = refl;
+        more = omega arith;
+        same = images-perform ops (s .pages);
+        kept = all-perform Q Q-fresh Q-frozen ops (s .pages);
+      }
+
+  quiet-seen : (r : ℕ) (o : Option Row) → Quiet Q s (readSeen r o s)
+  unfolding readSeen
+  quiet-seen r none = quiet-same (refused 14)
+  quiet-seen r (some x) = quiet-unless _ _ (quiet-same _)
+
+  pub quiet : (c : Call) → isPlain c ≡ true → Quiet Q s (call c s)
+  unfolding isPlain call openCall insertCall replaceCall deleteCall commitCall abortCall readCall listCall
+  quiet (opens tx) h = quiet-unless _ _ (quiet-opened _)
+  quiet (inserts tx t k bs) h = quiet-unless _ _ (quiet-written tx t k bs false)
+  quiet (replaces tx t k bs) h = quiet-unless _ _ (quiet-written tx t k bs false)
+  quiet (deletes tx t k) h = quiet-unless _ _ (quiet-written tx t k [] true)
+  quiet (commits tx) h = quiet-unless _ _ (quiet-performed _ _)
+  quiet (aborts tx) h = quiet-unless _ _ (quiet-performed _ _)
+  quiet (reads tx t k room) h = quiet-unless _ _ (quiet-seen room (seen tx t k s))
+  quiet (lists room) h = quiet-unless _ _ (quiet-same _)
+  quiet begins h = lie h
+  quiet (steps len) h = lie h
+  quiet (runs limit len) h = lie h
