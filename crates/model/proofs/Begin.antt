@@ -48,11 +48,11 @@ tied-begin img l pool es (p ∷ ps) t c i = (
   tied-begin img l pool es ps (t .1) (c .1) (i .1),
 )
 
-in-own : (ps : List Page) → AllOf (λ p. isIn (p .block) (map (λ p. p .block) ps) ≡ true) ps
+pub in-own : (ps : List Page) → AllOf (λ p. isIn (p .block) (map (λ p. p .block) ps) ≡ true) ps
 in-own [] = tt
 in-own (p ∷ ps) = (in-head (p .block) _, all-map _ _ (λ q h. in-weak (q .block) (p .block) _ h) ps (in-own ps))
 
-dirty-count : (ps : List Page) → howMany isDirty ps ≡ length (images (map freeze ps))
+pub dirty-count : (ps : List Page) → howMany isDirty ps ≡ length (images (map freeze ps))
 unfolding howMany images freeze if_then_else_
 dirty-count [] = refl
 dirty-count (p ∷ ps) = by (isDirty p) (λ h. rw (h, dirty-count ps)) (λ h. rw (h, dirty-count ps))

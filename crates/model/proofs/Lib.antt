@@ -24,6 +24,7 @@ pub mod Tests
 pub mod Whole
 pub mod Inserted
 pub mod Tally
+pub mod Books
 pub mod Range
 pub mod Claim
 pub mod Capacity

@@ -73,7 +73,7 @@ tied-fill img l b es p h t c =
     (u .0, u .1, u .2, u .3, in-fill b (p .block) es (clean-pos p c) (eqb-sym b (p .block) (test-other (λ c. isIn c es) (p .block) b (u .4) h)) ∙ u .4)
 
 -- the block taken is in use, and those before it still
-within-more : (s : Store) (i : ℕ) → (0 < i) × (i < s .blocks) → ((c : ℕ) → s .used c ≡ true → (0 < c) × (c < s .blocks)) → (c : ℕ)
+pub within-more : (s : Store) (i : ℕ) → (0 < i) × (i < s .blocks) → ((c : ℕ) → s .used c ≡ true → (0 < c) × (c < s .blocks)) → (c : ℕ)
     → usedToo s i c ≡ true
     → (0 < c) × (c < s .blocks)
 unfolding usedToo

@@ -63,7 +63,7 @@ unfolding rowsOf
 rows-length t [] = refl
 rows-length t (x ∷ xs) = ap suc (rows-length t xs)
 
-pages-few : (ps : List Page) → AllOf PageOk ps → length ps ≤ length (held ps)
+pub pages-few : (ps : List Page) → AllOf PageOk ps → length ps ≤ length (held ps)
 pages-few [] a = omega arith
 pages-few (p ∷ ps) a =
     let l = pages-few ps (a .1) in
