@@ -51,9 +51,9 @@ abbrev pub poolOf : Checkpoint → Store → ℕ → Bool
 poolOf idle s b = s .used b
 poolOf (running n es ds) s b = isIn b es
 
-abbrev pub Phase : Checkpoint → Store → Type 0
-Phase idle s = AllOf (Booked (s .used)) (s .pages)
-Phase (running n es ds) s = Running n es ds s
+abbrev pub Ledger : Checkpoint → Store → Type 0
+Ledger idle s = AllOf (Booked (s .used)) (s .pages)
+Ledger (running n es ds) s = Running n es ds s
 
 pub record Books (s : Store) : Type 0 where
   pub blocks : (2 ≤ s .blocks) × (s .blocks ≤ 4096)
@@ -61,7 +61,7 @@ pub record Books (s : Store) : Type 0 where
   pub level : s .level ≤ mostNumber
   pub taken : s .taken < s .blocks
   pub within : (c : ℕ) → s .used c ≡ true → (0 < c) × (c < s .blocks)
-  pub phase : Phase (s .checkpoint) s
+  pub phase : Ledger (s .checkpoint) s
 
 -- ---- pages
 
@@ -73,7 +73,7 @@ booked-frozen : (pool : ℕ → Bool) (p : Page) (ts : List Held) → p .frozen 
 unfolding stillFrozen isDirty
 booked-frozen pool p ts h q = (λ k. q .0 h, q .1)
 
-booked-more : (pool pool′ : ℕ → Bool) (p : Page) → ((b : ℕ) → 0 < b → pool b ≡ true → pool′ b ≡ true) → Booked pool p → Booked pool′ p
+pub booked-more : (pool pool′ : ℕ → Bool) (p : Page) → ((b : ℕ) → 0 < b → pool b ≡ true → pool′ b ≡ true) → Booked pool p → Booked pool′ p
 unfolding isDirty
 booked-more pool pool′ p f q = (q .0, λ h. f (p .block) (not-zero (p .block) h) (q .1 h))
 
@@ -115,7 +115,7 @@ none-waiting (e ∷ es) h =
 -- ---- quiet calls
 
 phase-quiet : (s : Store) (nx : ℕ) (ps : List Page) (os : List Active) → s .next ≤ nx → images ps ≡ images (s .pages) → (c : Checkpoint)
-    → (AllOf (Booked (poolOf c s)) (s .pages) → AllOf (Booked (poolOf c s)) ps) → Phase c s → Phase c (changed s nx ps os)
+    → (AllOf (Booked (poolOf c s)) (s .pages) → AllOf (Booked (poolOf c s)) ps) → Ledger c s → Ledger c (changed s nx ps os)
 unfolding changed freeCount isFree
 phase-quiet s nx ps os m e idle k ph = k ph
 phase-quiet s nx ps os m e (running n es ds) k r =
@@ -167,7 +167,7 @@ unfolding beginCall gives stored freeCount isFree blocksNeeded
 books-begin s v b =
     unless-keeps Books _ s _ b (λ p.
     let i = idle-of (s .checkpoint) (p .0) in
-    let ph : AllOf (Booked (s .used)) (s .pages) = subst (λ c. Phase c s) i (b .phase) in
+    let ph : AllOf (Booked (s .used)) (s .pages) = subst (λ c. Ledger c s) i (b .phase) in
     let enough = leb-false (suc (freeCount s)) (blocksNeeded (s .pages)) (p .1 .1 .0) in
     record {
       blocks = b .blocks;
@@ -278,7 +278,7 @@ pub step-books : (s : Store) → Books s → Books (stepAt (s .checkpoint) s .st
 unfolding stepAt stepOf gives if_then_else_
 step-books s b = go (s .checkpoint) (b .phase)
   where
-    go : (c : Checkpoint) → Phase c s → Books (stepAt c s .store)
+    go : (c : Checkpoint) → Ledger c s → Books (stepAt c s .store)
     go idle ph = b
     go (running n es ds) r =
         by-option (first isFrozen (s .pages))

@@ -117,7 +117,7 @@ whole-blocks len n e l u =
     let r : len % 512 ≡ 0 = omega arith in
     rw (q, r, le-true 2 n l, le-true n 4096 u)
 
-blocks-whole : (len : ℕ) → wholeBlocks len ≡ true → (len ≡ 512 * (len / 512)) × (2 ≤ len / 512) × (len / 512 ≤ 4096)
+pub blocks-whole : (len : ℕ) → wholeBlocks len ≡ true → (len ≡ 512 * (len / 512)) × (2 ≤ len / 512) × (len / 512 ≤ 4096)
 unfolding wholeBlocks
 blocks-whole len e =
     let k = and-true (eqb (len % 512) 0) _ e in

@@ -25,10 +25,14 @@ pub mod Whole
 pub mod Inserted
 pub mod Tally
 pub mod Books
+pub mod Listed
 pub mod Range
 pub mod Claim
+pub mod Well
 pub mod Capacity
 pub mod Bytes
+pub mod Starts
+pub mod Laws
 pub mod Line
 pub mod Cases
 pub mod Traps

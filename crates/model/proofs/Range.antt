@@ -121,12 +121,12 @@ shown-fits [] a = tt
 shown-fits (h ∷ hs) a = by (isAdding (h .pending)) (λ k. rw k (shown-fits hs (a .1))) (λ k. rw k (a .0, shown-fits hs (a .1)))
 
 -- a property of the rows is one of a page's tuples
-page-rows : (P : Row → Type 0) (t : ℕ) (ts : List Tuple) (rest : List Row) → AllOf P (rowsOf t ts ++ rest) → AllOf (λ x. P (t, x)) ts × AllOf P rest
+pub page-rows : (P : Row → Type 0) (t : ℕ) (ts : List Tuple) (rest : List Row) → AllOf P (rowsOf t ts ++ rest) → AllOf (λ x. P (t, x)) ts × AllOf P rest
 unfolding rowsOf
 page-rows P t [] rest a = (tt, a)
 page-rows P t (x ∷ xs) rest a = let r = page-rows P t xs rest (a .1) in ((a .0, r .0), r .1)
 
-some-one : {A : Type 0} (Q : Type 0) (P : A → Type 0) (xs : List A) → 0 < length xs → AllOf P xs → ((x : A) → P x → Q) → Q
+pub some-one : {A : Type 0} (Q : Type 0) (P : A → Type 0) (xs : List A) → 0 < length xs → AllOf P xs → ((x : A) → P x → Q) → Q
 some-one Q P [] l a f = absurd (omega arith)
 some-one Q P (x ∷ xs) l a f = f x (a .0)
 

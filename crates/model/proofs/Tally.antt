@@ -305,7 +305,7 @@ counted-closed tx s ps own-after c u i =
     closed-other : (u tx n : ℕ) → eqb tx u ≡ false → closed u tx n ≡ n
     closed-other u tx n e = unfold closed if_then_else_ in rw e
 
-step-active : (s : Store) → stepAt (s .checkpoint) s .store .active ≡ s .active
+pub step-active : (s : Store) → stepAt (s .checkpoint) s .store .active ≡ s .active
 unfolding stepAt stepOf gives if_then_else_ storePage storeDirectory storeHeader made stored
 step-active s = go (s .checkpoint)
   where

@@ -17,7 +17,7 @@ use Rattle.model.proofs.Valid.{Chain}
 
 -- ---- the order: neighbours, and all pairs
 
-lower-before : (r s : Row) → isLower r s ≡ true → Before r s
+pub lower-before : (r s : Row) → isLower r s ≡ true → Before r s
 unfolding isLower
 lower-before r s h =
     by (ltb (r .0) (s .0))
@@ -41,7 +41,7 @@ follows-split r s h =
     (λ w. let q = and-true (isLower r s) (not (s .1 .mark)) (rw w at h) in
     (lower-before r s (q .0), λ u. lie (sym w ∙ u), λ u. not-true (s .1 .mark) (q .1)))
 
-before-trans : (a b c : Row) → Before a b → Before b c → Before a c
+pub before-trans : (a b c : Row) → Before a b → Before b c → Before a c
 before-trans a b c h k = (
   omega (arith, h .0, k .0),
   λ u. let h′ = h .1 (omega (arith, k .0)) in let k′ = k .1 (omega (arith, h .0)) in (omega (arith, h′ .0, k′ .0), λ v. omega (arith, h′ .1 (omega (arith, k′ .0)), k′ .1 (omega (arith, h′ .0)))),

@@ -80,7 +80,7 @@ open-own tx os [] a h = lie h
 open-own tx os (r ∷ rs) a h =
     by (isOwn tx r) (λ k. let o = own-owner tx r k in subst (Opened os) (o .1) (a .0)) (λ k. open-own tx os rs (a .1) (rw (k, any) at h))
 
-rows-tests : (most nx : ℕ) (os : List ℕ) (rs : List Row) → HeldOk most nx rs → LiveOk os rs → length os ≤ openLimit → rowsOk most nx rs ≡ true
+pub rows-tests : (most nx : ℕ) (os : List ℕ) (rs : List Row) → HeldOk most nx rs → LiveOk os rs → length os ≤ openLimit → rowsOk most nx rs ≡ true
 unfolding rowsOk every
 rows-tests most nx os rs h l few =
     let o = order-tests rs (h .rising) (l .chain) (l .heads) in
@@ -131,7 +131,7 @@ unfolding sum heldSize calm
 calm-size [] = refl
 calm-size (x ∷ xs) = rw (calm-size xs)
 
-owner-size : (o : Owner) → ownerSize o ≤ 4
+pub owner-size : (o : Owner) → ownerSize o ≤ 4
 unfolding ownerSize
 owner-size committed = omega arith
 owner-size (tentative t s) = omega arith
@@ -207,7 +207,7 @@ module _ (most nx : ℕ) (rs : List Row) (ok : rowsOk most nx rs ≡ true) where
     few = leb-true (length rs) most (tests .1 .1 .1 .1 .0);
   }
 
-  tested-live : LiveOk (transactions rs) rs
+  pub tested-live : LiveOk (transactions rs) rs
   tested-live = record {
     chain = paired-pairs rs (tests .0) .1;
     counted = all-split (statementOk rs) rs (tests .1 .1 .1 .1 .1 .1 .1 .0);

@@ -122,7 +122,7 @@ KeptWell = (c : Call) (s : Store) → Typed c → WellFormed s → WellFormed (c
 abbrev pub ListOrder : Type 0
 ListOrder =
     (s : Store) → WellFormed s → (before between behind : List Row) (r q : Row)
-    → held (s .pages) ≡ before ++ r ∷ between ++ q ∷ behind → isBefore r q ≡ true
+    → held (s .pages) ≡ before ++ r ∷ (between ++ q ∷ behind) → isBefore r q ≡ true
 
 -- while more than the header is left, the block that a step takes is a free one of the image
 abbrev pub EnoughBlocks : Type 0
