@@ -125,7 +125,7 @@ blocks-whole len e =
     let z : len % 512 ≡ 0 = eqb-true _ _ (k .0) in
     (omega arith, leb-true 2 (len / 512) (l .0), leb-true (len / 512) 4096 (l .1))
 
-stage-is : (img : List ℕ) (n : ℕ) → length img ≡ 512 * n → 2 ≤ n → n ≤ 4096 → headerStage img ≡ headerTest n (view img 0)
+pub stage-is : (img : List ℕ) (n : ℕ) → length img ≡ 512 * n → 2 ≤ n → n ≤ 4096 → headerStage img ≡ headerTest n (view img 0)
 unfolding headerStage blockCount if_then_else_
 stage-is img n e l u = let q : length img / 512 ≡ n = omega arith in rw (whole-blocks (length img) n e l u, q)
 

@@ -1,16 +1,18 @@
 -- The claims on views, with no assumption left.
 use mathlib.Core.Path.{_≡_, refl, _∙_}
 use Prim.Native.Nat.{_≤_}
+use mathlib.Core.Bool.{true}
 use mathlib.Core.List.{[], List, _∷_}
 use Rattle.basics.proofs.Facts.{AllOf}
 use Rattle.image.specs.Stages.{holds}
 use Rattle.image.specs.View.{View}
 use Rattle.model.specs.State.{Store}
 use Rattle.model.specs.Calls.{afterCalls, Call, AllTyped, Typed}
-use Rattle.model.specs.QuotedLine.{log, Same}
+use Rattle.model.specs.QuotedLine.{log, isHeader, Same}
 use Rattle.model.proofs.Views.{AllSane, recoverView, CutV, WriteOk, CrashViews, WritesOk}
 use Rattle.model.proofs.Recovery.{Found, found}
-use Rattle.model.proofs.Inv.{Ready, Inv}
+use Rattle.model.proofs.Inv.{Ready, Inv, Like}
+use Rattle.model.proofs.Steps.{Top}
 use Rattle.model.proofs.Crash.{main}
 use Rattle.model.proofs.Start.{start-idle, start-inv, start-active}
 use Rattle.model.proofs.Valid.{Valid, Counted}
@@ -41,12 +43,19 @@ module _ (v : View) (sane : AllSane v) (s : Store) (two : 2 ≤ s .blocks) (e : 
   unfolding afterCalls
   start-after = refl
 
+  -- every cut recovers, and every header stored is that of the store before its checkpoint's begin
+  claims : (calls : List Call)
+      → ((v′ : View) (base : List Call) → CutV v [] (log [] [] s calls) v′ base → (r : Store) × (recoverView (s .blocks) v′ ≡ holds r) × Like r (afterCalls base s))
+      × AllOf (λ w. isHeader w ≡ true → Top (w .write .what) (afterCalls (w .before) s)) (log [] [] s calls)
+  claims calls =
+      let g = main (s .blocks) s (λ c. Unit {0}) (λ t. Valid t × Counted t) (λ c t o k. (keeps c t (k .0) (k .1), keeps-count c t (k .0) (k .1)))
+          (λ t k. (step-valid t (k .0), counted-step t (k .0) (k .1))) (λ t k. ready t (k .0)) calls [] [] [] v s start-after (all-calls calls) (start-valid .0, start-valid .1) start-now in
+      (g .safe, g .tops)
+
   recovers-cut : (calls : List Call) (v′ : View) (base : List Call) → CutV v [] (log [] [] s calls) v′ base
       → (r : Store) × (recoverView (s .blocks) v′ ≡ holds r) × Same r s base
   recovers-cut calls v′ base cut =
-      let g = main (s .blocks) s (λ c. Unit {0}) (λ t. Valid t × Counted t) (λ c t o k. (keeps c t (k .0) (k .1), keeps-count c t (k .0) (k .1)))
-          (λ t k. (step-valid t (k .0), counted-step t (k .0) (k .1))) (λ t k. ready t (k .0)) calls [] [] [] v s start-after (all-calls calls) (start-valid .0, start-valid .1) start-now in
-      let r = g .safe v′ base cut in (
+      let r = claims calls .0 v′ base cut in (
         r .0,
         r .1,
         record {
@@ -71,3 +80,7 @@ crash-views v sane s two e calls v′ base cut = recovers-cut v sane s two e cal
 
 pub writes-ok : WritesOk
 writes-ok v sane s two most e calls a = writes-range v sane s two e most calls a
+
+pub tops-ok : (v : View) → AllSane v → (s : Store) → 2 ≤ s .blocks → recoverView (s .blocks) v ≡ holds s → (calls : List Call)
+    → AllOf (λ w. isHeader w ≡ true → Top (w .write .what) (afterCalls (w .before) s)) (log [] [] s calls)
+tops-ok v sane s two e calls = claims v sane s two e calls .1

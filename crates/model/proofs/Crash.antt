@@ -13,19 +13,19 @@ use Rattle.blocks.specs.Decode.{taken}
 use Rattle.blocks.specs.Limits.{mostNumber}
 use Rattle.image.specs.Stages.{directoriesFor, holds}
 use Rattle.image.specs.View.{View}
-use Rattle.model.specs.Cases.{writes}
 use Rattle.model.specs.State.{Store, Checkpoint, Page, idle, running, Held, Active, count, Outcome, Write}
 use Rattle.model.specs.Rules.{fresh, isFrozen}
 use Rattle.model.specs.Transactions.{changed, unless, gives, _when_}
 use Rattle.model.specs.Checkpoint.{freeCount, isFree, stored, isRunning, beginCall, blocksNeeded, stepAt, stepOf, inTurn, stepCall, badImage, runCall, left}
 use Rattle.model.specs.Calls.{Call, accepted, afterCalls, call, steps, isBegin, runs, begins, opens, inserts, replaces, deletes, commits, aborts, reads, lists}
 use Rattle.model.specs.QuotedLine.{landed, Logged, isHeader, tag, log}
+use Rattle.model.specs.Cases.{writes}
 use Rattle.model.proofs.Views.{CutV, recoverView, WriteOk, stop, put, torn, whole}
 use Rattle.model.proofs.Frozen.{images}
 use Rattle.model.proofs.Pages.{stillFrozen}
 use Rattle.model.proofs.Recovery.{recovers}
 use Rattle.model.proofs.Inv.{Tied, tied-fresh, tied-frozen, Phase, Inv, Ready, Like, Good}
-use Rattle.model.proofs.Steps.{still, Stepped, directory-step, header-step, page-step, FrozenFit, wrote}
+use Rattle.model.proofs.Steps.{still, Stepped, directory-step, header-step, page-step, Top, FrozenFit, wrote}
 use Rattle.model.proofs.Begin.{begin-inv}
 use Rattle.model.proofs.Quiet.{quiet, Quiet, unless-out, isPlain}
 
@@ -57,6 +57,8 @@ phase-changed img s b nx ps os e (running n₀ es ds) k r =
       dcount = r .dcount;
       base = r .base;
       bcap = r .bcap;
+      blvl = r .blvl;
+      bblk = r .bblk;
       es-apart = r .es-apart;
       es-used = r .es-used;
       es-off = r .es-off;
@@ -127,6 +129,7 @@ module _ (n : ℕ) (s₀ : Store) (Okay : Call → Type 0) (Valid : Store → Ty
   pub record Goes (img : View) (base₀ : List Call) (ws : List Logged) : Type 0 where
     pub safe : (img′ : View) (base′ : List Call) → CutV img base₀ ws img′ base′
         → (r : Store) × (recoverView n img′ ≡ holds r) × Like r (afterCalls base′ s₀)
+    pub tops : AllOf (λ w. isHeader w ≡ true → Top (w .write .what) (afterCalls (w .before) s₀)) ws
     pub ranged : n ≤ 4096 → ((s : Store) → Valid s → FrozenFit s) → AllOf (WriteOk n) ws
 
   abbrev Now : View → Store → List Call → List Call → Type 0
@@ -137,7 +140,7 @@ module _ (n : ℕ) (s₀ : Store) (Okay : Call → Type 0) (Valid : Store → Ty
   good-safe img used base₀ g = (g .back, recovers n img (g .back) (g .found), g .like)
 
   goes-nil : (img : View) (used : ℕ → Bool) (base₀ : List Call) → Good n img used (afterCalls base₀ s₀) → Goes img base₀ []
-  goes-nil img used base₀ g = record { safe = cuts; ranged = λ m f. tt }
+  goes-nil img used base₀ g = record { safe = cuts; tops = tt; ranged = λ m f. tt }
     where
       cuts : (img′ : View) (base′ : List Call) → CutV img base₀ [] img′ base′
           → (r : Store) × (recoverView n img′ ≡ holds r) × Like r (afterCalls base′ s₀)
@@ -145,9 +148,9 @@ module _ (n : ℕ) (s₀ : Store) (Okay : Call → Type 0) (Valid : Store → Ty
 
   goes-cons : (img : View) (used : ℕ → Bool) (base₀ : List Call) (w : Logged) (ws : List Logged) → Good n img used (afterCalls base₀ s₀)
       → (isHeader w ≡ false → (x : Block) → Good n (put img (w .write .at) x) used (afterCalls base₀ s₀))
-      → (n ≤ 4096 → ((s : Store) → Valid s → FrozenFit s) → WriteOk n w)
+      → (n ≤ 4096 → ((s : Store) → Valid s → FrozenFit s) → WriteOk n w) → (isHeader w ≡ true → Top (w .write .what) (afterCalls (w .before) s₀))
       → Goes (put img (w .write .at) (w .write .what)) (landed w base₀) ws → Goes img base₀ (w ∷ ws)
-  goes-cons img used base₀ w ws g t ok r = record { safe = cuts; ranged = λ m f. (ok m f, r .ranged m f) }
+  goes-cons img used base₀ w ws g t ok top r = record { safe = cuts; tops = (top, r .tops); ranged = λ m f. (ok m f, r .ranged m f) }
     where
       cuts : (img′ : View) (base′ : List Call) → CutV img base₀ (w ∷ ws) img′ base′
           → (r : Store) × (recoverView n img′ ≡ holds r) × Like r (afterCalls base′ s₀)
@@ -162,9 +165,9 @@ module _ (n : ℕ) (s₀ : Store) (Okay : Call → Type 0) (Valid : Store → Ty
       → Goes img base₀ (map (tag base) (o .writes ++ more) ++ rest)
   unfolding tag landed isHeader
   step-goes img s base base₀ o more rest v inv (still e i) r = subst (λ ws. Goes img base₀ (map (tag base) (ws ++ more) ++ rest)) (sym e) (r img base₀ i)
-  step-goes img s base base₀ o more rest v inv (wrote w e low fit t i) r =
+  step-goes img s base base₀ o more rest v inv (wrote w e low fit top t i) r =
       subst (λ ws. Goes img base₀ (map (tag base) (ws ++ more) ++ rest)) (sym e)
-      (goes-cons img (s .used) base₀ (tag base w) (map (tag base) more ++ rest) (inv .good) t (λ m f. (low, fit m (f s v)))
+      (goes-cons img (s .used) base₀ (tag base w) (map (tag base) more ++ rest) (inv .good) t (λ m f. (low, fit m (f s v))) top
       (r (put img (w .at) (w .what)) (if eqb (w .at) 0 then base else base₀)
       (subst (λ z. Inv n (put img (w .at) (w .what)) (o .store) (afterCalls base s₀) z) (landed-after (eqb (w .at) 0) base base₀ s₀) i)))
 

@@ -20,12 +20,13 @@ use Rattle.model.specs.Sight.{rows, held}
 use Rattle.model.specs.Transactions.{openNumbers}
 use Rattle.model.specs.Checkpoint.{fill, stored, freeCount}
 use Rattle.model.specs.QuotedLine.{content}
+use Rattle.model.specs.Checkpoints.{contentOf}
 use Rattle.model.proofs.Views.{put}
 use Rattle.model.proofs.Lists.{leb-true, eqb-true, not-in, eqb-sym, in-append, pos-not-zero}
 use Rattle.model.proofs.Frozen.{bare, Content, images}
 use Rattle.model.proofs.Pages.{stillFrozen}
 use Rattle.model.proofs.Recovery.{found, Found, found-frame}
-use Rattle.model.proofs.Stored.{Stored, contentOf, put-other, Dirs}
+use Rattle.model.proofs.Stored.{Stored, put-other, Dirs}
 
 -- ---- clean pages
 
@@ -170,6 +171,8 @@ pub record Run (img : View) (s b : Store) (n₀ : ℕ) (es ds : List ℕ) : Type
   pub dcount : length ds ≤ directoriesFor (length es)
   pub base : Ready b
   pub bcap : b .capacity ≡ s .capacity
+  pub blvl : b .level ≡ s .level
+  pub bblk : b .blocks ≡ s .blocks
   pub es-apart : Apart es
   pub es-used : AllOf (λ e. 0 < e → s .used e ≡ true) es
   pub es-off : AllOf (λ e. isIn e ds ≡ false) es

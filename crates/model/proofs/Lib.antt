@@ -34,6 +34,7 @@ pub mod Bytes
 pub mod Starts
 pub mod Laws
 pub mod Line
+pub mod Reread
 pub mod Cases
 pub mod Traps
 pub mod Cuts

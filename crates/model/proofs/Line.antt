@@ -23,18 +23,18 @@ use Rattle.model.proofs.Capacity.{same-capacity}
 room : (n at len : ℕ) → at < n → len ≡ 512 * n → 512 * at + 512 ≤ len
 room n at len h e = omega arith
 
-written : (n : ℕ) (img : List ℕ) (w : Logged) → length img ≡ 512 * n → WriteOk n w → view (stored img w) ≡ put (view img) (w .write .at) (w .write .what)
+pub written : (n : ℕ) (img : List ℕ) (w : Logged) → length img ≡ 512 * n → WriteOk n w → view (stored img w) ≡ put (view img) (w .write .at) (w .write .what)
 unfolding stored
 written n img w e k =
     view-put img (encodeBlock (w .write .what)) (w .write .at) (room n (w .write .at) (length img) (k .0) e) (encode-length (w .write .what))
     ∙ ap (put (view img) (w .write .at)) (decode-encode (w .write .what) (k .1))
 
-written-long : (n : ℕ) (img : List ℕ) (w : Logged) → length img ≡ 512 * n → WriteOk n w → length (stored img w) ≡ 512 * n
+pub written-long : (n : ℕ) (img : List ℕ) (w : Logged) → length img ≡ 512 * n → WriteOk n w → length (stored img w) ≡ 512 * n
 unfolding stored
 written-long n img w e k =
     length-put img (encodeBlock (w .write .what)) (w .write .at) (room n (w .write .at) (length img) (k .0) e) (encode-length (w .write .what)) ∙ e
 
-cut-view : (n : ℕ) {img : List ℕ} {base : List Call} {ws : List Logged} {img′ : List ℕ} {base′ : List Call} → Cut img base ws img′ base′
+pub cut-view : (n : ℕ) {img : List ℕ} {base : List Call} {ws : List Logged} {img′ : List ℕ} {base′ : List Call} → Cut img base ws img′ base′
     → length img ≡ 512 * n → AllOf (WriteOk n) ws → CutV (view img) base ws (view img′) base′ × (length img′ ≡ 512 * n)
 cut-view n stop e ok = (CutV.stop, e)
 cut-view n {img} {base} (torn {w = w} {ws = ws} h xs l a) e ok =
@@ -48,7 +48,7 @@ cut-view n {img} {img′ = img′} {base′ = base′} (whole {base = base} {w =
 
 -- ---- the claim
 
-started : (img : List ℕ) (s : Store) → Start img s → Accepted img s
+pub started : (img : List ℕ) (s : Store) → Start img s → Accepted img s
 started img s (fresh old m n e) = made-accepted old m n s e
 started img s (recovered m e) = accepted-recovery m img s e
 

@@ -1,6 +1,6 @@
 -- One step of a running checkpoint keeps what holds, and writes a block whose fields are in range.
-use mathlib.Core.Path.{_≡_, refl, _∙_, sym, subst, ap, ap₂}
-use Prim.Native.Nat.{_<_, _≤_, ℕ, _-_, suc, zero, _+_, _*_, min}
+use mathlib.Core.Path.{_≡_, ap, refl, _∙_, sym, subst, ap₂}
+use Prim.Native.Nat.{_<_, _≤_, suc, ℕ, _-_, zero, _+_, _*_, min}
 use native.Mathlib.Omega.{arith}
 use mathlib.Core.Bool.{true, false, Bool, not}
 use mathlib.Core.List.{[], _∷_, List, tail, map, _++_}
@@ -10,7 +10,7 @@ use lib.ListN.{length, take, drop, length-append, length-take, length-map, getD}
 use lib.Pow.{low}
 use Rattle.basics.specs.Basics.{if_then_else_, isIn, any, first, all, distinct, every}
 use Rattle.basics.proofs.Facts.{AllOf, by, lie}
-use Rattle.blocks.specs.Block.{page, InRange, Block, EntriesFit, directory, header}
+use Rattle.blocks.specs.Block.{page, Block, header, InRange, EntriesFit, directory}
 use Rattle.blocks.specs.Decode.{taken}
 use Rattle.blocks.specs.Limits.{recordSpace}
 use Rattle.blocks.specs.Tuple.{AllFit, sizes, Tuple}
@@ -25,23 +25,34 @@ use Rattle.model.specs.Transactions.{full}
 use Rattle.model.specs.Checkpoint.{fill, usedToo, storePage, made, stored, freeCount, isFree, allocate, storeDirectory, headerFor, storeHeader}
 use Rattle.model.specs.Recover.{loaded, recoveredStore}
 use Rattle.model.specs.QuotedLine.{content}
+use Rattle.model.specs.Checkpoints.{contentOf}
 use Rattle.model.proofs.Views.{put}
 use Rattle.model.proofs.Lists.{eqb-self, eqb-true, eqb-sym, all-map, first-all, first-passes, pos-not-zero, not-zero, not-in, in-append, leb-true, all-take, all-drop, all-append, all-true, le-true, leb-false, all-two, in-all}
 use Rattle.model.proofs.Owners.{numbers-reopened, in-transactions}
-use Rattle.model.proofs.Frozen.{Content, images-first, images, images-thaw, shown-calm, images-none, bare}
+use Rattle.model.proofs.Frozen.{Content, images, images-first, images-thaw, shown-calm, images-none, bare}
 use Rattle.model.proofs.Pages.{all-thaw}
 use Rattle.model.proofs.Recovery.{Found, found, read-blocks}
-use Rattle.model.proofs.Stored.{Stored, end, todo, stands, Dirs, put-other, stored-fill, put-same, stored-put, dirs-snoc, dirs-put, contentOf, stored-read, dirs-read, stored-written}
+use Rattle.model.proofs.Stored.{Stored, end, todo, stands, Dirs, put-other, stored-fill, put-same, stored-put, dirs-snoc, dirs-put, stored-read, dirs-read, stored-written}
 use Rattle.model.proofs.Alloc.{Fresh, allocate-fresh, count-one, used-old, used-new}
-use Rattle.model.proofs.Inv.{Inv, Good, Tied, test-other, in-fill, clean-pos, Run, off-used, good-put, good-more, length-fill, apart-fill, all-fill, tied-fresh, tied-frozen, in-one, apart-snoc, Apart, listed-read, listed, listed-held}
+use Rattle.model.proofs.Inv.{Inv, Good, Tied, test-other, in-fill, clean-pos, Run, off-used, good-put, good-more, length-fill, apart-fill, all-fill, tied-fresh, tied-frozen, in-one, apart-snoc, Apart, listed, listed-read, listed-held}
 
 -- what the frozen pages show can be written
 abbrev pub FrozenFit : Store → Type 0
 FrozenFit s = AllOf (λ p. p .frozen ≡ true → (p .table < 8) × AllFit (shown (p .tuples)) × (sizes (shown (p .tuples)) ≤ recordSpace)) (s .pages)
 
+-- the block x is the header of the store b, one level higher
+pub record Top (x : Block) (b : Store) : Type 0 where
+  pub head : Header
+  pub is : x ≡ header head
+  pub blocks : head .blocks ≡ b .blocks
+  pub capacity : head .capacity ≡ b .capacity
+  pub level : head .level ≡ suc (b .level)
+  pub next : head .next ≡ b .next
+  pub pages : head .pages ≡ length (b .pages)
+
 pub data Stepped (n : ℕ) (img : View) (s b b₀ : Store) (o : Outcome) : Type 0 where
   still : o .writes ≡ [] → Inv n img (o .store) b b₀ → Stepped n img s b b₀ o
-  wrote : (w : Write) → o .writes ≡ w ∷ [] → w .at < n → (n ≤ 4096 → FrozenFit s → InRange (w .what))
+  wrote : (w : Write) → o .writes ≡ w ∷ [] → w .at < n → (n ≤ 4096 → FrozenFit s → InRange (w .what)) → (eqb (w .at) 0 ≡ true → Top (w .what) b)
       → (eqb (w .at) 0 ≡ false → (x : Block) → Good n (put img (w .at) x) (s .used) b₀)
       → Inv n (put img (w .at) (w .what)) (o .store) b (if eqb (w .at) 0 then b else b₀) → Stepped n img s b b₀ o
 
@@ -105,6 +116,7 @@ page-step n img s b b₀ n₀ es ds p inv run e =
     (λ small fit. let f = first-all isFrozen (λ p. p .frozen ≡ true → (p .table < 8) × AllFit (shown (p .tuples)) × (sizes (shown (p .tuples)) ≤ recordSpace)) (s .pages) p e fit
     (first-passes isFrozen (s .pages) p e) in
     record { table = f .0; level = omega (arith, run .lvl); tuples = f .1; room = f .2 })
+    (λ z. lie (sym (pos-not-zero i (fr .pos)) ∙ z))
     (λ h. g)
     (rw (pos-not-zero i (fr .pos)) (record {
       blocks = inv .blocks;
@@ -120,6 +132,8 @@ page-step n img s b b₀ n₀ es ds p inv run e =
         dcount = rw length-fill (run .dcount);
         base = run .base;
         bcap = run .bcap;
+        blvl = run .blvl;
+        bblk = run .bblk;
         es-apart = apart-fill i es off (run .es-apart);
         es-used = all-fill _ i es (λ q. used-new s i) (all-map _ _ (λ e h q. used-old s i e (h q)) es (run .es-used));
         es-off = all-fill _ i es off′ (run .es-off);
@@ -173,6 +187,7 @@ directory-step n img s b b₀ n₀ es ds inv run e lt =
       entries = entries-fit part (all-take _ 336 (drop (336 * length ds) es) (all-drop _ (336 * length ds) es
           (all-map _ _ (λ e h. omega (arith, inv .blocks)) es (entries-low s es (omega (arith, fr .low)) (inv .within) (run .es-used)))));
     })
+    (λ z. lie (sym (pos-not-zero i (fr .pos)) ∙ z))
     (λ h. g)
     (rw (pos-not-zero i (fr .pos)) (record {
       blocks = inv .blocks;
@@ -188,6 +203,8 @@ directory-step n img s b b₀ n₀ es ds inv run e lt =
         dcount = rw len (omega arith);
         base = run .base;
         bcap = run .bcap;
+        blvl = run .blvl;
+        bblk = run .bblk;
         es-apart = run .es-apart;
         es-used = all-map _ _ (λ e h q. used-old s i e (h q)) es (run .es-used);
         es-off = off-snoc i es ds off (run .es-off);
@@ -321,6 +338,18 @@ module _ (n : ℕ) (img : View) (s b : Store) (n₀ : ℕ) (es ds : List ℕ) (b
         names = λ c u. ap₂ (λ y z. isIn c (y ++ z)) (sym bs) (sym q) ∙ u;
       }
 
+  header-top : Top (header top) b
+  unfolding headerFor
+  header-top = record {
+    head = top;
+    is = refl;
+    blocks = sym (run .bblk);
+    capacity = sym (run .bcap);
+    level = ap suc (sym (run .blvl));
+    next = run .nxt;
+    pages = stored-length (run .stored) ∙ length-map (b .pages) content;
+  }
+
   header-fits : s .blocks ≤ 4096 → InRange (header top)
   unfolding headerFor
   header-fits m =
@@ -367,6 +396,7 @@ header-step n img s b b₀ n₀ es ds inv run e lt =
     let x = header (headerFor s L n₀ (length es) ds) in
     wrote (record { at = 0; what = x }) refl (omega (arith, inv .taken, inv .blocks))
     (λ small fit. header-fits n img s b n₀ es ds (inv .blocks) (inv .cap) run ims full eok dok (omega (arith, inv .blocks)))
+    (λ z. header-top n img s b n₀ es ds (inv .blocks) (inv .cap) run ims full eok dok)
     (λ h. lie (sym h))
     (record {
       blocks = inv .blocks;

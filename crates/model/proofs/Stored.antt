@@ -14,6 +14,7 @@ use Rattle.blocks.specs.Block.{Block, page, directory}
 use Rattle.image.specs.Stages.{StoredPage, readPages, addPage, pageOk, readDirectories, addEntries}
 use Rattle.image.specs.View.{View}
 use Rattle.model.specs.Checkpoint.{fill}
+use Rattle.model.specs.Checkpoints.{contentOf}
 use Rattle.model.proofs.Views.{put}
 use Rattle.model.proofs.Lists.{eqb-self, not-in, eqb-true, le-true}
 use Rattle.model.proofs.Frozen.{Content}
@@ -52,10 +53,6 @@ stored-fill {img} {l} b c js is e p u q (todo {es = es} {cs = cs} {is = is′} {
     subst (λ j. Stored img l (b ∷ es) (d ∷ cs) j) m (stands l p (q ∙ rw k) u (omega arith) r)
 stored-fill b c js is e p u q (stands {e = d} k v w x y r) =
     by (eqb d 0) (λ h. let z = eqb-true d 0 h in absurd (omega arith)) (λ h. rw h (stands k v w x y (stored-fill b c js is e p u q r)))
-
--- a page as it was read
-unfoldable pub contentOf : StoredPage → Content
-contentOf p = (p .table, p .tuples)
 
 -- all written: recovery reads the base's pages
 pub stored-read : {img : View} {l : ℕ} {es : List ℕ} {cs is : List Content} → is ≡ [] → AllOf (λ c. isEmpty (c .1) ≡ false) cs → Stored img l es cs is

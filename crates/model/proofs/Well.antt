@@ -17,7 +17,7 @@ use Rattle.model.specs.Sight.{held, rows}
 use Rattle.model.specs.Transactions.{openNumbers}
 use Rattle.model.specs.Checkpoint.{freeCount}
 use Rattle.model.specs.Calls.{Call, Typed, call}
-use Rattle.model.specs.WellFormed.{isBefore, settledOk, frozenOk, pageWell, stands, ownerIn, CheckpointWell, heldOk, openOk, WellFormed}
+use Rattle.model.specs.WellFormed.{isBefore, settledOk, frozenOk, pageWell, dirtyOr, ownerIn, CheckpointWell, heldOk, openOk, WellFormed}
 use Rattle.model.proofs.Lists.{leb-false, eqb-self, le-true, leb-true, Pairs, all-map, all-two, all-append, any-off, nonempty, and-both, in-all, not-zero, all-true, every-all, off-any, not-true, has-some, all-split, pos-not-zero}
 use Rattle.model.proofs.Owners.{numbers-length}
 use Rattle.model.proofs.Splits.{Small}
@@ -159,9 +159,9 @@ page-true p t d o =
     by (p .frozen) (λ h. and-both (le-true (p .table) 7 t) (subst (λ b. (if b then frozenOk p else settledOk (p .tuples)) ≡ true) (sym h) (frozen-true p (d h) (o .2 h))))
     (λ h. and-both (le-true (p .table) 7 t) (subst (λ b. (if b then frozenOk p else settledOk (p .tuples)) ≡ true) (sym h) (settled-true (p .tuples) (o .1 h))))
 
-stands-true : (f : ℕ → Bool) (p : Page) → (isDirty p ≡ false → f (p .block) ≡ true) → stands f p ≡ true
-unfolding stands
-stands-true f p h = by (isDirty p) (λ k. rw k) (λ k. rw k (h k))
+dirtyOr-true : (f : ℕ → Bool) (p : Page) → (isDirty p ≡ false → f (p .block) ≡ true) → dirtyOr f p ≡ true
+unfolding dirtyOr
+dirtyOr-true f p h = by (isDirty p) (λ k. rw k) (λ k. rw k (h k))
 
 owner-true : (os : List ℕ) (o : Owner) → Opened os o → ownerIn os o ≡ true
 unfolding ownerIn
@@ -195,7 +195,7 @@ checkpoint-well s v b = go (s .checkpoint) refl (b .phase)
           directories = r .directories;
           named = all-true _ es (all-map _ _ (named-true (s .used)) es (r .named));
           written = all-true _ ds (r .written);
-          kept = all-true _ (s .pages) (all-map _ _ (λ p q. stands-true (λ b. isIn b es) p (q .1)) (s .pages) (r .booked));
+          kept = all-true _ (s .pages) (all-map _ _ (λ p q. dirtyOr-true (λ b. isIn b es) p (q .1)) (s .pages) (r .booked));
           room = rw (many-frozen (s .pages)) (r .room);
         }
 
@@ -235,7 +235,7 @@ well s w =
           (all-two (λ p. (p .table ≤ 7) × (p .frozen ≡ true → isDirty p ≡ true)) PageOk _ (λ p q o. page-true p (q .0) (q .1) o) (s .pages)
           (all-two (λ p. p .table ≤ 7) (Booked (s .used)) _ (λ p t q. (t, q .0)) (s .pages) (pages-tables (s .pages) (v .pages) (all-map _ _ (λ r k. k .1) (held (s .pages)) (v .has .known))) booked)
           (v .pages));
-      clean = all-true _ (s .pages) (all-map _ _ (λ p q. stands-true (s .used) p (q .1)) (s .pages) booked);
+      clean = all-true _ (s .pages) (all-map _ _ (λ p q. dirtyOr-true (s .used) p (q .1)) (s .pages) booked);
       used = b .within;
       taken = b .taken;
       checkpoint = checkpoint-well s v b;
@@ -351,8 +351,8 @@ module _ (s : Store) (w : WellFormed s) where
     cap = w .capacity .1;
   }
 
-  booked : (f : ℕ → Bool) → all (stands f) (s .pages) ≡ true → AllOf (Booked f) (s .pages)
-  unfolding stands
+  booked : (f : ℕ → Bool) → all (dirtyOr f) (s .pages) ≡ true → AllOf (Booked f) (s .pages)
+  unfolding dirtyOr
   booked f h =
       all-two Page′ (λ p. (isDirty p || f (p .block)) ≡ true) (Booked f) (λ p q k. (λ e. true-frozen p (q .icy e) .0, λ e. or-else (isDirty p) (f (p .block)) k e)) (s .pages)
       tested-pages (all-split _ (s .pages) h)

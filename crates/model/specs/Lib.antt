@@ -6,5 +6,6 @@ pub mod Checkpoint
 pub mod Calls
 pub mod Recover
 pub mod QuotedLine
+pub mod Checkpoints
 pub mod WellFormed
 pub mod Cases

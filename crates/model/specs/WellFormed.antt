@@ -25,7 +25,7 @@ use Rattle.model.specs.Recover.{make, recover}
 unfoldable pub isBefore : Row → Row → Bool
 isBefore r q = isLower r q || (isAt (q .0) (q .1 .key) r && ltb (number r) (number q))
 
--- all tuples held, those pending add or removal too: they rise; no number stands twice, and all are below next; at most cap
+-- all tuples held, those pending add or removal too: they rise; no number dirtyOr twice, and all are below next; at most cap
 unfoldable pub heldOk : ℕ → ℕ → List Row → Bool
 heldOk cap next rs = every (paired isBefore rs ∷ distinct (map number rs) ∷ all (isBelow next) rs ∷ leb (length rs) cap ∷ [])
 
@@ -44,8 +44,8 @@ unfoldable pub pageWell : Page → Bool
 pageWell p = leb (p .table) 7 && (if p .frozen then frozenOk p else settledOk (p .tuples))
 
 -- a page is dirty, or its block passes the test
-unfoldable pub stands : (ℕ → Bool) → Page → Bool
-stands f p = isDirty p || f (p .block)
+unfoldable pub dirtyOr : (ℕ → Bool) → Page → Bool
+dirtyOr f p = isDirty p || f (p .block)
 
 -- ---- open transactions
 
@@ -73,7 +73,7 @@ pub record RunningWell (n : ℕ) (es ds : List ℕ) (s : Store) : Type 0 where
   -- what the new header will name is in use, and the block of every clean page is among it
   pub named : all (λ e. isZero e || s .used e) es ≡ true
   pub written : all (s .used) ds ≡ true
-  pub kept : all (stands (λ b. isIn b es)) (s .pages) ≡ true
+  pub kept : all (dirtyOr (λ b. isIn b es)) (s .pages) ≡ true
   -- free blocks suffice for the frozen pages and the directory blocks still to write
   pub room : howMany isFrozen (s .pages) + (directoriesFor (length es) - length ds) ≤ freeCount s
 
@@ -97,7 +97,7 @@ pub record WellFormed (s : Store) : Type 0 where
   -- an open transaction's count is that of its live rows
   pub counts : (tx : ℕ) → isIn tx (openNumbers (s .active)) ≡ true → writtenBy tx (s .active) ≡ howMany (isOwn tx) (rows (s .pages))
   pub pages : all pageWell (s .pages) ≡ true
-  pub clean : all (stands (s .used)) (s .pages) ≡ true
+  pub clean : all (dirtyOr (s .used)) (s .pages) ≡ true
   pub used : (b : ℕ) → s .used b ≡ true → (1 ≤ b) × (b < s .blocks)
   pub taken : s .taken < s .blocks
   pub checkpoint : CheckpointWell (s .checkpoint) s
