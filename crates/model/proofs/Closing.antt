@@ -15,7 +15,7 @@ use Rattle.model.specs.Calls.{others}
 use Rattle.model.proofs.Lists.{all-append, all-map, Pairs, pairs-append, many-append, eqb-true, keep-append, keep-all, keep-cons, keep-none, keep-past, Mem, many-none, all-mem, mem-all, and-yes, last-off, last-mem, eqb-self, mem-pairs, some-eq, all-keep, pairs-map, pairs-both, pairs-keep}
 use Rattle.model.proofs.Owners.{in-others}
 use Rattle.model.proofs.Rows.{kept-row, Differ}
-use Rattle.model.proofs.Fate.{gather, With, verdict, at-join, afterCommit, at-split, row-number, afterAbort}
+use Rattle.model.proofs.Fate.{gather, With, verdict, at-join, afterCommit, at-split, row-number, gather-ext, afterAbort}
 use Rattle.model.proofs.Valid.{LiveOk, Opened, Chain}
 
 -- ---- what comes of a row r
@@ -65,7 +65,7 @@ own-late : (u n : ℕ) (r : Row) → isOwn u r ≡ false → earlierBy u n r ≡
 unfolding earlierBy
 own-late u n r h = rw h
 
-gather-cons : (F : Row → List Row) (r : Row) (rs : List Row) → gather F (r ∷ rs) ≡ F r ++ gather F rs
+pub gather-cons : (F : Row → List Row) (r : Row) (rs : List Row) → gather F (r ∷ rs) ≡ F r ++ gather F rs
 unfolding gather
 gather-cons F r rs = refl
 
@@ -164,17 +164,12 @@ came-with : (tx : ℕ) (r a q b : Row) → Comes tx r a → Comes tx q b → Wit
 unfolding isAt
 came-with tx r a q b c d = let u = came-key tx r a c in let v = came-key tx q b d in rw (u .0, u .1, v .0, v .1)
 
-gather-same : (F G : Row → List Row) (rs : List Row) → AllOf (λ r. F r ≡ G r) rs → gather F rs ≡ gather G rs
-unfolding gather
-gather-same F G [] h = refl
-gather-same F G (r ∷ rs) h = rw (h .0, gather-same F G rs (h .1))
-
 gather-self : (F : Row → List Row) (rs : List Row) → AllOf (λ r. F r ≡ r ∷ []) rs → gather F rs ≡ rs
 unfolding gather
 gather-self F [] h = refl
 gather-self F (r ∷ rs) h = rw (h .0, gather-self F rs (h .1))
 
-gather-none : (F : Row → List Row) (rs : List Row) → AllOf (λ r. F r ≡ []) rs → gather F rs ≡ []
+pub gather-none : (F : Row → List Row) (rs : List Row) → AllOf (λ r. F r ≡ []) rs → gather F rs ≡ []
 unfolding gather
 gather-none F [] h = refl
 gather-none F (r ∷ rs) h = rw (h .0) (gather-none F rs (h .1))
@@ -266,15 +261,24 @@ module _ (tx : ℕ) (os : List ℕ) (rs : List Row) (L : LiveOk os rs) (D : Pair
   at-key : (t k : ℕ) → AllOf (λ r. isAt t k r ≡ true) (keep (isAt t k) rs)
   at-key t k = all-map (λ r. (isAt t k r ≡ true) × Mem r rs) (λ r. isAt t k r ≡ true) (λ r q. q .0) (keep (isAt t k) rs) (all-keep (λ r. Mem r rs) (isAt t k) rs (all-mem _ rs (λ r m. m)))
 
+  -- the rows at a key, by the newest own one
+  pub commit-at : (t k : ℕ) → keep (isAt t k) (gather (afterCommit tx rs) rs) ≡ gather (verdict (last (ownAt tx t k) rs)) (keep (isAt t k) rs)
+  commit-at t k =
+      keep-came tx os rs L (afterCommit tx rs) commit-comes commit-stays t k
+      ∙ gather-ext (afterCommit tx rs) (verdict (last (ownAt tx t k) rs)) (keep (isAt t k) rs) (all-map (λ r. isAt t k r ≡ true) (λ r. afterCommit tx rs r ≡ verdict (last (ownAt tx t k) rs) r)
+      (λ r h. let s = at-split t k r h in (unfold afterCommit in ap₂ (λ a b. verdict (last (ownAt tx a b) rs) r) (s .0) (s .1))) (keep (isAt t k) rs) (at-key t k))
+
+  -- none of them: they stay
+  pub verdict-stays : (K : List Row) → gather (verdict none) K ≡ K
+  verdict-stays K = gather-self (verdict none) K (all-mem _ K (λ r i. unfold verdict in refl))
+
   commit-heads : (t k : ℕ) → startsWell (keep (isAt t k) (gather (afterCommit tx rs) rs)) ≡ true
   commit-heads t k =
       let m = last (ownAt tx t k) rs in
       let K = keep (isAt t k) rs in
-      let e : gather (afterCommit tx rs) K ≡ gather (verdict m) K = gather-same (afterCommit tx rs) (verdict m) K (all-map (λ r. isAt t k r ≡ true) (λ r. afterCommit tx rs r ≡ verdict m r)
-      (λ r h. let s = at-split t k r h in (unfold afterCommit in ap₂ (λ a b. verdict (last (ownAt tx a b) rs) r) (s .0) (s .1))) K (at-key t k)) in
-      subst (λ z. startsWell z ≡ true) (sym (keep-came tx os rs L (afterCommit tx rs) commit-comes commit-stays t k ∙ e))
+      subst (λ z. startsWell z ≡ true) (sym (commit-at t k))
       (by-option m
-      (λ n. subst (λ z. startsWell z ≡ true) (sym (ap (λ z. gather (verdict z) K) n ∙ gather-self (verdict none) K (all-mem _ K (λ r i. unfold verdict in refl)))) (L .heads t k))
+      (λ n. subst (λ z. startsWell z ≡ true) (sym (ap (λ z. gather (verdict z) K) n ∙ verdict-stays K)) (L .heads t k))
       (λ x n. starts-unmarked (gather (verdict m) K) (gather-all (λ a. a .1 .mark ≡ false) (verdict m) K (all-mem _ K (λ r i. verdict-all (λ a. a .1 .mark ≡ false) m r (λ n′. never (sym n′ ∙ n)) (λ y n′ u j. (unfold asCommitted in u)))))))
 
   pub commit-live : LiveOk (others tx os) (gather (afterCommit tx rs) rs)
@@ -333,8 +337,11 @@ module _ (tx : ℕ) (os : List ℕ) (rs : List Row) (L : LiveOk os rs) (D : Pair
               let s′ = at-split t k r (a .0) in
               (abort-own q (own-next r q (c .0 (at-join (q .0) (q .1 .key) r (s′ .0 ∙ sym (s .0)) (s′ .1 ∙ sym (s .1)))) o), go xs (b .1) (c .1))
 
+  pub abort-at : (t k : ℕ) → keep (isAt t k) (gather (afterAbort tx) rs) ≡ gather (afterAbort tx) (keep (isAt t k) rs)
+  abort-at t k = keep-came tx os rs L (afterAbort tx) abort-comes abort-stays t k
+
   abort-heads : (t k : ℕ) → startsWell (keep (isAt t k) (gather (afterAbort tx) rs)) ≡ true
-  abort-heads t k = subst (λ z. startsWell z ≡ true) (sym (keep-came tx os rs L (afterAbort tx) abort-comes abort-stays t k))
+  abort-heads t k = subst (λ z. startsWell z ≡ true) (sym (abort-at t k))
       (abort-starts t k (keep (isAt t k) rs) (at-key t k) (pairs-keep Chain (isAt t k) rs (L .chain)) (L .heads t k))
 
   pub abort-live : LiveOk (others tx os) (gather (afterAbort tx) rs)

@@ -102,7 +102,7 @@ unfolding removeAll opNumber
 off-removeAll r [] h = tt
 off-removeAll r (y ∷ ys) h = (h .0, off-removeAll r ys (h .1))
 
-row-self : (r : Row) → isRow (number r) r ≡ true
+pub row-self : (r : Row) → isRow (number r) r ≡ true
 unfolding isRow number
 row-self r = eqb-self (r .1 .number)
 
@@ -132,7 +132,7 @@ pub row-number : (n : ℕ) (r : Row) → isRow n r ≡ true → r .1 .number ≡
 unfolding isRow number
 row-number n r h = eqb-true (r .1 .number) n h
 
-row-false : (n : ℕ) (r : Row) → r .1 .number ≢ n → isRow n r ≡ false
+pub row-false : (n : ℕ) (r : Row) → r .1 .number ≢ n → isRow n r ≡ false
 row-false n r h = by (isRow n r) (λ k. absurd (h (row-number n r k))) (λ k. k)
 
 -- ---- the plan
@@ -307,7 +307,7 @@ module _ (tx : ℕ) (all : List Row) (d : Pairs Differ all) where
       (λ y q. row-false (number y) r (λ e. lie (sym o ∙ ap (isOwn tx) (sym (mem-all (λ y. y .1 .number ≡ r .1 .number → y ≡ r) (q .1) (mem-only mr d) (sym e))) ∙ q .0)))
       (keep (isOwn tx) all) (all-keep (λ y. Mem y all) (isOwn tx) all (all-mem _ all (λ y m. m))))) ∙ (unfold if_then_else_ in rw o))
 
-gather-ext : (F G : Row → List Row) (rs : List Row) → AllOf (λ r. F r ≡ G r) rs → gather F rs ≡ gather G rs
+pub gather-ext : (F G : Row → List Row) (rs : List Row) → AllOf (λ r. F r ≡ G r) rs → gather F rs ≡ gather G rs
 unfolding gather
 gather-ext F G [] h = refl
 gather-ext F G (r ∷ rs) h = rw (h .0, gather-ext F G rs (h .1))

@@ -33,6 +33,7 @@ pub mod Capacity
 pub mod Bytes
 pub mod Starts
 pub mod Laws
+pub mod Sees
 pub mod Line
 pub mod Reread
 pub mod Cases

@@ -8,4 +8,5 @@ pub mod Recover
 pub mod QuotedLine
 pub mod Checkpoints
 pub mod WellFormed
+pub mod Seen
 pub mod Cases
