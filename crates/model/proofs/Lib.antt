@@ -4,6 +4,7 @@ pub mod Owners
 pub mod Splits
 pub mod Frozen
 pub mod Pages
+pub mod Totals
 pub mod Recovery
 pub mod Stored
 pub mod Alloc
