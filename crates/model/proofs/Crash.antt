@@ -1,33 +1,33 @@
 -- The claims over an invariant of the store alone: `Valid`, which every call keeps and which makes an idle store `Ready`.
-use mathlib.Core.Path.{_≡_, _∙_, ap, subst, sym, refl}
+use mathlib.Core.Path.{_≡_, ap, subst, sym, refl, _∙_}
 use Prim.Native.Nat.{suc, ℕ, _≤_, zero, min}
-use mathlib.Core.Bool.{true, false, Bool, not}
+use mathlib.Core.Bool.{true, Bool, false, not}
 use mathlib.Core.List.{List, [], _++_, _∷_, map, append-nil}
-use lib.Dec.{eqb, ltb}
+use lib.Dec.{T, eqb, ltb}
 use lib.ListN.{length}
 use lib.Pow.{low}
 use Rattle.basics.specs.Basics.{isIn, if_then_else_, first}
-use Rattle.basics.proofs.Facts.{AllOf, lie, by, by-option}
+use Rattle.basics.proofs.Facts.{AllOf, by, by-option}
 use Rattle.blocks.specs.Block.{Block}
-use Rattle.blocks.specs.Decode.{taken}
 use Rattle.blocks.specs.Limits.{mostNumber}
 use Rattle.image.specs.Stages.{directoriesFor, holds}
 use Rattle.image.specs.View.{View}
-use Rattle.model.specs.State.{Store, Checkpoint, Page, idle, running, Held, Active, count, Outcome, Write}
+use Rattle.model.specs.State.{Store, Checkpoint, Page, idle, running, Held, Active, Outcome, Write, count}
 use Rattle.model.specs.Rules.{fresh, isFrozen}
 use Rattle.model.specs.Transactions.{changed, unless, gives, _when_}
-use Rattle.model.specs.Checkpoint.{freeCount, isFree, stored, isRunning, beginCall, blocksNeeded, stepAt, stepOf, inTurn, stepCall, badImage, runCall, left}
+use Rattle.model.specs.Checkpoint.{stored, beginCall, isRunning, freeCount, blocksNeeded, stepAt, stepOf, inTurn, stepCall, badImage, runCall, left}
 use Rattle.model.specs.Calls.{Call, accepted, afterCalls, call, steps, isBegin, runs, begins, opens, inserts, replaces, deletes, commits, aborts, reads, lists}
 use Rattle.model.specs.QuotedLine.{landed, Logged, isHeader, tag, log}
 use Rattle.model.specs.Cases.{writes}
 use Rattle.model.proofs.Views.{CutV, recoverView, WriteOk, stop, put, torn, whole}
 use Rattle.model.proofs.Frozen.{images}
 use Rattle.model.proofs.Pages.{stillFrozen}
+use Rattle.model.proofs.Quiet.{quiet, Quiet, unless-out, isPlain}
+use Rattle.model.proofs.Books.{idle-of, Books, Ledger}
 use Rattle.model.proofs.Recovery.{recovers}
 use Rattle.model.proofs.Inv.{Tied, tied-fresh, tied-frozen, Phase, Inv, Ready, Like, Good}
 use Rattle.model.proofs.Steps.{still, Stepped, directory-step, header-step, page-step, Top, FrozenFit, wrote}
 use Rattle.model.proofs.Begin.{begin-inv}
-use Rattle.model.proofs.Quiet.{quiet, Quiet, unless-out, isPlain}
 
 -- ---- calls that make no store and touch no checkpoint
 
@@ -46,47 +46,33 @@ tie-frozen img s (running n₀ es ds) p ts h t = tied-frozen img (suc (s .level)
 
 phase-changed : (img : View) (s b : Store) (nx : ℕ) (ps : List Page) (os : List Active) → images ps ≡ images (s .pages) → (c : Checkpoint)
     → (AllOf (Tie img s c) (s .pages) → AllOf (Tie img s c) ps) → Phase img s b c → Phase img (changed s nx ps os) b c
-unfolding changed freeCount isFree
-phase-changed img s b nx ps os e idle k ph = record { lvl = ph .lvl; tied = k (ph .tied) }
+unfolding changed
+phase-changed img s b nx ps os e idle k ph = k ph
 phase-changed img s b nx ps os e (running n₀ es ds) k r =
     record {
       nxt = r .nxt;
       stored = rw e (r .stored);
       dirs = r .dirs;
-      late = λ h. e ∙ r .late h;
-      dcount = r .dcount;
       base = r .base;
       bcap = r .bcap;
       blvl = r .blvl;
       bblk = r .bblk;
-      es-apart = r .es-apart;
-      es-used = r .es-used;
-      es-off = r .es-off;
-      ds-used = r .ds-used;
-      ds-apart = r .ds-apart;
-      room = rw e (r .room);
-      lvl = r .lvl;
+      bused = r .bused;
+      names = r .names;
       tied = k (r .tied);
     }
 
-inv-quiet : (n : ℕ) (img : View) (s b b₀ : Store) (o : Outcome) → Quiet (Tie img s (s .checkpoint)) s o → Inv n img s b b₀ → Inv n img (o .store) b b₀
+inv-quiet : (n : ℕ) (img : View) (s b b₀ : Store) (o : Outcome) → Quiet s o → Inv n img s b b₀ → Inv n img (o .store) b b₀
 inv-quiet n img s b b₀ o q inv =
+    let T = Tie img s (s .checkpoint) in
     subst (λ t. Inv n img t b b₀) (sym (q .eq))
     (unfold changed in record {
       blocks = inv .blocks;
-      cap = inv .cap;
-      taken = inv .taken;
       good = inv .good;
-      within = inv .within;
-      phase = phase-changed img s b (q .next) (q .pages) (q .active) (q .same) (s .checkpoint) (q .kept) (inv .phase);
+      phase = phase-changed img s b (q .next) (q .pages) (q .active) (q .same) (s .checkpoint) (q .kept T (tie-fresh img s (s .checkpoint)) (tie-frozen img s (s .checkpoint))) (inv .phase);
     })
 
 -- ---- begin and step
-
-pub idle-of : (c : Checkpoint) → isRunning c ≡ false → c ≡ idle
-unfolding isRunning
-idle-of idle h = refl
-idle-of (running n₀ es ds) h = lie (sym h)
 
 begin-out : (n : ℕ) (img : View) (s b b₀ : Store) → (s .checkpoint ≡ idle → Ready s) → Inv n img s b b₀
     → (beginCall s .writes ≡ []) × Inv n img (beginCall s .store) (if accepted (beginCall s .answer) then s else b) b₀
@@ -95,19 +81,19 @@ begin-out n img s b b₀ rd inv =
     by (isRunning (s .checkpoint)) (λ h. rw h (refl, inv))
     (λ h. by (eqb (s .level) mostNumber) (λ k. rw (h, k) (refl, inv))
     (λ k. by (ltb (freeCount s) (blocksNeeded (s .pages))) (λ m. rw (h, k, m) (refl, inv))
-    (λ m. let i = idle-of (s .checkpoint) h in rw (h, k, m) (refl, begin-inv n img s b b₀ inv i (rd i) k m))))
+    (λ m. let i = idle-of (s .checkpoint) h in rw (h, k, m) (refl, begin-inv n img s b b₀ inv i (rd i)))))
 
-step-inv : (n : ℕ) (img : View) (s b b₀ : Store) → Inv n img s b b₀ → Stepped n img s b b₀ (stepAt (s .checkpoint) s)
+step-inv : (n : ℕ) (img : View) (s b b₀ : Store) → Books s → Inv n img s b b₀ → Stepped n img s b b₀ (stepAt (s .checkpoint) s)
 unfolding stepAt gives if_then_else_ stepOf
-step-inv n img s b b₀ inv = go (s .checkpoint) (inv .phase)
+step-inv n img s b b₀ bk inv = go (s .checkpoint) (bk .phase) (inv .phase)
   where
-    go : (c : Checkpoint) → Phase img s b c → Stepped n img s b b₀ (stepAt c s)
-    go idle ph = still refl inv
-    go (running n₀ es ds) r =
+    go : (c : Checkpoint) → Ledger c s → Phase img s b c → Stepped n img s b b₀ (stepAt c s)
+    go idle l ph = still refl inv
+    go (running n₀ es ds) l r =
         by-option (first isFrozen (s .pages))
         (λ e. rw (e, stepOf) (by (ltb (length ds) (directoriesFor (length es)))
-        (λ k. rw (k, if_then_else_) (directory-step n img s b b₀ n₀ es ds inv r e k)) (λ k. rw (k, if_then_else_) (header-step n img s b b₀ n₀ es ds inv r e k))))
-        (λ p e. rw (e, stepOf) (page-step n img s b b₀ n₀ es ds p inv r e))
+        (λ k. rw (k, if_then_else_) (directory-step n img s b b₀ n₀ es ds bk l inv r e k)) (λ k. rw (k, if_then_else_) (header-step n img s b b₀ n₀ es ds bk l inv r e k))))
+        (λ p e. rw (e, stepOf) (page-step n img s b b₀ n₀ es ds p bk l inv r e))
 
 -- ---- the stores of a list of calls: every cut recovers, and every block written is in range
 
@@ -125,7 +111,7 @@ after-snoc (d ∷ pre) c s = after-snoc pre c (call d s .store)
 -- n: the blocks; s₀: the store at the start; Okay: the calls allowed
 module _ (n : ℕ) (s₀ : Store) (Okay : Call → Type 0) (Valid : Store → Type 0)
     (keeps : (c : Call) (s : Store) → Okay c → Valid s → Valid (call c s .store)) (steps-keep : (s : Store) → Valid s → Valid (stepAt (s .checkpoint) s .store))
-    (ready : (s : Store) → Valid s → s .checkpoint ≡ idle → Ready s) where
+    (ready : (s : Store) → Valid s → s .checkpoint ≡ idle → Ready s) (books : (s : Store) → Valid s → Books s) where
   pub record Goes (img : View) (base₀ : List Call) (ws : List Logged) : Type 0 where
     pub safe : (img′ : View) (base′ : List Call) → CutV img base₀ ws img′ base′
         → (r : Store) × (recoverView n img′ ≡ holds r) × Like r (afterCalls base′ s₀)
@@ -178,7 +164,7 @@ module _ (n : ℕ) (s₀ : Store) (Okay : Call → Type 0) (Valid : Store → Ty
   turn-goes zero img s base base₀ rest v inv r = r img base₀ inv
   turn-goes (suc k) img s base base₀ rest v inv r =
       let o = stepAt (s .checkpoint) s in
-      step-goes img s base base₀ o (inTurn k (o .store) .writes) rest v inv (step-inv n img s (afterCalls base s₀) (afterCalls base₀ s₀) inv)
+      step-goes img s base base₀ o (inTurn k (o .store) .writes) rest v inv (step-inv n img s (afterCalls base s₀) (afterCalls base₀ s₀) (books s v) inv)
       (λ img′ base₀′ i. turn-goes k img′ (o .store) base base₀′ rest (steps-keep s v) i r)
 
   -- what comes after a call: the store t, from which the rest of the calls is made
@@ -194,7 +180,7 @@ module _ (n : ℕ) (s₀ : Store) (Okay : Call → Type 0) (Valid : Store → Ty
       unless-out (λ t ws. Rest past′ base t cs → Goes img base₀ (map (tag base) ws ++ log past′ base t cs)) (badImage len s ∷ []) s o
       (λ r. r img base₀ inv)
       (λ r. subst (λ ws. Goes img base₀ (map (tag base) ws ++ log past′ base (o .store) cs)) (append-nil (o .writes))
-      (step-goes img s base base₀ o [] _ v inv (step-inv n img s (afterCalls base s₀) (afterCalls base₀ s₀) inv) r)) r
+      (step-goes img s base base₀ o [] _ v inv (step-inv n img s (afterCalls base s₀) (afterCalls base₀ s₀) (books s v) inv) r)) r
 
   run-log : (limit len : ℕ) (img : View) (s : Store) (past base base₀ : List Call) (cs : List Call) → Valid s → Now img s base base₀
       → Rest (past ++ runs limit len ∷ []) base (runCall limit len s .store) cs → Goes img base₀ (log past base s (runs limit len ∷ cs))
@@ -211,7 +197,7 @@ module _ (n : ℕ) (s₀ : Store) (Okay : Call → Type 0) (Valid : Store → Ty
   unfolding log if_then_else_
   quietly c img s past base base₀ cs h p inv r =
       let o = call c s in
-      let q = quiet (Tie img s (s .checkpoint)) (tie-fresh img s (s .checkpoint)) (tie-frozen img s (s .checkpoint)) s c p in
+      let q = quiet s c p in
       rw h (subst (λ ws. Goes img base₀ (map (tag base) ws ++ log (past ++ c ∷ []) base (o .store) cs)) (sym (q .none-written)) (r img base₀ (inv-quiet n img s _ _ o q inv)))
 
   begin-safe : (img : View) (s : Store) (past base base₀ : List Call) (cs : List Call) → s ≡ afterCalls past s₀ → Valid s → Now img s base base₀

@@ -1,49 +1,37 @@
 -- Every call keeps the invariant.
-use mathlib.Core.Path.{_≡_, ap, subst, sym, refl, _∙_}
+use mathlib.Core.Path.{ap, subst, sym, _≡_, refl, _∙_}
 use Prim.Native.Nat.{ℕ, _<_, _≤_, suc, zero, min}
 use native.Mathlib.Omega.{arith}
 use mathlib.Core.Bool.{false, Bool, true, not, _||_}
-use mathlib.Core.List.{List, [], _∷_, _++_, map}
+use mathlib.Core.List.{List, _++_, _∷_, [], map}
 use mathlib.Core.Option.{some, Option, none}
 use lib.Dec.{ltb}
 use lib.ListN.{length, length-append, length-map}
 use Rattle.basics.specs.Basics.{keep, if_then_else_, isIn, howMany, any, first, isEmpty, isSome, last}
-use Rattle.basics.proofs.Facts.{by, AllOf, lie, by-option}
+use Rattle.basics.proofs.Facts.{AllOf, lie, by, by-option}
 use Rattle.blocks.specs.Limits.{payloadLimit, mostNumber}
 use Rattle.blocks.specs.Tuple.{Owner, committed, tentative, Tuple, size, ownerSize, isTentative}
 use Rattle.rows.specs.Rows.{Row, isOwn, markOk, isAt, openLimit}
 use Rattle.image.specs.Stages.{directoriesFor}
-use Rattle.model.specs.State.{Store, Outcome, count, Page, Held, idle, running, nothing, Checkpoint}
+use Rattle.model.specs.State.{count, Store, Page, Held, idle, running, nothing, Checkpoint}
 use Rattle.model.specs.Rules.{place, heldSize, isPending, freeze, isFrozen}
 use Rattle.model.specs.Sight.{rows, held, isForeign, versions, seen, seenOf}
-use Rattle.model.specs.Transactions.{Test, _when_, unless, gives, openCall, changed, written, openNumbers, writtenBy, newTuple, withWrite, insertCall, notOpen, noTable, tooLong, foreign, present, full, replaceCall, unseen, deleteCall, readCall, readSeen, listCall, commitCall, plan, planRows, without, abortCall, removeAll}
+use Rattle.model.specs.Transactions.{openCall, gives, changed, written, openNumbers, writtenBy, newTuple, withWrite, insertCall, notOpen, noTable, tooLong, foreign, present, full, replaceCall, unseen, deleteCall, readCall, readSeen, listCall, commitCall, plan, planRows, without, abortCall, removeAll}
 use Rattle.model.specs.Checkpoint.{beginCall, stored, storePage, made, allocate, storeDirectory, storeHeader, stepAt, stepOf, inTurn, stepCall, runCall, left}
 use Rattle.model.specs.Calls.{Call, others, call, opens, inserts, replaces, deletes, commits, aborts, reads, lists, begins, steps, runs}
 use Rattle.model.proofs.Views.{put}
 use Rattle.model.proofs.Lists.{in-append, all-map, leb-false, Pairs, not-false}
 use Rattle.model.proofs.Owners.{numbers-append, numbers-write, numbers-length, others-length, numbers-without}
 use Rattle.model.proofs.Splits.{mostSize}
-use Rattle.model.proofs.Frozen.{images, images-place, images-perform, shown-calm, images-none}
-use Rattle.model.proofs.Begin.{below-most}
-use Rattle.model.proofs.Crash.{idle-of}
+use Rattle.model.proofs.Frozen.{images-place, images, images-perform, shown-calm, images-none}
+use Rattle.model.proofs.Quiet.{unless-keeps}
+use Rattle.model.proofs.Books.{below-most, idle-of}
 use Rattle.model.proofs.Sound.{place-ok, perform-ok, PageOk, bare-size, thaw-ok}
 use Rattle.model.proofs.Rows.{Sub, rows-live, held-plain, live-sub, entries, sub-all, Differ, sub-pairs, held-freeze, rows-freeze, thaw-rows}
 use Rattle.model.proofs.Placing.{Before, Put, place-put}
 use Rattle.model.proofs.Fate.{differ-alike, perform-rows, commit-rows, abort-rows}
 use Rattle.model.proofs.Valid.{Opened, LiveOk, Valid, before-alike, HeldOk, held-insert, live-insert, Counted, held-sub}
 use Rattle.model.proofs.Closing.{commit-live, abort-live}
-
--- ---- refusals
-
-abbrev pub Passed : List Test → Type 0
-Passed [] = Unit {0}
-Passed ((n when b) ∷ ts) = (b ≡ false) × Passed ts
-
--- a property of the store that an accepted call keeps: the tests passed
-pub unless-keeps : (P : Store → Type 0) (ts : List Test) (s : Store) (o : Outcome) → P s → (Passed ts → P (o .store)) → P (unless ts s o .store)
-unfolding unless if_then_else_ gives
-unless-keeps P [] s o v f = f tt
-unless-keeps P ((n when b) ∷ ts) s o v f = by b (λ h. rw h v) (λ h. rw h (unless-keeps P ts s o v (λ p. f (h, p))))
 
 -- ---- open
 

@@ -19,9 +19,9 @@ use Rattle.model.specs.WellFormed.{ListOrder, EnoughBlocks, CheckpointWe
 use Rattle.model.proofs.Lists.{Pairs, pairs-parts, all-parts, leb-true, leb-false, eqb-self, eqb-true, not-false}
 use Rattle.model.proofs.Frozen.{images-thaw, images-first, images-none}
 use Rattle.model.proofs.Alloc.{Fresh, allocate-fresh}
-use Rattle.model.proofs.Inv.{length-fill}
+use Rattle.model.proofs.Quiet.{Passed}
+use Rattle.model.proofs.Books.{length-fill}
 use Rattle.model.proofs.Placing.{Before}
-use Rattle.model.proofs.Keeps.{Passed}
 use Rattle.model.proofs.Well.{sound, before-true, many-frozen}
 
 pub list-order : ListOrder

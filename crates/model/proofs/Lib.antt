@@ -5,13 +5,14 @@ pub mod Splits
 pub mod Frozen
 pub mod Pages
 pub mod Totals
+pub mod Alloc
+pub mod Quiet
+pub mod Books
 pub mod Recovery
 pub mod Stored
-pub mod Alloc
 pub mod Inv
 pub mod Steps
 pub mod Begin
-pub mod Quiet
 pub mod Crash
 pub mod Start
 pub mod Sound
@@ -25,7 +26,6 @@ pub mod Tests
 pub mod Whole
 pub mod Inserted
 pub mod Tally
-pub mod Books
 pub mod Listed
 pub mod Range
 pub mod Claim

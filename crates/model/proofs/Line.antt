@@ -57,7 +57,7 @@ quoted-line img bytes s start calls typed img′ base cut m h =
     let a = started img s start in
     let sane = view-sane img in
     let c = cut-view (s .blocks) cut (a .long) (writes-ok (view img) sane s (a .least) (a .most) (a .seen) calls typed) in
-    let k = crash-views (view img) sane s (a .least) (a .seen) calls (view img′) base (c .0) in
+    let k = crash-views (view img) sane s (a .least) (a .most) (a .seen) calls (view img′) base (c .0) in
     let r = k .0 in
     let q = same-capacity (s .blocks) (view img) s (a .seen) calls (c .0) r (k .1) in
     (r, recover-view m img′ r (s .blocks) (c .1) (a .least) (a .most) (k .1) (subst (λ z. memoryFor z ≤ m) (sym q) h), k .2)

@@ -16,10 +16,9 @@ use Rattle.model.specs.Transactions.{openNumbers, gives, openCall, inser
 use Rattle.model.specs.Checkpoint.{stepAt, inTurn, beginCall, stepCall, runCall, stored, left}
 use Rattle.model.specs.Calls.{others, Call, call, opens, inserts, replaces, deletes, commits, aborts, reads, lists, begins, steps, runs}
 use Rattle.model.specs.Recover.{reopened}
-use Rattle.model.proofs.Lists.{not-in, in-append, not-true, eqb-sym, in-keep, all-append, all-map, all-keep, leb-false, eqb-true, all-in}
+use Rattle.model.proofs.Lists.{not-in, in-append, not-true, in-one, eqb-sym, in-keep, all-append, all-map, all-keep, leb-false, eqb-true, all-in}
 use Rattle.model.proofs.Owners.{numbers-append, numbers-write, numbers-without, numbers-reopened, transactions-distinct, in-transactions}
-use Rattle.model.proofs.Inv.{in-one}
-use Rattle.model.proofs.Keeps.{unless-keeps}
+use Rattle.model.proofs.Quiet.{unless-keeps}
 use Rattle.model.proofs.Tally.{step-active}
 
 abbrev pub Listed : Store → Type 0

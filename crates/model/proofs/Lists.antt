@@ -359,6 +359,10 @@ pub in-cons : (x y : ℕ) (ys : List ℕ) → eqb x y ≡ false → isIn x (y �
 unfolding isIn any
 in-cons x y ys h = rw (h, any)
 
+pub in-one : (x b : ℕ) → eqb x b ≡ false → isIn x (b ∷ []) ≡ false
+unfolding isIn any
+in-one x b h = rw (h, any)
+
 pub in-head : (x : ℕ) (es : List ℕ) → isIn x (x ∷ es) ≡ true
 in-head x es = in-here x x es (eqb-self x)
 

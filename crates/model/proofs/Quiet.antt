@@ -3,10 +3,10 @@
 use mathlib.Core.Path.{_≡_, refl}
 use Prim.Native.Nat.{ℕ, _≤_}
 use native.Mathlib.Omega.{arith}
-use mathlib.Core.Bool.{Bool, true, false}
+use mathlib.Core.Bool.{false, Bool, true}
 use mathlib.Core.List.{List, [], _∷_}
 use mathlib.Core.Option.{none, Option, some}
-use Rattle.basics.specs.Basics.{if_then_else_}
+use Rattle.basics.specs.Basics.{if_then_else_, sum}
 use Rattle.basics.proofs.Facts.{by, AllOf, lie}
 use Rattle.rows.specs.Rows.{Row}
 use Rattle.model.specs.State.{Store, Write, Outcome, Page, Active, Held, Answer, refused, done}
@@ -16,6 +16,7 @@ use Rattle.model.specs.Transactions.{unless, Test, gives, _when_, writte
 use Rattle.model.specs.Calls.{Call, opens, inserts, replaces, deletes, commits, aborts, reads, lists, begins, steps, runs, call}
 use Rattle.model.proofs.Frozen.{images, images-place, images-perform}
 use Rattle.model.proofs.Pages.{stillFrozen, all-place, all-perform}
+use Rattle.model.proofs.Totals.{sum-place, sum-perform}
 
 -- a property of the store after a call and the blocks written: none if it is refused
 pub unless-out : (P : Store → List Write → Type 0) (ts : List Test) (s : Store) (o : Outcome) → P s [] → P (o .store) (o .writes)
@@ -23,6 +24,16 @@ pub unless-out : (P : Store → List Write → Type 0) (ts : List Test) (s : Sto
 unfolding unless if_then_else_ gives
 unless-out P [] s o p q = q
 unless-out P ((n when b) ∷ ts) s o p q = by b (λ h. rw h p) (λ h. rw h (unless-out P ts s o p q))
+
+abbrev pub Passed : List Test → Type 0
+Passed [] = Unit {0}
+Passed ((n when b) ∷ ts) = (b ≡ false) × Passed ts
+
+-- a property of the store that an accepted call keeps: the tests passed
+pub unless-keeps : (P : Store → Type 0) (ts : List Test) (s : Store) (o : Outcome) → P s → (Passed ts → P (o .store)) → P (unless ts s o .store)
+unfolding unless if_then_else_ gives
+unless-keeps P [] s o v f = f tt
+unless-keeps P ((n when b) ∷ ts) s o v f = by b (λ h. rw h v) (λ h. rw h (unless-keeps P ts s o v (λ p. f (h, p))))
 
 -- no begin, step or run
 unfoldable pub isPlain : Call → Bool
@@ -38,8 +49,7 @@ isPlain begins = false
 isPlain (steps len) = false
 isPlain (runs limit len) = false
 
--- Q: a property of every page
-pub record Quiet (Q : Page → Type 0) (s : Store) (o : Outcome) : Type 0 where
+pub record Quiet (s : Store) (o : Outcome) : Type 1 where
   pub none-written : o .writes ≡ []
   pub next : ℕ
   pub pages : List Page
@@ -47,24 +57,28 @@ pub record Quiet (Q : Page → Type 0) (s : Store) (o : Outcome) : Type 0 where
   pub eq : o .store ≡ changed s next pages active
   pub more : s .next ≤ next
   pub same : images pages ≡ images (s .pages)
-  pub kept : AllOf Q (s .pages) → AllOf Q pages
+  -- a property of every page, and a total over the pages
+  pub kept : (Q : Page → Type 0) → ((t : ℕ) (ts : List Held) → Q (fresh t ts))
+      → ((p : Page) (ts : List Held) → p .frozen ≡ true → Q p → Q (stillFrozen p ts)) → AllOf Q (s .pages) → AllOf Q pages
+  pub less : (w : Page → ℕ) → ((t : ℕ) (ts : List Held) → w (fresh t ts) ≡ 0)
+      → ((p : Page) (ts : List Held) → p .frozen ≡ true → w (stillFrozen p ts) ≡ w p) → sum w pages ≤ sum w (s .pages)
 
-module _ (Q : Page → Type 0) (Q-fresh : (t : ℕ) (ts : List Held) → Q (fresh t ts))
-    (Q-frozen : (p : Page) (ts : List Held) → p .frozen ≡ true → Q p → Q (stillFrozen p ts)) (s : Store) where
-  quiet-same : (a : Answer) → Quiet Q s (gives a s)
+module _ (s : Store) where
+  quiet-opened : (a : Answer) (os : List Active) → Quiet s (gives a (changed s (s .next) (s .pages) os))
+  unfolding gives
+  quiet-opened a os =
+      record { none-written = refl; next = _; pages = _; active = _; eq = refl; more = omega arith; same = refl; kept = λ Q f g h. h; less = λ w f g. omega arith }
+
+  quiet-same : (a : Answer) → Quiet s (gives a s)
   unfolding gives changed
-  quiet-same a = record { none-written = refl; next = s .next; pages = s .pages; active = s .active; eq = refl; more = omega arith; same = refl; kept = λ h. h }
+  quiet-same a = quiet-opened a (s .active)
 
-  quiet-unless : (ts : List Test) (o : Outcome) → Quiet Q s o → Quiet Q s (unless ts s o)
+  quiet-unless : (ts : List Test) (o : Outcome) → Quiet s o → Quiet s (unless ts s o)
   unfolding unless if_then_else_
   quiet-unless [] o q = q
   quiet-unless ((n when b) ∷ ts) o q = by b (λ h. rw h (quiet-same (refused n))) (λ h. rw h (quiet-unless ts o q))
 
-  quiet-opened : (os : List Active) → Quiet Q s (gives done (changed s (s .next) (s .pages) os))
-  unfolding gives
-  quiet-opened os = record { none-written = refl; next = _; pages = _; active = _; eq = refl; more = omega arith; same = refl; kept = λ h. h }
-
-  quiet-written : (tx t k : ℕ) (bs : List ℕ) (m : Bool) → Quiet Q s (written tx t k bs m s)
+  quiet-written : (tx t k : ℕ) (bs : List ℕ) (m : Bool) → Quiet s (written tx t k bs m s)
   unfolding written gives
   quiet-written tx t k bs m =
       record {
@@ -75,10 +89,11 @@ module _ (Q : Page → Type 0) (Q-fresh : (t : ℕ) (ts : List Held) → Q (fres
         eq = refl;
         more = omega arith;
         same = images-place t _ (s .pages);
-        kept = all-place Q Q-fresh Q-frozen t _ (s .pages);
+        kept = λ Q f g. all-place Q f g t _ (s .pages);
+        less = λ w f g. sum-place w f g t _ (s .pages);
       }
 
-  quiet-performed : (ops : List Op) (os : List Active) → Quiet Q s (gives done (changed s (s .next) (perform ops (s .pages)) os))
+  quiet-performed : (ops : List Op) (os : List Active) → Quiet s (gives done (changed s (s .next) (perform ops (s .pages)) os))
   unfolding gives
   quiet-performed ops os =
       record {
@@ -89,17 +104,18 @@ module _ (Q : Page → Type 0) (Q-fresh : (t : ℕ) (ts : List Held) → Q (fres
         eq = refl;
         more = omega arith;
         same = images-perform ops (s .pages);
-        kept = all-perform Q Q-fresh Q-frozen ops (s .pages);
+        kept = λ Q f g. all-perform Q f g ops (s .pages);
+        less = λ w f g. sum-perform w f g ops (s .pages);
       }
 
-  quiet-seen : (r : ℕ) (o : Option Row) → Quiet Q s (readSeen r o s)
+  quiet-seen : (r : ℕ) (o : Option Row) → Quiet s (readSeen r o s)
   unfolding readSeen
   quiet-seen r none = quiet-same (refused 14)
   quiet-seen r (some x) = quiet-unless _ _ (quiet-same _)
 
-  pub quiet : (c : Call) → isPlain c ≡ true → Quiet Q s (call c s)
+  pub quiet : (c : Call) → isPlain c ≡ true → Quiet s (call c s)
   unfolding isPlain call openCall insertCall replaceCall deleteCall commitCall abortCall readCall listCall
-  quiet (opens tx) h = quiet-unless _ _ (quiet-opened _)
+  quiet (opens tx) h = quiet-unless _ _ (quiet-opened done _)
   quiet (inserts tx t k bs) h = quiet-unless _ _ (quiet-written tx t k bs false)
   quiet (replaces tx t k bs) h = quiet-unless _ _ (quiet-written tx t k bs false)
   quiet (deletes tx t k) h = quiet-unless _ _ (quiet-written tx t k [] true)

@@ -16,18 +16,19 @@ use Rattle.image.specs.Stages.{directoriesFor}
 use Rattle.model.specs.State.{Store, Page, Checkpoint, idle, running, Held}
 use Rattle.model.specs.Rules.{isFrozen, shown, isAdding}
 use Rattle.model.specs.Sight.{rows, held, seen}
-use Rattle.model.specs.Transactions.{written, writtenBy, newTuple, gives, changed, perform, Op, openCall, insertCall, replaceCall, deleteCall, commitCall, abortCall, readCall, readSeen, listCall, notOpen, noTable, tooLong}
+use Rattle.model.specs.Transactions.{writtenBy, written, newTuple, gives, changed, perform, Op, openCall, insertCall, replaceCall, deleteCall, commitCall, abortCall, readCall, readSeen, listCall, notOpen, noTable, tooLong}
 use Rattle.model.specs.Checkpoint.{stepAt, stepOf, storePage, storeDirectory, storeHeader, made, stored, allocate, inTurn, beginCall, stepCall, runCall, left}
 use Rattle.model.specs.Calls.{Call, Typed, call, opens, inserts, replaces, deletes, commits, aborts, reads, lists, begins, steps, runs}
 use Rattle.model.proofs.Lists.{many-length, all-insert, leb-false, not-false, all-map, all-two}
 use Rattle.model.proofs.Frozen.{bare}
+use Rattle.model.proofs.Quiet.{unless-keeps}
 use Rattle.model.proofs.Steps.{FrozenFit}
 use Rattle.model.proofs.Sound.{PageOk}
 use Rattle.model.proofs.Rows.{Since, still, settled, Alike, Sub, sub-all, sub-length, thaw-rows, held-freeze}
 use Rattle.model.proofs.Placing.{place-put, page-full}
 use Rattle.model.proofs.Fate.{perform-rows}
 use Rattle.model.proofs.Valid.{Valid, Counted}
-use Rattle.model.proofs.Keeps.{rows-sub, step-valid, unless-keeps}
+use Rattle.model.proofs.Keeps.{rows-sub, step-valid}
 use Rattle.model.proofs.Whole.{Fitting}
 
 since-fits : {a b : Owner} → Since a b → OwnerFits b → OwnerFits a

@@ -1,7 +1,7 @@
 -- When a checkpoint's header has landed, its blocks are read as the store before its begin.
 use mathlib.Core.Path.{_≡_, subst, sym, ap, _∙_}
-use Prim.Native.Nat.{ℕ, _*_, _≤_}
-use mathlib.Core.Bool.{true}
+use Prim.Native.Nat.{ℕ, _*_, _≤_, _<_}
+use mathlib.Core.Bool.{true, Bool}
 use mathlib.Core.List.{List, _++_, _∷_, [], map}
 use lib.ListN.{length}
 use Rattle.basics.specs.Basics.{if_then_else_}
@@ -9,19 +9,23 @@ use Rattle.basics.proofs.Facts.{AllOf}
 use Rattle.blocks.specs.Block.{header, Block}
 use Rattle.blocks.specs.declared.Header.{Header}
 use Rattle.image.specs.Whole.{readImage, afterHeader, withHeader, pagesStage, pagesBelow}
-use Rattle.image.specs.Stages.{holds, headerTest, directoryTest, testedEntries, pageTest, testedPages}
+use Rattle.image.specs.Stages.{holds, headerTest, directoryTest, testedEntries, pageTest, testedPages, StoredPage, directoryBlocks}
 use Rattle.image.specs.View.{view, View}
-use Rattle.model.specs.State.{Store}
+use Rattle.model.specs.State.{Store, Page}
+use Rattle.model.specs.Rules.{isDirty}
 use Rattle.model.specs.Calls.{Call, afterCalls}
 use Rattle.model.specs.Recover.{recoveredStore}
 use Rattle.model.specs.QuotedLine.{Logged, isHeader, landed, Cut, stored, content}
-use Rattle.model.specs.Checkpoints.{afterStores, contentOf, Checkpoints}
+use Rattle.model.specs.Checkpoints.{afterStores, contentOf, Placed, Checkpoints}
+use Rattle.model.specs.Cases.{places}
 use Rattle.model.proofs.Views.{WriteOk, put, CutV}
-use Rattle.model.proofs.Lists.{eqb-true, all-parts, all-append}
-use Rattle.model.proofs.Recovery.{found, Found}
+use Rattle.model.proofs.Lists.{eqb-true, not-zero, all-map, all-parts, all-append}
+use Rattle.model.proofs.Recovery.{found, Found, read-blocks}
 use Rattle.model.proofs.Stored.{put-same}
-use Rattle.model.proofs.Steps.{loaded-content, Top}
-use Rattle.model.proofs.Claim.{writes-ok, tops-ok, crash-views}
+use Rattle.model.proofs.Inv.{Named}
+use Rattle.model.proofs.Steps.{loaded-content, loaded-blocks, Top}
+use Rattle.model.proofs.Start.{entries-in}
+use Rattle.model.proofs.Claim.{claims-ok, writes-ok}
 use Rattle.model.proofs.Bytes.{stage-is, view-sane}
 use Rattle.model.proofs.Line.{written, written-long, started, cut-view}
 
@@ -59,18 +63,36 @@ found-content n v s f = sym (loaded-content (f .pages)) ∙ ap (λ z. map conten
 same-header : {x : Block} {h k : Header} → x ≡ header h → x ≡ header k → h ≡ k
 same-header e f = cc
 
+-- the blocks named are those of the pages found
+placed : (used : ℕ → Bool) (qs : List StoredPage) (ps : List Page) → AllOf (λ b. 0 < b) (map (λ q. q .block) qs) → Named used (map (λ q. q .block) qs) (map (λ p. p .block) ps) → Placed used qs ps
+unfolding isDirty
+placed used [] [] a n = tt
+placed used [] (p ∷ ps) a n = n
+placed used (q ∷ qs) [] a n = n
+placed used (q ∷ qs) (p ∷ ps) a n = (λ h. n .0 (not-zero (p .block) h), λ h. n .1 (eqb-true (p .block) 0 h) (a .0), placed used qs ps (a .1) (n .2))
+
+found-blocks : (n : ℕ) (v : View) (s : Store) (f : Found n v s) → map (λ p. p .block) (s .pages) ≡ map (λ p. p .block) (f .pages)
+unfolding recoveredStore
+found-blocks n v s f = ap (λ z. map (λ p. p .block) (z .pages)) (sym (f .store)) ∙ loaded-blocks (f .pages)
+
+found-positive : (n : ℕ) (v : View) (s : Store) (f : Found n v s) → AllOf (λ b. 0 < b) (map (λ q. q .block) (f .pages))
+found-positive n v s f =
+    subst (AllOf (λ b. 0 < b)) (sym (read-blocks v (f .head .level) (f .entries) (f .pages) (f .read)))
+    (all-map _ _ (λ b k. k .0) (f .entries) (entries-in (f .head .blocks) (directoryBlocks (f .head)) (f .entries) (f .entries-ok)))
+
 pub checkpoints : Checkpoints
 checkpoints img bytes s start calls typed ws w later e h =
     let a = started img s start in
     let v = view img in
     let sane = view-sane img in
     let n = s .blocks in
+    let claim = claims-ok v sane s (a .least) (a .most) (a .seen) calls in
     let all-ok = subst (AllOf (WriteOk n)) e (writes-ok v sane s (a .least) (a .most) (a .seen) calls typed) in
-    let tops = subst (AllOf (λ w. isHeader w ≡ true → Top (w .write .what) (afterCalls (w .before) s))) e (tops-ok v sane s (a .least) (a .seen) calls) in
+    let tops = subst (AllOf (λ w. isHeader w ≡ true → Top (w .write .what) (afterCalls (w .before) s))) e (claim .1) in
     let ok = all-parts (WriteOk n) ws (w ∷ later) all-ok in
     let img′ = afterStores img (ws ++ w ∷ []) in
     let c = cut-view n (whole-cut img [] ws w later h) (a .long) all-ok in
-    let k = crash-views v sane s (a .least) (a .seen) calls (view img′) (w .before) (subst (λ l. CutV v [] l (view img′) (w .before)) (sym e) (c .0)) in
+    let k = claim .0 (view img′) (w .before) (subst (λ l. CutV v [] l (view img′) (w .before)) (sym e) (c .0)) in
     let f = found n (view img′) (k .0) (k .1) in
     let t = all-parts (λ w. isHeader w ≡ true → Top (w .write .what) (afterCalls (w .before) s)) ws (w ∷ later) tops .1 .0 h in
     let q : t .head ≡ f .head = same-header (t .is) (sym (top-block n img ws w (a .long) (all-append (WriteOk n) ws (w ∷ []) (ok .0) (ok .1 .0, tt)) h) ∙ f .top) in
@@ -78,6 +100,8 @@ checkpoints img bytes s start calls typed ws w later e h =
       found = record { header = f .head; pages = f .pages };
       read = reads-found n img′ (k .0) (c .1) (a .least) (a .most) f;
       pages = found-content n (view img′) (k .0) f ∙ k .2 .pages;
+      places = placed (afterCalls (w .before) s .used) (f .pages) (afterCalls (w .before) s .pages) (found-positive n (view img′) (k .0) f)
+          (subst (λ z. Named (afterCalls (w .before) s .used) z (map (λ p. p .block) (afterCalls (w .before) s .pages))) (found-blocks n (view img′) (k .0) f) (k .2 .names));
       count = ap (λ z. z .pages) (sym q) ∙ t .pages;
       blocks = ap (λ z. z .blocks) (sym q) ∙ t .blocks;
       capacity = ap (λ z. z .capacity) (sym q) ∙ t .capacity;

@@ -20,13 +20,13 @@ use Rattle.model.specs.Calls.{Call, reads, call, opens, inserts, replace
 use Rattle.model.specs.Seen.{remains, WriterReads, WriterMisses, LooksOnly, RowsStay, SeenAfterCommit, mayShow, SeenAsBefore}
 use Rattle.model.proofs.Lists.{leb-false, eqb-self, here, Pairs, keep-cons, keep-past, all-map, keep-none, and-yes, and-no, eqb-true, all-mem, not-false, Mem, there, mem-all, last-mem, pairs-keep, lt-false, eqb-sym, in-append}
 use Rattle.model.proofs.Owners.{numbers-write, numbers-without, in-others, numbers-append}
-use Rattle.model.proofs.Quiet.{unless-out}
+use Rattle.model.proofs.Quiet.{unless-out, unless-keeps}
 use Rattle.model.proofs.Rows.{kept-row, Differ}
 use Rattle.model.proofs.Placing.{Above, Before}
 use Rattle.model.proofs.Fate.{at-join, at-split, gather, afterAbort, verdict, row-self, row-false, afterCommit}
 use Rattle.model.proofs.Valid.{above-off, Valid}
 use Rattle.model.proofs.Closing.{abort-at, gather-cons, gather-none, commit-at, verdict-stays}
-use Rattle.model.proofs.Keeps.{rows-rising, rows-differ, unless-keeps}
+use Rattle.model.proofs.Keeps.{rows-rising, rows-differ}
 use Rattle.model.proofs.Inserted.{notAbove, insertRow}
 use Rattle.model.proofs.Tally.{written-rows, begin-rows, stepCall-rows, run-rows, committed-rows, step-active, aborted-rows}
 use Rattle.model.proofs.Well.{sound}

@@ -1,8 +1,8 @@
 -- A store made or recovered is well formed, and every call keeps it so.
-use mathlib.Core.Path.{_≡_, refl, subst, sym, _∙_}
+use mathlib.Core.Path.{_≡_, refl, subst, sym}
 use Prim.Native.Nat.{ℕ, _≤_, _/_}
 use native.Mathlib.Omega.{arith}
-use mathlib.Core.Bool.{true, Bool, false}
+use mathlib.Core.Bool.{true}
 use mathlib.Core.List.{List}
 use lib.Dec.{leb}
 use Rattle.basics.specs.Basics.{basics}
@@ -11,21 +11,17 @@ use Rattle.blocks.specs.Tuple.{Fits}
 use Rattle.rows.specs.Rows.{rowRules}
 use Rattle.image.specs.Stages.{capacityLimit, rowsOfPages}
 use Rattle.image.specs.View.{View, view}
-use Rattle.model.specs.State.{Store, Page}
-use Rattle.model.specs.Rules.{isDirty}
+use Rattle.model.specs.State.{Store}
 use Rattle.model.specs.Sight.{held, rows}
 use Rattle.model.specs.Transactions.{openNumbers}
 use Rattle.model.specs.Calls.{call}
 use Rattle.model.specs.Recover.{freshStore, recoveredStore}
 use Rattle.model.specs.WellFormed.{KeptWell, WellFormed, heldOk, openOk, MadeWell, RecoveredWell}
-use Rattle.model.proofs.Lists.{le-true, not-zero, all-two}
+use Rattle.model.proofs.Lists.{le-true}
 use Rattle.model.proofs.Recovery.{found, Found}
-use Rattle.model.proofs.Inv.{Tied, isClean, Idle, Phase}
-use Rattle.model.proofs.Start.{loaded-held, start-idle, start-inv}
+use Rattle.model.proofs.Start.{loaded-held, start-books}
 use Rattle.model.proofs.Rows.{live}
-use Rattle.model.proofs.Keeps.{all-free}
-use Rattle.model.proofs.Whole.{Fitting, starts, ready}
-use Rattle.model.proofs.Books.{Booked, Ledger}
+use Rattle.model.proofs.Whole.{Fitting, starts}
 use Rattle.model.proofs.Listed.{Listed, reopened-once}
 use Rattle.model.proofs.Well.{well, keeps-sound, sound, Sound}
 use Rattle.model.proofs.Bytes.{make-accepted, blocks-whole, Accepted, view-sane, accepted-recovery}
@@ -52,6 +48,7 @@ fresh-well b n lo hi some few =
       counts = λ tx h. lie h;
       pages = refl;
       clean = refl;
+      apart = λ b l. omega arith;
       used = λ c h. lie h;
       taken = omega arith;
       checkpoint = refl;
@@ -65,10 +62,6 @@ made-well len m n s e =
 
 -- ---- recovered
 
-booked-read : (v : View) (l : ℕ) (used : ℕ → Bool) (p : Page) → p .frozen ≡ false → Tied v l used p → Booked used p
-unfolding isClean isDirty
-booked-read v l used p f t = (λ h. lie (sym f ∙ h), λ d. t (rw (f, le-true 1 (p .block) (not-zero (p .block) d))) .4)
-
 listed-found : (n : ℕ) (v : View) (s : Store) → Found n v s → Fitting s → Listed s
 listed-found n v s f fit = subst Listed (f .store) (go (subst Fitting (sym (f .store)) fit))
   where
@@ -80,21 +73,11 @@ recovered-sound img s a =
     let v = view img in
     let f = found (s .blocks) v s (a .seen) in
     let k = starts (s .blocks) v s (view-sane img) f in
-    let i = start-idle (s .blocks) v s f in
-    let inv = start-inv (s .blocks) v s (a .least) (view-sane img) f (ready s (k .0) i) in
-    let ph : Idle v s = subst (Phase v s s) i (inv .phase) in
     record {
       valid = k .0;
       counted = k .1;
       fitting = k .2;
-      books = record {
-        blocks = (a .least, a .most);
-        some-room = a .some-room;
-        level = ph .lvl;
-        taken = inv .taken;
-        within = inv .within;
-        phase = subst (λ c. Ledger c s) (sym i) (all-two (λ p. p .frozen ≡ false) (Tied v (s .level) (s .used)) _ (booked-read v (s .level) (s .used)) (s .pages) (all-free (s .pages) (k .0 .still i)) (ph .tied));
-      };
+      books = start-books (s .blocks) v s (a .least) (a .most) (view-sane img) f;
       listed = listed-found (s .blocks) v s f (k .2);
     }
 

@@ -1,17 +1,16 @@
 -- One step of a running checkpoint keeps what holds, and writes a block whose fields are in range.
 use mathlib.Core.Path.{_≡_, ap, refl, _∙_, sym, subst, ap₂}
-use Prim.Native.Nat.{_<_, _≤_, suc, ℕ, _-_, zero, _+_, _*_, min}
+use Prim.Native.Nat.{_<_, _≤_, suc, ℕ, zero, _*_, min}
 use native.Mathlib.Omega.{arith}
 use mathlib.Core.Bool.{true, false, Bool, not}
 use mathlib.Core.List.{[], _∷_, List, tail, map, _++_}
 use mathlib.Core.Option.{none, some}
 use lib.Dec.{eqb, ltb}
-use lib.ListN.{length, take, drop, length-append, length-take, length-map, getD}
+use lib.ListN.{length, take, drop, length-take, length-map, getD}
 use lib.Pow.{low}
-use Rattle.basics.specs.Basics.{if_then_else_, isIn, any, first, all, distinct, every}
+use Rattle.basics.specs.Basics.{if_then_else_, isIn, any, first, all, every}
 use Rattle.basics.proofs.Facts.{AllOf, by, lie}
 use Rattle.blocks.specs.Block.{page, Block, header, InRange, EntriesFit, directory}
-use Rattle.blocks.specs.Decode.{taken}
 use Rattle.blocks.specs.Limits.{recordSpace}
 use Rattle.blocks.specs.Tuple.{AllFit, sizes, Tuple}
 use Rattle.blocks.specs.declared.Header.{Header}
@@ -22,19 +21,20 @@ use Rattle.model.specs.State.{Store, Outcome, Write, Page}
 use Rattle.model.specs.Rules.{shown, isFrozen, calm}
 use Rattle.model.specs.Sight.{held}
 use Rattle.model.specs.Transactions.{full}
-use Rattle.model.specs.Checkpoint.{fill, usedToo, storePage, made, stored, freeCount, isFree, allocate, storeDirectory, headerFor, storeHeader}
+use Rattle.model.specs.Checkpoint.{fill, storePage, made, stored, allocate, usedToo, storeDirectory, headerFor, storeHeader}
 use Rattle.model.specs.Recover.{loaded, recoveredStore}
 use Rattle.model.specs.QuotedLine.{content}
 use Rattle.model.specs.Checkpoints.{contentOf}
 use Rattle.model.proofs.Views.{put}
-use Rattle.model.proofs.Lists.{eqb-self, eqb-true, eqb-sym, all-map, first-all, first-passes, pos-not-zero, not-zero, not-in, in-append, leb-true, all-take, all-drop, all-append, all-true, le-true, leb-false, all-two, in-all}
+use Rattle.model.proofs.Lists.{eqb-self, eqb-true, eqb-sym, all-map, first-all, first-passes, pos-not-zero, not-zero, leb-true, all-take, all-drop, all-true, le-true, leb-false, all-two, in-append}
 use Rattle.model.proofs.Owners.{numbers-reopened, in-transactions}
-use Rattle.model.proofs.Frozen.{Content, images, images-first, images-thaw, shown-calm, images-none, bare}
+use Rattle.model.proofs.Frozen.{Content, images-first, images, images-thaw, shown-calm, bare, images-none}
 use Rattle.model.proofs.Pages.{all-thaw}
+use Rattle.model.proofs.Alloc.{Fresh, allocate-fresh, used-old}
+use Rattle.model.proofs.Books.{test-other, in-fill, Books, Running, off-used, once-distinct, once-right, once-off, once-left}
 use Rattle.model.proofs.Recovery.{Found, found, read-blocks}
 use Rattle.model.proofs.Stored.{Stored, end, todo, stands, Dirs, put-other, stored-fill, put-same, stored-put, dirs-snoc, dirs-put, stored-read, dirs-read, stored-written}
-use Rattle.model.proofs.Alloc.{Fresh, allocate-fresh, count-one, used-old, used-new}
-use Rattle.model.proofs.Inv.{Inv, Good, Tied, test-other, in-fill, clean-pos, Run, off-used, good-put, good-more, length-fill, apart-fill, all-fill, tied-fresh, tied-frozen, in-one, apart-snoc, Apart, listed, listed-read, listed-held}
+use Rattle.model.proofs.Inv.{Inv, Good, Tied, clean-pos, Run, good-put, good-more, named-fill, tied-fresh, tied-frozen, listed, listed-read, listed-held, Named}
 
 -- what the frozen pages show can be written
 abbrev pub FrozenFit : Store → Type 0
@@ -83,74 +83,49 @@ tied-fill img l b es p h t c =
     let u = t c in
     (u .0, u .1, u .2, u .3, in-fill b (p .block) es (clean-pos p c) (eqb-sym b (p .block) (test-other (λ c. isIn c es) (p .block) b (u .4) h)) ∙ u .4)
 
--- the block taken is in use, and those before it still
-pub within-more : (s : Store) (i : ℕ) → (0 < i) × (i < s .blocks) → ((c : ℕ) → s .used c ≡ true → (0 < c) × (c < s .blocks)) → (c : ℕ)
-    → usedToo s i c ≡ true
-    → (0 < c) × (c < s .blocks)
-unfolding usedToo
-within-more s i a f c h = by (eqb i c) (λ k. subst (λ z. (0 < z) × (z < s .blocks)) (eqb-true i c k) a) (λ k. f c (rw k at h))
-
-pub page-step : (n : ℕ) (img : View) (s b b₀ : Store) (n₀ : ℕ) (es ds : List ℕ) (p : Page) → Inv n img s b b₀ → Run img s b n₀ es ds
+pub page-step : (n : ℕ) (img : View) (s b b₀ : Store) (n₀ : ℕ) (es ds : List ℕ) (p : Page) → Books s → Running n₀ es ds s → Inv n img s b b₀ → Run img s b n₀ es ds
     → first isFrozen (s .pages) ≡ some p → Stepped n img s b b₀ (storePage n₀ es ds p s)
-unfolding storePage made stored if_then_else_ freeCount isFree isFrozen
-page-step n img s b b₀ n₀ es ds p inv run e =
+unfolding storePage made stored if_then_else_ isFrozen
+page-step n img s b b₀ n₀ es ds p bk r inv run e =
     let ims = images-first (s .pages) p e in
     let is = tail (images (s .pages)) in
     let one : length (images (s .pages)) ≡ suc (length is) = ap length ims in
-    let none-yet : length ds ≡ 0 = none-yet′ (images (s .pages)) is ds (run .late) ims in
+    let none-yet : length ds ≡ 0 = none-yet′ (images (s .pages)) is ds (r .late) ims in
     let i = allocate s in
-    let fr : Fresh (s .blocks) (s .used) i = allocate-fresh s (inv .taken) (omega (arith, run .room)) in
-    let off = off-used (s .used) i es (fr .pos) (fr .free) (run .es-used) in
-    let off′ = off-used (s .used) i ds (fr .pos) (fr .free) (all-map _ _ (λ d h q. h) ds (run .ds-used)) in
+    let fr : Fresh (s .blocks) (s .used) i = allocate-fresh s (bk .taken) (omega (arith, r .room)) in
+    let off = off-used (s .used) i es (fr .pos) (fr .free) (r .named) in
     let L = suc (s .level) in
     let x : Block = page (p .table) L (shown (p .tuples)) in
     let img′ : View = put img i x in
     let g : (y : Block) → Good n (put img i y) (s .used) b₀ = λ y. good-put n img (s .used) b₀ i y (fr .pos) (fr .free) (inv .good) in
     let st : Stored img′ L (fill i es) (map content (b .pages)) is
     = stored-fill i (p .table, shown (p .tuples)) (images (s .pages)) is ims (fr .pos) (omega arith) (put-same img i x) (stored-put i x off (run .stored)) in
-    let cnt = count-one s i 1 (s .blocks - 1) in
     let pool : ℕ → Bool = λ c. isIn c (fill i es) in
     let ti : AllOf (Tied img′ L pool) (s .pages)
     = all-map _ _ (λ q t. tied-fill img′ L i es q off (tied-put img L (λ c. isIn c es) i x q off t)) (s .pages) (run .tied) in
     wrote (record { at = i; what = x }) refl (omega (arith, fr .low, inv .blocks))
     (λ small fit. let f = first-all isFrozen (λ p. p .frozen ≡ true → (p .table < 8) × AllFit (shown (p .tuples)) × (sizes (shown (p .tuples)) ≤ recordSpace)) (s .pages) p e fit
     (first-passes isFrozen (s .pages) p e) in
-    record { table = f .0; level = omega (arith, run .lvl); tuples = f .1; room = f .2 })
+    record { table = f .0; level = omega (arith, r .level); tuples = f .1; room = f .2 })
     (λ z. lie (sym (pos-not-zero i (fr .pos)) ∙ z))
     (λ h. g)
     (rw (pos-not-zero i (fr .pos)) (record {
       blocks = inv .blocks;
-      cap = inv .cap;
-      taken = fr .low;
       good = good-more n img′ (s .used) (usedToo s i) b₀ (used-old s i) (g x);
-      within = within-more s i (fr .pos, fr .low) (inv .within);
       phase = record {
         nxt = run .nxt;
         stored = rw images-thaw st;
         dirs = no-dirs img′ L (fill i es) ds none-yet;
-        late = λ h. absurd (omega arith);
-        dcount = rw length-fill (run .dcount);
         base = run .base;
         bcap = run .bcap;
         blvl = run .blvl;
         bblk = run .bblk;
-        es-apart = apart-fill i es off (run .es-apart);
-        es-used = all-fill _ i es (λ q. used-new s i) (all-map _ _ (λ e h q. used-old s i e (h q)) es (run .es-used));
-        es-off = all-fill _ i es off′ (run .es-off);
-        ds-used = all-map _ _ (λ d h. used-old s i d h) ds (run .ds-used);
-        ds-apart = run .ds-apart;
-        room = rw (images-thaw, length-fill) (omega (arith, run .room));
-        lvl = run .lvl;
+        bused = λ c h. used-old s i c (run .bused c h);
+        names = named-fill (b .used) i es _ (by (b .used i) (λ h. lie (sym (fr .free) ∙ run .bused i h)) (λ h. h)) (run .names);
         tied = all-thaw (Tied img′ L pool) (tied-fresh img′ L pool) (tied-frozen img′ L pool) i p (s .pages) e
             (λ h c. (L, put-same img i x ∙ ap (page (p .table) L) (shown-calm (p .tuples) h), omega arith, omega arith, filled-in i (p .table, shown (p .tuples)) (images (s .pages)) is ims (run .stored))) ti;
       };
     }))
-
-off-snoc : (b : ℕ) (es ds : List ℕ) → isIn b es ≡ false → AllOf (λ e. isIn e ds ≡ false) es → AllOf (λ e. isIn e (ds ++ b ∷ []) ≡ false) es
-off-snoc b [] ds h a = tt
-off-snoc b (e ∷ es) ds h a =
-    let n = not-in b e es h in
-    (rw (in-append e ds, a .0, in-one e b (eqb-sym b e (n .0))), off-snoc b es ds (n .1) (a .1))
 
 entries-fit : (es : List ℕ) → AllOf (λ e. e < 4096) es → EntriesFit es
 entries-fit [] a = tt
@@ -162,66 +137,48 @@ entries-low : (s : Store) (es : List ℕ) → 0 < s .blocks → ((c : ℕ) → s
     → AllOf (λ e. e < s .blocks) es
 entries-low s es z f a = all-map _ _ (λ e h. by (eqb e 0) (λ k. let q = eqb-true e 0 k in omega arith) (λ k. f e (h (not-zero e k)) .1)) es a
 
-pub directory-step : (n : ℕ) (img : View) (s b b₀ : Store) (n₀ : ℕ) (es ds : List ℕ) → Inv n img s b b₀ → Run img s b n₀ es ds
+pub directory-step : (n : ℕ) (img : View) (s b b₀ : Store) (n₀ : ℕ) (es ds : List ℕ) → Books s → Running n₀ es ds s → Inv n img s b b₀ → Run img s b n₀ es ds
     → first isFrozen (s .pages) ≡ none → ltb (length ds) (directoriesFor (length es)) ≡ true → Stepped n img s b b₀ (storeDirectory n₀ es ds s)
-unfolding storeDirectory made stored if_then_else_ freeCount isFree
-directory-step n img s b b₀ n₀ es ds inv run e lt =
-    let ims = images-none (s .pages) e in
+unfolding storeDirectory made stored if_then_else_
+directory-step n img s b b₀ n₀ es ds bk r inv run e lt =
     let few : length ds < directoriesFor (length es) = leb-true (suc (length ds)) (directoriesFor (length es)) lt in
     let i = allocate s in
-    let fr : Fresh (s .blocks) (s .used) i = allocate-fresh s (inv .taken) (omega (arith, run .room)) in
-    let off = off-used (s .used) i es (fr .pos) (fr .free) (run .es-used) in
-    let off′ = off-used (s .used) i ds (fr .pos) (fr .free) (all-map _ _ (λ d h q. h) ds (run .ds-used)) in
+    let fr : Fresh (s .blocks) (s .used) i = allocate-fresh s (bk .taken) (omega (arith, r .room)) in
+    let off = off-used (s .used) i es (fr .pos) (fr .free) (r .named) in
+    let off′ = off-used (s .used) i ds (fr .pos) (fr .free) (all-map _ _ (λ d h q. h) ds (r .written)) in
     let L = suc (s .level) in
     let part = take 336 (drop (336 * length ds) es) in
     let x : Block = directory L part in
     let img′ : View = put img i x in
     let g : (y : Block) → Good n (put img i y) (s .used) b₀ = λ y. good-put n img (s .used) b₀ i y (fr .pos) (fr .free) (inv .good) in
-    let len : length (ds ++ i ∷ []) ≡ length ds + 1 = length-append ds (i ∷ []) in
-    let cnt = count-one s i 1 (s .blocks - 1) in
     let tl : length part ≡ min 336 (length (drop (336 * length ds) es)) = length-take 336 (drop (336 * length ds) es) in
     wrote (record { at = i; what = x }) refl (omega (arith, fr .low, inv .blocks))
     (λ small fit. record {
-      level = omega (arith, run .lvl);
+      level = omega (arith, r .level);
       count = omega arith;
       entries = entries-fit part (all-take _ 336 (drop (336 * length ds) es) (all-drop _ (336 * length ds) es
-          (all-map _ _ (λ e h. omega (arith, inv .blocks)) es (entries-low s es (omega (arith, fr .low)) (inv .within) (run .es-used)))));
+          (all-map _ _ (λ e h. omega (arith, inv .blocks)) es (entries-low s es (omega (arith, fr .low)) (bk .within) (r .named)))));
     })
     (λ z. lie (sym (pos-not-zero i (fr .pos)) ∙ z))
     (λ h. g)
     (rw (pos-not-zero i (fr .pos)) (record {
       blocks = inv .blocks;
-      cap = inv .cap;
-      taken = fr .low;
       good = good-more n img′ (s .used) (usedToo s i) b₀ (used-old s i) (g x);
-      within = within-more s i (fr .pos, fr .low) (inv .within);
       phase = record {
         nxt = run .nxt;
         stored = stored-put i x off (run .stored);
         dirs = dirs-snoc img′ L i es ds (put-same img i x) (dirs-put img L i x es ds off′ (run .dirs));
-        late = λ h. ims;
-        dcount = rw len (omega arith);
         base = run .base;
         bcap = run .bcap;
         blvl = run .blvl;
         bblk = run .bblk;
-        es-apart = run .es-apart;
-        es-used = all-map _ _ (λ e h q. used-old s i e (h q)) es (run .es-used);
-        es-off = off-snoc i es ds off (run .es-off);
-        ds-used = all-append _ ds (i ∷ []) (all-map _ _ (λ d h. used-old s i d h) ds (run .ds-used)) (used-new s i, tt);
-        ds-apart = apart-snoc i ds off′ (run .ds-apart);
-        room = rw len (omega (arith, run .room));
-        lvl = run .lvl;
+        bused = λ c h. used-old s i c (run .bused c h);
+        names = run .names;
         tied = all-map _ _ (λ q t. tied-put img L (λ c. isIn c es) i x q off t) (s .pages) (run .tied);
       };
     }))
 
 -- ---- the header
-
-distinct-true : (ds : List ℕ) → AllOf (λ d. 0 < d) ds → Apart ds → distinct ds ≡ true
-unfolding distinct
-distinct-true [] p a = refl
-distinct-true (d ∷ ds) p a = rw (a .0 (p .0), distinct-true ds (p .1) (a .1))
 
 zero-not-in : (ds : List ℕ) → AllOf (λ d. 0 < d) ds → isIn 0 ds ≡ false
 unfolding isIn any
@@ -258,7 +215,13 @@ unfolding content loaded contentOf
 loaded-content [] = refl
 loaded-content (p ∷ ps) = rw (bare-calm (p .tuples), loaded-content ps)
 
-module _ (n : ℕ) (img : View) (s b : Store) (n₀ : ℕ) (es ds : List ℕ) (bl : s .blocks ≡ n) (lim : (1 ≤ s .capacity) × (s .capacity ≤ capacityLimit)) (run : Run img s b n₀ es ds)
+pub loaded-blocks : (ps : List StoredPage) → map (λ p. p .block) (map loaded ps) ≡ map (λ p. p .block) ps
+unfolding loaded
+loaded-blocks [] = refl
+loaded-blocks (p ∷ ps) = rw (loaded-blocks ps)
+
+module _ (n : ℕ) (img : View) (s b : Store) (n₀ : ℕ) (es ds : List ℕ) (bl : s .blocks ≡ n) (lim : (1 ≤ s .capacity) × (s .capacity ≤ capacityLimit))
+    (r : Running n₀ es ds s) (run : Run img s b n₀ es ds)
     (ims : images (s .pages) ≡ []) (full : directoriesFor (length es) ≤ length ds) (eok : AllOf (λ e. (0 < e) × (e < s .blocks)) es) (dok : AllOf (λ d. (0 < d) × (d < s .blocks)) ds) where
   abbrev top : Header
   top = headerFor s (suc (s .level)) n₀ (length es) ds
@@ -267,7 +230,7 @@ module _ (n : ℕ) (img : View) (s b : Store) (n₀ : ℕ) (es ds : List ℕ) (b
   few-pages = let len : length es ≡ length (b .pages) = stored-length (run .stored) ∙ length-map (b .pages) content in omega (arith, run .base .few, run .bcap)
 
   all-dirs : length ds ≡ directoriesFor (length es)
-  all-dirs = omega (arith, run .dcount)
+  all-dirs = omega (arith, r .directories)
 
   few-dirs : length ds ≤ 4
   unfolding directoriesFor
@@ -280,16 +243,17 @@ module _ (n : ℕ) (img : View) (s b : Store) (n₀ : ℕ) (es ds : List ℕ) (b
       let h1 : eqb (s .blocks) n ≡ true = rw bl (eqb-self n) in
       let h5 : eqb (length ds) (directoriesFor (length es)) ≡ true = rw all-dirs (eqb-self (directoriesFor (length es))) in
       let h6 : all (blockOk n) ds ≡ true = subst (λ m. all (blockOk m) ds ≡ true) bl (blocks-ok (s .blocks) ds dok) in
-      let h7 = distinct-true ds (all-map _ _ (λ d h. h .0) ds dok) (run .ds-apart) in
+      let h7 = once-distinct ds (all-map _ _ (λ d h. h .0) ds dok) (once-right es ds (r .once)) in
       rw (h1, le-true 1 (s .capacity) (lim .0), le-true (s .capacity) capacityLimit (lim .1), le-true (length es) (s .capacity) few-pages, h5, hn .1, hn .0, h6, h7)
 
   top-entries : entriesOk (s .blocks) ds es ≡ true
   unfolding entriesOk every
   top-entries =
+      let epos = all-map _ _ (λ d h. h .0) es eok in
       rw (
         blocks-ok (s .blocks) es eok,
-        all-true (λ e. not (isIn e ds)) es (all-map _ _ (λ d h. ap not h) es (run .es-off)),
-        distinct-true es (all-map _ _ (λ d h. h .0) es eok) (run .es-apart),
+        all-true (λ e. not (isIn e ds)) es (all-map _ _ (λ d h. ap not h) es (once-off es ds epos (r .once))),
+        once-distinct es epos (once-left es ds (r .once)),
       )
 
   header-good : Good n (put img 0 (header top)) (λ c. isIn c (es ++ ds)) b
@@ -333,6 +297,7 @@ module _ (n : ℕ) (img : View) (s b : Store) (n₀ : ℕ) (es ds : List ℕ) (b
         like = record {
           pages = loaded-content ps ∙ c;
           next = run .nxt;
+          names = subst (λ z. Named (b .used) z (map (λ p. p .block) (b .pages))) (sym (loaded-blocks ps ∙ bs)) (run .names);
           active = λ tx. ap (isIn tx) (numbers-reopened _ _) ∙ ap (λ z. isIn tx (transactions z)) rs ∙ in-transactions tx (held (b .pages)) ∙ ap (any (isOwn tx)) (sym (run .base .same));
         };
         names = λ c u. ap₂ (λ y z. isIn c (y ++ z)) (sym bs) (sym q) ∙ u;
@@ -362,7 +327,7 @@ module _ (n : ℕ) (img : View) (s b : Store) (n₀ : ℕ) (es ds : List ℕ) (b
           (
             omega (arith, lim .1),
             (
-              omega (arith, run .lvl),
+              omega (arith, r .level),
               (
                 omega (arith, run .nxt, run .base .most),
                 (
@@ -383,29 +348,23 @@ module _ (n : ℕ) (img : View) (s b : Store) (n₀ : ℕ) (es ds : List ℕ) (b
       low-at zero (d ∷ ds) a = a .0
       low-at (suc i) (d ∷ ds) a = low-at i ds (a .1)
 
-pub header-step : (n : ℕ) (img : View) (s b b₀ : Store) (n₀ : ℕ) (es ds : List ℕ) → Inv n img s b b₀ → Run img s b n₀ es ds
+pub header-step : (n : ℕ) (img : View) (s b b₀ : Store) (n₀ : ℕ) (es ds : List ℕ) → Books s → Running n₀ es ds s → Inv n img s b b₀ → Run img s b n₀ es ds
     → first isFrozen (s .pages) ≡ none → ltb (length ds) (directoriesFor (length es)) ≡ false → Stepped n img s b b₀ (storeHeader n₀ es ds s)
 unfolding storeHeader made stored if_then_else_
-header-step n img s b b₀ n₀ es ds inv run e lt =
+header-step n img s b b₀ n₀ es ds bk r inv run e lt =
     let ims = images-none (s .pages) e in
     let L = suc (s .level) in
     let full : directoriesFor (length es) ≤ length ds = omega (arith, leb-false (suc (length ds)) (directoriesFor (length es)) lt) in
     let epos = stored-written ims (run .stored) in
-    let eok : AllOf (λ e. (0 < e) × (e < s .blocks)) es = all-two (λ e. 0 < e) (λ e. 0 < e → s .used e ≡ true) _ (λ e p u. inv .within e (u p)) es epos (run .es-used) in
-    let dok : AllOf (λ d. (0 < d) × (d < s .blocks)) ds = all-map _ _ (λ d u. inv .within d u) ds (run .ds-used) in
+    let eok : AllOf (λ e. (0 < e) × (e < s .blocks)) es = all-two (λ e. 0 < e) (λ e. 0 < e → s .used e ≡ true) _ (λ e p u. bk .within e (u p)) es epos (r .named) in
+    let dok : AllOf (λ d. (0 < d) × (d < s .blocks)) ds = all-map _ _ (λ d u. bk .within d u) ds (r .written) in
     let x = header (headerFor s L n₀ (length es) ds) in
-    wrote (record { at = 0; what = x }) refl (omega (arith, inv .taken, inv .blocks))
-    (λ small fit. header-fits n img s b n₀ es ds (inv .blocks) (inv .cap) run ims full eok dok (omega (arith, inv .blocks)))
-    (λ z. header-top n img s b n₀ es ds (inv .blocks) (inv .cap) run ims full eok dok)
+    wrote (record { at = 0; what = x }) refl (omega (arith, bk .taken, inv .blocks))
+    (λ small fit. header-fits n img s b n₀ es ds (inv .blocks) (bk .cap) r run ims full eok dok (omega (arith, inv .blocks)))
+    (λ z. header-top n img s b n₀ es ds (inv .blocks) (bk .cap) r run ims full eok dok)
     (λ h. lie (sym h))
     (record {
       blocks = inv .blocks;
-      cap = inv .cap;
-      taken = inv .taken;
-      good = header-good n img s b n₀ es ds (inv .blocks) (inv .cap) run ims full eok dok;
-      within = λ c h. in-all (λ d. (0 < d) × (d < s .blocks)) c (es ++ ds) h (all-append _ es ds eok dok);
-      phase = record {
-        lvl = run .lvl;
-        tied = all-map _ _ (λ q t c. let u = tied-put img L (λ c. isIn c es) 0 x q (zero-not-in es epos) t c in (u .0, u .1, u .2, u .3, rw (in-append (q .block) es, u .4))) (s .pages) (run .tied);
-      };
+      good = header-good n img s b n₀ es ds (inv .blocks) (bk .cap) r run ims full eok dok;
+      phase = all-map _ _ (λ q t c. let u = tied-put img L (λ c. isIn c es) 0 x q (zero-not-in es epos) t c in (u .0, u .1, u .2, u .3, rw (in-append (q .block) es, u .4))) (s .pages) (run .tied);
     })

@@ -8,9 +8,9 @@ use Rattle.basics.specs.Basics.{if_then_else_}
 use Rattle.basics.proofs.Facts.{AllOf}
 use Rattle.blocks.specs.Block.{Block, page, header, malformed, InRange, directory}
 use Rattle.blocks.specs.declared.Header.{Header}
+use Rattle.image.specs.Whole.{pagesStage}
 use Rattle.image.specs.Stages.{Stage, refuses, holds, headerTest}
 use Rattle.image.specs.View.{View}
-use Rattle.image.specs.Whole.{pagesStage}
 use Rattle.model.specs.State.{Store}
 use Rattle.model.specs.Calls.{Call, AllTyped}
 use Rattle.model.specs.Recover.{recoverPages}
@@ -60,7 +60,7 @@ WriteOk n w = (w .write .at < n) × InRange (w .write .what)
 -- wherever the stores of a list of calls are cut, recovery gives what the run of the calls before the last landed begin had
 abbrev pub CrashViews : Type 0
 CrashViews =
-    (v : View) → AllSane v → (s : Store) → 2 ≤ s .blocks → recoverView (s .blocks) v ≡ holds s → (calls : List Call)
+    (v : View) → AllSane v → (s : Store) → 2 ≤ s .blocks → s .blocks ≤ 4096 → recoverView (s .blocks) v ≡ holds s → (calls : List Call)
     → (v′ : View) (base : List Call) → CutV v [] (log [] [] s calls) v′ base
     → (r : Store) × (recoverView (s .blocks) v′ ≡ holds r) × Same r s base
 

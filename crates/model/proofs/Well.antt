@@ -22,15 +22,15 @@ use Rattle.model.proofs.Lists.{leb-false, eqb-self, le-true, leb-true, 
 use Rattle.model.proofs.Owners.{numbers-length}
 use Rattle.model.proofs.Splits.{Small}
 use Rattle.model.proofs.Frozen.{bare, images}
+use Rattle.model.proofs.Books.{Books, keeps-books, inBlock, Booked, Ledger, booked-more}
 use Rattle.model.proofs.Sound.{PageOk, Calm}
 use Rattle.model.proofs.Placing.{Before, page-full}
 use Rattle.model.proofs.Fate.{at-split}
 use Rattle.model.proofs.Valid.{Valid, Counted, Opened, HeldOk, held-sub, LiveOk}
 use Rattle.model.proofs.Keeps.{keeps, all-free, nothing-pending, rows-sub}
 use Rattle.model.proofs.Tests.{lower-before, before-trans, differ-distinct, distinct-differ}
-use Rattle.model.proofs.Whole.{Fitting, owner-size, rows-tests, tested-live}
+use Rattle.model.proofs.Whole.{Fitting, few-pages, owner-size, rows-tests, tested-live}
 use Rattle.model.proofs.Tally.{keeps-count}
-use Rattle.model.proofs.Books.{Books, keeps-books, Booked, Ledger, booked-more}
 use Rattle.model.proofs.Listed.{Listed, keeps-listed}
 use Rattle.model.proofs.Range.{keeps-fits, page-rows, some-one}
 
@@ -49,7 +49,7 @@ keeps-sound c s t w =
       valid = keeps c s (w .valid) (w .counted);
       counted = keeps-count c s (w .valid) (w .counted);
       fitting = keeps-fits c s t (w .valid) (w .counted) (w .fitting);
-      books = keeps-books c s (w .valid) (w .books);
+      books = keeps-books c s (few-pages s (w .valid)) (w .books);
       listed = keeps-listed c s (w .listed);
     }
 
@@ -143,6 +143,11 @@ none-frozen : (ps : List Page) → images ps ≡ [] → any isFrozen ps ≡ fals
 unfolding any isFrozen
 none-frozen ps e = any-off isFrozen ps (unfold isFrozen in all-free ps e)
 
+in-block-many : (b : ℕ) (ps : List Page) → howMany (λ p. eqb b (p .block)) ps ≡ sum (inBlock b) ps
+unfolding howMany sum inBlock if_then_else_
+in-block-many b [] = refl
+in-block-many b (p ∷ ps) = let e = in-block-many b ps in by (eqb b (p .block)) (λ k. rw k (omega arith)) (λ k. rw k (omega arith))
+
 -- ---- a sound store is well formed
 
 settled-true : (hs : List Held) → AllOf Calm hs × (sum heldSize hs ≤ 504) × (0 < length hs) → settledOk hs ≡ true
@@ -195,6 +200,7 @@ checkpoint-well s v b = go (s .checkpoint) refl (b .phase)
           directories = r .directories;
           named = all-true _ es (all-map _ _ (named-true (s .used)) es (r .named));
           written = all-true _ ds (r .written);
+          once = r .once;
           kept = all-true _ (s .pages) (all-map _ _ (λ p q. dirtyOr-true (λ b. isIn b es) p (q .1)) (s .pages) (r .booked));
           room = rw (many-frozen (s .pages)) (r .room);
         }
@@ -222,7 +228,7 @@ well s w =
     let booked = booked-used s b in
     record {
       blocks = b .blocks;
-      capacity = (b .some-room, v .cap);
+      capacity = b .cap;
       level = b .level;
       next = v .nx;
       tuples = held-true (s .capacity) (s .next) (held (s .pages)) (v .has);
@@ -236,6 +242,7 @@ well s w =
           (all-two (λ p. p .table ≤ 7) (Booked (s .used)) _ (λ p t q. (t, q .0)) (s .pages) (pages-tables (s .pages) (v .pages) (all-map _ _ (λ r k. k .1) (held (s .pages)) (v .has .known))) booked)
           (v .pages));
       clean = all-true _ (s .pages) (all-map _ _ (λ p q. dirtyOr-true (s .used) p (q .1)) (s .pages) booked);
+      apart = λ c l. rw (in-block-many c (s .pages)) (b .apart c l);
       used = b .within;
       taken = b .taken;
       checkpoint = checkpoint-well s v b;
@@ -368,6 +375,7 @@ module _ (s : Store) (w : WellFormed s) where
     directories = r .directories;
     named = all-map _ _ (λ e h l. or-else (isZero e) (s .used e) h (unfold isZero in pos-not-zero e l)) es (all-split _ es (r .named));
     written = all-split _ ds (r .written);
+    once = r .once;
     booked = booked (λ b. isIn b es) (r .kept);
     room = subst (λ z. z + (directoriesFor (length es) - length ds) ≤ freeCount s) (many-frozen (s .pages)) (r .room);
   }
@@ -377,6 +385,6 @@ module _ (s : Store) (w : WellFormed s) where
     valid = valid;
     counted = w .counts;
     fitting = fitting;
-    books = record { blocks = w .blocks; some-room = w .capacity .0; level = w .level; taken = w .taken; within = w .used; phase = phase (s .checkpoint) (w .checkpoint) };
+    books = record { blocks = w .blocks; cap = w .capacity; level = w .level; taken = w .taken; within = w .used; apart = λ c l. rw (← in-block-many c (s .pages)) (w .apart c l); phase = phase (s .checkpoint) (w .checkpoint) };
     listed = ok-open .1;
   }

@@ -5,13 +5,13 @@ use native.Mathlib.Omega.{arith}
 use mathlib.Core.Bool.{false, true}
 use mathlib.Core.List.{List, [], _∷_, map}
 use lib.Dec.{leb}
-use lib.ListN.{length, length-map, length-append}
+use lib.ListN.{length-map, length, length-append}
 use lib.Pow.{low}
 use Rattle.basics.specs.Basics.{if_then_else_, all, isEmpty, any, isIn, every, distinct, sum, paired, howMany}
 use Rattle.basics.proofs.Facts.{AllOf, lie, by}
 use Rattle.blocks.specs.Block.{PageFits}
 use Rattle.blocks.specs.Limits.{recordSpace, mostNumber}
-use Rattle.blocks.specs.Tuple.{Tuple, AllFit, sizes, size, Fits, Owner, ownerSize, committed, tentative}
+use Rattle.blocks.specs.Tuple.{Tuple, AllFit, size, sizes, Fits, Owner, ownerSize, committed, tentative}
 use Rattle.blocks.specs.declared.Header.{Header}
 use Rattle.rows.specs.Rows.{rowsOf, Row, isOwn, openLimit, rowsOk, transactions, markOk, statementOk, number, isBelow, isBy, follows, startsWell}
 use Rattle.image.specs.Stages.{StoredPage, rowsOfPages, capacityLimit}
@@ -31,7 +31,7 @@ use Rattle.model.proofs.Inv.{Ready}
 use Rattle.model.proofs.Start.{Read, loaded-held, head-range, headed, pages-read}
 use Rattle.model.proofs.Sound.{Calm, PageOk, small}
 use Rattle.model.proofs.Placing.{page-full}
-use Rattle.model.proofs.Valid.{Opened, HeldOk, LiveOk, Valid, Counted}
+use Rattle.model.proofs.Valid.{Valid, Opened, HeldOk, LiveOk, Counted}
 use Rattle.model.proofs.Closing.{own-owner}
 use Rattle.model.proofs.Keeps.{nothing-pending, all-free}
 use Rattle.model.proofs.Tests.{order-tests, differ-distinct, paired-pairs, distinct-differ, all-heads}
@@ -63,7 +63,7 @@ unfolding rowsOf
 rows-length t [] = refl
 rows-length t (x ∷ xs) = ap suc (rows-length t xs)
 
-pub pages-few : (ps : List Page) → AllOf PageOk ps → length ps ≤ length (held ps)
+pages-few : (ps : List Page) → AllOf PageOk ps → length ps ≤ length (held ps)
 pages-few [] a = omega arith
 pages-few (p ∷ ps) a =
     let l = pages-few ps (a .1) in
@@ -72,6 +72,9 @@ pages-few (p ∷ ps) a =
     let e : length (held (p ∷ ps)) ≡ length (bare (p .tuples)) + length (held ps)
     = unfold held in length-append (rowsOf (p .table) (bare (p .tuples))) (held ps) ∙ ap (λ z. z + length (held ps)) (rows-length (p .table) (bare (p .tuples))) in
     omega arith
+
+pub few-pages : (s : Store) → Valid s → length (s .pages) ≤ s .capacity
+few-pages s v = omega (arith, pages-few (s .pages) (v .pages), v .has .few)
 
 -- an own row's transaction is open
 open-own : (tx : ℕ) (os : List ℕ) (rs : List Row) → AllOf (λ r. Opened os (r .1 .owner)) rs → any (isOwn tx) rs ≡ true → isIn tx os ≡ true
@@ -110,7 +113,7 @@ ready s v e =
       calm = free-calm (s .pages) free (v .pages);
       some = all-mapped (λ c. isEmpty (c .1) ≡ false) content (s .pages) (all-map PageOk _ page-some (s .pages) (v .pages));
       ok = rows-tests (s .capacity) (s .next) (openNumbers (s .active)) (held (s .pages)) (v .has) (subst (LiveOk (openNumbers (s .active))) same (v .sees)) (omega (arith, numbers-length (s .active), v .opened));
-      few = omega (arith, pages-few (s .pages) (v .pages), v .has .few);
+      few = few-pages s v;
       most = v .nx;
       same = same;
     }

@@ -7,7 +7,8 @@ use lib.ListN.{length}
 use Rattle.blocks.specs.Tuple.{Tuple, AllBytes}
 use Rattle.image.specs.Stages.{holds, StoredPage}
 use Rattle.image.specs.Whole.{Contents, readImage}
-use Rattle.model.specs.State.{Store}
+use Rattle.model.specs.State.{Page, Store}
+use Rattle.model.specs.Rules.{isDirty}
 use Rattle.model.specs.Calls.{Call, AllTyped, afterCalls}
 use Rattle.model.specs.QuotedLine.{Start, Logged, log, isHeader, stored, content}
 
@@ -20,11 +21,20 @@ afterStores img (w ∷ ws) = afterStores (stored img w) ws
 unfoldable pub contentOf : StoredPage → ℕ × List Tuple
 contentOf p = (p .table, p .tuples)
 
+-- where pages are read: one of ps that was clean in the block that it had, a dirty one in a block that was free
+abbrev pub Placed : (ℕ → Bool) → List StoredPage → List Page → Type 0
+Placed used [] [] = Unit {0}
+Placed used [] (p ∷ ps) = ⊥
+Placed used (q ∷ qs) [] = ⊥
+Placed used (q ∷ qs) (p ∷ ps) =
+    (isDirty p ≡ false → q .block ≡ p .block) × (isDirty p ≡ true → used (q .block) ≡ false) × Placed used qs ps
+
 -- what an image holds is the store b: its pages, and a header of its block count, N, next number and page count, one level higher
 pub record Checkpointed (img : List ℕ) (b : Store) : Type 0 where
   pub found : Contents
   pub read : readImage img ≡ holds found
   pub pages : map contentOf (found .pages) ≡ map content (b .pages)
+  pub places : Placed (b .used) (found .pages) (b .pages)
   pub count : found .header .pages ≡ length (b .pages)
   pub blocks : found .header .blocks ≡ b .blocks
   pub capacity : found .header .capacity ≡ b .capacity

@@ -70,10 +70,11 @@ pub record RunningWell (n : ℕ) (es ds : List ℕ) (s : Store) : Type 0 where
   -- the directory comes after the frozen pages
   pub late : ltb 0 (length ds) ≡ true → any isFrozen (s .pages) ≡ false
   pub directories : length ds ≤ directoriesFor (length es)
-  -- what the new header will name is in use, and the block of every clean page is among it
+  -- what the new header will name is in use and named once, and the block of every clean page is among it
   pub named : all (λ e. isZero e || s .used e) es ≡ true
   pub written : all (s .used) ds ≡ true
   pub kept : all (dirtyOr (λ b. isIn b es)) (s .pages) ≡ true
+  pub once : (b : ℕ) → 1 ≤ b → howMany (eqb b) (es ++ ds) ≤ 1
   -- free blocks suffice for the frozen pages and the directory blocks still to write
   pub room : howMany isFrozen (s .pages) + (directoriesFor (length es) - length ds) ≤ freeCount s
 
@@ -97,7 +98,9 @@ pub record WellFormed (s : Store) : Type 0 where
   -- an open transaction's count is that of its live rows
   pub counts : (tx : ℕ) → isIn tx (openNumbers (s .active)) ≡ true → writtenBy tx (s .active) ≡ howMany (isOwn tx) (rows (s .pages))
   pub pages : all pageWell (s .pages) ≡ true
+  -- the block of a clean page is in use, and no other page's
   pub clean : all (dirtyOr (s .used)) (s .pages) ≡ true
+  pub apart : (b : ℕ) → 1 ≤ b → howMany (λ p. eqb b (p .block)) (s .pages) ≤ 1
   pub used : (b : ℕ) → s .used b ≡ true → (1 ≤ b) × (b < s .blocks)
   pub taken : s .taken < s .blocks
   pub checkpoint : CheckpointWell (s .checkpoint) s
