@@ -23,7 +23,7 @@ use Rattle.model.specs.State.{Store}
 use Rattle.model.specs.Checkpoint.{headerFor}
 use Rattle.model.specs.Recover.{memoryFor, putBlock, freshStore, make, madeImage, recoveredStore, recoverPages, recoverBelow, recover}
 use Rattle.model.proofs.Views.{put, recoverFrom, recoverView, Sane, AllSane}
-use Rattle.model.proofs.Recovery.{found}
+use Rattle.model.proofs.Recovery.{found, refuses-holds, holds-eq}
 use Rattle.model.proofs.Start.{headed}
 use Rattle.model.proofs.Lists.{eqb-self, eqb-true, le-true, leb-true, leb-false, lt-false, not-false}
 
@@ -102,12 +102,6 @@ view-sane img i = go (decodeBlock (blockAt img i)) refl
     go (directory l es) e = decode-in-range (blockAt img i) (directory l es) e (λ q. subst Read q tt)
 
 -- ---- recovery of bytes and of the view
-
-refuses-holds {ℓ} : {A : Type 0} {X : Type ℓ} {n : ℕ} {a : A} → refuses n ≡ holds a → X
-refuses-holds e = let z : _≡_ {A = ℕ} 0 1 = cc in absurd (omega arith)
-
-holds-eq : {A : Type 0} {a b : A} → holds a ≡ holds b → a ≡ b
-holds-eq e = cc
 
 -- an image of n whole blocks
 whole-blocks : (len n : ℕ) → len ≡ 512 * n → 2 ≤ n → n ≤ 4096 → wholeBlocks len ≡ true

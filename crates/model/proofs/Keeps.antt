@@ -16,20 +16,20 @@ use Rattle.image.specs.Stages.{directoriesFor}
 use Rattle.model.specs.State.{count, Store, Page, Held, idle, running, nothing, Checkpoint}
 use Rattle.model.specs.Rules.{place, heldSize, isPending, freeze, isFrozen}
 use Rattle.model.specs.Sight.{rows, held, isForeign, versions, seen, seenOf}
-use Rattle.model.specs.Transactions.{openCall, gives, changed, written, openNumbers, writtenBy, newTuple, withWrite, insertCall, notOpen, noTable, tooLong, foreign, present, full, replaceCall, unseen, deleteCall, readCall, readSeen, listCall, commitCall, plan, planRows, without, abortCall, removeAll}
-use Rattle.model.specs.Checkpoint.{beginCall, stored, storePage, made, allocate, storeDirectory, storeHeader, stepAt, stepOf, inTurn, stepCall, runCall, left}
+use Rattle.model.specs.Transactions.{Op, openCall, gives, changed, written, openNumbers, writtenBy, newTuple, withWrite, notOpen, noTable, tooLong, foreign, _when_, full, insertCall, present, replaceCall, unseen, deleteCall, readCall, readSeen, listCall, perform, without, commitCall, plan, planRows, abortCall, removeAll}
+use Rattle.model.specs.Checkpoint.{stored, beginCall, storePage, made, allocate, storeDirectory, storeHeader, stepAt, stepOf, inTurn, stepCall, runCall, left}
 use Rattle.model.specs.Calls.{Call, others, call, opens, inserts, replaces, deletes, commits, aborts, reads, lists, begins, steps, runs}
 use Rattle.model.proofs.Views.{put}
 use Rattle.model.proofs.Lists.{in-append, all-map, leb-false, Pairs, not-false}
 use Rattle.model.proofs.Owners.{numbers-append, numbers-write, numbers-length, others-length, numbers-without}
 use Rattle.model.proofs.Splits.{mostSize}
-use Rattle.model.proofs.Frozen.{images-place, images, images-perform, shown-calm, images-none}
-use Rattle.model.proofs.Quiet.{unless-keeps}
+use Rattle.model.proofs.Frozen.{images, images-place, images-perform, shown-calm, images-none}
+use Rattle.model.proofs.Quiet.{unless-keeps, Passed}
 use Rattle.model.proofs.Books.{below-most, idle-of}
 use Rattle.model.proofs.Sound.{place-ok, perform-ok, PageOk, bare-size, thaw-ok}
 use Rattle.model.proofs.Rows.{Sub, rows-live, held-plain, live-sub, entries, sub-all, Differ, sub-pairs, held-freeze, rows-freeze, thaw-rows}
 use Rattle.model.proofs.Placing.{Before, Put, place-put}
-use Rattle.model.proofs.Fate.{differ-alike, perform-rows, commit-rows, abort-rows}
+use Rattle.model.proofs.Fate.{differ-alike, gather, fate, perform-rows, commit-rows, abort-rows}
 use Rattle.model.proofs.Valid.{Opened, LiveOk, Valid, before-alike, HeldOk, held-insert, live-insert, Counted, held-sub}
 use Rattle.model.proofs.Closing.{commit-live, abort-live}
 
@@ -113,21 +113,23 @@ module _ (s : Store) (v : Valid s) (tx t k : ℕ) (bs : List ℕ) (m : Bool) (i 
         cap = v .cap;
       }
 
-insert-valid : (tx t k : ℕ) (bs : List ℕ) (s : Store) → Valid s → Counted s → Valid (insertCall tx t k bs s .store)
-unfolding insertCall notOpen noTable tooLong foreign present full
-insert-valid tx t k bs s v c =
-    unless-keeps Valid _ s _ v (λ p.
+-- an insert or replace: n when b is the one test in which they differ
+stored-valid : (tx t k : ℕ) (bs : List ℕ) (s : Store) (n : ℕ) (b : Bool) → Valid s → Counted s
+    → Passed (notOpen tx s ++ (noTable t ∷ tooLong bs ∷ foreign tx t k s ∷ n when b ∷ full s)) → Valid (written tx t k bs false s .store)
+unfolding notOpen noTable tooLong foreign full
+stored-valid tx t k bs s n b v c p =
     let q = p .1 .1 .1 .1 .1 .1 in
-    written-valid s v tx t k bs false (not-false _ (p .1 .0)) (c tx (not-false _ (p .1 .0))) (omega (arith, leb-false 8 t (p .1 .1 .0))) (omega (arith, leb-false (suc payloadLimit) (length bs) (p .1 .1 .1 .0))) (p .1 .1 .1 .1 .0)
-    (leb-false (s .capacity) (length (held (s .pages))) (q .0)) (below-most (s .next) (v .nx) (q .1 .0)) (λ e. refl) refl)
+    let o = not-false _ (p .1 .0) in
+    written-valid s v tx t k bs false o (c tx o) (omega (arith, leb-false 8 t (p .1 .1 .0))) (omega (arith, leb-false (suc payloadLimit) (length bs) (p .1 .1 .1 .0))) (p .1 .1 .1 .1 .0)
+    (leb-false (s .capacity) (length (held (s .pages))) (q .0)) (below-most (s .next) (v .nx) (q .1 .0)) (λ e. refl) refl
+
+insert-valid : (tx t k : ℕ) (bs : List ℕ) (s : Store) → Valid s → Counted s → Valid (insertCall tx t k bs s .store)
+unfolding insertCall present
+insert-valid tx t k bs s v c = unless-keeps Valid _ s _ v (stored-valid tx t k bs s 13 _ v c)
 
 replace-valid : (tx t k : ℕ) (bs : List ℕ) (s : Store) → Valid s → Counted s → Valid (replaceCall tx t k bs s .store)
-unfolding replaceCall notOpen noTable tooLong foreign unseen full
-replace-valid tx t k bs s v c =
-    unless-keeps Valid _ s _ v (λ p.
-    let q = p .1 .1 .1 .1 .1 .1 in
-    written-valid s v tx t k bs false (not-false _ (p .1 .0)) (c tx (not-false _ (p .1 .0))) (omega (arith, leb-false 8 t (p .1 .1 .0))) (omega (arith, leb-false (suc payloadLimit) (length bs) (p .1 .1 .1 .0))) (p .1 .1 .1 .1 .0)
-    (leb-false (s .capacity) (length (held (s .pages))) (q .0)) (below-most (s .next) (v .nx) (q .1 .0)) (λ e. refl) refl)
+unfolding replaceCall unseen
+replace-valid tx t k bs s v c = unless-keeps Valid _ s _ v (stored-valid tx t k bs s 14 _ v c)
 
 -- what is seen is a version
 seen-some : (tx : ℕ) (vs : List Row) → isSome (seenOf tx vs) ≡ true → isEmpty vs ≡ true → true ≡ false
@@ -159,43 +161,39 @@ list-valid r s v = unless-keeps Valid _ s _ v (λ p. v)
 
 -- ---- commit, abort
 
-commit-valid : (tx : ℕ) (s : Store) → Valid s → Valid (commitCall tx s .store)
-unfolding commitCall gives changed plan
-commit-valid tx s v =
-    let d = rows-differ s v in
-    let os = planRows tx (rows (s .pages)) (rows (s .pages)) in
+-- the operations os are performed, and tx is closed
+closed-valid : (tx : ℕ) (os : List Op) (s : Store) → Valid s → LiveOk (others tx (openNumbers (s .active))) (gather (fate os) (rows (s .pages)))
+    → Valid (changed s (s .next) (perform os (s .pages)) (without tx (s .active)))
+unfolding changed
+closed-valid tx os s v live =
     let r = perform-rows os (s .pages) (v .pages) (v .has .differ) in
     let l = others-length tx (openNumbers (s .active)) in
     let o = numbers-without tx (s .active) in
-    let fewer : length (without tx (s .active)) ≤ 64 = omega (arith, v .opened, numbers-length (s .active), numbers-length (without tx (s .active)), ap length o) in
-    unless-keeps Valid _ s _ v (λ p. record {
+    record {
       pages = perform-ok os (s .pages) (v .pages);
       still = λ h. images-perform os (s .pages) ∙ v .still h;
       has = held-sub (s .capacity) (s .next) (r .0) (v .has);
-      sees = rw o (subst (LiveOk (others tx (openNumbers (s .active)))) (sym (r .1 ∙ commit-rows tx (rows (s .pages)) d)) (commit-live tx (openNumbers (s .active)) (rows (s .pages)) (v .sees) d));
-      opened = fewer;
+      sees = rw (o, r .1) live;
+      opened = omega (arith, v .opened, numbers-length (s .active), numbers-length (without tx (s .active)), ap length o);
       nx = v .nx;
       cap = v .cap;
-    })
+    }
+
+commit-valid : (tx : ℕ) (s : Store) → Valid s → Valid (commitCall tx s .store)
+unfolding commitCall gives plan
+commit-valid tx s v =
+    let rs = rows (s .pages) in
+    let d = rows-differ s v in
+    unless-keeps Valid _ s _ v
+    (λ p. closed-valid tx (planRows tx rs rs) s v (rw (commit-rows tx rs d) (commit-live tx (openNumbers (s .active)) rs (v .sees) d)))
 
 abort-valid : (tx : ℕ) (s : Store) → Valid s → Valid (abortCall tx s .store)
-unfolding abortCall gives changed
+unfolding abortCall gives
 abort-valid tx s v =
+    let rs = rows (s .pages) in
     let d = rows-differ s v in
-    let os = removeAll (keep (isOwn tx) (rows (s .pages))) in
-    let r = perform-rows os (s .pages) (v .pages) (v .has .differ) in
-    let l = others-length tx (openNumbers (s .active)) in
-    let o = numbers-without tx (s .active) in
-    let fewer : length (without tx (s .active)) ≤ 64 = omega (arith, v .opened, numbers-length (s .active), numbers-length (without tx (s .active)), ap length o) in
-    unless-keeps Valid _ s _ v (λ p. record {
-      pages = perform-ok os (s .pages) (v .pages);
-      still = λ h. images-perform os (s .pages) ∙ v .still h;
-      has = held-sub (s .capacity) (s .next) (r .0) (v .has);
-      sees = rw o (subst (LiveOk (others tx (openNumbers (s .active)))) (sym (r .1 ∙ abort-rows tx (rows (s .pages)) d)) (abort-live tx (openNumbers (s .active)) (rows (s .pages)) (v .sees) d));
-      opened = fewer;
-      nx = v .nx;
-      cap = v .cap;
-    })
+    unless-keeps Valid _ s _ v
+    (λ p. closed-valid tx (removeAll (keep (isOwn tx) rs)) s v (rw (abort-rows tx rs d) (abort-live tx (openNumbers (s .active)) rs (v .sees) d)))
 
 -- ---- the checkpoint
 

@@ -8,7 +8,7 @@ use mathlib.Core.Option.{Option, some, none}
 use lib.Dec.{ltb}
 use lib.ListN.{length, length-map, length-append}
 use Rattle.basics.specs.Basics.{if_then_else_, howMany, first}
-use Rattle.basics.proofs.Facts.{by, lie, by-option}
+use Rattle.basics.proofs.Facts.{by, lie}
 use Rattle.image.specs.Stages.{directoriesFor}
 use Rattle.model.specs.State.{Checkpoint, idle, running, Outcome, Store, refused, Page, count}
 use Rattle.model.specs.Rules.{isFrozen, freeze, isDirty, thaw}
@@ -19,7 +19,7 @@ use Rattle.model.specs.WellFormed.{ListOrder, EnoughBlocks, CheckpointWe
 use Rattle.model.proofs.Lists.{Pairs, pairs-parts, all-parts, leb-true, leb-false, eqb-self, eqb-true, not-false}
 use Rattle.model.proofs.Frozen.{images-thaw, images-first, images-none}
 use Rattle.model.proofs.Alloc.{Fresh, allocate-fresh}
-use Rattle.model.proofs.Quiet.{Passed}
+use Rattle.model.proofs.Quiet.{Passed, step-frame}
 use Rattle.model.proofs.Books.{length-fill}
 use Rattle.model.proofs.Placing.{Before}
 use Rattle.model.proofs.Well.{sound, before-true, many-frozen}
@@ -97,15 +97,8 @@ one-less len s h = unless-accepted (Stepped s) _ s _ (λ p k. go (s .checkpoint)
 
 -- a step keeps the store's blocks
 step-size : (s : Store) → stepAt (s .checkpoint) s .store .blocks ≡ s .blocks
-unfolding stepAt stepOf gives if_then_else_ storePage storeDirectory storeHeader made stored
-step-size s = go (s .checkpoint)
-  where
-    go : (c : Checkpoint) → stepAt c s .store .blocks ≡ s .blocks
-    go idle = refl
-    go (running n es ds) =
-        by-option (first isFrozen (s .pages))
-        (λ f. rw (f, stepOf) (by (ltb (length ds) (directoriesFor (length es))) (λ k. rw (k, if_then_else_)) (λ k. rw (k, if_then_else_))))
-        (λ p f. rw (f, stepOf))
+unfolding stored
+step-size s = step-frame (λ z. z .blocks ≡ s .blocks) s refl (λ l ps u b c. refl)
 
 step-is : (len : ℕ) (s : Store) → len ≡ 512 * s .blocks → call (steps len) s ≡ stepAt (s .checkpoint) s
 unfolding call stepCall unless badImage if_then_else_

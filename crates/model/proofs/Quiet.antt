@@ -6,13 +6,17 @@ use native.Mathlib.Omega.{arith}
 use mathlib.Core.Bool.{false, Bool, true}
 use mathlib.Core.List.{List, [], _∷_}
 use mathlib.Core.Option.{none, Option, some}
-use Rattle.basics.specs.Basics.{if_then_else_, sum}
-use Rattle.basics.proofs.Facts.{by, AllOf, lie}
+use lib.Dec.{ltb}
+use lib.ListN.{length}
+use Rattle.basics.specs.Basics.{if_then_else_, sum, first}
+use Rattle.basics.proofs.Facts.{by, AllOf, lie, by-option}
 use Rattle.rows.specs.Rows.{Row}
-use Rattle.model.specs.State.{Store, Write, Outcome, Page, Active, Held, Answer, refused, done}
-use Rattle.model.specs.Rules.{kept, fresh}
+use Rattle.image.specs.Stages.{directoriesFor}
+use Rattle.model.specs.State.{Store, Write, Outcome, Page, Active, Held, Answer, refused, done, Checkpoint, idle, running}
+use Rattle.model.specs.Rules.{fresh, isFrozen}
 use Rattle.model.specs.Sight.{seen}
 use Rattle.model.specs.Transactions.{unless, Test, gives, _when_, written, changed, perform, Op, readSeen, openCall, insertCall, replaceCall, deleteCall, commitCall, abortCall, readCall, listCall}
+use Rattle.model.specs.Checkpoint.{stored, stepAt, stepOf, storePage, storeDirectory, storeHeader, made}
 use Rattle.model.specs.Calls.{Call, opens, inserts, replaces, deletes, commits, aborts, reads, lists, begins, steps, runs, call}
 use Rattle.model.proofs.Frozen.{images, images-place, images-perform}
 use Rattle.model.proofs.Pages.{stillFrozen, all-place, all-perform}
@@ -126,3 +130,17 @@ module _ (s : Store) where
   quiet begins h = lie h
   quiet (steps len) h = lie h
   quiet (runs limit len) h = lie h
+
+-- ---- a step changes the level, the pages, the blocks in use, the block last taken and the checkpoint only
+
+pub step-frame : (P : Store → Type 0) (s : Store) → P s → ((l : ℕ) (ps : List Page) (u : ℕ → Bool) (b : ℕ) (c : Checkpoint) → P (stored s l ps u b c))
+    → P (stepAt (s .checkpoint) s .store)
+unfolding stepAt stepOf gives if_then_else_ storePage storeDirectory storeHeader made
+step-frame P s p f = go (s .checkpoint)
+  where
+    go : (c : Checkpoint) → P (stepAt c s .store)
+    go idle = p
+    go (running n es ds) =
+        by-option (first isFrozen (s .pages))
+        (λ e. rw (e, stepOf) (by (ltb (length ds) (directoriesFor (length es))) (λ k. rw (k, if_then_else_) (f _ _ _ _ _)) (λ k. rw (k, if_then_else_) (f _ _ _ _ _))))
+        (λ q e. rw (e, stepOf) (f _ _ _ _ _))

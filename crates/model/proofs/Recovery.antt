@@ -11,18 +11,18 @@ use Rattle.blocks.specs.Block.{page, header, directory, Block, malformed}
 use Rattle.blocks.specs.Limits.{entriesPerBlock}
 use Rattle.blocks.specs.declared.Header.{Header}
 use Rattle.rows.specs.Rows.{rowsOk}
+use Rattle.image.specs.Whole.{pagesStage, pagesBelow}
 use Rattle.image.specs.Stages.{refuses, holds, StoredPage, headerOk, readDirectories, directoryBlocks, entriesOk, readPages, rowsOfPages, headerTest, directoryTest, testedEntries, pageTest, testedPages, addPage, pageOk}
 use Rattle.image.specs.View.{View}
-use Rattle.image.specs.Whole.{pagesStage, pagesBelow}
 use Rattle.model.specs.State.{Store}
 use Rattle.model.specs.Recover.{recoveredStore, recoverPages}
 use Rattle.model.proofs.Views.{recoverView, recoverFrom}
 use Rattle.model.proofs.Lists.{some-eq, all-parts, all-in}
 
-refused-not {ℓ} : {A : Type 0} {X : Type ℓ} {n : ℕ} {a : A} → refuses n ≡ holds a → X
-refused-not e = let z : _≡_ {A = ℕ} 0 1 = cc in absurd (omega arith)
+pub refuses-holds {ℓ} : {A : Type 0} {X : Type ℓ} {n : ℕ} {a : A} → refuses n ≡ holds a → X
+refuses-holds e = let z : _≡_ {A = ℕ} 0 1 = cc in absurd (omega arith)
 
-holds-eq : {A : Type 0} {a b : A} → holds a ≡ holds b → a ≡ b
+pub holds-eq : {A : Type 0} {a b : A} → holds a ≡ holds b → a ≡ b
 holds-eq e = cc
 
 -- what an accepted recovery finds in a view of n blocks
@@ -43,21 +43,21 @@ unfolding recoverView recoverFrom headerTest pagesStage pagesBelow directoryTest
 found n v s e = go (v 0) refl e
   where
     go : (x : Block) → v 0 ≡ x → recoverFrom v (headerTest n x) ≡ holds s → Found n v s
-    go malformed q e = refused-not e
-    go (page t k ts) q e = refused-not e
-    go (directory k es) q e = refused-not e
+    go malformed q e = refuses-holds e
+    go (page t k ts) q e = refuses-holds e
+    go (directory k es) q e = refuses-holds e
     go (header h) q e =
         by (headerOk n h)
         (λ a. by-option (readDirectories v (h .level) (h .pages) (directoryBlocks h))
-        (λ b. refused-not (rw (a, b) at e))
+        (λ b. refuses-holds (rw (a, b) at e))
         (λ es b. by (entriesOk (h .blocks) (directoryBlocks h) es)
         (λ c. by-option (readPages v (h .level) es)
-        (λ d. refused-not (rw (a, b, c, d) at e))
+        (λ d. refuses-holds (rw (a, b, c, d) at e))
         (λ ps d. by (rowsOk (h .capacity) (h .next) (rowsOfPages ps))
         (λ r. record { head = h; entries = es; pages = ps; top = q; head-ok = a; listed = b; entries-ok = c; read = d; rows-ok = r; store = holds-eq (rw (a, b, c, d, r) at e) })
-        (λ r. refused-not (rw (a, b, c, d, r) at e))))
-        (λ c. refused-not (rw (a, b, c) at e))))
-        (λ a. refused-not (rw a at e))
+        (λ r. refuses-holds (rw (a, b, c, d, r) at e))))
+        (λ c. refuses-holds (rw (a, b, c) at e))))
+        (λ a. refuses-holds (rw a at e))
 
 pub recovers : (n : ℕ) (v : View) (s : Store) → Found n v s → recoverView n v ≡ holds s
 unfolding recoverView recoverFrom headerTest pagesStage pagesBelow directoryTest testedEntries pageTest testedPages recoverPages if_then_else_

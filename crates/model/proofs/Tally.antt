@@ -20,7 +20,7 @@ use Rattle.model.specs.Checkpoint.{beginCall, stored, storePage, made, a
 use Rattle.model.specs.Calls.{Call, opens, commits, aborts, inserts, replaces, deletes, reads, lists, begins, steps, runs, accepted, call, others, withWriter, writers, afterCalls, hadWritten}
 use Rattle.model.proofs.Lists.{Mem, many-none, all-map, eqb-true, all-mem, eqb-sym, many-length, in-keep, not-true, le-true, in-here, eqb-self, in-cons, and-no, and-yes, any-many}
 use Rattle.model.proofs.Owners.{count-append, count-new, numbers-write, count-write, count-other, numbers-without, count-without}
-use Rattle.model.proofs.Quiet.{unless-out, unless-keeps}
+use Rattle.model.proofs.Quiet.{unless-out, unless-keeps, step-frame}
 use Rattle.model.proofs.Rows.{rows-freeze, thaw-rows, sub-length}
 use Rattle.model.proofs.Fate.{gather, afterCommit, perform-rows, commit-rows, afterAbort, abort-rows}
 use Rattle.model.proofs.Valid.{Valid, Counted, Opened}
@@ -306,15 +306,8 @@ counted-closed tx s ps own-after c u i =
     closed-other u tx n e = unfold closed if_then_else_ in rw e
 
 pub step-active : (s : Store) → stepAt (s .checkpoint) s .store .active ≡ s .active
-unfolding stepAt stepOf gives if_then_else_ storePage storeDirectory storeHeader made stored
-step-active s = go (s .checkpoint)
-  where
-    go : (c : Checkpoint) → stepAt c s .store .active ≡ s .active
-    go idle = refl
-    go (running n es ds) =
-        by-option (first isFrozen (s .pages))
-        (λ f. rw (f, stepOf) (by (ltb (length ds) (directoriesFor (length es))) (λ k. rw (k, if_then_else_)) (λ k. rw (k, if_then_else_))))
-        (λ p f. rw (f, stepOf))
+unfolding stored
+step-active s = step-frame (λ z. z .active ≡ s .active) s refl (λ l ps u b c. refl)
 
 pub counted-step : (s : Store) → Valid s → Counted s → Counted (stepAt (s .checkpoint) s .store)
 counted-step s v c = counted-rows s (stepAt (s .checkpoint) s .store) (step-active s) (step-rows s v) c
