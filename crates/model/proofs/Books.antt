@@ -150,7 +150,8 @@ unfolding fill howMany if_then_else_
 many-filled b i [] = omega arith
 many-filled b i (e ∷ es) =
     by (eqb e 0)
-    (λ k. by (eqb b i) (λ u. by (eqb b e) (λ w. rw (k, u, w) (omega arith)) (λ w. rw (k, u, w) (omega arith))) (λ u. by (eqb b e) (λ w. rw (k, u, w) (omega arith)) (λ w. rw (k, u, w) (omega arith))))
+    (λ k. by (eqb b i) (λ u. by (eqb b e) (λ w. rw (k, u, w) (omega arith)) (λ w. rw (k, u, w) (omega arith)))
+    (λ u. by (eqb b e) (λ w. rw (k, u, w) (omega arith)) (λ w. rw (k, u, w) (omega arith))))
     (λ k. let l = many-filled b i es in by (eqb b e) (λ w. rw (k, w) (omega arith)) (λ w. rw (k, w) l))
 
 one-many : (b i : ℕ) → howMany (eqb b) (i ∷ []) ≡ (if eqb b i then 1 else 0)
@@ -252,7 +253,8 @@ books-quiet c s h b =
       taken = b .taken;
       within = b .within;
       apart = λ c l. let m = k .less (inBlock c) (inBlock-fresh c l) (inBlock-frozen c) in omega (arith, b .apart c l);
-      phase = phase-quiet s (k .next) (k .pages) (k .active) (k .more) (k .same) (s .checkpoint) (k .kept (Booked pool) (booked-fresh pool) (booked-frozen pool)) (b .phase);
+      phase = phase-quiet s (k .next) (k .pages) (k .active) (k .more) (k .same) (s .checkpoint)
+          (k .kept (Booked pool) (booked-fresh pool) (booked-frozen pool)) (b .phase);
     })
 
 -- ---- begin
@@ -361,7 +363,8 @@ module _ (s : Store) (b : Books s) (n : ℕ) (es ds : List ℕ) (r : Running n e
         level = b .level;
         taken = fr .low;
         within = within-more s i (fr .pos, fr .low) (b .within);
-        apart = λ c l. taken-once c i (sum (inBlock c) (s .pages)) (b .apart c l) (λ e. subst (λ z. sum (inBlock z) (s .pages) ≡ 0) (sym e) (inBlock-none (λ c. isIn c es) i (fr .pos) off (s .pages) (r .booked)))
+        apart = λ c l. taken-once c i (sum (inBlock c) (s .pages)) (b .apart c l)
+            (λ e. subst (λ z. sum (inBlock z) (s .pages) ≡ 0) (sym e) (inBlock-none (λ c. isIn c es) i (fr .pos) off (s .pages) (r .booked)))
             (sum-thaw (inBlock c) (inBlock-fresh c l) (inBlock-frozen c) i (if eqb c i then 1 else 0) (s .pages) (inBlock-clean c i));
         phase = record {
           level = r .level;
@@ -377,7 +380,8 @@ module _ (s : Store) (b : Books s) (n : ℕ) (es ds : List ℕ) (r : Running n e
               (let m = many-filled c i es in omega (arith, many-append (eqb c) (fill i es) ds, many-append (eqb c) es ds));
           booked = all-thaw (Booked pool) (booked-fresh pool) (booked-frozen pool) i p (s .pages) e
               (λ h. (λ k. lie k, λ k. filled i es some-left))
-              (all-map _ _ (λ q t. booked-more (λ c. isIn c es) pool q (λ c p h. in-fill i c es p (eqb-sym i c (test-other (λ c. isIn c es) c i h off)) ∙ h) t) (s .pages) (r .booked));
+              (all-map _ _ (λ q t. booked-more (λ c. isIn c es) pool q
+              (λ c p h. in-fill i c es p (eqb-sym i c (test-other (λ c. isIn c es) c i h off)) ∙ h) t) (s .pages) (r .booked));
           room = rw (images-thaw i (s .pages), length-fill i es) (omega (arith, r .room));
         };
       }

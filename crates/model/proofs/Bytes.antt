@@ -70,7 +70,8 @@ module _ (img xs : List ℕ) (b : ℕ) (fits : 512 * b + 512 ≤ length img) (bl
       (bytes-append xs (drop (512 * b + 512) img) k (bytes-drop (512 * b + 512) img h))
 
   apart : (i : ℕ) → eqb b i ≡ false → b < suc i → b < i
-  apart i h k = by (leb (suc b) i) (leb-true (suc b) i) (λ l. let g : i < suc b = leb-false (suc b) i l in let e : b ≡ i = omega arith in lie (sym h ∙ subst (λ z. eqb b z ≡ true) e (eqb-self b)))
+  apart i h k = by (leb (suc b) i) (leb-true (suc b) i)
+      (λ l. let g : i < suc b = leb-false (suc b) i l in let e : b ≡ i = omega arith in lie (sym h ∙ subst (λ z. eqb b z ≡ true) e (eqb-self b)))
 
   block-put : (i : ℕ) → view (putBlock img b xs) i ≡ put (view img) b (decodeBlock xs) i
   unfolding view put if_then_else_

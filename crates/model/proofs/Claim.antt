@@ -52,9 +52,10 @@ module _ (v : View) (sane : AllSane v) (s : Store) (two : 2 ≤ s .blocks) (most
       → ((v′ : View) (base : List Call) → CutV v [] (log [] [] s calls) v′ base → (r : Store) × (recoverView (s .blocks) v′ ≡ holds r) × Like r (afterCalls base s))
       × AllOf (λ w. isHeader w ≡ true → Top (w .write .what) (afterCalls (w .before) s)) (log [] [] s calls)
   claims calls =
-      let g = main (s .blocks) s (λ c. Unit {0}) (λ t. Valid t × Counted t × Books t) (λ c t o k. (keeps c t (k .0) (k .1), keeps-count c t (k .0) (k .1), keeps-books c t (few-pages t (k .0)) (k .2)))
-          (λ t k. (step-valid t (k .0), counted-step t (k .0) (k .1), step-books t (k .2))) (λ t k. ready t (k .0)) (λ t k. k .2)
-          calls [] [] [] v s start-after (all-calls calls) (start-valid .0, start-valid .1, start-books′) start-now in
+      let g = main (s .blocks) s (λ c. Unit {0}) (λ t. Valid t × Counted t × Books t)
+      (λ c t o k. (keeps c t (k .0) (k .1), keeps-count c t (k .0) (k .1), keeps-books c t (few-pages t (k .0)) (k .2)))
+      (λ t k. (step-valid t (k .0), counted-step t (k .0) (k .1), step-books t (k .2))) (λ t k. ready t (k .0)) (λ t k. k .2)
+      calls [] [] [] v s start-after (all-calls calls) (start-valid .0, start-valid .1, start-books′) start-now in
       (g .safe, g .tops)
 
   recovers-cut : (calls : List Call) (v′ : View) (base : List Call) → CutV v [] (log [] [] s calls) v′ base
@@ -80,7 +81,8 @@ module _ (v : View) (sane : AllSane v) (s : Store) (two : 2 ≤ s .blocks) (most
       (λ c t o k. (keeps c t (k .0) (k .1), keeps-count c t (k .0) (k .1), keeps-books c t (few-pages t (k .0)) (k .2), keeps-fits c t o (k .0) (k .1) (k .3)))
       (λ t k. (step-valid t (k .0), counted-step t (k .0) (k .1), step-books t (k .2), step-fits t (k .0) (k .3)))
       (λ t k. ready t (k .0)) (λ t k. k .2)
-      calls [] [] [] v s start-after (typed-calls calls a) (start-valid .0, start-valid .1, start-books′, start-valid .2) start-now .ranged most (λ t k. frozen-fit t (k .0) (k .3))
+      calls [] [] [] v s start-after (typed-calls calls a) (start-valid .0, start-valid .1, start-books′, start-valid .2) start-now .ranged most
+      (λ t k. frozen-fit t (k .0) (k .3))
 
 pub crash-views : CrashViews
 crash-views v sane s two most e calls v′ base cut = recovers-cut v sane s two most e calls v′ base cut

@@ -75,9 +75,11 @@ keep-gather f F [] h = unfold gather keep in refl
 keep-gather f F (r ∷ rs) h =
     let ih = keep-gather f F rs (h .1) in
     by (f r)
-    (λ k. ap (keep f) (gather-cons F r rs) ∙ keep-append f (F r) (gather F rs) ∙ ap₂ (λ a b. a ++ b) (keep-all f (F r) (all-map (λ a. f a ≡ f r) (λ a. f a ≡ true) (λ a e. e ∙ k) (F r) (h .0))) ih
+    (λ k. ap (keep f) (gather-cons F r rs) ∙ keep-append f (F r) (gather F rs)
+    ∙ ap₂ (λ a b. a ++ b) (keep-all f (F r) (all-map (λ a. f a ≡ f r) (λ a. f a ≡ true) (λ a e. e ∙ k) (F r) (h .0))) ih
     ∙ sym (ap (gather F) (keep-cons f r rs k) ∙ gather-cons F r (keep f rs)))
-    (λ k. ap (keep f) (gather-cons F r rs) ∙ keep-append f (F r) (gather F rs) ∙ ap₂ (λ a b. a ++ b) (keep-none f (F r) (all-map (λ a. f a ≡ f r) (λ a. f a ≡ false) (λ a e. e ∙ k) (F r) (h .0))) ih
+    (λ k. ap (keep f) (gather-cons F r rs) ∙ keep-append f (F r) (gather F rs)
+    ∙ ap₂ (λ a b. a ++ b) (keep-none f (F r) (all-map (λ a. f a ≡ f r) (λ a. f a ≡ false) (λ a e. e ∙ k) (F r) (h .0))) ih
     ∙ sym (ap (gather F) (keep-past f r rs k)))
 
 module _ (tx : ℕ) (os : List ℕ) (rs : List Row) (L : LiveOk os rs) (F : Row → List Row)
@@ -87,7 +89,8 @@ module _ (tx : ℕ) (os : List ℕ) (rs : List Row) (L : LiveOk os rs) (F : Row 
   count-one u n d r m =
       by (isOwn u r)
       (λ h. ap (howMany (earlierBy u n)) (stays r u (own-owner u r h .0) m (own-owner u r h .1) d))
-      (λ h. many-none (earlierBy u n) (F r) (all-map (Comes tx r) (λ a. earlierBy u n a ≡ false) (λ a c. off a h c) (F r) (comes r m)) ∙ sym (many-none (earlierBy u n) (r ∷ []) (own-late u n r h, tt)))
+      (λ h. many-none (earlierBy u n) (F r) (all-map (Comes tx r) (λ a. earlierBy u n a ≡ false) (λ a c. off a h c) (F r) (comes r m))
+      ∙ sym (many-none (earlierBy u n) (r ∷ []) (own-late u n r h, tt)))
     where
       off : (a : Row) → isOwn u r ≡ false → Comes tx r a → earlierBy u n a ≡ false
       off a h (as-is k) = own-late u n r h
@@ -255,17 +258,22 @@ module _ (tx : ℕ) (os : List ℕ) (rs : List Row) (L : LiveOk os rs) (D : Pair
       verdict-all (λ a. AllOf (Chain a) (verdict (newest q) q)) (newest r) r
       (λ n. verdict-all (Chain r) (newest q) q (λ n′. h .0) (λ x n′ u k. never (sym n ∙ sym e ∙ n′)))
       (λ x n u k. verdict-all (Chain (x .0, asCommitted (x .1))) (newest q) q (λ n′. never (sym n′ ∙ e ∙ n))
-      (λ y n′ u′ k′. let z : x ≡ y = some-eq (sym n ∙ sym e ∙ n′) in absurd (h .1 (row-number (x .1 .number) r k ∙ sym (row-number (x .1 .number) q (ap (λ w. isRow (number w) q) z ∙ k′)))))))
-      (λ w. all-map (Comes tx r) (λ a. AllOf (Chain a) (afterCommit tx rs q)) (λ a c. all-map (Comes tx q) (Chain a) (λ b d k. lie (sym w ∙ (sym (came-with tx r a q b c d) ∙ k))) (afterCommit tx rs q) (commit-comes q mq)) (afterCommit tx rs r) (commit-comes r mr))
+      (λ y n′ u′ k′. let z : x ≡ y = some-eq (sym n ∙ sym e ∙ n′) in absurd
+      (h .1 (row-number (x .1 .number) r k ∙ sym (row-number (x .1 .number) q (ap (λ w. isRow (number w) q) z ∙ k′)))))))
+      (λ w. all-map (Comes tx r) (λ a. AllOf (Chain a) (afterCommit tx rs q))
+      (λ a c. all-map (Comes tx q) (Chain a) (λ b d k. lie (sym w ∙ (sym (came-with tx r a q b c d) ∙ k))) (afterCommit tx rs q)
+      (commit-comes q mq)) (afterCommit tx rs r) (commit-comes r mr))
 
   at-key : (t k : ℕ) → AllOf (λ r. isAt t k r ≡ true) (keep (isAt t k) rs)
-  at-key t k = all-map (λ r. (isAt t k r ≡ true) × Mem r rs) (λ r. isAt t k r ≡ true) (λ r q. q .0) (keep (isAt t k) rs) (all-keep (λ r. Mem r rs) (isAt t k) rs (all-mem _ rs (λ r m. m)))
+  at-key t k = all-map (λ r. (isAt t k r ≡ true) × Mem r rs) (λ r. isAt t k r ≡ true) (λ r q. q .0) (keep (isAt t k) rs)
+      (all-keep (λ r. Mem r rs) (isAt t k) rs (all-mem _ rs (λ r m. m)))
 
   -- the rows at a key, by the newest own one
   pub commit-at : (t k : ℕ) → keep (isAt t k) (gather (afterCommit tx rs) rs) ≡ gather (verdict (last (ownAt tx t k) rs)) (keep (isAt t k) rs)
   commit-at t k =
       keep-came tx os rs L (afterCommit tx rs) commit-comes commit-stays t k
-      ∙ gather-ext (afterCommit tx rs) (verdict (last (ownAt tx t k) rs)) (keep (isAt t k) rs) (all-map (λ r. isAt t k r ≡ true) (λ r. afterCommit tx rs r ≡ verdict (last (ownAt tx t k) rs) r)
+      ∙ gather-ext (afterCommit tx rs) (verdict (last (ownAt tx t k) rs)) (keep (isAt t k) rs)
+      (all-map (λ r. isAt t k r ≡ true) (λ r. afterCommit tx rs r ≡ verdict (last (ownAt tx t k) rs) r)
       (λ r h. let s = at-split t k r h in (unfold afterCommit in ap₂ (λ a b. verdict (last (ownAt tx a b) rs) r) (s .0) (s .1))) (keep (isAt t k) rs) (at-key t k))
 
   -- none of them: they stay
@@ -279,7 +287,9 @@ module _ (tx : ℕ) (os : List ℕ) (rs : List Row) (L : LiveOk os rs) (D : Pair
       subst (λ z. startsWell z ≡ true) (sym (commit-at t k))
       (by-option m
       (λ n. subst (λ z. startsWell z ≡ true) (sym (ap (λ z. gather (verdict z) K) n ∙ verdict-stays K)) (L .heads t k))
-      (λ x n. starts-unmarked (gather (verdict m) K) (gather-all (λ a. a .1 .mark ≡ false) (verdict m) K (all-mem _ K (λ r i. verdict-all (λ a. a .1 .mark ≡ false) m r (λ n′. never (sym n′ ∙ n)) (λ y n′ u j. (unfold asCommitted in u)))))))
+      (λ x n. starts-unmarked (gather (verdict m) K)
+      (gather-all (λ a. a .1 .mark ≡ false) (verdict m) K
+      (all-mem _ K (λ r i. verdict-all (λ a. a .1 .mark ≡ false) m r (λ n′. never (sym n′ ∙ n)) (λ y n′ u j. (unfold asCommitted in u)))))))
 
   pub commit-live : LiveOk (others tx os) (gather (afterCommit tx rs) rs)
   commit-live = closing tx os rs L (afterCommit tx rs) commit-comes commit-stays

@@ -69,7 +69,8 @@ inv-quiet n img s b b₀ o q inv =
     (unfold changed in record {
       blocks = inv .blocks;
       good = inv .good;
-      phase = phase-changed img s b (q .next) (q .pages) (q .active) (q .same) (s .checkpoint) (q .kept T (tie-fresh img s (s .checkpoint)) (tie-frozen img s (s .checkpoint))) (inv .phase);
+      phase = phase-changed img s b (q .next) (q .pages) (q .active) (q .same) (s .checkpoint)
+          (q .kept T (tie-fresh img s (s .checkpoint)) (tie-frozen img s (s .checkpoint))) (inv .phase);
     })
 
 -- ---- begin and step
@@ -92,7 +93,8 @@ step-inv n img s b b₀ bk inv = go (s .checkpoint) (bk .phase) (inv .phase)
     go (running n₀ es ds) l r =
         by-option (first isFrozen (s .pages))
         (λ e. rw (e, stepOf) (by (ltb (length ds) (directoriesFor (length es)))
-        (λ k. rw (k, if_then_else_) (directory-step n img s b b₀ n₀ es ds bk l inv r e k)) (λ k. rw (k, if_then_else_) (header-step n img s b b₀ n₀ es ds bk l inv r e k))))
+        (λ k. rw (k, if_then_else_) (directory-step n img s b b₀ n₀ es ds bk l inv r e k))
+        (λ k. rw (k, if_then_else_) (header-step n img s b b₀ n₀ es ds bk l inv r e k))))
         (λ p e. rw (e, stepOf) (page-step n img s b b₀ n₀ es ds p bk l inv r e))
 
 -- ---- the stores of a list of calls: every cut recovers, and every block written is in range
@@ -188,7 +190,8 @@ module _ (n : ℕ) (s₀ : Store) (Okay : Call → Type 0) (Valid : Store → Ty
   run-log limit len img s past base base₀ cs v inv r =
       let past′ = past ++ runs limit len ∷ [] in
       let k = min limit (left s) in
-      unless-out (λ t ws. Rest past′ base t cs → Goes img base₀ (map (tag base) ws ++ log past′ base t cs)) (badImage len s ∷ 18 when not (isRunning (s .checkpoint)) ∷ []) s
+      unless-out (λ t ws. Rest past′ base t cs → Goes img base₀ (map (tag base) ws ++ log past′ base t cs))
+      (badImage len s ∷ 18 when not (isRunning (s .checkpoint)) ∷ []) s
       (record { answer = count k; store = inTurn k s .store; writes = inTurn k s .writes })
       (λ r. r img base₀ inv) (λ r. turn-goes k img s base base₀ _ v inv r) r
 
@@ -198,7 +201,8 @@ module _ (n : ℕ) (s₀ : Store) (Okay : Call → Type 0) (Valid : Store → Ty
   quietly c img s past base base₀ cs h p inv r =
       let o = call c s in
       let q = quiet s c p in
-      rw h (subst (λ ws. Goes img base₀ (map (tag base) ws ++ log (past ++ c ∷ []) base (o .store) cs)) (sym (q .none-written)) (r img base₀ (inv-quiet n img s _ _ o q inv)))
+      rw h (subst (λ ws. Goes img base₀ (map (tag base) ws ++ log (past ++ c ∷ []) base (o .store) cs)) (sym (q .none-written))
+      (r img base₀ (inv-quiet n img s _ _ o q inv)))
 
   begin-safe : (img : View) (s : Store) (past base base₀ : List Call) (cs : List Call) → s ≡ afterCalls past s₀ → Valid s → Now img s base base₀
       → ((base′ : List Call) → Rest (past ++ begins ∷ []) base′ (beginCall s .store) cs) → Goes img base₀ (log past base s (begins ∷ cs))
@@ -230,4 +234,5 @@ module _ (n : ℕ) (s₀ : Store) (Okay : Call → Type 0) (Valid : Store → Ty
   main [] past base base₀ img s e a v inv = unfold log in goes-nil img (s .used) base₀ (inv .good)
   main (c ∷ cs) past base base₀ img s e a v inv =
       one c img s past base base₀ cs e v inv
-      (λ base′ img′ base₀′ i. main cs (past ++ c ∷ []) base′ base₀′ img′ (call c s .store) (ap (λ z. call c z .store) e ∙ sym (after-snoc past c s₀)) (a .1) (keeps c s (a .0) v) i)
+      (λ base′ img′ base₀′ i. main cs (past ++ c ∷ []) base′ base₀′ img′ (call c s .store) (ap (λ z. call c z .store) e ∙ sym (after-snoc past c s₀))
+      (a .1) (keeps c s (a .0) v) i)

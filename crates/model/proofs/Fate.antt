@@ -148,8 +148,10 @@ module _ (tx : ℕ) (all : List Row) (d : Pairs Differ all) where
   unfolding planKey if_then_else_ opNumber number
   planKey-off x r mx mr h =
       let only = mem-only mr d in
-      let miss : (y : Row) → Mem y all → With x y ≡ true → isRow (number y) r ≡ false = λ y my k. row-false (number y) r (λ e. lie (sym h ∙ ap (With x) (sym (mem-all _ my only (sym e))) ∙ k)) in
-      let all-off = all-map _ (λ y. isRow (number y) r ≡ false) (λ y q. miss y (q .1) (q .0)) (keep (With x) all) (all-keep (λ y. Mem y all) (With x) all (all-mem _ all (λ y m. m))) in
+      let miss : (y : Row) → Mem y all → With x y ≡ true → isRow (number y) r ≡ false = λ y my k. row-false (number y) r
+      (λ e. lie (sym h ∙ ap (With x) (sym (mem-all _ my only (sym e))) ∙ k)) in
+      let all-off = all-map _ (λ y. isRow (number y) r ≡ false) (λ y q. miss y (q .1) (q .0)) (keep (With x) all)
+      (all-keep (λ y. Mem y all) (With x) all (all-mem _ all (λ y m. m))) in
       let others = keep (λ y. not (isRow (number x) y)) (keep (With x) all) in
       let others-off = all-map (λ y. (not (isRow (number x) y) ≡ true) × (isRow (number y) r ≡ false)) (λ y. isRow (number y) r ≡ false) (λ y q. q .1) others
       (all-keep (λ y. isRow (number y) r ≡ false) (λ y. not (isRow (number x) y)) (keep (With x) all) all-off) in
@@ -186,7 +188,8 @@ module _ (tx : ℕ) (all : List Row) (d : Pairs Differ all) where
   unfolding isRow number asCommitted
   others-miss x vs =
       all-map (λ y. (not (eqb (number y) (number x)) ≡ true) × Mem y vs) (λ y. eqb (number x) (number y) ≡ false)
-      (λ y q. by (eqb (number x) (number y)) (λ k. lie (sym (ap (λ z. not (eqb z (x .1 .number))) (sym (eqb-true _ _ k)) ∙ ap not (eqb-self (x .1 .number))) ∙ q .0)) (λ k. k))
+      (λ y q. by (eqb (number x) (number y)) (λ k. lie
+      (sym (ap (λ z. not (eqb z (x .1 .number))) (sym (eqb-true _ _ k)) ∙ ap not (eqb-self (x .1 .number))) ∙ q .0)) (λ k. k))
       (keep (λ y. not (isRow (number x) y)) vs) (all-keep (λ y. Mem y vs) (λ y. not (isRow (number x) y)) vs (all-mem _ vs (λ y m. m)))
 
   off-settled : (x : Row) (os : List Op) → AllOf (Off x) os → AllOf (Off (x .0, asCommitted (x .1))) os
@@ -210,7 +213,8 @@ module _ (tx : ℕ) (all : List Row) (d : Pairs Differ all) where
       → fate (removeAll (keep (λ y. not (isRow (number x) y)) (keep (With x) all)) ++ os) (x .0, asCommitted (x .1)) ≡ (x .0, asCommitted (x .1)) ∷ []
       → fate (planKey x (keep (With x) all) ++ os) x ≡ verdict (some x) x
   hit-step x os m k e =
-      ap (λ z. fate (z ++ os) x) (planKey-live x (keep (With x) all) m) ∙ commits-self x (removeAll (keep (λ y. not (isRow (number x) y)) (keep (With x) all)) ++ os) k ∙ e
+      ap (λ z. fate (z ++ os) x) (planKey-live x (keep (With x) all) m)
+      ∙ commits-self x (removeAll (keep (λ y. not (isRow (number x) y)) (keep (With x) all)) ++ os) k ∙ e
       ∙ sym (verdict-live x x m k)
 
   hit-self : (x : Row) (os : List Op) → x .1 .mark ≡ false → AllOf (Off x) os → fate (planKey x (keep (With x) all) ++ os) x ≡ verdict (some x) x
@@ -219,7 +223,8 @@ module _ (tx : ℕ) (all : List Row) (d : Pairs Differ all) where
       let y : Row = (x .0, asCommitted (x .1)) in
       let vs = keep (With x) all in
       let k = row-self x in
-      let e = off-append (removeAll (keep (λ y. not (isRow (number x) y)) vs)) os y (off-removeAll y (keep (λ y. not (isRow (number x) y)) vs) (others-miss x vs)) ∙ off-fate os y (off-settled x os off) in
+      let e = off-append (removeAll (keep (λ y. not (isRow (number x) y)) vs)) os y
+      (off-removeAll y (keep (λ y. not (isRow (number x) y)) vs) (others-miss x vs)) ∙ off-fate os y (off-settled x os off) in
       hit-step x os m k e
 
   planKey-hit : (x r : Row) (os : List Op) → Mem x all → Mem r all → With x r ≡ true → AllOf (Off r) os
@@ -285,13 +290,15 @@ module _ (tx : ℕ) (all : List Row) (d : Pairs Differ all) where
       by-option (last (Own r) xs)
       (λ n. let q : any (Own r) xs ≡ false = any-off (Own r) xs (last-off (Own r) xs n) in
       let e : (isOwn tx x && not (any (Own x) xs)) ≡ true = rw (o .0, own-same x r (o .1) xs, q) in
-      ap (λ z. fate z r) (plan-take x xs e) ∙ planKey-hit x r (planRows tx all xs) mx mr (with-true x r (o .1)) (plan-off r mr xs w q) ∙ ap (λ z. verdict z r) (sym (last-here (Own r) x xs n k)))
+      ap (λ z. fate z r) (plan-take x xs e) ∙ planKey-hit x r (planRows tx all xs) mx mr (with-true x r (o .1)) (plan-off r mr xs w q)
+      ∙ ap (λ z. verdict z r) (sym (last-here (Own r) x xs n k)))
       (λ y n. let e : (isOwn tx x && not (any (Own x) xs)) ≡ false = rw (o .0, own-same x r (o .1) xs, last-any (Own r) xs y n) in
       ap (λ z. fate z r) (plan-skip x xs e) ∙ ih ∙ ap (λ z. verdict z r) (n ∙ sym (last-some (Own r) x xs y n))))
       (λ k. let rest : fate (planRows tx all xs) r ≡ verdict (last (Own r) (x ∷ xs)) r = ih ∙ ap (λ z. verdict z r) (sym (last-skip (Own r) x xs k)) in
       by (isOwn tx x && not (any (Own x) xs))
       (λ e. let o = and-true (isOwn tx x) (not (any (Own x) xs)) e in
-      ap (λ z. fate z r) (plan-take x xs e) ∙ off-append (planKey x (keep (With x) all)) (planRows tx all xs) r (planKey-off x r mx mr (with-sym r x (own-not r x k (o .0)))) ∙ rest)
+      ap (λ z. fate z r) (plan-take x xs e) ∙ off-append (planKey x (keep (With x) all)) (planRows tx all xs) r
+      (planKey-off x r mx mr (with-sym r x (own-not r x k (o .0)))) ∙ rest)
       (λ e. ap (λ z. fate z r) (plan-skip x xs e) ∙ rest))
 
   plan-fate : (r : Row) → Mem r all → (xs : List Row) → Within xs → fate (planRows tx all xs) r ≡ verdict (last (Own r) xs) r
@@ -303,7 +310,8 @@ module _ (tx : ℕ) (all : List Row) (d : Pairs Differ all) where
   abort-fate r mr =
       by (isOwn tx r)
       (λ o. ap (λ z. fate z r) (sym (append-nil (removeAll (keep (isOwn tx) all)))) ∙ hit-removeAll [] (mem-keep (isOwn tx) mr o) ∙ (unfold if_then_else_ in rw o))
-      (λ o. off-fate (removeAll (keep (isOwn tx) all)) r (off-removeAll r (keep (isOwn tx) all) (all-map (λ y. (isOwn tx y ≡ true) × Mem y all) (λ y. isRow (number y) r ≡ false)
+      (λ o. off-fate (removeAll (keep (isOwn tx) all)) r
+      (off-removeAll r (keep (isOwn tx) all) (all-map (λ y. (isOwn tx y ≡ true) × Mem y all) (λ y. isRow (number y) r ≡ false)
       (λ y q. row-false (number y) r (λ e. lie (sym o ∙ ap (isOwn tx) (sym (mem-all (λ y. y .1 .number ≡ r .1 .number → y ≡ r) (q .1) (mem-only mr d) (sym e))) ∙ q .0)))
       (keep (isOwn tx) all) (all-keep (λ y. Mem y all) (isOwn tx) all (all-mem _ all (λ y m. m))))) ∙ (unfold if_then_else_ in rw o))
 

@@ -36,7 +36,8 @@ unfolding notAbove
 high-no x r h =
     by (ltb (r .0) (x .0)) (λ k. absurd (omega (arith, h .0, leb-true (suc (r .0)) (x .0) k)))
     (λ k. by (eqb (r .0) (x .0))
-    (λ e. by (leb (r .1 .key) (x .1 .key)) (λ l. absurd (omega (arith, h .1 (omega (arith, eqb-true (r .0) (x .0) e)), leb-true (r .1 .key) (x .1 .key) l))) (λ l. rw (k, e, l)))
+    (λ e. by (leb (r .1 .key) (x .1 .key)) (λ l. absurd
+    (omega (arith, h .1 (omega (arith, eqb-true (r .0) (x .0) e)), leb-true (r .1 .key) (x .1 .key) l))) (λ l. rw (k, e, l)))
     (λ e. rw (k, e)))
 
 put-insert : (x : Row) (low high : List Row) → AllOf (NotAbove (x .0) (x .1 .key)) low → AllOf (Above (x .0) (x .1 .key)) high
@@ -56,5 +57,6 @@ unfolding insertRow howMany if_then_else_
 many-inserted f x [] = refl
 many-inserted f x (r ∷ rs) =
     by (notAbove x r)
-    (λ h. by (f x) (λ k. by (f r) (λ m. rw (h, m, k, many-inserted f x rs, k)) (λ m. rw (h, m, k, many-inserted f x rs, k))) (λ k. by (f r) (λ m. rw (h, m, k, many-inserted f x rs, k)) (λ m. rw (h, m, k, many-inserted f x rs, k))))
+    (λ h. by (f x) (λ k. by (f r) (λ m. rw (h, m, k, many-inserted f x rs, k)) (λ m. rw (h, m, k, many-inserted f x rs, k)))
+    (λ k. by (f r) (λ m. rw (h, m, k, many-inserted f x rs, k)) (λ m. rw (h, m, k, many-inserted f x rs, k))))
     (λ h. rw h)

@@ -40,7 +40,14 @@ opened-more tx os committed h = tt
 opened-more tx os (tentative u s) h = rw (in-append u os, h)
 
 live-open : (tx : ℕ) (os : List ℕ) (rs : List Row) → LiveOk os rs → LiveOk (os ++ tx ∷ []) rs
-live-open tx os rs h = record { chain = h .chain; counted = h .counted; marked = h .marked; heads = h .heads; open′ = all-map _ _ (λ r k. opened-more tx os (r .1 .owner) k) rs (h .open′) }
+live-open tx os rs h = record {
+  chain = h .chain;
+  counted = h .counted;
+  marked = h .marked;
+  heads = h .heads;
+  open′ = all-map _ _
+      (λ r k. opened-more tx os (r .1 .owner) k) rs (h .open′);
+}
 
 open-valid : (tx : ℕ) (s : Store) → Valid s → Valid (openCall tx s .store)
 unfolding openCall gives changed
@@ -49,7 +56,8 @@ open-valid tx s v =
       pages = v .pages;
       still = v .still;
       has = v .has;
-      sees = subst (λ z. LiveOk z (rows (s .pages))) (sym (numbers-append (s .active) (record { transaction = tx; written = 0 }))) (live-open tx (openNumbers (s .active)) (rows (s .pages)) (v .sees));
+      sees = subst (λ z. LiveOk z (rows (s .pages))) (sym (numbers-append (s .active) (record { transaction = tx; written = 0 })))
+          (live-open tx (openNumbers (s .active)) (rows (s .pages)) (v .sees));
       opened = let l = leb-false 64 (length (s .active)) (p .1 .1 .0) in let m = length-append (s .active) (record { transaction = tx; written = 0 } ∷ []) in omega arith;
       nx = v .nx;
       cap = v .cap;
@@ -70,7 +78,8 @@ pub rows-rising : (s : Store) → Valid s → Pairs Before (rows (s .pages))
 rows-rising s v = sub-pairs Before before-alike (rows-sub (s .pages)) (v .has .rising)
 
 -- a new tuple is placed
-module _ (s : Store) (v : Valid s) (tx t k : ℕ) (bs : List ℕ) (m : Bool) (i : isIn tx (openNumbers (s .active)) ≡ true) (count : writtenBy tx (s .active) ≡ howMany (isOwn tx) (rows (s .pages))) (lt : t ≤ 7) (lb : length bs ≤ payloadLimit)
+module _ (s : Store) (v : Valid s) (tx t k : ℕ) (bs : List ℕ) (m : Bool) (i : isIn tx (openNumbers (s .active)) ≡ true)
+    (count : writtenBy tx (s .active) ≡ howMany (isOwn tx) (rows (s .pages))) (lt : t ≤ 7) (lb : length bs ≤ payloadLimit)
     (nf : any (isForeign tx) (versions t k (s .pages)) ≡ false) (room : length (held (s .pages)) < s .capacity) (more : suc (s .next) ≤ mostNumber)
     (first : isEmpty (versions t k (s .pages)) ≡ true → m ≡ false) (plain : (not m || isEmpty bs) ≡ true) where
   x : Tuple
@@ -88,7 +97,8 @@ module _ (s : Store) (v : Valid s) (tx t k : ℕ) (bs : List ℕ) (m : Bool) (i 
   unfolding x newTuple
   written-has a b p h l =
       subst (HeldOk (s .capacity) (suc (s .next))) (sym (p .now))
-      (held-insert t k (s .next) (p .low) (p .high) (p .below) (p .above) (s .capacity) x refl refl lt (subst (λ z. length z < s .capacity) (p .was) l) (subst (HeldOk (s .capacity) (s .next)) (p .was) h))
+      (held-insert t k (s .next) (p .low) (p .high) (p .below) (p .above) (s .capacity) x refl refl lt
+      (subst (λ z. length z < s .capacity) (p .was) l) (subst (HeldOk (s .capacity) (s .next)) (p .was) h))
 
   written-sees : (a : List Row) → Put (t, x) a (rows (s .pages)) → LiveOk (openNumbers (s .active)) a
   unfolding x newTuple versions
@@ -96,8 +106,10 @@ module _ (s : Store) (v : Valid s) (tx t k : ℕ) (bs : List ℕ) (m : Bool) (i 
       let old = p .was in
       let nums = subst (AllOf (λ r. r .1 .number < s .next)) old (rows-known s v) in
       subst (LiveOk (openNumbers (s .active))) (sym (p .now))
-      (live-insert t tx x (p .low) (p .high) (p .below) (p .above) nums (ap (tentative tx) count ∙ ap (λ z. tentative tx (howMany (isOwn tx) z)) old) (openNumbers (s .active)) i x-marked
-      (ap (λ z. any (isForeign tx) (keep (isAt t k) z)) (sym old) ∙ nf) (λ e. first (ap (λ z. isEmpty (keep (isAt t k) z)) old ∙ e)) (subst (LiveOk (openNumbers (s .active))) old (v .sees)))
+      (live-insert t tx x (p .low) (p .high) (p .below) (p .above) nums (ap (tentative tx) count ∙ ap (λ z. tentative tx (howMany (isOwn tx) z)) old)
+      (openNumbers (s .active)) i x-marked
+      (ap (λ z. any (isForeign tx) (keep (isAt t k) z)) (sym old) ∙ nf) (λ e. first (ap (λ z. isEmpty (keep (isAt t k) z)) old ∙ e))
+      (subst (LiveOk (openNumbers (s .active))) old (v .sees)))
 
   pub written-valid : Valid (written tx t k bs m s .store)
   unfolding written gives changed x
@@ -108,7 +120,8 @@ module _ (s : Store) (v : Valid s) (tx t k : ℕ) (bs : List ℕ) (m : Bool) (i 
         still = λ h. images-place t x (s .pages) ∙ v .still h;
         has = written-has _ _ (put .0) (v .has) room;
         sees = subst (λ z. LiveOk z (rows (place t x (s .pages)))) (sym (numbers-write tx (s .active))) (written-sees _ (put .1));
-        opened = subst (λ n. n ≤ openLimit) (sym (numbers-length (s .active)) ∙ ap length (sym (numbers-write tx (s .active))) ∙ numbers-length (withWrite tx (s .active))) (v .opened);
+        opened = subst (λ n. n ≤ openLimit) (sym (numbers-length (s .active)) ∙ ap length (sym (numbers-write tx (s .active)))
+            ∙ numbers-length (withWrite tx (s .active))) (v .opened);
         nx = more;
         cap = v .cap;
       }
@@ -120,7 +133,8 @@ unfolding notOpen noTable tooLong foreign full
 stored-valid tx t k bs s n b v c p =
     let q = p .1 .1 .1 .1 .1 .1 in
     let o = not-false _ (p .1 .0) in
-    written-valid s v tx t k bs false o (c tx o) (omega (arith, leb-false 8 t (p .1 .1 .0))) (omega (arith, leb-false (suc payloadLimit) (length bs) (p .1 .1 .1 .0))) (p .1 .1 .1 .1 .0)
+    written-valid s v tx t k bs false o (c tx o) (omega (arith, leb-false 8 t (p .1 .1 .0)))
+    (omega (arith, leb-false (suc payloadLimit) (length bs) (p .1 .1 .1 .0))) (p .1 .1 .1 .1 .0)
     (leb-false (s .capacity) (length (held (s .pages))) (q .0)) (below-most (s .next) (v .nx) (q .1 .0)) (λ e. refl) refl
 
 insert-valid : (tx t k : ℕ) (bs : List ℕ) (s : Store) → Valid s → Counted s → Valid (insertCall tx t k bs s .store)
@@ -143,7 +157,8 @@ delete-valid tx t k s v c =
     unless-keeps Valid _ s _ v (λ p.
     let q = p .1 .1 .1 .1 .1 in
     written-valid s v tx t k [] true (not-false _ (p .1 .0)) (c tx (not-false _ (p .1 .0))) (omega (arith, leb-false 8 t (p .1 .1 .0))) (omega arith) (p .1 .1 .1 .0)
-    (leb-false (s .capacity) (length (held (s .pages))) (q .0)) (below-most (s .next) (v .nx) (q .1 .0)) (seen-some tx (versions t k (s .pages)) (not-false _ (p .1 .1 .1 .1 .0))) (unfold isEmpty in refl))
+    (leb-false (s .capacity) (length (held (s .pages))) (q .0)) (below-most (s .next) (v .nx) (q .1 .0))
+    (seen-some tx (versions t k (s .pages)) (not-false _ (p .1 .1 .1 .1 .0))) (unfold isEmpty in refl))
 
 -- ---- read, list
 
@@ -263,7 +278,16 @@ directory-valid n es ds s v = record { pages = v .pages; still = λ e. no-idle e
 
 header-valid : (n : ℕ) (es ds : List ℕ) (s : Store) → first isFrozen (s .pages) ≡ none → Valid s → Valid (storeHeader n es ds s .store)
 unfolding storeHeader made stored
-header-valid n es ds s f v = record { pages = v .pages; still = λ e. images-none (s .pages) f; has = v .has; sees = v .sees; opened = v .opened; nx = v .nx; cap = v .cap }
+header-valid n es ds s f v = record {
+  pages = v .pages;
+  still = λ e. images-none
+      (s .pages) f;
+  has = v .has;
+  sees = v .sees;
+  opened = v .opened;
+  nx = v .nx;
+  cap = v .cap;
+}
 
 pub step-valid : (s : Store) → Valid s → Valid (stepAt (s .checkpoint) s .store)
 unfolding stepAt stepOf gives if_then_else_
@@ -273,7 +297,8 @@ step-valid s v = go (s .checkpoint)
     go idle = v
     go (running n es ds) =
         by-option (first isFrozen (s .pages))
-        (λ f. rw (f, stepOf) (by (ltb (length ds) (directoriesFor (length es))) (λ k. rw (k, if_then_else_) (directory-valid n es ds s v)) (λ k. rw (k, if_then_else_) (header-valid n es ds s f v))))
+        (λ f. rw (f, stepOf) (by (ltb (length ds) (directoriesFor (length es))) (λ k. rw (k, if_then_else_) (directory-valid n es ds s v))
+        (λ k. rw (k, if_then_else_) (header-valid n es ds s f v))))
         (λ p f. rw (f, stepOf) (page-valid n es ds p s v))
 
 turn-valid : (k : ℕ) (s : Store) → Valid s → Valid (inTurn k s .store)

@@ -59,7 +59,8 @@ frozen-dirty (p ∷ ps) = rw (frozen-dirty ps)
 pub begin-answers : BeginAnswers
 unfolding beginCall
 begin-answers s h =
-    unless-accepted (λ o. (o .answer ≡ count (howMany isFrozen (o .store .pages) + directoriesFor (length (s .pages)) + 1)) × (left (o .store) ≡ howMany isFrozen (o .store .pages) + directoriesFor (length (s .pages)) + 1))
+    unless-accepted (λ o. (o .answer ≡ count (howMany isFrozen (o .store .pages) + directoriesFor (length (s .pages)) + 1)) × (left
+    (o .store) ≡ howMany isFrozen (o .store .pages) + directoriesFor (length (s .pages)) + 1))
     _ s _ (λ p k. unfold gives stored blocksNeeded left leftOf in
     (rw (frozen-dirty (s .pages)), rw (length-map (s .pages) (λ p. p .block)) (omega arith))) h
 
@@ -104,13 +105,15 @@ step-is : (len : ℕ) (s : Store) → len ≡ 512 * s .blocks → call (steps le
 unfolding call stepCall unless badImage if_then_else_
 step-is len s e = rw (e, eqb-self (512 * s .blocks))
 
-turn-steps : (len k : ℕ) (s : Store) → len ≡ 512 * s .blocks → (inTurn k s .store ≡ afterCalls (times k (steps len)) s) × (inTurn k s .writes ≡ writesOf (times k (steps len)) s)
+turn-steps : (len k : ℕ) (s : Store) → len ≡ 512 * s .blocks
+    → (inTurn k s .store ≡ afterCalls (times k (steps len)) s) × (inTurn k s .writes ≡ writesOf (times k (steps len)) s)
 unfolding inTurn times afterCalls writesOf gives
 turn-steps len zero s e = (refl, refl)
 turn-steps len (suc k) s e =
     let o = stepAt (s .checkpoint) s in
     let r = turn-steps len k (o .store) (e ∙ ap (λ z. 512 * z) (sym (step-size s))) in
-    subst (λ z. (inTurn k (o .store) .store ≡ afterCalls (times k (steps len)) (z .store)) × (o .writes ++ inTurn k (o .store) .writes ≡ z .writes ++ writesOf (times k (steps len)) (z .store)))
+    subst (λ z. (inTurn k (o .store) .store ≡ afterCalls (times k (steps len)) (z .store)) × (o .writes ++ inTurn k
+    (o .store) .writes ≡ z .writes ++ writesOf (times k (steps len)) (z .store)))
     (sym (step-is len s e)) (r .0, ap (λ z. o .writes ++ z) (r .1))
 
 pub run-is-steps : RunIsSteps

@@ -47,7 +47,11 @@ once-open tx os h l o = (distinct-snoc tx os h (o .0), all-append _ os (tx ∷ [
 
 once-others : (tx : ℕ) (os : List ℕ) → Once os → Once (others tx os)
 unfolding others
-once-others tx os o = (distinct-keep _ os (o .0), all-map (λ x. (not (eqb x tx) ≡ true) × (x ≤ 4095)) _ (λ x k. k .1) (keep (λ w. not (eqb w tx)) os) (all-keep (λ x. x ≤ 4095) (λ w. not (eqb w tx)) os (o .1)))
+once-others tx os o = (
+  distinct-keep _ os (o .0),
+  all-map (λ x. (not (eqb x tx) ≡ true) × (x ≤ 4095)) _ (λ x k. k .1) (keep (λ w. not (eqb w tx)) os)
+      (all-keep (λ x. x ≤ 4095) (λ w. not (eqb w tx)) os (o .1)),
+)
 
 listed-same : (s z : Store) → openNumbers (z .active) ≡ openNumbers (s .active) → Listed s → Listed z
 listed-same s z e l = subst Once (sym e) l
@@ -64,7 +68,8 @@ pub keeps-listed : (c : Call) (s : Store) → Listed s → Listed (call c s .sto
 unfolding call openCall insertCall replaceCall deleteCall written commitCall abortCall readCall listCall beginCall stepCall runCall gives changed stored
 keeps-listed (opens tx) s l =
     unless-keeps Listed _ s _ l (λ p.
-    subst Once (sym (numbers-append (s .active) (record { transaction = tx; written = 0 }))) (once-open tx (openNumbers (s .active)) (p .1 .0) (omega (arith, leb-false 4096 tx (p .0))) l))
+    subst Once (sym (numbers-append (s .active) (record { transaction = tx; written = 0 })))
+    (once-open tx (openNumbers (s .active)) (p .1 .0) (omega (arith, leb-false 4096 tx (p .0))) l))
 keeps-listed (inserts tx t k bs) s l = unless-keeps Listed _ s _ l (λ p. subst Once (sym (numbers-write tx (s .active))) l)
 keeps-listed (replaces tx t k bs) s l = unless-keeps Listed _ s _ l (λ p. subst Once (sym (numbers-write tx (s .active))) l)
 keeps-listed (deletes tx t k) s l = unless-keeps Listed _ s _ l (λ p. subst Once (sym (numbers-write tx (s .active))) l)

@@ -20,7 +20,8 @@ in-added : (tx t : ℕ) (ts : List ℕ) → isIn tx (if isIn t ts then ts else t
 unfolding if_then_else_
 in-added tx t ts =
     by (eqb t tx)
-    (λ e. let q = eqb-true t tx e in by (isIn t ts) (λ h. rw (h, e) (ap (λ z. isIn z ts) (sym q) ∙ h)) (λ h. rw (h, e) (in-here tx t ts (ap (λ z. eqb tx z) q ∙ eqb-self tx))))
+    (λ e. let q = eqb-true t tx e in by (isIn t ts) (λ h. rw (h, e) (ap (λ z. isIn z ts) (sym q) ∙ h))
+    (λ h. rw (h, e) (in-here tx t ts (ap (λ z. eqb tx z) q ∙ eqb-self tx))))
     (λ e. by (isIn t ts) (λ h. rw (h, e)) (λ h. rw (h, e) (in-cons tx t ts (eqb-sym t tx e))))
 
 pub in-transactions : (tx : ℕ) (rs : List Row) → isIn tx (transactions rs) ≡ any (isOwn tx) rs
@@ -123,7 +124,8 @@ pub count-write : (tx : ℕ) (os : List Active) → isIn tx (openNumbers os) ≡
 unfolding openNumbers writtenBy withWrite isFor if_then_else_
 count-write tx [] h = lie (unfold isIn any in h)
 count-write tx (o ∷ os) h =
-    by (eqb (o .transaction) tx) (λ k. rw (k, k)) (λ k. rw (k, k) (count-write tx os (sym (in-cons tx (o .transaction) (openNumbers os) (eqb-sym (o .transaction) tx k)) ∙ h)))
+    by (eqb (o .transaction) tx) (λ k. rw (k, k))
+    (λ k. rw (k, k) (count-write tx os (sym (in-cons tx (o .transaction) (openNumbers os) (eqb-sym (o .transaction) tx k)) ∙ h)))
 
 pub count-other : (tx u : ℕ) (os : List Active) → eqb tx u ≡ false → writtenBy u (withWrite tx os) ≡ writtenBy u os
 unfolding writtenBy withWrite isFor if_then_else_

@@ -17,7 +17,7 @@ use Rattle.model.proofs.Lists.{all-append, some-eq}
 unfoldable pub stillFrozen : Page → List Held → Page
 stillFrozen p ts = record { table = p .table; block = p .block; frozen = true; tuples = ts }
 
-module _ (Q : Page → Type 0) (Q-fresh : (t : ℕ) (ts : List Held) → Q (fresh t ts)) 
+module _ (Q : Page → Type 0) (Q-fresh : (t : ℕ) (ts : List Held) → Q (fresh t ts))
     (Q-frozen : (p : Page) (ts : List Held) → p .frozen ≡ true → Q p → Q (stillFrozen p ts)) where
   all-fresh : (t : ℕ) (tss : List (List Held)) → AllOf Q (map (fresh t) tss)
   all-fresh t [] = tt

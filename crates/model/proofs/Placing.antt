@@ -72,14 +72,30 @@ after-put t x (y ∷ ys) zs e s =
     (λ h. let k : y ∷ x ∷ ys ≡ zs = some-eq (rw (n, h) at e) in
     let l = leb-true (y .tuple .key) (x .tuple .key) h in
     subst (λ q. SlotAfter t x (withTable t q) ((t, y) ∷ withTable t ys)) k (record {
-      put = record { low = (t, y) ∷ []; high = withTable t ys; was = refl; now = refl; below = ((omega arith, λ u. l), tt); above = all-table _ _ t (λ z u. (omega arith, λ v. u)) ys (after-none x ys n) };
+      put = record {
+        low = (t, y) ∷ [];
+        high = withTable t ys;
+        was = refl;
+        now = refl;
+        below = ((omega arith, λ u. l), tt);
+        above = all-table _ _ t
+            (λ z u. (omega arith, λ v. u)) ys (after-none x ys n);
+      };
       under = λ z a. (a .0 .0, λ u. let v = a .0 .1 u in omega arith);
     }))
     (λ h. never (rw (n, h) at e)))
     (λ ws n. let k : y ∷ ws ≡ zs = some-eq (rw (n, after) at e) in
     let r = after-put t x ys ws n (s .1) in
     subst (λ q. SlotAfter t x (withTable t q) ((t, y) ∷ withTable t ys)) k (record {
-      put = record { low = (t, y) ∷ r .put .low; high = r .put .high; was = ap (λ q. (t, y) ∷ q) (r .put .was); now = ap (λ q. (t, y) ∷ q) (r .put .now); below = (r .under (t, y) (s .0), r .put .below); above = r .put .above };
+      put = record {
+        low = (t, y) ∷ r .put .low;
+        high = r .put .high;
+        was = ap (λ q. (t, y) ∷ q) (r .put .was);
+        now = ap (λ q. (t, y) ∷ q)
+            (r .put .now);
+        below = (r .under (t, y) (s .0), r .put .below);
+        above = r .put .above;
+      };
       under = λ z a. r .under z (a .1);
     }))
 
@@ -112,7 +128,8 @@ put-first t x b h = record { low = []; high = b; was = refl; now = refl; below =
 
 entries-grown : (p : Page) (ts : List Held) (ps : List Page) → entries (grown p ts ++ ps) ≡ withTable (p .table) ts ++ entries ps
 unfolding entries grown withTuples if_then_else_
-entries-grown p ts ps = by (p .frozen) (λ f. rw f) (λ f. rw (f, entries-append (map (fresh (p .table)) (splitOnce ts)), entries-fresh (p .table) (splitOnce ts), once-together))
+entries-grown p ts ps = by (p .frozen) (λ f. rw f)
+    (λ f. rw (f, entries-append (map (fresh (p .table)) (splitOnce ts)), entries-fresh (p .table) (splitOnce ts), once-together))
 
 shown-full : (ts : List Held) → 0 < length (shown ts) → 0 < length ts
 unfolding shown
@@ -130,7 +147,11 @@ tables-up p ps o s = go (p .tuples) (page-full p o) s
     go : (ts : List Held) → 0 < length ts → Pairs Earlier (withTable (p .table) ts ++ entries ps)
         → AllOf (λ r. p .table ≤ r .0) (withTable (p .table) ts ++ entries ps)
     go [] h s = absurd (omega arith)
-    go (x ∷ xs) h s = unfold withTable in (omega arith, all-map (Earlier (p .table, x)) (λ r. p .table ≤ r .0) (λ r u. u .0) (withTable (p .table) xs ++ entries ps) (s .0))
+    go (x ∷ xs) h s = unfold withTable in (
+      omega arith,
+      all-map (Earlier (p .table, x)) (λ r. p .table ≤ r .0) (λ r u. u .0)
+          (withTable (p .table) xs ++ entries ps) (s .0),
+    )
 
 -- the tuple as it is put: pending add on a frozen page
 abbrev Enters : Tuple → Held → Type 0
@@ -167,7 +188,8 @@ placeAfter-clear t x (p ∷ ps) e =
     by-option (placeAfter t x ps)
     (λ n. by (eqb (p .table) t)
     (λ h. by-option (after (entering p x) (p .tuples))
-    (λ m. all-append _ (withTable (p .table) (p .tuples)) (entries ps) (all-table _ _ (p .table) (λ z u v. u) (p .tuples) (after-none (entering p x) (p .tuples) m)) (placeAfter-clear t x ps n))
+    (λ m. all-append _ (withTable (p .table) (p .tuples)) (entries ps)
+    (all-table _ _ (p .table) (λ z u v. u) (p .tuples) (after-none (entering p x) (p .tuples) m)) (placeAfter-clear t x ps n))
     (λ ts m. never (sym (rw (n, h, m) at e))))
     (λ h. all-append _ (withTable (p .table) (p .tuples)) (entries ps) (off-clear t (x .key) (p .table) (p .tuples) h) (placeAfter-clear t x ps n)))
     (λ qs n. never (sym (rw (n, placeAfter) at e)))
@@ -224,7 +246,8 @@ module _ (t : ℕ) (x : Tuple) where
         r .0,
         r .1,
         record {
-          put = put-front t (r .0) (withTable (p .table) (p .tuples)) (entries ws) (entries ps) (all-under (withTable (p .table) (p .tuples)) (entries ws) (entries ps) (r .0) (r .2) s) (r .2 .put);
+          put = put-front t (r .0) (withTable (p .table) (p .tuples)) (entries ws) (entries ps)
+              (all-under (withTable (p .table) (p .tuples)) (entries ws) (entries ps) (r .0) (r .2) s) (r .2 .put);
           under = λ z a. r .2 .under z (all-parts (Earlier z) (withTable (p .table) (p .tuples)) (entries ps) a .1);
         },
       )
@@ -239,13 +262,22 @@ module _ (t : ℕ) (x : Tuple) where
 
   front-past : (p : Page) (ps qs : List Page) → Placed (entries qs) (entries ps) → p .table < t → Placed (entries (p ∷ qs)) (entries (p ∷ ps))
   unfolding entries
-  front-past p ps qs r h = (r .0, r .1, put-front t (r .0) (withTable (p .table) (p .tuples)) (entries qs) (entries ps) (lower-rows t (r .0 .tuple .key) (p .table) (p .tuples) h) (r .2))
+  front-past p ps qs r h = (
+    r .0,
+    r .1,
+    put-front t (r .0) (withTable (p .table) (p .tuples)) (entries qs) (entries ps)
+        (lower-rows t (r .0 .tuple .key) (p .table) (p .tuples) h) (r .2),
+  )
 
   front-same : (p : Page) (ps : List Page) → p .table ≡ t → AllOf (High t (x .key)) (entries (p ∷ ps))
       → Placed (entries (grown p (entering p x ∷ p .tuples) ++ ps)) (entries (p ∷ ps))
   unfolding entering
-  front-same p ps e a =
-      (entering p x, enters-page p x, subst (λ u. Slot t (entering p x) u (entries (p ∷ ps))) (sym (front-eq p ps ∙ ap (λ u. (u, entering p x) ∷ entries (p ∷ ps)) e)) (put-first t (entering p x) (entries (p ∷ ps)) a))
+  front-same p ps e a = (
+    entering p x,
+    enters-page p x,
+    subst (λ u. Slot t (entering p x) u (entries (p ∷ ps)))
+        (sym (front-eq p ps ∙ ap (λ u. (u, entering p x) ∷ entries (p ∷ ps)) e)) (put-first t (entering p x) (entries (p ∷ ps)) a),
+  )
 
   front-other : (ps : List Page) → AllOf (High t (x .key)) (entries ps) → Placed (entries (fresh t (calm x ∷ []) ∷ ps)) (entries ps)
   unfolding calm
@@ -320,7 +352,8 @@ module _ (t : ℕ) (x : Tuple) (y : Held) (e : Enters x y) (a b : List Entry) (s
     low = live (s .low);
     high = live (s .high);
     was = ap live (s .was) ∙ live-append (s .low) (s .high);
-    now = ap live (s .now) ∙ live-append (s .low) ((t, y) ∷ s .high) ∙ ap (λ z. live (s .low) ++ z) (live-append ((t, y) ∷ []) (s .high) ∙ ap (λ z. z ++ live (s .high)) (e .1 t));
+    now = ap live (s .now) ∙ live-append (s .low) ((t, y) ∷ s .high)
+        ∙ ap (λ z. live (s .low) ++ z) (live-append ((t, y) ∷ []) (s .high) ∙ ap (λ z. z ++ live (s .high)) (e .1 t));
     below = low-live t (x .key) (s .low) below;
     above = high-live t (x .key) (s .high) above;
   }
@@ -330,6 +363,8 @@ pub place-put : (t : ℕ) (x : Tuple) (ps : List Page) → AllOf PageOk ps → P
 place-put t x ps o s =
     let qs = place t x ps in
     let r = place-entries t x ps o (pairs-plain Before (entries ps) (subst (Pairs Before) (held-plain ps) s)) in (
-      subst (Put (t, x) (held qs)) (sym (held-plain ps)) (subst (λ z. Put (t, x) z (plain (entries ps))) (sym (held-plain qs)) (plain-put t x (r .0) (r .1) (entries qs) (entries ps) (r .2))),
-      subst (Put (t, x) (rows qs)) (sym (rows-live ps)) (subst (λ z. Put (t, x) z (live (entries ps))) (sym (rows-live qs)) (live-put t x (r .0) (r .1) (entries qs) (entries ps) (r .2))),
+      subst (Put (t, x) (held qs)) (sym (held-plain ps))
+          (subst (λ z. Put (t, x) z (plain (entries ps))) (sym (held-plain qs)) (plain-put t x (r .0) (r .1) (entries qs) (entries ps) (r .2))),
+      subst (Put (t, x) (rows qs)) (sym (rows-live ps))
+          (subst (λ z. Put (t, x) z (live (entries ps))) (sym (rows-live qs)) (live-put t x (r .0) (r .1) (entries qs) (entries ps) (r .2))),
     )

@@ -49,7 +49,8 @@ sub-fits s h = sub-all _ _ alike-fits s h
 
 -- ---- insert, replace, delete
 
-new-fits : (s : Store) → Valid s → (tx k : ℕ) (bs : List ℕ) (m : Bool) → writtenBy tx (s .active) ≡ howMany (isOwn tx) (rows (s .pages)) → tx ≤ 4095 → k < 4294967296 → length bs ≤ payloadLimit → AllBytes bs
+new-fits : (s : Store) → Valid s → (tx k : ℕ) (bs : List ℕ) (m : Bool) → writtenBy tx (s .active) ≡ howMany (isOwn tx) (rows (s .pages)) → tx ≤ 4095
+    → k < 4294967296 → length bs ≤ payloadLimit → AllBytes bs
     → Fits (newTuple tx k bs m s)
 unfolding newTuple
 new-fits s v tx k bs m told lt lk lb ab = record {
@@ -60,14 +61,16 @@ new-fits s v tx k bs m told lt lk lb ab = record {
   bytes = ab;
 }
 
-written-fits : (s : Store) → Valid s → Fitting s → (tx t k : ℕ) (bs : List ℕ) (m : Bool) → writtenBy tx (s .active) ≡ howMany (isOwn tx) (rows (s .pages)) → ltb 4095 tx ≡ false → k < 4294967296
+written-fits : (s : Store) → Valid s → Fitting s → (tx t k : ℕ) (bs : List ℕ) (m : Bool)
+    → writtenBy tx (s .active) ≡ howMany (isOwn tx) (rows (s .pages)) → ltb 4095 tx ≡ false → k < 4294967296
     → length bs ≤ payloadLimit → AllBytes bs
     → Fitting (written tx t k bs m s .store)
 unfolding written gives changed
 written-fits s v f tx t k bs m told lt lk lb ab =
     let p = place-put t (newTuple tx k bs m s) (s .pages) (v .pages) (v .has .rising) .0 in
     subst (AllOf (λ r. Fits (r .1))) (sym (p .now))
-    (all-insert (λ r. Fits (r .1)) (p .low) _ (p .high) (subst (AllOf (λ r. Fits (r .1))) (p .was) f) (new-fits s v tx k bs m told (omega (arith, leb-false 4096 tx lt)) lk lb ab))
+    (all-insert (λ r. Fits (r .1)) (p .low) _ (p .high) (subst (AllOf (λ r. Fits (r .1))) (p .was) f)
+    (new-fits s v tx k bs m told (omega (arith, leb-false 4096 tx lt)) lk lb ab))
 
 -- ---- commit, abort
 
@@ -98,9 +101,11 @@ pub keeps-fits : (c : Call) (s : Store) → Typed c → Valid s → Counted s �
 unfolding call openCall insertCall replaceCall deleteCall commitCall abortCall readCall readSeen listCall beginCall stepCall runCall notOpen noTable tooLong gives changed stored
 keeps-fits (opens tx) s t v c f = unless-keeps Fitting _ s _ f (λ p. f)
 keeps-fits (inserts tx tb k bs) s t v c f =
-    unless-keeps Fitting _ s _ f (λ p. written-fits s v f tx tb k bs false (c tx (not-false _ (p .1 .0))) (p .0) (t .0) (omega (arith, leb-false (suc payloadLimit) (length bs) (p .1 .1 .1 .0))) (t .1))
+    unless-keeps Fitting _ s _ f (λ p. written-fits s v f tx tb k bs false (c tx (not-false _ (p .1 .0))) (p .0) (t .0)
+    (omega (arith, leb-false (suc payloadLimit) (length bs) (p .1 .1 .1 .0))) (t .1))
 keeps-fits (replaces tx tb k bs) s t v c f =
-    unless-keeps Fitting _ s _ f (λ p. written-fits s v f tx tb k bs false (c tx (not-false _ (p .1 .0))) (p .0) (t .0) (omega (arith, leb-false (suc payloadLimit) (length bs) (p .1 .1 .1 .0))) (t .1))
+    unless-keeps Fitting _ s _ f (λ p. written-fits s v f tx tb k bs false (c tx (not-false _ (p .1 .0))) (p .0) (t .0)
+    (omega (arith, leb-false (suc payloadLimit) (length bs) (p .1 .1 .1 .0))) (t .1))
 keeps-fits (deletes tx tb k) s t v c f = unless-keeps Fitting _ s _ f (λ p. written-fits s v f tx tb k [] true (c tx (not-false _ (p .1 .0))) (p .0) t (omega arith) tt)
 keeps-fits (commits tx) s t v c f = unless-keeps Fitting _ s _ f (λ p. performed-fits s v f _)
 keeps-fits (aborts tx) s t v c f = unless-keeps Fitting _ s _ f (λ p. performed-fits s v f _)

@@ -54,7 +54,19 @@ found n v s e = go (v 0) refl e
         (λ c. by-option (readPages v (h .level) es)
         (λ d. refuses-holds (rw (a, b, c, d) at e))
         (λ ps d. by (rowsOk (h .capacity) (h .next) (rowsOfPages ps))
-        (λ r. record { head = h; entries = es; pages = ps; top = q; head-ok = a; listed = b; entries-ok = c; read = d; rows-ok = r; store = holds-eq (rw (a, b, c, d, r) at e) })
+        (λ r. record {
+          head = h;
+          entries = es;
+          pages = ps;
+          top = q;
+          head-ok = a;
+          listed = b;
+          entries-ok = c;
+          read = d;
+          rows-ok = r;
+          store = holds-eq
+              (rw (a, b, c, d, r) at e);
+        })
         (λ r. refuses-holds (rw (a, b, c, d, r) at e))))
         (λ c. refuses-holds (rw (a, b, c) at e))))
         (λ a. refuses-holds (rw a at e))
@@ -85,7 +97,8 @@ read-blocks v l (e ∷ es) ps h = go (v e) h (read-blocks v l es)
 
 pub found-used : {n : ℕ} {v : View} {s : Store} (f : Found n v s) (b : ℕ) → s .used b ≡ isIn b (f .entries ++ directoryBlocks (f .head))
 unfolding recoveredStore
-found-used {n} {v} f b = ap (λ z. z .used b) (sym (f .store)) ∙ ap (λ es. isIn b (es ++ directoryBlocks (f .head))) (read-blocks v (f .head .level) (f .entries) (f .pages) (f .read))
+found-used {n} {v} f b = ap (λ z. z .used b) (sym (f .store))
+    ∙ ap (λ es. isIn b (es ++ directoryBlocks (f .head))) (read-blocks v (f .head .level) (f .entries) (f .pages) (f .read))
 
 -- ---- a view that agrees on block 0 and the blocks named holds the same
 

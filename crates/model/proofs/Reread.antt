@@ -46,7 +46,8 @@ top-block : (n : ℕ) (img : List ℕ) (ws : List Logged) (w : Logged) → lengt
 unfolding afterStores isHeader
 top-block n img [] w e ok h =
     let z = eqb-true (w .write .at) 0 h in
-    ap (λ v. v 0) (written n img w e (ok .0)) ∙ subst (λ b. put (view img) (w .write .at) (w .write .what) b ≡ w .write .what) z (put-same (view img) (w .write .at) (w .write .what))
+    ap (λ v. v 0) (written n img w e (ok .0))
+    ∙ subst (λ b. put (view img) (w .write .at) (w .write .what) b ≡ w .write .what) z (put-same (view img) (w .write .at) (w .write .what))
 top-block n img (v ∷ ws) w e ok h = top-block n (stored img v) ws w (written-long n img v e (ok .0)) (ok .1) h
 
 -- ---- reading
@@ -64,7 +65,8 @@ same-header : {x : Block} {h k : Header} → x ≡ header h → x ≡ header k �
 same-header e f = cc
 
 -- the blocks named are those of the pages found
-placed : (used : ℕ → Bool) (qs : List StoredPage) (ps : List Page) → AllOf (λ b. 0 < b) (map (λ q. q .block) qs) → Named used (map (λ q. q .block) qs) (map (λ p. p .block) ps) → Placed used qs ps
+placed : (used : ℕ → Bool) (qs : List StoredPage) (ps : List Page) → AllOf (λ b. 0 < b) (map (λ q. q .block) qs)
+    → Named used (map (λ q. q .block) qs) (map (λ p. p .block) ps) → Placed used qs ps
 unfolding isDirty
 placed used [] [] a n = tt
 placed used [] (p ∷ ps) a n = n
@@ -101,7 +103,8 @@ checkpoints img bytes s start calls typed ws w later e h =
       read = reads-found n img′ (k .0) (c .1) (a .least) (a .most) f;
       pages = found-content n (view img′) (k .0) f ∙ k .2 .pages;
       places = placed (afterCalls (w .before) s .used) (f .pages) (afterCalls (w .before) s .pages) (found-positive n (view img′) (k .0) f)
-          (subst (λ z. Named (afterCalls (w .before) s .used) z (map (λ p. p .block) (afterCalls (w .before) s .pages))) (found-blocks n (view img′) (k .0) f) (k .2 .names));
+          (subst (λ z. Named (afterCalls (w .before) s .used) z (map (λ p. p .block) (afterCalls (w .before) s .pages)))
+          (found-blocks n (view img′) (k .0) f) (k .2 .names));
       count = ap (λ z. z .pages) (sym q) ∙ t .pages;
       blocks = ap (λ z. z .blocks) (sym q) ∙ t .blocks;
       capacity = ap (λ z. z .capacity) (sym q) ∙ t .capacity;

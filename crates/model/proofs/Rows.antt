@@ -95,7 +95,8 @@ entries-fresh t (ts ∷ tss) = rw (entries-fresh t tss, table-append t ts (toget
 
 joins-table : (p q : Page) → joins p q ≡ true → p .table ≡ q .table
 unfolding joins
-joins-table p q e = by (p .frozen) (λ h. lie (rw (h, joins) at e)) (λ h. by (q .frozen) (λ k. lie (rw (h, k, joins) at e)) (λ k. eqb-true (p .table) (q .table) (and-true (eqb (p .table) (q .table)) _ (rw (h, k, joins) at e) .0)))
+joins-table p q e = by (p .frozen) (λ h. lie (rw (h, joins) at e))
+    (λ h. by (q .frozen) (λ k. lie (rw (h, k, joins) at e)) (λ k. eqb-true (p .table) (q .table) (and-true (eqb (p .table) (q .table)) _ (rw (h, k, joins) at e) .0)))
 
 entries-joined : (p q : Page) (ps : List Page) → p .table ≡ q .table → entries (joined p q ∷ ps) ≡ entries (p ∷ q ∷ ps)
 unfolding entries joined fresh
@@ -115,7 +116,8 @@ unfolding settleFull listOf if_then_else_
 entries-settleFull rest none p ps r = entries-settleNext rest p ps r
 entries-settleFull rest (some o) p ps r =
     by (joins o p) (λ h. rw h (entries-joined o p ps (joins-table o p h)))
-    (λ h. rw h (entries-append (o ∷ []) (settleNext rest p ps) ∙ ap (λ z. entries (o ∷ []) ++ z) (entries-settleNext rest p ps r) ∙ sym (entries-append (o ∷ []) (p ∷ ps))))
+    (λ h. rw h (entries-append (o ∷ []) (settleNext rest p ps) ∙ ap (λ z. entries (o ∷ []) ++ z) (entries-settleNext rest p ps r)
+    ∙ sym (entries-append (o ∷ []) (p ∷ ps))))
 
 entries-settle : (rest : List Page) (o : Option Page) (p : Page) (ps : List Page) → (0 < length (p .tuples) → entries rest ≡ entries (p ∷ []))
     → entries (settle rest o p ps) ≡ entries (listOf o ++ p ∷ ps)
@@ -191,8 +193,11 @@ live-sub (e ∷ es) = by (isRemoving (e .1 .pending)) (λ h. rw h (skip (live-su
 -- ---- what is done at one page, to all entries
 
 module _ (P : List Entry → List Entry → Type 0) (hit : Page → Bool) (f : Option Page → Page → List Page → List Page)
-    (none-held : P [] []) (past : (p : Page) → hit p ≡ false → (a b : List Entry) → P a b → P (withTable (p .table) (p .tuples) ++ a) (withTable (p .table) (p .tuples) ++ b))
-    (here : (o : Option Page) (p : Page) (ps : List Page) → AllOf (λ q. hit q ≡ false) (listOf o) → hit p ≡ true → AllOf PageOk (p ∷ ps) → P (entries (f o p ps)) (entries (listOf o ++ p ∷ ps))) where
+    (none-held : P [] [])
+    (past : (p : Page) → hit p ≡ false → (a b : List Entry) → P a b
+    → P (withTable (p .table) (p .tuples) ++ a) (withTable (p .table) (p .tuples) ++ b))
+    (here : (o : Option Page) (p : Page) (ps : List Page) → AllOf (λ q. hit q ≡ false) (listOf o) → hit p ≡ true → AllOf PageOk (p ∷ ps)
+    → P (entries (f o p ps)) (entries (listOf o ++ p ∷ ps))) where
   past-list : (qs : List Page) → AllOf (λ q. hit q ≡ false) qs → (a b : List Entry) → P a b → P (entries qs ++ a) (entries qs ++ b)
   unfolding entries
   past-list [] h a b r = r
@@ -220,7 +225,11 @@ abbrev Still : List Entry → List Entry → Type 0
 Still a b = Sub (plain a) (plain b) × (live a ≡ live b)
 
 still-append : (a b c d : List Entry) → Still a b → Still c d → Still (a ++ c) (b ++ d)
-still-append a b c d s t = (rw (plain-append a c, plain-append b d) (sub-append (s .0) (t .0)), live-append a c ∙ ap (λ z. z ++ live c) (s .1) ∙ ap (λ z. live b ++ z) (t .1) ∙ sym (live-append b d))
+still-append a b c d s t = (
+  rw (plain-append a c, plain-append b d) (sub-append (s .0) (t .0)),
+  live-append a c ∙ ap (λ z. z ++ live c) (s .1)
+      ∙ ap (λ z. live b ++ z) (t .1) ∙ sym (live-append b d),
+)
 
 still-refl : (a : List Entry) → Still a a
 still-refl a = (sub-refl (plain a), refl)
@@ -232,7 +241,8 @@ still-mid : (o : Option Page) (p : Page) (ps : List Page) (X : List Entry) → S
     → Still (entries (listOf o) ++ (X ++ entries ps)) (entries (listOf o ++ p ∷ ps))
 unfolding entries
 still-mid o p ps X s = rw (entries-append (listOf o) (p ∷ ps))
-    (still-append (entries (listOf o)) (entries (listOf o)) _ _ (still-refl (entries (listOf o))) (still-append X (withTable (p .table) (p .tuples)) (entries ps) (entries ps) s (still-refl (entries ps))))
+    (still-append (entries (listOf o)) (entries (listOf o)) _ _ (still-refl (entries (listOf o)))
+    (still-append X (withTable (p .table) (p .tuples)) (entries ps) (entries ps) s (still-refl (entries ps))))
 
 still-ripe : (t : ℕ) (ts : List Held) → Still (withTable t (map calm (ripened ts))) (withTable t ts)
 still-ripe t ts =
@@ -250,14 +260,21 @@ still-thawOn b o p ps ok =
     let ts = map calm (ripened (p .tuples)) in
     let q = fresh (p .table) ts in
     by (any (λ x. isPending (x .pending)) (p .tuples))
-    (λ h. rw (h, entries-settle (map (fresh (p .table)) (splitAll ts)) o q ps (entries-parts (p .table) ts (small ts (ripened-calm (p .tuples) (ok .0)))), entries-page o q ps)
+    (λ h. rw (
+      h,
+      entries-settle (map (fresh (p .table)) (splitAll ts)) o q ps
+          (entries-parts (p .table) ts (small ts (ripened-calm (p .tuples) (ok .0)))),
+      entries-page o q ps,
+    )
     (still-mid o p ps (withTable (p .table) ts) (still-ripe (p .table) (p .tuples))))
-    (λ h. rw (h, entries-page o (record { table = p .table; block = b; frozen = false; tuples = p .tuples }) ps) (still-mid o p ps (withTable (p .table) (p .tuples)) (still-refl (withTable (p .table) (p .tuples)))))
+    (λ h. rw (h, entries-page o (record { table = p .table; block = b; frozen = false; tuples = p .tuples }) ps)
+    (still-mid o p ps (withTable (p .table) (p .tuples)) (still-refl (withTable (p .table) (p .tuples)))))
 
 -- a step of the checkpoint changes nothing that a transaction sees
 still-thaw : (b : ℕ) (ps : List Page) → AllOf PageOk ps → Still (entries (thaw b ps)) (entries ps)
 unfolding thaw listOf live entries
-still-thaw b ps a = around-held Still isFrozen (thawOn b) (empty, refl) (λ p h a b s. let c = withTable (p .table) (p .tuples) in still-append c c a b (still-refl c) s) (λ o p ps h k ok. still-thawOn b o p ps (ok .0)) none ps tt a
+still-thaw b ps a = around-held Still isFrozen (thawOn b) (empty, refl)
+    (λ p h a b s. let c = withTable (p .table) (p .tuples) in still-append c c a b (still-refl c) s) (λ o p ps h k ok. still-thawOn b o p ps (ok .0)) none ps tt a
 
 -- ---- removing and committing: the live row of that number is taken away, or committed
 
@@ -317,7 +334,17 @@ module _ (g : Held → List Held) (G : Row → List Row) (E : Edits g G) (n t : 
       (λ h. let off = amend-off G n (withTable t xs ++ rest) (differ-off n (t, x) (withTable t xs ++ rest) h (d .0)) in
       by (isRemoving (x .pending))
       (λ k. rw (h, k, off, table-append t (g x) xs, append-assoc (withTable t (g x)) (withTable t xs) rest, live-append (withTable t (g x)), E .dead t x k))
-      (λ k. rw (h, k, ripe-number n t x, h, off, table-append t (g x) xs, append-assoc (withTable t (g x)) (withTable t xs) rest, live-append (withTable t (g x)), E .alive t x k)))
+      (λ k. rw (
+        h,
+        k,
+        ripe-number n t x,
+        h,
+        off,
+        table-append t (g x) xs,
+        append-assoc (withTable t (g x)) (withTable t xs) rest,
+        live-append (withTable t (g x)),
+        E .alive t x k,
+      )))
       (λ h. let r = edit-live xs rest (rw (h, any) at e) (d .1) in
       by (isRemoving (x .pending)) (λ k. rw (h, k) r) (λ k. rw (h, k, ripe-number n t x, h) (ap (λ z. (t, ripe x) ∷ z) r)))
 
@@ -344,7 +371,8 @@ amends-past : (G : Row → List Row) (n : ℕ) (c a b : List Entry) → AllOf (�
     → Amends G n (c ++ a) (c ++ b)
 amends-past G n c a b h s = (
   rw (plain-append c a, plain-append c b) (sub-append (sub-refl (plain c)) (s .0)),
-  λ d. live-append c a ∙ ap (λ z. live c ++ z) (s .1 (pairs-parts Apart c b d .1)) ∙ ap (λ z. z ++ amend G n (live b)) (sym (amend-off G n c h)) ∙ sym (amend-append G n (live c) (live b)) ∙ ap (amend G n) (sym (live-append c b)),
+  λ d. live-append c a ∙ ap (λ z. live c ++ z) (s .1 (pairs-parts Apart c b d .1)) ∙ ap (λ z. z ++ amend G n (live b)) (sym (amend-off G n c h))
+      ∙ sym (amend-append G n (live c) (live b)) ∙ ap (amend G n) (sym (live-append c b)),
 )
 
 amends-list : (G : Row → List Row) (n : ℕ) (qs : List Page) (a b : List Entry) → AllOf (λ q. hasNumber n q ≡ false) qs → Amends G n a b
@@ -353,7 +381,8 @@ unfolding entries
 amends-list G n [] a b off r = r
 amends-list G n (q ∷ qs) a b off r =
     let c = withTable (q .table) (q .tuples) in
-    rw (append-assoc c (entries qs) a, append-assoc c (entries qs) b) (amends-past G n c (entries qs ++ a) (entries qs ++ b) (hasNumber-off n q (off .0)) (amends-list G n qs a b (off .1) r))
+    rw (append-assoc c (entries qs) a, append-assoc c (entries qs) b)
+    (amends-past G n c (entries qs ++ a) (entries qs ++ b) (hasNumber-off n q (off .0)) (amends-list G n qs a b (off .1) r))
 
 amends-here : (g : Held → List Held) (G : Row → List Row) → Edits g G → (n : ℕ) (o : Option Page) (p : Page) (ps : List Page)
     → AllOf (λ q. hasNumber n q ≡ false) (listOf o) → hasNumber n p ≡ true
@@ -361,7 +390,8 @@ amends-here : (g : Held → List Held) (G : Row → List Row) → Edits g G → 
 unfolding hasNumber
 amends-here g G E n o p ps off h =
     rw (entries-page o p ps) (amends-list G n (listOf o) _ _ off (
-      rw (plain-append (withTable (p .table) (edit g n (p .tuples))), plain-append (withTable (p .table) (p .tuples))) (sub-append (edit-sub g G E n (p .table) (p .tuples)) (sub-refl (plain (entries ps)))),
+      rw (plain-append (withTable (p .table) (edit g n (p .tuples))), plain-append (withTable (p .table) (p .tuples)))
+          (sub-append (edit-sub g G E n (p .table) (p .tuples)) (sub-refl (plain (entries ps)))),
       λ d. edit-live g G E n (p .table) (p .tuples) (entries ps) h d,
     ))
 
@@ -389,8 +419,10 @@ keptLater-edits : Edits keptLater kept-row
 unfolding keptLater kept kept-row withTable live if_then_else_ asCommitted ripe withPending isRemoving isCommitting
 keptLater-edits = record {
   dead = λ t x h. by (isAdding (x .pending)) (λ k. rw (k, h)) (λ k. rw (k, h, h));
-  alive = λ t x h. by (isAdding (x .pending)) (λ k. by (isCommitting (x .pending)) (λ m. rw (k, h, m)) (λ m. rw (k, h, m))) (λ k. by (isCommitting (x .pending)) (λ m. rw (k, h, m)) (λ m. rw (k, h, m)));
-  among = λ t x. by (isAdding (x .pending)) (λ k. rw k (take (refl, refl, refl, refl, settled) empty)) (λ k. by (isRemoving (x .pending)) (λ m. rw (k, m) (take (refl, refl, refl, refl, still) empty)) (λ m. rw (k, m) (take (refl, refl, refl, refl, still) empty)));
+  alive = λ t x h. by (isAdding (x .pending)) (λ k. by (isCommitting (x .pending)) (λ m. rw (k, h, m)) (λ m. rw (k, h, m)))
+      (λ k. by (isCommitting (x .pending)) (λ m. rw (k, h, m)) (λ m. rw (k, h, m)));
+  among = λ t x. by (isAdding (x .pending)) (λ k. rw k (take (refl, refl, refl, refl, settled) empty))
+      (λ k. by (isRemoving (x .pending)) (λ m. rw (k, m) (take (refl, refl, refl, refl, still) empty)) (λ m. rw (k, m) (take (refl, refl, refl, refl, still) empty)));
 }
 
 -- (equations of lists first: `rw` by a field rewrites the whole record)
@@ -418,14 +450,16 @@ amends-removeOn : (n : ℕ) (o : Option Page) (p : Page) (ps : List Page) → Al
     → Amends away n (entries (removeOn n o p ps)) (entries (listOf o ++ p ∷ ps))
 amends-removeOn n o p ps off h =
     by (p .frozen)
-    (λ f. subst (λ z. Amends away n z (entries (listOf o ++ p ∷ ps))) (sym (entries-remove-frozen n o p ps f)) (amends-here goneLater away goneLater-edits n o p ps off h))
+    (λ f. subst (λ z. Amends away n z (entries (listOf o ++ p ∷ ps))) (sym (entries-remove-frozen n o p ps f))
+    (amends-here goneLater away goneLater-edits n o p ps off h))
     (λ f. subst (λ z. Amends away n z (entries (listOf o ++ p ∷ ps))) (sym (entries-remove-free n o p ps f)) (amends-here gone away gone-edits n o p ps off h))
 
 amends-commitOn : (n : ℕ) (o : Option Page) (p : Page) (ps : List Page) → AllOf (λ q. hasNumber n q ≡ false) (listOf o) → hasNumber n p ≡ true
     → Amends kept-row n (entries (commitOn n o p ps)) (entries (listOf o ++ p ∷ ps))
 amends-commitOn n o p ps off h =
     by (p .frozen)
-    (λ f. subst (λ z. Amends kept-row n z (entries (listOf o ++ p ∷ ps))) (sym (entries-commit-frozen n o p ps f)) (amends-here keptLater kept-row keptLater-edits n o p ps off h))
+    (λ f. subst (λ z. Amends kept-row n z (entries (listOf o ++ p ∷ ps))) (sym (entries-commit-frozen n o p ps f))
+    (amends-here keptLater kept-row keptLater-edits n o p ps off h))
     (λ f. subst (λ z. Amends kept-row n z (entries (listOf o ++ p ∷ ps))) (sym (entries-commit-free n o p ps f)) (amends-here kept kept-row kept-edits n o p ps off h))
 
 amends-none : (G : Row → List Row) (n : ℕ) → Amends G n [] []
@@ -434,11 +468,13 @@ amends-none G n = (empty, λ d. refl)
 
 pub amends-remove : (n : ℕ) (ps : List Page) → AllOf PageOk ps → Amends away n (entries (remove n ps)) (entries ps)
 unfolding remove listOf
-amends-remove n ps a = around-held (Amends away n) (hasNumber n) (removeOn n) (amends-none away n) (λ p h a b s. amends-past away n (withTable (p .table) (p .tuples)) a b (hasNumber-off n p h) s) (λ o p ps h k ok. amends-removeOn n o p ps h k) none ps tt a
+amends-remove n ps a = around-held (Amends away n) (hasNumber n) (removeOn n) (amends-none away n)
+    (λ p h a b s. amends-past away n (withTable (p .table) (p .tuples)) a b (hasNumber-off n p h) s) (λ o p ps h k ok. amends-removeOn n o p ps h k) none ps tt a
 
 pub amends-commit : (n : ℕ) (ps : List Page) → AllOf PageOk ps → Amends kept-row n (entries (commit n ps)) (entries ps)
 unfolding commit listOf
-amends-commit n ps a = around-held (Amends kept-row n) (hasNumber n) (commitOn n) (amends-none kept-row n) (λ p h a b s. amends-past kept-row n (withTable (p .table) (p .tuples)) a b (hasNumber-off n p h) s) (λ o p ps h k ok. amends-commitOn n o p ps h k) none ps tt a
+amends-commit n ps a = around-held (Amends kept-row n) (hasNumber n) (commitOn n) (amends-none kept-row n)
+    (λ p h a b s. amends-past kept-row n (withTable (p .table) (p .tuples)) a b (hasNumber-off n p h) s) (λ o p ps h k ok. amends-commitOn n o p ps h k) none ps tt a
 
 -- ---- freezing and thawing change no row
 

@@ -58,7 +58,8 @@ insert-nil x = refl
 
 -- at its key, the new row is the last
 keep-inserted : (x : Row) (rs : List Row) → Pairs Before rs → keep (isAt (x .0) (x .1 .key)) (insertRow x rs) ≡ keep (isAt (x .0) (x .1 .key)) rs ++ x ∷ []
-keep-inserted x [] p = ap (keep (isAt (x .0) (x .1 .key))) (insert-nil x) ∙ keep-cons (isAt (x .0) (x .1 .key)) x [] (at-join (x .0) (x .1 .key) x refl refl) ∙ (unfold keep in refl)
+keep-inserted x [] p = ap (keep (isAt (x .0) (x .1 .key))) (insert-nil x)
+    ∙ keep-cons (isAt (x .0) (x .1 .key)) x [] (at-join (x .0) (x .1 .key) x refl refl) ∙ (unfold keep in refl)
 keep-inserted x (r ∷ rs) p =
     let f = isAt (x .0) (x .1 .key) in
     by (notAbove x r)
@@ -67,7 +68,11 @@ keep-inserted x (r ∷ rs) p =
     (λ k. ap (keep f) (insert-past x r rs h) ∙ keep-cons f r (insertRow x rs) k ∙ ap (λ z. r ∷ z) ih ∙ ap (λ z. z ++ x ∷ []) (sym (keep-cons f r rs k)))
     (λ k. ap (keep f) (insert-past x r rs h) ∙ keep-past f r (insertRow x rs) k ∙ ih ∙ ap (λ z. z ++ x ∷ []) (sym (keep-past f r rs k))))
     (λ h. let a = not-above x r h in
-    let off : AllOf (λ s. f s ≡ false) (r ∷ rs) = (above-off (x .0) (x .1 .key) r a, all-map (Before r) (λ s. f s ≡ false) (λ s b. above-off (x .0) (x .1 .key) s (above-next (x .0) (x .1 .key) r s a b)) rs (p .0)) in
+    let off : AllOf (λ s. f s ≡ false) (r ∷ rs) = (
+      above-off (x .0) (x .1 .key) r a,
+      all-map (Before r) (λ s. f s ≡ false)
+          (λ s b. above-off (x .0) (x .1 .key) s (above-next (x .0) (x .1 .key) r s a b)) rs (p .0),
+    ) in
     let none′ : keep f (r ∷ rs) ≡ [] = keep-none f (r ∷ rs) off in
     ap (keep f) (insert-here x r rs h) ∙ keep-cons f x (r ∷ rs) (at-join (x .0) (x .1 .key) x refl refl) ∙ ap (λ z. x ∷ z) none′ ∙ ap (λ z. z ++ x ∷ []) (sym none′))
 
@@ -137,7 +142,8 @@ last-both f g (x ∷ xs) =
     let ih = last-both f g xs in
     let pick : Bool → Option Row = λ b. if b then some x else none in
     by (g x)
-    (λ h. last-cons (λ r. f r && g r) x xs ∙ ap₂ over ih (ap pick (ap (λ z. f x && z) h ∙ and-yes (f x))) ∙ sym (last-cons f x (keep g xs)) ∙ ap (last f) (sym (keep-cons g x xs h)))
+    (λ h. last-cons (λ r. f r && g r) x xs ∙ ap₂ over ih (ap pick (ap (λ z. f x && z) h ∙ and-yes (f x))) ∙ sym (last-cons f x (keep g xs))
+    ∙ ap (last f) (sym (keep-cons g x xs h)))
     (λ h. last-cons (λ r. f r && g r) x xs ∙ ap₂ over ih (ap pick (ap (λ z. f x && z) h ∙ and-no (f x))) ∙ over-none (last f (keep g xs))
     ∙ ap (last f) (sym (keep-past g x xs h)))
 
@@ -156,7 +162,8 @@ seen-snoc u vs x n o =
     by-option (last (isOwn u) vs) (λ e. rw (a, e, seenOf) b) (λ y e. rw (a, e, seenOf))
 
 -- nor is one that is gone
-seen-keep : (u : ℕ) (g : Row → Bool) (vs : List Row) → AllOf (λ r. g r ≡ false → (isOwn u r ≡ false) × (isTentative (r .1 .owner) ≡ true)) vs → seenOf u (keep g vs) ≡ seenOf u vs
+seen-keep : (u : ℕ) (g : Row → Bool) (vs : List Row) → AllOf (λ r. g r ≡ false → (isOwn u r ≡ false) × (isTentative (r .1 .owner) ≡ true)) vs
+    → seenOf u (keep g vs) ≡ seenOf u vs
 unfolding seenOf
 seen-keep u g vs n =
     let a = last-keep (isOwn u) g vs (all-map _ _ (λ r f h. f h .0) vs n) in
@@ -187,7 +194,8 @@ module _ (s : Store) (v : Valid s) (tx t k : ℕ) (bs : List ℕ) (m : Bool) whe
   sees-others u d t′ k′ =
       by (isAt t′ k′ x)
       (λ h. let e = at-split t′ k′ x h in
-      ap₂ (λ a b. seenOf u (versions a b (written tx t k bs m s .store .pages))) (sym (e .0)) (sym (e .1)) ∙ go ∙ ap₂ (λ a b. seenOf u (versions a b (s .pages))) (e .0) (e .1))
+      ap₂ (λ a b. seenOf u (versions a b (written tx t k bs m s .store .pages))) (sym (e .0)) (sym (e .1)) ∙ go
+      ∙ ap₂ (λ a b. seenOf u (versions a b (s .pages))) (e .0) (e .1))
       (λ h. ap (seenOf u) (off-written t′ k′ h))
     where
       go : seenOf u (versions t k (written tx t k bs m s .store .pages)) ≡ seenOf u (versions t k (s .pages))
@@ -238,7 +246,8 @@ verdict-mark x r u = rw u
 -- the newest own version alone is left
 one-left : {x : Row} {vs : List Row} → Mem x vs → Pairs Differ vs → x .1 .mark ≡ false → gather (verdict (some x)) vs ≡ kept-row x
 one-left {x} (here {rs}) d u =
-    gather-cons (verdict (some x)) x rs ∙ ap₂ (λ a b. a ++ b) (verdict-own x u) (gather-none (verdict (some x)) rs (all-map (Differ x) _ (λ r h. verdict-other x r (λ e. h (sym e))) rs (d .0)))
+    gather-cons (verdict (some x)) x rs ∙ ap₂ (λ a b. a ++ b) (verdict-own x u)
+    (gather-none (verdict (some x)) rs (all-map (Differ x) _ (λ r h. verdict-other x r (λ e. h (sym e))) rs (d .0)))
     ∙ append-nil (kept-row x)
 one-left {x} (there {y} {rs} m) d u =
     gather-cons (verdict (some x)) y rs ∙ ap (λ a. a ++ gather (verdict (some x)) rs) (verdict-other x y (mem-all (Differ y) m (d .0))) ∙ one-left m (d .1) u
@@ -274,7 +283,8 @@ module _ (tx : ℕ) (s z : Store) (v : Valid s) (e : rows (z .pages) ≡ gather 
       let q = at-committed ∙ ap (λ o. gather (verdict o) vs) n in
       by (r .1 .mark)
       (λ h. ap (seenOf u) (q ∙ gather-none (verdict (some r)) vs (all-mem _ vs (λ y i. verdict-mark r y h))) ∙ seen-none u ∙ (rw h))
-      (λ h. ap (seenOf u) (q ∙ one-left (last-mem (isOwn tx) vs r n .0) (unfold versions in pairs-keep Differ (isAt t k) (rows (s .pages)) (rows-differ s v)) h) ∙ seen-kept u r ∙ (rw h))
+      (λ h. ap (seenOf u) (q ∙ one-left (last-mem (isOwn tx) vs r n .0)
+      (unfold versions in pairs-keep Differ (isAt t k) (rows (s .pages)) (rows-differ s v)) h) ∙ seen-kept u r ∙ (rw h))
 
 -- ---- reading
 
@@ -314,7 +324,8 @@ module _ (s : Store) (v : Valid s) (tx t k room : ℕ) (few : ltb 4095 tx ≡ fa
   wrote-reads : (bs : List ℕ) → length bs ≤ room → readCall tx t k room (written tx t k bs false s .store) .answer ≡ filled (length bs) bs
   unfolding written gives changed newTuple if_then_else_
   wrote-reads bs l =
-      reads-some tx t k room (written tx t k bs false s .store) few (still-listed tx tx s (not-false _ o)) tb (t, newTuple tx k bs false s) (sees-own s v tx t k bs false) l
+      reads-some tx t k room (written tx t k bs false s .store) few (still-listed tx tx s (not-false _ o)) tb (t, newTuple tx k bs false s)
+      (sees-own s v tx t k bs false) l
 
   wrote-mark : readCall tx t k room (written tx t k [] true s .store) .answer ≡ refused 14
   unfolding written gives changed if_then_else_
@@ -324,8 +335,11 @@ pub writer-reads : WriterReads
 unfolding insertCall replaceCall notOpen noTable
 writer-reads s w tx t k bs room l =
     let v = sound s w .valid in
-    let P : Outcome → Type 0 = λ o. readCall tx t k room (o .store) .answer ≡ filled (length bs) bs in
-    (unless-accepted P _ s _ (λ p q. wrote-reads s v tx t k room (p .0) (p .1 .0) (p .1 .1 .0) bs l), unless-accepted P _ s _ (λ p q. wrote-reads s v tx t k room (p .0) (p .1 .0) (p .1 .1 .0) bs l))
+    let P : Outcome → Type 0 = λ o. readCall tx t k room (o .store) .answer ≡ filled (length bs) bs in (
+      unless-accepted P _ s _ (λ p q. wrote-reads s v tx t k room (p .0) (p .1 .0) (p .1 .1 .0) bs l),
+      unless-accepted P _ s _
+          (λ p q. wrote-reads s v tx t k room (p .0) (p .1 .0) (p .1 .1 .0) bs l),
+    )
 
 pub writer-misses : WriterMisses
 unfolding deleteCall notOpen noTable
@@ -351,7 +365,8 @@ pub seen-after-commit : SeenAfterCommit
 unfolding commitCall
 seen-after-commit s w tx h u t k =
     let v = sound s w .valid in
-    unless-accepted (λ o. ((r : Row) → last (isOwn tx) (versions t k (s .pages)) ≡ some r → seen u t k (o .store) ≡ remains r) × (last (isOwn tx) (versions t k (s .pages)) ≡ none → seen u t k (o .store) ≡ seen u t k s))
+    unless-accepted (λ o. ((r : Row) → last (isOwn tx) (versions t k (s .pages)) ≡ some r → seen u t k (o .store) ≡ remains r) × (last (isOwn tx)
+    (versions t k (s .pages)) ≡ none → seen u t k (o .store) ≡ seen u t k s))
     _ s _ (λ p q. unfold gives changed in (committed-key tx s _ v (committed-rows tx s v) u t k, committed-other tx s _ v (committed-rows tx s v) u t k)) h
 
 -- ---- all calls that show nothing
@@ -386,7 +401,8 @@ module _ (s : Store) (v : Valid s) (u t k : ℕ) where
   unfolding written gives changed
   unmoved-written tx tb key bs m d = (sees-others s v tx tb key bs m u d t k, still-listed tx u s)
 
-  unmoved-aborted : (tx : ℕ) → eqb tx u ≡ false → Unmoved u t k s (changed s (s .next) (perform (removeAll (keep (isOwn tx) (rows (s .pages)))) (s .pages)) (without tx (s .active)))
+  unmoved-aborted : (tx : ℕ) → eqb tx u ≡ false
+      → Unmoved u t k s (changed s (s .next) (perform (removeAll (keep (isOwn tx) (rows (s .pages)))) (s .pages)) (without tx (s .active)))
   unfolding changed
   unmoved-aborted tx d = (
     aborted-sight tx s v u d t k _ (aborted-rows tx s v),
@@ -398,8 +414,11 @@ module _ (s : Store) (v : Valid s) (u t k : ℕ) where
 
   unmoved : (c : Call) → mayShow u c ≡ false → Unmoved u t k s (call c s .store)
   unfolding mayShow call openCall insertCall replaceCall deleteCall abortCall gives
-  unmoved (opens tx) h = unless-keeps (Unmoved u t k s) _ s _ (refl, λ i. i) (λ p. unfold changed in
-      (seen-rows u t k s _ refl, λ i. ap (isIn u) (numbers-append (s .active) (record { transaction = tx; written = 0 })) ∙ rw (in-append u (openNumbers (s .active)), i)))
+  unmoved (opens tx) h = unless-keeps (Unmoved u t k s) _ s _ (refl, λ i. i) (λ p. unfold changed in (
+    seen-rows u t k s _ refl,
+    λ i. ap (isIn u) (numbers-append (s .active) (record { transaction = tx; written = 0 }))
+        ∙ rw (in-append u (openNumbers (s .active)), i),
+  ))
   unmoved (inserts tx tb key bs) h = unless-keeps (Unmoved u t k s) _ s _ (refl, λ i. i) (λ p. unmoved-written tx tb key bs false h)
   unmoved (replaces tx tb key bs) h = unless-keeps (Unmoved u t k s) _ s _ (refl, λ i. i) (λ p. unmoved-written tx tb key bs false h)
   unmoved (deletes tx tb key) h = unless-keeps (Unmoved u t k s) _ s _ (refl, λ i. i) (λ p. unmoved-written tx tb key [] true h)

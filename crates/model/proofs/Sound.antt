@@ -76,7 +76,8 @@ split-once ts c p l =
     let k = half ts in
     let m = half-between ts (small ts c) big in
     let z = lead-size (sum heldSize ts) 0 ts (omega arith) (omega arith) (small ts c) in
-    let q : sum heldSize (take k ts) + sum heldSize (drop k ts) ≡ sum heldSize ts = sym (sum-append (take k ts) (drop k ts)) ∙ ap (sum heldSize) (take-append-drop k ts) in
+    let q : sum heldSize (take k ts) + sum heldSize (drop k ts) ≡ sum heldSize ts = sym (sum-append (take k ts) (drop k ts))
+    ∙ ap (sum heldSize) (take-append-drop k ts) in
     let lt : length (take k ts) ≡ min k (length ts) = length-take k ts in
     let ld : length (drop k ts) ≡ length ts - k = length-drop k ts in
     rw h ((all-take _ k ts c, omega arith, omega arith), ((all-drop _ k ts c, omega arith, omega arith), tt)))
@@ -87,7 +88,8 @@ after-sum x [] zs e = never e
 after-sum x (y ∷ ys) zs e =
     by-option (after x ys)
     (λ n. by (leb (y .tuple .key) (x .tuple .key))
-    (λ t. let k : y ∷ x ∷ ys ≡ zs = some-eq (rw (n, t) at e) in subst (λ z. (sum heldSize z ≡ heldSize x + (heldSize y + sum heldSize ys)) × (0 < length z)) k (omega arith, omega arith))
+    (λ t. let k : y ∷ x ∷ ys ≡ zs = some-eq (rw (n, t) at e) in subst
+    (λ z. (sum heldSize z ≡ heldSize x + (heldSize y + sum heldSize ys)) × (0 < length z)) k (omega arith, omega arith))
     (λ t. never (rw (n, t) at e)))
     (λ ws n. let k : y ∷ ws ≡ zs = some-eq (rw (n, after) at e) in let r = after-sum x ys ws n in
     subst (λ z. (sum heldSize z ≡ heldSize x + (heldSize y + sum heldSize ys)) × (0 < length z)) k (omega arith, omega arith))
@@ -141,7 +143,8 @@ module _ (t : ℕ) (x : Tuple) (sx : size x ≤ mostSize) where
   grown-front p ps o a =
       let eq = entering-size p x in
       let es : heldSize (entering p x) ≤ mostSize = omega arith in
-      all-grown p (entering p x ∷ p .tuples) ps (es, o .0) (λ h. (rw (entering-adding p x h), o .2 h)) (λ h. let f = o .1 h in (((es, entering-calm p x h), f .0), omega arith, omega arith)) a
+      all-grown p (entering p x ∷ p .tuples) ps (es, o .0) (λ h. (rw (entering-adding p x h), o .2 h))
+      (λ h. let f = o .1 h in (((es, entering-calm p x h), f .0), omega arith, omega arith)) a
 
   all-placeFront : (ps : List Page) → AllOf PageOk ps → AllOf PageOk (placeFront t x ps)
   unfolding placeFront if_then_else_
@@ -245,7 +248,8 @@ removeOn-ok : (n : ℕ) (o : Option Page) (p : Page) (ps : List Page) → AllOf 
 unfolding removeOn if_then_else_ gone sum fresh
 removeOn-ok n o p ps l a =
     by (p .frozen)
-    (λ h. rw h (all-append PageOk (listOf o) _ l (frozen-ok _ _ refl (edit-all Small goneLater n goneLater-small (p .tuples) (a .0 .0)) (shown-goneLater n (p .tuples)) (a .0 .2 h), a .1)))
+    (λ h. rw h (all-append PageOk (listOf o) _ l
+    (frozen-ok _ _ refl (edit-all Small goneLater n goneLater-small (p .tuples) (a .0 .0)) (shown-goneLater n (p .tuples)) (a .0 .2 h), a .1)))
     (λ h.
     let f = a .0 .1 h in
     let c = edit-all Calm gone n (λ x q. tt) (p .tuples) (f .0) in
@@ -262,7 +266,8 @@ commitOn-ok : (n : ℕ) (o : Option Page) (p : Page) (ps : List Page) → AllOf 
 unfolding commitOn if_then_else_ kept sum
 commitOn-ok n o p ps l a =
     by (p .frozen)
-    (λ h. rw h (all-append PageOk (listOf o) _ l (frozen-ok _ _ refl (edit-all Small keptLater n keptLater-small (p .tuples) (a .0 .0)) (shown-keptLater n (p .tuples)) (a .0 .2 h), a .1)))
+    (λ h. rw h (all-append PageOk (listOf o) _ l
+    (frozen-ok _ _ refl (edit-all Small keptLater n keptLater-small (p .tuples) (a .0 .0)) (shown-keptLater n (p .tuples)) (a .0 .2 h), a .1)))
     (λ h.
     let f = a .0 .1 h in
     let c = edit-all Calm kept n kept-calm (p .tuples) (f .0) in

@@ -101,7 +101,14 @@ start-tied v l es ds ps r e =
     (all-map (Read v l es) _ (λ p w. tie p w) ps r)
   where
     tie : (p : StoredPage) → Read v l es p → Tied v l (λ b. isIn b (map (λ p. p .block) ps ++ ds)) (loaded p)
-    tie p w = unfold loaded in λ c. (w .0, w .1 ∙ ap (page (p .table) (w .0)) (sym (bare-calm (p .tuples))), w .2, w .3, rw (in-append (p .block) (map (λ p. p .block) ps), e, w .4))
+    tie p w = unfold loaded in λ c. (
+      w .0,
+      w .1
+          ∙ ap (page (p .table) (w .0)) (sym (bare-calm (p .tuples))),
+      w .2,
+      w .3,
+      rw (in-append (p .block) (map (λ p. p .block) ps), e, w .4),
+    )
 
 start-store : (n : ℕ) (v : View) (s : Store) (f : Found n v s) → Ready (recoveredStore (f .head) (f .pages))
     → Inv n v (recoveredStore (f .head) (f .pages)) (recoveredStore (f .head) (f .pages)) (recoveredStore (f .head) (f .pages))
@@ -118,11 +125,13 @@ start-store n v s f rd =
           pages = refl;
           next = refl;
           names = named-self (recoveredStore h ps .used) (map (λ p. p .block) (recoveredStore h ps .pages));
-          active = λ tx. ap (isIn tx) (numbers-reopened (rowsOfPages ps) (transactions (rowsOfPages ps))) ∙ in-transactions tx (rowsOfPages ps) ∙ ap (any (isOwn tx)) (sym (rd .same ∙ loaded-held ps));
+          active = λ tx. ap (isIn tx) (numbers-reopened (rowsOfPages ps) (transactions (rowsOfPages ps))) ∙ in-transactions tx (rowsOfPages ps)
+              ∙ ap (any (isOwn tx)) (sym (rd .same ∙ loaded-held ps));
         };
         names = λ c u. u;
       };
-      phase = start-tied v (h .level) (f .entries) (directoryBlocks h) ps (pages-read v (h .level) (f .entries) ps (f .read)) (read-blocks v (h .level) (f .entries) ps (f .read));
+      phase = start-tied v (h .level) (f .entries) (directoryBlocks h) ps (pages-read v (h .level) (f .entries) ps (f .read))
+          (read-blocks v (h .level) (f .entries) ps (f .read));
     }
 
 pub start-inv : (n : ℕ) (v : View) (s : Store) → Found n v s → Ready s → Inv n v s s s
@@ -157,14 +166,16 @@ read-books n v h es ps two most lvl g bs ok =
       level = lvl;
       taken = omega (arith, g .blocks);
       within = λ c u. in-all (λ d. (0 < d) × (d < h .blocks)) c (map (λ p. p .block) ps ++ ds) u (all-append _ (map (λ p. p .block) ps) ds eok dok);
-      apart = λ b l. subst (λ z. z ≤ 1) (ap (howMany (eqb b)) (sym (loaded-blocks ps ∙ bs)) ∙ inBlock-many b (map loaded ps)) (many-distinct b es (entries-apart (h .blocks) ds es ok));
+      apart = λ b l. subst (λ z. z ≤ 1) (ap (howMany (eqb b)) (sym (loaded-blocks ps ∙ bs)) ∙ inBlock-many b (map loaded ps))
+          (many-distinct b es (entries-apart (h .blocks) ds es ok));
       phase = booked-loaded _ ps (all-in _ (map (λ p. p .block) ps) (λ b i. rw (in-append b (map (λ p. p .block) ps), i)));
     }
 
 pub start-books : (n : ℕ) (v : View) (s : Store) → 2 ≤ n → n ≤ 4096 → AllSane v → Found n v s → Books s
 start-books n v s two most sane f =
     let h = f .head in
-    subst Books (f .store) (read-books n v h (f .entries) (f .pages) two most (head-range v h sane (f .top) .0) (headed n h (f .head-ok)) (read-blocks v (h .level) (f .entries) (f .pages) (f .read)) (f .entries-ok))
+    subst Books (f .store) (read-books n v h (f .entries) (f .pages) two most (head-range v h sane (f .top) .0) (headed n h (f .head-ok))
+    (read-blocks v (h .level) (f .entries) (f .pages) (f .read)) (f .entries-ok))
 
 -- the transactions of its rows are open, and nothing runs
 pub start-active : (n : ℕ) (v : View) (s : Store) → Found n v s → rows (s .pages) ≡ held (s .pages) → (u : ℕ)
@@ -173,7 +184,8 @@ start-active n v s f e u = subst (λ z. rows (z .pages) ≡ held (z .pages) → 
   where
     loaded-active : rows (recoveredStore (f .head) (f .pages) .pages) ≡ held (recoveredStore (f .head) (f .pages) .pages)
         → isIn u (openNumbers (recoveredStore (f .head) (f .pages) .active)) ≡ any (isOwn u) (rows (recoveredStore (f .head) (f .pages) .pages))
-    loaded-active = unfold recoveredStore in λ e. ap (isIn u) (numbers-reopened (rowsOfPages (f .pages)) (transactions (rowsOfPages (f .pages)))) ∙ in-transactions u (rowsOfPages (f .pages)) ∙ ap (any (isOwn u)) (sym (e ∙ loaded-held (f .pages)))
+    loaded-active = unfold recoveredStore in λ e. ap (isIn u) (numbers-reopened (rowsOfPages (f .pages)) (transactions (rowsOfPages (f .pages))))
+        ∙ in-transactions u (rowsOfPages (f .pages)) ∙ ap (any (isOwn u)) (sym (e ∙ loaded-held (f .pages)))
 
 pub start-idle : (n : ℕ) (v : View) (s : Store) → Found n v s → s .checkpoint ≡ idle
 unfolding recoveredStore

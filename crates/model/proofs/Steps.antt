@@ -104,7 +104,8 @@ page-step n img s b b₀ n₀ es ds p bk r inv run e =
     let ti : AllOf (Tied img′ L pool) (s .pages)
     = all-map _ _ (λ q t. tied-fill img′ L i es q off (tied-put img L (λ c. isIn c es) i x q off t)) (s .pages) (run .tied) in
     wrote (record { at = i; what = x }) refl (omega (arith, fr .low, inv .blocks))
-    (λ small fit. let f = first-all isFrozen (λ p. p .frozen ≡ true → (p .table < 8) × AllFit (shown (p .tuples)) × (sizes (shown (p .tuples)) ≤ recordSpace)) (s .pages) p e fit
+    (λ small fit. let f = first-all isFrozen
+    (λ p. p .frozen ≡ true → (p .table < 8) × AllFit (shown (p .tuples)) × (sizes (shown (p .tuples)) ≤ recordSpace)) (s .pages) p e fit
     (first-passes isFrozen (s .pages) p e) in
     record { table = f .0; level = omega (arith, r .level); tuples = f .1; room = f .2 })
     (λ z. lie (sym (pos-not-zero i (fr .pos)) ∙ z))
@@ -123,7 +124,14 @@ page-step n img s b b₀ n₀ es ds p bk r inv run e =
         bused = λ c h. used-old s i c (run .bused c h);
         names = named-fill (b .used) i es _ (by (b .used i) (λ h. lie (sym (fr .free) ∙ run .bused i h)) (λ h. h)) (run .names);
         tied = all-thaw (Tied img′ L pool) (tied-fresh img′ L pool) (tied-frozen img′ L pool) i p (s .pages) e
-            (λ h c. (L, put-same img i x ∙ ap (page (p .table) L) (shown-calm (p .tuples) h), omega arith, omega arith, filled-in i (p .table, shown (p .tuples)) (images (s .pages)) is ims (run .stored))) ti;
+            (λ h c. (
+              L,
+              put-same img i x ∙ ap (page (p .table) L) (shown-calm (p .tuples) h),
+              omega arith,
+              omega arith,
+              filled-in i
+                  (p .table, shown (p .tuples)) (images (s .pages)) is ims (run .stored),
+            )) ti;
       };
     }))
 
@@ -222,7 +230,8 @@ loaded-blocks (p ∷ ps) = rw (loaded-blocks ps)
 
 module _ (n : ℕ) (img : View) (s b : Store) (n₀ : ℕ) (es ds : List ℕ) (bl : s .blocks ≡ n) (lim : (1 ≤ s .capacity) × (s .capacity ≤ capacityLimit))
     (r : Running n₀ es ds s) (run : Run img s b n₀ es ds)
-    (ims : images (s .pages) ≡ []) (full : directoriesFor (length es) ≤ length ds) (eok : AllOf (λ e. (0 < e) × (e < s .blocks)) es) (dok : AllOf (λ d. (0 < d) × (d < s .blocks)) ds) where
+    (ims : images (s .pages) ≡ []) (full : directoriesFor (length es) ≤ length ds) (eok : AllOf (λ e. (0 < e) × (e < s .blocks)) es)
+    (dok : AllOf (λ d. (0 < d) × (d < s .blocks)) ds) where
   abbrev top : Header
   top = headerFor s (suc (s .level)) n₀ (length es) ds
 
@@ -264,9 +273,11 @@ module _ (n : ℕ) (img : View) (s b : Store) (n₀ : ℕ) (es ds : List ℕ) (b
       let epos = all-map _ _ (λ d h. h .0) es eok in
       let dpos = all-map _ _ (λ d h. h .0) ds dok in
       let t = stored-read ims (run .base .some) (stored-put 0 (header top) (zero-not-in es epos) (run .stored)) in
-      let dr : readDirectories img′ L (length es) ds ≡ some es = dirs-read img′ L es ds (enough all-dirs) (dirs-put img L 0 (header top) es ds (zero-not-in ds dpos) (run .dirs)) in
+      let dr : readDirectories img′ L (length es) ds ≡ some es = dirs-read img′ L es ds (enough all-dirs)
+      (dirs-put img L 0 (header top) es ds (zero-not-in ds dpos) (run .dirs)) in
       let rs : rowsOfPages (t .0) ≡ held (b .pages) = sym (listed-read (t .0)) ∙ ap listed (t .2) ∙ listed-held (b .pages) in
-      let f : Found n img′ (recoveredStore top (t .0)) = made-found img′ (t .0) (put-same img 0 (header top)) (hn .0) dr (t .1) (ap (rowsOk (s .capacity) n₀) rs ∙ rw (run .nxt, ← run .bcap) (run .base .ok)) in
+      let f : Found n img′ (recoveredStore top (t .0)) = made-found img′ (t .0) (put-same img 0 (header top)) (hn .0) dr (t .1)
+      (ap (rowsOk (s .capacity) n₀) rs ∙ rw (run .nxt, ← run .bcap) (run .base .ok)) in
       made-good img′ (t .0) f (hn .0) (t .2) rs (read-blocks img′ L es (t .0) (t .1))
     where
       enough : length ds ≡ directoriesFor (length es) → length es ≤ 336 * length ds
@@ -298,7 +309,8 @@ module _ (n : ℕ) (img : View) (s b : Store) (n₀ : ℕ) (es ds : List ℕ) (b
           pages = loaded-content ps ∙ c;
           next = run .nxt;
           names = subst (λ z. Named (b .used) z (map (λ p. p .block) (b .pages))) (sym (loaded-blocks ps ∙ bs)) (run .names);
-          active = λ tx. ap (isIn tx) (numbers-reopened _ _) ∙ ap (λ z. isIn tx (transactions z)) rs ∙ in-transactions tx (held (b .pages)) ∙ ap (any (isOwn tx)) (sym (run .base .same));
+          active = λ tx. ap (isIn tx) (numbers-reopened _ _) ∙ ap (λ z. isIn tx (transactions z)) rs ∙ in-transactions tx (held (b .pages))
+              ∙ ap (any (isOwn tx)) (sym (run .base .same));
         };
         names = λ c u. ap₂ (λ y z. isIn c (y ++ z)) (sym bs) (sym q) ∙ u;
       }
@@ -366,5 +378,6 @@ header-step n img s b b₀ n₀ es ds bk r inv run e lt =
     (record {
       blocks = inv .blocks;
       good = header-good n img s b n₀ es ds (inv .blocks) (bk .cap) r run ims full eok dok;
-      phase = all-map _ _ (λ q t c. let u = tied-put img L (λ c. isIn c es) 0 x q (zero-not-in es epos) t c in (u .0, u .1, u .2, u .3, rw (in-append (q .block) es, u .4))) (s .pages) (run .tied);
+      phase = all-map _ _ (λ q t c. let u = tied-put img L (λ c. isIn c es) 0 x q
+          (zero-not-in es epos) t c in (u .0, u .1, u .2, u .3, rw (in-append (q .block) es, u .4))) (s .pages) (run .tied);
     })

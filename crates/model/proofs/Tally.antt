@@ -106,23 +106,28 @@ module _ (tx : ℕ) (rs : List Row) (F : Row → List Row)
   one-own u d r m =
       by (isOwn u r)
       (λ h. ap (howMany (isOwn u)) (stays r u (own-owner u r h .0) m (own-owner u r h .1) d))
-      (λ h. many-none (isOwn u) (F r) (all-map (Comes tx r) (λ a. isOwn u a ≡ false) (λ a c. other-own u r a h c) (F r) (comes r m)) ∙ sym (many-none (isOwn u) (r ∷ []) (h, tt)))
+      (λ h. many-none (isOwn u) (F r) (all-map (Comes tx r) (λ a. isOwn u a ≡ false) (λ a c. other-own u r a h c) (F r) (comes r m))
+      ∙ sym (many-none (isOwn u) (r ∷ []) (h, tt)))
 
   closed-own : (u : ℕ) → howMany (isOwn u) (gather F rs) ≡ closed u tx (howMany (isOwn u) rs)
   unfolding closed if_then_else_
   closed-own u =
       by (eqb tx u)
-      (λ e. let q = eqb-true tx u e in rw e (many-none (isOwn u) (gather F rs) (gather-all (λ a. isOwn u a ≡ false) F rs (all-mem _ rs (λ r m. all-map (Comes tx r) (λ a. isOwn u a ≡ false) (λ a c. ap (λ z. isOwn z a) (sym q) ∙ gone-own r a c) (F r) (comes r m))))))
+      (λ e. let q = eqb-true tx u e in rw e (many-none (isOwn u) (gather F rs)
+      (gather-all (λ a. isOwn u a ≡ false) F rs
+      (all-mem _ rs (λ r m. all-map (Comes tx r) (λ a. isOwn u a ≡ false) (λ a c. ap (λ z. isOwn z a) (sym q) ∙ gone-own r a c) (F r) (comes r m))))))
       (λ e. rw e (many-gather (isOwn u) F rs (all-mem _ rs (λ r m. one-own u (eqb-sym tx u e) r m))))
 
 pub committed-rows : (tx : ℕ) (s : Store) → Valid s
     → rows (perform (plan tx (s .pages)) (s .pages)) ≡ gather (afterCommit tx (rows (s .pages))) (rows (s .pages))
 unfolding plan
-committed-rows tx s v = perform-rows (planRows tx (rows (s .pages)) (rows (s .pages))) (s .pages) (v .pages) (v .has .differ) .1 ∙ commit-rows tx (rows (s .pages)) (rows-differ s v)
+committed-rows tx s v = perform-rows (planRows tx (rows (s .pages)) (rows (s .pages))) (s .pages) (v .pages) (v .has .differ) .1
+    ∙ commit-rows tx (rows (s .pages)) (rows-differ s v)
 
 pub aborted-rows : (tx : ℕ) (s : Store) → Valid s
     → rows (perform (removeAll (keep (isOwn tx) (rows (s .pages)))) (s .pages)) ≡ gather (afterAbort tx) (rows (s .pages))
-aborted-rows tx s v = perform-rows (removeAll (keep (isOwn tx) (rows (s .pages)))) (s .pages) (v .pages) (v .has .differ) .1 ∙ abort-rows tx (rows (s .pages)) (rows-differ s v)
+aborted-rows tx s v = perform-rows (removeAll (keep (isOwn tx) (rows (s .pages)))) (s .pages) (v .pages) (v .has .differ) .1
+    ∙ abort-rows tx (rows (s .pages)) (rows-differ s v)
 
 -- ---- the checkpoint leaves the rows
 
@@ -165,11 +170,13 @@ run-rows limit len s v = rows-unless _ s _ (turn-rows (min limit (left s)) s v)
 -- a call that leaves the rows and counts nothing
 quiet-tally : (c : Call) (s : Store) (o : Outcome) → ((u n : ℕ) → noted c u n ≡ n) → rows (o .store .pages) ≡ rows (s .pages) → Tallies c s o
 unfolding tally if_then_else_ own
-quiet-tally c s o e r u = by (accepted (o .answer)) (λ h. rw h (ap (howMany (isOwn u)) r ∙ sym (e u (howMany (isOwn u) (rows (s .pages)))))) (λ h. rw h (ap (howMany (isOwn u)) r))
+quiet-tally c s o e r u = by (accepted (o .answer)) (λ h. rw h (ap (howMany (isOwn u)) r ∙ sym (e u (howMany (isOwn u) (rows (s .pages))))))
+    (λ h. rw h (ap (howMany (isOwn u)) r))
 
 open-tally : (tx : ℕ) (s : Store) → Tallies (opens tx) s (openCall tx s)
 unfolding openCall gives changed noted
-open-tally tx s = unless-tally (opens tx) _ s _ (quiet-tally (opens tx) s (gives done (changed s (s .next) (s .pages) (s .active ++ record { transaction = tx; written = 0 } ∷ []))) (λ u n. refl) refl)
+open-tally tx s = unless-tally (opens tx) _ s _
+    (quiet-tally (opens tx) s (gives done (changed s (s .next) (s .pages) (s .active ++ record { transaction = tx; written = 0 } ∷ []))) (λ u n. refl) refl)
 
 insert-tally : (tx t k : ℕ) (bs : List ℕ) (s : Store) → Valid s → Tallies (inserts tx t k bs) s (insertCall tx t k bs s)
 unfolding insertCall noted
@@ -191,7 +198,8 @@ committed-own tx s v u =
     let d = rows-differ s v in
     ap (howMany (isOwn u)) (committed-rows tx s v) ∙ closed-own tx rs (afterCommit tx rs) (commit-comes tx os rs (v .sees) d) (commit-stays tx os rs (v .sees) d) u
 
-aborted-own : (tx : ℕ) (s : Store) → Valid s → (u : ℕ) → howMany (isOwn u) (rows (perform (removeAll (keep (isOwn tx) (rows (s .pages)))) (s .pages))) ≡ closed u tx (own u s)
+aborted-own : (tx : ℕ) (s : Store) → Valid s → (u : ℕ)
+    → howMany (isOwn u) (rows (perform (removeAll (keep (isOwn tx) (rows (s .pages)))) (s .pages))) ≡ closed u tx (own u s)
 unfolding own
 aborted-own tx s v u =
     let os = openNumbers (s .active) in
@@ -213,7 +221,8 @@ read-tally tx t k r s = unless-tally (reads tx t k r) _ s _ (go (seen tx t k s))
   where
     go : (o : Option Row) → Tallies (reads tx t k r) s (readSeen r o s)
     go none = unfold readSeen in quiet-tally (reads tx t k r) s (gives (refused 14) s) (λ u n. unfold noted in refl) (unfold gives in refl)
-    go (some q) = unfold readSeen in unless-tally (reads tx t k r) _ s _ (quiet-tally (reads tx t k r) s (gives (filled (length (q .1 .payload)) (q .1 .payload)) s) (λ u n. unfold noted in refl) (unfold gives in refl))
+    go (some q) = unfold readSeen in unless-tally (reads tx t k r) _ s _
+        (quiet-tally (reads tx t k r) s (gives (filled (length (q .1 .payload)) (q .1 .payload)) s) (λ u n. unfold noted in refl) (unfold gives in refl))
 
 list-tally : (r : ℕ) (s : Store) → Tallies (lists r) s (listCall r s)
 unfolding listCall gives noted
@@ -261,7 +270,9 @@ counted-open tx s v c =
     by (isIn u (openNumbers (s .active)))
     (λ h. count-append u tx (s .active) h ∙ c u h)
     (λ h. count-new u tx (s .active) h
-    ∙ sym (many-none (isOwn u) (rows (s .pages)) (all-map (λ r. Opened (openNumbers (s .active)) (r .1 .owner)) (λ r. isOwn u r ≡ false) (λ r k. not-own-open u (openNumbers (s .active)) r h k) (rows (s .pages)) (v .sees .open′)))))
+    ∙ sym (many-none (isOwn u) (rows (s .pages))
+    (all-map (λ r. Opened (openNumbers (s .active)) (r .1 .owner)) (λ r. isOwn u r ≡ false)
+    (λ r k. not-own-open u (openNumbers (s .active)) r h k) (rows (s .pages)) (v .sees .open′)))))
 
 more-rows : (s : Store) → Valid s → (u : ℕ) → suc (own u s) ≤ 1048575
 unfolding own
@@ -390,7 +401,8 @@ right-step c s v w r u =
 right-run : (cs : List Call) (s : Store) → Valid s → Counted s → (w : List ℕ) → Right (λ u. own u s) w → Right (λ u. own u (afterCalls cs s)) (hadWritten cs s w)
 unfolding afterCalls hadWritten
 right-run [] s v c₀ w r = r
-right-run (c ∷ cs) s v c₀ w r = right-run cs (call c s .store) (keeps c s v c₀) (keeps-count c s v c₀) (if accepted (call c s .answer) then writers c w else w) (right-step c s v w r)
+right-run (c ∷ cs) s v c₀ w r = right-run cs (call c s .store) (keeps c s v c₀) (keeps-count c s v c₀)
+    (if accepted (call c s .answer) then writers c w else w) (right-step c s v w r)
 
 own-any : (u : ℕ) (s : Store) → any (isOwn u) (rows (s .pages)) ≡ ltb 0 (own u s)
 unfolding own

@@ -44,7 +44,8 @@ follows-split r s h =
 pub before-trans : (a b c : Row) → Before a b → Before b c → Before a c
 before-trans a b c h k = (
   omega (arith, h .0, k .0),
-  λ u. let h′ = h .1 (omega (arith, k .0)) in let k′ = k .1 (omega (arith, h .0)) in (omega (arith, h′ .0, k′ .0), λ v. omega (arith, h′ .1 (omega (arith, k′ .0)), k′ .1 (omega (arith, h′ .0)))),
+  λ u. let h′ = h .1 (omega (arith, k .0)) in let k′ = k .1
+      (omega (arith, h .0)) in (omega (arith, h′ .0, k′ .0), λ v. omega (arith, h′ .1 (omega (arith, k′ .0)), k′ .1 (omega (arith, h′ .0)))),
 )
 
 owner-trans : (o p q : Owner) → ownerAfter o p ≡ true → ownerAfter p q ≡ true → ownerAfter o q ≡ true
@@ -61,8 +62,11 @@ between : (a b c : Row) → Before a b → Before b c → With c a ≡ true → 
 between a b c h k w =
     let e = at-split (c .0) (c .1 .key) a w in
     let h′ = h .1 (omega (arith, k .0, e .0)) in
-    let k′ = k .1 (omega (arith, h .0, e .0)) in
-    (at-join (b .0) (b .1 .key) a (omega (arith, h .0, k .0, e .0)) (omega (arith, h′ .0, k′ .0, e .1)), at-join (c .0) (c .1 .key) b (omega (arith, h .0, k .0, e .0)) (omega (arith, h′ .0, k′ .0, e .1)))
+    let k′ = k .1 (omega (arith, h .0, e .0)) in (
+      at-join (b .0) (b .1 .key) a (omega (arith, h .0, k .0, e .0)) (omega (arith, h′ .0, k′ .0, e .1)),
+      at-join (c .0) (c .1 .key) b
+          (omega (arith, h .0, k .0, e .0)) (omega (arith, h′ .0, k′ .0, e .1)),
+    )
 
 chain-trans : (a b c : Row) → Before a b → Before b c → Chain a b → Chain b c → Chain a c
 chain-trans a b c h k f g w = let m = between a b c h k w in owner-trans (a .1 .owner) (b .1 .owner) (c .1 .owner) (f (m .0)) (g (m .1))
@@ -155,14 +159,16 @@ pairs-paired : (r : Row) (rs : List Row) → Pairs Before (r ∷ rs) → Pairs C
 unfolding paired
 pairs-paired r [] b c f = refl
 pairs-paired r (s ∷ rs) b c f =
-    and-both (follows-join r s (b .0 .0) (c .0 .0) (λ w. head-starts s (keep (With s) rs) (sym (ap startsWell (keep-cons (With s) s rs (at-join (s .0) (s .1 .key) s refl refl))) ∙ f (s .0) (s .1 .key) w)))
+    and-both (follows-join r s (b .0 .0) (c .0 .0)
+    (λ w. head-starts s (keep (With s) rs) (sym (ap startsWell (keep-cons (With s) s rs (at-join (s .0) (s .1 .key) s refl refl))) ∙ f (s .0) (s .1 .key) w)))
     (pairs-paired s rs (b .1) (c .1) (λ t k n. beyond t k n))
   where
     -- a key that is not the one of s: if it is the one of r, then no row behind s has it
     beyond : (t k : ℕ) → isAt t k s ≡ false → startsWell (keep (isAt t k) rs) ≡ true
     beyond t k n =
         by (isAt t k r)
-        (λ e. ap startsWell (keep-none (isAt t k) rs (all-map (Before s) (λ q. isAt t k q ≡ false) (λ q l. passed t k r s q n e (b .0 .0) l) rs (b .1 .0))) ∙ (unfold startsWell in refl))
+        (λ e. ap startsWell (keep-none (isAt t k) rs
+        (all-map (Before s) (λ q. isAt t k q ≡ false) (λ q l. passed t k r s q n e (b .0 .0) l) rs (b .1 .0))) ∙ (unfold startsWell in refl))
         (λ e. sym (ap startsWell (keep-past (isAt t k) s rs n)) ∙ f t k e)
 
 pub order-tests : (rs : List Row) → Pairs Before rs → Pairs Chain rs → ((t k : ℕ) → startsWell (keep (isAt t k) rs) ≡ true)

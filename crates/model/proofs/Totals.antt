@@ -19,11 +19,13 @@ grown-frozen : (p : Page) (ts : List Held) → p .frozen ≡ true → grown p ts
 unfolding grown withTuples stillFrozen if_then_else_
 grown-frozen p ts h = rw h
 
-removeOn-frozen : (n : ℕ) (o : Option Page) (p : Page) (ps : List Page) → p .frozen ≡ true → removeOn n o p ps ≡ listOf o ++ stillFrozen p (edit goneLater n (p .tuples)) ∷ ps
+removeOn-frozen : (n : ℕ) (o : Option Page) (p : Page) (ps : List Page) → p .frozen ≡ true
+    → removeOn n o p ps ≡ listOf o ++ stillFrozen p (edit goneLater n (p .tuples)) ∷ ps
 unfolding removeOn withTuples stillFrozen if_then_else_
 removeOn-frozen n o p ps h = rw h
 
-commitOn-frozen : (n : ℕ) (o : Option Page) (p : Page) (ps : List Page) → p .frozen ≡ true → commitOn n o p ps ≡ listOf o ++ stillFrozen p (edit keptLater n (p .tuples)) ∷ ps
+commitOn-frozen : (n : ℕ) (o : Option Page) (p : Page) (ps : List Page) → p .frozen ≡ true
+    → commitOn n o p ps ≡ listOf o ++ stillFrozen p (edit keptLater n (p .tuples)) ∷ ps
 unfolding commitOn withTuples stillFrozen if_then_else_
 commitOn-frozen n o p ps h = rw h
 
@@ -130,5 +132,6 @@ module _ (w : Page → ℕ) (w-fresh : (t : ℕ) (ts : List Held) → w (fresh t
       on : (o : Option Page) (p : Page) (ps : List Page) → sum w (thawOn b o p ps) ≤ sum w (listOf o) + (w p + sum w ps) + more
       on o p ps = unfold thawOn if_then_else_ sum in
           by (any (λ x. isPending (x .pending)) (p .tuples))
-          (λ h. let hs = map calm (ripened (p .tuples)) in let l = sum-settle (map (fresh (p .table)) (splitAll hs)) o (fresh (p .table) hs) ps (sum-fresh (p .table) (splitAll hs)) in rw h (omega arith))
+          (λ h. let hs = map calm (ripened (p .tuples)) in let l = sum-settle (map (fresh (p .table)) (splitAll hs)) o (fresh (p .table) hs) ps
+          (sum-fresh (p .table) (splitAll hs)) in rw h (omega arith))
           (λ h. let k = c p in let e = sum-append (listOf o) (record { table = p .table; block = b; frozen = false; tuples = p .tuples } ∷ ps) in rw h (omega arith))

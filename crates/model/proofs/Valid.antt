@@ -63,7 +63,11 @@ Counted s = (tx : ℕ) → isIn tx (openNumbers (s .active)) ≡ true → writte
 -- ---- what is held: fewer rows
 
 pub before-alike : (a b c d : Row) → Alike a b → Alike c d → Before b d → Before a c
-before-alike a b c d e f h = (omega (arith, h .0, e .0, f .0), λ u. let v = h .1 (omega (arith, e .0, f .0)) in (omega (arith, v .0, e .1, f .1), λ w. let z = v .1 (omega (arith, e .1, f .1)) in omega (arith, e .2, f .2)))
+before-alike a b c d e f h = (
+  omega (arith, h .0, e .0, f .0),
+  λ u. let v = h .1
+      (omega (arith, e .0, f .0)) in (omega (arith, v .0, e .1, f .1), λ w. let z = v .1 (omega (arith, e .1, f .1)) in omega (arith, e .2, f .2)),
+)
 
 pub held-sub : (cap nx : ℕ) {a b : List Row} → Sub a b → HeldOk cap nx b → HeldOk cap nx a
 held-sub cap nx s h = record {
@@ -82,11 +86,14 @@ module _ (t k nx : ℕ) (low high : List Row) (below : AllOf (NotAbove t k) low)
       let kn = all-parts (λ r. (r .1 .number < nx) × (r .0 ≤ 7)) low high (h .known) in
       record {
         rising = pairs-insert Before low (t, y) high (h .rising)
-            (all-two (NotAbove t k) (λ r. (r .1 .number < nx) × (r .0 ≤ 7)) (λ r. Before r (t, y)) (λ r u v. (u .0, λ w. let z = u .1 w in (omega arith, λ q. omega (arith, v .0)))) low below (kn .0))
+            (all-two (NotAbove t k) (λ r. (r .1 .number < nx) × (r .0 ≤ 7)) (λ r. Before r (t, y))
+            (λ r u v. (u .0, λ w. let z = u .1 w in (omega arith, λ q. omega (arith, v .0)))) low below (kn .0))
             (all-map (Above t k) (Before (t, y)) (λ r u. (u .0, λ w. let z = u .1 w in (omega arith, λ q. absurd (omega arith)))) high above);
         differ = pairs-insert Differ low (t, y) high (h .differ)
-            (all-map _ (λ r. Differ r (t, y)) (λ r v e. absurd (omega (arith, v .0, e))) low (kn .0)) (all-map _ (Differ (t, y)) (λ r v e. absurd (omega (arith, v .0, e))) high (kn .1));
-        known = all-insert (λ r. (r .1 .number < suc nx) × (r .0 ≤ 7)) low (t, y) high (all-map _ _ (λ r v. (omega (arith, v .0), v .1)) (low ++ high) (h .known)) (omega arith, lt);
+            (all-map _ (λ r. Differ r (t, y)) (λ r v e. absurd (omega (arith, v .0, e))) low (kn .0))
+            (all-map _ (Differ (t, y)) (λ r v e. absurd (omega (arith, v .0, e))) high (kn .1));
+        known = all-insert (λ r. (r .1 .number < suc nx) × (r .0 ≤ 7)) low (t, y) high
+            (all-map _ _ (λ r v. (omega (arith, v .0), v .1)) (low ++ high) (h .known)) (omega arith, lt);
         few = rw (length-insert low (t, y) high) room;
       }
 
@@ -122,7 +129,9 @@ module _ (t tx : ℕ) (x : Tuple) (low high : List Row) (below : AllOf (NotAbove
 
   all-earlier : howMany (earlierBy tx (x .number)) (low ++ high) ≡ howMany (isOwn tx) (low ++ high)
   unfolding earlierBy number
-  all-earlier = many-ext _ _ (low ++ high) (all-map (λ r. r .1 .number < x .number) (λ r. (isOwn tx r && ltb (r .1 .number) (x .number)) ≡ isOwn tx r) (λ r h. rw (le-true (suc (r .1 .number)) (x .number) h) (and-yes (isOwn tx r))) (low ++ high) nums)
+  all-earlier = many-ext _ _ (low ++ high)
+      (all-map (λ r. r .1 .number < x .number) (λ r. (isOwn tx r && ltb (r .1 .number) (x .number)) ≡ isOwn tx r)
+      (λ r h. rw (le-true (suc (r .1 .number)) (x .number) h) (and-yes (isOwn tx r))) (low ++ high) nums)
 
   new-counted : (o : Owner) → o ≡ tentative tx (howMany (isOwn tx) (low ++ high)) → statementIs (low ++ (t, x) ∷ high) (x .number) o ≡ true
   unfolding statementIs
@@ -131,17 +140,21 @@ module _ (t tx : ℕ) (x : Tuple) (low high : List Row) (below : AllOf (NotAbove
   keep-new : (t′ k′ : ℕ) → isAt t′ k′ (t, x) ≡ true → keep (isAt t′ k′) (low ++ (t, x) ∷ high) ≡ keep (isAt t′ k′) low ++ (t, x) ∷ []
   keep-new t′ k′ h =
       let s = at-split t′ k′ (t, x) h in
-      let off : AllOf (λ r. isAt t′ k′ r ≡ false) high = all-map (Above t (x .key)) (λ r. isAt t′ k′ r ≡ false) (λ r u. ap₂ (λ a b. isAt a b r) (sym (s .0)) (sym (s .1)) ∙ above-off t (x .key) r u) high above in
-      keep-append (isAt t′ k′) low ((t, x) ∷ high) ∙ ap (λ z. keep (isAt t′ k′) low ++ z) (keep-cons (isAt t′ k′) (t, x) high h ∙ ap (λ z. (t, x) ∷ z) (keep-none (isAt t′ k′) high off))
+      let off : AllOf (λ r. isAt t′ k′ r ≡ false) high = all-map (Above t (x .key)) (λ r. isAt t′ k′ r ≡ false)
+      (λ r u. ap₂ (λ a b. isAt a b r) (sym (s .0)) (sym (s .1)) ∙ above-off t (x .key) r u) high above in
+      keep-append (isAt t′ k′) low ((t, x) ∷ high)
+      ∙ ap (λ z. keep (isAt t′ k′) low ++ z) (keep-cons (isAt t′ k′) (t, x) high h ∙ ap (λ z. (t, x) ∷ z) (keep-none (isAt t′ k′) high off))
 
   keep-old : (t′ k′ : ℕ) → isAt t′ k′ (t, x) ≡ true → keep (isAt t′ k′) (low ++ high) ≡ keep (isAt t′ k′) low
   keep-old t′ k′ h =
       let s = at-split t′ k′ (t, x) h in
-      let off : AllOf (λ r. isAt t′ k′ r ≡ false) high = all-map (Above t (x .key)) (λ r. isAt t′ k′ r ≡ false) (λ r u. ap₂ (λ a b. isAt a b r) (sym (s .0)) (sym (s .1)) ∙ above-off t (x .key) r u) high above in
+      let off : AllOf (λ r. isAt t′ k′ r ≡ false) high = all-map (Above t (x .key)) (λ r. isAt t′ k′ r ≡ false)
+      (λ r u. ap₂ (λ a b. isAt a b r) (sym (s .0)) (sym (s .1)) ∙ above-off t (x .key) r u) high above in
       keep-append (isAt t′ k′) low high ∙ ap (λ z. keep (isAt t′ k′) low ++ z) (keep-none (isAt t′ k′) high off) ∙ append-nil _
 
   keep-off : (t′ k′ : ℕ) → isAt t′ k′ (t, x) ≡ false → keep (isAt t′ k′) (low ++ (t, x) ∷ high) ≡ keep (isAt t′ k′) (low ++ high)
-  keep-off t′ k′ h = keep-append (isAt t′ k′) low ((t, x) ∷ high) ∙ ap (λ z. keep (isAt t′ k′) low ++ z) (keep-past (isAt t′ k′) (t, x) high h) ∙ sym (keep-append (isAt t′ k′) low high)
+  keep-off t′ k′ h = keep-append (isAt t′ k′) low ((t, x) ∷ high) ∙ ap (λ z. keep (isAt t′ k′) low ++ z) (keep-past (isAt t′ k′) (t, x) high h)
+      ∙ sym (keep-append (isAt t′ k′) low high)
 
   new-heads : ((t′ k′ : ℕ) → startsWell (keep (isAt t′ k′) (low ++ high)) ≡ true)
       → (isEmpty (keep (isAt t (x .key)) (low ++ high)) ≡ true → x .mark ≡ false) → (t′ k′ : ℕ)
@@ -149,7 +162,8 @@ module _ (t tx : ℕ) (x : Tuple) (low high : List Row) (below : AllOf (NotAbove
   new-heads hs first t′ k′ =
       by (isAt t′ k′ (t, x))
       (λ h. let s = at-split t′ k′ (t, x) h in
-      subst (λ z. startsWell z ≡ true) (sym (keep-new t′ k′ h)) (starts-snoc (keep (isAt t′ k′) low) (t, x) (subst (λ z. startsWell z ≡ true) (keep-old t′ k′ h) (hs t′ k′))
+      subst (λ z. startsWell z ≡ true) (sym (keep-new t′ k′ h))
+      (starts-snoc (keep (isAt t′ k′) low) (t, x) (subst (λ z. startsWell z ≡ true) (keep-old t′ k′ h) (hs t′ k′))
       (λ e. first (ap₂ (λ a b. isEmpty (keep (isAt a b) (low ++ high))) (s .0) (s .1) ∙ ap isEmpty (keep-old t′ k′ h) ∙ e))))
       (λ h. subst (λ z. startsWell z ≡ true) (sym (keep-off t′ k′ h)) (hs t′ k′))
 
@@ -163,11 +177,15 @@ module _ (t tx : ℕ) (x : Tuple) (low high : List Row) (below : AllOf (NotAbove
       let nat = all-parts (λ r. isAt t (x .key) r ≡ true → isForeign tx r ≡ false) low high (any-keep (isForeign tx) (isAt t (x .key)) (low ++ high) nf) in
       record {
         chain = pairs-insert Chain low (t, x) high (h .chain)
-            (all-map (λ r. isAt t (x .key) r ≡ true → isForeign tx r ≡ false) (λ r. Chain r (t, x)) (λ r f u. subst (λ o. ownerAfter (r .1 .owner) o ≡ true) (sym own) (native-after tx _ (r .1 .owner) (f u))) low (nat .0))
-            (all-map (Above t (x .key)) (Chain (t, x)) (λ r u v. let s = at-split (r .0) (r .1 .key) (t, x) v in let z = u .1 (omega (arith, s .0)) in absurd (omega (arith, s .1))) high above);
+            (all-map (λ r. isAt t (x .key) r ≡ true → isForeign tx r ≡ false) (λ r. Chain r (t, x))
+            (λ r f u. subst (λ o. ownerAfter (r .1 .owner) o ≡ true) (sym own) (native-after tx _ (r .1 .owner) (f u))) low (nat .0))
+            (all-map (Above t (x .key)) (Chain (t, x))
+            (λ r u v. let s = at-split (r .0) (r .1 .key) (t, x) v in let z = u .1 (omega (arith, s .0)) in absurd (omega (arith, s .1))) high above);
         counted = all-insert (λ r. statementIs (low ++ (t, x) ∷ high) (r .1 .number) (r .1 .owner) ≡ true) low (t, x) high
-            (all-two (λ r. r .1 .number < x .number) (λ r. statementIs (low ++ high) (r .1 .number) (r .1 .owner) ≡ true) (λ r. statementIs (low ++ (t, x) ∷ high) (r .1 .number) (r .1 .owner) ≡ true)
-            (λ r n c. same-count (low ++ high) (low ++ (t, x) ∷ high) (r .1 .number) (r .1 .owner) (λ u. many-insert (earlierBy u (r .1 .number)) low (t, x) high (new-late u (r .1 .number) n)) c) (low ++ high) nums (h .counted))
+            (all-two (λ r. r .1 .number < x .number) (λ r. statementIs (low ++ high) (r .1 .number) (r .1 .owner) ≡ true)
+            (λ r. statementIs (low ++ (t, x) ∷ high) (r .1 .number) (r .1 .owner) ≡ true)
+            (λ r n c. same-count (low ++ high) (low ++ (t, x) ∷ high) (r .1 .number) (r .1 .owner)
+            (λ u. many-insert (earlierBy u (r .1 .number)) low (t, x) high (new-late u (r .1 .number) n)) c) (low ++ high) nums (h .counted))
             (new-counted (x .owner) own);
         marked = all-insert _ low (t, x) high (h .marked) m;
         heads = new-heads (h .heads) first;

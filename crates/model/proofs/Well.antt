@@ -101,7 +101,8 @@ fit-fields [] a = tt
 fit-fields (r ∷ rs) a = (a .0, fit-fields rs (a .1))
 
 -- a property of a page's rows
-page-all : (P : Page → Type 0) (R : Row → Type 0) → ((p : Page) → AllOf (λ x. R (p .table, x)) (bare (p .tuples)) → P p) → (ps : List Page) → AllOf R (held ps) → AllOf P ps
+page-all : (P : Page → Type 0) (R : Row → Type 0) → ((p : Page) → AllOf (λ x. R (p .table, x)) (bare (p .tuples)) → P p) → (ps : List Page)
+    → AllOf R (held ps) → AllOf P ps
 unfolding held
 page-all P R f [] a = tt
 page-all P R f (p ∷ ps) a =
@@ -109,7 +110,8 @@ page-all P R f (p ∷ ps) a =
 
 pages-tables : (ps : List Page) → AllOf PageOk ps → AllOf (λ r. r .0 ≤ 7) (held ps) → AllOf (λ p. p .table ≤ 7) ps
 pages-tables ps o a =
-    all-two (λ p. 0 < length (bare (p .tuples)) → p .table ≤ 7) PageOk _ (λ p f k. f (let y = length-map (p .tuples) (λ h. h .tuple) in let l = page-full p k in omega arith)) ps
+    all-two (λ p. 0 < length (bare (p .tuples)) → p .table ≤ 7) PageOk _
+    (λ p f k. f (let y = length-map (p .tuples) (λ h. h .tuple) in let l = page-full p k in omega arith)) ps
     (page-all _ (λ r. r .0 ≤ 7) (λ p b l. some-one (p .table ≤ 7) (λ x. p .table ≤ 7) (bare (p .tuples)) l b (λ x q. q)) ps a) o
 
 rows-table : (t : ℕ) (ts : List Tuple) → t ≤ 7 → AllOf (λ r. r .0 ≤ 7) (rowsOf t ts)
@@ -239,7 +241,8 @@ well s w =
       counts = w .counted;
       pages = all-true pageWell (s .pages)
           (all-two (λ p. (p .table ≤ 7) × (p .frozen ≡ true → isDirty p ≡ true)) PageOk _ (λ p q o. page-true p (q .0) (q .1) o) (s .pages)
-          (all-two (λ p. p .table ≤ 7) (Booked (s .used)) _ (λ p t q. (t, q .0)) (s .pages) (pages-tables (s .pages) (v .pages) (all-map _ _ (λ r k. k .1) (held (s .pages)) (v .has .known))) booked)
+          (all-two (λ p. p .table ≤ 7) (Booked (s .used)) _ (λ p t q. (t, q .0)) (s .pages)
+          (pages-tables (s .pages) (v .pages) (all-map _ _ (λ r k. k .1) (held (s .pages)) (v .has .known))) booked)
           (v .pages));
       clean = all-true _ (s .pages) (all-map _ _ (λ p q. dirtyOr-true (s .used) p (q .1)) (s .pages) booked);
       apart = λ c l. rw (in-block-many c (s .pages)) (b .apart c l);
@@ -321,7 +324,8 @@ module _ (s : Store) (w : WellFormed s) where
       record {
         rising = paired-rising rs (q .0);
         differ = distinct-differ rs (q .1 .0);
-        known = all-two (λ r. ltb (r .1 .number) (s .next) ≡ true) (λ r. r .0 ≤ 7) _ (λ r a b. (leb-true (suc (r .1 .number)) (s .next) a, b)) rs (all-split _ rs (q .1 .1 .0))
+        known = all-two (λ r. ltb (r .1 .number) (s .next) ≡ true) (λ r. r .0 ≤ 7) _ (λ r a b. (leb-true (suc (r .1 .number)) (s .next) a, b)) rs
+            (all-split _ rs (q .1 .1 .0))
             (tables-held (s .pages) (all-map _ _ (λ p q. q .low) (s .pages) tested-pages));
         few = leb-true (length rs) (s .capacity) (q .1 .1 .1 .0);
       }
@@ -361,7 +365,8 @@ module _ (s : Store) (w : WellFormed s) where
   booked : (f : ℕ → Bool) → all (dirtyOr f) (s .pages) ≡ true → AllOf (Booked f) (s .pages)
   unfolding dirtyOr
   booked f h =
-      all-two Page′ (λ p. (isDirty p || f (p .block)) ≡ true) (Booked f) (λ p q k. (λ e. true-frozen p (q .icy e) .0, λ e. or-else (isDirty p) (f (p .block)) k e)) (s .pages)
+      all-two Page′ (λ p. (isDirty p || f (p .block)) ≡ true) (Booked f)
+      (λ p q k. (λ e. true-frozen p (q .icy e) .0, λ e. or-else (isDirty p) (f (p .block)) k e)) (s .pages)
       tested-pages (all-split _ (s .pages) h)
 
   phase : (c : Checkpoint) → CheckpointWell c s → Ledger c s
@@ -385,6 +390,15 @@ module _ (s : Store) (w : WellFormed s) where
     valid = valid;
     counted = w .counts;
     fitting = fitting;
-    books = record { blocks = w .blocks; cap = w .capacity; level = w .level; taken = w .taken; within = w .used; apart = λ c l. rw (← in-block-many c (s .pages)) (w .apart c l); phase = phase (s .checkpoint) (w .checkpoint) };
+    books = record {
+      blocks = w .blocks;
+      cap = w .capacity;
+      level = w .level;
+      taken = w .taken;
+      within = w .used;
+      apart = λ c l. rw
+          (← in-block-many c (s .pages)) (w .apart c l);
+      phase = phase (s .checkpoint) (w .checkpoint);
+    };
     listed = ok-open .1;
   }

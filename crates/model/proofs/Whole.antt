@@ -112,7 +112,8 @@ ready s v e =
     record {
       calm = free-calm (s .pages) free (v .pages);
       some = all-mapped (λ c. isEmpty (c .1) ≡ false) content (s .pages) (all-map PageOk _ page-some (s .pages) (v .pages));
-      ok = rows-tests (s .capacity) (s .next) (openNumbers (s .active)) (held (s .pages)) (v .has) (subst (LiveOk (openNumbers (s .active))) same (v .sees)) (omega (arith, numbers-length (s .active), v .opened));
+      ok = rows-tests (s .capacity) (s .next) (openNumbers (s .active)) (held (s .pages)) (v .has)
+          (subst (LiveOk (openNumbers (s .active))) same (v .sees)) (omega (arith, numbers-length (s .active), v .opened));
       few = few-pages s v;
       most = v .nx;
       same = same;
@@ -227,7 +228,8 @@ abbrev pub Fitting : Store → Type 0
 Fitting s = AllOf (λ r. Fits (r .1)) (held (s .pages))
 
 loaded-valid : (h : Header) (ps : List StoredPage) → h .next ≤ mostNumber → h .capacity ≤ capacityLimit
-    → rowsOk (h .capacity) (h .next) (rowsOfPages ps) ≡ true → AllOf Tested ps → Valid (recoveredStore h ps) × Counted (recoveredStore h ps) × Fitting (recoveredStore h ps)
+    → rowsOk (h .capacity) (h .next) (rowsOfPages ps) ≡ true → AllOf Tested ps → Valid (recoveredStore h ps) × Counted (recoveredStore h ps) × Fitting
+    (recoveredStore h ps)
 unfolding recoveredStore
 loaded-valid h ps nx cap ok t =
     let rs = rowsOfPages ps in
@@ -238,12 +240,20 @@ loaded-valid h ps nx cap ok t =
         pages = pages;
         still = λ q. images-loaded ps;
         has = subst (HeldOk (h .capacity) (h .next)) (sym e) (tested-held (h .capacity) (h .next) rs ok (all-map _ _ (λ r k. k .0) rs r));
-        sees = subst (λ z. LiveOk z (rows (map loaded ps))) (sym (numbers-reopened rs (transactions rs))) (subst (LiveOk (transactions rs)) (sym (rows-free (map loaded ps) (free-loaded ps) pages ∙ e)) (tested-live (h .capacity) (h .next) rs ok));
-        opened = omega (arith, tested-few (h .capacity) (h .next) rs ok, numbers-length (map (reopened rs) (transactions rs)), ap length (numbers-reopened rs (transactions rs)));
+        sees = subst (λ z. LiveOk z (rows (map loaded ps))) (sym (numbers-reopened rs (transactions rs)))
+            (subst (LiveOk (transactions rs)) (sym (rows-free (map loaded ps) (free-loaded ps) pages ∙ e)) (tested-live (h .capacity) (h .next) rs ok));
+        opened = omega (
+          arith,
+          tested-few (h .capacity) (h .next) rs ok,
+          numbers-length (map (reopened rs) (transactions rs)),
+          ap length
+              (numbers-reopened rs (transactions rs)),
+        );
         nx = nx;
         cap = cap;
       },
-      λ tx i. count-reopened rs tx (transactions rs) (ap (isIn tx) (sym (numbers-reopened rs (transactions rs))) ∙ i) ∙ ap (howMany (isOwn tx)) (sym (rows-free (map loaded ps) (free-loaded ps) pages ∙ e)),
+      λ tx i. count-reopened rs tx (transactions rs) (ap (isIn tx) (sym (numbers-reopened rs (transactions rs))) ∙ i)
+          ∙ ap (howMany (isOwn tx)) (sym (rows-free (map loaded ps) (free-loaded ps) pages ∙ e)),
       subst (AllOf (λ r. Fits (r .1))) (sym e) (all-map _ _ (λ r k. k .1) rs r),
     )
 

@@ -91,8 +91,18 @@ storeDirectory n es ds s =
 -- the next number and page count are those at begin
 unfoldable pub headerFor : Store → ℕ → ℕ → ℕ → List ℕ → Header
 headerFor s l n p ds =
-    record { blocks = s .blocks; capacity = s .capacity; level = l; next = n; pages = p; directories = length ds;
-      d0 = getD ds 0 0; d1 = getD ds 1 0; d2 = getD ds 2 0; d3 = getD ds 3 0 }
+    record {
+      blocks = s .blocks;
+      capacity = s .capacity;
+      level = l;
+      next = n;
+      pages = p;
+      directories = length ds;
+      d0 = getD ds 0 0;
+      d1 = getD ds 1 0;
+      d2 = getD ds 2 0;
+      d3 = getD ds 3 0;
+    }
 
 -- blocks that the new header no longer names become free
 unfoldable pub storeHeader : ℕ → List ℕ → List ℕ → Store → Outcome

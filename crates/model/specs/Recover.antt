@@ -55,8 +55,17 @@ reopened rs tx = record { transaction = tx; written = howMany (isOwn tx) rs }
 -- what the header, directory and page blocks hold; the transactions of the tentative tuples are open
 unfoldable pub recoveredStore : Header → List StoredPage → Store
 recoveredStore h ps =
-    record { blocks = h .blocks; capacity = h .capacity; level = h .level; next = h .next; pages = map loaded ps;
-      active = map (reopened (rowsOfPages ps)) (transactions (rowsOfPages ps)); used = λ b. isIn b (map (λ p. p .block) ps ++ directoryBlocks h); taken = 0; checkpoint = idle }
+    record {
+      blocks = h .blocks;
+      capacity = h .capacity;
+      level = h .level;
+      next = h .next;
+      pages = map loaded ps;
+      active = map (reopened (rowsOfPages ps)) (transactions (rowsOfPages ps));
+      used = λ b. isIn b (map (λ p. p .block) ps ++ directoryBlocks h);
+      taken = 0;
+      checkpoint = idle;
+    }
 
 unfoldable pub recoverPages : Header → Stage (List StoredPage) → Stage Store
 recoverPages h (refuses n) = refuses n

@@ -19,7 +19,6 @@ pub data Test : Type 0 where
   _when_ : ℕ → Bool → Test
 
 infix 75 _when_
-
 -- an outcome without a block store
 unfoldable pub gives : Answer → Store → Outcome
 gives a s = record { answer = a; store = s; writes = [] }
