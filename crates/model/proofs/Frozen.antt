@@ -1,16 +1,18 @@
 -- What the running checkpoint will store of the frozen pages, in list order, is not touched by transactions; and each thaw
 -- takes the first of them away.
-use mathlib.Core.Path.{_≡_, refl, _∙_, sym}
-use Prim.Native.Nat.{ℕ}
+use mathlib.Core.Path.{_≡_, refl, subst, sym, _∙_}
+use Prim.Native.Nat.{ℕ, _<_}
+use native.Mathlib.Omega.{arith}
 use mathlib.Core.Bool.{true, false, Bool}
 use mathlib.Core.List.{List, map, [], _∷_, _++_, append-nil, tail}
 use mathlib.Core.Option.{some, Option, none}
 use lib.Dec.{leb, eqb, ltb}
+use lib.ListN.{length}
 use Rattle.basics.specs.Basics.{if_then_else_, isEmpty, any, first}
 use Rattle.basics.proofs.Facts.{by, never, by-option, lie}
 use Rattle.blocks.specs.Tuple.{Tuple}
 use Rattle.model.specs.State.{Held, Page, adding, Pending, nothing, committing, removing}
-use Rattle.model.specs.Rules.{shown, fresh, after, isAdding, grown, withTuples, entering, placeAfter, place, placeFront, joins, settleNext, settle, joined, settleFull, listOf, around, goneLater, edit, withPending, isNumber, kept, keptLater, asCommitted, isRemoving, remove, removeOn, commit, commitOn, hasNumber, thaw, thawOn, isPending, splitAll, calm, ripened, isFrozen}
+use Rattle.model.specs.Rules.{shown, fresh, after, isAdding, grown, withTuples, entering, placeAfter, place, placeFront, joins, settleNext, settle, joined, settleFull, listOf, around, goneLater, edit, withPending, isNumber, kept, keptLater, asCommitted, isRemoving, takenLater, remove, removeOn, commit, commitOn, hasNumber, thaw, thawOn, isPending, splitAll, calm, ripened, isFrozen}
 use Rattle.model.specs.Transactions.{Op, perform, toCommit, toRemove}
 use Rattle.model.proofs.Lists.{some-eq}
 
@@ -144,11 +146,24 @@ shown-keptLater n (x ∷ xs) =
     (λ h. by (isAdding (x .pending)) (λ k. rw (h, k, k)) (λ k. by (isRemoving (x .pending)) (λ m. rw (h, k, m, k)) (λ m. rw (h, k, m))))
     (λ h. by (isAdding (x .pending)) (λ k. rw (h, k, shown-keptLater n xs)) (λ k. rw (h, k, shown-keptLater n xs)))
 
+pub shown-takenLater : (n : ℕ) (ts : List Held) → shown (takenLater n ts) ≡ shown ts
+unfolding takenLater if_then_else_
+shown-takenLater n ts = by (isEmpty (edit goneLater n ts)) (λ h. rw h) (λ h. rw h (shown-goneLater n ts))
+
+-- a page that shows a tuple keeps one
+pub takenLater-is : (n : ℕ) (ts : List Held) → 0 < length (shown ts) → takenLater n ts ≡ edit goneLater n ts
+unfolding takenLater if_then_else_
+takenLater-is n ts h = by (isEmpty (edit goneLater n ts)) (λ k. absurd (shows (edit goneLater n ts) k (subst (λ z. 0 < length z) (sym (shown-goneLater n ts)) h))) (λ k. rw k)
+  where
+    shows : (hs : List Held) → isEmpty hs ≡ true → 0 < length (shown hs) → ⊥
+    shows [] k l = unfold shown in omega arith
+    shows (x ∷ xs) k l = lie (unfold isEmpty in k)
+
 images-removeOn : (n : ℕ) (o : Option Page) (p : Page) (ps : List Page) → images (removeOn n o p ps) ≡ images (listOf o ++ p ∷ ps)
 unfolding removeOn images if_then_else_ withTuples fresh
 images-removeOn n o p ps =
     by (p .frozen)
-    (λ h. rw (h, images-append (listOf o), shown-goneLater, images-append (listOf o)))
+    (λ h. rw (h, images-append (listOf o), shown-takenLater, images-append (listOf o)))
     (λ h. rw (h, images-settle, images-append (listOf o), images-append (listOf o)))
 
 images-commitOn : (n : ℕ) (o : Option Page) (p : Page) (ps : List Page) → images (commitOn n o p ps) ≡ images (listOf o ++ p ∷ ps)

@@ -13,12 +13,12 @@ use Rattle.basics.proofs.Facts.{by, lie, and-true, AllOf}
 use Rattle.blocks.specs.Tuple.{Owner, committed, Tuple}
 use Rattle.rows.specs.Rows.{Row, rowsOf, number}
 use Rattle.model.specs.State.{Held, Page}
-use Rattle.model.specs.Rules.{isRemoving, ripe, ripened, fresh, joins, joined, settle, settleNext, settleFull, listOf, commit, asCommitted, isCommitting, around, calm, splitAll, thawOn, thaw, isPending, isFrozen, kept, isNumber, edit, hasNumber, gone, goneLater, withPending, isAdding, keptLater, remove, removeOn, withTuples, commitOn, freeze}
+use Rattle.model.specs.Rules.{isRemoving, ripe, ripened, fresh, joins, joined, settleNext, settle, settleFull, listOf, commit, asCommitted, isCommitting, around, calm, splitAll, thawOn, thaw, isPending, isFrozen, kept, isNumber, edit, hasNumber, gone, goneLater, withPending, isAdding, keptLater, remove, removeOn, withTuples, commitOn, freeze}
 use Rattle.model.specs.Sight.{rows, held}
 use Rattle.model.specs.Transactions.{isRow}
 use Rattle.model.proofs.Lists.{eqb-true, nothing-left, has-some, here, Pairs, all-map, off-any, pairs-parts}
 use Rattle.model.proofs.Splits.{together, Small, split-all}
-use Rattle.model.proofs.Frozen.{bare}
+use Rattle.model.proofs.Frozen.{bare, takenLater-is}
 use Rattle.model.proofs.Sound.{PageOk, small, ripened-calm}
 
 -- a tuple as it stands on its page, with its table
@@ -426,10 +426,10 @@ keptLater-edits = record {
 }
 
 -- (equations of lists first: `rw` by a field rewrites the whole record)
-entries-remove-frozen : (n : ℕ) (o : Option Page) (p : Page) (ps : List Page) → p .frozen ≡ true
+entries-remove-frozen : (n : ℕ) (o : Option Page) (p : Page) (ps : List Page) → p .frozen ≡ true → PageOk p
     → entries (removeOn n o p ps) ≡ entries (listOf o) ++ (withTable (p .table) (edit goneLater n (p .tuples)) ++ entries ps)
 unfolding removeOn if_then_else_ withTuples
-entries-remove-frozen n o p ps f = rw (f, entries-page o _ ps)
+entries-remove-frozen n o p ps f ok = rw (f, entries-page o _ ps, takenLater-is n (p .tuples) (ok .2 f .1))
 
 entries-remove-free : (n : ℕ) (o : Option Page) (p : Page) (ps : List Page) → p .frozen ≡ false
     → entries (removeOn n o p ps) ≡ entries (listOf o) ++ (withTable (p .table) (edit gone n (p .tuples)) ++ entries ps)
@@ -446,12 +446,11 @@ entries-commit-free : (n : ℕ) (o : Option Page) (p : Page) (ps : List Page) �
 unfolding commitOn if_then_else_ fresh
 entries-commit-free n o p ps f = rw (f, entries-page o _ ps)
 
-amends-removeOn : (n : ℕ) (o : Option Page) (p : Page) (ps : List Page) → AllOf (λ q. hasNumber n q ≡ false) (listOf o) → hasNumber n p ≡ true
+amends-removeOn : (n : ℕ) (o : Option Page) (p : Page) (ps : List Page) → AllOf (λ q. hasNumber n q ≡ false) (listOf o) → hasNumber n p ≡ true → PageOk p
     → Amends away n (entries (removeOn n o p ps)) (entries (listOf o ++ p ∷ ps))
-amends-removeOn n o p ps off h =
+amends-removeOn n o p ps off h ok =
     by (p .frozen)
-    (λ f. subst (λ z. Amends away n z (entries (listOf o ++ p ∷ ps))) (sym (entries-remove-frozen n o p ps f))
-    (amends-here goneLater away goneLater-edits n o p ps off h))
+    (λ f. subst (λ z. Amends away n z (entries (listOf o ++ p ∷ ps))) (sym (entries-remove-frozen n o p ps f ok)) (amends-here goneLater away goneLater-edits n o p ps off h))
     (λ f. subst (λ z. Amends away n z (entries (listOf o ++ p ∷ ps))) (sym (entries-remove-free n o p ps f)) (amends-here gone away gone-edits n o p ps off h))
 
 amends-commitOn : (n : ℕ) (o : Option Page) (p : Page) (ps : List Page) → AllOf (λ q. hasNumber n q ≡ false) (listOf o) → hasNumber n p ≡ true
@@ -468,8 +467,7 @@ amends-none G n = (empty, λ d. refl)
 
 pub amends-remove : (n : ℕ) (ps : List Page) → AllOf PageOk ps → Amends away n (entries (remove n ps)) (entries ps)
 unfolding remove listOf
-amends-remove n ps a = around-held (Amends away n) (hasNumber n) (removeOn n) (amends-none away n)
-    (λ p h a b s. amends-past away n (withTable (p .table) (p .tuples)) a b (hasNumber-off n p h) s) (λ o p ps h k ok. amends-removeOn n o p ps h k) none ps tt a
+amends-remove n ps a = around-held (Amends away n) (hasNumber n) (removeOn n) (amends-none away n) (λ p h a b s. amends-past away n (withTable (p .table) (p .tuples)) a b (hasNumber-off n p h) s) (λ o p ps h k ok. amends-removeOn n o p ps h k (ok .0)) none ps tt a
 
 pub amends-commit : (n : ℕ) (ps : List Page) → AllOf PageOk ps → Amends kept-row n (entries (commit n ps)) (entries ps)
 unfolding commit listOf

@@ -11,11 +11,11 @@ use Rattle.basics.specs.Basics.{sum, if_then_else_, isEmpty, any}
 use Rattle.basics.proofs.Facts.{AllOf, lie, by, never, by-option, and-true}
 use Rattle.blocks.specs.Tuple.{Tuple, size, ownerSize}
 use Rattle.model.specs.State.{Held, nothing, Page, adding, Pending, removing, committing}
-use Rattle.model.specs.Rules.{heldSize, shown, fresh, withTuples, lead, splitOnce, fits, half, after, entering, calm, grown, placeAfter, place, placeFront, joins, joined, settleNext, settle, settleFull, listOf, edit, isNumber, commit, asCommitted, withPending, kept, goneLater, gone, isAdding, keptLater, isRemoving, removeOn, remove, commitOn, around, hasNumber, ripe, isCommitting, ripened, splitAll, isPending, thawOn, thaw, isFrozen}
+use Rattle.model.specs.Rules.{heldSize, shown, fresh, withTuples, lead, splitOnce, fits, half, after, entering, calm, grown, place, placeAfter, placeFront, joins, joined, settle, settleNext, settleFull, listOf, edit, isNumber, commit, asCommitted, withPending, kept, gone, goneLater, isAdding, keptLater, isRemoving, takenLater, removeOn, remove, commitOn, around, hasNumber, ripe, isCommitting, ripened, splitAll, isPending, thawOn, thaw, isFrozen}
 use Rattle.model.specs.Transactions.{Op, perform, toCommit, toRemove}
 use Rattle.model.proofs.Lists.{all-map, leb-true, leb-false, all-take, all-drop, some-eq, all-append, not-true, has-some, all-parts}
 use Rattle.model.proofs.Splits.{mostSize, Small, half-between, after-all, together, split-all}
-use Rattle.model.proofs.Frozen.{after-shown, entering-adding, shown-goneLater, shown-keptLater, bare, shown-calm}
+use Rattle.model.proofs.Frozen.{after-shown, entering-adding, shown-takenLater, shown-keptLater, bare, shown-calm}
 
 -- a tuple of a page that is not frozen: small, nothing pending
 abbrev pub Calm : Held → Type 0
@@ -243,13 +243,16 @@ kept-calm : (x : Held) → Calm x → AllOf Calm (kept x)
 unfolding kept heldSize
 kept-calm x c = let k = committed-size (x .tuple) in ((omega (arith, c .0), c .1), tt)
 
+taken-small : (n : ℕ) (ts : List Held) → AllOf Small ts → AllOf Small (takenLater n ts)
+unfolding takenLater if_then_else_
+taken-small n ts a = by (isEmpty (edit goneLater n ts)) (λ h. rw h a) (λ h. rw h (edit-all Small goneLater n goneLater-small ts a))
+
 removeOn-ok : (n : ℕ) (o : Option Page) (p : Page) (ps : List Page) → AllOf PageOk (listOf o) → AllOf PageOk (p ∷ ps)
     → AllOf PageOk (removeOn n o p ps)
 unfolding removeOn if_then_else_ gone sum fresh
 removeOn-ok n o p ps l a =
     by (p .frozen)
-    (λ h. rw h (all-append PageOk (listOf o) _ l
-    (frozen-ok _ _ refl (edit-all Small goneLater n goneLater-small (p .tuples) (a .0 .0)) (shown-goneLater n (p .tuples)) (a .0 .2 h), a .1)))
+    (λ h. rw h (all-append PageOk (listOf o) _ l (frozen-ok _ _ refl (taken-small n (p .tuples) (a .0 .0)) (shown-takenLater n (p .tuples)) (a .0 .2 h), a .1)))
     (λ h.
     let f = a .0 .1 h in
     let c = edit-all Calm gone n (λ x q. tt) (p .tuples) (f .0) in

@@ -10,7 +10,7 @@ use Rattle.basics.specs.Basics.{if_then_else_, sum, isEmpty, any}
 use Rattle.basics.proofs.Facts.{by, never, by-option}
 use Rattle.blocks.specs.Tuple.{Tuple}
 use Rattle.model.specs.State.{Page, Held}
-use Rattle.model.specs.Rules.{grown, withTuples, remove, removeOn, listOf, edit, gone, goneLater, commit, commitOn, keptLater, kept, fresh, splitOnce, placeAfter, place, after, entering, placeFront, calm, settle, settleNext, joined, joins, settleFull, around, hasNumber, thaw, isFrozen, thawOn, isPending, ripened, splitAll}
+use Rattle.model.specs.Rules.{grown, withTuples, remove, removeOn, listOf, edit, gone, commit, commitOn, keptLater, kept, fresh, splitOnce, placeAfter, place, after, entering, placeFront, calm, settle, settleNext, joined, joins, settleFull, around, hasNumber, thaw, isFrozen, thawOn, isPending, ripened, splitAll, takenLater}
 use Rattle.model.specs.Transactions.{Op, perform, toCommit, toRemove}
 use Rattle.model.proofs.Lists.{some-eq}
 use Rattle.model.proofs.Pages.{stillFrozen}
@@ -20,7 +20,7 @@ unfolding grown withTuples stillFrozen if_then_else_
 grown-frozen p ts h = rw h
 
 removeOn-frozen : (n : ℕ) (o : Option Page) (p : Page) (ps : List Page) → p .frozen ≡ true
-    → removeOn n o p ps ≡ listOf o ++ stillFrozen p (edit goneLater n (p .tuples)) ∷ ps
+    → removeOn n o p ps ≡ listOf o ++ stillFrozen p (takenLater n (p .tuples)) ∷ ps
 unfolding removeOn withTuples stillFrozen if_then_else_
 removeOn-frozen n o p ps h = rw h
 
@@ -104,7 +104,7 @@ module _ (w : Page → ℕ) (w-fresh : (t : ℕ) (ts : List Held) → w (fresh t
   unfolding removeOn if_then_else_ sum
   sum-removeOn n o p ps =
       by (p .frozen)
-      (λ h. let e = w-frozen p (edit goneLater n (p .tuples)) h in let f = sum-append (listOf o) (stillFrozen p (edit goneLater n (p .tuples)) ∷ ps) in
+      (λ h. let e = w-frozen p (takenLater n (p .tuples)) h in let f = sum-append (listOf o) (stillFrozen p (takenLater n (p .tuples)) ∷ ps) in
       subst (λ z. sum w z ≤ sum w (listOf o) + (w p + sum w ps) + 0) (sym (removeOn-frozen n o p ps h)) (omega arith))
       (λ h. let q = fresh (p .table) (edit gone n (p .tuples)) in let f = w-fresh (p .table) (edit gone n (p .tuples)) in
       let l = sum-settle (q ∷ []) o q ps (omega arith) in rw h (omega arith))

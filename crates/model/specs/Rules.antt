@@ -171,6 +171,10 @@ gone h = []
 unfoldable pub goneLater : Held → List Held
 goneLater h = if isAdding (h .pending) then [] else withPending removing h ∷ []
 
+-- the tuples of a frozen page after a removal. (The last one stays: a frozen page has a tuple of its begin, so that it never is a pending add.)
+unfoldable pub takenLater : ℕ → List Held → List Held
+takenLater n hs = let left = edit goneLater n hs in if isEmpty left then hs else left
+
 unfoldable pub kept : Held → List Held
 kept h = record { tuple = asCommitted (h .tuple); pending = h .pending } ∷ []
 
@@ -183,7 +187,7 @@ keptLater h =
 
 unfoldable pub removeOn : ℕ → Option Page → Page → List Page → List Page
 removeOn n prev p ps =
-    if p .frozen then listOf prev ++ withTuples p (edit goneLater n (p .tuples)) ∷ ps
+    if p .frozen then listOf prev ++ withTuples p (takenLater n (p .tuples)) ∷ ps
     else (let q = fresh (p .table) (edit gone n (p .tuples)) in settle (q ∷ []) prev q ps)
 
 -- direct commit never joins
@@ -235,5 +239,5 @@ thaw b ps = around isFrozen (thawOn b) none ps
 
 -- opens all of this module: `unfolding rules`
 unfoldable pub rules : ℕ
-unfolding heldSize fits fresh withTuples lead half splitOnce splitDeep splitAll after grown entering calm placeAfter placeFront place joins joined listOf settleNext settleFull settle around isAdding isRemoving isCommitting isPending withPending asCommitted isNumber hasNumber edit gone goneLater kept keptLater removeOn commitOn remove commit isDirty freeze shown ripe ripened isFrozen thawOn thaw
+unfolding heldSize fits fresh withTuples lead half splitOnce splitDeep splitAll after grown entering calm placeAfter placeFront place joins joined listOf settleNext settleFull settle around isAdding isRemoving isCommitting isPending withPending asCommitted isNumber hasNumber edit gone goneLater takenLater kept keptLater removeOn commitOn remove commit isDirty freeze shown ripe ripened isFrozen thawOn thaw
 rules = 0
