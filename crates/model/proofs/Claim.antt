@@ -20,7 +20,7 @@ use Rattle.model.proofs.Valid.{Valid, Counted}
 use Rattle.model.proofs.Keeps.{keeps, step-valid}
 use Rattle.model.proofs.Whole.{Fitting, starts, ready, few-pages}
 use Rattle.model.proofs.Tally.{keeps-count, counted-step, writers-law}
-use Rattle.model.proofs.Range.{keeps-fits, step-fits, frozen-fit}
+use Rattle.model.proofs.Range.{frozen-small, keeps-fits, step-fits, frozen-fit}
 
 module _ (v : View) (sane : AllSane v) (s : Store) (two : 2 ≤ s .blocks) (most : s .blocks ≤ 4096) (e : recoverView (s .blocks) v ≡ holds s) where
   at-start : Found (s .blocks) v s
@@ -54,7 +54,7 @@ module _ (v : View) (sane : AllSane v) (s : Store) (two : 2 ≤ s .blocks) (most
   claims calls =
       let g = main (s .blocks) s (λ c. Unit {0}) (λ t. Valid t × Counted t × Books t)
       (λ c t o k. (keeps c t (k .0) (k .1), keeps-count c t (k .0) (k .1), keeps-books c t (few-pages t (k .0)) (k .2)))
-      (λ t k. (step-valid t (k .0), counted-step t (k .0) (k .1), step-books t (k .2))) (λ t k. ready t (k .0)) (λ t k. k .2)
+      (λ t k. (step-valid t (k .0), counted-step t (k .0) (k .1), step-books t (k .2))) (λ t k. ready t (k .0)) (λ t k. k .2) (λ t k. frozen-small t (k .0))
       calls [] [] [] v s start-after (all-calls calls) (start-valid .0, start-valid .1, start-books′) start-now in
       (g .safe, g .tops)
 
@@ -80,7 +80,7 @@ module _ (v : View) (sane : AllSane v) (s : Store) (two : 2 ≤ s .blocks) (most
       main (s .blocks) s Typed (λ t. Valid t × Counted t × Books t × Fitting t)
       (λ c t o k. (keeps c t (k .0) (k .1), keeps-count c t (k .0) (k .1), keeps-books c t (few-pages t (k .0)) (k .2), keeps-fits c t o (k .0) (k .1) (k .3)))
       (λ t k. (step-valid t (k .0), counted-step t (k .0) (k .1), step-books t (k .2), step-fits t (k .0) (k .3)))
-      (λ t k. ready t (k .0)) (λ t k. k .2)
+      (λ t k. ready t (k .0)) (λ t k. k .2) (λ t k. frozen-small t (k .0))
       calls [] [] [] v s start-after (typed-calls calls a) (start-valid .0, start-valid .1, start-books′, start-valid .2) start-now .ranged most
       (λ t k. frozen-fit t (k .0) (k .3))
 

@@ -26,7 +26,7 @@ use Rattle.model.proofs.Quiet.{quiet, Quiet, unless-out, isPlain}
 use Rattle.model.proofs.Books.{idle-of, Books, Ledger}
 use Rattle.model.proofs.Recovery.{recovers}
 use Rattle.model.proofs.Inv.{Tied, tied-fresh, tied-frozen, Phase, Inv, Ready, Like, Good}
-use Rattle.model.proofs.Steps.{still, Stepped, directory-step, header-step, page-step, Top, FrozenFit, wrote}
+use Rattle.model.proofs.Steps.{still, FrozenSmall, Stepped, directory-step, header-step, page-step, Top, FrozenFit, wrote}
 use Rattle.model.proofs.Begin.{begin-inv}
 
 -- ---- calls that make no store and touch no checkpoint
@@ -84,9 +84,9 @@ begin-out n img s b b₀ rd inv =
     (λ k. by (ltb (freeCount s) (blocksNeeded (s .pages))) (λ m. rw (h, k, m) (refl, inv))
     (λ m. let i = idle-of (s .checkpoint) h in rw (h, k, m) (refl, begin-inv n img s b b₀ inv i (rd i)))))
 
-step-inv : (n : ℕ) (img : View) (s b b₀ : Store) → Books s → Inv n img s b b₀ → Stepped n img s b b₀ (stepAt (s .checkpoint) s)
+step-inv : (n : ℕ) (img : View) (s b b₀ : Store) → Books s → FrozenSmall s → Inv n img s b b₀ → Stepped n img s b b₀ (stepAt (s .checkpoint) s)
 unfolding stepAt gives if_then_else_ stepOf
-step-inv n img s b b₀ bk inv = go (s .checkpoint) (bk .phase) (inv .phase)
+step-inv n img s b b₀ bk sm inv = go (s .checkpoint) (bk .phase) (inv .phase)
   where
     go : (c : Checkpoint) → Ledger c s → Phase img s b c → Stepped n img s b b₀ (stepAt c s)
     go idle l ph = still refl inv
@@ -95,7 +95,7 @@ step-inv n img s b b₀ bk inv = go (s .checkpoint) (bk .phase) (inv .phase)
         (λ e. rw (e, stepOf) (by (ltb (length ds) (directoriesFor (length es)))
         (λ k. rw (k, if_then_else_) (directory-step n img s b b₀ n₀ es ds bk l inv r e k))
         (λ k. rw (k, if_then_else_) (header-step n img s b b₀ n₀ es ds bk l inv r e k))))
-        (λ p e. rw (e, stepOf) (page-step n img s b b₀ n₀ es ds p bk l inv r e))
+        (λ p e. rw (e, stepOf) (page-step n img s b b₀ n₀ es ds p bk l inv r sm e))
 
 -- ---- the stores of a list of calls: every cut recovers, and every block written is in range
 
@@ -113,7 +113,8 @@ after-snoc (d ∷ pre) c s = after-snoc pre c (call d s .store)
 -- n: the blocks; s₀: the store at the start; Okay: the calls allowed
 module _ (n : ℕ) (s₀ : Store) (Okay : Call → Type 0) (Valid : Store → Type 0)
     (keeps : (c : Call) (s : Store) → Okay c → Valid s → Valid (call c s .store)) (steps-keep : (s : Store) → Valid s → Valid (stepAt (s .checkpoint) s .store))
-    (ready : (s : Store) → Valid s → s .checkpoint ≡ idle → Ready s) (books : (s : Store) → Valid s → Books s) where
+    (ready : (s : Store) → Valid s → s .checkpoint ≡ idle → Ready s) (books : (s : Store) → Valid s → Books s)
+    (small : (s : Store) → Valid s → FrozenSmall s) where
   pub record Goes (img : View) (base₀ : List Call) (ws : List Logged) : Type 0 where
     pub safe : (img′ : View) (base′ : List Call) → CutV img base₀ ws img′ base′
         → (r : Store) × (recoverView n img′ ≡ holds r) × Like r (afterCalls base′ s₀)
@@ -166,7 +167,7 @@ module _ (n : ℕ) (s₀ : Store) (Okay : Call → Type 0) (Valid : Store → Ty
   turn-goes zero img s base base₀ rest v inv r = r img base₀ inv
   turn-goes (suc k) img s base base₀ rest v inv r =
       let o = stepAt (s .checkpoint) s in
-      step-goes img s base base₀ o (inTurn k (o .store) .writes) rest v inv (step-inv n img s (afterCalls base s₀) (afterCalls base₀ s₀) (books s v) inv)
+      step-goes img s base base₀ o (inTurn k (o .store) .writes) rest v inv (step-inv n img s (afterCalls base s₀) (afterCalls base₀ s₀) (books s v) (small s v) inv)
       (λ img′ base₀′ i. turn-goes k img′ (o .store) base base₀′ rest (steps-keep s v) i r)
 
   -- what comes after a call: the store t, from which the rest of the calls is made
@@ -182,7 +183,7 @@ module _ (n : ℕ) (s₀ : Store) (Okay : Call → Type 0) (Valid : Store → Ty
       unless-out (λ t ws. Rest past′ base t cs → Goes img base₀ (map (tag base) ws ++ log past′ base t cs)) (badImage len s ∷ []) s o
       (λ r. r img base₀ inv)
       (λ r. subst (λ ws. Goes img base₀ (map (tag base) ws ++ log past′ base (o .store) cs)) (append-nil (o .writes))
-      (step-goes img s base base₀ o [] _ v inv (step-inv n img s (afterCalls base s₀) (afterCalls base₀ s₀) (books s v) inv) r)) r
+      (step-goes img s base base₀ o [] _ v inv (step-inv n img s (afterCalls base s₀) (afterCalls base₀ s₀) (books s v) (small s v) inv) r)) r
 
   run-log : (limit len : ℕ) (img : View) (s : Store) (past base base₀ : List Call) (cs : List Call) → Valid s → Now img s base base₀
       → Rest (past ++ runs limit len ∷ []) base (runCall limit len s .store) cs → Goes img base₀ (log past base s (runs limit len ∷ cs))

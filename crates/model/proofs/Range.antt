@@ -22,7 +22,7 @@ use Rattle.model.specs.Calls.{Call, Typed, call, opens, inserts, replace
 use Rattle.model.proofs.Lists.{many-length, all-insert, leb-false, not-false, all-map, all-two}
 use Rattle.model.proofs.Frozen.{bare}
 use Rattle.model.proofs.Quiet.{unless-keeps}
-use Rattle.model.proofs.Steps.{FrozenFit}
+use Rattle.model.proofs.Steps.{FrozenFit, FrozenSmall}
 use Rattle.model.proofs.Sound.{PageOk}
 use Rattle.model.proofs.Rows.{Since, still, settled, Alike, Sub, sub-all, sub-length, thaw-rows, held-freeze}
 use Rattle.model.proofs.Placing.{place-put, page-full}
@@ -154,3 +154,6 @@ pages-fit (p ∷ ps) o a =
 
 pub frozen-fit : (s : Store) → Valid s → Fitting s → FrozenFit s
 frozen-fit s v f = pages-fit (s .pages) (v .pages) (all-two _ _ _ (λ r k q. (k .1, q)) (held (s .pages)) (v .has .known) f)
+
+pub frozen-small : (s : Store) → Valid s → FrozenSmall s
+frozen-small s v = all-map PageOk (λ p. p .frozen ≡ true → sizes (shown (p .tuples)) ≤ recordSpace) (λ p o h. o .2 h .0) (s .pages) (v .pages)

@@ -3,12 +3,12 @@ use mathlib.Core.Path.{_≡_, ap, refl, _∙_, sym, subst, ap₂}
 use Prim.Native.Nat.{_<_, _≤_, suc, ℕ, zero, _*_, min}
 use native.Mathlib.Omega.{arith}
 use mathlib.Core.Bool.{true, false, Bool, not}
-use mathlib.Core.List.{[], _∷_, List, tail, map, _++_}
+use mathlib.Core.List.{List, [], _∷_, tail, map, _++_}
 use mathlib.Core.Option.{none, some}
 use lib.Dec.{eqb, ltb}
 use lib.ListN.{length, take, drop, length-take, length-map, getD}
 use lib.Pow.{low}
-use Rattle.basics.specs.Basics.{if_then_else_, isIn, any, first, all, every}
+use Rattle.basics.specs.Basics.{all, if_then_else_, isIn, any, first, every}
 use Rattle.basics.proofs.Facts.{AllOf, by, lie}
 use Rattle.blocks.specs.Block.{page, Block, header, InRange, EntriesFit, directory}
 use Rattle.blocks.specs.Limits.{recordSpace}
@@ -21,24 +21,32 @@ use Rattle.model.specs.State.{Store, Outcome, Write, Page}
 use Rattle.model.specs.Rules.{shown, isFrozen, calm}
 use Rattle.model.specs.Sight.{held}
 use Rattle.model.specs.Transactions.{full}
-use Rattle.model.specs.Checkpoint.{fill, storePage, made, stored, allocate, usedToo, storeDirectory, headerFor, storeHeader}
+use Rattle.model.specs.Checkpoint.{storable, fill, storePage, made, stored, allocate, usedToo, storeDirectory, headerFor, storeHeader}
 use Rattle.model.specs.Recover.{loaded, recoveredStore}
 use Rattle.model.specs.QuotedLine.{content}
 use Rattle.model.specs.Checkpoints.{contentOf}
-use Rattle.model.proofs.Views.{put}
-use Rattle.model.proofs.Lists.{eqb-self, eqb-true, eqb-sym, all-map, first-all, first-passes, pos-not-zero, not-zero, leb-true, all-take, all-drop, all-true, le-true, leb-false, all-two, in-append}
+use Rattle.model.proofs.Views.{put, whole}
+use Rattle.model.proofs.Lists.{le-true, eqb-self, eqb-true, eqb-sym, first-all, first-passes, all-map, pos-not-zero, not-zero, leb-true, all-take, all-drop, all-true, leb-false, all-two, in-append}
 use Rattle.model.proofs.Owners.{numbers-reopened, in-transactions}
-use Rattle.model.proofs.Frozen.{Content, images-first, images, images-thaw, shown-calm, bare, images-none}
+use Rattle.model.proofs.Frozen.{Content, images, images-first, images-thaw, shown-calm, bare, images-none}
 use Rattle.model.proofs.Pages.{all-thaw}
 use Rattle.model.proofs.Alloc.{Fresh, allocate-fresh, used-old}
 use Rattle.model.proofs.Books.{test-other, in-fill, Books, Running, off-used, once-distinct, once-right, once-off, once-left}
 use Rattle.model.proofs.Recovery.{Found, found, read-blocks}
 use Rattle.model.proofs.Stored.{Stored, end, todo, stands, Dirs, put-other, stored-fill, put-same, stored-put, dirs-snoc, dirs-put, stored-read, dirs-read, stored-written}
-use Rattle.model.proofs.Inv.{Inv, Good, Tied, clean-pos, Run, good-put, good-more, named-fill, tied-fresh, tied-frozen, listed, listed-read, listed-held, Named}
+use Rattle.model.proofs.Inv.{Inv, Good, Tied, clean-pos, Run, good-put, good-more, named-fill, tied-fresh, tied-frozen, listed-read, listed, listed-held, Named}
 
 -- what the frozen pages show can be written
 abbrev pub FrozenFit : Store → Type 0
 FrozenFit s = AllOf (λ p. p .frozen ≡ true → (p .table < 8) × AllFit (shown (p .tuples)) × (sizes (shown (p .tuples)) ≤ recordSpace)) (s .pages)
+
+-- what the frozen pages show has room in a block
+abbrev pub FrozenSmall : Store → Type 0
+FrozenSmall s = AllOf (λ p. p .frozen ≡ true → sizes (shown (p .tuples)) ≤ recordSpace) (s .pages)
+
+storable-is : (ts : List Tuple) → sizes ts ≤ recordSpace → storable ts ≡ ts
+unfolding storable if_then_else_
+storable-is ts h = rw (le-true (sizes ts) recordSpace h)
 
 -- the block x is the header of the store b, one level higher
 pub record Top (x : Block) (b : Store) : Type 0 where
@@ -84,9 +92,9 @@ tied-fill img l b es p h t c =
     (u .0, u .1, u .2, u .3, in-fill b (p .block) es (clean-pos p c) (eqb-sym b (p .block) (test-other (λ c. isIn c es) (p .block) b (u .4) h)) ∙ u .4)
 
 pub page-step : (n : ℕ) (img : View) (s b b₀ : Store) (n₀ : ℕ) (es ds : List ℕ) (p : Page) → Books s → Running n₀ es ds s → Inv n img s b b₀ → Run img s b n₀ es ds
-    → first isFrozen (s .pages) ≡ some p → Stepped n img s b b₀ (storePage n₀ es ds p s)
+    → FrozenSmall s → first isFrozen (s .pages) ≡ some p → Stepped n img s b b₀ (storePage n₀ es ds p s)
 unfolding storePage made stored if_then_else_ isFrozen
-page-step n img s b b₀ n₀ es ds p bk r inv run e =
+page-step n img s b b₀ n₀ es ds p bk r inv run small₀ e =
     let ims = images-first (s .pages) p e in
     let is = tail (images (s .pages)) in
     let one : length (images (s .pages)) ≡ suc (length is) = ap length ims in
@@ -95,11 +103,14 @@ page-step n img s b b₀ n₀ es ds p bk r inv run e =
     let fr : Fresh (s .blocks) (s .used) i = allocate-fresh s (bk .taken) (omega (arith, r .room)) in
     let off = off-used (s .used) i es (fr .pos) (fr .free) (r .named) in
     let L = suc (s .level) in
-    let x : Block = page (p .table) L (shown (p .tuples)) in
+    let room : sizes (shown (p .tuples)) ≤ recordSpace
+    = first-all isFrozen (λ p. p .frozen ≡ true → sizes (shown (p .tuples)) ≤ recordSpace) (s .pages) p e small₀ (first-passes isFrozen (s .pages) p e) in
+    let x : Block = page (p .table) L (storable (shown (p .tuples))) in
+    let whole : x ≡ page (p .table) L (shown (p .tuples)) = ap (page (p .table) L) (storable-is (shown (p .tuples)) room) in
     let img′ : View = put img i x in
     let g : (y : Block) → Good n (put img i y) (s .used) b₀ = λ y. good-put n img (s .used) b₀ i y (fr .pos) (fr .free) (inv .good) in
     let st : Stored img′ L (fill i es) (map content (b .pages)) is
-    = stored-fill i (p .table, shown (p .tuples)) (images (s .pages)) is ims (fr .pos) (omega arith) (put-same img i x) (stored-put i x off (run .stored)) in
+    = stored-fill i (p .table, shown (p .tuples)) (images (s .pages)) is ims (fr .pos) (omega arith) (put-same img i x ∙ whole) (stored-put i x off (run .stored)) in
     let pool : ℕ → Bool = λ c. isIn c (fill i es) in
     let ti : AllOf (Tied img′ L pool) (s .pages)
     = all-map _ _ (λ q t. tied-fill img′ L i es q off (tied-put img L (λ c. isIn c es) i x q off t)) (s .pages) (run .tied) in
@@ -107,7 +118,7 @@ page-step n img s b b₀ n₀ es ds p bk r inv run e =
     (λ small fit. let f = first-all isFrozen
     (λ p. p .frozen ≡ true → (p .table < 8) × AllFit (shown (p .tuples)) × (sizes (shown (p .tuples)) ≤ recordSpace)) (s .pages) p e fit
     (first-passes isFrozen (s .pages) p e) in
-    record { table = f .0; level = omega (arith, r .level); tuples = f .1; room = f .2 })
+    subst InRange (sym whole) (record { table = f .0; level = omega (arith, r .level); tuples = f .1; room = f .2 }))
     (λ z. lie (sym (pos-not-zero i (fr .pos)) ∙ z))
     (λ h. g)
     (rw (pos-not-zero i (fr .pos)) (record {
@@ -126,7 +137,7 @@ page-step n img s b b₀ n₀ es ds p bk r inv run e =
         tied = all-thaw (Tied img′ L pool) (tied-fresh img′ L pool) (tied-frozen img′ L pool) i p (s .pages) e
             (λ h c. (
               L,
-              put-same img i x ∙ ap (page (p .table) L) (shown-calm (p .tuples) h),
+              put-same img i x ∙ whole ∙ ap (page (p .table) L) (shown-calm (p .tuples) h),
               omega arith,
               omega arith,
               filled-in i

@@ -6,7 +6,8 @@ use mathlib.Core.List.{List, [], _∷_, _++_, map}
 use lib.ListN.{length, take, drop, getD}
 use lib.Dec.{leb, ltb, eqb}
 use Rattle.basics.specs.Basics.{if_then_else_, howMany, first, isIn, from}
-use Rattle.blocks.specs.Limits.{entriesPerBlock, mostNumber}
+use Rattle.blocks.specs.Limits.{recordSpace, entriesPerBlock, mostNumber}
+use Rattle.blocks.specs.Tuple.{Tuple, sizes}
 use Rattle.blocks.specs.Block.{Block, header, page, directory}
 use Rattle.blocks.specs.declared.Header.{Header}
 use Rattle.image.specs.Stages.{directoriesFor}
@@ -74,11 +75,15 @@ unfoldable pub fill : ℕ → List ℕ → List ℕ
 fill b [] = []
 fill b (e ∷ es) = if eqb e 0 then b ∷ es else e ∷ fill b es
 
+-- what a block has room for. (All that a frozen page shows: it fitted when it was frozen.)
+unfoldable pub storable : List Tuple → List Tuple
+storable ts = if leb (sizes ts) recordSpace then ts else []
+
 -- a page's store: the page is thawed, and the directory will name the new block
 unfoldable pub storePage : ℕ → List ℕ → List ℕ → Page → Store → Outcome
 storePage n es ds p s =
     let b = allocate s in
-    made b (page (p .table) (suc (s .level)) (shown (p .tuples)))
+    made b (page (p .table) (suc (s .level)) (storable (shown (p .tuples))))
     (stored s (s .level) (thaw b (s .pages)) (usedToo s b) b (running n (fill b es) ds))
 
 -- 336 entries in every directory block but the last
