@@ -1,0 +1,242 @@
+-- An image's bytes and its view: a block exchanged in the one is exchanged in the other; recovery of bytes is recovery of the view.
+use mathlib.Core.Path.{_≡_, refl, sym, ap, _∙_, subst, fun-ext}
+use Prim.Native.Nat.{ℕ, zero, suc, _+_, _-_, _*_, _/_, _%_, _≤_, _<_}
+use native.Mathlib.Omega.{arith}
+use mathlib.Core.Bool.{true, false, not}
+use mathlib.Core.List.{List, [], _++_}
+use lib.ListN.{length, take, drop, length-append, length-take, length-drop, take-append-drop}
+use lib.Seq.{take-at, drop-at, drop-append-le, take-append-le, drop-append-add, drop-drop}
+use lib.Dec.{eqb, leb, ltb}
+use Rattle.basics.specs.Basics.{if_then_else_, basics}
+use Rattle.basics.proofs.Facts.{by, lie, and-true}
+use Rattle.blocks.specs.Tuple.{AllBytes}
+use Rattle.blocks.specs.Block.{Block, malformed, header, page, directory, encodeBlock}
+use Rattle.blocks.specs.Decode.{decodeBlock}
+use Rattle.blocks.specs.declared.Header.{Header}
+use Rattle.blocks.proofs.Spelled.{bytes-append, bytes-take, bytes-drop}
+use Rattle.blocks.proofs.Laws.{encode-length, decode-encode, decode-in-range}
+use Rattle.rows.specs.Rows.{rowRules}
+use Rattle.image.specs.View.{View, view, blockAt, blockCount}
+use Rattle.image.specs.Stages.{Stage, refuses, holds, wholeBlocks, capacityLimit, directoriesFor, directoryBlocks, unusedNumbers, blockOk, isZero, headerOk, headerTest, readDirectories, entriesOk, testedEntries, directoryTest, StoredPage, readPages, rowsOfPages, testedPages, pageTest}
+use Rattle.image.specs.Whole.{headerStage, pagesBelow, pagesStage}
+use Rattle.model.specs.State.{Store}
+use Rattle.model.specs.Checkpoint.{headerFor}
+use Rattle.model.specs.Recover.{memoryFor, putBlock, freshStore, make, madeImage, recoveredStore, recoverPages, recoverBelow, recover}
+use Rattle.model.proofs.Views.{put, recoverFrom, recoverView, Sane, AllSane}
+use Rattle.model.proofs.Recovery.{found, refuses-holds, holds-eq}
+use Rattle.model.proofs.Start.{headed}
+use Rattle.model.proofs.Lists.{eqb-self, eqb-true, le-true, leb-true, leb-false, lt-false, not-false}
+
+-- ---- a block of an image exchanged
+
+front : {A : Type 0} (p q : List A) (n k : ℕ) → n + k ≤ length p → take k (drop n (p ++ q)) ≡ take k (drop n p)
+front p q n k h =
+    let few : n ≤ length p = omega arith in
+    rw (drop-append-le n p q few) (take-append-le k (drop n p) q (rw (length-drop n p) (omega arith)))
+
+module _ (img xs : List ℕ) (b : ℕ) (fits : 512 * b + 512 ≤ length img) (block : length xs ≡ 512) where
+  head : length (take (512 * b) img) ≡ 512 * b
+  head = rw (length-take (512 * b) img) (omega arith)
+
+  pub length-put : length (putBlock img b xs) ≡ length img
+  unfolding putBlock
+  length-put = simp (length-append, length-drop) (rw (head, block) (omega arith))
+
+  at-put : blockAt (putBlock img b xs) b ≡ xs
+  unfolding putBlock blockAt
+  at-put = rw (drop-at (take (512 * b) img) (xs ++ drop (512 * b + 512) img) (512 * b) head) (take-at xs (drop (512 * b + 512) img) 512 block)
+
+  below-put : (i : ℕ) → i < b → blockAt (putBlock img b xs) i ≡ blockAt img i
+  unfolding putBlock blockAt
+  below-put i h =
+      front (take (512 * b) img) _ (512 * i) 512 (rw head (omega arith))
+      ∙ sym (front (take (512 * b) img) (drop (512 * b) img) (512 * i) 512 (rw head (omega arith)))
+      ∙ ap (λ z. take 512 (drop (512 * i) z)) (take-append-drop (512 * b) img)
+
+  above-put : (i : ℕ) → b < i → blockAt (putBlock img b xs) i ≡ blockAt img i
+  unfolding putBlock blockAt
+  above-put i h =
+      let m = 512 * i - (512 * b + 512) in
+      let e : 512 * i ≡ length (take (512 * b) img) + (length xs + m) = rw (head, block) (omega arith) in
+      let f : 512 * b + 512 + m ≡ 512 * i = omega arith in
+      ap (λ z. take 512 (drop z (putBlock img b xs))) e
+      ∙ ap (take 512) (drop-append-add (take (512 * b) img) (xs ++ drop (512 * b + 512) img) (length xs + m)
+      ∙ drop-append-add xs (drop (512 * b + 512) img) m ∙ drop-drop m (512 * b + 512) img ∙ ap (λ z. drop z img) f)
+
+  pub bytes-put : AllBytes img → AllBytes xs → AllBytes (putBlock img b xs)
+  unfolding putBlock
+  bytes-put h k =
+      bytes-append (take (512 * b) img) (xs ++ drop (512 * b + 512) img) (bytes-take (512 * b) img h)
+      (bytes-append xs (drop (512 * b + 512) img) k (bytes-drop (512 * b + 512) img h))
+
+  apart : (i : ℕ) → eqb b i ≡ false → b < suc i → b < i
+  apart i h k = by (leb (suc b) i) (leb-true (suc b) i)
+      (λ l. let g : i < suc b = leb-false (suc b) i l in let e : b ≡ i = omega arith in lie (sym h ∙ subst (λ z. eqb b z ≡ true) e (eqb-self b)))
+
+  block-put : (i : ℕ) → view (putBlock img b xs) i ≡ put (view img) b (decodeBlock xs) i
+  unfolding view put if_then_else_
+  block-put i =
+      by (eqb b i)
+      (λ h. rw h (ap decodeBlock (subst (λ z. blockAt (putBlock img b xs) z ≡ xs) (eqb-true b i h) at-put)))
+      (λ h. by (leb (suc i) b)
+      (λ k. rw h (ap decodeBlock (below-put i (leb-true (suc i) b k))))
+      (λ k. rw h (ap decodeBlock (above-put i (apart i h (leb-false (suc i) b k))))))
+
+  pub view-put : view (putBlock img b xs) ≡ put (view img) b (decodeBlock xs)
+  view-put = fun-ext block-put
+
+abbrev Read : Block → Type 0
+Read malformed = ⊥
+Read (header h) = Unit {0}
+Read (page t l ts) = Unit {0}
+Read (directory l es) = Unit {0}
+
+-- every block of a view is malformed or in range
+pub view-sane : (img : List ℕ) → AllSane (view img)
+unfolding view
+view-sane img i = go (decodeBlock (blockAt img i)) refl
+  where
+    go : (x : Block) → decodeBlock (blockAt img i) ≡ x → Sane x
+    go malformed e = tt
+    go (header h) e = decode-in-range (blockAt img i) (header h) e (λ q. subst Read q tt)
+    go (page t l ts) e = decode-in-range (blockAt img i) (page t l ts) e (λ q. subst Read q tt)
+    go (directory l es) e = decode-in-range (blockAt img i) (directory l es) e (λ q. subst Read q tt)
+
+-- ---- recovery of bytes and of the view
+
+-- an image of n whole blocks
+whole-blocks : (len n : ℕ) → len ≡ 512 * n → 2 ≤ n → n ≤ 4096 → wholeBlocks len ≡ true
+unfolding wholeBlocks
+whole-blocks len n e l u =
+    let q : len / 512 ≡ n = omega arith in
+    let r : len % 512 ≡ 0 = omega arith in
+    rw (q, r, le-true 2 n l, le-true n 4096 u)
+
+pub blocks-whole : (len : ℕ) → wholeBlocks len ≡ true → (len ≡ 512 * (len / 512)) × (2 ≤ len / 512) × (len / 512 ≤ 4096)
+unfolding wholeBlocks
+blocks-whole len e =
+    let k = and-true (eqb (len % 512) 0) _ e in
+    let l = and-true (leb 2 (len / 512)) (leb (len / 512) 4096) (k .1) in
+    let z : len % 512 ≡ 0 = eqb-true _ _ (k .0) in
+    (omega arith, leb-true 2 (len / 512) (l .0), leb-true (len / 512) 4096 (l .1))
+
+pub stage-is : (img : List ℕ) (n : ℕ) → length img ≡ 512 * n → 2 ≤ n → n ≤ 4096 → headerStage img ≡ headerTest n (view img 0)
+unfolding headerStage blockCount if_then_else_
+stage-is img n e l u = let q : length img / 512 ≡ n = omega arith in rw (whole-blocks (length img) n e l u, q)
+
+-- what recovery below a header gives has the header's capacity and blocks
+pages-store : (h : Header) (st : Stage (List StoredPage)) (s : Store) → recoverPages h st ≡ holds s → (ps : List StoredPage) × (s ≡ recoveredStore h ps)
+unfolding recoverPages
+pages-store h (refuses n) s e = refuses-holds e
+pages-store h (holds ps) s e = (ps, sym (holds-eq e))
+
+-- with memory enough
+enough : (m : ℕ) (v : View) (st : Stage Header) (s : Store) → recoverFrom v st ≡ holds s → memoryFor (s .capacity) ≤ m → recoverBelow m v st ≡ holds s
+unfolding recoverFrom recoverBelow if_then_else_ recoveredStore
+enough m v (refuses n) s e h = refuses-holds e
+enough m v (holds c) s e h =
+    let k = pages-store c (pagesStage v c) s e in
+    let q : s .capacity ≡ c .capacity = ap (λ z. z .capacity) (k .1) in
+    rw (lt-false m (memoryFor (c .capacity)) (subst (λ z. memoryFor z ≤ m) q h)) e
+
+pub recover-view : (m : ℕ) (img : List ℕ) (s : Store) (n : ℕ) → length img ≡ 512 * n → 2 ≤ n → n ≤ 4096 → recoverView n (view img) ≡ holds s → memoryFor (s .capacity) ≤ m
+    → recover m img ≡ holds s
+unfolding recoverView recover
+recover-view m img s n e l u r h = enough m (view img) (headerStage img) s (rw (stage-is img n e l u) r) h
+
+-- ---- what an accepted recovery says of its image
+
+pub record Accepted (img : List ℕ) (s : Store) : Type 0 where
+  pub long : length img ≡ 512 * s .blocks
+  pub least : 2 ≤ s .blocks
+  pub most : s .blocks ≤ 4096
+  pub some-room : 1 ≤ s .capacity
+  pub limit : s .capacity ≤ capacityLimit
+  pub seen : recoverView (s .blocks) (view img) ≡ holds s
+
+-- without the test of the memory
+below : (m : ℕ) (v : View) (st : Stage Header) (s : Store) → recoverBelow m v st ≡ holds s → recoverFrom v st ≡ holds s
+unfolding recoverFrom recoverBelow if_then_else_
+below m v (refuses n) s e = refuses-holds e
+below m v (holds h) s e = by (ltb m (memoryFor (h .capacity))) (λ k. refuses-holds (rw k at e)) (λ k. rw k at e)
+
+accepted-stage : (img : List ℕ) (s : Store) → recoverFrom (view img) (headerStage img) ≡ holds s → Accepted img s
+unfolding recoverView recoverFrom headerStage blockCount if_then_else_ recoveredStore
+accepted-stage img s e =
+    by (wholeBlocks (length img))
+    (λ w.
+    let n = length img / 512 in
+    let q : recoverView n (view img) ≡ holds s = rw w at e in
+    let k = found n (view img) s q in
+    let b = headed n (k .head) (k .head-ok) in
+    let c = blocks-whole (length img) w in
+    let f : s .blocks ≡ n = ap (λ z. z .blocks) (sym (k .store)) ∙ b .blocks in
+    let g : s .capacity ≡ k .head .capacity = ap (λ z. z .capacity) (sym (k .store)) in
+    record {
+      long = rw f (c .0);
+      least = rw f (c .1);
+      most = rw f (c .2);
+      some-room = rw g (b .cap .0);
+      limit = rw g (b .cap .1);
+      seen = subst (λ z. recoverView z (view img) ≡ holds s) (sym f) q;
+    })
+    (λ w. refuses-holds (rw w at e))
+
+pub accepted-recovery : (m : ℕ) (img : List ℕ) (s : Store) → recover m img ≡ holds s → Accepted img s
+unfolding recover
+accepted-recovery m img s e = accepted-stage img s (below m (view img) (headerStage img) s e)
+
+-- ---- a store just made
+
+-- what an accepted make says
+pub make-accepted : (len m n : ℕ) (s : Store) → make len m n ≡ holds s
+    → (wholeBlocks len ≡ true) × (1 ≤ n) × (n ≤ capacityLimit) × (memoryFor n ≤ m) × (s ≡ freshStore (len / 512) n)
+unfolding make if_then_else_
+make-accepted len m n s e =
+    by (not (wholeBlocks len)) (λ a. refuses-holds (rw a at e))
+    (λ a. by (ltb n 1) (λ b. refuses-holds (rw (a, b) at e))
+    (λ b. by (ltb capacityLimit n) (λ c. refuses-holds (rw (a, b, c) at e))
+    (λ c. by (ltb m (memoryFor n)) (λ d. refuses-holds (rw (a, b, c, d) at e))
+    (λ d.
+    let lo : 1 < suc n = leb-false (suc n) 1 b in
+    let hi : n < suc capacityLimit = leb-false (suc capacityLimit) n c in
+    let mem : memoryFor n < suc m = leb-false (suc m) (memoryFor n) d in
+    (not-false (wholeBlocks len) a, omega arith, omega arith, omega arith, sym (holds-eq (rw (a, b, c, d) at e)))))))
+
+-- the header that make writes passes, and the store below it is empty
+fresh-view : (v : View) (b n : ℕ) → 1 ≤ n → n ≤ capacityLimit → v 0 ≡ header (headerFor (freshStore b n) 0 0 0 [])
+    → recoverView b v ≡ holds (freshStore b n)
+unfolding recoverView recoverFrom headerTest headerOk directoriesFor directoryBlocks unusedNumbers blockOk isZero basics headerFor freshStore pagesStage pagesBelow directoryTest readDirectories testedEntries entriesOk pageTest readPages testedPages rowsOfPages rowRules recoverPages recoveredStore
+fresh-view v b n l u e = rw (e, eqb-self b, le-true 1 n l, le-true n capacityLimit u, zero) (rw zero)
+  where
+    zero : leb 0 n ≡ true
+    zero = le-true 0 n (omega arith)
+
+-- the image of a store just made holds that store
+pub made-accepted : (img : List ℕ) (m n : ℕ) (s : Store) → make (length img) m n ≡ holds s → Accepted (madeImage img n) s
+unfolding madeImage headerFor freshStore put if_then_else_
+made-accepted img m n s e =
+    let k = make-accepted (length img) m n s e in
+    let c = blocks-whole (length img) (k .0) in
+    let b = length img / 512 in
+    let h = headerFor (freshStore b n) 0 0 0 [] in
+    let x = encodeBlock (header h) in
+    let fits : 512 * 0 + 512 ≤ length img = omega arith in
+    let eq : view (madeImage img n) 0 ≡ header h = ap (λ v. v 0) (view-put img x 0 fits (encode-length (header h))) ∙ decode-encode (header h) (omega arith) in
+    rw (k .4) (record {
+      long = length-put img x 0 fits (encode-length (header h)) ∙ c .0;
+      least = c .1;
+      most = c .2;
+      some-room = k .1;
+      limit = k .2;
+      seen = fresh-view (view (madeImage img n)) b n (k .1) (k .2) eq;
+    })
+
+-- whatever the image held before, and with any memory that suffices
+pub made-recovers : (img : List ℕ) (m n : ℕ) (s : Store) → make (length img) m n ≡ holds s
+    → (m′ : ℕ) → memoryFor n ≤ m′ → recover m′ (madeImage img n) ≡ holds (freshStore (length img / 512) n)
+unfolding freshStore
+made-recovers img m n s e m′ h =
+    let k = make-accepted (length img) m n s e in
+    let a = subst (Accepted (madeImage img n)) (k .4) (made-accepted img m n s e) in
+    recover-view m′ (madeImage img n) (freshStore (length img / 512) n) (length img / 512) (a .long) (a .least) (a .most) (a .seen) h

@@ -1,0 +1,226 @@
+-- What the running checkpoint will store of the frozen pages, in list order, is not touched by transactions; and each thaw
+-- takes the first of them away.
+use mathlib.Core.Path.{_≡_, refl, subst, sym, _∙_}
+use Prim.Native.Nat.{ℕ, _<_}
+use native.Mathlib.Omega.{arith}
+use mathlib.Core.Bool.{true, false, Bool}
+use mathlib.Core.List.{List, map, [], _∷_, _++_, append-nil, tail}
+use mathlib.Core.Option.{some, Option, none}
+use lib.Dec.{leb, eqb, ltb}
+use lib.ListN.{length}
+use Rattle.basics.specs.Basics.{if_then_else_, isEmpty, any, first}
+use Rattle.basics.proofs.Facts.{by, never, by-option, lie}
+use Rattle.blocks.specs.Tuple.{Tuple}
+use Rattle.model.specs.State.{Held, Page, adding, Pending, nothing, committing, removing}
+use Rattle.model.specs.Rules.{shown, fresh, after, isAdding, grown, withTuples, entering, placeAfter, place, placeFront, joins, settleNext, settle, joined, settleFull, listOf, around, goneLater, edit, withPending, isNumber, kept, keptLater, asCommitted, isRemoving, takenLater, remove, removeOn, commit, commitOn, hasNumber, thaw, thawOn, isPending, splitAll, calm, ripened, isFrozen}
+use Rattle.model.specs.Transactions.{Op, perform, toCommit, toRemove}
+use Rattle.model.proofs.Lists.{some-eq}
+
+-- a page's table and tuples, as an image has them
+abbrev pub Content : Type 0
+Content = ℕ × List Tuple
+
+-- the tuples alone
+abbrev pub bare : List Held → List Tuple
+bare hs = map (λ h. h .tuple) hs
+
+-- the frozen pages' images
+unfoldable pub images : List Page → List Content
+images [] = []
+images (p ∷ ps) = if p .frozen then (p .table, shown (p .tuples)) ∷ images ps else images ps
+
+images-append : (a b : List Page) → images (a ++ b) ≡ images a ++ images b
+unfolding images if_then_else_
+images-append [] b = refl
+images-append (p ∷ a) b = by (p .frozen) (λ h. rw (h, images-append a b)) (λ h. rw (h, images-append a b))
+
+images-fresh : (t : ℕ) (tss : List (List Held)) → images (map (fresh t) tss) ≡ []
+unfolding images if_then_else_ fresh
+images-fresh t [] = refl
+images-fresh t (ts ∷ tss) = images-fresh t tss
+
+-- ---- placing
+
+pub after-shown : (x : Held) (ys zs : List Held) → isAdding (x .pending) ≡ true → after x ys ≡ some zs → shown zs ≡ shown ys
+unfolding after shown if_then_else_
+after-shown x [] zs a e = never e
+after-shown x (y ∷ ys) zs a e =
+    by-option (after x ys)
+    (λ n. by (leb (y .tuple .key) (x .tuple .key))
+    (λ t. let k : y ∷ x ∷ ys ≡ zs = some-eq (rw (n, t) at e) in rw (← k, a))
+    (λ t. never (rw (n, t) at e)))
+    (λ ws n. let k : y ∷ ws ≡ zs = some-eq (rw (n, after) at e) in rw (← k, after-shown x ys ws a n))
+
+images-grown : (p : Page) (ts : List Held) (ps : List Page) → (p .frozen ≡ true → shown ts ≡ shown (p .tuples))
+    → images (grown p ts ++ ps) ≡ images (p ∷ ps)
+unfolding images grown withTuples if_then_else_
+images-grown p ts ps f =
+    by (p .frozen) (λ h. rw (h, f h)) (λ h. rw (h, images-append, images-fresh))
+
+pub entering-adding : (p : Page) (x : Tuple) → p .frozen ≡ true → isAdding (entering p x .pending) ≡ true
+unfolding entering if_then_else_ isAdding
+entering-adding p x h = rw h
+
+images-placeAfter : (t : ℕ) (x : Tuple) (ps qs : List Page) → placeAfter t x ps ≡ some qs → images qs ≡ images ps
+unfolding placeAfter images if_then_else_
+images-placeAfter t x [] qs e = never e
+images-placeAfter t x (p ∷ ps) qs e =
+    by-option (placeAfter t x ps)
+    (λ n. by (eqb (p .table) t)
+    (λ h. by-option (after (entering p x) (p .tuples))
+    (λ m. never (rw (n, h, m) at e))
+    (λ ts m. let k : grown p ts ++ ps ≡ qs = some-eq (rw (n, h, m) at e) in
+    rw (← k) (images-grown p ts ps (λ f. after-shown (entering p x) (p .tuples) ts (entering-adding p x f) m))))
+    (λ h. never (rw (n, h) at e)))
+    (λ ws n. let k : p ∷ ws ≡ qs = some-eq (rw (n, placeAfter) at e) in rw (← k, images-placeAfter t x ps ws n))
+
+images-placeFront : (t : ℕ) (x : Tuple) (ps : List Page) → images (placeFront t x ps) ≡ images ps
+unfolding placeFront images if_then_else_ fresh shown
+images-placeFront t x [] = refl
+images-placeFront t x (p ∷ ps) =
+    by (ltb (p .table) t) (λ h. rw (h, images-placeFront t x ps))
+    (λ h. by (eqb (p .table) t)
+    (λ k. rw (h, k) (images-grown p (entering p x ∷ p .tuples) ps (λ f. rw (entering-adding p x f))))
+    (λ k. rw (h, k)))
+
+pub images-place : (t : ℕ) (x : Tuple) (ps : List Page) → images (place t x ps) ≡ images ps
+unfolding place
+images-place t x ps =
+    by-option (placeAfter t x ps) (λ n. rw (n, place) (images-placeFront t x ps)) (λ qs n. rw (n, place) (images-placeAfter t x ps qs n))
+
+-- ---- settling
+
+-- pages that join are not frozen
+joins-left : (p q : Page) → joins p q ≡ true → p .frozen ≡ false
+unfolding joins
+joins-left p q e = by (p .frozen) (λ h. lie (rw (h, joins) at e)) (λ h. h)
+
+joins-right : (p q : Page) → joins p q ≡ true → q .frozen ≡ false
+unfolding joins
+joins-right p q e = by (p .frozen) (λ h. lie (rw (h, joins) at e)) (λ h. by (q .frozen) (λ k. lie (rw (h, k, joins) at e)) (λ k. k))
+
+images-settleNext : (rest : List Page) (p : Page) (ps : List Page) → images rest ≡ [] → images (settleNext rest p ps) ≡ images ps
+unfolding settleNext images if_then_else_ joined fresh
+images-settleNext rest p [] r = r
+images-settleNext rest p (q ∷ qs) r =
+    by (joins p q) (λ h. rw (h, joins-right p q h)) (λ h. rw (h, images-append rest (q ∷ qs), r))
+
+images-settleFull : (rest : List Page) (o : Option Page) (p : Page) (ps : List Page) → images rest ≡ []
+    → images (settleFull rest o p ps) ≡ images (listOf o ++ ps)
+unfolding settleFull images if_then_else_ joined fresh listOf
+images-settleFull rest none p ps r = images-settleNext rest p ps r
+images-settleFull rest (some o) p ps r =
+    by (joins o p) (λ h. rw (h, joins-left o p h)) (λ h. rw (h, images-settleNext rest p ps r))
+
+images-settle : (rest : List Page) (o : Option Page) (p : Page) (ps : List Page) → images rest ≡ []
+    → images (settle rest o p ps) ≡ images (listOf o ++ ps)
+unfolding settle if_then_else_
+images-settle rest o p ps r = by (isEmpty (p .tuples)) (λ h. rw h) (λ h. rw h (images-settleFull rest o p ps r))
+
+-- ---- what is done at one page, to all of them
+
+images-around : (hit : Page → Bool) (f : Option Page → Page → List Page → List Page)
+    → ((o : Option Page) (p : Page) (ps : List Page) → images (f o p ps) ≡ images (listOf o ++ p ∷ ps))
+    → (o : Option Page) (ps : List Page) → images (around hit f o ps) ≡ images (listOf o ++ ps)
+unfolding around listOf
+images-around hit f F o [] = rw append-nil
+images-around hit f F o (p ∷ ps) =
+    by (hit p) (λ h. rw (h, around) (F o p ps))
+    (λ h. rw (h, around, images-append (listOf o), images-around hit f F (some p) ps, images-append (listOf o) (p ∷ ps)))
+
+-- ---- removing and committing a tuple
+
+pub shown-goneLater : (n : ℕ) (ts : List Held) → shown (edit goneLater n ts) ≡ shown ts
+unfolding edit goneLater shown if_then_else_ withPending isAdding
+shown-goneLater n [] = refl
+shown-goneLater n (x ∷ xs) =
+    by (isNumber n x)
+    (λ h. by (isAdding (x .pending)) (λ k. rw (h, k)) (λ k. rw (h, k)))
+    (λ h. by (isAdding (x .pending)) (λ k. rw (h, k, shown-goneLater n xs)) (λ k. rw (h, k, shown-goneLater n xs)))
+
+pub shown-keptLater : (n : ℕ) (ts : List Held) → shown (edit keptLater n ts) ≡ shown ts
+unfolding edit keptLater kept shown if_then_else_ withPending isAdding asCommitted
+shown-keptLater n [] = refl
+shown-keptLater n (x ∷ xs) =
+    by (isNumber n x)
+    (λ h. by (isAdding (x .pending)) (λ k. rw (h, k, k)) (λ k. by (isRemoving (x .pending)) (λ m. rw (h, k, m, k)) (λ m. rw (h, k, m))))
+    (λ h. by (isAdding (x .pending)) (λ k. rw (h, k, shown-keptLater n xs)) (λ k. rw (h, k, shown-keptLater n xs)))
+
+pub shown-takenLater : (n : ℕ) (ts : List Held) → shown (takenLater n ts) ≡ shown ts
+unfolding takenLater if_then_else_
+shown-takenLater n ts = by (isEmpty (edit goneLater n ts)) (λ h. rw h) (λ h. rw h (shown-goneLater n ts))
+
+-- a page that shows a tuple keeps one
+pub takenLater-is : (n : ℕ) (ts : List Held) → 0 < length (shown ts) → takenLater n ts ≡ edit goneLater n ts
+unfolding takenLater if_then_else_
+takenLater-is n ts h = by (isEmpty (edit goneLater n ts)) (λ k. absurd (shows (edit goneLater n ts) k (subst (λ z. 0 < length z) (sym (shown-goneLater n ts)) h))) (λ k. rw k)
+  where
+    shows : (hs : List Held) → isEmpty hs ≡ true → 0 < length (shown hs) → ⊥
+    shows [] k l = unfold shown in omega arith
+    shows (x ∷ xs) k l = lie (unfold isEmpty in k)
+
+images-removeOn : (n : ℕ) (o : Option Page) (p : Page) (ps : List Page) → images (removeOn n o p ps) ≡ images (listOf o ++ p ∷ ps)
+unfolding removeOn images if_then_else_ withTuples fresh
+images-removeOn n o p ps =
+    by (p .frozen)
+    (λ h. rw (h, images-append (listOf o), shown-takenLater, images-append (listOf o)))
+    (λ h. rw (h, images-settle, images-append (listOf o), images-append (listOf o)))
+
+images-commitOn : (n : ℕ) (o : Option Page) (p : Page) (ps : List Page) → images (commitOn n o p ps) ≡ images (listOf o ++ p ∷ ps)
+unfolding commitOn images if_then_else_ withTuples fresh
+images-commitOn n o p ps =
+    by (p .frozen)
+    (λ h. rw (h, images-append (listOf o), shown-keptLater, images-append (listOf o)))
+    (λ h. rw (h, images-append (listOf o), images-append (listOf o)))
+
+pub images-perform : (os : List Op) (ps : List Page) → images (perform os ps) ≡ images ps
+unfolding perform remove commit listOf
+images-perform [] ps = refl
+images-perform (toCommit n ∷ os) ps = images-perform os (commit n ps) ∙ images-around (hasNumber n) (commitOn n) (images-commitOn n) none ps
+images-perform (toRemove n ∷ os) ps = images-perform os (remove n ps) ∙ images-around (hasNumber n) (removeOn n) (images-removeOn n) none ps
+
+-- ---- thawing takes the first image away
+
+images-thawOn : (b : ℕ) (o : Option Page) (p : Page) (ps : List Page) → images (listOf o) ≡ [] → images (thawOn b o p ps) ≡ images ps
+unfolding thawOn if_then_else_ images
+images-thawOn b o p ps f =
+    by (any (λ x. isPending (x .pending)) (p .tuples))
+    (λ h. rw h (images-settle _ o _ ps (images-fresh (p .table) (splitAll (map calm (ripened (p .tuples))))) ∙ rw (images-append (listOf o), f)))
+    (λ h. rw (h, images-append (listOf o), f))
+
+images-aroundFirst : (f : Option Page → Page → List Page → List Page)
+    → ((o : Option Page) (p : Page) (ps : List Page) → images (listOf o) ≡ [] → images (f o p ps) ≡ images ps)
+    → (o : Option Page) (ps : List Page) → images (listOf o) ≡ [] → images (around isFrozen f o ps) ≡ tail (images ps)
+unfolding around isFrozen images if_then_else_ listOf
+images-aroundFirst f F o [] g = g
+images-aroundFirst f F o (p ∷ ps) g =
+    by (p .frozen) (λ h. rw (h, around) (F o p ps g))
+    (λ h. rw (h, around, images-append (listOf o), g) (images-aroundFirst f F (some p) ps (rw h)))
+
+pub images-thaw : (b : ℕ) (ps : List Page) → images (thaw b ps) ≡ tail (images ps)
+unfolding thaw listOf images
+images-thaw b ps = images-aroundFirst (thawOn b) (images-thawOn b) none ps refl
+
+-- the first frozen page has the first image
+pub images-first : (ps : List Page) (p : Page) → first isFrozen ps ≡ some p → images ps ≡ (p .table, shown (p .tuples)) ∷ tail (images ps)
+unfolding first images isFrozen if_then_else_
+images-first [] p e = never e
+images-first (q ∷ ps) p e =
+    by (q .frozen) (λ h. let k : q ≡ p = some-eq (rw (h, first) at e) in rw (h, k)) (λ h. rw h (images-first ps p (rw (h, first) at e)))
+
+pub images-none : (ps : List Page) → first isFrozen ps ≡ none → images ps ≡ []
+unfolding first images isFrozen if_then_else_
+images-none [] e = refl
+images-none (q ∷ ps) e = by (q .frozen) (λ h. never (sym (rw (h, first) at e))) (λ h. rw h (images-none ps (rw (h, first) at e)))
+
+-- nothing pending: the image is the page
+pub shown-calm : (ts : List Held) → any (λ x. isPending (x .pending)) ts ≡ false → shown ts ≡ bare ts
+unfolding shown any if_then_else_ isAdding isPending
+shown-calm [] e = refl
+shown-calm (x ∷ xs) e = go (x .pending) refl (shown-calm xs)
+  where
+    go : (o : Pending) → x .pending ≡ o → (any (λ x. isPending (x .pending)) xs ≡ false → shown xs ≡ bare xs) → shown (x ∷ xs) ≡ bare (x ∷ xs)
+    go nothing h r = rw (h, r (rw (h, any) at e)) refl
+    go adding h r = lie (sym (rw (h, any) at e))
+    go committing h r = lie (sym (rw (h, any) at e))
+    go removing h r = lie (sym (rw (h, any) at e))

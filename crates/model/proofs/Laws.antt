@@ -1,0 +1,124 @@
+-- The order of the rows held, the blocks that a checkpoint takes, the stores that are left, and run as steps.
+use mathlib.Core.Path.{subst, _≡_, sym, ap, refl, _∙_}
+use Prim.Native.Nat.{_+_, _<_, _≤_, suc, ℕ, _*_, zero}
+use native.Mathlib.Omega.{arith}
+use mathlib.Core.Bool.{true, false}
+use mathlib.Core.List.{List, _∷_, _++_, [], map}
+use mathlib.Core.Option.{Option, some, none}
+use lib.Dec.{ltb}
+use lib.ListN.{length, length-map, length-append}
+use Rattle.basics.specs.Basics.{if_then_else_, howMany, first}
+use Rattle.basics.proofs.Facts.{by, lie}
+use Rattle.image.specs.Stages.{directoriesFor}
+use Rattle.model.specs.State.{Checkpoint, idle, running, Outcome, Store, refused, Page, count}
+use Rattle.model.specs.Rules.{isFrozen, freeze, isDirty, thaw}
+use Rattle.model.specs.Transactions.{unless, Test, gives, _when_}
+use Rattle.model.specs.Checkpoint.{left, leftOf, allocate, beginCall, stored, blocksNeeded, stepOf, storePage, storeDirectory, storeHeader, made, stepCall, stepAt, badImage, inTurn, runCall}
+use Rattle.model.specs.Calls.{accepted, call, steps, afterCalls}
+use Rattle.model.specs.WellFormed.{ListOrder, EnoughBlocks, CheckpointWell, BeginAnswers, OneLess, times, writesOf, RunIsSteps}
+use Rattle.model.proofs.Lists.{Pairs, pairs-parts, all-parts, leb-true, leb-false, eqb-self, eqb-true, not-false}
+use Rattle.model.proofs.Frozen.{images-thaw, images-first, images-none}
+use Rattle.model.proofs.Alloc.{Fresh, allocate-fresh}
+use Rattle.model.proofs.Quiet.{Passed, step-frame}
+use Rattle.model.proofs.Books.{length-fill}
+use Rattle.model.proofs.Placing.{Before}
+use Rattle.model.proofs.Well.{sound, before-true, many-frozen}
+
+pub list-order : ListOrder
+list-order s w before between behind r q e =
+    let p = subst (Pairs Before) e (sound s w .valid .has .rising) in
+    let p′ = pairs-parts Before before (r ∷ (between ++ q ∷ behind)) p .1 in
+    before-true r q (all-parts (Before r) between (q ∷ behind) (p′ .0) .1 .0)
+
+pub enough-blocks : EnoughBlocks
+unfolding left leftOf
+enough-blocks s w h = go (s .checkpoint) (w .checkpoint) h
+  where
+    go : (c : Checkpoint) → CheckpointWell c s → 1 < leftOf c (s .pages) → (s .used (allocate s) ≡ false) × (1 ≤ allocate s) × (allocate s < s .blocks)
+    go idle k h = absurd (omega arith)
+    go (running n es ds) r h =
+        let f : Fresh (s .blocks) (s .used) (allocate s) = allocate-fresh s (w .taken) (omega (arith, r .room)) in
+        (f .free, f .pos, f .low)
+
+-- ---- how many stores are left
+
+-- a property of the outcome of an accepted call: its tests passed
+pub unless-accepted : (P : Outcome → Type 0) (ts : List Test) (s : Store) (o : Outcome) → (Passed ts → accepted (o .answer) ≡ true → P o)
+    → accepted (unless ts s o .answer) ≡ true → P (unless ts s o)
+unfolding unless if_then_else_ gives accepted
+unless-accepted P [] s o f h = f tt h
+unless-accepted P ((n when b) ∷ ts) s o f h =
+    by b (λ k. lie (rw k at h))
+    (λ k. subst (λ z. P (if z then gives (refused n) s else unless ts s o)) (sym k) (unless-accepted P ts s o (λ p. f (k, p)) (rw k at h)))
+
+frozen-dirty : (ps : List Page) → howMany isFrozen (map freeze ps) ≡ howMany isDirty ps
+unfolding howMany isFrozen freeze
+frozen-dirty [] = refl
+frozen-dirty (p ∷ ps) = rw (frozen-dirty ps)
+
+pub begin-answers : BeginAnswers
+unfolding beginCall
+begin-answers s h =
+    unless-accepted (λ o. (o .answer ≡ count (howMany isFrozen (o .store .pages) + directoriesFor (length (s .pages)) + 1)) × (left
+    (o .store) ≡ howMany isFrozen (o .store .pages) + directoriesFor (length (s .pages)) + 1))
+    _ s _ (λ p k. unfold gives stored blocksNeeded left leftOf in
+    (rw (frozen-dirty (s .pages)), rw (length-map (s .pages) (λ p. p .block)) (omega arith))) h
+
+-- of an accepted step
+abbrev Stepped : Store → Outcome → Type 0
+Stepped s o = (length (o .writes) ≡ 1) × (left s ≡ suc (left (o .store))) × (o .answer ≡ count (left (o .store)))
+
+step-less : (n : ℕ) (es ds : List ℕ) (s : Store) → s .checkpoint ≡ running n es ds → (o : Option Page) → first isFrozen (s .pages) ≡ o → Stepped s (stepOf o n es ds s)
+unfolding stepOf storePage storeDirectory storeHeader made stored if_then_else_ left leftOf
+step-less n es ds s e (some p) f =
+    let i = allocate s in
+    let a = many-frozen (s .pages) in
+    let b = many-frozen (thaw i (s .pages)) in
+    let c = ap length (images-thaw i (s .pages)) in
+    let d = ap length (images-first (s .pages) p f) in
+    (refl, ap (λ c. leftOf c (s .pages)) e ∙ rw (length-fill i es) (omega arith), refl)
+step-less n es ds s e none f =
+    let a = many-frozen (s .pages) in
+    let d = ap length (images-none (s .pages) f) in
+    by (ltb (length ds) (directoriesFor (length es)))
+    (λ k. let few = leb-true (suc (length ds)) (directoriesFor (length es)) k in
+    let len = length-append ds (allocate s ∷ []) in
+    rw k (refl, ap (λ c. leftOf c (s .pages)) e ∙ omega arith, refl))
+    (λ k. let all = leb-false (suc (length ds)) (directoriesFor (length es)) k in rw k (refl, ap (λ c. leftOf c (s .pages)) e ∙ omega arith, refl))
+
+pub one-less : OneLess
+unfolding stepCall
+one-less len s h = unless-accepted (Stepped s) _ s _ (λ p k. go (s .checkpoint) refl k) h
+  where
+    go : (c : Checkpoint) → s .checkpoint ≡ c → accepted (stepAt c s .answer) ≡ true → Stepped s (stepAt c s)
+    go idle e k = lie (unfold stepAt gives accepted in k)
+    go (running n es ds) e k = unfold stepAt in step-less n es ds s e (first isFrozen (s .pages)) refl
+
+-- ---- run
+
+-- a step keeps the store's blocks
+step-size : (s : Store) → stepAt (s .checkpoint) s .store .blocks ≡ s .blocks
+unfolding stored
+step-size s = step-frame (λ z. z .blocks ≡ s .blocks) s refl (λ l ps u b c. refl)
+
+step-is : (len : ℕ) (s : Store) → len ≡ 512 * s .blocks → call (steps len) s ≡ stepAt (s .checkpoint) s
+unfolding call stepCall unless badImage if_then_else_
+step-is len s e = rw (e, eqb-self (512 * s .blocks))
+
+turn-steps : (len k : ℕ) (s : Store) → len ≡ 512 * s .blocks
+    → (inTurn k s .store ≡ afterCalls (times k (steps len)) s) × (inTurn k s .writes ≡ writesOf (times k (steps len)) s)
+unfolding inTurn times afterCalls writesOf gives
+turn-steps len zero s e = (refl, refl)
+turn-steps len (suc k) s e =
+    let o = stepAt (s .checkpoint) s in
+    let r = turn-steps len k (o .store) (e ∙ ap (λ z. 512 * z) (sym (step-size s))) in
+    subst (λ z. (inTurn k (o .store) .store ≡ afterCalls (times k (steps len)) (z .store)) × (o .writes ++ inTurn k
+    (o .store) .writes ≡ z .writes ++ writesOf (times k (steps len)) (z .store)))
+    (sym (step-is len s e)) (r .0, ap (λ z. o .writes ++ z) (r .1))
+
+pub run-is-steps : RunIsSteps
+unfolding runCall badImage
+run-is-steps limit len s h k e =
+    unless-accepted (λ o. (o .answer ≡ count k) × (o .store ≡ afterCalls (times k (steps len)) s) × (o .writes ≡ writesOf (times k (steps len)) s))
+    _ s _ (λ p q. subst (λ j. (count j ≡ count k) × (inTurn j s .store ≡ afterCalls (times k (steps len)) s) × (inTurn j s .writes ≡ writesOf (times k (steps len)) s)) e
+    (let r = turn-steps len k s (eqb-true len (512 * s .blocks) (not-false _ (p .0))) in (refl, r .0, r .1))) h

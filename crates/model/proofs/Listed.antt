@@ -1,0 +1,103 @@
+-- The open transactions are listed each once, and each is 0 to 4,095.
+use mathlib.Core.Path.{_≡_, refl, ap, sym, subst, _∙_}
+use Prim.Native.Nat.{_≤_, ℕ, zero, suc, min}
+use native.Mathlib.Omega.{arith}
+use mathlib.Core.Bool.{true, false, not, Bool}
+use mathlib.Core.List.{List, _++_, _∷_, [], map}
+use mathlib.Core.Option.{Option, none, some}
+use lib.Dec.{eqb}
+use Rattle.basics.specs.Basics.{distinct, isIn, any, keep, if_then_else_}
+use Rattle.basics.proofs.Facts.{AllOf, and-true, by, lie}
+use Rattle.blocks.specs.Tuple.{Owner, OwnerFits, Fits, committed, tentative}
+use Rattle.rows.specs.Rows.{Row, isBy, isOwn, transactions}
+use Rattle.model.specs.State.{Store}
+use Rattle.model.specs.Sight.{seen}
+use Rattle.model.specs.Transactions.{openNumbers, gives, openCall, insertCall, replaceCall, deleteCall, written, commitCall, abortCall, readCall, listCall, changed, readSeen}
+use Rattle.model.specs.Checkpoint.{stepAt, inTurn, beginCall, stepCall, runCall, stored, left}
+use Rattle.model.specs.Calls.{others, Call, call, opens, inserts, replaces, deletes, commits, aborts, reads, lists, begins, steps, runs}
+use Rattle.model.specs.Recover.{reopened}
+use Rattle.model.proofs.Lists.{not-in, in-append, not-true, in-one, eqb-sym, in-keep, all-append, all-map, all-keep, leb-false, eqb-true, all-in}
+use Rattle.model.proofs.Owners.{numbers-append, numbers-write, numbers-without, numbers-reopened, transactions-distinct, in-transactions}
+use Rattle.model.proofs.Quiet.{unless-keeps}
+use Rattle.model.proofs.Tally.{step-active}
+
+abbrev pub Listed : Store → Type 0
+Listed s = (distinct (openNumbers (s .active)) ≡ true) × AllOf (λ tx. tx ≤ 4095) (openNumbers (s .active))
+
+abbrev Once : List ℕ → Type 0
+Once os = (distinct os ≡ true) × AllOf (λ tx. tx ≤ 4095) os
+
+distinct-snoc : (x : ℕ) (os : List ℕ) → isIn x os ≡ false → distinct os ≡ true → distinct (os ++ x ∷ []) ≡ true
+unfolding distinct
+distinct-snoc x [] h d = unfold isIn any in refl
+distinct-snoc x (o ∷ os) h d =
+    let n = not-in x o os h in
+    let k = and-true (not (isIn o os)) (distinct os) d in
+    rw (in-append o os, not-true (isIn o os) (k .0), in-one o x (eqb-sym x o (n .0)), distinct-snoc x os (n .1) (k .1))
+
+distinct-keep : (f : ℕ → Bool) (os : List ℕ) → distinct os ≡ true → distinct (keep f os) ≡ true
+unfolding distinct keep if_then_else_
+distinct-keep f [] d = refl
+distinct-keep f (o ∷ os) d =
+    let k = and-true (not (isIn o os)) (distinct os) d in
+    by (f o) (λ h. rw (h, in-keep o f os, not-true (isIn o os) (k .0), distinct-keep f os (k .1))) (λ h. rw h (distinct-keep f os (k .1)))
+
+once-open : (tx : ℕ) (os : List ℕ) → isIn tx os ≡ false → tx ≤ 4095 → Once os → Once (os ++ tx ∷ [])
+once-open tx os h l o = (distinct-snoc tx os h (o .0), all-append _ os (tx ∷ []) (o .1) (l, tt))
+
+once-others : (tx : ℕ) (os : List ℕ) → Once os → Once (others tx os)
+unfolding others
+once-others tx os o = (
+  distinct-keep _ os (o .0),
+  all-map (λ x. (not (eqb x tx) ≡ true) × (x ≤ 4095)) _ (λ x k. k .1) (keep (λ w. not (eqb w tx)) os)
+      (all-keep (λ x. x ≤ 4095) (λ w. not (eqb w tx)) os (o .1)),
+)
+
+listed-same : (s z : Store) → openNumbers (z .active) ≡ openNumbers (s .active) → Listed s → Listed z
+listed-same s z e l = subst Once (sym e) l
+
+step-listed : (s : Store) → Listed s → Listed (stepAt (s .checkpoint) s .store)
+step-listed s l = listed-same s (stepAt (s .checkpoint) s .store) (ap openNumbers (step-active s)) l
+
+turn-listed : (k : ℕ) (s : Store) → Listed s → Listed (inTurn k s .store)
+unfolding inTurn gives
+turn-listed zero s l = l
+turn-listed (suc k) s l = turn-listed k (stepAt (s .checkpoint) s .store) (step-listed s l)
+
+pub keeps-listed : (c : Call) (s : Store) → Listed s → Listed (call c s .store)
+unfolding call openCall insertCall replaceCall deleteCall written commitCall abortCall readCall listCall beginCall stepCall runCall gives changed stored
+keeps-listed (opens tx) s l =
+    unless-keeps Listed _ s _ l (λ p.
+    subst Once (sym (numbers-append (s .active) (record { transaction = tx; written = 0 })))
+    (once-open tx (openNumbers (s .active)) (p .1 .0) (omega (arith, leb-false 4096 tx (p .0))) l))
+keeps-listed (inserts tx t k bs) s l = unless-keeps Listed _ s _ l (λ p. subst Once (sym (numbers-write tx (s .active))) l)
+keeps-listed (replaces tx t k bs) s l = unless-keeps Listed _ s _ l (λ p. subst Once (sym (numbers-write tx (s .active))) l)
+keeps-listed (deletes tx t k) s l = unless-keeps Listed _ s _ l (λ p. subst Once (sym (numbers-write tx (s .active))) l)
+keeps-listed (commits tx) s l = unless-keeps Listed _ s _ l (λ p. subst Once (sym (numbers-without tx (s .active))) (once-others tx (openNumbers (s .active)) l))
+keeps-listed (aborts tx) s l = unless-keeps Listed _ s _ l (λ p. subst Once (sym (numbers-without tx (s .active))) (once-others tx (openNumbers (s .active)) l))
+keeps-listed (reads tx t k r) s l = unless-keeps Listed _ s _ l (λ p. go (seen tx t k s))
+  where
+    go : (o : Option Row) → Listed (readSeen r o s .store)
+    go none = unfold readSeen in l
+    go (some q) = unfold readSeen in unless-keeps Listed _ s _ l (λ p. l)
+keeps-listed (lists r) s l = unless-keeps Listed _ s _ l (λ p. l)
+keeps-listed begins s l = unless-keeps Listed _ s _ l (λ p. l)
+keeps-listed (steps len) s l = unless-keeps Listed _ s _ l (λ p. step-listed s l)
+keeps-listed (runs limit len) s l = unless-keeps Listed _ s _ l (λ p. turn-listed (min limit (left s)) s l)
+
+-- ---- recovered
+
+own-small : (tx : ℕ) (o : Owner) → OwnerFits o → isBy tx o ≡ true → tx ≤ 4095
+unfolding isBy
+own-small tx committed f h = lie h
+own-small tx (tentative u s) f h = let e = eqb-true u tx h in omega (arith, f .0)
+
+owners-small : (tx : ℕ) (rs : List Row) → AllOf (λ r. Fits (r .1)) rs → any (isOwn tx) rs ≡ true → tx ≤ 4095
+unfolding any isOwn
+owners-small tx [] a h = lie h
+owners-small tx (r ∷ rs) a h = by (isBy tx (r .1 .owner)) (λ k. own-small tx (r .1 .owner) (a .0 .owner) k) (λ k. owners-small tx rs (a .1) (rw (k, any) at h))
+
+pub reopened-once : (rs : List Row) → AllOf (λ r. Fits (r .1)) rs → Once (openNumbers (map (reopened rs) (transactions rs)))
+reopened-once rs a =
+    subst Once (sym (numbers-reopened rs (transactions rs)))
+    (transactions-distinct rs, all-in _ (transactions rs) (λ tx h. owners-small tx rs a (sym (in-transactions tx rs) ∙ h)))

@@ -1,0 +1,118 @@
+-- A property of pages that every fresh page has, and a frozen page whatever its tuples, is kept by the rules.
+use mathlib.Core.Path.{_≡_, subst, sym}
+use Prim.Native.Nat.{ℕ}
+use mathlib.Core.Bool.{true, Bool, false}
+use mathlib.Core.List.{List, map, [], _∷_, _++_}
+use mathlib.Core.Option.{some, Option, none}
+use lib.Dec.{eqb, ltb}
+use Rattle.basics.specs.Basics.{if_then_else_, isEmpty, first, any}
+use Rattle.basics.proofs.Facts.{AllOf, by, never, by-option}
+use Rattle.blocks.specs.Tuple.{Tuple}
+use Rattle.model.specs.State.{Page, Held}
+use Rattle.model.specs.Rules.{fresh, grown, withTuples, splitOnce, placeAfter, place, after, entering, placeFront, settle, settleNext, joined, joins, settleFull, listOf, around, remove, removeOn, hasNumber, commitOn, commit, thaw, isFrozen, isPending, thawOn, splitAll, calm, ripened}
+use Rattle.model.specs.Transactions.{Op, perform, toCommit, toRemove}
+use Rattle.model.proofs.Lists.{all-append, some-eq}
+
+-- a page that is frozen, with other tuples
+unfoldable pub stillFrozen : Page → List Held → Page
+stillFrozen p ts = record { table = p .table; block = p .block; frozen = true; tuples = ts }
+
+module _ (Q : Page → Type 0) (Q-fresh : (t : ℕ) (ts : List Held) → Q (fresh t ts))
+    (Q-frozen : (p : Page) (ts : List Held) → p .frozen ≡ true → Q p → Q (stillFrozen p ts)) where
+  all-fresh : (t : ℕ) (tss : List (List Held)) → AllOf Q (map (fresh t) tss)
+  all-fresh t [] = tt
+  all-fresh t (ts ∷ tss) = (Q-fresh t ts, all-fresh t tss)
+
+  all-grown : (p : Page) (ts : List Held) (ps : List Page) → Q p → AllOf Q ps → AllOf Q (grown p ts ++ ps)
+  unfolding grown withTuples stillFrozen if_then_else_
+  all-grown p ts ps q a =
+      by (p .frozen) (λ h. rw h (Q-frozen p ts h q, a)) (λ h. rw h (all-append Q (map (fresh (p .table)) (splitOnce ts)) ps (all-fresh (p .table) (splitOnce ts)) a))
+
+  all-placeAfter : (t : ℕ) (x : Tuple) (ps qs : List Page) → placeAfter t x ps ≡ some qs → AllOf Q ps → AllOf Q qs
+  unfolding placeAfter if_then_else_
+  all-placeAfter t x [] qs e a = never e
+  all-placeAfter t x (p ∷ ps) qs e a =
+      by-option (placeAfter t x ps)
+      (λ n. by (eqb (p .table) t)
+      (λ h. by-option (after (entering p x) (p .tuples))
+      (λ m. never (rw (n, h, m) at e))
+      (λ ts m. let k : grown p ts ++ ps ≡ qs = some-eq (rw (n, h, m) at e) in subst (AllOf Q) k (all-grown p ts ps (a .0) (a .1))))
+      (λ h. never (rw (n, h) at e)))
+      (λ ws n. let k : p ∷ ws ≡ qs = some-eq (rw (n, placeAfter) at e) in subst (AllOf Q) k (a .0, all-placeAfter t x ps ws n (a .1)))
+
+  all-placeFront : (t : ℕ) (x : Tuple) (ps : List Page) → AllOf Q ps → AllOf Q (placeFront t x ps)
+  unfolding placeFront if_then_else_
+  all-placeFront t x [] a = (Q-fresh t _, tt)
+  all-placeFront t x (p ∷ ps) a =
+      by (ltb (p .table) t) (λ h. rw h (a .0, all-placeFront t x ps (a .1)))
+      (λ h. by (eqb (p .table) t) (λ k. rw (h, k) (all-grown p _ ps (a .0) (a .1))) (λ k. rw (h, k) (Q-fresh t _, a)))
+
+  pub all-place : (t : ℕ) (x : Tuple) (ps : List Page) → AllOf Q ps → AllOf Q (place t x ps)
+  unfolding place
+  all-place t x ps a =
+      by-option (placeAfter t x ps) (λ n. rw (n, place) (all-placeFront t x ps a)) (λ qs n. rw (n, place) (all-placeAfter t x ps qs n a))
+
+  all-settleNext : (rest : List Page) (p : Page) (ps : List Page) → AllOf Q rest → AllOf Q ps → AllOf Q (settleNext rest p ps)
+  unfolding settleNext if_then_else_ joined
+  all-settleNext rest p [] r a = r
+  all-settleNext rest p (q ∷ qs) r a = by (joins p q) (λ h. rw h (Q-fresh _ _, a .1)) (λ h. rw h (all-append Q rest (q ∷ qs) r a))
+
+  all-settleFull : (rest : List Page) (o : Option Page) (p : Page) (ps : List Page) → AllOf Q rest → AllOf Q (listOf o) → AllOf Q ps
+      → AllOf Q (settleFull rest o p ps)
+  unfolding settleFull if_then_else_ joined listOf
+  all-settleFull rest none p ps r l a = all-settleNext rest p ps r a
+  all-settleFull rest (some o) p ps r l a = by (joins o p) (λ h. rw h (Q-fresh _ _, a)) (λ h. rw h (l .0, all-settleNext rest p ps r a))
+
+  all-settle : (rest : List Page) (o : Option Page) (p : Page) (ps : List Page) → AllOf Q rest → AllOf Q (listOf o) → AllOf Q ps
+      → AllOf Q (settle rest o p ps)
+  unfolding settle if_then_else_
+  all-settle rest o p ps r l a = by (isEmpty (p .tuples)) (λ h. rw h (all-append Q (listOf o) ps l a)) (λ h. rw h (all-settleFull rest o p ps r l a))
+
+  all-around : (hit : Page → Bool) (f : Option Page → Page → List Page → List Page)
+      → ((o : Option Page) (p : Page) (ps : List Page) → hit p ≡ true → AllOf Q (listOf o) → AllOf Q (p ∷ ps) → AllOf Q (f o p ps))
+      → (o : Option Page) (ps : List Page) → AllOf Q (listOf o) → AllOf Q ps → AllOf Q (around hit f o ps)
+  unfolding around listOf
+  all-around hit f F o [] l a = l
+  all-around hit f F o (p ∷ ps) l a =
+      by (hit p) (λ h. rw (h, around) (F o p ps h l a))
+      (λ h. rw (h, around) (all-append Q (listOf o) _ l (all-around hit f F (some p) ps (a .0, tt) (a .1))))
+
+  all-removeOn : (n : ℕ) (o : Option Page) (p : Page) (ps : List Page) → hasNumber n p ≡ true → AllOf Q (listOf o) → AllOf Q (p ∷ ps)
+      → AllOf Q (removeOn n o p ps)
+  unfolding removeOn withTuples stillFrozen if_then_else_
+  all-removeOn n o p ps e l a =
+      by (p .frozen) (λ h. rw h (all-append Q (listOf o) _ l (Q-frozen p _ h (a .0), a .1)))
+      (λ h. rw h (all-settle _ o _ ps (Q-fresh _ _, tt) l (a .1)))
+
+  all-commitOn : (n : ℕ) (o : Option Page) (p : Page) (ps : List Page) → hasNumber n p ≡ true → AllOf Q (listOf o) → AllOf Q (p ∷ ps)
+      → AllOf Q (commitOn n o p ps)
+  unfolding commitOn withTuples stillFrozen if_then_else_
+  all-commitOn n o p ps e l a =
+      by (p .frozen) (λ h. rw h (all-append Q (listOf o) _ l (Q-frozen p _ h (a .0), a .1))) (λ h. rw h (all-append Q (listOf o) _ l (Q-fresh _ _, a .1)))
+
+  pub all-perform : (os : List Op) (ps : List Page) → AllOf Q ps → AllOf Q (perform os ps)
+  unfolding perform remove commit listOf
+  all-perform [] ps a = a
+  all-perform (toCommit n ∷ os) ps a = all-perform os (commit n ps) (all-around (hasNumber n) (commitOn n) (all-commitOn n) none ps tt a)
+  all-perform (toRemove n ∷ os) ps a = all-perform os (remove n ps) (all-around (hasNumber n) (removeOn n) (all-removeOn n) none ps tt a)
+
+  all-aroundFirst : (hit : Page → Bool) (f : Option Page → Page → List Page → List Page) (q : Page)
+      → ((o : Option Page) (ps : List Page) → AllOf Q (listOf o) → AllOf Q ps → AllOf Q (f o q ps))
+      → (o : Option Page) (ps : List Page) → first hit ps ≡ some q → AllOf Q (listOf o) → AllOf Q ps → AllOf Q (around hit f o ps)
+  unfolding around listOf first
+  all-aroundFirst hit f q F o [] e l a = never e
+  all-aroundFirst hit f q F o (p ∷ ps) e l a =
+      by (hit p) (λ h. let k : p ≡ q = some-eq (rw (h, first) at e) in rw (h, around) (subst (λ r. AllOf Q (f o r ps)) (sym k) (F o ps l (a .1))))
+      (λ h. rw (h, around) (all-append Q (listOf o) _ l (all-aroundFirst hit f q F (some p) ps (rw (h, first) at e) (a .0, tt) (a .1))))
+
+  -- the thawed page is clean if nothing was pending
+  pub all-thaw : (b : ℕ) (p : Page) (ps : List Page) → first isFrozen ps ≡ some p
+      → (any (λ x. isPending (x .pending)) (p .tuples) ≡ false → Q (record { table = p .table; block = b; frozen = false; tuples = p .tuples }))
+      → AllOf Q ps → AllOf Q (thaw b ps)
+  unfolding thaw thawOn if_then_else_ listOf
+  all-thaw b p ps e c a =
+      all-aroundFirst isFrozen (thawOn b) p
+      (λ o qs l g. by (any (λ x. isPending (x .pending)) (p .tuples))
+      (λ h. rw h (all-settle _ o _ qs (all-fresh (p .table) (splitAll (map calm (ripened (p .tuples))))) l g))
+      (λ h. rw h (all-append Q (listOf o) _ l (c h, g))))
+      none ps e tt a

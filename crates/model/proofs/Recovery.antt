@@ -1,0 +1,135 @@
+-- Recovery taken apart: what it finds in the header, directory and page blocks, and that it looks at no other block.
+use mathlib.Core.Path.{_≡_, ap, refl, sym, _∙_}
+use Prim.Native.Nat.{_-_, ℕ}
+use native.Mathlib.Omega.{arith}
+use mathlib.Core.Bool.{true}
+use mathlib.Core.List.{List, map, [], _∷_, _++_}
+use mathlib.Core.Option.{some}
+use Rattle.basics.specs.Basics.{if_then_else_, isIn}
+use Rattle.basics.proofs.Facts.{by, by-option, never, AllOf}
+use Rattle.blocks.specs.Block.{page, header, directory, Block, malformed}
+use Rattle.blocks.specs.Limits.{entriesPerBlock}
+use Rattle.blocks.specs.declared.Header.{Header}
+use Rattle.rows.specs.Rows.{rowsOk}
+use Rattle.image.specs.Whole.{pagesStage, pagesBelow}
+use Rattle.image.specs.Stages.{refuses, holds, StoredPage, headerOk, readDirectories, directoryBlocks, entriesOk, readPages, rowsOfPages, headerTest, directoryTest, testedEntries, pageTest, testedPages, addPage, pageOk}
+use Rattle.image.specs.View.{View}
+use Rattle.model.specs.State.{Store}
+use Rattle.model.specs.Recover.{recoveredStore, recoverPages}
+use Rattle.model.proofs.Views.{recoverView, recoverFrom}
+use Rattle.model.proofs.Lists.{some-eq, all-parts, all-in}
+
+pub refuses-holds {ℓ} : {A : Type 0} {X : Type ℓ} {n : ℕ} {a : A} → refuses n ≡ holds a → X
+refuses-holds e = let z : _≡_ {A = ℕ} 0 1 = cc in absurd (omega arith)
+
+pub holds-eq : {A : Type 0} {a b : A} → holds a ≡ holds b → a ≡ b
+holds-eq e = cc
+
+-- what an accepted recovery finds in a view of n blocks
+pub record Found (n : ℕ) (v : View) (s : Store) : Type 0 where
+  pub head : Header
+  pub entries : List ℕ
+  pub pages : List StoredPage
+  pub top : v 0 ≡ header head
+  pub head-ok : headerOk n head ≡ true
+  pub listed : readDirectories v (head .level) (head .pages) (directoryBlocks head) ≡ some entries
+  pub entries-ok : entriesOk (head .blocks) (directoryBlocks head) entries ≡ true
+  pub read : readPages v (head .level) entries ≡ some pages
+  pub rows-ok : rowsOk (head .capacity) (head .next) (rowsOfPages pages) ≡ true
+  pub store : recoveredStore head pages ≡ s
+
+pub found : (n : ℕ) (v : View) (s : Store) → recoverView n v ≡ holds s → Found n v s
+unfolding recoverView recoverFrom headerTest pagesStage pagesBelow directoryTest testedEntries pageTest testedPages recoverPages if_then_else_
+found n v s e = go (v 0) refl e
+  where
+    go : (x : Block) → v 0 ≡ x → recoverFrom v (headerTest n x) ≡ holds s → Found n v s
+    go malformed q e = refuses-holds e
+    go (page t k ts) q e = refuses-holds e
+    go (directory k es) q e = refuses-holds e
+    go (header h) q e =
+        by (headerOk n h)
+        (λ a. by-option (readDirectories v (h .level) (h .pages) (directoryBlocks h))
+        (λ b. refuses-holds (rw (a, b) at e))
+        (λ es b. by (entriesOk (h .blocks) (directoryBlocks h) es)
+        (λ c. by-option (readPages v (h .level) es)
+        (λ d. refuses-holds (rw (a, b, c, d) at e))
+        (λ ps d. by (rowsOk (h .capacity) (h .next) (rowsOfPages ps))
+        (λ r. record {
+          head = h;
+          entries = es;
+          pages = ps;
+          top = q;
+          head-ok = a;
+          listed = b;
+          entries-ok = c;
+          read = d;
+          rows-ok = r;
+          store = holds-eq
+              (rw (a, b, c, d, r) at e);
+        })
+        (λ r. refuses-holds (rw (a, b, c, d, r) at e))))
+        (λ c. refuses-holds (rw (a, b, c) at e))))
+        (λ a. refuses-holds (rw a at e))
+
+pub recovers : (n : ℕ) (v : View) (s : Store) → Found n v s → recoverView n v ≡ holds s
+unfolding recoverView recoverFrom headerTest pagesStage pagesBelow directoryTest testedEntries pageTest testedPages recoverPages if_then_else_
+recovers n v s f = rw (f .top, f .head-ok, f .listed, f .entries-ok, f .read, f .rows-ok) (ap holds (f .store))
+
+-- ---- the blocks named
+
+pub read-blocks : (v : View) (l : ℕ) (es : List ℕ) (ps : List StoredPage) → readPages v l es ≡ some ps → map (λ p. p .block) ps ≡ es
+unfolding readPages addPage if_then_else_
+read-blocks v l [] ps e = ap (map (λ p. p .block)) (sym (some-eq e))
+read-blocks v l (e ∷ es) ps h = go (v e) h (read-blocks v l es)
+  where
+    go : (x : Block) → addPage l e x (readPages v l es) ≡ some ps
+        → ((qs : List StoredPage) → readPages v l es ≡ some qs → map (λ p. p .block) qs ≡ es)
+        → map (λ p. p .block) ps ≡ e ∷ es
+    go malformed h r = never h
+    go (header a) h r = never h
+    go (directory k ds) h r = never h
+    go (page t k ts) h r =
+        by (pageOk l k ts)
+        (λ y. by-option (readPages v l es)
+        (λ z. never (rw (y, z) at h))
+        (λ qs z. ap (map (λ p. p .block)) (sym (some-eq (rw (y, z) at h))) ∙ ap (λ u. e ∷ u) (r qs z)))
+        (λ y. never (rw y at h))
+
+pub found-used : {n : ℕ} {v : View} {s : Store} (f : Found n v s) (b : ℕ) → s .used b ≡ isIn b (f .entries ++ directoryBlocks (f .head))
+unfolding recoveredStore
+found-used {n} {v} f b = ap (λ z. z .used b) (sym (f .store))
+    ∙ ap (λ es. isIn b (es ++ directoryBlocks (f .head))) (read-blocks v (f .head .level) (f .entries) (f .pages) (f .read))
+
+-- ---- a view that agrees on block 0 and the blocks named holds the same
+
+module _ (v v′ : View) where
+  abbrev Agree : List ℕ → Type 0
+  Agree ds = AllOf (λ d. v′ d ≡ v d) ds
+
+  dirs-frame : (l p : ℕ) (ds : List ℕ) → Agree ds → readDirectories v′ l p ds ≡ readDirectories v l p ds
+  unfolding readDirectories
+  dirs-frame l p [] a = refl
+  dirs-frame l p (d ∷ ds) a = rw (a .0, dirs-frame l (p - entriesPerBlock) ds (a .1))
+
+  pages-frame : (l : ℕ) (es : List ℕ) → Agree es → readPages v′ l es ≡ readPages v l es
+  unfolding readPages
+  pages-frame l [] a = refl
+  pages-frame l (e ∷ es) a = rw (a .0, pages-frame l es (a .1))
+
+  pub found-frame : (n : ℕ) (s : Store) → Found n v s → v′ 0 ≡ v 0 → ((b : ℕ) → s .used b ≡ true → v′ b ≡ v b) → Found n v′ s
+  found-frame n s f z a =
+      let es = f .entries in
+      let ds = directoryBlocks (f .head) in
+      let ag = all-parts (λ d. v′ d ≡ v d) es ds (all-in (λ d. v′ d ≡ v d) (es ++ ds) (λ b i. a b (found-used f b ∙ i))) in
+      record {
+        head = f .head;
+        entries = es;
+        pages = f .pages;
+        top = z ∙ f .top;
+        head-ok = f .head-ok;
+        listed = dirs-frame (f .head .level) (f .head .pages) ds (ag .1) ∙ f .listed;
+        entries-ok = f .entries-ok;
+        read = pages-frame (f .head .level) es (ag .0) ∙ f .read;
+        rows-ok = f .rows-ok;
+        store = f .store;
+      }

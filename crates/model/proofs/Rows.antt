@@ -1,0 +1,502 @@
+-- The rows of the pages, held and live, as two images of one list of entries; and what each rule on pages does to them.
+use mathlib.Core.Path.{ap, _≡_, refl, _∙_, sym, subst}
+use Prim.Native.Nat.{ℕ, _<_, _≤_}
+use native.Mathlib.Omega.{arith}
+use mathlib.Core.Bool.{true, Bool, false}
+use mathlib.Core.List.{List, [], _∷_, _++_, map, append-assoc, append-nil}
+use mathlib.Core.Logic.{_≢_}
+use mathlib.Core.Option.{Option, none, some}
+use lib.Dec.{eqb}
+use lib.ListN.{length}
+use Rattle.basics.specs.Basics.{if_then_else_, isEmpty, any}
+use Rattle.basics.proofs.Facts.{by, lie, and-true, AllOf}
+use Rattle.blocks.specs.Tuple.{Owner, committed, Tuple}
+use Rattle.rows.specs.Rows.{Row, rowsOf, number}
+use Rattle.model.specs.State.{Held, Page}
+use Rattle.model.specs.Rules.{isRemoving, ripe, ripened, fresh, joins, joined, settleNext, settle, settleFull, listOf, commit, asCommitted, isCommitting, around, calm, splitAll, thawOn, thaw, isPending, isFrozen, kept, isNumber, edit, hasNumber, gone, goneLater, withPending, isAdding, keptLater, remove, removeOn, withTuples, commitOn, freeze}
+use Rattle.model.specs.Sight.{rows, held}
+use Rattle.model.specs.Transactions.{isRow}
+use Rattle.model.proofs.Lists.{eqb-true, nothing-left, has-some, here, Pairs, all-map, off-any, pairs-parts}
+use Rattle.model.proofs.Splits.{together, Small, split-all}
+use Rattle.model.proofs.Frozen.{bare, takenLater-is}
+use Rattle.model.proofs.Sound.{PageOk, small, ripened-calm}
+
+-- a tuple as it stands on its page, with its table
+abbrev pub Entry : Type 0
+Entry = ℕ × Held
+
+unfoldable pub withTable : ℕ → List Held → List Entry
+withTable t [] = []
+withTable t (x ∷ xs) = (t, x) ∷ withTable t xs
+
+unfoldable pub entries : List Page → List Entry
+entries [] = []
+entries (p ∷ ps) = withTable (p .table) (p .tuples) ++ entries ps
+
+-- held: the tuples as they are
+abbrev pub asRow : Entry → Row
+asRow e = (e .0, e .1 .tuple)
+
+abbrev pub plain : List Entry → List Row
+plain es = map asRow es
+
+-- live: pending operations taken as done
+unfoldable pub live : List Entry → List Row
+live [] = []
+live (e ∷ es) = if isRemoving (e .1 .pending) then live es else (e .0, ripe (e .1)) ∷ live es
+
+-- ---- appending
+
+table-append : (t : ℕ) (a b : List Held) → withTable t (a ++ b) ≡ withTable t a ++ withTable t b
+unfolding withTable
+table-append t [] b = refl
+table-append t (x ∷ a) b = rw (table-append t a b)
+
+pub entries-append : (a b : List Page) → entries (a ++ b) ≡ entries a ++ entries b
+unfolding entries
+entries-append [] b = refl
+entries-append (p ∷ a) b = rw (entries-append a b, append-assoc)
+
+pub live-append : (a b : List Entry) → live (a ++ b) ≡ live a ++ live b
+unfolding live if_then_else_
+live-append [] b = refl
+live-append (r ∷ a) b = by (isRemoving (r .1 .pending)) (λ h. rw (h, live-append a b)) (λ h. rw (h, live-append a b))
+
+pub plain-append : (a b : List Entry) → plain (a ++ b) ≡ plain a ++ plain b
+plain-append [] b = refl
+plain-append (e ∷ a) b = rw (plain-append a b)
+
+plain-rows : (t : ℕ) (ts : List Held) → plain (withTable t ts) ≡ rowsOf t (bare ts)
+unfolding withTable rowsOf
+plain-rows t [] = refl
+plain-rows t (x ∷ xs) = rw (plain-rows t xs)
+
+live-rows : (t : ℕ) (ts : List Held) → live (withTable t ts) ≡ rowsOf t (ripened ts)
+unfolding live withTable rowsOf ripened if_then_else_
+live-rows t [] = refl
+live-rows t (x ∷ xs) = by (isRemoving (x .pending)) (λ h. rw (h, live-rows t xs)) (λ h. rw (h, live-rows t xs))
+
+pub held-plain : (ps : List Page) → held ps ≡ plain (entries ps)
+unfolding held entries
+held-plain [] = refl
+held-plain (p ∷ ps) = rw (held-plain ps, plain-append (withTable (p .table) (p .tuples)), plain-rows (p .table) (p .tuples))
+
+pub rows-live : (ps : List Page) → rows ps ≡ live (entries ps)
+unfolding rows entries live
+rows-live [] = refl
+rows-live (p ∷ ps) = rw (rows-live ps, live-append (withTable (p .table) (p .tuples)), live-rows (p .table) (p .tuples))
+
+pub entries-fresh : (t : ℕ) (tss : List (List Held)) → entries (map (fresh t) tss) ≡ withTable t (together tss)
+unfolding entries together fresh withTable
+entries-fresh t [] = refl
+entries-fresh t (ts ∷ tss) = rw (entries-fresh t tss, table-append t ts (together tss))
+
+-- ---- settling leaves the entries
+
+joins-table : (p q : Page) → joins p q ≡ true → p .table ≡ q .table
+unfolding joins
+joins-table p q e = by (p .frozen) (λ h. lie (rw (h, joins) at e))
+    (λ h. by (q .frozen) (λ k. lie (rw (h, k, joins) at e)) (λ k. eqb-true (p .table) (q .table) (and-true (eqb (p .table) (q .table)) _ (rw (h, k, joins) at e) .0)))
+
+entries-joined : (p q : Page) (ps : List Page) → p .table ≡ q .table → entries (joined p q ∷ ps) ≡ entries (p ∷ q ∷ ps)
+unfolding entries joined fresh
+entries-joined p q ps e = rw (← e, table-append (p .table), append-assoc)
+
+entries-settleNext : (rest : List Page) (p : Page) (ps : List Page) → entries rest ≡ entries (p ∷ [])
+    → entries (settleNext rest p ps) ≡ entries (p ∷ ps)
+unfolding settleNext if_then_else_
+entries-settleNext rest p [] r = r
+entries-settleNext rest p (q ∷ qs) r =
+    by (joins p q) (λ h. rw h (entries-joined p q qs (joins-table p q h)))
+    (λ h. rw h (entries-append rest (q ∷ qs) ∙ ap (λ z. z ++ entries (q ∷ qs)) r ∙ sym (entries-append (p ∷ []) (q ∷ qs))))
+
+entries-settleFull : (rest : List Page) (o : Option Page) (p : Page) (ps : List Page) → entries rest ≡ entries (p ∷ [])
+    → entries (settleFull rest o p ps) ≡ entries (listOf o ++ p ∷ ps)
+unfolding settleFull listOf if_then_else_
+entries-settleFull rest none p ps r = entries-settleNext rest p ps r
+entries-settleFull rest (some o) p ps r =
+    by (joins o p) (λ h. rw h (entries-joined o p ps (joins-table o p h)))
+    (λ h. rw h (entries-append (o ∷ []) (settleNext rest p ps) ∙ ap (λ z. entries (o ∷ []) ++ z) (entries-settleNext rest p ps r)
+    ∙ sym (entries-append (o ∷ []) (p ∷ ps))))
+
+entries-settle : (rest : List Page) (o : Option Page) (p : Page) (ps : List Page) → (0 < length (p .tuples) → entries rest ≡ entries (p ∷ []))
+    → entries (settle rest o p ps) ≡ entries (listOf o ++ p ∷ ps)
+unfolding settle if_then_else_
+entries-settle rest o p ps r =
+    by (isEmpty (p .tuples))
+    (λ h. rw h (entries-append (listOf o) ps ∙ ap (λ z. entries (listOf o) ++ z) (empty-page (nothing-left (p .tuples) h)) ∙ sym (entries-append (listOf o) (p ∷ ps))))
+    (λ h. rw h (entries-settleFull rest o p ps (r (has-some (p .tuples) h))))
+  where
+    empty-page : p .tuples ≡ [] → entries ps ≡ entries (p ∷ ps)
+    empty-page e = unfold entries withTable in rw e
+
+-- ---- a sublist, whose rows keep all but that they may be committed since
+
+pub data Since : Owner → Owner → Type 0 where
+  still : {o : Owner} → Since o o
+  settled : {o : Owner} → Since committed o
+
+since-trans : {a b c : Owner} → Since a b → Since b c → Since a c
+since-trans still t = t
+since-trans settled t = settled
+
+abbrev pub Alike : Row → Row → Type 0
+Alike a b = (a .0 ≡ b .0) × (a .1 .key ≡ b .1 .key) × (a .1 .number ≡ b .1 .number) × (a .1 .payload ≡ b .1 .payload) × Since (a .1 .owner) (b .1 .owner)
+
+pub data Sub : List Row → List Row → Type 0 where
+  empty : Sub [] []
+  skip : {b : Row} {xs ys : List Row} → Sub xs ys → Sub xs (b ∷ ys)
+  take : {a b : Row} {xs ys : List Row} → Alike a b → Sub xs ys → Sub (a ∷ xs) (b ∷ ys)
+
+pub sub-refl : (rs : List Row) → Sub rs rs
+sub-refl [] = empty
+sub-refl (r ∷ rs) = take (refl, refl, refl, refl, still) (sub-refl rs)
+
+sub-append : {xs ys zs ws : List Row} → Sub xs ys → Sub zs ws → Sub (xs ++ zs) (ys ++ ws)
+sub-append empty t = t
+sub-append (skip s) t = skip (sub-append s t)
+sub-append (take e s) t = take e (sub-append s t)
+
+pub sub-trans : {xs ys zs : List Row} → Sub xs ys → Sub ys zs → Sub xs zs
+sub-trans s empty = s
+sub-trans s (skip t) = skip (sub-trans s t)
+sub-trans (skip s) (take e t) = skip (sub-trans s t)
+sub-trans (take f s) (take e t) = take (f .0 ∙ e .0, f .1 ∙ e .1, f .2 ∙ e .2, f .3 ∙ e .3, since-trans (f .4) (e .4)) (sub-trans s t)
+
+pub sub-length : {xs ys : List Row} → Sub xs ys → length xs ≤ length ys
+sub-length empty = omega arith
+sub-length (skip s) = let k = sub-length s in omega arith
+sub-length (take e s) = let k = sub-length s in omega arith
+
+pub sub-all : (P Q : Row → Type 0) → ((a b : Row) → Alike a b → P b → Q a) → {xs ys : List Row} → Sub xs ys → AllOf P ys → AllOf Q xs
+sub-all P Q f empty h = tt
+sub-all P Q f (skip s) h = sub-all P Q f s (h .1)
+sub-all P Q f (take {a} {b} e s) h = (f a b e (h .0), sub-all P Q f s (h .1))
+
+pub sub-pairs : (R : Row → Row → Type 0) → ((a b c d : Row) → Alike a b → Alike c d → R b d → R a c) → {xs ys : List Row} → Sub xs ys → Pairs R ys
+    → Pairs R xs
+sub-pairs R f empty h = tt
+sub-pairs R f (skip s) h = sub-pairs R f s (h .1)
+sub-pairs R f (take {a} {b} e s) h =
+    (sub-all (R b) (R a) (λ c d g r. f a b c d e g r) s (h .0), sub-pairs R f s (h .1))
+
+-- the live rows among those held
+pub live-sub : (es : List Entry) → Sub (live es) (plain es)
+unfolding live if_then_else_ ripe asCommitted
+live-sub [] = empty
+live-sub (e ∷ es) = by (isRemoving (e .1 .pending)) (λ h. rw h (skip (live-sub es))) (λ h. rw h (take (go (isCommitting (e .1 .pending)) refl) (live-sub es)))
+  where
+    go : (b : Bool) → isCommitting (e .1 .pending) ≡ b → Alike (e .0, ripe (e .1)) (asRow e)
+    go true h = rw h (refl, refl, refl, refl, settled)
+    go false h = rw h (refl, refl, refl, refl, still)
+
+-- ---- what is done at one page, to all entries
+
+module _ (P : List Entry → List Entry → Type 0) (hit : Page → Bool) (f : Option Page → Page → List Page → List Page)
+    (none-held : P [] [])
+    (past : (p : Page) → hit p ≡ false → (a b : List Entry) → P a b
+    → P (withTable (p .table) (p .tuples) ++ a) (withTable (p .table) (p .tuples) ++ b))
+    (here : (o : Option Page) (p : Page) (ps : List Page) → AllOf (λ q. hit q ≡ false) (listOf o) → hit p ≡ true → AllOf PageOk (p ∷ ps)
+    → P (entries (f o p ps)) (entries (listOf o ++ p ∷ ps))) where
+  past-list : (qs : List Page) → AllOf (λ q. hit q ≡ false) qs → (a b : List Entry) → P a b → P (entries qs ++ a) (entries qs ++ b)
+  unfolding entries
+  past-list [] h a b r = r
+  past-list (q ∷ qs) h a b r =
+      let c = withTable (q .table) (q .tuples) in
+      rw (append-assoc c (entries qs) a, append-assoc c (entries qs) b) (past q (h .0) (entries qs ++ a) (entries qs ++ b) (past-list qs (h .1) a b r))
+
+  around-held : (o : Option Page) (ps : List Page) → AllOf (λ q. hit q ≡ false) (listOf o) → AllOf PageOk ps
+      → P (entries (around hit f o ps)) (entries (listOf o ++ ps))
+  unfolding around listOf
+  around-held o [] h k = rw (append-nil (listOf o)) (subst (λ z. P z z) (append-nil (entries (listOf o))) (past-list (listOf o) h [] [] none-held))
+  around-held o (p ∷ ps) h k =
+      by (hit p) (λ e. rw (e, around) (here o p ps h e k))
+      (λ e. rw (e, around, entries-append (listOf o), entries-append (listOf o)) (past-list (listOf o) h _ _ (around-held (some p) ps (e, tt) (k .1))))
+
+-- ---- thawing: the live rows stay
+
+calm-plain : (t : ℕ) (xs : List Tuple) → (plain (withTable t (map calm xs)) ≡ rowsOf t xs) × (live (withTable t (map calm xs)) ≡ rowsOf t xs)
+unfolding live withTable rowsOf calm if_then_else_ ripe isRemoving isCommitting
+calm-plain t [] = (refl, refl)
+calm-plain t (x ∷ xs) = let r = calm-plain t xs in (rw (r .0), rw (r .1))
+
+-- b became a: among b's rows, and the same live ones
+abbrev Still : List Entry → List Entry → Type 0
+Still a b = Sub (plain a) (plain b) × (live a ≡ live b)
+
+still-append : (a b c d : List Entry) → Still a b → Still c d → Still (a ++ c) (b ++ d)
+still-append a b c d s t = (
+  rw (plain-append a c, plain-append b d) (sub-append (s .0) (t .0)),
+  live-append a c ∙ ap (λ z. z ++ live c) (s .1)
+      ∙ ap (λ z. live b ++ z) (t .1) ∙ sym (live-append b d),
+)
+
+still-refl : (a : List Entry) → Still a a
+still-refl a = (sub-refl (plain a), refl)
+
+entries-parts : (t : ℕ) (ts : List Held) → AllOf Small ts → 0 < length ts → entries (map (fresh t) (splitAll ts)) ≡ entries (fresh t ts ∷ [])
+entries-parts t ts s l = entries-fresh t (splitAll ts) ∙ ap (withTable t) (split-all ts l s .1) ∙ (unfold entries fresh in sym (append-nil (withTable t ts)))
+
+still-mid : (o : Option Page) (p : Page) (ps : List Page) (X : List Entry) → Still X (withTable (p .table) (p .tuples))
+    → Still (entries (listOf o) ++ (X ++ entries ps)) (entries (listOf o ++ p ∷ ps))
+unfolding entries
+still-mid o p ps X s = rw (entries-append (listOf o) (p ∷ ps))
+    (still-append (entries (listOf o)) (entries (listOf o)) _ _ (still-refl (entries (listOf o)))
+    (still-append X (withTable (p .table) (p .tuples)) (entries ps) (entries ps) s (still-refl (entries ps))))
+
+still-ripe : (t : ℕ) (ts : List Held) → Still (withTable t (map calm (ripened ts))) (withTable t ts)
+still-ripe t ts =
+    let c = calm-plain t (ripened ts) in
+    (subst (λ z. Sub z (plain (withTable t ts))) (live-rows t ts ∙ sym (c .0)) (live-sub (withTable t ts)), c .1 ∙ sym (live-rows t ts))
+
+entries-page : (o : Option Page) (p : Page) (ps : List Page)
+    → entries (listOf o ++ p ∷ ps) ≡ entries (listOf o) ++ (withTable (p .table) (p .tuples) ++ entries ps)
+unfolding entries
+entries-page o p ps = entries-append (listOf o) (p ∷ ps)
+
+still-thawOn : (b : ℕ) (o : Option Page) (p : Page) (ps : List Page) → PageOk p → Still (entries (thawOn b o p ps)) (entries (listOf o ++ p ∷ ps))
+unfolding thawOn if_then_else_ fresh
+still-thawOn b o p ps ok =
+    let ts = map calm (ripened (p .tuples)) in
+    let q = fresh (p .table) ts in
+    by (any (λ x. isPending (x .pending)) (p .tuples))
+    (λ h. rw (
+      h,
+      entries-settle (map (fresh (p .table)) (splitAll ts)) o q ps
+          (entries-parts (p .table) ts (small ts (ripened-calm (p .tuples) (ok .0)))),
+      entries-page o q ps,
+    )
+    (still-mid o p ps (withTable (p .table) ts) (still-ripe (p .table) (p .tuples))))
+    (λ h. rw (h, entries-page o (record { table = p .table; block = b; frozen = false; tuples = p .tuples }) ps)
+    (still-mid o p ps (withTable (p .table) (p .tuples)) (still-refl (withTable (p .table) (p .tuples)))))
+
+-- a step of the checkpoint changes nothing that a transaction sees
+still-thaw : (b : ℕ) (ps : List Page) → AllOf PageOk ps → Still (entries (thaw b ps)) (entries ps)
+unfolding thaw listOf live entries
+still-thaw b ps a = around-held Still isFrozen (thawOn b) (empty, refl)
+    (λ p h a b s. let c = withTable (p .table) (p .tuples) in still-append c c a b (still-refl c) s) (λ o p ps h k ok. still-thawOn b o p ps (ok .0)) none ps tt a
+
+-- ---- removing and committing: the live row of that number is taken away, or committed
+
+unfoldable pub amend : (Row → List Row) → ℕ → List Row → List Row
+amend G n [] = []
+amend G n (r ∷ rs) = if isRow n r then G r ++ amend G n rs else r ∷ amend G n rs
+
+unfoldable pub away : Row → List Row
+away r = []
+
+unfoldable pub kept-row : Row → List Row
+kept-row r = (r .0, asCommitted (r .1)) ∷ []
+
+abbrev pub Differ : Row → Row → Type 0
+Differ a b = a .1 .number ≢ b .1 .number
+
+-- the entries of two rows that differ
+abbrev pub Apart : Entry → Entry → Type 0
+Apart a b = Differ (asRow a) (asRow b)
+
+ripe-number : (n t : ℕ) (x : Held) → isRow n (t, ripe x) ≡ isNumber n x
+unfolding isRow number isNumber ripe asCommitted if_then_else_
+ripe-number n t x = by (isCommitting (x .pending)) (λ h. rw h) (λ h. rw h)
+
+-- rows without that number stay
+amend-off : (G : Row → List Row) (n : ℕ) (rs : List Entry) → AllOf (λ r. isNumber n (r .1) ≡ false) rs → amend G n (live rs) ≡ live rs
+unfolding amend live if_then_else_
+amend-off G n [] h = refl
+amend-off G n (r ∷ rs) h =
+    by (isRemoving (r .1 .pending)) (λ k. rw k (amend-off G n rs (h .1)))
+    (λ k. rw (k, ripe-number n (r .0) (r .1), h .0, amend-off G n rs (h .1)))
+
+differ-off : (n : ℕ) (r : Entry) (rs : List Entry) → isNumber n (r .1) ≡ true → AllOf (Apart r) rs → AllOf (λ s. isNumber n (s .1) ≡ false) rs
+unfolding isNumber
+differ-off n r rs h a = all-map _ _ (λ s d. by (eqb (s .1 .tuple .number) n) (λ k. absurd (d (eqb-true _ n h ∙ sym (eqb-true _ n k)))) (λ k. k)) rs a
+
+-- what is done to a tuple on its page, g, and what that does to its live row, G
+record Edits (g : Held → List Held) (G : Row → List Row) : Type 0 where
+  dead : (t : ℕ) (x : Held) → isRemoving (x .pending) ≡ true → live (withTable t (g x)) ≡ []
+  alive : (t : ℕ) (x : Held) → isRemoving (x .pending) ≡ false → live (withTable t (g x)) ≡ G (t, ripe x)
+  among : (t : ℕ) (x : Held) → Sub (plain (withTable t (g x))) (asRow (t, x) ∷ [])
+
+module _ (g : Held → List Held) (G : Row → List Row) (E : Edits g G) (n t : ℕ) where
+  edit-sub : (ts : List Held) → Sub (plain (withTable t (edit g n ts))) (plain (withTable t ts))
+  unfolding edit withTable if_then_else_
+  edit-sub [] = empty
+  edit-sub (x ∷ xs) =
+      by (isNumber n x) (λ h. rw (h, table-append t (g x) xs, plain-append (withTable t (g x))) (sub-append (E .among t x) (sub-refl (plain (withTable t xs)))))
+      (λ h. rw h (take (refl, refl, refl, refl, still) (edit-sub xs)))
+
+  edit-live : (ts : List Held) (rest : List Entry) → any (isNumber n) ts ≡ true → Pairs Apart (withTable t ts ++ rest)
+      → live (withTable t (edit g n ts) ++ rest) ≡ amend G n (live (withTable t ts ++ rest))
+  unfolding edit withTable live amend any if_then_else_
+  edit-live [] rest e d = lie e
+  edit-live (x ∷ xs) rest e d =
+      by (isNumber n x)
+      (λ h. let off = amend-off G n (withTable t xs ++ rest) (differ-off n (t, x) (withTable t xs ++ rest) h (d .0)) in
+      by (isRemoving (x .pending))
+      (λ k. rw (h, k, off, table-append t (g x) xs, append-assoc (withTable t (g x)) (withTable t xs) rest, live-append (withTable t (g x)), E .dead t x k))
+      (λ k. rw (
+        h,
+        k,
+        ripe-number n t x,
+        h,
+        off,
+        table-append t (g x) xs,
+        append-assoc (withTable t (g x)) (withTable t xs) rest,
+        live-append (withTable t (g x)),
+        E .alive t x k,
+      )))
+      (λ h. let r = edit-live xs rest (rw (h, any) at e) (d .1) in
+      by (isRemoving (x .pending)) (λ k. rw (h, k) r) (λ k. rw (h, k, ripe-number n t x, h) (ap (λ z. (t, ripe x) ∷ z) r)))
+
+-- what an operation on the tuple of number n does to the rows
+abbrev pub Amends : (Row → List Row) → ℕ → List Entry → List Entry → Type 0
+Amends G n a b = Sub (plain a) (plain b) × (Pairs Apart b → live a ≡ amend G n (live b))
+
+amend-append : (G : Row → List Row) (n : ℕ) (a b : List Row) → amend G n (a ++ b) ≡ amend G n a ++ amend G n b
+unfolding amend if_then_else_
+amend-append G n [] b = refl
+amend-append G n (r ∷ a) b = by (isRow n r) (λ h. rw (h, amend-append G n a b, append-assoc)) (λ h. rw (h, amend-append G n a b))
+
+pub all-table : (P : Entry → Type 0) (Q : Held → Type 0) (t : ℕ) → ((x : Held) → Q x → P (t, x)) → (ts : List Held) → AllOf Q ts
+    → AllOf P (withTable t ts)
+unfolding withTable
+all-table P Q t f [] a = tt
+all-table P Q t f (x ∷ xs) a = (f x (a .0), all-table P Q t f xs (a .1))
+
+hasNumber-off : (n : ℕ) (p : Page) → hasNumber n p ≡ false → AllOf (λ r. isNumber n (r .1) ≡ false) (withTable (p .table) (p .tuples))
+unfolding hasNumber
+hasNumber-off n p h = all-table (λ r. isNumber n (r .1) ≡ false) (λ x. isNumber n x ≡ false) (p .table) (λ x k. k) (p .tuples) (off-any (isNumber n) (p .tuples) h)
+
+amends-past : (G : Row → List Row) (n : ℕ) (c a b : List Entry) → AllOf (λ r. isNumber n (r .1) ≡ false) c → Amends G n a b
+    → Amends G n (c ++ a) (c ++ b)
+amends-past G n c a b h s = (
+  rw (plain-append c a, plain-append c b) (sub-append (sub-refl (plain c)) (s .0)),
+  λ d. live-append c a ∙ ap (λ z. live c ++ z) (s .1 (pairs-parts Apart c b d .1)) ∙ ap (λ z. z ++ amend G n (live b)) (sym (amend-off G n c h))
+      ∙ sym (amend-append G n (live c) (live b)) ∙ ap (amend G n) (sym (live-append c b)),
+)
+
+amends-list : (G : Row → List Row) (n : ℕ) (qs : List Page) (a b : List Entry) → AllOf (λ q. hasNumber n q ≡ false) qs → Amends G n a b
+    → Amends G n (entries qs ++ a) (entries qs ++ b)
+unfolding entries
+amends-list G n [] a b off r = r
+amends-list G n (q ∷ qs) a b off r =
+    let c = withTable (q .table) (q .tuples) in
+    rw (append-assoc c (entries qs) a, append-assoc c (entries qs) b)
+    (amends-past G n c (entries qs ++ a) (entries qs ++ b) (hasNumber-off n q (off .0)) (amends-list G n qs a b (off .1) r))
+
+amends-here : (g : Held → List Held) (G : Row → List Row) → Edits g G → (n : ℕ) (o : Option Page) (p : Page) (ps : List Page)
+    → AllOf (λ q. hasNumber n q ≡ false) (listOf o) → hasNumber n p ≡ true
+    → Amends G n (entries (listOf o) ++ (withTable (p .table) (edit g n (p .tuples)) ++ entries ps)) (entries (listOf o ++ p ∷ ps))
+unfolding hasNumber
+amends-here g G E n o p ps off h =
+    rw (entries-page o p ps) (amends-list G n (listOf o) _ _ off (
+      rw (plain-append (withTable (p .table) (edit g n (p .tuples))), plain-append (withTable (p .table) (p .tuples)))
+          (sub-append (edit-sub g G E n (p .table) (p .tuples)) (sub-refl (plain (entries ps)))),
+      λ d. edit-live g G E n (p .table) (p .tuples) (entries ps) h d,
+    ))
+
+gone-edits : Edits gone away
+unfolding gone away withTable live
+gone-edits = record { dead = λ t x h. refl; alive = λ t x h. refl; among = λ t x. skip empty }
+
+goneLater-edits : Edits goneLater away
+unfolding goneLater away withTable live if_then_else_ withPending isRemoving
+goneLater-edits = record {
+  dead = λ t x h. by (isAdding (x .pending)) (λ k. rw k) (λ k. rw k);
+  alive = λ t x h. by (isAdding (x .pending)) (λ k. rw k) (λ k. rw k);
+  among = λ t x. by (isAdding (x .pending)) (λ k. rw k (skip empty)) (λ k. rw k (take (refl, refl, refl, refl, still) empty));
+}
+
+kept-edits : Edits kept kept-row
+unfolding kept kept-row withTable live if_then_else_ asCommitted ripe withPending
+kept-edits = record {
+  dead = λ t x h. rw h;
+  alive = λ t x h. by (isCommitting (x .pending)) (λ k. rw (h, k)) (λ k. rw (h, k));
+  among = λ t x. take (refl, refl, refl, refl, settled) empty;
+}
+
+keptLater-edits : Edits keptLater kept-row
+unfolding keptLater kept kept-row withTable live if_then_else_ asCommitted ripe withPending isRemoving isCommitting
+keptLater-edits = record {
+  dead = λ t x h. by (isAdding (x .pending)) (λ k. rw (k, h)) (λ k. rw (k, h, h));
+  alive = λ t x h. by (isAdding (x .pending)) (λ k. by (isCommitting (x .pending)) (λ m. rw (k, h, m)) (λ m. rw (k, h, m)))
+      (λ k. by (isCommitting (x .pending)) (λ m. rw (k, h, m)) (λ m. rw (k, h, m)));
+  among = λ t x. by (isAdding (x .pending)) (λ k. rw k (take (refl, refl, refl, refl, settled) empty))
+      (λ k. by (isRemoving (x .pending)) (λ m. rw (k, m) (take (refl, refl, refl, refl, still) empty)) (λ m. rw (k, m) (take (refl, refl, refl, refl, still) empty)));
+}
+
+-- (equations of lists first: `rw` by a field rewrites the whole record)
+entries-remove-frozen : (n : ℕ) (o : Option Page) (p : Page) (ps : List Page) → p .frozen ≡ true → PageOk p
+    → entries (removeOn n o p ps) ≡ entries (listOf o) ++ (withTable (p .table) (edit goneLater n (p .tuples)) ++ entries ps)
+unfolding removeOn if_then_else_ withTuples
+entries-remove-frozen n o p ps f ok = rw (f, entries-page o _ ps, takenLater-is n (p .tuples) (ok .2 f .1))
+
+entries-remove-free : (n : ℕ) (o : Option Page) (p : Page) (ps : List Page) → p .frozen ≡ false
+    → entries (removeOn n o p ps) ≡ entries (listOf o) ++ (withTable (p .table) (edit gone n (p .tuples)) ++ entries ps)
+unfolding removeOn if_then_else_ fresh
+entries-remove-free n o p ps f = let q = fresh (p .table) (edit gone n (p .tuples)) in rw (f, entries-settle (q ∷ []) o q ps (λ m. refl), entries-page o q ps)
+
+entries-commit-frozen : (n : ℕ) (o : Option Page) (p : Page) (ps : List Page) → p .frozen ≡ true
+    → entries (commitOn n o p ps) ≡ entries (listOf o) ++ (withTable (p .table) (edit keptLater n (p .tuples)) ++ entries ps)
+unfolding commitOn if_then_else_ withTuples
+entries-commit-frozen n o p ps f = rw (f, entries-page o _ ps)
+
+entries-commit-free : (n : ℕ) (o : Option Page) (p : Page) (ps : List Page) → p .frozen ≡ false
+    → entries (commitOn n o p ps) ≡ entries (listOf o) ++ (withTable (p .table) (edit kept n (p .tuples)) ++ entries ps)
+unfolding commitOn if_then_else_ fresh
+entries-commit-free n o p ps f = rw (f, entries-page o _ ps)
+
+amends-removeOn : (n : ℕ) (o : Option Page) (p : Page) (ps : List Page) → AllOf (λ q. hasNumber n q ≡ false) (listOf o) → hasNumber n p ≡ true → PageOk p
+    → Amends away n (entries (removeOn n o p ps)) (entries (listOf o ++ p ∷ ps))
+amends-removeOn n o p ps off h ok =
+    by (p .frozen)
+    (λ f. subst (λ z. Amends away n z (entries (listOf o ++ p ∷ ps))) (sym (entries-remove-frozen n o p ps f ok)) (amends-here goneLater away goneLater-edits n o p ps off h))
+    (λ f. subst (λ z. Amends away n z (entries (listOf o ++ p ∷ ps))) (sym (entries-remove-free n o p ps f)) (amends-here gone away gone-edits n o p ps off h))
+
+amends-commitOn : (n : ℕ) (o : Option Page) (p : Page) (ps : List Page) → AllOf (λ q. hasNumber n q ≡ false) (listOf o) → hasNumber n p ≡ true
+    → Amends kept-row n (entries (commitOn n o p ps)) (entries (listOf o ++ p ∷ ps))
+amends-commitOn n o p ps off h =
+    by (p .frozen)
+    (λ f. subst (λ z. Amends kept-row n z (entries (listOf o ++ p ∷ ps))) (sym (entries-commit-frozen n o p ps f))
+    (amends-here keptLater kept-row keptLater-edits n o p ps off h))
+    (λ f. subst (λ z. Amends kept-row n z (entries (listOf o ++ p ∷ ps))) (sym (entries-commit-free n o p ps f)) (amends-here kept kept-row kept-edits n o p ps off h))
+
+amends-none : (G : Row → List Row) (n : ℕ) → Amends G n [] []
+unfolding live amend
+amends-none G n = (empty, λ d. refl)
+
+pub amends-remove : (n : ℕ) (ps : List Page) → AllOf PageOk ps → Amends away n (entries (remove n ps)) (entries ps)
+unfolding remove listOf
+amends-remove n ps a = around-held (Amends away n) (hasNumber n) (removeOn n) (amends-none away n) (λ p h a b s. amends-past away n (withTable (p .table) (p .tuples)) a b (hasNumber-off n p h) s) (λ o p ps h k ok. amends-removeOn n o p ps h k (ok .0)) none ps tt a
+
+pub amends-commit : (n : ℕ) (ps : List Page) → AllOf PageOk ps → Amends kept-row n (entries (commit n ps)) (entries ps)
+unfolding commit listOf
+amends-commit n ps a = around-held (Amends kept-row n) (hasNumber n) (commitOn n) (amends-none kept-row n)
+    (λ p h a b s. amends-past kept-row n (withTable (p .table) (p .tuples)) a b (hasNumber-off n p h) s) (λ o p ps h k ok. amends-commitOn n o p ps h k) none ps tt a
+
+-- ---- freezing and thawing change no row
+
+pub held-freeze : (ps : List Page) → held (map freeze ps) ≡ held ps
+unfolding held freeze
+held-freeze [] = refl
+held-freeze (p ∷ ps) = rw (held-freeze ps)
+
+pub rows-freeze : (ps : List Page) → rows (map freeze ps) ≡ rows ps
+unfolding rows freeze
+rows-freeze [] = refl
+rows-freeze (p ∷ ps) = rw (rows-freeze ps)
+
+pub thaw-rows : (b : ℕ) (ps : List Page) → AllOf PageOk ps → Sub (held (thaw b ps)) (held ps) × (rows (thaw b ps) ≡ rows ps)
+thaw-rows b ps a =
+    let r = still-thaw b ps a in
+    (rw (held-plain ps, held-plain (thaw b ps)) (r .0), rows-live (thaw b ps) ∙ r .1 ∙ sym (rows-live ps))
+
+-- ---- pairs of rows and of entries
+
+pub pairs-plain : (R : Row → Row → Type 0) (es : List Entry) → Pairs R (plain es) → Pairs (λ a b. R (asRow a) (asRow b)) es
+pairs-plain R [] p = tt
+pairs-plain R (e ∷ es) p = (go es (p .0), pairs-plain R es (p .1))
+  where
+    go : (fs : List Entry) → AllOf (R (asRow e)) (plain fs) → AllOf (λ b. R (asRow e) (asRow b)) fs
+    go [] a = tt
+    go (f ∷ fs) a = (a .0, go fs (a .1))

@@ -1,0 +1,436 @@
+-- What a transaction sees after each call.
+use mathlib.Core.Path.{_≡_, sym, refl, ap, _∙_, ap₂, subst}
+use Prim.Native.Nat.{_≤_, suc, ℕ, zero, min}
+use native.Mathlib.Omega.{arith}
+use mathlib.Core.Bool.{not, false, true, Bool, _&&_}
+use mathlib.Core.List.{List, _∷_, [], _++_, append-nil}
+use mathlib.Core.Option.{none, some, Option}
+use lib.Dec.{ltb, eqb}
+use lib.ListN.{length}
+use Rattle.basics.specs.Basics.{if_then_else_, keep, last, first, isIn}
+use Rattle.basics.proofs.Facts.{by, lie, AllOf, by-option}
+use Rattle.blocks.specs.Tuple.{isTentative, Owner, committed, tentative}
+use Rattle.rows.specs.Rows.{Row, isAt, isOwn, isBy, number}
+use Rattle.model.specs.State.{Store, Outcome, filled, refused}
+use Rattle.model.specs.Rules.{asCommitted}
+use Rattle.model.specs.Sight.{seen, rows, versions, seenOf}
+use Rattle.model.specs.Transactions.{newTuple, written, openNumbers, isRow, ownAt, unless, Test, gives, _when_, readSeen, readCall, notOpen, noTable, withWrite, changed, insertCall, replaceCall, deleteCall, listCall, commitCall, perform, removeAll, without, openCall, abortCall}
+use Rattle.model.specs.Checkpoint.{left, stepCall, beginCall, stored, inTurn, stepAt, runCall}
+use Rattle.model.specs.Calls.{Call, reads, call, opens, inserts, replaces, deletes, commits, aborts, lists, begins, steps, runs}
+use Rattle.model.specs.Seen.{remains, WriterReads, WriterMisses, LooksOnly, RowsStay, SeenAfterCommit, mayShow, SeenAsBefore}
+use Rattle.model.proofs.Lists.{leb-false, eqb-self, here, Pairs, keep-cons, keep-past, all-map, keep-none, and-yes, and-no, eqb-true, all-mem, not-false, Mem, there, mem-all, last-mem, pairs-keep, lt-false, eqb-sym, in-append}
+use Rattle.model.proofs.Owners.{numbers-write, numbers-without, in-others, numbers-append}
+use Rattle.model.proofs.Quiet.{unless-out, unless-keeps}
+use Rattle.model.proofs.Rows.{kept-row, Differ}
+use Rattle.model.proofs.Placing.{Above, Before}
+use Rattle.model.proofs.Fate.{at-join, at-split, gather, afterAbort, verdict, row-self, row-false, afterCommit}
+use Rattle.model.proofs.Valid.{above-off, Valid}
+use Rattle.model.proofs.Closing.{abort-at, gather-cons, gather-none, commit-at, verdict-stays}
+use Rattle.model.proofs.Keeps.{rows-rising, rows-differ}
+use Rattle.model.proofs.Inserted.{notAbove, insertRow}
+use Rattle.model.proofs.Tally.{written-rows, begin-rows, stepCall-rows, run-rows, committed-rows, step-active, aborted-rows}
+use Rattle.model.proofs.Well.{sound}
+use Rattle.model.proofs.Laws.{unless-accepted}
+
+-- ---- a new row among the versions of its key
+
+not-above : (x r : Row) → notAbove x r ≡ false → Above (x .0) (x .1 .key) r
+unfolding notAbove
+not-above x r h =
+    by (ltb (r .0) (x .0)) (λ k. lie (sym (rw k at h)))
+    (λ k. let g : x .0 ≤ r .0 = omega (arith, leb-false (suc (r .0)) (x .0) k) in
+    (g, λ u. let e : r .0 ≡ x .0 = omega arith in leb-false (r .1 .key) (x .1 .key) (rw (k, e, eqb-self (x .0)) at h)))
+
+above-next : (t k : ℕ) (r s : Row) → Above t k r → Before r s → Above t k s
+above-next t k r s a b = (omega (arith, a .0, b .0), λ u. let z = a .1 (omega (arith, b .0)) in let w = b .1 (omega (arith, a .0)) in omega (arith, w .0))
+
+insert-past : (x r : Row) (rs : List Row) → notAbove x r ≡ true → insertRow x (r ∷ rs) ≡ r ∷ insertRow x rs
+unfolding insertRow if_then_else_
+insert-past x r rs h = rw h
+
+insert-here : (x r : Row) (rs : List Row) → notAbove x r ≡ false → insertRow x (r ∷ rs) ≡ x ∷ r ∷ rs
+unfolding insertRow if_then_else_
+insert-here x r rs h = rw h
+
+insert-nil : (x : Row) → insertRow x [] ≡ x ∷ []
+unfolding insertRow
+insert-nil x = refl
+
+-- at its key, the new row is the last
+keep-inserted : (x : Row) (rs : List Row) → Pairs Before rs → keep (isAt (x .0) (x .1 .key)) (insertRow x rs) ≡ keep (isAt (x .0) (x .1 .key)) rs ++ x ∷ []
+keep-inserted x [] p = ap (keep (isAt (x .0) (x .1 .key))) (insert-nil x)
+    ∙ keep-cons (isAt (x .0) (x .1 .key)) x [] (at-join (x .0) (x .1 .key) x refl refl) ∙ (unfold keep in refl)
+keep-inserted x (r ∷ rs) p =
+    let f = isAt (x .0) (x .1 .key) in
+    by (notAbove x r)
+    (λ h. let ih = keep-inserted x rs (p .1) in
+    by (f r)
+    (λ k. ap (keep f) (insert-past x r rs h) ∙ keep-cons f r (insertRow x rs) k ∙ ap (λ z. r ∷ z) ih ∙ ap (λ z. z ++ x ∷ []) (sym (keep-cons f r rs k)))
+    (λ k. ap (keep f) (insert-past x r rs h) ∙ keep-past f r (insertRow x rs) k ∙ ih ∙ ap (λ z. z ++ x ∷ []) (sym (keep-past f r rs k))))
+    (λ h. let a = not-above x r h in
+    let off : AllOf (λ s. f s ≡ false) (r ∷ rs) = (
+      above-off (x .0) (x .1 .key) r a,
+      all-map (Before r) (λ s. f s ≡ false)
+          (λ s b. above-off (x .0) (x .1 .key) s (above-next (x .0) (x .1 .key) r s a b)) rs (p .0),
+    ) in
+    let none′ : keep f (r ∷ rs) ≡ [] = keep-none f (r ∷ rs) off in
+    ap (keep f) (insert-here x r rs h) ∙ keep-cons f x (r ∷ rs) (at-join (x .0) (x .1 .key) x refl refl) ∙ ap (λ z. x ∷ z) none′ ∙ ap (λ z. z ++ x ∷ []) (sym none′))
+
+-- at another key nothing changes
+keep-other : (t k : ℕ) (x : Row) (rs : List Row) → isAt t k x ≡ false → keep (isAt t k) (insertRow x rs) ≡ keep (isAt t k) rs
+keep-other t k x [] n = ap (keep (isAt t k)) (insert-nil x) ∙ keep-past (isAt t k) x [] n
+keep-other t k x (r ∷ rs) n =
+    let f = isAt t k in
+    by (notAbove x r)
+    (λ h. let ih = keep-other t k x rs n in
+    by (f r)
+    (λ m. ap (keep f) (insert-past x r rs h) ∙ keep-cons f r (insertRow x rs) m ∙ ap (λ z. r ∷ z) ih ∙ sym (keep-cons f r rs m))
+    (λ m. ap (keep f) (insert-past x r rs h) ∙ keep-past f r (insertRow x rs) m ∙ ih ∙ sym (keep-past f r rs m)))
+    (λ h. ap (keep f) (insert-here x r rs h) ∙ keep-past f x (r ∷ rs) n)
+
+-- ---- searches
+
+last-snoc : (f : Row → Bool) (xs : List Row) (x : Row) → f x ≡ true → last f (xs ++ x ∷ []) ≡ some x
+unfolding last if_then_else_
+last-snoc f [] x h = rw h
+last-snoc f (y ∷ xs) x h = rw (last-snoc f xs x h, last)
+
+last-snoc-not : (f : Row → Bool) (xs : List Row) (x : Row) → f x ≡ false → last f (xs ++ x ∷ []) ≡ last f xs
+unfolding last if_then_else_
+last-snoc-not f [] x h = rw h
+last-snoc-not f (y ∷ xs) x h = rw (last-snoc-not f xs x h)
+
+first-snoc-not : (f : Row → Bool) (xs : List Row) (x : Row) → f x ≡ false → first f (xs ++ x ∷ []) ≡ first f xs
+unfolding first
+first-snoc-not f [] x h = rw (h, first)
+first-snoc-not f (y ∷ xs) x h = by (f y) (λ k. rw (k, first)) (λ k. rw (k, first) (first-snoc-not f xs x h))
+
+-- what is looked for is not among those left out
+last-keep : (f g : Row → Bool) (xs : List Row) → AllOf (λ r. g r ≡ false → f r ≡ false) xs → last f (keep g xs) ≡ last f xs
+unfolding last keep if_then_else_
+last-keep f g [] a = refl
+last-keep f g (x ∷ xs) a =
+    let ih = last-keep f g xs (a .1) in
+    by (g x) (λ h. rw (h, ih))
+    (λ h. by-option (last f xs) (λ n. rw (h, n, a .0 h) (ih ∙ n)) (λ y n. rw (h, n, last) (ih ∙ n)))
+
+first-keep : (f g : Row → Bool) (xs : List Row) → AllOf (λ r. g r ≡ false → f r ≡ false) xs → first f (keep g xs) ≡ first f xs
+unfolding first keep if_then_else_
+first-keep f g [] a = refl
+first-keep f g (x ∷ xs) a =
+    let ih = first-keep f g xs (a .1) in
+    by (g x) (λ h. by (f x) (λ k. rw (h, k, first)) (λ k. rw (h, k, first) ih)) (λ h. rw (h, a .0 h, first) ih)
+
+over : Option Row → Option Row → Option Row
+over (some y) o = some y
+over none o = o
+
+last-cons : (f : Row → Bool) (x : Row) (xs : List Row) → last f (x ∷ xs) ≡ over (last f xs) (if f x then some x else none)
+unfolding last over
+last-cons f x xs = by-option (last f xs) (λ n. rw (n, last)) (λ y n. rw (n, last))
+
+over-none : (o : Option Row) → over o none ≡ o
+unfolding over
+over-none none = refl
+over-none (some y) = refl
+
+-- a search among the rows that pass a first test
+last-both : (f g : Row → Bool) (xs : List Row) → last (λ r. f r && g r) xs ≡ last f (keep g xs)
+unfolding if_then_else_
+last-both f g [] = unfold last keep in refl
+last-both f g (x ∷ xs) =
+    let ih = last-both f g xs in
+    let pick : Bool → Option Row = λ b. if b then some x else none in
+    by (g x)
+    (λ h. last-cons (λ r. f r && g r) x xs ∙ ap₂ over ih (ap pick (ap (λ z. f x && z) h ∙ and-yes (f x))) ∙ sym (last-cons f x (keep g xs))
+    ∙ ap (last f) (sym (keep-cons g x xs h)))
+    (λ h. last-cons (λ r. f r && g r) x xs ∙ ap₂ over ih (ap pick (ap (λ z. f x && z) h ∙ and-no (f x))) ∙ over-none (last f (keep g xs))
+    ∙ ap (last f) (sym (keep-past g x xs h)))
+
+-- ---- sight goes by the rows
+
+seen-rows : (u t k : ℕ) (s z : Store) → rows (z .pages) ≡ rows (s .pages) → seen u t k z ≡ seen u t k s
+unfolding seen versions
+seen-rows u t k s z e = ap (λ rs. seenOf u (keep (isAt t k) rs)) e
+
+-- a tentative row of another transaction is not seen
+seen-snoc : (u : ℕ) (vs : List Row) (x : Row) → isOwn u x ≡ false → isTentative (x .1 .owner) ≡ true → seenOf u (vs ++ x ∷ []) ≡ seenOf u vs
+unfolding seenOf
+seen-snoc u vs x n o =
+    let a = last-snoc-not (isOwn u) vs x n in
+    let b = first-snoc-not (λ r. not (isTentative (r .1 .owner))) vs x (ap not o) in
+    by-option (last (isOwn u) vs) (λ e. rw (a, e, seenOf) b) (λ y e. rw (a, e, seenOf))
+
+-- nor is one that is gone
+seen-keep : (u : ℕ) (g : Row → Bool) (vs : List Row) → AllOf (λ r. g r ≡ false → (isOwn u r ≡ false) × (isTentative (r .1 .owner) ≡ true)) vs
+    → seenOf u (keep g vs) ≡ seenOf u vs
+unfolding seenOf
+seen-keep u g vs n =
+    let a = last-keep (isOwn u) g vs (all-map _ _ (λ r f h. f h .0) vs n) in
+    let b = first-keep (λ r. not (isTentative (r .1 .owner))) g vs (all-map _ _ (λ r f h. ap not (f h .1)) vs n) in
+    by-option (last (isOwn u) vs) (λ e. rw (a, e, seenOf) b) (λ y e. rw (a, e, seenOf))
+
+-- ---- writing
+
+module _ (s : Store) (v : Valid s) (tx t k : ℕ) (bs : List ℕ) (m : Bool) where
+  x : Row
+  x = (t, newTuple tx k bs m s)
+
+  at-written : versions t k (written tx t k bs m s .store .pages) ≡ versions t k (s .pages) ++ x ∷ []
+  unfolding versions x newTuple
+  at-written = ap (keep (isAt t k)) (written-rows s v tx t k bs m) ∙ keep-inserted (t, newTuple tx k bs m s) (rows (s .pages)) (rows-rising s v)
+
+  off-written : (t′ k′ : ℕ) → isAt t′ k′ x ≡ false → versions t′ k′ (written tx t k bs m s .store .pages) ≡ versions t′ k′ (s .pages)
+  unfolding versions x
+  off-written t′ k′ h = ap (keep (isAt t′ k′)) (written-rows s v tx t k bs m) ∙ keep-other t′ k′ (t, newTuple tx k bs m s) (rows (s .pages)) h
+
+  -- its own newest version; a delete mark means absent
+  sees-own : seen tx t k (written tx t k bs m s .store) ≡ (if m then none else some (t, newTuple tx k bs m s))
+  unfolding seen seenOf x newTuple isOwn isBy
+  sees-own = rw (at-written, last-snoc (isOwn tx) (versions t k (s .pages)) x (eqb-self tx), seenOf)
+
+  sees-others : (u : ℕ) → eqb tx u ≡ false → (t′ k′ : ℕ) → seen u t′ k′ (written tx t k bs m s .store) ≡ seen u t′ k′ s
+  unfolding seen x newTuple
+  sees-others u d t′ k′ =
+      by (isAt t′ k′ x)
+      (λ h. let e = at-split t′ k′ x h in
+      ap₂ (λ a b. seenOf u (versions a b (written tx t k bs m s .store .pages))) (sym (e .0)) (sym (e .1)) ∙ go
+      ∙ ap₂ (λ a b. seenOf u (versions a b (s .pages))) (e .0) (e .1))
+      (λ h. ap (seenOf u) (off-written t′ k′ h))
+    where
+      go : seenOf u (versions t k (written tx t k bs m s .store .pages)) ≡ seenOf u (versions t k (s .pages))
+      go = ap (seenOf u) at-written ∙ seen-snoc u (versions t k (s .pages)) x (unfold x newTuple isOwn isBy in d) (unfold x newTuple isTentative in refl)
+
+-- ---- abort
+
+abort-keeps : (tx : ℕ) (rs : List Row) → gather (afterAbort tx) rs ≡ keep (λ r. not (isOwn tx r)) rs
+unfolding gather afterAbort keep if_then_else_
+abort-keeps tx [] = refl
+abort-keeps tx (r ∷ rs) = by (isOwn tx r) (λ h. rw (h, abort-keeps tx rs)) (λ h. rw (h, abort-keeps tx rs))
+
+own-one : (u tx : ℕ) (o : Owner) → eqb tx u ≡ false → isBy tx o ≡ true → (isBy u o ≡ false) × (isTentative o ≡ true)
+unfolding isBy isTentative
+own-one u tx committed d h = lie h
+own-one u tx (tentative w n) d h = (ap (λ z. eqb z u) (eqb-true w tx h) ∙ d, refl)
+
+aborted-sight : (tx : ℕ) (s : Store) → Valid s → (u : ℕ) → eqb tx u ≡ false → (t k : ℕ) → (z : Store) → rows (z .pages) ≡ gather (afterAbort tx) (rows (s .pages))
+    → seen u t k z ≡ seen u t k s
+unfolding seen versions isOwn
+aborted-sight tx s v u d t k z e =
+    let rs = rows (s .pages) in
+    let vs = keep (isAt t k) rs in
+    ap (λ q. seenOf u (keep (isAt t k) q)) e
+    ∙ ap (seenOf u) (abort-at tx (openNumbers (s .active)) rs (v .sees) (rows-differ s v) t k ∙ abort-keeps tx vs)
+    ∙ seen-keep u (λ r. not (isBy tx (r .1 .owner))) vs (all-mem _ vs (λ r i h. own-one u tx (r .1 .owner) d (not-false _ h)))
+
+-- ---- commit
+
+chosen : (m b : Bool) (K : List Row) → m ≡ false → b ≡ true → (if m then [] else if b then K else []) ≡ K
+unfolding if_then_else_
+chosen true b K h k = lie (sym h)
+chosen false true K h k = refl
+chosen false false K h k = lie k
+
+verdict-own : (x : Row) → x .1 .mark ≡ false → verdict (some x) x ≡ kept-row x
+unfolding verdict
+verdict-own x u = chosen (x .1 .mark) (isRow (number x) x) (kept-row x) u (row-self x)
+
+verdict-other : (x r : Row) → Differ r x → verdict (some x) r ≡ []
+unfolding verdict if_then_else_ number
+verdict-other x r d = by (x .1 .mark) (λ u. rw u) (λ u. rw (u, row-false (x .1 .number) r d))
+
+verdict-mark : (x r : Row) → x .1 .mark ≡ true → verdict (some x) r ≡ []
+unfolding verdict if_then_else_
+verdict-mark x r u = rw u
+
+-- the newest own version alone is left
+one-left : {x : Row} {vs : List Row} → Mem x vs → Pairs Differ vs → x .1 .mark ≡ false → gather (verdict (some x)) vs ≡ kept-row x
+one-left {x} (here {rs}) d u =
+    gather-cons (verdict (some x)) x rs ∙ ap₂ (λ a b. a ++ b) (verdict-own x u)
+    (gather-none (verdict (some x)) rs (all-map (Differ x) _ (λ r h. verdict-other x r (λ e. h (sym e))) rs (d .0)))
+    ∙ append-nil (kept-row x)
+one-left {x} (there {y} {rs} m) d u =
+    gather-cons (verdict (some x)) y rs ∙ ap (λ a. a ++ gather (verdict (some x)) rs) (verdict-other x y (mem-all (Differ y) m (d .0))) ∙ one-left m (d .1) u
+
+-- a committed version alone is seen by all
+seen-kept : (u : ℕ) (r : Row) → seenOf u (kept-row r) ≡ some (r .0, asCommitted (r .1))
+unfolding seenOf kept-row last first isOwn isBy asCommitted isTentative if_then_else_
+seen-kept u r = refl
+
+seen-none : (u : ℕ) → seenOf u [] ≡ none
+unfolding seenOf last first
+seen-none u = refl
+
+module _ (tx : ℕ) (s z : Store) (v : Valid s) (e : rows (z .pages) ≡ gather (afterCommit tx (rows (s .pages))) (rows (s .pages))) (u t k : ℕ) where
+  -- the versions after the commit
+  at-committed : versions t k (z .pages) ≡ gather (verdict (last (isOwn tx) (versions t k (s .pages)))) (versions t k (s .pages))
+  unfolding versions ownAt
+  at-committed =
+      let rs = rows (s .pages) in
+      ap (keep (isAt t k)) e ∙ commit-at tx (openNumbers (s .active)) rs (v .sees) (rows-differ s v) t k
+      ∙ ap (λ o. gather (verdict o) (keep (isAt t k) rs)) (last-both (isOwn tx) (isAt t k) rs)
+
+  committed-other : last (isOwn tx) (versions t k (s .pages)) ≡ none → seen u t k z ≡ seen u t k s
+  unfolding seen
+  committed-other n =
+      let vs = versions t k (s .pages) in
+      ap (seenOf u) (at-committed ∙ ap (λ o. gather (verdict o) vs) n ∙ verdict-stays tx (openNumbers (s .active)) (rows (s .pages)) (v .sees) (rows-differ s v) vs)
+
+  committed-key : (r : Row) → last (isOwn tx) (versions t k (s .pages)) ≡ some r → seen u t k z ≡ remains r
+  unfolding seen remains if_then_else_
+  committed-key r n =
+      let vs = versions t k (s .pages) in
+      let q = at-committed ∙ ap (λ o. gather (verdict o) vs) n in
+      by (r .1 .mark)
+      (λ h. ap (seenOf u) (q ∙ gather-none (verdict (some r)) vs (all-mem _ vs (λ y i. verdict-mark r y h))) ∙ seen-none u ∙ (rw h))
+      (λ h. ap (seenOf u) (q ∙ one-left (last-mem (isOwn tx) vs r n .0)
+      (unfold versions in pairs-keep Differ (isAt t k) (rows (s .pages)) (rows-differ s v)) h) ∙ seen-kept u r ∙ (rw h))
+
+-- ---- reading
+
+answer-unless : (ts : List Test) (s z : Store) (o q : Outcome) → o .answer ≡ q .answer → unless ts s o .answer ≡ unless ts z q .answer
+unfolding unless if_then_else_ gives
+answer-unless [] s z o q e = e
+answer-unless ((n when b) ∷ ts) s z o q e = by b (λ h. rw h) (λ h. rw h (answer-unless ts s z o q e))
+
+answer-seen : (room : ℕ) (o : Option Row) (s z : Store) → readSeen room o z .answer ≡ readSeen room o s .answer
+unfolding readSeen gives
+answer-seen room none s z = refl
+answer-seen room (some r) s z = answer-unless _ z s _ _ refl
+
+-- who sees the same reads the same
+same-read : (u t k room : ℕ) (s z : Store) → isIn u (openNumbers (z .active)) ≡ isIn u (openNumbers (s .active)) → seen u t k z ≡ seen u t k s
+    → readCall u t k room z .answer ≡ readCall u t k room s .answer
+unfolding readCall notOpen
+same-read u t k room s z o e =
+    ap (λ b. unless (6 when ltb 4095 u ∷ 7 when not b ∷ noTable t ∷ []) z (readSeen room (seen u t k z) z) .answer) o
+    ∙ answer-unless _ z s _ _ (ap (λ r. readSeen room r z .answer) e ∙ answer-seen room (seen u t k s) s z)
+
+module _ (u t k room : ℕ) (z : Store) (few : ltb 4095 u ≡ false) (o : isIn u (openNumbers (z .active)) ≡ true) (tb : ltb 7 t ≡ false) where
+  reads-some : (r : Row) → seen u t k z ≡ some r → length (r .1 .payload) ≤ room → readCall u t k room z .answer ≡ filled (length (r .1 .payload)) (r .1 .payload)
+  unfolding readCall notOpen noTable unless if_then_else_ readSeen gives
+  reads-some r e l = rw (few, o, tb, e) (rw (lt-false room (length (r .1 .payload)) l))
+
+  reads-none : seen u t k z ≡ none → readCall u t k room z .answer ≡ refused 14
+  unfolding readCall notOpen noTable unless if_then_else_ readSeen gives
+  reads-none e = rw (few, o, tb, e)
+
+-- ---- the claims
+
+still-listed : (tx u : ℕ) (s : Store) → isIn u (openNumbers (s .active)) ≡ true → isIn u (openNumbers (withWrite tx (s .active))) ≡ true
+still-listed tx u s h = ap (isIn u) (numbers-write tx (s .active)) ∙ h
+
+module _ (s : Store) (v : Valid s) (tx t k room : ℕ) (few : ltb 4095 tx ≡ false) (o : not (isIn tx (openNumbers (s .active))) ≡ false) (tb : ltb 7 t ≡ false) where
+  wrote-reads : (bs : List ℕ) → length bs ≤ room → readCall tx t k room (written tx t k bs false s .store) .answer ≡ filled (length bs) bs
+  unfolding written gives changed newTuple if_then_else_
+  wrote-reads bs l =
+      reads-some tx t k room (written tx t k bs false s .store) few (still-listed tx tx s (not-false _ o)) tb (t, newTuple tx k bs false s)
+      (sees-own s v tx t k bs false) l
+
+  wrote-mark : readCall tx t k room (written tx t k [] true s .store) .answer ≡ refused 14
+  unfolding written gives changed if_then_else_
+  wrote-mark = reads-none tx t k room (written tx t k [] true s .store) few (still-listed tx tx s (not-false _ o)) tb (sees-own s v tx t k [] true)
+
+pub writer-reads : WriterReads
+unfolding insertCall replaceCall notOpen noTable
+writer-reads s w tx t k bs room l =
+    let v = sound s w .valid in
+    let P : Outcome → Type 0 = λ o. readCall tx t k room (o .store) .answer ≡ filled (length bs) bs in (
+      unless-accepted P _ s _ (λ p q. wrote-reads s v tx t k room (p .0) (p .1 .0) (p .1 .1 .0) bs l),
+      unless-accepted P _ s _
+          (λ p q. wrote-reads s v tx t k room (p .0) (p .1 .0) (p .1 .1 .0) bs l),
+    )
+
+pub writer-misses : WriterMisses
+unfolding deleteCall notOpen noTable
+writer-misses s w tx t k room h =
+    unless-accepted (λ o. readCall tx t k room (o .store) .answer ≡ refused 14) _ s _ (λ p q. wrote-mark s (sound s w .valid) tx t k room (p .0) (p .1 .0) (p .1 .1 .0)) h
+
+pub looks-only : LooksOnly
+unfolding call readCall listCall gives
+looks-only s = (
+  λ tx t k room. unless-out (λ z ws. (z ≡ s) × (ws ≡ [])) _ s _ (refl, refl) (go room (seen tx t k s)),
+  λ room. unless-out (λ z ws. (z ≡ s) × (ws ≡ [])) _ s _ (refl, refl) (refl, refl),
+)
+  where
+    go : (room : ℕ) (o : Option Row) → (readSeen room o s .store ≡ s) × (readSeen room o s .writes ≡ [])
+    go room none = unfold readSeen in (refl, refl)
+    go room (some r) = unfold readSeen in unless-out (λ z ws. (z ≡ s) × (ws ≡ [])) _ s _ (refl, refl) (refl, refl)
+
+pub rows-stay : RowsStay
+unfolding call
+rows-stay s w = let v = sound s w .valid in (begin-rows s, λ len. stepCall-rows len s v, λ limit len. run-rows limit len s v)
+
+pub seen-after-commit : SeenAfterCommit
+unfolding commitCall
+seen-after-commit s w tx h u t k =
+    let v = sound s w .valid in
+    unless-accepted (λ o. ((r : Row) → last (isOwn tx) (versions t k (s .pages)) ≡ some r → seen u t k (o .store) ≡ remains r) × (last (isOwn tx)
+    (versions t k (s .pages)) ≡ none → seen u t k (o .store) ≡ seen u t k s))
+    _ s _ (λ p q. unfold gives changed in (committed-key tx s _ v (committed-rows tx s v) u t k, committed-other tx s _ v (committed-rows tx s v) u t k)) h
+
+-- ---- all calls that show nothing
+
+-- a checkpoint leaves the open transactions
+active-unless : (ts : List Test) (s : Store) (o : Outcome) → o .store .active ≡ s .active → unless ts s o .store .active ≡ s .active
+active-unless ts s o e = unless-keeps (λ z. z .active ≡ s .active) ts s o refl (λ p. e)
+
+begin-active : (s : Store) → beginCall s .store .active ≡ s .active
+unfolding beginCall gives stored
+begin-active s = active-unless _ s _ refl
+
+stepCall-active : (len : ℕ) (s : Store) → stepCall len s .store .active ≡ s .active
+unfolding stepCall
+stepCall-active len s = active-unless _ s _ (step-active s)
+
+turn-active : (k : ℕ) (s : Store) → inTurn k s .store .active ≡ s .active
+unfolding inTurn gives
+turn-active zero s = refl
+turn-active (suc k) s = turn-active k (stepAt (s .checkpoint) s .store) ∙ step-active s
+
+run-active : (limit len : ℕ) (s : Store) → runCall limit len s .store .active ≡ s .active
+unfolding runCall
+run-active limit len s = active-unless _ s _ (turn-active (min limit (left s)) s)
+
+-- u sees what it saw in s, and is open if it was
+abbrev Unmoved : ℕ → ℕ → ℕ → Store → Store → Type 0
+Unmoved u t k s z = (seen u t k z ≡ seen u t k s) × (isIn u (openNumbers (s .active)) ≡ true → isIn u (openNumbers (z .active)) ≡ true)
+
+module _ (s : Store) (v : Valid s) (u t k : ℕ) where
+  unmoved-written : (tx tb key : ℕ) (bs : List ℕ) (m : Bool) → eqb tx u ≡ false → Unmoved u t k s (written tx tb key bs m s .store)
+  unfolding written gives changed
+  unmoved-written tx tb key bs m d = (sees-others s v tx tb key bs m u d t k, still-listed tx u s)
+
+  unmoved-aborted : (tx : ℕ) → eqb tx u ≡ false
+      → Unmoved u t k s (changed s (s .next) (perform (removeAll (keep (isOwn tx) (rows (s .pages)))) (s .pages)) (without tx (s .active)))
+  unfolding changed
+  unmoved-aborted tx d = (
+    aborted-sight tx s v u d t k _ (aborted-rows tx s v),
+    λ h. ap (isIn u) (numbers-without tx (s .active)) ∙ in-others tx u (openNumbers (s .active)) (eqb-sym tx u d) h,
+  )
+
+  unmoved-stepped : (z : Store) → rows (z .pages) ≡ rows (s .pages) → z .active ≡ s .active → Unmoved u t k s z
+  unmoved-stepped z e a = (seen-rows u t k s z e, λ h. ap (λ os. isIn u (openNumbers os)) a ∙ h)
+
+  unmoved : (c : Call) → mayShow u c ≡ false → Unmoved u t k s (call c s .store)
+  unfolding mayShow call openCall insertCall replaceCall deleteCall abortCall gives
+  unmoved (opens tx) h = unless-keeps (Unmoved u t k s) _ s _ (refl, λ i. i) (λ p. unfold changed in (
+    seen-rows u t k s _ refl,
+    λ i. ap (isIn u) (numbers-append (s .active) (record { transaction = tx; written = 0 }))
+        ∙ rw (in-append u (openNumbers (s .active)), i),
+  ))
+  unmoved (inserts tx tb key bs) h = unless-keeps (Unmoved u t k s) _ s _ (refl, λ i. i) (λ p. unmoved-written tx tb key bs false h)
+  unmoved (replaces tx tb key bs) h = unless-keeps (Unmoved u t k s) _ s _ (refl, λ i. i) (λ p. unmoved-written tx tb key bs false h)
+  unmoved (deletes tx tb key) h = unless-keeps (Unmoved u t k s) _ s _ (refl, λ i. i) (λ p. unmoved-written tx tb key [] true h)
+  unmoved (commits tx) h = lie (sym h)
+  unmoved (aborts tx) h = unless-keeps (Unmoved u t k s) _ s _ (refl, λ i. i) (λ p. unmoved-aborted tx h)
+  unmoved (reads tx tb key room) h = subst (Unmoved u t k s) (sym (looks-only s .0 tx tb key room .0)) (refl, λ i. i)
+  unmoved (lists room) h = subst (Unmoved u t k s) (sym (looks-only s .1 room .0)) (refl, λ i. i)
+  unmoved begins h = unmoved-stepped (beginCall s .store) (begin-rows s) (begin-active s)
+  unmoved (steps len) h = unmoved-stepped (stepCall len s .store) (stepCall-rows len s v) (stepCall-active len s)
+  unmoved (runs limit len) h = unmoved-stepped (runCall limit len s .store) (run-rows limit len s v) (run-active limit len s)
+
+pub seen-as-before : SeenAsBefore
+seen-as-before c s w u h t k =
+    let m = unmoved s (sound s w .valid) u t k c h in
+    (m .0, λ i room. same-read u t k room s (call c s .store) (m .1 i ∙ sym i) (m .0))

@@ -1,0 +1,361 @@
+-- Every page that is not frozen is not empty, fits its block and has nothing pending; and every tuple has at most 53 bytes.
+use mathlib.Core.Path.{_≡_, ap, sym, _∙_, subst, refl}
+use Prim.Native.Nat.{_≤_, _<_, _-_, ℕ, _+_, _*_, min}
+use native.Mathlib.Omega.{arith}
+use mathlib.Core.Bool.{not, false, true, _&&_, Bool}
+use mathlib.Core.List.{List, map, [], _∷_, _++_}
+use mathlib.Core.Option.{some, Option, none}
+use lib.Dec.{leb, eqb, ltb}
+use lib.ListN.{length, take, drop, take-append-drop, length-take, length-drop, length-append, length-map}
+use Rattle.basics.specs.Basics.{sum, if_then_else_, isEmpty, any}
+use Rattle.basics.proofs.Facts.{AllOf, lie, by, never, by-option, and-true}
+use Rattle.blocks.specs.Tuple.{Tuple, size, ownerSize}
+use Rattle.model.specs.State.{Held, nothing, Page, adding, Pending, removing, committing}
+use Rattle.model.specs.Rules.{heldSize, shown, fresh, withTuples, lead, splitOnce, fits, half, after, entering, calm, grown, place, placeAfter, placeFront, joins, joined, settle, settleNext, settleFull, listOf, edit, isNumber, commit, asCommitted, withPending, kept, gone, goneLater, isAdding, keptLater, isRemoving, takenLater, removeOn, remove, commitOn, around, hasNumber, ripe, isCommitting, ripened, splitAll, isPending, thawOn, thaw, isFrozen}
+use Rattle.model.specs.Transactions.{Op, perform, toCommit, toRemove}
+use Rattle.model.proofs.Lists.{all-map, leb-true, leb-false, all-take, all-drop, some-eq, all-append, not-true, has-some, all-parts}
+use Rattle.model.proofs.Splits.{mostSize, Small, half-between, after-all, together, split-all}
+use Rattle.model.proofs.Frozen.{after-shown, entering-adding, shown-takenLater, shown-keptLater, bare, shown-calm}
+
+-- a tuple of a page that is not frozen: small, nothing pending
+abbrev pub Calm : Held → Type 0
+Calm x = (heldSize x ≤ mostSize) × (x .pending ≡ nothing)
+
+-- a list of tuples that may stand on such a page
+abbrev Fine : List Held → Type 0
+Fine ts = AllOf Calm ts × (sum heldSize ts ≤ 504) × (0 < length ts)
+
+-- and what a frozen page had at begin
+abbrev Whole : List Tuple → Type 0
+Whole ts = (sum size ts ≤ 504) × (0 < length ts)
+
+abbrev pub PageOk : Page → Type 0
+PageOk p = AllOf Small (p .tuples) × (p .frozen ≡ false → Fine (p .tuples)) × (p .frozen ≡ true → Whole (shown (p .tuples)))
+
+pub small : (ts : List Held) → AllOf Calm ts → AllOf Small ts
+small ts a = all-map _ _ (λ x h. h .0) ts a
+
+fresh-ok : (t : ℕ) (ts : List Held) → Fine ts → PageOk (fresh t ts)
+unfolding fresh
+fresh-ok t ts f = (small ts (f .0), λ h. f, λ h. lie h)
+
+all-fresh : (t : ℕ) (tss : List (List Held)) → AllOf Fine tss → AllOf PageOk (map (fresh t) tss)
+all-fresh t [] a = tt
+all-fresh t (ts ∷ tss) a = (fresh-ok t ts (a .0), all-fresh t tss (a .1))
+
+frozen-ok : (p : Page) (ts : List Held) → p .frozen ≡ true → AllOf Small ts → shown ts ≡ shown (p .tuples) → Whole (shown (p .tuples))
+    → PageOk (withTuples p ts)
+unfolding withTuples
+frozen-ok p ts h a e w = (a, λ k. lie (sym k ∙ h), λ k. rw e w)
+
+-- ---- one split of a page that took one tuple more
+
+sum-append : (a b : List Held) → sum heldSize (a ++ b) ≡ sum heldSize a + sum heldSize b
+unfolding sum
+sum-append [] b = omega arith
+sum-append (x ∷ a) b = rw (sum-append a b) (omega arith)
+
+-- the first part is at least half, and at most half and a tuple
+lead-size : (w a : ℕ) (xs : List Held) → 2 * a < w → w ≡ a + sum heldSize xs → AllOf Small xs
+    → (w ≤ 2 * (a + sum heldSize (take (lead w a xs) xs))) × (2 * (a + sum heldSize (take (lead w a xs) xs)) < w + 2 * mostSize)
+unfolding lead sum if_then_else_
+lead-size w a [] h e s = absurd (omega arith)
+lead-size w a (x ∷ xs) h e s =
+    by (leb w (2 * (a + heldSize x)))
+    (λ t. let k : w ≤ 2 * (a + heldSize x) = leb-true w (2 * (a + heldSize x)) t in rw t (omega arith, omega arith))
+    (λ t. let k : 2 * (a + heldSize x) < w = leb-false w (2 * (a + heldSize x)) t in
+    let r = lead-size w (a + heldSize x) xs k (omega arith) (s .1) in
+    rw t (omega arith, omega arith))
+
+split-once : (ts : List Held) → AllOf Calm ts → 0 < length ts → sum heldSize ts ≤ 504 + mostSize → AllOf Fine (splitOnce ts)
+unfolding splitOnce if_then_else_ fits half
+split-once ts c p l =
+    by (leb (sum heldSize ts) 504) (λ h. rw h ((c, leb-true (sum heldSize ts) 504 h, p), tt))
+    (λ h.
+    let big : 504 < sum heldSize ts = leb-false (sum heldSize ts) 504 h in
+    let k = half ts in
+    let m = half-between ts (small ts c) big in
+    let z = lead-size (sum heldSize ts) 0 ts (omega arith) (omega arith) (small ts c) in
+    let q : sum heldSize (take k ts) + sum heldSize (drop k ts) ≡ sum heldSize ts = sym (sum-append (take k ts) (drop k ts))
+    ∙ ap (sum heldSize) (take-append-drop k ts) in
+    let lt : length (take k ts) ≡ min k (length ts) = length-take k ts in
+    let ld : length (drop k ts) ≡ length ts - k = length-drop k ts in
+    rw h ((all-take _ k ts c, omega arith, omega arith), ((all-drop _ k ts c, omega arith, omega arith), tt)))
+
+after-sum : (x : Held) (ys zs : List Held) → after x ys ≡ some zs → (sum heldSize zs ≡ heldSize x + sum heldSize ys) × (0 < length zs)
+unfolding after if_then_else_ sum
+after-sum x [] zs e = never e
+after-sum x (y ∷ ys) zs e =
+    by-option (after x ys)
+    (λ n. by (leb (y .tuple .key) (x .tuple .key))
+    (λ t. let k : y ∷ x ∷ ys ≡ zs = some-eq (rw (n, t) at e) in subst
+    (λ z. (sum heldSize z ≡ heldSize x + (heldSize y + sum heldSize ys)) × (0 < length z)) k (omega arith, omega arith))
+    (λ t. never (rw (n, t) at e)))
+    (λ ws n. let k : y ∷ ws ≡ zs = some-eq (rw (n, after) at e) in let r = after-sum x ys ws n in
+    subst (λ z. (sum heldSize z ≡ heldSize x + (heldSize y + sum heldSize ys)) × (0 < length z)) k (omega arith, omega arith))
+
+entering-size : (p : Page) (x : Tuple) → heldSize (entering p x) ≡ size x
+unfolding heldSize entering
+entering-size p x = refl
+
+entering-calm : (p : Page) (x : Tuple) → p .frozen ≡ false → entering p x .pending ≡ nothing
+unfolding entering if_then_else_
+entering-calm p x h = rw h
+
+-- a page takes the tuples zs, which are its own and x
+all-grown : (p : Page) (zs : List Held) (ps : List Page) → AllOf Small zs
+    → (p .frozen ≡ true → (shown zs ≡ shown (p .tuples)) × Whole (shown (p .tuples)))
+    → (p .frozen ≡ false → AllOf Calm zs × (sum heldSize zs ≤ 504 + mostSize) × (0 < length zs)) → AllOf PageOk ps → AllOf PageOk (grown p zs ++ ps)
+unfolding grown if_then_else_
+all-grown p zs ps s w f a =
+    by (p .frozen) (λ h. rw h (frozen-ok _ zs refl s (w h .0) (w h .1), a))
+    (λ h. let g = f h in rw h (all-append PageOk (map (fresh (p .table)) (splitOnce zs)) ps (all-fresh (p .table) (splitOnce zs) (split-once zs (g .0) (g .2) (g .1))) a))
+
+module _ (t : ℕ) (x : Tuple) (sx : size x ≤ mostSize) where
+  grown-after : (p : Page) (zs : List Held) (ps : List Page) → after (entering p x) (p .tuples) ≡ some zs → PageOk p → AllOf PageOk ps
+      → AllOf PageOk (grown p zs ++ ps)
+  grown-after p zs ps e o a =
+      let k = after-sum (entering p x) (p .tuples) zs e in
+      let eq = entering-size p x in
+      let es : heldSize (entering p x) ≤ mostSize = omega arith in
+      all-grown p zs ps (after-all Small (entering p x) (p .tuples) zs e es (o .0))
+      (λ h. (after-shown (entering p x) (p .tuples) zs (entering-adding p x h) e, o .2 h))
+      (λ h. let f = o .1 h in (after-all Calm (entering p x) (p .tuples) zs e (es, entering-calm p x h) (f .0), omega arith, k .1)) a
+
+  all-placeAfter : (ps qs : List Page) → placeAfter t x ps ≡ some qs → AllOf PageOk ps → AllOf PageOk qs
+  unfolding placeAfter if_then_else_
+  all-placeAfter [] qs e a = never e
+  all-placeAfter (p ∷ ps) qs e a =
+      by-option (placeAfter t x ps)
+      (λ n. by (eqb (p .table) t)
+      (λ h. by-option (after (entering p x) (p .tuples))
+      (λ m. never (rw (n, h, m) at e))
+      (λ ts m. let k : grown p ts ++ ps ≡ qs = some-eq (rw (n, h, m) at e) in subst (AllOf PageOk) k (grown-after p ts ps m (a .0) (a .1))))
+      (λ h. never (rw (n, h) at e)))
+      (λ ws n. let k : p ∷ ws ≡ qs = some-eq (rw (n, placeAfter) at e) in subst (AllOf PageOk) k (a .0, all-placeAfter ps ws n (a .1)))
+
+  alone : Fine (calm x ∷ [])
+  unfolding sum calm heldSize
+  alone = (((sx, refl), tt), omega arith, omega arith)
+
+  grown-front : (p : Page) (ps : List Page) → PageOk p → AllOf PageOk ps → AllOf PageOk (grown p (entering p x ∷ p .tuples) ++ ps)
+  unfolding sum shown if_then_else_
+  grown-front p ps o a =
+      let eq = entering-size p x in
+      let es : heldSize (entering p x) ≤ mostSize = omega arith in
+      all-grown p (entering p x ∷ p .tuples) ps (es, o .0) (λ h. (rw (entering-adding p x h), o .2 h))
+      (λ h. let f = o .1 h in (((es, entering-calm p x h), f .0), omega arith, omega arith)) a
+
+  all-placeFront : (ps : List Page) → AllOf PageOk ps → AllOf PageOk (placeFront t x ps)
+  unfolding placeFront if_then_else_
+  all-placeFront [] a = (fresh-ok t (calm x ∷ []) alone, tt)
+  all-placeFront (p ∷ ps) a =
+      by (ltb (p .table) t) (λ h. rw h (a .0, all-placeFront ps (a .1)))
+      (λ h. by (eqb (p .table) t) (λ k. rw (h, k) (grown-front p ps (a .0) (a .1))) (λ k. rw (h, k) (fresh-ok t (calm x ∷ []) alone, a)))
+
+  pub place-ok : (ps : List Page) → AllOf PageOk ps → AllOf PageOk (place t x ps)
+  unfolding place
+  place-ok ps a = by-option (placeAfter t x ps) (λ n. rw (n, place) (all-placeFront ps a)) (λ qs n. rw (n, place) (all-placeAfter ps qs n a))
+
+-- ---- joining
+
+-- pages that join are not frozen, and their sizes sum to at most 336
+joins-in : (p q : Page) → joins p q ≡ true
+    → (p .frozen ≡ false) × (q .frozen ≡ false) × (sum heldSize (p .tuples) + sum heldSize (q .tuples) ≤ 336)
+unfolding joins
+joins-in p q e =
+    let a = and-true (not (p .frozen)) (not (q .frozen) && (eqb (p .table) (q .table) && leb (sum heldSize (p .tuples) + sum heldSize (q .tuples)) 336)) e in
+    let b = and-true (not (q .frozen)) (eqb (p .table) (q .table) && leb (sum heldSize (p .tuples) + sum heldSize (q .tuples)) 336) (a .1) in
+    let c = and-true (eqb (p .table) (q .table)) (leb (sum heldSize (p .tuples) + sum heldSize (q .tuples)) 336) (b .1) in
+    (not-true _ (a .0), not-true _ (b .0), leb-true _ 336 (c .1))
+
+joined-ok : (p q : Page) → joins p q ≡ true → AllOf Calm (p .tuples) → 0 < length (p .tuples) → AllOf Calm (q .tuples) → PageOk (joined p q)
+unfolding joined
+joined-ok p q e a h b =
+    let k = joins-in p q e in
+    let s = sum-append (p .tuples) (q .tuples) in
+    let l = length-append (p .tuples) (q .tuples) in
+    fresh-ok (p .table) (p .tuples ++ q .tuples) (all-append Calm (p .tuples) (q .tuples) a b, omega arith, omega arith)
+
+settleNext-ok : (rest : List Page) (p : Page) (ps : List Page) → AllOf PageOk rest → AllOf Calm (p .tuples) → 0 < length (p .tuples) → AllOf PageOk ps
+    → AllOf PageOk (settleNext rest p ps)
+unfolding settleNext if_then_else_
+settleNext-ok rest p [] r c l a = r
+settleNext-ok rest p (q ∷ qs) r c l a =
+    by (joins p q) (λ h. rw h (joined-ok p q h c l (a .0 .1 (joins-in p q h .1) .0), a .1)) (λ h. rw h (all-append PageOk rest (q ∷ qs) r a))
+
+settleFull-ok : (rest : List Page) (o : Option Page) (p : Page) (ps : List Page) → AllOf PageOk rest → AllOf PageOk (listOf o)
+    → AllOf Calm (p .tuples) → 0 < length (p .tuples) → AllOf PageOk ps
+    → AllOf PageOk (settleFull rest o p ps)
+unfolding settleFull if_then_else_ listOf
+settleFull-ok rest none p ps r l c n a = settleNext-ok rest p ps r c n a
+settleFull-ok rest (some o) p ps r l c n a =
+    by (joins o p) (λ h. let f = l .0 .1 (joins-in o p h .0) in rw h (joined-ok o p h (f .0) (f .2) c, a)) (λ h. rw h (l .0, settleNext-ok rest p ps r c n a))
+
+settle-ok : (rest : List Page) (o : Option Page) (p : Page) (ps : List Page) → (0 < length (p .tuples) → AllOf PageOk rest) → AllOf PageOk (listOf o)
+    → AllOf Calm (p .tuples) → AllOf PageOk ps → AllOf PageOk (settle rest o p ps)
+unfolding settle if_then_else_
+settle-ok rest o p ps r l c a =
+    by (isEmpty (p .tuples)) (λ h. rw h (all-append PageOk (listOf o) ps l a))
+    (λ h. let n = has-some (p .tuples) h in rw h (settleFull-ok rest o p ps (r n) l c n a))
+
+-- ---- removing and committing
+
+edit-all : (P : Held → Type 0) (g : Held → List Held) (n : ℕ) → ((x : Held) → P x → AllOf P (g x)) → (ts : List Held) → AllOf P ts
+    → AllOf P (edit g n ts)
+unfolding edit if_then_else_
+edit-all P g n f [] a = tt
+edit-all P g n f (x ∷ xs) a = by (isNumber n x) (λ h. rw h (all-append P (g x) xs (f x (a .0)) (a .1))) (λ h. rw h (a .0, edit-all P g n f xs (a .1)))
+
+edit-sum : (g : Held → List Held) (n : ℕ) → ((x : Held) → sum heldSize (g x) ≤ heldSize x) → (ts : List Held)
+    → sum heldSize (edit g n ts) ≤ sum heldSize ts
+unfolding edit if_then_else_ sum
+edit-sum g n f [] = omega arith
+edit-sum g n f (x ∷ xs) = by (isNumber n x) (λ h. let k = f x in rw (h, sum-append (g x) xs) (omega arith)) (λ h. let k = edit-sum g n f xs in rw h (omega arith))
+
+committed-size : (x : Tuple) → size (asCommitted x) ≤ size x
+unfolding size asCommitted ownerSize
+committed-size x = omega arith
+
+pending-size : (o : Pending) (x : Held) → heldSize (withPending o x) ≡ heldSize x
+unfolding heldSize withPending
+pending-size o x = refl
+
+kept-size : (x : Held) → sum heldSize (kept x) ≤ heldSize x
+unfolding kept sum heldSize
+kept-size x = let c = committed-size (x .tuple) in omega arith
+
+goneLater-small : (x : Held) → Small x → AllOf Small (goneLater x)
+unfolding goneLater if_then_else_
+goneLater-small x s = by (isAdding (x .pending)) (λ h. rw h tt) (λ h. let k = pending-size removing x in rw h (omega arith, tt))
+
+kept-small : (x : Held) → Small x → AllOf Small (kept x)
+unfolding kept heldSize
+kept-small x s = let c = committed-size (x .tuple) in (omega arith, tt)
+
+keptLater-small : (x : Held) → Small x → AllOf Small (keptLater x)
+unfolding keptLater if_then_else_
+keptLater-small x s =
+    by (isAdding (x .pending)) (λ h. rw h (kept-small x s))
+    (λ h. by (isRemoving (x .pending)) (λ m. rw (h, m) (s, tt)) (λ m. let k = pending-size committing x in rw (h, m) (omega arith, tt)))
+
+kept-calm : (x : Held) → Calm x → AllOf Calm (kept x)
+unfolding kept heldSize
+kept-calm x c = let k = committed-size (x .tuple) in ((omega (arith, c .0), c .1), tt)
+
+taken-small : (n : ℕ) (ts : List Held) → AllOf Small ts → AllOf Small (takenLater n ts)
+unfolding takenLater if_then_else_
+taken-small n ts a = by (isEmpty (edit goneLater n ts)) (λ h. rw h a) (λ h. rw h (edit-all Small goneLater n goneLater-small ts a))
+
+removeOn-ok : (n : ℕ) (o : Option Page) (p : Page) (ps : List Page) → AllOf PageOk (listOf o) → AllOf PageOk (p ∷ ps)
+    → AllOf PageOk (removeOn n o p ps)
+unfolding removeOn if_then_else_ gone sum fresh
+removeOn-ok n o p ps l a =
+    by (p .frozen)
+    (λ h. rw h (all-append PageOk (listOf o) _ l (frozen-ok _ _ refl (taken-small n (p .tuples) (a .0 .0)) (shown-takenLater n (p .tuples)) (a .0 .2 h), a .1)))
+    (λ h.
+    let f = a .0 .1 h in
+    let c = edit-all Calm gone n (λ x q. tt) (p .tuples) (f .0) in
+    let k = edit-sum gone n (λ x. omega arith) (p .tuples) in
+    rw h (settle-ok _ o _ ps (λ m. (fresh-ok (p .table) (edit gone n (p .tuples)) (c, omega arith, m), tt)) l c (a .1)))
+
+kept-length : (n : ℕ) (ts : List Held) → length (edit kept n ts) ≡ length ts
+unfolding edit if_then_else_ kept
+kept-length n [] = refl
+kept-length n (x ∷ xs) = by (isNumber n x) (λ h. rw h) (λ h. rw (h, kept-length n xs))
+
+commitOn-ok : (n : ℕ) (o : Option Page) (p : Page) (ps : List Page) → AllOf PageOk (listOf o) → AllOf PageOk (p ∷ ps)
+    → AllOf PageOk (commitOn n o p ps)
+unfolding commitOn if_then_else_ kept sum
+commitOn-ok n o p ps l a =
+    by (p .frozen)
+    (λ h. rw h (all-append PageOk (listOf o) _ l
+    (frozen-ok _ _ refl (edit-all Small keptLater n keptLater-small (p .tuples) (a .0 .0)) (shown-keptLater n (p .tuples)) (a .0 .2 h), a .1)))
+    (λ h.
+    let f = a .0 .1 h in
+    let c = edit-all Calm kept n kept-calm (p .tuples) (f .0) in
+    let k = edit-sum kept n kept-size (p .tuples) in
+    rw h (all-append PageOk (listOf o) _ l (fresh-ok (p .table) (edit kept n (p .tuples)) (c, omega arith, rw (kept-length n (p .tuples)) (f .2)), a .1)))
+
+around-ok : (hit : Page → Bool) (f : Option Page → Page → List Page → List Page)
+    → ((o : Option Page) (p : Page) (ps : List Page) → AllOf PageOk (listOf o) → AllOf PageOk (p ∷ ps) → AllOf PageOk (f o p ps))
+    → (o : Option Page) (ps : List Page) → AllOf PageOk (listOf o) → AllOf PageOk ps → AllOf PageOk (around hit f o ps)
+unfolding around listOf
+around-ok hit f F o [] l a = l
+around-ok hit f F o (p ∷ ps) l a =
+    by (hit p) (λ h. rw (h, around) (F o p ps l a))
+    (λ h. rw (h, around) (all-append PageOk (listOf o) _ l (around-ok hit f F (some p) ps (a .0, tt) (a .1))))
+
+pub perform-ok : (os : List Op) (ps : List Page) → AllOf PageOk ps → AllOf PageOk (perform os ps)
+unfolding perform remove commit listOf
+perform-ok [] ps a = a
+perform-ok (toCommit n ∷ os) ps a = perform-ok os (commit n ps) (around-ok (hasNumber n) (commitOn n) (commitOn-ok n) none ps tt a)
+perform-ok (toRemove n ∷ os) ps a = perform-ok os (remove n ps) (around-ok (hasNumber n) (removeOn n) (removeOn-ok n) none ps tt a)
+
+-- ---- thawing
+
+ripe-size : (x : Held) → size (ripe x) ≤ heldSize x
+unfolding ripe if_then_else_ heldSize
+ripe-size x = let c = committed-size (x .tuple) in by (isCommitting (x .pending)) (λ h. rw h c) (λ h. rw h (omega arith))
+
+pub ripened-calm : (ts : List Held) → AllOf Small ts → AllOf Calm (map calm (ripened ts))
+unfolding ripened if_then_else_ calm heldSize
+ripened-calm [] a = tt
+ripened-calm (x ∷ xs) a =
+    let s = ripe-size x in
+    by (isRemoving (x .pending)) (λ h. rw h (ripened-calm xs (a .1))) (λ h. rw h ((omega (arith, a .0), refl), ripened-calm xs (a .1)))
+
+-- the tuples alone are as large
+pub bare-size : (ts : List Held) → sum size (bare ts) ≡ sum heldSize ts
+unfolding sum heldSize
+bare-size [] = refl
+bare-size (x ∷ xs) = rw (bare-size xs)
+
+-- what the deep split makes is fine
+split-fine : (ts : List Held) → AllOf Calm ts → 0 < length ts → AllOf Fine (splitAll ts)
+unfolding together fits
+split-fine ts c l =
+    let k = split-all ts l (small ts c) in
+    go (splitAll ts) (k .0) (subst (AllOf Calm) (sym (k .1)) c)
+  where
+    go : (tss : List (List Held)) → AllOf (λ us. (fits us ≡ true) × (isEmpty us ≡ false)) tss → AllOf Calm (together tss) → AllOf Fine tss
+    go [] a b = tt
+    go (ts ∷ tss) a b =
+        let q = all-parts Calm ts (together tss) b in
+        ((q .0, leb-true (sum heldSize ts) 504 (a .0 .0), has-some ts (a .0 .1)), go tss (a .1) (q .1))
+
+-- nothing pending: small tuples are calm
+calm-of : (ts : List Held) → any (λ x. isPending (x .pending)) ts ≡ false → AllOf Small ts → AllOf Calm ts
+unfolding any isPending
+calm-of [] e a = tt
+calm-of (x ∷ xs) e a = go (x .pending) refl (calm-of xs)
+  where
+    go : (o : Pending) → x .pending ≡ o → (any (λ x. isPending (x .pending)) xs ≡ false → AllOf Small xs → AllOf Calm xs) → AllOf Calm (x ∷ xs)
+    go nothing h r = ((a .0, h), r (rw (h, any) at e) (a .1))
+    go adding h r = lie (sym (rw (h, any) at e))
+    go committing h r = lie (sym (rw (h, any) at e))
+    go removing h r = lie (sym (rw (h, any) at e))
+
+thawOn-ok : (b : ℕ) (o : Option Page) (p : Page) (ps : List Page) → p .frozen ≡ true → AllOf PageOk (listOf o) → AllOf PageOk (p ∷ ps)
+    → AllOf PageOk (thawOn b o p ps)
+unfolding thawOn if_then_else_ fresh
+thawOn-ok b o p ps f l a =
+    by (any (λ x. isPending (x .pending)) (p .tuples))
+    (λ h. let c = ripened-calm (p .tuples) (a .0 .0) in
+    rw h (settle-ok _ o _ ps (λ m. all-fresh (p .table) (splitAll (map calm (ripened (p .tuples)))) (split-fine (map calm (ripened (p .tuples))) c m)) l c (a .1)))
+    (λ h. let w = subst Whole (shown-calm (p .tuples) h) (a .0 .2 f) in
+    let c = calm-of (p .tuples) h (a .0 .0) in
+    let z = bare-size (p .tuples) in
+    let y = length-map (p .tuples) (λ h. h .tuple) in
+    rw h (all-append PageOk (listOf o) _ l ((a .0 .0, λ k. (c, omega (arith, w .0), omega (arith, w .1)), λ k. lie k), a .1)))
+
+thaw-around : (b : ℕ) (o : Option Page) (ps : List Page) → AllOf PageOk (listOf o) → AllOf PageOk ps → AllOf PageOk (around isFrozen (thawOn b) o ps)
+unfolding around listOf isFrozen
+thaw-around b o [] l a = l
+thaw-around b o (p ∷ ps) l a =
+    by (p .frozen) (λ h. rw (h, around) (thawOn-ok b o p ps h l a))
+    (λ h. rw (h, around) (all-append PageOk (listOf o) _ l (thaw-around b (some p) ps (a .0, tt) (a .1))))
+
+pub thaw-ok : (b : ℕ) (ps : List Page) → AllOf PageOk ps → AllOf PageOk (thaw b ps)
+unfolding thaw listOf
+thaw-ok b ps a = thaw-around b none ps tt a

@@ -1,0 +1,192 @@
+-- A store just recovered.
+use mathlib.Core.Path.{_≡_, subst, refl, ap, sym, _∙_}
+use Prim.Native.Nat.{ℕ, _<_, _≤_, suc}
+use native.Mathlib.Omega.{arith}
+use mathlib.Core.Bool.{true, false, not, _&&_, Bool}
+use mathlib.Core.List.{List, [], _∷_, map, _++_}
+use mathlib.Core.Option.{some}
+use lib.Dec.{leb, ltb, eqb}
+use Rattle.basics.specs.Basics.{isIn, isEmpty, if_then_else_, all, distinct, any, howMany}
+use Rattle.basics.proofs.Facts.{AllOf, never, by, by-option, and-true, lie}
+use Rattle.blocks.specs.Block.{page, Block, malformed, header, directory, InRange}
+use Rattle.blocks.specs.Decode.{taken}
+use Rattle.blocks.specs.Limits.{mostNumber}
+use Rattle.blocks.specs.declared.Header.{Header}
+use Rattle.rows.specs.Rows.{transactions, isOwn}
+use Rattle.image.specs.Stages.{StoredPage, readPages, addPage, pageOk, blockOk, capacityLimit, directoryBlocks, headerOk, entriesOk, rowsOfPages}
+use Rattle.image.specs.View.{View}
+use Rattle.model.specs.State.{Store, idle}
+use Rattle.model.specs.Rules.{isDirty}
+use Rattle.model.specs.Sight.{held, rows}
+use Rattle.model.specs.Transactions.{openNumbers}
+use Rattle.model.specs.Recover.{loaded, recoveredStore}
+use Rattle.model.proofs.Views.{AllSane, Sane}
+use Rattle.model.proofs.Lists.{some-eq, leb-true, in-head, not-true, all-map, in-weak, all-split, every-all, eqb-true, all-mapped, in-append, in-all, all-append, all-in}
+use Rattle.model.proofs.Owners.{numbers-reopened, in-transactions}
+use Rattle.model.proofs.Books.{not-in-many, Booked, Books, inBlock-many}
+use Rattle.model.proofs.Recovery.{Found, found, read-blocks}
+use Rattle.model.proofs.Inv.{listed, listed-held, listed-read, Tied, Ready, Inv, named-self}
+use Rattle.model.proofs.Steps.{loaded-content, bare-calm, loaded-blocks}
+
+-- a page that was read stands in its block
+abbrev pub Read : View → ℕ → List ℕ → StoredPage → Type 0
+Read v l es p =
+    (k : ℕ) × (v (p .block) ≡ page (p .table) k (p .tuples)) × (0 < k) × (k ≤ l) × (isIn (p .block) es ≡ true) × (isEmpty (p .tuples) ≡ false)
+
+pub pages-read : (v : View) (l : ℕ) (es : List ℕ) (ps : List StoredPage) → readPages v l es ≡ some ps → AllOf (Read v l es) ps
+unfolding readPages addPage if_then_else_ pageOk
+pages-read v l [] ps e = subst (AllOf (Read v l [])) (some-eq e) tt
+pages-read v l (e ∷ es) ps h = go (v e) refl h (pages-read v l es)
+  where
+    go : (x : Block) → v e ≡ x → addPage l e x (readPages v l es) ≡ some ps
+        → ((qs : List StoredPage) → readPages v l es ≡ some qs → AllOf (Read v l es) qs)
+        → AllOf (Read v l (e ∷ es)) ps
+    go malformed q h r = never h
+    go (header a) q h r = never h
+    go (directory k ds) q h r = never h
+    go (page t k ts) q h r =
+        by (pageOk l k ts)
+        (λ y. by-option (readPages v l es)
+        (λ z. never (rw (y, z) at h))
+        (λ qs z.
+        let a = and-true (not (isEmpty ts)) (leb 1 k && leb k l) y in
+        let b = and-true (leb 1 k) (leb k l) (a .1) in
+        subst (AllOf (Read v l (e ∷ es))) (some-eq (rw (y, z) at h)) (
+          (k, q, leb-true 1 k (b .0), leb-true k l (b .1), in-head e es, not-true (isEmpty ts) (a .0)),
+          all-map (Read v l es) (Read v l (e ∷ es)) (λ p w. (w .0, w .1, w .2, w .3, in-weak (p .block) e es (w .4), w .5)) qs (r qs z),
+        )))
+        (λ y. never (rw y at h))
+
+blocks-in : (n : ℕ) (ds : List ℕ) → all (blockOk n) ds ≡ true → AllOf (λ d. (0 < d) × (d < n)) ds
+unfolding blockOk
+blocks-in n ds e =
+    all-map (λ d. blockOk n d ≡ true) (λ d. (0 < d) × (d < n)) (λ d u. let k = and-true (ltb 0 d) (ltb d n) u in (leb-true 1 d (k .0), leb-true (suc d) n (k .1))) ds
+    (all-split (blockOk n) ds e)
+
+-- what the header says
+pub record Headed (n : ℕ) (h : Header) : Type 0 where
+  pub blocks : h .blocks ≡ n
+  pub cap : (1 ≤ h .capacity) × (h .capacity ≤ capacityLimit)
+  pub dirs : AllOf (λ d. (0 < d) × (d < n)) (directoryBlocks h)
+
+pub headed : (n : ℕ) (h : Header) → headerOk n h ≡ true → Headed n h
+unfolding headerOk
+headed n h e =
+    let a = every-all _ e in
+    record {
+      blocks = eqb-true (h .blocks) n (a .0);
+      cap = (leb-true 1 (h .capacity) (a .1 .0), leb-true (h .capacity) capacityLimit (a .1 .1 .0));
+      dirs = blocks-in n (directoryBlocks h) (a .1 .1 .1 .1 .1 .0);
+    }
+
+pub entries-in : (n : ℕ) (ds es : List ℕ) → entriesOk n ds es ≡ true → AllOf (λ d. (0 < d) × (d < n)) es
+unfolding entriesOk
+entries-in n ds es e = blocks-in n es (every-all _ e .0)
+
+entries-apart : (n : ℕ) (ds es : List ℕ) → entriesOk n ds es ≡ true → distinct es ≡ true
+unfolding entriesOk
+entries-apart n ds es e = every-all _ e .1 .1 .0
+
+pub loaded-held : (ps : List StoredPage) → held (map loaded ps) ≡ rowsOfPages ps
+loaded-held ps = sym (listed-held (map loaded ps)) ∙ ap listed (loaded-content ps) ∙ listed-read ps
+
+-- the fields of the header are in range
+pub head-range : (v : View) (h : Header) → AllSane v → v 0 ≡ header h → (h .level ≤ mostNumber) × (h .next ≤ mostNumber)
+head-range v h a e = let f : InRange (header h) = subst Sane e (a 0) in (omega (arith, f .1 .1 .1 .0), omega (arith, f .1 .1 .1 .1 .0))
+
+start-tied : (v : View) (l : ℕ) (es ds : List ℕ) (ps : List StoredPage) → AllOf (Read v l es) ps → map (λ p. p .block) ps ≡ es
+    → AllOf (Tied v l (λ b. isIn b (map (λ p. p .block) ps ++ ds))) (map loaded ps)
+start-tied v l es ds ps r e =
+    all-mapped (Tied v l (λ b. isIn b (map (λ p. p .block) ps ++ ds))) loaded ps
+    (all-map (Read v l es) _ (λ p w. tie p w) ps r)
+  where
+    tie : (p : StoredPage) → Read v l es p → Tied v l (λ b. isIn b (map (λ p. p .block) ps ++ ds)) (loaded p)
+    tie p w = unfold loaded in λ c. (
+      w .0,
+      w .1
+          ∙ ap (page (p .table) (w .0)) (sym (bare-calm (p .tuples))),
+      w .2,
+      w .3,
+      rw (in-append (p .block) (map (λ p. p .block) ps), e, w .4),
+    )
+
+start-store : (n : ℕ) (v : View) (s : Store) (f : Found n v s) → Ready (recoveredStore (f .head) (f .pages))
+    → Inv n v (recoveredStore (f .head) (f .pages)) (recoveredStore (f .head) (f .pages)) (recoveredStore (f .head) (f .pages))
+unfolding recoveredStore
+start-store n v s f rd =
+    let h = f .head in
+    let ps = f .pages in
+    record {
+      blocks = headed n h (f .head-ok) .blocks;
+      good = record {
+        back = recoveredStore h ps;
+        found = subst (Found n v) (sym (f .store)) f;
+        like = record {
+          pages = refl;
+          next = refl;
+          names = named-self (recoveredStore h ps .used) (map (λ p. p .block) (recoveredStore h ps .pages));
+          active = λ tx. ap (isIn tx) (numbers-reopened (rowsOfPages ps) (transactions (rowsOfPages ps))) ∙ in-transactions tx (rowsOfPages ps)
+              ∙ ap (any (isOwn tx)) (sym (rd .same ∙ loaded-held ps));
+        };
+        names = λ c u. u;
+      };
+      phase = start-tied v (h .level) (f .entries) (directoryBlocks h) ps (pages-read v (h .level) (f .entries) ps (f .read))
+          (read-blocks v (h .level) (f .entries) ps (f .read));
+    }
+
+pub start-inv : (n : ℕ) (v : View) (s : Store) → Found n v s → Ready s → Inv n v s s s
+start-inv n v s f rd = subst (λ z. Inv n v z z z) (f .store) (start-store n v s f (subst Ready (sym (f .store)) rd))
+
+-- ---- the books of a recovered store
+
+many-distinct : (b : ℕ) (es : List ℕ) → distinct es ≡ true → howMany (eqb b) es ≤ 1
+unfolding distinct howMany if_then_else_
+many-distinct b [] d = omega arith
+many-distinct b (e ∷ es) d =
+    let k = and-true (not (isIn e es)) (distinct es) d in
+    by (eqb b e)
+    (λ h. let z = not-in-many b es (ap (λ x. isIn x es) (eqb-true b e h) ∙ not-true (isIn e es) (k .0)) in rw h (omega arith))
+    (λ h. rw h (many-distinct b es (k .1)))
+
+booked-loaded : (used : ℕ → Bool) (ps : List StoredPage) → AllOf (λ b. used b ≡ true) (map (λ p. p .block) ps) → AllOf (Booked used) (map loaded ps)
+unfolding loaded isDirty
+booked-loaded used [] a = tt
+booked-loaded used (p ∷ ps) a = ((λ h. lie h, λ h. a .0), booked-loaded used ps (a .1))
+
+read-books : (n : ℕ) (v : View) (h : Header) (es : List ℕ) (ps : List StoredPage) → 2 ≤ n → n ≤ 4096 → h .level ≤ mostNumber → Headed n h → map (λ p. p .block) ps ≡ es
+    → entriesOk (h .blocks) (directoryBlocks h) es ≡ true → Books (recoveredStore h ps)
+unfolding recoveredStore
+read-books n v h es ps two most lvl g bs ok =
+    let ds = directoryBlocks h in
+    let eok = subst (AllOf (λ d. (0 < d) × (d < h .blocks))) (sym bs) (entries-in (h .blocks) ds es ok) in
+    let dok = subst (λ m. AllOf (λ d. (0 < d) × (d < m)) ds) (sym (g .blocks)) (g .dirs) in
+    record {
+      blocks = (omega (arith, g .blocks), omega (arith, g .blocks));
+      cap = g .cap;
+      level = lvl;
+      taken = omega (arith, g .blocks);
+      within = λ c u. in-all (λ d. (0 < d) × (d < h .blocks)) c (map (λ p. p .block) ps ++ ds) u (all-append _ (map (λ p. p .block) ps) ds eok dok);
+      apart = λ b l. subst (λ z. z ≤ 1) (ap (howMany (eqb b)) (sym (loaded-blocks ps ∙ bs)) ∙ inBlock-many b (map loaded ps))
+          (many-distinct b es (entries-apart (h .blocks) ds es ok));
+      phase = booked-loaded _ ps (all-in _ (map (λ p. p .block) ps) (λ b i. rw (in-append b (map (λ p. p .block) ps), i)));
+    }
+
+pub start-books : (n : ℕ) (v : View) (s : Store) → 2 ≤ n → n ≤ 4096 → AllSane v → Found n v s → Books s
+start-books n v s two most sane f =
+    let h = f .head in
+    subst Books (f .store) (read-books n v h (f .entries) (f .pages) two most (head-range v h sane (f .top) .0) (headed n h (f .head-ok))
+    (read-blocks v (h .level) (f .entries) (f .pages) (f .read)) (f .entries-ok))
+
+-- the transactions of its rows are open, and nothing runs
+pub start-active : (n : ℕ) (v : View) (s : Store) → Found n v s → rows (s .pages) ≡ held (s .pages) → (u : ℕ)
+    → isIn u (openNumbers (s .active)) ≡ any (isOwn u) (rows (s .pages))
+start-active n v s f e u = subst (λ z. rows (z .pages) ≡ held (z .pages) → isIn u (openNumbers (z .active)) ≡ any (isOwn u) (rows (z .pages))) (f .store) loaded-active e
+  where
+    loaded-active : rows (recoveredStore (f .head) (f .pages) .pages) ≡ held (recoveredStore (f .head) (f .pages) .pages)
+        → isIn u (openNumbers (recoveredStore (f .head) (f .pages) .active)) ≡ any (isOwn u) (rows (recoveredStore (f .head) (f .pages) .pages))
+    loaded-active = unfold recoveredStore in λ e. ap (isIn u) (numbers-reopened (rowsOfPages (f .pages)) (transactions (rowsOfPages (f .pages))))
+        ∙ in-transactions u (rowsOfPages (f .pages)) ∙ ap (any (isOwn u)) (sym (e ∙ loaded-held (f .pages)))
+
+pub start-idle : (n : ℕ) (v : View) (s : Store) → Found n v s → s .checkpoint ≡ idle
+unfolding recoveredStore
+start-idle n v s f = ap (λ z. z .checkpoint) (sym (f .store))

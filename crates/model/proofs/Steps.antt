@@ -1,0 +1,394 @@
+-- One step of a running checkpoint keeps what holds, and writes a block whose fields are in range.
+use mathlib.Core.Path.{_≡_, ap, refl, _∙_, sym, subst, ap₂}
+use Prim.Native.Nat.{_<_, _≤_, suc, ℕ, zero, _*_, min}
+use native.Mathlib.Omega.{arith}
+use mathlib.Core.Bool.{true, false, Bool, not}
+use mathlib.Core.List.{List, [], _∷_, tail, map, _++_}
+use mathlib.Core.Option.{none, some}
+use lib.Dec.{eqb, ltb}
+use lib.ListN.{length, take, drop, length-take, length-map, getD}
+use lib.Pow.{low}
+use Rattle.basics.specs.Basics.{all, if_then_else_, isIn, any, first, every}
+use Rattle.basics.proofs.Facts.{AllOf, by, lie}
+use Rattle.blocks.specs.Block.{page, Block, header, InRange, EntriesFit, directory}
+use Rattle.blocks.specs.Limits.{recordSpace}
+use Rattle.blocks.specs.Tuple.{AllFit, sizes, Tuple}
+use Rattle.blocks.specs.declared.Header.{Header}
+use Rattle.rows.specs.Rows.{rowsOk, transactions, isOwn}
+use Rattle.image.specs.Stages.{directoriesFor, blockOk, directoryBlocks, isZero, unusedNumbers, StoredPage, capacityLimit, headerOk, entriesOk, readDirectories, rowsOfPages, readPages}
+use Rattle.image.specs.View.{View}
+use Rattle.model.specs.State.{Store, Outcome, Write, Page}
+use Rattle.model.specs.Rules.{shown, isFrozen, calm}
+use Rattle.model.specs.Sight.{held}
+use Rattle.model.specs.Transactions.{full}
+use Rattle.model.specs.Checkpoint.{storable, fill, storePage, made, stored, allocate, usedToo, storeDirectory, headerFor, storeHeader}
+use Rattle.model.specs.Recover.{loaded, recoveredStore}
+use Rattle.model.specs.QuotedLine.{content}
+use Rattle.model.specs.Checkpoints.{contentOf}
+use Rattle.model.proofs.Views.{put, whole}
+use Rattle.model.proofs.Lists.{le-true, eqb-self, eqb-true, eqb-sym, first-all, first-passes, all-map, pos-not-zero, not-zero, leb-true, all-take, all-drop, all-true, leb-false, all-two, in-append}
+use Rattle.model.proofs.Owners.{numbers-reopened, in-transactions}
+use Rattle.model.proofs.Frozen.{Content, images, images-first, images-thaw, shown-calm, bare, images-none}
+use Rattle.model.proofs.Pages.{all-thaw}
+use Rattle.model.proofs.Alloc.{Fresh, allocate-fresh, used-old}
+use Rattle.model.proofs.Books.{test-other, in-fill, Books, Running, off-used, once-distinct, once-right, once-off, once-left}
+use Rattle.model.proofs.Recovery.{Found, found, read-blocks}
+use Rattle.model.proofs.Stored.{Stored, end, todo, stands, Dirs, put-other, stored-fill, put-same, stored-put, dirs-snoc, dirs-put, stored-read, dirs-read, stored-written}
+use Rattle.model.proofs.Inv.{Inv, Good, Tied, clean-pos, Run, good-put, good-more, named-fill, tied-fresh, tied-frozen, listed-read, listed, listed-held, Named}
+
+-- what the frozen pages show can be written
+abbrev pub FrozenFit : Store → Type 0
+FrozenFit s = AllOf (λ p. p .frozen ≡ true → (p .table < 8) × AllFit (shown (p .tuples)) × (sizes (shown (p .tuples)) ≤ recordSpace)) (s .pages)
+
+-- what the frozen pages show has room in a block
+abbrev pub FrozenSmall : Store → Type 0
+FrozenSmall s = AllOf (λ p. p .frozen ≡ true → sizes (shown (p .tuples)) ≤ recordSpace) (s .pages)
+
+storable-is : (ts : List Tuple) → sizes ts ≤ recordSpace → storable ts ≡ ts
+unfolding storable if_then_else_
+storable-is ts h = rw (le-true (sizes ts) recordSpace h)
+
+-- the block x is the header of the store b, one level higher
+pub record Top (x : Block) (b : Store) : Type 0 where
+  pub head : Header
+  pub is : x ≡ header head
+  pub blocks : head .blocks ≡ b .blocks
+  pub capacity : head .capacity ≡ b .capacity
+  pub level : head .level ≡ suc (b .level)
+  pub next : head .next ≡ b .next
+  pub pages : head .pages ≡ length (b .pages)
+
+pub data Stepped (n : ℕ) (img : View) (s b b₀ : Store) (o : Outcome) : Type 0 where
+  still : o .writes ≡ [] → Inv n img (o .store) b b₀ → Stepped n img s b b₀ o
+  wrote : (w : Write) → o .writes ≡ w ∷ [] → w .at < n → (n ≤ 4096 → FrozenFit s → InRange (w .what)) → (eqb (w .at) 0 ≡ true → Top (w .what) b)
+      → (eqb (w .at) 0 ≡ false → (x : Block) → Good n (put img (w .at) x) (s .used) b₀)
+      → Inv n (put img (w .at) (w .what)) (o .store) b (if eqb (w .at) 0 then b else b₀) → Stepped n img s b b₀ o
+
+filled-in : {img : View} {l : ℕ} {es : List ℕ} {cs : List Content} (b : ℕ) (c : Content) (js is : List Content) → js ≡ c ∷ is → Stored img l es cs js
+    → isIn b (fill b es) ≡ true
+unfolding fill if_then_else_ isIn any
+filled-in b c js is e end = let z : _≡_ {A = ℕ} 0 1 = cc in absurd (omega arith)
+filled-in b c js is e (todo r) = rw (eqb-self b, any)
+filled-in b c js is e (stands {es = es} {e = d} k v w x y r) =
+    by (eqb d 0) (λ h. let z = eqb-true d 0 h in absurd (omega arith))
+    (λ h. by (eqb b d) (λ i. rw (h, i, any)) (λ i. rw (h, i, any) (filled-in b c js is e r)))
+
+no-dirs : (img : View) (l : ℕ) (es ds : List ℕ) → length ds ≡ 0 → Dirs img l es ds
+no-dirs img l es [] h = tt
+no-dirs img l es (d ∷ ds) h = absurd (omega arith)
+
+none-yet′ : {c : Content} (js is : List Content) (ds : List ℕ) → (0 < length ds → js ≡ []) → js ≡ c ∷ is → length ds ≡ 0
+none-yet′ js is [] f e = refl
+none-yet′ js is (d ∷ ds) f e = let k = f (omega arith) in let z : _≡_ {A = ℕ} 0 1 = cc in absurd (omega arith)
+
+-- the tie of a page to its block survives a store to a block that is not in the pool
+tied-put : (img : View) (l : ℕ) (pool : ℕ → Bool) (b : ℕ) (x : Block) (p : Page) → pool b ≡ false → Tied img l pool p → Tied (put img b x) l pool p
+tied-put img l pool b x p h t c = let u = t c in (u .0, put-other img b x (p .block) (test-other pool (p .block) b (u .4) h) ∙ u .1, u .2, u .3, u .4)
+
+tied-fill : (img : View) (l b : ℕ) (es : List ℕ) (p : Page) → isIn b es ≡ false → Tied img l (λ c. isIn c es) p
+    → Tied img l (λ c. isIn c (fill b es)) p
+tied-fill img l b es p h t c =
+    let u = t c in
+    (u .0, u .1, u .2, u .3, in-fill b (p .block) es (clean-pos p c) (eqb-sym b (p .block) (test-other (λ c. isIn c es) (p .block) b (u .4) h)) ∙ u .4)
+
+pub page-step : (n : ℕ) (img : View) (s b b₀ : Store) (n₀ : ℕ) (es ds : List ℕ) (p : Page) → Books s → Running n₀ es ds s → Inv n img s b b₀ → Run img s b n₀ es ds
+    → FrozenSmall s → first isFrozen (s .pages) ≡ some p → Stepped n img s b b₀ (storePage n₀ es ds p s)
+unfolding storePage made stored if_then_else_ isFrozen
+page-step n img s b b₀ n₀ es ds p bk r inv run small₀ e =
+    let ims = images-first (s .pages) p e in
+    let is = tail (images (s .pages)) in
+    let one : length (images (s .pages)) ≡ suc (length is) = ap length ims in
+    let none-yet : length ds ≡ 0 = none-yet′ (images (s .pages)) is ds (r .late) ims in
+    let i = allocate s in
+    let fr : Fresh (s .blocks) (s .used) i = allocate-fresh s (bk .taken) (omega (arith, r .room)) in
+    let off = off-used (s .used) i es (fr .pos) (fr .free) (r .named) in
+    let L = suc (s .level) in
+    let room : sizes (shown (p .tuples)) ≤ recordSpace
+    = first-all isFrozen (λ p. p .frozen ≡ true → sizes (shown (p .tuples)) ≤ recordSpace) (s .pages) p e small₀ (first-passes isFrozen (s .pages) p e) in
+    let x : Block = page (p .table) L (storable (shown (p .tuples))) in
+    let whole : x ≡ page (p .table) L (shown (p .tuples)) = ap (page (p .table) L) (storable-is (shown (p .tuples)) room) in
+    let img′ : View = put img i x in
+    let g : (y : Block) → Good n (put img i y) (s .used) b₀ = λ y. good-put n img (s .used) b₀ i y (fr .pos) (fr .free) (inv .good) in
+    let st : Stored img′ L (fill i es) (map content (b .pages)) is
+    = stored-fill i (p .table, shown (p .tuples)) (images (s .pages)) is ims (fr .pos) (omega arith) (put-same img i x ∙ whole) (stored-put i x off (run .stored)) in
+    let pool : ℕ → Bool = λ c. isIn c (fill i es) in
+    let ti : AllOf (Tied img′ L pool) (s .pages)
+    = all-map _ _ (λ q t. tied-fill img′ L i es q off (tied-put img L (λ c. isIn c es) i x q off t)) (s .pages) (run .tied) in
+    wrote (record { at = i; what = x }) refl (omega (arith, fr .low, inv .blocks))
+    (λ small fit. let f = first-all isFrozen
+    (λ p. p .frozen ≡ true → (p .table < 8) × AllFit (shown (p .tuples)) × (sizes (shown (p .tuples)) ≤ recordSpace)) (s .pages) p e fit
+    (first-passes isFrozen (s .pages) p e) in
+    subst InRange (sym whole) (record { table = f .0; level = omega (arith, r .level); tuples = f .1; room = f .2 }))
+    (λ z. lie (sym (pos-not-zero i (fr .pos)) ∙ z))
+    (λ h. g)
+    (rw (pos-not-zero i (fr .pos)) (record {
+      blocks = inv .blocks;
+      good = good-more n img′ (s .used) (usedToo s i) b₀ (used-old s i) (g x);
+      phase = record {
+        nxt = run .nxt;
+        stored = rw images-thaw st;
+        dirs = no-dirs img′ L (fill i es) ds none-yet;
+        base = run .base;
+        bcap = run .bcap;
+        blvl = run .blvl;
+        bblk = run .bblk;
+        bused = λ c h. used-old s i c (run .bused c h);
+        names = named-fill (b .used) i es _ (by (b .used i) (λ h. lie (sym (fr .free) ∙ run .bused i h)) (λ h. h)) (run .names);
+        tied = all-thaw (Tied img′ L pool) (tied-fresh img′ L pool) (tied-frozen img′ L pool) i p (s .pages) e
+            (λ h c. (
+              L,
+              put-same img i x ∙ whole ∙ ap (page (p .table) L) (shown-calm (p .tuples) h),
+              omega arith,
+              omega arith,
+              filled-in i
+                  (p .table, shown (p .tuples)) (images (s .pages)) is ims (run .stored),
+            )) ti;
+      };
+    }))
+
+entries-fit : (es : List ℕ) → AllOf (λ e. e < 4096) es → EntriesFit es
+entries-fit [] a = tt
+entries-fit (e ∷ es) a = (a .0, entries-fit es (a .1))
+
+-- the entries of a running checkpoint are blocks of the view
+entries-low : (s : Store) (es : List ℕ) → 0 < s .blocks → ((c : ℕ) → s .used c ≡ true → (0 < c) × (c < s .blocks))
+    → AllOf (λ e. 0 < e → s .used e ≡ true) es
+    → AllOf (λ e. e < s .blocks) es
+entries-low s es z f a = all-map _ _ (λ e h. by (eqb e 0) (λ k. let q = eqb-true e 0 k in omega arith) (λ k. f e (h (not-zero e k)) .1)) es a
+
+pub directory-step : (n : ℕ) (img : View) (s b b₀ : Store) (n₀ : ℕ) (es ds : List ℕ) → Books s → Running n₀ es ds s → Inv n img s b b₀ → Run img s b n₀ es ds
+    → first isFrozen (s .pages) ≡ none → ltb (length ds) (directoriesFor (length es)) ≡ true → Stepped n img s b b₀ (storeDirectory n₀ es ds s)
+unfolding storeDirectory made stored if_then_else_
+directory-step n img s b b₀ n₀ es ds bk r inv run e lt =
+    let few : length ds < directoriesFor (length es) = leb-true (suc (length ds)) (directoriesFor (length es)) lt in
+    let i = allocate s in
+    let fr : Fresh (s .blocks) (s .used) i = allocate-fresh s (bk .taken) (omega (arith, r .room)) in
+    let off = off-used (s .used) i es (fr .pos) (fr .free) (r .named) in
+    let off′ = off-used (s .used) i ds (fr .pos) (fr .free) (all-map _ _ (λ d h q. h) ds (r .written)) in
+    let L = suc (s .level) in
+    let part = take 336 (drop (336 * length ds) es) in
+    let x : Block = directory L part in
+    let img′ : View = put img i x in
+    let g : (y : Block) → Good n (put img i y) (s .used) b₀ = λ y. good-put n img (s .used) b₀ i y (fr .pos) (fr .free) (inv .good) in
+    let tl : length part ≡ min 336 (length (drop (336 * length ds) es)) = length-take 336 (drop (336 * length ds) es) in
+    wrote (record { at = i; what = x }) refl (omega (arith, fr .low, inv .blocks))
+    (λ small fit. record {
+      level = omega (arith, r .level);
+      count = omega arith;
+      entries = entries-fit part (all-take _ 336 (drop (336 * length ds) es) (all-drop _ (336 * length ds) es
+          (all-map _ _ (λ e h. omega (arith, inv .blocks)) es (entries-low s es (omega (arith, fr .low)) (bk .within) (r .named)))));
+    })
+    (λ z. lie (sym (pos-not-zero i (fr .pos)) ∙ z))
+    (λ h. g)
+    (rw (pos-not-zero i (fr .pos)) (record {
+      blocks = inv .blocks;
+      good = good-more n img′ (s .used) (usedToo s i) b₀ (used-old s i) (g x);
+      phase = record {
+        nxt = run .nxt;
+        stored = stored-put i x off (run .stored);
+        dirs = dirs-snoc img′ L i es ds (put-same img i x) (dirs-put img L i x es ds off′ (run .dirs));
+        base = run .base;
+        bcap = run .bcap;
+        blvl = run .blvl;
+        bblk = run .bblk;
+        bused = λ c h. used-old s i c (run .bused c h);
+        names = run .names;
+        tied = all-map _ _ (λ q t. tied-put img L (λ c. isIn c es) i x q off t) (s .pages) (run .tied);
+      };
+    }))
+
+-- ---- the header
+
+zero-not-in : (ds : List ℕ) → AllOf (λ d. 0 < d) ds → isIn 0 ds ≡ false
+unfolding isIn any
+zero-not-in [] p = refl
+zero-not-in (d ∷ ds) p = by (eqb 0 d) (λ h. let z = eqb-true 0 d h in let q = p .0 in absurd (omega arith)) (λ h. rw (h, any) (zero-not-in ds (p .1)))
+
+blocks-ok : (n : ℕ) (ds : List ℕ) → AllOf (λ d. (0 < d) × (d < n)) ds → all (blockOk n) ds ≡ true
+unfolding blockOk
+blocks-ok n ds a = all-true (blockOk n) ds (all-map (λ d. (0 < d) × (d < n)) (λ d. blockOk n d ≡ true) (λ d h. rw (le-true 1 d (h .0), le-true (suc d) n (h .1))) ds a)
+
+stored-length : {img : View} {l : ℕ} {es : List ℕ} {cs is : List Content} → Stored img l es cs is → length es ≡ length cs
+stored-length end = refl
+stored-length (todo r) = ap suc (stored-length r)
+stored-length (stands k p q u v r) = ap suc (stored-length r)
+
+-- what the header spells is what it was made for
+header-numbers : (s : Store) (l n p : ℕ) (ds : List ℕ) → length ds ≤ 4
+    → (directoryBlocks (headerFor s l n p ds) ≡ ds) × (all isZero (unusedNumbers (headerFor s l n p ds)) ≡ true)
+unfolding directoryBlocks unusedNumbers headerFor all isZero
+header-numbers s l n p [] h = (refl, refl)
+header-numbers s l n p (a ∷ []) h = (refl, refl)
+header-numbers s l n p (a ∷ b ∷ []) h = (refl, refl)
+header-numbers s l n p (a ∷ b ∷ c ∷ []) h = (refl, refl)
+header-numbers s l n p (a ∷ b ∷ c ∷ d ∷ []) h = (refl, refl)
+header-numbers s l n p (a ∷ b ∷ c ∷ d ∷ e ∷ ds) h = absurd (omega arith)
+
+pub bare-calm : (ts : List Tuple) → bare (map calm ts) ≡ ts
+unfolding calm
+bare-calm [] = refl
+bare-calm (x ∷ xs) = rw (bare-calm xs)
+
+pub loaded-content : (ps : List StoredPage) → map content (map loaded ps) ≡ map contentOf ps
+unfolding content loaded contentOf
+loaded-content [] = refl
+loaded-content (p ∷ ps) = rw (bare-calm (p .tuples), loaded-content ps)
+
+pub loaded-blocks : (ps : List StoredPage) → map (λ p. p .block) (map loaded ps) ≡ map (λ p. p .block) ps
+unfolding loaded
+loaded-blocks [] = refl
+loaded-blocks (p ∷ ps) = rw (loaded-blocks ps)
+
+module _ (n : ℕ) (img : View) (s b : Store) (n₀ : ℕ) (es ds : List ℕ) (bl : s .blocks ≡ n) (lim : (1 ≤ s .capacity) × (s .capacity ≤ capacityLimit))
+    (r : Running n₀ es ds s) (run : Run img s b n₀ es ds)
+    (ims : images (s .pages) ≡ []) (full : directoriesFor (length es) ≤ length ds) (eok : AllOf (λ e. (0 < e) × (e < s .blocks)) es)
+    (dok : AllOf (λ d. (0 < d) × (d < s .blocks)) ds) where
+  abbrev top : Header
+  top = headerFor s (suc (s .level)) n₀ (length es) ds
+
+  few-pages : length es ≤ s .capacity
+  few-pages = let len : length es ≡ length (b .pages) = stored-length (run .stored) ∙ length-map (b .pages) content in omega (arith, run .base .few, run .bcap)
+
+  all-dirs : length ds ≡ directoriesFor (length es)
+  all-dirs = omega (arith, r .directories)
+
+  few-dirs : length ds ≤ 4
+  unfolding directoriesFor
+  few-dirs = let f = few-pages in let a = all-dirs in omega (arith, lim .1)
+
+  top-ok : headerOk n top ≡ true
+  unfolding headerOk every headerFor
+  top-ok =
+      let hn = header-numbers s (suc (s .level)) n₀ (length es) ds few-dirs in
+      let h1 : eqb (s .blocks) n ≡ true = rw bl (eqb-self n) in
+      let h5 : eqb (length ds) (directoriesFor (length es)) ≡ true = rw all-dirs (eqb-self (directoriesFor (length es))) in
+      let h6 : all (blockOk n) ds ≡ true = subst (λ m. all (blockOk m) ds ≡ true) bl (blocks-ok (s .blocks) ds dok) in
+      let h7 = once-distinct ds (all-map _ _ (λ d h. h .0) ds dok) (once-right es ds (r .once)) in
+      rw (h1, le-true 1 (s .capacity) (lim .0), le-true (s .capacity) capacityLimit (lim .1), le-true (length es) (s .capacity) few-pages, h5, hn .1, hn .0, h6, h7)
+
+  top-entries : entriesOk (s .blocks) ds es ≡ true
+  unfolding entriesOk every
+  top-entries =
+      let epos = all-map _ _ (λ d h. h .0) es eok in
+      rw (
+        blocks-ok (s .blocks) es eok,
+        all-true (λ e. not (isIn e ds)) es (all-map _ _ (λ d h. ap not h) es (once-off es ds epos (r .once))),
+        once-distinct es epos (once-left es ds (r .once)),
+      )
+
+  header-good : Good n (put img 0 (header top)) (λ c. isIn c (es ++ ds)) b
+  header-good =
+      let img′ : View = put img 0 (header top) in
+      let L = suc (s .level) in
+      let hn = header-numbers s L n₀ (length es) ds few-dirs in
+      let epos = all-map _ _ (λ d h. h .0) es eok in
+      let dpos = all-map _ _ (λ d h. h .0) ds dok in
+      let t = stored-read ims (run .base .some) (stored-put 0 (header top) (zero-not-in es epos) (run .stored)) in
+      let dr : readDirectories img′ L (length es) ds ≡ some es = dirs-read img′ L es ds (enough all-dirs)
+      (dirs-put img L 0 (header top) es ds (zero-not-in ds dpos) (run .dirs)) in
+      let rs : rowsOfPages (t .0) ≡ held (b .pages) = sym (listed-read (t .0)) ∙ ap listed (t .2) ∙ listed-held (b .pages) in
+      let f : Found n img′ (recoveredStore top (t .0)) = made-found img′ (t .0) (put-same img 0 (header top)) (hn .0) dr (t .1)
+      (ap (rowsOk (s .capacity) n₀) rs ∙ rw (run .nxt, ← run .bcap) (run .base .ok)) in
+      made-good img′ (t .0) f (hn .0) (t .2) rs (read-blocks img′ L es (t .0) (t .1))
+    where
+      enough : length ds ≡ directoriesFor (length es) → length es ≤ 336 * length ds
+      enough e = unfold directoriesFor in omega arith
+
+      made-found : (img′ : View) (ps : List StoredPage) → img′ 0 ≡ header top → directoryBlocks top ≡ ds
+          → readDirectories img′ (suc (s .level)) (length es) ds ≡ some es
+          → readPages img′ (suc (s .level)) es ≡ some ps → rowsOk (s .capacity) n₀ (rowsOfPages ps) ≡ true → Found n img′ (recoveredStore top ps)
+      made-found img′ ps z q dr rp ok = unfold headerFor in record {
+        head = top;
+        entries = es;
+        pages = ps;
+        top = z;
+        head-ok = top-ok;
+        listed = rw q dr;
+        entries-ok = rw q top-entries;
+        read = rp;
+        rows-ok = ok;
+        store = refl;
+      }
+
+      made-good : (img′ : View) (ps : List StoredPage) (f : Found n img′ (recoveredStore top ps)) → directoryBlocks top ≡ ds
+          → map contentOf ps ≡ map content (b .pages)
+          → rowsOfPages ps ≡ held (b .pages) → map (λ p. p .block) ps ≡ es → Good n img′ (λ c. isIn c (es ++ ds)) b
+      made-good img′ ps f q c rs bs = unfold recoveredStore headerFor in record {
+        back = recoveredStore top ps;
+        found = f;
+        like = record {
+          pages = loaded-content ps ∙ c;
+          next = run .nxt;
+          names = subst (λ z. Named (b .used) z (map (λ p. p .block) (b .pages))) (sym (loaded-blocks ps ∙ bs)) (run .names);
+          active = λ tx. ap (isIn tx) (numbers-reopened _ _) ∙ ap (λ z. isIn tx (transactions z)) rs ∙ in-transactions tx (held (b .pages))
+              ∙ ap (any (isOwn tx)) (sym (run .base .same));
+        };
+        names = λ c u. ap₂ (λ y z. isIn c (y ++ z)) (sym bs) (sym q) ∙ u;
+      }
+
+  header-top : Top (header top) b
+  unfolding headerFor
+  header-top = record {
+    head = top;
+    is = refl;
+    blocks = sym (run .bblk);
+    capacity = sym (run .bcap);
+    level = ap suc (sym (run .blvl));
+    next = run .nxt;
+    pages = stored-length (run .stored) ∙ length-map (b .pages) content;
+  }
+
+  header-fits : s .blocks ≤ 4096 → InRange (header top)
+  unfolding headerFor
+  header-fits m =
+      let f = few-pages in
+      let q = few-dirs in
+      let low : AllOf (λ d. d < 4096) ds = all-map _ _ (λ d h. omega (arith, h .1)) ds dok in (
+        omega arith,
+        (
+          omega arith,
+          (
+            omega (arith, lim .1),
+            (
+              omega (arith, r .level),
+              (
+                omega (arith, run .nxt, run .base .most),
+                (
+                  omega (arith, lim .1),
+                  (
+                    omega arith,
+                    (low-at 0 ds low, (low-at 1 ds low, (low-at 2 ds low, (low-at 3 ds low, tt)))),
+                  ),
+                ),
+              ),
+            ),
+          ),
+        ),
+      )
+    where
+      low-at : (i : ℕ) (ds : List ℕ) → AllOf (λ d. d < 4096) ds → getD ds i 0 < 4096
+      low-at i [] a = omega arith
+      low-at zero (d ∷ ds) a = a .0
+      low-at (suc i) (d ∷ ds) a = low-at i ds (a .1)
+
+pub header-step : (n : ℕ) (img : View) (s b b₀ : Store) (n₀ : ℕ) (es ds : List ℕ) → Books s → Running n₀ es ds s → Inv n img s b b₀ → Run img s b n₀ es ds
+    → first isFrozen (s .pages) ≡ none → ltb (length ds) (directoriesFor (length es)) ≡ false → Stepped n img s b b₀ (storeHeader n₀ es ds s)
+unfolding storeHeader made stored if_then_else_
+header-step n img s b b₀ n₀ es ds bk r inv run e lt =
+    let ims = images-none (s .pages) e in
+    let L = suc (s .level) in
+    let full : directoriesFor (length es) ≤ length ds = omega (arith, leb-false (suc (length ds)) (directoriesFor (length es)) lt) in
+    let epos = stored-written ims (run .stored) in
+    let eok : AllOf (λ e. (0 < e) × (e < s .blocks)) es = all-two (λ e. 0 < e) (λ e. 0 < e → s .used e ≡ true) _ (λ e p u. bk .within e (u p)) es epos (r .named) in
+    let dok : AllOf (λ d. (0 < d) × (d < s .blocks)) ds = all-map _ _ (λ d u. bk .within d u) ds (r .written) in
+    let x = header (headerFor s L n₀ (length es) ds) in
+    wrote (record { at = 0; what = x }) refl (omega (arith, bk .taken, inv .blocks))
+    (λ small fit. header-fits n img s b n₀ es ds (inv .blocks) (bk .cap) r run ims full eok dok (omega (arith, inv .blocks)))
+    (λ z. header-top n img s b n₀ es ds (inv .blocks) (bk .cap) r run ims full eok dok)
+    (λ h. lie (sym h))
+    (record {
+      blocks = inv .blocks;
+      good = header-good n img s b n₀ es ds (inv .blocks) (bk .cap) r run ims full eok dok;
+      phase = all-map _ _ (λ q t c. let u = tied-put img L (λ c. isIn c es) 0 x q
+          (zero-not-in es epos) t c in (u .0, u .1, u .2, u .3, rw (in-append (q .block) es, u .4))) (s .pages) (run .tied);
+    })

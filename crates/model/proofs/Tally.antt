@@ -1,0 +1,414 @@
+-- A transaction's live rows are as many as the writes accepted since it opened: the count is kept from the calls and answers alone.
+use mathlib.Core.Path.{_≡_, refl, ap, _∙_, sym}
+use Prim.Native.Nat.{ℕ, suc, zero, min, _≤_}
+use native.Mathlib.Omega.{arith}
+use mathlib.Core.Bool.{not, Bool, false, true}
+use mathlib.Core.List.{List, [], _∷_, _++_}
+use mathlib.Core.Option.{none, Option, some}
+use lib.Dec.{eqb, ltb}
+use lib.ListN.{length}
+use Rattle.basics.specs.Basics.{if_then_else_, howMany, any, keep, first, isIn}
+use Rattle.basics.proofs.Facts.{lie, by, AllOf, by-option, and-true}
+use Rattle.blocks.specs.Tuple.{tentative, committed, Owner}
+use Rattle.rows.specs.Rows.{isOwn, isBy, Row}
+use Rattle.image.specs.Stages.{directoriesFor}
+use Rattle.model.specs.State.{Answer, Store, Outcome, Page, Checkpoint, idle, running, done, refused, filled, Active}
+use Rattle.model.specs.Rules.{isFrozen}
+use Rattle.model.specs.Sight.{rows, seen}
+use Rattle.model.specs.Transactions.{unless, Test, gives, _when_, newTuple, written, changed, perform, plan, planRows, removeAll, openCall, insertCall, replaceCall, deleteCall, openNumbers, commitCall, abortCall, readCall, readSeen, listCall, listing, writtenBy, withWrite, without}
+use Rattle.model.specs.Checkpoint.{beginCall, stored, storePage, made, allocate, stepAt, stepOf, storeDirectory, storeHeader, inTurn, stepCall, runCall, left}
+use Rattle.model.specs.Calls.{Call, opens, commits, aborts, inserts, replaces, deletes, reads, lists, begins, steps, runs, accepted, call, others, withWriter, writers, afterCalls, hadWritten}
+use Rattle.model.proofs.Lists.{Mem, many-none, all-map, eqb-true, all-mem, eqb-sym, many-length, in-keep, not-true, le-true, in-here, eqb-self, in-cons, and-no, and-yes, any-many}
+use Rattle.model.proofs.Owners.{count-append, count-new, numbers-write, count-write, count-other, numbers-without, count-without}
+use Rattle.model.proofs.Quiet.{unless-out, unless-keeps, step-frame}
+use Rattle.model.proofs.Rows.{rows-freeze, thaw-rows, sub-length}
+use Rattle.model.proofs.Fate.{gather, afterCommit, perform-rows, commit-rows, afterAbort, abort-rows}
+use Rattle.model.proofs.Valid.{Valid, Counted, Opened}
+use Rattle.model.proofs.Closing.{Comes, as-is, final, not-own, own-owner, gather-all, many-gather, commit-comes, commit-stays, abort-comes, abort-stays}
+use Rattle.model.proofs.Keeps.{rows-differ, step-valid, keeps, rows-sub}
+use Rattle.model.proofs.Inserted.{insertRow, place-rows, many-inserted}
+
+-- ---- the count, from the calls and their answers
+
+-- c: how many tuples transaction u had written before the call
+unfoldable pub wrote : ℕ → ℕ → ℕ → ℕ
+wrote u tx c = if eqb tx u then suc c else c
+
+unfoldable pub closed : ℕ → ℕ → ℕ → ℕ
+closed u tx c = if eqb tx u then 0 else c
+
+unfoldable pub noted : Call → ℕ → ℕ → ℕ
+noted (opens tx) u c = c
+noted (commits tx) u c = closed u tx c
+noted (aborts tx) u c = closed u tx c
+noted (inserts tx t k bs) u c = wrote u tx c
+noted (replaces tx t k bs) u c = wrote u tx c
+noted (deletes tx t k) u c = wrote u tx c
+noted (reads tx t k r) u c = c
+noted (lists r) u c = c
+noted begins u c = c
+noted (steps len) u c = c
+noted (runs limit len) u c = c
+
+unfoldable pub tally : Call → Answer → ℕ → ℕ → ℕ
+tally c a u n = if accepted a then noted c u n else n
+
+-- a transaction's live rows
+unfoldable pub own : ℕ → Store → ℕ
+own u s = howMany (isOwn u) (rows (s .pages))
+
+-- ---- refused or not
+
+abbrev Tallies : Call → Store → Outcome → Type 0
+Tallies c s o = (u : ℕ) → own u (o .store) ≡ tally c (o .answer) u (own u s)
+
+unless-tally : (c : Call) (ts : List Test) (s : Store) (o : Outcome) → Tallies c s o → Tallies c s (unless ts s o)
+unfolding unless if_then_else_ gives tally accepted
+unless-tally c [] s o f u = f u
+unless-tally c ((n when b) ∷ ts) s o f u = by b (λ h. rw h) (λ h. rw h (unless-tally c ts s o f u))
+
+-- ---- writing
+
+own-new : (u tx k : ℕ) (bs : List ℕ) (m : Bool) (t : ℕ) (s : Store) → isOwn u (t, newTuple tx k bs m s) ≡ eqb tx u
+unfolding isOwn isBy newTuple
+own-new u tx k bs m t s = refl
+
+pub written-rows : (s : Store) → Valid s → (tx t k : ℕ) (bs : List ℕ) (m : Bool)
+    → rows (written tx t k bs m s .store .pages) ≡ insertRow (t, newTuple tx k bs m s) (rows (s .pages))
+unfolding written gives changed newTuple
+written-rows s v tx t k bs m = place-rows t (newTuple tx k bs m s) (s .pages) (v .pages) (v .has .rising)
+
+written-own : (s : Store) → Valid s → (tx t k : ℕ) (bs : List ℕ) (m : Bool) (u : ℕ) → own u (written tx t k bs m s .store) ≡ wrote u tx (own u s)
+unfolding own wrote
+written-own s v tx t k bs m u =
+    ap (howMany (isOwn u)) (written-rows s v tx t k bs m) ∙ many-inserted (isOwn u) (t, newTuple tx k bs m s) (rows (s .pages))
+    ∙ ap (λ b. if b then suc (howMany (isOwn u) (rows (s .pages))) else howMany (isOwn u) (rows (s .pages))) (own-new u tx k bs m t s)
+
+written-tally : (c : Call) (s : Store) → Valid s → (tx t k : ℕ) (bs : List ℕ) (m : Bool) → ((u n : ℕ) → noted c u n ≡ wrote u tx n)
+    → Tallies c s (written tx t k bs m s)
+unfolding tally accepted if_then_else_ written gives
+written-tally c s v tx t k bs m e u = written-own s v tx t k bs m u ∙ sym (e u (own u s))
+
+-- ---- closing
+
+module _ (tx : ℕ) (rs : List Row) (F : Row → List Row)
+    (comes : (r : Row) → Mem r rs → AllOf (Comes tx r) (F r))
+    (stays : (r : Row) (u s : ℕ) → Mem r rs → r .1 .owner ≡ tentative u s → eqb u tx ≡ false → F r ≡ r ∷ []) where
+  gone-own : (r a : Row) → Comes tx r a → isOwn tx a ≡ false
+  gone-own r a (as-is n) = n
+  gone-own r a (final p q o z) = not-own tx a o
+
+  other-own : (u : ℕ) (r a : Row) → isOwn u r ≡ false → Comes tx r a → isOwn u a ≡ false
+  other-own u r a h (as-is n) = h
+  other-own u r a h (final p q o z) = not-own u a o
+
+  one-own : (u : ℕ) → eqb u tx ≡ false → (r : Row) → Mem r rs → howMany (isOwn u) (F r) ≡ howMany (isOwn u) (r ∷ [])
+  one-own u d r m =
+      by (isOwn u r)
+      (λ h. ap (howMany (isOwn u)) (stays r u (own-owner u r h .0) m (own-owner u r h .1) d))
+      (λ h. many-none (isOwn u) (F r) (all-map (Comes tx r) (λ a. isOwn u a ≡ false) (λ a c. other-own u r a h c) (F r) (comes r m))
+      ∙ sym (many-none (isOwn u) (r ∷ []) (h, tt)))
+
+  closed-own : (u : ℕ) → howMany (isOwn u) (gather F rs) ≡ closed u tx (howMany (isOwn u) rs)
+  unfolding closed if_then_else_
+  closed-own u =
+      by (eqb tx u)
+      (λ e. let q = eqb-true tx u e in rw e (many-none (isOwn u) (gather F rs)
+      (gather-all (λ a. isOwn u a ≡ false) F rs
+      (all-mem _ rs (λ r m. all-map (Comes tx r) (λ a. isOwn u a ≡ false) (λ a c. ap (λ z. isOwn z a) (sym q) ∙ gone-own r a c) (F r) (comes r m))))))
+      (λ e. rw e (many-gather (isOwn u) F rs (all-mem _ rs (λ r m. one-own u (eqb-sym tx u e) r m))))
+
+pub committed-rows : (tx : ℕ) (s : Store) → Valid s
+    → rows (perform (plan tx (s .pages)) (s .pages)) ≡ gather (afterCommit tx (rows (s .pages))) (rows (s .pages))
+unfolding plan
+committed-rows tx s v = perform-rows (planRows tx (rows (s .pages)) (rows (s .pages))) (s .pages) (v .pages) (v .has .differ) .1
+    ∙ commit-rows tx (rows (s .pages)) (rows-differ s v)
+
+pub aborted-rows : (tx : ℕ) (s : Store) → Valid s
+    → rows (perform (removeAll (keep (isOwn tx) (rows (s .pages)))) (s .pages)) ≡ gather (afterAbort tx) (rows (s .pages))
+aborted-rows tx s v = perform-rows (removeAll (keep (isOwn tx) (rows (s .pages)))) (s .pages) (v .pages) (v .has .differ) .1
+    ∙ abort-rows tx (rows (s .pages)) (rows-differ s v)
+
+-- ---- the checkpoint leaves the rows
+
+rows-unless : (ts : List Test) (s : Store) (o : Outcome) → rows (o .store .pages) ≡ rows (s .pages)
+    → rows (unless ts s o .store .pages) ≡ rows (s .pages)
+rows-unless ts s o e = unless-out (λ t ws. rows (t .pages) ≡ rows (s .pages)) ts s o refl e
+
+pub begin-rows : (s : Store) → rows (beginCall s .store .pages) ≡ rows (s .pages)
+unfolding beginCall gives stored
+begin-rows s = rows-unless _ s _ (rows-freeze (s .pages))
+
+page-rows : (n : ℕ) (es ds : List ℕ) (p : Page) (s : Store) → Valid s → rows (storePage n es ds p s .store .pages) ≡ rows (s .pages)
+unfolding storePage made stored
+page-rows n es ds p s v = thaw-rows (allocate s) (s .pages) (v .pages) .1
+
+step-rows : (s : Store) → Valid s → rows (stepAt (s .checkpoint) s .store .pages) ≡ rows (s .pages)
+unfolding stepAt stepOf gives if_then_else_ storeDirectory storeHeader made stored
+step-rows s v = go (s .checkpoint)
+  where
+    go : (c : Checkpoint) → rows (stepAt c s .store .pages) ≡ rows (s .pages)
+    go idle = refl
+    go (running n es ds) =
+        by-option (first isFrozen (s .pages))
+        (λ f. rw (f, stepOf) (by (ltb (length ds) (directoriesFor (length es))) (λ k. rw (k, if_then_else_)) (λ k. rw (k, if_then_else_))))
+        (λ p f. rw (f, stepOf) (page-rows n es ds p s v))
+
+turn-rows : (k : ℕ) (s : Store) → Valid s → rows (inTurn k s .store .pages) ≡ rows (s .pages)
+unfolding inTurn gives
+turn-rows zero s v = refl
+turn-rows (suc k) s v = turn-rows k (stepAt (s .checkpoint) s .store) (step-valid s v) ∙ step-rows s v
+
+pub stepCall-rows : (len : ℕ) (s : Store) → Valid s → rows (stepCall len s .store .pages) ≡ rows (s .pages)
+unfolding stepCall
+stepCall-rows len s v = rows-unless _ s _ (step-rows s v)
+
+pub run-rows : (limit len : ℕ) (s : Store) → Valid s → rows (runCall limit len s .store .pages) ≡ rows (s .pages)
+unfolding runCall
+run-rows limit len s v = rows-unless _ s _ (turn-rows (min limit (left s)) s v)
+
+-- a call that leaves the rows and counts nothing
+quiet-tally : (c : Call) (s : Store) (o : Outcome) → ((u n : ℕ) → noted c u n ≡ n) → rows (o .store .pages) ≡ rows (s .pages) → Tallies c s o
+unfolding tally if_then_else_ own
+quiet-tally c s o e r u = by (accepted (o .answer)) (λ h. rw h (ap (howMany (isOwn u)) r ∙ sym (e u (howMany (isOwn u) (rows (s .pages))))))
+    (λ h. rw h (ap (howMany (isOwn u)) r))
+
+open-tally : (tx : ℕ) (s : Store) → Tallies (opens tx) s (openCall tx s)
+unfolding openCall gives changed noted
+open-tally tx s = unless-tally (opens tx) _ s _
+    (quiet-tally (opens tx) s (gives done (changed s (s .next) (s .pages) (s .active ++ record { transaction = tx; written = 0 } ∷ []))) (λ u n. refl) refl)
+
+insert-tally : (tx t k : ℕ) (bs : List ℕ) (s : Store) → Valid s → Tallies (inserts tx t k bs) s (insertCall tx t k bs s)
+unfolding insertCall noted
+insert-tally tx t k bs s v = unless-tally (inserts tx t k bs) _ s _ (written-tally (inserts tx t k bs) s v tx t k bs false (λ u n. refl))
+
+replace-tally : (tx t k : ℕ) (bs : List ℕ) (s : Store) → Valid s → Tallies (replaces tx t k bs) s (replaceCall tx t k bs s)
+unfolding replaceCall noted
+replace-tally tx t k bs s v = unless-tally (replaces tx t k bs) _ s _ (written-tally (replaces tx t k bs) s v tx t k bs false (λ u n. refl))
+
+delete-tally : (tx t k : ℕ) (s : Store) → Valid s → Tallies (deletes tx t k) s (deleteCall tx t k s)
+unfolding deleteCall noted
+delete-tally tx t k s v = unless-tally (deletes tx t k) _ s _ (written-tally (deletes tx t k) s v tx t k [] true (λ u n. refl))
+
+committed-own : (tx : ℕ) (s : Store) → Valid s → (u : ℕ) → howMany (isOwn u) (rows (perform (plan tx (s .pages)) (s .pages))) ≡ closed u tx (own u s)
+unfolding own
+committed-own tx s v u =
+    let os = openNumbers (s .active) in
+    let rs = rows (s .pages) in
+    let d = rows-differ s v in
+    ap (howMany (isOwn u)) (committed-rows tx s v) ∙ closed-own tx rs (afterCommit tx rs) (commit-comes tx os rs (v .sees) d) (commit-stays tx os rs (v .sees) d) u
+
+aborted-own : (tx : ℕ) (s : Store) → Valid s → (u : ℕ)
+    → howMany (isOwn u) (rows (perform (removeAll (keep (isOwn tx) (rows (s .pages)))) (s .pages))) ≡ closed u tx (own u s)
+unfolding own
+aborted-own tx s v u =
+    let os = openNumbers (s .active) in
+    let rs = rows (s .pages) in
+    let d = rows-differ s v in
+    ap (howMany (isOwn u)) (aborted-rows tx s v) ∙ closed-own tx rs (afterAbort tx) (abort-comes tx os rs (v .sees) d) (abort-stays tx os rs (v .sees) d) u
+
+commit-tally : (tx : ℕ) (s : Store) → Valid s → Tallies (commits tx) s (commitCall tx s)
+unfolding commitCall gives changed
+commit-tally tx s v = unless-tally (commits tx) _ s _ (λ u. unfold tally accepted noted if_then_else_ own in committed-own tx s v u)
+
+abort-tally : (tx : ℕ) (s : Store) → Valid s → Tallies (aborts tx) s (abortCall tx s)
+unfolding abortCall gives changed
+abort-tally tx s v = unless-tally (aborts tx) _ s _ (λ u. unfold tally accepted noted if_then_else_ own in aborted-own tx s v u)
+
+read-tally : (tx t k r : ℕ) (s : Store) → Tallies (reads tx t k r) s (readCall tx t k r s)
+unfolding readCall noted
+read-tally tx t k r s = unless-tally (reads tx t k r) _ s _ (go (seen tx t k s))
+  where
+    go : (o : Option Row) → Tallies (reads tx t k r) s (readSeen r o s)
+    go none = unfold readSeen in quiet-tally (reads tx t k r) s (gives (refused 14) s) (λ u n. unfold noted in refl) (unfold gives in refl)
+    go (some q) = unfold readSeen in unless-tally (reads tx t k r) _ s _
+        (quiet-tally (reads tx t k r) s (gives (filled (length (q .1 .payload)) (q .1 .payload)) s) (λ u n. unfold noted in refl) (unfold gives in refl))
+
+list-tally : (r : ℕ) (s : Store) → Tallies (lists r) s (listCall r s)
+unfolding listCall gives noted
+list-tally r s = unless-tally (lists r) _ s _ (quiet-tally (lists r) s (gives (filled (length (s .active)) (listing (openNumbers (s .active)))) s) (λ u n. refl) refl)
+
+-- every call counts as it answers
+pub tallies : (c : Call) (s : Store) → Valid s → Tallies c s (call c s)
+unfolding call noted
+tallies (opens tx) s v = open-tally tx s
+tallies (commits tx) s v = commit-tally tx s v
+tallies (aborts tx) s v = abort-tally tx s v
+tallies (inserts tx t k bs) s v = insert-tally tx t k bs s v
+tallies (replaces tx t k bs) s v = replace-tally tx t k bs s v
+tallies (deletes tx t k) s v = delete-tally tx t k s v
+tallies (reads tx t k r) s v = read-tally tx t k r s
+tallies (lists r) s v = list-tally r s
+tallies begins s v = quiet-tally begins s (beginCall s) (λ u n. refl) (begin-rows s)
+tallies (steps len) s v = quiet-tally (steps len) s (stepCall len s) (λ u n. refl) (stepCall-rows len s v)
+tallies (runs limit len) s v = quiet-tally (runs limit len) s (runCall limit len s) (λ u n. refl) (run-rows limit len s v)
+
+-- ---- the counts of the open transactions
+
+counted-rows : (s z : Store) → z .active ≡ s .active → rows (z .pages) ≡ rows (s .pages) → Counted s → Counted z
+counted-rows s z a e c tx i = ap (writtenBy tx) a ∙ c tx (ap (λ y. isIn tx (openNumbers y)) (sym a) ∙ i) ∙ ap (howMany (isOwn tx)) (sym e)
+
+-- a transaction that is not open has no row
+not-open : (tx : ℕ) (os : List ℕ) (o : Owner) → isIn tx os ≡ false → Opened os o → isBy tx o ≡ false
+unfolding isBy
+not-open tx os committed n h = refl
+not-open tx os (tentative u st) n h = by (eqb u tx) (λ e. lie (sym n ∙ ap (λ z. isIn z os) (sym (eqb-true u tx e)) ∙ h)) (λ e. e)
+
+not-own-open : (tx : ℕ) (os : List ℕ) (r : Row) → isIn tx os ≡ false → Opened os (r .1 .owner) → isOwn tx r ≡ false
+unfolding isOwn
+not-own-open tx os r n h = not-open tx os (r .1 .owner) n h
+
+-- a right count is that of its live rows
+own-count : (s : Store) → Counted s → (u : ℕ) → isIn u (openNumbers (s .active)) ≡ true → writtenBy u (s .active) ≡ own u s
+unfolding own
+own-count s c u i = c u i
+
+counted-open : (tx : ℕ) (s : Store) → Valid s → Counted s → Counted (openCall tx s .store)
+unfolding openCall gives changed
+counted-open tx s v c =
+    unless-keeps Counted _ s _ c (λ p u i.
+    by (isIn u (openNumbers (s .active)))
+    (λ h. count-append u tx (s .active) h ∙ c u h)
+    (λ h. count-new u tx (s .active) h
+    ∙ sym (many-none (isOwn u) (rows (s .pages))
+    (all-map (λ r. Opened (openNumbers (s .active)) (r .1 .owner)) (λ r. isOwn u r ≡ false)
+    (λ r k. not-own-open u (openNumbers (s .active)) r h k) (rows (s .pages)) (v .sees .open′)))))
+
+more-rows : (s : Store) → Valid s → (u : ℕ) → suc (own u s) ≤ 1048575
+unfolding own
+more-rows s v u = omega (arith, many-length (isOwn u) (rows (s .pages)), sub-length (rows-sub (s .pages)), v .has .few, v .cap)
+
+min-under : (n m : ℕ) → n ≤ m → min n m ≡ n
+min-under n m h = omega arith
+
+counted-written : (s : Store) → Valid s → Counted s → (tx t k : ℕ) (bs : List ℕ) (m : Bool) → Counted (written tx t k bs m s .store)
+unfolding written gives changed own
+counted-written s v c tx t k bs m u i =
+    let j : isIn u (openNumbers (s .active)) ≡ true = ap (isIn u) (sym (numbers-write tx (s .active))) ∙ i in
+    let o = written-own s v tx t k bs m u in
+    by (eqb tx u)
+    (λ e. let q = eqb-true tx u e in
+    ap (λ z. writtenBy u (withWrite z (s .active))) q ∙ count-write u (s .active) j ∙ ap (λ n. min (suc n) 1048575) (own-count s c u j)
+    ∙ min-under (suc (own u s)) 1048575 (more-rows s v u) ∙ sym (wrote-own u tx (own u s) e) ∙ sym o)
+    (λ e. count-other tx u (s .active) e ∙ own-count s c u j ∙ sym (wrote-other u tx (own u s) e) ∙ sym o)
+  where
+    wrote-own : (u tx n : ℕ) → eqb tx u ≡ true → wrote u tx n ≡ suc n
+    wrote-own u tx n e = unfold wrote if_then_else_ in rw e
+
+    wrote-other : (u tx n : ℕ) → eqb tx u ≡ false → wrote u tx n ≡ n
+    wrote-other u tx n e = unfold wrote if_then_else_ in rw e
+
+-- u is open without tx: it is another transaction, and is open
+stays-open : (tx u : ℕ) (os : List Active) → isIn u (openNumbers (without tx os)) ≡ true → (eqb tx u ≡ false) × (isIn u (openNumbers os) ≡ true)
+unfolding others
+stays-open tx u os i =
+    let k = sym (in-keep u (λ o. not (eqb o tx)) (openNumbers os)) ∙ ap (isIn u) (sym (numbers-without tx os)) ∙ i in
+    let q = and-true (isIn u (openNumbers os)) (not (eqb u tx)) k in
+    (eqb-sym u tx (not-true (eqb u tx) (q .1)), q .0)
+
+counted-closed : (tx : ℕ) (s : Store) (ps : List Page) → ((u : ℕ) → howMany (isOwn u) (rows ps) ≡ closed u tx (own u s)) → Counted s
+    → Counted (changed s (s .next) ps (without tx (s .active)))
+unfolding changed own
+counted-closed tx s ps own-after c u i =
+    let q = stays-open tx u (s .active) i in
+    count-without tx u (s .active) (q .0) ∙ own-count s c u (q .1) ∙ sym (closed-other u tx (own u s) (q .0)) ∙ sym (own-after u)
+  where
+    closed-other : (u tx n : ℕ) → eqb tx u ≡ false → closed u tx n ≡ n
+    closed-other u tx n e = unfold closed if_then_else_ in rw e
+
+pub step-active : (s : Store) → stepAt (s .checkpoint) s .store .active ≡ s .active
+unfolding stored
+step-active s = step-frame (λ z. z .active ≡ s .active) s refl (λ l ps u b c. refl)
+
+pub counted-step : (s : Store) → Valid s → Counted s → Counted (stepAt (s .checkpoint) s .store)
+counted-step s v c = counted-rows s (stepAt (s .checkpoint) s .store) (step-active s) (step-rows s v) c
+
+counted-turn : (k : ℕ) (s : Store) → Valid s → Counted s → Counted (inTurn k s .store)
+unfolding inTurn gives
+counted-turn zero s v c = c
+counted-turn (suc k) s v c = counted-turn k (stepAt (s .checkpoint) s .store) (step-valid s v) (counted-step s v c)
+
+pub keeps-count : (c : Call) (s : Store) → Valid s → Counted s → Counted (call c s .store)
+unfolding call insertCall replaceCall deleteCall commitCall abortCall readCall listCall beginCall stepCall runCall gives stored
+keeps-count (opens tx) s v c = counted-open tx s v c
+keeps-count (inserts tx t k bs) s v c = unless-keeps Counted _ s _ c (λ p. counted-written s v c tx t k bs false)
+keeps-count (replaces tx t k bs) s v c = unless-keeps Counted _ s _ c (λ p. counted-written s v c tx t k bs false)
+keeps-count (deletes tx t k) s v c = unless-keeps Counted _ s _ c (λ p. counted-written s v c tx t k [] true)
+keeps-count (commits tx) s v c = unless-keeps Counted _ s _ c (λ p. counted-closed tx s _ (committed-own tx s v) c)
+keeps-count (aborts tx) s v c = unless-keeps Counted _ s _ c (λ p. counted-closed tx s _ (aborted-own tx s v) c)
+keeps-count (reads tx t k r) s v c = unless-keeps Counted _ s _ c (λ p. go (seen tx t k s))
+  where
+    go : (o : Option Row) → Counted (readSeen r o s .store)
+    go none = unfold readSeen in c
+    go (some q) = unfold readSeen in unless-keeps Counted _ s _ c (λ p. c)
+keeps-count (lists r) s v c = unless-keeps Counted _ s _ c (λ p. c)
+keeps-count begins s v c = unless-keeps Counted _ s _ c (λ p u i. c u i ∙ ap (howMany (isOwn u)) (sym (rows-freeze (s .pages))))
+keeps-count (steps len) s v c = unless-keeps Counted _ s _ c (λ p. counted-step s v c)
+keeps-count (runs limit len) s v c = unless-keeps Counted _ s _ c (λ p. counted-turn (min limit (left s)) s v c)
+
+-- ---- a run
+
+-- w is right for the counts n
+abbrev Right : (ℕ → ℕ) → List ℕ → Type 0
+Right n w = (u : ℕ) → isIn u w ≡ ltb 0 (n u)
+
+right-wrote : (tx : ℕ) (n : ℕ → ℕ) (w : List ℕ) → Right n w → Right (λ u. wrote u tx (n u)) (withWriter tx w)
+unfolding wrote if_then_else_ withWriter
+right-wrote tx n w r u =
+    by (eqb tx u)
+    (λ e. let q = eqb-true tx u e in
+    let p = sym (le-true 1 (suc (n u)) (omega arith)) in
+    by (isIn tx w) (λ k. rw (e, k) (ap (λ z. isIn z w) (sym q) ∙ k ∙ p)) (λ k. rw (e, k) (in-here u tx w (ap (λ z. eqb z tx) (sym q) ∙ eqb-self tx) ∙ p)))
+    (λ e. by (isIn tx w) (λ k. rw (e, k) (r u)) (λ k. rw (e, k) (in-cons u tx w (eqb-sym tx u e) ∙ r u)))
+
+right-closed : (tx : ℕ) (n : ℕ → ℕ) (w : List ℕ) → Right n w → Right (λ u. closed u tx (n u)) (others tx w)
+unfolding closed if_then_else_ others
+right-closed tx n w r u =
+    let k = in-keep u (λ o. not (eqb o tx)) w in
+    by (eqb tx u) (λ e. let q : eqb u tx ≡ true = ap (λ z. eqb z tx) (sym (eqb-true tx u e)) ∙ eqb-self tx in rw e (k ∙ rw q (and-no (isIn u w))))
+    (λ e. rw e (k ∙ rw (eqb-sym tx u e) (and-yes (isIn u w) ∙ r u)))
+
+right-noted : (c : Call) (n : ℕ → ℕ) (w : List ℕ) → Right n w → Right (λ u. noted c u (n u)) (writers c w)
+unfolding noted writers
+right-noted (opens tx) n w r = r
+right-noted (commits tx) n w r = right-closed tx n w r
+right-noted (aborts tx) n w r = right-closed tx n w r
+right-noted (inserts tx t k bs) n w r = right-wrote tx n w r
+right-noted (replaces tx t k bs) n w r = right-wrote tx n w r
+right-noted (deletes tx t k) n w r = right-wrote tx n w r
+right-noted (reads tx t k q) n w r = r
+right-noted (lists q) n w r = r
+right-noted begins n w r = r
+right-noted (steps len) n w r = r
+right-noted (runs limit len) n w r = r
+
+tally-yes : (c : Call) (a : Answer) (u n : ℕ) → accepted a ≡ true → tally c a u n ≡ noted c u n
+unfolding tally if_then_else_
+tally-yes c a u n h = rw h
+
+tally-no : (c : Call) (a : Answer) (u n : ℕ) → accepted a ≡ false → tally c a u n ≡ n
+unfolding tally if_then_else_
+tally-no c a u n h = rw h
+
+right-step : (c : Call) (s : Store) → Valid s → (w : List ℕ) → Right (λ u. own u s) w
+    → Right (λ u. own u (call c s .store)) (if accepted (call c s .answer) then writers c w else w)
+unfolding if_then_else_
+right-step c s v w r u =
+    by (accepted (call c s .answer))
+    (λ h. rw h (right-noted c (λ u. own u s) w r u ∙ ap (ltb 0) (sym (tallies c s v u ∙ tally-yes c (call c s .answer) u (own u s) h))))
+    (λ h. rw h (r u ∙ ap (ltb 0) (sym (tallies c s v u ∙ tally-no c (call c s .answer) u (own u s) h))))
+
+right-run : (cs : List Call) (s : Store) → Valid s → Counted s → (w : List ℕ) → Right (λ u. own u s) w → Right (λ u. own u (afterCalls cs s)) (hadWritten cs s w)
+unfolding afterCalls hadWritten
+right-run [] s v c₀ w r = r
+right-run (c ∷ cs) s v c₀ w r = right-run cs (call c s .store) (keeps c s v c₀) (keeps-count c s v c₀)
+    (if accepted (call c s .answer) then writers c w else w) (right-step c s v w r)
+
+own-any : (u : ℕ) (s : Store) → any (isOwn u) (rows (s .pages)) ≡ ltb 0 (own u s)
+unfolding own
+own-any u s = any-many (isOwn u) (rows (s .pages))
+
+-- the transactions of the live rows are those that had written by the calls and their answers
+pub writers-law : (s : Store) → Valid s → Counted s → ((u : ℕ) → isIn u (openNumbers (s .active)) ≡ any (isOwn u) (rows (s .pages))) → (cs : List Call) (tx : ℕ)
+    → any (isOwn tx) (rows (afterCalls cs s .pages)) ≡ isIn tx (hadWritten cs s (openNumbers (s .active)))
+writers-law s v c a cs tx = own-any tx (afterCalls cs s) ∙ sym (right-run cs s v c (openNumbers (s .active)) (λ u. a u ∙ own-any u s) tx)

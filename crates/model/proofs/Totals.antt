@@ -1,0 +1,137 @@
+-- A total over the pages, to which a fresh page adds nothing and a frozen page the same whatever its tuples, is not raised by the rules.
+use mathlib.Core.Path.{_≡_, refl, subst, sym}
+use Prim.Native.Nat.{ℕ, _+_, _≤_}
+use native.Mathlib.Omega.{arith}
+use mathlib.Core.Bool.{true, Bool, false}
+use mathlib.Core.List.{List, _∷_, [], _++_, map}
+use mathlib.Core.Option.{Option, some, none}
+use lib.Dec.{eqb, ltb}
+use Rattle.basics.specs.Basics.{if_then_else_, sum, isEmpty, any}
+use Rattle.basics.proofs.Facts.{by, never, by-option}
+use Rattle.blocks.specs.Tuple.{Tuple}
+use Rattle.model.specs.State.{Page, Held}
+use Rattle.model.specs.Rules.{grown, withTuples, remove, removeOn, listOf, edit, gone, commit, commitOn, keptLater, kept, fresh, splitOnce, placeAfter, place, after, entering, placeFront, calm, settle, settleNext, joined, joins, settleFull, around, hasNumber, thaw, isFrozen, thawOn, isPending, ripened, splitAll, takenLater}
+use Rattle.model.specs.Transactions.{Op, perform, toCommit, toRemove}
+use Rattle.model.proofs.Lists.{some-eq}
+use Rattle.model.proofs.Pages.{stillFrozen}
+
+grown-frozen : (p : Page) (ts : List Held) → p .frozen ≡ true → grown p ts ≡ stillFrozen p ts ∷ []
+unfolding grown withTuples stillFrozen if_then_else_
+grown-frozen p ts h = rw h
+
+removeOn-frozen : (n : ℕ) (o : Option Page) (p : Page) (ps : List Page) → p .frozen ≡ true
+    → removeOn n o p ps ≡ listOf o ++ stillFrozen p (takenLater n (p .tuples)) ∷ ps
+unfolding removeOn withTuples stillFrozen if_then_else_
+removeOn-frozen n o p ps h = rw h
+
+commitOn-frozen : (n : ℕ) (o : Option Page) (p : Page) (ps : List Page) → p .frozen ≡ true
+    → commitOn n o p ps ≡ listOf o ++ stillFrozen p (edit keptLater n (p .tuples)) ∷ ps
+unfolding commitOn withTuples stillFrozen if_then_else_
+commitOn-frozen n o p ps h = rw h
+
+module _ (w : Page → ℕ) (w-fresh : (t : ℕ) (ts : List Held) → w (fresh t ts) ≡ 0)
+    (w-frozen : (p : Page) (ts : List Held) → p .frozen ≡ true → w (stillFrozen p ts) ≡ w p) where
+  sum-append : (a b : List Page) → sum w (a ++ b) ≡ sum w a + sum w b
+  unfolding sum
+  sum-append [] b = omega arith
+  sum-append (p ∷ a) b = let e = sum-append a b in omega arith
+
+  sum-fresh : (t : ℕ) (tss : List (List Held)) → sum w (map (fresh t) tss) ≡ 0
+  unfolding sum
+  sum-fresh t [] = refl
+  sum-fresh t (ts ∷ tss) = let e = sum-fresh t tss in let f = w-fresh t ts in omega arith
+
+  sum-grown : (p : Page) (ts : List Held) (ps : List Page) → sum w (grown p ts ++ ps) ≤ w p + sum w ps
+  unfolding grown if_then_else_ sum
+  sum-grown p ts ps =
+      by (p .frozen) (λ h. let e = w-frozen p ts h in subst (λ z. sum w (z ++ ps) ≤ w p + sum w ps) (sym (grown-frozen p ts h)) (omega arith))
+      (λ h. let e = sum-append (map (fresh (p .table)) (splitOnce ts)) ps in let f = sum-fresh (p .table) (splitOnce ts) in rw h (omega arith))
+
+  sum-placeAfter : (t : ℕ) (x : Tuple) (ps qs : List Page) → placeAfter t x ps ≡ some qs → sum w qs ≤ sum w ps
+  unfolding placeAfter if_then_else_ sum
+  sum-placeAfter t x [] qs e = never e
+  sum-placeAfter t x (p ∷ ps) qs e =
+      by-option (placeAfter t x ps)
+      (λ n. by (eqb (p .table) t)
+      (λ h. by-option (after (entering p x) (p .tuples))
+      (λ m. never (rw (n, h, m) at e))
+      (λ ts m. let k : grown p ts ++ ps ≡ qs = some-eq (rw (n, h, m) at e) in subst (λ z. sum w z ≤ w p + sum w ps) k (sum-grown p ts ps)))
+      (λ h. never (rw (n, h) at e)))
+      (λ ws n. let k : p ∷ ws ≡ qs = some-eq (rw (n, placeAfter) at e) in let l = sum-placeAfter t x ps ws n in subst (λ z. sum w z ≤ w p + sum w ps) k (omega arith))
+
+  sum-placeFront : (t : ℕ) (x : Tuple) (ps : List Page) → sum w (placeFront t x ps) ≤ sum w ps
+  unfolding placeFront if_then_else_ sum
+  sum-placeFront t x [] = let f = w-fresh t (calm x ∷ []) in omega arith
+  sum-placeFront t x (p ∷ ps) =
+      by (ltb (p .table) t) (λ h. let l = sum-placeFront t x ps in rw h (omega arith))
+      (λ h. by (eqb (p .table) t) (λ k. rw (h, k) (sum-grown p _ ps)) (λ k. let f = w-fresh t (calm x ∷ []) in rw (h, k) (omega arith)))
+
+  pub sum-place : (t : ℕ) (x : Tuple) (ps : List Page) → sum w (place t x ps) ≤ sum w ps
+  unfolding place
+  sum-place t x ps =
+      by-option (placeAfter t x ps) (λ n. rw (n, place) (sum-placeFront t x ps)) (λ qs n. rw (n, place) (sum-placeAfter t x ps qs n))
+
+  sum-settleNext : (rest : List Page) (p : Page) (ps : List Page) → sum w rest ≡ 0 → sum w (settleNext rest p ps) ≤ sum w ps
+  unfolding settleNext if_then_else_ joined sum
+  sum-settleNext rest p [] r = omega arith
+  sum-settleNext rest p (q ∷ qs) r =
+      by (joins p q) (λ h. let f = w-fresh (p .table) (p .tuples ++ q .tuples) in rw h (omega arith)) (λ h. let e = sum-append rest (q ∷ qs) in rw h (omega arith))
+
+  sum-settleFull : (rest : List Page) (o : Option Page) (p : Page) (ps : List Page) → sum w rest ≡ 0
+      → sum w (settleFull rest o p ps) ≤ sum w (listOf o) + sum w ps
+  unfolding settleFull if_then_else_ joined listOf sum
+  sum-settleFull rest none p ps r = let l = sum-settleNext rest p ps r in omega arith
+  sum-settleFull rest (some o) p ps r =
+      let l = sum-settleNext rest p ps r in
+      by (joins o p) (λ h. let f = w-fresh (o .table) (o .tuples ++ p .tuples) in rw h (omega arith)) (λ h. rw h (omega arith))
+
+  sum-settle : (rest : List Page) (o : Option Page) (p : Page) (ps : List Page) → sum w rest ≡ 0 → sum w (settle rest o p ps) ≤ sum w (listOf o) + sum w ps
+  unfolding settle if_then_else_
+  sum-settle rest o p ps r =
+      by (isEmpty (p .tuples)) (λ h. let e = sum-append (listOf o) ps in rw h (omega arith)) (λ h. rw h (sum-settleFull rest o p ps r))
+
+  -- more: what the change of the page may add
+  sum-around : (hit : Page → Bool) (f : Option Page → Page → List Page → List Page) (more : ℕ)
+      → ((o : Option Page) (p : Page) (ps : List Page) → sum w (f o p ps) ≤ sum w (listOf o) + (w p + sum w ps) + more)
+      → (o : Option Page) (ps : List Page) → sum w (around hit f o ps) ≤ sum w (listOf o) + sum w ps + more
+  unfolding around listOf sum
+  sum-around hit f more F o [] = omega arith
+  sum-around hit f more F o (p ∷ ps) =
+      by (hit p) (λ h. rw (h, around) (F o p ps))
+      (λ h. let l = sum-around hit f more F (some p) ps in let e = sum-append (listOf o) (around hit f (some p) ps) in rw (h, around) (omega arith))
+
+  sum-removeOn : (n : ℕ) (o : Option Page) (p : Page) (ps : List Page) → sum w (removeOn n o p ps) ≤ sum w (listOf o) + (w p + sum w ps) + 0
+  unfolding removeOn if_then_else_ sum
+  sum-removeOn n o p ps =
+      by (p .frozen)
+      (λ h. let e = w-frozen p (takenLater n (p .tuples)) h in let f = sum-append (listOf o) (stillFrozen p (takenLater n (p .tuples)) ∷ ps) in
+      subst (λ z. sum w z ≤ sum w (listOf o) + (w p + sum w ps) + 0) (sym (removeOn-frozen n o p ps h)) (omega arith))
+      (λ h. let q = fresh (p .table) (edit gone n (p .tuples)) in let f = w-fresh (p .table) (edit gone n (p .tuples)) in
+      let l = sum-settle (q ∷ []) o q ps (omega arith) in rw h (omega arith))
+
+  sum-commitOn : (n : ℕ) (o : Option Page) (p : Page) (ps : List Page) → sum w (commitOn n o p ps) ≤ sum w (listOf o) + (w p + sum w ps) + 0
+  unfolding commitOn if_then_else_ sum
+  sum-commitOn n o p ps =
+      by (p .frozen)
+      (λ h. let e = w-frozen p (edit keptLater n (p .tuples)) h in let f = sum-append (listOf o) (stillFrozen p (edit keptLater n (p .tuples)) ∷ ps) in
+      subst (λ z. sum w z ≤ sum w (listOf o) + (w p + sum w ps) + 0) (sym (commitOn-frozen n o p ps h)) (omega arith))
+      (λ h. let f = w-fresh (p .table) (edit kept n (p .tuples)) in let e = sum-append (listOf o) (fresh (p .table) (edit kept n (p .tuples)) ∷ ps) in rw h (omega arith))
+
+  pub sum-perform : (os : List Op) (ps : List Page) → sum w (perform os ps) ≤ sum w ps
+  unfolding perform remove commit listOf sum
+  sum-perform [] ps = omega arith
+  sum-perform (toCommit n ∷ os) ps = let l = sum-perform os (commit n ps) in let k = sum-around (hasNumber n) (commitOn n) 0 (sum-commitOn n) none ps in omega arith
+  sum-perform (toRemove n ∷ os) ps = let l = sum-perform os (remove n ps) in let k = sum-around (hasNumber n) (removeOn n) 0 (sum-removeOn n) none ps in omega arith
+
+  -- the thawed page, if it is clean, may add
+  pub sum-thaw : (b more : ℕ) (ps : List Page) → ((p : Page) → w (record { table = p .table; block = b; frozen = false; tuples = p .tuples }) ≤ more)
+      → sum w (thaw b ps) ≤ sum w ps + more
+  unfolding thaw listOf sum
+  sum-thaw b more ps c = let l = sum-around isFrozen (thawOn b) more on none ps in omega arith
+    where
+      on : (o : Option Page) (p : Page) (ps : List Page) → sum w (thawOn b o p ps) ≤ sum w (listOf o) + (w p + sum w ps) + more
+      on o p ps = unfold thawOn if_then_else_ sum in
+          by (any (λ x. isPending (x .pending)) (p .tuples))
+          (λ h. let hs = map calm (ripened (p .tuples)) in let l = sum-settle (map (fresh (p .table)) (splitAll hs)) o (fresh (p .table) hs) ps
+          (sum-fresh (p .table) (splitAll hs)) in rw h (omega arith))
+          (λ h. let k = c p in let e = sum-append (listOf o) (record { table = p .table; block = b; frozen = false; tuples = p .tuples } ∷ ps) in rw h (omega arith))

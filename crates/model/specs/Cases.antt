@@ -1,0 +1,250 @@
+-- The starred cases of the specification that are about the rules, as one table; worked runs of the four places where builds go
+-- astray; and one run cut at every store. All are proved in proofs/ by computation.
+use Prim.Native.Nat.{ℕ, zero, suc, _+_}
+use mathlib.Core.Path.{_≡_}
+use mathlib.Core.Bool.{Bool, true, false, _&&_, _||_}
+use mathlib.Core.List.{List, [], _∷_, _++_, map}
+use lib.ListN.{length, replicate, take, drop}
+use lib.Dec.{eqb}
+use Rattle.basics.specs.Basics.{all, every, sum, isIn, from, basics}
+use Rattle.bits.specs.Bits.{bitsOf, number as numberOf, bitsIn, field}
+use Rattle.blocks.specs.Numbers.{num4, same}
+use Rattle.blocks.specs.Tuple.{Owner, committed, tentative, Tuple, isTentative, ownerSize, size}
+use Rattle.blocks.specs.Spell.{zeros, spell, bytesOf, filled as filledUp, blockOf}
+use Rattle.blocks.specs.Block.{page, committedBit, markBit, ownerFields, payloadFields, recordFields, recordsFields, entryFields, encodeBlock}
+use Rattle.blocks.specs.Decode.{kind, spelledBy, readHeader, headerIn, readOwner, readTuple, taken, whole, readTuples, pageTable, pageCount, pageLevel, pageOf as pageOfBytes, pageIn, readEntries, directoryCount, directoryLevel, directoryIn, decodeBlock}
+use Rattle.rows.specs.Rows.{rowRules}
+use Rattle.image.specs.View.{blockAt, blockCount, view}
+use Rattle.image.specs.Stages.{Stage, refuses, holds, wholeBlocks, blockOk, isZero, directoriesFor, directoryBlocks, unusedNumbers, headerOk, headerTest, addEntries, readDirectories, entriesOk, testedEntries, directoryTest, pageOk, addPage, readPages, rowsOfPages, testedPages, pageTest}
+use Rattle.image.specs.Whole.{headerStage, pagesBelow, pagesStage}
+use Rattle.model.specs.State.{Held, Page, idle, Store, Write, Answer, refused, done, count}
+use Rattle.model.specs.Rules.{heldSize, fresh, calm, joins, rules}
+use Rattle.model.specs.Sight.{held, rows, isForeign, versions, seenOf, seen}
+use Rattle.model.specs.Transactions.{gives, unless, changed, openCall, notOpen, noTable, tooLong, foreign, present, unseen, full, newTuple, written, insertCall, replaceCall, deleteCall, readSeen, readCall, listing, listCall, perform, isRow, removeAll, planKey, ownAt, planRows, plan, openNumbers, isFor, writtenBy, withWrite, without, commitCall, abortCall}
+use Rattle.model.specs.Checkpoint.{stored as storedStore, isFree, allocate, freeCount, usedToo, isRunning, blocksNeeded, beginCall, leftOf, left, made, fill, storable, storePage, storeDirectory, headerFor, storeHeader, stepOf, stepAt, badImage, stepCall, inTurn, runCall}
+use Rattle.model.specs.Calls.{Call, opens, inserts, replaces, deletes, commits, begins, steps, runs, call, isBegin, others, withWriter, writers, accepted, afterCalls, hadWritten}
+use Rattle.model.specs.Recover.{memoryFor, putBlock, freshStore, make, madeImage, loaded, reopened, recoveredStore, recoverPages, recoverBelow, recover}
+use Rattle.model.specs.QuotedLine.{Logged, tag, log, isHeader, landed, stored, content}
+
+-- ---- runs of calls
+
+-- the answers of a list of calls
+unfoldable pub answers : List Call → Store → List Answer
+answers [] s = []
+answers (c ∷ cs) s = let o = call c s in o .answer ∷ answers cs (o .store)
+
+-- the block stores of a list of calls
+unfoldable pub writes : List Call → Store → List Write
+writes [] s = []
+writes (c ∷ cs) s = let o = call c s in o .writes ++ writes cs (o .store)
+
+-- how many tuples each page has, and its size
+unfoldable pub shape : Store → List (ℕ × ℕ)
+shape s = map (λ p. (length (p .tuples), sum heldSize (p .tuples))) (s .pages)
+
+-- n inserts by transaction 5 into table 0, of payloads of size bytes at the keys from k on
+unfoldable pub many : ℕ → ℕ → ℕ → List Call
+many k zero size = []
+many k (suc n) size = inserts 5 0 k (replicate size 65) ∷ many (suc k) n size
+
+-- the pages after these calls on an empty store of 16 blocks, N 64, in which transaction 5 is open
+unfoldable pub after5 : List Call → List (ℕ × ℕ)
+after5 cs = shape (afterCalls (opens 5 ∷ cs) (freshStore 16 64))
+
+-- ---- the table
+
+-- committed, with a payload of n bytes
+unfoldable pub tuple : ℕ → Tuple
+tuple n = record { key = 0; number = 0; owner = committed; mark = false; payload = replicate n 0 }
+
+-- a page of k tuples of 42 bytes, and one of 42 + n
+unfoldable pub pageOf : ℕ → ℕ → Page
+pageOf k n = fresh 0 (map calm (replicate k (tuple 33) ++ tuple (33 + n) ∷ []))
+
+-- a store of 512 blocks with p clean pages of one tuple each
+unfoldable pub clean : ℕ → Store
+clean p =
+    record {
+      blocks = 512;
+      capacity = 1024;
+      level = 1;
+      next = p;
+      pages = map (λ b. record { table = 0; block = b; frozen = false; tuples = calm (tuple 0) ∷ [] }) (from 1 p);
+      active = [];
+      used = λ b. isIn b (from 1 p);
+      taken = p;
+      checkpoint = idle;
+    }
+
+-- open 5, insert table 0, key 7, payload 41 42; checkpoint
+unfoldable pub booking : List Call
+booking = opens 5 ∷ inserts 5 0 7 (0x41 ∷ 0x42 ∷ []) ∷ begins ∷ runs 9 8192 ∷ []
+
+-- this block store spells these bytes and then zeros
+unfoldable pub spells : Write → ℕ → List ℕ → ℕ → Bool
+spells w at xs k = eqb (w .at) at && same (encodeBlock (w .what)) (xs ++ zeros k)
+
+-- the first block store
+unfoldable pub firstOf : List Write → (Write → Bool) → Bool
+firstOf [] f = false
+firstOf (w ∷ ws) f = f w
+
+-- what the rules give, and what the specification says
+pub record Cases : Type 0 where
+  -- empty store, 16 blocks, N 8: header 10 08 00 80, then zeros
+  pub empty-header : same (madeImage (replicate 8192 0xFF) 8) (0x10 ∷ 0x08 ∷ 0x00 ∷ 0x80 ∷ zeros 508 ++ replicate 7680 0xFF) ≡ true
+  -- ten tentative payloads of 40: 530 bytes, split 5 and 5; nine: 477, no split
+  pub ten : after5 (many 0 10 40) ≡ (5, 265) ∷ (5, 265) ∷ []
+  pub nine : after5 (many 0 9 40) ≡ (9, 477) ∷ []
+  -- 504 stays, 505 splits
+  pub stays : after5 (many 0 9 40 ++ many 9 1 14) ≡ (10, 504) ∷ []
+  pub splits : after5 (many 0 9 40 ++ many 9 1 15) ≡ (5, 265) ∷ (5, 240) ∷ []
+  -- sum 336 joins, 337 does not
+  pub joins-336 : joins (pageOf 3 0) (pageOf 3 0) ≡ true
+  pub joins-337 : joins (pageOf 3 0) (pageOf 3 1) ≡ false
+  -- frozen nine, ten more pending: 1,007 at thaw, pages of 5, 5, 9
+  pub frozen-nineteen : after5 (many 10 9 40 ++ (begins ∷ many 20 10 40)) ≡ (19, 1007) ∷ []
+  pub thawed : after5 (many 10 9 40 ++ (begins ∷ many 20 10 40 ++ (steps 8192 ∷ []))) ≡ (5, 265) ∷ (5, 265) ∷ (9, 477) ∷ []
+  -- 336 pages, none frozen: 2 stores; 337: 3; empty: 1
+  pub stores-336 : answers (begins ∷ []) (clean 336) ≡ count 2 ∷ []
+  pub stores-337 : answers (begins ∷ []) (clean 337) ≡ count 3 ∷ []
+  pub stores-empty : answers (begins ∷ []) (freshStore 16 8) ≡ count 1 ∷ []
+  -- the booking in the 16-block store: its answers and the bytes of page block 1
+  pub booking-answers : answers booking (freshStore 16 8) ≡ done ∷ done ∷ count 3 ∷ count 3 ∷ []
+  pub booking-bytes : firstOf (writes booking (freshStore 16 8)) (λ w. spells w 1 (
+      0x20 ∷ 0x08 ∷ 0x3C ∷ 0x00 ∷ 0x00 ∷ 0x00 ∷ 0x04 ∷ 0x00
+      ∷ 0x00 ∷ 0x00 ∷ 0x00 ∷ 0x07 ∷ 0x00 ∷ 0x00 ∷ 0x00 ∷ 0x00 ∷ 0x02 ∷ 0x00 ∷ 0x50 ∷ 0x00 ∷ 0x00 ∷ 0x41 ∷ 0x42 ∷ []) 489) ≡ true
+
+-- ---- where builds go astray: one worked run each
+
+-- the image after these block stores
+unfoldable pub imageAfter : List Write → List ℕ → List ℕ
+imageAfter [] img = img
+imageAfter (w ∷ ws) img = imageAfter ws (putBlock img (w .at) (encodeBlock (w .what)))
+
+-- the pages of what recovery gives
+unfoldable pub shapeOf : Stage Store → List (ℕ × ℕ)
+shapeOf (refuses n) = []
+shapeOf (holds s) = shape s
+
+-- power fails after these calls on an empty store of 16 blocks, N 64: what recovery gives
+unfoldable pub recoveredAfter : List Call → Stage Store
+recoveredAfter cs = recover (memoryFor 64) (imageAfter (writes cs (freshStore 16 64)) (madeImage (replicate 8192 0xFF) 64))
+
+-- where the block stores of these calls go in a store of b blocks
+unfoldable pub places : List Call → ℕ → List ℕ
+places cs b = map (λ w. w .at) (writes cs (freshStore b 64))
+
+-- nine tuples, checkpointed; while the next checkpoint runs, which has a dirty page of table 1, a tenth splits their clean page
+unfoldable pub splitMeanwhile : List Call
+splitMeanwhile =
+    opens 5 ∷ (many 0 9 40 ++ (begins ∷ runs 9 8192 ∷ inserts 5 1 0 [] ∷ begins ∷ (many 9 1 40 ++ (runs 9 8192 ∷ []))))
+
+-- a tentative tuple's page is frozen; its transaction commits before the page's store
+unfoldable pub commitMeanwhile : List Call
+commitMeanwhile = opens 5 ∷ inserts 5 0 7 (0x41 ∷ []) ∷ begins ∷ commits 5 ∷ steps 8192 ∷ []
+
+-- the tuple that it stores
+unfoldable pub committedLate : Owner → Tuple
+committedLate o = record { key = 7; number = 0; owner = o; mark = false; payload = 0x41 ∷ [] }
+
+-- three checkpoints of two pages: of both, of the second, of the first, whose block is the next that the search meets
+unfoldable pub threeTimes : ℕ → List Call
+threeTimes len =
+    opens 5 ∷ inserts 5 0 7 [] ∷ inserts 5 1 7 [] ∷ begins ∷ runs 9 len ∷ inserts 5 1 8 [] ∷ begins ∷ runs 9 len
+    ∷ inserts 5 0 8 [] ∷ begins ∷ runs 9 len ∷ []
+
+-- two frozen pages of five committed tuples of 49 bytes; four of the first and one of the second are deleted
+unfoldable pub bothFrozen : List Call
+bothFrozen =
+    many 0 10 40 ++ (commits 5 ∷ begins ∷ opens 6 ∷ deletes 6 0 0 ∷ deletes 6 0 1 ∷ deletes 6 0 2 ∷ deletes 6 0 3 ∷ deletes 6 0 9 ∷ commits 6 ∷ [])
+
+-- what the runs above give
+pub record Traps : Type 0 where
+  -- the pages at the end are not those listed: the page that was clean at begin is listed whole, with the block that it had
+  pub at-the-end : shape (afterCalls splitMeanwhile (freshStore 16 64)) ≡ (5, 265) ∷ (5, 265) ∷ (1, 13) ∷ []
+  pub as-at-begin : shapeOf (recoveredAfter splitMeanwhile) ≡ (9, 477) ∷ (1, 13) ∷ []
+  pub listed-blocks : places splitMeanwhile 16 ≡ 1 ∷ 2 ∷ 0 ∷ 3 ∷ 4 ∷ 0 ∷ []
+  -- a pending commit is written as tentative, and takes hold when the page is thawed
+  pub written-tentative : writes commitMeanwhile (freshStore 16 64) ≡ record { at = 1; what = page 0 1 (committedLate (tentative 5 0) ∷ []) } ∷ []
+  pub thawed-committed : held (afterCalls commitMeanwhile (freshStore 16 64) .pages) ≡ (0, committedLate committed) ∷ []
+  -- a replaced page's block is free only when the header has landed
+  pub not-reused : places (threeTimes 3072) 6 ≡ 1 ∷ 2 ∷ 3 ∷ 0 ∷ 4 ∷ 5 ∷ 0 ∷ 2 ∷ 3 ∷ 0 ∷ []
+  pub no-room : answers (threeTimes 2560) (freshStore 5 64)
+      ≡ done ∷ done ∷ done ∷ count 4 ∷ count 4 ∷ done ∷ refused 20 ∷ refused 18 ∷ done ∷ refused 20 ∷ refused 18 ∷ []
+  -- a thawed page of 49 bytes is not joined with its frozen neighbour of 245; when that is thawed too, they are joined
+  pub frozen-both : after5 bothFrozen ≡ (5, 245) ∷ (5, 245) ∷ []
+  pub not-joined : after5 (bothFrozen ++ (steps 8192 ∷ [])) ≡ (1, 49) ∷ (5, 245) ∷ []
+  pub joined-later : after5 (bothFrozen ++ (steps 8192 ∷ steps 8192 ∷ [])) ≡ (5, 245) ∷ []
+
+-- ---- one run cut at every store
+
+-- an owner as numbers
+unfoldable pub ownerNumbers : Owner → List ℕ
+ownerNumbers committed = 0 ∷ []
+ownerNumbers (tentative t n) = 1 ∷ t ∷ n ∷ []
+
+-- a tuple with all its fields
+unfoldable pub tupleNumbers : Tuple → List ℕ
+tupleNumbers x = x .key ∷ x .number ∷ markBit (x .mark) ∷ length (x .payload) ∷ (x .payload ++ ownerNumbers (x .owner))
+
+-- the tuples of a page, in order
+unfoldable pub heldNumbers : List Held → List ℕ
+heldNumbers [] = []
+heldNumbers (h ∷ hs) = tupleNumbers (h .tuple) ++ heldNumbers hs
+
+-- the pages as they are compared, each with its table and how many tuples it has
+unfoldable pub pageNumbers : List Page → List ℕ
+pageNumbers [] = []
+pageNumbers (p ∷ ps) = p .table ∷ length (p .tuples) ∷ (heldNumbers (p .tuples) ++ pageNumbers ps)
+
+-- what is recovered has the pages and the next number of s, and the transactions ws are open
+unfoldable pub agrees : Stage Store → Store → List ℕ → Bool
+agrees (refuses n) s ws = false
+agrees (holds r) s ws =
+    every (
+    same (pageNumbers (r .pages)) (pageNumbers (s .pages))
+    ∷ eqb (r .next) (s .next)
+    ∷ all (λ tx. isIn tx ws) (openNumbers (r .active))
+    ∷ all (λ tx. isIn tx (openNumbers (r .active))) ws
+    ∷ [])
+
+-- recovery of the image gives what the run of the calls base from s had
+unfoldable pub recoversTo : Store → List Call → List ℕ → Bool
+recoversTo s base img = agrees (recover (memoryFor (s .capacity)) img) (afterCalls base s) (hadWritten base s (openNumbers (s .active)))
+
+-- what a cut store may leave: the bytes of the header; the new block's first bytes over the old one's
+unfoldable pub tears : List ℕ → Logged → List (List ℕ)
+tears img w = blockAt img 0 ∷ (take 200 (encodeBlock (w .write .what)) ++ drop 200 (blockAt img (w .write .at))) ∷ []
+
+-- power fails before this store, or it is cut
+unfoldable pub cutHere : Store → List ℕ → List Call → Logged → Bool
+cutHere s img base w =
+    recoversTo s base img
+    && (isHeader w || all (λ xs. recoversTo s base (putBlock img (w .write .at) xs)) (tears img w))
+
+-- every cut of the stores ws
+unfoldable pub cutEverywhere : Store → List ℕ → List Call → List Logged → Bool
+cutEverywhere s img base [] = recoversTo s base img
+cutEverywhere s img base (w ∷ ws) = cutHere s img base w && cutEverywhere s (stored img w) (landed w base) ws
+
+-- two checkpoints and the start of a third, with inserts, replaces, deletes and commits between their stores
+unfoldable pub script : List Call
+script =
+    opens 5 ∷ opens 6 ∷ (many 10 9 40 ++ (inserts 6 1 7 (1 ∷ 2 ∷ []) ∷ begins ∷ many 20 10 40
+    ++ (steps 8192 ∷ replaces 6 1 7 (3 ∷ []) ∷ commits 6 ∷ runs 2 8192 ∷ deletes 5 0 12 ∷ commits 5 ∷ runs 9 8192
+    ∷ begins ∷ opens 7 ∷ deletes 7 0 11 ∷ replaces 7 0 13 [] ∷ runs 2 8192 ∷ commits 7 ∷ runs 9 8192 ∷ begins ∷ runs 1 8192 ∷ [])))
+
+-- its block stores
+unfoldable pub scriptLog : List Logged
+scriptLog = log [] [] (freshStore 16 64) script
+
+-- the run makes eleven stores, and wherever they are cut, recovery gives what it must
+pub record Cuts : Type 0 where
+  pub stores : length scriptLog ≡ 11
+  pub everywhere : cutEverywhere (freshStore 16 64) (madeImage (replicate 8192 0xFF) 64) [] scriptLog ≡ true
+
+-- opens all that the cases compute with: `unfolding cases`
+unfoldable pub cases : ℕ
+unfolding basics bitsOf numberOf bitsIn field num4 same isTentative ownerSize size spell bytesOf filledUp blockOf committedBit markBit ownerFields payloadFields recordFields recordsFields entryFields encodeBlock kind spelledBy readHeader headerIn readOwner readTuple taken whole readTuples pageTable pageCount pageLevel pageOfBytes pageIn readEntries directoryCount directoryLevel directoryIn decodeBlock rowRules blockAt blockCount view wholeBlocks blockOk isZero directoriesFor directoryBlocks unusedNumbers headerOk headerTest addEntries readDirectories entriesOk testedEntries directoryTest pageOk addPage readPages rowsOfPages testedPages pageTest headerStage pagesBelow pagesStage rules held rows isForeign versions seenOf seen gives unless changed openCall notOpen noTable tooLong foreign present unseen full newTuple written insertCall replaceCall deleteCall readSeen readCall listing listCall perform isRow removeAll planKey ownAt planRows plan openNumbers isFor writtenBy withWrite without others commitCall abortCall storedStore isFree allocate freeCount usedToo isRunning blocksNeeded beginCall leftOf left made fill storable storePage storeDirectory headerFor storeHeader stepOf stepAt badImage stepCall inTurn runCall call isBegin withWriter writers accepted afterCalls hadWritten memoryFor putBlock freshStore make madeImage loaded reopened recoveredStore recoverPages recoverBelow recover tag log isHeader landed stored content answers writes shape many after5 tuple pageOf clean booking spells firstOf imageAfter shapeOf recoveredAfter places splitMeanwhile commitMeanwhile committedLate threeTimes bothFrozen ownerNumbers tupleNumbers heldNumbers pageNumbers agrees recoversTo tears cutHere cutEverywhere script scriptLog
+cases = 0

@@ -1,0 +1,149 @@
+-- Begin, step and run.
+use Prim.Native.Nat.{ℕ, zero, suc, _+_, _-_, _*_, min}
+use mathlib.Core.Bool.{Bool, true, false, not, _||_}
+use mathlib.Core.Option.{Option, none, some}
+use mathlib.Core.List.{List, [], _∷_, _++_, map}
+use lib.ListN.{length, take, drop, getD}
+use lib.Dec.{leb, ltb, eqb}
+use Rattle.basics.specs.Basics.{if_then_else_, howMany, first, isIn, from}
+use Rattle.blocks.specs.Limits.{recordSpace, entriesPerBlock, mostNumber}
+use Rattle.blocks.specs.Tuple.{Tuple, sizes}
+use Rattle.blocks.specs.Block.{Block, header, page, directory}
+use Rattle.blocks.specs.declared.Header.{Header}
+use Rattle.image.specs.Stages.{directoriesFor}
+use Rattle.model.specs.State.{Page, Checkpoint, idle, running, Store, Write, Answer, refused, done, count, Outcome}
+use Rattle.model.specs.Rules.{isDirty, isFrozen, freeze, shown, thaw}
+use Rattle.model.specs.Transactions.{Test, _when_, gives, unless}
+
+-- the store with another level, other pages, blocks in use, block last taken, checkpoint
+unfoldable pub stored : Store → ℕ → List Page → (ℕ → Bool) → ℕ → Checkpoint → Store
+stored s l ps u b c =
+    record { blocks = s .blocks; capacity = s .capacity; level = l; next = s .next; pages = ps; active = s .active; used = u; taken = b; checkpoint = c }
+
+-- ---- free blocks
+
+unfoldable pub isFree : Store → ℕ → Bool
+isFree s b = not (s .used b)
+
+-- the first free block after the one last taken, round to block 1. (If there were none, the last block: a begin that is accepted
+-- never runs out.)
+unfoldable pub allocate : Store → ℕ
+allocate s =
+    let t = s .taken in
+    elim (first (isFree s) (from (suc t) (s .blocks - suc t) ++ from 1 t)) [ some b ↦ b | none ↦ s .blocks - 1 ]
+
+unfoldable pub freeCount : Store → ℕ
+freeCount s = howMany (isFree s) (from 1 (s .blocks - 1))
+
+-- block b is in use too
+unfoldable pub usedToo : Store → ℕ → ℕ → Bool
+usedToo s b c = eqb b c || s .used c
+
+-- ---- begin
+
+unfoldable pub isRunning : Checkpoint → Bool
+isRunning idle = false
+isRunning (running n es ds) = true
+
+-- F + ⌈P/336⌉
+unfoldable pub blocksNeeded : List Page → ℕ
+blocksNeeded ps = howMany isDirty ps + directoriesFor (length ps)
+
+-- 17 already running; 19 level is 4,294,967,295; 20 fewer free blocks than F + ⌈P/336⌉
+unfoldable pub beginCall : Store → Outcome
+beginCall s =
+    unless (17 when isRunning (s .checkpoint) ∷ 19 when eqb (s .level) mostNumber ∷ 20 when ltb (freeCount s) (blocksNeeded (s .pages)) ∷ []) s
+    (gives (count (blocksNeeded (s .pages) + 1))
+    (stored s (s .level) (map freeze (s .pages)) (s .used) (s .taken) (running (s .next) (map (λ p. p .block) (s .pages)) [])))
+
+-- ---- step
+
+-- the frozen pages, the directory blocks still to write, the header
+unfoldable pub leftOf : Checkpoint → List Page → ℕ
+leftOf idle ps = 0
+leftOf (running n es ds) ps = howMany isFrozen ps + (directoriesFor (length es) - length ds) + 1
+
+unfoldable pub left : Store → ℕ
+left s = leftOf (s .checkpoint) (s .pages)
+
+-- one store made, with the store after it; the answer is the number left
+unfoldable pub made : ℕ → Block → Store → Outcome
+made b x s = record { answer = count (left s); store = s; writes = record { at = b; what = x } ∷ [] }
+
+-- the first 0 of the list becomes b
+unfoldable pub fill : ℕ → List ℕ → List ℕ
+fill b [] = []
+fill b (e ∷ es) = if eqb e 0 then b ∷ es else e ∷ fill b es
+
+-- what a block has room for. (All that a frozen page shows: it fitted when it was frozen.)
+unfoldable pub storable : List Tuple → List Tuple
+storable ts = if leb (sizes ts) recordSpace then ts else []
+
+-- a page's store: the page is thawed, and the directory will name the new block
+unfoldable pub storePage : ℕ → List ℕ → List ℕ → Page → Store → Outcome
+storePage n es ds p s =
+    let b = allocate s in
+    made b (page (p .table) (suc (s .level)) (storable (shown (p .tuples))))
+    (stored s (s .level) (thaw b (s .pages)) (usedToo s b) b (running n (fill b es) ds))
+
+-- 336 entries in every directory block but the last
+unfoldable pub storeDirectory : ℕ → List ℕ → List ℕ → Store → Outcome
+storeDirectory n es ds s =
+    let b = allocate s in
+    made b (directory (suc (s .level)) (take entriesPerBlock (drop (entriesPerBlock * length ds) es)))
+    (stored s (s .level) (s .pages) (usedToo s b) b (running n es (ds ++ b ∷ [])))
+
+-- the next number and page count are those at begin
+unfoldable pub headerFor : Store → ℕ → ℕ → ℕ → List ℕ → Header
+headerFor s l n p ds =
+    record {
+      blocks = s .blocks;
+      capacity = s .capacity;
+      level = l;
+      next = n;
+      pages = p;
+      directories = length ds;
+      d0 = getD ds 0 0;
+      d1 = getD ds 1 0;
+      d2 = getD ds 2 0;
+      d3 = getD ds 3 0;
+    }
+
+-- blocks that the new header no longer names become free
+unfoldable pub storeHeader : ℕ → List ℕ → List ℕ → Store → Outcome
+storeHeader n es ds s =
+    made 0 (header (headerFor s (suc (s .level)) n (length es) ds))
+    (stored s (suc (s .level)) (s .pages) (λ b. isIn b (es ++ ds)) (s .taken) idle)
+
+-- the frozen pages in list order, then the directory, then the header
+unfoldable pub stepOf : Option Page → ℕ → List ℕ → List ℕ → Store → Outcome
+stepOf (some p) n es ds s = storePage n es ds p s
+stepOf none n es ds s = if ltb (length ds) (directoriesFor (length es)) then storeDirectory n es ds s else storeHeader n es ds s
+
+unfoldable pub stepAt : Checkpoint → Store → Outcome
+stepAt idle s = gives (refused 18) s
+stepAt (running n es ds) s = stepOf (first isFrozen (s .pages)) n es ds s
+
+-- 5 image is not exactly the store's blocks long; 18 none running
+unfoldable pub badImage : ℕ → Store → Test
+badImage len s = 5 when not (eqb len (512 * s .blocks))
+
+unfoldable pub stepCall : ℕ → Store → Outcome
+stepCall len s = unless (badImage len s ∷ []) s (stepAt (s .checkpoint) s)
+
+-- ---- run
+
+-- k steps in turn
+unfoldable pub inTurn : ℕ → Store → Outcome
+inTurn zero s = gives done s
+inTurn (suc k) s =
+    let o = stepAt (s .checkpoint) s in
+    let r = inTurn k (o .store) in
+    record { answer = r .answer; store = r .store; writes = o .writes ++ r .writes }
+
+-- the count is the smaller of the limit and the stores left
+unfoldable pub runCall : ℕ → ℕ → Store → Outcome
+runCall limit len s =
+    let k = min limit (left s) in
+    let r = inTurn k s in
+    unless (badImage len s ∷ 18 when not (isRunning (s .checkpoint)) ∷ []) s (record { answer = count k; store = r .store; writes = r .writes })

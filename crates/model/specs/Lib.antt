@@ -1,0 +1,12 @@
+pub mod State
+pub mod Rules
+pub mod Sight
+pub mod Transactions
+pub mod Checkpoint
+pub mod Calls
+pub mod Recover
+pub mod QuotedLine
+pub mod Checkpoints
+pub mod WellFormed
+pub mod Seen
+pub mod Cases

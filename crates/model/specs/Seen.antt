@@ -1,0 +1,84 @@
+-- What a transaction sees after each call, on well-formed stores.
+use Prim.Native.Nat.{ℕ, _≤_}
+use mathlib.Core.Path.{_≡_}
+use mathlib.Core.Bool.{Bool, true, false}
+use mathlib.Core.Option.{Option, none, some}
+use mathlib.Core.List.{List, []}
+use lib.ListN.{length}
+use lib.Dec.{eqb}
+use Rattle.basics.specs.Basics.{if_then_else_, last, isIn}
+use Rattle.rows.specs.Rows.{Row, isOwn}
+use Rattle.model.specs.State.{Store, refused, filled}
+use Rattle.model.specs.Rules.{asCommitted}
+use Rattle.model.specs.Sight.{rows, versions, seen}
+use Rattle.model.specs.Transactions.{openNumbers, insertCall, replaceCall, deleteCall, commitCall, readCall}
+use Rattle.model.specs.Calls.{Call, opens, inserts, replaces, deletes, commits, aborts, reads, lists, begins, steps, runs, call, accepted}
+use Rattle.model.specs.WellFormed.{WellFormed}
+
+-- ---- the writer
+
+-- after an accepted insert or replace the writer reads that payload
+abbrev pub WriterReads : Type 0
+WriterReads =
+    (s : Store) → WellFormed s → (tx t k : ℕ) (bs : List ℕ) (room : ℕ) → length bs ≤ room
+    → (accepted (insertCall tx t k bs s .answer) ≡ true → readCall tx t k room (insertCall tx t k bs s .store) .answer ≡ filled (length bs) bs)
+    × (accepted (replaceCall tx t k bs s .answer) ≡ true → readCall tx t k room (replaceCall tx t k bs s .store) .answer ≡ filled (length bs) bs)
+
+-- after an accepted delete the key is not seen
+abbrev pub WriterMisses : Type 0
+WriterMisses =
+    (s : Store) → WellFormed s → (tx t k room : ℕ) → accepted (deleteCall tx t k s .answer) ≡ true
+    → readCall tx t k room (deleteCall tx t k s .store) .answer ≡ refused 14
+
+-- ---- the others
+
+-- the calls after which transaction u may see something else: its own insert, replace, delete and abort, and every commit
+unfoldable pub mayShow : ℕ → Call → Bool
+mayShow u (opens tx) = false
+mayShow u (inserts tx t k bs) = eqb tx u
+mayShow u (replaces tx t k bs) = eqb tx u
+mayShow u (deletes tx t k) = eqb tx u
+mayShow u (commits tx) = true
+mayShow u (aborts tx) = eqb tx u
+mayShow u (reads tx t k room) = false
+mayShow u (lists room) = false
+mayShow u begins = false
+mayShow u (steps len) = false
+mayShow u (runs limit len) = false
+
+-- after every other call a transaction sees what it saw before, and if it is open it reads what it read
+abbrev pub SeenAsBefore : Type 0
+SeenAsBefore =
+    (c : Call) (s : Store) → WellFormed s → (u : ℕ) → mayShow u c ≡ false → (t k : ℕ)
+    → (seen u t k (call c s .store) ≡ seen u t k s)
+    × (isIn u (openNumbers (s .active)) ≡ true → (room : ℕ) → readCall u t k room (call c s .store) .answer ≡ readCall u t k room s .answer)
+
+-- ---- commit
+
+-- what tx leaves of a key on which it has the newest version r: nothing if that is a delete mark, else it is committed
+unfoldable pub remains : Row → Option Row
+remains r = if r .1 .mark then none else some (r .0, asCommitted (r .1))
+
+-- after an accepted commit everybody sees the newest version that tx had of a key; a key that tx had not written is seen as before
+abbrev pub SeenAfterCommit : Type 0
+SeenAfterCommit =
+    (s : Store) → WellFormed s → (tx : ℕ) → accepted (commitCall tx s .answer) ≡ true → (u t k : ℕ)
+    → ((r : Row) → last (isOwn tx) (versions t k (s .pages)) ≡ some r → seen u t k (commitCall tx s .store) ≡ remains r)
+    × (last (isOwn tx) (versions t k (s .pages)) ≡ none → seen u t k (commitCall tx s .store) ≡ seen u t k s)
+
+-- ---- calls that show nothing
+
+-- read and list change nothing and store nothing
+abbrev pub LooksOnly : Type 0
+LooksOnly =
+    (s : Store)
+    → ((tx t k room : ℕ) → (call (reads tx t k room) s .store ≡ s) × (call (reads tx t k room) s .writes ≡ []))
+    × ((room : ℕ) → (call (lists room) s .store ≡ s) × (call (lists room) s .writes ≡ []))
+
+-- begin, step and run leave every live row
+abbrev pub RowsStay : Type 0
+RowsStay =
+    (s : Store) → WellFormed s
+    → (rows (call begins s .store .pages) ≡ rows (s .pages))
+    × ((len : ℕ) → rows (call (steps len) s .store .pages) ≡ rows (s .pages))
+    × ((limit len : ℕ) → rows (call (runs limit len) s .store .pages) ≡ rows (s .pages))

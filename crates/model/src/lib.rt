@@ -1,0 +1,1 @@
+// The rules of the store as definitions, and the theorems about them. It has no code of its own.
