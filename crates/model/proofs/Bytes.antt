@@ -150,8 +150,6 @@ pub record Accepted (img : List ℕ) (s : Store) : Type 0 where
   pub long : length img ≡ 512 * s .blocks
   pub least : 2 ≤ s .blocks
   pub most : s .blocks ≤ 4096
-  pub some-room : 1 ≤ s .capacity
-  pub limit : s .capacity ≤ capacityLimit
   pub seen : recoverView (s .blocks) (view img) ≡ holds s
 
 -- without the test of the memory
@@ -171,13 +169,10 @@ accepted-stage img s e =
     let b = headed n (k .head) (k .head-ok) in
     let c = blocks-whole (length img) w in
     let f : s .blocks ≡ n = ap (λ z. z .blocks) (sym (k .store)) ∙ b .blocks in
-    let g : s .capacity ≡ k .head .capacity = ap (λ z. z .capacity) (sym (k .store)) in
     record {
       long = rw f (c .0);
       least = rw f (c .1);
       most = rw f (c .2);
-      some-room = rw g (b .cap .0);
-      limit = rw g (b .cap .1);
       seen = subst (λ z. recoverView z (view img) ≡ holds s) (sym f) q;
     })
     (λ w. refuses-holds (rw w at e))
@@ -227,8 +222,6 @@ made-accepted img m n s e =
       long = length-put img x 0 fits (encode-length (header h)) ∙ c .0;
       least = c .1;
       most = c .2;
-      some-room = k .1;
-      limit = k .2;
       seen = fresh-view (view (madeImage img n)) b n (k .1) (k .2) eq;
     })
 

@@ -9,19 +9,24 @@ use lib.Dec.{ltb}
 use lib.ListN.{length, length-map, length-append}
 use Rattle.basics.specs.Basics.{if_then_else_, howMany, first}
 use Rattle.basics.proofs.Facts.{by, lie}
+use Rattle.rows.specs.Rows.{isOwn}
 use Rattle.image.specs.Stages.{directoriesFor}
 use Rattle.model.specs.State.{Checkpoint, idle, running, Outcome, Store, refused, Page, count}
 use Rattle.model.specs.Rules.{isFrozen, freeze, isDirty, thaw}
+use Rattle.model.specs.Sight.{rows}
 use Rattle.model.specs.Transactions.{unless, Test, gives, _when_}
 use Rattle.model.specs.Checkpoint.{left, leftOf, allocate, beginCall, stored, blocksNeeded, stepOf, storePage, storeDirectory, storeHeader, made, stepCall, stepAt, badImage, inTurn, runCall}
 use Rattle.model.specs.Calls.{accepted, call, steps, afterCalls}
-use Rattle.model.specs.WellFormed.{ListOrder, EnoughBlocks, CheckpointWell, BeginAnswers, OneLess, times, writesOf, RunIsSteps}
-use Rattle.model.proofs.Lists.{Pairs, pairs-parts, all-parts, leb-true, leb-false, eqb-self, eqb-true, not-false}
+use Rattle.model.specs.WellFormed.{ListOrder, EnoughBlocks, CheckpointWell, BeginAnswers, OneLess, times, writesOf, RunIsSteps, CountsLow}
+use Rattle.model.specs.Cases.{writes}
+use Rattle.model.proofs.Lists.{Pairs, pairs-parts, all-parts, leb-true, leb-false, eqb-self, eqb-true, not-false, many-length}
 use Rattle.model.proofs.Frozen.{images-thaw, images-first, images-none}
 use Rattle.model.proofs.Alloc.{Fresh, allocate-fresh}
 use Rattle.model.proofs.Quiet.{Passed, step-frame}
 use Rattle.model.proofs.Books.{length-fill}
+use Rattle.model.proofs.Rows.{sub-length}
 use Rattle.model.proofs.Placing.{Before}
+use Rattle.model.proofs.Keeps.{rows-sub}
 use Rattle.model.proofs.Well.{sound, before-true, many-frozen}
 
 pub list-order : ListOrder
@@ -116,9 +121,37 @@ turn-steps len (suc k) s e =
     (o .store) .writes ≡ z .writes ++ writesOf (times k (steps len)) (z .store)))
     (sym (step-is len s e)) (r .0, ap (λ z. o .writes ++ z) (r .1))
 
+-- while enough are left, each step makes its store
+turn-count : (k : ℕ) (s : Store) → k ≤ left s → (length (inTurn k s .writes) ≡ k) × (left s ≡ k + left (inTurn k s .store))
+unfolding inTurn gives
+turn-count zero s h = (refl, omega arith)
+turn-count (suc k) s h =
+    let o = stepAt (s .checkpoint) s in
+    let q = stepped (s .checkpoint) refl in
+    let r = turn-count k (o .store) (omega (arith, q .1)) in
+    (length-append (o .writes) (inTurn k (o .store) .writes) ∙ omega (arith, q .0, r .0), omega (arith, q .1, r .1))
+  where
+    stepped : (c : Checkpoint) → s .checkpoint ≡ c → Stepped s (stepAt c s)
+    stepped idle e = absurd (none-left e)
+      where
+        none-left : s .checkpoint ≡ idle → ⊥
+        none-left e = let z : left s ≡ 0 = (unfold left leftOf in ap (λ c. leftOf c (s .pages)) e) in omega arith
+    stepped (running n es ds) e = unfold stepAt in step-less n es ds s e (first isFrozen (s .pages)) refl
+
 pub run-is-steps : RunIsSteps
 unfolding runCall badImage
 run-is-steps limit len s h k e =
-    unless-accepted (λ o. (o .answer ≡ count k) × (o .store ≡ afterCalls (times k (steps len)) s) × (o .writes ≡ writesOf (times k (steps len)) s))
-    _ s _ (λ p q. subst (λ j. (count j ≡ count k) × (inTurn j s .store ≡ afterCalls (times k (steps len)) s) × (inTurn j s .writes ≡ writesOf (times k (steps len)) s)) e
-    (let r = turn-steps len k s (eqb-true len (512 * s .blocks) (not-false _ (p .0))) in (refl, r .0, r .1))) h
+    unless-accepted (Ran k)
+    _ s _ (λ p q. subst (λ j. Ran k (record { answer = count j; store = inTurn j s .store; writes = inTurn j s .writes })) e
+    (let r = turn-steps len k s (eqb-true len (512 * s .blocks) (not-false _ (p .0))) in let n = turn-count k s (omega arith) in (refl, r .0, r .1, n .0, n .1))) h
+  where
+    Ran : ℕ → Outcome → Type 0
+    Ran k o = (o .answer ≡ count k) × (o .store ≡ afterCalls (times k (steps len)) s) × (o .writes ≡ writesOf (times k (steps len)) s)
+        × (length (o .writes) ≡ k) × (left s ≡ k + left (o .store))
+
+-- ---- counts
+
+pub counts-low : CountsLow
+counts-low s w tx h =
+    let v = sound s w .valid in
+    subst (λ n. n ≤ s .capacity) (sym (w .counts tx h)) (omega (arith, many-length (isOwn tx) (rows (s .pages)), sub-length (rows-sub (s .pages)), v .has .few))

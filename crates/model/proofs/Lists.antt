@@ -55,10 +55,6 @@ pub and-yes : (b : Bool) → (b && true) ≡ b
 and-yes true = refl
 and-yes false = refl
 
-or-false : (a b : Bool) → (a || b) ≡ false → (a ≡ false) × (b ≡ false)
-or-false true b e = lie (sym e)
-or-false false b e = (refl, e)
-
 pub or-right : (a b : Bool) → b ≡ true → (a || b) ≡ true
 or-right true b h = refl
 or-right false b h = h
@@ -347,9 +343,6 @@ pub in-append : (x : ℕ) (us bs : List ℕ) → isIn x (us ++ bs) ≡ (isIn x u
 unfolding isIn any
 in-append x [] bs = refl
 in-append x (a ∷ us) bs = by (eqb x a) (λ h. rw (h, any)) (λ h. rw (h, any) (in-append x us bs))
-
-pub not-in-append : (b : ℕ) (us vs : List ℕ) → isIn b (us ++ vs) ≡ false → (isIn b us ≡ false) × (isIn b vs ≡ false)
-not-in-append b us vs e = or-false _ _ (sym (in-append b us vs) ∙ e)
 
 pub in-here : (x y : ℕ) (ys : List ℕ) → eqb x y ≡ true → isIn x (y ∷ ys) ≡ true
 unfolding isIn any

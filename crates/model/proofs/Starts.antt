@@ -3,8 +3,9 @@ use mathlib.Core.Path.{_≡_, refl, subst, sym}
 use Prim.Native.Nat.{ℕ, _≤_, _/_}
 use native.Mathlib.Omega.{arith}
 use mathlib.Core.Bool.{true}
-use mathlib.Core.List.{List}
+use mathlib.Core.List.{List, [], _∷_}
 use lib.Dec.{leb}
+use lib.ListN.{length}
 use Rattle.basics.specs.Basics.{basics}
 use Rattle.basics.proofs.Facts.{lie, AllOf}
 use Rattle.blocks.specs.Tuple.{Fits}
@@ -14,9 +15,10 @@ use Rattle.image.specs.View.{View, view}
 use Rattle.model.specs.State.{Store}
 use Rattle.model.specs.Sight.{held, rows}
 use Rattle.model.specs.Transactions.{openNumbers}
-use Rattle.model.specs.Calls.{call}
+use Rattle.model.specs.Calls.{call, Call, AllTyped, afterCalls}
 use Rattle.model.specs.Recover.{freshStore, recoveredStore}
-use Rattle.model.specs.WellFormed.{KeptWell, WellFormed, heldOk, openOk, MadeWell, RecoveredWell}
+use Rattle.model.specs.QuotedLine.{Start}
+use Rattle.model.specs.WellFormed.{KeptWell, WellFormed, heldOk, openOk, MadeWell, RecoveredWell, AlwaysWell}
 use Rattle.model.proofs.Lists.{le-true}
 use Rattle.model.proofs.Recovery.{found, Found}
 use Rattle.model.proofs.Start.{loaded-held, start-books}
@@ -83,3 +85,17 @@ recovered-sound img s a =
 
 pub recovered-well : RecoveredWell
 recovered-well m img s e = well s (recovered-sound img s (accepted-recovery m img s e))
+
+-- ---- every store of a run
+
+calls-well : (calls : List Call) (s : Store) → AllTyped calls → WellFormed s → WellFormed (afterCalls calls s)
+unfolding afterCalls
+calls-well [] s t w = w
+calls-well (c ∷ calls) s t w = calls-well calls (call c s .store) (t .1) (kept-well c s (t .0) w)
+
+pub always-well : AlwaysWell
+always-well img s start calls t = calls-well calls s t (go start)
+  where
+    go : {img : List ℕ} → Start img s → WellFormed s
+    go (Start.fresh old m n e) = made-well (length old) m n s e
+    go (Start.recovered {img} m e) = recovered-well m img s e

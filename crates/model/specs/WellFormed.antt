@@ -16,8 +16,9 @@ use Rattle.model.specs.Rules.{fits, isPending, isDirty, isFrozen, shown}
 use Rattle.model.specs.Sight.{held, rows}
 use Rattle.model.specs.Transactions.{openNumbers, writtenBy}
 use Rattle.model.specs.Checkpoint.{allocate, freeCount, isRunning, left, beginCall, stepCall, runCall}
-use Rattle.model.specs.Calls.{Call, steps, call, Typed, accepted, afterCalls}
+use Rattle.model.specs.Calls.{Call, steps, call, Typed, AllTyped, accepted, afterCalls}
 use Rattle.model.specs.Recover.{make, recover}
+use Rattle.model.specs.QuotedLine.{Start}
 
 -- ---- tuples
 
@@ -119,7 +120,15 @@ RecoveredWell = (m : ℕ) (img : List ℕ) (s : Store) → recover m img ≡ hol
 abbrev pub KeptWell : Type 0
 KeptWell = (c : Call) (s : Store) → Typed c → WellFormed s → WellFormed (call c s .store)
 
+-- so every store of a run is well formed
+abbrev pub AlwaysWell : Type 0
+AlwaysWell = (img : List ℕ) (s : Store) → Start img s → (calls : List Call) → AllTyped calls → WellFormed (afterCalls calls s)
+
 -- ---- laws
+
+-- no open transaction's count is above N: the limit of 20 bits is not met
+abbrev pub CountsLow : Type 0
+CountsLow = (s : Store) → WellFormed s → (tx : ℕ) → isIn tx (openNumbers (s .active)) ≡ true → writtenBy tx (s .active) ≤ s .capacity
 
 -- all rows held are in order of table, then key, then number
 abbrev pub ListOrder : Type 0
@@ -156,7 +165,7 @@ unfoldable pub writesOf : List Call → Store → List Write
 writesOf [] s = []
 writesOf (c ∷ cs) s = call c s .writes ++ writesOf cs (call c s .store)
 
--- an accepted run is as many steps in turn as it answers: the smaller of the limit and those left
+-- an accepted run is as many steps in turn, each with its store, as it answers: the smaller of the limit and those left
 abbrev pub RunIsSteps : Type 0
 RunIsSteps =
     (limit len : ℕ) (s : Store) → accepted (runCall limit len s .answer) ≡ true
@@ -164,3 +173,5 @@ RunIsSteps =
     → (runCall limit len s .answer ≡ count k)
     × (runCall limit len s .store ≡ afterCalls (times k (steps len)) s)
     × (runCall limit len s .writes ≡ writesOf (times k (steps len)) s)
+    × (length (runCall limit len s .writes) ≡ k)
+    × (left s ≡ k + left (runCall limit len s .store))
