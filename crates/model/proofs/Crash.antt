@@ -6,7 +6,7 @@ use mathlib.Core.List.{List, [], _++_, _∷_, map, append-nil}
 use lib.Dec.{T, eqb, ltb}
 use lib.ListN.{length}
 use lib.Pow.{low}
-use Rattle.basics.specs.Basics.{isIn, if_then_else_, first}
+use Rattle.basics.specs.Basics.{if_then_else_, first}
 use Rattle.basics.proofs.Facts.{AllOf, by, by-option}
 use Rattle.blocks.specs.Block.{Block}
 use Rattle.blocks.specs.Limits.{mostNumber}
@@ -33,16 +33,16 @@ use Rattle.model.proofs.Begin.{begin-inv}
 
 -- what ties a clean page to the view, idle and running
 abbrev Tie : View → Store → Checkpoint → Page → Type 0
-Tie img s idle p = Tied img (s .level) (s .used) p
-Tie img s (running n₀ es ds) p = Tied img (suc (s .level)) (λ b. isIn b es) p
+Tie img s idle p = Tied img (s .level) p
+Tie img s (running n₀ es ds) p = Tied img (suc (s .level)) p
 
 tie-fresh : (img : View) (s : Store) (c : Checkpoint) (t : ℕ) (ts : List Held) → Tie img s c (fresh t ts)
-tie-fresh img s idle t ts = tied-fresh img (s .level) (s .used) t ts
-tie-fresh img s (running n₀ es ds) t ts = tied-fresh img (suc (s .level)) (λ b. isIn b es) t ts
+tie-fresh img s idle t ts = tied-fresh img (s .level) t ts
+tie-fresh img s (running n₀ es ds) t ts = tied-fresh img (suc (s .level)) t ts
 
 tie-frozen : (img : View) (s : Store) (c : Checkpoint) (p : Page) (ts : List Held) → p .frozen ≡ true → Tie img s c p → Tie img s c (stillFrozen p ts)
-tie-frozen img s idle p ts h t = tied-frozen img (s .level) (s .used) p ts h t
-tie-frozen img s (running n₀ es ds) p ts h t = tied-frozen img (suc (s .level)) (λ b. isIn b es) p ts h t
+tie-frozen img s idle p ts h t = tied-frozen img (s .level) p ts h t
+tie-frozen img s (running n₀ es ds) p ts h t = tied-frozen img (suc (s .level)) p ts h t
 
 phase-changed : (img : View) (s b : Store) (nx : ℕ) (ps : List Page) (os : List Active) → images ps ≡ images (s .pages) → (c : Checkpoint)
     → (AllOf (Tie img s c) (s .pages) → AllOf (Tie img s c) ps) → Phase img s b c → Phase img (changed s nx ps os) b c

@@ -21,7 +21,7 @@ use Rattle.model.specs.Sight.{held, rows}
 use Rattle.model.specs.Transactions.{openNumbers}
 use Rattle.model.specs.Recover.{loaded, recoveredStore}
 use Rattle.model.proofs.Views.{AllSane, Sane}
-use Rattle.model.proofs.Lists.{some-eq, leb-true, in-head, not-true, all-map, in-weak, all-split, every-all, eqb-true, all-mapped, in-append, in-all, all-append, all-in}
+use Rattle.model.proofs.Lists.{some-eq, leb-true, in-head, not-true, all-map, in-weak, all-split, every-all, eqb-true, all-mapped, in-all, all-append, all-in, in-append}
 use Rattle.model.proofs.Owners.{numbers-reopened, in-transactions}
 use Rattle.model.proofs.Books.{not-in-many, Booked, Books, inBlock-many}
 use Rattle.model.proofs.Recovery.{Found, found, read-blocks}
@@ -94,21 +94,9 @@ loaded-held ps = sym (listed-held (map loaded ps)) ∙ ap listed (loaded-content
 pub head-range : (v : View) (h : Header) → AllSane v → v 0 ≡ header h → (h .level ≤ mostNumber) × (h .next ≤ mostNumber)
 head-range v h a e = let f : InRange (header h) = subst Sane e (a 0) in (omega (arith, f .1 .1 .1 .0), omega (arith, f .1 .1 .1 .1 .0))
 
-start-tied : (v : View) (l : ℕ) (es ds : List ℕ) (ps : List StoredPage) → AllOf (Read v l es) ps → map (λ p. p .block) ps ≡ es
-    → AllOf (Tied v l (λ b. isIn b (map (λ p. p .block) ps ++ ds))) (map loaded ps)
-start-tied v l es ds ps r e =
-    all-mapped (Tied v l (λ b. isIn b (map (λ p. p .block) ps ++ ds))) loaded ps
-    (all-map (Read v l es) _ (λ p w. tie p w) ps r)
-  where
-    tie : (p : StoredPage) → Read v l es p → Tied v l (λ b. isIn b (map (λ p. p .block) ps ++ ds)) (loaded p)
-    tie p w = unfold loaded in λ c. (
-      w .0,
-      w .1
-          ∙ ap (page (p .table) (w .0)) (sym (bare-calm (p .tuples))),
-      w .2,
-      w .3,
-      rw (in-append (p .block) (map (λ p. p .block) ps), e, w .4),
-    )
+start-tied : (v : View) (l : ℕ) (es : List ℕ) (p : StoredPage) → Read v l es p → Tied v l (loaded p)
+unfolding loaded
+start-tied v l es p w c = (w .0, w .1 ∙ ap (page (p .table) (w .0)) (sym (bare-calm (p .tuples))), w .2, w .3)
 
 start-store : (n : ℕ) (v : View) (s : Store) (f : Found n v s) → Ready (recoveredStore (f .head) (f .pages))
     → Inv n v (recoveredStore (f .head) (f .pages)) (recoveredStore (f .head) (f .pages)) (recoveredStore (f .head) (f .pages))
@@ -130,8 +118,7 @@ start-store n v s f rd =
         };
         names = λ c u. u;
       };
-      phase = start-tied v (h .level) (f .entries) (directoryBlocks h) ps (pages-read v (h .level) (f .entries) ps (f .read))
-          (read-blocks v (h .level) (f .entries) ps (f .read));
+      phase = all-mapped _ loaded ps (all-map _ _ (start-tied v (h .level) (f .entries)) ps (pages-read v (h .level) (f .entries) ps (f .read)));
     }
 
 pub start-inv : (n : ℕ) (v : View) (s : Store) → Found n v s → Ready s → Inv n v s s s
