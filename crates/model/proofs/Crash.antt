@@ -3,9 +3,8 @@ use mathlib.Core.Path.{_≡_, ap, subst, sym, refl, _∙_}
 use Prim.Native.Nat.{suc, ℕ, _≤_, zero, min}
 use mathlib.Core.Bool.{true, Bool, false, not}
 use mathlib.Core.List.{List, [], _++_, _∷_, map, append-nil}
-use lib.Dec.{T, eqb, ltb}
+use lib.Dec.{eqb, ltb}
 use lib.ListN.{length}
-use lib.Pow.{low}
 use Rattle.basics.specs.Basics.{if_then_else_, first}
 use Rattle.basics.proofs.Facts.{AllOf, by, by-option}
 use Rattle.blocks.specs.Block.{Block}
@@ -18,7 +17,6 @@ use Rattle.model.specs.Transactions.{changed, unless, gives, _when_}
 use Rattle.model.specs.Checkpoint.{stored, beginCall, isRunning, freeCount, blocksNeeded, stepAt, stepOf, inTurn, stepCall, badImage, runCall, left}
 use Rattle.model.specs.Calls.{Call, accepted, afterCalls, call, steps, isBegin, runs, begins, opens, inserts, replaces, deletes, commits, aborts, reads, lists}
 use Rattle.model.specs.QuotedLine.{landed, Logged, isHeader, tag, log}
-use Rattle.model.specs.Cases.{writes}
 use Rattle.model.proofs.Views.{CutV, recoverView, WriteOk, stop, put, torn, whole}
 use Rattle.model.proofs.Frozen.{images}
 use Rattle.model.proofs.Pages.{stillFrozen}

@@ -17,7 +17,7 @@ use Rattle.model.specs.State.{Page, Held, Store, Checkpoint, idle, runni
 use Rattle.model.specs.Rules.{fresh, shown}
 use Rattle.model.specs.Sight.{rows, held}
 use Rattle.model.specs.Transactions.{openNumbers}
-use Rattle.model.specs.Checkpoint.{fill, stored}
+use Rattle.model.specs.Checkpoint.{fill}
 use Rattle.model.specs.QuotedLine.{content}
 use Rattle.model.specs.Checkpoints.{contentOf}
 use Rattle.model.proofs.Views.{put}
@@ -25,7 +25,7 @@ use Rattle.model.proofs.Lists.{leb-true, eqb-true, pos-not-zero}
 use Rattle.model.proofs.Frozen.{bare, Content, images}
 use Rattle.model.proofs.Pages.{stillFrozen}
 use Rattle.model.proofs.Books.{test-other}
-use Rattle.model.proofs.Recovery.{found, Found, found-frame}
+use Rattle.model.proofs.Recovery.{Found, found-frame}
 use Rattle.model.proofs.Stored.{Stored, put-other, Dirs}
 
 -- ---- clean pages

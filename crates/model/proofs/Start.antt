@@ -9,7 +9,6 @@ use lib.Dec.{leb, ltb, eqb}
 use Rattle.basics.specs.Basics.{isEmpty, if_then_else_, all, distinct, isIn, any, howMany}
 use Rattle.basics.proofs.Facts.{AllOf, never, by, by-option, and-true, lie}
 use Rattle.blocks.specs.Block.{page, Block, malformed, header, directory, InRange}
-use Rattle.blocks.specs.Decode.{taken}
 use Rattle.blocks.specs.Limits.{mostNumber}
 use Rattle.blocks.specs.declared.Header.{Header}
 use Rattle.rows.specs.Rows.{transactions, isOwn}
@@ -24,7 +23,7 @@ use Rattle.model.proofs.Views.{AllSane, Sane}
 use Rattle.model.proofs.Lists.{some-eq, leb-true, not-true, all-map, all-split, every-all, eqb-true, all-mapped, in-all, all-append, all-in, in-append}
 use Rattle.model.proofs.Owners.{numbers-reopened, in-transactions}
 use Rattle.model.proofs.Books.{not-in-many, Booked, Books, inBlock-many}
-use Rattle.model.proofs.Recovery.{Found, found, read-blocks}
+use Rattle.model.proofs.Recovery.{Found, read-blocks}
 use Rattle.model.proofs.Inv.{listed, listed-held, listed-read, Tied, Ready, Inv, named-self}
 use Rattle.model.proofs.Steps.{loaded-content, bare-calm, loaded-blocks}
 

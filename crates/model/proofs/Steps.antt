@@ -7,7 +7,6 @@ use mathlib.Core.List.{[], _∷_, List, tail, map, _++_}
 use mathlib.Core.Option.{none, some}
 use lib.Dec.{eqb, ltb}
 use lib.ListN.{length, take, drop, length-take, length-map, getD}
-use lib.Pow.{low}
 use Rattle.basics.specs.Basics.{if_then_else_, all, first, isIn, any, every}
 use Rattle.basics.proofs.Facts.{AllOf, lie, by}
 use Rattle.blocks.specs.Block.{page, Block, header, InRange, EntriesFit, directory}
@@ -20,7 +19,6 @@ use Rattle.image.specs.View.{View}
 use Rattle.model.specs.State.{Store, Outcome, Write, Page}
 use Rattle.model.specs.Rules.{shown, isDirty, isFrozen, calm}
 use Rattle.model.specs.Sight.{held}
-use Rattle.model.specs.Transactions.{full}
 use Rattle.model.specs.Checkpoint.{storePage, made, stored, allocate, fill, usedToo, storeDirectory, headerFor, storeHeader}
 use Rattle.model.specs.Recover.{loaded, recoveredStore}
 use Rattle.model.specs.QuotedLine.{content}
@@ -32,7 +30,7 @@ use Rattle.model.proofs.Frozen.{Content, images, images-first, images-t
 use Rattle.model.proofs.Pages.{all-thaw}
 use Rattle.model.proofs.Alloc.{Fresh, allocate-fresh, used-old}
 use Rattle.model.proofs.Books.{Booked, test-other, Books, Running, off-used, once-distinct, once-right, once-off, once-left}
-use Rattle.model.proofs.Recovery.{Found, found, read-blocks}
+use Rattle.model.proofs.Recovery.{Found, read-blocks}
 use Rattle.model.proofs.Stored.{Dirs, put-other, Stored, stored-fill, put-same, stored-put, dirs-snoc, dirs-put, end, todo, stands, stored-read, dirs-read, stored-written}
 use Rattle.model.proofs.Inv.{Inv, Good, Tied, clean-pos, Run, good-put, good-more, named-fill, tied-fresh, tied-frozen, listed, listed-read, listed-held, Named}
 
@@ -73,7 +71,8 @@ tied-off : (img : View) (l b : ℕ) (x : Block) (pool : ℕ → Bool) (ps : List
     → AllOf (Tied (put img b x) l) ps
 unfolding isDirty
 tied-off img l b x pool ps h =
-    all-two (Booked pool) (Tied img l) (Tied (put img b x) l) (λ p q t. tied-put img l b x p (λ c. test-other pool (p .block) b (q .1 (pos-not-zero (p .block) c)) h) t) ps
+    all-two (Booked pool) (Tied img l) (Tied (put img b x) l)
+    (λ p q t. tied-put img l b x p (λ c. test-other pool (p .block) b (q .1 (pos-not-zero (p .block) c)) h) t) ps
 
 pub page-step : (n : ℕ) (img : View) (s b b₀ : Store) (n₀ : ℕ) (es ds : List ℕ) (p : Page) → Books s → Running n₀ es ds s → Inv n img s b b₀ → Run img s b n₀ es ds
     → first isFrozen (s .pages) ≡ some p → Stepped n img s b b₀ (storePage n₀ es ds p s)
