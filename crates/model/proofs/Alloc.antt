@@ -5,7 +5,6 @@ use native.Mathlib.Omega.{arith}
 use mathlib.Core.Bool.{Bool, false, not, true}
 use mathlib.Core.List.{_++_}
 use lib.Dec.{eqb}
-use lib.Pow.{low}
 use Rattle.basics.specs.Basics.{from, first, howMany, if_then_else_}
 use Rattle.basics.proofs.Facts.{AllOf, by, by-option}
 use Rattle.model.specs.State.{Store}

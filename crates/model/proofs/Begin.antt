@@ -2,10 +2,10 @@
 use mathlib.Core.Path.{_≡_, subst, refl}
 use Prim.Native.Nat.{ℕ, suc}
 use native.Mathlib.Omega.{arith}
-use mathlib.Core.Bool.{false, Bool, true}
+use mathlib.Core.Bool.{false}
 use mathlib.Core.List.{List, map, [], _∷_}
 use lib.Dec.{eqb}
-use Rattle.basics.specs.Basics.{if_then_else_, isIn}
+use Rattle.basics.specs.Basics.{if_then_else_}
 use Rattle.basics.proofs.Facts.{AllOf, by, lie}
 use Rattle.image.specs.View.{View}
 use Rattle.model.specs.State.{Page, Store, idle, running}
@@ -14,53 +14,50 @@ use Rattle.model.specs.Checkpoint.{stored}
 use Rattle.model.specs.QuotedLine.{content}
 use Rattle.model.proofs.Lists.{eqb-true, not-zero, le-true}
 use Rattle.model.proofs.Frozen.{bare, images}
-use Rattle.model.proofs.Books.{in-own}
 use Rattle.model.proofs.Stored.{Stored, end, todo, stands}
 use Rattle.model.proofs.Inv.{Tied, isClean, Inv, Ready, Phase, named-self}
 
 abbrev Calm : Page → Type 0
 Calm p = (p .frozen ≡ false) × (shown (p .tuples) ≡ bare (p .tuples))
 
-stored-begin : (img : View) (l : ℕ) (pool : ℕ → Bool) (ps : List Page) → AllOf (Tied img l pool) ps → AllOf Calm ps
+stored-begin : (img : View) (l : ℕ) (ps : List Page) → AllOf (Tied img l) ps → AllOf Calm ps
     → Stored img (suc l) (map (λ p. p .block) ps) (map content ps) (images (map freeze ps))
 unfolding images freeze isDirty if_then_else_ content isClean
-stored-begin img l pool [] t c = end
-stored-begin img l pool (p ∷ ps) t c =
+stored-begin img l [] t c = end
+stored-begin img l (p ∷ ps) t c =
     by (eqb (p .block) 0)
-    (λ h. let z = eqb-true (p .block) 0 h in rw (h, z, c .0 .1) (todo (stored-begin img l pool ps (t .1) (c .1))))
+    (λ h. let z = eqb-true (p .block) 0 h in rw (h, z, c .0 .1) (todo (stored-begin img l ps (t .1) (c .1))))
     (λ h. let pos = not-zero (p .block) h in
     let u = t .0 (rw (c .0 .0, le-true 1 (p .block) pos)) in
-    rw h (stands (u .0) pos (u .1) (u .2) (omega (arith, u .3)) (stored-begin img l pool ps (t .1) (c .1))))
+    rw h (stands (u .0) pos (u .1) (u .2) (omega (arith, u .3)) (stored-begin img l ps (t .1) (c .1))))
 
-tied-begin : (img : View) (l : ℕ) (pool : ℕ → Bool) (es : List ℕ) (ps : List Page) → AllOf (Tied img l pool) ps → AllOf Calm ps
-    → AllOf (λ p. isIn (p .block) es ≡ true) ps → AllOf (Tied img (suc l) (λ b. isIn b es)) (map freeze ps)
+tied-begin : (img : View) (l : ℕ) (ps : List Page) → AllOf (Tied img l) ps → AllOf Calm ps → AllOf (Tied img (suc l)) (map freeze ps)
 unfolding freeze isDirty isClean
-tied-begin img l pool es [] t c i = tt
-tied-begin img l pool es (p ∷ ps) t c i = (
+tied-begin img l [] t c = tt
+tied-begin img l (p ∷ ps) t c = (
   λ e. by (eqb (p .block) 0) (λ h. lie (rw h at e))
-      (λ h. let u = t .0 (rw (c .0 .0, le-true 1 (p .block) (not-zero (p .block) h))) in (u .0, u .1, u .2, omega (arith, u .3), i .0)),
-  tied-begin img l pool es ps (t .1) (c .1) (i .1),
+      (λ h. let u = t .0 (rw (c .0 .0, le-true 1 (p .block) (not-zero (p .block) h))) in (u .0, u .1, u .2, omega (arith, u .3))),
+  tied-begin img l ps (t .1) (c .1),
 )
 
 pub begin-inv : (n : ℕ) (img : View) (s b b₀ : Store) → Inv n img s b b₀ → s .checkpoint ≡ idle → Ready s
     → Inv n img (stored s (s .level) (map freeze (s .pages)) (s .used) (s .taken) (running (s .next) (map (λ p. p .block) (s .pages)) [])) s b₀
 unfolding stored
 begin-inv n img s b b₀ inv cp rd =
-    let ph : AllOf (Tied img (s .level) (s .used)) (s .pages) = subst (λ c. Phase img s b c) cp (inv .phase) in
-    let es = map (λ p. p .block) (s .pages) in
+    let ph : AllOf (Tied img (s .level)) (s .pages) = subst (λ c. Phase img s b c) cp (inv .phase) in
     record {
       blocks = inv .blocks;
       good = inv .good;
       phase = record {
         nxt = refl;
-        stored = stored-begin img (s .level) (s .used) (s .pages) ph (rd .calm);
+        stored = stored-begin img (s .level) (s .pages) ph (rd .calm);
         dirs = tt;
         base = rd;
         bcap = refl;
         blvl = refl;
         bblk = refl;
         bused = λ c h. h;
-        names = named-self (s .used) es;
-        tied = tied-begin img (s .level) (s .used) es (s .pages) ph (rd .calm) (in-own (s .pages));
+        names = named-self (s .used) (map (λ p. p .block) (s .pages));
+        tied = tied-begin img (s .level) (s .pages) ph (rd .calm);
       };
     }

@@ -9,12 +9,11 @@ use lib.Dec.{eqb, leb, ltb}
 use lib.ListN.{length, length-map, length-append}
 use Rattle.basics.specs.Basics.{isIn, any, if_then_else_, howMany, sum, distinct, first}
 use Rattle.basics.proofs.Facts.{by, AllOf, lie, by-option}
-use Rattle.blocks.specs.Decode.{taken}
 use Rattle.blocks.specs.Limits.{mostNumber}
 use Rattle.image.specs.Stages.{isZero, directoriesFor, capacityLimit}
 use Rattle.model.specs.State.{Page, Store, Checkpoint, idle, running, Held, Active}
 use Rattle.model.specs.Rules.{isDirty, fresh, freeze, isFrozen}
-use Rattle.model.specs.Transactions.{written, changed, gives}
+use Rattle.model.specs.Transactions.{changed, gives}
 use Rattle.model.specs.Checkpoint.{fill, freeCount, left, isFree, isRunning, beginCall, stored, blocksNeeded, usedToo, storePage, made, allocate, storeDirectory, storeHeader, stepAt, stepOf, inTurn, stepCall, runCall}
 use Rattle.model.specs.Calls.{Call, call, opens, inserts, replaces, deletes, commits, aborts, reads, lists, begins, steps, runs}
 use Rattle.model.proofs.Lists.{eqb-true, not-zero, pos-not-zero, in-head, in-weak, leb-false, any-many, leb-true, eqb-self, many-append, all-in, in-all, all-map, eqb-sym, all-append, all-two, in-append}

@@ -3,10 +3,9 @@ use mathlib.Core.Path.{_≡_, ap, subst, sym, refl, _∙_}
 use Prim.Native.Nat.{suc, ℕ, _≤_, zero, min}
 use mathlib.Core.Bool.{true, Bool, false, not}
 use mathlib.Core.List.{List, [], _++_, _∷_, map, append-nil}
-use lib.Dec.{T, eqb, ltb}
+use lib.Dec.{eqb, ltb}
 use lib.ListN.{length}
-use lib.Pow.{low}
-use Rattle.basics.specs.Basics.{isIn, if_then_else_, first}
+use Rattle.basics.specs.Basics.{if_then_else_, first}
 use Rattle.basics.proofs.Facts.{AllOf, by, by-option}
 use Rattle.blocks.specs.Block.{Block}
 use Rattle.blocks.specs.Limits.{mostNumber}
@@ -18,7 +17,6 @@ use Rattle.model.specs.Transactions.{changed, unless, gives, _when_}
 use Rattle.model.specs.Checkpoint.{stored, beginCall, isRunning, freeCount, blocksNeeded, stepAt, stepOf, inTurn, stepCall, badImage, runCall, left}
 use Rattle.model.specs.Calls.{Call, accepted, afterCalls, call, steps, isBegin, runs, begins, opens, inserts, replaces, deletes, commits, aborts, reads, lists}
 use Rattle.model.specs.QuotedLine.{landed, Logged, isHeader, tag, log}
-use Rattle.model.specs.Cases.{writes}
 use Rattle.model.proofs.Views.{CutV, recoverView, WriteOk, stop, put, torn, whole}
 use Rattle.model.proofs.Frozen.{images}
 use Rattle.model.proofs.Pages.{stillFrozen}
@@ -33,16 +31,16 @@ use Rattle.model.proofs.Begin.{begin-inv}
 
 -- what ties a clean page to the view, idle and running
 abbrev Tie : View → Store → Checkpoint → Page → Type 0
-Tie img s idle p = Tied img (s .level) (s .used) p
-Tie img s (running n₀ es ds) p = Tied img (suc (s .level)) (λ b. isIn b es) p
+Tie img s idle p = Tied img (s .level) p
+Tie img s (running n₀ es ds) p = Tied img (suc (s .level)) p
 
 tie-fresh : (img : View) (s : Store) (c : Checkpoint) (t : ℕ) (ts : List Held) → Tie img s c (fresh t ts)
-tie-fresh img s idle t ts = tied-fresh img (s .level) (s .used) t ts
-tie-fresh img s (running n₀ es ds) t ts = tied-fresh img (suc (s .level)) (λ b. isIn b es) t ts
+tie-fresh img s idle t ts = tied-fresh img (s .level) t ts
+tie-fresh img s (running n₀ es ds) t ts = tied-fresh img (suc (s .level)) t ts
 
 tie-frozen : (img : View) (s : Store) (c : Checkpoint) (p : Page) (ts : List Held) → p .frozen ≡ true → Tie img s c p → Tie img s c (stillFrozen p ts)
-tie-frozen img s idle p ts h t = tied-frozen img (s .level) (s .used) p ts h t
-tie-frozen img s (running n₀ es ds) p ts h t = tied-frozen img (suc (s .level)) (λ b. isIn b es) p ts h t
+tie-frozen img s idle p ts h t = tied-frozen img (s .level) p ts h t
+tie-frozen img s (running n₀ es ds) p ts h t = tied-frozen img (suc (s .level)) p ts h t
 
 phase-changed : (img : View) (s b : Store) (nx : ℕ) (ps : List Page) (os : List Active) → images ps ≡ images (s .pages) → (c : Checkpoint)
     → (AllOf (Tie img s c) (s .pages) → AllOf (Tie img s c) ps) → Phase img s b c → Phase img (changed s nx ps os) b c

@@ -5,7 +5,6 @@ use native.Mathlib.Omega.{arith}
 use mathlib.Core.Bool.{Bool, _||_, _&&_, true, false}
 use mathlib.Core.List.{List, [], _∷_, _++_}
 use lib.Dec.{ltb, eqb, leb}
-use lib.Pow.{low, high}
 use Rattle.basics.specs.Basics.{if_then_else_, howMany}
 use Rattle.basics.proofs.Facts.{by, AllOf}
 use Rattle.blocks.specs.Tuple.{Tuple}

@@ -17,7 +17,7 @@ use Rattle.model.specs.State.{Page, Held, Store, Checkpoint, idle, runni
 use Rattle.model.specs.Rules.{fresh, shown}
 use Rattle.model.specs.Sight.{rows, held}
 use Rattle.model.specs.Transactions.{openNumbers}
-use Rattle.model.specs.Checkpoint.{fill, stored}
+use Rattle.model.specs.Checkpoint.{fill}
 use Rattle.model.specs.QuotedLine.{content}
 use Rattle.model.specs.Checkpoints.{contentOf}
 use Rattle.model.proofs.Views.{put}
@@ -25,7 +25,7 @@ use Rattle.model.proofs.Lists.{leb-true, eqb-true, pos-not-zero}
 use Rattle.model.proofs.Frozen.{bare, Content, images}
 use Rattle.model.proofs.Pages.{stillFrozen}
 use Rattle.model.proofs.Books.{test-other}
-use Rattle.model.proofs.Recovery.{found, Found, found-frame}
+use Rattle.model.proofs.Recovery.{Found, found-frame}
 use Rattle.model.proofs.Stored.{Stored, put-other, Dirs}
 
 -- ---- clean pages
@@ -33,18 +33,17 @@ use Rattle.model.proofs.Stored.{Stored, put-other, Dirs}
 unfoldable pub isClean : Page → Bool
 isClean p = not (p .frozen) && ltb 0 (p .block)
 
--- a clean page stands in its block, which is one of the pool
-abbrev pub Tied : View → ℕ → (ℕ → Bool) → Page → Type 0
-Tied img l pool p =
-    isClean p ≡ true → (k : ℕ) × (img (p .block) ≡ page (p .table) k (bare (p .tuples))) × (0 < k) × (k ≤ l) × (pool (p .block) ≡ true)
+-- a clean page stands in its block, written at a level from 1 to l
+abbrev pub Tied : View → ℕ → Page → Type 0
+Tied img l p = isClean p ≡ true → (k : ℕ) × (img (p .block) ≡ page (p .table) k (bare (p .tuples))) × (0 < k) × (k ≤ l)
 
-pub tied-fresh : (img : View) (l : ℕ) (pool : ℕ → Bool) (t : ℕ) (ts : List Held) → Tied img l pool (fresh t ts)
+pub tied-fresh : (img : View) (l t : ℕ) (ts : List Held) → Tied img l (fresh t ts)
 unfolding isClean fresh
-tied-fresh img l pool t ts e = lie e
+tied-fresh img l t ts e = lie e
 
-pub tied-frozen : (img : View) (l : ℕ) (pool : ℕ → Bool) (p : Page) (ts : List Held) → p .frozen ≡ true → Tied img l pool p → Tied img l pool (stillFrozen p ts)
+pub tied-frozen : (img : View) (l : ℕ) (p : Page) (ts : List Held) → p .frozen ≡ true → Tied img l p → Tied img l (stillFrozen p ts)
 unfolding isClean stillFrozen
-tied-frozen img l pool p ts h t e = lie e
+tied-frozen img l p ts h t e = lie e
 
 pub clean-pos : (p : Page) → isClean p ≡ true → 0 < p .block
 unfolding isClean
@@ -142,10 +141,10 @@ pub record Run (img : View) (s b : Store) (n₀ : ℕ) (es ds : List ℕ) : Type
   pub bblk : b .blocks ≡ s .blocks
   pub bused : (c : ℕ) → b .used c ≡ true → s .used c ≡ true
   pub names : Named (b .used) es (map (λ p. p .block) (b .pages))
-  pub tied : AllOf (Tied img (suc (s .level)) (λ b. isIn b es)) (s .pages)
+  pub tied : AllOf (Tied img (suc (s .level))) (s .pages)
 
 abbrev pub Phase : View → Store → Store → Checkpoint → Type 0
-Phase img s b idle = AllOf (Tied img (s .level) (s .used)) (s .pages)
+Phase img s b idle = AllOf (Tied img (s .level)) (s .pages)
 Phase img s b (running n₀ es ds) = Run img s b n₀ es ds
 
 -- s: the store; b: what it was before the last accepted begin; b₀: what it was before the begin of the last landed checkpoint

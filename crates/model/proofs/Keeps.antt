@@ -13,13 +13,12 @@ use Rattle.blocks.specs.Limits.{payloadLimit, mostNumber}
 use Rattle.blocks.specs.Tuple.{Owner, committed, tentative, Tuple, size, ownerSize, isTentative}
 use Rattle.rows.specs.Rows.{Row, isOwn, markOk, isAt, openLimit}
 use Rattle.image.specs.Stages.{directoriesFor}
-use Rattle.model.specs.State.{count, Store, Page, Held, idle, running, nothing, Checkpoint}
+use Rattle.model.specs.State.{Store, Page, Held, idle, running, nothing, Checkpoint}
 use Rattle.model.specs.Rules.{place, heldSize, isPending, freeze, isFrozen}
 use Rattle.model.specs.Sight.{rows, held, isForeign, versions, seen, seenOf}
 use Rattle.model.specs.Transactions.{Op, openCall, gives, changed, written, openNumbers, writtenBy, newTuple, withWrite, notOpen, noTable, tooLong, foreign, _when_, full, insertCall, present, replaceCall, unseen, deleteCall, readCall, readSeen, listCall, perform, without, commitCall, plan, planRows, abortCall, removeAll}
 use Rattle.model.specs.Checkpoint.{stored, beginCall, storePage, made, allocate, storeDirectory, storeHeader, stepAt, stepOf, inTurn, stepCall, runCall, left}
 use Rattle.model.specs.Calls.{Call, others, call, opens, inserts, replaces, deletes, commits, aborts, reads, lists, begins, steps, runs}
-use Rattle.model.proofs.Views.{put}
 use Rattle.model.proofs.Lists.{in-append, all-map, leb-false, Pairs, not-false}
 use Rattle.model.proofs.Owners.{numbers-append, numbers-write, numbers-length, others-length, numbers-without}
 use Rattle.model.proofs.Splits.{mostSize}

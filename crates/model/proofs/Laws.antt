@@ -18,7 +18,6 @@ use Rattle.model.specs.Transactions.{unless, Test, gives, _when_}
 use Rattle.model.specs.Checkpoint.{left, leftOf, allocate, beginCall, stored, blocksNeeded, stepOf, storePage, storeDirectory, storeHeader, made, stepCall, stepAt, badImage, inTurn, runCall}
 use Rattle.model.specs.Calls.{accepted, call, steps, afterCalls}
 use Rattle.model.specs.WellFormed.{ListOrder, EnoughBlocks, CheckpointWell, BeginAnswers, OneLess, times, writesOf, RunIsSteps, CountsLow}
-use Rattle.model.specs.Cases.{writes}
 use Rattle.model.proofs.Lists.{Pairs, pairs-parts, all-parts, leb-true, leb-false, eqb-self, eqb-true, not-false, many-length}
 use Rattle.model.proofs.Frozen.{images-thaw, images-first, images-none}
 use Rattle.model.proofs.Alloc.{Fresh, allocate-fresh}

@@ -11,7 +11,7 @@ use Rattle.basics.proofs.Facts.{by, lie, AllOf, and-true}
 use Rattle.blocks.specs.Tuple.{Owner, committed, tentative}
 use Rattle.rows.specs.Rows.{transactions, Row, isOwn, addOwner, isBy}
 use Rattle.model.specs.State.{Active}
-use Rattle.model.specs.Transactions.{openNumbers, withWrite, isFor, without, writtenBy, written}
+use Rattle.model.specs.Transactions.{openNumbers, withWrite, isFor, without, writtenBy}
 use Rattle.model.specs.Calls.{others}
 use Rattle.model.specs.Recover.{reopened}
 use Rattle.model.proofs.Lists.{eqb-true, in-here, eqb-self, in-cons, eqb-sym, any-cons, in-keep, not-in, not-in-all, not-true, all-two}

@@ -17,7 +17,6 @@ use Rattle.model.specs.Calls.{Call, afterCalls}
 use Rattle.model.specs.Recover.{recoveredStore}
 use Rattle.model.specs.QuotedLine.{Logged, isHeader, landed, Cut, stored, content}
 use Rattle.model.specs.Checkpoints.{afterStores, contentOf, Placed, Checkpoints}
-use Rattle.model.specs.Cases.{places}
 use Rattle.model.proofs.Views.{WriteOk, put, CutV}
 use Rattle.model.proofs.Lists.{eqb-true, not-zero, all-map, all-parts, all-append}
 use Rattle.model.proofs.Recovery.{found, Found, read-blocks}

@@ -2,14 +2,13 @@
 use mathlib.Core.Path.{_≡_, subst, refl, ap, sym, _∙_}
 use Prim.Native.Nat.{ℕ, _<_, _≤_, suc}
 use native.Mathlib.Omega.{arith}
-use mathlib.Core.Bool.{true, false, not, _&&_, Bool}
+use mathlib.Core.Bool.{false, true, not, _&&_, Bool}
 use mathlib.Core.List.{List, [], _∷_, map, _++_}
 use mathlib.Core.Option.{some}
 use lib.Dec.{leb, ltb, eqb}
-use Rattle.basics.specs.Basics.{isIn, isEmpty, if_then_else_, all, distinct, any, howMany}
+use Rattle.basics.specs.Basics.{isEmpty, if_then_else_, all, distinct, isIn, any, howMany}
 use Rattle.basics.proofs.Facts.{AllOf, never, by, by-option, and-true, lie}
 use Rattle.blocks.specs.Block.{page, Block, malformed, header, directory, InRange}
-use Rattle.blocks.specs.Decode.{taken}
 use Rattle.blocks.specs.Limits.{mostNumber}
 use Rattle.blocks.specs.declared.Header.{Header}
 use Rattle.rows.specs.Rows.{transactions, isOwn}
@@ -21,26 +20,25 @@ use Rattle.model.specs.Sight.{held, rows}
 use Rattle.model.specs.Transactions.{openNumbers}
 use Rattle.model.specs.Recover.{loaded, recoveredStore}
 use Rattle.model.proofs.Views.{AllSane, Sane}
-use Rattle.model.proofs.Lists.{some-eq, leb-true, in-head, not-true, all-map, in-weak, all-split, every-all, eqb-true, all-mapped, in-append, in-all, all-append, all-in}
+use Rattle.model.proofs.Lists.{some-eq, leb-true, not-true, all-map, all-split, every-all, eqb-true, all-mapped, in-all, all-append, all-in, in-append}
 use Rattle.model.proofs.Owners.{numbers-reopened, in-transactions}
 use Rattle.model.proofs.Books.{not-in-many, Booked, Books, inBlock-many}
-use Rattle.model.proofs.Recovery.{Found, found, read-blocks}
+use Rattle.model.proofs.Recovery.{Found, read-blocks}
 use Rattle.model.proofs.Inv.{listed, listed-held, listed-read, Tied, Ready, Inv, named-self}
 use Rattle.model.proofs.Steps.{loaded-content, bare-calm, loaded-blocks}
 
 -- a page that was read stands in its block
-abbrev pub Read : View → ℕ → List ℕ → StoredPage → Type 0
-Read v l es p =
-    (k : ℕ) × (v (p .block) ≡ page (p .table) k (p .tuples)) × (0 < k) × (k ≤ l) × (isIn (p .block) es ≡ true) × (isEmpty (p .tuples) ≡ false)
+abbrev pub Read : View → ℕ → StoredPage → Type 0
+Read v l p = (k : ℕ) × (v (p .block) ≡ page (p .table) k (p .tuples)) × (0 < k) × (k ≤ l) × (isEmpty (p .tuples) ≡ false)
 
-pub pages-read : (v : View) (l : ℕ) (es : List ℕ) (ps : List StoredPage) → readPages v l es ≡ some ps → AllOf (Read v l es) ps
+pub pages-read : (v : View) (l : ℕ) (es : List ℕ) (ps : List StoredPage) → readPages v l es ≡ some ps → AllOf (Read v l) ps
 unfolding readPages addPage if_then_else_ pageOk
-pages-read v l [] ps e = subst (AllOf (Read v l [])) (some-eq e) tt
+pages-read v l [] ps e = subst (AllOf (Read v l)) (some-eq e) tt
 pages-read v l (e ∷ es) ps h = go (v e) refl h (pages-read v l es)
   where
     go : (x : Block) → v e ≡ x → addPage l e x (readPages v l es) ≡ some ps
-        → ((qs : List StoredPage) → readPages v l es ≡ some qs → AllOf (Read v l es) qs)
-        → AllOf (Read v l (e ∷ es)) ps
+        → ((qs : List StoredPage) → readPages v l es ≡ some qs → AllOf (Read v l) qs)
+        → AllOf (Read v l) ps
     go malformed q h r = never h
     go (header a) q h r = never h
     go (directory k ds) q h r = never h
@@ -51,10 +49,7 @@ pages-read v l (e ∷ es) ps h = go (v e) refl h (pages-read v l es)
         (λ qs z.
         let a = and-true (not (isEmpty ts)) (leb 1 k && leb k l) y in
         let b = and-true (leb 1 k) (leb k l) (a .1) in
-        subst (AllOf (Read v l (e ∷ es))) (some-eq (rw (y, z) at h)) (
-          (k, q, leb-true 1 k (b .0), leb-true k l (b .1), in-head e es, not-true (isEmpty ts) (a .0)),
-          all-map (Read v l es) (Read v l (e ∷ es)) (λ p w. (w .0, w .1, w .2, w .3, in-weak (p .block) e es (w .4), w .5)) qs (r qs z),
-        )))
+        subst (AllOf (Read v l)) (some-eq (rw (y, z) at h)) ((k, q, leb-true 1 k (b .0), leb-true k l (b .1), not-true (isEmpty ts) (a .0)), r qs z)))
         (λ y. never (rw y at h))
 
 blocks-in : (n : ℕ) (ds : List ℕ) → all (blockOk n) ds ≡ true → AllOf (λ d. (0 < d) × (d < n)) ds
@@ -94,21 +89,9 @@ loaded-held ps = sym (listed-held (map loaded ps)) ∙ ap listed (loaded-content
 pub head-range : (v : View) (h : Header) → AllSane v → v 0 ≡ header h → (h .level ≤ mostNumber) × (h .next ≤ mostNumber)
 head-range v h a e = let f : InRange (header h) = subst Sane e (a 0) in (omega (arith, f .1 .1 .1 .0), omega (arith, f .1 .1 .1 .1 .0))
 
-start-tied : (v : View) (l : ℕ) (es ds : List ℕ) (ps : List StoredPage) → AllOf (Read v l es) ps → map (λ p. p .block) ps ≡ es
-    → AllOf (Tied v l (λ b. isIn b (map (λ p. p .block) ps ++ ds))) (map loaded ps)
-start-tied v l es ds ps r e =
-    all-mapped (Tied v l (λ b. isIn b (map (λ p. p .block) ps ++ ds))) loaded ps
-    (all-map (Read v l es) _ (λ p w. tie p w) ps r)
-  where
-    tie : (p : StoredPage) → Read v l es p → Tied v l (λ b. isIn b (map (λ p. p .block) ps ++ ds)) (loaded p)
-    tie p w = unfold loaded in λ c. (
-      w .0,
-      w .1
-          ∙ ap (page (p .table) (w .0)) (sym (bare-calm (p .tuples))),
-      w .2,
-      w .3,
-      rw (in-append (p .block) (map (λ p. p .block) ps), e, w .4),
-    )
+start-tied : (v : View) (l : ℕ) (p : StoredPage) → Read v l p → Tied v l (loaded p)
+unfolding loaded
+start-tied v l p w c = (w .0, w .1 ∙ ap (page (p .table) (w .0)) (sym (bare-calm (p .tuples))), w .2, w .3)
 
 start-store : (n : ℕ) (v : View) (s : Store) (f : Found n v s) → Ready (recoveredStore (f .head) (f .pages))
     → Inv n v (recoveredStore (f .head) (f .pages)) (recoveredStore (f .head) (f .pages)) (recoveredStore (f .head) (f .pages))
@@ -130,8 +113,7 @@ start-store n v s f rd =
         };
         names = λ c u. u;
       };
-      phase = start-tied v (h .level) (f .entries) (directoryBlocks h) ps (pages-read v (h .level) (f .entries) ps (f .read))
-          (read-blocks v (h .level) (f .entries) ps (f .read));
+      phase = all-mapped _ loaded ps (all-map _ _ (start-tied v (h .level)) ps (pages-read v (h .level) (f .entries) ps (f .read)));
     }
 
 pub start-inv : (n : ℕ) (v : View) (s : Store) → Found n v s → Ready s → Inv n v s s s

@@ -22,7 +22,6 @@ use Rattle.model.specs.WellFormed.{KeptWell, WellFormed, heldOk, openOk,
 use Rattle.model.proofs.Lists.{le-true}
 use Rattle.model.proofs.Recovery.{found, Found}
 use Rattle.model.proofs.Start.{loaded-held, start-books}
-use Rattle.model.proofs.Rows.{live}
 use Rattle.model.proofs.Whole.{Fitting, starts}
 use Rattle.model.proofs.Listed.{Listed, reopened-once}
 use Rattle.model.proofs.Well.{well, keeps-sound, sound, Sound}

@@ -7,9 +7,8 @@ use mathlib.Core.List.{List, [], _∷_, tail, map, _++_}
 use mathlib.Core.Option.{none, some}
 use lib.Dec.{eqb, ltb}
 use lib.ListN.{length, take, drop, length-take, length-map, getD}
-use lib.Pow.{low}
-use Rattle.basics.specs.Basics.{all, if_then_else_, isIn, any, first, every}
-use Rattle.basics.proofs.Facts.{AllOf, by, lie}
+use Rattle.basics.specs.Basics.{if_then_else_, all, first, isIn, any, every}
+use Rattle.basics.proofs.Facts.{AllOf, lie, by}
 use Rattle.blocks.specs.Block.{page, Block, header, InRange, EntriesFit, directory}
 use Rattle.blocks.specs.Limits.{recordSpace}
 use Rattle.blocks.specs.Tuple.{AllFit, sizes, Tuple}
@@ -18,23 +17,22 @@ use Rattle.rows.specs.Rows.{rowsOk, transactions, isOwn}
 use Rattle.image.specs.Stages.{directoriesFor, blockOk, directoryBlocks, isZero, unusedNumbers, StoredPage, capacityLimit, headerOk, entriesOk, readDirectories, rowsOfPages, readPages}
 use Rattle.image.specs.View.{View}
 use Rattle.model.specs.State.{Store, Outcome, Write, Page}
-use Rattle.model.specs.Rules.{shown, isFrozen, calm}
+use Rattle.model.specs.Rules.{shown, isDirty, isFrozen, calm}
 use Rattle.model.specs.Sight.{held}
-use Rattle.model.specs.Transactions.{full}
-use Rattle.model.specs.Checkpoint.{storable, fill, storePage, made, stored, allocate, usedToo, storeDirectory, headerFor, storeHeader}
+use Rattle.model.specs.Checkpoint.{storable, storePage, made, stored, allocate, fill, usedToo, storeDirectory, headerFor, storeHeader}
 use Rattle.model.specs.Recover.{loaded, recoveredStore}
 use Rattle.model.specs.QuotedLine.{content}
 use Rattle.model.specs.Checkpoints.{contentOf}
-use Rattle.model.proofs.Views.{put, whole}
-use Rattle.model.proofs.Lists.{le-true, eqb-self, eqb-true, eqb-sym, first-all, first-passes, all-map, pos-not-zero, not-zero, leb-true, all-take, all-drop, all-true, leb-false, all-two, in-append}
+use Rattle.model.proofs.Views.{put}
+use Rattle.model.proofs.Lists.{all-two, pos-not-zero, not-zero, first-all, first-passes, all-map, eqb-true, leb-true, all-take, all-drop, all-true, le-true, eqb-self, leb-false, eqb-sym}
 use Rattle.model.proofs.Owners.{numbers-reopened, in-transactions}
 use Rattle.model.proofs.Frozen.{Content, images, images-first, images-thaw, shown-calm, bare, images-none}
 use Rattle.model.proofs.Pages.{all-thaw}
 use Rattle.model.proofs.Alloc.{Fresh, allocate-fresh, used-old}
-use Rattle.model.proofs.Books.{test-other, in-fill, Books, Running, off-used, once-distinct, once-right, once-off, once-left}
-use Rattle.model.proofs.Recovery.{Found, found, read-blocks}
-use Rattle.model.proofs.Stored.{Stored, end, todo, stands, Dirs, put-other, stored-fill, put-same, stored-put, dirs-snoc, dirs-put, stored-read, dirs-read, stored-written}
-use Rattle.model.proofs.Inv.{Inv, Good, Tied, clean-pos, Run, good-put, good-more, named-fill, tied-fresh, tied-frozen, listed-read, listed, listed-held, Named}
+use Rattle.model.proofs.Books.{Booked, test-other, Books, Running, off-used, once-distinct, once-right, once-off, once-left}
+use Rattle.model.proofs.Recovery.{Found, read-blocks}
+use Rattle.model.proofs.Stored.{Dirs, put-other, Stored, stored-fill, put-same, stored-put, dirs-snoc, dirs-put, end, todo, stands, stored-read, dirs-read, stored-written}
+use Rattle.model.proofs.Inv.{Inv, Good, Tied, clean-pos, Run, good-put, good-more, named-fill, tied-fresh, tied-frozen, listed, listed-read, listed-held, Named}
 
 -- what the frozen pages show can be written
 abbrev pub FrozenFit : Store → Type 0
@@ -64,15 +62,6 @@ pub data Stepped (n : ℕ) (img : View) (s b b₀ : Store) (o : Outcome) : Type 
       → (eqb (w .at) 0 ≡ false → (x : Block) → Good n (put img (w .at) x) (s .used) b₀)
       → Inv n (put img (w .at) (w .what)) (o .store) b (if eqb (w .at) 0 then b else b₀) → Stepped n img s b b₀ o
 
-filled-in : {img : View} {l : ℕ} {es : List ℕ} {cs : List Content} (b : ℕ) (c : Content) (js is : List Content) → js ≡ c ∷ is → Stored img l es cs js
-    → isIn b (fill b es) ≡ true
-unfolding fill if_then_else_ isIn any
-filled-in b c js is e end = let z : _≡_ {A = ℕ} 0 1 = cc in absurd (omega arith)
-filled-in b c js is e (todo r) = rw (eqb-self b, any)
-filled-in b c js is e (stands {es = es} {e = d} k v w x y r) =
-    by (eqb d 0) (λ h. let z = eqb-true d 0 h in absurd (omega arith))
-    (λ h. by (eqb b d) (λ i. rw (h, i, any)) (λ i. rw (h, i, any) (filled-in b c js is e r)))
-
 no-dirs : (img : View) (l : ℕ) (es ds : List ℕ) → length ds ≡ 0 → Dirs img l es ds
 no-dirs img l es [] h = tt
 no-dirs img l es (d ∷ ds) h = absurd (omega arith)
@@ -81,15 +70,17 @@ none-yet′ : {c : Content} (js is : List Content) (ds : List ℕ) → (0 < leng
 none-yet′ js is [] f e = refl
 none-yet′ js is (d ∷ ds) f e = let k = f (omega arith) in let z : _≡_ {A = ℕ} 0 1 = cc in absurd (omega arith)
 
--- the tie of a page to its block survives a store to a block that is not in the pool
-tied-put : (img : View) (l : ℕ) (pool : ℕ → Bool) (b : ℕ) (x : Block) (p : Page) → pool b ≡ false → Tied img l pool p → Tied (put img b x) l pool p
-tied-put img l pool b x p h t c = let u = t c in (u .0, put-other img b x (p .block) (test-other pool (p .block) b (u .4) h) ∙ u .1, u .2, u .3, u .4)
+-- the tie of a page to its block survives a store to another block
+tied-put : (img : View) (l b : ℕ) (x : Block) (p : Page) → (0 < p .block → eqb b (p .block) ≡ false) → Tied img l p → Tied (put img b x) l p
+tied-put img l b x p h t c = let u = t c in (u .0, put-other img b x (p .block) (h (clean-pos p c)) ∙ u .1, u .2, u .3)
 
-tied-fill : (img : View) (l b : ℕ) (es : List ℕ) (p : Page) → isIn b es ≡ false → Tied img l (λ c. isIn c es) p
-    → Tied img l (λ c. isIn c (fill b es)) p
-tied-fill img l b es p h t c =
-    let u = t c in
-    (u .0, u .1, u .2, u .3, in-fill b (p .block) es (clean-pos p c) (eqb-sym b (p .block) (test-other (λ c. isIn c es) (p .block) b (u .4) h)) ∙ u .4)
+-- to one that is no clean page's
+tied-off : (img : View) (l b : ℕ) (x : Block) (pool : ℕ → Bool) (ps : List Page) → pool b ≡ false → AllOf (Booked pool) ps → AllOf (Tied img l) ps
+    → AllOf (Tied (put img b x) l) ps
+unfolding isDirty
+tied-off img l b x pool ps h =
+    all-two (Booked pool) (Tied img l) (Tied (put img b x) l)
+    (λ p q t. tied-put img l b x p (λ c. test-other pool (p .block) b (q .1 (pos-not-zero (p .block) c)) h) t) ps
 
 pub page-step : (n : ℕ) (img : View) (s b b₀ : Store) (n₀ : ℕ) (es ds : List ℕ) (p : Page) → Books s → Running n₀ es ds s → Inv n img s b b₀ → Run img s b n₀ es ds
     → FrozenSmall s → first isFrozen (s .pages) ≡ some p → Stepped n img s b b₀ (storePage n₀ es ds p s)
@@ -111,9 +102,6 @@ page-step n img s b b₀ n₀ es ds p bk r inv run small₀ e =
     let g : (y : Block) → Good n (put img i y) (s .used) b₀ = λ y. good-put n img (s .used) b₀ i y (fr .pos) (fr .free) (inv .good) in
     let st : Stored img′ L (fill i es) (map content (b .pages)) is
     = stored-fill i (p .table, shown (p .tuples)) (images (s .pages)) is ims (fr .pos) (omega arith) (put-same img i x ∙ whole) (stored-put i x off (run .stored)) in
-    let pool : ℕ → Bool = λ c. isIn c (fill i es) in
-    let ti : AllOf (Tied img′ L pool) (s .pages)
-    = all-map _ _ (λ q t. tied-fill img′ L i es q off (tied-put img L (λ c. isIn c es) i x q off t)) (s .pages) (run .tied) in
     wrote (record { at = i; what = x }) refl (omega (arith, fr .low, inv .blocks))
     (λ small fit. let f = first-all isFrozen
     (λ p. p .frozen ≡ true → (p .table < 8) × AllFit (shown (p .tuples)) × (sizes (shown (p .tuples)) ≤ recordSpace)) (s .pages) p e fit
@@ -134,15 +122,9 @@ page-step n img s b b₀ n₀ es ds p bk r inv run small₀ e =
         bblk = run .bblk;
         bused = λ c h. used-old s i c (run .bused c h);
         names = named-fill (b .used) i es _ (by (b .used i) (λ h. lie (sym (fr .free) ∙ run .bused i h)) (λ h. h)) (run .names);
-        tied = all-thaw (Tied img′ L pool) (tied-fresh img′ L pool) (tied-frozen img′ L pool) i p (s .pages) e
-            (λ h c. (
-              L,
-              put-same img i x ∙ whole ∙ ap (page (p .table) L) (shown-calm (p .tuples) h),
-              omega arith,
-              omega arith,
-              filled-in i
-                  (p .table, shown (p .tuples)) (images (s .pages)) is ims (run .stored),
-            )) ti;
+        tied = all-thaw (Tied img′ L) (tied-fresh img′ L) (tied-frozen img′ L) i p (s .pages) e
+            (λ h c. (L, put-same img i x ∙ whole ∙ ap (page (p .table) L) (shown-calm (p .tuples) h), omega arith, omega arith))
+            (tied-off img L i x (λ c. isIn c es) (s .pages) off (r .booked) (run .tied));
       };
     }))
 
@@ -193,7 +175,7 @@ directory-step n img s b b₀ n₀ es ds bk r inv run e lt =
         bblk = run .bblk;
         bused = λ c h. used-old s i c (run .bused c h);
         names = run .names;
-        tied = all-map _ _ (λ q t. tied-put img L (λ c. isIn c es) i x q off t) (s .pages) (run .tied);
+        tied = tied-off img L i x (λ c. isIn c es) (s .pages) off (r .booked) (run .tied);
       };
     }))
 
@@ -389,6 +371,5 @@ header-step n img s b b₀ n₀ es ds bk r inv run e lt =
     (record {
       blocks = inv .blocks;
       good = header-good n img s b n₀ es ds (inv .blocks) (bk .cap) r run ims full eok dok;
-      phase = all-map _ _ (λ q t c. let u = tied-put img L (λ c. isIn c es) 0 x q
-          (zero-not-in es epos) t c in (u .0, u .1, u .2, u .3, rw (in-append (q .block) es, u .4))) (s .pages) (run .tied);
+      phase = all-map _ _ (λ q t. tied-put img L 0 x q (λ c. eqb-sym (q .block) 0 (pos-not-zero (q .block) c)) t) (s .pages) (run .tied);
     })

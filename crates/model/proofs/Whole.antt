@@ -6,7 +6,6 @@ use mathlib.Core.Bool.{false, true}
 use mathlib.Core.List.{List, [], _∷_, map}
 use lib.Dec.{leb}
 use lib.ListN.{length-map, length, length-append}
-use lib.Pow.{low}
 use Rattle.basics.specs.Basics.{if_then_else_, all, isEmpty, any, isIn, every, distinct, sum, paired, howMany}
 use Rattle.basics.proofs.Facts.{AllOf, lie, by}
 use Rattle.blocks.specs.Block.{PageFits}
@@ -125,10 +124,10 @@ ready s v e =
 abbrev pub Tested : StoredPage → Type 0
 Tested p = (p .table < 8) × AllFit (p .tuples) × (sizes (p .tuples) ≤ recordSpace) × (0 < length (p .tuples))
 
-tested : (v : View) (l : ℕ) (es : List ℕ) → AllSane v → (p : StoredPage) → Read v l es p → Tested p
-tested v l es sane p r =
+tested : (v : View) (l : ℕ) → AllSane v → (p : StoredPage) → Read v l p → Tested p
+tested v l sane p r =
     let f : PageFits (p .table) (r .0) (p .tuples) = subst Sane (r .1) (sane (p .block)) in
-    (f .table, f .tuples, f .room, has-some (p .tuples) (r .5))
+    (f .table, f .tuples, f .room, has-some (p .tuples) (r .4))
 
 calm-size : (ts : List Tuple) → sum heldSize (map calm ts) ≡ sizes ts
 unfolding sum heldSize calm
@@ -262,4 +261,4 @@ starts n v s sane f =
     let h = f .head in
     subst (λ z. Valid z × Counted z × Fitting z) (f .store)
     (loaded-valid h (f .pages) (head-range v h sane (f .top) .1) (headed n h (f .head-ok) .cap .1) (f .rows-ok)
-    (all-map (Read v (h .level) (f .entries)) Tested (tested v (h .level) (f .entries) sane) (f .pages) (pages-read v (h .level) (f .entries) (f .pages) (f .read))))
+    (all-map (Read v (h .level)) Tested (tested v (h .level) sane) (f .pages) (pages-read v (h .level) (f .entries) (f .pages) (f .read))))
