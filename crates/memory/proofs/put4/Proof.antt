@@ -1,0 +1,37 @@
+use Rattle.memory.specs.Bytes.{put}
+use Prim.Native.Nat.{ℕ}
+use mathlib.Core.List.{List}
+use mathlib.Core.Path.{ap, _∙_}
+use borrow.Author.Needs.{needs}
+use Rattle.memory.proofs.put4.Statement.{statement}
+use Rattle.memory.proofs.put4.Tie as tie
+use Rattle.memory.proofs.put4.Reads as reads
+use Rattle.memory.proofs.put4.Lts as lts
+use Rattle.memory.proofs.split4.Reads as split4-reads
+use Rattle.memory.proofs.write.Reads as write-reads
+
+-- src/lib.rt:124:13
+split4-requires : tie.Need-split4-requires
+split4-requires c κs = search needs
+
+-- src/lib.rt:125:17
+slice-aggregate-write : tie.Need-slice-aggregate-write
+slice-aggregate-write c = search needs
+
+-- src/lib.rt:125:5
+write-requires : tie.Need-write-requires
+write-requires c κs = search needs
+
+-- src/lib.rt:120:1
+same-length : tie.Need-same-length
+same-length c = search needs
+
+-- src/lib.rt:120:1
+returns : tie.Need-returns
+returns c = let w = c .before .before in
+    let st = w .before .before .before .before .before in
+    w .write .ensures ∙ ap (λ (b : List ℕ). put (st .args .a) b (st .args .m .now)) (w .before .before .before .split4 .ensures)
+
+pub put4-spec : {M : Type 1} → statement M
+put4-spec =
+    tie.close (tie.spec split4-requires slice-aggregate-write write-requires same-length returns)

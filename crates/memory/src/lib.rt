@@ -1,0 +1,185 @@
+// The working memory: a head of 1,024 bytes, then rows, page entries and directory entries, whose places go by the capacity.
+// docs/LAYOUT.md says what stands where. Above this crate no one sees a byte: each function that changes the memory promises one
+// equation on the flat lists that it holds.
+ghost use mathlib.Core.Path.{_≡_};
+ghost use mathlib.Core.Bool.{Bool, false};
+ghost use mathlib.Core.Option.{some};
+ghost use mathlib.Core.List.{List, _∷_, [], _++_};
+ghost use Prim.Native.Nat.{ℕ, _+_, _*_, _-_, _/_, _%_, _^_, _≤_, _<_};
+ghost use lib.ListN.{length, take, drop, getD, set, replicate};
+ghost use Rattle.blocks.specs.Numbers.{num4};
+ghost use Rattle.memory.specs.Bytes.{num2, bytes4, bytes2, cut, put, Shifted, Lowered};
+ghost use Rattle.memory.specs.Views.{rowOf, entryOf, headOf, word, half, numbersOf, entryBytes, headBytes, headAt, countAt, Only};
+
+// A tuple with its pending operation. flags: bit 0 tentative, bit 1 delete mark, bits 2 and 3 pending (0 nothing, 1 adding,
+// 2 committing, 3 removing). owner: the transaction above 20 bits of statement.
+pub struct Row {
+    pub key: u32,
+    pub number: u32,
+    pub owner: u32,
+    pub flags: u8,
+    pub size: u8,
+    pub payload: [u8; 40],
+}
+
+// A page: how many rows it has; its block, 0 if it is dirty.
+pub struct Entry {
+    pub table: u8,
+    pub frozen: u8,
+    pub count: u16,
+    pub block: u16,
+}
+
+// The numbers of the head that are no counts. running: 0 while no checkpoint runs. begun: the next number at begin.
+pub struct Head {
+    pub capacity: u32,
+    pub blocks: u32,
+    pub level: u32,
+    pub next: u32,
+    pub running: u32,
+    pub begun: u32,
+    pub taken: u32,
+}
+
+// How many rows, pages, open transactions, directory entries and directory blocks written there are.
+pub struct Counts {
+    pub rows: u32,
+    pub pages: u32,
+    pub opens: u32,
+    pub named: u32,
+    pub directories: u32,
+}
+
+// ---- numbers as bytes
+
+fn wide(x: u8) -> u32
+    ensures { λ r. ⌜ r ≡ x ⌝ }
+{
+    x as u32
+}
+
+fn wide2(x: u8) -> u16
+    ensures { λ r. ⌜ r ≡ x ⌝ }
+{
+    x as u16
+}
+
+fn join4(a: u8, b: u8, c: u8, d: u8) -> u32
+    ensures { λ r. ⌜ r ≡ a * 16777216 + b * 65536 + c * 256 + d ⌝ }
+{
+    wide(a) * 16777216 + wide(b) * 65536 + wide(c) * 256 + wide(d)
+}
+
+fn join2(a: u8, b: u8) -> u16
+    ensures { λ r. ⌜ r ≡ a * 256 + b ⌝ }
+{
+    wide2(a) * 256 + wide2(b)
+}
+
+fn get4(m: &[u8], a: usize) -> u32
+    requires { ⌜ a + 4 ≤ length (now m) ⌝ }
+    ensures { λ r. ⌜ r ≡ num4 (now (m .entry)) a ⌝ }
+{
+    join4(m[a], m[a + 1], m[a + 2], m[a + 3])
+}
+
+fn get2(m: &[u8], a: usize) -> u16
+    requires { ⌜ a + 2 ≤ length (now m) ⌝ }
+    ensures { λ r. ⌜ r ≡ num2 (now (m .entry)) a ⌝ }
+{
+    join2(m[a], m[a + 1])
+}
+
+// The bytes of a number, the highest first.
+fn split4(x: u32) -> [u8; 4]
+    ensures { λ r. ⌜ r ≡ bytes4 x ⌝ }
+{
+    [(x / 16777216) as u8, (x / 65536 % 256) as u8, (x / 256 % 256) as u8, (x % 256) as u8]
+}
+
+fn split2(x: u16) -> [u8; 2]
+    ensures { λ r. ⌜ r ≡ bytes2 x ⌝ }
+{
+    [(x / 256) as u8, (x % 256) as u8]
+}
+
+// ---- parts of the memory
+
+// src, over the bytes of m from index a on.
+fn write(m: &mut [u8], a: usize, src: &[u8])
+    requires { ⌜ a + length (now src) ≤ length (now m) ⌝ }
+    ensures { λ _. ⌜ now (m .exit) ≡ put a (now (src .entry)) (now (m .entry)) ⌝ }
+{
+    let mut j = 0;
+    while j < src.len() {
+        m[a + j] = src[j];
+        j += 1;
+    }
+}
+
+fn put4(m: &mut [u8], a: usize, x: u32)
+    requires { ⌜ a + 4 ≤ length (now m) ⌝ }
+    ensures { λ _. ⌜ now (m .exit) ≡ put a (bytes4 x) (now (m .entry)) ⌝ }
+{
+    let b = split4(x);
+    write(m, a, &b);
+}
+
+fn put2(m: &mut [u8], a: usize, x: u16)
+    requires { ⌜ a + 2 ≤ length (now m) ⌝ }
+    ensures { λ _. ⌜ now (m .exit) ≡ put a (bytes2 x) (now (m .entry)) ⌝ }
+{
+    let b = split2(x);
+    write(m, a, &b);
+}
+
+// The 40 bytes of m from index a on.
+fn read40(m: &[u8], a: usize) -> [u8; 40]
+    requires { ⌜ a + 40 ≤ length (now m) ⌝ }
+    ensures { λ r. ⌜ r ≡ cut a 40 (now (m .entry)) ⌝ }
+{
+    let mut p = [0u8; 40];
+    let mut j = 0;
+    while j < 40 {
+        p[j] = m[a + j];
+        j += 1;
+    }
+    p
+}
+
+// Zeros, over the n bytes of m from index a on.
+fn clear(m: &mut [u8], a: usize, n: usize)
+    requires { ⌜ a + n ≤ length (now m) ⌝ }
+    ensures { λ _. ⌜ now (m .exit) ≡ put a (replicate n 0) (now (m .entry)) ⌝ }
+{
+    let mut j = 0;
+    while j < n {
+        m[a + j] = 0;
+        j += 1;
+    }
+}
+
+// The bytes from lo up to, not including, hi go up by w.
+fn shift_up(m: &mut [u8], lo: usize, hi: usize, w: usize)
+    requires { ⌜ (lo ≤ hi) × (hi + w ≤ length (now m)) ⌝ }
+    ensures { λ _. ⌜ Shifted (now (m .entry)) (now (m .exit)) lo hi w ⌝ }
+{
+    let mut k = hi;
+    while lo < k {
+        k -= 1;
+        m[k + w] = m[k];
+    }
+}
+
+// The bytes from lo + w up to, not including, hi go down by w.
+fn shift_down(m: &mut [u8], lo: usize, hi: usize, w: usize)
+    requires { ⌜ (lo + w ≤ hi) × (hi ≤ length (now m)) ⌝ }
+    ensures { λ _. ⌜ Lowered (now (m .entry)) (now (m .exit)) lo hi w ⌝ }
+{
+    let end = hi - w;
+    let mut k = lo;
+    while k < end {
+        m[k] = m[k + w];
+        k += 1;
+    }
+}
