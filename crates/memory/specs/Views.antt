@@ -1,10 +1,10 @@
 -- What the bytes of the memory say: the head, and cells of one width after another. Every byte pattern says something.
 use Prim.Native.Nat.{ℕ, zero, suc, _+_, _*_, _/_, _%_, _^_}
 use mathlib.Core.Path.{_≡_}
-use mathlib.Core.Bool.{Bool, _&&_}
+use mathlib.Core.Bool.{Bool}
 use mathlib.Core.List.{List, [], _∷_, _++_}
 use lib.ListN.{getD}
-use lib.Dec.{eqb, ltb}
+use lib.Dec.{eqb}
 use Rattle.blocks.specs.Limits.{payloadLimit}
 use Rattle.blocks.specs.Numbers.{num4}
 use Rattle.memory.specs.Bytes.{num2, bytes4, bytes2, cut, Apart}
@@ -88,9 +88,12 @@ directoriesAt m n = tab (cell word 96 4 4 m) 0 n
 abbrev pub opensAt : List ℕ → ℕ → List ℕ
 opensAt m n = tab (cell word 128 4 4 m) 0 n
 
--- block b in use: bit b % 8 from the low end of byte b / 8
-unfoldable pub usedAt : List ℕ → ℕ → Bool
-usedAt m b = ltb b 4096 && eqb (getD m (512 + b / 8) 0 / 2 ^ (b % 8) % 2) 1
+-- block b in use: bit b % 8 from the low end of byte b / 8; past the end none is
+unfoldable pub usedIn : List ℕ → ℕ → Bool
+usedIn bs b = eqb (getD bs (b / 8) 0 / 2 ^ (b % 8) % 2) 1
+
+abbrev pub usedAt : List ℕ → ℕ → Bool
+usedAt m = usedIn (cut 512 512 m)
 
 abbrev pub rowsAt : List ℕ → ℕ → List Row
 rowsAt m n = tab (cell rowOf 1024 80 56 m) 0 n
