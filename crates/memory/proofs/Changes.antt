@@ -9,7 +9,7 @@ use lib.ListN.{length, take, drop, getD, set}
 use Rattle.blocks.specs.Numbers.{num4}
 use Rattle.memory.specs.Bytes.{num2, cut, put, Apart, Shifted, Lowered}
 use Rattle.memory.specs.Views.{cell, tab, word, half, rowOf, entryOf, headOf, headAt, countAt, opensAt, rowsAt, entriesAt, namedAt, directoriesAt, usedIn, usedAt, Only}
-use Rattle.memory.specs.Flat.{Flat, flatOf, opensOf, rowsOf, entriesOf, namedOf, directoriesOf, countsOf, signature, InRange, Room, Becomes, withHead, withOpens, withRows, withEntries, withNamed, withDirectories, withUsed}
+use Rattle.memory.specs.Flat.{Flat, flatOf, opensOf, rowsOf, entriesOf, namedOf, directoriesOf, countsOf, signature, InRange, Room, Replaces, Becomes, withHead, withOpens, withRows, withEntries, withNamed, withDirectories, withUsed}
 use Rattle.memory.specs.declared.Row.{Row}
 use Rattle.memory.specs.declared.Entry.{Entry}
 use Rattle.memory.specs.declared.Head.{Head}
@@ -323,3 +323,53 @@ module _ (m m2 m' : List ℕ) (a len n : ℕ) (r : Room m) (l : length m' ≡ le
       (new-cells word 96 4 4 m2 m' 4 n (countAt m' 4) xs (omega arith) (omega arith) (omega arith) q (q .here) e)
       (K .used (inr (omega arith))))
       (recounted (countsOf (withDirectories (flatOf m) xs)) g (g .rows) (g .pages) (g .opens) (g .named) (omega arith))
+
+pub head-become : (m m' : List ℕ) (h : Head) → Room m → length m' ≡ length m → Apart m m' 4 28 → headAt m' ≡ h → Replaces (headAt m) h
+    → Becomes m m' (withHead (flatOf m) h)
+unfolding opensOf rowsOf entriesOf namedOf directoriesOf
+head-become m m' h r l p e t =
+    let g = r .range in
+    let ec : h .capacity ≡ headAt m .capacity = t .capacity in
+    let c : headAt m' .capacity ≡ headAt m .capacity = ap (λ (x : Head). x .capacity) e ∙ t .capacity in
+    let n : (j : ℕ) → countAt m' j ≡ countAt m j = λ j. cell-off word 64 4 4 (omega arith) p j (inr (omega arith)) in
+    becomes m m' (withHead (flatOf m) h) r l (sym (word-at m' 0) ∙ ap word (off p 0 4 (inl (omega arith))) ∙ word-at m 0)
+    (flat-eq (flatOf m') (withHead (flatOf m) h)
+    e
+    (ap (opensAt m') (n 2) ∙ cells-off word 128 4 4 (omega arith) p (countAt m 2) (inr (omega arith)))
+    (ap (rowsAt m') (n 0) ∙ cells-off rowOf 1024 80 56 (omega arith) p (countAt m 0) (inr (omega arith)))
+    (ap (λ (x : ℕ). entriesAt m' x (countAt m' 1)) c ∙ ap (entriesAt m' (headAt m .capacity)) (n 1)
+    ∙ cells-off entryOf (1024 + headAt m .capacity * 80) 8 6 (omega arith) p (countAt m 1) (inr (omega arith)))
+    (ap (λ (x : ℕ). namedAt m' x (countAt m' 3)) c ∙ ap (namedAt m' (headAt m .capacity)) (n 3)
+    ∙ cells-off half (1024 + headAt m .capacity * 88) 2 2 (omega arith) p (countAt m 3) (inr (omega arith)))
+    (ap (directoriesAt m') (n 4) ∙ cells-off word 96 4 4 (omega arith) p (countAt m 4) (inr (omega arith)))
+    (ap usedIn (off p 512 512 (inr (omega arith)))))
+    (record {
+      least = omega (arith, g .least);
+      most = omega (arith, g .most);
+      long = omega (arith, g .long);
+      few = t .few;
+      many = t .many;
+      taken = t .taken;
+      rows = omega (arith, g .rows);
+      pages = omega (arith, g .pages);
+      opens = g .opens;
+      named = omega (arith, g .named);
+      directories = g .directories
+    })
+
+pub used-become : (m m' : List ℕ) (a len : ℕ) (u : ℕ → Bool) → Room m → length m' ≡ length m → Apart m m' a len → 512 ≤ a → a + len ≤ 1024 → usedAt m' ≡ u
+    → Becomes m m' (withUsed (flatOf m) u)
+used-become m m' a len u r l p h1 h2 e =
+    let g = r .range in
+    let K = kept m m' m' a len 0 (countAt m' 0) (omega arith) r (omega arith) p (recount-none m' 0 _ refl) in
+    let J = kept m m' m' a len 1 (countAt m' 1) (omega arith) r (omega arith) p (recount-none m' 1 _ refl) in
+    becomes m m' (withUsed (flatOf m) u) r l (K .sign)
+    (flat-eq (flatOf m') (withUsed (flatOf m) u)
+    (K .head)
+    (K .opens (omega arith) (inl (omega arith)))
+    (J .rows (omega arith) (inr (omega arith)))
+    (K .entries (omega arith) (inr (omega arith)))
+    (K .named (omega arith) (inr (omega arith)))
+    (K .directories (omega arith) (inl (omega arith)))
+    e)
+    (recounted (countsOf (flatOf m)) g (g .rows) (g .pages) (g .opens) (g .named) (g .directories))

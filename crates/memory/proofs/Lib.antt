@@ -1,3 +1,4 @@
 pub mod Laws
 pub mod Cells
+pub mod Spelling
 pub mod Changes

@@ -70,6 +70,13 @@ pub record Room (m : List ℕ) : Type 0 where
   pub sign : num4 m 0 ≡ signature
   pub range : InRange (length m) (headAt m) (countsOf (flatOf m))
 
+-- a head that may take another's place: the capacity, and with it the place of each list, stays
+pub record Replaces (g h : Head) : Type 0 where
+  pub capacity : h .capacity ≡ g .capacity
+  pub few : 2 ≤ h .blocks
+  pub many : h .blocks ≤ 4096
+  pub taken : h .taken < h .blocks
+
 -- what a function that changes the memory promises: f is all that it holds then
 pub record Becomes (m m' : List ℕ) (f : Flat) : Type 0 where
   pub size : length m' ≡ length m

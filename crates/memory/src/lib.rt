@@ -10,6 +10,8 @@ ghost use lib.ListN.{length, take, drop, getD, set, replicate};
 ghost use Rattle.blocks.specs.Numbers.{num4};
 ghost use Rattle.memory.specs.Bytes.{num2, bytes4, bytes2, cut, put, Shifted, Lowered};
 ghost use Rattle.memory.specs.Views.{rowOf, entryOf, headOf, word, half, numbersOf, entryBytes, headBytes, headAt, countAt, Only};
+ghost use Rattle.memory.specs.Flat.{flatOf, countsOf, rowIn, entryIn, Room, Replaces, Becomes, withHead, withOpens, withRows, withEntries, withNamed, withDirectories, withUsed, insertAt, removeAt, usedAnd};
+ghost use Rattle.memory.specs.Store.{inRange, holdsStore};
 
 // A tuple with its pending operation. flags: bit 0 tentative, bit 1 delete mark, bits 2 and 3 pending (0 nothing, 1 adding,
 // 2 committing, 3 removing). owner: the transaction above 20 bits of statement.
@@ -182,4 +184,142 @@ fn shift_down(m: &mut [u8], lo: usize, hi: usize, w: usize)
         m[k] = m[k + w];
         k += 1;
     }
+}
+
+// ---- rows and page entries as bytes
+
+fn decode_row(b: &[u8]) -> Row
+    requires { ⌜ length (now b) ≡ 56 ⌝ }
+    ensures { λ r. ⌜ r ≡ rowOf (now (b .entry)) ⌝ }
+{
+    let p = read40(b, 16);
+    Row {
+        key: get4(b, 0),
+        number: get4(b, 4),
+        owner: get4(b, 8),
+        flags: b[12],
+        size: b[13],
+        payload: p,
+    }
+}
+
+fn encode_row(s: Row) -> [u8; 16]
+    ensures { λ r. ⌜ r ≡ numbersOf s ⌝ }
+{
+    let k = split4(s.key);
+    let n = split4(s.number);
+    let o = split4(s.owner);
+    [
+        k[0], k[1], k[2], k[3], n[0], n[1], n[2], n[3], o[0], o[1], o[2], o[3], s.flags, s.size, 0, 0,
+    ]
+}
+
+// The row i, and nothing else.
+fn store_row(m: &mut [u8], i: usize, s: Row)
+    requires { ⌜ 1024 + i * 80 + 80 ≤ length (now m) ⌝ }
+    ensures { λ _. ⌜ Only rowOf 1024 80 56 (now (m .entry)) (now (m .exit)) i s ⌝ }
+{
+    let a = 1024 + i * 80;
+    let b = encode_row(s);
+    let p = s.payload;
+    write(m, a, &b);
+    write(m, a + 16, &p);
+}
+
+fn decode_entry(b: &[u8]) -> Entry
+    requires { ⌜ length (now b) ≡ 6 ⌝ }
+    ensures { λ r. ⌜ r ≡ entryOf (now (b .entry)) ⌝ }
+{
+    Entry {
+        table: b[0],
+        frozen: b[1],
+        count: get2(b, 2),
+        block: get2(b, 4),
+    }
+}
+
+fn encode_entry(e: Entry) -> [u8; 6]
+    ensures { λ r. ⌜ r ≡ entryBytes e ⌝ }
+{
+    let n = split2(e.count);
+    let b = split2(e.block);
+    [e.table, e.frozen, n[0], n[1], b[0], b[1]]
+}
+
+// The page entry i behind room for n rows, and nothing else.
+fn store_entry(m: &mut [u8], n: usize, i: usize, e: Entry)
+    requires { ⌜ 1024 + n * 80 + i * 8 + 8 ≤ length (now m) ⌝ }
+    ensures { λ _. ⌜ Only entryOf (1024 + n * 80) 8 6 (now (m .entry)) (now (m .exit)) i e ⌝ }
+{
+    let b = encode_entry(e);
+    write(m, 1024 + n * 80 + i * 8, &b);
+}
+
+// ---- the head
+
+// The numbers that are no counts.
+pub fn get_head(m: &[u8]) -> Head
+    requires { ⌜ 1024 ≤ length (now m) ⌝ }
+    ensures { λ r. ⌜ r ≡ flatOf (now (m .entry)) .head ⌝ }
+{
+    let b = &m[4..32];
+    Head {
+        capacity: get4(b, 0),
+        blocks: get4(b, 4),
+        level: get4(b, 8),
+        next: get4(b, 12),
+        running: get4(b, 16),
+        begun: get4(b, 20),
+        taken: get4(b, 24),
+    }
+}
+
+// How many rows, pages, open transactions, directory entries, directory blocks: 0 to 4.
+fn count_at(m: &[u8], k: usize) -> u32
+    requires { ⌜ (k < 5) × (1024 ≤ length (now m)) ⌝ }
+    ensures { λ r. ⌜ r ≡ countAt (now (m .entry)) k ⌝ }
+{
+    get4(m, 64 + k * 4)
+}
+
+fn put_count(m: &mut [u8], k: usize, x: u32)
+    requires { ⌜ (k < 5) × (1024 ≤ length (now m)) ⌝ }
+    ensures { λ _. ⌜ Only word 64 4 4 (now (m .entry)) (now (m .exit)) k x ⌝ }
+{
+    put4(m, 64 + k * 4, x);
+}
+
+fn capacity_of(m: &[u8]) -> usize
+    requires { ⌜ 1024 ≤ length (now m) ⌝ }
+    ensures { λ r. ⌜ r ≡ flatOf (now (m .entry)) .head .capacity ⌝ }
+{
+    let h = get_head(m);
+    h.capacity as usize
+}
+
+pub fn get_counts(m: &[u8]) -> Counts
+    requires { ⌜ 1024 ≤ length (now m) ⌝ }
+    ensures { λ r. ⌜ r ≡ countsOf (flatOf (now (m .entry))) ⌝ }
+{
+    Counts {
+        rows: count_at(m, 0),
+        pages: count_at(m, 1),
+        opens: count_at(m, 2),
+        named: count_at(m, 3),
+        directories: count_at(m, 4),
+    }
+}
+
+// The numbers that are no counts, all of them; the counts stay.
+pub fn put_head(m: &mut [u8], h: Head)
+    requires { ⌜ Room (now m) × Replaces (flatOf (now m) .head) h ⌝ }
+    ensures { λ _. ⌜ Becomes (now (m .entry)) (now (m .exit)) (withHead (flatOf (now (m .entry))) h) ⌝ }
+{
+    put4(m, 4, h.capacity);
+    put4(m, 8, h.blocks);
+    put4(m, 12, h.level);
+    put4(m, 16, h.next);
+    put4(m, 20, h.running);
+    put4(m, 24, h.begun);
+    put4(m, 28, h.taken);
 }

@@ -1,0 +1,23 @@
+use Rattle.memory.specs.declared.Head.{Head}
+use mathlib.Core.Path.{ap}
+use borrow.Author.Needs.{needs}
+use Rattle.memory.proofs.capacity_of.Statement.{statement}
+use Rattle.memory.proofs.capacity_of.Tie as tie
+use Rattle.memory.proofs.capacity_of.Reads as reads
+use Rattle.memory.proofs.capacity_of.Lts as lts
+use Rattle.memory.proofs.get_head.Reads as get-head-reads
+
+-- src/lib.rt:296:9
+get-head-requires : tie.Need-get-head-requires
+get-head-requires c κs = search needs
+
+-- src/lib.rt:297:5
+cast-result : tie.Need-cast-result
+cast-result c = search needs
+
+-- src/lib.rt:292:1
+returns : tie.Need-returns
+returns c = ap (λ (h : Head). h .capacity) (c .before .get-head .ensures)
+
+pub capacity-of-spec : {M : Type 1} → statement M
+capacity-of-spec = tie.close (tie.spec get-head-requires cast-result returns)

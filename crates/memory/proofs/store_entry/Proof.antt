@@ -1,0 +1,67 @@
+use Rattle.memory.proofs.Spelling.{stored-entry}
+use Rattle.memory.specs.Views.{entryBytes}
+use Rattle.memory.specs.Bytes.{put}
+use mathlib.Core.List.{List}
+use Prim.Native.Nat.{ℕ, _+_, _*_}
+use mathlib.Core.Path.{_≡_, ap, _∙_}
+use borrow.Author.Needs.{needs}
+use Rattle.memory.proofs.store_entry.Statement.{statement}
+use Rattle.memory.proofs.store_entry.Tie as tie
+use Rattle.memory.proofs.store_entry.Reads as reads
+use Rattle.memory.proofs.store_entry.Lts as lts
+use Rattle.memory.proofs.encode_entry.Reads as encode-entry-reads
+use Rattle.memory.proofs.write.Reads as write-reads
+
+-- src/lib.rt:254:13
+encode-entry-requires : tie.Need-encode-entry-requires
+encode-entry-requires c κs = search needs
+
+-- src/lib.rt:255:21
+mul-write : tie.Need-mul-write
+mul-write c = search needs
+
+-- src/lib.rt:255:14
+add-write : tie.Need-add-write
+add-write c = search needs
+
+-- src/lib.rt:255:30
+mul-write-2 : tie.Need-mul-write-2
+mul-write-2 c = search needs
+
+-- src/lib.rt:255:14
+add-write-2 : tie.Need-add-write-2
+add-write-2 c = search needs
+
+-- src/lib.rt:255:37
+slice-aggregate-write : tie.Need-slice-aggregate-write
+slice-aggregate-write c = search needs
+
+-- src/lib.rt:255:5
+write-requires : tie.Need-write-requires
+write-requires c κs = search needs
+
+-- src/lib.rt:250:1
+same-length : tie.Need-same-length
+same-length c = search needs
+
+-- src/lib.rt:250:1
+returns : tie.Need-returns
+returns c = let st = c .before .before .before .before .before .before .before in
+    let m : List ℕ = st .args .m .now in
+    let a : ℕ = 1024 + st .args .n * 80 + st .args .i * 8 in
+    let e : c .before .before .write .last .0 ≡ put a (entryBytes (st .args .e)) m = c .before .before .write .ensures ∙ ap (λ (b : List ℕ). put a b m) (c .before .before .before .before .before .encode-entry .ensures) in
+    rw e (stored-entry m (1024 + st .args .n * 80) (st .args .i) (st .args .e) (st .pre))
+
+pub store-entry-spec : {M : Type 1} → statement M
+store-entry-spec =
+    tie.close
+    (tie.spec
+    encode-entry-requires
+    mul-write
+    add-write
+    mul-write-2
+    add-write-2
+    slice-aggregate-write
+    write-requires
+    same-length
+    returns)
