@@ -2,3 +2,5 @@ pub mod Laws
 pub mod Cells
 pub mod Spelling
 pub mod Changes
+pub mod Leaves
+pub mod Access

@@ -323,3 +323,213 @@ pub fn put_head(m: &mut [u8], h: Head)
     put4(m, 24, h.begun);
     put4(m, 28, h.taken);
 }
+
+// ---- rows
+
+pub fn get_row(m: &[u8], i: usize) -> Row
+    requires { ⌜ Room (now m) × (i < length (flatOf (now m) .rows)) ⌝ }
+    ensures { λ r. ⌜ r ≡ rowIn (flatOf (now (m .entry))) i ⌝ }
+{
+    let a = 1024 + i * 80;
+    let e = a + 56;
+    decode_row(&m[a..e])
+}
+
+pub fn key_at(m: &[u8], i: usize) -> u32
+    requires { ⌜ Room (now m) × (i < length (flatOf (now m) .rows)) ⌝ }
+    ensures { λ r. ⌜ r ≡ rowIn (flatOf (now (m .entry))) i .key ⌝ }
+{
+    get4(m, 1024 + i * 80)
+}
+
+pub fn number_at(m: &[u8], i: usize) -> u32
+    requires { ⌜ Room (now m) × (i < length (flatOf (now m) .rows)) ⌝ }
+    ensures { λ r. ⌜ r ≡ rowIn (flatOf (now (m .entry))) i .number ⌝ }
+{
+    get4(m, 1024 + i * 80 + 4)
+}
+
+pub fn owner_at(m: &[u8], i: usize) -> u32
+    requires { ⌜ Room (now m) × (i < length (flatOf (now m) .rows)) ⌝ }
+    ensures { λ r. ⌜ r ≡ rowIn (flatOf (now (m .entry))) i .owner ⌝ }
+{
+    get4(m, 1024 + i * 80 + 8)
+}
+
+pub fn flags_at(m: &[u8], i: usize) -> u8
+    requires { ⌜ Room (now m) × (i < length (flatOf (now m) .rows)) ⌝ }
+    ensures { λ r. ⌜ r ≡ rowIn (flatOf (now (m .entry))) i .flags ⌝ }
+{
+    m[1024 + i * 80 + 12]
+}
+
+pub fn size_at(m: &[u8], i: usize) -> u8
+    requires { ⌜ Room (now m) × (i < length (flatOf (now m) .rows)) ⌝ }
+    ensures { λ r. ⌜ r ≡ rowIn (flatOf (now (m .entry))) i .size ⌝ }
+{
+    m[1024 + i * 80 + 13]
+}
+
+pub fn put_row(m: &mut [u8], i: usize, s: Row)
+    requires { ⌜ Room (now m) × (i < length (flatOf (now m) .rows)) ⌝ }
+    ensures { λ _. ⌜ Becomes (now (m .entry)) (now (m .exit)) (withRows (flatOf (now (m .entry))) (set (flatOf (now (m .entry)) .rows) i s)) ⌝ }
+{
+    store_row(m, i, s);
+}
+
+pub fn insert_row(m: &mut [u8], i: usize, s: Row)
+    requires { ⌜ Room (now m) × ((i ≤ length (flatOf (now m) .rows)) × (length (flatOf (now m) .rows) < flatOf (now m) .head .capacity)) ⌝ }
+    ensures { λ _. ⌜ Becomes (now (m .entry)) (now (m .exit)) (withRows (flatOf (now (m .entry))) (insertAt i s (flatOf (now (m .entry)) .rows))) ⌝ }
+{
+    let n = count_at(m, 0);
+    let k = n as usize;
+    shift_up(m, 1024 + i * 80, 1024 + k * 80, 80);
+    store_row(m, i, s);
+    put_count(m, 0, n + 1);
+}
+
+pub fn remove_row(m: &mut [u8], i: usize)
+    requires { ⌜ Room (now m) × (i < length (flatOf (now m) .rows)) ⌝ }
+    ensures { λ _. ⌜ Becomes (now (m .entry)) (now (m .exit)) (withRows (flatOf (now (m .entry))) (removeAt i (flatOf (now (m .entry)) .rows))) ⌝ }
+{
+    let n = count_at(m, 0);
+    let k = n as usize;
+    shift_down(m, 1024 + i * 80, 1024 + k * 80, 80);
+    put_count(m, 0, n - 1);
+}
+
+// ---- page entries
+
+pub fn get_entry(m: &[u8], p: usize) -> Entry
+    requires { ⌜ Room (now m) × (p < length (flatOf (now m) .entries)) ⌝ }
+    ensures { λ r. ⌜ r ≡ entryIn (flatOf (now (m .entry))) p ⌝ }
+{
+    let n = capacity_of(m);
+    let a = 1024 + n * 80 + p * 8;
+    let e = a + 6;
+    decode_entry(&m[a..e])
+}
+
+pub fn put_entry(m: &mut [u8], p: usize, e: Entry)
+    requires { ⌜ Room (now m) × (p < length (flatOf (now m) .entries)) ⌝ }
+    ensures { λ _. ⌜ Becomes (now (m .entry)) (now (m .exit)) (withEntries (flatOf (now (m .entry))) (set (flatOf (now (m .entry)) .entries) p e)) ⌝ }
+{
+    let n = capacity_of(m);
+    store_entry(m, n, p, e);
+}
+
+pub fn insert_entry(m: &mut [u8], p: usize, e: Entry)
+    requires { ⌜ Room (now m) × ((p ≤ length (flatOf (now m) .entries)) × (length (flatOf (now m) .entries) < flatOf (now m) .head .capacity)) ⌝ }
+    ensures { λ _. ⌜ Becomes (now (m .entry)) (now (m .exit)) (withEntries (flatOf (now (m .entry))) (insertAt p e (flatOf (now (m .entry)) .entries))) ⌝ }
+{
+    let n = capacity_of(m);
+    let c = count_at(m, 1);
+    let k = c as usize;
+    let b = 1024 + n * 80;
+    shift_up(m, b + p * 8, b + k * 8, 8);
+    store_entry(m, n, p, e);
+    put_count(m, 1, c + 1);
+}
+
+pub fn remove_entry(m: &mut [u8], p: usize)
+    requires { ⌜ Room (now m) × (p < length (flatOf (now m) .entries)) ⌝ }
+    ensures { λ _. ⌜ Becomes (now (m .entry)) (now (m .exit)) (withEntries (flatOf (now (m .entry))) (removeAt p (flatOf (now (m .entry)) .entries))) ⌝ }
+{
+    let n = capacity_of(m);
+    let c = count_at(m, 1);
+    let k = c as usize;
+    let b = 1024 + n * 80;
+    shift_down(m, b + p * 8, b + k * 8, 8);
+    put_count(m, 1, c - 1);
+}
+
+// ---- open transactions, in the order in which they opened
+
+pub fn get_open(m: &[u8], i: usize) -> u32
+    requires { ⌜ Room (now m) × (i < length (flatOf (now m) .opens)) ⌝ }
+    ensures { λ r. ⌜ r ≡ getD (flatOf (now (m .entry)) .opens) i 0 ⌝ }
+{
+    get4(m, 128 + i * 4)
+}
+
+pub fn push_open(m: &mut [u8], x: u32)
+    requires { ⌜ Room (now m) × (length (flatOf (now m) .opens) < 64) ⌝ }
+    ensures { λ _. ⌜ Becomes (now (m .entry)) (now (m .exit)) (withOpens (flatOf (now (m .entry))) (flatOf (now (m .entry)) .opens ++ x ∷ [])) ⌝ }
+{
+    let n = count_at(m, 2);
+    let k = n as usize;
+    put4(m, 128 + k * 4, x);
+    put_count(m, 2, n + 1);
+}
+
+pub fn remove_open(m: &mut [u8], i: usize)
+    requires { ⌜ Room (now m) × (i < length (flatOf (now m) .opens)) ⌝ }
+    ensures { λ _. ⌜ Becomes (now (m .entry)) (now (m .exit)) (withOpens (flatOf (now (m .entry))) (removeAt i (flatOf (now (m .entry)) .opens))) ⌝ }
+{
+    let n = count_at(m, 2);
+    let k = n as usize;
+    shift_down(m, 128 + i * 4, 128 + k * 4, 4);
+    put_count(m, 2, n - 1);
+}
+
+// ---- directory entries
+
+pub fn get_named(m: &[u8], i: usize) -> u16
+    requires { ⌜ Room (now m) × (i < length (flatOf (now m) .named)) ⌝ }
+    ensures { λ r. ⌜ r ≡ getD (flatOf (now (m .entry)) .named) i 0 ⌝ }
+{
+    let n = capacity_of(m);
+    get2(m, 1024 + n * 88 + i * 2)
+}
+
+pub fn put_named(m: &mut [u8], i: usize, x: u16)
+    requires { ⌜ Room (now m) × (i < length (flatOf (now m) .named)) ⌝ }
+    ensures { λ _. ⌜ Becomes (now (m .entry)) (now (m .exit)) (withNamed (flatOf (now (m .entry))) (set (flatOf (now (m .entry)) .named) i x)) ⌝ }
+{
+    let n = capacity_of(m);
+    put2(m, 1024 + n * 88 + i * 2, x);
+}
+
+pub fn push_named(m: &mut [u8], x: u16)
+    requires { ⌜ Room (now m) × (length (flatOf (now m) .named) < flatOf (now m) .head .capacity) ⌝ }
+    ensures { λ _. ⌜ Becomes (now (m .entry)) (now (m .exit)) (withNamed (flatOf (now (m .entry))) (flatOf (now (m .entry)) .named ++ x ∷ [])) ⌝ }
+{
+    let n = capacity_of(m);
+    let c = count_at(m, 3);
+    let k = c as usize;
+    put2(m, 1024 + n * 88 + k * 2, x);
+    put_count(m, 3, c + 1);
+}
+
+pub fn clear_named(m: &mut [u8])
+    requires { ⌜ Room (now m) ⌝ }
+    ensures { λ _. ⌜ Becomes (now (m .entry)) (now (m .exit)) (withNamed (flatOf (now (m .entry))) []) ⌝ }
+{
+    put_count(m, 3, 0);
+}
+
+// ---- directory blocks written
+
+pub fn get_directory(m: &[u8], i: usize) -> u32
+    requires { ⌜ Room (now m) × (i < length (flatOf (now m) .directories)) ⌝ }
+    ensures { λ r. ⌜ r ≡ getD (flatOf (now (m .entry)) .directories) i 0 ⌝ }
+{
+    get4(m, 96 + i * 4)
+}
+
+pub fn push_directory(m: &mut [u8], x: u32)
+    requires { ⌜ Room (now m) × (length (flatOf (now m) .directories) < 4) ⌝ }
+    ensures { λ _. ⌜ Becomes (now (m .entry)) (now (m .exit)) (withDirectories (flatOf (now (m .entry))) (flatOf (now (m .entry)) .directories ++ x ∷ [])) ⌝ }
+{
+    let n = count_at(m, 4);
+    let k = n as usize;
+    put4(m, 96 + k * 4, x);
+    put_count(m, 4, n + 1);
+}
+
+pub fn clear_directories(m: &mut [u8])
+    requires { ⌜ Room (now m) ⌝ }
+    ensures { λ _. ⌜ Becomes (now (m .entry)) (now (m .exit)) (withDirectories (flatOf (now (m .entry))) []) ⌝ }
+{
+    put_count(m, 4, 0);
+}

@@ -7,15 +7,12 @@ use Rattle.memory.proofs.capacity_of.Reads as reads
 use Rattle.memory.proofs.capacity_of.Lts as lts
 use Rattle.memory.proofs.get_head.Reads as get-head-reads
 
--- src/lib.rt:296:9
 get-head-requires : tie.Need-get-head-requires
 get-head-requires c κs = search needs
 
--- src/lib.rt:297:5
 cast-result : tie.Need-cast-result
 cast-result c = search needs
 
--- src/lib.rt:292:1
 returns : tie.Need-returns
 returns c = ap (λ (h : Head). h .capacity) (c .before .get-head .ensures)
 

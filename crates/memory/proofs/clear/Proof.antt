@@ -16,27 +16,21 @@ Inv-loop m₀ a n j₀ m j = (j ≤ n) × ((length m ≡ length m₀) × (m ≡ 
 abbrev μ-loop : tie.MeasureT-loop
 μ-loop m₀ a n j₀ m j = n - j
 
--- src/lib.rt:156:5
 loop-holds : tie.Need-loop-holds Inv-loop μ-loop
 loop-holds c = (omega arith, (refl, paste-zero (c .args .m .now) (c .args .a) (replicate (c .args .n) 0)))
 
--- src/lib.rt:157:11
 add-m : tie.Need-add-m Inv-loop μ-loop
 add-m c = omega arith
 
--- src/lib.rt:157:9
 slice-write-m : tie.Need-slice-write-m Inv-loop μ-loop
 slice-write-m c = omega arith
 
--- src/lib.rt:158:9
 add-j : tie.Need-add-j Inv-loop μ-loop
 add-j c = omega arith
 
--- src/lib.rt:156:5
 loop-less : tie.Need-loop-less Inv-loop μ-loop
 loop-less c = omega arith
 
--- src/lib.rt:156:5
 loop-again : tie.Need-loop-again Inv-loop μ-loop
 loop-again c = let l = c .before in
     let b = l .before in
@@ -50,11 +44,9 @@ loop-again c = let l = c .before in
     (omega arith, (simp length-set (l .loop .inv .1 .0),
     ap (set (l .loop .m) (a + j)) v ∙ rw (l .loop .inv .1 .1, add-one, paste-suc m₀ a src j 0 h2 h1)))
 
--- src/lib.rt:151:1
 same-length : tie.Need-same-length Inv-loop μ-loop
 same-length c = c .before .loop .inv .1 .0
 
--- src/lib.rt:151:1
 returns : tie.Need-returns Inv-loop μ-loop
 returns c = let l = c .before in
     let b = l .before in

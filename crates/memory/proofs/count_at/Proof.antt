@@ -8,19 +8,15 @@ use Rattle.memory.proofs.count_at.Reads as reads
 use Rattle.memory.proofs.count_at.Lts as lts
 use Rattle.memory.proofs.get4.Reads as get4-reads
 
--- src/lib.rt:282:18
 mul-get4 : tie.Need-mul-get4
 mul-get4 c = search needs
 
--- src/lib.rt:282:13
 add-get4 : tie.Need-add-get4
 add-get4 c = search needs
 
--- src/lib.rt:282:5
 get4-requires : tie.Need-get4-requires
 get4-requires c κs = search needs
 
--- src/lib.rt:278:1
 returns : tie.Need-returns
 unfolding cell
 returns c = c .get4 .ensures ∙ sym (word-at _ _)

@@ -7,31 +7,24 @@ use Rattle.memory.proofs.decode_row.Lts as lts
 use Rattle.memory.proofs.get4.Reads as get4-reads
 use Rattle.memory.proofs.read40.Reads as read40-reads
 
--- src/lib.rt:195:9
 read40-requires : tie.Need-read40-requires
 read40-requires c κs = search needs
 
--- src/lib.rt:197:14
 get4-requires : tie.Need-get4-requires
 get4-requires c κs = search needs
 
--- src/lib.rt:198:17
 get4-requires-2 : tie.Need-get4-requires-2
 get4-requires-2 c κs = search needs
 
--- src/lib.rt:199:16
 get4-requires-3 : tie.Need-get4-requires-3
 get4-requires-3 c κs = search needs
 
--- src/lib.rt:200:16
 shared-slice-read-t7 : tie.Need-shared-slice-read-t7
 shared-slice-read-t7 c = search needs
 
--- src/lib.rt:201:15
 shared-slice-read-t9 : tie.Need-shared-slice-read-t9
 shared-slice-read-t9 c = search needs
 
--- src/lib.rt:191:1
 returns : tie.Need-returns
 unfolding rowOf
 returns c = cc

@@ -9,31 +9,24 @@ use Rattle.memory.proofs.encode_entry.Reads as reads
 use Rattle.memory.proofs.encode_entry.Lts as lts
 use Rattle.memory.proofs.split2.Reads as split2-reads
 
--- src/lib.rt:244:13
 split2-requires : tie.Need-split2-requires
 split2-requires c κs = search needs
 
--- src/lib.rt:245:13
 split2-requires-2 : tie.Need-split2-requires-2
 split2-requires-2 c κs = search needs
 
--- src/lib.rt:246:25
 array-read-t7 : tie.Need-array-read-t7
 array-read-t7 c = search needs
 
--- src/lib.rt:246:31
 array-read-t10 : tie.Need-array-read-t10
 array-read-t10 c = search needs
 
--- src/lib.rt:246:37
 array-read-t13 : tie.Need-array-read-t13
 array-read-t13 c = search needs
 
--- src/lib.rt:246:43
 array-read-t16 : tie.Need-array-read-t16
 array-read-t16 c = search needs
 
--- src/lib.rt:241:1
 returns : tie.Need-returns
 unfolding entryBytes bytes2
 returns c = let e = c .before .before .args .e in

@@ -9,67 +9,51 @@ use Rattle.memory.proofs.encode_row.Reads as reads
 use Rattle.memory.proofs.encode_row.Lts as lts
 use Rattle.memory.proofs.split4.Reads as split4-reads
 
--- src/lib.rt:209:13
 split4-requires : tie.Need-split4-requires
 split4-requires c κs = search needs
 
--- src/lib.rt:210:13
 split4-requires-2 : tie.Need-split4-requires-2
 split4-requires-2 c κs = search needs
 
--- src/lib.rt:211:13
 split4-requires-3 : tie.Need-split4-requires-3
 split4-requires-3 c κs = search needs
 
--- src/lib.rt:213:9
 array-read-t8 : tie.Need-array-read-t8
 array-read-t8 c = search needs
 
--- src/lib.rt:213:15
 array-read-t11 : tie.Need-array-read-t11
 array-read-t11 c = search needs
 
--- src/lib.rt:213:21
 array-read-t14 : tie.Need-array-read-t14
 array-read-t14 c = search needs
 
--- src/lib.rt:213:27
 array-read-t17 : tie.Need-array-read-t17
 array-read-t17 c = search needs
 
--- src/lib.rt:213:33
 array-read-t20 : tie.Need-array-read-t20
 array-read-t20 c = search needs
 
--- src/lib.rt:213:39
 array-read-t23 : tie.Need-array-read-t23
 array-read-t23 c = search needs
 
--- src/lib.rt:213:45
 array-read-t26 : tie.Need-array-read-t26
 array-read-t26 c = search needs
 
--- src/lib.rt:213:51
 array-read-t29 : tie.Need-array-read-t29
 array-read-t29 c = search needs
 
--- src/lib.rt:213:57
 array-read-t32 : tie.Need-array-read-t32
 array-read-t32 c = search needs
 
--- src/lib.rt:213:63
 array-read-t35 : tie.Need-array-read-t35
 array-read-t35 c = search needs
 
--- src/lib.rt:213:69
 array-read-t38 : tie.Need-array-read-t38
 array-read-t38 c = search needs
 
--- src/lib.rt:213:75
 array-read-t41 : tie.Need-array-read-t41
 array-read-t41 c = search needs
 
--- src/lib.rt:206:1
 returns : tie.Need-returns
 unfolding numbersOf bytes4
 returns c = let k = c .before .before .split4 .ensures in

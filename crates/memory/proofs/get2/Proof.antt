@@ -6,23 +6,18 @@ use Rattle.memory.proofs.get2.Reads as reads
 use Rattle.memory.proofs.get2.Lts as lts
 use Rattle.memory.proofs.join2.Reads as join2-reads
 
--- src/lib.rt:90:11
 shared-slice-read-join2 : tie.Need-shared-slice-read-join2
 shared-slice-read-join2 c = search needs
 
--- src/lib.rt:90:19
 add-join2 : tie.Need-add-join2
 add-join2 c = search needs
 
--- src/lib.rt:90:17
 shared-slice-read-join2-2 : tie.Need-shared-slice-read-join2-2
 shared-slice-read-join2-2 c = search needs
 
--- src/lib.rt:90:5
 join2-requires : tie.Need-join2-requires
 join2-requires c κs = search needs
 
--- src/lib.rt:86:1
 returns : tie.Need-returns
 unfolding num2
 returns c = search needs

@@ -6,39 +6,30 @@ use Rattle.memory.proofs.get4.Reads as reads
 use Rattle.memory.proofs.get4.Lts as lts
 use Rattle.memory.proofs.join4.Reads as join4-reads
 
--- src/lib.rt:83:11
 shared-slice-read-join4 : tie.Need-shared-slice-read-join4
 shared-slice-read-join4 c = search needs
 
--- src/lib.rt:83:19
 add-join4 : tie.Need-add-join4
 add-join4 c = search needs
 
--- src/lib.rt:83:17
 shared-slice-read-join4-2 : tie.Need-shared-slice-read-join4-2
 shared-slice-read-join4-2 c = search needs
 
--- src/lib.rt:83:29
 add-join4-2 : tie.Need-add-join4-2
 add-join4-2 c = search needs
 
--- src/lib.rt:83:27
 shared-slice-read-join4-3 : tie.Need-shared-slice-read-join4-3
 shared-slice-read-join4-3 c = search needs
 
--- src/lib.rt:83:39
 add-join4-3 : tie.Need-add-join4-3
 add-join4-3 c = search needs
 
--- src/lib.rt:83:37
 shared-slice-read-join4-4 : tie.Need-shared-slice-read-join4-4
 shared-slice-read-join4-4 c = search needs
 
--- src/lib.rt:83:5
 join4-requires : tie.Need-join4-requires
 join4-requires c κs = search needs
 
--- src/lib.rt:79:1
 returns : tie.Need-returns
 unfolding num4
 returns c = search needs

@@ -9,27 +9,21 @@ use Rattle.memory.proofs.get_counts.Reads as reads
 use Rattle.memory.proofs.get_counts.Lts as lts
 use Rattle.memory.proofs.count_at.Reads as count-at-reads
 
--- src/lib.rt:305:15
 count-at-requires : tie.Need-count-at-requires
 count-at-requires c κs = search needs
 
--- src/lib.rt:306:16
 count-at-requires-2 : tie.Need-count-at-requires-2
 count-at-requires-2 c κs = search needs
 
--- src/lib.rt:307:16
 count-at-requires-3 : tie.Need-count-at-requires-3
 count-at-requires-3 c κs = search needs
 
--- src/lib.rt:308:16
 count-at-requires-4 : tie.Need-count-at-requires-4
 count-at-requires-4 c κs = search needs
 
--- src/lib.rt:309:22
 count-at-requires-5 : tie.Need-count-at-requires-5
 count-at-requires-5 c κs = search needs
 
--- src/lib.rt:300:1
 returns : tie.Need-returns
 returns c = let m : List ℕ = c .before .before .before .before .before .before .args .m .now in
     λ i. record {

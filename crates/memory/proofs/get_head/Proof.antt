@@ -6,47 +6,36 @@ use Rattle.memory.proofs.get_head.Reads as reads
 use Rattle.memory.proofs.get_head.Lts as lts
 use Rattle.memory.proofs.get4.Reads as get4-reads
 
--- src/lib.rt:265:13
 sub-b : tie.Need-sub-b
 sub-b c = search needs
 
--- src/lib.rt:265:13
 part-b-start : tie.Need-part-b-start
 part-b-start c = search needs
 
--- src/lib.rt:265:13
 part-b-end : tie.Need-part-b-end
 part-b-end c = search needs
 
--- src/lib.rt:267:19
 get4-requires : tie.Need-get4-requires
 get4-requires c κs = search needs
 
--- src/lib.rt:268:17
 get4-requires-2 : tie.Need-get4-requires-2
 get4-requires-2 c κs = search needs
 
--- src/lib.rt:269:16
 get4-requires-3 : tie.Need-get4-requires-3
 get4-requires-3 c κs = search needs
 
--- src/lib.rt:270:15
 get4-requires-4 : tie.Need-get4-requires-4
 get4-requires-4 c κs = search needs
 
--- src/lib.rt:271:18
 get4-requires-5 : tie.Need-get4-requires-5
 get4-requires-5 c κs = search needs
 
--- src/lib.rt:272:16
 get4-requires-6 : tie.Need-get4-requires-6
 get4-requires-6 c κs = search needs
 
--- src/lib.rt:273:16
 get4-requires-7 : tie.Need-get4-requires-7
 get4-requires-7 c κs = search needs
 
--- src/lib.rt:261:1
 returns : tie.Need-returns
 unfolding headOf headAt
 returns c = λ i. record {

@@ -10,23 +10,18 @@ use Rattle.memory.proofs.put2.Lts as lts
 use Rattle.memory.proofs.split2.Reads as split2-reads
 use Rattle.memory.proofs.write.Reads as write-reads
 
--- src/lib.rt:132:13
 split2-requires : tie.Need-split2-requires
 split2-requires c κs = search needs
 
--- src/lib.rt:133:17
 slice-aggregate-write : tie.Need-slice-aggregate-write
 slice-aggregate-write c = search needs
 
--- src/lib.rt:133:5
 write-requires : tie.Need-write-requires
 write-requires c κs = search needs
 
--- src/lib.rt:128:1
 same-length : tie.Need-same-length
 same-length c = search needs
 
--- src/lib.rt:128:1
 returns : tie.Need-returns
 returns c = let w = c .before .before in
     let st = w .before .before .before .before .before in

@@ -10,23 +10,18 @@ use Rattle.memory.proofs.put4.Lts as lts
 use Rattle.memory.proofs.split4.Reads as split4-reads
 use Rattle.memory.proofs.write.Reads as write-reads
 
--- src/lib.rt:124:13
 split4-requires : tie.Need-split4-requires
 split4-requires c κs = search needs
 
--- src/lib.rt:125:17
 slice-aggregate-write : tie.Need-slice-aggregate-write
 slice-aggregate-write c = search needs
 
--- src/lib.rt:125:5
 write-requires : tie.Need-write-requires
 write-requires c κs = search needs
 
--- src/lib.rt:120:1
 same-length : tie.Need-same-length
 same-length c = search needs
 
--- src/lib.rt:120:1
 returns : tie.Need-returns
 returns c = let w = c .before .before in
     let st = w .before .before .before .before .before in

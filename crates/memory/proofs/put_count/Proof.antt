@@ -7,23 +7,18 @@ use Rattle.memory.proofs.put_count.Reads as reads
 use Rattle.memory.proofs.put_count.Lts as lts
 use Rattle.memory.proofs.put4.Reads as put4-reads
 
--- src/lib.rt:289:18
 mul-put4 : tie.Need-mul-put4
 mul-put4 c = search needs
 
--- src/lib.rt:289:13
 add-put4 : tie.Need-add-put4
 add-put4 c = search needs
 
--- src/lib.rt:289:5
 put4-requires : tie.Need-put4-requires
 put4-requires c κs = search needs
 
--- src/lib.rt:285:1
 same-length : tie.Need-same-length
 same-length c = search needs
 
--- src/lib.rt:285:1
 returns : tie.Need-returns
 returns c = let st = c .before .before .before .before .before in
     rw (c .before .before .put4 .ensures) (stored-word (st .args .m .now) 64 (st .args .k) (st .args .x) (omega arith))

@@ -15,39 +15,30 @@ use Rattle.memory.proofs.put_head.Reads as reads
 use Rattle.memory.proofs.put_head.Lts as lts
 use Rattle.memory.proofs.put4.Reads as put4-reads
 
--- src/lib.rt:318:5
 put4-requires : tie.Need-put4-requires
 put4-requires c κs = search needs
 
--- src/lib.rt:319:5
 put4-requires-2 : tie.Need-put4-requires-2
 put4-requires-2 c κs = search needs
 
--- src/lib.rt:320:5
 put4-requires-3 : tie.Need-put4-requires-3
 put4-requires-3 c κs = search needs
 
--- src/lib.rt:321:5
 put4-requires-4 : tie.Need-put4-requires-4
 put4-requires-4 c κs = search needs
 
--- src/lib.rt:322:5
 put4-requires-5 : tie.Need-put4-requires-5
 put4-requires-5 c κs = search needs
 
--- src/lib.rt:323:5
 put4-requires-6 : tie.Need-put4-requires-6
 put4-requires-6 c κs = search needs
 
--- src/lib.rt:324:5
 put4-requires-7 : tie.Need-put4-requires-7
 put4-requires-7 c κs = search needs
 
--- src/lib.rt:314:1
 same-length : tie.Need-same-length
 same-length c = search needs
 
--- src/lib.rt:314:1
 returns : tie.Need-returns
 returns c = let w7 = c .before .before in
     let w6 = w7 .before .before .before .before in

@@ -6,15 +6,12 @@ use Rattle.memory.proofs.split2.Tie as tie
 use Rattle.memory.proofs.split2.Reads as reads
 use Rattle.memory.proofs.split2.Lts as lts
 
--- src/lib.rt:103:6
 cast-t3 : tie.Need-cast-t3
 cast-t3 c = search needs
 
--- src/lib.rt:103:23
 cast-t5 : tie.Need-cast-t5
 cast-t5 c = search needs
 
--- src/lib.rt:100:1
 returns : tie.Need-returns
 unfolding bytes2
 returns c = refl

@@ -6,23 +6,18 @@ use Rattle.memory.proofs.split4.Tie as tie
 use Rattle.memory.proofs.split4.Reads as reads
 use Rattle.memory.proofs.split4.Lts as lts
 
--- src/lib.rt:97:6
 cast-t3 : tie.Need-cast-t3
 cast-t3 c = search needs
 
--- src/lib.rt:97:28
 cast-t6 : tie.Need-cast-t6
 cast-t6 c = search needs
 
--- src/lib.rt:97:53
 cast-t9 : tie.Need-cast-t9
 cast-t9 c = search needs
 
--- src/lib.rt:97:76
 cast-t11 : tie.Need-cast-t11
 cast-t11 c = search needs
 
--- src/lib.rt:94:1
 returns : tie.Need-returns
 unfolding bytes4
 returns c = refl

@@ -12,39 +12,30 @@ use Rattle.memory.proofs.store_entry.Lts as lts
 use Rattle.memory.proofs.encode_entry.Reads as encode-entry-reads
 use Rattle.memory.proofs.write.Reads as write-reads
 
--- src/lib.rt:254:13
 encode-entry-requires : tie.Need-encode-entry-requires
 encode-entry-requires c κs = search needs
 
--- src/lib.rt:255:21
 mul-write : tie.Need-mul-write
 mul-write c = search needs
 
--- src/lib.rt:255:14
 add-write : tie.Need-add-write
 add-write c = search needs
 
--- src/lib.rt:255:30
 mul-write-2 : tie.Need-mul-write-2
 mul-write-2 c = search needs
 
--- src/lib.rt:255:14
 add-write-2 : tie.Need-add-write-2
 add-write-2 c = search needs
 
--- src/lib.rt:255:37
 slice-aggregate-write : tie.Need-slice-aggregate-write
 slice-aggregate-write c = search needs
 
--- src/lib.rt:255:5
 write-requires : tie.Need-write-requires
 write-requires c κs = search needs
 
--- src/lib.rt:250:1
 same-length : tie.Need-same-length
 same-length c = search needs
 
--- src/lib.rt:250:1
 returns : tie.Need-returns
 returns c = let st = c .before .before .before .before .before .before .before in
     let m : List ℕ = st .args .m .now in

@@ -16,45 +16,35 @@ use Rattle.memory.proofs.store_row.Lts as lts
 use Rattle.memory.proofs.encode_row.Reads as encode-row-reads
 use Rattle.memory.proofs.write.Reads as write-reads
 
--- src/lib.rt:222:20
 mul-a : tie.Need-mul-a
 mul-a c = search needs
 
--- src/lib.rt:222:13
 add-a : tie.Need-add-a
 add-a c = search needs
 
--- src/lib.rt:223:13
 encode-row-requires : tie.Need-encode-row-requires
 encode-row-requires c κs = search needs
 
--- src/lib.rt:225:17
 slice-aggregate-write : tie.Need-slice-aggregate-write
 slice-aggregate-write c = search needs
 
--- src/lib.rt:225:5
 write-requires : tie.Need-write-requires
 write-requires c κs = search needs
 
--- src/lib.rt:226:14
 add-write : tie.Need-add-write
 add-write c = search needs
 
--- src/lib.rt:226:22
 slice-aggregate-write-2 : tie.Need-slice-aggregate-write-2
 slice-aggregate-write-2 c = search needs
 
--- src/lib.rt:226:5
 write-requires-2 : tie.Need-write-requires-2
 write-requires-2 c κs = let s : Row = c .before .before .before .before .before .before .before .before .before .before .args .s in
     let l : length (s .payload) ≡ 40 = search needs in
     omega arith
 
--- src/lib.rt:218:1
 same-length : tie.Need-same-length
 same-length c = search needs
 
--- src/lib.rt:218:1
 returns : tie.Need-returns
 unfolding numbersOf bytes4
 returns c = let w2 = c .before .before in
