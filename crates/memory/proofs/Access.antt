@@ -26,13 +26,18 @@ num4-cut a w o m h =
     let e3 = byte-cut a w o 3 m (omega arith) in
     rw (e0, e1, e2, e3)
 
+pub num2-cut : (a w o : ℕ) (m : List ℕ) → o + 2 ≤ w → num2 (cut a w m) o ≡ num2 m (a + o)
+unfolding num2
+num2-cut a w o m h =
+    let e0 : getD (cut a w m) o 0 ≡ getD m (a + o) 0 = getD-cut a w o m (omega arith) in
+    let e1 = byte-cut a w o 1 m (omega arith) in
+    rw (e0, e1)
+
 pub half-at : (m : List ℕ) (a : ℕ) → half (cut a 2 m) ≡ num2 m a
-unfolding half num2
+unfolding half
 half-at m a =
-    let e0 : getD (cut a 2 m) 0 0 ≡ getD m (a + 0) 0 = getD-cut a 2 0 m (omega arith) in
-    let e1 = getD-cut a 2 1 m (omega arith) in
     let z : a + 0 ≡ a = omega arith in
-    rw (e0, e1, z)
+    num2-cut a 2 0 m (omega arith) ∙ ap (num2 m) z
 
 module _ (m : List ℕ) (i : ℕ) where
   module _ (h : i < length (rowsOf m)) where
@@ -81,3 +86,10 @@ module _ (m : List ℕ) (i : ℕ) where
   pub directory-is : i < length (directoriesOf m) → num4 m (96 + i * 4) ≡ getD (directoriesOf m) i 0
   unfolding directoriesOf cell
   directory-is h = sym (tab-at (cell word 96 4 4 m) (countAt m 4) i 0 (omega (arith, directories-count m)) ∙ word-at m (96 + i * 4))
+
+-- the row count of page entry i
+pub count-is : (m : List ℕ) (n i : ℕ) → num2 m (1024 + n * 80 + 2 + i * 8) ≡ cell entryOf (1024 + n * 80) 8 6 m i .count
+unfolding cell entryOf
+count-is m n i =
+    let e : 1024 + n * 80 + i * 8 + 2 ≡ 1024 + n * 80 + 2 + i * 8 = omega arith in
+    sym (num2-cut (1024 + n * 80 + i * 8) 6 2 m (omega arith) ∙ ap (num2 m) e)

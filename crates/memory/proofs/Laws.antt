@@ -217,3 +217,9 @@ module _ {A : Type 0} (f g : ℕ → A) (n at : ℕ) where
       let t : take at (tab f 0 n) ≡ tab f 0 at = take-tab f 0 at n (omega arith) in
       let d : drop (at + 1) (tab f 0 n) ≡ tab f (0 + (at + 1)) (n - (at + 1)) = drop-tab f 0 (at + 1) n (omega arith) in
       ap (tab g 0) e ∙ tab-add g 0 at (n - (at + 1)) ∙ cc
+
+pub tab-next : {A : Type 0} (f : ℕ → A) (i n : ℕ) → i < n → tab f i (n - i) ≡ f i ∷ tab f (i + 1) (n - (i + 1))
+tab-next f i n h =
+    let e : n - i ≡ suc (n - (i + 1)) = omega arith in
+    let e2 : suc i ≡ i + 1 = omega arith in
+    ap (tab f i) e ∙ ap (λ (z : ℕ). f i ∷ tab f z (n - (i + 1))) e2

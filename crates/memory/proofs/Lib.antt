@@ -4,3 +4,5 @@ pub mod Spelling
 pub mod Changes
 pub mod Leaves
 pub mod Access
+pub mod Marks
+pub mod Refusal

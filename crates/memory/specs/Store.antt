@@ -101,9 +101,12 @@ total es = sum (λ e. e .count) es
 unfoldable pub hasRows : Entry → Bool
 hasRows e = leb 1 (e .count)
 
--- each page has a row, and together they have all
-unfoldable pub filled : Flat → Bool
-filled f = every (all hasRows (f .entries) ∷ eqb (total (f .entries)) (length (f .rows)) ∷ [])
+-- each page has a row, and together they have n
+unfoldable pub fillsRows : List Entry → ℕ → Bool
+fillsRows es n = every (all hasRows es ∷ eqb (total es) n ∷ [])
+
+abbrev pub filled : Flat → Bool
+filled f = fillsRows (f .entries) (length (f .rows))
 
 unfoldable pub holdsStore : List ℕ → Bool
 holdsStore m =

@@ -6,12 +6,14 @@ ghost use mathlib.Core.Bool.{Bool, false};
 ghost use mathlib.Core.Option.{some};
 ghost use mathlib.Core.List.{List, _∷_, [], _++_};
 ghost use Prim.Native.Nat.{ℕ, _+_, _*_, _-_, _/_, _%_, _^_, _≤_, _<_};
+ghost use lib.Dec.{eqb};
+ghost use lib.Bits.{bitOr};
 ghost use lib.ListN.{length, take, drop, getD, set, replicate};
 ghost use Rattle.blocks.specs.Numbers.{num4};
 ghost use Rattle.memory.specs.Bytes.{num2, bytes4, bytes2, cut, put, Shifted, Lowered};
-ghost use Rattle.memory.specs.Views.{rowOf, entryOf, headOf, word, half, numbersOf, entryBytes, headBytes, headAt, countAt, Only};
+ghost use Rattle.memory.specs.Views.{rowOf, entryOf, headOf, word, half, numbersOf, entryBytes, headBytes, headAt, countAt, entriesAt, Only};
 ghost use Rattle.memory.specs.Flat.{flatOf, countsOf, rowIn, entryIn, Room, Replaces, Becomes, withHead, withOpens, withRows, withEntries, withNamed, withDirectories, withUsed, insertAt, removeAt, usedAnd};
-ghost use Rattle.memory.specs.Store.{inRange, holdsStore};
+ghost use Rattle.memory.specs.Store.{inRange, fillsRows, holdsStore};
 
 // A tuple with its pending operation. flags: bit 0 tentative, bit 1 delete mark, bits 2 and 3 pending (0 nothing, 1 adding,
 // 2 committing, 3 removing). owner: the transaction above 20 bits of statement.
@@ -532,4 +534,100 @@ pub fn clear_directories(m: &mut [u8])
     ensures { λ _. ⌜ Becomes (now (m .entry)) (now (m .exit)) (withDirectories (flatOf (now (m .entry))) []) ⌝ }
 {
     put_count(m, 4, 0);
+}
+
+// ---- blocks in use
+
+// bit k of x, from the low end
+fn bit(x: u8, k: usize) -> bool
+    requires { ⌜ k < 8 ⌝ }
+    ensures { λ r. ⌜ r ≡ eqb (x / 2 ^ k % 2) 1 ⌝ }
+{
+    (x >> k) % 2 == 1
+}
+
+// x with bit k set
+fn with_bit(x: u8, k: usize) -> u8
+    requires { ⌜ k < 8 ⌝ }
+    ensures { λ r. ⌜ r ≡ bitOr x (2 ^ k) ⌝ }
+{
+    x | (1 << k)
+}
+
+pub fn is_used(m: &[u8], b: usize) -> bool
+    requires { ⌜ (b < 4096) × (1024 ≤ length (now m)) ⌝ }
+    ensures { λ r. ⌜ r ≡ flatOf (now (m .entry)) .used b ⌝ }
+{
+    bit(m[512 + b / 8], b % 8)
+}
+
+pub fn mark_used(m: &mut [u8], b: usize)
+    requires { ⌜ Room (now m) × (b < 4096) ⌝ }
+    ensures { λ _. ⌜ Becomes (now (m .entry)) (now (m .exit)) (withUsed (flatOf (now (m .entry))) (usedAnd b (flatOf (now (m .entry)) .used))) ⌝ }
+{
+    let a = 512 + b / 8;
+    m[a] = with_bit(m[a], b % 8);
+}
+
+pub fn clear_used(m: &mut [u8])
+    requires { ⌜ Room (now m) ⌝ }
+    ensures { λ _. ⌜ Becomes (now (m .entry)) (now (m .exit)) (withUsed (flatOf (now (m .entry))) (λ c. false)) ⌝ }
+{
+    clear(m, 512, 512);
+}
+
+// ---- refusal 4
+
+// The ranges of the head's numbers: no branch, since nearly every memory passes.
+fn in_range(size: usize, h: Head, n: Counts) -> bool
+    ensures { λ r. ⌜ r ≡ inRange size h n ⌝ }
+{
+    let need = 128 * (h.capacity as usize) + 1024;
+    (1 <= h.capacity)
+        & ((h.capacity <= 1024)
+            & ((need <= size)
+                & ((2 <= h.blocks)
+                    & ((h.blocks <= 4096)
+                        & ((h.taken < h.blocks)
+                            & ((n.rows <= h.capacity)
+                                & ((n.pages <= h.capacity)
+                                    & ((n.opens <= 64) & ((n.named <= h.capacity) & (n.directories <= 4))))))))))
+}
+
+// Each of the c page entries behind room for n rows has a row, and together they have as many as `rows`.
+fn entries_fill(m: &[u8], n: usize, c: usize, rows: u32) -> bool
+    requires { ⌜ (n ≤ 1024) × ((c ≤ n) × (1024 + n * 88 ≤ length (now m))) ⌝ }
+    ensures { λ r. ⌜ r ≡ fillsRows (entriesAt (now (m .entry)) n c) rows ⌝ }
+{
+    let base = 1024 + n * 80 + 2;
+    let mut sum: u32 = 0;
+    let mut i = 0;
+    while i < c {
+        let k = get2(m, base + i * 8) as u32;
+        if k < 1 {
+            return false;
+        }
+        sum += k;
+        i += 1;
+    }
+    sum == rows
+}
+
+// The head, and one pass over the page entries.
+pub fn holds_store(m: &[u8]) -> bool
+    ensures { λ r. ⌜ r ≡ holdsStore (now (m .entry)) ⌝ }
+{
+    if m.len() < 1024 {
+        return false;
+    }
+    let s = get4(m, 0);
+    if s != 1448040961 {
+        return false;
+    }
+    let h = get_head(m);
+    let n = get_counts(m);
+    if !in_range(m.len(), h, n) {
+        return false;
+    }
+    entries_fill(m, h.capacity as usize, n.pages as usize, n.rows)
 }
