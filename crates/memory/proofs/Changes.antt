@@ -190,17 +190,17 @@ kept m m2 m' a len k n b r h p q =
 
 -- ---- from parts to the whole
 
-flat-eq : (a b : Flat) → a .head ≡ b .head → a .opens ≡ b .opens → a .rows ≡ b .rows → a .entries ≡ b .entries → a .named ≡ b .named
+pub flat-eq : (a b : Flat) → a .head ≡ b .head → a .opens ≡ b .opens → a .rows ≡ b .rows → a .entries ≡ b .entries → a .named ≡ b .named
     → a .directories ≡ b .directories → a .used ≡ b .used → a ≡ b
 flat-eq a b h o r e n d u = λ i. record { head = h i; opens = o i; rows = r i; entries = e i; named = n i; directories = d i; used = u i }
 
-pub becomes : (m m' : List ℕ) (f : Flat) → Room m → length m' ≡ length m → num4 m' 0 ≡ num4 m 0 → flatOf m' ≡ f → InRange (length m) (f .head) (countsOf f)
+pub becomes : (m m' : List ℕ) (f : Flat) → length m' ≡ length m → num4 m' 0 ≡ signature → flatOf m' ≡ f → InRange (length m) (f .head) (countsOf f)
     → Becomes m m' f
-becomes m m' f r l s e g =
+becomes m m' f l s e g =
     let g1 : InRange (length m') (f .head) (countsOf f) = rw l g in
     record {
       size = l;
-      room = record { sign = s ∙ r .sign; range = subst (λ (x : Flat). InRange (length m') (x .head) (countsOf x)) (sym e) g1 };
+      room = record { sign = s; range = subst (λ (x : Flat). InRange (length m') (x .head) (countsOf x)) (sym e) g1 };
       flat = e;
     }
 
@@ -238,7 +238,7 @@ module _ (m m2 m' : List ℕ) (a len n : ℕ) (r : Room m) (l : length m' ≡ le
       let K = kept m m2 m' a len 0 n (omega arith) r (omega arith) p q in
       let g = r .range in
       let lx : length xs ≡ n = as-long _ n xs e in
-      becomes m m' (withRows (flatOf m) xs) r l (K .sign)
+      becomes m m' (withRows (flatOf m) xs) l (K .sign ∙ r .sign)
       (flat-eq (flatOf m') (withRows (flatOf m) xs)
       (K .head)
       (K .opens (omega arith) (inl (omega arith)))
@@ -257,7 +257,7 @@ module _ (m m2 m' : List ℕ) (a len n : ℕ) (r : Room m) (l : length m' ≡ le
       let g = r .range in
       let lx : length xs ≡ n = as-long _ n xs e in
       let eh : headAt m' ≡ headAt m = K .head in
-      becomes m m' (withEntries (flatOf m) xs) r l (K .sign)
+      becomes m m' (withEntries (flatOf m) xs) l (K .sign ∙ r .sign)
       (flat-eq (flatOf m') (withEntries (flatOf m) xs)
       eh
       (K .opens (omega arith) (inl (omega arith)))
@@ -275,7 +275,7 @@ module _ (m m2 m' : List ℕ) (a len n : ℕ) (r : Room m) (l : length m' ≡ le
       let K = kept m m2 m' a len 2 n (omega arith) r (omega arith) p q in
       let g = r .range in
       let lx : length xs ≡ n = as-long _ n xs e in
-      becomes m m' (withOpens (flatOf m) xs) r l (K .sign)
+      becomes m m' (withOpens (flatOf m) xs) l (K .sign ∙ r .sign)
       (flat-eq (flatOf m') (withOpens (flatOf m) xs)
       (K .head)
       (new-cells word 128 4 4 m2 m' 2 n (countAt m' 2) xs (omega arith) (omega arith) (omega arith) q (q .here) e)
@@ -294,7 +294,7 @@ module _ (m m2 m' : List ℕ) (a len n : ℕ) (r : Room m) (l : length m' ≡ le
       let g = r .range in
       let lx : length xs ≡ n = as-long _ n xs e in
       let eh : headAt m' ≡ headAt m = K .head in
-      becomes m m' (withNamed (flatOf m) xs) r l (K .sign)
+      becomes m m' (withNamed (flatOf m) xs) l (K .sign ∙ r .sign)
       (flat-eq (flatOf m') (withNamed (flatOf m) xs)
       eh
       (K .opens (omega arith) (inl (omega arith)))
@@ -313,7 +313,7 @@ module _ (m m2 m' : List ℕ) (a len n : ℕ) (r : Room m) (l : length m' ≡ le
       let K = kept m m2 m' a len 4 n (omega arith) r (omega arith) p q in
       let g = r .range in
       let lx : length xs ≡ n = as-long _ n xs e in
-      becomes m m' (withDirectories (flatOf m) xs) r l (K .sign)
+      becomes m m' (withDirectories (flatOf m) xs) l (K .sign ∙ r .sign)
       (flat-eq (flatOf m') (withDirectories (flatOf m) xs)
       (K .head)
       (K .opens (omega arith) (inr (omega arith)))
@@ -332,7 +332,7 @@ head-become m m' h r l p e t =
     let ec : h .capacity ≡ headAt m .capacity = t .capacity in
     let c : headAt m' .capacity ≡ headAt m .capacity = ap (λ (x : Head). x .capacity) e ∙ t .capacity in
     let n : (j : ℕ) → countAt m' j ≡ countAt m j = λ j. cell-off word 64 4 4 (omega arith) p j (inr (omega arith)) in
-    becomes m m' (withHead (flatOf m) h) r l (sym (word-at m' 0) ∙ ap word (off p 0 4 (inl (omega arith))) ∙ word-at m 0)
+    becomes m m' (withHead (flatOf m) h) l (sym (word-at m' 0) ∙ ap word (off p 0 4 (inl (omega arith))) ∙ word-at m 0 ∙ r .sign)
     (flat-eq (flatOf m') (withHead (flatOf m) h)
     e
     (ap (opensAt m') (n 2) ∙ cells-off word 128 4 4 (omega arith) p (countAt m 2) (inr (omega arith)))
@@ -363,7 +363,7 @@ used-become m m' a len u r l p h1 h2 e =
     let g = r .range in
     let K = kept m m' m' a len 0 (countAt m' 0) (omega arith) r (omega arith) p (recount-none m' 0 _ refl) in
     let J = kept m m' m' a len 1 (countAt m' 1) (omega arith) r (omega arith) p (recount-none m' 1 _ refl) in
-    becomes m m' (withUsed (flatOf m) u) r l (K .sign)
+    becomes m m' (withUsed (flatOf m) u) l (K .sign ∙ r .sign)
     (flat-eq (flatOf m') (withUsed (flatOf m) u)
     (K .head)
     (K .opens (omega arith) (inl (omega arith)))

@@ -6,3 +6,6 @@ pub mod Leaves
 pub mod Access
 pub mod Marks
 pub mod Refusal
+pub mod Payloads
+pub mod Meaning
+pub mod Blank

@@ -20,7 +20,7 @@ back4 x = omega arith
 back2 : (x : ℕ) → x / 256 * 256 + x % 256 ≡ x
 back2 x = omega arith
 
-word-back : (x : ℕ) → word (bytes4 x) ≡ x
+pub word-back : (x : ℕ) → word (bytes4 x) ≡ x
 unfolding word num4 bytes4
 word-back x = back4 x
 

@@ -1,8 +1,9 @@
 -- The store that the memory holds, if it holds one.
-use Prim.Native.Nat.{ℕ, _+_, _*_, _/_, _%_}
+use Prim.Native.Nat.{ℕ, _+_, _*_, _/_, _%_, _≤_}
+use mathlib.Core.Path.{_≡_}
 use mathlib.Core.Bool.{Bool, true, false, not}
 use mathlib.Core.Option.{Option, none, some}
-use mathlib.Core.List.{List, [], _∷_, map}
+use mathlib.Core.List.{List, [], _∷_, _++_, map}
 use lib.ListN.{length, take, drop}
 use lib.Dec.{leb, ltb, eqb}
 use Rattle.basics.specs.Basics.{if_then_else_, every, all, sum}
@@ -13,11 +14,13 @@ use Rattle.rows.specs.Rows.{openLimit}
 use Rattle.image.specs.Stages.{capacityLimit}
 use Rattle.model.specs.State.{Pending, nothing, adding, committing, removing, Held, Page, Checkpoint, idle, running, Store}
 use Rattle.model.specs.Recover.{memoryFor}
-use Rattle.memory.specs.Flat.{Flat, flatOf, countsOf, signature}
+use Rattle.memory.specs.Bytes.{cut}
+use Rattle.memory.specs.Flat.{Flat, flatOf, countsOf, signature, rowIn}
 use Rattle.memory.specs.declared.Row.{Row}
 use Rattle.memory.specs.declared.Entry.{Entry}
 use Rattle.memory.specs.declared.Head.{Head}
 use Rattle.memory.specs.declared.Counts.{Counts}
+use Rattle.memory.specs.declared.Part.{Part}
 
 -- ---- what the flat lists mean
 
@@ -42,6 +45,10 @@ tupleOf r =
 -- flags: bits 2 and 3 the pending operation
 unfoldable pub heldOf : Row → Held
 heldOf r = record { tuple = tupleOf r; pending = pendingOf (r .flags / 4 % 4) }
+
+-- the tuple of row i
+abbrev pub heldIn : Flat → ℕ → Held
+heldIn f i = heldOf (rowIn f i)
 
 unfoldable pub pageOf : Entry → List Held → Page
 pageOf e hs = record { table = e .table % 8; block = e .block % 4096; frozen = not (eqb (e .frozen) 0); tuples = hs }
@@ -121,7 +128,28 @@ holdsStore m =
 unfoldable pub storeIn : List ℕ → Option Store
 storeIn m = if holdsStore m then some (storeOf (flatOf m)) else none
 
+-- ---- a payload
+
+-- the bytes stand at this part of the memory
+pub record Holds (m : List ℕ) (p : Part) (bytes : List ℕ) : Type 0 where
+  pub inside : p .start + p .len ≤ length m
+  pub count : p .len ≡ length bytes
+  pub here : cut (p .start) (p .len) m ≡ bytes
+
+-- the bytes, n of them, over the first of xs
+pub record Copied (xs ys bytes : List ℕ) (n : ℕ) : Type 0 where
+  pub count : n ≡ length bytes
+  pub first : ys ≡ bytes ++ drop n xs
+
 -- ---- a fresh store
+
+-- a memory of size bytes has room for a store of b blocks and capacity n
+pub record Fits (size b n : ℕ) : Type 0 where
+  pub least : 1 ≤ n
+  pub most : n ≤ 1024
+  pub long : 128 * n + 1024 ≤ size
+  pub few : 2 ≤ b
+  pub many : b ≤ 4096
 
 unfoldable pub freshFlat : ℕ → ℕ → Flat
 freshFlat b n =

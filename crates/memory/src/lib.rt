@@ -10,10 +10,12 @@ ghost use lib.Dec.{eqb};
 ghost use lib.Bits.{bitOr};
 ghost use lib.ListN.{length, take, drop, getD, set, replicate};
 ghost use Rattle.blocks.specs.Numbers.{num4};
+ghost use Rattle.model.specs.Rules.{heldSize};
+ghost use Rattle.model.specs.Recover.{freshStore};
 ghost use Rattle.memory.specs.Bytes.{num2, bytes4, bytes2, cut, put, Shifted, Lowered};
 ghost use Rattle.memory.specs.Views.{rowOf, entryOf, headOf, word, half, numbersOf, entryBytes, headBytes, headAt, countAt, entriesAt, Only};
 ghost use Rattle.memory.specs.Flat.{flatOf, countsOf, rowIn, entryIn, Room, Replaces, Becomes, withHead, withOpens, withRows, withEntries, withNamed, withDirectories, withUsed, insertAt, removeAt, usedAnd};
-ghost use Rattle.memory.specs.Store.{inRange, fillsRows, holdsStore};
+ghost use Rattle.memory.specs.Store.{inRange, fillsRows, holdsStore, heldIn, Holds, Copied, Fits, freshFlat, storeIn};
 
 // A tuple with its pending operation. flags: bit 0 tentative, bit 1 delete mark, bits 2 and 3 pending (0 nothing, 1 adding,
 // 2 committing, 3 removing). owner: the transaction above 20 bits of statement.
@@ -52,6 +54,12 @@ pub struct Counts {
     pub opens: u32,
     pub named: u32,
     pub directories: u32,
+}
+
+// A part of the memory.
+pub struct Part {
+    pub start: usize,
+    pub len: usize,
 }
 
 // ---- numbers as bytes
@@ -372,6 +380,55 @@ pub fn size_at(m: &[u8], i: usize) -> u8
     m[1024 + i * 80 + 13]
 }
 
+// A tuple's size: 9 bytes plus its payload, plus 4 if tentative.
+pub fn tuple_size(m: &[u8], i: usize) -> usize
+    requires { ⌜ Room (now m) × (i < length (flatOf (now m) .rows)) ⌝ }
+    ensures { λ r. ⌜ r ≡ heldSize (heldIn (flatOf (now (m .entry))) i) ⌝ }
+{
+    let n = size_at(m, i) as usize;
+    let f = flags_at(m, i) as usize;
+    9 + 4 * (f % 2) + n % 41
+}
+
+// Where a tuple's payload stands in the memory.
+pub fn payload_at(m: &[u8], i: usize) -> Part
+    requires { ⌜ Room (now m) × (i < length (flatOf (now m) .rows)) ⌝ }
+    ensures { λ r. ⌜ Holds (now (m .entry)) r (heldIn (flatOf (now (m .entry))) i .tuple .payload) ⌝ }
+{
+    let n = size_at(m, i) as usize;
+    Part {
+        start: 1024 + i * 80 + 16,
+        len: n % 41,
+    }
+}
+
+// A tuple's payload, over the first bytes of out; how many they are.
+pub fn copy_payload(m: &[u8], i: usize, out: &mut [u8]) -> usize
+    requires { ⌜ Room (now m) × ((i < length (flatOf (now m) .rows)) × (length (heldIn (flatOf (now m)) i .tuple .payload) ≤ length (now out))) ⌝ }
+    ensures { λ r. ⌜ Copied (now (out .entry)) (now (out .exit)) (heldIn (flatOf (now (m .entry))) i .tuple .payload) r ⌝ }
+{
+    let p = payload_at(m, i);
+    let a = p.start;
+    let n = p.len;
+    let e = a + n;
+    write(out, 0, &m[a..e]);
+    n
+}
+
+// len bytes of src from start on, with zeros behind them: a row's payload.
+pub fn padded(src: &[u8], start: usize, len: usize) -> [u8; 40]
+    requires { ⌜ (len ≤ 40) × (start + len ≤ length (now src)) ⌝ }
+    ensures { λ r. ⌜ take len r ≡ cut start len (now (src .entry)) ⌝ }
+{
+    let mut b = [0u8; 40];
+    let mut j = 0;
+    while j < len {
+        b[j] = src[start + j];
+        j += 1;
+    }
+    b
+}
+
 pub fn put_row(m: &mut [u8], i: usize, s: Row)
     requires { ⌜ Room (now m) × (i < length (flatOf (now m) .rows)) ⌝ }
     ensures { λ _. ⌜ Becomes (now (m .entry)) (now (m .exit)) (withRows (flatOf (now (m .entry))) (set (flatOf (now (m .entry)) .rows) i s)) ⌝ }
@@ -630,4 +687,18 @@ pub fn holds_store(m: &[u8]) -> bool
         return false;
     }
     entries_fill(m, h.capacity as usize, n.pages as usize, n.rows)
+}
+
+// ---- an empty store
+
+// Lays it out over any old content.
+pub fn fresh(m: &mut [u8], blocks: u32, n: u32)
+    requires { ⌜ Fits (length (now m)) blocks n ⌝ }
+    ensures { λ _. ⌜ Becomes (now (m .entry)) (now (m .exit)) (freshFlat blocks n) × (storeIn (now (m .exit)) ≡ some (freshStore blocks n)) ⌝ }
+{
+    clear(m, 0, 128);
+    put4(m, 0, 1448040961);
+    put4(m, 4, n);
+    put4(m, 8, blocks);
+    clear(m, 512, 512);
 }

@@ -15,15 +15,12 @@ use Rattle.memory.proofs.clear_used.Reads as reads
 use Rattle.memory.proofs.clear_used.Lts as lts
 use Rattle.memory.proofs.clear.Reads as clear-reads
 
--- src/lib.rt:576:5
 clear-requires : tie.Need-clear-requires
 clear-requires c κs = search needs
 
--- src/lib.rt:572:1
 same-length : tie.Need-same-length
 same-length c = search needs
 
--- src/lib.rt:572:1
 returns : tie.Need-returns
 returns c = let st = c .before .before .before .before .before in
     let m : List ℕ = st .args .m .now in

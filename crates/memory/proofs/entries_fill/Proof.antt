@@ -19,39 +19,30 @@ Inv-loop m n c rows base sum₀ i₀ sum i = Left (cell entryOf (1024 + n * 80) 
 abbrev μ-loop : tie.MeasureT-loop
 μ-loop m n c rows base sum₀ i₀ sum i = c - i
 
--- src/lib.rt:602:23
 mul-base : tie.Need-mul-base Inv-loop μ-loop
 mul-base c = omega arith
 
--- src/lib.rt:602:16
 add-base : tie.Need-add-base Inv-loop μ-loop
 add-base c = omega arith
 
--- src/lib.rt:602:16
 add-base-2 : tie.Need-add-base-2 Inv-loop μ-loop
 add-base-2 c = omega arith
 
--- src/lib.rt:605:5
 loop-holds : tie.Need-loop-holds Inv-loop μ-loop
 loop-holds c = pass-start (cell entryOf (1024 + c .before .args .n * 80) 8 6 (c .before .args .m .now)) (c .before .args .c)
 
--- src/lib.rt:606:32
 mul-get2 : tie.Need-mul-get2 Inv-loop μ-loop
 mul-get2 c = omega arith
 
--- src/lib.rt:606:25
 add-get2 : tie.Need-add-get2 Inv-loop μ-loop
 add-get2 c = omega arith
 
--- src/lib.rt:606:17
 get2-requires : tie.Need-get2-requires Inv-loop μ-loop
 get2-requires c κs = omega arith
 
--- src/lib.rt:606:17
 cast-k : tie.Need-cast-k Inv-loop μ-loop
 cast-k c = search needs
 
--- src/lib.rt:608:13
 returns : tie.Need-returns Inv-loop μ-loop
 returns c = let st = c .before .before .before .before .before in
     let f : ℕ → Entry = cell entryOf (1024 + st .args .n * 80) 8 6 (st .args .m .now) in
@@ -59,19 +50,15 @@ returns c = let st = c .before .before .before .before .before in
     let e : c .before .get2 .result ≡ f (l .i) .count = c .before .get2 .ensures ∙ count-is (st .args .m .now) (st .args .n) (l .i) in
     pass-stop f (l .i) (st .args .c) (st .args .rows) (l .sum) (c .before .before .loop-test .taken) (l .inv) (omega arith)
 
--- src/lib.rt:610:9
 add-sum : tie.Need-add-sum Inv-loop μ-loop
 add-sum c = omega arith
 
--- src/lib.rt:611:9
 add-i : tie.Need-add-i Inv-loop μ-loop
 add-i c = omega arith
 
--- src/lib.rt:605:5
 loop-less : tie.Need-loop-less Inv-loop μ-loop
 loop-less c = omega arith
 
--- src/lib.rt:605:5
 loop-again : tie.Need-loop-again Inv-loop μ-loop
 loop-again c = let st = c .before .before .before .before .before in
     let f : ℕ → Entry = cell entryOf (1024 + st .args .n * 80) 8 6 (st .args .m .now) in
@@ -79,7 +66,6 @@ loop-again c = let st = c .before .before .before .before .before in
     let e : c .before .get2 .result ≡ f (l .i) .count = c .before .get2 .ensures ∙ count-is (st .args .m .now) (st .args .n) (l .i) in
     pass-on f (l .i) (st .args .c) (st .args .rows) (l .sum) (c .before .before .loop-test .taken) (l .inv) (c .before .get2 .result) e (omega arith) (omega arith)
 
--- src/lib.rt:598:1
 returns-2 : tie.Need-returns-2 Inv-loop μ-loop
 returns-2 c = let st = c .before .before .before in
     let f : ℕ → Entry = cell entryOf (1024 + st .args .n * 80) 8 6 (st .args .m .now) in

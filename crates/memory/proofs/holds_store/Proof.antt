@@ -20,45 +20,35 @@ use Rattle.memory.proofs.get_counts.Reads as get-counts-reads
 use Rattle.memory.proofs.get_head.Reads as get-head-reads
 use Rattle.memory.proofs.in_range.Reads as in-range-reads
 
--- src/lib.rt:621:9
 returns : tie.Need-returns
 returns c = too-short (c .before .before .args .m .now) (c .if1 .taken)
 
--- src/lib.rt:623:9
 get4-requires : tie.Need-get4-requires
 get4-requires c κs = search needs
 
--- src/lib.rt:625:9
 returns-2 : tie.Need-returns-2
 returns-2 c = unsigned (c .before .before .before .before .args .m .now) (c .before .get4 .result) (c .before .before .if1 .left) (c .before .get4 .ensures) (c .if2 .taken)
 
--- src/lib.rt:627:9
 get-head-requires : tie.Need-get-head-requires
 get-head-requires c κs = search needs
 
--- src/lib.rt:628:9
 get-counts-requires : tie.Need-get-counts-requires
 get-counts-requires c κs = search needs
 
--- src/lib.rt:629:9
 in-range-requires : tie.Need-in-range-requires
 in-range-requires c κs = search needs
 
--- src/lib.rt:630:9
 returns-3 : tie.Need-returns-3
 returns-3 c = let st = c .before .before .before .before .before .before .before .before in
     out-of-range (st .args .m .now) (c .before .before .before .before .before .get4 .result) (c .before .before .before .get-head .result) (c .before .before .get-counts .result) (c .before .in-range .result) (c .before .before .before .before .before .before .if1 .left) (c .before .before .before .before .before .get4 .ensures) (c .before .before .before .before .if2 .left)
     (c .before .before .before .get-head .ensures) (c .before .before .get-counts .ensures) (c .before .in-range .ensures) (not-true _ (c .if3 .taken))
 
--- src/lib.rt:632:21
 cast-entries-fill : tie.Need-cast-entries-fill
 cast-entries-fill c = search needs
 
--- src/lib.rt:632:42
 cast-entries-fill-2 : tie.Need-cast-entries-fill-2
 cast-entries-fill-2 c = search needs
 
--- src/lib.rt:632:5
 entries-fill-requires : tie.Need-entries-fill-requires
 entries-fill-requires c κs = let g : InRange (length (c .before .before .before .before .before .before .before .before .before .before .args .m .now)) (c .before .before .before .before .before .get-head .result) (c .before .before .before .before .get-counts .result) = range-in _ _ _ (sym (c .before .before .before .in-range .ensures) ∙ not-false _ (c .before .before .if3 .left)) in
     let m = g .most in
@@ -66,7 +56,6 @@ entries-fill-requires c κs = let g : InRange (length (c .before .before .before
     let l = g .long in
     omega arith
 
--- src/lib.rt:617:1
 returns-4 : tie.Need-returns-4
 returns-4 c = let st = c .before .before .before .before .before .before .before .before .before .before .before in
     let m : List ℕ = st .args .m .now in

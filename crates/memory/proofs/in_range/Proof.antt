@@ -8,19 +8,15 @@ use Rattle.memory.proofs.in_range.Tie as tie
 use Rattle.memory.proofs.in_range.Reads as reads
 use Rattle.memory.proofs.in_range.Lts as lts
 
--- src/lib.rt:585:23
 cast-need : tie.Need-cast-need
 cast-need c = search needs
 
--- src/lib.rt:585:16
 mul-need : tie.Need-mul-need
 mul-need c = search needs
 
--- src/lib.rt:585:16
 add-need : tie.Need-add-need
 add-need c = search needs
 
--- src/lib.rt:582:1
 returns : tie.Need-returns
 unfolding inRange every memoryFor
 returns c = simp and-one

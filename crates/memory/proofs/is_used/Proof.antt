@@ -11,19 +11,15 @@ use Rattle.memory.proofs.is_used.Reads as reads
 use Rattle.memory.proofs.is_used.Lts as lts
 use Rattle.memory.proofs.bit.Reads as bit-reads
 
--- src/lib.rt:561:11
 add-bit : tie.Need-add-bit
 add-bit c = search needs
 
--- src/lib.rt:561:9
 shared-slice-read-bit : tie.Need-shared-slice-read-bit
 shared-slice-read-bit c = search needs
 
--- src/lib.rt:561:5
 bit-requires : tie.Need-bit-requires
 bit-requires c κs = search needs
 
--- src/lib.rt:557:1
 returns : tie.Need-returns
 unfolding usedIn
 returns c = let st = c .before .before .before in

@@ -16,27 +16,21 @@ use Rattle.memory.proofs.mark_used.Reads as reads
 use Rattle.memory.proofs.mark_used.Lts as lts
 use Rattle.memory.proofs.with_bit.Reads as with-bit-reads
 
--- src/lib.rt:568:13
 add-a : tie.Need-add-a
 add-a c = search needs
 
--- src/lib.rt:569:21
 slice-read-with-bit : tie.Need-slice-read-with-bit
 slice-read-with-bit c = search needs
 
--- src/lib.rt:569:12
 with-bit-requires : tie.Need-with-bit-requires
 with-bit-requires c κs = search needs
 
--- src/lib.rt:569:5
 slice-write-m : tie.Need-slice-write-m
 slice-write-m c = search needs
 
--- src/lib.rt:564:1
 same-length : tie.Need-same-length
 same-length c = search needs
 
--- src/lib.rt:564:1
 returns : tie.Need-returns
 returns c = let st = c .before .before .before in
     let m : List ℕ = st .args .m .now in

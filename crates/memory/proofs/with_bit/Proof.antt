@@ -9,15 +9,12 @@ use Rattle.memory.proofs.with_bit.Tie as tie
 use Rattle.memory.proofs.with_bit.Reads as reads
 use Rattle.memory.proofs.with_bit.Lts as lts
 
--- src/lib.rt:552:15
 cast-result : tie.Need-cast-result
 cast-result c = search needs
 
--- src/lib.rt:552:10
 shl-result : tie.Need-shl-result
 shl-result c = search needs
 
--- src/lib.rt:548:1
 returns : tie.Need-returns
 returns c = let k : ℕ = c .args .k in
     let e : 1 * 2 ^ k % 256 ≡ 2 ^ k = ap (λ (z : ℕ). z % 256) (one-mul (2 ^ k)) ∙ mod-eq-of-lt (pow-lt {i = k} {j = 8} (c .pre)) in
