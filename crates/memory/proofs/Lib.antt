@@ -9,3 +9,4 @@ pub mod Refusal
 pub mod Payloads
 pub mod Meaning
 pub mod Blank
+pub mod Nest
