@@ -10,3 +10,5 @@ pub mod Payloads
 pub mod Meaning
 pub mod Blank
 pub mod Nest
+pub mod Runs
+pub mod Exchange

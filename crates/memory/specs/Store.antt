@@ -15,7 +15,8 @@ use Rattle.image.specs.Stages.{capacityLimit}
 use Rattle.model.specs.State.{Pending, nothing, adding, committing, removing, Held, Page, Checkpoint, idle, running, Store}
 use Rattle.model.specs.Recover.{memoryFor}
 use Rattle.memory.specs.Bytes.{cut}
-use Rattle.memory.specs.Flat.{Flat, flatOf, countsOf, signature, rowIn}
+use Rattle.memory.specs.Views.{tab}
+use Rattle.memory.specs.Flat.{Flat, flatOf, countsOf, signature, rowIn, entryIn, withRows, withEntries}
 use Rattle.memory.specs.declared.Row.{Row}
 use Rattle.memory.specs.declared.Entry.{Entry}
 use Rattle.memory.specs.declared.Head.{Head}
@@ -82,6 +83,24 @@ storeOf f =
       checkpoint = checkpointOf (f .head .running) (f .head .begun) (f .named) (f .directories)
     }
 
+-- ---- pages by place
+
+-- how many rows the entries have
+unfoldable pub total : List Entry → ℕ
+total es = sum (λ e. e .count) es
+
+-- the row with which page p starts
+unfoldable pub startOf : Flat → ℕ → ℕ
+startOf f p = total (take p (f .entries))
+
+unfoldable pub pageIn : Flat → ℕ → Page
+pageIn f p = pageOf (entryIn f p) (tab (heldIn f) (startOf f p) (entryIn f p .count))
+
+-- r entries from p on, and c rows from s on, exchanged for others
+abbrev pub exchanged : Flat → ℕ → ℕ → ℕ → ℕ → List Entry → List Row → Flat
+exchanged f p r s c ms ws =
+    withEntries (withRows f (take s (f .rows) ++ (ws ++ drop (s + c) (f .rows)))) (take p (f .entries) ++ (ms ++ drop (p + r) (f .entries)))
+
 -- ---- refusal 4
 
 -- the ranges of the head's numbers, for a memory of size bytes
@@ -100,10 +119,6 @@ inRange size h n =
       ∷ leb (n .named) (h .capacity)
       ∷ leb (n .directories) 4
       ∷ [])
-
--- how many rows the entries have
-unfoldable pub total : List Entry → ℕ
-total es = sum (λ e. e .count) es
 
 unfoldable pub hasRows : Entry → Bool
 hasRows e = leb 1 (e .count)
