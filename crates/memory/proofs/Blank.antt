@@ -104,7 +104,7 @@ module _ (m m1 m2 m3 m4 m' : List ℕ) (b n : ℕ) (d : Blanked m m1 m2 m3 m4 m'
         next = (f 12 (omega arith) ∙ word-zero 16 (omega arith) (omega arith) refl) i;
         running = (f 16 (omega arith) ∙ word-zero 20 (omega arith) (omega arith) refl) i;
         begun = (f 20 (omega arith) ∙ word-zero 24 (omega arith) (omega arith) refl) i;
-        taken = (f 24 (omega arith) ∙ word-zero 28 (omega arith) (omega arith) refl) i
+        taken = (f 24 (omega arith) ∙ word-zero 28 (omega arith) (omega arith) refl) i;
       }
 
   none : (k a : ℕ) → 64 + k * 4 ≡ a → 12 ≤ a → a + 4 ≤ 128 → word (cut a 4 (replicate 128 0)) ≡ 0 → countAt m' k ≡ 0
@@ -134,7 +134,7 @@ module _ (m m1 m2 m3 m4 m' : List ℕ) (b n : ℕ) (d : Blanked m m1 m2 m3 m4 m'
         pages = omega arith;
         opens = omega arith;
         named = omega arith;
-        directories = omega arith
+        directories = omega arith;
       })
 
 fresh-filled : (b n : ℕ) → filled (freshFlat b n) ≡ true

@@ -354,7 +354,7 @@ head-become m m' h r l p e t =
       pages = omega (arith, g .pages);
       opens = g .opens;
       named = omega (arith, g .named);
-      directories = g .directories
+      directories = g .directories;
     })
 
 pub used-become : (m m' : List ℕ) (a len : ℕ) (u : ℕ → Bool) → Room m → length m' ≡ length m → Apart m m' a len → 512 ≤ a → a + len ≤ 1024 → usedAt m' ≡ u

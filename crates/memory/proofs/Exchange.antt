@@ -33,9 +33,6 @@ map-drop g (suc n) [] = refl
 map-drop g (suc n) (x ∷ xs) = map-drop g n xs
 
 module _ (f : Flat) (full : filled f ≡ true) (p r c : ℕ) (ms : List Entry) (ws : List Row) (ends : startOf f p + c ≡ startOf f (p + r)) (counts : total ms ≡ length ws) where
-  abbrev new : Flat
-  new = exchanged f p r (startOf f p) c ms ws
-
   -- the pages that the new entries make of the new rows stand for the r old ones
   pub exchanged-pages : pagesIn (exchanged f p r (startOf f p) c ms ws) ≡ take p (pagesIn f) ++ (nest ms (map heldOf ws) ++ drop (p + r) (pagesIn f))
   unfolding pagesIn startOf

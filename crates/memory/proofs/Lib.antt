@@ -12,3 +12,4 @@ pub mod Blank
 pub mod Nest
 pub mod Runs
 pub mod Exchange
+pub mod Fitting

@@ -43,9 +43,6 @@ held-size r l =
     omega arith
 
 module _ (m : List ℕ) (room : Room m) (i : ℕ) (h : i < length (rowsOf m)) where
-  abbrev start : ℕ
-  start = 1024 + i * 80
-
   payload-is : rowIn (flatOf m) i .payload ≡ cut (1024 + i * 80 + 16) 40 m
   unfolding rowOf
   payload-is =

@@ -26,6 +26,10 @@ pub and-one : (b : Bool) → (b && true) ≡ b
 and-one true = refl
 and-one false = refl
 
+pub and-right : (a b c : Bool) → ((a && b) && c) ≡ (a && (b && c))
+and-right true b c = refl
+and-right false b c = refl
+
 pub every-true : (b : Bool) (bs : List Bool) → every (b ∷ bs) ≡ true → (b ≡ true) × (every bs ≡ true)
 unfolding every
 every-true b bs e = and-true b (every bs) e
@@ -69,7 +73,7 @@ range-in size h n e =
       pages = leb-true _ _ (t8 .0);
       opens = leb-true _ _ (t9 .0);
       named = leb-true _ _ (t10 .0);
-      directories = leb-true _ _ (t11 .0)
+      directories = leb-true _ _ (t11 .0);
     }
 
 pub in-range : (size : ℕ) (h : Head) (n : Counts) → InRange size h n → inRange size h n ≡ true
@@ -181,8 +185,7 @@ unfolding holdsStore
 unsigned m s h e ne = sym (every-cons _ _ (le-leb 1024 (length m) h) ∙ every-stop _ _ (ne-eqb _ _ (λ z. ne (e ∙ z))))
 
 module _ (m : List ℕ) (s : ℕ) (h : Head) (n : Counts) (b : Bool) (big : 1024 ≤ length m) (es : s ≡ num4 m 0) (sign : s ≡ signature) (eh : h ≡ headAt m)
-  (en : n ≡ countsOf (flatOf m)) (eb : b ≡ inRange (length m) h n) where
-
+    (en : n ≡ countsOf (flatOf m)) (eb : b ≡ inRange (length m) h n) where
   range-is : b ≡ inRange (length m) (headAt m) (countsOf (flatOf m))
   range-is = eb ∙ ap (λ (x : Head). inRange (length m) x n) eh ∙ ap (inRange (length m) (headAt m)) en
 

@@ -48,7 +48,7 @@ head-back h =
       next = back4 (h .next) i;
       running = back4 (h .running) i;
       begun = back4 (h .begun) i;
-      taken = back4 (h .taken) i
+      taken = back4 (h .taken) i;
     }
 
 row-size : (s : Row) → length (s .payload) ≡ 40 → length (rowBytes s) ≡ 56

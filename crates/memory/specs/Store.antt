@@ -40,7 +40,7 @@ tupleOf r =
       number = r .number;
       owner = ownerOf (r .flags % 2) (r .owner);
       mark = eqb (r .flags / 2 % 2) 1;
-      payload = take (r .size % (payloadLimit + 1)) (r .payload)
+      payload = take (r .size % (payloadLimit + 1)) (r .payload);
     }
 
 -- flags: bits 2 and 3 the pending operation
@@ -80,7 +80,7 @@ storeOf f =
       active = f .opens;
       used = f .used;
       taken = f .head .taken;
-      checkpoint = checkpointOf (f .head .running) (f .head .begun) (f .named) (f .directories)
+      checkpoint = checkpointOf (f .head .running) (f .head .begun) (f .named) (f .directories);
     }
 
 -- ---- pages by place
@@ -107,18 +107,18 @@ exchanged f p r s c ms ws =
 unfoldable pub inRange : ℕ → Head → Counts → Bool
 inRange size h n =
     every (
-      leb 1 (h .capacity)
-      ∷ leb (h .capacity) capacityLimit
-      ∷ leb (memoryFor (h .capacity)) size
-      ∷ leb 2 (h .blocks)
-      ∷ leb (h .blocks) 4096
-      ∷ ltb (h .taken) (h .blocks)
-      ∷ leb (n .rows) (h .capacity)
-      ∷ leb (n .pages) (h .capacity)
-      ∷ leb (n .opens) openLimit
-      ∷ leb (n .named) (h .capacity)
-      ∷ leb (n .directories) 4
-      ∷ [])
+    leb 1 (h .capacity)
+    ∷ leb (h .capacity) capacityLimit
+    ∷ leb (memoryFor (h .capacity)) size
+    ∷ leb 2 (h .blocks)
+    ∷ leb (h .blocks) 4096
+    ∷ ltb (h .taken) (h .blocks)
+    ∷ leb (n .rows) (h .capacity)
+    ∷ leb (n .pages) (h .capacity)
+    ∷ leb (n .opens) openLimit
+    ∷ leb (n .named) (h .capacity)
+    ∷ leb (n .directories) 4
+    ∷ [])
 
 unfoldable pub hasRows : Entry → Bool
 hasRows e = leb 1 (e .count)
@@ -133,11 +133,11 @@ filled f = fillsRows (f .entries) (length (f .rows))
 unfoldable pub holdsStore : List ℕ → Bool
 holdsStore m =
     every (
-      leb 1024 (length m)
-      ∷ eqb (num4 m 0) signature
-      ∷ inRange (length m) (flatOf m .head) (countsOf (flatOf m))
-      ∷ filled (flatOf m)
-      ∷ [])
+    leb 1024 (length m)
+    ∷ eqb (num4 m 0) signature
+    ∷ inRange (length m) (flatOf m .head) (countsOf (flatOf m))
+    ∷ filled (flatOf m)
+    ∷ [])
 
 -- none: refusal 4
 unfoldable pub storeIn : List ℕ → Option Store
@@ -175,5 +175,5 @@ freshFlat b n =
       entries = [];
       named = [];
       directories = [];
-      used = λ c. false
+      used = λ c. false;
     }

@@ -29,7 +29,7 @@ rowOf b =
       owner = num4 b 8;
       flags = getD b 12 0;
       size = getD b 13 0;
-      payload = cut 16 payloadLimit b
+      payload = cut 16 payloadLimit b;
     }
 
 -- a page entry: bytes 6 and 7 are free
@@ -46,7 +46,7 @@ headOf b =
       next = num4 b 12;
       running = num4 b 16;
       begun = num4 b 20;
-      taken = num4 b 24
+      taken = num4 b 24;
     }
 
 -- ---- the bytes that say it

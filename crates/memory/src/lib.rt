@@ -106,7 +106,12 @@ fn get2(m: &[u8], a: usize) -> u16
 fn split4(x: u32) -> [u8; 4]
     ensures { λ r. ⌜ r ≡ bytes4 x ⌝ }
 {
-    [(x / 16777216) as u8, (x / 65536 % 256) as u8, (x / 256 % 256) as u8, (x % 256) as u8]
+    [
+        (x / 16777216) as u8,
+        (x / 65536 % 256) as u8,
+        (x / 256 % 256) as u8,
+        (x % 256) as u8,
+    ]
 }
 
 fn split2(x: u16) -> [u8; 2]
@@ -220,7 +225,22 @@ fn encode_row(s: Row) -> [u8; 16]
     let n = split4(s.number);
     let o = split4(s.owner);
     [
-        k[0], k[1], k[2], k[3], n[0], n[1], n[2], n[3], o[0], o[1], o[2], o[3], s.flags, s.size, 0, 0,
+        k[0],
+        k[1],
+        k[2],
+        k[3],
+        n[0],
+        n[1],
+        n[2],
+        n[3],
+        o[0],
+        o[1],
+        o[2],
+        o[3],
+        s.flags,
+        s.size,
+        0,
+        0,
     ]
 }
 
@@ -641,14 +661,16 @@ fn in_range(size: usize, h: Head, n: Counts) -> bool
 {
     let need = 128 * (h.capacity as usize) + 1024;
     (1 <= h.capacity)
-        & ((h.capacity <= 1024)
-            & ((need <= size)
-                & ((2 <= h.blocks)
-                    & ((h.blocks <= 4096)
-                        & ((h.taken < h.blocks)
-                            & ((n.rows <= h.capacity)
-                                & ((n.pages <= h.capacity)
-                                    & ((n.opens <= 64) & ((n.named <= h.capacity) & (n.directories <= 4))))))))))
+        & (h.capacity <= 1024)
+        & (need <= size)
+        & (2 <= h.blocks)
+        & (h.blocks <= 4096)
+        & (h.taken < h.blocks)
+        & (n.rows <= h.capacity)
+        & (n.pages <= h.capacity)
+        & (n.opens <= 64)
+        & (n.named <= h.capacity)
+        & (n.directories <= 4)
 }
 
 // Each of the c page entries behind room for n rows has a row, and together they have as many as `rows`.

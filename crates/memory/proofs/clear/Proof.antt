@@ -40,9 +40,13 @@ loop-again c = let l = c .before in
     let src : List ℕ = replicate (b .args .n) 0 in
     let h1 : j < length src = omega (arith, length-replicate {A = ℕ} (b .args .n) 0) in
     let h2 : a + j < length m₀ = omega arith in
-    let v : 0 ≡ getD src j 0 = sym (getD-replicate {A = ℕ} (b .args .n) j 0 0 (omega arith)) in
-    (omega arith, (simp length-set (l .loop .inv .1 .0),
-    ap (set (l .loop .m) (a + j)) v ∙ rw (l .loop .inv .1 .1, add-one, paste-suc m₀ a src j 0 h2 h1)))
+    let v : 0 ≡ getD src j 0 = sym (getD-replicate {A = ℕ} (b .args .n) j 0 0 (omega arith)) in (
+      omega arith,
+      (
+        simp length-set (l .loop .inv .1 .0),
+        ap (set (l .loop .m) (a + j)) v ∙ rw (l .loop .inv .1 .1, add-one, paste-suc m₀ a src j 0 h2 h1),
+      ),
+    )
 
 same-length : tie.Need-same-length Inv-loop μ-loop
 same-length c = c .before .loop .inv .1 .0

@@ -60,10 +60,10 @@ returns c = let k = c .before .before .split4 .ensures in
     let n = c .before .split42 .ensures in
     let o = c .split43 .ensures in
     λ i.
-      getD (k i) 0 0 ∷ getD (k i) 1 0 ∷ getD (k i) 2 0 ∷ getD (k i) 3 0
-      ∷ getD (n i) 0 0 ∷ getD (n i) 1 0 ∷ getD (n i) 2 0 ∷ getD (n i) 3 0
-      ∷ getD (o i) 0 0 ∷ getD (o i) 1 0 ∷ getD (o i) 2 0 ∷ getD (o i) 3 0
-      ∷ c .before .before .before .args .s .flags ∷ c .before .before .before .args .s .size ∷ 0 ∷ 0 ∷ []
+    getD (k i) 0 0 ∷ getD (k i) 1 0 ∷ getD (k i) 2 0 ∷ getD (k i) 3 0
+    ∷ getD (n i) 0 0 ∷ getD (n i) 1 0 ∷ getD (n i) 2 0 ∷ getD (n i) 3 0
+    ∷ getD (o i) 0 0 ∷ getD (o i) 1 0 ∷ getD (o i) 2 0 ∷ getD (o i) 3 0
+    ∷ c .before .before .before .args .s .flags ∷ c .before .before .before .args .s .size ∷ 0 ∷ 0 ∷ []
 
 pub encode-row-spec : {M : Type 1} → statement M
 encode-row-spec =

@@ -31,7 +31,7 @@ returns c = let m : List ℕ = c .before .before .before .before .before .before
       pages = (c .before .before .before .count-at2 .ensures ∙ sym (pages-count m)) i;
       opens = (c .before .before .count-at3 .ensures ∙ sym (opens-count m)) i;
       named = (c .before .count-at4 .ensures ∙ sym (named-count m)) i;
-      directories = (c .count-at5 .ensures ∙ sym (directories-count m)) i
+      directories = (c .count-at5 .ensures ∙ sym (directories-count m)) i;
     }
 
 pub get-counts-spec : {M : Type 1} → statement M

@@ -39,14 +39,14 @@ get4-requires-7 c κs = search needs
 returns : tie.Need-returns
 unfolding headOf headAt
 returns c = λ i. record {
-      capacity = c .before .before .before .before .before .before .get4 .ensures i;
-      blocks = c .before .before .before .before .before .get42 .ensures i;
-      level = c .before .before .before .before .get43 .ensures i;
-      next = c .before .before .before .get44 .ensures i;
-      running = c .before .before .get45 .ensures i;
-      begun = c .before .get46 .ensures i;
-      taken = c .get47 .ensures i
-    }
+  capacity = c .before .before .before .before .before .before .get4 .ensures i;
+  blocks = c .before .before .before .before .before .get42 .ensures i;
+  level = c .before .before .before .before .get43 .ensures i;
+  next = c .before .before .before .get44 .ensures i;
+  running = c .before .before .get45 .ensures i;
+  begun = c .before .get46 .ensures i;
+  taken = c .get47 .ensures i;
+}
 
 pub get-head-spec : {M : Type 1} → statement M
 get-head-spec =

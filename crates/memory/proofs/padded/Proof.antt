@@ -41,11 +41,15 @@ loop-again c = let st = c .before .before .before in
     let j : ℕ = l .j in
     let v : getD (st .args .src .now) (st .args .start + j) 0 ≡ getD xs j 0 = sym (getD-drop (st .args .start) (st .args .src .now) j 0) in
     let h1 : j < length (l .b) = omega (arith, l .inv .1 .0) in
-    let h2 : j < length xs = simp length-drop (omega arith) in
-    (omega arith, (length-set (l .b) j _ ∙ l .inv .1 .0,
-    ap (λ (z : ℕ). take (j + 1) (set (l .b) j z)) v
-    ∙ ap (λ (z : ℕ). take z (set (l .b) j (getD xs j 0))) (add-one j) ∙ take-suc-set (l .b) j (getD xs j 0) h1
-    ∙ ap (λ (z : List ℕ). z ++ getD xs j 0 ∷ []) (l .inv .1 .1) ∙ sym (take-suc xs j 0 h2) ∙ ap (λ (z : ℕ). take z xs) (sym (add-one j))))
+    let h2 : j < length xs = simp length-drop (omega arith) in (
+      omega arith,
+      (
+        length-set (l .b) j _ ∙ l .inv .1 .0,
+        ap (λ (z : ℕ). take (j + 1) (set (l .b) j z)) v
+            ∙ ap (λ (z : ℕ). take z (set (l .b) j (getD xs j 0))) (add-one j) ∙ take-suc-set (l .b) j (getD xs j 0) h1
+            ∙ ap (λ (z : List ℕ). z ++ getD xs j 0 ∷ []) (l .inv .1 .1) ∙ sym (take-suc xs j 0 h2) ∙ ap (λ (z : ℕ). take z xs) (sym (add-one j)),
+      ),
+    )
 
 returns : tie.Need-returns Inv-loop μ-loop
 returns c = let st = c .before .before in

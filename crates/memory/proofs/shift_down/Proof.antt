@@ -76,13 +76,20 @@ loop-again c =
     ap (λ (x : List ℕ). getD x (k + w) 0) (inv .1 .1 .1)
     ∙ getD-paste-above m₀ lo s j (k + w) (omega arith) (omega arith) (omega arith)
     ∙ ap (λ (z : ℕ). getD m₀ z 0) (sym e3)
-    ∙ sym (getD-drop (lo + w) m₀ j 0) in
-    (omega arith, (omega arith, (length-set m k (getD m (k + w) 0) ∙ inv .1 .1 .0,
-              ap (set m k) r
-                  ∙ ap (λ (x : List ℕ). set x k (getD s j 0)) (inv .1 .1 .1)
-                  ∙ ap (λ (z : ℕ). set (paste m₀ lo s j) z (getD s j 0)) (sym e)
-                  ∙ paste-suc m₀ lo s j 0 (omega arith) ls
-                  ∙ ap (paste m₀ lo s) e2)))
+    ∙ sym (getD-drop (lo + w) m₀ j 0) in (
+      omega arith,
+      (
+        omega arith,
+        (
+          length-set m k (getD m (k + w) 0) ∙ inv .1 .1 .0,
+          ap (set m k) r
+              ∙ ap (λ (x : List ℕ). set x k (getD s j 0)) (inv .1 .1 .1)
+              ∙ ap (λ (z : ℕ). set (paste m₀ lo s j) z (getD s j 0)) (sym e)
+              ∙ paste-suc m₀ lo s j 0 (omega arith) ls
+              ∙ ap (paste m₀ lo s) e2,
+        ),
+      ),
+    )
 
 same-length : tie.Need-same-length Inv-loop μ-loop
 same-length c = c .before .loop .inv .1 .1 .0

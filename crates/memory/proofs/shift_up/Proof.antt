@@ -61,12 +61,19 @@ loop-again c =
     let ec : getD m₀ (k - 1) 0 ∷ ys ≡ cut (k - 1) (hi - (k - 1)) m₀ =
     sym (ap (λ (z : ℕ). take z (drop (k - 1) m₀)) e2
     ∙ ap (take (suc (hi - k))) (drop-cons m₀ (k - 1) 0 (omega arith))
-    ∙ ap (λ (z : ℕ). getD m₀ (k - 1) 0 ∷ take (hi - k) (drop z m₀)) e1) in
-    (omega arith, (omega arith, (length-set m (k - 1 + w) (getD m (k - 1) 0) ∙ inv .1 .1 .0,
-              ap (set m (k - 1 + w)) v
-                  ∙ ap (λ (z : List ℕ). set z (k - 1 + w) (getD m₀ (k - 1) 0)) em
-                  ∙ put-down (k - 1 + w) ys m₀ (getD m₀ (k - 1) 0) (omega arith)
-                  ∙ ap (λ (z : List ℕ). put (k - 1 + w) z m₀) ec)))
+    ∙ ap (λ (z : ℕ). getD m₀ (k - 1) 0 ∷ take (hi - k) (drop z m₀)) e1) in (
+      omega arith,
+      (
+        omega arith,
+        (
+          length-set m (k - 1 + w) (getD m (k - 1) 0) ∙ inv .1 .1 .0,
+          ap (set m (k - 1 + w)) v
+              ∙ ap (λ (z : List ℕ). set z (k - 1 + w) (getD m₀ (k - 1) 0)) em
+              ∙ put-down (k - 1 + w) ys m₀ (getD m₀ (k - 1) 0) (omega arith)
+              ∙ ap (λ (z : List ℕ). put (k - 1 + w) z m₀) ec,
+        ),
+      ),
+    )
 
 same-length : tie.Need-same-length Inv-loop μ-loop
 same-length c = c .before .loop .inv .1 .1 .0
