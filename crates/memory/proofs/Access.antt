@@ -42,7 +42,7 @@ half-at m a =
 module _ (m : List ℕ) (i : ℕ) where
   module _ (h : i < length (rowsOf m)) where
     pub row-at : rowIn (flatOf m) i ≡ rowOf (cut (1024 + i * 80) 56 m)
-    unfolding rowIn rowsOf cell
+    unfolding rowsOf cell
     row-at = tab-at (cell rowOf 1024 80 56 m) (countAt m 0) i noRow (omega (arith, rows-count m))
 
     pub key-is : num4 m (1024 + i * 80) ≡ rowIn (flatOf m) i .key
@@ -68,7 +68,7 @@ module _ (m : List ℕ) (i : ℕ) where
     size-is = sym (ap (λ (r : Row). r .size) row-at ∙ getD-cut (1024 + i * 80) 56 13 m (omega arith))
 
   pub entry-at : (n : ℕ) → n ≡ headAt m .capacity → i < length (entriesOf m) → entryIn (flatOf m) i ≡ entryOf (cut (1024 + n * 80 + i * 8) 6 m)
-  unfolding entryIn entriesOf cell
+  unfolding entriesOf cell
   entry-at n e h =
       tab-at (cell entryOf (1024 + headAt m .capacity * 80) 8 6 m) (countAt m 1) i noEntry (omega (arith, pages-count m))
       ∙ ap (λ (z : ℕ). entryOf (cut (1024 + z * 80 + i * 8) 6 m)) (sym e)

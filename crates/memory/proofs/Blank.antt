@@ -142,7 +142,7 @@ unfolding freshFlat fillsRows total every all sum
 fresh-filled b n = refl
 
 fresh-means : (b n : ℕ) → storeOf (freshFlat b n) ≡ freshStore b n
-unfolding storeOf freshFlat freshStore pagesIn nest checkpointOf if_then_else_
+unfolding storeOf freshFlat freshStore nest checkpointOf if_then_else_
 fresh-means b n = refl
 
 -- the memory holds the fresh store

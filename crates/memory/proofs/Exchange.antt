@@ -35,7 +35,6 @@ map-drop g (suc n) (x ∷ xs) = map-drop g n xs
 module _ (f : Flat) (full : filled f ≡ true) (p r c : ℕ) (ms : List Entry) (ws : List Row) (ends : startOf f p + c ≡ startOf f (p + r)) (counts : total ms ≡ length ws) where
   -- the pages that the new entries make of the new rows stand for the r old ones
   pub exchanged-pages : pagesIn (exchanged f p r (startOf f p) c ms ws) ≡ take p (pagesIn f) ++ (nest ms (map heldOf ws) ++ drop (p + r) (pagesIn f))
-  unfolding pagesIn startOf
   exchanged-pages =
       let es : List Entry = f .entries in
       let rs : List Row = f .rows in
@@ -49,7 +48,6 @@ module _ (f : Flat) (full : filled f ≡ true) (p r c : ℕ) (ms : List Entry) (
       ∙ nest-replace es ts p r s c ms (map heldOf ws) refl ends (omega (arith, start-le f full p, length-map rs heldOf)) (length-map ws heldOf ∙ sym counts)
 
   pub exchanged-filled : Counted ms → filled (exchanged f p r (startOf f p) c ms ws) ≡ true
-  unfolding startOf
   exchanged-filled cs =
       let es : List Entry = f .entries in
       let rs : List Row = f .rows in

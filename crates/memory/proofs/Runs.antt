@@ -58,11 +58,11 @@ sum-append g (x ∷ xs) ys = omega (arith, sum-append g xs ys)
 -- ---- starts
 
 pub start-zero : (f : Flat) → startOf f 0 ≡ 0
-unfolding startOf total sum
+unfolding total sum
 start-zero f = refl
 
 pub start-next : (f : Flat) (p : ℕ) → p < length (f .entries) → startOf f (p + 1) ≡ startOf f p + entryIn f p .count
-unfolding startOf entryIn total sum
+unfolding total sum
 start-next f p h =
     let es : List Entry = f .entries in
     let a : total (take (p + 1) es) ≡ total (take p es ++ getD es p noEntry ∷ []) =
@@ -72,14 +72,12 @@ start-next f p h =
 
 -- the tuples, by index
 pub held-tab : (f : Flat) → map heldOf (f .rows) ≡ tab (heldIn f) 0 (length (f .rows))
-unfolding rowIn
 held-tab f = ap (map heldOf) (sym (tab-getD (f .rows) noRow)) ∙ map-tab heldOf (λ i. getD (f .rows) i noRow) 0 (length (f .rows))
 
 pub run-of : (f : Flat) (s c : ℕ) → s + c ≤ length (f .rows) → take c (drop s (map heldOf (f .rows))) ≡ tab (heldIn f) s c
 run-of f s c h = ap (λ (z : List Held). take c (drop s z)) (held-tab f) ∙ cut-tab (heldIn f) s c (length (f .rows)) h
 
 pub pages-count : (f : Flat) → length (pagesIn f) ≡ length (f .entries)
-unfolding pagesIn
 pages-count f = length-nest (f .entries) (map heldOf (f .rows))
 
 pub pages-end : (f : Flat) → drop (length (f .entries)) (pagesIn f) ≡ []
@@ -95,18 +93,15 @@ module _ (f : Flat) (full : filled f ≡ true) where
   all-counted = fills-total (f .entries) (length (f .rows)) full .1
 
   pub start-all : startOf f (length (f .entries)) ≡ length (f .rows)
-  unfolding startOf
   start-all = ap total (take-all (length (f .entries)) (f .entries) (omega arith)) ∙ rows-total
 
   pub start-le : (p : ℕ) → startOf f p ≤ length (f .rows)
-  unfolding startOf
   start-le p = omega (arith, total-split p (f .entries), rows-total)
 
   pub start-in : (p : ℕ) → p < length (f .entries) → startOf f p + entryIn f p .count ≤ length (f .rows)
   start-in p h = omega (arith, start-next f p h, start-le (p + 1))
 
   pub count-pos : (p : ℕ) → p < length (f .entries) → 1 ≤ entryIn f p .count
-  unfolding entryIn
   count-pos p h = counted-at (f .entries) p noEntry all-counted h
 
   -- there are no more pages than rows
@@ -114,7 +109,7 @@ module _ (f : Flat) (full : filled f ≡ true) where
   pages-few = omega (arith, counted-length (f .entries) all-counted, rows-total)
 
   pub page-at : (p : ℕ) → p < length (f .entries) → drop p (pagesIn f) ≡ pageIn f p ∷ drop (suc p) (pagesIn f)
-  unfolding pagesIn pageIn startOf entryIn
+  unfolding pageIn
   page-at p h =
       let es : List Entry = f .entries in
       let ts : List Held = map heldOf (f .rows) in
@@ -140,13 +135,12 @@ held-nest [] ts h = refl
 held-nest (e ∷ es) ts h =
     let xs : List Held = take (e .count) ts in
     let l : length xs ≡ e .count = length-take-le (e .count) ts (omega arith) in
-    let a : length (rowsOf (e .table % 8) (map (λ (h : Held). h .tuple) xs)) ≡ e .count =
+    let a : length (rowsOf (pageOf e xs .table) (map (λ (h : Held). h .tuple) xs)) ≡ e .count =
     length-rowsOf _ (map (λ (h : Held). h .tuple) xs) ∙ length-map xs (λ (h : Held). h .tuple) ∙ l in
     let b : length (held (nest es (drop (e .count) ts))) ≡ total es = held-nest es (drop (e .count) ts) (simp length-drop (omega arith)) in
-    length-append (rowsOf (e .table % 8) (map (λ (h : Held). h .tuple) xs)) (held (nest es (drop (e .count) ts))) ∙ omega arith
+    length-append (rowsOf (pageOf e xs .table) (map (λ (h : Held). h .tuple) xs)) (held (nest es (drop (e .count) ts))) ∙ omega arith
 
 -- as many tuples are held as there are rows
 pub held-count : (f : Flat) → filled f ≡ true → length (held (pagesIn f)) ≡ length (f .rows)
-unfolding pagesIn
 held-count f full =
     held-nest (f .entries) (map heldOf (f .rows)) (length-map (f .rows) heldOf ∙ sym (rows-total f full)) ∙ rows-total f full

@@ -121,10 +121,10 @@ noRow = record { key = 0; number = 0; owner = 0; flags = 0; size = 0; payload = 
 abbrev pub noEntry : Entry
 noEntry = record { table = 0; frozen = 0; count = 0; block = 0 }
 
-unfoldable pub rowIn : Flat → ℕ → Row
+abbrev pub rowIn : Flat → ℕ → Row
 rowIn f i = getD (f .rows) i noRow
 
-unfoldable pub entryIn : Flat → ℕ → Entry
+abbrev pub entryIn : Flat → ℕ → Entry
 entryIn f p = getD (f .entries) p noEntry
 
 -- block b is in use too

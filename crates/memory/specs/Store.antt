@@ -59,7 +59,7 @@ unfoldable pub nest : List Entry → List Held → List Page
 nest [] hs = []
 nest (e ∷ es) hs = pageOf e (take (e .count) hs) ∷ nest es (drop (e .count) hs)
 
-unfoldable pub pagesIn : Flat → List Page
+abbrev pub pagesIn : Flat → List Page
 pagesIn f = nest (f .entries) (map heldOf (f .rows))
 
 -- block numbers have 12 bits
@@ -90,7 +90,7 @@ unfoldable pub total : List Entry → ℕ
 total es = sum (λ e. e .count) es
 
 -- the row with which page p starts
-unfoldable pub startOf : Flat → ℕ → ℕ
+abbrev pub startOf : Flat → ℕ → ℕ
 startOf f p = total (take p (f .entries))
 
 unfoldable pub pageIn : Flat → ℕ → Page

@@ -9,6 +9,7 @@ ghost use Prim.Native.Nat.{ℕ, _+_, _*_, _-_, _/_, _%_, _^_, _≤_, _<_};
 ghost use lib.Dec.{eqb};
 ghost use lib.Bits.{bitOr};
 ghost use lib.ListN.{length, take, drop, getD, set, replicate};
+ghost use Rattle.blocks.specs.Limits.{payloadLimit};
 ghost use Rattle.blocks.specs.Numbers.{num4};
 ghost use Rattle.model.specs.Rules.{heldSize};
 ghost use Rattle.model.specs.Recover.{freshStore};
@@ -403,7 +404,7 @@ pub fn size_at(m: &[u8], i: usize) -> u8
 // A tuple's size: 9 bytes plus its payload, plus 4 if tentative.
 pub fn tuple_size(m: &[u8], i: usize) -> usize
     requires { ⌜ Room (now m) × (i < length (flatOf (now m) .rows)) ⌝ }
-    ensures { λ r. ⌜ r ≡ heldSize (heldIn (flatOf (now (m .entry))) i) ⌝ }
+    ensures { λ r. ⌜ (r ≡ heldSize (heldIn (flatOf (now (m .entry))) i)) × (r ≤ 13 + payloadLimit) ⌝ }
 {
     let n = size_at(m, i) as usize;
     let f = flags_at(m, i) as usize;

@@ -35,7 +35,7 @@ add-result-2 c = search needs
 
 returns : tie.Need-returns
 returns c = let st = c .before .before .before in
-    size-held (st .args .m .now) (st .pre .0) (st .args .i) (st .pre .1) (c .before .size-at .result) (c .flags-at .result) (c .before .size-at .ensures) (c .flags-at .ensures)
+    (size-held (st .args .m .now) (st .pre .0) (st .args .i) (st .pre .1) (c .before .size-at .result) (c .flags-at .result) (c .before .size-at .ensures) (c .flags-at .ensures), omega arith)
 
 pub tuple-size-spec : {M : Type 1} → statement M
 tuple-size-spec =
