@@ -94,14 +94,14 @@ in-range size h n g =
 
 -- ---- the pass over the page entries
 
--- what is left of the pass is what it will answer; sum: the rows of the i entries passed
-pub record Left (f : ℕ → Entry) (i c sum : ℕ) : Type 0 where
+-- what is left of the pass is what it will answer; good, sum: what the i entries passed have come to
+pub record Left (f : ℕ → Entry) (i c : ℕ) (good : Bool) (sum : ℕ) : Type 0 where
   pub passed : i ≤ c
   pub small : sum ≤ 65535 * i
-  pub all-left : all hasRows (tab f 0 c) ≡ all hasRows (tab f i (c - i))
+  pub all-left : all hasRows (tab f 0 c) ≡ (good && all hasRows (tab f i (c - i)))
   pub sum-left : total (tab f 0 c) ≡ sum + total (tab f i (c - i))
 
-module _ (f : ℕ → Entry) (i c n sum : ℕ) where
+module _ (f : ℕ → Entry) (i c : ℕ) (good : Bool) (sum : ℕ) where
   all-next : i < c → all hasRows (tab f i (c - i)) ≡ (hasRows (f i) && all hasRows (tab f (i + 1) (c - (i + 1))))
   unfolding all
   all-next h = ap (all hasRows) (tab-next f i c h)
@@ -110,33 +110,30 @@ module _ (f : ℕ → Entry) (i c n sum : ℕ) where
   unfolding total sum
   sum-next h = ap total (tab-next f i c h)
 
-  pub pass-stop : i < c → Left f i c sum → f i .count < 1 → false ≡ fillsRows (tab f 0 c) n
-  unfolding fillsRows hasRows
-  pass-stop h l z =
-      sym (every-stop _ _ (l .all-left ∙ all-next h ∙ ap (λ (t : Bool). t && all hasRows (tab f (i + 1) (c - (i + 1)))) (lt-leb 1 (f i .count) z)))
-
-  pub pass-end : c ≤ i → Left f i c sum → eqb sum n ≡ fillsRows (tab f 0 c) n
-  unfolding fillsRows all total sum
-  pass-end h l =
-      let e : c - i ≡ 0 = omega arith in
-      let a : all hasRows (tab f 0 c) ≡ true = l .all-left ∙ ap (λ (k : ℕ). all hasRows (tab f i k)) e in
-      let b : total (tab f i (c - i)) ≡ 0 = ap (λ (k : ℕ). total (tab f i k)) e in
-      let d : sum ≡ total (tab f 0 c) = omega (arith, l .sum-left) in
-      ap (λ (k : ℕ). eqb k n) d ∙ sym (every-cons _ _ a ∙ every-one _)
-
-  pub pass-on : i < c → Left f i c sum → (k : ℕ) → k ≡ f i .count → 1 ≤ k → k ≤ 65535 → Left f (i + 1) c (sum + k)
+  pub pass-on : i < c → Left f i c good sum → (k : ℕ) → k ≡ f i .count → k ≤ 65535 → Left f (i + 1) c (good && leb 1 k) (sum + k)
   unfolding hasRows
-  pass-on h l k e g b =
+  pass-on h l k e b =
       let s = l .small in
       let t = l .sum-left in
+      let r : Bool = all hasRows (tab f (i + 1) (c - (i + 1))) in
       record {
         passed = omega arith;
         small = omega arith;
-        all-left = l .all-left ∙ all-next h ∙ ap (λ (t : Bool). t && all hasRows (tab f (i + 1) (c - (i + 1)))) (le-leb 1 (f i .count) (omega arith));
+        all-left =
+            l .all-left ∙ ap (λ (z : Bool). good && z) (all-next h) ∙ ap (λ (z : ℕ). good && (leb 1 z && r)) (sym e) ∙ sym (and-right good (leb 1 k) r);
         sum-left = omega (arith, sum-next h);
       }
 
-pub pass-start : (f : ℕ → Entry) (c : ℕ) → Left f 0 c 0
+  pub pass-end : c ≤ i → Left f i c good sum → (n : ℕ) → (good && eqb sum n) ≡ fillsRows (tab f 0 c) n
+  unfolding fillsRows every all total sum
+  pass-end h l n =
+      let e : c - i ≡ 0 = omega arith in
+      let a : all hasRows (tab f 0 c) ≡ good = l .all-left ∙ ap (λ (k : ℕ). good && all hasRows (tab f i k)) e ∙ and-one good in
+      let b : total (tab f i (c - i)) ≡ 0 = ap (λ (k : ℕ). total (tab f i k)) e in
+      let d : sum ≡ total (tab f 0 c) = omega (arith, l .sum-left) in
+      ap (λ (z : Bool). z && eqb sum n) (sym a) ∙ ap (λ (k : ℕ). all hasRows (tab f 0 c) && eqb k n) d ∙ ap (λ (z : Bool). all hasRows (tab f 0 c) && z) (sym (and-one _))
+
+pub pass-start : (f : ℕ → Entry) (c : ℕ) → Left f 0 c true 0
 pass-start f c =
     let e : c ≡ c - 0 = omega arith in
     record {

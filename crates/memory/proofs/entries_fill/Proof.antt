@@ -1,6 +1,6 @@
-use Rattle.memory.specs.declared.Entry.{Entry}
 use Rattle.memory.proofs.Access.{count-is}
-use Rattle.memory.proofs.Refusal.{Left, pass-start, pass-stop, pass-on, pass-end}
+use Rattle.memory.proofs.Refusal.{Left, pass-start, pass-on, pass-end}
+use Rattle.memory.specs.declared.Entry.{Entry}
 use Rattle.memory.specs.Views.{cell, entryOf}
 use mathlib.Core.List.{List}
 use borrow.Author.Needs.{needs}
@@ -14,10 +14,10 @@ use Rattle.memory.proofs.entries_fill.Lts as lts
 use Rattle.memory.proofs.get2.Reads as get2-reads
 
 abbrev Inv-loop : tie.InvT-loop
-Inv-loop m n c rows base sum₀ i₀ sum i = Left (cell entryOf (1024 + n * 80) 8 6 m) i c sum
+Inv-loop m n c rows base good₀ sum₀ i₀ good sum i = Left (cell entryOf (1024 + n * 80) 8 6 m) i c good sum
 
 abbrev μ-loop : tie.MeasureT-loop
-μ-loop m n c rows base sum₀ i₀ sum i = c - i
+μ-loop m n c rows base good₀ sum₀ i₀ good sum i = c - i
 
 mul-base : tie.Need-mul-base Inv-loop μ-loop
 mul-base c = omega arith
@@ -43,13 +43,6 @@ get2-requires c κs = omega arith
 cast-k : tie.Need-cast-k Inv-loop μ-loop
 cast-k c = search needs
 
-returns : tie.Need-returns Inv-loop μ-loop
-returns c = let st = c .before .before .before .before .before in
-    let f : ℕ → Entry = cell entryOf (1024 + st .args .n * 80) 8 6 (st .args .m .now) in
-    let l = c .before .before .before .loop in
-    let e : c .before .get2 .result ≡ f (l .i) .count = c .before .get2 .ensures ∙ count-is (st .args .m .now) (st .args .n) (l .i) in
-    pass-stop f (l .i) (st .args .c) (st .args .rows) (l .sum) (c .before .before .loop-test .taken) (l .inv) (omega arith)
-
 add-sum : tie.Need-add-sum Inv-loop μ-loop
 add-sum c = omega arith
 
@@ -60,17 +53,17 @@ loop-less : tie.Need-loop-less Inv-loop μ-loop
 loop-less c = omega arith
 
 loop-again : tie.Need-loop-again Inv-loop μ-loop
-loop-again c = let st = c .before .before .before .before .before in
+loop-again c = let st = c .before .before .before .before in
     let f : ℕ → Entry = cell entryOf (1024 + st .args .n * 80) 8 6 (st .args .m .now) in
-    let l = c .before .before .before .loop in
-    let e : c .before .get2 .result ≡ f (l .i) .count = c .before .get2 .ensures ∙ count-is (st .args .m .now) (st .args .n) (l .i) in
-    pass-on f (l .i) (st .args .c) (st .args .rows) (l .sum) (c .before .before .loop-test .taken) (l .inv) (c .before .get2 .result) e (omega arith) (omega arith)
+    let l = c .before .before .loop in
+    let e : c .get2 .result ≡ f (l .i) .count = c .get2 .ensures ∙ count-is (st .args .m .now) (st .args .n) (l .i) in
+    pass-on f (l .i) (st .args .c) (l .good) (l .sum) (c .before .loop-test .taken) (l .inv) (c .get2 .result) e (omega arith)
 
-returns-2 : tie.Need-returns-2 Inv-loop μ-loop
-returns-2 c = let st = c .before .before .before in
+returns : tie.Need-returns Inv-loop μ-loop
+returns c = let st = c .before .before .before in
     let f : ℕ → Entry = cell entryOf (1024 + st .args .n * 80) 8 6 (st .args .m .now) in
     let l = c .before .loop in
-    pass-end f (l .i) (st .args .c) (st .args .rows) (l .sum) (c .loop-test .left) (l .inv)
+    pass-end f (l .i) (st .args .c) (l .good) (l .sum) (c .loop-test .left) (l .inv) (st .args .rows)
 
 pub entries-fill-spec : {M : Type 1} → statement M
 entries-fill-spec =
@@ -86,9 +79,8 @@ entries-fill-spec =
     add-get2
     get2-requires
     cast-k
-    returns
     add-sum
     add-i
     loop-less
     loop-again
-    returns-2)
+    returns)
