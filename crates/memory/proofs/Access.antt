@@ -1,16 +1,14 @@
 -- What is read at a place of the memory is the element of a flat list.
-use mathlib.Core.Path.{_≡_, refl, sym, ap, _∙_}
-use Prim.Native.Nat.{ℕ, _+_, _*_, _-_, _≤_, _<_}
+use mathlib.Core.Path.{_≡_, sym, ap, _∙_}
+use Prim.Native.Nat.{ℕ, _+_, _*_, _≤_, _<_}
 use native.Mathlib.Omega.{arith}
-use mathlib.Core.List.{List, [], _∷_, _++_}
-use lib.ListN.{length, take, drop, getD}
+use mathlib.Core.List.{List}
+use lib.ListN.{length, getD}
 use Rattle.blocks.specs.Numbers.{num4}
 use Rattle.memory.specs.Bytes.{num2, cut}
-use Rattle.memory.specs.Views.{cell, tab, word, half, rowOf, entryOf, headAt, countAt}
-use Rattle.memory.specs.Flat.{Flat, flatOf, opensOf, rowsOf, entriesOf, namedOf, directoriesOf, noRow, noEntry, rowIn, entryIn}
+use Rattle.memory.specs.Views.{cell, word, half, rowOf, entryOf, headAt, countAt}
+use Rattle.memory.specs.Flat.{flatOf, opensOf, rowsOf, entriesOf, namedOf, directoriesOf, noRow, noEntry, rowIn, entryIn}
 use Rattle.memory.specs.declared.Row.{Row}
-use Rattle.memory.specs.declared.Entry.{Entry}
-use Rattle.memory.specs.declared.Head.{Head}
 use Rattle.memory.proofs.Cells.{getD-cut, tab-at}
 use Rattle.memory.proofs.Changes.{word-at, rows-count, pages-count, opens-count, named-count, directories-count}
 

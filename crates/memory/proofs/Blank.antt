@@ -1,22 +1,20 @@
 -- A memory that was laid out anew: its head, its counts, and the empty store.
-use mathlib.Core.Path.{_≡_, refl, sym, ap, _∙_, subst}
-use mathlib.Core.Logic.{inl, inr}
+use mathlib.Core.Path.{_≡_, refl, sym, ap, _∙_}
 use mathlib.Core.Option.{some}
 use mathlib.Core.Bool.{true}
-use Prim.Native.Nat.{ℕ, zero, suc, _+_, _*_, _-_, _≤_, _<_}
+use Prim.Native.Nat.{ℕ, _+_, _*_, _-_, _≤_}
 use native.Mathlib.Omega.{arith}
-use mathlib.Core.List.{List, [], _∷_, _++_}
-use lib.ListN.{length, take, drop, getD, replicate, length-replicate}
+use mathlib.Core.List.{List}
+use lib.ListN.{length, replicate, length-replicate}
 use Rattle.basics.specs.Basics.{if_then_else_, every, all, sum}
 use Rattle.blocks.specs.Numbers.{num4}
 use Rattle.model.specs.Recover.{freshStore}
 use Rattle.memory.specs.Bytes.{bytes4, cut, put, Apart}
-use Rattle.memory.specs.Views.{cell, tab, word, half, rowOf, entryOf, headOf, headAt, countAt, usedIn, usedAt, opensAt, rowsAt, entriesAt, namedAt, directoriesAt}
-use Rattle.memory.specs.Flat.{Flat, flatOf, opensOf, rowsOf, entriesOf, namedOf, directoriesOf, countsOf, signature, InRange, Room, Becomes}
-use Rattle.memory.specs.Store.{Fits, freshFlat, storeOf, pagesIn, nest, checkpointOf, fillsRows, total, filled, storeIn}
-use Rattle.memory.specs.declared.Head.{Head}
+use Rattle.memory.specs.Views.{cell, word, headOf, headAt, countAt, usedAt, opensAt, rowsAt, entriesAt, namedAt, directoriesAt}
+use Rattle.memory.specs.Flat.{flatOf, opensOf, rowsOf, entriesOf, namedOf, directoriesOf, signature, Becomes}
+use Rattle.memory.specs.Store.{Fits, freshFlat, storeOf, nest, checkpointOf, fillsRows, total, filled, storeIn}
 use Rattle.memory.proofs.Laws.{cut-put-in, put-apart, length-put}
-use Rattle.memory.proofs.Cells.{Off, off, put-here}
+use Rattle.memory.proofs.Cells.{put-here}
 use Rattle.memory.proofs.Spelling.{word-back}
 use Rattle.memory.proofs.Changes.{word-at, becomes, flat-eq}
 use Rattle.memory.proofs.Access.{num4-cut}

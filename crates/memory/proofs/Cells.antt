@@ -1,16 +1,16 @@
 -- Cells of one width after another: what a store, a shift and a write elsewhere do to the list of them. One law for every region.
 use mathlib.Core.Path.{_≡_, refl, sym, ap, _∙_}
 use mathlib.Core.Logic.{_⊎_, ⊎-elim}
-use Prim.Native.Nat.{ℕ, zero, suc, _+_, _*_, _-_, _≤_, _<_}
+use Prim.Native.Nat.{ℕ, suc, _+_, _*_, _-_, _≤_, _<_}
 use native.Mathlib.Nat.{zero-add, suc-mul, mul-le-mul-right}
 use native.Mathlib.Omega.{arith}
 use mathlib.Core.List.{List, [], _∷_, _++_}
-use lib.ListN.{length, take, drop, getD, set}
+use lib.ListN.{length, drop, getD, set}
 use lib.Seq.{take-all, getD-take, getD-drop}
 use Rattle.memory.specs.Bytes.{cut, put, Apart, Shifted, Lowered}
 use Rattle.memory.specs.Views.{cell, tab, Only}
 use Rattle.memory.specs.Flat.{insertAt, removeAt}
-use Rattle.memory.proofs.Laws.{lt-or-ge, cut-put-in, put-apart, length-tab, getD-tab, tab-cong, tab-add, tab-set, tab-insert, tab-remove}
+use Rattle.memory.proofs.Laws.{lt-or-ge, cut-put-in, put-apart, getD-tab, tab-cong, tab-add, tab-set, tab-insert, tab-remove}
 
 -- the n bytes from b on are none of the k bytes from a on
 abbrev pub Off : ℕ → ℕ → ℕ → ℕ → Type 0

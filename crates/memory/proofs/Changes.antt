@@ -1,13 +1,13 @@
 -- From a write to one region to all that the memory holds: the other parts stay.
 use mathlib.Core.Path.{_≡_, refl, sym, ap, _∙_, subst}
-use mathlib.Core.Logic.{_⊎_, inl, inr, ⊎-elim}
+use mathlib.Core.Logic.{inl, inr, ⊎-elim}
 use mathlib.Core.Bool.{Bool}
-use Prim.Native.Nat.{ℕ, zero, suc, _+_, _*_, _-_, _≤_, _<_}
+use Prim.Native.Nat.{ℕ, _+_, _*_, _≤_, _<_}
 use native.Mathlib.Omega.{arith}
-use mathlib.Core.List.{List, [], _∷_, _++_}
-use lib.ListN.{length, take, drop, getD, set}
+use mathlib.Core.List.{List}
+use lib.ListN.{length, getD}
 use Rattle.blocks.specs.Numbers.{num4}
-use Rattle.memory.specs.Bytes.{num2, cut, put, Apart, Shifted, Lowered}
+use Rattle.memory.specs.Bytes.{cut, Apart}
 use Rattle.memory.specs.Views.{cell, tab, word, half, rowOf, entryOf, headOf, headAt, countAt, opensAt, rowsAt, entriesAt, namedAt, directoriesAt, usedIn, usedAt, Only}
 use Rattle.memory.specs.Flat.{Flat, flatOf, opensOf, rowsOf, entriesOf, namedOf, directoriesOf, countsOf, signature, InRange, Room, Replaces, Becomes, withHead, withOpens, withRows, withEntries, withNamed, withDirectories, withUsed}
 use Rattle.memory.specs.declared.Row.{Row}
@@ -15,7 +15,7 @@ use Rattle.memory.specs.declared.Entry.{Entry}
 use Rattle.memory.specs.declared.Head.{Head}
 use Rattle.memory.specs.declared.Counts.{Counts}
 use Rattle.memory.proofs.Laws.{lt-or-ge, length-tab}
-use Rattle.memory.proofs.Cells.{Off, off, apart-none, apart-then, getD-cut, cell-off, cells-off}
+use Rattle.memory.proofs.Cells.{Off, off, apart-none, getD-cut, cell-off, cells-off}
 
 -- ---- the counts are the lists' lengths
 

@@ -1,17 +1,17 @@
 -- Entries exchanged with their rows: the pages, the entries' sum and the store after it.
 use mathlib.Core.Path.{_≡_, refl, sym, ap, _∙_}
-use mathlib.Core.Bool.{Bool, true, false}
+use mathlib.Core.Bool.{true}
 use mathlib.Core.Option.{some}
-use Prim.Native.Nat.{ℕ, zero, suc, _+_, _*_, _-_, _≤_, _<_}
+use Prim.Native.Nat.{ℕ, zero, suc, _+_, _-_, _<_}
 use native.Mathlib.Omega.{arith}
 use native.Mathlib.Numerals.{add-one}
 use mathlib.Core.List.{List, [], _∷_, _++_, map, append-assoc}
-use lib.ListN.{length, take, drop, getD, set, length-map, length-append, length-take, length-drop, length-set, take-append-drop}
+use lib.ListN.{length, take, drop, set, length-map, length-append, length-drop}
 use lib.Seq.{length-take-le, set-split, take-at, drop-at, drop-set-lt}
-use Rattle.model.specs.State.{Held, Page, Store}
+use Rattle.model.specs.State.{Held, Page}
 use Rattle.model.specs.Transactions.{changed}
-use Rattle.memory.specs.Flat.{Flat, flatOf, Room, Becomes, withRows, withEntries, withHead, withOpens, withNamed, withDirectories, withUsed, insertAt, removeAt}
-use Rattle.memory.specs.Store.{heldOf, nest, pageOf, pagesIn, total, startOf, exchanged, fillsRows, filled, storeOf, storeIn}
+use Rattle.memory.specs.Flat.{Flat, Becomes, insertAt, removeAt}
+use Rattle.memory.specs.Store.{heldOf, nest, pagesIn, total, startOf, exchanged, filled, storeOf, storeIn}
 use Rattle.memory.specs.declared.Row.{Row}
 use Rattle.memory.specs.declared.Entry.{Entry}
 use Rattle.memory.proofs.Nest.{Counted, total-append, total-split, counted-append, counted-take, counted-drop, total-fills, nest-replace}

@@ -1,24 +1,19 @@
 -- Whatever bytes the memory has, its tuples, pages and numbers are in the ranges of the block forms.
-use mathlib.Core.Path.{_≡_, refl, sym, ap, _∙_}
-use mathlib.Core.Bool.{Bool, true, false}
-use Prim.Native.Nat.{ℕ, zero, suc, _+_, _*_, _-_, _/_, _%_, _≤_, _<_, min}
+use Prim.Native.Nat.{ℕ, zero, suc, _+_, _*_, _%_, _≤_, _<_}
 use native.Mathlib.Omega.{arith}
-use mathlib.Core.List.{List, [], _∷_, _++_, map}
+use mathlib.Core.List.{List, [], _∷_}
 use lib.ListN.{length, take, drop, getD, length-take}
 use lib.Dec.{eqb}
 use Rattle.basics.specs.Basics.{if_then_else_}
 use Rattle.basics.proofs.Facts.{by, AllOf}
-use Rattle.blocks.specs.Limits.{payloadLimit}
 use Rattle.blocks.specs.Numbers.{num4}
-use Rattle.blocks.specs.Tuple.{Owner, committed, tentative, OwnerFits, AllBytes, Fits}
-use Rattle.model.specs.State.{Held, Page}
-use Rattle.memory.specs.Bytes.{num2, cut}
+use Rattle.blocks.specs.Tuple.{OwnerFits, AllBytes, Fits}
+use Rattle.model.specs.State.{Held}
+use Rattle.memory.specs.Bytes.{cut}
 use Rattle.memory.specs.Views.{tab, rowOf, headOf, headAt}
-use Rattle.memory.specs.Flat.{Flat, flatOf, rowsOf, rowIn}
+use Rattle.memory.specs.Flat.{flatOf, rowsOf}
 use Rattle.memory.specs.Store.{ownerOf, tupleOf, heldOf, heldIn, pageOf}
-use Rattle.memory.specs.declared.Row.{Row}
 use Rattle.memory.specs.declared.Entry.{Entry}
-use Rattle.memory.specs.declared.Head.{Head}
 use Rattle.memory.proofs.Access.{row-at}
 
 -- ---- bytes

@@ -1,13 +1,12 @@
 -- Parts of a list that was written over, and lists that are made by index.
-use mathlib.Core.Path.{_≡_, refl, sym, ap, _∙_, subst}
+use mathlib.Core.Path.{_≡_, refl, sym, ap, _∙_}
 use mathlib.Core.Logic.{_⊎_, inl, inr, ⊎-elim}
-use Prim.Native.Nat.{ℕ, zero, suc, _+_, _*_, _-_, _≤_, _<_, min, zero-le, suc-le-suc}
-use native.Mathlib.Nat.{add-zero, zero-add, add-suc, suc-add, le-of-suc-le-suc, not-suc-le-zero, zero-lt-suc}
-use native.Mathlib.Numerals.{add-one}
+use Prim.Native.Nat.{ℕ, zero, suc, _+_, _-_, _≤_, _<_, min, zero-le, suc-le-suc}
+use native.Mathlib.Nat.{add-zero, zero-add, suc-add, le-of-suc-le-suc, not-suc-le-zero, zero-lt-suc}
 use native.Mathlib.Omega.{arith}
 use mathlib.Core.List.{List, [], _∷_, _++_, append-assoc, append-nil}
 use lib.ListN.{length, take, drop, getD, set, length-append, length-take, length-drop, take-append-drop, List·getD-append}
-use lib.Seq.{take-append-le, drop-append-le, drop-append-add, drop-drop, length-take-le, take-all, paste, take-at, ext-getD, getD-take, getD-drop, set-split, take-suc, append-snoc, set-at, drop-cons}
+use lib.Seq.{take-append-le, drop-append-le, drop-append-add, drop-drop, length-take-le, take-at, ext-getD, getD-take, getD-drop, set-split, take-suc, append-snoc, set-at}
 use Rattle.memory.specs.Bytes.{cut, put, Apart}
 use Rattle.memory.specs.Views.{tab}
 
@@ -62,16 +61,6 @@ cut-cut a w b v m h k =
     sym (cut-left (take w (drop a m)) (drop w (drop a m)) b v (omega arith))
     ∙ ap (cut b v) (take-append-drop w (drop a m))
     ∙ ap (take v) (drop-drop b a m)
-
--- the same part of two lists that are as long
-pub cut-same : (a w : ℕ) (m n : List ℕ) → length m ≡ length n → ((t : ℕ) → t < w → getD m (a + t) 0 ≡ getD n (a + t) 0) → cut a w m ≡ cut a w n
-cut-same a w m n e h =
-    let l : length (cut a w m) ≡ length (cut a w n) = simp (length-take, length-drop, e) in
-    let lw : length (cut a w m) ≡ min w (length m - a) = simp (length-take, length-drop) in
-    ext-getD 0 (cut a w m) (cut a w n) l
-    (λ t k.
-    let k2 : t < w = omega arith in
-    getD-take w (drop a m) t 0 k2 ∙ getD-drop a m t 0 ∙ h t k2 ∙ sym (getD-drop a n t 0) ∙ sym (getD-take w (drop a n) t 0 k2))
 
 pub put-apart : (at : ℕ) (ys m : List ℕ) (n : ℕ) → at + length ys ≤ length m → length ys ≤ n → Apart m (put at ys m) at n
 put-apart at ys m n f h =
@@ -164,17 +153,6 @@ put-put a xs ys m h =
     ap (λ (q : List ℕ). q ++ ys ++ drop (a + length xs + length ys) (p ++ r)) e1
     ∙ ap (λ (q : List ℕ). p ++ ys ++ q) (e2 ∙ e3)
     ∙ ap (λ (q : List ℕ). q ++ drop (a + length (xs ++ ys)) m) (append-assoc (take a m) xs ys)
-
--- parts of two lists that are the same byte by byte
-pub cut-ext : (a b w : ℕ) (m n : List ℕ) → a + w ≤ length m → b + w ≤ length n
-    → ((t : ℕ) → t < w → getD m (a + t) 0 ≡ getD n (b + t) 0) → cut a w m ≡ cut b w n
-cut-ext a b w m n hm hn h =
-    let lm : length (cut a w m) ≡ w = length-take-le w (drop a m) (simp length-drop (omega arith)) in
-    let ln : length (cut b w n) ≡ w = length-take-le w (drop b n) (simp length-drop (omega arith)) in
-    ext-getD 0 (cut a w m) (cut b w n) (lm ∙ sym ln)
-    (λ t k.
-    let k2 : t < w = omega arith in
-    getD-take w (drop a m) t 0 k2 ∙ getD-drop a m t 0 ∙ h t k2 ∙ sym (getD-drop b n t 0) ∙ sym (getD-take w (drop b n) t 0 k2))
 
 -- ---- a list by index, with one place changed, put in or taken out
 

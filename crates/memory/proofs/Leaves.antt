@@ -1,17 +1,17 @@
 -- From the stores and shifts that a function made to its one equation on the flat lists.
-use mathlib.Core.Path.{_≡_, refl, sym, ap, _∙_, subst}
-use mathlib.Core.Logic.{inl, inr}
-use Prim.Native.Nat.{ℕ, zero, suc, _+_, _*_, _-_, _≤_, _<_}
+use mathlib.Core.Path.{_≡_, refl, sym, ap, _∙_}
+use mathlib.Core.Logic.{inl}
+use Prim.Native.Nat.{ℕ, _+_, _*_, _-_, _≤_, _<_}
 use native.Mathlib.Omega.{arith}
 use mathlib.Core.List.{List, [], _∷_, _++_}
-use lib.ListN.{length, take, drop, getD, set}
-use Rattle.memory.specs.Bytes.{cut, put, Apart, Shifted, Lowered}
+use lib.ListN.{length, set}
+use Rattle.memory.specs.Bytes.{Apart, Shifted, Lowered}
 use Rattle.memory.specs.Views.{cell, tab, word, half, rowOf, entryOf, headAt, countAt, opensAt, rowsAt, entriesAt, namedAt, directoriesAt, Only}
-use Rattle.memory.specs.Flat.{Flat, flatOf, opensOf, rowsOf, entriesOf, namedOf, directoriesOf, Room, Becomes, withOpens, withRows, withEntries, withNamed, withDirectories, insertAt, removeAt}
+use Rattle.memory.specs.Flat.{flatOf, opensOf, rowsOf, entriesOf, namedOf, directoriesOf, Room, Becomes, withOpens, withRows, withEntries, withNamed, withDirectories, insertAt, removeAt}
 use Rattle.memory.specs.declared.Row.{Row}
 use Rattle.memory.specs.declared.Entry.{Entry}
 use Rattle.memory.proofs.Cells.{cell-off, apart-none, apart-then, cells-set, cells-push, cells-insert, cells-remove}
-use Rattle.memory.proofs.Changes.{Known, known, recount, recount-none, rows-become, entries-become, opens-become, named-become, directories-become}
+use Rattle.memory.proofs.Changes.{known, recount, recount-none, rows-become, entries-become, opens-become, named-become, directories-become}
 
 -- n is the count that was read; q: the count that was written
 module _ (m : List ℕ) (r : Room m) (n : ℕ) where

@@ -1,26 +1,24 @@
 -- A row's payload and size.
-use mathlib.Core.Path.{_≡_, refl, sym, ap, _∙_}
-use mathlib.Core.Bool.{Bool, true, false}
-use Prim.Native.Nat.{ℕ, zero, suc, _+_, _*_, _-_, _/_, _%_, _≤_, _<_, min}
+use mathlib.Core.Path.{_≡_, sym, ap, _∙_}
+use Prim.Native.Nat.{ℕ, _+_, _*_, _%_, _<_}
 use native.Mathlib.Omega.{arith}
-use mathlib.Core.List.{List, [], _∷_, _++_}
-use lib.ListN.{length, take, drop, getD, length-take, length-drop}
+use mathlib.Core.List.{List}
+use lib.ListN.{length, take, drop, length-drop}
 use lib.Seq.{length-take-le, take-take}
 use lib.Dec.{eqb}
-use borrow.Author.Tests.{eq-eqb, ne-eqb, eqb-true, eqb-false}
+use borrow.Author.Tests.{eqb-true, eqb-false}
 use Rattle.basics.specs.Basics.{if_then_else_}
 use Rattle.basics.proofs.Facts.{by}
 use Rattle.blocks.specs.Limits.{payloadLimit}
-use Rattle.blocks.specs.Tuple.{Owner, committed, tentative, ownerSize, size}
+use Rattle.blocks.specs.Tuple.{ownerSize, size}
 use Rattle.model.specs.Rules.{heldSize}
 use Rattle.memory.specs.Bytes.{cut}
 use Rattle.memory.specs.Views.{rowOf}
-use Rattle.memory.specs.Flat.{Flat, flatOf, rowsOf, rowIn, Room}
+use Rattle.memory.specs.Flat.{flatOf, rowsOf, rowIn, Room}
 use Rattle.memory.specs.Store.{ownerOf, tupleOf, heldOf, heldIn, Holds}
 use Rattle.memory.specs.declared.Row.{Row}
-use Rattle.memory.specs.declared.Part.{Part}
 use Rattle.memory.proofs.Laws.{cut-cut}
-use Rattle.memory.proofs.Changes.{Known, known}
+use Rattle.memory.proofs.Changes.{known}
 use Rattle.memory.proofs.Access.{row-at}
 
 owner-size : (flag w : ℕ) → flag < 2 → ownerSize (ownerOf flag w) ≡ 4 * flag

@@ -1,18 +1,18 @@
 -- The tests that decide whether the memory holds a store, and what they mean.
 use mathlib.Core.Path.{_≡_, refl, sym, ap, _∙_}
 use mathlib.Core.Bool.{Bool, true, false, _&&_}
-use Prim.Native.Nat.{ℕ, zero, suc, _+_, _*_, _-_, _≤_, _<_}
+use Prim.Native.Nat.{ℕ, _+_, _*_, _-_, _≤_, _<_}
 use native.Mathlib.Omega.{arith}
-use mathlib.Core.List.{List, [], _∷_, _++_}
+use mathlib.Core.List.{List, [], _∷_}
 use lib.ListN.{length}
-use lib.Dec.{leb, ltb, eqb}
+use lib.Dec.{leb, eqb}
 use borrow.Author.Tests.{le-leb, leb-true, lt-ltb, ltb-true, eq-eqb, eqb-true, lt-leb, ne-eqb}
 use Rattle.basics.specs.Basics.{every, all, sum}
-use Rattle.basics.proofs.Facts.{lie, and-true}
+use Rattle.basics.proofs.Facts.{and-true}
 use Rattle.blocks.specs.Numbers.{num4}
 use Rattle.model.specs.Recover.{memoryFor}
-use Rattle.memory.specs.Views.{cell, tab, entryOf, headAt, countAt, entriesAt}
-use Rattle.memory.specs.Flat.{Flat, flatOf, entriesOf, rowsOf, countsOf, signature, InRange, Room}
+use Rattle.memory.specs.Views.{tab, headAt, entriesAt}
+use Rattle.memory.specs.Flat.{flatOf, entriesOf, rowsOf, countsOf, signature, InRange, Room}
 use Rattle.memory.specs.Store.{inRange, total, hasRows, fillsRows, filled, holdsStore}
 use Rattle.memory.specs.declared.Entry.{Entry}
 use Rattle.memory.specs.declared.Head.{Head}

@@ -1,25 +1,24 @@
 -- Pages as runs of the row list: where each starts, what it holds, how large it is.
 use mathlib.Core.Path.{_≡_, refl, sym, ap, _∙_}
-use mathlib.Core.Bool.{Bool, true, false}
-use Prim.Native.Nat.{ℕ, zero, suc, _+_, _*_, _-_, _%_, _≤_, _<_}
+use mathlib.Core.Bool.{true}
+use Prim.Native.Nat.{ℕ, zero, suc, _+_, _-_, _≤_, _<_}
 use native.Mathlib.Omega.{arith}
-use native.Mathlib.Nat.{zero-add, suc-add, add-zero}
+use native.Mathlib.Nat.{zero-add}
 use native.Mathlib.Numerals.{add-one}
 use mathlib.Core.List.{List, [], _∷_, _++_, map}
-use lib.ListN.{length, take, drop, getD, length-map, length-append, length-drop, length-take, drop-of-length-le, take-append-drop}
+use lib.ListN.{length, take, drop, getD, length-map, length-append, length-drop, drop-of-length-le}
 use lib.Seq.{take-suc, take-all, length-take-le}
 use Rattle.basics.specs.Basics.{sum}
 use Rattle.blocks.specs.Tuple.{Tuple}
 use Rattle.rows.specs.Rows.{rowsOf}
-use Rattle.model.specs.State.{Held, Page}
+use Rattle.model.specs.State.{Held}
 use Rattle.model.specs.Rules.{heldSize}
 use Rattle.model.specs.Sight.{held}
 use Rattle.memory.specs.Views.{tab}
-use Rattle.memory.specs.Flat.{Flat, rowIn, entryIn, noRow, noEntry}
-use Rattle.memory.specs.Store.{heldOf, heldIn, pageOf, nest, pagesIn, total, startOf, pageIn, fillsRows, filled}
-use Rattle.memory.specs.declared.Row.{Row}
+use Rattle.memory.specs.Flat.{Flat, entryIn, noRow, noEntry}
+use Rattle.memory.specs.Store.{heldOf, heldIn, pageOf, nest, pagesIn, total, startOf, pageIn, filled}
 use Rattle.memory.specs.declared.Entry.{Entry}
-use Rattle.memory.proofs.Laws.{length-tab, take-tab, drop-tab, tab-next}
+use Rattle.memory.proofs.Laws.{take-tab, drop-tab, tab-next}
 use Rattle.memory.proofs.Nest.{Counted, total-append, total-split, counted-at, counted-length, fills-total, nest-at, length-nest}
 
 -- ---- lists by index

@@ -1,13 +1,13 @@
 -- The bytes of a number, a row, a page entry, the head say it; each store of them is a store of one cell.
-use mathlib.Core.Path.{_≡_, refl, sym, ap, _∙_}
-use Prim.Native.Nat.{ℕ, _+_, _*_, _-_, _/_, _%_, _≤_, _<_}
+use mathlib.Core.Path.{_≡_, refl, ap, _∙_}
+use Prim.Native.Nat.{ℕ, _+_, _*_, _/_, _%_, _≤_}
 use native.Mathlib.Omega.{arith}
-use mathlib.Core.List.{List, [], _∷_, _++_}
-use lib.ListN.{length, take, drop, getD, length-append}
+use mathlib.Core.List.{List, _++_}
+use lib.ListN.{length, take, length-append}
 use lib.Seq.{take-all}
 use Rattle.blocks.specs.Numbers.{num4}
-use Rattle.memory.specs.Bytes.{num2, bytes4, bytes2, cut, put, Apart}
-use Rattle.memory.specs.Views.{word, half, rowOf, entryOf, headOf, numbersOf, rowBytes, entryBytes, headBytes, cell, headAt, Only}
+use Rattle.memory.specs.Bytes.{num2, bytes4, bytes2, put, Apart}
+use Rattle.memory.specs.Views.{word, half, rowOf, entryOf, headOf, numbersOf, rowBytes, entryBytes, headBytes, headAt, Only}
 use Rattle.memory.specs.declared.Row.{Row}
 use Rattle.memory.specs.declared.Entry.{Entry}
 use Rattle.memory.specs.declared.Head.{Head}

@@ -12,7 +12,7 @@ use Rattle.memory.specs.declared.Entry.{Entry}
 use Rattle.memory.specs.declared.Head.{Head}
 use Rattle.memory.specs.declared.Counts.{Counts}
 
--- named: the directory entries; directories: the directory blocks written; the counts are the lists' lengths
+-- All that the memory holds. named: the directory entries; directories: the directory blocks written; the counts are the lists' lengths
 pub record Flat : Type 0 where
   pub head : Head
   pub opens : List ℕ
@@ -22,6 +22,7 @@ pub record Flat : Type 0 where
   pub directories : List ℕ
   pub used : ℕ → Bool
 
+-- the lists, as long as the counts say
 unfoldable pub opensOf : List ℕ → List ℕ
 opensOf m = opensAt m (countAt m 2)
 
@@ -37,10 +38,12 @@ namedOf m = namedAt m (headAt m .capacity) (countAt m 3)
 unfoldable pub directoriesOf : List ℕ → List ℕ
 directoriesOf m = directoriesAt m (countAt m 4)
 
+-- what the memory holds
 abbrev pub flatOf : List ℕ → Flat
 flatOf m =
     record { head = headAt m; opens = opensOf m; rows = rowsOf m; entries = entriesOf m; named = namedOf m; directories = directoriesOf m; used = usedAt m }
 
+-- how long the lists are
 abbrev pub countsOf : Flat → Counts
 countsOf f =
     record { rows = length (f .rows); pages = length (f .entries); opens = length (f .opens); named = length (f .named); directories = length (f .directories) }
@@ -108,9 +111,11 @@ withUsed f u = record { head = f .head; opens = f .opens; rows = f .rows; entrie
 
 -- ---- lists
 
+-- x before element i
 abbrev pub insertAt : {A : Type 0} → ℕ → A → List A → List A
 insertAt i x xs = take i xs ++ x ∷ drop i xs
 
+-- without element i
 abbrev pub removeAt : {A : Type 0} → ℕ → List A → List A
 removeAt i xs = take i xs ++ drop (i + 1) xs
 
@@ -121,9 +126,11 @@ noRow = record { key = 0; number = 0; owner = 0; flags = 0; size = 0; payload = 
 abbrev pub noEntry : Entry
 noEntry = record { table = 0; frozen = 0; count = 0; block = 0 }
 
+-- row i
 abbrev pub rowIn : Flat → ℕ → Row
 rowIn f i = getD (f .rows) i noRow
 
+-- page entry p
 abbrev pub entryIn : Flat → ℕ → Entry
 entryIn f p = getD (f .entries) p noEntry
 

@@ -1,7 +1,7 @@
 -- The store that the memory holds, if it holds one.
 use Prim.Native.Nat.{ℕ, _+_, _*_, _/_, _%_, _≤_}
 use mathlib.Core.Path.{_≡_}
-use mathlib.Core.Bool.{Bool, true, false, not}
+use mathlib.Core.Bool.{Bool, false, not}
 use mathlib.Core.Option.{Option, none, some}
 use mathlib.Core.List.{List, [], _∷_, _++_, map}
 use lib.ListN.{length, take, drop}
@@ -29,6 +29,7 @@ use Rattle.memory.specs.declared.Part.{Part}
 unfoldable pub ownerOf : ℕ → ℕ → Owner
 ownerOf flag w = if eqb flag 0 then committed else tentative (w / 1048576) (w % 1048576)
 
+-- the pending operation by its number
 unfoldable pub pendingOf : ℕ → Pending
 pendingOf n = if eqb n 0 then nothing else if eqb n 1 then adding else if eqb n 2 then committing else removing
 
@@ -51,6 +52,7 @@ heldOf r = record { tuple = tupleOf r; pending = pendingOf (r .flags / 4 % 4) }
 abbrev pub heldIn : Flat → ℕ → Held
 heldIn f i = heldOf (rowIn f i)
 
+-- a page by its entry and its tuples
 unfoldable pub pageOf : Entry → List Held → Page
 pageOf e hs = record { table = e .table % 8; block = e .block % 4096; frozen = not (eqb (e .frozen) 0); tuples = hs }
 
@@ -59,6 +61,7 @@ unfoldable pub nest : List Entry → List Held → List Page
 nest [] hs = []
 nest (e ∷ es) hs = pageOf e (take (e .count) hs) ∷ nest es (drop (e .count) hs)
 
+-- all pages, in order
 abbrev pub pagesIn : Flat → List Page
 pagesIn f = nest (f .entries) (map heldOf (f .rows))
 
@@ -66,9 +69,11 @@ pagesIn f = nest (f .entries) (map heldOf (f .rows))
 unfoldable pub blocksOf : List ℕ → List ℕ
 blocksOf ns = map (λ n. n % 4096) ns
 
+-- idle where the running number is 0
 unfoldable pub checkpointOf : ℕ → ℕ → List ℕ → List ℕ → Checkpoint
 checkpointOf on n es ds = if eqb on 0 then idle else running n (blocksOf es) (blocksOf ds)
 
+-- the store that the flat lists mean
 unfoldable pub storeOf : Flat → Store
 storeOf f =
     record {
@@ -93,6 +98,7 @@ total es = sum (λ e. e .count) es
 abbrev pub startOf : Flat → ℕ → ℕ
 startOf f p = total (take p (f .entries))
 
+-- page p: a run of the rows
 unfoldable pub pageIn : Flat → ℕ → Page
 pageIn f p = pageOf (entryIn f p) (tab (heldIn f) (startOf f p) (entryIn f p .count))
 
@@ -120,6 +126,7 @@ inRange size h n =
     ∷ leb (n .directories) 4
     ∷ [])
 
+-- a page has a row
 unfoldable pub hasRows : Entry → Bool
 hasRows e = leb 1 (e .count)
 
@@ -127,9 +134,11 @@ hasRows e = leb 1 (e .count)
 unfoldable pub fillsRows : List Entry → ℕ → Bool
 fillsRows es n = every (all hasRows es ∷ eqb (total es) n ∷ [])
 
+-- the entries fit the rows
 abbrev pub filled : Flat → Bool
 filled f = fillsRows (f .entries) (length (f .rows))
 
+-- length, signature, ranges, and the pass over the page entries
 unfoldable pub holdsStore : List ℕ → Bool
 holdsStore m =
     every (
@@ -166,6 +175,7 @@ pub record Fits (size b n : ℕ) : Type 0 where
   pub few : 2 ≤ b
   pub many : b ≤ 4096
 
+-- an empty store of b blocks and capacity n
 unfoldable pub freshFlat : ℕ → ℕ → Flat
 freshFlat b n =
     record {

@@ -14,9 +14,11 @@ use Rattle.memory.specs.declared.Head.{Head}
 
 -- ---- what the bytes of one cell say
 
+-- a number of four bytes
 unfoldable pub word : List ℕ → ℕ
 word b = num4 b 0
 
+-- a number of two bytes
 unfoldable pub half : List ℕ → ℕ
 half b = num2 b 0
 
@@ -51,15 +53,19 @@ headOf b =
 
 -- ---- the bytes that say it
 
+-- a row's bytes but for the payload
 unfoldable pub numbersOf : Row → List ℕ
 numbersOf s = bytes4 (s .key) ++ (bytes4 (s .number) ++ (bytes4 (s .owner) ++ s .flags ∷ s .size ∷ 0 ∷ 0 ∷ []))
 
+-- the first 56 bytes of a row
 abbrev pub rowBytes : Row → List ℕ
 rowBytes s = numbersOf s ++ s .payload
 
+-- the first 6 bytes of a page entry
 unfoldable pub entryBytes : Entry → List ℕ
 entryBytes e = e .table ∷ e .frozen ∷ (bytes2 (e .count) ++ bytes2 (e .block))
 
+-- bytes 4 to 31 of the memory
 unfoldable pub headBytes : Head → List ℕ
 headBytes h =
     bytes4 (h .capacity) ++ (bytes4 (h .blocks) ++ (bytes4 (h .level) ++ (bytes4 (h .next) ++ (bytes4 (h .running) ++ (bytes4 (h .begun) ++ bytes4 (h .taken))))))
@@ -75,6 +81,7 @@ abbrev pub tab : {A : Type 0} → (ℕ → A) → ℕ → ℕ → List A
 tab f i zero = []
 tab f i (suc n) = f i ∷ tab f (suc i) n
 
+-- the head stands behind the signature
 unfoldable pub headAt : List ℕ → Head
 headAt m = headOf (cut 4 28 m)
 
@@ -82,9 +89,11 @@ headAt m = headOf (cut 4 28 m)
 abbrev pub countAt : List ℕ → ℕ → ℕ
 countAt m k = cell word 64 4 4 m k
 
+-- the directory blocks written
 abbrev pub directoriesAt : List ℕ → ℕ → List ℕ
 directoriesAt m n = tab (cell word 96 4 4 m) 0 n
 
+-- the open transactions
 abbrev pub opensAt : List ℕ → ℕ → List ℕ
 opensAt m n = tab (cell word 128 4 4 m) 0 n
 
@@ -92,9 +101,11 @@ opensAt m n = tab (cell word 128 4 4 m) 0 n
 unfoldable pub usedIn : List ℕ → ℕ → Bool
 usedIn bs b = eqb (getD bs (b / 8) 0 / 2 ^ (b % 8) % 2) 1
 
+-- the blocks in use
 abbrev pub usedAt : List ℕ → ℕ → Bool
 usedAt m = usedIn (cut 512 512 m)
 
+-- the rows
 abbrev pub rowsAt : List ℕ → ℕ → List Row
 rowsAt m n = tab (cell rowOf 1024 80 56 m) 0 n
 
@@ -108,6 +119,7 @@ namedAt m c n = tab (cell half (1024 + c * 88) 2 2 m) 0 n
 
 -- ---- what a store of one cell does, from the memory m to the memory m'
 
+-- cell i is x, and no byte outside of it has changed
 pub record Only {A : Type 0} (of : List ℕ → A) (base w v : ℕ) (m m' : List ℕ) (i : ℕ) (x : A) : Type 0 where
   pub here : cell of base w v m' i ≡ x
   pub apart : Apart m m' (base + i * w) w

@@ -2,19 +2,19 @@
 // docs/LAYOUT.md says what stands where. Above this crate no one sees a byte: each function that changes the memory promises one
 // equation on the flat lists that it holds.
 ghost use mathlib.Core.Path.{_≡_};
-ghost use mathlib.Core.Bool.{Bool, false};
+ghost use mathlib.Core.Bool.{false};
 ghost use mathlib.Core.Option.{some};
-ghost use mathlib.Core.List.{List, _∷_, [], _++_};
-ghost use Prim.Native.Nat.{ℕ, _+_, _*_, _-_, _/_, _%_, _^_, _≤_, _<_};
+ghost use mathlib.Core.List.{_∷_, [], _++_};
+ghost use Prim.Native.Nat.{_+_, _*_, _-_, _/_, _%_, _^_, _≤_, _<_};
 ghost use lib.Dec.{eqb};
 ghost use lib.Bits.{bitOr};
-ghost use lib.ListN.{length, take, drop, getD, set, replicate};
+ghost use lib.ListN.{length, take, getD, set, replicate};
 ghost use Rattle.blocks.specs.Limits.{payloadLimit};
 ghost use Rattle.blocks.specs.Numbers.{num4};
 ghost use Rattle.model.specs.Rules.{heldSize};
 ghost use Rattle.model.specs.Recover.{freshStore};
 ghost use Rattle.memory.specs.Bytes.{num2, bytes4, bytes2, cut, put, Shifted, Lowered};
-ghost use Rattle.memory.specs.Views.{rowOf, entryOf, headOf, word, half, numbersOf, entryBytes, headBytes, headAt, countAt, entriesAt, Only};
+ghost use Rattle.memory.specs.Views.{rowOf, entryOf, word, numbersOf, entryBytes, countAt, entriesAt, Only};
 ghost use Rattle.memory.specs.Flat.{flatOf, countsOf, rowIn, entryIn, Room, Replaces, Becomes, withHead, withOpens, withRows, withEntries, withNamed, withDirectories, withUsed, insertAt, removeAt, usedAnd};
 ghost use Rattle.memory.specs.Store.{inRange, fillsRows, holdsStore, heldIn, Holds, Copied, Fits, freshFlat, storeIn};
 
@@ -674,8 +674,7 @@ fn in_range(size: usize, h: Head, n: Counts) -> bool
         & (n.directories <= 4)
 }
 
-// Each of the c page entries behind room for n rows has a row, and together they have as many as `rows`. No branch in the loop, so
-// that it is compiled as vector code.
+// Each of the c page entries behind room for n rows has a row, and together they have as many as `rows`.
 fn entries_fill(m: &[u8], n: usize, c: usize, rows: u32) -> bool
     requires { ⌜ (n ≤ 1024) × ((c ≤ n) × (1024 + n * 88 ≤ length (now m))) ⌝ }
     ensures { λ r. ⌜ r ≡ fillsRows (entriesAt (now (m .entry)) n c) rows ⌝ }

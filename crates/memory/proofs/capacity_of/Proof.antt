@@ -3,9 +3,6 @@ use mathlib.Core.Path.{ap}
 use borrow.Author.Needs.{needs}
 use Rattle.memory.proofs.capacity_of.Statement.{statement}
 use Rattle.memory.proofs.capacity_of.Tie as tie
-use Rattle.memory.proofs.capacity_of.Reads as reads
-use Rattle.memory.proofs.capacity_of.Lts as lts
-use Rattle.memory.proofs.get_head.Reads as get-head-reads
 
 get-head-requires : tie.Need-get-head-requires
 get-head-requires c κs = search needs

@@ -7,8 +7,6 @@ use Prim.Native.Nat.{ℕ, _+_, _-_, _≤_, _<_}
 use mathlib.Core.Path.{_≡_, refl, sym, ap, _∙_}
 use Rattle.memory.proofs.clear.Statement.{statement}
 use Rattle.memory.proofs.clear.Tie as tie
-use Rattle.memory.proofs.clear.Reads as reads
-use Rattle.memory.proofs.clear.Lts as lts
 
 abbrev Inv-loop : tie.InvT-loop
 Inv-loop m₀ a n j₀ m j = (j ≤ n) × ((length m ≡ length m₀) × (m ≡ paste m₀ a (replicate n 0) j))

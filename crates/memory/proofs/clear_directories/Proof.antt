@@ -1,16 +1,7 @@
 use Rattle.memory.proofs.Leaves.{directories-none}
-use Rattle.memory.proofs.Changes.{known}
-use lib.ListN.{length}
-use mathlib.Core.List.{List}
-use native.Mathlib.Omega.{arith}
-use Prim.Native.Nat.{ℕ, _+_, _*_, _-_, _≤_, _<_}
-use mathlib.Core.Path.{_≡_, sym, ap, _∙_}
 use borrow.Author.Needs.{needs}
 use Rattle.memory.proofs.clear_directories.Statement.{statement}
 use Rattle.memory.proofs.clear_directories.Tie as tie
-use Rattle.memory.proofs.clear_directories.Reads as reads
-use Rattle.memory.proofs.clear_directories.Lts as lts
-use Rattle.memory.proofs.put_count.Reads as put-count-reads
 
 put-count-requires : tie.Need-put-count-requires
 put-count-requires c κs = search needs

@@ -7,13 +7,10 @@ use mathlib.Core.List.{List}
 use mathlib.Core.Bool.{false}
 use native.Mathlib.Omega.{arith}
 use Prim.Native.Nat.{ℕ, _≤_}
-use mathlib.Core.Path.{_≡_, ap, _∙_}
+use mathlib.Core.Path.{ap, _∙_}
 use borrow.Author.Needs.{needs}
 use Rattle.memory.proofs.clear_used.Statement.{statement}
 use Rattle.memory.proofs.clear_used.Tie as tie
-use Rattle.memory.proofs.clear_used.Reads as reads
-use Rattle.memory.proofs.clear_used.Lts as lts
-use Rattle.memory.proofs.clear.Reads as clear-reads
 
 clear-requires : tie.Need-clear-requires
 clear-requires c κs = search needs

@@ -2,18 +2,14 @@ use Rattle.memory.specs.declared.Part.{Part}
 use Rattle.memory.specs.Store.{heldIn, Holds}
 use Rattle.memory.specs.Flat.{flatOf}
 use Rattle.memory.specs.Bytes.{cut, put}
-use lib.ListN.{length, take, drop, getD, set, length-set, length-drop}
-use mathlib.Core.List.{List, [], _∷_, _++_}
+use lib.ListN.{length, drop}
+use mathlib.Core.List.{List, _++_}
 use native.Mathlib.Omega.{arith}
-use Prim.Native.Nat.{ℕ, _+_, _*_, _-_, _≤_, _<_}
-use mathlib.Core.Path.{_≡_, refl, sym, ap, _∙_}
+use Prim.Native.Nat.{ℕ, _+_, _-_}
+use mathlib.Core.Path.{_≡_, ap, _∙_}
 use borrow.Author.Needs.{needs}
 use Rattle.memory.proofs.copy_payload.Statement.{statement}
 use Rattle.memory.proofs.copy_payload.Tie as tie
-use Rattle.memory.proofs.copy_payload.Reads as reads
-use Rattle.memory.proofs.copy_payload.Lts as lts
-use Rattle.memory.proofs.payload_at.Reads as payload-at-reads
-use Rattle.memory.proofs.write.Reads as write-reads
 
 payload-at-requires : tie.Need-payload-at-requires
 payload-at-requires c κs = search needs

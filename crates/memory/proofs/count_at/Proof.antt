@@ -4,9 +4,6 @@ use mathlib.Core.Path.{sym, _∙_}
 use borrow.Author.Needs.{needs}
 use Rattle.memory.proofs.count_at.Statement.{statement}
 use Rattle.memory.proofs.count_at.Tie as tie
-use Rattle.memory.proofs.count_at.Reads as reads
-use Rattle.memory.proofs.count_at.Lts as lts
-use Rattle.memory.proofs.get4.Reads as get4-reads
 
 mul-get4 : tie.Need-mul-get4
 mul-get4 c = search needs

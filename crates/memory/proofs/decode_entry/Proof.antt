@@ -2,9 +2,6 @@ use Rattle.memory.specs.Views.{entryOf}
 use borrow.Author.Needs.{needs}
 use Rattle.memory.proofs.decode_entry.Statement.{statement}
 use Rattle.memory.proofs.decode_entry.Tie as tie
-use Rattle.memory.proofs.decode_entry.Reads as reads
-use Rattle.memory.proofs.decode_entry.Lts as lts
-use Rattle.memory.proofs.get2.Reads as get2-reads
 
 shared-slice-read-t3 : tie.Need-shared-slice-read-t3
 shared-slice-read-t3 c = search needs

@@ -2,10 +2,6 @@ use Rattle.memory.specs.Views.{rowOf}
 use borrow.Author.Needs.{needs}
 use Rattle.memory.proofs.decode_row.Statement.{statement}
 use Rattle.memory.proofs.decode_row.Tie as tie
-use Rattle.memory.proofs.decode_row.Reads as reads
-use Rattle.memory.proofs.decode_row.Lts as lts
-use Rattle.memory.proofs.get4.Reads as get4-reads
-use Rattle.memory.proofs.read40.Reads as read40-reads
 
 read40-requires : tie.Need-read40-requires
 read40-requires c κs = search needs

@@ -5,9 +5,6 @@ use mathlib.Core.List.{[], _∷_}
 use borrow.Author.Needs.{needs}
 use Rattle.memory.proofs.encode_entry.Statement.{statement}
 use Rattle.memory.proofs.encode_entry.Tie as tie
-use Rattle.memory.proofs.encode_entry.Reads as reads
-use Rattle.memory.proofs.encode_entry.Lts as lts
-use Rattle.memory.proofs.split2.Reads as split2-reads
 
 split2-requires : tie.Need-split2-requires
 split2-requires c κs = search needs

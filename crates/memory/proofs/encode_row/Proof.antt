@@ -5,9 +5,6 @@ use mathlib.Core.List.{[], _∷_}
 use borrow.Author.Needs.{needs}
 use Rattle.memory.proofs.encode_row.Statement.{statement}
 use Rattle.memory.proofs.encode_row.Tie as tie
-use Rattle.memory.proofs.encode_row.Reads as reads
-use Rattle.memory.proofs.encode_row.Lts as lts
-use Rattle.memory.proofs.split4.Reads as split4-reads
 
 split4-requires : tie.Need-split4-requires
 split4-requires c κs = search needs

@@ -2,16 +2,12 @@ use Rattle.memory.proofs.Access.{count-is}
 use Rattle.memory.proofs.Refusal.{Left, pass-start, pass-on, pass-end}
 use Rattle.memory.specs.declared.Entry.{Entry}
 use Rattle.memory.specs.Views.{cell, entryOf}
-use mathlib.Core.List.{List}
 use borrow.Author.Needs.{needs}
 use native.Mathlib.Omega.{arith}
-use Prim.Native.Nat.{ℕ, _+_, _*_, _-_, _≤_, _<_}
-use mathlib.Core.Path.{_≡_, sym, ap, _∙_}
+use Prim.Native.Nat.{ℕ, _+_, _*_, _-_}
+use mathlib.Core.Path.{_≡_, _∙_}
 use Rattle.memory.proofs.entries_fill.Statement.{statement}
 use Rattle.memory.proofs.entries_fill.Tie as tie
-use Rattle.memory.proofs.entries_fill.Reads as reads
-use Rattle.memory.proofs.entries_fill.Lts as lts
-use Rattle.memory.proofs.get2.Reads as get2-reads
 
 abbrev Inv-loop : tie.InvT-loop
 Inv-loop m n c rows base good₀ sum₀ i₀ good sum i = Left (cell entryOf (1024 + n * 80) 8 6 m) i c good sum

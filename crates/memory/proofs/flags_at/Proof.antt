@@ -1,14 +1,7 @@
 use Rattle.memory.proofs.Access.{flags-is}
-use lib.ListN.{length}
-use mathlib.Core.List.{List}
-use native.Mathlib.Omega.{arith}
-use Prim.Native.Nat.{ℕ, _+_, _*_, _-_, _≤_, _<_}
-use mathlib.Core.Path.{_≡_, sym, ap, _∙_}
 use borrow.Author.Needs.{needs}
 use Rattle.memory.proofs.flags_at.Statement.{statement}
 use Rattle.memory.proofs.flags_at.Tie as tie
-use Rattle.memory.proofs.flags_at.Reads as reads
-use Rattle.memory.proofs.flags_at.Lts as lts
 
 mul-result : tie.Need-mul-result
 mul-result c = search needs

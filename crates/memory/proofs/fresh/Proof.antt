@@ -1,18 +1,14 @@
 use Rattle.memory.proofs.Blank.{Blanked, blank-becomes, blank-in}
 use Rattle.memory.specs.Store.{freshFlat}
 use Rattle.memory.specs.Flat.{Becomes}
-use lib.ListN.{length, take, drop, getD, set, length-set, length-drop}
-use mathlib.Core.List.{List, [], _∷_, _++_}
+use lib.ListN.{length}
+use mathlib.Core.List.{List}
 use native.Mathlib.Omega.{arith}
-use Prim.Native.Nat.{ℕ, _+_, _*_, _-_, _≤_, _<_}
-use mathlib.Core.Path.{_≡_, refl, sym, ap, _∙_}
+use Prim.Native.Nat.{ℕ}
+use mathlib.Core.Path.{_≡_, _∙_}
 use borrow.Author.Needs.{needs}
 use Rattle.memory.proofs.fresh.Statement.{statement}
 use Rattle.memory.proofs.fresh.Tie as tie
-use Rattle.memory.proofs.fresh.Reads as reads
-use Rattle.memory.proofs.fresh.Lts as lts
-use Rattle.memory.proofs.clear.Reads as clear-reads
-use Rattle.memory.proofs.put4.Reads as put4-reads
 
 clear-requires : tie.Need-clear-requires
 clear-requires c κs = search needs

@@ -2,9 +2,6 @@ use Rattle.memory.specs.Bytes.{num2}
 use borrow.Author.Needs.{needs}
 use Rattle.memory.proofs.get2.Statement.{statement}
 use Rattle.memory.proofs.get2.Tie as tie
-use Rattle.memory.proofs.get2.Reads as reads
-use Rattle.memory.proofs.get2.Lts as lts
-use Rattle.memory.proofs.join2.Reads as join2-reads
 
 shared-slice-read-join2 : tie.Need-shared-slice-read-join2
 shared-slice-read-join2 c = search needs

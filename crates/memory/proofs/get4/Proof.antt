@@ -2,9 +2,6 @@ use Rattle.blocks.specs.Numbers.{num4}
 use borrow.Author.Needs.{needs}
 use Rattle.memory.proofs.get4.Statement.{statement}
 use Rattle.memory.proofs.get4.Tie as tie
-use Rattle.memory.proofs.get4.Reads as reads
-use Rattle.memory.proofs.get4.Lts as lts
-use Rattle.memory.proofs.join4.Reads as join4-reads
 
 shared-slice-read-join4 : tie.Need-shared-slice-read-join4
 shared-slice-read-join4 c = search needs

@@ -5,9 +5,6 @@ use mathlib.Core.Path.{sym, _∙_}
 use borrow.Author.Needs.{needs}
 use Rattle.memory.proofs.get_counts.Statement.{statement}
 use Rattle.memory.proofs.get_counts.Tie as tie
-use Rattle.memory.proofs.get_counts.Reads as reads
-use Rattle.memory.proofs.get_counts.Lts as lts
-use Rattle.memory.proofs.count_at.Reads as count-at-reads
 
 count-at-requires : tie.Need-count-at-requires
 count-at-requires c κs = search needs

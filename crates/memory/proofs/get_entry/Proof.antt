@@ -1,18 +1,13 @@
 use Rattle.memory.proofs.Access.{entry-at}
 use Rattle.memory.specs.Views.{entryOf}
 use Rattle.memory.specs.Bytes.{cut}
-use lib.ListN.{length}
 use mathlib.Core.List.{List}
 use native.Mathlib.Omega.{arith}
-use Prim.Native.Nat.{ℕ, _+_, _*_, _-_, _≤_, _<_}
+use Prim.Native.Nat.{ℕ, _+_, _*_, _-_}
 use mathlib.Core.Path.{_≡_, sym, ap, _∙_}
 use borrow.Author.Needs.{needs}
 use Rattle.memory.proofs.get_entry.Statement.{statement}
 use Rattle.memory.proofs.get_entry.Tie as tie
-use Rattle.memory.proofs.get_entry.Reads as reads
-use Rattle.memory.proofs.get_entry.Lts as lts
-use Rattle.memory.proofs.capacity_of.Reads as capacity-of-reads
-use Rattle.memory.proofs.decode_entry.Reads as decode-entry-reads
 
 capacity-of-requires : tie.Need-capacity-of-requires
 capacity-of-requires c κs = search needs

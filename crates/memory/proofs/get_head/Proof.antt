@@ -2,9 +2,6 @@ use Rattle.memory.specs.Views.{headOf, headAt}
 use borrow.Author.Needs.{needs}
 use Rattle.memory.proofs.get_head.Statement.{statement}
 use Rattle.memory.proofs.get_head.Tie as tie
-use Rattle.memory.proofs.get_head.Reads as reads
-use Rattle.memory.proofs.get_head.Lts as lts
-use Rattle.memory.proofs.get4.Reads as get4-reads
 
 sub-b : tie.Need-sub-b
 sub-b c = search needs

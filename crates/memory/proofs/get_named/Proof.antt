@@ -1,16 +1,8 @@
 use Rattle.memory.proofs.Access.{named-is}
-use lib.ListN.{length}
-use mathlib.Core.List.{List}
-use native.Mathlib.Omega.{arith}
-use Prim.Native.Nat.{ℕ, _+_, _*_, _-_, _≤_, _<_}
-use mathlib.Core.Path.{_≡_, sym, ap, _∙_}
+use mathlib.Core.Path.{_∙_}
 use borrow.Author.Needs.{needs}
 use Rattle.memory.proofs.get_named.Statement.{statement}
 use Rattle.memory.proofs.get_named.Tie as tie
-use Rattle.memory.proofs.get_named.Reads as reads
-use Rattle.memory.proofs.get_named.Lts as lts
-use Rattle.memory.proofs.capacity_of.Reads as capacity-of-reads
-use Rattle.memory.proofs.get2.Reads as get2-reads
 
 capacity-of-requires : tie.Need-capacity-of-requires
 capacity-of-requires c κs = search needs

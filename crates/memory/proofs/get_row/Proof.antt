@@ -1,17 +1,13 @@
 use Rattle.memory.proofs.Access.{row-at}
 use Rattle.memory.specs.Views.{rowOf}
 use Rattle.memory.specs.Bytes.{cut}
-use lib.ListN.{length}
 use mathlib.Core.List.{List}
 use native.Mathlib.Omega.{arith}
-use Prim.Native.Nat.{ℕ, _+_, _*_, _-_, _≤_, _<_}
+use Prim.Native.Nat.{ℕ, _+_, _*_, _-_}
 use mathlib.Core.Path.{_≡_, sym, ap, _∙_}
 use borrow.Author.Needs.{needs}
 use Rattle.memory.proofs.get_row.Statement.{statement}
 use Rattle.memory.proofs.get_row.Tie as tie
-use Rattle.memory.proofs.get_row.Reads as reads
-use Rattle.memory.proofs.get_row.Lts as lts
-use Rattle.memory.proofs.decode_row.Reads as decode-row-reads
 
 mul-a : tie.Need-mul-a
 mul-a c = search needs

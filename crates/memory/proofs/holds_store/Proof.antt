@@ -1,24 +1,14 @@
 use Rattle.memory.proofs.Refusal.{range-in, too-short, unsigned, out-of-range, last-test, fill-is}
-use Rattle.memory.specs.declared.Counts.{Counts}
-use Rattle.memory.specs.declared.Head.{Head}
 use Rattle.memory.specs.Flat.{InRange}
 use borrow.Author.Tests.{not-true, not-false}
 use lib.ListN.{length}
 use mathlib.Core.List.{List}
-use mathlib.Core.Bool.{Bool, true, false}
 use native.Mathlib.Omega.{arith}
-use Prim.Native.Nat.{ℕ, _+_, _*_, _-_, _≤_, _<_}
-use mathlib.Core.Path.{_≡_, sym, ap, _∙_}
+use Prim.Native.Nat.{ℕ}
+use mathlib.Core.Path.{sym, _∙_}
 use borrow.Author.Needs.{needs}
 use Rattle.memory.proofs.holds_store.Statement.{statement}
 use Rattle.memory.proofs.holds_store.Tie as tie
-use Rattle.memory.proofs.holds_store.Reads as reads
-use Rattle.memory.proofs.holds_store.Lts as lts
-use Rattle.memory.proofs.entries_fill.Reads as entries-fill-reads
-use Rattle.memory.proofs.get4.Reads as get4-reads
-use Rattle.memory.proofs.get_counts.Reads as get-counts-reads
-use Rattle.memory.proofs.get_head.Reads as get-head-reads
-use Rattle.memory.proofs.in_range.Reads as in-range-reads
 
 returns : tie.Need-returns
 returns c = too-short (c .before .before .args .m .now) (c .if1 .taken)

@@ -5,8 +5,6 @@ use Rattle.basics.specs.Basics.{every}
 use borrow.Author.Needs.{needs}
 use Rattle.memory.proofs.in_range.Statement.{statement}
 use Rattle.memory.proofs.in_range.Tie as tie
-use Rattle.memory.proofs.in_range.Reads as reads
-use Rattle.memory.proofs.in_range.Lts as lts
 
 cast-need : tie.Need-cast-need
 cast-need c = search needs

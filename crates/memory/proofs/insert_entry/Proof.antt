@@ -1,21 +1,12 @@
 use Rattle.memory.proofs.Leaves.{entry-in}
 use Rattle.memory.proofs.Changes.{known}
 use Rattle.memory.specs.Views.{headAt}
-use lib.ListN.{length}
-use mathlib.Core.List.{List}
 use native.Mathlib.Omega.{arith}
-use Prim.Native.Nat.{ℕ, _+_, _*_, _-_, _≤_, _<_}
-use mathlib.Core.Path.{_≡_, sym, ap, _∙_}
+use Prim.Native.Nat.{ℕ, _+_, _*_}
+use mathlib.Core.Path.{_≡_, ap, _∙_}
 use borrow.Author.Needs.{needs}
 use Rattle.memory.proofs.insert_entry.Statement.{statement}
 use Rattle.memory.proofs.insert_entry.Tie as tie
-use Rattle.memory.proofs.insert_entry.Reads as reads
-use Rattle.memory.proofs.insert_entry.Lts as lts
-use Rattle.memory.proofs.capacity_of.Reads as capacity-of-reads
-use Rattle.memory.proofs.count_at.Reads as count-at-reads
-use Rattle.memory.proofs.put_count.Reads as put-count-reads
-use Rattle.memory.proofs.shift_up.Reads as shift-up-reads
-use Rattle.memory.proofs.store_entry.Reads as store-entry-reads
 
 capacity-of-requires : tie.Need-capacity-of-requires
 capacity-of-requires c κs = search needs

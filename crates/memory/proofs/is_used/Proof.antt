@@ -7,9 +7,6 @@ use mathlib.Core.Path.{sym, ap, _∙_}
 use borrow.Author.Needs.{needs}
 use Rattle.memory.proofs.is_used.Statement.{statement}
 use Rattle.memory.proofs.is_used.Tie as tie
-use Rattle.memory.proofs.is_used.Reads as reads
-use Rattle.memory.proofs.is_used.Lts as lts
-use Rattle.memory.proofs.bit.Reads as bit-reads
 
 add-bit : tie.Need-add-bit
 add-bit c = search needs

@@ -1,15 +1,8 @@
 use Rattle.memory.proofs.Access.{key-is}
-use lib.ListN.{length}
-use mathlib.Core.List.{List}
-use native.Mathlib.Omega.{arith}
-use Prim.Native.Nat.{ℕ, _+_, _*_, _-_, _≤_, _<_}
-use mathlib.Core.Path.{_≡_, sym, ap, _∙_}
+use mathlib.Core.Path.{_∙_}
 use borrow.Author.Needs.{needs}
 use Rattle.memory.proofs.key_at.Statement.{statement}
 use Rattle.memory.proofs.key_at.Tie as tie
-use Rattle.memory.proofs.key_at.Reads as reads
-use Rattle.memory.proofs.key_at.Lts as lts
-use Rattle.memory.proofs.get4.Reads as get4-reads
 
 mul-get4 : tie.Need-mul-get4
 mul-get4 c = search needs

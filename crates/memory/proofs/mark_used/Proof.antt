@@ -12,9 +12,6 @@ use mathlib.Core.Path.{_≡_, ap, _∙_}
 use borrow.Author.Needs.{needs}
 use Rattle.memory.proofs.mark_used.Statement.{statement}
 use Rattle.memory.proofs.mark_used.Tie as tie
-use Rattle.memory.proofs.mark_used.Reads as reads
-use Rattle.memory.proofs.mark_used.Lts as lts
-use Rattle.memory.proofs.with_bit.Reads as with-bit-reads
 
 add-a : tie.Need-add-a
 add-a c = search needs

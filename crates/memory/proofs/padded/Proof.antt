@@ -3,12 +3,10 @@ use native.Mathlib.Numerals.{add-one}
 use lib.ListN.{length, take, drop, getD, set, length-set, length-drop}
 use mathlib.Core.List.{List, [], _∷_, _++_}
 use native.Mathlib.Omega.{arith}
-use Prim.Native.Nat.{ℕ, _+_, _*_, _-_, _≤_, _<_}
+use Prim.Native.Nat.{ℕ, _+_, _-_, _≤_, _<_}
 use mathlib.Core.Path.{_≡_, refl, sym, ap, _∙_}
 use Rattle.memory.proofs.padded.Statement.{statement}
 use Rattle.memory.proofs.padded.Tie as tie
-use Rattle.memory.proofs.padded.Reads as reads
-use Rattle.memory.proofs.padded.Lts as lts
 
 abbrev Inv-loop : tie.InvT-loop
 Inv-loop src start len b₀ j₀ b j = (j ≤ len) × ((length b ≡ 40) × (take j b ≡ take j (drop start src)))

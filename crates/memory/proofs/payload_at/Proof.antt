@@ -1,15 +1,7 @@
 use Rattle.memory.proofs.Payloads.{payload-held}
-use lib.ListN.{length, take, drop, getD, set, length-set, length-drop}
-use mathlib.Core.List.{List, [], _∷_, _++_}
-use native.Mathlib.Omega.{arith}
-use Prim.Native.Nat.{ℕ, _+_, _*_, _-_, _≤_, _<_}
-use mathlib.Core.Path.{_≡_, refl, sym, ap, _∙_}
 use borrow.Author.Needs.{needs}
 use Rattle.memory.proofs.payload_at.Statement.{statement}
 use Rattle.memory.proofs.payload_at.Tie as tie
-use Rattle.memory.proofs.payload_at.Reads as reads
-use Rattle.memory.proofs.payload_at.Lts as lts
-use Rattle.memory.proofs.size_at.Reads as size-at-reads
 
 size-at-requires : tie.Need-size-at-requires
 size-at-requires c κs = search needs

@@ -1,21 +1,14 @@
 use Rattle.memory.proofs.Leaves.{named-in}
 use Rattle.memory.proofs.Changes.{known}
 use Rattle.memory.proofs.Spelling.{stored-half}
-use Rattle.memory.specs.Views.{word, half, headAt, Only}
-use lib.ListN.{length}
+use Rattle.memory.specs.Views.{half, headAt, Only}
 use mathlib.Core.List.{List}
 use native.Mathlib.Omega.{arith}
-use Prim.Native.Nat.{ℕ, _+_, _*_, _-_, _≤_, _<_}
-use mathlib.Core.Path.{_≡_, sym, ap, _∙_}
+use Prim.Native.Nat.{ℕ, _+_, _*_}
+use mathlib.Core.Path.{_≡_, ap, _∙_}
 use borrow.Author.Needs.{needs}
 use Rattle.memory.proofs.push_named.Statement.{statement}
 use Rattle.memory.proofs.push_named.Tie as tie
-use Rattle.memory.proofs.push_named.Reads as reads
-use Rattle.memory.proofs.push_named.Lts as lts
-use Rattle.memory.proofs.capacity_of.Reads as capacity-of-reads
-use Rattle.memory.proofs.count_at.Reads as count-at-reads
-use Rattle.memory.proofs.put2.Reads as put2-reads
-use Rattle.memory.proofs.put_count.Reads as put-count-reads
 
 capacity-of-requires : tie.Need-capacity-of-requires
 capacity-of-requires c κs = search needs

@@ -1,20 +1,14 @@
 use Rattle.memory.proofs.Leaves.{open-in}
 use Rattle.memory.proofs.Changes.{known}
 use Rattle.memory.proofs.Spelling.{stored-word}
-use Rattle.memory.specs.Views.{word, half, headAt, Only}
-use lib.ListN.{length}
+use Rattle.memory.specs.Views.{word, Only}
 use mathlib.Core.List.{List}
 use native.Mathlib.Omega.{arith}
-use Prim.Native.Nat.{ℕ, _+_, _*_, _-_, _≤_, _<_}
-use mathlib.Core.Path.{_≡_, sym, ap, _∙_}
+use Prim.Native.Nat.{ℕ}
+use mathlib.Core.Path.{_∙_}
 use borrow.Author.Needs.{needs}
 use Rattle.memory.proofs.push_open.Statement.{statement}
 use Rattle.memory.proofs.push_open.Tie as tie
-use Rattle.memory.proofs.push_open.Reads as reads
-use Rattle.memory.proofs.push_open.Lts as lts
-use Rattle.memory.proofs.count_at.Reads as count-at-reads
-use Rattle.memory.proofs.put4.Reads as put4-reads
-use Rattle.memory.proofs.put_count.Reads as put-count-reads
 
 count-at-requires : tie.Need-count-at-requires
 count-at-requires c κs = search needs

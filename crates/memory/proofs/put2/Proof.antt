@@ -5,10 +5,6 @@ use mathlib.Core.Path.{ap, _∙_}
 use borrow.Author.Needs.{needs}
 use Rattle.memory.proofs.put2.Statement.{statement}
 use Rattle.memory.proofs.put2.Tie as tie
-use Rattle.memory.proofs.put2.Reads as reads
-use Rattle.memory.proofs.put2.Lts as lts
-use Rattle.memory.proofs.split2.Reads as split2-reads
-use Rattle.memory.proofs.write.Reads as write-reads
 
 split2-requires : tie.Need-split2-requires
 split2-requires c κs = search needs

@@ -5,10 +5,6 @@ use mathlib.Core.Path.{ap, _∙_}
 use borrow.Author.Needs.{needs}
 use Rattle.memory.proofs.put4.Statement.{statement}
 use Rattle.memory.proofs.put4.Tie as tie
-use Rattle.memory.proofs.put4.Reads as reads
-use Rattle.memory.proofs.put4.Lts as lts
-use Rattle.memory.proofs.split4.Reads as split4-reads
-use Rattle.memory.proofs.write.Reads as write-reads
 
 split4-requires : tie.Need-split4-requires
 split4-requires c κs = search needs

@@ -3,9 +3,6 @@ use native.Mathlib.Omega.{arith}
 use borrow.Author.Needs.{needs}
 use Rattle.memory.proofs.put_count.Statement.{statement}
 use Rattle.memory.proofs.put_count.Tie as tie
-use Rattle.memory.proofs.put_count.Reads as reads
-use Rattle.memory.proofs.put_count.Lts as lts
-use Rattle.memory.proofs.put4.Reads as put4-reads
 
 mul-put4 : tie.Need-mul-put4
 mul-put4 c = search needs

@@ -7,13 +7,10 @@ use lib.ListN.{length}
 use mathlib.Core.List.{List}
 use native.Mathlib.Omega.{arith}
 use Prim.Native.Nat.{ℕ, _≤_}
-use mathlib.Core.Path.{_≡_, sym, ap, _∙_}
+use mathlib.Core.Path.{_≡_, ap, _∙_}
 use borrow.Author.Needs.{needs}
 use Rattle.memory.proofs.put_head.Statement.{statement}
 use Rattle.memory.proofs.put_head.Tie as tie
-use Rattle.memory.proofs.put_head.Reads as reads
-use Rattle.memory.proofs.put_head.Lts as lts
-use Rattle.memory.proofs.put4.Reads as put4-reads
 
 put4-requires : tie.Need-put4-requires
 put4-requires c κs = search needs

@@ -1,15 +1,13 @@
-use mathlib.Core.Path.{_≡_, refl, sym, ap, _∙_}
-use Prim.Native.Nat.{ℕ, zero, _+_, _-_, _≤_, _<_}
+use mathlib.Core.Path.{_≡_, refl, ap, _∙_}
+use Prim.Native.Nat.{ℕ, _+_, _-_, _≤_, _<_}
 use native.Mathlib.Omega.{arith}
 use native.Mathlib.Numerals.{add-one}
-use native.Mathlib.Nat.{le-antisymm, zero-add}
+use native.Mathlib.Nat.{zero-add}
 use mathlib.Core.List.{List, append-nil}
-use lib.ListN.{length, take, drop, getD, set, length-set, length-drop, replicate, drop-of-length-le}
-use lib.Seq.{paste, paste-zero, paste-suc, length-paste, take-length, getD-drop}
+use lib.ListN.{length, take, drop, getD, set, length-drop, replicate}
+use lib.Seq.{paste, paste-zero, paste-suc, getD-drop}
 use Rattle.memory.proofs.read40.Statement.{statement}
 use Rattle.memory.proofs.read40.Tie as tie
-use Rattle.memory.proofs.read40.Reads as reads
-use Rattle.memory.proofs.read40.Lts as lts
 
 abbrev Inv-loop : tie.InvT-loop
 Inv-loop m a p₀ j₀ p j = (j ≤ 40) × ((length p₀ ≡ 40) × (p ≡ paste p₀ 0 (drop a m) j))

@@ -1,18 +1,10 @@
 use Rattle.memory.proofs.Leaves.{open-out}
 use Rattle.memory.proofs.Changes.{known}
-use lib.ListN.{length}
-use mathlib.Core.List.{List}
 use native.Mathlib.Omega.{arith}
-use Prim.Native.Nat.{ℕ, _+_, _*_, _-_, _≤_, _<_}
-use mathlib.Core.Path.{_≡_, sym, ap, _∙_}
+use mathlib.Core.Path.{_∙_}
 use borrow.Author.Needs.{needs}
 use Rattle.memory.proofs.remove_open.Statement.{statement}
 use Rattle.memory.proofs.remove_open.Tie as tie
-use Rattle.memory.proofs.remove_open.Reads as reads
-use Rattle.memory.proofs.remove_open.Lts as lts
-use Rattle.memory.proofs.count_at.Reads as count-at-reads
-use Rattle.memory.proofs.put_count.Reads as put-count-reads
-use Rattle.memory.proofs.shift_down.Reads as shift-down-reads
 
 count-at-requires : tie.Need-count-at-requires
 count-at-requires c κs = search needs

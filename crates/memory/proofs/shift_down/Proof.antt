@@ -1,15 +1,13 @@
 use mathlib.Core.Path.{_≡_, refl, sym, ap, _∙_}
-use Prim.Native.Nat.{ℕ, zero, suc, _+_, _*_, _-_, _≤_, _<_}
+use Prim.Native.Nat.{ℕ, suc, _+_, _-_, _≤_, _<_}
 use native.Mathlib.Omega.{arith}
 use mathlib.Core.List.{List, _++_}
 use lib.ListN.{length, take, drop, getD, set, length-set, length-drop}
 use lib.Seq.{paste, paste-zero, paste-suc, length-paste-head, length-take-le, getD-append-add, getD-drop}
-use Rattle.memory.specs.Bytes.{cut, put, Apart, Shifted, Lowered}
+use Rattle.memory.specs.Bytes.{cut, put}
 use Rattle.memory.proofs.Laws.{cut-put-in, cut-cut, put-apart}
 use Rattle.memory.proofs.shift_down.Statement.{statement}
 use Rattle.memory.proofs.shift_down.Tie as tie
-use Rattle.memory.proofs.shift_down.Reads as reads
-use Rattle.memory.proofs.shift_down.Lts as lts
 
 abbrev Inv-loop : tie.InvT-loop
 Inv-loop m₀ lo hi w end k₀ m k =

@@ -1,15 +1,13 @@
 use mathlib.Core.Path.{_≡_, refl, sym, ap, _∙_}
-use Prim.Native.Nat.{ℕ, zero, suc, _+_, _*_, _-_, _≤_, _<_}
+use Prim.Native.Nat.{ℕ, suc, _+_, _-_, _≤_}
 use native.Mathlib.Omega.{arith}
-use mathlib.Core.List.{List, _∷_, _++_}
+use mathlib.Core.List.{List, _∷_}
 use lib.ListN.{length, take, drop, getD, set, length-set, length-drop}
 use lib.Seq.{length-take-le, drop-cons}
-use Rattle.memory.specs.Bytes.{cut, put, Apart, Shifted, Lowered}
+use Rattle.memory.specs.Bytes.{cut, put, Apart}
 use Rattle.memory.proofs.Laws.{cut-put-in, cut-cut, put-apart, put-down, put-none, getD-put-below}
 use Rattle.memory.proofs.shift_up.Statement.{statement}
 use Rattle.memory.proofs.shift_up.Tie as tie
-use Rattle.memory.proofs.shift_up.Reads as reads
-use Rattle.memory.proofs.shift_up.Lts as lts
 
 abbrev Inv-loop : tie.InvT-loop
 Inv-loop m₀ lo hi w k₀ m k =

@@ -3,8 +3,6 @@ use Rattle.memory.specs.Bytes.{bytes2}
 use borrow.Author.Needs.{needs}
 use Rattle.memory.proofs.split2.Statement.{statement}
 use Rattle.memory.proofs.split2.Tie as tie
-use Rattle.memory.proofs.split2.Reads as reads
-use Rattle.memory.proofs.split2.Lts as lts
 
 cast-t3 : tie.Need-cast-t3
 cast-t3 c = search needs

@@ -7,10 +7,6 @@ use mathlib.Core.Path.{_≡_, ap, _∙_}
 use borrow.Author.Needs.{needs}
 use Rattle.memory.proofs.store_entry.Statement.{statement}
 use Rattle.memory.proofs.store_entry.Tie as tie
-use Rattle.memory.proofs.store_entry.Reads as reads
-use Rattle.memory.proofs.store_entry.Lts as lts
-use Rattle.memory.proofs.encode_entry.Reads as encode-entry-reads
-use Rattle.memory.proofs.write.Reads as write-reads
 
 encode-entry-requires : tie.Need-encode-entry-requires
 encode-entry-requires c κs = search needs

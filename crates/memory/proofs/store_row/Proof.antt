@@ -11,10 +11,6 @@ use mathlib.Core.Path.{_≡_, sym, ap, _∙_}
 use borrow.Author.Needs.{needs}
 use Rattle.memory.proofs.store_row.Statement.{statement}
 use Rattle.memory.proofs.store_row.Tie as tie
-use Rattle.memory.proofs.store_row.Reads as reads
-use Rattle.memory.proofs.store_row.Lts as lts
-use Rattle.memory.proofs.encode_row.Reads as encode-row-reads
-use Rattle.memory.proofs.write.Reads as write-reads
 
 mul-a : tie.Need-mul-a
 mul-a c = search needs

@@ -1,16 +1,8 @@
 use Rattle.memory.proofs.Payloads.{size-held}
-use lib.ListN.{length, take, drop, getD, set, length-set, length-drop}
-use mathlib.Core.List.{List, [], _∷_, _++_}
 use native.Mathlib.Omega.{arith}
-use Prim.Native.Nat.{ℕ, _+_, _*_, _-_, _≤_, _<_}
-use mathlib.Core.Path.{_≡_, refl, sym, ap, _∙_}
 use borrow.Author.Needs.{needs}
 use Rattle.memory.proofs.tuple_size.Statement.{statement}
 use Rattle.memory.proofs.tuple_size.Tie as tie
-use Rattle.memory.proofs.tuple_size.Reads as reads
-use Rattle.memory.proofs.tuple_size.Lts as lts
-use Rattle.memory.proofs.flags_at.Reads as flags-at-reads
-use Rattle.memory.proofs.size_at.Reads as size-at-reads
 
 size-at-requires : tie.Need-size-at-requires
 size-at-requires c κs = search needs

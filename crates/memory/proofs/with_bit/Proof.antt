@@ -1,13 +1,11 @@
 use lib.Bits.{bitOr}
 use lib.Pow.{pow-lt}
 use native.Mathlib.Nat.{one-mul, mod-eq-of-lt}
-use Prim.Native.Nat.{ℕ, _+_, _*_, _%_, _^_, _<_}
+use Prim.Native.Nat.{ℕ, _*_, _%_, _^_}
 use mathlib.Core.Path.{_≡_, ap, _∙_}
 use borrow.Author.Needs.{needs}
 use Rattle.memory.proofs.with_bit.Statement.{statement}
 use Rattle.memory.proofs.with_bit.Tie as tie
-use Rattle.memory.proofs.with_bit.Reads as reads
-use Rattle.memory.proofs.with_bit.Lts as lts
 
 cast-result : tie.Need-cast-result
 cast-result c = search needs

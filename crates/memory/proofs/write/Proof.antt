@@ -1,15 +1,12 @@
-use mathlib.Core.Path.{_≡_, refl, sym, ap, _∙_}
+use mathlib.Core.Path.{_≡_, refl, _∙_}
 use Prim.Native.Nat.{ℕ, _+_, _-_, _≤_, _<_}
 use native.Mathlib.Omega.{arith}
 use native.Mathlib.Numerals.{add-one}
-use native.Mathlib.Nat.{le-antisymm}
 use mathlib.Core.List.{List}
-use lib.ListN.{length, take, drop, getD, set, length-set}
-use lib.Seq.{paste, paste-zero, paste-suc, length-paste, take-length}
+use lib.ListN.{length, length-set}
+use lib.Seq.{paste, paste-zero, paste-suc, take-length}
 use Rattle.memory.proofs.write.Statement.{statement}
 use Rattle.memory.proofs.write.Tie as tie
-use Rattle.memory.proofs.write.Reads as reads
-use Rattle.memory.proofs.write.Lts as lts
 
 abbrev Inv-loop : tie.InvT-loop
 Inv-loop m₀ a src j₀ m j = (j ≤ length src) × ((length m ≡ length m₀) × (m ≡ paste m₀ a src j))
