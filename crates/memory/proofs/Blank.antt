@@ -12,7 +12,7 @@ use Rattle.model.specs.Recover.{freshStore}
 use Rattle.memory.specs.Bytes.{bytes4, cut, put, Apart}
 use Rattle.memory.specs.Views.{cell, word, headOf, headAt, countAt, usedAt, opensAt, rowsAt, entriesAt, namedAt, directoriesAt}
 use Rattle.memory.specs.Flat.{flatOf, opensOf, rowsOf, entriesOf, namedOf, directoriesOf, signature, Becomes}
-use Rattle.memory.specs.Store.{Fits, freshFlat, storeOf, nest, checkpointOf, fillsRows, total, filled, storeIn}
+use Rattle.memory.specs.Store.{FreshFits, freshFlat, storeOf, nest, checkpointOf, fillsRows, total, filled, storeIn}
 use Rattle.memory.proofs.Laws.{cut-put-in, put-apart, length-put}
 use Rattle.memory.proofs.Cells.{put-here}
 use Rattle.memory.proofs.Spelling.{word-back}
@@ -109,7 +109,7 @@ module _ (m m1 m2 m3 m4 m' : List ℕ) (b n : ℕ) (d : Blanked m m1 m2 m3 m4 m'
   unfolding cell
   none k a e h1 h2 z = ap (λ (x : ℕ). word (cut x 4 m')) e ∙ ap word (zeros-at a h1 h2) ∙ z
 
-  pub blank-becomes : Fits (length m) b n → length m' ≡ length m → Becomes m m' (freshFlat b n)
+  pub blank-becomes : FreshFits (length m) b n → length m' ≡ length m → Becomes m m' (freshFlat b n)
   unfolding freshFlat opensOf rowsOf entriesOf namedOf directoriesOf word num4
   blank-becomes g l =
       becomes m m' (freshFlat b n) l sign-is

@@ -12,7 +12,7 @@ use Rattle.model.specs.State.{Held}
 use Rattle.memory.specs.Bytes.{cut}
 use Rattle.memory.specs.Views.{tab, rowOf, headOf, headAt}
 use Rattle.memory.specs.Flat.{flatOf, rowsOf}
-use Rattle.memory.specs.Store.{ownerOf, tupleOf, heldOf, heldIn, pageOf}
+use Rattle.memory.specs.Store.{ownerOf, tupleOf, tupleBy, heldOf, heldIn, pageOf}
 use Rattle.memory.specs.declared.Entry.{Entry}
 use Rattle.memory.proofs.Access.{row-at}
 
@@ -51,7 +51,7 @@ unfolding ownerOf if_then_else_
 owner-fits flag w h = by (eqb flag 0) (λ e. rw e tt) (λ e. rw e (omega arith, omega arith))
 
 row-fits : (b : List ℕ) → AllBytes b → Fits (tupleOf (rowOf b))
-unfolding tupleOf rowOf
+unfolding tupleOf tupleBy rowOf
 row-fits b h =
     record {
       key = num4-small b 0 h;

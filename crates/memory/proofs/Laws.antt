@@ -1,12 +1,12 @@
 -- Parts of a list that was written over, and lists that are made by index.
 use mathlib.Core.Path.{_≡_, refl, sym, ap, _∙_}
 use mathlib.Core.Logic.{_⊎_, inl, inr, ⊎-elim}
-use Prim.Native.Nat.{ℕ, zero, suc, _+_, _-_, _≤_, _<_, min, zero-le, suc-le-suc}
+use Prim.Native.Nat.{ℕ, zero, suc, _+_, _-_, _≤_, _<_, zero-le, suc-le-suc}
 use native.Mathlib.Nat.{add-zero, zero-add, suc-add, le-of-suc-le-suc, not-suc-le-zero, zero-lt-suc}
 use native.Mathlib.Omega.{arith}
 use mathlib.Core.List.{List, [], _∷_, _++_, append-assoc, append-nil}
-use lib.ListN.{length, take, drop, getD, set, length-append, length-take, length-drop, take-append-drop, List·getD-append}
-use lib.Seq.{take-append-le, drop-append-le, drop-append-add, drop-drop, length-take-le, take-at, ext-getD, getD-take, getD-drop, set-split, take-suc, append-snoc, set-at}
+use lib.ListN.{length, take, drop, getD, set, length-append, length-drop, take-append-drop, List·getD-append}
+use lib.Seq.{take-append-le, drop-append-le, drop-append-add, drop-drop, length-take-le, take-at, getD-take, set-split, take-suc, append-snoc, set-at}
 use Rattle.memory.specs.Bytes.{cut, put, Apart}
 use Rattle.memory.specs.Views.{tab}
 

@@ -13,3 +13,4 @@ pub mod Nest
 pub mod Runs
 pub mod Exchange
 pub mod Fitting
+pub mod Flags

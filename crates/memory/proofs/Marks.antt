@@ -1,17 +1,18 @@
 -- One bit for each block: set, read, cleared.
 use mathlib.Core.Path.{_≡_, refl, sym, ap, _∙_}
 use mathlib.Core.Logic.{_⊎_, inl, inr, ⊎-elim}
-use mathlib.Core.Bool.{Bool, false, _||_}
+use mathlib.Core.Bool.{Bool, true, false, _||_}
 use Prim.Native.Nat.{ℕ, zero, suc, _+_, _-_, _/_, _%_, _^_, _≤_, _<_, max}
 use native.Mathlib.Nat.{div-eq-of-lt, div-self, zero-div, pow-suc, mul-mod-left}
 use native.Mathlib.Omega.{arith}
-use mathlib.Core.List.{List, [], _∷_}
+use mathlib.Core.List.{List, [], _∷_, _++_}
 use lib.ListN.{length, drop, getD, set, replicate, length-take, length-replicate, List·getD-eq-default}
 use lib.Seq.{getD-set-same, getD-set-other}
 use lib.Dec.{eqb}
 use lib.Pow.{pow-pos, pow-lt, pow-add, shl-shr}
 use lib.Bits.{bitOr, or-step, or-shr}
 use borrow.Author.Tests.{eq-eqb, ne-eqb}
+use Rattle.basics.specs.Basics.{any, isIn}
 use Rattle.memory.specs.Bytes.{cut, put, Apart}
 use Rattle.memory.specs.Views.{usedIn, usedAt}
 use Rattle.memory.specs.Flat.{usedAnd}
@@ -126,3 +127,32 @@ pub clear-apart : (a n : ℕ) (m : List ℕ) → a + n ≤ length m → Apart m 
 clear-apart a n m h =
     let l : length (replicate {A = ℕ} n 0) ≡ n = length-replicate {A = ℕ} n 0 in
     put-apart a (replicate n 0) m n (omega arith) (omega arith)
+
+-- ---- lists of blocks
+
+eqb-swap : (a b : ℕ) → eqb a b ≡ eqb b a
+eqb-swap a b = ⊎-elim (λ (e : a ≡ b). eq-eqb a b e ∙ sym (eq-eqb b a (sym e))) (λ (n : a ≡ b → ⊥). ne-eqb a b n ∙ sym (ne-eqb b a (λ e. n (sym e)))) (either a b)
+
+or-elim : (t u : Bool) → (elim t [ true ↦ true | false ↦ u ]) ≡ (t || u)
+or-elim true u = refl
+or-elim false u = refl
+
+or-swap : (a b c : Bool) → (a || (b || c)) ≡ (b || (a || c))
+or-swap true true c = refl
+or-swap true false c = refl
+or-swap false true c = refl
+or-swap false false c = refl
+
+in-cons : (b y : ℕ) (ys : List ℕ) → isIn b (y ∷ ys) ≡ (eqb y b || isIn b ys)
+unfolding isIn any
+in-cons b y ys = or-elim (eqb b y) (any (eqb b) ys) ∙ ap (λ (t : Bool). t || any (eqb b) ys) (eqb-swap b y)
+
+in-more : (b x : ℕ) (ys : List ℕ) → isIn b (ys ++ x ∷ []) ≡ (eqb x b || isIn b ys)
+in-more b x [] = in-cons b x []
+in-more b x (y ∷ ys) =
+    in-cons b y (ys ++ x ∷ []) ∙ ap (λ (t : Bool). eqb y b || t) (in-more b x ys) ∙ or-swap (eqb y b) (eqb x b) (isIn b ys)
+    ∙ ap (λ (t : Bool). eqb x b || t) (sym (in-cons b y ys))
+
+-- blocks marked one after the other are those of a list
+pub mark-more : (x : ℕ) (ys : List ℕ) → usedAnd x (λ b. isIn b ys) ≡ (λ b. isIn b (ys ++ x ∷ []))
+mark-more x ys = λ i b. sym (in-more b x ys) i

@@ -15,7 +15,7 @@ use Rattle.model.specs.Rules.{heldSize}
 use Rattle.memory.specs.Bytes.{cut}
 use Rattle.memory.specs.Views.{rowOf}
 use Rattle.memory.specs.Flat.{flatOf, rowsOf, rowIn, Room}
-use Rattle.memory.specs.Store.{ownerOf, tupleOf, heldOf, heldIn, Holds}
+use Rattle.memory.specs.Store.{ownerOf, tupleOf, tupleBy, heldOf, heldIn, Holds}
 use Rattle.memory.specs.declared.Row.{Row}
 use Rattle.memory.proofs.Laws.{cut-cut}
 use Rattle.memory.proofs.Changes.{known}
@@ -30,11 +30,11 @@ owner-size flag w h =
 
 -- a row's tuple, by the fields of the row
 pub tuple-length : (r : Row) → length (r .payload) ≡ payloadLimit → length (tupleOf r .payload) ≡ r .size % 41
-unfolding tupleOf
+unfolding tupleOf tupleBy
 tuple-length r l = length-take-le (r .size % 41) (r .payload) (omega arith)
 
 pub held-size : (r : Row) → length (r .payload) ≡ payloadLimit → heldSize (heldOf r) ≡ 9 + 4 * (r .flags % 2) + r .size % 41
-unfolding heldSize heldOf size tupleOf
+unfolding heldSize heldOf size tupleOf tupleBy
 held-size r l =
     let a : ownerSize (ownerOf (r .flags % 2) (r .owner)) ≡ 4 * (r .flags % 2) = owner-size (r .flags % 2) (r .owner) (omega arith) in
     let b : length (take (r .size % 41) (r .payload)) ≡ r .size % 41 = length-take-le (r .size % 41) (r .payload) (omega arith) in
@@ -54,7 +54,7 @@ module _ (m : List ℕ) (room : Room m) (i : ℕ) (h : i < length (rowsOf m)) wh
       ap length payload-is ∙ length-take-le 40 (drop (1024 + i * 80 + 16) m) (simp length-drop (omega arith))
 
   pub payload-held : (n : ℕ) → n ≡ rowIn (flatOf m) i .size → Holds m (record { start = 1024 + i * 80 + 16; len = n % 41 }) (heldIn (flatOf m) i .tuple .payload)
-  unfolding heldOf tupleOf
+  unfolding heldOf tupleOf tupleBy
   payload-held n e =
       let k = known m room in
       let r : Row = rowIn (flatOf m) i in

@@ -33,16 +33,13 @@ ownerOf flag w = if eqb flag 0 then committed else tentative (w / 1048576) (w % 
 unfoldable pub pendingOf : ℕ → Pending
 pendingOf n = if eqb n 0 then nothing else if eqb n 1 then adding else if eqb n 2 then committing else removing
 
--- flags: bit 0 tentative, bit 1 delete mark
+-- a tuple by the numbers of a row and its payload; flags: bit 0 tentative, bit 1 delete mark
+unfoldable pub tupleBy : ℕ → ℕ → ℕ → ℕ → List ℕ → Tuple
+tupleBy k n w x bytes = record { key = k; number = n; owner = ownerOf (x % 2) w; mark = eqb (x / 2 % 2) 1; payload = bytes }
+
+-- a row's tuple
 unfoldable pub tupleOf : Row → Tuple
-tupleOf r =
-    record {
-      key = r .key;
-      number = r .number;
-      owner = ownerOf (r .flags % 2) (r .owner);
-      mark = eqb (r .flags / 2 % 2) 1;
-      payload = take (r .size % (payloadLimit + 1)) (r .payload);
-    }
+tupleOf r = tupleBy (r .key) (r .number) (r .owner) (r .flags) (take (r .size % (payloadLimit + 1)) (r .payload))
 
 -- flags: bits 2 and 3 the pending operation
 unfoldable pub heldOf : Row → Held
@@ -168,7 +165,7 @@ pub record Copied (xs ys bytes : List ℕ) (n : ℕ) : Type 0 where
 -- ---- a fresh store
 
 -- a memory of size bytes has room for a store of b blocks and capacity n
-pub record Fits (size b n : ℕ) : Type 0 where
+pub record FreshFits (size b n : ℕ) : Type 0 where
   pub least : 1 ≤ n
   pub most : n ≤ 1024
   pub long : 128 * n + 1024 ≤ size

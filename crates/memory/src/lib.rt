@@ -11,12 +11,12 @@ ghost use lib.Bits.{bitOr};
 ghost use lib.ListN.{length, take, getD, set, replicate};
 ghost use Rattle.blocks.specs.Limits.{payloadLimit};
 ghost use Rattle.blocks.specs.Numbers.{num4};
-ghost use Rattle.model.specs.Rules.{heldSize};
+ghost use Rattle.model.specs.Rules.{heldSize, calm, withPending, kept};
 ghost use Rattle.model.specs.Recover.{freshStore};
 ghost use Rattle.memory.specs.Bytes.{num2, bytes4, bytes2, cut, put, Shifted, Lowered};
 ghost use Rattle.memory.specs.Views.{rowOf, entryOf, word, numbersOf, entryBytes, countAt, entriesAt, Only};
 ghost use Rattle.memory.specs.Flat.{flatOf, countsOf, rowIn, entryIn, Room, Replaces, Becomes, withHead, withOpens, withRows, withEntries, withNamed, withDirectories, withUsed, insertAt, removeAt, usedAnd};
-ghost use Rattle.memory.specs.Store.{inRange, fillsRows, holdsStore, heldIn, Holds, Copied, Fits, freshFlat, storeIn};
+ghost use Rattle.memory.specs.Store.{pendingOf, heldOf, tupleBy, inRange, fillsRows, holdsStore, heldIn, Holds, Copied, FreshFits, freshFlat, storeIn};
 
 // A tuple with its pending operation. flags: bit 0 tentative, bit 1 delete mark, bits 2 and 3 pending (0 nothing, 1 adding,
 // 2 committing, 3 removing). owner: the transaction above 20 bits of statement.
@@ -450,6 +450,47 @@ pub fn padded(src: &[u8], start: usize, len: usize) -> [u8; 40]
     b
 }
 
+// A row with nothing pending. flags: 1 if tentative, plus 2 for a delete mark.
+pub fn new_row(
+    key: u32,
+    number: u32,
+    owner: u32,
+    flags: u8,
+    src: &[u8],
+    start: usize,
+    len: usize,
+) -> Row
+    requires { ⌜ (flags < 4) × ((len ≤ payloadLimit) × (start + len ≤ length (now src))) ⌝ }
+    ensures { λ r. ⌜ heldOf r ≡ calm (tupleBy key number owner flags (cut start len (now (src .entry)))) ⌝ }
+{
+    let p = padded(src, start, len);
+    Row {
+        key: key,
+        number: number,
+        owner: owner,
+        flags: flags,
+        size: len as u8,
+        payload: p,
+    }
+}
+
+// The row with another pending operation.
+pub fn with_pending(mut s: Row, k: u8) -> Row
+    requires { ⌜ k < 4 ⌝ }
+    ensures { λ r. ⌜ heldOf r ≡ withPending (pendingOf k) (heldOf s) ⌝ }
+{
+    s.flags = s.flags % 4 + 4 * k;
+    s
+}
+
+// The row, committed.
+pub fn as_committed(mut s: Row) -> Row
+    ensures { λ r. ⌜ kept (heldOf s) ≡ heldOf r ∷ [] ⌝ }
+{
+    s.flags = s.flags - s.flags % 2;
+    s
+}
+
 pub fn put_row(m: &mut [u8], i: usize, s: Row)
     requires { ⌜ Room (now m) × (i < length (flatOf (now m) .rows)) ⌝ }
     ensures { λ _. ⌜ Becomes (now (m .entry)) (now (m .exit)) (withRows (flatOf (now (m .entry))) (set (flatOf (now (m .entry)) .rows) i s)) ⌝ }
@@ -715,7 +756,7 @@ pub fn holds_store(m: &[u8]) -> bool
 
 // Lays it out over any old content.
 pub fn fresh(m: &mut [u8], blocks: u32, n: u32)
-    requires { ⌜ Fits (length (now m)) blocks n ⌝ }
+    requires { ⌜ FreshFits (length (now m)) blocks n ⌝ }
     ensures { λ _. ⌜ Becomes (now (m .entry)) (now (m .exit)) (freshFlat blocks n) × (storeIn (now (m .exit)) ≡ some (freshStore blocks n)) ⌝ }
 {
     clear(m, 0, 128);
