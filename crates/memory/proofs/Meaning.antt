@@ -40,6 +40,10 @@ in-sound m s e =
 pub in-next : (m m' : List ℕ) (f : Flat) → Becomes m m' f → filled f ≡ true → storeIn m' ≡ some (storeOf f)
 in-next m m' f b e = in-some m' (room-held m' (b .room) (ap filled (b .flat) ∙ e)) ∙ ap (λ (x : Flat). some (storeOf x)) (b .flat)
 
+-- before any function: where a loop begins
+pub becomes-none : (m : List ℕ) → Room m → Becomes m m (flatOf m)
+becomes-none m r = record { size = refl; room = r; flat = refl }
+
 -- two functions, one after the other
 pub becomes-then : (m m1 m2 : List ℕ) (f : Flat) (F : Flat → Flat) → Becomes m m1 f → Becomes m1 m2 (F (flatOf m1)) → Becomes m m2 (F f)
 becomes-then m m1 m2 f F a b = record { size = b .size ∙ a .size; room = b .room; flat = b .flat ∙ ap F (a .flat) }
