@@ -128,6 +128,14 @@ module _ (m : List ℕ) (r : Room m) {m' : List ℕ} (l : length m' ≡ length m
       (ap (λ (z : ℕ). tab (cell half z 2 2 m') 0 (countAt m 3)) (sym eb) ∙ cells-set half b 2 2 (omega arith) (countAt m 3) o (omega arith)
       ∙ ap (λ (z : ℕ). set (tab (cell half z 2 2 m) 0 (countAt m 3)) i x) eb)
 
+  pub open-set : (i x : ℕ) → i < length (opensOf m) → Only word 128 4 4 m m' i x → Becomes m m' (withOpens (flatOf m) (set (opensOf m) i x))
+  unfolding opensOf
+  open-set i x h o =
+      let k = known m r in
+      let en : countAt m' 2 ≡ countAt m 2 = kept-count 2 (omega arith) (o .apart) (omega arith) in
+      opens-become m m' m' (128 + i * 4) 4 (countAt m 2) r l (o .apart) (set (opensOf m) i x) (omega arith) (omega arith) (recount-none m' 2 _ en) (k .opens)
+      (cells-set word 128 4 4 (omega arith) (countAt m 2) o (omega arith))
+
   -- a list is emptied by its count alone
   pub named-none : Only word 64 4 4 m m' 3 0 → Becomes m m' (withNamed (flatOf m) [])
   named-none q = named-become m m m' (1024 + headAt m .capacity * 88) 0 0 r l (apart-none m _ 0) [] (omega arith) (recount q) (omega arith) refl

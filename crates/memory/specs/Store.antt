@@ -1,18 +1,18 @@
 -- The store that the memory holds, if it holds one.
 use Prim.Native.Nat.{ℕ, _+_, _*_, _/_, _%_, _≤_}
 use mathlib.Core.Path.{_≡_}
-use mathlib.Core.Bool.{Bool, false, not}
+use mathlib.Core.Bool.{Bool, false, not, _||_}
 use mathlib.Core.Option.{Option, none, some}
 use mathlib.Core.List.{List, [], _∷_, _++_, map}
 use lib.ListN.{length, take, drop}
 use lib.Dec.{leb, ltb, eqb}
 use Rattle.basics.specs.Basics.{if_then_else_, every, all, sum}
-use Rattle.blocks.specs.Limits.{payloadLimit}
+use Rattle.blocks.specs.Limits.{payloadLimit, mostNumber}
 use Rattle.blocks.specs.Numbers.{num4}
 use Rattle.blocks.specs.Tuple.{Owner, committed, tentative, Tuple}
 use Rattle.rows.specs.Rows.{openLimit}
 use Rattle.image.specs.Stages.{capacityLimit}
-use Rattle.model.specs.State.{Pending, nothing, adding, committing, removing, Held, Page, Checkpoint, idle, running, Store}
+use Rattle.model.specs.State.{Pending, nothing, adding, committing, removing, Held, Page, Active, Checkpoint, idle, running, Store}
 use Rattle.model.specs.Recover.{memoryFor}
 use Rattle.memory.specs.Bytes.{cut}
 use Rattle.memory.specs.Views.{tab}
@@ -62,13 +62,17 @@ nest (e ∷ es) hs = pageOf e (take (e .count) hs) ∷ nest es (drop (e .count) 
 abbrev pub pagesIn : Flat → List Page
 pagesIn f = nest (f .entries) (map heldOf (f .rows))
 
+-- an open transaction stands above 20 bits of how many tuples it has written
+unfoldable pub activeOf : ℕ → Active
+activeOf w = record { transaction = w / 1048576; written = w % 1048576 }
+
 -- block numbers have 12 bits
 unfoldable pub blocksOf : List ℕ → List ℕ
 blocksOf ns = map (λ n. n % 4096) ns
 
--- idle where the running number is 0
-unfoldable pub checkpointOf : ℕ → ℕ → List ℕ → List ℕ → Checkpoint
-checkpointOf on n es ds = if eqb on 0 then idle else running n (blocksOf es) (blocksOf ds)
+-- none runs at the last level, whatever the memory says: a begin is refused there
+unfoldable pub checkpointOf : ℕ → ℕ → ℕ → List ℕ → List ℕ → Checkpoint
+checkpointOf on l n es ds = if eqb on 0 || leb mostNumber l then idle else running n (blocksOf es) (blocksOf ds)
 
 -- the store that the flat lists mean
 unfoldable pub storeOf : Flat → Store
@@ -79,10 +83,10 @@ storeOf f =
       level = f .head .level;
       next = f .head .next;
       pages = pagesIn f;
-      active = f .opens;
+      active = map activeOf (f .opens);
       used = f .used;
       taken = f .head .taken;
-      checkpoint = checkpointOf (f .head .running) (f .head .begun) (f .named) (f .directories);
+      checkpoint = checkpointOf (f .head .running) (f .head .level) (f .head .begun) (f .named) (f .directories)
     }
 
 -- ---- pages by place

@@ -583,6 +583,13 @@ pub fn push_open(m: &mut [u8], x: u32)
     put_count(m, 2, n + 1);
 }
 
+pub fn put_open(m: &mut [u8], i: usize, x: u32)
+    requires { ⌜ Room (now m) × (i < length (flatOf (now m) .opens)) ⌝ }
+    ensures { λ _. ⌜ Becomes (now (m .entry)) (now (m .exit)) (withOpens (flatOf (now (m .entry))) (set (flatOf (now (m .entry)) .opens) i x)) ⌝ }
+{
+    put4(m, 128 + i * 4, x);
+}
+
 pub fn remove_open(m: &mut [u8], i: usize)
     requires { ⌜ Room (now m) × (i < length (flatOf (now m) .opens)) ⌝ }
     ensures { λ _. ⌜ Becomes (now (m .entry)) (now (m .exit)) (withOpens (flatOf (now (m .entry))) (removeAt i (flatOf (now (m .entry)) .opens))) ⌝ }
