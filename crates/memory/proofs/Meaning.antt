@@ -3,14 +3,14 @@ use mathlib.Core.Path.{_≡_, refl, ap, _∙_}
 use mathlib.Core.Bool.{Bool, true, false}
 use mathlib.Core.Option.{none, some}
 use Prim.Native.Nat.{ℕ}
-use mathlib.Core.List.{List}
+use mathlib.Core.List.{List, map}
 use Rattle.basics.specs.Basics.{if_then_else_}
 use Rattle.basics.proofs.Facts.{by, never}
 use Rattle.model.specs.State.{Store}
 use Rattle.model.specs.Transactions.{changed}
 use Rattle.model.specs.Checkpoint.{stored}
 use Rattle.memory.specs.Flat.{Flat, flatOf, Room, Becomes, withHead, withOpens, withNamed, withDirectories, withUsed}
-use Rattle.memory.specs.Store.{filled, holdsStore, checkpointOf, storeOf, storeIn}
+use Rattle.memory.specs.Store.{filled, holdsStore, checkpointOf, storeOf, storeIn, activeOf}
 use Rattle.memory.specs.declared.Head.{Head}
 use Rattle.memory.proofs.Refusal.{held-room, held-filled, room-held}
 
@@ -50,7 +50,7 @@ becomes-then m m1 m2 f F a b = record { size = b .size ∙ a .size; room = b .ro
 
 -- ---- what one part exchanged means
 
-pub opens-mean : (f : Flat) (xs : List ℕ) → storeOf (withOpens f xs) ≡ changed (storeOf f) (storeOf f .next) (storeOf f .pages) xs
+pub opens-mean : (f : Flat) (xs : List ℕ) → storeOf (withOpens f xs) ≡ changed (storeOf f) (storeOf f .next) (storeOf f .pages) (map activeOf xs)
 unfolding storeOf changed
 opens-mean f xs = refl
 
@@ -64,6 +64,6 @@ next-means f h n e = rw e
 -- the state of the checkpoint: the head, the directory entries, the directory blocks written, the blocks in use
 pub checkpoint-means : (f : Flat) (h : Head) (es ds : List ℕ) (u : ℕ → Bool) → h .blocks ≡ f .head .blocks → h .capacity ≡ f .head .capacity → h .next ≡ f .head .next
     → storeOf (withUsed (withDirectories (withNamed (withHead f h) es) ds) u)
-    ≡ stored (storeOf f) (h .level) (storeOf f .pages) u (h .taken) (checkpointOf (h .running) (h .begun) es ds)
+    ≡ stored (storeOf f) (h .level) (storeOf f .pages) u (h .taken) (checkpointOf (h .running) (h .level) (h .begun) es ds)
 unfolding storeOf stored
 checkpoint-means f h es ds u b c n = rw (b, c, n)
