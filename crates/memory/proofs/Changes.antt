@@ -1,0 +1,375 @@
+-- From a write to one region to all that the memory holds: the other parts stay.
+use mathlib.Core.Path.{_≡_, refl, sym, ap, _∙_, subst}
+use mathlib.Core.Logic.{inl, inr, ⊎-elim}
+use mathlib.Core.Bool.{Bool}
+use Prim.Native.Nat.{ℕ, _+_, _*_, _≤_, _<_}
+use native.Mathlib.Omega.{arith}
+use mathlib.Core.List.{List}
+use lib.ListN.{length, getD}
+use Rattle.blocks.specs.Numbers.{num4}
+use Rattle.memory.specs.Bytes.{cut, Apart}
+use Rattle.memory.specs.Views.{cell, tab, word, half, rowOf, entryOf, headOf, headAt, countAt, opensAt, rowsAt, entriesAt, namedAt, directoriesAt, usedIn, usedAt, Only}
+use Rattle.memory.specs.Flat.{Flat, flatOf, opensOf, rowsOf, entriesOf, namedOf, directoriesOf, countsOf, signature, InRange, Room, Replaces, Becomes, withHead, withOpens, withRows, withEntries, withNamed, withDirectories, withUsed}
+use Rattle.memory.specs.declared.Row.{Row}
+use Rattle.memory.specs.declared.Entry.{Entry}
+use Rattle.memory.specs.declared.Head.{Head}
+use Rattle.memory.specs.declared.Counts.{Counts}
+use Rattle.memory.proofs.Laws.{lt-or-ge, length-tab}
+use Rattle.memory.proofs.Cells.{Off, off, apart-none, getD-cut, cell-off, cells-off}
+
+-- ---- the counts are the lists' lengths
+
+pub rows-count : (m : List ℕ) → length (rowsOf m) ≡ countAt m 0
+unfolding rowsOf
+rows-count m = length-tab _ 0 (countAt m 0)
+
+pub pages-count : (m : List ℕ) → length (entriesOf m) ≡ countAt m 1
+unfolding entriesOf
+pages-count m = length-tab _ 0 (countAt m 1)
+
+pub opens-count : (m : List ℕ) → length (opensOf m) ≡ countAt m 2
+unfolding opensOf
+opens-count m = length-tab _ 0 (countAt m 2)
+
+pub named-count : (m : List ℕ) → length (namedOf m) ≡ countAt m 3
+unfolding namedOf
+named-count m = length-tab _ 0 (countAt m 3)
+
+pub directories-count : (m : List ℕ) → length (directoriesOf m) ≡ countAt m 4
+unfolding directoriesOf
+directories-count m = length-tab _ 0 (countAt m 4)
+
+-- what room means for the bytes
+pub record Known (m : List ℕ) : Type 0 where
+  pub most : headAt m .capacity ≤ 1024
+  pub long : 128 * headAt m .capacity + 1024 ≤ length m
+  pub rows : countAt m 0 ≤ headAt m .capacity
+  pub pages : countAt m 1 ≤ headAt m .capacity
+  pub opens : countAt m 2 ≤ 64
+  pub named : countAt m 3 ≤ headAt m .capacity
+  pub directories : countAt m 4 ≤ 4
+  pub rows-is : length (rowsOf m) ≡ countAt m 0
+  pub pages-is : length (entriesOf m) ≡ countAt m 1
+  pub opens-is : length (opensOf m) ≡ countAt m 2
+  pub named-is : length (namedOf m) ≡ countAt m 3
+  pub directories-is : length (directoriesOf m) ≡ countAt m 4
+
+pub known : (m : List ℕ) → Room m → Known m
+known m r =
+    let g = r .range in
+    record {
+      most = g .most;
+      long = g .long;
+      rows = omega (arith, g .rows, rows-count m);
+      pages = omega (arith, g .pages, pages-count m);
+      opens = omega (arith, g .opens, opens-count m);
+      named = omega (arith, g .named, named-count m);
+      directories = omega (arith, g .directories, directories-count m);
+      rows-is = rows-count m;
+      pages-is = pages-count m;
+      opens-is = opens-count m;
+      named-is = named-count m;
+      directories-is = directories-count m;
+    }
+
+-- ---- one count changed, or none
+
+pub record Recount (m m' : List ℕ) (k n : ℕ) : Type 0 where
+  pub here : countAt m' k ≡ n
+  pub others : (j : ℕ) → (j ≡ k → ⊥) → countAt m' j ≡ countAt m j
+  pub apart : Apart m m' (64 + k * 4) 4
+
+pub recount : {m m' : List ℕ} {k n : ℕ} → Only word 64 4 4 m m' k n → Recount m m' k n
+recount {m} {m'} {k} {n} o =
+    record {
+      here = o .here;
+      others = λ j ne.
+          cell-off word 64 4 4 (omega arith) (o .apart) j
+          (⊎-elim (λ (lt : j < k). inl (omega arith)) (λ (ge : k ≤ j). inr (omega arith)) (lt-or-ge j k));
+      apart = o .apart;
+    }
+
+pub recount-none : (m : List ℕ) (k n : ℕ) → countAt m k ≡ n → Recount m m k n
+recount-none m k n e = record { here = e; others = λ j ne. refl; apart = apart-none m (64 + k * 4) 4 }
+
+-- ---- what stays, where bytes of one region were written (from m to m2) and then its count (from m2 to m')
+
+pub word-at : (m : List ℕ) (a : ℕ) → word (cut a 4 m) ≡ num4 m a
+unfolding word num4
+word-at m a =
+    let e0 : getD (cut a 4 m) 0 0 ≡ getD m (a + 0) 0 = getD-cut a 4 0 m (omega arith) in
+    let e1 = getD-cut a 4 1 m (omega arith) in
+    let e2 = getD-cut a 4 2 m (omega arith) in
+    let e3 = getD-cut a 4 3 m (omega arith) in
+    let z : a + 0 ≡ a = omega arith in
+    rw (e0, e1, e2, e3, z)
+
+module _ (m m2 m' : List ℕ) (a len k n : ℕ) (k5 : k < 5) (p : Apart m m2 a len) (q : Recount m2 m' k n) where
+  both : (b l : ℕ) → Off b l a len → Off b l (64 + k * 4) 4 → cut b l m' ≡ cut b l m
+  both b l o1 o2 = off (q .apart) b l o2 ∙ off p b l o1
+
+  sign-kept : 84 ≤ a → num4 m' 0 ≡ num4 m 0
+  sign-kept h = sym (word-at m' 0) ∙ ap word (both 0 4 (inl (omega arith)) (inl (omega arith))) ∙ word-at m 0
+
+  head-kept : 84 ≤ a → headAt m' ≡ headAt m
+  unfolding headAt
+  head-kept h = ap headOf (both 4 28 (inl (omega arith)) (inl (omega arith)))
+
+  count-kept : 84 ≤ a → (j : ℕ) → j < 5 → (j ≡ k → ⊥) → countAt m' j ≡ countAt m j
+  count-kept h j b ne = q .others j ne ∙ cell-off word 64 4 4 (omega arith) p j (inl (omega arith))
+
+  -- cells of a region above the counts
+  region-kept : {A : Type 0} (of : List ℕ → A) (base w v : ℕ) → v ≤ w → 84 ≤ base → (i : ℕ) → Off base (i * w) a len
+      → tab (cell of base w v m') 0 i ≡ tab (cell of base w v m) 0 i
+  region-kept of base w v s h i o = cells-off of base w v s (q .apart) i (inr (omega arith)) ∙ cells-off of base w v s p i o
+
+  module _ (h : 84 ≤ a) (r : Room m) where
+    opens-kept : (2 ≡ k → ⊥) → Off 128 256 a len → opensOf m' ≡ opensOf m
+    unfolding opensOf
+    opens-kept ne o =
+        let u = known m r .opens in
+        ap (opensAt m') (count-kept h 2 (omega arith) ne)
+        ∙ region-kept word 128 4 4 (omega arith) (omega arith) (countAt m 2) (⊎-elim (λ z. inl (omega arith)) (λ z. inr z) o)
+
+    directories-kept : (4 ≡ k → ⊥) → Off 96 16 a len → directoriesOf m' ≡ directoriesOf m
+    unfolding directoriesOf
+    directories-kept ne o =
+        let u = known m r .directories in
+        ap (directoriesAt m') (count-kept h 4 (omega arith) ne)
+        ∙ region-kept word 96 4 4 (omega arith) (omega arith) (countAt m 4) (⊎-elim (λ z. inl (omega arith)) (λ z. inr z) o)
+
+    used-kept : Off 512 512 a len → usedAt m' ≡ usedAt m
+    used-kept o = ap usedIn (both 512 512 o (inr (omega arith)))
+
+    rows-kept : (0 ≡ k → ⊥) → Off 1024 (headAt m .capacity * 80) a len → rowsOf m' ≡ rowsOf m
+    unfolding rowsOf
+    rows-kept ne o =
+        let u = known m r .rows in
+        ap (rowsAt m') (count-kept h 0 (omega arith) ne)
+        ∙ region-kept rowOf 1024 80 56 (omega arith) (omega arith) (countAt m 0) (⊎-elim (λ z. inl (omega arith)) (λ z. inr z) o)
+
+    entries-kept : (1 ≡ k → ⊥) → Off (1024 + headAt m .capacity * 80) (headAt m .capacity * 8) a len → entriesOf m' ≡ entriesOf m
+    unfolding entriesOf
+    entries-kept ne o =
+        let u = known m r .pages in
+        ap (λ (x : Head). entriesAt m' (x .capacity) (countAt m' 1)) (head-kept h)
+        ∙ ap (entriesAt m' (headAt m .capacity)) (count-kept h 1 (omega arith) ne)
+        ∙ region-kept entryOf (1024 + headAt m .capacity * 80) 8 6 (omega arith) (omega arith) (countAt m 1) (⊎-elim (λ z. inl (omega arith)) (λ z. inr z) o)
+
+    named-kept : (3 ≡ k → ⊥) → Off (1024 + headAt m .capacity * 88) (headAt m .capacity * 2) a len → namedOf m' ≡ namedOf m
+    unfolding namedOf
+    named-kept ne o =
+        let u = known m r .named in
+        ap (λ (x : Head). namedAt m' (x .capacity) (countAt m' 3)) (head-kept h)
+        ∙ ap (namedAt m' (headAt m .capacity)) (count-kept h 3 (omega arith) ne)
+        ∙ region-kept half (1024 + headAt m .capacity * 88) 2 2 (omega arith) (omega arith) (countAt m 3) (⊎-elim (λ z. inl (omega arith)) (λ z. inr z) o)
+
+-- all of this at once
+record Kept (m m' : List ℕ) (a len k : ℕ) : Type 0 where
+  sign : num4 m' 0 ≡ num4 m 0
+  head : headAt m' ≡ headAt m
+  opens : (2 ≡ k → ⊥) → Off 128 256 a len → opensOf m' ≡ opensOf m
+  rows : (0 ≡ k → ⊥) → Off 1024 (headAt m .capacity * 80) a len → rowsOf m' ≡ rowsOf m
+  entries : (1 ≡ k → ⊥) → Off (1024 + headAt m .capacity * 80) (headAt m .capacity * 8) a len → entriesOf m' ≡ entriesOf m
+  named : (3 ≡ k → ⊥) → Off (1024 + headAt m .capacity * 88) (headAt m .capacity * 2) a len → namedOf m' ≡ namedOf m
+  directories : (4 ≡ k → ⊥) → Off 96 16 a len → directoriesOf m' ≡ directoriesOf m
+  used : Off 512 512 a len → usedAt m' ≡ usedAt m
+
+kept : (m m2 m' : List ℕ) (a len k n : ℕ) → k < 5 → Room m → 84 ≤ a → Apart m m2 a len → Recount m2 m' k n → Kept m m' a len k
+kept m m2 m' a len k n b r h p q =
+    record {
+      sign = sign-kept m m2 m' a len k n b p q h;
+      head = head-kept m m2 m' a len k n b p q h;
+      opens = opens-kept m m2 m' a len k n b p q h r;
+      rows = rows-kept m m2 m' a len k n b p q h r;
+      entries = entries-kept m m2 m' a len k n b p q h r;
+      named = named-kept m m2 m' a len k n b p q h r;
+      directories = directories-kept m m2 m' a len k n b p q h r;
+      used = used-kept m m2 m' a len k n b p q h r;
+    }
+
+-- ---- from parts to the whole
+
+pub flat-eq : (a b : Flat) → a .head ≡ b .head → a .opens ≡ b .opens → a .rows ≡ b .rows → a .entries ≡ b .entries → a .named ≡ b .named
+    → a .directories ≡ b .directories → a .used ≡ b .used → a ≡ b
+flat-eq a b h o r e n d u = λ i. record { head = h i; opens = o i; rows = r i; entries = e i; named = n i; directories = d i; used = u i }
+
+pub becomes : (m m' : List ℕ) (f : Flat) → length m' ≡ length m → num4 m' 0 ≡ signature → flatOf m' ≡ f → InRange (length m) (f .head) (countsOf f)
+    → Becomes m m' f
+becomes m m' f l s e g =
+    let g1 : InRange (length m') (f .head) (countsOf f) = rw l g in
+    record {
+      size = l;
+      room = record { sign = s; range = subst (λ (x : Flat). InRange (length m') (x .head) (countsOf x)) (sym e) g1 };
+      flat = e;
+    }
+
+recounted : {size : ℕ} {h : Head} {n : Counts} (n' : Counts) → InRange size h n → n' .rows ≤ h .capacity → n' .pages ≤ h .capacity → n' .opens ≤ 64
+    → n' .named ≤ h .capacity → n' .directories ≤ 4 → InRange size h n'
+recounted n' g r p o d b =
+    record {
+      least = g .least;
+      most = g .most;
+      long = g .long;
+      few = g .few;
+      many = g .many;
+      taken = g .taken;
+      rows = r;
+      pages = p;
+      opens = o;
+      named = d;
+      directories = b;
+    }
+
+-- the list after the write, and how long it is
+new-cells : {A : Type 0} (of : List ℕ → A) (base w v : ℕ) (m2 m' : List ℕ) (k n c : ℕ) (xs : List A) → v ≤ w → k < 5 → 84 ≤ base → Recount m2 m' k n → c ≡ n
+    → tab (cell of base w v m2) 0 n ≡ xs → tab (cell of base w v m') 0 c ≡ xs
+new-cells of base w v m2 m' k n c xs s b h q ec e =
+    ap (tab (cell of base w v m') 0) ec ∙ cells-off of base w v s (q .apart) n (inr (omega arith)) ∙ e
+
+as-long : {A : Type 0} (f : ℕ → A) (n : ℕ) (xs : List A) → tab f 0 n ≡ xs → length xs ≡ n
+as-long f n xs e = ap length (sym e) ∙ length-tab f 0 n
+
+module _ (m m2 m' : List ℕ) (a len n : ℕ) (r : Room m) (l : length m' ≡ length m) (p : Apart m m2 a len) where
+  pub rows-become : (xs : List Row) → 1024 ≤ a → a + len ≤ 1024 + headAt m .capacity * 80 → Recount m2 m' 0 n → n ≤ headAt m .capacity
+      → rowsAt m2 n ≡ xs → Becomes m m' (withRows (flatOf m) xs)
+  unfolding rowsOf
+  rows-become xs h1 h2 q b e =
+      let K = kept m m2 m' a len 0 n (omega arith) r (omega arith) p q in
+      let g = r .range in
+      let lx : length xs ≡ n = as-long _ n xs e in
+      becomes m m' (withRows (flatOf m) xs) l (K .sign ∙ r .sign)
+      (flat-eq (flatOf m') (withRows (flatOf m) xs)
+      (K .head)
+      (K .opens (omega arith) (inl (omega arith)))
+      (new-cells rowOf 1024 80 56 m2 m' 0 n (countAt m' 0) xs (omega arith) (omega arith) (omega arith) q (q .here) e)
+      (K .entries (omega arith) (inr (omega arith)))
+      (K .named (omega arith) (inr (omega arith)))
+      (K .directories (omega arith) (inl (omega arith)))
+      (K .used (inl (omega arith))))
+      (recounted (countsOf (withRows (flatOf m) xs)) g (omega arith) (g .pages) (g .opens) (g .named) (g .directories))
+
+  pub entries-become : (xs : List Entry) → 1024 + headAt m .capacity * 80 ≤ a → a + len ≤ 1024 + headAt m .capacity * 88 → Recount m2 m' 1 n
+      → n ≤ headAt m .capacity → entriesAt m2 (headAt m .capacity) n ≡ xs → Becomes m m' (withEntries (flatOf m) xs)
+  unfolding entriesOf
+  entries-become xs h1 h2 q b e =
+      let K = kept m m2 m' a len 1 n (omega arith) r (omega arith) p q in
+      let g = r .range in
+      let lx : length xs ≡ n = as-long _ n xs e in
+      let eh : headAt m' ≡ headAt m = K .head in
+      becomes m m' (withEntries (flatOf m) xs) l (K .sign ∙ r .sign)
+      (flat-eq (flatOf m') (withEntries (flatOf m) xs)
+      eh
+      (K .opens (omega arith) (inl (omega arith)))
+      (K .rows (omega arith) (inl (omega arith)))
+      (ap (λ (x : Head). entriesAt m' (x .capacity) (countAt m' 1)) eh
+      ∙ new-cells entryOf (1024 + headAt m .capacity * 80) 8 6 m2 m' 1 n (countAt m' 1) xs (omega arith) (omega arith) (omega arith) q (q .here) e)
+      (K .named (omega arith) (inr (omega arith)))
+      (K .directories (omega arith) (inl (omega arith)))
+      (K .used (inl (omega arith))))
+      (recounted (countsOf (withEntries (flatOf m) xs)) g (g .rows) (omega arith) (g .opens) (g .named) (g .directories))
+
+  pub opens-become : (xs : List ℕ) → 128 ≤ a → a + len ≤ 384 → Recount m2 m' 2 n → n ≤ 64 → opensAt m2 n ≡ xs → Becomes m m' (withOpens (flatOf m) xs)
+  unfolding opensOf
+  opens-become xs h1 h2 q b e =
+      let K = kept m m2 m' a len 2 n (omega arith) r (omega arith) p q in
+      let g = r .range in
+      let lx : length xs ≡ n = as-long _ n xs e in
+      becomes m m' (withOpens (flatOf m) xs) l (K .sign ∙ r .sign)
+      (flat-eq (flatOf m') (withOpens (flatOf m) xs)
+      (K .head)
+      (new-cells word 128 4 4 m2 m' 2 n (countAt m' 2) xs (omega arith) (omega arith) (omega arith) q (q .here) e)
+      (K .rows (omega arith) (inr (omega arith)))
+      (K .entries (omega arith) (inr (omega arith)))
+      (K .named (omega arith) (inr (omega arith)))
+      (K .directories (omega arith) (inl (omega arith)))
+      (K .used (inr (omega arith))))
+      (recounted (countsOf (withOpens (flatOf m) xs)) g (g .rows) (g .pages) (omega arith) (g .named) (g .directories))
+
+  pub named-become : (xs : List ℕ) → 1024 + headAt m .capacity * 88 ≤ a → Recount m2 m' 3 n
+      → n ≤ headAt m .capacity → namedAt m2 (headAt m .capacity) n ≡ xs → Becomes m m' (withNamed (flatOf m) xs)
+  unfolding namedOf
+  named-become xs h1 q b e =
+      let K = kept m m2 m' a len 3 n (omega arith) r (omega arith) p q in
+      let g = r .range in
+      let lx : length xs ≡ n = as-long _ n xs e in
+      let eh : headAt m' ≡ headAt m = K .head in
+      becomes m m' (withNamed (flatOf m) xs) l (K .sign ∙ r .sign)
+      (flat-eq (flatOf m') (withNamed (flatOf m) xs)
+      eh
+      (K .opens (omega arith) (inl (omega arith)))
+      (K .rows (omega arith) (inl (omega arith)))
+      (K .entries (omega arith) (inl (omega arith)))
+      (ap (λ (x : Head). namedAt m' (x .capacity) (countAt m' 3)) eh
+      ∙ new-cells half (1024 + headAt m .capacity * 88) 2 2 m2 m' 3 n (countAt m' 3) xs (omega arith) (omega arith) (omega arith) q (q .here) e)
+      (K .directories (omega arith) (inl (omega arith)))
+      (K .used (inl (omega arith))))
+      (recounted (countsOf (withNamed (flatOf m) xs)) g (g .rows) (g .pages) (g .opens) (omega arith) (g .directories))
+
+  pub directories-become : (xs : List ℕ) → 96 ≤ a → a + len ≤ 112 → Recount m2 m' 4 n → n ≤ 4 → directoriesAt m2 n ≡ xs
+      → Becomes m m' (withDirectories (flatOf m) xs)
+  unfolding directoriesOf
+  directories-become xs h1 h2 q b e =
+      let K = kept m m2 m' a len 4 n (omega arith) r (omega arith) p q in
+      let g = r .range in
+      let lx : length xs ≡ n = as-long _ n xs e in
+      becomes m m' (withDirectories (flatOf m) xs) l (K .sign ∙ r .sign)
+      (flat-eq (flatOf m') (withDirectories (flatOf m) xs)
+      (K .head)
+      (K .opens (omega arith) (inr (omega arith)))
+      (K .rows (omega arith) (inr (omega arith)))
+      (K .entries (omega arith) (inr (omega arith)))
+      (K .named (omega arith) (inr (omega arith)))
+      (new-cells word 96 4 4 m2 m' 4 n (countAt m' 4) xs (omega arith) (omega arith) (omega arith) q (q .here) e)
+      (K .used (inr (omega arith))))
+      (recounted (countsOf (withDirectories (flatOf m) xs)) g (g .rows) (g .pages) (g .opens) (g .named) (omega arith))
+
+pub head-become : (m m' : List ℕ) (h : Head) → Room m → length m' ≡ length m → Apart m m' 4 28 → headAt m' ≡ h → Replaces (headAt m) h
+    → Becomes m m' (withHead (flatOf m) h)
+unfolding opensOf rowsOf entriesOf namedOf directoriesOf
+head-become m m' h r l p e t =
+    let g = r .range in
+    let ec : h .capacity ≡ headAt m .capacity = t .capacity in
+    let c : headAt m' .capacity ≡ headAt m .capacity = ap (λ (x : Head). x .capacity) e ∙ t .capacity in
+    let n : (j : ℕ) → countAt m' j ≡ countAt m j = λ j. cell-off word 64 4 4 (omega arith) p j (inr (omega arith)) in
+    becomes m m' (withHead (flatOf m) h) l (sym (word-at m' 0) ∙ ap word (off p 0 4 (inl (omega arith))) ∙ word-at m 0 ∙ r .sign)
+    (flat-eq (flatOf m') (withHead (flatOf m) h)
+    e
+    (ap (opensAt m') (n 2) ∙ cells-off word 128 4 4 (omega arith) p (countAt m 2) (inr (omega arith)))
+    (ap (rowsAt m') (n 0) ∙ cells-off rowOf 1024 80 56 (omega arith) p (countAt m 0) (inr (omega arith)))
+    (ap (λ (x : ℕ). entriesAt m' x (countAt m' 1)) c ∙ ap (entriesAt m' (headAt m .capacity)) (n 1)
+    ∙ cells-off entryOf (1024 + headAt m .capacity * 80) 8 6 (omega arith) p (countAt m 1) (inr (omega arith)))
+    (ap (λ (x : ℕ). namedAt m' x (countAt m' 3)) c ∙ ap (namedAt m' (headAt m .capacity)) (n 3)
+    ∙ cells-off half (1024 + headAt m .capacity * 88) 2 2 (omega arith) p (countAt m 3) (inr (omega arith)))
+    (ap (directoriesAt m') (n 4) ∙ cells-off word 96 4 4 (omega arith) p (countAt m 4) (inr (omega arith)))
+    (ap usedIn (off p 512 512 (inr (omega arith)))))
+    (record {
+      least = omega (arith, g .least);
+      most = omega (arith, g .most);
+      long = omega (arith, g .long);
+      few = t .few;
+      many = t .many;
+      taken = t .taken;
+      rows = omega (arith, g .rows);
+      pages = omega (arith, g .pages);
+      opens = g .opens;
+      named = omega (arith, g .named);
+      directories = g .directories;
+    })
+
+pub used-become : (m m' : List ℕ) (a len : ℕ) (u : ℕ → Bool) → Room m → length m' ≡ length m → Apart m m' a len → 512 ≤ a → a + len ≤ 1024 → usedAt m' ≡ u
+    → Becomes m m' (withUsed (flatOf m) u)
+used-become m m' a len u r l p h1 h2 e =
+    let g = r .range in
+    let K = kept m m' m' a len 0 (countAt m' 0) (omega arith) r (omega arith) p (recount-none m' 0 _ refl) in
+    let J = kept m m' m' a len 1 (countAt m' 1) (omega arith) r (omega arith) p (recount-none m' 1 _ refl) in
+    becomes m m' (withUsed (flatOf m) u) l (K .sign ∙ r .sign)
+    (flat-eq (flatOf m') (withUsed (flatOf m) u)
+    (K .head)
+    (K .opens (omega arith) (inl (omega arith)))
+    (J .rows (omega arith) (inr (omega arith)))
+    (K .entries (omega arith) (inr (omega arith)))
+    (K .named (omega arith) (inr (omega arith)))
+    (K .directories (omega arith) (inl (omega arith)))
+    e)
+    (recounted (countsOf (flatOf m)) g (g .rows) (g .pages) (g .opens) (g .named) (g .directories))

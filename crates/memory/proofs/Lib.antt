@@ -1,0 +1,16 @@
+pub mod Laws
+pub mod Cells
+pub mod Spelling
+pub mod Changes
+pub mod Leaves
+pub mod Access
+pub mod Marks
+pub mod Refusal
+pub mod Payloads
+pub mod Meaning
+pub mod Blank
+pub mod Nest
+pub mod Runs
+pub mod Exchange
+pub mod Fitting
+pub mod Flags

@@ -1,0 +1,52 @@
+use Rattle.memory.proofs.Blank.{Blanked, blank-becomes, blank-in}
+use Rattle.memory.specs.Store.{freshFlat}
+use Rattle.memory.specs.Flat.{Becomes}
+use lib.ListN.{length}
+use mathlib.Core.List.{List}
+use native.Mathlib.Omega.{arith}
+use Prim.Native.Nat.{ℕ}
+use mathlib.Core.Path.{_≡_, _∙_}
+use borrow.Author.Needs.{needs}
+use Rattle.memory.proofs.fresh.Statement.{statement}
+use Rattle.memory.proofs.fresh.Tie as tie
+
+clear-requires : tie.Need-clear-requires
+clear-requires c κs = search needs
+
+put4-requires : tie.Need-put4-requires
+put4-requires c κs = search needs
+
+put4-requires-2 : tie.Need-put4-requires-2
+put4-requires-2 c κs = search needs
+
+put4-requires-3 : tie.Need-put4-requires-3
+put4-requires-3 c κs = search needs
+
+clear-requires-2 : tie.Need-clear-requires-2
+clear-requires-2 c κs = search needs
+
+same-length : tie.Need-same-length
+same-length c = search needs
+
+returns : tie.Need-returns
+returns c = let st = c .before .before .before .before .before .before .before .before .before .before .before .before .before .before .before .before .before .before .before .before .before in
+    let m : List ℕ = st .args .m .now in
+    let b : ℕ = st .args .blocks in
+    let n : ℕ = st .args .n in
+    let d : Blanked m _ _ _ _ (c .before .before .clear2 .last .0) b n =
+    record { zeros = c .before .before .before .before .before .before .before .before .before .before .before .before .before .before .before .before .before .before .clear .ensures; sign = c .before .before .before .before .before .before .before .before .before .before .before .before .before .before .put4 .ensures; capacity = c .before .before .before .before .before .before .before .before .before .before .put42 .ensures; blocks = c .before .before .before .before .before .before .put43 .ensures; unused = c .before .before .clear2 .ensures } in
+    let l : length (c .before .before .clear2 .last .0) ≡ length m = c .before .before .clear2 .kept .0 ∙ c .before .before .before .before .before .before .put43 .kept .0 ∙ c .before .before .before .before .before .before .before .before .before .before .put42 .kept .0 ∙ c .before .before .before .before .before .before .before .before .before .before .before .before .before .before .put4 .kept .0 ∙ c .before .before .before .before .before .before .before .before .before .before .before .before .before .before .before .before .before .before .clear .kept .0 in
+    let e : Becomes m (c .before .before .clear2 .last .0) (freshFlat b n) = blank-becomes m _ _ _ _ _ b n d (omega (arith, st .pre .long)) (st .pre) l in
+    (e, blank-in m _ b n e)
+
+pub fresh-spec : {M : Type 1} → statement M
+fresh-spec =
+    tie.close
+    (tie.spec
+    clear-requires
+    put4-requires
+    put4-requires-2
+    put4-requires-3
+    clear-requires-2
+    same-length
+    returns)

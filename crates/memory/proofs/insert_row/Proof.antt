@@ -1,0 +1,67 @@
+use Rattle.memory.proofs.Leaves.{row-in}
+use Rattle.memory.proofs.Changes.{known}
+use native.Mathlib.Omega.{arith}
+use mathlib.Core.Path.{_∙_}
+use borrow.Author.Needs.{needs}
+use Rattle.memory.proofs.insert_row.Statement.{statement}
+use Rattle.memory.proofs.insert_row.Tie as tie
+
+count-at-requires : tie.Need-count-at-requires
+count-at-requires c κs = search needs
+
+cast-k : tie.Need-cast-k
+cast-k c = search needs
+
+mul-shift-up : tie.Need-mul-shift-up
+mul-shift-up c = search needs
+
+add-shift-up : tie.Need-add-shift-up
+add-shift-up c = search needs
+
+mul-shift-up-2 : tie.Need-mul-shift-up-2
+mul-shift-up-2 c = search needs
+
+add-shift-up-2 : tie.Need-add-shift-up-2
+add-shift-up-2 c = search needs
+
+shift-up-requires : tie.Need-shift-up-requires
+shift-up-requires c κs = let k = known _ (c .before .before .before .before .pre .0) in
+    let e = c .before .count-at .ensures in
+    omega arith
+
+store-row-requires : tie.Need-store-row-requires
+store-row-requires c κs = search needs
+
+add-put-count : tie.Need-add-put-count
+add-put-count c = let k = known _ (c .before .before .before .before .before .before .before .before .before .before .before .before .pre .0) in
+    let e = c .before .before .before .before .before .before .before .before .before .count-at .ensures in
+    omega arith
+
+put-count-requires : tie.Need-put-count-requires
+put-count-requires c κs = search needs
+
+same-length : tie.Need-same-length
+same-length c = search needs
+
+returns : tie.Need-returns
+returns c = let st = c .before .before .before .before .before .before .before .before .before .before .before .before .before .before .before in
+    let l = c .before .before .put-count .kept .0 ∙ c .before .before .before .before .before .before .store-row .kept .0 ∙ c .before .before .before .before .before .before .before .before .before .before .shift-up .kept .0 in
+    row-in (st .args .m .now) (st .pre .0) (c .before .before .before .before .before .before .before .before .before .before .before .before .count-at .result) (c .before .before .before .before .before .before .before .before .before .before .before .before .count-at .ensures) (st .args .i) (st .args .s) (st .pre .1 .0) (st .pre .1 .1) l
+    (c .before .before .before .before .before .before .before .before .before .before .shift-up .ensures) (c .before .before .before .before .before .before .store-row .ensures) (c .before .before .put-count .ensures)
+
+pub insert-row-spec : {M : Type 1} → statement M
+insert-row-spec =
+    tie.close
+    (tie.spec
+    count-at-requires
+    cast-k
+    mul-shift-up
+    add-shift-up
+    mul-shift-up-2
+    add-shift-up-2
+    shift-up-requires
+    store-row-requires
+    add-put-count
+    put-count-requires
+    same-length
+    returns)

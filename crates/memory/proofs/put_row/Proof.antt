@@ -1,0 +1,17 @@
+use Rattle.memory.proofs.Leaves.{row-set}
+use borrow.Author.Needs.{needs}
+use Rattle.memory.proofs.put_row.Statement.{statement}
+use Rattle.memory.proofs.put_row.Tie as tie
+
+store-row-requires : tie.Need-store-row-requires
+store-row-requires c κs = search needs
+
+same-length : tie.Need-same-length
+same-length c = search needs
+
+returns : tie.Need-returns
+returns c = let st = c .before .before .before .before .before in
+    row-set (st .args .m .now) (st .pre .0) (c .before .before .store-row .kept .0) (st .args .i) (st .args .s) (st .pre .1) (c .before .before .store-row .ensures)
+
+pub put-row-spec : {M : Type 1} → statement M
+put-row-spec = tie.close (tie.spec store-row-requires same-length returns)
