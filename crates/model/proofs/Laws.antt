@@ -9,15 +9,16 @@ use lib.Dec.{ltb}
 use lib.ListN.{length, length-map, length-append}
 use Rattle.basics.specs.Basics.{if_then_else_, howMany, first}
 use Rattle.basics.proofs.Facts.{by, lie}
-use Rattle.rows.specs.Rows.{isOwn}
+use Rattle.rows.specs.Rows.{Row, isOwn}
 use Rattle.image.specs.Stages.{directoriesFor}
 use Rattle.model.specs.State.{Checkpoint, idle, running, Outcome, Store, refused, Page, count}
 use Rattle.model.specs.Rules.{isFrozen, freeze, isDirty, thaw}
-use Rattle.model.specs.Sight.{rows}
-use Rattle.model.specs.Transactions.{unless, Test, gives, _when_}
+use Rattle.model.specs.Sight.{seen, rows}
+use Rattle.model.specs.Transactions.{unless, Test, gives, _when_, readSeen, openCall, insertCall, replaceCall, deleteCall, written, commitCall, abortCall, readCall, listCall}
 use Rattle.model.specs.Checkpoint.{left, leftOf, allocate, beginCall, stored, blocksNeeded, stepOf, storePage, storeDirectory, storeHeader, made, stepCall, stepAt, badImage, inTurn, runCall}
-use Rattle.model.specs.Calls.{accepted, call, steps, afterCalls}
+use Rattle.model.specs.Calls.{accepted, call, steps, afterCalls, opens, inserts, replaces, deletes, commits, aborts, reads, lists, begins, runs}
 use Rattle.model.specs.WellFormed.{ListOrder, EnoughBlocks, CheckpointWell, BeginAnswers, OneLess, times, writesOf, RunIsSteps, CountsLow}
+use Rattle.model.specs.Seen.{RefusedKeeps}
 use Rattle.model.proofs.Lists.{Pairs, pairs-parts, all-parts, leb-true, leb-false, eqb-self, eqb-true, not-false, many-length}
 use Rattle.model.proofs.Frozen.{images-thaw, images-first, images-none}
 use Rattle.model.proofs.Alloc.{Fresh, allocate-fresh}
@@ -147,6 +148,41 @@ run-is-steps limit len s h k e =
     Ran : ℕ → Outcome → Type 0
     Ran k o = (o .answer ≡ count k) × (o .store ≡ afterCalls (times k (steps len)) s) × (o .writes ≡ writesOf (times k (steps len)) s)
         × (length (o .writes) ≡ k) × (left s ≡ k + left (o .store))
+
+-- ---- refused calls
+
+abbrev Kept : Store → Outcome → Type 0
+Kept s o = (o .store ≡ s) × (o .writes ≡ [])
+
+kept-unless : (ts : List Test) (s : Store) (o : Outcome) → (accepted (o .answer) ≡ false → Kept s o) → accepted (unless ts s o .answer) ≡ false
+    → Kept s (unless ts s o)
+unfolding unless if_then_else_ gives
+kept-unless [] s o f h = f h
+kept-unless ((n when b) ∷ ts) s o f h = by b (λ k. rw k (refl, refl)) (λ k. rw k (kept-unless ts s o f (rw k at h)))
+
+kept-seen : (room : ℕ) (o : Option Row) (s : Store) → accepted (readSeen room o s .answer) ≡ false → Kept s (readSeen room o s)
+unfolding readSeen gives
+kept-seen room none s h = (refl, refl)
+kept-seen room (some r) s h = kept-unless _ s _ (λ k. (refl, refl)) h
+
+kept-step : (c : Checkpoint) (s : Store) → s .checkpoint ≡ c → accepted (stepAt c s .answer) ≡ false → Kept s (stepAt c s)
+unfolding stepAt gives accepted
+kept-step idle s e h = (refl, refl)
+kept-step (running n es ds) s e h = lie (sym h ∙ ap accepted (step-less n es ds s e (first isFrozen (s .pages)) refl .2))
+
+pub refused-keeps : RefusedKeeps
+unfolding call openCall insertCall replaceCall deleteCall written commitCall abortCall readCall listCall beginCall stepCall runCall gives accepted
+refused-keeps (opens tx) s h = kept-unless _ s _ (λ k. lie (sym k)) h
+refused-keeps (inserts tx t k bs) s h = kept-unless _ s _ (λ k. lie (sym k)) h
+refused-keeps (replaces tx t k bs) s h = kept-unless _ s _ (λ k. lie (sym k)) h
+refused-keeps (deletes tx t k) s h = kept-unless _ s _ (λ k. lie (sym k)) h
+refused-keeps (commits tx) s h = kept-unless _ s _ (λ k. lie (sym k)) h
+refused-keeps (aborts tx) s h = kept-unless _ s _ (λ k. lie (sym k)) h
+refused-keeps (reads tx t k room) s h = kept-unless _ s _ (kept-seen room (seen tx t k s) s) h
+refused-keeps (lists room) s h = kept-unless _ s _ (λ k. lie (sym k)) h
+refused-keeps begins s h = kept-unless _ s _ (λ k. lie (sym k)) h
+refused-keeps (steps len) s h = kept-unless _ s _ (kept-step (s .checkpoint) s refl) h
+refused-keeps (runs limit len) s h = kept-unless _ s _ (λ k. lie (sym k)) h
 
 -- ---- counts
 

@@ -16,12 +16,12 @@ use Rattle.model.specs.Rules.{isDirty}
 use Rattle.model.specs.Calls.{Call, afterCalls}
 use Rattle.model.specs.Recover.{recoveredStore}
 use Rattle.model.specs.QuotedLine.{Logged, isHeader, landed, Cut, stored, content}
-use Rattle.model.specs.Checkpoints.{afterStores, contentOf, Placed, Checkpoints}
+use Rattle.model.specs.Checkpoints.{afterStores, contentOf, Placed, Checkpointed, Checkpoints}
 use Rattle.model.proofs.Views.{WriteOk, put, CutV}
 use Rattle.model.proofs.Lists.{eqb-true, not-zero, all-map, all-parts, all-append}
 use Rattle.model.proofs.Recovery.{found, Found, read-blocks}
 use Rattle.model.proofs.Stored.{put-same}
-use Rattle.model.proofs.Inv.{Named}
+use Rattle.model.proofs.Inv.{Named, Like}
 use Rattle.model.proofs.Steps.{loaded-content, loaded-blocks, Top}
 use Rattle.model.proofs.Start.{entries-in}
 use Rattle.model.proofs.Claim.{claims-ok, writes-ok}
@@ -81,32 +81,37 @@ found-positive n v s f =
     subst (AllOf (λ b. 0 < b)) (sym (read-blocks v (f .head .level) (f .entries) (f .pages) (f .read)))
     (all-map _ _ (λ b k. k .0) (f .entries) (entries-in (f .head .blocks) (directoryBlocks (f .head)) (f .entries) (f .entries-ok)))
 
-pub checkpoints : Checkpoints
-checkpoints img bytes s start calls typed ws w later e h =
-    let a = started img s start in
-    let v = view img in
-    let sane = view-sane img in
-    let n = s .blocks in
-    let claim = claims-ok v sane s (a .least) (a .most) (a .seen) calls in
-    let all-ok = subst (AllOf (WriteOk n)) e (writes-ok v sane s (a .least) (a .most) (a .seen) calls typed) in
-    let tops = subst (AllOf (λ w. isHeader w ≡ true → Top (w .write .what) (afterCalls (w .before) s))) e (claim .1) in
-    let ok = all-parts (WriteOk n) ws (w ∷ later) all-ok in
-    let img′ = afterStores img (ws ++ w ∷ []) in
-    let c = cut-view n (whole-cut img [] ws w later h) (a .long) all-ok in
-    let k = claim .0 (view img′) (w .before) (subst (λ l. CutV v [] l (view img′) (w .before)) (sym e) (c .0)) in
-    let f = found n (view img′) (k .0) (k .1) in
-    let t = all-parts (λ w. isHeader w ≡ true → Top (w .write .what) (afterCalls (w .before) s)) ws (w ∷ later) tops .1 .0 h in
-    let q : t .head ≡ f .head = same-header (t .is) (sym (top-block n img ws w (a .long) (all-append (WriteOk n) ws (w ∷ []) (ok .0) (ok .1 .0, tt)) h) ∙ f .top) in
+-- an image whose first block is the header of b, and which recovers to r, which is like b
+read-again : (n : ℕ) (img : List ℕ) (b r : Store) (x : Block) → length img ≡ 512 * n → 2 ≤ n → n ≤ 4096 → Found n (view img) r → Like r b
+    → Top x b → view img 0 ≡ x → Checkpointed img b
+read-again n img b r x len lo hi f l t e =
+    let q : t .head ≡ f .head = same-header (t .is) (sym e ∙ f .top) in
     record {
       found = record { header = f .head; pages = f .pages };
-      read = reads-found n img′ (k .0) (c .1) (a .least) (a .most) f;
-      pages = found-content n (view img′) (k .0) f ∙ k .2 .pages;
-      places = placed (afterCalls (w .before) s .used) (f .pages) (afterCalls (w .before) s .pages) (found-positive n (view img′) (k .0) f)
-          (subst (λ z. Named (afterCalls (w .before) s .used) z (map (λ p. p .block) (afterCalls (w .before) s .pages)))
-          (found-blocks n (view img′) (k .0) f) (k .2 .names));
+      read = reads-found n img r len lo hi f;
+      pages = found-content n (view img) r f ∙ l .pages;
+      places = placed (b .used) (f .pages) (b .pages) (found-positive n (view img) r f)
+          (subst (λ z. Named (b .used) z (map (λ p. p .block) (b .pages))) (found-blocks n (view img) r f) (l .names));
       count = ap (λ z. z .pages) (sym q) ∙ t .pages;
       blocks = ap (λ z. z .blocks) (sym q) ∙ t .blocks;
       capacity = ap (λ z. z .capacity) (sym q) ∙ t .capacity;
       next = ap (λ z. z .next) (sym q) ∙ t .next;
       level = ap (λ z. z .level) (sym q) ∙ t .level;
     }
+
+pub checkpoints : Checkpoints
+checkpoints img bytes s start calls typed ws w later e h =
+    let a = started img s start in
+    let v = view img in
+    let sane = view-sane img in
+    let n = s .blocks in
+    let Heads : Logged → Type 0 = λ w. isHeader w ≡ true → Top (w .write .what) (afterCalls (w .before) s) in
+    let claim = claims-ok v sane s (a .least) (a .most) (a .seen) calls in
+    let all-ok = subst (AllOf (WriteOk n)) e (writes-ok v sane s (a .least) (a .most) (a .seen) calls typed) in
+    let ok = all-parts (WriteOk n) ws (w ∷ later) all-ok in
+    let img′ = afterStores img (ws ++ w ∷ []) in
+    let c = cut-view n (whole-cut img [] ws w later h) (a .long) all-ok in
+    let k = claim .0 (view img′) (w .before) (subst (λ l. CutV v [] l (view img′) (w .before)) (sym e) (c .0)) in
+    read-again n img′ (afterCalls (w .before) s) (k .0) (w .write .what) (c .1) (a .least) (a .most) (found n (view img′) (k .0) (k .1)) (k .2)
+    (all-parts Heads ws (w ∷ later) (subst (AllOf Heads) e (claim .1)) .1 .0 h)
+    (top-block n img ws w (a .long) (all-append (WriteOk n) ws (w ∷ []) (ok .0) (ok .1 .0, tt)) h)

@@ -68,6 +68,10 @@ SeenAfterCommit =
 
 -- ---- calls that show nothing
 
+-- a refused call changes nothing and stores nothing
+abbrev pub RefusedKeeps : Type 0
+RefusedKeeps = (c : Call) (s : Store) → accepted (call c s .answer) ≡ false → (call c s .store ≡ s) × (call c s .writes ≡ [])
+
 -- read and list change nothing and store nothing
 abbrev pub LooksOnly : Type 0
 LooksOnly =
