@@ -57,6 +57,9 @@ pub enum Reading {
     Malformed,
 }
 
+// Block numbers in every directory block but the last.
+pub const ENTRIES_PER_BLOCK: usize = 336;
+
 // The layout of a page: its numbers, and what a record takes of it.
 pub struct PageLayout {}
 
@@ -306,7 +309,7 @@ fn read_directory(block: &[u8; 512]) -> Reading
     ensures { λ r. ⌜ r ≡ reading (directoryIn (now (block .entry))) ⌝ }
 {
     let count = bits::get_bits(block, 4, 9) as usize;
-    if 336 < count {
+    if ENTRIES_PER_BLOCK < count {
         return Reading::Malformed;
     }
     let level = get32(block, 13, 32);

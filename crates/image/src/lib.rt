@@ -371,10 +371,10 @@ fn pages_ok(image: &[u8], entries: &[u32], h: blocks::Header) -> bool
 fn due(left: usize) -> usize
     ensures { λ r. ⌜ r ≡ min entriesPerBlock left ⌝ }
 {
-    if left < 336 {
+    if left < blocks::ENTRIES_PER_BLOCK {
         return left;
     }
-    336
+    blocks::ENTRIES_PER_BLOCK
 }
 
 // The first entries of a directory block over those of out from a place on.

@@ -86,7 +86,7 @@ storeOf f =
       active = map activeOf (f .opens);
       used = f .used;
       taken = f .head .taken;
-      checkpoint = checkpointOf (f .head .running) (f .head .level) (f .head .begun) (f .named) (f .directories)
+      checkpoint = checkpointOf (f .head .running) (f .head .level) (f .head .begun) (f .named) (f .directories);
     }
 
 -- ---- pages by place
