@@ -1,0 +1,58 @@
+use Rattle.look.proofs.Pushing.{append-as}
+use Rattle.look.proofs.Tables.{rows-tabled}
+use Rattle.memory.proofs.Refusal.{held-room, held-filled}
+use Rattle.memory.specs.Flat.{Flat, flatOf, Room}
+use Rattle.model.specs.Transactions.{plan, planRows}
+use Rattle.rows.specs.Rows.{Row}
+use mathlib.Core.List.{List}
+use native.Mathlib.Omega.{arith}
+use Prim.Native.Nat.{ℕ, _≤_}
+use mathlib.Core.Path.{_≡_, refl, sym, ap, _∙_}
+use borrow.Author.Needs.{needs}
+use Rattle.look.proofs.plan_commit.Statement.{statement}
+use Rattle.look.proofs.plan_commit.Tie as tie
+use Rattle.look.proofs.plan_commit.Reads as reads
+use Rattle.look.proofs.plan_commit.Lts as lts
+use Rattle.look.proofs.fill_tables.Reads as fill-tables-reads
+use Rattle.look.proofs.plan_rows.Reads as plan-rows-reads
+
+-- src/lib.rt:357:20
+slice-aggregate-fill-tables : tie.Need-slice-aggregate-fill-tables
+slice-aggregate-fill-tables c = search needs
+
+-- src/lib.rt:357:5
+fill-tables-requires : tie.Need-fill-tables-requires
+fill-tables-requires c κs = let m : List ℕ = c .before .before .before .args .m .now in
+    let r : Room m = held-room m (c .before .before .before .pre .0) in
+    (c .before .before .before .pre .0, omega (arith, r .range .rows, r .range .most))
+
+-- src/lib.rt:358:18
+slice-aggregate-plan-rows : tie.Need-slice-aggregate-plan-rows
+slice-aggregate-plan-rows c = search needs
+
+-- src/lib.rt:358:5
+plan-rows-requires : tie.Need-plan-rows-requires
+plan-rows-requires c κs = let m : List ℕ = c .before .before .before .before .before .before .before .args .m .now in
+    let r : Room m = held-room m (c .before .before .before .before .before .before .before .pre .0) in
+    (r, (omega (arith, r .range .rows, r .range .most, c .before .before .before .fill-tables .ensures .0), c .before .before .before .before .before .before .before .pre .1))
+
+-- src/lib.rt:352:1
+same-length : tie.Need-same-length
+same-length c = search needs
+
+-- src/lib.rt:352:1
+returns : tie.Need-returns
+unfolding plan
+returns c = let m : List ℕ = c .before .before .before .before .before .before .before .before .before .before .args .m .now in
+    append-as _ _ _ _ _ _ (ap (λ (z : List Row). planRows (c .before .before .before .before .before .before .before .before .before .before .args .transaction) z z) (sym (rows-tabled (flatOf m) (held-filled m (c .before .before .before .before .before .before .before .before .before .before .pre .0)) _ (c .before .before .before .before .before .before .fill-tables .ensures .1)))) (c .before .before .plan-rows .ensures)
+
+pub plan-commit-spec : {M : Type 1} → statement M
+plan-commit-spec =
+    tie.close
+    (tie.spec
+    slice-aggregate-fill-tables
+    fill-tables-requires
+    slice-aggregate-plan-rows
+    plan-rows-requires
+    same-length
+    returns)

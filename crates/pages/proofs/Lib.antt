@@ -1,0 +1,9 @@
+pub mod Places
+pub mod Swaps
+pub mod Last
+pub mod Placing
+pub mod Searching
+pub mod Sizes
+pub mod Flags
+pub mod Splitting
+pub mod Around

@@ -1,0 +1,40 @@
+-- Sizes over a run of rows, turn by turn; parts of a page that is split.
+use mathlib.Core.Path.{_≡_, refl, sym, ap, _∙_, subst}
+use mathlib.Core.Bool.{Bool, true, false}
+use Prim.Native.Nat.{ℕ, zero, suc, _+_, _*_, _-_, _%_, _≤_, _<_}
+use native.Mathlib.Omega.{arith}
+use mathlib.Core.List.{List, [], _∷_, _++_}
+use lib.ListN.{length}
+use lib.Dec.{leb}
+use borrow.Author.Tests.{le-leb, lt-leb}
+use Rattle.basics.specs.Basics.{if_then_else_, sum}
+use Rattle.basics.proofs.Facts.{AllOf}
+use Rattle.model.specs.State.{Held}
+use Rattle.model.specs.Rules.{heldSize, lead, half, fits}
+use Rattle.model.proofs.Splits.{Small, half-between}
+use Rattle.memory.specs.Views.{tab}
+use Rattle.memory.specs.Flat.{Flat, flatOf, rowIn, Room}
+use Rattle.memory.specs.Store.{heldOf, heldIn}
+use Rattle.memory.proofs.Laws.{tab-next, length-tab}
+use Rattle.memory.proofs.Payloads.{held-size, payload-long}
+
+-- no tuple of the memory is larger than 53 bytes
+pub held-small : (m : List ℕ) → Room m → (i : ℕ) → i < length (flatOf m .rows) → heldSize (heldIn (flatOf m) i) ≤ 53
+held-small m room i h = omega (arith, held-size (rowIn (flatOf m) i) (payload-long m room i h))
+
+pub all-small : (m : List ℕ) → Room m → (s n : ℕ) → s + n ≤ length (flatOf m .rows) → AllOf Small (tab (heldIn (flatOf m)) s n)
+all-small m room s zero h = tt
+all-small m room s (suc n) h = (held-small m room s (omega arith), all-small m room (suc s) n (omega arith))
+
+module _ (f : ℕ → Held) (i n w a : ℕ) where
+  pub lead-stop : i < n → w ≤ 2 * (a + heldSize (f i)) → lead w a (tab f i (n - i)) ≡ 1
+  unfolding lead if_then_else_
+  lead-stop h l = ap (lead w a) (tab-next f i n h) ∙ (simp (le-leb _ _ l))
+
+  pub lead-go : i < n → 2 * (a + heldSize (f i)) < w → lead w a (tab f i (n - i)) ≡ suc (lead w (a + heldSize (f i)) (tab f (i + 1) (n - (i + 1))))
+  unfolding lead if_then_else_
+  lead-go h l = ap (lead w a) (tab-next f i n h) ∙ (simp (lt-leb _ _ l))
+
+  pub lead-end : n ≤ i → lead w a (tab f i (n - i)) ≡ 0
+  unfolding lead
+  lead-end h = let e : n - i ≡ 0 = omega arith in ap (λ (z : ℕ). lead w a (tab f i z)) e

@@ -1,0 +1,71 @@
+use Rattle.memory.specs.Store.{heldOf, tupleOf}
+use Rattle.model.specs.State.{Held, Page}
+use Rattle.model.specs.Rules.{fresh, calm}
+use Rattle.memory.proofs.Runs.{pages-few, start-le}
+use Rattle.pages.proofs.Places.{turns-to}
+use Rattle.pages.proofs.Flags.{held-calm}
+use Rattle.pages.proofs.Places.{page-end, has-row, ends-at, tuples-many}
+use Rattle.pages.proofs.Swaps.{put-in, taken-out, row-set, marked, dropped, cut-in-two, added, merged, still-there, fresh-page}
+use Rattle.pages.specs.Turns.{Turns, pagesOf, pageAt, tuplesAt, entryAt, startAt, At, swapped}
+use Rattle.memory.specs.declared.Row.{Row}
+use Rattle.memory.specs.declared.Counts.{Counts}
+use Rattle.memory.specs.declared.Entry.{Entry}
+use Rattle.memory.proofs.Refusal.{held-room, held-filled}
+use Rattle.memory.specs.Views.{tab}
+use Rattle.memory.specs.Store.{heldIn, startOf, holdsStore}
+use Rattle.memory.specs.Flat.{Flat, flatOf, entryIn, Room, withEntries, insertAt}
+use lib.ListN.{length, take, drop, set}
+use mathlib.Core.List.{List, [], _∷_, _++_}
+use Prim.Native.Nat.{ℕ, zero, suc, _+_, _*_, _-_, _%_, _≤_, _<_}
+use mathlib.Core.Path.{_≡_, refl, sym, ap, _∙_, subst}
+use native.Mathlib.Omega.{arith}
+use borrow.Author.Needs.{needs}
+use Rattle.pages.proofs.add_page.Statement.{statement}
+use Rattle.pages.proofs.add_page.Tie as tie
+use Rattle.pages.proofs.add_page.Reads as reads
+use Rattle.pages.proofs.add_page.Lts as lts
+use Rattle.memory.proofs.insert_entry.Reads as insert-entry-reads
+use Rattle.memory.proofs.insert_row.Reads as insert-row-reads
+
+-- src/lib.rt:249:5
+insert-row-requires : tie.Need-insert-row-requires
+insert-row-requires c κs =
+    let st = (c .before .before) in
+    let m : List ℕ = st .args .m .now in
+    let p : ℕ = st .args .p in
+    let g = st .pre .0 in
+    let room = held-room m (g .held) in
+    (room, (omega (arith, g .begins, start-le (flatOf m) (held-filled m (g .held)) p), g .free))
+
+-- src/lib.rt:250:5
+insert-entry-requires : tie.Need-insert-entry-requires
+insert-entry-requires c κs =
+    let st = (c .before .before .before .before .before .before) in
+    let m : List ℕ = st .args .m .now in
+    let p : ℕ = st .args .p in
+    let g = st .pre .0 in
+    let room = held-room m (g .held) in
+    let b = (c .before .before .before .insert-row .ensures) in
+    let es : length (flatOf ((c .before .before .before .insert-row .last .0)) .entries) ≡ length (flatOf m .entries) = ap (λ (x : Flat). length (x .entries)) (b .flat) in
+    let eh : flatOf ((c .before .before .before .insert-row .last .0)) .head .capacity ≡ flatOf m .head .capacity = ap (λ (x : Flat). x .head .capacity) (b .flat) in
+    (b .room, (omega (arith, g .inside), omega (arith, g .free, pages-few (flatOf m) (held-filled m (g .held)))))
+
+-- src/lib.rt:245:1
+same-length : tie.Need-same-length
+same-length c = search needs
+
+-- src/lib.rt:245:1
+returns : tie.Need-returns
+returns c =
+    let st = (c .before .before .before .before .before .before .before .before .before) in
+    let m : List ℕ = st .args .m .now in
+    let p : ℕ = st .args .p in
+    let g = st .pre .0 in
+    let room = held-room m (g .held) in
+    let t : ℕ = st .args .table in
+    let et : t % 8 ≡ t = omega (arith, st .pre .1 .1) in
+    turns-to (added m _ _ (g .held) p (st .args .at) (st .args .row) (record { table = t; frozen = 0; count = 1; block = 0 }) (g .begins) refl (c .before .before .before .before .before .before .insert-row .ensures) (c .before .before .insert-entry .ensures))
+    (ap (λ (z : Page). take p (pagesOf m) ++ z ∷ drop p (pagesOf m)) (fresh-page t 1 (heldOf (st .args .row) ∷ []) ∙ ap (λ (z : ℕ). fresh z (heldOf (st .args .row) ∷ [])) et ∙ ap (λ (z : Held). fresh t (z ∷ [])) (held-calm (st .args .row) (st .pre .1 .0))))
+
+pub add-page-spec : {M : Type 1} → statement M
+add-page-spec = tie.close (tie.spec insert-row-requires insert-entry-requires same-length returns)

@@ -1,0 +1,228 @@
+use Rattle.memory.proofs.Runs.{start-in}
+use Rattle.pages.proofs.Searching.{BackInv, back-start, back-in, back-begins, back-at, back-other, back-none, back-found, back-end}
+use Rattle.memory.specs.declared.Row.{Row}
+use Rattle.memory.specs.declared.Counts.{Counts}
+use Rattle.memory.specs.declared.Entry.{Entry}
+use Rattle.memory.proofs.Refusal.{held-room, held-filled}
+use Rattle.memory.specs.Views.{tab}
+use Rattle.memory.specs.Store.{heldIn, startOf, holdsStore}
+use Rattle.memory.specs.Flat.{flatOf, entryIn, Room}
+use lib.ListN.{length, take, drop, set}
+use mathlib.Core.List.{List, [], _∷_, _++_}
+use Prim.Native.Nat.{ℕ, zero, suc, _+_, _*_, _-_, _%_, _≤_, _<_}
+use mathlib.Core.Path.{_≡_, refl, sym, ap, _∙_, subst}
+use borrow.Author.Needs.{needs}
+use native.Mathlib.Omega.{arith}
+use Rattle.pages.proofs.find_spot.Statement.{statement}
+use Rattle.pages.proofs.find_spot.Tie as tie
+use Rattle.pages.proofs.find_spot.Reads as reads
+use Rattle.pages.proofs.find_spot.Lts as lts
+use Rattle.memory.proofs.get_counts.Reads as get-counts-reads
+use Rattle.memory.proofs.get_entry.Reads as get-entry-reads
+use Rattle.pages.proofs.find_front.Reads as find-front-reads
+use Rattle.pages.proofs.find_last.Reads as find-last-reads
+
+abbrev Inv-loop : tie.InvT-loop
+Inv-loop m table key p₀ end₀ p end = BackInv m table key p end
+
+abbrev μ-loop : tie.MeasureT-loop
+μ-loop m table key p₀ end₀ p end = p
+
+-- src/lib.rt:72:9
+get-counts-requires : tie.Need-get-counts-requires Inv-loop μ-loop
+get-counts-requires c κs = omega (arith, held-room _ ((c .before .pre)) .range .long)
+
+-- src/lib.rt:73:17
+cast-p : tie.Need-cast-p Inv-loop μ-loop
+cast-p c = search needs
+
+-- src/lib.rt:74:19
+cast-end : tie.Need-cast-end Inv-loop μ-loop
+cast-end c = search needs
+
+-- src/lib.rt:75:5
+loop-holds : tie.Need-loop-holds Inv-loop μ-loop
+loop-holds c =
+    let st = (c .before .before .before .before) in
+    let m : List ℕ = st .args .m .now in
+    let room = held-room m (st .pre) in
+    let k = room .range in
+    let ep : (c .before .before .get-counts .result .pages) ≡ length (flatOf m .entries) = ap (λ (x : Counts). x .pages) (c .before .before .get-counts .ensures) in
+    let er : (c .before .before .get-counts .result .rows) ≡ length (flatOf m .rows) = ap (λ (x : Counts). x .rows) (c .before .before .get-counts .ensures) in
+    back-start m (st .pre) (st .args .table) (st .args .key) (c .before .before .get-counts .result .pages) (c .before .before .get-counts .result .rows) ep er
+
+-- src/lib.rt:76:9
+sub-p : tie.Need-sub-p Inv-loop μ-loop
+sub-p c = omega arith
+
+-- src/lib.rt:77:13
+get-entry-requires : tie.Need-get-entry-requires Inv-loop μ-loop
+get-entry-requires c κs =
+    let st = (c .before .before .before .before .before .before) in
+    let m : List ℕ = st .args .m .now in
+    let room = held-room m (st .pre) in
+    let k = room .range in
+    let ep : (c .before .before .before .before .get-counts .result .pages) ≡ length (flatOf m .entries) = ap (λ (x : Counts). x .pages) (c .before .before .before .before .get-counts .ensures) in
+    let er : (c .before .before .before .before .get-counts .result .rows) ≡ length (flatOf m .rows) = ap (λ (x : Counts). x .rows) (c .before .before .before .before .get-counts .ensures) in
+    let l = (c .before .loop) in
+    let pos : 0 < l .p = (c .loop-test .taken) in
+    (room, back-in m (st .pre) (st .args .table) (st .args .key) (l .p) (l .end) pos (l .inv))
+
+-- src/lib.rt:78:27
+cast-start : tie.Need-cast-start Inv-loop μ-loop
+cast-start c = search needs
+
+-- src/lib.rt:78:21
+sub-start : tie.Need-sub-start Inv-loop μ-loop
+sub-start c =
+    let st = (c .before .before .before .before .before .before .before .before) in
+    let m : List ℕ = st .args .m .now in
+    let room = held-room m (st .pre) in
+    let k = room .range in
+    let ep : (c .before .before .before .before .before .before .get-counts .result .pages) ≡ length (flatOf m .entries) = ap (λ (x : Counts). x .pages) (c .before .before .before .before .before .before .get-counts .ensures) in
+    let er : (c .before .before .before .before .before .before .get-counts .result .rows) ≡ length (flatOf m .rows) = ap (λ (x : Counts). x .rows) (c .before .before .before .before .before .before .get-counts .ensures) in
+    let l = (c .before .before .before .loop) in
+    let pos : 0 < l .p = (c .before .before .loop-test .taken) in
+    let n : ℕ = (c .before .get-entry .result .count) in
+    let et : (c .before .get-entry .result .table) ≡ entryIn (flatOf m) (l .p - 1) .table = ap (λ (x : Entry). x .table) (c .before .get-entry .ensures) in
+    let en : n ≡ entryIn (flatOf m) (l .p - 1) .count = ap (λ (x : Entry). x .count) (c .before .get-entry .ensures) in
+    let eb = back-begins m (st .pre) (st .args .table) (st .args .key) (l .p) (l .end) pos (l .inv) in
+    let ei = start-in (flatOf m) (held-filled m (st .pre)) (l .p - 1) (back-in m (st .pre) (st .args .table) (st .args .key) (l .p) (l .end) pos (l .inv)) in
+    omega arith
+
+-- src/lib.rt:81:17
+find-last-requires : tie.Need-find-last-requires Inv-loop μ-loop
+find-last-requires c κs =
+    let st = (c .before .before .before .before .before .before .before .before .before .before) in
+    let m : List ℕ = st .args .m .now in
+    let room = held-room m (st .pre) in
+    let k = room .range in
+    let ep : (c .before .before .before .before .before .before .before .before .get-counts .result .pages) ≡ length (flatOf m .entries) = ap (λ (x : Counts). x .pages) (c .before .before .before .before .before .before .before .before .get-counts .ensures) in
+    let er : (c .before .before .before .before .before .before .before .before .get-counts .result .rows) ≡ length (flatOf m .rows) = ap (λ (x : Counts). x .rows) (c .before .before .before .before .before .before .before .before .get-counts .ensures) in
+    let l = (c .before .before .before .before .before .loop) in
+    let pos : 0 < l .p = (c .before .before .before .before .loop-test .taken) in
+    let n : ℕ = (c .before .before .before .get-entry .result .count) in
+    let et : (c .before .before .before .get-entry .result .table) ≡ entryIn (flatOf m) (l .p - 1) .table = ap (λ (x : Entry). x .table) (c .before .before .before .get-entry .ensures) in
+    let en : n ≡ entryIn (flatOf m) (l .p - 1) .count = ap (λ (x : Entry). x .count) (c .before .before .before .get-entry .ensures) in
+    let eb = back-begins m (st .pre) (st .args .table) (st .args .key) (l .p) (l .end) pos (l .inv) in
+    let ei = start-in (flatOf m) (held-filled m (st .pre)) (l .p - 1) (back-in m (st .pre) (st .args .table) (st .args .key) (l .p) (l .end) pos (l .inv)) in
+    (room, (omega arith, omega arith))
+
+-- src/lib.rt:83:17
+returns : tie.Need-returns Inv-loop μ-loop
+returns c =
+    let st = (c .before .before .before .before .before .before .before .before .before .before .before .before) in
+    let m : List ℕ = st .args .m .now in
+    let room = held-room m (st .pre) in
+    let k = room .range in
+    let ep : (c .before .before .before .before .before .before .before .before .before .before .get-counts .result .pages) ≡ length (flatOf m .entries) = ap (λ (x : Counts). x .pages) (c .before .before .before .before .before .before .before .before .before .before .get-counts .ensures) in
+    let er : (c .before .before .before .before .before .before .before .before .before .before .get-counts .result .rows) ≡ length (flatOf m .rows) = ap (λ (x : Counts). x .rows) (c .before .before .before .before .before .before .before .before .before .before .get-counts .ensures) in
+    let l = (c .before .before .before .before .before .before .before .loop) in
+    let pos : 0 < l .p = (c .before .before .before .before .before .before .loop-test .taken) in
+    let n : ℕ = (c .before .before .before .before .before .get-entry .result .count) in
+    let et : (c .before .before .before .before .before .get-entry .result .table) ≡ entryIn (flatOf m) (l .p - 1) .table = ap (λ (x : Entry). x .table) (c .before .before .before .before .before .get-entry .ensures) in
+    let en : n ≡ entryIn (flatOf m) (l .p - 1) .count = ap (λ (x : Entry). x .count) (c .before .before .before .before .before .get-entry .ensures) in
+    let eb = back-begins m (st .pre) (st .args .table) (st .args .key) (l .p) (l .end) pos (l .inv) in
+    let ei = start-in (flatOf m) (held-filled m (st .pre)) (l .p - 1) (back-in m (st .pre) (st .args .table) (st .args .key) (l .p) (l .end) pos (l .inv)) in
+    back-found m (st .pre) (st .args .table) (st .args .key) (l .p) (l .end) pos (l .inv) n en (c .before .find-last .result) (c .before .find-last .ensures) (c .if2 .taken) (omega (arith, (c .before .before .if1 .taken)))
+
+-- src/lib.rt:75:5
+loop-less : tie.Need-loop-less Inv-loop μ-loop
+loop-less c =
+    let st = (c .before .before .before .before .before .before .before .before .before .before .before .before) in
+    let m : List ℕ = st .args .m .now in
+    let room = held-room m (st .pre) in
+    let k = room .range in
+    let ep : (c .before .before .before .before .before .before .before .before .before .before .get-counts .result .pages) ≡ length (flatOf m .entries) = ap (λ (x : Counts). x .pages) (c .before .before .before .before .before .before .before .before .before .before .get-counts .ensures) in
+    let er : (c .before .before .before .before .before .before .before .before .before .before .get-counts .result .rows) ≡ length (flatOf m .rows) = ap (λ (x : Counts). x .rows) (c .before .before .before .before .before .before .before .before .before .before .get-counts .ensures) in
+    let l = (c .before .before .before .before .before .before .before .loop) in
+    let pos : 0 < l .p = (c .before .before .before .before .before .before .loop-test .taken) in
+    omega arith
+
+-- src/lib.rt:75:5
+loop-again : tie.Need-loop-again Inv-loop μ-loop
+loop-again c =
+    let st = (c .before .before .before .before .before .before .before .before .before .before .before .before) in
+    let m : List ℕ = st .args .m .now in
+    let room = held-room m (st .pre) in
+    let k = room .range in
+    let ep : (c .before .before .before .before .before .before .before .before .before .before .get-counts .result .pages) ≡ length (flatOf m .entries) = ap (λ (x : Counts). x .pages) (c .before .before .before .before .before .before .before .before .before .before .get-counts .ensures) in
+    let er : (c .before .before .before .before .before .before .before .before .before .before .get-counts .result .rows) ≡ length (flatOf m .rows) = ap (λ (x : Counts). x .rows) (c .before .before .before .before .before .before .before .before .before .before .get-counts .ensures) in
+    let l = (c .before .before .before .before .before .before .before .loop) in
+    let pos : 0 < l .p = (c .before .before .before .before .before .before .loop-test .taken) in
+    let n : ℕ = (c .before .before .before .before .before .get-entry .result .count) in
+    let et : (c .before .before .before .before .before .get-entry .result .table) ≡ entryIn (flatOf m) (l .p - 1) .table = ap (λ (x : Entry). x .table) (c .before .before .before .before .before .get-entry .ensures) in
+    let en : n ≡ entryIn (flatOf m) (l .p - 1) .count = ap (λ (x : Entry). x .count) (c .before .before .before .before .before .get-entry .ensures) in
+    let eb = back-begins m (st .pre) (st .args .table) (st .args .key) (l .p) (l .end) pos (l .inv) in
+    let ei = start-in (flatOf m) (held-filled m (st .pre)) (l .p - 1) (back-in m (st .pre) (st .args .table) (st .args .key) (l .p) (l .end) pos (l .inv)) in
+    back-none m (st .pre) (st .args .table) (st .args .key) (l .p) (l .end) pos (l .inv) n en (c .before .find-last .result) (c .before .find-last .ensures) (c .if2 .left) (omega (arith, (c .before .before .if1 .taken)))
+
+-- src/lib.rt:75:5
+loop-less-2 : tie.Need-loop-less-2 Inv-loop μ-loop
+loop-less-2 c =
+    let st = (c .before .before .before .before .before .before .before .before .before .before) in
+    let m : List ℕ = st .args .m .now in
+    let room = held-room m (st .pre) in
+    let k = room .range in
+    let ep : (c .before .before .before .before .before .before .before .before .get-counts .result .pages) ≡ length (flatOf m .entries) = ap (λ (x : Counts). x .pages) (c .before .before .before .before .before .before .before .before .get-counts .ensures) in
+    let er : (c .before .before .before .before .before .before .before .before .get-counts .result .rows) ≡ length (flatOf m .rows) = ap (λ (x : Counts). x .rows) (c .before .before .before .before .before .before .before .before .get-counts .ensures) in
+    let l = (c .before .before .before .before .before .loop) in
+    let pos : 0 < l .p = (c .before .before .before .before .loop-test .taken) in
+    omega arith
+
+-- src/lib.rt:75:5
+loop-again-2 : tie.Need-loop-again-2 Inv-loop μ-loop
+loop-again-2 c =
+    let st = (c .before .before .before .before .before .before .before .before .before .before) in
+    let m : List ℕ = st .args .m .now in
+    let room = held-room m (st .pre) in
+    let k = room .range in
+    let ep : (c .before .before .before .before .before .before .before .before .get-counts .result .pages) ≡ length (flatOf m .entries) = ap (λ (x : Counts). x .pages) (c .before .before .before .before .before .before .before .before .get-counts .ensures) in
+    let er : (c .before .before .before .before .before .before .before .before .get-counts .result .rows) ≡ length (flatOf m .rows) = ap (λ (x : Counts). x .rows) (c .before .before .before .before .before .before .before .before .get-counts .ensures) in
+    let l = (c .before .before .before .before .before .loop) in
+    let pos : 0 < l .p = (c .before .before .before .before .loop-test .taken) in
+    let n : ℕ = (c .before .before .before .get-entry .result .count) in
+    let et : (c .before .before .before .get-entry .result .table) ≡ entryIn (flatOf m) (l .p - 1) .table = ap (λ (x : Entry). x .table) (c .before .before .before .get-entry .ensures) in
+    let en : n ≡ entryIn (flatOf m) (l .p - 1) .count = ap (λ (x : Entry). x .count) (c .before .before .before .get-entry .ensures) in
+    let eb = back-begins m (st .pre) (st .args .table) (st .args .key) (l .p) (l .end) pos (l .inv) in
+    let ei = start-in (flatOf m) (held-filled m (st .pre)) (l .p - 1) (back-in m (st .pre) (st .args .table) (st .args .key) (l .p) (l .end) pos (l .inv)) in
+    back-other m (st .pre) (st .args .table) (st .args .key) (l .p) (l .end) pos (l .inv) n en (λ q. (c .if1 .left) (ap (λ (z : ℕ). z % 8) et ∙ q))
+
+-- src/lib.rt:88:5
+find-front-requires : tie.Need-find-front-requires Inv-loop μ-loop
+find-front-requires c κs = (c .before .before .before .before .before .before .pre)
+
+-- src/lib.rt:68:1
+returns-2 : tie.Need-returns-2 Inv-loop μ-loop
+returns-2 c =
+    let st = (c .before .before .before .before .before .before .before) in
+    let m : List ℕ = st .args .m .now in
+    let room = held-room m (st .pre) in
+    let k = room .range in
+    let ep : (c .before .before .before .before .before .get-counts .result .pages) ≡ length (flatOf m .entries) = ap (λ (x : Counts). x .pages) (c .before .before .before .before .before .get-counts .ensures) in
+    let er : (c .before .before .before .before .before .get-counts .result .rows) ≡ length (flatOf m .rows) = ap (λ (x : Counts). x .rows) (c .before .before .before .before .before .get-counts .ensures) in
+    let l = (c .before .before .loop) in
+    back-end m (st .args .table) (st .args .key) (l .p) (l .end) (c .find-front .result) (l .inv) (omega (arith, (c .before .loop-test .left))) (c .find-front .ensures)
+
+pub find-spot-spec : {M : Type 1} → statement M
+find-spot-spec =
+    tie.close
+    (tie.spec
+    Inv-loop
+    μ-loop
+    get-counts-requires
+    cast-p
+    cast-end
+    loop-holds
+    sub-p
+    get-entry-requires
+    cast-start
+    sub-start
+    find-last-requires
+    returns
+    loop-less
+    loop-again
+    loop-less-2
+    loop-again-2
+    find-front-requires
+    returns-2)

@@ -1,0 +1,170 @@
+use Rattle.memory.specs.Store.{pageOf}
+use lib.ListN.{length-set}
+use Rattle.model.specs.Rules.{fresh, joined}
+use Rattle.model.specs.State.{Held, Page}
+use Rattle.pages.proofs.Places.{turns-to, few}
+use Rattle.pages.proofs.Searching.{table-is}
+use Rattle.pages.proofs.Places.{page-end, has-row, ends-at, tuples-many}
+use Rattle.pages.proofs.Swaps.{put-in, taken-out, row-set, marked, dropped, cut-in-two, added, merged, still-there, fresh-page}
+use Rattle.pages.specs.Turns.{Turns, pagesOf, pageAt, tuplesAt, entryAt, startAt, At, swapped}
+use Rattle.memory.specs.declared.Row.{Row}
+use Rattle.memory.specs.declared.Counts.{Counts}
+use Rattle.memory.specs.declared.Entry.{Entry}
+use Rattle.memory.proofs.Refusal.{held-room, held-filled}
+use Rattle.memory.specs.Views.{tab}
+use Rattle.memory.specs.Store.{heldIn, startOf, holdsStore}
+use Rattle.memory.specs.Flat.{Flat, flatOf, entryIn, Room, withEntries, insertAt}
+use lib.ListN.{length, take, drop, set}
+use mathlib.Core.List.{List, [], _∷_, _++_}
+use Prim.Native.Nat.{ℕ, zero, suc, _+_, _*_, _-_, _%_, _≤_, _<_}
+use mathlib.Core.Path.{_≡_, refl, sym, ap, _∙_, subst}
+use native.Mathlib.Omega.{arith}
+use borrow.Author.Needs.{needs}
+use Rattle.pages.proofs.merge.Statement.{statement}
+use Rattle.pages.proofs.merge.Tie as tie
+use Rattle.pages.proofs.merge.Reads as reads
+use Rattle.pages.proofs.merge.Lts as lts
+use Rattle.memory.proofs.get_entry.Reads as get-entry-reads
+use Rattle.memory.proofs.put_entry.Reads as put-entry-reads
+use Rattle.memory.proofs.remove_entry.Reads as remove-entry-reads
+
+-- src/lib.rt:203:9
+get-entry-requires : tie.Need-get-entry-requires
+get-entry-requires c κs =
+    let st = (c .before .before) in
+    let m : List ℕ = st .args .m .now in
+    let g = st .pre in
+    let p : ℕ = st .args .p in
+    let gi = g .inside in
+    let a : At m p (startAt m p) = record { held = g .held; inside = omega arith; begins = refl } in
+    let a2 : At m (p + 1) (startAt m p + entryAt m p .count) = record { held = g .held; inside = g .inside; begins = sym (ends-at a) } in
+    let r = held-room m (g .held) .range in
+    let r1 = r .pages in let r2 = r .most in let r3 = r .rows in
+    (held-room m (g .held), a .inside)
+
+-- src/lib.rt:204:34
+add-get-entry : tie.Need-add-get-entry
+add-get-entry c =
+    let st = (c .before .before .before .before) in
+    let m : List ℕ = st .args .m .now in
+    let g = st .pre in
+    let p : ℕ = st .args .p in
+    let gi = g .inside in
+    let a : At m p (startAt m p) = record { held = g .held; inside = omega arith; begins = refl } in
+    let a2 : At m (p + 1) (startAt m p + entryAt m p .count) = record { held = g .held; inside = g .inside; begins = sym (ends-at a) } in
+    let r = held-room m (g .held) .range in
+    let r1 = r .pages in let r2 = r .most in let r3 = r .rows in
+    omega arith
+
+-- src/lib.rt:204:9
+get-entry-requires-2 : tie.Need-get-entry-requires-2
+get-entry-requires-2 c κs =
+    let st = (c .before .before .before .before) in
+    let m : List ℕ = st .args .m .now in
+    let g = st .pre in
+    let p : ℕ = st .args .p in
+    let gi = g .inside in
+    let a : At m p (startAt m p) = record { held = g .held; inside = omega arith; begins = refl } in
+    let a2 : At m (p + 1) (startAt m p + entryAt m p .count) = record { held = g .held; inside = g .inside; begins = sym (ends-at a) } in
+    let r = held-room m (g .held) .range in
+    let r1 = r .pages in let r2 = r .most in let r3 = r .rows in
+    (held-room m (g .held), g .inside)
+
+-- src/lib.rt:205:71
+add-t13 : tie.Need-add-t13
+add-t13 c =
+    let st = (c .before .before .before .before .before .before .before .before) in
+    let m : List ℕ = st .args .m .now in
+    let g = st .pre in
+    let p : ℕ = st .args .p in
+    let gi = g .inside in
+    let a : At m p (startAt m p) = record { held = g .held; inside = omega arith; begins = refl } in
+    let a2 : At m (p + 1) (startAt m p + entryAt m p .count) = record { held = g .held; inside = g .inside; begins = sym (ends-at a) } in
+    let r = held-room m (g .held) .range in
+    let r1 = r .pages in let r2 = r .most in let r3 = r .rows in
+    let e1 : (c .before .before .before .before .before .get-entry .result .count) ≡ entryAt m p .count = ap (λ (x : Entry). x .count) (c .before .before .before .before .before .get-entry .ensures) in
+    let e2 : (c .before .before .before .get-entry2 .result .count) ≡ entryAt m (p + 1) .count = ap (λ (x : Entry). x .count) (c .before .before .before .get-entry2 .ensures) in
+    let le = page-end a2 in
+    omega arith
+
+-- src/lib.rt:205:5
+put-entry-requires : tie.Need-put-entry-requires
+put-entry-requires c κs =
+    let st = (c .before .before .before .before .before .before .before .before) in
+    let m : List ℕ = st .args .m .now in
+    let g = st .pre in
+    let p : ℕ = st .args .p in
+    let gi = g .inside in
+    let a : At m p (startAt m p) = record { held = g .held; inside = omega arith; begins = refl } in
+    let a2 : At m (p + 1) (startAt m p + entryAt m p .count) = record { held = g .held; inside = g .inside; begins = sym (ends-at a) } in
+    let r = held-room m (g .held) .range in
+    let r1 = r .pages in let r2 = r .most in let r3 = r .rows in
+    (held-room m (g .held), a .inside)
+
+-- src/lib.rt:206:29
+add-remove-entry : tie.Need-add-remove-entry
+add-remove-entry c =
+    let st = (c .before .before .before .before .before .before .before .before .before .before .before .before) in
+    let m : List ℕ = st .args .m .now in
+    let g = st .pre in
+    let p : ℕ = st .args .p in
+    let gi = g .inside in
+    let a : At m p (startAt m p) = record { held = g .held; inside = omega arith; begins = refl } in
+    let a2 : At m (p + 1) (startAt m p + entryAt m p .count) = record { held = g .held; inside = g .inside; begins = sym (ends-at a) } in
+    let r = held-room m (g .held) .range in
+    let r1 = r .pages in let r2 = r .most in let r3 = r .rows in
+    omega arith
+
+-- src/lib.rt:206:5
+remove-entry-requires : tie.Need-remove-entry-requires
+remove-entry-requires c κs =
+    let st = (c .before .before .before .before .before .before .before .before .before .before .before .before) in
+    let m : List ℕ = st .args .m .now in
+    let g = st .pre in
+    let p : ℕ = st .args .p in
+    let gi = g .inside in
+    let a : At m p (startAt m p) = record { held = g .held; inside = omega arith; begins = refl } in
+    let a2 : At m (p + 1) (startAt m p + entryAt m p .count) = record { held = g .held; inside = g .inside; begins = sym (ends-at a) } in
+    let r = held-room m (g .held) .range in
+    let r1 = r .pages in let r2 = r .most in let r3 = r .rows in
+    let b = (c .before .before .before .put-entry .ensures) in
+    (b .room, still-there (p + 1) b (simp length-set (g .inside)))
+
+-- src/lib.rt:199:1
+same-length : tie.Need-same-length
+same-length c = search needs
+
+-- src/lib.rt:199:1
+returns : tie.Need-returns
+unfolding joined pageOf fresh
+returns c =
+    let st = (c .before .before .before .before .before .before .before .before .before .before .before .before .before .before .before) in
+    let m : List ℕ = st .args .m .now in
+    let g = st .pre in
+    let p : ℕ = st .args .p in
+    let gi = g .inside in
+    let a : At m p (startAt m p) = record { held = g .held; inside = omega arith; begins = refl } in
+    let a2 : At m (p + 1) (startAt m p + entryAt m p .count) = record { held = g .held; inside = g .inside; begins = sym (ends-at a) } in
+    let r = held-room m (g .held) .range in
+    let r1 = r .pages in let r2 = r .most in let r3 = r .rows in
+    let e1 : (c .before .before .before .before .before .before .before .before .before .before .before .before .get-entry .result .count) ≡ entryAt m p .count = ap (λ (x : Entry). x .count) (c .before .before .before .before .before .before .before .before .before .before .before .before .get-entry .ensures) in
+    let e2 : (c .before .before .before .before .before .before .before .before .before .before .get-entry2 .result .count) ≡ entryAt m (p + 1) .count = ap (λ (x : Entry). x .count) (c .before .before .before .before .before .before .before .before .before .before .get-entry2 .ensures) in
+    let le = page-end a2 in
+    let t : ℕ = (c .before .before .before .before .before .before .before .before .before .before .before .before .get-entry .result .table) in
+    let et : t % 8 ≡ pageAt m p .table = ap (λ (x : Entry). x .table % 8) (c .before .before .before .before .before .before .before .before .before .before .before .before .get-entry .ensures) ∙ sym (table-is m p) in
+    turns-to (merged m _ _ (g .held) p (record { table = t; frozen = 0; count = (c .before .before .before .before .before .before .before .before .before .before .before .before .get-entry .result .count) + (c .before .before .before .before .before .before .before .before .before .before .get-entry2 .result .count); block = 0 }) (g .inside) (omega arith) (c .before .before .before .before .before .before .put-entry .ensures) (c .before .before .remove-entry .ensures))
+    (ap (λ (z : ℕ). take p (pagesOf m) ++ fresh z (tuplesAt m p ++ tuplesAt m (p + 1)) ∷ drop (p + 2) (pagesOf m)) et)
+
+pub merge-spec : {M : Type 1} → statement M
+merge-spec =
+    tie.close
+    (tie.spec
+    get-entry-requires
+    add-get-entry
+    get-entry-requires-2
+    add-t13
+    put-entry-requires
+    add-remove-entry
+    remove-entry-requires
+    same-length
+    returns)

@@ -1,0 +1,104 @@
+use Rattle.memory.specs.Store.{tupleOf}
+use Rattle.pages.proofs.Places.{turns-to}
+use Rattle.pages.proofs.Searching.{spot-on, spot-new, key-is}
+use Rattle.pages.proofs.Places.{page-end, has-row, ends-at, tuples-many}
+use Rattle.pages.proofs.Swaps.{put-in, taken-out, row-set, marked, dropped, cut-in-two, added, merged, still-there, fresh-page}
+use Rattle.pages.specs.Turns.{Turns, pagesOf, pageAt, tuplesAt, entryAt, startAt, At, swapped}
+use Rattle.memory.specs.declared.Row.{Row}
+use Rattle.memory.specs.declared.Counts.{Counts}
+use Rattle.memory.specs.declared.Entry.{Entry}
+use Rattle.memory.proofs.Refusal.{held-room, held-filled}
+use Rattle.memory.specs.Views.{tab}
+use Rattle.memory.specs.Store.{heldIn, startOf, holdsStore}
+use Rattle.memory.specs.Flat.{Flat, flatOf, entryIn, Room, withEntries, insertAt}
+use lib.ListN.{length, take, drop, set}
+use mathlib.Core.List.{List, [], _∷_, _++_}
+use Prim.Native.Nat.{ℕ, zero, suc, _+_, _*_, _-_, _%_, _≤_, _<_}
+use mathlib.Core.Path.{_≡_, refl, sym, ap, _∙_, subst}
+use native.Mathlib.Omega.{arith}
+use borrow.Author.Needs.{needs}
+use Rattle.pages.proofs.place.Statement.{statement}
+use Rattle.pages.proofs.place.Tie as tie
+use Rattle.pages.proofs.place.Reads as reads
+use Rattle.pages.proofs.place.Lts as lts
+use Rattle.pages.proofs.add_page.Reads as add-page-reads
+use Rattle.pages.proofs.find_spot.Reads as find-spot-reads
+use Rattle.pages.proofs.grow.Reads as grow-reads
+
+-- src/lib.rt:258:11
+find-spot-requires : tie.Need-find-spot-requires
+find-spot-requires c κs = (c .before .before .pre .held)
+
+-- src/lib.rt:259:20
+enum-known-page : tie.Need-enum-known-page
+enum-known-page c = search needs
+
+-- src/lib.rt:259:41
+grow-requires : tie.Need-grow-requires
+grow-requires c κs =
+    let st = (c .before .before .before .before .before .before .before) in
+    let m : List ℕ = st .args .m .now in
+    let g = st .pre in
+    let t : ℕ = st .args .table in
+    let row : Row = st .args .row in
+    let o = spot-on m t row (c .before .before .before .before .find-spot .result) (c .before .before .before .before .find-spot .ensures) _ _ _ (c .before .before .page .given .1) in
+    (record { on = o .on; free = g .free; least = o .least; most = o .most }, g .plain)
+
+-- src/lib.rt:260:21
+enum-known-page-2 : tie.Need-enum-known-page-2
+enum-known-page-2 c = search needs
+
+-- src/lib.rt:260:35
+add-page-requires : tie.Need-add-page-requires
+add-page-requires c κs =
+    let st = (c .before .before .before .before .before .before .before) in
+    let m : List ℕ = st .args .m .now in
+    let g = st .pre in
+    let t : ℕ = st .args .table in
+    let row : Row = st .args .row in
+    let o = spot-new m t row (c .before .before .before .before .find-spot .result) (c .before .before .before .before .find-spot .ensures) _ _ (c .before .before .page2 .given .1) in
+    (record { held = g .held; free = g .free; inside = o .inside; begins = o .begins }, (g .plain, g .table))
+
+-- src/lib.rt:254:1
+same-length : tie.Need-same-length
+same-length c = search needs
+
+-- src/lib.rt:254:1
+returns : tie.Need-returns
+returns c =
+    let st = (c .before .before .before .before .before .before .before .before .before .before) in
+    let m : List ℕ = st .args .m .now in
+    let g = st .pre in
+    let t : ℕ = st .args .table in
+    let row : Row = st .args .row in
+    let o = spot-on m t row (c .before .before .before .before .before .before .before .find-spot .result) (c .before .before .before .before .before .before .before .find-spot .ensures) _ _ _ (c .before .before .before .before .before .page .given .1) in
+    turns-to (c .before .before .grow .ensures) (sym (o .places (tupleOf row) (key-is row)))
+
+-- src/lib.rt:254:1
+same-length-2 : tie.Need-same-length-2
+same-length-2 c = search needs
+
+-- src/lib.rt:254:1
+returns-2 : tie.Need-returns-2
+returns-2 c =
+    let st = (c .before .before .before .before .before .before .before .before .before .before) in
+    let m : List ℕ = st .args .m .now in
+    let g = st .pre in
+    let t : ℕ = st .args .table in
+    let row : Row = st .args .row in
+    let o = spot-new m t row (c .before .before .before .before .before .before .before .find-spot .result) (c .before .before .before .before .before .before .before .find-spot .ensures) _ _ (c .before .before .before .before .before .page2 .given .1) in
+    turns-to (c .before .before .add-page .ensures) (sym (o .places (tupleOf row) (key-is row)))
+
+pub place-spec : {M : Type 1} → statement M
+place-spec =
+    tie.close
+    (tie.spec
+    find-spot-requires
+    enum-known-page
+    grow-requires
+    enum-known-page-2
+    add-page-requires
+    same-length
+    returns
+    same-length-2
+    returns-2)

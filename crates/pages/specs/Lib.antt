@@ -1,0 +1,4 @@
+pub mod Turns
+pub mod Changes
+pub mod Spots
+pub mod Finding
