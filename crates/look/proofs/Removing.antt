@@ -25,8 +25,7 @@ module _ (f : Flat) (ts : List ℕ) (i : ℕ) (h : i < length (f .rows)) (b : i 
   left-next e = ap removeAll (keep-hit f ts i h b P e) ∙ remove-cons (rowAt f ts i) (keep P (restRows f ts (i + 1)))
 
   module _ (e : passes P f ts i ≡ true) (fits : at + length (keep P (restRows f ts 0)) ≤ length old)
-    (p : Pushed old new at k (removeAll (keep P (restRows f ts 0))) (removeAll (keep P (restRows f ts i)))) where
-
+      (p : Pushed old new at k (removeAll (keep P (restRows f ts 0))) (removeAll (keep P (restRows f ts i)))) where
     opened : Pushed old new at k (left 0) (toRemove (number (rowAt f ts i)) ∷ left (i + 1))
     opened = push-as old new at k (left 0) (left i) _ (left-next e) p
 

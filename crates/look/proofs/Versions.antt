@@ -198,7 +198,7 @@ shows-run f t tx k (suc n) i vs l b s =
     let h : Held = heldIn f i in
     let hs : List Held = tab (heldIn f) (suc i) n in
     let on : versionsOn t k (h ∷ hs) ≡ versionsOn t k hs → notes tx k i (h ∷ hs) l ≡ notes tx k (suc i) hs l
-        → Shows f t tx (vs ++ versionsOn t k (h ∷ hs)) (notes tx k i (h ∷ hs) l) =
+    → Shows f t tx (vs ++ versionsOn t k (h ∷ hs)) (notes tx k i (h ∷ hs) l) =
     λ q r. shows-same f t tx _ _ _ _ (ap (λ (z : List Row). vs ++ z) q) r (shows-run f t tx k n (suc i) vs l (omega arith) s) in
     by (eqb (h .tuple .key) k)
     (λ e. by (isRemoving (h .pending))

@@ -291,7 +291,16 @@ fn is_chosen(m: &[u8], ts: &[u8], i: usize, table: u8, key: u32, one: bool, numb
 
 // The removal of every version of the key, behind the first operations, of which there are at; where one is left out, not that of
 // this number. How many operations there are then.
-fn remove_all(m: &[u8], ts: &[u8], table: u8, key: u32, one: bool, number: u32, ops: &mut [u64], at: usize) -> usize
+fn remove_all(
+    m: &[u8],
+    ts: &[u8],
+    table: u8,
+    key: u32,
+    one: bool,
+    number: u32,
+    ops: &mut [u64],
+    at: usize,
+) -> usize
     requires { ⌜ Room (now m) × ((length (flatOf (now m) .rows) ≤ length (now ts)) × ((at + length (keep (chosen table key one number) (restRows (flatOf (now m)) (now ts) 0)) ≤ 1024) × (length (now ops) ≡ 1024))) ⌝ }
     ensures { λ r. ⌜ Appended (now (ops .entry)) (now (ops .exit)) at r (removeAll (keep (chosen table key one number) (restRows (flatOf (now (m .entry))) (now (ts .entry)) 0))) ⌝ }
 {

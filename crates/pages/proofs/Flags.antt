@@ -30,9 +30,9 @@ module _ (r : Row) (f : ℕ) where
           number = r .number;
           owner = ownerOf (e1 i) (r .owner);
           mark = eqb (e2 i) 1;
-          payload = take (r .size % (payloadLimit + 1)) (r .payload)
+          payload = take (r .size % (payloadLimit + 1)) (r .payload);
         };
-        pending = e3 i
+        pending = e3 i;
       }
 
   -- the lowest bit goes
@@ -53,9 +53,9 @@ module _ (r : Row) (f : ℕ) where
           number = r .number;
           owner = ownerOf (e1 i) (r .owner);
           mark = eqb (e2 i) 1;
-          payload = take (r .size % (payloadLimit + 1)) (r .payload)
+          payload = take (r .size % (payloadLimit + 1)) (r .payload);
         };
-        pending = pendingOf (e3 i)
+        pending = pendingOf (e3 i);
       }
 
   pub held-adding : r .flags < 4 → f ≡ r .flags + 4 → heldOf (withFlags r f) ≡ record { tuple = tupleOf r; pending = adding }

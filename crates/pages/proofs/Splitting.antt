@@ -151,7 +151,7 @@ module _ {m : List ℕ} {p start at : ℕ} (g : GrowAt m p start at) where
         ∙ sym (grown-frozen (pageAt m p) (tupleOf row) (at - start) (is-frozen m p (λ z. ne (ap (λ (y : Entry). y .frozen) ee ∙ z)))))
 
     module _ {m1 : List ℕ} (n : ℕ)
-      (t : Turns m m1 (swapped p (pageOf (record { table = e .table; frozen = 0; count = n; block = 0 }) (insertAt (at - startAt m p) (heldOf row) (tuplesAt m p)) ∷ []) (pagesOf m))) where
+        (t : Turns m m1 (swapped p (pageOf (record { table = e .table; frozen = 0; count = n; block = 0 }) (insertAt (at - startAt m p) (heldOf row) (tuplesAt m p)) ∷ []) (pagesOf m))) where
       abbrev more : List Held
       more = insertAt (at - start) (calm (tupleOf row)) (tuplesAt m p)
 

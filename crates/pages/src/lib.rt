@@ -32,7 +32,11 @@ pub enum Spot {
 
 // Where the row of a number is: as row `at` on a page whose rows begin at start.
 pub enum Found {
-    Here { page: usize, start: usize, at: usize },
+    Here {
+        page: usize,
+        start: usize,
+        at: usize,
+    },
     Nowhere,
 }
 
@@ -197,8 +201,26 @@ fn cut_page(m: &mut [u8], p: usize, k: u16)
     ensures { λ _. ⌜ Turns (now (m .entry)) (now (m .exit)) (swapped p (fresh (pageAt (now (m .entry)) p .table) (take k (tuplesAt (now (m .entry)) p)) ∷ fresh (pageAt (now (m .entry)) p .table) (drop k (tuplesAt (now (m .entry)) p)) ∷ []) (pagesOf (now (m .entry)))) ⌝ }
 {
     let e = memory::get_entry(m, p);
-    memory::put_entry(m, p, Entry { table: e.table, frozen: 0, count: k, block: 0 });
-    memory::insert_entry(m, p + 1, Entry { table: e.table, frozen: 0, count: e.count - k, block: 0 });
+    memory::put_entry(
+        m,
+        p,
+        Entry {
+            table: e.table,
+            frozen: 0,
+            count: k,
+            block: 0,
+        },
+    );
+    memory::insert_entry(
+        m,
+        p + 1,
+        Entry {
+            table: e.table,
+            frozen: 0,
+            count: e.count - k,
+            block: 0,
+        },
+    );
 }
 
 // Pages p and p + 1 become one.
@@ -208,7 +230,16 @@ fn merge(m: &mut [u8], p: usize)
 {
     let a = memory::get_entry(m, p);
     let b = memory::get_entry(m, p + 1);
-    memory::put_entry(m, p, Entry { table: a.table, frozen: 0, count: a.count + b.count, block: 0 });
+    memory::put_entry(
+        m,
+        p,
+        Entry {
+            table: a.table,
+            frozen: 0,
+            count: a.count + b.count,
+            block: 0,
+        },
+    );
     memory::remove_entry(m, p + 1);
 }
 
@@ -240,10 +271,32 @@ fn grow(m: &mut [u8], p: usize, start: usize, at: usize, row: Row)
     if e.frozen != 0 {
         let mut x = row;
         x.flags += 4;
-        put_in(m, p, at, x, Entry { table: e.table, frozen: e.frozen, count: n, block: e.block });
+        put_in(
+            m,
+            p,
+            at,
+            x,
+            Entry {
+                table: e.table,
+                frozen: e.frozen,
+                count: n,
+                block: e.block,
+            },
+        );
         return;
     }
-    put_in(m, p, at, row, Entry { table: e.table, frozen: 0, count: n, block: 0 });
+    put_in(
+        m,
+        p,
+        at,
+        row,
+        Entry {
+            table: e.table,
+            frozen: 0,
+            count: n,
+            block: 0,
+        },
+    );
     halve(m, p, start);
 }
 
@@ -253,7 +306,16 @@ fn add_page(m: &mut [u8], table: u8, p: usize, at: usize, row: Row)
     ensures { λ _. ⌜ Turns (now (m .entry)) (now (m .exit)) (take p (pagesOf (now (m .entry))) ++ fresh table (calm (tupleOf row) ∷ []) ∷ drop p (pagesOf (now (m .entry)))) ⌝ }
 {
     memory::insert_row(m, at, row);
-    memory::insert_entry(m, p, Entry { table: table, frozen: 0, count: 1, block: 0 });
+    memory::insert_entry(
+        m,
+        p,
+        Entry {
+            table: table,
+            frozen: 0,
+            count: 1,
+            block: 0,
+        },
+    );
 }
 
 // A row with nothing pending goes where its table and key say.

@@ -6,8 +6,6 @@ use Prim.Native.Nat.{ℕ, _+_, _-_, _<_, _≤_}
 use mathlib.Core.Path.{_≡_, refl, sym, ap, _∙_}
 use Rattle.look.proofs.fill.Statement.{statement}
 use Rattle.look.proofs.fill.Tie as tie
-use Rattle.look.proofs.fill.Reads as reads
-use Rattle.look.proofs.fill.Lts as lts
 
 abbrev Inv-loop : tie.InvT-loop
 Inv-loop ts₀ s n t j₀ ts j = (j ≤ n) × ((length ts ≡ length ts₀) × (take (s + j) ts ≡ take s ts₀ ++ replicate j t))
@@ -15,38 +13,30 @@ Inv-loop ts₀ s n t j₀ ts j = (j ≤ n) × ((length ts ≡ length ts₀) × (
 abbrev μ-loop : tie.MeasureT-loop
 μ-loop ts₀ s n t j₀ ts j = n - j
 
--- src/lib.rt:196:5
 loop-holds : tie.Need-loop-holds Inv-loop μ-loop
 loop-holds c = let ts : List ℕ = c .args .ts .now in
     let z : c .args .s + 0 ≡ c .args .s = omega arith in
     (omega arith, (refl, ap (λ (k : ℕ). take k ts) z ∙ sym (append-nil (take (c .args .s) ts))))
 
--- src/lib.rt:197:12
 add-ts : tie.Need-add-ts Inv-loop μ-loop
 add-ts c = omega arith
 
--- src/lib.rt:197:9
 slice-write-ts : tie.Need-slice-write-ts Inv-loop μ-loop
 slice-write-ts c = omega arith
 
--- src/lib.rt:198:9
 add-j : tie.Need-add-j Inv-loop μ-loop
 add-j c = omega arith
 
--- src/lib.rt:196:5
 loop-less : tie.Need-loop-less Inv-loop μ-loop
 loop-less c = omega arith
 
--- src/lib.rt:196:5
 loop-again : tie.Need-loop-again Inv-loop μ-loop
 loop-again c = let l = c .before .loop in
     (omega arith, (simp length-set (l .inv .1 .0), fill-turn (c .before .before .args .ts .now) (l .ts) (c .before .before .args .s) (l .j) (c .before .before .args .t) (omega arith) (l .inv .1 .1)))
 
--- src/lib.rt:191:1
 same-length : tie.Need-same-length Inv-loop μ-loop
 same-length c = c .before .loop .inv .1 .0
 
--- src/lib.rt:191:1
 returns : tie.Need-returns Inv-loop μ-loop
 returns c = let l = c .before .loop in
     let z : l .j ≡ c .before .before .args .n = omega arith in

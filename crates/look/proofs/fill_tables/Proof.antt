@@ -16,11 +16,6 @@ use Prim.Native.Nat.{ℕ, _+_, _-_, _%_, _<_, _≤_}
 use mathlib.Core.Path.{_≡_, refl, sym, ap, _∙_}
 use Rattle.look.proofs.fill_tables.Statement.{statement}
 use Rattle.look.proofs.fill_tables.Tie as tie
-use Rattle.look.proofs.fill_tables.Reads as reads
-use Rattle.look.proofs.fill_tables.Lts as lts
-use Rattle.look.proofs.fill.Reads as fill-reads
-use Rattle.memory.proofs.get_counts.Reads as get-counts-reads
-use Rattle.memory.proofs.get_entry.Reads as get-entry-reads
 
 abbrev Inv-loop : tie.InvT-loop
 Inv-loop m ts₀ n s₀ p₀ ts s p = (n ≡ length (flatOf m .entries)) × ((p ≤ n) × ((length ts ≡ length ts₀) × ((s ≡ startOf (flatOf m) p) × (take s ts ≡ tablesOf (take p (flatOf m .entries))))))
@@ -28,29 +23,23 @@ Inv-loop m ts₀ n s₀ p₀ ts s p = (n ≡ length (flatOf m .entries)) × ((p 
 abbrev μ-loop : tie.MeasureT-loop
 μ-loop m ts₀ n s₀ p₀ ts s p = n - p
 
--- src/lib.rt:207:9
 get-counts-requires : tie.Need-get-counts-requires Inv-loop μ-loop
 get-counts-requires c κs = let r : Room (c .before .before .args .m .now) = held-room _ (c .before .before .pre .0) in
     omega (arith, r .range .long)
 
--- src/lib.rt:208:13
 cast-n : tie.Need-cast-n Inv-loop μ-loop
 cast-n c = search needs
 
--- src/lib.rt:211:5
 loop-holds : tie.Need-loop-holds Inv-loop μ-loop
 loop-holds c = let f : Flat = flatOf (c .before .before .before .before .args .m .now) in
     (ap (λ (x : Counts). x .pages) (c .before .get-counts .ensures), (omega arith, (refl, (sym (start-zero f), tables-none f (c .before .before .before .before .args .ts .now)))))
 
--- src/lib.rt:212:13
 get-entry-requires : tie.Need-get-entry-requires Inv-loop μ-loop
 get-entry-requires c κs = (held-room _ (c .before .before .before .before .before .before .pre .0), omega (arith, c .before .loop .inv .0, c .loop-test .taken))
 
--- src/lib.rt:213:17
 cast-k : tie.Need-cast-k Inv-loop μ-loop
 cast-k c = search needs
 
--- src/lib.rt:214:9
 fill-requires : tie.Need-fill-requires Inv-loop μ-loop
 fill-requires c κs = let m : List ℕ = c .before .before .before .before .before .before .before .before .before .before .args .m .now in
     let f : Flat = flatOf m in
@@ -59,7 +48,6 @@ fill-requires c κs = let m : List ℕ = c .before .before .before .before .befo
     let ec : c .before .before .before .get-entry .result .count ≡ entryIn f (l .p) .count = ap (λ (x : Entry). x .count) (c .before .before .before .get-entry .ensures) in
     omega (arith, start-in f (held-filled m (c .before .before .before .before .before .before .before .before .before .before .pre .0)) (l .p) lt, l .inv .1 .1 .0, l .inv .1 .1 .1 .0, ec, c .before .before .before .before .before .before .before .before .before .before .pre .1)
 
--- src/lib.rt:215:9
 add-s : tie.Need-add-s Inv-loop μ-loop
 add-s c = let m : List ℕ = c .before .before .before .before .before .before .before .before .before .before .before .before .before .args .m .now in
     let f : Flat = flatOf m in
@@ -69,17 +57,14 @@ add-s c = let m : List ℕ = c .before .before .before .before .before .before .
     let ec : c .before .before .before .before .before .before .get-entry .result .count ≡ entryIn f (l .p) .count = ap (λ (x : Entry). x .count) (c .before .before .before .before .before .before .get-entry .ensures) in
     omega (arith, start-in f (held-filled m (c .before .before .before .before .before .before .before .before .before .before .before .before .before .pre .0)) (l .p) lt, l .inv .1 .1 .1 .0, ec, r .range .rows, r .range .most)
 
--- src/lib.rt:216:9
 add-p : tie.Need-add-p Inv-loop μ-loop
 add-p c = let m : List ℕ = c .before .before .before .before .before .before .before .before .before .before .before .before .before .args .m .now in
     let r : Room m = held-room m (c .before .before .before .before .before .before .before .before .before .before .before .before .before .pre .0) in
     omega (arith, c .before .before .before .before .before .before .before .before .loop .inv .0, c .before .before .before .before .before .before .before .loop-test .taken, r .range .pages, r .range .most)
 
--- src/lib.rt:211:5
 loop-less : tie.Need-loop-less Inv-loop μ-loop
 loop-less c = omega (arith, c .before .before .before .before .before .before .before .loop-test .taken)
 
--- src/lib.rt:211:5
 loop-again : tie.Need-loop-again Inv-loop μ-loop
 loop-again c = let m : List ℕ = c .before .before .before .before .before .before .before .before .before .before .before .before .before .args .m .now in
     let f : Flat = flatOf m in
@@ -90,11 +75,9 @@ loop-again c = let m : List ℕ = c .before .before .before .before .before .bef
     let fl = c .before .before .fill .ensures in
     (l .inv .0, (omega (arith, c .before .before .before .before .before .before .before .loop-test .taken), (fl .size ∙ l .inv .1 .1 .0, (omega (arith, start-next f (l .p) lt, l .inv .1 .1 .1 .0, ec), fl .first ∙ ap (λ (z : List ℕ). z ++ replicate (c .before .before .before .before .before .before .get-entry .result .count) (c .before .before .before .before .before .before .get-entry .result .table % 8)) (l .inv .1 .1 .1 .1) ∙ ap (λ (x : Entry). tablesOf (take (l .p) (f .entries)) ++ replicate (x .count) (x .table % 8)) ee ∙ sym (tables-next f (l .p) lt)))))
 
--- src/lib.rt:203:1
 same-length : tie.Need-same-length Inv-loop μ-loop
 same-length c = c .before .loop .inv .1 .1 .0
 
--- src/lib.rt:203:1
 returns : tie.Need-returns Inv-loop μ-loop
 returns c = let m : List ℕ = c .before .before .before .before .before .before .args .m .now in
     let f : Flat = flatOf m in

@@ -10,10 +10,6 @@ use Prim.Native.Nat.{ℕ, _%_, _/_, _+_, _-_, _<_, _≤_}
 use mathlib.Core.Path.{_≡_, refl, sym, ap, _∙_}
 use Rattle.look.proofs.find_open.Statement.{statement}
 use Rattle.look.proofs.find_open.Tie as tie
-use Rattle.look.proofs.find_open.Reads as reads
-use Rattle.look.proofs.find_open.Lts as lts
-use Rattle.memory.proofs.get_counts.Reads as get-counts-reads
-use Rattle.memory.proofs.get_open.Reads as get-open-reads
 
 abbrev Inv-loop : tie.InvT-loop
 Inv-loop m transaction n i₀ i = (n ≡ length (flatOf m .opens)) × ((i ≤ n) × (findOpen transaction (flatOf m .opens) ≡ i + findOpen transaction (drop i (flatOf m .opens))))
@@ -21,47 +17,37 @@ Inv-loop m transaction n i₀ i = (n ≡ length (flatOf m .opens)) × ((i ≤ n)
 abbrev μ-loop : tie.MeasureT-loop
 μ-loop m transaction n i₀ i = n - i
 
--- src/lib.rt:38:9
 get-counts-requires : tie.Need-get-counts-requires Inv-loop μ-loop
 get-counts-requires c κs = omega (arith, c .before .pre .range .long)
 
--- src/lib.rt:39:13
 cast-n : tie.Need-cast-n Inv-loop μ-loop
 cast-n c = search needs
 
--- src/lib.rt:41:5
 loop-holds : tie.Need-loop-holds Inv-loop μ-loop
 loop-holds c = (ap (λ (x : Counts). x .opens) (c .before .get-counts .ensures), (omega arith, omega arith))
 
--- src/lib.rt:42:13
 get-open-requires : tie.Need-get-open-requires Inv-loop μ-loop
 get-open-requires c κs = (c .before .before .before .before .before .pre, omega (arith, c .before .loop .inv .0, c .loop-test .taken))
 
--- src/lib.rt:43:17
 cast-t : tie.Need-cast-t Inv-loop μ-loop
 cast-t c = search needs
 
--- src/lib.rt:45:13
 returns : tie.Need-returns Inv-loop μ-loop
 returns c = let ws : List ℕ = flatOf (c .before .before .before .before .before .before .before .args .m .now) .opens in
     let l = c .before .before .before .loop in
     omega (arith, l .inv .1 .1, find-hit (c .before .before .before .before .before .before .before .args .transaction) ws (l .i) (omega (arith, l .inv .0, c .before .before .loop-test .taken)) (ap (λ (z : ℕ). z / 1048576) (sym (c .before .get-open .ensures)) ∙ c .if1 .taken))
 
--- src/lib.rt:47:9
 add-i : tie.Need-add-i Inv-loop μ-loop
 add-i c = omega arith
 
--- src/lib.rt:41:5
 loop-less : tie.Need-loop-less Inv-loop μ-loop
 loop-less c = omega arith
 
--- src/lib.rt:41:5
 loop-again : tie.Need-loop-again Inv-loop μ-loop
 loop-again c = let ws : List ℕ = flatOf (c .before .before .before .before .before .before .before .args .m .now) .opens in
     let l = c .before .before .before .loop in
     (l .inv .0, (omega arith, omega (arith, l .inv .1 .1, find-miss (c .before .before .before .before .before .before .before .args .transaction) ws (l .i) (omega (arith, l .inv .0, c .before .before .loop-test .taken)) (λ q. c .if1 .left (ap (λ (z : ℕ). z / 1048576) (c .before .get-open .ensures) ∙ q)))))
 
--- src/lib.rt:34:1
 returns-2 : tie.Need-returns-2 Inv-loop μ-loop
 returns-2 c = let ws : List ℕ = flatOf (c .before .before .before .before .before .args .m .now) .opens in
     let l = c .before .loop in

@@ -11,49 +11,35 @@ use mathlib.Core.Path.{_≡_, refl, sym, ap, _∙_}
 use borrow.Author.Needs.{needs}
 use Rattle.look.proofs.is_chosen.Statement.{statement}
 use Rattle.look.proofs.is_chosen.Tie as tie
-use Rattle.look.proofs.is_chosen.Reads as reads
-use Rattle.look.proofs.is_chosen.Lts as lts
-use Rattle.memory.proofs.flags_at.Reads as flags-at-reads
-use Rattle.memory.proofs.key_at.Reads as key-at-reads
-use Rattle.memory.proofs.number_at.Reads as number-at-reads
 
--- src/lib.rt:276:8
 shared-slice-read-if1 : tie.Need-shared-slice-read-if1
 shared-slice-read-if1 c = search needs
 
--- src/lib.rt:277:9
 returns : tie.Need-returns
 returns c = let a = c .before .before .before .before .args in
     sym (chosen-other (flatOf (a .m .now)) (a .ts .now) (a .i) (a .table) (a .key) (a .one) (a .number) (c .if1 .taken))
 
--- src/lib.rt:279:8
 key-at-requires : tie.Need-key-at-requires
 key-at-requires c κs = search needs
 
--- src/lib.rt:280:9
 returns-2 : tie.Need-returns-2
 returns-2 c = let a = c .before .before .before .before .before .before .args in
     sym (chosen-key (flatOf (a .m .now)) (a .ts .now) (a .i) (a .table) (a .key) (a .one) (a .number) (λ q. c .if2 .taken (c .before .key-at .ensures ∙ q)))
 
--- src/lib.rt:282:9
 flags-at-requires : tie.Need-flags-at-requires
 flags-at-requires c κs = search needs
 
--- src/lib.rt:284:9
 returns-3 : tie.Need-returns-3
 returns-3 c = let a = c .before .before .before .before .before .before .before .before .args in
     sym (pass-gone (flatOf (a .m .now)) (a .ts .now) (a .i) (chosen (a .table) (a .key) (a .one) (a .number)) (ap (λ (z : ℕ). z / 4 % 4) (sym (c .before .flags-at .ensures)) ∙ c .if3 .taken))
 
--- src/lib.rt:287:9
 returns-4 : tie.Need-returns-4
 returns-4 c = let a = c .before .before .before .before .before .before .before .before .before .args in
     sym (chosen-all (flatOf (a .m .now)) (a .ts .now) (a .i) (a .table) (a .key) (a .one) (a .number) (c .before .before .before .before .before .if1 .left) (sym (c .before .before .before .before .key-at .ensures) ∙ c .before .before .before .if2 .left) (λ q. c .before .if3 .left (ap (λ (z : ℕ). z / 4 % 4) (c .before .before .flags-at .ensures) ∙ q)) (not-true _ (c .if4 .taken)))
 
--- src/lib.rt:289:5
 number-at-requires : tie.Need-number-at-requires
 number-at-requires c κs = search needs
 
--- src/lib.rt:272:1
 returns-5 : tie.Need-returns-5
 returns-5 c = let a = c .before .before .before .before .before .before .before .before .before .before .args in
     ap (λ (z : ℕ). not (eqb z (a .number))) (c .number-at .ensures) ∙ sym (chosen-but (flatOf (a .m .now)) (a .ts .now) (a .i) (a .table) (a .key) (a .one) (a .number) (c .before .before .before .before .before .before .if1 .left) (sym (c .before .before .before .before .before .key-at .ensures) ∙ c .before .before .before .before .if2 .left) (λ q. c .before .before .if3 .left (ap (λ (z : ℕ). z / 4 % 4) (c .before .before .before .flags-at .ensures) ∙ q)) (not-false _ (c .before .if4 .left)))

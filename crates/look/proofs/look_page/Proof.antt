@@ -12,10 +12,6 @@ use mathlib.Core.Logic.{⊎-elim}
 use mathlib.Core.Path.{_≡_, refl, sym, ap, _∙_}
 use Rattle.look.proofs.look_page.Statement.{statement}
 use Rattle.look.proofs.look_page.Tie as tie
-use Rattle.look.proofs.look_page.Reads as reads
-use Rattle.look.proofs.look_page.Lts as lts
-use Rattle.look.proofs.look_row.Reads as look-row-reads
-use Rattle.memory.proofs.key_at.Reads as key-at-reads
 
 abbrev Inv-loop : tie.InvT-loop
 Inv-loop m s n transaction key l₀ e i₀ l i = (e ≡ s + n) × ((s ≤ i) × ((i ≤ e) × (notes transaction key i (tab (heldIn (flatOf m)) i (e - i)) l ≡ notes transaction key s (tab (heldIn (flatOf m)) s n) l₀)))
@@ -23,11 +19,9 @@ Inv-loop m s n transaction key l₀ e i₀ l i = (e ≡ s + n) × ((s ≤ i) × 
 abbrev μ-loop : tie.MeasureT-loop
 μ-loop m s n transaction key l₀ e i₀ l i = e - i
 
--- src/lib.rt:114:13
 add-e : tie.Need-add-e Inv-loop μ-loop
 add-e c = omega (arith, c .before .pre .1, c .before .pre .0 .range .rows, c .before .pre .0 .range .most)
 
--- src/lib.rt:116:5
 loop-holds : tie.Need-loop-holds Inv-loop μ-loop
 loop-holds c = let f : Flat = flatOf (c .before .args .m .now) in
     let s : ℕ = c .before .args .s in
@@ -35,36 +29,38 @@ loop-holds c = let f : Flat = flatOf (c .before .args .m .now) in
     let z : s + n - s ≡ n = omega arith in
     (refl, (omega arith, (omega arith, ap (λ (k : ℕ). notes (c .before .args .transaction) (c .before .args .key) s (tab (heldIn f) s k) (c .before .args .seen)) z)))
 
--- src/lib.rt:117:12
 key-at-requires : tie.Need-key-at-requires Inv-loop μ-loop
 key-at-requires c κs = (c .before .before .before .pre .0, omega (arith, c .before .before .before .pre .1, c .loop-test .taken, c .before .loop .inv .0))
 
--- src/lib.rt:118:13
 look-row-requires : tie.Need-look-row-requires Inv-loop μ-loop
 look-row-requires c κs = (c .before .before .before .before .before .pre .0, omega (arith, c .before .before .before .before .before .pre .1, c .before .before .loop-test .taken, c .before .before .before .loop .inv .0))
 
--- src/lib.rt:120:9
 add-i : tie.Need-add-i Inv-loop μ-loop
 add-i c = omega (arith, c .before .before .before .before .before .pre .1, c .before .before .loop-test .taken, c .before .before .before .loop .inv .0, c .before .before .before .before .before .pre .0 .range .rows, c .before .before .before .before .before .pre .0 .range .most)
 
--- src/lib.rt:116:5
 loop-less : tie.Need-loop-less Inv-loop μ-loop
 loop-less c = omega (arith, c .before .before .loop-test .taken)
 
--- src/lib.rt:116:5
 loop-again : tie.Need-loop-again Inv-loop μ-loop
 loop-again c = let f : Flat = flatOf (c .before .before .before .before .before .args .m .now) in
     let l = c .before .before .before .loop in
     let tx : ℕ = c .before .before .before .before .before .args .transaction in
     let k : ℕ = c .before .before .before .before .before .args .key in
     let e : ℕ = c .before .before .before .before .before .args .s + c .before .before .before .before .before .args .n in
-    let lt : l .i < e = c .before .before .loop-test .taken in
-    (l .inv .0, (omega arith, (omega arith, ⊎-elim
-    (λ w. ap (notes tx k (l .i + 1) (tab (heldIn f) (l .i + 1) (e - (l .i + 1)))) (w .2 ∙ w .1 .ensures) ∙ sym (turn-here f tx k (l .i) e (l .l) lt (sym (c .before .key-at .ensures) ∙ w .0 .taken)) ∙ l .inv .1 .1 .1)
-    (λ w. ap (notes tx k (l .i + 1) (tab (heldIn f) (l .i + 1) (e - (l .i + 1)))) (w .1) ∙ sym (turn-on f tx k (l .i) e (l .l) lt (λ q. w .0 .left (c .before .key-at .ensures ∙ q))) ∙ l .inv .1 .1 .1)
-    (c .if1 .came))))
+    let lt : l .i < e = c .before .before .loop-test .taken in (
+      l .inv .0,
+      (
+        omega arith,
+        (
+          omega arith,
+          ⊎-elim
+              (λ w. ap (notes tx k (l .i + 1) (tab (heldIn f) (l .i + 1) (e - (l .i + 1)))) (w .2 ∙ w .1 .ensures) ∙ sym (turn-here f tx k (l .i) e (l .l) lt (sym (c .before .key-at .ensures) ∙ w .0 .taken)) ∙ l .inv .1 .1 .1)
+              (λ w. ap (notes tx k (l .i + 1) (tab (heldIn f) (l .i + 1) (e - (l .i + 1)))) (w .1) ∙ sym (turn-on f tx k (l .i) e (l .l) lt (λ q. w .0 .left (c .before .key-at .ensures ∙ q))) ∙ l .inv .1 .1 .1)
+              (c .if1 .came),
+        ),
+      ),
+    )
 
--- src/lib.rt:109:1
 returns : tie.Need-returns Inv-loop μ-loop
 returns c = let f : Flat = flatOf (c .before .before .before .args .m .now) in
     let l = c .before .loop in

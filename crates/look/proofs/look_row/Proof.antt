@@ -8,60 +8,44 @@ use mathlib.Core.Path.{_≡_, refl, sym, ap, _∙_}
 use borrow.Author.Needs.{needs}
 use Rattle.look.proofs.look_row.Statement.{statement}
 use Rattle.look.proofs.look_row.Tie as tie
-use Rattle.look.proofs.look_row.Reads as reads
-use Rattle.look.proofs.look_row.Lts as lts
-use Rattle.look.proofs.settled.Reads as settled-reads
-use Rattle.memory.proofs.flags_at.Reads as flags-at-reads
-use Rattle.memory.proofs.owner_at.Reads as owner-at-reads
 
--- src/lib.rt:80:9
 flags-at-requires : tie.Need-flags-at-requires
 flags-at-requires c κs = search needs
 
--- src/lib.rt:83:9
 returns : tie.Need-returns
 returns c = let r : Row = rowIn (flatOf (c .before .before .before .args .m .now)) (c .before .before .before .args .i) in
     note-removed _ _ r _ (omega (arith, c .before .flags-at .ensures))
 
--- src/lib.rt:86:9
 settled-requires : tie.Need-settled-requires
 settled-requires c κs = search needs
 
--- src/lib.rt:86:9
 returns-2 : tie.Need-returns-2
 returns-2 c = let r : Row = rowIn (flatOf (c .before .before .before .before .before .args .m .now)) (c .before .before .before .before .before .args .i) in
     let ef = c .before .before .before .flags-at .ensures in
     c .settled .ensures ∙ note-committed _ _ r _ (λ q. c .before .before .if1 .left (ap (λ (z : ℕ). z / 4 % 4) ef ∙ q)) (omega (arith, ef, c .before .if2 .taken))
 
--- src/lib.rt:89:9
 settled-requires-2 : tie.Need-settled-requires-2
 settled-requires-2 c κs = search needs
 
--- src/lib.rt:89:9
 returns-3 : tie.Need-returns-3
 returns-3 c = let r : Row = rowIn (flatOf (c .before .before .before .before .before .before .args .m .now)) (c .before .before .before .before .before .before .args .i) in
     let ef = c .before .before .before .before .flags-at .ensures in
     c .settled2 .ensures ∙ note-committing _ _ r _ (λ q. c .before .before .before .if1 .left (ap (λ (z : ℕ). z / 4 % 4) ef ∙ q)) (omega (arith, ef, c .before .if3 .taken))
 
--- src/lib.rt:91:14
 owner-at-requires : tie.Need-owner-at-requires
 owner-at-requires c κs = search needs
 
--- src/lib.rt:91:13
 cast-t : tie.Need-cast-t
 cast-t c = search needs
 
--- src/lib.rt:96:18
 add-t12 : tie.Need-add-t12
 add-t12 c = search needs
 
--- src/lib.rt:93:9
 returns-4 : tie.Need-returns-4
 returns-4 c = let r : Row = rowIn (flatOf (c .before .before .before .before .before .before .before .args .m .now)) (c .before .before .before .before .before .before .before .args .i) in
     let ef = c .before .before .before .before .before .flags-at .ensures in
     note-own _ _ r _ (λ q. c .before .before .before .before .if1 .left (ap (λ (z : ℕ). z / 4 % 4) ef ∙ q)) (λ q. c .before .before .before .if2 .left (ap (λ (z : ℕ). z % 2) ef ∙ q)) (λ q. c .before .before .if3 .left (ap (λ (z : ℕ). z / 4 % 4) ef ∙ q)) (ap (λ (z : ℕ). z / 1048576) (sym (c .before .owner-at .ensures)) ∙ c .if4 .taken)
 
--- src/lib.rt:76:1
 returns-5 : tie.Need-returns-5
 returns-5 c = let r : Row = rowIn (flatOf (c .before .before .before .before .before .before .before .args .m .now)) (c .before .before .before .before .before .before .before .args .i) in
     let ef = c .before .before .before .before .before .flags-at .ensures in

@@ -17,11 +17,6 @@ use mathlib.Core.Logic.{⊎-elim}
 use mathlib.Core.Path.{_≡_, refl, sym, ap, _∙_}
 use Rattle.look.proofs.look_up.Statement.{statement}
 use Rattle.look.proofs.look_up.Tie as tie
-use Rattle.look.proofs.look_up.Reads as reads
-use Rattle.look.proofs.look_up.Lts as lts
-use Rattle.look.proofs.look_page.Reads as look-page-reads
-use Rattle.memory.proofs.get_counts.Reads as get-counts-reads
-use Rattle.memory.proofs.get_entry.Reads as get-entry-reads
 
 abbrev Inv-loop : tie.InvT-loop
 Inv-loop m table transaction key n l₀ s₀ p₀ l s p = (n ≡ length (flatOf m .entries)) × ((p ≤ n) × ((s ≡ startOf (flatOf m) p) × Shows (flatOf m) table transaction (firstVersions (flatOf m) table key p) l))
@@ -29,29 +24,23 @@ Inv-loop m table transaction key n l₀ s₀ p₀ l s p = (n ≡ length (flatOf 
 abbrev μ-loop : tie.MeasureT-loop
 μ-loop m table transaction key n l₀ s₀ p₀ l s p = n - p
 
--- src/lib.rt:130:9
 get-counts-requires : tie.Need-get-counts-requires Inv-loop μ-loop
 get-counts-requires c κs = let r : Room (c .before .args .m .now) = held-room _ (c .before .pre) in
     omega (arith, r .range .long)
 
--- src/lib.rt:131:13
 cast-n : tie.Need-cast-n Inv-loop μ-loop
 cast-n c = search needs
 
--- src/lib.rt:140:5
 loop-holds : tie.Need-loop-holds Inv-loop μ-loop
 loop-holds c = let f : Flat = flatOf (c .before .before .before .args .m .now) in
     (ap (λ (x : Counts). x .pages) (c .before .get-counts .ensures), (omega arith, (sym (start-zero f), versions-none f (c .before .before .before .args .table) (c .before .before .before .args .transaction) (c .before .before .before .args .key))))
 
--- src/lib.rt:141:13
 get-entry-requires : tie.Need-get-entry-requires Inv-loop μ-loop
 get-entry-requires c κs = (held-room _ (c .before .before .before .before .before .pre), omega (arith, c .before .loop .inv .0, c .loop-test .taken))
 
--- src/lib.rt:142:17
 cast-k : tie.Need-cast-k Inv-loop μ-loop
 cast-k c = search needs
 
--- src/lib.rt:144:13
 look-page-requires : tie.Need-look-page-requires Inv-loop μ-loop
 look-page-requires c κs = let m : List ℕ = c .before .before .before .before .before .before .before .before .before .args .m .now in
     let f : Flat = flatOf m in
@@ -60,7 +49,6 @@ look-page-requires c κs = let m : List ℕ = c .before .before .before .before 
     let ec : c .before .before .before .get-entry .result .count ≡ entryIn f (l .p) .count = ap (λ (x : Entry). x .count) (c .before .before .before .get-entry .ensures) in
     (held-room m (c .before .before .before .before .before .before .before .before .before .pre), omega (arith, start-in f (held-filled m (c .before .before .before .before .before .before .before .before .before .pre)) (l .p) lt, l .inv .1 .1 .0, ec))
 
--- src/lib.rt:146:9
 add-s : tie.Need-add-s Inv-loop μ-loop
 add-s c = let m : List ℕ = c .before .before .before .before .before .before .before .before .before .args .m .now in
     let f : Flat = flatOf m in
@@ -70,17 +58,14 @@ add-s c = let m : List ℕ = c .before .before .before .before .before .before .
     let ec : c .before .before .before .get-entry .result .count ≡ entryIn f (l .p) .count = ap (λ (x : Entry). x .count) (c .before .before .before .get-entry .ensures) in
     omega (arith, start-in f (held-filled m (c .before .before .before .before .before .before .before .before .before .pre)) (l .p) lt, l .inv .1 .1 .0, ec, r .range .rows, r .range .most)
 
--- src/lib.rt:147:9
 add-p : tie.Need-add-p Inv-loop μ-loop
 add-p c = let m : List ℕ = c .before .before .before .before .before .before .before .before .before .args .m .now in
     let r : Room m = held-room m (c .before .before .before .before .before .before .before .before .before .pre) in
     omega (arith, c .before .before .before .before .before .loop .inv .0, c .before .before .before .before .loop-test .taken, r .range .pages, r .range .most)
 
--- src/lib.rt:140:5
 loop-less : tie.Need-loop-less Inv-loop μ-loop
 loop-less c = omega (arith, c .before .before .before .before .loop-test .taken)
 
--- src/lib.rt:140:5
 loop-again : tie.Need-loop-again Inv-loop μ-loop
 loop-again c = let m : List ℕ = c .before .before .before .before .before .before .before .before .before .args .m .now in
     let f : Flat = flatOf m in
@@ -93,13 +78,20 @@ loop-again c = let m : List ℕ = c .before .before .before .before .before .bef
     let ec : c .before .before .before .get-entry .result .count ≡ entryIn f (l .p) .count = ap (λ (x : Entry). x .count) (c .before .before .before .get-entry .ensures) in
     let et : c .before .before .before .get-entry .result .table % 8 ≡ entryIn f (l .p) .table % 8 = ap (λ (x : Entry). x .table % 8) (c .before .before .before .get-entry .ensures) in
     let es : l .s ≡ startOf f (l .p) = l .inv .1 .1 .0 in
-    let sh : Shows f t tx (firstVersions f t k (l .p)) (l .l) = l .inv .1 .1 .1 in
-    (l .inv .0, (omega (arith, c .before .before .before .before .loop-test .taken), (omega (arith, start-next f (l .p) lt, es, ec), ⊎-elim
-    (λ w. shows-as f t tx _ _ _ (w .2 ∙ w .1 .ensures) (page-shown f full t tx k (l .p) (l .s) (l .l) lt es sh _ ec (sym et ∙ w .0 .taken)))
-    (λ w. shows-as f t tx _ _ _ (w .1) (page-passed f full t tx k (l .p) (l .s) (l .l) lt es sh (λ q. w .0 .left (et ∙ q))))
-    (c .if1 .came))))
+    let sh : Shows f t tx (firstVersions f t k (l .p)) (l .l) = l .inv .1 .1 .1 in (
+      l .inv .0,
+      (
+        omega (arith, c .before .before .before .before .loop-test .taken),
+        (
+          omega (arith, start-next f (l .p) lt, es, ec),
+          ⊎-elim
+              (λ w. shows-as f t tx _ _ _ (w .2 ∙ w .1 .ensures) (page-shown f full t tx k (l .p) (l .s) (l .l) lt es sh _ ec (sym et ∙ w .0 .taken)))
+              (λ w. shows-as f t tx _ _ _ (w .1) (page-passed f full t tx k (l .p) (l .s) (l .l) lt es sh (λ q. w .0 .left (et ∙ q))))
+              (c .if1 .came),
+        ),
+      ),
+    )
 
--- src/lib.rt:126:1
 returns : tie.Need-returns Inv-loop μ-loop
 returns c = let f : Flat = flatOf (c .before .before .before .before .before .args .m .now) in
     let l = c .before .loop in

@@ -6,32 +6,22 @@ use mathlib.Core.Path.{_≡_, refl, sym, ap, _∙_}
 use borrow.Author.Needs.{needs}
 use Rattle.look.proofs.own_at.Statement.{statement}
 use Rattle.look.proofs.own_at.Tie as tie
-use Rattle.look.proofs.own_at.Reads as reads
-use Rattle.look.proofs.own_at.Lts as lts
-use Rattle.look.proofs.owns.Reads as owns-reads
-use Rattle.memory.proofs.key_at.Reads as key-at-reads
 
--- src/lib.rt:245:8
 shared-slice-read-if1 : tie.Need-shared-slice-read-if1
 shared-slice-read-if1 c = search needs
 
--- src/lib.rt:246:9
 returns : tie.Need-returns
 returns c = sym (own-other (flatOf (c .before .before .before .before .args .m .now)) (c .before .before .before .before .args .ts .now) (c .before .before .before .before .args .i) (c .before .before .before .before .args .transaction) (c .before .before .before .before .args .table) (c .before .before .before .before .args .key) (c .if1 .taken))
 
--- src/lib.rt:248:8
 key-at-requires : tie.Need-key-at-requires
 key-at-requires c κs = search needs
 
--- src/lib.rt:249:9
 returns-2 : tie.Need-returns-2
 returns-2 c = sym (own-key (flatOf (c .before .before .before .before .before .before .args .m .now)) (c .before .before .before .before .before .before .args .ts .now) (c .before .before .before .before .before .before .args .i) (c .before .before .before .before .before .before .args .transaction) (c .before .before .before .before .before .before .args .table) (c .before .before .before .before .before .before .args .key) (λ q. c .if2 .taken (c .before .key-at .ensures ∙ q)))
 
--- src/lib.rt:251:5
 owns-requires : tie.Need-owns-requires
 owns-requires c κs = search needs
 
--- src/lib.rt:241:1
 returns-3 : tie.Need-returns-3
 returns-3 c = let f : Flat = flatOf (c .before .before .before .before .before .before .before .args .m .now) in
     let ts = c .before .before .before .before .before .before .before .args .ts .now in

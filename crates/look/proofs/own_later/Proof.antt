@@ -13,10 +13,6 @@ use Prim.Native.Nat.{ℕ, _+_, _-_, _<_, _≤_}
 use mathlib.Core.Path.{_≡_, refl, sym, ap, _∙_}
 use Rattle.look.proofs.own_later.Statement.{statement}
 use Rattle.look.proofs.own_later.Tie as tie
-use Rattle.look.proofs.own_later.Reads as reads
-use Rattle.look.proofs.own_later.Lts as lts
-use Rattle.look.proofs.own_at.Reads as own-at-reads
-use Rattle.memory.proofs.get_counts.Reads as get-counts-reads
 
 abbrev Inv-loop : tie.InvT-loop
 Inv-loop m ts i transaction table key n j₀ j = (n ≡ length (flatOf m .rows)) × ((j ≤ n) × (any (ownAt transaction table key) (restRows (flatOf m) ts (i + 1)) ≡ any (ownAt transaction table key) (restRows (flatOf m) ts j)))
@@ -24,50 +20,40 @@ Inv-loop m ts i transaction table key n j₀ j = (n ≡ length (flatOf m .rows))
 abbrev μ-loop : tie.MeasureT-loop
 μ-loop m ts i transaction table key n j₀ j = n - j
 
--- src/lib.rt:259:9
 get-counts-requires : tie.Need-get-counts-requires Inv-loop μ-loop
 get-counts-requires c κs = omega (arith, c .before .before .pre .0 .range .long)
 
--- src/lib.rt:260:13
 cast-n : tie.Need-cast-n Inv-loop μ-loop
 cast-n c = search needs
 
--- src/lib.rt:261:17
 add-j : tie.Need-add-j Inv-loop μ-loop
 add-j c = omega (arith, c .before .before .before .before .pre .1 .0, c .before .before .before .before .pre .0 .range .rows, c .before .before .before .before .pre .0 .range .most)
 
--- src/lib.rt:262:5
 loop-holds : tie.Need-loop-holds Inv-loop μ-loop
 loop-holds c = let e = ap (λ (x : Counts). x .rows) (c .before .get-counts .ensures) in
     (e, (omega (arith, e, c .before .before .before .before .pre .1 .0), refl))
 
--- src/lib.rt:263:12
 own-at-requires : tie.Need-own-at-requires Inv-loop μ-loop
 own-at-requires c κs = (c .before .before .before .before .before .before .pre .0, (omega (arith, c .loop-test .taken, c .before .loop .inv .0), omega (arith, c .loop-test .taken, c .before .loop .inv .0, c .before .before .before .before .before .before .pre .1 .1)))
 
--- src/lib.rt:264:13
 returns : tie.Need-returns Inv-loop μ-loop
 returns c = let a = c .before .before .before .before .before .before .before .before .args in
     let l = c .before .before .before .loop in
     let lt = c .before .before .loop-test .taken in
     sym (l .inv .1 .1 ∙ any-hit (flatOf (a .m .now)) (a .ts .now) (l .j) (omega (arith, lt, l .inv .0)) (omega (arith, lt, l .inv .0, c .before .before .before .before .before .before .before .before .pre .1 .1)) (ownAt (a .transaction) (a .table) (a .key)) (sym (c .before .own-at .ensures) ∙ c .if1 .taken))
 
--- src/lib.rt:266:9
 add-j-2 : tie.Need-add-j-2 Inv-loop μ-loop
 add-j-2 c = omega arith
 
--- src/lib.rt:262:5
 loop-less : tie.Need-loop-less Inv-loop μ-loop
 loop-less c = omega arith
 
--- src/lib.rt:262:5
 loop-again : tie.Need-loop-again Inv-loop μ-loop
 loop-again c = let a = c .before .before .before .before .before .before .before .before .args in
     let l = c .before .before .before .loop in
     let lt = c .before .before .loop-test .taken in
     (l .inv .0, (omega arith, l .inv .1 .1 ∙ any-miss (flatOf (a .m .now)) (a .ts .now) (l .j) (omega (arith, lt, l .inv .0)) (omega (arith, lt, l .inv .0, c .before .before .before .before .before .before .before .before .pre .1 .1)) (ownAt (a .transaction) (a .table) (a .key)) (sym (c .before .own-at .ensures) ∙ c .if1 .left)))
 
--- src/lib.rt:255:1
 returns-2 : tie.Need-returns-2 Inv-loop μ-loop
 returns-2 c = let a = c .before .before .before .before .before .before .args in
     let l = c .before .loop in

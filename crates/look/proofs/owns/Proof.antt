@@ -9,36 +9,25 @@ use mathlib.Core.Path.{_≡_, refl, sym, ap, _∙_}
 use borrow.Author.Needs.{needs}
 use Rattle.look.proofs.owns.Statement.{statement}
 use Rattle.look.proofs.owns.Tie as tie
-use Rattle.look.proofs.owns.Reads as reads
-use Rattle.look.proofs.owns.Lts as lts
-use Rattle.memory.proofs.flags_at.Reads as flags-at-reads
-use Rattle.memory.proofs.owner_at.Reads as owner-at-reads
 
--- src/lib.rt:225:9
 flags-at-requires : tie.Need-flags-at-requires
 flags-at-requires c κs = search needs
 
--- src/lib.rt:228:9
 returns : tie.Need-returns
 returns c = sym (pass-gone (flatOf (c .before .before .before .args .m .now)) [] (c .before .before .before .args .i) (isOwn (c .before .before .before .args .transaction)) (ap (λ (z : ℕ). z / 4 % 4) (sym (c .before .flags-at .ensures)) ∙ c .if1 .taken))
 
--- src/lib.rt:231:9
 returns-2 : tie.Need-returns-2
 returns-2 c = sym (owns-settled (flatOf (c .before .before .before .before .args .m .now)) [] (c .before .before .before .before .args .i) (c .before .before .before .before .args .transaction) (ap (λ (z : ℕ). z % 2) (sym (c .before .before .flags-at .ensures)) ∙ c .if2 .taken))
 
--- src/lib.rt:234:9
 returns-3 : tie.Need-returns-3
 returns-3 c = sym (owns-committing (flatOf (c .before .before .before .before .before .args .m .now)) [] (c .before .before .before .before .before .args .i) (c .before .before .before .before .before .args .transaction) (ap (λ (z : ℕ). z / 4 % 4) (sym (c .before .before .before .flags-at .ensures)) ∙ c .if3 .taken))
 
--- src/lib.rt:236:14
 owner-at-requires : tie.Need-owner-at-requires
 owner-at-requires c κs = search needs
 
--- src/lib.rt:236:13
 cast-t : tie.Need-cast-t
 cast-t c = search needs
 
--- src/lib.rt:221:1
 returns-4 : tie.Need-returns-4
 returns-4 c = let f : Flat = flatOf (c .before .before .before .before .before .before .args .m .now) in
     let ef = c .before .before .before .before .flags-at .ensures in

@@ -5,35 +5,25 @@ use mathlib.Core.Path.{_≡_, refl, sym, ap, _∙_}
 use borrow.Author.Needs.{needs}
 use Rattle.look.proofs.pick.Statement.{statement}
 use Rattle.look.proofs.pick.Tie as tie
-use Rattle.look.proofs.pick.Reads as reads
-use Rattle.look.proofs.pick.Lts as lts
-use Rattle.memory.proofs.flags_at.Reads as flags-at-reads
 
--- src/lib.rt:161:13
 returns : tie.Need-returns
 returns c = pick-none (flatOf (c .before .before .before .args .m .now)) (c .before .before .before .args .l) (c .before .if1 .taken) (c .if2 .taken)
 
--- src/lib.rt:163:25
 sub-t9 : tie.Need-sub-t9
 sub-t9 c = search needs
 
--- src/lib.rt:163:9
 returns-2 : tie.Need-returns-2
 returns-2 c = pick-held (flatOf (c .before .before .before .args .m .now)) (c .before .before .before .args .l) (c .before .if1 .taken) (c .if2 .left)
 
--- src/lib.rt:165:13
 sub-i : tie.Need-sub-i
 sub-i c = search needs
 
--- src/lib.rt:166:9
 flags-at-requires : tie.Need-flags-at-requires
 flags-at-requires c κs = search needs
 
--- src/lib.rt:168:9
 returns-3 : tie.Need-returns-3
 returns-3 c = pick-marked (flatOf (c .before .before .before .before .args .m .now)) (c .before .before .before .before .args .l) _ _ refl (c .before .before .if1 .left) (c .before .flags-at .ensures) (c .if3 .taken)
 
--- src/lib.rt:153:1
 returns-4 : tie.Need-returns-4
 returns-4 c = pick-own (flatOf (c .before .before .before .before .args .m .now)) (c .before .before .before .before .args .l) _ _ refl (c .before .before .if1 .left) (c .before .flags-at .ensures) (c .if3 .left)
 

@@ -22,11 +22,6 @@ use mathlib.Core.Logic.{⊎-elim}
 use mathlib.Core.Path.{_≡_, refl, sym, ap, _∙_}
 use Rattle.look.proofs.plan_abort.Statement.{statement}
 use Rattle.look.proofs.plan_abort.Tie as tie
-use Rattle.look.proofs.plan_abort.Reads as reads
-use Rattle.look.proofs.plan_abort.Lts as lts
-use Rattle.look.proofs.owns.Reads as owns-reads
-use Rattle.memory.proofs.get_counts.Reads as get-counts-reads
-use Rattle.memory.proofs.number_at.Reads as number-at-reads
 
 abbrev Inv-loop : tie.InvT-loop
 Inv-loop m transaction ops₀ n k₀ i₀ ops k i = (n ≡ length (flatOf m .rows)) × ((i ≤ n) × Pushed ops₀ ops 0 k (removeAll (keep (isOwn transaction) (restRows (flatOf m) (tablesOf (flatOf m .entries)) 0))) (removeAll (keep (isOwn transaction) (restRows (flatOf m) (tablesOf (flatOf m .entries)) i))))
@@ -34,51 +29,44 @@ Inv-loop m transaction ops₀ n k₀ i₀ ops k i = (n ≡ length (flatOf m .row
 abbrev μ-loop : tie.MeasureT-loop
 μ-loop m transaction ops₀ n k₀ i₀ ops k i = n - i
 
--- src/lib.rt:366:9
 get-counts-requires : tie.Need-get-counts-requires Inv-loop μ-loop
 get-counts-requires c κs = let r : Room (c .before .before .args .m .now) = held-room _ (c .before .before .pre .0) in
     omega (arith, r .range .long)
 
--- src/lib.rt:367:13
 cast-n : tie.Need-cast-n Inv-loop μ-loop
 cast-n c = search needs
 
--- src/lib.rt:370:5
 loop-holds : tie.Need-loop-holds Inv-loop μ-loop
 loop-holds c = (ap (λ (x : Counts). x .rows) (c .before .get-counts .ensures), (omega arith, push-start _ _ _))
 
--- src/lib.rt:371:12
 owns-requires : tie.Need-owns-requires Inv-loop μ-loop
 owns-requires c κs = (held-room _ (c .before .before .before .before .before .before .pre .0), omega (arith, c .loop-test .taken, c .before .loop .inv .0))
 
--- src/lib.rt:372:27
 number-at-requires : tie.Need-number-at-requires Inv-loop μ-loop
 number-at-requires c κs = (held-room _ (c .before .before .before .before .before .before .before .before .pre .0), omega (arith, c .before .before .loop-test .taken, c .before .before .before .loop .inv .0))
 
--- src/lib.rt:372:27
 cast-ops : tie.Need-cast-ops Inv-loop μ-loop
 cast-ops c = search needs
 
--- src/lib.rt:372:22
 mul-ops : tie.Need-mul-ops Inv-loop μ-loop
 mul-ops c = search needs
 
--- src/lib.rt:372:13
 mul-ops-2 : tie.Need-mul-ops-2 Inv-loop μ-loop
-mul-ops-2 c = record { fits = (let a = c .before .before .before .before .before .before .before .before .before .args in
-    let m : List ℕ = a .m .now in
-    let f : Flat = flatOf m in
-    let ts : List ℕ = tablesOf (f .entries) in
-    let r : Room m = held-room m (c .before .before .before .before .before .before .before .before .before .pre .0) in
-    let l = c .before .before .before .before .loop in
-    let h1 : l .i < length (f .rows) = omega (arith, c .before .before .before .loop-test .taken, l .inv .0) in
-    let h2 : l .i < length ts = omega (arith, h1, tables-long f (held-filled m (c .before .before .before .before .before .before .before .before .before .pre .0))) in
-    let b : 0 + length (keep (isOwn (a .transaction)) (restRows f ts 0)) ≤ length (a .ops .now) = omega (arith, own-few (a .transaction) f ts, r .range .rows, r .range .most, c .before .before .before .before .before .before .before .before .before .pre .1) in
-    let e : passes (isOwn (a .transaction)) f ts (l .i) ≡ c .before .before .owns .result = owns-any f [] (l .i) (a .transaction) ts ∙ sym (c .before .before .owns .ensures) in
-    let q : l .k < length (l .ops) = removal-room f ts (l .i) h1 h2 (isOwn (a .transaction)) (a .ops .now) (l .ops) 0 (l .k) (e ∙ c .before .if1 .taken) b (l .inv .1 .1) in
-    omega (arith, q, l .inv .1 .1 .size, c .before .before .before .before .before .before .before .before .before .pre .1)) }
+mul-ops-2 c = record {
+  fits = (let a = c .before .before .before .before .before .before .before .before .before .args in
+      let m : List ℕ = a .m .now in
+      let f : Flat = flatOf m in
+      let ts : List ℕ = tablesOf (f .entries) in
+      let r : Room m = held-room m (c .before .before .before .before .before .before .before .before .before .pre .0) in
+      let l = c .before .before .before .before .loop in
+      let h1 : l .i < length (f .rows) = omega (arith, c .before .before .before .loop-test .taken, l .inv .0) in
+      let h2 : l .i < length ts = omega (arith, h1, tables-long f (held-filled m (c .before .before .before .before .before .before .before .before .before .pre .0))) in
+      let b : 0 + length (keep (isOwn (a .transaction)) (restRows f ts 0)) ≤ length (a .ops .now) = omega (arith, own-few (a .transaction) f ts, r .range .rows, r .range .most, c .before .before .before .before .before .before .before .before .before .pre .1) in
+      let e : passes (isOwn (a .transaction)) f ts (l .i) ≡ c .before .before .owns .result = owns-any f [] (l .i) (a .transaction) ts ∙ sym (c .before .before .owns .ensures) in
+      let q : l .k < length (l .ops) = removal-room f ts (l .i) h1 h2 (isOwn (a .transaction)) (a .ops .now) (l .ops) 0 (l .k) (e ∙ c .before .if1 .taken) b (l .inv .1 .1) in
+      omega (arith, q, l .inv .1 .1 .size, c .before .before .before .before .before .before .before .before .before .pre .1));
+}
 
--- src/lib.rt:372:13
 slice-write-ops : tie.Need-slice-write-ops Inv-loop μ-loop
 slice-write-ops c = let a = c .before .before .before .before .before .before .before .before .before .args in
     let m : List ℕ = a .m .now in
@@ -93,7 +81,6 @@ slice-write-ops c = let a = c .before .before .before .before .before .before .b
     let q : l .k < length (l .ops) = removal-room f ts (l .i) h1 h2 (isOwn (a .transaction)) (a .ops .now) (l .ops) 0 (l .k) (e ∙ c .before .if1 .taken) b (l .inv .1 .1) in
     omega (arith, q)
 
--- src/lib.rt:373:13
 add-k : tie.Need-add-k Inv-loop μ-loop
 add-k c = let a = c .before .before .before .before .before .before .before .before .before .args in
     let m : List ℕ = a .m .now in
@@ -108,17 +95,14 @@ add-k c = let a = c .before .before .before .before .before .before .before .bef
     let q : l .k < length (l .ops) = removal-room f ts (l .i) h1 h2 (isOwn (a .transaction)) (a .ops .now) (l .ops) 0 (l .k) (e ∙ c .before .if1 .taken) b (l .inv .1 .1) in
     omega (arith, q, l .inv .1 .1 .size, c .before .before .before .before .before .before .before .before .before .pre .1)
 
--- src/lib.rt:375:9
 add-i : tie.Need-add-i Inv-loop μ-loop
 add-i c = let m : List ℕ = c .before .before .before .before .before .before .before .before .args .m .now in
     let r : Room m = held-room m (c .before .before .before .before .before .before .before .before .pre .0) in
     omega (arith, c .before .before .loop-test .taken, c .before .before .before .loop .inv .0, r .range .rows, r .range .most)
 
--- src/lib.rt:370:5
 loop-less : tie.Need-loop-less Inv-loop μ-loop
 loop-less c = omega (arith, c .before .before .loop-test .taken)
 
--- src/lib.rt:370:5
 loop-again : tie.Need-loop-again Inv-loop μ-loop
 loop-again c = let a = c .before .before .before .before .before .before .before .before .args in
     let m : List ℕ = a .m .now in
@@ -129,17 +113,20 @@ loop-again c = let a = c .before .before .before .before .before .before .before
     let h1 : l .i < length (f .rows) = omega (arith, c .before .before .loop-test .taken, l .inv .0) in
     let h2 : l .i < length ts = omega (arith, h1, tables-long f (held-filled m (c .before .before .before .before .before .before .before .before .pre .0))) in
     let b : 0 + length (keep (isOwn (a .transaction)) (restRows f ts 0)) ≤ length (a .ops .now) = omega (arith, own-few (a .transaction) f ts, r .range .rows, r .range .most, c .before .before .before .before .before .before .before .before .pre .1) in
-    let e : passes (isOwn (a .transaction)) f ts (l .i) ≡ c .before .owns .result = owns-any f [] (l .i) (a .transaction) ts ∙ sym (c .before .owns .ensures) in
-    (l .inv .0, (omega (arith, c .before .before .loop-test .taken), ⊎-elim
-    (λ w. pushed-by (a .ops .now) _ _ 0 _ _ _ _ (w .2) (w .3) (next-removal f ts (l .i) h1 h2 (isOwn (a .transaction)) (a .ops .now) (l .ops) 0 (l .k) (e ∙ w .0 .taken) b (l .inv .1 .1) _ (w .1 .ensures)))
-    (λ w. pushed-by (a .ops .now) _ _ 0 _ _ _ _ (w .1) (w .2) (no-removal f ts (l .i) h1 h2 (isOwn (a .transaction)) (a .ops .now) (l .ops) 0 (l .k) (e ∙ w .0 .left) (l .inv .1 .1)))
-    (c .if1 .came)))
+    let e : passes (isOwn (a .transaction)) f ts (l .i) ≡ c .before .owns .result = owns-any f [] (l .i) (a .transaction) ts ∙ sym (c .before .owns .ensures) in (
+      l .inv .0,
+      (
+        omega (arith, c .before .before .loop-test .taken),
+        ⊎-elim
+            (λ w. pushed-by (a .ops .now) _ _ 0 _ _ _ _ (w .2) (w .3) (next-removal f ts (l .i) h1 h2 (isOwn (a .transaction)) (a .ops .now) (l .ops) 0 (l .k) (e ∙ w .0 .taken) b (l .inv .1 .1) _ (w .1 .ensures)))
+            (λ w. pushed-by (a .ops .now) _ _ 0 _ _ _ _ (w .1) (w .2) (no-removal f ts (l .i) h1 h2 (isOwn (a .transaction)) (a .ops .now) (l .ops) 0 (l .k) (e ∙ w .0 .left) (l .inv .1 .1)))
+            (c .if1 .came),
+      ),
+    )
 
--- src/lib.rt:362:1
 same-length : tie.Need-same-length Inv-loop μ-loop
 same-length c = c .before .loop .inv .1 .1 .size
 
--- src/lib.rt:362:1
 returns : tie.Need-returns Inv-loop μ-loop
 returns c = let a = c .before .before .before .before .before .before .args in
     let m : List ℕ = a .m .now in

@@ -11,36 +11,26 @@ use mathlib.Core.Path.{_≡_, refl, sym, ap, _∙_}
 use borrow.Author.Needs.{needs}
 use Rattle.look.proofs.plan_commit.Statement.{statement}
 use Rattle.look.proofs.plan_commit.Tie as tie
-use Rattle.look.proofs.plan_commit.Reads as reads
-use Rattle.look.proofs.plan_commit.Lts as lts
-use Rattle.look.proofs.fill_tables.Reads as fill-tables-reads
-use Rattle.look.proofs.plan_rows.Reads as plan-rows-reads
 
--- src/lib.rt:357:20
 slice-aggregate-fill-tables : tie.Need-slice-aggregate-fill-tables
 slice-aggregate-fill-tables c = search needs
 
--- src/lib.rt:357:5
 fill-tables-requires : tie.Need-fill-tables-requires
 fill-tables-requires c κs = let m : List ℕ = c .before .before .before .args .m .now in
     let r : Room m = held-room m (c .before .before .before .pre .0) in
     (c .before .before .before .pre .0, omega (arith, r .range .rows, r .range .most))
 
--- src/lib.rt:358:18
 slice-aggregate-plan-rows : tie.Need-slice-aggregate-plan-rows
 slice-aggregate-plan-rows c = search needs
 
--- src/lib.rt:358:5
 plan-rows-requires : tie.Need-plan-rows-requires
 plan-rows-requires c κs = let m : List ℕ = c .before .before .before .before .before .before .before .args .m .now in
     let r : Room m = held-room m (c .before .before .before .before .before .before .before .pre .0) in
     (r, (omega (arith, r .range .rows, r .range .most, c .before .before .before .fill-tables .ensures .0), c .before .before .before .before .before .before .before .pre .1))
 
--- src/lib.rt:352:1
 same-length : tie.Need-same-length
 same-length c = search needs
 
--- src/lib.rt:352:1
 returns : tie.Need-returns
 unfolding plan
 returns c = let m : List ℕ = c .before .before .before .before .before .before .before .before .before .before .args .m .now in

@@ -17,52 +17,35 @@ use mathlib.Core.Path.{_≡_, refl, sym, ap, _∙_}
 use borrow.Author.Needs.{needs}
 use Rattle.look.proofs.plan_row.Statement.{statement}
 use Rattle.look.proofs.plan_row.Tie as tie
-use Rattle.look.proofs.plan_row.Reads as reads
-use Rattle.look.proofs.plan_row.Lts as lts
-use Rattle.look.proofs.own_later.Reads as own-later-reads
-use Rattle.look.proofs.owns.Reads as owns-reads
-use Rattle.look.proofs.remove_all.Reads as remove-all-reads
-use Rattle.memory.proofs.flags_at.Reads as flags-at-reads
-use Rattle.memory.proofs.key_at.Reads as key-at-reads
-use Rattle.memory.proofs.number_at.Reads as number-at-reads
 
--- src/lib.rt:318:9
 owns-requires : tie.Need-owns-requires
 owns-requires c κs = search needs
 
--- src/lib.rt:319:9
 returns : tie.Need-returns
 returns c = let a = c .before .before .before .before .before .args in
     let f : Flat = flatOf (a .m .now) in
     append-none (a .ops .now) (a .at) _ (ops-none (a .transaction) f (a .ts .now) (a .i) (owns-any f [] (a .i) (a .transaction) (a .ts .now) ∙ sym (c .before .owns .ensures) ∙ not-true _ (c .if1 .taken)))
 
--- src/lib.rt:321:13
 shared-slice-read-t : tie.Need-shared-slice-read-t
 shared-slice-read-t c = search needs
 
--- src/lib.rt:322:9
 key-at-requires : tie.Need-key-at-requires
 key-at-requires c κs = search needs
 
--- src/lib.rt:323:8
 own-later-requires : tie.Need-own-later-requires
 own-later-requires c κs = search needs
 
--- src/lib.rt:324:9
 returns-2 : tie.Need-returns-2
 returns-2 c = let a = c .before .before .before .before .before .before .before .before .before .args in
     let f : Flat = flatOf (a .m .now) in
     append-none (a .ops .now) (a .at) _ (ops-later (a .transaction) f (a .ts .now) (a .i) _ _ refl (c .before .before .key-at .ensures) (sym (c .before .own-later .ensures) ∙ c .if2 .taken))
 
--- src/lib.rt:326:9
 number-at-requires : tie.Need-number-at-requires
 number-at-requires c κs = search needs
 
--- src/lib.rt:327:9
 flags-at-requires : tie.Need-flags-at-requires
 flags-at-requires c κs = search needs
 
--- src/lib.rt:329:9
 remove-all-requires : tie.Need-remove-all-requires
 remove-all-requires c κs = let a = c .before .before .before .before .before .before .before .before .before .before .before .before .before .args in
     let f : Flat = flatOf (a .m .now) in
@@ -70,11 +53,9 @@ remove-all-requires c κs = let a = c .before .before .before .before .before .b
     let q = ops-marked (a .transaction) f (a .ts .now) (a .i) _ _ refl (c .before .before .before .before .before .before .key-at .ensures) o (sym (c .before .before .before .before .before .own-later .ensures) ∙ c .before .before .before .before .if2 .left) _ (c .before .before .before .number-at .ensures) (ap (λ (z : ℕ). z / 2 % 2) (sym (c .before .before .flags-at .ensures)) ∙ c .before .if3 .taken) in
     (c .before .before .before .before .before .before .before .before .before .before .before .before .before .pre .0, (c .before .before .before .before .before .before .before .before .before .before .before .before .before .pre .1 .1 .0, (omega (arith, ap length q, removals (keep (chosen (getD (a .ts .now) (a .i) 0) (c .before .before .before .before .before .before .key-at .result) false (c .before .before .before .number-at .result)) (restRows f (a .ts .now) 0)), c .before .before .before .before .before .before .before .before .before .before .before .before .before .pre .1 .1 .1 .0), c .before .before .before .before .before .before .before .before .before .before .before .before .before .pre .1 .1 .1 .1)))
 
--- src/lib.rt:329:9
 same-length : tie.Need-same-length
 same-length c = search needs
 
--- src/lib.rt:329:9
 returns-3 : tie.Need-returns-3
 returns-3 c = let a = c .before .before .before .before .before .before .before .before .before .before .before .before .before .before .before .before .args in
     let f : Flat = flatOf (a .m .now) in
@@ -82,23 +63,18 @@ returns-3 c = let a = c .before .before .before .before .before .before .before 
     let q = ops-marked (a .transaction) f (a .ts .now) (a .i) _ _ refl (c .before .before .before .before .before .before .before .before .before .key-at .ensures) o (sym (c .before .before .before .before .before .before .before .before .own-later .ensures) ∙ c .before .before .before .before .before .before .before .if2 .left) _ (c .before .before .before .before .before .before .number-at .ensures) (ap (λ (z : ℕ). z / 2 % 2) (sym (c .before .before .before .before .before .flags-at .ensures)) ∙ c .before .before .before .before .if3 .taken) in
     append-as _ _ _ _ _ _ q (c .before .before .remove-all .ensures)
 
--- src/lib.rt:331:20
 cast-ops : tie.Need-cast-ops
 cast-ops c = search needs
 
--- src/lib.rt:331:15
 mul-ops : tie.Need-mul-ops
 mul-ops c = search needs
 
--- src/lib.rt:331:15
 add-ops : tie.Need-add-ops
 add-ops c = search needs
 
--- src/lib.rt:331:5
 mul-ops-2 : tie.Need-mul-ops-2
 mul-ops-2 c = search needs
 
--- src/lib.rt:331:5
 slice-write-ops : tie.Need-slice-write-ops
 slice-write-ops c = let a = c .before .before .before .before .before .before .before .before .before .before .before .before .args in
     let f : Flat = flatOf (a .m .now) in
@@ -106,11 +82,9 @@ slice-write-ops c = let a = c .before .before .before .before .before .before .b
     let q = ops-kept (a .transaction) f (a .ts .now) (a .i) _ _ refl (c .before .before .before .before .before .key-at .ensures) o (sym (c .before .before .before .before .own-later .ensures) ∙ c .before .before .before .if2 .left) _ (c .before .before .number-at .ensures) (λ e. c .if3 .left (ap (λ (z : ℕ). z / 2 % 2) (c .before .flags-at .ensures) ∙ e)) in
     omega (arith, ap length q, c .before .before .before .before .before .before .before .before .before .before .before .before .pre .1 .1 .1 .0, c .before .before .before .before .before .before .before .before .before .before .before .before .pre .1 .1 .1 .1)
 
--- src/lib.rt:332:43
 add-remove-all : tie.Need-add-remove-all
 add-remove-all c = omega (arith, c .before .before .before .before .before .before .before .before .before .before .before .before .before .pre .1 .1 .1 .0)
 
--- src/lib.rt:332:5
 remove-all-requires-2 : tie.Need-remove-all-requires-2
 remove-all-requires-2 c κs = let a = c .before .before .before .before .before .before .before .before .before .before .before .before .before .args in
     let f : Flat = flatOf (a .m .now) in
@@ -118,11 +92,9 @@ remove-all-requires-2 c κs = let a = c .before .before .before .before .before 
     let q = ops-kept (a .transaction) f (a .ts .now) (a .i) _ _ refl (c .before .before .before .before .before .before .key-at .ensures) o (sym (c .before .before .before .before .before .own-later .ensures) ∙ c .before .before .before .before .if2 .left) _ (c .before .before .before .number-at .ensures) (λ e. c .before .if3 .left (ap (λ (z : ℕ). z / 2 % 2) (c .before .before .flags-at .ensures) ∙ e)) in
     (c .before .before .before .before .before .before .before .before .before .before .before .before .before .pre .0, (c .before .before .before .before .before .before .before .before .before .before .before .before .before .pre .1 .1 .0, (omega (arith, ap length q, removals (keep (chosen (getD (a .ts .now) (a .i) 0) (c .before .before .before .before .before .before .key-at .result) true (c .before .before .before .number-at .result)) (restRows f (a .ts .now) 0)), c .before .before .before .before .before .before .before .before .before .before .before .before .before .pre .1 .1 .1 .0), simp length-set (c .before .before .before .before .before .before .before .before .before .before .before .before .before .pre .1 .1 .1 .1))))
 
--- src/lib.rt:314:1
 same-length-2 : tie.Need-same-length-2
 same-length-2 c = c .before .before .remove-all2 .ensures .size ∙ simp length-set
 
--- src/lib.rt:314:1
 returns-4 : tie.Need-returns-4
 returns-4 c = let a = c .before .before .before .before .before .before .before .before .before .before .before .before .before .before .before .before .args in
     let f : Flat = flatOf (a .m .now) in

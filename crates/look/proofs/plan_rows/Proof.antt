@@ -13,10 +13,6 @@ use Prim.Native.Nat.{ℕ, _+_, _*_, _-_, _%_, _/_, _<_, _≤_}
 use mathlib.Core.Path.{_≡_, refl, sym, ap, _∙_}
 use Rattle.look.proofs.plan_rows.Statement.{statement}
 use Rattle.look.proofs.plan_rows.Tie as tie
-use Rattle.look.proofs.plan_rows.Reads as reads
-use Rattle.look.proofs.plan_rows.Lts as lts
-use Rattle.look.proofs.plan_row.Reads as plan-row-reads
-use Rattle.memory.proofs.get_counts.Reads as get-counts-reads
 
 abbrev Inv-loop : tie.InvT-loop
 Inv-loop m ts transaction ops₀ n k₀ i₀ ops k i = (n ≡ length (flatOf m .rows)) × ((i ≤ n) × Pushed ops₀ ops 0 k (planRows transaction (restRows (flatOf m) ts 0) (restRows (flatOf m) ts 0)) (planRows transaction (restRows (flatOf m) ts 0) (restRows (flatOf m) ts i)))
@@ -24,19 +20,15 @@ Inv-loop m ts transaction ops₀ n k₀ i₀ ops k i = (n ≡ length (flatOf m .
 abbrev μ-loop : tie.MeasureT-loop
 μ-loop m ts transaction ops₀ n k₀ i₀ ops k i = n - i
 
--- src/lib.rt:340:9
 get-counts-requires : tie.Need-get-counts-requires Inv-loop μ-loop
 get-counts-requires c κs = omega (arith, c .before .before .before .pre .0 .range .long)
 
--- src/lib.rt:341:13
 cast-n : tie.Need-cast-n Inv-loop μ-loop
 cast-n c = search needs
 
--- src/lib.rt:344:5
 loop-holds : tie.Need-loop-holds Inv-loop μ-loop
 loop-holds c = (ap (λ (x : Counts). x .rows) (c .before .get-counts .ensures), (omega arith, push-start _ _ _))
 
--- src/lib.rt:345:9
 plan-row-requires : tie.Need-plan-row-requires Inv-loop μ-loop
 plan-row-requires c κs = let a = c .before .before .before .before .before .before .before .before .args in
     let f : Flat = flatOf (a .m .now) in
@@ -48,15 +40,12 @@ plan-row-requires c κs = let a = c .before .before .before .before .before .bef
     let p = l .inv .1 .1 in
     (c .before .before .before .before .before .before .before .before .pre .0, (h1, (c .before .before .before .before .before .before .before .before .pre .1 .0, (omega (arith, q, p .count, length-append (rowOps (a .transaction) f (a .ts .now) (l .i)) (planRows (a .transaction) all (restRows f (a .ts .now) (l .i + 1))), rows-few (a .transaction) f (a .ts .now), c .before .before .before .before .before .before .before .before .pre .0 .range .rows, c .before .before .before .before .before .before .before .before .pre .0 .range .most), p .size ∙ c .before .before .before .before .before .before .before .before .pre .1 .1))))
 
--- src/lib.rt:346:9
 add-i : tie.Need-add-i Inv-loop μ-loop
 add-i c = omega (arith, c .before .before .before .before .loop-test .taken, c .before .before .before .before .before .loop .inv .0, c .before .before .before .before .before .before .before .before .before .before .before .pre .0 .range .rows, c .before .before .before .before .before .before .before .before .before .before .before .pre .0 .range .most)
 
--- src/lib.rt:344:5
 loop-less : tie.Need-loop-less Inv-loop μ-loop
 loop-less c = omega (arith, c .before .before .before .before .loop-test .taken)
 
--- src/lib.rt:344:5
 loop-again : tie.Need-loop-again Inv-loop μ-loop
 loop-again c = let a = c .before .before .before .before .before .before .before .before .before .before .before .args in
     let f : Flat = flatOf (a .m .now) in
@@ -67,11 +56,9 @@ loop-again c = let a = c .before .before .before .before .before .before .before
     let q = plan-turn (a .transaction) f (a .ts .now) (l .i) h1 h2 all refl in
     (l .inv .0, (omega (arith, c .before .before .before .before .loop-test .taken), push-more (a .ops .now) (l .ops) 0 (l .k) _ _ _ _ _ (push-as (a .ops .now) (l .ops) 0 (l .k) _ _ _ q (l .inv .1 .1)) (c .before .before .plan-row .ensures)))
 
--- src/lib.rt:336:1
 same-length : tie.Need-same-length Inv-loop μ-loop
 same-length c = c .before .loop .inv .1 .1 .size
 
--- src/lib.rt:336:1
 returns : tie.Need-returns Inv-loop μ-loop
 returns c = let a = c .before .before .before .before .before .before .before .args in
     let f : Flat = flatOf (a .m .now) in

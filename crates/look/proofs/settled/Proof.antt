@@ -2,18 +2,13 @@ use Rattle.look.proofs.Flags.{settle-first, settle-again}
 use borrow.Author.Needs.{needs}
 use Rattle.look.proofs.settled.Statement.{statement}
 use Rattle.look.proofs.settled.Tie as tie
-use Rattle.look.proofs.settled.Reads as reads
-use Rattle.look.proofs.settled.Lts as lts
 
--- src/lib.rt:64:19
 add-t4 : tie.Need-add-t4
 add-t4 c = search needs
 
--- src/lib.rt:60:9
 returns : tie.Need-returns
 returns c = settle-first (c .before .before .args .i) (c .before .before .args .l) (c .if1 .taken)
 
--- src/lib.rt:55:1
 returns-2 : tie.Need-returns-2
 returns-2 c = settle-again (c .before .before .args .i) (c .before .before .args .l) (c .if1 .left)
 

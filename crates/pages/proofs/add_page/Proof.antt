@@ -22,12 +22,7 @@ use native.Mathlib.Omega.{arith}
 use borrow.Author.Needs.{needs}
 use Rattle.pages.proofs.add_page.Statement.{statement}
 use Rattle.pages.proofs.add_page.Tie as tie
-use Rattle.pages.proofs.add_page.Reads as reads
-use Rattle.pages.proofs.add_page.Lts as lts
-use Rattle.memory.proofs.insert_entry.Reads as insert-entry-reads
-use Rattle.memory.proofs.insert_row.Reads as insert-row-reads
 
--- src/lib.rt:249:5
 insert-row-requires : tie.Need-insert-row-requires
 insert-row-requires c κs =
     let st = (c .before .before) in
@@ -37,7 +32,6 @@ insert-row-requires c κs =
     let room = held-room m (g .held) in
     (room, (omega (arith, g .begins, start-le (flatOf m) (held-filled m (g .held)) p), g .free))
 
--- src/lib.rt:250:5
 insert-entry-requires : tie.Need-insert-entry-requires
 insert-entry-requires c κs =
     let st = (c .before .before .before .before .before .before) in
@@ -50,11 +44,9 @@ insert-entry-requires c κs =
     let eh : flatOf ((c .before .before .before .insert-row .last .0)) .head .capacity ≡ flatOf m .head .capacity = ap (λ (x : Flat). x .head .capacity) (b .flat) in
     (b .room, (omega (arith, g .inside), omega (arith, g .free, pages-few (flatOf m) (held-filled m (g .held)))))
 
--- src/lib.rt:245:1
 same-length : tie.Need-same-length
 same-length c = search needs
 
--- src/lib.rt:245:1
 returns : tie.Need-returns
 returns c =
     let st = (c .before .before .before .before .before .before .before .before .before) in

@@ -23,13 +23,7 @@ use native.Mathlib.Omega.{arith}
 use borrow.Author.Needs.{needs}
 use Rattle.pages.proofs.cut_page.Statement.{statement}
 use Rattle.pages.proofs.cut_page.Tie as tie
-use Rattle.pages.proofs.cut_page.Reads as reads
-use Rattle.pages.proofs.cut_page.Lts as lts
-use Rattle.memory.proofs.get_entry.Reads as get-entry-reads
-use Rattle.memory.proofs.insert_entry.Reads as insert-entry-reads
-use Rattle.memory.proofs.put_entry.Reads as put-entry-reads
 
--- src/lib.rt:193:9
 get-entry-requires : tie.Need-get-entry-requires
 get-entry-requires c κs =
     let st = (c .before .before) in
@@ -42,7 +36,6 @@ get-entry-requires c κs =
     let i = a .inside in
     (held-room m (a .held), a .inside)
 
--- src/lib.rt:194:5
 put-entry-requires : tie.Need-put-entry-requires
 put-entry-requires c κs =
     let st = (c .before .before .before .before) in
@@ -55,7 +48,6 @@ put-entry-requires c κs =
     let i = a .inside in
     (held-room m (a .held), a .inside)
 
--- src/lib.rt:195:29
 add-insert-entry : tie.Need-add-insert-entry
 add-insert-entry c =
     let st = (c .before .before .before .before .before .before .before .before) in
@@ -68,7 +60,6 @@ add-insert-entry c =
     let i = a .inside in
     omega arith
 
--- src/lib.rt:195:78
 sub-t14 : tie.Need-sub-t14
 sub-t14 c =
     let st = (c .before .before .before .before .before .before .before .before .before) in
@@ -84,7 +75,6 @@ sub-t14 c =
     let ec : (c .before .before .before .before .before .before .get-entry .result .count) ≡ E .count = ap (λ (x : Entry). x .count) ee in
     omega (arith, g .most)
 
--- src/lib.rt:195:5
 insert-entry-requires : tie.Need-insert-entry-requires
 insert-entry-requires c κs =
     let st = (c .before .before .before .before .before .before .before .before .before) in
@@ -103,11 +93,9 @@ insert-entry-requires c κs =
     let eh : flatOf ((c .before .before .before .before .put-entry .last .0)) .head .capacity ≡ flatOf m .head .capacity = ap (λ (x : Flat). x .head .capacity) (b .flat) in
     (b .room, (omega arith, omega (arith, few a (omega (arith, g .least, g .most)))))
 
--- src/lib.rt:189:1
 same-length : tie.Need-same-length
 same-length c = search needs
 
--- src/lib.rt:189:1
 returns : tie.Need-returns
 unfolding pageOf fresh
 returns c =

@@ -16,12 +16,7 @@ use native.Mathlib.Omega.{arith}
 use borrow.Author.Needs.{needs}
 use Rattle.pages.proofs.drop_page.Statement.{statement}
 use Rattle.pages.proofs.drop_page.Tie as tie
-use Rattle.pages.proofs.drop_page.Reads as reads
-use Rattle.pages.proofs.drop_page.Lts as lts
-use Rattle.memory.proofs.remove_entry.Reads as remove-entry-reads
-use Rattle.memory.proofs.remove_row.Reads as remove-row-reads
 
--- src/lib.rt:184:5
 remove-row-requires : tie.Need-remove-row-requires
 remove-row-requires c κs =
     let st = (c .before .before) in
@@ -29,7 +24,6 @@ remove-row-requires c κs =
     let a = st .pre .0 in
     (held-room m (a .held), omega (arith, page-end a, st .pre .1))
 
--- src/lib.rt:185:5
 remove-entry-requires : tie.Need-remove-entry-requires
 remove-entry-requires c κs =
     let st = (c .before .before .before .before .before .before) in
@@ -38,11 +32,9 @@ remove-entry-requires c κs =
     let b = (c .before .before .before .remove-row .ensures) in
     (b .room, still-there (st .args .p) b (a .inside))
 
--- src/lib.rt:180:1
 same-length : tie.Need-same-length
 same-length c = search needs
 
--- src/lib.rt:180:1
 returns : tie.Need-returns
 returns c =
     let st = (c .before .before .before .before .before .before .before .before .before) in

@@ -17,10 +17,6 @@ use borrow.Author.Needs.{needs}
 use native.Mathlib.Omega.{arith}
 use Rattle.pages.proofs.find_front.Statement.{statement}
 use Rattle.pages.proofs.find_front.Tie as tie
-use Rattle.pages.proofs.find_front.Reads as reads
-use Rattle.pages.proofs.find_front.Lts as lts
-use Rattle.memory.proofs.get_counts.Reads as get-counts-reads
-use Rattle.memory.proofs.get_entry.Reads as get-entry-reads
 
 abbrev Inv-loop : tie.InvT-loop
 Inv-loop m table n at₀ p₀ at p = FrontInv m table p at
@@ -28,19 +24,15 @@ Inv-loop m table n at₀ p₀ at p = FrontInv m table p at
 abbrev μ-loop : tie.MeasureT-loop
 μ-loop m table n at₀ p₀ at p = n - p
 
--- src/lib.rt:48:9
 get-counts-requires : tie.Need-get-counts-requires Inv-loop μ-loop
 get-counts-requires c κs = omega (arith, held-room _ ((c .before .pre)) .range .long)
 
--- src/lib.rt:49:13
 cast-n : tie.Need-cast-n Inv-loop μ-loop
 cast-n c = search needs
 
--- src/lib.rt:52:5
 loop-holds : tie.Need-loop-holds Inv-loop μ-loop
 loop-holds c = front-start (c .before .before .before .args .m .now) (c .before .before .before .args .table)
 
--- src/lib.rt:53:13
 get-entry-requires : tie.Need-get-entry-requires Inv-loop μ-loop
 get-entry-requires c κs =
     let st = (c .before .before .before .before .before) in
@@ -52,7 +44,6 @@ get-entry-requires c κs =
     let lt : l .p < length (flatOf m .entries) = omega (arith, (c .loop-test .taken)) in
     (room, lt)
 
--- src/lib.rt:56:13
 returns : tie.Need-returns Inv-loop μ-loop
 returns c =
     let st = (c .before .before .before .before .before .before .before .before) in
@@ -66,7 +57,6 @@ returns c =
     let en : (c .before .before .get-entry .result .count) ≡ entryIn (flatOf m) (l .p) .count = ap (λ (x : Entry). x .count) (c .before .before .get-entry .ensures) in
     front-new-spot m (st .pre) (st .args .table) (l .p) (l .at) lt (l .inv) (omega (arith, (c .if1 .taken)))
 
--- src/lib.rt:59:13
 returns-2 : tie.Need-returns-2 Inv-loop μ-loop
 returns-2 c =
     let st = (c .before .before .before .before .before .before .before .before .before) in
@@ -80,11 +70,9 @@ returns-2 c =
     let en : (c .before .before .before .get-entry .result .count) ≡ entryIn (flatOf m) (l .p) .count = ap (λ (x : Entry). x .count) (c .before .before .before .get-entry .ensures) in
     front-on-spot m (st .pre) (st .args .table) (l .p) (l .at) lt (l .inv) (omega (arith, (c .if2 .taken)))
 
--- src/lib.rt:61:15
 cast-at : tie.Need-cast-at Inv-loop μ-loop
 cast-at c = search needs
 
--- src/lib.rt:61:9
 add-at : tie.Need-add-at Inv-loop μ-loop
 add-at c =
     let st = (c .before .before .before .before .before .before .before .before .before .before) in
@@ -98,7 +86,6 @@ add-at c =
     let en : (c .before .before .before .before .get-entry .result .count) ≡ entryIn (flatOf m) (l .p) .count = ap (λ (x : Entry). x .count) (c .before .before .before .before .get-entry .ensures) in
     omega (arith, l .inv .1 .0, start-in (flatOf m) (held-filled m (st .pre)) (l .p) lt, k .rows, k .most)
 
--- src/lib.rt:62:9
 add-p : tie.Need-add-p Inv-loop μ-loop
 add-p c =
     let st = (c .before .before .before .before .before .before .before .before .before .before) in
@@ -110,7 +97,6 @@ add-p c =
     let lt : l .p < length (flatOf m .entries) = omega (arith, (c .before .before .before .before .before .loop-test .taken)) in
     omega (arith, k .pages, k .most)
 
--- src/lib.rt:52:5
 loop-less : tie.Need-loop-less Inv-loop μ-loop
 loop-less c =
     let st = (c .before .before .before .before .before .before .before .before .before .before) in
@@ -122,7 +108,6 @@ loop-less c =
     let lt : l .p < length (flatOf m .entries) = omega (arith, (c .before .before .before .before .before .loop-test .taken)) in
     omega (arith, (c .before .before .before .before .before .loop-test .taken))
 
--- src/lib.rt:52:5
 loop-again : tie.Need-loop-again Inv-loop μ-loop
 loop-again c =
     let st = (c .before .before .before .before .before .before .before .before .before .before) in
@@ -136,7 +121,6 @@ loop-again c =
     let en : (c .before .before .before .before .get-entry .result .count) ≡ entryIn (flatOf m) (l .p) .count = ap (λ (x : Entry). x .count) (c .before .before .before .before .get-entry .ensures) in
     front-next m (st .pre) (st .args .table) (l .p) (l .at) lt (l .inv) (c .before .before .before .before .get-entry .result .count) (⊎-elim (λ q. absurd ((c .before .if2 .left) q)) (λ q. omega arith) (eq-or-lt-of-le (c .before .before .if1 .left))) en
 
--- src/lib.rt:44:1
 returns-3 : tie.Need-returns-3 Inv-loop μ-loop
 returns-3 c =
     let st = (c .before .before .before .before .before) in

@@ -17,9 +17,6 @@ use borrow.Author.Needs.{needs}
 use native.Mathlib.Omega.{arith}
 use Rattle.pages.proofs.find_last.Statement.{statement}
 use Rattle.pages.proofs.find_last.Tie as tie
-use Rattle.pages.proofs.find_last.Reads as reads
-use Rattle.pages.proofs.find_last.Lts as lts
-use Rattle.memory.proofs.key_at.Reads as key-at-reads
 
 abbrev Inv-loop : tie.InvT-loop
 Inv-loop m start end key i₀ i = (start ≤ i) × ((i ≤ end) × (afterLast key (tab (heldIn (flatOf m)) i (end - i)) ≡ 0))
@@ -27,7 +24,6 @@ Inv-loop m start end key i₀ i = (start ≤ i) × ((i ≤ end) × (afterLast ke
 abbrev μ-loop : tie.MeasureT-loop
 μ-loop m start end key i₀ i = i
 
--- src/lib.rt:33:5
 loop-holds : tie.Need-loop-holds Inv-loop μ-loop
 unfolding afterLast
 loop-holds c =
@@ -35,15 +31,12 @@ loop-holds c =
     let z : st .args .end - st .args .end ≡ 0 = omega arith in
     (omega (arith, st .pre .1 .0), (omega arith, ap (λ (n : ℕ). afterLast (st .args .key) (tab (heldIn (flatOf (st .args .m .now))) (st .args .end) n)) z))
 
--- src/lib.rt:34:35
 sub-key-at : tie.Need-sub-key-at Inv-loop μ-loop
 sub-key-at c = omega arith
 
--- src/lib.rt:34:13
 key-at-requires : tie.Need-key-at-requires Inv-loop μ-loop
 key-at-requires c κs = ((c .before .before .before .pre .0), omega (arith, (c .before .before .before .pre .1 .1), (c .before .loop .inv .1 .0)))
 
--- src/lib.rt:36:13
 returns : tie.Need-returns Inv-loop μ-loop
 unfolding heldOf tupleOf tupleBy
 returns c =
@@ -53,15 +46,12 @@ returns c =
     let ek : (c .before .key-at .result) ≡ f (l .i - 1) .tuple .key = (c .before .key-at .ensures) in
     found f (st .args .key) (st .args .start) (st .args .end) (l .i) (c .before .before .loop-test .taken) (l .inv .1 .0) (l .inv .1 .1) (le-leb (f (l .i - 1) .tuple .key) (st .args .key) (omega (arith, (c .if1 .taken))))
 
--- src/lib.rt:38:9
 sub-i : tie.Need-sub-i Inv-loop μ-loop
 sub-i c = omega arith
 
--- src/lib.rt:33:5
 loop-less : tie.Need-loop-less Inv-loop μ-loop
 loop-less c = omega arith
 
--- src/lib.rt:33:5
 loop-again : tie.Need-loop-again Inv-loop μ-loop
 unfolding heldOf tupleOf tupleBy
 loop-again c =
@@ -71,7 +61,6 @@ loop-again c =
     let ek : (c .before .key-at .result) ≡ f (l .i - 1) .tuple .key = (c .before .key-at .ensures) in
     (omega (arith, (c .before .before .loop-test .taken)), (omega (arith, l .inv .1 .0), passed f (st .args .key) (st .args .start) (st .args .end) (l .i) (c .before .before .loop-test .taken) (l .inv .1 .0) (l .inv .1 .1) (lt-leb (f (l .i - 1) .tuple .key) (st .args .key) (omega (arith, (c .if1 .left))))))
 
--- src/lib.rt:28:1
 returns-2 : tie.Need-returns-2 Inv-loop μ-loop
 returns-2 c =
     let st = (c .before .before .before) in

@@ -15,12 +15,6 @@ use borrow.Author.Needs.{needs}
 use native.Mathlib.Omega.{arith}
 use Rattle.pages.proofs.find_spot.Statement.{statement}
 use Rattle.pages.proofs.find_spot.Tie as tie
-use Rattle.pages.proofs.find_spot.Reads as reads
-use Rattle.pages.proofs.find_spot.Lts as lts
-use Rattle.memory.proofs.get_counts.Reads as get-counts-reads
-use Rattle.memory.proofs.get_entry.Reads as get-entry-reads
-use Rattle.pages.proofs.find_front.Reads as find-front-reads
-use Rattle.pages.proofs.find_last.Reads as find-last-reads
 
 abbrev Inv-loop : tie.InvT-loop
 Inv-loop m table key p₀ end₀ p end = BackInv m table key p end
@@ -28,19 +22,15 @@ Inv-loop m table key p₀ end₀ p end = BackInv m table key p end
 abbrev μ-loop : tie.MeasureT-loop
 μ-loop m table key p₀ end₀ p end = p
 
--- src/lib.rt:72:9
 get-counts-requires : tie.Need-get-counts-requires Inv-loop μ-loop
 get-counts-requires c κs = omega (arith, held-room _ ((c .before .pre)) .range .long)
 
--- src/lib.rt:73:17
 cast-p : tie.Need-cast-p Inv-loop μ-loop
 cast-p c = search needs
 
--- src/lib.rt:74:19
 cast-end : tie.Need-cast-end Inv-loop μ-loop
 cast-end c = search needs
 
--- src/lib.rt:75:5
 loop-holds : tie.Need-loop-holds Inv-loop μ-loop
 loop-holds c =
     let st = (c .before .before .before .before) in
@@ -51,11 +41,9 @@ loop-holds c =
     let er : (c .before .before .get-counts .result .rows) ≡ length (flatOf m .rows) = ap (λ (x : Counts). x .rows) (c .before .before .get-counts .ensures) in
     back-start m (st .pre) (st .args .table) (st .args .key) (c .before .before .get-counts .result .pages) (c .before .before .get-counts .result .rows) ep er
 
--- src/lib.rt:76:9
 sub-p : tie.Need-sub-p Inv-loop μ-loop
 sub-p c = omega arith
 
--- src/lib.rt:77:13
 get-entry-requires : tie.Need-get-entry-requires Inv-loop μ-loop
 get-entry-requires c κs =
     let st = (c .before .before .before .before .before .before) in
@@ -68,11 +56,9 @@ get-entry-requires c κs =
     let pos : 0 < l .p = (c .loop-test .taken) in
     (room, back-in m (st .pre) (st .args .table) (st .args .key) (l .p) (l .end) pos (l .inv))
 
--- src/lib.rt:78:27
 cast-start : tie.Need-cast-start Inv-loop μ-loop
 cast-start c = search needs
 
--- src/lib.rt:78:21
 sub-start : tie.Need-sub-start Inv-loop μ-loop
 sub-start c =
     let st = (c .before .before .before .before .before .before .before .before) in
@@ -90,7 +76,6 @@ sub-start c =
     let ei = start-in (flatOf m) (held-filled m (st .pre)) (l .p - 1) (back-in m (st .pre) (st .args .table) (st .args .key) (l .p) (l .end) pos (l .inv)) in
     omega arith
 
--- src/lib.rt:81:17
 find-last-requires : tie.Need-find-last-requires Inv-loop μ-loop
 find-last-requires c κs =
     let st = (c .before .before .before .before .before .before .before .before .before .before) in
@@ -108,7 +93,6 @@ find-last-requires c κs =
     let ei = start-in (flatOf m) (held-filled m (st .pre)) (l .p - 1) (back-in m (st .pre) (st .args .table) (st .args .key) (l .p) (l .end) pos (l .inv)) in
     (room, (omega arith, omega arith))
 
--- src/lib.rt:83:17
 returns : tie.Need-returns Inv-loop μ-loop
 returns c =
     let st = (c .before .before .before .before .before .before .before .before .before .before .before .before) in
@@ -126,7 +110,6 @@ returns c =
     let ei = start-in (flatOf m) (held-filled m (st .pre)) (l .p - 1) (back-in m (st .pre) (st .args .table) (st .args .key) (l .p) (l .end) pos (l .inv)) in
     back-found m (st .pre) (st .args .table) (st .args .key) (l .p) (l .end) pos (l .inv) n en (c .before .find-last .result) (c .before .find-last .ensures) (c .if2 .taken) (omega (arith, (c .before .before .if1 .taken)))
 
--- src/lib.rt:75:5
 loop-less : tie.Need-loop-less Inv-loop μ-loop
 loop-less c =
     let st = (c .before .before .before .before .before .before .before .before .before .before .before .before) in
@@ -139,7 +122,6 @@ loop-less c =
     let pos : 0 < l .p = (c .before .before .before .before .before .before .loop-test .taken) in
     omega arith
 
--- src/lib.rt:75:5
 loop-again : tie.Need-loop-again Inv-loop μ-loop
 loop-again c =
     let st = (c .before .before .before .before .before .before .before .before .before .before .before .before) in
@@ -157,7 +139,6 @@ loop-again c =
     let ei = start-in (flatOf m) (held-filled m (st .pre)) (l .p - 1) (back-in m (st .pre) (st .args .table) (st .args .key) (l .p) (l .end) pos (l .inv)) in
     back-none m (st .pre) (st .args .table) (st .args .key) (l .p) (l .end) pos (l .inv) n en (c .before .find-last .result) (c .before .find-last .ensures) (c .if2 .left) (omega (arith, (c .before .before .if1 .taken)))
 
--- src/lib.rt:75:5
 loop-less-2 : tie.Need-loop-less-2 Inv-loop μ-loop
 loop-less-2 c =
     let st = (c .before .before .before .before .before .before .before .before .before .before) in
@@ -170,7 +151,6 @@ loop-less-2 c =
     let pos : 0 < l .p = (c .before .before .before .before .loop-test .taken) in
     omega arith
 
--- src/lib.rt:75:5
 loop-again-2 : tie.Need-loop-again-2 Inv-loop μ-loop
 loop-again-2 c =
     let st = (c .before .before .before .before .before .before .before .before .before .before) in
@@ -188,11 +168,9 @@ loop-again-2 c =
     let ei = start-in (flatOf m) (held-filled m (st .pre)) (l .p - 1) (back-in m (st .pre) (st .args .table) (st .args .key) (l .p) (l .end) pos (l .inv)) in
     back-other m (st .pre) (st .args .table) (st .args .key) (l .p) (l .end) pos (l .inv) n en (λ q. (c .if1 .left) (ap (λ (z : ℕ). z % 8) et ∙ q))
 
--- src/lib.rt:88:5
 find-front-requires : tie.Need-find-front-requires Inv-loop μ-loop
 find-front-requires c κs = (c .before .before .before .before .before .before .pre)
 
--- src/lib.rt:68:1
 returns-2 : tie.Need-returns-2 Inv-loop μ-loop
 returns-2 c =
     let st = (c .before .before .before .before .before .before .before) in

@@ -18,13 +18,7 @@ use native.Mathlib.Omega.{arith}
 use borrow.Author.Needs.{needs}
 use Rattle.pages.proofs.grow.Statement.{statement}
 use Rattle.pages.proofs.grow.Tie as tie
-use Rattle.pages.proofs.grow.Reads as reads
-use Rattle.pages.proofs.grow.Lts as lts
-use Rattle.memory.proofs.get_entry.Reads as get-entry-reads
-use Rattle.pages.proofs.halve.Reads as halve-reads
-use Rattle.pages.proofs.put_in.Reads as put-in-reads
 
--- src/lib.rt:232:9
 get-entry-requires : tie.Need-get-entry-requires
 get-entry-requires c κs =
     let st = (c .before .before) in
@@ -35,7 +29,6 @@ get-entry-requires c κs =
     let r1 = room .range .rows in let r2 = room .range .most in
     (room, g .on .inside)
 
--- src/lib.rt:233:13
 add-n : tie.Need-add-n
 add-n c =
     let st = (c .before .before .before .before) in
@@ -50,11 +43,9 @@ add-n c =
     let pe = page-end (g .on) in
     omega arith
 
--- src/lib.rt:236:9
 add-x : tie.Need-add-x
 add-x c = omega (arith, (c .before .before .before .before .before .before .before .pre .1))
 
--- src/lib.rt:237:9
 put-in-requires : tie.Need-put-in-requires
 put-in-requires c κs =
     let st = (c .before .before .before .before .before .before .before .before) in
@@ -69,11 +60,9 @@ put-in-requires c κs =
     let pe = page-end (g .on) in
     (grow-here g, ap (λ (z : ℕ). z + 1) ec)
 
--- src/lib.rt:238:9
 same-length : tie.Need-same-length
 same-length c = search needs
 
--- src/lib.rt:238:9
 returns : tie.Need-returns
 returns c =
     let st = (c .before .before .before .before .before .before .before .before .before .before .before) in
@@ -88,7 +77,6 @@ returns c =
     let pe = page-end (g .on) in
     turns-to (c .before .before .put-in .ensures) (grew-frozen g (st .args .row) (st .pre .1) e ee (e .count + 1) (st .args .row .flags + 4) (c .before .before .before .before .before .if1 .taken) refl)
 
--- src/lib.rt:240:5
 put-in-requires-2 : tie.Need-put-in-requires-2
 put-in-requires-2 c κs =
     let st = (c .before .before .before .before .before .before .before) in
@@ -103,7 +91,6 @@ put-in-requires-2 c κs =
     let pe = page-end (g .on) in
     (grow-here g, ap (λ (z : ℕ). z + 1) ec)
 
--- src/lib.rt:241:5
 halve-requires : tie.Need-halve-requires
 halve-requires c κs =
     let st = (c .before .before .before .before .before .before .before .before .before .before .before) in
@@ -118,11 +105,9 @@ halve-requires c κs =
     let pe = page-end (g .on) in
     (grew-at g (st .args .row) (st .pre .1) e ee (e .count + 1) (c .before .before .before .put-in2 .ensures), grew-dirty g (st .args .row) (st .pre .1) e ee (e .count + 1) (c .before .before .before .put-in2 .ensures))
 
--- src/lib.rt:228:1
 same-length-2 : tie.Need-same-length-2
 same-length-2 c = search needs
 
--- src/lib.rt:228:1
 returns-2 : tie.Need-returns-2
 returns-2 c =
     let st = (c .before .before .before .before .before .before .before .before .before .before .before .before .before .before) in

@@ -16,9 +16,6 @@ use borrow.Author.Needs.{needs}
 use native.Mathlib.Omega.{arith}
 use Rattle.pages.proofs.half.Statement.{statement}
 use Rattle.pages.proofs.half.Tie as tie
-use Rattle.pages.proofs.half.Reads as reads
-use Rattle.pages.proofs.half.Lts as lts
-use Rattle.memory.proofs.tuple_size.Reads as tuple-size-reads
 
 abbrev Inv-loop : tie.InvT-loop
 Inv-loop m start n whole end all₀ i₀ all i = (start ≤ i) × ((i ≤ end) × ((all ≤ 53 * (i - start)) × (lead whole 0 (tab (heldIn (flatOf m)) start n) ≡ i - start + lead whole all (tab (heldIn (flatOf m)) i (end - i)))))
@@ -26,7 +23,6 @@ Inv-loop m start n whole end all₀ i₀ all i = (start ≤ i) × ((i ≤ end) �
 abbrev μ-loop : tie.MeasureT-loop
 μ-loop m start n whole end all₀ i₀ all i = end - i
 
--- src/lib.rt:113:15
 add-end : tie.Need-add-end Inv-loop μ-loop
 add-end c =
     let st = (c .before) in
@@ -34,7 +30,6 @@ add-end c =
     let k = st .pre .0 .range in
     let k1 = k .rows in let k2 = k .most in omega (arith, st .pre .1)
 
--- src/lib.rt:116:5
 loop-holds : tie.Need-loop-holds Inv-loop μ-loop
 loop-holds c =
     let st = (c .before) in
@@ -44,7 +39,6 @@ loop-holds c =
     let z : st .args .start + st .args .n - st .args .start ≡ st .args .n = omega arith in
     (omega arith, (omega arith, (omega arith, omega (arith, ap (λ (q : ℕ). lead (st .args .whole) 0 (tab (heldIn (flatOf m)) (st .args .start) q)) z))))
 
--- src/lib.rt:117:16
 tuple-size-requires : tie.Need-tuple-size-requires Inv-loop μ-loop
 tuple-size-requires c κs =
     let st = (c .before .before .before) in
@@ -53,7 +47,6 @@ tuple-size-requires c κs =
     let k1 = k .rows in let k2 = k .most in
     (st .pre .0, omega (arith, st .pre .1, (c .loop-test .taken)))
 
--- src/lib.rt:117:9
 add-all : tie.Need-add-all Inv-loop μ-loop
 add-all c =
     let st = (c .before .before .before .before) in
@@ -69,7 +62,6 @@ add-all c =
     let small = held-small m (st .pre .0) (l .i) (omega (arith, st .pre .1)) in
     let es = (c .tuple-size .ensures) in omega (arith, st .pre .1)
 
--- src/lib.rt:118:9
 add-i : tie.Need-add-i Inv-loop μ-loop
 add-i c =
     let st = (c .before .before .before .before) in
@@ -85,7 +77,6 @@ add-i c =
     let small = held-small m (st .pre .0) (l .i) (omega (arith, st .pre .1)) in
     let es = (c .tuple-size .ensures) in omega (arith, st .pre .1)
 
--- src/lib.rt:119:21
 mul-if1 : tie.Need-mul-if1 Inv-loop μ-loop
 mul-if1 c =
     let st = (c .before .before .before .before) in
@@ -101,7 +92,6 @@ mul-if1 c =
     let small = held-small m (st .pre .0) (l .i) (omega (arith, st .pre .1)) in
     let es = (c .tuple-size .ensures) in omega (arith, st .pre .1)
 
--- src/lib.rt:120:20
 sub-result : tie.Need-sub-result Inv-loop μ-loop
 sub-result c =
     let st = (c .before .before .before .before .before) in
@@ -117,7 +107,6 @@ sub-result c =
     let small = held-small m (st .pre .0) (l .i) (omega (arith, st .pre .1)) in
     let es = (c .before .tuple-size .ensures) in omega arith
 
--- src/lib.rt:120:13
 returns : tie.Need-returns Inv-loop μ-loop
 returns c =
     let st = (c .before .before .before .before .before) in
@@ -134,7 +123,6 @@ returns c =
     let es = (c .before .tuple-size .ensures) in
     omega (arith, l .inv .1 .1 .1, lead-stop (heldIn (flatOf m)) (l .i) end (st .args .whole) (l .all) lt (omega (arith, (c .if1 .taken))))
 
--- src/lib.rt:116:5
 loop-less : tie.Need-loop-less Inv-loop μ-loop
 loop-less c =
     let st = (c .before .before .before .before .before) in
@@ -150,7 +138,6 @@ loop-less c =
     let small = held-small m (st .pre .0) (l .i) (omega (arith, st .pre .1)) in
     let es = (c .before .tuple-size .ensures) in omega arith
 
--- src/lib.rt:116:5
 loop-again : tie.Need-loop-again Inv-loop μ-loop
 loop-again c =
     let st = (c .before .before .before .before .before) in
@@ -169,7 +156,6 @@ loop-again c =
     ap (λ (z : ℕ). lead (st .args .whole) (l .all + z) (tab (heldIn (flatOf m)) (l .i + 1) (end - (l .i + 1)))) (sym (es .0)) in
     (omega arith, (omega arith, (omega arith, omega (arith, q, l .inv .1 .1 .1, lead-go (heldIn (flatOf m)) (l .i) end (st .args .whole) (l .all) lt (omega (arith, (c .if1 .left)))))))
 
--- src/lib.rt:109:1
 returns-2 : tie.Need-returns-2 Inv-loop μ-loop
 returns-2 c =
     let st = (c .before .before .before) in

@@ -17,14 +17,7 @@ use native.Mathlib.Omega.{arith}
 use borrow.Author.Needs.{needs}
 use Rattle.pages.proofs.halve.Statement.{statement}
 use Rattle.pages.proofs.halve.Tie as tie
-use Rattle.pages.proofs.halve.Reads as reads
-use Rattle.pages.proofs.halve.Lts as lts
-use Rattle.memory.proofs.get_entry.Reads as get-entry-reads
-use Rattle.pages.proofs.cut_page.Reads as cut-page-reads
-use Rattle.pages.proofs.half.Reads as half-reads
-use Rattle.pages.proofs.page_size.Reads as page-size-reads
 
--- src/lib.rt:216:9
 get-entry-requires : tie.Need-get-entry-requires
 get-entry-requires c κs =
     let st = (c .before .before) in
@@ -35,11 +28,9 @@ get-entry-requires c κs =
     let r1 = room .range .rows in let r2 = room .range .most in
     (room, a .inside)
 
--- src/lib.rt:217:13
 cast-n : tie.Need-cast-n
 cast-n c = search needs
 
--- src/lib.rt:218:9
 page-size-requires : tie.Need-page-size-requires
 page-size-requires c κs =
     let st = (c .before .before .before .before .before) in
@@ -53,11 +44,9 @@ page-size-requires c κs =
     let pe = page-end a in
     (room, omega arith)
 
--- src/lib.rt:220:9
 same-length : tie.Need-same-length
 same-length c = search needs
 
--- src/lib.rt:220:9
 returns : tie.Need-returns
 returns c =
     let st = (c .before .before .before .before .before .before .before) in
@@ -71,7 +60,6 @@ returns c =
     let pe = page-end a in
     halved-whole a n (c .before .page-size .result) en (c .before .page-size .ensures) (st .pre .1) (c .if1 .taken)
 
--- src/lib.rt:222:9
 half-requires : tie.Need-half-requires
 half-requires c κs =
     let st = (c .before .before .before .before .before .before .before .before) in
@@ -85,7 +73,6 @@ half-requires c κs =
     let pe = page-end a in
     (room, omega arith)
 
--- src/lib.rt:223:20
 cast-cut-page : tie.Need-cast-cut-page
 cast-cut-page c =
     let st = (c .before .before .before .before .before .before .before .before .before .before) in
@@ -99,7 +86,6 @@ cast-cut-page c =
     let pe = page-end a in
     omega (arith, cut-at a n (c .before .before .before .before .page-size .result) en (c .before .before .before .before .page-size .ensures) (c .before .half .result) (c .before .before .before .if1 .left) ((c .before .half .ensures)) .most)
 
--- src/lib.rt:223:5
 cut-page-requires : tie.Need-cut-page-requires
 cut-page-requires c κs =
     let st = (c .before .before .before .before .before .before .before .before .before .before) in
@@ -113,11 +99,9 @@ cut-page-requires c κs =
     let pe = page-end a in
     cut-at a n (c .before .before .before .before .page-size .result) en (c .before .before .before .before .page-size .ensures) (c .before .half .result) (c .before .before .before .if1 .left) (c .before .half .ensures)
 
--- src/lib.rt:212:1
 same-length-2 : tie.Need-same-length-2
 same-length-2 c = search needs
 
--- src/lib.rt:212:1
 returns-2 : tie.Need-returns-2
 returns-2 c =
     let st = (c .before .before .before .before .before .before .before .before .before .before .before .before .before) in

@@ -16,11 +16,7 @@ use native.Mathlib.Omega.{arith}
 use borrow.Author.Needs.{needs}
 use Rattle.pages.proofs.mark.Statement.{statement}
 use Rattle.pages.proofs.mark.Tie as tie
-use Rattle.pages.proofs.mark.Reads as reads
-use Rattle.pages.proofs.mark.Lts as lts
-use Rattle.memory.proofs.put_entry.Reads as put-entry-reads
 
--- src/lib.rt:176:5
 put-entry-requires : tie.Need-put-entry-requires
 put-entry-requires c κs =
     let st = (c .before .before) in
@@ -29,11 +25,9 @@ put-entry-requires c κs =
     let a : At m (st .args .p) (startAt m (st .args .p)) = record { held = g .held; inside = g .inside; begins = refl } in
     (held-room m (a .held), a .inside)
 
--- src/lib.rt:172:1
 same-length : tie.Need-same-length
 same-length c = search needs
 
--- src/lib.rt:172:1
 returns : tie.Need-returns
 returns c =
     let st = (c .before .before .before .before .before) in

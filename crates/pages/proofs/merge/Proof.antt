@@ -22,13 +22,7 @@ use native.Mathlib.Omega.{arith}
 use borrow.Author.Needs.{needs}
 use Rattle.pages.proofs.merge.Statement.{statement}
 use Rattle.pages.proofs.merge.Tie as tie
-use Rattle.pages.proofs.merge.Reads as reads
-use Rattle.pages.proofs.merge.Lts as lts
-use Rattle.memory.proofs.get_entry.Reads as get-entry-reads
-use Rattle.memory.proofs.put_entry.Reads as put-entry-reads
-use Rattle.memory.proofs.remove_entry.Reads as remove-entry-reads
 
--- src/lib.rt:203:9
 get-entry-requires : tie.Need-get-entry-requires
 get-entry-requires c κs =
     let st = (c .before .before) in
@@ -42,7 +36,6 @@ get-entry-requires c κs =
     let r1 = r .pages in let r2 = r .most in let r3 = r .rows in
     (held-room m (g .held), a .inside)
 
--- src/lib.rt:204:34
 add-get-entry : tie.Need-add-get-entry
 add-get-entry c =
     let st = (c .before .before .before .before) in
@@ -56,7 +49,6 @@ add-get-entry c =
     let r1 = r .pages in let r2 = r .most in let r3 = r .rows in
     omega arith
 
--- src/lib.rt:204:9
 get-entry-requires-2 : tie.Need-get-entry-requires-2
 get-entry-requires-2 c κs =
     let st = (c .before .before .before .before) in
@@ -70,7 +62,6 @@ get-entry-requires-2 c κs =
     let r1 = r .pages in let r2 = r .most in let r3 = r .rows in
     (held-room m (g .held), g .inside)
 
--- src/lib.rt:205:71
 add-t13 : tie.Need-add-t13
 add-t13 c =
     let st = (c .before .before .before .before .before .before .before .before) in
@@ -87,7 +78,6 @@ add-t13 c =
     let le = page-end a2 in
     omega arith
 
--- src/lib.rt:205:5
 put-entry-requires : tie.Need-put-entry-requires
 put-entry-requires c κs =
     let st = (c .before .before .before .before .before .before .before .before) in
@@ -101,7 +91,6 @@ put-entry-requires c κs =
     let r1 = r .pages in let r2 = r .most in let r3 = r .rows in
     (held-room m (g .held), a .inside)
 
--- src/lib.rt:206:29
 add-remove-entry : tie.Need-add-remove-entry
 add-remove-entry c =
     let st = (c .before .before .before .before .before .before .before .before .before .before .before .before) in
@@ -115,7 +104,6 @@ add-remove-entry c =
     let r1 = r .pages in let r2 = r .most in let r3 = r .rows in
     omega arith
 
--- src/lib.rt:206:5
 remove-entry-requires : tie.Need-remove-entry-requires
 remove-entry-requires c κs =
     let st = (c .before .before .before .before .before .before .before .before .before .before .before .before) in
@@ -130,11 +118,9 @@ remove-entry-requires c κs =
     let b = (c .before .before .before .put-entry .ensures) in
     (b .room, still-there (p + 1) b (simp length-set (g .inside)))
 
--- src/lib.rt:199:1
 same-length : tie.Need-same-length
 same-length c = search needs
 
--- src/lib.rt:199:1
 returns : tie.Need-returns
 unfolding joined pageOf fresh
 returns c =

@@ -17,9 +17,6 @@ use borrow.Author.Needs.{needs}
 use native.Mathlib.Omega.{arith}
 use Rattle.pages.proofs.page_size.Statement.{statement}
 use Rattle.pages.proofs.page_size.Tie as tie
-use Rattle.pages.proofs.page_size.Reads as reads
-use Rattle.pages.proofs.page_size.Lts as lts
-use Rattle.memory.proofs.tuple_size.Reads as tuple-size-reads
 
 abbrev Inv-loop : tie.InvT-loop
 Inv-loop m start n end all₀ i₀ all i = (start ≤ i) × ((i ≤ end) × ((all ≤ 53 * (i - start)) × (sum heldSize (tab (heldIn (flatOf m)) start n) ≡ all + sum heldSize (tab (heldIn (flatOf m)) i (end - i)))))
@@ -27,7 +24,6 @@ Inv-loop m start n end all₀ i₀ all i = (start ≤ i) × ((i ≤ end) × ((al
 abbrev μ-loop : tie.MeasureT-loop
 μ-loop m start n end all₀ i₀ all i = end - i
 
--- src/lib.rt:98:15
 add-end : tie.Need-add-end Inv-loop μ-loop
 add-end c =
     let st = (c .before) in
@@ -35,7 +31,6 @@ add-end c =
     let k = st .pre .0 .range in
     let k1 = k .rows in let k2 = k .most in omega (arith, st .pre .1)
 
--- src/lib.rt:101:5
 loop-holds : tie.Need-loop-holds Inv-loop μ-loop
 loop-holds c =
     let st = (c .before) in
@@ -45,7 +40,6 @@ loop-holds c =
     let z : st .args .start + st .args .n - st .args .start ≡ st .args .n = omega arith in
     (omega arith, (omega arith, (omega arith, omega (arith, ap (λ (q : ℕ). sum heldSize (tab (heldIn (flatOf m)) (st .args .start) q)) z))))
 
--- src/lib.rt:102:16
 tuple-size-requires : tie.Need-tuple-size-requires Inv-loop μ-loop
 tuple-size-requires c κs =
     let st = (c .before .before .before) in
@@ -54,7 +48,6 @@ tuple-size-requires c κs =
     let k1 = k .rows in let k2 = k .most in
     (st .pre .0, omega (arith, st .pre .1, (c .loop-test .taken)))
 
--- src/lib.rt:102:9
 add-all : tie.Need-add-all Inv-loop μ-loop
 add-all c =
     let st = (c .before .before .before .before) in
@@ -68,7 +61,6 @@ add-all c =
     let small = held-small m (st .pre .0) (l .i) (omega (arith, st .pre .1)) in
     let es = (c .tuple-size .ensures) in omega (arith, st .pre .1)
 
--- src/lib.rt:103:9
 add-i : tie.Need-add-i Inv-loop μ-loop
 add-i c =
     let st = (c .before .before .before .before) in
@@ -82,7 +74,6 @@ add-i c =
     let small = held-small m (st .pre .0) (l .i) (omega (arith, st .pre .1)) in
     let es = (c .tuple-size .ensures) in omega (arith, st .pre .1)
 
--- src/lib.rt:101:5
 loop-less : tie.Need-loop-less Inv-loop μ-loop
 loop-less c =
     let st = (c .before .before .before .before) in
@@ -96,7 +87,6 @@ loop-less c =
     let small = held-small m (st .pre .0) (l .i) (omega (arith, st .pre .1)) in
     let es = (c .tuple-size .ensures) in omega arith
 
--- src/lib.rt:101:5
 loop-again : tie.Need-loop-again Inv-loop μ-loop
 loop-again c =
     let st = (c .before .before .before .before) in
@@ -111,7 +101,6 @@ loop-again c =
     let es = (c .tuple-size .ensures) in
     (omega (arith, l .inv .0), (omega arith, (omega (arith, l .inv .0), omega (arith, l .inv .1 .1 .1, sum-next heldSize (heldIn (flatOf m)) (l .i) (st .args .start + st .args .n) lt))))
 
--- src/lib.rt:94:1
 returns : tie.Need-returns Inv-loop μ-loop
 returns c =
     let st = (c .before .before .before) in

@@ -19,21 +19,13 @@ use native.Mathlib.Omega.{arith}
 use borrow.Author.Needs.{needs}
 use Rattle.pages.proofs.place.Statement.{statement}
 use Rattle.pages.proofs.place.Tie as tie
-use Rattle.pages.proofs.place.Reads as reads
-use Rattle.pages.proofs.place.Lts as lts
-use Rattle.pages.proofs.add_page.Reads as add-page-reads
-use Rattle.pages.proofs.find_spot.Reads as find-spot-reads
-use Rattle.pages.proofs.grow.Reads as grow-reads
 
--- src/lib.rt:258:11
 find-spot-requires : tie.Need-find-spot-requires
 find-spot-requires c κs = (c .before .before .pre .held)
 
--- src/lib.rt:259:20
 enum-known-page : tie.Need-enum-known-page
 enum-known-page c = search needs
 
--- src/lib.rt:259:41
 grow-requires : tie.Need-grow-requires
 grow-requires c κs =
     let st = (c .before .before .before .before .before .before .before) in
@@ -44,11 +36,9 @@ grow-requires c κs =
     let o = spot-on m t row (c .before .before .before .before .find-spot .result) (c .before .before .before .before .find-spot .ensures) _ _ _ (c .before .before .page .given .1) in
     (record { on = o .on; free = g .free; least = o .least; most = o .most }, g .plain)
 
--- src/lib.rt:260:21
 enum-known-page-2 : tie.Need-enum-known-page-2
 enum-known-page-2 c = search needs
 
--- src/lib.rt:260:35
 add-page-requires : tie.Need-add-page-requires
 add-page-requires c κs =
     let st = (c .before .before .before .before .before .before .before) in
@@ -59,11 +49,9 @@ add-page-requires c κs =
     let o = spot-new m t row (c .before .before .before .before .find-spot .result) (c .before .before .before .before .find-spot .ensures) _ _ (c .before .before .page2 .given .1) in
     (record { held = g .held; free = g .free; inside = o .inside; begins = o .begins }, (g .plain, g .table))
 
--- src/lib.rt:254:1
 same-length : tie.Need-same-length
 same-length c = search needs
 
--- src/lib.rt:254:1
 returns : tie.Need-returns
 returns c =
     let st = (c .before .before .before .before .before .before .before .before .before .before) in
@@ -74,11 +62,9 @@ returns c =
     let o = spot-on m t row (c .before .before .before .before .before .before .before .find-spot .result) (c .before .before .before .before .before .before .before .find-spot .ensures) _ _ _ (c .before .before .before .before .before .page .given .1) in
     turns-to (c .before .before .grow .ensures) (sym (o .places (tupleOf row) (key-is row)))
 
--- src/lib.rt:254:1
 same-length-2 : tie.Need-same-length-2
 same-length-2 c = search needs
 
--- src/lib.rt:254:1
 returns-2 : tie.Need-returns-2
 returns-2 c =
     let st = (c .before .before .before .before .before .before .before .before .before .before) in

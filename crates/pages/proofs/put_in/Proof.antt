@@ -16,12 +16,7 @@ use native.Mathlib.Omega.{arith}
 use borrow.Author.Needs.{needs}
 use Rattle.pages.proofs.put_in.Statement.{statement}
 use Rattle.pages.proofs.put_in.Tie as tie
-use Rattle.pages.proofs.put_in.Reads as reads
-use Rattle.pages.proofs.put_in.Lts as lts
-use Rattle.memory.proofs.insert_row.Reads as insert-row-reads
-use Rattle.memory.proofs.put_entry.Reads as put-entry-reads
 
--- src/lib.rt:149:5
 insert-row-requires : tie.Need-insert-row-requires
 insert-row-requires c κs =
     let st = (c .before .before) in
@@ -29,7 +24,6 @@ insert-row-requires c κs =
     let g = st .pre .0 in
     (held-room m (g .on .held), (omega (arith, page-end (g .on), g .most), g .free))
 
--- src/lib.rt:150:5
 put-entry-requires : tie.Need-put-entry-requires
 put-entry-requires c κs =
     let st = (c .before .before .before .before .before .before) in
@@ -38,11 +32,9 @@ put-entry-requires c κs =
     let b = (c .before .before .before .insert-row .ensures) in
     (b .room, still-there (st .args .p) b (g .on .inside))
 
--- src/lib.rt:145:1
 same-length : tie.Need-same-length
 same-length c = search needs
 
--- src/lib.rt:145:1
 returns : tie.Need-returns
 returns c =
     let st = (c .before .before .before .before .before .before .before .before .before) in

@@ -16,12 +16,7 @@ use native.Mathlib.Omega.{arith}
 use borrow.Author.Needs.{needs}
 use Rattle.pages.proofs.take_out.Statement.{statement}
 use Rattle.pages.proofs.take_out.Tie as tie
-use Rattle.pages.proofs.take_out.Reads as reads
-use Rattle.pages.proofs.take_out.Lts as lts
-use Rattle.memory.proofs.put_entry.Reads as put-entry-reads
-use Rattle.memory.proofs.remove_row.Reads as remove-row-reads
 
--- src/lib.rt:158:5
 remove-row-requires : tie.Need-remove-row-requires
 remove-row-requires c κs =
     let st = (c .before .before) in
@@ -30,7 +25,6 @@ remove-row-requires c κs =
     let a : At m (st .args .p) (startAt m (st .args .p)) = record { held = g .there .held; inside = g .there .inside; begins = refl } in
     (held-room m (a .held), omega (arith, page-end a, g .most))
 
--- src/lib.rt:159:5
 put-entry-requires : tie.Need-put-entry-requires
 put-entry-requires c κs =
     let st = (c .before .before .before .before .before .before) in
@@ -40,11 +34,9 @@ put-entry-requires c κs =
     let b = (c .before .before .before .remove-row .ensures) in
     (b .room, still-there (st .args .p) b (a .inside))
 
--- src/lib.rt:154:1
 same-length : tie.Need-same-length
 same-length c = search needs
 
--- src/lib.rt:154:1
 returns : tie.Need-returns
 returns c =
     let st = (c .before .before .before .before .before .before .before .before .before) in

@@ -1,0 +1,5 @@
+pub mod Answering
+pub mod Verdicts
+pub mod Opening
+pub mod Reading
+pub mod Making

@@ -1,0 +1,82 @@
+-- Make: its tests, and the image with block 0 written.
+use mathlib.Core.Path.{_≡_, refl, sym, ap, _∙_}
+use mathlib.Core.Bool.{Bool, true, false, not, _&&_, _||_}
+use mathlib.Core.Option.{Option, none, some}
+use Prim.Native.Nat.{ℕ, _+_, _*_, _/_, _%_, _≤_, _<_}
+use native.Mathlib.Omega.{arith}
+use mathlib.Core.List.{List, [], _∷_, _++_}
+use lib.ListN.{length, take, drop}
+use lib.Dec.{leb, ltb, eqb}
+use borrow.Author.Tests.{lt-ltb, le-ltb, le-leb, lt-leb, eq-eqb, ne-eqb}
+use Rattle.basics.specs.Basics.{if_then_else_}
+use Rattle.blocks.specs.Block.{header, encodeBlock}
+use Rattle.blocks.specs.declared.Header.{Header}
+use Rattle.image.specs.Stages.{Stage, refuses, holds, wholeBlocks}
+use Rattle.model.specs.State.{Store}
+use Rattle.model.specs.Checkpoint.{headerFor}
+use Rattle.model.specs.Recover.{memoryFor, putBlock, freshStore, make, madeImage}
+use Rattle.model.proofs.Lists.{and-no, or-right}
+use Rattle.memory.specs.Store.{storeIn}
+use Rattle.transactions.specs.Shape.{MadeBy, Made}
+use Rattle.transactions.specs.declared.Answer.the-variants.{Done, Refused}
+
+module _ (n : ℕ) (img m : List ℕ) where
+  pub made-refused : (k : ℕ) → make (length img) (length m) n ≡ refuses k → Made n img m (Refused k) img m
+  unfolding MadeBy
+  made-refused k e = rw e (refl, (refl, refl))
+
+  pub made-done : (s : Store) (img' m' : List ℕ) → make (length img) (length m) n ≡ holds s → img' ≡ madeImage img n → length m' ≡ length m → storeIn m' ≡ some s
+      → Made n img m Done img' m'
+  unfolding MadeBy
+  made-done s img' m' e q l k = rw e (refl, (q, (l, k)))
+
+-- ---- the tests
+
+module _ (len mem n : ℕ) where
+  not-whole : wholeBlocks len ≡ false → make len mem n ≡ refuses 1
+  unfolding make if_then_else_
+  not-whole e = rw e
+
+  pub make-odd : (len % 512 ≡ 0 → ⊥) → make len mem n ≡ refuses 1
+  unfolding wholeBlocks
+  make-odd e = not-whole (rw (ne-eqb (len % 512) 0 e))
+
+  pub make-few : len / 512 < 2 → make len mem n ≡ refuses 1
+  unfolding wholeBlocks
+  make-few h = not-whole (rw (lt-leb 2 (len / 512) h) (and-no (eqb (len % 512) 0)))
+
+  pub make-many : 4096 < len / 512 → make len mem n ≡ refuses 1
+  unfolding wholeBlocks
+  make-many h = not-whole (rw (lt-leb (len / 512) 4096 h, and-no (leb 2 (len / 512))) (and-no (eqb (len % 512) 0)))
+
+  module _ (whole : len % 512 ≡ 0) (few : 2 ≤ len / 512) (many : len / 512 ≤ 4096) where
+    is-whole : wholeBlocks len ≡ true
+    unfolding wholeBlocks
+    is-whole = rw (eq-eqb (len % 512) 0 whole, le-leb 2 (len / 512) few, le-leb (len / 512) 4096 many)
+
+    pub make-none : n < 1 → make len mem n ≡ refuses 2
+    unfolding make if_then_else_
+    make-none h = rw (is-whole, lt-ltb n 1 h)
+
+    pub make-large : 1024 < n → make len mem n ≡ refuses 2
+    unfolding make if_then_else_
+    make-large h = rw (is-whole, lt-ltb 1024 n h, or-right (ltb n 1) true refl)
+
+    module _ (least : 1 ≤ n) (most : n ≤ 1024) where
+      pub make-short : mem < 128 * n + 1024 → make len mem n ≡ refuses 3
+      unfolding make memoryFor if_then_else_
+      make-short h = rw (is-whole, le-ltb n 1 least, le-ltb 1024 n most, lt-ltb mem (128 * n + 1024) h)
+
+      pub make-done : 128 * n + 1024 ≤ mem → make len mem n ≡ holds (freshStore (len / 512) n)
+      unfolding make memoryFor if_then_else_
+      make-done h = rw (is-whole, le-ltb n 1 least, le-ltb 1024 n most, le-ltb mem (128 * n + 1024) h)
+
+-- ---- block 0
+
+pub image-made : (img part : List ℕ) (b n : ℕ) (h : Header) → b ≡ length img / 512
+    → h ≡ record { blocks = b; capacity = n; level = 0; next = 0; pages = 0; directories = 0; d0 = 0; d1 = 0; d2 = 0; d3 = 0 }
+    → part ≡ encodeBlock (header h) → part ++ drop 512 img ≡ madeImage img n
+unfolding madeImage putBlock headerFor freshStore
+image-made img part b n h eb eh ep =
+    ap (λ (z : List ℕ). z ++ drop 512 img) (ep ∙ ap (λ (z : Header). encodeBlock (header z)) eh
+    ∙ ap (λ (z : ℕ). encodeBlock (header (record { blocks = z; capacity = n; level = 0; next = 0; pages = 0; directories = 0; d0 = 0; d1 = 0; d2 = 0; d3 = 0 }))) eb)

@@ -1,0 +1,25 @@
+-- The tests of a call, as the number of the first that holds.
+use Prim.Native.Nat.{ℕ}
+use mathlib.Core.Bool.{Bool, true, false}
+use mathlib.Core.Option.{Option, none, some}
+use mathlib.Core.List.{List, [], _∷_, _++_}
+use lib.Dec.{ltb}
+use Rattle.basics.specs.Basics.{if_then_else_}
+use Rattle.blocks.specs.Limits.{payloadLimit}
+use Rattle.model.specs.State.{Store}
+use Rattle.model.specs.Transactions.{Test, _when_, notOpen, noTable, foreign, present, unseen, full}
+
+-- the number of the first test that holds, 0 if none does
+unfoldable pub verdict : List Test → ℕ
+verdict [] = 0
+verdict ((n when b) ∷ ts) = if b then n else verdict ts
+
+-- 4 without a store
+unfoldable pub verdictIn : Option Store → (Store → List Test) → ℕ
+verdictIn none tests = 4
+verdictIn (some s) tests = verdict (tests s)
+
+-- the tests of insert (a new key) and replace, with a payload of n bytes; those of delete with none
+unfoldable pub writeTests : Bool → ℕ → ℕ → ℕ → ℕ → Store → List Test
+writeTests new tx t k n s =
+    notOpen tx s ++ (noTable t ∷ 11 when ltb payloadLimit n ∷ foreign tx t k s ∷ (if new then present t k s else unseen tx t k s) ∷ full s)
