@@ -63,18 +63,21 @@ module _ (old new : List ℕ) (at k : ℕ) (xs : List Op) where
 
 -- ---- operations as numbers
 
-pub removal : (n : ℕ) → opOf (2 * n) ≡ toRemove n
+pub removal : (n : ℕ) → n < 4294967296 → opOf (2 * n) ≡ toRemove n
 unfolding opOf if_then_else_
-removal n =
+removal n h =
     let a : 2 * n % 2 ≡ 0 = omega arith in
-    let b : 2 * n / 2 ≡ n = omega arith in
+    let d : 2 * n / 2 ≡ n = omega arith in
+    let k : n % 4294967296 ≡ n = omega arith in
+    let b : 2 * n / 2 % 4294967296 ≡ n = ap (λ (z : ℕ). z % 4294967296) d ∙ k in
     rw (eq-eqb (2 * n % 2) 0 a, b)
 
-pub commitment : (n : ℕ) → opOf (2 * n + 1) ≡ toCommit n
+pub commitment : (n : ℕ) → n < 4294967296 → opOf (2 * n + 1) ≡ toCommit n
 unfolding opOf if_then_else_
-commitment n =
-    let a : (2 * n + 1) % 2 ≡ 1 = omega arith in
-    let b : (2 * n + 1) / 2 ≡ n = omega arith in
+commitment n h =
+    let d : (2 * n + 1) / 2 ≡ n = omega arith in
+    let k : n % 4294967296 ≡ n = omega arith in
+    let b : (2 * n + 1) / 2 % 4294967296 ≡ n = ap (λ (z : ℕ). z % 4294967296) d ∙ k in
     rw (ne-eqb ((2 * n + 1) % 2) 0 (λ z. omega arith), b)
 
 pub removals : (rs : List Row) → length (removeAll rs) ≡ length rs

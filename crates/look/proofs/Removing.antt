@@ -32,9 +32,9 @@ module _ (f : Flat) (ts : List ℕ) (i : ℕ) (h : i < length (f .rows)) (b : i 
     pub removal-room : k < length new
     removal-room = push-room old new at k (left 0) _ (left (i + 1)) opened (omega (arith, fits, removals (keep P (restRows f ts 0))))
 
-    pub next-removal : (n : ℕ) → n ≡ rowIn f i .number → Pushed old (set new k (2 * n)) at (k + 1) (removeAll (keep P (restRows f ts 0))) (removeAll (keep P (restRows f ts (i + 1))))
-    next-removal n q =
-        push-one old new at k (left 0) _ (left (i + 1)) (2 * n) (removal n ∙ ap toRemove (q ∙ sym (number-at f ts i))) removal-room opened
+    pub next-removal : (n : ℕ) → n < 4294967296 → n ≡ rowIn f i .number → Pushed old (set new k (2 * n)) at (k + 1) (removeAll (keep P (restRows f ts 0))) (removeAll (keep P (restRows f ts (i + 1))))
+    next-removal n w q =
+        push-one old new at k (left 0) _ (left (i + 1)) (2 * n) (removal n w ∙ ap toRemove (q ∙ sym (number-at f ts i))) removal-room opened
 
   pub no-removal : passes P f ts i ≡ false → Pushed old new at k (removeAll (keep P (restRows f ts 0))) (removeAll (keep P (restRows f ts i)))
       → Pushed old new at k (removeAll (keep P (restRows f ts 0))) (removeAll (keep P (restRows f ts (i + 1))))

@@ -16,9 +16,9 @@ use Rattle.memory.specs.declared.Entry.{Entry}
 
 -- ---- operations as numbers
 
--- the tuple's number doubled, and 1 more for a commit
+-- the tuple's number, of 32 bits, doubled, and 1 more for a commit
 unfoldable pub opOf : ℕ → Op
-opOf w = if eqb (w % 2) 0 then toRemove (w / 2) else toCommit (w / 2)
+opOf w = if eqb (w % 2) 0 then toRemove (w / 2 % 4294967296) else toCommit (w / 2 % 4294967296)
 
 unfoldable pub opsOf : List ℕ → List Op
 opsOf ws = map opOf ws

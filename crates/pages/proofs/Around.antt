@@ -16,7 +16,7 @@ use Rattle.memory.proofs.Runs.{pages-count}
 use Rattle.pages.specs.Turns.{Turns, pagesOf, pageAt, At, swapped, onPage}
 use Rattle.pages.specs.Changes.{settledAt, settledNext, Tries}
 use Rattle.pages.specs.Finding.{NoneOf}
-use Rattle.pages.proofs.Places.{from-page, turns-to}
+use Rattle.pages.proofs.Places.{from-page, swap-same}
 
 none-cons : {A : Type 0} (x : A) (xs : List A) → [] ≡ x ∷ xs → ⊥
 none-cons x xs e = let z : _≡_ {A = ℕ} 0 1 = cc in omega arith
@@ -99,6 +99,11 @@ module _ {m : List ℕ} {p start : ℕ} (a : At m p start) where
       → onPage f p none (pagesOf m) ≡ swapped p xs (pagesOf m)
   unfolding swapped listOf
   on-swap f xs h = on-local f (λ qs. xs ++ qs) p (pageAt m p) (pagesOf m) h (from-page a) none
+
+  pub on-same : (f g : Option Page → Page → List Page → List Page) → ((prev : Option Page) (qs : List Page) → f prev (pageAt m p) qs ≡ g prev (pageAt m p) qs)
+      → onPage f p none (pagesOf m) ≡ onPage g p none (pagesOf m)
+  unfolding swapped
+  on-same f g h = on-changed f g p (pageAt m p) (pageAt m p) (pagesOf m) h (from-page a) none ∙ ap (onPage g p none) (swap-same a)
 
   next-is : (rest : List Page) → settledNext p (pagesOf m) rest ≡ take p (pagesOf m) ++ settleNext rest (pageAt m p) (drop (suc p) (pagesOf m))
   unfolding settledNext listOf

@@ -14,9 +14,7 @@ use Rattle.model.specs.State.{Pending, nothing, adding, committing, removing, H
 use Rattle.model.specs.Rules.{calm, withPending, kept, asCommitted}
 use Rattle.memory.specs.Store.{ownerOf, pendingOf, tupleOf, heldOf, tupleBy}
 use Rattle.memory.specs.declared.Row.{Row}
-
-abbrev pub withFlags : Row → ℕ → Row
-withFlags r f = record { key = r .key; number = r .number; owner = r .owner; flags = f; size = r .size; payload = r .payload }
+use Rattle.pages.specs.Thawing.{withFlags}
 
 module _ (r : Row) (f : ℕ) where
   -- the two low bits stay
@@ -71,3 +69,33 @@ unfolding heldOf calm pendingOf if_then_else_
 held-calm r h =
     let z : r .flags / 4 % 4 ≡ 0 = omega arith in
     ap (λ (k : ℕ). record { tuple = tupleOf r; pending = pendingOf k }) z
+
+-- ---- a row whose pending operation takes hold
+
+module _ (r : Row) (f : ℕ) where
+  -- nothing is pending any more, and the tuple stays
+  pub held-done : f ≡ r .flags % 4 → heldOf (withFlags r f) ≡ calm (tupleOf r)
+  unfolding pendingOf if_then_else_ calm
+  held-done e = let z : f / 4 % 4 ≡ 0 = omega arith in held-flags r f nothing (omega arith) (omega arith) (ap pendingOf z)
+
+  -- the tuple is committed
+  pub held-kept : f ≡ r .flags % 4 - r .flags % 2 → heldOf (withFlags r f) ≡ calm (asCommitted (tupleOf r))
+  unfolding heldOf tupleOf asCommitted ownerOf if_then_else_ calm pendingOf tupleBy
+  held-kept e =
+      let d : f ≡ 2 * (r .flags / 2 % 2) = omega arith in
+      let e1 : f % 2 ≡ 0 = ap (λ (z : ℕ). z % 2) d ∙ mul-mod-right 2 (r .flags / 2 % 2) in
+      let h : f / 2 ≡ r .flags / 2 % 2 = omega arith in
+      let w : r .flags / 2 % 2 % 2 ≡ r .flags / 2 % 2 = omega arith in
+      let e2 : f / 2 % 2 ≡ r .flags / 2 % 2 = ap (λ (z : ℕ). z % 2) h ∙ w in
+      let q : f / 4 ≡ 0 = omega arith in
+      let e3 : f / 4 % 4 ≡ 0 = ap (λ (z : ℕ). z % 4) q in
+      λ i. record {
+        tuple = record {
+          key = r .key;
+          number = r .number;
+          owner = ownerOf (e1 i) (r .owner);
+          mark = eqb (e2 i) 1;
+          payload = take (r .size % (payloadLimit + 1)) (r .payload);
+        };
+        pending = pendingOf (e3 i);
+      }

@@ -7,3 +7,8 @@ pub mod Sizes
 pub mod Flags
 pub mod Splitting
 pub mod Around
+pub mod Edits
+pub mod Joining
+pub mod Removing
+pub mod Committing
+pub mod Ripening

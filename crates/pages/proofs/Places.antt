@@ -122,18 +122,20 @@ module _ (m : List ℕ) (h : holdsStore m ≡ true) (xs : List Page) (q : Page) 
 
 -- ---- exchanged pages
 
+pub swap-at : (p : ℕ) (xs : List Page) (q : Page) (ys rs : List Page) → length xs ≡ p → swapped p rs (xs ++ q ∷ ys) ≡ xs ++ (rs ++ ys)
+unfolding swapped
+swap-at p xs q ys rs l =
+    let k : length (xs ++ q ∷ []) ≡ suc p = length-append xs (q ∷ []) ∙ omega arith in
+    ap (λ (z : List Page). z ++ (rs ++ drop (suc p) (xs ++ q ∷ ys))) (take-at xs (q ∷ ys) p l)
+    ∙ ap (λ (z : List Page). xs ++ (rs ++ z)) (ap (drop (suc p)) (sym (append-assoc xs (q ∷ []) ys)) ∙ drop-at (xs ++ q ∷ []) ys (suc p) k)
+
 module _ {m : List ℕ} {p start : ℕ} (a : At m p start) where
   -- what is exchanged again
   pub swap-first : (q : Page) (qs rs : List Page) → swapped p rs (swapped p (q ∷ qs) (pagesOf m)) ≡ swapped p (rs ++ qs) (pagesOf m)
   unfolding swapped
   swap-first q qs rs =
       let ps : List Page = pagesOf m in
-      let x : List Page = take p ps in
-      let y : List Page = qs ++ drop (suc p) ps in
-      let l : length (x ++ q ∷ []) ≡ suc p = length-append x (q ∷ []) ∙ omega (arith, before-long a) in
-      ap (λ (z : List Page). z ++ (rs ++ drop (suc p) (x ++ q ∷ y))) (take-at x (q ∷ y) p (before-long a))
-      ∙ ap (λ (z : List Page). x ++ (rs ++ z)) (ap (drop (suc p)) (sym (append-assoc x (q ∷ []) y)) ∙ drop-at (x ++ q ∷ []) y (suc p) l)
-      ∙ ap (λ (z : List Page). x ++ z) (sym (append-assoc rs qs (drop (suc p) ps)))
+      swap-at p (take p ps) q (qs ++ drop (suc p) ps) rs (before-long a) ∙ ap (λ (z : List Page). take p ps ++ z) (sym (append-assoc rs qs (drop (suc p) ps)))
 
   pub swap-second : (q r : Page) (rs : List Page) → swapped (p + 1) rs (swapped p (q ∷ r ∷ []) (pagesOf m)) ≡ swapped p (q ∷ rs) (pagesOf m)
   unfolding swapped
@@ -141,12 +143,8 @@ module _ {m : List ℕ} {p start : ℕ} (a : At m p start) where
       let ps : List Page = pagesOf m in
       let x : List Page = take p ps in
       let y : List Page = drop (suc p) ps in
-      let l1 : length (x ++ q ∷ []) ≡ p + 1 = length-append x (q ∷ []) ∙ omega (arith, before-long a) in
-      let l2 : length (x ++ q ∷ r ∷ []) ≡ suc (p + 1) = length-append x (q ∷ r ∷ []) ∙ omega (arith, before-long a) in
-      ap (λ (z : List Page). take (p + 1) z ++ (rs ++ drop (suc (p + 1)) (x ++ q ∷ r ∷ y))) (sym (append-assoc x (q ∷ []) (r ∷ y)))
-      ∙ ap (λ (z : List Page). z ++ (rs ++ drop (suc (p + 1)) (x ++ q ∷ r ∷ y))) (take-at (x ++ q ∷ []) (r ∷ y) (p + 1) l1)
-      ∙ ap (λ (z : List Page). (x ++ q ∷ []) ++ (rs ++ z)) (ap (drop (suc (p + 1))) (sym (append-assoc x (q ∷ r ∷ []) y)) ∙ drop-at (x ++ q ∷ r ∷ []) y (suc (p + 1)) l2)
-      ∙ append-assoc x (q ∷ []) (rs ++ y)
+      let l : length (x ++ q ∷ []) ≡ p + 1 = length-append x (q ∷ []) ∙ omega (arith, before-long a) in
+      ap (swapped (p + 1) rs) (sym (append-assoc x (q ∷ []) (r ∷ y))) ∙ swap-at (p + 1) (x ++ q ∷ []) r y rs l ∙ append-assoc x (q ∷ []) (rs ++ y)
 
   pub swap-same : swapped p (pageAt m p ∷ []) (pagesOf m) ≡ pagesOf m
   unfolding swapped
@@ -191,3 +189,13 @@ pub turns-again : {m m1 m2 : List ℕ} {p start : ℕ} (a : At m p start) (q : P
     → Turns m m2 (swapped p qs (pagesOf m))
 turns-again {m} {m1} {m2} {p} {start} a q qs t u =
     turns-to (turns-then t u) (ap (swapped p qs) (turns-pages t) ∙ swap-first a q [] qs ∙ ap (λ (z : List Page). swapped p z (pagesOf m)) (append-nil qs))
+
+pub pos-of : (n : ℕ) → (n ≡ 0 → ⊥) → 0 < n
+pos-of zero h = absurd (h refl)
+pos-of (suc n) h = omega arith
+
+-- the page before p ends where p begins
+pub below : {m : List ℕ} {p start : ℕ} → At m p start → 0 < p → startOf (flatOf m) p ≡ startOf (flatOf m) (p - 1) + entryIn (flatOf m) (p - 1) .count
+below {m} {p} {start} a h =
+    let e : p ≡ p - 1 + 1 = omega arith in
+    ap (startOf (flatOf m)) e ∙ start-next (flatOf m) (p - 1) (omega (arith, a .inside))

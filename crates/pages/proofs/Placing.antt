@@ -134,7 +134,7 @@ module _ (t : ℕ) (x : Tuple) (q : Page) (qs : List Page) where
       let le : t ≤ q .table = omega arith in
       simp (le-ltb (q .table) t le, ne-eqb (q .table) t (λ e. omega arith))
 
-take-snoc : (ps : List Page) (i : ℕ) (q : Page) → drop i ps ≡ q ∷ drop (suc i) ps → take (suc i) ps ≡ take i ps ++ q ∷ []
+pub take-snoc : (ps : List Page) (i : ℕ) (q : Page) → drop i ps ≡ q ∷ drop (suc i) ps → take (suc i) ps ≡ take i ps ++ q ∷ []
 take-snoc [] zero q e = let z : _≡_ {A = ℕ} 0 1 = cc in absurd (omega arith)
 take-snoc [] (suc i) q e = let z : _≡_ {A = ℕ} 0 1 = cc in absurd (omega arith)
 take-snoc (p ∷ ps) zero q e = let h : p ≡ q = cc in ap (λ (z : Page). z ∷ []) h

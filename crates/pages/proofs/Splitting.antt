@@ -26,7 +26,8 @@ use Rattle.pages.proofs.Places.{turns-stay, turns-to, turns-again, swap
 use Rattle.pages.proofs.Searching.{tuples-is, table-is}
 use Rattle.pages.proofs.Sizes.{all-small}
 use Rattle.pages.proofs.Swaps.{fresh-page}
-use Rattle.pages.proofs.Flags.{withFlags, held-adding, held-calm}
+use Rattle.pages.specs.Thawing.{withFlags}
+use Rattle.pages.proofs.Flags.{held-adding, held-calm}
 
 -- ---- splitting once
 

@@ -2,14 +2,14 @@
 use Prim.Native.Nat.{ℕ, zero, suc, _+_, _-_, _≤_, _<_}
 use mathlib.Core.Path.{_≡_}
 use mathlib.Core.Bool.{Bool, true, false}
-use mathlib.Core.Option.{Option}
+use mathlib.Core.Option.{none}
 use mathlib.Core.List.{List, [], _∷_, _++_}
 use lib.ListN.{length, take}
 use Rattle.basics.specs.Basics.{if_then_else_, isEmpty}
 use Rattle.model.specs.State.{Held, Page}
-use Rattle.model.specs.Rules.{isNumber, hasNumber, isFrozen, goneLater, fresh, settle}
+use Rattle.model.specs.Rules.{isNumber, hasNumber, goneLater, kept, keptLater, fresh, withTuples, settle}
 use Rattle.memory.specs.Flat.{removeAt}
-use Rattle.pages.specs.Turns.{pagesOf, pageAt, tuplesAt, entryAt, At, onPage}
+use Rattle.pages.specs.Turns.{pagesOf, pageAt, tuplesAt, entryAt, startAt, At, onPage}
 use Rattle.pages.specs.declared.Found.{Found}
 use Rattle.pages.specs.declared.Found.the-variants.{Here, Nowhere}
 
@@ -28,9 +28,17 @@ editAt g (suc j) (h ∷ hs) = h ∷ editAt g j hs
 unfoldable pub takenAt : ℕ → List Held → List Held
 takenAt j hs = if isEmpty (editAt goneLater j hs) then hs else editAt goneLater j hs
 
--- page p with other tuples, dirty, and joined as it may be
-unfoldable pub settledBy : ℕ → List Held → List Page → Option Page → List Page
-settledBy p hs ps prev = onPage (λ o q qs. settle (fresh (q .table) hs ∷ []) o (fresh (q .table) hs) qs) p prev ps
+-- a page with tuple j committed: at once, or as a frozen page notes it
+unfoldable pub committedAt : ℕ → Page → Page
+committedAt j q = if q .frozen then withTuples q (editAt keptLater j (q .tuples)) else fresh (q .table) (editAt kept j (q .tuples))
+
+-- page p without row `at`, dirty
+abbrev pub lessOne : List ℕ → ℕ → ℕ → Page
+lessOne m p at = fresh (pageAt m p .table) (removeAt (at - startAt m p) (tuplesAt m p))
+
+-- page p has become q: it is dropped, joined as it may be, or replaced by the pages of rest
+unfoldable pub settledBy : ℕ → List Page → Page → List Page → List Page
+settledBy p rest q ps = onPage (λ o r qs. settle rest o q qs) p none ps
 
 -- no page passes the test
 abbrev pub NoneOf : (Page → Bool) → List Page → Type 0

@@ -5,16 +5,17 @@ use memory::Entry;
 use memory::Row;
 ghost use mathlib.Core.Path.{_≡_};
 ghost use mathlib.Core.Bool.{true, false};
-ghost use mathlib.Core.List.{List, _∷_, [], _++_};
+ghost use mathlib.Core.List.{List, _∷_, [], _++_, map};
 ghost use Prim.Native.Nat.{ℕ, _+_, _-_, _%_, _≤_, _<_};
 ghost use lib.ListN.{length, take, drop, set};
 ghost use Rattle.basics.specs.Basics.{sum};
-ghost use Rattle.model.specs.Rules.{heldSize, lead, fresh, calm, joined, place};
+ghost use Rattle.model.specs.Rules.{heldSize, lead, fresh, calm, withTuples, joins, joined, place, remove, commit, freeze};
 ghost use Rattle.memory.specs.Views.{tab};
 ghost use Rattle.memory.specs.Flat.{flatOf, entryIn, Room, insertAt, removeAt};
 ghost use Rattle.memory.specs.Store.{heldOf, heldIn, tupleOf, pageOf, pagesIn, holdsStore};
 ghost use Rattle.pages.specs.Turns.{Turns, pagesOf, pageAt, tuplesAt, entryAt, startAt, At, swapped};
-ghost use Rattle.pages.specs.Changes.{There, RowOn, CutAt, Dirty, Halved};
+ghost use Rattle.pages.specs.Changes.{There, RowOn, CutAt, Dirty, Halved, Tries, settledAt, settledNext};
+ghost use Rattle.pages.specs.Finding.{firstOf, FoundBy, takenAt, committedAt, lessOne, settledBy};
 ghost use Rattle.pages.specs.Spots.{afterLast, Spotted, FrontSpotted, PlaceAt, GrowAt, AddAt, placedOn};
 
 // Where a tuple goes: on a page whose rows begin at start, or on a new page before this one; as row `at`.
@@ -326,5 +327,291 @@ pub fn place(m: &mut [u8], table: u8, row: Row)
     match find_spot(m, table, row.key) {
         Spot::On { page, start, at } => grow(m, page, start, at, row),
         Spot::New { page, at } => add_page(m, table, page, at, row),
+    }
+}
+
+// ---- joining
+
+// Pages p and p + 1, the first of which begins at row start, may be joined.
+fn joinable(m: &[u8], p: usize, start: usize) -> bool
+    requires { ⌜ At (now m) p start × (p + 1 < length (flatOf (now m) .entries)) ⌝ }
+    ensures { λ r. ⌜ r ≡ joins (pageAt (now (m .entry)) p) (pageAt (now (m .entry)) (p + 1)) ⌝ }
+{
+    let a = memory::get_entry(m, p);
+    let b = memory::get_entry(m, p + 1);
+    let t = a.table % 8;
+    let u = b.table % 8;
+    if a.frozen != 0 {
+        return false;
+    }
+    if b.frozen != 0 {
+        return false;
+    }
+    if t != u {
+        return false;
+    }
+    let w = page_size(m, start, a.count as usize + b.count as usize);
+    w <= PageLayout::JOIN_SUM
+}
+
+// Page p, whose rows begin at start, joins its predecessor, if it may; whether it did.
+fn join_before(m: &mut [u8], p: usize, start: usize) -> bool
+    requires { ⌜ At (now m) p start ⌝ }
+    ensures { λ r. ⌜ Tries (now (m .entry)) (now (m .exit)) r (settledAt p (pagesOf (now (m .entry)))) (settledNext p (pagesOf (now (m .entry)))) ⌝ }
+{
+    if p == 0 {
+        return false;
+    }
+    let e = memory::get_entry(m, p - 1);
+    let before = start - e.count as usize;
+    if !joinable(m, p - 1, before) {
+        return false;
+    }
+    merge(m, p - 1);
+    true
+}
+
+// The same with its successor.
+fn join_after(m: &mut [u8], p: usize, start: usize) -> bool
+    requires { ⌜ At (now m) p start ⌝ }
+    ensures { λ r. ⌜ Tries (now (m .entry)) (now (m .exit)) r (settledNext p (pagesOf (now (m .entry)))) (λ rest. swapped p rest (pagesOf (now (m .entry)))) ⌝ }
+{
+    let c = memory::get_counts(m);
+    let n = c.pages as usize;
+    if n <= p + 1 {
+        return false;
+    }
+    if !joinable(m, p, start) {
+        return false;
+    }
+    merge(m, p);
+    true
+}
+
+// A changed page joins its predecessor, else its successor, if it may; whether it did.
+fn join(m: &mut [u8], p: usize, start: usize) -> bool
+    requires { ⌜ At (now m) p start ⌝ }
+    ensures { λ r. ⌜ Tries (now (m .entry)) (now (m .exit)) r (settledAt p (pagesOf (now (m .entry)))) (λ rest. swapped p rest (pagesOf (now (m .entry)))) ⌝ }
+{
+    if join_before(m, p, start) {
+        return true;
+    }
+    join_after(m, p, start)
+}
+
+// ---- a tuple by its number
+
+// The first row from start to end with this number; end, if there is none.
+fn find_number(m: &[u8], start: usize, end: usize, number: u32) -> usize
+    requires { ⌜ Room (now m) × ((start ≤ end) × (end ≤ length (flatOf (now m) .rows))) ⌝ }
+    ensures { λ r. ⌜ r ≡ start + firstOf number (tab (heldIn (flatOf (now (m .entry)))) start (end - start)) ⌝ }
+{
+    let mut i = start;
+    while i < end {
+        let n = memory::number_at(m, i);
+        if n == number {
+            return i;
+        }
+        i += 1;
+    }
+    end
+}
+
+// The first row with this number, and its page.
+fn find_row(m: &[u8], number: u32) -> Found
+    requires { ⌜ holdsStore (now m) ≡ true ⌝ }
+    ensures { λ r. ⌜ FoundBy (now (m .entry)) number r ⌝ }
+{
+    let c = memory::get_counts(m);
+    let n = c.pages as usize;
+    let mut start: usize = 0;
+    let mut p: usize = 0;
+    while p < n {
+        let e = memory::get_entry(m, p);
+        let end = start + e.count as usize;
+        let at = find_number(m, start, end, number);
+        if at < end {
+            return Found::Here {
+                page: p,
+                start: start,
+                at: at,
+            };
+        }
+        start = end;
+        p += 1;
+    }
+    Found::Nowhere
+}
+
+// ---- removing
+
+// On a frozen page: a pending add is taken away unless it is the last tuple, another becomes a pending remove.
+fn remove_later(m: &mut [u8], p: usize, at: usize)
+    requires { ⌜ RowOn (now m) p at ⌝ }
+    ensures { λ _. ⌜ Turns (now (m .entry)) (now (m .exit)) (swapped p (withTuples (pageAt (now (m .entry)) p) (takenAt (at - startAt (now (m .entry)) p) (tuplesAt (now (m .entry)) p)) ∷ []) (pagesOf (now (m .entry)))) ⌝ }
+{
+    let e = memory::get_entry(m, p);
+    let mut row = memory::get_row(m, at);
+    let f = row.flags;
+    let o = f / 4 % 4;
+    if o == 1 {
+        if e.count == 1 {
+            return;
+        }
+        take_out(
+            m,
+            p,
+            at,
+            Entry {
+                table: e.table,
+                frozen: e.frozen,
+                count: e.count - 1,
+                block: e.block,
+            },
+        );
+        return;
+    }
+    row.flags = f % 4 + 12;
+    change(m, p, at, row, e);
+}
+
+// On another page the row goes; the page is dropped if it is empty, else joined as it may be.
+fn remove_now(m: &mut [u8], p: usize, start: usize, at: usize)
+    requires { ⌜ At (now m) p start × RowOn (now m) p at ⌝ }
+    ensures { λ _. ⌜ Turns (now (m .entry)) (now (m .exit)) (settledBy p (lessOne (now (m .entry)) p at ∷ []) (lessOne (now (m .entry)) p at) (pagesOf (now (m .entry)))) ⌝ }
+{
+    let e = memory::get_entry(m, p);
+    if e.count == 1 {
+        drop_page(m, p, at);
+        return;
+    }
+    take_out(
+        m,
+        p,
+        at,
+        Entry {
+            table: e.table,
+            frozen: 0,
+            count: e.count - 1,
+            block: 0,
+        },
+    );
+    join(m, p, start);
+}
+
+// The tuple of this number goes, if there is one.
+pub fn remove(m: &mut [u8], number: u32)
+    requires { ⌜ holdsStore (now m) ≡ true ⌝ }
+    ensures { λ _. ⌜ Turns (now (m .entry)) (now (m .exit)) (remove number (pagesIn (flatOf (now (m .entry))))) ⌝ }
+{
+    match find_row(m, number) {
+        Found::Here { page, start, at } => {
+            let e = memory::get_entry(m, page);
+            if e.frozen != 0 {
+                remove_later(m, page, at);
+            } else {
+                remove_now(m, page, start, at);
+            }
+        }
+        Found::Nowhere => {}
+    }
+}
+
+// ---- committing
+
+// The tuple of row `at` on page p is committed: at once on a page that is not frozen, and so is a pending add. Another becomes
+// a pending commit; one pending removal is left alone.
+fn commit_at(m: &mut [u8], p: usize, at: usize)
+    requires { ⌜ RowOn (now m) p at ⌝ }
+    ensures { λ _. ⌜ Turns (now (m .entry)) (now (m .exit)) (swapped p (committedAt (at - startAt (now (m .entry)) p) (pageAt (now (m .entry)) p) ∷ []) (pagesOf (now (m .entry)))) ⌝ }
+{
+    let e = memory::get_entry(m, p);
+    let mut row = memory::get_row(m, at);
+    let f = row.flags;
+    let o = f / 4 % 4;
+    if e.frozen == 0 {
+        row.flags = f - f % 2;
+        change(
+            m,
+            p,
+            at,
+            row,
+            Entry {
+                table: e.table,
+                frozen: 0,
+                count: e.count,
+                block: 0,
+            },
+        );
+        return;
+    }
+    if o == 3 {
+        return;
+    }
+    if o == 1 {
+        row.flags = f - f % 2;
+        change(m, p, at, row, e);
+        return;
+    }
+    row.flags = f % 4 + 8;
+    change(m, p, at, row, e);
+}
+
+// The tuple of this number is committed, if there is one. No page is joined.
+pub fn commit(m: &mut [u8], number: u32)
+    requires { ⌜ holdsStore (now m) ≡ true ⌝ }
+    ensures { λ _. ⌜ Turns (now (m .entry)) (now (m .exit)) (commit number (pagesIn (flatOf (now (m .entry))))) ⌝ }
+{
+    match find_row(m, number) {
+        Found::Here { page, start: _, at } => commit_at(m, page, at),
+        Found::Nowhere => {}
+    }
+}
+
+// ---- freezing
+
+// Page p is frozen if it is dirty.
+fn freeze_page(m: &mut [u8], p: usize)
+    requires { ⌜ There (now m) p ⌝ }
+    ensures { λ _. ⌜ Turns (now (m .entry)) (now (m .exit)) (swapped p (freeze (pageAt (now (m .entry)) p) ∷ []) (pagesOf (now (m .entry)))) ⌝ }
+{
+    let e = memory::get_entry(m, p);
+    let b = e.block % 4096;
+    if b == 0 {
+        mark(
+            m,
+            p,
+            Entry {
+                table: e.table,
+                frozen: 1,
+                count: e.count,
+                block: e.block,
+            },
+        );
+        return;
+    }
+    mark(
+        m,
+        p,
+        Entry {
+            table: e.table,
+            frozen: 0,
+            count: e.count,
+            block: e.block,
+        },
+    );
+}
+
+// Every dirty page is frozen.
+pub fn freeze(m: &mut [u8])
+    requires { ⌜ holdsStore (now m) ≡ true ⌝ }
+    ensures { λ _. ⌜ Turns (now (m .entry)) (now (m .exit)) (map freeze (pagesIn (flatOf (now (m .entry))))) ⌝ }
+{
+    let c = memory::get_counts(m);
+    let n = c.pages as usize;
+    let mut p: usize = 0;
+    while p < n {
+        freeze_page(m, p);
+        p += 1;
     }
 }

@@ -3,3 +3,7 @@ pub mod Verdicts
 pub mod Opening
 pub mod Reading
 pub mod Making
+pub mod Listing
+pub mod Testing
+pub mod Writing
+pub mod Called

@@ -7,6 +7,11 @@ use lib.Dec.{ltb}
 use Rattle.basics.specs.Basics.{if_then_else_}
 use Rattle.blocks.specs.Limits.{payloadLimit}
 use Rattle.model.specs.State.{Store}
+use Rattle.memory.specs.Flat.{Flat}
+use Rattle.look.specs.Sightings.{picked}
+use Rattle.look.specs.declared.Look.{Look}
+use Rattle.look.specs.declared.Seen.{Seen}
+use Rattle.look.specs.declared.Seen.the-variants.{At, Nothing}
 use Rattle.model.specs.Transactions.{Test, _when_, notOpen, noTable, foreign, present, unseen, full}
 
 -- the number of the first test that holds, 0 if none does
@@ -23,3 +28,13 @@ verdictIn (some s) tests = verdict (tests s)
 unfoldable pub writeTests : Bool → ℕ → ℕ → ℕ → ℕ → Store → List Test
 writeTests new tx t k n s =
     notOpen tx s ++ (noTable t ∷ 11 when ltb payloadLimit n ∷ foreign tx t k s ∷ (if new then present t k s else unseen tx t k s) ∷ full s)
+
+-- 14 for a key that is not seen
+unfoldable pub lost : Seen → ℕ
+lost (At i) = 0
+lost Nothing = 14
+
+-- 13 or 14 by a look at the key, 0 if it passes
+unfoldable pub keyVerdict : Bool → Flat → Look → ℕ
+keyVerdict true f l = if l .any then 13 else 0
+keyVerdict false f l = lost (picked f l)

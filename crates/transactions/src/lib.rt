@@ -1,7 +1,10 @@
 // Make, and the calls of transactions. No call asks anything of its caller: each contract says what the call answers and leaves, for
 // any memory and any arguments, by the model's function.
 use blocks::Header;
+use look::Look;
 use look::Seen;
+use memory::Head;
+use memory::Row;
 ghost use mathlib.Core.Path.{_≡_};
 ghost use mathlib.Core.Bool.{Bool, true};
 ghost use mathlib.Core.List.{List, [], _∷_, _++_};
@@ -10,8 +13,12 @@ ghost use lib.ListN.{length, drop};
 ghost use Rattle.model.specs.Transactions.{notOpen, openCall, readCall, listCall, listing, openNumbers};
 ghost use Rattle.memory.specs.Flat.{flatOf, Room};
 ghost use Rattle.memory.specs.Store.{holdsStore, storeIn, storeOf};
+ghost use mathlib.Core.Option.{some};
+ghost use Rattle.model.specs.Transactions.{full, insertCall, replaceCall, deleteCall};
+ghost use Rattle.memory.specs.Store.{tupleOf, activeOf};
+ghost use Rattle.transactions.specs.Writes.{flagsOf, bumped, NewRow, AcceptAt, afterWrite};
 ghost use Rattle.transactions.specs.Shape.{Answers, Replies, Made};
-ghost use Rattle.transactions.specs.Refusals.{verdictIn, writeTests};
+ghost use Rattle.transactions.specs.Refusals.{verdict, verdictIn, writeTests, keyVerdict};
 
 // Done; a count; how many a filled reply has; a refusal's number.
 pub enum Answer {
@@ -132,4 +139,193 @@ pub fn read(m: &[u8], transaction: u64, table: u64, key: u32, reply: &mut [u8]) 
     }
     memory::copy_payload(m, i, reply);
     Answer::Filled(n)
+}
+
+// The numbers of the open transactions, over the first bytes of the reply, high byte first.
+fn fill_list(m: &[u8], reply: &mut [u8])
+    requires { ⌜ Room (now m) × (2 * length (flatOf (now m) .opens) ≤ length (now reply)) ⌝ }
+    ensures { λ _. ⌜ now (reply .exit) ≡ listing (openNumbers (storeOf (flatOf (now (m .entry))) .active)) ++ drop (2 * length (flatOf (now (m .entry)) .opens)) (now (reply .entry)) ⌝ }
+{
+    let c = memory::get_counts(m);
+    let n = c.opens as usize;
+    let mut i: usize = 0;
+    while i < n {
+        let t = memory::get_open(m, i) / 1048576;
+        reply[2 * i] = (t / 256 % 256) as u8;
+        reply[2 * i + 1] = (t % 256) as u8;
+        i += 1;
+    }
+}
+
+pub fn list(m: &[u8], reply: &mut [u8]) -> Answer
+    ensures { λ r. ⌜ Replies (listCall (length (now (reply .entry)))) (now (m .entry)) r (now (reply .entry)) (now (reply .exit)) ⌝ }
+{
+    if !memory::holds_store(m) {
+        return Answer::Refused(4);
+    }
+    let c = memory::get_counts(m);
+    let n = c.opens as usize;
+    if reply.len() < 2 * n {
+        return Answer::Refused(21);
+    }
+    fill_list(m, reply);
+    Answer::Filled(n)
+}
+
+// ---- insert, replace, delete
+
+// 13 for a new key, 14 for another, by the look l at the key; 0 if it passes.
+fn key_refusal(m: &[u8], new: bool, l: Look) -> u64
+    requires { ⌜ Room (now m) × (l .own ≤ length (flatOf (now m) .rows)) ⌝ }
+    ensures { λ r. ⌜ r ≡ keyVerdict new (flatOf (now (m .entry))) l ⌝ }
+{
+    if new {
+        if l.any {
+            return 13;
+        }
+        return 0;
+    }
+    let Seen::At(_) = look::pick(m, l) else {
+        return 14;
+    };
+    0
+}
+
+// 15 N tuples held; 16 next number is 4,294,967,295; else 0.
+fn full_refusal(m: &[u8]) -> u64
+    requires { ⌜ holdsStore (now m) ≡ true ⌝ }
+    ensures { λ r. ⌜ r ≡ verdict (full (storeOf (flatOf (now (m .entry))))) ⌝ }
+{
+    let h = memory::get_head(m);
+    let c = memory::get_counts(m);
+    if h.capacity <= c.rows {
+        return 15;
+    }
+    if h.next == 4294967295 {
+        return 16;
+    }
+    0
+}
+
+// The number of the first test that holds, 0 if none does. new: insert; else replace, or delete with an empty payload.
+fn write_refusal(m: &[u8], new: bool, transaction: u64, table: u64, key: u32, len: usize) -> u64
+    ensures { λ r. ⌜ r ≡ verdictIn (storeIn (now (m .entry))) (writeTests new transaction table key len) ⌝ }
+{
+    let v = not_open(m, transaction);
+    if v != 0 {
+        return v;
+    }
+    if 7 < table {
+        return 10;
+    }
+    if 40 < len {
+        return 11;
+    }
+    let t = table as u8;
+    let l = look::look_up(m, t, transaction, key);
+    if l.foreign {
+        return 12;
+    }
+    let w = key_refusal(m, new, l);
+    if w != 0 {
+        return w;
+    }
+    full_refusal(m)
+}
+
+// The flags of a tentative tuple with nothing pending.
+fn flags_of(mark: bool) -> u8
+    ensures { λ r. ⌜ r ≡ flagsOf mark ⌝ }
+{
+    if mark {
+        return 3;
+    }
+    1
+}
+
+fn new_row(key: u32, number: u32, owner: u32, mark: bool, payload: &[u8]) -> Row
+    requires { ⌜ length (now payload) ≤ 40 ⌝ }
+    ensures { λ r. ⌜ NewRow r key number owner mark (now (payload .entry)) ⌝ }
+{
+    let n = payload.len();
+    let b = memory::padded(payload, 0, n);
+    let f = flags_of(mark);
+    Row {
+        key: key,
+        number: number,
+        owner: owner,
+        flags: f,
+        size: n as u8,
+        payload: b,
+    }
+}
+
+// One tuple more was written. The count stays in its 20 bits.
+fn bump(w: u32) -> u32
+    ensures { λ r. ⌜ activeOf r ≡ bumped w ⌝ }
+{
+    if w % 1048576 == 1048575 {
+        return w;
+    }
+    w + 1
+}
+
+// All tests are passed: the counters go up, and the tuple is placed.
+fn accept(m: &mut [u8], transaction: u64, table: u8, key: u32, mark: bool, payload: &[u8])
+    requires { ⌜ AcceptAt (now m) transaction table (now payload) ⌝ }
+    ensures { λ _. ⌜ (length (now (m .exit)) ≡ length (now (m .entry))) × (storeIn (now (m .exit)) ≡ some (afterWrite transaction table key (now (payload .entry)) mark (storeOf (flatOf (now (m .entry)))))) ⌝ }
+{
+    let h = memory::get_head(m);
+    let i = look::find_open(m, transaction);
+    let w = memory::get_open(m, i);
+    let row = new_row(key, h.next, w, mark, payload);
+    let g = Head {
+        capacity: h.capacity,
+        blocks: h.blocks,
+        level: h.level,
+        next: h.next + 1,
+        running: h.running,
+        begun: h.begun,
+        taken: h.taken,
+    };
+    memory::put_head(m, g);
+    memory::put_open(m, i, bump(w));
+    pages::place(m, table, row);
+}
+
+pub fn insert(m: &mut [u8], transaction: u64, table: u64, key: u32, payload: &[u8]) -> Answer
+    ensures { λ r. ⌜ Answers (insertCall transaction table key (now (payload .entry))) (now (m .entry)) r (now (m .exit)) ⌝ }
+{
+    let v = write_refusal(m, true, transaction, table, key, payload.len());
+    if v != 0 {
+        return Answer::Refused(v);
+    }
+    let t = table as u8;
+    accept(m, transaction, t, key, false, payload);
+    Answer::Done
+}
+
+pub fn replace(m: &mut [u8], transaction: u64, table: u64, key: u32, payload: &[u8]) -> Answer
+    ensures { λ r. ⌜ Answers (replaceCall transaction table key (now (payload .entry))) (now (m .entry)) r (now (m .exit)) ⌝ }
+{
+    let v = write_refusal(m, false, transaction, table, key, payload.len());
+    if v != 0 {
+        return Answer::Refused(v);
+    }
+    let t = table as u8;
+    accept(m, transaction, t, key, false, payload);
+    Answer::Done
+}
+
+// A delete mark with empty payload.
+pub fn delete(m: &mut [u8], transaction: u64, table: u64, key: u32) -> Answer
+    ensures { λ r. ⌜ Answers (deleteCall transaction table key) (now (m .entry)) r (now (m .exit)) ⌝ }
+{
+    let v = write_refusal(m, false, transaction, table, key, 0);
+    if v != 0 {
+        return Answer::Refused(v);
+    }
+    let t = table as u8;
+    accept(m, transaction, t, key, true, b"");
+    Answer::Done
 }

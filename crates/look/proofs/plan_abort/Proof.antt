@@ -118,7 +118,7 @@ loop-again c = let a = c .before .before .before .before .before .before .before
       (
         omega (arith, c .before .before .loop-test .taken),
         ⊎-elim
-            (λ w. pushed-by (a .ops .now) _ _ 0 _ _ _ _ (w .2) (w .3) (next-removal f ts (l .i) h1 h2 (isOwn (a .transaction)) (a .ops .now) (l .ops) 0 (l .k) (e ∙ w .0 .taken) b (l .inv .1 .1) _ (w .1 .ensures)))
+            (λ w. pushed-by (a .ops .now) _ _ 0 _ _ _ _ (w .2) (w .3) (next-removal f ts (l .i) h1 h2 (isOwn (a .transaction)) (a .ops .now) (l .ops) 0 (l .k) (e ∙ w .0 .taken) b (l .inv .1 .1) _ (omega (arith, w .1 .ok)) (w .1 .ensures)))
             (λ w. pushed-by (a .ops .now) _ _ 0 _ _ _ _ (w .1) (w .2) (no-removal f ts (l .i) h1 h2 (isOwn (a .transaction)) (a .ops .now) (l .ops) 0 (l .k) (e ∙ w .0 .left) (l .inv .1 .1)))
             (c .if1 .came),
       ),

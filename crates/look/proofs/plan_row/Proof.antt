@@ -100,7 +100,7 @@ returns-4 c = let a = c .before .before .before .before .before .before .before 
     let f : Flat = flatOf (a .m .now) in
     let o : passes (isOwn (a .transaction)) f (a .ts .now) (a .i) ≡ true = owns-any f [] (a .i) (a .transaction) (a .ts .now) ∙ sym (c .before .before .before .before .before .before .before .before .before .before .before .before .owns .ensures) ∙ not-false _ (c .before .before .before .before .before .before .before .before .before .before .before .if1 .left) in
     let q = ops-kept (a .transaction) f (a .ts .now) (a .i) _ _ refl (c .before .before .before .before .before .before .before .before .before .key-at .ensures) o (sym (c .before .before .before .before .before .before .before .before .own-later .ensures) ∙ c .before .before .before .before .before .before .before .if2 .left) _ (c .before .before .before .before .before .before .number-at .ensures) (λ e. c .before .before .before .before .if3 .left (ap (λ (z : ℕ). z / 2 % 2) (c .before .before .before .before .before .flags-at .ensures) ∙ e)) in
-    append-after (a .ops .now) _ (a .at) _ _ _ _ _ q (commitment (c .before .before .before .before .before .before .number-at .result)) (omega (arith, ap length q, c .before .before .before .before .before .before .before .before .before .before .before .before .before .before .before .before .pre .1 .1 .1 .0, c .before .before .before .before .before .before .before .before .before .before .before .before .before .before .before .before .pre .1 .1 .1 .1)) (c .before .before .remove-all2 .ensures)
+    append-after (a .ops .now) _ (a .at) _ _ _ _ _ q (commitment (c .before .before .before .before .before .before .number-at .result) (omega arith)) (omega (arith, ap length q, c .before .before .before .before .before .before .before .before .before .before .before .before .before .before .before .before .pre .1 .1 .1 .0, c .before .before .before .before .before .before .before .before .before .before .before .before .before .before .before .before .pre .1 .1 .1 .1)) (c .before .before .remove-all2 .ensures)
 
 pub plan-row-spec : {M : Type 1} → statement M
 plan-row-spec =

@@ -89,7 +89,7 @@ loop-again c = let a = c .before .before .before .before .before .before .before
       (
         omega arith,
         ⊎-elim
-            (λ w. pushed-by (a .ops .now) _ _ (a .at) _ _ _ _ (w .2) (w .3) (next-removal f (a .ts .now) (l .i) h1 h2 C (a .ops .now) (l .ops) (a .at) (l .k) (sym (c .before .is-chosen .ensures) ∙ w .0 .taken) b (l .inv .1 .1) _ (w .1 .ensures)))
+            (λ w. pushed-by (a .ops .now) _ _ (a .at) _ _ _ _ (w .2) (w .3) (next-removal f (a .ts .now) (l .i) h1 h2 C (a .ops .now) (l .ops) (a .at) (l .k) (sym (c .before .is-chosen .ensures) ∙ w .0 .taken) b (l .inv .1 .1) _ (omega (arith, w .1 .ok)) (w .1 .ensures)))
             (λ w. pushed-by (a .ops .now) _ _ (a .at) _ _ _ _ (w .1) (w .2) (no-removal f (a .ts .now) (l .i) h1 h2 C (a .ops .now) (l .ops) (a .at) (l .k) (sym (c .before .is-chosen .ensures) ∙ w .0 .left) (l .inv .1 .1)))
             (c .if1 .came),
       ),

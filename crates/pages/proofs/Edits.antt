@@ -1,0 +1,176 @@
+-- One tuple of a page, found by its number, removed or changed.
+use mathlib.Core.Path.{_≡_, refl, sym, ap, _∙_, subst}
+use mathlib.Core.Bool.{Bool, true, false, not}
+use Prim.Native.Nat.{ℕ, zero, suc, _+_, _*_, _-_, _/_, _%_, _≤_, _<_}
+use native.Mathlib.Omega.{arith}
+use native.Mathlib.Numerals.{add-one}
+use native.Mathlib.Nat.{zero-add}
+use mathlib.Core.List.{List, [], _∷_, _++_}
+use lib.ListN.{length, take, drop, set, getD, length-set}
+use lib.Dec.{leb, eqb}
+use borrow.Author.Tests.{eq-eqb, ne-eqb, eqb-true, eqb-false}
+use Rattle.basics.specs.Basics.{if_then_else_, any, isEmpty}
+use Rattle.basics.proofs.Facts.{by, lie}
+use Rattle.model.specs.State.{Pending, nothing, adding, committing, removing, Held, Page}
+use Rattle.model.specs.Rules.{isAdding, isRemoving, isNumber, hasNumber, edit, gone, goneLater, takenLater, kept, keptLater, withPending, withTuples}
+use Rattle.model.proofs.Lists.{nonempty, nothing-left}
+use Rattle.memory.specs.Views.{tab}
+use Rattle.memory.specs.Flat.{flatOf, rowIn, noRow, removeAt}
+use Rattle.memory.specs.Store.{pendingOf, heldOf, heldIn}
+use Rattle.memory.specs.declared.Row.{Row}
+use Rattle.memory.proofs.Laws.{tab-next, getD-tab, length-tab}
+use Rattle.pages.specs.Turns.{tuplesAt, entryAt, startAt, At}
+use Rattle.pages.specs.Changes.{RowOn}
+use Rattle.pages.specs.Finding.{firstOf, editAt, takenAt}
+use Rattle.pages.proofs.Places.{tuples-many}
+use Rattle.pages.proofs.Searching.{tuples-is}
+use Rattle.pages.proofs.Swaps.{length-remove}
+
+-- ---- the first tuple of a number
+
+module _ (n : ℕ) where
+  first-here : (h : Held) (hs : List Held) → isNumber n h ≡ true → firstOf n (h ∷ hs) ≡ 0
+  unfolding firstOf if_then_else_
+  first-here h hs e = rw e
+
+  first-later : (h : Held) (hs : List Held) → isNumber n h ≡ false → firstOf n (h ∷ hs) ≡ suc (firstOf n hs)
+  unfolding firstOf if_then_else_
+  first-later h hs e = rw e
+
+  any-here : (h : Held) (hs : List Held) → isNumber n h ≡ true → any (isNumber n) (h ∷ hs) ≡ true
+  unfolding any
+  any-here h hs e = rw (e, any)
+
+  any-later : (h : Held) (hs : List Held) → isNumber n h ≡ false → any (isNumber n) (h ∷ hs) ≡ any (isNumber n) hs
+  unfolding any
+  any-later h hs e = rw (e, any)
+
+  pub first-any : (hs : List Held) → firstOf n hs < length hs → any (isNumber n) hs ≡ true
+  unfolding firstOf
+  first-any [] l = absurd (omega arith)
+  first-any (h ∷ hs) l =
+      by (isNumber n h) (λ e. any-here h hs e) (λ e. any-later h hs e ∙ first-any hs (omega (arith, first-later h hs e)))
+
+  pub first-none : (hs : List Held) → length hs ≤ firstOf n hs → any (isNumber n) hs ≡ false
+  unfolding any
+  first-none [] l = refl
+  first-none (h ∷ hs) l =
+      by (isNumber n h) (λ e. absurd (omega (arith, first-here h hs e))) (λ e. any-later h hs e ∙ first-none hs (omega (arith, first-later h hs e)))
+
+  pub edit-first : (g : Held → List Held) (hs : List Held) → edit g n hs ≡ editAt g (firstOf n hs) hs
+  unfolding edit editAt firstOf if_then_else_
+  edit-first g [] = refl
+  edit-first g (h ∷ hs) = by (isNumber n h) (λ e. rw e) (λ e. rw e (ap (λ (z : List Held). h ∷ z) (edit-first g hs)))
+
+  pub taken-first : (hs : List Held) → takenLater n hs ≡ takenAt (firstOf n hs) hs
+  unfolding takenLater takenAt
+  taken-first hs = ap (λ (z : List Held). if isEmpty z then hs else z) (edit-first goneLater hs)
+
+  -- turn by turn
+  module _ (f : ℕ → Held) (i e : ℕ) where
+    pub find-hit : i < e → f i .tuple .number ≡ n → firstOf n (tab f i (e - i)) ≡ 0
+    unfolding isNumber
+    find-hit h q = ap (firstOf n) (tab-next f i e h) ∙ first-here (f i) (tab f (i + 1) (e - (i + 1))) (eq-eqb _ n q)
+
+    pub find-past : i < e → (f i .tuple .number ≡ n → ⊥) → firstOf n (tab f i (e - i)) ≡ suc (firstOf n (tab f (i + 1) (e - (i + 1))))
+    unfolding isNumber
+    find-past h q = ap (firstOf n) (tab-next f i e h) ∙ first-later (f i) (tab f (i + 1) (e - (i + 1))) (ne-eqb _ n q)
+
+    pub find-end : e ≤ i → firstOf n (tab f i (e - i)) ≡ 0
+    unfolding firstOf
+    find-end h = let z : e - i ≡ 0 = omega arith in ap (λ (k : ℕ). firstOf n (tab f i k)) z
+
+-- ---- tuple j
+
+module _ (g : Held → List Held) (d : Held) where
+  pub edit-none : (hs : List Held) (j : ℕ) → j < length hs → g (getD hs j d) ≡ [] → editAt g j hs ≡ removeAt j hs
+  unfolding editAt
+  edit-none [] j h e = absurd (omega arith)
+  edit-none (x ∷ xs) zero h e = ap (λ (z : List Held). z ++ xs) e
+  edit-none (x ∷ xs) (suc j) h e =
+      let z : suc j + 1 ≡ suc (j + 1) = omega arith in
+      ap (λ (y : List Held). x ∷ y) (edit-none xs j (omega arith) e) ∙ ap (λ (k : ℕ). take (suc j) (x ∷ xs) ++ drop k (x ∷ xs)) (sym z)
+
+  pub edit-one : (x : Held) (hs : List Held) (j : ℕ) → g (getD hs j d) ≡ x ∷ [] → editAt g j hs ≡ set hs j x
+  unfolding editAt
+  edit-one x [] j e = refl
+  edit-one x (y ∷ ys) zero e = ap (λ (z : List Held). z ++ ys) e
+  edit-one x (y ∷ ys) (suc j) e = ap (λ (z : List Held). y ∷ z) (edit-one x ys j e)
+
+taken-some : (j : ℕ) (hs left : List Held) → editAt goneLater j hs ≡ left → 0 < length left → takenAt j hs ≡ left
+unfolding takenAt if_then_else_
+taken-some j hs left e l =
+    ap (λ (z : List Held). if isEmpty z then hs else z) e ∙ ap (λ (b : Bool). if b then hs else left) (nonempty left l)
+
+pub empty-none : (xs : List Held) → length xs ≡ 0 → isEmpty xs ≡ true
+unfolding isEmpty
+empty-none [] e = refl
+empty-none (x ∷ xs) e = absurd (omega arith)
+
+module _ (j : ℕ) (hs : List Held) (d : Held) (lt : j < length hs) where
+  later-none : isAdding (getD hs j d .pending) ≡ true → editAt goneLater j hs ≡ removeAt j hs
+  unfolding goneLater if_then_else_
+  later-none e = edit-none goneLater d hs j lt (rw e)
+
+  -- the last one stays
+  pub taken-last : isAdding (getD hs j d .pending) ≡ true → length hs ≡ 1 → takenAt j hs ≡ hs
+  unfolding takenAt if_then_else_
+  taken-last e l =
+      ap (λ (z : List Held). if isEmpty z then hs else z) (later-none e)
+      ∙ ap (λ (b : Bool). if b then hs else removeAt j hs) (empty-none (removeAt j hs) (length-remove j hs lt ∙ omega arith))
+
+  pub taken-away : isAdding (getD hs j d .pending) ≡ true → 1 < length hs → takenAt j hs ≡ removeAt j hs
+  taken-away e l = taken-some j hs (removeAt j hs) (later-none e) (omega (arith, length-remove j hs lt))
+
+  pub taken-noted : (x : Held) → isAdding (getD hs j d .pending) ≡ false → x ≡ withPending removing (getD hs j d) → takenAt j hs ≡ set hs j x
+  unfolding goneLater if_then_else_
+  taken-noted x e ex =
+      taken-some j hs (set hs j x) (edit-one goneLater d x hs j (rw (e, ex) refl)) (omega (arith, length-set hs j x))
+
+-- ---- the tuple of a row
+
+pub held-at : {m : List ℕ} {p at : ℕ} → RowOn m p at → getD (tuplesAt m p) (at - startAt m p) (heldOf noRow) ≡ heldIn (flatOf m) at
+held-at {m} {p} {at} r =
+    let z : startAt m p + (at - startAt m p) ≡ at = omega (arith, r .least) in
+    ap (λ (hs : List Held). getD hs (at - startAt m p) (heldOf noRow)) (tuples-is m p)
+    ∙ getD-tab (heldIn (flatOf m)) (startAt m p) (entryAt m p .count) (at - startAt m p) (heldOf noRow) (omega (arith, r .least, r .most))
+    ∙ ap (heldIn (flatOf m)) z
+
+pub row-inside : {m : List ℕ} {p at : ℕ} → RowOn m p at → at - startAt m p < length (tuplesAt m p)
+row-inside {m} {p} {at} r =
+    let a : At m p (startAt m p) = record { held = r .there .held; inside = r .there .inside; begins = refl } in
+    omega (arith, tuples-many a, r .least, r .most)
+
+-- ---- what is pending
+
+pub pending-is : (r : Row) → heldOf r .pending ≡ pendingOf (r .flags / 4 % 4)
+unfolding heldOf
+pending-is r = refl
+
+gap : (k : ℕ) → (k ≡ 0 → ⊥) → (k ≡ 1 → ⊥) → (k ≡ 2 → ⊥) → k < 4 → (k ≡ 3 → ⊥) → ⊥
+gap zero a b c l d = a refl
+gap (suc zero) a b c l d = b refl
+gap (suc (suc zero)) a b c l d = c refl
+gap (suc (suc (suc zero))) a b c l d = d refl
+gap (suc (suc (suc (suc k)))) a b c l d = absurd (omega arith)
+
+module _ (k : ℕ) where
+  pub adding-is : k ≡ 1 → isAdding (pendingOf k) ≡ true
+  unfolding isAdding pendingOf if_then_else_
+  adding-is e = ap (λ (z : ℕ). isAdding (pendingOf z)) e
+
+  pub not-adding : (k ≡ 1 → ⊥) → isAdding (pendingOf k) ≡ false
+  unfolding isAdding pendingOf if_then_else_
+  not-adding ne =
+      by (eqb k 0) (λ e. rw e refl) (λ e0. by (eqb k 2) (λ e2. rw (e0, ne-eqb k 1 ne, e2) refl) (λ e2. rw (e0, ne-eqb k 1 ne, e2) refl))
+
+  pub removing-is : k ≡ 3 → isRemoving (pendingOf k) ≡ true
+  unfolding isRemoving pendingOf if_then_else_
+  removing-is e = ap (λ (z : ℕ). isRemoving (pendingOf z)) e
+
+  pub not-removing : k < 4 → (k ≡ 3 → ⊥) → isRemoving (pendingOf k) ≡ false
+  unfolding isRemoving pendingOf if_then_else_
+  not-removing l ne =
+      by (eqb k 0) (λ e. rw e refl)
+      (λ e0. by (eqb k 1) (λ e1. rw (e0, e1) refl)
+      (λ e1. by (eqb k 2) (λ e2. rw (e0, e1, e2) refl) (λ e2. absurd (gap k (eqb-false k 0 e0) (eqb-false k 1 e1) (eqb-false k 2 e2) l ne))))

@@ -1,0 +1,215 @@
+-- A removal, on a frozen page and on another; and the model's rule by place.
+use mathlib.Core.Path.{_≡_, refl, sym, ap, _∙_, subst}
+use mathlib.Core.Bool.{Bool, true, false, not}
+use mathlib.Core.Option.{Option, none, some}
+use Prim.Native.Nat.{ℕ, zero, suc, _+_, _*_, _-_, _/_, _%_, _≤_, _<_}
+use native.Mathlib.Omega.{arith}
+use native.Mathlib.Numerals.{add-one}
+use mathlib.Core.List.{List, [], _∷_, _++_}
+use lib.ListN.{length, take, drop, set, getD}
+use lib.Seq.{take-all}
+use Rattle.basics.specs.Basics.{if_then_else_, any}
+use Rattle.model.specs.State.{removing, Held, Page}
+use Rattle.model.specs.Rules.{isAdding, isNumber, hasNumber, edit, gone, takenLater, withPending, withTuples, fresh, listOf, settle, settleFull, removeOn, remove, around}
+use Rattle.memory.specs.Flat.{flatOf, rowIn, noRow, removeAt}
+use Rattle.memory.specs.Store.{pendingOf, heldOf, heldIn, pageOf, pageIn, pagesIn, startOf, holdsStore}
+use Rattle.memory.specs.declared.Row.{Row}
+use Rattle.memory.specs.declared.Entry.{Entry}
+use Rattle.pages.specs.Turns.{Turns, pagesOf, pageAt, tuplesAt, entryAt, startAt, At, swapped, onPage}
+use Rattle.pages.specs.Changes.{There, RowOn, Tries, settledAt}
+use Rattle.pages.specs.Finding.{firstOf, editAt, takenAt, settledBy, NoneOf, FirstPage, FoundRow, FoundBy}
+use Rattle.memory.specs.Views.{tab}
+use Rattle.memory.proofs.Runs.{start-zero, pages-count}
+use Rattle.pages.proofs.Places.{turns-to, turns-stay, turns-then, swap-same, from-page, at-first, page-first, has-row, ends-at, tuples-many}
+use Rattle.pages.proofs.Searching.{table-is}
+use Rattle.pages.proofs.Swaps.{fresh-page, length-remove}
+use Rattle.pages.proofs.Splitting.{run-tuples, with-tuples}
+use Rattle.pages.specs.Thawing.{withFlags}
+use Rattle.pages.proofs.Flags.{held-pending}
+use Rattle.pages.proofs.Edits.{first-any, first-none, edit-none, edit-first, taken-first, taken-last, taken-away, taken-noted, held-at, row-inside, pending-is, adding-is, not-adding}
+use Rattle.pages.specs.declared.Found.{Found}
+use Rattle.pages.specs.declared.Found.the-variants.{Here, Nowhere}
+use Rattle.pages.proofs.Around.{on-swap, on-same, around-on, around-none, none-snoc}
+use Rattle.pages.proofs.Joining.{tries-done, settled-none, settled-by}
+
+pub more : (k : ℕ) → 1 ≤ k → (k ≡ 1 → ⊥) → 1 < k
+more zero l h = absurd (omega arith)
+more (suc zero) l h = absurd (h refl)
+more (suc (suc k)) l h = omega arith
+
+pub page-with : (m : List ℕ) (p : ℕ) (hs : List Held) → pageOf (entryAt m p) hs ≡ withTuples (pageAt m p) hs
+unfolding pageIn pageOf withTuples
+page-with m p hs = refl
+
+pub here : {m : List ℕ} {p at : ℕ} → RowOn m p at → At m p (startAt m p)
+here g = record { held = g .there .held; inside = g .there .inside; begins = refl }
+
+module _ {m : List ℕ} {p at : ℕ} (g : RowOn m p at) where
+  many-is : length (tuplesAt m p) ≡ entryAt m p .count
+  many-is = tuples-many (here g)
+
+  -- ---- on a frozen page
+
+  module _ (row : Row) (er : row ≡ rowIn (flatOf m) at) (e : Entry) (ee : e ≡ entryAt m p) where
+    pub held-row : getD (tuplesAt m p) (at - startAt m p) (heldOf noRow) ≡ heldOf row
+    held-row = held-at g ∙ ap heldOf (sym er)
+
+    row-adding : row .flags / 4 % 4 ≡ 1 → isAdding (getD (tuplesAt m p) (at - startAt m p) (heldOf noRow) .pending) ≡ true
+    row-adding h = ap (λ (z : Held). isAdding (z .pending)) held-row ∙ ap isAdding (pending-is row) ∙ adding-is _ h
+
+    row-other : (row .flags / 4 % 4 ≡ 1 → ⊥) → isAdding (getD (tuplesAt m p) (at - startAt m p) (heldOf noRow) .pending) ≡ false
+    row-other h = ap (λ (z : Held). isAdding (z .pending)) held-row ∙ ap isAdding (pending-is row) ∙ not-adding _ h
+
+    same-tuples : withTuples (pageAt m p) (tuplesAt m p) ≡ pageAt m p
+    unfolding withTuples
+    same-tuples = refl
+
+    pub later-last : row .flags / 4 % 4 ≡ 1 → e .count ≡ 1
+        → Turns m m (swapped p (withTuples (pageAt m p) (takenAt (at - startAt m p) (tuplesAt m p)) ∷ []) (pagesOf m))
+    later-last h l =
+        let k : length (tuplesAt m p) ≡ 1 = many-is ∙ ap (λ (x : Entry). x .count) (sym ee) ∙ l in
+        turns-to (turns-stay m (g .there .held))
+        (sym (ap (λ (z : List Held). swapped p (withTuples (pageAt m p) z ∷ []) (pagesOf m)) (taken-last (at - startAt m p) (tuplesAt m p) (heldOf noRow) (row-inside g) (row-adding h) k)
+        ∙ ap (λ (z : Page). swapped p (z ∷ []) (pagesOf m)) same-tuples ∙ swap-same (here g)))
+
+    pub later-away : {m' : List ℕ} (n : ℕ) → row .flags / 4 % 4 ≡ 1 → (e .count ≡ 1 → ⊥)
+        → Turns m m' (swapped p (pageOf (record { table = e .table; frozen = e .frozen; count = n; block = e .block }) (removeAt (at - startAt m p) (tuplesAt m p)) ∷ []) (pagesOf m))
+        → Turns m m' (swapped p (withTuples (pageAt m p) (takenAt (at - startAt m p) (tuplesAt m p)) ∷ []) (pagesOf m))
+    later-away n h l t =
+        let k : 1 < length (tuplesAt m p) = more (length (tuplesAt m p)) (omega (arith, many-is, has-row (here g))) (λ z. l (ap (λ (x : Entry). x .count) ee ∙ sym many-is ∙ z)) in
+        turns-to t (ap (λ (z : Page). swapped p (z ∷ []) (pagesOf m))
+        (ap (λ (x : Entry). pageOf (record { table = x .table; frozen = x .frozen; count = n; block = x .block }) (removeAt (at - startAt m p) (tuplesAt m p))) ee
+        ∙ with-tuples m p n (removeAt (at - startAt m p) (tuplesAt m p))
+        ∙ ap (withTuples (pageAt m p)) (sym (taken-away (at - startAt m p) (tuplesAt m p) (heldOf noRow) (row-inside g) (row-adding h) k))))
+
+    pub later-noted : {m' : List ℕ} (f : ℕ) → f ≡ row .flags % 4 + 12 → (row .flags / 4 % 4 ≡ 1 → ⊥)
+        → Turns m m' (swapped p (pageOf e (set (tuplesAt m p) (at - startAt m p) (heldOf (withFlags row f))) ∷ []) (pagesOf m))
+        → Turns m m' (swapped p (withTuples (pageAt m p) (takenAt (at - startAt m p) (tuplesAt m p)) ∷ []) (pagesOf m))
+    unfolding pendingOf if_then_else_
+    later-noted f ef h t =
+        let x : Held = heldOf (withFlags row f) in
+        let ex : x ≡ withPending removing (getD (tuplesAt m p) (at - startAt m p) (heldOf noRow)) =
+        held-pending row f 3 ef (omega arith) ∙ ap (withPending removing) (sym held-row) in
+        turns-to t (ap (λ (z : Page). swapped p (z ∷ []) (pagesOf m))
+        (ap (λ (y : Entry). pageOf y (set (tuplesAt m p) (at - startAt m p) x)) ee
+        ∙ page-with m p (set (tuplesAt m p) (at - startAt m p) x)
+        ∙ ap (withTuples (pageAt m p)) (sym (taken-noted (at - startAt m p) (tuplesAt m p) (heldOf noRow) (row-inside g) x (row-other h) ex))))
+
+  -- ---- on another page
+
+  module _ (n : ℕ) (en : n ≡ entryAt m p .count) where
+    abbrev left : List Held
+    left = removeAt (at - startAt m p) (tuplesAt m p)
+
+    left-long : length (removeAt (at - startAt m p) (tuplesAt m p)) ≡ n - 1
+    left-long = length-remove (at - startAt m p) (tuplesAt m p) (row-inside g) ∙ ap (λ (z : ℕ). z - 1) (many-is ∙ sym en)
+
+    abbrev new : Page
+    new = fresh (pageAt m p .table) left
+
+    pub now-none : n ≡ 1 → {m' : List ℕ} → Turns m m' (swapped p [] (pagesOf m)) → Turns m m' (settledBy p (new ∷ []) new (pagesOf m))
+    now-none e t = turns-to t (settled-none (here g) (pageAt m p .table) left (new ∷ []) (left-long ∙ omega arith))
+
+    module _ {m1 : List ℕ} (t k : ℕ) (et : t % 8 ≡ pageAt m p .table)
+        (u : Turns m m1 (swapped p (pageOf (record { table = t; frozen = 0; count = k; block = 0 }) (removeAt (at - startAt m p) (tuplesAt m p)) ∷ []) (pagesOf m))) where
+      came : Turns m m1 (swapped p (fresh (pageAt m p .table) (removeAt (at - startAt m p) (tuplesAt m p)) ∷ []) (pagesOf m))
+      came = turns-to u (ap (λ (z : Page). swapped p (z ∷ []) (pagesOf m)) (fresh-page t k left ∙ ap (λ (z : ℕ). fresh z left) et))
+
+      pub now-at : {start : ℕ} → At m p start → At m1 p start
+      now-at a = at-first a new [] came
+
+      pub now-joined : {m2 : List ℕ} (r : Bool) → 1 < n → Tries m1 m2 r (settledAt p (pagesOf m1)) (λ rest. swapped p rest (pagesOf m1))
+          → Turns m m2 (settledBy p (new ∷ []) new (pagesOf m))
+      now-joined r l v =
+          let a1 : At m1 p (startAt m p) = now-at (here g) in
+          turns-to (turns-then came (tries-done a1 r v))
+          (ap (λ (z : Page). settledAt p (pagesOf m1) (z ∷ [])) (page-first (here g) new [] came)
+          ∙ settled-by (here g) (pageAt m p .table) left (new ∷ []) (omega (arith, left-long)) came)
+
+-- ---- the rule
+
+module _ {m : List ℕ} {n p start at : ℕ} (o : FoundRow m n p start at) where
+  pub found-on : RowOn m p at
+  found-on =
+      let b = o .page .on .begins in
+      record { there = record { held = o .page .on .held; inside = o .page .on .inside }; least = omega (arith, o .least); most = omega (arith, o .most) }
+
+  pub found-first : firstOf n (tuplesAt m p) ≡ at - startAt m p
+  found-first = o .first ∙ ap (λ (z : ℕ). at - z) (o .page .on .begins)
+
+  pub found-around : (f : Option Page → Page → List Page → List Page) → around (hasNumber n) f none (pagesOf m) ≡ onPage f p none (pagesOf m)
+  found-around f = around-on f (hasNumber n) p (pageAt m p) (pagesOf m) (o .page .passed) (from-page (o .page .on)) (o .page .hits) none
+
+  pub removed-later : pageAt m p .frozen ≡ true
+      → swapped p (withTuples (pageAt m p) (takenAt (at - startAt m p) (tuplesAt m p)) ∷ []) (pagesOf m) ≡ remove n (pagesOf m)
+  unfolding remove removeOn if_then_else_
+  removed-later e =
+      let t : takenLater n (tuplesAt m p) ≡ takenAt (at - startAt m p) (tuplesAt m p) = taken-first n (tuplesAt m p) ∙ ap (λ (z : ℕ). takenAt z (tuplesAt m p)) found-first in
+      sym (found-around (removeOn n) ∙ on-swap (o .page .on) (removeOn n) (withTuples (pageAt m p) (takenAt (at - startAt m p) (tuplesAt m p)) ∷ [])
+      (λ prev qs. rw (e, t) refl))
+
+  pub removed-now : pageAt m p .frozen ≡ false → (q : Page) → q ≡ fresh (pageAt m p .table) (removeAt (at - startAt m p) (tuplesAt m p))
+      → settledBy p (q ∷ []) q (pagesOf m) ≡ remove n (pagesOf m)
+  unfolding remove removeOn settledBy if_then_else_ gone
+  removed-now e q eq =
+      let t : edit gone n (tuplesAt m p) ≡ removeAt (at - startAt m p) (tuplesAt m p) =
+      edit-first n gone (tuplesAt m p) ∙ ap (λ (z : ℕ). editAt gone z (tuplesAt m p)) found-first
+      ∙ edit-none gone (heldOf noRow) (tuplesAt m p) (at - startAt m p) (row-inside found-on) refl in
+      sym (found-around (removeOn n) ∙ on-same (o .page .on) (removeOn n) (λ prev r qs. settle (q ∷ []) prev q qs) (λ prev qs. rw (e, t, eq) refl))
+
+pub nowhere-around : (m : List ℕ) (n : ℕ) (f : Option Page → Page → List Page → List Page) → NoneOf (hasNumber n) (pagesOf m) → pagesOf m ≡ around (hasNumber n) f none (pagesOf m)
+unfolding listOf
+nowhere-around m n f h = sym (around-none f (hasNumber n) (pagesOf m) h none)
+
+-- ---- the search, page by page
+
+abbrev pub PassInv : List ℕ → (Page → Bool) → ℕ → ℕ → Type 0
+PassInv m hit p start = (p ≤ length (flatOf m .entries)) × ((start ≡ startOf (flatOf m) p) × NoneOf hit (take p (pagesOf m)))
+
+pub pass-start : (m : List ℕ) (hit : Page → Bool) → PassInv m hit 0 0
+pass-start m hit = (omega arith, (sym (start-zero (flatOf m)), tt))
+
+module _ (m : List ℕ) (h : holdsStore m ≡ true) (hit : Page → Bool) (p start : ℕ) (inv : PassInv m hit p start) where
+  pub pass-at : p < length (flatOf m .entries) → At m p start
+  pass-at lt = record { held = h; inside = lt; begins = inv .1 .0 }
+
+  pub pass-on : (lt : p < length (flatOf m .entries)) (end : ℕ) → end ≡ start + entryAt m p .count → hit (pageAt m p) ≡ false → PassInv m hit (p + 1) end
+  pass-on lt end ee e = (
+    omega arith,
+    (
+      ee ∙ sym (ends-at (pass-at lt)),
+      subst (λ (z : ℕ). NoneOf hit (take z (pagesOf m))) (sym (add-one p)) (none-snoc hit p (pageAt m p) (pagesOf m) (inv .1 .1) (from-page (pass-at lt)) e),
+    ),
+  )
+
+  pub pass-first : (lt : p < length (flatOf m .entries)) → hit (pageAt m p) ≡ true → FirstPage m hit p start
+  pass-first lt e = record { on = pass-at lt; passed = inv .1 .1; hits = e }
+
+  pub pass-end : length (flatOf m .entries) ≤ p → NoneOf hit (pagesOf m)
+  pass-end l = subst (NoneOf hit) (take-all p (pagesOf m) (omega (arith, pages-count (flatOf m)))) (inv .1 .1)
+
+module _ {m : List ℕ} {p start : ℕ} (a : At m p start) (n end at : ℕ) (ee : end ≡ start + entryAt m p .count)
+    (ea : at ≡ start + firstOf n (tab (heldIn (flatOf m)) start (end - start))) where
+  number-is : firstOf n (tuplesAt m p) ≡ at - start
+  number-is =
+      let el : end - start ≡ entryAt m p .count = omega arith in
+      let q : firstOf n (tab (heldIn (flatOf m)) start (end - start)) ≡ firstOf n (tuplesAt m p) = ap (firstOf n) (run-tuples a (end - start) el) in
+      omega arith
+
+  pub number-here : at < end → (hasNumber n (pageAt m p) ≡ true) × (firstOf n (tuplesAt m p) ≡ at - start)
+  unfolding hasNumber
+  number-here l = (first-any n (tuplesAt m p) (omega (arith, number-is, tuples-many a)), number-is)
+
+  pub number-none : end ≤ at → hasNumber n (pageAt m p) ≡ false
+  unfolding hasNumber
+  number-none l = first-none n (tuplesAt m p) (omega (arith, number-is, tuples-many a))
+
+-- where the search led
+module _ (m : List ℕ) (n : ℕ) (r : Found) (o : FoundBy m n r) where
+  pub found-here : (p s a : ℕ) → r ≡ Here p s a → FoundRow m n p s a
+  unfolding FoundBy
+  found-here p s a e = subst (FoundBy m n) e o
+
+  pub found-nowhere : r ≡ Nowhere → NoneOf (hasNumber n) (pagesOf m)
+  unfolding FoundBy
+  found-nowhere e = subst (FoundBy m n) e o

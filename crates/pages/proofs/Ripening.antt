@@ -1,0 +1,307 @@
+-- Pending operations take hold: rows, turn by turn, and the page that they leave.
+use mathlib.Core.Path.{_≡_, refl, sym, ap, _∙_, subst}
+use mathlib.Core.Bool.{Bool, true, false, not}
+use Prim.Native.Nat.{ℕ, zero, suc, _+_, _*_, _-_, _/_, _%_, _≤_, _<_}
+use native.Mathlib.Omega.{arith}
+use native.Mathlib.Numerals.{add-one}
+use mathlib.Core.List.{List, [], _∷_, _++_, map, append-assoc, append-nil}
+use lib.ListN.{length, take, drop, set, getD, length-append, length-map, length-drop, length-take, take-append-drop}
+use lib.Seq.{length-take-le, take-at, drop-at, getD-at, take-suc, drop-cons, set-split, drop-drop, getD-drop, take-append-seam}
+use lib.Dec.{eqb}
+use borrow.Author.Tests.{eq-eqb, ne-eqb, eqb-true, eqb-false}
+use Rattle.basics.specs.Basics.{if_then_else_, any, sum}
+use Rattle.basics.proofs.Facts.{by}
+use Rattle.model.specs.State.{Held, Page, Pending}
+use Rattle.model.specs.Rules.{isPending, isRemoving, isCommitting, ripe, ripened, calm, asCommitted, fresh}
+use Rattle.memory.specs.Views.{tab}
+use Rattle.memory.specs.Flat.{Flat, flatOf, rowIn, entryIn, noRow, Room, Becomes, withRows, withEntries, removeAt}
+use Rattle.memory.specs.Store.{pendingOf, heldOf, heldIn, tupleOf, pageOf, total, nest}
+use Rattle.memory.specs.declared.Row.{Row}
+use Rattle.memory.specs.declared.Entry.{Entry}
+use Rattle.memory.proofs.Laws.{tab-next}
+use Rattle.memory.proofs.Meaning.{becomes-then}
+use Rattle.memory.proofs.Exchange.{set-exchange}
+use Rattle.pages.specs.Turns.{Turns, pagesOf, pageAt, tuplesAt, entryAt, At, swapped}
+use Rattle.pages.specs.Thawing.{withFlags, ripeFlags, ripeOne, ripeRows, ripeTuples, ripeRun, RipensOne, Ripens, TakesHold}
+use Rattle.pages.proofs.Places.{turns-to, page-end}
+use Rattle.pages.proofs.Searching.{table-is}
+use Rattle.pages.proofs.Swaps.{map-append, turned-one, run-held, nest-one, fresh-page}
+use Rattle.pages.proofs.Flags.{held-done, held-kept, held-calm}
+use Rattle.pages.proofs.Edits.{pending-is, removing-is, not-removing}
+
+-- ---- what is pending
+
+module _ (k : ℕ) where
+  pub pending-none : k ≡ 0 → isPending (pendingOf k) ≡ false
+  unfolding isPending pendingOf if_then_else_
+  pending-none e = ap (λ (z : ℕ). isPending (pendingOf z)) e
+
+  pub pending-some : (k ≡ 0 → ⊥) → isPending (pendingOf k) ≡ true
+  unfolding isPending pendingOf if_then_else_
+  pending-some ne =
+      by (eqb k 1) (λ e1. rw (ne-eqb k 0 ne, e1) refl) (λ e1. by (eqb k 2) (λ e2. rw (ne-eqb k 0 ne, e1, e2) refl) (λ e2. rw (ne-eqb k 0 ne, e1, e2) refl))
+
+  committing-is : k ≡ 2 → isCommitting (pendingOf k) ≡ true
+  unfolding isCommitting pendingOf if_then_else_
+  committing-is e = ap (λ (z : ℕ). isCommitting (pendingOf z)) e
+
+  not-committing : (k ≡ 2 → ⊥) → isCommitting (pendingOf k) ≡ false
+  unfolding isCommitting pendingOf if_then_else_
+  not-committing ne =
+      by (eqb k 0) (λ e0. rw e0 refl) (λ e0. by (eqb k 1) (λ e1. rw (e0, e1) refl) (λ e1. rw (e0, e1, ne-eqb k 2 ne) refl))
+
+-- the test of a run, turn by turn
+abbrev pub waits : Held → Bool
+waits h = isPending (h .pending)
+
+module _ (f : ℕ → Held) (i e : ℕ) where
+  pub any-hit : i < e → waits (f i) ≡ true → any waits (tab f i (e - i)) ≡ true
+  unfolding any
+  any-hit h q = ap (any waits) (tab-next f i e h) ∙ rw (q, any) refl
+
+  pub any-past : i < e → waits (f i) ≡ false → any waits (tab f i (e - i)) ≡ any waits (tab f (i + 1) (e - (i + 1)))
+  unfolding any
+  any-past h q = ap (any waits) (tab-next f i e h) ∙ rw (q, any) refl
+
+  pub any-end : e ≤ i → any waits (tab f i (e - i)) ≡ false
+  unfolding any
+  any-end h = let z : e - i ≡ 0 = omega arith in ap (λ (k : ℕ). any waits (tab f i k)) z
+
+pub waits-is : (f : Flat) (i : ℕ) → waits (heldIn f i) ≡ isPending (pendingOf (rowIn f i .flags / 4 % 4))
+waits-is f i = ap isPending (pending-is (rowIn f i))
+
+-- ---- one row
+
+module _ (r : Row) where
+  abbrev k : ℕ
+  k = r .flags / 4 % 4
+
+  pub one-gone : r .flags / 4 % 4 ≡ 3 → ripeOne r ≡ []
+  unfolding ripeOne if_then_else_
+  one-gone e = rw (eq-eqb (r .flags / 4 % 4) 3 e)
+
+  module _ (ne : r .flags / 4 % 4 ≡ 3 → ⊥) where
+    pub one-same : r .flags / 4 % 4 ≡ 0 → ripeOne r ≡ r ∷ []
+    unfolding ripeOne if_then_else_
+    one-same e = rw (ne-eqb (r .flags / 4 % 4) 3 ne, eq-eqb (r .flags / 4 % 4) 0 e)
+
+    pub one-done : (r .flags / 4 % 4 ≡ 0 → ⊥) → ripeOne r ≡ withFlags r (ripeFlags (r .flags)) ∷ []
+    unfolding ripeOne if_then_else_
+    one-done n0 = rw (ne-eqb (r .flags / 4 % 4) 3 ne, ne-eqb (r .flags / 4 % 4) 0 n0)
+
+  pub flags-kept : (f : ℕ) → f / 4 % 4 ≡ 2 → ripeFlags f ≡ f % 4 - f % 2
+  unfolding ripeFlags if_then_else_
+  flags-kept f e = rw (eq-eqb (f / 4 % 4) 2 e)
+
+  pub flags-done : (f : ℕ) → (f / 4 % 4 ≡ 2 → ⊥) → ripeFlags f ≡ f % 4
+  unfolding ripeFlags if_then_else_
+  flags-done f e = rw (ne-eqb (f / 4 % 4) 2 e)
+
+  ripe-kept : r .flags / 4 % 4 ≡ 2 → ripe (heldOf r) ≡ asCommitted (tupleOf r)
+  unfolding ripe heldOf if_then_else_
+  ripe-kept e = ap (λ (b : Bool). if b then asCommitted (tupleOf r) else tupleOf r) (committing-is (r .flags / 4 % 4) e)
+
+  ripe-same : (r .flags / 4 % 4 ≡ 2 → ⊥) → ripe (heldOf r) ≡ tupleOf r
+  unfolding ripe heldOf if_then_else_
+  ripe-same e = ap (λ (b : Bool). if b then asCommitted (tupleOf r) else tupleOf r) (not-committing (r .flags / 4 % 4) e)
+
+  still : r .flags / 4 % 4 ≡ 0 → heldOf r ≡ calm (tupleOf r)
+  unfolding heldOf calm pendingOf if_then_else_
+  still e = ap (λ (z : ℕ). record { tuple = tupleOf r; pending = pendingOf z }) e
+
+  one-held : (r .flags / 4 % 4 ≡ 3 → ⊥) → map heldOf (ripeOne r) ≡ calm (ripe (heldOf r)) ∷ []
+  one-held ne =
+      by (eqb (r .flags / 4 % 4) 0)
+      (λ e. let z = eqb-true (r .flags / 4 % 4) 0 e in
+      ap (map heldOf) (one-same ne z) ∙ ap (λ (h : Held). h ∷ []) (still z ∙ ap calm (sym (ripe-same (λ q. absurd (omega arith))))))
+      (λ e. let n0 = eqb-false (r .flags / 4 % 4) 0 e in
+      ap (map heldOf) (one-done ne n0)
+      ∙ by (eqb (r .flags / 4 % 4) 2)
+      (λ d. let z = eqb-true (r .flags / 4 % 4) 2 d in ap (λ (h : Held). h ∷ []) (held-kept r (ripeFlags (r .flags)) (flags-kept (r .flags) z) ∙ ap calm (sym (ripe-kept z))))
+      (λ d. let z = eqb-false (r .flags / 4 % 4) 2 d in ap (λ (h : Held). h ∷ []) (held-done r (ripeFlags (r .flags)) (flags-done (r .flags) z) ∙ ap calm (sym (ripe-same z)))))
+
+-- ---- rows
+
+ripened-gone : (h : Held) (hs : List Held) → isRemoving (h .pending) ≡ true → ripened (h ∷ hs) ≡ ripened hs
+unfolding ripened if_then_else_
+ripened-gone h hs e = rw e
+
+ripened-stays : (h : Held) (hs : List Held) → isRemoving (h .pending) ≡ false → ripened (h ∷ hs) ≡ ripe h ∷ ripened hs
+unfolding ripened if_then_else_
+ripened-stays h hs e = rw e
+
+-- the rows hold the tuples with their pending operations done
+pub ripe-held : (rs : List Row) → map heldOf (ripeRows rs) ≡ ripeTuples (map heldOf rs)
+unfolding ripeRows ripeTuples ripened
+ripe-held [] = refl
+ripe-held (r ∷ rs) =
+    by (eqb (r .flags / 4 % 4) 3)
+    (λ e. let z = eqb-true (r .flags / 4 % 4) 3 e in
+    ap (λ (x : List Row). map heldOf (x ++ ripeRows rs)) (one-gone r z) ∙ ripe-held rs
+    ∙ ap (map calm) (sym (ripened-gone (heldOf r) (map heldOf rs) (ap isRemoving (pending-is r) ∙ removing-is _ z))))
+    (λ e. let z = eqb-false (r .flags / 4 % 4) 3 e in
+    map-append heldOf (ripeOne r) (ripeRows rs)
+    ∙ ap (λ (x : List Held). x ++ map heldOf (ripeRows rs)) (one-held r z)
+    ∙ ap (λ (x : List Held). calm (ripe (heldOf r)) ∷ x) (ripe-held rs)
+    ∙ ap (map calm) (sym (ripened-stays (heldOf r) (map heldOf rs) (ap isRemoving (pending-is r) ∙ not-removing (r .flags / 4 % 4) (omega arith) z))))
+
+ripe-append : (xs ys : List Row) → ripeRows (xs ++ ys) ≡ ripeRows xs ++ ripeRows ys
+unfolding ripeRows
+ripe-append [] ys = refl
+ripe-append (x ∷ xs) ys = ap (λ (z : List Row). ripeOne x ++ z) (ripe-append xs ys) ∙ sym (append-assoc (ripeOne x) (ripeRows xs) (ripeRows ys))
+
+-- ---- turn by turn: k rows from start on are done, and row i is next
+
+pub record RipeInv (m m1 : List ℕ) (start n left i : ℕ) : Type 0 where
+  pub most : left ≤ n
+  pub place : i ≡ start + length (ripeRows (take (n - left) (drop start (flatOf m .rows))))
+  pub becomes : Becomes m m1 (withRows (flatOf m) (ripeRun (flatOf m .rows) start (n - left)))
+
+pub ripe-start : (m : List ℕ) → Room m → (start n : ℕ) → RipeInv m m start n n start
+unfolding ripeRows
+ripe-start m room start n =
+    let rs : List Row = flatOf m .rows in
+    let z : n - n ≡ 0 = omega arith in
+    let s0 : start + 0 ≡ start = omega arith in
+    let e : ripeRun rs start (n - n) ≡ rs =
+    ap (ripeRun rs start) z ∙ ap (λ (k : ℕ). take start rs ++ drop k rs) s0 ∙ take-append-drop start rs in
+    record {
+      most = omega arith;
+      place = sym (ap (λ (k : ℕ). start + length (ripeRows (take k (drop start rs)))) z ∙ omega arith);
+      becomes = record { size = refl; room = room; flat = ap (withRows (flatOf m)) (sym e) };
+    }
+
+module _ {m m1 : List ℕ} {start n left i : ℕ} (fits : start + n ≤ length (flatOf m .rows)) (pos : 0 < left) (inv : RipeInv m m1 start n left i) where
+  abbrev rs : List Row
+  rs = flatOf m .rows
+
+  abbrev done : ℕ
+  done = n - left
+
+  abbrev A : List Row
+  A = take start (flatOf m .rows)
+
+  abbrev B : List Row
+  B = ripeRows (take (n - left) (drop start (flatOf m .rows)))
+
+  abbrev x : Row
+  x = getD (flatOf m .rows) (start + (n - left)) noRow
+
+  abbrev D : List Row
+  D = drop (suc (start + (n - left))) (flatOf m .rows)
+
+  l0 : left ≤ n
+  l0 = inv .most
+
+  rows-now : flatOf m1 .rows ≡ take start (flatOf m .rows) ++ (ripeRows (take (n - left) (drop start (flatOf m .rows))) ++ getD (flatOf m .rows) (start + (n - left)) noRow ∷ drop (suc (start + (n - left))) (flatOf m .rows))
+  rows-now =
+      ap (λ (f : Flat). f .rows) (inv .becomes .flat)
+      ∙ ap (λ (z : List Row). A ++ (B ++ z)) (drop-cons rs (start + done) noRow (omega (arith, l0)))
+
+  front : List Row
+  front = A ++ B
+
+  front-long : length (take start (flatOf m .rows) ++ ripeRows (take (n - left) (drop start (flatOf m .rows)))) ≡ i
+  front-long = length-append A B ∙ omega (arith, inv .place, length-take-le start rs (omega arith))
+
+  rows-front : flatOf m1 .rows ≡ (take start (flatOf m .rows) ++ ripeRows (take (n - left) (drop start (flatOf m .rows)))) ++ getD (flatOf m .rows) (start + (n - left)) noRow ∷ drop (suc (start + (n - left))) (flatOf m .rows)
+  rows-front = rows-now ∙ sym (append-assoc A B (x ∷ D))
+
+  pub ripe-inside : i < length (flatOf m1 .rows)
+  ripe-inside = omega (arith, ap length rows-front, length-append (A ++ B) (x ∷ D), front-long)
+
+  row-is : rowIn (flatOf m1) i ≡ getD (flatOf m .rows) (start + (n - left)) noRow
+  row-is = ap (λ (z : List Row). getD z i noRow) rows-front ∙ getD-at (A ++ B) x D noRow i front-long
+
+  done-more : n - (left - 1) ≡ suc (n - left)
+  done-more = omega (arith, l0)
+
+  take-more : ripeRows (take (n - (left - 1)) (drop start (flatOf m .rows))) ≡ ripeRows (take (n - left) (drop start (flatOf m .rows))) ++ ripeOne (getD (flatOf m .rows) (start + (n - left)) noRow)
+  unfolding ripeRows
+  take-more =
+      let lt : done < length (drop start rs) = simp length-drop (omega (arith, l0)) in
+      ap (λ (z : ℕ). ripeRows (take z (drop start rs))) done-more
+      ∙ ap ripeRows (take-suc (drop start rs) done noRow lt)
+      ∙ ap (λ (z : Row). ripeRows (take done (drop start rs) ++ z ∷ [])) (getD-drop start rs done noRow)
+      ∙ ripe-append (take done (drop start rs)) (x ∷ [])
+      ∙ ap (λ (z : List Row). B ++ z) (append-nil (ripeOne x))
+
+  pub ripe-next : {m2 : List ℕ} (r : ℕ) → RipensOne m1 m2 i r → RipeInv m m2 start n (left - 1) (i + r)
+  ripe-next {m2} r o =
+      let y : List Row = ripeOne x in
+      let oc : ripeOne (rowIn (flatOf m1) i) ≡ y = ap ripeOne row-is in
+      let long : length ((A ++ B) ++ x ∷ []) ≡ i + 1 = length-append (A ++ B) (x ∷ []) ∙ omega (arith, front-long) in
+      let dr : drop (i + 1) (flatOf m1 .rows) ≡ D = ap (drop (i + 1)) (rows-front ∙ sym (append-assoc (A ++ B) (x ∷ []) D)) ∙ drop-at ((A ++ B) ++ x ∷ []) D (i + 1) long in
+      let tk : take i (flatOf m1 .rows) ≡ A ++ B = ap (take i) rows-front ∙ take-at (A ++ B) (x ∷ D) i front-long in
+      let sd : suc (start + done) ≡ start + (n - (left - 1)) = omega (arith, l0) in
+      let new : take i (flatOf m1 .rows) ++ (ripeOne (rowIn (flatOf m1) i) ++ drop (i + 1) (flatOf m1 .rows)) ≡ ripeRun rs start (n - (left - 1)) =
+      (λ j. tk j ++ (oc j ++ dr j))
+      ∙ append-assoc A B (y ++ D)
+      ∙ ap (λ (z : List Row). A ++ z) (sym (append-assoc B y D))
+      ∙ ap (λ (z : List Row). A ++ (z ++ D)) (sym take-more)
+      ∙ ap (λ (z : ℕ). A ++ (ripeRows (take (n - (left - 1)) (drop start rs)) ++ drop z rs)) sd in
+      record {
+        most = omega (arith, l0);
+        place = omega (arith, inv .place, o .count, ap length oc, ap length take-more, length-append B y);
+        becomes = record {
+          size = o .becomes .size ∙ inv .becomes .size;
+          room = o .becomes .room;
+          flat = o .becomes .flat ∙ (λ j. withRows (inv .becomes .flat j) (new j));
+        };
+      }
+
+pub ripe-end : {m m1 : List ℕ} {start n left i : ℕ} → left ≤ 0 → RipeInv m m1 start n left i → Ripens m m1 start n (i - start)
+ripe-end {m} {m1} {start} {n} {left} {i} l inv =
+    let z : n - left ≡ n = omega arith in
+    record {
+      count = omega (arith, inv .place, ap (λ (k : ℕ). length (ripeRows (take k (drop start (flatOf m .rows))))) z);
+      becomes = subst (λ (k : ℕ). Becomes m m1 (withRows (flatOf m) (ripeRun (flatOf m .rows) start k))) z (inv .becomes);
+    }
+
+-- ---- the page that they leave
+
+nil : (xs : List Row) → length xs ≡ 0 → xs ≡ []
+nil [] e = refl
+nil (y ∷ ys) e = absurd (omega arith)
+
+module _ {m m1 : List ℕ} {p start : ℕ} (a : At m p start) (n r : ℕ) (en : n ≡ entryAt m p .count) (o : Ripens m m1 start n r) where
+  abbrev run : List Row
+  run = take (entryIn (flatOf m) p .count) (drop start (flatOf m .rows))
+
+  becomes-is : Becomes m m1 (withRows (flatOf m) (ripeRun (flatOf m .rows) start (entryIn (flatOf m) p .count)))
+  becomes-is = subst (λ (k : ℕ). Becomes m m1 (withRows (flatOf m) (ripeRun (flatOf m .rows) start k))) en (o .becomes)
+
+  ripe-is : map heldOf (ripeRows (take (entryIn (flatOf m) p .count) (drop start (flatOf m .rows)))) ≡ ripeTuples (tuplesAt m p)
+  ripe-is = ripe-held run ∙ ap ripeTuples (run-held a)
+
+  long-is : r ≡ length (ripeRows (take (entryIn (flatOf m) p .count) (drop start (flatOf m .rows))))
+  long-is = o .count ∙ ap (λ (k : ℕ). length (ripeRows (take k (drop start (flatOf m .rows))))) en
+
+  count-is : r ≡ length (ripeTuples (tuplesAt m p))
+  count-is = long-is ∙ sym (length-map (ripeRows run) heldOf) ∙ ap length ripe-is
+
+  pub hold-none : {m2 : List ℕ} → r ≡ 0 → Becomes m1 m2 (withEntries (flatOf m1) (removeAt p (flatOf m1 .entries))) → TakesHold m m2 p r
+  unfolding total sum nest
+  hold-none {m2} z b =
+      record {
+        count = count-is;
+        none-left = λ q. turned-one a [] [] (ripeRun (flatOf m .rows) start (entryIn (flatOf m) p .count)) (removeAt p (flatOf m .entries)) [] refl tt
+            (ap (λ (xs : List Row). take start (flatOf m .rows) ++ (xs ++ drop (start + entryIn (flatOf m) p .count) (flatOf m .rows))) (nil (ripeRows run) (sym long-is ∙ z))) refl
+            (becomes-then m m1 m2 _ (λ f. withEntries f (removeAt p (f .entries))) becomes-is b) refl;
+        some-left = λ q. absurd (q z);
+      }
+
+  pub hold-some : {m2 : List ℕ} → (r ≡ 0 → ⊥) → 1 ≤ r → (t : ℕ) → t % 8 ≡ pageAt m p .table
+      → Becomes m1 m2 (withEntries (flatOf m1) (set (flatOf m1 .entries) p (record { table = t; frozen = 0; count = r; block = 0 }))) → TakesHold m m2 p r
+  unfolding total sum
+  hold-some {m2} nz pos t et b =
+      let e : Entry = record { table = t; frozen = 0; count = r; block = 0 } in
+      record {
+        count = count-is;
+        none-left = λ q. absurd (nz q);
+        some-left = λ q. turned-one a (e ∷ []) (ripeRows run) (ripeRun (flatOf m .rows) start (entryIn (flatOf m) p .count)) (set (flatOf m .entries) p e) _ (omega (arith, long-is)) (pos, tt) refl
+            (set-exchange (flatOf m .entries) p e (a .inside))
+            (becomes-then m m1 m2 _ (λ f. withEntries f (set (f .entries) p e)) becomes-is b)
+            (nest-one e (map heldOf (ripeRows run)) (long-is ∙ sym (length-map (ripeRows run) heldOf))
+            ∙ ap (λ (hs : List Held). pageOf e hs ∷ []) ripe-is ∙ ap (λ (z : Page). z ∷ []) (fresh-page t r (ripeTuples (tuplesAt m p)) ∙ ap (λ (k : ℕ). fresh k (ripeTuples (tuplesAt m p))) et));
+      }

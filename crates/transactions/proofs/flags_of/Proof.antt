@@ -1,0 +1,15 @@
+use Rattle.transactions.specs.Writes.{flagsOf}
+use mathlib.Core.Path.{sym, ap}
+use Rattle.transactions.proofs.flags_of.Statement.{statement}
+use Rattle.transactions.proofs.flags_of.Tie as tie
+
+returns : tie.Need-returns
+unfolding flagsOf
+returns c = sym (ap flagsOf (c .if1 .taken))
+
+returns-2 : tie.Need-returns-2
+unfolding flagsOf
+returns-2 c = sym (ap flagsOf (c .if1 .left))
+
+pub flags-of-spec : {M : Type 1} → statement M
+flags-of-spec = tie.close (tie.spec returns returns-2)
