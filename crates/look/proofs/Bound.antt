@@ -1,20 +1,19 @@
 -- A plan never has more operations than there are rows.
 use mathlib.Core.Path.{_≡_, refl, sym, ap, _∙_}
-use mathlib.Core.Bool.{Bool, true, false, not, _&&_, _||_}
-use Prim.Native.Nat.{ℕ, zero, suc, _+_, _≤_, _<_}
-use native.Mathlib.Omega.{arith}
+use mathlib.Core.Bool.{Bool, true, false, not, _&&_}
 use mathlib.Core.List.{List, [], _∷_, _++_}
+use Prim.Native.Nat.{ℕ, suc, _+_, _≤_, _<_}
+use native.Mathlib.Omega.{arith}
 use lib.ListN.{length, length-append}
-use lib.Dec.{eqb}
 use borrow.Author.Tests.{eq-eqb}
 use Rattle.basics.specs.Basics.{if_then_else_, any, keep, howMany}
-use Rattle.basics.proofs.Facts.{by, lie, and-true, AllOf}
+use Rattle.basics.proofs.Facts.{by, and-true, AllOf}
 use Rattle.rows.specs.Rows.{Row, number, isOwn, isAt}
 use Rattle.rows.proofs.Turns.{count-yes, count-not}
 use Rattle.model.specs.State.{Page}
 use Rattle.model.specs.Sight.{rows}
-use Rattle.model.specs.Transactions.{Op, toCommit, removeAll, isRow, planKey, ownAt, planRows, plan}
-use Rattle.model.proofs.Lists.{Mem, here, there, all-mem, mem-keep, any-cons, many-length, not-true, or-right, keep-cons, keep-past, and-both}
+use Rattle.model.specs.Transactions.{toCommit, removeAll, isRow, planKey, ownAt, planRows, plan}
+use Rattle.model.proofs.Lists.{Mem, here, there, all-mem, mem-keep, any-cons, many-length, not-true, or-right, keep-cons, keep-past}
 use Rattle.model.proofs.Fate.{at-split, at-join}
 use Rattle.look.proofs.Pushing.{removals}
 

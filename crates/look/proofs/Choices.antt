@@ -1,15 +1,14 @@
 -- The tests on one row from which a plan is made.
-use mathlib.Core.Path.{_≡_, refl, sym, ap, _∙_}
+use mathlib.Core.Path.{_≡_, refl, ap, _∙_}
 use mathlib.Core.Bool.{Bool, true, false, not, _&&_}
-use Prim.Native.Nat.{ℕ, zero, suc, _+_, _*_, _-_, _%_, _/_, _≤_, _<_}
-use native.Mathlib.Omega.{arith}
-use mathlib.Core.List.{List, [], _∷_}
+use mathlib.Core.List.{List}
+use Prim.Native.Nat.{ℕ, _%_, _/_}
 use lib.ListN.{getD}
 use lib.Dec.{eqb}
 use borrow.Author.Tests.{eq-eqb, ne-eqb}
 use Rattle.basics.specs.Basics.{if_then_else_}
 use Rattle.basics.proofs.Facts.{by}
-use Rattle.blocks.specs.Tuple.{Owner, committed, tentative}
+use Rattle.blocks.specs.Tuple.{Owner, committed}
 use Rattle.rows.specs.Rows.{Row, number, isBy, isOwn, isAt}
 use Rattle.model.specs.State.{Held}
 use Rattle.model.specs.Rules.{isRemoving, isCommitting, asCommitted, ripe}

@@ -1,16 +1,15 @@
 -- A transaction's place among the open ones, turn by turn, and what it says of the model's open transactions.
 use mathlib.Core.Path.{_≡_, refl, sym, ap, _∙_}
-use mathlib.Core.Bool.{Bool, true, false}
-use Prim.Native.Nat.{ℕ, zero, suc, _+_, _-_, _/_, _≤_, _<_}
-use native.Mathlib.Omega.{arith}
+use mathlib.Core.Bool.{true, false}
 use mathlib.Core.List.{List, [], _∷_, map}
+use Prim.Native.Nat.{ℕ, suc, _+_, _/_, _≤_, _<_}
+use native.Mathlib.Omega.{arith}
 use lib.ListN.{length, drop, getD}
 use lib.Dec.{eqb}
 use borrow.Author.Tests.{eq-eqb, ne-eqb, eqb-true, eqb-false}
 use Rattle.basics.specs.Basics.{if_then_else_, any, isIn}
 use Rattle.basics.proofs.Facts.{by}
 use Rattle.rows.proofs.Turns.{drop-turn, drop-end}
-use Rattle.model.specs.State.{Active}
 use Rattle.model.specs.Transactions.{openNumbers}
 use Rattle.model.proofs.Lists.{in-here, in-cons}
 use Rattle.memory.specs.Store.{activeOf}

@@ -1,9 +1,9 @@
 -- What is planned at a row, and the plan row by row.
 use mathlib.Core.Path.{_≡_, refl, sym, ap, _∙_}
 use mathlib.Core.Bool.{Bool, true, false, not, _&&_}
-use Prim.Native.Nat.{ℕ, zero, suc, _+_, _*_, _%_, _/_, _≤_, _<_}
-use native.Mathlib.Omega.{arith}
 use mathlib.Core.List.{List, [], _∷_, _++_, map}
+use Prim.Native.Nat.{ℕ, _+_, _%_, _/_, _≤_, _<_}
+use native.Mathlib.Omega.{arith}
 use lib.ListN.{length, getD, length-map}
 use lib.Dec.{eqb}
 use borrow.Author.Tests.{eq-eqb, ne-eqb}
@@ -15,7 +15,7 @@ use Rattle.model.specs.Transactions.{Op, toCommit, removeAll, isRow, planKey, o
 use Rattle.model.proofs.Lists.{and-yes, and-no}
 use Rattle.memory.specs.Flat.{Flat, rowIn}
 use Rattle.memory.specs.Store.{tupleOf, heldOf, heldIn, tupleBy}
-use Rattle.look.specs.Plans.{liveRows, restRows, rowAt, passes, chosen, rowOps}
+use Rattle.look.specs.Plans.{restRows, rowAt, passes, chosen, rowOps}
 use Rattle.look.proofs.Versions.{ripe-mark}
 use Rattle.look.proofs.Tables.{rest-live, rest-dead, rest-end, live-length}
 use Rattle.look.proofs.Choices.{number-at, key-at}

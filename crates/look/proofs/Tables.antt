@@ -1,29 +1,28 @@
 -- The live rows by their places, with the table of each; and a walk along them.
 use mathlib.Core.Path.{_≡_, refl, sym, ap, _∙_}
-use mathlib.Core.Bool.{Bool, true, false, not, _&&_}
-use Prim.Native.Nat.{ℕ, zero, suc, _+_, _*_, _-_, _%_, _/_, _≤_, _<_}
+use mathlib.Core.Bool.{Bool, true, false, _&&_}
+use mathlib.Core.List.{List, [], _∷_, _++_, map, append-assoc, append-nil}
+use Prim.Native.Nat.{ℕ, zero, suc, _+_, _-_, _%_, _≤_, _<_}
 use native.Mathlib.Omega.{arith}
 use native.Mathlib.Nat.{zero-add}
 use native.Mathlib.Numerals.{add-one}
-use mathlib.Core.List.{List, [], _∷_, _++_, map, append-assoc, append-nil}
-use lib.ListN.{length, take, drop, getD, set, replicate, length-map, length-append, length-replicate, length-drop, drop-of-length-le, take-append-drop}
-use lib.Seq.{take-suc-set, take-suc, drop-cons, take-all, length-take-le}
-use lib.Dec.{eqb}
+use lib.ListN.{length, take, drop, getD, set, replicate, length-map, length-append, length-replicate, length-drop, drop-of-length-le}
+use lib.Seq.{take-suc-set, take-suc, drop-cons, take-all}
 use Rattle.basics.specs.Basics.{if_then_else_, any, keep, sum}
 use Rattle.basics.proofs.Facts.{by, and-true}
 use Rattle.rows.specs.Rows.{Row, rowsOf}
-use Rattle.model.specs.State.{Held, Page}
+use Rattle.rows.proofs.Turns.{any-yes, any-not}
+use Rattle.model.specs.State.{Held}
 use Rattle.model.specs.Rules.{isRemoving, ripe, ripened}
 use Rattle.model.specs.Sight.{rows}
-use Rattle.model.proofs.Lists.{keep-cons, keep-past, not-true, not-false}
-use Rattle.rows.proofs.Turns.{any-yes, any-not}
+use Rattle.model.proofs.Lists.{keep-cons, keep-past, not-true}
 use Rattle.memory.specs.Views.{tab}
-use Rattle.memory.specs.Flat.{Flat, rowIn, entryIn, noEntry}
-use Rattle.memory.specs.Store.{heldOf, heldIn, pageOf, nest, pagesIn, total, startOf, filled}
+use Rattle.memory.specs.Flat.{Flat, entryIn, noEntry}
+use Rattle.memory.specs.Store.{heldOf, heldIn, pageOf, nest, pagesIn, total, filled}
 use Rattle.memory.specs.declared.Entry.{Entry}
 use Rattle.memory.proofs.Laws.{drop-tab}
 use Rattle.memory.proofs.Runs.{held-tab, rows-total}
-use Rattle.look.specs.Plans.{tablesOf, Tabled, Filled, liveRows, restRows, rowAt, passes}
+use Rattle.look.specs.Plans.{tablesOf, Tabled, liveRows, restRows, rowAt, passes}
 
 -- ---- filling
 

@@ -1,18 +1,17 @@
 -- A look along rows and pages shows the versions of a key.
-use mathlib.Core.Path.{_≡_, refl, sym, ap, _∙_, subst}
-use mathlib.Core.Bool.{Bool, true, false, not, _||_, _&&_}
-use mathlib.Core.Option.{Option, none, some}
+use mathlib.Core.Path.{_≡_, refl, sym, ap, _∙_}
+use mathlib.Core.Bool.{Bool, true, false, not, _&&_}
+use mathlib.Core.Option.{none, some}
+use mathlib.Core.List.{List, [], _∷_, _++_, append-assoc, append-nil}
 use Prim.Native.Nat.{ℕ, zero, suc, _+_, _-_, _%_, _/_, _≤_, _<_}
 use native.Mathlib.Omega.{arith}
-use native.Mathlib.Nat.{zero-add}
 use native.Mathlib.Numerals.{add-one}
-use mathlib.Core.List.{List, [], _∷_, _++_, append-assoc, append-nil}
 use lib.ListN.{length, take, drop}
 use lib.Seq.{take-all}
 use lib.Dec.{eqb}
-use borrow.Author.Tests.{eq-eqb, ne-eqb, eqb-true, eqb-false}
+use borrow.Author.Tests.{eq-eqb, ne-eqb}
 use Rattle.basics.specs.Basics.{if_then_else_, any, first, last, isEmpty, keep}
-use Rattle.basics.proofs.Facts.{by, by-option, never, lie}
+use Rattle.basics.proofs.Facts.{by, never}
 use Rattle.blocks.specs.Tuple.{Owner, committed, tentative, isTentative, Tuple}
 use Rattle.rows.specs.Rows.{Row, rowsOf, isBy, isOwn, isAt}
 use Rattle.model.specs.State.{Held, Page}
@@ -23,7 +22,7 @@ use Rattle.memory.specs.Views.{tab}
 use Rattle.memory.specs.Flat.{Flat, rowIn, entryIn}
 use Rattle.memory.specs.Store.{tupleOf, heldOf, heldIn, pageOf, pagesIn, startOf, pageIn, filled, storeOf, tupleBy}
 use Rattle.memory.proofs.Laws.{tab-next}
-use Rattle.memory.proofs.Runs.{start-next, start-in, page-at, pages-count}
+use Rattle.memory.proofs.Runs.{start-in, page-at, pages-count}
 use Rattle.look.specs.Sightings.{isSettled, version, versionAt, Shows, blank, noted, note, notes, seenAt, Inside, placeOf, pickedAt, picked, Sees}
 use Rattle.look.specs.declared.Look.{Look}
 use Rattle.look.specs.declared.Seen.{Seen}

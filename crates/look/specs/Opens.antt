@@ -1,6 +1,6 @@
 -- A transaction's place among the open ones.
-use Prim.Native.Nat.{ℕ, suc, _/_}
 use mathlib.Core.List.{List, [], _∷_}
+use Prim.Native.Nat.{ℕ, suc, _/_}
 use lib.Dec.{eqb}
 use Rattle.basics.specs.Basics.{if_then_else_}
 

@@ -1,22 +1,21 @@
 // What a transaction sees, on the working memory: whether it is open, what there is of a key, and the plan of its commit or abort.
 // Every function only reads the memory.
 ghost use mathlib.Core.Path.{_≡_};
-ghost use Prim.Native.Nat.{ℕ, _+_, _*_, _≤_, _<_};
 ghost use mathlib.Core.Bool.{true};
 ghost use mathlib.Core.List.{List, []};
+ghost use Prim.Native.Nat.{ℕ, _+_, _≤_, _<_};
 ghost use lib.ListN.{length};
-ghost use Rattle.blocks.specs.Tuple.{committed};
-ghost use Rattle.model.specs.Sight.{versions, seen};
 ghost use Rattle.basics.specs.Basics.{any, keep};
+ghost use Rattle.blocks.specs.Tuple.{committed};
 ghost use Rattle.rows.specs.Rows.{isOwn};
-ghost use Rattle.model.specs.Sight.{rows};
-ghost use Rattle.model.specs.Transactions.{ownAt, removeAll, plan, planRows};
+ghost use Rattle.model.specs.Sight.{rows, versions, seen};
+ghost use Rattle.model.specs.Transactions.{ownAt, removeAll, planRows, plan};
 ghost use Rattle.memory.specs.Views.{tab};
 ghost use Rattle.memory.specs.Flat.{flatOf, Room};
 ghost use Rattle.memory.specs.Store.{holdsStore, heldIn, pagesIn, storeOf};
 ghost use Rattle.look.specs.Opens.{findOpen};
-ghost use Rattle.look.specs.Plans.{Appended, Filled, Tabled, restRows, passes, chosen, rowOps};
 ghost use Rattle.look.specs.Sightings.{Shows, noted, note, notes, picked, Sees};
+ghost use Rattle.look.specs.Plans.{Appended, Filled, Tabled, restRows, passes, chosen, rowOps};
 
 // What there is of a key. foreign: a version of another open transaction; any: any version; own: 1 + the row of the last own
 // version, 0 if there is none; held: 1 + the row of the first committed version, 0 if there is none.
@@ -375,13 +374,13 @@ pub fn plan_abort(m: &[u8], transaction: u64, ops: &mut [u64]) -> usize
     let c = memory::get_counts(m);
     let n = c.rows as usize;
     let mut k: usize = 0;
-    let mut i: usize = 0;
-    while i < n {
-        if owns(m, i, transaction) {
-            ops[k] = 2 * (memory::number_at(m, i) as u64);
+    let mut row: usize = 0;
+    while row < n {
+        if owns(m, row, transaction) {
+            ops[k] = 2 * (memory::number_at(m, row) as u64);
             k += 1;
         }
-        i += 1;
+        row += 1;
     }
     k
 }

@@ -17,6 +17,7 @@ cases-hold = record {
   stores-336 = refl;
   stores-337 = refl;
   stores-empty = refl;
+  reading-answers = refl;
   booking-answers = refl;
   booking-bytes = refl;
 }

@@ -12,6 +12,7 @@ traps-avoided = record {
   thawed-committed = refl;
   not-reused = refl;
   no-room = refl;
+  wraps = refl;
   frozen-both = refl;
   not-joined = refl;
   joined-later = refl;

@@ -17,13 +17,13 @@ use Rattle.rows.specs.Rows.{rowRules}
 use Rattle.image.specs.View.{blockAt, blockCount, view}
 use Rattle.image.specs.Stages.{Stage, refuses, holds, wholeBlocks, blockOk, isZero, directoriesFor, directoryBlocks, unusedNumbers, headerOk, headerTest, addEntries, readDirectories, entriesOk, testedEntries, directoryTest, pageOk, addPage, readPages, rowsOfPages, testedPages, pageTest}
 use Rattle.image.specs.Whole.{headerStage, pagesBelow, pagesStage}
-use Rattle.model.specs.State.{Held, Page, idle, Store, Write, Answer, refused, done, count}
+use Rattle.model.specs.State.{Held, Page, idle, Store, Write, storedBytes, Answer, refused, done, count, filled}
 use Rattle.model.specs.Rules.{heldSize, fresh, calm, joins, rules}
 use Rattle.model.specs.Sight.{held, rows, isForeign, versions, seenOf, seen}
 use Rattle.model.specs.Transactions.{gives, unless, changed, openCall, notOpen, noTable, tooLong, foreign, present, unseen, full, newTuple, written, insertCall, replaceCall, deleteCall, readSeen, readCall, listing, listCall, perform, isRow, removeAll, planKey, ownAt, planRows, plan, openNumbers, isFor, writtenBy, withWrite, without, commitCall, abortCall}
 use Rattle.model.specs.Checkpoint.{stored as storedStore, isFree, allocate, freeCount, usedToo, isRunning, blocksNeeded, beginCall, leftOf, left, made, fill, storable, storePage, storeDirectory, headerFor, storeHeader, stepOf, stepAt, badImage, stepCall, inTurn, runCall}
-use Rattle.model.specs.Calls.{Call, opens, inserts, replaces, deletes, commits, begins, steps, runs, call, isBegin, others, withWriter, writers, accepted, afterCalls, hadWritten}
-use Rattle.model.specs.Recover.{memoryFor, putBlock, freshStore, make, madeImage, loaded, reopened, recoveredStore, recoverPages, recoverBelow, recover}
+use Rattle.model.specs.Calls.{Call, opens, inserts, replaces, deletes, commits, reads, lists, begins, steps, runs, call, isBegin, others, withWriter, writers, accepted, afterCalls, hadWritten}
+use Rattle.model.specs.Recover.{memoryFor, putBlock, imageAfter, freshStore, make, madeImage, loaded, reopened, recoveredStore, recoverPages, recoverBelow, recover}
 use Rattle.model.specs.QuotedLine.{Logged, tag, log, isHeader, landed, stored, content}
 
 -- ---- runs of calls
@@ -80,9 +80,13 @@ clean p =
 unfoldable pub booking : List Call
 booking = opens 5 ∷ inserts 5 0 7 (0x41 ∷ 0x42 ∷ []) ∷ begins ∷ runs 9 8192 ∷ []
 
+-- open 5, insert table 0, key 7, payload 41 42; read it; list
+unfoldable pub reading : List Call
+reading = opens 5 ∷ inserts 5 0 7 (0x41 ∷ 0x42 ∷ []) ∷ reads 5 0 7 9 ∷ lists 9 ∷ []
+
 -- this block store spells these bytes and then zeros
 unfoldable pub spells : Write → ℕ → List ℕ → ℕ → Bool
-spells w at xs k = eqb (w .at) at && same (encodeBlock (w .what)) (xs ++ zeros k)
+spells w at xs k = eqb (w .at) at && same (storedBytes w) (xs ++ zeros k)
 
 -- the first block store
 unfoldable pub firstOf : List Write → (Write → Bool) → Bool
@@ -109,6 +113,8 @@ pub record Cases : Type 0 where
   pub stores-336 : answers (begins ∷ []) (clean 336) ≡ count 2 ∷ []
   pub stores-337 : answers (begins ∷ []) (clean 337) ≡ count 3 ∷ []
   pub stores-empty : answers (begins ∷ []) (freshStore 16 8) ≡ count 1 ∷ []
+  -- a read answers the length and fills in the payload; a list answers how many, and two bytes for each, high byte first
+  pub reading-answers : answers reading (freshStore 16 8) ≡ done ∷ done ∷ filled 2 (0x41 ∷ 0x42 ∷ []) ∷ filled 1 (0 ∷ 5 ∷ []) ∷ []
   -- the booking in the 16-block store: its answers and the bytes of page block 1
   pub booking-answers : answers booking (freshStore 16 8) ≡ done ∷ done ∷ count 3 ∷ count 3 ∷ []
   pub booking-bytes : firstOf (writes booking (freshStore 16 8)) (λ w. spells w 1 (
@@ -116,11 +122,6 @@ pub record Cases : Type 0 where
       ∷ 0x00 ∷ 0x00 ∷ 0x00 ∷ 0x07 ∷ 0x00 ∷ 0x00 ∷ 0x00 ∷ 0x00 ∷ 0x02 ∷ 0x00 ∷ 0x50 ∷ 0x00 ∷ 0x00 ∷ 0x41 ∷ 0x42 ∷ []) 489) ≡ true
 
 -- ---- where builds go astray: one worked run each
-
--- the image after these block stores
-unfoldable pub imageAfter : List Write → List ℕ → List ℕ
-imageAfter [] img = img
-imageAfter (w ∷ ws) img = imageAfter ws (putBlock img (w .at) (encodeBlock (w .what)))
 
 -- the pages of what recovery gives
 unfoldable pub shapeOf : Stage Store → List (ℕ × ℕ)
@@ -154,6 +155,11 @@ threeTimes len =
     opens 5 ∷ inserts 5 0 7 [] ∷ inserts 5 1 7 [] ∷ begins ∷ runs 9 len ∷ inserts 5 1 8 [] ∷ begins ∷ runs 9 len
     ∷ inserts 5 0 8 [] ∷ begins ∷ runs 9 len ∷ []
 
+-- three checkpoints of one page, which is dirty at each
+unfoldable pub oneAgain : ℕ → List Call
+oneAgain len =
+    opens 5 ∷ inserts 5 0 7 [] ∷ begins ∷ runs 9 len ∷ inserts 5 0 8 [] ∷ begins ∷ runs 9 len ∷ inserts 5 0 9 [] ∷ begins ∷ runs 9 len ∷ []
+
 -- two frozen pages of five committed tuples of 49 bytes; four of the first and one of the second are deleted
 unfoldable pub bothFrozen : List Call
 bothFrozen =
@@ -172,6 +178,8 @@ pub record Traps : Type 0 where
   pub not-reused : places (threeTimes 3072) 6 ≡ 1 ∷ 2 ∷ 3 ∷ 0 ∷ 4 ∷ 5 ∷ 0 ∷ 2 ∷ 3 ∷ 0 ∷ []
   pub no-room : answers (threeTimes 2560) (freshStore 5 64)
       ≡ done ∷ done ∷ done ∷ count 4 ∷ count 4 ∷ done ∷ refused 20 ∷ refused 18 ∷ done ∷ refused 20 ∷ refused 18 ∷ []
+  -- the search goes on after the block last taken, and wraps to 1
+  pub wraps : places (oneAgain 2560) 5 ≡ 1 ∷ 2 ∷ 0 ∷ 3 ∷ 4 ∷ 0 ∷ 1 ∷ 2 ∷ 0 ∷ []
   -- a thawed page of 49 bytes is not joined with its frozen neighbour of 245; when that is thawed too, they are joined
   pub frozen-both : after5 bothFrozen ≡ (5, 245) ∷ (5, 245) ∷ []
   pub not-joined : after5 (bothFrozen ++ (steps 8192 ∷ [])) ≡ (1, 49) ∷ (5, 245) ∷ []
@@ -215,7 +223,7 @@ recoversTo s base img = agrees (recover (memoryFor (s .capacity)) img) (afterCal
 
 -- what a cut store may leave: the bytes of the header; the new block's first bytes over the old one's
 unfoldable pub tears : List ℕ → Logged → List (List ℕ)
-tears img w = blockAt img 0 ∷ (take 200 (encodeBlock (w .write .what)) ++ drop 200 (blockAt img (w .write .at))) ∷ []
+tears img w = blockAt img 0 ∷ (take 200 (storedBytes (w .write)) ++ drop 200 (blockAt img (w .write .at))) ∷ []
 
 -- power fails before this store, or it is cut
 unfoldable pub cutHere : Store → List ℕ → List Call → Logged → Bool
@@ -246,5 +254,5 @@ pub record Cuts : Type 0 where
 
 -- opens all that the cases compute with: `unfolding cases`
 unfoldable pub cases : ℕ
-unfolding basics bitsOf numberOf bitsIn field num4 same isTentative ownerSize size spell bytesOf filledUp blockOf committedBit markBit ownerFields payloadFields recordFields recordsFields entryFields encodeBlock kind spelledBy readHeader headerIn readOwner readTuple taken whole readTuples pageTable pageCount pageLevel pageOfBytes pageIn readEntries directoryCount directoryLevel directoryIn decodeBlock rowRules blockAt blockCount view wholeBlocks blockOk isZero directoriesFor directoryBlocks unusedNumbers headerOk headerTest addEntries readDirectories entriesOk testedEntries directoryTest pageOk addPage readPages rowsOfPages testedPages pageTest headerStage pagesBelow pagesStage rules held rows isForeign versions seenOf seen gives unless changed openCall notOpen noTable tooLong foreign present unseen full newTuple written insertCall replaceCall deleteCall readSeen readCall listing listCall perform isRow removeAll planKey ownAt planRows plan openNumbers isFor writtenBy withWrite without others commitCall abortCall storedStore isFree allocate freeCount usedToo isRunning blocksNeeded beginCall leftOf left made fill storable storePage storeDirectory headerFor storeHeader stepOf stepAt badImage stepCall inTurn runCall call isBegin withWriter writers accepted afterCalls hadWritten memoryFor putBlock freshStore make madeImage loaded reopened recoveredStore recoverPages recoverBelow recover tag log isHeader landed stored content answers writes shape many after5 tuple pageOf clean booking spells firstOf imageAfter shapeOf recoveredAfter places splitMeanwhile commitMeanwhile committedLate threeTimes bothFrozen ownerNumbers tupleNumbers heldNumbers pageNumbers agrees recoversTo tears cutHere cutEverywhere script scriptLog
+unfolding basics bitsOf numberOf bitsIn field num4 same isTentative ownerSize size spell bytesOf filledUp blockOf committedBit markBit ownerFields payloadFields recordFields recordsFields entryFields encodeBlock kind spelledBy readHeader headerIn readOwner readTuple taken whole readTuples pageTable pageCount pageLevel pageOfBytes pageIn readEntries directoryCount directoryLevel directoryIn decodeBlock rowRules blockAt blockCount view wholeBlocks blockOk isZero directoriesFor directoryBlocks unusedNumbers headerOk headerTest addEntries readDirectories entriesOk testedEntries directoryTest pageOk addPage readPages rowsOfPages testedPages pageTest headerStage pagesBelow pagesStage rules held rows isForeign versions seenOf seen gives unless changed openCall notOpen noTable tooLong foreign present unseen full newTuple written insertCall replaceCall deleteCall readSeen readCall listing listCall perform isRow removeAll planKey ownAt planRows plan openNumbers isFor writtenBy withWrite without others commitCall abortCall storedStore isFree allocate freeCount usedToo isRunning blocksNeeded beginCall leftOf left made fill storable storePage storeDirectory headerFor storeHeader stepOf stepAt badImage stepCall inTurn runCall call isBegin withWriter writers accepted afterCalls hadWritten memoryFor putBlock freshStore make madeImage loaded reopened recoveredStore recoverPages recoverBelow recover tag log isHeader landed stored content answers writes shape many after5 tuple pageOf clean booking reading spells firstOf imageAfter shapeOf recoveredAfter places splitMeanwhile commitMeanwhile committedLate threeTimes oneAgain bothFrozen ownerNumbers tupleNumbers heldNumbers pageNumbers agrees recoversTo tears cutHere cutEverywhere script scriptLog
 cases = 0

@@ -7,9 +7,8 @@ use lib.ListN.{length}
 use lib.Dec.{eqb}
 use Rattle.basics.specs.Basics.{if_then_else_, isIn}
 use Rattle.blocks.specs.Tuple.{Tuple, AllBytes}
-use Rattle.blocks.specs.Block.{encodeBlock}
 use Rattle.image.specs.Stages.{holds}
-use Rattle.model.specs.State.{Held, Page, Store, Write}
+use Rattle.model.specs.State.{Held, Page, Store, Write, storedBytes}
 use Rattle.model.specs.Transactions.{openNumbers}
 use Rattle.model.specs.Calls.{Call, call, AllTyped, isBegin, accepted, afterCalls, hadWritten}
 use Rattle.model.specs.Recover.{memoryFor, putBlock, make, madeImage, recover}
@@ -50,7 +49,7 @@ unfoldable pub landed : Logged → List Call → List Call
 landed w base = if isHeader w then w .before else base
 
 unfoldable pub stored : List ℕ → Logged → List ℕ
-stored img w = putBlock img (w .write .at) (encodeBlock (w .write .what))
+stored img w = putBlock img (w .write .at) (storedBytes (w .write))
 
 -- `Cut img base ws img′ base′`: power fails somewhere in the stores ws, which start from the image img, whose last landed header's
 -- checkpoint began after the calls base. It leaves img′, and the calls base′ for its last landed header.

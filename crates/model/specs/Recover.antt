@@ -11,7 +11,7 @@ use Rattle.rows.specs.Rows.{Row, isOwn, transactions}
 use Rattle.image.specs.View.{View, view, blockCount}
 use Rattle.image.specs.Stages.{Stage, refuses, holds, capacityLimit, wholeBlocks, directoryBlocks, StoredPage, rowsOfPages}
 use Rattle.image.specs.Whole.{headerStage, pagesStage}
-use Rattle.model.specs.State.{Page, Active, Checkpoint, idle, Store}
+use Rattle.model.specs.State.{Page, Active, Checkpoint, idle, Store, Write, storedBytes}
 use Rattle.model.specs.Rules.{calm}
 use Rattle.model.specs.Checkpoint.{headerFor}
 
@@ -22,6 +22,11 @@ memoryFor n = 128 * n + 1024
 -- block b of an image exchanged
 unfoldable pub putBlock : List ℕ → ℕ → List ℕ → List ℕ
 putBlock img b xs = take (512 * b) img ++ (xs ++ drop (512 * b + 512) img)
+
+-- an image after these block stores, in turn
+unfoldable pub imageAfter : List Write → List ℕ → List ℕ
+imageAfter [] img = img
+imageAfter (w ∷ ws) img = imageAfter ws (putBlock img (w .at) (storedBytes w))
 
 -- ---- make
 

@@ -3,7 +3,7 @@ use Prim.Native.Nat.{ℕ}
 use mathlib.Core.Bool.{Bool}
 use mathlib.Core.List.{List, []}
 use Rattle.blocks.specs.Tuple.{Tuple}
-use Rattle.blocks.specs.Block.{Block}
+use Rattle.blocks.specs.Block.{Block, encodeBlock}
 
 -- the pending operation of a tuple on a frozen page
 pub data Pending : Type 0 where
@@ -47,6 +47,10 @@ pub record Store : Type 0 where
 pub record Write : Type 0 where
   pub at : ℕ
   pub what : Block
+
+-- the 512 bytes that it stores
+abbrev pub storedBytes : Write → List ℕ
+storedBytes w = encodeBlock (w .what)
 
 -- filled: the answer, and the bytes that the reply starts with
 pub data Answer : Type 0 where

@@ -2,19 +2,18 @@
 use mathlib.Core.Path.{_≡_, refl, sym, ap, _∙_, subst}
 use mathlib.Core.Bool.{Bool, true, false}
 use mathlib.Core.Option.{Option, none, some}
-use Prim.Native.Nat.{ℕ, zero, suc, _+_, _-_, _≤_, _<_}
+use Prim.Native.Nat.{ℕ, zero, suc, _+_, _≤_}
 use native.Mathlib.Omega.{arith}
 use native.Mathlib.Numerals.{add-one}
-use mathlib.Core.List.{List, [], _∷_, _++_, append-assoc, append-nil}
+use mathlib.Core.List.{List, [], _∷_, _++_, append-nil}
 use lib.ListN.{length, take, drop, drop-of-length-le}
-use lib.Seq.{take-at, drop-at}
 use Rattle.basics.specs.Basics.{if_then_else_, isEmpty}
-use Rattle.model.specs.State.{Held, Page}
-use Rattle.model.specs.Rules.{around, listOf, joins, joined, settleNext, settleFull, settle, fresh}
+use Rattle.model.specs.State.{Page}
+use Rattle.model.specs.Rules.{around, listOf, joins, joined, settleNext, settleFull, settle}
 use Rattle.memory.specs.Flat.{flatOf}
 use Rattle.memory.proofs.Runs.{pages-count}
-use Rattle.pages.specs.Turns.{Turns, pagesOf, pageAt, At, swapped, onPage}
-use Rattle.pages.specs.Changes.{settledAt, settledNext, Tries}
+use Rattle.pages.specs.Turns.{pagesOf, pageAt, At, swapped, onPage}
+use Rattle.pages.specs.Changes.{settledAt, settledNext}
 use Rattle.pages.specs.Finding.{NoneOf}
 use Rattle.pages.proofs.Places.{from-page, swap-same}
 

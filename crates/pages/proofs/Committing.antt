@@ -1,8 +1,7 @@
 -- A commit, on a frozen page and on another; freezing.
-use mathlib.Core.Path.{_≡_, refl, sym, ap, _∙_, subst}
-use mathlib.Core.Bool.{Bool, true, false, not}
-use mathlib.Core.Option.{Option, none, some}
-use Prim.Native.Nat.{ℕ, zero, suc, _+_, _*_, _-_, _/_, _%_, _≤_, _<_}
+use mathlib.Core.Path.{_≡_, refl, sym, ap, _∙_}
+use mathlib.Core.Bool.{Bool, true, false}
+use Prim.Native.Nat.{ℕ, suc, _+_, _-_, _/_, _%_, _≤_, _<_}
 use native.Mathlib.Omega.{arith}
 use native.Mathlib.Numerals.{add-one}
 use mathlib.Core.List.{List, [], _∷_, _++_, map, append-assoc, append-nil}
@@ -12,9 +11,9 @@ use lib.Dec.{eqb}
 use borrow.Author.Tests.{eq-eqb, ne-eqb}
 use Rattle.basics.specs.Basics.{if_then_else_}
 use Rattle.model.specs.State.{committing, Held, Page}
-use Rattle.model.specs.Rules.{isAdding, isRemoving, edit, kept, keptLater, asCommitted, withPending, withTuples, fresh, listOf, commitOn, commit, isDirty, freeze}
+use Rattle.model.specs.Rules.{isAdding, isRemoving, edit, kept, keptLater, asCommitted, withPending, withTuples, fresh, commitOn, commit, isDirty, freeze}
 use Rattle.memory.specs.Flat.{flatOf, rowIn, noRow}
-use Rattle.memory.specs.Store.{pendingOf, heldOf, heldIn, tupleOf, pageOf, pageIn, holdsStore}
+use Rattle.memory.specs.Store.{pendingOf, heldOf, pageOf, pageIn, holdsStore}
 use Rattle.memory.specs.declared.Row.{Row}
 use Rattle.memory.specs.declared.Entry.{Entry}
 use Rattle.memory.proofs.Runs.{pages-count}

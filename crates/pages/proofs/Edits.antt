@@ -1,24 +1,22 @@
 -- One tuple of a page, found by its number, removed or changed.
-use mathlib.Core.Path.{_≡_, refl, sym, ap, _∙_, subst}
-use mathlib.Core.Bool.{Bool, true, false, not}
-use Prim.Native.Nat.{ℕ, zero, suc, _+_, _*_, _-_, _/_, _%_, _≤_, _<_}
+use mathlib.Core.Path.{_≡_, refl, sym, ap, _∙_}
+use mathlib.Core.Bool.{Bool, true, false}
+use Prim.Native.Nat.{ℕ, zero, suc, _+_, _-_, _/_, _%_, _≤_, _<_}
 use native.Mathlib.Omega.{arith}
-use native.Mathlib.Numerals.{add-one}
-use native.Mathlib.Nat.{zero-add}
 use mathlib.Core.List.{List, [], _∷_, _++_}
 use lib.ListN.{length, take, drop, set, getD, length-set}
-use lib.Dec.{leb, eqb}
-use borrow.Author.Tests.{eq-eqb, ne-eqb, eqb-true, eqb-false}
+use lib.Dec.{eqb}
+use borrow.Author.Tests.{eq-eqb, ne-eqb, eqb-false}
 use Rattle.basics.specs.Basics.{if_then_else_, any, isEmpty}
-use Rattle.basics.proofs.Facts.{by, lie}
-use Rattle.model.specs.State.{Pending, nothing, adding, committing, removing, Held, Page}
-use Rattle.model.specs.Rules.{isAdding, isRemoving, isNumber, hasNumber, edit, gone, goneLater, takenLater, kept, keptLater, withPending, withTuples}
-use Rattle.model.proofs.Lists.{nonempty, nothing-left}
+use Rattle.basics.proofs.Facts.{by}
+use Rattle.model.specs.State.{removing, Held}
+use Rattle.model.specs.Rules.{isAdding, isRemoving, isNumber, edit, goneLater, takenLater, withPending}
+use Rattle.model.proofs.Lists.{nonempty}
 use Rattle.memory.specs.Views.{tab}
-use Rattle.memory.specs.Flat.{flatOf, rowIn, noRow, removeAt}
+use Rattle.memory.specs.Flat.{flatOf, noRow, removeAt}
 use Rattle.memory.specs.Store.{pendingOf, heldOf, heldIn}
 use Rattle.memory.specs.declared.Row.{Row}
-use Rattle.memory.proofs.Laws.{tab-next, getD-tab, length-tab}
+use Rattle.memory.proofs.Laws.{tab-next, getD-tab}
 use Rattle.pages.specs.Turns.{tuplesAt, entryAt, startAt, At}
 use Rattle.pages.specs.Changes.{RowOn}
 use Rattle.pages.specs.Finding.{firstOf, editAt, takenAt}

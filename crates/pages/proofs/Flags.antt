@@ -1,17 +1,14 @@
 -- A row with other flags: the tuple that it holds, and what is pending.
-use mathlib.Core.Path.{_≡_, refl, sym, ap, _∙_}
-use mathlib.Core.Bool.{Bool, true, false, not}
-use Prim.Native.Nat.{ℕ, zero, suc, _+_, _*_, _-_, _/_, _%_, _≤_, _<_}
+use mathlib.Core.Path.{_≡_, sym, ap, _∙_}
+use Prim.Native.Nat.{ℕ, _+_, _*_, _-_, _/_, _%_, _<_}
 use native.Mathlib.Omega.{arith}
 use native.Mathlib.Nat.{mul-mod-right}
-use mathlib.Core.List.{List}
 use lib.ListN.{take}
 use lib.Dec.{eqb}
 use Rattle.basics.specs.Basics.{if_then_else_}
 use Rattle.blocks.specs.Limits.{payloadLimit}
-use Rattle.blocks.specs.Tuple.{Tuple, Owner, committed}
-use Rattle.model.specs.State.{Pending, nothing, adding, committing, removing, Held}
-use Rattle.model.specs.Rules.{calm, withPending, kept, asCommitted}
+use Rattle.model.specs.State.{Pending, nothing, adding}
+use Rattle.model.specs.Rules.{calm, withPending, asCommitted}
 use Rattle.memory.specs.Store.{ownerOf, pendingOf, tupleOf, heldOf, tupleBy}
 use Rattle.memory.specs.declared.Row.{Row}
 use Rattle.pages.specs.Thawing.{withFlags}

@@ -1,28 +1,27 @@
 -- Whether two pages may be joined, and what joining a changed page does.
 use mathlib.Core.Path.{_≡_, refl, sym, ap, _∙_, subst}
-use mathlib.Core.Bool.{Bool, true, false, not, _&&_}
-use mathlib.Core.Option.{Option, none, some}
-use Prim.Native.Nat.{ℕ, zero, suc, _+_, _*_, _-_, _%_, _≤_, _<_}
+use mathlib.Core.Bool.{Bool, true, false}
+use mathlib.Core.Option.{none}
+use Prim.Native.Nat.{ℕ, suc, _+_, _-_, _<_}
 use native.Mathlib.Omega.{arith}
 use mathlib.Core.List.{List, [], _∷_, _++_}
 use lib.ListN.{length, take, drop}
-use lib.Dec.{leb, eqb}
+use lib.Dec.{leb}
 use borrow.Author.Tests.{eq-eqb, ne-eqb}
-use Rattle.basics.specs.Basics.{if_then_else_, sum, isEmpty}
+use Rattle.basics.specs.Basics.{sum}
 use Rattle.basics.proofs.Facts.{by, lie}
 use Rattle.model.specs.State.{Held, Page}
-use Rattle.model.specs.Rules.{heldSize, joins, joined, fresh, listOf, settle, settleFull}
+use Rattle.model.specs.Rules.{heldSize, joins, joined, fresh, settle, settleFull}
 use Rattle.model.proofs.Lists.{nonempty}
 use Rattle.memory.specs.Views.{tab}
-use Rattle.memory.specs.Flat.{flatOf, entryIn}
+use Rattle.memory.specs.Flat.{flatOf}
 use Rattle.memory.specs.Store.{heldIn, startOf}
 use Rattle.memory.proofs.Laws.{tab-add}
 use Rattle.memory.proofs.Runs.{sum-append, start-next}
-use Rattle.pages.specs.Turns.{Turns, pagesOf, pageAt, tuplesAt, entryAt, startAt, At, swapped, onPage}
+use Rattle.pages.specs.Turns.{Turns, pagesOf, pageAt, tuplesAt, entryAt, At, swapped, onPage}
 use Rattle.pages.specs.Changes.{Tries, settledAt, settledNext}
 use Rattle.pages.specs.Finding.{settledBy}
-use Rattle.pages.proofs.Places.{turns-to, turns-stay, turns-then, turns-pages, swap-same, from-page, at-first, page-first, ends-at, tuples-many}
-use Rattle.pages.proofs.Searching.{table-is}
+use Rattle.pages.proofs.Places.{turns-to, turns-stay, turns-pages, swap-same, from-page, ends-at, tuples-many}
 use Rattle.pages.proofs.Splitting.{run-tuples}
 use Rattle.pages.proofs.Edits.{empty-none}
 use Rattle.pages.proofs.Around.{on-swap, on-changed, settle-full, settle-empty, before-none, before-joins, before-apart}

@@ -12,3 +12,5 @@ pub mod Joining
 pub mod Removing
 pub mod Committing
 pub mod Ripening
+pub mod Parts
+pub mod Melting

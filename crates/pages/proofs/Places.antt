@@ -1,26 +1,24 @@
 -- Pages by place: what stands where after pages were exchanged, and one change after another.
 use mathlib.Core.Path.{_≡_, refl, sym, ap, _∙_}
-use mathlib.Core.Bool.{Bool, true, false}
-use mathlib.Core.Option.{Option, none, some}
+use mathlib.Core.Bool.{true}
+use mathlib.Core.Option.{some}
 use Prim.Native.Nat.{ℕ, zero, suc, _+_, _-_, _≤_, _<_}
 use native.Mathlib.Omega.{arith}
-use native.Mathlib.Numerals.{add-one}
 use mathlib.Core.List.{List, [], _∷_, _++_, append-assoc, append-nil, map}
-use lib.ListN.{length, take, drop, getD, length-map, length-append, length-take, length-drop, take-append-drop}
-use lib.Seq.{length-take-le, take-at, drop-at, take-all}
+use lib.ListN.{length, take, drop, getD, length-map, length-append, length-drop, take-append-drop}
+use lib.Seq.{length-take-le, take-at, drop-at}
 use Rattle.basics.specs.Basics.{sum}
 use Rattle.model.specs.State.{Held, Page, Store}
-use Rattle.model.specs.Rules.{listOf}
 use Rattle.model.specs.Transactions.{changed}
 use Rattle.memory.specs.Flat.{Flat, flatOf, entryIn, noEntry}
-use Rattle.memory.specs.Store.{heldOf, nest, pageOf, pagesIn, pageIn, total, startOf, holdsStore, storeOf, storeIn}
+use Rattle.memory.specs.Store.{heldOf, nest, pageOf, pagesIn, pageIn, total, startOf, holdsStore, storeOf}
 use Rattle.memory.specs.declared.Entry.{Entry}
 use Rattle.memory.proofs.Laws.{length-tab}
 use Rattle.memory.proofs.Nest.{Counted, counted-length, take-nest}
 use Rattle.memory.proofs.Runs.{pages-count, page-at, sum-append, start-le, rows-total, start-next, start-in, count-pos, all-counted}
 use Rattle.memory.proofs.Refusal.{held-filled}
 use Rattle.memory.proofs.Meaning.{Sound, in-some, in-sound}
-use Rattle.pages.specs.Turns.{withPages, Turns, pagesOf, pageAt, At, swapped, onPage}
+use Rattle.pages.specs.Turns.{withPages, Turns, pagesOf, pageAt, At, swapped}
 
 -- ---- one change after another
 

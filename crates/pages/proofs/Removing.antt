@@ -1,27 +1,26 @@
 -- A removal, on a frozen page and on another; and the model's rule by place.
 use mathlib.Core.Path.{_≡_, refl, sym, ap, _∙_, subst}
-use mathlib.Core.Bool.{Bool, true, false, not}
-use mathlib.Core.Option.{Option, none, some}
-use Prim.Native.Nat.{ℕ, zero, suc, _+_, _*_, _-_, _/_, _%_, _≤_, _<_}
+use mathlib.Core.Bool.{Bool, true, false}
+use mathlib.Core.Option.{Option, none}
+use Prim.Native.Nat.{ℕ, zero, suc, _+_, _-_, _/_, _%_, _≤_, _<_}
 use native.Mathlib.Omega.{arith}
 use native.Mathlib.Numerals.{add-one}
-use mathlib.Core.List.{List, [], _∷_, _++_}
-use lib.ListN.{length, take, drop, set, getD}
+use mathlib.Core.List.{List, [], _∷_}
+use lib.ListN.{length, take, set, getD}
 use lib.Seq.{take-all}
-use Rattle.basics.specs.Basics.{if_then_else_, any}
+use Rattle.basics.specs.Basics.{if_then_else_}
 use Rattle.model.specs.State.{removing, Held, Page}
-use Rattle.model.specs.Rules.{isAdding, isNumber, hasNumber, edit, gone, takenLater, withPending, withTuples, fresh, listOf, settle, settleFull, removeOn, remove, around}
+use Rattle.model.specs.Rules.{isAdding, hasNumber, edit, gone, takenLater, withPending, withTuples, fresh, listOf, settle, removeOn, remove, around}
 use Rattle.memory.specs.Flat.{flatOf, rowIn, noRow, removeAt}
-use Rattle.memory.specs.Store.{pendingOf, heldOf, heldIn, pageOf, pageIn, pagesIn, startOf, holdsStore}
+use Rattle.memory.specs.Store.{pendingOf, heldOf, heldIn, pageOf, pageIn, startOf, holdsStore}
 use Rattle.memory.specs.declared.Row.{Row}
 use Rattle.memory.specs.declared.Entry.{Entry}
 use Rattle.pages.specs.Turns.{Turns, pagesOf, pageAt, tuplesAt, entryAt, startAt, At, swapped, onPage}
-use Rattle.pages.specs.Changes.{There, RowOn, Tries, settledAt}
+use Rattle.pages.specs.Changes.{RowOn, Tries, settledAt}
 use Rattle.pages.specs.Finding.{firstOf, editAt, takenAt, settledBy, NoneOf, FirstPage, FoundRow, FoundBy}
 use Rattle.memory.specs.Views.{tab}
 use Rattle.memory.proofs.Runs.{start-zero, pages-count}
 use Rattle.pages.proofs.Places.{turns-to, turns-stay, turns-then, swap-same, from-page, at-first, page-first, has-row, ends-at, tuples-many}
-use Rattle.pages.proofs.Searching.{table-is}
 use Rattle.pages.proofs.Swaps.{fresh-page, length-remove}
 use Rattle.pages.proofs.Splitting.{run-tuples, with-tuples}
 use Rattle.pages.specs.Thawing.{withFlags}

@@ -1,17 +1,17 @@
 -- Pending operations take hold: rows, turn by turn, and the page that they leave.
 use mathlib.Core.Path.{_≡_, refl, sym, ap, _∙_, subst}
-use mathlib.Core.Bool.{Bool, true, false, not}
-use Prim.Native.Nat.{ℕ, zero, suc, _+_, _*_, _-_, _/_, _%_, _≤_, _<_}
+use mathlib.Core.Bool.{Bool, true, false}
+use Prim.Native.Nat.{ℕ, suc, _+_, _-_, _/_, _%_, _≤_, _<_}
 use native.Mathlib.Omega.{arith}
 use native.Mathlib.Numerals.{add-one}
 use mathlib.Core.List.{List, [], _∷_, _++_, map, append-assoc, append-nil}
-use lib.ListN.{length, take, drop, set, getD, length-append, length-map, length-drop, length-take, take-append-drop}
-use lib.Seq.{length-take-le, take-at, drop-at, getD-at, take-suc, drop-cons, set-split, drop-drop, getD-drop, take-append-seam}
+use lib.ListN.{length, take, drop, set, getD, length-append, length-map, length-drop, take-append-drop}
+use lib.Seq.{length-take-le, take-at, drop-at, getD-at, take-suc, drop-cons, set-split, getD-drop, set-getD}
 use lib.Dec.{eqb}
 use borrow.Author.Tests.{eq-eqb, ne-eqb, eqb-true, eqb-false}
 use Rattle.basics.specs.Basics.{if_then_else_, any, sum}
 use Rattle.basics.proofs.Facts.{by}
-use Rattle.model.specs.State.{Held, Page, Pending}
+use Rattle.model.specs.State.{Held, Page}
 use Rattle.model.specs.Rules.{isPending, isRemoving, isCommitting, ripe, ripened, calm, asCommitted, fresh}
 use Rattle.memory.specs.Views.{tab}
 use Rattle.memory.specs.Flat.{Flat, flatOf, rowIn, entryIn, noRow, Room, Becomes, withRows, withEntries, removeAt}
@@ -21,12 +21,10 @@ use Rattle.memory.specs.declared.Entry.{Entry}
 use Rattle.memory.proofs.Laws.{tab-next}
 use Rattle.memory.proofs.Meaning.{becomes-then}
 use Rattle.memory.proofs.Exchange.{set-exchange}
-use Rattle.pages.specs.Turns.{Turns, pagesOf, pageAt, tuplesAt, entryAt, At, swapped}
+use Rattle.pages.specs.Turns.{pageAt, tuplesAt, entryAt, At}
 use Rattle.pages.specs.Thawing.{withFlags, ripeFlags, ripeOne, ripeRows, ripeTuples, ripeRun, RipensOne, Ripens, TakesHold}
-use Rattle.pages.proofs.Places.{turns-to, page-end}
-use Rattle.pages.proofs.Searching.{table-is}
-use Rattle.pages.proofs.Swaps.{map-append, turned-one, run-held, nest-one, fresh-page}
-use Rattle.pages.proofs.Flags.{held-done, held-kept, held-calm}
+use Rattle.pages.proofs.Swaps.{map-append, turned-one, run-held, run-long, nest-one, fresh-page}
+use Rattle.pages.proofs.Flags.{held-done, held-kept}
 use Rattle.pages.proofs.Edits.{pending-is, removing-is, not-removing}
 
 -- ---- what is pending
@@ -72,10 +70,15 @@ waits-is f i = ap isPending (pending-is (rowIn f i))
 
 -- ---- one row
 
-module _ (r : Row) where
-  abbrev k : ℕ
-  k = r .flags / 4 % 4
+pub flags-kept : (f : ℕ) → f / 4 % 4 ≡ 2 → ripeFlags f ≡ f % 4 - f % 2
+unfolding ripeFlags if_then_else_
+flags-kept f e = rw (eq-eqb (f / 4 % 4) 2 e)
 
+pub flags-done : (f : ℕ) → (f / 4 % 4 ≡ 2 → ⊥) → ripeFlags f ≡ f % 4
+unfolding ripeFlags if_then_else_
+flags-done f e = rw (ne-eqb (f / 4 % 4) 2 e)
+
+module _ (r : Row) where
   pub one-gone : r .flags / 4 % 4 ≡ 3 → ripeOne r ≡ []
   unfolding ripeOne if_then_else_
   one-gone e = rw (eq-eqb (r .flags / 4 % 4) 3 e)
@@ -88,14 +91,6 @@ module _ (r : Row) where
     pub one-done : (r .flags / 4 % 4 ≡ 0 → ⊥) → ripeOne r ≡ withFlags r (ripeFlags (r .flags)) ∷ []
     unfolding ripeOne if_then_else_
     one-done n0 = rw (ne-eqb (r .flags / 4 % 4) 3 ne, ne-eqb (r .flags / 4 % 4) 0 n0)
-
-  pub flags-kept : (f : ℕ) → f / 4 % 4 ≡ 2 → ripeFlags f ≡ f % 4 - f % 2
-  unfolding ripeFlags if_then_else_
-  flags-kept f e = rw (eq-eqb (f / 4 % 4) 2 e)
-
-  pub flags-done : (f : ℕ) → (f / 4 % 4 ≡ 2 → ⊥) → ripeFlags f ≡ f % 4
-  unfolding ripeFlags if_then_else_
-  flags-done f e = rw (ne-eqb (f / 4 % 4) 2 e)
 
   ripe-kept : r .flags / 4 % 4 ≡ 2 → ripe (heldOf r) ≡ asCommitted (tupleOf r)
   unfolding ripe heldOf if_then_else_
@@ -260,6 +255,18 @@ ripe-end {m} {m1} {start} {n} {left} {i} l inv =
 
 -- ---- the page that they leave
 
+one-length : (r : Row) → length (ripeOne r) ≤ 1
+unfolding ripeOne if_then_else_
+one-length r =
+    by (eqb (r .flags / 4 % 4) 3)
+    (λ e. rw e (omega arith))
+    (λ e. by (eqb (r .flags / 4 % 4) 0) (λ d. rw (e, d) (omega arith)) (λ d. rw (e, d) (omega arith)))
+
+rows-most : (xs : List Row) → length (ripeRows xs) ≤ length xs
+unfolding ripeRows
+rows-most [] = omega arith
+rows-most (x ∷ xs) = omega (arith, length-append (ripeOne x) (ripeRows xs), one-length x, rows-most xs)
+
 nil : (xs : List Row) → length xs ≡ 0 → xs ≡ []
 nil [] e = refl
 nil (y ∷ ys) e = absurd (omega arith)
@@ -279,6 +286,10 @@ module _ {m m1 : List ℕ} {p start : ℕ} (a : At m p start) (n r : ℕ) (en : 
 
   count-is : r ≡ length (ripeTuples (tuplesAt m p))
   count-is = long-is ∙ sym (length-map (ripeRows run) heldOf) ∙ ap length ripe-is
+
+  -- no more are left than there were
+  pub hold-most : r ≤ n
+  hold-most = omega (arith, long-is, rows-most run, run-long a)
 
   pub hold-none : {m2 : List ℕ} → r ≡ 0 → Becomes m1 m2 (withEntries (flatOf m1) (removeAt p (flatOf m1 .entries))) → TakesHold m m2 p r
   unfolding total sum nest
@@ -305,3 +316,37 @@ module _ {m m1 : List ℕ} {p start : ℕ} (a : At m p start) (n r : ℕ) (en : 
             (nest-one e (map heldOf (ripeRows run)) (long-is ∙ sym (length-map (ripeRows run) heldOf))
             ∙ ap (λ (hs : List Held). pageOf e hs ∷ []) ripe-is ∙ ap (λ (z : Page). z ∷ []) (fresh-page t r (ripeTuples (tuplesAt m p)) ∙ ap (λ (k : ℕ). fresh k (ripeTuples (tuplesAt m p))) et));
       }
+
+-- ---- one row of the memory
+
+module _ (m : List ℕ) (i : ℕ) where
+  pub ripens-gone : {m' : List ℕ} (row : Row) → row ≡ rowIn (flatOf m) i → row .flags / 4 % 4 ≡ 3 → Becomes m m' (withRows (flatOf m) (removeAt i (flatOf m .rows))) → RipensOne m m' i 0
+  ripens-gone {m'} row er h b =
+      let e : ripeOne (rowIn (flatOf m) i) ≡ [] = ap ripeOne (sym er) ∙ one-gone row h in
+      record {
+        count = sym (ap length e);
+        becomes = subst (λ (z : List Row). Becomes m m' (withRows (flatOf m) (take i (flatOf m .rows) ++ (z ++ drop (i + 1) (flatOf m .rows))))) (sym e) b;
+      }
+
+  module _ (lt : i < length (flatOf m .rows)) (row : Row) (er : row ≡ rowIn (flatOf m) i) (n3 : row .flags / 4 % 4 ≡ 3 → ⊥) where
+    -- the row x in the place of row i
+    placed : {m' : List ℕ} (x : Row) → ripeOne row ≡ x ∷ [] → Becomes m m' (withRows (flatOf m) (set (flatOf m .rows) i x)) → RipensOne m m' i 1
+    placed {m'} x q b =
+        let e : ripeOne (rowIn (flatOf m) i) ≡ x ∷ [] = ap ripeOne (sym er) ∙ q in
+        let s : set (flatOf m .rows) i x ≡ take i (flatOf m .rows) ++ (ripeOne (rowIn (flatOf m) i) ++ drop (i + 1) (flatOf m .rows)) =
+        set-split (flatOf m .rows) i x lt ∙ ap (λ (k : ℕ). take i (flatOf m .rows) ++ x ∷ drop k (flatOf m .rows)) (sym (add-one i))
+        ∙ ap (λ (z : List Row). take i (flatOf m .rows) ++ (z ++ drop (i + 1) (flatOf m .rows))) (sym e) in
+        record { count = sym (ap length e); becomes = subst (λ (z : List Row). Becomes m m' (withRows (flatOf m) z)) s b }
+
+    pub ripens-done : {m' : List ℕ} → (row .flags / 4 % 4 ≡ 0 → ⊥) → (f : ℕ) → f ≡ ripeFlags (row .flags)
+        → Becomes m m' (withRows (flatOf m) (set (flatOf m .rows) i (withFlags row f))) → RipensOne m m' i 1
+    ripens-done n0 f ef b = placed (withFlags row f) (one-done row n3 n0 ∙ ap (λ (z : ℕ). withFlags row z ∷ []) (sym ef)) b
+
+    pub ripens-same : Room m → row .flags / 4 % 4 ≡ 0 → RipensOne m m i 1
+    ripens-same room z =
+        let s : set (flatOf m .rows) i row ≡ flatOf m .rows = ap (set (flatOf m .rows) i) er ∙ set-getD (flatOf m .rows) i noRow in
+        placed row (one-same row n3 z) (record { size = refl; room = room; flat = ap (withRows (flatOf m)) (sym s) })
+
+-- a row leaves one row at most
+pub one-most : {m m' : List ℕ} {i : ℕ} (r : ℕ) → RipensOne m m' i r → r ≤ 1
+one-most {m} {m'} {i} r o = omega (arith, o .count, one-length (rowIn (flatOf m) i))

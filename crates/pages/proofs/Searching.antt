@@ -1,17 +1,17 @@
 -- The search for a tuple's place, from the front and from the back, turn by turn.
 use mathlib.Core.Path.{_≡_, refl, sym, ap, _∙_, subst}
-use mathlib.Core.Bool.{Bool, true, false}
-use mathlib.Core.Option.{Option, none, some}
-use Prim.Native.Nat.{ℕ, zero, suc, _+_, _*_, _-_, _%_, _≤_, _<_}
+use mathlib.Core.Bool.{true}
+use mathlib.Core.Option.{none}
+use Prim.Native.Nat.{ℕ, suc, _+_, _-_, _%_, _≤_, _<_}
 use native.Mathlib.Omega.{arith}
 use native.Mathlib.Numerals.{add-one}
-use mathlib.Core.List.{List, [], _∷_, _++_, map}
+use mathlib.Core.List.{List, _++_}
 use lib.ListN.{length, take, drop}
 use Rattle.blocks.specs.Tuple.{Tuple}
-use Rattle.model.specs.State.{Held, Page}
-use Rattle.model.specs.Rules.{place, placeAfter, placeFront, fresh, calm}
+use Rattle.model.specs.State.{Page}
+use Rattle.model.specs.Rules.{place, placeAfter, placeFront}
 use Rattle.memory.specs.Views.{tab}
-use Rattle.memory.specs.Flat.{Flat, flatOf, entryIn}
+use Rattle.memory.specs.Flat.{flatOf, entryIn}
 use Rattle.memory.specs.Store.{tupleOf, heldIn, pageOf, pageIn, startOf, holdsStore, tupleBy}
 use Rattle.memory.specs.declared.Row.{Row}
 use Rattle.memory.specs.declared.Entry.{Entry}

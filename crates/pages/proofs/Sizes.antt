@@ -1,21 +1,19 @@
 -- Sizes over a run of rows, turn by turn; parts of a page that is split.
-use mathlib.Core.Path.{_≡_, refl, sym, ap, _∙_, subst}
-use mathlib.Core.Bool.{Bool, true, false}
-use Prim.Native.Nat.{ℕ, zero, suc, _+_, _*_, _-_, _%_, _≤_, _<_}
+use mathlib.Core.Path.{_≡_, ap, _∙_}
+use Prim.Native.Nat.{ℕ, zero, suc, _+_, _*_, _-_, _≤_, _<_}
 use native.Mathlib.Omega.{arith}
-use mathlib.Core.List.{List, [], _∷_, _++_}
+use mathlib.Core.List.{List}
 use lib.ListN.{length}
-use lib.Dec.{leb}
 use borrow.Author.Tests.{le-leb, lt-leb}
-use Rattle.basics.specs.Basics.{if_then_else_, sum}
+use Rattle.basics.specs.Basics.{if_then_else_}
 use Rattle.basics.proofs.Facts.{AllOf}
 use Rattle.model.specs.State.{Held}
-use Rattle.model.specs.Rules.{heldSize, lead, half, fits}
-use Rattle.model.proofs.Splits.{Small, half-between}
+use Rattle.model.specs.Rules.{heldSize, lead}
+use Rattle.model.proofs.Splits.{Small}
 use Rattle.memory.specs.Views.{tab}
-use Rattle.memory.specs.Flat.{Flat, flatOf, rowIn, Room}
-use Rattle.memory.specs.Store.{heldOf, heldIn}
-use Rattle.memory.proofs.Laws.{tab-next, length-tab}
+use Rattle.memory.specs.Flat.{flatOf, rowIn, Room}
+use Rattle.memory.specs.Store.{heldIn}
+use Rattle.memory.proofs.Laws.{tab-next}
 use Rattle.memory.proofs.Payloads.{held-size, payload-long}
 
 -- no tuple of the memory is larger than 53 bytes

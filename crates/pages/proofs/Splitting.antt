@@ -1,11 +1,11 @@
 -- A page that is split where it is above 504 bytes; a page that took a tuple in.
 use mathlib.Core.Path.{_≡_, refl, sym, ap, _∙_, subst}
-use mathlib.Core.Bool.{Bool, true, false, not}
-use Prim.Native.Nat.{ℕ, zero, suc, _+_, _*_, _-_, _%_, _≤_, _<_}
+use mathlib.Core.Bool.{true, false, not}
+use Prim.Native.Nat.{ℕ, _+_, _-_, _%_, _≤_, _<_}
 use native.Mathlib.Omega.{arith}
-use mathlib.Core.List.{List, [], _∷_, _++_, map}
-use lib.ListN.{length, take, drop}
-use lib.Dec.{leb, eqb}
+use mathlib.Core.List.{List, [], _∷_, map}
+use lib.ListN.{take, drop}
+use lib.Dec.{eqb}
 use borrow.Author.Tests.{le-leb, lt-leb, ne-eqb, eq-eqb}
 use Rattle.basics.specs.Basics.{if_then_else_, sum}
 use Rattle.basics.proofs.Facts.{AllOf}
@@ -14,13 +14,13 @@ use Rattle.model.specs.State.{Held, Page, adding}
 use Rattle.model.specs.Rules.{heldSize, lead, half, fits, splitOnce, fresh, calm, grown, entering, withTuples}
 use Rattle.model.proofs.Splits.{Small, half-between}
 use Rattle.memory.specs.Views.{tab}
-use Rattle.memory.specs.Flat.{flatOf, entryIn, insertAt}
-use Rattle.memory.specs.Store.{heldOf, heldIn, tupleOf, pageOf, pageIn, startOf, holdsStore}
+use Rattle.memory.specs.Flat.{flatOf, insertAt}
+use Rattle.memory.specs.Store.{heldOf, heldIn, tupleOf, pageOf, pageIn, startOf}
 use Rattle.memory.specs.declared.Row.{Row}
 use Rattle.memory.specs.declared.Entry.{Entry}
 use Rattle.memory.proofs.Refusal.{held-room}
 use Rattle.pages.specs.Turns.{Turns, pagesOf, pageAt, tuplesAt, entryAt, startAt, At, swapped}
-use Rattle.pages.specs.Changes.{There, CutAt, Dirty, Halved}
+use Rattle.pages.specs.Changes.{CutAt, Dirty, Halved}
 use Rattle.pages.specs.Spots.{placedOn, GrowAt}
 use Rattle.pages.proofs.Places.{turns-stay, turns-to, turns-again, swap-same, page-end, tuples-many, at-first, page-first}
 use Rattle.pages.proofs.Searching.{tuples-is, table-is}
@@ -31,11 +31,11 @@ use Rattle.pages.proofs.Flags.{held-adding, held-calm}
 
 -- ---- splitting once
 
-once-whole : (t : ℕ) (hs : List Held) → fits hs ≡ true → map (fresh t) (splitOnce hs) ≡ fresh t hs ∷ []
+pub once-whole : (t : ℕ) (hs : List Held) → fits hs ≡ true → map (fresh t) (splitOnce hs) ≡ fresh t hs ∷ []
 unfolding splitOnce if_then_else_
 once-whole t hs h = rw h
 
-once-parts : (t : ℕ) (hs : List Held) → fits hs ≡ false → map (fresh t) (splitOnce hs) ≡ fresh t (take (half hs) hs) ∷ fresh t (drop (half hs) hs) ∷ []
+pub once-parts : (t : ℕ) (hs : List Held) → fits hs ≡ false → map (fresh t) (splitOnce hs) ≡ fresh t (take (half hs) hs) ∷ fresh t (drop (half hs) hs) ∷ []
 unfolding splitOnce if_then_else_
 once-parts t hs h = rw h
 

@@ -1,18 +1,17 @@
 -- Rows and entries changed together: what it does to the pages.
 use mathlib.Core.Path.{_≡_, refl, sym, ap, _∙_, subst}
-use mathlib.Core.Bool.{Bool, true, false}
+use mathlib.Core.Bool.{true}
 use Prim.Native.Nat.{ℕ, zero, suc, _+_, _-_, _%_, _≤_, _<_}
 use native.Mathlib.Omega.{arith}
 use native.Mathlib.Numerals.{add-one}
-use mathlib.Core.List.{List, [], _∷_, _++_, append-assoc, map}
-use lib.ListN.{length, take, drop, set, length-map, length-append, length-take, length-drop, length-set, take-append-drop}
-use lib.Seq.{length-take-le, take-all, set-split, take-append-seam, drop-append-seam, drop-drop, take-add}
+use mathlib.Core.List.{List, [], _∷_, _++_, map}
+use lib.ListN.{length, take, drop, set, length-map, length-append, length-drop, length-set, take-append-drop}
+use lib.Seq.{length-take-le, take-all, drop-drop, take-add}
 use Rattle.basics.specs.Basics.{sum}
-use Rattle.model.specs.State.{Held, Page, Store}
+use Rattle.model.specs.State.{Held, Page}
 use Rattle.model.specs.Rules.{fresh}
-use Rattle.model.specs.Transactions.{changed}
-use Rattle.memory.specs.Flat.{Flat, flatOf, entryIn, Room, Becomes, withRows, withEntries, insertAt, removeAt}
-use Rattle.memory.specs.Store.{heldOf, heldIn, nest, pageOf, pagesIn, pageIn, total, startOf, exchanged, holdsStore}
+use Rattle.memory.specs.Flat.{Flat, flatOf, entryIn, Becomes, withRows, withEntries, insertAt, removeAt}
+use Rattle.memory.specs.Store.{heldOf, heldIn, nest, pageOf, pageIn, total, startOf, exchanged, holdsStore}
 use Rattle.memory.specs.Views.{tab}
 use Rattle.memory.specs.declared.Row.{Row}
 use Rattle.memory.specs.declared.Entry.{Entry}

@@ -1,11 +1,11 @@
 -- What the functions that change one page, or join two, need and promise.
-use Prim.Native.Nat.{ℕ, zero, suc, _+_, _-_, _≤_, _<_}
+use Prim.Native.Nat.{ℕ, _+_, _≤_, _<_}
 use mathlib.Core.Path.{_≡_}
 use mathlib.Core.Bool.{Bool, true, false}
-use mathlib.Core.Option.{Option, none, some}
-use mathlib.Core.List.{List, [], _∷_, _++_, map}
-use lib.ListN.{length, take, drop}
-use Rattle.model.specs.State.{Held, Page}
+use mathlib.Core.Option.{none}
+use mathlib.Core.List.{List, _++_, map}
+use lib.ListN.{length}
+use Rattle.model.specs.State.{Page}
 use Rattle.model.specs.Rules.{fresh, listOf, fits, half, splitOnce, settleFull, settleNext}
 use Rattle.memory.specs.Flat.{flatOf}
 use Rattle.memory.specs.Store.{holdsStore}

@@ -4,7 +4,7 @@ use mathlib.Core.Path.{_≡_}
 use mathlib.Core.Bool.{Bool, true, false}
 use mathlib.Core.Option.{none}
 use mathlib.Core.List.{List, [], _∷_, _++_}
-use lib.ListN.{length, take}
+use lib.ListN.{take}
 use Rattle.basics.specs.Basics.{if_then_else_, isEmpty}
 use Rattle.model.specs.State.{Held, Page}
 use Rattle.model.specs.Rules.{isNumber, hasNumber, goneLater, kept, keptLater, fresh, withTuples, settle}
@@ -58,6 +58,7 @@ pub record FoundRow (m : List ℕ) (n p start at : ℕ) : Type 0 where
   pub most : at < start + entryAt m p .count
   pub first : firstOf n (tuplesAt m p) ≡ at - start
 
+-- r says where the first tuple of number n is
 unfoldable pub FoundBy : List ℕ → ℕ → Found → Type 0
 FoundBy m n (Here p s a) = FoundRow m n p s a
 FoundBy m n Nowhere = NoneOf (hasNumber n) (pagesOf m)

@@ -11,7 +11,6 @@ use Rattle.model.specs.Rules.{place, placeFront, grown, entering, fresh, calm}
 use Rattle.memory.specs.Flat.{flatOf, entryIn, insertAt}
 use Rattle.memory.specs.Store.{startOf, holdsStore}
 use Rattle.memory.specs.declared.Row.{Row}
-use Rattle.memory.specs.declared.Entry.{Entry}
 use Rattle.pages.specs.Turns.{pagesOf, pageAt, At, swapped}
 use Rattle.pages.specs.declared.Spot.{Spot}
 use Rattle.pages.specs.declared.Spot.the-variants.{On, New}
@@ -44,6 +43,7 @@ pub record NewSpot (m : List ℕ) (F : Tuple → List Page) (t k p at : ℕ) : T
   pub begins : at ≡ startOf (flatOf m) p
   pub places : (x : Tuple) → x .key ≡ k → F x ≡ take p (pagesOf m) ++ fresh t (calm x ∷ []) ∷ drop p (pagesOf m)
 
+-- F puts a tuple of key k where r says
 unfoldable pub SpottedBy : List ℕ → (Tuple → List Page) → ℕ → ℕ → Spot → Type 0
 SpottedBy m F t k (On p s a) = OnSpot m F k p s a
 SpottedBy m F t k (New p a) = NewSpot m F t k p a

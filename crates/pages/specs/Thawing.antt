@@ -1,12 +1,11 @@
 -- Pending operations that take hold, by rows.
-use Prim.Native.Nat.{ℕ, zero, suc, _+_, _-_, _/_, _%_}
+use Prim.Native.Nat.{ℕ, _+_, _-_, _/_, _%_}
 use mathlib.Core.Path.{_≡_}
-use mathlib.Core.Bool.{Bool, true, false}
 use mathlib.Core.List.{List, [], _∷_, _++_, map}
 use lib.ListN.{length, take, drop}
 use lib.Dec.{eqb}
 use Rattle.basics.specs.Basics.{if_then_else_}
-use Rattle.model.specs.State.{Held, Page}
+use Rattle.model.specs.State.{Held}
 use Rattle.model.specs.Rules.{calm, ripened, fresh, isFrozen}
 use Rattle.memory.specs.Flat.{flatOf, rowIn, Becomes, withRows}
 use Rattle.memory.specs.declared.Row.{Row}
@@ -27,6 +26,7 @@ ripeFlags f = if eqb (f / 4 % 4) 2 then f % 4 - f % 2 else f % 4
 unfoldable pub ripeOne : Row → List Row
 ripeOne r = if eqb (r .flags / 4 % 4) 3 then [] else if eqb (r .flags / 4 % 4) 0 then r ∷ [] else withFlags r (ripeFlags (r .flags)) ∷ []
 
+-- what becomes of rows, one after the other
 unfoldable pub ripeRows : List Row → List Row
 ripeRows [] = []
 ripeRows (r ∷ rs) = ripeOne r ++ ripeRows rs

@@ -2,7 +2,7 @@
 use Prim.Native.Nat.{ℕ, zero, suc, _<_}
 use mathlib.Core.Path.{_≡_}
 use mathlib.Core.Bool.{true}
-use mathlib.Core.Option.{Option, none, some}
+use mathlib.Core.Option.{Option, some}
 use mathlib.Core.List.{List, [], _∷_, _++_}
 use lib.ListN.{length, take, drop}
 use Rattle.model.specs.State.{Held, Page, Store}
@@ -21,6 +21,7 @@ pub record Turns (m m' : List ℕ) (ps : List Page) : Type 0 where
   pub size : length m' ≡ length m
   pub store : storeIn m' ≡ some (withPages (storeOf (flatOf m)) ps)
 
+-- the pages of the memory
 abbrev pub pagesOf : List ℕ → List Page
 pagesOf m = pagesIn (flatOf m)
 
@@ -32,6 +33,7 @@ pageAt m p = pageIn (flatOf m) p
 abbrev pub tuplesAt : List ℕ → ℕ → List Held
 tuplesAt m p = pageAt m p .tuples
 
+-- the entry of page p
 abbrev pub entryAt : List ℕ → ℕ → Entry
 entryAt m p = entryIn (flatOf m) p
 

@@ -5,17 +5,19 @@ use memory::Entry;
 use memory::Row;
 ghost use mathlib.Core.Path.{_≡_};
 ghost use mathlib.Core.Bool.{true, false};
+ghost use mathlib.Core.Option.{none};
 ghost use mathlib.Core.List.{List, _∷_, [], _++_, map};
 ghost use Prim.Native.Nat.{ℕ, _+_, _-_, _%_, _≤_, _<_};
 ghost use lib.ListN.{length, take, drop, set};
-ghost use Rattle.basics.specs.Basics.{sum};
-ghost use Rattle.model.specs.Rules.{heldSize, lead, fresh, calm, withTuples, joins, joined, place, remove, commit, freeze};
+ghost use Rattle.basics.specs.Basics.{sum, any};
+ghost use Rattle.model.specs.Rules.{heldSize, lead, fresh, calm, withTuples, joins, joined, place, remove, commit, freeze, isPending, splitAll, thawOn, thaw};
 ghost use Rattle.memory.specs.Views.{tab};
 ghost use Rattle.memory.specs.Flat.{flatOf, entryIn, Room, insertAt, removeAt};
 ghost use Rattle.memory.specs.Store.{heldOf, heldIn, tupleOf, pageOf, pagesIn, holdsStore};
-ghost use Rattle.pages.specs.Turns.{Turns, pagesOf, pageAt, tuplesAt, entryAt, startAt, At, swapped};
+ghost use Rattle.pages.specs.Turns.{Turns, pagesOf, pageAt, tuplesAt, entryAt, startAt, At, swapped, onPage};
 ghost use Rattle.pages.specs.Changes.{There, RowOn, CutAt, Dirty, Halved, Tries, settledAt, settledNext};
 ghost use Rattle.pages.specs.Finding.{firstOf, FoundBy, takenAt, committedAt, lessOne, settledBy};
+ghost use Rattle.pages.specs.Thawing.{ripeFlags, RipensOne, Ripens, TakesHold, FrozenBy};
 ghost use Rattle.pages.specs.Spots.{afterLast, Spotted, FrontSpotted, PlaceAt, GrowAt, AddAt, placedOn};
 
 // Where a tuple goes: on a page whose rows begin at start, or on a new page before this one; as row `at`.
@@ -142,10 +144,10 @@ fn half(m: &[u8], start: usize, n: usize, whole: usize) -> usize
     let mut i = start;
     while i < end {
         all += memory::tuple_size(m, i);
-        i += 1;
         if whole <= 2 * all {
-            return i - start;
+            return i + 1 - start;
         }
+        i += 1;
     }
     n
 }
@@ -453,8 +455,8 @@ fn remove_later(m: &mut [u8], p: usize, at: usize)
     let e = memory::get_entry(m, p);
     let mut row = memory::get_row(m, at);
     let f = row.flags;
-    let o = f / 4 % 4;
-    if o == 1 {
+    let pending = f / 4 % 4;
+    if pending == 1 {
         if e.count == 1 {
             return;
         }
@@ -613,5 +615,171 @@ pub fn freeze(m: &mut [u8])
     while p < n {
         freeze_page(m, p);
         p += 1;
+    }
+}
+
+// ---- thawing
+
+// Of n rows from start on, one has a pending operation.
+fn has_pending(m: &[u8], start: usize, n: usize) -> bool
+    requires { ⌜ Room (now m) × (start + n ≤ length (flatOf (now m) .rows)) ⌝ }
+    ensures { λ r. ⌜ r ≡ any (λ h. isPending (h .pending)) (tab (heldIn (flatOf (now (m .entry)))) start n) ⌝ }
+{
+    let end = start + n;
+    let mut i = start;
+    while i < end {
+        let f = memory::flags_at(m, i);
+        let o = f / 4 % 4;
+        if o != 0 {
+            return true;
+        }
+        i += 1;
+    }
+    false
+}
+
+// Flags with nothing pending any more.
+fn ripe_flags(f: u8) -> u8
+    ensures { λ r. ⌜ r ≡ ripeFlags f ⌝ }
+{
+    let o = f / 4 % 4;
+    if o == 2 {
+        return f % 4 - f % 2;
+    }
+    f % 4
+}
+
+// The pending operation of row i takes hold; how many rows it leaves.
+fn ripen_row(m: &mut [u8], i: usize) -> usize
+    requires { ⌜ Room (now m) × (i < length (flatOf (now m) .rows)) ⌝ }
+    ensures { λ r. ⌜ RipensOne (now (m .entry)) (now (m .exit)) i r ⌝ }
+{
+    let mut row = memory::get_row(m, i);
+    let f = row.flags;
+    let o = f / 4 % 4;
+    if o == 3 {
+        memory::remove_row(m, i);
+        return 0;
+    }
+    if o == 0 {
+        return 1;
+    }
+    row.flags = ripe_flags(f);
+    memory::put_row(m, i, row);
+    1
+}
+
+// The same for n rows from start on.
+fn ripen(m: &mut [u8], start: usize, n: usize) -> usize
+    requires { ⌜ Room (now m) × (start + n ≤ length (flatOf (now m) .rows)) ⌝ }
+    ensures { λ r. ⌜ Ripens (now (m .entry)) (now (m .exit)) start n r ⌝ }
+{
+    let mut i = start;
+    let mut left = n;
+    while 0 < left {
+        i += ripen_row(m, i);
+        left -= 1;
+    }
+    i - start
+}
+
+// The pending operations of page p, whose rows begin at start, take hold, and an empty page is dropped; how many rows are left.
+fn take_hold(m: &mut [u8], p: usize, start: usize) -> usize
+    requires { ⌜ At (now m) p start ⌝ }
+    ensures { λ r. ⌜ TakesHold (now (m .entry)) (now (m .exit)) p r ⌝ }
+{
+    let e = memory::get_entry(m, p);
+    let left = ripen(m, start, e.count as usize);
+    if left == 0 {
+        memory::remove_entry(m, p);
+        return 0;
+    }
+    memory::put_entry(
+        m,
+        p,
+        Entry {
+            table: e.table,
+            frozen: 0,
+            count: left as u16,
+            block: 0,
+        },
+    );
+    left
+}
+
+// Page p, whose rows begin at start, is split while a part is above 504 bytes: the later part first.
+fn split(m: &mut [u8], p: usize, start: usize)
+    requires { ⌜ At (now m) p start × Dirty (pageAt (now m) p) ⌝ }
+    ensures { λ _. ⌜ Turns (now (m .entry)) (now (m .exit)) (swapped p (map (fresh (pageAt (now (m .entry)) p .table)) (splitAll (tuplesAt (now (m .entry)) p))) (pagesOf (now (m .entry)))) ⌝ }
+{
+    let k = halve(m, p, start);
+    if k == 0 {
+        return;
+    }
+    split(m, p + 1, start + k);
+    split(m, p, start);
+}
+
+// Page p, whose rows begin at start, is stored as block b: it is clean if nothing was pending, else dropped, joined or split.
+fn thaw_page(m: &mut [u8], p: usize, start: usize, b: u16)
+    requires { ⌜ At (now m) p start × (b < 4096) ⌝ }
+    ensures { λ _. ⌜ Turns (now (m .entry)) (now (m .exit)) (onPage (thawOn b) p none (pagesOf (now (m .entry)))) ⌝ }
+{
+    let e = memory::get_entry(m, p);
+    if !has_pending(m, start, e.count as usize) {
+        mark(
+            m,
+            p,
+            Entry {
+                table: e.table,
+                frozen: 0,
+                count: e.count,
+                block: b,
+            },
+        );
+        return;
+    }
+    let left = take_hold(m, p, start);
+    if left == 0 {
+        return;
+    }
+    if join(m, p, start) {
+        return;
+    }
+    split(m, p, start);
+}
+
+// The first frozen page.
+pub fn find_frozen(m: &[u8]) -> Found
+    requires { ⌜ holdsStore (now m) ≡ true ⌝ }
+    ensures { λ r. ⌜ FrozenBy (now (m .entry)) r ⌝ }
+{
+    let c = memory::get_counts(m);
+    let n = c.pages as usize;
+    let mut start: usize = 0;
+    let mut p: usize = 0;
+    while p < n {
+        let e = memory::get_entry(m, p);
+        if e.frozen != 0 {
+            return Found::Here {
+                page: p,
+                start: start,
+                at: start,
+            };
+        }
+        start += e.count as usize;
+        p += 1;
+    }
+    Found::Nowhere
+}
+
+// The first frozen page is thawed, with block b as the one that holds it.
+pub fn thaw(m: &mut [u8], b: u16)
+    requires { ⌜ (holdsStore (now m) ≡ true) × (b < 4096) ⌝ }
+    ensures { λ _. ⌜ Turns (now (m .entry)) (now (m .exit)) (thaw b (pagesIn (flatOf (now (m .entry))))) ⌝ }
+{
+    match find_frozen(m) {
+        Found::Here { page, start, at: _ } => thaw_page(m, page, start, b),
+        Found::Nowhere => {}
     }
 }

@@ -1,23 +1,23 @@
 -- Insert, replace and delete as their tests and what is written.
-use mathlib.Core.Path.{_≡_, refl, sym, ap, _∙_}
+use mathlib.Core.Path.{_≡_, refl}
 use mathlib.Core.Bool.{Bool, true, false}
-use Prim.Native.Nat.{ℕ, _<_}
+use mathlib.Core.List.{List, []}
+use mathlib.Core.Option.{some}
+use Prim.Native.Nat.{ℕ}
 use native.Mathlib.Omega.{arith}
-use mathlib.Core.List.{List, [], _∷_}
 use lib.ListN.{length}
 use Rattle.basics.specs.Basics.{if_then_else_}
 use Rattle.model.specs.State.{Store, Outcome}
-use Rattle.model.specs.State as model
-use mathlib.Core.Option.{some}
+use Rattle.model.specs.Transactions.{Test, gives, unless, notOpen, noTable, tooLong, foreign, present, unseen, full, written, insertCall, replaceCall, deleteCall}
 use Rattle.memory.specs.Flat.{flatOf}
 use Rattle.memory.specs.Store.{storeOf, storeIn}
-use Rattle.model.specs.Transactions.{Test, gives, unless, notOpen, noTable, tooLong, foreign, present, unseen, full, written, insertCall, replaceCall, deleteCall}
-use Rattle.transactions.specs.Shape.{Answers}
+use Rattle.answers.specs.Shape.{Answers}
 use Rattle.transactions.specs.Refusals.{verdictIn, writeTests}
-use Rattle.transactions.specs.declared.Answer.the-variants.{Done, Refused}
+use Rattle.answers.specs.declared.Answer.the-variants.{Done, Refused}
 use Rattle.transactions.specs.Writes.{afterWrite}
-use Rattle.transactions.proofs.Answering.{answers-done}
+use Rattle.answers.proofs.Answering.{answers-done}
 use Rattle.transactions.proofs.Verdicts.{Numbered, passed-held, call-after, answers-stopped}
+use Rattle.model.specs.State as model
 
 -- what is written
 abbrev pub wrote : ℕ → ℕ → ℕ → List ℕ → Bool → Store → Outcome

@@ -1,4 +1,3 @@
-pub mod Answering
 pub mod Verdicts
 pub mod Opening
 pub mod Reading
@@ -7,3 +6,4 @@ pub mod Listing
 pub mod Testing
 pub mod Writing
 pub mod Called
+pub mod Closing

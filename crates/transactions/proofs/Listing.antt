@@ -1,21 +1,19 @@
 -- The listing of open transactions, two bytes after the other.
 use mathlib.Core.Path.{_≡_, refl, sym, ap, _∙_}
-use mathlib.Core.Bool.{Bool, true, false}
-use Prim.Native.Nat.{ℕ, zero, suc, _+_, _*_, _-_, _/_, _%_, _≤_, _<_}
+use mathlib.Core.List.{List, [], _∷_, _++_, map, append-assoc}
+use Prim.Native.Nat.{ℕ, suc, _+_, _*_, _/_, _%_, _≤_, _<_}
 use native.Mathlib.Omega.{arith}
 use native.Mathlib.Numerals.{add-one}
-use mathlib.Core.List.{List, [], _∷_, _++_, map, append-assoc}
-use lib.ListN.{length, take, drop, getD, set, length-map, length-append, length-take, length-drop}
-use lib.Seq.{take-suc, drop-cons, set-at, take-all, length-take-le}
-use lib.Dec.{ltb}
+use lib.ListN.{length, take, drop, getD, set, length-map, length-append, length-drop}
+use lib.Seq.{take-suc, drop-cons, set-at, length-take-le}
 use borrow.Author.Tests.{lt-ltb, le-ltb}
-use Rattle.model.specs.State.{Active, Store, Outcome}
-use Rattle.model.specs.State as model
-use Rattle.model.specs.Transactions.{Test, _when_, gives, unless, openNumbers, listing, listCall}
+use Rattle.model.specs.State.{Active}
+use Rattle.model.specs.Transactions.{gives, openNumbers, listing, listCall}
 use Rattle.memory.specs.Flat.{Flat}
 use Rattle.memory.specs.Store.{activeOf, storeOf}
 use Rattle.transactions.proofs.Verdicts.{refused-here, passed-on, unless-none}
 use Rattle.transactions.proofs.Opening.{map-append}
+use Rattle.model.specs.State as model
 
 -- the listing of words
 abbrev pub listed : List ℕ → List ℕ

@@ -1,24 +1,23 @@
 -- Make: its tests, and the image with block 0 written.
-use mathlib.Core.Path.{_≡_, refl, sym, ap, _∙_}
-use mathlib.Core.Bool.{Bool, true, false, not, _&&_, _||_}
-use mathlib.Core.Option.{Option, none, some}
+use mathlib.Core.Path.{_≡_, refl, ap, _∙_}
+use mathlib.Core.Bool.{true, false}
+use mathlib.Core.Option.{some}
+use mathlib.Core.List.{List, _++_}
 use Prim.Native.Nat.{ℕ, _+_, _*_, _/_, _%_, _≤_, _<_}
-use native.Mathlib.Omega.{arith}
-use mathlib.Core.List.{List, [], _∷_, _++_}
-use lib.ListN.{length, take, drop}
+use lib.ListN.{length, drop}
 use lib.Dec.{leb, ltb, eqb}
 use borrow.Author.Tests.{lt-ltb, le-ltb, le-leb, lt-leb, eq-eqb, ne-eqb}
 use Rattle.basics.specs.Basics.{if_then_else_}
 use Rattle.blocks.specs.Block.{header, encodeBlock}
 use Rattle.blocks.specs.declared.Header.{Header}
-use Rattle.image.specs.Stages.{Stage, refuses, holds, wholeBlocks}
+use Rattle.image.specs.Stages.{refuses, holds, wholeBlocks}
 use Rattle.model.specs.State.{Store}
 use Rattle.model.specs.Checkpoint.{headerFor}
 use Rattle.model.specs.Recover.{memoryFor, putBlock, freshStore, make, madeImage}
 use Rattle.model.proofs.Lists.{and-no, or-right}
 use Rattle.memory.specs.Store.{storeIn}
-use Rattle.transactions.specs.Shape.{MadeBy, Made}
-use Rattle.transactions.specs.declared.Answer.the-variants.{Done, Refused}
+use Rattle.answers.specs.Shape.{MadeBy, Made}
+use Rattle.answers.specs.declared.Answer.the-variants.{Done, Refused}
 
 module _ (n : ℕ) (img m : List ℕ) where
   pub made-refused : (k : ℕ) → make (length img) (length m) n ≡ refuses k → Made n img m (Refused k) img m

@@ -1,21 +1,21 @@
 -- Open: its tests, and the store with one transaction more.
 use mathlib.Core.Path.{_≡_, refl, sym, ap, _∙_}
-use mathlib.Core.Bool.{Bool, true, false}
-use Prim.Native.Nat.{ℕ, zero, suc, _+_, _*_, _/_, _%_, _≤_, _<_}
-use native.Mathlib.Omega.{arith}
+use mathlib.Core.Bool.{false}
 use mathlib.Core.List.{List, [], _∷_, _++_, map}
+use Prim.Native.Nat.{ℕ, _*_, _/_, _%_, _≤_, _<_}
+use native.Mathlib.Omega.{arith}
 use lib.ListN.{length, length-map}
 use lib.Dec.{leb, ltb}
 use borrow.Author.Tests.{lt-ltb, le-ltb, le-leb, lt-leb}
 use Rattle.basics.specs.Basics.{isIn}
-use Rattle.model.specs.State.{Active, Store, Outcome}
-use Rattle.model.specs.State as model
-use Rattle.model.specs.Transactions.{Test, _when_, gives, unless, openNumbers, openCall, changed}
+use Rattle.model.specs.State.{Active, Store}
+use Rattle.model.specs.Transactions.{gives, openNumbers, openCall, changed}
 use Rattle.memory.specs.Flat.{Flat, withOpens}
 use Rattle.memory.specs.Store.{activeOf, storeOf, pagesIn}
 use Rattle.look.specs.Opens.{findOpen}
 use Rattle.look.proofs.Places.{found-open, not-found-open}
 use Rattle.transactions.proofs.Verdicts.{refused-here, passed-on, unless-none}
+use Rattle.model.specs.State as model
 
 pub map-append : {A B : Type 0} (g : A → B) (xs ys : List A) → map g (xs ++ ys) ≡ map g xs ++ map g ys
 map-append g [] ys = refl

@@ -1,10 +1,9 @@
 -- Read: what it answers by the version that is seen.
-use mathlib.Core.Path.{_≡_, refl, sym, ap, _∙_}
-use mathlib.Core.Bool.{Bool, true, false}
-use mathlib.Core.Option.{Option, none, some}
+use mathlib.Core.Path.{_≡_, sym, ap, _∙_}
+use mathlib.Core.Option.{Option}
+use mathlib.Core.List.{List, [], _∷_}
 use Prim.Native.Nat.{ℕ, _≤_, _<_}
 use native.Mathlib.Omega.{arith}
-use mathlib.Core.List.{List, [], _∷_, _++_}
 use lib.ListN.{length}
 use lib.Dec.{ltb}
 use borrow.Author.Tests.{lt-ltb, le-ltb}
@@ -12,16 +11,16 @@ use Rattle.basics.specs.Basics.{if_then_else_}
 use Rattle.basics.proofs.Facts.{by}
 use Rattle.rows.specs.Rows.{Row}
 use Rattle.model.specs.State.{Held, Store, Outcome}
-use Rattle.model.specs.State as model
 use Rattle.model.specs.Rules.{isCommitting, asCommitted, ripe}
 use Rattle.model.specs.Sight.{seen}
-use Rattle.model.specs.Transactions.{Test, _when_, gives, unless, notOpen, noTable, readSeen, readCall}
+use Rattle.model.specs.Transactions.{_when_, gives, unless, notOpen, noTable, readSeen, readCall}
 use Rattle.memory.specs.Flat.{Flat}
 use Rattle.memory.specs.Store.{heldIn, storeOf}
 use Rattle.look.specs.Sightings.{version, seenAt, Sees, Inside}
 use Rattle.look.specs.declared.Seen.{Seen}
 use Rattle.look.specs.declared.Seen.the-variants.{At, Nothing}
 use Rattle.transactions.proofs.Verdicts.{refused-here, passed-on, unless-none, unless-append}
+use Rattle.model.specs.State as model
 
 ripe-payload : (h : Held) → ripe h .payload ≡ h .tuple .payload
 unfolding ripe asCommitted if_then_else_

@@ -1,20 +1,20 @@
 -- The tests of insert, replace and delete, one after the other; and what is known once none holds.
 use mathlib.Core.Path.{_≡_, refl, sym, ap, _∙_}
 use mathlib.Core.Bool.{Bool, true, false, not}
-use mathlib.Core.Option.{Option, none, some}
-use Prim.Native.Nat.{ℕ, zero, suc, _+_, _≤_, _<_}
-use native.Mathlib.Omega.{arith}
+use mathlib.Core.Option.{Option}
 use mathlib.Core.List.{List, [], _∷_, _++_, map}
 use mathlib.Core.Logic.{⊎-elim}
+use Prim.Native.Nat.{ℕ, _≤_, _<_}
+use native.Mathlib.Omega.{arith}
 use lib.ListN.{length}
 use lib.Dec.{leb, ltb, eqb}
 use borrow.Author.Tests.{lt-ltb, le-ltb, le-leb, lt-leb, eq-eqb, ne-eqb, eqb-false, ltb-false}
-use Rattle.basics.specs.Basics.{if_then_else_, any, isEmpty, isSome, isIn}
+use Rattle.basics.specs.Basics.{if_then_else_, any, isSome, isIn}
 use Rattle.basics.proofs.Facts.{by, lie}
 use Rattle.rows.specs.Rows.{Row}
-use Rattle.model.specs.State.{Store, Outcome}
+use Rattle.model.specs.State.{Store}
 use Rattle.model.specs.Sight.{held, isForeign, versions, seen}
-use Rattle.model.specs.Transactions.{Test, _when_, unless, notOpen, noTable, tooLong, foreign, present, unseen, full, written, openNumbers, insertCall, replaceCall, deleteCall}
+use Rattle.model.specs.Transactions.{Test, _when_, notOpen, noTable, foreign, present, unseen, full, openNumbers}
 use Rattle.model.proofs.Lists.{leb-false, not-false}
 use Rattle.memory.specs.Flat.{Flat, flatOf}
 use Rattle.memory.specs.Store.{holdsStore, storeOf, storeIn, pagesIn, filled, activeOf}
@@ -30,7 +30,7 @@ use Rattle.look.proofs.Places.{not-found-open}
 use Rattle.look.proofs.Versions.{look-sees}
 use Rattle.transactions.specs.Refusals.{verdict, verdictIn, writeTests, lost, keyVerdict}
 use Rattle.transactions.specs.Writes.{AcceptAt}
-use Rattle.transactions.proofs.Verdicts.{stop-here, go-on, verdict-none, verdict-append, verdict-first, verdict-4, verdict-in, passed-held, passed-tests, Numbered, open-numbered}
+use Rattle.transactions.proofs.Verdicts.{stop-here, go-on, verdict-none, verdict-append, verdict-first, verdict-4, verdict-in, passed-held, passed-tests, open-numbered}
 
 -- ---- 13, 14
 

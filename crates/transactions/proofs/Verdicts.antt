@@ -1,27 +1,26 @@
 -- The first test that holds, and what a call that was tested does.
 use mathlib.Core.Path.{_≡_, refl, sym, ap, _∙_}
 use mathlib.Core.Bool.{Bool, true, false, not}
-use mathlib.Core.Option.{Option, none, some}
-use Prim.Native.Nat.{ℕ, zero, suc, _+_, _≤_, _<_}
+use mathlib.Core.List.{List, [], _∷_, _++_}
+use Prim.Native.Nat.{ℕ, _≤_, _<_}
 use native.Mathlib.Omega.{arith}
-use mathlib.Core.List.{List, [], _∷_, _++_, map}
 use lib.ListN.{length}
 use lib.Dec.{ltb}
 use borrow.Author.Tests.{lt-ltb, le-ltb}
-use Rattle.basics.specs.Basics.{if_then_else_, isIn}
+use Rattle.basics.specs.Basics.{if_then_else_}
 use Rattle.basics.proofs.Facts.{by}
 use Rattle.model.specs.State.{Store, Outcome}
-use Rattle.model.specs.State as model
-use Rattle.model.specs.Transactions.{Test, _when_, gives, unless, notOpen, openNumbers}
+use Rattle.model.specs.Transactions.{Test, _when_, gives, unless, notOpen}
 use Rattle.memory.specs.Flat.{Flat, flatOf}
-use Rattle.memory.specs.Store.{holdsStore, storeOf, storeIn, activeOf}
+use Rattle.memory.specs.Store.{holdsStore, storeOf, storeIn}
 use Rattle.memory.proofs.Meaning.{in-none, in-some}
 use Rattle.look.specs.Opens.{findOpen}
 use Rattle.look.proofs.Places.{found-open, not-found-open}
-use Rattle.transactions.specs.Shape.{Answers, Replies}
+use Rattle.answers.specs.Shape.{Answers, Replies}
 use Rattle.transactions.specs.Refusals.{verdict, verdictIn}
-use Rattle.transactions.specs.declared.Answer.the-variants.{Refused}
-use Rattle.transactions.proofs.Answering.{answers-4, answers-refused, replies-4, replies-refused}
+use Rattle.answers.specs.declared.Answer.the-variants.{Refused}
+use Rattle.answers.proofs.Answering.{answers-4, answers-refused, replies-4, replies-refused}
+use Rattle.model.specs.State as model
 
 -- ---- one test after the other
 

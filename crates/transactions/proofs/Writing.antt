@@ -1,15 +1,15 @@
 -- A tuple written: the new row, the counters, the store with it.
 use mathlib.Core.Path.{_≡_, refl, sym, ap, _∙_}
-use mathlib.Core.Bool.{Bool, true, false, not}
-use mathlib.Core.Option.{Option, none, some}
-use Prim.Native.Nat.{ℕ, zero, suc, _+_, _*_, _-_, _/_, _%_, _≤_, _<_, min}
+use mathlib.Core.Bool.{Bool, true, false}
+use mathlib.Core.Option.{some}
+use mathlib.Core.List.{List, [], _∷_, map}
+use Prim.Native.Nat.{ℕ, zero, suc, _+_, _/_, _%_, _≤_, _<_, min}
 use native.Mathlib.Omega.{arith}
 use native.Mathlib.Numerals.{add-one}
-use mathlib.Core.List.{List, [], _∷_, _++_, map}
-use lib.ListN.{length, take, drop, getD, set}
+use lib.ListN.{length, take, getD, set}
 use lib.Seq.{take-all}
 use lib.Dec.{eqb}
-use borrow.Author.Tests.{eq-eqb, ne-eqb, eqb-true, eqb-false}
+use borrow.Author.Tests.{ne-eqb, eqb-true}
 use Rattle.basics.specs.Basics.{if_then_else_}
 use Rattle.basics.proofs.Facts.{by}
 use Rattle.blocks.specs.Tuple.{Tuple, tentative}
@@ -18,11 +18,11 @@ use Rattle.model.specs.Rules.{place}
 use Rattle.model.specs.Transactions.{isFor, writtenBy, withWrite, newTuple, changed}
 use Rattle.memory.specs.Bytes.{cut}
 use Rattle.memory.specs.Flat.{Flat, flatOf, Room, Replaces, Becomes, withHead, withOpens}
-use Rattle.memory.specs.Store.{ownerOf, pendingOf, tupleOf, activeOf, storeOf, storeIn, holdsStore, pagesIn, filled, tupleBy}
+use Rattle.memory.specs.Store.{ownerOf, tupleOf, activeOf, storeOf, storeIn, holdsStore, pagesIn, filled, tupleBy}
 use Rattle.memory.specs.declared.Row.{Row}
 use Rattle.memory.specs.declared.Head.{Head}
-use Rattle.memory.proofs.Refusal.{held-room, held-filled, room-held}
-use Rattle.memory.proofs.Meaning.{in-next, becomes-then}
+use Rattle.memory.proofs.Refusal.{held-filled, room-held}
+use Rattle.memory.proofs.Meaning.{becomes-then}
 use Rattle.pages.specs.Turns.{Turns, withPages}
 use Rattle.pages.specs.Spots.{PlaceAt}
 use Rattle.look.specs.Opens.{findOpen}

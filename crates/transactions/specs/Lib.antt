@@ -1,3 +1,3 @@
-pub mod Shape
 pub mod Refusals
 pub mod Writes
+pub mod Closes

@@ -1,18 +1,18 @@
 -- The tests of a call, as the number of the first that holds.
-use Prim.Native.Nat.{ℕ}
 use mathlib.Core.Bool.{Bool, true, false}
 use mathlib.Core.Option.{Option, none, some}
 use mathlib.Core.List.{List, [], _∷_, _++_}
+use Prim.Native.Nat.{ℕ}
 use lib.Dec.{ltb}
 use Rattle.basics.specs.Basics.{if_then_else_}
 use Rattle.blocks.specs.Limits.{payloadLimit}
 use Rattle.model.specs.State.{Store}
+use Rattle.model.specs.Transactions.{Test, _when_, notOpen, noTable, foreign, present, unseen, full}
 use Rattle.memory.specs.Flat.{Flat}
 use Rattle.look.specs.Sightings.{picked}
 use Rattle.look.specs.declared.Look.{Look}
 use Rattle.look.specs.declared.Seen.{Seen}
 use Rattle.look.specs.declared.Seen.the-variants.{At, Nothing}
-use Rattle.model.specs.Transactions.{Test, _when_, notOpen, noTable, foreign, present, unseen, full}
 
 -- the number of the first test that holds, 0 if none does
 unfoldable pub verdict : List Test → ℕ

@@ -1,15 +1,15 @@
 -- What insert, replace and delete write, once their tests are passed.
-use Prim.Native.Nat.{ℕ, suc, _+_, _%_, _/_, _≤_, _<_, min}
 use mathlib.Core.Path.{_≡_}
 use mathlib.Core.Bool.{Bool, true, false}
-use mathlib.Core.List.{List, [], _∷_}
+use mathlib.Core.List.{List}
+use Prim.Native.Nat.{ℕ, suc, _%_, _/_, _≤_, _<_, min}
 use lib.ListN.{length}
+use Rattle.blocks.specs.Tuple.{tentative}
 use Rattle.model.specs.State.{Active, Store}
 use Rattle.model.specs.Rules.{place}
 use Rattle.model.specs.Transactions.{newTuple, withWrite, changed}
-use Rattle.blocks.specs.Tuple.{Tuple, tentative}
 use Rattle.memory.specs.Flat.{flatOf}
-use Rattle.memory.specs.Store.{activeOf, tupleOf, holdsStore}
+use Rattle.memory.specs.Store.{tupleOf, holdsStore}
 use Rattle.memory.specs.declared.Row.{Row}
 use Rattle.look.specs.Opens.{findOpen}
 

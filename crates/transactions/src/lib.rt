@@ -1,5 +1,6 @@
 // Make, and the calls of transactions. No call asks anything of its caller: each contract says what the call answers and leaves, for
 // any memory and any arguments, by the model's function.
+use answers::Answer;
 use blocks::Header;
 use look::Look;
 use look::Seen;
@@ -7,26 +8,20 @@ use memory::Head;
 use memory::Row;
 ghost use mathlib.Core.Path.{_≡_};
 ghost use mathlib.Core.Bool.{Bool, true};
+ghost use mathlib.Core.Option.{some};
 ghost use mathlib.Core.List.{List, [], _∷_, _++_};
 ghost use Prim.Native.Nat.{ℕ, _+_, _*_, _≤_, _<_};
-ghost use lib.ListN.{length, drop};
-ghost use Rattle.model.specs.Transactions.{notOpen, openCall, readCall, listCall, listing, openNumbers};
-ghost use Rattle.memory.specs.Flat.{flatOf, Room};
-ghost use Rattle.memory.specs.Store.{holdsStore, storeIn, storeOf};
-ghost use mathlib.Core.Option.{some};
-ghost use Rattle.model.specs.Transactions.{full, insertCall, replaceCall, deleteCall};
-ghost use Rattle.memory.specs.Store.{tupleOf, activeOf};
-ghost use Rattle.transactions.specs.Writes.{flagsOf, bumped, NewRow, AcceptAt, afterWrite};
-ghost use Rattle.transactions.specs.Shape.{Answers, Replies, Made};
+ghost use lib.ListN.{length, take, drop};
+ghost use Rattle.basics.specs.Basics.{keep};
+ghost use Rattle.model.specs.Transactions.{openNumbers, notOpen, full, listing, perform, openCall, commitCall, abortCall, insertCall, replaceCall, deleteCall, readCall};
+ghost use Rattle.memory.specs.Flat.{flatOf, Room, Becomes, withOpens};
+ghost use Rattle.memory.specs.Store.{holdsStore, activeOf, pagesIn, storeIn, storeOf};
+ghost use Rattle.pages.specs.Turns.{Turns};
+ghost use Rattle.look.specs.Plans.{opOf, opsOf};
+ghost use Rattle.answers.specs.Shape.{Answers, Replies, Lists, Made};
 ghost use Rattle.transactions.specs.Refusals.{verdict, verdictIn, writeTests, keyVerdict};
-
-// Done; a count; how many a filled reply has; a refusal's number.
-pub enum Answer {
-    Done,
-    Count(u64),
-    Filled(usize),
-    Refused(u64),
-}
+ghost use Rattle.transactions.specs.Writes.{flagsOf, bumped, NewRow, AcceptAt, afterWrite};
+ghost use Rattle.transactions.specs.Closes.{afterOps, stays};
 
 // ---- make
 
@@ -133,12 +128,12 @@ pub fn read(m: &[u8], transaction: u64, table: u64, key: u32, reply: &mut [u8]) 
         return Answer::Refused(14);
     };
     let p = memory::payload_at(m, i);
-    let n = p.len;
-    if reply.len() < n {
+    let len = p.len;
+    if reply.len() < len {
         return Answer::Refused(21);
     }
     memory::copy_payload(m, i, reply);
-    Answer::Filled(n)
+    Answer::Filled(len)
 }
 
 // The numbers of the open transactions, over the first bytes of the reply, high byte first.
@@ -158,7 +153,7 @@ fn fill_list(m: &[u8], reply: &mut [u8])
 }
 
 pub fn list(m: &[u8], reply: &mut [u8]) -> Answer
-    ensures { λ r. ⌜ Replies (listCall (length (now (reply .entry)))) (now (m .entry)) r (now (reply .entry)) (now (reply .exit)) ⌝ }
+    ensures { λ r. ⌜ Lists (now (m .entry)) r (now (reply .entry)) (now (reply .exit)) ⌝ }
 {
     if !memory::holds_store(m) {
         return Answer::Refused(4);
@@ -327,5 +322,87 @@ pub fn delete(m: &mut [u8], transaction: u64, table: u64, key: u32) -> Answer
     }
     let t = table as u8;
     accept(m, transaction, t, key, true, b"");
+    Answer::Done
+}
+
+// ---- commit, abort
+
+// One operation of a plan.
+fn perform_one(m: &mut [u8], w: u64)
+    requires { ⌜ holdsStore (now m) ≡ true ⌝ }
+    ensures { λ _. ⌜ Turns (now (m .entry)) (now (m .exit)) (perform (opOf w ∷ []) (pagesIn (flatOf (now (m .entry))))) ⌝ }
+{
+    let x = (w / 2 % 4294967296) as u32;
+    if w % 2 == 0 {
+        pages::remove(m, x);
+        return;
+    }
+    pages::commit(m, x);
+}
+
+// The first n operations of a plan, in their order.
+fn perform(m: &mut [u8], ops: &[u64], n: usize)
+    requires { ⌜ (holdsStore (now m) ≡ true) × ((n ≤ 1024) × (length (now ops) ≡ 1024)) ⌝ }
+    ensures { λ _. ⌜ Turns (now (m .entry)) (now (m .exit)) (perform (opsOf (take n (now (ops .entry)))) (pagesIn (flatOf (now (m .entry))))) ⌝ }
+{
+    let mut i: usize = 0;
+    while i < n {
+        let w = ops[i];
+        perform_one(m, w);
+        i += 1;
+    }
+}
+
+// Every entry of the transaction goes.
+fn close(m: &mut [u8], transaction: u64)
+    requires { ⌜ Room (now m) ⌝ }
+    ensures { λ _. ⌜ Becomes (now (m .entry)) (now (m .exit)) (withOpens (flatOf (now (m .entry))) (keep (stays transaction) (flatOf (now (m .entry)) .opens))) ⌝ }
+{
+    let c = memory::get_counts(m);
+    let mut n = c.opens as usize;
+    let mut i: usize = 0;
+    while i < n {
+        let t = (memory::get_open(m, i) / 1048576) as u64;
+        if t == transaction {
+            memory::remove_open(m, i);
+            n -= 1;
+        } else {
+            i += 1;
+        }
+    }
+}
+
+// The plan is performed, and the transaction is closed.
+fn finish(m: &mut [u8], transaction: u64, ops: &[u64], n: usize)
+    requires { ⌜ (holdsStore (now m) ≡ true) × ((n ≤ 1024) × (length (now ops) ≡ 1024)) ⌝ }
+    ensures { λ _. ⌜ (length (now (m .exit)) ≡ length (now (m .entry))) × (storeIn (now (m .exit)) ≡ some (afterOps (opsOf (take n (now (ops .entry)))) transaction (storeOf (flatOf (now (m .entry)))))) ⌝ }
+{
+    perform(m, ops, n);
+    close(m, transaction);
+}
+
+pub fn commit(m: &mut [u8], transaction: u64) -> Answer
+    ensures { λ r. ⌜ Answers (commitCall transaction) (now (m .entry)) r (now (m .exit)) ⌝ }
+{
+    let v = not_open(m, transaction);
+    if v != 0 {
+        return Answer::Refused(v);
+    }
+    let mut ops = [0u64; 1024];
+    let n = look::plan_commit(m, transaction, &mut ops);
+    finish(m, transaction, &ops, n);
+    Answer::Done
+}
+
+pub fn abort(m: &mut [u8], transaction: u64) -> Answer
+    ensures { λ r. ⌜ Answers (abortCall transaction) (now (m .entry)) r (now (m .exit)) ⌝ }
+{
+    let v = not_open(m, transaction);
+    if v != 0 {
+        return Answer::Refused(v);
+    }
+    let mut ops = [0u64; 1024];
+    let n = look::plan_abort(m, transaction, &mut ops);
+    finish(m, transaction, &ops, n);
     Answer::Done
 }

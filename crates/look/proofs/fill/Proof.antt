@@ -1,9 +1,10 @@
-use Rattle.look.proofs.Tables.{fill-turn}
-use lib.ListN.{length, take, replicate, length-set}
+-- `look::fill` meets its contract.
 use mathlib.Core.List.{List, _++_, append-nil}
-use native.Mathlib.Omega.{arith}
-use Prim.Native.Nat.{ℕ, _+_, _-_, _<_, _≤_}
 use mathlib.Core.Path.{_≡_, refl, sym, ap, _∙_}
+use Prim.Native.Nat.{ℕ, _+_, _-_, _≤_}
+use native.Mathlib.Omega.{arith}
+use lib.ListN.{length, take, replicate, length-set}
+use Rattle.look.proofs.Tables.{fill-turn}
 use Rattle.look.proofs.fill.Statement.{statement}
 use Rattle.look.proofs.fill.Tie as tie
 

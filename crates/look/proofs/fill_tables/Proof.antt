@@ -1,19 +1,19 @@
-use Rattle.look.proofs.Tables.{tables-next, tables-none}
-use Rattle.look.specs.Plans.{tablesOf}
-use Rattle.memory.proofs.Runs.{start-zero, start-next, start-in, start-all}
-use Rattle.memory.proofs.Refusal.{held-room, held-filled}
-use Rattle.memory.specs.declared.Counts.{Counts}
-use Rattle.memory.specs.declared.Entry.{Entry}
-use Rattle.memory.specs.Store.{startOf, filled}
-use Rattle.memory.specs.Flat.{Flat, flatOf, entryIn, Room}
+-- `look::fill_tables` meets its contract.
+use mathlib.Core.List.{List, _++_}
+use mathlib.Core.Path.{_≡_, refl, sym, ap, _∙_}
+use Prim.Native.Nat.{ℕ, _-_, _%_, _<_, _≤_}
+use native.Mathlib.Omega.{arith}
 use lib.Seq.{take-all}
 use lib.ListN.{length, take, replicate}
-use mathlib.Core.List.{List, _++_}
-use mathlib.Core.Bool.{true}
 use borrow.Author.Needs.{needs}
-use native.Mathlib.Omega.{arith}
-use Prim.Native.Nat.{ℕ, _+_, _-_, _%_, _<_, _≤_}
-use mathlib.Core.Path.{_≡_, refl, sym, ap, _∙_}
+use Rattle.memory.specs.declared.Counts.{Counts}
+use Rattle.memory.specs.declared.Entry.{Entry}
+use Rattle.memory.specs.Store.{startOf}
+use Rattle.memory.specs.Flat.{Flat, flatOf, entryIn, Room}
+use Rattle.memory.proofs.Runs.{start-zero, start-next, start-in, start-all}
+use Rattle.memory.proofs.Refusal.{held-room, held-filled}
+use Rattle.look.specs.Plans.{tablesOf}
+use Rattle.look.proofs.Tables.{tables-next, tables-none}
 use Rattle.look.proofs.fill_tables.Statement.{statement}
 use Rattle.look.proofs.fill_tables.Tie as tie
 

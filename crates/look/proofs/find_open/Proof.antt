@@ -1,13 +1,14 @@
-use Rattle.look.proofs.Places.{find-hit, find-miss, find-end}
-use Rattle.look.specs.Opens.{findOpen}
+-- `look::find_open` meets its contract.
+use mathlib.Core.List.{List}
+use mathlib.Core.Path.{_≡_, sym, ap, _∙_}
+use Prim.Native.Nat.{ℕ, _/_, _+_, _-_, _≤_}
+use native.Mathlib.Omega.{arith}
+use lib.ListN.{length, drop}
+use borrow.Author.Needs.{needs}
 use Rattle.memory.specs.declared.Counts.{Counts}
 use Rattle.memory.specs.Flat.{flatOf}
-use lib.ListN.{length, drop}
-use mathlib.Core.List.{List}
-use borrow.Author.Needs.{needs}
-use native.Mathlib.Omega.{arith}
-use Prim.Native.Nat.{ℕ, _%_, _/_, _+_, _-_, _<_, _≤_}
-use mathlib.Core.Path.{_≡_, refl, sym, ap, _∙_}
+use Rattle.look.specs.Opens.{findOpen}
+use Rattle.look.proofs.Places.{find-hit, find-miss, find-end}
 use Rattle.look.proofs.find_open.Statement.{statement}
 use Rattle.look.proofs.find_open.Tie as tie
 

@@ -1,14 +1,13 @@
-use Rattle.look.proofs.Choices.{pass-gone, chosen-other, chosen-key, chosen-all, chosen-but}
-use Rattle.look.specs.Plans.{chosen}
-use Rattle.memory.specs.Flat.{Flat, flatOf}
-use borrow.Author.Tests.{not-true, not-false}
-use mathlib.Core.List.{List}
-use lib.Dec.{eqb}
-use native.Mathlib.Omega.{arith}
+-- `look::is_chosen` meets its contract.
+use mathlib.Core.Bool.{not}
+use mathlib.Core.Path.{sym, ap, _∙_}
 use Prim.Native.Nat.{ℕ, _%_, _/_}
-use mathlib.Core.Bool.{Bool, not}
-use mathlib.Core.Path.{_≡_, refl, sym, ap, _∙_}
+use lib.Dec.{eqb}
+use borrow.Author.Tests.{not-true, not-false}
 use borrow.Author.Needs.{needs}
+use Rattle.memory.specs.Flat.{flatOf}
+use Rattle.look.specs.Plans.{chosen}
+use Rattle.look.proofs.Choices.{pass-gone, chosen-other, chosen-key, chosen-all, chosen-but}
 use Rattle.look.proofs.is_chosen.Statement.{statement}
 use Rattle.look.proofs.is_chosen.Tie as tie
 

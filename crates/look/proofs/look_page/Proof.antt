@@ -1,15 +1,13 @@
-use Rattle.look.proofs.Versions.{turn-here, turn-on, turn-end}
-use Rattle.look.specs.declared.Look.{Look}
-use Rattle.look.specs.Sightings.{notes}
+-- `look::look_page` meets its contract.
+use mathlib.Core.Logic.{⊎-elim}
+use mathlib.Core.Path.{_≡_, refl, sym, ap, _∙_}
+use Prim.Native.Nat.{ℕ, _+_, _-_, _<_, _≤_}
+use native.Mathlib.Omega.{arith}
 use Rattle.memory.specs.Store.{heldIn}
 use Rattle.memory.specs.Flat.{Flat, flatOf}
 use Rattle.memory.specs.Views.{tab}
-use lib.ListN.{length}
-use mathlib.Core.List.{List}
-use native.Mathlib.Omega.{arith}
-use Prim.Native.Nat.{ℕ, _%_, _/_, _+_, _-_, _<_, _≤_}
-use mathlib.Core.Logic.{⊎-elim}
-use mathlib.Core.Path.{_≡_, refl, sym, ap, _∙_}
+use Rattle.look.specs.Sightings.{notes}
+use Rattle.look.proofs.Versions.{turn-here, turn-on, turn-end}
 use Rattle.look.proofs.look_page.Statement.{statement}
 use Rattle.look.proofs.look_page.Tie as tie
 

@@ -1,11 +1,11 @@
-use Rattle.look.proofs.Flags.{note-removed, note-committed, note-committing, note-own, note-foreign}
+-- `look::look_row` meets its contract.
+use mathlib.Core.Path.{sym, ap, _∙_}
+use Prim.Native.Nat.{ℕ, _%_, _/_}
+use native.Mathlib.Omega.{arith}
+use borrow.Author.Needs.{needs}
 use Rattle.memory.specs.declared.Row.{Row}
 use Rattle.memory.specs.Flat.{flatOf, rowIn}
-use mathlib.Core.List.{List}
-use native.Mathlib.Omega.{arith}
-use Prim.Native.Nat.{ℕ, _%_, _/_, _+_, _<_}
-use mathlib.Core.Path.{_≡_, refl, sym, ap, _∙_}
-use borrow.Author.Needs.{needs}
+use Rattle.look.proofs.Flags.{note-removed, note-committed, note-committing, note-own, note-foreign}
 use Rattle.look.proofs.look_row.Statement.{statement}
 use Rattle.look.proofs.look_row.Tie as tie
 

@@ -1,20 +1,20 @@
-use Rattle.look.proofs.Versions.{firstVersions, versions-none, page-shown, page-passed, pages-shown, shows-as}
-use Rattle.look.specs.Sightings.{Shows, notes}
-use Rattle.memory.proofs.Runs.{start-zero, start-next, start-in}
-use Rattle.memory.proofs.Refusal.{held-room, held-filled}
-use Rattle.memory.specs.declared.Counts.{Counts}
-use Rattle.memory.specs.declared.Entry.{Entry}
-use Rattle.memory.specs.Store.{heldIn, startOf, filled}
-use Rattle.memory.specs.Flat.{Flat, flatOf, entryIn, Room}
-use Rattle.memory.specs.Views.{tab}
-use lib.ListN.{length}
+-- `look::look_up` meets its contract.
 use mathlib.Core.List.{List}
-use borrow.Author.Needs.{needs}
-use native.Mathlib.Omega.{arith}
-use Prim.Native.Nat.{ℕ, _%_, _/_, _+_, _-_, _<_, _≤_}
 use mathlib.Core.Bool.{true}
 use mathlib.Core.Logic.{⊎-elim}
-use mathlib.Core.Path.{_≡_, refl, sym, ap, _∙_}
+use mathlib.Core.Path.{_≡_, sym, ap, _∙_}
+use Prim.Native.Nat.{ℕ, _%_, _-_, _<_, _≤_}
+use native.Mathlib.Omega.{arith}
+use lib.ListN.{length}
+use borrow.Author.Needs.{needs}
+use Rattle.memory.specs.declared.Counts.{Counts}
+use Rattle.memory.specs.declared.Entry.{Entry}
+use Rattle.memory.specs.Store.{startOf, filled}
+use Rattle.memory.specs.Flat.{Flat, flatOf, entryIn, Room}
+use Rattle.memory.proofs.Runs.{start-zero, start-next, start-in}
+use Rattle.memory.proofs.Refusal.{held-room, held-filled}
+use Rattle.look.specs.Sightings.{Shows}
+use Rattle.look.proofs.Versions.{firstVersions, versions-none, page-shown, page-passed, pages-shown, shows-as}
 use Rattle.look.proofs.look_up.Statement.{statement}
 use Rattle.look.proofs.look_up.Tie as tie
 

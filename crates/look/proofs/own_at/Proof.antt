@@ -1,9 +1,9 @@
-use Rattle.look.proofs.Choices.{own-other, own-key, own-here, owns-any}
+-- `look::own_at` meets its contract.
 use mathlib.Core.List.{[]}
-use Rattle.memory.specs.Flat.{Flat, flatOf}
-use native.Mathlib.Omega.{arith}
-use mathlib.Core.Path.{_≡_, refl, sym, ap, _∙_}
+use mathlib.Core.Path.{sym, _∙_}
 use borrow.Author.Needs.{needs}
+use Rattle.memory.specs.Flat.{Flat, flatOf}
+use Rattle.look.proofs.Choices.{own-other, own-key, own-here, owns-any}
 use Rattle.look.proofs.own_at.Statement.{statement}
 use Rattle.look.proofs.own_at.Tie as tie
 

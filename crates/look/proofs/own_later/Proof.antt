@@ -1,16 +1,15 @@
-use Rattle.look.proofs.Tables.{any-hit, any-miss, any-rest-end}
-use Rattle.look.specs.Plans.{restRows}
-use Rattle.memory.specs.declared.Counts.{Counts}
-use Rattle.memory.specs.Flat.{Flat, flatOf}
-use Rattle.model.specs.Transactions.{ownAt}
-use Rattle.basics.specs.Basics.{any}
-use lib.ListN.{length}
-use mathlib.Core.List.{List, []}
-use mathlib.Core.Bool.{Bool, true, false}
-use borrow.Author.Needs.{needs}
-use native.Mathlib.Omega.{arith}
-use Prim.Native.Nat.{ℕ, _+_, _-_, _<_, _≤_}
+-- `look::own_later` meets its contract.
 use mathlib.Core.Path.{_≡_, refl, sym, ap, _∙_}
+use Prim.Native.Nat.{_+_, _-_, _≤_}
+use native.Mathlib.Omega.{arith}
+use lib.ListN.{length}
+use borrow.Author.Needs.{needs}
+use Rattle.basics.specs.Basics.{any}
+use Rattle.model.specs.Transactions.{ownAt}
+use Rattle.memory.specs.declared.Counts.{Counts}
+use Rattle.memory.specs.Flat.{flatOf}
+use Rattle.look.specs.Plans.{restRows}
+use Rattle.look.proofs.Tables.{any-hit, any-miss, any-rest-end}
 use Rattle.look.proofs.own_later.Statement.{statement}
 use Rattle.look.proofs.own_later.Tie as tie
 

@@ -1,12 +1,12 @@
-use Rattle.look.proofs.Choices.{pass-gone, owns-settled, owns-committing, owns-open}
-use Rattle.memory.specs.Flat.{Flat, flatOf}
-use Rattle.rows.specs.Rows.{isOwn}
+-- `look::owns` meets its contract.
 use mathlib.Core.List.{[]}
-use lib.Dec.{eqb}
-use native.Mathlib.Omega.{arith}
+use mathlib.Core.Path.{sym, ap, _∙_}
 use Prim.Native.Nat.{ℕ, _%_, _/_}
-use mathlib.Core.Path.{_≡_, refl, sym, ap, _∙_}
+use lib.Dec.{eqb}
 use borrow.Author.Needs.{needs}
+use Rattle.rows.specs.Rows.{isOwn}
+use Rattle.memory.specs.Flat.{Flat, flatOf}
+use Rattle.look.proofs.Choices.{pass-gone, owns-settled, owns-committing, owns-open}
 use Rattle.look.proofs.owns.Statement.{statement}
 use Rattle.look.proofs.owns.Tie as tie
 

@@ -1,8 +1,8 @@
-use Rattle.look.proofs.Versions.{pick-none, pick-held, pick-marked, pick-own}
-use Rattle.memory.specs.Flat.{Flat, flatOf}
-use native.Mathlib.Omega.{arith}
-use mathlib.Core.Path.{_≡_, refl, sym, ap, _∙_}
+-- `look::pick` meets its contract.
+use mathlib.Core.Path.{refl}
 use borrow.Author.Needs.{needs}
+use Rattle.memory.specs.Flat.{flatOf}
+use Rattle.look.proofs.Versions.{pick-none, pick-held, pick-marked, pick-own}
 use Rattle.look.proofs.pick.Statement.{statement}
 use Rattle.look.proofs.pick.Tie as tie
 

@@ -1,33 +1,34 @@
+-- `look::plan_abort` meets its contract.
+use mathlib.Core.List.{List, []}
+use mathlib.Core.Bool.{true}
+use mathlib.Core.Logic.{⊎-elim}
+use mathlib.Core.Path.{_≡_, sym, ap, _∙_}
+use Prim.Native.Nat.{ℕ, _+_, _-_, _<_, _≤_}
+use native.Mathlib.Omega.{arith}
+use lib.ListN.{length}
+use borrow.Author.Needs.{needs}
+use Rattle.basics.specs.Basics.{keep}
+use Rattle.rows.specs.Rows.{Row, isOwn}
+use Rattle.model.specs.Transactions.{removeAll}
+use Rattle.model.specs.Sight.{rows}
+use Rattle.memory.specs.declared.Counts.{Counts}
+use Rattle.memory.specs.Store.{filled}
+use Rattle.memory.specs.Flat.{Flat, flatOf, Room}
+use Rattle.memory.proofs.Refusal.{held-room, held-filled}
+use Rattle.look.specs.Plans.{restRows, tablesOf, passes}
 use Rattle.look.proofs.Removing.{next-removal, no-removal, removal-room, pushed-by}
 use Rattle.look.proofs.Pushing.{Pushed, push-start, push-end, remove-none, append-as}
 use Rattle.look.proofs.Planning.{own-few}
 use Rattle.look.proofs.Choices.{owns-any}
 use Rattle.look.proofs.Tables.{keep-rest-end, tables-long, tables-tabled, rows-tabled}
-use Rattle.look.specs.Plans.{restRows, tablesOf, passes}
-use Rattle.memory.proofs.Refusal.{held-room, held-filled}
-use Rattle.memory.specs.declared.Counts.{Counts}
-use Rattle.memory.specs.Store.{pagesIn, filled}
-use Rattle.memory.specs.Flat.{Flat, flatOf, Room}
-use Rattle.model.specs.Transactions.{Op, removeAll}
-use Rattle.model.specs.Sight.{rows}
-use Rattle.rows.specs.Rows.{Row, isOwn}
-use Rattle.basics.specs.Basics.{keep}
-use lib.ListN.{length, set}
-use mathlib.Core.List.{List, [], _∷_}
-use mathlib.Core.Bool.{Bool, true, false}
-use borrow.Author.Needs.{needs}
-use native.Mathlib.Omega.{arith}
-use Prim.Native.Nat.{ℕ, _+_, _*_, _-_, _<_, _≤_}
-use mathlib.Core.Logic.{⊎-elim}
-use mathlib.Core.Path.{_≡_, refl, sym, ap, _∙_}
 use Rattle.look.proofs.plan_abort.Statement.{statement}
 use Rattle.look.proofs.plan_abort.Tie as tie
 
 abbrev Inv-loop : tie.InvT-loop
-Inv-loop m transaction ops₀ n k₀ i₀ ops k i = (n ≡ length (flatOf m .rows)) × ((i ≤ n) × Pushed ops₀ ops 0 k (removeAll (keep (isOwn transaction) (restRows (flatOf m) (tablesOf (flatOf m .entries)) 0))) (removeAll (keep (isOwn transaction) (restRows (flatOf m) (tablesOf (flatOf m .entries)) i))))
+Inv-loop m transaction ops₀ n k₀ row₀ ops k row = (n ≡ length (flatOf m .rows)) × ((row ≤ n) × Pushed ops₀ ops 0 k (removeAll (keep (isOwn transaction) (restRows (flatOf m) (tablesOf (flatOf m .entries)) 0))) (removeAll (keep (isOwn transaction) (restRows (flatOf m) (tablesOf (flatOf m .entries)) row))))
 
 abbrev μ-loop : tie.MeasureT-loop
-μ-loop m transaction ops₀ n k₀ i₀ ops k i = n - i
+μ-loop m transaction ops₀ n k₀ row₀ ops k row = n - row
 
 get-counts-requires : tie.Need-get-counts-requires Inv-loop μ-loop
 get-counts-requires c κs = let r : Room (c .before .before .args .m .now) = held-room _ (c .before .before .pre .0) in
@@ -59,11 +60,11 @@ mul-ops-2 c = record {
       let ts : List ℕ = tablesOf (f .entries) in
       let r : Room m = held-room m (c .before .before .before .before .before .before .before .before .before .pre .0) in
       let l = c .before .before .before .before .loop in
-      let h1 : l .i < length (f .rows) = omega (arith, c .before .before .before .loop-test .taken, l .inv .0) in
-      let h2 : l .i < length ts = omega (arith, h1, tables-long f (held-filled m (c .before .before .before .before .before .before .before .before .before .pre .0))) in
+      let h1 : l .row < length (f .rows) = omega (arith, c .before .before .before .loop-test .taken, l .inv .0) in
+      let h2 : l .row < length ts = omega (arith, h1, tables-long f (held-filled m (c .before .before .before .before .before .before .before .before .before .pre .0))) in
       let b : 0 + length (keep (isOwn (a .transaction)) (restRows f ts 0)) ≤ length (a .ops .now) = omega (arith, own-few (a .transaction) f ts, r .range .rows, r .range .most, c .before .before .before .before .before .before .before .before .before .pre .1) in
-      let e : passes (isOwn (a .transaction)) f ts (l .i) ≡ c .before .before .owns .result = owns-any f [] (l .i) (a .transaction) ts ∙ sym (c .before .before .owns .ensures) in
-      let q : l .k < length (l .ops) = removal-room f ts (l .i) h1 h2 (isOwn (a .transaction)) (a .ops .now) (l .ops) 0 (l .k) (e ∙ c .before .if1 .taken) b (l .inv .1 .1) in
+      let e : passes (isOwn (a .transaction)) f ts (l .row) ≡ c .before .before .owns .result = owns-any f [] (l .row) (a .transaction) ts ∙ sym (c .before .before .owns .ensures) in
+      let q : l .k < length (l .ops) = removal-room f ts (l .row) h1 h2 (isOwn (a .transaction)) (a .ops .now) (l .ops) 0 (l .k) (e ∙ c .before .if1 .taken) b (l .inv .1 .1) in
       omega (arith, q, l .inv .1 .1 .size, c .before .before .before .before .before .before .before .before .before .pre .1));
 }
 
@@ -74,11 +75,11 @@ slice-write-ops c = let a = c .before .before .before .before .before .before .b
     let ts : List ℕ = tablesOf (f .entries) in
     let r : Room m = held-room m (c .before .before .before .before .before .before .before .before .before .pre .0) in
     let l = c .before .before .before .before .loop in
-    let h1 : l .i < length (f .rows) = omega (arith, c .before .before .before .loop-test .taken, l .inv .0) in
-    let h2 : l .i < length ts = omega (arith, h1, tables-long f (held-filled m (c .before .before .before .before .before .before .before .before .before .pre .0))) in
+    let h1 : l .row < length (f .rows) = omega (arith, c .before .before .before .loop-test .taken, l .inv .0) in
+    let h2 : l .row < length ts = omega (arith, h1, tables-long f (held-filled m (c .before .before .before .before .before .before .before .before .before .pre .0))) in
     let b : 0 + length (keep (isOwn (a .transaction)) (restRows f ts 0)) ≤ length (a .ops .now) = omega (arith, own-few (a .transaction) f ts, r .range .rows, r .range .most, c .before .before .before .before .before .before .before .before .before .pre .1) in
-    let e : passes (isOwn (a .transaction)) f ts (l .i) ≡ c .before .before .owns .result = owns-any f [] (l .i) (a .transaction) ts ∙ sym (c .before .before .owns .ensures) in
-    let q : l .k < length (l .ops) = removal-room f ts (l .i) h1 h2 (isOwn (a .transaction)) (a .ops .now) (l .ops) 0 (l .k) (e ∙ c .before .if1 .taken) b (l .inv .1 .1) in
+    let e : passes (isOwn (a .transaction)) f ts (l .row) ≡ c .before .before .owns .result = owns-any f [] (l .row) (a .transaction) ts ∙ sym (c .before .before .owns .ensures) in
+    let q : l .k < length (l .ops) = removal-room f ts (l .row) h1 h2 (isOwn (a .transaction)) (a .ops .now) (l .ops) 0 (l .k) (e ∙ c .before .if1 .taken) b (l .inv .1 .1) in
     omega (arith, q)
 
 add-k : tie.Need-add-k Inv-loop μ-loop
@@ -88,15 +89,15 @@ add-k c = let a = c .before .before .before .before .before .before .before .bef
     let ts : List ℕ = tablesOf (f .entries) in
     let r : Room m = held-room m (c .before .before .before .before .before .before .before .before .before .pre .0) in
     let l = c .before .before .before .before .loop in
-    let h1 : l .i < length (f .rows) = omega (arith, c .before .before .before .loop-test .taken, l .inv .0) in
-    let h2 : l .i < length ts = omega (arith, h1, tables-long f (held-filled m (c .before .before .before .before .before .before .before .before .before .pre .0))) in
+    let h1 : l .row < length (f .rows) = omega (arith, c .before .before .before .loop-test .taken, l .inv .0) in
+    let h2 : l .row < length ts = omega (arith, h1, tables-long f (held-filled m (c .before .before .before .before .before .before .before .before .before .pre .0))) in
     let b : 0 + length (keep (isOwn (a .transaction)) (restRows f ts 0)) ≤ length (a .ops .now) = omega (arith, own-few (a .transaction) f ts, r .range .rows, r .range .most, c .before .before .before .before .before .before .before .before .before .pre .1) in
-    let e : passes (isOwn (a .transaction)) f ts (l .i) ≡ c .before .before .owns .result = owns-any f [] (l .i) (a .transaction) ts ∙ sym (c .before .before .owns .ensures) in
-    let q : l .k < length (l .ops) = removal-room f ts (l .i) h1 h2 (isOwn (a .transaction)) (a .ops .now) (l .ops) 0 (l .k) (e ∙ c .before .if1 .taken) b (l .inv .1 .1) in
+    let e : passes (isOwn (a .transaction)) f ts (l .row) ≡ c .before .before .owns .result = owns-any f [] (l .row) (a .transaction) ts ∙ sym (c .before .before .owns .ensures) in
+    let q : l .k < length (l .ops) = removal-room f ts (l .row) h1 h2 (isOwn (a .transaction)) (a .ops .now) (l .ops) 0 (l .k) (e ∙ c .before .if1 .taken) b (l .inv .1 .1) in
     omega (arith, q, l .inv .1 .1 .size, c .before .before .before .before .before .before .before .before .before .pre .1)
 
-add-i : tie.Need-add-i Inv-loop μ-loop
-add-i c = let m : List ℕ = c .before .before .before .before .before .before .before .before .args .m .now in
+add-row : tie.Need-add-row Inv-loop μ-loop
+add-row c = let m : List ℕ = c .before .before .before .before .before .before .before .before .args .m .now in
     let r : Room m = held-room m (c .before .before .before .before .before .before .before .before .pre .0) in
     omega (arith, c .before .before .loop-test .taken, c .before .before .before .loop .inv .0, r .range .rows, r .range .most)
 
@@ -110,16 +111,16 @@ loop-again c = let a = c .before .before .before .before .before .before .before
     let ts : List ℕ = tablesOf (f .entries) in
     let r : Room m = held-room m (c .before .before .before .before .before .before .before .before .pre .0) in
     let l = c .before .before .before .loop in
-    let h1 : l .i < length (f .rows) = omega (arith, c .before .before .loop-test .taken, l .inv .0) in
-    let h2 : l .i < length ts = omega (arith, h1, tables-long f (held-filled m (c .before .before .before .before .before .before .before .before .pre .0))) in
+    let h1 : l .row < length (f .rows) = omega (arith, c .before .before .loop-test .taken, l .inv .0) in
+    let h2 : l .row < length ts = omega (arith, h1, tables-long f (held-filled m (c .before .before .before .before .before .before .before .before .pre .0))) in
     let b : 0 + length (keep (isOwn (a .transaction)) (restRows f ts 0)) ≤ length (a .ops .now) = omega (arith, own-few (a .transaction) f ts, r .range .rows, r .range .most, c .before .before .before .before .before .before .before .before .pre .1) in
-    let e : passes (isOwn (a .transaction)) f ts (l .i) ≡ c .before .owns .result = owns-any f [] (l .i) (a .transaction) ts ∙ sym (c .before .owns .ensures) in (
+    let e : passes (isOwn (a .transaction)) f ts (l .row) ≡ c .before .owns .result = owns-any f [] (l .row) (a .transaction) ts ∙ sym (c .before .owns .ensures) in (
       l .inv .0,
       (
         omega (arith, c .before .before .loop-test .taken),
         ⊎-elim
-            (λ w. pushed-by (a .ops .now) _ _ 0 _ _ _ _ (w .2) (w .3) (next-removal f ts (l .i) h1 h2 (isOwn (a .transaction)) (a .ops .now) (l .ops) 0 (l .k) (e ∙ w .0 .taken) b (l .inv .1 .1) _ (omega (arith, w .1 .ok)) (w .1 .ensures)))
-            (λ w. pushed-by (a .ops .now) _ _ 0 _ _ _ _ (w .1) (w .2) (no-removal f ts (l .i) h1 h2 (isOwn (a .transaction)) (a .ops .now) (l .ops) 0 (l .k) (e ∙ w .0 .left) (l .inv .1 .1)))
+            (λ w. pushed-by (a .ops .now) _ _ 0 _ _ _ _ (w .2) (w .3) (next-removal f ts (l .row) h1 h2 (isOwn (a .transaction)) (a .ops .now) (l .ops) 0 (l .k) (e ∙ w .0 .taken) b (l .inv .1 .1) _ (omega (arith, w .1 .ok)) (w .1 .ensures)))
+            (λ w. pushed-by (a .ops .now) _ _ 0 _ _ _ _ (w .1) (w .2) (no-removal f ts (l .row) h1 h2 (isOwn (a .transaction)) (a .ops .now) (l .ops) 0 (l .k) (e ∙ w .0 .left) (l .inv .1 .1)))
             (c .if1 .came),
       ),
     )
@@ -134,7 +135,7 @@ returns c = let a = c .before .before .before .before .before .before .args in
     let full : filled f ≡ true = held-filled m (c .before .before .before .before .before .before .pre .0) in
     let ts : List ℕ = tablesOf (f .entries) in
     let l = c .before .loop in
-    append-as _ _ _ _ _ _ (ap (λ (z : List Row). removeAll (keep (isOwn (a .transaction)) z)) (sym (rows-tabled f full ts (tables-tabled f full)))) (push-end (a .ops .now) (l .ops) 0 (l .k) _ _ (ap removeAll (keep-rest-end f ts (l .i) (isOwn (a .transaction)) (omega (arith, c .loop-test .left, l .inv .0))) ∙ remove-none) (l .inv .1 .1))
+    append-as _ _ _ _ _ _ (ap (λ (z : List Row). removeAll (keep (isOwn (a .transaction)) z)) (sym (rows-tabled f full ts (tables-tabled f full)))) (push-end (a .ops .now) (l .ops) 0 (l .k) _ _ (ap removeAll (keep-rest-end f ts (l .row) (isOwn (a .transaction)) (omega (arith, c .loop-test .left, l .inv .0))) ∙ remove-none) (l .inv .1 .1))
 
 pub plan-abort-spec : {M : Type 1} → statement M
 plan-abort-spec =
@@ -152,7 +153,7 @@ plan-abort-spec =
     mul-ops-2
     slice-write-ops
     add-k
-    add-i
+    add-row
     loop-less
     loop-again
     same-length

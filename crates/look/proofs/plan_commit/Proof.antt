@@ -1,14 +1,15 @@
+-- `look::plan_commit` meets its contract.
+use mathlib.Core.List.{List}
+use mathlib.Core.Path.{sym, ap}
+use Prim.Native.Nat.{ℕ}
+use native.Mathlib.Omega.{arith}
+use borrow.Author.Needs.{needs}
+use Rattle.rows.specs.Rows.{Row}
+use Rattle.model.specs.Transactions.{plan, planRows}
+use Rattle.memory.specs.Flat.{flatOf, Room}
+use Rattle.memory.proofs.Refusal.{held-room, held-filled}
 use Rattle.look.proofs.Pushing.{append-as}
 use Rattle.look.proofs.Tables.{rows-tabled}
-use Rattle.memory.proofs.Refusal.{held-room, held-filled}
-use Rattle.memory.specs.Flat.{Flat, flatOf, Room}
-use Rattle.model.specs.Transactions.{plan, planRows}
-use Rattle.rows.specs.Rows.{Row}
-use mathlib.Core.List.{List}
-use native.Mathlib.Omega.{arith}
-use Prim.Native.Nat.{ℕ, _≤_}
-use mathlib.Core.Path.{_≡_, refl, sym, ap, _∙_}
-use borrow.Author.Needs.{needs}
 use Rattle.look.proofs.plan_commit.Statement.{statement}
 use Rattle.look.proofs.plan_commit.Tie as tie
 

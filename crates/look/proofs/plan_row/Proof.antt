@@ -1,20 +1,19 @@
-use lib.ListN.{length, set, getD, length-set}
+-- `look::plan_row` meets its contract.
+use mathlib.Core.List.{[]}
+use mathlib.Core.Bool.{true, false}
+use mathlib.Core.Path.{_≡_, refl, sym, ap, _∙_}
+use Prim.Native.Nat.{ℕ, _%_, _/_}
+use native.Mathlib.Omega.{arith}
+use lib.ListN.{length, getD, length-set}
+use borrow.Author.Tests.{not-true, not-false}
+use borrow.Author.Needs.{needs}
+use Rattle.basics.specs.Basics.{keep}
+use Rattle.rows.specs.Rows.{isOwn}
+use Rattle.memory.specs.Flat.{Flat, flatOf}
+use Rattle.look.specs.Plans.{restRows, chosen, passes}
 use Rattle.look.proofs.Pushing.{append-as, append-none, append-after, commitment, removals}
 use Rattle.look.proofs.Planning.{ops-none, ops-later, ops-marked, ops-kept}
 use Rattle.look.proofs.Choices.{owns-any}
-use Rattle.look.specs.Plans.{restRows, chosen, passes, rowOps}
-use Rattle.memory.specs.Flat.{Flat, flatOf, rowIn}
-use Rattle.model.specs.Transactions.{Op, toCommit, removeAll}
-use Rattle.rows.specs.Rows.{isOwn}
-use Rattle.basics.specs.Basics.{keep}
-use lib.ListN.{length, set, length-set}
-use mathlib.Core.List.{List, [], _∷_}
-use mathlib.Core.Bool.{Bool, true, false}
-use borrow.Author.Tests.{not-true, not-false}
-use native.Mathlib.Omega.{arith}
-use Prim.Native.Nat.{ℕ, _+_, _*_, _-_, _%_, _/_, _<_, _≤_}
-use mathlib.Core.Path.{_≡_, refl, sym, ap, _∙_}
-use borrow.Author.Needs.{needs}
 use Rattle.look.proofs.plan_row.Statement.{statement}
 use Rattle.look.proofs.plan_row.Tie as tie
 

@@ -1,16 +1,17 @@
-use Rattle.look.proofs.Pushing.{Pushed, push-start, push-as, push-more, push-end}
-use Rattle.look.proofs.Planning.{plan-turn, plan-done, rows-few}
-use Rattle.look.specs.Plans.{restRows, rowOps}
+-- `look::plan_rows` meets its contract.
+use mathlib.Core.List.{List}
+use mathlib.Core.Path.{_≡_, refl, ap, _∙_}
+use Prim.Native.Nat.{_+_, _-_, _<_, _≤_}
+use native.Mathlib.Omega.{arith}
+use lib.ListN.{length, length-append}
+use borrow.Author.Needs.{needs}
+use Rattle.rows.specs.Rows.{Row}
+use Rattle.model.specs.Transactions.{planRows}
 use Rattle.memory.specs.declared.Counts.{Counts}
 use Rattle.memory.specs.Flat.{Flat, flatOf}
-use Rattle.model.specs.Transactions.{Op, planRows}
-use Rattle.rows.specs.Rows.{Row}
-use lib.ListN.{length, length-append}
-use mathlib.Core.List.{List, [], _∷_, _++_}
-use borrow.Author.Needs.{needs}
-use native.Mathlib.Omega.{arith}
-use Prim.Native.Nat.{ℕ, _+_, _*_, _-_, _%_, _/_, _<_, _≤_}
-use mathlib.Core.Path.{_≡_, refl, sym, ap, _∙_}
+use Rattle.look.specs.Plans.{restRows, rowOps}
+use Rattle.look.proofs.Pushing.{Pushed, push-start, push-as, push-more, push-end}
+use Rattle.look.proofs.Planning.{plan-turn, plan-done, rows-few}
 use Rattle.look.proofs.plan_rows.Statement.{statement}
 use Rattle.look.proofs.plan_rows.Tie as tie
 

@@ -1,20 +1,19 @@
-use Rattle.look.proofs.Removing.{next-removal, no-removal, removal-room, pushed-by}
-use Rattle.look.proofs.Pushing.{Pushed, push-start, push-end, removals, remove-none}
-use Rattle.look.proofs.Tables.{keep-rest-end}
-use Rattle.look.specs.Plans.{restRows, chosen, opOf}
+-- `look::remove_all` meets its contract.
+use mathlib.Core.Logic.{⊎-elim}
+use mathlib.Core.Path.{_≡_, sym, ap, _∙_}
+use Prim.Native.Nat.{_+_, _-_, _<_, _≤_}
+use native.Mathlib.Omega.{arith}
+use lib.ListN.{length}
+use borrow.Author.Needs.{needs}
+use Rattle.basics.specs.Basics.{keep}
+use Rattle.rows.specs.Rows.{number}
+use Rattle.model.specs.Transactions.{removeAll}
 use Rattle.memory.specs.declared.Counts.{Counts}
 use Rattle.memory.specs.Flat.{Flat, flatOf}
-use Rattle.model.specs.Transactions.{Op, toRemove, removeAll}
-use Rattle.rows.specs.Rows.{Row, number}
-use Rattle.basics.specs.Basics.{keep}
-use lib.ListN.{length, set}
-use mathlib.Core.List.{List, [], _∷_}
-use mathlib.Core.Bool.{Bool, true, false}
-use borrow.Author.Needs.{needs}
-use native.Mathlib.Omega.{arith}
-use Prim.Native.Nat.{ℕ, _+_, _*_, _-_, _<_, _≤_}
-use mathlib.Core.Logic.{⊎-elim}
-use mathlib.Core.Path.{_≡_, refl, sym, ap, _∙_}
+use Rattle.look.specs.Plans.{restRows, chosen}
+use Rattle.look.proofs.Removing.{next-removal, no-removal, removal-room, pushed-by}
+use Rattle.look.proofs.Pushing.{Pushed, push-start, push-end, remove-none}
+use Rattle.look.proofs.Tables.{keep-rest-end}
 use Rattle.look.proofs.remove_all.Statement.{statement}
 use Rattle.look.proofs.remove_all.Tie as tie
 

@@ -1,7 +1,8 @@
-use Rattle.look.proofs.Versions.{look-sees}
-use Rattle.memory.proofs.Refusal.{held-room}
-use Rattle.memory.specs.Flat.{Flat, flatOf}
+-- `look::seen_by` meets its contract.
 use borrow.Author.Needs.{needs}
+use Rattle.memory.specs.Flat.{flatOf}
+use Rattle.memory.proofs.Refusal.{held-room}
+use Rattle.look.proofs.Versions.{look-sees}
 use Rattle.look.proofs.seen_by.Statement.{statement}
 use Rattle.look.proofs.seen_by.Tie as tie
 

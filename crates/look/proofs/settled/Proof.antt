@@ -1,5 +1,6 @@
-use Rattle.look.proofs.Flags.{settle-first, settle-again}
+-- `look::settled` meets its contract.
 use borrow.Author.Needs.{needs}
+use Rattle.look.proofs.Flags.{settle-first, settle-again}
 use Rattle.look.proofs.settled.Statement.{statement}
 use Rattle.look.proofs.settled.Tie as tie
 

@@ -1,17 +1,10 @@
-use Rattle.pages.proofs.Places.{page-end, has-row, ends-at, tuples-many}
-use Rattle.pages.proofs.Swaps.{put-in, taken-out, row-set, marked, dropped, cut-in-two, added, merged, still-there, fresh-page}
-use Rattle.pages.specs.Turns.{Turns, pagesOf, pageAt, tuplesAt, entryAt, startAt, At, swapped}
-use Rattle.memory.specs.declared.Row.{Row}
-use Rattle.memory.specs.declared.Counts.{Counts}
-use Rattle.memory.specs.declared.Entry.{Entry}
-use Rattle.memory.proofs.Refusal.{held-room, held-filled}
-use Rattle.memory.specs.Views.{tab}
-use Rattle.memory.specs.Store.{heldIn, startOf, holdsStore}
-use Rattle.memory.specs.Flat.{Flat, flatOf, entryIn, Room, withEntries, insertAt}
-use lib.ListN.{length, take, drop, set}
-use mathlib.Core.List.{List, [], _∷_, _++_}
-use Prim.Native.Nat.{ℕ, zero, suc, _+_, _*_, _-_, _%_, _≤_, _<_}
-use mathlib.Core.Path.{_≡_, refl, sym, ap, _∙_, subst}
+use Rattle.pages.proofs.Places.{page-end}
+use Rattle.pages.proofs.Swaps.{row-set, still-there}
+use Rattle.pages.specs.Turns.{startAt, At}
+use Rattle.memory.proofs.Refusal.{held-room}
+use mathlib.Core.List.{List}
+use Prim.Native.Nat.{ℕ}
+use mathlib.Core.Path.{refl}
 use native.Mathlib.Omega.{arith}
 use borrow.Author.Needs.{needs}
 use Rattle.pages.proofs.change.Statement.{statement}
@@ -19,7 +12,7 @@ use Rattle.pages.proofs.change.Tie as tie
 
 put-row-requires : tie.Need-put-row-requires
 put-row-requires c κs =
-    let st = (c .before .before) in
+    let st = c .before .before in
     let m : List ℕ = st .args .m .now in
     let g = st .pre .0 in
     let a : At m (st .args .p) (startAt m (st .args .p)) = record { held = g .there .held; inside = g .there .inside; begins = refl } in
@@ -27,11 +20,13 @@ put-row-requires c κs =
 
 put-entry-requires : tie.Need-put-entry-requires
 put-entry-requires c κs =
-    let st = (c .before .before .before .before .before .before) in
+    let b3 = c .before .before .before in
+    let b6 = b3 .before .before .before in
+    let st = b6 in
     let m : List ℕ = st .args .m .now in
     let g = st .pre .0 in
     let a : At m (st .args .p) (startAt m (st .args .p)) = record { held = g .there .held; inside = g .there .inside; begins = refl } in
-    let b = (c .before .before .before .put-row .ensures) in
+    let b = b3 .put-row .ensures in
     (b .room, still-there (st .args .p) b (a .inside))
 
 same-length : tie.Need-same-length
@@ -39,11 +34,13 @@ same-length c = search needs
 
 returns : tie.Need-returns
 returns c =
-    let st = (c .before .before .before .before .before .before .before .before .before) in
+    let b6 = c .before .before .before .before .before .before in
+    let b9 = b6 .before .before .before in
+    let st = b9 in
     let m : List ℕ = st .args .m .now in
     let g = st .pre .0 in
     let a : At m (st .args .p) (startAt m (st .args .p)) = record { held = g .there .held; inside = g .there .inside; begins = refl } in
-    row-set a (st .args .at) (st .args .e) (g .least) (st .args .row) (g .most) (st .pre .1) (c .before .before .before .before .before .before .put-row .ensures) (c .before .before .put-entry .ensures)
+    row-set a (st .args .at) (st .args .e) (g .least) (st .args .row) (g .most) (st .pre .1) (b6 .put-row .ensures) (c .before .before .put-entry .ensures)
 
 pub change-spec : {M : Type 1} → statement M
 change-spec = tie.close (tie.spec put-row-requires put-entry-requires same-length returns)

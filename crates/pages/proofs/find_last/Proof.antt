@@ -1,19 +1,11 @@
-use Rattle.memory.specs.Store.{heldOf, tupleOf, tupleBy}
+use Rattle.memory.specs.Store.{heldOf, tupleOf, heldIn, tupleBy}
+use Rattle.memory.specs.Flat.{flatOf}
+use Prim.Native.Nat.{ℕ, _-_, _≤_}
+use mathlib.Core.Path.{_≡_, sym, ap, _∙_}
 use borrow.Author.Tests.{le-leb, lt-leb}
 use Rattle.pages.specs.Spots.{afterLast}
 use Rattle.pages.proofs.Last.{found, passed}
-use Rattle.memory.specs.declared.Row.{Row}
-use Rattle.memory.specs.declared.Counts.{Counts}
-use Rattle.memory.specs.declared.Entry.{Entry}
-use Rattle.memory.proofs.Refusal.{held-room, held-filled}
 use Rattle.memory.specs.Views.{tab}
-use Rattle.memory.specs.Store.{heldIn, startOf, holdsStore}
-use Rattle.memory.specs.Flat.{flatOf, entryIn, Room}
-use lib.ListN.{length, take, drop, set}
-use mathlib.Core.List.{List, [], _∷_, _++_}
-use Prim.Native.Nat.{ℕ, zero, suc, _+_, _*_, _-_, _%_, _≤_, _<_}
-use mathlib.Core.Path.{_≡_, refl, sym, ap, _∙_, subst}
-use borrow.Author.Needs.{needs}
 use native.Mathlib.Omega.{arith}
 use Rattle.pages.proofs.find_last.Statement.{statement}
 use Rattle.pages.proofs.find_last.Tie as tie
@@ -27,7 +19,7 @@ abbrev μ-loop : tie.MeasureT-loop
 loop-holds : tie.Need-loop-holds Inv-loop μ-loop
 unfolding afterLast
 loop-holds c =
-    let st = (c .before) in
+    let st = c .before in
     let z : st .args .end - st .args .end ≡ 0 = omega arith in
     (omega (arith, st .pre .1 .0), (omega arith, ap (λ (n : ℕ). afterLast (st .args .key) (tab (heldIn (flatOf (st .args .m .now))) (st .args .end) n)) z))
 
@@ -35,15 +27,19 @@ sub-key-at : tie.Need-sub-key-at Inv-loop μ-loop
 sub-key-at c = omega arith
 
 key-at-requires : tie.Need-key-at-requires Inv-loop μ-loop
-key-at-requires c κs = ((c .before .before .before .pre .0), omega (arith, (c .before .before .before .pre .1 .1), (c .before .loop .inv .1 .0)))
+key-at-requires c κs =
+    let b3 = c .before .before .before in
+    ((b3 .pre .0), omega (arith, (b3 .pre .1 .1), (c .before .loop .inv .1 .0)))
 
 returns : tie.Need-returns Inv-loop μ-loop
 unfolding heldOf tupleOf tupleBy
 returns c =
-    let st = (c .before .before .before .before .before) in
+    let b3 = c .before .before .before in
+    let b5 = b3 .before .before in
+    let st = b5 in
     let f = heldIn (flatOf (st .args .m .now)) in
-    let l = (c .before .before .before .loop) in
-    let ek : (c .before .key-at .result) ≡ f (l .i - 1) .tuple .key = (c .before .key-at .ensures) in
+    let l = b3 .loop in
+    let ek : (c .before .key-at .result) ≡ f (l .i - 1) .tuple .key = c .before .key-at .ensures in
     found f (st .args .key) (st .args .start) (st .args .end) (l .i) (c .before .before .loop-test .taken) (l .inv .1 .0) (l .inv .1 .1) (le-leb (f (l .i - 1) .tuple .key) (st .args .key) (omega (arith, (c .if1 .taken))))
 
 sub-i : tie.Need-sub-i Inv-loop μ-loop
@@ -55,16 +51,19 @@ loop-less c = omega arith
 loop-again : tie.Need-loop-again Inv-loop μ-loop
 unfolding heldOf tupleOf tupleBy
 loop-again c =
-    let st = (c .before .before .before .before .before) in
+    let b3 = c .before .before .before in
+    let b5 = b3 .before .before in
+    let st = b5 in
     let f = heldIn (flatOf (st .args .m .now)) in
-    let l = (c .before .before .before .loop) in
-    let ek : (c .before .key-at .result) ≡ f (l .i - 1) .tuple .key = (c .before .key-at .ensures) in
+    let l = b3 .loop in
+    let ek : (c .before .key-at .result) ≡ f (l .i - 1) .tuple .key = c .before .key-at .ensures in
     (omega (arith, (c .before .before .loop-test .taken)), (omega (arith, l .inv .1 .0), passed f (st .args .key) (st .args .start) (st .args .end) (l .i) (c .before .before .loop-test .taken) (l .inv .1 .0) (l .inv .1 .1) (lt-leb (f (l .i - 1) .tuple .key) (st .args .key) (omega (arith, (c .if1 .left))))))
 
 returns-2 : tie.Need-returns-2 Inv-loop μ-loop
 returns-2 c =
-    let st = (c .before .before .before) in
-    let l = (c .before .loop) in
+    let b3 = c .before .before .before in
+    let st = b3 in
+    let l = c .before .loop in
     let e : l .i ≡ st .args .start = omega (arith, (c .loop-test .left), l .inv .0) in
     let z : afterLast (st .args .key) (tab (heldIn (flatOf (st .args .m .now))) (st .args .start) (st .args .end - st .args .start)) ≡ 0 =
     ap (λ (n : ℕ). afterLast (st .args .key) (tab (heldIn (flatOf (st .args .m .now))) n (st .args .end - n))) (sym e) ∙ l .inv .1 .1 in

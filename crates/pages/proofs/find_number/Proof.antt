@@ -1,21 +1,11 @@
-use Rattle.memory.specs.Store.{heldOf, tupleOf, tupleBy}
+use Rattle.memory.specs.Store.{heldOf, tupleOf, heldIn, tupleBy}
+use Rattle.memory.specs.Flat.{flatOf}
+use mathlib.Core.List.{List}
+use Prim.Native.Nat.{ℕ, _+_, _-_, _≤_}
+use mathlib.Core.Path.{_≡_, sym, _∙_}
 use Rattle.pages.specs.Finding.{firstOf}
 use Rattle.pages.proofs.Edits.{find-hit, find-past, find-end}
-use Rattle.pages.proofs.Places.{page-end, has-row, ends-at, tuples-many}
-use Rattle.pages.proofs.Swaps.{put-in, taken-out, row-set, marked, dropped, cut-in-two, added, merged, still-there, fresh-page}
-use Rattle.pages.specs.Turns.{Turns, pagesOf, pageAt, tuplesAt, entryAt, startAt, At, swapped}
-use Rattle.memory.specs.declared.Row.{Row}
-use Rattle.memory.specs.declared.Counts.{Counts}
-use Rattle.memory.specs.declared.Entry.{Entry}
-use Rattle.memory.proofs.Refusal.{held-room, held-filled}
 use Rattle.memory.specs.Views.{tab}
-use Rattle.memory.specs.Store.{heldIn, startOf, holdsStore}
-use Rattle.memory.specs.Flat.{Flat, flatOf, entryIn, Room, withEntries, insertAt}
-use lib.ListN.{length, take, drop, set}
-use mathlib.Core.List.{List, [], _∷_, _++_}
-use Prim.Native.Nat.{ℕ, zero, suc, _+_, _*_, _-_, _%_, _≤_, _<_}
-use mathlib.Core.Path.{_≡_, refl, sym, ap, _∙_, subst}
-use borrow.Author.Needs.{needs}
 use native.Mathlib.Omega.{arith}
 use Rattle.pages.proofs.find_number.Statement.{statement}
 use Rattle.pages.proofs.find_number.Tie as tie
@@ -28,32 +18,39 @@ abbrev μ-loop : tie.MeasureT-loop
 
 loop-holds : tie.Need-loop-holds Inv-loop μ-loop
 loop-holds c =
-    let st = (c .before) in
+    let st = c .before in
     (omega arith, (omega (arith, st .pre .1 .0), omega arith))
 
 number-at-requires : tie.Need-number-at-requires Inv-loop μ-loop
-number-at-requires c κs = ((c .before .before .before .pre .0), omega (arith, (c .before .before .before .pre .1 .1), (c .loop-test .taken)))
+number-at-requires c κs =
+    let b3 = c .before .before .before in
+    ((b3 .pre .0), omega (arith, (b3 .pre .1 .1), (c .loop-test .taken)))
 
 returns : tie.Need-returns Inv-loop μ-loop
 unfolding heldOf tupleOf tupleBy
 returns c =
-    let st = (c .before .before .before .before .before) in
+    let b3 = c .before .before .before in
+    let b5 = b3 .before .before in
+    let st = b5 in
     let m : List ℕ = st .args .m .now in
     let f = heldIn (flatOf m) in
     let n : ℕ = st .args .number in
-    let l = (c .before .before .before .loop) in
-    let i1 = l .inv .0 in let i2 = l .inv .1 .0 in
-    let ek : (c .before .number-at .result) ≡ f (l .i) .tuple .number = (c .before .number-at .ensures) in
+    let l = b3 .loop in
+    let i1 = l .inv .0 in
+    let i2 = l .inv .1 .0 in
+    let ek : (c .before .number-at .result) ≡ f (l .i) .tuple .number = c .before .number-at .ensures in
     omega (arith, l .inv .1 .1, find-hit n f (l .i) (st .args .end) (c .before .before .loop-test .taken) (sym ek ∙ (c .if1 .taken)))
 
 add-i : tie.Need-add-i Inv-loop μ-loop
 add-i c =
-    let st = (c .before .before .before .before .before) in
+    let b3 = c .before .before .before in
+    let b5 = b3 .before .before in
+    let st = b5 in
     let m : List ℕ = st .args .m .now in
     let f = heldIn (flatOf m) in
-    let n : ℕ = st .args .number in
-    let l = (c .before .before .before .loop) in
-    let i1 = l .inv .0 in let i2 = l .inv .1 .0 in
+    let l = b3 .loop in
+    let i1 = l .inv .0 in
+    let i2 = l .inv .1 .0 in
     omega (arith, st .pre .1 .1, (c .before .before .loop-test .taken), st .pre .0 .range .rows, st .pre .0 .range .most)
 
 loop-less : tie.Need-loop-less Inv-loop μ-loop
@@ -62,23 +59,28 @@ loop-less c = omega (arith, (c .before .before .loop-test .taken))
 loop-again : tie.Need-loop-again Inv-loop μ-loop
 unfolding heldOf tupleOf tupleBy
 loop-again c =
-    let st = (c .before .before .before .before .before) in
+    let b3 = c .before .before .before in
+    let b5 = b3 .before .before in
+    let st = b5 in
     let m : List ℕ = st .args .m .now in
     let f = heldIn (flatOf m) in
     let n : ℕ = st .args .number in
-    let l = (c .before .before .before .loop) in
-    let i1 = l .inv .0 in let i2 = l .inv .1 .0 in
-    let ek : (c .before .number-at .result) ≡ f (l .i) .tuple .number = (c .before .number-at .ensures) in
+    let l = b3 .loop in
+    let i1 = l .inv .0 in
+    let i2 = l .inv .1 .0 in
+    let ek : (c .before .number-at .result) ≡ f (l .i) .tuple .number = c .before .number-at .ensures in
     (omega arith, (omega (arith, (c .before .before .loop-test .taken)), omega (arith, l .inv .1 .1, find-past n f (l .i) (st .args .end) (c .before .before .loop-test .taken) (λ z. (c .if1 .left) (ek ∙ z)))))
 
 returns-2 : tie.Need-returns-2 Inv-loop μ-loop
 returns-2 c =
-    let st = (c .before .before .before) in
+    let b3 = c .before .before .before in
+    let st = b3 in
     let m : List ℕ = st .args .m .now in
     let f = heldIn (flatOf m) in
     let n : ℕ = st .args .number in
-    let l = (c .before .loop) in
-    let i1 = l .inv .0 in let i2 = l .inv .1 .0 in
+    let l = c .before .loop in
+    let i1 = l .inv .0 in
+    let i2 = l .inv .1 .0 in
     omega (arith, l .inv .1 .1, find-end n f (l .i) (st .args .end) (c .loop-test .left), (c .loop-test .left))
 
 pub find-number-spec : {M : Type 1} → statement M

@@ -1,20 +1,15 @@
+use Rattle.pages.specs.Finding.{FoundBy}
+use Rattle.pages.proofs.Places.{page-end}
+use Rattle.memory.proofs.Refusal.{held-room}
+use Rattle.memory.specs.Flat.{flatOf, entryIn}
+use lib.ListN.{length}
+use mathlib.Core.List.{List}
+use Prim.Native.Nat.{ℕ, _+_, _-_, _<_}
+use mathlib.Core.Path.{_≡_, ap}
 use Rattle.model.specs.Rules.{hasNumber}
-use Rattle.pages.specs.Finding.{FoundBy, FoundRow}
 use Rattle.pages.proofs.Removing.{PassInv, pass-start, pass-at, pass-on, pass-first, pass-end, number-here, number-none}
-use Rattle.pages.proofs.Places.{page-end, has-row, ends-at, tuples-many}
-use Rattle.pages.proofs.Swaps.{put-in, taken-out, row-set, marked, dropped, cut-in-two, added, merged, still-there, fresh-page}
-use Rattle.pages.specs.Turns.{Turns, pagesOf, pageAt, tuplesAt, entryAt, startAt, At, swapped}
-use Rattle.memory.specs.declared.Row.{Row}
 use Rattle.memory.specs.declared.Counts.{Counts}
 use Rattle.memory.specs.declared.Entry.{Entry}
-use Rattle.memory.proofs.Refusal.{held-room, held-filled}
-use Rattle.memory.specs.Views.{tab}
-use Rattle.memory.specs.Store.{heldIn, startOf, holdsStore}
-use Rattle.memory.specs.Flat.{Flat, flatOf, entryIn, Room, withEntries, insertAt}
-use lib.ListN.{length, take, drop, set}
-use mathlib.Core.List.{List, [], _∷_, _++_}
-use Prim.Native.Nat.{ℕ, zero, suc, _+_, _*_, _-_, _%_, _≤_, _<_}
-use mathlib.Core.Path.{_≡_, refl, sym, ap, _∙_, subst}
 use borrow.Author.Needs.{needs}
 use native.Mathlib.Omega.{arith}
 use Rattle.pages.proofs.find_row.Statement.{statement}
@@ -33,17 +28,23 @@ cast-n : tie.Need-cast-n Inv-loop μ-loop
 cast-n c = search needs
 
 loop-holds : tie.Need-loop-holds Inv-loop μ-loop
-loop-holds c = pass-start (c .before .before .before .args .m .now) (hasNumber (c .before .before .before .args .number))
+loop-holds c =
+    let b3 = c .before .before .before in
+    pass-start (b3 .args .m .now) (hasNumber (b3 .args .number))
 
 get-entry-requires : tie.Need-get-entry-requires Inv-loop μ-loop
 get-entry-requires c κs =
-    let st = (c .before .before .before .before .before) in
+    let b3 = c .before .before .before in
+    let b5 = b3 .before .before in
+    let st = b5 in
     let m : List ℕ = st .args .m .now in
     let hit = hasNumber (st .args .number) in
     let room = held-room m (st .pre) in
-    let k1 = room .range .rows in let k2 = room .range .most in let k3 = room .range .pages in
-    let ec : (c .before .before .before .get-counts .result .pages) ≡ length (flatOf m .entries) = ap (λ (x : Counts). x .pages) (c .before .before .before .get-counts .ensures) in
-    let l = (c .before .loop) in
+    let k1 = room .range .rows in
+    let k2 = room .range .most in
+    let k3 = room .range .pages in
+    let ec : (b3 .get-counts .result .pages) ≡ length (flatOf m .entries) = ap (λ (x : Counts). x .pages) (b3 .get-counts .ensures) in
+    let l = c .before .loop in
     let lt : l .p < length (flatOf m .entries) = omega (arith, (c .loop-test .taken)) in
     let a = pass-at m (st .pre) hit (l .p) (l .start) (l .inv) lt in
     (room, lt)
@@ -53,13 +54,18 @@ cast-end c = search needs
 
 add-end : tie.Need-add-end Inv-loop μ-loop
 add-end c =
-    let st = (c .before .before .before .before .before .before .before) in
+    let b3 = c .before .before .before in
+    let b5 = b3 .before .before in
+    let b7 = b5 .before .before in
+    let st = b7 in
     let m : List ℕ = st .args .m .now in
     let hit = hasNumber (st .args .number) in
     let room = held-room m (st .pre) in
-    let k1 = room .range .rows in let k2 = room .range .most in let k3 = room .range .pages in
-    let ec : (c .before .before .before .before .before .get-counts .result .pages) ≡ length (flatOf m .entries) = ap (λ (x : Counts). x .pages) (c .before .before .before .before .before .get-counts .ensures) in
-    let l = (c .before .before .before .loop) in
+    let k1 = room .range .rows in
+    let k2 = room .range .most in
+    let k3 = room .range .pages in
+    let ec : (b5 .get-counts .result .pages) ≡ length (flatOf m .entries) = ap (λ (x : Counts). x .pages) (b5 .get-counts .ensures) in
+    let l = b3 .loop in
     let lt : l .p < length (flatOf m .entries) = omega (arith, (c .before .before .loop-test .taken)) in
     let a = pass-at m (st .pre) hit (l .p) (l .start) (l .inv) lt in
     let en : (c .before .get-entry .result .count) ≡ entryIn (flatOf m) (l .p) .count = ap (λ (x : Entry). x .count) (c .before .get-entry .ensures) in
@@ -70,13 +76,18 @@ add-end c =
 
 find-number-requires : tie.Need-find-number-requires Inv-loop μ-loop
 find-number-requires c κs =
-    let st = (c .before .before .before .before .before .before .before) in
+    let b3 = c .before .before .before in
+    let b5 = b3 .before .before in
+    let b7 = b5 .before .before in
+    let st = b7 in
     let m : List ℕ = st .args .m .now in
     let hit = hasNumber (st .args .number) in
     let room = held-room m (st .pre) in
-    let k1 = room .range .rows in let k2 = room .range .most in let k3 = room .range .pages in
-    let ec : (c .before .before .before .before .before .get-counts .result .pages) ≡ length (flatOf m .entries) = ap (λ (x : Counts). x .pages) (c .before .before .before .before .before .get-counts .ensures) in
-    let l = (c .before .before .before .loop) in
+    let k1 = room .range .rows in
+    let k2 = room .range .most in
+    let k3 = room .range .pages in
+    let ec : (b5 .get-counts .result .pages) ≡ length (flatOf m .entries) = ap (λ (x : Counts). x .pages) (b5 .get-counts .ensures) in
+    let l = b3 .loop in
     let lt : l .p < length (flatOf m .entries) = omega (arith, (c .before .before .loop-test .taken)) in
     let a = pass-at m (st .pre) hit (l .p) (l .start) (l .inv) lt in
     let en : (c .before .get-entry .result .count) ≡ entryIn (flatOf m) (l .p) .count = ap (λ (x : Entry). x .count) (c .before .get-entry .ensures) in
@@ -88,17 +99,24 @@ find-number-requires c κs =
 returns : tie.Need-returns Inv-loop μ-loop
 unfolding FoundBy
 returns c =
-    let st = (c .before .before .before .before .before .before .before .before .before) in
+    let b3 = c .before .before .before in
+    let b4 = b3 .before in
+    let b5 = b4 .before in
+    let b7 = b5 .before .before in
+    let b9 = b7 .before .before in
+    let st = b9 in
     let m : List ℕ = st .args .m .now in
     let hit = hasNumber (st .args .number) in
     let room = held-room m (st .pre) in
-    let k1 = room .range .rows in let k2 = room .range .most in let k3 = room .range .pages in
-    let ec : (c .before .before .before .before .before .before .before .get-counts .result .pages) ≡ length (flatOf m .entries) = ap (λ (x : Counts). x .pages) (c .before .before .before .before .before .before .before .get-counts .ensures) in
-    let l = (c .before .before .before .before .before .loop) in
-    let lt : l .p < length (flatOf m .entries) = omega (arith, (c .before .before .before .before .loop-test .taken)) in
+    let k1 = room .range .rows in
+    let k2 = room .range .most in
+    let k3 = room .range .pages in
+    let ec : (b7 .get-counts .result .pages) ≡ length (flatOf m .entries) = ap (λ (x : Counts). x .pages) (b7 .get-counts .ensures) in
+    let l = b5 .loop in
+    let lt : l .p < length (flatOf m .entries) = omega (arith, (b4 .loop-test .taken)) in
     let a = pass-at m (st .pre) hit (l .p) (l .start) (l .inv) lt in
-    let en : (c .before .before .before .get-entry .result .count) ≡ entryIn (flatOf m) (l .p) .count = ap (λ (x : Entry). x .count) (c .before .before .before .get-entry .ensures) in
-    let end : ℕ = l .start + (c .before .before .before .get-entry .result .count) in
+    let en : (b3 .get-entry .result .count) ≡ entryIn (flatOf m) (l .p) .count = ap (λ (x : Entry). x .count) (b3 .get-entry .ensures) in
+    let end : ℕ = l .start + (b3 .get-entry .result .count) in
     let ee : end ≡ l .start + entryIn (flatOf m) (l .p) .count = ap (λ (z : ℕ). l .start + z) en in
     let pe = page-end a in
     let q = number-here a (st .args .number) end (c .before .find-number .result) ee (c .before .find-number .ensures) (c .if1 .taken) in
@@ -106,43 +124,62 @@ returns c =
 
 add-p : tie.Need-add-p Inv-loop μ-loop
 add-p c =
-    let st = (c .before .before .before .before .before .before .before .before .before) in
+    let b4 = c .before .before .before .before in
+    let b5 = b4 .before in
+    let b7 = b5 .before .before in
+    let b9 = b7 .before .before in
+    let st = b9 in
     let m : List ℕ = st .args .m .now in
     let hit = hasNumber (st .args .number) in
     let room = held-room m (st .pre) in
-    let k1 = room .range .rows in let k2 = room .range .most in let k3 = room .range .pages in
-    let ec : (c .before .before .before .before .before .before .before .get-counts .result .pages) ≡ length (flatOf m .entries) = ap (λ (x : Counts). x .pages) (c .before .before .before .before .before .before .before .get-counts .ensures) in
-    let l = (c .before .before .before .before .before .loop) in
-    let lt : l .p < length (flatOf m .entries) = omega (arith, (c .before .before .before .before .loop-test .taken)) in
+    let k1 = room .range .rows in
+    let k2 = room .range .most in
+    let k3 = room .range .pages in
+    let ec : (b7 .get-counts .result .pages) ≡ length (flatOf m .entries) = ap (λ (x : Counts). x .pages) (b7 .get-counts .ensures) in
+    let l = b5 .loop in
+    let lt : l .p < length (flatOf m .entries) = omega (arith, (b4 .loop-test .taken)) in
     let a = pass-at m (st .pre) hit (l .p) (l .start) (l .inv) lt in
     omega arith
 
 loop-less : tie.Need-loop-less Inv-loop μ-loop
 loop-less c =
-    let st = (c .before .before .before .before .before .before .before .before .before) in
+    let b4 = c .before .before .before .before in
+    let b5 = b4 .before in
+    let b7 = b5 .before .before in
+    let b9 = b7 .before .before in
+    let st = b9 in
     let m : List ℕ = st .args .m .now in
     let hit = hasNumber (st .args .number) in
     let room = held-room m (st .pre) in
-    let k1 = room .range .rows in let k2 = room .range .most in let k3 = room .range .pages in
-    let ec : (c .before .before .before .before .before .before .before .get-counts .result .pages) ≡ length (flatOf m .entries) = ap (λ (x : Counts). x .pages) (c .before .before .before .before .before .before .before .get-counts .ensures) in
-    let l = (c .before .before .before .before .before .loop) in
-    let lt : l .p < length (flatOf m .entries) = omega (arith, (c .before .before .before .before .loop-test .taken)) in
+    let k1 = room .range .rows in
+    let k2 = room .range .most in
+    let k3 = room .range .pages in
+    let ec : (b7 .get-counts .result .pages) ≡ length (flatOf m .entries) = ap (λ (x : Counts). x .pages) (b7 .get-counts .ensures) in
+    let l = b5 .loop in
+    let lt : l .p < length (flatOf m .entries) = omega (arith, (b4 .loop-test .taken)) in
     let a = pass-at m (st .pre) hit (l .p) (l .start) (l .inv) lt in
-    omega (arith, (c .before .before .before .before .loop-test .taken))
+    omega (arith, (b4 .loop-test .taken))
 
 loop-again : tie.Need-loop-again Inv-loop μ-loop
 loop-again c =
-    let st = (c .before .before .before .before .before .before .before .before .before) in
+    let b3 = c .before .before .before in
+    let b4 = b3 .before in
+    let b5 = b4 .before in
+    let b7 = b5 .before .before in
+    let b9 = b7 .before .before in
+    let st = b9 in
     let m : List ℕ = st .args .m .now in
     let hit = hasNumber (st .args .number) in
     let room = held-room m (st .pre) in
-    let k1 = room .range .rows in let k2 = room .range .most in let k3 = room .range .pages in
-    let ec : (c .before .before .before .before .before .before .before .get-counts .result .pages) ≡ length (flatOf m .entries) = ap (λ (x : Counts). x .pages) (c .before .before .before .before .before .before .before .get-counts .ensures) in
-    let l = (c .before .before .before .before .before .loop) in
-    let lt : l .p < length (flatOf m .entries) = omega (arith, (c .before .before .before .before .loop-test .taken)) in
+    let k1 = room .range .rows in
+    let k2 = room .range .most in
+    let k3 = room .range .pages in
+    let ec : (b7 .get-counts .result .pages) ≡ length (flatOf m .entries) = ap (λ (x : Counts). x .pages) (b7 .get-counts .ensures) in
+    let l = b5 .loop in
+    let lt : l .p < length (flatOf m .entries) = omega (arith, (b4 .loop-test .taken)) in
     let a = pass-at m (st .pre) hit (l .p) (l .start) (l .inv) lt in
-    let en : (c .before .before .before .get-entry .result .count) ≡ entryIn (flatOf m) (l .p) .count = ap (λ (x : Entry). x .count) (c .before .before .before .get-entry .ensures) in
-    let end : ℕ = l .start + (c .before .before .before .get-entry .result .count) in
+    let en : (b3 .get-entry .result .count) ≡ entryIn (flatOf m) (l .p) .count = ap (λ (x : Entry). x .count) (b3 .get-entry .ensures) in
+    let end : ℕ = l .start + (b3 .get-entry .result .count) in
     let ee : end ≡ l .start + entryIn (flatOf m) (l .p) .count = ap (λ (z : ℕ). l .start + z) en in
     let pe = page-end a in
     pass-on m (st .pre) hit (l .p) (l .start) (l .inv) lt end ee (number-none a (st .args .number) end (c .before .find-number .result) ee (c .before .find-number .ensures) (c .if1 .left))
@@ -150,13 +187,17 @@ loop-again c =
 returns-2 : tie.Need-returns-2 Inv-loop μ-loop
 unfolding FoundBy
 returns-2 c =
-    let st = (c .before .before .before .before .before) in
+    let b3 = c .before .before .before in
+    let b5 = b3 .before .before in
+    let st = b5 in
     let m : List ℕ = st .args .m .now in
     let hit = hasNumber (st .args .number) in
     let room = held-room m (st .pre) in
-    let k1 = room .range .rows in let k2 = room .range .most in let k3 = room .range .pages in
-    let ec : (c .before .before .before .get-counts .result .pages) ≡ length (flatOf m .entries) = ap (λ (x : Counts). x .pages) (c .before .before .before .get-counts .ensures) in
-    let l = (c .before .loop) in
+    let k1 = room .range .rows in
+    let k2 = room .range .most in
+    let k3 = room .range .pages in
+    let ec : (b3 .get-counts .result .pages) ≡ length (flatOf m .entries) = ap (λ (x : Counts). x .pages) (b3 .get-counts .ensures) in
+    let l = c .before .loop in
     pass-end m (st .pre) hit (l .p) (l .start) (l .inv) (omega (arith, (c .loop-test .left)))
 
 pub find-row-spec : {M : Type 1} → statement M

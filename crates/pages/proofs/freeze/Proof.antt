@@ -1,18 +1,11 @@
+use Rattle.memory.proofs.Refusal.{held-room}
+use Rattle.memory.specs.Flat.{flatOf}
+use lib.ListN.{length}
+use mathlib.Core.List.{List}
+use Prim.Native.Nat.{ℕ, _-_, _<_}
+use mathlib.Core.Path.{_≡_, ap}
 use Rattle.pages.proofs.Committing.{FreezeInv, freeze-start, freeze-there, freeze-next, freeze-end}
-use Rattle.pages.proofs.Places.{page-end, has-row, ends-at, tuples-many}
-use Rattle.pages.proofs.Swaps.{put-in, taken-out, row-set, marked, dropped, cut-in-two, added, merged, still-there, fresh-page}
-use Rattle.pages.specs.Turns.{Turns, pagesOf, pageAt, tuplesAt, entryAt, startAt, At, swapped}
-use Rattle.memory.specs.declared.Row.{Row}
 use Rattle.memory.specs.declared.Counts.{Counts}
-use Rattle.memory.specs.declared.Entry.{Entry}
-use Rattle.memory.proofs.Refusal.{held-room, held-filled}
-use Rattle.memory.specs.Views.{tab}
-use Rattle.memory.specs.Store.{heldIn, startOf, holdsStore}
-use Rattle.memory.specs.Flat.{Flat, flatOf, entryIn, Room, withEntries, insertAt}
-use lib.ListN.{length, take, drop, set}
-use mathlib.Core.List.{List, [], _∷_, _++_}
-use Prim.Native.Nat.{ℕ, zero, suc, _+_, _*_, _-_, _%_, _≤_, _<_}
-use mathlib.Core.Path.{_≡_, refl, sym, ap, _∙_, subst}
 use borrow.Author.Needs.{needs}
 use native.Mathlib.Omega.{arith}
 use Rattle.pages.proofs.freeze.Statement.{statement}
@@ -31,46 +24,59 @@ cast-n : tie.Need-cast-n Inv-loop μ-loop
 cast-n c = search needs
 
 loop-holds : tie.Need-loop-holds Inv-loop μ-loop
-loop-holds c = freeze-start (c .before .before .before .before .args .m .now) (c .before .before .before .before .pre)
+loop-holds c =
+    let b4 = c .before .before .before .before in
+    freeze-start (b4 .args .m .now) (b4 .pre)
 
 freeze-page-requires : tie.Need-freeze-page-requires Inv-loop μ-loop
 freeze-page-requires c κs =
-    let st = (c .before .before .before .before .before .before .before) in
+    let b4 = c .before .before .before .before in
+    let b7 = b4 .before .before .before in
+    let st = b7 in
     let m : List ℕ = st .args .m .now in
-    let room = held-room m (st .pre) in
-    let ec : (c .before .before .before .before .get-counts .result .pages) ≡ length (flatOf m .entries) = ap (λ (x : Counts). x .pages) (c .before .before .before .before .get-counts .ensures) in
-    let l = (c .before .before .loop) in
+    let ec : (b4 .get-counts .result .pages) ≡ length (flatOf m .entries) = ap (λ (x : Counts). x .pages) (b4 .get-counts .ensures) in
+    let l = c .before .before .loop in
     let lt : l .p < length (flatOf m .entries) = omega (arith, (c .before .loop-test .taken)) in
     freeze-there (l .p) (st .pre) lt (l .inv)
 
 add-p : tie.Need-add-p Inv-loop μ-loop
 add-p c =
-    let st = (c .before .before .before .before .before .before .before .before .before .before) in
+    let b4 = c .before .before .before .before in
+    let b5 = b4 .before in
+    let b7 = b5 .before .before in
+    let b10 = b7 .before .before .before in
+    let st = b10 in
     let m : List ℕ = st .args .m .now in
     let room = held-room m (st .pre) in
-    let ec : (c .before .before .before .before .before .before .before .get-counts .result .pages) ≡ length (flatOf m .entries) = ap (λ (x : Counts). x .pages) (c .before .before .before .before .before .before .before .get-counts .ensures) in
-    let l = (c .before .before .before .before .before .loop) in
-    let lt : l .p < length (flatOf m .entries) = omega (arith, (c .before .before .before .before .loop-test .taken)) in
+    let ec : (b7 .get-counts .result .pages) ≡ length (flatOf m .entries) = ap (λ (x : Counts). x .pages) (b7 .get-counts .ensures) in
+    let l = b5 .loop in
+    let lt : l .p < length (flatOf m .entries) = omega (arith, (b4 .loop-test .taken)) in
     omega (arith, room .range .pages, room .range .most)
 
 loop-less : tie.Need-loop-less Inv-loop μ-loop
 loop-less c =
-    let st = (c .before .before .before .before .before .before .before .before .before .before) in
+    let b4 = c .before .before .before .before in
+    let b5 = b4 .before in
+    let b7 = b5 .before .before in
+    let b10 = b7 .before .before .before in
+    let st = b10 in
     let m : List ℕ = st .args .m .now in
-    let room = held-room m (st .pre) in
-    let ec : (c .before .before .before .before .before .before .before .get-counts .result .pages) ≡ length (flatOf m .entries) = ap (λ (x : Counts). x .pages) (c .before .before .before .before .before .before .before .get-counts .ensures) in
-    let l = (c .before .before .before .before .before .loop) in
-    let lt : l .p < length (flatOf m .entries) = omega (arith, (c .before .before .before .before .loop-test .taken)) in
-    omega (arith, (c .before .before .before .before .loop-test .taken))
+    let ec : (b7 .get-counts .result .pages) ≡ length (flatOf m .entries) = ap (λ (x : Counts). x .pages) (b7 .get-counts .ensures) in
+    let l = b5 .loop in
+    let lt : l .p < length (flatOf m .entries) = omega (arith, (b4 .loop-test .taken)) in
+    omega (arith, (b4 .loop-test .taken))
 
 loop-again : tie.Need-loop-again Inv-loop μ-loop
 loop-again c =
-    let st = (c .before .before .before .before .before .before .before .before .before .before) in
+    let b4 = c .before .before .before .before in
+    let b5 = b4 .before in
+    let b7 = b5 .before .before in
+    let b10 = b7 .before .before .before in
+    let st = b10 in
     let m : List ℕ = st .args .m .now in
-    let room = held-room m (st .pre) in
-    let ec : (c .before .before .before .before .before .before .before .get-counts .result .pages) ≡ length (flatOf m .entries) = ap (λ (x : Counts). x .pages) (c .before .before .before .before .before .before .before .get-counts .ensures) in
-    let l = (c .before .before .before .before .before .loop) in
-    let lt : l .p < length (flatOf m .entries) = omega (arith, (c .before .before .before .before .loop-test .taken)) in
+    let ec : (b7 .get-counts .result .pages) ≡ length (flatOf m .entries) = ap (λ (x : Counts). x .pages) (b7 .get-counts .ensures) in
+    let l = b5 .loop in
+    let lt : l .p < length (flatOf m .entries) = omega (arith, (b4 .loop-test .taken)) in
     freeze-next (l .p) (st .pre) lt (l .inv) (c .before .before .freeze-page .ensures)
 
 same-length : tie.Need-same-length Inv-loop μ-loop
@@ -78,11 +84,12 @@ same-length c = (c .before .loop .inv .1 .size)
 
 returns : tie.Need-returns Inv-loop μ-loop
 returns c =
-    let st = (c .before .before .before .before .before .before) in
+    let b3 = c .before .before .before in
+    let b6 = b3 .before .before .before in
+    let st = b6 in
     let m : List ℕ = st .args .m .now in
-    let room = held-room m (st .pre) in
-    let ec : (c .before .before .before .get-counts .result .pages) ≡ length (flatOf m .entries) = ap (λ (x : Counts). x .pages) (c .before .before .before .get-counts .ensures) in
-    let l = (c .before .loop) in
+    let ec : (b3 .get-counts .result .pages) ≡ length (flatOf m .entries) = ap (λ (x : Counts). x .pages) (b3 .get-counts .ensures) in
+    let l = c .before .loop in
     freeze-end (l .p) (l .inv) (omega (arith, (c .loop-test .left)))
 
 pub freeze-spec : {M : Type 1} → statement M

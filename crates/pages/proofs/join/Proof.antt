@@ -1,22 +1,10 @@
+use Rattle.pages.specs.Changes.{settledAt}
+use Rattle.pages.specs.Turns.{pagesOf, At, swapped}
+use mathlib.Core.List.{List}
+use Prim.Native.Nat.{ℕ}
+use mathlib.Core.Path.{sym, subst}
 use Rattle.pages.proofs.Joining.{tried, tried-both}
-use mathlib.Core.Bool.{true, false, Bool}
 use Rattle.model.specs.State.{Page}
-use Rattle.pages.specs.Changes.{Tries, settledAt, settledNext}
-use Rattle.pages.proofs.Places.{page-end, has-row, ends-at, tuples-many}
-use Rattle.pages.proofs.Swaps.{put-in, taken-out, row-set, marked, dropped, cut-in-two, added, merged, still-there, fresh-page}
-use Rattle.pages.specs.Turns.{Turns, pagesOf, pageAt, tuplesAt, entryAt, startAt, At, swapped}
-use Rattle.memory.specs.declared.Row.{Row}
-use Rattle.memory.specs.declared.Counts.{Counts}
-use Rattle.memory.specs.declared.Entry.{Entry}
-use Rattle.memory.proofs.Refusal.{held-room, held-filled}
-use Rattle.memory.specs.Views.{tab}
-use Rattle.memory.specs.Store.{heldIn, startOf, holdsStore}
-use Rattle.memory.specs.Flat.{Flat, flatOf, entryIn, Room, withEntries, insertAt}
-use lib.ListN.{length, take, drop, set}
-use mathlib.Core.List.{List, [], _∷_, _++_}
-use Prim.Native.Nat.{ℕ, zero, suc, _+_, _*_, _-_, _%_, _≤_, _<_}
-use mathlib.Core.Path.{_≡_, refl, sym, ap, _∙_, subst}
-use native.Mathlib.Omega.{arith}
 use borrow.Author.Needs.{needs}
 use Rattle.pages.proofs.join.Statement.{statement}
 use Rattle.pages.proofs.join.Tie as tie
@@ -29,39 +17,35 @@ same-length c = search needs
 
 returns : tie.Need-returns
 returns c =
-    let st = (c .before .before .before .before .before .before) in
+    let b3 = c .before .before .before in
+    let b6 = b3 .before .before .before in
+    let st = b6 in
     let m : List ℕ = st .args .m .now in
     let p : ℕ = st .args .p in
-    let a = st .pre in
     let F : List Page → List Page = settledAt p (pagesOf m) in
-    let G : List Page → List Page = settledNext p (pagesOf m) in
     let H : List Page → List Page = λ rest. swapped p rest (pagesOf m) in
-    tried F H (((c .before .before .before .join-before .ensures)) .done (c .if1 .taken))
+    tried F H (((b3 .join-before .ensures)) .done (c .if1 .taken))
 
 join-after-requires : tie.Need-join-after-requires
 join-after-requires c κs =
-    let st = (c .before .before .before .before .before .before .before) in
-    let m : List ℕ = st .args .m .now in
+    let b4 = c .before .before .before .before in
+    let b7 = b4 .before .before .before in
+    let st = b7 in
     let p : ℕ = st .args .p in
     let a = st .pre in
-    let F : List Page → List Page = settledAt p (pagesOf m) in
-    let G : List Page → List Page = settledNext p (pagesOf m) in
-    let H : List Page → List Page = λ rest. swapped p rest (pagesOf m) in
-    subst (λ (z : List ℕ). At z p (st .args .start)) (sym ((((c .before .before .before .before .join-before .ensures)) .not-done (c .before .if1 .left)) .0)) a
+    subst (λ (z : List ℕ). At z p (st .args .start)) (sym ((((b4 .join-before .ensures)) .not-done (c .before .if1 .left)) .0)) a
 
 same-length-2 : tie.Need-same-length-2
 same-length-2 c = search needs
 
 returns-2 : tie.Need-returns-2
 returns-2 c =
-    let st = (c .before .before .before .before .before .before .before .before .before .before) in
-    let m : List ℕ = st .args .m .now in
+    let b4 = c .before .before .before .before in
+    let b7 = b4 .before .before .before in
+    let b10 = b7 .before .before .before in
+    let st = b10 in
     let p : ℕ = st .args .p in
-    let a = st .pre in
-    let F : List Page → List Page = settledAt p (pagesOf m) in
-    let G : List Page → List Page = settledNext p (pagesOf m) in
-    let H : List Page → List Page = λ rest. swapped p rest (pagesOf m) in
-    tried-both p (c .before .before .before .before .before .before .before .join-before .result) (c .before .before .join-after .result) (c .before .before .before .before .if1 .left) (c .before .before .before .before .before .before .before .join-before .ensures) (c .before .before .join-after .ensures)
+    tried-both p (b7 .join-before .result) (c .before .before .join-after .result) (b4 .if1 .left) (b7 .join-before .ensures) (c .before .before .join-after .ensures)
 
 pub join-spec : {M : Type 1} → statement M
 join-spec =

@@ -1,21 +1,10 @@
+use mathlib.Core.List.{List}
+use Prim.Native.Nat.{ℕ}
+use mathlib.Core.Path.{sym}
 use Rattle.memory.specs.Store.{tupleOf}
 use Rattle.pages.proofs.Places.{turns-to}
 use Rattle.pages.proofs.Searching.{spot-on, spot-new, key-is}
-use Rattle.pages.proofs.Places.{page-end, has-row, ends-at, tuples-many}
-use Rattle.pages.proofs.Swaps.{put-in, taken-out, row-set, marked, dropped, cut-in-two, added, merged, still-there, fresh-page}
-use Rattle.pages.specs.Turns.{Turns, pagesOf, pageAt, tuplesAt, entryAt, startAt, At, swapped}
 use Rattle.memory.specs.declared.Row.{Row}
-use Rattle.memory.specs.declared.Counts.{Counts}
-use Rattle.memory.specs.declared.Entry.{Entry}
-use Rattle.memory.proofs.Refusal.{held-room, held-filled}
-use Rattle.memory.specs.Views.{tab}
-use Rattle.memory.specs.Store.{heldIn, startOf, holdsStore}
-use Rattle.memory.specs.Flat.{Flat, flatOf, entryIn, Room, withEntries, insertAt}
-use lib.ListN.{length, take, drop, set}
-use mathlib.Core.List.{List, [], _∷_, _++_}
-use Prim.Native.Nat.{ℕ, zero, suc, _+_, _*_, _-_, _%_, _≤_, _<_}
-use mathlib.Core.Path.{_≡_, refl, sym, ap, _∙_, subst}
-use native.Mathlib.Omega.{arith}
 use borrow.Author.Needs.{needs}
 use Rattle.pages.proofs.place.Statement.{statement}
 use Rattle.pages.proofs.place.Tie as tie
@@ -28,12 +17,14 @@ enum-known-page c = search needs
 
 grow-requires : tie.Need-grow-requires
 grow-requires c κs =
-    let st = (c .before .before .before .before .before .before .before) in
+    let b4 = c .before .before .before .before in
+    let b7 = b4 .before .before .before in
+    let st = b7 in
     let m : List ℕ = st .args .m .now in
     let g = st .pre in
     let t : ℕ = st .args .table in
     let row : Row = st .args .row in
-    let o = spot-on m t row (c .before .before .before .before .find-spot .result) (c .before .before .before .before .find-spot .ensures) _ _ _ (c .before .before .page .given .1) in
+    let o = spot-on m t row (b4 .find-spot .result) (b4 .find-spot .ensures) _ _ _ (c .before .before .page .given .1) in
     (record { on = o .on; free = g .free; least = o .least; most = o .most }, g .plain)
 
 enum-known-page-2 : tie.Need-enum-known-page-2
@@ -41,12 +32,14 @@ enum-known-page-2 c = search needs
 
 add-page-requires : tie.Need-add-page-requires
 add-page-requires c κs =
-    let st = (c .before .before .before .before .before .before .before) in
+    let b4 = c .before .before .before .before in
+    let b7 = b4 .before .before .before in
+    let st = b7 in
     let m : List ℕ = st .args .m .now in
     let g = st .pre in
     let t : ℕ = st .args .table in
     let row : Row = st .args .row in
-    let o = spot-new m t row (c .before .before .before .before .find-spot .result) (c .before .before .before .before .find-spot .ensures) _ _ (c .before .before .page2 .given .1) in
+    let o = spot-new m t row (b4 .find-spot .result) (b4 .find-spot .ensures) _ _ (c .before .before .page2 .given .1) in
     (record { held = g .held; free = g .free; inside = o .inside; begins = o .begins }, (g .plain, g .table))
 
 same-length : tie.Need-same-length
@@ -54,12 +47,14 @@ same-length c = search needs
 
 returns : tie.Need-returns
 returns c =
-    let st = (c .before .before .before .before .before .before .before .before .before .before) in
+    let b5 = c .before .before .before .before .before in
+    let b7 = b5 .before .before in
+    let b10 = b7 .before .before .before in
+    let st = b10 in
     let m : List ℕ = st .args .m .now in
-    let g = st .pre in
     let t : ℕ = st .args .table in
     let row : Row = st .args .row in
-    let o = spot-on m t row (c .before .before .before .before .before .before .before .find-spot .result) (c .before .before .before .before .before .before .before .find-spot .ensures) _ _ _ (c .before .before .before .before .before .page .given .1) in
+    let o = spot-on m t row (b7 .find-spot .result) (b7 .find-spot .ensures) _ _ _ (b5 .page .given .1) in
     turns-to (c .before .before .grow .ensures) (sym (o .places (tupleOf row) (key-is row)))
 
 same-length-2 : tie.Need-same-length-2
@@ -67,12 +62,14 @@ same-length-2 c = search needs
 
 returns-2 : tie.Need-returns-2
 returns-2 c =
-    let st = (c .before .before .before .before .before .before .before .before .before .before) in
+    let b5 = c .before .before .before .before .before in
+    let b7 = b5 .before .before in
+    let b10 = b7 .before .before .before in
+    let st = b10 in
     let m : List ℕ = st .args .m .now in
-    let g = st .pre in
     let t : ℕ = st .args .table in
     let row : Row = st .args .row in
-    let o = spot-new m t row (c .before .before .before .before .before .before .before .find-spot .result) (c .before .before .before .before .before .before .before .find-spot .ensures) _ _ (c .before .before .before .before .before .page2 .given .1) in
+    let o = spot-new m t row (b7 .find-spot .result) (b7 .find-spot .ensures) _ _ (b5 .page2 .given .1) in
     turns-to (c .before .before .add-page .ensures) (sym (o .places (tupleOf row) (key-is row)))
 
 pub place-spec : {M : Type 1} → statement M

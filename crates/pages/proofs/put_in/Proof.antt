@@ -1,17 +1,8 @@
-use Rattle.pages.proofs.Places.{page-end, has-row, ends-at, tuples-many}
-use Rattle.pages.proofs.Swaps.{put-in, taken-out, row-set, marked, dropped, cut-in-two, added, merged, still-there, fresh-page}
-use Rattle.pages.specs.Turns.{Turns, pagesOf, pageAt, tuplesAt, entryAt, startAt, At, swapped}
-use Rattle.memory.specs.declared.Row.{Row}
-use Rattle.memory.specs.declared.Counts.{Counts}
-use Rattle.memory.specs.declared.Entry.{Entry}
-use Rattle.memory.proofs.Refusal.{held-room, held-filled}
-use Rattle.memory.specs.Views.{tab}
-use Rattle.memory.specs.Store.{heldIn, startOf, holdsStore}
-use Rattle.memory.specs.Flat.{Flat, flatOf, entryIn, Room, withEntries, insertAt}
-use lib.ListN.{length, take, drop, set}
-use mathlib.Core.List.{List, [], _∷_, _++_}
-use Prim.Native.Nat.{ℕ, zero, suc, _+_, _*_, _-_, _%_, _≤_, _<_}
-use mathlib.Core.Path.{_≡_, refl, sym, ap, _∙_, subst}
+use Rattle.pages.proofs.Places.{page-end}
+use Rattle.pages.proofs.Swaps.{put-in, still-there}
+use Rattle.memory.proofs.Refusal.{held-room}
+use mathlib.Core.List.{List}
+use Prim.Native.Nat.{ℕ}
 use native.Mathlib.Omega.{arith}
 use borrow.Author.Needs.{needs}
 use Rattle.pages.proofs.put_in.Statement.{statement}
@@ -19,17 +10,18 @@ use Rattle.pages.proofs.put_in.Tie as tie
 
 insert-row-requires : tie.Need-insert-row-requires
 insert-row-requires c κs =
-    let st = (c .before .before) in
+    let st = c .before .before in
     let m : List ℕ = st .args .m .now in
     let g = st .pre .0 in
     (held-room m (g .on .held), (omega (arith, page-end (g .on), g .most), g .free))
 
 put-entry-requires : tie.Need-put-entry-requires
 put-entry-requires c κs =
-    let st = (c .before .before .before .before .before .before) in
-    let m : List ℕ = st .args .m .now in
+    let b3 = c .before .before .before in
+    let b6 = b3 .before .before .before in
+    let st = b6 in
     let g = st .pre .0 in
-    let b = (c .before .before .before .insert-row .ensures) in
+    let b = b3 .insert-row .ensures in
     (b .room, still-there (st .args .p) b (g .on .inside))
 
 same-length : tie.Need-same-length
@@ -37,10 +29,11 @@ same-length c = search needs
 
 returns : tie.Need-returns
 returns c =
-    let st = (c .before .before .before .before .before .before .before .before .before) in
-    let m : List ℕ = st .args .m .now in
+    let b6 = c .before .before .before .before .before .before in
+    let b9 = b6 .before .before .before in
+    let st = b9 in
     let g = st .pre .0 in
-    put-in (g .on) (st .args .at) (st .args .e) (g .least) (st .args .row) (g .most) (st .pre .1) (c .before .before .before .before .before .before .insert-row .ensures) (c .before .before .put-entry .ensures)
+    put-in (g .on) (st .args .at) (st .args .e) (g .least) (st .args .row) (g .most) (st .pre .1) (b6 .insert-row .ensures) (c .before .before .put-entry .ensures)
 
 pub put-in-spec : {M : Type 1} → statement M
 put-in-spec = tie.close (tie.spec insert-row-requires put-entry-requires same-length returns)

@@ -1,13 +1,14 @@
-use Rattle.transactions.proofs.Writing.{nextHead, place-at, accepted-size, accepted-store, counted-opens, next-replaces, at-place}
-use Rattle.memory.proofs.Refusal.{held-room}
-use Rattle.memory.specs.declared.Head.{Head}
-use Rattle.memory.specs.Flat.{Flat, flatOf, Room, Replaces}
-use lib.ListN.{length, getD}
+-- `transactions::accept` meets its contract.
 use mathlib.Core.List.{List}
+use mathlib.Core.Path.{_≡_, sym, ap, _∙_}
+use Prim.Native.Nat.{ℕ}
 use native.Mathlib.Omega.{arith}
-use Prim.Native.Nat.{ℕ, _+_, _≤_, _<_}
-use mathlib.Core.Path.{_≡_, refl, sym, ap, _∙_}
+use lib.ListN.{getD}
 use borrow.Author.Needs.{needs}
+use Rattle.memory.specs.declared.Head.{Head}
+use Rattle.memory.specs.Flat.{flatOf, Room}
+use Rattle.memory.proofs.Refusal.{held-room}
+use Rattle.transactions.proofs.Writing.{place-at, accepted-size, accepted-store, counted-opens, next-replaces, at-place}
 use Rattle.transactions.proofs.accept.Statement.{statement}
 use Rattle.transactions.proofs.accept.Tie as tie
 

@@ -1,5 +1,6 @@
-use Rattle.transactions.proofs.Writing.{bump-full, bump-one}
+-- `transactions::bump` meets its contract.
 use borrow.Author.Needs.{needs}
+use Rattle.transactions.proofs.Writing.{bump-full, bump-one}
 use Rattle.transactions.proofs.bump.Statement.{statement}
 use Rattle.transactions.proofs.bump.Tie as tie
 

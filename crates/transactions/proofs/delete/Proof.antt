@@ -1,11 +1,10 @@
+-- `transactions::delete` meets its contract.
+use mathlib.Core.List.{[]}
+use mathlib.Core.Bool.{true, false}
+use native.Mathlib.Omega.{arith}
+use borrow.Author.Needs.{needs}
 use Rattle.transactions.proofs.Called.{delete-tests, write-refused, write-done}
 use Rattle.transactions.proofs.Testing.{write-accepts}
-use mathlib.Core.List.{List, []}
-use native.Mathlib.Omega.{arith}
-use Prim.Native.Nat.{ℕ}
-use mathlib.Core.Bool.{true, false}
-use mathlib.Core.Path.{_≡_}
-use borrow.Author.Needs.{needs}
 use Rattle.transactions.proofs.delete.Statement.{statement}
 use Rattle.transactions.proofs.delete.Tie as tie
 

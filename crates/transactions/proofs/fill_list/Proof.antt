@@ -1,13 +1,14 @@
-use Rattle.transactions.proofs.Listing.{listed, list-turn, listed-all, list-none}
-use Rattle.memory.specs.declared.Counts.{Counts}
-use Rattle.memory.specs.Flat.{Flat, flatOf}
+-- `transactions::fill_list` meets its contract.
+use mathlib.Core.List.{List, _++_}
+use mathlib.Core.Path.{_≡_, refl, sym, ap, _∙_}
+use Prim.Native.Nat.{ℕ, _*_, _-_, _≤_, _<_}
+use native.Mathlib.Omega.{arith}
 use lib.Seq.{take-all}
 use lib.ListN.{length, take, drop, length-set}
-use mathlib.Core.List.{List, _++_}
 use borrow.Author.Needs.{needs}
-use native.Mathlib.Omega.{arith}
-use Prim.Native.Nat.{ℕ, _+_, _*_, _-_, _/_, _%_, _≤_, _<_}
-use mathlib.Core.Path.{_≡_, refl, sym, ap, _∙_}
+use Rattle.memory.specs.declared.Counts.{Counts}
+use Rattle.memory.specs.Flat.{Flat, flatOf}
+use Rattle.transactions.proofs.Listing.{listed, list-turn, listed-all, list-none}
 use Rattle.transactions.proofs.fill_list.Statement.{statement}
 use Rattle.transactions.proofs.fill_list.Tie as tie
 

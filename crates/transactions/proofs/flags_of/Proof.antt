@@ -1,5 +1,6 @@
-use Rattle.transactions.specs.Writes.{flagsOf}
+-- `transactions::flags_of` meets its contract.
 use mathlib.Core.Path.{sym, ap}
+use Rattle.transactions.specs.Writes.{flagsOf}
 use Rattle.transactions.proofs.flags_of.Statement.{statement}
 use Rattle.transactions.proofs.flags_of.Tie as tie
 

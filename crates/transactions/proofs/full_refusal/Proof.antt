@@ -1,12 +1,13 @@
-use Rattle.transactions.proofs.Testing.{full-15, full-16, full-none}
-use Rattle.memory.proofs.Refusal.{held-room, held-filled}
+-- `transactions::full_refusal` meets its contract.
+use mathlib.Core.List.{List}
+use mathlib.Core.Path.{sym, ap, _∙_}
+use Prim.Native.Nat.{ℕ}
+use native.Mathlib.Omega.{arith}
 use Rattle.memory.specs.declared.Head.{Head}
 use Rattle.memory.specs.declared.Counts.{Counts}
-use Rattle.memory.specs.Flat.{Flat, flatOf, Room}
-use mathlib.Core.List.{List}
-use native.Mathlib.Omega.{arith}
-use Prim.Native.Nat.{ℕ, _≤_, _<_}
-use mathlib.Core.Path.{_≡_, refl, sym, ap, _∙_}
+use Rattle.memory.specs.Flat.{flatOf, Room}
+use Rattle.memory.proofs.Refusal.{held-room, held-filled}
+use Rattle.transactions.proofs.Testing.{full-15, full-16, full-none}
 use Rattle.transactions.proofs.full_refusal.Statement.{statement}
 use Rattle.transactions.proofs.full_refusal.Tie as tie
 

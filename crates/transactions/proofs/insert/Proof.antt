@@ -1,11 +1,11 @@
+-- `transactions::insert` meets its contract.
+use mathlib.Core.List.{List}
+use mathlib.Core.Bool.{true, false}
+use Prim.Native.Nat.{ℕ}
+use native.Mathlib.Omega.{arith}
+use borrow.Author.Needs.{needs}
 use Rattle.transactions.proofs.Called.{insert-tests, write-refused, write-done}
 use Rattle.transactions.proofs.Testing.{write-accepts}
-use mathlib.Core.List.{List}
-use native.Mathlib.Omega.{arith}
-use Prim.Native.Nat.{ℕ}
-use mathlib.Core.Bool.{true, false}
-use mathlib.Core.Path.{_≡_}
-use borrow.Author.Needs.{needs}
 use Rattle.transactions.proofs.insert.Statement.{statement}
 use Rattle.transactions.proofs.insert.Tie as tie
 

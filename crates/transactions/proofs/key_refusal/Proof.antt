@@ -1,9 +1,10 @@
-use Rattle.transactions.proofs.Testing.{key-13, key-new, key-14, key-seen}
-use Rattle.transactions.specs.Refusals.{keyVerdict}
-use Rattle.memory.specs.Flat.{Flat, flatOf}
+-- `transactions::key_refusal` meets its contract.
 use mathlib.Core.Bool.{Bool}
-use mathlib.Core.Path.{_≡_, refl, sym, ap, _∙_}
+use mathlib.Core.Path.{sym, ap, _∙_}
 use borrow.Author.Needs.{needs}
+use Rattle.memory.specs.Flat.{Flat, flatOf}
+use Rattle.transactions.specs.Refusals.{keyVerdict}
+use Rattle.transactions.proofs.Testing.{key-13, key-new, key-14, key-seen}
 use Rattle.transactions.proofs.key_refusal.Statement.{statement}
 use Rattle.transactions.proofs.key_refusal.Tie as tie
 

@@ -1,11 +1,10 @@
-use Rattle.transactions.proofs.Making.{made-refused, made-done, make-odd, make-few, make-many, make-none, make-large, make-short, make-done, image-made}
-use Rattle.model.specs.Recover.{freshStore}
+-- `transactions::make` meets its contract.
+use mathlib.Core.Path.{refl}
+use Prim.Native.Nat.{ℕ, _/_}
 use lib.ListN.{length}
-use mathlib.Core.List.{List}
-use native.Mathlib.Omega.{arith}
-use Prim.Native.Nat.{ℕ, _+_, _*_, _/_, _≤_, _<_}
-use mathlib.Core.Path.{_≡_, refl, sym, ap, _∙_}
 use borrow.Author.Needs.{needs}
+use Rattle.model.specs.Recover.{freshStore}
+use Rattle.transactions.proofs.Making.{made-refused, made-done, make-odd, make-few, make-many, make-none, make-large, make-short, make-done, image-made}
 use Rattle.transactions.proofs.make.Statement.{statement}
 use Rattle.transactions.proofs.make.Tie as tie
 

@@ -1,6 +1,7 @@
-use Rattle.transactions.proofs.Writing.{row-new}
+-- `transactions::new_row` meets its contract.
 use mathlib.Core.Path.{refl}
 use borrow.Author.Needs.{needs}
+use Rattle.transactions.proofs.Writing.{row-new}
 use Rattle.transactions.proofs.new_row.Statement.{statement}
 use Rattle.transactions.proofs.new_row.Tie as tie
 

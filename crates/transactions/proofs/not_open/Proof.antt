@@ -1,17 +1,17 @@
-use Rattle.transactions.proofs.Verdicts.{verdict-4, verdict-in, stop-6, stop-7, none-7}
-use Rattle.memory.proofs.Refusal.{held-room}
+-- `transactions::not_open` meets its contract.
+use mathlib.Core.List.{List}
+use mathlib.Core.Bool.{true}
+use mathlib.Core.Path.{_≡_, sym, ap, _∙_}
+use Prim.Native.Nat.{ℕ}
+use native.Mathlib.Omega.{arith}
+use borrow.Author.Tests.{not-true, not-false}
+use borrow.Author.Needs.{needs}
+use Rattle.model.specs.Transactions.{notOpen}
 use Rattle.memory.specs.declared.Counts.{Counts}
 use Rattle.memory.specs.Store.{holdsStore}
-use Rattle.memory.specs.Flat.{Flat, flatOf, Room}
-use Rattle.model.specs.Transactions.{notOpen}
-use borrow.Author.Tests.{not-true, not-false}
-use lib.ListN.{length}
-use mathlib.Core.List.{List}
-use native.Mathlib.Omega.{arith}
-use Prim.Native.Nat.{ℕ, _≤_, _<_}
-use mathlib.Core.Bool.{true, false}
-use mathlib.Core.Path.{_≡_, refl, sym, ap, _∙_}
-use borrow.Author.Needs.{needs}
+use Rattle.memory.specs.Flat.{flatOf, Room}
+use Rattle.memory.proofs.Refusal.{held-room}
+use Rattle.transactions.proofs.Verdicts.{verdict-4, verdict-in, stop-6, stop-7, none-7}
 use Rattle.transactions.proofs.not_open.Statement.{statement}
 use Rattle.transactions.proofs.not_open.Tie as tie
 

@@ -1,19 +1,18 @@
-use Rattle.transactions.proofs.Opening.{open-6, open-8, open-9, open-done}
-use Rattle.transactions.proofs.Answering.{answers-4, answers-refused, answers-done}
-use Rattle.memory.proofs.Meaning.{in-next}
-use Rattle.memory.proofs.Refusal.{held-room, held-filled}
+-- `transactions::open` meets its contract.
+use mathlib.Core.List.{List, [], _∷_, _++_}
+use mathlib.Core.Bool.{true}
+use mathlib.Core.Path.{_≡_, sym, ap, _∙_}
+use Prim.Native.Nat.{ℕ, _*_}
+use native.Mathlib.Omega.{arith}
+use borrow.Author.Tests.{not-true, not-false}
+use borrow.Author.Needs.{needs}
 use Rattle.memory.specs.declared.Counts.{Counts}
 use Rattle.memory.specs.Store.{holdsStore, storeOf}
 use Rattle.memory.specs.Flat.{Flat, flatOf, Room, withOpens}
-use Rattle.model.specs.Transactions.{openCall}
-use borrow.Author.Tests.{not-true, not-false}
-use lib.ListN.{length}
-use mathlib.Core.List.{List, [], _∷_, _++_}
-use native.Mathlib.Omega.{arith}
-use Prim.Native.Nat.{ℕ, _*_, _≤_, _<_}
-use mathlib.Core.Bool.{true, false}
-use mathlib.Core.Path.{_≡_, refl, sym, ap, _∙_}
-use borrow.Author.Needs.{needs}
+use Rattle.memory.proofs.Meaning.{in-next}
+use Rattle.memory.proofs.Refusal.{held-room, held-filled}
+use Rattle.transactions.proofs.Opening.{open-6, open-8, open-9, open-done}
+use Rattle.answers.proofs.Answering.{answers-4, answers-refused, answers-done}
 use Rattle.transactions.proofs.open.Statement.{statement}
 use Rattle.transactions.proofs.open.Tie as tie
 

@@ -1,17 +1,18 @@
+-- `transactions::read` meets its contract.
+use mathlib.Core.List.{List, _++_}
+use mathlib.Core.Bool.{true}
+use mathlib.Core.Path.{_≡_, ap, _∙_}
+use Prim.Native.Nat.{ℕ}
+use native.Mathlib.Omega.{arith}
+use lib.ListN.{length, drop}
+use borrow.Author.Needs.{needs}
+use Rattle.model.specs.Transactions.{notOpen, readCall}
+use Rattle.memory.specs.Store.{heldIn, holdsStore}
+use Rattle.memory.specs.Flat.{flatOf}
+use Rattle.memory.proofs.Refusal.{held-room}
 use Rattle.transactions.proofs.Reading.{readAfter, read-tests, read-10, read-14, seen-in, read-21, read-done}
 use Rattle.transactions.proofs.Verdicts.{passed-held, call-after, replies-stopped, open-numbered}
-use Rattle.transactions.proofs.Answering.{replies-refused, replies-filled}
-use Rattle.memory.proofs.Refusal.{held-room}
-use Rattle.memory.specs.Store.{heldIn, holdsStore}
-use Rattle.memory.specs.Flat.{Flat, flatOf, Room}
-use Rattle.model.specs.Transactions.{notOpen, readCall}
-use lib.ListN.{length, drop}
-use mathlib.Core.List.{List, _++_}
-use native.Mathlib.Omega.{arith}
-use Prim.Native.Nat.{ℕ, _≤_, _<_}
-use mathlib.Core.Bool.{true}
-use mathlib.Core.Path.{_≡_, refl, sym, ap, _∙_}
-use borrow.Author.Needs.{needs}
+use Rattle.answers.proofs.Answering.{replies-refused, replies-filled}
 use Rattle.transactions.proofs.read.Statement.{statement}
 use Rattle.transactions.proofs.read.Tie as tie
 

@@ -1,9 +1,9 @@
+-- `transactions::write_refusal` meets its contract.
+use borrow.Author.Needs.{needs}
+use Rattle.model.specs.Transactions.{notOpen}
+use Rattle.memory.proofs.Refusal.{held-room}
 use Rattle.transactions.proofs.Testing.{write-stopped, write-10, write-11, write-12, write-key, write-full}
 use Rattle.transactions.proofs.Verdicts.{passed-held}
-use Rattle.memory.proofs.Refusal.{held-room}
-use Rattle.model.specs.Transactions.{notOpen}
-use mathlib.Core.Path.{_≡_, refl, sym, ap, _∙_}
-use borrow.Author.Needs.{needs}
 use Rattle.transactions.proofs.write_refusal.Statement.{statement}
 use Rattle.transactions.proofs.write_refusal.Tie as tie
 
