@@ -185,7 +185,7 @@ loop-again c =
     let small = held-small m (st .pre .0) (l .i) (omega (arith, st .pre .1)) in
     let es = c .before .tuple-size .ensures in
     let q : lead (st .args .whole) (l .all + heldSize (heldIn (flatOf m) (l .i))) (tab (heldIn (flatOf m)) (l .i + 1) (end - (l .i + 1))) ≡ lead (st .args .whole) (l .all + (c .before .tuple-size .result)) (tab (heldIn (flatOf m)) (l .i + 1) (end - (l .i + 1))) =
-    ap (λ (z : ℕ). lead (st .args .whole) (l .all + z) (tab (heldIn (flatOf m)) (l .i + 1) (end - (l .i + 1)))) (sym es) in
+    ap (λ (z : ℕ). lead (st .args .whole) (l .all + z) (tab (heldIn (flatOf m)) (l .i + 1) (end - (l .i + 1)))) (sym (es .0)) in
     (omega arith, (omega arith, (omega arith, omega (arith, q, l .inv .1 .1 .1, lead-go (heldIn (flatOf m)) (l .i) end (st .args .whole) (l .all) lt (omega (arith, (c .if1 .left)))))))
 
 returns-2 : tie.Need-returns-2 Inv-loop μ-loop
