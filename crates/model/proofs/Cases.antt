@@ -12,6 +12,7 @@ cases-hold = record {
   splits = refl;
   joins-336 = refl;
   joins-337 = refl;
+  commit-alone = refl;
   frozen-nineteen = refl;
   thawed = refl;
   stores-336 = refl;

@@ -22,7 +22,7 @@ use Rattle.model.specs.Rules.{heldSize, fresh, calm, joins, rules}
 use Rattle.model.specs.Sight.{held, rows, isForeign, versions, seenOf, seen}
 use Rattle.model.specs.Transactions.{gives, unless, changed, openCall, notOpen, noTable, tooLong, foreign, present, unseen, full, newTuple, written, insertCall, replaceCall, deleteCall, readSeen, readCall, listing, listCall, perform, isRow, removeAll, planKey, ownAt, planRows, plan, openNumbers, isFor, writtenBy, withWrite, without, commitCall, abortCall}
 use Rattle.model.specs.Checkpoint.{stored as storedStore, isFree, allocate, freeCount, usedToo, isRunning, blocksNeeded, beginCall, leftOf, left, made, fill, storable, storePage, storeDirectory, headerFor, storeHeader, stepOf, stepAt, badImage, stepCall, inTurn, runCall}
-use Rattle.model.specs.Calls.{Call, opens, inserts, replaces, deletes, commits, reads, lists, begins, steps, runs, call, isBegin, others, withWriter, writers, accepted, afterCalls, hadWritten}
+use Rattle.model.specs.Calls.{Call, opens, inserts, replaces, deletes, commits, aborts, reads, lists, begins, steps, runs, call, isBegin, others, withWriter, writers, accepted, afterCalls, hadWritten}
 use Rattle.model.specs.Recover.{memoryFor, putBlock, imageAfter, freshStore, make, madeImage, loaded, reopened, recoveredStore, recoverPages, recoverBelow, recover}
 use Rattle.model.specs.QuotedLine.{Logged, tag, log, isHeader, landed, stored, content}
 
@@ -80,6 +80,10 @@ clean p =
 unfoldable pub booking : List Call
 booking = opens 5 ∷ inserts 5 0 7 (0x41 ∷ 0x42 ∷ []) ∷ begins ∷ runs 9 8192 ∷ []
 
+-- 39 tuples of 13 bytes; two of the first page are removed, and then the others are committed: two pages of 9 bytes a tuple
+unfoldable pub committedPages : List Call
+committedPages = opens 6 ∷ inserts 6 0 0 [] ∷ inserts 6 0 1 [] ∷ (many 2 37 0 ++ (aborts 6 ∷ commits 5 ∷ []))
+
 -- open 5, insert table 0, key 7, payload 41 42; read it; list
 unfoldable pub reading : List Call
 reading = opens 5 ∷ inserts 5 0 7 (0x41 ∷ 0x42 ∷ []) ∷ reads 5 0 7 9 ∷ lists 9 ∷ []
@@ -106,6 +110,8 @@ pub record Cases : Type 0 where
   -- sum 336 joins, 337 does not
   pub joins-336 : joins (pageOf 3 0) (pageOf 3 0) ≡ true
   pub joins-337 : joins (pageOf 3 0) (pageOf 3 1) ≡ false
+  -- direct commit never joins, though the sum is 333 then
+  pub commit-alone : after5 committedPages ≡ (18, 162) ∷ (19, 171) ∷ []
   -- frozen nine, ten more pending: 1,007 at thaw, pages of 5, 5, 9
   pub frozen-nineteen : after5 (many 10 9 40 ++ (begins ∷ many 20 10 40)) ≡ (19, 1007) ∷ []
   pub thawed : after5 (many 10 9 40 ++ (begins ∷ many 20 10 40 ++ (steps 8192 ∷ []))) ≡ (5, 265) ∷ (5, 265) ∷ (9, 477) ∷ []
@@ -254,5 +260,5 @@ pub record Cuts : Type 0 where
 
 -- opens all that the cases compute with: `unfolding cases`
 unfoldable pub cases : ℕ
-unfolding basics bitsOf numberOf bitsIn field num4 same isTentative ownerSize size spell bytesOf filledUp blockOf committedBit markBit ownerFields payloadFields recordFields recordsFields entryFields encodeBlock kind spelledBy readHeader headerIn readOwner readTuple taken whole readTuples pageTable pageCount pageLevel pageOfBytes pageIn readEntries directoryCount directoryLevel directoryIn decodeBlock rowRules blockAt blockCount view wholeBlocks blockOk isZero directoriesFor directoryBlocks unusedNumbers headerOk headerTest addEntries readDirectories entriesOk testedEntries directoryTest pageOk addPage readPages rowsOfPages testedPages pageTest headerStage pagesBelow pagesStage rules held rows isForeign versions seenOf seen gives unless changed openCall notOpen noTable tooLong foreign present unseen full newTuple written insertCall replaceCall deleteCall readSeen readCall listing listCall perform isRow removeAll planKey ownAt planRows plan openNumbers isFor writtenBy withWrite without others commitCall abortCall storedStore isFree allocate freeCount usedToo isRunning blocksNeeded beginCall leftOf left made fill storable storePage storeDirectory headerFor storeHeader stepOf stepAt badImage stepCall inTurn runCall call isBegin withWriter writers accepted afterCalls hadWritten memoryFor putBlock freshStore make madeImage loaded reopened recoveredStore recoverPages recoverBelow recover tag log isHeader landed stored content answers writes shape many after5 tuple pageOf clean booking reading spells firstOf imageAfter shapeOf recoveredAfter places splitMeanwhile commitMeanwhile committedLate threeTimes oneAgain bothFrozen ownerNumbers tupleNumbers heldNumbers pageNumbers agrees recoversTo tears cutHere cutEverywhere script scriptLog
+unfolding basics bitsOf numberOf bitsIn field num4 same isTentative ownerSize size spell bytesOf filledUp blockOf committedBit markBit ownerFields payloadFields recordFields recordsFields entryFields encodeBlock kind spelledBy readHeader headerIn readOwner readTuple taken whole readTuples pageTable pageCount pageLevel pageOfBytes pageIn readEntries directoryCount directoryLevel directoryIn decodeBlock rowRules blockAt blockCount view wholeBlocks blockOk isZero directoriesFor directoryBlocks unusedNumbers headerOk headerTest addEntries readDirectories entriesOk testedEntries directoryTest pageOk addPage readPages rowsOfPages testedPages pageTest headerStage pagesBelow pagesStage rules held rows isForeign versions seenOf seen gives unless changed openCall notOpen noTable tooLong foreign present unseen full newTuple written insertCall replaceCall deleteCall readSeen readCall listing listCall perform isRow removeAll planKey ownAt planRows plan openNumbers isFor writtenBy withWrite without others commitCall abortCall storedStore isFree allocate freeCount usedToo isRunning blocksNeeded beginCall leftOf left made fill storable storePage storeDirectory headerFor storeHeader stepOf stepAt badImage stepCall inTurn runCall call isBegin withWriter writers accepted afterCalls hadWritten memoryFor putBlock freshStore make madeImage loaded reopened recoveredStore recoverPages recoverBelow recover tag log isHeader landed stored content answers writes shape many after5 tuple pageOf clean booking committedPages reading spells firstOf imageAfter shapeOf recoveredAfter places splitMeanwhile commitMeanwhile committedLate threeTimes oneAgain bothFrozen ownerNumbers tupleNumbers heldNumbers pageNumbers agrees recoversTo tears cutHere cutEverywhere script scriptLog
 cases = 0
