@@ -1,3 +1,4 @@
 pub mod Refused
 pub mod Follows
 pub mod Line
+pub mod Signed

@@ -1,1 +1,2 @@
 pub mod QuotedLine
+pub mod Code
