@@ -1,8 +1,77 @@
-// The booking store.
+// The booking store: every call, for Rattle and for C. No call asks anything of its caller. What the contracts promise together, for every
+// list of calls and wherever power fails, is the theorem of specs/QuotedLine, which names the relations that they cite.
 use answers::Answer;
 ghost use mathlib.Core.Path.{_≡_};
 ghost use lib.IntN.{pos};
-ghost use Rattle.store.specs.Code.{whole, code};
+ghost use lib.ListN.{length};
+ghost use Rattle.model.specs.Transactions.{openCall, insertCall, replaceCall, deleteCall, commitCall, abortCall, readCall};
+ghost use Rattle.answers.specs.Shape.{Answers, Replies, Lists, Made};
+ghost use Rattle.store.specs.Code.{whole, code, Coded};
+
+// An empty store, in image and memory.
+pub fn make(image: &mut [u8], m: &mut [u8], capacity: u64) -> Answer
+    ensures { λ r. ⌜ Made capacity (now (image .entry)) (now (m .entry)) r (now (image .exit)) (now (m .exit)) ⌝ }
+{
+    transactions::make(image, m, capacity)
+}
+
+// A transaction opens.
+pub fn open(m: &mut [u8], transaction: u64) -> Answer
+    ensures { λ r. ⌜ Answers (openCall transaction) (now (m .entry)) r (now (m .exit)) ⌝ }
+{
+    transactions::open(m, transaction)
+}
+
+// A tuple of a new key.
+pub fn insert(m: &mut [u8], transaction: u64, table: u64, key: u32, payload: &[u8]) -> Answer
+    ensures { λ r. ⌜ Answers (insertCall transaction table key (now (payload .entry))) (now (m .entry)) r (now (m .exit)) ⌝ }
+{
+    transactions::insert(m, transaction, table, key, payload)
+}
+
+// Another payload for a key.
+pub fn replace(m: &mut [u8], transaction: u64, table: u64, key: u32, payload: &[u8]) -> Answer
+    ensures { λ r. ⌜ Answers (replaceCall transaction table key (now (payload .entry))) (now (m .entry)) r (now (m .exit)) ⌝ }
+{
+    transactions::replace(m, transaction, table, key, payload)
+}
+
+// A key goes.
+pub fn delete(m: &mut [u8], transaction: u64, table: u64, key: u32) -> Answer
+    ensures { λ r. ⌜ Answers (deleteCall transaction table key) (now (m .entry)) r (now (m .exit)) ⌝ }
+{
+    transactions::delete(m, transaction, table, key)
+}
+
+// What the transaction wrote is seen by all.
+pub fn commit(m: &mut [u8], transaction: u64) -> Answer
+    ensures { λ r. ⌜ Answers (commitCall transaction) (now (m .entry)) r (now (m .exit)) ⌝ }
+{
+    transactions::commit(m, transaction)
+}
+
+// What the transaction wrote is gone.
+pub fn abort(m: &mut [u8], transaction: u64) -> Answer
+    ensures { λ r. ⌜ Answers (abortCall transaction) (now (m .entry)) r (now (m .exit)) ⌝ }
+{
+    transactions::abort(m, transaction)
+}
+
+// The payload of a key, over the first bytes of the reply.
+pub fn read(m: &[u8], transaction: u64, table: u64, key: u32, reply: &mut [u8]) -> Answer
+    ensures { λ r. ⌜ Replies (readCall transaction table key (length (now (reply .entry)))) (now (m .entry)) r (now (reply .entry)) (now (reply .exit)) ⌝ }
+{
+    transactions::read(m, transaction, table, key, reply)
+}
+
+// The open transactions, over the first bytes of the reply.
+pub fn list(m: &[u8], reply: &mut [u8]) -> Answer
+    ensures { λ r. ⌜ Lists (now (m .entry)) r (now (reply .entry)) (now (reply .exit)) ⌝ }
+{
+    transactions::list(m, reply)
+}
+
+// ---- for C
 
 // As far as 64 bits with a sign go.
 fn whole(n: u64) -> i64
@@ -24,4 +93,67 @@ fn code(a: Answer) -> i64
         Answer::Filled(n) => whole(n as u64),
         Answer::Refused(n) => -whole(n),
     }
+}
+
+#[no_mangle]
+pub extern "C" fn vodzanu_make(image: &mut [u8], memory: &mut [u8], capacity: u64) -> i64
+    ensures { λ r. ⌜ Coded r (λ a. Made capacity (now (image .entry)) (now (memory .entry)) a (now (image .exit)) (now (memory .exit))) ⌝ }
+{
+    code(make(image, memory, capacity))
+}
+
+#[no_mangle]
+pub extern "C" fn vodzanu_open(memory: &mut [u8], transaction: u64) -> i64
+    ensures { λ r. ⌜ Coded r (λ a. Answers (openCall transaction) (now (memory .entry)) a (now (memory .exit))) ⌝ }
+{
+    code(open(memory, transaction))
+}
+
+#[no_mangle]
+pub extern "C" fn vodzanu_insert(memory: &mut [u8], transaction: u64, table: u64, key: u32, payload: &[u8]) -> i64
+    ensures { λ r. ⌜ Coded r (λ a. Answers (insertCall transaction table key (now (payload .entry))) (now (memory .entry)) a (now (memory .exit))) ⌝ }
+{
+    code(insert(memory, transaction, table, key, payload))
+}
+
+#[no_mangle]
+pub extern "C" fn vodzanu_replace(memory: &mut [u8], transaction: u64, table: u64, key: u32, payload: &[u8]) -> i64
+    ensures { λ r. ⌜ Coded r (λ a. Answers (replaceCall transaction table key (now (payload .entry))) (now (memory .entry)) a (now (memory .exit))) ⌝ }
+{
+    code(replace(memory, transaction, table, key, payload))
+}
+
+#[no_mangle]
+pub extern "C" fn vodzanu_delete(memory: &mut [u8], transaction: u64, table: u64, key: u32) -> i64
+    ensures { λ r. ⌜ Coded r (λ a. Answers (deleteCall transaction table key) (now (memory .entry)) a (now (memory .exit))) ⌝ }
+{
+    code(delete(memory, transaction, table, key))
+}
+
+#[no_mangle]
+pub extern "C" fn vodzanu_commit(memory: &mut [u8], transaction: u64) -> i64
+    ensures { λ r. ⌜ Coded r (λ a. Answers (commitCall transaction) (now (memory .entry)) a (now (memory .exit))) ⌝ }
+{
+    code(commit(memory, transaction))
+}
+
+#[no_mangle]
+pub extern "C" fn vodzanu_abort(memory: &mut [u8], transaction: u64) -> i64
+    ensures { λ r. ⌜ Coded r (λ a. Answers (abortCall transaction) (now (memory .entry)) a (now (memory .exit))) ⌝ }
+{
+    code(abort(memory, transaction))
+}
+
+#[no_mangle]
+pub extern "C" fn vodzanu_read(memory: &[u8], transaction: u64, table: u64, key: u32, reply: &mut [u8]) -> i64
+    ensures { λ r. ⌜ Coded r (λ a. Replies (readCall transaction table key (length (now (reply .entry)))) (now (memory .entry)) a (now (reply .entry)) (now (reply .exit))) ⌝ }
+{
+    code(read(memory, transaction, table, key, reply))
+}
+
+#[no_mangle]
+pub extern "C" fn vodzanu_list(memory: &[u8], reply: &mut [u8]) -> i64
+    ensures { λ r. ⌜ Coded r (λ a. Lists (now (memory .entry)) a (now (reply .entry)) (now (reply .exit))) ⌝ }
+{
+    code(list(memory, reply))
 }
