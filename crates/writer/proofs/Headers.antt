@@ -1,33 +1,14 @@
 -- The header to come, from what the memory holds.
-use mathlib.Core.Path.{_≡_, refl, sym, ap, _∙_}
-use Prim.Native.Nat.{ℕ, zero, suc, _+_, _%_, _≤_, _<_}
+use mathlib.Core.Path.{_≡_, sym, ap, _∙_}
+use Prim.Native.Nat.{ℕ, suc, _+_}
 use native.Mathlib.Omega.{arith}
-use mathlib.Core.List.{List, [], _∷_, map}
-use lib.ListN.{length, getD, length-map}
-use Rattle.blocks.specs.declared.Header.{Header}
+use lib.ListN.{length, getD}
 use Rattle.model.specs.Checkpoint.{headerFor}
 use Rattle.memory.specs.Flat.{Flat, countsOf}
 use Rattle.memory.specs.Store.{blocksOf, storeOf}
 use Rattle.memory.specs.declared.Head.{Head}
 use Rattle.memory.specs.declared.Counts.{Counts}
-
-pub blocks-length : (ns : List ℕ) → length (blocksOf ns) ≡ length ns
-unfolding blocksOf
-blocks-length ns = length-map ns (λ n. n % 4096)
-
--- a block number is taken modulo 4,096
-pub blocks-at : (ns : List ℕ) (i : ℕ) → i < length ns → getD ns i 0 % 4096 ≡ getD (blocksOf ns) i 0
-unfolding blocksOf
-blocks-at [] i h = absurd (omega arith)
-blocks-at (n ∷ ns) zero h = refl
-blocks-at (n ∷ ns) (suc i) h = blocks-at ns i (omega arith)
-
--- past the end there is none
-pub blocks-past : (ns : List ℕ) (i : ℕ) → length ns ≤ i → 0 ≡ getD (blocksOf ns) i 0
-unfolding blocksOf
-blocks-past [] i h = refl
-blocks-past (n ∷ ns) zero h = absurd (omega arith)
-blocks-past (n ∷ ns) (suc i) h = blocks-past ns i (omega arith)
+use Rattle.writer.proofs.Numbered.{blocks-length}
 
 -- the header, field by field
 pub header-is : (f : Flat) (h : Head) (c : Counts) (d0 d1 d2 d3 : ℕ) → h ≡ f .head → c ≡ countsOf f

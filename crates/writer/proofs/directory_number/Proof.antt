@@ -1,13 +1,13 @@
 -- `writer::directory_number` meets its contract.
-use mathlib.Core.Path.{_≡_, sym, ap, _∙_}
+use mathlib.Core.Path.{ap, _∙_}
 use mathlib.Core.List.{List}
-use Prim.Native.Nat.{ℕ, _%_, _≤_, _<_}
+use Prim.Native.Nat.{ℕ, _%_, _<_}
 use native.Mathlib.Omega.{arith}
 use lib.ListN.{length}
 use borrow.Author.Needs.{needs}
 use Rattle.memory.specs.Flat.{flatOf}
 use Rattle.memory.specs.declared.Counts.{Counts}
-use Rattle.writer.proofs.Headers.{blocks-at, blocks-past}
+use Rattle.writer.proofs.Numbered.{blocks-at, blocks-past}
 use Rattle.writer.proofs.directory_number.Statement.{statement}
 use Rattle.writer.proofs.directory_number.Tie as tie
 
