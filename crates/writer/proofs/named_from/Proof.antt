@@ -1,11 +1,11 @@
 -- `writer::named_from` meets its contract.
-use Rattle.writer.proofs.Numbered.{entries-turn}
+use mathlib.Core.Path.{_≡_, refl}
+use Prim.Native.Nat.{_-_, _≤_}
+use native.Mathlib.Omega.{arith}
+use lib.ListN.{length, take, drop, length-set}
 use Rattle.memory.specs.Store.{blocksOf}
 use Rattle.memory.specs.Flat.{flatOf}
-use lib.ListN.{length, take, drop, length-set}
-use native.Mathlib.Omega.{arith}
-use Prim.Native.Nat.{_-_, _≤_}
-use mathlib.Core.Path.{_≡_, refl}
+use Rattle.writer.proofs.Numbered.{entries-turn}
 use Rattle.writer.proofs.named_from.Statement.{statement}
 use Rattle.writer.proofs.named_from.Tie as tie
 

@@ -5,12 +5,12 @@ use mathlib.Core.List.{List}
 use Prim.Native.Nat.{ℕ, _*_, _-_}
 use native.Mathlib.Omega.{arith}
 use lib.ListN.{length, take, length-take}
+use borrow.Author.Needs.{needs}
 use Rattle.blocks.specs.Limits.{entriesPerBlock}
 use Rattle.blocks.specs.Block.{directory, encodeBlock}
 use Rattle.memory.specs.Flat.{flatOf}
 use Rattle.memory.specs.declared.Counts.{Counts}
 use Rattle.writer.proofs.Numbered.{Run, run-full, run-last}
-use borrow.Author.Needs.{needs}
 use Rattle.writer.proofs.write_directory.Statement.{statement}
 use Rattle.writer.proofs.write_directory.Tie as tie
 use Rattle.writer.proofs.write_directory.Reads as reads

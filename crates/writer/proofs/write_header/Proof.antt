@@ -1,12 +1,12 @@
 -- `writer::write_header` meets its contract.
 use mathlib.Core.Path.{ap, _∙_}
 use native.Mathlib.Omega.{arith}
+use borrow.Author.Needs.{needs}
 use Rattle.blocks.specs.Block.{header, encodeBlock}
 use Rattle.blocks.specs.declared.Header.{Header}
 use Rattle.memory.specs.Flat.{flatOf}
 use Rattle.memory.specs.declared.Head.{Head}
 use Rattle.writer.proofs.Headers.{header-is}
-use borrow.Author.Needs.{needs}
 use Rattle.writer.proofs.write_header.Statement.{statement}
 use Rattle.writer.proofs.write_header.Tie as tie
 
