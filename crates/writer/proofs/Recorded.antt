@@ -41,17 +41,18 @@ pub part-short : (m : List ℕ) {i : ℕ} {p : Part} → Room m × (i < length (
 unfolding heldOf
 part-short m {i} h holds = omega (arith, holds .count, tuple-length (rowIn (flatOf m) i) (payload-long m (h .0) i (h .1)))
 
-pub row-spells : (m : List ℕ) (x : Row) (p : Part) (k n f w : ℕ) → Holds m p (heldOf x .tuple .payload) → p .len ≤ payloadLimit
-    → k ≡ x .key → n ≡ x .number → f ≡ x .flags → w ≡ x .owner
-    → Spells m (record { key = k; number = n; flags = ninth f (p .len); owner = w; start = p .start; len = p .len }) (heldOf x .tuple)
+pub row-spells : (m : List ℕ) (x : Row) (p : Part) (k n f b w : ℕ) → Holds m p (heldOf x .tuple .payload) → p .len ≤ payloadLimit
+    → k ≡ x .key → n ≡ x .number → f ≡ x .flags → b ≡ ninth f (p .len) → w ≡ x .owner
+    → Spells m (record { key = k; number = n; flags = b; owner = w; start = p .start; len = p .len }) (heldOf x .tuple)
 unfolding bytes.tupleOf heldOf tupleOf tupleBy
-row-spells m x p k n f w holds short ek en ef ew =
-    let o : readOwner (ninth f (p .len)) w ≡ ownerOf (x .flags % 2) (x .owner) =
-    ninth-owner f (p .len) short w ∙ ap (λ (z : ℕ). ownerOf (z % 2) w) ef ∙ ap (ownerOf (x .flags % 2)) ew in
-    let b : leb 64 (ninth f (p .len) % 128) ≡ eqb (x .flags / 2 % 2) 1 = ninth-mark f (p .len) short ∙ ap (λ (z : ℕ). eqb (z / 2 % 2) 1) ef in
+row-spells m x p k n f b w holds short ek en ef eb ew =
+    let o : readOwner b w ≡ ownerOf (x .flags % 2) (x .owner) =
+    ap (λ (z : ℕ). readOwner z w) eb ∙ ninth-owner f (p .len) short w ∙ ap (λ (z : ℕ). ownerOf (z % 2) w) ef ∙ ap (ownerOf (x .flags % 2)) ew in
+    let d : leb 64 (b % 128) ≡ eqb (x .flags / 2 % 2) 1 =
+    ap (λ (z : ℕ). leb 64 (z % 128)) eb ∙ ninth-mark f (p .len) short ∙ ap (λ (z : ℕ). eqb (z / 2 % 2) 1) ef in
     record {
       inside = holds .inside;
       byte = omega arith;
       count = omega arith;
-      tuple = λ i. record { key = ek i; number = en i; owner = o i; mark = b i; payload = holds .here i };
+      tuple = λ i. record { key = ek i; number = en i; owner = o i; mark = d i; payload = holds .here i };
     }

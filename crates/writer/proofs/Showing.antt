@@ -21,9 +21,9 @@ use Rattle.memory.proofs.Flags.{adding-is}
 use Rattle.writer.specs.Shown.{Stores}
 
 -- a row is shown unless its flags say 1, a pending add
-pub shown-flag : (r : Row) (f : ℕ) → f ≡ r .flags → not (eqb (f / 4 % 4) 1) ≡ not (isAdding (heldOf r .pending))
+pub shown-flag : (r : Row) (k : ℕ) → k ≡ r .flags / 4 % 4 → not (eqb k 1) ≡ not (isAdding (heldOf r .pending))
 unfolding heldOf
-shown-flag r f e = ap (λ (z : ℕ). not (eqb (z / 4 % 4) 1)) e ∙ ap not (sym (adding-is (r .flags / 4 % 4) (omega arith)))
+shown-flag r k e = ap (λ (z : ℕ). not (eqb z 1)) e ∙ ap not (sym (adding-is (r .flags / 4 % 4) (omega arith)))
 
 -- ---- one row more: i the next place, n the end
 

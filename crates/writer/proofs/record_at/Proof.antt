@@ -1,4 +1,6 @@
 -- `writer::record_at` meets its contract.
+use mathlib.Core.List.{List}
+use Prim.Native.Nat.{ℕ}
 use native.Mathlib.Omega.{arith}
 use borrow.Author.Needs.{needs}
 use Rattle.memory.specs.Flat.{flatOf, rowIn}
@@ -41,8 +43,14 @@ owner-at-requires c κs = search needs
 
 returns : tie.Need-returns
 returns c = let s = c .before .before .before .before .before .before .before in
+    let m : List ℕ = s .args .m .now in
+    let f = c .before .before .before .before .before .flags-at in
     let p = c .before .before .before .before .payload-at in
-    row-spells (s .args .m .now) (rowIn (flatOf (s .args .m .now)) (s .args .i)) (p .result) (c .before .before .key-at .result) (c .before .number-at .result) (c .before .before .before .before .before .flags-at .result) (c .owner-at .result) (p .ensures) (part-short (s .args .m .now) (s .pre) (p .ensures)) (c .before .before .key-at .ensures) (c .before .number-at .ensures) (c .before .before .before .before .before .flags-at .ensures) (c .owner-at .ensures)
+    let k = c .before .before .key-at in
+    let n = c .before .number-at in
+    let short = part-short m (s .pre) (p .ensures) in
+    row-spells m (rowIn (flatOf m) (s .args .i)) (p .result) (k .result) (n .result) (f .result) _ (c .owner-at .result)
+    (p .ensures) short (k .ensures) (n .ensures) (f .ensures) (omega arith) (c .owner-at .ensures)
 
 pub record-at-spec : {M : Type 1} → statement M
 record-at-spec =

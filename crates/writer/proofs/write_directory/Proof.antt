@@ -41,7 +41,7 @@ run : (c : Joined) → Run (flatOf (c .before .before .before .before .before .a
 run c =
     let n : c .before .before .get-counts .result .named ≡ length (flatOf (c .before .before .before .before .before .args .m .now) .named) = ap (λ (x : Counts). x .named) (c .before .before .get-counts .ensures) in
     let h = c .before .before .before .before .before .pre .1 .0 in
-    ⊎-elim (λ w. run-full (omega (arith, w .0 .taken)) (w .1)) (λ w. run-last (omega (arith, w .1)) (omega (arith, w .0 .left, w .1))) (c .if1 .came)
+    ⊎-elim (λ w. run-full (omega (arith, w .0 .taken)) (omega (arith, w .1))) (λ w. run-last (omega (arith, w .1)) (omega (arith, w .0 .left, w .1))) (c .if1 .came)
 
 named-from-requires : tie.Need-named-from-requires
 named-from-requires c κs = (c .before .before .before .before .before .pre .0, (run c .few, run c .inside))

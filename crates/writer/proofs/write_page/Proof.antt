@@ -70,15 +70,20 @@ Looked =
     )
     reads.Pre reads.Post Inv-loop μ-loop
 
--- the rows of the memory
+-- the rows of the memory, the place in them, and where they end
 abbrev held : Looked → ℕ → Held
 held c = heldIn (flatOf (c .before .before .before .before .before .before .args .m .now))
 
+abbrev place : Looked → ℕ
+place c = c .before .before .loop .i
+
+abbrev last : Looked → ℕ
+last c = c .before .before .before .storable-end .result
+
 -- a row that is shown comes next
 next : (c : Looked) → c .is-shown .result ≡ true
-    → shown (tab (held c) (c .before .before .loop .i) (c .before .before .before .storable-end .result - c .before .before .loop .i))
-    ≡ held c (c .before .before .loop .i) .tuple ∷ shown (tab (held c) (c .before .before .loop .i + 1) (c .before .before .before .storable-end .result - (c .before .before .loop .i + 1)))
-next c e = shown-next (held c) (c .before .before .loop .i) (c .before .before .before .storable-end .result) (c .before .loop-test .taken) (not-true _ (sym (c .is-shown .ensures) ∙ e))
+    → shown (tab (held c) (place c) (last c - place c)) ≡ held c (place c) .tuple ∷ shown (tab (held c) (place c + 1) (last c - (place c + 1)))
+next c e = shown-next (held c) (place c) (last c) (c .before .loop-test .taken) (not-true _ (sym (c .is-shown .ensures) ∙ e))
 
 append-requires : tie.Need-append-requires Inv-loop μ-loop
 append-requires c κs = let l = c .before .before .before .before .before .loop in
@@ -93,35 +98,18 @@ add-i c = omega (arith, c .before .before .loop-test .taken, c .before .before .
 loop-less : tie.Need-loop-less Inv-loop μ-loop
 loop-less c = omega (arith, c .before .before .loop-test .taken)
 
--- after each turn the rows behind it are left
-written : (c : lts.Joined1 (
-  storable-end-reads.Asked,
-  storable-end-reads.Learnt,
-  is-shown-reads.Asked,
-  is-shown-reads.Learnt,
-  record-at-reads.Asked,
-  record-at-reads.Learnt,
-  append-reads.Asked,
-  append-reads.Learnt,
-  put-page-head-reads.Asked,
-  put-page-head-reads.Learnt,
-  copy-reads.Asked,
-  copy-reads.Learnt,
-)
-    reads.Pre reads.Post Inv-loop μ-loop)
-    → Writing (storable (shown (tab (held (c .before)) (c .before .before .before .before .before .before .before .args .start) (c .before .before .before .before .before .before .before .args .n)))) (c .if1 .block) (c .if1 .at) (c .if1 .count)
-    (shown (tab (held (c .before)) (c .before .before .before .loop .i + 1) (c .before .before .before .before .storable-end .result - (c .before .before .before .loop .i + 1))))
-written c =
-    let b = c .before in
+loop-again : tie.Need-loop-again Inv-loop μ-loop
+loop-again c = let b = c .before in
+    let s = c .before .before .before .before .before .before .before in
     let l = c .before .before .before .loop in
+    let e : ℕ = c .before .before .before .before .storable-end .result in
+    let lt = c .before .before .loop-test .taken in
+    let more : Writing (storable (shown (tab (held b) (s .args .start) (s .args .n)))) (c .if1 .block) (c .if1 .at) (c .if1 .count) (shown (tab (held b) (l .i + 1) (e - (l .i + 1)))) =
     ⊎-elim
     (λ w. writing-same (writing-turn (l .inv .1 .1 .1) (next b (w .0 .taken)) (storable-room _) (w .1 .ensures)) (w .4 ∙ w .3 .ensures .1) (w .5 ∙ w .3 .ensures .0) (w .6) refl)
-    (λ w. writing-same (l .inv .1 .1 .1) (w .1) (w .2) (w .3) (sym (shown-skip (held b) (l .i) (c .before .before .before .before .storable-end .result) (c .before .before .loop-test .taken) (not-false _ (sym (b .is-shown .ensures) ∙ w .0 .left)))))
-    (c .if1 .came)
-
-loop-again : tie.Need-loop-again Inv-loop μ-loop
-loop-again c = let w = written c in
-    (writing-length w, (omega (arith, c .before .before .before .loop .inv .1 .0), (omega (arith, c .before .before .loop-test .taken), w)))
+    (λ w. writing-same (l .inv .1 .1 .1) (w .1) (w .2) (w .3) (sym (shown-skip (held b) (l .i) e lt (not-false _ (sym (b .is-shown .ensures) ∙ w .0 .left)))))
+    (c .if1 .came) in
+    (writing-length more, (omega (arith, l .inv .1 .0), (omega (arith, lt), more)))
 
 slice-aggregate-put-page-head : tie.Need-slice-aggregate-put-page-head Inv-loop μ-loop
 slice-aggregate-put-page-head c = omega (arith, c .before .before .loop .inv .0)
