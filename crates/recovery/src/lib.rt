@@ -1,0 +1,70 @@
+// Recovery: what an image holds, laid out in the working memory. All tests come first; only then is the memory touched.
+use blocks::Record;
+use memory::Row;
+ghost use mathlib.Core.Path.{_≡_};
+ghost use mathlib.Core.Bool.{true};
+ghost use mathlib.Core.List.{map};
+ghost use Prim.Native.Nat.{_+_, _≤_};
+ghost use lib.ListN.{length};
+ghost use Rattle.blocks.specs.Limits.{payloadLimit};
+ghost use Rattle.blocks.specs.Decode.{decodeBlock};
+ghost use Rattle.blocks.specs.Bytes.{tupleOf, payloadIn};
+ghost use Rattle.model.specs.Rules.{calm};
+ghost use Rattle.memory.specs.Flat.{flatOf, Room};
+ghost use Rattle.memory.specs.Store.{heldOf};
+ghost use Rattle.recovery.specs.Loading.{isPage, tuplesIn, rowFlags, AddsRows};
+
+// ---- the rows of a page
+
+// A row's flags, from a record's ninth byte.
+fn flags_of(f: u8) -> u8
+    ensures { λ r. ⌜ r ≡ rowFlags f ⌝ }
+{
+    let mark = 2 * (f / 64 % 2);
+    if f < 128 {
+        return 1 + mark;
+    }
+    mark
+}
+
+// The row of a record that stands in a block.
+fn row_of(block: &[u8], r: Record) -> Row
+    requires { ⌜ (r .len ≤ payloadLimit) × (r .start + r .len ≤ length (now block)) ⌝ }
+    ensures { λ s. ⌜ heldOf s ≡ calm (tupleOf r (payloadIn (now (block .entry)) r)) ⌝ }
+{
+    memory::new_row(
+        r.key,
+        r.number,
+        r.owner,
+        flags_of(r.flags),
+        block,
+        r.start,
+        r.len,
+    )
+}
+
+// The rows of a page's tuples, behind those that are there.
+fn load_rows(block: &[u8], count: u32, m: &mut [u8])
+    requires { ⌜ (length (now block) ≡ 512) × ((isPage (decodeBlock (now block)) ≡ true) × (length (tuplesIn (decodeBlock (now block))) ≡ count)) ⌝ }
+    requires { ⌜ Room (now m) × (length (flatOf (now m) .rows) + count ≤ flatOf (now m) .head .capacity) ⌝ }
+    ensures { λ _. ⌜ AddsRows (map calm (tuplesIn (decodeBlock (now (block .entry))))) (now (m .entry)) (now (m .exit)) ⌝ }
+{
+    let c = memory::get_counts(m);
+    let mut to = c.rows as usize;
+    let mut at: usize = 8;
+    let mut i: u32 = 0;
+    while i < count {
+        match (blocks::Cursor { at: at }).next(block) {
+            blocks::Next::Found(r, c) => {
+                let s = row_of(block, r);
+                memory::insert_row(m, to, s);
+                at = c.at;
+            }
+            blocks::Next::Bad => {
+                return;
+            }
+        }
+        to += 1;
+        i += 1;
+    }
+}
