@@ -1,2 +1,4 @@
 pub mod Records
 pub mod Adding
+pub mod Marking
+pub mod Paging

@@ -1,18 +1,20 @@
 // Recovery: what an image holds, laid out in the working memory. All tests come first; only then is the memory touched.
 use blocks::Record;
+use memory::Entry;
 use memory::Row;
 ghost use mathlib.Core.Path.{_≡_};
 ghost use mathlib.Core.Bool.{true};
 ghost use mathlib.Core.List.{map};
-ghost use Prim.Native.Nat.{_+_, _≤_};
+ghost use Prim.Native.Nat.{_+_, _*_, _≤_, _<_};
 ghost use lib.ListN.{length};
 ghost use Rattle.blocks.specs.Limits.{payloadLimit};
 ghost use Rattle.blocks.specs.Decode.{decodeBlock};
 ghost use Rattle.blocks.specs.Bytes.{tupleOf, payloadIn};
+ghost use Rattle.image.specs.View.{view};
 ghost use Rattle.model.specs.Rules.{calm};
 ghost use Rattle.memory.specs.Flat.{flatOf, Room};
 ghost use Rattle.memory.specs.Store.{heldOf};
-ghost use Rattle.recovery.specs.Loading.{isPage, tuplesIn, rowFlags, AddsRows};
+ghost use Rattle.recovery.specs.Loading.{pageAt, isPage, tuplesIn, rowFlags, AddsRows, Loads, RoomFor};
 
 // ---- the rows of a page
 
@@ -66,5 +68,37 @@ fn load_rows(block: &[u8], count: u32, m: &mut [u8])
         }
         to += 1;
         i += 1;
+    }
+}
+
+// ---- pages
+
+// The page in block e, behind those that are there.
+fn load_page(image: &[u8], e: usize, m: &mut [u8])
+    requires { ⌜ (512 * e + 512 ≤ length (now image)) × (e < 4096) ⌝ }
+    requires { ⌜ Room (now m) × RoomFor (pageAt e (view (now image) e)) (flatOf (now m)) ⌝ }
+    ensures { λ _. ⌜ Loads (pageAt e (view (now (image .entry)) e)) (now (m .entry)) (now (m .exit)) ⌝ }
+{
+    let block = image::block_at(image, e);
+    match blocks::read_block(&block) {
+        blocks::Reading::IsPage {
+            table,
+            count,
+            level: _,
+        } => {
+            load_rows(&block, count, m);
+            let c = memory::get_counts(m);
+            let entry = Entry {
+                table: table as u8,
+                frozen: 0,
+                count: count as u16,
+                block: e as u16,
+            };
+            memory::insert_entry(m, c.pages as usize, entry);
+            memory::mark_used(m, e);
+        }
+        _ => {
+            return;
+        }
     }
 }
