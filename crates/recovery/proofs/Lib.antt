@@ -2,3 +2,4 @@ pub mod Records
 pub mod Adding
 pub mod Marking
 pub mod Paging
+pub mod Naming

@@ -5,16 +5,25 @@ use memory::Row;
 ghost use mathlib.Core.Path.{_≡_};
 ghost use mathlib.Core.Bool.{true};
 ghost use mathlib.Core.List.{map};
+ghost use Rattle.basics.specs.Basics.{all};
 ghost use Prim.Native.Nat.{_+_, _*_, _≤_, _<_};
 ghost use lib.ListN.{length};
 ghost use Rattle.blocks.specs.Limits.{payloadLimit};
 ghost use Rattle.blocks.specs.Decode.{decodeBlock};
 ghost use Rattle.blocks.specs.Bytes.{tupleOf, payloadIn};
-ghost use Rattle.image.specs.View.{view};
+ghost use Rattle.image.specs.View.{view, blockCount};
+ghost use Rattle.image.specs.Stages.{blockOk};
 ghost use Rattle.model.specs.Rules.{calm};
-ghost use Rattle.memory.specs.Flat.{flatOf, Room};
+ghost use Rattle.memory.specs.Flat.{flatOf, Room, Becomes, withUsed};
 ghost use Rattle.memory.specs.Store.{heldOf};
-ghost use Rattle.recovery.specs.Loading.{pageAt, isPage, tuplesIn, rowFlags, AddsRows, Loads, RoomFor};
+ghost use Rattle.recovery.specs.Loading.{pageAt, pagesAt, isPage, tuplesIn, rowFlags, usedBy, AddsRows, Loads, RoomFor};
+
+// The same number, as a size.
+fn wide(x: u32) -> usize
+    ensures { λ r. ⌜ r ≡ x ⌝ }
+{
+    x as usize
+}
 
 // ---- the rows of a page
 
@@ -100,5 +109,30 @@ fn load_page(image: &[u8], e: usize, m: &mut [u8])
         _ => {
             return;
         }
+    }
+}
+
+// The pages in the blocks that the entries name, in their order.
+fn load_pages(image: &[u8], entries: &[u32], m: &mut [u8])
+    requires { ⌜ (all (blockOk (blockCount (now image))) (now entries) ≡ true) × (blockCount (now image) ≤ 4096) ⌝ }
+    requires { ⌜ Room (now m) × RoomFor (pagesAt (view (now image)) (now entries)) (flatOf (now m)) ⌝ }
+    ensures { λ _. ⌜ Loads (pagesAt (view (now (image .entry))) (now (entries .entry))) (now (m .entry)) (now (m .exit)) ⌝ }
+{
+    let mut i: usize = 0;
+    while i < entries.len() {
+        load_page(image, wide(entries[i]), m);
+        i += 1;
+    }
+}
+
+// These blocks are in use too.
+fn mark_blocks(bs: &[u32], m: &mut [u8])
+    requires { ⌜ (all (blockOk 4096) (now bs) ≡ true) × Room (now m) ⌝ }
+    ensures { λ _. ⌜ Becomes (now (m .entry)) (now (m .exit)) (withUsed (flatOf (now (m .entry))) (usedBy (now (bs .entry)) (flatOf (now (m .entry)) .used))) ⌝ }
+{
+    let mut i: usize = 0;
+    while i < bs.len() {
+        memory::mark_used(m, wide(bs[i]));
+        i += 1;
     }
 }
