@@ -3,3 +3,4 @@ pub mod Adding
 pub mod Marking
 pub mod Paging
 pub mod Naming
+pub mod Owning

@@ -4,19 +4,21 @@ use memory::Entry;
 use memory::Row;
 ghost use mathlib.Core.Path.{_≡_};
 ghost use mathlib.Core.Bool.{true};
-ghost use mathlib.Core.List.{map};
-ghost use Rattle.basics.specs.Basics.{all};
+ghost use mathlib.Core.List.{map, _++_};
 ghost use Prim.Native.Nat.{_+_, _*_, _≤_, _<_};
-ghost use lib.ListN.{length};
+ghost use lib.ListN.{length, drop};
+ghost use Rattle.basics.specs.Basics.{any, all, howMany};
 ghost use Rattle.blocks.specs.Limits.{payloadLimit};
 ghost use Rattle.blocks.specs.Decode.{decodeBlock};
 ghost use Rattle.blocks.specs.Bytes.{tupleOf, payloadIn};
+ghost use Rattle.rows.specs.Rows.{isOwn, transactions};
 ghost use Rattle.image.specs.View.{view, blockCount};
 ghost use Rattle.image.specs.Stages.{blockOk};
 ghost use Rattle.model.specs.Rules.{calm};
-ghost use Rattle.memory.specs.Flat.{flatOf, Room, Becomes, withUsed};
+ghost use Rattle.memory.specs.Flat.{flatOf, rowIn, Room, Becomes, withOpens, withUsed};
 ghost use Rattle.memory.specs.Store.{heldOf};
 ghost use Rattle.recovery.specs.Loading.{pageAt, pagesAt, isPage, tuplesIn, rowFlags, usedBy, AddsRows, Loads, RoomFor};
+ghost use Rattle.recovery.specs.Reopening.{ownRow, ownRows, openWord, openedAt};
 
 // The same number, as a size.
 fn wide(x: u32) -> usize
@@ -133,6 +135,84 @@ fn mark_blocks(bs: &[u32], m: &mut [u8])
     let mut i: usize = 0;
     while i < bs.len() {
         memory::mark_used(m, wide(bs[i]));
+        i += 1;
+    }
+}
+
+// ---- open transactions
+
+// Row i is tentative and of transaction t.
+fn is_own(m: &[u8], i: usize, t: u32) -> bool
+    requires { ⌜ Room (now m) × (i < length (flatOf (now m) .rows)) ⌝ }
+    ensures { λ r. ⌜ r ≡ isOwn t (ownRow (rowIn (flatOf (now (m .entry))) i)) ⌝ }
+{
+    if memory::flags_at(m, i) % 2 == 0 {
+        return false;
+    }
+    memory::owner_at(m, i) / 1048576 == t
+}
+
+// Behind row i there is one of transaction t.
+fn own_later(m: &[u8], i: usize, t: u32) -> bool
+    requires { ⌜ Room (now m) × (i < length (flatOf (now m) .rows)) ⌝ }
+    ensures { λ r. ⌜ r ≡ any (isOwn t) (drop (i + 1) (ownRows (flatOf (now (m .entry))))) ⌝ }
+{
+    let c = memory::get_counts(m);
+    let n = wide(c.rows);
+    let mut j = i + 1;
+    while j < n {
+        if is_own(m, j, t) {
+            return true;
+        }
+        j += 1;
+    }
+    false
+}
+
+// How many rows are of transaction t.
+fn count_own(m: &[u8], t: u32) -> u32
+    requires { ⌜ Room (now m) ⌝ }
+    ensures { λ r. ⌜ r ≡ howMany (isOwn t) (ownRows (flatOf (now (m .entry)))) ⌝ }
+{
+    let c = memory::get_counts(m);
+    let n = wide(c.rows);
+    let mut k: u32 = 0;
+    let mut j: usize = 0;
+    while j < n {
+        if is_own(m, j, t) {
+            k += 1;
+        }
+        j += 1;
+    }
+    k
+}
+
+// If row i is the last of its transaction, that is open again.
+fn reopen_row(m: &mut [u8], i: usize)
+    requires { ⌜ Room (now m) × ((i < length (flatOf (now m) .rows)) × (length (flatOf (now m) .opens) + length (openedAt (flatOf (now m)) i) ≤ 64)) ⌝ }
+    ensures { λ _. ⌜ Becomes (now (m .entry)) (now (m .exit)) (withOpens (flatOf (now (m .entry))) (flatOf (now (m .entry)) .opens ++ openedAt (flatOf (now (m .entry))) i)) ⌝ }
+{
+    if memory::flags_at(m, i) % 2 == 0 {
+        return;
+    }
+    let t = memory::owner_at(m, i) / 1048576;
+    if own_later(m, i, t) {
+        return;
+    }
+    let k = count_own(m, t);
+    memory::push_open(m, t * 1048576 + k);
+}
+
+// The transactions of all rows, each once.
+fn reopen(m: &mut [u8])
+    requires { ⌜ Room (now m) × (length (flatOf (now m) .opens) + length (transactions (ownRows (flatOf (now m)))) ≤ 64) ⌝ }
+    ensures { λ _. ⌜ Becomes (now (m .entry)) (now (m .exit)) (withOpens (flatOf (now (m .entry))) (flatOf (now (m .entry)) .opens ++ map (openWord (ownRows (flatOf (now (m .entry))))) (transactions (ownRows (flatOf (now (m .entry))))))) ⌝ }
+{
+    let c = memory::get_counts(m);
+    let n = wide(c.rows);
+    let mut i: usize = 0;
+    while i < n {
+        reopen_row(m, i);
         i += 1;
     }
 }
