@@ -4,3 +4,5 @@ pub mod Marking
 pub mod Paging
 pub mod Naming
 pub mod Owning
+pub mod Tested
+pub mod Stored

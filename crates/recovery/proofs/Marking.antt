@@ -50,3 +50,8 @@ used-one b u = λ i c. ((eqb-swap b c ∙ sym (or-end (eqb c b)) ∙ sym (any-co
 pub used-then : (xs ys : List ℕ) (u : ℕ → Bool) → usedBy ys (usedBy xs u) ≡ usedBy (xs ++ ys) u
 unfolding usedBy
 used-then xs ys u = λ i c. (or-swap (isIn c xs) (isIn c ys) (u c) ∙ ap (λ (b : Bool). b || u c) (sym (in-append c xs ys))) i
+
+-- where no block was in use
+pub used-first : (xs : List ℕ) → usedBy xs (λ c. false) ≡ (λ c. isIn c xs)
+unfolding usedBy
+used-first xs = λ i c. or-end (isIn c xs) i
