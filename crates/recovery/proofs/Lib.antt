@@ -6,3 +6,5 @@ pub mod Naming
 pub mod Owning
 pub mod Tested
 pub mod Stored
+pub mod Laying
+pub mod Answered

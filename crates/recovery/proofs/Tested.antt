@@ -3,11 +3,11 @@ use mathlib.Core.Path.{_≡_, refl, sym, ap, subst, _∙_}
 use mathlib.Core.Bool.{Bool, true, false, not, _&&_}
 use mathlib.Core.Option.{Option, none, some}
 use mathlib.Core.List.{List, [], _∷_, _++_, map}
-use Prim.Native.Nat.{ℕ, suc, _+_, _*_, _/_, _≤_, _<_}
+use Prim.Native.Nat.{ℕ, _+_, _-_, _*_, _≤_, _<_, min}
 use native.Mathlib.Omega.{arith}
-use lib.ListN.{length, length-append, length-map}
-use lib.Dec.{ltb, leb}
-use borrow.Author.Tests.{leb-true, ltb-true, lt-ltb, le-ltb}
+use lib.ListN.{length, length-append, length-take}
+use lib.Dec.{eqb, ltb, leb}
+use borrow.Author.Tests.{eqb-true, leb-true, ltb-true}
 use Rattle.basics.specs.Basics.{if_then_else_, all, every, paired, isEmpty, distinct}
 use Rattle.basics.proofs.Facts.{by, by-option, never, lie, AllOf, and-true}
 use Rattle.blocks.specs.Tuple.{Tuple}
@@ -15,7 +15,7 @@ use Rattle.blocks.specs.Block.{Block, malformed, header, page, directory}
 use Rattle.blocks.specs.declared.Header.{Header}
 use Rattle.rows.specs.Rows.{Row, number, rowsOk, transactions, follows, startsWell, isBelow}
 use Rattle.image.specs.View.{View, view, blockCount}
-use Rattle.image.specs.Stages.{Stage, refuses, holds, wholeBlocks, blockOk, directoryBlocks, readDirectories, entriesOk, testedEntries, directoryTest, StoredPage, pageOk, addPage, readPages, rowsOfPages, testedPages, pageTest}
+use Rattle.image.specs.Stages.{Stage, refuses, holds, wholeBlocks, blockOk, directoryBlocks, addEntries, readDirectories, entriesOk, testedEntries, directoryTest, StoredPage, pageOk, addPage, readPages, rowsOfPages, testedPages, pageTest}
 use Rattle.image.specs.Whole.{headerStage, pagesBelow, pagesStage}
 use Rattle.image.proofs.Heads.{Counts}
 use Rattle.image.proofs.Staged.{Passing, passing}
@@ -28,6 +28,7 @@ use Rattle.recovery.specs.Loading.{pageAt, pagesAt, blocksIn, heldsOf}
 
 pub record Tested (v : View) (h : Header) (ps : List StoredPage) : Type 0 where
   pub entries : List ℕ
+  pub listed : readDirectories v (h .level) (h .pages) (directoryBlocks h) ≡ some entries
   pub entries-ok : entriesOk (h .blocks) (directoryBlocks h) entries ≡ true
   pub read : readPages v (h .level) entries ≡ some ps
   pub rows-ok : rowsOk (h .capacity) (h .next) (rowsOfPages ps) ≡ true
@@ -44,9 +45,37 @@ tested v h ps e =
     (λ r.
     let z : holds qs ≡ holds ps = rw (b, c, d, r) at e in
     let q : qs ≡ ps = holds-eq z in
-    record { entries = es; entries-ok = c; read = d ∙ ap some q; rows-ok = ap (λ (x : List StoredPage). rowsOk (h .capacity) (h .next) (rowsOfPages x)) (sym q) ∙ r })
+    record { entries = es; listed = b; entries-ok = c; read = d ∙ ap some q; rows-ok = ap (λ (x : List StoredPage). rowsOk (h .capacity) (h .next) (rowsOfPages x)) (sym q) ∙ r })
     (λ r. refuses-holds (rw (b, c, d, r) at e))))
     (λ c. refuses-holds (rw (b, c) at e)))
+
+-- ---- as many entries as pages
+
+-- a directory block and those after it
+added-count : (l p n : ℕ) (b : Block) (o : Option (List ℕ)) (es : List ℕ) → ((fs : List ℕ) → o ≡ some fs → length fs ≡ n) → addEntries l p b o ≡ some es
+    → length es ≡ min 336 p + n
+unfolding addEntries if_then_else_
+added-count l p n malformed o es f e = never e
+added-count l p n (header h) o es f e = never e
+added-count l p n (page t k ts) o es f e = never e
+added-count l p n (directory k ds) none es f e = by (eqb k l && eqb (length ds) (min 336 p)) (λ t. never (rw t at e)) (λ t. never (rw t at e))
+added-count l p n (directory k ds) (some fs) es f e =
+    by (eqb k l && eqb (length ds) (min 336 p))
+    (λ t.
+    let z : some (ds ++ fs) ≡ some es = rw t at e in
+    let y : es ≡ ds ++ fs = cc in
+    ap length y ∙ length-append ds fs ∙ omega (arith, eqb-true (length ds) (min 336 p) (and-true (eqb k l) _ t .1), f fs refl))
+    (λ t. never (rw t at e))
+
+entries-count : (v : View) (l : ℕ) (ds : List ℕ) (p : ℕ) (es : List ℕ) → p ≤ 336 * length ds → readDirectories v l p ds ≡ some es → length es ≡ p
+unfolding readDirectories
+entries-count v l [] p es h e = let z : es ≡ [] = cc in ap length z ∙ omega arith
+entries-count v l (d ∷ ds) p es h e =
+    added-count l p (p - 336) (v d) (readDirectories v l (p - 336) ds) es (λ fs q. entries-count v l ds (p - 336) fs (omega arith) q) e ∙ omega arith
+
+pub listed-count : (n : ℕ) (v : View) (h : Header) (es : List ℕ) → Counts n h → readDirectories v (h .level) (h .pages) (directoryBlocks h) ≡ some es → length es ≡ h .pages
+unfolding directoryBlocks
+listed-count n v h es c e = entries-count v (h .level) (directoryBlocks h) (h .pages) es (simp length-take (omega (arith, c .four, c .directories))) e
 
 -- ---- each page
 
@@ -135,6 +164,7 @@ pub record PageOk (p : StoredPage) : Type 0 where
 pub record Sure (img : List ℕ) (h : Header) (es : List ℕ) (ps : List StoredPage) : Type 0 where
   pub whole : Whole img h
   pub named : all (blockOk (blockCount img)) es ≡ true
+  pub count : length es ≡ h .pages
   pub pages : AllOf PageOk ps
   pub rows : length (rowsOfPages ps) ≤ h .capacity
   pub opens : length (transactions (rowsOfPages ps)) ≤ 64
@@ -176,6 +206,7 @@ sure img h es ps e q b =
     record {
       whole = w;
       named = n1;
+      count = sym (ap length en) ∙ listed-count (blockCount img) (view img) h (t .entries) (w .passed .counts) (t .listed);
       pages = pages-fit img (blockCount img) ps (w .many) (ap (all (blockOk (blockCount img))) b ∙ n1) (pages-read (view img) (h .level) (t .entries) ps (t .read));
       rows = r .0;
       opens = r .1;
