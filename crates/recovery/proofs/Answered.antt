@@ -24,6 +24,8 @@ use Rattle.image.specs.declared.PagesTest.{PagesTest}
 use Rattle.model.specs.State.{Store}
 use Rattle.model.specs.Recover.{memoryFor, recoveredStore, recoverPages, recoverBelow, recover}
 use Rattle.memory.specs.Store.{storeIn}
+use Rattle.recovery.specs.Loading.{pagesAt, blocksIn}
+use Rattle.recovery.proofs.Tested.{Sure, sure, pages-there}
 use Rattle.answers.specs.Shape.{RecoveredBy, Recovered}
 use Rattle.answers.specs.declared.Answer.the-variants.{Done, Refused}
 
@@ -75,9 +77,25 @@ pub accepted : (v : View) (h : Header) (t : PagesTest) → t ≡ pagesAnswer (pa
 accepted v h t e z = accepted-by (pagesStage v h) t e z (numbered v h)
 
 -- the entries that are in use
-pub in-use : (ps : List StoredPage) (l : List ℕ) (n : ℕ) → l ≡ entriesIn ps → length (map (λ p. p .block) ps) ≡ n → take n l ≡ map (λ p. p .block) ps
-unfolding entriesIn over
+pub in-use : (ps : List StoredPage) (l : List ℕ) (n : ℕ) → l ≡ entriesIn ps → length (blocksIn ps) ≡ n → take n l ≡ blocksIn ps
+unfolding entriesIn over blocksIn
 in-use ps l n e k = ap (take n) e ∙ take-at (map (λ p. p .block) ps) _ n k
+
+-- what the loading is given
+pub record Ready (img : List ℕ) (h : Header) (t : PagesTest) (n : ℕ) : Type 0 where
+  pub pages : List StoredPage
+  pub passed : pagesStage (view img) h ≡ holds pages
+  pub there : pagesAt (view img) (take n (t .entries)) ≡ pages
+  pub blocks : blocksIn pages ≡ take n (t .entries)
+  pub count : length (take n (t .entries)) ≡ n
+
+pub ready : (img : List ℕ) (h : Header) (t : PagesTest) (n : ℕ) → headerStage img ≡ holds h → t ≡ pagesAnswer (pagesStage (view img) h) → t .refusal ≡ 0 → n ≡ h .pages
+    → Ready img h t n
+ready img h t n e q z k =
+    let a = accepted (view img) h t q z in
+    let s = sure img h (blocksIn (a .pages)) (a .pages) e (a .is) refl in
+    let b = in-use (a .pages) (t .entries) n (a .entries) (s .count ∙ sym k) in
+    record { pages = a .pages; passed = a .is; there = pages-there (view img) h (take n (t .entries)) (a .pages) (a .is) (sym b); blocks = sym b; count = ap length b ∙ s .count ∙ sym k }
 
 -- ---- the returns
 

@@ -192,9 +192,9 @@ rows-few cap next rs e =
     let g = and-true (leb (length (transactions rs)) 64) _ (f .1) in
     (leb-true (length rs) cap (f .0), leb-true (length (transactions rs)) 64 (g .0))
 
-pub sure : (img : List ℕ) (h : Header) (es : List ℕ) (ps : List StoredPage) → headerStage img ≡ holds h → pagesStage (view img) h ≡ holds ps → map (λ p. p .block) ps ≡ es
+pub sure : (img : List ℕ) (h : Header) (es : List ℕ) (ps : List StoredPage) → headerStage img ≡ holds h → pagesStage (view img) h ≡ holds ps → blocksIn ps ≡ es
     → Sure img h es ps
-unfolding entriesOk every
+unfolding entriesOk every blocksIn
 sure img h es ps e q b =
     let w = whole img h e in
     let t = tested (view img) h ps q in
@@ -213,7 +213,8 @@ sure img h es ps e q b =
     }
 
 -- the pages of the entries are those that were tested
-pub pages-there : (v : View) (h : Header) (es : List ℕ) (ps : List StoredPage) → pagesStage v h ≡ holds ps → map (λ p. p .block) ps ≡ es → pagesAt v es ≡ ps
+pub pages-there : (v : View) (h : Header) (es : List ℕ) (ps : List StoredPage) → pagesStage v h ≡ holds ps → blocksIn ps ≡ es → pagesAt v es ≡ ps
+unfolding blocksIn
 pages-there v h es ps q b =
     let t = tested v h ps q in
     let en : t .entries ≡ es = sym (read-blocks v (h .level) (t .entries) ps (t .read)) ∙ b in

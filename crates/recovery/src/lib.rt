@@ -1,9 +1,13 @@
 // Recovery: what an image holds, laid out in the working memory. All tests come first; only then is the memory touched.
+use answers::Answer;
+use blocks::Header;
 use blocks::Record;
 use memory::Entry;
+use memory::Head;
 use memory::Row;
 ghost use mathlib.Core.Path.{_≡_};
 ghost use mathlib.Core.Bool.{true};
+ghost use mathlib.Core.Option.{some};
 ghost use mathlib.Core.List.{map, _++_};
 ghost use Prim.Native.Nat.{_+_, _*_, _≤_, _<_};
 ghost use lib.ListN.{length, drop};
@@ -13,11 +17,14 @@ ghost use Rattle.blocks.specs.Decode.{decodeBlock};
 ghost use Rattle.blocks.specs.Bytes.{tupleOf, payloadIn};
 ghost use Rattle.rows.specs.Rows.{isOwn, transactions};
 ghost use Rattle.image.specs.View.{view, blockCount};
-ghost use Rattle.image.specs.Stages.{blockOk};
+ghost use Rattle.image.specs.Stages.{holds, blockOk};
+ghost use Rattle.image.specs.Whole.{headerStage, pagesStage};
 ghost use Rattle.model.specs.Rules.{calm};
+ghost use Rattle.model.specs.Recover.{recoveredStore};
 ghost use Rattle.memory.specs.Flat.{flatOf, rowIn, Room, Becomes, withOpens, withUsed};
-ghost use Rattle.memory.specs.Store.{heldOf};
-ghost use Rattle.recovery.specs.Loading.{pageAt, pagesAt, isPage, tuplesIn, rowFlags, usedBy, AddsRows, Loads, RoomFor};
+ghost use Rattle.memory.specs.Store.{heldOf, storeIn};
+ghost use Rattle.answers.specs.Shape.{Recovered};
+ghost use Rattle.recovery.specs.Loading.{pageAt, pagesAt, isPage, tuplesIn, rowFlags, blocksIn, usedBy, AddsRows, Loads, RoomFor};
 ghost use Rattle.recovery.specs.Reopening.{ownRow, ownRows, openWord, openedAt};
 
 // The same number, as a size.
@@ -214,5 +221,53 @@ fn reopen(m: &mut [u8])
     while i < n {
         reopen_row(m, i);
         i += 1;
+    }
+}
+
+// ---- recover
+
+// Lays the store out over any old content: entries are the blocks of the pages that passed the tests.
+fn lay_out(image: &[u8], h: Header, entries: &[u32], m: &mut [u8])
+    requires { ⌜ (headerStage (now image) ≡ holds h) × (128 * h .capacity + 1024 ≤ length (now m)) ⌝ }
+    requires { ⌜ (pagesStage (view (now image)) h ≡ holds (pagesAt (view (now image)) (now entries))) × (blocksIn (pagesAt (view (now image)) (now entries)) ≡ now entries) ⌝ }
+    ensures { λ _. ⌜ (length (now (m .exit)) ≡ length (now (m .entry))) × (storeIn (now (m .exit)) ≡ some (recoveredStore h (pagesAt (view (now (image .entry))) (now (entries .entry))))) ⌝ }
+{
+    let used = wide(h.directories);
+    let directories = [h.d0, h.d1, h.d2, h.d3];
+    memory::fresh(m, h.blocks, h.capacity);
+    load_pages(image, entries, m);
+    mark_blocks(&directories[..used], m);
+    reopen(m);
+    let head = Head {
+        capacity: h.capacity,
+        blocks: h.blocks,
+        level: h.level,
+        next: h.next,
+        running: 0,
+        begun: 0,
+        taken: 0,
+    };
+    memory::put_head(m, head);
+}
+
+// 1; 22 header; 3 memory; 23 directory; 24 page: all before the memory is touched.
+pub fn recover(image: &[u8], m: &mut [u8]) -> Answer
+    ensures { λ r. ⌜ Recovered (now (image .entry)) (now (m .entry)) r (now (m .exit)) ⌝ }
+{
+    match image::test_header(image) {
+        image::HeaderTest::Passed(h) => {
+            if m.len() < 128 * wide(h.capacity) + 1024 {
+                return Answer::Refused(3);
+            }
+            let t = image::test_pages(image, h);
+            if t.refusal != 0 {
+                return Answer::Refused(t.refusal);
+            }
+            let entries = t.entries;
+            let pages = wide(h.pages);
+            lay_out(image, h, &entries[..pages], m);
+            Answer::Done
+        }
+        image::HeaderTest::Refused(n) => Answer::Refused(n),
     }
 }
