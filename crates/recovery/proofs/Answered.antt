@@ -1,13 +1,11 @@
 -- Recovery's answers: by the stage that refused, or with the store recovered.
 use mathlib.Core.Path.{_≡_, refl, sym, ap, _∙_}
-use mathlib.Core.Bool.{true, false}
-use mathlib.Core.Option.{none, some}
+use mathlib.Core.Option.{some}
 use mathlib.Core.List.{List, map}
 use Prim.Native.Nat.{ℕ, _+_, _*_, _≤_, _<_}
 use native.Mathlib.Omega.{arith}
-use lib.ListN.{length, take, drop}
+use lib.ListN.{length, take}
 use lib.Seq.{take-at}
-use lib.Dec.{ltb}
 use borrow.Author.Tests.{lt-ltb, le-ltb}
 use Rattle.basics.specs.Basics.{if_then_else_}
 use Rattle.basics.proofs.Facts.{by, by-option}
@@ -17,15 +15,13 @@ use Rattle.rows.specs.Rows.{rowsOk}
 use Rattle.image.specs.View.{View, view}
 use Rattle.image.specs.Stages.{Stage, refuses, holds, directoryBlocks, readDirectories, entriesOk, testedEntries, directoryTest, StoredPage, readPages, rowsOfPages, testedPages, pageTest}
 use Rattle.image.specs.Whole.{headerStage, pagesBelow, pagesStage}
-use Rattle.image.specs.Answers.{headerAnswer, noEntries, entriesIn, pagesAnswer}
-use Rattle.image.specs.declared.HeaderTest.the-variants.{Passed}
+use Rattle.image.specs.Answers.{headerAnswer, entriesIn, pagesAnswer}
 use Rattle.image.specs.declared.HeaderTest.the-variants as header
 use Rattle.image.specs.declared.PagesTest.{PagesTest}
-use Rattle.model.specs.State.{Store}
 use Rattle.model.specs.Recover.{memoryFor, recoveredStore, recoverPages, recoverBelow, recover}
 use Rattle.memory.specs.Store.{storeIn}
 use Rattle.recovery.specs.Loading.{pagesAt, blocksIn}
-use Rattle.recovery.proofs.Tested.{Sure, sure, pages-there}
+use Rattle.recovery.proofs.Tested.{sure, pages-there}
 use Rattle.answers.specs.Shape.{RecoveredBy, Recovered}
 use Rattle.answers.specs.declared.Answer.the-variants.{Done, Refused}
 

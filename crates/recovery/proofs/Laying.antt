@@ -1,18 +1,17 @@
 -- The steps of the loading, one after the other: what each asks, and what they come to.
 use mathlib.Core.Path.{_≡_, refl, sym, ap, subst, _∙_}
 use mathlib.Core.Option.{some}
-use mathlib.Core.List.{List, _++_, map}
-use Prim.Native.Nat.{ℕ, _+_, _≤_, _<_}
+use mathlib.Core.List.{List}
+use Prim.Native.Nat.{ℕ, _+_, _≤_}
 use native.Mathlib.Omega.{arith}
 use lib.ListN.{length}
 use Rattle.basics.proofs.Facts.{AllOf}
 use Rattle.blocks.specs.declared.Header.{Header}
-use Rattle.rows.specs.Rows.{Row, transactions}
+use Rattle.rows.specs.Rows.{transactions}
 use Rattle.image.specs.Stages.{directoryBlocks, StoredPage, rowsOfPages}
 use Rattle.model.specs.Recover.{recoveredStore}
 use Rattle.memory.specs.Flat.{Flat, flatOf, Becomes, Replaces, withHead, withUsed}
 use Rattle.memory.specs.Store.{storeIn, freshFlat}
-use Rattle.memory.specs.declared.Head.{Head}
 use Rattle.memory.proofs.Meaning.{becomes-then, in-next}
 use Rattle.recovery.specs.Loading.{usedBy, withPages, Loads, RoomFor}
 use Rattle.recovery.specs.Reopening.{ownRows}

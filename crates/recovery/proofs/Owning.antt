@@ -1,15 +1,15 @@
 -- Whose the rows of the memory are, and the transactions that are opened at their last rows.
 use mathlib.Core.Path.{_≡_, refl, sym, ap, _∙_}
-use mathlib.Core.Bool.{Bool, true, false}
+use mathlib.Core.Bool.{true, false}
 use mathlib.Core.List.{List, [], _∷_, _++_, map, append-assoc, append-nil}
 use Prim.Native.Nat.{ℕ, suc, _+_, _*_, _/_, _%_, _≤_, _<_}
 use native.Mathlib.Omega.{arith}
 use native.Mathlib.Numerals.{add-one}
-use lib.ListN.{length, drop, getD, length-append, length-map, drop-of-length-le, List·getD-map}
+use lib.ListN.{length, drop, length-append, length-map, drop-of-length-le, List·getD-map}
 use lib.Seq.{drop-cons}
 use lib.Dec.{eqb}
 use borrow.Author.Tests.{eq-eqb, ne-eqb}
-use Rattle.basics.specs.Basics.{if_then_else_, any, howMany, isIn}
+use Rattle.basics.specs.Basics.{if_then_else_, any, howMany}
 use Rattle.basics.proofs.Facts.{by}
 use Rattle.blocks.specs.Tuple.{Owner, committed, tentative}
 use Rattle.rows.specs.Rows.{Row, isBy, isOwn, addOwner, transactions}

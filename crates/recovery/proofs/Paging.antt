@@ -1,11 +1,11 @@
 -- Pages, one behind the other: what a block that was read says, and what it comes to in the memory.
 use mathlib.Core.Path.{_≡_, refl, sym, ap, subst, _∙_}
 use mathlib.Core.Logic.{⊎-elim}
-use mathlib.Core.Bool.{Bool, true}
+use mathlib.Core.Bool.{true}
 use mathlib.Core.List.{List, [], _∷_, _++_, map, append-assoc, append-nil}
-use Prim.Native.Nat.{ℕ, _+_, _*_, _/_, _≤_, _<_}
+use Prim.Native.Nat.{ℕ, _+_, _≤_, _<_}
 use native.Mathlib.Omega.{arith}
-use lib.ListN.{length, length-append, length-map}
+use lib.ListN.{length, length-map}
 use Rattle.blocks.specs.Tuple.{Tuple}
 use Rattle.blocks.specs.Block.{Block, malformed, header, page, directory}
 use Rattle.blocks.specs.Decode.{decodeBlock}
@@ -22,7 +22,6 @@ use Rattle.model.specs.State.{Held}
 use Rattle.model.specs.Rules.{calm}
 use Rattle.memory.specs.Flat.{Flat, flatOf, Room, Becomes, withRows, withEntries, withUsed, insertAt, usedAnd}
 use Rattle.memory.specs.Store.{heldOf}
-use Rattle.memory.specs.declared.Row.{Row}
 use Rattle.memory.specs.declared.Entry.{Entry}
 use Rattle.memory.proofs.Meaning.{becomes-none, becomes-then}
 use Rattle.recovery.specs.Loading.{pageAt, tuplesIn, isPage, heldsOf, entryFor, blocksIn, usedBy, withPages, AddsRows, Loads, RoomFor}
@@ -31,7 +30,7 @@ use Rattle.recovery.proofs.Marking.{used-none, used-one, used-then}
 
 -- ---- a block that was read
 
--- the page of n tuples that stands in block e, whose bytes are bs
+-- block e, which is b, is a page of table t with n tuples
 pub record Here (e t n : ℕ) (b : Block) : Type 0 where
   pub is : isPage b ≡ true
   pub count : length (tuplesIn b) ≡ n

@@ -1,11 +1,10 @@
 -- The store that the memory holds when all is loaded.
-use mathlib.Core.Path.{_≡_, refl, sym, ap, subst, _∙_}
+use mathlib.Core.Path.{_≡_, refl, sym, ap, _∙_}
 use mathlib.Core.Bool.{true, false}
-use mathlib.Core.Option.{some}
 use mathlib.Core.List.{List, [], _∷_, _++_, map}
-use Prim.Native.Nat.{ℕ, suc, _+_, _*_, _/_, _%_, _≤_, _<_}
+use Prim.Native.Nat.{ℕ, suc, _+_, _*_, _/_, _%_, _≤_}
 use native.Mathlib.Omega.{arith}
-use lib.ListN.{length, take, drop, length-append, length-map}
+use lib.ListN.{length, drop, length-append, length-map}
 use lib.Seq.{take-at, drop-at}
 use Rattle.basics.specs.Basics.{if_then_else_, sum, howMany, isIn}
 use Rattle.basics.proofs.Facts.{AllOf}
@@ -19,14 +18,12 @@ use Rattle.model.specs.State.{Held, idle}
 use Rattle.model.specs.Rules.{calm}
 use Rattle.model.specs.Recover.{loaded, reopened, recoveredStore}
 use Rattle.model.proofs.Lists.{many-length}
-use Rattle.memory.specs.Flat.{Flat, flatOf, Room, Becomes, Replaces, withHead, withOpens, withUsed}
-use Rattle.memory.specs.Store.{heldOf, pageOf, nest, activeOf, checkpointOf, storeOf, storeIn, total, filled, freshFlat}
+use Rattle.memory.specs.Flat.{Flat, withHead, withOpens, withUsed}
+use Rattle.memory.specs.Store.{heldOf, pageOf, nest, activeOf, checkpointOf, storeOf, total, filled, freshFlat}
 use Rattle.memory.specs.declared.Row as memory
-use Rattle.memory.specs.declared.Entry.{Entry}
 use Rattle.memory.specs.declared.Head.{Head}
-use Rattle.memory.proofs.Meaning.{becomes-then, in-next}
 use Rattle.memory.proofs.Nest.{Counted, total-fills}
-use Rattle.recovery.specs.Loading.{heldsOf, entryFor, blocksIn, usedBy, withPages, Loads, RoomFor}
+use Rattle.recovery.specs.Loading.{heldsOf, entryFor, blocksIn, usedBy, withPages}
 use Rattle.recovery.specs.Reopening.{ownRow, ownRows, openWord}
 use Rattle.recovery.proofs.Marking.{used-first, used-then}
 use Rattle.recovery.proofs.Tested.{PageOk}

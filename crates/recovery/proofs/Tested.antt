@@ -1,6 +1,6 @@
 -- What recovery's tests showed, where they passed.
 use mathlib.Core.Path.{_≡_, refl, sym, ap, subst, _∙_}
-use mathlib.Core.Bool.{Bool, true, false, not, _&&_}
+use mathlib.Core.Bool.{true, not, _&&_}
 use mathlib.Core.Option.{Option, none, some}
 use mathlib.Core.List.{List, [], _∷_, _++_, map}
 use Prim.Native.Nat.{ℕ, _+_, _-_, _*_, _≤_, _<_, min}
@@ -15,14 +15,14 @@ use Rattle.blocks.specs.Block.{Block, malformed, header, page, directory}
 use Rattle.blocks.specs.declared.Header.{Header}
 use Rattle.rows.specs.Rows.{Row, number, rowsOk, transactions, follows, startsWell, isBelow}
 use Rattle.image.specs.View.{View, view, blockCount}
-use Rattle.image.specs.Stages.{Stage, refuses, holds, wholeBlocks, blockOk, directoryBlocks, addEntries, readDirectories, entriesOk, testedEntries, directoryTest, StoredPage, pageOk, addPage, readPages, rowsOfPages, testedPages, pageTest}
+use Rattle.image.specs.Stages.{holds, wholeBlocks, blockOk, directoryBlocks, addEntries, readDirectories, entriesOk, testedEntries, directoryTest, StoredPage, pageOk, addPage, readPages, rowsOfPages, testedPages, pageTest}
 use Rattle.image.specs.Whole.{headerStage, pagesBelow, pagesStage}
 use Rattle.image.proofs.Heads.{Counts}
 use Rattle.image.proofs.Staged.{Passing, passing}
 use Rattle.model.proofs.Recovery.{refuses-holds, holds-eq, read-blocks}
 use Rattle.model.proofs.Bytes.{view-sane, blocks-whole}
 use Rattle.model.proofs.Views.{Sane}
-use Rattle.recovery.specs.Loading.{pageAt, pagesAt, blocksIn, heldsOf}
+use Rattle.recovery.specs.Loading.{pageAt, pagesAt, blocksIn}
 
 -- ---- 23 and 24
 

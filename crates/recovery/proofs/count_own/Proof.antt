@@ -1,3 +1,4 @@
+-- `recovery::count_own` meets its contract.
 use Rattle.recovery.proofs.Owning.{own-turn, own-end}
 use Rattle.recovery.specs.Reopening.{ownRows}
 use Rattle.memory.specs.declared.Counts.{Counts}
@@ -7,16 +8,11 @@ use Rattle.rows.specs.Rows.{isOwn}
 use Rattle.basics.specs.Basics.{howMany}
 use native.Mathlib.Omega.{arith}
 use lib.ListN.{length, drop}
-use Prim.Native.Nat.{ℕ, _+_, _-_, _≤_, _<_}
+use Prim.Native.Nat.{_+_, _-_, _≤_}
 use mathlib.Core.Logic.{⊎-elim}
-use mathlib.Core.Path.{_≡_, refl, sym, ap, _∙_}
+use mathlib.Core.Path.{_≡_, sym, ap, _∙_}
 use Rattle.recovery.proofs.count_own.Statement.{statement}
 use Rattle.recovery.proofs.count_own.Tie as tie
-use Rattle.recovery.proofs.count_own.Reads as reads
-use Rattle.recovery.proofs.count_own.Lts as lts
-use Rattle.memory.proofs.get_counts.Reads as get-counts-reads
-use Rattle.recovery.proofs.is_own.Reads as is-own-reads
-use Rattle.recovery.proofs.wide.Reads as wide-reads
 
 abbrev Inv-loop : tie.InvT-loop
 Inv-loop m t n k₀ j₀ k j = (n ≡ length (flatOf m .rows)) × ((k ≤ j) × (k + howMany (isOwn t) (drop j (ownRows (flatOf m))) ≡ howMany (isOwn t) (ownRows (flatOf m))))
@@ -24,43 +20,34 @@ Inv-loop m t n k₀ j₀ k j = (n ≡ length (flatOf m .rows)) × ((k ≤ j) × 
 abbrev μ-loop : tie.MeasureT-loop
 μ-loop m t n k₀ j₀ k j = n - j
 
--- src/lib.rt:177:9
 get-counts-requires : tie.Need-get-counts-requires Inv-loop μ-loop
 get-counts-requires c κs = omega (arith, c .before .pre .range .long)
 
--- src/lib.rt:178:9
 wide-requires : tie.Need-wide-requires Inv-loop μ-loop
 wide-requires c κs = omega arith
 
--- src/lib.rt:181:5
 loop-holds : tie.Need-loop-holds Inv-loop μ-loop
 loop-holds c = (c .wide .ensures ∙ ap (λ (x : Counts). x .rows) (c .before .get-counts .ensures), (omega arith, omega arith))
 
--- src/lib.rt:182:12
 is-own-requires : tie.Need-is-own-requires Inv-loop μ-loop
 is-own-requires c κs = (c .before .before .before .before .before .pre, omega (arith, c .before .loop .inv .0, c .loop-test))
 
--- src/lib.rt:183:13
 add-k : tie.Need-add-k Inv-loop μ-loop
 add-k c = omega (arith, c .before .before .before .loop .inv, c .before .before .before .before .before .before .before .pre .range .rows, c .before .before .before .before .before .before .before .pre .range .most, c .before .before .loop-test)
 
--- src/lib.rt:185:9
 add-j : tie.Need-add-j Inv-loop μ-loop
 add-j c = omega arith
 
--- src/lib.rt:181:5
 loop-less : tie.Need-loop-less Inv-loop μ-loop
 loop-less c = omega arith
 
--- src/lib.rt:181:5
 loop-again : tie.Need-loop-again Inv-loop μ-loop
 loop-again c = let p = c .before .before .before .loop in let f = flatOf (c .before .before .before .before .before .before .before .args .m .now) in let o = own-turn f (p .j) (omega (arith, p .inv .0, c .before .before .loop-test)) in
-     ⊎-elim
-     (λ w. let h = count-yes (isOwn (c .before .before .before .before .before .before .before .args .t)) o (sym (c .before .is-own .ensures) ∙ w .0 .taken) in (p .inv .0, (omega (arith, p .inv .1 .0), omega (arith, h, p .inv .1 .1))))
-     (λ w. let h = count-not (isOwn (c .before .before .before .before .before .before .before .args .t)) o (sym (c .before .is-own .ensures) ∙ w .0 .left) in (p .inv .0, (omega (arith, p .inv .1 .0), omega (arith, h, p .inv .1 .1))))
-     (c .if1 .came)
+    ⊎-elim
+    (λ w. let h = count-yes (isOwn (c .before .before .before .before .before .before .before .args .t)) o (sym (c .before .is-own .ensures) ∙ w .0 .taken) in (p .inv .0, (omega (arith, p .inv .1 .0), omega (arith, h, p .inv .1 .1))))
+    (λ w. let h = count-not (isOwn (c .before .before .before .before .before .before .before .args .t)) o (sym (c .before .is-own .ensures) ∙ w .0 .left) in (p .inv .0, (omega (arith, p .inv .1 .0), omega (arith, h, p .inv .1 .1))))
+    (c .if1 .came)
 
--- src/lib.rt:173:1
 returns : tie.Need-returns Inv-loop μ-loop
 returns c = let p = c .before .loop in let f = flatOf (c .before .before .before .before .before .args .m .now) in let h = count-end (isOwn (c .before .before .before .before .before .args .t)) (own-end f (p .j) (omega (arith, p .inv .0, c .loop-test))) in omega (arith, p .inv .1 .1)
 

@@ -1,25 +1,18 @@
+-- `recovery::is_own` meets its contract.
 use Rattle.recovery.proofs.Owning.{own-settled, own-tentative}
 use borrow.Author.Needs.{needs}
 use Rattle.recovery.proofs.is_own.Statement.{statement}
 use Rattle.recovery.proofs.is_own.Tie as tie
-use Rattle.recovery.proofs.is_own.Reads as reads
-use Rattle.recovery.proofs.is_own.Lts as lts
-use Rattle.memory.proofs.flags_at.Reads as flags-at-reads
-use Rattle.memory.proofs.owner_at.Reads as owner-at-reads
 
--- src/lib.rt:149:8
 flags-at-requires : tie.Need-flags-at-requires
 flags-at-requires c κs = search needs
 
--- src/lib.rt:150:9
 returns : tie.Need-returns
 returns c = own-settled _ _ (c .before .flags-at .ensures) _ (c .if1 .taken)
 
--- src/lib.rt:152:5
 owner-at-requires : tie.Need-owner-at-requires
 owner-at-requires c κs = search needs
 
--- src/lib.rt:145:1
 returns-2 : tie.Need-returns-2
 returns-2 c = own-tentative _ _ (c .before .before .flags-at .ensures) _ (c .owner-at .ensures) (c .before .if1 .left) _
 

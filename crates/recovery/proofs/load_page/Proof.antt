@@ -1,29 +1,17 @@
-use Rattle.recovery.proofs.Paging.{entry-is}
-use Rattle.recovery.proofs.Paging.{Here, here, table-small, none-here, seen-here, OneFits, one-fits, entry-room, loads-none, loads-one}
+-- `recovery::load_page` meets its contract.
+use Rattle.recovery.proofs.Paging.{entry-is, Here, here, table-small, none-here, seen-here, OneFits, one-fits, entry-room, loads-none, loads-one}
 use Rattle.recovery.specs.Loading.{pageAt, tuplesIn, RoomFor, Loads}
 use Rattle.memory.specs.declared.Counts.{Counts}
 use Rattle.memory.specs.Flat.{flatOf}
-use Rattle.model.specs.Rules.{calm}
 use Rattle.image.specs.Stages.{StoredPage}
-use Rattle.image.specs.View.{view}
 use Rattle.blocks.specs.Decode.{decodeBlock}
 use Rattle.blocks.specs.Block.{Block}
-use lib.ListN.{length}
-use Prim.Native.Nat.{ℕ}
-use mathlib.Core.List.{List, _∷_, [], map}
-use mathlib.Core.Path.{_≡_, sym, ap, subst, _∙_}
+use mathlib.Core.List.{List}
+use mathlib.Core.Path.{sym, ap, subst, _∙_}
 use native.Mathlib.Omega.{arith}
 use borrow.Author.Needs.{needs}
 use Rattle.recovery.proofs.load_page.Statement.{statement}
 use Rattle.recovery.proofs.load_page.Tie as tie
-use Rattle.recovery.proofs.load_page.Reads as reads
-use Rattle.recovery.proofs.load_page.Lts as lts
-use Rattle.blocks.proofs.read_block.Reads as read-block-reads
-use Rattle.image.proofs.block_at.Reads as block-at-reads
-use Rattle.memory.proofs.get_counts.Reads as get-counts-reads
-use Rattle.memory.proofs.insert_entry.Reads as insert-entry-reads
-use Rattle.memory.proofs.mark_used.Reads as mark-used-reads
-use Rattle.recovery.proofs.load_rows.Reads as load-rows-reads
 
 -- the page that was read
 found : (c : tie.After-known-told)
@@ -38,68 +26,53 @@ fits c =
     let q = seen-here (a .image .now) (c .before .before .before .before .before .block-at .result) (a .e) (c .before .before .before .before .before .block-at .ensures) in
     one-fits (a .e) _ _ _ (flatOf (a .m .now)) (found c) (subst (λ (b : Block). RoomFor (pageAt (a .e) b) (flatOf (a .m .now))) (sym q) (c .before .before .before .before .before .before .before .before .pre .1 .1))
 
--- src/lib.rt:82:17
 block-at-requires : tie.Need-block-at-requires
 block-at-requires c κs = search needs
 
--- src/lib.rt:83:11
 read-block-requires : tie.Need-read-block-requires
 read-block-requires c κs = search needs
 
--- src/lib.rt:85:13
 enum-known-table : tie.Need-enum-known-table
 enum-known-table c = search needs
 
--- src/lib.rt:89:23
 slice-aggregate-load-rows : tie.Need-slice-aggregate-load-rows
 slice-aggregate-load-rows c = search needs
 
--- src/lib.rt:89:13
 load-rows-requires : tie.Need-load-rows-requires
 load-rows-requires c κs = let h = found (c .before .before) in let k = fits (c .before .before) in ((omega arith, (h .is, h .count)), (c .before .before .before .before .before .before .before .before .before .before .pre .1 .0, k .rows))
 
--- src/lib.rt:90:17
 get-counts-requires : tie.Need-get-counts-requires
 get-counts-requires c κs = search needs
 
--- src/lib.rt:92:24
 cast-t19 : tie.Need-cast-t19
 cast-t19 c = let g = c .before .before .before .before .before .before .before .before .table .given in omega (arith, table-small _ (g .0 .0) (g .0 .1 .0) (g .0 .1 .1 .0) (sym (g .1) ∙ c .before .before .before .before .before .before .before .before .before .before .read-block .ensures))
 
--- src/lib.rt:94:24
 cast-t20 : tie.Need-cast-t20
 cast-t20 c = omega (arith, fits (c .before .before .before .before .before .before .before) .rows, c .before .before .before .before .before .before .before .before .before .before .before .before .before .before .before .pre .1 .0 .range .most)
 
--- src/lib.rt:95:24
 cast-t21 : tie.Need-cast-t21
 cast-t21 c = search needs
 
--- src/lib.rt:97:37
 cast-insert-entry : tie.Need-cast-insert-entry
 cast-insert-entry c = search needs
 
--- src/lib.rt:97:13
 insert-entry-requires : tie.Need-insert-entry-requires
 insert-entry-requires c κs = entry-room _ _ _ _ _ (c .before .before .before .before .before .before .load-rows .ensures) (fits (c .before .before .before .before .before .before .before .before .before)) (ap (λ (x : Counts). x .pages) (c .before .before .get-counts .ensures))
 
--- src/lib.rt:98:13
 mark-used-requires : tie.Need-mark-used-requires
 mark-used-requires c κs = (c .before .before .before .insert-entry .ensures .room, c .before .before .before .before .before .before .before .before .before .before .before .before .before .before .before .before .before .before .before .before .before .pre .0 .1)
 
--- src/lib.rt:101:13
 returns : tie.Need-returns
 returns c = let a = c .before .before .before .before .before .before .args in loads-none _ _ (c .before .before .before .before .before .before .pre .1 .0) (ap (pageAt (a .e)) (sym (seen-here (a .image .now) _ (a .e) (c .before .before .before .block-at .ensures))) ∙ none-here (a .e) _ _ (c .before .read-block .ensures) (c .match .keys2))
 
--- src/lib.rt:77:1
 same-length : tie.Need-same-length
 same-length c = search needs
 
--- src/lib.rt:77:1
 returns-2 : tie.Need-returns-2
 returns-2 c = let a = c .before .before .before .before .before .before .before .before .before .before .before .before .before .before .before .before .before .before .before .before .before .before .before .before .args in let h = found (c .before .before .before .before .before .before .before .before .before .before .before .before .before .before .before .before) in let b : Block = decodeBlock (c .before .before .before .before .before .before .before .before .before .before .before .before .before .before .before .before .before .before .before .before .before .block-at .result) in
-     let p : StoredPage = record { block = a .e; table = c .before .before .before .before .before .before .before .before .before .before .before .before .before .before .before .before .before .table .given .0 .0; tuples = tuplesIn b } in
-     let l = loads-one _ _ _ _ p (c .before .before .before .before .before .before .before .before .before .before .before .before .before .load-rows .ensures) _ _ (ap (λ (x : Counts). x .pages) (c .before .before .before .before .before .before .before .before .before .get-counts .ensures)) (entry-is p _ (h .count)) (c .before .before .before .before .before .before .insert-entry .ensures) (c .before .before .mark-used .ensures) in
-     subst (λ (ps : List StoredPage). Loads ps (a .m .now) (c .before .before .mark-used .last .0)) (sym (h .stored) ∙ ap (pageAt (a .e)) (seen-here (a .image .now) _ (a .e) (c .before .before .before .before .before .before .before .before .before .before .before .before .before .before .before .before .before .before .before .before .before .block-at .ensures))) l
+    let p : StoredPage = record { block = a .e; table = c .before .before .before .before .before .before .before .before .before .before .before .before .before .before .before .before .before .table .given .0 .0; tuples = tuplesIn b } in
+    let l = loads-one _ _ _ _ p (c .before .before .before .before .before .before .before .before .before .before .before .before .before .load-rows .ensures) _ _ (ap (λ (x : Counts). x .pages) (c .before .before .before .before .before .before .before .before .before .get-counts .ensures)) (entry-is p _ (h .count)) (c .before .before .before .before .before .before .insert-entry .ensures) (c .before .before .mark-used .ensures) in
+    subst (λ (ps : List StoredPage). Loads ps (a .m .now) (c .before .before .mark-used .last .0)) (sym (h .stored) ∙ ap (pageAt (a .e)) (seen-here (a .image .now) _ (a .e) (c .before .before .before .before .before .before .before .before .before .before .before .before .before .before .before .before .before .before .before .before .before .block-at .ensures))) l
 
 pub load-page-spec : {M : Type 1} → statement M
 load-page-spec =

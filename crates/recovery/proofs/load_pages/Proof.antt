@@ -1,17 +1,13 @@
+-- `recovery::load_pages` meets its contract.
 use Rattle.recovery.proofs.Naming.{named-below, loading-start, loading-turn, loading-room, loading-end}
 use Rattle.recovery.specs.Loading.{pagesAt, Loads}
 use Rattle.image.proofs.Collect.{within}
 use Rattle.image.specs.View.{view}
 use native.Mathlib.Omega.{arith}
-use lib.ListN.{length, take, getD}
-use Prim.Native.Nat.{ℕ, _+_, _-_, _≤_, _<_}
-use mathlib.Core.Path.{_≡_, refl, sym, ap, subst, _∙_}
+use lib.ListN.{length, take}
+use Prim.Native.Nat.{_-_, _≤_, _<_}
 use Rattle.recovery.proofs.load_pages.Statement.{statement}
 use Rattle.recovery.proofs.load_pages.Tie as tie
-use Rattle.recovery.proofs.load_pages.Reads as reads
-use Rattle.recovery.proofs.load_pages.Lts as lts
-use Rattle.recovery.proofs.load_page.Reads as load-page-reads
-use Rattle.recovery.proofs.wide.Reads as wide-reads
 
 abbrev Inv-loop : tie.InvT-loop
 Inv-loop image entries m₀ i₀ m i = (i ≤ length entries) × Loads (pagesAt (view image) (take i entries)) m₀ m
@@ -19,46 +15,36 @@ Inv-loop image entries m₀ i₀ m i = (i ≤ length entries) × Loads (pagesAt 
 abbrev μ-loop : tie.MeasureT-loop
 μ-loop image entries m₀ i₀ m i = length entries - i
 
--- src/lib.rt:122:5
 loop-holds : tie.Need-loop-holds Inv-loop μ-loop
 loop-holds c = let s = c .before .before .before in (omega arith, loading-start (view (s .args .image .now)) (s .args .m .now) (s .args .entries .now) (s .pre .1 .0))
 
--- src/lib.rt:123:31
 mul-wide : tie.Need-mul-wide Inv-loop μ-loop
 mul-wide c = omega arith
 
--- src/lib.rt:123:31
 shared-slice-read-wide : tie.Need-shared-slice-read-wide Inv-loop μ-loop
 shared-slice-read-wide c = omega arith
 
--- src/lib.rt:123:26
 wide-requires : tie.Need-wide-requires Inv-loop μ-loop
 wide-requires c κs = omega arith
 
--- src/lib.rt:123:9
 load-page-requires : tie.Need-load-page-requires Inv-loop μ-loop
 load-page-requires c κs = let s = c .before .before .before .before .before .before .before .before in let a = s .args in let p = c .before .before .before .before .loop in let h : p .i < length (a .entries .now) = omega (arith, c .before .before .before .loop-test) in
-     let w = c .before .wide .ensures in
-     ((omega (arith, within (a .image .now) (a .entries .now) (p .i) (s .pre .0 .0) h, w), omega (arith, named-below _ (a .entries .now) (p .i) (s .pre .0 .0) h, w, s .pre .0 .1)), (p .inv .1 .becomes .room, loading-room (view (a .image .now)) (a .entries .now) (p .i) _ h w (a .m .now) (p .m) (p .inv .1) (s .pre .1 .1)))
+    let w = c .before .wide .ensures in
+    ((omega (arith, within (a .image .now) (a .entries .now) (p .i) (s .pre .0 .0) h, w), omega (arith, named-below _ (a .entries .now) (p .i) (s .pre .0 .0) h, w, s .pre .0 .1)), (p .inv .1 .becomes .room, loading-room (view (a .image .now)) (a .entries .now) (p .i) _ h w (a .m .now) (p .m) (p .inv .1) (s .pre .1 .1)))
 
--- src/lib.rt:124:9
 add-i : tie.Need-add-i Inv-loop μ-loop
 add-i c = omega arith
 
--- src/lib.rt:122:5
 loop-less : tie.Need-loop-less Inv-loop μ-loop
 loop-less c = omega arith
 
--- src/lib.rt:122:5
 loop-again : tie.Need-loop-again Inv-loop μ-loop
 loop-again c = let s = c .before .before .before .before .before .before .before .before .before .before .before in let a = s .args in let p = c .before .before .before .before .before .before .before .loop in let h : p .i < length (a .entries .now) = omega (arith, c .before .before .before .before .before .before .loop-test) in
-     (omega arith, loading-turn (view (a .image .now)) (a .entries .now) (p .i) _ h (c .before .before .before .before .wide .ensures) (a .m .now) (p .m) _ (p .inv .1) (c .before .before .load-page .ensures))
+    (omega arith, loading-turn (view (a .image .now)) (a .entries .now) (p .i) _ h (c .before .before .before .before .wide .ensures) (a .m .now) (p .m) _ (p .inv .1) (c .before .before .load-page .ensures))
 
--- src/lib.rt:116:1
 same-length : tie.Need-same-length Inv-loop μ-loop
 same-length c = c .before .loop .inv .1 .becomes .size
 
--- src/lib.rt:116:1
 returns : tie.Need-returns Inv-loop μ-loop
 returns c = let s = c .before .before .before .before .before in let a = s .args in let p = c .before .loop in loading-end (view (a .image .now)) (a .m .now) (p .m) (a .entries .now) (p .i) (omega (arith, c .loop-test)) (p .inv .1)
 

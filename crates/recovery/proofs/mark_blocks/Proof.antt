@@ -1,14 +1,10 @@
+-- `recovery::mark_blocks` meets its contract.
 use Rattle.recovery.proofs.Naming.{named-below, Marked, marking-start, marking-turn, marking-end}
 use native.Mathlib.Omega.{arith}
-use lib.ListN.{length, take, getD}
-use Prim.Native.Nat.{ℕ, _+_, _-_, _≤_, _<_}
-use mathlib.Core.Path.{_≡_, refl, sym, ap, subst, _∙_}
+use lib.ListN.{length, take}
+use Prim.Native.Nat.{_-_, _≤_, _<_}
 use Rattle.recovery.proofs.mark_blocks.Statement.{statement}
 use Rattle.recovery.proofs.mark_blocks.Tie as tie
-use Rattle.recovery.proofs.mark_blocks.Reads as reads
-use Rattle.recovery.proofs.mark_blocks.Lts as lts
-use Rattle.memory.proofs.mark_used.Reads as mark-used-reads
-use Rattle.recovery.proofs.wide.Reads as wide-reads
 
 abbrev Inv-loop : tie.InvT-loop
 Inv-loop bs m₀ i₀ m i = (i ≤ length bs) × Marked (take i bs) m₀ m
@@ -16,45 +12,35 @@ Inv-loop bs m₀ i₀ m i = (i ≤ length bs) × Marked (take i bs) m₀ m
 abbrev μ-loop : tie.MeasureT-loop
 μ-loop bs m₀ i₀ m i = length bs - i
 
--- src/lib.rt:134:5
 loop-holds : tie.Need-loop-holds Inv-loop μ-loop
 loop-holds c = let s = c .before .before in (omega arith, marking-start (s .args .m .now) (s .args .bs .now) (s .pre .1))
 
--- src/lib.rt:135:35
 mul-wide : tie.Need-mul-wide Inv-loop μ-loop
 mul-wide c = omega arith
 
--- src/lib.rt:135:35
 shared-slice-read-wide : tie.Need-shared-slice-read-wide Inv-loop μ-loop
 shared-slice-read-wide c = omega arith
 
--- src/lib.rt:135:30
 wide-requires : tie.Need-wide-requires Inv-loop μ-loop
 wide-requires c κs = omega arith
 
--- src/lib.rt:135:9
 mark-used-requires : tie.Need-mark-used-requires Inv-loop μ-loop
 mark-used-requires c κs = let s = c .before .before .before .before .before .before .before in let a = s .args in let p = c .before .before .before .before .loop in let h : p .i < length (a .bs .now) = omega (arith, c .before .before .before .loop-test) in
-     (p .inv .1 .room, omega (arith, named-below 4096 (a .bs .now) (p .i) (s .pre .0) h, c .wide .ensures))
+    (p .inv .1 .room, omega (arith, named-below 4096 (a .bs .now) (p .i) (s .pre .0) h, c .wide .ensures))
 
--- src/lib.rt:136:9
 add-i : tie.Need-add-i Inv-loop μ-loop
 add-i c = omega arith
 
--- src/lib.rt:134:5
 loop-less : tie.Need-loop-less Inv-loop μ-loop
 loop-less c = omega arith
 
--- src/lib.rt:134:5
 loop-again : tie.Need-loop-again Inv-loop μ-loop
 loop-again c = let s = c .before .before .before .before .before .before .before .before .before .before in let a = s .args in let p = c .before .before .before .before .before .before .before .loop in let h : p .i < length (a .bs .now) = omega (arith, c .before .before .before .before .before .before .loop-test) in
-     (omega arith, marking-turn (a .m .now) (p .m) _ (a .bs .now) (p .i) _ h (c .before .before .before .wide .ensures) (p .inv .1) (c .before .before .mark-used .ensures))
+    (omega arith, marking-turn (a .m .now) (p .m) _ (a .bs .now) (p .i) _ h (c .before .before .before .wide .ensures) (p .inv .1) (c .before .before .mark-used .ensures))
 
--- src/lib.rt:129:1
 same-length : tie.Need-same-length Inv-loop μ-loop
 same-length c = c .before .loop .inv .1 .size
 
--- src/lib.rt:129:1
 returns : tie.Need-returns Inv-loop μ-loop
 returns c = let s = c .before .before .before .before in let a = s .args in let p = c .before .loop in marking-end (a .m .now) (p .m) (a .bs .now) (p .i) (omega (arith, c .loop-test)) (p .inv .1)
 

@@ -1,3 +1,4 @@
+-- `recovery::own_later` meets its contract.
 use Rattle.recovery.proofs.Owning.{own-turn, own-end}
 use Rattle.recovery.specs.Reopening.{ownRows}
 use Rattle.memory.specs.declared.Counts.{Counts}
@@ -7,15 +8,10 @@ use Rattle.rows.specs.Rows.{isOwn}
 use Rattle.basics.specs.Basics.{any}
 use native.Mathlib.Omega.{arith}
 use lib.ListN.{length, drop}
-use Prim.Native.Nat.{ℕ, _+_, _-_, _≤_, _<_}
+use Prim.Native.Nat.{_+_, _-_}
 use mathlib.Core.Path.{_≡_, refl, sym, ap, _∙_}
 use Rattle.recovery.proofs.own_later.Statement.{statement}
 use Rattle.recovery.proofs.own_later.Tie as tie
-use Rattle.recovery.proofs.own_later.Reads as reads
-use Rattle.recovery.proofs.own_later.Lts as lts
-use Rattle.memory.proofs.get_counts.Reads as get-counts-reads
-use Rattle.recovery.proofs.is_own.Reads as is-own-reads
-use Rattle.recovery.proofs.wide.Reads as wide-reads
 
 abbrev Inv-loop : tie.InvT-loop
 Inv-loop m i t n j₀ j = (n ≡ length (flatOf m .rows)) × (any (isOwn t) (drop (i + 1) (ownRows (flatOf m))) ≡ any (isOwn t) (drop j (ownRows (flatOf m))))
@@ -23,43 +19,33 @@ Inv-loop m i t n j₀ j = (n ≡ length (flatOf m .rows)) × (any (isOwn t) (dro
 abbrev μ-loop : tie.MeasureT-loop
 μ-loop m i t n j₀ j = n - j
 
--- src/lib.rt:160:9
 get-counts-requires : tie.Need-get-counts-requires Inv-loop μ-loop
 get-counts-requires c κs = omega (arith, c .before .pre .0 .range .long)
 
--- src/lib.rt:161:9
 wide-requires : tie.Need-wide-requires Inv-loop μ-loop
 wide-requires c κs = omega arith
 
--- src/lib.rt:162:17
 add-j : tie.Need-add-j Inv-loop μ-loop
 add-j c = omega (arith, c .before .before .before .pre .1, c .before .before .before .pre .0 .range .rows, c .before .before .before .pre .0 .range .most)
 
--- src/lib.rt:163:5
 loop-holds : tie.Need-loop-holds Inv-loop μ-loop
 loop-holds c = (c .wide .ensures ∙ ap (λ (x : Counts). x .rows) (c .before .get-counts .ensures), refl)
 
--- src/lib.rt:164:12
 is-own-requires : tie.Need-is-own-requires Inv-loop μ-loop
 is-own-requires c κs = (c .before .before .before .before .before .pre .0, omega (arith, c .before .loop .inv .0, c .loop-test))
 
--- src/lib.rt:165:13
 returns : tie.Need-returns Inv-loop μ-loop
 returns c = let p = c .before .before .before .loop in let f = flatOf (c .before .before .before .before .before .before .before .args .m .now) in sym (p .inv .1 ∙ any-yes _ (own-turn f (p .j) (omega (arith, p .inv .0, c .before .before .loop-test))) (sym (c .before .is-own .ensures) ∙ c .if1 .taken))
 
--- src/lib.rt:167:9
 add-j-2 : tie.Need-add-j-2 Inv-loop μ-loop
 add-j-2 c = omega arith
 
--- src/lib.rt:163:5
 loop-less : tie.Need-loop-less Inv-loop μ-loop
 loop-less c = omega arith
 
--- src/lib.rt:163:5
 loop-again : tie.Need-loop-again Inv-loop μ-loop
 loop-again c = let p = c .before .before .before .loop in let f = flatOf (c .before .before .before .before .before .before .before .args .m .now) in (p .inv .0, p .inv .1 ∙ any-not _ (own-turn f (p .j) (omega (arith, p .inv .0, c .before .before .loop-test))) (sym (c .before .is-own .ensures) ∙ c .if1 .left))
 
--- src/lib.rt:156:1
 returns-2 : tie.Need-returns-2 Inv-loop μ-loop
 returns-2 c = let p = c .before .loop in let f = flatOf (c .before .before .before .before .before .args .m .now) in sym (p .inv .1 ∙ any-end _ (own-end f (p .j) (omega (arith, p .inv .0, c .loop-test))))
 

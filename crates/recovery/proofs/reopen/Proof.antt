@@ -1,17 +1,13 @@
+-- `recovery::reopen` meets its contract.
 use Rattle.recovery.proofs.Owning.{Reopened, reopened-start, same-rows, reopened-turn, reopened-room, reopened-end}
 use Rattle.memory.specs.declared.Counts.{Counts}
 use Rattle.memory.specs.Flat.{flatOf}
 use native.Mathlib.Omega.{arith}
-use lib.ListN.{length, drop}
-use Prim.Native.Nat.{ℕ, _+_, _-_, _≤_, _<_}
-use mathlib.Core.Path.{_≡_, refl, sym, ap, _∙_}
+use lib.ListN.{length}
+use Prim.Native.Nat.{_-_, _<_}
+use mathlib.Core.Path.{_≡_, ap, _∙_}
 use Rattle.recovery.proofs.reopen.Statement.{statement}
 use Rattle.recovery.proofs.reopen.Tie as tie
-use Rattle.recovery.proofs.reopen.Reads as reads
-use Rattle.recovery.proofs.reopen.Lts as lts
-use Rattle.memory.proofs.get_counts.Reads as get-counts-reads
-use Rattle.recovery.proofs.reopen_row.Reads as reopen-row-reads
-use Rattle.recovery.proofs.wide.Reads as wide-reads
 
 abbrev Inv-loop : tie.InvT-loop
 Inv-loop m₀ n i₀ m i = (n ≡ length (flatOf m₀ .rows)) × Reopened m₀ m i
@@ -19,40 +15,31 @@ Inv-loop m₀ n i₀ m i = (n ≡ length (flatOf m₀ .rows)) × Reopened m₀ m
 abbrev μ-loop : tie.MeasureT-loop
 μ-loop m₀ n i₀ m i = n - i
 
--- src/lib.rt:211:9
 get-counts-requires : tie.Need-get-counts-requires Inv-loop μ-loop
 get-counts-requires c κs = omega (arith, c .before .before .pre .0 .range .long)
 
--- src/lib.rt:212:9
 wide-requires : tie.Need-wide-requires Inv-loop μ-loop
 wide-requires c κs = omega arith
 
--- src/lib.rt:214:5
 loop-holds : tie.Need-loop-holds Inv-loop μ-loop
 loop-holds c = (c .wide .ensures ∙ ap (λ (x : Counts). x .rows) (c .before .get-counts .ensures), reopened-start _ (c .before .before .before .before .pre .0))
 
--- src/lib.rt:215:9
 reopen-row-requires : tie.Need-reopen-row-requires Inv-loop μ-loop
 reopen-row-requires c κs = let s = c .before .before .before .before .before .before .before in let p = c .before .before .loop in let h : p .i < length (flatOf (s .args .m .now) .rows) = omega (arith, p .inv .0, c .before .loop-test) in let r = p .inv .1 in
-     (r .becomes .room, (omega (arith, same-rows _ _ _ r), reopened-room _ _ _ r h (s .pre .1)))
+    (r .becomes .room, (omega (arith, same-rows _ _ _ r), reopened-room _ _ _ r h (s .pre .1)))
 
--- src/lib.rt:216:9
 add-i : tie.Need-add-i Inv-loop μ-loop
 add-i c = omega arith
 
--- src/lib.rt:214:5
 loop-less : tie.Need-loop-less Inv-loop μ-loop
 loop-less c = omega arith
 
--- src/lib.rt:214:5
 loop-again : tie.Need-loop-again Inv-loop μ-loop
 loop-again c = let p = c .before .before .before .before .before .loop in (p .inv .0, reopened-turn _ _ _ (p .inv .1) _ (omega (arith, p .inv .0, c .before .before .before .before .loop-test)) (c .before .before .reopen-row .ensures))
 
--- src/lib.rt:207:1
 same-length : tie.Need-same-length Inv-loop μ-loop
 same-length c = c .before .loop .inv .1 .becomes .size
 
--- src/lib.rt:207:1
 returns : tie.Need-returns Inv-loop μ-loop
 returns c = let p = c .before .loop in reopened-end _ _ (p .i) (p .inv .1) (omega (arith, p .inv .0, c .loop-test))
 
