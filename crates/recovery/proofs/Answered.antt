@@ -1,0 +1,116 @@
+-- Recovery's answers: by the stage that refused, or with the store recovered.
+use mathlib.Core.Path.{_≡_, refl, sym, ap, _∙_}
+use mathlib.Core.Option.{some}
+use mathlib.Core.List.{List, map}
+use Prim.Native.Nat.{ℕ, _+_, _*_, _≤_, _<_}
+use native.Mathlib.Omega.{arith}
+use lib.ListN.{length, take}
+use lib.Seq.{take-at}
+use borrow.Author.Tests.{lt-ltb, le-ltb}
+use Rattle.basics.specs.Basics.{if_then_else_}
+use Rattle.basics.proofs.Facts.{by, by-option}
+use Rattle.bits.specs.Bits.{over}
+use Rattle.blocks.specs.declared.Header.{Header}
+use Rattle.rows.specs.Rows.{rowsOk}
+use Rattle.image.specs.View.{View, view}
+use Rattle.image.specs.Stages.{Stage, refuses, holds, directoryBlocks, readDirectories, entriesOk, testedEntries, directoryTest, StoredPage, readPages, rowsOfPages, testedPages, pageTest}
+use Rattle.image.specs.Whole.{headerStage, pagesBelow, pagesStage}
+use Rattle.image.specs.Answers.{headerAnswer, entriesIn, pagesAnswer}
+use Rattle.image.specs.declared.HeaderTest.the-variants as header
+use Rattle.image.specs.declared.PagesTest.{PagesTest}
+use Rattle.model.specs.Recover.{memoryFor, recoveredStore, recoverPages, recoverBelow, recover}
+use Rattle.memory.specs.Store.{storeIn}
+use Rattle.recovery.specs.Loading.{pagesAt, blocksIn}
+use Rattle.recovery.proofs.Tested.{sure, pages-there}
+use Rattle.answers.specs.Shape.{RecoveredBy, Recovered}
+use Rattle.answers.specs.declared.Answer.the-variants.{Done, Refused}
+
+other {ℓ} : {X : Type ℓ} → _≡_ {A = ℕ} 0 1 → X
+other z = absurd (omega arith)
+
+-- ---- what the tests answered
+
+pub header-refused : (s : Stage Header) (n : ℕ) → header.Refused n ≡ headerAnswer s → s ≡ refuses n
+unfolding headerAnswer
+header-refused (refuses k) n e = let z : n ≡ k = cc in ap refuses (sym z)
+header-refused (holds g) n e = other cc
+
+pub pages-refused : (s : Stage (List StoredPage)) (t : PagesTest) → t ≡ pagesAnswer s → (t .refusal ≡ 0 → ⊥) → s ≡ refuses (t .refusal)
+unfolding pagesAnswer
+pages-refused (refuses k) t e d = ap refuses (sym (ap (λ (x : PagesTest). x .refusal) e))
+pages-refused (holds ps) t e d = absurd (d (ap (λ (x : PagesTest). x .refusal) e))
+
+unlike : (n : ℕ) → _≡_ {A = Stage (List StoredPage)} (refuses n) (refuses 0) → 0 < n → ⊥
+unlike n e h = let z : n ≡ 0 = cc in omega arith
+
+-- no stage refuses with the number 0
+numbered : (v : View) (h : Header) → pagesStage v h ≡ refuses 0 → ⊥
+unfolding pagesStage pagesBelow directoryTest testedEntries pageTest testedPages if_then_else_
+numbered v h e =
+    by-option (readDirectories v (h .level) (h .pages) (directoryBlocks h))
+    (λ b. unlike 23 (rw b at e) (omega arith))
+    (λ es b. by (entriesOk (h .blocks) (directoryBlocks h) es)
+    (λ c. by-option (readPages v (h .level) es)
+    (λ d. unlike 24 (rw (b, c, d) at e) (omega arith))
+    (λ qs d. by (rowsOk (h .capacity) (h .next) (rowsOfPages qs))
+    (λ r. let k : holds qs ≡ refuses 0 = rw (b, c, d, r) at e in other cc)
+    (λ r. unlike 24 (rw (b, c, d, r) at e) (omega arith))))
+    (λ c. unlike 23 (rw (b, c) at e) (omega arith)))
+
+-- the pages that were accepted, and their entries
+pub record Accepted (s : Stage (List StoredPage)) (t : PagesTest) : Type 0 where
+  pub pages : List StoredPage
+  pub is : s ≡ holds pages
+  pub entries : t .entries ≡ entriesIn pages
+
+accepted-by : (s : Stage (List StoredPage)) (t : PagesTest) → t ≡ pagesAnswer s → t .refusal ≡ 0 → (s ≡ refuses 0 → ⊥) → Accepted s t
+unfolding pagesAnswer
+accepted-by (refuses k) t e z n =
+    let q : k ≡ 0 = sym (ap (λ (x : PagesTest). x .refusal) e) ∙ z in absurd (n (ap refuses q))
+accepted-by (holds ps) t e z n = record { pages = ps; is = refl; entries = ap (λ (x : PagesTest). x .entries) e }
+
+pub accepted : (v : View) (h : Header) (t : PagesTest) → t ≡ pagesAnswer (pagesStage v h) → t .refusal ≡ 0 → Accepted (pagesStage v h) t
+accepted v h t e z = accepted-by (pagesStage v h) t e z (numbered v h)
+
+-- the entries that are in use
+pub in-use : (ps : List StoredPage) (l : List ℕ) (n : ℕ) → l ≡ entriesIn ps → length (blocksIn ps) ≡ n → take n l ≡ blocksIn ps
+unfolding entriesIn over blocksIn
+in-use ps l n e k = ap (take n) e ∙ take-at (map (λ p. p .block) ps) _ n k
+
+-- what the loading is given
+pub record Ready (img : List ℕ) (h : Header) (t : PagesTest) (n : ℕ) : Type 0 where
+  pub pages : List StoredPage
+  pub passed : pagesStage (view img) h ≡ holds pages
+  pub there : pagesAt (view img) (take n (t .entries)) ≡ pages
+  pub blocks : blocksIn pages ≡ take n (t .entries)
+  pub count : length (take n (t .entries)) ≡ n
+
+pub ready : (img : List ℕ) (h : Header) (t : PagesTest) (n : ℕ) → headerStage img ≡ holds h → t ≡ pagesAnswer (pagesStage (view img) h) → t .refusal ≡ 0 → n ≡ h .pages
+    → Ready img h t n
+ready img h t n e q z k =
+    let a = accepted (view img) h t q z in
+    let s = sure img h (blocksIn (a .pages)) (a .pages) e (a .is) refl in
+    let b = in-use (a .pages) (t .entries) n (a .entries) (s .count ∙ sym k) in
+    record { pages = a .pages; passed = a .is; there = pages-there (view img) h (take n (t .entries)) (a .pages) (a .is) (sym b); blocks = sym b; count = ap length b ∙ s .count ∙ sym k }
+
+-- ---- the returns
+
+module _ (img m : List ℕ) where
+  pub refused-header : (k : ℕ) → headerStage img ≡ refuses k → Recovered img m (Refused k) m
+  unfolding RecoveredBy recover recoverBelow
+  refused-header k e = rw e (refl, refl)
+
+  module _ (h : Header) (e : headerStage img ≡ holds h) where
+    pub refused-memory : length m < 128 * h .capacity + 1024 → Recovered img m (Refused 3) m
+    unfolding RecoveredBy recover recoverBelow memoryFor if_then_else_
+    refused-memory l = rw (e, lt-ltb (length m) (128 * h .capacity + 1024) l) (refl, refl)
+
+    module _ (l : 128 * h .capacity + 1024 ≤ length m) where
+      pub refused-pages : (k : ℕ) → pagesStage (view img) h ≡ refuses k → Recovered img m (Refused k) m
+      unfolding RecoveredBy recover recoverBelow recoverPages memoryFor if_then_else_
+      refused-pages k q = rw (e, le-ltb (length m) (128 * h .capacity + 1024) l, q) (refl, refl)
+
+      pub all-recovered : (ps : List StoredPage) (m' : List ℕ) → pagesStage (view img) h ≡ holds ps
+          → (length m' ≡ length m) × (storeIn m' ≡ some (recoveredStore h ps)) → Recovered img m Done m'
+      unfolding RecoveredBy recover recoverBelow recoverPages memoryFor if_then_else_
+      all-recovered ps m' q k = rw (e, le-ltb (length m) (128 * h .capacity + 1024) l, q) (refl, k)

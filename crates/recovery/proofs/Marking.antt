@@ -1,0 +1,57 @@
+-- Blocks that are in use too: none, one, and one list after another.
+use mathlib.Core.Path.{_≡_, refl, sym, ap, _∙_}
+use mathlib.Core.Bool.{Bool, true, false, _||_}
+use mathlib.Core.List.{List, [], _∷_, _++_}
+use Prim.Native.Nat.{ℕ}
+use lib.Dec.{eqb}
+use borrow.Author.Tests.{eqb-true, eqb-false, eq-eqb, ne-eqb}
+use Rattle.basics.specs.Basics.{any, isIn}
+use Rattle.basics.proofs.Facts.{by}
+use Rattle.rows.proofs.Turns.{any-cons}
+use Rattle.memory.specs.Flat.{usedAnd}
+use Rattle.recovery.specs.Loading.{usedBy}
+
+eqb-swap : (m n : ℕ) → eqb m n ≡ eqb n m
+eqb-swap m n =
+    by (eqb n m)
+    (λ t. rw t (eq-eqb m n (sym (eqb-true n m t))))
+    (λ t. rw t (ne-eqb m n (λ e. eqb-false n m t (sym e))))
+
+or-assoc : (a b c : Bool) → ((a || b) || c) ≡ (a || (b || c))
+or-assoc true b c = refl
+or-assoc false b c = refl
+
+or-swap : (a b c : Bool) → (b || (a || c)) ≡ ((a || b) || c)
+or-swap true true c = refl
+or-swap true false c = refl
+or-swap false b c = refl
+
+in-append : (c : ℕ) (xs ys : List ℕ) → isIn c (xs ++ ys) ≡ (isIn c xs || isIn c ys)
+unfolding isIn any
+in-append c [] ys = refl
+in-append c (x ∷ xs) ys =
+    any-cons (eqb c) x (xs ++ ys)
+    ∙ ap (λ (b : Bool). eqb c x || b) (in-append c xs ys)
+    ∙ sym (or-assoc (eqb c x) (isIn c xs) (isIn c ys))
+    ∙ ap (λ (b : Bool). b || isIn c ys) (sym (any-cons (eqb c) x xs))
+
+pub used-none : (u : ℕ → Bool) → usedBy [] u ≡ u
+unfolding usedBy isIn any
+used-none u = refl
+
+or-end : (b : Bool) → (b || false) ≡ b
+or-end true = refl
+or-end false = refl
+
+pub used-one : (b : ℕ) (u : ℕ → Bool) → usedAnd b u ≡ usedBy (b ∷ []) u
+unfolding usedBy isIn any
+used-one b u = λ i c. ((eqb-swap b c ∙ sym (or-end (eqb c b)) ∙ sym (any-cons (eqb c) b [])) i) || u c
+
+pub used-then : (xs ys : List ℕ) (u : ℕ → Bool) → usedBy ys (usedBy xs u) ≡ usedBy (xs ++ ys) u
+unfolding usedBy
+used-then xs ys u = λ i c. (or-swap (isIn c xs) (isIn c ys) (u c) ∙ ap (λ (b : Bool). b || u c) (sym (in-append c xs ys))) i
+
+-- where no block was in use
+pub used-first : (xs : List ℕ) → usedBy xs (λ c. false) ≡ (λ c. isIn c xs)
+unfolding usedBy
+used-first xs = λ i c. or-end (isIn c xs) i
