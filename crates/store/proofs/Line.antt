@@ -9,7 +9,7 @@ use lib.ListN.{length}
 use Rattle.basics.specs.Basics.{if_then_else_}
 use Rattle.basics.proofs.Facts.{AllOf}
 use Rattle.blocks.specs.Tuple.{AllBytes}
-use Rattle.image.specs.Stages.{holds}
+use Rattle.image.specs.Stages.{Stage, refuses, holds}
 use Rattle.image.specs.View.{view}
 use Rattle.model.specs.State.{Store, Write}
 use Rattle.model.specs.Calls.{Call, call, isBegin, accepted, afterCalls}
@@ -21,10 +21,10 @@ use Rattle.model.proofs.Bytes.{view-sane}
 use Rattle.model.proofs.Claim.{writes-ok}
 use Rattle.model.proofs.Line.{written-long, started, quoted-line}
 use Rattle.memory.specs.Store.{storeIn}
-use Rattle.answers.specs.Shape.{meaning, MadeBy, RecoveredBy, Recovered}
+use Rattle.answers.specs.Shape.{meaning, MadeBy, Made, RecoveredBy, Recovered}
 use Rattle.answers.specs.declared.Answer.{Answer}
 use Rattle.answers.specs.declared.Answer.the-variants.{Done, Count, Filled, Refused}
-use Rattle.store.specs.QuotedLine.{Started, made, recovered, Runs, ends, next, Restored, Line, QuotedLine}
+use Rattle.store.specs.QuotedLine.{Started, made, recovered, Starts, Runs, ends, next, Restored, Line, QuotedLine}
 use Rattle.store.proofs.Refused.{blocks-kept}
 use Rattle.store.proofs.Follows.{does, all-typed}
 use Rattle.model.specs.QuotedLine as model
@@ -66,11 +66,11 @@ follows n past base s (c ∷ cs) img m img′ m′ (next {img₁ = img₁} {m₁
 
 -- ---- the start
 
-record Starts (img m : List ℕ) (s : Store) : Type 0 where
+record Begins (img m : List ℕ) (s : Store) : Type 0 where
   pub start : Start img s
   pub here : storeIn m ≡ some s
 
-starts : (img m : List ℕ) (s : Store) → Started img m s → Starts img m s
+starts : (img m : List ℕ) (s : Store) → Started img m s → Begins img m s
 unfolding MadeBy RecoveredBy
 starts img m s (made img₀ m₀ n e k) =
     let q : (answer.done ≡ answer.done) × ((img ≡ madeImage img₀ n) × ((length m ≡ length m₀) × (storeIn m ≡ some s))) = rw e at k in
@@ -93,6 +93,29 @@ done-alone Done e = refl
 done-alone (Count n) e = let z : _≡_ {A = ℕ} 0 1 = ap isDone e in absurd (omega (arith, z))
 done-alone (Filled n) e = let z : _≡_ {A = ℕ} 0 1 = ap isDone e in absurd (omega (arith, z))
 done-alone (Refused n) e = let z : _≡_ {A = ℕ} 0 1 = ap isDone e in absurd (omega (arith, z))
+
+-- a refusal is not answered by done
+unanswered : {X : Type 0} (k : ℕ) → answer.done ≡ answer.refused k → X
+unfolding isDone
+unanswered k e = let z : _≡_ {A = ℕ} 1 0 = ap isDone e in absurd (omega (arith, z))
+
+make-starts : (img₀ m₀ : List ℕ) (n : ℕ) (img m : List ℕ) (st : Stage Store) → make (length img₀) (length m₀) n ≡ st → MadeBy st n img₀ m₀ Done img m
+    → Made n img₀ m₀ Done img m → (s : Store) × Started img m s
+unfolding MadeBy
+make-starts img₀ m₀ n img m (refuses k) e a b = unanswered k (a .0)
+make-starts img₀ m₀ n img m (holds s) e a b = (s, made img₀ m₀ n e b)
+
+recovery-starts : (img m₀ m : List ℕ) (st : Stage Store) → recover (length m₀) img ≡ st → RecoveredBy st m₀ Done m → Recovered img m₀ Done m
+    → (s : Store) × Started img m s
+unfolding RecoveredBy
+recovery-starts img m₀ m (refuses k) e a b = unanswered k (a .0)
+recovery-starts img m₀ m (holds s) e a b = (s, recovered m₀ e b)
+
+pub every-start : Starts
+every-start = record {
+  make = λ img₀ m₀ n img m a. make-starts img₀ m₀ n img m _ refl a a;
+  recovery = λ img m₀ m a. recovery-starts img m₀ m _ refl a a;
+}
 
 restored : (s t : Store) (base : List Call) (cut m₀ m₁ : List ℕ) (r : Answer) → recover (length m₀) cut ≡ holds t → Same t s base
     → Recovered cut m₀ r m₁ → Restored s base r m₁

@@ -24,6 +24,11 @@ pub data Started : List ℕ → List ℕ → Store → Type 0 where
   made : (img₀ m₀ : List ℕ) (n : ℕ) {img m : List ℕ} {s : Store} → make (length img₀) (length m₀) n ≡ holds s → Made n img₀ m₀ Done img m → Started img m s
   recovered : (m₀ : List ℕ) {img m : List ℕ} {s : Store} → recover (length m₀) img ≡ holds s → Recovered img m₀ Done m → Started img m s
 
+-- every accepted make and every accepted recovery is such a start
+pub record Starts : Type 0 where
+  pub make : (img₀ m₀ : List ℕ) (n : ℕ) (img m : List ℕ) → Made n img₀ m₀ Done img m → (s : Store) × Started img m s
+  pub recovery : (img m₀ m : List ℕ) → Recovered img m₀ Done m → (s : Store) × Started img m s
+
 -- ---- one call
 
 -- `Does c img m img′ m′`: the call c, with the image img and the memory m, leaves img′ and m′, as the contract of its function says

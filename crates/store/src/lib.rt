@@ -5,7 +5,7 @@ ghost use mathlib.Core.Path.{_≡_};
 ghost use lib.IntN.{pos};
 ghost use lib.ListN.{length};
 ghost use Rattle.model.specs.Transactions.{openCall, insertCall, replaceCall, deleteCall, commitCall, abortCall, readCall};
-ghost use Rattle.answers.specs.Shape.{Answers, Replies, Lists, Made};
+ghost use Rattle.answers.specs.Shape.{Answers, Replies, Lists, Made, Recovered};
 ghost use Rattle.store.specs.Code.{whole, code, Coded};
 
 // An empty store, in image and memory.
@@ -13,6 +13,13 @@ pub fn make(image: &mut [u8], m: &mut [u8], capacity: u64) -> Answer
     ensures { λ r. ⌜ Made capacity (now (image .entry)) (now (m .entry)) r (now (image .exit)) (now (m .exit)) ⌝ }
 {
     transactions::make(image, m, capacity)
+}
+
+// What the image holds, laid out in the memory.
+pub fn recover(image: &[u8], m: &mut [u8]) -> Answer
+    ensures { λ r. ⌜ Recovered (now (image .entry)) (now (m .entry)) r (now (m .exit)) ⌝ }
+{
+    recovery::recover(image, m)
 }
 
 // A transaction opens.
@@ -100,6 +107,13 @@ pub extern "C" fn vodzanu_make(image: &mut [u8], memory: &mut [u8], capacity: u6
     ensures { λ r. ⌜ Coded r (λ a. Made capacity (now (image .entry)) (now (memory .entry)) a (now (image .exit)) (now (memory .exit))) ⌝ }
 {
     code(make(image, memory, capacity))
+}
+
+#[no_mangle]
+pub extern "C" fn vodzanu_recover(image: &[u8], memory: &mut [u8]) -> i64
+    ensures { λ r. ⌜ Coded r (λ a. Recovered (now (image .entry)) (now (memory .entry)) a (now (memory .exit))) ⌝ }
+{
+    code(recover(image, memory))
 }
 
 #[no_mangle]
