@@ -89,7 +89,11 @@ fn say_listing(reply: &[u8], n: usize) {
 // ---- calls
 
 fn make(image: &mut [u8], memory: &mut [u8], lent: Lent, asked: Lent, capacity: u64) -> Lent {
-    let a = transactions::make(lend(image, asked.image), lend(memory, asked.memory), capacity);
+    let a = transactions::make(
+        lend(image, asked.image),
+        lend(memory, asked.memory),
+        capacity,
+    );
     say_answer(a);
     match a {
         Answer::Done => asked,
@@ -149,8 +153,7 @@ fn replay_line(line: &[u8], image: &mut [u8], memory: &mut [u8], lent: Lent) -> 
         bytes,
         capacity,
         room,
-    } = call
-    {
+    } = call {
         let asked = Lent {
             image: bytes,
             memory: room,

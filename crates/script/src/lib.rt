@@ -158,7 +158,11 @@ enum Aim {
 
 // Insert and replace have their payload's length, read and list the room for their reply.
 pub enum Call {
-    Make { bytes: u64, capacity: u64, room: u64 },
+    Make {
+        bytes: u64,
+        capacity: u64,
+        room: u64,
+    },
     Open(u64),
     Commit(u64),
     Abort(u64),

@@ -1,4 +1,4 @@
--- `main` lends three arrays, whose lengths are too large to be computed.
+-- `main` lends three arrays. Their lengths are shown by a law: they are too large to be computed.
 use Prim.Native.Nat.{ℕ}
 use mathlib.Core.Path.{_≡_, sym}
 use lib.ListN.{length, replicate, length-replicate}

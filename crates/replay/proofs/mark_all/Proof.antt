@@ -1,14 +1,11 @@
+-- `mark_all` is safe and ends: two bytes of the listing for each turn, and the marks keep their length.
 use mathlib.Core.Path.{_≡_, ap, _∙_}
 use lib.ListN.{length}
 use native.Mathlib.Omega.{arith}
 use mathlib.Core.Logic.{⊎-elim}
-use mathlib.Core.Path.{_≡_}
 use Prim.Native.Nat.{_≤_, _-_, _/_}
 use Rattle.replay.proofs.mark_all.Statement.{statement}
 use Rattle.replay.proofs.mark_all.Tie as tie
-use Rattle.replay.proofs.mark_all.Reads as reads
-use Rattle.replay.proofs.mark_all.Lts as lts
-use Rattle.replay.proofs.mark.Reads as mark-reads
 
 abbrev Inv-loop : tie.InvT-loop
 Inv-loop marks₀ reply n i₀ i-end marks i = (i-end ≡ length reply / 2) × (i ≤ i-end) × (length marks ≡ length marks₀)
@@ -16,52 +13,41 @@ Inv-loop marks₀ reply n i₀ i-end marks i = (i-end ≡ length reply / 2) × (
 abbrev μ-loop : tie.MeasureT-loop
 μ-loop marks₀ reply n i₀ i-end marks i = i-end - i
 
--- src/main.rt:64:5
 loop-holds : tie.Need-loop-holds Inv-loop μ-loop
 loop-holds c = omega arith
 
--- src/main.rt:66:31
 mul-mark : tie.Need-mul-mark Inv-loop μ-loop
 mul-mark c = omega arith
 
--- src/main.rt:66:25
 shared-slice-read-mark : tie.Need-shared-slice-read-mark Inv-loop μ-loop
 shared-slice-read-mark c = omega arith
 
--- src/main.rt:66:45
 mul-mark-2 : tie.Need-mul-mark-2 Inv-loop μ-loop
 mul-mark-2 c = omega arith
 
--- src/main.rt:66:45
 add-mark : tie.Need-add-mark Inv-loop μ-loop
 add-mark c = omega arith
 
--- src/main.rt:66:39
 shared-slice-read-mark-2 : tie.Need-shared-slice-read-mark-2 Inv-loop μ-loop
 shared-slice-read-mark-2 c = omega arith
 
--- src/main.rt:66:13
 mark-requires : tie.Need-mark-requires Inv-loop μ-loop
 mark-requires c κs = omega arith
 
--- src/main.rt:64:9
 add-i : tie.Need-add-i Inv-loop μ-loop
 add-i c = omega arith
 
--- src/main.rt:64:5
 loop-less : tie.Need-loop-less Inv-loop μ-loop
 loop-less c = omega arith
 
--- src/main.rt:64:5
 loop-again : tie.Need-loop-again Inv-loop μ-loop
-loop-again c = let kept = c .before .before .loop .inv .2 in
+loop-again c =
+    let kept = c .before .before .loop .inv .2 in
     (omega arith, omega arith, ⊎-elim (λ w. ap length (w .7) ∙ w .5 .given ∙ kept) (λ w. ap length (w .1) ∙ kept) (c .if1 .came))
 
--- src/main.rt:63:1
 same-length : tie.Need-same-length Inv-loop μ-loop
 same-length c = omega arith
 
--- src/main.rt:63:1
 returns : tie.Need-returns Inv-loop μ-loop
 returns c = tt
 

@@ -1,12 +1,10 @@
+-- `decimal` is safe and ends: a number that the test lets pass fits with one digit more.
 use lib.ListN.{length}
 use native.Mathlib.Omega.{arith}
 use mathlib.Core.Path.{_≡_}
 use Prim.Native.Nat.{_≤_, _-_}
 use Rattle.script.proofs.decimal.Statement.{statement}
 use Rattle.script.proofs.decimal.Tie as tie
-use Rattle.script.proofs.decimal.Reads as reads
-use Rattle.script.proofs.decimal.Lts as lts
-use Rattle.script.proofs.digit.Reads as digit-reads
 
 abbrev Inv-loop : tie.InvT-loop
 Inv-loop s n₀ i₀ i-end n i = (i-end ≡ length s) × (i ≤ i-end)
@@ -14,55 +12,42 @@ Inv-loop s n₀ i₀ i-end n i = (i-end ≡ length s) × (i ≤ i-end)
 abbrev μ-loop : tie.MeasureT-loop
 μ-loop s n₀ i₀ i-end n i = i-end - i
 
--- src/lib.rt:88:9
 returns : tie.Need-returns Inv-loop μ-loop
 returns c = tt
 
--- src/lib.rt:91:5
 loop-holds : tie.Need-loop-holds Inv-loop μ-loop
 loop-holds c = omega arith
 
--- src/lib.rt:92:23
 shared-slice-read-digit : tie.Need-shared-slice-read-digit Inv-loop μ-loop
 shared-slice-read-digit c = omega arith
 
--- src/lib.rt:92:13
 digit-requires : tie.Need-digit-requires Inv-loop μ-loop
 digit-requires c κs = omega arith
 
--- src/lib.rt:94:13
 returns-2 : tie.Need-returns-2 Inv-loop μ-loop
 returns-2 c = tt
 
--- src/lib.rt:96:13
 sub-if3 : tie.Need-sub-if3 Inv-loop μ-loop
 sub-if3 c = omega arith
 
--- src/lib.rt:97:13
 returns-3 : tie.Need-returns-3 Inv-loop μ-loop
 returns-3 c = tt
 
--- src/lib.rt:99:13
 mul-n : tie.Need-mul-n Inv-loop μ-loop
 mul-n c = omega arith
 
--- src/lib.rt:99:13
 add-n : tie.Need-add-n Inv-loop μ-loop
 add-n c = omega arith
 
--- src/lib.rt:91:9
 add-i : tie.Need-add-i Inv-loop μ-loop
 add-i c = omega arith
 
--- src/lib.rt:91:5
 loop-less : tie.Need-loop-less Inv-loop μ-loop
 loop-less c = omega arith
 
--- src/lib.rt:91:5
 loop-again : tie.Need-loop-again Inv-loop μ-loop
 loop-again c = omega arith
 
--- src/lib.rt:86:1
 returns-4 : tie.Need-returns-4 Inv-loop μ-loop
 returns-4 c = tt
 

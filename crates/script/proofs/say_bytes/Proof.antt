@@ -1,13 +1,10 @@
+-- `say_bytes` is safe and ends: at most one turn for each byte.
 use lib.ListN.{length}
 use native.Mathlib.Omega.{arith}
 use mathlib.Core.Path.{_≡_}
 use Prim.Native.Nat.{_≤_, _-_}
 use Rattle.script.proofs.say_bytes.Statement.{statement}
 use Rattle.script.proofs.say_bytes.Tie as tie
-use Rattle.script.proofs.say_bytes.Reads as reads
-use Rattle.script.proofs.say_bytes.Lts as lts
-use Rattle.script.proofs.say.Reads as say-reads
-use Rattle.script.proofs.say_byte.Reads as say-byte-reads
 
 abbrev Inv-loop : tie.InvT-loop
 Inv-loop s n i₀ i-end i = (i-end ≡ length s) × (i ≤ i-end)
@@ -15,39 +12,30 @@ Inv-loop s n i₀ i-end i = (i-end ≡ length s) × (i ≤ i-end)
 abbrev μ-loop : tie.MeasureT-loop
 μ-loop s n i₀ i-end i = i-end - i
 
--- src/lib.rt:310:13
 slice-aggregate-say : tie.Need-slice-aggregate-say Inv-loop μ-loop
 slice-aggregate-say c = omega arith
 
--- src/lib.rt:310:9
 say-requires : tie.Need-say-requires Inv-loop μ-loop
 say-requires c κs = omega arith
 
--- src/lib.rt:312:5
 loop-holds : tie.Need-loop-holds Inv-loop μ-loop
 loop-holds c = omega arith
 
--- src/lib.rt:314:22
 shared-slice-read-say-byte : tie.Need-shared-slice-read-say-byte Inv-loop μ-loop
 shared-slice-read-say-byte c = omega arith
 
--- src/lib.rt:314:13
 say-byte-requires : tie.Need-say-byte-requires Inv-loop μ-loop
 say-byte-requires c κs = omega arith
 
--- src/lib.rt:312:9
 add-i : tie.Need-add-i Inv-loop μ-loop
 add-i c = omega arith
 
--- src/lib.rt:312:5
 loop-less : tie.Need-loop-less Inv-loop μ-loop
 loop-less c = omega arith
 
--- src/lib.rt:312:5
 loop-again : tie.Need-loop-again Inv-loop μ-loop
 loop-again c = omega arith
 
--- src/lib.rt:308:1
 returns : tie.Need-returns Inv-loop μ-loop
 returns c = omega arith
 
