@@ -1,0 +1,35 @@
+-- `main` lends three arrays. Their lengths are shown by a law: they are too large to be computed.
+use Prim.Native.Nat.{ℕ}
+use mathlib.Core.Path.{_≡_, sym}
+use lib.ListN.{length, replicate, length-replicate}
+use borrow.Author.Needs.{needs}
+use Rattle.replay.proofs.main.Statement.{statement}
+use Rattle.replay.proofs.main.Tie as tie
+
+repeated : (n : ℕ) → n ≡ length (replicate {A = ℕ} n 0)
+repeated n = sym (length-replicate {A = ℕ} n 0)
+
+slice-aggregate-replay-input : tie.Need-slice-aggregate-replay-input
+slice-aggregate-replay-input c = repeated 1048576
+
+slice-aggregate-replay-input-2 : tie.Need-slice-aggregate-replay-input-2
+slice-aggregate-replay-input-2 c = repeated 2097664
+
+slice-aggregate-replay-input-3 : tie.Need-slice-aggregate-replay-input-3
+slice-aggregate-replay-input-3 c = repeated 135168
+
+replay-input-requires : tie.Need-replay-input-requires
+replay-input-requires c κs = search needs
+
+returns : tie.Need-returns
+returns c = search needs
+
+pub main-spec : {M : Type 1} → statement M
+main-spec =
+    tie.close
+    (tie.spec
+    slice-aggregate-replay-input
+    slice-aggregate-replay-input-2
+    slice-aggregate-replay-input-3
+    replay-input-requires
+    returns)
