@@ -18,7 +18,11 @@ passed c = let g = c .before .h .given in passed-is (c .before .before .before .
 
 -- the pages that passed
 prepared : (c : tie.After-wide2) → Ready (c .before .before .before .before .before .before .before .before .before .before .before .before .before .args .image .now) (c .before .before .before .before .before .before .before .before .h .given .0 .0) (c .before .before .before .before .test-pages .result) (c .wide2 .result)
-prepared c = ready (c .before .before .before .before .before .before .before .before .before .before .before .before .before .args .image .now) (c .before .before .before .before .before .before .before .before .h .given .0 .0) (c .before .before .before .before .test-pages .result) (c .wide2 .result) (passed (c .before .before .before .before .before .before .before)) (c .before .before .before .before .test-pages .ensures) (c .before .before .if2 .left) (c .wide2 .ensures)
+prepared c =
+    let p4 = c .before .before .before .before in let p13 = p4 .before .before .before .before .before .before .before .before .before in
+    let h = p4 .before .before .before .before .h .given .0 .0 in
+    ready (p13 .args .image .now) h (p4 .test-pages .result) (c .wide2 .result) (passed (p4 .before .before .before)) (p4 .test-pages .ensures)
+    (omega (arith, c .before .before .if2 .left)) (c .wide2 .ensures)
 
 test-header-requires : tie.Need-test-header-requires
 test-header-requires c κs = search needs
@@ -42,7 +46,7 @@ test-pages-requires : tie.Need-test-pages-requires
 test-pages-requires c κs = passed (c .before .before)
 
 returns-2 : tie.Need-returns-2
-returns-2 c = let a = c .before .before .before .before .before .before .before .before .before .before .before .args in refused-pages (a .image .now) (a .m .now) _ (passed (c .before .before .before .before .before)) (omega (arith, c .before .before .before .before .wide .ensures, c .before .before .before .if1 .left)) _ (pages-refused _ _ (c .before .before .test-pages .ensures) (c .if2 .taken))
+returns-2 c = let a = c .before .before .before .before .before .before .before .before .before .before .before .args in refused-pages (a .image .now) (a .m .now) _ (passed (c .before .before .before .before .before)) (omega (arith, c .before .before .before .before .wide .ensures, c .before .before .before .if1 .left)) _ (pages-refused _ _ (c .before .before .test-pages .ensures) (λ z. omega (arith, z, c .if2 .taken)))
 
 wide-requires-2 : tie.Need-wide-requires-2
 wide-requires-2 c κs = search needs
