@@ -1,0 +1,5 @@
+pub mod Numbered
+pub mod Headers
+pub mod Showing
+pub mod Recorded
+pub mod Writing

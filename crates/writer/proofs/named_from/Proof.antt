@@ -1,0 +1,63 @@
+-- `writer::named_from` meets its contract.
+use mathlib.Core.Path.{_≡_, refl}
+use Prim.Native.Nat.{_-_, _≤_}
+use native.Mathlib.Omega.{arith}
+use lib.ListN.{length, take, drop, length-set}
+use Rattle.memory.specs.Store.{blocksOf}
+use Rattle.memory.specs.Flat.{flatOf}
+use Rattle.writer.proofs.Numbered.{entries-turn}
+use Rattle.writer.proofs.named_from.Statement.{statement}
+use Rattle.writer.proofs.named_from.Tie as tie
+
+abbrev Inv-loop : tie.InvT-loop
+Inv-loop m first count entries₀ i₀ entries i = (length entries ≡ 336) × ((i ≤ count) × (take i entries ≡ take i (drop first (blocksOf (flatOf m .named)))))
+
+abbrev μ-loop : tie.MeasureT-loop
+μ-loop m first count entries₀ i₀ entries i = count - i
+
+loop-holds : tie.Need-loop-holds Inv-loop μ-loop
+loop-holds c = (refl, (omega arith, refl))
+
+add-get-named : tie.Need-add-get-named Inv-loop μ-loop
+add-get-named c = omega arith
+
+get-named-requires : tie.Need-get-named-requires Inv-loop μ-loop
+get-named-requires c κs = omega arith
+
+mul-entries : tie.Need-mul-entries Inv-loop μ-loop
+mul-entries c = omega arith
+
+array-write-entries : tie.Need-array-write-entries Inv-loop μ-loop
+array-write-entries c = omega arith
+
+add-i : tie.Need-add-i Inv-loop μ-loop
+add-i c = omega arith
+
+loop-less : tie.Need-loop-less Inv-loop μ-loop
+loop-less c = omega arith
+
+loop-again : tie.Need-loop-again Inv-loop μ-loop
+loop-again c = let s = c .before .before .before .before in
+    let p = c .before .before .loop in
+    (simp length-set (p .inv .0), (omega arith, entries-turn (flatOf (s .args .m .now) .named) (p .entries) (s .args .first) (p .i) (c .get-named .result) (omega arith) (omega arith) (c .get-named .ensures) (p .inv .1 .1)))
+
+returns : tie.Need-returns Inv-loop μ-loop
+returns c = let p = c .before .loop in
+    let e : p .i ≡ c .before .before .before .args .count = omega arith in
+    rw e at (p .inv .1 .1)
+
+pub named-from-spec : {M : Type 1} → statement M
+named-from-spec =
+    tie.close
+    (tie.spec
+    Inv-loop
+    μ-loop
+    loop-holds
+    add-get-named
+    get-named-requires
+    mul-entries
+    array-write-entries
+    add-i
+    loop-less
+    loop-again
+    returns)

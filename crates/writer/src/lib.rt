@@ -1,0 +1,160 @@
+// The blocks that a checkpoint stores, from the working memory: each is built in zeros and copied out whole.
+ghost use mathlib.Core.Path.{_≡_};
+ghost use mathlib.Core.Bool.{not};
+ghost use Prim.Native.Nat.{suc, _+_, _*_, _≤_, _<_};
+ghost use lib.ListN.{length, take, drop, getD};
+ghost use Rattle.blocks.specs.Limits.{entriesPerBlock};
+ghost use Rattle.blocks.specs.Tuple.{sizes};
+ghost use Rattle.blocks.specs.Block.{header, page, directory, encodeBlock};
+ghost use Rattle.model.specs.Rules.{isAdding, shown};
+ghost use Rattle.model.specs.Checkpoint.{storable, headerFor};
+ghost use Rattle.memory.specs.Views.{tab};
+ghost use Rattle.memory.specs.Flat.{flatOf, Room};
+ghost use Rattle.memory.specs.Store.{heldIn, blocksOf, storeOf};
+ghost use Rattle.writer.specs.Shown.{Stores, Spells};
+
+// ---- the header
+
+// The number of directory block i, 0 if there is none.
+fn directory_number(m: &[u8], i: usize) -> u32
+    requires { ⌜ Room (now m) ⌝ }
+    ensures { λ r. ⌜ r ≡ getD (blocksOf (flatOf (now (m .entry)) .directories)) i 0 ⌝ }
+{
+    let c = memory::get_counts(m);
+    let n = c.directories as usize;
+    if i < n {
+        return memory::get_directory(m, i) % 4096;
+    }
+    0
+}
+
+// The header to come, as the memory has it.
+pub fn write_header(out: &mut [u8], m: &[u8])
+    requires { ⌜ Room (now m) × ((flatOf (now m) .head .level < 4294967295) × (length (now out) ≡ 512)) ⌝ }
+    ensures { λ _. ⌜ now (out .exit) ≡ encodeBlock (header (headerFor (storeOf (flatOf (now (m .entry)))) (suc (flatOf (now (m .entry)) .head .level)) (flatOf (now (m .entry)) .head .begun) (length (flatOf (now (m .entry)) .named)) (blocksOf (flatOf (now (m .entry)) .directories)))) ⌝ }
+{
+    let h = memory::get_head(m);
+    let c = memory::get_counts(m);
+    let block = blocks::Header {
+        blocks: h.blocks,
+        capacity: h.capacity,
+        level: h.level + 1,
+        next: h.begun,
+        pages: c.named,
+        directories: c.directories,
+        d0: directory_number(m, 0),
+        d1: directory_number(m, 1),
+        d2: directory_number(m, 2),
+        d3: directory_number(m, 3),
+    };
+    blocks::write_header(out, block);
+}
+
+// ---- the directory
+
+// count entries of the list of pages at begin, from the entry first on.
+fn named_from(m: &[u8], first: usize, count: usize) -> [u16; 336]
+    requires { ⌜ Room (now m) × ((count ≤ entriesPerBlock) × (first + count ≤ length (flatOf (now m) .named))) ⌝ }
+    ensures { λ r. ⌜ take count r ≡ take count (drop first (blocksOf (flatOf (now (m .entry)) .named))) ⌝ }
+{
+    let mut entries = [0u16; 336];
+    let mut i: usize = 0;
+    while i < count {
+        entries[i] = memory::get_named(m, first + i) % 4096;
+        i += 1;
+    }
+    entries
+}
+
+// Directory block k of the list of pages at begin.
+pub fn write_directory(out: &mut [u8], m: &[u8], k: usize, level: u32)
+    requires { ⌜ Room (now m) × ((entriesPerBlock * k ≤ length (flatOf (now m) .named)) × (length (now out) ≡ 512)) ⌝ }
+    ensures { λ _. ⌜ now (out .exit) ≡ encodeBlock (directory level (take entriesPerBlock (drop (entriesPerBlock * k) (blocksOf (flatOf (now (m .entry)) .named))))) ⌝ }
+{
+    let c = memory::get_counts(m);
+    let first = blocks::ENTRIES_PER_BLOCK * k;
+    let mut count = c.named as usize - first;
+    if blocks::ENTRIES_PER_BLOCK < count {
+        count = blocks::ENTRIES_PER_BLOCK;
+    }
+    let entries = named_from(m, first, count);
+    blocks::write_directory(out, level, &entries[0..count]);
+}
+
+// ---- a page
+
+// A pending add is no part of the image; every other row is shown as it was when its page was frozen.
+fn is_shown(m: &[u8], i: usize) -> bool
+    requires { ⌜ Room (now m) × (i < length (flatOf (now m) .rows)) ⌝ }
+    ensures { λ r. ⌜ r ≡ not (isAdding (heldIn (flatOf (now (m .entry))) i .pending)) ⌝ }
+{
+    memory::flags_at(m, i) / 4 % 4 != 1
+}
+
+// The size of what n rows from start on show.
+fn shown_size(m: &[u8], start: usize, n: usize) -> usize
+    requires { ⌜ Room (now m) × (start + n ≤ length (flatOf (now m) .rows)) ⌝ }
+    ensures { λ r. ⌜ r ≡ sizes (shown (tab (heldIn (flatOf (now (m .entry)))) start n)) ⌝ }
+{
+    let end = start + n;
+    let mut all: usize = 0;
+    let mut i = start;
+    while i < end {
+        if is_shown(m, i) {
+            all += memory::tuple_size(m, i);
+        }
+        i += 1;
+    }
+    all
+}
+
+// Where the rows to write end: at start itself, if n rows from there on show more than a block has room for.
+fn storable_end(m: &[u8], start: usize, n: usize) -> usize
+    requires { ⌜ Room (now m) × (start + n ≤ length (flatOf (now m) .rows)) ⌝ }
+    ensures { λ r. ⌜ Stores (heldIn (flatOf (now (m .entry)))) start n r ⌝ }
+{
+    if shown_size(m, start, n) <= blocks::PageLayout::RECORD_SPACE {
+        return start + n;
+    }
+    start
+}
+
+// Row i as a record. A pending commit or removal is not looked at.
+fn record_at(m: &[u8], i: usize) -> blocks::Record
+    requires { ⌜ Room (now m) × (i < length (flatOf (now m) .rows)) ⌝ }
+    ensures { λ r. ⌜ Spells (now (m .entry)) r (heldIn (flatOf (now (m .entry))) i .tuple) ⌝ }
+{
+    let f = memory::flags_at(m, i);
+    let p = memory::payload_at(m, i);
+    let flags = 128 * (1 - f % 2) + 64 * (f / 2 % 2) + p.len as u8;
+    blocks::Record {
+        key: memory::key_at(m, i),
+        number: memory::number_at(m, i),
+        flags: flags,
+        owner: memory::owner_at(m, i),
+        start: p.start,
+        len: p.len,
+    }
+}
+
+// The block of a page whose n rows begin at start: what it showed when it was frozen.
+pub fn write_page(out: &mut [u8], m: &[u8], table: u8, start: usize, n: usize, level: u32)
+    requires { ⌜ Room (now m) × ((start + n ≤ length (flatOf (now m) .rows)) × ((table < 8) × (length (now out) ≡ 512))) ⌝ }
+    ensures { λ _. ⌜ now (out .exit) ≡ encodeBlock (page table level (storable (shown (tab (heldIn (flatOf (now (m .entry)))) start n)))) ⌝ }
+{
+    let end = storable_end(m, start, n);
+    let mut block = [0u8; 512];
+    let mut at: usize = 8;
+    let mut count: u32 = 0;
+    let mut i = start;
+    while i < end {
+        if is_shown(m, i) {
+            let r = record_at(m, i);
+            at = blocks::append(&mut block, at, r, m);
+            count += 1;
+        }
+        i += 1;
+    }
+    blocks::put_page_head(&mut block, table as u32, count, at as u32 - 8, level);
+    blocks::copy(out, 0, &block, 0, 512);
+}
