@@ -162,11 +162,11 @@ module _ (f : Flat) where
 -- ---- searches
 
 module _ {A : Type 0} (f : A → Bool) where
-  first-hit : (x : A) (xs : List A) → f x ≡ true → first f (x ∷ xs) ≡ some x
+  pub first-hit : (x : A) (xs : List A) → f x ≡ true → first f (x ∷ xs) ≡ some x
   unfolding first
   first-hit x xs e = rw (e, first)
 
-  first-past : (x : A) (xs : List A) → f x ≡ false → first f (x ∷ xs) ≡ first f xs
+  pub first-past : (x : A) (xs : List A) → f x ≡ false → first f (x ∷ xs) ≡ first f xs
   unfolding first
   first-past x xs e = rw (e, first)
 

@@ -1,7 +1,7 @@
 -- The store after a begin and after each kind of block store, and what one step does to image and memory.
 use Prim.Native.Nat.{ℕ, suc, _*_}
 use mathlib.Core.Path.{_≡_}
-use mathlib.Core.Bool.{Bool, true, false, not}
+use mathlib.Core.Bool.{Bool, true, not, _||_}
 use mathlib.Core.Option.{Option, none, some}
 use mathlib.Core.List.{List, [], _∷_, _++_, map}
 use lib.ListN.{length}
@@ -11,7 +11,8 @@ use Rattle.model.specs.State.{Page, Checkpoint, idle, running, Store, Outcome}
 use Rattle.model.specs.Rules.{freeze, thaw}
 use Rattle.model.specs.Checkpoint.{stored, isRunning, usedToo, fill, stepAt}
 use Rattle.model.specs.Recover.{imageAfter}
-use Rattle.memory.specs.Flat.{flatOf, Becomes, withNamed, withUsed}
+use Rattle.memory.specs.Flat.{Flat, flatOf, usedAnd, Becomes, withHead, withNamed, withUsed}
+use Rattle.memory.specs.declared.Head.{Head}
 use Rattle.memory.specs.Store.{blocksOf, holdsStore, storeOf, storeIn}
 
 -- begin freezes every dirty page and fixes the list of all pages
@@ -55,6 +56,12 @@ pub record Ready (img m : List ℕ) : Type 0 where
   pub runs : Runs m
   pub long : length img ≡ 512 * flatOf m .head .blocks
 
+-- block b is in use too, and it is the one last taken
+abbrev pub taking : ℕ → Flat → Flat
+taking b f =
+    let h = f .head in
+    withUsed (withHead f (record { capacity = h .capacity; blocks = h .blocks; level = h .level; next = h .next; running = h .running; begun = h .begun; taken = b })) (usedAnd b (f .used))
+
 -- from m to m' the store becomes s
 pub record Leads (m m' : List ℕ) (s : Store) : Type 0 where
   pub size : length m' ≡ length m
@@ -68,7 +75,7 @@ pub record Fills (m m' : List ℕ) (b : ℕ) : Type 0 where
 -- these blocks are in use too
 pub record Marks (m m' : List ℕ) (bs : List ℕ) : Type 0 where
   pub becomes : Becomes m m' (withUsed (flatOf m) (flatOf m' .used))
-  pub used : (c : ℕ) → flatOf m' .used c ≡ (if isIn c bs then true else flatOf m .used c)
+  pub used : (c : ℕ) → flatOf m' .used c ≡ (isIn c bs || flatOf m .used c)
 
 -- what the outcome o does to image and memory
 pub record Does (o : Outcome) (img m img' m' : List ℕ) : Type 0 where
