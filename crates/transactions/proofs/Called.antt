@@ -14,7 +14,7 @@ use Rattle.memory.specs.Store.{storeOf, storeIn}
 use Rattle.answers.specs.Shape.{Answers}
 use Rattle.transactions.specs.Refusals.{verdictIn, writeTests}
 use Rattle.answers.specs.declared.Answer.the-variants.{Done, Refused}
-use Rattle.transactions.specs.Writes.{afterWrite}
+use Rattle.changes.specs.Writes.{afterWrite}
 use Rattle.answers.proofs.Answering.{answers-done}
 use Rattle.transactions.proofs.Verdicts.{Numbered, passed-held, call-after, answers-stopped}
 use Rattle.model.specs.State as model

@@ -4,6 +4,5 @@ pub mod Reading
 pub mod Making
 pub mod Listing
 pub mod Testing
-pub mod Writing
 pub mod Called
 pub mod Closing

@@ -29,7 +29,7 @@ use Rattle.look.specs.declared.Seen.the-variants.{At, Nothing}
 use Rattle.look.proofs.Places.{not-found-open}
 use Rattle.look.proofs.Versions.{look-sees}
 use Rattle.transactions.specs.Refusals.{verdict, verdictIn, writeTests, lost, keyVerdict}
-use Rattle.transactions.specs.Writes.{AcceptAt}
+use Rattle.changes.specs.Writes.{AcceptAt}
 use Rattle.transactions.proofs.Verdicts.{stop-here, go-on, verdict-none, verdict-append, verdict-first, verdict-4, verdict-in, passed-held, passed-tests, open-numbered}
 
 -- ---- 13, 14

@@ -1,3 +1,1 @@
 pub mod Refusals
-pub mod Writes
-pub mod Closes

@@ -1,4 +1,4 @@
--- `transactions::perform` meets its contract.
+-- `changes::perform` meets its contract.
 use mathlib.Core.Bool.{true}
 use mathlib.Core.Path.{_≡_, refl, sym, ap, _∙_}
 use Prim.Native.Nat.{_+_, _-_, _≤_}
@@ -9,9 +9,9 @@ use Rattle.memory.specs.Store.{pagesIn, holdsStore}
 use Rattle.memory.specs.Flat.{flatOf}
 use Rattle.pages.specs.Turns.{Turns}
 use Rattle.look.specs.Plans.{opsOf}
-use Rattle.transactions.proofs.Closing.{opsFrom, turned-none, turned-held, turned-pages, turned-then, turned-as, ops-turn, ops-done}
-use Rattle.transactions.proofs.perform.Statement.{statement}
-use Rattle.transactions.proofs.perform.Tie as tie
+use Rattle.changes.proofs.Closing.{opsFrom, turned-none, turned-held, turned-pages, turned-then, turned-as, ops-turn, ops-done}
+use Rattle.changes.proofs.perform.Statement.{statement}
+use Rattle.changes.proofs.perform.Tie as tie
 
 abbrev Inv-loop : tie.InvT-loop
 Inv-loop m₀ ops n i₀ m i = (i ≤ n) × ((length m ≡ length m₀) × ((holdsStore m ≡ true) × (Turns m₀ m (pagesIn (flatOf m)) × (perform (opsFrom ops n i) (pagesIn (flatOf m)) ≡ perform (opsOf (take n ops)) (pagesIn (flatOf m₀))))))

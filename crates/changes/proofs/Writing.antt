@@ -26,7 +26,7 @@ use Rattle.memory.proofs.Meaning.{becomes-then}
 use Rattle.pages.specs.Turns.{Turns, withPages}
 use Rattle.pages.specs.Spots.{PlaceAt}
 use Rattle.look.specs.Opens.{findOpen}
-use Rattle.transactions.specs.Writes.{flagsOf, bumped, NewRow, AcceptAt, afterWrite}
+use Rattle.changes.specs.Writes.{flagsOf, bumped, NewRow, AcceptAt, afterWrite}
 
 -- ---- the new row
 

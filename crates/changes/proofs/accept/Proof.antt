@@ -1,4 +1,4 @@
--- `transactions::accept` meets its contract.
+-- `changes::accept` meets its contract.
 use mathlib.Core.List.{List}
 use mathlib.Core.Path.{_≡_, sym, ap, _∙_}
 use Prim.Native.Nat.{ℕ}
@@ -8,9 +8,9 @@ use borrow.Author.Needs.{needs}
 use Rattle.memory.specs.declared.Head.{Head}
 use Rattle.memory.specs.Flat.{flatOf, Room}
 use Rattle.memory.proofs.Refusal.{held-room}
-use Rattle.transactions.proofs.Writing.{place-at, accepted-size, accepted-store, counted-opens, next-replaces, at-place}
-use Rattle.transactions.proofs.accept.Statement.{statement}
-use Rattle.transactions.proofs.accept.Tie as tie
+use Rattle.changes.proofs.Writing.{place-at, accepted-size, accepted-store, counted-opens, next-replaces, at-place}
+use Rattle.changes.proofs.accept.Statement.{statement}
+use Rattle.changes.proofs.accept.Tie as tie
 
 get-head-requires : tie.Need-get-head-requires
 get-head-requires c κs = let r : Room (c .before .before .before .args .m .now) = held-room _ (c .before .before .before .pre .held) in

@@ -1,8 +1,8 @@
--- `transactions::bump` meets its contract.
+-- `changes::bump` meets its contract.
 use borrow.Author.Needs.{needs}
-use Rattle.transactions.proofs.Writing.{bump-full, bump-one}
-use Rattle.transactions.proofs.bump.Statement.{statement}
-use Rattle.transactions.proofs.bump.Tie as tie
+use Rattle.changes.proofs.Writing.{bump-full, bump-one}
+use Rattle.changes.proofs.bump.Statement.{statement}
+use Rattle.changes.proofs.bump.Tie as tie
 
 returns : tie.Need-returns
 returns c = bump-full (c .before .args .w) (c .if1 .taken)

@@ -1,4 +1,4 @@
--- `transactions::close` meets its contract.
+-- `changes::close` meets its contract.
 use mathlib.Core.Path.{_≡_, refl, sym, ap, _∙_}
 use Prim.Native.Nat.{ℕ, _-_, _/_, _≤_, _<_}
 use native.Mathlib.Omega.{arith}
@@ -6,9 +6,9 @@ use lib.ListN.{length}
 use borrow.Author.Needs.{needs}
 use Rattle.memory.specs.declared.Counts.{Counts}
 use Rattle.memory.specs.Flat.{flatOf}
-use Rattle.transactions.proofs.Closing.{Closed, closed-start, closed-out, closed-past, closed-end, removed-count}
-use Rattle.transactions.proofs.close.Statement.{statement}
-use Rattle.transactions.proofs.close.Tie as tie
+use Rattle.changes.proofs.Closing.{Closed, closed-start, closed-out, closed-past, closed-end, removed-count}
+use Rattle.changes.proofs.close.Statement.{statement}
+use Rattle.changes.proofs.close.Tie as tie
 
 abbrev Inv-loop : tie.InvT-loop
 Inv-loop m₀ transaction n₀ i₀ m n i = (n ≡ length (flatOf m .opens)) × ((i ≤ n) × ((length m ≡ length m₀) × Closed m₀ m transaction i))

@@ -1,9 +1,9 @@
--- `transactions::new_row` meets its contract.
+-- `changes::new_row` meets its contract.
 use mathlib.Core.Path.{refl}
 use borrow.Author.Needs.{needs}
-use Rattle.transactions.proofs.Writing.{row-new}
-use Rattle.transactions.proofs.new_row.Statement.{statement}
-use Rattle.transactions.proofs.new_row.Tie as tie
+use Rattle.changes.proofs.Writing.{row-new}
+use Rattle.changes.proofs.new_row.Statement.{statement}
+use Rattle.changes.proofs.new_row.Tie as tie
 
 padded-requires : tie.Need-padded-requires
 padded-requires c κs = search needs

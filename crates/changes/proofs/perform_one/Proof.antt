@@ -1,10 +1,10 @@
--- `transactions::perform_one` meets its contract.
+-- `changes::perform_one` meets its contract.
 use borrow.Author.Needs.{needs}
 use Rattle.memory.specs.Store.{pagesIn}
 use Rattle.memory.specs.Flat.{flatOf}
-use Rattle.transactions.proofs.Closing.{one-removed, one-committed, turned-as}
-use Rattle.transactions.proofs.perform_one.Statement.{statement}
-use Rattle.transactions.proofs.perform_one.Tie as tie
+use Rattle.changes.proofs.Closing.{one-removed, one-committed, turned-as}
+use Rattle.changes.proofs.perform_one.Statement.{statement}
+use Rattle.changes.proofs.perform_one.Tie as tie
 
 cast-x : tie.Need-cast-x
 cast-x c = search needs

@@ -1,8 +1,8 @@
--- `transactions::flags_of` meets its contract.
+-- `changes::flags_of` meets its contract.
 use mathlib.Core.Path.{sym, ap}
-use Rattle.transactions.specs.Writes.{flagsOf}
-use Rattle.transactions.proofs.flags_of.Statement.{statement}
-use Rattle.transactions.proofs.flags_of.Tie as tie
+use Rattle.changes.specs.Writes.{flagsOf}
+use Rattle.changes.proofs.flags_of.Statement.{statement}
+use Rattle.changes.proofs.flags_of.Tie as tie
 
 returns : tie.Need-returns
 unfolding flagsOf

@@ -1,9 +1,9 @@
--- `transactions::finish` meets its contract.
+-- `changes::finish` meets its contract.
 use borrow.Author.Needs.{needs}
 use Rattle.memory.proofs.Refusal.{held-room}
-use Rattle.transactions.proofs.Closing.{turned-held, finished}
-use Rattle.transactions.proofs.finish.Statement.{statement}
-use Rattle.transactions.proofs.finish.Tie as tie
+use Rattle.changes.proofs.Closing.{turned-held, finished}
+use Rattle.changes.proofs.finish.Statement.{statement}
+use Rattle.changes.proofs.finish.Tie as tie
 
 perform-requires : tie.Need-perform-requires
 perform-requires c κs = search needs
