@@ -11,16 +11,16 @@ use lib.Seq.{drop-cons}
 use lib.Dec.{eqb, leb}
 use borrow.Author.Tests.{eq-eqb, ne-eqb, eqb-true, eqb-false}
 use Rattle.basics.specs.Basics.{if_then_else_, any, isIn}
-use Rattle.basics.proofs.Facts.{by, lie}
+use Rattle.basics.proofs.Facts.{by}
 use Rattle.model.specs.State.{Page, Checkpoint, idle, running, Store}
 use Rattle.model.specs.Rules.{thaw}
 use Rattle.model.specs.Transactions.{changed}
 use Rattle.model.specs.Checkpoint.{stored, isRunning, usedToo, fill}
 use Rattle.model.proofs.Lists.{any-cons, in-append}
 use Rattle.memory.specs.Flat.{Flat, flatOf, usedAnd, Room, Becomes, withHead, withNamed, withDirectories, withUsed}
-use Rattle.memory.specs.Store.{pagesIn, blocksOf, checkpointOf, filled, holdsStore, storeOf, storeIn}
+use Rattle.memory.specs.Store.{pagesIn, blocksOf, checkpointOf, filled, holdsStore, storeOf}
 use Rattle.memory.specs.declared.Head.{Head}
-use Rattle.memory.proofs.Refusal.{held-room, held-filled, room-held}
+use Rattle.memory.proofs.Refusal.{held-filled, room-held}
 use Rattle.memory.proofs.Meaning.{in-next, becomes-then}
 use Rattle.pages.specs.Turns.{Turns, withPages}
 use Rattle.pages.proofs.Swaps.{map-append}

@@ -2,19 +2,19 @@
 use mathlib.Core.Path.{_≡_, refl, sym, ap, _∙_}
 use mathlib.Core.Bool.{Bool, true, false, not}
 use mathlib.Core.Option.{Option, none, some}
-use mathlib.Core.List.{List, [], _∷_, _++_, map}
+use mathlib.Core.List.{List, [], _∷_, _++_}
 use Prim.Native.Nat.{ℕ, zero, suc, _+_, _-_, _%_, _≤_, _<_}
 use native.Mathlib.Omega.{arith}
 use native.Mathlib.Numerals.{add-one}
 use lib.ListN.{length, drop, getD, length-map, drop-of-length-le}
 use lib.Seq.{drop-cons}
-use lib.Dec.{eqb, leb}
+use lib.Dec.{eqb}
 use mathlib.Core.Logic.{⊎-elim}
-use borrow.Author.Tests.{eqb-true, eqb-false, eq-eqb, ne-eqb, lt-ltb, le-ltb, le-leb, lt-leb}
+use borrow.Author.Tests.{eqb-true, eqb-false, eq-eqb, ne-eqb, le-leb, lt-leb}
 use Rattle.basics.specs.Basics.{if_then_else_, howMany, first, from}
-use Rattle.basics.proofs.Facts.{by, by-option, lie, never}
+use Rattle.basics.proofs.Facts.{by, lie, never}
 use Rattle.image.specs.Stages.{directoriesFor}
-use Rattle.model.specs.State.{Held, Page, Checkpoint, idle, running, Store}
+use Rattle.model.specs.State.{Held, Page, Checkpoint, idle, running}
 use Rattle.model.specs.Rules.{isDirty, isFrozen}
 use Rattle.model.specs.Checkpoint.{allocate, isFree, freeCount, isRunning, blocksNeeded, leftOf, left}
 use Rattle.memory.specs.Flat.{Flat}
