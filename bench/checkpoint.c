@@ -38,7 +38,8 @@ static sqlite3 *sql_store(unsigned n) {
     return db;
 }
 
-static double backup(unsigned n) {
+/* all pages at once, or one page a step */
+static double backup(unsigned n, int pages) {
     double b = 1e18;
     sqlite3 *from = sql_store(n);
     for (int round = 0; round < ROUNDS; round++) {
@@ -46,7 +47,9 @@ static double backup(unsigned n) {
         sqlite3_open(":memory:", &to);
         double t = now();
         sqlite3_backup *k = sqlite3_backup_init(to, "main", from, "main");
-        if (sqlite3_backup_step(k, -1) != SQLITE_DONE) exit(1);
+        int r;
+        while ((r = sqlite3_backup_step(k, pages)) == SQLITE_OK) {}
+        if (r != SQLITE_DONE) exit(1);
         sqlite3_backup_finish(k);
         b = best(b, now() - t);
         sqlite3_close(to);
@@ -97,9 +100,9 @@ static void measure(unsigned n) {
         }
         sixteen = best(sixteen, (now() - t) / 100);
     }
-    double sql = backup(n);
-    printf("N %4u stores %3ld begin %6.0f step %6.0f (16 copies of 512 bytes %4.0f: %.1f) checkpoint %7.0f (SQLite backup %7.0f: %.2f) recover %8.0f (copy %6.0f: %.0f)\n",
-           n, (long)stores, begin, step, sixteen, step / sixteen, whole, sql, whole / sql, recover, copying, recover / copying);
+    double sql = backup(n, -1), stepped = backup(n, 1);
+    printf("N %4u stores %3ld begin %6.0f step %6.0f (16 copies of 512 bytes %4.0f: %.1f) checkpoint %7.0f (SQLite backup %7.0f: %.2f, page by page %7.0f: %.2f) recover %8.0f (copy %6.0f: %.0f)\n",
+           n, (long)stores, begin, step, sixteen, step / sixteen, whole, sql, whole / sql, stepped, whole / stepped, recover, copying, recover / copying);
 }
 
 int main(void) {
