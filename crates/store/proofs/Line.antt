@@ -137,5 +137,5 @@ quoted img m bytes s st calls img′ m′ rs =
       memory = k .0;
       image = k .1;
       restart = λ cut base c m₀ m₁ r h rec.
-      let x = quoted-line img bytes s (a .start) calls ty cut base c (length m₀) h in restored s (x .0) base cut m₀ m₁ r (x .1) (x .2) rec;
+          let x = quoted-line img bytes s (a .start) calls ty cut base c (length m₀) h in restored s (x .0) base cut m₀ m₁ r (x .1) (x .2) rec;
     }

@@ -146,14 +146,26 @@ pub extern "C" fn vodzanu_open(memory: &mut [u8], transaction: u64) -> i64
 }
 
 #[no_mangle]
-pub extern "C" fn vodzanu_insert(memory: &mut [u8], transaction: u64, table: u64, key: u32, payload: &[u8]) -> i64
+pub extern "C" fn vodzanu_insert(
+    memory: &mut [u8],
+    transaction: u64,
+    table: u64,
+    key: u32,
+    payload: &[u8],
+) -> i64
     ensures { λ r. ⌜ Coded r (λ a. Answers (insertCall transaction table key (now (payload .entry))) (now (memory .entry)) a (now (memory .exit))) ⌝ }
 {
     code(insert(memory, transaction, table, key, payload))
 }
 
 #[no_mangle]
-pub extern "C" fn vodzanu_replace(memory: &mut [u8], transaction: u64, table: u64, key: u32, payload: &[u8]) -> i64
+pub extern "C" fn vodzanu_replace(
+    memory: &mut [u8],
+    transaction: u64,
+    table: u64,
+    key: u32,
+    payload: &[u8],
+) -> i64
     ensures { λ r. ⌜ Coded r (λ a. Answers (replaceCall transaction table key (now (payload .entry))) (now (memory .entry)) a (now (memory .exit))) ⌝ }
 {
     code(replace(memory, transaction, table, key, payload))
@@ -181,7 +193,13 @@ pub extern "C" fn vodzanu_abort(memory: &mut [u8], transaction: u64) -> i64
 }
 
 #[no_mangle]
-pub extern "C" fn vodzanu_read(memory: &[u8], transaction: u64, table: u64, key: u32, reply: &mut [u8]) -> i64
+pub extern "C" fn vodzanu_read(
+    memory: &[u8],
+    transaction: u64,
+    table: u64,
+    key: u32,
+    reply: &mut [u8],
+) -> i64
     ensures { λ r. ⌜ Coded r (λ a. Replies (readCall transaction table key (length (now (reply .entry)))) (now (memory .entry)) a (now (reply .entry)) (now (reply .exit))) ⌝ }
 {
     code(read(memory, transaction, table, key, reply))
