@@ -324,10 +324,7 @@ fn call_with_two(line: &[u8]) -> Call {
         return Call::Bad;
     };
     if named(line, b"recover") {
-        return Call::Recover {
-            bytes: a,
-            room: b,
-        };
+        return Call::Recover { bytes: a, room: b };
     }
     if named(line, b"run") {
         return Call::Run(a, Extent::Bytes(b));
