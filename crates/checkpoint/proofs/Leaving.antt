@@ -1,0 +1,320 @@
+-- What the memory holds after each kind of store.
+use mathlib.Core.Path.{_≡_, refl, sym, ap, _∙_, fun-ext}
+use mathlib.Core.Bool.{Bool, true, false, _||_}
+use mathlib.Core.Option.{some}
+use mathlib.Core.List.{List, [], _∷_, _++_, map}
+use Prim.Native.Nat.{ℕ, suc, _+_, _%_, _≤_, _<_}
+use native.Mathlib.Omega.{arith}
+use native.Mathlib.Numerals.{add-one}
+use lib.ListN.{length, drop, getD, set, List·getD-map, drop-of-length-le}
+use lib.Seq.{drop-cons}
+use lib.Dec.{eqb, leb}
+use borrow.Author.Tests.{eq-eqb, ne-eqb, eqb-true, eqb-false}
+use Rattle.basics.specs.Basics.{if_then_else_, any, isIn}
+use Rattle.basics.proofs.Facts.{by}
+use Rattle.model.specs.State.{Page, Checkpoint, idle, running, Store}
+use Rattle.model.specs.Rules.{thaw}
+use Rattle.model.specs.Transactions.{changed}
+use Rattle.model.specs.Checkpoint.{stored, isRunning, usedToo, fill}
+use Rattle.model.proofs.Lists.{any-cons, in-append}
+use Rattle.memory.specs.Flat.{Flat, flatOf, usedAnd, Room, Becomes, withHead, withNamed, withDirectories, withUsed}
+use Rattle.memory.specs.Store.{pagesIn, blocksOf, checkpointOf, filled, holdsStore, storeOf}
+use Rattle.memory.specs.declared.Head.{Head}
+use Rattle.memory.proofs.Refusal.{held-filled, room-held}
+use Rattle.memory.proofs.Meaning.{in-next, becomes-then}
+use Rattle.pages.specs.Turns.{Turns, withPages}
+use Rattle.pages.proofs.Swaps.{map-append}
+use Rattle.checkpoint.specs.Counting.{firstZero}
+use Rattle.checkpoint.specs.Keeping.{filledBy, writtenBy, namedBy, pageKept, directoryKept, headerKept, Runs, taking, Leads, Fills, Marks}
+use Rattle.checkpoint.proofs.Tallies.{running-is}
+
+-- ---- a block is taken
+
+abbrev tookHead : ℕ → Head → Head
+tookHead b h =
+    record { capacity = h .capacity; blocks = h .blocks; level = h .level; next = h .next; running = h .running; begun = h .begun; taken = b }
+
+pub took : {m m1 m2 : List ℕ} (b : ℕ) (h : Head) → h ≡ flatOf m .head → Becomes m m1 (withHead (flatOf m) (tookHead b h))
+    → Becomes m1 m2 (withUsed (flatOf m1) (usedAnd b (flatOf m1 .used))) → Becomes m m2 (taking b (flatOf m))
+took {m} {m1} {m2} b h e x y =
+    let z = becomes-then m m1 m2 _ (λ f. withUsed f (usedAnd b (f .used))) x y in
+    record { size = z .size; room = z .room; flat = z .flat ∙ ap (λ (g : Head). withUsed (withHead (flatOf m) (tookHead b g)) (usedAnd b (flatOf m .used))) e }
+
+-- ---- the first entry that names no block
+
+module _ (e : ℕ) (es : List ℕ) where
+  zero-here : e % 4096 ≡ 0 → firstZero (e ∷ es) ≡ 0
+  unfolding firstZero if_then_else_
+  zero-here q = rw (eq-eqb (e % 4096) 0 q)
+
+  zero-on : (e % 4096 ≡ 0 → ⊥) → firstZero (e ∷ es) ≡ suc (firstZero es)
+  unfolding firstZero if_then_else_
+  zero-on q = rw (ne-eqb (e % 4096) 0 q)
+
+drop-next : (ws : List ℕ) (i : ℕ) → i < length ws → drop i ws ≡ getD ws i 0 ∷ drop (i + 1) ws
+drop-next ws i h = drop-cons ws i 0 h ∙ ap (λ (z : ℕ). getD ws i 0 ∷ drop z ws) (sym (add-one i))
+
+module _ (ws : List ℕ) (i : ℕ) where
+  pub zero-hit : i < length ws → getD ws i 0 % 4096 ≡ 0 → firstZero (drop i ws) ≡ 0
+  zero-hit h e = ap firstZero (drop-next ws i h) ∙ zero-here _ _ e
+
+  pub zero-miss : i < length ws → (getD ws i 0 % 4096 ≡ 0 → ⊥) → firstZero (drop i ws) ≡ suc (firstZero (drop (i + 1) ws))
+  zero-miss h e = ap firstZero (drop-next ws i h) ∙ zero-on _ _ e
+
+  pub zero-end : length ws ≤ i → firstZero (drop i ws) ≡ 0
+  unfolding firstZero
+  zero-end h = ap firstZero (drop-of-length-le ws {i = i} h)
+
+fill-at : (b : ℕ) (es : List ℕ) → b < 4096 → firstZero es < length es → blocksOf (set es (firstZero es) b) ≡ fill b (blocksOf es)
+unfolding blocksOf fill if_then_else_
+fill-at b [] l h = absurd (omega arith)
+fill-at b (e ∷ es) l h =
+    let q : b % 4096 ≡ b = omega arith in
+    by (eqb (e % 4096) 0)
+    (λ t. rw (zero-here e es (eqb-true (e % 4096) 0 t), t) (ap (λ (z : ℕ). z ∷ blocksOf es) q))
+    (λ t. let n = zero-on e es (eqb-false (e % 4096) 0 t) in
+    rw (n, t) (ap (λ (z : List ℕ). e % 4096 ∷ z) (fill-at b es l (omega (arith, h, n)))))
+
+fill-none : (b : ℕ) (es : List ℕ) → length es ≤ firstZero es → blocksOf es ≡ fill b (blocksOf es)
+unfolding blocksOf fill if_then_else_
+fill-none b [] h = refl
+fill-none b (e ∷ es) h =
+    by (eqb (e % 4096) 0)
+    (λ t. absurd (omega (arith, h, zero-here e es (eqb-true (e % 4096) 0 t))))
+    (λ t. rw t (ap (λ (z : List ℕ). e % 4096 ∷ z) (fill-none b es (omega (arith, h, zero-on e es (eqb-false (e % 4096) 0 t))))))
+
+pub fills-none : (m : List ℕ) (b i : ℕ) → Room m → i ≡ firstZero (flatOf m .named) → length (flatOf m .named) ≤ i → Fills m m b
+fills-none m b i r e h = record { becomes = record { size = refl; room = r; flat = refl }; named = fill-none b (flatOf m .named) (omega (arith, e, h)) }
+
+pub fills-at : (m m' : List ℕ) (b i : ℕ) → b < 4096 → i ≡ firstZero (flatOf m .named) → i < length (flatOf m .named)
+    → Becomes m m' (withNamed (flatOf m) (set (flatOf m .named) i b)) → Fills m m' b
+fills-at m m' b i l e h x =
+    let q : flatOf m' .named ≡ set (flatOf m .named) i b = ap (λ (f : Flat). f .named) (x .flat) in
+    record {
+      becomes = record { size = x .size; room = x .room; flat = x .flat ∙ ap (withNamed (flatOf m)) (sym q) };
+      named =
+          ap blocksOf q ∙ ap (λ (k : ℕ). blocksOf (set (flatOf m .named) k b)) e
+          ∙ fill-at b (flatOf m .named) l (omega (arith, e, h));
+    }
+
+-- ---- the checkpoint runs on
+
+runs-same : (on l n n' : ℕ) (es es' ds ds' : List ℕ) → isRunning (checkpointOf on l n es ds) ≡ true → isRunning (checkpointOf on l n' es' ds') ≡ true
+unfolding checkpointOf isRunning if_then_else_
+runs-same on l n n' es es' ds ds' e = by (eqb on 0 || leb 4294967295 l) (λ h. rw h (rw h at e)) (λ h. rw h refl)
+
+still : (f g : Flat) → isRunning (storeOf f .checkpoint) ≡ true → g .head .running ≡ f .head .running → g .head .level ≡ f .head .level → isRunning (storeOf g .checkpoint) ≡ true
+unfolding storeOf
+still f g on er el = rw (er, el) (runs-same _ _ _ _ _ _ _ _ on)
+
+-- with the head's running number and level as they were
+pub still-runs : (f g : Flat) → isRunning (storeOf f .checkpoint) ≡ true → g .head .running ≡ f .head .running → g .head .level ≡ f .head .level
+    → storeOf g .checkpoint ≡ running (g .head .begun) (blocksOf (g .named)) (blocksOf (g .directories))
+still-runs f g on er el = running-is g (still f g on er el) .0
+
+-- ---- after a page's store
+
+page-store : (f : Flat) (b : ℕ) (ns : List ℕ) (ps : List Page) → withPages (storeOf (withNamed (taking b f) ns)) ps
+    ≡ stored (storeOf f) (storeOf f .level) ps (usedToo (storeOf f) b) b (storeOf (withNamed (taking b f) ns) .checkpoint)
+unfolding withPages changed stored storeOf usedToo
+page-store f b ns ps = refl
+
+filled-is : (b n : ℕ) (es ds : List ℕ) → running n (fill b es) ds ≡ filledBy b (running n es ds)
+unfolding filledBy
+filled-is b n es ds = refl
+
+kept-is-page : (f : Flat) (b : ℕ) → stored (storeOf f) (storeOf f .level) (thaw b (pagesIn f)) (usedToo (storeOf f) b) b (filledBy b (storeOf f .checkpoint)) ≡ pageKept b (storeOf f)
+unfolding pageKept storeOf
+kept-is-page f b = refl
+
+page-kept : (f : Flat) (b : ℕ) (ns : List ℕ) → isRunning (storeOf f .checkpoint) ≡ true → blocksOf ns ≡ fill b (blocksOf (f .named))
+    → withPages (storeOf (withNamed (taking b f) ns)) (thaw b (pagesIn (withNamed (taking b f) ns))) ≡ pageKept b (storeOf f)
+page-kept f b ns on e =
+    let s : Store = storeOf f in
+    page-store f b ns (thaw b (pagesIn f))
+    ∙ ap (λ (c : Checkpoint). stored s (s .level) (thaw b (pagesIn f)) (usedToo s b) b c)
+    (still-runs f (withNamed (taking b f) ns) on refl refl ∙ ap (λ (z : List ℕ). running (f .head .begun) z (blocksOf (f .directories))) e
+    ∙ filled-is b (f .head .begun) (blocksOf (f .named)) (blocksOf (f .directories)) ∙ ap (filledBy b) (sym (running-is f on .0)))
+    ∙ kept-is-page f b
+
+module _ {m m1 m2 : List ℕ} (b : ℕ) (r : Runs m) (x : Becomes m m1 (taking b (flatOf m))) (y : Fills m1 m2 b) where
+  page-flat : flatOf m2 ≡ withNamed (taking b (flatOf m)) (flatOf m2 .named)
+  page-flat = y .becomes .flat ∙ ap (λ (f : Flat). withNamed f (flatOf m2 .named)) (x .flat)
+
+  named-is : blocksOf (flatOf m2 .named) ≡ fill b (blocksOf (flatOf m .named))
+  named-is = y .named ∙ ap (λ (f : Flat). fill b (blocksOf (f .named))) (x .flat)
+
+  pub page-held : holdsStore m2 ≡ true
+  page-held = room-held m2 (y .becomes .room) (ap filled page-flat ∙ held-filled m (r .held))
+
+  pub page-leads : (m3 : List ℕ) → Turns m2 m3 (thaw b (pagesIn (flatOf m2))) → Leads m m3 (pageKept b (storeOf (flatOf m)))
+  page-leads m3 t =
+      record {
+        size = t .size ∙ y .becomes .size ∙ x .size;
+        store =
+            t .store ∙ ap (λ (f : Flat). some (withPages (storeOf f) (thaw b (pagesIn f)))) page-flat
+            ∙ ap some (page-kept (flatOf m) b (flatOf m2 .named) (r .on) named-is);
+      }
+
+-- ---- after a directory block's store
+
+store-is-directory : (f : Flat) (b : ℕ) → storeOf (withDirectories (taking b f) (f .directories ++ b ∷ []))
+    ≡ stored (storeOf f) (storeOf f .level) (storeOf f .pages) (usedToo (storeOf f) b) b (storeOf (withDirectories (taking b f) (f .directories ++ b ∷ [])) .checkpoint)
+unfolding stored storeOf usedToo
+store-is-directory f b = refl
+
+one-more : (ds : List ℕ) (b : ℕ) → b < 4096 → blocksOf (ds ++ b ∷ []) ≡ blocksOf ds ++ b ∷ []
+unfolding blocksOf
+one-more ds b l = let q : b % 4096 ≡ b = omega arith in map-append (λ n. n % 4096) ds (b ∷ []) ∙ ap (λ (z : ℕ). map (λ n. n % 4096) ds ++ z ∷ []) q
+
+written-is : (b n : ℕ) (es ds : List ℕ) → running n es (ds ++ b ∷ []) ≡ writtenBy b (running n es ds)
+unfolding writtenBy
+written-is b n es ds = refl
+
+kept-is-directory : (s : Store) (b : ℕ) → stored s (s .level) (s .pages) (usedToo s b) b (writtenBy b (s .checkpoint)) ≡ directoryKept b s
+unfolding directoryKept
+kept-is-directory s b = refl
+
+directory-kept : (f : Flat) (b : ℕ) → b < 4096 → isRunning (storeOf f .checkpoint) ≡ true
+    → storeOf (withDirectories (taking b f) (f .directories ++ b ∷ [])) ≡ directoryKept b (storeOf f)
+directory-kept f b l on =
+    let s : Store = storeOf f in
+    let g : Flat = withDirectories (taking b f) (f .directories ++ b ∷ []) in
+    store-is-directory f b
+    ∙ ap (λ (c : Checkpoint). stored s (s .level) (s .pages) (usedToo s b) b c)
+    (still-runs f g on refl refl ∙ ap (λ (z : List ℕ). running (f .head .begun) (blocksOf (f .named)) z) (one-more (f .directories) b l)
+    ∙ written-is b (f .head .begun) (blocksOf (f .named)) (blocksOf (f .directories)) ∙ ap (writtenBy b) (sym (running-is f on .0)))
+    ∙ kept-is-directory s b
+
+pub directory-leads : {m m1 m2 : List ℕ} (b : ℕ) → b < 4096 → Runs m → Becomes m m1 (taking b (flatOf m))
+    → Becomes m1 m2 (withDirectories (flatOf m1) (flatOf m1 .directories ++ b ∷ [])) → Leads m m2 (directoryKept b (storeOf (flatOf m)))
+directory-leads {m} {m1} {m2} b l r x y =
+    let z = becomes-then m m1 m2 _ (λ f. withDirectories f (f .directories ++ b ∷ [])) x y in
+    record { size = z .size; store = in-next m m2 _ z (held-filled m (r .held)) ∙ ap some (directory-kept (flatOf m) b l (r .on)) }
+
+-- ---- after the header's store
+
+or-move : (p q u : Bool) → ((p || q) || u) ≡ (q || (p || u))
+or-move true true u = refl
+or-move true false u = refl
+or-move false q u = refl
+
+eqb-swap : (a b : ℕ) → eqb a b ≡ eqb b a
+eqb-swap a b = by (eqb b a) (λ e. eq-eqb a b (sym (eqb-true b a e)) ∙ sym e) (λ e. ne-eqb a b (λ q. eqb-false b a e (sym q)) ∙ sym e)
+
+marked-next : (c b : ℕ) (bs : List ℕ) (u : ℕ → Bool) → (isIn c bs || usedAnd b u c) ≡ (isIn c (b ∷ bs) || u c)
+unfolding isIn
+marked-next c b bs u =
+    ap (λ (z : Bool). any (eqb c) bs || (z || u c)) (eqb-swap b c) ∙ sym (or-move (eqb c b) (any (eqb c) bs) (u c))
+    ∙ ap (λ (z : Bool). z || u c) (sym (any-cons (eqb c) b bs))
+
+-- the first i of the blocks bs are marked
+pub record Marking (m m' : List ℕ) (bs : List ℕ) (n i : ℕ) : Type 0 where
+  pub whole : n ≡ length bs
+  pub inside : i ≤ n
+  pub becomes : Becomes m m' (withUsed (flatOf m) (flatOf m' .used))
+  pub used : (c : ℕ) → (isIn c (drop i bs) || flatOf m' .used c) ≡ (isIn c bs || flatOf m .used c)
+
+pub marking-start : (m : List ℕ) (bs : List ℕ) (n : ℕ) → Room m → n ≡ length bs → Marking m m bs n 0
+marking-start m bs n r e =
+    record { whole = e; inside = omega arith; becomes = record { size = refl; room = r; flat = refl }; used = λ c. refl }
+
+module _ {m m' : List ℕ} {bs : List ℕ} {n i : ℕ} (k : Marking m m' bs n i) where
+  pub marking-turn : i < n → (b : ℕ) → b ≡ getD bs i 0 → (m2 : List ℕ) → Becomes m' m2 (withUsed (flatOf m') (usedAnd b (flatOf m' .used)))
+      → Marking m m2 bs n (i + 1)
+  marking-turn h b e m2 x =
+      let q : flatOf m2 .used ≡ usedAnd b (flatOf m' .used) = ap (λ (f : Flat). f .used) (x .flat) in
+      let d : b ∷ drop (i + 1) bs ≡ drop i bs = ap (λ (z : ℕ). z ∷ drop (i + 1) bs) e ∙ sym (drop-next bs i (omega (arith, k .whole))) in
+      record {
+        whole = k .whole;
+        inside = omega arith;
+        becomes = record {
+          size = x .size ∙ k .becomes .size;
+          room = x .room;
+          flat = x .flat ∙ ap (λ (f : Flat). withUsed f (usedAnd b (flatOf m' .used))) (k .becomes .flat) ∙ ap (withUsed (flatOf m)) (sym q);
+        };
+        used = λ c.
+            ap (λ (u : ℕ → Bool). isIn c (drop (i + 1) bs) || u c) q ∙ marked-next c b (drop (i + 1) bs) (flatOf m' .used)
+            ∙ ap (λ (z : List ℕ). isIn c z || flatOf m' .used c) d ∙ k .used c;
+      }
+
+  pub marking-end : n ≤ i → Marks m m' bs
+  unfolding isIn any
+  marking-end h =
+      record { becomes = k .becomes; used = λ c. ap (λ (z : List ℕ). isIn c z || flatOf m' .used c) (sym (drop-of-length-le bs {i = i} (omega (arith, k .whole)))) ∙ k .used c }
+
+pub block-at : (ns : List ℕ) (i : ℕ) → getD ns i 0 % 4096 ≡ getD (blocksOf ns) i 0
+unfolding blocksOf
+block-at ns i = sym (List·getD-map (λ n. n % 4096) ns i 0)
+
+abbrev landedHead : Head → Head
+landedHead h =
+    record { capacity = h .capacity; blocks = h .blocks; level = h .level + 1; next = h .next; running = 0; begun = h .begun; taken = h .taken }
+
+store-is-header : (f : Flat) (u : ℕ → Bool) → storeOf (withHead (withUsed f u) (landedHead (f .head))) ≡ stored (storeOf f) (storeOf f .level + 1) (storeOf f .pages) u (storeOf f .taken) idle
+unfolding stored storeOf checkpointOf if_then_else_
+store-is-header f u = refl
+
+swap : (p q : Bool) → (q || (p || false)) ≡ (p || q)
+swap true true = refl
+swap true false = refl
+swap false true = refl
+swap false false = refl
+
+both : (c : ℕ) (es ds : List ℕ) → (isIn c ds || (isIn c es || false)) ≡ isIn c (es ++ ds)
+both c es ds = swap (isIn c es) (isIn c ds) ∙ sym (in-append c es ds)
+
+kept-is-header : (s : Store) (n : ℕ) (es ds : List ℕ) → s .checkpoint ≡ running n es ds
+    → stored s (suc (s .level)) (s .pages) (λ b. isIn b (es ++ ds)) (s .taken) idle ≡ headerKept s
+unfolding headerKept namedBy
+kept-is-header s n es ds q = ap (λ (c : Checkpoint). stored s (suc (s .level)) (s .pages) (λ b. isIn b (namedBy c)) (s .taken) idle) (sym q)
+
+header-kept : (f : Flat) (u : ℕ → Bool) → isRunning (storeOf f .checkpoint) ≡ true
+    → ((c : ℕ) → u c ≡ (isIn c (blocksOf (f .directories)) || (isIn c (blocksOf (f .named)) || false)))
+    → storeOf (withHead (withUsed f u) (landedHead (f .head))) ≡ headerKept (storeOf f)
+header-kept f u on e =
+    let s : Store = storeOf f in
+    let es : List ℕ = blocksOf (f .named) in
+    let ds : List ℕ = blocksOf (f .directories) in
+    let q : u ≡ (λ b. isIn b (es ++ ds)) = fun-ext (λ c. e c ∙ both c es ds) in
+    store-is-header f u ∙ ap (λ (v : ℕ → Bool). stored s (s .level + 1) (s .pages) v (s .taken) idle) q
+    ∙ ap (λ (l : ℕ). stored s l (s .pages) (λ b. isIn b (es ++ ds)) (s .taken) idle) (add-one (s .level))
+    ∙ kept-is-header s (f .head .begun) es ds (running-is f on .0)
+
+module _ {m m1 m2 m3 : List ℕ} (r : Runs m) (a : Becomes m m1 (withUsed (flatOf m) (λ c. false))) (b : Marks m1 m2 (blocksOf (flatOf m1 .named)))
+    (d : Marks m2 m3 (blocksOf (flatOf m2 .directories))) where
+  pub header-flat : Becomes m m3 (withUsed (flatOf m) (flatOf m3 .used))
+  header-flat =
+      record {
+        size = d .becomes .size ∙ b .becomes .size ∙ a .size;
+        room = d .becomes .room;
+        flat =
+            d .becomes .flat ∙ ap (λ (f : Flat). withUsed f (flatOf m3 .used)) (b .becomes .flat)
+            ∙ ap (λ (f : Flat). withUsed f (flatOf m3 .used)) (a .flat);
+      }
+
+  named-same : flatOf m1 .named ≡ flatOf m .named
+  named-same = ap (λ (f : Flat). f .named) (a .flat)
+
+  directories-same : flatOf m2 .directories ≡ flatOf m .directories
+  directories-same = ap (λ (f : Flat). f .directories) (b .becomes .flat) ∙ ap (λ (f : Flat). f .directories) (a .flat)
+
+  used-is : (c : ℕ) → flatOf m3 .used c ≡ (isIn c (blocksOf (flatOf m .directories)) || (isIn c (blocksOf (flatOf m .named)) || false))
+  used-is c =
+      d .used c
+      ∙ ap (λ (z : List ℕ). isIn c (blocksOf z) || flatOf m2 .used c) directories-same
+      ∙ ap (λ (z : Bool). isIn c (blocksOf (flatOf m .directories)) || z)
+      (b .used c ∙ ap (λ (z : List ℕ). isIn c (blocksOf z) || flatOf m1 .used c) named-same
+      ∙ ap (λ (f : Flat). isIn c (blocksOf (flatOf m .named)) || f .used c) (a .flat))
+
+  pub header-leads : (h : Head) → h ≡ flatOf m3 .head → (m4 : List ℕ) → Becomes m3 m4 (withHead (flatOf m3) (landedHead h)) → Leads m m4 (headerKept (storeOf (flatOf m)))
+  header-leads h eh m4 x =
+      let z : Becomes m m4 (withHead (withUsed (flatOf m) (flatOf m3 .used)) (landedHead (flatOf m .head))) = record {
+        size = x .size ∙ header-flat .size;
+        room = x .room;
+        flat = x .flat ∙ ap (λ (g : Head). withHead (flatOf m3) (landedHead g)) eh ∙ ap (λ (f : Flat). withHead f (landedHead (f .head))) (header-flat .flat);
+      } in
+      record { size = z .size; store = in-next m m4 _ z (held-filled m (r .held)) ∙ ap some (header-kept (flatOf m) (flatOf m3 .used) (r .on) used-is) }
+
+  pub header-low : flatOf m3 .head .level < 4294967295
+  header-low = omega (arith, running-is (flatOf m) (r .on) .1, ap (λ (f : Flat). f .head .level) (header-flat .flat))

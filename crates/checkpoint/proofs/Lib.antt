@@ -1,0 +1,5 @@
+pub mod Tallies
+pub mod Beginning
+pub mod Leaving
+pub mod Stepping
+pub mod Repeating

@@ -1,0 +1,297 @@
+-- A step: which store it makes, its tests, and what it answers.
+use mathlib.Core.Path.{_≡_, refl, sym, ap, _∙_, subst}
+use mathlib.Core.Bool.{Bool, true, false, not}
+use mathlib.Core.Option.{Option, none, some}
+use mathlib.Core.List.{List, [], _∷_, _++_}
+use Prim.Native.Nat.{ℕ, zero, suc, _+_, _-_, _*_, _%_, _≤_, _<_}
+use native.Mathlib.Omega.{arith}
+use native.Mathlib.Numerals.{add-one}
+use lib.ListN.{length, take, drop, length-take, length-drop}
+use lib.Seq.{drop-drop}
+use lib.Dec.{eqb, ltb}
+use borrow.Author.Tests.{eq-eqb, ne-eqb, eqb-true, eqb-false, lt-ltb, le-ltb}
+use Rattle.basics.specs.Basics.{if_then_else_, first, isIn}
+use Rattle.basics.proofs.Facts.{by, lie}
+use Rattle.blocks.specs.Block.{Block, header, page, directory, encodeBlock}
+use Rattle.image.specs.Stages.{directoriesFor}
+use Rattle.model.specs.State.{Page, Checkpoint, idle, running, Store, Outcome}
+use Rattle.model.specs.Rules.{isFrozen, shown, thaw}
+use Rattle.model.specs.Transactions.{gives, unless}
+use Rattle.model.specs.Checkpoint.{stored, allocate, usedToo, isRunning, left, made, storable, storePage, storeDirectory, headerFor, storeHeader, stepOf, stepAt, badImage, stepCall}
+use Rattle.model.specs.Recover.{putBlock, imageAfter}
+use Rattle.memory.specs.Views.{tab}
+use Rattle.memory.specs.Flat.{Flat, flatOf}
+use Rattle.memory.specs.Store.{blocksOf, heldIn, holdsStore, storeOf, storeIn}
+use Rattle.memory.proofs.Meaning.{in-none, in-some, in-sound}
+use Rattle.pages.specs.Turns.{pagesOf, pageAt, entryAt}
+use Rattle.pages.specs.Finding.{NoneOf, FirstPage}
+use Rattle.pages.proofs.Places.{from-page}
+use Rattle.pages.proofs.Searching.{table-is, tuples-is}
+use Rattle.answers.specs.Shape.{Stores}
+use Rattle.answers.specs.declared.Answer.the-variants.{Count, Refused}
+use Rattle.answers.proofs.Answering.{stores-4, stores-refused, stores-count}
+use Rattle.checkpoint.specs.Keeping.{filledBy, writtenBy, namedBy, pageKept, directoryKept, headerKept, Runs, Ready, Leads, Does, Steps, stepRefusal}
+use Rattle.checkpoint.proofs.Tallies.{length-blocks, running-is, first-hit, first-past}
+use Rattle.model.specs.State as model
+
+-- ---- the first frozen page
+
+pub first-none : (hit : Page → Bool) (ps : List Page) → NoneOf hit ps → first hit ps ≡ none
+unfolding first
+first-none hit [] h = refl
+first-none hit (q ∷ qs) h = first-past hit q qs (h .0) ∙ first-none hit qs (h .1)
+
+first-at : (hit : Page → Bool) (p : ℕ) (q : Page) (ps : List Page) → NoneOf hit (take p ps) → drop p ps ≡ q ∷ drop (suc p) ps → hit q ≡ true → first hit ps ≡ some q
+first-at hit zero q ps h e t = ap (first hit) e ∙ first-hit hit q (drop 1 ps) t
+first-at hit (suc p) q [] h e t = absurd (let z : _≡_ {A = ℕ} 0 1 = cc in omega arith)
+first-at hit (suc p) q (r ∷ ps) h e t = first-past hit r ps (h .0) ∙ first-at hit p q ps (h .1) e t
+
+-- ---- which store a step makes
+
+module _ (s : Store) (n : ℕ) (es ds : List ℕ) (e : s .checkpoint ≡ running n es ds) where
+  step-is : stepAt (s .checkpoint) s ≡ stepOf (first isFrozen (s .pages)) n es ds s
+  unfolding stepAt
+  step-is = ap (λ (c : Checkpoint). stepAt c s) e
+
+  page-made : (q : Page) → storePage n es ds q s ≡ made (allocate s) (page (q .table) (suc (s .level)) (storable (shown (q .tuples)))) (pageKept (allocate s) s)
+  unfolding storePage pageKept filledBy
+  page-made q =
+      ap (λ (c : Checkpoint). made (allocate s) (page (q .table) (suc (s .level)) (storable (shown (q .tuples))))
+      (stored s (s .level) (thaw (allocate s) (s .pages)) (usedToo s (allocate s)) (allocate s) (filledBy (allocate s) c))) (sym e)
+
+  pub step-page : (q : Page) → first isFrozen (s .pages) ≡ some q
+      → stepAt (s .checkpoint) s ≡ made (allocate s) (page (q .table) (suc (s .level)) (storable (shown (q .tuples)))) (pageKept (allocate s) s)
+  unfolding stepOf
+  step-page q f = step-is ∙ ap (λ (o : Option Page). stepOf o n es ds s) f ∙ page-made q
+
+  directory-made : storeDirectory n es ds s ≡ made (allocate s) (directory (suc (s .level)) (take 336 (drop (336 * length ds) es))) (directoryKept (allocate s) s)
+  unfolding storeDirectory directoryKept writtenBy
+  directory-made =
+      ap (λ (c : Checkpoint). made (allocate s) (directory (suc (s .level)) (take 336 (drop (336 * length ds) es)))
+      (stored s (s .level) (s .pages) (usedToo s (allocate s)) (allocate s) (writtenBy (allocate s) c))) (sym e)
+
+  header-made : storeHeader n es ds s ≡ made 0 (header (headerFor s (suc (s .level)) n (length es) ds)) (headerKept s)
+  unfolding storeHeader headerKept namedBy
+  header-made =
+      ap (λ (c : Checkpoint). made 0 (header (headerFor s (suc (s .level)) n (length es) ds))
+      (stored s (suc (s .level)) (s .pages) (λ b. isIn b (namedBy c)) (s .taken) idle)) (sym e)
+
+  module _ (f : first isFrozen (s .pages) ≡ none) where
+    rest-is : stepAt (s .checkpoint) s ≡ (if ltb (length ds) (directoriesFor (length es)) then storeDirectory n es ds s else storeHeader n es ds s)
+    unfolding stepOf
+    rest-is = step-is ∙ ap (λ (o : Option Page). stepOf o n es ds s) f
+
+    pub step-directory : length ds < directoriesFor (length es)
+        → stepAt (s .checkpoint) s ≡ made (allocate s) (directory (suc (s .level)) (take 336 (drop (336 * length ds) es))) (directoryKept (allocate s) s)
+    unfolding if_then_else_
+    step-directory h =
+        rest-is ∙ ap (λ (b : Bool). if b then storeDirectory n es ds s else storeHeader n es ds s) (lt-ltb (length ds) (directoriesFor (length es)) h)
+        ∙ directory-made
+
+    pub step-header : directoriesFor (length es) ≤ length ds
+        → stepAt (s .checkpoint) s ≡ made 0 (header (headerFor s (suc (s .level)) n (length es) ds)) (headerKept s)
+    unfolding if_then_else_
+    step-header h =
+        rest-is ∙ ap (λ (b : Bool). if b then storeDirectory n es ds s else storeHeader n es ds s) (le-ltb (length ds) (directoriesFor (length es)) h)
+        ∙ header-made
+
+-- ---- one block exchanged
+
+pub back-is : (img part : List ℕ) (b : ℕ) → take (512 * b) img ++ (part ++ drop (512 * b + 512 - 512 * b) (drop (512 * b) img)) ≡ putBlock img b part
+unfolding putBlock
+back-is img part b =
+    let e : 512 * b + 512 - 512 * b ≡ 512 = omega arith in
+    ap (λ (k : ℕ). take (512 * b) img ++ (part ++ drop k (drop (512 * b) img))) e
+    ∙ ap (λ (z : List ℕ). take (512 * b) img ++ (part ++ z)) (drop-drop 512 (512 * b) img)
+
+-- the part that is lent is one block
+pub part-long : (img : List ℕ) (b n : ℕ) → length img ≡ 512 * n → b < n → length (take (512 * b + 512 - 512 * b) (drop (512 * b) img)) ≡ 512
+part-long img b n e h = omega (arith, length-take (512 * b + 512 - 512 * b) (drop (512 * b) img), length-drop (512 * b) img)
+
+pub front-is : (img part : List ℕ) → part ++ drop 512 img ≡ putBlock img 0 part
+unfolding putBlock
+front-is img part = refl
+
+does-made : {img m img' m' : List ℕ} (o : Outcome) (b : ℕ) (x : Block) (s : Store) → o ≡ made b x s → Leads m m' s → img' ≡ putBlock img b (encodeBlock x)
+    → Does o img m img' m'
+unfolding made imageAfter
+does-made {img} o b x s e l q =
+    record {
+      memory = record { size = l .size; store = l .store ∙ ap (λ (z : Outcome). some (z .store)) (sym e) };
+      image = q ∙ ap (λ (z : Outcome). imageAfter (z .writes) img) (sym e);
+    }
+
+module _ {m : List ℕ} (r : Runs m) where
+  runs : storeOf (flatOf m) .checkpoint ≡ running (flatOf m .head .begun) (blocksOf (flatOf m .named)) (blocksOf (flatOf m .directories))
+  runs = running-is (flatOf m) (r .on) .0
+
+module _ (m : List ℕ) where
+  level-is : storeOf (flatOf m) .level ≡ flatOf m .head .level
+  unfolding storeOf
+  level-is = refl
+
+  pages-are : storeOf (flatOf m) .pages ≡ pagesOf m
+  unfolding storeOf
+  pages-are = refl
+
+  none-is : NoneOf isFrozen (pagesOf m) → first isFrozen (storeOf (flatOf m) .pages) ≡ none
+  none-is h = ap (first isFrozen) pages-are ∙ first-none isFrozen (pagesOf m) h
+
+module _ {img m img' m' part : List ℕ} (r : Runs m) where
+  pub page-does : (p start b t n l : ℕ) → FirstPage m isFrozen p start → b ≡ allocate (storeOf (flatOf m)) → t ≡ entryAt m p .table % 8 → n ≡ entryAt m p .count
+      → l ≡ flatOf m .head .level + 1 → part ≡ encodeBlock (page t l (storable (shown (tab (heldIn (flatOf m)) start n)))) → img' ≡ putBlock img b part
+      → Leads m m' (pageKept b (storeOf (flatOf m))) → Steps img m img' m'
+  page-does p start b t n l o eb et en el ep ei k =
+      let s : Store = storeOf (flatOf m) in
+      let q : Page = pageAt m p in
+      let e1 : q .table ≡ t = table-is m p ∙ sym et in
+      let e2 : suc (s .level) ≡ l = ap suc (level-is m) ∙ sym (add-one (flatOf m .head .level)) ∙ sym el in
+      let e3 : q .tuples ≡ tab (heldIn (flatOf m)) start n =
+      tuples-is m p ∙ ap (λ (z : ℕ). tab (heldIn (flatOf m)) z (entryAt m p .count)) (sym (o .on .begins)) ∙ ap (tab (heldIn (flatOf m)) start) (sym en) in
+      let x : encodeBlock (page t l (storable (shown (tab (heldIn (flatOf m)) start n)))) ≡ encodeBlock (page (q .table) (suc (s .level)) (storable (shown (q .tuples)))) = cc in
+      does-made _ (allocate s) (page (q .table) (suc (s .level)) (storable (shown (q .tuples)))) (pageKept (allocate s) s)
+      (step-page s _ _ _ (runs r) q (ap (first isFrozen) (pages-are m) ∙ first-at isFrozen p q (pagesOf m) (o .passed) (from-page (o .on)) (o .hits)))
+      (subst (λ (z : ℕ). Leads m m' (pageKept z s)) eb k)
+      (ei ∙ ap (putBlock img b) (ep ∙ x) ∙ ap (λ (z : ℕ). putBlock img z (encodeBlock (page (q .table) (suc (s .level)) (storable (shown (q .tuples)))))) eb)
+
+  module _ (none-frozen : NoneOf isFrozen (pagesOf m)) where
+    pub directory-does : (b k l : ℕ) → length (flatOf m .directories) < directoriesFor (length (flatOf m .named)) → b ≡ allocate (storeOf (flatOf m))
+        → k ≡ length (flatOf m .directories) → l ≡ flatOf m .head .level + 1
+        → part ≡ encodeBlock (directory l (take 336 (drop (336 * k) (blocksOf (flatOf m .named))))) → img' ≡ putBlock img b part
+        → Leads m m' (directoryKept b (storeOf (flatOf m))) → Steps img m img' m'
+    directory-does b k l h eb ek el ep ei d =
+        let s : Store = storeOf (flatOf m) in
+        let es : List ℕ = blocksOf (flatOf m .named) in
+        let ds : List ℕ = blocksOf (flatOf m .directories) in
+        let e1 : length ds ≡ k = length-blocks (flatOf m .directories) ∙ sym ek in
+        let e2 : suc (s .level) ≡ l = ap suc (level-is m) ∙ sym (add-one (flatOf m .head .level)) ∙ sym el in
+        let e3 : directoriesFor (length es) ≡ directoriesFor (length (flatOf m .named)) = ap directoriesFor (length-blocks (flatOf m .named)) in
+        let x : encodeBlock (directory l (take 336 (drop (336 * k) es))) ≡ encodeBlock (directory (suc (s .level)) (take 336 (drop (336 * length ds) es))) = cc in
+        does-made _ (allocate s) (directory (suc (s .level)) (take 336 (drop (336 * length ds) es))) (directoryKept (allocate s) s)
+        (step-directory s _ es ds (runs r) (none-is m none-frozen) (omega (arith, h, e1, ek, e3)))
+        (subst (λ (z : ℕ). Leads m m' (directoryKept z s)) eb d)
+        (ei ∙ ap (putBlock img b) (ep ∙ x) ∙ ap (λ (z : ℕ). putBlock img z (encodeBlock (directory (suc (s .level)) (take 336 (drop (336 * length ds) es))))) eb)
+
+    pub header-does : directoriesFor (length (flatOf m .named)) ≤ length (flatOf m .directories)
+        → part ≡ encodeBlock (header (headerFor (storeOf (flatOf m)) (suc (flatOf m .head .level)) (flatOf m .head .begun) (length (flatOf m .named)) (blocksOf (flatOf m .directories))))
+        → img' ≡ putBlock img 0 part → Leads m m' (headerKept (storeOf (flatOf m))) → Steps img m img' m'
+    header-does h ep ei d =
+        let s : Store = storeOf (flatOf m) in
+        let n : ℕ = flatOf m .head .begun in
+        let es : List ℕ = blocksOf (flatOf m .named) in
+        let ds : List ℕ = blocksOf (flatOf m .directories) in
+        let e1 : length ds ≡ length (flatOf m .directories) = length-blocks (flatOf m .directories) in
+        let e2 : suc (flatOf m .head .level) ≡ suc (s .level) = sym (ap suc (level-is m)) in
+        let e3 : directoriesFor (length es) ≡ directoriesFor (length (flatOf m .named)) = ap directoriesFor (length-blocks (flatOf m .named)) in
+        let x : encodeBlock (header (headerFor s (suc (flatOf m .head .level)) n (length (flatOf m .named)) ds)) ≡ encodeBlock (header (headerFor s (suc (s .level)) n (length es) ds)) =
+        ap (λ (z : ℕ). encodeBlock (header (headerFor s z n (length (flatOf m .named)) ds))) e2
+        ∙ ap (λ (z : ℕ). encodeBlock (header (headerFor s (suc (s .level)) n z ds))) (sym (length-blocks (flatOf m .named))) in
+        does-made _ 0 (header (headerFor s (suc (s .level)) n (length es) ds)) (headerKept s)
+        (step-header s n es ds (runs r) (none-is m none-frozen) (omega (arith, h, e1, e3))) d (ei ∙ ap (putBlock img 0) (ep ∙ x))
+
+-- ---- the tests
+
+pub blocks-is : (f : Flat) → storeOf f .blocks ≡ f .head .blocks
+unfolding storeOf
+blocks-is f = refl
+
+module _ (len : ℕ) (m : List ℕ) where
+  pub refusal-4 : holdsStore m ≡ false → 4 ≡ stepRefusal len (storeIn m)
+  unfolding stepRefusal
+  refusal-4 h = sym (ap (stepRefusal len) (in-none m h))
+
+  module _ (held : holdsStore m ≡ true) where
+    refusal-is : stepRefusal len (storeIn m) ≡ (if not (eqb len (512 * flatOf m .head .blocks)) then 5 else if isRunning (storeOf (flatOf m) .checkpoint) then 0 else 18)
+    unfolding stepRefusal
+    refusal-is =
+        ap (stepRefusal len) (in-some m held)
+        ∙ ap (λ (b : ℕ). if not (eqb len (512 * b)) then 5 else if isRunning (storeOf (flatOf m) .checkpoint) then 0 else 18) (blocks-is (flatOf m))
+
+    pub refusal-5 : (len ≡ 512 * flatOf m .head .blocks → ⊥) → 5 ≡ stepRefusal len (storeIn m)
+    unfolding if_then_else_
+    refusal-5 h = sym (refusal-is ∙ rw (ne-eqb len (512 * flatOf m .head .blocks) h))
+
+    module _ (e : len ≡ 512 * flatOf m .head .blocks) where
+      pub refusal-18 : isRunning (storeOf (flatOf m) .checkpoint) ≡ false → 18 ≡ stepRefusal len (storeIn m)
+      unfolding if_then_else_
+      refusal-18 h = sym (refusal-is ∙ rw (eq-eqb len (512 * flatOf m .head .blocks) e, h))
+
+      pub refusal-none : isRunning (storeOf (flatOf m) .checkpoint) ≡ true → 0 ≡ stepRefusal len (storeIn m)
+      unfolding if_then_else_
+      refusal-none h = sym (refusal-is ∙ rw (eq-eqb len (512 * flatOf m .head .blocks) e, h))
+
+  -- a call with these tests: each of them refuses
+  module _ (v : ℕ) (ev : v ≡ stepRefusal len (storeIn m)) where
+    passed-held : v ≡ 0 → holdsStore m ≡ true
+    passed-held z = by (holdsStore m) (λ h. h) (λ h. absurd (omega (arith, refusal-4 h)))
+
+    pub passed-long : v ≡ 0 → len ≡ 512 * flatOf m .head .blocks
+    passed-long z =
+        by (eqb len (512 * flatOf m .head .blocks)) (λ h. eqb-true len _ h)
+        (λ h. absurd (omega (arith, refusal-5 (passed-held z) (eqb-false len _ h))))
+
+    pub passed-runs : v ≡ 0 → Runs m
+    passed-runs z =
+        let held : holdsStore m ≡ true = passed-held z in
+        record {
+          held = held;
+          on = by (isRunning (storeOf (flatOf m) .checkpoint)) (λ h. h) (λ h. absurd (omega (arith, refusal-18 held (passed-long z) h)));
+        }
+
+    pub stopped : (call : Store → Outcome)
+        → ((s : Store) → (len ≡ 512 * s .blocks → ⊥) → call s ≡ gives (model.refused 5) s)
+        → ((s : Store) → len ≡ 512 * s .blocks → isRunning (s .checkpoint) ≡ false → call s ≡ gives (model.refused 18) s)
+        → (img : List ℕ) → (v ≡ 0 → ⊥) → Stores call img m (Refused v) img m
+    stopped call c5 c18 img nz =
+        by (holdsStore m)
+        (λ h. let s : Store = storeOf (flatOf m) in
+        let n : ℕ = flatOf m .head .blocks in
+        let e : 512 * s .blocks ≡ 512 * n = ap (λ (z : ℕ). 512 * z) (blocks-is (flatOf m)) in
+        by (eqb len (512 * n))
+        (λ k. let q : len ≡ 512 * n = eqb-true len (512 * n) k in
+        by (isRunning (s .checkpoint))
+        (λ w. absurd (nz (ev ∙ sym (refusal-none h q w))))
+        (λ w. rw (ev ∙ sym (refusal-18 h q w)) (stores-refused call m img 18 h (c18 s (q ∙ sym e) w))))
+        (λ k. let ne : len ≡ 512 * n → ⊥ = eqb-false len (512 * n) k in
+        rw (ev ∙ sym (refusal-5 h ne)) (stores-refused call m img 5 h (c5 s (λ z. ne (z ∙ e))))))
+        (λ h. rw (ev ∙ sym (refusal-4 h)) (stores-4 call m img h))
+
+idle-step : (c : Checkpoint) (s : Store) → isRunning c ≡ false → stepAt c s ≡ gives (model.refused 18) s
+unfolding stepAt isRunning
+idle-step idle s e = refl
+idle-step (running n es ds) s e = lie (sym e)
+
+module _ (len : ℕ) (s : Store) where
+  pub step-5 : (len ≡ 512 * s .blocks → ⊥) → stepCall len s ≡ gives (model.refused 5) s
+  unfolding stepCall badImage unless if_then_else_
+  step-5 h = rw (ne-eqb len (512 * s .blocks) h)
+
+  module _ (e : len ≡ 512 * s .blocks) where
+    pub step-at : stepCall len s ≡ stepAt (s .checkpoint) s
+    unfolding stepCall badImage unless if_then_else_
+    step-at = rw (eq-eqb len (512 * s .blocks) e)
+
+    pub step-18 : isRunning (s .checkpoint) ≡ false → stepCall len s ≡ gives (model.refused 18) s
+    step-18 h = step-at ∙ idle-step (s .checkpoint) s h
+
+-- ---- the answer
+
+answer-at : (o : Option Page) (n : ℕ) (es ds : List ℕ) (s : Store) → stepOf o n es ds s .answer ≡ model.count (left (stepOf o n es ds s .store))
+unfolding stepOf storePage storeDirectory storeHeader made if_then_else_
+answer-at (some p) n es ds s = refl
+answer-at none n es ds s = by (ltb (length ds) (directoriesFor (length es))) (λ h. rw h refl) (λ h. rw h refl)
+
+pub answer-of : (c : Checkpoint) (s : Store) → isRunning c ≡ true → stepAt c s .answer ≡ model.count (left (stepAt c s .store))
+unfolding stepAt isRunning
+answer-of idle s e = lie e
+answer-of (running n es ds) s e = answer-at (first isFrozen (s .pages)) n es ds s
+
+pub step-done : (img m img' m' : List ℕ) (k : ℕ) → Ready img m → Steps img m img' m' → k ≡ left (storeOf (flatOf m')) → Stores (stepCall (length img)) img m (Count k) img' m'
+step-done img m img' m' k r d e =
+    let s : Store = storeOf (flatOf m) in
+    let o : Outcome = stepAt (s .checkpoint) s in
+    let n : k ≡ left (o .store) = e ∙ ap left (in-sound m' (o .store) (d .memory .store) .means) in
+    stores-count (stepCall (length img)) m img img' m' k (o .store) (o .writes) (r .runs .held)
+    (step-at (length img) s (r .long ∙ ap (λ (b : ℕ). 512 * b) (sym (blocks-is (flatOf m))))
+    ∙ ap (λ (a : model.Answer). record { answer = a; store = o .store; writes = o .writes }) (answer-of (s .checkpoint) s (r .runs .on) ∙ ap model.count (sym n)))
+    (d .memory .size) (d .memory .store) (d .image)

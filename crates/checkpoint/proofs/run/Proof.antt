@@ -1,0 +1,83 @@
+-- `checkpoint::run` meets its contract.
+use mathlib.Core.Path.{ap, _∙_}
+use mathlib.Core.List.{List}
+use Prim.Native.Nat.{ℕ, min}
+use native.Mathlib.Omega.{arith}
+use lib.ListN.{length}
+use borrow.Author.Needs.{needs}
+use Rattle.model.specs.Checkpoint.{runCall}
+use Rattle.memory.proofs.Refusal.{held-room}
+use Rattle.checkpoint.proofs.Stepping.{stopped, passed-runs, passed-long}
+use Rattle.checkpoint.proofs.Repeating.{run-5, run-18, Repeats, repeats-start, repeats-turn, repeats-end}
+use Rattle.checkpoint.proofs.run.Statement.{statement}
+use Rattle.checkpoint.proofs.run.Tie as tie
+
+abbrev Inv-loop : tie.InvT-loop
+Inv-loop image₀ m₀ limit v k n₀ image m n = Repeats image₀ m₀ k image m n
+
+abbrev μ-loop : tie.MeasureT-loop
+μ-loop image₀ m₀ limit v k n₀ image m n = n
+
+step-refusal-requires : tie.Need-step-refusal-requires Inv-loop μ-loop
+step-refusal-requires c κs = search needs
+
+same-length : tie.Need-same-length Inv-loop μ-loop
+same-length c = search needs
+
+returns : tie.Need-returns Inv-loop μ-loop
+returns c = let img : List ℕ = c .before .before .before .before .before .args .image .now in
+    stopped (length img) (c .before .before .before .before .before .args .m .now) _ (c .before .step-refusal .ensures) (runCall (c .before .before .before .before .before .args .limit) (length img)) (run-5 (c .before .before .before .before .before .args .limit) (length img)) (run-18 (c .before .before .before .before .before .args .limit) (length img)) img (c .if1 .taken)
+
+left-requires : tie.Need-left-requires Inv-loop μ-loop
+left-requires c κs = held-room _ (passed-runs (length (c .before .before .before .before .before .before .args .image .now)) (c .before .before .before .before .before .before .args .m .now) _ (c .before .before .step-refusal .ensures) (c .before .if1 .left) .held)
+
+smaller-requires : tie.Need-smaller-requires Inv-loop μ-loop
+smaller-requires c κs = search needs
+
+loop-holds : tie.Need-loop-holds Inv-loop μ-loop
+loop-holds c = let len : ℕ = length (c .before .before .before .before .before .before .before .before .args .image .now) in
+    let m : List ℕ = c .before .before .before .before .before .before .before .before .args .m .now in
+    repeats-start (c .before .before .before .before .before .before .before .before .args .image .now) m _ (record { runs = passed-runs len m _ (c .before .before .before .before .step-refusal .ensures) (c .before .before .before .if1 .left); long = passed-long len m _ (c .before .before .before .before .step-refusal .ensures) (c .before .before .before .if1 .left) }) (omega (arith, c .smaller .ensures, c .before .left .ensures))
+
+step-requires : tie.Need-step-requires Inv-loop μ-loop
+step-requires c κs = search needs
+
+sub-n : tie.Need-sub-n Inv-loop μ-loop
+sub-n c = omega arith
+
+loop-less : tie.Need-loop-less Inv-loop μ-loop
+loop-less c = omega (arith, c .before .before .before .before .before .before .before .loop-test .taken)
+
+loop-again : tie.Need-loop-again Inv-loop μ-loop
+loop-again c = repeats-turn (c .before .before .before .before .before .before .before .before .loop .inv) (c .before .before .before .before .before .before .before .loop-test .taken) _ _ _ (search needs) (c .before .before .before .before .step .ensures)
+
+same-length-2 : tie.Need-same-length-2 Inv-loop μ-loop
+same-length-2 c = c .before .loop .inv .wide
+
+same-length-3 : tie.Need-same-length-3 Inv-loop μ-loop
+same-length-3 c = c .before .loop .inv .size
+
+returns-2 : tie.Need-returns-2 Inv-loop μ-loop
+returns-2 c = let len : ℕ = length (c .before .before .before .before .before .before .before .before .before .before .args .image .now) in
+    let m : List ℕ = c .before .before .before .before .before .before .before .before .before .before .args .m .now in
+    repeats-end (c .before .loop .inv) (c .loop-test .left) (c .before .before .before .before .before .before .before .before .before .before .args .limit) (record { runs = passed-runs len m _ (c .before .before .before .before .before .before .step-refusal .ensures) (c .before .before .before .before .before .if1 .left); long = passed-long len m _ (c .before .before .before .before .before .before .step-refusal .ensures) (c .before .before .before .before .before .if1 .left) }) (c .before .before .smaller .ensures ∙ ap (min (c .before .before .before .before .before .before .before .before .before .before .args .limit)) (c .before .before .before .left .ensures))
+
+pub run-spec : {M : Type 1} → statement M
+run-spec =
+    tie.close
+    (tie.spec
+    Inv-loop
+    μ-loop
+    step-refusal-requires
+    same-length
+    returns
+    left-requires
+    smaller-requires
+    loop-holds
+    step-requires
+    sub-n
+    loop-less
+    loop-again
+    same-length-2
+    same-length-3
+    returns-2)

@@ -1,0 +1,81 @@
+-- `checkpoint::store_directory` meets its contract.
+use mathlib.Core.Path.{ap}
+use Prim.Native.Nat.{_+_}
+use native.Mathlib.Omega.{arith}
+use borrow.Author.Needs.{needs}
+use Rattle.memory.specs.declared.Counts.{Counts}
+use Rattle.memory.specs.declared.Head.{Head}
+use Rattle.memory.proofs.Refusal.{held-room}
+use Rattle.image.specs.Stages.{directoriesFor}
+use Rattle.checkpoint.proofs.Stepping.{part-long, back-is, directory-does}
+use Rattle.checkpoint.proofs.Tallies.{running-is}
+use Rattle.checkpoint.proofs.store_directory.Statement.{statement}
+use Rattle.checkpoint.proofs.store_directory.Tie as tie
+
+get-head-requires : tie.Need-get-head-requires
+get-head-requires c κs = omega (arith, held-room _ (c .before .before .before .pre .0 .runs .held) .range .long)
+
+get-counts-requires : tie.Need-get-counts-requires
+get-counts-requires c κs = omega (arith, held-room _ (c .before .before .before .before .before .pre .0 .runs .held) .range .long)
+
+allocate-requires : tie.Need-allocate-requires
+allocate-requires c κs = held-room _ (c .before .before .before .before .before .before .before .pre .0 .runs .held)
+
+mul-a : tie.Need-mul-a
+mul-a c = search needs
+
+add-end : tie.Need-add-end
+add-end c = search needs
+
+cast-k : tie.Need-cast-k
+cast-k c = search needs
+
+sub-write-directory : tie.Need-sub-write-directory
+sub-write-directory c = search needs
+
+part-write-directory-start : tie.Need-part-write-directory-start
+part-write-directory-start c = search needs
+
+part-write-directory-end : tie.Need-part-write-directory-end
+part-write-directory-end c = search needs
+
+add-write-directory : tie.Need-add-write-directory
+add-write-directory c = record { fits = omega (arith, running-is _ (c .before .before .before .before .before .before .before .before .before .before .before .before .pre .0 .runs .on) .1, ap (λ (h : Head). h .level) (c .before .before .before .before .before .before .before .before .get-head .ensures)) }
+
+write-directory-requires : tie.Need-write-directory-requires
+unfolding directoriesFor
+write-directory-requires c κs = (held-room _ (c .before .before .before .before .before .before .before .before .before .before .before .before .pre .0 .runs .held), (omega (arith, c .before .before .before .before .before .before .before .before .before .before .before .before .pre .1 .1, ap (λ (x : Counts). x .directories) (c .before .before .before .before .before .before .get-counts .ensures)), part-long (c .before .before .before .before .before .before .before .before .before .before .before .before .args .image .now) _ _ (c .before .before .before .before .before .before .before .before .before .before .before .before .pre .0 .long) (c .before .before .before .before .allocate .ensures .1)))
+
+keep-directory-requires : tie.Need-keep-directory-requires
+unfolding directoriesFor
+keep-directory-requires c κs = let r = held-room _ (c .before .before .before .before .before .before .before .before .before .before .before .before .before .before .before .before .pre .0 .runs .held) in
+    (c .before .before .before .before .before .before .before .before .before .before .before .before .before .before .before .before .pre .0 .runs, (c .before .before .before .before .before .before .before .before .allocate .ensures .1, omega (arith, c .before .before .before .before .before .before .before .before .before .before .before .before .before .before .before .before .pre .1 .1, r .range .named, r .range .most)))
+
+same-length : tie.Need-same-length
+same-length c = search needs
+
+same-length-2 : tie.Need-same-length-2
+same-length-2 c = search needs
+
+returns : tie.Need-returns
+returns c = directory-does (c .before .before .before .before .before .before .before .before .before .before .before .before .before .before .before .before .before .before .before .pre .0 .runs) (c .before .before .before .before .before .before .before .before .before .before .before .before .before .before .before .before .before .before .before .pre .1 .0) (c .before .before .before .before .before .before .before .before .before .before .before .allocate .result) (c .before .before .before .before .before .before .before .before .before .before .before .before .before .get-counts .result .directories) (c .before .before .before .before .before .before .before .before .before .before .before .before .before .before .before .get-head .result .level + 1) (c .before .before .before .before .before .before .before .before .before .before .before .before .before .before .before .before .before .before .before .pre .1 .1) (c .before .before .before .before .before .before .before .before .before .before .before .allocate .ensures .0) (ap (λ (x : Counts). x .directories) (c .before .before .before .before .before .before .before .before .before .before .before .before .before .get-counts .ensures)) (ap (λ (h : Head). h .level + 1) (c .before .before .before .before .before .before .before .before .before .before .before .before .before .before .before .get-head .ensures)) (c .before .before .before .before .before .before .write-directory .ensures) (back-is (c .before .before .before .before .before .before .before .before .before .before .before .before .before .before .before .before .before .before .before .args .image .now) _ (c .before .before .before .before .before .before .before .before .before .before .before .allocate .result)) (c .before .before .keep-directory .ensures)
+
+pub store-directory-spec : {M : Type 1} → statement M
+store-directory-spec =
+    tie.close
+    (tie.spec
+    get-head-requires
+    get-counts-requires
+    allocate-requires
+    mul-a
+    add-end
+    cast-k
+    sub-write-directory
+    part-write-directory-start
+    part-write-directory-end
+    add-write-directory
+    write-directory-requires
+    keep-directory-requires
+    same-length
+    same-length-2
+    returns)

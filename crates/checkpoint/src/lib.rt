@@ -1,0 +1,484 @@
+// Begin, step and run: the checkpoint on the working memory. No call asks anything of its caller: each contract says what the call
+// answers and leaves, for any image and any memory, by the model's function.
+use answers::Answer;
+use memory::Head;
+use pages::Found;
+ghost use mathlib.Core.Path.{_≡_};
+ghost use mathlib.Core.Bool.{true};
+ghost use mathlib.Core.List.{[], map};
+ghost use Prim.Native.Nat.{_-_, _≤_, _<_, min};
+ghost use lib.ListN.{length};
+ghost use Rattle.basics.specs.Basics.{howMany};
+ghost use Rattle.image.specs.Stages.{directoriesFor};
+ghost use Rattle.model.specs.Rules.{isDirty, isFrozen};
+ghost use Rattle.model.specs.Checkpoint.{allocate, freeCount, isRunning, blocksNeeded, beginCall, left, stepCall, runCall};
+ghost use Rattle.memory.specs.Flat.{flatOf, Room, Becomes, withNamed};
+ghost use Rattle.memory.specs.Store.{blocksOf, pagesIn, holdsStore, storeOf, storeIn};
+ghost use Rattle.pages.specs.Turns.{pagesOf};
+ghost use Rattle.pages.specs.Finding.{NoneOf, FirstPage};
+ghost use Rattle.answers.specs.Shape.{Answers, Stores};
+ghost use Rattle.checkpoint.specs.Counting.{oneIf, freeFrom, firstZero};
+ghost use Rattle.checkpoint.specs.Keeping.{begun, pageKept, directoryKept, headerKept, Runs, Ready, taking, Leads, Fills, Marks, Steps, stepRefusal};
+
+// ---- counting
+
+fn one_if(b: bool) -> usize
+    ensures { λ r. ⌜ (r ≡ oneIf b) × (r ≤ 1) ⌝ }
+{
+    if b {
+        return 1;
+    }
+    0
+}
+
+// How many pages are dirty.
+fn dirty_pages(m: &[u8]) -> usize
+    requires { ⌜ Room (now m) ⌝ }
+    ensures { λ r. ⌜ (r ≡ howMany isDirty (pagesIn (flatOf (now (m .entry))))) × (r ≤ 1024) ⌝ }
+{
+    let c = memory::get_counts(m);
+    let n = c.pages as usize;
+    let mut k: usize = 0;
+    let mut p: usize = 0;
+    while p < n {
+        let e = memory::get_entry(m, p);
+        k += one_if(e.block % 4096 == 0);
+        p += 1;
+    }
+    k
+}
+
+// How many pages are frozen.
+fn frozen_pages(m: &[u8]) -> usize
+    requires { ⌜ Room (now m) ⌝ }
+    ensures { λ r. ⌜ (r ≡ howMany isFrozen (pagesIn (flatOf (now (m .entry))))) × (r ≤ 1024) ⌝ }
+{
+    let c = memory::get_counts(m);
+    let n = c.pages as usize;
+    let mut k: usize = 0;
+    let mut p: usize = 0;
+    while p < n {
+        let e = memory::get_entry(m, p);
+        k += one_if(e.frozen != 0);
+        p += 1;
+    }
+    k
+}
+
+// How many blocks are free.
+fn free_blocks(m: &[u8]) -> usize
+    requires { ⌜ Room (now m) ⌝ }
+    ensures { λ r. ⌜ r ≡ freeCount (storeOf (flatOf (now (m .entry)))) ⌝ }
+{
+    let h = memory::get_head(m);
+    let n = h.blocks as usize;
+    let mut k: usize = 0;
+    let mut b: usize = 1;
+    while b < n {
+        k += one_if(!memory::is_used(m, b));
+        b += 1;
+    }
+    k
+}
+
+// How many directory blocks p pages take.
+fn directories_for(p: usize) -> usize
+    requires { ⌜ p ≤ 1024 ⌝ }
+    ensures { λ r. ⌜ (r ≡ directoriesFor p) × (r ≤ 4) ⌝ }
+{
+    (p + 335) / 336
+}
+
+// How many free blocks a begin needs.
+fn blocks_needed(m: &[u8]) -> usize
+    requires { ⌜ Room (now m) ⌝ }
+    ensures { λ r. ⌜ (r ≡ blocksNeeded (pagesIn (flatOf (now (m .entry))))) × (r ≤ 1028) ⌝ }
+{
+    let c = memory::get_counts(m);
+    dirty_pages(m) + directories_for(c.pages as usize)
+}
+
+// Whether a checkpoint runs: none does at the last level.
+fn is_running(m: &[u8]) -> bool
+    requires { ⌜ 1024 ≤ length (now m) ⌝ }
+    ensures { λ r. ⌜ r ≡ isRunning (storeOf (flatOf (now (m .entry))) .checkpoint) ⌝ }
+{
+    let h = memory::get_head(m);
+    if h.running == 0 {
+        return false;
+    }
+    h.level < 4294967295
+}
+
+// ---- what is left to store
+
+// How many directory blocks are still to be written.
+fn directories_left(m: &[u8]) -> usize
+    requires { ⌜ Room (now m) ⌝ }
+    ensures { λ r. ⌜ (r ≡ directoriesFor (length (flatOf (now (m .entry)) .named)) - length (flatOf (now (m .entry)) .directories)) × (r ≤ 4) ⌝ }
+{
+    let c = memory::get_counts(m);
+    let d = directories_for(c.named as usize);
+    let w = c.directories as usize;
+    if d < w {
+        return 0;
+    }
+    d - w
+}
+
+// How many stores are left: the frozen pages, the directory blocks, the header.
+fn left(m: &[u8]) -> u64
+    requires { ⌜ Room (now m) ⌝ }
+    ensures { λ r. ⌜ r ≡ left (storeOf (flatOf (now (m .entry)))) ⌝ }
+{
+    if !is_running(m) {
+        return 0;
+    }
+    let n = frozen_pages(m) + directories_left(m) + 1;
+    n as u64
+}
+
+// ---- the next block
+
+// The first free block from a up to, not including, e; e, if there is none.
+fn first_free(m: &[u8], a: usize, e: usize) -> usize
+    requires { ⌜ (1024 ≤ length (now m)) × ((a ≤ e) × (e ≤ 4096)) ⌝ }
+    ensures { λ r. ⌜ (r ≡ freeFrom (flatOf (now (m .entry)) .used) a e) × (r ≤ e) ⌝ }
+{
+    let mut b = a;
+    while b < e {
+        if !memory::is_used(m, b) {
+            return b;
+        }
+        b += 1;
+    }
+    e
+}
+
+// The first free block after the one last taken, round to block 1; the last block, if there is none.
+fn allocate(m: &[u8]) -> usize
+    requires { ⌜ Room (now m) ⌝ }
+    ensures { λ r. ⌜ (r ≡ allocate (storeOf (flatOf (now (m .entry))))) × (r < flatOf (now (m .entry)) .head .blocks) ⌝ }
+{
+    let h = memory::get_head(m);
+    let n = h.blocks as usize;
+    let t = h.taken as usize;
+    let b = first_free(m, t + 1, n);
+    if b < n {
+        return b;
+    }
+    let w = first_free(m, 1, t + 1);
+    if w <= t {
+        return w;
+    }
+    n - 1
+}
+
+// ---- begin
+
+// The list of all pages: the block of each, 0 if it is dirty.
+fn name_pages(m: &mut [u8])
+    requires { ⌜ Room (now m) × (flatOf (now m) .named ≡ []) ⌝ }
+    ensures { λ _. ⌜ Becomes (now (m .entry)) (now (m .exit)) (withNamed (flatOf (now (m .entry))) (map (λ e. e .block) (flatOf (now (m .entry)) .entries))) ⌝ }
+{
+    let c = memory::get_counts(m);
+    let n = c.pages as usize;
+    let mut p: usize = 0;
+    while p < n {
+        let e = memory::get_entry(m, p);
+        memory::push_named(m, e.block);
+        p += 1;
+    }
+}
+
+// All tests are passed: the list of all pages is fixed, and every dirty page is frozen.
+fn start(m: &mut [u8])
+    requires { ⌜ (holdsStore (now m) ≡ true) × (flatOf (now m) .head .level < 4294967295) ⌝ }
+    ensures { λ _. ⌜ Leads (now (m .entry)) (now (m .exit)) (begun (storeOf (flatOf (now (m .entry))))) ⌝ }
+{
+    memory::clear_named(m);
+    name_pages(m);
+    memory::clear_directories(m);
+    let h = memory::get_head(m);
+    let g = Head {
+        capacity: h.capacity,
+        blocks: h.blocks,
+        level: h.level,
+        next: h.next,
+        running: 1,
+        begun: h.next,
+        taken: h.taken,
+    };
+    memory::put_head(m, g);
+    pages::freeze(m);
+}
+
+// Freezes every dirty page and fixes the list of all pages; answers how many stores are left.
+pub fn begin(m: &mut [u8]) -> Answer
+    ensures { λ r. ⌜ Answers beginCall (now (m .entry)) r (now (m .exit)) ⌝ }
+{
+    if !memory::holds_store(m) {
+        return Answer::Refused(4);
+    }
+    if is_running(m) {
+        return Answer::Refused(17);
+    }
+    let h = memory::get_head(m);
+    if h.level == 4294967295 {
+        return Answer::Refused(19);
+    }
+    let need = blocks_needed(m);
+    if free_blocks(m) < need {
+        return Answer::Refused(20);
+    }
+    start(m);
+    let n = need as u64;
+    Answer::Count(n + 1)
+}
+
+// ---- what a store leaves in the memory
+
+// Block b is in use, and it is the one last taken.
+fn take_block(m: &mut [u8], b: usize)
+    requires { ⌜ Room (now m) × (b < flatOf (now m) .head .blocks) ⌝ }
+    ensures { λ _. ⌜ Becomes (now (m .entry)) (now (m .exit)) (taking b (flatOf (now (m .entry)))) ⌝ }
+{
+    let h = memory::get_head(m);
+    let g = Head {
+        capacity: h.capacity,
+        blocks: h.blocks,
+        level: h.level,
+        next: h.next,
+        running: h.running,
+        begun: h.begun,
+        taken: b as u32,
+    };
+    memory::put_head(m, g);
+    memory::mark_used(m, b);
+}
+
+// The place of the first page of the list that has no block yet; how many pages there are, if each has one.
+fn first_unnamed(m: &[u8]) -> usize
+    requires { ⌜ Room (now m) ⌝ }
+    ensures { λ r. ⌜ r ≡ firstZero (flatOf (now (m .entry)) .named) ⌝ }
+{
+    let c = memory::get_counts(m);
+    let n = c.named as usize;
+    let mut i: usize = 0;
+    while i < n {
+        let b = memory::get_named(m, i) % 4096;
+        if b == 0 {
+            return i;
+        }
+        i += 1;
+    }
+    n
+}
+
+// The first page of the list that has no block yet gets block b.
+fn fill_entry(m: &mut [u8], b: u16)
+    requires { ⌜ Room (now m) × (b < 4096) ⌝ }
+    ensures { λ _. ⌜ Fills (now (m .entry)) (now (m .exit)) b ⌝ }
+{
+    let c = memory::get_counts(m);
+    let n = c.named as usize;
+    let i = first_unnamed(m);
+    if n <= i {
+        return;
+    }
+    memory::put_named(m, i, b);
+}
+
+// After the store of the first frozen page as block b.
+fn keep_page(m: &mut [u8], b: usize)
+    requires { ⌜ Runs (now m) × (b < flatOf (now m) .head .blocks) ⌝ }
+    ensures { λ _. ⌜ Leads (now (m .entry)) (now (m .exit)) (pageKept b (storeOf (flatOf (now (m .entry))))) ⌝ }
+{
+    take_block(m, b);
+    fill_entry(m, b as u16);
+    pages::thaw(m, b as u16);
+}
+
+// After the store of a directory block as block b.
+fn keep_directory(m: &mut [u8], b: usize)
+    requires { ⌜ Runs (now m) × ((b < flatOf (now m) .head .blocks) × (length (flatOf (now m) .directories) < 4)) ⌝ }
+    ensures { λ _. ⌜ Leads (now (m .entry)) (now (m .exit)) (directoryKept b (storeOf (flatOf (now (m .entry))))) ⌝ }
+{
+    take_block(m, b);
+    memory::push_directory(m, b as u32);
+}
+
+// The blocks of the listed pages are in use.
+fn mark_named(m: &mut [u8])
+    requires { ⌜ Room (now m) ⌝ }
+    ensures { λ _. ⌜ Marks (now (m .entry)) (now (m .exit)) (blocksOf (flatOf (now (m .entry)) .named)) ⌝ }
+{
+    let c = memory::get_counts(m);
+    let n = c.named as usize;
+    let mut i: usize = 0;
+    while i < n {
+        let b = memory::get_named(m, i) % 4096;
+        memory::mark_used(m, b as usize);
+        i += 1;
+    }
+}
+
+// The directory blocks written are in use.
+fn mark_directories(m: &mut [u8])
+    requires { ⌜ Room (now m) ⌝ }
+    ensures { λ _. ⌜ Marks (now (m .entry)) (now (m .exit)) (blocksOf (flatOf (now (m .entry)) .directories)) ⌝ }
+{
+    let c = memory::get_counts(m);
+    let n = c.directories as usize;
+    let mut i: usize = 0;
+    while i < n {
+        let b = memory::get_directory(m, i) % 4096;
+        memory::mark_used(m, b as usize);
+        i += 1;
+    }
+}
+
+// After the header's store: the blocks that it no longer names are free.
+fn keep_header(m: &mut [u8])
+    requires { ⌜ Runs (now m) ⌝ }
+    ensures { λ _. ⌜ Leads (now (m .entry)) (now (m .exit)) (headerKept (storeOf (flatOf (now (m .entry))))) ⌝ }
+{
+    memory::clear_used(m);
+    mark_named(m);
+    mark_directories(m);
+    let h = memory::get_head(m);
+    let g = Head {
+        capacity: h.capacity,
+        blocks: h.blocks,
+        level: h.level + 1,
+        next: h.next,
+        running: 0,
+        begun: h.begun,
+        taken: h.taken,
+    };
+    memory::put_head(m, g);
+}
+
+// ---- step
+
+// The first frozen page, p, whose rows begin at start, goes into the next free block.
+fn store_page(image: &mut [u8], m: &mut [u8], p: usize, start: usize)
+    requires { ⌜ Ready (now image) (now m) × FirstPage (now m) isFrozen p start ⌝ }
+    ensures { λ _. ⌜ Steps (now (image .entry)) (now (m .entry)) (now (image .exit)) (now (m .exit)) ⌝ }
+{
+    let h = memory::get_head(m);
+    let e = memory::get_entry(m, p);
+    let b = allocate(m);
+    let a = 512 * b;
+    let end = a + 512;
+    let t = e.table % 8;
+    let n = e.count as usize;
+    writer::write_page(&mut image[a..end], m, t, start, n, h.level + 1);
+    keep_page(m, b);
+}
+
+// The next part of the list of pages goes into the next free block.
+fn store_directory(image: &mut [u8], m: &mut [u8])
+    requires { ⌜ Ready (now image) (now m) × (NoneOf isFrozen (pagesOf (now m)) × (length (flatOf (now m) .directories) < directoriesFor (length (flatOf (now m) .named)))) ⌝ }
+    ensures { λ _. ⌜ Steps (now (image .entry)) (now (m .entry)) (now (image .exit)) (now (m .exit)) ⌝ }
+{
+    let h = memory::get_head(m);
+    let c = memory::get_counts(m);
+    let b = allocate(m);
+    let a = 512 * b;
+    let end = a + 512;
+    let k = c.directories as usize;
+    writer::write_directory(&mut image[a..end], m, k, h.level + 1);
+    keep_directory(m, b);
+}
+
+// The header goes into block 0, and the checkpoint ends.
+fn store_header(image: &mut [u8], m: &mut [u8])
+    requires { ⌜ Ready (now image) (now m) × (NoneOf isFrozen (pagesOf (now m)) × (directoriesFor (length (flatOf (now m) .named)) ≤ length (flatOf (now m) .directories))) ⌝ }
+    ensures { λ _. ⌜ Steps (now (image .entry)) (now (m .entry)) (now (image .exit)) (now (m .exit)) ⌝ }
+{
+    writer::write_header(&mut image[0..512], m);
+    keep_header(m);
+}
+
+// No page is frozen any more: the directory, then the header.
+fn store_rest(image: &mut [u8], m: &mut [u8])
+    requires { ⌜ Ready (now image) (now m) × NoneOf isFrozen (pagesOf (now m)) ⌝ }
+    ensures { λ _. ⌜ Steps (now (image .entry)) (now (m .entry)) (now (image .exit)) (now (m .exit)) ⌝ }
+{
+    if 0 < directories_left(m) {
+        store_directory(image, m);
+        return;
+    }
+    store_header(image, m);
+}
+
+// The frozen pages in list order, then the directory, then the header: one store.
+fn store_next(image: &mut [u8], m: &mut [u8])
+    requires { ⌜ Ready (now image) (now m) ⌝ }
+    ensures { λ _. ⌜ Steps (now (image .entry)) (now (m .entry)) (now (image .exit)) (now (m .exit)) ⌝ }
+{
+    match pages::find_frozen(m) {
+        Found::Here { page, start, at: _ } => store_page(image, m, page, start),
+        Found::Nowhere => store_rest(image, m),
+    }
+}
+
+// 4; 5 image, of len bytes, is not exactly the store's blocks long; 18 none running; else 0.
+fn step_refusal(len: usize, m: &[u8]) -> u64
+    ensures { λ r. ⌜ r ≡ stepRefusal len (storeIn (now (m .entry))) ⌝ }
+{
+    if !memory::holds_store(m) {
+        return 4;
+    }
+    let h = memory::get_head(m);
+    let n = h.blocks as usize;
+    if len != 512 * n {
+        return 5;
+    }
+    if !is_running(m) {
+        return 18;
+    }
+    0
+}
+
+// Makes one store; answers how many are left.
+pub fn step(image: &mut [u8], m: &mut [u8]) -> Answer
+    ensures { λ r. ⌜ Stores (stepCall (length (now (image .entry)))) (now (image .entry)) (now (m .entry)) r (now (image .exit)) (now (m .exit)) ⌝ }
+{
+    let v = step_refusal(image.len(), m);
+    if v != 0 {
+        return Answer::Refused(v);
+    }
+    store_next(image, m);
+    let n = left(m);
+    Answer::Count(n)
+}
+
+// ---- run
+
+fn smaller(a: u64, b: u64) -> u64
+    ensures { λ r. ⌜ r ≡ min a b ⌝ }
+{
+    if a < b {
+        return a;
+    }
+    b
+}
+
+// Makes stores by steps, at most as many as the limit; answers how many.
+pub fn run(image: &mut [u8], m: &mut [u8], limit: u64) -> Answer
+    ensures { λ r. ⌜ Stores (runCall limit (length (now (image .entry)))) (now (image .entry)) (now (m .entry)) r (now (image .exit)) (now (m .exit)) ⌝ }
+{
+    let v = step_refusal(image.len(), m);
+    if v != 0 {
+        return Answer::Refused(v);
+    }
+    let k = smaller(limit, left(m));
+    let mut n = k;
+    while 0 < n {
+        step(image, m);
+        n -= 1;
+    }
+    Answer::Count(k)
+}
