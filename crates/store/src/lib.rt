@@ -5,7 +5,8 @@ ghost use mathlib.Core.Path.{_≡_};
 ghost use lib.IntN.{pos};
 ghost use lib.ListN.{length};
 ghost use Rattle.model.specs.Transactions.{openCall, insertCall, replaceCall, deleteCall, commitCall, abortCall, readCall};
-ghost use Rattle.answers.specs.Shape.{Answers, Replies, Lists, Made, Recovered};
+ghost use Rattle.model.specs.Checkpoint.{beginCall, stepCall, runCall};
+ghost use Rattle.answers.specs.Shape.{Answers, Replies, Lists, Stores, Made, Recovered};
 ghost use Rattle.store.specs.Code.{whole, code, Coded};
 
 // An empty store, in image and memory.
@@ -76,6 +77,27 @@ pub fn list(m: &[u8], reply: &mut [u8]) -> Answer
     ensures { λ r. ⌜ Lists (now (m .entry)) r (now (reply .entry)) (now (reply .exit)) ⌝ }
 {
     transactions::list(m, reply)
+}
+
+// A checkpoint begins; how many stores it has left.
+pub fn begin(m: &mut [u8]) -> Answer
+    ensures { λ r. ⌜ Answers beginCall (now (m .entry)) r (now (m .exit)) ⌝ }
+{
+    checkpoint::begin(m)
+}
+
+// The next store of the checkpoint, one block of the image; how many are left.
+pub fn step(image: &mut [u8], m: &mut [u8]) -> Answer
+    ensures { λ r. ⌜ Stores (stepCall (length (now (image .entry)))) (now (image .entry)) (now (m .entry)) r (now (image .exit)) (now (m .exit)) ⌝ }
+{
+    checkpoint::step(image, m)
+}
+
+// Steps in turn, at most so many; how many there were.
+pub fn run(image: &mut [u8], m: &mut [u8], limit: u64) -> Answer
+    ensures { λ r. ⌜ Stores (runCall limit (length (now (image .entry)))) (now (image .entry)) (now (m .entry)) r (now (image .exit)) (now (m .exit)) ⌝ }
+{
+    checkpoint::run(image, m, limit)
 }
 
 // ---- for C
@@ -170,4 +192,25 @@ pub extern "C" fn vodzanu_list(memory: &[u8], reply: &mut [u8]) -> i64
     ensures { λ r. ⌜ Coded r (λ a. Lists (now (memory .entry)) a (now (reply .entry)) (now (reply .exit))) ⌝ }
 {
     code(list(memory, reply))
+}
+
+#[no_mangle]
+pub extern "C" fn vodzanu_begin(memory: &mut [u8]) -> i64
+    ensures { λ r. ⌜ Coded r (λ a. Answers beginCall (now (memory .entry)) a (now (memory .exit))) ⌝ }
+{
+    code(begin(memory))
+}
+
+#[no_mangle]
+pub extern "C" fn vodzanu_step(image: &mut [u8], memory: &mut [u8]) -> i64
+    ensures { λ r. ⌜ Coded r (λ a. Stores (stepCall (length (now (image .entry)))) (now (image .entry)) (now (memory .entry)) a (now (image .exit)) (now (memory .exit))) ⌝ }
+{
+    code(step(image, memory))
+}
+
+#[no_mangle]
+pub extern "C" fn vodzanu_run(image: &mut [u8], memory: &mut [u8], limit: u64) -> i64
+    ensures { λ r. ⌜ Coded r (λ a. Stores (runCall limit (length (now (image .entry)))) (now (image .entry)) (now (memory .entry)) a (now (image .exit)) (now (memory .exit))) ⌝ }
+{
+    code(run(image, memory, limit))
 }
