@@ -3,6 +3,7 @@
 use answers::Answer;
 use libc::STDIN_FILENO;
 use script::Call;
+use script::Extent;
 use script::Target;
 ghost use Prim.Native.Nat.{_<_};
 
@@ -235,12 +236,31 @@ fn on_memory(m: &mut [u8], call: Call, payload: &[u8]) {
         Call::Delete(t) => delete(m, t),
         Call::Read(t, room) => read(m, t, room),
         Call::List(room) => list(m, room),
+        Call::Begin => say_answer(store::begin(m)),
         _ => bad_line(),
     }
 }
 
+// How many bytes of the image are lent to a step or run.
+fn extent(asked: Extent, lent: Lent) -> u64 {
+    match asked {
+        Extent::Lent => lent.image,
+        Extent::Bytes(n) => n,
+    }
+}
+
+fn step(image: &mut [u8], m: &mut [u8], len: u64) {
+    say_answer(store::step(lend(image, len), m));
+}
+
+fn run(image: &mut [u8], m: &mut [u8], len: u64, limit: u64) {
+    say_answer(store::run(lend(image, len), m, limit));
+}
+
 fn on_image(image: &mut [u8], memory: &mut [u8], lent: Lent, call: Call, payload: &[u8]) {
     match call {
+        Call::Step(e) => step(image, lend(memory, lent.memory), extent(e, lent)),
+        Call::Run(limit, e) => run(image, lend(memory, lent.memory), extent(e, lent), limit),
         Call::Fill(block, byte) => fill(image, block, byte),
         Call::Show(block) => show(image, block),
         Call::Digest => say_line(b"digest ", digest(first(image, lent.image))),
