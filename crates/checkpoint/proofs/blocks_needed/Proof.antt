@@ -12,8 +12,8 @@ use Rattle.checkpoint.proofs.blocks_needed.Tie as tie
 get-counts-requires : tie.Need-get-counts-requires
 get-counts-requires c κs = search needs
 
-dirty-pages-requires : tie.Need-dirty-pages-requires
-dirty-pages-requires c κs = search needs
+count-pages-requires : tie.Need-count-pages-requires
+count-pages-requires c κs = search needs
 
 cast-directories-for : tie.Need-cast-directories-for
 cast-directories-for c = search needs
@@ -25,16 +25,15 @@ add-result : tie.Need-add-result
 add-result c = search needs
 
 returns : tie.Need-returns
-returns c = let f = flatOf (c .before .before .before .before .before .args .m .now) in
-    let e = ap (λ (x : Counts). directoriesFor (x .pages)) (c .before .before .before .get-counts .ensures) in
-    (omega (arith, c .directories-for .ensures .0, c .before .before .dirty-pages .ensures .0, e, needed-is f), omega (arith, c .directories-for .ensures .1, c .before .before .dirty-pages .ensures .1))
+returns c = let e = ap (λ (x : Counts). directoriesFor (x .pages)) (c .before .before .before .get-counts .ensures) in
+    (omega (arith, c .directories-for .ensures .0, c .before .before .count-pages .ensures .0, e, needed-is (flatOf (c .before .before .before .before .before .args .m .now))), omega (arith, c .directories-for .ensures .1, c .before .before .count-pages .ensures .1))
 
 pub blocks-needed-spec : {M : Type 1} → statement M
 blocks-needed-spec =
     tie.close
     (tie.spec
     get-counts-requires
-    dirty-pages-requires
+    count-pages-requires
     cast-directories-for
     directories-for-requires
     add-result

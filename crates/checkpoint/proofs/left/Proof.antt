@@ -14,8 +14,8 @@ is-running-requires c κs = search needs
 returns : tie.Need-returns
 returns c = left-none (flatOf (c .before .before .before .args .m .now)) (sym (c .before .is-running .ensures) ∙ not-true _ (c .if1 .taken))
 
-frozen-pages-requires : tie.Need-frozen-pages-requires
-frozen-pages-requires c κs = search needs
+count-pages-requires : tie.Need-count-pages-requires
+count-pages-requires c κs = search needs
 
 directories-left-requires : tie.Need-directories-left-requires
 directories-left-requires c κs = search needs
@@ -27,8 +27,7 @@ add-n-2 : tie.Need-add-n-2
 add-n-2 c = search needs
 
 returns-2 : tie.Need-returns-2
-returns-2 c = let f = flatOf (c .before .before .before .before .before .args .m .now) in
-    omega (arith, left-is f (sym (c .before .before .before .is-running .ensures) ∙ not-false _ (c .before .before .if1 .left)), c .before .frozen-pages .ensures .0, c .directories-left .ensures .0)
+returns-2 c = omega (arith, left-is (flatOf (c .before .before .before .before .before .args .m .now)) (sym (c .before .before .before .is-running .ensures) ∙ not-false _ (c .before .before .if1 .left)), c .before .count-pages .ensures .0, c .directories-left .ensures .0)
 
 pub left-spec : {M : Type 1} → statement M
 left-spec =
@@ -36,7 +35,7 @@ left-spec =
     (tie.spec
     is-running-requires
     returns
-    frozen-pages-requires
+    count-pages-requires
     directories-left-requires
     add-n
     add-n-2

@@ -1,20 +1,19 @@
 -- `checkpoint::mark_named` meets its contract.
-use mathlib.Core.Path.{sym, ap, _∙_}
+use mathlib.Core.Path.{ap, _∙_}
 use mathlib.Core.List.{List}
-use Prim.Native.Nat.{ℕ, _%_, _-_}
+use Prim.Native.Nat.{ℕ, _-_}
 use native.Mathlib.Omega.{arith}
 use lib.ListN.{length, getD}
 use borrow.Author.Needs.{needs}
 use Rattle.memory.specs.declared.Counts.{Counts}
-use Rattle.memory.specs.Store.{blocksOf}
-use Rattle.memory.specs.Flat.{Flat, flatOf}
-use Rattle.checkpoint.proofs.Tallies.{length-blocks}
-use Rattle.checkpoint.proofs.Leaving.{Marking, marking-start, marking-turn, marking-end, block-at}
+use Rattle.memory.specs.Flat.{flatOf}
+use Rattle.checkpoint.specs.Counting.{namedIn}
+use Rattle.checkpoint.proofs.Leaving.{Marking, marking-start, marking-turn, marking-same, marking-end, named-count}
 use Rattle.checkpoint.proofs.mark_named.Statement.{statement}
 use Rattle.checkpoint.proofs.mark_named.Tie as tie
 
 abbrev Inv-loop : tie.InvT-loop
-Inv-loop m₀ n i₀ m i = Marking m₀ m (blocksOf (flatOf m₀ .named)) n i
+Inv-loop m₀ n i₀ m i = Marking m₀ m (namedIn (flatOf m₀)) n i
 
 abbrev μ-loop : tie.MeasureT-loop
 μ-loop m₀ n i₀ m i = n - i
@@ -25,29 +24,33 @@ get-counts-requires c κs = omega (arith, c .before .before .pre .range .long)
 cast-n : tie.Need-cast-n Inv-loop μ-loop
 cast-n c = search needs
 
+cast-n-2 : tie.Need-cast-n-2 Inv-loop μ-loop
+cast-n-2 c = search needs
+
+add-n : tie.Need-add-n Inv-loop μ-loop
+add-n c = search needs
+
 loop-holds : tie.Need-loop-holds Inv-loop μ-loop
-loop-holds c = marking-start (c .before .before .before .before .args .m .now) _ _ (c .before .before .before .before .pre) (ap (λ (x : Counts). x .named) (c .before .get-counts .ensures) ∙ sym (length-blocks (flatOf (c .before .before .before .before .args .m .now) .named)))
+loop-holds c = let e = c .before .before .get-counts .ensures in
+    marking-start (c .before .before .before .before .before .args .m .now) _ _ (c .before .before .before .before .before .pre) (omega (arith, ap (λ (x : Counts). x .named) e, ap (λ (x : Counts). x .directories) e, named-count (flatOf (c .before .before .before .before .before .args .m .now))))
 
-get-named-requires : tie.Need-get-named-requires Inv-loop μ-loop
-get-named-requires c κs = (c .before .before .loop .inv .becomes .room, omega (arith, c .before .before .loop .inv .whole, c .before .loop-test .taken, length-blocks (flatOf (c .before .before .before .before .before .before .before .args .m .now) .named), ap (λ (f : Flat). length (f .named)) (c .before .before .loop .inv .becomes .flat)))
-
-cast-mark-used : tie.Need-cast-mark-used Inv-loop μ-loop
-cast-mark-used c = search needs
+block-named-requires : tie.Need-block-named-requires Inv-loop μ-loop
+block-named-requires c κs = let k = c .before .before .loop .inv in
+    (k .becomes .room, omega (arith, k .whole, c .before .loop-test .taken, ap length (marking-same k)))
 
 mark-used-requires : tie.Need-mark-used-requires Inv-loop μ-loop
-mark-used-requires c κs = (c .before .before .before .before .loop .inv .becomes .room, omega arith)
+mark-used-requires c κs = (c .before .before .before .before .loop .inv .becomes .room, c .before .block-named .ensures .1)
 
 add-i : tie.Need-add-i Inv-loop μ-loop
-add-i c = omega (arith, c .before .before .before .before .before .before .before .loop .inv .whole, c .before .before .before .before .before .before .loop-test .taken, length-blocks (flatOf (c .before .before .before .before .before .before .before .before .before .before .before .before .args .m .now) .named), c .before .before .before .before .before .before .before .before .before .before .before .before .pre .range .named, c .before .before .before .before .before .before .before .before .before .before .before .before .pre .range .most)
+add-i c = let r = c .before .before .before .before .before .before .before .before .before .before .before .before .before .pre .range in
+    omega (arith, c .before .before .before .before .before .before .before .loop .inv .whole, c .before .before .before .before .before .before .loop-test .taken, named-count (flatOf (c .before .before .before .before .before .before .before .before .before .before .before .before .before .args .m .now)), r .named, r .directories, r .most)
 
 loop-less : tie.Need-loop-less Inv-loop μ-loop
 loop-less c = omega (arith, c .before .before .before .before .before .before .loop-test .taken)
 
 loop-again : tie.Need-loop-again Inv-loop μ-loop
 loop-again c = let l = c .before .before .before .before .before .before .before .loop in
-    let ns : List ℕ = flatOf (c .before .before .before .before .before .before .before .before .before .before .before .before .args .m .now) .named in
-    let e = ap (λ (z : ℕ). z % 4096) (c .before .before .before .before .get-named .ensures ∙ ap (λ (f : Flat). getD (f .named) (l .i) 0) (l .inv .becomes .flat)) ∙ block-at ns (l .i) in
-    marking-turn (l .inv) (c .before .before .before .before .before .before .loop-test .taken) _ e _ (c .before .before .mark-used .ensures)
+    marking-turn (l .inv) (c .before .before .before .before .before .before .loop-test .taken) _ (c .before .before .before .before .block-named .ensures .0 ∙ ap (λ (bs : List ℕ). getD bs (l .i) 0) (marking-same (l .inv))) _ (c .before .before .mark-used .ensures)
 
 same-length : tie.Need-same-length Inv-loop μ-loop
 same-length c = c .before .loop .inv .becomes .size
@@ -63,9 +66,10 @@ mark-named-spec =
     μ-loop
     get-counts-requires
     cast-n
+    cast-n-2
+    add-n
     loop-holds
-    get-named-requires
-    cast-mark-used
+    block-named-requires
     mark-used-requires
     add-i
     loop-less
