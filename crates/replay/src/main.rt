@@ -115,7 +115,7 @@ fn used(s: &[u8]) -> usize {
     n
 }
 
-// Also of a block that the image has not.
+// No call, or a block that the image has not.
 fn bad_line() {
     script::say(b"bad line\n");
 }
