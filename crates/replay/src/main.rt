@@ -1,13 +1,23 @@
-// Replays the script on standard input: calls, one a line, on one image and one memory, and prints what each answers.
+// Replays the script on standard input: calls, one a line, on one image and one memory, and prints what each answers. A script may also
+// overwrite a block of the image, as a cut store does, and have blocks and a digest of the image printed.
 use answers::Answer;
 use libc::STDIN_FILENO;
 use script::Call;
+use script::Extent;
 use script::Target;
+ghost use Prim.Native.Nat.{_<_};
 
-// How many bytes of the image and of the memory are lent to a call: those of the last accepted make.
+// How many bytes of the image and of the memory are lent to a call: those of the last accepted make or recovery.
 struct Lent {
     image: u64,
     memory: u64,
+}
+
+fn both(image: u64, memory: u64) -> Lent {
+    Lent {
+        image: image,
+        memory: memory,
+    }
 }
 
 // The first n bytes; all if there are fewer.
@@ -86,7 +96,89 @@ fn say_listing(reply: &[u8], n: usize) {
     script::say(b"\n");
 }
 
+// ---- blocks of the image
+
+fn set_all(s: &mut [u8], byte: u8) {
+    for i in 0..s.len() {
+        s[i] = byte;
+    }
+}
+
+// How many bytes there are up to the last that is not zero.
+fn used(s: &[u8]) -> usize {
+    let mut n = 0;
+    for i in 0..s.len() {
+        if s[i] != 0 {
+            n = i + 1;
+        }
+    }
+    n
+}
+
+// No call, or a block that the image has not.
+fn bad_line() {
+    script::say(b"bad line\n");
+}
+
+fn fill(image: &mut [u8], block: u64, byte: u8) {
+    if (image.len() / 512) as u64 <= block {
+        return bad_line();
+    }
+    let from = block as usize * 512;
+    let to = from + 512;
+    set_all(&mut image[from..to], byte);
+    script::say(b"filled\n");
+}
+
+fn say_block(block: u64, s: &[u8]) {
+    script::say(b"block ");
+    script::say_number(block);
+    script::say(b" ");
+    script::say_bytes(s, used(s));
+    script::say(b"\n");
+}
+
+fn show(image: &[u8], block: u64) {
+    if (image.len() / 512) as u64 <= block {
+        return bad_line();
+    }
+    let from = block as usize * 512;
+    let to = from + 512;
+    say_block(block, &image[from..to]);
+}
+
+// The digest with one byte more: a remainder by the largest prime of 32 bits.
+fn digest_with(d: u64, byte: u8) -> u64
+    requires { ⌜ d < 4294967291 ⌝ }
+    ensures { λ r. ⌜ r < 4294967291 ⌝ }
+{
+    (31 * d + byte as u64) % 4294967291
+}
+
+fn digest(s: &[u8]) -> u64 {
+    let mut d: u64 = 0;
+    for i in 0..s.len() {
+        d = digest_with(d, s[i]);
+    }
+    d
+}
+
 // ---- calls
+
+fn clear(image: &mut [u8], memory: &mut [u8]) -> Lent {
+    set_all(image, 0);
+    set_all(memory, 0);
+    script::say(b"cleared\n");
+    both(0, 0)
+}
+
+// What is lent from now on: what was asked for, if the call was accepted.
+fn lent_after(a: Answer, lent: Lent, asked: Lent) -> Lent {
+    match a {
+        Answer::Done => asked,
+        _ => lent,
+    }
+}
 
 fn make(image: &mut [u8], memory: &mut [u8], lent: Lent, asked: Lent, capacity: u64) -> Lent {
     let a = store::make(
@@ -95,10 +187,13 @@ fn make(image: &mut [u8], memory: &mut [u8], lent: Lent, asked: Lent, capacity: 
         capacity,
     );
     say_answer(a);
-    match a {
-        Answer::Done => asked,
-        _ => lent,
-    }
+    lent_after(a, lent, asked)
+}
+
+fn recover(image: &[u8], memory: &mut [u8], lent: Lent, asked: Lent) -> Lent {
+    let a = store::recover(first(image, asked.image), lend(memory, asked.memory));
+    say_answer(a);
+    lent_after(a, lent, asked)
 }
 
 fn insert(m: &mut [u8], t: Target, payload: &[u8]) {
@@ -141,7 +236,35 @@ fn on_memory(m: &mut [u8], call: Call, payload: &[u8]) {
         Call::Delete(t) => delete(m, t),
         Call::Read(t, room) => read(m, t, room),
         Call::List(room) => list(m, room),
-        _ => script::say(b"bad line\n"),
+        Call::Begin => say_answer(store::begin(m)),
+        _ => bad_line(),
+    }
+}
+
+// How many bytes of the image are lent to a step or run.
+fn extent(asked: Extent, lent: Lent) -> u64 {
+    match asked {
+        Extent::Lent => lent.image,
+        Extent::Bytes(n) => n,
+    }
+}
+
+fn step(image: &mut [u8], m: &mut [u8], len: u64) {
+    say_answer(store::step(lend(image, len), m));
+}
+
+fn run(image: &mut [u8], m: &mut [u8], len: u64, limit: u64) {
+    say_answer(store::run(lend(image, len), m, limit));
+}
+
+fn on_image(image: &mut [u8], memory: &mut [u8], lent: Lent, call: Call, payload: &[u8]) {
+    match call {
+        Call::Step(e) => step(image, lend(memory, lent.memory), extent(e, lent)),
+        Call::Run(limit, e) => run(image, lend(memory, lent.memory), extent(e, lent), limit),
+        Call::Fill(block, byte) => fill(image, block, byte),
+        Call::Show(block) => show(image, block),
+        Call::Digest => say_line(b"digest ", digest(first(image, lent.image))),
+        _ => on_memory(lend(memory, lent.memory), call, payload),
     }
 }
 
@@ -149,19 +272,19 @@ fn on_memory(m: &mut [u8], call: Call, payload: &[u8]) {
 fn replay_line(line: &[u8], image: &mut [u8], memory: &mut [u8], lent: Lent) -> Lent {
     let mut payload = [0u8; 64];
     let call = script::call_of(line, &mut payload);
-    if let Call::Make {
-        bytes,
-        capacity,
-        room,
-    } = call {
-        let asked = Lent {
-            image: bytes,
-            memory: room,
-        };
-        return make(image, memory, lent, asked, capacity);
+    match call {
+        Call::Make {
+            bytes,
+            capacity,
+            room,
+        } => make(image, memory, lent, both(bytes, room), capacity),
+        Call::Recover { bytes, room } => recover(image, memory, lent, both(bytes, room)),
+        Call::Clear => clear(image, memory),
+        _ => {
+            on_image(image, memory, lent, call, &payload);
+            lent
+        }
     }
-    on_memory(lend(memory, lent.memory), call, &payload);
-    lent
 }
 
 fn replay_all(text: &[u8], image: &mut [u8], memory: &mut [u8]) {

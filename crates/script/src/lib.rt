@@ -156,11 +156,22 @@ enum Aim {
     Bad,
 }
 
-// Insert and replace have their payload's length, read and list the room for their reply.
+// How much of the image a call that stores blocks has: what is lent already, or so many bytes of it.
+pub enum Extent {
+    Lent,
+    Bytes(u64),
+}
+
+// Insert and replace have their payload's length, read and list the room for their reply. Clear, fill, show and digest are no calls of
+// the store's: they write and show what is lent to it.
 pub enum Call {
     Make {
         bytes: u64,
         capacity: u64,
+        room: u64,
+    },
+    Recover {
+        bytes: u64,
         room: u64,
     },
     Open(u64),
@@ -171,6 +182,13 @@ pub enum Call {
     Delete(Target),
     Read(Target, u64),
     List(u64),
+    Begin,
+    Step(Extent),
+    Run(u64, Extent),
+    Clear,
+    Fill(u64, u8),
+    Show(u64),
+    Digest,
     Bad,
 }
 
@@ -242,6 +260,43 @@ fn write_call(line: &[u8], payload: &mut [u8], new: bool) -> Call {
     Call::Replace(t, len)
 }
 
+fn fill_call(block: u64, byte: u64) -> Call {
+    if 255 < byte {
+        return Call::Bad;
+    }
+    Call::Fill(block, byte as u8)
+}
+
+fn call_alone(line: &[u8]) -> Call {
+    if named(line, b"begin") {
+        return Call::Begin;
+    }
+    if named(line, b"step") {
+        return Call::Step(Extent::Lent);
+    }
+    if named(line, b"clear") {
+        return Call::Clear;
+    }
+    if named(line, b"digest") {
+        return Call::Digest;
+    }
+    Call::Bad
+}
+
+// The calls on the image that have one number.
+fn image_call(line: &[u8], n: u64) -> Call {
+    if named(line, b"step") {
+        return Call::Step(Extent::Bytes(n));
+    }
+    if named(line, b"run") {
+        return Call::Run(n, Extent::Lent);
+    }
+    if named(line, b"show") {
+        return Call::Show(n);
+    }
+    Call::Bad
+}
+
 fn call_with_one(line: &[u8]) -> Call {
     let Number::Is(n) = number_at(line, 1) else {
         return Call::Bad;
@@ -257,6 +312,25 @@ fn call_with_one(line: &[u8]) -> Call {
     }
     if named(line, b"list") {
         return Call::List(n);
+    }
+    image_call(line, n)
+}
+
+fn call_with_two(line: &[u8]) -> Call {
+    let Number::Is(a) = number_at(line, 1) else {
+        return Call::Bad;
+    };
+    let Number::Is(b) = number_at(line, 2) else {
+        return Call::Bad;
+    };
+    if named(line, b"recover") {
+        return Call::Recover { bytes: a, room: b };
+    }
+    if named(line, b"run") {
+        return Call::Run(a, Extent::Bytes(b));
+    }
+    if named(line, b"fill") {
+        return fill_call(a, b);
     }
     Call::Bad
 }
@@ -287,7 +361,9 @@ fn call_with_four(line: &[u8], payload: &mut [u8]) -> Call {
 // The call of a line, its payload's bytes at the front of payload.
 pub fn call_of(line: &[u8], payload: &mut [u8]) -> Call {
     match arguments(line) {
+        0 => call_alone(line),
         1 => call_with_one(line),
+        2 => call_with_two(line),
         3 => call_with_three(line),
         4 => call_with_four(line, payload),
         _ => Call::Bad,
