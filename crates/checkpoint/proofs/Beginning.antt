@@ -1,9 +1,9 @@
 -- Begin: the list of all pages, the store that it leaves, and its tests.
 use mathlib.Core.Path.{_≡_, refl, sym, ap, _∙_}
-use mathlib.Core.Bool.{Bool, true, false}
+use mathlib.Core.Bool.{true, false}
 use mathlib.Core.Option.{some}
 use mathlib.Core.List.{List, [], _∷_, _++_, map}
-use Prim.Native.Nat.{ℕ, suc, _+_, _%_, _≤_, _<_}
+use Prim.Native.Nat.{ℕ, _+_, _%_, _≤_, _<_}
 use native.Mathlib.Omega.{arith}
 use native.Mathlib.Numerals.{add-one}
 use lib.ListN.{length, take, getD, length-map}
@@ -11,15 +11,15 @@ use lib.Seq.{take-suc, take-all, length-take-le}
 use lib.Dec.{eqb, ltb}
 use borrow.Author.Tests.{eq-eqb, ne-eqb, lt-ltb, le-ltb}
 use Rattle.basics.specs.Basics.{if_then_else_}
-use Rattle.model.specs.State.{Held, Page, Checkpoint, running, Store, Outcome}
+use Rattle.model.specs.State.{Held, Page, Checkpoint, running, Store}
 use Rattle.model.specs.Rules.{freeze}
-use Rattle.model.specs.Transactions.{Test, _when_, gives, unless, changed}
+use Rattle.model.specs.Transactions.{_when_, gives, unless, changed}
 use Rattle.model.specs.Checkpoint.{stored, isRunning, freeCount, blocksNeeded, beginCall}
 use Rattle.memory.specs.Flat.{Flat, flatOf, noEntry, entryIn, Room, Replaces, Becomes, withHead, withNamed, withDirectories}
-use Rattle.memory.specs.Store.{pageOf, nest, pagesIn, blocksOf, filled, holdsStore, storeOf, storeIn}
+use Rattle.memory.specs.Store.{pageOf, nest, pagesIn, blocksOf, filled, holdsStore, storeOf}
 use Rattle.memory.specs.declared.Entry.{Entry}
 use Rattle.memory.specs.declared.Head.{Head}
-use Rattle.memory.proofs.Refusal.{held-room, held-filled, room-held}
+use Rattle.memory.proofs.Refusal.{held-filled, room-held}
 use Rattle.memory.proofs.Meaning.{becomes-then}
 use Rattle.pages.specs.Turns.{Turns, withPages}
 use Rattle.pages.proofs.Swaps.{map-append}

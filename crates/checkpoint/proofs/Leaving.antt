@@ -3,30 +3,30 @@ use mathlib.Core.Path.{_≡_, refl, sym, ap, _∙_, fun-ext}
 use mathlib.Core.Bool.{Bool, true, false, _||_}
 use mathlib.Core.Option.{some}
 use mathlib.Core.List.{List, [], _∷_, _++_, map}
-use Prim.Native.Nat.{ℕ, suc, _+_, _%_, _≤_, _<_}
+use Prim.Native.Nat.{ℕ, suc, _+_, _-_, _%_, _≤_, _<_}
 use native.Mathlib.Omega.{arith}
 use native.Mathlib.Numerals.{add-one}
-use lib.ListN.{length, drop, getD, set, List·getD-map, drop-of-length-le}
-use lib.Seq.{drop-cons}
+use lib.ListN.{length, drop, getD, set, List·getD-map, List·getD-append, length-append, drop-of-length-le}
+use lib.Seq.{drop-cons, getD-append-add}
 use lib.Dec.{eqb, leb}
 use borrow.Author.Tests.{eq-eqb, ne-eqb, eqb-true, eqb-false}
 use Rattle.basics.specs.Basics.{if_then_else_, any, isIn}
-use Rattle.basics.proofs.Facts.{by, lie}
+use Rattle.basics.proofs.Facts.{by}
 use Rattle.model.specs.State.{Page, Checkpoint, idle, running, Store}
 use Rattle.model.specs.Rules.{thaw}
 use Rattle.model.specs.Transactions.{changed}
 use Rattle.model.specs.Checkpoint.{stored, isRunning, usedToo, fill}
-use Rattle.model.proofs.Lists.{any-cons, in-append}
+use Rattle.model.proofs.Lists.{any-cons}
 use Rattle.memory.specs.Flat.{Flat, flatOf, usedAnd, Room, Becomes, withHead, withNamed, withDirectories, withUsed}
-use Rattle.memory.specs.Store.{pagesIn, blocksOf, checkpointOf, filled, holdsStore, storeOf, storeIn}
+use Rattle.memory.specs.Store.{pagesIn, blocksOf, checkpointOf, filled, holdsStore, storeOf}
 use Rattle.memory.specs.declared.Head.{Head}
-use Rattle.memory.proofs.Refusal.{held-room, held-filled, room-held}
+use Rattle.memory.proofs.Refusal.{held-filled, room-held}
 use Rattle.memory.proofs.Meaning.{in-next, becomes-then}
 use Rattle.pages.specs.Turns.{Turns, withPages}
 use Rattle.pages.proofs.Swaps.{map-append}
-use Rattle.checkpoint.specs.Counting.{firstZero}
+use Rattle.checkpoint.specs.Counting.{firstZero, namedIn}
 use Rattle.checkpoint.specs.Keeping.{filledBy, writtenBy, namedBy, pageKept, directoryKept, headerKept, Runs, taking, Leads, Fills, Marks}
-use Rattle.checkpoint.proofs.Tallies.{running-is}
+use Rattle.checkpoint.proofs.Tallies.{length-blocks, running-is}
 
 -- ---- a block is taken
 
@@ -238,14 +238,41 @@ module _ {m m' : List ℕ} {bs : List ℕ} {n i : ℕ} (k : Marking m m' bs n i)
             ∙ ap (λ (z : List ℕ). isIn c z || flatOf m' .used c) d ∙ k .used c;
       }
 
+  pub marking-same : namedIn (flatOf m') ≡ namedIn (flatOf m)
+  unfolding namedIn
+  marking-same = ap namedIn (k .becomes .flat)
+
   pub marking-end : n ≤ i → Marks m m' bs
   unfolding isIn any
   marking-end h =
       record { becomes = k .becomes; used = λ c. ap (λ (z : List ℕ). isIn c z || flatOf m' .used c) (sym (drop-of-length-le bs {i = i} (omega (arith, k .whole)))) ∙ k .used c }
 
-pub block-at : (ns : List ℕ) (i : ℕ) → getD ns i 0 % 4096 ≡ getD (blocksOf ns) i 0
+block-at : (ns : List ℕ) (i : ℕ) → getD ns i 0 % 4096 ≡ getD (blocksOf ns) i 0
 unfolding blocksOf
 block-at ns i = sym (List·getD-map (λ n. n % 4096) ns i 0)
+
+pub named-count : (f : Flat) → length (namedIn f) ≡ length (f .named) + length (f .directories)
+unfolding namedIn
+named-count f = omega (arith, length-append (blocksOf (f .named)) (blocksOf (f .directories)), length-blocks (f .named), length-blocks (f .directories))
+
+module _ (f : Flat) (i : ℕ) where
+  pub page-block : i < length (f .named) → getD (f .named) i 0 % 4096 ≡ getD (namedIn f) i 0
+  unfolding namedIn
+  page-block h =
+      block-at (f .named) i ∙ sym (List·getD-append (blocksOf (f .named)) (blocksOf (f .directories)) 0 i (omega (arith, length-blocks (f .named))))
+
+  pub directory-block : length (f .named) ≤ i → getD (f .directories) (i - length (f .named)) 0 % 4096 ≡ getD (namedIn f) i 0
+  unfolding namedIn
+  directory-block h =
+      let es : List ℕ = blocksOf (f .named) in
+      let ds : List ℕ = blocksOf (f .directories) in
+      let k : ℕ = i - length (f .named) in
+      let e : length es + k ≡ i = omega (arith, length-blocks (f .named)) in
+      block-at (f .directories) k ∙ sym (getD-append-add es ds k 0) ∙ ap (λ (z : ℕ). getD (es ++ ds) z 0) e
+
+named-is-both : (f : Flat) → namedIn f ≡ blocksOf (f .named) ++ blocksOf (f .directories)
+unfolding namedIn
+named-is-both f = refl
 
 abbrev landedHead : Head → Head
 landedHead h =
@@ -255,14 +282,9 @@ store-is-header : (f : Flat) (u : ℕ → Bool) → storeOf (withHead (withUsed 
 unfolding stored storeOf checkpointOf if_then_else_
 store-is-header f u = refl
 
-swap : (p q : Bool) → (q || (p || false)) ≡ (p || q)
-swap true true = refl
-swap true false = refl
-swap false true = refl
-swap false false = refl
-
-both : (c : ℕ) (es ds : List ℕ) → (isIn c ds || (isIn c es || false)) ≡ isIn c (es ++ ds)
-both c es ds = swap (isIn c es) (isIn c ds) ∙ sym (in-append c es ds)
+or-none : (b : Bool) → (b || false) ≡ b
+or-none true = refl
+or-none false = refl
 
 kept-is-header : (s : Store) (n : ℕ) (es ds : List ℕ) → s .checkpoint ≡ running n es ds
     → stored s (suc (s .level)) (s .pages) (λ b. isIn b (es ++ ds)) (s .taken) idle ≡ headerKept s
@@ -270,51 +292,38 @@ unfolding headerKept namedBy
 kept-is-header s n es ds q = ap (λ (c : Checkpoint). stored s (suc (s .level)) (s .pages) (λ b. isIn b (namedBy c)) (s .taken) idle) (sym q)
 
 header-kept : (f : Flat) (u : ℕ → Bool) → isRunning (storeOf f .checkpoint) ≡ true
-    → ((c : ℕ) → u c ≡ (isIn c (blocksOf (f .directories)) || (isIn c (blocksOf (f .named)) || false)))
+    → ((c : ℕ) → u c ≡ (isIn c (namedIn f) || false))
     → storeOf (withHead (withUsed f u) (landedHead (f .head))) ≡ headerKept (storeOf f)
 header-kept f u on e =
     let s : Store = storeOf f in
     let es : List ℕ = blocksOf (f .named) in
     let ds : List ℕ = blocksOf (f .directories) in
-    let q : u ≡ (λ b. isIn b (es ++ ds)) = fun-ext (λ c. e c ∙ both c es ds) in
+    let q : u ≡ (λ b. isIn b (es ++ ds)) = fun-ext (λ c. e c ∙ or-none (isIn c (namedIn f)) ∙ ap (isIn c) (named-is-both f)) in
     store-is-header f u ∙ ap (λ (v : ℕ → Bool). stored s (s .level + 1) (s .pages) v (s .taken) idle) q
     ∙ ap (λ (l : ℕ). stored s l (s .pages) (λ b. isIn b (es ++ ds)) (s .taken) idle) (add-one (s .level))
     ∙ kept-is-header s (f .head .begun) es ds (running-is f on .0)
 
-module _ {m m1 m2 m3 : List ℕ} (r : Runs m) (a : Becomes m m1 (withUsed (flatOf m) (λ c. false))) (b : Marks m1 m2 (blocksOf (flatOf m1 .named)))
-    (d : Marks m2 m3 (blocksOf (flatOf m2 .directories))) where
-  pub header-flat : Becomes m m3 (withUsed (flatOf m) (flatOf m3 .used))
+module _ {m m1 m2 : List ℕ} (r : Runs m) (a : Becomes m m1 (withUsed (flatOf m) (λ c. false))) (b : Marks m1 m2 (namedIn (flatOf m1))) where
+  header-flat : Becomes m m2 (withUsed (flatOf m) (flatOf m2 .used))
   header-flat =
       record {
-        size = d .becomes .size ∙ b .becomes .size ∙ a .size;
-        room = d .becomes .room;
-        flat =
-            d .becomes .flat ∙ ap (λ (f : Flat). withUsed f (flatOf m3 .used)) (b .becomes .flat)
-            ∙ ap (λ (f : Flat). withUsed f (flatOf m3 .used)) (a .flat);
+        size = b .becomes .size ∙ a .size;
+        room = b .becomes .room;
+        flat = b .becomes .flat ∙ ap (λ (f : Flat). withUsed f (flatOf m2 .used)) (a .flat);
       }
 
-  named-same : flatOf m1 .named ≡ flatOf m .named
-  named-same = ap (λ (f : Flat). f .named) (a .flat)
+  used-is : (c : ℕ) → flatOf m2 .used c ≡ (isIn c (namedIn (flatOf m)) || false)
+  unfolding namedIn
+  used-is c = b .used c ∙ ap (λ (f : Flat). isIn c (namedIn f) || f .used c) (a .flat)
 
-  directories-same : flatOf m2 .directories ≡ flatOf m .directories
-  directories-same = ap (λ (f : Flat). f .directories) (b .becomes .flat) ∙ ap (λ (f : Flat). f .directories) (a .flat)
-
-  used-is : (c : ℕ) → flatOf m3 .used c ≡ (isIn c (blocksOf (flatOf m .directories)) || (isIn c (blocksOf (flatOf m .named)) || false))
-  used-is c =
-      d .used c
-      ∙ ap (λ (z : List ℕ). isIn c (blocksOf z) || flatOf m2 .used c) directories-same
-      ∙ ap (λ (z : Bool). isIn c (blocksOf (flatOf m .directories)) || z)
-      (b .used c ∙ ap (λ (z : List ℕ). isIn c (blocksOf z) || flatOf m1 .used c) named-same
-      ∙ ap (λ (f : Flat). isIn c (blocksOf (flatOf m .named)) || f .used c) (a .flat))
-
-  pub header-leads : (h : Head) → h ≡ flatOf m3 .head → (m4 : List ℕ) → Becomes m3 m4 (withHead (flatOf m3) (landedHead h)) → Leads m m4 (headerKept (storeOf (flatOf m)))
-  header-leads h eh m4 x =
-      let z : Becomes m m4 (withHead (withUsed (flatOf m) (flatOf m3 .used)) (landedHead (flatOf m .head))) = record {
+  pub header-leads : (h : Head) → h ≡ flatOf m2 .head → (m3 : List ℕ) → Becomes m2 m3 (withHead (flatOf m2) (landedHead h)) → Leads m m3 (headerKept (storeOf (flatOf m)))
+  header-leads h eh m3 x =
+      let z : Becomes m m3 (withHead (withUsed (flatOf m) (flatOf m2 .used)) (landedHead (flatOf m .head))) = record {
         size = x .size ∙ header-flat .size;
         room = x .room;
-        flat = x .flat ∙ ap (λ (g : Head). withHead (flatOf m3) (landedHead g)) eh ∙ ap (λ (f : Flat). withHead f (landedHead (f .head))) (header-flat .flat);
+        flat = x .flat ∙ ap (λ (g : Head). withHead (flatOf m2) (landedHead g)) eh ∙ ap (λ (f : Flat). withHead f (landedHead (f .head))) (header-flat .flat);
       } in
-      record { size = z .size; store = in-next m m4 _ z (held-filled m (r .held)) ∙ ap some (header-kept (flatOf m) (flatOf m3 .used) (r .on) used-is) }
+      record { size = z .size; store = in-next m m3 _ z (held-filled m (r .held)) ∙ ap some (header-kept (flatOf m) (flatOf m2 .used) (r .on) used-is) }
 
-  pub header-low : flatOf m3 .head .level < 4294967295
+  pub header-low : flatOf m2 .head .level < 4294967295
   header-low = omega (arith, running-is (flatOf m) (r .on) .1, ap (λ (f : Flat). f .head .level) (header-flat .flat))

@@ -1,19 +1,18 @@
 -- Run: steps in turn.
 use mathlib.Core.Path.{_≡_, refl, sym, ap, _∙_, subst}
-use mathlib.Core.Bool.{Bool, true, false, not}
+use mathlib.Core.Bool.{true, false}
 use mathlib.Core.Option.{some}
 use mathlib.Core.List.{List, [], _∷_, _++_}
-use Prim.Native.Nat.{ℕ, zero, suc, _+_, _-_, _*_, _≤_, _<_, min}
+use Prim.Native.Nat.{ℕ, suc, _+_, _-_, _*_, _≤_, _<_, min}
 use native.Mathlib.Omega.{arith}
 use lib.ListN.{length}
-use lib.Dec.{eqb}
 use borrow.Author.Tests.{eq-eqb, ne-eqb}
 use Rattle.basics.specs.Basics.{if_then_else_}
 use Rattle.basics.proofs.Facts.{by}
-use Rattle.model.specs.State.{Page, Checkpoint, Store, Write, Outcome}
-use Rattle.model.specs.Transactions.{_when_, gives, unless}
+use Rattle.model.specs.State.{Store, Write, Outcome}
+use Rattle.model.specs.Transactions.{gives, unless}
 use Rattle.model.specs.Checkpoint.{stored, isRunning, left, stepAt, badImage, stepCall, inTurn, runCall}
-use Rattle.model.specs.Recover.{putBlock, imageAfter}
+use Rattle.model.specs.Recover.{imageAfter}
 use Rattle.model.specs.Calls.{accepted}
 use Rattle.model.proofs.Quiet.{step-frame}
 use Rattle.model.proofs.Laws.{one-less}
@@ -24,7 +23,7 @@ use Rattle.answers.specs.Shape.{Leaves, StoredBy, Stores, StoresAt}
 use Rattle.answers.specs.declared.Answer.{Answer}
 use Rattle.answers.specs.declared.Answer.the-variants.{Count}
 use Rattle.answers.proofs.Answering.{stores-count}
-use Rattle.checkpoint.specs.Keeping.{Runs, Ready}
+use Rattle.checkpoint.specs.Keeping.{Ready}
 use Rattle.checkpoint.proofs.Tallies.{left-none}
 use Rattle.checkpoint.proofs.Stepping.{blocks-is, step-at, answer-of}
 use Rattle.model.specs.State as model

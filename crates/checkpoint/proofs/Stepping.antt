@@ -9,21 +9,20 @@ use native.Mathlib.Numerals.{add-one}
 use lib.ListN.{length, take, drop, length-take, length-drop}
 use lib.Seq.{drop-drop}
 use lib.Dec.{eqb, ltb}
-use borrow.Author.Tests.{eq-eqb, ne-eqb, eqb-true, eqb-false, lt-ltb, le-ltb, not-true, not-false}
+use borrow.Author.Tests.{eq-eqb, ne-eqb, eqb-true, eqb-false, lt-ltb, le-ltb}
 use Rattle.basics.specs.Basics.{if_then_else_, first, isIn}
 use Rattle.basics.proofs.Facts.{by, lie}
-use Rattle.blocks.specs.Limits.{entriesPerBlock}
 use Rattle.blocks.specs.Block.{Block, header, page, directory, encodeBlock}
 use Rattle.image.specs.Stages.{directoriesFor}
-use Rattle.model.specs.State.{Page, Checkpoint, idle, running, Store, Write, Outcome, storedBytes}
+use Rattle.model.specs.State.{Page, Checkpoint, idle, running, Store, Outcome}
 use Rattle.model.specs.Rules.{isFrozen, shown, thaw}
-use Rattle.model.specs.Transactions.{_when_, gives, unless}
+use Rattle.model.specs.Transactions.{gives, unless}
 use Rattle.model.specs.Checkpoint.{stored, allocate, usedToo, isRunning, left, made, storable, storePage, storeDirectory, headerFor, storeHeader, stepOf, stepAt, badImage, stepCall}
 use Rattle.model.specs.Recover.{putBlock, imageAfter}
 use Rattle.memory.specs.Views.{tab}
 use Rattle.memory.specs.Flat.{Flat, flatOf}
 use Rattle.memory.specs.Store.{blocksOf, heldIn, holdsStore, storeOf, storeIn}
-use Rattle.memory.proofs.Meaning.{Sound, in-none, in-some, in-sound}
+use Rattle.memory.proofs.Meaning.{in-none, in-some, in-sound}
 use Rattle.pages.specs.Turns.{pagesOf, pageAt, entryAt}
 use Rattle.pages.specs.Finding.{NoneOf, FirstPage}
 use Rattle.pages.proofs.Places.{from-page}

@@ -2,19 +2,19 @@
 use mathlib.Core.Path.{_≡_, refl, sym, ap, _∙_}
 use mathlib.Core.Bool.{Bool, true, false, not}
 use mathlib.Core.Option.{Option, none, some}
-use mathlib.Core.List.{List, [], _∷_, _++_, map}
+use mathlib.Core.List.{List, [], _∷_, _++_}
 use Prim.Native.Nat.{ℕ, zero, suc, _+_, _-_, _%_, _≤_, _<_}
 use native.Mathlib.Omega.{arith}
 use native.Mathlib.Numerals.{add-one}
-use lib.ListN.{length, drop, getD, length-map, drop-of-length-le}
+use lib.ListN.{length, take, drop, getD, length-map, drop-of-length-le}
 use lib.Seq.{drop-cons}
-use lib.Dec.{eqb, leb}
+use lib.Dec.{eqb}
 use mathlib.Core.Logic.{⊎-elim}
-use borrow.Author.Tests.{eqb-true, eqb-false, eq-eqb, ne-eqb, lt-ltb, le-ltb, le-leb, lt-leb}
+use borrow.Author.Tests.{eqb-true, eqb-false, eq-eqb, ne-eqb, le-leb, lt-leb}
 use Rattle.basics.specs.Basics.{if_then_else_, howMany, first, from}
-use Rattle.basics.proofs.Facts.{by, by-option, lie, never}
+use Rattle.basics.proofs.Facts.{by, lie, never}
 use Rattle.image.specs.Stages.{directoriesFor}
-use Rattle.model.specs.State.{Held, Page, Checkpoint, idle, running, Store}
+use Rattle.model.specs.State.{Held, Page, Checkpoint, idle, running}
 use Rattle.model.specs.Rules.{isDirty, isFrozen}
 use Rattle.model.specs.Checkpoint.{allocate, isFree, freeCount, isRunning, blocksNeeded, leftOf, left}
 use Rattle.memory.specs.Flat.{Flat}
@@ -22,7 +22,7 @@ use Rattle.memory.specs.Store.{pageOf, nest, pagesIn, blocksOf, checkpointOf, s
 use Rattle.memory.specs.declared.Entry.{Entry}
 use Rattle.memory.proofs.Laws.{lt-or-ge}
 use Rattle.memory.proofs.Runs.{pages-count}
-use Rattle.checkpoint.specs.Counting.{oneIf, dirtyEntry, frozenEntry, orElse, freeFrom}
+use Rattle.checkpoint.specs.Counting.{oneIf, entryIs, pageIs, orElse, freeFrom}
 
 -- ---- counts
 
@@ -90,18 +90,18 @@ free-is f = refl
 
 -- ---- pages by their entries
 
-pub dirty-is : (es : List Entry) (hs : List Held) → howMany isDirty (nest es hs) ≡ howMany dirtyEntry es
-unfolding howMany nest isDirty pageOf dirtyEntry
-dirty-is [] hs = refl
-dirty-is (e ∷ es) hs = rw (dirty-is es)
+page-entry : (b : Bool) (e : Entry) (hs : List Held) → pageIs b (pageOf e hs) ≡ entryIs b e
+unfolding pageIs entryIs isDirty isFrozen pageOf
+page-entry true e hs = refl
+page-entry false e hs = refl
 
-pub frozen-is : (es : List Entry) (hs : List Held) → howMany isFrozen (nest es hs) ≡ howMany frozenEntry es
-unfolding howMany nest isFrozen pageOf frozenEntry
-frozen-is [] hs = refl
-frozen-is (e ∷ es) hs = rw (frozen-is es)
+pub pages-count-is : (b : Bool) (es : List Entry) (hs : List Held) → howMany (pageIs b) (nest es hs) ≡ howMany (entryIs b) es
+unfolding howMany nest
+pages-count-is b [] hs = refl
+pages-count-is b (e ∷ es) hs = rw (page-entry b e (take (e .count) hs), pages-count-is b es (drop (e .count) hs))
 
-pub needed-is : (f : Flat) → howMany isDirty (pagesIn f) + directoriesFor (length (f .entries)) ≡ blocksNeeded (pagesIn f)
-unfolding blocksNeeded
+pub needed-is : (f : Flat) → howMany (pageIs false) (pagesIn f) + directoriesFor (length (f .entries)) ≡ blocksNeeded (pagesIn f)
+unfolding blocksNeeded pageIs
 needed-is f = ap (λ (n : ℕ). howMany isDirty (pagesIn f) + directoriesFor n) (sym (pages-count f))
 
 -- ---- whether a checkpoint runs
@@ -150,8 +150,8 @@ module _ (f : Flat) where
   left-none e = sym (idle-none (storeOf f .checkpoint) (storeOf f .pages) e)
 
   pub left-is : isRunning (storeOf f .checkpoint) ≡ true
-      → howMany isFrozen (pagesIn f) + (directoriesFor (length (f .named)) - length (f .directories)) + 1 ≡ left (storeOf f)
-  unfolding left leftOf
+      → howMany (pageIs true) (pagesIn f) + (directoriesFor (length (f .named)) - length (f .directories)) + 1 ≡ left (storeOf f)
+  unfolding left leftOf pageIs
   left-is h =
       let ps : List Page = pagesIn f in
       ap (λ (n : ℕ). howMany isFrozen ps + (directoriesFor n - length (f .directories)) + 1) (sym (length-blocks (f .named)))

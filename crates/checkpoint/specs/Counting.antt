@@ -2,9 +2,13 @@
 use Prim.Native.Nat.{ℕ, suc, _-_, _%_}
 use mathlib.Core.Bool.{Bool, true, false, not}
 use mathlib.Core.Option.{Option, none, some}
-use mathlib.Core.List.{List, [], _∷_}
+use mathlib.Core.List.{List, [], _∷_, _++_}
 use lib.Dec.{eqb}
 use Rattle.basics.specs.Basics.{if_then_else_, first, from}
+use Rattle.model.specs.State.{Page}
+use Rattle.model.specs.Rules.{isDirty, isFrozen}
+use Rattle.memory.specs.Flat.{Flat}
+use Rattle.memory.specs.Store.{blocksOf}
 use Rattle.memory.specs.declared.Entry.{Entry}
 
 -- 1 if the test holds
@@ -12,13 +16,15 @@ unfoldable pub oneIf : Bool → ℕ
 oneIf true = 1
 oneIf false = 0
 
--- the page of this entry is dirty
-unfoldable pub dirtyEntry : Entry → Bool
-dirtyEntry e = eqb (e .block % 4096) 0
+-- the page of this entry is frozen, or dirty
+unfoldable pub entryIs : Bool → Entry → Bool
+entryIs true e = not (eqb (e .frozen) 0)
+entryIs false e = eqb (e .block % 4096) 0
 
--- the page of this entry is frozen
-unfoldable pub frozenEntry : Entry → Bool
-frozenEntry e = not (eqb (e .frozen) 0)
+-- a page is frozen, or dirty
+unfoldable pub pageIs : Bool → Page → Bool
+pageIs true p = isFrozen p
+pageIs false p = isDirty p
 
 -- what was found, else e
 unfoldable pub orElse : ℕ → Option ℕ → ℕ
@@ -33,3 +39,7 @@ freeFrom used a e = orElse e (first (λ b. not (used b)) (from a (e - a)))
 unfoldable pub firstZero : List ℕ → ℕ
 firstZero [] = 0
 firstZero (e ∷ es) = if eqb (e % 4096) 0 then 0 else suc (firstZero es)
+
+-- the blocks that the header to come and its directory name
+unfoldable pub namedIn : Flat → List ℕ
+namedIn f = blocksOf (f .named) ++ blocksOf (f .directories)

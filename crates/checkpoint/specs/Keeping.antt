@@ -1,18 +1,17 @@
 -- The store after a begin and after each kind of block store, and what one step does to image and memory.
 use Prim.Native.Nat.{ℕ, suc, _*_}
 use mathlib.Core.Path.{_≡_}
-use mathlib.Core.Bool.{Bool, true, not, _||_}
+use mathlib.Core.Bool.{true, not, _||_}
 use mathlib.Core.Option.{Option, none, some}
 use mathlib.Core.List.{List, [], _∷_, _++_, map}
 use lib.ListN.{length}
 use lib.Dec.{eqb}
 use Rattle.basics.specs.Basics.{if_then_else_, isIn}
-use Rattle.model.specs.State.{Page, Checkpoint, idle, running, Store, Outcome}
+use Rattle.model.specs.State.{Checkpoint, idle, running, Store, Outcome}
 use Rattle.model.specs.Rules.{freeze, thaw}
 use Rattle.model.specs.Checkpoint.{stored, isRunning, usedToo, fill, stepAt}
 use Rattle.model.specs.Recover.{imageAfter}
 use Rattle.memory.specs.Flat.{Flat, flatOf, usedAnd, Becomes, withHead, withNamed, withUsed}
-use Rattle.memory.specs.declared.Head.{Head}
 use Rattle.memory.specs.Store.{blocksOf, holdsStore, storeOf, storeIn}
 
 -- begin freezes every dirty page and fixes the list of all pages

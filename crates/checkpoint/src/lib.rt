@@ -1,23 +1,24 @@
 // Begin, step and run: the checkpoint on the working memory. No call asks anything of its caller: each contract says what the call
 // answers and leaves, for any image and any memory, by the model's function.
 use answers::Answer;
+use memory::Entry;
 use memory::Head;
 use pages::Found;
 ghost use mathlib.Core.Path.{_≡_};
 ghost use mathlib.Core.Bool.{true};
 ghost use mathlib.Core.List.{[], map};
 ghost use Prim.Native.Nat.{_-_, _≤_, _<_, min};
-ghost use lib.ListN.{length};
+ghost use lib.ListN.{length, getD};
 ghost use Rattle.basics.specs.Basics.{howMany};
 ghost use Rattle.image.specs.Stages.{directoriesFor};
-ghost use Rattle.model.specs.Rules.{isDirty, isFrozen};
+ghost use Rattle.model.specs.Rules.{isFrozen};
 ghost use Rattle.model.specs.Checkpoint.{allocate, freeCount, isRunning, blocksNeeded, beginCall, left, stepCall, runCall};
 ghost use Rattle.memory.specs.Flat.{flatOf, Room, Becomes, withNamed};
-ghost use Rattle.memory.specs.Store.{blocksOf, pagesIn, holdsStore, storeOf, storeIn};
+ghost use Rattle.memory.specs.Store.{pagesIn, holdsStore, storeOf, storeIn};
 ghost use Rattle.pages.specs.Turns.{pagesOf};
 ghost use Rattle.pages.specs.Finding.{NoneOf, FirstPage};
 ghost use Rattle.answers.specs.Shape.{Answers, Stores};
-ghost use Rattle.checkpoint.specs.Counting.{oneIf, freeFrom, firstZero};
+ghost use Rattle.checkpoint.specs.Counting.{oneIf, entryIs, pageIs, freeFrom, firstZero, namedIn};
 ghost use Rattle.checkpoint.specs.Keeping.{begun, pageKept, directoryKept, headerKept, Runs, Ready, taking, Leads, Fills, Marks, Steps, stepRefusal};
 
 // ---- counting
@@ -31,27 +32,20 @@ fn one_if(b: bool) -> usize
     0
 }
 
-// How many pages are dirty.
-fn dirty_pages(m: &[u8]) -> usize
-    requires { ⌜ Room (now m) ⌝ }
-    ensures { λ r. ⌜ (r ≡ howMany isDirty (pagesIn (flatOf (now (m .entry))))) × (r ≤ 1024) ⌝ }
+// Whether the page of this entry is frozen, or dirty.
+fn entry_is(frozen: bool, e: Entry) -> bool
+    ensures { λ r. ⌜ r ≡ entryIs frozen e ⌝ }
 {
-    let c = memory::get_counts(m);
-    let n = c.pages as usize;
-    let mut k: usize = 0;
-    let mut p: usize = 0;
-    while p < n {
-        let e = memory::get_entry(m, p);
-        k += one_if(e.block % 4096 == 0);
-        p += 1;
+    if frozen {
+        return e.frozen != 0;
     }
-    k
+    e.block % 4096 == 0
 }
 
-// How many pages are frozen.
-fn frozen_pages(m: &[u8]) -> usize
+// How many pages are frozen, or dirty.
+fn count_pages(m: &[u8], frozen: bool) -> usize
     requires { ⌜ Room (now m) ⌝ }
-    ensures { λ r. ⌜ (r ≡ howMany isFrozen (pagesIn (flatOf (now (m .entry))))) × (r ≤ 1024) ⌝ }
+    ensures { λ r. ⌜ (r ≡ howMany (pageIs frozen) (pagesIn (flatOf (now (m .entry))))) × (r ≤ 1024) ⌝ }
 {
     let c = memory::get_counts(m);
     let n = c.pages as usize;
@@ -59,7 +53,7 @@ fn frozen_pages(m: &[u8]) -> usize
     let mut p: usize = 0;
     while p < n {
         let e = memory::get_entry(m, p);
-        k += one_if(e.frozen != 0);
+        k += one_if(entry_is(frozen, e));
         p += 1;
     }
     k
@@ -95,7 +89,7 @@ fn blocks_needed(m: &[u8]) -> usize
     ensures { λ r. ⌜ (r ≡ blocksNeeded (pagesIn (flatOf (now (m .entry))))) × (r ≤ 1028) ⌝ }
 {
     let c = memory::get_counts(m);
-    dirty_pages(m) + directories_for(c.pages as usize)
+    count_pages(m, false) + directories_for(c.pages as usize)
 }
 
 // Whether a checkpoint runs: none does at the last level.
@@ -134,7 +128,7 @@ fn left(m: &[u8]) -> u64
     if !is_running(m) {
         return 0;
     }
-    let n = frozen_pages(m) + directories_left(m) + 1;
+    let n = count_pages(m, true) + directories_left(m) + 1;
     n as u64
 }
 
@@ -308,32 +302,32 @@ fn keep_directory(m: &mut [u8], b: usize)
     memory::push_directory(m, b as u32);
 }
 
-// The blocks of the listed pages are in use.
-fn mark_named(m: &mut [u8])
-    requires { ⌜ Room (now m) ⌝ }
-    ensures { λ _. ⌜ Marks (now (m .entry)) (now (m .exit)) (blocksOf (flatOf (now (m .entry)) .named)) ⌝ }
+// Block i of those that the header to come and its directory name: first of the listed pages, then of the directory.
+fn block_named(m: &[u8], i: usize) -> usize
+    requires { ⌜ Room (now m) × (i < length (namedIn (flatOf (now m)))) ⌝ }
+    ensures { λ r. ⌜ (r ≡ getD (namedIn (flatOf (now (m .entry)))) i 0) × (r < 4096) ⌝ }
 {
     let c = memory::get_counts(m);
     let n = c.named as usize;
-    let mut i: usize = 0;
-    while i < n {
+    if i < n {
         let b = memory::get_named(m, i) % 4096;
-        memory::mark_used(m, b as usize);
-        i += 1;
+        return b as usize;
     }
+    let d = memory::get_directory(m, i - n) % 4096;
+    d as usize
 }
 
-// The directory blocks written are in use.
-fn mark_directories(m: &mut [u8])
+// All of them are in use.
+fn mark_named(m: &mut [u8])
     requires { ⌜ Room (now m) ⌝ }
-    ensures { λ _. ⌜ Marks (now (m .entry)) (now (m .exit)) (blocksOf (flatOf (now (m .entry)) .directories)) ⌝ }
+    ensures { λ _. ⌜ Marks (now (m .entry)) (now (m .exit)) (namedIn (flatOf (now (m .entry)))) ⌝ }
 {
     let c = memory::get_counts(m);
-    let n = c.directories as usize;
+    let n = c.named as usize + c.directories as usize;
     let mut i: usize = 0;
     while i < n {
-        let b = memory::get_directory(m, i) % 4096;
-        memory::mark_used(m, b as usize);
+        let b = block_named(m, i);
+        memory::mark_used(m, b);
         i += 1;
     }
 }
@@ -345,7 +339,6 @@ fn keep_header(m: &mut [u8])
 {
     memory::clear_used(m);
     mark_named(m);
-    mark_directories(m);
     let h = memory::get_head(m);
     let g = Head {
         capacity: h.capacity,

@@ -1,35 +1,27 @@
-use native.Mathlib.Omega.{arith}
+-- `checkpoint::allocate` meets its contract.
 use mathlib.Core.Path.{ap, _∙_}
 use Prim.Native.Nat.{_+_}
+use native.Mathlib.Omega.{arith}
+use borrow.Author.Needs.{needs}
 use Rattle.memory.specs.declared.Head.{Head}
 use Rattle.memory.specs.Flat.{flatOf}
-use Rattle.checkpoint.proofs.Tallies.{alloc-up, alloc-round, alloc-none}
 use Rattle.checkpoint.specs.Counting.{freeFrom}
-use borrow.Author.Needs.{needs}
+use Rattle.checkpoint.proofs.Tallies.{alloc-up, alloc-round, alloc-none}
 use Rattle.checkpoint.proofs.allocate.Statement.{statement}
 use Rattle.checkpoint.proofs.allocate.Tie as tie
-use Rattle.checkpoint.proofs.allocate.Reads as reads
-use Rattle.checkpoint.proofs.allocate.Lts as lts
-use Rattle.checkpoint.proofs.first_free.Reads as first-free-reads
-use Rattle.memory.proofs.get_head.Reads as get-head-reads
 
--- src/lib.rt:154:9
 get-head-requires : tie.Need-get-head-requires
 get-head-requires c κs = search needs
 
--- src/lib.rt:155:13
 cast-n : tie.Need-cast-n
 cast-n c = search needs
 
--- src/lib.rt:156:13
 cast-t : tie.Need-cast-t
 cast-t c = search needs
 
--- src/lib.rt:157:27
 add-first-free : tie.Need-add-first-free
 add-first-free c = search needs
 
--- src/lib.rt:157:9
 first-free-requires : tie.Need-first-free-requires
 first-free-requires c κs = let e = c .before .before .get-head .ensures in
     let r = c .before .before .before .before .pre .range in
@@ -37,7 +29,6 @@ first-free-requires c κs = let e = c .before .before .get-head .ensures in
     let et = ap (λ (h : Head). h .taken) e in
     (omega (arith, r .long), (omega (arith, r .taken), omega (arith, r .many)))
 
--- src/lib.rt:159:9
 returns : tie.Need-returns
 returns c = let f = flatOf (c .before .before .before .before .before .before .args .m .now) in
     let e = c .before .before .before .before .get-head .ensures in
@@ -45,18 +36,15 @@ returns c = let f = flatOf (c .before .before .before .before .before .before .a
     let q = c .before .first-free .ensures .0 ∙ ap (λ (h : Head). freeFrom (f .used) (h .taken + 1) (h .blocks)) e in
     (q ∙ alloc-up f (c .before .before .before .before .before .before .pre .range .taken) (omega (arith, q, c .if1 .taken)), omega (arith, c .if1 .taken))
 
--- src/lib.rt:161:30
 add-first-free-2 : tie.Need-add-first-free-2
 add-first-free-2 c = search needs
 
--- src/lib.rt:161:9
 first-free-requires-2 : tie.Need-first-free-requires-2
 first-free-requires-2 c κs = let e = c .before .before .before .before .get-head .ensures in
     let r = c .before .before .before .before .before .before .pre .range in
     let et = ap (λ (h : Head). h .taken) e in
     (omega (arith, r .long), (omega arith, omega (arith, r .taken, r .many)))
 
--- src/lib.rt:163:9
 returns-2 : tie.Need-returns-2
 returns-2 c = let f = flatOf (c .before .before .before .before .before .before .before .before .args .m .now) in
     let e = c .before .before .before .before .before .before .get-head .ensures in
@@ -66,12 +54,10 @@ returns-2 c = let f = flatOf (c .before .before .before .before .before .before 
     let w = c .before .first-free2 .ensures .0 ∙ ap (λ (h : Head). freeFrom (f .used) 1 (h .taken + 1)) e in
     (w ∙ alloc-round f (c .before .before .before .before .before .before .before .before .pre .range .taken) (omega (arith, q, c .before .before .if1 .left)) (omega (arith, w, c .if2 .taken)), omega (arith, c .if2 .taken, c .before .before .before .before .before .before .before .before .pre .range .taken))
 
--- src/lib.rt:165:5
 sub-result : tie.Need-sub-result
 sub-result c = let eb = ap (λ (h : Head). h .blocks) (c .before .before .before .before .before .before .get-head .ensures) in
     omega (arith, c .before .before .before .before .before .before .before .before .pre .range .few)
 
--- src/lib.rt:150:1
 returns-3 : tie.Need-returns-3
 returns-3 c = let f = flatOf (c .before .before .before .before .before .before .before .before .args .m .now) in
     let e = c .before .before .before .before .before .before .get-head .ensures in

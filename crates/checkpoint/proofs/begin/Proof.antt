@@ -1,9 +1,11 @@
-use native.Mathlib.Omega.{arith}
+-- `checkpoint::begin` meets its contract.
 use mathlib.Core.Path.{_≡_, sym, ap, _∙_}
 use mathlib.Core.List.{List}
 use mathlib.Core.Bool.{true}
 use Prim.Native.Nat.{ℕ, _+_}
+use native.Mathlib.Omega.{arith}
 use borrow.Author.Tests.{not-true, not-false}
+use borrow.Author.Needs.{needs}
 use Rattle.memory.specs.declared.Head.{Head}
 use Rattle.memory.specs.Store.{holdsStore, storeOf}
 use Rattle.memory.specs.Flat.{flatOf}
@@ -11,96 +13,70 @@ use Rattle.memory.proofs.Refusal.{held-room}
 use Rattle.model.specs.Checkpoint.{beginCall}
 use Rattle.model.specs.Transactions.{gives}
 use Rattle.model.specs.State.{Store}
-use Rattle.model.specs.State as model
 use Rattle.answers.proofs.Answering.{answers-4, answers-refused, answers-count}
 use Rattle.checkpoint.specs.Keeping.{begun}
 use Rattle.checkpoint.proofs.Beginning.{begin-17, begin-19, begin-20, begin-done}
-use borrow.Author.Needs.{needs}
 use Rattle.checkpoint.proofs.begin.Statement.{statement}
+use Rattle.model.specs.State as model
 use Rattle.checkpoint.proofs.begin.Tie as tie
-use Rattle.checkpoint.proofs.begin.Reads as reads
-use Rattle.checkpoint.proofs.begin.Lts as lts
-use Rattle.checkpoint.proofs.blocks_needed.Reads as blocks-needed-reads
-use Rattle.checkpoint.proofs.free_blocks.Reads as free-blocks-reads
-use Rattle.checkpoint.proofs.is_running.Reads as is-running-reads
-use Rattle.checkpoint.proofs.start.Reads as start-reads
-use Rattle.memory.proofs.get_head.Reads as get-head-reads
-use Rattle.memory.proofs.holds_store.Reads as holds-store-reads
 
--- src/lib.rt:217:9
 holds-store-requires : tie.Need-holds-store-requires
 holds-store-requires c κs = search needs
 
--- src/lib.rt:218:9
 same-length : tie.Need-same-length
 same-length c = search needs
 
--- src/lib.rt:218:9
 returns : tie.Need-returns
 returns c = answers-4 beginCall (c .before .before .before .before .args .m .now) (sym (c .before .holds-store .ensures) ∙ not-true _ (c .if1 .taken))
 
--- src/lib.rt:220:8
 is-running-requires : tie.Need-is-running-requires
 is-running-requires c κs = omega (arith, held-room _ (sym (c .before .before .holds-store .ensures) ∙ not-false _ (c .before .if1 .left)) .range .long)
 
--- src/lib.rt:221:9
 same-length-2 : tie.Need-same-length-2
 same-length-2 c = search needs
 
--- src/lib.rt:221:9
 returns-2 : tie.Need-returns-2
 returns-2 c = let m : List ℕ = c .before .before .before .before .before .before .before .args .m .now in
     let held : holdsStore m ≡ true = sym (c .before .before .before .before .holds-store .ensures) ∙ not-false _ (c .before .before .before .if1 .left) in
     answers-refused beginCall m 17 held (begin-17 (flatOf m) (sym (c .before .is-running .ensures) ∙ c .if2 .taken))
 
--- src/lib.rt:223:9
 get-head-requires : tie.Need-get-head-requires
 get-head-requires c κs = omega (arith, held-room _ (sym (c .before .before .before .before .before .holds-store .ensures) ∙ not-false _ (c .before .before .before .before .if1 .left)) .range .long)
 
--- src/lib.rt:225:9
 same-length-3 : tie.Need-same-length-3
 same-length-3 c = search needs
 
--- src/lib.rt:225:9
 returns-3 : tie.Need-returns-3
 returns-3 c = let m : List ℕ = c .before .before .before .before .before .before .before .before .before .before .before .args .m .now in
     let held : holdsStore m ≡ true = sym (c .before .before .before .before .before .before .before .before .holds-store .ensures) ∙ not-false _ (c .before .before .before .before .before .before .before .if1 .left) in
     answers-refused beginCall m 19 held (begin-19 (flatOf m) (sym (c .before .before .before .before .before .is-running .ensures) ∙ c .before .before .before .before .if2 .left) (ap (λ (h : Head). h .level) (sym (c .before .before .get-head .ensures)) ∙ c .if3 .taken))
 
--- src/lib.rt:227:9
 blocks-needed-requires : tie.Need-blocks-needed-requires
 blocks-needed-requires c κs = held-room _ (sym (c .before .before .before .before .before .before .before .before .before .holds-store .ensures) ∙ not-false _ (c .before .before .before .before .before .before .before .before .if1 .left))
 
--- src/lib.rt:228:8
 free-blocks-requires : tie.Need-free-blocks-requires
 free-blocks-requires c κs = held-room _ (sym (c .before .before .before .before .before .before .before .before .before .before .before .holds-store .ensures) ∙ not-false _ (c .before .before .before .before .before .before .before .before .before .before .if1 .left))
 
--- src/lib.rt:229:9
 same-length-4 : tie.Need-same-length-4
 same-length-4 c = search needs
 
--- src/lib.rt:229:9
 returns-4 : tie.Need-returns-4
 returns-4 c = let m : List ℕ = c .before .before .before .before .before .before .before .before .before .before .before .before .before .before .before .before .args .m .now in
     let held : holdsStore m ≡ true = sym (c .before .before .before .before .before .before .before .before .before .before .before .before .before .holds-store .ensures) ∙ not-false _ (c .before .before .before .before .before .before .before .before .before .before .before .before .if1 .left) in
     let ne : flatOf m .head .level ≡ 4294967295 → ⊥ = λ z. c .before .before .before .before .before .if3 .left (ap (λ (h : Head). h .level) (c .before .before .before .before .before .before .before .get-head .ensures) ∙ z) in
     answers-refused beginCall m 20 held (begin-20 (flatOf m) (sym (c .before .before .before .before .before .before .before .before .before .before .is-running .ensures) ∙ c .before .before .before .before .before .before .before .before .before .if2 .left) ne (omega (arith, c .before .free-blocks .ensures, c .before .before .before .blocks-needed .ensures .0, c .if4 .taken)))
 
--- src/lib.rt:231:5
 start-requires : tie.Need-start-requires
 start-requires c κs = let m : List ℕ = c .before .before .before .before .before .before .before .before .before .before .before .before .before .before .before .before .before .args .m .now in
     let held : holdsStore m ≡ true = sym (c .before .before .before .before .before .before .before .before .before .before .before .before .before .before .holds-store .ensures) ∙ not-false _ (c .before .before .before .before .before .before .before .before .before .before .before .before .before .if1 .left) in
     (held, omega (arith, ap (λ (h : Head). h .level) (c .before .before .before .before .before .before .before .before .get-head .ensures), c .before .before .before .before .before .before .if3 .left))
 
--- src/lib.rt:233:19
 add-t22 : tie.Need-add-t22
 add-t22 c = search needs
 
--- src/lib.rt:214:1
 same-length-5 : tie.Need-same-length-5
 same-length-5 c = search needs
 
--- src/lib.rt:214:1
 returns-5 : tie.Need-returns-5
 returns-5 c = let m : List ℕ = c .before .before .before .before .before .before .before .before .before .before .before .before .before .before .before .before .before .before .before .before .args .m .now in
     let held : holdsStore m ≡ true = sym (c .before .before .before .before .before .before .before .before .before .before .before .before .before .before .before .before .before .holds-store .ensures) ∙ not-false _ (c .before .before .before .before .before .before .before .before .before .before .before .before .before .before .before .before .if1 .left) in

@@ -1,17 +1,14 @@
-use native.Mathlib.Omega.{arith}
+-- `checkpoint::directories_for` meets its contract.
 use mathlib.Core.Path.{refl}
-use Rattle.image.specs.Stages.{directoriesFor}
+use native.Mathlib.Omega.{arith}
 use borrow.Author.Needs.{needs}
+use Rattle.image.specs.Stages.{directoriesFor}
 use Rattle.checkpoint.proofs.directories_for.Statement.{statement}
 use Rattle.checkpoint.proofs.directories_for.Tie as tie
-use Rattle.checkpoint.proofs.directories_for.Reads as reads
-use Rattle.checkpoint.proofs.directories_for.Lts as lts
 
--- src/lib.rt:80:6
 add-result : tie.Need-add-result
 add-result c = search needs
 
--- src/lib.rt:76:1
 returns : tie.Need-returns
 unfolding directoriesFor
 returns c = (refl, omega arith)

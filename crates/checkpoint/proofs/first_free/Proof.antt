@@ -1,15 +1,13 @@
-use native.Mathlib.Omega.{arith}
-use borrow.Author.Tests.{not-true, not-false}
+-- `checkpoint::first_free` meets its contract.
 use mathlib.Core.Path.{_≡_, refl, sym, _∙_}
 use Prim.Native.Nat.{_-_, _≤_}
+use native.Mathlib.Omega.{arith}
+use borrow.Author.Tests.{not-true, not-false}
 use Rattle.memory.specs.Flat.{flatOf}
-use Rattle.checkpoint.proofs.Tallies.{free-hit, free-miss, free-end}
 use Rattle.checkpoint.specs.Counting.{freeFrom}
+use Rattle.checkpoint.proofs.Tallies.{free-hit, free-miss, free-end}
 use Rattle.checkpoint.proofs.first_free.Statement.{statement}
 use Rattle.checkpoint.proofs.first_free.Tie as tie
-use Rattle.checkpoint.proofs.first_free.Reads as reads
-use Rattle.checkpoint.proofs.first_free.Lts as lts
-use Rattle.memory.proofs.is_used.Reads as is-used-reads
 
 abbrev Inv-loop : tie.InvT-loop
 Inv-loop m a e b₀ b = (a ≤ b) × ((b ≤ e) × (freeFrom (flatOf m .used) a e ≡ freeFrom (flatOf m .used) b e))
@@ -17,31 +15,24 @@ Inv-loop m a e b₀ b = (a ≤ b) × ((b ≤ e) × (freeFrom (flatOf m .used) a 
 abbrev μ-loop : tie.MeasureT-loop
 μ-loop m a e b₀ b = e - b
 
--- src/lib.rt:140:5
 loop-holds : tie.Need-loop-holds Inv-loop μ-loop
 loop-holds c = (omega arith, (omega arith, refl))
 
--- src/lib.rt:141:13
 is-used-requires : tie.Need-is-used-requires Inv-loop μ-loop
 is-used-requires c κs = (omega arith, c .before .before .before .pre .0)
 
--- src/lib.rt:142:13
 returns : tie.Need-returns Inv-loop μ-loop
 returns c = (sym (c .before .before .before .loop .inv .1 .1 ∙ free-hit (flatOf (c .before .before .before .before .before .args .m .now) .used) _ _ (c .before .before .loop-test .taken) (sym (c .before .is-used .ensures) ∙ not-true _ (c .if1 .taken))), omega arith)
 
--- src/lib.rt:144:9
 add-b : tie.Need-add-b Inv-loop μ-loop
 add-b c = omega arith
 
--- src/lib.rt:140:5
 loop-less : tie.Need-loop-less Inv-loop μ-loop
 loop-less c = omega arith
 
--- src/lib.rt:140:5
 loop-again : tie.Need-loop-again Inv-loop μ-loop
 loop-again c = (omega arith, (omega arith, c .before .before .before .loop .inv .1 .1 ∙ free-miss (flatOf (c .before .before .before .before .before .args .m .now) .used) _ _ (c .before .before .loop-test .taken) (sym (c .before .is-used .ensures) ∙ not-false _ (c .if1 .left))))
 
--- src/lib.rt:135:1
 returns-2 : tie.Need-returns-2 Inv-loop μ-loop
 returns-2 c = (sym (c .before .loop .inv .1 .1 ∙ free-end (flatOf (c .before .before .before .args .m .now) .used) _ _ (c .loop-test .left)), omega arith)
 

@@ -1,27 +1,22 @@
+-- `checkpoint::is_running` meets its contract.
+use mathlib.Core.Path.{_≡_, sym, ap, _∙_}
 use native.Mathlib.Omega.{arith}
 use lib.Dec.{ltb}
-use mathlib.Core.Path.{_≡_, sym, ap, _∙_}
 use borrow.Author.Tests.{ltb-true, ltb-false}
+use borrow.Author.Needs.{needs}
 use Rattle.memory.specs.declared.Head.{Head}
 use Rattle.memory.specs.Flat.{flatOf}
 use Rattle.basics.proofs.Facts.{by}
 use Rattle.checkpoint.proofs.Tallies.{not-on, runs-on, last-level}
-use borrow.Author.Needs.{needs}
 use Rattle.checkpoint.proofs.is_running.Statement.{statement}
 use Rattle.checkpoint.proofs.is_running.Tie as tie
-use Rattle.checkpoint.proofs.is_running.Reads as reads
-use Rattle.checkpoint.proofs.is_running.Lts as lts
-use Rattle.memory.proofs.get_head.Reads as get-head-reads
 
--- src/lib.rt:97:9
 get-head-requires : tie.Need-get-head-requires
 get-head-requires c κs = search needs
 
--- src/lib.rt:99:9
 returns : tie.Need-returns
 returns c = not-on (flatOf (c .before .before .before .before .args .m .now)) (ap (λ (h : Head). h .running) (sym (c .before .before .get-head .ensures)) ∙ c .if1 .taken)
 
--- src/lib.rt:93:1
 returns-2 : tie.Need-returns-2
 returns-2 c = let f = flatOf (c .before .before .before .before .before .args .m .now) in
     let e = c .before .before .before .get-head .ensures in

@@ -1,53 +1,36 @@
-use native.Mathlib.Omega.{arith}
+-- `checkpoint::keep_header` meets its contract.
 use mathlib.Core.Path.{refl, ap}
+use native.Mathlib.Omega.{arith}
+use borrow.Author.Needs.{needs}
 use Rattle.memory.specs.declared.Head.{Head}
 use Rattle.memory.proofs.Refusal.{held-room}
 use Rattle.checkpoint.proofs.Leaving.{header-low, header-leads}
 use Rattle.checkpoint.proofs.Beginning.{head-replaces, taken-low}
-use borrow.Author.Needs.{needs}
 use Rattle.checkpoint.proofs.keep_header.Statement.{statement}
 use Rattle.checkpoint.proofs.keep_header.Tie as tie
-use Rattle.checkpoint.proofs.keep_header.Reads as reads
-use Rattle.checkpoint.proofs.keep_header.Lts as lts
-use Rattle.checkpoint.proofs.mark_directories.Reads as mark-directories-reads
-use Rattle.checkpoint.proofs.mark_named.Reads as mark-named-reads
-use Rattle.memory.proofs.clear_used.Reads as clear-used-reads
-use Rattle.memory.proofs.get_head.Reads as get-head-reads
-use Rattle.memory.proofs.put_head.Reads as put-head-reads
 
--- src/lib.rt:343:5
 clear-used-requires : tie.Need-clear-used-requires
 clear-used-requires c κs = held-room _ (c .before .before .pre .held)
 
--- src/lib.rt:344:5
 mark-named-requires : tie.Need-mark-named-requires
 mark-named-requires c κs = search needs
 
--- src/lib.rt:345:5
-mark-directories-requires : tie.Need-mark-directories-requires
-mark-directories-requires c κs = search needs
-
--- src/lib.rt:346:9
 get-head-requires : tie.Need-get-head-requires
 get-head-requires c κs = search needs
 
--- src/lib.rt:350:16
-add-t13 : tie.Need-add-t13
-add-t13 c = record { fits = omega (arith, header-low (c .before .before .before .before .before .before .before .before .before .before .before .before .before .before .before .before .pre) (c .before .before .before .before .before .before .before .before .before .before .before .before .before .clear-used .ensures) (c .before .before .before .before .before .before .before .before .before .mark-named .ensures) (c .before .before .before .before .before .mark-directories .ensures), ap (λ (h : Head). h .level) (c .before .get-head .ensures)) }
+add-t11 : tie.Need-add-t11
+add-t11 c = record { fits = omega (arith, header-low (c .before .before .before .before .before .before .before .before .before .before .before .before .pre) (c .before .before .before .before .before .before .before .before .before .clear-used .ensures) (c .before .before .before .before .before .mark-named .ensures), ap (λ (h : Head). h .level) (c .before .get-head .ensures)) }
 
--- src/lib.rt:356:5
 put-head-requires : tie.Need-put-head-requires
-put-head-requires c κs = let r = c .before .before .before .before .before .before .mark-directories .ensures .becomes .room in
+put-head-requires c κs = let r = c .before .before .before .before .before .before .mark-named .ensures .becomes .room in
     let e = c .before .before .get-head .ensures in
     (r, head-replaces _ (c .before .before .get-head .result) _ r e refl refl (taken-low _ (c .before .before .get-head .result) r e))
 
--- src/lib.rt:339:1
 same-length : tie.Need-same-length
 same-length c = search needs
 
--- src/lib.rt:339:1
 returns : tie.Need-returns
-returns c = header-leads (c .before .before .before .before .before .before .before .before .before .before .before .before .before .before .before .before .before .before .before .before .pre) (c .before .before .before .before .before .before .before .before .before .before .before .before .before .before .before .before .before .clear-used .ensures) (c .before .before .before .before .before .before .before .before .before .before .before .before .before .mark-named .ensures) (c .before .before .before .before .before .before .before .before .before .mark-directories .ensures) (c .before .before .before .before .before .get-head .result) (c .before .before .before .before .before .get-head .ensures) _ (c .before .before .put-head .ensures)
+returns c = header-leads (c .before .before .before .before .before .before .before .before .before .before .before .before .before .before .before .before .pre) (c .before .before .before .before .before .before .before .before .before .before .before .before .before .clear-used .ensures) (c .before .before .before .before .before .before .before .before .before .mark-named .ensures) (c .before .before .before .before .before .get-head .result) (c .before .before .before .before .before .get-head .ensures) _ (c .before .before .put-head .ensures)
 
 pub keep-header-spec : {M : Type 1} → statement M
 keep-header-spec =
@@ -55,9 +38,8 @@ keep-header-spec =
     (tie.spec
     clear-used-requires
     mark-named-requires
-    mark-directories-requires
     get-head-requires
-    add-t13
+    add-t11
     put-head-requires
     same-length
     returns)

@@ -1,40 +1,29 @@
+-- `checkpoint::keep_page` meets its contract.
 use native.Mathlib.Omega.{arith}
+use borrow.Author.Needs.{needs}
 use Rattle.memory.proofs.Refusal.{held-room}
 use Rattle.checkpoint.proofs.Leaving.{page-held, page-leads}
-use borrow.Author.Needs.{needs}
 use Rattle.checkpoint.proofs.keep_page.Statement.{statement}
 use Rattle.checkpoint.proofs.keep_page.Tie as tie
-use Rattle.checkpoint.proofs.keep_page.Reads as reads
-use Rattle.checkpoint.proofs.keep_page.Lts as lts
-use Rattle.checkpoint.proofs.fill_entry.Reads as fill-entry-reads
-use Rattle.checkpoint.proofs.take_block.Reads as take-block-reads
-use Rattle.pages.proofs.thaw.Reads as thaw-reads
 
--- src/lib.rt:294:5
 take-block-requires : tie.Need-take-block-requires
 take-block-requires c κs = (held-room _ (c .before .before .pre .0 .held), c .before .before .pre .1)
 
--- src/lib.rt:295:19
 cast-fill-entry : tie.Need-cast-fill-entry
 cast-fill-entry c = record { fits = omega (arith, c .before .before .before .before .before .before .pre .1, held-room _ (c .before .before .before .before .before .before .pre .0 .held) .range .many) }
 
--- src/lib.rt:295:5
 fill-entry-requires : tie.Need-fill-entry-requires
 fill-entry-requires c κs = (c .before .before .before .take-block .ensures .room, omega (arith, c .before .before .before .before .before .before .pre .1, held-room _ (c .before .before .before .before .before .before .pre .0 .held) .range .many))
 
--- src/lib.rt:296:20
 cast-thaw : tie.Need-cast-thaw
 cast-thaw c = record { fits = omega (arith, c .before .before .before .before .before .before .before .before .before .before .pre .1, held-room _ (c .before .before .before .before .before .before .before .before .before .before .pre .0 .held) .range .many) }
 
--- src/lib.rt:296:5
 thaw-requires : tie.Need-thaw-requires
 thaw-requires c κs = (page-held _ (c .before .before .before .before .before .before .before .before .before .before .pre .0) (c .before .before .before .before .before .before .before .take-block .ensures) (c .before .before .before .fill-entry .ensures), omega (arith, c .before .before .before .before .before .before .before .before .before .before .pre .1, held-room _ (c .before .before .before .before .before .before .before .before .before .before .pre .0 .held) .range .many))
 
--- src/lib.rt:290:1
 same-length : tie.Need-same-length
 same-length c = search needs
 
--- src/lib.rt:290:1
 returns : tie.Need-returns
 returns c = page-leads _ (c .before .before .before .before .before .before .before .before .before .before .before .before .before .pre .0) (c .before .before .before .before .before .before .before .before .before .before .take-block .ensures) (c .before .before .before .before .before .before .fill-entry .ensures) _ (c .before .before .thaw .ensures)
 

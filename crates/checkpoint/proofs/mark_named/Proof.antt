@@ -1,72 +1,60 @@
-use native.Mathlib.Omega.{arith}
-use borrow.Author.Needs.{needs}
-use mathlib.Core.Path.{sym, ap, _∙_}
+-- `checkpoint::mark_named` meets its contract.
+use mathlib.Core.Path.{ap, _∙_}
 use mathlib.Core.List.{List}
-use Prim.Native.Nat.{ℕ, _%_, _-_}
+use Prim.Native.Nat.{ℕ, _-_}
+use native.Mathlib.Omega.{arith}
 use lib.ListN.{length, getD}
+use borrow.Author.Needs.{needs}
 use Rattle.memory.specs.declared.Counts.{Counts}
-use Rattle.memory.specs.Store.{blocksOf}
-use Rattle.memory.specs.Flat.{Flat, flatOf}
-use Rattle.checkpoint.proofs.Tallies.{length-blocks}
-use Rattle.checkpoint.proofs.Leaving.{Marking, marking-start, marking-turn, marking-end, block-at}
+use Rattle.memory.specs.Flat.{flatOf}
+use Rattle.checkpoint.specs.Counting.{namedIn}
+use Rattle.checkpoint.proofs.Leaving.{Marking, marking-start, marking-turn, marking-same, marking-end, named-count}
 use Rattle.checkpoint.proofs.mark_named.Statement.{statement}
 use Rattle.checkpoint.proofs.mark_named.Tie as tie
-use Rattle.checkpoint.proofs.mark_named.Reads as reads
-use Rattle.checkpoint.proofs.mark_named.Lts as lts
-use Rattle.memory.proofs.get_counts.Reads as get-counts-reads
-use Rattle.memory.proofs.get_named.Reads as get-named-reads
-use Rattle.memory.proofs.mark_used.Reads as mark-used-reads
 
 abbrev Inv-loop : tie.InvT-loop
-Inv-loop m₀ n i₀ m i = Marking m₀ m (blocksOf (flatOf m₀ .named)) n i
+Inv-loop m₀ n i₀ m i = Marking m₀ m (namedIn (flatOf m₀)) n i
 
 abbrev μ-loop : tie.MeasureT-loop
 μ-loop m₀ n i₀ m i = n - i
 
--- src/lib.rt:313:9
 get-counts-requires : tie.Need-get-counts-requires Inv-loop μ-loop
 get-counts-requires c κs = omega (arith, c .before .before .pre .range .long)
 
--- src/lib.rt:314:13
 cast-n : tie.Need-cast-n Inv-loop μ-loop
 cast-n c = search needs
 
--- src/lib.rt:316:5
+cast-n-2 : tie.Need-cast-n-2 Inv-loop μ-loop
+cast-n-2 c = search needs
+
+add-n : tie.Need-add-n Inv-loop μ-loop
+add-n c = search needs
+
 loop-holds : tie.Need-loop-holds Inv-loop μ-loop
-loop-holds c = marking-start (c .before .before .before .before .args .m .now) _ _ (c .before .before .before .before .pre) (ap (λ (x : Counts). x .named) (c .before .get-counts .ensures) ∙ sym (length-blocks (flatOf (c .before .before .before .before .args .m .now) .named)))
+loop-holds c = let e = c .before .before .get-counts .ensures in
+    marking-start (c .before .before .before .before .before .args .m .now) _ _ (c .before .before .before .before .before .pre) (omega (arith, ap (λ (x : Counts). x .named) e, ap (λ (x : Counts). x .directories) e, named-count (flatOf (c .before .before .before .before .before .args .m .now))))
 
--- src/lib.rt:317:17
-get-named-requires : tie.Need-get-named-requires Inv-loop μ-loop
-get-named-requires c κs = (c .before .before .loop .inv .becomes .room, omega (arith, c .before .before .loop .inv .whole, c .before .loop-test .taken, length-blocks (flatOf (c .before .before .before .before .before .before .before .args .m .now) .named), ap (λ (f : Flat). length (f .named)) (c .before .before .loop .inv .becomes .flat)))
+block-named-requires : tie.Need-block-named-requires Inv-loop μ-loop
+block-named-requires c κs = let k = c .before .before .loop .inv in
+    (k .becomes .room, omega (arith, k .whole, c .before .loop-test .taken, ap length (marking-same k)))
 
--- src/lib.rt:318:30
-cast-mark-used : tie.Need-cast-mark-used Inv-loop μ-loop
-cast-mark-used c = search needs
-
--- src/lib.rt:318:9
 mark-used-requires : tie.Need-mark-used-requires Inv-loop μ-loop
-mark-used-requires c κs = (c .before .before .before .before .loop .inv .becomes .room, omega arith)
+mark-used-requires c κs = (c .before .before .before .before .loop .inv .becomes .room, c .before .block-named .ensures .1)
 
--- src/lib.rt:319:9
 add-i : tie.Need-add-i Inv-loop μ-loop
-add-i c = omega (arith, c .before .before .before .before .before .before .before .loop .inv .whole, c .before .before .before .before .before .before .loop-test .taken, length-blocks (flatOf (c .before .before .before .before .before .before .before .before .before .before .before .before .args .m .now) .named), c .before .before .before .before .before .before .before .before .before .before .before .before .pre .range .named, c .before .before .before .before .before .before .before .before .before .before .before .before .pre .range .most)
+add-i c = let r = c .before .before .before .before .before .before .before .before .before .before .before .before .before .pre .range in
+    omega (arith, c .before .before .before .before .before .before .before .loop .inv .whole, c .before .before .before .before .before .before .loop-test .taken, named-count (flatOf (c .before .before .before .before .before .before .before .before .before .before .before .before .before .args .m .now)), r .named, r .directories, r .most)
 
--- src/lib.rt:316:5
 loop-less : tie.Need-loop-less Inv-loop μ-loop
 loop-less c = omega (arith, c .before .before .before .before .before .before .loop-test .taken)
 
--- src/lib.rt:316:5
 loop-again : tie.Need-loop-again Inv-loop μ-loop
 loop-again c = let l = c .before .before .before .before .before .before .before .loop in
-    let ns : List ℕ = flatOf (c .before .before .before .before .before .before .before .before .before .before .before .before .args .m .now) .named in
-    let e = ap (λ (z : ℕ). z % 4096) (c .before .before .before .before .get-named .ensures ∙ ap (λ (f : Flat). getD (f .named) (l .i) 0) (l .inv .becomes .flat)) ∙ block-at ns (l .i) in
-    marking-turn (l .inv) (c .before .before .before .before .before .before .loop-test .taken) _ e _ (c .before .before .mark-used .ensures)
+    marking-turn (l .inv) (c .before .before .before .before .before .before .loop-test .taken) _ (c .before .before .before .before .block-named .ensures .0 ∙ ap (λ (bs : List ℕ). getD bs (l .i) 0) (marking-same (l .inv))) _ (c .before .before .mark-used .ensures)
 
--- src/lib.rt:309:1
 same-length : tie.Need-same-length Inv-loop μ-loop
 same-length c = c .before .loop .inv .becomes .size
 
--- src/lib.rt:309:1
 returns : tie.Need-returns Inv-loop μ-loop
 returns c = marking-end (c .before .loop .inv) (c .loop-test .left)
 
@@ -78,9 +66,10 @@ mark-named-spec =
     μ-loop
     get-counts-requires
     cast-n
+    cast-n-2
+    add-n
     loop-holds
-    get-named-requires
-    cast-mark-used
+    block-named-requires
     mark-used-requires
     add-i
     loop-less

@@ -1,21 +1,16 @@
-use native.Mathlib.Omega.{arith}
-use borrow.Author.Needs.{needs}
+-- `checkpoint::run` meets its contract.
 use mathlib.Core.Path.{ap, _∙_}
 use mathlib.Core.List.{List}
 use Prim.Native.Nat.{ℕ, min}
+use native.Mathlib.Omega.{arith}
 use lib.ListN.{length}
+use borrow.Author.Needs.{needs}
 use Rattle.model.specs.Checkpoint.{runCall}
 use Rattle.memory.proofs.Refusal.{held-room}
 use Rattle.checkpoint.proofs.Stepping.{stopped, passed-runs, passed-long}
 use Rattle.checkpoint.proofs.Repeating.{run-5, run-18, Repeats, repeats-start, repeats-turn, repeats-end}
 use Rattle.checkpoint.proofs.run.Statement.{statement}
 use Rattle.checkpoint.proofs.run.Tie as tie
-use Rattle.checkpoint.proofs.run.Reads as reads
-use Rattle.checkpoint.proofs.run.Lts as lts
-use Rattle.checkpoint.proofs.left.Reads as left-reads
-use Rattle.checkpoint.proofs.smaller.Reads as smaller-reads
-use Rattle.checkpoint.proofs.step.Reads as step-reads
-use Rattle.checkpoint.proofs.step_refusal.Reads as step-refusal-reads
 
 abbrev Inv-loop : tie.InvT-loop
 Inv-loop image₀ m₀ limit v k n₀ image m n = Repeats image₀ m₀ k image m n
@@ -23,58 +18,45 @@ Inv-loop image₀ m₀ limit v k n₀ image m n = Repeats image₀ m₀ k image 
 abbrev μ-loop : tie.MeasureT-loop
 μ-loop image₀ m₀ limit v k n₀ image m n = n
 
--- src/lib.rt:473:9
 step-refusal-requires : tie.Need-step-refusal-requires Inv-loop μ-loop
 step-refusal-requires c κs = search needs
 
--- src/lib.rt:475:9
 same-length : tie.Need-same-length Inv-loop μ-loop
 same-length c = search needs
 
--- src/lib.rt:475:9
 returns : tie.Need-returns Inv-loop μ-loop
 returns c = let img : List ℕ = c .before .before .before .before .before .args .image .now in
     stopped (length img) (c .before .before .before .before .before .args .m .now) _ (c .before .step-refusal .ensures) (runCall (c .before .before .before .before .before .args .limit) (length img)) (run-5 (c .before .before .before .before .before .args .limit) (length img)) (run-18 (c .before .before .before .before .before .args .limit) (length img)) img (c .if1 .taken)
 
--- src/lib.rt:477:28
 left-requires : tie.Need-left-requires Inv-loop μ-loop
 left-requires c κs = held-room _ (passed-runs (length (c .before .before .before .before .before .before .args .image .now)) (c .before .before .before .before .before .before .args .m .now) _ (c .before .before .step-refusal .ensures) (c .before .if1 .left) .held)
 
--- src/lib.rt:477:9
 smaller-requires : tie.Need-smaller-requires Inv-loop μ-loop
 smaller-requires c κs = search needs
 
--- src/lib.rt:479:5
 loop-holds : tie.Need-loop-holds Inv-loop μ-loop
 loop-holds c = let len : ℕ = length (c .before .before .before .before .before .before .before .before .args .image .now) in
     let m : List ℕ = c .before .before .before .before .before .before .before .before .args .m .now in
     repeats-start (c .before .before .before .before .before .before .before .before .args .image .now) m _ (record { runs = passed-runs len m _ (c .before .before .before .before .step-refusal .ensures) (c .before .before .before .if1 .left); long = passed-long len m _ (c .before .before .before .before .step-refusal .ensures) (c .before .before .before .if1 .left) }) (omega (arith, c .smaller .ensures, c .before .left .ensures))
 
--- src/lib.rt:480:9
 step-requires : tie.Need-step-requires Inv-loop μ-loop
 step-requires c κs = search needs
 
--- src/lib.rt:481:9
 sub-n : tie.Need-sub-n Inv-loop μ-loop
 sub-n c = omega arith
 
--- src/lib.rt:479:5
 loop-less : tie.Need-loop-less Inv-loop μ-loop
 loop-less c = omega (arith, c .before .before .before .before .before .before .before .loop-test .taken)
 
--- src/lib.rt:479:5
 loop-again : tie.Need-loop-again Inv-loop μ-loop
 loop-again c = repeats-turn (c .before .before .before .before .before .before .before .before .loop .inv) (c .before .before .before .before .before .before .before .loop-test .taken) _ _ _ (search needs) (c .before .before .before .before .step .ensures)
 
--- src/lib.rt:470:1
 same-length-2 : tie.Need-same-length-2 Inv-loop μ-loop
 same-length-2 c = c .before .loop .inv .wide
 
--- src/lib.rt:470:1
 same-length-3 : tie.Need-same-length-3 Inv-loop μ-loop
 same-length-3 c = c .before .loop .inv .size
 
--- src/lib.rt:470:1
 returns-2 : tie.Need-returns-2 Inv-loop μ-loop
 returns-2 c = let len : ℕ = length (c .before .before .before .before .before .before .before .before .before .before .args .image .now) in
     let m : List ℕ = c .before .before .before .before .before .before .before .before .before .before .args .m .now in

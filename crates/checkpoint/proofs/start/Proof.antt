@@ -1,51 +1,36 @@
+-- `checkpoint::start` meets its contract.
 use mathlib.Core.Path.{refl, ap}
+use borrow.Author.Needs.{needs}
 use Rattle.memory.specs.Flat.{Flat}
 use Rattle.memory.proofs.Refusal.{held-room}
 use Rattle.checkpoint.proofs.Beginning.{head-replaces, taken-low, begin-held, begin-leads}
-use borrow.Author.Needs.{needs}
 use Rattle.checkpoint.proofs.start.Statement.{statement}
 use Rattle.checkpoint.proofs.start.Tie as tie
-use Rattle.checkpoint.proofs.start.Reads as reads
-use Rattle.checkpoint.proofs.start.Lts as lts
-use Rattle.checkpoint.proofs.name_pages.Reads as name-pages-reads
-use Rattle.memory.proofs.clear_directories.Reads as clear-directories-reads
-use Rattle.memory.proofs.clear_named.Reads as clear-named-reads
-use Rattle.memory.proofs.get_head.Reads as get-head-reads
-use Rattle.memory.proofs.put_head.Reads as put-head-reads
-use Rattle.pages.proofs.freeze.Reads as freeze-reads
 
--- src/lib.rt:196:5
 clear-named-requires : tie.Need-clear-named-requires
 clear-named-requires c κs = held-room _ (c .before .before .pre .0)
 
--- src/lib.rt:197:5
 name-pages-requires : tie.Need-name-pages-requires
 name-pages-requires c κs = let b = c .before .before .before .clear-named .ensures in
     (b .room, ap (λ (f : Flat). f .named) (b .flat))
 
--- src/lib.rt:198:5
 clear-directories-requires : tie.Need-clear-directories-requires
 clear-directories-requires c κs = search needs
 
--- src/lib.rt:199:9
 get-head-requires : tie.Need-get-head-requires
 get-head-requires c κs = search needs
 
--- src/lib.rt:209:5
 put-head-requires : tie.Need-put-head-requires
 put-head-requires c κs = let r = c .before .before .before .before .before .clear-directories .ensures .room in
     let e = c .before .get-head .ensures in
     (r, head-replaces _ (c .before .get-head .result) _ r e refl refl (taken-low _ (c .before .get-head .result) r e))
 
--- src/lib.rt:210:5
 freeze-requires : tie.Need-freeze-requires
 freeze-requires c κs = begin-held (c .before .before .before .before .before .before .before .before .before .before .before .before .before .before .before .before .before .before .before .before .pre .0) (c .before .before .before .before .before .before .before .before .before .before .before .before .before .before .before .before .before .clear-named .ensures) (c .before .before .before .before .before .before .before .before .before .before .before .before .before .name-pages .ensures) (c .before .before .before .before .before .before .before .before .before .clear-directories .ensures) (c .before .before .before .before .before .get-head .result) (c .before .before .before .before .before .get-head .ensures) (c .before .before .before .put-head .ensures)
 
--- src/lib.rt:192:1
 same-length : tie.Need-same-length
 same-length c = search needs
 
--- src/lib.rt:192:1
 returns : tie.Need-returns
 returns c = begin-leads (c .before .before .before .before .before .before .before .before .before .before .before .before .before .before .before .before .before .before .before .before .before .before .before .pre .0) (c .before .before .before .before .before .before .before .before .before .before .before .before .before .before .before .before .before .before .before .before .clear-named .ensures) (c .before .before .before .before .before .before .before .before .before .before .before .before .before .before .before .before .name-pages .ensures) (c .before .before .before .before .before .before .before .before .before .before .before .before .clear-directories .ensures) (c .before .before .before .before .before .before .before .before .get-head .result) (c .before .before .before .before .before .before .before .before .get-head .ensures) (c .before .before .before .before .before .before .put-head .ensures) (c .before .before .before .before .before .before .before .before .before .before .before .before .before .before .before .before .before .before .before .before .before .before .before .pre .1) _ (c .before .before .freeze .ensures)
 

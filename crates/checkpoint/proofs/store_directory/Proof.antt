@@ -1,83 +1,62 @@
-use native.Mathlib.Omega.{arith}
+-- `checkpoint::store_directory` meets its contract.
 use mathlib.Core.Path.{ap}
 use Prim.Native.Nat.{_+_}
+use native.Mathlib.Omega.{arith}
+use borrow.Author.Needs.{needs}
 use Rattle.memory.specs.declared.Counts.{Counts}
 use Rattle.memory.specs.declared.Head.{Head}
 use Rattle.memory.proofs.Refusal.{held-room}
 use Rattle.image.specs.Stages.{directoriesFor}
 use Rattle.checkpoint.proofs.Stepping.{part-long, back-is, directory-does}
 use Rattle.checkpoint.proofs.Tallies.{running-is}
-use borrow.Author.Needs.{needs}
 use Rattle.checkpoint.proofs.store_directory.Statement.{statement}
 use Rattle.checkpoint.proofs.store_directory.Tie as tie
-use Rattle.checkpoint.proofs.store_directory.Reads as reads
-use Rattle.checkpoint.proofs.store_directory.Lts as lts
-use Rattle.checkpoint.proofs.allocate.Reads as allocate-reads
-use Rattle.checkpoint.proofs.keep_directory.Reads as keep-directory-reads
-use Rattle.memory.proofs.get_counts.Reads as get-counts-reads
-use Rattle.memory.proofs.get_head.Reads as get-head-reads
-use Rattle.writer.proofs.write_directory.Reads as write-directory-reads
 
--- src/lib.rt:385:9
 get-head-requires : tie.Need-get-head-requires
 get-head-requires c κs = omega (arith, held-room _ (c .before .before .before .pre .0 .runs .held) .range .long)
 
--- src/lib.rt:386:9
 get-counts-requires : tie.Need-get-counts-requires
 get-counts-requires c κs = omega (arith, held-room _ (c .before .before .before .before .before .pre .0 .runs .held) .range .long)
 
--- src/lib.rt:387:9
 allocate-requires : tie.Need-allocate-requires
 allocate-requires c κs = held-room _ (c .before .before .before .before .before .before .before .pre .0 .runs .held)
 
--- src/lib.rt:388:13
 mul-a : tie.Need-mul-a
 mul-a c = search needs
 
--- src/lib.rt:389:15
 add-end : tie.Need-add-end
 add-end c = search needs
 
--- src/lib.rt:390:13
 cast-k : tie.Need-cast-k
 cast-k c = search needs
 
--- src/lib.rt:391:29
 sub-write-directory : tie.Need-sub-write-directory
 sub-write-directory c = search needs
 
--- src/lib.rt:391:29
 part-write-directory-start : tie.Need-part-write-directory-start
 part-write-directory-start c = search needs
 
--- src/lib.rt:391:29
 part-write-directory-end : tie.Need-part-write-directory-end
 part-write-directory-end c = search needs
 
--- src/lib.rt:391:55
 add-write-directory : tie.Need-add-write-directory
 add-write-directory c = record { fits = omega (arith, running-is _ (c .before .before .before .before .before .before .before .before .before .before .before .before .pre .0 .runs .on) .1, ap (λ (h : Head). h .level) (c .before .before .before .before .before .before .before .before .get-head .ensures)) }
 
--- src/lib.rt:391:5
 write-directory-requires : tie.Need-write-directory-requires
 unfolding directoriesFor
 write-directory-requires c κs = (held-room _ (c .before .before .before .before .before .before .before .before .before .before .before .before .pre .0 .runs .held), (omega (arith, c .before .before .before .before .before .before .before .before .before .before .before .before .pre .1 .1, ap (λ (x : Counts). x .directories) (c .before .before .before .before .before .before .get-counts .ensures)), part-long (c .before .before .before .before .before .before .before .before .before .before .before .before .args .image .now) _ _ (c .before .before .before .before .before .before .before .before .before .before .before .before .pre .0 .long) (c .before .before .before .before .allocate .ensures .1)))
 
--- src/lib.rt:392:5
 keep-directory-requires : tie.Need-keep-directory-requires
 unfolding directoriesFor
 keep-directory-requires c κs = let r = held-room _ (c .before .before .before .before .before .before .before .before .before .before .before .before .before .before .before .before .pre .0 .runs .held) in
     (c .before .before .before .before .before .before .before .before .before .before .before .before .before .before .before .before .pre .0 .runs, (c .before .before .before .before .before .before .before .before .allocate .ensures .1, omega (arith, c .before .before .before .before .before .before .before .before .before .before .before .before .before .before .before .before .pre .1 .1, r .range .named, r .range .most)))
 
--- src/lib.rt:381:1
 same-length : tie.Need-same-length
 same-length c = search needs
 
--- src/lib.rt:381:1
 same-length-2 : tie.Need-same-length-2
 same-length-2 c = search needs
 
--- src/lib.rt:381:1
 returns : tie.Need-returns
 returns c = directory-does (c .before .before .before .before .before .before .before .before .before .before .before .before .before .before .before .before .before .before .before .pre .0 .runs) (c .before .before .before .before .before .before .before .before .before .before .before .before .before .before .before .before .before .before .before .pre .1 .0) (c .before .before .before .before .before .before .before .before .before .before .before .allocate .result) (c .before .before .before .before .before .before .before .before .before .before .before .before .before .get-counts .result .directories) (c .before .before .before .before .before .before .before .before .before .before .before .before .before .before .before .get-head .result .level + 1) (c .before .before .before .before .before .before .before .before .before .before .before .before .before .before .before .before .before .before .before .pre .1 .1) (c .before .before .before .before .before .before .before .before .before .before .before .allocate .ensures .0) (ap (λ (x : Counts). x .directories) (c .before .before .before .before .before .before .before .before .before .before .before .before .before .get-counts .ensures)) (ap (λ (h : Head). h .level + 1) (c .before .before .before .before .before .before .before .before .before .before .before .before .before .before .before .get-head .ensures)) (c .before .before .before .before .before .before .write-directory .ensures) (back-is (c .before .before .before .before .before .before .before .before .before .before .before .before .before .before .before .before .before .before .before .args .image .now) _ (c .before .before .before .before .before .before .before .before .before .before .before .allocate .result)) (c .before .before .keep-directory .ensures)
 

@@ -1,45 +1,34 @@
-use lib.ListN.{length-take}
+-- `checkpoint::store_header` meets its contract.
 use native.Mathlib.Omega.{arith}
+use lib.ListN.{length-take}
+use borrow.Author.Needs.{needs}
 use Rattle.memory.proofs.Refusal.{held-room}
 use Rattle.checkpoint.proofs.Stepping.{front-is, header-does}
 use Rattle.checkpoint.proofs.Tallies.{running-is}
-use borrow.Author.Needs.{needs}
 use Rattle.checkpoint.proofs.store_header.Statement.{statement}
 use Rattle.checkpoint.proofs.store_header.Tie as tie
-use Rattle.checkpoint.proofs.store_header.Reads as reads
-use Rattle.checkpoint.proofs.store_header.Lts as lts
-use Rattle.checkpoint.proofs.keep_header.Reads as keep-header-reads
-use Rattle.writer.proofs.write_header.Reads as write-header-reads
 
--- src/lib.rt:400:26
 sub-write-header : tie.Need-sub-write-header
 sub-write-header c = search needs
 
--- src/lib.rt:400:26
 part-write-header-start : tie.Need-part-write-header-start
 part-write-header-start c = search needs
 
--- src/lib.rt:400:26
 part-write-header-end : tie.Need-part-write-header-end
 part-write-header-end c = omega (arith, c .before .before .pre .0 .long, held-room _ (c .before .before .pre .0 .runs .held) .range .few)
 
--- src/lib.rt:400:5
 write-header-requires : tie.Need-write-header-requires
 write-header-requires c κs = (held-room _ (c .before .before .before .before .pre .0 .runs .held), (running-is _ (c .before .before .before .before .pre .0 .runs .on) .1, omega (arith, c .before .before .before .before .pre .0 .long, held-room _ (c .before .before .before .before .pre .0 .runs .held) .range .few, length-take 512 (c .before .before .before .before .args .image .now))))
 
--- src/lib.rt:401:5
 keep-header-requires : tie.Need-keep-header-requires
 keep-header-requires c κs = search needs
 
--- src/lib.rt:396:1
 same-length : tie.Need-same-length
 same-length c = search needs
 
--- src/lib.rt:396:1
 same-length-2 : tie.Need-same-length-2
 same-length-2 c = search needs
 
--- src/lib.rt:396:1
 returns : tie.Need-returns
 returns c = header-does (c .before .before .before .before .before .before .before .before .before .before .before .pre .0 .runs) (c .before .before .before .before .before .before .before .before .before .before .before .pre .1 .0) (c .before .before .before .before .before .before .before .before .before .before .before .pre .1 .1) (c .before .before .before .before .before .before .write-header .ensures) (front-is (c .before .before .before .before .before .before .before .before .before .before .before .args .image .now) _) (c .before .before .keep-header .ensures)
 

@@ -1,54 +1,39 @@
-use Rattle.pages.proofs.Melting.{frozen-here, frozen-nowhere}
+-- `checkpoint::store_next` meets its contract.
 use borrow.Author.Needs.{needs}
+use Rattle.pages.proofs.Melting.{frozen-here, frozen-nowhere}
 use Rattle.checkpoint.proofs.store_next.Statement.{statement}
 use Rattle.checkpoint.proofs.store_next.Tie as tie
-use Rattle.checkpoint.proofs.store_next.Reads as reads
-use Rattle.checkpoint.proofs.store_next.Lts as lts
-use Rattle.checkpoint.proofs.store_page.Reads as store-page-reads
-use Rattle.checkpoint.proofs.store_rest.Reads as store-rest-reads
-use Rattle.pages.proofs.find_frozen.Reads as find-frozen-reads
 
--- src/lib.rt:421:11
 find-frozen-requires : tie.Need-find-frozen-requires
 find-frozen-requires c κs = c .before .before .before .pre .runs .held
 
--- src/lib.rt:422:23
 enum-known-page : tie.Need-enum-known-page
 enum-known-page c = search needs
 
--- src/lib.rt:422:47
 store-page-requires : tie.Need-store-page-requires
 store-page-requires c κs = (c .before .before .before .before .before .before .before .before .before .pre, frozen-here (c .before .before .before .before .before .before .before .before .before .args .m .now) (c .before .before .before .before .before .find-frozen .result) (c .before .before .before .before .before .find-frozen .ensures) _ _ _ (c .before .before .before .page .given .1))
 
--- src/lib.rt:423:38
 enum-told : tie.Need-enum-told
 enum-told c = search needs
 
--- src/lib.rt:423:27
 store-rest-requires : tie.Need-store-rest-requires
 store-rest-requires c κs = (c .before .before .before .before .before .before .before .before .pre, frozen-nowhere (c .before .before .before .before .before .before .before .before .args .m .now) (c .before .before .before .before .find-frozen .result) (c .before .before .before .before .find-frozen .ensures) (c .before .before .enum-told .given .1))
 
--- src/lib.rt:417:1
 same-length : tie.Need-same-length
 same-length c = search needs
 
--- src/lib.rt:417:1
 same-length-2 : tie.Need-same-length-2
 same-length-2 c = search needs
 
--- src/lib.rt:417:1
 returns : tie.Need-returns
 returns c = search needs
 
--- src/lib.rt:417:1
 same-length-3 : tie.Need-same-length-3
 same-length-3 c = search needs
 
--- src/lib.rt:417:1
 same-length-4 : tie.Need-same-length-4
 same-length-4 c = search needs
 
--- src/lib.rt:417:1
 returns-2 : tie.Need-returns-2
 returns-2 c = search needs
 

@@ -1,80 +1,59 @@
-use native.Mathlib.Omega.{arith}
+-- `checkpoint::store_page` meets its contract.
 use mathlib.Core.Path.{ap}
 use Prim.Native.Nat.{_+_, _%_}
+use native.Mathlib.Omega.{arith}
+use borrow.Author.Needs.{needs}
 use Rattle.memory.specs.declared.Entry.{Entry}
 use Rattle.memory.specs.declared.Head.{Head}
 use Rattle.memory.proofs.Refusal.{held-room}
 use Rattle.pages.proofs.Places.{page-end}
 use Rattle.checkpoint.proofs.Stepping.{part-long, back-is, page-does}
 use Rattle.checkpoint.proofs.Tallies.{running-is}
-use borrow.Author.Needs.{needs}
 use Rattle.checkpoint.proofs.store_page.Statement.{statement}
 use Rattle.checkpoint.proofs.store_page.Tie as tie
-use Rattle.checkpoint.proofs.store_page.Reads as reads
-use Rattle.checkpoint.proofs.store_page.Lts as lts
-use Rattle.checkpoint.proofs.allocate.Reads as allocate-reads
-use Rattle.checkpoint.proofs.keep_page.Reads as keep-page-reads
-use Rattle.memory.proofs.get_entry.Reads as get-entry-reads
-use Rattle.memory.proofs.get_head.Reads as get-head-reads
-use Rattle.writer.proofs.write_page.Reads as write-page-reads
 
--- src/lib.rt:369:9
 get-head-requires : tie.Need-get-head-requires
 get-head-requires c κs = omega (arith, held-room _ (c .before .before .before .pre .0 .runs .held) .range .long)
 
--- src/lib.rt:370:9
 get-entry-requires : tie.Need-get-entry-requires
 get-entry-requires c κs = (held-room _ (c .before .before .before .before .before .pre .0 .runs .held), c .before .before .before .before .before .pre .1 .on .inside)
 
--- src/lib.rt:371:9
 allocate-requires : tie.Need-allocate-requires
 allocate-requires c κs = held-room _ (c .before .before .before .before .before .before .before .pre .0 .runs .held)
 
--- src/lib.rt:372:13
 mul-a : tie.Need-mul-a
 mul-a c = search needs
 
--- src/lib.rt:373:15
 add-end : tie.Need-add-end
 add-end c = search needs
 
--- src/lib.rt:375:13
 cast-n : tie.Need-cast-n
 cast-n c = search needs
 
--- src/lib.rt:376:24
 sub-write-page : tie.Need-sub-write-page
 sub-write-page c = search needs
 
--- src/lib.rt:376:24
 part-write-page-start : tie.Need-part-write-page-start
 part-write-page-start c = search needs
 
--- src/lib.rt:376:24
 part-write-page-end : tie.Need-part-write-page-end
 part-write-page-end c = search needs
 
--- src/lib.rt:376:60
 add-write-page : tie.Need-add-write-page
 add-write-page c = record { fits = omega (arith, running-is _ (c .before .before .before .before .before .before .before .before .before .before .before .before .before .pre .0 .runs .on) .1, ap (λ (h : Head). h .level) (c .before .before .before .before .before .before .before .before .before .get-head .ensures)) }
 
--- src/lib.rt:376:5
 write-page-requires : tie.Need-write-page-requires
 write-page-requires c κs = (held-room _ (c .before .before .before .before .before .before .before .before .before .before .before .before .before .pre .0 .runs .held), (omega (arith, page-end (c .before .before .before .before .before .before .before .before .before .before .before .before .before .pre .1 .on), ap (λ (e : Entry). e .count) (c .before .before .before .before .before .before .before .get-entry .ensures)), (omega arith, part-long (c .before .before .before .before .before .before .before .before .before .before .before .before .before .args .image .now) _ _ (c .before .before .before .before .before .before .before .before .before .before .before .before .before .pre .0 .long) (c .before .before .before .before .before .allocate .ensures .1))))
 
--- src/lib.rt:377:5
 keep-page-requires : tie.Need-keep-page-requires
 keep-page-requires c κs = (c .before .before .before .before .before .before .before .before .before .before .before .before .before .before .before .before .before .pre .0 .runs, c .before .before .before .before .before .before .before .before .before .allocate .ensures .1)
 
--- src/lib.rt:365:1
 same-length : tie.Need-same-length
 same-length c = search needs
 
--- src/lib.rt:365:1
 same-length-2 : tie.Need-same-length-2
 same-length-2 c = search needs
 
--- src/lib.rt:365:1
 returns : tie.Need-returns
 returns c = let e = c .before .before .before .before .before .before .before .before .before .before .before .before .before .before .get-entry .ensures in
     page-does (c .before .before .before .before .before .before .before .before .before .before .before .before .before .before .before .before .before .before .before .before .pre .0 .runs) (c .before .before .before .before .before .before .before .before .before .before .before .before .before .before .before .before .before .before .before .before .args .p) (c .before .before .before .before .before .before .before .before .before .before .before .before .before .before .before .before .before .before .before .before .args .start) (c .before .before .before .before .before .before .before .before .before .before .before .before .allocate .result) (c .before .before .before .before .before .before .before .before .before .before .before .before .before .before .get-entry .result .table % 8) (c .before .before .before .before .before .before .before .before .before .before .before .before .before .before .get-entry .result .count) (c .before .before .before .before .before .before .before .before .before .before .before .before .before .before .before .before .get-head .result .level + 1) (c .before .before .before .before .before .before .before .before .before .before .before .before .before .before .before .before .before .before .before .before .pre .1) (c .before .before .before .before .before .before .before .before .before .before .before .before .allocate .ensures .0) (ap (λ (x : Entry). x .table % 8) e) (ap (λ (x : Entry). x .count) e) (ap (λ (h : Head). h .level + 1) (c .before .before .before .before .before .before .before .before .before .before .before .before .before .before .before .before .get-head .ensures)) (c .before .before .before .before .before .before .write-page .ensures) (back-is (c .before .before .before .before .before .before .before .before .before .before .before .before .before .before .before .before .before .before .before .before .args .image .now) _ (c .before .before .before .before .before .before .before .before .before .before .before .before .allocate .result)) (c .before .before .keep-page .ensures)
