@@ -20,6 +20,7 @@ use Rattle.model.specs.Checkpoint.{allocate, isFree, freeCount, isRunning, bloc
 use Rattle.memory.specs.Flat.{Flat}
 use Rattle.memory.specs.Store.{pageOf, nest, pagesIn, blocksOf, checkpointOf, storeOf}
 use Rattle.memory.specs.declared.Entry.{Entry}
+use Rattle.memory.specs.declared.Head.{Head}
 use Rattle.memory.proofs.Laws.{lt-or-ge}
 use Rattle.memory.proofs.Runs.{pages-count}
 use Rattle.checkpoint.specs.Counting.{oneIf, entryIs, pageIs, orElse, freeFrom}
@@ -262,3 +263,12 @@ module _ (f : Flat) (low : f .head .taken < f .head .blocks) where
     pub alloc-none : f .head .taken + 1 ≤ freeFrom (f .used) 1 (f .head .taken + 1) → f .head .blocks - 1 ≡ allocate (storeOf f)
     unfolding orElse
     alloc-none k = sym (rest-is ∙ ap (orElse (f .head .blocks - 1)) (no-free (f .used) 1 (f .head .taken + 1) (omega arith) k))
+
+-- the two searches, from the block that an allocator says was last taken
+module _ (f : Flat) {t r : ℕ} (et : t ≡ f .head .taken) where
+  pub up-from : {h : Head} → h ≡ f .head → r ≡ freeFrom (f .used) (t + 1) (h .blocks) → r ≡ freeFrom (f .used) (f .head .taken + 1) (f .head .blocks)
+  up-from e q =
+      q ∙ ap (λ (h : Head). freeFrom (f .used) (t + 1) (h .blocks)) e ∙ ap (λ (k : ℕ). freeFrom (f .used) (k + 1) (f .head .blocks)) et
+
+  pub round-from : r ≡ freeFrom (f .used) 1 (t + 1) → r ≡ freeFrom (f .used) 1 (f .head .taken + 1)
+  round-from w = w ∙ ap (λ (k : ℕ). freeFrom (f .used) 1 (k + 1)) et
