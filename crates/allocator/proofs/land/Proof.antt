@@ -34,7 +34,6 @@ use denote.Triple.Spec.{Meets, tripleOf}
 use denote.Triple.Table.{entered}
 use denote.Triple.Walked.{says, Stays, stay-ref, walkOf, goes-ref, Walks, ends-at, walked, walk-meets}
 use Rattle.allocator.specs.declared.Allocator.{Allocator}
-use Rattle.allocator.specs.Stores.{landing}
 use Rattle.allocator.proofs.Allocator as T
 use Rattle.allocator.proofs.Allocator.Laws as T′
 use Rattle.allocator.proofs.Lent.{mach, IsMach}
@@ -51,7 +50,7 @@ module _ {M : Type 1} (𝓤 : URA M) (H : Heap 𝓤) (A : Atoms 𝓤) (W : Given
   x = (record { ptr = (b, o); name = γ; now = h }, tt)
 
   abbrev h′ : Allocator
-  h′ = landing h
+  h′ = record { taken = h .taken; left = 0 }
 
   abbrev at : List Val × Unit {0}
   at = (vptr b o ∷ [], tt)

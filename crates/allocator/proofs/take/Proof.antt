@@ -37,7 +37,6 @@ use denote.Triple.Table.{entered}
 use denote.Triple.Walked.{says, needs, Stays, stay-ref, stay-none, walkOf, goes-none, goes-ref, Walks, ends-at, walked, walk-meets}
 use denote.Exit.{yes}
 use Rattle.allocator.specs.declared.Allocator.{Allocator}
-use Rattle.allocator.specs.Stores.{taking}
 use Rattle.allocator.proofs.Allocator as T
 use Rattle.allocator.proofs.Allocator.Laws as T′
 use Rattle.allocator.proofs.Lent.{mach, IsMach}
@@ -54,7 +53,7 @@ module _ {M : Type 1} (𝓤 : URA M) (H : Heap 𝓤) (A : Atoms 𝓤) (W : Given
   x = (record { ptr = (b, o); name = γ; now = h }, (n, tt))
 
   abbrev h′ : Allocator
-  h′ = taking h n
+  h′ = record { taken = n; left = h .left - 1 }
 
   abbrev at : List Val × (List Val × Unit {0})
   at = (vptr b o ∷ [], (vint w32 n ∷ [], tt))
