@@ -264,11 +264,10 @@ module _ (f : Flat) (low : f .head .taken < f .head .blocks) where
     unfolding orElse
     alloc-none k = sym (rest-is ∙ ap (orElse (f .head .blocks - 1)) (no-free (f .used) 1 (f .head .taken + 1) (omega arith) k))
 
--- the two searches, from the block that an allocator says was last taken
-module _ (f : Flat) {t r : ℕ} (et : t ≡ f .head .taken) where
-  pub up-from : {h : Head} → h ≡ f .head → r ≡ freeFrom (f .used) (t + 1) (h .blocks) → r ≡ freeFrom (f .used) (f .head .taken + 1) (f .head .blocks)
-  up-from e q =
-      q ∙ ap (λ (h : Head). freeFrom (f .used) (t + 1) (h .blocks)) e ∙ ap (λ (k : ℕ). freeFrom (f .used) (k + 1) (f .head .blocks)) et
+-- the two searches, from the block after the one last taken and from block 1
+module _ (f : Flat) {a r : ℕ} where
+  pub up-from : {h : Head} → h ≡ f .head → r ≡ freeFrom (f .used) a (h .blocks) → a ≡ f .head .taken + 1 → r ≡ freeFrom (f .used) (f .head .taken + 1) (f .head .blocks)
+  up-from e q ea = q ∙ ap (λ (h : Head). freeFrom (f .used) a (h .blocks)) e ∙ ap (λ (k : ℕ). freeFrom (f .used) k (f .head .blocks)) ea
 
-  pub round-from : r ≡ freeFrom (f .used) 1 (t + 1) → r ≡ freeFrom (f .used) 1 (f .head .taken + 1)
-  round-from w = w ∙ ap (λ (k : ℕ). freeFrom (f .used) 1 (k + 1)) et
+  pub round-from : {z : ℕ} → r ≡ freeFrom (f .used) a z → a ≡ 1 → z ≡ f .head .taken + 1 → r ≡ freeFrom (f .used) 1 (f .head .taken + 1)
+  round-from {z} w ea ez = w ∙ ap (λ (k : ℕ). freeFrom (f .used) k z) ea ∙ ap (freeFrom (f .used) 1) ez

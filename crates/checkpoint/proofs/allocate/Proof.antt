@@ -28,7 +28,7 @@ returns c = let p = c .before .before .before .before .before in
     let f = flatOf (p .args .m .now) in
     let e = c .before .before .before .get-head .ensures in
     let eb = ap (λ (h : Head). h .blocks) e in
-    let q = up-from f (p .pre .1) e (c .before .first-free .ensures .0) in
+    let q = up-from f e (c .before .first-free .ensures .0) (omega (arith, p .pre .1)) in
     (q ∙ alloc-up f (p .pre .0 .range .taken) (omega (arith, q, c .if1 .taken)), omega (arith, c .if1 .taken))
 
 add-first-free-2 : tie.Need-add-first-free-2
@@ -44,8 +44,8 @@ returns-2 c = let p = c .before .before .before .before .before .before .before 
     let f = flatOf (p .args .m .now) in
     let e = c .before .before .before .before .before .get-head .ensures in
     let eb = ap (λ (h : Head). h .blocks) e in
-    let q = up-from f (p .pre .1) e (c .before .before .before .first-free .ensures .0) in
-    let w = round-from f (p .pre .1) (c .before .first-free2 .ensures .0) in
+    let q = up-from f e (c .before .before .before .first-free .ensures .0) (omega (arith, p .pre .1)) in
+    let w = round-from f (c .before .first-free2 .ensures .0) (omega arith) (omega (arith, p .pre .1)) in
     (w ∙ alloc-round f (p .pre .0 .range .taken) (omega (arith, q, c .before .before .if1 .left)) (omega (arith, w, c .if2 .taken, p .pre .1)), omega (arith, c .if2 .taken, p .pre .0 .range .taken, p .pre .1))
 
 sub-result : tie.Need-sub-result
@@ -57,8 +57,8 @@ returns-3 c = let p = c .before .before .before .before .before .before .before 
     let f = flatOf (p .args .m .now) in
     let e = c .before .before .before .before .before .get-head .ensures in
     let eb = ap (λ (h : Head). h .blocks) e in
-    let q = up-from f (p .pre .1) e (c .before .before .before .first-free .ensures .0) in
-    let w = round-from f (p .pre .1) (c .before .first-free2 .ensures .0) in
+    let q = up-from f e (c .before .before .before .first-free .ensures .0) (omega (arith, p .pre .1)) in
+    let w = round-from f (c .before .first-free2 .ensures .0) (omega arith) (omega (arith, p .pre .1)) in
     (omega (arith, alloc-none f (p .pre .0 .range .taken) (omega (arith, q, c .before .before .if1 .left)) (omega (arith, w, c .if2 .left, p .pre .1))), omega (arith, p .pre .0 .range .few))
 
 pub allocate-spec : {M : Type 1} → statement M

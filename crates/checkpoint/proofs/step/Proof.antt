@@ -1,6 +1,7 @@
 -- `checkpoint::step` meets its contract.
 use mathlib.Core.List.{List}
 use Prim.Native.Nat.{ℕ}
+use native.Mathlib.Omega.{arith}
 use lib.ListN.{length}
 use borrow.Author.Needs.{needs}
 use Rattle.model.specs.Checkpoint.{stepCall}
@@ -43,7 +44,7 @@ returns-2 c = let p = c .before .before .before .before .before .before .before 
     let v = c .before .before .before .before .before .before .before .before .before .before .step-refusal .ensures in
     let z = c .before .before .before .before .before .before .before .before .before .if1 .left in
     let d = c .before .before .before .before .store-next .ensures in
-    step-done (p .image .now) (p .m .now) _ _ _ (record { runs = passed-runs len (p .m .now) _ v z; long = passed-long len (p .m .now) _ v z }) (d .0) (left-is _ _ (d .1))
+    step-done (p .image .now) (p .m .now) _ _ _ (record { runs = passed-runs len (p .m .now) _ v z; long = passed-long len (p .m .now) _ v z }) (d .0) (omega (arith, left-is _ _ (d .1)))
 
 pub step-spec : {M : Type 1} → statement M
 step-spec =
