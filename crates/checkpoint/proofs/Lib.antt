@@ -2,4 +2,5 @@ pub mod Tallies
 pub mod Beginning
 pub mod Leaving
 pub mod Stepping
+pub mod Allotting
 pub mod Repeating

@@ -13,9 +13,7 @@ use Rattle.model.specs.State.{Store, Write, Outcome}
 use Rattle.model.specs.Transactions.{gives, unless}
 use Rattle.model.specs.Checkpoint.{stored, isRunning, left, stepAt, badImage, stepCall, inTurn, runCall}
 use Rattle.model.specs.Recover.{imageAfter}
-use Rattle.model.specs.Calls.{accepted}
 use Rattle.model.proofs.Quiet.{step-frame}
-use Rattle.model.proofs.Laws.{one-less}
 use Rattle.memory.specs.Flat.{Flat, flatOf}
 use Rattle.memory.specs.Store.{holdsStore, storeOf, storeIn}
 use Rattle.memory.proofs.Meaning.{Sound, in-some, in-sound}
@@ -25,6 +23,7 @@ use Rattle.answers.specs.declared.Answer.the-variants.{Count}
 use Rattle.answers.proofs.Answering.{stores-count}
 use Rattle.checkpoint.specs.Keeping.{Ready}
 use Rattle.checkpoint.proofs.Tallies.{left-none}
+use Rattle.checkpoint.proofs.Allotting.{lowers}
 use Rattle.checkpoint.proofs.Stepping.{blocks-is, step-at, answer-of}
 use Rattle.model.specs.State as model
 
@@ -86,10 +85,6 @@ turn-next : (n : ℕ) (s : Store) → (inTurn (suc n) s .store ≡ inTurn n (ste
 unfolding inTurn
 turn-next n s = (refl, refl)
 
-accepts : (a : model.Answer) (n : ℕ) → a ≡ model.count n → accepted a ≡ true
-unfolding accepted
-accepts a n e = ap accepted e
-
 module _ {img₀ m₀ : List ℕ} {k : ℕ} {img m : List ℕ} {n : ℕ} (c : Repeats img₀ m₀ k img m n) where
   module _ (h : 0 < n) (r : Answer) (img' m' : List ℕ) (w : length img' ≡ length img) (t : Stores (stepCall (length img)) img m r img' m') where
     pub repeats-turn : Repeats img₀ m₀ k img' m' (n - 1)
@@ -103,8 +98,7 @@ module _ {img₀ m₀ : List ℕ} {k : ℕ} {img m : List ℕ} {n : ℕ} (c : Re
         let d : StoredBy o img m r img' m' = stored-by (stepCall (length img)) o img m r img' m' (c .held) q t in
         let l = counted (o .answer) (o .store) m m' (left (o .store)) a (d .memory) in
         let u : Sound m' (o .store) = in-sound m' (o .store) (l .1) in
-        let less : left s ≡ suc (left (o .store)) =
-        one-less (length img) s (ap (λ (z : Outcome). accepted (z .answer)) q ∙ accepts (o .answer) _ a) .1 ∙ ap (λ (z : Outcome). suc (left (z .store))) q in
+        let less : left s ≡ suc (left (o .store)) = lowers s on in
         let j : n ≡ suc (n - 1) = omega arith in
         let x = turn-next (n - 1) s in
         record {

@@ -20,6 +20,7 @@ use Rattle.model.specs.Checkpoint.{allocate, isFree, freeCount, isRunning, bloc
 use Rattle.memory.specs.Flat.{Flat}
 use Rattle.memory.specs.Store.{pageOf, nest, pagesIn, blocksOf, checkpointOf, storeOf}
 use Rattle.memory.specs.declared.Entry.{Entry}
+use Rattle.memory.specs.declared.Head.{Head}
 use Rattle.memory.proofs.Laws.{lt-or-ge}
 use Rattle.memory.proofs.Runs.{pages-count}
 use Rattle.checkpoint.specs.Counting.{oneIf, entryIs, pageIs, orElse, freeFrom}
@@ -262,3 +263,11 @@ module _ (f : Flat) (low : f .head .taken < f .head .blocks) where
     pub alloc-none : f .head .taken + 1 ≤ freeFrom (f .used) 1 (f .head .taken + 1) → f .head .blocks - 1 ≡ allocate (storeOf f)
     unfolding orElse
     alloc-none k = sym (rest-is ∙ ap (orElse (f .head .blocks - 1)) (no-free (f .used) 1 (f .head .taken + 1) (omega arith) k))
+
+-- the two searches, from the block after the one last taken and from block 1
+module _ (f : Flat) {a r : ℕ} where
+  pub up-from : {h : Head} → h ≡ f .head → r ≡ freeFrom (f .used) a (h .blocks) → a ≡ f .head .taken + 1 → r ≡ freeFrom (f .used) (f .head .taken + 1) (f .head .blocks)
+  up-from e q ea = q ∙ ap (λ (h : Head). freeFrom (f .used) a (h .blocks)) e ∙ ap (λ (k : ℕ). freeFrom (f .used) k (f .head .blocks)) ea
+
+  pub round-from : {z : ℕ} → r ≡ freeFrom (f .used) a z → a ≡ 1 → z ≡ f .head .taken + 1 → r ≡ freeFrom (f .used) 1 (f .head .taken + 1)
+  round-from {z} w ea ez = w ∙ ap (λ (k : ℕ). freeFrom (f .used) k z) ea ∙ ap (freeFrom (f .used) 1) ez

@@ -6,13 +6,21 @@ use mathlib.Core.Option.{Option, none, some}
 use mathlib.Core.List.{List, [], _∷_, _++_, map}
 use lib.ListN.{length}
 use lib.Dec.{eqb}
+use Rattle.allocator.specs.declared.Allocator.{Allocator}
 use Rattle.basics.specs.Basics.{if_then_else_, isIn}
 use Rattle.model.specs.State.{Checkpoint, idle, running, Store, Outcome}
 use Rattle.model.specs.Rules.{freeze, thaw}
-use Rattle.model.specs.Checkpoint.{stored, isRunning, usedToo, fill, stepAt}
+use Rattle.model.specs.Checkpoint.{stored, isRunning, left, usedToo, fill, stepAt}
 use Rattle.model.specs.Recover.{imageAfter}
 use Rattle.memory.specs.Flat.{Flat, flatOf, usedAnd, Becomes, withHead, withNamed, withUsed}
 use Rattle.memory.specs.Store.{blocksOf, holdsStore, storeOf, storeIn}
+
+-- where the search for a free block goes on, and how many stores are left
+unfoldable pub allocatorOf : Store → Allocator
+allocatorOf s = record { taken = s .taken; left = left s }
+
+abbrev pub allocatorIn : List ℕ → Allocator
+allocatorIn m = allocatorOf (storeOf (flatOf m))
 
 -- begin freezes every dirty page and fixes the list of all pages
 unfoldable pub begun : Store → Store

@@ -1,5 +1,6 @@
 // Begin, step and run: the checkpoint on the working memory. No call asks anything of its caller: each contract says what the call
 // answers and leaves, for any image and any memory, by the model's function.
+use allocator::Allocator;
 use answers::Answer;
 use memory::Entry;
 use memory::Head;
@@ -19,7 +20,7 @@ ghost use Rattle.pages.specs.Turns.{pagesOf};
 ghost use Rattle.pages.specs.Finding.{NoneOf, FirstPage};
 ghost use Rattle.answers.specs.Shape.{Answers, Stores};
 ghost use Rattle.checkpoint.specs.Counting.{oneIf, entryIs, pageIs, freeFrom, firstZero, namedIn};
-ghost use Rattle.checkpoint.specs.Keeping.{begun, pageKept, directoryKept, headerKept, Runs, Ready, taking, Leads, Fills, Marks, Steps, stepRefusal};
+ghost use Rattle.checkpoint.specs.Keeping.{allocatorIn, begun, pageKept, directoryKept, headerKept, Runs, Ready, taking, Leads, Fills, Marks, Steps, stepRefusal};
 
 // ---- counting
 
@@ -150,13 +151,13 @@ fn first_free(m: &[u8], a: usize, e: usize) -> usize
 }
 
 // The first free block after the one last taken, round to block 1; the last block, if there is none.
-fn allocate(m: &[u8]) -> usize
-    requires { ⌜ Room (now m) ⌝ }
+fn allocate(m: &[u8], taken: u32) -> usize
+    requires { ⌜ Room (now m) × (taken ≡ flatOf (now m) .head .taken) ⌝ }
     ensures { λ r. ⌜ (r ≡ allocate (storeOf (flatOf (now (m .entry))))) × (r < flatOf (now (m .entry)) .head .blocks) ⌝ }
 {
     let h = memory::get_head(m);
     let n = h.blocks as usize;
-    let t = h.taken as usize;
+    let t = taken as usize;
     let b = first_free(m, t + 1, n);
     if b < n {
         return b;
@@ -166,6 +167,18 @@ fn allocate(m: &[u8]) -> usize
         return w;
     }
     n - 1
+}
+
+// Where the search for a free block goes on, and how many stores the running checkpoint has still to make.
+fn allocator_of(m: &[u8]) -> Allocator
+    requires { ⌜ Room (now m) ⌝ }
+    ensures { λ r. ⌜ r ≡ allocatorIn (now (m .entry)) ⌝ }
+{
+    let h = memory::get_head(m);
+    Allocator {
+        taken: h.taken,
+        left: left(m),
+    }
 }
 
 // ---- begin
@@ -233,7 +246,7 @@ pub fn begin(m: &mut [u8]) -> Answer
 // ---- what a store leaves in the memory
 
 // Block b is in use, and it is the one last taken.
-fn take_block(m: &mut [u8], b: usize)
+fn take_block(m: &mut [u8], b: u32)
     requires { ⌜ Room (now m) × (b < flatOf (now m) .head .blocks) ⌝ }
     ensures { λ _. ⌜ Becomes (now (m .entry)) (now (m .exit)) (taking b (flatOf (now (m .entry)))) ⌝ }
 {
@@ -245,10 +258,10 @@ fn take_block(m: &mut [u8], b: usize)
         next: h.next,
         running: h.running,
         begun: h.begun,
-        taken: b as u32,
+        taken: b,
     };
     memory::put_head(m, g);
-    memory::mark_used(m, b);
+    memory::mark_used(m, b as usize);
 }
 
 // The place of the first page of the list that has no block yet; how many pages there are, if each has one.
@@ -284,7 +297,7 @@ fn fill_entry(m: &mut [u8], b: u16)
 }
 
 // After the store of the first frozen page as block b.
-fn keep_page(m: &mut [u8], b: usize)
+fn keep_page(m: &mut [u8], b: u32)
     requires { ⌜ Runs (now m) × (b < flatOf (now m) .head .blocks) ⌝ }
     ensures { λ _. ⌜ Leads (now (m .entry)) (now (m .exit)) (pageKept b (storeOf (flatOf (now (m .entry))))) ⌝ }
 {
@@ -294,12 +307,12 @@ fn keep_page(m: &mut [u8], b: usize)
 }
 
 // After the store of a directory block as block b.
-fn keep_directory(m: &mut [u8], b: usize)
+fn keep_directory(m: &mut [u8], b: u32)
     requires { ⌜ Runs (now m) × ((b < flatOf (now m) .head .blocks) × (length (flatOf (now m) .directories) < 4)) ⌝ }
     ensures { λ _. ⌜ Leads (now (m .entry)) (now (m .exit)) (directoryKept b (storeOf (flatOf (now (m .entry))))) ⌝ }
 {
     take_block(m, b);
-    memory::push_directory(m, b as u32);
+    memory::push_directory(m, b);
 }
 
 // Block i of those that the header to come and its directory name: first of the listed pages, then of the directory.
@@ -352,68 +365,72 @@ fn keep_header(m: &mut [u8])
     memory::put_head(m, g);
 }
 
-// ---- step
+// ---- step: each store is handed the allocator, and hands on the one after it
 
 // The first frozen page, p, whose rows begin at start, goes into the next free block.
-fn store_page(image: &mut [u8], m: &mut [u8], p: usize, start: usize)
-    requires { ⌜ Ready (now image) (now m) × FirstPage (now m) isFrozen p start ⌝ }
-    ensures { λ _. ⌜ Steps (now (image .entry)) (now (m .entry)) (now (image .exit)) (now (m .exit)) ⌝ }
+fn store_page(image: &mut [u8], m: &mut [u8], p: usize, start: usize, alloc: Allocator) -> Allocator
+    requires { ⌜ Ready (now image) (now m) × (FirstPage (now m) isFrozen p start × (alloc ≡ allocatorIn (now m))) ⌝ }
+    ensures { λ r. ⌜ Steps (now (image .entry)) (now (m .entry)) (now (image .exit)) (now (m .exit)) × (r ≡ allocatorIn (now (m .exit))) ⌝ }
 {
     let h = memory::get_head(m);
     let e = memory::get_entry(m, p);
-    let b = allocate(m);
+    let b = allocate(m, alloc.taken);
     let a = 512 * b;
     let end = a + 512;
     let t = e.table % 8;
     let n = e.count as usize;
     writer::write_page(&mut image[a..end], m, t, start, n, h.level + 1);
-    keep_page(m, b);
+    let next = allocator::taken_by(alloc, b as u32);
+    keep_page(m, next.taken);
+    next
 }
 
 // The next part of the list of pages goes into the next free block.
-fn store_directory(image: &mut [u8], m: &mut [u8])
-    requires { ⌜ Ready (now image) (now m) × (NoneOf isFrozen (pagesOf (now m)) × (length (flatOf (now m) .directories) < directoriesFor (length (flatOf (now m) .named)))) ⌝ }
-    ensures { λ _. ⌜ Steps (now (image .entry)) (now (m .entry)) (now (image .exit)) (now (m .exit)) ⌝ }
+fn store_directory(image: &mut [u8], m: &mut [u8], alloc: Allocator) -> Allocator
+    requires { ⌜ Ready (now image) (now m) × (NoneOf isFrozen (pagesOf (now m)) × ((length (flatOf (now m) .directories) < directoriesFor (length (flatOf (now m) .named))) × (alloc ≡ allocatorIn (now m)))) ⌝ }
+    ensures { λ r. ⌜ Steps (now (image .entry)) (now (m .entry)) (now (image .exit)) (now (m .exit)) × (r ≡ allocatorIn (now (m .exit))) ⌝ }
 {
     let h = memory::get_head(m);
     let c = memory::get_counts(m);
-    let b = allocate(m);
+    let b = allocate(m, alloc.taken);
     let a = 512 * b;
     let end = a + 512;
     let k = c.directories as usize;
     writer::write_directory(&mut image[a..end], m, k, h.level + 1);
-    keep_directory(m, b);
+    let next = allocator::taken_by(alloc, b as u32);
+    keep_directory(m, next.taken);
+    next
 }
 
 // The header goes into block 0, and the checkpoint ends.
-fn store_header(image: &mut [u8], m: &mut [u8])
-    requires { ⌜ Ready (now image) (now m) × (NoneOf isFrozen (pagesOf (now m)) × (directoriesFor (length (flatOf (now m) .named)) ≤ length (flatOf (now m) .directories))) ⌝ }
-    ensures { λ _. ⌜ Steps (now (image .entry)) (now (m .entry)) (now (image .exit)) (now (m .exit)) ⌝ }
+fn store_header(image: &mut [u8], m: &mut [u8], alloc: Allocator) -> Allocator
+    requires { ⌜ Ready (now image) (now m) × (NoneOf isFrozen (pagesOf (now m)) × ((directoriesFor (length (flatOf (now m) .named)) ≤ length (flatOf (now m) .directories)) × (alloc ≡ allocatorIn (now m)))) ⌝ }
+    ensures { λ r. ⌜ Steps (now (image .entry)) (now (m .entry)) (now (image .exit)) (now (m .exit)) × (r ≡ allocatorIn (now (m .exit))) ⌝ }
 {
     writer::write_header(&mut image[0..512], m);
     keep_header(m);
+    allocator::landed(alloc)
 }
 
 // No page is frozen any more: the directory, then the header.
-fn store_rest(image: &mut [u8], m: &mut [u8])
-    requires { ⌜ Ready (now image) (now m) × NoneOf isFrozen (pagesOf (now m)) ⌝ }
-    ensures { λ _. ⌜ Steps (now (image .entry)) (now (m .entry)) (now (image .exit)) (now (m .exit)) ⌝ }
+fn store_rest(image: &mut [u8], m: &mut [u8], alloc: Allocator) -> Allocator
+    requires { ⌜ Ready (now image) (now m) × (NoneOf isFrozen (pagesOf (now m)) × (alloc ≡ allocatorIn (now m))) ⌝ }
+    ensures { λ r. ⌜ Steps (now (image .entry)) (now (m .entry)) (now (image .exit)) (now (m .exit)) × (r ≡ allocatorIn (now (m .exit))) ⌝ }
 {
     if 0 < directories_left(m) {
-        store_directory(image, m);
-        return;
+        return store_directory(image, m, alloc);
     }
-    store_header(image, m);
+    store_header(image, m, alloc)
 }
 
 // The frozen pages in list order, then the directory, then the header: one store.
-fn store_next(image: &mut [u8], m: &mut [u8])
-    requires { ⌜ Ready (now image) (now m) ⌝ }
-    ensures { λ _. ⌜ Steps (now (image .entry)) (now (m .entry)) (now (image .exit)) (now (m .exit)) ⌝ }
+fn store_next(image: &mut [u8], m: &mut [u8], alloc: Allocator) -> Allocator
+    requires { ⌜ Ready (now image) (now m) × (alloc ≡ allocatorIn (now m)) ⌝ }
+    ensures { λ r. ⌜ Steps (now (image .entry)) (now (m .entry)) (now (image .exit)) (now (m .exit)) × (r ≡ allocatorIn (now (m .exit))) ⌝ }
 {
     match pages::find_frozen(m) {
-        Found::Here { page, start, at: _ } => store_page(image, m, page, start),
-        Found::Nowhere => store_rest(image, m),
+        Found::Here { page, start, at: _ } => store_page(image, m, page, start, alloc),
+        Found::Nowhere => store_rest(image, m, alloc),
     }
 }
 
@@ -443,9 +460,9 @@ pub fn step(image: &mut [u8], m: &mut [u8]) -> Answer
     if v != 0 {
         return Answer::Refused(v);
     }
-    store_next(image, m);
-    let n = left(m);
-    Answer::Count(n)
+    let alloc = allocator_of(m);
+    let next = store_next(image, m, alloc);
+    Answer::Count(next.left)
 }
 
 // ---- run

@@ -1,12 +1,10 @@
 -- `checkpoint::allocate` meets its contract.
 use mathlib.Core.Path.{ap, _∙_}
-use Prim.Native.Nat.{_+_}
 use native.Mathlib.Omega.{arith}
 use borrow.Author.Needs.{needs}
 use Rattle.memory.specs.declared.Head.{Head}
 use Rattle.memory.specs.Flat.{flatOf}
-use Rattle.checkpoint.specs.Counting.{freeFrom}
-use Rattle.checkpoint.proofs.Tallies.{alloc-up, alloc-round, alloc-none}
+use Rattle.checkpoint.proofs.Tallies.{alloc-up, alloc-round, alloc-none, up-from, round-from}
 use Rattle.checkpoint.proofs.allocate.Statement.{statement}
 use Rattle.checkpoint.proofs.allocate.Tie as tie
 
@@ -16,56 +14,52 @@ get-head-requires c κs = search needs
 cast-n : tie.Need-cast-n
 cast-n c = search needs
 
-cast-t : tie.Need-cast-t
-cast-t c = search needs
-
 add-first-free : tie.Need-add-first-free
 add-first-free c = search needs
 
 first-free-requires : tie.Need-first-free-requires
-first-free-requires c κs = let e = c .before .before .get-head .ensures in
-    let r = c .before .before .before .before .pre .range in
-    let eb = ap (λ (h : Head). h .blocks) e in
-    let et = ap (λ (h : Head). h .taken) e in
-    (omega (arith, r .long), (omega (arith, r .taken), omega (arith, r .many)))
+first-free-requires c κs = let p = c .before .before .before in
+    let r = p .pre .0 .range in
+    let eb = ap (λ (h : Head). h .blocks) (c .before .get-head .ensures) in
+    (omega (arith, r .long), (omega (arith, r .taken, p .pre .1), omega (arith, r .many)))
 
 returns : tie.Need-returns
-returns c = let f = flatOf (c .before .before .before .before .before .before .args .m .now) in
-    let e = c .before .before .before .before .get-head .ensures in
+returns c = let p = c .before .before .before .before .before in
+    let f = flatOf (p .args .m .now) in
+    let e = c .before .before .before .get-head .ensures in
     let eb = ap (λ (h : Head). h .blocks) e in
-    let q = c .before .first-free .ensures .0 ∙ ap (λ (h : Head). freeFrom (f .used) (h .taken + 1) (h .blocks)) e in
-    (q ∙ alloc-up f (c .before .before .before .before .before .before .pre .range .taken) (omega (arith, q, c .if1 .taken)), omega (arith, c .if1 .taken))
+    let q = up-from f e (c .before .first-free .ensures .0) (omega (arith, p .pre .1)) in
+    (q ∙ alloc-up f (p .pre .0 .range .taken) (omega (arith, q, c .if1 .taken)), omega (arith, c .if1 .taken))
 
 add-first-free-2 : tie.Need-add-first-free-2
 add-first-free-2 c = search needs
 
 first-free-requires-2 : tie.Need-first-free-requires-2
-first-free-requires-2 c κs = let e = c .before .before .before .before .get-head .ensures in
-    let r = c .before .before .before .before .before .before .pre .range in
-    let et = ap (λ (h : Head). h .taken) e in
-    (omega (arith, r .long), (omega arith, omega (arith, r .taken, r .many)))
+first-free-requires-2 c κs = let p = c .before .before .before .before .before in
+    let r = p .pre .0 .range in
+    (omega (arith, r .long), (omega arith, omega (arith, r .taken, r .many, p .pre .1)))
 
 returns-2 : tie.Need-returns-2
-returns-2 c = let f = flatOf (c .before .before .before .before .before .before .before .before .args .m .now) in
-    let e = c .before .before .before .before .before .before .get-head .ensures in
+returns-2 c = let p = c .before .before .before .before .before .before .before in
+    let f = flatOf (p .args .m .now) in
+    let e = c .before .before .before .before .before .get-head .ensures in
     let eb = ap (λ (h : Head). h .blocks) e in
-    let et = ap (λ (h : Head). h .taken) e in
-    let q = c .before .before .before .first-free .ensures .0 ∙ ap (λ (h : Head). freeFrom (f .used) (h .taken + 1) (h .blocks)) e in
-    let w = c .before .first-free2 .ensures .0 ∙ ap (λ (h : Head). freeFrom (f .used) 1 (h .taken + 1)) e in
-    (w ∙ alloc-round f (c .before .before .before .before .before .before .before .before .pre .range .taken) (omega (arith, q, c .before .before .if1 .left)) (omega (arith, w, c .if2 .taken)), omega (arith, c .if2 .taken, c .before .before .before .before .before .before .before .before .pre .range .taken))
+    let q = up-from f e (c .before .before .before .first-free .ensures .0) (omega (arith, p .pre .1)) in
+    let w = round-from f (c .before .first-free2 .ensures .0) (omega arith) (omega (arith, p .pre .1)) in
+    (w ∙ alloc-round f (p .pre .0 .range .taken) (omega (arith, q, c .before .before .if1 .left)) (omega (arith, w, c .if2 .taken, p .pre .1)), omega (arith, c .if2 .taken, p .pre .0 .range .taken, p .pre .1))
 
 sub-result : tie.Need-sub-result
-sub-result c = let eb = ap (λ (h : Head). h .blocks) (c .before .before .before .before .before .before .get-head .ensures) in
-    omega (arith, c .before .before .before .before .before .before .before .before .pre .range .few)
+sub-result c = let eb = ap (λ (h : Head). h .blocks) (c .before .before .before .before .before .get-head .ensures) in
+    omega (arith, c .before .before .before .before .before .before .before .pre .0 .range .few)
 
 returns-3 : tie.Need-returns-3
-returns-3 c = let f = flatOf (c .before .before .before .before .before .before .before .before .args .m .now) in
-    let e = c .before .before .before .before .before .before .get-head .ensures in
+returns-3 c = let p = c .before .before .before .before .before .before .before in
+    let f = flatOf (p .args .m .now) in
+    let e = c .before .before .before .before .before .get-head .ensures in
     let eb = ap (λ (h : Head). h .blocks) e in
-    let et = ap (λ (h : Head). h .taken) e in
-    let q = c .before .before .before .first-free .ensures .0 ∙ ap (λ (h : Head). freeFrom (f .used) (h .taken + 1) (h .blocks)) e in
-    let w = c .before .first-free2 .ensures .0 ∙ ap (λ (h : Head). freeFrom (f .used) 1 (h .taken + 1)) e in
-    (omega (arith, alloc-none f (c .before .before .before .before .before .before .before .before .pre .range .taken) (omega (arith, q, c .before .before .if1 .left)) (omega (arith, w, c .if2 .left))), omega (arith, c .before .before .before .before .before .before .before .before .pre .range .few))
+    let q = up-from f e (c .before .before .before .first-free .ensures .0) (omega (arith, p .pre .1)) in
+    let w = round-from f (c .before .first-free2 .ensures .0) (omega arith) (omega (arith, p .pre .1)) in
+    (omega (arith, alloc-none f (p .pre .0 .range .taken) (omega (arith, q, c .before .before .if1 .left)) (omega (arith, w, c .if2 .left, p .pre .1))), omega (arith, p .pre .0 .range .few))
 
 pub allocate-spec : {M : Type 1} → statement M
 allocate-spec =
@@ -73,7 +67,6 @@ allocate-spec =
     (tie.spec
     get-head-requires
     cast-n
-    cast-t
     add-first-free
     first-free-requires
     returns

@@ -12,10 +12,6 @@ use Rattle.checkpoint.proofs.keep_directory.Tie as tie
 take-block-requires : tie.Need-take-block-requires
 take-block-requires c κs = (held-room _ (c .before .before .pre .0 .held), c .before .before .pre .1 .0)
 
-cast-push-directory : tie.Need-cast-push-directory
-cast-push-directory c = let r = held-room _ (c .before .before .before .before .before .before .pre .0 .held) in
-    record { fits = omega (arith, c .before .before .before .before .before .before .pre .1 .0, r .range .many) }
-
 push-directory-requires : tie.Need-push-directory-requires
 push-directory-requires c κs = let b = c .before .before .before .take-block .ensures in
     (b .room, omega (arith, c .before .before .before .before .before .before .pre .1 .1, ap (λ (f : Flat). length (f .directories)) (b .flat)))
@@ -30,4 +26,4 @@ returns c = let r = held-room _ (c .before .before .before .before .before .befo
 pub keep-directory-spec : {M : Type 1} → statement M
 keep-directory-spec =
     tie.close
-    (tie.spec take-block-requires cast-push-directory push-directory-requires same-length returns)
+    (tie.spec take-block-requires push-directory-requires same-length returns)

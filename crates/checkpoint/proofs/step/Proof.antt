@@ -1,10 +1,12 @@
 -- `checkpoint::step` meets its contract.
 use mathlib.Core.List.{List}
 use Prim.Native.Nat.{ℕ}
+use native.Mathlib.Omega.{arith}
 use lib.ListN.{length}
 use borrow.Author.Needs.{needs}
 use Rattle.model.specs.Checkpoint.{stepCall}
-use Rattle.memory.proofs.Meaning.{in-sound}
+use Rattle.memory.proofs.Refusal.{held-room}
+use Rattle.checkpoint.proofs.Allotting.{left-is}
 use Rattle.checkpoint.proofs.Stepping.{stopped, step-5, step-18, passed-runs, passed-long, step-done}
 use Rattle.checkpoint.proofs.step.Statement.{statement}
 use Rattle.checkpoint.proofs.step.Tie as tie
@@ -19,13 +21,16 @@ returns : tie.Need-returns
 returns c = let img : List ℕ = c .before .before .before .before .before .args .image .now in
     stopped (length img) (c .before .before .before .before .before .args .m .now) _ (c .before .step-refusal .ensures) (stepCall (length img)) (step-5 (length img)) (step-18 (length img)) img (c .if1 .taken)
 
-store-next-requires : tie.Need-store-next-requires
-store-next-requires c κs = let len : ℕ = length (c .before .before .before .before .before .before .before .args .image .now) in
-    let m : List ℕ = c .before .before .before .before .before .before .before .args .m .now in
-    record { runs = passed-runs len m _ (c .before .before .before .step-refusal .ensures) (c .before .before .if1 .left); long = passed-long len m _ (c .before .before .before .step-refusal .ensures) (c .before .before .if1 .left) }
+allocator-of-requires : tie.Need-allocator-of-requires
+allocator-of-requires c κs = let p = c .before .before .before .before .before .before .args in
+    held-room _ (passed-runs (length (p .image .now)) (p .m .now) _ (c .before .before .step-refusal .ensures) (c .before .if1 .left) .held)
 
-left-requires : tie.Need-left-requires
-left-requires c κs = in-sound _ _ (c .before .before .before .before .before .store-next .ensures .memory .store) .room
+store-next-requires : tie.Need-store-next-requires
+store-next-requires c κs = let p = c .before .before .before .before .before .before .before .before .before .args in
+    let len : ℕ = length (p .image .now) in
+    let v = c .before .before .before .before .before .step-refusal .ensures in
+    let z = c .before .before .before .before .if1 .left in
+    (record { runs = passed-runs len (p .m .now) _ v z; long = passed-long len (p .m .now) _ v z }, c .before .before .allocator-of .ensures)
 
 same-length-2 : tie.Need-same-length-2
 same-length-2 c = search needs
@@ -34,9 +39,12 @@ same-length-3 : tie.Need-same-length-3
 same-length-3 c = search needs
 
 returns-2 : tie.Need-returns-2
-returns-2 c = let len : ℕ = length (c .before .before .before .before .before .before .before .before .before .before .before .before .before .before .args .image .now) in
-    let m : List ℕ = c .before .before .before .before .before .before .before .before .before .before .before .before .before .before .args .m .now in
-    step-done (c .before .before .before .before .before .before .before .before .before .before .before .before .before .before .args .image .now) m _ _ _ (record { runs = passed-runs len m _ (c .before .before .before .before .before .before .before .before .before .before .step-refusal .ensures) (c .before .before .before .before .before .before .before .before .before .if1 .left); long = passed-long len m _ (c .before .before .before .before .before .before .before .before .before .before .step-refusal .ensures) (c .before .before .before .before .before .before .before .before .before .if1 .left) }) (c .before .before .before .before .before .before .store-next .ensures) (c .left .ensures)
+returns-2 c = let p = c .before .before .before .before .before .before .before .before .before .before .before .before .before .before .args in
+    let len : ℕ = length (p .image .now) in
+    let v = c .before .before .before .before .before .before .before .before .before .before .step-refusal .ensures in
+    let z = c .before .before .before .before .before .before .before .before .before .if1 .left in
+    let d = c .before .before .before .before .store-next .ensures in
+    step-done (p .image .now) (p .m .now) _ _ _ (record { runs = passed-runs len (p .m .now) _ v z; long = passed-long len (p .m .now) _ v z }) (d .0) (omega (arith, left-is _ _ (d .1)))
 
 pub step-spec : {M : Type 1} → statement M
 step-spec =
@@ -45,8 +53,8 @@ step-spec =
     step-refusal-requires
     same-length
     returns
+    allocator-of-requires
     store-next-requires
-    left-requires
     same-length-2
     same-length-3
     returns-2)

@@ -3,6 +3,7 @@ use native.Mathlib.Omega.{arith}
 use lib.ListN.{length-take}
 use borrow.Author.Needs.{needs}
 use Rattle.memory.proofs.Refusal.{held-room}
+use Rattle.checkpoint.proofs.Allotting.{header-hands}
 use Rattle.checkpoint.proofs.Stepping.{front-is, header-does}
 use Rattle.checkpoint.proofs.Tallies.{running-is}
 use Rattle.checkpoint.proofs.store_header.Statement.{statement}
@@ -23,6 +24,9 @@ write-header-requires c κs = (held-room _ (c .before .before .before .before .p
 keep-header-requires : tie.Need-keep-header-requires
 keep-header-requires c κs = search needs
 
+landed-requires : tie.Need-landed-requires
+landed-requires c κs = search needs
+
 same-length : tie.Need-same-length
 same-length c = search needs
 
@@ -30,7 +34,10 @@ same-length-2 : tie.Need-same-length-2
 same-length-2 c = search needs
 
 returns : tie.Need-returns
-returns c = header-does (c .before .before .before .before .before .before .before .before .before .before .before .pre .0 .runs) (c .before .before .before .before .before .before .before .before .before .before .before .pre .1 .0) (c .before .before .before .before .before .before .before .before .before .before .before .pre .1 .1) (c .before .before .before .before .before .before .write-header .ensures) (front-is (c .before .before .before .before .before .before .before .before .before .before .before .args .image .now) _) (c .before .before .keep-header .ensures)
+returns c = let p = c .before .before .before .before .before .before .before .before .before .before .before .before in
+    let r = p .pre .0 .runs in
+    let k = c .before .before .before .keep-header .ensures in
+    (header-does r (p .pre .1 .0) (p .pre .1 .1 .0) (c .before .before .before .before .before .before .before .write-header .ensures) (front-is (p .args .image .now) _) k, header-hands r (p .pre .1 .1 .1) (c .landed .ensures) k)
 
 pub store-header-spec : {M : Type 1} → statement M
 store-header-spec =
@@ -41,6 +48,7 @@ store-header-spec =
     part-write-header-end
     write-header-requires
     keep-header-requires
+    landed-requires
     same-length
     same-length-2
     returns)

@@ -5,19 +5,23 @@ use Rattle.checkpoint.proofs.store_next.Statement.{statement}
 use Rattle.checkpoint.proofs.store_next.Tie as tie
 
 find-frozen-requires : tie.Need-find-frozen-requires
-find-frozen-requires c κs = c .before .before .before .pre .runs .held
+find-frozen-requires c κs = c .before .before .before .pre .0 .runs .held
 
 enum-known-page : tie.Need-enum-known-page
 enum-known-page c = search needs
 
 store-page-requires : tie.Need-store-page-requires
-store-page-requires c κs = (c .before .before .before .before .before .before .before .before .before .pre, frozen-here (c .before .before .before .before .before .before .before .before .before .args .m .now) (c .before .before .before .before .before .find-frozen .result) (c .before .before .before .before .before .find-frozen .ensures) _ _ _ (c .before .before .before .page .given .1))
+store-page-requires c κs = let p = c .before .before .before .before .before .before .before .before .before in
+    let f = c .before .before .before .before .before .find-frozen in
+    (p .pre .0, (frozen-here (p .args .m .now) (f .result) (f .ensures) _ _ _ (c .before .before .before .page .given .1), p .pre .1))
 
 enum-told : tie.Need-enum-told
 enum-told c = search needs
 
 store-rest-requires : tie.Need-store-rest-requires
-store-rest-requires c κs = (c .before .before .before .before .before .before .before .before .pre, frozen-nowhere (c .before .before .before .before .before .before .before .before .args .m .now) (c .before .before .before .before .find-frozen .result) (c .before .before .before .before .find-frozen .ensures) (c .before .before .enum-told .given .1))
+store-rest-requires c κs = let p = c .before .before .before .before .before .before .before .before in
+    let f = c .before .before .before .before .find-frozen in
+    (p .pre .0, (frozen-nowhere (p .args .m .now) (f .result) (f .ensures) (c .before .before .enum-told .given .1), p .pre .1))
 
 same-length : tie.Need-same-length
 same-length c = search needs

@@ -1,4 +1,5 @@
 -- `checkpoint::store_rest` meets its contract.
+use native.Mathlib.Omega.{arith}
 use borrow.Author.Needs.{needs}
 use Rattle.memory.proofs.Refusal.{held-room}
 use Rattle.checkpoint.proofs.store_rest.Statement.{statement}
@@ -8,7 +9,8 @@ directories-left-requires : tie.Need-directories-left-requires
 directories-left-requires c κs = held-room _ (c .before .before .before .pre .0 .runs .held)
 
 store-directory-requires : tie.Need-store-directory-requires
-store-directory-requires c κs = search needs
+store-directory-requires c κs = let p = c .before .before .before .before .before .before .before .pre in
+    (p .0, (p .1 .0, (omega (arith, c .before .before .if1 .taken, c .before .before .before .directories-left .ensures .0), p .1 .1)))
 
 same-length : tie.Need-same-length
 same-length c = search needs
@@ -20,7 +22,8 @@ returns : tie.Need-returns
 returns c = search needs
 
 store-header-requires : tie.Need-store-header-requires
-store-header-requires c κs = search needs
+store-header-requires c κs = let p = c .before .before .before .before .before .before .before .pre in
+    (p .0, (p .1 .0, (omega (arith, c .before .before .if1 .left, c .before .before .before .directories-left .ensures .0), p .1 .1)))
 
 same-length-3 : tie.Need-same-length-3
 same-length-3 c = search needs

@@ -11,9 +11,6 @@ use Rattle.checkpoint.proofs.take_block.Tie as tie
 get-head-requires : tie.Need-get-head-requires
 get-head-requires c κs = search needs
 
-cast-t7 : tie.Need-cast-t7
-cast-t7 c = search needs
-
 put-head-requires : tie.Need-put-head-requires
 put-head-requires c κs = let r = c .before .before .before .before .pre .0 in
     let e = c .before .get-head .ensures in
@@ -31,4 +28,4 @@ returns c = took (c .before .before .before .before .before .before .before .bef
 pub take-block-spec : {M : Type 1} → statement M
 take-block-spec =
     tie.close
-    (tie.spec get-head-requires cast-t7 put-head-requires mark-used-requires same-length returns)
+    (tie.spec get-head-requires put-head-requires mark-used-requires same-length returns)
