@@ -1,10 +1,10 @@
 -- `blocks::append` meets its contract.
 use mathlib.Core.Path.{_≡_}
 use mathlib.Core.List.{List}
-use Prim.Native.Nat.{ℕ, _≤_, _<_}
+use Prim.Native.Nat.{ℕ}
 use native.Mathlib.Omega.{arith}
 use lib.ListN.{length, take, drop}
-use Rattle.blocks.proofs.Stores.{append-tentative, append-committed, size-tentative, size-committed, size-nine, length-part}
+use Rattle.blocks.proofs.Stores.{appended-tentative, appended-committed, size-tentative, size-committed, size-nine, length-part}
 use Rattle.blocks.proofs.append.Statement.{statement}
 use Rattle.blocks.proofs.append.Tie as tie
 
@@ -58,7 +58,7 @@ returns c = let s = c .before .before .before .before .before .before .before .b
     let number = c .before .before .before .before .before .before .before .before .put42 .ensures in
     let flags = c .before .before .before .before .before .before .put1 .ensures in
     let owner = c .before .before .put43 .ensures in
-    (omega arith, rw (c .copy .ensures, owner, flags, number, key) (append-tentative (s .args .block .now) P (s .args .at) r h (omega arith)))
+    (omega arith, appended-tentative (s .args .block .now) P (s .args .at) r key number flags owner (c .copy .ensures) h (omega arith))
 
 add-copy-2 : tie.Need-add-copy-2
 add-copy-2 c = omega (arith, c .before .before .before .before .before .before .before .before .before .before .pre .0)
@@ -86,7 +86,7 @@ returns-2 c = let s = c .before .before .before .before .before .before .before 
     let key = c .before .before .before .before .before .before .before .before .put4 .ensures in
     let number = c .before .before .before .before .before .before .put42 .ensures in
     let flags = c .before .before .before .before .put1 .ensures in
-    (omega arith, rw (c .copy2 .ensures, flags, number, key) (append-committed (s .args .block .now) P (s .args .at) r h (omega arith)))
+    (omega arith, appended-committed (s .args .block .now) P (s .args .at) r key number flags (c .copy2 .ensures) h (omega arith))
 
 pub append-spec : {M : Type 1} → statement M
 append-spec =

@@ -5,7 +5,7 @@ use native.Mathlib.Omega.{arith}
 use lib.ListN.{length, take, getD}
 use Rattle.bits.specs.Bits.{bitsIn}
 use Rattle.blocks.specs.Spell.{filled}
-use Rattle.blocks.proofs.Entries.{dirBits, head-put, entry-put, dir-done}
+use Rattle.blocks.proofs.Entries.{dirBits, head-filled, entry-filled, dir-done}
 use Rattle.blocks.proofs.spell_directory.Statement.{statement}
 use Rattle.blocks.proofs.spell_directory.Tie as tie
 
@@ -30,11 +30,12 @@ put-bits-requires-4 c κs = omega arith
 loop-holds : tie.Need-loop-holds Inv-loop μ-loop
 loop-holds c =
     let p4 = c .before .before in let p3 = p4 .before .before .before .before in let p2 = p3 .before .before .before .before in let p1 = p2 .before .before .before .before in let s = p1 .before .before .before .before in
-    let head = head-put (s .args .level) (s .args .count) (bitsIn (s .args .block .now)) (ap bitsIn (s .pre .1 .1 .1)) in (
+    let head = head-filled (s .args .level) (s .args .count) (ap bitsIn (s .pre .1 .1 .1)) (p1 .put-bits .ensures) (p2 .put-bits2 .ensures) (p3 .put-bits3 .ensures)
+    (p4 .put-bits4 .ensures) in (
       omega arith,
       (
         omega (arith, p4 .put-bits4 .kept, p3 .put-bits3 .kept, p2 .put-bits2 .kept, p1 .put-bits .kept, s .pre .1 .1 .0),
-        (λ j. omega (arith, c .slice-known5 .given j), rw (p4 .put-bits4 .ensures, p3 .put-bits3 .ensures, p2 .put-bits2 .ensures, p1 .put-bits .ensures) head),
+        (λ j. omega (arith, c .slice-known5 .given j), head),
       ),
     )
 
@@ -72,9 +73,9 @@ loop-again : tie.Need-loop-again Inv-loop μ-loop
 loop-again c = let s = c .before .before .before .before .before .before .before .before .before .before .before .before .before .before .before .before .before .before .before .before .before .before .before .before .before .before in
     let p = c .before .before .before .before .before .before .before .loop in
     let t = c .before .before .before .before .before .before .loop-test in
-    let more = entry-put (s .args .level) (s .args .count) (s .args .entries .now) (p .i) (omega (arith, s .pre .1 .0, t)) (omega (arith, s .pre .0, t)) in
-    let put = c .before .before .put-bits5 .ensures in
-    (omega (arith, t .taken), (omega (arith, c .before .before .put-bits5 .kept, p .inv .1 .0), (λ j. omega (arith, c .slice-known6 .given j), rw (put, c .before .before .before .big .ensures, p .inv .1 .1 .1) more)))
+    let more = entry-filled (s .args .level) (s .args .count) (s .args .entries .now) (p .i) (omega (arith, s .pre .1 .0, t)) (omega (arith, s .pre .0, t)) (p .inv .1 .1 .1)
+    (c .before .before .before .big .ensures) (c .before .before .put-bits5 .ensures) in
+    (omega (arith, t .taken), (omega (arith, c .before .before .put-bits5 .kept, p .inv .1 .0), (λ j. omega (arith, c .slice-known6 .given j), more)))
 
 same-length : tie.Need-same-length Inv-loop μ-loop
 same-length c = let s = c .before .before .before .before .before .before .before .before .before .before .before .before .before .before .before .before .before .before .before .before in

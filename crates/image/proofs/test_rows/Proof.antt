@@ -70,7 +70,7 @@ add-rows-requires c κs =
     let p5 = c .before .before .before .before .before in let p10 = p5 .before .before .before .before .before in
     let p14 = p10 .before .before .before .before in let p22 = p14 .before .before .before .before .before .before .before .before in
     let g = found p5 in let k = p22 .pre .1 in let p = p14 .loop in let l = p .inv .1 in let r = p .inv .0 .room in let m = g .room-left in
-    (omega (arith, p10), (omega (arith, k, l, r, m), (omega (arith, k, l, r, m), (omega (arith, k, l, r, m), omega (arith, k, l, r, m)))))
+    (omega (arith, p10 .block-at), (omega (arith, k, l, r, m), (omega (arith, k, l, r, m), (omega (arith, k, l, r, m), omega (arith, k, l, r, m)))))
 
 wide-requires-3 : tie.Need-wide-requires-3 Inv-loop μ-loop
 wide-requires-3 c κs = omega arith

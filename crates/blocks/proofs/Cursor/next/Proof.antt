@@ -7,7 +7,7 @@ use native.Mathlib.Omega.{arith}
 use lib.Dec.{ltb}
 use Rattle.basics.specs.Basics.{if_then_else_}
 use Rattle.blocks.specs.Numbers.{num4}
-use Rattle.blocks.proofs.Cursors.{ownerPart, owner-tentative, owner-committed, flagsAt, part-small, part-tentative, none-far, none-long, none-short, found-whole}
+use Rattle.blocks.proofs.Cursors.{ownerPart, owner-tentative, owner-committed, flagsAt, part-small, part-tentative, none-far, none-long, none-short, found-as}
 use borrow.Author.Needs.{needs}
 use Rattle.blocks.proofs.Cursor.next.Statement.{statement}
 use Rattle.blocks.proofs.Cursor.next.Tie as tie
@@ -75,9 +75,8 @@ returns-4 c = let s = c .before .before .before .before .before .before .before 
     let z = c .before .before .before .before .record-size in
     let o : c .before .before .if4 .owner ≡ (if ltb f 128 then w else 0) =
     ⊎-elim (λ h. h .2 ∙ h .1 .ensures ∙ owner-tentative f w (h .0 .taken)) (λ h. h .1 ∙ owner-committed f w (h .0 .left)) (c .before .before .if4 .came) in
-    let found = found-whole xs at (s .pre) (omega (arith, c .before .before .before .before .before .before .before .if1 .left)) (omega (arith, c .before .before .before .before .before .if2 .left)) (z .result) (z .ensures)
-    (c .before .before .if4 .owner) o (omega (arith, c .before .before .before .if3 .left)) in
-    rw (c .get43 .ensures, c .before .get42 .ensures) (sym found)
+    found-as xs at (s .pre) (omega (arith, c .before .before .before .before .before .before .before .if1 .left)) (omega (arith, c .before .before .before .before .before .if2 .left)) (z .result) (z .ensures) (c .before .get42 .ensures)
+    (c .get43 .ensures) o (omega (arith, c .before .before .before .if3 .left))
 
 pub next-spec : {M : Type 1} → statement M
 next-spec =
