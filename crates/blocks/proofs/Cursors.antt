@@ -1,5 +1,5 @@
 -- What the cursor finds at a place of a block.
-use mathlib.Core.Path.{_≡_}
+use mathlib.Core.Path.{_≡_, sym}
 use mathlib.Core.Bool.{true, false}
 use mathlib.Core.List.{List}
 use Prim.Native.Nat.{ℕ, _+_, _-_, _%_, _≤_, _<_}
@@ -69,9 +69,14 @@ module _ (xs : List ℕ) (at : ℕ) (l : length xs ≡ 512) where
       unfolding nextAt if_then_else_
       none-short h = rw (fits, lt-leb e (512 - at) (omega arith))
 
-      pub found-whole : (o : ℕ) → o ≡ (if ltb (flagsAt xs at) 128 then num4 xs (at + 9) else 0) → at + e ≤ 512
+      found-whole : (o : ℕ) → o ≡ (if ltb (flagsAt xs at) 128 then num4 xs (at + 9) else 0) → at + e ≤ 512
           → nextAt xs at ≡ Found
           (record { key = num4 xs at; number = num4 xs (at + 4); flags = flagsAt xs at; owner = o; start = at + e - flagsAt xs at % 64; len = flagsAt xs at % 64 })
           (record { at = at + e })
       unfolding nextAt recordAt if_then_else_
       found-whole o eo h = rw (fits, le-leb e (512 - at) (omega arith), ← eo, start-at (flagsAt xs at) at, taken-at xs at, t)
+
+      pub found-as : {k n o : ℕ} → k ≡ num4 xs at → n ≡ num4 xs (at + 4) → o ≡ (if ltb (flagsAt xs at) 128 then num4 xs (at + 9) else 0) → at + e ≤ 512
+          → Found (record { key = k; number = n; flags = flagsAt xs at; owner = o; start = at + e - flagsAt xs at % 64; len = flagsAt xs at % 64 }) (record { at = at + e })
+          ≡ nextAt xs at
+      found-as {k} {n} {o} key number owner h = rw (key, number) (sym (found-whole o owner h))

@@ -56,16 +56,20 @@ length-dir l n es =
     rw (length-append (spell (headFields l n)) (spell (entryFields es)), length-entries es, length-spell (headFields l n))
 
 -- the head, field by field
-pub head-put : (l n : ℕ) (b : List ℕ) → b ≡ bitsIn (zeros 512) → over (over (over (over b 0 (bitsOf 4 3)) 4 (bitsOf 9 n)) 13 (bitsOf 32 l)) 45 (bitsOf 19 0) ≡ filled (dirBits l n [])
+head-put : (l n : ℕ) (b : List ℕ) → b ≡ bitsIn (zeros 512) → over (over (over (over b 0 (bitsOf 4 3)) 4 (bitsOf 9 n)) 13 (bitsOf 32 l)) 45 (bitsOf 19 0) ≡ filled (dirBits l n [])
 unfolding dirBits entryFields spell
 head-put l n b e = rw (e, empty-block) (put-fields (headFields l n) [] 0 refl (omega arith) ∙ ap filled (sym (append-nil (spell (headFields l n)))))
+
+pub head-filled : (l n : ℕ) {b b₁ b₂ b₃ b₄ : List ℕ} → b ≡ bitsIn (zeros 512) → b₁ ≡ over b 0 (bitsOf 4 3) → b₂ ≡ over b₁ 4 (bitsOf 9 n) → b₃ ≡ over b₂ 13 (bitsOf 32 l)
+    → b₄ ≡ over b₃ 45 (bitsOf 19 0) → b₄ ≡ filled (dirBits l n [])
+head-filled l n {b} e kind count level rest = rest ∙ rw (level, count, kind) (head-put l n b e)
 
 dir-snoc : (l n : ℕ) (es : List ℕ) (e : ℕ) → dirBits l n es ++ bitsOf 12 e ≡ dirBits l n (es ++ (e ∷ []))
 unfolding dirBits
 dir-snoc l n es e = rw (spell-entries-snoc es e) (append-assoc (spell (headFields l n)) (spell (entryFields es)) (bitsOf 12 e))
 
 -- an entry more
-pub entry-put : (l n : ℕ) (es : List ℕ) (i : ℕ) → i < length es → i < 336
+entry-put : (l n : ℕ) (es : List ℕ) (i : ℕ) → i < length es → i < 336
     → over (filled (dirBits l n (take i es))) (64 + 12 * i) (bitsOf 12 (getD es i 0)) ≡ filled (dirBits l n (take (i + 1) es))
 entry-put l n es i h k =
     let t : length (take i es) ≡ i = simp length-take (omega arith) in
@@ -74,6 +78,10 @@ entry-put l n es i h k =
     let p : over (filled (dirBits l n (take i es))) (length (dirBits l n (take i es))) (bitsOf 12 (getD es i 0)) ≡ filled (dirBits l n (take i es) ++ bitsOf 12 (getD es i 0)) =
     put-next (dirBits l n (take i es)) (bitsOf 12 (getD es i 0)) (omega arith) in
     rw (← d, p, add-one i, take-suc es i 0 h) (ap filled (dir-snoc l n (take i es) (getD es i 0)))
+
+pub entry-filled : (l n : ℕ) (es : List ℕ) (i : ℕ) {b b₁ : List ℕ} {v : ℕ} → i < length es → i < 336 → b ≡ filled (dirBits l n (take i es)) → v ≡ getD es i 0
+    → b₁ ≡ over b (64 + 12 * i) (bitsOf 12 v) → b₁ ≡ filled (dirBits l n (take (i + 1) es))
+entry-filled l n es i h k front entry put = put ∙ rw (front, entry) (entry-put l n es i h k)
 
 pub dir-done : (l n : ℕ) (es s : List ℕ) → n ≤ length es → length s ≡ 512 → ((i : ℕ) → getD s i 0 < 256)
     → bitsIn s ≡ filled (dirBits l n (take n es)) → s ≡ encodeBlock (directory l (take n es))

@@ -62,7 +62,7 @@ module _ (m p : List ℕ) (at : ℕ) (r : Record) where
   abbrev front : List ℕ
   front = over (over (over m at (be4 (r .key))) (at + 4) (be4 (r .number))) (at + 8) (r .flags ∷ [])
 
-  pub append-tentative : r .flags < 128 → at + (13 + length p) ≤ length m → over (over front (at + 9) (be4 (r .owner))) (at + 13) p ≡ over m at (bytesOfRecord r p)
+  append-tentative : r .flags < 128 → at + (13 + length p) ≤ length m → over (over front (at + 9) (be4 (r .owner))) (at + 13) p ≡ over m at (bytesOfRecord r p)
   unfolding bytesOfRecord be4 if_then_else_
   append-tentative o h =
       let k = be4 (r .key) in
@@ -76,13 +76,22 @@ module _ (m p : List ℕ) (at : ℕ) (r : Record) where
         lt-ltb (r .flags) 128 o,
       )
 
-  pub append-committed : 128 ≤ r .flags → at + (9 + length p) ≤ length m → over front (at + 9) p ≡ over m at (bytesOfRecord r p)
+  append-committed : 128 ≤ r .flags → at + (9 + length p) ≤ length m → over front (at + 9) p ≡ over m at (bytesOfRecord r p)
   unfolding bytesOfRecord be4 if_then_else_
   append-committed o h =
       let k = be4 (r .key) in
       let n = be4 (r .number) in
       let f : List ℕ = r .flags ∷ [] in
       rw (over-then m k n at 4 refl (omega arith), over-then m (k ++ n) f at 8 refl (omega arith), over-then m (k ++ n ++ f) p at 9 refl (omega arith), le-ltb (r .flags) 128 o)
+
+  -- the stores one after the other
+  module _ {m₁ m₂ m₃ : List ℕ} (key : m₁ ≡ over m at (be4 (r .key))) (number : m₂ ≡ over m₁ (at + 4) (be4 (r .number))) (flags : m₃ ≡ over m₂ (at + 8) (r .flags ∷ [])) where
+    pub appended-tentative : {m₄ m₅ : List ℕ} → m₄ ≡ over m₃ (at + 9) (be4 (r .owner)) → m₅ ≡ over m₄ (at + 13) p → r .flags < 128 → at + (13 + length p) ≤ length m
+        → m₅ ≡ over m at (bytesOfRecord r p)
+    appended-tentative owner last o h = last ∙ rw (owner, flags, number, key) (append-tentative o h)
+
+    pub appended-committed : {m₄ : List ℕ} → m₄ ≡ over m₃ (at + 9) p → 128 ≤ r .flags → at + (9 + length p) ≤ length m → m₄ ≡ over m at (bytesOfRecord r p)
+    appended-committed last o h = last ∙ rw (flags, number, key) (append-committed o h)
 
 module _ (r : Record) where
   pub size-tentative : r .flags < 128 → sizeOf r ≡ 13 + r .len

@@ -10,6 +10,7 @@ use lib.Dec.{ltb, leb}
 use borrow.Author.Tests.{le-leb, lt-leb, leb-true, leb-false, ltb-true}
 use Rattle.basics.specs.Basics.{if_then_else_, all, every}
 use Rattle.basics.proofs.Facts.{by, by-option, never, and-true}
+use Rattle.basics.proofs.Lists.{map-append}
 use Rattle.blocks.specs.Tuple.{Tuple}
 use Rattle.blocks.specs.Block.{Block, malformed, header, page, directory}
 use Rattle.blocks.specs.Decode.{readTuples, decodeBlock}
@@ -24,7 +25,6 @@ use Rattle.image.specs.Stages.{refuses, holds, blockOk, StoredPage, page
 use Rattle.image.specs.Answers.{goodPage, accepts}
 use Rattle.image.specs.declared.GoodPage.{GoodPage}
 use Rattle.image.specs.declared.GoodPage.the-variants.{Good, Bad}
-use Rattle.image.proofs.Walk.{map-append}
 use Rattle.image.proofs.Decoded.{page-tuples}
 
 -- ---- lists
@@ -34,7 +34,7 @@ unfolding all
 all-append f [] ys = refl
 all-append f (x ∷ xs) ys = rw (all-append f xs ys, and-assoc)
 
-all-at : (f : ℕ → Bool) (s : List ℕ) (i : ℕ) → all f s ≡ true → i < length s → f (getD s i 0) ≡ true
+pub all-at : (f : ℕ → Bool) (s : List ℕ) (i : ℕ) → all f s ≡ true → i < length s → f (getD s i 0) ≡ true
 unfolding all
 all-at f [] i e h = absurd (omega arith)
 all-at f (x ∷ s) zero e h = and-true (f x) (all f s) e .0
@@ -102,7 +102,7 @@ page-added : (l room t n e : ℕ) (b : Block) (g : Goods l room t n b) (o : Opti
 unfolding addPage if_then_else_
 page-added l room t n e b g o = rw (g .block, g .right)
 
-length-rows : (t : ℕ) (ts : List Tuple) → length (rowsOf t ts) ≡ length ts
+pub length-rows : (t : ℕ) (ts : List Tuple) → length (rowsOf t ts) ≡ length ts
 unfolding rowsOf
 length-rows t [] = refl
 length-rows t (x ∷ ts) = ap suc (length-rows t ts)

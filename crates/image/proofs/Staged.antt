@@ -137,7 +137,7 @@ joined l p (header h) more es e = never e
 joined l p (page t k ts) more es e = never e
 joined l p (directory k fs) more es e = joined-directory l p k fs more es e
 
-entries-count : (v : View) (l : ℕ) (ds : List ℕ) (p : ℕ) (es : List ℕ) → p ≤ 336 * length ds → readDirectories v l p ds ≡ some es → length es ≡ p
+pub entries-count : (v : View) (l : ℕ) (ds : List ℕ) (p : ℕ) (es : List ℕ) → p ≤ 336 * length ds → readDirectories v l p ds ≡ some es → length es ≡ p
 unfolding readDirectories
 entries-count v l [] p es h e = let z : es ≡ [] = cc in ap length z ∙ omega arith
 entries-count v l (d ∷ ds) p es h e =
@@ -324,7 +324,7 @@ module _ (v : View) (h : Header) (n : ℕ) where
   below-number (refuses m) f e = let z : m ≡ n = cc in f (ap refuses z)
   below-number (holds es) f e = pages-number (readPages v (h .level) es) e
 
-  stage-number : pagesStage v h ≡ refuses n → 0 < n
+  pub stage-number : pagesStage v h ≡ refuses n → 0 < n
   unfolding pagesStage directoryTest
   stage-number e = below-number (directoryTest v h) (entries-number (readDirectories v (h .level) (h .pages) (directoryBlocks h))) e
 
@@ -334,12 +334,12 @@ unfolding headerAnswer
 stage-passed (refuses n) h e = let c : _≡_ {A = ℕ} 0 1 = cc in clash c
 stage-passed (holds g) h e = let z : h ≡ g = cc in ap holds (sym z)
 
-stage-refused : (s : Stage Header) (n : ℕ) → Refused n ≡ headerAnswer s → s ≡ refuses n
+pub stage-refused : (s : Stage Header) (n : ℕ) → Refused n ≡ headerAnswer s → s ≡ refuses n
 unfolding headerAnswer
 stage-refused (refuses m) n e = let z : n ≡ m = cc in ap refuses (sym z)
 stage-refused (holds g) n e = let c : _≡_ {A = ℕ} 0 1 = cc in clash c
 
-pages-refusal : (s : Stage (List StoredPage)) (t : PagesTest) → t ≡ pagesAnswer s → (t .refusal ≡ 0 → ⊥) → s ≡ refuses (t .refusal)
+pub pages-refusal : (s : Stage (List StoredPage)) (t : PagesTest) → t ≡ pagesAnswer s → (t .refusal ≡ 0 → ⊥) → s ≡ refuses (t .refusal)
 unfolding pagesAnswer
 pages-refusal (refuses m) t e d = ap refuses (sym (ap (λ (x : PagesTest). x .refusal) e))
 pages-refusal (holds ps) t e d = absurd (d (ap (λ (x : PagesTest). x .refusal) e))

@@ -2,12 +2,13 @@
 use mathlib.Core.Path.{_≡_, refl, sym, ap, _∙_}
 use mathlib.Core.Bool.{true}
 use mathlib.Core.Option.{some}
-use Prim.Native.Nat.{ℕ, zero, suc, _+_, _-_, _<_}
+use Prim.Native.Nat.{ℕ, _+_, _-_, _<_}
 use native.Mathlib.Omega.{arith}
 use native.Mathlib.Numerals.{add-one}
 use mathlib.Core.List.{List, [], _∷_, _++_, map, append-assoc}
 use lib.ListN.{length, take, drop, set, length-map, length-append, length-drop}
 use lib.Seq.{length-take-le, set-split, take-at, drop-at, drop-set-lt}
+use Rattle.basics.proofs.Lists.{map-append, map-take, map-drop}
 use Rattle.model.specs.State.{Held, Page}
 use Rattle.model.specs.Transactions.{changed}
 use Rattle.memory.specs.Flat.{Flat, Becomes, insertAt, removeAt}
@@ -17,20 +18,6 @@ use Rattle.memory.specs.declared.Entry.{Entry}
 use Rattle.memory.proofs.Nest.{Counted, total-append, total-split, counted-append, counted-take, counted-drop, total-fills, nest-replace}
 use Rattle.memory.proofs.Runs.{rows-total, all-counted, start-le}
 use Rattle.memory.proofs.Meaning.{in-next}
-
-map-append : {A B : Type 0} (g : A → B) (xs ys : List A) → map g (xs ++ ys) ≡ map g xs ++ map g ys
-map-append g [] ys = refl
-map-append g (x ∷ xs) ys = ap (λ (z : List _). g x ∷ z) (map-append g xs ys)
-
-map-take : {A B : Type 0} (g : A → B) (n : ℕ) (xs : List A) → map g (take n xs) ≡ take n (map g xs)
-map-take g zero xs = refl
-map-take g (suc n) [] = refl
-map-take g (suc n) (x ∷ xs) = ap (λ (z : List _). g x ∷ z) (map-take g n xs)
-
-map-drop : {A B : Type 0} (g : A → B) (n : ℕ) (xs : List A) → map g (drop n xs) ≡ drop n (map g xs)
-map-drop g zero xs = refl
-map-drop g (suc n) [] = refl
-map-drop g (suc n) (x ∷ xs) = map-drop g n xs
 
 module _ (f : Flat) (full : filled f ≡ true) (p r c : ℕ) (ms : List Entry) (ws : List Row) (ends : startOf f p + c ≡ startOf f (p + r)) (counts : total ms ≡ length ws) where
   -- the pages that the new entries make of the new rows stand for the r old ones

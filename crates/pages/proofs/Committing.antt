@@ -10,6 +10,7 @@ use lib.Seq.{set-getD, take-all}
 use lib.Dec.{eqb}
 use borrow.Author.Tests.{eq-eqb, ne-eqb}
 use Rattle.basics.specs.Basics.{if_then_else_}
+use Rattle.basics.proofs.Lists.{map-append}
 use Rattle.model.specs.State.{committing, Held, Page}
 use Rattle.model.specs.Rules.{isAdding, isRemoving, edit, kept, keptLater, asCommitted, withPending, withTuples, fresh, commitOn, commit, isDirty, freeze}
 use Rattle.memory.specs.Flat.{flatOf, rowIn, noRow}
@@ -22,7 +23,7 @@ use Rattle.pages.specs.Changes.{There, RowOn}
 use Rattle.pages.specs.Finding.{editAt, committedAt, FoundRow}
 use Rattle.pages.proofs.Places.{turns-to, turns-stay, turns-then, turns-pages, turns-held, swap-same, from-page, before-long, at-here, page-here, swap-at}
 use Rattle.pages.proofs.Searching.{table-is}
-use Rattle.pages.proofs.Swaps.{fresh-page, map-append}
+use Rattle.pages.proofs.Swaps.{fresh-page}
 use Rattle.pages.proofs.Splitting.{is-frozen, not-frozen}
 use Rattle.pages.specs.Thawing.{withFlags}
 use Rattle.pages.proofs.Flags.{held-committed, held-pending}

@@ -9,6 +9,7 @@ use lib.Seq.{length-take-le}
 use borrow.Author.Tests.{leb-false}
 use Rattle.basics.specs.Basics.{sum}
 use Rattle.basics.proofs.Facts.{AllOf, by}
+use Rattle.basics.proofs.Lists.{map-append}
 use Rattle.model.specs.State.{Held, Page}
 use Rattle.model.specs.Rules.{heldSize, fits, half, splitDeep, splitAll, fresh}
 use Rattle.model.proofs.Splits.{Small, half-between}
@@ -17,7 +18,6 @@ use Rattle.memory.proofs.Refusal.{held-room}
 use Rattle.pages.specs.Turns.{Turns, pagesOf, pageAt, tuplesAt, entryAt, At, swapped}
 use Rattle.pages.specs.Changes.{Dirty, Halved}
 use Rattle.pages.proofs.Places.{turns-to, turns-then, turns-pages, swap-first, swap-second, at-first, page-first, at-second, page-second, tuples-many, page-end, pos-of}
-use Rattle.pages.proofs.Swaps.{map-append}
 use Rattle.pages.proofs.Sizes.{all-small}
 use Rattle.pages.proofs.Splitting.{once-whole, once-parts, run-tuples, dirty-fresh}
 

@@ -11,6 +11,7 @@ use lib.Dec.{eqb}
 use borrow.Author.Tests.{eq-eqb, ne-eqb, eqb-true, eqb-false}
 use Rattle.basics.specs.Basics.{if_then_else_, any, sum}
 use Rattle.basics.proofs.Facts.{by}
+use Rattle.basics.proofs.Lists.{map-append}
 use Rattle.model.specs.State.{Held, Page}
 use Rattle.model.specs.Rules.{isPending, isRemoving, isCommitting, ripe, ripened, calm, asCommitted, fresh}
 use Rattle.memory.specs.Views.{tab}
@@ -23,7 +24,7 @@ use Rattle.memory.proofs.Meaning.{becomes-then}
 use Rattle.memory.proofs.Exchange.{set-exchange}
 use Rattle.pages.specs.Turns.{pageAt, tuplesAt, entryAt, At}
 use Rattle.pages.specs.Thawing.{withFlags, ripeFlags, ripeOne, ripeRows, ripeTuples, ripeRun, RipensOne, Ripens, TakesHold}
-use Rattle.pages.proofs.Swaps.{map-append, turned-one, run-held, run-long, nest-one, fresh-page}
+use Rattle.pages.proofs.Swaps.{turned-one, run-held, run-long, nest-one, fresh-page}
 use Rattle.pages.proofs.Flags.{held-done, held-kept}
 use Rattle.pages.proofs.Edits.{pending-is, removing-is, not-removing}
 

@@ -8,6 +8,7 @@ use mathlib.Core.List.{List, [], _∷_, _++_, map}
 use lib.ListN.{length, take, drop, set, length-map, length-append, length-drop, length-set, take-append-drop}
 use lib.Seq.{length-take-le, take-all, drop-drop, take-add}
 use Rattle.basics.specs.Basics.{sum}
+use Rattle.basics.proofs.Lists.{map-append, map-take, map-drop}
 use Rattle.model.specs.State.{Held, Page}
 use Rattle.model.specs.Rules.{fresh}
 use Rattle.memory.specs.Flat.{Flat, flatOf, entryIn, Becomes, withRows, withEntries, insertAt, removeAt}
@@ -24,20 +25,6 @@ use Rattle.pages.specs.Turns.{withPages, Turns, pagesOf, pageAt, At, swa
 use Rattle.pages.proofs.Places.{ends-at, page-end, has-row}
 
 -- ---- maps
-
-pub map-append : {A B : Type 0} (g : A → B) (xs ys : List A) → map g (xs ++ ys) ≡ map g xs ++ map g ys
-map-append g [] ys = refl
-map-append g (x ∷ xs) ys = ap (λ (z : List _). g x ∷ z) (map-append g xs ys)
-
-pub map-take : {A B : Type 0} (g : A → B) (n : ℕ) (xs : List A) → map g (take n xs) ≡ take n (map g xs)
-map-take g zero xs = refl
-map-take g (suc n) [] = refl
-map-take g (suc n) (x ∷ xs) = ap (λ (z : List _). g x ∷ z) (map-take g n xs)
-
-pub map-drop : {A B : Type 0} (g : A → B) (n : ℕ) (xs : List A) → map g (drop n xs) ≡ drop n (map g xs)
-map-drop g zero xs = refl
-map-drop g (suc n) [] = refl
-map-drop g (suc n) (x ∷ xs) = map-drop g n xs
 
 pub map-set : {A B : Type 0} (g : A → B) (xs : List A) (i : ℕ) (x : A) → map g (set xs i x) ≡ set (map g xs) i (g x)
 map-set g [] i x = refl

@@ -7,11 +7,11 @@ use native.Mathlib.Omega.{arith}
 use lib.ListN.{length, take, drop, length-append, length-map}
 use lib.Seq.{take-length, drop-length, take-all, length-take-le}
 use Rattle.basics.proofs.Facts.{lie}
+use Rattle.basics.proofs.Lists.{map-append}
 use Rattle.blocks.specs.Tuple.{Tuple}
 use Rattle.blocks.specs.Block.{Block, malformed, header, page, directory}
 use Rattle.blocks.specs.Decode.{decodeBlock}
 use Rattle.blocks.proofs.Walk.{Walk, walk-start}
-use Rattle.image.proofs.Walk.{map-append}
 use Rattle.model.specs.State.{Held}
 use Rattle.model.specs.Rules.{calm}
 use Rattle.memory.specs.Flat.{Flat, flatOf, Room, Becomes, withRows, insertAt}

@@ -8,16 +8,15 @@ use lib.ListN.{length, take}
 use lib.Seq.{take-at}
 use borrow.Author.Tests.{lt-ltb, le-ltb}
 use Rattle.basics.specs.Basics.{if_then_else_}
-use Rattle.basics.proofs.Facts.{by, by-option}
 use Rattle.bits.specs.Bits.{over}
 use Rattle.blocks.specs.declared.Header.{Header}
-use Rattle.rows.specs.Rows.{rowsOk}
 use Rattle.image.specs.View.{View, view}
-use Rattle.image.specs.Stages.{Stage, refuses, holds, directoryBlocks, readDirectories, entriesOk, testedEntries, directoryTest, StoredPage, readPages, rowsOfPages, testedPages, pageTest}
-use Rattle.image.specs.Whole.{headerStage, pagesBelow, pagesStage}
-use Rattle.image.specs.Answers.{headerAnswer, entriesIn, pagesAnswer}
+use Rattle.image.specs.Stages.{Stage, refuses, holds, StoredPage}
+use Rattle.image.specs.Whole.{headerStage, pagesStage}
+use Rattle.image.specs.Answers.{entriesIn, pagesAnswer}
 use Rattle.image.specs.declared.HeaderTest.the-variants as header
 use Rattle.image.specs.declared.PagesTest.{PagesTest}
+use Rattle.image.proofs.Staged.{stage-number}
 use Rattle.model.specs.Recover.{memoryFor, recoveredStore, recoverPages, recoverBelow, recover}
 use Rattle.memory.specs.Store.{storeIn}
 use Rattle.recovery.specs.Loading.{pagesAt, blocksIn}
@@ -25,37 +24,7 @@ use Rattle.recovery.proofs.Tested.{sure, pages-there}
 use Rattle.answers.specs.Shape.{RecoveredBy, Recovered}
 use Rattle.answers.specs.declared.Answer.the-variants.{Done, Refused}
 
-other {ℓ} : {X : Type ℓ} → _≡_ {A = ℕ} 0 1 → X
-other z = absurd (omega arith)
-
 -- ---- what the tests answered
-
-pub header-refused : (s : Stage Header) (n : ℕ) → header.Refused n ≡ headerAnswer s → s ≡ refuses n
-unfolding headerAnswer
-header-refused (refuses k) n e = let z : n ≡ k = cc in ap refuses (sym z)
-header-refused (holds g) n e = other cc
-
-pub pages-refused : (s : Stage (List StoredPage)) (t : PagesTest) → t ≡ pagesAnswer s → (t .refusal ≡ 0 → ⊥) → s ≡ refuses (t .refusal)
-unfolding pagesAnswer
-pages-refused (refuses k) t e d = ap refuses (sym (ap (λ (x : PagesTest). x .refusal) e))
-pages-refused (holds ps) t e d = absurd (d (ap (λ (x : PagesTest). x .refusal) e))
-
-unlike : (n : ℕ) → _≡_ {A = Stage (List StoredPage)} (refuses n) (refuses 0) → 0 < n → ⊥
-unlike n e h = let z : n ≡ 0 = cc in omega arith
-
--- no stage refuses with the number 0
-numbered : (v : View) (h : Header) → pagesStage v h ≡ refuses 0 → ⊥
-unfolding pagesStage pagesBelow directoryTest testedEntries pageTest testedPages if_then_else_
-numbered v h e =
-    by-option (readDirectories v (h .level) (h .pages) (directoryBlocks h))
-    (λ b. unlike 23 (rw b at e) (omega arith))
-    (λ es b. by (entriesOk (h .blocks) (directoryBlocks h) es)
-    (λ c. by-option (readPages v (h .level) es)
-    (λ d. unlike 24 (rw (b, c, d) at e) (omega arith))
-    (λ qs d. by (rowsOk (h .capacity) (h .next) (rowsOfPages qs))
-    (λ r. let k : holds qs ≡ refuses 0 = rw (b, c, d, r) at e in other cc)
-    (λ r. unlike 24 (rw (b, c, d, r) at e) (omega arith))))
-    (λ c. unlike 23 (rw (b, c) at e) (omega arith)))
 
 -- the pages that were accepted, and their entries
 pub record Accepted (s : Stage (List StoredPage)) (t : PagesTest) : Type 0 where
@@ -70,7 +39,7 @@ accepted-by (refuses k) t e z n =
 accepted-by (holds ps) t e z n = record { pages = ps; is = refl; entries = ap (λ (x : PagesTest). x .entries) e }
 
 pub accepted : (v : View) (h : Header) (t : PagesTest) → t ≡ pagesAnswer (pagesStage v h) → t .refusal ≡ 0 → Accepted (pagesStage v h) t
-accepted v h t e z = accepted-by (pagesStage v h) t e z (numbered v h)
+accepted v h t e z = accepted-by (pagesStage v h) t e z (λ r. let k = stage-number v h 0 r in omega arith)
 
 -- the entries that are in use
 pub in-use : (ps : List StoredPage) (l : List ℕ) (n : ℕ) → l ≡ entriesIn ps → length (blocksIn ps) ≡ n → take n l ≡ blocksIn ps

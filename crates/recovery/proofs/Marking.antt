@@ -4,18 +4,11 @@ use mathlib.Core.Bool.{Bool, true, false, _||_}
 use mathlib.Core.List.{List, [], _∷_, _++_}
 use Prim.Native.Nat.{ℕ}
 use lib.Dec.{eqb}
-use borrow.Author.Tests.{eqb-true, eqb-false, eq-eqb, ne-eqb}
 use Rattle.basics.specs.Basics.{any, isIn}
-use Rattle.basics.proofs.Facts.{by}
+use Rattle.rows.proofs.Owners.{same-test}
 use Rattle.rows.proofs.Turns.{any-cons}
 use Rattle.memory.specs.Flat.{usedAnd}
 use Rattle.recovery.specs.Loading.{usedBy}
-
-eqb-swap : (m n : ℕ) → eqb m n ≡ eqb n m
-eqb-swap m n =
-    by (eqb n m)
-    (λ t. rw t (eq-eqb m n (sym (eqb-true n m t))))
-    (λ t. rw t (ne-eqb m n (λ e. eqb-false n m t (sym e))))
 
 or-assoc : (a b c : Bool) → ((a || b) || c) ≡ (a || (b || c))
 or-assoc true b c = refl
@@ -45,7 +38,7 @@ or-end false = refl
 
 pub used-one : (b : ℕ) (u : ℕ → Bool) → usedAnd b u ≡ usedBy (b ∷ []) u
 unfolding usedBy isIn any
-used-one b u = λ i c. ((eqb-swap b c ∙ sym (or-end (eqb c b)) ∙ sym (any-cons (eqb c) b [])) i) || u c
+used-one b u = λ i c. ((same-test b c ∙ sym (or-end (eqb c b)) ∙ sym (any-cons (eqb c) b [])) i) || u c
 
 pub used-then : (xs ys : List ℕ) (u : ℕ → Bool) → usedBy ys (usedBy xs u) ≡ usedBy (xs ++ ys) u
 unfolding usedBy

@@ -2,7 +2,7 @@
 use mathlib.Core.Path.{_≡_, refl, sym, ap, subst, _∙_}
 use mathlib.Core.Bool.{Bool, true}
 use mathlib.Core.List.{List, [], _∷_, _++_, append-assoc, append-nil}
-use Prim.Native.Nat.{ℕ, zero, suc, _+_, _≤_, _<_}
+use Prim.Native.Nat.{ℕ, _+_, _≤_, _<_}
 use native.Mathlib.Omega.{arith}
 use native.Mathlib.Numerals.{add-one}
 use lib.ListN.{length, take, drop, getD, length-append, length-map, take-append-drop}
@@ -14,6 +14,7 @@ use Rattle.basics.proofs.Facts.{and-true}
 use Rattle.rows.proofs.Turns.{drop-turn}
 use Rattle.image.specs.View.{View}
 use Rattle.image.specs.Stages.{blockOk, StoredPage}
+use Rattle.image.proofs.Collect.{all-at}
 use Rattle.memory.specs.Flat.{Flat, flatOf, Room, Becomes, withUsed, usedAnd}
 use Rattle.memory.specs.Store.{heldOf}
 use Rattle.memory.proofs.Meaning.{becomes-none, becomes-then}
@@ -26,10 +27,8 @@ use Rattle.recovery.proofs.Paging.{helds-append, loads-none, loads-then
 
 -- a block that may be named is below the image's count
 pub named-below : (n : ℕ) (s : List ℕ) (i : ℕ) → all (blockOk n) s ≡ true → i < length s → getD s i 0 < n
-unfolding all blockOk
-named-below n [] i e h = absurd (omega arith)
-named-below n (x ∷ s) zero e h = ltb-true x n (and-true (ltb 0 x) (ltb x n) (and-true (blockOk n x) (all (blockOk n) s) e .0) .1)
-named-below n (x ∷ s) (suc i) e h = named-below n s i (and-true (blockOk n x) (all (blockOk n) s) e .1) (omega arith)
+unfolding blockOk
+named-below n s i e h = ltb-true (getD s i 0) n (and-true (ltb 0 (getD s i 0)) (ltb (getD s i 0) n) (all-at (blockOk n) s i e h) .1)
 
 -- it is so in a longer image too
 pub named-more : (n k : ℕ) (s : List ℕ) → n ≤ k → all (blockOk n) s ≡ true → all (blockOk k) s ≡ true

@@ -6,6 +6,7 @@ use mathlib.Core.List.{List, [], _∷_, _++_, map, append-assoc, append-nil}
 use Prim.Native.Nat.{ℕ, _+_, _≤_, _<_}
 use native.Mathlib.Omega.{arith}
 use lib.ListN.{length, length-map}
+use Rattle.basics.proofs.Lists.{map-append}
 use Rattle.blocks.specs.Tuple.{Tuple}
 use Rattle.blocks.specs.Block.{Block, malformed, header, page, directory}
 use Rattle.blocks.specs.Decode.{decodeBlock}
@@ -16,7 +17,6 @@ use Rattle.blocks.proofs.Answering.{answer-page}
 use Rattle.blocks.proofs.Laws.{decode-in-range}
 use Rattle.image.specs.View.{view, blockAt}
 use Rattle.image.specs.Stages.{StoredPage}
-use Rattle.image.proofs.Walk.{map-append}
 use Rattle.image.proofs.Decoded.{clash, OneOfThese}
 use Rattle.model.specs.State.{Held}
 use Rattle.model.specs.Rules.{calm}

@@ -2,18 +2,19 @@
 use mathlib.Core.Path.{_≡_, refl, sym, ap, _∙_}
 use mathlib.Core.Bool.{true, false}
 use mathlib.Core.List.{List, [], _∷_, _++_, map}
-use Prim.Native.Nat.{ℕ, suc, _+_, _*_, _/_, _%_, _≤_}
+use Prim.Native.Nat.{ℕ, _+_, _*_, _/_, _%_, _≤_}
 use native.Mathlib.Omega.{arith}
 use lib.ListN.{length, drop, length-append, length-map}
 use lib.Seq.{take-at, drop-at}
 use Rattle.basics.specs.Basics.{if_then_else_, sum, howMany, isIn}
 use Rattle.basics.proofs.Facts.{AllOf}
+use Rattle.basics.proofs.Lists.{map-append}
 use Rattle.blocks.specs.Tuple.{Tuple}
 use Rattle.blocks.specs.declared.Header.{Header}
 use Rattle.rows.specs.Rows.{Row, rowsOf, isOwn, transactions}
 use Rattle.rows.proofs.Kept.{count-kept, transactions-kept}
 use Rattle.image.specs.Stages.{directoryBlocks, StoredPage, rowsOfPages}
-use Rattle.image.proofs.Walk.{map-append}
+use Rattle.image.proofs.Collect.{length-rows}
 use Rattle.model.specs.State.{Held, idle}
 use Rattle.model.specs.Rules.{calm}
 use Rattle.model.specs.Recover.{loaded, reopened, recoveredStore}
@@ -29,11 +30,6 @@ use Rattle.recovery.proofs.Marking.{used-first, used-then}
 use Rattle.recovery.proofs.Tested.{PageOk}
 
 -- ---- pages
-
-length-rows : (t : ℕ) (ts : List Tuple) → length (rowsOf t ts) ≡ length ts
-unfolding rowsOf
-length-rows t [] = refl
-length-rows t (x ∷ ts) = ap suc (length-rows t ts)
 
 -- as many tuples as rows
 pub helds-count : (ps : List StoredPage) → length (heldsOf ps) ≡ length (rowsOfPages ps)

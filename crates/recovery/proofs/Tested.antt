@@ -3,11 +3,11 @@ use mathlib.Core.Path.{_≡_, refl, sym, ap, subst, _∙_}
 use mathlib.Core.Bool.{true, not, _&&_}
 use mathlib.Core.Option.{Option, none, some}
 use mathlib.Core.List.{List, [], _∷_, _++_, map}
-use Prim.Native.Nat.{ℕ, _+_, _-_, _*_, _≤_, _<_, min}
+use Prim.Native.Nat.{ℕ, _+_, _-_, _≤_, _<_}
 use native.Mathlib.Omega.{arith}
-use lib.ListN.{length, length-append, length-take}
-use lib.Dec.{eqb, ltb, leb}
-use borrow.Author.Tests.{eqb-true, leb-true, ltb-true}
+use lib.ListN.{length, length-take}
+use lib.Dec.{ltb, leb}
+use borrow.Author.Tests.{leb-true, ltb-true}
 use Rattle.basics.specs.Basics.{if_then_else_, all, every, paired, isEmpty, distinct}
 use Rattle.basics.proofs.Facts.{by, by-option, never, lie, AllOf, and-true}
 use Rattle.blocks.specs.Tuple.{Tuple}
@@ -15,10 +15,10 @@ use Rattle.blocks.specs.Block.{Block, malformed, header, page, directory}
 use Rattle.blocks.specs.declared.Header.{Header}
 use Rattle.rows.specs.Rows.{Row, number, rowsOk, transactions, follows, startsWell, isBelow}
 use Rattle.image.specs.View.{View, view, blockCount}
-use Rattle.image.specs.Stages.{holds, wholeBlocks, blockOk, directoryBlocks, addEntries, readDirectories, entriesOk, testedEntries, directoryTest, StoredPage, pageOk, addPage, readPages, rowsOfPages, testedPages, pageTest}
+use Rattle.image.specs.Stages.{holds, wholeBlocks, blockOk, directoryBlocks, readDirectories, entriesOk, testedEntries, directoryTest, StoredPage, pageOk, addPage, readPages, rowsOfPages, testedPages, pageTest}
 use Rattle.image.specs.Whole.{headerStage, pagesBelow, pagesStage}
 use Rattle.image.proofs.Heads.{Counts}
-use Rattle.image.proofs.Staged.{Passing, passing}
+use Rattle.image.proofs.Staged.{Passing, passing, entries-count}
 use Rattle.model.proofs.Recovery.{refuses-holds, holds-eq, read-blocks}
 use Rattle.model.proofs.Bytes.{view-sane, blocks-whole}
 use Rattle.model.proofs.Views.{Sane}
@@ -50,28 +50,6 @@ tested v h ps e =
     (λ c. refuses-holds (rw (b, c) at e)))
 
 -- ---- as many entries as pages
-
--- a directory block and those after it
-added-count : (l p n : ℕ) (b : Block) (o : Option (List ℕ)) (es : List ℕ) → ((fs : List ℕ) → o ≡ some fs → length fs ≡ n) → addEntries l p b o ≡ some es
-    → length es ≡ min 336 p + n
-unfolding addEntries if_then_else_
-added-count l p n malformed o es f e = never e
-added-count l p n (header h) o es f e = never e
-added-count l p n (page t k ts) o es f e = never e
-added-count l p n (directory k ds) none es f e = by (eqb k l && eqb (length ds) (min 336 p)) (λ t. never (rw t at e)) (λ t. never (rw t at e))
-added-count l p n (directory k ds) (some fs) es f e =
-    by (eqb k l && eqb (length ds) (min 336 p))
-    (λ t.
-    let z : some (ds ++ fs) ≡ some es = rw t at e in
-    let y : es ≡ ds ++ fs = cc in
-    ap length y ∙ length-append ds fs ∙ omega (arith, eqb-true (length ds) (min 336 p) (and-true (eqb k l) _ t .1), f fs refl))
-    (λ t. never (rw t at e))
-
-entries-count : (v : View) (l : ℕ) (ds : List ℕ) (p : ℕ) (es : List ℕ) → p ≤ 336 * length ds → readDirectories v l p ds ≡ some es → length es ≡ p
-unfolding readDirectories
-entries-count v l [] p es h e = let z : es ≡ [] = cc in ap length z ∙ omega arith
-entries-count v l (d ∷ ds) p es h e =
-    added-count l p (p - 336) (v d) (readDirectories v l (p - 336) ds) es (λ fs q. entries-count v l ds (p - 336) fs (omega arith) q) e ∙ omega arith
 
 pub listed-count : (n : ℕ) (v : View) (h : Header) (es : List ℕ) → Counts n h → readDirectories v (h .level) (h .pages) (directoryBlocks h) ≡ some es → length es ≡ h .pages
 unfolding directoryBlocks

@@ -13,7 +13,7 @@ use Rattle.rows.specs.Rows.{Row, isBy, isOwn, addOwner, transactions}
 use Rattle.rows.specs.Columns.{isLastBy, isLast}
 use Rattle.rows.proofs.Turns.{any-cons}
 
-same-test : (m n : ℕ) → eqb m n ≡ eqb n m
+pub same-test : (m n : ℕ) → eqb m n ≡ eqb n m
 same-test m n =
     by (eqb n m)
     (λ t. rw t (eq-eqb m n (sym (eqb-true n m t))))

@@ -1,19 +1,19 @@
 -- Places in order: what `follows` is where the place rises, stays or falls; the first row. A place is table and key in one number.
-use mathlib.Core.Path.{_≡_, refl}
+use mathlib.Core.Path.{_≡_, refl, sym, _∙_}
 use mathlib.Core.Bool.{Bool, true, false, not, _&&_, _||_}
 use mathlib.Core.List.{List}
-use Prim.Native.Nat.{ℕ, suc, _-_, _/_, _%_, _<_}
+use Prim.Native.Nat.{ℕ, suc, _+_, _-_, _/_, _%_, _≤_, _<_}
 use native.Mathlib.Omega.{arith}
 use lib.ListN.{getD}
 use lib.Dec.{eqb, ltb, leb}
-use borrow.Author.Tests.{eqb-true, eqb-false, lt-ltb, le-ltb, le-leb, lt-leb, eq-eqb, ne-eqb}
+use borrow.Author.Tests.{eqb-true, eqb-false, lt-ltb, le-ltb, le-leb, lt-leb, eq-eqb, ne-eqb, not-true, not-false}
 use Rattle.basics.specs.Basics.{if_then_else_, paired}
 use Rattle.basics.proofs.Facts.{by}
 use Rattle.blocks.specs.Tuple.{committed}
 use Rattle.rows.specs.Rows.{isAt, isLower, ownerAfter, follows, startsWell}
 use Rattle.rows.specs.Columns.{coded, codedOwner, rowAt, tab, rowsIn}
 use Rattle.rows.proofs.Ands.{and-yes, and-no}
-use Rattle.rows.proofs.Turns.{tab-whole}
+use Rattle.rows.proofs.Turns.{tab-whole, pair-turn, pair-stop}
 
 abbrev B : ℕ
 B = 4294967296
@@ -104,3 +104,17 @@ pub follows-unmarked : (ps ns os ms : List ℕ) (i j : ℕ)
     ≡ follows (rowAt ps ns os ms i) (rowAt ps ns os ms j)
 unfolding follows isAt isLower rowAt coded
 follows-unmarked ps ns os ms i j = refl
+
+-- ---- a turn: the test of row i after the one before it answers t
+
+module _ (ps ns os ms : List ℕ) (i n : ℕ) (low : 1 ≤ i) (h : i < n) {whole t : Bool}
+    (w : whole ≡ paired follows (tab (rowAt ps ns os ms) (i - 1) (n - (i - 1))))
+    (e : t ≡ follows (coded (getD ps (i - 1) 0) (getD ns (i - 1) 0) (getD os (i - 1) 0) 0) (coded (getD ps i 0) (getD ns i 0) (getD os i 0) (getD ms i 0))) where
+  tested : t ≡ follows (rowAt ps ns os ms (i - 1)) (rowAt ps ns os ms i)
+  tested = e ∙ follows-unmarked ps ns os ms (i - 1) i
+
+  pub rising-stop : not t ≡ true → false ≡ whole
+  rising-stop k = sym (w ∙ pair-stop follows (rowAt ps ns os ms) i n low h (sym tested ∙ not-true t k))
+
+  pub rising-turn : not t ≡ false → whole ≡ paired follows (tab (rowAt ps ns os ms) (i + 1 - 1) (n - (i + 1 - 1)))
+  rising-turn k = let z : i + 1 - 1 ≡ i = omega arith in w ∙ rw z (pair-turn follows (rowAt ps ns os ms) i n low h (sym tested ∙ not-false t k))

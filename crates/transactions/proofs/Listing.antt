@@ -7,12 +7,12 @@ use native.Mathlib.Numerals.{add-one}
 use lib.ListN.{length, take, drop, getD, set, length-map, length-append, length-drop}
 use lib.Seq.{take-suc, drop-cons, set-at, length-take-le}
 use borrow.Author.Tests.{lt-ltb, le-ltb}
+use Rattle.basics.proofs.Lists.{map-append}
 use Rattle.model.specs.State.{Active}
 use Rattle.model.specs.Transactions.{gives, openNumbers, listing, listCall}
 use Rattle.memory.specs.Flat.{Flat}
 use Rattle.memory.specs.Store.{activeOf, storeOf}
 use Rattle.transactions.proofs.Verdicts.{refused-here, passed-on, unless-none}
-use Rattle.transactions.proofs.Opening.{map-append}
 use Rattle.model.specs.State as model
 
 -- the listing of words

@@ -1,5 +1,5 @@
 -- Open: its tests, and the store with one transaction more.
-use mathlib.Core.Path.{_≡_, refl, sym, ap, _∙_}
+use mathlib.Core.Path.{_≡_, sym, ap, _∙_}
 use mathlib.Core.Bool.{false}
 use mathlib.Core.List.{List, [], _∷_, _++_, map}
 use Prim.Native.Nat.{ℕ, _*_, _/_, _%_, _≤_, _<_}
@@ -8,6 +8,7 @@ use lib.ListN.{length, length-map}
 use lib.Dec.{leb, ltb}
 use borrow.Author.Tests.{lt-ltb, le-ltb, le-leb, lt-leb}
 use Rattle.basics.specs.Basics.{isIn}
+use Rattle.basics.proofs.Lists.{map-append}
 use Rattle.model.specs.State.{Active, Store}
 use Rattle.model.specs.Transactions.{gives, openNumbers, openCall, changed}
 use Rattle.memory.specs.Flat.{Flat, withOpens}
@@ -16,10 +17,6 @@ use Rattle.look.specs.Opens.{findOpen}
 use Rattle.look.proofs.Places.{found-open, not-found-open}
 use Rattle.transactions.proofs.Verdicts.{refused-here, passed-on, unless-none}
 use Rattle.model.specs.State as model
-
-pub map-append : {A B : Type 0} (g : A → B) (xs ys : List A) → map g (xs ++ ys) ≡ map g xs ++ map g ys
-map-append g [] ys = refl
-map-append g (x ∷ xs) ys = ap (λ (z : List _). g x ∷ z) (map-append g xs ys)
 
 opened-is : (tx : ℕ) → activeOf (tx * 1048576) ≡ record { transaction = tx; written = 0 }
 unfolding activeOf

@@ -1,5 +1,5 @@
 -- `blocks::read_directory` meets its contract.
-use mathlib.Core.Path.{_≡_, sym, _∙_}
+use mathlib.Core.Path.{_≡_, refl, sym, _∙_}
 use mathlib.Core.List.{List}
 use Prim.Native.Nat.{ℕ}
 use native.Mathlib.Omega.{arith}
@@ -29,7 +29,8 @@ slice-aggregate-spell-directory-2 : tie.Need-slice-aggregate-spell-directory-2
 slice-aggregate-spell-directory-2 c = search needs
 
 spell-directory-requires : tie.Need-spell-directory-requires
-spell-directory-requires c κs = search needs
+spell-directory-requires c κs = let few = c .before .before .before .before .if1 .left in
+    (few, (omega (arith, few, c .before .before .read-entries), (refl, refl)))
 
 slice-aggregate-same-block : tie.Need-slice-aggregate-same-block
 slice-aggregate-same-block c = search needs

@@ -5,7 +5,7 @@ use native.Mathlib.Omega.{arith}
 use lib.ListN.{length, take, getD}
 use Rattle.bits.specs.Bits.{bitsIn}
 use Rattle.blocks.specs.Spell.{filled}
-use Rattle.blocks.proofs.Entries.{dirBits, head-put, entry-put, dir-done}
+use Rattle.blocks.proofs.Entries.{dirBits, head-filled, entry-filled, dir-done}
 use Rattle.blocks.proofs.spell_directory.Statement.{statement}
 use Rattle.blocks.proofs.spell_directory.Tie as tie
 
@@ -28,45 +28,54 @@ put-bits-requires-4 : tie.Need-put-bits-requires-4 Inv-loop μ-loop
 put-bits-requires-4 c κs = omega arith
 
 loop-holds : tie.Need-loop-holds Inv-loop μ-loop
-loop-holds c = let s = c .before .before .before .before .before .before .before .before .before .before .before .before .before .before .before .before .before .before in
-    let k = c .before .before .put-bits4 .kept in
-    let head = head-put (s .args .level) (s .args .count) (bitsIn (s .args .block .now)) (ap bitsIn (s .pre .1 .1 .1)) in
-    let kind = c .before .before .before .before .before .before .before .before .before .before .before .before .before .before .put-bits .ensures in
-    let count = c .before .before .before .before .before .before .before .before .before .before .put-bits2 .ensures in
-    let level = c .before .before .before .before .before .before .put-bits3 .ensures in
-    (omega arith, (omega arith, (λ j. omega (arith, c .slice-known5 .given j), rw (c .before .before .put-bits4 .ensures, level, count, kind) head)))
+loop-holds c =
+    let p4 = c .before .before in let p3 = p4 .before .before .before .before in let p2 = p3 .before .before .before .before in let p1 = p2 .before .before .before .before in let s = p1 .before .before .before .before in
+    let head = head-filled (s .args .level) (s .args .count) (ap bitsIn (s .pre .1 .1 .1)) (p1 .put-bits .ensures) (p2 .put-bits2 .ensures) (p3 .put-bits3 .ensures)
+    (p4 .put-bits4 .ensures) in (
+      omega arith,
+      (
+        omega (arith, p4 .put-bits4 .kept, p3 .put-bits3 .kept, p2 .put-bits2 .kept, p1 .put-bits .kept, s .pre .1 .1 .0),
+        (λ j. omega (arith, c .slice-known5 .given j), head),
+      ),
+    )
 
 mul-put-bits : tie.Need-mul-put-bits Inv-loop μ-loop
-mul-put-bits c = omega arith
+mul-put-bits c = let s = c .before .before .before .before .before .before .before .before .before .before .before .before .before .before .before .before .before .before .before .before .before in
+    omega (arith, c .before .loop-test .taken, s .pre .0)
 
 add-put-bits : tie.Need-add-put-bits Inv-loop μ-loop
-add-put-bits c = omega arith
+add-put-bits c = let s = c .before .before .before .before .before .before .before .before .before .before .before .before .before .before .before .before .before .before .before .before .before in
+    omega (arith, c .before .loop-test .taken, s .pre .0)
 
 mul-big : tie.Need-mul-big Inv-loop μ-loop
-mul-big c = omega arith
+mul-big c = let s = c .before .before .before .before .before .before .before .before .before .before .before .before .before .before .before .before .before .before .before .before .before in
+    omega (arith, c .before .loop-test .taken, s .pre .0)
 
 shared-slice-read-big : tie.Need-shared-slice-read-big Inv-loop μ-loop
-shared-slice-read-big c = omega arith
+shared-slice-read-big c = let s = c .before .before .before .before .before .before .before .before .before .before .before .before .before .before .before .before .before .before .before .before .before .before in
+    omega (arith, c .before .before .loop-test .taken, s .pre .1 .0)
 
 big-requires : tie.Need-big-requires Inv-loop μ-loop
 big-requires c κs = omega arith
 
 put-bits-requires-5 : tie.Need-put-bits-requires-5 Inv-loop μ-loop
-put-bits-requires-5 c κs = omega arith
+put-bits-requires-5 c κs = let s = c .before .before .before .before .before .before .before .before .before .before .before .before .before .before .before .before .before .before .before .before .before .before .before in
+    omega (arith, c .before .before .before .loop-test .taken, c .before .before .before .before .loop .inv .1 .0, s .pre .0)
 
 add-i : tie.Need-add-i Inv-loop μ-loop
-add-i c = omega arith
+add-i c = let s = c .before .before .before .before .before .before .before .before .before .before .before .before .before .before .before .before .before .before .before .before .before .before .before .before .before .before in
+    omega (arith, c .before .before .before .before .before .before .loop-test .taken, s .pre .0)
 
 loop-less : tie.Need-loop-less Inv-loop μ-loop
-loop-less c = omega arith
+loop-less c = omega (arith, c .before .before .before .before .before .before .loop-test .taken)
 
 loop-again : tie.Need-loop-again Inv-loop μ-loop
 loop-again c = let s = c .before .before .before .before .before .before .before .before .before .before .before .before .before .before .before .before .before .before .before .before .before .before .before .before .before .before in
     let p = c .before .before .before .before .before .before .before .loop in
     let t = c .before .before .before .before .before .before .loop-test in
-    let more = entry-put (s .args .level) (s .args .count) (s .args .entries .now) (p .i) (omega (arith, s .pre .1 .0, t)) (omega (arith, s .pre .0, t)) in
-    let put = c .before .before .put-bits5 .ensures in
-    (omega arith, (omega arith, (λ j. omega (arith, c .slice-known6 .given j), rw (put, c .before .before .before .big .ensures, p .inv .1 .1 .1) more)))
+    let more = entry-filled (s .args .level) (s .args .count) (s .args .entries .now) (p .i) (omega (arith, s .pre .1 .0, t)) (omega (arith, s .pre .0, t)) (p .inv .1 .1 .1)
+    (c .before .before .before .big .ensures) (c .before .before .put-bits5 .ensures) in
+    (omega (arith, t .taken), (omega (arith, c .before .before .put-bits5 .kept, p .inv .1 .0), (λ j. omega (arith, c .slice-known6 .given j), more)))
 
 same-length : tie.Need-same-length Inv-loop μ-loop
 same-length c = let s = c .before .before .before .before .before .before .before .before .before .before .before .before .before .before .before .before .before .before .before .before in

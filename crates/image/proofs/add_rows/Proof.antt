@@ -4,7 +4,8 @@ use lib.ListN.{length, take, drop}
 use Prim.Native.Nat.{_+_, _-_, _≤_, _<_}
 use mathlib.Core.Path.{_≡_, refl, sym, _∙_}
 use native.Mathlib.Omega.{arith}
-use Rattle.image.proofs.Walk.{Left, left-start, left-end, left-bad, turn, row-first, row-next, row-last}
+use Rattle.blocks.proofs.Walk.{Left, left-start, left-end, left-bad, turn}
+use Rattle.image.proofs.Walk.{row-first, row-next, row-last}
 use Rattle.rows.specs.Columns.{rowsIn, bare}
 use Rattle.rows.specs.Rows.{rowsOf}
 use Rattle.blocks.proofs.ReadTuples.{found-is, bad-is}
@@ -37,29 +38,31 @@ enum-known-r : tie.Need-enum-known-r Inv-loop μ-loop
 enum-known-r c = omega arith
 
 put-row-requires : tie.Need-put-row-requires Inv-loop μ-loop
-put-row-requires c κs = omega arith
+put-row-requires c κs = let s = c .before .before .before .before .before .before .before .before .before .before .before .before .before .before .before in
+    let p = c .before .before .before .before .before .before .before .before .before .loop in
+    omega (arith, c .before .before .before .before .before .before .before .before .loop-test .taken, p .inv .1 .1 .0, p .inv .1 .1 .1 .0, s .pre)
 
 enum-told : tie.Need-enum-told Inv-loop μ-loop
 enum-told c = omega arith
 
 same-length : tie.Need-same-length Inv-loop μ-loop
-same-length c = omega arith
+same-length c = c .before .before .before .before .loop .inv .1 .1 .1 .0 .0
 
 same-length-2 : tie.Need-same-length-2 Inv-loop μ-loop
-same-length-2 c = omega arith
+same-length-2 c = c .before .before .before .before .loop .inv .1 .1 .1 .0 .1 .0
 
 same-length-3 : tie.Need-same-length-3 Inv-loop μ-loop
-same-length-3 c = omega arith
+same-length-3 c = c .before .before .before .before .loop .inv .1 .1 .1 .0 .1 .1 .0
 
 same-length-4 : tie.Need-same-length-4 Inv-loop μ-loop
-same-length-4 c = omega arith
+same-length-4 c = c .before .before .before .before .loop .inv .1 .1 .1 .0 .1 .1 .1
 
 returns : tie.Need-returns Inv-loop μ-loop
 returns c =
     let p2 = c .before .before in let p4 = p2 .before .before in let p10 = p4 .before .before .before .before .before .before in
     let a = p10 .args in let p = p4 .loop in
     let w = bad-is (a .block .now) (p .at) (sym (c .enum-told .given .1) ∙ p2 .next .ensures) in
-    λ ts e. left-bad (a .block .now) (a .count) (p .at) (p .i) ts (omega arith) w (p .inv .1 .1 .1 .1 ts e .0)
+    λ ts e. left-bad (a .block .now) (a .count) (p .at) (p .i) ts (omega (arith, c .before .before .before .loop-test .taken)) w (p .inv .1 .1 .1 .1 ts e .0)
 
 add-to : tie.Need-add-to Inv-loop μ-loop
 add-to c =
@@ -68,10 +71,11 @@ add-to c =
     omega (arith, p24 .pre, p24 .good, p18 .loop .inv .1 .1 .0, p17 .loop-test)
 
 add-i : tie.Need-add-i Inv-loop μ-loop
-add-i c = omega arith
+add-i c = let s = c .before .before .before .before .before .before .before .before .before .before .before .before .before .before .before .before .before .before .before .before .before .before .before .before in
+    omega (arith, c .before .before .before .before .before .before .before .before .before .before .before .before .before .before .before .before .before .loop-test .taken, s .fits)
 
 loop-less : tie.Need-loop-less Inv-loop μ-loop
-loop-less c = omega arith
+loop-less c = omega (arith, c .before .before .before .before .before .before .before .before .before .before .before .before .before .before .before .before .before .loop-test .taken)
 
 loop-again : tie.Need-loop-again Inv-loop μ-loop
 loop-again c =
@@ -91,7 +95,8 @@ loop-again c =
             λ ts e.
                 let t = turn (a .block .now) (a .count) (p .at) (p .i) ts h (k ts e .0) (g .0 .0) (g .0 .1 .0) f in (
                   t .left,
-                  row-next (a .table) (p .i) ts (rowsIn (a .places .now) (a .numbers .now) (a .owners .now) (a .marks .now) (a .k)) _ (k ts e .1) _ (g .0 .0)
+                  row-next (a .table) (p .i) ts (rowsIn (a .places .now) (a .numbers .now) (a .owners .now) (a .marks .now) (a .k)) (rowsIn (p .places) (p .numbers) (p .owners) (p .marks) (p .to))
+                      (k ts e .1) _ (g .0 .0)
                       (payloadIn (a .block .now) (g .0 .0)) (drop (p .i + 1) ts) (t .first) (p8 .put-row .ensures),
                 ),
           ),
@@ -100,16 +105,16 @@ loop-again c =
     )
 
 same-length-5 : tie.Need-same-length-5 Inv-loop μ-loop
-same-length-5 c = omega arith
+same-length-5 c = c .before .loop .inv .1 .1 .1 .0 .0
 
 same-length-6 : tie.Need-same-length-6 Inv-loop μ-loop
-same-length-6 c = omega arith
+same-length-6 c = c .before .loop .inv .1 .1 .1 .0 .1 .0
 
 same-length-7 : tie.Need-same-length-7 Inv-loop μ-loop
-same-length-7 c = omega arith
+same-length-7 c = c .before .loop .inv .1 .1 .1 .0 .1 .1 .0
 
 same-length-8 : tie.Need-same-length-8 Inv-loop μ-loop
-same-length-8 c = omega arith
+same-length-8 c = c .before .loop .inv .1 .1 .1 .0 .1 .1 .1
 
 returns-2 : tie.Need-returns-2 Inv-loop μ-loop
 returns-2 c =
@@ -117,7 +122,7 @@ returns-2 c =
     let a = p7 .args in let p = c .before .loop in
     let e : a .k + a .count ≡ p .to = omega (arith, p .inv .1 .1 .0, p .inv .0, c .loop-test) in
     λ ts h. rw e (row-last (a .table) (p .i) ts (rowsIn (a .places .now) (a .numbers .now) (a .owners .now) (a .marks .now) (a .k)) _ (p .inv .1 .1 .1 .1 ts h .1)
-    (left-end (a .block .now) (a .count) (p .at) (p .i) ts (omega arith) (p .inv .1 .1 .1 .1 ts h .0)))
+    (left-end (a .block .now) (a .count) (p .at) (p .i) ts (omega (arith, p .inv .0, c .loop-test)) (p .inv .1 .1 .1 .1 ts h .0)))
 
 pub add-rows-spec : {M : Type 1} → statement M
 add-rows-spec =

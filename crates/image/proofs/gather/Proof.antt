@@ -32,7 +32,7 @@ wide-requires c κs = omega arith
 block-at-requires : tie.Need-block-at-requires Inv-loop μ-loop
 block-at-requires c κs =
     let p3 = c .before .before .before in let p7 = p3 .before .before .before .before in
-    let a = p7 .args in let p = p3 .loop in omega (arith, within (a .image .now) (a .directories .now) (p .i) (p7 .pre .0) (omega arith), c .wide .ensures)
+    let a = p7 .args in let p = p3 .loop in omega (arith, within (a .image .now) (a .directories .now) (p .i) (p7 .pre .0) (omega (arith, c .before .before .loop-test .taken)), c .wide .ensures)
 
 sub-left : tie.Need-sub-left Inv-loop μ-loop
 sub-left c = omega arith
@@ -41,7 +41,7 @@ add-entries-requires : tie.Need-add-entries-requires Inv-loop μ-loop
 add-entries-requires c κs = omega arith
 
 same-length : tie.Need-same-length Inv-loop μ-loop
-same-length c = omega arith
+same-length c = c .before .before .before .add-entries .kept .1 .1 .1 .0 ∙ c .before .before .before .before .before .before .before .before .before .before .loop .inv .1
 
 returns : tie.Need-returns Inv-loop μ-loop
 returns c =
@@ -60,10 +60,11 @@ add-at : tie.Need-add-at Inv-loop μ-loop
 add-at c = omega arith
 
 add-i : tie.Need-add-i Inv-loop μ-loop
-add-i c = omega arith
+add-i c = let s = c .before .before .before .before .before .before .before .before .before .before .before .before .before .before .before in
+    omega (arith, s .good, c .before .before .before .before .before .before .before .before .before .before .loop-test .taken)
 
 loop-less : tie.Need-loop-less Inv-loop μ-loop
-loop-less c = omega arith
+loop-less c = omega (arith, c .before .before .before .before .before .before .before .before .before .before .loop-test .taken)
 
 loop-again : tie.Need-loop-again Inv-loop μ-loop
 loop-again c =
@@ -77,13 +78,13 @@ loop-again c =
     (rw (c .due .ensures) t, p4 .add-entries .kept .1 .1 .1 .0 ∙ p .inv .1)
 
 same-length-2 : tie.Need-same-length-2 Inv-loop μ-loop
-same-length-2 c = omega arith
+same-length-2 c = c .before .loop .inv .1
 
 returns-2 : tie.Need-returns-2 Inv-loop μ-loop
 returns-2 c =
     let p5 = c .before .before .before .before .before in
     let a = p5 .args in let p = c .before .loop in
-    gathering-end (view (a .image .now)) (a .level) (a .pages) (a .directories .now) (a .out .now) (p .i) (p .at) (p .out) (p .inv .0) (omega arith)
+    gathering-end (view (a .image .now)) (a .level) (a .pages) (a .directories .now) (a .out .now) (p .i) (p .at) (p .out) (p .inv .0) (omega (arith, c .loop-test))
 
 pub gather-spec : {M : Type 1} → statement M
 gather-spec =

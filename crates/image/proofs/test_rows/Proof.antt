@@ -43,7 +43,7 @@ mul-wide : tie.Need-mul-wide Inv-loop μ-loop
 mul-wide c = omega arith
 
 shared-slice-read-wide : tie.Need-shared-slice-read-wide Inv-loop μ-loop
-shared-slice-read-wide c = omega arith
+shared-slice-read-wide c = omega (arith, c .before .loop-test .taken)
 
 wide-requires-2 : tie.Need-wide-requires-2 Inv-loop μ-loop
 wide-requires-2 c κs = omega arith
@@ -70,7 +70,7 @@ add-rows-requires c κs =
     let p5 = c .before .before .before .before .before in let p10 = p5 .before .before .before .before .before in
     let p14 = p10 .before .before .before .before in let p22 = p14 .before .before .before .before .before .before .before .before in
     let g = found p5 in let k = p22 .pre .1 in let p = p14 .loop in let l = p .inv .1 in let r = p .inv .0 .room in let m = g .room-left in
-    (omega (arith, p10), (omega arith, (omega arith, (omega arith, omega arith))))
+    (omega (arith, p10 .block-at), (omega (arith, k, l, r, m), (omega (arith, k, l, r, m), (omega (arith, k, l, r, m), omega (arith, k, l, r, m)))))
 
 wide-requires-3 : tie.Need-wide-requires-3 Inv-loop μ-loop
 wide-requires-3 c κs = omega arith
@@ -86,16 +86,16 @@ enum-told : tie.Need-enum-told Inv-loop μ-loop
 enum-told c = omega arith
 
 same-length : tie.Need-same-length Inv-loop μ-loop
-same-length c = omega arith
+same-length c = c .before .before .before .before .before .before .before .before .loop .inv .1 .0
 
 same-length-2 : tie.Need-same-length-2 Inv-loop μ-loop
-same-length-2 c = omega arith
+same-length-2 c = c .before .before .before .before .before .before .before .before .loop .inv .1 .1 .0
 
 same-length-3 : tie.Need-same-length-3 Inv-loop μ-loop
-same-length-3 c = omega arith
+same-length-3 c = c .before .before .before .before .before .before .before .before .loop .inv .1 .1 .1 .0
 
 same-length-4 : tie.Need-same-length-4 Inv-loop μ-loop
-same-length-4 c = omega arith
+same-length-4 c = c .before .before .before .before .before .before .before .before .loop .inv .1 .1 .1 .1
 
 returns : tie.Need-returns Inv-loop μ-loop
 returns c =
@@ -104,7 +104,7 @@ returns c =
     let a = p16 .args in let p = p8 .loop in
     let e = page-here (a .image .now) (a .entries .now) (p .i) _ _ (p4 .block-at .ensures) (p5 .wide2 .ensures) (a .h .level) (a .h .capacity) _ (p .to) _
     (p9 .wide .ensures) (p2 .good-page .ensures) in
-    collecting-bad (view (a .image .now)) (a .h) (a .entries .now) (p .i) (p .to) _ (p .inv .0) (omega arith) (e ∙ c .enum-told .given .1)
+    collecting-bad (view (a .image .now)) (a .h) (a .entries .now) (p .i) (p .to) _ (p .inv .0) (omega (arith, c .before .before .before .before .before .before .before .loop-test)) (e ∙ c .enum-told .given .1)
 
 add-i : tie.Need-add-i Inv-loop μ-loop
 add-i c =
@@ -113,7 +113,7 @@ add-i c =
     omega (arith, p32 .good, p23 .loop-test)
 
 loop-less : tie.Need-loop-less Inv-loop μ-loop
-loop-less c = omega arith
+loop-less c = omega (arith, c .before .before .before .before .before .before .before .before .before .before .before .before .before .before .before .before .before .before .before .before .before .before .before .loop-test .taken)
 
 loop-again : tie.Need-loop-again Inv-loop μ-loop
 loop-again c =
@@ -123,30 +123,32 @@ loop-again c =
     let a = p32 .args in let p = p24 .loop in let g = found p15 in let l = p .inv .1 in let d = p9 .add-rows .kept in let n = p16 .table .given .0 in
     let r = tuples-here (a .image .now) (a .entries .now) (p .i) _ _ (p20 .block-at .ensures) (p21 .wide2 .ensures) (a .h .level) (a .h .capacity - p .to) (n .0)
     (n .1 .0) g in
-    let t = collecting-turn (view (a .image .now)) (a .h) (a .entries .now) (p .i) (p .to) _ (p .inv .0) (n .0) (n .1 .0) _ (omega (arith, p23 .loop-test)) g
-    (p9 .add-rows .ensures (g .tuples) r) in
+    let t = collecting-turn (view (a .image .now)) (a .h) (a .entries .now) (p .i) (p .to)
+    (rowsIn (p .places) (p .numbers) (p .owners) (p .marks) (p .to)) (p .inv .0) (n .0) (n .1 .0) _ (omega (arith, p23 .loop-test)) g (p9 .add-rows .ensures (g .tuples) r) in
     (rw (c .wide3 .ensures) t, (d .1 .1 .1 .0 ∙ l .0, (d .1 .1 .1 .1 .0 ∙ l .1 .0, (d .1 .1 .1 .1 .1 .0 ∙ l .1 .1 .0, d .1 .1 .1 .1 .1 .1 .0 ∙ l .1 .1 .1))))
 
 columns-ok-requires : tie.Need-columns-ok-requires Inv-loop μ-loop
-columns-ok-requires c κs = omega arith
+columns-ok-requires c κs = let s = c .before .before .before .before .before .before .before .before .before .before .before .before .before in
+    let p = c .before .before .before .before .before .loop in
+    omega (arith, p .inv .0 .room, p .inv .1, s .pre .1)
 
 same-length-5 : tie.Need-same-length-5 Inv-loop μ-loop
-same-length-5 c = omega arith
+same-length-5 c = c .before .before .before .before .before .before .loop .inv .1 .0
 
 same-length-6 : tie.Need-same-length-6 Inv-loop μ-loop
-same-length-6 c = omega arith
+same-length-6 c = c .before .before .before .before .before .before .loop .inv .1 .1 .0
 
 same-length-7 : tie.Need-same-length-7 Inv-loop μ-loop
-same-length-7 c = omega arith
+same-length-7 c = c .before .before .before .before .before .before .loop .inv .1 .1 .1 .0
 
 same-length-8 : tie.Need-same-length-8 Inv-loop μ-loop
-same-length-8 c = omega arith
+same-length-8 c = c .before .before .before .before .before .before .loop .inv .1 .1 .1 .1
 
 returns-2 : tie.Need-returns-2 Inv-loop μ-loop
 returns-2 c =
     let p6 = c .before .before .before .before .before .before in let p14 = p6 .before .before .before .before .before .before .before .before in
     let a = p14 .args in let p = p6 .loop in
-    c .columns-ok .ensures ∙ collecting-end (view (a .image .now)) (a .h) (a .entries .now) (p .i) (p .to) _ (p .inv .0) (omega arith)
+    c .columns-ok .ensures ∙ collecting-end (view (a .image .now)) (a .h) (a .entries .now) (p .i) (p .to) _ (p .inv .0) (omega (arith, c .before .before .before .before .before .loop-test))
 
 pub test-rows-spec : {M : Type 1} → statement M
 test-rows-spec =

@@ -1,7 +1,7 @@
 -- `recovery::recover` meets its contract.
-use Rattle.recovery.proofs.Answered.{header-refused, pages-refused, Ready, ready, refused-header, refused-memory, refused-pages, all-recovered}
+use Rattle.recovery.proofs.Answered.{Ready, ready, refused-header, refused-memory, refused-pages, all-recovered}
 use Rattle.recovery.specs.Loading.{pagesAt, blocksIn}
-use Rattle.image.proofs.Staged.{passed-is}
+use Rattle.image.proofs.Staged.{passed-is, stage-refused, pages-refusal}
 use Rattle.image.specs.Whole.{headerStage}
 use Rattle.image.specs.Stages.{holds}
 use Rattle.image.specs.View.{view}
@@ -46,7 +46,7 @@ test-pages-requires : tie.Need-test-pages-requires
 test-pages-requires c κs = passed (c .before .before)
 
 returns-2 : tie.Need-returns-2
-returns-2 c = let a = c .before .before .before .before .before .before .before .before .before .before .before .args in refused-pages (a .image .now) (a .m .now) _ (passed (c .before .before .before .before .before)) (omega (arith, c .before .before .before .before .wide .ensures, c .before .before .before .if1 .left)) _ (pages-refused _ _ (c .before .before .test-pages .ensures) (λ z. omega (arith, z, c .if2 .taken)))
+returns-2 c = let a = c .before .before .before .before .before .before .before .before .before .before .before .args in refused-pages (a .image .now) (a .m .now) _ (passed (c .before .before .before .before .before)) (omega (arith, c .before .before .before .before .wide .ensures, c .before .before .before .if1 .left)) _ (pages-refusal _ _ (c .before .before .test-pages .ensures) (λ z. omega (arith, z, c .if2 .taken)))
 
 wide-requires-2 : tie.Need-wide-requires-2
 wide-requires-2 c κs = search needs
@@ -70,7 +70,7 @@ returns-3 : tie.Need-returns-3
 returns-3 c = let a = c .before .before .before .before .before .before .before .before .before .before .before .before .before .before .before .before .before .before .args in let r = prepared (c .before .before .before .before .before) in all-recovered (a .image .now) (a .m .now) _ (passed (c .before .before .before .before .before .before .before .before .before .before .before .before)) (omega (arith, c .before .before .before .before .before .before .before .before .before .before .before .wide .ensures, c .before .before .before .before .before .before .before .before .before .before .if1 .left)) (pagesAt (view (a .image .now)) (take (c .before .before .before .before .before .wide2 .result) (c .before .before .before .before .before .before .before .before .before .test-pages .result .entries))) _ (r .passed ∙ ap holds (sym (r .there))) (c .before .before .lay-out .ensures)
 
 returns-4 : tie.Need-returns-4
-returns-4 c = let a = c .before .before .before .before .before .before .args in let g = c .before .n .given in refused-header (a .image .now) (a .m .now) _ (header-refused _ (g .0 .0) (sym (g .1) ∙ c .before .before .before .test-header .ensures))
+returns-4 c = let a = c .before .before .before .before .before .before .args in let g = c .before .n .given in refused-header (a .image .now) (a .m .now) _ (stage-refused _ (g .0 .0) (sym (g .1) ∙ c .before .before .before .test-header .ensures))
 
 pub recover-spec : {M : Type 1} → statement M
 recover-spec =

@@ -1,10 +1,9 @@
-use Prim.Native.Nat.{_+_, _-_, _≤_}
+use Prim.Native.Nat.{_-_, _≤_}
 use mathlib.Core.Bool.{_&&_}
 use mathlib.Core.Path.{_≡_, sym, _∙_}
-use borrow.Author.Tests.{not-true, not-false}
 use native.Mathlib.Omega.{arith}
-use Rattle.rows.proofs.Places.{rising-none, rising-first, rising-marked, follows-unmarked}
-use Rattle.rows.proofs.Turns.{pair-turn, pair-stop, pair-end}
+use Rattle.rows.proofs.Places.{rising-none, rising-first, rising-marked, rising-stop, rising-turn}
+use Rattle.rows.proofs.Turns.{pair-end}
 use Rattle.rows.specs.Columns.{rowAt, rowsIn, tab}
 use Rattle.rows.specs.Rows.{follows, startsWell}
 use Rattle.basics.specs.Basics.{paired}
@@ -84,34 +83,24 @@ follows-requires c κs = omega arith
 
 returns-3 : tie.Need-returns-3 Inv-loop μ-loop
 returns-3 c =
-    let p10 = c .before .before .before .before .before .before .before .before .before .before in
-    let p18 = p10 .before .before .before .before .before .before .before .before in
+    let p9 = c .before .before .before .before .before .before .before .before .before in let p10 = p9 .before in let p18 = p10 .before .before .before .before .before .before .before .before in
     let a = p18 .args in let p = p10 .loop in
-    let g = rowAt (a .places .now) (a .numbers .now) (a .owners .now) (a .marks .now) in
-    let e = follows-unmarked (a .places .now) (a .numbers .now) (a .owners .now) (a .marks .now) (p .i - 1) (p .i) in
-    sym (p .inv .1 .1 ∙ pair-stop follows g (p .i) (a .count) (p .inv .0) (omega arith) (sym e ∙ sym (c .before .follows .ensures) ∙ not-true _ (c .if3 .taken)))
+    rising-stop (a .places .now) (a .numbers .now) (a .owners .now) (a .marks .now) (p .i) (a .count) (p .inv .0) (omega (arith, p9 .loop-test)) (p .inv .1 .1)
+    (c .before .follows .ensures) (c .if3 .taken)
 
 add-i : tie.Need-add-i Inv-loop μ-loop
 add-i c = omega arith
 
 loop-less : tie.Need-loop-less Inv-loop μ-loop
-loop-less c = omega arith
+loop-less c = omega (arith, c .before .before .before .before .before .before .before .before .before .loop-test)
 
 loop-again : tie.Need-loop-again Inv-loop μ-loop
 loop-again c =
-    let p10 = c .before .before .before .before .before .before .before .before .before .before in
-    let p18 = p10 .before .before .before .before .before .before .before .before in
+    let p9 = c .before .before .before .before .before .before .before .before .before in let p10 = p9 .before in let p18 = p10 .before .before .before .before .before .before .before .before in
     let a = p18 .args in let p = p10 .loop in
-    let g = rowAt (a .places .now) (a .numbers .now) (a .owners .now) (a .marks .now) in
-    let d = follows-unmarked (a .places .now) (a .numbers .now) (a .owners .now) (a .marks .now) (p .i - 1) (p .i) in
-    let e : p .i + 1 - 1 ≡ p .i = omega arith in (
-      omega arith,
-      (
-        omega arith,
-        p .inv .1 .1 ∙ rw e (pair-turn follows g (p .i) (a .count) (p .inv .0) (omega arith)
-            (sym d ∙ sym (c .before .follows .ensures) ∙ not-false _ (c .if3 .left))),
-      ),
-    )
+    let t = rising-turn (a .places .now) (a .numbers .now) (a .owners .now) (a .marks .now) (p .i) (a .count) (p .inv .0) (omega (arith, p9 .loop-test)) (p .inv .1 .1)
+    (c .before .follows .ensures) (c .if3 .left) in
+    (omega arith, (omega (arith, p9 .loop-test), t))
 
 returns-4 : tie.Need-returns-4 Inv-loop μ-loop
 returns-4 c =

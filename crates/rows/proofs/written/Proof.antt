@@ -53,11 +53,12 @@ loop-again c =
     let p5 = c .before .before .before .before .before in let p8 = p5 .before .before .before in
     let s = p8 in let p = p5 .loop in
     let g = rowAt [] (s .args .numbers .now) (s .args .owners .now) [] in
-    let t = tab-turn g (p .i) (s .args .count) (omega arith) in
+    let t = tab-turn g (p .i) (s .args .count) (omega (arith, c .before .before .before .before .loop-test)) in
     let f = earlierBy (s .args .t) (s .args .n) in
+    let l : p .i + 1 ≤ s .args .count = omega (arith, c .before .before .before .before .loop-test) in
     ⊎-elim
-    (λ w. let h = count-yes f t (sym (c .before .earlier .ensures) ∙ w .0 .taken) in (omega arith, (omega arith, omega (arith, p .inv .1 .1))))
-    (λ w. let h = count-not f t (sym (c .before .earlier .ensures) ∙ w .0 .left) in (omega arith, (omega arith, omega (arith, p .inv .1 .1))))
+    (λ w. let h = count-yes f t (sym (c .before .earlier .ensures) ∙ w .0 .taken) in (l, (omega (arith, w .1, p .inv .1 .0), omega (arith, w .1, p .inv .1 .1))))
+    (λ w. let h = count-not f t (sym (c .before .earlier .ensures) ∙ w .0 .left) in (l, (omega (arith, w .1, p .inv .1 .0), omega (arith, w .1, p .inv .1 .1))))
     (c .if1 .came)
 
 returns : tie.Need-returns Inv-loop μ-loop

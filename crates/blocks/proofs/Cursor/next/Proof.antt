@@ -7,7 +7,7 @@ use native.Mathlib.Omega.{arith}
 use lib.Dec.{ltb}
 use Rattle.basics.specs.Basics.{if_then_else_}
 use Rattle.blocks.specs.Numbers.{num4}
-use Rattle.blocks.proofs.Cursors.{ownerPart, owner-tentative, owner-committed, flagsAt, part-small, part-tentative, none-far, none-long, none-short, found-whole}
+use Rattle.blocks.proofs.Cursors.{ownerPart, owner-tentative, owner-committed, flagsAt, part-small, part-tentative, none-far, none-long, none-short, found-as}
 use borrow.Author.Needs.{needs}
 use Rattle.blocks.proofs.Cursor.next.Statement.{statement}
 use Rattle.blocks.proofs.Cursor.next.Tie as tie
@@ -27,7 +27,7 @@ cast-len c = search needs
 
 returns-2 : tie.Need-returns-2
 returns-2 c = let s = c .before .before .before .before in
-    sym (none-long (s .args .block .now) (s .args .self .at) (s .pre) (omega arith) (omega arith))
+    sym (none-long (s .args .block .now) (s .args .self .at) (s .pre) (omega (arith, c .before .before .if1 .left)) (omega (arith, c .if2 .taken)))
 
 record-size-requires : tie.Need-record-size-requires
 record-size-requires c κs = search needs
@@ -39,30 +39,32 @@ add-end c = let s = c .before .before .before .before .before in
     omega (arith, part-small f)
 
 returns-3 : tie.Need-returns-3
-returns-3 c = let s = c .before .before .before .before .before .before in
+returns-3 c = let p4 = c .before .before .before .before in let s = p4 .before .before in
     let z = c .before .record-size in
-    sym (none-short (s .args .block .now) (s .args .self .at) (s .pre) (omega arith) (omega arith) (z .result) (z .ensures) (omega arith))
+    sym (none-short (s .args .block .now) (s .args .self .at) (s .pre) (omega (arith, p4 .if1 .left)) (omega (arith, c .before .before .if2 .left)) (z .result)
+    (z .ensures) (omega (arith, c .if3 .taken)))
 
 add-get4 : tie.Need-add-get4
-add-get4 c = search needs
+add-get4 c = omega (arith, c .before .before .before .before .before .if1 .left)
 
 get4-requires : tie.Need-get4-requires
 get4-requires c κs = let s = c .before .before .before .before .before .before .before in
     let f : ℕ = flagsAt (s .args .block .now) (s .args .self .at) in
     let e : c .before .before .record-size .result ≡ 9 + ownerPart f + f % 64 = c .before .before .record-size .ensures in
-    omega (arith, part-tentative f (c .if4 .taken))
+    omega (arith, part-tentative f (c .if4 .taken), c .before .if3 .left, s .pre)
 
 get4-requires-2 : tie.Need-get4-requires-2
-get4-requires-2 c κs = search needs
+get4-requires-2 c κs = omega (arith, c .before .before .before .before .before .if1 .left, c .before .before .before .before .before .before .before .pre)
 
 add-get4-2 : tie.Need-add-get4-2
-add-get4-2 c = search needs
+add-get4-2 c = omega (arith, c .before .before .before .before .before .before .if1 .left)
 
 get4-requires-3 : tie.Need-get4-requires-3
-get4-requires-3 c κs = search needs
+get4-requires-3 c κs = let s = c .before .before .before .before .before .before .before .before in
+    omega (arith, c .before .before .before .before .before .before .if1 .left, s .pre)
 
 sub-t17 : tie.Need-sub-t17
-sub-t17 c = search needs
+sub-t17 c = omega (arith, c .before .before .before .before .record-size .ensures)
 
 returns-4 : tie.Need-returns-4
 returns-4 c = let s = c .before .before .before .before .before .before .before .before .before in
@@ -73,8 +75,8 @@ returns-4 c = let s = c .before .before .before .before .before .before .before 
     let z = c .before .before .before .before .record-size in
     let o : c .before .before .if4 .owner ≡ (if ltb f 128 then w else 0) =
     ⊎-elim (λ h. h .2 ∙ h .1 .ensures ∙ owner-tentative f w (h .0 .taken)) (λ h. h .1 ∙ owner-committed f w (h .0 .left)) (c .before .before .if4 .came) in
-    let found = found-whole xs at (s .pre) (omega arith) (omega arith) (z .result) (z .ensures) (c .before .before .if4 .owner) o (omega arith) in
-    rw (c .get43 .ensures, c .before .get42 .ensures) (sym found)
+    found-as xs at (s .pre) (omega (arith, c .before .before .before .before .before .before .before .if1 .left)) (omega (arith, c .before .before .before .before .before .if2 .left)) (z .result) (z .ensures) (c .before .get42 .ensures)
+    (c .get43 .ensures) o (omega (arith, c .before .before .before .if3 .left))
 
 pub next-spec : {M : Type 1} → statement M
 next-spec =
