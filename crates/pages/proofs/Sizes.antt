@@ -24,6 +24,29 @@ pub all-small : (m : List ℕ) → Room m → (s n : ℕ) → s + n ≤ length (
 all-small m room s zero h = tt
 all-small m room s (suc n) h = (held-small m room s (omega arith), all-small m room (suc s) n (omega arith))
 
+-- the memory has at most 1,024 rows
+pub rows-few : {m : List ℕ} → Room m → length (flatOf m .rows) ≤ 1024
+rows-few room = let r = room .range in omega arith
+
+-- a turn of a loop over n rows from start on: it is at row i, of size s, and the rows before it have size all
+pub record Turn (start n i all s : ℕ) : Type 0 where
+  pub least : start ≤ i
+  pub inside : i < start + n
+  pub few : start + n ≤ 1024
+  pub light : all ≤ 53 * (i - start)
+  pub small : s ≤ 53
+
+pub turn : {m : List ℕ} {start n i all s : ℕ} → Room m × (start + n ≤ length (flatOf m .rows)) → start ≤ i → i < start + n → all ≤ 53 * (i - start)
+    → s ≡ heldSize (heldIn (flatOf m) i) → Turn start n i all s
+turn {m} {start} {n} {i} {all} {s} pre least inside light e =
+    record {
+      least = least;
+      inside = inside;
+      few = omega (arith, pre .1, rows-few (pre .0));
+      light = light;
+      small = omega (arith, held-small m (pre .0) i (omega (arith, pre .1)));
+    }
+
 module _ (f : ℕ → Held) (i n w a : ℕ) where
   pub lead-stop : i < n → w ≤ 2 * (a + heldSize (f i)) → lead w a (tab f i (n - i)) ≡ 1
   unfolding lead if_then_else_
