@@ -20,8 +20,7 @@ use Rattle.memory.proofs.Runs.{pages-count}
 use Rattle.pages.specs.Turns.{Turns, pagesOf, pageAt, tuplesAt, entryAt, startAt, At, swapped}
 use Rattle.pages.specs.Changes.{There, RowOn}
 use Rattle.pages.specs.Finding.{editAt, committedAt, FoundRow}
-use Rattle.pages.proofs.Places.{turns-to, turns-stay, turns-then, turns-pages, turns-held, swap-same, from-page, before-long, at-here, page-here, swap-at}
-use Rattle.pages.proofs.Searching.{table-is}
+use Rattle.pages.proofs.Places.{table-is, turns-to, turns-stay, turns-then, turns-pages, turns-held, swap-same, from-page, before-long, at-here, page-here, swap-at}
 use Rattle.pages.proofs.Swaps.{fresh-page, map-append}
 use Rattle.pages.proofs.Splitting.{is-frozen, not-frozen}
 use Rattle.pages.specs.Thawing.{withFlags}
@@ -127,18 +126,28 @@ committed-is {m} {n} {p} {start} {at} o =
 
 -- ---- freezing
 
-module _ (m : List ℕ) (p : ℕ) (e : Entry) (ee : e ≡ entryAt m p) where
-  pub freeze-dirty : e .block % 4096 ≡ 0 → pageOf (record { table = e .table; frozen = 1; count = e .count; block = e .block }) (tuplesAt m p) ≡ freeze (pageAt m p)
+module _ (m : List ℕ) (p : ℕ) {e : Entry} (ee : e ≡ entryAt m p) {m' : List ℕ} where
+  -- the page is frozen where its block is 0
+  frozen-if : (b : Bool) → eqb (e .block % 4096) 0 ≡ b
+      → Turns m m' (swapped p (record { table = e .table % 8; block = e .block % 4096; frozen = b; tuples = tuplesAt m p } ∷ []) (pagesOf m))
+      → Turns m m' (swapped p (freeze (pageAt m p) ∷ []) (pagesOf m))
   unfolding pageOf pageIn freeze isDirty
-  freeze-dirty z =
-      ap (λ (b : Bool). record { table = e .table % 8; block = e .block % 4096; frozen = b; tuples = tuplesAt m p }) (sym (eq-eqb (e .block % 4096) 0 z))
-      ∙ ap (λ (y : Entry). record { table = y .table % 8; block = y .block % 4096; frozen = eqb (y .block % 4096) 0; tuples = tuplesAt m p }) ee
+  frozen-if b eb t =
+      turns-to t (ap (λ (z : Page). swapped p (z ∷ []) (pagesOf m))
+      (ap (λ (z : Bool). record { table = e .table % 8; block = e .block % 4096; frozen = z; tuples = tuplesAt m p }) (sym eb)
+      ∙ ap (λ (y : Entry). record { table = y .table % 8; block = y .block % 4096; frozen = eqb (y .block % 4096) 0; tuples = tuplesAt m p }) ee))
 
-  pub freeze-clean : (e .block % 4096 ≡ 0 → ⊥) → pageOf (record { table = e .table; frozen = 0; count = e .count; block = e .block }) (tuplesAt m p) ≡ freeze (pageAt m p)
-  unfolding pageOf pageIn freeze isDirty
-  freeze-clean z =
-      ap (λ (b : Bool). record { table = e .table % 8; block = e .block % 4096; frozen = b; tuples = tuplesAt m p }) (sym (ne-eqb (e .block % 4096) 0 z))
-      ∙ ap (λ (y : Entry). record { table = y .table % 8; block = y .block % 4096; frozen = eqb (y .block % 4096) 0; tuples = tuplesAt m p }) ee
+  pub freeze-dirty : e .block % 4096 ≡ 0
+      → Turns m m' (swapped p (pageOf (record { table = e .table; frozen = 1; count = e .count; block = e .block }) (tuplesAt m p) ∷ []) (pagesOf m))
+      → Turns m m' (swapped p (freeze (pageAt m p) ∷ []) (pagesOf m))
+  unfolding pageOf
+  freeze-dirty z t = frozen-if true (eq-eqb (e .block % 4096) 0 z) t
+
+  pub freeze-clean : (e .block % 4096 ≡ 0 → ⊥)
+      → Turns m m' (swapped p (pageOf (record { table = e .table; frozen = 0; count = e .count; block = e .block }) (tuplesAt m p) ∷ []) (pagesOf m))
+      → Turns m m' (swapped p (freeze (pageAt m p) ∷ []) (pagesOf m))
+  unfolding pageOf
+  freeze-clean z t = frozen-if false (ne-eqb (e .block % 4096) 0 z) t
 
 -- the first p pages are frozen
 abbrev pub FreezeInv : List ℕ → List ℕ → ℕ → Type 0

@@ -23,7 +23,7 @@ use Rattle.pages.specs.Spots.{afterLast, placedOn, OnSpot, NewSpot, Spot
 use Rattle.pages.specs.declared.Spot.{Spot}
 use Rattle.pages.specs.declared.Spot.the-variants.{On, New}
 use Rattle.pages.proofs.Placing.{front-turn, front-on, front-new, front-last, other-table, no-key, place-on, place-front}
-use Rattle.pages.proofs.Places.{from-page}
+use Rattle.pages.proofs.Places.{from-page, table-is}
 use Rattle.pages.proofs.Last.{last-le}
 
 -- all pages before p are of lower tables
@@ -36,10 +36,6 @@ FrontInv m t p at =
 abbrev pub BackInv : List ℕ → ℕ → ℕ → ℕ → ℕ → Type 0
 BackInv m t k p at =
     (p ≤ length (flatOf m .entries)) × ((at ≡ startOf (flatOf m) p) × ((x : Tuple) → x .key ≡ k → placeAfter t x (drop p (pagesOf m)) ≡ none))
-
-pub table-is : (m : List ℕ) (p : ℕ) → pageAt m p .table ≡ entryIn (flatOf m) p .table % 8
-unfolding pageIn pageOf
-table-is m p = refl
 
 pub tuples-is : (m : List ℕ) (p : ℕ) → pageAt m p .tuples ≡ tab (heldIn (flatOf m)) (startOf (flatOf m) p) (entryIn (flatOf m) p .count)
 unfolding pageIn pageOf

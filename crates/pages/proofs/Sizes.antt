@@ -15,6 +15,7 @@ use Rattle.memory.specs.Flat.{flatOf, rowIn, Room}
 use Rattle.memory.specs.Store.{heldIn}
 use Rattle.memory.proofs.Laws.{tab-next}
 use Rattle.memory.proofs.Payloads.{held-size, payload-long}
+use Rattle.pages.proofs.Places.{rows-few}
 
 -- no tuple of the memory is larger than 53 bytes
 pub held-small : (m : List ℕ) → Room m → (i : ℕ) → i < length (flatOf m .rows) → heldSize (heldIn (flatOf m) i) ≤ 53
@@ -23,10 +24,6 @@ held-small m room i h = omega (arith, held-size (rowIn (flatOf m) i) (payload-lo
 pub all-small : (m : List ℕ) → Room m → (s n : ℕ) → s + n ≤ length (flatOf m .rows) → AllOf Small (tab (heldIn (flatOf m)) s n)
 all-small m room s zero h = tt
 all-small m room s (suc n) h = (held-small m room s (omega arith), all-small m room (suc s) n (omega arith))
-
--- the memory has at most 1,024 rows
-pub rows-few : {m : List ℕ} → Room m → length (flatOf m .rows) ≤ 1024
-rows-few room = let r = room .range in omega arith
 
 -- a turn of a loop over n rows from start on: it is at row i, of size s, and the rows before it have size all
 pub record Turn (start n i all s : ℕ) : Type 0 where

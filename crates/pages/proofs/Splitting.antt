@@ -23,7 +23,8 @@ use Rattle.pages.specs.Turns.{Turns, pagesOf, pageAt, tuplesAt, entryAt,
 use Rattle.pages.specs.Changes.{CutAt, Dirty, Halved}
 use Rattle.pages.specs.Spots.{placedOn, GrowAt}
 use Rattle.pages.proofs.Places.{turns-stay, turns-to, turns-again, swap-same, page-end, tuples-many, at-first, page-first}
-use Rattle.pages.proofs.Searching.{tuples-is, table-is}
+use Rattle.pages.proofs.Searching.{tuples-is}
+use Rattle.pages.proofs.Places.{table-is}
 use Rattle.pages.proofs.Sizes.{all-small}
 use Rattle.pages.proofs.Swaps.{fresh-page}
 use Rattle.pages.specs.Thawing.{withFlags}

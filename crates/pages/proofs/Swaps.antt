@@ -10,7 +10,7 @@ use lib.Seq.{length-take-le, take-all, drop-drop, take-add}
 use Rattle.basics.specs.Basics.{sum}
 use Rattle.model.specs.State.{Held, Page}
 use Rattle.model.specs.Rules.{fresh}
-use Rattle.memory.specs.Flat.{Flat, flatOf, entryIn, Becomes, withRows, withEntries, insertAt, removeAt}
+use Rattle.memory.specs.Flat.{Flat, flatOf, entryIn, Room, Becomes, withRows, withEntries, insertAt, removeAt}
 use Rattle.memory.specs.Store.{heldOf, heldIn, nest, pageOf, pageIn, total, startOf, exchanged, holdsStore}
 use Rattle.memory.specs.Views.{tab}
 use Rattle.memory.specs.declared.Row.{Row}
@@ -282,6 +282,10 @@ merged m m1 m2 h p e lt ec b1 b2 =
 
 pub still-there : {m m1 : List ℕ} {f : Flat} (p : ℕ) → Becomes m m1 f → p < length (f .entries) → p < length (flatOf m1 .entries)
 still-there p b h = omega (arith, ap (λ (x : Flat). length (x .entries)) (b .flat))
+
+-- and can be read or changed next
+pub then-in : {m m1 : List ℕ} {f : Flat} (p : ℕ) → Becomes m m1 f → p < length (f .entries) → Room m1 × (p < length (flatOf m1 .entries))
+then-in p b h = (b .room, still-there p b h)
 
 pub fresh-page : (t n : ℕ) (hs : List Held) → pageOf (record { table = t; frozen = 0; count = n; block = 0 }) hs ≡ fresh (t % 8) hs
 unfolding pageOf fresh

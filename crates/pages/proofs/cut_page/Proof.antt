@@ -9,7 +9,7 @@ use Prim.Native.Nat.{ℕ, _-_, _%_}
 use mathlib.Core.Path.{_≡_, refl, sym, ap, _∙_}
 use Rattle.memory.specs.Store.{pageOf}
 use Rattle.pages.proofs.Places.{turns-to, few}
-use Rattle.pages.proofs.Searching.{table-is}
+use Rattle.pages.proofs.Places.{table-is}
 use Rattle.model.specs.Rules.{fresh}
 use Rattle.memory.specs.declared.Entry.{Entry}
 use native.Mathlib.Omega.{arith}

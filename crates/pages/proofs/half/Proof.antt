@@ -4,7 +4,8 @@ use mathlib.Core.List.{List}
 use Prim.Native.Nat.{ℕ, _+_, _*_, _-_, _≤_}
 use mathlib.Core.Path.{_≡_, sym, ap}
 use Rattle.model.specs.Rules.{heldSize, lead}
-use Rattle.pages.proofs.Sizes.{rows-few, Turn, turn, lead-stop, lead-go, lead-end}
+use Rattle.pages.proofs.Places.{rows-few}
+use Rattle.pages.proofs.Sizes.{Turn, turn, lead-stop, lead-go, lead-end}
 use Rattle.memory.specs.Views.{tab}
 use native.Mathlib.Omega.{arith}
 use Rattle.pages.proofs.half.Statement.{statement}

@@ -5,7 +5,7 @@ use mathlib.Core.List.{List}
 use Prim.Native.Nat.{ℕ, _+_, _%_}
 use mathlib.Core.Path.{_≡_, sym, ap, _∙_}
 use lib.Dec.{leb}
-use Rattle.pages.proofs.Searching.{table-is}
+use Rattle.pages.proofs.Places.{table-is}
 use Rattle.pages.proofs.Splitting.{is-frozen, not-frozen}
 use Rattle.pages.proofs.Joining.{joins-frozen, joins-next, joins-other, joins-sizes, both-sizes, next-at}
 use Rattle.memory.specs.declared.Entry.{Entry}

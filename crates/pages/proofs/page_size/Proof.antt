@@ -6,7 +6,8 @@ use mathlib.Core.Path.{_≡_, ap}
 use Rattle.model.specs.Rules.{heldSize}
 use Rattle.basics.specs.Basics.{sum}
 use Rattle.memory.proofs.Runs.{sum-next, sum-end}
-use Rattle.pages.proofs.Sizes.{rows-few, Turn, turn}
+use Rattle.pages.proofs.Places.{rows-few}
+use Rattle.pages.proofs.Sizes.{Turn, turn}
 use Rattle.memory.specs.Views.{tab}
 use native.Mathlib.Omega.{arith}
 use Rattle.pages.proofs.page_size.Statement.{statement}

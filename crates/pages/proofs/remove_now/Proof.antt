@@ -5,7 +5,7 @@ use Rattle.memory.proofs.Refusal.{held-room}
 use mathlib.Core.List.{List}
 use Prim.Native.Nat.{ℕ, _-_, _%_}
 use mathlib.Core.Path.{_≡_, sym, ap, _∙_}
-use Rattle.pages.proofs.Searching.{table-is}
+use Rattle.pages.proofs.Places.{table-is}
 use Rattle.memory.specs.declared.Entry.{Entry}
 use native.Mathlib.Omega.{arith}
 use borrow.Author.Needs.{needs}

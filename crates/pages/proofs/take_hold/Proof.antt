@@ -6,7 +6,7 @@ use mathlib.Core.List.{List}
 use Prim.Native.Nat.{ℕ, _%_}
 use mathlib.Core.Path.{_≡_, sym, ap, _∙_, subst}
 use Rattle.pages.specs.Thawing.{TakesHold}
-use Rattle.pages.proofs.Searching.{table-is}
+use Rattle.pages.proofs.Places.{table-is}
 use Rattle.pages.proofs.Ripening.{hold-none, hold-some, hold-most}
 use Rattle.memory.specs.declared.Entry.{Entry}
 use native.Mathlib.Omega.{arith}

@@ -8,7 +8,7 @@ use borrow.Author.Tests.{not-true, not-false}
 use Rattle.basics.specs.Basics.{any}
 use Rattle.pages.proofs.Ripening.{waits}
 use Rattle.pages.proofs.Splitting.{run-tuples}
-use Rattle.pages.proofs.Searching.{table-is}
+use Rattle.pages.proofs.Places.{table-is}
 use Rattle.pages.proofs.Melting.{thawed-clean, thawed-none, thawed-at, thawed-joined, split-at, split-dirty, thawed-split}
 use Rattle.memory.specs.declared.Entry.{Entry}
 use native.Mathlib.Omega.{arith}
