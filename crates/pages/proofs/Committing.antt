@@ -20,7 +20,7 @@ use Rattle.memory.proofs.Runs.{pages-count}
 use Rattle.pages.specs.Turns.{Turns, pagesOf, pageAt, tuplesAt, entryAt, startAt, At, swapped}
 use Rattle.pages.specs.Changes.{There, RowOn}
 use Rattle.pages.specs.Finding.{editAt, committedAt, FoundRow}
-use Rattle.pages.proofs.Places.{table-is, turns-to, turns-stay, turns-then, turns-pages, turns-held, swap-same, from-page, before-long, at-here, page-here, swap-at}
+use Rattle.pages.proofs.Places.{same-table, turns-to, turns-stay, turns-then, turns-pages, turns-held, swap-same, from-page, before-long, at-here, page-here, swap-at}
 use Rattle.pages.proofs.Swaps.{fresh-page, map-append}
 use Rattle.pages.proofs.Splitting.{is-frozen, not-frozen}
 use Rattle.pages.specs.Thawing.{withFlags}
@@ -38,7 +38,7 @@ committed-now : (j : ℕ) (q : Page) → q .frozen ≡ false → committedAt j q
 unfolding committedAt if_then_else_
 committed-now j q e = rw e
 
-module _ {m : List ℕ} {p at : ℕ} (g : RowOn m p at) (row : Row) (er : row ≡ rowIn (flatOf m) at) (e : Entry) (ee : e ≡ entryAt m p) where
+module _ {m : List ℕ} {p at : ℕ} (g : RowOn m p at) {row : Row} (er : row ≡ rowIn (flatOf m) at) {e : Entry} (ee : e ≡ entryAt m p) where
   abbrev j : ℕ
   j = at - startAt m p
 
@@ -49,7 +49,7 @@ module _ {m : List ℕ} {p at : ℕ} (g : RowOn m p at) (row : Row) (er : row �
   old = getD (tuplesAt m p) (at - startAt m p) (heldOf noRow)
 
   old-row : getD (tuplesAt m p) (at - startAt m p) (heldOf noRow) ≡ heldOf row
-  old-row = held-row g row er e ee
+  old-row = held-row g er ee
 
   old-pending : getD (tuplesAt m p) (at - startAt m p) (heldOf noRow) .pending ≡ pendingOf (row .flags / 4 % 4)
   old-pending = ap (λ (z : Held). z .pending) old-row ∙ pending-is row
@@ -68,7 +68,7 @@ module _ {m : List ℕ} {p at : ℕ} (g : RowOn m p at) (row : Row) (er : row �
       let x : Held = heldOf (withFlags row f) in
       turns-to t (ap (λ (z : Page). swapped p (z ∷ []) (pagesOf m))
       (fresh-page (e .table) (e .count) (set hs j x)
-      ∙ ap (λ (y : ℕ). fresh y (set hs j x)) (ap (λ (y : Entry). y .table % 8) ee ∙ sym (table-is m p))
+      ∙ ap (λ (y : ℕ). fresh y (set hs j x)) (same-table m p ee)
       ∙ ap (fresh (pageAt m p .table)) (sym (edit-one kept (heldOf noRow) x hs j (kept-is f ef)))
       ∙ sym (committed-now j (pageAt m p) (not-frozen m p (ap (λ (y : Entry). y .frozen) (sym ee) ∙ z)))))
 

@@ -20,7 +20,7 @@ use Rattle.pages.specs.Changes.{RowOn, Tries, settledAt}
 use Rattle.pages.specs.Finding.{firstOf, editAt, takenAt, settledBy, NoneOf, FirstPage, FoundRow, FoundBy}
 use Rattle.memory.specs.Views.{tab}
 use Rattle.memory.proofs.Runs.{start-zero, pages-count}
-use Rattle.pages.proofs.Places.{turns-to, turns-stay, turns-then, swap-same, from-page, at-first, page-first, has-row, ends-at, tuples-many}
+use Rattle.pages.proofs.Places.{there-at, same-count, same-table, turns-to, turns-stay, turns-then, swap-same, from-page, at-first, page-first, has-row, ends-at, tuples-many}
 use Rattle.pages.proofs.Swaps.{fresh-page, length-remove}
 use Rattle.pages.proofs.Splitting.{run-tuples, with-tuples}
 use Rattle.pages.specs.Thawing.{withFlags}
@@ -41,7 +41,7 @@ unfolding pageIn pageOf withTuples
 page-with m p hs = refl
 
 pub here : {m : List ℕ} {p at : ℕ} → RowOn m p at → At m p (startAt m p)
-here g = record { held = g .there .held; inside = g .there .inside; begins = refl }
+here g = there-at (g .there)
 
 module _ {m : List ℕ} {p at : ℕ} (g : RowOn m p at) where
   many-is : length (tuplesAt m p) ≡ entryAt m p .count
@@ -49,7 +49,7 @@ module _ {m : List ℕ} {p at : ℕ} (g : RowOn m p at) where
 
   -- ---- on a frozen page
 
-  module _ (row : Row) (er : row ≡ rowIn (flatOf m) at) (e : Entry) (ee : e ≡ entryAt m p) where
+  module _ {row : Row} (er : row ≡ rowIn (flatOf m) at) {e : Entry} (ee : e ≡ entryAt m p) where
     pub held-row : getD (tuplesAt m p) (at - startAt m p) (heldOf noRow) ≡ heldOf row
     held-row = held-at g ∙ ap heldOf (sym er)
 
@@ -66,7 +66,7 @@ module _ {m : List ℕ} {p at : ℕ} (g : RowOn m p at) where
     pub later-last : row .flags / 4 % 4 ≡ 1 → e .count ≡ 1
         → Turns m m (swapped p (withTuples (pageAt m p) (takenAt (at - startAt m p) (tuplesAt m p)) ∷ []) (pagesOf m))
     later-last h l =
-        let k : length (tuplesAt m p) ≡ 1 = many-is ∙ ap (λ (x : Entry). x .count) (sym ee) ∙ l in
+        let k : length (tuplesAt m p) ≡ 1 = many-is ∙ sym (same-count ee) ∙ l in
         turns-to (turns-stay m (g .there .held))
         (sym (ap (λ (z : List Held). swapped p (withTuples (pageAt m p) z ∷ []) (pagesOf m)) (taken-last (at - startAt m p) (tuplesAt m p) (heldOf noRow) (row-inside g) (row-adding h) k)
         ∙ ap (λ (z : Page). swapped p (z ∷ []) (pagesOf m)) same-tuples ∙ swap-same (here g)))
@@ -75,7 +75,7 @@ module _ {m : List ℕ} {p at : ℕ} (g : RowOn m p at) where
         → Turns m m' (swapped p (pageOf (record { table = e .table; frozen = e .frozen; count = n; block = e .block }) (removeAt (at - startAt m p) (tuplesAt m p)) ∷ []) (pagesOf m))
         → Turns m m' (swapped p (withTuples (pageAt m p) (takenAt (at - startAt m p) (tuplesAt m p)) ∷ []) (pagesOf m))
     later-away n h l t =
-        let k : 1 < length (tuplesAt m p) = more (length (tuplesAt m p)) (omega (arith, many-is, has-row (here g))) (λ z. l (ap (λ (x : Entry). x .count) ee ∙ sym many-is ∙ z)) in
+        let k : 1 < length (tuplesAt m p) = more (length (tuplesAt m p)) (omega (arith, many-is, has-row (here g))) (λ z. l (same-count ee ∙ sym many-is ∙ z)) in
         turns-to t (ap (λ (z : Page). swapped p (z ∷ []) (pagesOf m))
         (ap (λ (x : Entry). pageOf (record { table = x .table; frozen = x .frozen; count = n; block = x .block }) (removeAt (at - startAt m p) (tuplesAt m p))) ee
         ∙ with-tuples m p n (removeAt (at - startAt m p) (tuplesAt m p))
@@ -96,28 +96,28 @@ module _ {m : List ℕ} {p at : ℕ} (g : RowOn m p at) where
 
   -- ---- on another page
 
-  module _ (n : ℕ) (en : n ≡ entryAt m p .count) where
+  module _ {e : Entry} (ee : e ≡ entryAt m p) where
     abbrev left : List Held
     left = removeAt (at - startAt m p) (tuplesAt m p)
 
-    left-long : length (removeAt (at - startAt m p) (tuplesAt m p)) ≡ n - 1
-    left-long = length-remove (at - startAt m p) (tuplesAt m p) (row-inside g) ∙ ap (λ (z : ℕ). z - 1) (many-is ∙ sym en)
+    left-long : length (removeAt (at - startAt m p) (tuplesAt m p)) ≡ e .count - 1
+    left-long = length-remove (at - startAt m p) (tuplesAt m p) (row-inside g) ∙ ap (λ (z : ℕ). z - 1) (many-is ∙ sym (same-count ee))
 
     abbrev new : Page
     new = fresh (pageAt m p .table) left
 
-    pub now-none : n ≡ 1 → {m' : List ℕ} → Turns m m' (swapped p [] (pagesOf m)) → Turns m m' (settledBy p (new ∷ []) new (pagesOf m))
-    now-none e t = turns-to t (settled-none (here g) (pageAt m p .table) left (new ∷ []) (left-long ∙ omega arith))
+    pub now-none : e .count ≡ 1 → {m' : List ℕ} → Turns m m' (swapped p [] (pagesOf m)) → Turns m m' (settledBy p (new ∷ []) new (pagesOf m))
+    now-none l t = turns-to t (settled-none (here g) (pageAt m p .table) left (new ∷ []) (left-long ∙ omega arith))
 
-    module _ {m1 : List ℕ} (t k : ℕ) (et : t % 8 ≡ pageAt m p .table)
-        (u : Turns m m1 (swapped p (pageOf (record { table = t; frozen = 0; count = k; block = 0 }) (removeAt (at - startAt m p) (tuplesAt m p)) ∷ []) (pagesOf m))) where
+    module _ {m1 : List ℕ} (k : ℕ)
+        (u : Turns m m1 (swapped p (pageOf (record { table = e .table; frozen = 0; count = k; block = 0 }) (removeAt (at - startAt m p) (tuplesAt m p)) ∷ []) (pagesOf m))) where
       came : Turns m m1 (swapped p (fresh (pageAt m p .table) (removeAt (at - startAt m p) (tuplesAt m p)) ∷ []) (pagesOf m))
-      came = turns-to u (ap (λ (z : Page). swapped p (z ∷ []) (pagesOf m)) (fresh-page t k left ∙ ap (λ (z : ℕ). fresh z left) et))
+      came = turns-to u (ap (λ (z : Page). swapped p (z ∷ []) (pagesOf m)) (fresh-page (e .table) k left ∙ ap (λ (z : ℕ). fresh z left) (same-table m p ee)))
 
       pub now-at : {start : ℕ} → At m p start → At m1 p start
       now-at a = at-first a new [] came
 
-      pub now-joined : {m2 : List ℕ} (r : Bool) → 1 < n → Tries m1 m2 r (settledAt p (pagesOf m1)) (λ rest. swapped p rest (pagesOf m1))
+      pub now-joined : {m2 : List ℕ} (r : Bool) → 1 < e .count → Tries m1 m2 r (settledAt p (pagesOf m1)) (λ rest. swapped p rest (pagesOf m1))
           → Turns m m2 (settledBy p (new ∷ []) new (pagesOf m))
       now-joined r l v =
           let a1 : At m1 p (startAt m p) = now-at (here g) in

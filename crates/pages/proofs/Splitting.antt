@@ -22,9 +22,8 @@ use Rattle.memory.proofs.Refusal.{held-room}
 use Rattle.pages.specs.Turns.{Turns, pagesOf, pageAt, tuplesAt, entryAt, startAt, At, swapped}
 use Rattle.pages.specs.Changes.{CutAt, Dirty, Halved}
 use Rattle.pages.specs.Spots.{placedOn, GrowAt}
-use Rattle.pages.proofs.Places.{turns-stay, turns-to, turns-again, swap-same, page-end, tuples-many, at-first, page-first}
+use Rattle.pages.proofs.Places.{same-table, turns-stay, turns-to, turns-again, swap-same, page-end, tuples-many, at-first, page-first}
 use Rattle.pages.proofs.Searching.{tuples-is}
-use Rattle.pages.proofs.Places.{table-is}
 use Rattle.pages.proofs.Sizes.{all-small}
 use Rattle.pages.proofs.Swaps.{fresh-page}
 use Rattle.pages.specs.Thawing.{withFlags}
@@ -161,7 +160,7 @@ module _ {m : List ℕ} {p start at : ℕ} (g : GrowAt m p start at) where
       came =
           turns-to t (ap (λ (z : Page). swapped p (z ∷ []) (pagesOf m))
           (fresh-page (e .table) n (insertAt (at - startAt m p) (heldOf row) (tuplesAt m p))
-          ∙ ap (λ (z : ℕ). fresh z (insertAt (at - startAt m p) (heldOf row) (tuplesAt m p))) (ap (λ (y : Entry). y .table % 8) ee ∙ sym (table-is m p))
+          ∙ ap (λ (z : ℕ). fresh z (insertAt (at - startAt m p) (heldOf row) (tuplesAt m p))) (same-table m p ee)
           ∙ ap (λ (z : Held). fresh (pageAt m p .table) (insertAt (at - startAt m p) z (tuplesAt m p))) (held-calm row plain)
           ∙ ap (λ (z : ℕ). fresh (pageAt m p .table) (insertAt z (calm (tupleOf row)) (tuplesAt m p))) place-is))
 
