@@ -70,11 +70,11 @@ module _ {m : List ℕ} {p at : ℕ} (g : RowOn m p at) {row : Row} (er : row �
       (fresh-page (e .table) (e .count) (set hs j x)
       ∙ ap (λ (y : ℕ). fresh y (set hs j x)) (same-table m p ee)
       ∙ ap (fresh (pageAt m p .table)) (sym (edit-one kept (heldOf noRow) x hs j (kept-is f ef)))
-      ∙ sym (committed-now j (pageAt m p) (not-frozen m p (ap (λ (y : Entry). y .frozen) (sym ee) ∙ z)))))
+      ∙ sym (committed-now j (pageAt m p) (not-frozen m p ee z))))
 
   module _ (ne : e .frozen ≡ 0 → ⊥) where
     frozen : pageAt m p .frozen ≡ true
-    frozen = is-frozen m p (λ z. ne (ap (λ (y : Entry). y .frozen) ee ∙ z))
+    frozen = is-frozen m p ee ne
 
     -- what keptLater gives is the row's new tuple
     later : {m' : List ℕ} (x : Held) → keptLater old ≡ x ∷ [] → Turns m m' (swapped p (pageOf e (set (tuplesAt m p) (at - startAt m p) x) ∷ []) (pagesOf m))

@@ -12,6 +12,7 @@ use Rattle.model.specs.State.{Held, Page, Store}
 use Rattle.model.specs.Transactions.{changed}
 use Rattle.memory.specs.Flat.{Flat, flatOf, entryIn, noEntry, Room}
 use Rattle.memory.specs.Store.{heldOf, nest, pageOf, pagesIn, pageIn, total, startOf, holdsStore, storeOf}
+use Rattle.memory.specs.declared.Counts.{Counts}
 use Rattle.memory.specs.declared.Entry.{Entry}
 use Rattle.memory.proofs.Laws.{length-tab}
 use Rattle.memory.proofs.Nest.{Counted, counted-length, take-nest}
@@ -119,17 +120,17 @@ row-in {m} g = (held-room m (g .there .held), omega (arith, g .most, page-end (t
 pub at-there : {m : List ℕ} {p start : ℕ} → At m p start → There m p
 at-there a = record { held = a .held; inside = a .inside }
 
--- of an entry that was read
+-- of counts and an entry that were read
+
+pub same-pages : {c d : Counts} → c ≡ d → c .pages ≡ d .pages
+same-pages e = ap (λ (x : Counts). x .pages) e
 
 pub same-count : {e f : Entry} → e ≡ f → e .count ≡ f .count
 same-count ee = ap (λ (x : Entry). x .count) ee
 
-pub table-is : (m : List ℕ) (p : ℕ) → pageAt m p .table ≡ entryAt m p .table % 8
-unfolding pageIn pageOf
-table-is m p = refl
-
 pub same-table : (m : List ℕ) (p : ℕ) {e : Entry} → e ≡ entryAt m p → e .table % 8 ≡ pageAt m p .table
-same-table m p ee = ap (λ (x : Entry). x .table % 8) ee ∙ sym (table-is m p)
+unfolding pageIn pageOf
+same-table m p ee = ap (λ (x : Entry). x .table % 8) ee
 
 pub run-in : {m : List ℕ} {p start : ℕ} → At m p start → {e : Entry} → e ≡ entryAt m p → Room m × (start + e .count ≤ length (flatOf m .rows))
 run-in {m} a ee = (held-room m (a .held), omega (arith, page-end a, same-count ee))

@@ -168,40 +168,45 @@ PassInv m hit p start = (p ≤ length (flatOf m .entries)) × ((start ≡ startO
 pub pass-start : (m : List ℕ) (hit : Page → Bool) → PassInv m hit 0 0
 pass-start m hit = (omega arith, (sym (start-zero (flatOf m)), tt))
 
-module _ (m : List ℕ) (h : holdsStore m ≡ true) (hit : Page → Bool) (p start : ℕ) (inv : PassInv m hit p start) where
-  pub pass-at : p < length (flatOf m .entries) → At m p start
-  pass-at lt = record { held = h; inside = lt; begins = inv .1 .0 }
+pub pass-end : (m : List ℕ) (hit : Page → Bool) (p start : ℕ) → PassInv m hit p start → length (flatOf m .entries) ≤ p → NoneOf hit (pagesOf m)
+pass-end m hit p start inv l = subst (NoneOf hit) (take-all p (pagesOf m) (omega (arith, pages-count (flatOf m)))) (inv .1 .1)
 
-  pub pass-on : (lt : p < length (flatOf m .entries)) (end : ℕ) → end ≡ start + entryAt m p .count → hit (pageAt m p) ≡ false → PassInv m hit (p + 1) end
-  pass-on lt end ee e = (
-    omega arith,
+module _ {m : List ℕ} {p start : ℕ} (a : At m p start) (hit : Page → Bool) (inv : PassInv m hit p start) where
+  pub pass-on : {e : Entry} → e ≡ entryAt m p → hit (pageAt m p) ≡ false → PassInv m hit (p + 1) (start + e .count)
+  pass-on {e} ee past = (
+    omega (arith, a .inside),
     (
-      ee ∙ sym (ends-at (pass-at lt)),
-      subst (λ (z : ℕ). NoneOf hit (take z (pagesOf m))) (sym (add-one p)) (none-snoc hit p (pageAt m p) (pagesOf m) (inv .1 .1) (from-page (pass-at lt)) e),
+      ap (λ (z : ℕ). start + z) (same-count ee) ∙ sym (ends-at a),
+      subst (λ (z : ℕ). NoneOf hit (take z (pagesOf m))) (sym (add-one p)) (none-snoc hit p (pageAt m p) (pagesOf m) (inv .1 .1) (from-page a) past),
     ),
   )
 
-  pub pass-first : (lt : p < length (flatOf m .entries)) → hit (pageAt m p) ≡ true → FirstPage m hit p start
-  pass-first lt e = record { on = pass-at lt; passed = inv .1 .1; hits = e }
+  pub pass-first : hit (pageAt m p) ≡ true → FirstPage m hit p start
+  pass-first hits = record { on = a; passed = inv .1 .1; hits = hits }
 
-  pub pass-end : length (flatOf m .entries) ≤ p → NoneOf hit (pagesOf m)
-  pass-end l = subst (NoneOf hit) (take-all p (pagesOf m) (omega (arith, pages-count (flatOf m)))) (inv .1 .1)
-
-module _ {m : List ℕ} {p start : ℕ} (a : At m p start) (n end at : ℕ) (ee : end ≡ start + entryAt m p .count)
-    (ea : at ≡ start + firstOf n (tab (heldIn (flatOf m)) start (end - start))) where
+-- what the search on a page for a number found
+module _ {m : List ℕ} {p start : ℕ} (a : At m p start) (n : ℕ) (inv : PassInv m (hasNumber n) p start) {e : Entry} (ee : e ≡ entryAt m p) {at : ℕ}
+    (ea : at ≡ start + firstOf n (tab (heldIn (flatOf m)) start (start + e .count - start))) where
   number-is : firstOf n (tuplesAt m p) ≡ at - start
   number-is =
-      let el : end - start ≡ entryAt m p .count = omega arith in
-      let q : firstOf n (tab (heldIn (flatOf m)) start (end - start)) ≡ firstOf n (tuplesAt m p) = ap (firstOf n) (run-tuples a (end - start) el) in
+      let el : start + e .count - start ≡ entryAt m p .count = omega (arith, same-count ee) in
+      let q : firstOf n (tab (heldIn (flatOf m)) start (start + e .count - start)) ≡ firstOf n (tuplesAt m p) = ap (firstOf n) (run-tuples a (start + e .count - start) el) in
       omega arith
 
-  pub number-here : at < end → (hasNumber n (pageAt m p) ≡ true) × (firstOf n (tuplesAt m p) ≡ at - start)
+  pub row-found : at < start + e .count → FoundRow m n p start at
   unfolding hasNumber
-  number-here l = (first-any n (tuplesAt m p) (omega (arith, number-is, tuples-many a)), number-is)
+  row-found l =
+      let ec = same-count ee in
+      record {
+        page = pass-first a (hasNumber n) inv (first-any n (tuplesAt m p) (omega (arith, number-is, tuples-many a)));
+        least = omega arith;
+        most = omega arith;
+        first = number-is;
+      }
 
-  pub number-none : end ≤ at → hasNumber n (pageAt m p) ≡ false
+  pub row-passed : start + e .count ≤ at → PassInv m (hasNumber n) (p + 1) (start + e .count)
   unfolding hasNumber
-  number-none l = first-none n (tuplesAt m p) (omega (arith, number-is, tuples-many a))
+  row-passed l = pass-on a (hasNumber n) inv ee (first-none n (tuplesAt m p) (omega (arith, number-is, tuples-many a, same-count ee)))
 
 -- where the search led
 module _ (m : List ℕ) (n : ℕ) (r : Found) (o : FoundBy m n r) where

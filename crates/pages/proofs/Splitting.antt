@@ -97,11 +97,15 @@ frozen-is : (m : List ℕ) (p : ℕ) → pageAt m p .frozen ≡ not (eqb (entryA
 unfolding pageIn pageOf
 frozen-is m p = refl
 
-pub is-frozen : (m : List ℕ) (p : ℕ) → (entryAt m p .frozen ≡ 0 → ⊥) → pageAt m p .frozen ≡ true
-is-frozen m p h = frozen-is m p ∙ ap not (ne-eqb _ 0 h)
+module _ (m : List ℕ) (p : ℕ) {e : Entry} (ee : e ≡ entryAt m p) where
+  flag-is : e .frozen ≡ entryAt m p .frozen
+  flag-is = ap (λ (x : Entry). x .frozen) ee
 
-pub not-frozen : (m : List ℕ) (p : ℕ) → entryAt m p .frozen ≡ 0 → pageAt m p .frozen ≡ false
-not-frozen m p h = frozen-is m p ∙ ap not (eq-eqb _ 0 h)
+  pub is-frozen : (e .frozen ≡ 0 → ⊥) → pageAt m p .frozen ≡ true
+  is-frozen h = frozen-is m p ∙ ap not (ne-eqb _ 0 (λ z. h (flag-is ∙ z)))
+
+  pub not-frozen : e .frozen ≡ 0 → pageAt m p .frozen ≡ false
+  not-frozen h = frozen-is m p ∙ ap not (eq-eqb _ 0 (sym flag-is ∙ h))
 
 -- a page with other tuples, by its entry
 pub with-tuples : (m : List ℕ) (p n : ℕ) (hs : List Held)
@@ -149,7 +153,7 @@ module _ {m : List ℕ} {p start at : ℕ} (g : GrowAt m p start at) where
         ∙ ap (λ (z : Page). z ∷ []) (with-tuples m p n (insertAt (at - startAt m p) (heldOf (withFlags row f)) (tuplesAt m p)))
         ∙ ap (λ (z : Held). withTuples (pageAt m p) (insertAt (at - startAt m p) z (tuplesAt m p)) ∷ []) (held-adding row f plain ef)
         ∙ ap (λ (z : ℕ). withTuples (pageAt m p) (insertAt z x (tuplesAt m p)) ∷ []) place-is
-        ∙ sym (grown-frozen (pageAt m p) (tupleOf row) (at - start) (is-frozen m p (λ z. ne (ap (λ (y : Entry). y .frozen) ee ∙ z)))))
+        ∙ sym (grown-frozen (pageAt m p) (tupleOf row) (at - start) (is-frozen m p ee ne)))
 
     module _ {m1 : List ℕ} (n : ℕ)
         (t : Turns m m1 (swapped p (pageOf (record { table = e .table; frozen = 0; count = n; block = 0 }) (insertAt (at - startAt m p) (heldOf row) (tuplesAt m p)) ∷ []) (pagesOf m))) where
@@ -180,4 +184,4 @@ module _ {m : List ℕ} {p start at : ℕ} (g : GrowAt m p start at) where
           turns-to (turns-again (g .on) (fresh (pageAt m p .table) more) _ came (h .turns))
           (ap (λ (y : List Page). swapped p y (pagesOf m))
           (ap (λ (y : Page). map (fresh (y .table)) (splitOnce (y .tuples))) grew-page
-          ∙ sym (grown-split (pageAt m p) (tupleOf row) (at - start) (not-frozen m p (ap (λ (y : Entry). y .frozen) (sym ee) ∙ z)))))
+          ∙ sym (grown-split (pageAt m p) (tupleOf row) (at - start) (not-frozen m p ee z))))

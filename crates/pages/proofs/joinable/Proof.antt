@@ -1,14 +1,12 @@
-use Rattle.pages.proofs.Places.{page-end, tuples-many}
+use Rattle.pages.proofs.Places.{page-end, tuples-many, same-count, same-table}
 use Rattle.pages.specs.Turns.{pageAt, entryAt}
 use Rattle.memory.proofs.Refusal.{held-room}
 use mathlib.Core.List.{List}
 use Prim.Native.Nat.{ℕ, _+_, _%_}
 use mathlib.Core.Path.{_≡_, sym, ap, _∙_}
 use lib.Dec.{leb}
-use Rattle.pages.proofs.Places.{table-is}
 use Rattle.pages.proofs.Splitting.{is-frozen, not-frozen}
 use Rattle.pages.proofs.Joining.{joins-frozen, joins-next, joins-other, joins-sizes, both-sizes, next-at}
-use Rattle.memory.specs.declared.Entry.{Entry}
 use native.Mathlib.Omega.{arith}
 use borrow.Author.Needs.{needs}
 use Rattle.pages.proofs.joinable.Statement.{statement}
@@ -42,7 +40,7 @@ returns c =
     let m : List ℕ = st .args .m .now in
     let p : ℕ = st .args .p in
     let e1 : (b5 .get-entry .result) ≡ entryAt m p = b5 .get-entry .ensures in
-    sym (joins-frozen (pageAt m p) (pageAt m (p + 1)) (is-frozen m p (λ z. (c .if1 .taken) (ap (λ (x : Entry). x .frozen) e1 ∙ z))))
+    sym (joins-frozen (pageAt m p) (pageAt m (p + 1)) (is-frozen m p e1 (c .if1 .taken)))
 
 returns-2 : tie.Need-returns-2
 returns-2 c =
@@ -54,8 +52,8 @@ returns-2 c =
     let p : ℕ = st .args .p in
     let e1 : (b7 .get-entry .result) ≡ entryAt m p = b7 .get-entry .ensures in
     let e2 : (b6 .get-entry2 .result) ≡ entryAt m (p + 1) = b6 .get-entry2 .ensures in
-    let f1 = not-frozen m p (ap (λ (x : Entry). x .frozen) (sym e1) ∙ (c .before .before .if1 .left)) in
-    sym (joins-next (pageAt m p) (pageAt m (p + 1)) f1 (is-frozen m (p + 1) (λ z. (c .if2 .taken) (ap (λ (x : Entry). x .frozen) e2 ∙ z))))
+    let f1 = not-frozen m p e1 (c .before .before .if1 .left) in
+    sym (joins-next (pageAt m p) (pageAt m (p + 1)) f1 (is-frozen m (p + 1) e2 (c .if2 .taken)))
 
 returns-3 : tie.Need-returns-3
 returns-3 c =
@@ -68,10 +66,10 @@ returns-3 c =
     let p : ℕ = st .args .p in
     let e1 : (b8 .get-entry .result) ≡ entryAt m p = b8 .get-entry .ensures in
     let e2 : (b7 .get-entry2 .result) ≡ entryAt m (p + 1) = b7 .get-entry2 .ensures in
-    let f1 = not-frozen m p (ap (λ (x : Entry). x .frozen) (sym e1) ∙ (b3 .if1 .left)) in
-    let f2 = not-frozen m (p + 1) (ap (λ (x : Entry). x .frozen) (sym e2) ∙ (c .before .if2 .left)) in
-    let t1 : (b8 .get-entry .result .table) % 8 ≡ pageAt m p .table = ap (λ (x : Entry). x .table % 8) e1 ∙ sym (table-is m p) in
-    let t2 : (b7 .get-entry2 .result .table) % 8 ≡ pageAt m (p + 1) .table = ap (λ (x : Entry). x .table % 8) e2 ∙ sym (table-is m (p + 1)) in
+    let f1 = not-frozen m p e1 (b3 .if1 .left) in
+    let f2 = not-frozen m (p + 1) e2 (c .before .if2 .left) in
+    let t1 : (b8 .get-entry .result .table) % 8 ≡ pageAt m p .table = same-table m p e1 in
+    let t2 : (b7 .get-entry2 .result .table) % 8 ≡ pageAt m (p + 1) .table = same-table m (p + 1) e2 in
     sym (joins-other (pageAt m p) (pageAt m (p + 1)) f1 f2 (λ z. (c .if3 .taken) (t1 ∙ z ∙ sym t2)))
 
 cast-page-size : tie.Need-cast-page-size
@@ -95,8 +93,8 @@ page-size-requires c κs =
     let room = held-room m (a .held) in
     let e1 : (b10 .get-entry .result) ≡ entryAt m p = b10 .get-entry .ensures in
     let e2 : (b9 .get-entry2 .result) ≡ entryAt m (p + 1) = b9 .get-entry2 .ensures in
-    let c1 : (b10 .get-entry .result .count) ≡ entryAt m p .count = ap (λ (x : Entry). x .count) e1 in
-    let c2 : (b9 .get-entry2 .result .count) ≡ entryAt m (p + 1) .count = ap (λ (x : Entry). x .count) e2 in
+    let c1 : (b10 .get-entry .result .count) ≡ entryAt m p .count = same-count e1 in
+    let c2 : (b9 .get-entry2 .result .count) ≡ entryAt m (p + 1) .count = same-count e2 in
     (room, omega (arith, page-end (next-at a (st .pre .1)), tuples-many a))
 
 returns-4 : tie.Need-returns-4
@@ -113,12 +111,12 @@ returns-4 c =
     let a = st .pre .0 in
     let e1 : (b11 .get-entry .result) ≡ entryAt m p = b11 .get-entry .ensures in
     let e2 : (b10 .get-entry2 .result) ≡ entryAt m (p + 1) = b10 .get-entry2 .ensures in
-    let f1 = not-frozen m p (ap (λ (x : Entry). x .frozen) (sym e1) ∙ (b6 .if1 .left)) in
-    let f2 = not-frozen m (p + 1) (ap (λ (x : Entry). x .frozen) (sym e2) ∙ (b4 .if2 .left)) in
-    let t1 : (b11 .get-entry .result .table) % 8 ≡ pageAt m p .table = ap (λ (x : Entry). x .table % 8) e1 ∙ sym (table-is m p) in
-    let t2 : (b10 .get-entry2 .result .table) % 8 ≡ pageAt m (p + 1) .table = ap (λ (x : Entry). x .table % 8) e2 ∙ sym (table-is m (p + 1)) in
-    let c1 : (b11 .get-entry .result .count) ≡ entryAt m p .count = ap (λ (x : Entry). x .count) e1 in
-    let c2 : (b10 .get-entry2 .result .count) ≡ entryAt m (p + 1) .count = ap (λ (x : Entry). x .count) e2 in
+    let f1 = not-frozen m p e1 (b6 .if1 .left) in
+    let f2 = not-frozen m (p + 1) e2 (b4 .if2 .left) in
+    let t1 : (b11 .get-entry .result .table) % 8 ≡ pageAt m p .table = same-table m p e1 in
+    let t2 : (b10 .get-entry2 .result .table) % 8 ≡ pageAt m (p + 1) .table = same-table m (p + 1) e2 in
+    let c1 : (b11 .get-entry .result .count) ≡ entryAt m p .count = same-count e1 in
+    let c2 : (b10 .get-entry2 .result .count) ≡ entryAt m (p + 1) .count = same-count e2 in
     ap (λ (z : ℕ). leb z 336) (both-sizes a (st .pre .1) _ _ _ c1 c2 (c .page-size .ensures)) ∙ sym (joins-sizes (pageAt m p) (pageAt m (p + 1)) f1 f2 (sym t1 ∙ (b3 .if3 .left) ∙ t2))
 
 pub joinable-spec : {M : Type 1} → statement M

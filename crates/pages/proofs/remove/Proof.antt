@@ -69,7 +69,7 @@ returns c =
     let n : ℕ = st .args .number in
     let o = found-here m n (b11 .find-row .result) (b11 .find-row .ensures) _ _ _ (b9 .page .given .1) in
     let ee : (b6 .get-entry .result) ≡ entryAt m (b9 .page .given .0 .0) = b6 .get-entry .ensures in
-    turns-to (c .before .before .remove-later .ensures) (removed-later o (is-frozen m _ (λ z. (b4 .if1 .taken) (ap (λ (x : Entry). x .frozen) ee ∙ z))))
+    turns-to (c .before .before .remove-later .ensures) (removed-later o (is-frozen m _ ee (b4 .if1 .taken)))
 
 same-length-2 : tie.Need-same-length-2
 same-length-2 c = search needs
@@ -86,7 +86,7 @@ returns-2 c =
     let n : ℕ = st .args .number in
     let o = found-here m n (b11 .find-row .result) (b11 .find-row .ensures) _ _ _ (b9 .page .given .1) in
     let ee : (b6 .get-entry .result) ≡ entryAt m (b9 .page .given .0 .0) = b6 .get-entry .ensures in
-    turns-to (c .before .before .remove-now .ensures) (removed-now o (not-frozen m _ (ap (λ (x : Entry). x .frozen) (sym ee) ∙ (b4 .if1 .left))) _ refl)
+    turns-to (c .before .before .remove-now .ensures) (removed-now o (not-frozen m _ ee (b4 .if1 .left)) _ refl)
 
 same-length-3 : tie.Need-same-length-3
 same-length-3 c = search needs
