@@ -17,7 +17,7 @@ use Rattle.memory.specs.declared.Row.{Row}
 use Rattle.memory.specs.declared.Entry.{Entry}
 use Rattle.pages.specs.Turns.{Turns, pagesOf, pageAt, tuplesAt, entryAt, startAt, At, swapped, onPage}
 use Rattle.pages.specs.Changes.{RowOn, Tries, settledAt}
-use Rattle.pages.specs.Finding.{firstOf, editAt, takenAt, settledBy, NoneOf, FirstPage, FoundRow, FoundBy}
+use Rattle.pages.specs.Finding.{firstOf, editAt, takenAt, lessOne, settledBy, NoneOf, FirstPage, FoundRow, FoundBy}
 use Rattle.memory.specs.Views.{tab}
 use Rattle.memory.proofs.Runs.{start-zero, pages-count}
 use Rattle.pages.proofs.Places.{there-at, same-count, same-table, turns-to, turns-stay, turns-then, swap-same, from-page, at-first, page-first, has-row, ends-at, tuples-many}
@@ -139,22 +139,21 @@ module _ {m : List ℕ} {n p start at : ℕ} (o : FoundRow m n p start at) where
   pub found-around : (f : Option Page → Page → List Page → List Page) → around (hasNumber n) f none (pagesOf m) ≡ onPage f p none (pagesOf m)
   found-around f = around-on f (hasNumber n) p (pageAt m p) (pagesOf m) (o .page .passed) (from-page (o .page .on)) (o .page .hits) none
 
-  pub removed-later : pageAt m p .frozen ≡ true
-      → swapped p (withTuples (pageAt m p) (takenAt (at - startAt m p) (tuplesAt m p)) ∷ []) (pagesOf m) ≡ remove n (pagesOf m)
+  pub removed-later : pageAt m p .frozen ≡ true → {m' : List ℕ}
+      → Turns m m' (swapped p (withTuples (pageAt m p) (takenAt (at - startAt m p) (tuplesAt m p)) ∷ []) (pagesOf m)) → Turns m m' (remove n (pagesOf m))
   unfolding remove removeOn if_then_else_
-  removed-later e =
+  removed-later e u =
       let t : takenLater n (tuplesAt m p) ≡ takenAt (at - startAt m p) (tuplesAt m p) = taken-first n (tuplesAt m p) ∙ ap (λ (z : ℕ). takenAt z (tuplesAt m p)) found-first in
-      sym (found-around (removeOn n) ∙ on-swap (o .page .on) (removeOn n) (withTuples (pageAt m p) (takenAt (at - startAt m p) (tuplesAt m p)) ∷ [])
-      (λ prev qs. rw (e, t) refl))
+      turns-to u (sym (found-around (removeOn n) ∙ on-swap (o .page .on) (removeOn n) (withTuples (pageAt m p) (takenAt (at - startAt m p) (tuplesAt m p)) ∷ [])
+      (λ prev qs. rw (e, t) refl)))
 
-  pub removed-now : pageAt m p .frozen ≡ false → (q : Page) → q ≡ fresh (pageAt m p .table) (removeAt (at - startAt m p) (tuplesAt m p))
-      → settledBy p (q ∷ []) q (pagesOf m) ≡ remove n (pagesOf m)
+  pub removed-now : pageAt m p .frozen ≡ false → {m' : List ℕ} → Turns m m' (settledBy p (lessOne m p at ∷ []) (lessOne m p at) (pagesOf m)) → Turns m m' (remove n (pagesOf m))
   unfolding remove removeOn settledBy if_then_else_ gone
-  removed-now e q eq =
+  removed-now e u =
       let t : edit gone n (tuplesAt m p) ≡ removeAt (at - startAt m p) (tuplesAt m p) =
       edit-first n gone (tuplesAt m p) ∙ ap (λ (z : ℕ). editAt gone z (tuplesAt m p)) found-first
       ∙ edit-none gone (heldOf noRow) (tuplesAt m p) (at - startAt m p) (row-inside found-on) refl in
-      sym (found-around (removeOn n) ∙ on-same (o .page .on) (removeOn n) (λ prev r qs. settle (q ∷ []) prev q qs) (λ prev qs. rw (e, t, eq) refl))
+      turns-to u (sym (found-around (removeOn n) ∙ on-same (o .page .on) (removeOn n) (λ prev r qs. settle (lessOne m p at ∷ []) prev (lessOne m p at) qs) (λ prev qs. rw (e, t) refl)))
 
 pub nowhere-around : (m : List ℕ) (n : ℕ) (f : Option Page → Page → List Page → List Page) → NoneOf (hasNumber n) (pagesOf m) → pagesOf m ≡ around (hasNumber n) f none (pagesOf m)
 unfolding listOf

@@ -69,6 +69,14 @@ module _ (f : ℕ → Held) (i e : ℕ) where
 pub waits-is : (f : Flat) (i : ℕ) → waits (heldIn f i) ≡ isPending (pendingOf (rowIn f i .flags / 4 % 4))
 waits-is f i = ap isPending (pending-is (rowIn f i))
 
+-- by the flags that were read
+module _ (f : Flat) (i : ℕ) {k : ℕ} (ek : k ≡ rowIn f i .flags) where
+  pub waits-some : (k / 4 % 4 ≡ 0 → ⊥) → waits (heldIn f i) ≡ true
+  waits-some h = waits-is f i ∙ pending-some _ (λ z. h (ap (λ (x : ℕ). x / 4 % 4) ek ∙ z))
+
+  pub waits-none : k / 4 % 4 ≡ 0 → waits (heldIn f i) ≡ false
+  waits-none h = waits-is f i ∙ pending-none _ (ap (λ (x : ℕ). x / 4 % 4) (sym ek) ∙ h)
+
 -- ---- one row
 
 pub flags-kept : (f : ℕ) → f / 4 % 4 ≡ 2 → ripeFlags f ≡ f % 4 - f % 2

@@ -5,11 +5,11 @@ use mathlib.Core.Option.{none}
 use Prim.Native.Nat.{ℕ, suc, _+_, _-_, _%_, _≤_, _<_}
 use native.Mathlib.Omega.{arith}
 use native.Mathlib.Numerals.{add-one}
-use mathlib.Core.List.{List, _∷_, _++_}
+use mathlib.Core.List.{List, [], _∷_, _++_}
 use lib.ListN.{length, take, drop}
 use Rattle.blocks.specs.Tuple.{Tuple}
 use Rattle.model.specs.State.{Page}
-use Rattle.model.specs.Rules.{place, placeAfter, placeFront}
+use Rattle.model.specs.Rules.{calm, fresh, place, placeAfter, placeFront}
 use Rattle.memory.specs.Views.{tab}
 use Rattle.memory.specs.Flat.{flatOf, entryIn, Room}
 use Rattle.memory.specs.Store.{tupleOf, heldIn, pageOf, pageIn, startOf, holdsStore, tupleBy}
@@ -18,13 +18,13 @@ use Rattle.memory.specs.declared.Entry.{Entry}
 use Rattle.memory.proofs.Laws.{length-tab}
 use Rattle.memory.proofs.Runs.{start-zero, start-next, start-all, pages-end}
 use Rattle.memory.proofs.Refusal.{held-filled}
-use Rattle.pages.specs.Turns.{pagesOf, pageAt, entryAt, At, swapped}
+use Rattle.pages.specs.Turns.{Turns, pagesOf, pageAt, entryAt, At, swapped}
 use Rattle.pages.specs.Changes.{There}
 use Rattle.pages.specs.Spots.{afterLast, placedOn, OnSpot, NewSpot, SpottedBy, Spotted, FrontSpotted}
 use Rattle.pages.specs.declared.Spot.{Spot}
 use Rattle.pages.specs.declared.Spot.the-variants.{On, New}
 use Rattle.pages.proofs.Placing.{front-turn, front-on, front-new, front-last, other-table, no-key, place-on, place-front}
-use Rattle.pages.proofs.Places.{from-page, run-in, same-count, same-table}
+use Rattle.pages.proofs.Places.{turns-to, from-page, run-in, same-count, same-table}
 use Rattle.pages.proofs.Last.{last-le}
 
 -- all pages before p are of lower tables
@@ -191,6 +191,10 @@ back-end m t k p at s inv l o =
 
 -- ---- where the search led
 
+key-is : (row : Row) → tupleOf row .key ≡ row .key
+unfolding tupleOf tupleBy
+key-is row = refl
+
 module _ (m : List ℕ) (t : ℕ) (row : Row) (r : Spot) (o : Spotted m t (row .key) r) where
   pub spot-on : (p s a : ℕ) → r ≡ On p s a → OnSpot m (λ x. place t x (pagesOf m)) (row .key) p s a
   unfolding SpottedBy
@@ -200,6 +204,9 @@ module _ (m : List ℕ) (t : ℕ) (row : Row) (r : Spot) (o : Spotted m t (row .
   unfolding SpottedBy
   spot-new p a e = subst (λ (z : Spot). Spotted m t (row .key) z) e o
 
-pub key-is : (row : Row) → tupleOf row .key ≡ row .key
-unfolding tupleOf tupleBy
-key-is row = refl
+  pub placed-on : {m' : List ℕ} (p s a : ℕ) → r ≡ On p s a → Turns m m' (swapped p (placedOn (tupleOf row) (a - s) (pageAt m p)) (pagesOf m)) → Turns m m' (place t (tupleOf row) (pagesOf m))
+  placed-on p s a e u = turns-to u (sym (spot-on p s a e .places (tupleOf row) (key-is row)))
+
+  pub placed-new : {m' : List ℕ} (p a : ℕ) → r ≡ New p a → Turns m m' (take p (pagesOf m) ++ fresh t (calm (tupleOf row) ∷ []) ∷ drop p (pagesOf m)) → Turns m m' (place t (tupleOf row) (pagesOf m))
+  placed-new p a e u = turns-to u (sym (spot-new p a e .places (tupleOf row) (key-is row)))
+
