@@ -136,9 +136,6 @@ module _ {m : List ℕ} {p start : ℕ} (a : At m p start) (ne : p ≡ 0 → ⊥
   suc-is : suc (p - 1) ≡ p
   suc-is = omega (arith, pos-of p ne)
 
-  add-is : p - 1 + 1 ≡ p
-  add-is = omega (arith, pos-of p ne)
-
   pub prev-fits : e .count ≤ start
   prev-fits = omega (arith, a .begins, below a (pos-of p ne), same-count ee)
 

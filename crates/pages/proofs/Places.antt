@@ -10,8 +10,8 @@ use lib.Seq.{length-take-le, take-at, drop-at}
 use Rattle.basics.specs.Basics.{sum}
 use Rattle.model.specs.State.{Held, Page, Store}
 use Rattle.model.specs.Transactions.{changed}
-use Rattle.memory.specs.Flat.{Flat, flatOf, entryIn, noEntry, Room}
-use Rattle.memory.specs.Store.{heldOf, nest, pageOf, pagesIn, pageIn, total, startOf, holdsStore, storeOf}
+use Rattle.memory.specs.Flat.{Flat, flatOf, countsOf, entryIn, noEntry, Room}
+use Rattle.memory.specs.Store.{heldOf, nest, pageOf, pageIn, total, startOf, holdsStore, storeOf}
 use Rattle.memory.specs.declared.Counts.{Counts}
 use Rattle.memory.specs.declared.Entry.{Entry}
 use Rattle.memory.proofs.Laws.{length-tab}
@@ -124,6 +124,10 @@ at-there a = record { held = a .held; inside = a .inside }
 
 pub same-pages : {c d : Counts} → c ≡ d → c .pages ≡ d .pages
 same-pages e = ap (λ (x : Counts). x .pages) e
+
+-- a page before the last, in a walk over all
+pub walk-at : {m : List ℕ} {p start : ℕ} → holdsStore m ≡ true → {c : Counts} → c ≡ countsOf (flatOf m) → p < c .pages → start ≡ startAt m p → At m p start
+walk-at h ec lt eb = record { held = h; inside = omega (arith, same-pages ec); begins = eb }
 
 pub same-count : {e f : Entry} → e ≡ f → e .count ≡ f .count
 same-count ee = ap (λ (x : Entry). x .count) ee

@@ -12,7 +12,7 @@ use Rattle.basics.specs.Basics.{if_then_else_}
 use Rattle.model.specs.State.{removing, Held, Page}
 use Rattle.model.specs.Rules.{isAdding, hasNumber, edit, gone, takenLater, withPending, withTuples, fresh, listOf, settle, removeOn, remove, around}
 use Rattle.memory.specs.Flat.{flatOf, rowIn, noRow, removeAt}
-use Rattle.memory.specs.Store.{pendingOf, heldOf, heldIn, pageOf, pageIn, startOf, holdsStore}
+use Rattle.memory.specs.Store.{pendingOf, heldOf, heldIn, pageOf, pageIn, startOf}
 use Rattle.memory.specs.declared.Row.{Row}
 use Rattle.memory.specs.declared.Entry.{Entry}
 use Rattle.pages.specs.Turns.{Turns, pagesOf, pageAt, tuplesAt, entryAt, startAt, At, swapped, onPage}

@@ -21,7 +21,7 @@ use Rattle.memory.specs.declared.Entry.{Entry}
 use Rattle.memory.proofs.Laws.{tab-next}
 use Rattle.memory.proofs.Meaning.{becomes-then}
 use Rattle.memory.proofs.Exchange.{set-exchange}
-use Rattle.pages.specs.Turns.{pageAt, tuplesAt, entryAt, At}
+use Rattle.pages.specs.Turns.{tuplesAt, entryAt, At}
 use Rattle.pages.proofs.Places.{pos-of, same-count, same-table}
 use Rattle.pages.specs.Thawing.{withFlags, ripeFlags, ripeOne, ripeRows, ripeTuples, ripeRun, RipensOne, Ripens, TakesHold}
 use Rattle.pages.proofs.Swaps.{map-append, turned-one, run-held, run-long, nest-one, fresh-page}

@@ -25,6 +25,10 @@ pub all-small : (m : List ℕ) → Room m → (s n : ℕ) → s + n ≤ length (
 all-small m room s zero h = tt
 all-small m room s (suc n) h = (held-small m room s (omega arith), all-small m room (suc s) n (omega arith))
 
+-- all n rows, as a loop over them starts
+pub whole-run : (f : ℕ → Held) (s n : ℕ) → tab f s n ≡ tab f s (s + n - s)
+whole-run f s n = let z : n ≡ s + n - s = omega arith in ap (tab f s) z
+
 -- a turn of a loop over n rows from start on: it is at row i, of size s, and the rows before it have size all
 pub record Turn (start n i all s : ℕ) : Type 0 where
   pub least : start ≤ i

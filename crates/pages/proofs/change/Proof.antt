@@ -8,10 +8,7 @@ put-row-requires : tie.Need-put-row-requires
 put-row-requires c κs = row-in (c .before .before .pre .0)
 
 put-entry-requires : tie.Need-put-entry-requires
-put-entry-requires c κs =
-    let b3 = c .before .before .before in
-    let st = b3 .before .before .before in
-    then-in (st .args .p) (b3 .put-row .ensures) (st .pre .0 .there .inside)
+put-entry-requires c κs = let b3 = c .before .before .before in then-in _ (b3 .put-row .ensures) (b3 .before .before .before .pre .0 .there .inside)
 
 same-length : tie.Need-same-length
 same-length c = search needs

@@ -1,10 +1,16 @@
 use Prim.Native.Nat.{ℕ, _+_, _-_, _%_}
-use mathlib.Core.Path.{refl}
+use mathlib.Core.Path.{_≡_, refl}
+use Rattle.pages.specs.Turns.{entryAt}
+use Rattle.pages.specs.Changes.{RowOn}
 use Rattle.pages.proofs.Places.{page-in, row-in, same-count}
 use Rattle.pages.proofs.Committing.{commit-now, commit-left, commit-adding, commit-noted}
 use borrow.Author.Needs.{needs}
 use Rattle.pages.proofs.commit_at.Statement.{statement}
 use Rattle.pages.proofs.commit_at.Tie as tie
+
+-- a change of the row keeps the count
+kept : (c : tie.After-get-entry) → let a = c .before .before .before .args in RowOn (a .m .now) (a .p) (a .at) × (c .get-entry .result .count ≡ entryAt (a .m .now) (a .p) .count)
+kept c = (c .before .before .before .pre, same-count (c .get-entry .ensures))
 
 get-entry-requires : tie.Need-get-entry-requires
 get-entry-requires c κs = page-in (c .before .before .pre .there)
@@ -16,9 +22,7 @@ sub-row : tie.Need-sub-row
 sub-row c = search needs
 
 change-requires : tie.Need-change-requires
-change-requires c κs =
-    let b5 = c .before .before .before .before .before in
-    (b5 .before .before .before .pre, same-count (b5 .get-entry .ensures))
+change-requires c κs = kept (c .before .before .before .before .before)
 
 same-length : tie.Need-same-length
 same-length c = search needs
@@ -44,9 +48,7 @@ sub-row-2 : tie.Need-sub-row-2
 sub-row-2 c = search needs
 
 change-requires-2 : tie.Need-change-requires-2
-change-requires-2 c κs =
-    let b7 = c .before .before .before .before .before .before .before in
-    (b7 .before .before .before .pre, same-count (b7 .get-entry .ensures))
+change-requires-2 c κs = kept (c .before .before .before .before .before .before .before)
 
 same-length-3 : tie.Need-same-length-3
 same-length-3 c = search needs
@@ -64,9 +66,7 @@ add-row : tie.Need-add-row
 add-row c = search needs
 
 change-requires-3 : tie.Need-change-requires-3
-change-requires-3 c κs =
-    let b7 = c .before .before .before .before .before .before .before in
-    (b7 .before .before .before .pre, same-count (b7 .get-entry .ensures))
+change-requires-3 c κs = kept (c .before .before .before .before .before .before .before)
 
 same-length-4 : tie.Need-same-length-4
 same-length-4 c = search needs

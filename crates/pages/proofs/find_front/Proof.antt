@@ -2,7 +2,7 @@ use Rattle.pages.specs.Turns.{At}
 use Prim.Native.Nat.{_-_}
 use mathlib.Core.Logic.{⊎-elim}
 use native.Mathlib.Nat.{eq-or-lt-of-le}
-use Rattle.pages.proofs.Places.{rows-few, entries-few, page-in, at-there, run-in, same-pages}
+use Rattle.pages.proofs.Places.{rows-few, entries-few, page-in, at-there, run-in, same-pages, walk-at}
 use Rattle.pages.proofs.Searching.{FrontInv, front-start, front-new-spot, front-on-spot, front-next, front-end}
 use Rattle.memory.proofs.Refusal.{held-room}
 use borrow.Author.Needs.{needs}
@@ -21,12 +21,7 @@ began c = c .before .before .before .before .before
 
 -- the page of a turn
 on-page : (c : tie.In-loop Inv-loop μ-loop) → At (began c .args .m .now) (c .before .loop .p) (c .before .loop .at)
-on-page c =
-    record {
-      held = began c .pre;
-      inside = omega (arith, same-pages (c .before .before .before .get-counts .ensures), c .loop-test .taken);
-      begins = c .before .loop .inv .1 .0;
-    }
+on-page c = walk-at (began c .pre) (c .before .before .before .get-counts .ensures) (c .loop-test .taken) (c .before .loop .inv .1 .0)
 
 get-counts-requires : tie.Need-get-counts-requires Inv-loop μ-loop
 get-counts-requires c κs = omega (arith, held-room _ (c .before .pre) .range .long)

@@ -1,6 +1,6 @@
 use Rattle.pages.specs.Turns.{At}
 use Rattle.pages.specs.Thawing.{FrozenBy}
-use Rattle.pages.proofs.Places.{rows-few, entries-few, page-in, at-there, run-in, same-pages}
+use Rattle.pages.proofs.Places.{rows-few, entries-few, page-in, at-there, run-in, same-pages, walk-at}
 use Rattle.memory.proofs.Refusal.{held-room}
 use Prim.Native.Nat.{_-_}
 use Rattle.model.specs.Rules.{isFrozen}
@@ -22,12 +22,7 @@ began c = c .before .before .before .before .before
 
 -- the page of a turn
 on-page : (c : tie.In-loop Inv-loop μ-loop) → At (began c .args .m .now) (c .before .loop .p) (c .before .loop .start)
-on-page c =
-    record {
-      held = began c .pre;
-      inside = omega (arith, same-pages (c .before .before .before .get-counts .ensures), c .loop-test .taken);
-      begins = c .before .loop .inv .1 .0;
-    }
+on-page c = walk-at (began c .pre) (c .before .before .before .get-counts .ensures) (c .loop-test .taken) (c .before .loop .inv .1 .0)
 
 get-counts-requires : tie.Need-get-counts-requires Inv-loop μ-loop
 get-counts-requires c κs = omega (arith, held-room _ (c .before .pre) .range .long)

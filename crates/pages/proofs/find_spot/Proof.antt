@@ -1,4 +1,3 @@
-use Prim.Native.Nat.{ℕ}
 use mathlib.Core.Path.{ap}
 use Rattle.memory.specs.declared.Counts.{Counts}
 use Rattle.pages.proofs.Places.{page-in, same-pages}

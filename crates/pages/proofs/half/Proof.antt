@@ -1,11 +1,10 @@
 use Rattle.memory.specs.Store.{heldIn}
 use Rattle.memory.specs.Flat.{flatOf}
-use mathlib.Core.List.{List}
 use Prim.Native.Nat.{ℕ, _+_, _*_, _-_, _≤_}
 use mathlib.Core.Path.{_≡_, sym, ap}
-use Rattle.model.specs.Rules.{heldSize, lead}
+use Rattle.model.specs.Rules.{lead}
 use Rattle.pages.proofs.Places.{rows-few}
-use Rattle.pages.proofs.Sizes.{Turn, turn, lead-stop, lead-go, lead-end}
+use Rattle.pages.proofs.Sizes.{whole-run, Turn, turn, lead-stop, lead-go, lead-end}
 use Rattle.memory.specs.Views.{tab}
 use native.Mathlib.Omega.{arith}
 use Rattle.pages.proofs.half.Statement.{statement}
@@ -30,9 +29,7 @@ add-end c = omega (arith, c .before .pre .1, rows-few (c .before .pre .0))
 loop-holds : tie.Need-loop-holds Inv-loop μ-loop
 loop-holds c =
     let a = c .before .args in
-    let m : List ℕ = a .m .now in
-    let z : a .start + a .n - a .start ≡ a .n = omega arith in
-    (omega arith, (omega arith, (omega arith, omega (arith, ap (λ (q : ℕ). lead (a .whole) 0 (tab (heldIn (flatOf m)) (a .start) q)) z))))
+    (omega arith, (omega arith, (omega arith, omega (arith, ap (lead (a .whole) 0) (whole-run (heldIn (flatOf (a .m .now))) (a .start) (a .n))))))
 
 tuple-size-requires : tie.Need-tuple-size-requires Inv-loop μ-loop
 tuple-size-requires c κs = let pre = c .before .before .before .pre in (pre .0, omega (arith, pre .1, c .loop-test .taken))

@@ -1,9 +1,10 @@
-use Prim.Native.Nat.{ℕ, _+_, _-_, _≤_}
+use Prim.Native.Nat.{_+_, _-_, _≤_}
 use Rattle.memory.specs.Flat.{flatOf}
 use Rattle.memory.specs.Store.{heldIn}
 use mathlib.Core.Path.{_≡_, sym, ap, _∙_}
 use Rattle.basics.specs.Basics.{any}
 use Rattle.pages.proofs.Places.{rows-few}
+use Rattle.pages.proofs.Sizes.{whole-run}
 use Rattle.pages.proofs.Ripening.{waits, any-hit, any-past, any-end, waits-some, waits-none}
 use Rattle.memory.specs.Views.{tab}
 use native.Mathlib.Omega.{arith}
@@ -22,8 +23,7 @@ add-end c = omega (arith, c .before .pre .1, rows-few (c .before .pre .0))
 loop-holds : tie.Need-loop-holds Inv-loop μ-loop
 loop-holds c =
     let a = c .before .args in
-    let z : a .n ≡ a .start + a .n - a .start = omega arith in
-    (omega arith, (omega arith, ap (λ (k : ℕ). any waits (tab (heldIn (flatOf (a .m .now))) (a .start) k)) z))
+    (omega arith, (omega arith, ap (any waits) (whole-run (heldIn (flatOf (a .m .now))) (a .start) (a .n))))
 
 flags-at-requires : tie.Need-flags-at-requires Inv-loop μ-loop
 flags-at-requires c κs = let pre = c .before .before .before .pre in (pre .0, omega (arith, pre .1, c .loop-test .taken))

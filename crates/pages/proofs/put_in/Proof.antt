@@ -12,10 +12,7 @@ insert-row-requires c κs =
     (held-room _ (g .on .held), (omega (arith, page-end (g .on), g .most), g .free))
 
 put-entry-requires : tie.Need-put-entry-requires
-put-entry-requires c κs =
-    let b3 = c .before .before .before in
-    let st = b3 .before .before .before in
-    then-in (st .args .p) (b3 .insert-row .ensures) (st .pre .0 .on .inside)
+put-entry-requires c κs = let b3 = c .before .before .before in then-in _ (b3 .insert-row .ensures) (b3 .before .before .before .pre .0 .on .inside)
 
 same-length : tie.Need-same-length
 same-length c = search needs

@@ -1,4 +1,4 @@
-use Prim.Native.Nat.{ℕ, _+_, _-_, _%_}
+use Prim.Native.Nat.{_+_, _-_, _%_}
 use mathlib.Core.Path.{refl}
 use Rattle.pages.proofs.Places.{has-row, page-in, row-in, same-count}
 use Rattle.pages.proofs.Removing.{here, later-last, later-away, later-noted}

@@ -1,11 +1,18 @@
 use Rattle.pages.proofs.Places.{page-end, rows-few, page-in, at-there, run-in, same-count}
 use Rattle.pages.proofs.Swaps.{then-in}
+use Rattle.memory.specs.Flat.{flatOf, Room}
+use lib.ListN.{length}
+use Prim.Native.Nat.{_<_}
 use Rattle.memory.proofs.Refusal.{held-room}
 use Rattle.pages.proofs.Ripening.{hold-none, hold-some, hold-most}
 use native.Mathlib.Omega.{arith}
 use borrow.Author.Needs.{needs}
 use Rattle.pages.proofs.take_hold.Statement.{statement}
 use Rattle.pages.proofs.take_hold.Tie as tie
+
+-- the page's entry is still there
+still : (c : tie.After-ripen) → let a = c .before .before .before .before .before .before .args in Room (c .ripen .last .0) × (a .p < length (flatOf (c .ripen .last .0) .entries))
+still c = let st = c .before .before .before .before .before .before in then-in (st .args .p) (c .ripen .ensures .becomes) (st .pre .inside)
 
 get-entry-requires : tie.Need-get-entry-requires
 get-entry-requires c κs = page-in (at-there (c .before .before .pre))
@@ -17,10 +24,7 @@ ripen-requires : tie.Need-ripen-requires
 ripen-requires c κs = let b2 = c .before .before in run-in (b2 .before .before .before .pre) (b2 .get-entry .ensures)
 
 remove-entry-requires : tie.Need-remove-entry-requires
-remove-entry-requires c κs =
-    let b4 = c .before .before .before .before in
-    let st = b4 .before .before .before .before .before .before in
-    then-in (st .args .p) (b4 .ripen .ensures .becomes) (st .pre .inside)
+remove-entry-requires c κs = still (c .before .before .before .before)
 
 same-length : tie.Need-same-length
 same-length c = search needs
@@ -41,10 +45,7 @@ cast-t18 c =
     omega (arith, page-end a, rows-few (held-room _ (a .held)), same-count ee, hold-most a ee (b4 .ripen .ensures))
 
 put-entry-requires : tie.Need-put-entry-requires
-put-entry-requires c κs =
-    let b4 = c .before .before .before .before in
-    let st = b4 .before .before .before .before .before .before in
-    then-in (st .args .p) (b4 .ripen .ensures .becomes) (st .pre .inside)
+put-entry-requires c κs = still (c .before .before .before .before)
 
 same-length-2 : tie.Need-same-length-2
 same-length-2 c = search needs

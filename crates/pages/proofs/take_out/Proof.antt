@@ -8,10 +8,7 @@ remove-row-requires : tie.Need-remove-row-requires
 remove-row-requires c κs = row-in (c .before .before .pre .0)
 
 put-entry-requires : tie.Need-put-entry-requires
-put-entry-requires c κs =
-    let b3 = c .before .before .before in
-    let st = b3 .before .before .before in
-    then-in (st .args .p) (b3 .remove-row .ensures) (st .pre .0 .there .inside)
+put-entry-requires c κs = let b3 = c .before .before .before in then-in _ (b3 .remove-row .ensures) (b3 .before .before .before .pre .0 .there .inside)
 
 same-length : tie.Need-same-length
 same-length c = search needs
