@@ -1,7 +1,7 @@
 -- A page that is split where it is above 504 bytes; a page that took a tuple in.
 use mathlib.Core.Path.{_≡_, refl, sym, ap, _∙_, subst}
 use mathlib.Core.Bool.{true, false, not}
-use Prim.Native.Nat.{ℕ, _+_, _-_, _%_, _≤_, _<_}
+use Prim.Native.Nat.{ℕ, _+_, _-_, _≤_, _<_}
 use native.Mathlib.Omega.{arith}
 use mathlib.Core.List.{List, [], _∷_, map}
 use lib.ListN.{take, drop}
@@ -18,11 +18,10 @@ use Rattle.memory.specs.Flat.{flatOf, insertAt}
 use Rattle.memory.specs.Store.{heldOf, heldIn, tupleOf, pageOf, pageIn, startOf}
 use Rattle.memory.specs.declared.Row.{Row}
 use Rattle.memory.specs.declared.Entry.{Entry}
-use Rattle.memory.proofs.Refusal.{held-room}
 use Rattle.pages.specs.Turns.{Turns, pagesOf, pageAt, tuplesAt, entryAt, startAt, At, swapped}
 use Rattle.pages.specs.Changes.{CutAt, Dirty, Halved}
 use Rattle.pages.specs.Spots.{placedOn, GrowAt}
-use Rattle.pages.proofs.Places.{run-in, same-count, same-table, turns-stay, turns-to, turns-again, swap-same, page-end, tuples-many, at-first, page-first}
+use Rattle.pages.proofs.Places.{run-in, same-count, same-table, turns-stay, turns-to, turns-again, swap-same, tuples-many, at-first, page-first}
 use Rattle.pages.proofs.Searching.{tuples-is}
 use Rattle.pages.proofs.Sizes.{all-small}
 use Rattle.pages.proofs.Swaps.{fresh-page}
