@@ -9,19 +9,21 @@ use lib.ListN.{length, take, drop, set, length-map, length-append, length-drop, 
 use lib.Seq.{length-take-le, take-all, drop-drop, take-add}
 use Rattle.basics.specs.Basics.{sum}
 use Rattle.model.specs.State.{Held, Page}
-use Rattle.model.specs.Rules.{fresh, joined}
+use Rattle.model.specs.Rules.{calm, fresh, joined}
 use Rattle.memory.specs.Flat.{Flat, flatOf, entryIn, Room, Becomes, withRows, withEntries, insertAt, removeAt}
-use Rattle.memory.specs.Store.{heldOf, heldIn, nest, pageOf, pageIn, total, startOf, exchanged, holdsStore}
+use Rattle.memory.specs.Store.{heldOf, tupleOf, heldIn, nest, pageOf, pageIn, total, startOf, exchanged, holdsStore}
 use Rattle.memory.specs.Views.{tab}
 use Rattle.memory.specs.declared.Row.{Row}
 use Rattle.memory.specs.declared.Entry.{Entry}
 use Rattle.memory.proofs.Nest.{Counted, insert-within, remove-within, set-within}
-use Rattle.memory.proofs.Runs.{run-of}
+use Rattle.memory.proofs.Runs.{run-of, pages-few}
 use Rattle.memory.proofs.Refusal.{held-filled, held-room}
 use Rattle.memory.proofs.Exchange.{exchanged-in, insert-exchange, set-exchange, split-exchange, join-exchange}
 use Rattle.memory.proofs.Meaning.{becomes-then}
 use Rattle.pages.specs.Turns.{withPages, Turns, pagesOf, pageAt, tuplesAt, entryAt, At, swapped}
 use Rattle.pages.specs.Changes.{There, CutAt}
+use Rattle.pages.specs.Spots.{AddAt}
+use Rattle.pages.proofs.Flags.{held-calm}
 use Rattle.pages.proofs.Places.{turns-to, few, ends-at, page-end, has-row, rows-few, there-at, same-count, same-table}
 
 -- ---- maps
@@ -279,6 +281,28 @@ merged m m1 m2 h p e lt ec b1 b2 =
     (becomes-then m m1 m2 _ (λ g. withEntries g (removeAt (p + 1) (g .entries))) b1 b2)
     (nest-one e (map heldOf run) (ec ∙ sym (length-map run heldOf ∙ lr)) ∙ ap (λ (z : List Held). pageOf e z ∷ []) eh)
 
+-- ---- a new page of one row
+
+pub fresh-page : (t n : ℕ) (hs : List Held) → pageOf (record { table = t; frozen = 0; count = n; block = 0 }) hs ≡ fresh (t % 8) hs
+unfolding pageOf fresh
+fresh-page t n hs = refl
+
+module _ {m : List ℕ} {p at : ℕ} (g : AddAt m p at) (row : Row) {m1 : List ℕ} (b1 : Becomes m m1 (withRows (flatOf m) (insertAt at row (flatOf m .rows)))) where
+  pub add-room : Room m1 × ((p ≤ length (flatOf m1 .entries)) × (length (flatOf m1 .entries) < flatOf m1 .head .capacity))
+  add-room =
+      let es : length (flatOf m1 .entries) ≡ length (flatOf m .entries) = ap (λ (x : Flat). length (x .entries)) (b1 .flat) in
+      let eh : flatOf m1 .head .capacity ≡ flatOf m .head .capacity = ap (λ (x : Flat). x .head .capacity) (b1 .flat) in
+      (b1 .room, (omega (arith, g .inside), omega (arith, g .free, pages-few (flatOf m) (held-filled m (g .held)))))
+
+  pub add-done : {m2 : List ℕ} (t : ℕ) → row .flags < 4 → t < 8
+      → Becomes m1 m2 (withEntries (flatOf m1) (insertAt p (record { table = t; frozen = 0; count = 1; block = 0 }) (flatOf m1 .entries)))
+      → Turns m m2 (take p (pagesOf m) ++ fresh t (calm (tupleOf row) ∷ []) ∷ drop p (pagesOf m))
+  add-done {m2} t plain few b2 =
+      let et : t % 8 ≡ t = omega arith in
+      turns-to (added m m1 m2 (g .held) p at row (record { table = t; frozen = 0; count = 1; block = 0 }) (g .begins) refl b1 b2)
+      (ap (λ (z : Page). take p (pagesOf m) ++ z ∷ drop p (pagesOf m))
+      (fresh-page t 1 (heldOf row ∷ []) ∙ ap (λ (z : ℕ). fresh z (heldOf row ∷ [])) et ∙ ap (λ (z : Held). fresh t (z ∷ [])) (held-calm row plain)))
+
 -- ---- a page cut after k rows, two pages made one
 
 module _ {m : List ℕ} {p k : ℕ} (g : CutAt m p k) {e : Entry} (ee : e ≡ entryAt m p) {m1 : List ℕ}
@@ -330,7 +354,3 @@ still-there p b h = omega (arith, ap (λ (x : Flat). length (x .entries)) (b .fl
 -- and can be read or changed next
 pub then-in : {m m1 : List ℕ} {f : Flat} (p : ℕ) → Becomes m m1 f → p < length (f .entries) → Room m1 × (p < length (flatOf m1 .entries))
 then-in p b h = (b .room, still-there p b h)
-
-pub fresh-page : (t n : ℕ) (hs : List Held) → pageOf (record { table = t; frozen = 0; count = n; block = 0 }) hs ≡ fresh (t % 8) hs
-unfolding pageOf fresh
-fresh-page t n hs = refl
