@@ -21,8 +21,7 @@ use Rattle.memory.proofs.Runs.{pages-count}
 use Rattle.pages.specs.Turns.{Turns, pagesOf, pageAt, tuplesAt, entryAt, startAt, At, swapped}
 use Rattle.pages.specs.Changes.{There, RowOn}
 use Rattle.pages.specs.Finding.{editAt, committedAt, FoundRow}
-use Rattle.pages.proofs.Places.{turns-to, turns-stay, turns-then, turns-pages, turns-held, swap-same, from-page, before-long, at-here, page-here, swap-at}
-use Rattle.pages.proofs.Searching.{table-is}
+use Rattle.pages.proofs.Places.{same-table, turns-to, turns-stay, turns-then, turns-pages, turns-held, swap-same, from-page, before-long, at-here, page-here, swap-at}
 use Rattle.pages.proofs.Swaps.{fresh-page}
 use Rattle.pages.proofs.Splitting.{is-frozen, not-frozen}
 use Rattle.pages.specs.Thawing.{withFlags}
@@ -40,7 +39,7 @@ committed-now : (j : ℕ) (q : Page) → q .frozen ≡ false → committedAt j q
 unfolding committedAt if_then_else_
 committed-now j q e = rw e
 
-module _ {m : List ℕ} {p at : ℕ} (g : RowOn m p at) (row : Row) (er : row ≡ rowIn (flatOf m) at) (e : Entry) (ee : e ≡ entryAt m p) where
+module _ {m : List ℕ} {p at : ℕ} (g : RowOn m p at) {row : Row} (er : row ≡ rowIn (flatOf m) at) {e : Entry} (ee : e ≡ entryAt m p) where
   abbrev j : ℕ
   j = at - startAt m p
 
@@ -51,7 +50,7 @@ module _ {m : List ℕ} {p at : ℕ} (g : RowOn m p at) (row : Row) (er : row �
   old = getD (tuplesAt m p) (at - startAt m p) (heldOf noRow)
 
   old-row : getD (tuplesAt m p) (at - startAt m p) (heldOf noRow) ≡ heldOf row
-  old-row = held-row g row er e ee
+  old-row = held-row g er ee
 
   old-pending : getD (tuplesAt m p) (at - startAt m p) (heldOf noRow) .pending ≡ pendingOf (row .flags / 4 % 4)
   old-pending = ap (λ (z : Held). z .pending) old-row ∙ pending-is row
@@ -70,13 +69,13 @@ module _ {m : List ℕ} {p at : ℕ} (g : RowOn m p at) (row : Row) (er : row �
       let x : Held = heldOf (withFlags row f) in
       turns-to t (ap (λ (z : Page). swapped p (z ∷ []) (pagesOf m))
       (fresh-page (e .table) (e .count) (set hs j x)
-      ∙ ap (λ (y : ℕ). fresh y (set hs j x)) (ap (λ (y : Entry). y .table % 8) ee ∙ sym (table-is m p))
+      ∙ ap (λ (y : ℕ). fresh y (set hs j x)) (same-table m p ee)
       ∙ ap (fresh (pageAt m p .table)) (sym (edit-one kept (heldOf noRow) x hs j (kept-is f ef)))
-      ∙ sym (committed-now j (pageAt m p) (not-frozen m p (ap (λ (y : Entry). y .frozen) (sym ee) ∙ z)))))
+      ∙ sym (committed-now j (pageAt m p) (not-frozen m p ee z))))
 
   module _ (ne : e .frozen ≡ 0 → ⊥) where
     frozen : pageAt m p .frozen ≡ true
-    frozen = is-frozen m p (λ z. ne (ap (λ (y : Entry). y .frozen) ee ∙ z))
+    frozen = is-frozen m p ee ne
 
     -- what keptLater gives is the row's new tuple
     later : {m' : List ℕ} (x : Held) → keptLater old ≡ x ∷ [] → Turns m m' (swapped p (pageOf e (set (tuplesAt m p) (at - startAt m p) x) ∷ []) (pagesOf m))
@@ -128,18 +127,28 @@ committed-is {m} {n} {p} {start} {at} o =
 
 -- ---- freezing
 
-module _ (m : List ℕ) (p : ℕ) (e : Entry) (ee : e ≡ entryAt m p) where
-  pub freeze-dirty : e .block % 4096 ≡ 0 → pageOf (record { table = e .table; frozen = 1; count = e .count; block = e .block }) (tuplesAt m p) ≡ freeze (pageAt m p)
+module _ (m : List ℕ) (p : ℕ) {e : Entry} (ee : e ≡ entryAt m p) {m' : List ℕ} where
+  -- the page is frozen where its block is 0
+  frozen-if : (b : Bool) → eqb (e .block % 4096) 0 ≡ b
+      → Turns m m' (swapped p (record { table = e .table % 8; block = e .block % 4096; frozen = b; tuples = tuplesAt m p } ∷ []) (pagesOf m))
+      → Turns m m' (swapped p (freeze (pageAt m p) ∷ []) (pagesOf m))
   unfolding pageOf pageIn freeze isDirty
-  freeze-dirty z =
-      ap (λ (b : Bool). record { table = e .table % 8; block = e .block % 4096; frozen = b; tuples = tuplesAt m p }) (sym (eq-eqb (e .block % 4096) 0 z))
-      ∙ ap (λ (y : Entry). record { table = y .table % 8; block = y .block % 4096; frozen = eqb (y .block % 4096) 0; tuples = tuplesAt m p }) ee
+  frozen-if b eb t =
+      turns-to t (ap (λ (z : Page). swapped p (z ∷ []) (pagesOf m))
+      (ap (λ (z : Bool). record { table = e .table % 8; block = e .block % 4096; frozen = z; tuples = tuplesAt m p }) (sym eb)
+      ∙ ap (λ (y : Entry). record { table = y .table % 8; block = y .block % 4096; frozen = eqb (y .block % 4096) 0; tuples = tuplesAt m p }) ee))
 
-  pub freeze-clean : (e .block % 4096 ≡ 0 → ⊥) → pageOf (record { table = e .table; frozen = 0; count = e .count; block = e .block }) (tuplesAt m p) ≡ freeze (pageAt m p)
-  unfolding pageOf pageIn freeze isDirty
-  freeze-clean z =
-      ap (λ (b : Bool). record { table = e .table % 8; block = e .block % 4096; frozen = b; tuples = tuplesAt m p }) (sym (ne-eqb (e .block % 4096) 0 z))
-      ∙ ap (λ (y : Entry). record { table = y .table % 8; block = y .block % 4096; frozen = eqb (y .block % 4096) 0; tuples = tuplesAt m p }) ee
+  pub freeze-dirty : e .block % 4096 ≡ 0
+      → Turns m m' (swapped p (pageOf (record { table = e .table; frozen = 1; count = e .count; block = e .block }) (tuplesAt m p) ∷ []) (pagesOf m))
+      → Turns m m' (swapped p (freeze (pageAt m p) ∷ []) (pagesOf m))
+  unfolding pageOf
+  freeze-dirty z t = frozen-if true (eq-eqb (e .block % 4096) 0 z) t
+
+  pub freeze-clean : (e .block % 4096 ≡ 0 → ⊥)
+      → Turns m m' (swapped p (pageOf (record { table = e .table; frozen = 0; count = e .count; block = e .block }) (tuplesAt m p) ∷ []) (pagesOf m))
+      → Turns m m' (swapped p (freeze (pageAt m p) ∷ []) (pagesOf m))
+  unfolding pageOf
+  freeze-clean z t = frozen-if false (ne-eqb (e .block % 4096) 0 z) t
 
 -- the first p pages are frozen
 abbrev pub FreezeInv : List ℕ → List ℕ → ℕ → Type 0

@@ -2,7 +2,7 @@
 use mathlib.Core.Path.{_≡_, refl, sym, ap, _∙_, subst}
 use mathlib.Core.Bool.{Bool, true, false}
 use mathlib.Core.Option.{none}
-use Prim.Native.Nat.{ℕ, suc, _+_, _-_, _<_}
+use Prim.Native.Nat.{ℕ, suc, _+_, _-_, _%_, _≤_, _<_}
 use native.Mathlib.Omega.{arith}
 use mathlib.Core.List.{List, [], _∷_, _++_}
 use lib.ListN.{length, take, drop}
@@ -15,14 +15,15 @@ use Rattle.model.specs.Rules.{heldSize, joins, joined, fresh, settle, settleFul
 use Rattle.model.proofs.Lists.{nonempty}
 use Rattle.memory.specs.Views.{tab}
 use Rattle.memory.specs.Flat.{flatOf}
-use Rattle.memory.specs.Store.{heldIn, startOf}
+use Rattle.memory.specs.Store.{heldIn}
+use Rattle.memory.specs.declared.Entry.{Entry}
 use Rattle.memory.proofs.Laws.{tab-add}
-use Rattle.memory.proofs.Runs.{sum-append, start-next}
+use Rattle.memory.proofs.Runs.{sum-append}
 use Rattle.pages.specs.Turns.{Turns, pagesOf, pageAt, tuplesAt, entryAt, At, swapped, onPage}
 use Rattle.pages.specs.Changes.{Tries, settledAt, settledNext}
 use Rattle.pages.specs.Finding.{settledBy}
-use Rattle.pages.proofs.Places.{turns-to, turns-stay, turns-pages, swap-same, from-page, ends-at, tuples-many}
-use Rattle.pages.proofs.Splitting.{run-tuples}
+use Rattle.pages.proofs.Places.{turns-to, turns-stay, turns-pages, swap-same, from-page, ends-at, tuples-many, pos-of, below, same-count, same-table}
+use Rattle.pages.proofs.Splitting.{run-tuples, is-frozen, not-frozen}
 use Rattle.pages.proofs.Edits.{empty-none}
 use Rattle.pages.proofs.Around.{on-swap, on-changed, settle-full, settle-empty, before-none, before-joins, before-apart}
 
@@ -59,6 +60,28 @@ module _ {m : List ℕ} {p start : ℕ} (a : At m p start) (lt : p + 1 < length 
       ∙ ap (λ (z : List Held). sum heldSize z + sum heldSize (tab f (start + x) y)) (run-tuples a x ex)
       ∙ ap (λ (z : List Held). sum heldSize (tuplesAt m p) + sum heldSize z) (run-tuples b y ey)
 
+-- by the entries that were read
+module _ (m : List ℕ) (p : ℕ) {d e : Entry} (ed : d ≡ entryAt m p) (ee : e ≡ entryAt m (p + 1)) where
+  pub apart-frozen : (d .frozen ≡ 0 → ⊥) → false ≡ joins (pageAt m p) (pageAt m (p + 1))
+  apart-frozen h = sym (joins-frozen (pageAt m p) (pageAt m (p + 1)) (is-frozen m p ed h))
+
+  module _ (fd : d .frozen ≡ 0) where
+    pub apart-next : (e .frozen ≡ 0 → ⊥) → false ≡ joins (pageAt m p) (pageAt m (p + 1))
+    apart-next h = sym (joins-next (pageAt m p) (pageAt m (p + 1)) (not-frozen m p ed fd) (is-frozen m (p + 1) ee h))
+
+    module _ (fe : e .frozen ≡ 0) where
+      pub apart-tables : (d .table % 8 ≡ e .table % 8 → ⊥) → false ≡ joins (pageAt m p) (pageAt m (p + 1))
+      apart-tables h =
+          sym (joins-other (pageAt m p) (pageAt m (p + 1)) (not-frozen m p ed fd) (not-frozen m (p + 1) ee fe)
+          (λ z. h (same-table m p ed ∙ z ∙ sym (same-table m (p + 1) ee))))
+
+      pub by-sizes : {start : ℕ} → At m p start → p + 1 < length (flatOf m .entries) → d .table % 8 ≡ e .table % 8 → {w : ℕ}
+          → w ≡ sum heldSize (tab (heldIn (flatOf m)) start (d .count + e .count)) → leb w 336 ≡ joins (pageAt m p) (pageAt m (p + 1))
+      by-sizes a lt t {w} ew =
+          ap (λ (z : ℕ). leb z 336) (both-sizes a lt (d .count) (e .count) w (same-count ed) (same-count ee) ew)
+          ∙ sym (joins-sizes (pageAt m p) (pageAt m (p + 1)) (not-frozen m p ed fd) (not-frozen m (p + 1) ee fe)
+          (sym (same-table m p ed) ∙ t ∙ same-table m (p + 1) ee))
+
 -- ---- a changed page settles
 
 -- joined or not, with itself as the rest
@@ -86,11 +109,11 @@ module _ {m : List ℕ} {p start : ℕ} (a : At m p start) (t : ℕ) (hs : List 
 
 -- ---- tried or not
 
-pub tried : {m m' : List ℕ} (F G : List Page → List Page) → ((rest : List Page) → Turns m m' (F rest)) → Tries m m' true F G
-tried F G h = record { done = λ e. h; not-done = λ e. lie (sym e) }
+pub tried : {m m' : List ℕ} {F G : List Page → List Page} → ((rest : List Page) → Turns m m' (F rest)) → Tries m m' true F G
+tried h = record { done = λ e. h; not-done = λ e. lie (sym e) }
 
-pub not-tried : (m : List ℕ) (F G : List Page → List Page) → ((rest : List Page) → F rest ≡ G rest) → Tries m m false F G
-not-tried m F G h = record { done = λ e. lie e; not-done = λ e. (refl, h) }
+pub not-tried : {m : List ℕ} {F G : List Page → List Page} → ((rest : List Page) → F rest ≡ G rest) → Tries m m false F G
+not-tried h = record { done = λ e. lie e; not-done = λ e. (refl, h) }
 
 -- the successor is tried after the predecessor
 pub tried-both : {m m1 m2 : List ℕ} (p : ℕ) (q r : Bool) → q ≡ false → Tries m m1 q (settledAt p (pagesOf m)) (settledNext p (pagesOf m))
@@ -109,24 +132,24 @@ first-apart {m} {p} {start} a e rest =
     let b : At m 0 start = subst (λ (z : ℕ). At m z start) e a in
     ap (λ (z : ℕ). settledAt z (pagesOf m) rest) e ∙ before-none b rest ∙ ap (λ (z : ℕ). settledNext z (pagesOf m) rest) (sym e)
 
-module _ {m : List ℕ} {p start : ℕ} (a : At m p start) (pos : 0 < p) (n : ℕ) (en : n ≡ entryAt m (p - 1) .count) where
+module _ {m : List ℕ} {p start : ℕ} (a : At m p start) (ne : p ≡ 0 → ⊥) {e : Entry} (ee : e ≡ entryAt m (p - 1)) where
   suc-is : suc (p - 1) ≡ p
-  suc-is = omega arith
+  suc-is = omega (arith, pos-of p ne)
 
-  add-is : p - 1 + 1 ≡ p
-  add-is = omega arith
+  pub prev-fits : e .count ≤ start
+  prev-fits = omega (arith, a .begins, below a (pos-of p ne), same-count ee)
 
-  pub prev-at : At m (p - 1) (start - n)
+  pub prev-at : At m (p - 1) (start - e .count)
   prev-at =
-      let lt : p - 1 < length (flatOf m .entries) = omega (arith, a .inside) in
+      let lt : p - 1 < length (flatOf m .entries) = omega (arith, a .inside, pos-of p ne) in
       record {
         held = a .held;
         inside = lt;
-        begins = omega (arith, a .begins, ap (startOf (flatOf m)) add-is, start-next (flatOf m) (p - 1) lt);
+        begins = omega (arith, a .begins, below a (pos-of p ne), same-count ee);
       }
 
   pub prev-inside : p - 1 + 1 < length (flatOf m .entries)
-  prev-inside = omega (arith, a .inside)
+  prev-inside = omega (arith, a .inside, pos-of p ne)
 
   pub prev-joins : joins (pageAt m (p - 1)) (pageAt m (p - 1 + 1)) ≡ true → (rest : List Page)
       → take (p - 1) (pagesOf m) ++ joined (pageAt m (p - 1)) (pageAt m (p - 1 + 1)) ∷ drop (p - 1 + 2) (pagesOf m) ≡ settledAt p (pagesOf m) rest

@@ -1,10 +1,10 @@
 pub mod Places
+pub mod Flags
 pub mod Swaps
 pub mod Last
 pub mod Placing
 pub mod Searching
 pub mod Sizes
-pub mod Flags
 pub mod Splitting
 pub mod Around
 pub mod Edits

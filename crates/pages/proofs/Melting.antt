@@ -9,13 +9,14 @@ use Rattle.basics.specs.Basics.{if_then_else_, any}
 use Rattle.model.specs.State.{Held, Page}
 use Rattle.model.specs.Rules.{isFrozen, fresh, listOf, splitAll, settle, thawOn, thaw}
 use Rattle.memory.specs.Store.{pageOf}
-use Rattle.pages.specs.Turns.{Turns, pagesOf, pageAt, tuplesAt, At, swapped, onPage}
+use Rattle.memory.specs.declared.Entry.{Entry}
+use Rattle.pages.specs.Turns.{Turns, pagesOf, pageAt, tuplesAt, entryAt, At, swapped, onPage}
 use Rattle.pages.specs.Changes.{Dirty, Tries, settledAt}
 use Rattle.pages.specs.Finding.{settledBy, NoneOf, FirstPage}
 use Rattle.pages.specs.Thawing.{ripeTuples, TakesHold, FrozenBy}
 use Rattle.pages.specs.declared.Found.{Found}
 use Rattle.pages.specs.declared.Found.the-variants.{Here, Nowhere}
-use Rattle.pages.proofs.Places.{turns-to, turns-then, from-page, at-first, page-first, pos-of}
+use Rattle.pages.proofs.Places.{turns-to, turns-then, from-page, at-first, page-first, pos-of, same-table}
 use Rattle.pages.proofs.Splitting.{dirty-fresh}
 use Rattle.pages.proofs.Around.{on-swap, on-same, around-on, around-none}
 use Rattle.pages.proofs.Joining.{settled-none, settled-by}
@@ -40,13 +41,13 @@ clean-page t n b hs h =
 
 module _ {m : List ℕ} {p start : ℕ} (a : At m p start) (b : ℕ) where
   -- nothing was pending
-  pub thawed-clean : (t n : ℕ) → t % 8 ≡ pageAt m p .table → b < 4096 → any waits (tuplesAt m p) ≡ false
-      → swapped p (pageOf (record { table = t; frozen = 0; count = n; block = b }) (tuplesAt m p) ∷ []) (pagesOf m) ≡ onPage (thawOn b) p none (pagesOf m)
-  thawed-clean t n et l e =
+  pub thawed-clean : {e : Entry} → e ≡ entryAt m p → b < 4096 → any waits (tuplesAt m p) ≡ false
+      → swapped p (pageOf (record { table = e .table; frozen = 0; count = e .count; block = b }) (tuplesAt m p) ∷ []) (pagesOf m) ≡ onPage (thawOn b) p none (pagesOf m)
+  thawed-clean {e} ee l w =
       let q : Page = record { table = pageAt m p .table; block = b; frozen = false; tuples = tuplesAt m p } in
       ap (λ (z : Page). swapped p (z ∷ []) (pagesOf m))
-      (clean-page t n b (tuplesAt m p) l ∙ ap (λ (z : ℕ). record { table = z; block = b; frozen = false; tuples = tuplesAt m p }) et)
-      ∙ sym (on-swap a (thawOn b) (q ∷ []) (λ prev qs. thaw-clean b prev (pageAt m p) qs e))
+      (clean-page (e .table) (e .count) b (tuplesAt m p) l ∙ ap (λ (z : ℕ). record { table = z; block = b; frozen = false; tuples = tuplesAt m p }) (same-table m p ee))
+      ∙ sym (on-swap a (thawOn b) (q ∷ []) (λ prev qs. thaw-clean b prev (pageAt m p) qs w))
 
   abbrev hs : List Held
   hs = ripeTuples (tuplesAt m p)
@@ -63,7 +64,7 @@ module _ {m : List ℕ} {p start : ℕ} (a : At m p start) (b : ℕ) where
     unfolding settledBy
     rule-is = sym (on-same a (thawOn b) (λ o r qs. settle rest o (fresh t hs) qs) (λ prev qs. thaw-changed b prev (pageAt m p) qs e))
 
-    module _ {m1 : List ℕ} (r : ℕ) (o : TakesHold m m1 p r) where
+    module _ {m1 : List ℕ} {r : ℕ} (o : TakesHold m m1 p r) where
       -- all tuples went
       pub thawed-none : r ≡ 0 → Turns m m1 (onPage (thawOn b) p none (pagesOf m))
       thawed-none z = turns-to (o .none-left z) (settled-none a t hs rest (sym (o .count) ∙ z) ∙ rule-is)
@@ -81,7 +82,7 @@ module _ {m : List ℕ} {p start : ℕ} (a : At m p start) (b : ℕ) where
         goal-is : settledAt p (pagesOf m1) (map (fresh (pageAt m p .table)) (splitAll (ripeTuples (tuplesAt m p)))) ≡ onPage (thawOn b) p none (pagesOf m)
         goal-is = settled-by a t hs rest (omega (arith, o .count, pos-of r ne)) stays ∙ rule-is
 
-        module _ {m2 : List ℕ} (j : Bool) (u : Tries m1 m2 j (settledAt p (pagesOf m1)) (λ rest. swapped p rest (pagesOf m1))) where
+        module _ {m2 : List ℕ} {j : Bool} (u : Tries m1 m2 j (settledAt p (pagesOf m1)) (λ rest. swapped p rest (pagesOf m1))) where
           pub thawed-joined : j ≡ true → Turns m m2 (onPage (thawOn b) p none (pagesOf m))
           thawed-joined h = turns-to (turns-then stays (u .done h rest)) goal-is
 

@@ -80,7 +80,7 @@ all-parts hs t s =
 
 -- ---- on the memory
 
-module _ {m m1 : List ℕ} {p start : ℕ} (a : At m p start) (k : ℕ) (h : Halved m m1 p k) where
+module _ {m m1 : List ℕ} {p start : ℕ} (a : At m p start) {k : ℕ} (h : Halved m m1 p k) where
   abbrev t : ℕ
   t = pageAt m p .table
 

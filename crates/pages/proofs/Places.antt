@@ -2,7 +2,7 @@
 use mathlib.Core.Path.{_≡_, refl, sym, ap, _∙_}
 use mathlib.Core.Bool.{true}
 use mathlib.Core.Option.{some}
-use Prim.Native.Nat.{ℕ, zero, suc, _+_, _-_, _≤_, _<_}
+use Prim.Native.Nat.{ℕ, zero, suc, _+_, _-_, _%_, _≤_, _<_}
 use native.Mathlib.Omega.{arith}
 use mathlib.Core.List.{List, [], _∷_, _++_, append-assoc, append-nil, map}
 use lib.ListN.{length, take, drop, getD, length-map, length-append, length-drop, take-append-drop}
@@ -10,15 +10,17 @@ use lib.Seq.{length-take-le, take-at, drop-at}
 use Rattle.basics.specs.Basics.{sum}
 use Rattle.model.specs.State.{Held, Page, Store}
 use Rattle.model.specs.Transactions.{changed}
-use Rattle.memory.specs.Flat.{Flat, flatOf, entryIn, noEntry}
-use Rattle.memory.specs.Store.{heldOf, nest, pageOf, pagesIn, pageIn, total, startOf, holdsStore, storeOf}
+use Rattle.memory.specs.Flat.{Flat, flatOf, countsOf, entryIn, noEntry, Room}
+use Rattle.memory.specs.Store.{heldOf, nest, pageOf, pageIn, total, startOf, holdsStore, storeOf}
+use Rattle.memory.specs.declared.Counts.{Counts}
 use Rattle.memory.specs.declared.Entry.{Entry}
 use Rattle.memory.proofs.Laws.{length-tab}
 use Rattle.memory.proofs.Nest.{Counted, counted-length, take-nest}
 use Rattle.memory.proofs.Runs.{pages-count, page-at, sum-append, start-le, rows-total, start-next, start-in, count-pos, all-counted}
-use Rattle.memory.proofs.Refusal.{held-filled}
+use Rattle.memory.proofs.Refusal.{held-filled, held-room}
 use Rattle.memory.proofs.Meaning.{Sound, in-some, in-sound}
-use Rattle.pages.specs.Turns.{withPages, Turns, pagesOf, pageAt, At, swapped}
+use Rattle.pages.specs.Turns.{withPages, Turns, pagesOf, pageAt, entryAt, startAt, At, swapped}
+use Rattle.pages.specs.Changes.{There, RowOn}
 
 -- ---- one change after another
 
@@ -97,6 +99,45 @@ module _ {m : List ℕ} {p start : ℕ} (a : At m p start) where
 
   pub has-row : 1 ≤ entryIn (flatOf m) p .count
   has-row = count-pos (flatOf m) (held-filled m (a .held)) p (a .inside)
+
+-- ---- what is read and changed is there
+
+pub rows-few : {m : List ℕ} → Room m → length (flatOf m .rows) ≤ 1024
+rows-few room = let r = room .range in omega arith
+
+pub entries-few : {m : List ℕ} → Room m → length (flatOf m .entries) ≤ 1024
+entries-few room = let r = room .range in omega arith
+
+pub there-at : {m : List ℕ} {p : ℕ} → There m p → At m p (startAt m p)
+there-at g = record { held = g .held; inside = g .inside; begins = refl }
+
+pub page-in : {m : List ℕ} {p : ℕ} → There m p → Room m × (p < length (flatOf m .entries))
+page-in {m} g = (held-room m (g .held), g .inside)
+
+pub row-in : {m : List ℕ} {p at : ℕ} → RowOn m p at → Room m × (at < length (flatOf m .rows))
+row-in {m} g = (held-room m (g .there .held), omega (arith, g .most, page-end (there-at (g .there))))
+
+pub at-there : {m : List ℕ} {p start : ℕ} → At m p start → There m p
+at-there a = record { held = a .held; inside = a .inside }
+
+-- of counts and an entry that were read
+
+pub same-pages : {c d : Counts} → c ≡ d → c .pages ≡ d .pages
+same-pages e = ap (λ (x : Counts). x .pages) e
+
+-- a page before the last, in a walk over all
+pub walk-at : {m : List ℕ} {p start : ℕ} → holdsStore m ≡ true → {c : Counts} → c ≡ countsOf (flatOf m) → p < c .pages → start ≡ startAt m p → At m p start
+walk-at h ec lt eb = record { held = h; inside = omega (arith, same-pages ec); begins = eb }
+
+pub same-count : {e f : Entry} → e ≡ f → e .count ≡ f .count
+same-count ee = ap (λ (x : Entry). x .count) ee
+
+pub same-table : (m : List ℕ) (p : ℕ) {e : Entry} → e ≡ entryAt m p → e .table % 8 ≡ pageAt m p .table
+unfolding pageIn pageOf
+same-table m p ee = ap (λ (x : Entry). x .table % 8) ee
+
+pub run-in : {m : List ℕ} {p start : ℕ} → At m p start → {e : Entry} → e ≡ entryAt m p → Room m × (start + e .count ≤ length (flatOf m .rows))
+run-in {m} a ee = (held-room m (a .held), omega (arith, page-end a, same-count ee))
 
 cons-head : {A : Type 0} (x y : A) (xs ys : List A) → x ∷ xs ≡ y ∷ ys → x ≡ y
 cons-head x y xs ys e = cc

@@ -69,7 +69,7 @@ module _ (t k : ℕ) (x : Tuple) (ek : x .key ≡ k) (p : Page) (ps : List Page)
       ∙ ap (λ (b : Bool). placeStep b p ps (after (entering p x) (p .tuples)) none) (ne-eqb _ _ e)
 
   pub no-key : p .table ≡ t → afterLast k (p .tuples) ≡ 0 → placeAfter t x (p ∷ ps) ≡ none
-  unfolding placeStep if_then_else_ Option·map
+  unfolding placeStep if_then_else_
   no-key e z =
       let z1 : afterLast (entering p x .tuple .key) (p .tuples) ≡ 0 = ap (λ (q : ℕ). afterLast q (p .tuples)) (entering-key p x ∙ ek) ∙ z in
       place-cons t x p ps
@@ -78,7 +78,7 @@ module _ (t k : ℕ) (x : Tuple) (ek : x .key ≡ k) (p : Page) (ps : List Page)
       ∙ ap (λ (a : Option (List Held)). placeStep true p ps a none) (after-none (entering p x) (p .tuples) z1)
 
   pub on-page : (j : ℕ) → p .table ≡ t → afterLast k (p .tuples) ≡ j → 0 < j → placeAfter t x (p ∷ ps) ≡ some (placedOn x j p ++ ps)
-  unfolding placeStep if_then_else_ placedOn Option·map
+  unfolding placeStep if_then_else_ placedOn
   on-page zero e z h = absurd (omega arith)
   on-page (suc j) e z h =
       let z1 : afterLast (entering p x .tuple .key) (p .tuples) ≡ suc j = ap (λ (q : ℕ). afterLast q (p .tuples)) (entering-key p x ∙ ek) ∙ z in

@@ -12,15 +12,15 @@ use Rattle.basics.specs.Basics.{if_then_else_}
 use Rattle.model.specs.State.{removing, Held, Page}
 use Rattle.model.specs.Rules.{isAdding, hasNumber, edit, gone, takenLater, withPending, withTuples, fresh, listOf, settle, removeOn, remove, around}
 use Rattle.memory.specs.Flat.{flatOf, rowIn, noRow, removeAt}
-use Rattle.memory.specs.Store.{pendingOf, heldOf, heldIn, pageOf, pageIn, startOf, holdsStore}
+use Rattle.memory.specs.Store.{pendingOf, heldOf, heldIn, pageOf, pageIn, startOf}
 use Rattle.memory.specs.declared.Row.{Row}
 use Rattle.memory.specs.declared.Entry.{Entry}
 use Rattle.pages.specs.Turns.{Turns, pagesOf, pageAt, tuplesAt, entryAt, startAt, At, swapped, onPage}
 use Rattle.pages.specs.Changes.{RowOn, Tries, settledAt}
-use Rattle.pages.specs.Finding.{firstOf, editAt, takenAt, settledBy, NoneOf, FirstPage, FoundRow, FoundBy}
+use Rattle.pages.specs.Finding.{firstOf, editAt, takenAt, lessOne, settledBy, NoneOf, FirstPage, FoundRow, FoundBy}
 use Rattle.memory.specs.Views.{tab}
 use Rattle.memory.proofs.Runs.{start-zero, pages-count}
-use Rattle.pages.proofs.Places.{turns-to, turns-stay, turns-then, swap-same, from-page, at-first, page-first, has-row, ends-at, tuples-many}
+use Rattle.pages.proofs.Places.{there-at, same-count, same-table, turns-to, turns-stay, turns-then, swap-same, from-page, at-first, page-first, has-row, ends-at, tuples-many}
 use Rattle.pages.proofs.Swaps.{fresh-page, length-remove}
 use Rattle.pages.proofs.Splitting.{run-tuples, with-tuples}
 use Rattle.pages.specs.Thawing.{withFlags}
@@ -41,7 +41,7 @@ unfolding pageIn pageOf withTuples
 page-with m p hs = refl
 
 pub here : {m : List ℕ} {p at : ℕ} → RowOn m p at → At m p (startAt m p)
-here g = record { held = g .there .held; inside = g .there .inside; begins = refl }
+here g = there-at (g .there)
 
 module _ {m : List ℕ} {p at : ℕ} (g : RowOn m p at) where
   many-is : length (tuplesAt m p) ≡ entryAt m p .count
@@ -49,7 +49,7 @@ module _ {m : List ℕ} {p at : ℕ} (g : RowOn m p at) where
 
   -- ---- on a frozen page
 
-  module _ (row : Row) (er : row ≡ rowIn (flatOf m) at) (e : Entry) (ee : e ≡ entryAt m p) where
+  module _ {row : Row} (er : row ≡ rowIn (flatOf m) at) {e : Entry} (ee : e ≡ entryAt m p) where
     pub held-row : getD (tuplesAt m p) (at - startAt m p) (heldOf noRow) ≡ heldOf row
     held-row = held-at g ∙ ap heldOf (sym er)
 
@@ -66,7 +66,7 @@ module _ {m : List ℕ} {p at : ℕ} (g : RowOn m p at) where
     pub later-last : row .flags / 4 % 4 ≡ 1 → e .count ≡ 1
         → Turns m m (swapped p (withTuples (pageAt m p) (takenAt (at - startAt m p) (tuplesAt m p)) ∷ []) (pagesOf m))
     later-last h l =
-        let k : length (tuplesAt m p) ≡ 1 = many-is ∙ ap (λ (x : Entry). x .count) (sym ee) ∙ l in
+        let k : length (tuplesAt m p) ≡ 1 = many-is ∙ sym (same-count ee) ∙ l in
         turns-to (turns-stay m (g .there .held))
         (sym (ap (λ (z : List Held). swapped p (withTuples (pageAt m p) z ∷ []) (pagesOf m)) (taken-last (at - startAt m p) (tuplesAt m p) (heldOf noRow) (row-inside g) (row-adding h) k)
         ∙ ap (λ (z : Page). swapped p (z ∷ []) (pagesOf m)) same-tuples ∙ swap-same (here g)))
@@ -75,7 +75,7 @@ module _ {m : List ℕ} {p at : ℕ} (g : RowOn m p at) where
         → Turns m m' (swapped p (pageOf (record { table = e .table; frozen = e .frozen; count = n; block = e .block }) (removeAt (at - startAt m p) (tuplesAt m p)) ∷ []) (pagesOf m))
         → Turns m m' (swapped p (withTuples (pageAt m p) (takenAt (at - startAt m p) (tuplesAt m p)) ∷ []) (pagesOf m))
     later-away n h l t =
-        let k : 1 < length (tuplesAt m p) = more (length (tuplesAt m p)) (omega (arith, many-is, has-row (here g))) (λ z. l (ap (λ (x : Entry). x .count) ee ∙ sym many-is ∙ z)) in
+        let k : 1 < length (tuplesAt m p) = more (length (tuplesAt m p)) (omega (arith, many-is, has-row (here g))) (λ z. l (same-count ee ∙ sym many-is ∙ z)) in
         turns-to t (ap (λ (z : Page). swapped p (z ∷ []) (pagesOf m))
         (ap (λ (x : Entry). pageOf (record { table = x .table; frozen = x .frozen; count = n; block = x .block }) (removeAt (at - startAt m p) (tuplesAt m p))) ee
         ∙ with-tuples m p n (removeAt (at - startAt m p) (tuplesAt m p))
@@ -96,28 +96,28 @@ module _ {m : List ℕ} {p at : ℕ} (g : RowOn m p at) where
 
   -- ---- on another page
 
-  module _ (n : ℕ) (en : n ≡ entryAt m p .count) where
+  module _ {e : Entry} (ee : e ≡ entryAt m p) where
     abbrev left : List Held
     left = removeAt (at - startAt m p) (tuplesAt m p)
 
-    left-long : length (removeAt (at - startAt m p) (tuplesAt m p)) ≡ n - 1
-    left-long = length-remove (at - startAt m p) (tuplesAt m p) (row-inside g) ∙ ap (λ (z : ℕ). z - 1) (many-is ∙ sym en)
+    left-long : length (removeAt (at - startAt m p) (tuplesAt m p)) ≡ e .count - 1
+    left-long = length-remove (at - startAt m p) (tuplesAt m p) (row-inside g) ∙ ap (λ (z : ℕ). z - 1) (many-is ∙ sym (same-count ee))
 
     abbrev new : Page
     new = fresh (pageAt m p .table) left
 
-    pub now-none : n ≡ 1 → {m' : List ℕ} → Turns m m' (swapped p [] (pagesOf m)) → Turns m m' (settledBy p (new ∷ []) new (pagesOf m))
-    now-none e t = turns-to t (settled-none (here g) (pageAt m p .table) left (new ∷ []) (left-long ∙ omega arith))
+    pub now-none : e .count ≡ 1 → {m' : List ℕ} → Turns m m' (swapped p [] (pagesOf m)) → Turns m m' (settledBy p (new ∷ []) new (pagesOf m))
+    now-none l t = turns-to t (settled-none (here g) (pageAt m p .table) left (new ∷ []) (left-long ∙ omega arith))
 
-    module _ {m1 : List ℕ} (t k : ℕ) (et : t % 8 ≡ pageAt m p .table)
-        (u : Turns m m1 (swapped p (pageOf (record { table = t; frozen = 0; count = k; block = 0 }) (removeAt (at - startAt m p) (tuplesAt m p)) ∷ []) (pagesOf m))) where
+    module _ {m1 : List ℕ} (k : ℕ)
+        (u : Turns m m1 (swapped p (pageOf (record { table = e .table; frozen = 0; count = k; block = 0 }) (removeAt (at - startAt m p) (tuplesAt m p)) ∷ []) (pagesOf m))) where
       came : Turns m m1 (swapped p (fresh (pageAt m p .table) (removeAt (at - startAt m p) (tuplesAt m p)) ∷ []) (pagesOf m))
-      came = turns-to u (ap (λ (z : Page). swapped p (z ∷ []) (pagesOf m)) (fresh-page t k left ∙ ap (λ (z : ℕ). fresh z left) et))
+      came = turns-to u (ap (λ (z : Page). swapped p (z ∷ []) (pagesOf m)) (fresh-page (e .table) k left ∙ ap (λ (z : ℕ). fresh z left) (same-table m p ee)))
 
       pub now-at : {start : ℕ} → At m p start → At m1 p start
       now-at a = at-first a new [] came
 
-      pub now-joined : {m2 : List ℕ} (r : Bool) → 1 < n → Tries m1 m2 r (settledAt p (pagesOf m1)) (λ rest. swapped p rest (pagesOf m1))
+      pub now-joined : {m2 : List ℕ} (r : Bool) → 1 < e .count → Tries m1 m2 r (settledAt p (pagesOf m1)) (λ rest. swapped p rest (pagesOf m1))
           → Turns m m2 (settledBy p (new ∷ []) new (pagesOf m))
       now-joined r l v =
           let a1 : At m1 p (startAt m p) = now-at (here g) in
@@ -139,22 +139,21 @@ module _ {m : List ℕ} {n p start at : ℕ} (o : FoundRow m n p start at) where
   pub found-around : (f : Option Page → Page → List Page → List Page) → around (hasNumber n) f none (pagesOf m) ≡ onPage f p none (pagesOf m)
   found-around f = around-on f (hasNumber n) p (pageAt m p) (pagesOf m) (o .page .passed) (from-page (o .page .on)) (o .page .hits) none
 
-  pub removed-later : pageAt m p .frozen ≡ true
-      → swapped p (withTuples (pageAt m p) (takenAt (at - startAt m p) (tuplesAt m p)) ∷ []) (pagesOf m) ≡ remove n (pagesOf m)
+  pub removed-later : pageAt m p .frozen ≡ true → {m' : List ℕ}
+      → Turns m m' (swapped p (withTuples (pageAt m p) (takenAt (at - startAt m p) (tuplesAt m p)) ∷ []) (pagesOf m)) → Turns m m' (remove n (pagesOf m))
   unfolding remove removeOn if_then_else_
-  removed-later e =
+  removed-later e u =
       let t : takenLater n (tuplesAt m p) ≡ takenAt (at - startAt m p) (tuplesAt m p) = taken-first n (tuplesAt m p) ∙ ap (λ (z : ℕ). takenAt z (tuplesAt m p)) found-first in
-      sym (found-around (removeOn n) ∙ on-swap (o .page .on) (removeOn n) (withTuples (pageAt m p) (takenAt (at - startAt m p) (tuplesAt m p)) ∷ [])
-      (λ prev qs. rw (e, t) refl))
+      turns-to u (sym (found-around (removeOn n) ∙ on-swap (o .page .on) (removeOn n) (withTuples (pageAt m p) (takenAt (at - startAt m p) (tuplesAt m p)) ∷ [])
+      (λ prev qs. rw (e, t) refl)))
 
-  pub removed-now : pageAt m p .frozen ≡ false → (q : Page) → q ≡ fresh (pageAt m p .table) (removeAt (at - startAt m p) (tuplesAt m p))
-      → settledBy p (q ∷ []) q (pagesOf m) ≡ remove n (pagesOf m)
+  pub removed-now : pageAt m p .frozen ≡ false → {m' : List ℕ} → Turns m m' (settledBy p (lessOne m p at ∷ []) (lessOne m p at) (pagesOf m)) → Turns m m' (remove n (pagesOf m))
   unfolding remove removeOn settledBy if_then_else_ gone
-  removed-now e q eq =
+  removed-now e u =
       let t : edit gone n (tuplesAt m p) ≡ removeAt (at - startAt m p) (tuplesAt m p) =
       edit-first n gone (tuplesAt m p) ∙ ap (λ (z : ℕ). editAt gone z (tuplesAt m p)) found-first
       ∙ edit-none gone (heldOf noRow) (tuplesAt m p) (at - startAt m p) (row-inside found-on) refl in
-      sym (found-around (removeOn n) ∙ on-same (o .page .on) (removeOn n) (λ prev r qs. settle (q ∷ []) prev q qs) (λ prev qs. rw (e, t, eq) refl))
+      turns-to u (sym (found-around (removeOn n) ∙ on-same (o .page .on) (removeOn n) (λ prev r qs. settle (lessOne m p at ∷ []) prev (lessOne m p at) qs) (λ prev qs. rw (e, t) refl)))
 
 pub nowhere-around : (m : List ℕ) (n : ℕ) (f : Option Page → Page → List Page → List Page) → NoneOf (hasNumber n) (pagesOf m) → pagesOf m ≡ around (hasNumber n) f none (pagesOf m)
 unfolding listOf
@@ -168,40 +167,45 @@ PassInv m hit p start = (p ≤ length (flatOf m .entries)) × ((start ≡ startO
 pub pass-start : (m : List ℕ) (hit : Page → Bool) → PassInv m hit 0 0
 pass-start m hit = (omega arith, (sym (start-zero (flatOf m)), tt))
 
-module _ (m : List ℕ) (h : holdsStore m ≡ true) (hit : Page → Bool) (p start : ℕ) (inv : PassInv m hit p start) where
-  pub pass-at : p < length (flatOf m .entries) → At m p start
-  pass-at lt = record { held = h; inside = lt; begins = inv .1 .0 }
+pub pass-end : (m : List ℕ) (hit : Page → Bool) (p start : ℕ) → PassInv m hit p start → length (flatOf m .entries) ≤ p → NoneOf hit (pagesOf m)
+pass-end m hit p start inv l = subst (NoneOf hit) (take-all p (pagesOf m) (omega (arith, pages-count (flatOf m)))) (inv .1 .1)
 
-  pub pass-on : (lt : p < length (flatOf m .entries)) (end : ℕ) → end ≡ start + entryAt m p .count → hit (pageAt m p) ≡ false → PassInv m hit (p + 1) end
-  pass-on lt end ee e = (
-    omega arith,
+module _ {m : List ℕ} {p start : ℕ} (a : At m p start) (hit : Page → Bool) (inv : PassInv m hit p start) where
+  pub pass-on : {e : Entry} → e ≡ entryAt m p → hit (pageAt m p) ≡ false → PassInv m hit (p + 1) (start + e .count)
+  pass-on {e} ee past = (
+    omega (arith, a .inside),
     (
-      ee ∙ sym (ends-at (pass-at lt)),
-      subst (λ (z : ℕ). NoneOf hit (take z (pagesOf m))) (sym (add-one p)) (none-snoc hit p (pageAt m p) (pagesOf m) (inv .1 .1) (from-page (pass-at lt)) e),
+      ap (λ (z : ℕ). start + z) (same-count ee) ∙ sym (ends-at a),
+      subst (λ (z : ℕ). NoneOf hit (take z (pagesOf m))) (sym (add-one p)) (none-snoc hit p (pageAt m p) (pagesOf m) (inv .1 .1) (from-page a) past),
     ),
   )
 
-  pub pass-first : (lt : p < length (flatOf m .entries)) → hit (pageAt m p) ≡ true → FirstPage m hit p start
-  pass-first lt e = record { on = pass-at lt; passed = inv .1 .1; hits = e }
+  pub pass-first : hit (pageAt m p) ≡ true → FirstPage m hit p start
+  pass-first hits = record { on = a; passed = inv .1 .1; hits = hits }
 
-  pub pass-end : length (flatOf m .entries) ≤ p → NoneOf hit (pagesOf m)
-  pass-end l = subst (NoneOf hit) (take-all p (pagesOf m) (omega (arith, pages-count (flatOf m)))) (inv .1 .1)
-
-module _ {m : List ℕ} {p start : ℕ} (a : At m p start) (n end at : ℕ) (ee : end ≡ start + entryAt m p .count)
-    (ea : at ≡ start + firstOf n (tab (heldIn (flatOf m)) start (end - start))) where
+-- what the search on a page for a number found
+module _ {m : List ℕ} {p start : ℕ} (a : At m p start) (n : ℕ) (inv : PassInv m (hasNumber n) p start) {e : Entry} (ee : e ≡ entryAt m p) {at : ℕ}
+    (ea : at ≡ start + firstOf n (tab (heldIn (flatOf m)) start (start + e .count - start))) where
   number-is : firstOf n (tuplesAt m p) ≡ at - start
   number-is =
-      let el : end - start ≡ entryAt m p .count = omega arith in
-      let q : firstOf n (tab (heldIn (flatOf m)) start (end - start)) ≡ firstOf n (tuplesAt m p) = ap (firstOf n) (run-tuples a (end - start) el) in
+      let el : start + e .count - start ≡ entryAt m p .count = omega (arith, same-count ee) in
+      let q : firstOf n (tab (heldIn (flatOf m)) start (start + e .count - start)) ≡ firstOf n (tuplesAt m p) = ap (firstOf n) (run-tuples a (start + e .count - start) el) in
       omega arith
 
-  pub number-here : at < end → (hasNumber n (pageAt m p) ≡ true) × (firstOf n (tuplesAt m p) ≡ at - start)
+  pub row-found : at < start + e .count → FoundRow m n p start at
   unfolding hasNumber
-  number-here l = (first-any n (tuplesAt m p) (omega (arith, number-is, tuples-many a)), number-is)
+  row-found l =
+      let ec = same-count ee in
+      record {
+        page = pass-first a (hasNumber n) inv (first-any n (tuplesAt m p) (omega (arith, number-is, tuples-many a)));
+        least = omega arith;
+        most = omega arith;
+        first = number-is;
+      }
 
-  pub number-none : end ≤ at → hasNumber n (pageAt m p) ≡ false
+  pub row-passed : start + e .count ≤ at → PassInv m (hasNumber n) (p + 1) (start + e .count)
   unfolding hasNumber
-  number-none l = first-none n (tuplesAt m p) (omega (arith, number-is, tuples-many a))
+  row-passed l = pass-on a (hasNumber n) inv ee (first-none n (tuplesAt m p) (omega (arith, number-is, tuples-many a, same-count ee)))
 
 -- where the search led
 module _ (m : List ℕ) (n : ℕ) (r : Found) (o : FoundBy m n r) where

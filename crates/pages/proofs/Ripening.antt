@@ -22,7 +22,8 @@ use Rattle.memory.specs.declared.Entry.{Entry}
 use Rattle.memory.proofs.Laws.{tab-next}
 use Rattle.memory.proofs.Meaning.{becomes-then}
 use Rattle.memory.proofs.Exchange.{set-exchange}
-use Rattle.pages.specs.Turns.{pageAt, tuplesAt, entryAt, At}
+use Rattle.pages.specs.Turns.{tuplesAt, entryAt, At}
+use Rattle.pages.proofs.Places.{pos-of, same-count, same-table}
 use Rattle.pages.specs.Thawing.{withFlags, ripeFlags, ripeOne, ripeRows, ripeTuples, ripeRun, RipensOne, Ripens, TakesHold}
 use Rattle.pages.proofs.Swaps.{turned-one, run-held, run-long, nest-one, fresh-page}
 use Rattle.pages.proofs.Flags.{held-done, held-kept}
@@ -68,6 +69,14 @@ module _ (f : ℕ → Held) (i e : ℕ) where
 
 pub waits-is : (f : Flat) (i : ℕ) → waits (heldIn f i) ≡ isPending (pendingOf (rowIn f i .flags / 4 % 4))
 waits-is f i = ap isPending (pending-is (rowIn f i))
+
+-- by the flags that were read
+module _ (f : Flat) (i : ℕ) {k : ℕ} (ek : k ≡ rowIn f i .flags) where
+  pub waits-some : (k / 4 % 4 ≡ 0 → ⊥) → waits (heldIn f i) ≡ true
+  waits-some h = waits-is f i ∙ pending-some _ (λ z. h (ap (λ (x : ℕ). x / 4 % 4) ek ∙ z))
+
+  pub waits-none : k / 4 % 4 ≡ 0 → waits (heldIn f i) ≡ false
+  waits-none h = waits-is f i ∙ pending-none _ (ap (λ (x : ℕ). x / 4 % 4) (sym ek) ∙ h)
 
 -- ---- one row
 
@@ -272,50 +281,50 @@ nil : (xs : List Row) → length xs ≡ 0 → xs ≡ []
 nil [] e = refl
 nil (y ∷ ys) e = absurd (omega arith)
 
-module _ {m m1 : List ℕ} {p start : ℕ} (a : At m p start) (n r : ℕ) (en : n ≡ entryAt m p .count) (o : Ripens m m1 start n r) where
+module _ {m m1 : List ℕ} {p start : ℕ} (a : At m p start) {e : Entry} (ee : e ≡ entryAt m p) {r : ℕ} (o : Ripens m m1 start (e .count) r) where
   abbrev run : List Row
   run = take (entryIn (flatOf m) p .count) (drop start (flatOf m .rows))
 
   becomes-is : Becomes m m1 (withRows (flatOf m) (ripeRun (flatOf m .rows) start (entryIn (flatOf m) p .count)))
-  becomes-is = subst (λ (k : ℕ). Becomes m m1 (withRows (flatOf m) (ripeRun (flatOf m .rows) start k))) en (o .becomes)
+  becomes-is = subst (λ (k : ℕ). Becomes m m1 (withRows (flatOf m) (ripeRun (flatOf m .rows) start k))) (same-count ee) (o .becomes)
 
   ripe-is : map heldOf (ripeRows (take (entryIn (flatOf m) p .count) (drop start (flatOf m .rows)))) ≡ ripeTuples (tuplesAt m p)
   ripe-is = ripe-held run ∙ ap ripeTuples (run-held a)
 
   long-is : r ≡ length (ripeRows (take (entryIn (flatOf m) p .count) (drop start (flatOf m .rows))))
-  long-is = o .count ∙ ap (λ (k : ℕ). length (ripeRows (take k (drop start (flatOf m .rows))))) en
+  long-is = o .count ∙ ap (λ (k : ℕ). length (ripeRows (take k (drop start (flatOf m .rows))))) (same-count ee)
 
   count-is : r ≡ length (ripeTuples (tuplesAt m p))
   count-is = long-is ∙ sym (length-map (ripeRows run) heldOf) ∙ ap length ripe-is
 
   -- no more are left than there were
-  pub hold-most : r ≤ n
-  hold-most = omega (arith, long-is, rows-most run, run-long a)
+  pub hold-most : r ≤ e .count
+  hold-most = omega (arith, long-is, rows-most run, run-long a, same-count ee)
 
-  pub hold-none : {m2 : List ℕ} → r ≡ 0 → Becomes m1 m2 (withEntries (flatOf m1) (removeAt p (flatOf m1 .entries))) → TakesHold m m2 p r
+  pub hold-none : {m2 : List ℕ} → r ≡ 0 → Becomes m1 m2 (withEntries (flatOf m1) (removeAt p (flatOf m1 .entries))) → TakesHold m m2 p 0
   unfolding total sum nest
   hold-none {m2} z b =
-      record {
+      subst (λ (k : ℕ). TakesHold m m2 p k) z (record {
         count = count-is;
         none-left = λ q. turned-one a [] [] (ripeRun (flatOf m .rows) start (entryIn (flatOf m) p .count)) (removeAt p (flatOf m .entries)) [] refl tt
             (ap (λ (xs : List Row). take start (flatOf m .rows) ++ (xs ++ drop (start + entryIn (flatOf m) p .count) (flatOf m .rows))) (nil (ripeRows run) (sym long-is ∙ z))) refl
             (becomes-then m m1 m2 _ (λ f. withEntries f (removeAt p (f .entries))) becomes-is b) refl;
         some-left = λ q. absurd (q z);
-      }
+      })
 
-  pub hold-some : {m2 : List ℕ} → (r ≡ 0 → ⊥) → 1 ≤ r → (t : ℕ) → t % 8 ≡ pageAt m p .table
-      → Becomes m1 m2 (withEntries (flatOf m1) (set (flatOf m1 .entries) p (record { table = t; frozen = 0; count = r; block = 0 }))) → TakesHold m m2 p r
+  pub hold-some : {m2 : List ℕ} → (r ≡ 0 → ⊥)
+      → Becomes m1 m2 (withEntries (flatOf m1) (set (flatOf m1 .entries) p (record { table = e .table; frozen = 0; count = r; block = 0 }))) → TakesHold m m2 p r
   unfolding total sum
-  hold-some {m2} nz pos t et b =
-      let e : Entry = record { table = t; frozen = 0; count = r; block = 0 } in
+  hold-some {m2} nz b =
+      let d : Entry = record { table = e .table; frozen = 0; count = r; block = 0 } in
       record {
         count = count-is;
         none-left = λ q. absurd (nz q);
-        some-left = λ q. turned-one a (e ∷ []) (ripeRows run) (ripeRun (flatOf m .rows) start (entryIn (flatOf m) p .count)) (set (flatOf m .entries) p e) _ (omega (arith, long-is)) (pos, tt) refl
-            (set-exchange (flatOf m .entries) p e (a .inside))
-            (becomes-then m m1 m2 _ (λ f. withEntries f (set (f .entries) p e)) becomes-is b)
-            (nest-one e (map heldOf (ripeRows run)) (long-is ∙ sym (length-map (ripeRows run) heldOf))
-            ∙ ap (λ (hs : List Held). pageOf e hs ∷ []) ripe-is ∙ ap (λ (z : Page). z ∷ []) (fresh-page t r (ripeTuples (tuplesAt m p)) ∙ ap (λ (k : ℕ). fresh k (ripeTuples (tuplesAt m p))) et));
+        some-left = λ q. turned-one a (d ∷ []) (ripeRows run) (ripeRun (flatOf m .rows) start (entryIn (flatOf m) p .count)) (set (flatOf m .entries) p d) _ (omega (arith, long-is)) (pos-of r nz, tt) refl
+            (set-exchange (flatOf m .entries) p d (a .inside))
+            (becomes-then m m1 m2 _ (λ f. withEntries f (set (f .entries) p d)) becomes-is b)
+            (nest-one d (map heldOf (ripeRows run)) (long-is ∙ sym (length-map (ripeRows run) heldOf))
+            ∙ ap (λ (hs : List Held). pageOf d hs ∷ []) ripe-is ∙ ap (λ (z : Page). z ∷ []) (fresh-page (e .table) r (ripeTuples (tuplesAt m p)) ∙ ap (λ (k : ℕ). fresh k (ripeTuples (tuplesAt m p))) (same-table m p ee)));
       }
 
 -- ---- one row of the memory

@@ -5,25 +5,26 @@ use mathlib.Core.Option.{none}
 use Prim.Native.Nat.{ℕ, suc, _+_, _-_, _%_, _≤_, _<_}
 use native.Mathlib.Omega.{arith}
 use native.Mathlib.Numerals.{add-one}
-use mathlib.Core.List.{List, _++_}
+use mathlib.Core.List.{List, [], _∷_, _++_}
 use lib.ListN.{length, take, drop}
 use Rattle.blocks.specs.Tuple.{Tuple}
 use Rattle.model.specs.State.{Page}
-use Rattle.model.specs.Rules.{place, placeAfter, placeFront}
+use Rattle.model.specs.Rules.{calm, fresh, place, placeAfter, placeFront}
 use Rattle.memory.specs.Views.{tab}
-use Rattle.memory.specs.Flat.{flatOf, entryIn}
+use Rattle.memory.specs.Flat.{flatOf, entryIn, Room}
 use Rattle.memory.specs.Store.{tupleOf, heldIn, pageOf, pageIn, startOf, holdsStore, tupleBy}
 use Rattle.memory.specs.declared.Row.{Row}
 use Rattle.memory.specs.declared.Entry.{Entry}
 use Rattle.memory.proofs.Laws.{length-tab}
 use Rattle.memory.proofs.Runs.{start-zero, start-next, start-all, pages-end}
 use Rattle.memory.proofs.Refusal.{held-filled}
-use Rattle.pages.specs.Turns.{pagesOf, pageAt, At, swapped}
+use Rattle.pages.specs.Turns.{Turns, pagesOf, pageAt, entryAt, At, swapped}
+use Rattle.pages.specs.Changes.{There}
 use Rattle.pages.specs.Spots.{afterLast, placedOn, OnSpot, NewSpot, SpottedBy, Spotted, FrontSpotted}
 use Rattle.pages.specs.declared.Spot.{Spot}
 use Rattle.pages.specs.declared.Spot.the-variants.{On, New}
 use Rattle.pages.proofs.Placing.{front-turn, front-on, front-new, front-last, other-table, no-key, place-on, place-front}
-use Rattle.pages.proofs.Places.{from-page}
+use Rattle.pages.proofs.Places.{turns-to, from-page, run-in, same-count, same-table}
 use Rattle.pages.proofs.Last.{last-le}
 
 -- all pages before p are of lower tables
@@ -47,38 +48,35 @@ tuples-is m p = refl
 
 -- ---- from the front
 
-module _ (m : List ℕ) (h : holdsStore m ≡ true) (t p at : ℕ) (lt : p < length (flatOf m .entries)) (inv : FrontInv m t p at) where
-  abbrev here : At m p at
-  here = record { held = h; inside = lt; begins = inv .1 .0 }
-
-  pub front-new-spot : t < entryIn (flatOf m) p .table % 8 → FrontSpotted m t (New p at)
+module _ {m : List ℕ} {p at : ℕ} (a : At m p at) (t : ℕ) (inv : FrontInv m t p at) {e : Entry} (ee : e ≡ entryAt m p) where
+  pub front-new-spot : t < e .table % 8 → FrontSpotted m t (New p at)
   unfolding SpottedBy
   front-new-spot l k =
       record {
         inside = inv .0;
         begins = inv .1 .0;
-        places = λ x e. front-new t x (pagesOf m) p _ (from-page here) (inv .1 .1 x) (omega (arith, table-is m p));
+        places = λ x z. front-new t x (pagesOf m) p _ (from-page a) (inv .1 .1 x) (omega (arith, same-table m p ee));
       }
 
-  pub front-on-spot : entryIn (flatOf m) p .table % 8 ≡ t → FrontSpotted m t (On p at at)
+  pub front-on-spot : e .table % 8 ≡ t → FrontSpotted m t (On p at at)
   unfolding SpottedBy
   front-on-spot l k =
       let z : at - at ≡ 0 = omega arith in
       record {
-        on = here;
+        on = a;
         least = omega arith;
         most = omega arith;
-        places = λ x e.
-            front-on t x (pagesOf m) p (pageAt m p) (from-page here) (inv .1 .1 x) (table-is m p ∙ l)
+        places = λ x y.
+            front-on t x (pagesOf m) p (pageAt m p) (from-page a) (inv .1 .1 x) (sym (same-table m p ee) ∙ l)
             ∙ ap (λ (j : ℕ). swapped p (placedOn x j (pageAt m p)) (pagesOf m)) (sym z);
       }
 
-  pub front-next : (n : ℕ) → entryIn (flatOf m) p .table % 8 < t → n ≡ entryIn (flatOf m) p .count → FrontInv m t (p + 1) (at + n)
-  front-next n l en = (
-    omega arith,
+  pub front-next : e .table % 8 < t → FrontInv m t (p + 1) (at + e .count)
+  front-next l = (
+    omega (arith, a .inside),
     (
-      omega (arith, inv .1 .0, start-next (flatOf m) p lt),
-      λ x. front-turn t x (pagesOf m) p _ (from-page here) (inv .1 .1 x) (omega (arith, table-is m p))
+      omega (arith, inv .1 .0, start-next (flatOf m) p (a .inside), same-count ee),
+      λ x. front-turn t x (pagesOf m) p _ (from-page a) (inv .1 .1 x) (omega (arith, same-table m p ee))
           ∙ ap (λ (z : ℕ). take z (pagesOf m) ++ placeFront t x (drop z (pagesOf m))) (sym (add-one p)),
     ),
   )
@@ -111,73 +109,74 @@ back-start m h t k p at ep ea = (
   ),
 )
 
-module _ (m : List ℕ) (h : holdsStore m ≡ true) (t k p end : ℕ) (pos : 0 < p) (inv : BackInv m t k p end) where
-  abbrev e : Entry
-  e = entryIn (flatOf m) (p - 1)
+-- a turn of the search: the page before p is next, and it ends with row end
+pub record BackTurn (m : List ℕ) (t k p end : ℕ) : Type 0 where
+  pub held : holdsStore m ≡ true
+  pub pos : 0 < p
+  pub inv : BackInv m t k p end
 
-  -- the page before p ends where p starts
-  pub back-in : p - 1 < length (flatOf m .entries)
-  back-in = omega (arith, inv .0)
+module _ {m : List ℕ} {t k p end : ℕ} (o : BackTurn m t k p end) where
+  pub back-there : There m (p - 1)
+  back-there = record { held = o .held; inside = omega (arith, o .inv .0, o .pos) }
 
-  pub back-begins : end ≡ startOf (flatOf m) (p - 1) + entryIn (flatOf m) (p - 1) .count
-  back-begins =
-      let z : p ≡ p - 1 + 1 = omega arith in
-      inv .1 .0 ∙ ap (startOf (flatOf m)) z ∙ start-next (flatOf m) (p - 1) back-in
+  module _ {e : Entry} (ee : e ≡ entryAt m (p - 1)) where
+    pub back-begins : end ≡ startOf (flatOf m) (p - 1) + e .count
+    back-begins =
+        let z : p ≡ p - 1 + 1 = omega (arith, o .pos) in
+        o .inv .1 .0 ∙ ap (startOf (flatOf m)) z ∙ start-next (flatOf m) (p - 1) (back-there .inside) ∙ ap (λ (n : ℕ). startOf (flatOf m) (p - 1) + n) (sym (same-count ee))
 
-  module _ (n : ℕ) (en : n ≡ entryIn (flatOf m) (p - 1) .count) where
-    pub back-at : At m (p - 1) (end - n)
-    back-at = record { held = h; inside = back-in; begins = omega (arith, back-begins) }
+    pub back-at : At m (p - 1) (end - e .count)
+    back-at = record { held = o .held; inside = back-there .inside; begins = omega (arith, back-begins) }
+
+    -- the page's rows, for the search on it
+    pub back-run : Room m × ((end - e .count ≤ end) × (end ≤ length (flatOf m .rows)))
+    back-run = let r = run-in back-at ee in (r .0, (omega arith, omega (arith, r .1, back-begins)))
 
     rest : (x : Tuple) → x .key ≡ k → placeAfter t x (drop (suc (p - 1)) (pagesOf m)) ≡ none
     rest x ek =
-        let z : suc (p - 1) ≡ p = omega arith in
-        ap (λ (q : ℕ). placeAfter t x (drop q (pagesOf m))) z ∙ inv .1 .1 x ek
+        let z : suc (p - 1) ≡ p = omega (arith, o .pos) in
+        ap (λ (q : ℕ). placeAfter t x (drop q (pagesOf m))) z ∙ o .inv .1 .1 x ek
 
-    pub back-other : (entryIn (flatOf m) (p - 1) .table % 8 ≡ t → ⊥) → BackInv m t k (p - 1) (end - n)
-    back-other ne = (
-      omega (arith, inv .0),
-      (
-        back-at .begins,
-        λ x ek. ap (placeAfter t x) (from-page back-at)
-            ∙ other-table t k x ek _ (drop (suc (p - 1)) (pagesOf m)) (rest x ek) (λ q. ne (sym (table-is m (p - 1)) ∙ q)),
-      ),
-    )
+    -- none of the page's tuples is in the place of x
+    on-to-next : ((x : Tuple) → x .key ≡ k → placeAfter t x (pageAt m (p - 1) ∷ drop (suc (p - 1)) (pagesOf m)) ≡ none) → BackInv m t k (p - 1) (end - e .count)
+    on-to-next f = (omega (arith, o .inv .0), (back-at .begins, λ x ek. ap (placeAfter t x) (from-page back-at) ∙ f x ek))
 
-    -- what the search on the page found
-    within : (at : ℕ) → at ≡ end - n + afterLast k (tab (heldIn (flatOf m)) (end - n) (end - (end - n))) → afterLast k (pageAt m (p - 1) .tuples) ≡ at - (end - n)
-    within at ea =
-        let el : end - (end - n) ≡ e .count = omega (arith, back-begins) in
-        let q : afterLast k (tab (heldIn (flatOf m)) (end - n) (end - (end - n))) ≡ afterLast k (pageAt m (p - 1) .tuples) =
-        ap (λ (z : ℕ). afterLast k (tab (heldIn (flatOf m)) z (end - (end - n)))) (back-at .begins)
-        ∙ ap (λ (z : ℕ). afterLast k (tab (heldIn (flatOf m)) (startOf (flatOf m) (p - 1)) z)) el
-        ∙ ap (afterLast k) (sym (tuples-is m (p - 1))) in
-        omega arith
+    pub back-other : (e .table % 8 ≡ t → ⊥) → BackInv m t k (p - 1) (end - e .count)
+    back-other ne = on-to-next (λ x ek. other-table t k x ek _ (drop (suc (p - 1)) (pagesOf m)) (rest x ek) (λ q. ne (same-table m (p - 1) ee ∙ q)))
 
-    pub back-none : (at : ℕ) → at ≡ end - n + afterLast k (tab (heldIn (flatOf m)) (end - n) (end - (end - n))) → at ≤ end - n
-        → entryIn (flatOf m) (p - 1) .table % 8 ≡ t → BackInv m t k (p - 1) (end - n)
-    back-none at ea l et =
-        let z : at - (end - n) ≡ 0 = omega arith in (
-          omega (arith, inv .0),
-          (
-            back-at .begins,
-            λ x ek. ap (placeAfter t x) (from-page back-at)
-                ∙ no-key t k x ek _ (drop (suc (p - 1)) (pagesOf m)) (rest x ek) (table-is m (p - 1) ∙ et) (within at ea ∙ z),
-          ),
-        )
+    module _ {at : ℕ} (ea : at ≡ end - e .count + afterLast k (tab (heldIn (flatOf m)) (end - e .count) (end - (end - e .count)))) (et : e .table % 8 ≡ t) where
+      -- what the search on the page found
+      within : afterLast k (pageAt m (p - 1) .tuples) ≡ at - (end - e .count)
+      within =
+          let s : ℕ = end - e .count in
+          let el : end - s ≡ entryAt m (p - 1) .count = omega (arith, back-begins, same-count ee) in
+          let q : afterLast k (tab (heldIn (flatOf m)) s (end - s)) ≡ afterLast k (pageAt m (p - 1) .tuples) =
+          ap (λ (z : ℕ). afterLast k (tab (heldIn (flatOf m)) z (end - s))) (back-at .begins)
+          ∙ ap (λ (z : ℕ). afterLast k (tab (heldIn (flatOf m)) (startOf (flatOf m) (p - 1)) z)) el
+          ∙ ap (afterLast k) (sym (tuples-is m (p - 1))) in
+          omega arith
 
-    pub back-found : (at : ℕ) → at ≡ end - n + afterLast k (tab (heldIn (flatOf m)) (end - n) (end - (end - n))) → end - n < at
-        → entryIn (flatOf m) (p - 1) .table % 8 ≡ t → Spotted m t k (On (p - 1) (end - n) at)
-    unfolding SpottedBy
-    back-found at ea l et =
-        let le = last-le k (tab (heldIn (flatOf m)) (end - n) (end - (end - n))) in
-        let ll = length-tab (heldIn (flatOf m)) (end - n) (end - (end - n)) in
-        record {
-          on = back-at;
-          least = omega arith;
-          most = omega (arith, back-begins);
-          places = λ x ek.
-              place-on t k x (pagesOf m) (p - 1) (at - (end - n)) (pageAt m (p - 1)) ek (from-page back-at) (rest x ek) (table-is m (p - 1) ∙ et) (within at ea) (omega arith);
-        }
+      of-table : pageAt m (p - 1) .table ≡ t
+      of-table = sym (same-table m (p - 1) ee) ∙ et
+
+      pub back-none : at ≤ end - e .count → BackInv m t k (p - 1) (end - e .count)
+      back-none l =
+          let z : at - (end - e .count) ≡ 0 = omega arith in
+          on-to-next (λ x ek. no-key t k x ek _ (drop (suc (p - 1)) (pagesOf m)) (rest x ek) of-table (within ∙ z))
+
+      pub back-found : end - e .count < at → Spotted m t k (On (p - 1) (end - e .count) at)
+      unfolding SpottedBy
+      back-found l =
+          let s : ℕ = end - e .count in
+          let le = last-le k (tab (heldIn (flatOf m)) s (end - s)) in
+          let ll = length-tab (heldIn (flatOf m)) s (end - s) in
+          record {
+            on = back-at;
+            least = omega arith;
+            most = omega (arith, back-begins, same-count ee);
+            places = λ x ek.
+                place-on t k x (pagesOf m) (p - 1) (at - s) (pageAt m (p - 1)) ek (from-page back-at) (rest x ek) of-table within (omega arith);
+          }
 
 -- no page was found from the back: what is found from the front holds
 spot-by : (m : List ℕ) (F G : Tuple → List Page) (t k : ℕ) → ((x : Tuple) → x .key ≡ k → G x ≡ F x) → (s : Spot) → SpottedBy m F t k s → SpottedBy m G t k s
@@ -192,6 +191,10 @@ back-end m t k p at s inv l o =
 
 -- ---- where the search led
 
+key-is : (row : Row) → tupleOf row .key ≡ row .key
+unfolding tupleOf tupleBy
+key-is row = refl
+
 module _ (m : List ℕ) (t : ℕ) (row : Row) (r : Spot) (o : Spotted m t (row .key) r) where
   pub spot-on : (p s a : ℕ) → r ≡ On p s a → OnSpot m (λ x. place t x (pagesOf m)) (row .key) p s a
   unfolding SpottedBy
@@ -201,6 +204,9 @@ module _ (m : List ℕ) (t : ℕ) (row : Row) (r : Spot) (o : Spotted m t (row .
   unfolding SpottedBy
   spot-new p a e = subst (λ (z : Spot). Spotted m t (row .key) z) e o
 
-pub key-is : (row : Row) → tupleOf row .key ≡ row .key
-unfolding tupleOf tupleBy
-key-is row = refl
+  pub placed-on : {m' : List ℕ} (p s a : ℕ) → r ≡ On p s a → Turns m m' (swapped p (placedOn (tupleOf row) (a - s) (pageAt m p)) (pagesOf m)) → Turns m m' (place t (tupleOf row) (pagesOf m))
+  placed-on p s a e u = turns-to u (sym (spot-on p s a e .places (tupleOf row) (key-is row)))
+
+  pub placed-new : {m' : List ℕ} (p a : ℕ) → r ≡ New p a → Turns m m' (take p (pagesOf m) ++ fresh t (calm (tupleOf row) ∷ []) ∷ drop p (pagesOf m)) → Turns m m' (place t (tupleOf row) (pagesOf m))
+  placed-new p a e u = turns-to u (sym (spot-new p a e .places (tupleOf row) (key-is row)))
+

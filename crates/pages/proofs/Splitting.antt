@@ -1,7 +1,7 @@
 -- A page that is split where it is above 504 bytes; a page that took a tuple in.
 use mathlib.Core.Path.{_≡_, refl, sym, ap, _∙_, subst}
 use mathlib.Core.Bool.{true, false, not}
-use Prim.Native.Nat.{ℕ, _+_, _-_, _%_, _≤_, _<_}
+use Prim.Native.Nat.{ℕ, _+_, _-_, _≤_, _<_}
 use native.Mathlib.Omega.{arith}
 use mathlib.Core.List.{List, [], _∷_, map}
 use lib.ListN.{take, drop}
@@ -18,12 +18,11 @@ use Rattle.memory.specs.Flat.{flatOf, insertAt}
 use Rattle.memory.specs.Store.{heldOf, heldIn, tupleOf, pageOf, pageIn, startOf}
 use Rattle.memory.specs.declared.Row.{Row}
 use Rattle.memory.specs.declared.Entry.{Entry}
-use Rattle.memory.proofs.Refusal.{held-room}
 use Rattle.pages.specs.Turns.{Turns, pagesOf, pageAt, tuplesAt, entryAt, startAt, At, swapped}
 use Rattle.pages.specs.Changes.{CutAt, Dirty, Halved}
 use Rattle.pages.specs.Spots.{placedOn, GrowAt}
-use Rattle.pages.proofs.Places.{turns-stay, turns-to, turns-again, swap-same, page-end, tuples-many, at-first, page-first}
-use Rattle.pages.proofs.Searching.{tuples-is, table-is}
+use Rattle.pages.proofs.Places.{run-in, same-count, same-table, turns-stay, turns-to, turns-again, swap-same, tuples-many, at-first, page-first}
+use Rattle.pages.proofs.Searching.{tuples-is}
 use Rattle.pages.proofs.Sizes.{all-small}
 use Rattle.pages.proofs.Swaps.{fresh-page}
 use Rattle.pages.specs.Thawing.{withFlags}
@@ -44,9 +43,12 @@ pub run-tuples : {m : List ℕ} {p start : ℕ} → At m p start → (n : ℕ) �
 run-tuples {m} {p} {start} a n en =
     ap (λ (z : ℕ). tab (heldIn (flatOf m)) z n) (a .begins) ∙ ap (λ (z : ℕ). tab (heldIn (flatOf m)) (startOf (flatOf m) p) z) en ∙ sym (tuples-is m p)
 
-module _ {m : List ℕ} {p start : ℕ} (a : At m p start) (n w : ℕ) (en : n ≡ entryAt m p .count) (ew : w ≡ sum heldSize (tab (heldIn (flatOf m)) start n)) where
+module _ {m : List ℕ} {p start : ℕ} (a : At m p start) {e : Entry} (ee : e ≡ entryAt m p) {w : ℕ} (ew : w ≡ sum heldSize (tab (heldIn (flatOf m)) start (e .count))) where
+  run-is : tab (heldIn (flatOf m)) start (e .count) ≡ tuplesAt m p
+  run-is = run-tuples a (e .count) (same-count ee)
+
   size-is : w ≡ sum heldSize (tuplesAt m p)
-  size-is = ew ∙ ap (sum heldSize) (run-tuples a n en)
+  size-is = ew ∙ ap (sum heldSize) run-is
 
   pub halved-whole : Dirty (pageAt m p) → w ≤ 504 → Halved m m p 0
   unfolding fits
@@ -59,13 +61,13 @@ module _ {m : List ℕ} {p start : ℕ} (a : At m p start) (n w : ℕ) (en : n �
         parts = λ z. absurd (z refl);
       }
 
-  module _ (k : ℕ) (h : 504 < w) (ek : k ≡ lead w 0 (tab (heldIn (flatOf m)) start n)) where
+  module _ (h : 504 < w) {k : ℕ} (ek : k ≡ lead w 0 (tab (heldIn (flatOf m)) start (e .count))) where
     half-is : k ≡ half (tuplesAt m p)
     unfolding half
-    half-is = ek ∙ ap (λ (z : ℕ). lead z 0 (tab (heldIn (flatOf m)) start n)) size-is ∙ ap (lead (sum heldSize (tuplesAt m p)) 0) (run-tuples a n en)
+    half-is = ek ∙ ap (λ (z : ℕ). lead z 0 (tab (heldIn (flatOf m)) start (e .count))) size-is ∙ ap (lead (sum heldSize (tuplesAt m p)) 0) run-is
 
     small : AllOf Small (tuplesAt m p)
-    small = subst (AllOf Small) (run-tuples a n en) (all-small m (held-room m (a .held)) start n (omega (arith, page-end a)))
+    small = subst (AllOf Small) run-is (let r = run-in a ee in all-small m (r .0) start (e .count) (r .1))
 
     pub cut-at : CutAt m p k
     cut-at =
@@ -97,11 +99,15 @@ frozen-is : (m : List ℕ) (p : ℕ) → pageAt m p .frozen ≡ not (eqb (entryA
 unfolding pageIn pageOf
 frozen-is m p = refl
 
-pub is-frozen : (m : List ℕ) (p : ℕ) → (entryAt m p .frozen ≡ 0 → ⊥) → pageAt m p .frozen ≡ true
-is-frozen m p h = frozen-is m p ∙ ap not (ne-eqb _ 0 h)
+module _ (m : List ℕ) (p : ℕ) {e : Entry} (ee : e ≡ entryAt m p) where
+  flag-is : e .frozen ≡ entryAt m p .frozen
+  flag-is = ap (λ (x : Entry). x .frozen) ee
 
-pub not-frozen : (m : List ℕ) (p : ℕ) → entryAt m p .frozen ≡ 0 → pageAt m p .frozen ≡ false
-not-frozen m p h = frozen-is m p ∙ ap not (eq-eqb _ 0 h)
+  pub is-frozen : (e .frozen ≡ 0 → ⊥) → pageAt m p .frozen ≡ true
+  is-frozen h = frozen-is m p ∙ ap not (ne-eqb _ 0 (λ z. h (flag-is ∙ z)))
+
+  pub not-frozen : e .frozen ≡ 0 → pageAt m p .frozen ≡ false
+  not-frozen h = frozen-is m p ∙ ap not (eq-eqb _ 0 (sym flag-is ∙ h))
 
 -- a page with other tuples, by its entry
 pub with-tuples : (m : List ℕ) (p n : ℕ) (hs : List Held)
@@ -138,18 +144,18 @@ module _ {m : List ℕ} {p start at : ℕ} (g : GrowAt m p start at) where
   place-is : at - startAt m p ≡ at - start
   place-is = ap (λ (z : ℕ). at - z) (sym (g .on .begins))
 
-  module _ (row : Row) (plain : row .flags < 4) (e : Entry) (ee : e ≡ entryAt m p) where
-    pub grew-frozen : (n f : ℕ) → (e .frozen ≡ 0 → ⊥) → f ≡ row .flags + 4
-        → swapped p (pageOf (record { table = e .table; frozen = e .frozen; count = n; block = e .block }) (insertAt (at - startAt m p) (heldOf (withFlags row f)) (tuplesAt m p)) ∷ []) (pagesOf m)
-        ≡ swapped p (placedOn (tupleOf row) (at - start) (pageAt m p)) (pagesOf m)
-    grew-frozen n f ne ef =
+  module _ (row : Row) (plain : row .flags < 4) {e : Entry} (ee : e ≡ entryAt m p) where
+    pub grew-frozen : {m' : List ℕ} (n f : ℕ) → (e .frozen ≡ 0 → ⊥) → f ≡ row .flags + 4
+        → Turns m m' (swapped p (pageOf (record { table = e .table; frozen = e .frozen; count = n; block = e .block }) (insertAt (at - startAt m p) (heldOf (withFlags row f)) (tuplesAt m p)) ∷ []) (pagesOf m))
+        → Turns m m' (swapped p (placedOn (tupleOf row) (at - start) (pageAt m p)) (pagesOf m))
+    grew-frozen n f ne ef t =
         let x : Held = record { tuple = tupleOf row; pending = adding } in
-        ap (λ (z : List Page). swapped p z (pagesOf m))
+        turns-to t (ap (λ (z : List Page). swapped p z (pagesOf m))
         (ap (λ (z : Entry). pageOf (record { table = z .table; frozen = z .frozen; count = n; block = z .block }) (insertAt (at - startAt m p) (heldOf (withFlags row f)) (tuplesAt m p)) ∷ []) ee
         ∙ ap (λ (z : Page). z ∷ []) (with-tuples m p n (insertAt (at - startAt m p) (heldOf (withFlags row f)) (tuplesAt m p)))
         ∙ ap (λ (z : Held). withTuples (pageAt m p) (insertAt (at - startAt m p) z (tuplesAt m p)) ∷ []) (held-adding row f plain ef)
         ∙ ap (λ (z : ℕ). withTuples (pageAt m p) (insertAt z x (tuplesAt m p)) ∷ []) place-is
-        ∙ sym (grown-frozen (pageAt m p) (tupleOf row) (at - start) (is-frozen m p (λ z. ne (ap (λ (y : Entry). y .frozen) ee ∙ z)))))
+        ∙ sym (grown-frozen (pageAt m p) (tupleOf row) (at - start) (is-frozen m p ee ne))))
 
     module _ {m1 : List ℕ} (n : ℕ)
         (t : Turns m m1 (swapped p (pageOf (record { table = e .table; frozen = 0; count = n; block = 0 }) (insertAt (at - startAt m p) (heldOf row) (tuplesAt m p)) ∷ []) (pagesOf m))) where
@@ -160,7 +166,7 @@ module _ {m : List ℕ} {p start at : ℕ} (g : GrowAt m p start at) where
       came =
           turns-to t (ap (λ (z : Page). swapped p (z ∷ []) (pagesOf m))
           (fresh-page (e .table) n (insertAt (at - startAt m p) (heldOf row) (tuplesAt m p))
-          ∙ ap (λ (z : ℕ). fresh z (insertAt (at - startAt m p) (heldOf row) (tuplesAt m p))) (ap (λ (y : Entry). y .table % 8) ee ∙ sym (table-is m p))
+          ∙ ap (λ (z : ℕ). fresh z (insertAt (at - startAt m p) (heldOf row) (tuplesAt m p))) (same-table m p ee)
           ∙ ap (λ (z : Held). fresh (pageAt m p .table) (insertAt (at - startAt m p) z (tuplesAt m p))) (held-calm row plain)
           ∙ ap (λ (z : ℕ). fresh (pageAt m p .table) (insertAt z (calm (tupleOf row)) (tuplesAt m p))) place-is))
 
@@ -173,11 +179,11 @@ module _ {m : List ℕ} {p start at : ℕ} (g : GrowAt m p start at) where
       pub grew-dirty : Dirty (pageAt m1 p)
       grew-dirty = dirty-fresh (pageAt m1 p) _ _ grew-page
 
-      pub grew : {m2 : List ℕ} (r : ℕ) → e .frozen ≡ 0 → Halved m1 m2 p r
+      pub grew : {m2 : List ℕ} {r : ℕ} → e .frozen ≡ 0 → Halved m1 m2 p r
           → Turns m m2 (swapped p (placedOn (tupleOf row) (at - start) (pageAt m p)) (pagesOf m))
       unfolding fresh
-      grew {m2} r z h =
+      grew {m2} {r} z h =
           turns-to (turns-again (g .on) (fresh (pageAt m p .table) more) _ came (h .turns))
           (ap (λ (y : List Page). swapped p y (pagesOf m))
           (ap (λ (y : Page). map (fresh (y .table)) (splitOnce (y .tuples))) grew-page
-          ∙ sym (grown-split (pageAt m p) (tupleOf row) (at - start) (not-frozen m p (ap (λ (y : Entry). y .frozen) (sym ee) ∙ z)))))
+          ∙ sym (grown-split (pageAt m p) (tupleOf row) (at - start) (not-frozen m p ee z))))

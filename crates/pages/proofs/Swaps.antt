@@ -10,19 +10,22 @@ use lib.Seq.{length-take-le, take-all, drop-drop, take-add}
 use Rattle.basics.specs.Basics.{sum}
 use Rattle.basics.proofs.Lists.{map-append, map-take, map-drop}
 use Rattle.model.specs.State.{Held, Page}
-use Rattle.model.specs.Rules.{fresh}
-use Rattle.memory.specs.Flat.{Flat, flatOf, entryIn, Becomes, withRows, withEntries, insertAt, removeAt}
-use Rattle.memory.specs.Store.{heldOf, heldIn, nest, pageOf, pageIn, total, startOf, exchanged, holdsStore}
+use Rattle.model.specs.Rules.{calm, fresh, joined}
+use Rattle.memory.specs.Flat.{Flat, flatOf, entryIn, Room, Becomes, withRows, withEntries, insertAt, removeAt}
+use Rattle.memory.specs.Store.{heldOf, tupleOf, heldIn, nest, pageOf, pageIn, total, startOf, exchanged, holdsStore}
 use Rattle.memory.specs.Views.{tab}
 use Rattle.memory.specs.declared.Row.{Row}
 use Rattle.memory.specs.declared.Entry.{Entry}
 use Rattle.memory.proofs.Nest.{Counted, insert-within, remove-within, set-within}
-use Rattle.memory.proofs.Runs.{run-of}
-use Rattle.memory.proofs.Refusal.{held-filled}
+use Rattle.memory.proofs.Runs.{run-of, pages-few}
+use Rattle.memory.proofs.Refusal.{held-filled, held-room}
 use Rattle.memory.proofs.Exchange.{exchanged-in, insert-exchange, set-exchange, split-exchange, join-exchange}
 use Rattle.memory.proofs.Meaning.{becomes-then}
-use Rattle.pages.specs.Turns.{withPages, Turns, pagesOf, pageAt, At, swapped}
-use Rattle.pages.proofs.Places.{ends-at, page-end, has-row}
+use Rattle.pages.specs.Turns.{withPages, Turns, pagesOf, pageAt, tuplesAt, entryAt, At, swapped}
+use Rattle.pages.specs.Changes.{There, CutAt}
+use Rattle.pages.specs.Spots.{AddAt}
+use Rattle.pages.proofs.Flags.{held-calm}
+use Rattle.pages.proofs.Places.{turns-to, few, ends-at, page-end, has-row, rows-few, there-at, same-count, same-table}
 
 -- ---- maps
 
@@ -265,11 +268,76 @@ merged m m1 m2 h p e lt ec b1 b2 =
     (becomes-then m m1 m2 _ (λ g. withEntries g (removeAt (p + 1) (g .entries))) b1 b2)
     (nest-one e (map heldOf run) (ec ∙ sym (length-map run heldOf ∙ lr)) ∙ ap (λ (z : List Held). pageOf e z ∷ []) eh)
 
+-- ---- a new page of one row
+
+pub fresh-page : (t n : ℕ) (hs : List Held) → pageOf (record { table = t; frozen = 0; count = n; block = 0 }) hs ≡ fresh (t % 8) hs
+unfolding pageOf fresh
+fresh-page t n hs = refl
+
+module _ {m : List ℕ} {p at : ℕ} (g : AddAt m p at) (row : Row) {m1 : List ℕ} (b1 : Becomes m m1 (withRows (flatOf m) (insertAt at row (flatOf m .rows)))) where
+  pub add-room : Room m1 × ((p ≤ length (flatOf m1 .entries)) × (length (flatOf m1 .entries) < flatOf m1 .head .capacity))
+  add-room =
+      let es : length (flatOf m1 .entries) ≡ length (flatOf m .entries) = ap (λ (x : Flat). length (x .entries)) (b1 .flat) in
+      let eh : flatOf m1 .head .capacity ≡ flatOf m .head .capacity = ap (λ (x : Flat). x .head .capacity) (b1 .flat) in
+      (b1 .room, (omega (arith, g .inside), omega (arith, g .free, pages-few (flatOf m) (held-filled m (g .held)))))
+
+  pub add-done : {m2 : List ℕ} (t : ℕ) → row .flags < 4 → t < 8
+      → Becomes m1 m2 (withEntries (flatOf m1) (insertAt p (record { table = t; frozen = 0; count = 1; block = 0 }) (flatOf m1 .entries)))
+      → Turns m m2 (take p (pagesOf m) ++ fresh t (calm (tupleOf row) ∷ []) ∷ drop p (pagesOf m))
+  add-done {m2} t plain few b2 =
+      let et : t % 8 ≡ t = omega arith in
+      turns-to (added m m1 m2 (g .held) p at row (record { table = t; frozen = 0; count = 1; block = 0 }) (g .begins) refl b1 b2)
+      (ap (λ (z : Page). take p (pagesOf m) ++ z ∷ drop p (pagesOf m))
+      (fresh-page t 1 (heldOf row ∷ []) ∙ ap (λ (z : ℕ). fresh z (heldOf row ∷ [])) et ∙ ap (λ (z : Held). fresh t (z ∷ [])) (held-calm row plain)))
+
+-- ---- a page cut after k rows, two pages made one
+
+module _ {m : List ℕ} {p k : ℕ} (g : CutAt m p k) {e : Entry} (ee : e ≡ entryAt m p) {m1 : List ℕ}
+    (b1 : Becomes m m1 (withEntries (flatOf m) (set (flatOf m .entries) p (record { table = e .table; frozen = 0; count = k; block = 0 })))) where
+  pub cut-room : Room m1 × ((p + 1 ≤ length (flatOf m1 .entries)) × (length (flatOf m1 .entries) < flatOf m1 .head .capacity))
+  cut-room =
+      let r = held-room m (g .there .held) .range in
+      let i = g .there .inside in
+      let es : length (flatOf m1 .entries) ≡ length (flatOf m .entries) = ap (λ (x : Flat). length (x .entries)) (b1 .flat) ∙ length-set (flatOf m .entries) p _ in
+      let eh : flatOf m1 .head .capacity ≡ flatOf m .head .capacity = ap (λ (x : Flat). x .head .capacity) (b1 .flat) in
+      (b1 .room, (omega arith, omega (arith, few (there-at (g .there)) (omega (arith, g .least, g .most)))))
+
+  pub cut-done : {m2 : List ℕ}
+      → Becomes m1 m2 (withEntries (flatOf m1) (insertAt (p + 1) (record { table = e .table; frozen = 0; count = e .count - k; block = 0 }) (flatOf m1 .entries)))
+      → Turns m m2 (swapped p (fresh (pageAt m p .table) (take k (tuplesAt m p)) ∷ fresh (pageAt m p .table) (drop k (tuplesAt m p)) ∷ []) (pagesOf m))
+  unfolding pageOf fresh
+  cut-done b2 =
+      let ec = same-count ee in
+      turns-to (cut-in-two (there-at (g .there)) (record { table = e .table; frozen = 0; count = k; block = 0 }) (record { table = e .table; frozen = 0; count = e .count - k; block = 0 })
+      (omega (arith, g .most)) (g .least) (omega (arith, g .most)) b1 b2)
+      (ap (λ (z : ℕ). swapped p (fresh z (take k (tuplesAt m p)) ∷ fresh z (drop k (tuplesAt m p)) ∷ []) (pagesOf m)) (same-table m p ee))
+
+module _ {m : List ℕ} (p : ℕ) (g : There m (p + 1)) where
+  pub first-there : There m p
+  first-there = record { held = g .held; inside = omega (arith, g .inside) }
+
+  module _ {d e : Entry} (ed : d ≡ entryAt m p) (ee : e ≡ entryAt m (p + 1)) where
+    pub both-fit : d .count + e .count ≤ 1024
+    both-fit =
+        let a = there-at first-there in
+        omega (arith, page-end (there-at g), ends-at a, rows-few (held-room m (g .held)), same-count ed, same-count ee)
+
+    pub merge-done : {m1 m2 : List ℕ}
+        → Becomes m m1 (withEntries (flatOf m) (set (flatOf m .entries) p (record { table = d .table; frozen = 0; count = d .count + e .count; block = 0 })))
+        → Becomes m1 m2 (withEntries (flatOf m1) (removeAt (p + 1) (flatOf m1 .entries)))
+        → Turns m m2 (take p (pagesOf m) ++ joined (pageAt m p) (pageAt m (p + 1)) ∷ drop (p + 2) (pagesOf m))
+    unfolding joined pageOf fresh
+    merge-done {m1} {m2} b1 b2 =
+        let cd = same-count ed in
+        let ce = same-count ee in
+        turns-to (merged m m1 m2 (g .held) p (record { table = d .table; frozen = 0; count = d .count + e .count; block = 0 }) (g .inside) (omega arith) b1 b2)
+        (ap (λ (z : ℕ). take p (pagesOf m) ++ fresh z (tuplesAt m p ++ tuplesAt m (p + 1)) ∷ drop (p + 2) (pagesOf m)) (same-table m p ed))
+
 -- ---- what stands after one of two changes
 
 pub still-there : {m m1 : List ℕ} {f : Flat} (p : ℕ) → Becomes m m1 f → p < length (f .entries) → p < length (flatOf m1 .entries)
 still-there p b h = omega (arith, ap (λ (x : Flat). length (x .entries)) (b .flat))
 
-pub fresh-page : (t n : ℕ) (hs : List Held) → pageOf (record { table = t; frozen = 0; count = n; block = 0 }) hs ≡ fresh (t % 8) hs
-unfolding pageOf fresh
-fresh-page t n hs = refl
+-- and can be read or changed next
+pub then-in : {m m1 : List ℕ} {f : Flat} (p : ℕ) → Becomes m m1 f → p < length (f .entries) → Room m1 × (p < length (flatOf m1 .entries))
+then-in p b h = (b .room, still-there p b h)

@@ -1,4 +1,4 @@
-use Rattle.pages.proofs.Places.{page-end}
+use Rattle.pages.proofs.Places.{page-end, rows-few, entries-few}
 use Rattle.pages.specs.Turns.{entryAt}
 use Rattle.memory.proofs.Refusal.{held-room}
 use Prim.Native.Nat.{ℕ, _<_}
@@ -29,7 +29,7 @@ split-halve-requires : (t : ℕ) → split-lts.Need-halve-requires (
   split-below t,
   split.Post,
 ) (split-at t) split.Post
-split-halve-requires t c κs = (c .before .before .pre .1)
+split-halve-requires t c κs = c .before .before .pre .1
 
 split-same-length : (t : ℕ) → split-lts.Need-same-length (
   halve-reads.Asked,
@@ -47,12 +47,7 @@ split-returns : (t : ℕ) → split-lts.Need-returns (
 ) (split-at t) split.Post
 split-returns t c =
     let b3 = c .before .before .before in
-    let b6 = b3 .before .before .before in
-    let st = b6 in
-    let a = st .pre .1 .0 in
-    let k : ℕ = b3 .halve .result in
-    let h = b3 .halve .ensures in
-    split-whole a k h (c .if1 .taken)
+    split-whole (b3 .before .before .before .pre .1 .0) (b3 .halve .ensures) (c .if1 .taken)
 
 split-add-split : (t : ℕ) → split-lts.Need-add-split (
   halve-reads.Asked,
@@ -61,8 +56,8 @@ split-add-split : (t : ℕ) → split-lts.Need-add-split (
   split.Post,
 ) (split-at t) split.Post
 split-add-split t c =
-    let b7 = c .before .before .before .before .before .before .before in
-    omega (arith, (b7 .pre .1 .0 .inside), held-room _ ((b7 .pre .1 .0 .held)) .range .pages, held-room _ ((b7 .pre .1 .0 .held)) .range .most)
+    let a = c .before .before .before .before .before .before .before .pre .1 .0 in
+    omega (arith, a .inside, entries-few (held-room _ (a .held)))
 
 split-add-split-2 : (t : ℕ) → split-lts.Need-add-split-2 (
   halve-reads.Asked,
@@ -72,13 +67,8 @@ split-add-split-2 : (t : ℕ) → split-lts.Need-add-split-2 (
 ) (split-at t) split.Post
 split-add-split-2 t c =
     let b4 = c .before .before .before .before in
-    let b7 = b4 .before .before .before in
-    let st = b7 in
-    let a = st .pre .1 .0 in
-    let k : ℕ = b4 .halve .result in
-    let h = b4 .halve .ensures in
-    let b = second-at a k h (c .before .if1 .left) in
-    omega (arith, page-end b, held-room _ (b .held) .range .rows, held-room _ (b .held) .range .most)
+    let b = second-at (b4 .before .before .before .pre .1 .0) (b4 .halve .ensures) (c .before .if1 .left) in
+    omega (arith, page-end b, rows-few (held-room _ (b .held)))
 
 split-split-requires : (t : ℕ) → split-lts.Need-split-requires (
   halve-reads.Asked,
@@ -88,12 +78,10 @@ split-split-requires : (t : ℕ) → split-lts.Need-split-requires (
 ) (split-at t) split.Post
 split-split-requires t c κs =
     let b4 = c .before .before .before .before in
-    let b7 = b4 .before .before .before in
-    let st = b7 in
-    let a = st .pre .1 .0 in
-    let k : ℕ = b4 .halve .result in
+    let pre = b4 .before .before .before .pre in
     let h = b4 .halve .ensures in
-    (omega (arith, st .pre .0, second-less a k h (c .before .if1 .left)), (second-at a k h (c .before .if1 .left), second-dirty a k h (c .before .if1 .left)))
+    let ne = c .before .if1 .left in
+    (omega (arith, pre .0, second-less (pre .1 .0) h ne), (second-at (pre .1 .0) h ne, second-dirty (pre .1 .0) h ne))
 
 split-split-requires-2 : (t : ℕ) → split-lts.Need-split-requires-2 (
   halve-reads.Asked,
@@ -105,12 +93,11 @@ split-split-requires-2 t c κs =
     let b3 = c .before .before .before in
     let b5 = b3 .before .before in
     let b8 = b5 .before .before .before in
-    let b11 = b8 .before .before .before in
-    let st = b11 in
-    let a = st .pre .1 .0 in
-    let k : ℕ = b8 .halve .result in
+    let pre = b8 .before .before .before .pre in
     let h = b8 .halve .ensures in
-    (omega (arith, st .pre .0, first-less a k h (b5 .if1 .left) (b3 .split .ensures)), (first-at a k h (b5 .if1 .left) (b3 .split .ensures), first-dirty a k h (b5 .if1 .left) (b3 .split .ensures)))
+    let ne = b5 .if1 .left in
+    let u = b3 .split .ensures in
+    (omega (arith, pre .0, first-less (pre .1 .0) h ne u), (first-at (pre .1 .0) h ne u, first-dirty (pre .1 .0) h ne u))
 
 split-same-length-2 : (t : ℕ) → split-lts.Need-same-length-2 (
   halve-reads.Asked,
@@ -130,12 +117,7 @@ split-returns-2 t c =
     let b6 = c .before .before .before .before .before .before in
     let b8 = b6 .before .before in
     let b11 = b8 .before .before .before in
-    let b14 = b11 .before .before .before in
-    let st = b14 in
-    let a = st .pre .1 .0 in
-    let k : ℕ = b11 .halve .result in
-    let h = b11 .halve .ensures in
-    split-parts a k h (b8 .if1 .left) (b6 .split .ensures) (c .before .before .split2 .ensures)
+    split-parts (b11 .before .before .before .pre .1 .0) (b11 .halve .ensures) (b8 .if1 .left) (b6 .split .ensures) (c .before .before .split2 .ensures)
 
 pub +split-spec : {M : Type 1} → statement M
 +split-spec = close μ-split λ t. split-lts.spec (

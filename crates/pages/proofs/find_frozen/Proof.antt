@@ -1,17 +1,11 @@
-use Rattle.pages.proofs.Places.{page-end}
-use Rattle.pages.specs.Turns.{entryAt}
-use Rattle.memory.proofs.Refusal.{held-room}
-use Rattle.memory.specs.Flat.{flatOf}
-use lib.ListN.{length}
-use mathlib.Core.List.{List}
-use Prim.Native.Nat.{ℕ, _+_, _-_, _<_}
-use mathlib.Core.Path.{_≡_, sym, ap, _∙_}
-use Rattle.model.specs.Rules.{isFrozen}
+use Rattle.pages.specs.Turns.{At}
 use Rattle.pages.specs.Thawing.{FrozenBy}
+use Rattle.pages.proofs.Places.{rows-few, entries-few, page-in, at-there, run-in, same-pages, walk-at}
+use Rattle.memory.proofs.Refusal.{held-room}
+use Prim.Native.Nat.{_-_}
+use Rattle.model.specs.Rules.{isFrozen}
 use Rattle.pages.proofs.Splitting.{is-frozen, not-frozen}
-use Rattle.pages.proofs.Removing.{PassInv, pass-start, pass-at, pass-on, pass-first, pass-end}
-use Rattle.memory.specs.declared.Counts.{Counts}
-use Rattle.memory.specs.declared.Entry.{Entry}
+use Rattle.pages.proofs.Removing.{PassInv, pass-start, pass-on, pass-first, pass-end}
 use borrow.Author.Needs.{needs}
 use native.Mathlib.Omega.{arith}
 use Rattle.pages.proofs.find_frozen.Statement.{statement}
@@ -23,54 +17,32 @@ Inv-loop m n start₀ p₀ start p = PassInv m isFrozen p start
 abbrev μ-loop : tie.MeasureT-loop
 μ-loop m n start₀ p₀ start p = n - p
 
+abbrev began : tie.In-loop Inv-loop μ-loop → tie.Start Inv-loop μ-loop
+began c = c .before .before .before .before .before
+
+-- the page of a turn
+on-page : (c : tie.In-loop Inv-loop μ-loop) → At (began c .args .m .now) (c .before .loop .p) (c .before .loop .start)
+on-page c = walk-at (began c .pre) (c .before .before .before .get-counts .ensures) (c .loop-test .taken) (c .before .loop .inv .1 .0)
+
 get-counts-requires : tie.Need-get-counts-requires Inv-loop μ-loop
-get-counts-requires c κs = omega (arith, held-room _ ((c .before .pre)) .range .long)
+get-counts-requires c κs = omega (arith, held-room _ (c .before .pre) .range .long)
 
 cast-n : tie.Need-cast-n Inv-loop μ-loop
 cast-n c = search needs
 
 loop-holds : tie.Need-loop-holds Inv-loop μ-loop
-loop-holds c =
-    let b3 = c .before .before .before in
-    pass-start (b3 .args .m .now) isFrozen
+loop-holds c = pass-start (c .before .before .before .args .m .now) isFrozen
 
 get-entry-requires : tie.Need-get-entry-requires Inv-loop μ-loop
-get-entry-requires c κs =
-    let b3 = c .before .before .before in
-    let b5 = b3 .before .before in
-    let st = b5 in
-    let m : List ℕ = st .args .m .now in
-    let room = held-room m (st .pre) in
-    let k1 = room .range .rows in
-    let k2 = room .range .most in
-    let k3 = room .range .pages in
-    let ec : (b3 .get-counts .result .pages) ≡ length (flatOf m .entries) = ap (λ (x : Counts). x .pages) (b3 .get-counts .ensures) in
-    let l = c .before .loop in
-    let lt : l .p < length (flatOf m .entries) = omega (arith, (c .loop-test .taken)) in
-    let a = pass-at m (st .pre) isFrozen (l .p) (l .start) (l .inv) lt in
-    (room, lt)
+get-entry-requires c κs = page-in (at-there (on-page c))
 
 returns : tie.Need-returns Inv-loop μ-loop
 unfolding FrozenBy isFrozen
 returns c =
-    let b3 = c .before .before .before in
-    let b4 = b3 .before in
-    let b6 = b4 .before .before in
-    let b8 = b6 .before .before in
-    let st = b8 in
-    let m : List ℕ = st .args .m .now in
-    let room = held-room m (st .pre) in
-    let k1 = room .range .rows in
-    let k2 = room .range .most in
-    let k3 = room .range .pages in
-    let ec : (b6 .get-counts .result .pages) ≡ length (flatOf m .entries) = ap (λ (x : Counts). x .pages) (b6 .get-counts .ensures) in
-    let l = b4 .loop in
-    let lt : l .p < length (flatOf m .entries) = omega (arith, (b3 .loop-test .taken)) in
-    let a = pass-at m (st .pre) isFrozen (l .p) (l .start) (l .inv) lt in
-    let ee : (c .before .before .get-entry .result) ≡ entryAt m (l .p) = c .before .before .get-entry .ensures in
-    let en : (c .before .before .get-entry .result .count) ≡ entryAt m (l .p) .count = ap (λ (x : Entry). x .count) ee in
-    let pe = page-end a in
-    pass-first m (st .pre) isFrozen (l .p) (l .start) (l .inv) lt (is-frozen m (l .p) (λ z. (c .if1 .taken) (ap (λ (x : Entry). x .frozen) ee ∙ z)))
+    let b2 = c .before .before in
+    let b3 = b2 .before in
+    let l = b3 .before .loop in
+    pass-first (on-page b3) isFrozen (l .inv) (is-frozen (began b3 .args .m .now) (l .p) (b2 .get-entry .ensures) (c .if1 .taken))
 
 cast-start : tie.Need-cast-start Inv-loop μ-loop
 cast-start c = search needs
@@ -78,98 +50,30 @@ cast-start c = search needs
 add-start : tie.Need-add-start Inv-loop μ-loop
 add-start c =
     let b3 = c .before .before .before in
-    let b4 = b3 .before in
-    let b5 = b4 .before in
-    let b7 = b5 .before .before in
-    let b9 = b7 .before .before in
-    let st = b9 in
-    let m : List ℕ = st .args .m .now in
-    let room = held-room m (st .pre) in
-    let k1 = room .range .rows in
-    let k2 = room .range .most in
-    let k3 = room .range .pages in
-    let ec : (b7 .get-counts .result .pages) ≡ length (flatOf m .entries) = ap (λ (x : Counts). x .pages) (b7 .get-counts .ensures) in
-    let l = b5 .loop in
-    let lt : l .p < length (flatOf m .entries) = omega (arith, (b4 .loop-test .taken)) in
-    let a = pass-at m (st .pre) isFrozen (l .p) (l .start) (l .inv) lt in
-    let ee : (b3 .get-entry .result) ≡ entryAt m (l .p) = b3 .get-entry .ensures in
-    let en : (b3 .get-entry .result .count) ≡ entryAt m (l .p) .count = ap (λ (x : Entry). x .count) ee in
-    let pe = page-end a in
-    omega arith
+    let r = run-in (on-page (b3 .before)) (b3 .get-entry .ensures) in
+    omega (arith, r .1, rows-few (r .0))
 
 add-p : tie.Need-add-p Inv-loop μ-loop
-add-p c =
-    let b4 = c .before .before .before .before in
-    let b5 = b4 .before in
-    let b7 = b5 .before .before in
-    let b9 = b7 .before .before in
-    let st = b9 in
-    let m : List ℕ = st .args .m .now in
-    let room = held-room m (st .pre) in
-    let k1 = room .range .rows in
-    let k2 = room .range .most in
-    let k3 = room .range .pages in
-    let ec : (b7 .get-counts .result .pages) ≡ length (flatOf m .entries) = ap (λ (x : Counts). x .pages) (b7 .get-counts .ensures) in
-    let l = b5 .loop in
-    let lt : l .p < length (flatOf m .entries) = omega (arith, (b4 .loop-test .taken)) in
-    let a = pass-at m (st .pre) isFrozen (l .p) (l .start) (l .inv) lt in
-    omega arith
+add-p c = let r = page-in (at-there (on-page (c .before .before .before .before))) in omega (arith, r .1, entries-few (r .0))
 
 loop-less : tie.Need-loop-less Inv-loop μ-loop
-loop-less c =
-    let b4 = c .before .before .before .before in
-    let b5 = b4 .before in
-    let b7 = b5 .before .before in
-    let b9 = b7 .before .before in
-    let st = b9 in
-    let m : List ℕ = st .args .m .now in
-    let room = held-room m (st .pre) in
-    let k1 = room .range .rows in
-    let k2 = room .range .most in
-    let k3 = room .range .pages in
-    let ec : (b7 .get-counts .result .pages) ≡ length (flatOf m .entries) = ap (λ (x : Counts). x .pages) (b7 .get-counts .ensures) in
-    let l = b5 .loop in
-    let lt : l .p < length (flatOf m .entries) = omega (arith, (b4 .loop-test .taken)) in
-    let a = pass-at m (st .pre) isFrozen (l .p) (l .start) (l .inv) lt in
-    omega (arith, (b4 .loop-test .taken))
+loop-less c = omega (arith, c .before .before .before .before .loop-test .taken)
 
 loop-again : tie.Need-loop-again Inv-loop μ-loop
 unfolding isFrozen
 loop-again c =
     let b3 = c .before .before .before in
     let b4 = b3 .before in
-    let b5 = b4 .before in
-    let b7 = b5 .before .before in
-    let b9 = b7 .before .before in
-    let st = b9 in
-    let m : List ℕ = st .args .m .now in
-    let room = held-room m (st .pre) in
-    let k1 = room .range .rows in
-    let k2 = room .range .most in
-    let k3 = room .range .pages in
-    let ec : (b7 .get-counts .result .pages) ≡ length (flatOf m .entries) = ap (λ (x : Counts). x .pages) (b7 .get-counts .ensures) in
-    let l = b5 .loop in
-    let lt : l .p < length (flatOf m .entries) = omega (arith, (b4 .loop-test .taken)) in
-    let a = pass-at m (st .pre) isFrozen (l .p) (l .start) (l .inv) lt in
-    let ee : (b3 .get-entry .result) ≡ entryAt m (l .p) = b3 .get-entry .ensures in
-    let en : (b3 .get-entry .result .count) ≡ entryAt m (l .p) .count = ap (λ (x : Entry). x .count) ee in
-    let pe = page-end a in
-    pass-on m (st .pre) isFrozen (l .p) (l .start) (l .inv) lt (l .start + (b3 .get-entry .result .count)) (ap (λ (z : ℕ). l .start + z) en) (not-frozen m (l .p) (ap (λ (x : Entry). x .frozen) (sym ee) ∙ (c .before .if1 .left)))
+    let l = b4 .before .loop in
+    let ee = b3 .get-entry .ensures in
+    pass-on (on-page b4) isFrozen (l .inv) ee (not-frozen (began b4 .args .m .now) (l .p) ee (c .before .if1 .left))
 
 returns-2 : tie.Need-returns-2 Inv-loop μ-loop
 unfolding FrozenBy
 returns-2 c =
     let b3 = c .before .before .before in
-    let b5 = b3 .before .before in
-    let st = b5 in
-    let m : List ℕ = st .args .m .now in
-    let room = held-room m (st .pre) in
-    let k1 = room .range .rows in
-    let k2 = room .range .most in
-    let k3 = room .range .pages in
-    let ec : (b3 .get-counts .result .pages) ≡ length (flatOf m .entries) = ap (λ (x : Counts). x .pages) (b3 .get-counts .ensures) in
     let l = c .before .loop in
-    pass-end m (st .pre) isFrozen (l .p) (l .start) (l .inv) (omega (arith, (c .loop-test .left)))
+    pass-end (b3 .before .before .args .m .now) isFrozen (l .p) (l .start) (l .inv) (omega (arith, same-pages (b3 .get-counts .ensures), c .loop-test .left))
 
 pub find-frozen-spec : {M : Type 1} → statement M
 find-frozen-spec =

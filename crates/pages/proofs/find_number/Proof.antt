@@ -1,9 +1,9 @@
 use Rattle.memory.specs.Store.{heldOf, tupleOf, heldIn, tupleBy}
 use Rattle.memory.specs.Flat.{flatOf}
-use mathlib.Core.List.{List}
-use Prim.Native.Nat.{ℕ, _+_, _-_, _≤_}
+use Prim.Native.Nat.{_+_, _-_, _≤_}
 use mathlib.Core.Path.{_≡_, sym, _∙_}
 use Rattle.pages.specs.Finding.{firstOf}
+use Rattle.pages.proofs.Places.{rows-few}
 use Rattle.pages.proofs.Edits.{find-hit, find-past, find-end}
 use Rattle.memory.specs.Views.{tab}
 use native.Mathlib.Omega.{arith}
@@ -24,64 +24,40 @@ loop-holds c =
 number-at-requires : tie.Need-number-at-requires Inv-loop μ-loop
 number-at-requires c κs =
     let b3 = c .before .before .before in
-    ((b3 .pre .0), omega (arith, (b3 .pre .1 .1), (c .loop-test .taken)))
+    (b3 .pre .0, omega (arith, b3 .pre .1 .1, c .loop-test .taken))
 
 returns : tie.Need-returns Inv-loop μ-loop
 unfolding heldOf tupleOf tupleBy
 returns c =
     let b3 = c .before .before .before in
-    let b5 = b3 .before .before in
-    let st = b5 in
-    let m : List ℕ = st .args .m .now in
-    let f = heldIn (flatOf m) in
-    let n : ℕ = st .args .number in
+    let a = b3 .before .before .args in
     let l = b3 .loop in
-    let i1 = l .inv .0 in
-    let i2 = l .inv .1 .0 in
-    let ek : (c .before .number-at .result) ≡ f (l .i) .tuple .number = c .before .number-at .ensures in
-    omega (arith, l .inv .1 .1, find-hit n f (l .i) (st .args .end) (c .before .before .loop-test .taken) (sym ek ∙ (c .if1 .taken)))
+    omega (arith, l .inv .0, l .inv .1 .1, find-hit (a .number) (heldIn (flatOf (a .m .now))) (l .i) (a .end) (c .before .before .loop-test .taken) (sym (c .before .number-at .ensures) ∙ c .if1 .taken))
 
 add-i : tie.Need-add-i Inv-loop μ-loop
 add-i c =
-    let b3 = c .before .before .before in
-    let b5 = b3 .before .before in
-    let st = b5 in
-    let m : List ℕ = st .args .m .now in
-    let f = heldIn (flatOf m) in
-    let l = b3 .loop in
-    let i1 = l .inv .0 in
-    let i2 = l .inv .1 .0 in
-    omega (arith, st .pre .1 .1, (c .before .before .loop-test .taken), st .pre .0 .range .rows, st .pre .0 .range .most)
+    let pre = c .before .before .before .before .before .pre in
+    omega (arith, pre .1 .1, c .before .before .loop-test .taken, rows-few (pre .0))
 
 loop-less : tie.Need-loop-less Inv-loop μ-loop
-loop-less c = omega (arith, (c .before .before .loop-test .taken))
+loop-less c = omega (arith, c .before .before .loop-test .taken)
 
 loop-again : tie.Need-loop-again Inv-loop μ-loop
 unfolding heldOf tupleOf tupleBy
 loop-again c =
     let b3 = c .before .before .before in
-    let b5 = b3 .before .before in
-    let st = b5 in
-    let m : List ℕ = st .args .m .now in
-    let f = heldIn (flatOf m) in
-    let n : ℕ = st .args .number in
+    let a = b3 .before .before .args in
     let l = b3 .loop in
-    let i1 = l .inv .0 in
-    let i2 = l .inv .1 .0 in
-    let ek : (c .before .number-at .result) ≡ f (l .i) .tuple .number = c .before .number-at .ensures in
-    (omega arith, (omega (arith, (c .before .before .loop-test .taken)), omega (arith, l .inv .1 .1, find-past n f (l .i) (st .args .end) (c .before .before .loop-test .taken) (λ z. (c .if1 .left) (ek ∙ z)))))
+    let i = l .inv .0 in
+    let lt = c .before .before .loop-test .taken in
+    let q = find-past (a .number) (heldIn (flatOf (a .m .now))) (l .i) (a .end) lt (λ z. c .if1 .left (c .before .number-at .ensures ∙ z)) in
+    (omega arith, (omega arith, omega (arith, l .inv .1 .1)))
 
 returns-2 : tie.Need-returns-2 Inv-loop μ-loop
 returns-2 c =
-    let b3 = c .before .before .before in
-    let st = b3 in
-    let m : List ℕ = st .args .m .now in
-    let f = heldIn (flatOf m) in
-    let n : ℕ = st .args .number in
+    let a = c .before .before .before .args in
     let l = c .before .loop in
-    let i1 = l .inv .0 in
-    let i2 = l .inv .1 .0 in
-    omega (arith, l .inv .1 .1, find-end n f (l .i) (st .args .end) (c .loop-test .left), (c .loop-test .left))
+    omega (arith, l .inv .0, l .inv .1 .0, l .inv .1 .1, find-end (a .number) (heldIn (flatOf (a .m .now))) (l .i) (a .end) (c .loop-test .left), c .loop-test .left)
 
 pub find-number-spec : {M : Type 1} → statement M
 find-number-spec =

@@ -1,67 +1,43 @@
-use Rattle.pages.specs.Changes.{settledNext}
-use Rattle.pages.specs.Turns.{pagesOf, swapped}
-use Rattle.memory.proofs.Refusal.{held-room}
 use Rattle.memory.specs.Flat.{flatOf}
 use lib.ListN.{length}
-use mathlib.Core.List.{List}
-use Prim.Native.Nat.{ℕ, _+_, _<_}
-use mathlib.Core.Path.{_≡_, sym, ap, _∙_}
-use Rattle.model.specs.State.{Page}
+use Prim.Native.Nat.{_+_, _<_}
+use mathlib.Core.Path.{sym, _∙_}
 use borrow.Author.Tests.{not-true, not-false}
-use Rattle.pages.proofs.Places.{turns-to}
+use Rattle.memory.proofs.Refusal.{held-room}
+use Rattle.pages.proofs.Places.{turns-to, entries-few, same-pages}
 use Rattle.pages.proofs.Around.{next-none, next-joins, next-apart}
 use Rattle.pages.proofs.Joining.{tried, not-tried, next-at}
-use Rattle.memory.specs.declared.Counts.{Counts}
 use native.Mathlib.Omega.{arith}
 use borrow.Author.Needs.{needs}
 use Rattle.pages.proofs.join_after.Statement.{statement}
 use Rattle.pages.proofs.join_after.Tie as tie
 
+abbrev began : tie.Else1 → tie.Start
+began c = c .before .before .before .before .before
+
+-- there is a successor
+inside : (c : tie.Else1) → began c .args .p + 1 < length (flatOf (began c .args .m .now) .entries)
+inside c = omega (arith, same-pages (c .before .before .get-counts .ensures), c .if1 .left)
+
 get-counts-requires : tie.Need-get-counts-requires
-get-counts-requires c κs =
-    let st = c .before .before in
-    let m : List ℕ = st .args .m .now in
-    let a = st .pre in
-    let room = held-room m (a .held) in
-    omega (arith, room .range .long)
+get-counts-requires c κs = omega (arith, held-room _ (c .before .before .pre .held) .range .long)
 
 cast-n : tie.Need-cast-n
 cast-n c = search needs
 
 add-if1 : tie.Need-add-if1
-add-if1 c =
-    let b4 = c .before .before .before .before in
-    let st = b4 in
-    let m : List ℕ = st .args .m .now in
-    let a = st .pre in
-    let room = held-room m (a .held) in
-    omega (arith, room .range .pages, room .range .most, a .inside)
+add-if1 c = let a = c .before .before .before .before .pre in omega (arith, a .inside, entries-few (held-room _ (a .held)))
 
 same-length : tie.Need-same-length
 same-length c = search needs
 
 returns : tie.Need-returns
 returns c =
-    let b5 = c .before .before .before .before .before in
-    let st = b5 in
-    let m : List ℕ = st .args .m .now in
-    let p : ℕ = st .args .p in
-    let a = st .pre in
-    let G : List Page → List Page = λ rest. swapped p rest (pagesOf m) in
-    let en : (c .before .before .get-counts .result .pages) ≡ length (flatOf m .entries) = ap (λ (x : Counts). x .pages) (c .before .before .get-counts .ensures) in
-    not-tried m (settledNext p (pagesOf m)) G (next-none a (omega (arith, (c .if1 .taken))))
+    let b2 = c .before .before in
+    not-tried (next-none (b2 .before .before .before .pre) (omega (arith, same-pages (b2 .get-counts .ensures), c .if1 .taken)))
 
 joinable-requires : tie.Need-joinable-requires
-joinable-requires c κs =
-    let b3 = c .before .before .before in
-    let b6 = b3 .before .before .before in
-    let st = b6 in
-    let m : List ℕ = st .args .m .now in
-    let p : ℕ = st .args .p in
-    let a = st .pre in
-    let en : (b3 .get-counts .result .pages) ≡ length (flatOf m .entries) = ap (λ (x : Counts). x .pages) (b3 .get-counts .ensures) in
-    let lt : p + 1 < length (flatOf m .entries) = omega (arith, (c .before .if1 .left)) in
-    (a, lt)
+joinable-requires c κs = (began (c .before) .pre, inside (c .before))
 
 same-length-2 : tie.Need-same-length-2
 same-length-2 c = search needs
@@ -69,29 +45,13 @@ same-length-2 c = search needs
 returns-2 : tie.Need-returns-2
 returns-2 c =
     let b3 = c .before .before .before in
-    let b5 = b3 .before .before in
-    let b8 = b5 .before .before .before in
-    let st = b8 in
-    let m : List ℕ = st .args .m .now in
-    let p : ℕ = st .args .p in
-    let a = st .pre in
-    let G : List Page → List Page = λ rest. swapped p rest (pagesOf m) in
-    let en : (b5 .get-counts .result .pages) ≡ length (flatOf m .entries) = ap (λ (x : Counts). x .pages) (b5 .get-counts .ensures) in
-    let lt : p + 1 < length (flatOf m .entries) = omega (arith, (b3 .if1 .left)) in
-    not-tried m (settledNext p (pagesOf m)) G (next-apart a (next-at a lt) (sym (c .before .joinable .ensures) ∙ not-true _ (c .if2 .taken)))
+    let a = began b3 .pre in
+    not-tried (next-apart a (next-at a (inside b3)) (sym (c .before .joinable .ensures) ∙ not-true _ (c .if2 .taken)))
 
 merge-requires : tie.Need-merge-requires
 merge-requires c κs =
     let b4 = c .before .before .before .before in
-    let b6 = b4 .before .before in
-    let b9 = b6 .before .before .before in
-    let st = b9 in
-    let m : List ℕ = st .args .m .now in
-    let p : ℕ = st .args .p in
-    let a = st .pre in
-    let en : (b6 .get-counts .result .pages) ≡ length (flatOf m .entries) = ap (λ (x : Counts). x .pages) (b6 .get-counts .ensures) in
-    let lt : p + 1 < length (flatOf m .entries) = omega (arith, (b4 .if1 .left)) in
-    record { held = a .held; inside = lt }
+    record { held = began b4 .pre .held; inside = inside b4 }
 
 same-length-3 : tie.Need-same-length-3
 same-length-3 c = search needs
@@ -99,18 +59,10 @@ same-length-3 c = search needs
 returns-3 : tie.Need-returns-3
 returns-3 c =
     let b4 = c .before .before .before .before in
-    let b5 = b4 .before in
-    let b7 = b5 .before .before in
-    let b9 = b7 .before .before in
-    let b12 = b9 .before .before .before in
-    let st = b12 in
-    let m : List ℕ = st .args .m .now in
-    let p : ℕ = st .args .p in
-    let a = st .pre in
-    let G : List Page → List Page = λ rest. swapped p rest (pagesOf m) in
-    let en : (b9 .get-counts .result .pages) ≡ length (flatOf m .entries) = ap (λ (x : Counts). x .pages) (b9 .get-counts .ensures) in
-    let lt : p + 1 < length (flatOf m .entries) = omega (arith, (b7 .if1 .left)) in
-    tried (settledNext p (pagesOf m)) G (λ rest. turns-to (c .before .before .merge .ensures) (sym (next-joins a (next-at a lt) (sym (b5 .joinable .ensures) ∙ not-false _ (b4 .if2 .left)) rest)))
+    let b7 = b4 .before .before .before in
+    let a = began b7 .pre in
+    let j = sym (b4 .before .joinable .ensures) ∙ not-false _ (b4 .if2 .left) in
+    tried (λ rest. turns-to (c .before .before .merge .ensures) (sym (next-joins a (next-at a (inside b7)) j rest)))
 
 pub join-after-spec : {M : Type 1} → statement M
 join-after-spec =

@@ -1,52 +1,30 @@
-use Rattle.pages.proofs.Places.{pos-of, page-end}
-use Rattle.pages.proofs.Swaps.{still-there}
-use Rattle.pages.specs.Turns.{pageAt, entryAt}
+use Rattle.pages.proofs.Places.{page-end, rows-few, page-in, at-there, run-in, same-count}
+use Rattle.pages.proofs.Swaps.{then-in}
+use Rattle.memory.specs.Flat.{flatOf, Room}
+use lib.ListN.{length}
+use Prim.Native.Nat.{_<_}
 use Rattle.memory.proofs.Refusal.{held-room}
-use mathlib.Core.List.{List}
-use Prim.Native.Nat.{ℕ, _%_}
-use mathlib.Core.Path.{_≡_, sym, ap, _∙_, subst}
-use Rattle.pages.specs.Thawing.{TakesHold}
-use Rattle.pages.proofs.Searching.{table-is}
 use Rattle.pages.proofs.Ripening.{hold-none, hold-some, hold-most}
-use Rattle.memory.specs.declared.Entry.{Entry}
 use native.Mathlib.Omega.{arith}
 use borrow.Author.Needs.{needs}
 use Rattle.pages.proofs.take_hold.Statement.{statement}
 use Rattle.pages.proofs.take_hold.Tie as tie
 
+-- the page's entry is still there
+still : (c : tie.After-ripen) → let a = c .before .before .before .before .before .before .args in Room (c .ripen .last .0) × (a .p < length (flatOf (c .ripen .last .0) .entries))
+still c = let st = c .before .before .before .before .before .before in then-in (st .args .p) (c .ripen .ensures .becomes) (st .pre .inside)
+
 get-entry-requires : tie.Need-get-entry-requires
-get-entry-requires c κs =
-    let st = c .before .before in
-    let m : List ℕ = st .args .m .now in
-    let a = st .pre in
-    let room = held-room m (a .held) in
-    (room, a .inside)
+get-entry-requires c κs = page-in (at-there (c .before .before .pre))
 
 cast-ripen : tie.Need-cast-ripen
 cast-ripen c = search needs
 
 ripen-requires : tie.Need-ripen-requires
-ripen-requires c κs =
-    let b5 = c .before .before .before .before .before in
-    let st = b5 in
-    let m : List ℕ = st .args .m .now in
-    let p : ℕ = st .args .p in
-    let a = st .pre in
-    let room = held-room m (a .held) in
-    let n : ℕ = c .before .before .get-entry .result .count in
-    let en : n ≡ entryAt m p .count = ap (λ (x : Entry). x .count) (c .before .before .get-entry .ensures) in
-    (room, omega (arith, page-end a))
+ripen-requires c κs = let b2 = c .before .before in run-in (b2 .before .before .before .pre) (b2 .get-entry .ensures)
 
 remove-entry-requires : tie.Need-remove-entry-requires
-remove-entry-requires c κs =
-    let b4 = c .before .before .before .before in
-    let b7 = b4 .before .before .before in
-    let b10 = b7 .before .before .before in
-    let st = b10 in
-    let p : ℕ = st .args .p in
-    let a = st .pre in
-    let b = b4 .ripen .ensures .becomes in
-    (b .room, still-there p b (a .inside))
+remove-entry-requires c κs = still (c .before .before .before .before)
 
 same-length : tie.Need-same-length
 same-length c = search needs
@@ -56,39 +34,18 @@ returns c =
     let b4 = c .before .before .before .before in
     let b7 = b4 .before .before .before in
     let b10 = b7 .before .before .before in
-    let b13 = b10 .before .before .before in
-    let st = b13 in
-    let m : List ℕ = st .args .m .now in
-    let p : ℕ = st .args .p in
-    let a = st .pre in
-    let n : ℕ = b10 .get-entry .result .count in
-    let en : n ≡ entryAt m p .count = ap (λ (x : Entry). x .count) (b10 .get-entry .ensures) in
-    subst (λ (z : ℕ). TakesHold m (c .before .before .remove-entry .last .0) p z) (b4 .if1 .taken) (hold-none a n (b7 .ripen .result) en (b7 .ripen .ensures) (b4 .if1 .taken) (c .before .before .remove-entry .ensures))
+    hold-none (b10 .before .before .before .pre) (b10 .get-entry .ensures) (b7 .ripen .ensures) (b4 .if1 .taken) (c .before .before .remove-entry .ensures)
 
 cast-t18 : tie.Need-cast-t18
 cast-t18 c =
     let b4 = c .before .before .before .before in
     let b7 = b4 .before .before .before in
-    let b10 = b7 .before .before .before in
-    let st = b10 in
-    let m : List ℕ = st .args .m .now in
-    let p : ℕ = st .args .p in
-    let a = st .pre in
-    let room = held-room m (a .held) in
-    let n : ℕ = b7 .get-entry .result .count in
-    let en : n ≡ entryAt m p .count = ap (λ (x : Entry). x .count) (b7 .get-entry .ensures) in
-    omega (arith, page-end a, room .range .rows, room .range .most, hold-most a n (b4 .ripen .result) en (b4 .ripen .ensures))
+    let a = b7 .before .before .before .pre in
+    let ee = b7 .get-entry .ensures in
+    omega (arith, page-end a, rows-few (held-room _ (a .held)), same-count ee, hold-most a ee (b4 .ripen .ensures))
 
 put-entry-requires : tie.Need-put-entry-requires
-put-entry-requires c κs =
-    let b4 = c .before .before .before .before in
-    let b7 = b4 .before .before .before in
-    let b10 = b7 .before .before .before in
-    let st = b10 in
-    let p : ℕ = st .args .p in
-    let a = st .pre in
-    let b = b4 .ripen .ensures .becomes in
-    (b .room, still-there p b (a .inside))
+put-entry-requires c κs = still (c .before .before .before .before)
 
 same-length-2 : tie.Need-same-length-2
 same-length-2 c = search needs
@@ -98,15 +55,7 @@ returns-2 c =
     let b4 = c .before .before .before .before in
     let b7 = b4 .before .before .before in
     let b10 = b7 .before .before .before in
-    let b13 = b10 .before .before .before in
-    let st = b13 in
-    let m : List ℕ = st .args .m .now in
-    let p : ℕ = st .args .p in
-    let a = st .pre in
-    let n : ℕ = b10 .get-entry .result .count in
-    let en : n ≡ entryAt m p .count = ap (λ (x : Entry). x .count) (b10 .get-entry .ensures) in
-    let et : (b10 .get-entry .result .table) % 8 ≡ pageAt m p .table = ap (λ (x : Entry). x .table % 8) (b10 .get-entry .ensures) ∙ sym (table-is m p) in
-    hold-some a n (b7 .ripen .result) en (b7 .ripen .ensures) (b4 .if1 .left) (pos-of (b7 .ripen .result) (b4 .if1 .left)) (b10 .get-entry .result .table) et (c .before .before .put-entry .ensures)
+    hold-some (b10 .before .before .before .pre) (b10 .get-entry .ensures) (b7 .ripen .ensures) (b4 .if1 .left) (c .before .before .put-entry .ensures)
 
 pub take-hold-spec : {M : Type 1} → statement M
 take-hold-spec =
