@@ -69,7 +69,7 @@ module _ (call : Store → Outcome) (m : List ℕ) where
 
 -- ---- the listing, in any order
 
-length-listing : (xs : List ℕ) → length (listing xs) ≡ 2 * length xs
+pub length-listing : (xs : List ℕ) → length (listing xs) ≡ 2 * length xs
 unfolding listing
 length-listing [] = refl
 length-listing (x ∷ xs) = omega (arith, length-listing xs)

@@ -22,7 +22,7 @@ use Rattle.memory.specs.declared.Head.{Head}
 use Rattle.memory.proofs.Refusal.{held-filled, room-held}
 use Rattle.memory.proofs.Meaning.{becomes-then}
 use Rattle.pages.specs.Turns.{Turns, withPages}
-use Rattle.pages.proofs.Swaps.{map-append}
+use Rattle.basics.proofs.Lists.{map-append}
 use Rattle.checkpoint.specs.Keeping.{begun, Leads}
 use Rattle.checkpoint.proofs.Tallies.{runs-is}
 use Rattle.model.specs.State as model

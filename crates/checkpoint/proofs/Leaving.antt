@@ -23,7 +23,7 @@ use Rattle.memory.specs.declared.Head.{Head}
 use Rattle.memory.proofs.Refusal.{held-filled, room-held}
 use Rattle.memory.proofs.Meaning.{in-next, becomes-then}
 use Rattle.pages.specs.Turns.{Turns, withPages}
-use Rattle.pages.proofs.Swaps.{map-append}
+use Rattle.basics.proofs.Lists.{map-append}
 use Rattle.checkpoint.specs.Counting.{firstZero, namedIn}
 use Rattle.checkpoint.specs.Keeping.{filledBy, writtenBy, namedBy, pageKept, directoryKept, headerKept, Runs, taking, Leads, Fills, Marks}
 use Rattle.checkpoint.proofs.Tallies.{length-blocks, running-is}

@@ -7,6 +7,7 @@ use native.Mathlib.Numerals.{add-one}
 use lib.ListN.{length, take, set, length-set, length-append}
 use lib.Seq.{take-suc-set}
 use borrow.Author.Tests.{eq-eqb, ne-eqb}
+use Rattle.basics.proofs.Lists.{map-append}
 use Rattle.basics.specs.Basics.{if_then_else_}
 use Rattle.rows.specs.Rows.{Row, number}
 use Rattle.model.specs.Transactions.{Op, toCommit, toRemove, removeAll}
@@ -17,10 +18,6 @@ pub record Pushed (old new : List ℕ) (at k : ℕ) (xs ys : List Op) : Type 0 w
   pub size : length new ≡ length old
   pub count : k + length ys ≡ at + length xs
   pub ops : opsOf (take k new) ++ ys ≡ opsOf (take at old) ++ xs
-
-map-append : {A B : Type 0} (g : A → B) (xs ys : List A) → map g (xs ++ ys) ≡ map g xs ++ map g ys
-map-append g [] ys = refl
-map-append g (x ∷ xs) ys = ap (λ (z : List _). g x ∷ z) (map-append g xs ys)
 
 pub push-start : (old : List ℕ) (at : ℕ) (xs : List Op) → Pushed old old at at xs xs
 push-start old at xs = record { size = refl; count = refl; ops = refl }

@@ -12,6 +12,7 @@ use Rattle.model.specs.State.{Active}
 use Rattle.model.specs.Transactions.{gives, openNumbers, listing, listCall}
 use Rattle.memory.specs.Flat.{Flat}
 use Rattle.memory.specs.Store.{activeOf, storeOf}
+use Rattle.answers.proofs.Answering.{length-listing}
 use Rattle.transactions.proofs.Verdicts.{refused-here, passed-on, unless-none}
 use Rattle.model.specs.State as model
 
@@ -36,11 +37,6 @@ listed-last : (ws : List ℕ) (w : ℕ) → listed (ws ++ w ∷ []) ≡ listed w
 listed-last ws w =
     ap listing (numbers-append ws (w ∷ [])) ∙ listing-append (openNumbers (map activeOf ws)) (openNumbers (map activeOf (w ∷ [])))
     ∙ ap (λ (z : List ℕ). listed ws ++ z) (listed-one w)
-
-length-listing : (xs : List ℕ) → length (listing xs) ≡ 2 * length xs
-unfolding listing
-length-listing [] = refl
-length-listing (x ∷ xs) = omega (arith, length-listing xs)
 
 pub length-listed : (ws : List ℕ) → length (listed ws) ≡ 2 * length ws
 unfolding openNumbers
