@@ -125,7 +125,7 @@ at-there a = record { held = a .held; inside = a .inside }
 pub same-pages : {c d : Counts} → c ≡ d → c .pages ≡ d .pages
 same-pages e = ap (λ (x : Counts). x .pages) e
 
--- a page before the last, in a walk over all
+-- the page that a walk over all pages has come to
 pub walk-at : {m : List ℕ} {p start : ℕ} → holdsStore m ≡ true → {c : Counts} → c ≡ countsOf (flatOf m) → p < c .pages → start ≡ startAt m p → At m p start
 walk-at h ec lt eb = record { held = h; inside = omega (arith, same-pages ec); begins = eb }
 

@@ -1,6 +1,6 @@
 use Rattle.memory.specs.Store.{heldIn}
 use Rattle.memory.specs.Flat.{flatOf}
-use Prim.Native.Nat.{ℕ, _+_, _*_, _-_, _≤_}
+use Prim.Native.Nat.{_+_, _*_, _-_, _≤_}
 use mathlib.Core.Path.{_≡_, ap}
 use Rattle.model.specs.Rules.{heldSize}
 use Rattle.basics.specs.Basics.{sum}
