@@ -139,7 +139,7 @@ same-table m p ee = ap (λ (x : Entry). x .table % 8) ee
 pub run-in : {m : List ℕ} {p start : ℕ} → At m p start → {e : Entry} → e ≡ entryAt m p → Room m × (start + e .count ≤ length (flatOf m .rows))
 run-in {m} a ee = (held-room m (a .held), omega (arith, page-end a, same-count ee))
 
-cons-head : {A : Type 0} (x y : A) (xs ys : List A) → x ∷ xs ≡ y ∷ ys → x ≡ y
+pub cons-head : {A : Type 0} (x y : A) (xs ys : List A) → x ∷ xs ≡ y ∷ ys → x ≡ y
 cons-head x y xs ys e = cc
 
 -- where the pages are xs, q and more, q stands after the rows of xs
