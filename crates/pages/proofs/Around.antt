@@ -15,13 +15,10 @@ use Rattle.memory.proofs.Runs.{pages-count}
 use Rattle.pages.specs.Turns.{pagesOf, pageAt, At, swapped, onPage}
 use Rattle.pages.specs.Changes.{settledAt, settledNext}
 use Rattle.pages.specs.Finding.{NoneOf}
-use Rattle.pages.proofs.Places.{from-page, swap-same}
+use Rattle.pages.proofs.Places.{cons-head, from-page, swap-same}
 
 none-cons : {A : Type 0} (x : A) (xs : List A) → [] ≡ x ∷ xs → ⊥
 none-cons x xs e = let z : _≡_ {A = ℕ} 0 1 = cc in omega arith
-
-cons-head : {A : Type 0} (x y : A) (xs ys : List A) → x ∷ xs ≡ y ∷ ys → x ≡ y
-cons-head x y xs ys e = cc
 
 drop-none : {A : Type 0} (p : ℕ) → _≡_ {A = List A} (drop p []) []
 drop-none zero = refl

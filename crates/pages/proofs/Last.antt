@@ -6,6 +6,7 @@ use native.Mathlib.Omega.{arith}
 use mathlib.Core.List.{List, [], _∷_, _++_, append-assoc}
 use lib.ListN.{length}
 use lib.Dec.{leb}
+use borrow.Author.Tests.{le-leb, lt-leb}
 use Rattle.model.specs.State.{Held}
 use Rattle.memory.specs.Views.{tab}
 use Rattle.memory.proofs.Laws.{tab-add, length-tab}
@@ -34,8 +35,9 @@ last-le k (x ∷ xs) = le (leb (x .tuple .key) k) (afterLast k xs) (length xs) (
 
 module _ (f : ℕ → Held) (k s n : ℕ) where
   -- none from i on, and the one before i
-  pub found : (i : ℕ) → s < i → i ≤ n → afterLast k (tab f i (n - i)) ≡ 0 → leb (f (i - 1) .tuple .key) k ≡ true → i ≡ s + afterLast k (tab f s (n - s))
-  found i p h z0 hit0 =
+  pub found : (i : ℕ) → s < i → i ≤ n → afterLast k (tab f i (n - i)) ≡ 0 → {key : ℕ} → key ≡ f (i - 1) .tuple .key → key ≤ k
+      → i ≡ s + afterLast k (tab f s (n - s))
+  found i p h z0 {key} ek le =
       let e : n - s ≡ i - 1 - s + suc (n - i) = omega arith in
       let e1 : s + (i - 1 - s) ≡ i - 1 = omega arith in
       let e2 : suc (s + (i - 1 - s)) ≡ i = omega arith in
@@ -47,16 +49,16 @@ module _ (f : ℕ → Held) (k s n : ℕ) where
       let z : afterLast k (tab f s (n - s)) ≡ suc (length (tab f s (i - 1 - s))) =
       ap (afterLast k) (a ∙ b)
       ∙ skip-end k (tab f s (i - 1 - s) ++ f (i - 1) ∷ []) (tab f i (n - i)) z0
-      ∙ hit k (tab f s (i - 1 - s)) (f (i - 1)) hit0 in
+      ∙ hit k (tab f s (i - 1 - s)) (f (i - 1)) (le-leb (f (i - 1) .tuple .key) k (omega arith)) in
       omega (arith, z, length-tab f s (i - 1 - s))
 
-  pub passed : (i : ℕ) → s < i → i ≤ n → afterLast k (tab f i (n - i)) ≡ 0 → leb (f (i - 1) .tuple .key) k ≡ false
+  pub passed : (i : ℕ) → s < i → i ≤ n → afterLast k (tab f i (n - i)) ≡ 0 → {key : ℕ} → key ≡ f (i - 1) .tuple .key → k < key
       → afterLast k (tab f (i - 1) (n - (i - 1))) ≡ 0
   unfolding afterLast past
-  passed i p h z0 miss =
+  passed i p h z0 {key} ek lt =
       let e : n - (i - 1) ≡ suc (n - i) = omega arith in
       let e1 : suc (i - 1) ≡ i = omega arith in
       ap (λ (z : ℕ). afterLast k (tab f (i - 1) z)) e
       ∙ ap (λ (z : ℕ). past (leb (f (i - 1) .tuple .key) k) (afterLast k (tab f z (n - i)))) e1
       ∙ ap (past (leb (f (i - 1) .tuple .key) k)) z0
-      ∙ ap (λ (b : Bool). past b 0) miss
+      ∙ ap (λ (b : Bool). past b 0) (lt-leb (f (i - 1) .tuple .key) k (omega arith))

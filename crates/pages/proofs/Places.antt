@@ -125,7 +125,7 @@ at-there a = record { held = a .held; inside = a .inside }
 pub same-pages : {c d : Counts} → c ≡ d → c .pages ≡ d .pages
 same-pages e = ap (λ (x : Counts). x .pages) e
 
--- a page before the last, in a walk over all
+-- the page that a walk over all pages has come to
 pub walk-at : {m : List ℕ} {p start : ℕ} → holdsStore m ≡ true → {c : Counts} → c ≡ countsOf (flatOf m) → p < c .pages → start ≡ startAt m p → At m p start
 walk-at h ec lt eb = record { held = h; inside = omega (arith, same-pages ec); begins = eb }
 
@@ -139,7 +139,7 @@ same-table m p ee = ap (λ (x : Entry). x .table % 8) ee
 pub run-in : {m : List ℕ} {p start : ℕ} → At m p start → {e : Entry} → e ≡ entryAt m p → Room m × (start + e .count ≤ length (flatOf m .rows))
 run-in {m} a ee = (held-room m (a .held), omega (arith, page-end a, same-count ee))
 
-cons-head : {A : Type 0} (x y : A) (xs ys : List A) → x ∷ xs ≡ y ∷ ys → x ≡ y
+pub cons-head : {A : Type 0} (x y : A) (xs ys : List A) → x ∷ xs ≡ y ∷ ys → x ≡ y
 cons-head x y xs ys e = cc
 
 -- where the pages are xs, q and more, q stands after the rows of xs

@@ -203,9 +203,6 @@ module _ {m m1 : List ℕ} {start n left i : ℕ} (fits : start + n ≤ length (
       ap (λ (f : Flat). f .rows) (inv .becomes .flat)
       ∙ ap (λ (z : List Row). A ++ (B ++ z)) (drop-cons rs (start + done) noRow (omega (arith, l0)))
 
-  front : List Row
-  front = A ++ B
-
   front-long : length (take start (flatOf m .rows) ++ ripeRows (take (n - left) (drop start (flatOf m .rows)))) ≡ i
   front-long = length-append A B ∙ omega (arith, inv .place, length-take-le start rs (omega arith))
 

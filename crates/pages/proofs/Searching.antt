@@ -137,7 +137,7 @@ module _ {m : List ℕ} {t k p end : ℕ} (o : BackTurn m t k p end) where
         let z : suc (p - 1) ≡ p = omega (arith, o .pos) in
         ap (λ (q : ℕ). placeAfter t x (drop q (pagesOf m))) z ∙ o .inv .1 .1 x ek
 
-    -- none of the page's tuples is in the place of x
+    -- the page is passed over, and the search goes on before it
     on-to-next : ((x : Tuple) → x .key ≡ k → placeAfter t x (pageAt m (p - 1) ∷ drop (suc (p - 1)) (pagesOf m)) ≡ none) → BackInv m t k (p - 1) (end - e .count)
     on-to-next f = (omega (arith, o .inv .0), (back-at .begins, λ x ek. ap (placeAfter t x) (from-page back-at) ∙ f x ek))
 
@@ -209,4 +209,3 @@ module _ (m : List ℕ) (t : ℕ) (row : Row) (r : Spot) (o : Spotted m t (row .
 
   pub placed-new : {m' : List ℕ} (p a : ℕ) → r ≡ New p a → Turns m m' (take p (pagesOf m) ++ fresh t (calm (tupleOf row) ∷ []) ∷ drop p (pagesOf m)) → Turns m m' (place t (tupleOf row) (pagesOf m))
   placed-new p a e u = turns-to u (sym (spot-new p a e .places (tupleOf row) (key-is row)))
-

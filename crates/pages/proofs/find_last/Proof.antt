@@ -1,8 +1,7 @@
 use Rattle.memory.specs.Store.{heldOf, tupleOf, heldIn, tupleBy}
 use Rattle.memory.specs.Flat.{flatOf}
 use Prim.Native.Nat.{ℕ, _-_, _≤_}
-use mathlib.Core.Path.{_≡_, sym, ap, _∙_}
-use borrow.Author.Tests.{le-leb, lt-leb}
+use mathlib.Core.Path.{_≡_, ap, _∙_}
 use Rattle.pages.specs.Spots.{afterLast}
 use Rattle.pages.proofs.Last.{found, passed}
 use Rattle.memory.specs.Views.{tab}
@@ -29,18 +28,15 @@ sub-key-at c = omega arith
 key-at-requires : tie.Need-key-at-requires Inv-loop μ-loop
 key-at-requires c κs =
     let b3 = c .before .before .before in
-    ((b3 .pre .0), omega (arith, (b3 .pre .1 .1), (c .before .loop .inv .1 .0)))
+    (b3 .pre .0, omega (arith, b3 .pre .1 .1, c .before .loop .inv .1 .0))
 
 returns : tie.Need-returns Inv-loop μ-loop
 unfolding heldOf tupleOf tupleBy
 returns c =
     let b3 = c .before .before .before in
-    let b5 = b3 .before .before in
-    let st = b5 in
-    let f = heldIn (flatOf (st .args .m .now)) in
+    let a = b3 .before .before .args in
     let l = b3 .loop in
-    let ek : (c .before .key-at .result) ≡ f (l .i - 1) .tuple .key = c .before .key-at .ensures in
-    found f (st .args .key) (st .args .start) (st .args .end) (l .i) (c .before .before .loop-test .taken) (l .inv .1 .0) (l .inv .1 .1) (le-leb (f (l .i - 1) .tuple .key) (st .args .key) (omega (arith, (c .if1 .taken))))
+    found (heldIn (flatOf (a .m .now))) (a .key) (a .start) (a .end) (l .i) (c .before .before .loop-test .taken) (l .inv .1 .0) (l .inv .1 .1) (c .before .key-at .ensures) (c .if1 .taken)
 
 sub-i : tie.Need-sub-i Inv-loop μ-loop
 sub-i c = omega arith
@@ -52,22 +48,18 @@ loop-again : tie.Need-loop-again Inv-loop μ-loop
 unfolding heldOf tupleOf tupleBy
 loop-again c =
     let b3 = c .before .before .before in
-    let b5 = b3 .before .before in
-    let st = b5 in
-    let f = heldIn (flatOf (st .args .m .now)) in
+    let a = b3 .before .before .args in
     let l = b3 .loop in
-    let ek : (c .before .key-at .result) ≡ f (l .i - 1) .tuple .key = c .before .key-at .ensures in
-    (omega (arith, (c .before .before .loop-test .taken)), (omega (arith, l .inv .1 .0), passed f (st .args .key) (st .args .start) (st .args .end) (l .i) (c .before .before .loop-test .taken) (l .inv .1 .0) (l .inv .1 .1) (lt-leb (f (l .i - 1) .tuple .key) (st .args .key) (omega (arith, (c .if1 .left))))))
+    let lt = c .before .before .loop-test .taken in
+    let z = passed (heldIn (flatOf (a .m .now))) (a .key) (a .start) (a .end) (l .i) lt (l .inv .1 .0) (l .inv .1 .1) (c .before .key-at .ensures) (c .if1 .left) in
+    (omega arith, (omega (arith, l .inv .1 .0), z))
 
 returns-2 : tie.Need-returns-2 Inv-loop μ-loop
 returns-2 c =
-    let b3 = c .before .before .before in
-    let st = b3 in
+    let a = c .before .before .before .args in
     let l = c .before .loop in
-    let e : l .i ≡ st .args .start = omega (arith, (c .loop-test .left), l .inv .0) in
-    let z : afterLast (st .args .key) (tab (heldIn (flatOf (st .args .m .now))) (st .args .start) (st .args .end - st .args .start)) ≡ 0 =
-    ap (λ (n : ℕ). afterLast (st .args .key) (tab (heldIn (flatOf (st .args .m .now))) n (st .args .end - n))) (sym e) ∙ l .inv .1 .1 in
-    omega arith
+    let e : a .start ≡ l .i = omega (arith, c .loop-test .left, l .inv .0) in
+    omega (arith, ap (λ (n : ℕ). afterLast (a .key) (tab (heldIn (flatOf (a .m .now))) n (a .end - n))) e ∙ l .inv .1 .1)
 
 pub find-last-spec : {M : Type 1} → statement M
 find-last-spec =

@@ -43,9 +43,10 @@ halve-requires c κs =
     let b3 = c .before .before .before in
     let b8 = b3 .before .before .before .before .before in
     let st = b8 .before .before .before in
-    let n : ℕ = b8 .get-entry .result .count + 1 in
-    (grew-at (st .pre .0) (st .args .row) (st .pre .1) (b8 .get-entry .ensures) n (b3 .put-in2 .ensures),
-    grew-dirty (st .pre .0) (st .args .row) (st .pre .1) (b8 .get-entry .ensures) n (b3 .put-in2 .ensures))
+    let n : ℕ = b8 .get-entry .result .count + 1 in (
+      grew-at (st .pre .0) (st .args .row) (st .pre .1) (b8 .get-entry .ensures) n (b3 .put-in2 .ensures),
+      grew-dirty (st .pre .0) (st .args .row) (st .pre .1) (b8 .get-entry .ensures) n (b3 .put-in2 .ensures),
+    )
 
 same-length-2 : tie.Need-same-length-2
 same-length-2 c = search needs

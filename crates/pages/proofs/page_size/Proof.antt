@@ -1,6 +1,6 @@
 use Rattle.memory.specs.Store.{heldIn}
 use Rattle.memory.specs.Flat.{flatOf}
-use Prim.Native.Nat.{ℕ, _+_, _*_, _-_, _≤_}
+use Prim.Native.Nat.{_+_, _*_, _-_, _≤_}
 use mathlib.Core.Path.{_≡_, ap}
 use Rattle.model.specs.Rules.{heldSize}
 use Rattle.basics.specs.Basics.{sum}
@@ -21,9 +21,7 @@ abbrev μ-loop : tie.MeasureT-loop
 -- what is known once the size of row i is
 turned : (c : tie.After-tuple-size Inv-loop μ-loop)
     → let a = c .before .before .before .before .args in let l = c .before .before .loop in Turn (a .start) (a .n) (l .i) (l .all) (c .tuple-size .result)
-turned c =
-    let l = c .before .before .loop in
-    turn (c .before .before .before .before .pre) (l .inv .0) (c .before .loop-test .taken) (l .inv .1 .1 .0) (c .tuple-size .ensures .0)
+turned c = let l = c .before .before .loop in turn (c .before .before .before .before .pre) (l .inv .0) (c .before .loop-test .taken) (l .inv .1 .1 .0) (c .tuple-size .ensures .0)
 
 add-end : tie.Need-add-end Inv-loop μ-loop
 add-end c = omega (arith, c .before .pre .1, rows-few (c .before .pre .0))

@@ -86,9 +86,10 @@ split-requires c κs =
     let b6 = b4 .before .before in
     let b9 = b6 .before .before .before in
     let b11 = b9 .before .before in
-    let st = began (b11 .before) in
-    (split-at (st .pre .0) (st .args .b) (some-wait b11) (b9 .take-hold .ensures) (b6 .if2 .left) (b4 .join .ensures) (c .before .if3 .left),
-    split-dirty (st .pre .0) (st .args .b) (some-wait b11) (b9 .take-hold .ensures) (b6 .if2 .left) (b4 .join .ensures) (c .before .if3 .left))
+    let st = began (b11 .before) in (
+      split-at (st .pre .0) (st .args .b) (some-wait b11) (b9 .take-hold .ensures) (b6 .if2 .left) (b4 .join .ensures) (c .before .if3 .left),
+      split-dirty (st .pre .0) (st .args .b) (some-wait b11) (b9 .take-hold .ensures) (b6 .if2 .left) (b4 .join .ensures) (c .before .if3 .left),
+    )
 
 same-length-4 : tie.Need-same-length-4
 same-length-4 c = search needs
