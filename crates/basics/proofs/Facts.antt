@@ -1,6 +1,6 @@
 -- Cases on a test or an option; a property of every element; what a test that came out true or false says.
-use mathlib.Core.Path.{_≡_, refl, sym, ap, _∙_}
-use Prim.Native.Nat.{ℕ, _≤_, _<_}
+use mathlib.Core.Path.{_≡_, refl}
+use Prim.Native.Nat.{ℕ}
 use native.Mathlib.Omega.{arith}
 use mathlib.Core.Bool.{Bool, true, false, _&&_}
 use mathlib.Core.Option.{Option, none, some}
@@ -20,11 +20,15 @@ abbrev pub AllOf : {A : Type 0} → (A → Type 0) → List A → Type 0
 AllOf P [] = Unit {0}
 AllOf P (x ∷ xs) = P x × AllOf P xs
 
+-- one constructor is not another
+pub clash {ℓ} : {X : Type ℓ} → _≡_ {A = ℕ} 0 1 → X
+clash z = absurd (omega arith)
+
 pub never {ℓ} : {A : Type 0} {X : Type ℓ} {x : A} → none ≡ some x → X
-never e = let z : _≡_ {A = ℕ} 0 1 = cc in absurd (omega arith)
+never e = clash cc
 
 pub lie {ℓ} : {X : Type ℓ} → false ≡ true → X
-lie e = let z : _≡_ {A = ℕ} 0 1 = cc in absurd (omega arith)
+lie e = clash cc
 
 pub and-true : (a b : Bool) → (a && b) ≡ true → (a ≡ true) × (b ≡ true)
 and-true true b e = (refl, e)

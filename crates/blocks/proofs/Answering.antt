@@ -4,10 +4,10 @@ use mathlib.Core.Bool.{true, false}
 use mathlib.Core.Option.{none, some}
 use mathlib.Core.List.{List}
 use Prim.Native.Nat.{ℕ, _≤_, _<_}
-use native.Mathlib.Omega.{arith}
 use lib.ListN.{length, take, drop}
 use borrow.Author.Tests.{le-leb, lt-leb, ne-eqb}
 use Rattle.basics.specs.Basics.{if_then_else_}
+use Rattle.basics.proofs.Facts.{clash}
 use Rattle.bits.specs.Bits.{bitsIn, field}
 use Rattle.blocks.specs.Numbers.{same}
 use Rattle.blocks.specs.Tuple.{Tuple}
@@ -114,34 +114,30 @@ pub record DirectoryIs (b : Block) (n l : ℕ) : Type 0 where
   pub is : b ≡ directory l entries
   pub count : length entries ≡ n
 
--- one constructor is not another
-other : {X : Type 0} → _≡_ {A = ℕ} 0 1 → X
-other z = absurd (omega arith)
-
 pub answer-header : (b : Block) (h : Header) → reading b ≡ IsHeader h → b ≡ header h
 unfolding reading
-answer-header malformed h e = other cc
+answer-header malformed h e = clash cc
 answer-header (header k) h e = cc
-answer-header (page t l ts) h e = other cc
-answer-header (directory l es) h e = other cc
+answer-header (page t l ts) h e = clash cc
+answer-header (directory l es) h e = clash cc
 
 pub answer-page : (b : Block) (t n l : ℕ) → reading b ≡ IsPage t n l → PageIs b t n l
 unfolding reading
-answer-page malformed t n l e = other cc
-answer-page (header k) t n l e = other cc
+answer-page malformed t n l e = clash cc
+answer-page (header k) t n l e = clash cc
 answer-page (page t′ l′ ts) t n l e = record { tuples = ts; is = cc; count = cc }
-answer-page (directory l′ es) t n l e = other cc
+answer-page (directory l′ es) t n l e = clash cc
 
 pub answer-directory : (b : Block) (n l : ℕ) → reading b ≡ IsDirectory n l → DirectoryIs b n l
 unfolding reading
-answer-directory malformed n l e = other cc
-answer-directory (header k) n l e = other cc
-answer-directory (page t l′ ts) n l e = other cc
+answer-directory malformed n l e = clash cc
+answer-directory (header k) n l e = clash cc
+answer-directory (page t l′ ts) n l e = clash cc
 answer-directory (directory l′ es) n l e = record { entries = es; is = cc; count = cc }
 
 pub answer-malformed : (b : Block) → reading b ≡ Malformed → b ≡ malformed
 unfolding reading
 answer-malformed malformed e = refl
-answer-malformed (header k) e = other cc
-answer-malformed (page t l ts) e = other cc
-answer-malformed (directory l es) e = other cc
+answer-malformed (header k) e = clash cc
+answer-malformed (page t l ts) e = clash cc
+answer-malformed (directory l es) e = clash cc

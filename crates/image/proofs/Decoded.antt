@@ -1,5 +1,5 @@
 -- What a block that was read says of its bytes, and what the tests of a page or a directory make of it.
-use mathlib.Core.Path.{_≡_, refl, sym, ap, subst, _∙_}
+use mathlib.Core.Path.{_≡_, refl, sym, subst, _∙_}
 use mathlib.Core.Logic.{⊎-elim}
 use mathlib.Core.Bool.{true, false, not}
 use mathlib.Core.Option.{some}
@@ -12,6 +12,7 @@ use borrow.Author.Tests.{le-leb}
 use types.Run.{OneOf}
 use denote.Enum.Declared.{tagOf}
 use Rattle.basics.specs.Basics.{if_then_else_, all, every, isEmpty}
+use Rattle.basics.proofs.Facts.{clash}
 use Rattle.blocks.specs.Tuple.{Tuple}
 use Rattle.blocks.specs.Block.{Block, malformed, header, page, directory}
 use Rattle.blocks.specs.Decode.{readTuples, readEntries, decodeBlock}
@@ -27,10 +28,6 @@ use Rattle.rows.proofs.Ands.{and-assoc}
 use Rattle.image.specs.Stages.{pageOk}
 use Rattle.image.specs.Answers.{goodPage}
 use Rattle.image.specs.declared.GoodPage.the-variants.{Good, Bad}
-
--- where two blocks are of two kinds
-pub clash {ℓ} : {X : Type ℓ} → _≡_ {A = ℕ} 0 1 → X
-clash z = absurd (omega arith)
 
 -- the tuples of a page are those that are read from its block
 pub page-tuples : (xs : List ℕ) (t k : ℕ) (ts : List Tuple) → decodeBlock xs ≡ page t k ts → readTuples (length ts) (drop 8 xs) ≡ some ts

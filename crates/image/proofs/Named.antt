@@ -12,7 +12,7 @@ use lib.Seq.{take-suc}
 use lib.Dec.{eqb}
 use borrow.Author.Tests.{eqb-true, eq-eqb, ne-eqb}
 use Rattle.basics.specs.Basics.{if_then_else_}
-use Rattle.basics.proofs.Facts.{by, never, lie, and-true}
+use Rattle.basics.proofs.Facts.{by, never, lie, and-true, clash}
 use Rattle.bits.specs.Bits.{over}
 use Rattle.bits.proofs.Lists.{over-nil}
 use Rattle.blocks.specs.Block.{Block, malformed, header, page, directory}
@@ -26,7 +26,7 @@ use Rattle.rows.proofs.Turns.{drop-turn, drop-end}
 use Rattle.image.specs.View.{View}
 use Rattle.image.specs.Stages.{addEntries, readDirectories}
 use Rattle.image.specs.Answers.{Filled}
-use Rattle.image.proofs.Decoded.{clash, OneOfThese, directory-entries}
+use Rattle.image.proofs.Decoded.{OneOfThese, directory-entries}
 
 -- one entry more
 pub put-turn : (m s : List ℕ) (at i v : ℕ) → at + i < length m → i < length s → v ≡ getD s i 0

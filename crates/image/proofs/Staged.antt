@@ -11,7 +11,7 @@ use lib.Seq.{take-at}
 use lib.Dec.{eqb}
 use borrow.Author.Tests.{eqb-true, eq-eqb, ne-eqb, le-leb, lt-leb}
 use Rattle.basics.specs.Basics.{if_then_else_, all, every}
-use Rattle.basics.proofs.Facts.{by, never, lie, and-true}
+use Rattle.basics.proofs.Facts.{by, never, lie, and-true, clash}
 use Rattle.bits.specs.Bits.{over}
 use Rattle.blocks.specs.Block.{Block, malformed, header, page, directory}
 use Rattle.blocks.specs.Decode.{decodeBlock}
@@ -28,7 +28,7 @@ use Rattle.image.specs.Answers.{Filled, accepts, headerAnswer, noEntries
 use Rattle.image.specs.declared.HeaderTest.the-variants.{Passed, Refused}
 use Rattle.image.specs.declared.PagesTest.{PagesTest}
 use Rattle.image.proofs.Heads.{Counts, counts-are, header-tests}
-use Rattle.image.proofs.Decoded.{clash, OneOfThese}
+use Rattle.image.proofs.Decoded.{OneOfThese}
 use Rattle.image.proofs.Named.{filled-yes, filled-not}
 
 -- ---- 1 and 22

@@ -7,26 +7,14 @@ use lib.Dec.{eqb}
 use Rattle.basics.specs.Basics.{any, isIn}
 use Rattle.rows.proofs.Owners.{same-test}
 use Rattle.rows.proofs.Turns.{any-cons}
+use Rattle.model.proofs.Lists.{in-append}
 use Rattle.memory.specs.Flat.{usedAnd}
 use Rattle.recovery.specs.Loading.{usedBy}
-
-or-assoc : (a b c : Bool) → ((a || b) || c) ≡ (a || (b || c))
-or-assoc true b c = refl
-or-assoc false b c = refl
 
 or-swap : (a b c : Bool) → (b || (a || c)) ≡ ((a || b) || c)
 or-swap true true c = refl
 or-swap true false c = refl
 or-swap false b c = refl
-
-in-append : (c : ℕ) (xs ys : List ℕ) → isIn c (xs ++ ys) ≡ (isIn c xs || isIn c ys)
-unfolding isIn any
-in-append c [] ys = refl
-in-append c (x ∷ xs) ys =
-    any-cons (eqb c) x (xs ++ ys)
-    ∙ ap (λ (b : Bool). eqb c x || b) (in-append c xs ys)
-    ∙ sym (or-assoc (eqb c x) (isIn c xs) (isIn c ys))
-    ∙ ap (λ (b : Bool). b || isIn c ys) (sym (any-cons (eqb c) x xs))
 
 pub used-none : (u : ℕ → Bool) → usedBy [] u ≡ u
 unfolding usedBy isIn any

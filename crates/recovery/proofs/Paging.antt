@@ -7,6 +7,7 @@ use Prim.Native.Nat.{ℕ, _+_, _≤_, _<_}
 use native.Mathlib.Omega.{arith}
 use lib.ListN.{length, length-map}
 use Rattle.basics.proofs.Lists.{map-append}
+use Rattle.basics.proofs.Facts.{clash}
 use Rattle.blocks.specs.Tuple.{Tuple}
 use Rattle.blocks.specs.Block.{Block, malformed, header, page, directory}
 use Rattle.blocks.specs.Decode.{decodeBlock}
@@ -17,7 +18,7 @@ use Rattle.blocks.proofs.Answering.{answer-page}
 use Rattle.blocks.proofs.Laws.{decode-in-range}
 use Rattle.image.specs.View.{view, blockAt}
 use Rattle.image.specs.Stages.{StoredPage}
-use Rattle.image.proofs.Decoded.{clash, OneOfThese}
+use Rattle.image.proofs.Decoded.{OneOfThese}
 use Rattle.model.specs.State.{Held}
 use Rattle.model.specs.Rules.{calm}
 use Rattle.memory.specs.Flat.{Flat, flatOf, Room, Becomes, withRows, withEntries, withUsed, insertAt, usedAnd}

@@ -36,7 +36,7 @@ add-copy c = omega (arith, c .before .before .before .before .before .before .be
 
 copy-requires : tie.Need-copy-requires
 copy-requires c κs = let s = c .before .before .before .before .before .before .before .before .before .before .before .before in
-    (omega (arith, size-tentative (s .args .r) (c .before .before .before .if1 .taken), s .pre .0, c .copy-arg), s .pre .1)
+    (omega (arith, size-tentative (s .args .r) (c .before .before .before .if1 .taken), s .pre .0, c .copy-arg), omega (arith, s .pre .1))
 
 add-result : tie.Need-add-result
 add-result c = omega (arith, c .before .before .before .before .before .before .before .before .before .before .before .before .before .pre .0)
@@ -65,7 +65,7 @@ add-copy-2 c = omega (arith, c .before .before .before .before .before .before .
 
 copy-requires-2 : tie.Need-copy-requires-2
 copy-requires-2 c κs = let s = c .before .before .before .before .before .before .before .before .before .before in
-    (omega (arith, size-committed (s .args .r) (c .before .if1 .left), s .pre .0, c .copy-arg2), s .pre .1)
+    (omega (arith, size-committed (s .args .r) (c .before .if1 .left), s .pre .0, c .copy-arg2), omega (arith, s .pre .1))
 
 add-result-3 : tie.Need-add-result-3
 add-result-3 c = omega (arith, c .before .before .before .before .before .before .before .before .before .before .before .pre .0)
