@@ -22,10 +22,18 @@ static double best(double a, double b) { return b < a ? b : a; }
 static uint32_t key_of(unsigned i) { return i * 2654435761u; }
 static int64_t must(int64_t r) { if (r < 0) { printf("refused %ld\n", (long)-r); exit(1); } return r; }
 
-static sqlite3 *sql_store(unsigned n) {
+static sqlite3 *sql_empty(int page_size) {
     sqlite3 *db;
-    sqlite3_stmt *st;
+    char pragma[40];
     sqlite3_open(":memory:", &db);
+    snprintf(pragma, sizeof pragma, "pragma page_size=%d", page_size);
+    sqlite3_exec(db, pragma, 0, 0, 0);
+    return db;
+}
+
+static sqlite3 *sql_store(unsigned n, int page_size) {
+    sqlite3 *db = sql_empty(page_size);
+    sqlite3_stmt *st;
     sqlite3_exec(db, "create table t(tab integer, key integer, payload blob, primary key(tab, key)) without rowid; begin", 0, 0, 0);
     sqlite3_prepare_v2(db, "insert into t values(?,?,?)", -1, &st, 0);
     for (unsigned i = 0; i < n; i++) {
@@ -38,13 +46,12 @@ static sqlite3 *sql_store(unsigned n) {
     return db;
 }
 
-/* all pages at once, or one page a step */
-static double backup(unsigned n, int pages) {
+/* all pages at once (-1), or one page a step (1); SQLite's own pages are of 4,096 bytes, the store's blocks of 512 */
+static double backup(unsigned n, int pages, int page_size) {
     double b = 1e18;
-    sqlite3 *from = sql_store(n);
+    sqlite3 *from = sql_store(n, page_size);
     for (int round = 0; round < ROUNDS; round++) {
-        sqlite3 *to;
-        sqlite3_open(":memory:", &to);
+        sqlite3 *to = sql_empty(page_size);
         double t = now();
         sqlite3_backup *k = sqlite3_backup_init(to, "main", from, "main");
         int r;
@@ -65,7 +72,7 @@ static void measure(unsigned n) {
     for (unsigned i = 0; i < n; i++) must(vodzanu_insert(memory, memory_len, 1, i % TABLES, key_of(i), payload, 20));
     memcpy(second, memory, memory_len); /* dirty, before any checkpoint */
     memcpy(copy, image, image_len);
-    double begin = 1e18, step = 1e18, whole = 1e18, recover = 1e18, copying = 1e18, sixteen = 1e18;
+    double begin = 1e18, step = 1e18, whole = 1e18, test = 1e18, recover = 1e18, copying = 1e18, sixteen = 1e18;
     int64_t stores = 0;
     for (int round = 0; round < ROUNDS; round++) {
         memcpy(memory, second, memory_len);
@@ -86,6 +93,9 @@ static void measure(unsigned n) {
         must(vodzanu_run(image, image_len, memory, memory_len, 5000));
         whole = best(whole, now() - t);
         t = now();
+        for (int k = 0; k < 100; k++) if (vodzanu_open(memory, memory_len, 5000) != -6) exit(1);
+        test = best(test, (now() - t) / 100);
+        t = now();
         must(vodzanu_recover(image, image_len, memory, memory_len));
         recover = best(recover, now() - t);
         static uint8_t to[4096 * 512], block[16][512];
@@ -100,9 +110,14 @@ static void measure(unsigned n) {
         }
         sixteen = best(sixteen, (now() - t) / 100);
     }
-    double sql = backup(n, -1), stepped = backup(n, 1);
-    printf("N %4u stores %3ld begin %6.0f step %6.0f (16 copies of 512 bytes %4.0f: %.1f) checkpoint %7.0f (SQLite backup %7.0f: %.2f, page by page %7.0f: %.2f) recover %8.0f (copy %6.0f: %.0f)\n",
-           n, (long)stores, begin, step, sixteen, step / sixteen, whole, sql, whole / sql, stepped, whole / stepped, recover, copying, recover / copying);
+    printf("N %4u stores %3ld begin %6.0f step %6.0f (16 copies of 512 bytes %4.0f: %.1f) recover %8.0f (copy %6.0f: %.0f)\n",
+           n, (long)stores, begin, step, sixteen, step / sixteen, recover, copying, recover / copying);
+    printf("       checkpoint %7.0f, of that the test of the memory before each store %6.0f; SQLite backup", whole, test * stores);
+    for (int size = 4096; size >= 512; size /= 8) {
+        double sql = backup(n, -1, size), stepped = backup(n, 1, size);
+        printf(", pages of %d: %7.0f (%.2f), page by page %7.0f (%.2f)", size, sql, whole / sql, stepped, whole / stepped);
+    }
+    printf("\n");
 }
 
 int main(void) {
