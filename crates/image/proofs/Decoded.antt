@@ -16,13 +16,13 @@ use Rattle.basics.proofs.Facts.{clash}
 use Rattle.blocks.specs.Tuple.{Tuple}
 use Rattle.blocks.specs.Block.{Block, malformed, header, page, directory}
 use Rattle.blocks.specs.Decode.{readTuples, readEntries, decodeBlock}
-use Rattle.blocks.specs.Answers.{reading}
-use Rattle.blocks.specs.declared.Reading.{Reading}
-use Rattle.blocks.proofs.Reading.{the-type}
-use Rattle.blocks.specs.declared.Reading.the-variants.{IsPage}
+use Rattle.reader.specs.Answers.{reading}
+use Rattle.reader.specs.declared.Reading.{Reading}
+use Rattle.reader.proofs.Reading.{the-type}
+use Rattle.reader.specs.declared.Reading.the-variants.{IsPage}
 use Rattle.blocks.proofs.Laws.{decode-in-range, decode-entries}
-use Rattle.blocks.proofs.Answering.{answer-page}
-use Rattle.blocks.proofs.Walk.{walk-start}
+use Rattle.reader.proofs.Answering.{answer-page}
+use Rattle.reader.proofs.Walk.{walk-start}
 use Rattle.rows.specs.Rows.{rowsOf, markOk}
 use Rattle.rows.proofs.Ands.{and-assoc}
 use Rattle.image.specs.Stages.{pageOk}

@@ -17,9 +17,9 @@ use Rattle.bits.specs.Bits.{over}
 use Rattle.bits.proofs.Lists.{over-nil}
 use Rattle.blocks.specs.Block.{Block, malformed, header, page, directory}
 use Rattle.blocks.specs.Decode.{readEntries, decodeBlock}
-use Rattle.blocks.specs.Answers.{reading}
-use Rattle.blocks.specs.declared.Reading.{Reading}
-use Rattle.blocks.specs.declared.Reading.the-variants.{IsDirectory}
+use Rattle.reader.specs.Answers.{reading}
+use Rattle.reader.specs.declared.Reading.{Reading}
+use Rattle.reader.specs.declared.Reading.the-variants.{IsDirectory}
 use Rattle.blocks.proofs.Stores.{set-next, over-then}
 use Rattle.rows.proofs.Ands.{and-no}
 use Rattle.rows.proofs.Turns.{drop-turn, drop-end}

@@ -15,10 +15,10 @@ use Rattle.basics.proofs.Facts.{by, never, lie, and-true, clash}
 use Rattle.bits.specs.Bits.{over}
 use Rattle.blocks.specs.Block.{Block, malformed, header, page, directory}
 use Rattle.blocks.specs.Decode.{decodeBlock}
-use Rattle.blocks.specs.Answers.{reading}
+use Rattle.reader.specs.Answers.{reading}
 use Rattle.blocks.specs.declared.Header.{Header}
-use Rattle.blocks.specs.declared.Reading.{Reading}
-use Rattle.blocks.specs.declared.Reading.the-variants.{IsHeader}
+use Rattle.reader.specs.declared.Reading.{Reading}
+use Rattle.reader.specs.declared.Reading.the-variants.{IsHeader}
 use Rattle.rows.specs.Rows.{rowsOk}
 use Rattle.rows.proofs.Ands.{and-no}
 use Rattle.image.specs.View.{View, view, blockAt, blockCount}

@@ -9,9 +9,9 @@ use Rattle.basics.proofs.Lists.{map-append}
 use Rattle.blocks.specs.Tuple.{Tuple}
 use Rattle.blocks.specs.Bytes.{payloadIn, tupleOf}
 use Rattle.blocks.specs.declared.Record.{Record}
-use Rattle.blocks.specs.declared.Cursor.{Cursor}
-use Rattle.blocks.proofs.ReadTuples.{Found-is}
-use Rattle.blocks.proofs.Walk.{Left, turn, take-next}
+use Rattle.reader.specs.declared.Cursor.{Cursor}
+use Rattle.reader.proofs.Records.{Found-is}
+use Rattle.reader.proofs.Walk.{Left, turn, take-next}
 use Rattle.rows.specs.Rows.{Row, rowsOf, markOk}
 use Rattle.rows.specs.Columns.{bare}
 use Rattle.rows.proofs.Turns.{all-yes, all-not}

@@ -190,14 +190,14 @@ fn marks_ok(block: &[u8], count: u32) -> bool
     let mut at: usize = 8;
     let mut i: u32 = 0;
     while i < count {
-        match (blocks::Cursor { at: at }).next(block) {
-            blocks::Next::Found(r, c) => {
+        match (reader::Cursor { at: at }).next(block) {
+            reader::Next::Found(r, c) => {
                 if !mark_ok(r) {
                     return false;
                 }
                 at = c.at;
             }
-            blocks::Next::Bad => {
+            reader::Next::Bad => {
                 return false;
             }
         }
@@ -264,12 +264,12 @@ fn add_rows(
     let mut i: u32 = 0;
     let mut to = k;
     while i < count {
-        match (blocks::Cursor { at: at }).next(block) {
-            blocks::Next::Found(r, c) => {
+        match (reader::Cursor { at: at }).next(block) {
+            reader::Next::Found(r, c) => {
                 put_row(places, numbers, owners, marks, to, table, r);
                 at = c.at;
             }
-            blocks::Next::Bad => {
+            reader::Next::Bad => {
                 return;
             }
         }
@@ -282,8 +282,8 @@ fn add_rows(
 fn good_page(block: &[u8; 512], level: u32, room: usize) -> GoodPage
     ensures { λ r. ⌜ r ≡ goodPage level room (decodeBlock (now (block .entry))) ⌝ }
 {
-    match blocks::read_block(block) {
-        blocks::Reading::IsPage {
+    match reader::read_block(block) {
+        reader::Reading::IsPage {
             table,
             count,
             level: k,
@@ -394,15 +394,15 @@ fn add_entries(block: &[u8; 512], level: u32, left: usize, out: &mut [u32], at: 
     requires { ⌜ at + left ≤ length (now out) ⌝ }
     ensures { λ r. ⌜ Filled (addEntries level left (decodeBlock (now (block .entry))) (some [])) at (now (out .entry)) r (now (out .exit)) ⌝ }
 {
-    match blocks::read_block(block) {
-        blocks::Reading::IsDirectory { count, level: k } => {
+    match reader::read_block(block) {
+        reader::Reading::IsDirectory { count, level: k } => {
             if k != level {
                 return false;
             }
             if count != due(left) {
                 return false;
             }
-            let entries = blocks::read_entries(block, count);
+            let entries = reader::read_entries(block, count);
             put_entries(out, at, &entries, count);
             true
         }
@@ -446,8 +446,8 @@ pub fn test_header(image: &[u8]) -> HeaderTest
         return HeaderTest::Refused(1);
     }
     let block = block_at(image, 0);
-    match blocks::read_block(&block) {
-        blocks::Reading::IsHeader(h) => {
+    match reader::read_block(&block) {
+        reader::Reading::IsHeader(h) => {
             if head_ok(h, n as u32) {
                 return HeaderTest::Passed(h);
             }

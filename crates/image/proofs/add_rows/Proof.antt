@@ -4,11 +4,11 @@ use lib.ListN.{length, take, drop}
 use Prim.Native.Nat.{_+_, _-_, _≤_, _<_}
 use mathlib.Core.Path.{_≡_, refl, sym, _∙_}
 use native.Mathlib.Omega.{arith}
-use Rattle.blocks.proofs.Walk.{Left, left-start, left-end, left-bad, turn}
+use Rattle.reader.proofs.Walk.{Left, left-start, left-end, left-bad, turn}
 use Rattle.image.proofs.Walk.{row-first, row-next, row-last}
 use Rattle.rows.specs.Columns.{rowsIn, bare}
 use Rattle.rows.specs.Rows.{rowsOf}
-use Rattle.blocks.proofs.ReadTuples.{found-is, bad-is}
+use Rattle.reader.proofs.Records.{found-is, bad-is}
 use Rattle.blocks.specs.Bytes.{payloadIn}
 use Rattle.blocks.specs.Decode.{readTuples}
 use Rattle.blocks.specs.Tuple.{Tuple}

@@ -5,10 +5,10 @@ use mathlib.Core.List.{List}
 use mathlib.Core.Path.{_≡_, refl, sym, _∙_}
 use borrow.Author.Tests.{not-true, not-false}
 use native.Mathlib.Omega.{arith}
-use Rattle.blocks.proofs.Walk.{Left, left-start, left-end, left-bad, turn}
+use Rattle.reader.proofs.Walk.{Left, left-start, left-end, left-bad, turn}
 use Rattle.image.proofs.Walk.{mark-right, mark-wrong, marks-end}
 use Rattle.rows.specs.Rows.{rowsOf, markOk}
-use Rattle.blocks.proofs.ReadTuples.{found-is, bad-is}
+use Rattle.reader.proofs.Records.{found-is, bad-is}
 use Rattle.blocks.specs.Decode.{readTuples}
 use Rattle.blocks.specs.Tuple.{Tuple}
 use Rattle.basics.specs.Basics.{all}

@@ -10,18 +10,15 @@ use lib.Dec.{ltb, leb}
 use borrow.Author.Tests.{le-leb, lt-leb}
 use Rattle.basics.specs.Basics.{if_then_else_}
 use Rattle.basics.proofs.Facts.{by}
 use Rattle.blocks.specs.Numbers.{num4}
 use Rattle.blocks.specs.Decode.{taken, whole}
-use Rattle.blocks.specs.Bytes.{recordAt, nextAt}
-use Rattle.blocks.specs.declared.Next.the-variants.{Found, Bad}
+use Rattle.blocks.proofs.ReadTuples.{ownerPart}
+use Rattle.reader.specs.Answers.{recordAt, nextAt}
+use Rattle.reader.specs.declared.Next.the-variants.{Found, Bad}
 
 -- the ninth byte of the record at a place
 abbrev pub flagsAt : List ℕ → ℕ → ℕ
 flagsAt xs at = getD xs (at + 8) 0
-
--- four bytes more if tentative
-abbrev pub ownerPart : ℕ → ℕ
-ownerPart f = if ltb f 128 then 4 else 0
 
 pub part-small : (f : ℕ) → ownerPart f ≤ 4
 unfolding if_then_else_

@@ -1,13 +1,13 @@
--- `blocks::read_directory` meets its contract.
+-- `reader::read_directory` meets its contract.
 use mathlib.Core.Path.{_≡_, refl, sym, _∙_}
 use mathlib.Core.List.{List}
 use Prim.Native.Nat.{ℕ}
 use native.Mathlib.Omega.{arith}
 use lib.ListN.{length, take, length-take}
-use Rattle.blocks.proofs.Answering.{directory-many, directory-yes, directory-no}
+use Rattle.reader.proofs.Answering.{directory-many, directory-yes, directory-no}
 use borrow.Author.Needs.{needs}
-use Rattle.blocks.proofs.read_directory.Statement.{statement}
-use Rattle.blocks.proofs.read_directory.Tie as tie
+use Rattle.reader.proofs.read_directory.Statement.{statement}
+use Rattle.reader.proofs.read_directory.Tie as tie
 
 get-bits-requires : tie.Need-get-bits-requires
 get-bits-requires c κs = search needs

@@ -1,12 +1,12 @@
--- `blocks::same_block` meets its contract.
+-- `reader::same_block` meets its contract.
 use mathlib.Core.Path.{_≡_, refl, sym, _∙_}
 use Prim.Native.Nat.{_-_, _≤_}
 use native.Mathlib.Omega.{arith}
 use lib.ListN.{drop}
 use Rattle.blocks.specs.Numbers.{same}
-use Rattle.blocks.proofs.Same.{same-turn, same-stop, same-end}
-use Rattle.blocks.proofs.same_block.Statement.{statement}
-use Rattle.blocks.proofs.same_block.Tie as tie
+use Rattle.reader.proofs.Same.{same-turn, same-stop, same-end}
+use Rattle.reader.proofs.same_block.Statement.{statement}
+use Rattle.reader.proofs.same_block.Tie as tie
 
 abbrev Inv-loop : tie.InvT-loop
 Inv-loop a b i₀ i = (i ≤ 512) × (same a b ≡ same (drop i a) (drop i b))

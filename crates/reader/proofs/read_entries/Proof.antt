@@ -1,12 +1,12 @@
--- `blocks::read_entries` meets its contract.
+-- `reader::read_entries` meets its contract.
 use mathlib.Core.Path.{_≡_, refl}
 use Prim.Native.Nat.{_-_, _≤_}
 use native.Mathlib.Omega.{arith}
 use lib.ListN.{length, take, length-set}
 use Rattle.blocks.specs.Decode.{readEntries}
-use Rattle.blocks.proofs.Entries.{entries-turn}
-use Rattle.blocks.proofs.read_entries.Statement.{statement}
-use Rattle.blocks.proofs.read_entries.Tie as tie
+use Rattle.reader.proofs.Entries.{entries-turn}
+use Rattle.reader.proofs.read_entries.Statement.{statement}
+use Rattle.reader.proofs.read_entries.Tie as tie
 
 abbrev Inv-loop : tie.InvT-loop
 Inv-loop block count out₀ i₀ out i = (i ≤ count) × ((length out ≡ 336) × (take i out ≡ readEntries block 64 i))

@@ -10,16 +10,17 @@ use lib.Seq.{drop-drop}
 use Rattle.basics.specs.Basics.{if_then_else_}
 use Rattle.bits.specs.Bits.{over, bitsIn, field}
 use Rattle.bits.proofs.Blocks.{field-lt}
 use Rattle.blocks.specs.Tuple.{Tuple, AllBytes}
 use Rattle.blocks.specs.Block.{page, encodeBlock, PageFits}
 use Rattle.blocks.specs.Decode.{readTuple, taken, whole, readTuples}
 use Rattle.blocks.specs.Spell.{zeros}
 use Rattle.blocks.specs.Bytes.{sizeOf, bytesOfRecord, payloadIn, tupleOf, pageHead}
 use Rattle.blocks.specs.declared.Record.{Record}
-use Rattle.blocks.specs.declared.Cursor.{Cursor}
+use Rattle.reader.specs.declared.Cursor.{Cursor}
 use Rattle.blocks.proofs.Spelled.{bytes-drop}
-use Rattle.blocks.proofs.ReadTuples.{Found-is, read-all-fit, read-room}
+use Rattle.blocks.proofs.ReadTuples.{read-all-fit, read-room}
+use Rattle.reader.proofs.Records.{Found-is}
 use Rattle.blocks.proofs.Built.{Built, built-start, built-turn, built-end}
 
 map-same : (o : Option (List Tuple)) → Option·map (λ ts. [] ++ ts) o ≡ o
 map-same none = refl

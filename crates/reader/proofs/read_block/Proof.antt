@@ -1,11 +1,11 @@
--- `blocks::read_block` meets its contract.
+-- `reader::read_block` meets its contract.
 use mathlib.Core.Path.{sym, ap, _∙_}
 use native.Mathlib.Omega.{arith}
-use Rattle.blocks.specs.Answers.{reading}
-use Rattle.blocks.proofs.Answering.{kind-header, kind-page, kind-directory, reads-other}
+use Rattle.reader.specs.Answers.{reading}
+use Rattle.reader.proofs.Answering.{kind-header, kind-page, kind-directory, reads-other}
 use borrow.Author.Needs.{needs}
-use Rattle.blocks.proofs.read_block.Statement.{statement}
-use Rattle.blocks.proofs.read_block.Tie as tie
+use Rattle.reader.proofs.read_block.Statement.{statement}
+use Rattle.reader.proofs.read_block.Tie as tie
 
 get32-requires : tie.Need-get32-requires
 get32-requires c κs = search needs

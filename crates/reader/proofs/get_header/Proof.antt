@@ -1,8 +1,8 @@
--- `blocks::get_header` meets its contract.
+-- `reader::get_header` meets its contract.
 use Rattle.blocks.specs.Decode.{readHeader}
 use borrow.Author.Needs.{needs}
-use Rattle.blocks.proofs.get_header.Statement.{statement}
-use Rattle.blocks.proofs.get_header.Tie as tie
+use Rattle.reader.proofs.get_header.Statement.{statement}
+use Rattle.reader.proofs.get_header.Tie as tie
 
 get32-requires : tie.Need-get32-requires
 get32-requires c κs = search needs

@@ -1,12 +1,12 @@
--- `blocks::read_header` meets its contract.
+-- `reader::read_header` meets its contract.
 use mathlib.Core.Path.{sym, ap, _∙_}
 use mathlib.Core.List.{List}
 use Prim.Native.Nat.{ℕ}
 use Rattle.blocks.specs.Numbers.{same}
-use Rattle.blocks.proofs.Answering.{header-yes, header-no}
+use Rattle.reader.proofs.Answering.{header-yes, header-no}
 use borrow.Author.Needs.{needs}
-use Rattle.blocks.proofs.read_header.Statement.{statement}
-use Rattle.blocks.proofs.read_header.Tie as tie
+use Rattle.reader.proofs.read_header.Statement.{statement}
+use Rattle.reader.proofs.read_header.Tie as tie
 
 get-header-requires : tie.Need-get-header-requires
 get-header-requires c κs = search needs

@@ -9,22 +9,14 @@ use borrow.Author.Tests.{le-leb, lt-leb, ne-eqb}
 use Rattle.basics.specs.Basics.{if_then_else_}
 use Rattle.basics.proofs.Facts.{clash}
 use Rattle.bits.specs.Bits.{bitsIn, field}
 use Rattle.blocks.specs.Numbers.{same}
 use Rattle.blocks.specs.Tuple.{Tuple}
 use Rattle.blocks.specs.Block.{Block, malformed, header, page, directory, encodeBlock}
 use Rattle.blocks.specs.Decode.{spelledBy, readHeader, headerIn, readTuples, pageTable, pageCount, pageLevel, pageOf, pageIn, readEntries, directoryCount, directoryLevel, directoryIn, kind, decodeBlock}
-use Rattle.blocks.specs.Answers.{reading}
 use Rattle.blocks.specs.declared.Header.{Header}
-use Rattle.blocks.specs.declared.Reading.the-variants.{IsHeader, IsPage, IsDirectory, Malformed}
-
-module _ (xs : List ℕ) (b : Block) where
-  pub spelled-yes : same (encodeBlock b) xs ≡ true → spelledBy xs b ≡ b
-  unfolding spelledBy if_then_else_
-  spelled-yes s = rw s
-
-  pub spelled-no : same (encodeBlock b) xs ≡ false → spelledBy xs b ≡ malformed
-  unfolding spelledBy if_then_else_
-  spelled-no s = rw s
+use Rattle.blocks.proofs.Laws.{spelled-yes, spelled-no}
+use Rattle.reader.specs.Answers.{reading}
+use Rattle.reader.specs.declared.Reading.the-variants.{IsHeader, IsPage, IsDirectory, Malformed}
 
 -- ---- header
 

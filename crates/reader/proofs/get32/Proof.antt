@@ -1,10 +1,10 @@
--- `blocks::get32` meets its contract.
+-- `reader::get32` meets its contract.
 use Prim.Native.Nat.{_^_, _≤_}
 use native.Mathlib.Omega.{arith}
 use lib.Pow.{pow-mono}
 use borrow.Author.Needs.{needs}
-use Rattle.blocks.proofs.get32.Statement.{statement}
-use Rattle.blocks.proofs.get32.Tie as tie
+use Rattle.reader.proofs.get32.Statement.{statement}
+use Rattle.reader.proofs.get32.Tie as tie
 
 get-bits-requires : tie.Need-get-bits-requires
 get-bits-requires c κs = search needs

@@ -1,9 +1,9 @@
--- `blocks::get4` meets its contract.
+-- `reader::get4` meets its contract.
 use native.Mathlib.Omega.{arith}
 use Rattle.blocks.specs.Numbers.{num4}
 use borrow.Author.Needs.{needs}
-use Rattle.blocks.proofs.get4.Statement.{statement}
-use Rattle.blocks.proofs.get4.Tie as tie
+use Rattle.reader.proofs.get4.Statement.{statement}
+use Rattle.reader.proofs.get4.Tie as tie
 
 shared-slice-read-wide : tie.Need-shared-slice-read-wide
 shared-slice-read-wide c = search needs

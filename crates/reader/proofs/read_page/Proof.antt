@@ -1,26 +1,26 @@
--- `blocks::read_page` meets its contract.
+-- `reader::read_page` meets its contract.
 use mathlib.Core.Path.{_≡_, refl, sym, ap, _∙_}
 use mathlib.Core.List.{List}
 use Prim.Native.Nat.{ℕ, _+_, _-_, _<_}
 use native.Mathlib.Omega.{arith}
 use lib.ListN.{length}
 use Rattle.blocks.specs.Block.{Block, page, encodeBlock}
 use Rattle.blocks.specs.Tuple.{AllBytes}
 use Rattle.blocks.specs.Numbers.{same}
-use Rattle.blocks.proofs.Answering.{page-none, page-yes, page-no}
-use Rattle.blocks.proofs.Again.{Again, again-start, again-bad, again-turn, again-end, again-spells}
+use Rattle.reader.proofs.Answering.{page-none, page-yes, page-no}
+use Rattle.reader.proofs.Again.{Again, again-start, again-bad, again-turn, again-end, again-spells}
 use Rattle.blocks.proofs.Built.{built-length}
-use Rattle.blocks.proofs.ReadTuples.{found-is, bad-is}
+use Rattle.reader.proofs.Records.{found-is, bad-is}
 use Rattle.blocks.proofs.Spelled.{all-bytes}
-use Rattle.blocks.proofs.read_page.Statement.{statement}
-use Rattle.blocks.proofs.read_page.Tie as tie
-use Rattle.blocks.proofs.read_page.Reads as reads
-use Rattle.blocks.proofs.read_page.Lts as lts
+use Rattle.reader.proofs.read_page.Statement.{statement}
+use Rattle.reader.proofs.read_page.Tie as tie
+use Rattle.reader.proofs.read_page.Reads as reads
+use Rattle.reader.proofs.read_page.Lts as lts
 use Rattle.bits.proofs.get_bits.Reads as get-bits-reads
-use Rattle.blocks.proofs.Cursor.next.Reads as next-reads
+use Rattle.reader.proofs.Cursor.next.Reads as next-reads
 use Rattle.blocks.proofs.append.Reads as append-reads
 use Rattle.blocks.proofs.put_page_head.Reads as put-page-head-reads
-use Rattle.blocks.proofs.same_block.Reads as same-block-reads
+use Rattle.reader.proofs.same_block.Reads as same-block-reads
 
 abbrev Inv-loop : tie.InvT-loop
 Inv-loop block table count level copy₀ at₀ i₀ copy at i = (length copy ≡ 512) × Again block copy count at i

@@ -1,4 +1,4 @@
--- `blocks::Cursor::next` meets its contract.
+-- `reader::Cursor::next` meets its contract.
 use mathlib.Core.Path.{_≡_, sym, _∙_}
 use mathlib.Core.Logic.{⊎-elim}
 use mathlib.Core.List.{List}
@@ -6,11 +6,12 @@ use Prim.Native.Nat.{ℕ, _+_, _%_}
 use native.Mathlib.Omega.{arith}
 use lib.Dec.{ltb}
 use Rattle.basics.specs.Basics.{if_then_else_}
 use Rattle.blocks.specs.Numbers.{num4}
-use Rattle.blocks.proofs.Cursors.{ownerPart, owner-tentative, owner-committed, flagsAt, part-small, part-tentative, none-far, none-long, none-short, found-as}
+use Rattle.blocks.proofs.ReadTuples.{ownerPart}
+use Rattle.reader.proofs.Cursors.{owner-tentative, owner-committed, flagsAt, part-small, part-tentative, none-far, none-long, none-short, found-as}
 use borrow.Author.Needs.{needs}
-use Rattle.blocks.proofs.Cursor.next.Statement.{statement}
-use Rattle.blocks.proofs.Cursor.next.Tie as tie
+use Rattle.reader.proofs.Cursor.next.Statement.{statement}
+use Rattle.reader.proofs.Cursor.next.Tie as tie
 
 returns : tie.Need-returns
 returns c = let s = c .before .before in

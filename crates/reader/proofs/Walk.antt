@@ -9,15 +9,17 @@ use lib.ListN.{length, take, drop}
 use lib.Seq.{drop-drop, take-add}
 use Rattle.basics.specs.Basics.{if_then_else_}
 use Rattle.basics.proofs.Facts.{never}
 use Rattle.blocks.specs.Tuple.{Tuple}
 use Rattle.blocks.specs.Block.{page}
 use Rattle.blocks.specs.Decode.{readTuple, taken, whole, readTuples, decodeBlock}
-use Rattle.blocks.specs.Bytes.{nextAt, payloadIn, tupleOf}
+use Rattle.blocks.specs.Bytes.{payloadIn, tupleOf}
 use Rattle.blocks.specs.declared.Record.{Record}
-use Rattle.blocks.specs.declared.Cursor.{Cursor}
-use Rattle.blocks.specs.declared.Next.the-variants.{Found, Bad}
-use Rattle.blocks.proofs.ReadTuples.{split, none-is, Found-is, found-is, bad-is}
+use Rattle.blocks.proofs.ReadTuples.{split, none-is}
 use Rattle.blocks.proofs.Laws.{encode-length, page-tuples, decode-is}
+use Rattle.reader.specs.Answers.{nextAt}
+use Rattle.reader.specs.declared.Cursor.{Cursor}
+use Rattle.reader.specs.declared.Next.the-variants.{Found, Bad}
+use Rattle.reader.proofs.Records.{Found-is, found-is, bad-is}
 
 -- of the tuples ts, n in number, those from i on are still to be read, from place at on
 abbrev pub Left : List ℕ → ℕ → ℕ → ℕ → List Tuple → Type 0
