@@ -6,6 +6,8 @@ use mathlib.Core.List.{List}
 use Prim.Native.Nat.{ℕ, _≤_, _<_}
 use lib.ListN.{length, take, drop}
 use borrow.Author.Tests.{le-leb, lt-leb, ne-eqb}
+use types.Run.{OneOf}
+use denote.Enum.Declared.{tagOf}
 use Rattle.basics.specs.Basics.{if_then_else_}
 use Rattle.basics.proofs.Facts.{clash}
 use Rattle.bits.specs.Bits.{bitsIn, field}
@@ -16,7 +18,9 @@ use Rattle.blocks.specs.Decode.{spelledBy, readHeader, headerIn, readTuples, pa
 use Rattle.blocks.specs.declared.Header.{Header}
 use Rattle.blocks.proofs.Laws.{spelled-yes, spelled-no}
 use Rattle.reader.specs.Answers.{reading}
+use Rattle.reader.specs.declared.Reading.{Reading}
 use Rattle.reader.specs.declared.Reading.the-variants.{IsHeader, IsPage, IsDirectory, Malformed}
+use Rattle.reader.proofs.Reading.{the-type}
 
 -- ---- header
 
@@ -133,3 +137,7 @@ answer-malformed malformed e = refl
 answer-malformed (header k) e = clash cc
 answer-malformed (page t l ts) e = clash cc
 answer-malformed (directory l es) e = clash cc
+
+-- the reading is one of some variants, by their numbers
+abbrev pub OneOfThese : List ℕ → Reading → Type 0
+OneOfThese ks y = OneOf ks (tagOf the-type y)
