@@ -12,11 +12,9 @@ use Rattle.blocks.specs.Block.{Block, malformed, header, page, directory}
 use Rattle.blocks.specs.declared.Header.{Header}
 use Rattle.rows.specs.Rows.{Row, rowsOf, rowsOk}
 use Rattle.image.specs.View.{View}
-
 -- what a header and its directories may count and name
 pub use Rattle.naming.specs.Names.{capacityLimit, numbersOf}
 unfoldable pub use Rattle.naming.specs.Names.{blockOk, isZero, directoriesFor, directoryBlocks, unusedNumbers, headerOk, entriesOk}
-
 -- what a page block may be
 unfoldable pub use Rattle.one_page.specs.Page.{pageOk}
 
