@@ -1,6 +1,5 @@
 -- Records and a page's head byte by byte, as the code writes them: proofs/ show that they are the fields of Block.antt.
 use Prim.Native.Nat.{ℕ, _+_, _*_, _/_, _%_}
-use mathlib.Core.Bool.{Bool, true, false}
 use mathlib.Core.List.{List, [], _∷_, _++_}
 use lib.ListN.{take, drop}
 use lib.Dec.{ltb, leb}

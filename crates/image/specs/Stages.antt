@@ -1,6 +1,6 @@
 -- Recovery's tests in their stages: 1, 22, 23 and 24. (Refusal 3, the memory, stands between 22 and 23.)
 use Prim.Native.Nat.{ℕ, _-_, _/_, _%_, min}
-use mathlib.Core.Bool.{Bool, true, false, _&&_}
+use mathlib.Core.Bool.{Bool, _&&_}
 use mathlib.Core.Option.{Option, none, some, Option·map}
 use mathlib.Core.List.{List, [], _∷_, _++_}
 use lib.ListN.{length}

@@ -1,6 +1,5 @@
 -- What reading a block answers, and what the cursor finds in a page.
 use Prim.Native.Nat.{ℕ, _+_, _%_}
-use mathlib.Core.Bool.{Bool, true, false}
 use mathlib.Core.List.{List}
 use lib.ListN.{length, getD, drop}
 use lib.Dec.{ltb}
@@ -9,7 +8,6 @@ use Rattle.blocks.specs.Numbers.{num4}
 use Rattle.blocks.specs.Block.{Block, malformed, header, page, directory}
 use Rattle.blocks.specs.Decode.{taken, whole}
 use Rattle.blocks.specs.declared.Record.{Record}
-use Rattle.reader.specs.declared.Cursor.{Cursor}
 use Rattle.reader.specs.declared.Next.{Next}
 use Rattle.reader.specs.declared.Next.the-variants.{Found, Bad}
 use Rattle.reader.specs.declared.Reading.{Reading}
