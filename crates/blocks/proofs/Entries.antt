@@ -1,30 +1,16 @@
--- A directory: its entries are read one by one, and it is filled from the front.
+-- A directory is filled from the front.
 use mathlib.Core.Path.{_≡_, refl, sym, ap, _∙_}
 use mathlib.Core.List.{List, [], _∷_, _++_, append-assoc, append-nil}
-use Prim.Native.Nat.{ℕ, zero, suc, _+_, _*_, _≤_, _<_}
+use Prim.Native.Nat.{ℕ, _+_, _*_, _≤_, _<_}
 use native.Mathlib.Omega.{arith}
 use native.Mathlib.Numerals.{add-one}
-use lib.ListN.{length, take, getD, set, length-append, length-take}
-use lib.Seq.{take-suc, take-suc-set}
-use Rattle.bits.specs.Bits.{bitsOf, bitsIn, field, over}
+use lib.ListN.{length, take, getD, length-append, length-take}
+use lib.Seq.{take-suc}
+use Rattle.bits.specs.Bits.{bitsOf, bitsIn, over}
 use Rattle.bits.proofs.Numbers.{length-bitsOf}
 use Rattle.blocks.specs.Spell.{zeros, spell, filled}
 use Rattle.blocks.specs.Block.{directory, entryFields, directoryFields, encodeBlock}
-use Rattle.blocks.specs.Decode.{readEntries}
 use Rattle.blocks.proofs.Spelled.{all-bytes, block-is, put-next, length-spell, spell-append, put-fields, empty-block}
-
-entries-snoc : (xs : List ℕ) (at n : ℕ) → readEntries xs at (suc n) ≡ readEntries xs at n ++ (field (bitsIn xs) (at + 12 * n) 12 ∷ [])
-unfolding readEntries
-entries-snoc xs at zero = let z : at + 12 * 0 ≡ at = omega arith in rw z
-entries-snoc xs at (suc n) =
-    let e : at + 12 + 12 * n ≡ at + 12 * suc n = omega arith in
-    ap (λ (l : List ℕ). field (bitsIn xs) at 12 ∷ l) (entries-snoc xs (at + 12) n ∙ ap (λ (k : ℕ). readEntries xs (at + 12) n ++ (field (bitsIn xs) k 12 ∷ [])) e)
-
-pub entries-turn : (xs out : List ℕ) (i v : ℕ) → i < length out → take i out ≡ readEntries xs 64 i → v ≡ field (bitsIn xs) (64 + 12 * i) 12
-    → take (i + 1) (set out i v) ≡ readEntries xs 64 (i + 1)
-entries-turn xs out i v h e q = rw (add-one i, take-suc-set out i v h, e, q) (sym (entries-snoc xs 64 i))
-
--- ---- bits from the front
 
 -- the fields before the entries
 abbrev pub headFields : ℕ → ℕ → List (ℕ × ℕ)

@@ -1,5 +1,6 @@
 -- One reading and one spelling of a block (`decode-encode`, `encode-decode`); a block's length and bytes; what is read is in range.
 use mathlib.Core.Path.{_≡_, refl, sym, ap, _∙_}
+use mathlib.Core.Bool.{true, false}
 use mathlib.Core.Option.{some}
 use mathlib.Core.List.{List, [], _∷_, _++_, append-nil}
 use Prim.Native.Nat.{ℕ, zero, suc, _+_, _*_, _≤_, _<_}
@@ -27,7 +28,6 @@ use Rattle.blocks.proofs.Tuples.{count-sizes}
 use Rattle.blocks.proofs.Bitwise.{body, head-bits, length-head, page-bytes}
 use Rattle.blocks.proofs.ReadTuples.{read-all-fit, read-room}
 use Rattle.blocks.proofs.ReadBack.{read-records}
-use Rattle.blocks.proofs.Answering.{spelled-yes, spelled-no}
 
 -- ---- length and bytes
 
@@ -38,6 +38,17 @@ encode-length b = length-block (blockFields b)
 pub encode-bytes : (b : Block) → AllBytes (encodeBlock b)
 unfolding encodeBlock
 encode-bytes b = block-bytes (blockFields b)
+
+-- ---- a block is what it spells
+
+module _ (xs : List ℕ) (b : Block) where
+  pub spelled-yes : same (encodeBlock b) xs ≡ true → spelledBy xs b ≡ b
+  unfolding spelledBy if_then_else_
+  spelled-yes s = rw s
+
+  pub spelled-no : same (encodeBlock b) xs ≡ false → spelledBy xs b ≡ malformed
+  unfolding spelledBy if_then_else_
+  spelled-no s = rw s
 
 spells-itself : (b : Block) → spelledBy (encodeBlock b) b ≡ b
 spells-itself b = spelled-yes (encodeBlock b) b (same-refl (encodeBlock b))

@@ -1,15 +1,11 @@
 pub mod Same
 pub mod Stores
-pub mod Cursors
 pub mod Spelled
 pub mod Entries
-pub mod Answering
 pub mod Tuples
 pub mod Bitwise
 pub mod ReadTuples
 pub mod Built
-pub mod Again
 pub mod ReadBack
 pub mod Laws
 pub mod Cases
-pub mod Walk

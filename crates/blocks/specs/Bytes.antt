@@ -1,30 +1,13 @@
 -- Records and a page's head byte by byte, as the code writes them: proofs/ show that they are the fields of Block.antt.
 use Prim.Native.Nat.{ℕ, _+_, _*_, _/_, _%_}
-use mathlib.Core.Bool.{Bool, true, false}
 use mathlib.Core.List.{List, [], _∷_, _++_}
-use lib.ListN.{length, getD, take, drop}
+use lib.ListN.{take, drop}
 use lib.Dec.{ltb, leb}
 use Rattle.basics.specs.Basics.{if_then_else_}
-use Rattle.blocks.specs.Numbers.{be4, num4}
+use Rattle.blocks.specs.Numbers.{be4}
 use Rattle.blocks.specs.Tuple.{Tuple}
-use Rattle.blocks.specs.Decode.{readOwner, taken, whole}
+use Rattle.blocks.specs.Decode.{readOwner}
 use Rattle.blocks.specs.declared.Record.{Record}
-use Rattle.blocks.specs.declared.Cursor.{Cursor}
-use Rattle.blocks.specs.declared.Next.{Next}
-use Rattle.blocks.specs.declared.Next.the-variants.{Found, Bad}
-
--- the record at a place of a block
-unfoldable pub recordAt : List ℕ → ℕ → Record
-recordAt xs at =
-    let f = getD xs (at + 8) 0 in
-    record {
-      key = num4 xs at;
-      number = num4 xs (at + 4);
-      flags = f;
-      owner = if ltb f 128 then num4 xs (at + 9) else 0;
-      start = if ltb f 128 then at + 13 else at + 9;
-      len = f % 64;
-    }
 
 -- the payload of a record that stands in xs
 abbrev pub payloadIn : List ℕ → Record → List ℕ
@@ -39,10 +22,6 @@ tupleOf r p = record {
   mark = leb 64 (r .flags % 128);
   payload = p;
 }
-
--- the record at a cursor's place, with the cursor behind it
-unfoldable pub nextAt : List ℕ → ℕ → Next
-nextAt xs at = if whole (drop at xs) then Found (recordAt xs at) (record { at = at + taken (drop at xs) }) else Bad
 
 -- how many bytes a record takes
 unfoldable pub sizeOf : Record → ℕ

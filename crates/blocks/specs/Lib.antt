@@ -5,6 +5,5 @@ pub mod Spell
 pub mod Block
 pub mod Decode
 pub mod Bytes
-pub mod Answers
 pub mod Laws
 pub mod Cases

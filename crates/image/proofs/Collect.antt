@@ -5,12 +5,13 @@ use mathlib.Core.Option.{Option, none, some, Option·map}
 use mathlib.Core.List.{List, [], _∷_, _++_, map, append-assoc, append-nil}
 use Prim.Native.Nat.{ℕ, zero, suc, _+_, _-_, _*_, _/_, _≤_, _<_}
 use native.Mathlib.Omega.{arith}
-use lib.ListN.{length, drop, getD, length-append}
+use lib.ListN.{length, take, drop, getD, length-append, length-take, length-drop, drop-of-length-le}
 use lib.Dec.{ltb, leb}
 use borrow.Author.Tests.{le-leb, lt-leb, leb-true, leb-false, ltb-true}
 use Rattle.basics.specs.Basics.{if_then_else_, all, every}
 use Rattle.basics.proofs.Facts.{by, by-option, never, and-true}
 use Rattle.basics.proofs.Lists.{map-append}
+use Rattle.bits.specs.Bits.{over}
 use Rattle.blocks.specs.Tuple.{Tuple}
 use Rattle.blocks.specs.Block.{Block, malformed, header, page, directory}
 use Rattle.blocks.specs.Decode.{readTuples, decodeBlock}
@@ -20,12 +21,13 @@ use Rattle.rows.specs.Columns.{bare, tab, rowsIn, columnsOk}
 use Rattle.rows.proofs.Ands.{and-yes, and-no, and-assoc}
 use Rattle.rows.proofs.Turns.{drop-turn, drop-end}
 use Rattle.rows.proofs.Bare.{columns-bare, rows-tests}
+use Rattle.one_page.specs.Page.{goodPage}
+use Rattle.one_page.specs.declared.GoodPage.{GoodPage}
+use Rattle.one_page.specs.declared.GoodPage.the-variants.{Good, Bad}
+use Rattle.one_page.proofs.Decoded.{page-tuples}
 use Rattle.image.specs.View.{View, view, blockAt, blockCount}
 use Rattle.image.specs.Stages.{refuses, holds, blockOk, StoredPage, pageOk, addPage, readPages, rowsOfPages, testedPages, pageTest}
-use Rattle.image.specs.Answers.{goodPage, accepts}
-use Rattle.image.specs.declared.GoodPage.{GoodPage}
-use Rattle.image.specs.declared.GoodPage.the-variants.{Good, Bad}
-use Rattle.image.proofs.Decoded.{page-tuples}
+use Rattle.image.specs.Answers.{accepts}
 
 -- ---- lists
 
@@ -245,6 +247,13 @@ module _ (v : View) (h : Header) (es : List ℕ) where
       (ap (Option·map (λ qs. a .done ++ qs)) (sym (next i to columns a l)) ∙ sym (a .rest) ∙ q))
 
 -- ---- the block that the code holds
+
+pub whole-copy : (m xs : List ℕ) (k : ℕ) → length m ≡ 512 → 512 * k + 512 ≤ length xs → over m 0 (take 512 (drop (512 * k) xs)) ≡ blockAt xs k
+unfolding over blockAt
+whole-copy m xs k l h =
+    let p : length (take 512 (drop (512 * k) xs)) ≡ 512 = simp (length-take, length-drop) (omega arith) in
+    let q : length m ≤ 0 + length (take 512 (drop (512 * k) xs)) = omega arith in
+    rw (drop-of-length-le m q) (append-nil (take 512 (drop (512 * k) xs)))
 
 module _ (xs es : List ℕ) (i x : ℕ) (bs : List ℕ) (b : bs ≡ blockAt xs x) (e : x ≡ getD es i 0) where
   pub seen : decodeBlock bs ≡ view xs (getD es i 0)

@@ -17,16 +17,17 @@ use Rattle.bits.specs.Bits.{over}
 use Rattle.bits.proofs.Lists.{over-nil}
 use Rattle.blocks.specs.Block.{Block, malformed, header, page, directory}
 use Rattle.blocks.specs.Decode.{readEntries, decodeBlock}
-use Rattle.blocks.specs.Answers.{reading}
-use Rattle.blocks.specs.declared.Reading.{Reading}
-use Rattle.blocks.specs.declared.Reading.the-variants.{IsDirectory}
+use Rattle.reader.specs.Answers.{reading}
+use Rattle.reader.specs.declared.Reading.{Reading}
+use Rattle.reader.specs.declared.Reading.the-variants.{IsDirectory}
+use Rattle.reader.proofs.Answering.{OneOfThese}
+use Rattle.blocks.proofs.Laws.{decode-in-range, decode-entries}
 use Rattle.blocks.proofs.Stores.{set-next, over-then}
 use Rattle.rows.proofs.Ands.{and-no}
 use Rattle.rows.proofs.Turns.{drop-turn, drop-end}
 use Rattle.image.specs.View.{View}
 use Rattle.image.specs.Stages.{addEntries, readDirectories}
 use Rattle.image.specs.Answers.{Filled}
-use Rattle.image.proofs.Decoded.{OneOfThese, directory-entries}
 
 -- one entry more
 pub put-turn : (m s : List ℕ) (at i v : ℕ) → at + i < length m → i < length s → v ≡ getD s i 0
@@ -36,6 +37,16 @@ put-turn m s at i v hm hs e =
     set-next m (take i s) at i v l (omega arith) ∙ ap (over m at) (rw (e, add-one i) (sym (take-suc s i 0 hs)))
 
 -- ---- one directory block
+
+pub record Entries (xs es : List ℕ) : Type 0 where
+  pub most : length es ≤ 336
+  pub read : readEntries xs 64 (length es) ≡ es
+
+-- the entries of a directory are those that are read from its block
+pub directory-entries : (xs : List ℕ) (k : ℕ) (es : List ℕ) → decodeBlock xs ≡ directory k es → Entries xs es
+directory-entries xs k es e =
+    let range = decode-in-range xs (directory k es) e (λ m. clash cc) in
+    record { most = range .count; read = decode-entries xs k es e }
 
 -- a directory that was read
 pub record Read (n k : ℕ) (xs : List ℕ) (b : Block) : Type 0 where

@@ -15,10 +15,11 @@ use Rattle.basics.proofs.Facts.{by, never, lie, and-true, clash}
 use Rattle.bits.specs.Bits.{over}
 use Rattle.blocks.specs.Block.{Block, malformed, header, page, directory}
 use Rattle.blocks.specs.Decode.{decodeBlock}
-use Rattle.blocks.specs.Answers.{reading}
+use Rattle.reader.specs.Answers.{reading}
 use Rattle.blocks.specs.declared.Header.{Header}
-use Rattle.blocks.specs.declared.Reading.{Reading}
-use Rattle.blocks.specs.declared.Reading.the-variants.{IsHeader}
+use Rattle.reader.specs.declared.Reading.{Reading}
+use Rattle.reader.specs.declared.Reading.the-variants.{IsHeader}
+use Rattle.reader.proofs.Answering.{OneOfThese}
 use Rattle.rows.specs.Rows.{rowsOk}
 use Rattle.rows.proofs.Ands.{and-no}
 use Rattle.image.specs.View.{View, view, blockAt, blockCount}
@@ -27,8 +28,7 @@ use Rattle.image.specs.Whole.{headerStage, pagesBelow, pagesStage, withH
 use Rattle.image.specs.Answers.{Filled, accepts, headerAnswer, noEntries, entriesIn, pagesAnswer, imageAnswer}
 use Rattle.image.specs.declared.HeaderTest.the-variants.{Passed, Refused}
 use Rattle.image.specs.declared.PagesTest.{PagesTest}
-use Rattle.image.proofs.Heads.{Counts, counts-are, header-tests}
-use Rattle.image.proofs.Decoded.{OneOfThese}
+use Rattle.naming.proofs.Heads.{Counts, counts-are, header-tests}
 use Rattle.image.proofs.Named.{filled-yes, filled-not}
 
 -- ---- 1 and 22

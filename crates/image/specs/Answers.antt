@@ -1,50 +1,25 @@
 -- What the functions of the tests answer.
-use Prim.Native.Nat.{ℕ, _+_, _-_, _≤_}
+use Prim.Native.Nat.{ℕ}
 use mathlib.Core.Path.{_≡_}
-use mathlib.Core.Bool.{Bool, true, false, _&&_}
+use mathlib.Core.Bool.{Bool, true, false}
 use mathlib.Core.Option.{Option, none, some}
-use mathlib.Core.List.{List, [], _∷_, _++_, map}
-use lib.ListN.{length}
-use lib.Dec.{eqb, leb}
-use Rattle.basics.specs.Basics.{if_then_else_, all, every}
+use mathlib.Core.List.{List, map}
 use Rattle.bits.specs.Bits.{over}
 use Rattle.blocks.specs.Spell.{zeros}
-use Rattle.blocks.specs.Block.{Block, malformed, header, page, directory}
 use Rattle.blocks.specs.declared.Header.{Header}
-use Rattle.rows.specs.Rows.{rowsOf, markOk}
-use Rattle.image.specs.Stages.{Stage, refuses, holds, capacityLimit, directoriesFor, StoredPage, pageOk}
+use Rattle.image.specs.Stages.{Stage, refuses, holds, StoredPage}
 use Rattle.image.specs.Whole.{Contents}
 use Rattle.image.specs.declared.HeaderTest.{HeaderTest}
 use Rattle.image.specs.declared.HeaderTest.the-variants.{Passed, Refused}
 use Rattle.image.specs.declared.PagesTest.{PagesTest}
 use Rattle.image.specs.declared.ImageTest.{ImageTest}
-use Rattle.image.specs.declared.GoodPage.{GoodPage}
-use Rattle.image.specs.declared.GoodPage.the-variants.{Good, Bad}
 
 -- ---- parts of the tests
-
--- the header's tests that look at its counts
-unfoldable pub countsOk : ℕ → Header → Bool
-countsOk n h =
-    every (
-    eqb (h .blocks) n
-    ∷ leb 1 (h .capacity)
-    ∷ leb (h .capacity) capacityLimit
-    ∷ leb (h .pages) (h .capacity)
-    ∷ eqb (h .directories) (directoriesFor (h .pages))
-    ∷ [])
 
 -- numbers are put over those of out from a place on, if there are any to put
 abbrev pub Filled : Option (List ℕ) → ℕ → List ℕ → Bool → List ℕ → Type 0
 Filled none at out r out′ = r ≡ false
 Filled (some es) at out r out′ = (r ≡ true) × (out′ ≡ over out at es)
-
--- a page with room for its tuples, its delete marks right
-unfoldable pub goodPage : ℕ → ℕ → Block → GoodPage
-goodPage l room malformed = Bad
-goodPage l room (header h) = Bad
-goodPage l room (page t k ts) = if every (pageOk l k ts ∷ leb (length ts) room ∷ all markOk (rowsOf t ts) ∷ []) then Good t (length ts) else Bad
-goodPage l room (directory k es) = Bad
 
 -- the stage passed
 unfoldable pub accepts : {A : Type 0} → Stage A → Bool

@@ -1,10 +1,10 @@
 // The listing of an image as text. Each function but the last two puts its text into out from a place on and answers the place after it; what
 // does not fit is left out.
-use blocks::Cursor;
-use blocks::Next;
-use blocks::Reading;
 use blocks::Record;
 use libc::STDOUT_FILENO;
+use reader::Cursor;
+use reader::Next;
+use reader::Reading;
 
 fn text(out: &mut [u8], at: usize, s: &[u8]) -> usize {
     let mut to = at;
@@ -91,7 +91,7 @@ fn page(out: &mut [u8], at: usize, image: &[u8], e: u32) -> usize {
         return at;
     }
     let block = image::block_at(image, i);
-    match blocks::read_block(&block) {
+    match reader::read_block(&block) {
         Reading::IsPage {
             table,
             count,

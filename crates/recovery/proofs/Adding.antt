@@ -11,7 +11,7 @@ use Rattle.basics.proofs.Lists.{map-append}
 use Rattle.blocks.specs.Tuple.{Tuple}
 use Rattle.blocks.specs.Block.{Block, malformed, header, page, directory}
 use Rattle.blocks.specs.Decode.{decodeBlock}
-use Rattle.blocks.proofs.Walk.{Walk, walk-start}
+use Rattle.reader.proofs.Walk.{Walk, walk-start}
 use Rattle.model.specs.State.{Held}
 use Rattle.model.specs.Rules.{calm}
 use Rattle.memory.specs.Flat.{Flat, flatOf, Room, Becomes, withRows, insertAt}

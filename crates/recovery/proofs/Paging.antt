@@ -11,14 +11,13 @@ use Rattle.basics.proofs.Facts.{clash}
 use Rattle.blocks.specs.Tuple.{Tuple}
 use Rattle.blocks.specs.Block.{Block, malformed, header, page, directory}
 use Rattle.blocks.specs.Decode.{decodeBlock}
-use Rattle.blocks.specs.Answers.{reading}
-use Rattle.blocks.specs.declared.Reading.{Reading}
-use Rattle.blocks.specs.declared.Reading.the-variants.{IsPage}
-use Rattle.blocks.proofs.Answering.{answer-page}
+use Rattle.reader.specs.Answers.{reading}
+use Rattle.reader.specs.declared.Reading.{Reading}
+use Rattle.reader.specs.declared.Reading.the-variants.{IsPage}
+use Rattle.reader.proofs.Answering.{answer-page, OneOfThese}
 use Rattle.blocks.proofs.Laws.{decode-in-range}
 use Rattle.image.specs.View.{view, blockAt}
 use Rattle.image.specs.Stages.{StoredPage}
-use Rattle.image.proofs.Decoded.{OneOfThese}
 use Rattle.model.specs.State.{Held}
 use Rattle.model.specs.Rules.{calm}
 use Rattle.memory.specs.Flat.{Flat, flatOf, Room, Becomes, withRows, withEntries, withUsed, insertAt, usedAnd}

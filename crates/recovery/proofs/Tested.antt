@@ -17,7 +17,7 @@ use Rattle.rows.specs.Rows.{Row, number, rowsOk, transactions, follows, startsW
 use Rattle.image.specs.View.{View, view, blockCount}
 use Rattle.image.specs.Stages.{holds, wholeBlocks, blockOk, directoryBlocks, readDirectories, entriesOk, testedEntries, directoryTest, StoredPage, pageOk, addPage, readPages, rowsOfPages, testedPages, pageTest}
 use Rattle.image.specs.Whole.{headerStage, pagesBelow, pagesStage}
-use Rattle.image.proofs.Heads.{Counts}
+use Rattle.naming.proofs.Heads.{Counts}
 use Rattle.image.proofs.Staged.{Passing, passing, entries-count}
 use Rattle.model.proofs.Recovery.{refuses-holds, holds-eq, read-blocks}
 use Rattle.model.proofs.Bytes.{view-sane, blocks-whole}

@@ -74,13 +74,13 @@ fn load_rows(block: &[u8], count: u32, m: &mut [u8])
     let mut at: usize = 8;
     let mut i: u32 = 0;
     while i < count {
-        match (blocks::Cursor { at: at }).next(block) {
-            blocks::Next::Found(r, c) => {
+        match (reader::Cursor { at: at }).next(block) {
+            reader::Next::Found(r, c) => {
                 let s = row_of(block, r);
                 memory::insert_row(m, to, s);
                 at = c.at;
             }
-            blocks::Next::Bad => {
+            reader::Next::Bad => {
                 return;
             }
         }
@@ -98,8 +98,8 @@ fn load_page(image: &[u8], e: usize, m: &mut [u8])
     ensures { λ _. ⌜ Loads (pageAt e (view (now (image .entry)) e)) (now (m .entry)) (now (m .exit)) ⌝ }
 {
     let block = image::block_at(image, e);
-    match blocks::read_block(&block) {
-        blocks::Reading::IsPage {
+    match reader::read_block(&block) {
+        reader::Reading::IsPage {
             table,
             count,
             level: _,

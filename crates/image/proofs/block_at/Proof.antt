@@ -1,7 +1,7 @@
 use mathlib.Core.Path.{refl, _∙_}
 use borrow.Author.Needs.{needs}
 use Rattle.blocks.specs.Spell.{zeros}
-use Rattle.image.proofs.Places.{whole-copy}
+use Rattle.image.proofs.Collect.{whole-copy}
 use Rattle.image.proofs.block_at.Statement.{statement}
 use Rattle.image.proofs.block_at.Tie as tie
 

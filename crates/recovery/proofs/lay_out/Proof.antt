@@ -3,7 +3,7 @@ use Rattle.recovery.proofs.Laying.{pages-room, opens-room, head-fits, l
 use Rattle.recovery.proofs.Tested.{Sure, sure}
 use Rattle.recovery.proofs.Naming.{named-more}
 use Rattle.recovery.specs.Loading.{pagesAt}
-use Rattle.image.proofs.Heads.{used}
+use Rattle.naming.proofs.Heads.{used}
 use Rattle.image.specs.Stages.{numbersOf, directoryBlocks, blockOk}
 use Rattle.image.specs.View.{view}
 use Rattle.basics.specs.Basics.{all}

@@ -5,7 +5,7 @@ use Rattle.recovery.specs.Loading.{tuplesIn, AddsRows}
 use Rattle.memory.specs.declared.Counts.{Counts}
 use Rattle.memory.specs.Flat.{flatOf}
 use Rattle.model.specs.Rules.{calm}
-use Rattle.blocks.proofs.Walk.{Walk, walk-found, walk-bad}
+use Rattle.reader.proofs.Walk.{Walk, walk-found, walk-bad}
 use Rattle.blocks.specs.Tuple.{Tuple}
 use Rattle.blocks.specs.Decode.{decodeBlock}
 use native.Mathlib.Omega.{arith}

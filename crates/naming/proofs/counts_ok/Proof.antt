@@ -1,0 +1,35 @@
+use borrow.Author.Tests.{le-leb, lt-leb, eq-eqb, ne-eqb}
+use borrow.Author.Needs.{needs}
+use Rattle.rows.proofs.Ands.{and-yes, and-no}
+use Rattle.naming.specs.Names.{directoriesFor, countsOk}
+use Rattle.basics.specs.Basics.{every}
+use Rattle.naming.proofs.counts_ok.Statement.{statement}
+use Rattle.naming.proofs.counts_ok.Tie as tie
+
+returns : tie.Need-returns
+unfolding countsOk every
+returns c = rw (ne-eqb _ _ (c .if1 .taken))
+
+returns-2 : tie.Need-returns-2
+unfolding countsOk every
+returns-2 c = rw (lt-leb _ _ (c .if2 .taken), and-no)
+
+returns-3 : tie.Need-returns-3
+unfolding countsOk every
+returns-3 c = rw (lt-leb _ _ (c .if3 .taken), and-no, and-no)
+
+returns-4 : tie.Need-returns-4
+unfolding countsOk every
+returns-4 c = rw (lt-leb _ _ (c .if4 .taken), and-no, and-no, and-no)
+
+add-result : tie.Need-add-result
+add-result c = search needs
+
+returns-5 : tie.Need-returns-5
+unfolding countsOk every directoriesFor
+returns-5 c =
+    let p2 = c .before .before in let p4 = p2 .before .before in let p6 = p4 .before .before in let p8 = p6 .before .before in
+    rw (eq-eqb _ _ (p8 .if1 .left), le-leb _ _ (p6 .if2 .left), le-leb _ _ (p4 .if3 .left), le-leb _ _ (p2 .if4 .left), and-yes)
+
+pub counts-ok-spec : {M : Type 1} → statement M
+counts-ok-spec = tie.close (tie.spec returns returns-2 returns-3 returns-4 add-result returns-5)

@@ -1,0 +1,100 @@
+-- `reader::Cursor::next` meets its contract.
+use mathlib.Core.Path.{_≡_, sym, _∙_}
+use mathlib.Core.Logic.{⊎-elim}
+use mathlib.Core.List.{List}
+use Prim.Native.Nat.{ℕ, _+_, _%_}
+use native.Mathlib.Omega.{arith}
+use lib.Dec.{ltb}
+use Rattle.basics.specs.Basics.{if_then_else_}
+use Rattle.blocks.specs.Numbers.{num4}
+use Rattle.blocks.proofs.ReadTuples.{ownerPart}
+use Rattle.reader.proofs.Cursors.{owner-tentative, owner-committed, flagsAt, part-small, part-tentative, none-far, none-long, none-short, found-as}
+use borrow.Author.Needs.{needs}
+use Rattle.reader.proofs.Cursor.next.Statement.{statement}
+use Rattle.reader.proofs.Cursor.next.Tie as tie
+
+returns : tie.Need-returns
+returns c = let s = c .before .before in
+    sym (none-far (s .args .block .now) (s .args .self .at) (s .pre) (omega arith))
+
+add-flags : tie.Need-add-flags
+add-flags c = search needs
+
+shared-slice-read-flags : tie.Need-shared-slice-read-flags
+shared-slice-read-flags c = search needs
+
+cast-len : tie.Need-cast-len
+cast-len c = search needs
+
+returns-2 : tie.Need-returns-2
+returns-2 c = let s = c .before .before .before .before in
+    sym (none-long (s .args .block .now) (s .args .self .at) (s .pre) (omega (arith, c .before .before .if1 .left)) (omega (arith, c .if2 .taken)))
+
+record-size-requires : tie.Need-record-size-requires
+record-size-requires c κs = search needs
+
+add-end : tie.Need-add-end
+add-end c = let s = c .before .before .before .before .before in
+    let f : ℕ = flagsAt (s .args .block .now) (s .args .self .at) in
+    let e : c .record-size .result ≡ 9 + ownerPart f + f % 64 = c .record-size .ensures in
+    omega (arith, part-small f)
+
+returns-3 : tie.Need-returns-3
+returns-3 c = let p4 = c .before .before .before .before in let s = p4 .before .before in
+    let z = c .before .record-size in
+    sym (none-short (s .args .block .now) (s .args .self .at) (s .pre) (omega (arith, p4 .if1 .left)) (omega (arith, c .before .before .if2 .left)) (z .result)
+    (z .ensures) (omega (arith, c .if3 .taken)))
+
+add-get4 : tie.Need-add-get4
+add-get4 c = omega (arith, c .before .before .before .before .before .if1 .left)
+
+get4-requires : tie.Need-get4-requires
+get4-requires c κs = let s = c .before .before .before .before .before .before .before in
+    let f : ℕ = flagsAt (s .args .block .now) (s .args .self .at) in
+    let e : c .before .before .record-size .result ≡ 9 + ownerPart f + f % 64 = c .before .before .record-size .ensures in
+    omega (arith, part-tentative f (c .if4 .taken), c .before .if3 .left, s .pre)
+
+get4-requires-2 : tie.Need-get4-requires-2
+get4-requires-2 c κs = omega (arith, c .before .before .before .before .before .if1 .left, c .before .before .before .before .before .before .before .pre)
+
+add-get4-2 : tie.Need-add-get4-2
+add-get4-2 c = omega (arith, c .before .before .before .before .before .before .if1 .left)
+
+get4-requires-3 : tie.Need-get4-requires-3
+get4-requires-3 c κs = let s = c .before .before .before .before .before .before .before .before in
+    omega (arith, c .before .before .before .before .before .before .if1 .left, s .pre)
+
+sub-t17 : tie.Need-sub-t17
+sub-t17 c = omega (arith, c .before .before .before .before .record-size .ensures)
+
+returns-4 : tie.Need-returns-4
+returns-4 c = let s = c .before .before .before .before .before .before .before .before .before in
+    let xs : List ℕ = s .args .block .now in
+    let at : ℕ = s .args .self .at in
+    let f : ℕ = flagsAt xs at in
+    let w : ℕ = num4 xs (at + 9) in
+    let z = c .before .before .before .before .record-size in
+    let o : c .before .before .if4 .owner ≡ (if ltb f 128 then w else 0) =
+    ⊎-elim (λ h. h .2 ∙ h .1 .ensures ∙ owner-tentative f w (h .0 .taken)) (λ h. h .1 ∙ owner-committed f w (h .0 .left)) (c .before .before .if4 .came) in
+    found-as xs at (s .pre) (omega (arith, c .before .before .before .before .before .before .before .if1 .left)) (omega (arith, c .before .before .before .before .before .if2 .left)) (z .result) (z .ensures) (c .before .get42 .ensures)
+    (c .get43 .ensures) o (omega (arith, c .before .before .before .if3 .left))
+
+pub next-spec : {M : Type 1} → statement M
+next-spec =
+    tie.close
+    (tie.spec
+    returns
+    add-flags
+    shared-slice-read-flags
+    cast-len
+    returns-2
+    record-size-requires
+    add-end
+    returns-3
+    add-get4
+    get4-requires
+    get4-requires-2
+    add-get4-2
+    get4-requires-3
+    sub-t17
+    returns-4)

@@ -1,0 +1,79 @@
+-- What the cursor finds at a place of a block.
+use mathlib.Core.Path.{_≡_, sym}
+use mathlib.Core.Bool.{true, false}
+use mathlib.Core.List.{List}
+use Prim.Native.Nat.{ℕ, _+_, _-_, _%_, _≤_, _<_}
+use native.Mathlib.Omega.{arith}
+use lib.ListN.{length, drop, getD, length-drop}
+use lib.Seq.{getD-drop}
+use lib.Dec.{ltb, leb}
+use borrow.Author.Tests.{le-leb, lt-leb}
+use Rattle.basics.specs.Basics.{if_then_else_}
+use Rattle.basics.proofs.Facts.{by}
+use Rattle.blocks.specs.Numbers.{num4}
+use Rattle.blocks.specs.Decode.{taken, whole}
+use Rattle.blocks.proofs.ReadTuples.{ownerPart}
+use Rattle.reader.specs.Answers.{recordAt, nextAt}
+use Rattle.reader.specs.declared.Next.the-variants.{Found, Bad}
+
+-- the ninth byte of the record at a place
+abbrev pub flagsAt : List ℕ → ℕ → ℕ
+flagsAt xs at = getD xs (at + 8) 0
+
+pub part-small : (f : ℕ) → ownerPart f ≤ 4
+unfolding if_then_else_
+part-small f = by (ltb f 128) (λ h. rw h (omega arith)) (λ h. rw h (omega arith))
+
+pub part-tentative : (f : ℕ) → ltb f 128 ≡ true → ownerPart f ≡ 4
+unfolding if_then_else_
+part-tentative f h = rw h
+
+pub owner-tentative : (f n : ℕ) → ltb f 128 ≡ true → n ≡ (if ltb f 128 then n else 0)
+unfolding if_then_else_
+owner-tentative f n h = rw h
+
+pub owner-committed : (f n : ℕ) → ltb f 128 ≡ false → 0 ≡ (if ltb f 128 then n else 0)
+unfolding if_then_else_
+owner-committed f n h = rw h
+
+pub taken-at : (xs : List ℕ) (at : ℕ) → taken (drop at xs) ≡ 9 + ownerPart (flagsAt xs at) + flagsAt xs at % 64
+unfolding taken
+taken-at xs at = rw (getD-drop at xs 8 0)
+
+start-at : (f at : ℕ) → (if ltb f 128 then at + 13 else at + 9) ≡ at + (9 + ownerPart f + f % 64) - f % 64
+unfolding if_then_else_
+start-at f at = by (ltb f 128) (λ h. rw h (omega arith)) (λ h. rw h (omega arith))
+
+module _ (xs : List ℕ) (at : ℕ) (l : length xs ≡ 512) where
+  left : length (drop at xs) ≡ 512 - at
+  left = rw (length-drop at xs, l)
+
+  pub none-far : 503 < at → nextAt xs at ≡ Bad
+  unfolding nextAt whole if_then_else_
+  none-far h = rw (left, lt-leb 9 (512 - at) (omega arith))
+
+  module _ (n : at ≤ 503) where
+    pub none-long : 40 < flagsAt xs at % 64 → nextAt xs at ≡ Bad
+    unfolding nextAt whole if_then_else_
+    none-long h = rw (left, le-leb 9 (512 - at) (omega arith), getD-drop at xs 8 0, lt-leb (flagsAt xs at % 64) 40 h)
+
+    module _ (p : flagsAt xs at % 64 ≤ 40) (e : ℕ) (t : e ≡ 9 + ownerPart (flagsAt xs at) + flagsAt xs at % 64) where
+      fits : whole (drop at xs) ≡ leb e (512 - at)
+      unfolding whole
+      fits = rw (left, le-leb 9 (512 - at) (omega arith), getD-drop at xs 8 0, le-leb (flagsAt xs at % 64) 40 p, taken-at xs at, t)
+
+      pub none-short : 512 < at + e → nextAt xs at ≡ Bad
+      unfolding nextAt if_then_else_
+      none-short h = rw (fits, lt-leb e (512 - at) (omega arith))
+
+      found-whole : (o : ℕ) → o ≡ (if ltb (flagsAt xs at) 128 then num4 xs (at + 9) else 0) → at + e ≤ 512
+          → nextAt xs at ≡ Found
+          (record { key = num4 xs at; number = num4 xs (at + 4); flags = flagsAt xs at; owner = o; start = at + e - flagsAt xs at % 64; len = flagsAt xs at % 64 })
+          (record { at = at + e })
+      unfolding nextAt recordAt if_then_else_
+      found-whole o eo h = rw (fits, le-leb e (512 - at) (omega arith), ← eo, start-at (flagsAt xs at) at, taken-at xs at, t)
+
+      pub found-as : {k n o : ℕ} → k ≡ num4 xs at → n ≡ num4 xs (at + 4) → o ≡ (if ltb (flagsAt xs at) 128 then num4 xs (at + 9) else 0) → at + e ≤ 512
+          → Found (record { key = k; number = n; flags = flagsAt xs at; owner = o; start = at + e - flagsAt xs at % 64; len = flagsAt xs at % 64 }) (record { at = at + e })
+          ≡ nextAt xs at
+      found-as {k} {n} {o} key number owner h = rw (key, number) (sym (found-whole o owner h))

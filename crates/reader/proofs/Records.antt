@@ -1,0 +1,115 @@
+-- The record that the cursor finds is the tuple that is read there.
+use mathlib.Core.Path.{_≡_, refl}
+use mathlib.Core.Bool.{true, false}
+use mathlib.Core.List.{List}
+use Prim.Native.Nat.{ℕ, _+_, _%_, _≤_}
+use native.Mathlib.Omega.{arith}
+use native.Mathlib.Nat.{add-assoc, add-zero}
+use lib.ListN.{length, drop, length-take, length-drop}
+use lib.Seq.{getD-drop, drop-drop}
+use lib.Dec.{ltb}
+use Rattle.basics.specs.Basics.{if_then_else_}
+use Rattle.basics.proofs.Facts.{by}
+use Rattle.blocks.specs.Numbers.{num4}
+use Rattle.blocks.specs.Decode.{readOwner, readTuple, taken, whole}
+use Rattle.blocks.specs.Bytes.{sizeOf, payloadIn, tupleOf}
+use Rattle.blocks.specs.declared.Record.{Record}
+use Rattle.blocks.proofs.ReadTuples.{ownerPart, whole-parts, owner-size}
+use Rattle.reader.specs.Answers.{recordAt, nextAt}
+use Rattle.reader.specs.declared.Cursor.{Cursor}
+use Rattle.reader.specs.declared.Next.the-variants.{Found, Bad}
+use Rattle.reader.proofs.Cursors.{flagsAt, taken-at}
+
+num4-drop : (xs : List ℕ) (at n : ℕ) → num4 (drop at xs) n ≡ num4 xs (at + n)
+unfolding num4
+num4-drop xs at n =
+    rw (getD-drop at xs n 0, getD-drop at xs (n + 1) 0, getD-drop at xs (n + 2) 0, getD-drop at xs (n + 3) 0, add-assoc at n 1, add-assoc at n 2, add-assoc at n 3)
+
+module _ (xs : List ℕ) (at : ℕ) where
+  owner-read : (f n : ℕ) → readOwner f (if ltb f 128 then n else 0) ≡ readOwner f n
+  unfolding readOwner if_then_else_
+  owner-read f n = by (ltb f 128) (λ h. rw h) (λ h. rw h)
+
+  start-read : (f : ℕ) → (if ltb f 128 then at + 13 else at + 9) ≡ at + (9 + ownerPart f)
+  unfolding if_then_else_
+  start-read f = by (ltb f 128) (λ h. rw h) (λ h. rw h)
+
+  -- the record at a place is the tuple that is read there
+  pub record-tuple : tupleOf (recordAt xs at) (payloadIn xs (recordAt xs at)) ≡ readTuple (drop at xs)
+  unfolding tupleOf recordAt readTuple
+  record-tuple =
+      let f = flagsAt xs at in
+      rw (
+        num4-drop xs at 0,
+        num4-drop xs at 4,
+        num4-drop xs at 9,
+        getD-drop at xs 8 0,
+        add-zero at,
+        owner-read f (num4 xs (at + 9)),
+        owner-size f (num4 xs (at + 9)),
+        start-read f,
+        drop-drop (9 + ownerPart f) at xs,
+      )
+
+  pub record-taken : sizeOf (recordAt xs at) ≡ taken (drop at xs)
+  unfolding sizeOf recordAt if_then_else_
+  record-taken = rw (taken-at xs at) (by (ltb (flagsAt xs at) 128) (λ h. rw h) (λ h. rw h))
+
+  record-ends : recordAt xs at .start + recordAt xs at .len ≡ at + taken (drop at xs)
+  unfolding recordAt
+  record-ends = rw (taken-at xs at, start-read (flagsAt xs at)) (omega arith)
+
+  record-length : recordAt xs at .len ≡ recordAt xs at .flags % 64
+  unfolding recordAt
+  record-length = refl
+
+  record-flags : recordAt xs at .flags ≡ flagsAt xs at
+  unfolding recordAt
+  record-flags = refl
+
+  -- what a record that the cursor found is
+  pub record Found-is (r : Record) (c : Cursor) : Type 0 where
+    pub is-whole : whole (drop at xs) ≡ true
+    pub flags : r .flags ≡ flagsAt xs at
+    pub length-flags : r .len ≡ r .flags % 64
+    pub limit : r .len ≤ 40
+    pub payload : length (payloadIn xs r) ≡ r .len
+    pub inside : r .start + r .len ≤ length xs
+    pub tuple : tupleOf r (payloadIn xs r) ≡ readTuple (drop at xs)
+    pub takes : sizeOf r ≡ taken (drop at xs)
+    pub next : c .at ≡ at + taken (drop at xs)
+    pub ends : c .at ≤ length xs
+
+  pub found-is : {r : Record} {c : Cursor} → at ≤ length xs → Found r c ≡ nextAt xs at → Found-is r c
+  unfolding nextAt if_then_else_
+  found-is {r} {c} room e =
+      by (whole (drop at xs))
+      (λ w.
+      let k : Found r c ≡ Found (recordAt xs at) (record { at = at + taken (drop at xs) }) = rw w at e in
+      let er : r ≡ recordAt xs at = cc in
+      let ec : c ≡ record { at = at + taken (drop at xs) } = cc in
+      let h = whole-parts (drop at xs) w in
+      let d = length-drop at xs in
+      let fl = getD-drop at xs 8 0 in
+      let end : recordAt xs at .start + recordAt xs at .len ≤ length xs = omega (arith, record-ends, h .1 .1) in
+      let l : length (payloadIn xs (recordAt xs at)) ≡ recordAt xs at .len = simp (length-take, length-drop) (omega arith) in
+      rw (er, ec) (record {
+        is-whole = w;
+        flags = record-flags;
+        length-flags = record-length;
+        limit = omega (arith, record-length, record-flags, h .1 .0, fl);
+        payload = l;
+        inside = end;
+        tuple = record-tuple;
+        takes = record-taken;
+        next = refl;
+        ends = omega (arith, h .1 .1);
+      }))
+      (λ w. let k : Found r c ≡ Bad = rw w at e in let z : _≡_ {A = ℕ} 0 1 = cc in absurd (omega arith))
+
+  pub bad-is : Bad ≡ nextAt xs at → whole (drop at xs) ≡ false
+  unfolding nextAt if_then_else_
+  bad-is e =
+      by (whole (drop at xs))
+      (λ w. let k : Bad ≡ Found (recordAt xs at) (record { at = at + taken (drop at xs) }) = rw w at e in let z : _≡_ {A = ℕ} 0 1 = cc in absurd (omega arith))
+      (λ w. w)

@@ -1,0 +1,227 @@
+// What 512 bytes are as a block: its fields are read, spelled again and compared; and a page, record by record.
+use blocks::Header;
+use blocks::PageLayout;
+use blocks::Record;
+ghost use mathlib.Core.Path.{_≡_};
+ghost use Prim.Native.Nat.{_+_, _<_, _≤_};
+ghost use lib.ListN.{length, take};
+ghost use Rattle.bits.specs.Bits.{bitsIn, field};
+ghost use Rattle.blocks.specs.Limits.{entriesPerBlock};
+ghost use Rattle.blocks.specs.Numbers.{num4, same};
+ghost use Rattle.blocks.specs.Decode.{readHeader, readEntries, headerIn, pageIn, directoryIn, decodeBlock};
+ghost use Rattle.reader.specs.Answers.{nextAt, reading};
+
+// A place in a page's block, before a record.
+pub struct Cursor {
+    pub at: usize,
+}
+
+// What stands at a cursor.
+pub enum Next {
+    Found(Record, Cursor),
+    Bad,
+}
+
+// What a block is. A page's tuples and a directory's entries stay in the block.
+pub enum Reading {
+    IsHeader(Header),
+    IsPage { table: u32, count: u32, level: u32 },
+    IsDirectory { count: usize, level: u32 },
+    Malformed,
+}
+
+fn wide(x: u8) -> u64
+    ensures { λ r. ⌜ (r ≡ x) × (r < 256) ⌝ }
+{
+    x as u64
+}
+
+// The number in four bytes, high byte first.
+fn get4(block: &[u8], at: usize) -> u32
+    requires { ⌜ at + 4 ≤ length (now block) ⌝ }
+    ensures { λ r. ⌜ r ≡ num4 (now (block .entry)) at ⌝ }
+{
+    (wide(block[at]) * 16777216
+        + wide(block[at + 1]) * 65536
+        + wide(block[at + 2]) * 256
+        + wide(block[at + 3])) as u32
+}
+
+impl Cursor {
+    // Before a page's first record.
+    pub fn first() -> Self
+        ensures { λ r. ⌜ r .at ≡ 8 ⌝ }
+    {
+        Self { at: 8 }
+    }
+
+    // The record at the cursor, if a whole one is there.
+    pub fn next(self, block: &[u8]) -> Next
+        requires { ⌜ length (now block) ≡ 512 ⌝ }
+        ensures { λ r. ⌜ r ≡ nextAt (now (block .entry)) (self .at) ⌝ }
+    {
+        let at = self.at;
+        if 503 < at {
+            return Next::Bad;
+        }
+        let flags = block[at + 8];
+        let len = (flags % 64) as usize;
+        if PageLayout::PAYLOAD_LIMIT < len {
+            return Next::Bad;
+        }
+        let tentative = flags < 128;
+        let end = at + PageLayout::record_size(len, tentative);
+        if 512 < end {
+            return Next::Bad;
+        }
+        let mut owner: u32 = 0;
+        if tentative {
+            owner = get4(block, at + 9);
+        }
+        let found = Record {
+            key: get4(block, at),
+            number: get4(block, at + 4),
+            flags: flags,
+            owner: owner,
+            start: end - len,
+            len: len,
+        };
+        Next::Found(found, Cursor { at: end })
+    }
+}
+
+// The two blocks are the same.
+fn same_block(a: &[u8], b: &[u8]) -> bool
+    requires { ⌜ (length (now a) ≡ 512) × (length (now b) ≡ 512) ⌝ }
+    ensures { λ r. ⌜ r ≡ same (now (a .entry)) (now (b .entry)) ⌝ }
+{
+    let mut i: usize = 0;
+    while i < 512 {
+        if a[i] != b[i] {
+            return false;
+        }
+        i = i + 1;
+    }
+    true
+}
+
+// The number in at most 32 bits of a block.
+fn get32(block: &[u8; 512], at: usize, width: usize) -> u32
+    requires { ⌜ (at + width ≤ 4096) × (width ≤ 32) ⌝ }
+    ensures { λ r. ⌜ r ≡ field (bitsIn (now (block .entry))) at width ⌝ }
+{
+    bits::get_bits(block, at, width) as u32
+}
+
+// A page is what it spells: its records are copied one by one into an empty block, then its head, and the two are compared.
+fn read_page(block: &[u8]) -> Reading
+    requires { ⌜ length (now block) ≡ 512 ⌝ }
+    ensures { λ r. ⌜ r ≡ reading (pageIn (now (block .entry))) ⌝ }
+{
+    let table = bits::get_bits(block, 4, 3) as u32;
+    let count = bits::get_bits(block, 7, 6) as u32;
+    let level = bits::get_bits(block, 22, 32) as u32;
+    let mut copy = [0u8; 512];
+    let mut at: usize = 8;
+    let mut i: u32 = 0;
+    while i < count {
+        match (Cursor { at: at }).next(block) {
+            Next::Found(r, _) => {
+                at = blocks::append(&mut copy, at, r, block);
+            }
+            Next::Bad => {
+                return Reading::Malformed;
+            }
+        }
+        i = i + 1;
+    }
+    blocks::put_page_head(&mut copy, table, count, at as u32 - 8, level);
+    if same_block(&copy, block) {
+        return Reading::IsPage {
+            table: table,
+            count: count,
+            level: level,
+        };
+    }
+    Reading::Malformed
+}
+
+// The entries of a directory's block, as many as count says.
+pub fn read_entries(block: &[u8; 512], count: usize) -> [u16; 336]
+    requires { ⌜ count ≤ entriesPerBlock ⌝ }
+    ensures { λ r. ⌜ take count r ≡ readEntries (now (block .entry)) 64 count ⌝ }
+{
+    let mut out = [0u16; 336];
+    let mut i: usize = 0;
+    while i < count {
+        out[i] = bits::get_bits(block, 64 + 12 * i, 12) as u16;
+        i = i + 1;
+    }
+    out
+}
+
+// A directory is what it spells.
+fn read_directory(block: &[u8; 512]) -> Reading
+    ensures { λ r. ⌜ r ≡ reading (directoryIn (now (block .entry))) ⌝ }
+{
+    let count = bits::get_bits(block, 4, 9) as usize;
+    if blocks::ENTRIES_PER_BLOCK < count {
+        return Reading::Malformed;
+    }
+    let level = get32(block, 13, 32);
+    let entries = read_entries(block, count);
+    let mut copy = [0u8; 512];
+    blocks::spell_directory(&mut copy, level, &entries, count);
+    if same_block(&copy, block) {
+        return Reading::IsDirectory {
+            count: count,
+            level: level,
+        };
+    }
+    Reading::Malformed
+}
+
+// The fields of a header's block.
+fn get_header(block: &[u8; 512]) -> Header
+    ensures { λ r. ⌜ r ≡ readHeader (now (block .entry)) ⌝ }
+{
+    Header {
+        blocks: get32(block, 4, 13),
+        capacity: get32(block, 17, 11),
+        level: get32(block, 28, 32),
+        next: get32(block, 60, 32),
+        pages: get32(block, 92, 11),
+        directories: get32(block, 103, 3),
+        d0: get32(block, 106, 12),
+        d1: get32(block, 118, 12),
+        d2: get32(block, 130, 12),
+        d3: get32(block, 142, 12),
+    }
+}
+
+// A header is what it spells.
+fn read_header(block: &[u8; 512]) -> Reading
+    ensures { λ r. ⌜ r ≡ reading (headerIn (now (block .entry))) ⌝ }
+{
+    let h = get_header(block);
+    let mut copy = [0u8; 512];
+    blocks::spell_header(&mut copy, h);
+    if same_block(&copy, block) {
+        return Reading::IsHeader(h);
+    }
+    Reading::Malformed
+}
+
+// What a block is: by its first four bits a header, a page or a directory, and any other is refused.
+pub fn read_block(block: &[u8; 512]) -> Reading
+    ensures { λ r. ⌜ r ≡ reading (decodeBlock (now (block .entry))) ⌝ }
+{
+    let kind = get32(block, 0, 4);
+    match kind {
+        1 => read_header(block),
+        2 => read_page(block),
+        3 => read_directory(block),
+        0 | 4..=15 => Reading::Malformed,
+        _ => Reading::Malformed,
+    }
+}
