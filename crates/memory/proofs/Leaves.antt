@@ -6,7 +6,7 @@ use native.Mathlib.Omega.{arith}
 use mathlib.Core.List.{List, [], _∷_, _++_}
 use lib.ListN.{length, set}
 use Rattle.memory.specs.Bytes.{Apart, Shifted, Lowered}
-use Rattle.memory.specs.Views.{cell, tab, word, half, rowOf, entryOf, headAt, countAt, opensAt, rowsAt, entriesAt, namedAt, directoriesAt, Only}
+use Rattle.memory.specs.Views.{cell, tab, word, half, rowOf, entryOf, headAt, firstAt, countAt, opensAt, rowsAt, entriesAt, namedAt, directoriesAt, Only}
 use Rattle.memory.specs.Flat.{flatOf, opensOf, rowsOf, entriesOf, namedOf, directoriesOf, Room, Becomes, withOpens, withRows, withEntries, withNamed, withDirectories, insertAt, removeAt}
 use Rattle.memory.specs.declared.Row.{Row}
 use Rattle.memory.specs.declared.Entry.{Entry}
@@ -15,28 +15,30 @@ use Rattle.memory.proofs.Changes.{known, recount, recount-none, rows-be
 
 -- n is the count that was read; q: the count that was written
 module _ (m : List ℕ) (r : Room m) (n : ℕ) where
-  module _ (en : n ≡ countAt m 0) where
+  module _ (en : n ≡ countAt m 0) (b : ℕ) (eb : b ≡ 1024 + firstAt m * 80) where
     pub row-in : {m1 m2 m' : List ℕ} (i : ℕ) (s : Row) → i ≤ length (rowsOf m) → length (rowsOf m) < headAt m .capacity → length m' ≡ length m
-        → Shifted m m1 (1024 + i * 80) (1024 + n * 80) 80 → Only rowOf 1024 80 56 m1 m2 i s → Only word 64 4 4 m2 m' 0 (n + 1)
+        → Shifted m m1 (b + i * 80) (b + n * 80) 80 → Only rowOf b 80 56 m1 m2 i s → Only word 64 4 4 m2 m' 0 (n + 1)
         → Becomes m m' (withRows (flatOf m) (insertAt i s (rowsOf m)))
     unfolding rowsOf
     row-in {m1} {m2} {m'} i s h f l sh o q =
         let k = known m r in
-        rows-become m m2 m' (1024 + i * 80) (1024 + n * 80 - (1024 + i * 80) + 80) (n + 1) r l
-        (apart-then (1024 + i * 80) (1024 + n * 80 - (1024 + i * 80) + 80) (sh .apart) (o .apart) (omega arith) (omega arith) (omega arith) (omega arith))
+        rows-become m m2 m' (b + i * 80) (b + n * 80 - (b + i * 80) + 80) (n + 1) r l
+        (apart-then (b + i * 80) (b + n * 80 - (b + i * 80) + 80) (sh .apart) (o .apart) (omega arith) (omega arith) (omega arith) (omega arith))
         (insertAt i s (rowsOf m)) (omega arith) (omega arith) (recount q) (omega arith)
-        (cells-insert rowOf 1024 80 56 (omega arith) n sh o (omega arith) ∙ ap (λ (z : ℕ). insertAt i s (rowsAt m z)) en)
+        (ap (λ (z : ℕ). tab (cell rowOf z 80 56 m2) 0 (n + 1)) (sym eb) ∙ cells-insert rowOf b 80 56 (omega arith) n sh o (omega arith)
+        ∙ ap (λ (z : ℕ). insertAt i s (tab (cell rowOf z 80 56 m) 0 n)) eb ∙ ap (λ (z : ℕ). insertAt i s (rowsAt m (firstAt m) z)) en)
 
     pub row-out : {m1 m' : List ℕ} (i : ℕ) → i < length (rowsOf m) → length m' ≡ length m
-        → Lowered m m1 (1024 + i * 80) (1024 + n * 80) 80 → Only word 64 4 4 m1 m' 0 (n - 1) → Becomes m m' (withRows (flatOf m) (removeAt i (rowsOf m)))
+        → Lowered m m1 (b + i * 80) (b + n * 80) 80 → Only word 64 4 4 m1 m' 0 (n - 1) → Becomes m m' (withRows (flatOf m) (removeAt i (rowsOf m)))
     unfolding rowsOf
     row-out {m1} {m'} i h l sh q =
         let k = known m r in
-        rows-become m m1 m' (1024 + i * 80) (1024 + n * 80 - (1024 + i * 80)) (n - 1) r l (sh .apart)
+        rows-become m m1 m' (b + i * 80) (b + n * 80 - (b + i * 80)) (n - 1) r l (sh .apart)
         (removeAt i (rowsOf m)) (omega arith) (omega arith) (recount q) (omega arith)
-        (cells-remove rowOf 1024 80 56 (omega arith) n sh (omega arith) ∙ ap (λ (z : ℕ). removeAt i (rowsAt m z)) en)
+        (ap (λ (z : ℕ). tab (cell rowOf z 80 56 m1) 0 (n - 1)) (sym eb) ∙ cells-remove rowOf b 80 56 (omega arith) n sh (omega arith)
+        ∙ ap (λ (z : ℕ). removeAt i (tab (cell rowOf z 80 56 m) 0 n)) eb ∙ ap (λ (z : ℕ). removeAt i (rowsAt m (firstAt m) z)) en)
 
-  module _ (en : n ≡ countAt m 1) (b : ℕ) (eb : b ≡ 1024 + headAt m .capacity * 80) where
+  module _ (en : n ≡ countAt m 1) (b : ℕ) (eb : b ≡ 1024 + headAt m .capacity * 100) where
     pub entry-in : {m1 m2 m' : List ℕ} (i : ℕ) (e : Entry) → i ≤ length (entriesOf m) → length (entriesOf m) < headAt m .capacity → length m' ≡ length m
         → Shifted m m1 (b + i * 8) (b + n * 8) 8 → Only entryOf b 8 6 m1 m2 i e → Only word 64 4 4 m2 m' 1 (n + 1)
         → Becomes m m' (withEntries (flatOf m) (insertAt i e (entriesOf m)))
@@ -77,7 +79,7 @@ module _ (m : List ℕ) (r : Room m) (n : ℕ) where
         (removeAt i (opensOf m)) (omega arith) (omega arith) (recount q) (omega arith)
         (cells-remove word 128 4 4 (omega arith) n sh (omega arith) ∙ ap (λ (z : ℕ). removeAt i (opensAt m z)) en)
 
-  module _ (en : n ≡ countAt m 3) (b : ℕ) (eb : b ≡ 1024 + headAt m .capacity * 88) where
+  module _ (en : n ≡ countAt m 3) (b : ℕ) (eb : b ≡ 1024 + headAt m .capacity * 108) where
     pub named-in : {m2 m' : List ℕ} (x : ℕ) → length (namedOf m) < headAt m .capacity → length m' ≡ length m
         → Only half b 2 2 m m2 n x → Only word 64 4 4 m2 m' 3 (n + 1) → Becomes m m' (withNamed (flatOf m) (namedOf m ++ x ∷ []))
     unfolding namedOf
@@ -100,15 +102,17 @@ kept-count : {m m' : List ℕ} {a n : ℕ} (k : ℕ) → k < 5 → Apart m m' a 
 kept-count k b p h = cell-off word 64 4 4 (omega arith) p k (inl (omega arith))
 
 module _ (m : List ℕ) (r : Room m) {m' : List ℕ} (l : length m' ≡ length m) where
-  pub row-set : (i : ℕ) (s : Row) → i < length (rowsOf m) → Only rowOf 1024 80 56 m m' i s → Becomes m m' (withRows (flatOf m) (set (rowsOf m) i s))
+  pub row-set : (b : ℕ) → b ≡ 1024 + firstAt m * 80 → (i : ℕ) (s : Row) → i < length (rowsOf m) → Only rowOf b 80 56 m m' i s
+      → Becomes m m' (withRows (flatOf m) (set (rowsOf m) i s))
   unfolding rowsOf
-  row-set i s h o =
+  row-set b eb i s h o =
       let k = known m r in
       let en : countAt m' 0 ≡ countAt m 0 = kept-count 0 (omega arith) (o .apart) (omega arith) in
-      rows-become m m' m' (1024 + i * 80) 80 (countAt m 0) r l (o .apart) (set (rowsOf m) i s) (omega arith) (omega arith) (recount-none m' 0 _ en) (k .rows)
-      (cells-set rowOf 1024 80 56 (omega arith) (countAt m 0) o (omega arith))
+      rows-become m m' m' (b + i * 80) 80 (countAt m 0) r l (o .apart) (set (rowsOf m) i s) (omega arith) (omega arith) (recount-none m' 0 _ en) (k .rows)
+      (ap (λ (z : ℕ). tab (cell rowOf z 80 56 m') 0 (countAt m 0)) (sym eb) ∙ cells-set rowOf b 80 56 (omega arith) (countAt m 0) o (omega arith)
+      ∙ ap (λ (z : ℕ). set (tab (cell rowOf z 80 56 m) 0 (countAt m 0)) i s) eb)
 
-  pub entry-set : (b : ℕ) → b ≡ 1024 + headAt m .capacity * 80 → (i : ℕ) (e : Entry) → i < length (entriesOf m) → Only entryOf b 8 6 m m' i e
+  pub entry-set : (b : ℕ) → b ≡ 1024 + headAt m .capacity * 100 → (i : ℕ) (e : Entry) → i < length (entriesOf m) → Only entryOf b 8 6 m m' i e
       → Becomes m m' (withEntries (flatOf m) (set (entriesOf m) i e))
   unfolding entriesOf
   entry-set b eb i e h o =
@@ -118,7 +122,7 @@ module _ (m : List ℕ) (r : Room m) {m' : List ℕ} (l : length m' ≡ length m
       (ap (λ (z : ℕ). tab (cell entryOf z 8 6 m') 0 (countAt m 1)) (sym eb) ∙ cells-set entryOf b 8 6 (omega arith) (countAt m 1) o (omega arith)
       ∙ ap (λ (z : ℕ). set (tab (cell entryOf z 8 6 m) 0 (countAt m 1)) i e) eb)
 
-  pub named-set : (b : ℕ) → b ≡ 1024 + headAt m .capacity * 88 → (i x : ℕ) → i < length (namedOf m) → Only half b 2 2 m m' i x
+  pub named-set : (b : ℕ) → b ≡ 1024 + headAt m .capacity * 108 → (i x : ℕ) → i < length (namedOf m) → Only half b 2 2 m m' i x
       → Becomes m m' (withNamed (flatOf m) (set (namedOf m) i x))
   unfolding namedOf
   named-set b eb i x h o =
@@ -138,7 +142,7 @@ module _ (m : List ℕ) (r : Room m) {m' : List ℕ} (l : length m' ≡ length m
 
   -- a list is emptied by its count alone
   pub named-none : Only word 64 4 4 m m' 3 0 → Becomes m m' (withNamed (flatOf m) [])
-  named-none q = named-become m m m' (1024 + headAt m .capacity * 88) 0 0 r l (apart-none m _ 0) [] (omega arith) (recount q) (omega arith) refl
+  named-none q = named-become m m m' (1024 + headAt m .capacity * 108) 0 0 r l (apart-none m _ 0) [] (omega arith) (recount q) (omega arith) refl
 
   pub directories-none : Only word 64 4 4 m m' 4 0 → Becomes m m' (withDirectories (flatOf m) [])
   directories-none q = directories-become m m m' 96 0 0 r l (apart-none m _ 0) [] (omega arith) (omega arith) (recount q) (omega arith) refl

@@ -1,7 +1,7 @@
 -- The tests that decide whether the memory holds a store, and what they mean.
 use mathlib.Core.Path.{_≡_, refl, sym, ap, _∙_}
 use mathlib.Core.Bool.{Bool, true, false, _&&_}
-use Prim.Native.Nat.{ℕ, _+_, _*_, _-_, _≤_, _<_}
+use Prim.Native.Nat.{ℕ, _+_, _*_, _-_, _/_, _≤_, _<_}
 use native.Mathlib.Omega.{arith}
 use mathlib.Core.List.{List, [], _∷_}
 use lib.ListN.{length}
@@ -11,7 +11,7 @@ use Rattle.basics.specs.Basics.{every, all, sum}
 use Rattle.basics.proofs.Facts.{and-true}
 use Rattle.blocks.specs.Numbers.{num4}
 use Rattle.model.specs.Recover.{memoryFor}
-use Rattle.memory.specs.Views.{tab, headAt, entriesAt}
+use Rattle.memory.specs.Views.{tab, headAt, firstAt, entriesAt}
 use Rattle.memory.specs.Flat.{flatOf, entriesOf, rowsOf, countsOf, signature, InRange, Room}
 use Rattle.memory.specs.Store.{inRange, total, hasRows, fillsRows, filled, holdsStore}
 use Rattle.memory.specs.declared.Entry.{Entry}
@@ -151,7 +151,8 @@ held-room m e =
     let t1 = every-true _ _ e in
     let t2 = every-true _ _ (t1 .1) in
     let t3 = every-true _ _ (t2 .1) in
-    record { sign = eqb-true _ _ (t2 .0); range = range-in _ _ _ (t3 .0) }
+    let t4 = every-true _ _ (t3 .1) in
+    record { sign = eqb-true _ _ (t2 .0); range = range-in _ _ _ (t3 .0); first = leb-true _ _ (t4 .0) }
 
 pub held-filled : (m : List ℕ) → holdsStore m ≡ true → filled (flatOf m) ≡ true
 unfolding holdsStore
@@ -159,7 +160,8 @@ held-filled m e =
     let t1 = every-true _ _ e in
     let t2 = every-true _ _ (t1 .1) in
     let t3 = every-true _ _ (t2 .1) in
-    sym (every-one _) ∙ t3 .1
+    let t4 = every-true _ _ (t3 .1) in
+    sym (every-one _) ∙ t4 .1
 
 -- room and the entries' sum are the whole test
 pub room-held : (m : List ℕ) → Room m → filled (flatOf m) ≡ true → holdsStore m ≡ true
@@ -168,6 +170,7 @@ room-held m r e =
     every-cons _ _ (le-leb 1024 (length m) (omega (arith, r .range .long)))
     ∙ every-cons _ _ (eq-eqb _ _ (r .sign))
     ∙ every-cons _ _ (in-range _ _ _ (r .range))
+    ∙ every-cons _ _ (le-leb _ _ (r .first))
     ∙ every-one _
     ∙ e
 
@@ -191,10 +194,22 @@ module _ (m : List ℕ) (s : ℕ) (h : Head) (n : Counts) (b : Bool) (big : 1024
   out-of-range f =
       sym (every-cons _ _ (le-leb 1024 (length m) big) ∙ every-cons _ _ (eq-eqb _ _ (sym es ∙ sign)) ∙ every-stop _ _ (sym range-is ∙ f))
 
-  pub last-test : b ≡ true → holdsStore m ≡ filled (flatOf m)
-  unfolding holdsStore
-  last-test f =
-      every-cons _ _ (le-leb 1024 (length m) big) ∙ every-cons _ _ (eq-eqb _ _ (sym es ∙ sign)) ∙ every-cons _ _ (sym range-is ∙ f) ∙ every-one _
+  -- f: where the rows begin
+  module _ (f : ℕ) (ef : f ≡ firstAt m) (t : b ≡ true) where
+    quarter : h .capacity ≡ headAt m .capacity
+    quarter = ap (λ (x : Head). x .capacity) eh
+
+    pub too-far : h .capacity / 4 < f → false ≡ holdsStore m
+    unfolding holdsStore
+    too-far lt =
+        sym (every-cons _ _ (le-leb 1024 (length m) big) ∙ every-cons _ _ (eq-eqb _ _ (sym es ∙ sign)) ∙ every-cons _ _ (sym range-is ∙ t)
+        ∙ every-stop _ _ (lt-leb (firstAt m) (headAt m .capacity / 4) (omega (arith, ef, lt, quarter))))
+
+    pub last-test : f ≤ h .capacity / 4 → holdsStore m ≡ filled (flatOf m)
+    unfolding holdsStore
+    last-test le =
+        every-cons _ _ (le-leb 1024 (length m) big) ∙ every-cons _ _ (eq-eqb _ _ (sym es ∙ sign)) ∙ every-cons _ _ (sym range-is ∙ t)
+        ∙ every-cons _ _ (le-leb (firstAt m) (headAt m .capacity / 4) (omega (arith, ef, le, quarter))) ∙ every-one _
 
   pub fill-is : fillsRows (entriesAt m (h .capacity) (n .pages)) (n .rows) ≡ filled (flatOf m)
   unfolding entriesOf

@@ -55,9 +55,9 @@ row-size : (s : Row) → length (s .payload) ≡ 40 → length (rowBytes s) ≡ 
 unfolding numbersOf bytes4
 row-size s l = length-append (numbersOf s) (s .payload) ∙ ap (λ (k : ℕ). 16 + k) l
 
-pub stored-row : (m : List ℕ) (i : ℕ) (s : Row) → 1024 + i * 80 + 80 ≤ length m → length (s .payload) ≡ 40
-    → Only rowOf 1024 80 56 m (put (1024 + i * 80) (rowBytes s) m) i s
-stored-row m i s h l = one-cell rowOf 1024 80 56 (omega arith) m (rowBytes s) i s (row-size s l) (omega arith) (row-back s l)
+pub stored-row : (m : List ℕ) (b i : ℕ) (s : Row) → b + i * 80 + 80 ≤ length m → length (s .payload) ≡ 40
+    → Only rowOf b 80 56 m (put (b + i * 80) (rowBytes s) m) i s
+stored-row m b i s h l = one-cell rowOf b 80 56 (omega arith) m (rowBytes s) i s (row-size s l) (omega arith) (row-back s l)
 
 pub stored-entry : (m : List ℕ) (b i : ℕ) (e : Entry) → b + i * 8 + 8 ≤ length m → Only entryOf b 8 6 m (put (b + i * 8) (entryBytes e) m) i e
 unfolding entryBytes bytes2

@@ -105,17 +105,21 @@ usedIn bs b = eqb (getD bs (b / 8) 0 / 2 ^ (b % 8) % 2) 1
 abbrev pub usedAt : List ℕ → ℕ → Bool
 usedAt m = usedIn (cut 512 512 m)
 
--- the rows
-abbrev pub rowsAt : List ℕ → ℕ → List Row
-rowsAt m n = tab (cell rowOf 1024 80 56 m) 0 n
+-- how many rows there would be room for before row 0
+abbrev pub firstAt : List ℕ → ℕ
+firstAt m = num4 m 32
 
--- the page entries stand behind room for c rows
+-- the rows, behind room for f others
+abbrev pub rowsAt : List ℕ → ℕ → ℕ → List Row
+rowsAt m f n = tab (cell rowOf (1024 + f * 80) 80 56 m) 0 n
+
+-- the page entries stand behind room for c rows and a quarter more
 abbrev pub entriesAt : List ℕ → ℕ → ℕ → List Entry
-entriesAt m c n = tab (cell entryOf (1024 + c * 80) 8 6 m) 0 n
+entriesAt m c n = tab (cell entryOf (1024 + c * 100) 8 6 m) 0 n
 
 -- the directory entries stand behind room for c page entries
 abbrev pub namedAt : List ℕ → ℕ → ℕ → List ℕ
-namedAt m c n = tab (cell half (1024 + c * 88) 2 2 m) 0 n
+namedAt m c n = tab (cell half (1024 + c * 108) 2 2 m) 0 n
 
 -- ---- what a store of one cell does, from the memory m to the memory m'
 

@@ -10,7 +10,7 @@ use Rattle.memory.proofs.entries_fill.Statement.{statement}
 use Rattle.memory.proofs.entries_fill.Tie as tie
 
 abbrev Inv-loop : tie.InvT-loop
-Inv-loop m n c rows base good₀ sum₀ i₀ good sum i = Left (cell entryOf (1024 + n * 80) 8 6 m) i c good sum
+Inv-loop m n c rows base good₀ sum₀ i₀ good sum i = Left (cell entryOf (1024 + n * 100) 8 6 m) i c good sum
 
 abbrev μ-loop : tie.MeasureT-loop
 μ-loop m n c rows base good₀ sum₀ i₀ good sum i = c - i
@@ -25,7 +25,7 @@ add-base-2 : tie.Need-add-base-2 Inv-loop μ-loop
 add-base-2 c = omega arith
 
 loop-holds : tie.Need-loop-holds Inv-loop μ-loop
-loop-holds c = pass-start (cell entryOf (1024 + c .before .args .n * 80) 8 6 (c .before .args .m .now)) (c .before .args .c)
+loop-holds c = pass-start (cell entryOf (1024 + c .before .args .n * 100) 8 6 (c .before .args .m .now)) (c .before .args .c)
 
 mul-get2 : tie.Need-mul-get2 Inv-loop μ-loop
 mul-get2 c = omega arith
@@ -50,14 +50,14 @@ loop-less c = omega arith
 
 loop-again : tie.Need-loop-again Inv-loop μ-loop
 loop-again c = let st = c .before .before .before .before in
-    let f : ℕ → Entry = cell entryOf (1024 + st .args .n * 80) 8 6 (st .args .m .now) in
+    let f : ℕ → Entry = cell entryOf (1024 + st .args .n * 100) 8 6 (st .args .m .now) in
     let l = c .before .before .loop in
     let e : c .get2 .result ≡ f (l .i) .count = c .get2 .ensures ∙ count-is (st .args .m .now) (st .args .n) (l .i) in
     pass-on f (l .i) (st .args .c) (l .good) (l .sum) (c .before .loop-test .taken) (l .inv) (c .get2 .result) e (omega arith)
 
 returns : tie.Need-returns Inv-loop μ-loop
 returns c = let st = c .before .before .before in
-    let f : ℕ → Entry = cell entryOf (1024 + st .args .n * 80) 8 6 (st .args .m .now) in
+    let f : ℕ → Entry = cell entryOf (1024 + st .args .n * 100) 8 6 (st .args .m .now) in
     let l = c .before .loop in
     pass-end f (l .i) (st .args .c) (l .good) (l .sum) (c .loop-test .left) (l .inv) (st .args .rows)
 

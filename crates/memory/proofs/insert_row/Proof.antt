@@ -12,6 +12,9 @@ count-at-requires c κs = search needs
 cast-k : tie.Need-cast-k
 cast-k c = search needs
 
+rows-from-requires : tie.Need-rows-from-requires
+rows-from-requires c κs = search needs
+
 mul-shift-up : tie.Need-mul-shift-up
 mul-shift-up c = search needs
 
@@ -25,16 +28,17 @@ add-shift-up-2 : tie.Need-add-shift-up-2
 add-shift-up-2 c = search needs
 
 shift-up-requires : tie.Need-shift-up-requires
-shift-up-requires c κs = let k = known _ (c .before .before .before .before .pre .0) in
-    let e = c .before .count-at .ensures in
+shift-up-requires c κs = let k = known _ (c .before .before .before .before .before .before .pre .0) in
+    let e = c .before .before .before .count-at .ensures in
+    let d = c .before .rows-from .ensures in
     omega arith
 
 store-row-requires : tie.Need-store-row-requires
 store-row-requires c κs = search needs
 
 add-put-count : tie.Need-add-put-count
-add-put-count c = let k = known _ (c .before .before .before .before .before .before .before .before .before .before .before .before .pre .0) in
-    let e = c .before .before .before .before .before .before .before .before .before .count-at .ensures in
+add-put-count c = let k = known _ (c .before .before .before .before .before .before .before .before .before .before .before .before .before .before .pre .0) in
+    let e = c .before .before .before .before .before .before .before .before .before .before .before .count-at .ensures in
     omega arith
 
 put-count-requires : tie.Need-put-count-requires
@@ -44,10 +48,14 @@ same-length : tie.Need-same-length
 same-length c = search needs
 
 returns : tie.Need-returns
-returns c = let st = c .before .before .before .before .before .before .before .before .before .before .before .before .before .before .before in
-    let l = c .before .before .put-count .kept .0 ∙ c .before .before .before .before .before .before .store-row .kept .0 ∙ c .before .before .before .before .before .before .before .before .before .before .shift-up .kept .0 in
-    row-in (st .args .m .now) (st .pre .0) (c .before .before .before .before .before .before .before .before .before .before .before .before .count-at .result) (c .before .before .before .before .before .before .before .before .before .before .before .before .count-at .ensures) (st .args .i) (st .args .s) (st .pre .1 .0) (st .pre .1 .1) l
-    (c .before .before .before .before .before .before .before .before .before .before .shift-up .ensures) (c .before .before .before .before .before .before .store-row .ensures) (c .before .before .put-count .ensures)
+returns c = let st = c .before .before .before .before .before .before .before .before .before .before .before .before .before .before .before .before .before in
+    let n = c .before .before .before .before .before .before .before .before .before .before .before .before .before .before .count-at in
+    let b = c .before .before .before .before .before .before .before .before .before .before .before .before .rows-from in
+    let w1 = c .before .before .before .before .before .before .before .before .before .before .shift-up in
+    let w2 = c .before .before .before .before .before .before .store-row in
+    let w3 = c .before .before .put-count in
+    row-in (st .args .m .now) (st .pre .0) (n .result) (n .ensures) (b .result) (b .ensures) (st .args .i) (st .args .s) (st .pre .1 .0) (st .pre .1 .1)
+    (w3 .kept .0 ∙ w2 .kept .0 ∙ w1 .kept .0) (w1 .ensures) (w2 .ensures) (w3 .ensures)
 
 pub insert-row-spec : {M : Type 1} → statement M
 insert-row-spec =
@@ -55,6 +63,7 @@ insert-row-spec =
     (tie.spec
     count-at-requires
     cast-k
+    rows-from-requires
     mul-shift-up
     add-shift-up
     mul-shift-up-2

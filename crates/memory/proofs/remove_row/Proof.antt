@@ -12,6 +12,9 @@ count-at-requires c κs = search needs
 cast-k : tie.Need-cast-k
 cast-k c = search needs
 
+rows-from-requires : tie.Need-rows-from-requires
+rows-from-requires c κs = search needs
+
 mul-shift-down : tie.Need-mul-shift-down
 mul-shift-down c = search needs
 
@@ -25,13 +28,14 @@ add-shift-down-2 : tie.Need-add-shift-down-2
 add-shift-down-2 c = search needs
 
 shift-down-requires : tie.Need-shift-down-requires
-shift-down-requires c κs = let k = known _ (c .before .before .before .before .pre .0) in
-    let e = c .before .count-at .ensures in
+shift-down-requires c κs = let k = known _ (c .before .before .before .before .before .before .pre .0) in
+    let e = c .before .before .before .count-at .ensures in
+    let d = c .before .rows-from .ensures in
     omega arith
 
 sub-put-count : tie.Need-sub-put-count
-sub-put-count c = let k = known _ (c .before .before .before .before .before .before .before .before .pre .0) in
-    let e = c .before .before .before .before .before .count-at .ensures in
+sub-put-count c = let k = known _ (c .before .before .before .before .before .before .before .before .before .before .pre .0) in
+    let e = c .before .before .before .before .before .before .before .count-at .ensures in
     omega arith
 
 put-count-requires : tie.Need-put-count-requires
@@ -41,9 +45,12 @@ same-length : tie.Need-same-length
 same-length c = search needs
 
 returns : tie.Need-returns
-returns c = let st = c .before .before .before .before .before .before .before .before .before .before .before in
-    let l = c .before .before .put-count .kept .0 ∙ c .before .before .before .before .before .before .shift-down .kept .0 in
-    row-out (st .args .m .now) (st .pre .0) (c .before .before .before .before .before .before .before .before .count-at .result) (c .before .before .before .before .before .before .before .before .count-at .ensures) (st .args .i) (st .pre .1) l (c .before .before .before .before .before .before .shift-down .ensures) (c .before .before .put-count .ensures)
+returns c = let st = c .before .before .before .before .before .before .before .before .before .before .before .before .before in
+    let n = c .before .before .before .before .before .before .before .before .before .before .count-at in
+    let b = c .before .before .before .before .before .before .before .before .rows-from in
+    let w1 = c .before .before .before .before .before .before .shift-down in
+    let w2 = c .before .before .put-count in
+    row-out (st .args .m .now) (st .pre .0) (n .result) (n .ensures) (b .result) (b .ensures) (st .args .i) (st .pre .1) (w2 .kept .0 ∙ w1 .kept .0) (w1 .ensures) (w2 .ensures)
 
 pub remove-row-spec : {M : Type 1} → statement M
 remove-row-spec =
@@ -51,6 +58,7 @@ remove-row-spec =
     (tie.spec
     count-at-requires
     cast-k
+    rows-from-requires
     mul-shift-down
     add-shift-down
     mul-shift-down-2
