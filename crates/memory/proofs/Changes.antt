@@ -15,7 +15,7 @@ use Rattle.memory.specs.declared.Entry.{Entry}
 use Rattle.memory.specs.declared.Head.{Head}
 use Rattle.memory.specs.declared.Counts.{Counts}
 use Rattle.memory.proofs.Laws.{lt-or-ge, length-tab}
-use Rattle.memory.proofs.Cells.{Off, off, apart-none, getD-cut, cell-off, cells-off}
+use Rattle.memory.proofs.Cells.{Off, off, apart-none, apart-then, getD-cut, cell-off, cells-off}
 
 -- ---- the counts are the lists' lengths
 
@@ -346,21 +346,20 @@ module _ (m m2 m' : List ℕ) (a len n : ℕ) (r : Room m) (l : length m' ≡ le
       (recounted (countsOf (withDirectories (flatOf m) xs)) g (g .rows) (g .pages) (g .opens) (g .named) (omega arith))
       (K .begins)
 
-pub head-become : (m m' : List ℕ) (h : Head) → Room m → length m' ≡ length m → Apart m m' 4 28 → headAt m' ≡ h → Replaces (headAt m) h
-    → Becomes m m' (withHead (flatOf m) h)
-unfolding opensOf rowsOf entriesOf namedOf directoriesOf
-head-become m m' h r l p e t =
+-- the head's numbers, and where the rows begin
+low-become : (m m' : List ℕ) (h : Head) → Room m → length m' ≡ length m → Apart m m' 4 32 → headAt m' ≡ h → Replaces (headAt m) h
+    → firstAt m' ≤ headAt m .capacity / 4 → Becomes m m' (withRows (withHead (flatOf m) h) (rowsOf m'))
+unfolding opensOf entriesOf namedOf directoriesOf
+low-become m m' h r l p e t f =
     let g = r .range in
     let ec : h .capacity ≡ headAt m .capacity = t .capacity in
     let c : headAt m' .capacity ≡ headAt m .capacity = ap (λ (x : Head). x .capacity) e ∙ t .capacity in
-    let f : firstAt m' ≡ firstAt m = sym (word-at m' 32) ∙ ap word (off p 32 4 (inr (omega arith))) ∙ word-at m 32 in
     let n : (j : ℕ) → countAt m' j ≡ countAt m j = λ j. cell-off word 64 4 4 (omega arith) p j (inr (omega arith)) in
-    becomes m m' (withHead (flatOf m) h) l (sym (word-at m' 0) ∙ ap word (off p 0 4 (inl (omega arith))) ∙ word-at m 0 ∙ r .sign)
-    (flat-eq (flatOf m') (withHead (flatOf m) h)
+    becomes m m' (withRows (withHead (flatOf m) h) (rowsOf m')) l (sym (word-at m' 0) ∙ ap word (off p 0 4 (inl (omega arith))) ∙ word-at m 0 ∙ r .sign)
+    (flat-eq (flatOf m') (withRows (withHead (flatOf m) h) (rowsOf m'))
     e
     (ap (opensAt m') (n 2) ∙ cells-off word 128 4 4 (omega arith) p (countAt m 2) (inr (omega arith)))
-    (ap (λ (x : ℕ). rowsAt m' x (countAt m' 0)) f ∙ ap (rowsAt m' (firstAt m)) (n 0)
-    ∙ cells-off rowOf (1024 + firstAt m * 80) 80 56 (omega arith) p (countAt m 0) (inr (omega arith)))
+    refl
     (ap (λ (x : ℕ). entriesAt m' x (countAt m' 1)) c ∙ ap (entriesAt m' (headAt m .capacity)) (n 1)
     ∙ cells-off entryOf (1024 + headAt m .capacity * 100) 8 6 (omega arith) p (countAt m 1) (inr (omega arith)))
     (ap (λ (x : ℕ). namedAt m' x (countAt m' 3)) c ∙ ap (namedAt m' (headAt m .capacity)) (n 3)
@@ -374,13 +373,48 @@ head-become m m' h r l p e t =
       few = t .few;
       many = t .many;
       taken = t .taken;
-      rows = omega (arith, g .rows);
+      rows = omega (arith, g .rows, rows-count m, rows-count m', n 0);
       pages = omega (arith, g .pages);
       opens = g .opens;
       named = omega (arith, g .named);
       directories = g .directories;
     })
-    (omega (arith, f, ec, r .first))
+    (omega (arith, ec, f))
+
+pub head-become : (m m' : List ℕ) (h : Head) → Room m → length m' ≡ length m → Apart m m' 4 28 → headAt m' ≡ h → Replaces (headAt m) h
+    → Becomes m m' (withHead (flatOf m) h)
+unfolding rowsOf
+head-become m m' h r l p e t =
+    let f : firstAt m' ≡ firstAt m = sym (word-at m' 32) ∙ ap word (off p 32 4 (inr (omega arith))) ∙ word-at m 32 in
+    let n : countAt m' 0 ≡ countAt m 0 = cell-off word 64 4 4 (omega arith) p 0 (inr (omega arith)) in
+    let w : rowsOf m' ≡ rowsOf m =
+    ap (λ (x : ℕ). rowsAt m' x (countAt m' 0)) f ∙ ap (rowsAt m' (firstAt m)) n
+    ∙ cells-off rowOf (1024 + firstAt m * 80) 80 56 (omega arith) p (countAt m 0) (inr (omega arith)) in
+    subst (λ (xs : List Row). Becomes m m' (withRows (withHead (flatOf m) h) xs)) w
+    (low-become m m' h r l (apart-then 4 32 p (apart-none m' 4 28) (omega arith) (omega arith) (omega arith) (omega arith)) e t (omega (arith, f, r .first)))
+
+-- another place for row 0: the bytes stay, and are other rows
+pub first-become : (m m' : List ℕ) (x : ℕ) → Room m → length m' ≡ length m → Only word 32 4 4 m m' 0 x → x ≤ headAt m .capacity / 4
+    → (firstAt m' ≡ x) × Becomes m m' (withRows (flatOf m) (rowsOf m'))
+unfolding headAt cell
+first-become m m' x r l o h =
+    let g = r .range in
+    let e : firstAt m' ≡ x = sym (word-at m' 32) ∙ o .here in
+    (e,
+    low-become m m' (headAt m) r l (apart-then 4 32 (o .apart) (apart-none m' 4 28) (omega arith) (omega arith) (omega arith) (omega arith))
+    (ap headOf (off (o .apart) 4 28 (inl (omega arith)))) (record { capacity = refl; few = g .few; many = g .many; taken = g .taken }) (omega arith))
+
+-- rows moved within their area
+pub rows-moved : (m m' : List ℕ) (a len : ℕ) → Room m → length m' ≡ length m → Apart m m' a len → 1024 ≤ a → a + len ≤ 1024 + headAt m .capacity * 100
+    → (firstAt m' ≡ firstAt m) × ((countAt m' 0 ≡ countAt m 0) × Becomes m m' (withRows (flatOf m) (rowsOf m')))
+unfolding rowsOf
+rows-moved m m' a len r l p h1 h2 =
+    let K = kept m m' m' a len 1 (countAt m' 1) (omega arith) r (omega arith) p (recount-none m' 1 _ refl) in
+    let n : countAt m' 0 ≡ countAt m 0 = cell-off word 64 4 4 (omega arith) p 0 (inl (omega arith)) in
+    (K .first,
+    (n,
+    rows-become m m' m' a len (countAt m 0) r l p (rowsOf m') h1 h2 (recount-none m' 0 _ n) (known m r .rows)
+    (ap (λ (x : ℕ). rowsAt m' x (countAt m 0)) (sym (K .first)) ∙ ap (rowsAt m' (firstAt m')) (sym n))))
 
 pub used-become : (m m' : List ℕ) (a len : ℕ) (u : ℕ → Bool) → Room m → length m' ≡ length m → Apart m m' a len → 512 ≤ a → a + len ≤ 1024 → usedAt m' ≡ u
     → Becomes m m' (withUsed (flatOf m) u)

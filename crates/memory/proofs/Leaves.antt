@@ -1,42 +1,128 @@
 -- From the stores and shifts that a function made to its one equation on the flat lists.
-use mathlib.Core.Path.{_≡_, refl, sym, ap, _∙_}
-use mathlib.Core.Logic.{inl}
-use Prim.Native.Nat.{ℕ, _+_, _*_, _-_, _≤_, _<_}
+use mathlib.Core.Path.{_≡_, refl, sym, ap, _∙_, subst}
+use mathlib.Core.Logic.{inl, inr}
+use Prim.Native.Nat.{ℕ, _+_, _*_, _-_, _/_, _≤_, _<_}
 use native.Mathlib.Omega.{arith}
 use mathlib.Core.List.{List, [], _∷_, _++_}
 use lib.ListN.{length, set}
 use Rattle.memory.specs.Bytes.{Apart, Shifted, Lowered}
 use Rattle.memory.specs.Views.{cell, tab, word, half, rowOf, entryOf, headAt, firstAt, countAt, opensAt, rowsAt, entriesAt, namedAt, directoriesAt, Only}
-use Rattle.memory.specs.Flat.{flatOf, opensOf, rowsOf, entriesOf, namedOf, directoriesOf, Room, Becomes, withOpens, withRows, withEntries, withNamed, withDirectories, insertAt, removeAt}
+use Rattle.memory.specs.Flat.{Flat, flatOf, opensOf, rowsOf, entriesOf, namedOf, directoriesOf, Room, Becomes, withOpens, withRows, withEntries, withNamed, withDirectories, insertAt, removeAt, Opened, Closed}
 use Rattle.memory.specs.declared.Row.{Row}
 use Rattle.memory.specs.declared.Entry.{Entry}
-use Rattle.memory.proofs.Cells.{cell-off, apart-none, apart-then, cells-set, cells-push, cells-insert, cells-remove}
-use Rattle.memory.proofs.Changes.{known, recount, recount-none, rows-become, entries-become, opens-become, named-become, directories-become}
+use Rattle.memory.specs.declared.Head.{Head}
+use Rattle.memory.proofs.Laws.{length-tab, set-opened}
+use Rattle.memory.proofs.Cells.{cell-off, cells-off, apart-none, apart-then, cells-set, cells-push, cells-opened, cells-opened-front, cells-insert, cells-remove, cells-remove-front}
+use Rattle.memory.proofs.Changes.{known, recount, recount-none, rows-become, rows-moved, first-become, entries-become, opens-become, named-become, directories-become}
+use Rattle.memory.proofs.Meaning.{becomes-then}
+
+-- ---- places of rows
+
+-- b: where row 0 stands, f: how many rows there would be room for before it
+module _ (m : List ℕ) (r : Room m) (n f b : ℕ) (en : n ≡ countAt m 0) (ef : f ≡ firstAt m) (eb : b ≡ 1024 + firstAt m * 80) where
+  rows-are : rowsOf m ≡ tab (cell rowOf b 80 56 m) 0 n
+  unfolding rowsOf
+  rows-are = ap (rowsAt m (firstAt m)) (sym en) ∙ ap (λ (z : ℕ). tab (cell rowOf z 80 56 m) 0 n) (sym eb)
+
+  -- the rows, read from b' on, with another first
+  rows-at : (m' : List ℕ) (g b' k j : ℕ) → firstAt m' ≡ g → b' ≡ 1024 + g * 80 → k ≡ j → rowsAt m' (firstAt m') k ≡ tab (cell rowOf b' 80 56 m') 0 j
+  rows-at m' g b' k j e eb' ek =
+      ap (λ (z : ℕ). rowsAt m' z k) e ∙ ap (λ (z : ℕ). tab (cell rowOf z 80 56 m') 0 k) (sym eb') ∙ ap (tab (cell rowOf b' 80 56 m') 0) ek
+
+  module _ (i : ℕ) {m1 : List ℕ} (l1 : length m1 ≡ length m) where
+    pub opened-back : i ≤ length (rowsOf m) → length (rowsOf m) < headAt m .capacity → Shifted m m1 (b + i * 80) (b + n * 80) 80 → Opened m m1 i
+    opened-back h c sh =
+        let k = known m r in
+        let w = rows-moved m m1 (b + i * 80) (b + n * 80 - (b + i * 80) + 80) r l1 (sh .apart) (omega arith) (omega arith) in
+        record {
+          others = w .1 .1;
+          around =
+              ap (removeAt i) (rows-at m1 (firstAt m) b (countAt m 0 + 1) (n + 1) (w .0) eb (omega arith))
+              ∙ cells-opened rowOf b 80 56 (omega arith) n sh (omega arith) ∙ sym rows-are;
+        }
+
+    pub closed-back : i < length (rowsOf m) → Lowered m m1 (b + i * 80) (b + n * 80) 80 → Closed m m1 i
+    closed-back h lo =
+        let k = known m r in
+        let w = rows-moved m m1 (b + i * 80) (b + n * 80 - (b + i * 80)) r l1 (lo .apart) (omega arith) (omega arith) in
+        record {
+          others = w .1 .1;
+          around =
+              rows-at m1 (firstAt m) b (countAt m 0 - 1) (n - 1) (w .0) eb (omega arith)
+              ∙ cells-remove rowOf b 80 56 (omega arith) n lo (omega arith) ∙ ap (removeAt i) (sym rows-are);
+        }
+
+    module _ {m' : List ℕ} (l' : length m' ≡ length m1) where
+      -- the rows moved, and then first was set
+      both-moved : (a len g : ℕ) → Apart m m1 a len → 1024 ≤ a → a + len ≤ 1024 + headAt m .capacity * 100 → Only word 32 4 4 m1 m' 0 g → g ≤ headAt m .capacity / 4
+          → (firstAt m' ≡ g) × Becomes m m' (withRows (flatOf m) (rowsOf m'))
+      both-moved a len g p h1 h2 o h3 =
+          let w = rows-moved m m1 a len r l1 p h1 h2 in
+          let e : headAt m1 ≡ headAt m = ap (λ (x : Flat). x .head) (w .1 .1 .flat) in
+          let ec : headAt m1 .capacity ≡ headAt m .capacity = ap (λ (x : Head). x .capacity) e in
+          let v = first-become m1 m' g (w .1 .1 .room) l' o (omega (arith, ec, h3)) in
+          (v .0, becomes-then m m1 m' _ (λ (x : Flat). withRows x (rowsOf m')) (w .1 .1) (v .1))
+
+      pub opened-front : i ≤ length (rowsOf m) → 0 < f → Lowered m m1 (b - 80) (b + i * 80) 80 → Only word 32 4 4 m1 m' 0 (f - 1) → Opened m m' i
+      opened-front h pos lo o =
+          let k = known m r in
+          let a : ℕ = b - 80 in
+          let ea : a + 80 ≡ b = omega arith in
+          let lo' : Lowered m m1 a (a + 80 + i * 80) 80 = subst (λ (z : ℕ). Lowered m m1 a (z + i * 80) 80) (sym ea) lo in
+          let w = both-moved a (b + i * 80 - a) (f - 1) (lo .apart) (omega arith) (omega arith) o (omega (arith, r .first)) in
+          let kept : tab (cell rowOf a 80 56 m') 0 (n + 1) ≡ tab (cell rowOf a 80 56 m1) 0 (n + 1) =
+          cells-off rowOf a 80 56 (omega arith) (o .apart) (n + 1) (inr (omega arith)) in
+          record {
+            others = w .1;
+            around =
+                ap (removeAt i) (rows-at m' (f - 1) a (countAt m 0 + 1) (n + 1) (w .0) (omega arith) (omega arith) ∙ kept)
+                ∙ cells-opened-front rowOf a 80 56 (omega arith) n lo' (omega arith)
+                ∙ ap (λ (z : ℕ). tab (cell rowOf z 80 56 m) 0 n) ea ∙ sym rows-are;
+          }
+
+      pub closed-front : i < length (rowsOf m) → f < headAt m .capacity / 4 → Shifted m m1 b (b + i * 80) 80 → Only word 32 4 4 m1 m' 0 (f + 1) → Closed m m' i
+      closed-front h room sh o =
+          let k = known m r in
+          let w = both-moved b (b + i * 80 - b + 80) (f + 1) (sh .apart) (omega arith) (omega arith) o (omega arith) in
+          let kept : tab (cell rowOf (b + 80) 80 56 m') 0 (n - 1) ≡ tab (cell rowOf (b + 80) 80 56 m1) 0 (n - 1) =
+          cells-off rowOf (b + 80) 80 56 (omega arith) (o .apart) (n - 1) (inr (omega arith)) in
+          record {
+            others = w .1;
+            around =
+                rows-at m' (f + 1) (b + 80) (countAt m 0 - 1) (n - 1) (w .0) (omega arith) (omega arith) ∙ kept
+                ∙ cells-remove-front rowOf b 80 56 (omega arith) n sh (omega arith) ∙ ap (removeAt i) (sym rows-are);
+          }
 
 -- n is the count that was read; q: the count that was written
 module _ (m : List ℕ) (r : Room m) (n : ℕ) where
-  module _ (en : n ≡ countAt m 0) (b : ℕ) (eb : b ≡ 1024 + firstAt m * 80) where
-    pub row-in : {m1 m2 m' : List ℕ} (i : ℕ) (s : Row) → i ≤ length (rowsOf m) → length (rowsOf m) < headAt m .capacity → length m' ≡ length m
-        → Shifted m m1 (b + i * 80) (b + n * 80) 80 → Only rowOf b 80 56 m1 m2 i s → Only word 64 4 4 m2 m' 0 (n + 1)
+  module _ (en : n ≡ countAt m 0) where
+    pub row-in : {m1 m2 m' : List ℕ} (i : ℕ) (s : Row) (b : ℕ) → b ≡ 1024 + firstAt m1 * 80 → i ≤ length (rowsOf m) → length (rowsOf m) < headAt m .capacity
+        → length m' ≡ length m1 → Opened m m1 i → Only rowOf b 80 56 m1 m2 i s → Only word 64 4 4 m2 m' 0 (n + 1)
         → Becomes m m' (withRows (flatOf m) (insertAt i s (rowsOf m)))
-    unfolding rowsOf
-    row-in {m1} {m2} {m'} i s h f l sh o q =
+    row-in {m1} {m2} {m'} i s b eb h f l op o q =
         let k = known m r in
-        rows-become m m2 m' (b + i * 80) (b + n * 80 - (b + i * 80) + 80) (n + 1) r l
-        (apart-then (b + i * 80) (b + n * 80 - (b + i * 80) + 80) (sh .apart) (o .apart) (omega arith) (omega arith) (omega arith) (omega arith))
-        (insertAt i s (rowsOf m)) (omega arith) (omega arith) (recount q) (omega arith)
-        (ap (λ (z : ℕ). tab (cell rowOf z 80 56 m2) 0 (n + 1)) (sym eb) ∙ cells-insert rowOf b 80 56 (omega arith) n sh o (omega arith)
-        ∙ ap (λ (z : ℕ). insertAt i s (tab (cell rowOf z 80 56 m) 0 n)) eb ∙ ap (λ (z : ℕ). insertAt i s (rowsAt m (firstAt m) z)) en)
+        let r1 : Room m1 = op .others .room in
+        let k1 = known m1 r1 in
+        let ec : headAt m1 .capacity ≡ headAt m .capacity = ap (λ (x : Flat). x .head .capacity) (op .others .flat) in
+        let xs : List Row = rowsAt m1 (firstAt m1) (n + 1) in
+        let en1 : n + 1 ≡ countAt m 0 + 1 = omega arith in
+        let lx : length xs ≡ n + 1 = length-tab _ 0 (n + 1) in
+        becomes-then m m1 m' _ (λ (x : Flat). withRows x (insertAt i s (rowsOf m))) (op .others)
+        (rows-become m1 m2 m' (b + i * 80) 80 (n + 1) r1 l (o .apart) (insertAt i s (rowsOf m)) (omega arith) (omega arith) (recount q) (omega arith)
+        (ap (λ (z : ℕ). tab (cell rowOf z 80 56 m2) 0 (n + 1)) (sym eb) ∙ cells-set rowOf b 80 56 (omega arith) (n + 1) o (omega arith)
+        ∙ ap (λ (z : ℕ). set (tab (cell rowOf z 80 56 m1) 0 (n + 1)) i s) eb ∙ set-opened xs i s (omega arith)
+        ∙ ap (λ (z : ℕ). insertAt i s (removeAt i (rowsAt m1 (firstAt m1) z))) en1 ∙ ap (insertAt i s) (op .around)))
 
-    pub row-out : {m1 m' : List ℕ} (i : ℕ) → i < length (rowsOf m) → length m' ≡ length m
-        → Lowered m m1 (b + i * 80) (b + n * 80) 80 → Only word 64 4 4 m1 m' 0 (n - 1) → Becomes m m' (withRows (flatOf m) (removeAt i (rowsOf m)))
-    unfolding rowsOf
-    row-out {m1} {m'} i h l sh q =
+    pub row-out : {m1 m' : List ℕ} (i : ℕ) → i < length (rowsOf m) → length m' ≡ length m1 → Closed m m1 i → Only word 64 4 4 m1 m' 0 (n - 1)
+        → Becomes m m' (withRows (flatOf m) (removeAt i (rowsOf m)))
+    row-out {m1} {m'} i h l cl q =
         let k = known m r in
-        rows-become m m1 m' (b + i * 80) (b + n * 80 - (b + i * 80)) (n - 1) r l (sh .apart)
-        (removeAt i (rowsOf m)) (omega arith) (omega arith) (recount q) (omega arith)
-        (ap (λ (z : ℕ). tab (cell rowOf z 80 56 m1) 0 (n - 1)) (sym eb) ∙ cells-remove rowOf b 80 56 (omega arith) n sh (omega arith)
-        ∙ ap (λ (z : ℕ). removeAt i (tab (cell rowOf z 80 56 m) 0 n)) eb ∙ ap (λ (z : ℕ). removeAt i (rowsAt m (firstAt m) z)) en)
+        let r1 : Room m1 = cl .others .room in
+        let ec : headAt m1 .capacity ≡ headAt m .capacity = ap (λ (x : Flat). x .head .capacity) (cl .others .flat) in
+        let en1 : n - 1 ≡ countAt m 0 - 1 = omega arith in
+        becomes-then m m1 m' _ (λ (x : Flat). withRows x (removeAt i (rowsOf m))) (cl .others)
+        (rows-become m1 m1 m' 1024 0 (n - 1) r1 l (apart-none m1 1024 0) (removeAt i (rowsOf m)) (omega arith) (omega arith) (recount q) (omega arith)
+        (ap (rowsAt m1 (firstAt m1)) en1 ∙ cl .around))
 
   module _ (en : n ≡ countAt m 1) (b : ℕ) (eb : b ≡ 1024 + headAt m .capacity * 100) where
     pub entry-in : {m1 m2 m' : List ℕ} (i : ℕ) (e : Entry) → i ≤ length (entriesOf m) → length (entriesOf m) < headAt m .capacity → length m' ≡ length m

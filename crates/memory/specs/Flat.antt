@@ -1,5 +1,5 @@
 -- All that the memory holds, as flat lists: what every function of this crate says of it.
-use Prim.Native.Nat.{ℕ, _+_, _*_, _/_, _≤_, _<_}
+use Prim.Native.Nat.{ℕ, _+_, _*_, _-_, _/_, _≤_, _<_}
 use mathlib.Core.Path.{_≡_}
 use mathlib.Core.Bool.{Bool, _||_}
 use mathlib.Core.List.{List, [], _∷_, _++_}
@@ -138,3 +138,15 @@ entryIn f p = getD (f .entries) p noEntry
 -- block b is in use too
 abbrev pub usedAnd : ℕ → (ℕ → Bool) → ℕ → Bool
 usedAnd b u c = eqb b c || u c
+
+-- ---- a place for a row, from the memory m to the memory m'
+
+-- a place is open at i: with it there is one row more than counted, and without it the rows are those of before
+pub record Opened (m m' : List ℕ) (i : ℕ) : Type 0 where
+  pub others : Becomes m m' (withRows (flatOf m) (rowsOf m'))
+  pub around : removeAt i (rowsAt m' (firstAt m') (countAt m 0 + 1)) ≡ rowsOf m
+
+-- row i is gone: one less than counted, the rows are the others
+pub record Closed (m m' : List ℕ) (i : ℕ) : Type 0 where
+  pub others : Becomes m m' (withRows (flatOf m) (rowsOf m'))
+  pub around : rowsAt m' (firstAt m') (countAt m 0 - 1) ≡ removeAt i (rowsOf m)

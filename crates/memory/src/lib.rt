@@ -15,7 +15,7 @@ ghost use Rattle.model.specs.Rules.{heldSize, calm, withPending, kept};
 ghost use Rattle.model.specs.Recover.{freshStore};
 ghost use Rattle.memory.specs.Bytes.{num2, bytes4, bytes2, cut, put, Shifted, Lowered};
 ghost use Rattle.memory.specs.Views.{rowOf, entryOf, word, numbersOf, entryBytes, firstAt, countAt, entriesAt, Only};
-ghost use Rattle.memory.specs.Flat.{flatOf, countsOf, rowIn, entryIn, Room, Replaces, Becomes, withHead, withOpens, withRows, withEntries, withNamed, withDirectories, withUsed, insertAt, removeAt, usedAnd};
+ghost use Rattle.memory.specs.Flat.{flatOf, countsOf, rowIn, entryIn, Room, Replaces, Becomes, withHead, withOpens, withRows, withEntries, withNamed, withDirectories, withUsed, insertAt, removeAt, usedAnd, Opened, Closed};
 ghost use Rattle.memory.specs.Store.{pendingOf, heldOf, tupleBy, inRange, fillsRows, holdsStore, heldIn, Holds, Copied, FreshFits, freshFlat, storeIn};
 
 // A tuple with its pending operation. flags: bit 0 tentative, bit 1 delete mark, bits 2 and 3 pending (0 nothing, 1 adding,
@@ -516,14 +516,45 @@ pub fn put_row(m: &mut [u8], i: usize, s: Row)
     store_row(m, b, i, s);
 }
 
+// Makes a place for a row before row i, moving the fewer of the rows before it and behind it.
+fn open_row(m: &mut [u8], i: usize)
+    requires { ⌜ Room (now m) × ((i ≤ length (flatOf (now m) .rows)) × (length (flatOf (now m) .rows) < flatOf (now m) .head .capacity)) ⌝ }
+    ensures { λ _. ⌜ Opened (now (m .entry)) (now (m .exit)) i ⌝ }
+{
+    let n = count_at(m, 0) as usize;
+    let f = get4(m, 32);
+    let b = rows_from(m);
+    if (0 < f) & (i < n - i) {
+        shift_down(m, b - 80, b + i * 80, 80);
+        put4(m, 32, f - 1);
+        return;
+    }
+    shift_up(m, b + i * 80, b + n * 80, 80);
+}
+
+// Closes the place of row i, moving the fewer of the rows before it and behind it.
+fn close_row(m: &mut [u8], i: usize)
+    requires { ⌜ Room (now m) × (i < length (flatOf (now m) .rows)) ⌝ }
+    ensures { λ _. ⌜ Closed (now (m .entry)) (now (m .exit)) i ⌝ }
+{
+    let n = count_at(m, 0) as usize;
+    let f = get4(m, 32);
+    let b = rows_from(m);
+    if ((f as usize) < capacity_of(m) / 4) & (i < n - i) {
+        shift_up(m, b, b + i * 80, 80);
+        put4(m, 32, f + 1);
+        return;
+    }
+    shift_down(m, b + i * 80, b + n * 80, 80);
+}
+
 pub fn insert_row(m: &mut [u8], i: usize, s: Row)
     requires { ⌜ Room (now m) × ((i ≤ length (flatOf (now m) .rows)) × (length (flatOf (now m) .rows) < flatOf (now m) .head .capacity)) ⌝ }
     ensures { λ _. ⌜ Becomes (now (m .entry)) (now (m .exit)) (withRows (flatOf (now (m .entry))) (insertAt i s (flatOf (now (m .entry)) .rows))) ⌝ }
 {
     let n = count_at(m, 0);
-    let k = n as usize;
+    open_row(m, i);
     let b = rows_from(m);
-    shift_up(m, b + i * 80, b + k * 80, 80);
     store_row(m, b, i, s);
     put_count(m, 0, n + 1);
 }
@@ -533,9 +564,7 @@ pub fn remove_row(m: &mut [u8], i: usize)
     ensures { λ _. ⌜ Becomes (now (m .entry)) (now (m .exit)) (withRows (flatOf (now (m .entry))) (removeAt i (flatOf (now (m .entry)) .rows))) ⌝ }
 {
     let n = count_at(m, 0);
-    let k = n as usize;
-    let b = rows_from(m);
-    shift_down(m, b + i * 80, b + k * 80, 80);
+    close_row(m, i);
     put_count(m, 0, n - 1);
 }
 

@@ -9,29 +9,11 @@ use Rattle.memory.proofs.insert_row.Tie as tie
 count-at-requires : tie.Need-count-at-requires
 count-at-requires c κs = search needs
 
-cast-k : tie.Need-cast-k
-cast-k c = search needs
+open-row-requires : tie.Need-open-row-requires
+open-row-requires c κs = search needs
 
 rows-from-requires : tie.Need-rows-from-requires
 rows-from-requires c κs = search needs
-
-mul-shift-up : tie.Need-mul-shift-up
-mul-shift-up c = search needs
-
-add-shift-up : tie.Need-add-shift-up
-add-shift-up c = search needs
-
-mul-shift-up-2 : tie.Need-mul-shift-up-2
-mul-shift-up-2 c = search needs
-
-add-shift-up-2 : tie.Need-add-shift-up-2
-add-shift-up-2 c = search needs
-
-shift-up-requires : tie.Need-shift-up-requires
-shift-up-requires c κs = let k = known _ (c .before .before .before .before .before .before .pre .0) in
-    let e = c .before .before .before .count-at .ensures in
-    let d = c .before .rows-from .ensures in
-    omega arith
 
 store-row-requires : tie.Need-store-row-requires
 store-row-requires c κs = search needs
@@ -50,25 +32,20 @@ same-length c = search needs
 returns : tie.Need-returns
 returns c = let st = c .before .before .before .before .before .before .before .before .before .before .before .before .before .before .before .before .before in
     let n = c .before .before .before .before .before .before .before .before .before .before .before .before .before .before .count-at in
-    let b = c .before .before .before .before .before .before .before .before .before .before .before .before .rows-from in
-    let w1 = c .before .before .before .before .before .before .before .before .before .before .shift-up in
+    let w1 = c .before .before .before .before .before .before .before .before .before .before .before .before .open-row in
+    let b = c .before .before .before .before .before .before .before .before .rows-from in
     let w2 = c .before .before .before .before .before .before .store-row in
     let w3 = c .before .before .put-count in
-    row-in (st .args .m .now) (st .pre .0) (n .result) (n .ensures) (b .result) (b .ensures) (st .args .i) (st .args .s) (st .pre .1 .0) (st .pre .1 .1)
-    (w3 .kept .0 ∙ w2 .kept .0 ∙ w1 .kept .0) (w1 .ensures) (w2 .ensures) (w3 .ensures)
+    row-in (st .args .m .now) (st .pre .0) (n .result) (n .ensures) (st .args .i) (st .args .s) (b .result) (b .ensures) (st .pre .1 .0) (st .pre .1 .1)
+    (w3 .kept .0 ∙ w2 .kept .0) (w1 .ensures) (w2 .ensures) (w3 .ensures)
 
 pub insert-row-spec : {M : Type 1} → statement M
 insert-row-spec =
     tie.close
     (tie.spec
     count-at-requires
-    cast-k
+    open-row-requires
     rows-from-requires
-    mul-shift-up
-    add-shift-up
-    mul-shift-up-2
-    add-shift-up-2
-    shift-up-requires
     store-row-requires
     add-put-count
     put-count-requires
