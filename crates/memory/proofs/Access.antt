@@ -87,9 +87,9 @@ module _ (m : List ℕ) (i : ℕ) where
   unfolding directoriesOf cell
   directory-is h = sym (tab-at (cell word 96 4 4 m) (countAt m 4) i 0 (omega (arith, directories-count m)) ∙ word-at m (96 + i * 4))
 
--- the row count of page entry i
-pub count-is : (m : List ℕ) (n i : ℕ) → num2 m (1024 + n * 100 + 2 + i * 8) ≡ cell entryOf (1024 + n * 100) 8 6 m i .count
+-- the row count of page entry i stands at a
+pub count-is : (m : List ℕ) (n i a : ℕ) → a ≡ 1024 + n * 100 + 2 + i * 8 → num2 m a ≡ cell entryOf (1024 + n * 100) 8 6 m i .count
 unfolding cell entryOf
-count-is m n i =
-    let e : 1024 + n * 100 + i * 8 + 2 ≡ 1024 + n * 100 + 2 + i * 8 = omega arith in
+count-is m n i a ea =
+    let e : 1024 + n * 100 + i * 8 + 2 ≡ a = omega arith in
     sym (num2-cut (1024 + n * 100 + i * 8) 6 2 m (omega arith) ∙ ap (num2 m) e)

@@ -131,6 +131,10 @@ inRange size h n =
 unfoldable pub hasRows : Entry → Bool
 hasRows e = leb 1 (e .count)
 
+-- how many rows the entries have, 0 if one has none
+unfoldable pub filledBy : List Entry → ℕ
+filledBy es = if all hasRows es then total es else 0
+
 -- each page has a row, and together they have n
 unfoldable pub fillsRows : List Entry → ℕ → Bool
 fillsRows es n = every (all hasRows es ∷ eqb (total es) n ∷ [])

@@ -113,9 +113,13 @@ firstAt m = num4 m 32
 abbrev pub rowsAt : List ℕ → ℕ → ℕ → List Row
 rowsAt m f n = tab (cell rowOf (1024 + f * 80) 80 56 m) 0 n
 
--- the page entries stand behind room for c rows and a quarter more
+-- page entries stand behind room for c rows and a quarter more: n of them from i on
+abbrev pub entriesFrom : List ℕ → ℕ → ℕ → ℕ → List Entry
+entriesFrom m c i n = tab (cell entryOf (1024 + c * 100) 8 6 m) i n
+
+-- the page entries
 abbrev pub entriesAt : List ℕ → ℕ → ℕ → List Entry
-entriesAt m c n = tab (cell entryOf (1024 + c * 100) 8 6 m) 0 n
+entriesAt m c n = entriesFrom m c 0 n
 
 -- the directory entries stand behind room for c page entries
 abbrev pub namedAt : List ℕ → ℕ → ℕ → List ℕ
