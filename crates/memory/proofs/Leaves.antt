@@ -6,13 +6,14 @@ use native.Mathlib.Omega.{arith}
 use mathlib.Core.List.{List, [], _∷_, _++_}
 use lib.ListN.{length, set}
 use Rattle.memory.specs.Bytes.{Apart, Shifted, Lowered}
-use Rattle.memory.specs.Views.{cell, tab, word, half, rowOf, entryOf, headAt, firstAt, countAt, opensAt, rowsAt, entriesAt, namedAt, directoriesAt, Only}
+use Rattle.memory.specs.Views.{cell, tab, word, half, rowOf, entryOf, headAt, firstAt, countAt, opensAt, rowsAt, entriesAt, namedAt, directoriesAt, pushed, Only}
 use Rattle.memory.specs.Flat.{Flat, flatOf, opensOf, rowsOf, entriesOf, namedOf, directoriesOf, Room, Becomes, withOpens, withRows, withEntries, withNamed, withDirectories, insertAt, removeAt, Opened, Closed}
 use Rattle.memory.specs.declared.Row.{Row}
 use Rattle.memory.specs.declared.Entry.{Entry}
 use Rattle.memory.specs.declared.Head.{Head}
 use Rattle.memory.proofs.Laws.{length-tab, set-opened}
 use Rattle.memory.proofs.Cells.{cell-off, cells-off, apart-none, apart-then, cells-set, cells-push, cells-opened, cells-opened-front, cells-insert, cells-remove, cells-remove-front}
+use Rattle.memory.proofs.Spelling.{pushed-word}
 use Rattle.memory.proofs.Changes.{known, recount, recount-none, rows-become, rows-moved, first-become, entries-become, opens-become, named-become, directories-become}
 use Rattle.memory.proofs.Meaning.{becomes-then}
 
@@ -148,14 +149,6 @@ module _ (m : List ℕ) (r : Room m) (n : ℕ) where
         ∙ ap (λ (z : ℕ). removeAt i (tab (cell entryOf z 8 6 m) 0 n)) eb ∙ ap (λ (z : ℕ). removeAt i (entriesAt m (headAt m .capacity) z)) en)
 
   module _ (en : n ≡ countAt m 2) where
-    pub open-in : {m2 m' : List ℕ} (x : ℕ) → length (opensOf m) < 64 → length m' ≡ length m → Only word 128 4 4 m m2 n x → Only word 64 4 4 m2 m' 2 (n + 1)
-        → Becomes m m' (withOpens (flatOf m) (opensOf m ++ x ∷ []))
-    unfolding opensOf
-    open-in {m2} {m'} x f l o q =
-        let k = known m r in
-        opens-become m m2 m' (128 + n * 4) 4 (n + 1) r l (o .apart) (opensOf m ++ x ∷ []) (omega arith) (omega arith) (recount q) (omega arith)
-        (cells-push word 128 4 4 (omega arith) o ∙ ap (λ (z : ℕ). opensAt m z ++ x ∷ []) en)
-
     pub open-out : {m1 m' : List ℕ} (i : ℕ) → i < length (opensOf m) → length m' ≡ length m
         → Lowered m m1 (128 + i * 4) (128 + n * 4) 4 → Only word 64 4 4 m1 m' 2 (n - 1) → Becomes m m' (withOpens (flatOf m) (removeAt i (opensOf m)))
     unfolding opensOf
@@ -174,15 +167,6 @@ module _ (m : List ℕ) (r : Room m) (n : ℕ) where
         named-become m m2 m' (b + n * 2) 2 (n + 1) r l (o .apart) (namedOf m ++ x ∷ []) (omega arith) (recount q) (omega arith)
         (ap (λ (z : ℕ). tab (cell half z 2 2 m2) 0 (n + 1)) (sym eb) ∙ cells-push half b 2 2 (omega arith) o
         ∙ ap (λ (z : ℕ). tab (cell half z 2 2 m) 0 n ++ x ∷ []) eb ∙ ap (λ (z : ℕ). namedAt m (headAt m .capacity) z ++ x ∷ []) en)
-
-  module _ (en : n ≡ countAt m 4) where
-    pub directory-in : {m2 m' : List ℕ} (x : ℕ) → length (directoriesOf m) < 4 → length m' ≡ length m
-        → Only word 96 4 4 m m2 n x → Only word 64 4 4 m2 m' 4 (n + 1) → Becomes m m' (withDirectories (flatOf m) (directoriesOf m ++ x ∷ []))
-    unfolding directoriesOf
-    directory-in {m2} {m'} x f l o q =
-        let k = known m r in
-        directories-become m m2 m' (96 + n * 4) 4 (n + 1) r l (o .apart) (directoriesOf m ++ x ∷ []) (omega arith) (omega arith) (recount q) (omega arith)
-        (cells-push word 96 4 4 (omega arith) o ∙ ap (λ (z : ℕ). directoriesAt m z ++ x ∷ []) en)
 
 kept-count : {m m' : List ℕ} {a n : ℕ} (k : ℕ) → k < 5 → Apart m m' a n → 84 ≤ a → countAt m' k ≡ countAt m k
 kept-count k b p h = cell-off word 64 4 4 (omega arith) p k (inl (omega arith))
@@ -225,6 +209,24 @@ module _ (m : List ℕ) (r : Room m) {m' : List ℕ} (l : length m' ≡ length m
       let en : countAt m' 2 ≡ countAt m 2 = kept-count 2 (omega arith) (o .apart) (omega arith) in
       opens-become m m' m' (128 + i * 4) 4 (countAt m 2) r l (o .apart) (set (opensOf m) i x) (omega arith) (omega arith) (recount-none m' 2 _ en) (k .opens)
       (cells-set word 128 4 4 (omega arith) (countAt m 2) o (omega arith))
+
+  pub open-in : (x : ℕ) → length (opensOf m) < 64 → m' ≡ pushed 128 2 (countAt m 2) x m → Becomes m m' (withOpens (flatOf m) (opensOf m ++ x ∷ []))
+  unfolding opensOf
+  open-in x f e =
+      let k = known m r in
+      let n : ℕ = countAt m 2 in
+      let p = pushed-word m 128 2 n x (omega arith) (omega arith) (omega arith) in
+      opens-become m _ m' (128 + n * 4) 4 (n + 1) r l (p .0 .apart) (opensOf m ++ x ∷ []) (omega arith) (omega arith) (recount (rw e (p .1))) (omega arith)
+      (cells-push word 128 4 4 (omega arith) (p .0))
+
+  pub directory-in : (x : ℕ) → length (directoriesOf m) < 4 → m' ≡ pushed 96 4 (countAt m 4) x m → Becomes m m' (withDirectories (flatOf m) (directoriesOf m ++ x ∷ []))
+  unfolding directoriesOf
+  directory-in x f e =
+      let k = known m r in
+      let n : ℕ = countAt m 4 in
+      let p = pushed-word m 96 4 n x (omega arith) (omega arith) (omega arith) in
+      directories-become m _ m' (96 + n * 4) 4 (n + 1) r l (p .0 .apart) (directoriesOf m ++ x ∷ []) (omega arith) (omega arith) (recount (rw e (p .1))) (omega arith)
+      (cells-push word 96 4 4 (omega arith) (p .0))
 
   -- a list is emptied by its count alone
   pub named-none : Only word 64 4 4 m m' 3 0 → Becomes m m' (withNamed (flatOf m) [])

@@ -7,7 +7,7 @@ use lib.ListN.{getD}
 use lib.Dec.{eqb}
 use Rattle.blocks.specs.Limits.{payloadLimit}
 use Rattle.blocks.specs.Numbers.{num4}
-use Rattle.memory.specs.Bytes.{num2, bytes4, bytes2, cut, Apart}
+use Rattle.memory.specs.Bytes.{num2, bytes4, bytes2, cut, put, Apart}
 use Rattle.memory.specs.declared.Row.{Row}
 use Rattle.memory.specs.declared.Entry.{Entry}
 use Rattle.memory.specs.declared.Head.{Head}
@@ -88,6 +88,10 @@ headAt m = headOf (cut 4 28 m)
 -- the counts: 0 of rows, 1 of pages, 2 of open transactions, 3 of directory entries, 4 of directory blocks written
 abbrev pub countAt : List ℕ → ℕ → ℕ
 countAt m k = cell word 64 4 4 m k
+
+-- a word x behind the n words from base on, with count k one more
+abbrev pub pushed : ℕ → ℕ → ℕ → ℕ → List ℕ → List ℕ
+pushed base k n x m = put (64 + k * 4) (bytes4 (n + 1)) (put (base + n * 4) (bytes4 x) m)
 
 -- the directory blocks written
 abbrev pub directoriesAt : List ℕ → ℕ → List ℕ

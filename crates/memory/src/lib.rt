@@ -14,7 +14,7 @@ ghost use Rattle.blocks.specs.Numbers.{num4};
 ghost use Rattle.model.specs.Rules.{heldSize, calm, withPending, kept};
 ghost use Rattle.model.specs.Recover.{freshStore};
 ghost use Rattle.memory.specs.Bytes.{num2, bytes4, bytes2, cut, put, Shifted, Lowered};
-ghost use Rattle.memory.specs.Views.{rowOf, entryOf, word, numbersOf, entryBytes, firstAt, countAt, entriesAt, entriesFrom, Only};
+ghost use Rattle.memory.specs.Views.{rowOf, entryOf, word, numbersOf, entryBytes, firstAt, countAt, entriesAt, entriesFrom, pushed, Only};
 ghost use Rattle.memory.specs.Flat.{flatOf, countsOf, rowIn, entryIn, Room, Replaces, Becomes, withHead, withOpens, withRows, withEntries, withNamed, withDirectories, withUsed, insertAt, removeAt, usedAnd, Opened, Closed};
 ghost use Rattle.memory.specs.Store.{pendingOf, heldOf, tupleBy, inRange, filledBy, fillsRows, holdsStore, heldIn, Holds, Copied, FreshFits, freshFlat, storeIn};
 
@@ -613,7 +613,18 @@ pub fn remove_entry(m: &mut [u8], p: usize)
     put_count(m, 1, c - 1);
 }
 
-// ---- open transactions, in the order in which they opened
+// ---- words: open transactions, in the order in which they opened, and directory blocks
+
+// One more word behind those from byte base on, whose count is number k.
+fn push_word(m: &mut [u8], base: usize, k: usize, x: u32)
+    requires { ⌜ (k < 5) × ((base + countAt (now m) k * 4 + 4 ≤ 1024) × (1024 ≤ length (now m))) ⌝ }
+    ensures { λ _. ⌜ now (m .exit) ≡ pushed base k (countAt (now (m .entry)) k) x (now (m .entry)) ⌝ }
+{
+    let n = count_at(m, k);
+    let j = n as usize;
+    put4(m, base + j * 4, x);
+    put4(m, 64 + k * 4, n + 1);
+}
 
 pub fn get_open(m: &[u8], i: usize) -> u32
     requires { ⌜ Room (now m) × (i < length (flatOf (now m) .opens)) ⌝ }
@@ -626,10 +637,7 @@ pub fn push_open(m: &mut [u8], x: u32)
     requires { ⌜ Room (now m) × (length (flatOf (now m) .opens) < 64) ⌝ }
     ensures { λ _. ⌜ Becomes (now (m .entry)) (now (m .exit)) (withOpens (flatOf (now (m .entry))) (flatOf (now (m .entry)) .opens ++ x ∷ [])) ⌝ }
 {
-    let n = count_at(m, 2);
-    let k = n as usize;
-    put4(m, 128 + k * 4, x);
-    put_count(m, 2, n + 1);
+    push_word(m, 128, 2, x);
 }
 
 pub fn put_open(m: &mut [u8], i: usize, x: u32)
@@ -698,10 +706,7 @@ pub fn push_directory(m: &mut [u8], x: u32)
     requires { ⌜ Room (now m) × (length (flatOf (now m) .directories) < 4) ⌝ }
     ensures { λ _. ⌜ Becomes (now (m .entry)) (now (m .exit)) (withDirectories (flatOf (now (m .entry))) (flatOf (now (m .entry)) .directories ++ x ∷ [])) ⌝ }
 {
-    let n = count_at(m, 4);
-    let k = n as usize;
-    put4(m, 96 + k * 4, x);
-    put_count(m, 4, n + 1);
+    push_word(m, 96, 4, x);
 }
 
 pub fn clear_directories(m: &mut [u8])
