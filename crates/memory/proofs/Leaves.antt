@@ -6,7 +6,7 @@ use native.Mathlib.Omega.{arith}
 use mathlib.Core.List.{List, [], _∷_, _++_}
 use lib.ListN.{length, set}
 use Rattle.memory.specs.Bytes.{Apart, Shifted, Lowered}
-use Rattle.memory.specs.Views.{cell, tab, word, half, rowOf, entryOf, headAt, firstAt, countAt, opensAt, rowsAt, entriesAt, namedAt, directoriesAt, pushed, Only}
+use Rattle.memory.specs.Views.{cell, tab, word, half, rowOf, entryOf, headAt, firstAt, countAt, opensAt, rowsAt, entriesAt, namedAt, pushed, Only}
 use Rattle.memory.specs.Flat.{Flat, flatOf, opensOf, rowsOf, entriesOf, namedOf, directoriesOf, Room, Becomes, withOpens, withRows, withEntries, withNamed, withDirectories, insertAt, removeAt, Opened, Closed}
 use Rattle.memory.specs.declared.Row.{Row}
 use Rattle.memory.specs.declared.Entry.{Entry}

@@ -5,7 +5,7 @@ use Rattle.memory.specs.Views.{cell, entryOf}
 use mathlib.Core.List.{List}
 use native.Mathlib.Omega.{arith}
 use Prim.Native.Nat.{ℕ, suc, _+_, _*_}
-use mathlib.Core.Path.{_≡_, refl, _∙_}
+use mathlib.Core.Path.{refl, _∙_}
 use borrow.Author.Needs.{needs}
 use Rattle.memory.proofs.four_filled.Statement.{statement}
 use Rattle.memory.proofs.four_filled.Tie as tie
