@@ -5,7 +5,7 @@ use Prim.Native.Nat.{ℕ, _+_, _*_, _-_, _/_, _≤_, _<_}
 use native.Mathlib.Omega.{arith}
 use mathlib.Core.List.{List, [], _∷_, _++_}
 use lib.ListN.{length, set}
-use Rattle.memory.specs.Bytes.{Apart, Shifted, Lowered}
+use Rattle.memory.specs.Bytes.{bytes4, put, Apart, Shifted, Lowered}
 use Rattle.memory.specs.Views.{cell, tab, word, half, rowOf, entryOf, headAt, firstAt, countAt, opensAt, rowsAt, entriesAt, namedAt, pushed, Only}
 use Rattle.memory.specs.Flat.{Flat, flatOf, opensOf, rowsOf, entriesOf, namedOf, directoriesOf, Room, Becomes, withOpens, withRows, withEntries, withNamed, withDirectories, insertAt, removeAt, Opened, Closed}
 use Rattle.memory.specs.declared.Row.{Row}
@@ -13,11 +13,14 @@ use Rattle.memory.specs.declared.Entry.{Entry}
 use Rattle.memory.specs.declared.Head.{Head}
 use Rattle.memory.proofs.Laws.{length-tab, set-opened}
 use Rattle.memory.proofs.Cells.{cell-off, cells-off, apart-none, apart-then, cells-set, cells-push, cells-opened, cells-opened-front, cells-insert, cells-remove, cells-remove-front}
-use Rattle.memory.proofs.Spelling.{pushed-word}
+use Rattle.memory.proofs.Spelling.{stored-word, pushed-word}
 use Rattle.memory.proofs.Changes.{known, recount, recount-none, rows-become, rows-moved, first-become, entries-become, opens-become, named-become, directories-become}
 use Rattle.memory.proofs.Meaning.{becomes-then}
 
 -- ---- places of rows
+
+between : (P : ℕ → ℕ → Type 0) {a b c d : ℕ} → a ≡ c → b ≡ d → P a b → P c d
+between P {a} {b} {c} {d} e f p = subst (λ (z : ℕ). P c z) f (subst (λ (z : ℕ). P z b) e p)
 
 -- b: where row 0 stands, f: how many rows there would be room for before it
 module _ (m : List ℕ) (r : Room m) (n f b : ℕ) (en : n ≡ countAt m 0) (ef : f ≡ firstAt m) (eb : b ≡ 1024 + firstAt m * 80) where
@@ -31,9 +34,10 @@ module _ (m : List ℕ) (r : Room m) (n f b : ℕ) (en : n ≡ countAt m 0) (ef 
       ap (λ (z : ℕ). rowsAt m' z k) e ∙ ap (λ (z : ℕ). tab (cell rowOf z 80 56 m') 0 k) (sym eb') ∙ ap (tab (cell rowOf b' 80 56 m') 0) ek
 
   module _ (i : ℕ) {m1 : List ℕ} (l1 : length m1 ≡ length m) where
-    pub opened-back : i ≤ length (rowsOf m) → length (rowsOf m) < headAt m .capacity → Shifted m m1 (b + i * 80) (b + n * 80) 80 → Opened m m1 i
-    opened-back h c sh =
+    pub opened-back : {lo hi : ℕ} → i ≤ length (rowsOf m) → length (rowsOf m) < headAt m .capacity → Shifted m m1 lo hi 80 → lo ≡ b + i * 80 → hi ≡ b + n * 80 → Opened m m1 i
+    opened-back h c sh' el eh =
         let k = known m r in
+        let sh : Shifted m m1 (b + i * 80) (b + n * 80) 80 = between (λ x y. Shifted m m1 x y 80) el eh sh' in
         let w = rows-moved m m1 (b + i * 80) (b + n * 80 - (b + i * 80) + 80) r l1 (sh .apart) (omega arith) (omega arith) in
         record {
           others = w .1 .1;
@@ -42,15 +46,16 @@ module _ (m : List ℕ) (r : Room m) (n f b : ℕ) (en : n ≡ countAt m 0) (ef 
               ∙ cells-opened rowOf b 80 56 (omega arith) n sh (omega arith) ∙ sym rows-are;
         }
 
-    pub closed-back : i < length (rowsOf m) → Lowered m m1 (b + i * 80) (b + n * 80) 80 → Closed m m1 i
-    closed-back h lo =
+    pub closed-back : {lo hi : ℕ} → i < length (rowsOf m) → Lowered m m1 lo hi 80 → lo ≡ b + i * 80 → hi ≡ b + n * 80 → Closed m m1 i
+    closed-back h sh' el eh =
         let k = known m r in
-        let w = rows-moved m m1 (b + i * 80) (b + n * 80 - (b + i * 80)) r l1 (lo .apart) (omega arith) (omega arith) in
+        let sh : Lowered m m1 (b + i * 80) (b + n * 80) 80 = between (λ x y. Lowered m m1 x y 80) el eh sh' in
+        let w = rows-moved m m1 (b + i * 80) (b + n * 80 - (b + i * 80)) r l1 (sh .apart) (omega arith) (omega arith) in
         record {
           others = w .1 .1;
           around =
               rows-at m1 (firstAt m) b (countAt m 0 - 1) (n - 1) (w .0) eb (omega arith)
-              ∙ cells-remove rowOf b 80 56 (omega arith) n lo (omega arith) ∙ ap (removeAt i) (sym rows-are);
+              ∙ cells-remove rowOf b 80 56 (omega arith) n sh (omega arith) ∙ ap (removeAt i) (sym rows-are);
         }
 
     module _ {m' : List ℕ} (l' : length m' ≡ length m1) where
@@ -64,33 +69,36 @@ module _ (m : List ℕ) (r : Room m) (n f b : ℕ) (en : n ≡ countAt m 0) (ef 
           let v = first-become m1 m' g (w .1 .1 .room) l' o (omega (arith, ec, h3)) in
           (v .0, becomes-then m m1 m' _ (λ (x : Flat). withRows x (rowsOf m')) (w .1 .1) (v .1))
 
-      pub opened-front : i ≤ length (rowsOf m) → 0 < f → Lowered m m1 (b - 80) (b + i * 80) 80 → Only word 32 4 4 m1 m' 0 (f - 1) → Opened m m' i
-      opened-front h pos lo o =
+      -- g: the first that was set
+      pub opened-front : {a hi : ℕ} (g : ℕ) → m' ≡ put 32 (bytes4 g) m1 → g + 1 ≡ f → i ≤ length (rowsOf m) → Lowered m m1 a hi 80 → a + 80 ≡ b → hi ≡ b + i * 80 → Opened m m' i
+      opened-front {a} {hi} g eg ef1 h sh' ea eh =
           let k = known m r in
-          let a : ℕ = b - 80 in
-          let ea : a + 80 ≡ b = omega arith in
-          let lo' : Lowered m m1 a (a + 80 + i * 80) 80 = subst (λ (z : ℕ). Lowered m m1 a (z + i * 80) 80) (sym ea) lo in
-          let w = both-moved a (b + i * 80 - a) (f - 1) (lo .apart) (omega arith) (omega arith) o (omega (arith, r .first)) in
+          let sh : Lowered m m1 a (a + 80 + i * 80) 80 = between (λ x y. Lowered m m1 x y 80) refl (eh ∙ ap (λ (z : ℕ). z + i * 80) (sym ea)) sh' in
+          let o : Only word 32 4 4 m1 m' 0 g = rw eg (stored-word m1 32 0 g (omega arith)) in
+          let w = both-moved a (a + 80 + i * 80 - a) g (sh .apart) (omega arith) (omega arith) o (omega (arith, r .first)) in
           let kept : tab (cell rowOf a 80 56 m') 0 (n + 1) ≡ tab (cell rowOf a 80 56 m1) 0 (n + 1) =
           cells-off rowOf a 80 56 (omega arith) (o .apart) (n + 1) (inr (omega arith)) in
           record {
             others = w .1;
             around =
-                ap (removeAt i) (rows-at m' (f - 1) a (countAt m 0 + 1) (n + 1) (w .0) (omega arith) (omega arith) ∙ kept)
-                ∙ cells-opened-front rowOf a 80 56 (omega arith) n lo' (omega arith)
+                ap (removeAt i) (rows-at m' g a (countAt m 0 + 1) (n + 1) (w .0) (omega arith) (omega arith) ∙ kept)
+                ∙ cells-opened-front rowOf a 80 56 (omega arith) n sh (omega arith)
                 ∙ ap (λ (z : ℕ). tab (cell rowOf z 80 56 m) 0 n) ea ∙ sym rows-are;
           }
 
-      pub closed-front : i < length (rowsOf m) → f < headAt m .capacity / 4 → Shifted m m1 b (b + i * 80) 80 → Only word 32 4 4 m1 m' 0 (f + 1) → Closed m m' i
-      closed-front h room sh o =
+      pub closed-front : {lo hi : ℕ} (g : ℕ) → m' ≡ put 32 (bytes4 g) m1 → g ≡ f + 1 → g ≤ headAt m .capacity / 4 → i < length (rowsOf m) → Shifted m m1 lo hi 80 → lo ≡ b → hi ≡ b + i * 80
+          → Closed m m' i
+      closed-front g eg ef1 room h sh' el eh =
           let k = known m r in
-          let w = both-moved b (b + i * 80 - b + 80) (f + 1) (sh .apart) (omega arith) (omega arith) o (omega arith) in
+          let sh : Shifted m m1 b (b + i * 80) 80 = between (λ x y. Shifted m m1 x y 80) el eh sh' in
+          let o : Only word 32 4 4 m1 m' 0 g = rw eg (stored-word m1 32 0 g (omega arith)) in
+          let w = both-moved b (b + i * 80 - b + 80) g (sh .apart) (omega arith) (omega arith) o room in
           let kept : tab (cell rowOf (b + 80) 80 56 m') 0 (n - 1) ≡ tab (cell rowOf (b + 80) 80 56 m1) 0 (n - 1) =
           cells-off rowOf (b + 80) 80 56 (omega arith) (o .apart) (n - 1) (inr (omega arith)) in
           record {
             others = w .1;
             around =
-                rows-at m' (f + 1) (b + 80) (countAt m 0 - 1) (n - 1) (w .0) (omega arith) (omega arith) ∙ kept
+                rows-at m' g (b + 80) (countAt m 0 - 1) (n - 1) (w .0) (omega arith) (omega arith) ∙ kept
                 ∙ cells-remove-front rowOf b 80 56 (omega arith) n sh (omega arith) ∙ ap (removeAt i) (sym rows-are);
           }
 

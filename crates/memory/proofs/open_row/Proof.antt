@@ -1,12 +1,10 @@
 use Rattle.memory.proofs.Leaves.{opened-front, opened-back}
 use Rattle.memory.proofs.Changes.{known}
-use Rattle.memory.proofs.Spelling.{stored-word}
-use Rattle.memory.specs.Views.{word, Only}
 use Rattle.basics.proofs.Facts.{and-true}
 use borrow.Author.Tests.{ltb-true}
 use mathlib.Core.List.{List}
 use native.Mathlib.Omega.{arith}
-use Prim.Native.Nat.{ℕ, _-_, _<_}
+use Prim.Native.Nat.{ℕ, _<_}
 use borrow.Author.Needs.{needs}
 use Rattle.memory.proofs.open_row.Statement.{statement}
 use Rattle.memory.proofs.open_row.Tie as tie
@@ -59,10 +57,8 @@ returns c = let st = c .before .before .before .before .before .before .before .
     let w1 = c .before .before .before .before .before .before .shift-down in
     let w2 = c .before .before .put4 in
     let t : 0 < f .result = ltb-true _ _ (and-true _ _ (c .before .before .before .before .before .before .before .before .if1 .taken) .0) in
-    let o : Only word 32 4 4 (w1 .last .0) (w2 .last .0) 0 (f .result - 1) =
-    rw (w2 .ensures) (stored-word (w1 .last .0) 32 0 (f .result - 1) (omega (arith, w1 .kept .0, st .pre .0 .range .long))) in
-    opened-front m (st .pre .0) (n .result) (f .result) (b .result) (n .ensures) (f .ensures) (b .ensures) (st .args .i) (w1 .kept .0) (w2 .kept .0) (st .pre .1 .0) t
-    (w1 .ensures) o
+    opened-front m (st .pre .0) (n .result) (f .result) (b .result) (n .ensures) (f .ensures) (b .ensures) (st .args .i) (w1 .kept .0) (w2 .kept .0)
+    _ (w2 .ensures) (omega arith) (st .pre .1 .0) (w1 .ensures) (omega (arith, b .ensures)) (omega arith)
 
 mul-shift-up : tie.Need-mul-shift-up
 mul-shift-up c = search needs
@@ -92,7 +88,7 @@ returns-2 c = let st = c .before .before .before .before .before .before .before
     let b = c .before .before .before .before .before .rows-from in
     let w = c .before .before .shift-up in
     opened-back (st .args .m .now) (st .pre .0) (n .result) (f .result) (b .result) (n .ensures) (f .ensures) (b .ensures) (st .args .i) (w .kept .0) (st .pre .1 .0)
-    (st .pre .1 .1) (w .ensures)
+    (st .pre .1 .1) (w .ensures) (omega arith) (omega arith)
 
 pub open-row-spec : {M : Type 1} → statement M
 open-row-spec =
