@@ -23,6 +23,8 @@ int main(void) {
         vodzanu_commit(memory, LEN, 1);
         vodzanu_open(memory, LEN, 2);
         unsigned pages = memory[64 + 4 + 2] * 256 + memory[64 + 4 + 3]; /* the second of the counts: docs/LAYOUT.md */
+        unsigned first = memory[32] << 24 | memory[33] << 16 | memory[34] << 8 | memory[35]; /* rows before row 0 */
+        uint8_t *rows = memory + 1024 + 80 * first;
         double test = 1e18, scan = 1e18, plain = 1e18;
         for (int round = 0; round < 400; round++) {
             double t = now();
@@ -37,7 +39,7 @@ int main(void) {
             uint32_t found = 0;
             for (int i = 0; i < 100; i++) {
                 for (int k = 0; k < N; k++) {
-                    uint8_t *r = memory + 1024 + 80 * k;
+                    uint8_t *r = rows + 80 * k;
                     uint32_t key = (uint32_t)r[0] << 24 | r[1] << 16 | r[2] << 8 | r[3];
                     found += key == 5000000;
                 }

@@ -1,8 +1,9 @@
 -- A memory that was laid out anew: its head, its counts, and the empty store.
 use mathlib.Core.Path.{_≡_, refl, sym, ap, _∙_}
+use mathlib.Core.Logic.{inl, inr}
 use mathlib.Core.Option.{some}
 use mathlib.Core.Bool.{true}
-use Prim.Native.Nat.{ℕ, _+_, _*_, _-_, _≤_}
+use Prim.Native.Nat.{ℕ, _+_, _*_, _-_, _/_, _≤_}
 use native.Mathlib.Omega.{arith}
 use mathlib.Core.List.{List}
 use lib.ListN.{length, replicate, length-replicate}
@@ -10,11 +11,11 @@ use Rattle.basics.specs.Basics.{if_then_else_, every, all, sum}
 use Rattle.blocks.specs.Numbers.{num4}
 use Rattle.model.specs.Recover.{freshStore}
 use Rattle.memory.specs.Bytes.{bytes4, cut, put, Apart}
-use Rattle.memory.specs.Views.{cell, word, headOf, headAt, countAt, usedAt, opensAt, rowsAt, entriesAt, namedAt, directoriesAt}
+use Rattle.memory.specs.Views.{cell, word, headOf, headAt, firstAt, countAt, usedAt, opensAt, rowsAt, entriesAt, namedAt, directoriesAt}
 use Rattle.memory.specs.Flat.{flatOf, opensOf, rowsOf, entriesOf, namedOf, directoriesOf, signature, Becomes}
 use Rattle.memory.specs.Store.{FreshFits, freshFlat, storeOf, nest, checkpointOf, fillsRows, total, filled, storeIn}
 use Rattle.memory.proofs.Laws.{cut-put-in, put-apart, length-put}
-use Rattle.memory.proofs.Cells.{put-here}
+use Rattle.memory.proofs.Cells.{Off, off, put-here}
 use Rattle.memory.proofs.Spelling.{word-back}
 use Rattle.memory.proofs.Changes.{word-at, becomes, flat-eq}
 use Rattle.memory.proofs.Access.{num4-cut}
@@ -22,12 +23,13 @@ use Rattle.memory.proofs.Marks.{clear-is, clear-apart}
 use Rattle.memory.proofs.Meaning.{in-next}
 
 -- what the function did, one write after the other
-pub record Blanked (m m1 m2 m3 m4 m' : List ℕ) (b n : ℕ) : Type 0 where
+pub record Blanked (m m1 m2 m3 m4 m5 m' : List ℕ) (b n : ℕ) : Type 0 where
   pub zeros : m1 ≡ put 0 (replicate 128 0) m
   pub sign : m2 ≡ put 0 (bytes4 signature) m1
   pub capacity : m3 ≡ put 4 (bytes4 n) m2
   pub blocks : m4 ≡ put 8 (bytes4 b) m3
-  pub unused : m' ≡ put 512 (replicate 512 0) m4
+  pub first : m5 ≡ put 32 (bytes4 (n / 4)) m4
+  pub unused : m' ≡ put 512 (replicate 512 0) m5
 
 bytes-apart : (a x : ℕ) (m m' : List ℕ) → a + 4 ≤ length m → m' ≡ put a (bytes4 x) m → Apart m m' a 4
 unfolding bytes4
@@ -41,7 +43,7 @@ bytes-long : (a x : ℕ) (m m' : List ℕ) → a + 4 ≤ length m → m' ≡ put
 unfolding bytes4
 bytes-long a x m m' h e = ap length e ∙ length-put a (bytes4 x) m (omega arith)
 
-module _ (m m1 m2 m3 m4 m' : List ℕ) (b n : ℕ) (d : Blanked m m1 m2 m3 m4 m' b n) (big : 1024 ≤ length m) where
+module _ (m m1 m2 m3 m4 m5 m' : List ℕ) (b n : ℕ) (d : Blanked m m1 m2 m3 m4 m5 m' b n) (big : 1024 ≤ length m) where
   l1 : length m1 ≡ length m
   l1 = ap length (d .zeros) ∙ length-put 0 (replicate 128 0) m (omega (arith, length-replicate {A = ℕ} 128 0))
 
@@ -54,6 +56,9 @@ module _ (m m1 m2 m3 m4 m' : List ℕ) (b n : ℕ) (d : Blanked m m1 m2 m3 m4 m'
   l4 : length m4 ≡ length m
   l4 = bytes-long 8 b m3 m4 (omega (arith, l3)) (d .blocks) ∙ l3
 
+  l5 : length m5 ≡ length m
+  l5 = bytes-long 32 (n / 4) m4 m5 (omega (arith, l4)) (d .first) ∙ l4
+
   p2 : Apart m1 m2 0 4
   p2 = bytes-apart 0 signature m1 m2 (omega (arith, l1)) (d .sign)
 
@@ -63,33 +68,39 @@ module _ (m m1 m2 m3 m4 m' : List ℕ) (b n : ℕ) (d : Blanked m m1 m2 m3 m4 m'
   p4 : Apart m3 m4 8 4
   p4 = bytes-apart 8 b m3 m4 (omega (arith, l3)) (d .blocks)
 
-  p5 : Apart m4 m' 512 512
-  p5 = rw (d .unused) (clear-apart 512 512 m4 (omega (arith, l4)))
+  p5 : Apart m4 m5 32 4
+  p5 = bytes-apart 32 (n / 4) m4 m5 (omega (arith, l4)) (d .first)
+
+  p6 : Apart m5 m' 512 512
+  p6 = rw (d .unused) (clear-apart 512 512 m5 (omega (arith, l5)))
 
   sign-is : num4 m' 0 ≡ signature
   sign-is =
       sym (word-at m' 0)
-      ∙ ap word (p5 .before 0 4 (omega arith) ∙ p4 .before 0 4 (omega arith) ∙ p3 .before 0 4 (omega arith))
+      ∙ ap word (p6 .before 0 4 (omega arith) ∙ p5 .before 0 4 (omega arith) ∙ p4 .before 0 4 (omega arith) ∙ p3 .before 0 4 (omega arith))
       ∙ bytes-here 0 signature m1 m2 (omega (arith, l1)) (d .sign)
 
   capacity-is : num4 m' 4 ≡ n
   capacity-is =
-      sym (word-at m' 4) ∙ ap word (p5 .before 4 4 (omega arith) ∙ p4 .before 4 4 (omega arith)) ∙ bytes-here 4 n m2 m3 (omega (arith, l2)) (d .capacity)
+      sym (word-at m' 4) ∙ ap word (p6 .before 4 4 (omega arith) ∙ p5 .before 4 4 (omega arith) ∙ p4 .before 4 4 (omega arith)) ∙ bytes-here 4 n m2 m3 (omega (arith, l2)) (d .capacity)
 
   blocks-is : num4 m' 8 ≡ b
-  blocks-is = sym (word-at m' 8) ∙ ap word (p5 .before 8 4 (omega arith)) ∙ bytes-here 8 b m3 m4 (omega (arith, l3)) (d .blocks)
+  blocks-is = sym (word-at m' 8) ∙ ap word (p6 .before 8 4 (omega arith) ∙ p5 .before 8 4 (omega arith)) ∙ bytes-here 8 b m3 m4 (omega (arith, l3)) (d .blocks)
 
-  -- the words behind them are zeros
-  zeros-at : (a : ℕ) → 12 ≤ a → a + 4 ≤ 128 → cut a 4 m' ≡ cut a 4 (replicate 128 0)
-  zeros-at a h1 h2 =
+  first-is : firstAt m' ≡ n / 4
+  first-is = sym (word-at m' 32) ∙ ap word (p6 .before 32 4 (omega arith)) ∙ bytes-here 32 (n / 4) m4 m5 (omega (arith, l4)) (d .first)
+
+  -- the other words behind them are zeros
+  zeros-at : (a : ℕ) → 12 ≤ a → a + 4 ≤ 128 → Off a 4 32 4 → cut a 4 m' ≡ cut a 4 (replicate 128 0)
+  zeros-at a h1 h2 o =
       let l : length (replicate {A = ℕ} 128 0) ≡ 128 = length-replicate {A = ℕ} 128 0 in
       let e : a - 0 ≡ a = omega arith in
-      p5 .before a 4 (omega arith) ∙ p4 .after a 4 (omega arith) ∙ p3 .after a 4 (omega arith) ∙ p2 .after a 4 (omega arith)
+      p6 .before a 4 (omega arith) ∙ off p5 a 4 o ∙ p4 .after a 4 (omega arith) ∙ p3 .after a 4 (omega arith) ∙ p2 .after a 4 (omega arith)
       ∙ ap (cut a 4) (d .zeros) ∙ cut-put-in 0 (replicate 128 0) m (omega arith) a 4 (omega arith) (omega arith)
       ∙ ap (λ (z : ℕ). cut z 4 (replicate 128 0)) e
 
-  word-zero : (a : ℕ) → 12 ≤ a → a + 4 ≤ 128 → word (cut a 4 (replicate 128 0)) ≡ 0 → num4 m' a ≡ 0
-  word-zero a h1 h2 z = sym (word-at m' a) ∙ ap word (zeros-at a h1 h2) ∙ z
+  word-zero : (a : ℕ) → 12 ≤ a → a + 4 ≤ 32 → word (cut a 4 (replicate 128 0)) ≡ 0 → num4 m' a ≡ 0
+  word-zero a h1 h2 z = sym (word-at m' a) ∙ ap word (zeros-at a h1 (omega arith) (inl h2)) ∙ z
 
   head-is : headAt m' ≡ record { capacity = n; blocks = b; level = 0; next = 0; running = 0; begun = 0; taken = 0 }
   unfolding headAt headOf word num4
@@ -105,9 +116,9 @@ module _ (m m1 m2 m3 m4 m' : List ℕ) (b n : ℕ) (d : Blanked m m1 m2 m3 m4 m'
         taken = (f 24 (omega arith) ∙ word-zero 28 (omega arith) (omega arith) refl) i;
       }
 
-  none : (k a : ℕ) → 64 + k * 4 ≡ a → 12 ≤ a → a + 4 ≤ 128 → word (cut a 4 (replicate 128 0)) ≡ 0 → countAt m' k ≡ 0
+  none : (k a : ℕ) → 64 + k * 4 ≡ a → 36 ≤ a → a + 4 ≤ 128 → word (cut a 4 (replicate 128 0)) ≡ 0 → countAt m' k ≡ 0
   unfolding cell
-  none k a e h1 h2 z = ap (λ (x : ℕ). word (cut x 4 m')) e ∙ ap word (zeros-at a h1 h2) ∙ z
+  none k a e h1 h2 z = ap (λ (x : ℕ). word (cut x 4 m')) e ∙ ap word (zeros-at a (omega arith) h2 (inr h1)) ∙ z
 
   pub blank-becomes : FreshFits (length m) b n → length m' ≡ length m → Becomes m m' (freshFlat b n)
   unfolding freshFlat opensOf rowsOf entriesOf namedOf directoriesOf word num4
@@ -116,11 +127,11 @@ module _ (m m1 m2 m3 m4 m' : List ℕ) (b n : ℕ) (d : Blanked m m1 m2 m3 m4 m'
       (flat-eq (flatOf m') (freshFlat b n)
       head-is
       (ap (opensAt m') (none 2 72 refl (omega arith) (omega arith) refl))
-      (ap (rowsAt m') (none 0 64 refl (omega arith) (omega arith) refl))
+      (ap (rowsAt m' (firstAt m')) (none 0 64 refl (omega arith) (omega arith) refl))
       (ap (entriesAt m' (headAt m' .capacity)) (none 1 68 refl (omega arith) (omega arith) refl))
       (ap (namedAt m' (headAt m' .capacity)) (none 3 76 refl (omega arith) (omega arith) refl))
       (ap (directoriesAt m') (none 4 80 refl (omega arith) (omega arith) refl))
-      (ap usedAt (d .unused) ∙ clear-is m4 (omega (arith, l4))))
+      (ap usedAt (d .unused) ∙ clear-is m5 (omega (arith, l5))))
       (record {
         least = g .least;
         most = g .most;
@@ -134,6 +145,7 @@ module _ (m m1 m2 m3 m4 m' : List ℕ) (b n : ℕ) (d : Blanked m m1 m2 m3 m4 m'
         named = omega arith;
         directories = omega arith;
       })
+      (omega (arith, first-is))
 
 fresh-filled : (b n : ℕ) → filled (freshFlat b n) ≡ true
 unfolding freshFlat fillsRows total every all sum

@@ -10,7 +10,7 @@ use lib.Seq.{take-all, getD-take, getD-drop}
 use Rattle.memory.specs.Bytes.{cut, put, Apart, Shifted, Lowered}
 use Rattle.memory.specs.Views.{cell, tab, Only}
 use Rattle.memory.specs.Flat.{insertAt, removeAt}
-use Rattle.memory.proofs.Laws.{lt-or-ge, cut-put-in, put-apart, getD-tab, tab-cong, tab-add, tab-set, tab-insert, tab-remove}
+use Rattle.memory.proofs.Laws.{lt-or-ge, cut-put-in, put-apart, length-tab, getD-tab, tab-cong, tab-add, tab-set, tab-remove, set-opened}
 
 -- the n bytes from b on are none of the k bytes from a on
 abbrev pub Off : ℕ → ℕ → ℕ → ℕ → Type 0
@@ -99,21 +99,46 @@ module _ {A : Type 0} (of : List ℕ → A) (base w v : ℕ) (small : v ≤ w) w
       ap (at m') e ∙ cell-before (o .apart) j (omega arith) ∙ ap (at m) (sym e)) in
       tab-add (at m') 0 n 1 ∙ cc
 
-  pub cells-insert : {m m1 m2 : List ℕ} {i : ℕ} {x : A} (n : ℕ) → Shifted m m1 (base + i * w) (base + n * w) w → Only of base w v m1 m2 i x → i ≤ n
-      → tab (at m2) 0 (n + 1) ≡ insertAt i x (tab (at m) 0 n)
+  -- a place opened at i by the cells behind it
+  pub cells-opened : {m m1 : List ℕ} {i : ℕ} (n : ℕ) → Shifted m m1 (base + i * w) (base + n * w) w → i ≤ n
+      → removeAt i (tab (at m1) 0 (n + 1)) ≡ tab (at m) 0 n
   unfolding cell
-  cells-insert {m} {m1} {m2} {i} {x} n sh o h =
-      tab-insert (at m) (at m2) n i x h
-      (λ j z. let s : j * w + w ≤ i * w = step j i z in cell-before (o .apart) j (omega arith) ∙ cell-before (sh .apart) j (omega arith))
-      (o .here)
+  cells-opened {m} {m1} {i} n sh h =
+      let c : n + 1 - 1 ≡ n = omega arith in
+      sym (ap (tab (at m) 0) (sym c)
+      ∙ tab-remove (at m1) (at m) (n + 1) i (omega arith)
+      (λ j z. let s : j * w + w ≤ i * w = step j i z in sym (cell-before (sh .apart) j (omega arith)))
       (λ j z y.
-      let s : i * w + w ≤ suc j * w = step i (suc j) (omega arith) in
-      let t : j * w + w ≤ n * w = step j n y in
+      let t : j * w + w ≤ n * w = step j n (omega arith) in
       let u : i * w ≤ j * w = mul-le-mul-right w z in
       let q : suc j * w ≡ j * w + w = suc-mul j w in
       let e : base + suc j * w ≡ base + j * w + w = omega arith in
-      cell-after (o .apart) (suc j) (omega arith)
-      ∙ ap of (ap (λ (z : ℕ). cut z v m1) e ∙ sh .moved (base + j * w) v (omega arith) (omega arith)))
+      sym (ap of (ap (λ (z : ℕ). cut z v m1) e ∙ sh .moved (base + j * w) v (omega arith) (omega arith)))))
+
+  -- and by those before it: they begin at base now
+  pub cells-opened-front : {m m1 : List ℕ} {i : ℕ} (n : ℕ) → Lowered m m1 base (base + w + i * w) w → i ≤ n
+      → removeAt i (tab (at m1) 0 (n + 1)) ≡ tab (cell of (base + w) w v m) 0 n
+  unfolding cell
+  cells-opened-front {m} {m1} {i} n lo h =
+      let c : n + 1 - 1 ≡ n = omega arith in
+      sym (ap (tab (cell of (base + w) w v m) 0) (sym c)
+      ∙ tab-remove (at m1) (cell of (base + w) w v m) (n + 1) i (omega arith)
+      (λ j z.
+      let s : j * w + w ≤ i * w = step j i z in
+      let e : base + w + j * w ≡ base + j * w + w = omega arith in
+      ap (λ (z : ℕ). of (cut z v m)) e ∙ sym (ap of (lo .moved (base + j * w) v (omega arith) (omega arith))))
+      (λ j z y.
+      let u : i * w ≤ j * w = mul-le-mul-right w z in
+      let q : suc j * w ≡ j * w + w = suc-mul j w in
+      let e : base + w + j * w ≡ base + suc j * w = omega arith in
+      ap (λ (z : ℕ). of (cut z v m)) e ∙ sym (cell-after (lo .apart) (suc j) (omega arith))))
+
+  pub cells-insert : {m m1 m2 : List ℕ} {i : ℕ} {x : A} (n : ℕ) → Shifted m m1 (base + i * w) (base + n * w) w → Only of base w v m1 m2 i x → i ≤ n
+      → tab (at m2) 0 (n + 1) ≡ insertAt i x (tab (at m) 0 n)
+  cells-insert {m} {m1} {m2} {i} {x} n sh o h =
+      cells-set (n + 1) o (omega arith)
+      ∙ set-opened (tab (at m1) 0 (n + 1)) i x (omega (arith, length-tab (at m1) 0 (n + 1)))
+      ∙ ap (insertAt i x) (cells-opened n sh h)
 
   pub cells-remove : {m m1 : List ℕ} {i : ℕ} (n : ℕ) → Lowered m m1 (base + i * w) (base + n * w) w → i < n
       → tab (at m1) 0 (n - 1) ≡ removeAt i (tab (at m) 0 n)
@@ -127,6 +152,22 @@ module _ {A : Type 0} (of : List ℕ → A) (base w v : ℕ) (small : v ≤ w) w
       let q : suc j * w ≡ j * w + w = suc-mul j w in
       let e : base + suc j * w ≡ base + j * w + w = omega arith in
       ap of (sh .moved (base + j * w) v (omega arith) (omega arith) ∙ ap (λ (z : ℕ). cut z v m) (sym e)))
+
+  -- the place of i closed by the cells before it: they begin one further up now
+  pub cells-remove-front : {m m1 : List ℕ} {i : ℕ} (n : ℕ) → Shifted m m1 base (base + i * w) w → i < n
+      → tab (cell of (base + w) w v m1) 0 (n - 1) ≡ removeAt i (tab (at m) 0 n)
+  unfolding cell
+  cells-remove-front {m} {m1} {i} n sh h =
+      tab-remove (at m) (cell of (base + w) w v m1) n i h
+      (λ j z.
+      let s : j * w + w ≤ i * w = step j i z in
+      let e : base + w + j * w ≡ base + j * w + w = omega arith in
+      ap (λ (z : ℕ). of (cut z v m1)) e ∙ ap of (sh .moved (base + j * w) v (omega arith) (omega arith)))
+      (λ j z y.
+      let u : i * w ≤ j * w = mul-le-mul-right w z in
+      let q : suc j * w ≡ j * w + w = suc-mul j w in
+      let e : base + w + j * w ≡ base + suc j * w = omega arith in
+      ap (λ (z : ℕ). of (cut z v m1)) e ∙ cell-after (sh .apart) (suc j) (omega arith))
 
 -- the list's element
 pub tab-at : {A : Type 0} (f : ℕ → A) (n i : ℕ) (d : A) → i < n → getD (tab f 0 n) i d ≡ f i

@@ -2,20 +2,20 @@
 use mathlib.Core.Path.{_≡_, refl, sym, ap, _∙_, subst}
 use mathlib.Core.Logic.{inl, inr, ⊎-elim}
 use mathlib.Core.Bool.{Bool}
-use Prim.Native.Nat.{ℕ, _+_, _*_, _≤_, _<_}
+use Prim.Native.Nat.{ℕ, _+_, _*_, _/_, _≤_, _<_}
 use native.Mathlib.Omega.{arith}
 use mathlib.Core.List.{List}
 use lib.ListN.{length, getD}
 use Rattle.blocks.specs.Numbers.{num4}
 use Rattle.memory.specs.Bytes.{cut, Apart}
-use Rattle.memory.specs.Views.{cell, tab, word, half, rowOf, entryOf, headOf, headAt, countAt, opensAt, rowsAt, entriesAt, namedAt, directoriesAt, usedIn, usedAt, Only}
+use Rattle.memory.specs.Views.{cell, tab, word, half, rowOf, entryOf, headOf, headAt, firstAt, countAt, opensAt, rowsAt, entriesAt, namedAt, directoriesAt, usedIn, usedAt, Only}
 use Rattle.memory.specs.Flat.{Flat, flatOf, opensOf, rowsOf, entriesOf, namedOf, directoriesOf, countsOf, signature, InRange, Room, Replaces, Becomes, withHead, withOpens, withRows, withEntries, withNamed, withDirectories, withUsed}
 use Rattle.memory.specs.declared.Row.{Row}
 use Rattle.memory.specs.declared.Entry.{Entry}
 use Rattle.memory.specs.declared.Head.{Head}
 use Rattle.memory.specs.declared.Counts.{Counts}
 use Rattle.memory.proofs.Laws.{lt-or-ge, length-tab}
-use Rattle.memory.proofs.Cells.{Off, off, apart-none, getD-cut, cell-off, cells-off}
+use Rattle.memory.proofs.Cells.{Off, off, apart-none, apart-then, getD-cut, cell-off, cells-off}
 
 -- ---- the counts are the lists' lengths
 
@@ -43,6 +43,7 @@ directories-count m = length-tab _ 0 (countAt m 4)
 pub record Known (m : List ℕ) : Type 0 where
   pub most : headAt m .capacity ≤ 1024
   pub long : 128 * headAt m .capacity + 1024 ≤ length m
+  pub first : 4 * firstAt m ≤ headAt m .capacity
   pub rows : countAt m 0 ≤ headAt m .capacity
   pub pages : countAt m 1 ≤ headAt m .capacity
   pub opens : countAt m 2 ≤ 64
@@ -60,6 +61,7 @@ known m r =
     record {
       most = g .most;
       long = g .long;
+      first = omega (arith, r .first);
       rows = omega (arith, g .rows, rows-count m);
       pages = omega (arith, g .pages, pages-count m);
       opens = omega (arith, g .opens, opens-count m);
@@ -115,6 +117,9 @@ module _ (m m2 m' : List ℕ) (a len k n : ℕ) (k5 : k < 5) (p : Apart m m2 a l
   unfolding headAt
   head-kept h = ap headOf (both 4 28 (inl (omega arith)) (inl (omega arith)))
 
+  first-kept : 84 ≤ a → firstAt m' ≡ firstAt m
+  first-kept h = sym (word-at m' 32) ∙ ap word (both 32 4 (inl (omega arith)) (inl (omega arith))) ∙ word-at m 32
+
   count-kept : 84 ≤ a → (j : ℕ) → j < 5 → (j ≡ k → ⊥) → countAt m' j ≡ countAt m j
   count-kept h j b ne = q .others j ne ∙ cell-off word 64 4 4 (omega arith) p j (inl (omega arith))
 
@@ -141,37 +146,41 @@ module _ (m m2 m' : List ℕ) (a len k n : ℕ) (k5 : k < 5) (p : Apart m m2 a l
     used-kept : Off 512 512 a len → usedAt m' ≡ usedAt m
     used-kept o = ap usedIn (both 512 512 o (inr (omega arith)))
 
-    rows-kept : (0 ≡ k → ⊥) → Off 1024 (headAt m .capacity * 80) a len → rowsOf m' ≡ rowsOf m
+    rows-kept : (0 ≡ k → ⊥) → Off 1024 (headAt m .capacity * 100) a len → rowsOf m' ≡ rowsOf m
     unfolding rowsOf
     rows-kept ne o =
         let u = known m r .rows in
-        ap (rowsAt m') (count-kept h 0 (omega arith) ne)
-        ∙ region-kept rowOf 1024 80 56 (omega arith) (omega arith) (countAt m 0) (⊎-elim (λ z. inl (omega arith)) (λ z. inr z) o)
+        let v = known m r .first in
+        ap (λ (x : ℕ). rowsAt m' x (countAt m' 0)) (first-kept h)
+        ∙ ap (rowsAt m' (firstAt m)) (count-kept h 0 (omega arith) ne)
+        ∙ region-kept rowOf (1024 + firstAt m * 80) 80 56 (omega arith) (omega arith) (countAt m 0) (⊎-elim (λ z. inl (omega arith)) (λ z. inr (omega arith)) o)
 
-    entries-kept : (1 ≡ k → ⊥) → Off (1024 + headAt m .capacity * 80) (headAt m .capacity * 8) a len → entriesOf m' ≡ entriesOf m
+    entries-kept : (1 ≡ k → ⊥) → Off (1024 + headAt m .capacity * 100) (headAt m .capacity * 8) a len → entriesOf m' ≡ entriesOf m
     unfolding entriesOf
     entries-kept ne o =
         let u = known m r .pages in
         ap (λ (x : Head). entriesAt m' (x .capacity) (countAt m' 1)) (head-kept h)
         ∙ ap (entriesAt m' (headAt m .capacity)) (count-kept h 1 (omega arith) ne)
-        ∙ region-kept entryOf (1024 + headAt m .capacity * 80) 8 6 (omega arith) (omega arith) (countAt m 1) (⊎-elim (λ z. inl (omega arith)) (λ z. inr z) o)
+        ∙ region-kept entryOf (1024 + headAt m .capacity * 100) 8 6 (omega arith) (omega arith) (countAt m 1) (⊎-elim (λ z. inl (omega arith)) (λ z. inr z) o)
 
-    named-kept : (3 ≡ k → ⊥) → Off (1024 + headAt m .capacity * 88) (headAt m .capacity * 2) a len → namedOf m' ≡ namedOf m
+    named-kept : (3 ≡ k → ⊥) → Off (1024 + headAt m .capacity * 108) (headAt m .capacity * 2) a len → namedOf m' ≡ namedOf m
     unfolding namedOf
     named-kept ne o =
         let u = known m r .named in
         ap (λ (x : Head). namedAt m' (x .capacity) (countAt m' 3)) (head-kept h)
         ∙ ap (namedAt m' (headAt m .capacity)) (count-kept h 3 (omega arith) ne)
-        ∙ region-kept half (1024 + headAt m .capacity * 88) 2 2 (omega arith) (omega arith) (countAt m 3) (⊎-elim (λ z. inl (omega arith)) (λ z. inr z) o)
+        ∙ region-kept half (1024 + headAt m .capacity * 108) 2 2 (omega arith) (omega arith) (countAt m 3) (⊎-elim (λ z. inl (omega arith)) (λ z. inr z) o)
 
 -- all of this at once
 record Kept (m m' : List ℕ) (a len k : ℕ) : Type 0 where
   sign : num4 m' 0 ≡ num4 m 0
   head : headAt m' ≡ headAt m
+  first : firstAt m' ≡ firstAt m
+  begins : firstAt m' ≤ headAt m .capacity / 4
   opens : (2 ≡ k → ⊥) → Off 128 256 a len → opensOf m' ≡ opensOf m
-  rows : (0 ≡ k → ⊥) → Off 1024 (headAt m .capacity * 80) a len → rowsOf m' ≡ rowsOf m
-  entries : (1 ≡ k → ⊥) → Off (1024 + headAt m .capacity * 80) (headAt m .capacity * 8) a len → entriesOf m' ≡ entriesOf m
-  named : (3 ≡ k → ⊥) → Off (1024 + headAt m .capacity * 88) (headAt m .capacity * 2) a len → namedOf m' ≡ namedOf m
+  rows : (0 ≡ k → ⊥) → Off 1024 (headAt m .capacity * 100) a len → rowsOf m' ≡ rowsOf m
+  entries : (1 ≡ k → ⊥) → Off (1024 + headAt m .capacity * 100) (headAt m .capacity * 8) a len → entriesOf m' ≡ entriesOf m
+  named : (3 ≡ k → ⊥) → Off (1024 + headAt m .capacity * 108) (headAt m .capacity * 2) a len → namedOf m' ≡ namedOf m
   directories : (4 ≡ k → ⊥) → Off 96 16 a len → directoriesOf m' ≡ directoriesOf m
   used : Off 512 512 a len → usedAt m' ≡ usedAt m
 
@@ -180,6 +189,8 @@ kept m m2 m' a len k n b r h p q =
     record {
       sign = sign-kept m m2 m' a len k n b p q h;
       head = head-kept m m2 m' a len k n b p q h;
+      first = first-kept m m2 m' a len k n b p q h;
+      begins = rw (first-kept m m2 m' a len k n b p q h) (r .first);
       opens = opens-kept m m2 m' a len k n b p q h r;
       rows = rows-kept m m2 m' a len k n b p q h r;
       entries = entries-kept m m2 m' a len k n b p q h r;
@@ -195,12 +206,17 @@ pub flat-eq : (a b : Flat) → a .head ≡ b .head → a .opens ≡ b .opens →
 flat-eq a b h o r e n d u = λ i. record { head = h i; opens = o i; rows = r i; entries = e i; named = n i; directories = d i; used = u i }
 
 pub becomes : (m m' : List ℕ) (f : Flat) → length m' ≡ length m → num4 m' 0 ≡ signature → flatOf m' ≡ f → InRange (length m) (f .head) (countsOf f)
-    → Becomes m m' f
-becomes m m' f l s e g =
+    → firstAt m' ≤ f .head .capacity / 4 → Becomes m m' f
+becomes m m' f l s e g b =
     let g1 : InRange (length m') (f .head) (countsOf f) = rw l g in
     record {
       size = l;
-      room = record { sign = s; range = subst (λ (x : Flat). InRange (length m') (x .head) (countsOf x)) (sym e) g1 };
+      room =
+          record {
+            sign = s;
+            range = subst (λ (x : Flat). InRange (length m') (x .head) (countsOf x)) (sym e) g1;
+            first = subst (λ (x : Flat). firstAt m' ≤ x .head .capacity / 4) (sym e) b;
+          };
       flat = e;
     }
 
@@ -231,8 +247,8 @@ as-long : {A : Type 0} (f : ℕ → A) (n : ℕ) (xs : List A) → tab f 0 n ≡
 as-long f n xs e = ap length (sym e) ∙ length-tab f 0 n
 
 module _ (m m2 m' : List ℕ) (a len n : ℕ) (r : Room m) (l : length m' ≡ length m) (p : Apart m m2 a len) where
-  pub rows-become : (xs : List Row) → 1024 ≤ a → a + len ≤ 1024 + headAt m .capacity * 80 → Recount m2 m' 0 n → n ≤ headAt m .capacity
-      → rowsAt m2 n ≡ xs → Becomes m m' (withRows (flatOf m) xs)
+  pub rows-become : (xs : List Row) → 1024 ≤ a → a + len ≤ 1024 + headAt m .capacity * 100 → Recount m2 m' 0 n → n ≤ headAt m .capacity
+      → rowsAt m2 (firstAt m) n ≡ xs → Becomes m m' (withRows (flatOf m) xs)
   unfolding rowsOf
   rows-become xs h1 h2 q b e =
       let K = kept m m2 m' a len 0 n (omega arith) r (omega arith) p q in
@@ -242,14 +258,16 @@ module _ (m m2 m' : List ℕ) (a len n : ℕ) (r : Room m) (l : length m' ≡ le
       (flat-eq (flatOf m') (withRows (flatOf m) xs)
       (K .head)
       (K .opens (omega arith) (inl (omega arith)))
-      (new-cells rowOf 1024 80 56 m2 m' 0 n (countAt m' 0) xs (omega arith) (omega arith) (omega arith) q (q .here) e)
+      (ap (λ (x : ℕ). rowsAt m' x (countAt m' 0)) (K .first)
+      ∙ new-cells rowOf (1024 + firstAt m * 80) 80 56 m2 m' 0 n (countAt m' 0) xs (omega arith) (omega arith) (omega arith) q (q .here) e)
       (K .entries (omega arith) (inr (omega arith)))
       (K .named (omega arith) (inr (omega arith)))
       (K .directories (omega arith) (inl (omega arith)))
       (K .used (inl (omega arith))))
       (recounted (countsOf (withRows (flatOf m) xs)) g (omega arith) (g .pages) (g .opens) (g .named) (g .directories))
+      (K .begins)
 
-  pub entries-become : (xs : List Entry) → 1024 + headAt m .capacity * 80 ≤ a → a + len ≤ 1024 + headAt m .capacity * 88 → Recount m2 m' 1 n
+  pub entries-become : (xs : List Entry) → 1024 + headAt m .capacity * 100 ≤ a → a + len ≤ 1024 + headAt m .capacity * 108 → Recount m2 m' 1 n
       → n ≤ headAt m .capacity → entriesAt m2 (headAt m .capacity) n ≡ xs → Becomes m m' (withEntries (flatOf m) xs)
   unfolding entriesOf
   entries-become xs h1 h2 q b e =
@@ -263,11 +281,12 @@ module _ (m m2 m' : List ℕ) (a len n : ℕ) (r : Room m) (l : length m' ≡ le
       (K .opens (omega arith) (inl (omega arith)))
       (K .rows (omega arith) (inl (omega arith)))
       (ap (λ (x : Head). entriesAt m' (x .capacity) (countAt m' 1)) eh
-      ∙ new-cells entryOf (1024 + headAt m .capacity * 80) 8 6 m2 m' 1 n (countAt m' 1) xs (omega arith) (omega arith) (omega arith) q (q .here) e)
+      ∙ new-cells entryOf (1024 + headAt m .capacity * 100) 8 6 m2 m' 1 n (countAt m' 1) xs (omega arith) (omega arith) (omega arith) q (q .here) e)
       (K .named (omega arith) (inr (omega arith)))
       (K .directories (omega arith) (inl (omega arith)))
       (K .used (inl (omega arith))))
       (recounted (countsOf (withEntries (flatOf m) xs)) g (g .rows) (omega arith) (g .opens) (g .named) (g .directories))
+      (K .begins)
 
   pub opens-become : (xs : List ℕ) → 128 ≤ a → a + len ≤ 384 → Recount m2 m' 2 n → n ≤ 64 → opensAt m2 n ≡ xs → Becomes m m' (withOpens (flatOf m) xs)
   unfolding opensOf
@@ -285,8 +304,9 @@ module _ (m m2 m' : List ℕ) (a len n : ℕ) (r : Room m) (l : length m' ≡ le
       (K .directories (omega arith) (inl (omega arith)))
       (K .used (inr (omega arith))))
       (recounted (countsOf (withOpens (flatOf m) xs)) g (g .rows) (g .pages) (omega arith) (g .named) (g .directories))
+      (K .begins)
 
-  pub named-become : (xs : List ℕ) → 1024 + headAt m .capacity * 88 ≤ a → Recount m2 m' 3 n
+  pub named-become : (xs : List ℕ) → 1024 + headAt m .capacity * 108 ≤ a → Recount m2 m' 3 n
       → n ≤ headAt m .capacity → namedAt m2 (headAt m .capacity) n ≡ xs → Becomes m m' (withNamed (flatOf m) xs)
   unfolding namedOf
   named-become xs h1 q b e =
@@ -301,10 +321,11 @@ module _ (m m2 m' : List ℕ) (a len n : ℕ) (r : Room m) (l : length m' ≡ le
       (K .rows (omega arith) (inl (omega arith)))
       (K .entries (omega arith) (inl (omega arith)))
       (ap (λ (x : Head). namedAt m' (x .capacity) (countAt m' 3)) eh
-      ∙ new-cells half (1024 + headAt m .capacity * 88) 2 2 m2 m' 3 n (countAt m' 3) xs (omega arith) (omega arith) (omega arith) q (q .here) e)
+      ∙ new-cells half (1024 + headAt m .capacity * 108) 2 2 m2 m' 3 n (countAt m' 3) xs (omega arith) (omega arith) (omega arith) q (q .here) e)
       (K .directories (omega arith) (inl (omega arith)))
       (K .used (inl (omega arith))))
       (recounted (countsOf (withNamed (flatOf m) xs)) g (g .rows) (g .pages) (g .opens) (omega arith) (g .directories))
+      (K .begins)
 
   pub directories-become : (xs : List ℕ) → 96 ≤ a → a + len ≤ 112 → Recount m2 m' 4 n → n ≤ 4 → directoriesAt m2 n ≡ xs
       → Becomes m m' (withDirectories (flatOf m) xs)
@@ -323,24 +344,26 @@ module _ (m m2 m' : List ℕ) (a len n : ℕ) (r : Room m) (l : length m' ≡ le
       (new-cells word 96 4 4 m2 m' 4 n (countAt m' 4) xs (omega arith) (omega arith) (omega arith) q (q .here) e)
       (K .used (inr (omega arith))))
       (recounted (countsOf (withDirectories (flatOf m) xs)) g (g .rows) (g .pages) (g .opens) (g .named) (omega arith))
+      (K .begins)
 
-pub head-become : (m m' : List ℕ) (h : Head) → Room m → length m' ≡ length m → Apart m m' 4 28 → headAt m' ≡ h → Replaces (headAt m) h
-    → Becomes m m' (withHead (flatOf m) h)
-unfolding opensOf rowsOf entriesOf namedOf directoriesOf
-head-become m m' h r l p e t =
+-- the head's numbers, and where the rows begin
+low-become : (m m' : List ℕ) (h : Head) → Room m → length m' ≡ length m → Apart m m' 4 32 → headAt m' ≡ h → Replaces (headAt m) h
+    → firstAt m' ≤ headAt m .capacity / 4 → Becomes m m' (withRows (withHead (flatOf m) h) (rowsOf m'))
+unfolding opensOf entriesOf namedOf directoriesOf
+low-become m m' h r l p e t f =
     let g = r .range in
     let ec : h .capacity ≡ headAt m .capacity = t .capacity in
     let c : headAt m' .capacity ≡ headAt m .capacity = ap (λ (x : Head). x .capacity) e ∙ t .capacity in
     let n : (j : ℕ) → countAt m' j ≡ countAt m j = λ j. cell-off word 64 4 4 (omega arith) p j (inr (omega arith)) in
-    becomes m m' (withHead (flatOf m) h) l (sym (word-at m' 0) ∙ ap word (off p 0 4 (inl (omega arith))) ∙ word-at m 0 ∙ r .sign)
-    (flat-eq (flatOf m') (withHead (flatOf m) h)
+    becomes m m' (withRows (withHead (flatOf m) h) (rowsOf m')) l (sym (word-at m' 0) ∙ ap word (off p 0 4 (inl (omega arith))) ∙ word-at m 0 ∙ r .sign)
+    (flat-eq (flatOf m') (withRows (withHead (flatOf m) h) (rowsOf m'))
     e
     (ap (opensAt m') (n 2) ∙ cells-off word 128 4 4 (omega arith) p (countAt m 2) (inr (omega arith)))
-    (ap (rowsAt m') (n 0) ∙ cells-off rowOf 1024 80 56 (omega arith) p (countAt m 0) (inr (omega arith)))
+    refl
     (ap (λ (x : ℕ). entriesAt m' x (countAt m' 1)) c ∙ ap (entriesAt m' (headAt m .capacity)) (n 1)
-    ∙ cells-off entryOf (1024 + headAt m .capacity * 80) 8 6 (omega arith) p (countAt m 1) (inr (omega arith)))
+    ∙ cells-off entryOf (1024 + headAt m .capacity * 100) 8 6 (omega arith) p (countAt m 1) (inr (omega arith)))
     (ap (λ (x : ℕ). namedAt m' x (countAt m' 3)) c ∙ ap (namedAt m' (headAt m .capacity)) (n 3)
-    ∙ cells-off half (1024 + headAt m .capacity * 88) 2 2 (omega arith) p (countAt m 3) (inr (omega arith)))
+    ∙ cells-off half (1024 + headAt m .capacity * 108) 2 2 (omega arith) p (countAt m 3) (inr (omega arith)))
     (ap (directoriesAt m') (n 4) ∙ cells-off word 96 4 4 (omega arith) p (countAt m 4) (inr (omega arith)))
     (ap usedIn (off p 512 512 (inr (omega arith)))))
     (record {
@@ -350,12 +373,48 @@ head-become m m' h r l p e t =
       few = t .few;
       many = t .many;
       taken = t .taken;
-      rows = omega (arith, g .rows);
+      rows = omega (arith, g .rows, rows-count m, rows-count m', n 0);
       pages = omega (arith, g .pages);
       opens = g .opens;
       named = omega (arith, g .named);
       directories = g .directories;
     })
+    (omega (arith, ec, f))
+
+pub head-become : (m m' : List ℕ) (h : Head) → Room m → length m' ≡ length m → Apart m m' 4 28 → headAt m' ≡ h → Replaces (headAt m) h
+    → Becomes m m' (withHead (flatOf m) h)
+unfolding rowsOf
+head-become m m' h r l p e t =
+    let f : firstAt m' ≡ firstAt m = sym (word-at m' 32) ∙ ap word (off p 32 4 (inr (omega arith))) ∙ word-at m 32 in
+    let n : countAt m' 0 ≡ countAt m 0 = cell-off word 64 4 4 (omega arith) p 0 (inr (omega arith)) in
+    let w : rowsOf m' ≡ rowsOf m =
+    ap (λ (x : ℕ). rowsAt m' x (countAt m' 0)) f ∙ ap (rowsAt m' (firstAt m)) n
+    ∙ cells-off rowOf (1024 + firstAt m * 80) 80 56 (omega arith) p (countAt m 0) (inr (omega arith)) in
+    subst (λ (xs : List Row). Becomes m m' (withRows (withHead (flatOf m) h) xs)) w
+    (low-become m m' h r l (apart-then 4 32 p (apart-none m' 4 28) (omega arith) (omega arith) (omega arith) (omega arith)) e t (omega (arith, f, r .first)))
+
+-- another place for row 0: the bytes stay, and are other rows
+pub first-become : (m m' : List ℕ) (x : ℕ) → Room m → length m' ≡ length m → Only word 32 4 4 m m' 0 x → x ≤ headAt m .capacity / 4
+    → (firstAt m' ≡ x) × Becomes m m' (withRows (flatOf m) (rowsOf m'))
+unfolding headAt cell
+first-become m m' x r l o h =
+    let g = r .range in
+    let e : firstAt m' ≡ x = sym (word-at m' 32) ∙ o .here in
+    (e,
+    low-become m m' (headAt m) r l (apart-then 4 32 (o .apart) (apart-none m' 4 28) (omega arith) (omega arith) (omega arith) (omega arith))
+    (ap headOf (off (o .apart) 4 28 (inl (omega arith)))) (record { capacity = refl; few = g .few; many = g .many; taken = g .taken }) (omega arith))
+
+-- rows moved within their area
+pub rows-moved : (m m' : List ℕ) (a len : ℕ) → Room m → length m' ≡ length m → Apart m m' a len → 1024 ≤ a → a + len ≤ 1024 + headAt m .capacity * 100
+    → (firstAt m' ≡ firstAt m) × ((countAt m' 0 ≡ countAt m 0) × Becomes m m' (withRows (flatOf m) (rowsOf m')))
+unfolding rowsOf
+rows-moved m m' a len r l p h1 h2 =
+    let K = kept m m' m' a len 1 (countAt m' 1) (omega arith) r (omega arith) p (recount-none m' 1 _ refl) in
+    let n : countAt m' 0 ≡ countAt m 0 = cell-off word 64 4 4 (omega arith) p 0 (inl (omega arith)) in
+    (K .first,
+    (n,
+    rows-become m m' m' a len (countAt m 0) r l p (rowsOf m') h1 h2 (recount-none m' 0 _ n) (known m r .rows)
+    (ap (λ (x : ℕ). rowsAt m' x (countAt m 0)) (sym (K .first)) ∙ ap (rowsAt m' (firstAt m')) (sym n))))
 
 pub used-become : (m m' : List ℕ) (a len : ℕ) (u : ℕ → Bool) → Room m → length m' ≡ length m → Apart m m' a len → 512 ≤ a → a + len ≤ 1024 → usedAt m' ≡ u
     → Becomes m m' (withUsed (flatOf m) u)
@@ -373,3 +432,4 @@ used-become m m' a len u r l p h1 h2 e =
     (K .directories (omega arith) (inl (omega arith)))
     e)
     (recounted (countsOf (flatOf m)) g (g .rows) (g .pages) (g .opens) (g .named) (g .directories))
+    (K .begins)

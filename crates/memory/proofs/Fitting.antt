@@ -1,4 +1,5 @@
 -- Whatever bytes the memory has, its tuples, pages and numbers are in the ranges of the block forms.
+use mathlib.Core.Path.{refl}
 use Prim.Native.Nat.{ℕ, zero, suc, _+_, _*_, _%_, _≤_, _<_}
 use native.Mathlib.Omega.{arith}
 use mathlib.Core.List.{List, [], _∷_}
@@ -10,7 +11,7 @@ use Rattle.blocks.specs.Numbers.{num4}
 use Rattle.blocks.specs.Tuple.{OwnerFits, AllBytes, Fits}
 use Rattle.model.specs.State.{Held}
 use Rattle.memory.specs.Bytes.{cut}
-use Rattle.memory.specs.Views.{tab, rowOf, headOf, headAt}
+use Rattle.memory.specs.Views.{tab, rowOf, headOf, headAt, firstAt}
 use Rattle.memory.specs.Flat.{flatOf, rowsOf}
 use Rattle.memory.specs.Store.{ownerOf, tupleOf, tupleBy, heldOf, heldIn, pageOf}
 use Rattle.memory.specs.declared.Entry.{Entry}
@@ -64,7 +65,9 @@ row-fits b h =
 module _ (m : List ℕ) (bytes : AllBytes m) where
   pub tuple-fits : (i : ℕ) → i < length (rowsOf m) → Fits (heldIn (flatOf m) i .tuple)
   unfolding heldOf
-  tuple-fits i h = rw (row-at m i h) (row-fits (cut (1024 + i * 80) 56 m) (bytes-cut (1024 + i * 80) 56 m bytes))
+  tuple-fits i h =
+      let a : ℕ = 1024 + firstAt m * 80 + i * 80 in
+      rw (row-at m i h a refl) (row-fits (cut a 56 m) (bytes-cut a 56 m bytes))
 
   -- all tuples of a run
   pub run-fits : (s c : ℕ) → s + c ≤ length (rowsOf m) → AllOf (λ (h : Held). Fits (h .tuple)) (tab (heldIn (flatOf m)) s c)

@@ -6,9 +6,10 @@ use native.Mathlib.Nat.{add-zero, zero-add, suc-add, le-of-suc-le-suc, not-suc-l
 use native.Mathlib.Omega.{arith}
 use mathlib.Core.List.{List, [], _∷_, _++_, append-assoc, append-nil}
 use lib.ListN.{length, take, drop, getD, set, length-append, length-drop, take-append-drop, List·getD-append}
-use lib.Seq.{take-append-le, drop-append-le, drop-append-add, drop-drop, length-take-le, take-at, getD-take, set-split, take-suc, append-snoc, set-at}
+use lib.Seq.{take-append-le, drop-append-le, drop-append-add, drop-drop, length-take-le, take-at, drop-at, getD-take, set-split, take-suc, append-snoc, set-at}
 use Rattle.memory.specs.Bytes.{cut, put, Apart}
 use Rattle.memory.specs.Views.{tab}
+use Rattle.memory.specs.Flat.{insertAt, removeAt}
 
 -- either way round
 pub lt-or-ge : (a b : ℕ) → (a < b) ⊎ (b ≤ a)
@@ -172,18 +173,6 @@ module _ {A : Type 0} (f g : ℕ → A) (n at : ℕ) where
       let d : drop (suc at) (tab f 0 n) ≡ tab f (0 + suc at) (n - suc at) = drop-tab f 0 (suc at) n h in
       tab-split g at n h ∙ (cc) ∙ sym (set-split (tab f 0 n) at s l)
 
-  pub tab-insert : (s : A) → at ≤ n → ((j : ℕ) → j < at → g j ≡ f j) → g at ≡ s → ((j : ℕ) → at ≤ j → j < n → g (suc j) ≡ f j)
-      → tab g 0 (n + 1) ≡ take at (tab f 0 n) ++ s ∷ drop at (tab f 0 n)
-  tab-insert s h below here moved =
-      let e : n + 1 - suc at ≡ n - at = omega arith in
-      let a : tab g 0 at ≡ tab f 0 at = tab-cong g f 0 0 at (λ k b. below (0 + k) (omega arith)) in
-      let b : tab g (suc at) (n - at) ≡ tab f (0 + at) (n - at) =
-      tab-cong g f (suc at) (0 + at) (n - at)
-      (λ k b. ap g (suc-add at k) ∙ moved (at + k) (omega arith) (omega arith) ∙ ap f (omega arith)) in
-      let t : take at (tab f 0 n) ≡ tab f 0 at = take-tab f 0 at n h in
-      let d : drop at (tab f 0 n) ≡ tab f (0 + at) (n - at) = drop-tab f 0 at n h in
-      tab-split g at (n + 1) (omega arith) ∙ cc
-
   pub tab-remove : at < n → ((j : ℕ) → j < at → g j ≡ f j) → ((j : ℕ) → at ≤ j → suc j < n → g j ≡ f (suc j))
       → tab g 0 (n - 1) ≡ take at (tab f 0 n) ++ drop (at + 1) (tab f 0 n)
   tab-remove h below moved =
@@ -195,6 +184,16 @@ module _ {A : Type 0} (f g : ℕ → A) (n at : ℕ) where
       let t : take at (tab f 0 n) ≡ tab f 0 at = take-tab f 0 at n (omega arith) in
       let d : drop (at + 1) (tab f 0 n) ≡ tab f (0 + (at + 1)) (n - (at + 1)) = drop-tab f 0 (at + 1) n (omega arith) in
       ap (tab g 0) e ∙ tab-add g 0 at (n - (at + 1)) ∙ cc
+
+-- an element stored is one put in where the old one was taken out
+pub set-opened : {A : Type 0} (xs : List A) (i : ℕ) (x : A) → i < length xs → set xs i x ≡ insertAt i x (removeAt i xs)
+set-opened {A} xs i x h =
+    let l : length (take i xs) ≡ i = length-take-le i xs (omega arith) in
+    let e : suc i ≡ i + 1 = omega arith in
+    set-split xs i x h
+    ∙ ap (λ (z : ℕ). take i xs ++ x ∷ drop z xs) e
+    ∙ ap (λ (z : List A). z ++ x ∷ drop (i + 1) xs) (sym (take-at (take i xs) (drop (i + 1) xs) i l))
+    ∙ ap (λ (z : List A). take i (removeAt i xs) ++ x ∷ z) (sym (drop-at (take i xs) (drop (i + 1) xs) i l))
 
 pub tab-next : {A : Type 0} (f : ℕ → A) (i n : ℕ) → i < n → tab f i (n - i) ≡ f i ∷ tab f (i + 1) (n - (i + 1))
 tab-next f i n h =

@@ -10,6 +10,7 @@ pub mod Payloads
 pub mod Meaning
 pub mod Blank
 pub mod Nest
+pub mod Filling
 pub mod Runs
 pub mod Exchange
 pub mod Fitting

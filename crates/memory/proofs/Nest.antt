@@ -54,12 +54,12 @@ unfolding total sum
 counted-length [] a = omega arith
 counted-length (e ∷ es) a = omega (arith, a .0, counted-length es (a .1))
 
-all-counted : (es : List Entry) → all hasRows es ≡ true → Counted es
+pub all-counted : (es : List Entry) → all hasRows es ≡ true → Counted es
 unfolding all hasRows
 all-counted [] h = tt
 all-counted (e ∷ es) h = let t = and-true _ _ h in (leb-true 1 (e .count) (t .0), all-counted es (t .1))
 
-counted-all : (es : List Entry) → Counted es → all hasRows es ≡ true
+pub counted-all : (es : List Entry) → Counted es → all hasRows es ≡ true
 unfolding all hasRows
 counted-all [] h = refl
 counted-all (e ∷ es) h = simp (le-leb 1 (e .count) (h .0), counted-all es (h .1))

@@ -1,5 +1,5 @@
 -- A row's payload and size.
-use mathlib.Core.Path.{_≡_, sym, ap, _∙_}
+use mathlib.Core.Path.{_≡_, refl, sym, ap, _∙_}
 use Prim.Native.Nat.{ℕ, _+_, _*_, _%_, _<_}
 use native.Mathlib.Omega.{arith}
 use mathlib.Core.List.{List}
@@ -13,7 +13,7 @@ use Rattle.blocks.specs.Limits.{payloadLimit}
 use Rattle.blocks.specs.Tuple.{ownerSize, size}
 use Rattle.model.specs.Rules.{heldSize}
 use Rattle.memory.specs.Bytes.{cut}
-use Rattle.memory.specs.Views.{rowOf}
+use Rattle.memory.specs.Views.{rowOf, firstAt}
 use Rattle.memory.specs.Flat.{flatOf, rowsOf, rowIn, Room}
 use Rattle.memory.specs.Store.{ownerOf, tupleOf, tupleBy, heldOf, heldIn, Holds}
 use Rattle.memory.specs.declared.Row.{Row}
@@ -41,29 +41,31 @@ held-size r l =
     omega arith
 
 module _ (m : List ℕ) (room : Room m) (i : ℕ) (h : i < length (rowsOf m)) where
-  payload-is : rowIn (flatOf m) i .payload ≡ cut (1024 + i * 80 + 16) 40 m
+  payload-is : (a : ℕ) → a ≡ 1024 + firstAt m * 80 + i * 80 → rowIn (flatOf m) i .payload ≡ cut (a + 16) 40 m
   unfolding rowOf
-  payload-is =
+  payload-is a ea =
       let k = known m room in
-      ap (λ (r : Row). r .payload) (row-at m i h) ∙ cut-cut (1024 + i * 80) 56 16 40 m (omega arith) (omega arith)
+      ap (λ (r : Row). r .payload) (row-at m i h a ea) ∙ cut-cut a 56 16 40 m (omega arith) (omega arith)
 
   -- in the memory every row has room for the longest payload
   pub payload-long : length (rowIn (flatOf m) i .payload) ≡ payloadLimit
   payload-long =
       let k = known m room in
-      ap length payload-is ∙ length-take-le 40 (drop (1024 + i * 80 + 16) m) (simp length-drop (omega arith))
+      let a : ℕ = 1024 + firstAt m * 80 + i * 80 in
+      ap length (payload-is a refl) ∙ length-take-le 40 (drop (a + 16) m) (simp length-drop (omega arith))
 
-  pub payload-held : (n : ℕ) → n ≡ rowIn (flatOf m) i .size → Holds m (record { start = 1024 + i * 80 + 16; len = n % 41 }) (heldIn (flatOf m) i .tuple .payload)
+  pub payload-held : (a : ℕ) → a ≡ 1024 + firstAt m * 80 + i * 80 → (n : ℕ) → n ≡ rowIn (flatOf m) i .size
+      → Holds m (record { start = a + 16; len = n % 41 }) (heldIn (flatOf m) i .tuple .payload)
   unfolding heldOf tupleOf tupleBy
-  payload-held n e =
+  payload-held a ea n e =
       let k = known m room in
       let r : Row = rowIn (flatOf m) i in
-      let t : take (r .size % 41) (r .payload) ≡ take (n % 41) (cut (1024 + i * 80 + 16) 40 m) =
-      ap (λ (z : ℕ). take (z % 41) (r .payload)) (sym e) ∙ ap (take (n % 41)) payload-is in
+      let t : take (r .size % 41) (r .payload) ≡ take (n % 41) (cut (a + 16) 40 m) =
+      ap (λ (z : ℕ). take (z % 41) (r .payload)) (sym e) ∙ ap (take (n % 41)) (payload-is a ea) in
       record {
         inside = omega arith;
         count = ap (λ (z : ℕ). z % 41) e ∙ sym (length-take-le (r .size % 41) (r .payload) (omega (arith, payload-long)));
-        here = sym (t ∙ take-take (n % 41) 40 (drop (1024 + i * 80 + 16) m) (omega arith));
+        here = sym (t ∙ take-take (n % 41) 40 (drop (a + 16) m) (omega arith));
       }
 
   pub size-held : (n f : ℕ) → n ≡ rowIn (flatOf m) i .size → f ≡ rowIn (flatOf m) i .flags → 9 + 4 * (f % 2) + n % 41 ≡ heldSize (heldIn (flatOf m) i)

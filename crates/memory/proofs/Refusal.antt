@@ -1,23 +1,20 @@
 -- The tests that decide whether the memory holds a store, and what they mean.
 use mathlib.Core.Path.{_≡_, refl, sym, ap, _∙_}
 use mathlib.Core.Bool.{Bool, true, false, _&&_}
-use Prim.Native.Nat.{ℕ, _+_, _*_, _-_, _≤_, _<_}
+use Prim.Native.Nat.{ℕ, _/_, _≤_, _<_}
 use native.Mathlib.Omega.{arith}
 use mathlib.Core.List.{List, [], _∷_}
 use lib.ListN.{length}
-use lib.Dec.{leb, eqb}
 use borrow.Author.Tests.{le-leb, leb-true, lt-ltb, ltb-true, eq-eqb, eqb-true, lt-leb, ne-eqb}
-use Rattle.basics.specs.Basics.{every, all, sum}
+use Rattle.basics.specs.Basics.{every}
 use Rattle.basics.proofs.Facts.{and-true}
 use Rattle.blocks.specs.Numbers.{num4}
 use Rattle.model.specs.Recover.{memoryFor}
-use Rattle.memory.specs.Views.{tab, headAt, entriesAt}
+use Rattle.memory.specs.Views.{headAt, firstAt, entriesAt}
 use Rattle.memory.specs.Flat.{flatOf, entriesOf, rowsOf, countsOf, signature, InRange, Room}
-use Rattle.memory.specs.Store.{inRange, total, hasRows, fillsRows, filled, holdsStore}
-use Rattle.memory.specs.declared.Entry.{Entry}
+use Rattle.memory.specs.Store.{inRange, fillsRows, filled, holdsStore}
 use Rattle.memory.specs.declared.Head.{Head}
 use Rattle.memory.specs.declared.Counts.{Counts}
-use Rattle.memory.proofs.Laws.{tab-next}
 use Rattle.memory.proofs.Changes.{pages-count}
 
 -- ---- lists of tests
@@ -92,57 +89,6 @@ in-range size h n g =
     ∙ every-one _
     ∙ le-leb _ _ (g .directories)
 
--- ---- the pass over the page entries
-
--- what is left of the pass is what it will answer; good, sum: what the i entries passed have come to
-pub record Left (f : ℕ → Entry) (i c : ℕ) (good : Bool) (sum : ℕ) : Type 0 where
-  pub passed : i ≤ c
-  pub small : sum ≤ 65535 * i
-  pub all-left : all hasRows (tab f 0 c) ≡ (good && all hasRows (tab f i (c - i)))
-  pub sum-left : total (tab f 0 c) ≡ sum + total (tab f i (c - i))
-
-module _ (f : ℕ → Entry) (i c : ℕ) (good : Bool) (sum : ℕ) where
-  all-next : i < c → all hasRows (tab f i (c - i)) ≡ (hasRows (f i) && all hasRows (tab f (i + 1) (c - (i + 1))))
-  unfolding all
-  all-next h = ap (all hasRows) (tab-next f i c h)
-
-  sum-next : i < c → total (tab f i (c - i)) ≡ f i .count + total (tab f (i + 1) (c - (i + 1)))
-  unfolding total sum
-  sum-next h = ap total (tab-next f i c h)
-
-  pub pass-on : i < c → Left f i c good sum → (k : ℕ) → k ≡ f i .count → k ≤ 65535 → Left f (i + 1) c (good && leb 1 k) (sum + k)
-  unfolding hasRows
-  pass-on h l k e b =
-      let s = l .small in
-      let t = l .sum-left in
-      let r : Bool = all hasRows (tab f (i + 1) (c - (i + 1))) in
-      record {
-        passed = omega arith;
-        small = omega arith;
-        all-left =
-            l .all-left ∙ ap (λ (z : Bool). good && z) (all-next h) ∙ ap (λ (z : ℕ). good && (leb 1 z && r)) (sym e) ∙ sym (and-right good (leb 1 k) r);
-        sum-left = omega (arith, sum-next h);
-      }
-
-  pub pass-end : c ≤ i → Left f i c good sum → (n : ℕ) → (good && eqb sum n) ≡ fillsRows (tab f 0 c) n
-  unfolding fillsRows every all total sum
-  pass-end h l n =
-      let e : c - i ≡ 0 = omega arith in
-      let a : all hasRows (tab f 0 c) ≡ good = l .all-left ∙ ap (λ (k : ℕ). good && all hasRows (tab f i k)) e ∙ and-one good in
-      let b : total (tab f i (c - i)) ≡ 0 = ap (λ (k : ℕ). total (tab f i k)) e in
-      let d : sum ≡ total (tab f 0 c) = omega (arith, l .sum-left) in
-      ap (λ (z : Bool). z && eqb sum n) (sym a) ∙ ap (λ (k : ℕ). all hasRows (tab f 0 c) && eqb k n) d ∙ ap (λ (z : Bool). all hasRows (tab f 0 c) && z) (sym (and-one _))
-
-pub pass-start : (f : ℕ → Entry) (c : ℕ) → Left f 0 c true 0
-pass-start f c =
-    let e : c ≡ c - 0 = omega arith in
-    record {
-      passed = omega arith;
-      small = omega arith;
-      all-left = ap (λ (k : ℕ). all hasRows (tab f 0 k)) e;
-      sum-left = ap (λ (k : ℕ). total (tab f 0 k)) e ∙ omega arith;
-    }
-
 -- ---- the whole test and room
 
 pub held-room : (m : List ℕ) → holdsStore m ≡ true → Room m
@@ -151,7 +97,8 @@ held-room m e =
     let t1 = every-true _ _ e in
     let t2 = every-true _ _ (t1 .1) in
     let t3 = every-true _ _ (t2 .1) in
-    record { sign = eqb-true _ _ (t2 .0); range = range-in _ _ _ (t3 .0) }
+    let t4 = every-true _ _ (t3 .1) in
+    record { sign = eqb-true _ _ (t2 .0); range = range-in _ _ _ (t3 .0); first = leb-true _ _ (t4 .0) }
 
 pub held-filled : (m : List ℕ) → holdsStore m ≡ true → filled (flatOf m) ≡ true
 unfolding holdsStore
@@ -159,7 +106,8 @@ held-filled m e =
     let t1 = every-true _ _ e in
     let t2 = every-true _ _ (t1 .1) in
     let t3 = every-true _ _ (t2 .1) in
-    sym (every-one _) ∙ t3 .1
+    let t4 = every-true _ _ (t3 .1) in
+    sym (every-one _) ∙ t4 .1
 
 -- room and the entries' sum are the whole test
 pub room-held : (m : List ℕ) → Room m → filled (flatOf m) ≡ true → holdsStore m ≡ true
@@ -168,6 +116,7 @@ room-held m r e =
     every-cons _ _ (le-leb 1024 (length m) (omega (arith, r .range .long)))
     ∙ every-cons _ _ (eq-eqb _ _ (r .sign))
     ∙ every-cons _ _ (in-range _ _ _ (r .range))
+    ∙ every-cons _ _ (le-leb _ _ (r .first))
     ∙ every-one _
     ∙ e
 
@@ -191,10 +140,22 @@ module _ (m : List ℕ) (s : ℕ) (h : Head) (n : Counts) (b : Bool) (big : 1024
   out-of-range f =
       sym (every-cons _ _ (le-leb 1024 (length m) big) ∙ every-cons _ _ (eq-eqb _ _ (sym es ∙ sign)) ∙ every-stop _ _ (sym range-is ∙ f))
 
-  pub last-test : b ≡ true → holdsStore m ≡ filled (flatOf m)
-  unfolding holdsStore
-  last-test f =
-      every-cons _ _ (le-leb 1024 (length m) big) ∙ every-cons _ _ (eq-eqb _ _ (sym es ∙ sign)) ∙ every-cons _ _ (sym range-is ∙ f) ∙ every-one _
+  -- f: where the rows begin
+  module _ (f : ℕ) (ef : f ≡ firstAt m) (t : b ≡ true) where
+    quarter : h .capacity ≡ headAt m .capacity
+    quarter = ap (λ (x : Head). x .capacity) eh
+
+    pub too-far : h .capacity / 4 < f → false ≡ holdsStore m
+    unfolding holdsStore
+    too-far lt =
+        sym (every-cons _ _ (le-leb 1024 (length m) big) ∙ every-cons _ _ (eq-eqb _ _ (sym es ∙ sign)) ∙ every-cons _ _ (sym range-is ∙ t)
+        ∙ every-stop _ _ (lt-leb (firstAt m) (headAt m .capacity / 4) (omega (arith, ef, lt, quarter))))
+
+    pub last-test : f ≤ h .capacity / 4 → holdsStore m ≡ filled (flatOf m)
+    unfolding holdsStore
+    last-test le =
+        every-cons _ _ (le-leb 1024 (length m) big) ∙ every-cons _ _ (eq-eqb _ _ (sym es ∙ sign)) ∙ every-cons _ _ (sym range-is ∙ t)
+        ∙ every-cons _ _ (le-leb (firstAt m) (headAt m .capacity / 4) (omega (arith, ef, le, quarter))) ∙ every-one _
 
   pub fill-is : fillsRows (entriesAt m (h .capacity) (n .pages)) (n .rows) ≡ filled (flatOf m)
   unfolding entriesOf

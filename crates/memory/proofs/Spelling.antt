@@ -1,17 +1,17 @@
 -- The bytes of a number, a row, a page entry, the head say it; each store of them is a store of one cell.
 use mathlib.Core.Path.{_≡_, refl, ap, _∙_}
-use Prim.Native.Nat.{ℕ, _+_, _*_, _/_, _%_, _≤_}
+use Prim.Native.Nat.{ℕ, _+_, _*_, _/_, _%_, _≤_, _<_}
 use native.Mathlib.Omega.{arith}
 use mathlib.Core.List.{List, _++_}
 use lib.ListN.{length, take, length-append}
 use lib.Seq.{take-all}
 use Rattle.blocks.specs.Numbers.{num4}
 use Rattle.memory.specs.Bytes.{num2, bytes4, bytes2, put, Apart}
-use Rattle.memory.specs.Views.{word, half, rowOf, entryOf, headOf, numbersOf, rowBytes, entryBytes, headBytes, headAt, Only}
+use Rattle.memory.specs.Views.{word, half, rowOf, entryOf, headOf, numbersOf, rowBytes, entryBytes, headBytes, headAt, pushed, Only}
 use Rattle.memory.specs.declared.Row.{Row}
 use Rattle.memory.specs.declared.Entry.{Entry}
 use Rattle.memory.specs.declared.Head.{Head}
-use Rattle.memory.proofs.Laws.{put-put, put-apart}
+use Rattle.memory.proofs.Laws.{put-put, put-apart, length-put}
 use Rattle.memory.proofs.Cells.{one-cell, put-here}
 
 back4 : (x : ℕ) → x / 16777216 * 16777216 + x / 65536 % 256 * 65536 + x / 256 % 256 * 256 + x % 256 ≡ x
@@ -55,9 +55,9 @@ row-size : (s : Row) → length (s .payload) ≡ 40 → length (rowBytes s) ≡ 
 unfolding numbersOf bytes4
 row-size s l = length-append (numbersOf s) (s .payload) ∙ ap (λ (k : ℕ). 16 + k) l
 
-pub stored-row : (m : List ℕ) (i : ℕ) (s : Row) → 1024 + i * 80 + 80 ≤ length m → length (s .payload) ≡ 40
-    → Only rowOf 1024 80 56 m (put (1024 + i * 80) (rowBytes s) m) i s
-stored-row m i s h l = one-cell rowOf 1024 80 56 (omega arith) m (rowBytes s) i s (row-size s l) (omega arith) (row-back s l)
+pub stored-row : (m : List ℕ) (b i : ℕ) (s : Row) → b + i * 80 + 80 ≤ length m → length (s .payload) ≡ 40
+    → Only rowOf b 80 56 m (put (b + i * 80) (rowBytes s) m) i s
+stored-row m b i s h l = one-cell rowOf b 80 56 (omega arith) m (rowBytes s) i s (row-size s l) (omega arith) (row-back s l)
 
 pub stored-entry : (m : List ℕ) (b i : ℕ) (e : Entry) → b + i * 8 + 8 ≤ length m → Only entryOf b 8 6 m (put (b + i * 8) (entryBytes e) m) i e
 unfolding entryBytes bytes2
@@ -66,6 +66,14 @@ stored-entry m b i e h = one-cell entryOf b 8 6 (omega arith) m (entryBytes e) i
 pub stored-word : (m : List ℕ) (b i x : ℕ) → b + i * 4 + 4 ≤ length m → Only word b 4 4 m (put (b + i * 4) (bytes4 x) m) i x
 unfolding bytes4
 stored-word m b i x h = one-cell word b 4 4 (omega arith) m (bytes4 x) i x refl (omega arith) (word-back x)
+
+-- a word pushed: two stores, of the word and of its count
+pub pushed-word : (m : List ℕ) (b k n x : ℕ) → k < 5 → b + n * 4 + 4 ≤ 1024 → 1024 ≤ length m
+    → Only word b 4 4 m (put (b + n * 4) (bytes4 x) m) n x × Only word 64 4 4 (put (b + n * 4) (bytes4 x) m) (pushed b k n x m) k (n + 1)
+unfolding bytes4
+pushed-word m b k n x k5 h big =
+    let l : length (put (b + n * 4) (bytes4 x) m) ≡ length m = length-put (b + n * 4) (bytes4 x) m (omega arith) in
+    (stored-word m b n x (omega arith), stored-word (put (b + n * 4) (bytes4 x) m) 64 k (n + 1) (omega arith))
 
 pub stored-half : (m : List ℕ) (b i x : ℕ) → b + i * 2 + 2 ≤ length m → Only half b 2 2 m (put (b + i * 2) (bytes2 x) m) i x
 unfolding bytes2

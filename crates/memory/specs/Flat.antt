@@ -1,12 +1,12 @@
 -- All that the memory holds, as flat lists: what every function of this crate says of it.
-use Prim.Native.Nat.{ℕ, _+_, _*_, _≤_, _<_}
+use Prim.Native.Nat.{ℕ, _+_, _*_, _-_, _/_, _≤_, _<_}
 use mathlib.Core.Path.{_≡_}
 use mathlib.Core.Bool.{Bool, _||_}
 use mathlib.Core.List.{List, [], _∷_, _++_}
 use lib.ListN.{length, take, drop, getD}
 use lib.Dec.{eqb}
 use Rattle.blocks.specs.Numbers.{num4}
-use Rattle.memory.specs.Views.{headAt, countAt, opensAt, rowsAt, entriesAt, namedAt, directoriesAt, usedAt}
+use Rattle.memory.specs.Views.{headAt, firstAt, countAt, opensAt, rowsAt, entriesAt, namedAt, directoriesAt, usedAt}
 use Rattle.memory.specs.declared.Row.{Row}
 use Rattle.memory.specs.declared.Entry.{Entry}
 use Rattle.memory.specs.declared.Head.{Head}
@@ -27,7 +27,7 @@ unfoldable pub opensOf : List ℕ → List ℕ
 opensOf m = opensAt m (countAt m 2)
 
 unfoldable pub rowsOf : List ℕ → List Row
-rowsOf m = rowsAt m (countAt m 0)
+rowsOf m = rowsAt m (firstAt m) (countAt m 0)
 
 unfoldable pub entriesOf : List ℕ → List Entry
 entriesOf m = entriesAt m (headAt m .capacity) (countAt m 1)
@@ -52,7 +52,7 @@ countsOf f =
 
 -- the signature of this layout, with its version in the last byte
 abbrev pub signature : ℕ
-signature = 1448040961
+signature = 1448040962
 
 -- the ranges of the head's numbers, for a memory of size bytes
 pub record InRange (size : ℕ) (h : Head) (n : Counts) : Type 0 where
@@ -72,6 +72,7 @@ pub record InRange (size : ℕ) (h : Head) (n : Counts) : Type 0 where
 pub record Room (m : List ℕ) : Type 0 where
   pub sign : num4 m 0 ≡ signature
   pub range : InRange (length m) (headAt m) (countsOf (flatOf m))
+  pub first : firstAt m ≤ headAt m .capacity / 4
 
 -- a head that may take another's place: the capacity, and with it the place of each list, stays
 pub record Replaces (g h : Head) : Type 0 where
@@ -137,3 +138,15 @@ entryIn f p = getD (f .entries) p noEntry
 -- block b is in use too
 abbrev pub usedAnd : ℕ → (ℕ → Bool) → ℕ → Bool
 usedAnd b u c = eqb b c || u c
+
+-- ---- a place for a row, from the memory m to the memory m'
+
+-- a place is open at i: with it there is one row more than counted, and without it the rows are those of before
+pub record Opened (m m' : List ℕ) (i : ℕ) : Type 0 where
+  pub others : Becomes m m' (withRows (flatOf m) (rowsOf m'))
+  pub around : removeAt i (rowsAt m' (firstAt m') (countAt m 0 + 1)) ≡ rowsOf m
+
+-- row i is gone: one less than counted, the rows are the others
+pub record Closed (m m' : List ℕ) (i : ℕ) : Type 0 where
+  pub others : Becomes m m' (withRows (flatOf m) (rowsOf m'))
+  pub around : rowsAt m' (firstAt m') (countAt m 0 - 1) ≡ removeAt i (rowsOf m)

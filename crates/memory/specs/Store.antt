@@ -15,7 +15,7 @@ use Rattle.image.specs.Stages.{capacityLimit}
 use Rattle.model.specs.State.{Pending, nothing, adding, committing, removing, Held, Page, Active, Checkpoint, idle, running, Store}
 use Rattle.model.specs.Recover.{memoryFor}
 use Rattle.memory.specs.Bytes.{cut}
-use Rattle.memory.specs.Views.{tab}
+use Rattle.memory.specs.Views.{tab, firstAt}
 use Rattle.memory.specs.Flat.{Flat, flatOf, countsOf, signature, rowIn, entryIn, withRows, withEntries}
 use Rattle.memory.specs.declared.Row.{Row}
 use Rattle.memory.specs.declared.Entry.{Entry}
@@ -131,6 +131,10 @@ inRange size h n =
 unfoldable pub hasRows : Entry → Bool
 hasRows e = leb 1 (e .count)
 
+-- how many rows the entries have, 0 if one has none
+unfoldable pub filledBy : List Entry → ℕ
+filledBy es = if all hasRows es then total es else 0
+
 -- each page has a row, and together they have n
 unfoldable pub fillsRows : List Entry → ℕ → Bool
 fillsRows es n = every (all hasRows es ∷ eqb (total es) n ∷ [])
@@ -139,13 +143,14 @@ fillsRows es n = every (all hasRows es ∷ eqb (total es) n ∷ [])
 abbrev pub filled : Flat → Bool
 filled f = fillsRows (f .entries) (length (f .rows))
 
--- length, signature, ranges, and the pass over the page entries
+-- length, signature, ranges, the place of the first row, and the pass over the page entries
 unfoldable pub holdsStore : List ℕ → Bool
 holdsStore m =
     every (
     leb 1024 (length m)
     ∷ eqb (num4 m 0) signature
     ∷ inRange (length m) (flatOf m .head) (countsOf (flatOf m))
+    ∷ leb (firstAt m) (flatOf m .head .capacity / 4)
     ∷ filled (flatOf m)
     ∷ [])
 

@@ -7,7 +7,7 @@ use lib.ListN.{getD}
 use lib.Dec.{eqb}
 use Rattle.blocks.specs.Limits.{payloadLimit}
 use Rattle.blocks.specs.Numbers.{num4}
-use Rattle.memory.specs.Bytes.{num2, bytes4, bytes2, cut, Apart}
+use Rattle.memory.specs.Bytes.{num2, bytes4, bytes2, cut, put, Apart}
 use Rattle.memory.specs.declared.Row.{Row}
 use Rattle.memory.specs.declared.Entry.{Entry}
 use Rattle.memory.specs.declared.Head.{Head}
@@ -89,6 +89,10 @@ headAt m = headOf (cut 4 28 m)
 abbrev pub countAt : List ℕ → ℕ → ℕ
 countAt m k = cell word 64 4 4 m k
 
+-- a word x behind the n words from base on, with count k one more
+abbrev pub pushed : ℕ → ℕ → ℕ → ℕ → List ℕ → List ℕ
+pushed base k n x m = put (64 + k * 4) (bytes4 (n + 1)) (put (base + n * 4) (bytes4 x) m)
+
 -- the directory blocks written
 abbrev pub directoriesAt : List ℕ → ℕ → List ℕ
 directoriesAt m n = tab (cell word 96 4 4 m) 0 n
@@ -105,17 +109,25 @@ usedIn bs b = eqb (getD bs (b / 8) 0 / 2 ^ (b % 8) % 2) 1
 abbrev pub usedAt : List ℕ → ℕ → Bool
 usedAt m = usedIn (cut 512 512 m)
 
--- the rows
-abbrev pub rowsAt : List ℕ → ℕ → List Row
-rowsAt m n = tab (cell rowOf 1024 80 56 m) 0 n
+-- how many rows there would be room for before row 0
+abbrev pub firstAt : List ℕ → ℕ
+firstAt m = num4 m 32
 
--- the page entries stand behind room for c rows
+-- the rows, behind room for f others
+abbrev pub rowsAt : List ℕ → ℕ → ℕ → List Row
+rowsAt m f n = tab (cell rowOf (1024 + f * 80) 80 56 m) 0 n
+
+-- page entries stand behind room for c rows and a quarter more: n of them from i on
+abbrev pub entriesFrom : List ℕ → ℕ → ℕ → ℕ → List Entry
+entriesFrom m c i n = tab (cell entryOf (1024 + c * 100) 8 6 m) i n
+
+-- the page entries
 abbrev pub entriesAt : List ℕ → ℕ → ℕ → List Entry
-entriesAt m c n = tab (cell entryOf (1024 + c * 80) 8 6 m) 0 n
+entriesAt m c n = entriesFrom m c 0 n
 
 -- the directory entries stand behind room for c page entries
 abbrev pub namedAt : List ℕ → ℕ → ℕ → List ℕ
-namedAt m c n = tab (cell half (1024 + c * 88) 2 2 m) 0 n
+namedAt m c n = tab (cell half (1024 + c * 108) 2 2 m) 0 n
 
 -- ---- what a store of one cell does, from the memory m to the memory m'
 

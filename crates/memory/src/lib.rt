@@ -14,9 +14,9 @@ ghost use Rattle.blocks.specs.Numbers.{num4};
 ghost use Rattle.model.specs.Rules.{heldSize, calm, withPending, kept};
 ghost use Rattle.model.specs.Recover.{freshStore};
 ghost use Rattle.memory.specs.Bytes.{num2, bytes4, bytes2, cut, put, Shifted, Lowered};
-ghost use Rattle.memory.specs.Views.{rowOf, entryOf, word, numbersOf, entryBytes, countAt, entriesAt, Only};
-ghost use Rattle.memory.specs.Flat.{flatOf, countsOf, rowIn, entryIn, Room, Replaces, Becomes, withHead, withOpens, withRows, withEntries, withNamed, withDirectories, withUsed, insertAt, removeAt, usedAnd};
-ghost use Rattle.memory.specs.Store.{pendingOf, heldOf, tupleBy, inRange, fillsRows, holdsStore, heldIn, Holds, Copied, FreshFits, freshFlat, storeIn};
+ghost use Rattle.memory.specs.Views.{rowOf, entryOf, word, numbersOf, entryBytes, firstAt, countAt, entriesAt, entriesFrom, pushed, Only};
+ghost use Rattle.memory.specs.Flat.{flatOf, countsOf, rowIn, entryIn, Room, Replaces, Becomes, withHead, withOpens, withRows, withEntries, withNamed, withDirectories, withUsed, insertAt, removeAt, usedAnd, Opened, Closed};
+ghost use Rattle.memory.specs.Store.{pendingOf, heldOf, tupleBy, inRange, filledBy, fillsRows, holdsStore, heldIn, Holds, Copied, FreshFits, freshFlat, storeIn};
 
 // A tuple with its pending operation. flags: bit 0 tentative, bit 1 delete mark, bits 2 and 3 pending (0 nothing, 1 adding,
 // 2 committing, 3 removing). owner: the transaction above 20 bits of statement.
@@ -245,15 +245,15 @@ fn encode_row(s: Row) -> [u8; 16]
     ]
 }
 
-// The row i, and nothing else.
-fn store_row(m: &mut [u8], i: usize, s: Row)
-    requires { ⌜ 1024 + i * 80 + 80 ≤ length (now m) ⌝ }
-    ensures { λ _. ⌜ Only rowOf 1024 80 56 (now (m .entry)) (now (m .exit)) i s ⌝ }
+// The row i of those from byte b on, and nothing else.
+fn store_row(m: &mut [u8], b: usize, i: usize, s: Row)
+    requires { ⌜ b + i * 80 + 80 ≤ length (now m) ⌝ }
+    ensures { λ _. ⌜ Only rowOf b 80 56 (now (m .entry)) (now (m .exit)) i s ⌝ }
 {
-    let a = 1024 + i * 80;
-    let b = encode_row(s);
+    let a = b + i * 80;
+    let n = encode_row(s);
     let p = s.payload;
-    write(m, a, &b);
+    write(m, a, &n);
     write(m, a + 16, &p);
 }
 
@@ -279,11 +279,11 @@ fn encode_entry(e: Entry) -> [u8; 6]
 
 // The page entry i behind room for n rows, and nothing else.
 fn store_entry(m: &mut [u8], n: usize, i: usize, e: Entry)
-    requires { ⌜ 1024 + n * 80 + i * 8 + 8 ≤ length (now m) ⌝ }
-    ensures { λ _. ⌜ Only entryOf (1024 + n * 80) 8 6 (now (m .entry)) (now (m .exit)) i e ⌝ }
+    requires { ⌜ 1024 + n * 100 + i * 8 + 8 ≤ length (now m) ⌝ }
+    ensures { λ _. ⌜ Only entryOf (1024 + n * 100) 8 6 (now (m .entry)) (now (m .exit)) i e ⌝ }
 {
     let b = encode_entry(e);
-    write(m, 1024 + n * 80 + i * 8, &b);
+    write(m, 1024 + n * 100 + i * 8, &b);
 }
 
 // ---- the head
@@ -357,11 +357,28 @@ pub fn put_head(m: &mut [u8], h: Head)
 
 // ---- rows
 
+// Where row 0 stands.
+fn rows_from(m: &[u8]) -> usize
+    requires { ⌜ 1024 ≤ length (now m) ⌝ }
+    ensures { λ r. ⌜ r ≡ 1024 + firstAt (now (m .entry)) * 80 ⌝ }
+{
+    let f = get4(m, 32) as usize;
+    1024 + f * 80
+}
+
+// Where row i stands.
+fn row_place(m: &[u8], i: usize) -> usize
+    requires { ⌜ Room (now m) × (i < length (flatOf (now m) .rows)) ⌝ }
+    ensures { λ r. ⌜ (r ≡ 1024 + firstAt (now (m .entry)) * 80 + i * 80) × (r + 80 ≤ length (now (m .entry))) ⌝ }
+{
+    rows_from(m) + i * 80
+}
+
 pub fn get_row(m: &[u8], i: usize) -> Row
     requires { ⌜ Room (now m) × (i < length (flatOf (now m) .rows)) ⌝ }
     ensures { λ r. ⌜ r ≡ rowIn (flatOf (now (m .entry))) i ⌝ }
 {
-    let a = 1024 + i * 80;
+    let a = row_place(m, i);
     let e = a + 56;
     decode_row(&m[a..e])
 }
@@ -370,35 +387,35 @@ pub fn key_at(m: &[u8], i: usize) -> u32
     requires { ⌜ Room (now m) × (i < length (flatOf (now m) .rows)) ⌝ }
     ensures { λ r. ⌜ r ≡ rowIn (flatOf (now (m .entry))) i .key ⌝ }
 {
-    get4(m, 1024 + i * 80)
+    get4(m, row_place(m, i))
 }
 
 pub fn number_at(m: &[u8], i: usize) -> u32
     requires { ⌜ Room (now m) × (i < length (flatOf (now m) .rows)) ⌝ }
     ensures { λ r. ⌜ r ≡ rowIn (flatOf (now (m .entry))) i .number ⌝ }
 {
-    get4(m, 1024 + i * 80 + 4)
+    get4(m, row_place(m, i) + 4)
 }
 
 pub fn owner_at(m: &[u8], i: usize) -> u32
     requires { ⌜ Room (now m) × (i < length (flatOf (now m) .rows)) ⌝ }
     ensures { λ r. ⌜ r ≡ rowIn (flatOf (now (m .entry))) i .owner ⌝ }
 {
-    get4(m, 1024 + i * 80 + 8)
+    get4(m, row_place(m, i) + 8)
 }
 
 pub fn flags_at(m: &[u8], i: usize) -> u8
     requires { ⌜ Room (now m) × (i < length (flatOf (now m) .rows)) ⌝ }
     ensures { λ r. ⌜ r ≡ rowIn (flatOf (now (m .entry))) i .flags ⌝ }
 {
-    m[1024 + i * 80 + 12]
+    m[row_place(m, i) + 12]
 }
 
 pub fn size_at(m: &[u8], i: usize) -> u8
     requires { ⌜ Room (now m) × (i < length (flatOf (now m) .rows)) ⌝ }
     ensures { λ r. ⌜ r ≡ rowIn (flatOf (now (m .entry))) i .size ⌝ }
 {
-    m[1024 + i * 80 + 13]
+    m[row_place(m, i) + 13]
 }
 
 // A tuple's size: 9 bytes plus its payload, plus 4 if tentative.
@@ -418,7 +435,7 @@ pub fn payload_at(m: &[u8], i: usize) -> Part
 {
     let n = size_at(m, i) as usize;
     Part {
-        start: 1024 + i * 80 + 16,
+        start: row_place(m, i) + 16,
         len: n % 41,
     }
 }
@@ -495,7 +512,40 @@ pub fn put_row(m: &mut [u8], i: usize, s: Row)
     requires { ⌜ Room (now m) × (i < length (flatOf (now m) .rows)) ⌝ }
     ensures { λ _. ⌜ Becomes (now (m .entry)) (now (m .exit)) (withRows (flatOf (now (m .entry))) (set (flatOf (now (m .entry)) .rows) i s)) ⌝ }
 {
-    store_row(m, i, s);
+    let b = rows_from(m);
+    store_row(m, b, i, s);
+}
+
+// Makes a place for a row before row i, moving the fewer of the rows before it and behind it.
+fn open_row(m: &mut [u8], i: usize)
+    requires { ⌜ Room (now m) × ((i ≤ length (flatOf (now m) .rows)) × (length (flatOf (now m) .rows) < flatOf (now m) .head .capacity)) ⌝ }
+    ensures { λ _. ⌜ Opened (now (m .entry)) (now (m .exit)) i ⌝ }
+{
+    let n = count_at(m, 0) as usize;
+    let f = get4(m, 32);
+    let b = rows_from(m);
+    if (0 < f) & (i < n - i) {
+        shift_down(m, b - 80, b + i * 80, 80);
+        put4(m, 32, f - 1);
+        return;
+    }
+    shift_up(m, b + i * 80, b + n * 80, 80);
+}
+
+// Closes the place of row i, moving the fewer of the rows before it and behind it.
+fn close_row(m: &mut [u8], i: usize)
+    requires { ⌜ Room (now m) × (i < length (flatOf (now m) .rows)) ⌝ }
+    ensures { λ _. ⌜ Closed (now (m .entry)) (now (m .exit)) i ⌝ }
+{
+    let n = count_at(m, 0) as usize;
+    let f = get4(m, 32);
+    let b = rows_from(m);
+    if ((f as usize) < capacity_of(m) / 4) & (i < n - i) {
+        shift_up(m, b, b + i * 80, 80);
+        put4(m, 32, f + 1);
+        return;
+    }
+    shift_down(m, b + i * 80, b + n * 80, 80);
 }
 
 pub fn insert_row(m: &mut [u8], i: usize, s: Row)
@@ -503,9 +553,9 @@ pub fn insert_row(m: &mut [u8], i: usize, s: Row)
     ensures { λ _. ⌜ Becomes (now (m .entry)) (now (m .exit)) (withRows (flatOf (now (m .entry))) (insertAt i s (flatOf (now (m .entry)) .rows))) ⌝ }
 {
     let n = count_at(m, 0);
-    let k = n as usize;
-    shift_up(m, 1024 + i * 80, 1024 + k * 80, 80);
-    store_row(m, i, s);
+    open_row(m, i);
+    let b = rows_from(m);
+    store_row(m, b, i, s);
     put_count(m, 0, n + 1);
 }
 
@@ -514,8 +564,7 @@ pub fn remove_row(m: &mut [u8], i: usize)
     ensures { λ _. ⌜ Becomes (now (m .entry)) (now (m .exit)) (withRows (flatOf (now (m .entry))) (removeAt i (flatOf (now (m .entry)) .rows))) ⌝ }
 {
     let n = count_at(m, 0);
-    let k = n as usize;
-    shift_down(m, 1024 + i * 80, 1024 + k * 80, 80);
+    close_row(m, i);
     put_count(m, 0, n - 1);
 }
 
@@ -526,7 +575,7 @@ pub fn get_entry(m: &[u8], p: usize) -> Entry
     ensures { λ r. ⌜ r ≡ entryIn (flatOf (now (m .entry))) p ⌝ }
 {
     let n = capacity_of(m);
-    let a = 1024 + n * 80 + p * 8;
+    let a = 1024 + n * 100 + p * 8;
     let e = a + 6;
     decode_entry(&m[a..e])
 }
@@ -546,7 +595,7 @@ pub fn insert_entry(m: &mut [u8], p: usize, e: Entry)
     let n = capacity_of(m);
     let c = count_at(m, 1);
     let k = c as usize;
-    let b = 1024 + n * 80;
+    let b = 1024 + n * 100;
     shift_up(m, b + p * 8, b + k * 8, 8);
     store_entry(m, n, p, e);
     put_count(m, 1, c + 1);
@@ -559,12 +608,23 @@ pub fn remove_entry(m: &mut [u8], p: usize)
     let n = capacity_of(m);
     let c = count_at(m, 1);
     let k = c as usize;
-    let b = 1024 + n * 80;
+    let b = 1024 + n * 100;
     shift_down(m, b + p * 8, b + k * 8, 8);
     put_count(m, 1, c - 1);
 }
 
-// ---- open transactions, in the order in which they opened
+// ---- words: open transactions, in the order in which they opened, and directory blocks
+
+// One more word behind those from byte base on, whose count is number k.
+fn push_word(m: &mut [u8], base: usize, k: usize, x: u32)
+    requires { ⌜ (k < 5) × ((base + countAt (now m) k * 4 + 4 ≤ 1024) × (1024 ≤ length (now m))) ⌝ }
+    ensures { λ _. ⌜ now (m .exit) ≡ pushed base k (countAt (now (m .entry)) k) x (now (m .entry)) ⌝ }
+{
+    let n = count_at(m, k);
+    let j = n as usize;
+    put4(m, base + j * 4, x);
+    put4(m, 64 + k * 4, n + 1);
+}
 
 pub fn get_open(m: &[u8], i: usize) -> u32
     requires { ⌜ Room (now m) × (i < length (flatOf (now m) .opens)) ⌝ }
@@ -577,10 +637,7 @@ pub fn push_open(m: &mut [u8], x: u32)
     requires { ⌜ Room (now m) × (length (flatOf (now m) .opens) < 64) ⌝ }
     ensures { λ _. ⌜ Becomes (now (m .entry)) (now (m .exit)) (withOpens (flatOf (now (m .entry))) (flatOf (now (m .entry)) .opens ++ x ∷ [])) ⌝ }
 {
-    let n = count_at(m, 2);
-    let k = n as usize;
-    put4(m, 128 + k * 4, x);
-    put_count(m, 2, n + 1);
+    push_word(m, 128, 2, x);
 }
 
 pub fn put_open(m: &mut [u8], i: usize, x: u32)
@@ -607,7 +664,7 @@ pub fn get_named(m: &[u8], i: usize) -> u16
     ensures { λ r. ⌜ r ≡ getD (flatOf (now (m .entry)) .named) i 0 ⌝ }
 {
     let n = capacity_of(m);
-    get2(m, 1024 + n * 88 + i * 2)
+    get2(m, 1024 + n * 108 + i * 2)
 }
 
 pub fn put_named(m: &mut [u8], i: usize, x: u16)
@@ -615,7 +672,7 @@ pub fn put_named(m: &mut [u8], i: usize, x: u16)
     ensures { λ _. ⌜ Becomes (now (m .entry)) (now (m .exit)) (withNamed (flatOf (now (m .entry))) (set (flatOf (now (m .entry)) .named) i x)) ⌝ }
 {
     let n = capacity_of(m);
-    put2(m, 1024 + n * 88 + i * 2, x);
+    put2(m, 1024 + n * 108 + i * 2, x);
 }
 
 pub fn push_named(m: &mut [u8], x: u16)
@@ -625,7 +682,7 @@ pub fn push_named(m: &mut [u8], x: u16)
     let n = capacity_of(m);
     let c = count_at(m, 3);
     let k = c as usize;
-    put2(m, 1024 + n * 88 + k * 2, x);
+    put2(m, 1024 + n * 108 + k * 2, x);
     put_count(m, 3, c + 1);
 }
 
@@ -649,10 +706,7 @@ pub fn push_directory(m: &mut [u8], x: u32)
     requires { ⌜ Room (now m) × (length (flatOf (now m) .directories) < 4) ⌝ }
     ensures { λ _. ⌜ Becomes (now (m .entry)) (now (m .exit)) (withDirectories (flatOf (now (m .entry))) (flatOf (now (m .entry)) .directories ++ x ∷ [])) ⌝ }
 {
-    let n = count_at(m, 4);
-    let k = n as usize;
-    put4(m, 96 + k * 4, x);
-    put_count(m, 4, n + 1);
+    push_word(m, 96, 4, x);
 }
 
 pub fn clear_directories(m: &mut [u8])
@@ -722,22 +776,57 @@ fn in_range(size: usize, h: Head, n: Counts) -> bool
         & (n.directories <= 4)
 }
 
+// How many rows four page entries from i on have, 0 if one has none. One branch for the four, since nearly all have rows.
+fn four_filled(m: &[u8], n: usize, i: usize) -> u32
+    requires { ⌜ (n ≤ 1024) × ((i + 4 ≤ n) × (1024 + n * 108 ≤ length (now m))) ⌝ }
+    ensures { λ r. ⌜ r ≡ filledBy (entriesFrom (now (m .entry)) n i 4) ⌝ }
+{
+    let a = 1024 + n * 100 + 2 + i * 8;
+    let p = get2(m, a) as u32;
+    let q = get2(m, a + 8) as u32;
+    let r = get2(m, a + 16) as u32;
+    let s = get2(m, a + 24) as u32;
+    if (p == 0) | (q == 0) | (r == 0) | (s == 0) {
+        return 0;
+    }
+    p + q + r + s
+}
+
+// Each of the page entries from i up to, not including, c has a row, and together they have as many as `rows`.
+fn rest_fill(m: &[u8], n: usize, i: usize, c: usize, rows: u32) -> bool
+    requires { ⌜ (n ≤ 1024) × ((i ≤ c) × ((c ≤ n) × (1024 + n * 108 ≤ length (now m)))) ⌝ }
+    ensures { λ r. ⌜ r ≡ fillsRows (entriesFrom (now (m .entry)) n i (c - i)) rows ⌝ }
+{
+    let base = 1024 + n * 100 + 2;
+    let mut left = rows;
+    let mut j = i;
+    while j < c {
+        let k = get2(m, base + j * 8) as u32;
+        if (k == 0) | (left < k) {
+            return false;
+        }
+        left -= k;
+        j += 1;
+    }
+    left == 0
+}
+
 // Each of the c page entries behind room for n rows has a row, and together they have as many as `rows`.
 fn entries_fill(m: &[u8], n: usize, c: usize, rows: u32) -> bool
-    requires { ⌜ (n ≤ 1024) × ((c ≤ n) × (1024 + n * 88 ≤ length (now m))) ⌝ }
+    requires { ⌜ (n ≤ 1024) × ((c ≤ n) × (1024 + n * 108 ≤ length (now m))) ⌝ }
     ensures { λ r. ⌜ r ≡ fillsRows (entriesAt (now (m .entry)) n c) rows ⌝ }
 {
-    let base = 1024 + n * 80 + 2;
-    let mut good = true;
-    let mut sum: u32 = 0;
+    let mut left = rows;
     let mut i = 0;
-    while i < c {
-        let k = get2(m, base + i * 8) as u32;
-        good = good & (1 <= k);
-        sum += k;
-        i += 1;
+    while i + 4 <= c {
+        let k = four_filled(m, n, i);
+        if (k == 0) | (left < k) {
+            return false;
+        }
+        left -= k;
+        i += 4;
     }
-    good & (sum == rows)
+    rest_fill(m, n, i, c, left)
 }
 
 // The head, and one pass over the page entries.
@@ -748,12 +837,15 @@ pub fn holds_store(m: &[u8]) -> bool
         return false;
     }
     let s = get4(m, 0);
-    if s != 1448040961 {
+    if s != 1448040962 {
         return false;
     }
     let h = get_head(m);
     let n = get_counts(m);
     if !in_range(m.len(), h, n) {
+        return false;
+    }
+    if h.capacity / 4 < get4(m, 32) {
         return false;
     }
     entries_fill(m, h.capacity as usize, n.pages as usize, n.rows)
@@ -767,8 +859,9 @@ pub fn fresh(m: &mut [u8], blocks: u32, n: u32)
     ensures { λ _. ⌜ Becomes (now (m .entry)) (now (m .exit)) (freshFlat blocks n) × (storeIn (now (m .exit)) ≡ some (freshStore blocks n)) ⌝ }
 {
     clear(m, 0, 128);
-    put4(m, 0, 1448040961);
+    put4(m, 0, 1448040962);
     put4(m, 4, n);
     put4(m, 8, blocks);
+    put4(m, 32, n / 4);
     clear(m, 512, 512);
 }

@@ -1,46 +1,43 @@
-use Rattle.memory.proofs.Access.{count-is}
-use Rattle.memory.proofs.Refusal.{Left, pass-start, pass-on, pass-end}
+use Rattle.memory.proofs.Filling.{enough-left, pass-on, pass-stop, next-run}
 use Rattle.memory.specs.declared.Entry.{Entry}
-use Rattle.memory.specs.Views.{cell, entryOf}
-use borrow.Author.Needs.{needs}
+use Rattle.memory.specs.Store.{fillsRows}
+use Rattle.memory.specs.Views.{cell, tab, entryOf, entriesFrom}
+use mathlib.Core.List.{List}
 use native.Mathlib.Omega.{arith}
-use Prim.Native.Nat.{ℕ, _+_, _*_, _-_}
-use mathlib.Core.Path.{_≡_, _∙_}
+use Prim.Native.Nat.{ℕ, _+_, _*_, _-_, _≤_}
+use mathlib.Core.Path.{_≡_, sym, ap, _∙_}
 use Rattle.memory.proofs.entries_fill.Statement.{statement}
 use Rattle.memory.proofs.entries_fill.Tie as tie
 
 abbrev Inv-loop : tie.InvT-loop
-Inv-loop m n c rows base good₀ sum₀ i₀ good sum i = Left (cell entryOf (1024 + n * 80) 8 6 m) i c good sum
+Inv-loop m n c rows left₀ i₀ left i = (i ≤ c) × (fillsRows (entriesFrom m n 0 c) rows ≡ fillsRows (entriesFrom m n i (c - i)) left)
 
 abbrev μ-loop : tie.MeasureT-loop
-μ-loop m n c rows base good₀ sum₀ i₀ good sum i = c - i
-
-mul-base : tie.Need-mul-base Inv-loop μ-loop
-mul-base c = omega arith
-
-add-base : tie.Need-add-base Inv-loop μ-loop
-add-base c = omega arith
-
-add-base-2 : tie.Need-add-base-2 Inv-loop μ-loop
-add-base-2 c = omega arith
+μ-loop m n c rows left₀ i₀ left i = c - i
 
 loop-holds : tie.Need-loop-holds Inv-loop μ-loop
-loop-holds c = pass-start (cell entryOf (1024 + c .before .args .n * 80) 8 6 (c .before .args .m .now)) (c .before .args .c)
+loop-holds c = let st = c .before in
+    let e : st .args .c ≡ st .args .c - 0 = omega arith in
+    (omega arith, ap (λ (k : ℕ). fillsRows (entriesFrom (st .args .m .now) (st .args .n) 0 k) (st .args .rows)) e)
 
-mul-get2 : tie.Need-mul-get2 Inv-loop μ-loop
-mul-get2 c = omega arith
+add-loop : tie.Need-add-loop Inv-loop μ-loop
+add-loop c = omega arith
 
-add-get2 : tie.Need-add-get2 Inv-loop μ-loop
-add-get2 c = omega arith
+four-filled-requires : tie.Need-four-filled-requires Inv-loop μ-loop
+four-filled-requires c κs = omega arith
 
-get2-requires : tie.Need-get2-requires Inv-loop μ-loop
-get2-requires c κs = omega arith
+returns : tie.Need-returns Inv-loop μ-loop
+returns c = let g = c .before in
+    let l = g .before .before in
+    let st = l .before .before in
+    let f : ℕ → Entry = cell entryOf (1024 + st .args .n * 100) 8 6 (st .args .m .now) in
+    let end : ℕ = st .args .c in
+    let i : ℕ = l .loop .i in
+    let run = ap (λ (es : List Entry). fillsRows es (l .loop .left)) (next-run f i 4 end (omega (arith, g .before .loop-test .taken))) in
+    pass-stop (tab f i 4) (tab f (i + 4) (end - (i + 4))) (l .loop .left) (g .four-filled .result) (g .four-filled .ensures) (omega arith) (c .if1 .taken) ∙ sym (l .loop .inv .1 ∙ run)
 
-cast-k : tie.Need-cast-k Inv-loop μ-loop
-cast-k c = search needs
-
-add-sum : tie.Need-add-sum Inv-loop μ-loop
-add-sum c = omega arith
+sub-left : tie.Need-sub-left Inv-loop μ-loop
+sub-left c = enough-left _ _ (c .if1 .left)
 
 add-i : tie.Need-add-i Inv-loop μ-loop
 add-i c = omega arith
@@ -49,17 +46,20 @@ loop-less : tie.Need-loop-less Inv-loop μ-loop
 loop-less c = omega arith
 
 loop-again : tie.Need-loop-again Inv-loop μ-loop
-loop-again c = let st = c .before .before .before .before in
-    let f : ℕ → Entry = cell entryOf (1024 + st .args .n * 80) 8 6 (st .args .m .now) in
-    let l = c .before .before .loop in
-    let e : c .get2 .result ≡ f (l .i) .count = c .get2 .ensures ∙ count-is (st .args .m .now) (st .args .n) (l .i) in
-    pass-on f (l .i) (st .args .c) (l .good) (l .sum) (c .before .loop-test .taken) (l .inv) (c .get2 .result) e (omega arith)
+loop-again c = let g = c .before in
+    let l = g .before .before in
+    let st = l .before .before in
+    let f : ℕ → Entry = cell entryOf (1024 + st .args .n * 100) 8 6 (st .args .m .now) in
+    let end : ℕ = st .args .c in
+    let i : ℕ = l .loop .i in
+    let run = ap (λ (es : List Entry). fillsRows es (l .loop .left)) (next-run f i 4 end (omega (arith, g .before .loop-test .taken))) in
+    (omega arith, l .loop .inv .1 ∙ run ∙ pass-on (tab f i 4) (tab f (i + 4) (end - (i + 4))) (l .loop .left) (g .four-filled .result) (g .four-filled .ensures) (c .if1 .left))
 
-returns : tie.Need-returns Inv-loop μ-loop
-returns c = let st = c .before .before .before in
-    let f : ℕ → Entry = cell entryOf (1024 + st .args .n * 80) 8 6 (st .args .m .now) in
-    let l = c .before .loop in
-    pass-end f (l .i) (st .args .c) (l .good) (l .sum) (c .loop-test .left) (l .inv) (st .args .rows)
+rest-fill-requires : tie.Need-rest-fill-requires Inv-loop μ-loop
+rest-fill-requires c κs = omega arith
+
+returns-2 : tie.Need-returns-2 Inv-loop μ-loop
+returns-2 c = c .rest-fill .ensures ∙ sym (c .before .before .loop .inv .1)
 
 pub entries-fill-spec : {M : Type 1} → statement M
 entries-fill-spec =
@@ -67,16 +67,13 @@ entries-fill-spec =
     (tie.spec
     Inv-loop
     μ-loop
-    mul-base
-    add-base
-    add-base-2
     loop-holds
-    mul-get2
-    add-get2
-    get2-requires
-    cast-k
-    add-sum
+    add-loop
+    four-filled-requires
+    returns
+    sub-left
     add-i
     loop-less
     loop-again
-    returns)
+    rest-fill-requires
+    returns-2)

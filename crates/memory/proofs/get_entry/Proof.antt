@@ -43,7 +43,7 @@ returns : tie.Need-returns
 returns c = let st = c .before .before .before .before in
     let m : List ℕ = st .args .m .now in
     let n : ℕ = c .before .before .capacity-of .result in
-    let a : ℕ = 1024 + n * 80 + st .args .p * 8 in
+    let a : ℕ = 1024 + n * 100 + st .args .p * 8 in
     let e : a + 6 - a ≡ 6 = omega arith in
     c .decode-entry .ensures ∙ ap (λ (k : ℕ). entryOf (cut a k m)) e ∙ sym (entry-at m (st .args .p) n (c .before .before .capacity-of .ensures) (st .pre .1))
 

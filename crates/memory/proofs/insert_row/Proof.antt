@@ -9,32 +9,18 @@ use Rattle.memory.proofs.insert_row.Tie as tie
 count-at-requires : tie.Need-count-at-requires
 count-at-requires c κs = search needs
 
-cast-k : tie.Need-cast-k
-cast-k c = search needs
+open-row-requires : tie.Need-open-row-requires
+open-row-requires c κs = search needs
 
-mul-shift-up : tie.Need-mul-shift-up
-mul-shift-up c = search needs
-
-add-shift-up : tie.Need-add-shift-up
-add-shift-up c = search needs
-
-mul-shift-up-2 : tie.Need-mul-shift-up-2
-mul-shift-up-2 c = search needs
-
-add-shift-up-2 : tie.Need-add-shift-up-2
-add-shift-up-2 c = search needs
-
-shift-up-requires : tie.Need-shift-up-requires
-shift-up-requires c κs = let k = known _ (c .before .before .before .before .pre .0) in
-    let e = c .before .count-at .ensures in
-    omega arith
+rows-from-requires : tie.Need-rows-from-requires
+rows-from-requires c κs = search needs
 
 store-row-requires : tie.Need-store-row-requires
 store-row-requires c κs = search needs
 
 add-put-count : tie.Need-add-put-count
-add-put-count c = let k = known _ (c .before .before .before .before .before .before .before .before .before .before .before .before .pre .0) in
-    let e = c .before .before .before .before .before .before .before .before .before .count-at .ensures in
+add-put-count c = let k = known _ (c .before .before .before .before .before .before .before .before .before .before .before .before .before .before .pre .0) in
+    let e = c .before .before .before .before .before .before .before .before .before .before .before .count-at .ensures in
     omega arith
 
 put-count-requires : tie.Need-put-count-requires
@@ -44,22 +30,22 @@ same-length : tie.Need-same-length
 same-length c = search needs
 
 returns : tie.Need-returns
-returns c = let st = c .before .before .before .before .before .before .before .before .before .before .before .before .before .before .before in
-    let l = c .before .before .put-count .kept .0 ∙ c .before .before .before .before .before .before .store-row .kept .0 ∙ c .before .before .before .before .before .before .before .before .before .before .shift-up .kept .0 in
-    row-in (st .args .m .now) (st .pre .0) (c .before .before .before .before .before .before .before .before .before .before .before .before .count-at .result) (c .before .before .before .before .before .before .before .before .before .before .before .before .count-at .ensures) (st .args .i) (st .args .s) (st .pre .1 .0) (st .pre .1 .1) l
-    (c .before .before .before .before .before .before .before .before .before .before .shift-up .ensures) (c .before .before .before .before .before .before .store-row .ensures) (c .before .before .put-count .ensures)
+returns c = let st = c .before .before .before .before .before .before .before .before .before .before .before .before .before .before .before .before .before in
+    let n = c .before .before .before .before .before .before .before .before .before .before .before .before .before .before .count-at in
+    let w1 = c .before .before .before .before .before .before .before .before .before .before .before .before .open-row in
+    let b = c .before .before .before .before .before .before .before .before .rows-from in
+    let w2 = c .before .before .before .before .before .before .store-row in
+    let w3 = c .before .before .put-count in
+    row-in (st .args .m .now) (st .pre .0) (n .result) (n .ensures) (st .args .i) (st .args .s) (b .result) (b .ensures) (st .pre .1 .0) (st .pre .1 .1)
+    (w3 .kept .0 ∙ w2 .kept .0) (w1 .ensures) (w2 .ensures) (w3 .ensures)
 
 pub insert-row-spec : {M : Type 1} → statement M
 insert-row-spec =
     tie.close
     (tie.spec
     count-at-requires
-    cast-k
-    mul-shift-up
-    add-shift-up
-    mul-shift-up-2
-    add-shift-up-2
-    shift-up-requires
+    open-row-requires
+    rows-from-requires
     store-row-requires
     add-put-count
     put-count-requires

@@ -4,17 +4,16 @@ use borrow.Author.Needs.{needs}
 use Rattle.memory.proofs.key_at.Statement.{statement}
 use Rattle.memory.proofs.key_at.Tie as tie
 
-mul-get4 : tie.Need-mul-get4
-mul-get4 c = search needs
-
-add-get4 : tie.Need-add-get4
-add-get4 c = search needs
+row-place-requires : tie.Need-row-place-requires
+row-place-requires c κs = search needs
 
 get4-requires : tie.Need-get4-requires
 get4-requires c κs = search needs
 
 returns : tie.Need-returns
-returns c = c .get4 .ensures ∙ key-is (c .before .before .args .m .now) (c .before .before .args .i) (c .before .before .pre .1)
+returns c = let st = c .before .before .before in
+    let p = c .before .row-place in
+    c .get4 .ensures ∙ key-is (st .args .m .now) (st .args .i) (st .pre .1) (p .result) (p .ensures .0)
 
 pub key-at-spec : {M : Type 1} → statement M
-key-at-spec = tie.close (tie.spec mul-get4 add-get4 get4-requires returns)
+key-at-spec = tie.close (tie.spec row-place-requires get4-requires returns)

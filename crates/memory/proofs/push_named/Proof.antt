@@ -55,11 +55,11 @@ returns c = let st = c .before .before .before .before .before .before .before .
     let n : ℕ = c .before .before .before .before .before .before .before .before .before .before .capacity-of .result in
     let j : ℕ = c .before .before .before .before .before .before .before .before .count-at .result in
     let e = c .before .before .before .before .before .before .before .before .count-at .ensures in
-    let eb : 1024 + n * 88 ≡ 1024 + headAt (st .args .m .now) .capacity * 88 = ap (λ (z : ℕ). 1024 + z * 88) (c .before .before .before .before .before .before .before .before .before .before .capacity-of .ensures) in
+    let eb : 1024 + n * 108 ≡ 1024 + headAt (st .args .m .now) .capacity * 108 = ap (λ (z : ℕ). 1024 + z * 108) (c .before .before .before .before .before .before .before .before .before .before .capacity-of .ensures) in
     let k = known m (st .pre .0) in
     let l = c .before .before .put-count .kept .0 ∙ c .before .before .before .before .before .before .put2 .kept .0 in
-    let o : Only half (1024 + n * 88) 2 2 m (c .before .before .before .before .before .before .put2 .last .0) j (st .args .x) = rw (c .before .before .before .before .before .before .put2 .ensures) (stored-half m (1024 + n * 88) j (st .args .x) (omega arith)) in
-    named-in m (st .pre .0) j e (1024 + n * 88) eb (st .args .x) (st .pre .1) l o (c .before .before .put-count .ensures)
+    let o : Only half (1024 + n * 108) 2 2 m (c .before .before .before .before .before .before .put2 .last .0) j (st .args .x) = rw (c .before .before .before .before .before .before .put2 .ensures) (stored-half m (1024 + n * 108) j (st .args .x) (omega arith)) in
+    named-in m (st .pre .0) j e (1024 + n * 108) eb (st .args .x) (st .pre .1) l o (c .before .before .put-count .ensures)
 
 pub push-named-spec : {M : Type 1} → statement M
 push-named-spec =

@@ -18,8 +18,8 @@ same-length c = search needs
 returns : tie.Need-returns
 returns c = let st = c .before .before .before .before .before .before .before in
     let n : ℕ = c .before .before .before .before .capacity-of .result in
-    let eb : 1024 + n * 80 ≡ 1024 + headAt (st .args .m .now) .capacity * 80 = ap (λ (z : ℕ). 1024 + z * 80) (c .before .before .before .before .capacity-of .ensures) in
-    entry-set (st .args .m .now) (st .pre .0) (c .before .before .store-entry .kept .0) (1024 + n * 80) eb (st .args .p) (st .args .e) (st .pre .1) (c .before .before .store-entry .ensures)
+    let eb : 1024 + n * 100 ≡ 1024 + headAt (st .args .m .now) .capacity * 100 = ap (λ (z : ℕ). 1024 + z * 100) (c .before .before .before .before .capacity-of .ensures) in
+    entry-set (st .args .m .now) (st .pre .0) (c .before .before .store-entry .kept .0) (1024 + n * 100) eb (st .args .p) (st .args .e) (st .pre .1) (c .before .before .store-entry .ensures)
 
 pub put-entry-spec : {M : Type 1} → statement M
 put-entry-spec = tie.close (tie.spec capacity-of-requires store-entry-requires same-length returns)

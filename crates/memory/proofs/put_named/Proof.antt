@@ -35,10 +35,10 @@ returns : tie.Need-returns
 returns c = let st = c .before .before .before .before .before .before .before in
     let m : List ℕ = st .args .m .now in
     let n : ℕ = c .before .before .before .before .capacity-of .result in
-    let eb : 1024 + n * 88 ≡ 1024 + headAt (st .args .m .now) .capacity * 88 = ap (λ (z : ℕ). 1024 + z * 88) (c .before .before .before .before .capacity-of .ensures) in
+    let eb : 1024 + n * 108 ≡ 1024 + headAt (st .args .m .now) .capacity * 108 = ap (λ (z : ℕ). 1024 + z * 108) (c .before .before .before .before .capacity-of .ensures) in
     let k = known m (st .pre .0) in
-    let o : Only half (1024 + n * 88) 2 2 m (c .before .before .put2 .last .0) (st .args .i) (st .args .x) = rw (c .before .before .put2 .ensures) (stored-half m (1024 + n * 88) (st .args .i) (st .args .x) (omega arith)) in
-    named-set m (st .pre .0) (c .before .before .put2 .kept .0) (1024 + n * 88) eb (st .args .i) (st .args .x) (st .pre .1) o
+    let o : Only half (1024 + n * 108) 2 2 m (c .before .before .put2 .last .0) (st .args .i) (st .args .x) = rw (c .before .before .put2 .ensures) (stored-half m (1024 + n * 108) (st .args .i) (st .args .x) (omega arith)) in
+    named-set m (st .pre .0) (c .before .before .put2 .kept .0) (1024 + n * 108) eb (st .args .i) (st .args .x) (st .pre .1) o
 
 pub put-named-spec : {M : Type 1} → statement M
 put-named-spec =

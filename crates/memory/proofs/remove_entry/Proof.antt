@@ -56,9 +56,9 @@ same-length c = search needs
 returns : tie.Need-returns
 returns c = let st = c .before .before .before .before .before .before .before .before .before .before .before .before .before in
     let n : ℕ = c .before .before .before .before .before .before .before .before .before .before .capacity-of .result in
-    let eb : 1024 + n * 80 ≡ 1024 + headAt (st .args .m .now) .capacity * 80 = ap (λ (z : ℕ). 1024 + z * 80) (c .before .before .before .before .before .before .before .before .before .before .capacity-of .ensures) in
+    let eb : 1024 + n * 100 ≡ 1024 + headAt (st .args .m .now) .capacity * 100 = ap (λ (z : ℕ). 1024 + z * 100) (c .before .before .before .before .before .before .before .before .before .before .capacity-of .ensures) in
     let l = c .before .before .put-count .kept .0 ∙ c .before .before .before .before .before .before .shift-down .kept .0 in
-    entry-out (st .args .m .now) (st .pre .0) (c .before .before .before .before .before .before .before .before .count-at .result) (c .before .before .before .before .before .before .before .before .count-at .ensures) (1024 + n * 80) eb (st .args .p) (st .pre .1) l
+    entry-out (st .args .m .now) (st .pre .0) (c .before .before .before .before .before .before .before .before .count-at .result) (c .before .before .before .before .before .before .before .before .count-at .ensures) (1024 + n * 100) eb (st .args .p) (st .pre .1) l
     (c .before .before .before .before .before .before .shift-down .ensures) (c .before .before .put-count .ensures)
 
 pub remove-entry-spec : {M : Type 1} → statement M

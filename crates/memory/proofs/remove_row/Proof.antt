@@ -1,7 +1,6 @@
 use Rattle.memory.proofs.Leaves.{row-out}
 use Rattle.memory.proofs.Changes.{known}
 use native.Mathlib.Omega.{arith}
-use mathlib.Core.Path.{_∙_}
 use borrow.Author.Needs.{needs}
 use Rattle.memory.proofs.remove_row.Statement.{statement}
 use Rattle.memory.proofs.remove_row.Tie as tie
@@ -9,25 +8,8 @@ use Rattle.memory.proofs.remove_row.Tie as tie
 count-at-requires : tie.Need-count-at-requires
 count-at-requires c κs = search needs
 
-cast-k : tie.Need-cast-k
-cast-k c = search needs
-
-mul-shift-down : tie.Need-mul-shift-down
-mul-shift-down c = search needs
-
-add-shift-down : tie.Need-add-shift-down
-add-shift-down c = search needs
-
-mul-shift-down-2 : tie.Need-mul-shift-down-2
-mul-shift-down-2 c = search needs
-
-add-shift-down-2 : tie.Need-add-shift-down-2
-add-shift-down-2 c = search needs
-
-shift-down-requires : tie.Need-shift-down-requires
-shift-down-requires c κs = let k = known _ (c .before .before .before .before .pre .0) in
-    let e = c .before .count-at .ensures in
-    omega arith
+close-row-requires : tie.Need-close-row-requires
+close-row-requires c κs = search needs
 
 sub-put-count : tie.Need-sub-put-count
 sub-put-count c = let k = known _ (c .before .before .before .before .before .before .before .before .pre .0) in
@@ -42,20 +24,17 @@ same-length c = search needs
 
 returns : tie.Need-returns
 returns c = let st = c .before .before .before .before .before .before .before .before .before .before .before in
-    let l = c .before .before .put-count .kept .0 ∙ c .before .before .before .before .before .before .shift-down .kept .0 in
-    row-out (st .args .m .now) (st .pre .0) (c .before .before .before .before .before .before .before .before .count-at .result) (c .before .before .before .before .before .before .before .before .count-at .ensures) (st .args .i) (st .pre .1) l (c .before .before .before .before .before .before .shift-down .ensures) (c .before .before .put-count .ensures)
+    let n = c .before .before .before .before .before .before .before .before .count-at in
+    let w1 = c .before .before .before .before .before .before .close-row in
+    let w2 = c .before .before .put-count in
+    row-out (st .args .m .now) (st .pre .0) (n .result) (n .ensures) (st .args .i) (st .pre .1) (w2 .kept .0) (w1 .ensures) (w2 .ensures)
 
 pub remove-row-spec : {M : Type 1} → statement M
 remove-row-spec =
     tie.close
     (tie.spec
     count-at-requires
-    cast-k
-    mul-shift-down
-    add-shift-down
-    mul-shift-down-2
-    add-shift-down-2
-    shift-down-requires
+    close-row-requires
     sub-put-count
     put-count-requires
     same-length

@@ -35,9 +35,9 @@ same-length c = search needs
 returns : tie.Need-returns
 returns c = let st = c .before .before .before .before .before .before .before in
     let m : List ℕ = st .args .m .now in
-    let a : ℕ = 1024 + st .args .n * 80 + st .args .i * 8 in
+    let a : ℕ = 1024 + st .args .n * 100 + st .args .i * 8 in
     let e : c .before .before .write .last .0 ≡ put a (entryBytes (st .args .e)) m = c .before .before .write .ensures ∙ ap (λ (b : List ℕ). put a b m) (c .before .before .before .before .before .encode-entry .ensures) in
-    rw e (stored-entry m (1024 + st .args .n * 80) (st .args .i) (st .args .e) (st .pre))
+    rw e (stored-entry m (1024 + st .args .n * 100) (st .args .i) (st .args .e) (st .pre))
 
 pub store-entry-spec : {M : Type 1} → statement M
 store-entry-spec =

@@ -48,13 +48,14 @@ returns c = let w2 = c .before .before in
     let st = c .before .before .before .before .before .before .before .before .before .before .before .before .before in
     let s : Row = st .args .s in
     let i : ℕ = st .args .i in
-    let a : ℕ = 1024 + i * 80 in
+    let b : ℕ = st .args .b in
+    let a : ℕ = b + i * 80 in
     let m : List ℕ = st .args .m .now in
-    let l : length (s .payload) ≡ 40 = sym (length-map (s .payload) _) ∙ st .good .1 .1 .0 .1 .1 .1 .1 .1 .1 .1 .0 .1 .0 .1 in
-    let e1 : w1 .write .last .0 ≡ put a (numbersOf s) m = w1 .write .ensures ∙ ap (λ (b : List ℕ). put a b m) (c .before .before .before .before .before .before .before .before .before .before .before .encode-row .ensures) in
+    let l : length (s .payload) ≡ 40 = sym (length-map (s .payload) _) ∙ st .good .1 .1 .1 .0 .1 .1 .1 .1 .1 .1 .1 .0 .1 .0 .1 in
+    let e1 : w1 .write .last .0 ≡ put a (numbersOf s) m = w1 .write .ensures ∙ ap (λ (n : List ℕ). put a n m) (c .before .before .before .before .before .before .before .before .before .before .before .encode-row .ensures) in
     let e : w2 .write2 .last .0 ≡ put a (rowBytes s) m =
     w2 .write2 .ensures ∙ ap (put (a + 16) (s .payload)) e1 ∙ put-put a (numbersOf s) (s .payload) m (omega (arith, st .pre)) in
-    rw e (stored-row m i s (st .pre) l)
+    rw e (stored-row m b i s (st .pre) l)
 
 pub store-row-spec : {M : Type 1} → statement M
 store-row-spec =
