@@ -296,14 +296,14 @@ fn fill_entry(m: &mut [u8], b: u16)
     memory::put_named(m, i, b);
 }
 
-// After the store of the first frozen page as block b.
-fn keep_page(m: &mut [u8], b: u32)
-    requires { ⌜ Runs (now m) × (b < flatOf (now m) .head .blocks) ⌝ }
+// After the store of the first frozen page, p, whose rows begin at start, as block b.
+fn keep_page(m: &mut [u8], p: usize, start: usize, b: u32)
+    requires { ⌜ Runs (now m) × ((b < flatOf (now m) .head .blocks) × FirstPage (now m) isFrozen p start) ⌝ }
     ensures { λ _. ⌜ Leads (now (m .entry)) (now (m .exit)) (pageKept b (storeOf (flatOf (now (m .entry))))) ⌝ }
 {
     take_block(m, b);
     fill_entry(m, b as u16);
-    pages::thaw(m, b as u16);
+    pages::thaw(m, p, start, b as u16);
 }
 
 // After the store of a directory block as block b.
@@ -381,7 +381,7 @@ fn store_page(image: &mut [u8], m: &mut [u8], p: usize, start: usize, alloc: All
     let n = e.count as usize;
     writer::write_page(&mut image[a..end], m, t, start, n, h.level + 1);
     let next = allocator::taken_by(alloc, b as u32);
-    keep_page(m, next.taken);
+    keep_page(m, p, start, next.taken);
     next
 }
 

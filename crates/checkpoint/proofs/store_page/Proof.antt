@@ -56,7 +56,8 @@ taken-by-requires : tie.Need-taken-by-requires
 taken-by-requires c κs = some-left (c .before .before .before .before .before .before .before .before .before .before .before .before .before .before .before .before .pre .0 .runs) (c .before .before .before .before .before .before .before .before .before .before .before .before .before .before .before .before .pre .1 .1)
 
 keep-page-requires : tie.Need-keep-page-requires
-keep-page-requires c κs = (c .before .before .before .before .before .before .before .before .before .before .before .before .before .before .before .before .before .before .pre .0 .runs, omega (arith, ap (λ (x : Allocator). x .taken) (c .before .taken-by .ensures), c .before .before .before .before .before .before .before .before .before .before .allocate .ensures .1))
+keep-page-requires c κs = let p = c .before .before .before .before .before .before .before .before .before .before .before .before .before .before .before .before .before .before .pre in
+    (p .0 .runs, (omega (arith, ap (λ (x : Allocator). x .taken) (c .before .taken-by .ensures), c .before .before .before .before .before .before .before .before .before .before .allocate .ensures .1), p .1 .0))
 
 same-length : tie.Need-same-length
 same-length c = search needs
