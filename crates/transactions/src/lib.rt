@@ -233,7 +233,15 @@ fn write_refusal(m: &[u8], new: bool, transaction: u64, table: u64, key: u32, le
 }
 
 // One tentative tuple more, unless a test holds.
-fn write(m: &mut [u8], new: bool, transaction: u64, table: u64, key: u32, mark: bool, payload: &[u8]) -> Answer
+fn write(
+    m: &mut [u8],
+    new: bool,
+    transaction: u64,
+    table: u64,
+    key: u32,
+    mark: bool,
+    payload: &[u8],
+) -> Answer
     ensures { λ r. ⌜ Answers (writeCall new transaction table key mark (now (payload .entry))) (now (m .entry)) r (now (m .exit)) ⌝ }
 {
     let v = write_refusal(m, new, transaction, table, key, payload.len());
