@@ -246,12 +246,12 @@ module _ (len : ℕ) (m : List ℕ) where
     passed-held : v ≡ 0 → holdsStore m ≡ true
     passed-held z = by (holdsStore m) (λ h. h) (λ h. absurd (omega (arith, refusal-4 h)))
 
-    pub passed-long : v ≡ 0 → len ≡ 512 * flatOf m .head .blocks
+    passed-long : v ≡ 0 → len ≡ 512 * flatOf m .head .blocks
     passed-long z =
         by (eqb len (512 * flatOf m .head .blocks)) (λ h. eqb-true len _ h)
         (λ h. absurd (omega (arith, refusal-5 (passed-held z) (eqb-false len _ h))))
 
-    pub passed-runs : v ≡ 0 → Runs m
+    passed-runs : v ≡ 0 → Runs m
     passed-runs z =
         let held : holdsStore m ≡ true = passed-held z in
         record {
@@ -276,6 +276,9 @@ module _ (len : ℕ) (m : List ℕ) where
         (λ k. let ne : len ≡ 512 * n → ⊥ = eqb-false len (512 * n) k in
         rw (ev ∙ sym (refusal-5 h ne)) (stores-refused call m img 5 h (c5 s (λ z. ne (z ∙ e))))))
         (λ h. rw (ev ∙ sym (refusal-4 h)) (stores-4 call m img h))
+
+pub passed-ready : (img m : List ℕ) (v : ℕ) → v ≡ stepRefusal (length img) (storeIn m) → v ≡ 0 → Ready img m
+passed-ready img m v ev z = record { runs = passed-runs (length img) m v ev z; long = passed-long (length img) m v ev z }
 
 idle-step : (c : Checkpoint) (s : Store) → isRunning c ≡ false → stepAt c s ≡ gives (model.refused 18) s
 unfolding stepAt isRunning

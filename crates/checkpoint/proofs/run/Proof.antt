@@ -8,7 +8,7 @@ use borrow.Author.Needs.{needs}
 use Rattle.model.specs.Checkpoint.{runCall}
 use Rattle.memory.proofs.Refusal.{held-room}
 use Rattle.checkpoint.specs.Keeping.{Ready}
-use Rattle.checkpoint.proofs.Stepping.{frozen-all, stopped, passed-runs, passed-long}
+use Rattle.checkpoint.proofs.Stepping.{frozen-all, stopped, passed-ready}
 use Rattle.checkpoint.proofs.Repeating.{run-5, run-18, Repeats, repeats-start, repeats-turn, repeats-end}
 use Rattle.checkpoint.proofs.run.Statement.{statement}
 use Rattle.checkpoint.proofs.run.Tie as tie
@@ -24,10 +24,7 @@ began c = c .before .before .before .before .before
 
 -- the tests are passed
 ready : (c : tie.Else1 Inv-loop μ-loop) → Ready (began c .args .image .now) (began c .args .m .now)
-ready c = let p = began c .args in
-    let len : ℕ = length (p .image .now) in
-    let v = c .before .step-refusal .ensures in
-    record { runs = passed-runs len (p .m .now) _ v (c .if1 .left); long = passed-long len (p .m .now) _ v (c .if1 .left) }
+ready c = let p = began c .args in passed-ready (p .image .now) (p .m .now) _ (c .before .step-refusal .ensures) (c .if1 .left)
 
 step-refusal-requires : tie.Need-step-refusal-requires Inv-loop μ-loop
 step-refusal-requires c κs = search needs

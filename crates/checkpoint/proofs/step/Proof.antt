@@ -7,7 +7,7 @@ use borrow.Author.Needs.{needs}
 use Rattle.model.specs.Checkpoint.{stepCall}
 use Rattle.checkpoint.specs.Keeping.{Ready}
 use Rattle.checkpoint.proofs.Allotting.{left-is}
-use Rattle.checkpoint.proofs.Stepping.{stopped, step-5, step-18, passed-runs, passed-long, step-done}
+use Rattle.checkpoint.proofs.Stepping.{stopped, step-5, step-18, passed-ready, step-done}
 use Rattle.checkpoint.proofs.step.Statement.{statement}
 use Rattle.checkpoint.proofs.step.Tie as tie
 
@@ -16,10 +16,7 @@ began c = c .before .before .before .before .before
 
 -- the tests are passed
 ready : (c : tie.Else1) → Ready (began c .args .image .now) (began c .args .m .now)
-ready c = let p = began c .args in
-    let len : ℕ = length (p .image .now) in
-    let v = c .before .step-refusal .ensures in
-    record { runs = passed-runs len (p .m .now) _ v (c .if1 .left); long = passed-long len (p .m .now) _ v (c .if1 .left) }
+ready c = let p = began c .args in passed-ready (p .image .now) (p .m .now) _ (c .before .step-refusal .ensures) (c .if1 .left)
 
 step-refusal-requires : tie.Need-step-refusal-requires
 step-refusal-requires c κs = search needs
