@@ -6,7 +6,7 @@ use mathlib.Core.List.{List, [], _∷_, _++_}
 use Prim.Native.Nat.{ℕ, zero, suc, _+_, _-_, _*_, _%_, _≤_, _<_}
 use native.Mathlib.Omega.{arith}
 use native.Mathlib.Numerals.{add-one}
-use lib.ListN.{length, take, drop, length-take, length-drop}
+use lib.ListN.{length, take, drop}
 use lib.Seq.{drop-drop}
 use lib.Dec.{eqb, ltb}
 use borrow.Author.Tests.{eq-eqb, ne-eqb, eqb-true, eqb-false, lt-ltb, le-ltb}
@@ -124,10 +124,6 @@ back-is img part b =
     let e : 512 * b + 512 - 512 * b ≡ 512 = omega arith in
     ap (λ (k : ℕ). take (512 * b) img ++ (part ++ drop k (drop (512 * b) img))) e
     ∙ ap (λ (z : List ℕ). take (512 * b) img ++ (part ++ z)) (drop-drop 512 (512 * b) img)
-
--- the part that is lent is one block
-pub part-long : (img : List ℕ) (b n : ℕ) → length img ≡ 512 * n → b < n → length (take (512 * b + 512 - 512 * b) (drop (512 * b) img)) ≡ 512
-part-long img b n e h = omega (arith, length-take (512 * b + 512 - 512 * b) (drop (512 * b) img), length-drop (512 * b) img)
 
 pub front-is : (img part : List ℕ) → part ++ drop 512 img ≡ putBlock img 0 part
 unfolding putBlock

@@ -73,7 +73,7 @@ same-length-3 c = c .before .loop .inv .size
 returns-2 : tie.Need-returns-2 Inv-loop μ-loop
 returns-2 c = let passed = c .before .before .before .before .before .before in
     let limit = began passed .args .limit in
-    repeats-end (c .before .loop .inv) (c .loop-test .left) limit (ready passed) (c .before .before .smaller .ensures ∙ ap (min limit) (c .before .before .before .left .ensures))
+    repeats-end (c .before .loop .inv) (c .loop-test .left) limit (ready passed) (c .before .before .smaller .ensures ∙ ap (min limit) (c .before .before .before .left .ensures)) _ (omega arith)
 
 pub run-spec : {M : Type 1} → statement M
 run-spec =

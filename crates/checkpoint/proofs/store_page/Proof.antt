@@ -2,6 +2,7 @@
 use mathlib.Core.Path.{ap}
 use Prim.Native.Nat.{_+_, _%_}
 use native.Mathlib.Omega.{arith}
+use lib.ListN.{length-take, length-drop}
 use borrow.Author.Needs.{needs}
 use Rattle.allocator.specs.declared.Allocator.{Allocator}
 use Rattle.memory.specs.Flat.{flatOf}
@@ -10,7 +11,7 @@ use Rattle.memory.specs.declared.Head.{Head}
 use Rattle.memory.proofs.Refusal.{held-room}
 use Rattle.pages.proofs.Places.{page-end}
 use Rattle.checkpoint.proofs.Allotting.{taken-is, some-left, page-hands}
-use Rattle.checkpoint.proofs.Stepping.{part-long, back-is, page-does}
+use Rattle.checkpoint.proofs.Stepping.{back-is, page-does}
 use Rattle.checkpoint.proofs.Tallies.{running-is}
 use Rattle.checkpoint.proofs.store_page.Statement.{statement}
 use Rattle.checkpoint.proofs.store_page.Tie as tie
@@ -47,7 +48,7 @@ add-write-page : tie.Need-add-write-page
 add-write-page c = record { fits = omega (arith, running-is _ (c .before .before .before .before .before .before .before .before .before .before .before .before .before .pre .0 .runs .on) .1, ap (λ (h : Head). h .level) (c .before .before .before .before .before .before .before .before .before .get-head .ensures)) }
 
 write-page-requires : tie.Need-write-page-requires
-write-page-requires c κs = (held-room _ (c .before .before .before .before .before .before .before .before .before .before .before .before .before .pre .0 .runs .held), (omega (arith, page-end (c .before .before .before .before .before .before .before .before .before .before .before .before .before .pre .1 .0 .on), ap (λ (e : Entry). e .count) (c .before .before .before .before .before .before .before .get-entry .ensures)), (omega arith, part-long (c .before .before .before .before .before .before .before .before .before .before .before .before .before .args .image .now) _ _ (c .before .before .before .before .before .before .before .before .before .before .before .before .before .pre .0 .long) (c .before .before .before .before .before .allocate .ensures .1))))
+write-page-requires c κs = (held-room _ (c .before .before .before .before .before .before .before .before .before .before .before .before .before .pre .0 .runs .held), (omega (arith, page-end (c .before .before .before .before .before .before .before .before .before .before .before .before .before .pre .1 .0 .on), ap (λ (e : Entry). e .count) (c .before .before .before .before .before .before .before .get-entry .ensures)), (omega arith, simp (length-take, length-drop) (omega (arith, c .before .before .before .before .before .before .before .before .before .before .before .before .before .pre .0 .long, c .before .before .before .before .before .allocate .ensures .1)))))
 
 cast-taken-by : tie.Need-cast-taken-by
 cast-taken-by c = record { fits = omega (arith, c .before .before .before .before .before .before .before .before .allocate .ensures .1, held-room _ (c .before .before .before .before .before .before .before .before .before .before .before .before .before .before .before .before .pre .0 .runs .held) .range .many) }
