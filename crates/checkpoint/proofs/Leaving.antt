@@ -1,28 +1,29 @@
 -- What the memory holds after each kind of store.
-use mathlib.Core.Path.{_≡_, refl, sym, ap, _∙_, fun-ext}
+use mathlib.Core.Path.{_≡_, refl, sym, ap, _∙_, subst, fun-ext}
 use mathlib.Core.Bool.{Bool, true, false, _||_}
 use mathlib.Core.Option.{some}
 use mathlib.Core.List.{List, [], _∷_, _++_, map}
 use Prim.Native.Nat.{ℕ, suc, _+_, _-_, _%_, _≤_, _<_}
 use native.Mathlib.Omega.{arith}
 use native.Mathlib.Numerals.{add-one}
-use lib.ListN.{length, drop, getD, set, List·getD-map, List·getD-append, length-append, drop-of-length-le}
+use lib.ListN.{length, take, drop, getD, set, List·getD-map, List·getD-append, length-append, drop-of-length-le}
 use lib.Seq.{drop-cons, getD-append-add}
 use lib.Dec.{eqb, leb}
 use borrow.Author.Tests.{eq-eqb, ne-eqb, eqb-true, eqb-false}
 use Rattle.basics.specs.Basics.{if_then_else_, any, isIn}
 use Rattle.basics.proofs.Facts.{by}
 use Rattle.model.specs.State.{Page, Checkpoint, idle, running, Store}
-use Rattle.model.specs.Rules.{thaw}
+use Rattle.model.specs.Rules.{isFrozen, thaw}
 use Rattle.model.specs.Transactions.{changed}
 use Rattle.model.specs.Checkpoint.{stored, isRunning, usedToo, fill}
 use Rattle.model.proofs.Lists.{any-cons}
 use Rattle.memory.specs.Flat.{Flat, flatOf, usedAnd, Room, Becomes, withHead, withNamed, withDirectories, withUsed}
-use Rattle.memory.specs.Store.{pagesIn, blocksOf, checkpointOf, filled, holdsStore, storeOf}
+use Rattle.memory.specs.Store.{pagesIn, startOf, pageIn, blocksOf, checkpointOf, filled, holdsStore, storeOf}
 use Rattle.memory.specs.declared.Head.{Head}
 use Rattle.memory.proofs.Refusal.{held-filled, room-held}
 use Rattle.memory.proofs.Meaning.{in-next, becomes-then}
 use Rattle.pages.specs.Turns.{Turns, withPages}
+use Rattle.pages.specs.Finding.{NoneOf, FirstPage}
 use Rattle.basics.proofs.Lists.{map-append}
 use Rattle.checkpoint.specs.Counting.{firstZero, namedIn}
 use Rattle.checkpoint.specs.Keeping.{filledBy, writtenBy, namedBy, pageKept, directoryKept, headerKept, Runs, taking, Leads, Fills, Marks}
@@ -144,8 +145,20 @@ module _ {m m1 m2 : List ℕ} (b : ℕ) (r : Runs m) (x : Becomes m m1 (taking b
   named-is : blocksOf (flatOf m2 .named) ≡ fill b (blocksOf (flatOf m .named))
   named-is = y .named ∙ ap (λ (f : Flat). fill b (blocksOf (f .named))) (x .flat)
 
-  pub page-held : holdsStore m2 ≡ true
-  page-held = room-held m2 (y .becomes .room) (ap filled page-flat ∙ held-filled m (r .held))
+  -- pages and rows are as they were
+  pub still-first : {p start : ℕ} → FirstPage m isFrozen p start → FirstPage m2 isFrozen p start
+  unfolding pageIn
+  still-first {p} {start} o =
+      let e = sym page-flat in
+      record {
+        on = record {
+          held = room-held m2 (y .becomes .room) (ap filled page-flat ∙ held-filled m (r .held));
+          inside = subst (λ (f : Flat). p < length (f .entries)) e (o .on .inside);
+          begins = subst (λ (f : Flat). start ≡ startOf f p) e (o .on .begins);
+        };
+        passed = subst (λ (f : Flat). NoneOf isFrozen (take p (pagesIn f))) e (o .passed);
+        hits = subst (λ (f : Flat). isFrozen (pageIn f p) ≡ true) e (o .hits);
+      }
 
   pub page-leads : (m3 : List ℕ) → Turns m2 m3 (thaw b (pagesIn (flatOf m2))) → Leads m m3 (pageKept b (storeOf (flatOf m)))
   page-leads m3 t =

@@ -123,12 +123,14 @@ module _ {img₀ m₀ : List ℕ} {k : ℕ} {img m : List ℕ} {n : ℕ} (c : Re
       let z : n ≡ 0 = omega arith in
       (ap (λ (i : ℕ). inTurn i (storeOf (flatOf m)) .store) (sym z) ∙ c .store, ap (λ (i : ℕ). imageAfter (inTurn i (storeOf (flatOf m)) .writes) img) (sym z) ∙ c .image)
 
-  pub repeats-end : n ≤ 0 → (limit : ℕ) → Ready img₀ m₀ → k ≡ min limit (left (storeOf (flatOf m₀))) → Stores (runCall limit (length img₀)) img₀ m₀ (Count k) img m
-  repeats-end h limit r ek =
+  pub repeats-end : n ≤ 0 → (limit : ℕ) → Ready img₀ m₀ → k ≡ min limit (left (storeOf (flatOf m₀))) → (a : ℕ) → a ≡ k
+      → Stores (runCall limit (length img₀)) img₀ m₀ (Count a) img m
+  repeats-end h limit r ek a ea =
       let s : Store = storeOf (flatOf m₀) in
       let x = none-left h in
       let e : length img₀ ≡ 512 * s .blocks = r .long ∙ ap (λ (z : ℕ). 512 * z) (sym (blocks-is (flatOf m₀))) in
-      stores-count (runCall limit (length img₀)) m₀ img₀ img m k (inTurn k s .store) (inTurn k s .writes) (r .runs .held)
+      stores-count (runCall limit (length img₀)) m₀ img₀ img m a (inTurn k s .store) (inTurn k s .writes) (r .runs .held)
       (run-at limit (length img₀) s e (r .runs .on)
-      ∙ ap (λ (i : ℕ). record { answer = model.count i; store = inTurn i s .store; writes = inTurn i s .writes }) (sym ek))
+      ∙ ap (λ (i : ℕ). record { answer = model.count i; store = inTurn i s .store; writes = inTurn i s .writes }) (sym ek)
+      ∙ ap (λ (i : ℕ). record { answer = model.count i; store = inTurn k s .store; writes = inTurn k s .writes }) (sym ea))
       (c .size) (in-some m (c .held) ∙ ap some (x .0)) (x .1)

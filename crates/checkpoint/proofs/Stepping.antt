@@ -6,11 +6,11 @@ use mathlib.Core.List.{List, [], _∷_, _++_}
 use Prim.Native.Nat.{ℕ, zero, suc, _+_, _-_, _*_, _%_, _≤_, _<_}
 use native.Mathlib.Omega.{arith}
 use native.Mathlib.Numerals.{add-one}
-use lib.ListN.{length, take, drop, length-take, length-drop}
+use lib.ListN.{length, take, drop}
 use lib.Seq.{drop-drop}
 use lib.Dec.{eqb, ltb}
 use borrow.Author.Tests.{eq-eqb, ne-eqb, eqb-true, eqb-false, lt-ltb, le-ltb}
-use Rattle.basics.specs.Basics.{if_then_else_, first, isIn}
+use Rattle.basics.specs.Basics.{if_then_else_, howMany, first, isIn}
 use Rattle.basics.proofs.Facts.{by, lie}
 use Rattle.blocks.specs.Block.{Block, header, page, directory, encodeBlock}
 use Rattle.image.specs.Stages.{directoriesFor}
@@ -19,6 +19,7 @@ use Rattle.model.specs.Rules.{isFrozen, shown, thaw}
 use Rattle.model.specs.Transactions.{gives, unless}
 use Rattle.model.specs.Checkpoint.{stored, allocate, usedToo, isRunning, left, made, storable, storePage, storeDirectory, headerFor, storeHeader, stepOf, stepAt, badImage, stepCall}
 use Rattle.model.specs.Recover.{putBlock, imageAfter}
+use Rattle.model.proofs.Lists.{first-none as none-many}
 use Rattle.memory.specs.Views.{tab}
 use Rattle.memory.specs.Flat.{Flat, flatOf}
 use Rattle.memory.specs.Store.{blocksOf, heldIn, holdsStore, storeOf, storeIn}
@@ -30,13 +31,14 @@ use Rattle.pages.proofs.Searching.{table-is, tuples-is}
 use Rattle.answers.specs.Shape.{Stores}
 use Rattle.answers.specs.declared.Answer.the-variants.{Count, Refused}
 use Rattle.answers.proofs.Answering.{stores-4, stores-refused, stores-count}
+use Rattle.checkpoint.specs.Counting.{pageIs}
 use Rattle.checkpoint.specs.Keeping.{filledBy, writtenBy, namedBy, pageKept, directoryKept, headerKept, Runs, Ready, Leads, Does, Steps, stepRefusal}
 use Rattle.checkpoint.proofs.Tallies.{length-blocks, running-is, first-hit, first-past}
 use Rattle.model.specs.State as model
 
 -- ---- the first frozen page
 
-pub first-none : (hit : Page → Bool) (ps : List Page) → NoneOf hit ps → first hit ps ≡ none
+first-none : (hit : Page → Bool) (ps : List Page) → NoneOf hit ps → first hit ps ≡ none
 unfolding first
 first-none hit [] h = refl
 first-none hit (q ∷ qs) h = first-past hit q qs (h .0) ∙ first-none hit qs (h .1)
@@ -45,6 +47,25 @@ first-at : (hit : Page → Bool) (p : ℕ) (q : Page) (ps : List Page) → NoneO
 first-at hit zero q ps h e t = ap (first hit) e ∙ first-hit hit q (drop 1 ps) t
 first-at hit (suc p) q [] h e t = absurd (let z : _≡_ {A = ℕ} 0 1 = cc in omega arith)
 first-at hit (suc p) q (r ∷ ps) h e t = first-past hit r ps (h .0) ∙ first-at hit p q ps (h .1) e t
+
+many-from : (hit : Page → Bool) (p : ℕ) (ps : List Page) → NoneOf hit (take p ps) → howMany hit (drop p ps) ≡ howMany hit ps
+unfolding howMany if_then_else_
+many-from hit zero ps h = refl
+many-from hit (suc p) [] h = refl
+many-from hit (suc p) (q ∷ ps) h = many-from hit p ps (h .1) ∙ sym (rw (h .0) refl)
+
+-- only pages from the first frozen one on are frozen
+pub frozen-from : {m : List ℕ} {p start r : ℕ} → FirstPage m isFrozen p start → r ≡ howMany (pageIs true) (drop p (pagesOf m)) → r ≡ howMany isFrozen (pagesOf m)
+unfolding pageIs
+frozen-from {m} {p} o e = e ∙ many-from isFrozen p (pagesOf m) (o .passed)
+
+module _ (m : List ℕ) where
+  pub frozen-all : {r : ℕ} → r ≡ howMany (pageIs true) (pagesOf m) → r ≡ howMany isFrozen (pagesOf m)
+  unfolding pageIs
+  frozen-all e = e
+
+  pub frozen-none : NoneOf isFrozen (pagesOf m) → 0 ≡ howMany isFrozen (pagesOf m)
+  frozen-none h = sym (none-many isFrozen (pagesOf m) (first-none isFrozen (pagesOf m) h))
 
 -- ---- which store a step makes
 
@@ -103,10 +124,6 @@ back-is img part b =
     let e : 512 * b + 512 - 512 * b ≡ 512 = omega arith in
     ap (λ (k : ℕ). take (512 * b) img ++ (part ++ drop k (drop (512 * b) img))) e
     ∙ ap (λ (z : List ℕ). take (512 * b) img ++ (part ++ z)) (drop-drop 512 (512 * b) img)
-
--- the part that is lent is one block
-pub part-long : (img : List ℕ) (b n : ℕ) → length img ≡ 512 * n → b < n → length (take (512 * b + 512 - 512 * b) (drop (512 * b) img)) ≡ 512
-part-long img b n e h = omega (arith, length-take (512 * b + 512 - 512 * b) (drop (512 * b) img), length-drop (512 * b) img)
 
 pub front-is : (img part : List ℕ) → part ++ drop 512 img ≡ putBlock img 0 part
 unfolding putBlock
@@ -225,12 +242,12 @@ module _ (len : ℕ) (m : List ℕ) where
     passed-held : v ≡ 0 → holdsStore m ≡ true
     passed-held z = by (holdsStore m) (λ h. h) (λ h. absurd (omega (arith, refusal-4 h)))
 
-    pub passed-long : v ≡ 0 → len ≡ 512 * flatOf m .head .blocks
+    passed-long : v ≡ 0 → len ≡ 512 * flatOf m .head .blocks
     passed-long z =
         by (eqb len (512 * flatOf m .head .blocks)) (λ h. eqb-true len _ h)
         (λ h. absurd (omega (arith, refusal-5 (passed-held z) (eqb-false len _ h))))
 
-    pub passed-runs : v ≡ 0 → Runs m
+    passed-runs : v ≡ 0 → Runs m
     passed-runs z =
         let held : holdsStore m ≡ true = passed-held z in
         record {
@@ -255,6 +272,9 @@ module _ (len : ℕ) (m : List ℕ) where
         (λ k. let ne : len ≡ 512 * n → ⊥ = eqb-false len (512 * n) k in
         rw (ev ∙ sym (refusal-5 h ne)) (stores-refused call m img 5 h (c5 s (λ z. ne (z ∙ e))))))
         (λ h. rw (ev ∙ sym (refusal-4 h)) (stores-4 call m img h))
+
+pub passed-ready : (img m : List ℕ) (v : ℕ) → v ≡ stepRefusal (length img) (storeIn m) → v ≡ 0 → Ready img m
+passed-ready img m v ev z = record { runs = passed-runs (length img) m v ev z; long = passed-long (length img) m v ev z }
 
 idle-step : (c : Checkpoint) (s : Store) → isRunning c ≡ false → stepAt c s ≡ gives (model.refused 18) s
 unfolding stepAt isRunning

@@ -17,7 +17,8 @@ use Rattle.image.specs.Stages.{directoriesFor}
 use Rattle.model.specs.State.{Held, Page, Checkpoint, idle, running}
 use Rattle.model.specs.Rules.{isDirty, isFrozen}
 use Rattle.model.specs.Checkpoint.{allocate, isFree, freeCount, isRunning, blocksNeeded, leftOf, left}
-use Rattle.memory.specs.Flat.{Flat}
+use Rattle.model.proofs.Lists.{many-length}
+use Rattle.memory.specs.Flat.{Flat, flatOf, Room}
 use Rattle.memory.specs.Store.{pageOf, nest, pagesIn, blocksOf, checkpointOf, storeOf}
 use Rattle.memory.specs.declared.Entry.{Entry}
 use Rattle.memory.specs.declared.Head.{Head}
@@ -41,25 +42,25 @@ module _ {A : Type 0} (f : A → Bool) (xs : List A) (i : ℕ) where
   unfolding howMany
   count-end h = ap (howMany f) (drop-of-length-le xs {i = i} h)
 
--- k of the first p pass, of n elements
-pub record Counted {A : Type 0} (f : A → Bool) (xs : List A) (n k p : ℕ) : Type 0 where
+-- k of those from place a up to, not including, p pass, of n elements
+pub record Counted {A : Type 0} (f : A → Bool) (xs : List A) (a n k p : ℕ) : Type 0 where
   pub whole : n ≡ length xs
   pub inside : p ≤ n
   pub few : k ≤ p
-  pub sum : k + howMany f (drop p xs) ≡ howMany f xs
+  pub sum : k + howMany f (drop p xs) ≡ howMany f (drop a xs)
 
-module _ {A : Type 0} (f : A → Bool) (xs : List A) (n : ℕ) where
-  pub counted-start : n ≡ length xs → Counted f xs n 0 0
-  counted-start e = record { whole = e; inside = omega arith; few = omega arith; sum = omega arith }
+module _ {A : Type 0} (f : A → Bool) (xs : List A) (a n : ℕ) where
+  pub counted-start : n ≡ length xs → a ≤ length xs → Counted f xs a n 0 a
+  counted-start e h = record { whole = e; inside = omega arith; few = omega arith; sum = omega arith }
 
-  pub counted-turn : (k p : ℕ) → Counted f xs n k p → p < n → (d : A) (r : ℕ) → r ≡ oneIf (f (getD xs p d)) → r ≤ 1 → Counted f xs n (k + r) (p + 1)
+  pub counted-turn : (k p : ℕ) → Counted f xs a n k p → p < n → (d : A) (r : ℕ) → r ≡ oneIf (f (getD xs p d)) → r ≤ 1 → Counted f xs a n (k + r) (p + 1)
   counted-turn k p c h d r e l =
       let w = c .whole in
       let s = c .sum in
       let w1 = c .few in
       record { whole = w; inside = omega arith; few = omega arith; sum = omega (arith, count-turn f xs p d (omega arith)) }
 
-  pub counted-end : (k p : ℕ) → Counted f xs n k p → n ≤ p → (k ≡ howMany f xs) × (k ≤ n)
+  pub counted-end : (k p : ℕ) → Counted f xs a n k p → n ≤ p → (k ≡ howMany f (drop a xs)) × (k ≤ n)
   counted-end k p c h =
       let w = c .whole in
       let s = c .sum in
@@ -96,10 +97,19 @@ unfolding pageIs entryIs isDirty isFrozen pageOf
 page-entry true e hs = refl
 page-entry false e hs = refl
 
-pub pages-count-is : (b : Bool) (es : List Entry) (hs : List Held) → howMany (pageIs b) (nest es hs) ≡ howMany (entryIs b) es
+pages-count-is : (b : Bool) (es : List Entry) (hs : List Held) → howMany (pageIs b) (nest es hs) ≡ howMany (entryIs b) es
 unfolding howMany nest
 pages-count-is b [] hs = refl
 pages-count-is b (e ∷ es) hs = rw (page-entry b e (take (e .count) hs), pages-count-is b es (drop (e .count) hs))
+
+pub pages-from : (b : Bool) (p : ℕ) (es : List Entry) (hs : List Held) → howMany (pageIs b) (drop p (nest es hs)) ≡ howMany (entryIs b) (drop p es)
+unfolding nest howMany
+pages-from b zero es hs = pages-count-is b es hs
+pages-from b (suc p) [] hs = refl
+pages-from b (suc p) (e ∷ es) hs = pages-from b p es (drop (e .count) hs)
+
+pub frozen-few : {m : List ℕ} → Room m → howMany isFrozen (pagesIn (flatOf m)) ≤ 1024
+frozen-few {m} r = omega (arith, many-length isFrozen (pagesIn (flatOf m)), pages-count (flatOf m), r .range .pages, r .range .most)
 
 pub needed-is : (f : Flat) → howMany (pageIs false) (pagesIn f) + directoriesFor (length (f .entries)) ≡ blocksNeeded (pagesIn f)
 unfolding blocksNeeded pageIs
@@ -151,8 +161,8 @@ module _ (f : Flat) where
   left-none e = sym (idle-none (storeOf f .checkpoint) (storeOf f .pages) e)
 
   pub left-is : isRunning (storeOf f .checkpoint) ≡ true
-      → howMany (pageIs true) (pagesIn f) + (directoriesFor (length (f .named)) - length (f .directories)) + 1 ≡ left (storeOf f)
-  unfolding left leftOf pageIs
+      → howMany isFrozen (pagesIn f) + (directoriesFor (length (f .named)) - length (f .directories)) + 1 ≡ left (storeOf f)
+  unfolding left leftOf
   left-is h =
       let ps : List Page = pagesIn f in
       ap (λ (n : ℕ). howMany isFrozen ps + (directoriesFor n - length (f .directories)) + 1) (sym (length-blocks (f .named)))

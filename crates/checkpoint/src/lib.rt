@@ -9,7 +9,7 @@ ghost use mathlib.Core.Path.{_≡_};
 ghost use mathlib.Core.Bool.{true};
 ghost use mathlib.Core.List.{[], map};
 ghost use Prim.Native.Nat.{_-_, _≤_, _<_, min};
-ghost use lib.ListN.{length, getD};
+ghost use lib.ListN.{length, drop, getD};
 ghost use Rattle.basics.specs.Basics.{howMany};
 ghost use Rattle.image.specs.Stages.{directoriesFor};
 ghost use Rattle.model.specs.Rules.{isFrozen};
@@ -43,15 +43,15 @@ fn entry_is(frozen: bool, e: Entry) -> bool
     e.block % 4096 == 0
 }
 
-// How many pages are frozen, or dirty.
-fn count_pages(m: &[u8], frozen: bool) -> usize
-    requires { ⌜ Room (now m) ⌝ }
-    ensures { λ r. ⌜ (r ≡ howMany (pageIs frozen) (pagesIn (flatOf (now (m .entry))))) × (r ≤ 1024) ⌝ }
+// How many pages from this one on are frozen, or dirty.
+fn count_pages(m: &[u8], from: usize, frozen: bool) -> usize
+    requires { ⌜ Room (now m) × (from ≤ length (flatOf (now m) .entries)) ⌝ }
+    ensures { λ r. ⌜ (r ≡ howMany (pageIs frozen) (drop from (pagesIn (flatOf (now (m .entry)))))) × (r ≤ 1024) ⌝ }
 {
     let c = memory::get_counts(m);
     let n = c.pages as usize;
     let mut k: usize = 0;
-    let mut p: usize = 0;
+    let mut p = from;
     while p < n {
         let e = memory::get_entry(m, p);
         k += one_if(entry_is(frozen, e));
@@ -90,7 +90,7 @@ fn blocks_needed(m: &[u8]) -> usize
     ensures { λ r. ⌜ (r ≡ blocksNeeded (pagesIn (flatOf (now (m .entry))))) × (r ≤ 1028) ⌝ }
 {
     let c = memory::get_counts(m);
-    count_pages(m, false) + directories_for(c.pages as usize)
+    count_pages(m, 0, false) + directories_for(c.pages as usize)
 }
 
 // Whether a checkpoint runs: none does at the last level.
@@ -122,14 +122,11 @@ fn directories_left(m: &[u8]) -> usize
 }
 
 // How many stores are left: the frozen pages, the directory blocks, the header.
-fn left(m: &[u8]) -> u64
-    requires { ⌜ Room (now m) ⌝ }
+fn left(m: &[u8], frozen: usize) -> u64
+    requires { ⌜ Runs (now m) × (frozen ≡ howMany isFrozen (pagesIn (flatOf (now m)))) ⌝ }
     ensures { λ r. ⌜ r ≡ left (storeOf (flatOf (now (m .entry)))) ⌝ }
 {
-    if !is_running(m) {
-        return 0;
-    }
-    let n = count_pages(m, true) + directories_left(m) + 1;
+    let n = frozen + directories_left(m) + 1;
     n as u64
 }
 
@@ -170,14 +167,14 @@ fn allocate(m: &[u8], taken: u32) -> usize
 }
 
 // Where the search for a free block goes on, and how many stores the running checkpoint has still to make.
-fn allocator_of(m: &[u8]) -> Allocator
-    requires { ⌜ Room (now m) ⌝ }
+fn allocator_of(m: &[u8], frozen: usize) -> Allocator
+    requires { ⌜ Runs (now m) × (frozen ≡ howMany isFrozen (pagesIn (flatOf (now m)))) ⌝ }
     ensures { λ r. ⌜ r ≡ allocatorIn (now (m .entry)) ⌝ }
 {
     let h = memory::get_head(m);
     Allocator {
         taken: h.taken,
-        left: left(m),
+        left: left(m, frozen),
     }
 }
 
@@ -296,14 +293,14 @@ fn fill_entry(m: &mut [u8], b: u16)
     memory::put_named(m, i, b);
 }
 
-// After the store of the first frozen page as block b.
-fn keep_page(m: &mut [u8], b: u32)
-    requires { ⌜ Runs (now m) × (b < flatOf (now m) .head .blocks) ⌝ }
+// After the store of the first frozen page, p, whose rows begin at start, as block b.
+fn keep_page(m: &mut [u8], p: usize, start: usize, b: u32)
+    requires { ⌜ Runs (now m) × ((b < flatOf (now m) .head .blocks) × FirstPage (now m) isFrozen p start) ⌝ }
     ensures { λ _. ⌜ Leads (now (m .entry)) (now (m .exit)) (pageKept b (storeOf (flatOf (now (m .entry))))) ⌝ }
 {
     take_block(m, b);
     fill_entry(m, b as u16);
-    pages::thaw(m, b as u16);
+    pages::thaw(m, p, start, b as u16);
 }
 
 // After the store of a directory block as block b.
@@ -381,7 +378,7 @@ fn store_page(image: &mut [u8], m: &mut [u8], p: usize, start: usize, alloc: All
     let n = e.count as usize;
     writer::write_page(&mut image[a..end], m, t, start, n, h.level + 1);
     let next = allocator::taken_by(alloc, b as u32);
-    keep_page(m, next.taken);
+    keep_page(m, p, start, next.taken);
     next
 }
 
@@ -423,14 +420,20 @@ fn store_rest(image: &mut [u8], m: &mut [u8], alloc: Allocator) -> Allocator
     store_header(image, m, alloc)
 }
 
-// The frozen pages in list order, then the directory, then the header: one store.
-fn store_next(image: &mut [u8], m: &mut [u8], alloc: Allocator) -> Allocator
-    requires { ⌜ Ready (now image) (now m) × (alloc ≡ allocatorIn (now m)) ⌝ }
+// The frozen pages in list order, then the directory, then the header: one store. No page before the first frozen one counts.
+fn store_next(image: &mut [u8], m: &mut [u8]) -> Allocator
+    requires { ⌜ Ready (now image) (now m) ⌝ }
     ensures { λ r. ⌜ Steps (now (image .entry)) (now (m .entry)) (now (image .exit)) (now (m .exit)) × (r ≡ allocatorIn (now (m .exit))) ⌝ }
 {
     match pages::find_frozen(m) {
-        Found::Here { page, start, at: _ } => store_page(image, m, page, start, alloc),
-        Found::Nowhere => store_rest(image, m, alloc),
+        Found::Here { page, start, at: _ } => {
+            let alloc = allocator_of(m, count_pages(m, page, true));
+            store_page(image, m, page, start, alloc)
+        }
+        Found::Nowhere => {
+            let alloc = allocator_of(m, 0);
+            store_rest(image, m, alloc)
+        }
     }
 }
 
@@ -460,8 +463,7 @@ pub fn step(image: &mut [u8], m: &mut [u8]) -> Answer
     if v != 0 {
         return Answer::Refused(v);
     }
-    let alloc = allocator_of(m);
-    let next = store_next(image, m, alloc);
+    let next = store_next(image, m);
     Answer::Count(next.left)
 }
 
@@ -484,7 +486,7 @@ pub fn run(image: &mut [u8], m: &mut [u8], limit: u64) -> Answer
     if v != 0 {
         return Answer::Refused(v);
     }
-    let k = smaller(limit, left(m));
+    let k = smaller(limit, left(m, count_pages(m, 0, true)));
     let mut n = k;
     while 0 < n {
         step(image, m);

@@ -5,18 +5,17 @@ use memory::Entry;
 use memory::Row;
 ghost use mathlib.Core.Path.{_≡_};
 ghost use mathlib.Core.Bool.{true, false};
-ghost use mathlib.Core.Option.{none};
 ghost use mathlib.Core.List.{List, _∷_, [], _++_, map};
 ghost use Prim.Native.Nat.{ℕ, _+_, _-_, _%_, _≤_, _<_};
 ghost use lib.ListN.{length, take, drop, set};
 ghost use Rattle.basics.specs.Basics.{sum, any};
-ghost use Rattle.model.specs.Rules.{heldSize, lead, fresh, calm, withTuples, joins, joined, place, remove, commit, freeze, isPending, splitAll, thawOn, thaw};
+ghost use Rattle.model.specs.Rules.{heldSize, lead, fresh, calm, withTuples, joins, joined, place, remove, commit, freeze, isFrozen, isPending, splitAll, thaw};
 ghost use Rattle.memory.specs.Views.{tab};
 ghost use Rattle.memory.specs.Flat.{flatOf, entryIn, Room, insertAt, removeAt};
 ghost use Rattle.memory.specs.Store.{heldOf, heldIn, tupleOf, pageOf, pagesIn, holdsStore};
 ghost use Rattle.pages.specs.Turns.{Turns, pagesOf, pageAt, tuplesAt, entryAt, startAt, At, swapped, onPage};
 ghost use Rattle.pages.specs.Changes.{There, RowOn, CutAt, Dirty, Halved, Tries, settledAt, settledNext};
-ghost use Rattle.pages.specs.Finding.{firstOf, FoundBy, takenAt, committedAt, lessOne, settledBy};
+ghost use Rattle.pages.specs.Finding.{firstOf, FoundBy, takenAt, committedAt, lessOne, settledBy, FirstPage};
 ghost use Rattle.pages.specs.Thawing.{ripeFlags, RipensOne, Ripens, TakesHold, FrozenBy};
 ghost use Rattle.pages.specs.Spots.{afterLast, Spotted, FrontSpotted, PlaceAt, GrowAt, AddAt, placedOn};
 
@@ -720,35 +719,6 @@ fn split(m: &mut [u8], p: usize, start: usize)
     split(m, p, start);
 }
 
-// Page p, whose rows begin at start, is stored as block b: it is clean if nothing was pending, else dropped, joined or split.
-fn thaw_page(m: &mut [u8], p: usize, start: usize, b: u16)
-    requires { ⌜ At (now m) p start × (b < 4096) ⌝ }
-    ensures { λ _. ⌜ Turns (now (m .entry)) (now (m .exit)) (onPage (thawOn b) p none (pagesOf (now (m .entry)))) ⌝ }
-{
-    let e = memory::get_entry(m, p);
-    if !has_pending(m, start, e.count as usize) {
-        mark(
-            m,
-            p,
-            Entry {
-                table: e.table,
-                frozen: 0,
-                count: e.count,
-                block: b,
-            },
-        );
-        return;
-    }
-    let left = take_hold(m, p, start);
-    if left == 0 {
-        return;
-    }
-    if join(m, p, start) {
-        return;
-    }
-    split(m, p, start);
-}
-
 // The first frozen page.
 pub fn find_frozen(m: &[u8]) -> Found
     requires { ⌜ holdsStore (now m) ≡ true ⌝ }
@@ -773,13 +743,32 @@ pub fn find_frozen(m: &[u8]) -> Found
     Found::Nowhere
 }
 
-// The first frozen page is thawed, with block b as the one that holds it.
-pub fn thaw(m: &mut [u8], b: u16)
-    requires { ⌜ (holdsStore (now m) ≡ true) × (b < 4096) ⌝ }
+// Page p, the first frozen one, whose rows begin at start, is stored as block b: it is clean if nothing was pending, else dropped,
+// joined or split.
+pub fn thaw(m: &mut [u8], p: usize, start: usize, b: u16)
+    requires { ⌜ FirstPage (now m) isFrozen p start × (b < 4096) ⌝ }
     ensures { λ _. ⌜ Turns (now (m .entry)) (now (m .exit)) (thaw b (pagesIn (flatOf (now (m .entry))))) ⌝ }
 {
-    match find_frozen(m) {
-        Found::Here { page, start, at: _ } => thaw_page(m, page, start, b),
-        Found::Nowhere => {}
+    let e = memory::get_entry(m, p);
+    if !has_pending(m, start, e.count as usize) {
+        mark(
+            m,
+            p,
+            Entry {
+                table: e.table,
+                frozen: 0,
+                count: e.count,
+                block: b,
+            },
+        );
+        return;
     }
+    let left = take_hold(m, p, start);
+    if left == 0 {
+        return;
+    }
+    if join(m, p, start) {
+        return;
+    }
+    split(m, p, start);
 }

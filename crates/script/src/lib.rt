@@ -4,6 +4,61 @@ use libc::STDOUT_FILENO;
 ghost use Prim.Native.Nat.{_+_, _<_, _≤_};
 ghost use lib.ListN.{length};
 
+// ---- what a line says
+
+enum Number {
+    Is(u64),
+    Bad,
+}
+
+// The tuple that a call is about.
+pub struct Target {
+    pub transaction: u64,
+    pub table: u64,
+    pub key: u32,
+}
+
+enum Aim {
+    At(Target),
+    Bad,
+}
+
+// How much of the image a call that stores blocks has: what is lent already, or so many bytes of it.
+pub enum Extent {
+    Lent,
+    Bytes(u64),
+}
+
+// Insert and replace have their payload's length, read and list the room for their reply. Clear, fill, show and digest are no calls of
+// the store's: they write and show what is lent to it.
+pub enum Call {
+    Make {
+        bytes: u64,
+        capacity: u64,
+        room: u64,
+    },
+    Recover {
+        bytes: u64,
+        room: u64,
+    },
+    Open(u64),
+    Commit(u64),
+    Abort(u64),
+    Insert(Target, u64),
+    Replace(Target, u64),
+    Delete(Target),
+    Read(Target, u64),
+    List(u64),
+    Begin,
+    Step(Extent),
+    Run(u64, Extent),
+    Clear,
+    Fill(u64, u8),
+    Show(u64),
+    Digest,
+    Bad,
+}
+
 // ---- words
 
 // The place of the first byte b from a place on; the end if there is none.
@@ -64,11 +119,6 @@ fn named(line: &[u8], name: &[u8]) -> bool {
 }
 
 // ---- numbers and payloads
-
-enum Number {
-    Is(u64),
-    Bad,
-}
 
 // The value of a hexadecimal digit of either case; 16 for any other byte.
 fn digit(b: u8) -> u64
@@ -143,54 +193,6 @@ fn payload_of(s: &[u8], out: &mut [u8]) -> Number {
 }
 
 // ---- calls
-
-// The tuple that a call is about.
-pub struct Target {
-    pub transaction: u64,
-    pub table: u64,
-    pub key: u32,
-}
-
-enum Aim {
-    At(Target),
-    Bad,
-}
-
-// How much of the image a call that stores blocks has: what is lent already, or so many bytes of it.
-pub enum Extent {
-    Lent,
-    Bytes(u64),
-}
-
-// Insert and replace have their payload's length, read and list the room for their reply. Clear, fill, show and digest are no calls of
-// the store's: they write and show what is lent to it.
-pub enum Call {
-    Make {
-        bytes: u64,
-        capacity: u64,
-        room: u64,
-    },
-    Recover {
-        bytes: u64,
-        room: u64,
-    },
-    Open(u64),
-    Commit(u64),
-    Abort(u64),
-    Insert(Target, u64),
-    Replace(Target, u64),
-    Delete(Target),
-    Read(Target, u64),
-    List(u64),
-    Begin,
-    Step(Extent),
-    Run(u64, Extent),
-    Clear,
-    Fill(u64, u8),
-    Show(u64),
-    Digest,
-    Bad,
-}
 
 // Words 1 to 3. A key has at most 32 bits.
 fn aim_of(line: &[u8]) -> Aim {

@@ -3,12 +3,15 @@ use mathlib.Core.Bool.{Bool, true, false}
 use mathlib.Core.Option.{Option, none, some}
 use mathlib.Core.List.{List, [], _∷_, _++_}
 use Prim.Native.Nat.{ℕ}
+use lib.ListN.{length}
 use lib.Dec.{ltb}
 use Rattle.basics.specs.Basics.{if_then_else_}
 use Rattle.blocks.specs.Limits.{payloadLimit}
-use Rattle.model.specs.State.{Store}
-use Rattle.model.specs.Transactions.{Test, _when_, notOpen, noTable, foreign, present, unseen, full}
+use Rattle.image.specs.Stages.{Stage, refuses, holds}
+use Rattle.model.specs.State.{done, Store, Outcome}
+use Rattle.model.specs.Transactions.{Test, _when_, gives, unless, notOpen, noTable, foreign, present, unseen, full}
 use Rattle.memory.specs.Flat.{Flat}
+use Rattle.changes.specs.Writes.{afterWrite}
 use Rattle.look.specs.Sightings.{picked}
 use Rattle.look.specs.declared.Look.{Look}
 use Rattle.look.specs.declared.Seen.{Seen}
@@ -29,6 +32,10 @@ unfoldable pub writeTests : Bool → ℕ → ℕ → ℕ → ℕ → Store → L
 writeTests new tx t k n s =
     notOpen tx s ++ (noTable t ∷ 11 when ltb payloadLimit n ∷ foreign tx t k s ∷ (if new then present t k s else unseen tx t k s) ∷ full s)
 
+-- insert, replace and delete: their tests, then one tuple more
+unfoldable pub writeCall : Bool → ℕ → ℕ → ℕ → Bool → List ℕ → Store → Outcome
+writeCall new tx t k mark bs s = unless (writeTests new tx t k (length bs) s) s (gives done (afterWrite tx t k bs mark s))
+
 -- 14 for a key that is not seen
 unfoldable pub lost : Seen → ℕ
 lost (At i) = 0
@@ -38,3 +45,8 @@ lost Nothing = 14
 unfoldable pub keyVerdict : Bool → Flat → Look → ℕ
 keyVerdict true f l = if l .any then 13 else 0
 keyVerdict false f l = lost (picked f l)
+
+-- the number of a refused make, 0 if it is accepted
+unfoldable pub makeVerdict : Stage Store → ℕ
+makeVerdict (refuses k) = k
+makeVerdict (holds s) = 0

@@ -10,39 +10,51 @@ ghost use mathlib.Core.List.{_++_};
 ghost use Prim.Native.Nat.{_+_, _*_, _≤_, _<_};
 ghost use lib.ListN.{length, drop};
 ghost use Rattle.model.specs.Transactions.{openNumbers, notOpen, full, listing, openCall, commitCall, abortCall, insertCall, replaceCall, deleteCall, readCall};
+ghost use Rattle.model.specs.Recover.{make};
 ghost use Rattle.memory.specs.Flat.{flatOf, Room};
 ghost use Rattle.memory.specs.Store.{holdsStore, storeIn, storeOf};
 ghost use Rattle.answers.specs.Shape.{Answers, Replies, Lists, Made};
-ghost use Rattle.transactions.specs.Refusals.{verdict, verdictIn, writeTests, keyVerdict};
+ghost use Rattle.transactions.specs.Refusals.{verdict, verdictIn, writeTests, writeCall, keyVerdict, makeVerdict};
 
 // ---- make
+
+// 1 image, of len bytes, not 2 to 4,096 whole blocks; 2 capacity not 1 to 1,024; 3 memory, of room bytes, too short; else 0.
+fn make_refusal(len: usize, room: usize, capacity: u64) -> u64
+    ensures { λ r. ⌜ r ≡ makeVerdict (make len room capacity) ⌝ }
+{
+    let blocks = len / 512;
+    if len % 512 != 0 {
+        return 1;
+    }
+    if blocks < 2 {
+        return 1;
+    }
+    if 4096 < blocks {
+        return 1;
+    }
+    if capacity < 1 {
+        return 2;
+    }
+    if 1024 < capacity {
+        return 2;
+    }
+    let n = capacity as usize;
+    if room < 128 * n + 1024 {
+        return 3;
+    }
+    0
+}
 
 // Writes block 0 of the image, and lays an empty store out in the memory.
 pub fn make(image: &mut [u8], m: &mut [u8], capacity: u64) -> Answer
     ensures { λ r. ⌜ Made capacity (now (image .entry)) (now (m .entry)) r (now (image .exit)) (now (m .exit)) ⌝ }
 {
     let len = image.len();
-    let blocks = len / 512;
-    if len % 512 != 0 {
-        return Answer::Refused(1);
+    let v = make_refusal(len, m.len(), capacity);
+    if v != 0 {
+        return Answer::Refused(v);
     }
-    if blocks < 2 {
-        return Answer::Refused(1);
-    }
-    if 4096 < blocks {
-        return Answer::Refused(1);
-    }
-    if capacity < 1 {
-        return Answer::Refused(2);
-    }
-    if 1024 < capacity {
-        return Answer::Refused(2);
-    }
-    let n = capacity as usize;
-    if m.len() < 128 * n + 1024 {
-        return Answer::Refused(3);
-    }
-    let b = blocks as u32;
+    let b = (len / 512) as u32;
     let c = capacity as u32;
     let h = Header {
         blocks: b,
@@ -220,41 +232,44 @@ fn write_refusal(m: &[u8], new: bool, transaction: u64, table: u64, key: u32, le
     full_refusal(m)
 }
 
-pub fn insert(m: &mut [u8], transaction: u64, table: u64, key: u32, payload: &[u8]) -> Answer
-    ensures { λ r. ⌜ Answers (insertCall transaction table key (now (payload .entry))) (now (m .entry)) r (now (m .exit)) ⌝ }
+// One tentative tuple more, unless a test holds.
+fn write(
+    m: &mut [u8],
+    new: bool,
+    transaction: u64,
+    table: u64,
+    key: u32,
+    mark: bool,
+    payload: &[u8],
+) -> Answer
+    ensures { λ r. ⌜ Answers (writeCall new transaction table key mark (now (payload .entry))) (now (m .entry)) r (now (m .exit)) ⌝ }
 {
-    let v = write_refusal(m, true, transaction, table, key, payload.len());
+    let v = write_refusal(m, new, transaction, table, key, payload.len());
     if v != 0 {
         return Answer::Refused(v);
     }
     let t = table as u8;
-    changes::accept(m, transaction, t, key, false, payload);
+    changes::accept(m, transaction, t, key, mark, payload);
     Answer::Done
+}
+
+pub fn insert(m: &mut [u8], transaction: u64, table: u64, key: u32, payload: &[u8]) -> Answer
+    ensures { λ r. ⌜ Answers (insertCall transaction table key (now (payload .entry))) (now (m .entry)) r (now (m .exit)) ⌝ }
+{
+    write(m, true, transaction, table, key, false, payload)
 }
 
 pub fn replace(m: &mut [u8], transaction: u64, table: u64, key: u32, payload: &[u8]) -> Answer
     ensures { λ r. ⌜ Answers (replaceCall transaction table key (now (payload .entry))) (now (m .entry)) r (now (m .exit)) ⌝ }
 {
-    let v = write_refusal(m, false, transaction, table, key, payload.len());
-    if v != 0 {
-        return Answer::Refused(v);
-    }
-    let t = table as u8;
-    changes::accept(m, transaction, t, key, false, payload);
-    Answer::Done
+    write(m, false, transaction, table, key, false, payload)
 }
 
 // A delete mark with empty payload.
 pub fn delete(m: &mut [u8], transaction: u64, table: u64, key: u32) -> Answer
     ensures { λ r. ⌜ Answers (deleteCall transaction table key) (now (m .entry)) r (now (m .exit)) ⌝ }
 {
-    let v = write_refusal(m, false, transaction, table, key, 0);
-    if v != 0 {
-        return Answer::Refused(v);
-    }
-    let t = table as u8;
-    changes::accept(m, transaction, t, key, true, b"");
-    Answer::Done
+    write(m, false, transaction, table, key, true, b"")
 }
 
 // ---- commit, abort

@@ -1,14 +1,16 @@
 -- `checkpoint::allocator_of` meets its contract.
 use mathlib.Core.Path.{ap}
+use native.Mathlib.Omega.{arith}
+use borrow.Author.Needs.{needs}
 use Rattle.memory.specs.declared.Head.{Head}
 use Rattle.memory.specs.Flat.{flatOf}
+use Rattle.memory.proofs.Refusal.{held-room}
 use Rattle.checkpoint.proofs.Allotting.{allocator-is}
-use borrow.Author.Needs.{needs}
 use Rattle.checkpoint.proofs.allocator_of.Statement.{statement}
 use Rattle.checkpoint.proofs.allocator_of.Tie as tie
 
 get-head-requires : tie.Need-get-head-requires
-get-head-requires c κs = search needs
+get-head-requires c κs = omega (arith, held-room _ (c .before .pre .0 .held) .range .long)
 
 left-requires : tie.Need-left-requires
 left-requires c κs = search needs

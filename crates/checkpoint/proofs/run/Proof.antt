@@ -7,7 +7,8 @@ use lib.ListN.{length}
 use borrow.Author.Needs.{needs}
 use Rattle.model.specs.Checkpoint.{runCall}
 use Rattle.memory.proofs.Refusal.{held-room}
-use Rattle.checkpoint.proofs.Stepping.{stopped, passed-runs, passed-long}
+use Rattle.checkpoint.specs.Keeping.{Ready}
+use Rattle.checkpoint.proofs.Stepping.{frozen-all, stopped, passed-ready}
 use Rattle.checkpoint.proofs.Repeating.{run-5, run-18, Repeats, repeats-start, repeats-turn, repeats-end}
 use Rattle.checkpoint.proofs.run.Statement.{statement}
 use Rattle.checkpoint.proofs.run.Tie as tie
@@ -18,6 +19,13 @@ Inv-loop image₀ m₀ limit v k n₀ image m n = Repeats image₀ m₀ k image 
 abbrev μ-loop : tie.MeasureT-loop
 μ-loop image₀ m₀ limit v k n₀ image m n = n
 
+abbrev began : tie.Else1 Inv-loop μ-loop → tie.Start Inv-loop μ-loop
+began c = c .before .before .before .before .before
+
+-- the tests are passed
+ready : (c : tie.Else1 Inv-loop μ-loop) → Ready (began c .args .image .now) (began c .args .m .now)
+ready c = let p = began c .args in passed-ready (p .image .now) (p .m .now) _ (c .before .step-refusal .ensures) (c .if1 .left)
+
 step-refusal-requires : tie.Need-step-refusal-requires Inv-loop μ-loop
 step-refusal-requires c κs = search needs
 
@@ -25,19 +33,24 @@ same-length : tie.Need-same-length Inv-loop μ-loop
 same-length c = search needs
 
 returns : tie.Need-returns Inv-loop μ-loop
-returns c = let img : List ℕ = c .before .before .before .before .before .args .image .now in
-    stopped (length img) (c .before .before .before .before .before .args .m .now) _ (c .before .step-refusal .ensures) (runCall (c .before .before .before .before .before .args .limit) (length img)) (run-5 (c .before .before .before .before .before .args .limit) (length img)) (run-18 (c .before .before .before .before .before .args .limit) (length img)) img (c .if1 .taken)
+returns c = let p = c .before .before .before .before .before .args in
+    let img : List ℕ = p .image .now in
+    stopped (length img) (p .m .now) _ (c .before .step-refusal .ensures) (runCall (p .limit) (length img)) (run-5 (p .limit) (length img)) (run-18 (p .limit) (length img)) img (c .if1 .taken)
+
+count-pages-requires : tie.Need-count-pages-requires Inv-loop μ-loop
+count-pages-requires c κs = (held-room _ (ready (c .before) .runs .held), omega arith)
 
 left-requires : tie.Need-left-requires Inv-loop μ-loop
-left-requires c κs = held-room _ (passed-runs (length (c .before .before .before .before .before .before .args .image .now)) (c .before .before .before .before .before .before .args .m .now) _ (c .before .before .step-refusal .ensures) (c .before .if1 .left) .held)
+left-requires c κs = let passed = c .before .before in
+    (ready passed .runs, frozen-all (began passed .args .m .now) (c .count-pages .ensures .0))
 
 smaller-requires : tie.Need-smaller-requires Inv-loop μ-loop
 smaller-requires c κs = search needs
 
 loop-holds : tie.Need-loop-holds Inv-loop μ-loop
-loop-holds c = let len : ℕ = length (c .before .before .before .before .before .before .before .before .args .image .now) in
-    let m : List ℕ = c .before .before .before .before .before .before .before .before .args .m .now in
-    repeats-start (c .before .before .before .before .before .before .before .before .args .image .now) m _ (record { runs = passed-runs len m _ (c .before .before .before .before .step-refusal .ensures) (c .before .before .before .if1 .left); long = passed-long len m _ (c .before .before .before .before .step-refusal .ensures) (c .before .before .before .if1 .left) }) (omega (arith, c .smaller .ensures, c .before .left .ensures))
+loop-holds c = let passed = c .before .before .before .before in
+    let p = began passed .args in
+    repeats-start (p .image .now) (p .m .now) _ (ready passed) (omega (arith, c .smaller .ensures, c .before .left .ensures))
 
 step-requires : tie.Need-step-requires Inv-loop μ-loop
 step-requires c κs = search needs
@@ -58,9 +71,9 @@ same-length-3 : tie.Need-same-length-3 Inv-loop μ-loop
 same-length-3 c = c .before .loop .inv .size
 
 returns-2 : tie.Need-returns-2 Inv-loop μ-loop
-returns-2 c = let len : ℕ = length (c .before .before .before .before .before .before .before .before .before .before .args .image .now) in
-    let m : List ℕ = c .before .before .before .before .before .before .before .before .before .before .args .m .now in
-    repeats-end (c .before .loop .inv) (c .loop-test .left) (c .before .before .before .before .before .before .before .before .before .before .args .limit) (record { runs = passed-runs len m _ (c .before .before .before .before .before .before .step-refusal .ensures) (c .before .before .before .before .before .if1 .left); long = passed-long len m _ (c .before .before .before .before .before .before .step-refusal .ensures) (c .before .before .before .before .before .if1 .left) }) (c .before .before .smaller .ensures ∙ ap (min (c .before .before .before .before .before .before .before .before .before .before .args .limit)) (c .before .before .before .left .ensures))
+returns-2 c = let passed = c .before .before .before .before .before .before in
+    let limit = began passed .args .limit in
+    repeats-end (c .before .loop .inv) (c .loop-test .left) limit (ready passed) (c .before .before .smaller .ensures ∙ ap (min limit) (c .before .before .before .left .ensures)) _ (omega arith)
 
 pub run-spec : {M : Type 1} → statement M
 run-spec =
@@ -71,6 +84,7 @@ run-spec =
     step-refusal-requires
     same-length
     returns
+    count-pages-requires
     left-requires
     smaller-requires
     loop-holds

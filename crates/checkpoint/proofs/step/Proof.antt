@@ -5,11 +5,18 @@ use native.Mathlib.Omega.{arith}
 use lib.ListN.{length}
 use borrow.Author.Needs.{needs}
 use Rattle.model.specs.Checkpoint.{stepCall}
-use Rattle.memory.proofs.Refusal.{held-room}
+use Rattle.checkpoint.specs.Keeping.{Ready}
 use Rattle.checkpoint.proofs.Allotting.{left-is}
-use Rattle.checkpoint.proofs.Stepping.{stopped, step-5, step-18, passed-runs, passed-long, step-done}
+use Rattle.checkpoint.proofs.Stepping.{stopped, step-5, step-18, passed-ready, step-done}
 use Rattle.checkpoint.proofs.step.Statement.{statement}
 use Rattle.checkpoint.proofs.step.Tie as tie
+
+abbrev began : tie.Else1 → tie.Start
+began c = c .before .before .before .before .before
+
+-- the tests are passed
+ready : (c : tie.Else1) → Ready (began c .args .image .now) (began c .args .m .now)
+ready c = let p = began c .args in passed-ready (p .image .now) (p .m .now) _ (c .before .step-refusal .ensures) (c .if1 .left)
 
 step-refusal-requires : tie.Need-step-refusal-requires
 step-refusal-requires c κs = search needs
@@ -18,19 +25,12 @@ same-length : tie.Need-same-length
 same-length c = search needs
 
 returns : tie.Need-returns
-returns c = let img : List ℕ = c .before .before .before .before .before .args .image .now in
-    stopped (length img) (c .before .before .before .before .before .args .m .now) _ (c .before .step-refusal .ensures) (stepCall (length img)) (step-5 (length img)) (step-18 (length img)) img (c .if1 .taken)
-
-allocator-of-requires : tie.Need-allocator-of-requires
-allocator-of-requires c κs = let p = c .before .before .before .before .before .before .args in
-    held-room _ (passed-runs (length (p .image .now)) (p .m .now) _ (c .before .before .step-refusal .ensures) (c .before .if1 .left) .held)
+returns c = let p = c .before .before .before .before .before .args in
+    let img : List ℕ = p .image .now in
+    stopped (length img) (p .m .now) _ (c .before .step-refusal .ensures) (stepCall (length img)) (step-5 (length img)) (step-18 (length img)) img (c .if1 .taken)
 
 store-next-requires : tie.Need-store-next-requires
-store-next-requires c κs = let p = c .before .before .before .before .before .before .before .before .before .args in
-    let len : ℕ = length (p .image .now) in
-    let v = c .before .before .before .before .before .step-refusal .ensures in
-    let z = c .before .before .before .before .if1 .left in
-    (record { runs = passed-runs len (p .m .now) _ v z; long = passed-long len (p .m .now) _ v z }, c .before .before .allocator-of .ensures)
+store-next-requires c κs = ready (c .before .before)
 
 same-length-2 : tie.Need-same-length-2
 same-length-2 c = search needs
@@ -39,22 +39,11 @@ same-length-3 : tie.Need-same-length-3
 same-length-3 c = search needs
 
 returns-2 : tie.Need-returns-2
-returns-2 c = let p = c .before .before .before .before .before .before .before .before .before .before .before .before .before .before .args in
-    let len : ℕ = length (p .image .now) in
-    let v = c .before .before .before .before .before .before .before .before .before .before .step-refusal .ensures in
-    let z = c .before .before .before .before .before .before .before .before .before .if1 .left in
+returns-2 c = let passed = c .before .before .before .before .before .before .before in
+    let p = began passed .args in
     let d = c .before .before .before .before .store-next .ensures in
-    step-done (p .image .now) (p .m .now) _ _ _ (record { runs = passed-runs len (p .m .now) _ v z; long = passed-long len (p .m .now) _ v z }) (d .0) (omega (arith, left-is _ _ (d .1)))
+    step-done (p .image .now) (p .m .now) _ _ _ (ready passed) (d .0) (omega (arith, left-is _ _ (d .1)))
 
 pub step-spec : {M : Type 1} → statement M
 step-spec =
-    tie.close
-    (tie.spec
-    step-refusal-requires
-    same-length
-    returns
-    allocator-of-requires
-    store-next-requires
-    same-length-2
-    same-length-3
-    returns-2)
+    tie.close (tie.spec step-refusal-requires same-length returns store-next-requires same-length-2 same-length-3 returns-2)

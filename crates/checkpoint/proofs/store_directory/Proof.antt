@@ -2,6 +2,7 @@
 use mathlib.Core.Path.{ap}
 use Prim.Native.Nat.{_+_}
 use native.Mathlib.Omega.{arith}
+use lib.ListN.{length-take, length-drop}
 use borrow.Author.Needs.{needs}
 use Rattle.allocator.specs.declared.Allocator.{Allocator}
 use Rattle.memory.specs.Flat.{flatOf}
@@ -10,7 +11,7 @@ use Rattle.memory.specs.declared.Head.{Head}
 use Rattle.memory.proofs.Refusal.{held-room}
 use Rattle.image.specs.Stages.{directoriesFor}
 use Rattle.checkpoint.proofs.Allotting.{taken-is, some-left, directory-hands}
-use Rattle.checkpoint.proofs.Stepping.{part-long, back-is, directory-does}
+use Rattle.checkpoint.proofs.Stepping.{back-is, directory-does}
 use Rattle.checkpoint.proofs.Tallies.{running-is}
 use Rattle.checkpoint.proofs.store_directory.Statement.{statement}
 use Rattle.checkpoint.proofs.store_directory.Tie as tie
@@ -48,7 +49,7 @@ add-write-directory c = record { fits = omega (arith, running-is _ (c .before .b
 
 write-directory-requires : tie.Need-write-directory-requires
 unfolding directoriesFor
-write-directory-requires c κs = (held-room _ (c .before .before .before .before .before .before .before .before .before .before .before .before .pre .0 .runs .held), (omega (arith, c .before .before .before .before .before .before .before .before .before .before .before .before .pre .1 .1 .0, ap (λ (x : Counts). x .directories) (c .before .before .before .before .before .before .get-counts .ensures)), part-long (c .before .before .before .before .before .before .before .before .before .before .before .before .args .image .now) _ _ (c .before .before .before .before .before .before .before .before .before .before .before .before .pre .0 .long) (c .before .before .before .before .allocate .ensures .1)))
+write-directory-requires c κs = (held-room _ (c .before .before .before .before .before .before .before .before .before .before .before .before .pre .0 .runs .held), (omega (arith, c .before .before .before .before .before .before .before .before .before .before .before .before .pre .1 .1 .0, ap (λ (x : Counts). x .directories) (c .before .before .before .before .before .before .get-counts .ensures)), simp (length-take, length-drop) (omega (arith, c .before .before .before .before .before .before .before .before .before .before .before .before .pre .0 .long, c .before .before .before .before .allocate .ensures .1))))
 
 cast-taken-by : tie.Need-cast-taken-by
 cast-taken-by c = record { fits = omega (arith, c .before .before .before .before .before .before .before .allocate .ensures .1, held-room _ (c .before .before .before .before .before .before .before .before .before .before .before .before .before .before .before .pre .0 .runs .held) .range .many) }

@@ -2,6 +2,7 @@
 use mathlib.Core.Path.{ap}
 use Prim.Native.Nat.{_+_, _%_}
 use native.Mathlib.Omega.{arith}
+use lib.ListN.{length-take, length-drop}
 use borrow.Author.Needs.{needs}
 use Rattle.allocator.specs.declared.Allocator.{Allocator}
 use Rattle.memory.specs.Flat.{flatOf}
@@ -10,7 +11,7 @@ use Rattle.memory.specs.declared.Head.{Head}
 use Rattle.memory.proofs.Refusal.{held-room}
 use Rattle.pages.proofs.Places.{page-end}
 use Rattle.checkpoint.proofs.Allotting.{taken-is, some-left, page-hands}
-use Rattle.checkpoint.proofs.Stepping.{part-long, back-is, page-does}
+use Rattle.checkpoint.proofs.Stepping.{back-is, page-does}
 use Rattle.checkpoint.proofs.Tallies.{running-is}
 use Rattle.checkpoint.proofs.store_page.Statement.{statement}
 use Rattle.checkpoint.proofs.store_page.Tie as tie
@@ -47,7 +48,7 @@ add-write-page : tie.Need-add-write-page
 add-write-page c = record { fits = omega (arith, running-is _ (c .before .before .before .before .before .before .before .before .before .before .before .before .before .pre .0 .runs .on) .1, ap (λ (h : Head). h .level) (c .before .before .before .before .before .before .before .before .before .get-head .ensures)) }
 
 write-page-requires : tie.Need-write-page-requires
-write-page-requires c κs = (held-room _ (c .before .before .before .before .before .before .before .before .before .before .before .before .before .pre .0 .runs .held), (omega (arith, page-end (c .before .before .before .before .before .before .before .before .before .before .before .before .before .pre .1 .0 .on), ap (λ (e : Entry). e .count) (c .before .before .before .before .before .before .before .get-entry .ensures)), (omega arith, part-long (c .before .before .before .before .before .before .before .before .before .before .before .before .before .args .image .now) _ _ (c .before .before .before .before .before .before .before .before .before .before .before .before .before .pre .0 .long) (c .before .before .before .before .before .allocate .ensures .1))))
+write-page-requires c κs = (held-room _ (c .before .before .before .before .before .before .before .before .before .before .before .before .before .pre .0 .runs .held), (omega (arith, page-end (c .before .before .before .before .before .before .before .before .before .before .before .before .before .pre .1 .0 .on), ap (λ (e : Entry). e .count) (c .before .before .before .before .before .before .before .get-entry .ensures)), (omega arith, simp (length-take, length-drop) (omega (arith, c .before .before .before .before .before .before .before .before .before .before .before .before .before .pre .0 .long, c .before .before .before .before .before .allocate .ensures .1)))))
 
 cast-taken-by : tie.Need-cast-taken-by
 cast-taken-by c = record { fits = omega (arith, c .before .before .before .before .before .before .before .before .allocate .ensures .1, held-room _ (c .before .before .before .before .before .before .before .before .before .before .before .before .before .before .before .before .pre .0 .runs .held) .range .many) }
@@ -56,7 +57,8 @@ taken-by-requires : tie.Need-taken-by-requires
 taken-by-requires c κs = some-left (c .before .before .before .before .before .before .before .before .before .before .before .before .before .before .before .before .pre .0 .runs) (c .before .before .before .before .before .before .before .before .before .before .before .before .before .before .before .before .pre .1 .1)
 
 keep-page-requires : tie.Need-keep-page-requires
-keep-page-requires c κs = (c .before .before .before .before .before .before .before .before .before .before .before .before .before .before .before .before .before .before .pre .0 .runs, omega (arith, ap (λ (x : Allocator). x .taken) (c .before .taken-by .ensures), c .before .before .before .before .before .before .before .before .before .before .allocate .ensures .1))
+keep-page-requires c κs = let p = c .before .before .before .before .before .before .before .before .before .before .before .before .before .before .before .before .before .before .pre in
+    (p .0 .runs, (omega (arith, ap (λ (x : Allocator). x .taken) (c .before .taken-by .ensures), c .before .before .before .before .before .before .before .before .before .before .allocate .ensures .1), p .1 .0))
 
 same-length : tie.Need-same-length
 same-length c = search needs

@@ -1,6 +1,6 @@
 -- `look::plan_abort` meets its contract.
 use mathlib.Core.List.{List, []}
-use mathlib.Core.Bool.{true}
+use mathlib.Core.Bool.{Bool, true}
 use mathlib.Core.Logic.{⊎-elim}
 use mathlib.Core.Path.{_≡_, sym, ap, _∙_}
 use Prim.Native.Nat.{ℕ, _+_, _-_, _<_, _≤_}
@@ -30,6 +30,37 @@ Inv-loop m transaction ops₀ n k₀ row₀ ops k row = (n ≡ length (flatOf m 
 abbrev μ-loop : tie.MeasureT-loop
 μ-loop m transaction ops₀ n k₀ row₀ ops k row = n - row
 
+abbrev began : tie.After-owns Inv-loop μ-loop → tie.Start Inv-loop μ-loop
+began c = c .before .before .before .before .before .before .before
+
+abbrev flat : tie.After-owns Inv-loop μ-loop → Flat
+flat c = flatOf (began c .args .m .now)
+
+abbrev tables : tie.After-owns Inv-loop μ-loop → List ℕ
+tables c = tablesOf (flat c .entries)
+
+abbrev own : tie.After-owns Inv-loop μ-loop → Row → Bool
+own c = isOwn (began c .args .transaction)
+
+-- the row of a turn is there, and so is its table
+in-rows : (c : tie.After-owns Inv-loop μ-loop) → c .before .before .loop .row < length (flat c .rows)
+in-rows c = omega (arith, c .before .loop-test .taken, c .before .before .loop .inv .0)
+
+in-tables : (c : tie.After-owns Inv-loop μ-loop) → c .before .before .loop .row < length (tables c)
+in-tables c = omega (arith, in-rows c, tables-long (flat c) (held-filled _ (began c .pre .0)))
+
+-- there is room for a removal of each row that the transaction owns
+own-fit : (c : tie.After-owns Inv-loop μ-loop) → 0 + length (keep (own c) (restRows (flat c) (tables c) 0)) ≤ length (began c .args .ops .now)
+own-fit c = let r : Room (began c .args .m .now) = held-room _ (began c .pre .0) in
+    omega (arith, own-few (began c .args .transaction) (flat c) (tables c), r .range .rows, r .range .most, began c .pre .1)
+
+owned : (c : tie.After-owns Inv-loop μ-loop) → passes (own c) (flat c) (tables c) (c .before .before .loop .row) ≡ c .owns .result
+owned c = owns-any (flat c) [] (c .before .before .loop .row) (began c .args .transaction) (tables c) ∙ sym (c .owns .ensures)
+
+room-left : (c : tie.After-owns Inv-loop μ-loop) → c .owns .result ≡ true → (c .before .before .loop .k < length (c .before .before .loop .ops)) × (length (c .before .before .loop .ops) ≡ 1024)
+room-left c t = let l = c .before .before .loop in
+    (removal-room (flat c) (tables c) (l .row) (in-rows c) (in-tables c) (own c) (began c .args .ops .now) (l .ops) 0 (l .k) (owned c ∙ t) (own-fit c) (l .inv .1 .1), l .inv .1 .1 .size ∙ began c .pre .1)
+
 get-counts-requires : tie.Need-get-counts-requires Inv-loop μ-loop
 get-counts-requires c κs = let r : Room (c .before .before .args .m .now) = held-room _ (c .before .before .pre .0) in
     omega (arith, r .range .long)
@@ -53,48 +84,13 @@ mul-ops : tie.Need-mul-ops Inv-loop μ-loop
 mul-ops c = search needs
 
 mul-ops-2 : tie.Need-mul-ops-2 Inv-loop μ-loop
-mul-ops-2 c = record {
-  fits = (let a = c .before .before .before .before .before .before .before .before .before .args in
-      let m : List ℕ = a .m .now in
-      let f : Flat = flatOf m in
-      let ts : List ℕ = tablesOf (f .entries) in
-      let r : Room m = held-room m (c .before .before .before .before .before .before .before .before .before .pre .0) in
-      let l = c .before .before .before .before .loop in
-      let h1 : l .row < length (f .rows) = omega (arith, c .before .before .before .loop-test .taken, l .inv .0) in
-      let h2 : l .row < length ts = omega (arith, h1, tables-long f (held-filled m (c .before .before .before .before .before .before .before .before .before .pre .0))) in
-      let b : 0 + length (keep (isOwn (a .transaction)) (restRows f ts 0)) ≤ length (a .ops .now) = omega (arith, own-few (a .transaction) f ts, r .range .rows, r .range .most, c .before .before .before .before .before .before .before .before .before .pre .1) in
-      let e : passes (isOwn (a .transaction)) f ts (l .row) ≡ c .before .before .owns .result = owns-any f [] (l .row) (a .transaction) ts ∙ sym (c .before .before .owns .ensures) in
-      let q : l .k < length (l .ops) = removal-room f ts (l .row) h1 h2 (isOwn (a .transaction)) (a .ops .now) (l .ops) 0 (l .k) (e ∙ c .before .if1 .taken) b (l .inv .1 .1) in
-      omega (arith, q, l .inv .1 .1 .size, c .before .before .before .before .before .before .before .before .before .pre .1));
-}
+mul-ops-2 c = record { fits = let r = room-left (c .before .before) (c .before .if1 .taken) in omega (arith, r .0, r .1) }
 
 slice-write-ops : tie.Need-slice-write-ops Inv-loop μ-loop
-slice-write-ops c = let a = c .before .before .before .before .before .before .before .before .before .args in
-    let m : List ℕ = a .m .now in
-    let f : Flat = flatOf m in
-    let ts : List ℕ = tablesOf (f .entries) in
-    let r : Room m = held-room m (c .before .before .before .before .before .before .before .before .before .pre .0) in
-    let l = c .before .before .before .before .loop in
-    let h1 : l .row < length (f .rows) = omega (arith, c .before .before .before .loop-test .taken, l .inv .0) in
-    let h2 : l .row < length ts = omega (arith, h1, tables-long f (held-filled m (c .before .before .before .before .before .before .before .before .before .pre .0))) in
-    let b : 0 + length (keep (isOwn (a .transaction)) (restRows f ts 0)) ≤ length (a .ops .now) = omega (arith, own-few (a .transaction) f ts, r .range .rows, r .range .most, c .before .before .before .before .before .before .before .before .before .pre .1) in
-    let e : passes (isOwn (a .transaction)) f ts (l .row) ≡ c .before .before .owns .result = owns-any f [] (l .row) (a .transaction) ts ∙ sym (c .before .before .owns .ensures) in
-    let q : l .k < length (l .ops) = removal-room f ts (l .row) h1 h2 (isOwn (a .transaction)) (a .ops .now) (l .ops) 0 (l .k) (e ∙ c .before .if1 .taken) b (l .inv .1 .1) in
-    omega (arith, q)
+slice-write-ops c = omega (arith, room-left (c .before .before) (c .before .if1 .taken) .0)
 
 add-k : tie.Need-add-k Inv-loop μ-loop
-add-k c = let a = c .before .before .before .before .before .before .before .before .before .args in
-    let m : List ℕ = a .m .now in
-    let f : Flat = flatOf m in
-    let ts : List ℕ = tablesOf (f .entries) in
-    let r : Room m = held-room m (c .before .before .before .before .before .before .before .before .before .pre .0) in
-    let l = c .before .before .before .before .loop in
-    let h1 : l .row < length (f .rows) = omega (arith, c .before .before .before .loop-test .taken, l .inv .0) in
-    let h2 : l .row < length ts = omega (arith, h1, tables-long f (held-filled m (c .before .before .before .before .before .before .before .before .before .pre .0))) in
-    let b : 0 + length (keep (isOwn (a .transaction)) (restRows f ts 0)) ≤ length (a .ops .now) = omega (arith, own-few (a .transaction) f ts, r .range .rows, r .range .most, c .before .before .before .before .before .before .before .before .before .pre .1) in
-    let e : passes (isOwn (a .transaction)) f ts (l .row) ≡ c .before .before .owns .result = owns-any f [] (l .row) (a .transaction) ts ∙ sym (c .before .before .owns .ensures) in
-    let q : l .k < length (l .ops) = removal-room f ts (l .row) h1 h2 (isOwn (a .transaction)) (a .ops .now) (l .ops) 0 (l .k) (e ∙ c .before .if1 .taken) b (l .inv .1 .1) in
-    omega (arith, q, l .inv .1 .1 .size, c .before .before .before .before .before .before .before .before .before .pre .1)
+add-k c = let r = room-left (c .before .before) (c .before .if1 .taken) in omega (arith, r .0, r .1)
 
 add-row : tie.Need-add-row Inv-loop μ-loop
 add-row c = let m : List ℕ = c .before .before .before .before .before .before .before .before .args .m .now in
@@ -105,22 +101,15 @@ loop-less : tie.Need-loop-less Inv-loop μ-loop
 loop-less c = omega (arith, c .before .before .loop-test .taken)
 
 loop-again : tie.Need-loop-again Inv-loop μ-loop
-loop-again c = let a = c .before .before .before .before .before .before .before .before .args in
-    let m : List ℕ = a .m .now in
-    let f : Flat = flatOf m in
-    let ts : List ℕ = tablesOf (f .entries) in
-    let r : Room m = held-room m (c .before .before .before .before .before .before .before .before .pre .0) in
-    let l = c .before .before .before .loop in
-    let h1 : l .row < length (f .rows) = omega (arith, c .before .before .loop-test .taken, l .inv .0) in
-    let h2 : l .row < length ts = omega (arith, h1, tables-long f (held-filled m (c .before .before .before .before .before .before .before .before .pre .0))) in
-    let b : 0 + length (keep (isOwn (a .transaction)) (restRows f ts 0)) ≤ length (a .ops .now) = omega (arith, own-few (a .transaction) f ts, r .range .rows, r .range .most, c .before .before .before .before .before .before .before .before .pre .1) in
-    let e : passes (isOwn (a .transaction)) f ts (l .row) ≡ c .before .owns .result = owns-any f [] (l .row) (a .transaction) ts ∙ sym (c .before .owns .ensures) in (
+loop-again c = let o = c .before in
+    let l = o .before .before .loop in
+    let ops : List ℕ = began o .args .ops .now in (
       l .inv .0,
       (
-        omega (arith, c .before .before .loop-test .taken),
+        omega (arith, o .before .loop-test .taken),
         ⊎-elim
-            (λ w. pushed-by (a .ops .now) _ _ 0 _ _ _ _ (w .2) (w .3) (next-removal f ts (l .row) h1 h2 (isOwn (a .transaction)) (a .ops .now) (l .ops) 0 (l .k) (e ∙ w .0 .taken) b (l .inv .1 .1) _ (omega (arith, w .1 .ok)) (w .1 .ensures)))
-            (λ w. pushed-by (a .ops .now) _ _ 0 _ _ _ _ (w .1) (w .2) (no-removal f ts (l .row) h1 h2 (isOwn (a .transaction)) (a .ops .now) (l .ops) 0 (l .k) (e ∙ w .0 .left) (l .inv .1 .1)))
+            (λ w. pushed-by ops _ _ 0 _ _ _ _ (w .2) (w .3) (next-removal (flat o) (tables o) (l .row) (in-rows o) (in-tables o) (own o) ops (l .ops) 0 (l .k) (owned o ∙ w .0 .taken) (own-fit o) (l .inv .1 .1) _ (omega (arith, w .1 .ok)) (w .1 .ensures)))
+            (λ w. pushed-by ops _ _ 0 _ _ _ _ (w .1) (w .2) (no-removal (flat o) (tables o) (l .row) (in-rows o) (in-tables o) (own o) ops (l .ops) 0 (l .k) (owned o ∙ w .0 .left) (l .inv .1 .1)))
             (c .if1 .came),
       ),
     )

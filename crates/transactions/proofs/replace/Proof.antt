@@ -1,50 +1,17 @@
 -- `transactions::replace` meets its contract.
-use mathlib.Core.List.{List}
-use mathlib.Core.Bool.{false}
-use Prim.Native.Nat.{ℕ}
-use native.Mathlib.Omega.{arith}
 use borrow.Author.Needs.{needs}
-use Rattle.transactions.proofs.Called.{replace-tests, write-refused, write-done}
-use Rattle.transactions.proofs.Testing.{write-accepts}
+use Rattle.transactions.proofs.Called.{replace-is}
 use Rattle.transactions.proofs.replace.Statement.{statement}
 use Rattle.transactions.proofs.replace.Tie as tie
 
-write-refusal-requires : tie.Need-write-refusal-requires
-write-refusal-requires c κs = search needs
+write-requires : tie.Need-write-requires
+write-requires c κs = search needs
 
 same-length : tie.Need-same-length
 same-length c = search needs
 
 returns : tie.Need-returns
-returns c = let a = c .before .before .before .before .before .args in
-    let bs : List ℕ = a .payload .now in
-    write-refused false (a .transaction) (a .table) (a .key) bs false (a .m .now) _ (c .before .write-refusal .ensures) _ (replace-tests (a .transaction) (a .table) (a .key) bs) (c .if1 .taken)
-
-cast-t : tie.Need-cast-t
-cast-t c = let a = c .before .before .before .before .before .args in
-    let g = write-accepts false (a .transaction) (a .table) (a .key) (a .payload .now) (a .m .now) _ (c .before .write-refusal .ensures) (c .if1 .left) in
-    omega (arith, g .table)
-
-accept-requires : tie.Need-accept-requires
-accept-requires c κs = let a = c .before .before .before .before .before .before .args in
-    write-accepts false (a .transaction) (a .table) (a .key) (a .payload .now) (a .m .now) _ (c .before .before .write-refusal .ensures) (c .before .if1 .left)
-
-same-length-2 : tie.Need-same-length-2
-same-length-2 c = search needs
-
-returns-2 : tie.Need-returns-2
-returns-2 c = let a = c .before .before .before .before .before .before .before .before .before .args in
-    let bs : List ℕ = a .payload .now in
-    write-done false (a .transaction) (a .table) (a .key) bs false (a .m .now) _ (c .before .before .before .before .before .write-refusal .ensures) _ (replace-tests (a .transaction) (a .table) (a .key) bs) (c .before .before .before .before .if1 .left) _ (c .before .before .accept .ensures)
+returns c = replace-is _ _ _ _ _ _ _ (c .before .before .write .ensures)
 
 pub replace-spec : {M : Type 1} → statement M
-replace-spec =
-    tie.close
-    (tie.spec
-    write-refusal-requires
-    same-length
-    returns
-    cast-t
-    accept-requires
-    same-length-2
-    returns-2)
+replace-spec = tie.close (tie.spec write-requires same-length returns)
