@@ -18,18 +18,18 @@ returns-2 c = let a = c .before .before .args in sym (follows-falling (a .p) (a 
 
 returns-3 : tie.Need-returns-3
 returns-3 c = let a = c .before .before .before .args in sym
-    (follows-there (a .p) (a .n) (a .o) (a .p2) (a .n2) (a .o2) (a .m2) (c .before .if2 .left) ∙ rw (le-ltb _ _ (c .if3 .taken)))
+    (follows-there (a .p) (a .n) (a .o) (a .p2) (a .n2) (a .o2) (a .m2) (omega (arith, c .before .if2 .left)) ∙ rw (le-ltb _ _ (c .if3 .taken)))
 
 returns-4 : tie.Need-returns-4
 unfolding codedOwner if_then_else_
 returns-4 c = let a = c .before .before .before .before .args in
-    let e = follows-there (a .p) (a .n) (a .o) (a .p2) (a .n2) (a .o2) (a .m2) (c .before .before .if2 .left) in
+    let e = follows-there (a .p) (a .n) (a .o) (a .p2) (a .n2) (a .o2) (a .m2) (omega (arith, c .before .before .if2 .left)) in
     sym (e ∙ rw (lt-ltb _ _ (c .before .if3 .left), eq-eqb _ _ (c .if4 .taken)) (after-committed (a .o2)))
 
 returns-5 : tie.Need-returns-5
 unfolding codedOwner ownerAfter if_then_else_
 returns-5 c = let a = c .before .before .before .before .before .args in
-    let e = follows-there (a .p) (a .n) (a .o) (a .p2) (a .n2) (a .o2) (a .m2) (c .before .before .before .if2 .left) in
+    let e = follows-there (a .p) (a .n) (a .o) (a .p2) (a .n2) (a .o2) (a .m2) (omega (arith, c .before .before .before .if2 .left)) in
     sym (e ∙ rw (lt-ltb _ _ (c .before .before .if3 .left), ne-eqb _ _ (c .before .if4 .left), eq-eqb _ _ (c .if5 .taken)))
 
 sub-result : tie.Need-sub-result
@@ -41,7 +41,7 @@ sub-result-2 c = search needs
 returns-6 : tie.Need-returns-6
 unfolding codedOwner ownerAfter if_then_else_
 returns-6 c = let a = c .before .before .before .before .before .args in
-    let e = follows-there (a .p) (a .n) (a .o) (a .p2) (a .n2) (a .o2) (a .m2) (c .before .before .before .if2 .left) in
+    let e = follows-there (a .p) (a .n) (a .o) (a .p2) (a .n2) (a .o2) (a .m2) (omega (arith, c .before .before .before .if2 .left)) in
     sym (e ∙ rw (lt-ltb _ _ (c .before .before .if3 .left), ne-eqb _ _ (c .before .if4 .left), ne-eqb _ _ (c .if5 .left)))
 
 pub follows-spec : {M : Type 1} → statement M
