@@ -134,12 +134,13 @@ module _ (m : List ℕ) (r : Room m) (n : ℕ) where
         (ap (rowsAt m1 (firstAt m1)) en1 ∙ cl .around))
 
   module _ (en : n ≡ countAt m 1) (b : ℕ) (eb : b ≡ 1024 + headAt m .capacity * 100) where
-    pub entry-in : {m1 m2 m' : List ℕ} (i : ℕ) (e : Entry) → i ≤ length (entriesOf m) → length (entriesOf m) < headAt m .capacity → length m' ≡ length m
-        → Shifted m m1 (b + i * 8) (b + n * 8) 8 → Only entryOf b 8 6 m1 m2 i e → Only word 64 4 4 m2 m' 1 (n + 1)
+    pub entry-in : {m1 m2 m' : List ℕ} {c : ℕ} (i : ℕ) (e : Entry) → i ≤ length (entriesOf m) → length (entriesOf m) < headAt m .capacity → length m' ≡ length m
+        → Shifted m m1 (b + i * 8) (b + n * 8) 8 → Only entryOf b 8 6 m1 m2 i e → Only word 64 4 4 m2 m' 1 c → c ≡ n + 1
         → Becomes m m' (withEntries (flatOf m) (insertAt i e (entriesOf m)))
     unfolding entriesOf
-    entry-in {m1} {m2} {m'} i e h f l sh o q =
+    entry-in {m1} {m2} {m'} i e h f l sh o q' ec =
         let k = known m r in
+        let q : Only word 64 4 4 m2 m' 1 (n + 1) = subst (λ (z : ℕ). Only word 64 4 4 m2 m' 1 z) ec q' in
         entries-become m m2 m' (b + i * 8) (b + n * 8 - (b + i * 8) + 8) (n + 1) r l
         (apart-then (b + i * 8) (b + n * 8 - (b + i * 8) + 8) (sh .apart) (o .apart) (omega arith) (omega arith) (omega arith) (omega arith))
         (insertAt i e (entriesOf m)) (omega arith) (omega arith) (recount q) (omega arith)
