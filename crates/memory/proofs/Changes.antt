@@ -399,22 +399,23 @@ pub first-become : (m m' : List ℕ) (x : ℕ) → Room m → length m' ≡ leng
 unfolding headAt cell
 first-become m m' x r l o h =
     let g = r .range in
-    let e : firstAt m' ≡ x = sym (word-at m' 32) ∙ o .here in
-    (e,
-    low-become m m' (headAt m) r l (apart-then 4 32 (o .apart) (apart-none m' 4 28) (omega arith) (omega arith) (omega arith) (omega arith))
-    (ap headOf (off (o .apart) 4 28 (inl (omega arith)))) (record { capacity = refl; few = g .few; many = g .many; taken = g .taken }) (omega arith))
+    let e : firstAt m' ≡ x = sym (word-at m' 32) ∙ o .here in (
+      e,
+      low-become m m' (headAt m) r l (apart-then 4 32 (o .apart) (apart-none m' 4 28) (omega arith) (omega arith) (omega arith) (omega arith))
+          (ap headOf (off (o .apart) 4 28 (inl (omega arith)))) (record { capacity = refl; few = g .few; many = g .many; taken = g .taken }) (omega arith),
+    )
 
 -- rows moved within their area
 pub rows-moved : (m m' : List ℕ) (a len : ℕ) → Room m → length m' ≡ length m → Apart m m' a len → 1024 ≤ a → a + len ≤ 1024 + headAt m .capacity * 100
-    → (firstAt m' ≡ firstAt m) × ((countAt m' 0 ≡ countAt m 0) × Becomes m m' (withRows (flatOf m) (rowsOf m')))
+    → (firstAt m' ≡ firstAt m) × Becomes m m' (withRows (flatOf m) (rowsOf m'))
 unfolding rowsOf
 rows-moved m m' a len r l p h1 h2 =
     let K = kept m m' m' a len 1 (countAt m' 1) (omega arith) r (omega arith) p (recount-none m' 1 _ refl) in
-    let n : countAt m' 0 ≡ countAt m 0 = cell-off word 64 4 4 (omega arith) p 0 (inl (omega arith)) in
-    (K .first,
-    (n,
-    rows-become m m' m' a len (countAt m 0) r l p (rowsOf m') h1 h2 (recount-none m' 0 _ n) (known m r .rows)
-    (ap (λ (x : ℕ). rowsAt m' x (countAt m 0)) (sym (K .first)) ∙ ap (rowsAt m' (firstAt m')) (sym n))))
+    let n : countAt m' 0 ≡ countAt m 0 = cell-off word 64 4 4 (omega arith) p 0 (inl (omega arith)) in (
+      K .first,
+      rows-become m m' m' a len (countAt m 0) r l p (rowsOf m') h1 h2 (recount-none m' 0 _ n) (known m r .rows)
+          (ap (λ (x : ℕ). rowsAt m' x (countAt m 0)) (sym (K .first)) ∙ ap (rowsAt m' (firstAt m')) (sym n)),
+    )
 
 pub used-become : (m m' : List ℕ) (a len : ℕ) (u : ℕ → Bool) → Room m → length m' ≡ length m → Apart m m' a len → 512 ≤ a → a + len ≤ 1024 → usedAt m' ≡ u
     → Becomes m m' (withUsed (flatOf m) u)

@@ -9,11 +9,12 @@ use lib.Dec.{leb, ltb, eqb}
 use borrow.Author.Tests.{leb-false, ltb-true, ltb-false, eqb-true, eqb-false, eq-eqb, ne-eqb}
 use Rattle.basics.specs.Basics.{if_then_else_, every, all, sum}
 use Rattle.basics.proofs.Facts.{by, lie}
+use Rattle.rows.proofs.Ands.{and-yes, and-no, and-assoc}
 use Rattle.memory.specs.Views.{tab}
 use Rattle.memory.specs.Store.{total, hasRows, filledBy, fillsRows}
 use Rattle.memory.specs.declared.Entry.{Entry}
 use Rattle.memory.proofs.Laws.{tab-add}
-use Rattle.memory.proofs.Refusal.{and-one, and-right}
+use Rattle.memory.proofs.Marks.{eqb-swap}
 use Rattle.memory.proofs.Nest.{Counted, all-counted, counted-all, counted-length, total-append}
 
 -- ---- tests
@@ -26,10 +27,6 @@ or-right : (a b : Bool) → a ≡ false → (a || b) ≡ true → b ≡ true
 or-right true b e h = lie (sym e)
 or-right false b e h = h
 
-and-zero : (a : Bool) → (a && false) ≡ false
-and-zero true = refl
-and-zero false = refl
-
 eqb-less : (k t n : ℕ) → k ≤ n → eqb (k + t) n ≡ eqb t (n - k)
 eqb-less k t n h =
     by (eqb t (n - k))
@@ -41,7 +38,7 @@ eqb-less k t n h =
 all-append : (es fs : List Entry) → all hasRows (es ++ fs) ≡ (all hasRows es && all hasRows fs)
 unfolding all
 all-append [] fs = refl
-all-append (e ∷ es) fs = ap (λ (z : Bool). hasRows e && z) (all-append es fs) ∙ sym (and-right (hasRows e) (all hasRows es) (all hasRows fs))
+all-append (e ∷ es) fs = ap (λ (z : Bool). hasRows e && z) (all-append es fs) ∙ sym (and-assoc (hasRows e) (all hasRows es) (all hasRows fs))
 
 filled-all : (es : List Entry) → all hasRows es ≡ true → filledBy es ≡ total es
 unfolding filledBy if_then_else_
@@ -78,7 +75,7 @@ module _ (es fs : List Entry) (n k : ℕ) (ek : k ≡ filledBy es) where
       let p : 1 ≤ k = omega (arith, counted-length es (all-counted es a)) in
       let lt : n < k = ltb-true n k (or-right _ _ (ne-eqb k 0 (λ (z : k ≡ 0). omega arith)) h) in
       let z : eqb (total (es ++ fs)) n ≡ false = ne-eqb (total (es ++ fs)) n (λ (y : total (es ++ fs) ≡ n). omega (arith, total-append es fs)) in
-      sym (ap (λ (b : Bool). all hasRows (es ++ fs) && (b && true)) z ∙ and-zero (all hasRows (es ++ fs))))
+      sym (ap (λ (b : Bool). all hasRows (es ++ fs) && (b && true)) z ∙ and-no (all hasRows (es ++ fs))))
       (λ a. sym (ap (λ (z : Bool). z && (eqb (total (es ++ fs)) n && true)) (all-append es fs ∙ ap (λ (z : Bool). z && all hasRows fs) a)))
 
 -- nothing is left of either
@@ -86,9 +83,7 @@ pub pass-end : (f : ℕ → Entry) (i c n : ℕ) → c ≤ i → eqb n 0 ≡ fil
 unfolding fillsRows every all total sum
 pass-end f i c n h =
     let e : c - i ≡ 0 = omega arith in
-    let s : eqb n 0 ≡ eqb 0 n =
-    by (eqb n 0) (λ z. z ∙ sym (eq-eqb 0 n (sym (eqb-true n 0 z)))) (λ z. z ∙ sym (ne-eqb 0 n (λ (y : 0 ≡ n). eqb-false n 0 z (sym y)))) in
-    s ∙ sym (ap (λ (k : ℕ). fillsRows (tab f i k) n) e ∙ and-one (eqb 0 n))
+    eqb-swap n 0 ∙ sym (ap (λ (k : ℕ). fillsRows (tab f i k) n) e ∙ and-yes (eqb 0 n))
 
 -- the next w of the entries from i to c
 pub next-run : (f : ℕ → Entry) (i w c : ℕ) → i + w ≤ c → tab f i (c - i) ≡ tab f i w ++ tab f (i + w) (c - (i + w))
@@ -102,8 +97,8 @@ pub one-filled : (e : Entry) → e .count ≡ filledBy (e ∷ [])
 unfolding all hasRows total sum
 one-filled e =
     by (leb 1 (e .count))
-    (λ h. omega (arith, filled-all (e ∷ []) (and-one (leb 1 (e .count)) ∙ h)))
-    (λ h. omega (arith, filled-none (e ∷ []) (and-one (leb 1 (e .count)) ∙ h), leb-false 1 (e .count) h))
+    (λ h. omega (arith, filled-all (e ∷ []) (and-yes (leb 1 (e .count)) ∙ h)))
+    (λ h. omega (arith, filled-none (e ∷ []) (and-yes (leb 1 (e .count)) ∙ h), leb-false 1 (e .count) h))
 
 or-both : (a b : Bool) → a ≡ false → b ≡ false → (a || b) ≡ false
 or-both true b e h = e

@@ -3,11 +3,12 @@ use mathlib.Core.Path.{refl}
 use Prim.Native.Nat.{ℕ, zero, suc, _+_, _*_, _%_, _≤_, _<_}
 use native.Mathlib.Omega.{arith}
 use mathlib.Core.List.{List, [], _∷_}
-use lib.ListN.{length, take, drop, getD, length-take}
+use lib.ListN.{length, drop, getD, length-take}
 use lib.Dec.{eqb}
 use Rattle.basics.specs.Basics.{if_then_else_}
 use Rattle.basics.proofs.Facts.{by, AllOf}
 use Rattle.blocks.specs.Numbers.{num4}
+use Rattle.blocks.proofs.Spelled.{bytes-at, bytes-take, bytes-drop}
 use Rattle.blocks.specs.Tuple.{OwnerFits, AllBytes, Fits}
 use Rattle.model.specs.State.{Held}
 use Rattle.memory.specs.Bytes.{cut}
@@ -23,27 +24,12 @@ pub bytes-by : (m : List ℕ) → ((i : ℕ) → i < length m → getD m i 0 < 2
 bytes-by [] h = tt
 bytes-by (b ∷ bs) h = (h 0 (omega arith), bytes-by bs (λ i k. h (suc i) (omega arith)))
 
-byte-at : (m : List ℕ) → AllBytes m → (i : ℕ) → getD m i 0 < 256
-byte-at [] a i = omega arith
-byte-at (b ∷ bs) a zero = a .0
-byte-at (b ∷ bs) a (suc i) = byte-at bs (a .1) i
-
-bytes-take : (n : ℕ) (m : List ℕ) → AllBytes m → AllBytes (take n m)
-bytes-take zero m a = tt
-bytes-take (suc n) [] a = tt
-bytes-take (suc n) (b ∷ bs) a = (a .0, bytes-take n bs (a .1))
-
-bytes-drop : (n : ℕ) (m : List ℕ) → AllBytes m → AllBytes (drop n m)
-bytes-drop zero m a = a
-bytes-drop (suc n) [] a = tt
-bytes-drop (suc n) (b ∷ bs) a = bytes-drop n bs (a .1)
-
 bytes-cut : (a n : ℕ) (m : List ℕ) → AllBytes m → AllBytes (cut a n m)
 bytes-cut a n m h = bytes-take n (drop a m) (bytes-drop a m h)
 
 num4-small : (m : List ℕ) (a : ℕ) → AllBytes m → num4 m a < 4294967296
 unfolding num4
-num4-small m a h = omega (arith, byte-at m h a, byte-at m h (a + 1), byte-at m h (a + 2), byte-at m h (a + 3))
+num4-small m a h = omega (arith, bytes-at m h a, bytes-at m h (a + 1), bytes-at m h (a + 2), bytes-at m h (a + 3))
 
 -- ---- a tuple
 

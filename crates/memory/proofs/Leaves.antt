@@ -40,7 +40,7 @@ module _ (m : List ℕ) (r : Room m) (n f b : ℕ) (en : n ≡ countAt m 0) (ef 
         let sh : Shifted m m1 (b + i * 80) (b + n * 80) 80 = between (λ x y. Shifted m m1 x y 80) el eh sh' in
         let w = rows-moved m m1 (b + i * 80) (b + n * 80 - (b + i * 80) + 80) r l1 (sh .apart) (omega arith) (omega arith) in
         record {
-          others = w .1 .1;
+          others = w .1;
           around =
               ap (removeAt i) (rows-at m1 (firstAt m) b (countAt m 0 + 1) (n + 1) (w .0) eb (omega arith))
               ∙ cells-opened rowOf b 80 56 (omega arith) n sh (omega arith) ∙ sym rows-are;
@@ -52,7 +52,7 @@ module _ (m : List ℕ) (r : Room m) (n f b : ℕ) (en : n ≡ countAt m 0) (ef 
         let sh : Lowered m m1 (b + i * 80) (b + n * 80) 80 = between (λ x y. Lowered m m1 x y 80) el eh sh' in
         let w = rows-moved m m1 (b + i * 80) (b + n * 80 - (b + i * 80)) r l1 (sh .apart) (omega arith) (omega arith) in
         record {
-          others = w .1 .1;
+          others = w .1;
           around =
               rows-at m1 (firstAt m) b (countAt m 0 - 1) (n - 1) (w .0) eb (omega arith)
               ∙ cells-remove rowOf b 80 56 (omega arith) n sh (omega arith) ∙ ap (removeAt i) (sym rows-are);
@@ -64,10 +64,10 @@ module _ (m : List ℕ) (r : Room m) (n f b : ℕ) (en : n ≡ countAt m 0) (ef 
           → (firstAt m' ≡ g) × Becomes m m' (withRows (flatOf m) (rowsOf m'))
       both-moved a len g p h1 h2 o h3 =
           let w = rows-moved m m1 a len r l1 p h1 h2 in
-          let e : headAt m1 ≡ headAt m = ap (λ (x : Flat). x .head) (w .1 .1 .flat) in
+          let e : headAt m1 ≡ headAt m = ap (λ (x : Flat). x .head) (w .1 .flat) in
           let ec : headAt m1 .capacity ≡ headAt m .capacity = ap (λ (x : Head). x .capacity) e in
-          let v = first-become m1 m' g (w .1 .1 .room) l' o (omega (arith, ec, h3)) in
-          (v .0, becomes-then m m1 m' _ (λ (x : Flat). withRows x (rowsOf m')) (w .1 .1) (v .1))
+          let v = first-become m1 m' g (w .1 .room) l' o (omega (arith, ec, h3)) in
+          (v .0, becomes-then m m1 m' _ (λ (x : Flat). withRows x (rowsOf m')) (w .1) (v .1))
 
       -- g: the first that was set
       pub opened-front : {a hi : ℕ} (g : ℕ) → m' ≡ put 32 (bytes4 g) m1 → g + 1 ≡ f → i ≤ length (rowsOf m) → Lowered m m1 a hi 80 → a + 80 ≡ b → hi ≡ b + i * 80 → Opened m m' i
@@ -134,12 +134,13 @@ module _ (m : List ℕ) (r : Room m) (n : ℕ) where
         (ap (rowsAt m1 (firstAt m1)) en1 ∙ cl .around))
 
   module _ (en : n ≡ countAt m 1) (b : ℕ) (eb : b ≡ 1024 + headAt m .capacity * 100) where
-    pub entry-in : {m1 m2 m' : List ℕ} (i : ℕ) (e : Entry) → i ≤ length (entriesOf m) → length (entriesOf m) < headAt m .capacity → length m' ≡ length m
-        → Shifted m m1 (b + i * 8) (b + n * 8) 8 → Only entryOf b 8 6 m1 m2 i e → Only word 64 4 4 m2 m' 1 (n + 1)
+    pub entry-in : {m1 m2 m' : List ℕ} {c : ℕ} (i : ℕ) (e : Entry) → i ≤ length (entriesOf m) → length (entriesOf m) < headAt m .capacity → length m' ≡ length m
+        → Shifted m m1 (b + i * 8) (b + n * 8) 8 → Only entryOf b 8 6 m1 m2 i e → Only word 64 4 4 m2 m' 1 c → c ≡ n + 1
         → Becomes m m' (withEntries (flatOf m) (insertAt i e (entriesOf m)))
     unfolding entriesOf
-    entry-in {m1} {m2} {m'} i e h f l sh o q =
+    entry-in {m1} {m2} {m'} i e h f l sh o q' ec =
         let k = known m r in
+        let q : Only word 64 4 4 m2 m' 1 (n + 1) = subst (λ (z : ℕ). Only word 64 4 4 m2 m' 1 z) ec q' in
         entries-become m m2 m' (b + i * 8) (b + n * 8 - (b + i * 8) + 8) (n + 1) r l
         (apart-then (b + i * 8) (b + n * 8 - (b + i * 8) + 8) (sh .apart) (o .apart) (omega arith) (omega arith) (omega arith) (omega arith))
         (insertAt i e (entriesOf m)) (omega arith) (omega arith) (recount q) (omega arith)

@@ -13,6 +13,8 @@ use lib.Pow.{pow-pos, pow-lt, pow-add, shl-shr}
 use lib.Bits.{bitOr, or-step, or-shr}
 use borrow.Author.Tests.{eq-eqb, ne-eqb}
 use Rattle.basics.specs.Basics.{any, isIn}
+use Rattle.basics.proofs.Facts.{by}
+use Rattle.model.proofs.Lists.{in-append}
 use Rattle.memory.specs.Bytes.{cut, put, Apart}
 use Rattle.memory.specs.Views.{usedIn, usedAt}
 use Rattle.memory.specs.Flat.{usedAnd}
@@ -130,28 +132,21 @@ clear-apart a n m h =
 
 -- ---- lists of blocks
 
-eqb-swap : (a b : ℕ) → eqb a b ≡ eqb b a
+pub eqb-swap : (a b : ℕ) → eqb a b ≡ eqb b a
 eqb-swap a b = ⊎-elim (λ (e : a ≡ b). eq-eqb a b e ∙ sym (eq-eqb b a (sym e))) (λ (n : a ≡ b → ⊥). ne-eqb a b n ∙ sym (ne-eqb b a (λ e. n (sym e)))) (either a b)
 
-or-elim : (t u : Bool) → (elim t [ true ↦ true | false ↦ u ]) ≡ (t || u)
-or-elim true u = refl
-or-elim false u = refl
+or-comm : (a b : Bool) → (a || b) ≡ (b || a)
+or-comm true true = refl
+or-comm true false = refl
+or-comm false true = refl
+or-comm false false = refl
 
-or-swap : (a b c : Bool) → (a || (b || c)) ≡ (b || (a || c))
-or-swap true true c = refl
-or-swap true false c = refl
-or-swap false true c = refl
-or-swap false false c = refl
-
-in-cons : (b y : ℕ) (ys : List ℕ) → isIn b (y ∷ ys) ≡ (eqb y b || isIn b ys)
+in-one : (b x : ℕ) → isIn b (x ∷ []) ≡ eqb b x
 unfolding isIn any
-in-cons b y ys = or-elim (eqb b y) (any (eqb b) ys) ∙ ap (λ (t : Bool). t || any (eqb b) ys) (eqb-swap b y)
+in-one b x = by (eqb b x) (λ h. rw (h, any)) (λ h. rw (h, any))
 
 in-more : (b x : ℕ) (ys : List ℕ) → isIn b (ys ++ x ∷ []) ≡ (eqb x b || isIn b ys)
-in-more b x [] = in-cons b x []
-in-more b x (y ∷ ys) =
-    in-cons b y (ys ++ x ∷ []) ∙ ap (λ (t : Bool). eqb y b || t) (in-more b x ys) ∙ or-swap (eqb y b) (eqb x b) (isIn b ys)
-    ∙ ap (λ (t : Bool). eqb x b || t) (sym (in-cons b y ys))
+in-more b x ys = in-append b ys (x ∷ []) ∙ or-comm (isIn b ys) (isIn b (x ∷ [])) ∙ ap (λ (t : Bool). t || isIn b ys) (in-one b x ∙ eqb-swap b x)
 
 -- blocks marked one after the other are those of a list
 pub mark-more : (x : ℕ) (ys : List ℕ) → usedAnd x (λ b. isIn b ys) ≡ (λ b. isIn b (ys ++ x ∷ []))

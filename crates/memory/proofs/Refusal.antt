@@ -1,6 +1,6 @@
 -- The tests that decide whether the memory holds a store, and what they mean.
-use mathlib.Core.Path.{_≡_, refl, sym, ap, _∙_}
-use mathlib.Core.Bool.{Bool, true, false, _&&_}
+use mathlib.Core.Path.{_≡_, sym, ap, _∙_}
+use mathlib.Core.Bool.{Bool, true, false}
 use Prim.Native.Nat.{ℕ, _/_, _≤_, _<_}
 use native.Mathlib.Omega.{arith}
 use mathlib.Core.List.{List, [], _∷_}
@@ -9,6 +9,7 @@ use borrow.Author.Tests.{le-leb, leb-true, lt-ltb, ltb-true, eq-eqb, eqb-true, l
 use Rattle.basics.specs.Basics.{every}
 use Rattle.basics.proofs.Facts.{and-true}
 use Rattle.blocks.specs.Numbers.{num4}
+use Rattle.rows.proofs.Ands.{and-yes}
 use Rattle.model.specs.Recover.{memoryFor}
 use Rattle.memory.specs.Views.{headAt, firstAt, entriesAt}
 use Rattle.memory.specs.Flat.{flatOf, entriesOf, rowsOf, countsOf, signature, InRange, Room}
@@ -18,14 +19,6 @@ use Rattle.memory.specs.declared.Counts.{Counts}
 use Rattle.memory.proofs.Changes.{pages-count}
 
 -- ---- lists of tests
-
-pub and-one : (b : Bool) → (b && true) ≡ b
-and-one true = refl
-and-one false = refl
-
-pub and-right : (a b c : Bool) → ((a && b) && c) ≡ (a && (b && c))
-and-right true b c = refl
-and-right false b c = refl
 
 pub every-true : (b : Bool) (bs : List Bool) → every (b ∷ bs) ≡ true → (b ≡ true) × (every bs ≡ true)
 unfolding every
@@ -41,7 +34,7 @@ every-stop b bs e = rw e
 
 pub every-one : (b : Bool) → every (b ∷ []) ≡ b
 unfolding every
-every-one b = and-one b
+every-one b = and-yes b
 
 -- ---- the head's numbers
 

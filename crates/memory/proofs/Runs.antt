@@ -9,8 +9,8 @@ use mathlib.Core.List.{List, [], _∷_, _++_, map}
 use lib.ListN.{length, take, drop, getD, length-map, length-append, length-drop, drop-of-length-le}
 use lib.Seq.{take-suc, take-all, length-take-le}
 use Rattle.basics.specs.Basics.{sum}
-use Rattle.blocks.specs.Tuple.{Tuple}
 use Rattle.rows.specs.Rows.{rowsOf}
+use Rattle.image.proofs.Collect.{length-rows}
 use Rattle.model.specs.State.{Held}
 use Rattle.model.specs.Rules.{heldSize}
 use Rattle.model.specs.Sight.{held}
@@ -123,11 +123,6 @@ pub page-size : (f : Flat) (p : ℕ) → sum heldSize (pageIn f p .tuples) ≡ s
 unfolding pageIn pageOf
 page-size f p = refl
 
-length-rowsOf : (t : ℕ) (xs : List Tuple) → length (rowsOf t xs) ≡ length xs
-unfolding rowsOf
-length-rowsOf t [] = refl
-length-rowsOf t (x ∷ xs) = ap suc (length-rowsOf t xs)
-
 held-nest : (es : List Entry) (ts : List Held) → length ts ≡ total es → length (held (nest es ts)) ≡ total es
 unfolding nest held total sum pageOf
 held-nest [] ts h = refl
@@ -135,7 +130,7 @@ held-nest (e ∷ es) ts h =
     let xs : List Held = take (e .count) ts in
     let l : length xs ≡ e .count = length-take-le (e .count) ts (omega arith) in
     let a : length (rowsOf (pageOf e xs .table) (map (λ (h : Held). h .tuple) xs)) ≡ e .count =
-    length-rowsOf _ (map (λ (h : Held). h .tuple) xs) ∙ length-map xs (λ (h : Held). h .tuple) ∙ l in
+    length-rows _ (map (λ (h : Held). h .tuple) xs) ∙ length-map xs (λ (h : Held). h .tuple) ∙ l in
     let b : length (held (nest es (drop (e .count) ts))) ≡ total es = held-nest es (drop (e .count) ts) (simp length-drop (omega arith)) in
     length-append (rowsOf (pageOf e xs .table) (map (λ (h : Held). h .tuple) xs)) (held (nest es (drop (e .count) ts))) ∙ omega arith
 

@@ -1,5 +1,6 @@
 // The working memory: a head of 1,024 bytes, then rows, page entries and directory entries, whose places go by the capacity.
-// docs/LAYOUT.md says what stands where. Above this crate no one sees a byte: each function that changes the memory promises one
+// docs/LAYOUT.md says what stands where. The rows begin anywhere in an area a quarter larger than they need, so that an insert or a
+// remove moves the shorter side of them. Above this crate no one sees a byte: each function that changes the memory promises one
 // equation on the flat lists that it holds.
 ghost use mathlib.Core.Path.{_≡_};
 ghost use mathlib.Core.Bool.{false};

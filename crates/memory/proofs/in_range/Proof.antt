@@ -1,4 +1,4 @@
-use Rattle.memory.proofs.Refusal.{and-one, and-right}
+use Rattle.rows.proofs.Ands.{and-yes, and-assoc}
 use Rattle.memory.specs.Store.{inRange}
 use Rattle.model.specs.Recover.{memoryFor}
 use Rattle.basics.specs.Basics.{every}
@@ -17,7 +17,7 @@ add-need c = search needs
 
 returns : tie.Need-returns
 unfolding inRange every memoryFor
-returns c = simp (and-right, and-one)
+returns c = simp (and-assoc, and-yes)
 
 pub in-range-spec : {M : Type 1} → statement M
 in-range-spec = tie.close (tie.spec cast-need mul-need add-need returns)

@@ -62,7 +62,7 @@ returns c = let st = c .before .before .before .before .before .before .before .
     let eb : 1024 + n * 100 ≡ 1024 + headAt (st .args .m .now) .capacity * 100 = ap (λ (z : ℕ). 1024 + z * 100) (c .before .before .before .before .before .before .before .before .before .before .before .before .before .before .capacity-of .ensures) in
     let l = c .before .before .put-count .kept .0 ∙ c .before .before .before .before .before .before .store-entry .kept .0 ∙ c .before .before .before .before .before .before .before .before .before .before .shift-up .kept .0 in
     entry-in (st .args .m .now) (st .pre .0) (c .before .before .before .before .before .before .before .before .before .before .before .before .count-at .result) (c .before .before .before .before .before .before .before .before .before .before .before .before .count-at .ensures) (1024 + n * 100) eb (st .args .p) (st .args .e) (st .pre .1 .0) (st .pre .1 .1) l
-    (c .before .before .before .before .before .before .before .before .before .before .shift-up .ensures) (c .before .before .before .before .before .before .store-entry .ensures) (c .before .before .put-count .ensures)
+    (c .before .before .before .before .before .before .before .before .before .before .shift-up .ensures) (c .before .before .before .before .before .before .store-entry .ensures) (c .before .before .put-count .ensures) (omega arith)
 
 pub insert-entry-spec : {M : Type 1} → statement M
 insert-entry-spec =
