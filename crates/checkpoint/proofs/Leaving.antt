@@ -18,7 +18,7 @@ use Rattle.model.specs.Transactions.{changed}
 use Rattle.model.specs.Checkpoint.{stored, isRunning, usedToo, fill}
 use Rattle.model.proofs.Lists.{any-cons}
 use Rattle.memory.specs.Flat.{Flat, flatOf, usedAnd, Room, Becomes, withHead, withNamed, withDirectories, withUsed}
-use Rattle.memory.specs.Store.{pagesIn, startOf, pageIn, blocksOf, checkpointOf, filled, holdsStore, storeOf}
+use Rattle.memory.specs.Store.{pagesIn, startOf, pageIn, blocksOf, checkpointOf, filled, storeOf}
 use Rattle.memory.specs.declared.Head.{Head}
 use Rattle.memory.proofs.Refusal.{held-filled, room-held}
 use Rattle.memory.proofs.Meaning.{in-next, becomes-then}
