@@ -1,20 +1,19 @@
--- The pass over the page entries: a run of them is passed, and what is left is to be filled by the others.
+-- The pass over the page entries, a run of them at a time.
 use mathlib.Core.Path.{_≡_, refl, sym, ap, _∙_}
 use mathlib.Core.Bool.{Bool, true, false, _&&_, _||_}
-use Prim.Native.Nat.{ℕ, _+_, _-_, _≤_, _<_}
+use Prim.Native.Nat.{ℕ, _+_, _-_, _≤_}
 use native.Mathlib.Omega.{arith}
 use mathlib.Core.List.{List, [], _∷_, _++_}
 use lib.ListN.{length}
-use lib.Dec.{leb, ltb, eqb}
-use borrow.Author.Tests.{leb-false, ltb-true, ltb-false, eqb-true, eqb-false, eq-eqb, ne-eqb}
+use lib.Dec.{leb, eqb}
+use borrow.Author.Tests.{leb-false, eqb-false, ne-eqb}
 use Rattle.basics.specs.Basics.{if_then_else_, every, all, sum}
 use Rattle.basics.proofs.Facts.{by, lie}
-use Rattle.rows.proofs.Ands.{and-yes, and-no, and-assoc}
+use Rattle.rows.proofs.Ands.{and-yes, and-assoc}
 use Rattle.memory.specs.Views.{tab}
-use Rattle.memory.specs.Store.{total, hasRows, filledBy, fillsRows}
+use Rattle.memory.specs.Store.{total, hasRows, filledBy, fillsAfter, fillsRows}
 use Rattle.memory.specs.declared.Entry.{Entry}
 use Rattle.memory.proofs.Laws.{tab-add}
-use Rattle.memory.proofs.Marks.{eqb-swap}
 use Rattle.memory.proofs.Nest.{Counted, all-counted, counted-all, counted-length, total-append}
 
 -- ---- tests
@@ -26,12 +25,6 @@ or-false false b h = (refl, h)
 or-right : (a b : Bool) → a ≡ false → (a || b) ≡ true → b ≡ true
 or-right true b e h = lie (sym e)
 or-right false b e h = h
-
-eqb-less : (k t n : ℕ) → k ≤ n → eqb (k + t) n ≡ eqb t (n - k)
-eqb-less k t n h =
-    by (eqb t (n - k))
-    (λ e. let z : t ≡ n - k = eqb-true t (n - k) e in eq-eqb (k + t) n (omega arith) ∙ sym e)
-    (λ e. let z : t ≡ n - k → ⊥ = eqb-false t (n - k) e in ne-eqb (k + t) n (λ (y : k + t ≡ n). z (omega arith)) ∙ sym e)
 
 -- ---- a run of entries
 
@@ -48,42 +41,36 @@ filled-none : (es : List Entry) → all hasRows es ≡ false → filledBy es ≡
 unfolding filledBy if_then_else_
 filled-none es h = rw h
 
-pub enough-left : (n k : ℕ) → (eqb k 0 || ltb n k) ≡ false → k ≤ n
-enough-left n k h = ltb-false n k (or-false (eqb k 0) (ltb n k) h .1)
-
--- k: how many rows the run es has
-module _ (es fs : List Entry) (n k : ℕ) (ek : k ≡ filledBy es) where
-  pub pass-on : (eqb k 0 || ltb n k) ≡ false → fillsRows (es ++ fs) n ≡ fillsRows fs (n - k)
-  unfolding fillsRows every
-  pass-on h =
-      let t = or-false (eqb k 0) (ltb n k) h in
-      let le : k ≤ n = enough-left n k h in
-      by (all hasRows es)
-      (λ a.
-      let e : total es ≡ k = sym (ek ∙ filled-all es a) in
-      ap (λ (z : Bool). z && (eqb (total (es ++ fs)) n && true)) (all-append es fs ∙ ap (λ (z : Bool). z && all hasRows fs) a)
-      ∙ ap (λ (z : ℕ). all hasRows fs && (eqb z n && true)) (total-append es fs ∙ ap (λ (z : ℕ). z + total fs) e)
-      ∙ ap (λ (z : Bool). all hasRows fs && (z && true)) (eqb-less k (total fs) n le))
-      (λ a. absurd (eqb-false k 0 (t .0) (ek ∙ filled-none es a)))
-
-  pub pass-stop : 1 ≤ length es → (eqb k 0 || ltb n k) ≡ true → false ≡ fillsRows (es ++ fs) n
-  unfolding fillsRows every
-  pass-stop l h =
+-- k: how many rows the run es has; s: how many those passed have
+module _ (es fs : List Entry) (s n k : ℕ) (ek : k ≡ filledBy es) where
+  pub pass-on : (k ≡ 0 → ⊥) → fillsAfter s (es ++ fs) n ≡ fillsAfter (s + k) fs n
+  unfolding fillsAfter every
+  pass-on ne =
       by (all hasRows es)
       (λ a.
       let e : k ≡ total es = ek ∙ filled-all es a in
-      let p : 1 ≤ k = omega (arith, counted-length es (all-counted es a)) in
-      let lt : n < k = ltb-true n k (or-right _ _ (ne-eqb k 0 (λ (z : k ≡ 0). omega arith)) h) in
-      let z : eqb (total (es ++ fs)) n ≡ false = ne-eqb (total (es ++ fs)) n (λ (y : total (es ++ fs) ≡ n). omega (arith, total-append es fs)) in
-      sym (ap (λ (b : Bool). all hasRows (es ++ fs) && (b && true)) z ∙ and-no (all hasRows (es ++ fs))))
-      (λ a. sym (ap (λ (z : Bool). z && (eqb (total (es ++ fs)) n && true)) (all-append es fs ∙ ap (λ (z : Bool). z && all hasRows fs) a)))
+      let t : s + total (es ++ fs) ≡ s + k + total fs = omega (arith, total-append es fs) in
+      ap (λ (z : Bool). z && (eqb (s + total (es ++ fs)) n && true)) (all-append es fs ∙ ap (λ (z : Bool). z && all hasRows fs) a)
+      ∙ ap (λ (z : ℕ). all hasRows fs && (eqb z n && true)) t)
+      (λ a. absurd (ne (ek ∙ filled-none es a)))
 
--- nothing is left of either
-pub pass-end : (f : ℕ → Entry) (i c n : ℕ) → c ≤ i → eqb n 0 ≡ fillsRows (tab f i (c - i)) n
-unfolding fillsRows every all total sum
-pass-end f i c n h =
+  pub pass-stop : 1 ≤ length es → k ≡ 0 → false ≡ fillsAfter s (es ++ fs) n
+  unfolding fillsAfter every
+  pass-stop l z =
+      by (all hasRows es)
+      (λ a. absurd (omega (arith, ek, filled-all es a, counted-length es (all-counted es a))))
+      (λ a. sym (ap (λ (z : Bool). z && (eqb (s + total (es ++ fs)) n && true)) (all-append es fs ∙ ap (λ (z : Bool). z && all hasRows fs) a)))
+
+pub pass-start : (es : List Entry) (n : ℕ) → fillsRows es n ≡ fillsAfter 0 es n
+unfolding fillsRows fillsAfter every
+pass-start es n = let e : total es ≡ 0 + total es = omega arith in ap (λ (z : ℕ). all hasRows es && (eqb z n && true)) e
+
+pub pass-end : (f : ℕ → Entry) (i c s n : ℕ) → c ≤ i → eqb s n ≡ fillsAfter s (tab f i (c - i)) n
+unfolding fillsAfter every all total sum
+pass-end f i c s n h =
     let e : c - i ≡ 0 = omega arith in
-    eqb-swap n 0 ∙ sym (ap (λ (k : ℕ). fillsRows (tab f i k) n) e ∙ and-yes (eqb 0 n))
+    let z : s + 0 ≡ s = omega arith in
+    sym (ap (λ (k : ℕ). fillsAfter s (tab f i k) n) e ∙ and-yes (eqb (s + 0) n) ∙ ap (λ (k : ℕ). eqb k n) z)
 
 -- the next w of the entries from i to c
 pub next-run : (f : ℕ → Entry) (i w c : ℕ) → i + w ≤ c → tab f i (c - i) ≡ tab f i w ++ tab f (i + w) (c - (i + w))

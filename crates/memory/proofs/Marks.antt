@@ -132,7 +132,7 @@ clear-apart a n m h =
 
 -- ---- lists of blocks
 
-pub eqb-swap : (a b : ℕ) → eqb a b ≡ eqb b a
+eqb-swap : (a b : ℕ) → eqb a b ≡ eqb b a
 eqb-swap a b = ⊎-elim (λ (e : a ≡ b). eq-eqb a b e ∙ sym (eq-eqb b a (sym e))) (λ (n : a ≡ b → ⊥). ne-eqb a b n ∙ sym (ne-eqb b a (λ e. n (sym e)))) (either a b)
 
 or-comm : (a b : Bool) → (a || b) ≡ (b || a)

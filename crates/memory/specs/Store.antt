@@ -135,6 +135,10 @@ hasRows e = leb 1 (e .count)
 unfoldable pub filledBy : List Entry → ℕ
 filledBy es = if all hasRows es then total es else 0
 
+-- each page has a row, and together, after s others, they have n
+unfoldable pub fillsAfter : ℕ → List Entry → ℕ → Bool
+fillsAfter s es n = every (all hasRows es ∷ eqb (s + total es) n ∷ [])
+
 -- each page has a row, and together they have n
 unfoldable pub fillsRows : List Entry → ℕ → Bool
 fillsRows es n = every (all hasRows es ∷ eqb (total es) n ∷ [])

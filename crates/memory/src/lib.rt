@@ -17,7 +17,7 @@ ghost use Rattle.model.specs.Recover.{freshStore};
 ghost use Rattle.memory.specs.Bytes.{num2, bytes4, bytes2, cut, put, Shifted, Lowered};
 ghost use Rattle.memory.specs.Views.{rowOf, entryOf, word, numbersOf, entryBytes, firstAt, countAt, entriesAt, entriesFrom, pushed, Only};
 ghost use Rattle.memory.specs.Flat.{flatOf, countsOf, rowIn, entryIn, Room, Replaces, Becomes, withHead, withOpens, withRows, withEntries, withNamed, withDirectories, withUsed, insertAt, removeAt, usedAnd, Opened, Closed};
-ghost use Rattle.memory.specs.Store.{pendingOf, heldOf, tupleBy, inRange, filledBy, fillsRows, holdsStore, heldIn, Holds, Copied, FreshFits, freshFlat, storeIn};
+ghost use Rattle.memory.specs.Store.{pendingOf, heldOf, tupleBy, inRange, filledBy, fillsAfter, fillsRows, holdsStore, heldIn, Holds, Copied, FreshFits, freshFlat, storeIn};
 
 // A tuple with its pending operation. flags: bit 0 tentative, bit 1 delete mark, bits 2 and 3 pending (0 nothing, 1 adding,
 // 2 committing, 3 removing). owner: the transaction above 20 bits of statement.
@@ -780,7 +780,7 @@ fn in_range(size: usize, h: Head, n: Counts) -> bool
 // How many rows four page entries from i on have, 0 if one has none. One branch for the four, since nearly all have rows.
 fn four_filled(m: &[u8], n: usize, i: usize) -> u32
     requires { ⌜ (n ≤ 1024) × ((i + 4 ≤ n) × (1024 + n * 108 ≤ length (now m))) ⌝ }
-    ensures { λ r. ⌜ r ≡ filledBy (entriesFrom (now (m .entry)) n i 4) ⌝ }
+    ensures { λ r. ⌜ (r ≡ filledBy (entriesFrom (now (m .entry)) n i 4)) × (r ≤ 262140) ⌝ }
 {
     let a = 1024 + n * 100 + 2 + i * 8;
     let p = get2(m, a) as u32;
@@ -793,23 +793,23 @@ fn four_filled(m: &[u8], n: usize, i: usize) -> u32
     p + q + r + s
 }
 
-// Each of the page entries from i up to, not including, c has a row, and together they have as many as `rows`.
-fn rest_fill(m: &[u8], n: usize, i: usize, c: usize, rows: u32) -> bool
-    requires { ⌜ (n ≤ 1024) × ((i ≤ c) × ((c ≤ n) × (1024 + n * 108 ≤ length (now m)))) ⌝ }
-    ensures { λ r. ⌜ r ≡ fillsRows (entriesFrom (now (m .entry)) n i (c - i)) rows ⌝ }
+// Each of the page entries from i up to, not including, c has a row, and with `before` they have as many as `rows`.
+fn rest_fill(m: &[u8], n: usize, i: usize, c: usize, before: u32, rows: u32) -> bool
+    requires { ⌜ (n ≤ 1024) × ((i ≤ c) × ((c ≤ n) × ((1024 + n * 108 ≤ length (now m)) × (before ≤ 65535 * i)))) ⌝ }
+    ensures { λ r. ⌜ r ≡ fillsAfter before (entriesFrom (now (m .entry)) n i (c - i)) rows ⌝ }
 {
     let base = 1024 + n * 100 + 2;
-    let mut left = rows;
+    let mut sum = before;
     let mut j = i;
     while j < c {
         let k = get2(m, base + j * 8) as u32;
-        if (k == 0) | (left < k) {
+        if k == 0 {
             return false;
         }
-        left -= k;
+        sum += k;
         j += 1;
     }
-    left == 0
+    sum == rows
 }
 
 // Each of the c page entries behind room for n rows has a row, and together they have as many as `rows`.
@@ -817,17 +817,17 @@ fn entries_fill(m: &[u8], n: usize, c: usize, rows: u32) -> bool
     requires { ⌜ (n ≤ 1024) × ((c ≤ n) × (1024 + n * 108 ≤ length (now m))) ⌝ }
     ensures { λ r. ⌜ r ≡ fillsRows (entriesAt (now (m .entry)) n c) rows ⌝ }
 {
-    let mut left = rows;
+    let mut sum: u32 = 0;
     let mut i = 0;
     while i + 4 <= c {
         let k = four_filled(m, n, i);
-        if (k == 0) | (left < k) {
+        if k == 0 {
             return false;
         }
-        left -= k;
+        sum += k;
         i += 4;
     }
-    rest_fill(m, n, i, c, left)
+    rest_fill(m, n, i, c, sum, rows)
 }
 
 // The head, and one pass over the page entries.

@@ -1,7 +1,7 @@
-use Rattle.memory.proofs.Filling.{enough-left, pass-on, pass-stop, next-run}
+use Rattle.memory.proofs.Filling.{pass-start, pass-on, pass-stop, next-run}
 use Rattle.memory.specs.declared.Entry.{Entry}
-use Rattle.memory.specs.Store.{fillsRows}
-use Rattle.memory.specs.Views.{cell, tab, entryOf, entriesFrom}
+use Rattle.memory.specs.Store.{fillsAfter, fillsRows}
+use Rattle.memory.specs.Views.{cell, tab, entryOf, entriesAt, entriesFrom}
 use mathlib.Core.List.{List}
 use native.Mathlib.Omega.{arith}
 use Prim.Native.Nat.{ℕ, _+_, _*_, _-_, _≤_}
@@ -10,15 +10,23 @@ use Rattle.memory.proofs.entries_fill.Statement.{statement}
 use Rattle.memory.proofs.entries_fill.Tie as tie
 
 abbrev Inv-loop : tie.InvT-loop
-Inv-loop m n c rows left₀ i₀ left i = (i ≤ c) × (fillsRows (entriesFrom m n 0 c) rows ≡ fillsRows (entriesFrom m n i (c - i)) left)
+Inv-loop m n c rows sum₀ i₀ sum i =
+    (i ≤ c) × ((sum ≤ 65535 * i) × (fillsRows (entriesAt m n c) rows ≡ fillsAfter sum (entriesFrom m n i (c - i)) rows))
 
 abbrev μ-loop : tie.MeasureT-loop
-μ-loop m n c rows left₀ i₀ left i = c - i
+μ-loop m n c rows sum₀ i₀ sum i = c - i
 
 loop-holds : tie.Need-loop-holds Inv-loop μ-loop
 loop-holds c = let st = c .before in
-    let e : st .args .c ≡ st .args .c - 0 = omega arith in
-    (omega arith, ap (λ (k : ℕ). fillsRows (entriesFrom (st .args .m .now) (st .args .n) 0 k) (st .args .rows)) e)
+    let m : List ℕ = st .args .m .now in
+    let e : st .args .c ≡ st .args .c - 0 = omega arith in (
+      omega arith,
+      (
+        omega arith,
+        pass-start (entriesAt m (st .args .n) (st .args .c)) (st .args .rows)
+            ∙ ap (λ (k : ℕ). fillsAfter 0 (entriesAt m (st .args .n) k) (st .args .rows)) e,
+      ),
+    )
 
 add-loop : tie.Need-add-loop Inv-loop μ-loop
 add-loop c = omega arith
@@ -33,11 +41,11 @@ returns c = let g = c .before in
     let f : ℕ → Entry = cell entryOf (1024 + st .args .n * 100) 8 6 (st .args .m .now) in
     let end : ℕ = st .args .c in
     let i : ℕ = l .loop .i in
-    let run = ap (λ (es : List Entry). fillsRows es (l .loop .left)) (next-run f i 4 end (omega (arith, g .before .loop-test .taken))) in
-    pass-stop (tab f i 4) (tab f (i + 4) (end - (i + 4))) (l .loop .left) (g .four-filled .result) (g .four-filled .ensures) (omega arith) (c .if1 .taken) ∙ sym (l .loop .inv .1 ∙ run)
+    let run = ap (λ (es : List Entry). fillsAfter (l .loop .sum) es (st .args .rows)) (next-run f i 4 end (omega (arith, g .before .loop-test .taken))) in
+    pass-stop (tab f i 4) (tab f (i + 4) (end - (i + 4))) (l .loop .sum) (st .args .rows) (g .four-filled .result) (g .four-filled .ensures .0) (omega arith) (c .if1 .taken) ∙ sym (l .loop .inv .1 .1 ∙ run)
 
-sub-left : tie.Need-sub-left Inv-loop μ-loop
-sub-left c = enough-left _ _ (c .if1 .left)
+add-sum : tie.Need-add-sum Inv-loop μ-loop
+add-sum c = omega arith
 
 add-i : tie.Need-add-i Inv-loop μ-loop
 add-i c = omega arith
@@ -52,14 +60,14 @@ loop-again c = let g = c .before in
     let f : ℕ → Entry = cell entryOf (1024 + st .args .n * 100) 8 6 (st .args .m .now) in
     let end : ℕ = st .args .c in
     let i : ℕ = l .loop .i in
-    let run = ap (λ (es : List Entry). fillsRows es (l .loop .left)) (next-run f i 4 end (omega (arith, g .before .loop-test .taken))) in
-    (omega arith, l .loop .inv .1 ∙ run ∙ pass-on (tab f i 4) (tab f (i + 4) (end - (i + 4))) (l .loop .left) (g .four-filled .result) (g .four-filled .ensures) (c .if1 .left))
+    let run = ap (λ (es : List Entry). fillsAfter (l .loop .sum) es (st .args .rows)) (next-run f i 4 end (omega (arith, g .before .loop-test .taken))) in
+    (omega arith, (omega arith, l .loop .inv .1 .1 ∙ run ∙ pass-on (tab f i 4) (tab f (i + 4) (end - (i + 4))) (l .loop .sum) (st .args .rows) (g .four-filled .result) (g .four-filled .ensures .0) (c .if1 .left)))
 
 rest-fill-requires : tie.Need-rest-fill-requires Inv-loop μ-loop
 rest-fill-requires c κs = omega arith
 
 returns-2 : tie.Need-returns-2 Inv-loop μ-loop
-returns-2 c = c .rest-fill .ensures ∙ sym (c .before .before .loop .inv .1)
+returns-2 c = c .rest-fill .ensures ∙ sym (c .before .before .loop .inv .1 .1)
 
 pub entries-fill-spec : {M : Type 1} → statement M
 entries-fill-spec =
@@ -71,7 +79,7 @@ entries-fill-spec =
     add-loop
     four-filled-requires
     returns
-    sub-left
+    add-sum
     add-i
     loop-less
     loop-again

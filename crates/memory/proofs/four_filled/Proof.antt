@@ -64,13 +64,15 @@ returns c = let st = c .before .before .before .before .before .before in
     let n : ℕ = st .args .n in
     let i : ℕ = st .args .i in
     let a : ℕ = 1024 + n * 100 + 2 + i * 8 in
-    let f : ℕ → Entry = cell entryOf (1024 + n * 100) 8 6 m in
-    four-none (f i) (f (suc i)) (f (suc (suc i))) (f (suc (suc (suc i)))) _ _ _ _
-    (c .before .before .before .before .get2 .ensures ∙ count-is m n i a refl)
-    (c .before .before .before .get22 .ensures ∙ count-is m n (suc i) (a + 8) (omega arith))
-    (c .before .before .get23 .ensures ∙ count-is m n (suc (suc i)) (a + 16) (omega arith))
-    (c .before .get24 .ensures ∙ count-is m n (suc (suc (suc i))) (a + 24) (omega arith))
-    (c .if1 .taken)
+    let f : ℕ → Entry = cell entryOf (1024 + n * 100) 8 6 m in (
+      four-none (f i) (f (suc i)) (f (suc (suc i))) (f (suc (suc (suc i)))) _ _ _ _
+          (c .before .before .before .before .get2 .ensures ∙ count-is m n i a refl)
+          (c .before .before .before .get22 .ensures ∙ count-is m n (suc i) (a + 8) (omega arith))
+          (c .before .before .get23 .ensures ∙ count-is m n (suc (suc i)) (a + 16) (omega arith))
+          (c .before .get24 .ensures ∙ count-is m n (suc (suc (suc i))) (a + 24) (omega arith))
+          (c .if1 .taken),
+      omega arith,
+    )
 
 add-result : tie.Need-add-result
 add-result c = search needs
@@ -87,13 +89,15 @@ returns-2 c = let st = c .before .before .before .before .before .before in
     let n : ℕ = st .args .n in
     let i : ℕ = st .args .i in
     let a : ℕ = 1024 + n * 100 + 2 + i * 8 in
-    let f : ℕ → Entry = cell entryOf (1024 + n * 100) 8 6 m in
-    four-some (f i) (f (suc i)) (f (suc (suc i))) (f (suc (suc (suc i)))) _ _ _ _
-    (c .before .before .before .before .get2 .ensures ∙ count-is m n i a refl)
-    (c .before .before .before .get22 .ensures ∙ count-is m n (suc i) (a + 8) (omega arith))
-    (c .before .before .get23 .ensures ∙ count-is m n (suc (suc i)) (a + 16) (omega arith))
-    (c .before .get24 .ensures ∙ count-is m n (suc (suc (suc i))) (a + 24) (omega arith))
-    (c .if1 .left)
+    let f : ℕ → Entry = cell entryOf (1024 + n * 100) 8 6 m in (
+      four-some (f i) (f (suc i)) (f (suc (suc i))) (f (suc (suc (suc i)))) _ _ _ _
+          (c .before .before .before .before .get2 .ensures ∙ count-is m n i a refl)
+          (c .before .before .before .get22 .ensures ∙ count-is m n (suc i) (a + 8) (omega arith))
+          (c .before .before .get23 .ensures ∙ count-is m n (suc (suc i)) (a + 16) (omega arith))
+          (c .before .get24 .ensures ∙ count-is m n (suc (suc (suc i))) (a + 24) (omega arith))
+          (c .if1 .left),
+      omega arith,
+    )
 
 pub four-filled-spec : {M : Type 1} → statement M
 four-filled-spec =

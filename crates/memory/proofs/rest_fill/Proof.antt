@@ -1,7 +1,7 @@
 use Rattle.memory.proofs.Access.{count-is}
-use Rattle.memory.proofs.Filling.{enough-left, pass-on, pass-stop, pass-end, next-run, one-filled}
+use Rattle.memory.proofs.Filling.{pass-on, pass-stop, pass-end, next-run, one-filled}
 use Rattle.memory.specs.declared.Entry.{Entry}
-use Rattle.memory.specs.Store.{filledBy, fillsRows}
+use Rattle.memory.specs.Store.{filledBy, fillsAfter}
 use Rattle.memory.specs.Views.{cell, tab, entryOf, entriesFrom}
 use borrow.Author.Needs.{needs}
 use mathlib.Core.List.{List, [], _∷_}
@@ -12,10 +12,11 @@ use Rattle.memory.proofs.rest_fill.Statement.{statement}
 use Rattle.memory.proofs.rest_fill.Tie as tie
 
 abbrev Inv-loop : tie.InvT-loop
-Inv-loop m n i c rows base left₀ j₀ left j = (j ≤ c) × (fillsRows (entriesFrom m n i (c - i)) rows ≡ fillsRows (entriesFrom m n j (c - j)) left)
+Inv-loop m n i c before rows base sum₀ j₀ sum j =
+    (j ≤ c) × ((sum ≤ 65535 * j) × (fillsAfter before (entriesFrom m n i (c - i)) rows ≡ fillsAfter sum (entriesFrom m n j (c - j)) rows))
 
 abbrev μ-loop : tie.MeasureT-loop
-μ-loop m n i c rows base left₀ j₀ left j = c - j
+μ-loop m n i c before rows base sum₀ j₀ sum j = c - j
 
 mul-base : tie.Need-mul-base Inv-loop μ-loop
 mul-base c = omega arith
@@ -27,7 +28,7 @@ add-base-2 : tie.Need-add-base-2 Inv-loop μ-loop
 add-base-2 c = omega arith
 
 loop-holds : tie.Need-loop-holds Inv-loop μ-loop
-loop-holds c = (omega arith, refl)
+loop-holds c = (omega arith, (omega arith, refl))
 
 mul-get2 : tie.Need-mul-get2 Inv-loop μ-loop
 mul-get2 c = omega arith
@@ -49,11 +50,11 @@ returns c = let g = c .before in
     let end : ℕ = st .args .c in
     let j : ℕ = l .loop .j in
     let e : g .get2 .result ≡ filledBy (f j ∷ []) = g .get2 .ensures ∙ count-is (st .args .m .now) (st .args .n) j _ refl ∙ one-filled (f j) in
-    let run = ap (λ (es : List Entry). fillsRows es (l .loop .left)) (next-run f j 1 end (omega (arith, g .before .loop-test .taken))) in
-    pass-stop (f j ∷ []) (tab f (j + 1) (end - (j + 1))) (l .loop .left) (g .get2 .result) e (omega arith) (c .if1 .taken) ∙ sym (l .loop .inv .1 ∙ run)
+    let run = ap (λ (es : List Entry). fillsAfter (l .loop .sum) es (st .args .rows)) (next-run f j 1 end (omega (arith, g .before .loop-test .taken))) in
+    pass-stop (f j ∷ []) (tab f (j + 1) (end - (j + 1))) (l .loop .sum) (st .args .rows) (g .get2 .result) e (omega arith) (c .if1 .taken) ∙ sym (l .loop .inv .1 .1 ∙ run)
 
-sub-left : tie.Need-sub-left Inv-loop μ-loop
-sub-left c = enough-left _ _ (c .if1 .left)
+add-sum : tie.Need-add-sum Inv-loop μ-loop
+add-sum c = omega arith
 
 add-j : tie.Need-add-j Inv-loop μ-loop
 add-j c = omega arith
@@ -69,13 +70,14 @@ loop-again c = let g = c .before in
     let end : ℕ = st .args .c in
     let j : ℕ = l .loop .j in
     let e : g .get2 .result ≡ filledBy (f j ∷ []) = g .get2 .ensures ∙ count-is (st .args .m .now) (st .args .n) j _ refl ∙ one-filled (f j) in
-    let run = ap (λ (es : List Entry). fillsRows es (l .loop .left)) (next-run f j 1 end (omega (arith, g .before .loop-test .taken))) in
-    (omega arith, l .loop .inv .1 ∙ run ∙ pass-on (f j ∷ []) (tab f (j + 1) (end - (j + 1))) (l .loop .left) (g .get2 .result) e (c .if1 .left))
+    let run = ap (λ (es : List Entry). fillsAfter (l .loop .sum) es (st .args .rows)) (next-run f j 1 end (omega (arith, g .before .loop-test .taken))) in
+    (omega arith, (omega arith, l .loop .inv .1 .1 ∙ run ∙ pass-on (f j ∷ []) (tab f (j + 1) (end - (j + 1))) (l .loop .sum) (st .args .rows) (g .get2 .result) e (c .if1 .left)))
 
 returns-2 : tie.Need-returns-2 Inv-loop μ-loop
 returns-2 c = let l = c .before in
     let st = l .before .before in
-    pass-end (cell entryOf (1024 + st .args .n * 100) 8 6 (st .args .m .now)) (l .loop .j) (st .args .c) (l .loop .left) (c .loop-test .left) ∙ sym (l .loop .inv .1)
+    pass-end (cell entryOf (1024 + st .args .n * 100) 8 6 (st .args .m .now)) (l .loop .j) (st .args .c) (l .loop .sum) (st .args .rows) (c .loop-test .left)
+    ∙ sym (l .loop .inv .1 .1)
 
 pub rest-fill-spec : {M : Type 1} → statement M
 rest-fill-spec =
@@ -92,7 +94,7 @@ rest-fill-spec =
     get2-requires
     cast-k
     returns
-    sub-left
+    add-sum
     add-j
     loop-less
     loop-again
