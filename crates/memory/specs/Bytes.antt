@@ -1,4 +1,4 @@
--- Numbers as bytes, high byte first; a part of a list of bytes, and what a write leaves alone.
+-- Numbers as bytes, those of two bytes low byte first, others high byte first; a part of a list of bytes, and what a write leaves alone.
 use Prim.Native.Nat.{ℕ, _+_, _*_, _-_, _/_, _%_, _≤_}
 use mathlib.Core.Path.{_≡_}
 use mathlib.Core.List.{List, [], _∷_, _++_}
@@ -6,7 +6,7 @@ use lib.ListN.{length, take, drop, getD}
 
 -- the number in the two bytes from at on
 unfoldable pub num2 : List ℕ → ℕ → ℕ
-num2 xs at = getD xs at 0 * 256 + getD xs (at + 1) 0
+num2 xs at = getD xs (at + 1) 0 * 256 + getD xs at 0
 
 -- the four bytes of a number of 32 bits
 unfoldable pub bytes4 : ℕ → List ℕ
@@ -14,7 +14,7 @@ bytes4 x = x / 16777216 ∷ x / 65536 % 256 ∷ x / 256 % 256 ∷ x % 256 ∷ []
 
 -- the two bytes of a number of 16 bits
 unfoldable pub bytes2 : ℕ → List ℕ
-bytes2 x = x / 256 ∷ x % 256 ∷ []
+bytes2 x = x % 256 ∷ x / 256 ∷ []
 
 -- n elements from index a on
 abbrev pub cut : ℕ → ℕ → List ℕ → List ℕ
