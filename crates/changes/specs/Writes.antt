@@ -4,6 +4,7 @@ use mathlib.Core.Bool.{Bool, true, false}
 use mathlib.Core.List.{List}
 use Prim.Native.Nat.{ℕ, suc, _%_, _/_, _≤_, _<_, min}
 use lib.ListN.{length}
+use Rattle.blocks.specs.Limits.{payloadLimit}
 use Rattle.blocks.specs.Tuple.{tentative}
 use Rattle.model.specs.State.{Active, Store}
 use Rattle.model.specs.Rules.{place}
@@ -32,7 +33,7 @@ pub record AcceptAt (m : List ℕ) (tx t : ℕ) (bs : List ℕ) : Type 0 where
   pub held : holdsStore m ≡ true
   pub opened : findOpen tx (flatOf m .opens) < length (flatOf m .opens)
   pub table : t < 8
-  pub short : length bs ≤ 40
+  pub short : length bs ≤ payloadLimit
   pub free : length (flatOf m .rows) < flatOf m .head .capacity
   pub next : flatOf m .head .next ≡ 4294967295 → ⊥
 

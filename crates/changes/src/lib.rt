@@ -8,6 +8,7 @@ ghost use mathlib.Core.List.{[], _∷_};
 ghost use Prim.Native.Nat.{_+_, _≤_, _<_};
 ghost use lib.ListN.{length, take};
 ghost use Rattle.basics.specs.Basics.{keep};
+ghost use Rattle.blocks.specs.Limits.{payloadLimit};
 ghost use Rattle.model.specs.Transactions.{perform};
 ghost use Rattle.memory.specs.Flat.{flatOf, Room, Becomes, withOpens};
 ghost use Rattle.memory.specs.Store.{holdsStore, activeOf, pagesIn, storeIn, storeOf};
@@ -29,7 +30,7 @@ fn flags_of(mark: bool) -> u8
 }
 
 fn new_row(key: u32, number: u32, owner: u32, mark: bool, payload: &[u8]) -> Row
-    requires { ⌜ length (now payload) ≤ 40 ⌝ }
+    requires { ⌜ length (now payload) ≤ payloadLimit ⌝ }
     ensures { λ r. ⌜ NewRow r key number owner mark (now (payload .entry)) ⌝ }
 {
     let n = payload.len();

@@ -76,21 +76,13 @@ fn free_blocks(m: &[u8]) -> usize
     k
 }
 
-// How many directory blocks p pages take.
-fn directories_for(p: usize) -> usize
-    requires { ⌜ p ≤ 1024 ⌝ }
-    ensures { λ r. ⌜ (r ≡ directoriesFor p) × (r ≤ 4) ⌝ }
-{
-    (p + 335) / 336
-}
-
 // How many free blocks a begin needs.
 fn blocks_needed(m: &[u8]) -> usize
     requires { ⌜ Room (now m) ⌝ }
     ensures { λ r. ⌜ (r ≡ blocksNeeded (pagesIn (flatOf (now (m .entry))))) × (r ≤ 1028) ⌝ }
 {
     let c = memory::get_counts(m);
-    count_pages(m, 0, false) + directories_for(c.pages as usize)
+    count_pages(m, 0, false) + naming::directories_for(c.pages as usize)
 }
 
 // Whether a checkpoint runs: none does at the last level.
@@ -113,7 +105,7 @@ fn directories_left(m: &[u8]) -> usize
     ensures { λ r. ⌜ (r ≡ directoriesFor (length (flatOf (now (m .entry)) .named)) - length (flatOf (now (m .entry)) .directories)) × (r ≤ 4) ⌝ }
 {
     let c = memory::get_counts(m);
-    let d = directories_for(c.named as usize);
+    let d = naming::directories_for(c.named as usize);
     let w = c.directories as usize;
     if d < w {
         return 0;

@@ -2,6 +2,7 @@
 // docs/LAYOUT.md says what stands where. The rows begin anywhere in an area a quarter larger than they need, so that an insert or a
 // remove moves the shorter side of them. Above this crate no one sees a byte: each function that changes the memory promises one
 // equation on the flat lists that it holds.
+use blocks::PageLayout;
 ghost use mathlib.Core.Path.{_≡_};
 ghost use mathlib.Core.Bool.{false};
 ghost use mathlib.Core.Option.{some};
@@ -19,6 +20,12 @@ ghost use Rattle.memory.specs.Views.{rowOf, entryOf, word, numbersOf, en
 ghost use Rattle.memory.specs.Flat.{flatOf, countsOf, rowIn, entryIn, Room, Replaces, Becomes, withHead, withOpens, withRows, withEntries, withNamed, withDirectories, withUsed, insertAt, removeAt, usedAnd, Opened, Closed};
 ghost use Rattle.memory.specs.Store.{pendingOf, heldOf, tupleBy, inRange, filledBy, fillsAfter, fillsRows, holdsStore, heldIn, Holds, Copied, FreshFits, freshFlat, storeIn};
 
+// What a memory that holds a store begins with: V, O, Z and the layout's version.
+const SIGNATURE: u32 = 1448040962;
+
+// How many lengths a payload may have.
+const PAYLOAD_LENGTHS: usize = PageLayout::PAYLOAD_LIMIT + 1;
+
 // A tuple with its pending operation. flags: bit 0 tentative, bit 1 delete mark, bits 2 and 3 pending (0 nothing, 1 adding,
 // 2 committing, 3 removing). owner: the transaction above 20 bits of statement.
 pub struct Row {
@@ -27,7 +34,7 @@ pub struct Row {
     pub owner: u32,
     pub flags: u8,
     pub size: u8,
-    pub payload: [u8; 40],
+    pub payload: [u8; PageLayout::PAYLOAD_LIMIT],
 }
 
 // A page: how many rows it has; its block, 0 if it is dirty.
@@ -153,14 +160,14 @@ fn put2(m: &mut [u8], a: usize, x: u16)
     write(m, a, &b);
 }
 
-// The 40 bytes of m from index a on.
-fn read40(m: &[u8], a: usize) -> [u8; 40]
-    requires { ⌜ a + 40 ≤ length (now m) ⌝ }
-    ensures { λ r. ⌜ r ≡ cut a 40 (now (m .entry)) ⌝ }
+// A row's payload bytes, those of m from index a on.
+fn read_payload(m: &[u8], a: usize) -> [u8; PageLayout::PAYLOAD_LIMIT]
+    requires { ⌜ a + payloadLimit ≤ length (now m) ⌝ }
+    ensures { λ r. ⌜ r ≡ cut a payloadLimit (now (m .entry)) ⌝ }
 {
-    let mut p = [0u8; 40];
+    let mut p = [0u8; PageLayout::PAYLOAD_LIMIT];
     let mut j = 0;
-    while j < 40 {
+    while j < PageLayout::PAYLOAD_LIMIT {
         p[j] = m[a + j];
         j += 1;
     }
@@ -210,7 +217,7 @@ fn decode_row(b: &[u8]) -> Row
     requires { ⌜ length (now b) ≡ 56 ⌝ }
     ensures { λ r. ⌜ r ≡ rowOf (now (b .entry)) ⌝ }
 {
-    let p = read40(b, 16);
+    let p = read_payload(b, 16);
     Row {
         key: get4(b, 0),
         number: get4(b, 4),
@@ -427,7 +434,7 @@ pub fn tuple_size(m: &[u8], i: usize) -> usize
 {
     let n = size_at(m, i) as usize;
     let f = flags_at(m, i) as usize;
-    9 + 4 * (f % 2) + n % 41
+    9 + 4 * (f % 2) + n % PAYLOAD_LENGTHS
 }
 
 // Where a tuple's payload stands in the memory.
@@ -438,7 +445,7 @@ pub fn payload_at(m: &[u8], i: usize) -> Part
     let n = size_at(m, i) as usize;
     Part {
         start: row_place(m, i) + 16,
-        len: n % 41,
+        len: n % PAYLOAD_LENGTHS,
     }
 }
 
@@ -456,11 +463,11 @@ pub fn copy_payload(m: &[u8], i: usize, out: &mut [u8]) -> usize
 }
 
 // len bytes of src from start on, with zeros behind them: a row's payload.
-pub fn padded(src: &[u8], start: usize, len: usize) -> [u8; 40]
-    requires { ⌜ (len ≤ 40) × (start + len ≤ length (now src)) ⌝ }
+pub fn padded(src: &[u8], start: usize, len: usize) -> [u8; PageLayout::PAYLOAD_LIMIT]
+    requires { ⌜ (len ≤ payloadLimit) × (start + len ≤ length (now src)) ⌝ }
     ensures { λ r. ⌜ take len r ≡ cut start len (now (src .entry)) ⌝ }
 {
-    let mut b = [0u8; 40];
+    let mut b = [0u8; PageLayout::PAYLOAD_LIMIT];
     let mut j = 0;
     while j < len {
         b[j] = src[start + j];
@@ -839,7 +846,7 @@ pub fn holds_store(m: &[u8]) -> bool
         return false;
     }
     let s = get4(m, 0);
-    if s != 1448040962 {
+    if s != SIGNATURE {
         return false;
     }
     let h = get_head(m);
@@ -861,7 +868,7 @@ pub fn fresh(m: &mut [u8], blocks: u32, n: u32)
     ensures { λ _. ⌜ Becomes (now (m .entry)) (now (m .exit)) (freshFlat blocks n) × (storeIn (now (m .exit)) ≡ some (freshStore blocks n)) ⌝ }
 {
     clear(m, 0, 128);
-    put4(m, 0, 1448040962);
+    put4(m, 0, SIGNATURE);
     put4(m, 4, n);
     put4(m, 8, blocks);
     put4(m, 32, n / 4);

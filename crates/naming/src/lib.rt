@@ -2,8 +2,9 @@
 use blocks::Header;
 ghost use mathlib.Core.Path.{_≡_};
 ghost use mathlib.Core.Bool.{not};
+ghost use Prim.Native.Nat.{_≤_};
 ghost use Rattle.basics.specs.Basics.{all, isIn};
-ghost use Rattle.naming.specs.Names.{blockOk, isZero, countsOk, headerOk, entriesOk};
+ghost use Rattle.naming.specs.Names.{capacityLimit, directoriesFor, blockOk, isZero, countsOk, headerOk, entriesOk};
 
 // The same number, as a size.
 fn wide(x: u32) -> usize
@@ -77,6 +78,14 @@ pub fn entries_ok(entries: &[u32], directories: &[u32], n: u32) -> bool
     rows::distinct(entries)
 }
 
+// How many directory blocks p pages take.
+pub fn directories_for(p: usize) -> usize
+    requires { ⌜ p ≤ capacityLimit ⌝ }
+    ensures { λ r. ⌜ (r ≡ directoriesFor p) × (r ≤ 4) ⌝ }
+{
+    (p + (blocks::ENTRIES_PER_BLOCK - 1)) / blocks::ENTRIES_PER_BLOCK
+}
+
 // The counts in a header of an image of n blocks.
 fn counts_ok(h: Header, n: u32) -> bool
     ensures { λ r. ⌜ r ≡ countsOk n h ⌝ }
@@ -93,7 +102,7 @@ fn counts_ok(h: Header, n: u32) -> bool
     if h.capacity < h.pages {
         return false;
     }
-    h.directories == (h.pages + 335) / 336
+    wide(h.directories) == directories_for(wide(h.pages))
 }
 
 // A header of an image of n blocks.

@@ -147,11 +147,11 @@ fn read_page(block: &[u8]) -> Reading
 }
 
 // The entries of a directory's block, as many as count says.
-pub fn read_entries(block: &[u8; 512], count: usize) -> [u16; 336]
+pub fn read_entries(block: &[u8; 512], count: usize) -> [u16; blocks::ENTRIES_PER_BLOCK]
     requires { ⌜ count ≤ entriesPerBlock ⌝ }
     ensures { λ r. ⌜ take count r ≡ readEntries (now (block .entry)) 64 count ⌝ }
 {
-    let mut out = [0u16; 336];
+    let mut out = [0u16; blocks::ENTRIES_PER_BLOCK];
     let mut i: usize = 0;
     while i < count {
         out[i] = bits::get_bits(block, 64 + 12 * i, 12) as u16;

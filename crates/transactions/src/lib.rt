@@ -2,6 +2,7 @@
 // any memory and any arguments, by the model's function.
 use answers::Answer;
 use blocks::Header;
+use blocks::PageLayout;
 use look::Look;
 use look::Seen;
 ghost use mathlib.Core.Path.{_≡_};
@@ -217,7 +218,7 @@ fn write_refusal(m: &[u8], new: bool, transaction: u64, table: u64, key: u32, le
     if 7 < table {
         return 10;
     }
-    if 40 < len {
+    if PageLayout::PAYLOAD_LIMIT < len {
         return 11;
     }
     let t = table as u8;

@@ -53,11 +53,11 @@ pub fn write_header(out: &mut [u8], m: &[u8])
 // ---- the directory
 
 // count entries of the list of pages at begin, from the entry first on.
-fn named_from(m: &[u8], first: usize, count: usize) -> [u16; 336]
+fn named_from(m: &[u8], first: usize, count: usize) -> [u16; blocks::ENTRIES_PER_BLOCK]
     requires { ⌜ Room (now m) × ((count ≤ entriesPerBlock) × (first + count ≤ length (flatOf (now m) .named))) ⌝ }
     ensures { λ r. ⌜ take count r ≡ take count (drop first (blocksOf (flatOf (now (m .entry)) .named))) ⌝ }
 {
-    let mut entries = [0u16; 336];
+    let mut entries = [0u16; blocks::ENTRIES_PER_BLOCK];
     let mut i: usize = 0;
     while i < count {
         entries[i] = memory::get_named(m, first + i) % 4096;

@@ -3,8 +3,8 @@ use borrow.Author.Needs.{needs}
 use Rattle.memory.proofs.decode_row.Statement.{statement}
 use Rattle.memory.proofs.decode_row.Tie as tie
 
-read40-requires : tie.Need-read40-requires
-read40-requires c κs = search needs
+read-payload-requires : tie.Need-read-payload-requires
+read-payload-requires c κs = search needs
 
 get4-requires : tie.Need-get4-requires
 get4-requires c κs = search needs
@@ -29,7 +29,7 @@ pub decode-row-spec : {M : Type 1} → statement M
 decode-row-spec =
     tie.close
     (tie.spec
-    read40-requires
+    read-payload-requires
     get4-requires
     get4-requires-2
     get4-requires-3

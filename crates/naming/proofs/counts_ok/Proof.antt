@@ -22,14 +22,30 @@ returns-4 : tie.Need-returns-4
 unfolding countsOk every
 returns-4 c = rw (lt-leb _ _ (c .if4 .taken), and-no, and-no, and-no)
 
-add-result : tie.Need-add-result
-add-result c = search needs
+wide-requires : tie.Need-wide-requires
+wide-requires c κs = search needs
+
+wide-requires-2 : tie.Need-wide-requires-2
+wide-requires-2 c κs = search needs
+
+directories-for-requires : tie.Need-directories-for-requires
+directories-for-requires c κs = search needs
 
 returns-5 : tie.Need-returns-5
-unfolding countsOk every directoriesFor
+unfolding countsOk every
 returns-5 c =
-    let p2 = c .before .before in let p4 = p2 .before .before in let p6 = p4 .before .before in let p8 = p6 .before .before in
-    rw (eq-eqb _ _ (p8 .if1 .left), le-leb _ _ (p6 .if2 .left), le-leb _ _ (p4 .if3 .left), le-leb _ _ (p2 .if4 .left), and-yes)
+    let w2 = c .before in let w1 = w2 .before in
+    let p2 = w1 .before in let p4 = p2 .before .before in let p6 = p4 .before .before in let p8 = p6 .before .before in
+    rw (
+      c .directories-for .ensures .0,
+      w2 .wide2 .ensures,
+      w1 .wide .ensures,
+      eq-eqb _ _ (p8 .if1 .left),
+      le-leb _ _ (p6 .if2 .left),
+      le-leb _ _ (p4 .if3 .left),
+      le-leb _ _ (p2 .if4 .left),
+      and-yes,
+    )
 
 pub counts-ok-spec : {M : Type 1} → statement M
-counts-ok-spec = tie.close (tie.spec returns returns-2 returns-3 returns-4 add-result returns-5)
+counts-ok-spec = tie.close (tie.spec returns returns-2 returns-3 returns-4 wide-requires wide-requires-2 directories-for-requires returns-5)

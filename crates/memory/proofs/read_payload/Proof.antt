@@ -6,8 +6,8 @@ use native.Mathlib.Nat.{zero-add}
 use mathlib.Core.List.{List, append-nil}
 use lib.ListN.{length, take, drop, getD, set, length-drop, replicate}
 use lib.Seq.{paste, paste-zero, paste-suc, getD-drop}
-use Rattle.memory.proofs.read40.Statement.{statement}
-use Rattle.memory.proofs.read40.Tie as tie
+use Rattle.memory.proofs.read_payload.Statement.{statement}
+use Rattle.memory.proofs.read_payload.Tie as tie
 
 abbrev Inv-loop : tie.InvT-loop
 Inv-loop m a p₀ j₀ p j = (j ≤ 40) × ((length p₀ ≡ 40) × (p ≡ paste p₀ 0 (drop a m) j))
@@ -58,8 +58,8 @@ returns c =
     let e : l .loop .j ≡ 40 = omega arith in
     l .loop .inv .1 .1 ∙ rw e (append-nil (take 40 (drop (b .args .a) (b .args .m .now))))
 
-pub read40-spec : {M : Type 1} → statement M
-read40-spec =
+pub read-payload-spec : {M : Type 1} → statement M
+read-payload-spec =
     tie.close
     (tie.spec
     Inv-loop
