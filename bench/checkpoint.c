@@ -120,7 +120,37 @@ static void measure(unsigned n) {
     printf("\n");
 }
 
+/* a full store of 1,024 tuples whose pages are clean but for those of `late` tuples, committed since the last checkpoint */
+static void changed(unsigned late, double sql) {
+    unsigned n = 1024;
+    image_len = 512 * (size_t)(n + 256), memory_len = 128 * (size_t)n + 1024;
+    must(vodzanu_make(image, image_len, memory, memory_len, n));
+    must(vodzanu_open(memory, memory_len, 1));
+    must(vodzanu_open(memory, memory_len, 2));
+    for (unsigned i = 0; i < n; i++) must(vodzanu_insert(memory, memory_len, i < late ? 2 : 1, i % TABLES, key_of(i), payload, 20));
+    must(vodzanu_commit(memory, memory_len, 1));
+    must(vodzanu_begin(memory, memory_len));
+    must(vodzanu_run(image, image_len, memory, memory_len, 5000));
+    must(vodzanu_commit(memory, memory_len, 2));
+    memcpy(second, memory, memory_len);
+    memcpy(copy, image, image_len);
+    double whole = 1e18;
+    int64_t stores = 0;
+    for (int round = 0; round < ROUNDS; round++) {
+        memcpy(memory, second, memory_len);
+        memcpy(image, copy, image_len);
+        double t = now();
+        stores = must(vodzanu_begin(memory, memory_len));
+        must(vodzanu_run(image, image_len, memory, memory_len, 5000));
+        whole = best(whole, now() - t);
+    }
+    printf("N %4u stores %3ld, the others' pages clean: checkpoint %7.0f; SQLite backup, pages of 4096: %7.0f (%.2f)\n",
+           n, (long)stores, whole, sql, whole / sql);
+}
+
 int main(void) {
     for (unsigned n = 64; n <= 1024; n *= 2) measure(n);
+    double sql = backup(1024, -1, 4096);
+    for (unsigned late = 1; late <= 64; late *= 2) changed(late, sql);
     return 0;
 }

@@ -39,6 +39,7 @@ Leaves model.done s m m' = (length m' ≡ length m) × (storeIn m' ≡ some s)
 Leaves (model.count n) s m m' = (length m' ≡ length m) × (storeIn m' ≡ some s)
 Leaves (model.filled n bs) s m m' = (length m' ≡ length m) × (storeIn m' ≡ some s)
 
+-- the answer is the outcome's, and so is what the memory holds
 pub record Afterwards (o : Outcome) (m : List ℕ) (r : Answer) (m' : List ℕ) : Type 0 where
   pub answer : meaning r (bytesOf (o .answer)) ≡ o .answer
   pub memory : Leaves (o .answer) (o .store) m m'
@@ -59,6 +60,7 @@ pub record Told (o : Outcome) (r : Answer) (p p' : List ℕ) : Type 0 where
   pub answer : meaning r (bytesOf (o .answer)) ≡ o .answer
   pub reply : p' ≡ bytesOf (o .answer) ++ drop (length (bytesOf (o .answer))) p
 
+-- without a store: 4, and the reply stays
 unfoldable pub RepliesAt : Option Store → (Store → Outcome) → Answer → List ℕ → List ℕ → Type 0
 RepliesAt none call r p p' = (meaning r [] ≡ model.refused 4) × (p' ≡ p)
 RepliesAt (some s) call r p p' = Told (call s) r p p'
@@ -82,6 +84,7 @@ unfoldable pub ListedIf : Bool → Store → Answer → List ℕ → List ℕ �
 ListedIf true s r p p' = (meaning r [] ≡ model.refused 21) × (p' ≡ p)
 ListedIf false s r p p' = (xs : List ℕ) × ListedBy s xs r p p'
 
+-- without a store: 4, and the reply stays
 unfoldable pub ListsAt : Option Store → Answer → List ℕ → List ℕ → Type 0
 ListsAt none r p p' = (meaning r [] ≡ model.refused 4) × (p' ≡ p)
 ListsAt (some s) r p p' = ListedIf (ltb (length p) (2 * length (s .active))) s r p p'
@@ -92,11 +95,13 @@ Lists m r p p' = ListsAt (storeIn m) r p p'
 
 -- ---- calls that store blocks in the image
 
+-- the answer, the memory and the image are the outcome's
 pub record StoredBy (o : Outcome) (img m : List ℕ) (r : Answer) (img' m' : List ℕ) : Type 0 where
   pub answer : meaning r (bytesOf (o .answer)) ≡ o .answer
   pub memory : Leaves (o .answer) (o .store) m m'
   pub image : img' ≡ imageAfter (o .writes) img
 
+-- without a store: 4, and image and memory stay
 unfoldable pub StoresAt : Option Store → (Store → Outcome) → List ℕ → List ℕ → Answer → List ℕ → List ℕ → Type 0
 StoresAt none call img m r img' m' = (meaning r [] ≡ model.refused 4) × ((img' ≡ img) × (m' ≡ m))
 StoresAt (some s) call img m r img' m' = StoredBy (call s) img m r img' m'

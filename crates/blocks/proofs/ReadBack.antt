@@ -14,8 +14,6 @@ use Rattle.blocks.specs.Numbers.{be4, num4}
 use Rattle.blocks.specs.Tuple.{Owner, committed, tentative, Tuple, ownerSize, size, OwnerFits, Fits, AllFit}
 use Rattle.blocks.specs.Block.{committedBit, markBit}
 use Rattle.blocks.specs.Decode.{readOwner, readTuple, taken, whole, readTuples}
-use Rattle.blocks.specs.Bytes.{tupleOf}
-use Rattle.blocks.specs.declared.Record.{Record}
 use Rattle.blocks.proofs.Tuples.{flags, ownerBytes, recordBytes, records, length-record}
 
 four : (v : ℕ) → v < 4294967296 → v / 16777216 % 256 * 16777216 + v / 65536 % 256 * 65536 + v / 256 % 256 * 256 + v % 256 ≡ v
@@ -114,28 +112,3 @@ read-records (x ∷ ts) rest fit =
     let R = records ts ++ rest in
     let d : drop (size x) (recordBytes x ++ R) ≡ R = drop-at (recordBytes x) R (size x) (length-record x) in
     rw (append-assoc (recordBytes x) (records ts) rest, whole-record x R (fit .0), takes x R (fit .0), d, read-record x R (fit .0), read-records ts rest (fit .1))
-
--- ---- the record of a tuple
-
--- the owner's four bytes as a number
-unfoldable pub ownerWord : Owner → ℕ
-ownerWord committed = 0
-ownerWord (tentative t s) = t * 1048576 + s
-
-owner-back : (o : Owner) (m : Bool) (n : ℕ) → n ≤ 40 → OwnerFits o → readOwner (ninth o m n) (ownerWord o) ≡ o
-unfolding readOwner ownerWord if_then_else_
-owner-back committed m n h f = rw (ninth-committed m n)
-owner-back (tentative t s) m n h f =
-    let a : (t * 1048576 + s) / 1048576 ≡ t = omega arith in
-    let b : (t * 1048576 + s) % 1048576 ≡ s = omega arith in
-    rw (ninth-tentative t s m n h) (λ i. tentative (a i) (b i))
-
--- a record with these fields is that of x
-pub tuple-back : (x : Tuple) (r : Record) → Fits x → r .key ≡ x .key → r .number ≡ x .number → r .flags ≡ flags x → r .owner ≡ ownerWord (x .owner)
-    → tupleOf r (x .payload) ≡ x
-unfolding tupleOf flags
-tuple-back x r fit k n f o =
-    let l = length (x .payload) in
-    let own = owner-back (x .owner) (x .mark) l (fit .payload) (fit .owner) in
-    let mark = ninth-mark (x .owner) (x .mark) l (fit .payload) in
-    rw (k, n, f, o) (λ i. record { key = x .key; number = x .number; owner = own i; mark = mark i; payload = x .payload })

@@ -1,10 +1,10 @@
 -- The starred cases of the specification that are about bytes, as one table, proved in proofs/.
 use Prim.Native.Nat.{ℕ}
 use mathlib.Core.Path.{_≡_}
-use mathlib.Core.Bool.{Bool, true, false}
+use mathlib.Core.Bool.{true, false}
 use mathlib.Core.List.{List, [], _∷_, _++_}
 use Rattle.blocks.specs.Numbers.{same}
-use Rattle.blocks.specs.Tuple.{Tuple, tentative}
+use Rattle.blocks.specs.Tuple.{tentative}
 use Rattle.blocks.specs.Spell.{zeros}
 use Rattle.blocks.specs.Block.{Block, header, page, encodeBlock}
 

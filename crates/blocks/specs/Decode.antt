@@ -1,7 +1,7 @@
 -- What 512 bytes are as a block. A block is what it spells: its fields are read, and the value is accepted only if these very
 -- bytes spell it, so that counts, sums and stray bits are all tested by one comparison.
 use Prim.Native.Nat.{ℕ, zero, suc, _+_, _*_, _/_, _%_}
-use mathlib.Core.Bool.{Bool, true, false, _&&_}
+use mathlib.Core.Bool.{Bool, _&&_}
 use mathlib.Core.Option.{Option, none, some, Option·map}
 use mathlib.Core.List.{List, [], _∷_}
 use lib.ListN.{length, getD, take, drop}

@@ -14,7 +14,7 @@ use Rattle.basics.specs.Basics.{if_then_else_, keep}
 use Rattle.basics.proofs.Facts.{by}
 use Rattle.model.specs.State.{Page, Active, Store}
 use Rattle.model.specs.Rules.{commit, remove}
-use Rattle.model.specs.Transactions.{Op, toCommit, toRemove, isFor, without, changed, perform, plan}
+use Rattle.model.specs.Transactions.{Op, toCommit, toRemove, isFor, without, changed, perform}
 use Rattle.model.proofs.Lists.{keep-cons, keep-past}
 use Rattle.memory.specs.Flat.{Flat, flatOf, Room, Becomes, withOpens, removeAt}
 use Rattle.memory.specs.Store.{activeOf, storeOf, storeIn, holdsStore, pagesIn, filled}
@@ -81,9 +81,6 @@ module _ (w : ℕ) (ps : List Page) where
 abbrev pub opsFrom : List ℕ → ℕ → ℕ → List Op
 opsFrom ops n i = opsOf (drop i (take n ops))
 
-pub ops-first : (ops : List ℕ) (n : ℕ) → opsFrom ops n 0 ≡ opsOf (take n ops)
-ops-first ops n = refl
-
 module _ (ops : List ℕ) (n i : ℕ) (ps : List Page) where
   pub ops-turn : i < n → n ≤ length ops → (w : ℕ) → w ≡ getD ops i 0 → perform (opsFrom ops n i) ps ≡ perform (opsFrom ops n (i + 1)) (perform (opOf w ∷ []) ps)
   unfolding opsOf
@@ -130,9 +127,6 @@ module _ (tx : ℕ) (ws : List ℕ) (i : ℕ) (h : i < length ws) where
       ∙ ap (λ (z : List ℕ). z ++ keep (stays tx) (drop (i + 1) ws)) (take-suc ws i 0 h)
       ∙ append-snoc (take i ws) (getD ws i 0) (keep (stays tx) (drop (i + 1) ws))
       ∙ ap (λ (z : List ℕ). take i ws ++ z) (sym (ap (keep (stays tx)) rest-open ∙ keep-cons (stays tx) (getD ws i 0) (drop (i + 1) ws) (remains e)))
-
-pub close-all : (tx : ℕ) (ws : List ℕ) → keeping tx ws 0 ≡ keep (stays tx) ws
-close-all tx ws = refl
 
 pub close-end : (tx : ℕ) (ws : List ℕ) (i : ℕ) → length ws ≤ i → keeping tx ws i ≡ ws
 unfolding keep

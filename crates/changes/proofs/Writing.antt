@@ -3,7 +3,7 @@ use mathlib.Core.Path.{_≡_, refl, sym, ap, _∙_}
 use mathlib.Core.Bool.{Bool, true, false}
 use mathlib.Core.Option.{some}
 use mathlib.Core.List.{List, [], _∷_, map}
-use Prim.Native.Nat.{ℕ, zero, suc, _+_, _/_, _%_, _≤_, _<_, min}
+use Prim.Native.Nat.{ℕ, suc, _+_, _/_, _%_, _≤_, _<_, min}
 use native.Mathlib.Omega.{arith}
 use native.Mathlib.Numerals.{add-one}
 use lib.ListN.{length, take, getD, set}
@@ -78,11 +78,6 @@ bump-one w e =
     λ i. record { transaction = a i; written = b i }
 
 -- ---- the transaction's entry
-
-map-set : {A B : Type 0} (g : A → B) (xs : List A) (i : ℕ) (x : A) → map g (set xs i x) ≡ set (map g xs) i (g x)
-map-set g [] i x = refl
-map-set g (y ∷ ys) zero x = refl
-map-set g (y ∷ ys) (suc i) x = ap (λ (z : List _). g y ∷ z) (map-set g ys i x)
 
 module _ (tx w : ℕ) (ws : List ℕ) where
   first-here : eqb (w / 1048576) tx ≡ true → findOpen tx (w ∷ ws) ≡ 0

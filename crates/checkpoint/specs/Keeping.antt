@@ -19,6 +19,7 @@ use Rattle.memory.specs.Store.{blocksOf, holdsStore, storeOf, storeIn}
 unfoldable pub allocatorOf : Store → Allocator
 allocatorOf s = record { taken = s .taken; left = left s }
 
+-- that of the store in the memory m
 abbrev pub allocatorIn : List ℕ → Allocator
 allocatorIn m = allocatorOf (storeOf (flatOf m))
 

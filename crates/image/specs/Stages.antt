@@ -25,11 +25,13 @@ pub data Stage (A : Type 0) : Type 0 where
 
 -- ---- 1: image not 2 to 4,096 whole blocks
 
+-- an image of n bytes may be one
 unfoldable pub wholeBlocks : ℕ → Bool
 wholeBlocks n = eqb (n % 512) 0 && (leb 2 (n / 512) && leb (n / 512) 4096)
 
 -- ---- 22: header
 
+-- block 0 of an image of n blocks
 unfoldable pub headerTest : ℕ → Block → Stage Header
 headerTest n malformed = refuses 22
 headerTest n (header h) = if headerOk n h then holds h else refuses 22
@@ -51,10 +53,12 @@ unfoldable pub readDirectories : View → ℕ → ℕ → List ℕ → Option (L
 readDirectories v l p [] = some []
 readDirectories v l p (d ∷ ds) = addEntries l p (v d) (readDirectories v l (p - entriesPerBlock) ds)
 
+-- the entries, if every directory block could be read
 unfoldable pub testedEntries : Header → Option (List ℕ) → Stage (List ℕ)
 testedEntries h none = refuses 23
 testedEntries h (some es) = if entriesOk (h .blocks) (directoryBlocks h) es then holds es else refuses 23
 
+-- the block of each page, in order
 unfoldable pub directoryTest : View → Header → Stage (List ℕ)
 directoryTest v h = testedEntries h (readDirectories v (h .level) (h .pages) (directoryBlocks h))
 
@@ -66,6 +70,7 @@ pub record StoredPage : Type 0 where
   pub table : ℕ
   pub tuples : List Tuple
 
+-- the page at block e below a header of level l, and those after it
 unfoldable pub addPage : ℕ → ℕ → Block → Option (List StoredPage) → Option (List StoredPage)
 addPage l e malformed more = none
 addPage l e (header h) more = none
@@ -88,5 +93,6 @@ unfoldable pub testedPages : Header → Option (List StoredPage) → Stage (List
 testedPages h none = refuses 24
 testedPages h (some ps) = if rowsOk (h .capacity) (h .next) (rowsOfPages ps) then holds ps else refuses 24
 
+-- the pages, in order
 unfoldable pub pageTest : View → Header → List ℕ → Stage (List StoredPage)
 pageTest v h es = testedPages h (readPages v (h .level) es)

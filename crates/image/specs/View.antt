@@ -5,9 +5,11 @@ use lib.ListN.{length, take, drop}
 use Rattle.blocks.specs.Block.{Block}
 use Rattle.blocks.specs.Decode.{decodeBlock}
 
+-- the bytes of block i
 unfoldable pub blockAt : List ℕ → ℕ → List ℕ
 blockAt bytes i = take 512 (drop (512 * i) bytes)
 
+-- how many whole blocks there are
 unfoldable pub blockCount : List ℕ → ℕ
 blockCount bytes = length bytes / 512
 
@@ -15,5 +17,6 @@ blockCount bytes = length bytes / 512
 abbrev pub View : Type 0
 View = ℕ → Block
 
+-- each block, as its bytes are read
 unfoldable pub view : List ℕ → View
 view bytes i = decodeBlock (blockAt bytes i)

@@ -10,9 +10,7 @@ use Rattle.basics.specs.Basics.{if_then_else_, any, keep, howMany}
 use Rattle.basics.proofs.Facts.{by, and-true, AllOf}
 use Rattle.rows.specs.Rows.{Row, number, isOwn, isAt}
 use Rattle.rows.proofs.Turns.{count-yes, count-not}
-use Rattle.model.specs.State.{Page}
-use Rattle.model.specs.Sight.{rows}
-use Rattle.model.specs.Transactions.{toCommit, removeAll, isRow, planKey, ownAt, planRows, plan}
+use Rattle.model.specs.Transactions.{toCommit, removeAll, isRow, planKey, ownAt, planRows}
 use Rattle.model.proofs.Lists.{Mem, here, there, all-mem, mem-keep, any-cons, many-length, not-true, or-right, keep-cons, keep-past}
 use Rattle.model.proofs.Fate.{at-split, at-join}
 use Rattle.look.proofs.Pushing.{removals}
@@ -122,8 +120,3 @@ plan-touched tx all (x ∷ xs) a =
 
 pub plan-few : (tx : ℕ) (rs : List Row) → length (planRows tx rs rs) ≤ length rs
 plan-few tx rs = omega (arith, plan-touched tx rs rs (all-mem (λ x. Mem x rs) rs (λ r m. m)), many-length (touched tx rs) rs)
-
--- the law: a plan has no more operations than there are live rows
-pub plan-bound : (tx : ℕ) (ps : List Page) → length (plan tx ps) ≤ length (rows ps)
-unfolding plan
-plan-bound tx ps = plan-few tx (rows ps)

@@ -20,6 +20,7 @@ use Rattle.memory.specs.declared.Entry.{Entry}
 unfoldable pub opOf : ℕ → Op
 opOf w = if eqb (w % 2) 0 then toRemove (w / 2 % 4294967296) else toCommit (w / 2 % 4294967296)
 
+-- a list of them
 unfoldable pub opsOf : List ℕ → List Op
 opsOf ws = map opOf ws
 

@@ -84,6 +84,7 @@ unfoldable pub pickedAt : Flat → ℕ → ℕ → Seen
 pickedAt f zero h = placeOf h
 pickedAt f (suc i) h = if heldIn f i .tuple .mark then Nothing else At i
 
+-- the version that the two places found give
 unfoldable pub picked : Flat → Look → Seen
 picked f l = pickedAt f (l .own) (l .held)
 

@@ -12,10 +12,9 @@ use Rattle.blocks.proofs.Spelled.{bytes-at, bytes-take, bytes-drop}
 use Rattle.blocks.specs.Tuple.{OwnerFits, AllBytes, Fits}
 use Rattle.model.specs.State.{Held}
 use Rattle.memory.specs.Bytes.{cut}
-use Rattle.memory.specs.Views.{tab, rowOf, headOf, headAt, firstAt}
+use Rattle.memory.specs.Views.{tab, rowOf, firstAt}
 use Rattle.memory.specs.Flat.{flatOf, rowsOf}
-use Rattle.memory.specs.Store.{ownerOf, tupleOf, tupleBy, heldOf, heldIn, pageOf}
-use Rattle.memory.specs.declared.Entry.{Entry}
+use Rattle.memory.specs.Store.{ownerOf, tupleOf, tupleBy, heldOf, heldIn}
 use Rattle.memory.proofs.Access.{row-at}
 
 -- ---- bytes
@@ -59,13 +58,3 @@ module _ (m : List ℕ) (bytes : AllBytes m) where
   pub run-fits : (s c : ℕ) → s + c ≤ length (rowsOf m) → AllOf (λ (h : Held). Fits (h .tuple)) (tab (heldIn (flatOf m)) s c)
   run-fits s zero h = tt
   run-fits s (suc c) h = (tuple-fits s (omega arith), run-fits (suc s) c (omega arith))
-
-  pub numbers-fit : (headAt m .level < 4294967296) × (headAt m .next < 4294967296)
-  unfolding headAt headOf
-  numbers-fit = (num4-small (cut 4 28 m) 8 (bytes-cut 4 28 m bytes), num4-small (cut 4 28 m) 12 (bytes-cut 4 28 m bytes))
-
--- ---- a page
-
-pub page-fits : (e : Entry) (hs : List Held) → (pageOf e hs .table < 8) × (pageOf e hs .block < 4096)
-unfolding pageOf
-page-fits e hs = (omega arith, omega arith)

@@ -1,6 +1,5 @@
 -- What a row's flags say, and rows with other flags.
 use mathlib.Core.Path.{_≡_, refl, sym, ap, _∙_}
-use mathlib.Core.Bool.{not}
 use Prim.Native.Nat.{ℕ, zero, suc, _+_, _*_, _-_, _/_, _%_, _≤_, _<_}
 use native.Mathlib.Nat.{add-mul-mod-self-left, mod-eq-of-lt}
 use native.Mathlib.Omega.{arith}
@@ -9,8 +8,7 @@ use lib.ListN.{take}
 use lib.Dec.{eqb}
 use Rattle.basics.specs.Basics.{if_then_else_}
 use Rattle.blocks.specs.Limits.{payloadLimit}
-use Rattle.blocks.specs.Tuple.{tentative, isTentative}
-use Rattle.model.specs.Rules.{isAdding, isRemoving, isCommitting, isPending, withPending, asCommitted, calm}
+use Rattle.model.specs.Rules.{isAdding, withPending, asCommitted, calm}
 use Rattle.memory.specs.Store.{ownerOf, pendingOf, tupleOf, tupleBy, heldOf}
 use Rattle.memory.specs.declared.Row.{Row}
 
@@ -28,24 +26,6 @@ module _ (n : ℕ) (h : n < 4) where
   pub adding-is : isAdding (pendingOf n) ≡ eqb n 1
   unfolding isAdding pendingOf if_then_else_
   adding-is = four (λ k. isAdding (pendingOf k) ≡ eqb k 1) refl refl refl refl n h
-
-  pub committing-is : isCommitting (pendingOf n) ≡ eqb n 2
-  unfolding isCommitting pendingOf if_then_else_
-  committing-is = four (λ k. isCommitting (pendingOf k) ≡ eqb k 2) refl refl refl refl n h
-
-  pub removing-is : isRemoving (pendingOf n) ≡ eqb n 3
-  unfolding isRemoving pendingOf if_then_else_
-  removing-is = four (λ k. isRemoving (pendingOf k) ≡ eqb k 3) refl refl refl refl n h
-
-  pub pending-is : isPending (pendingOf n) ≡ not (eqb n 0)
-  unfolding isPending pendingOf if_then_else_
-  pending-is = four (λ k. isPending (pendingOf k) ≡ not (eqb k 0)) refl refl refl refl n h
-
-pub tentative-is : (flag w : ℕ) → flag < 2 → isTentative (ownerOf flag w) ≡ eqb flag 1
-unfolding isTentative ownerOf if_then_else_
-tentative-is zero w h = refl
-tentative-is (suc zero) w h = refl
-tentative-is (suc (suc n)) w h = absurd (omega arith)
 
 -- ---- rows made and changed
 
@@ -109,11 +89,3 @@ new-row-is k n w x s b bytes hx hs e =
       tuple = record { key = k; number = n; owner = ownerOf (x % 2) w; mark = eqb (x / 2 % 2) 1; payload = p i };
       pending = pendingOf (e2 i);
     }
-
--- a transaction and a statement as one number
-pub owner-is : (t s : ℕ) → s < 1048576 → ownerOf 1 (t * 1048576 + s) ≡ tentative t s
-unfolding ownerOf if_then_else_
-owner-is t s h =
-    let a : (t * 1048576 + s) / 1048576 ≡ t = omega arith in
-    let b : (t * 1048576 + s) % 1048576 ≡ s = omega arith in
-    λ i. tentative (a i) (b i)

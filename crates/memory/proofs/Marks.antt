@@ -1,7 +1,7 @@
 -- One bit for each block: set, read, cleared.
 use mathlib.Core.Path.{_≡_, refl, sym, ap, _∙_}
 use mathlib.Core.Logic.{_⊎_, inl, inr, ⊎-elim}
-use mathlib.Core.Bool.{Bool, true, false, _||_}
+use mathlib.Core.Bool.{Bool, false, _||_}
 use Prim.Native.Nat.{ℕ, zero, suc, _+_, _-_, _/_, _%_, _^_, _≤_, _<_, max}
 use native.Mathlib.Nat.{div-eq-of-lt, div-self, zero-div, pow-suc, mul-mod-left}
 use native.Mathlib.Omega.{arith}
@@ -12,9 +12,6 @@ use lib.Dec.{eqb}
 use lib.Pow.{pow-pos, pow-lt, pow-add, shl-shr}
 use lib.Bits.{bitOr, or-step, or-shr}
 use borrow.Author.Tests.{eq-eqb, ne-eqb}
-use Rattle.basics.specs.Basics.{any, isIn}
-use Rattle.basics.proofs.Facts.{by}
-use Rattle.model.proofs.Lists.{in-append}
 use Rattle.memory.specs.Bytes.{cut, put, Apart}
 use Rattle.memory.specs.Views.{usedIn, usedAt}
 use Rattle.memory.specs.Flat.{usedAnd}
@@ -129,25 +126,3 @@ pub clear-apart : (a n : ℕ) (m : List ℕ) → a + n ≤ length m → Apart m 
 clear-apart a n m h =
     let l : length (replicate {A = ℕ} n 0) ≡ n = length-replicate {A = ℕ} n 0 in
     put-apart a (replicate n 0) m n (omega arith) (omega arith)
-
--- ---- lists of blocks
-
-eqb-swap : (a b : ℕ) → eqb a b ≡ eqb b a
-eqb-swap a b = ⊎-elim (λ (e : a ≡ b). eq-eqb a b e ∙ sym (eq-eqb b a (sym e))) (λ (n : a ≡ b → ⊥). ne-eqb a b n ∙ sym (ne-eqb b a (λ e. n (sym e)))) (either a b)
-
-or-comm : (a b : Bool) → (a || b) ≡ (b || a)
-or-comm true true = refl
-or-comm true false = refl
-or-comm false true = refl
-or-comm false false = refl
-
-in-one : (b x : ℕ) → isIn b (x ∷ []) ≡ eqb b x
-unfolding isIn any
-in-one b x = by (eqb b x) (λ h. rw (h, any)) (λ h. rw (h, any))
-
-in-more : (b x : ℕ) (ys : List ℕ) → isIn b (ys ++ x ∷ []) ≡ (eqb x b || isIn b ys)
-in-more b x ys = in-append b ys (x ∷ []) ∙ or-comm (isIn b ys) (isIn b (x ∷ [])) ∙ ap (λ (t : Bool). t || isIn b ys) (in-one b x ∙ eqb-swap b x)
-
--- blocks marked one after the other are those of a list
-pub mark-more : (x : ℕ) (ys : List ℕ) → usedAnd x (λ b. isIn b ys) ≡ (λ b. isIn b (ys ++ x ∷ []))
-mark-more x ys = λ i b. sym (in-more b x ys) i

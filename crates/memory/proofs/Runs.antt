@@ -12,7 +12,6 @@ use Rattle.basics.specs.Basics.{sum}
 use Rattle.rows.specs.Rows.{rowsOf}
 use Rattle.image.proofs.Collect.{length-rows}
 use Rattle.model.specs.State.{Held}
-use Rattle.model.specs.Rules.{heldSize}
 use Rattle.model.specs.Sight.{held}
 use Rattle.memory.specs.Views.{tab}
 use Rattle.memory.specs.Flat.{Flat, entryIn, noRow, noEntry}
@@ -117,11 +116,6 @@ module _ (f : Flat) (full : filled f ≡ true) where
       ∙ ap (λ (z : List Held). pageOf e z ∷ drop (suc p) (nest es ts)) (run-of f (total (take p es)) (e .count) (start-in p h))
 
 -- ---- sizes and counts of tuples
-
--- a page's size is the sum over its rows
-pub page-size : (f : Flat) (p : ℕ) → sum heldSize (pageIn f p .tuples) ≡ sum heldSize (tab (heldIn f) (startOf f p) (entryIn f p .count))
-unfolding pageIn pageOf
-page-size f p = refl
 
 held-nest : (es : List Entry) (ts : List Held) → length ts ≡ total es → length (held (nest es ts)) ≡ total es
 unfolding nest held total sum pageOf

@@ -22,19 +22,25 @@ pub record Flat : Type 0 where
   pub directories : List ℕ
   pub used : ℕ → Bool
 
--- the lists, as long as the counts say
+-- ---- the lists, each as long as its count says
+
+-- the open transactions
 unfoldable pub opensOf : List ℕ → List ℕ
 opensOf m = opensAt m (countAt m 2)
 
+-- the rows of all pages
 unfoldable pub rowsOf : List ℕ → List Row
 rowsOf m = rowsAt m (firstAt m) (countAt m 0)
 
+-- the page entries
 unfoldable pub entriesOf : List ℕ → List Entry
 entriesOf m = entriesAt m (headAt m .capacity) (countAt m 1)
 
+-- the directory entries
 unfoldable pub namedOf : List ℕ → List ℕ
 namedOf m = namedAt m (headAt m .capacity) (countAt m 3)
 
+-- the directory blocks written
 unfoldable pub directoriesOf : List ℕ → List ℕ
 directoriesOf m = directoriesAt m (countAt m 4)
 
@@ -89,24 +95,31 @@ pub record Becomes (m m' : List ℕ) (f : Flat) : Type 0 where
 
 -- ---- one part exchanged
 
+-- another head
 abbrev pub withHead : Flat → Head → Flat
 withHead f h = record { head = h; opens = f .opens; rows = f .rows; entries = f .entries; named = f .named; directories = f .directories; used = f .used }
 
+-- other open transactions
 abbrev pub withOpens : Flat → List ℕ → Flat
 withOpens f xs = record { head = f .head; opens = xs; rows = f .rows; entries = f .entries; named = f .named; directories = f .directories; used = f .used }
 
+-- other rows
 abbrev pub withRows : Flat → List Row → Flat
 withRows f xs = record { head = f .head; opens = f .opens; rows = xs; entries = f .entries; named = f .named; directories = f .directories; used = f .used }
 
+-- other page entries
 abbrev pub withEntries : Flat → List Entry → Flat
 withEntries f xs = record { head = f .head; opens = f .opens; rows = f .rows; entries = xs; named = f .named; directories = f .directories; used = f .used }
 
+-- other directory entries
 abbrev pub withNamed : Flat → List ℕ → Flat
 withNamed f xs = record { head = f .head; opens = f .opens; rows = f .rows; entries = f .entries; named = xs; directories = f .directories; used = f .used }
 
+-- other directory blocks written
 abbrev pub withDirectories : Flat → List ℕ → Flat
 withDirectories f xs = record { head = f .head; opens = f .opens; rows = f .rows; entries = f .entries; named = f .named; directories = xs; used = f .used }
 
+-- other blocks in use
 abbrev pub withUsed : Flat → (ℕ → Bool) → Flat
 withUsed f u = record { head = f .head; opens = f .opens; rows = f .rows; entries = f .entries; named = f .named; directories = f .directories; used = u }
 
@@ -124,6 +137,7 @@ removeAt i xs = take i xs ++ drop (i + 1) xs
 abbrev pub noRow : Row
 noRow = record { key = 0; number = 0; owner = 0; flags = 0; size = 0; payload = [] }
 
+-- an entry of zeros
 abbrev pub noEntry : Entry
 noEntry = record { table = 0; frozen = 0; count = 0; block = 0 }
 

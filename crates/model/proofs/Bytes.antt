@@ -9,11 +9,9 @@ use lib.Seq.{take-at, drop-at, drop-append-le, take-append-le, drop-append-add, 
 use lib.Dec.{eqb, leb, ltb}
 use Rattle.basics.specs.Basics.{if_then_else_, basics}
 use Rattle.basics.proofs.Facts.{by, lie, and-true}
-use Rattle.blocks.specs.Tuple.{AllBytes}
 use Rattle.blocks.specs.Block.{Block, malformed, header, page, directory, encodeBlock}
 use Rattle.blocks.specs.Decode.{decodeBlock}
 use Rattle.blocks.specs.declared.Header.{Header}
-use Rattle.blocks.proofs.Spelled.{bytes-append, bytes-take, bytes-drop}
 use Rattle.blocks.proofs.Laws.{encode-length, decode-encode, decode-in-range}
 use Rattle.rows.specs.Rows.{rowRules}
 use Rattle.image.specs.View.{View, view, blockAt, blockCount}
@@ -62,12 +60,6 @@ module _ (img xs : List ℕ) (b : ℕ) (fits : 512 * b + 512 ≤ length img) (bl
       ap (λ z. take 512 (drop z (putBlock img b xs))) e
       ∙ ap (take 512) (drop-append-add (take (512 * b) img) (xs ++ drop (512 * b + 512) img) (length xs + m)
       ∙ drop-append-add xs (drop (512 * b + 512) img) m ∙ drop-drop m (512 * b + 512) img ∙ ap (λ z. drop z img) f)
-
-  pub bytes-put : AllBytes img → AllBytes xs → AllBytes (putBlock img b xs)
-  unfolding putBlock
-  bytes-put h k =
-      bytes-append (take (512 * b) img) (xs ++ drop (512 * b + 512) img) (bytes-take (512 * b) img h)
-      (bytes-append xs (drop (512 * b + 512) img) k (bytes-drop (512 * b + 512) img h))
 
   apart : (i : ℕ) → eqb b i ≡ false → b < suc i → b < i
   apart i h k = by (leb (suc b) i) (leb-true (suc b) i)
@@ -224,12 +216,3 @@ made-accepted img m n s e =
       most = c .2;
       seen = fresh-view (view (madeImage img n)) b n (k .1) (k .2) eq;
     })
-
--- whatever the image held before, and with any memory that suffices
-pub made-recovers : (img : List ℕ) (m n : ℕ) (s : Store) → make (length img) m n ≡ holds s
-    → (m′ : ℕ) → memoryFor n ≤ m′ → recover m′ (madeImage img n) ≡ holds (freshStore (length img / 512) n)
-unfolding freshStore
-made-recovers img m n s e m′ h =
-    let k = make-accepted (length img) m n s e in
-    let a = subst (Accepted (madeImage img n)) (k .4) (made-accepted img m n s e) in
-    recover-view m′ (madeImage img n) (freshStore (length img / 512) n) (length img / 512) (a .long) (a .least) (a .most) (a .seen) h

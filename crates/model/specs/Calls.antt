@@ -23,6 +23,7 @@ pub data Call : Type 0 where
   steps : ℕ → Call
   runs : ℕ → ℕ → Call
 
+-- what each call does to a store
 unfoldable pub call : Call → Store → Outcome
 call (opens tx) s = openCall tx s
 call (inserts tx t k bs) s = insertCall tx t k bs s
@@ -50,10 +51,12 @@ Typed begins = Unit {0}
 Typed (steps len) = Unit {0}
 Typed (runs limit len) = Unit {0}
 
+-- each call of a list is
 abbrev pub AllTyped : List Call → Type 0
 AllTyped [] = Unit {0}
 AllTyped (c ∷ cs) = Typed c × AllTyped cs
 
+-- the call that starts a checkpoint
 unfoldable pub isBegin : Call → Bool
 isBegin (opens tx) = false
 isBegin (inserts tx t k bs) = false
@@ -71,10 +74,11 @@ isBegin (runs limit len) = false
 unfoldable pub others : ℕ → List ℕ → List ℕ
 others tx ws = keep (λ w. not (eqb w tx)) ws
 
--- the open transactions that had written, after an accepted call: those with an accepted insert, replace or delete since they opened
+-- transaction tx too
 unfoldable pub withWriter : ℕ → List ℕ → List ℕ
 withWriter tx ws = if isIn tx ws then ws else tx ∷ ws
 
+-- the open transactions that had written (with an accepted insert, replace or delete since they opened) after an accepted call; ws had before
 unfoldable pub writers : Call → List ℕ → List ℕ
 writers (opens tx) ws = ws
 writers (inserts tx t k bs) ws = withWriter tx ws
@@ -88,6 +92,7 @@ writers begins ws = ws
 writers (steps len) ws = ws
 writers (runs limit len) ws = ws
 
+-- the call was not refused
 unfoldable pub accepted : Answer → Bool
 accepted (refused n) = false
 accepted done = true

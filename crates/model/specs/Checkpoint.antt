@@ -11,7 +11,7 @@ use Rattle.blocks.specs.Tuple.{Tuple, sizes}
 use Rattle.blocks.specs.Block.{Block, header, page, directory}
 use Rattle.blocks.specs.declared.Header.{Header}
 use Rattle.image.specs.Stages.{directoriesFor}
-use Rattle.model.specs.State.{Page, Checkpoint, idle, running, Store, Write, Answer, refused, done, count, Outcome}
+use Rattle.model.specs.State.{Page, Checkpoint, idle, running, Store, refused, done, count, Outcome}
 use Rattle.model.specs.Rules.{isDirty, isFrozen, freeze, shown, thaw}
 use Rattle.model.specs.Transactions.{Test, _when_, gives, unless}
 
@@ -22,6 +22,7 @@ stored s l ps u b c =
 
 -- ---- free blocks
 
+-- of the blocks from 1 on: neither named by the landed header or its directory nor written by the running checkpoint
 unfoldable pub isFree : Store → ℕ → Bool
 isFree s b = not (s .used b)
 
@@ -32,6 +33,7 @@ allocate s =
     let t = s .taken in
     elim (first (isFree s) (from (suc t) (s .blocks - suc t) ++ from 1 t)) [ some b ↦ b | none ↦ s .blocks - 1 ]
 
+-- how many blocks are free
 unfoldable pub freeCount : Store → ℕ
 freeCount s = howMany (isFree s) (from 1 (s .blocks - 1))
 
@@ -41,6 +43,7 @@ usedToo s b c = eqb b c || s .used c
 
 -- ---- begin
 
+-- a checkpoint has begun and its header has not landed
 unfoldable pub isRunning : Checkpoint → Bool
 isRunning idle = false
 isRunning (running n es ds) = true
@@ -63,6 +66,7 @@ unfoldable pub leftOf : Checkpoint → List Page → ℕ
 leftOf idle ps = 0
 leftOf (running n es ds) ps = howMany isFrozen ps + (directoriesFor (length es) - length ds) + 1
 
+-- how many stores the running checkpoint has still to make
 unfoldable pub left : Store → ℕ
 left s = leftOf (s .checkpoint) (s .pages)
 
@@ -120,6 +124,7 @@ unfoldable pub stepOf : Option Page → ℕ → List ℕ → List ℕ → Store 
 stepOf (some p) n es ds s = storePage n es ds p s
 stepOf none n es ds s = if ltb (length ds) (directoriesFor (length es)) then storeDirectory n es ds s else storeHeader n es ds s
 
+-- 18 none running
 unfoldable pub stepAt : Checkpoint → Store → Outcome
 stepAt idle s = gives (refused 18) s
 stepAt (running n es ds) s = stepOf (first isFrozen (s .pages)) n es ds s
@@ -128,6 +133,7 @@ stepAt (running n es ds) s = stepOf (first isFrozen (s .pages)) n es ds s
 unfoldable pub badImage : ℕ → Store → Test
 badImage len s = 5 when not (eqb len (512 * s .blocks))
 
+-- one store
 unfoldable pub stepCall : ℕ → Store → Outcome
 stepCall len s = unless (badImage len s ∷ []) s (stepAt (s .checkpoint) s)
 

@@ -1,14 +1,14 @@
 -- The quoted line: wherever power fails, recovery gives what the uncut run had just before the checkpoint whose header landed last.
 use Prim.Native.Nat.{ℕ, _≤_}
 use mathlib.Core.Path.{_≡_}
-use mathlib.Core.Bool.{Bool, true, false, _&&_}
+use mathlib.Core.Bool.{Bool, false, _&&_}
 use mathlib.Core.List.{List, [], _∷_, _++_, map}
 use lib.ListN.{length}
 use lib.Dec.{eqb}
 use Rattle.basics.specs.Basics.{if_then_else_, isIn}
 use Rattle.blocks.specs.Tuple.{Tuple, AllBytes}
 use Rattle.image.specs.Stages.{holds}
-use Rattle.model.specs.State.{Held, Page, Store, Write, storedBytes}
+use Rattle.model.specs.State.{Page, Store, Write, storedBytes}
 use Rattle.model.specs.Transactions.{openNumbers}
 use Rattle.model.specs.Calls.{Call, call, AllTyped, isBegin, accepted, afterCalls, hadWritten}
 use Rattle.model.specs.Recover.{memoryFor, putBlock, make, madeImage, recover}
@@ -27,6 +27,7 @@ pub record Logged : Type 0 where
   pub write : Write
   pub before : List Call
 
+-- a store of a checkpoint that began after the calls cs
 unfoldable pub tag : List Call → Write → Logged
 tag cs w = record { write = w; before = cs }
 
@@ -48,6 +49,7 @@ isHeader w = eqb (w .write .at) 0
 unfoldable pub landed : Logged → List Call → List Call
 landed w base = if isHeader w then w .before else base
 
+-- the image with that block exchanged
 unfoldable pub stored : List ℕ → Logged → List ℕ
 stored img w = putBlock img (w .write .at) (storedBytes (w .write))
 

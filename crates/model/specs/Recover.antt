@@ -1,17 +1,17 @@
 -- Make and recover.
 use Prim.Native.Nat.{ℕ, _+_, _*_, _/_}
-use mathlib.Core.Bool.{Bool, true, false, not, _||_}
+use mathlib.Core.Bool.{false, not, _||_}
 use mathlib.Core.List.{List, [], _∷_, _++_, map}
 use lib.ListN.{length, take, drop}
-use lib.Dec.{leb, ltb, eqb}
+use lib.Dec.{ltb}
 use Rattle.basics.specs.Basics.{if_then_else_, howMany, isIn}
 use Rattle.blocks.specs.Block.{header, encodeBlock}
 use Rattle.blocks.specs.declared.Header.{Header}
 use Rattle.rows.specs.Rows.{Row, isOwn, transactions}
-use Rattle.image.specs.View.{View, view, blockCount}
+use Rattle.image.specs.View.{View, view}
 use Rattle.image.specs.Stages.{Stage, refuses, holds, capacityLimit, wholeBlocks, directoryBlocks, StoredPage, rowsOfPages}
 use Rattle.image.specs.Whole.{headerStage, pagesStage}
-use Rattle.model.specs.State.{Page, Active, Checkpoint, idle, Store, Write, storedBytes}
+use Rattle.model.specs.State.{Page, Active, idle, Store, Write, storedBytes}
 use Rattle.model.specs.Rules.{calm}
 use Rattle.model.specs.Checkpoint.{headerFor}
 
@@ -72,10 +72,12 @@ recoveredStore h ps =
       checkpoint = idle;
     }
 
+-- the store of the pages that passed
 unfoldable pub recoverPages : Header → Stage (List StoredPage) → Stage Store
 recoverPages h (refuses n) = refuses n
 recoverPages h (holds ps) = holds (recoveredStore h ps)
 
+-- 3 memory too short, between the header's test and the directory's
 unfoldable pub recoverBelow : ℕ → View → Stage Header → Stage Store
 recoverBelow m v (refuses n) = refuses n
 recoverBelow m v (holds h) = if ltb m (memoryFor (h .capacity)) then refuses 3 else recoverPages h (pagesStage v h)

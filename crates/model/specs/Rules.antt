@@ -5,16 +5,18 @@ use mathlib.Core.Option.{Option, none, some, Option·map}
 use mathlib.Core.List.{List, [], _∷_, _++_, map}
 use lib.ListN.{length, take, drop}
 use lib.Dec.{leb, ltb, eqb}
-use Rattle.basics.specs.Basics.{if_then_else_, any, keep, isEmpty, sum}
+use Rattle.basics.specs.Basics.{if_then_else_, any, isEmpty, sum}
 use Rattle.blocks.specs.Limits.{recordSpace, joinSum}
 use Rattle.blocks.specs.Tuple.{Tuple, committed, size}
 use Rattle.model.specs.State.{Pending, nothing, adding, committing, removing, Held, Page}
 
 -- ---- sizes
 
+-- a tuple's size, whatever is pending
 unfoldable pub heldSize : Held → ℕ
 heldSize h = size (h .tuple)
 
+-- the tuples fit a block
 unfoldable pub fits : List Held → Bool
 fits hs = leb (sum heldSize hs) recordSpace
 
@@ -24,6 +26,7 @@ fits hs = leb (sum heldSize hs) recordSpace
 unfoldable pub fresh : ℕ → List Held → Page
 fresh t hs = record { table = t; block = 0; frozen = false; tuples = hs }
 
+-- the page with other tuples, else as it was
 unfoldable pub withTuples : Page → List Held → Page
 withTuples p hs = record { table = p .table; block = p .block; frozen = p .frozen; tuples = hs }
 
@@ -34,6 +37,7 @@ unfoldable pub lead : ℕ → ℕ → List Held → ℕ
 lead w a [] = 0
 lead w a (h ∷ hs) = if leb w (2 * (a + heldSize h)) then 1 else suc (lead w (a + heldSize h) hs)
 
+-- how many leading tuples the first part has
 unfoldable pub half : List Held → ℕ
 half hs = lead (sum heldSize hs) 0 hs
 
@@ -46,6 +50,7 @@ unfoldable pub splitDeep : ℕ → List Held → List (List Held)
 splitDeep zero hs = hs ∷ []
 splitDeep (suc d) hs = elim (fits hs) [ true ↦ hs ∷ [] | false ↦ splitDeep d (take (half hs) hs) ++ splitDeep d (drop (half hs) hs) ]
 
+-- split until every part fits
 unfoldable pub splitAll : List Held → List (List Held)
 splitAll hs = splitDeep (length hs) hs
 
@@ -86,6 +91,7 @@ placeFront t x (p ∷ ps) =
     else if eqb (p .table) t then grown p (entering p x ∷ p .tuples) ++ ps
     else fresh t (calm x ∷ []) ∷ p ∷ ps
 
+-- a new tuple of table t
 unfoldable pub place : ℕ → Tuple → List Page → List Page
 place t x ps = elim (placeAfter t x ps) [ some qs ↦ qs | none ↦ placeFront t x ps ]
 
@@ -96,9 +102,11 @@ unfoldable pub joins : Page → Page → Bool
 joins p q =
     not (p .frozen) && (not (q .frozen) && (eqb (p .table) (q .table) && leb (sum heldSize (p .tuples) + sum heldSize (q .tuples)) joinSum))
 
+-- the two as one page
 unfoldable pub joined : Page → Page → Page
 joined p q = fresh (p .table) (p .tuples ++ q .tuples)
 
+-- the page before, if there is one
 unfoldable pub listOf : Option Page → List Page
 listOf none = []
 listOf (some p) = p ∷ []
@@ -109,10 +117,12 @@ unfoldable pub settleNext : List Page → Page → List Page → List Page
 settleNext rest p [] = rest
 settleNext rest p (q ∷ qs) = if joins p q then joined p q ∷ qs else rest ++ q ∷ qs
 
+-- a page that is not empty
 unfoldable pub settleFull : List Page → Option Page → Page → List Page → List Page
 settleFull rest none p ps = settleNext rest p ps
 settleFull rest (some o) p ps = if joins o p then joined o p ∷ ps else o ∷ settleNext rest p ps
 
+-- a page after a removal or at its thaw
 unfoldable pub settle : List Page → Option Page → Page → List Page → List Page
 settle rest prev p ps = if isEmpty (p .tuples) then listOf prev ++ ps else settleFull rest prev p ps
 
@@ -123,39 +133,47 @@ around hit f prev (p ∷ ps) = elim (hit p) [ true ↦ f prev p ps | false ↦ l
 
 -- ---- removing and committing a tuple, by its number
 
+-- a pending add
 unfoldable pub isAdding : Pending → Bool
 isAdding nothing = false
 isAdding adding = true
 isAdding committing = false
 isAdding removing = false
 
+-- a pending remove
 unfoldable pub isRemoving : Pending → Bool
 isRemoving nothing = false
 isRemoving adding = false
 isRemoving committing = false
 isRemoving removing = true
 
+-- a pending commit
 unfoldable pub isCommitting : Pending → Bool
 isCommitting nothing = false
 isCommitting adding = false
 isCommitting committing = true
 isCommitting removing = false
 
+-- any pending operation
 unfoldable pub isPending : Pending → Bool
 isPending nothing = false
 isPending adding = true
 isPending committing = true
 isPending removing = true
 
+-- the tuple with another pending operation
 unfoldable pub withPending : Pending → Held → Held
 withPending o h = record { tuple = h .tuple; pending = o }
 
+-- the tuple, committed
 unfoldable pub asCommitted : Tuple → Tuple
 asCommitted x = record { key = x .key; number = x .number; owner = committed; mark = x .mark; payload = x .payload }
 
+-- the tuple of number n
 unfoldable pub isNumber : ℕ → Held → Bool
 isNumber n h = eqb (h .tuple .number) n
 
+-- the page that has it
 unfoldable pub hasNumber : ℕ → Page → Bool
 hasNumber n p = any (isNumber n) (p .tuples)
 
@@ -164,6 +182,7 @@ unfoldable pub edit : (Held → List Held) → ℕ → List Held → List Held
 edit g n [] = []
 edit g n (h ∷ hs) = if isNumber n h then g h ++ hs else h ∷ edit g n hs
 
+-- removed
 unfoldable pub gone : Held → List Held
 gone h = []
 
@@ -175,6 +194,7 @@ goneLater h = if isAdding (h .pending) then [] else withPending removing h ∷ [
 unfoldable pub takenLater : ℕ → List Held → List Held
 takenLater n hs = let left = edit goneLater n hs in if isEmpty left then hs else left
 
+-- committed, whatever is pending
 unfoldable pub kept : Held → List Held
 kept h = record { tuple = asCommitted (h .tuple); pending = h .pending } ∷ []
 
@@ -185,6 +205,7 @@ keptLater h =
     else if isRemoving (h .pending) then h ∷ []
     else withPending committing h ∷ []
 
+-- a frozen page notes the removal; another one changes directly, and is dropped or joined
 unfoldable pub removeOn : ℕ → Option Page → Page → List Page → List Page
 removeOn n prev p ps =
     if p .frozen then listOf prev ++ withTuples p (takenLater n (p .tuples)) ∷ ps
@@ -195,14 +216,17 @@ unfoldable pub commitOn : ℕ → Option Page → Page → List Page → List Pa
 commitOn n prev p ps =
     listOf prev ++ (if p .frozen then withTuples p (edit keptLater n (p .tuples)) else fresh (p .table) (edit kept n (p .tuples))) ∷ ps
 
+-- the tuple of number n is removed
 unfoldable pub remove : ℕ → List Page → List Page
 remove n ps = around (hasNumber n) (removeOn n) none ps
 
+-- the tuple of number n is committed
 unfoldable pub commit : ℕ → List Page → List Page
 commit n ps = around (hasNumber n) (commitOn n) none ps
 
 -- ---- freezing and thawing
 
+-- it has no block yet
 unfoldable pub isDirty : Page → Bool
 isDirty p = eqb (p .block) 0
 
@@ -224,6 +248,7 @@ unfoldable pub ripened : List Held → List Tuple
 ripened [] = []
 ripened (h ∷ hs) = if isRemoving (h .pending) then ripened hs else ripe h ∷ ripened hs
 
+-- frozen by begin and not stored yet
 unfoldable pub isFrozen : Page → Bool
 isFrozen p = p .frozen
 
@@ -234,6 +259,7 @@ thawOn b prev p ps =
     then (let hs = map calm (ripened (p .tuples)) in settle (map (fresh (p .table)) (splitAll hs)) prev (fresh (p .table) hs) ps)
     else listOf prev ++ record { table = p .table; block = b; frozen = false; tuples = p .tuples } ∷ ps
 
+-- the first frozen page is thawed after its store as block b
 unfoldable pub thaw : ℕ → List Page → List Page
 thaw b ps = around isFrozen (thawOn b) none ps
 

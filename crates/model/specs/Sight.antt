@@ -1,12 +1,12 @@
 -- What transactions and refusal tests see: the rows with pending operations taken as done.
 use Prim.Native.Nat.{ℕ}
-use mathlib.Core.Bool.{Bool, true, false, not, _&&_}
+use mathlib.Core.Bool.{Bool, not, _&&_}
 use mathlib.Core.Option.{Option, none, some}
 use mathlib.Core.List.{List, [], _∷_, _++_, map}
 use Rattle.basics.specs.Basics.{if_then_else_, keep, first, last}
 use Rattle.blocks.specs.Tuple.{isTentative}
 use Rattle.rows.specs.Rows.{Row, rowsOf, isBy, isOwn, isAt}
-use Rattle.model.specs.State.{Held, Page, Store}
+use Rattle.model.specs.State.{Page, Store}
 use Rattle.model.specs.Rules.{ripened}
 
 -- every tuple that is held, page by page, those pending add or removal too
@@ -31,5 +31,6 @@ versions t k ps = keep (isAt t k) (rows ps)
 unfoldable pub seenOf : ℕ → List Row → Option Row
 seenOf tx vs = elim (last (isOwn tx) vs) [ some r ↦ if r .1 .mark then none else some r | none ↦ first (λ r. not (isTentative (r .1 .owner))) vs ]
 
+-- the version of a key that transaction tx sees
 unfoldable pub seen : ℕ → ℕ → ℕ → Store → Option Row
 seen tx t k s = seenOf tx (versions t k (s .pages))

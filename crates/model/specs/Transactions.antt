@@ -15,6 +15,7 @@ use Rattle.model.specs.Sight.{held, rows, isForeign, versions, seen}
 
 -- ---- refusals: the first test that holds
 
+-- a refusal's number and when it is given
 pub data Test : Type 0 where
   _when_ : ℕ → Bool → Test
 
@@ -35,9 +36,11 @@ changed s n ps os =
 
 -- ---- open transactions
 
+-- the numbers of the open transactions
 unfoldable pub openNumbers : List Active → List ℕ
 openNumbers os = map (λ o. o .transaction) os
 
+-- the open transaction tx
 unfoldable pub isFor : ℕ → Active → Bool
 isFor tx o = eqb (o .transaction) tx
 
@@ -99,13 +102,16 @@ unfoldable pub newTuple : ℕ → ℕ → List ℕ → Bool → Store → Tuple
 newTuple tx k bs m s =
     record { key = k; number = s .next; owner = tentative tx (writtenBy tx (s .active)); mark = m; payload = bs }
 
+-- one tentative tuple more
 unfoldable pub written : ℕ → ℕ → ℕ → List ℕ → Bool → Store → Outcome
 written tx t k bs m s = gives done (changed s (suc (s .next)) (place t (newTuple tx k bs m s) (s .pages)) (withWrite tx (s .active)))
 
+-- insert: a tuple of a key of which there is none
 unfoldable pub insertCall : ℕ → ℕ → ℕ → List ℕ → Store → Outcome
 insertCall tx t k bs s =
     unless (notOpen tx s ++ (noTable t ∷ tooLong bs ∷ foreign tx t k s ∷ present t k s ∷ full s)) s (written tx t k bs false s)
 
+-- replace: a newer version of a key that is seen
 unfoldable pub replaceCall : ℕ → ℕ → ℕ → List ℕ → Store → Outcome
 replaceCall tx t k bs s =
     unless (notOpen tx s ++ (noTable t ∷ tooLong bs ∷ foreign tx t k s ∷ unseen tx t k s ∷ full s)) s (written tx t k bs false s)
@@ -123,6 +129,7 @@ readSeen room none s = gives (refused 14) s
 readSeen room (some r) s =
     unless (21 when ltb room (length (r .1 .payload)) ∷ []) s (gives (filled (length (r .1 .payload)) (r .1 .payload)) s)
 
+-- read: the payload of the version that is seen
 unfoldable pub readCall : ℕ → ℕ → ℕ → ℕ → Store → Outcome
 readCall tx t k room s = unless (notOpen tx s ++ (noTable t ∷ [])) s (readSeen room (seen tx t k s) s)
 
@@ -131,23 +138,28 @@ unfoldable pub listing : List ℕ → List ℕ
 listing [] = []
 listing (tx ∷ txs) = tx / 256 % 256 ∷ tx % 256 ∷ listing txs
 
+-- list: the open transactions
 unfoldable pub listCall : ℕ → Store → Outcome
 listCall room s =
     unless (21 when ltb room (2 * length (s .active)) ∷ []) s (gives (filled (length (s .active)) (listing (openNumbers (s .active)))) s)
 
 -- ---- commit, abort: a plan of operations on tuples by number, made from the rows at entry
 
+-- an operation on the tuple of that number
 pub data Op : Type 0 where
   toCommit toRemove : ℕ → Op
 
+-- the operations, one after another
 unfoldable pub perform : List Op → List Page → List Page
 perform [] ps = ps
 perform (toCommit n ∷ os) ps = perform os (commit n ps)
 perform (toRemove n ∷ os) ps = perform os (remove n ps)
 
+-- the row of number n
 unfoldable pub isRow : ℕ → Row → Bool
 isRow n r = eqb (number r) n
 
+-- all of these are removed, in their order
 unfoldable pub removeAll : List Row → List Op
 removeAll [] = []
 removeAll (r ∷ rs) = toRemove (number r) ∷ removeAll rs
@@ -157,6 +169,7 @@ removeAll (r ∷ rs) = toRemove (number r) ∷ removeAll rs
 unfoldable pub planKey : Row → List Row → List Op
 planKey r vs = if r .1 .mark then removeAll vs else toCommit (number r) ∷ removeAll (keep (λ y. not (isRow (number r) y)) vs)
 
+-- the transaction's own version of key k of table t
 unfoldable pub ownAt : ℕ → ℕ → ℕ → Row → Bool
 ownAt tx t k y = isOwn tx y && isAt t k y
 
@@ -167,9 +180,11 @@ planRows tx everything (x ∷ xs) =
     (if isOwn tx x && not (any (ownAt tx (x .0) (x .1 .key)) xs) then planKey x (keep (isAt (x .0) (x .1 .key)) everything) else [])
     ++ planRows tx everything xs
 
+-- the operations of a commit
 unfoldable pub plan : ℕ → List Page → List Op
 plan tx ps = let rs = rows ps in planRows tx rs rs
 
+-- commit carries out its plan and closes the transaction
 unfoldable pub commitCall : ℕ → Store → Outcome
 commitCall tx s =
     unless (notOpen tx s) s (gives done (changed s (s .next) (perform (plan tx (s .pages)) (s .pages)) (without tx (s .active))))

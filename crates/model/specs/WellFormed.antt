@@ -11,11 +11,11 @@ use Rattle.blocks.specs.Limits.{recordSpace, mostNumber}
 use Rattle.blocks.specs.Tuple.{Owner, committed, tentative, AllFit, sizes}
 use Rattle.rows.specs.Rows.{Row, number, isOwn, isAt, isLower, isBelow, rowsOk, openLimit}
 use Rattle.image.specs.Stages.{holds, capacityLimit, directoriesFor, isZero}
-use Rattle.model.specs.State.{Held, Page, Active, Checkpoint, idle, running, Store, Write, count}
+use Rattle.model.specs.State.{Held, Page, Checkpoint, idle, running, Store, Write, count}
 use Rattle.model.specs.Rules.{fits, isPending, isDirty, isFrozen, shown}
 use Rattle.model.specs.Sight.{held, rows}
 use Rattle.model.specs.Transactions.{openNumbers, writtenBy}
-use Rattle.model.specs.Checkpoint.{allocate, freeCount, isRunning, left, beginCall, stepCall, runCall}
+use Rattle.model.specs.Checkpoint.{allocate, freeCount, left, beginCall, stepCall, runCall}
 use Rattle.model.specs.Calls.{Call, steps, call, Typed, AllTyped, accepted, afterCalls}
 use Rattle.model.specs.Recover.{make, recover}
 use Rattle.model.specs.QuotedLine.{Start}
@@ -61,6 +61,7 @@ openOk os = every (leb (length os) openLimit ∷ distinct os ∷ all (λ tx. leb
 
 -- ---- a running checkpoint: n the next number at begin, es the entries, ds the directory blocks written
 
+-- what holds while it runs
 pub record RunningWell (n : ℕ) (es ds : List ℕ) (s : Store) : Type 0 where
   -- the header to come is one of this store
   pub level : s .level < mostNumber
@@ -86,6 +87,7 @@ CheckpointWell (running n es ds) s = RunningWell n es ds s
 
 -- ---- a well-formed store
 
+-- what holds of every store that calls lead to
 pub record WellFormed (s : Store) : Type 0 where
   pub blocks : (2 ≤ s .blocks) × (s .blocks ≤ 4096)
   pub capacity : (1 ≤ s .capacity) × (s .capacity ≤ capacityLimit)

@@ -16,6 +16,7 @@ capacityLimit = 1024
 unfoldable pub blockOk : ℕ → ℕ → Bool
 blockOk n b = ltb 0 b && ltb b n
 
+-- no block
 unfoldable pub isZero : ℕ → Bool
 isZero b = eqb b 0
 
@@ -27,10 +28,11 @@ directoriesFor p = (p + (entriesPerBlock - 1)) / entriesPerBlock
 abbrev pub numbersOf : Header → List ℕ
 numbersOf h = h .d0 ∷ h .d1 ∷ h .d2 ∷ h .d3 ∷ []
 
--- those in use, and the unused
+-- those in use
 unfoldable pub directoryBlocks : Header → List ℕ
 directoryBlocks h = take (h .directories) (numbersOf h)
 
+-- the numbers that are not in use
 unfoldable pub unusedNumbers : Header → List ℕ
 unusedNumbers h = drop (h .directories) (numbersOf h)
 

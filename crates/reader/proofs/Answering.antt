@@ -1,5 +1,5 @@
 -- What reading a block answers, once its fields are read and spelled again.
-use mathlib.Core.Path.{_≡_, refl}
+use mathlib.Core.Path.{_≡_}
 use mathlib.Core.Bool.{true, false}
 use mathlib.Core.Option.{none, some}
 use mathlib.Core.List.{List}
@@ -104,39 +104,12 @@ pub record PageIs (b : Block) (t n l : ℕ) : Type 0 where
   pub is : b ≡ page t l tuples
   pub count : length tuples ≡ n
 
--- b is a directory of n entries
-pub record DirectoryIs (b : Block) (n l : ℕ) : Type 0 where
-  pub entries : List ℕ
-  pub is : b ≡ directory l entries
-  pub count : length entries ≡ n
-
-pub answer-header : (b : Block) (h : Header) → reading b ≡ IsHeader h → b ≡ header h
-unfolding reading
-answer-header malformed h e = clash cc
-answer-header (header k) h e = cc
-answer-header (page t l ts) h e = clash cc
-answer-header (directory l es) h e = clash cc
-
 pub answer-page : (b : Block) (t n l : ℕ) → reading b ≡ IsPage t n l → PageIs b t n l
 unfolding reading
 answer-page malformed t n l e = clash cc
 answer-page (header k) t n l e = clash cc
 answer-page (page t′ l′ ts) t n l e = record { tuples = ts; is = cc; count = cc }
 answer-page (directory l′ es) t n l e = clash cc
-
-pub answer-directory : (b : Block) (n l : ℕ) → reading b ≡ IsDirectory n l → DirectoryIs b n l
-unfolding reading
-answer-directory malformed n l e = clash cc
-answer-directory (header k) n l e = clash cc
-answer-directory (page t l′ ts) n l e = clash cc
-answer-directory (directory l′ es) n l e = record { entries = es; is = cc; count = cc }
-
-pub answer-malformed : (b : Block) → reading b ≡ Malformed → b ≡ malformed
-unfolding reading
-answer-malformed malformed e = refl
-answer-malformed (header k) e = clash cc
-answer-malformed (page t l ts) e = clash cc
-answer-malformed (directory l es) e = clash cc
 
 -- the reading is one of some variants, by their numbers
 abbrev pub OneOfThese : List ℕ → Reading → Type 0

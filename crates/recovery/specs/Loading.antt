@@ -38,6 +38,7 @@ tuplesIn (header h) = []
 tuplesIn (page t l ts) = ts
 tuplesIn (directory l es) = []
 
+-- a page block
 unfoldable pub isPage : Block → Bool
 isPage malformed = false
 isPage (header h) = false

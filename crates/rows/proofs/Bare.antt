@@ -1,42 +1,15 @@
 -- Rows without their payloads: what columns hold of rows, and the tests on them.
 use mathlib.Core.Path.{_≡_, refl}
-use mathlib.Core.Bool.{Bool, true, false, _&&_}
+use mathlib.Core.Bool.{Bool, _&&_}
 use mathlib.Core.List.{List, [], _∷_, map}
 use Prim.Native.Nat.{ℕ, _+_, _-_, _*_, _/_, _%_}
-use native.Mathlib.Omega.{arith}
 use lib.ListN.{length}
 use lib.Dec.{leb}
-use borrow.Author.Tests.{ne-eqb}
 use Rattle.basics.specs.Basics.{if_then_else_, all, every, paired, distinct}
-use Rattle.blocks.specs.Tuple.{Owner, committed, tentative, OwnerFits, Fits}
 use Rattle.rows.specs.Rows.{Row, number, isAt, isLower, follows, startsWell, isBelow, statementOk, transactions, openLimit, markOk, rowsOk}
-use Rattle.rows.specs.Columns.{placeCode, ownerCode, codedOwner, markCode, coded, bare, columnsOk}
+use Rattle.rows.specs.Columns.{bare, columnsOk}
 use Rattle.rows.proofs.Ands.{and-assoc, and-comm, and-swap}
 use Rattle.rows.proofs.Kept.{paired-kept, numbers-kept, below-kept, transactions-kept, statements-kept}
-
--- ---- codes read back
-
-pub owner-back : (o : Owner) → OwnerFits o → codedOwner (ownerCode o) ≡ o
-unfolding codedOwner ownerCode if_then_else_
-owner-back committed f = refl
-owner-back (tentative t s) f =
-    let d : (1 + (t * 1048576 + s) - 1) / 1048576 ≡ t = omega arith in
-    let m : (1 + (t * 1048576 + s) - 1) % 1048576 ≡ s = omega arith in
-    rw (ne-eqb (1 + (t * 1048576 + s)) 0 (λ e. omega arith), d, m)
-
-pub mark-back : (m : Bool) → leb 1 (markCode m) ≡ m
-unfolding markCode
-mark-back true = refl
-mark-back false = refl
-
-pub strip : (r : Row) → Fits (r .1) → coded (placeCode r) (number r) (ownerCode (r .1 .owner)) (markCode (r .1 .mark)) ≡ bare r
-unfolding coded placeCode number
-strip r f =
-    let t : (r .0 * 4294967296 + r .1 .key) / 4294967296 ≡ r .0 = omega (arith, f .key) in
-    let k : (r .0 * 4294967296 + r .1 .key) % 4294967296 ≡ r .1 .key = omega (arith, f .key) in
-    let o = owner-back (r .1 .owner) (f .owner) in
-    let m = mark-back (r .1 .mark) in
-    λ i. (t i, record { key = k i; number = r .1 .number; owner = o i; mark = m i; payload = [] })
 
 -- ---- tests
 

@@ -5,7 +5,7 @@ use mathlib.Core.List.{List, [], _∷_, map}
 use lib.ListN.{length, getD}
 use lib.Dec.{eqb, leb}
 use Rattle.basics.specs.Basics.{if_then_else_, any, all, every, paired, distinct}
-use Rattle.blocks.specs.Tuple.{Owner, committed, tentative, Tuple}
+use Rattle.blocks.specs.Tuple.{Owner, committed, tentative}
 use Rattle.rows.specs.Rows.{Row, number, isOwn, follows, startsWell, isBelow, transactions, openLimit, statementOk}
 
 -- place: table and key
@@ -17,6 +17,7 @@ unfoldable pub ownerCode : Owner → ℕ
 ownerCode committed = 0
 ownerCode (tentative t s) = 1 + (t * 1048576 + s)
 
+-- the owner of that code
 unfoldable pub codedOwner : ℕ → Owner
 codedOwner o = if eqb o 0 then committed else tentative ((o - 1) / 1048576) ((o - 1) % 1048576)
 
@@ -52,6 +53,7 @@ unfoldable pub isLastBy : Owner → List Row → Bool
 isLastBy committed rs = false
 isLastBy (tentative t s) rs = not (any (isOwn t) rs)
 
+-- the last row of its transaction, before the rows rs
 unfoldable pub isLast : Row → List Row → Bool
 isLast r rs = isLastBy (r .1 .owner) rs
 

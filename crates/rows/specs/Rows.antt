@@ -11,10 +11,12 @@ use Rattle.blocks.specs.Tuple.{Owner, committed, tentative, Tuple, isTentative}
 abbrev pub Row : Type 0
 Row = ℕ × Tuple
 
+-- the tuples of a page of table t
 unfoldable pub rowsOf : ℕ → List Tuple → List Row
 rowsOf t [] = []
 rowsOf t (x ∷ xs) = (t, x) ∷ rowsOf t xs
 
+-- the tuple's number
 unfoldable pub number : Row → ℕ
 number r = r .1 .number
 
@@ -23,6 +25,7 @@ unfoldable pub isBy : ℕ → Owner → Bool
 isBy tx committed = false
 isBy tx (tentative u s) = eqb u tx
 
+-- a row written by transaction tx
 unfoldable pub isOwn : ℕ → Row → Bool
 isOwn tx r = isBy tx (r .1 .owner)
 
@@ -57,6 +60,7 @@ startsWell (r ∷ rs) = not (r .1 .mark)
 unfoldable pub markOk : Row → Bool
 markOk r = not (r .1 .mark) || (isTentative (r .1 .owner) && isEmpty (r .1 .payload))
 
+-- its number is below n
 unfoldable pub isBelow : ℕ → Row → Bool
 isBelow n r = ltb (number r) n
 
@@ -69,14 +73,16 @@ unfoldable pub statementIs : List Row → ℕ → Owner → Bool
 statementIs rs n committed = true
 statementIs rs n (tentative t s) = eqb s (howMany (earlierBy t n) rs)
 
+-- the statement of one row among all, rs
 unfoldable pub statementOk : List Row → Row → Bool
 statementOk rs r = statementIs rs (number r) (r .1 .owner)
 
--- the transactions of the tentative tuples, each once
+-- the tuple's transaction too, if it is tentative
 unfoldable pub addOwner : Owner → List ℕ → List ℕ
 addOwner committed ts = ts
 addOwner (tentative t s) ts = if isIn t ts then ts else t ∷ ts
 
+-- the transactions of the tentative tuples, each once
 unfoldable pub transactions : List Row → List ℕ
 transactions [] = []
 transactions (r ∷ rs) = addOwner (r .1 .owner) (transactions rs)

@@ -8,7 +8,6 @@ use lib.ListN.{length}
 use lib.Dec.{eqb}
 use Rattle.basics.proofs.Facts.{by}
 use Rattle.model.specs.State.{Store, Write, Answer, refused, done, count, filled, Outcome}
-use Rattle.model.specs.Checkpoint.{stepCall, runCall}
 use Rattle.model.specs.Calls.{Call, opens, inserts, replaces, deletes, commits, aborts, reads, lists, begins, steps, runs, call, Typed, AllTyped}
 use Rattle.model.specs.Recover.{imageAfter}
 use Rattle.model.proofs.Lists.{eqb-true}

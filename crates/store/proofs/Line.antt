@@ -8,13 +8,12 @@ use native.Mathlib.Omega.{arith}
 use lib.ListN.{length}
 use Rattle.basics.specs.Basics.{if_then_else_}
 use Rattle.basics.proofs.Facts.{AllOf}
-use Rattle.blocks.specs.Tuple.{AllBytes}
 use Rattle.image.specs.Stages.{Stage, refuses, holds}
 use Rattle.image.specs.View.{view}
 use Rattle.model.specs.State.{Store, Write}
 use Rattle.model.specs.Calls.{Call, call, isBegin, accepted, afterCalls}
-use Rattle.model.specs.Recover.{memoryFor, putBlock, imageAfter, make, madeImage, recover}
-use Rattle.model.specs.QuotedLine.{Start, fresh, Logged, tag, log, stored, Cut, Same}
+use Rattle.model.specs.Recover.{imageAfter, make, madeImage, recover}
+use Rattle.model.specs.QuotedLine.{Start, fresh, Logged, tag, log, stored, Same}
 use Rattle.model.proofs.Views.{WriteOk}
 use Rattle.model.proofs.Lists.{all-parts}
 use Rattle.model.proofs.Bytes.{view-sane}
@@ -24,7 +23,7 @@ use Rattle.memory.specs.Store.{storeIn}
 use Rattle.answers.specs.Shape.{meaning, MadeBy, Made, RecoveredBy, Recovered}
 use Rattle.answers.specs.declared.Answer.{Answer}
 use Rattle.answers.specs.declared.Answer.the-variants.{Done, Count, Filled, Refused}
-use Rattle.store.specs.QuotedLine.{Started, made, recovered, Starts, Runs, ends, next, Restored, Line, QuotedLine}
+use Rattle.store.specs.QuotedLine.{Started, made, recovered, Starts, Runs, ends, next, Restored, QuotedLine}
 use Rattle.store.proofs.Refused.{blocks-kept}
 use Rattle.store.proofs.Follows.{does, all-typed}
 use Rattle.model.specs.QuotedLine as model

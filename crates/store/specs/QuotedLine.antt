@@ -66,6 +66,7 @@ pub record Restored (s : Store) (base : List Call) (r : Answer) (m : List ℕ) :
   pub held : storeIn m ≡ some store
   pub same : Same store s base
 
+-- what is promised of a list of calls from img and m, where s is the store at the start, to img′ and m′
 pub record Line (img m : List ℕ) (s : Store) (calls : List Call) (img′ m′ : List ℕ) : Type 0 where
   -- the memory holds the store of the rules' own run: 4 is never given
   pub memory : storeIn m′ ≡ some (afterCalls calls s)

@@ -1,6 +1,5 @@
 -- `tuple_lines` is safe and ends: at most count turns, and the lent buffer keeps its length.
 use lib.ListN.{length}
-use borrow.Author.Needs.{needs}
 use native.Mathlib.Omega.{arith}
 use mathlib.Core.Path.{_≡_}
 use Prim.Native.Nat.{_≤_, _-_}
