@@ -4,21 +4,20 @@ use mathlib.Core.Bool.{true, false, not}
 use mathlib.Core.List.{List, [], _∷_}
 use Prim.Native.Nat.{ℕ, _+_, _-_, _/_, _%_, _≤_, _<_}
 use native.Mathlib.Omega.{arith}
-use lib.Dec.{eqb, leb}
-use borrow.Author.Tests.{le-leb, lt-leb, leb-true}
-use Rattle.basics.specs.Basics.{if_then_else_, sum}
+use lib.Dec.{eqb}
+use borrow.Author.Tests.{le-leb, lt-leb}
+use Rattle.basics.specs.Basics.{if_then_else_}
 use Rattle.basics.proofs.Facts.{by, AllOf}
 use Rattle.blocks.specs.Limits.{recordSpace}
 use Rattle.blocks.specs.Tuple.{Tuple, sizes, Fits, AllFit}
 use Rattle.model.specs.State.{Held}
-use Rattle.model.specs.Rules.{heldSize, isAdding, shown}
+use Rattle.model.specs.Rules.{isAdding, shown}
 use Rattle.model.specs.Checkpoint.{storable}
 use Rattle.memory.specs.Views.{tab}
 use Rattle.memory.specs.Store.{heldOf}
 use Rattle.memory.specs.declared.Row.{Row}
 use Rattle.memory.proofs.Laws.{tab-next}
 use Rattle.memory.proofs.Flags.{adding-is}
-use Rattle.writer.specs.Shown.{Stores}
 
 -- a row is shown unless its flags say 1, a pending add
 pub shown-flag : (r : Row) (k : ℕ) → k ≡ r .flags / 4 % 4 → not (eqb k 1) ≡ not (isAdding (heldOf r .pending))
@@ -40,42 +39,23 @@ module _ (f : ℕ → Held) (i n : ℕ) where
   unfolding shown
   shown-end h = let e : n - i ≡ 0 = omega arith in ap (λ (z : ℕ). shown (tab f i z)) e
 
-  pub size-next : i < n → isAdding (f i .pending) ≡ false
-      → sizes (shown (tab f i (n - i))) ≡ heldSize (f i) + sizes (shown (tab f (i + 1) (n - (i + 1))))
-  unfolding sum heldSize
-  size-next h e = ap sizes (shown-next h e)
-
-  pub size-end : n ≤ i → sizes (shown (tab f i (n - i))) ≡ 0
-  unfolding sum
-  size-end h = ap sizes (shown-end h)
-
 -- all rows
 pub shown-all : (f : ℕ → Held) (s n : ℕ) → shown (tab f s (s + n - s)) ≡ shown (tab f s n)
 shown-all f s n = let e : s + n - s ≡ n = omega arith in ap (λ (z : ℕ). shown (tab f s z)) e
 
 -- ---- what a block has room for
 
-pub stores-all : (f : ℕ → Held) (s n : ℕ) → sizes (shown (tab f s n)) ≤ recordSpace → Stores f s n (s + n)
+pub storable-all : (ts : List Tuple) → sizes ts ≤ recordSpace → storable ts ≡ ts
 unfolding storable if_then_else_
-stores-all f s n h = record { after = omega arith; within = omega arith; rows = shown-all f s n ∙ sym (rw (le-leb (sizes (shown (tab f s n))) recordSpace h)) }
+storable-all ts h = rw (le-leb (sizes ts) recordSpace h)
 
-pub stores-none : (f : ℕ → Held) (s n : ℕ) → recordSpace < sizes (shown (tab f s n)) → Stores f s n s
+pub storable-none : (ts : List Tuple) → recordSpace < sizes ts → storable ts ≡ []
 unfolding storable if_then_else_
-stores-none f s n h =
-    record { after = omega arith; within = omega arith; rows = shown-end f s s (omega arith) ∙ sym (rw (lt-leb (sizes (shown (tab f s n))) recordSpace h)) }
-
-pub storable-room : (ts : List Tuple) → sizes (storable ts) ≤ recordSpace
-unfolding storable if_then_else_ sum
-storable-room ts =
-    by (leb (sizes ts) recordSpace) (λ e. let h : sizes ts ≤ recordSpace = leb-true (sizes ts) recordSpace e in rw e h) (λ e. rw e (omega arith))
+storable-none ts h = rw (lt-leb (sizes ts) recordSpace h)
 
 -- ---- ranges
 
-shown-fits : (hs : List Held) → AllOf (λ (h : Held). Fits (h .tuple)) hs → AllFit (shown hs)
+pub shown-fits : (hs : List Held) → AllOf (λ (h : Held). Fits (h .tuple)) hs → AllFit (shown hs)
 unfolding shown if_then_else_
 shown-fits [] a = tt
 shown-fits (h ∷ hs) a = by (isAdding (h .pending)) (λ e. rw e (shown-fits hs (a .1))) (λ e. rw e (a .0, shown-fits hs (a .1)))
-
-pub storable-fits : (hs : List Held) → AllOf (λ (h : Held). Fits (h .tuple)) hs → AllFit (storable (shown hs))
-unfolding storable if_then_else_
-storable-fits hs a = by (leb (sizes (shown hs)) recordSpace) (λ e. rw e (shown-fits hs a)) (λ e. rw e tt)

@@ -6,8 +6,7 @@ use native.Mathlib.Omega.{arith}
 use lib.ListN.{length, length-append}
 use Rattle.basics.specs.Basics.{sum}
 use Rattle.bits.specs.Bits.{over}
-use Rattle.blocks.specs.Limits.{recordSpace}
-use Rattle.blocks.specs.Tuple.{Tuple, size, sizes}
+use Rattle.blocks.specs.Tuple.{Tuple, size, sizes, AllFit}
 use Rattle.blocks.specs.Spell.{zeros}
 use Rattle.blocks.specs.Block.{page, encodeBlock, PageFits}
 use Rattle.blocks.specs.Bytes.{payloadIn, tupleOf, sizeOf, bytesOfRecord, pageHead}
@@ -15,8 +14,10 @@ use Rattle.blocks.specs.declared.Record.{Record}
 use Rattle.blocks.proofs.Stores.{length-part}
 use Rattle.blocks.proofs.Tuples.{count-sizes, record-size}
 use Rattle.blocks.proofs.Built.{Built, built-start, built-turn, built-length, built-end}
+use Rattle.model.specs.Checkpoint.{storable}
 use Rattle.memory.proofs.Runs.{sum-append}
 use Rattle.writer.specs.Shown.{Spells}
+use Rattle.writer.proofs.Showing.{storable-all, storable-none}
 
 -- n tuples are in the block, and rest is what is left of all
 pub record Writing (all : List Tuple) (block : List ℕ) (at n : ℕ) (rest : List Tuple) : Type 0 where
@@ -25,7 +26,8 @@ pub record Writing (all : List Tuple) (block : List ℕ) (at n : ℕ) (rest : Li
   pub built : Built block at done
   pub split : all ≡ done ++ rest
 
-spells-size : {m : List ℕ} {r : Record} {x : Tuple} → Spells m r x → sizeOf r ≡ size x
+-- the record takes as much room as the tuple
+pub spells-size : {m : List ℕ} {r : Record} {x : Tuple} → Spells m r x → sizeOf r ≡ size x
 spells-size {m} {r} s = record-size r (payloadIn m r) (length-part (r .len) (r .start) m (s .inside)) ∙ ap size (s .tuple)
 
 pub writing-start : {all rest : List Tuple} → rest ≡ all → Writing all (zeros 512) 8 0 rest
@@ -47,30 +49,34 @@ module _ {all rest : List Tuple} {block : List ℕ} {at n : ℕ} (w : Writing al
       let r = w .built .room in
       (omega (arith, count-sizes (w .done)), (omega arith, omega arith))
 
-  -- nothing is left
-  pub writing-end : rest ≡ [] → (t l : ℕ) → PageFits t l all → over block 0 (pageHead t n (at - 8) l) ≡ encodeBlock (page t l all)
-  writing-end e t l fit =
+  -- nothing is left: all had room
+  pub writing-end : rest ≡ [] → AllFit all → (t l : ℕ) → t < 8 → l < 4294967296 → over block 0 (pageHead t n (at - 8) l) ≡ encodeBlock (page t l (storable all))
+  writing-end e fits t l ht hl =
       let d : all ≡ w .done = w .split ∙ ap (λ (z : List Tuple). w .done ++ z) e ∙ append-nil (w .done) in
-      let f : PageFits t l (w .done) = rw d at fit in
-      ap (λ (z : ℕ). over block 0 (pageHead t z (at - 8) l)) (sym (w .count)) ∙ built-end (w .built) t l f ∙ ap (λ (z : List Tuple). encodeBlock (page t l z)) (sym d)
+      let p = w .built .place in
+      let r = w .built .room in
+      let f : PageFits t l (w .done) = record { table = ht; level = hl; tuples = rw d at fits; room = omega arith } in
+      ap (λ (z : ℕ). over block 0 (pageHead t z (at - 8) l)) (sym (w .count))
+      ∙ built-end (w .built) t l f
+      ∙ ap (λ (z : List Tuple). encodeBlock (page t l z)) (sym (storable-all all (omega (arith, ap sizes d)) ∙ d))
 
-  module _ {x : Tuple} {more : List Tuple} (next : rest ≡ x ∷ more) (small : sizes all ≤ recordSpace) {m : List ℕ} {r : Record} (s : Spells m r x) where
-    -- there is room for the next
-    pub writing-room : at + sizeOf r ≤ 512
+  module _ {x : Tuple} {more : List Tuple} (next : rest ≡ x ∷ more) where
+    -- there is no room for the next, so none for all
+    pub writing-over : 512 < at + size x → storable all ≡ []
     unfolding sum
-    writing-room =
+    writing-over h =
         let p = w .built .place in
-        omega (arith, spells-size s, ap sizes (w .split), sum-append size (w .done) rest, ap sizes next)
+        storable-none all (omega (arith, ap sizes (w .split), sum-append size (w .done) rest, ap sizes next))
 
     -- one tuple more
-    pub writing-turn : Writing all (over block at (bytesOfRecord r (payloadIn m r))) (at + sizeOf r) (n + 1) more
-    writing-turn =
+    pub writing-turn : {m : List ℕ} {r : Record} → Spells m r x → at + size x ≤ 512 → Writing all (over block at (bytesOfRecord r (payloadIn m r))) (at + sizeOf r) (n + 1) more
+    writing-turn {m} {r} s h =
         let p : List ℕ = payloadIn m r in
         let y = tupleOf r p in
         record {
           done = w .done ++ (y ∷ []);
           count = length-append (w .done) (y ∷ []) ∙ omega (arith, w .count);
-          built = built-turn (w .built) r p (s .byte) (s .count) (length-part (r .len) (r .start) m (s .inside)) writing-room;
+          built = built-turn (w .built) r p (s .byte) (s .count) (length-part (r .len) (r .start) m (s .inside)) (omega (arith, spells-size s));
           split = w .split
               ∙ ap (λ (z : List Tuple). w .done ++ z) (next ∙ ap (λ (z : Tuple). z ∷ more) (sym (s .tuple)))
               ∙ sym (append-assoc (w .done) (y ∷ []) more);

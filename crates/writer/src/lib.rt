@@ -1,17 +1,17 @@
 // The blocks that a checkpoint stores, from the working memory: each is built in zeros and copied out whole.
 ghost use mathlib.Core.Path.{_≡_};
 ghost use mathlib.Core.Bool.{not};
+ghost use mathlib.Core.List.{[]};
 ghost use Prim.Native.Nat.{suc, _+_, _*_, _≤_, _<_};
 ghost use lib.ListN.{length, take, drop, getD};
 ghost use Rattle.blocks.specs.Limits.{entriesPerBlock};
-ghost use Rattle.blocks.specs.Tuple.{sizes};
 ghost use Rattle.blocks.specs.Block.{header, page, directory, encodeBlock};
 ghost use Rattle.model.specs.Rules.{isAdding, shown};
 ghost use Rattle.model.specs.Checkpoint.{storable, headerFor};
 ghost use Rattle.memory.specs.Views.{tab};
 ghost use Rattle.memory.specs.Flat.{flatOf, Room};
 ghost use Rattle.memory.specs.Store.{heldIn, blocksOf, storeOf};
-ghost use Rattle.writer.specs.Shown.{Stores, Spells};
+ghost use Rattle.writer.specs.Shown.{Spells};
 
 // ---- the header
 
@@ -91,34 +91,6 @@ fn is_shown(m: &[u8], i: usize) -> bool
     memory::flags_at(m, i) / 4 % 4 != 1
 }
 
-// The size of what n rows from start on show.
-fn shown_size(m: &[u8], start: usize, n: usize) -> usize
-    requires { ⌜ Room (now m) × (start + n ≤ length (flatOf (now m) .rows)) ⌝ }
-    ensures { λ r. ⌜ r ≡ sizes (shown (tab (heldIn (flatOf (now (m .entry)))) start n)) ⌝ }
-{
-    let end = start + n;
-    let mut all: usize = 0;
-    let mut i = start;
-    while i < end {
-        if is_shown(m, i) {
-            all += memory::tuple_size(m, i);
-        }
-        i += 1;
-    }
-    all
-}
-
-// Where the rows to write end: at start itself, if n rows from there on show more than a block has room for.
-fn storable_end(m: &[u8], start: usize, n: usize) -> usize
-    requires { ⌜ Room (now m) × (start + n ≤ length (flatOf (now m) .rows)) ⌝ }
-    ensures { λ r. ⌜ Stores (heldIn (flatOf (now (m .entry)))) start n r ⌝ }
-{
-    if shown_size(m, start, n) <= blocks::PageLayout::RECORD_SPACE {
-        return start + n;
-    }
-    start
-}
-
 // Row i as a record. A pending commit or removal is not looked at.
 fn record_at(m: &[u8], i: usize) -> blocks::Record
     requires { ⌜ Room (now m) × (i < length (flatOf (now m) .rows)) ⌝ }
@@ -137,18 +109,32 @@ fn record_at(m: &[u8], i: usize) -> blocks::Record
     }
 }
 
-// The block of a page whose n rows begin at start: what it showed when it was frozen.
+// The block of a page that shows nothing, or more than a block has room for.
+fn write_empty(out: &mut [u8], table: u8, level: u32)
+    requires { ⌜ (table < 8) × (length (now out) ≡ 512) ⌝ }
+    ensures { λ _. ⌜ now (out .exit) ≡ encodeBlock (page table level []) ⌝ }
+{
+    let mut block = [0u8; 512];
+    blocks::put_page_head(&mut block, table as u32, 0, 0, level);
+    blocks::copy(out, 0, &block, 0, 512);
+}
+
+// The block of a page whose n rows begin at start: what it showed when it was frozen, and nothing if that is more than a block has room for.
 pub fn write_page(out: &mut [u8], m: &[u8], table: u8, start: usize, n: usize, level: u32)
     requires { ⌜ Room (now m) × ((start + n ≤ length (flatOf (now m) .rows)) × ((table < 8) × (length (now out) ≡ 512))) ⌝ }
     ensures { λ _. ⌜ now (out .exit) ≡ encodeBlock (page table level (storable (shown (tab (heldIn (flatOf (now (m .entry)))) start n)))) ⌝ }
 {
-    let end = storable_end(m, start, n);
+    let end = start + n;
     let mut block = [0u8; 512];
     let mut at: usize = 8;
     let mut count: u32 = 0;
     let mut i = start;
     while i < end {
         if is_shown(m, i) {
+            if 8 + blocks::PageLayout::RECORD_SPACE < at + memory::tuple_size(m, i) {
+                write_empty(out, table, level);
+                return;
+            }
             let r = record_at(m, i);
             at = blocks::append(&mut block, at, r, m);
             count += 1;
