@@ -7,6 +7,7 @@ pub mod Searching
 pub mod Sizes
 pub mod Splitting
 pub mod Around
+pub mod Thawed
 pub mod Edits
 pub mod Joining
 pub mod Removing

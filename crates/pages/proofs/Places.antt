@@ -139,6 +139,10 @@ same-table m p ee = ap (λ (x : Entry). x .table % 8) ee
 pub run-in : {m : List ℕ} {p start : ℕ} → At m p start → {e : Entry} → e ≡ entryAt m p → Room m × (start + e .count ≤ length (flatOf m .rows))
 run-in {m} a ee = (held-room m (a .held), omega (arith, page-end a, same-count ee))
 
+-- where the rows of the next page begin
+pub start-on : {m : List ℕ} {p start : ℕ} → At m p start → {e : Entry} → e ≡ entryAt m p → start + e .count ≡ startAt m (p + 1)
+start-on {m} {p} {start} a ee = ap (λ (z : ℕ). start + z) (same-count ee) ∙ sym (ends-at a)
+
 pub cons-head : {A : Type 0} (x y : A) (xs ys : List A) → x ∷ xs ≡ y ∷ ys → x ≡ y
 cons-head x y xs ys e = cc
 

@@ -20,7 +20,7 @@ use Rattle.pages.specs.Changes.{RowOn, Tries, settledAt}
 use Rattle.pages.specs.Finding.{firstOf, editAt, takenAt, lessOne, settledBy, NoneOf, FirstPage, FoundRow, FoundBy}
 use Rattle.memory.specs.Views.{tab}
 use Rattle.memory.proofs.Runs.{start-zero, pages-count}
-use Rattle.pages.proofs.Places.{there-at, same-count, same-table, turns-to, turns-stay, turns-then, swap-same, from-page, at-first, page-first, has-row, ends-at, tuples-many}
+use Rattle.pages.proofs.Places.{there-at, same-count, same-table, turns-to, turns-stay, turns-then, swap-same, from-page, at-first, page-first, has-row, start-on, tuples-many}
 use Rattle.pages.proofs.Swaps.{fresh-page, length-remove}
 use Rattle.pages.proofs.Splitting.{run-tuples, with-tuples}
 use Rattle.pages.specs.Thawing.{withFlags}
@@ -175,7 +175,7 @@ module _ {m : List ℕ} {p start : ℕ} (a : At m p start) (hit : Page → Bool)
   pass-on {e} ee past = (
     omega (arith, a .inside),
     (
-      ap (λ (z : ℕ). start + z) (same-count ee) ∙ sym (ends-at a),
+      start-on a ee,
       subst (λ (z : ℕ). NoneOf hit (take z (pagesOf m))) (sym (add-one p)) (none-snoc hit p (pageAt m p) (pagesOf m) (inv .1 .1) (from-page a) past),
     ),
   )

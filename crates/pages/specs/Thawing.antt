@@ -1,11 +1,12 @@
 -- Pending operations that take hold, by rows.
 use Prim.Native.Nat.{ℕ, _+_, _-_, _/_, _%_}
 use mathlib.Core.Path.{_≡_}
+use mathlib.Core.Bool.{Bool, not}
 use mathlib.Core.List.{List, [], _∷_, _++_, map}
 use lib.ListN.{length, take, drop}
 use lib.Dec.{eqb}
 use Rattle.basics.specs.Basics.{if_then_else_}
-use Rattle.model.specs.State.{Held}
+use Rattle.model.specs.State.{Held, Page}
 use Rattle.model.specs.Rules.{calm, ripened, fresh, isFrozen}
 use Rattle.memory.specs.Flat.{flatOf, rowIn, Becomes, withRows}
 use Rattle.memory.specs.declared.Row.{Row}
@@ -54,6 +55,10 @@ pub record TakesHold (m m' : List ℕ) (p r : ℕ) : Type 0 where
   pub count : r ≡ length (ripeTuples (tuplesAt m p))
   pub none-left : r ≡ 0 → Turns m m' (swapped p [] (pagesOf m))
   pub some-left : (r ≡ 0 → ⊥) → Turns m m' (swapped p (fresh (pageAt m p .table) (ripeTuples (tuplesAt m p)) ∷ []) (pagesOf m))
+
+-- the page is not frozen
+unfoldable pub isThawed : Page → Bool
+isThawed q = not (isFrozen q)
 
 -- the first frozen page; its first row stands for the row
 unfoldable pub FrozenBy : List ℕ → Found → Type 0

@@ -8,15 +8,15 @@ ghost use mathlib.Core.Bool.{true, false};
 ghost use mathlib.Core.List.{_∷_, [], _++_, map};
 ghost use Prim.Native.Nat.{_+_, _-_, _%_, _≤_, _<_};
 ghost use lib.ListN.{length, take, drop, set};
-ghost use Rattle.basics.specs.Basics.{sum, any};
+ghost use Rattle.basics.specs.Basics.{sum, any, all};
 ghost use Rattle.model.specs.Rules.{heldSize, lead, fresh, calm, withTuples, joins, joined, place, remove, commit, freeze, isFrozen, isPending, splitAll, thaw};
 ghost use Rattle.memory.specs.Views.{tab};
 ghost use Rattle.memory.specs.Flat.{flatOf, Room, insertAt, removeAt};
 ghost use Rattle.memory.specs.Store.{heldOf, heldIn, tupleOf, pageOf, pagesIn, holdsStore};
 ghost use Rattle.pages.specs.Turns.{Turns, pagesOf, pageAt, tuplesAt, entryAt, startAt, At, swapped};
 ghost use Rattle.pages.specs.Changes.{There, RowOn, CutAt, Dirty, Halved, Tries, settledAt, settledNext};
-ghost use Rattle.pages.specs.Finding.{firstOf, FoundBy, takenAt, committedAt, lessOne, settledBy, FirstPage};
-ghost use Rattle.pages.specs.Thawing.{ripeFlags, RipensOne, Ripens, TakesHold, FrozenBy};
+ghost use Rattle.pages.specs.Finding.{firstOf, FoundBy, takenAt, committedAt, lessOne, settledBy, NoneOf, FirstPage};
+ghost use Rattle.pages.specs.Thawing.{ripeFlags, RipensOne, Ripens, TakesHold, isThawed, FrozenBy};
 ghost use Rattle.pages.specs.Spots.{afterLast, Spotted, FrontSpotted, PlaceAt, GrowAt, AddAt, placedOn};
 
 // Where a tuple goes: on a page whose rows begin at start, or on a new page before this one; as row `at`.
@@ -719,15 +719,58 @@ fn split(m: &mut [u8], p: usize, start: usize)
     split(m, p, start);
 }
 
-// The first frozen page.
+// None of the four pages from p on is frozen: one branch for the four, since nearly all are not.
+fn four_thawed(m: &[u8], p: usize) -> bool
+    requires { ⌜ Room (now m) × (p + 4 ≤ length (flatOf (now m) .entries)) ⌝ }
+    ensures { λ r. ⌜ r ≡ all isThawed (tab (pageAt (now (m .entry))) p 4) ⌝ }
+{
+    let a = memory::get_entry(m, p);
+    let b = memory::get_entry(m, p + 1);
+    let c = memory::get_entry(m, p + 2);
+    let d = memory::get_entry(m, p + 3);
+    (a.frozen == 0) & (b.frozen == 0) & (c.frozen == 0) & (d.frozen == 0)
+}
+
+// Where a search of n pages for a frozen one may start: no page before is frozen. Whole fours are passed over.
+fn thawed_fours(m: &[u8], n: usize) -> usize
+    requires { ⌜ (holdsStore (now m) ≡ true) × (n ≤ length (flatOf (now m) .entries)) ⌝ }
+    ensures { λ r. ⌜ (r ≤ n) × NoneOf isFrozen (take r (pagesOf (now (m .entry)))) ⌝ }
+{
+    let mut p: usize = 0;
+    while p + 4 <= n {
+        if !four_thawed(m, p) {
+            return p;
+        }
+        p += 4;
+    }
+    p
+}
+
+// Where the rows of page k begin: how many rows the k pages before it have.
+fn rows_before(m: &[u8], k: usize) -> usize
+    requires { ⌜ (holdsStore (now m) ≡ true) × (k ≤ length (flatOf (now m) .entries)) ⌝ }
+    ensures { λ r. ⌜ r ≡ startAt (now (m .entry)) k ⌝ }
+{
+    let mut start: usize = 0;
+    let mut p: usize = 0;
+    while p < k {
+        let e = memory::get_entry(m, p);
+        start += e.count as usize;
+        p += 1;
+    }
+    start
+}
+
+// The first frozen page. Most pages are passed over before: the compiler cannot make a loop fast that both adds up and returns early.
 pub fn find_frozen(m: &[u8]) -> Found
     requires { ⌜ holdsStore (now m) ≡ true ⌝ }
     ensures { λ r. ⌜ FrozenBy (now (m .entry)) r ⌝ }
 {
     let c = memory::get_counts(m);
     let n = c.pages as usize;
-    let mut start: usize = 0;
-    let mut p: usize = 0;
+    let k = thawed_fours(m, n);
+    let mut start = rows_before(m, k);
+    let mut p = k;
     while p < n {
         let e = memory::get_entry(m, p);
         if e.frozen != 0 {
