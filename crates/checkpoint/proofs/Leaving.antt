@@ -9,14 +9,14 @@ use native.Mathlib.Numerals.{add-one}
 use lib.ListN.{length, take, drop, getD, set, List·getD-map, List·getD-append, length-append, drop-of-length-le}
 use lib.Seq.{drop-cons, getD-append-add}
 use lib.Dec.{eqb, leb}
-use borrow.Author.Tests.{eq-eqb, ne-eqb, eqb-true, eqb-false}
+use borrow.Author.Tests.{eq-eqb, ne-eqb, eqb-true, eqb-false, not-true}
 use Rattle.basics.specs.Basics.{if_then_else_, any, isIn}
 use Rattle.basics.proofs.Facts.{by}
 use Rattle.model.specs.State.{Page, Checkpoint, idle, running, Store}
 use Rattle.model.specs.Rules.{isFrozen, thaw}
 use Rattle.model.specs.Transactions.{changed}
 use Rattle.model.specs.Checkpoint.{stored, isRunning, usedToo, fill}
-use Rattle.model.proofs.Lists.{any-cons}
+use Rattle.model.proofs.Lists.{any-cons, all-split}
 use Rattle.memory.specs.Flat.{Flat, flatOf, usedAnd, Room, Becomes, withHead, withNamed, withDirectories, withUsed}
 use Rattle.memory.specs.Store.{pagesIn, startOf, pageIn, blocksOf, checkpointOf, filled, storeOf}
 use Rattle.memory.specs.declared.Head.{Head}
@@ -25,7 +25,7 @@ use Rattle.memory.proofs.Meaning.{in-next, becomes-then}
 use Rattle.pages.specs.Turns.{Turns, withPages}
 use Rattle.pages.specs.Finding.{NoneOf, FirstPage}
 use Rattle.basics.proofs.Lists.{map-append}
-use Rattle.checkpoint.specs.Counting.{firstZero, namedIn}
+use Rattle.checkpoint.specs.Counting.{firstZero, NamedBefore, isNamed, fourNamed, namedIn}
 use Rattle.checkpoint.specs.Keeping.{filledBy, writtenBy, namedBy, pageKept, directoryKept, headerKept, Runs, taking, Leads, Fills, Marks}
 use Rattle.checkpoint.proofs.Tallies.{length-blocks, running-is}
 
@@ -55,16 +55,32 @@ module _ (e : ℕ) (es : List ℕ) where
 drop-next : (ws : List ℕ) (i : ℕ) → i < length ws → drop i ws ≡ getD ws i 0 ∷ drop (i + 1) ws
 drop-next ws i h = drop-cons ws i 0 h ∙ ap (λ (z : ℕ). getD ws i 0 ∷ drop z ws) (sym (add-one i))
 
-module _ (ws : List ℕ) (i : ℕ) where
-  pub zero-hit : i < length ws → getD ws i 0 % 4096 ≡ 0 → firstZero (drop i ws) ≡ 0
-  zero-hit h e = ap firstZero (drop-next ws i h) ∙ zero-here _ _ e
+pub named-start : (ws : List ℕ) → NamedBefore ws 0
+named-start ws = record { inside = omega arith; rest = omega arith }
 
-  pub zero-miss : i < length ws → (getD ws i 0 % 4096 ≡ 0 → ⊥) → firstZero (drop i ws) ≡ suc (firstZero (drop (i + 1) ws))
-  zero-miss h e = ap firstZero (drop-next ws i h) ∙ zero-on _ _ e
+module _ {ws : List ℕ} {i : ℕ} (k : NamedBefore ws i) where
+  pub named-hit : i < length ws → getD ws i 0 % 4096 ≡ 0 → i ≡ firstZero ws
+  named-hit h e = omega (arith, k .rest, ap firstZero (drop-next ws i h) ∙ zero-here _ _ e)
 
-  pub zero-end : length ws ≤ i → firstZero (drop i ws) ≡ 0
+  pub named-miss : i < length ws → (getD ws i 0 % 4096 ≡ 0 → ⊥) → NamedBefore ws (i + 1)
+  named-miss h e = record { inside = omega arith; rest = omega (arith, k .rest, ap firstZero (drop-next ws i h) ∙ zero-on _ _ e) }
+
+  pub named-end : length ws ≤ i → length ws ≡ firstZero ws
   unfolding firstZero
-  zero-end h = ap firstZero (drop-of-length-le ws {i = i} h)
+  named-end h = omega (arith, k .inside, k .rest, ap firstZero (drop-of-length-le ws {i = i} h))
+
+  named-turn : (j : ℕ) → j ≡ i + 1 → i < length ws → isNamed ws i ≡ true → NamedBefore ws j
+  unfolding isNamed
+  named-turn j q h e = subst (NamedBefore ws) (sym q) (named-miss h (eqb-false _ 0 (not-true _ e)))
+
+pub named-four : {ws : List ℕ} {i : ℕ} → NamedBefore ws i → i + 4 ≤ length ws → fourNamed ws i ≡ true → NamedBefore ws (i + 4)
+unfolding fourNamed
+named-four {ws} {i} k h e =
+    let t = all-split (isNamed ws) _ e in
+    let k1 = named-turn k (i + 1) refl (omega arith) (t .0) in
+    let k2 = named-turn k1 (i + 2) (omega arith) (omega arith) (t .1 .0) in
+    let k3 = named-turn k2 (i + 3) (omega arith) (omega arith) (t .1 .1 .0) in
+    named-turn k3 (i + 4) (omega arith) (omega arith) (t .1 .1 .1 .0)
 
 fill-at : (b : ℕ) (es : List ℕ) → b < 4096 → firstZero es < length es → blocksOf (set es (firstZero es) b) ≡ fill b (blocksOf es)
 unfolding blocksOf fill if_then_else_

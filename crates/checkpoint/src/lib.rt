@@ -8,7 +8,7 @@ use pages::Found;
 ghost use mathlib.Core.Path.{_≡_};
 ghost use mathlib.Core.Bool.{true};
 ghost use mathlib.Core.List.{[], map};
-ghost use Prim.Native.Nat.{_-_, _≤_, _<_, min};
+ghost use Prim.Native.Nat.{_+_, _-_, _≤_, _<_, min};
 ghost use lib.ListN.{length, drop, getD};
 ghost use Rattle.basics.specs.Basics.{howMany};
 ghost use Rattle.image.specs.Stages.{directoriesFor};
@@ -19,7 +19,7 @@ ghost use Rattle.memory.specs.Store.{pagesIn, holdsStore, storeOf, storeIn};
 ghost use Rattle.pages.specs.Turns.{pagesOf};
 ghost use Rattle.pages.specs.Finding.{NoneOf, FirstPage};
 ghost use Rattle.answers.specs.Shape.{Answers, Stores};
-ghost use Rattle.checkpoint.specs.Counting.{oneIf, entryIs, pageIs, freeFrom, firstZero, namedIn};
+ghost use Rattle.checkpoint.specs.Counting.{oneIf, entryIs, pageIs, freeFrom, firstZero, NamedBefore, fourNamed, namedIn};
 ghost use Rattle.checkpoint.specs.Keeping.{allocatorIn, begun, pageKept, directoryKept, headerKept, Runs, Ready, taking, Leads, Fills, Marks, Steps, stepRefusal};
 
 // ---- counting
@@ -253,6 +253,33 @@ fn take_block(m: &mut [u8], b: u32)
     memory::mark_used(m, b as usize);
 }
 
+// Whether each of the four directory entries from i on has a block: one branch for the four.
+fn four_named(m: &[u8], i: usize) -> bool
+    requires { ⌜ Room (now m) × (i + 4 ≤ length (flatOf (now m) .named)) ⌝ }
+    ensures { λ r. ⌜ r ≡ fourNamed (flatOf (now (m .entry)) .named) i ⌝ }
+{
+    let a = memory::get_named(m, i) % 4096;
+    let b = memory::get_named(m, i + 1) % 4096;
+    let c = memory::get_named(m, i + 2) % 4096;
+    let d = memory::get_named(m, i + 3) % 4096;
+    (a != 0) & (b != 0) & (c != 0) & (d != 0)
+}
+
+// Where the search for a page without a block, among n, may start: each page before has one. Whole fours are passed over.
+fn named_fours(m: &[u8], n: usize) -> usize
+    requires { ⌜ Room (now m) × (n ≡ length (flatOf (now m) .named)) ⌝ }
+    ensures { λ r. ⌜ NamedBefore (flatOf (now (m .entry)) .named) r ⌝ }
+{
+    let mut i: usize = 0;
+    while i + 4 <= n {
+        if !four_named(m, i) {
+            return i;
+        }
+        i += 4;
+    }
+    i
+}
+
 // The place of the first page of the list that has no block yet; how many pages there are, if each has one.
 fn first_unnamed(m: &[u8]) -> usize
     requires { ⌜ Room (now m) ⌝ }
@@ -260,7 +287,7 @@ fn first_unnamed(m: &[u8]) -> usize
 {
     let c = memory::get_counts(m);
     let n = c.named as usize;
-    let mut i: usize = 0;
+    let mut i = named_fours(m, n);
     while i < n {
         let b = memory::get_named(m, i) % 4096;
         if b == 0 {

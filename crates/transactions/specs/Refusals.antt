@@ -1,15 +1,17 @@
--- The tests of a call, as the number of the first that holds.
+-- The tests of a call, as the number of the first that holds; calls that differ in one choice.
 use mathlib.Core.Bool.{Bool, true, false}
 use mathlib.Core.Option.{Option, none, some}
 use mathlib.Core.List.{List, [], _∷_, _++_}
 use Prim.Native.Nat.{ℕ}
 use lib.ListN.{length}
 use lib.Dec.{ltb}
-use Rattle.basics.specs.Basics.{if_then_else_}
+use Rattle.basics.specs.Basics.{if_then_else_, keep}
 use Rattle.blocks.specs.Limits.{payloadLimit}
 use Rattle.image.specs.Stages.{Stage, refuses, holds}
-use Rattle.model.specs.State.{done, Store, Outcome}
-use Rattle.model.specs.Transactions.{Test, _when_, gives, unless, notOpen, noTable, foreign, present, unseen, full}
+use Rattle.rows.specs.Rows.{isOwn}
+use Rattle.model.specs.State.{done, Page, Store, Outcome}
+use Rattle.model.specs.Sight.{rows}
+use Rattle.model.specs.Transactions.{Test, _when_, Op, gives, unless, notOpen, noTable, foreign, present, unseen, full, plan, removeAll, commitCall, abortCall}
 use Rattle.memory.specs.Flat.{Flat}
 use Rattle.changes.specs.Writes.{afterWrite}
 use Rattle.look.specs.Sightings.{picked}
@@ -35,6 +37,16 @@ writeTests new tx t k n s =
 -- insert, replace and delete: their tests, then one tuple more
 unfoldable pub writeCall : Bool → ℕ → ℕ → ℕ → Bool → List ℕ → Store → Outcome
 writeCall new tx t k mark bs s = unless (writeTests new tx t k (length bs) s) s (gives done (afterWrite tx t k bs mark s))
+
+-- the operations of a commit (what the transaction wrote is kept) and of an abort
+abbrev pub closeOps : Bool → ℕ → List Page → List Op
+closeOps true tx ps = plan tx ps
+closeOps false tx ps = removeAll (keep (isOwn tx) (rows ps))
+
+-- commit and abort, likewise
+abbrev pub closeCall : Bool → ℕ → Store → Outcome
+closeCall true = commitCall
+closeCall false = abortCall
 
 -- 14 for a key that is not seen
 unfoldable pub lost : Seen → ℕ

@@ -13,9 +13,10 @@ ghost use lib.ListN.{length, drop};
 ghost use Rattle.model.specs.Transactions.{openNumbers, notOpen, full, listing, openCall, commitCall, abortCall, insertCall, replaceCall, deleteCall, readCall};
 ghost use Rattle.model.specs.Recover.{make};
 ghost use Rattle.memory.specs.Flat.{flatOf, Room};
-ghost use Rattle.memory.specs.Store.{holdsStore, storeIn, storeOf};
+ghost use Rattle.memory.specs.Store.{pagesIn, holdsStore, storeIn, storeOf};
+ghost use Rattle.look.specs.Plans.{Appended};
 ghost use Rattle.answers.specs.Shape.{Answers, Replies, Lists, Made};
-ghost use Rattle.transactions.specs.Refusals.{verdict, verdictIn, writeTests, writeCall, keyVerdict, makeVerdict};
+ghost use Rattle.transactions.specs.Refusals.{verdict, verdictIn, writeTests, writeCall, closeOps, closeCall, keyVerdict, makeVerdict};
 
 // ---- make
 
@@ -275,28 +276,39 @@ pub fn delete(m: &mut [u8], transaction: u64, table: u64, key: u32) -> Answer
 
 // ---- commit, abort
 
-pub fn commit(m: &mut [u8], transaction: u64) -> Answer
-    ensures { λ r. ⌜ Answers (commitCall transaction) (now (m .entry)) r (now (m .exit)) ⌝ }
+// The operations of a commit, which keeps what the transaction wrote, or of an abort: how many they are.
+fn plan(m: &[u8], transaction: u64, keep: bool, ops: &mut [u64]) -> usize
+    requires { ⌜ (holdsStore (now m) ≡ true) × (length (now ops) ≡ 1024) ⌝ }
+    ensures { λ r. ⌜ Appended (now (ops .entry)) (now (ops .exit)) 0 r (closeOps keep transaction (pagesIn (flatOf (now (m .entry))))) ⌝ }
+{
+    if keep {
+        return look::plan_commit(m, transaction, ops);
+    }
+    look::plan_abort(m, transaction, ops)
+}
+
+// Closes the transaction, keeping what it wrote or taking it back, unless a test holds.
+fn close(m: &mut [u8], transaction: u64, keep: bool) -> Answer
+    ensures { λ r. ⌜ Answers (closeCall keep transaction) (now (m .entry)) r (now (m .exit)) ⌝ }
 {
     let v = not_open(m, transaction);
     if v != 0 {
         return Answer::Refused(v);
     }
     let mut ops = [0u64; 1024];
-    let n = look::plan_commit(m, transaction, &mut ops);
+    let n = plan(m, transaction, keep, &mut ops);
     changes::finish(m, transaction, &ops, n);
     Answer::Done
+}
+
+pub fn commit(m: &mut [u8], transaction: u64) -> Answer
+    ensures { λ r. ⌜ Answers (commitCall transaction) (now (m .entry)) r (now (m .exit)) ⌝ }
+{
+    close(m, transaction, true)
 }
 
 pub fn abort(m: &mut [u8], transaction: u64) -> Answer
     ensures { λ r. ⌜ Answers (abortCall transaction) (now (m .entry)) r (now (m .exit)) ⌝ }
 {
-    let v = not_open(m, transaction);
-    if v != 0 {
-        return Answer::Refused(v);
-    }
-    let mut ops = [0u64; 1024];
-    let n = look::plan_abort(m, transaction, &mut ops);
-    changes::finish(m, transaction, &ops, n);
-    Answer::Done
+    close(m, transaction, false)
 }

@@ -1,19 +1,18 @@
 -- `checkpoint::first_unnamed` meets its contract.
 use mathlib.Core.Path.{_≡_, sym, ap, _∙_}
-use mathlib.Core.List.{List}
-use Prim.Native.Nat.{ℕ, _%_, _+_, _-_, _≤_}
+use Prim.Native.Nat.{ℕ, _%_, _-_}
 use native.Mathlib.Omega.{arith}
-use lib.ListN.{length, drop}
+use lib.ListN.{length}
 use borrow.Author.Needs.{needs}
 use Rattle.memory.specs.declared.Counts.{Counts}
 use Rattle.memory.specs.Flat.{flatOf}
-use Rattle.checkpoint.specs.Counting.{firstZero}
-use Rattle.checkpoint.proofs.Leaving.{zero-hit, zero-miss, zero-end}
+use Rattle.checkpoint.specs.Counting.{NamedBefore}
+use Rattle.checkpoint.proofs.Leaving.{named-hit, named-miss, named-end}
 use Rattle.checkpoint.proofs.first_unnamed.Statement.{statement}
 use Rattle.checkpoint.proofs.first_unnamed.Tie as tie
 
 abbrev Inv-loop : tie.InvT-loop
-Inv-loop m n i₀ i = (n ≡ length (flatOf m .named)) × ((i ≤ n) × (firstZero (flatOf m .named) ≡ i + firstZero (drop i (flatOf m .named))))
+Inv-loop m n i₀ i = (n ≡ length (flatOf m .named)) × NamedBefore (flatOf m .named) i
 
 abbrev μ-loop : tie.MeasureT-loop
 μ-loop m n i₀ i = n - i
@@ -24,16 +23,18 @@ get-counts-requires c κs = omega (arith, c .before .pre .range .long)
 cast-n : tie.Need-cast-n Inv-loop μ-loop
 cast-n c = search needs
 
+named-fours-requires : tie.Need-named-fours-requires Inv-loop μ-loop
+named-fours-requires c κs = (c .before .before .before .pre, ap (λ (x : Counts). x .named) (c .before .get-counts .ensures))
+
 loop-holds : tie.Need-loop-holds Inv-loop μ-loop
-loop-holds c = (ap (λ (x : Counts). x .named) (c .before .get-counts .ensures), (omega arith, omega arith))
+loop-holds c = (ap (λ (x : Counts). x .named) (c .before .before .get-counts .ensures), c .named-fours .ensures)
 
 get-named-requires : tie.Need-get-named-requires Inv-loop μ-loop
-get-named-requires c κs = (c .before .before .before .before .before .pre, omega (arith, c .before .loop .inv .0, c .loop-test .taken))
+get-named-requires c κs = (c .before .before .before .before .before .before .pre, omega (arith, c .before .loop .inv .0, c .loop-test .taken))
 
 returns : tie.Need-returns Inv-loop μ-loop
-returns c = let ws : List ℕ = flatOf (c .before .before .before .before .before .before .before .args .m .now) .named in
-    let l = c .before .before .before .loop in
-    omega (arith, l .inv .1 .1, zero-hit ws (l .i) (omega (arith, l .inv .0, c .before .before .loop-test .taken)) (ap (λ (z : ℕ). z % 4096) (sym (c .before .get-named .ensures)) ∙ c .if1 .taken))
+returns c = let l = c .before .before .before .loop in
+    named-hit (l .inv .1) (omega (arith, l .inv .0, c .before .before .loop-test .taken)) (ap (λ (z : ℕ). z % 4096) (sym (c .before .get-named .ensures)) ∙ c .if1 .taken)
 
 add-i : tie.Need-add-i Inv-loop μ-loop
 add-i c = omega arith
@@ -42,14 +43,12 @@ loop-less : tie.Need-loop-less Inv-loop μ-loop
 loop-less c = omega arith
 
 loop-again : tie.Need-loop-again Inv-loop μ-loop
-loop-again c = let ws : List ℕ = flatOf (c .before .before .before .before .before .before .before .args .m .now) .named in
-    let l = c .before .before .before .loop in
-    (l .inv .0, (omega arith, omega (arith, l .inv .1 .1, zero-miss ws (l .i) (omega (arith, l .inv .0, c .before .before .loop-test .taken)) (λ q. c .if1 .left (ap (λ (z : ℕ). z % 4096) (c .before .get-named .ensures) ∙ q)))))
+loop-again c = let l = c .before .before .before .loop in
+    (l .inv .0, named-miss (l .inv .1) (omega (arith, l .inv .0, c .before .before .loop-test .taken)) (λ q. c .if1 .left (ap (λ (z : ℕ). z % 4096) (c .before .get-named .ensures) ∙ q)))
 
 returns-2 : tie.Need-returns-2 Inv-loop μ-loop
-returns-2 c = let ws : List ℕ = flatOf (c .before .before .before .before .before .args .m .now) .named in
-    let l = c .before .loop in
-    omega (arith, l .inv .0, l .inv .1 .1, zero-end ws (l .i) (omega (arith, l .inv .0, c .loop-test .left)))
+returns-2 c = let l = c .before .loop in
+    l .inv .0 ∙ named-end (l .inv .1) (omega (arith, l .inv .0, c .loop-test .left))
 
 pub first-unnamed-spec : {M : Type 1} → statement M
 first-unnamed-spec =
@@ -59,6 +58,7 @@ first-unnamed-spec =
     μ-loop
     get-counts-requires
     cast-n
+    named-fours-requires
     loop-holds
     get-named-requires
     returns
