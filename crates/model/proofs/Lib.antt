@@ -39,4 +39,5 @@ pub mod Line
 pub mod Reread
 pub mod Cases
 pub mod Traps
+pub mod Refusals
 pub mod Cuts

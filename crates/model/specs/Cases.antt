@@ -1,5 +1,5 @@
 -- The starred cases of the specification that are about the rules, as one table; worked runs of the four places where builds go
--- astray; and one run cut at every store. All are proved in proofs/ by computation.
+-- astray; runs that meet every refusal; and one run cut at every store. All are proved in proofs/ by computation.
 use Prim.Native.Nat.{ℕ, zero, suc, _+_}
 use mathlib.Core.Path.{_≡_}
 use mathlib.Core.Bool.{Bool, true, false, _&&_, _||_}
@@ -8,6 +8,7 @@ use lib.ListN.{length, replicate, take, drop}
 use lib.Dec.{eqb}
 use Rattle.basics.specs.Basics.{all, every, sum, isIn, from, basics}
 use Rattle.bits.specs.Bits.{bitsOf, number as numberOf, bitsIn, field}
+use Rattle.blocks.specs.Limits.{mostNumber}
 use Rattle.blocks.specs.Numbers.{num4, same}
 use Rattle.blocks.specs.Tuple.{Owner, committed, tentative, Tuple, isTentative, ownerSize, size}
 use Rattle.blocks.specs.Spell.{zeros, spell, bytesOf, filled as filledUp, blockOf}
@@ -191,6 +192,42 @@ pub record Traps : Type 0 where
   pub not-joined : after5 (bothFrozen ++ (steps 8192 ∷ [])) ≡ (1, 49) ∷ (5, 245) ∷ []
   pub joined-later : after5 (bothFrozen ++ (steps 8192 ∷ steps 8192 ∷ [])) ≡ (5, 245) ∷ []
 
+-- ---- refusals: runs that meet each one, and where two tests hold, the one that comes first
+
+-- on an empty store of 16 blocks, N 2
+unfoldable pub refusedCalls : List Call
+refusedCalls =
+    opens 4096 ∷ opens 5 ∷ opens 5 ∷ opens 6
+    ∷ inserts 4096 8 7 [] ∷ inserts 7 8 7 [] ∷ inserts 5 8 7 (replicate 41 0) ∷ inserts 5 7 7 (replicate 41 0) ∷ inserts 5 7 7 (0x41 ∷ [])
+    ∷ inserts 6 7 7 [] ∷ replaces 6 7 7 [] ∷ inserts 5 7 7 [] ∷ reads 6 7 7 9 ∷ reads 5 7 7 0 ∷ deletes 5 7 8
+    ∷ deletes 5 7 7 ∷ reads 5 7 7 9 ∷ inserts 5 7 7 [] ∷ inserts 6 0 0 [] ∷ lists 3 ∷ commits 7 ∷ aborts 4096
+    ∷ steps 8192 ∷ runs 0 8192 ∷ begins ∷ begins ∷ steps 8191 ∷ runs 0 8191 ∷ []
+
+-- a store at its last level and its last number
+unfoldable pub lastStore : Store
+lastStore =
+    record { blocks = 16; capacity = 2; level = mostNumber; next = mostNumber; pages = []; active = []; used = λ b. false; taken = 0; checkpoint = idle }
+
+-- the refusal's number, 0 if there is none
+unfoldable pub refusalOf : Stage Store → ℕ
+refusalOf (refuses n) = n
+refusalOf (holds s) = 0
+
+-- what the runs above give
+pub record Refusals : Type 0 where
+  pub calls : answers refusedCalls (freshStore 16 2)
+      ≡ refused 6 ∷ done ∷ refused 8 ∷ done
+      ∷ refused 6 ∷ refused 7 ∷ refused 10 ∷ refused 11 ∷ done
+      ∷ refused 12 ∷ refused 12 ∷ refused 13 ∷ refused 14 ∷ refused 21 ∷ refused 14
+      ∷ done ∷ refused 14 ∷ refused 13 ∷ refused 15 ∷ refused 21 ∷ refused 7 ∷ refused 6
+      ∷ refused 18 ∷ refused 18 ∷ count 3 ∷ refused 17 ∷ refused 5 ∷ refused 5 ∷ []
+  -- 64 are open: no other, and one of them is open already
+  pub crowded : answers (map opens (from 0 64) ++ (opens 64 ∷ opens 0 ∷ [])) (freshStore 16 2) ≡ replicate 64 done ++ (refused 9 ∷ refused 8 ∷ [])
+  -- the last number is not given, and the last level is not left
+  pub last-numbers : answers (opens 5 ∷ inserts 5 0 0 [] ∷ begins ∷ []) lastStore ≡ done ∷ refused 16 ∷ refused 19 ∷ []
+  -- an image of 512 bytes, of no whole blocks; N 0 and 1,025; memory one byte too short, and just long enough
+  pub makes : map refusalOf (make 512 0 0 ∷ make 8191 0 0 ∷ make 8192 0 0 ∷ make 8192 0 1025 ∷ make 8192 1151 1 ∷ make 8192 1152 1 ∷ []) ≡ 1 ∷ 1 ∷ 2 ∷ 2 ∷ 3 ∷ 0 ∷ []
+
 -- ---- one run cut at every store
 
 -- an owner as numbers
@@ -260,5 +297,5 @@ pub record Cuts : Type 0 where
 
 -- opens all that the cases compute with: `unfolding cases`
 unfoldable pub cases : ℕ
-unfolding basics bitsOf numberOf bitsIn field num4 same isTentative ownerSize size spell bytesOf filledUp blockOf committedBit markBit ownerFields payloadFields recordFields recordsFields entryFields encodeBlock kind spelledBy readHeader headerIn readOwner readTuple taken whole readTuples pageTable pageCount pageLevel pageOfBytes pageIn readEntries directoryCount directoryLevel directoryIn decodeBlock rowRules blockAt blockCount view wholeBlocks blockOk isZero directoriesFor directoryBlocks unusedNumbers headerOk headerTest addEntries readDirectories entriesOk testedEntries directoryTest pageOk addPage readPages rowsOfPages testedPages pageTest headerStage pagesBelow pagesStage rules held rows isForeign versions seenOf seen gives unless changed openCall notOpen noTable tooLong foreign present unseen full newTuple written insertCall replaceCall deleteCall readSeen readCall listing listCall perform isRow removeAll planKey ownAt planRows plan openNumbers isFor writtenBy withWrite without others commitCall abortCall storedStore isFree allocate freeCount usedToo isRunning blocksNeeded beginCall leftOf left made fill storable storePage storeDirectory headerFor storeHeader stepOf stepAt badImage stepCall inTurn runCall call isBegin withWriter writers accepted afterCalls hadWritten memoryFor putBlock freshStore make madeImage loaded reopened recoveredStore recoverPages recoverBelow recover tag log isHeader landed stored content answers writes shape many after5 tuple pageOf clean booking committedPages reading spells firstOf imageAfter shapeOf recoveredAfter places splitMeanwhile commitMeanwhile committedLate threeTimes oneAgain bothFrozen ownerNumbers tupleNumbers heldNumbers pageNumbers agrees recoversTo tears cutHere cutEverywhere script scriptLog
+unfolding basics bitsOf numberOf bitsIn field num4 same isTentative ownerSize size spell bytesOf filledUp blockOf committedBit markBit ownerFields payloadFields recordFields recordsFields entryFields encodeBlock kind spelledBy readHeader headerIn readOwner readTuple taken whole readTuples pageTable pageCount pageLevel pageOfBytes pageIn readEntries directoryCount directoryLevel directoryIn decodeBlock rowRules blockAt blockCount view wholeBlocks blockOk isZero directoriesFor directoryBlocks unusedNumbers headerOk headerTest addEntries readDirectories entriesOk testedEntries directoryTest pageOk addPage readPages rowsOfPages testedPages pageTest headerStage pagesBelow pagesStage rules held rows isForeign versions seenOf seen gives unless changed openCall notOpen noTable tooLong foreign present unseen full newTuple written insertCall replaceCall deleteCall readSeen readCall listing listCall perform isRow removeAll planKey ownAt planRows plan openNumbers isFor writtenBy withWrite without others commitCall abortCall storedStore isFree allocate freeCount usedToo isRunning blocksNeeded beginCall leftOf left made fill storable storePage storeDirectory headerFor storeHeader stepOf stepAt badImage stepCall inTurn runCall call isBegin withWriter writers accepted afterCalls hadWritten memoryFor putBlock freshStore make madeImage loaded reopened recoveredStore recoverPages recoverBelow recover tag log isHeader landed stored content answers writes shape many after5 tuple pageOf clean booking committedPages reading spells firstOf imageAfter shapeOf recoveredAfter places splitMeanwhile commitMeanwhile committedLate threeTimes oneAgain bothFrozen refusedCalls lastStore refusalOf ownerNumbers tupleNumbers heldNumbers pageNumbers agrees recoversTo tears cutHere cutEverywhere script scriptLog
 cases = 0

@@ -8,25 +8,11 @@ use Rattle.basics.specs.Basics.{if_then_else_, any, all, every, paired, distinc
 use Rattle.blocks.specs.Tuple.{Owner, committed, tentative}
 use Rattle.rows.specs.Rows.{Row, number, isOwn, follows, startsWell, isBelow, transactions, openLimit, statementOk}
 
--- place: table and key
-unfoldable pub placeCode : Row → ℕ
-placeCode r = r .0 * 4294967296 + r .1 .key
-
--- owner: 0 for committed, else 1 + transaction and statement
-unfoldable pub ownerCode : Owner → ℕ
-ownerCode committed = 0
-ownerCode (tentative t s) = 1 + (t * 1048576 + s)
-
--- the owner of that code
+-- an owner's code is 0 for committed, else 1 + transaction and statement
 unfoldable pub codedOwner : ℕ → Owner
 codedOwner o = if eqb o 0 then committed else tentative ((o - 1) / 1048576) ((o - 1) % 1048576)
 
--- mark: 0 or 1
-unfoldable pub markCode : Bool → ℕ
-markCode true = 1
-markCode false = 0
-
--- the row with these codes
+-- the row with these codes: table and key, number, owner, mark (0 or 1)
 unfoldable pub coded : ℕ → ℕ → ℕ → ℕ → Row
 coded p n o m = (p / 4294967296, record { key = p % 4294967296; number = n; owner = codedOwner o; mark = leb 1 m; payload = [] })
 

@@ -1,0 +1,7 @@
+-- The runs that meet every refusal, by computation.
+use mathlib.Core.Path.{refl}
+use Rattle.model.specs.Cases.{Refusals, cases}
+
+pub refusals-given : Refusals
+unfolding cases
+refusals-given = record { calls = refl; crowded = refl; last-numbers = refl; makes = refl }
