@@ -10,6 +10,7 @@ ghost use mathlib.Core.Bool.{true};
 ghost use mathlib.Core.List.{[], map};
 ghost use Prim.Native.Nat.{_+_, _-_, _≤_, _<_, min};
 ghost use lib.ListN.{length, drop, getD};
+ghost use lib.Dec.{leb};
 ghost use Rattle.basics.specs.Basics.{howMany};
 ghost use Rattle.image.specs.Stages.{directoriesFor};
 ghost use Rattle.model.specs.Rules.{isFrozen};
@@ -60,20 +61,23 @@ fn count_pages(m: &[u8], from: usize, frozen: bool) -> usize
     k
 }
 
-// How many blocks are free.
-fn free_blocks(m: &[u8]) -> usize
+// Whether so many blocks are free: the search ends where that is known.
+fn enough_free(m: &[u8], need: usize) -> bool
     requires { ⌜ Room (now m) ⌝ }
-    ensures { λ r. ⌜ r ≡ freeCount (storeOf (flatOf (now (m .entry)))) ⌝ }
+    ensures { λ r. ⌜ r ≡ leb need (freeCount (storeOf (flatOf (now (m .entry))))) ⌝ }
 {
     let h = memory::get_head(m);
     let n = h.blocks as usize;
     let mut k: usize = 0;
     let mut b: usize = 1;
     while b < n {
+        if need <= k {
+            return true;
+        }
         k += one_if(!memory::is_used(m, b));
         b += 1;
     }
-    k
+    need <= k
 }
 
 // How many free blocks a begin needs.
@@ -224,7 +228,7 @@ pub fn begin(m: &mut [u8]) -> Answer
         return Answer::Refused(19);
     }
     let need = blocks_needed(m);
-    if free_blocks(m) < need {
+    if !enough_free(m, need) {
         return Answer::Refused(20);
     }
     start(m);

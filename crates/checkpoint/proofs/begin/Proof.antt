@@ -4,13 +4,13 @@ use mathlib.Core.List.{List}
 use mathlib.Core.Bool.{true}
 use Prim.Native.Nat.{ℕ, _+_}
 use native.Mathlib.Omega.{arith}
-use borrow.Author.Tests.{not-true, not-false}
+use borrow.Author.Tests.{not-true, not-false, leb-true, leb-false}
 use borrow.Author.Needs.{needs}
 use Rattle.memory.specs.declared.Head.{Head}
 use Rattle.memory.specs.Store.{holdsStore, storeOf}
 use Rattle.memory.specs.Flat.{flatOf}
 use Rattle.memory.proofs.Refusal.{held-room}
-use Rattle.model.specs.Checkpoint.{beginCall}
+use Rattle.model.specs.Checkpoint.{freeCount, beginCall}
 use Rattle.model.specs.Transactions.{gives}
 use Rattle.model.specs.State.{Store}
 use Rattle.answers.proofs.Answering.{answers-4, answers-refused, answers-count}
@@ -54,8 +54,8 @@ returns-3 c = let m : List ℕ = c .before .before .before .before .before .befo
 blocks-needed-requires : tie.Need-blocks-needed-requires
 blocks-needed-requires c κs = held-room _ (sym (c .before .before .before .before .before .before .before .before .before .holds-store .ensures) ∙ not-false _ (c .before .before .before .before .before .before .before .before .if1 .left))
 
-free-blocks-requires : tie.Need-free-blocks-requires
-free-blocks-requires c κs = held-room _ (sym (c .before .before .before .before .before .before .before .before .before .before .before .holds-store .ensures) ∙ not-false _ (c .before .before .before .before .before .before .before .before .before .before .if1 .left))
+enough-free-requires : tie.Need-enough-free-requires
+enough-free-requires c κs = held-room _ (sym (c .before .before .before .before .before .before .before .before .before .before .before .holds-store .ensures) ∙ not-false _ (c .before .before .before .before .before .before .before .before .before .before .if1 .left))
 
 same-length-4 : tie.Need-same-length-4
 same-length-4 c = search needs
@@ -64,15 +64,15 @@ returns-4 : tie.Need-returns-4
 returns-4 c = let m : List ℕ = c .before .before .before .before .before .before .before .before .before .before .before .before .before .before .before .before .args .m .now in
     let held : holdsStore m ≡ true = sym (c .before .before .before .before .before .before .before .before .before .before .before .before .before .holds-store .ensures) ∙ not-false _ (c .before .before .before .before .before .before .before .before .before .before .before .before .if1 .left) in
     let ne : flatOf m .head .level ≡ 4294967295 → ⊥ = λ z. c .before .before .before .before .before .if3 .left (ap (λ (h : Head). h .level) (c .before .before .before .before .before .before .before .get-head .ensures) ∙ z) in
-    answers-refused beginCall m 20 held (begin-20 (flatOf m) (sym (c .before .before .before .before .before .before .before .before .before .before .is-running .ensures) ∙ c .before .before .before .before .before .before .before .before .before .if2 .left) ne (omega (arith, c .before .free-blocks .ensures, c .before .before .before .blocks-needed .ensures .0, c .if4 .taken)))
+    answers-refused beginCall m 20 held (begin-20 (flatOf m) (sym (c .before .before .before .before .before .before .before .before .before .before .is-running .ensures) ∙ c .before .before .before .before .before .before .before .before .before .if2 .left) ne (omega (arith, leb-false (c .before .before .before .blocks-needed .result) (freeCount (storeOf (flatOf m))) (sym (c .before .enough-free .ensures) ∙ not-true _ (c .if4 .taken)), c .before .before .before .blocks-needed .ensures .0)))
 
 start-requires : tie.Need-start-requires
 start-requires c κs = let m : List ℕ = c .before .before .before .before .before .before .before .before .before .before .before .before .before .before .before .before .before .args .m .now in
     let held : holdsStore m ≡ true = sym (c .before .before .before .before .before .before .before .before .before .before .before .before .before .before .holds-store .ensures) ∙ not-false _ (c .before .before .before .before .before .before .before .before .before .before .before .before .before .if1 .left) in
     (held, omega (arith, ap (λ (h : Head). h .level) (c .before .before .before .before .before .before .before .before .get-head .ensures), c .before .before .before .before .before .before .if3 .left))
 
-add-t22 : tie.Need-add-t22
-add-t22 c = search needs
+add-t21 : tie.Need-add-t21
+add-t21 c = search needs
 
 same-length-5 : tie.Need-same-length-5
 same-length-5 c = search needs
@@ -84,7 +84,7 @@ returns-5 c = let m : List ℕ = c .before .before .before .before .before .befo
     let s : Store = storeOf (flatOf m) in
     let e = c .before .before .before .before .before .before .before .blocks-needed .ensures .0 in
     let u = c .before .before .start .ensures in
-    answers-count beginCall m _ _ (begun s) held (begin-done (flatOf m) (sym (c .before .before .before .before .before .before .before .before .before .before .before .before .before .before .is-running .ensures) ∙ c .before .before .before .before .before .before .before .before .before .before .before .before .before .if2 .left) ne (omega (arith, c .before .before .before .before .before .free-blocks .ensures, e, c .before .before .before .before .if4 .left)) ∙ ap (λ (z : ℕ). gives (model.count (z + 1)) (begun s)) (sym e)) (u .size) (u .store)
+    answers-count beginCall m _ _ (begun s) held (begin-done (flatOf m) (sym (c .before .before .before .before .before .before .before .before .before .before .before .before .before .before .is-running .ensures) ∙ c .before .before .before .before .before .before .before .before .before .before .before .before .before .if2 .left) ne (omega (arith, leb-true (c .before .before .before .before .before .before .before .blocks-needed .result) (freeCount s) (sym (c .before .before .before .before .before .enough-free .ensures) ∙ not-false _ (c .before .before .before .before .if4 .left)), e)) ∙ ap (λ (z : ℕ). gives (model.count (z + 1)) (begun s)) (sym e)) (u .size) (u .store)
 
 pub begin-spec : {M : Type 1} → statement M
 begin-spec =
@@ -100,10 +100,10 @@ begin-spec =
     same-length-3
     returns-3
     blocks-needed-requires
-    free-blocks-requires
+    enough-free-requires
     same-length-4
     returns-4
     start-requires
-    add-t22
+    add-t21
     same-length-5
     returns-5)
