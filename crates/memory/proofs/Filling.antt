@@ -1,7 +1,7 @@
 -- The pass over the page entries, a run of them at a time.
 use mathlib.Core.Path.{_≡_, refl, sym, ap, _∙_}
 use mathlib.Core.Bool.{Bool, true, false, _&&_, _||_}
-use Prim.Native.Nat.{ℕ, _+_, _-_, _≤_}
+use Prim.Native.Nat.{ℕ, suc, _+_, _-_, _≤_}
 use native.Mathlib.Omega.{arith}
 use mathlib.Core.List.{List, [], _∷_, _++_}
 use lib.ListN.{length}
@@ -94,12 +94,20 @@ or-both false b e h = h
 least : {n : ℕ} (k : ℕ) → k ≡ n → eqb k 0 ≡ false → 1 ≤ n
 least {n} k e h = let z : k ≡ 0 → ⊥ = eqb-false k 0 h in omega arith
 
-module _ (a b c d : Entry) (p q r s : ℕ) (ep : p ≡ a .count) (eq : q ≡ b .count) (er : r ≡ c .count) (es : s ≡ d .count) where
-  pub four-none : (((eqb p 0 || eqb q 0) || eqb r 0) || eqb s 0) ≡ true → 0 ≡ filledBy (a ∷ b ∷ c ∷ d ∷ [])
+-- one of the four counts is 0
+abbrev aNone : ℕ → ℕ → ℕ → ℕ → Bool
+aNone p q r s = ((eqb p 0 || eqb q 0) || eqb r 0) || eqb s 0
+
+-- what the two ways out give
+abbrev pub Four : ℕ → ℕ → ℕ → ℕ → List Entry → Type 0
+Four p q r s es = (aNone p q r s ≡ true → 0 ≡ filledBy es) × (aNone p q r s ≡ false → p + q + r + s ≡ filledBy es)
+
+module _ (f : ℕ → Entry) (i : ℕ) {p q r s : ℕ} (ep : p ≡ f i .count) (eq : q ≡ f (suc i) .count) (er : r ≡ f (suc (suc i)) .count) (es : s ≡ f (suc (suc (suc i))) .count) where
+  four-none : aNone p q r s ≡ true → 0 ≡ filledBy (tab f i 4)
   four-none h =
-      by (all hasRows (a ∷ b ∷ c ∷ d ∷ []))
+      by (all hasRows (tab f i 4))
       (λ t.
-      let k : Counted (a ∷ b ∷ c ∷ d ∷ []) = all-counted _ t in
+      let k : Counted (tab f i 4) = all-counted _ t in
       let zp : eqb p 0 ≡ false = ne-eqb p 0 (λ (z : p ≡ 0). omega (arith, k .0)) in
       let zq : eqb q 0 ≡ false = ne-eqb q 0 (λ (z : q ≡ 0). omega (arith, k .1 .0)) in
       let zr : eqb r 0 ≡ false = ne-eqb r 0 (λ (z : r ≡ 0). omega (arith, k .1 .1 .0)) in
@@ -107,12 +115,14 @@ module _ (a b c d : Entry) (p q r s : ℕ) (ep : p ≡ a .count) (eq : q ≡ b .
       lie (sym zs ∙ or-right _ _ (or-both _ _ (or-both _ _ zp zq) zr) h))
       (λ t. sym (filled-none _ t))
 
-  pub four-some : (((eqb p 0 || eqb q 0) || eqb r 0) || eqb s 0) ≡ false → p + q + r + s ≡ filledBy (a ∷ b ∷ c ∷ d ∷ [])
+  four-some : aNone p q r s ≡ false → p + q + r + s ≡ filledBy (tab f i 4)
   unfolding total sum
   four-some h =
       let t1 = or-false _ _ h in
       let t2 = or-false _ _ (t1 .0) in
       let t3 = or-false _ _ (t2 .0) in
-      let k : Counted (a ∷ b ∷ c ∷ d ∷ []) =
-      (least p ep (t3 .0), (least q eq (t3 .1), (least r er (t2 .1), (least s es (t1 .1), tt)))) in
+      let k : Counted (tab f i 4) = (least p ep (t3 .0), (least q eq (t3 .1), (least r er (t2 .1), (least s es (t1 .1), tt)))) in
       sym (filled-all _ (counted-all _ k) ∙ omega arith)
+
+  pub four : Four p q r s (tab f i 4)
+  four = (four-none, four-some)
