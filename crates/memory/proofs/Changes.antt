@@ -173,7 +173,7 @@ module _ (m m2 m' : List ℕ) (a len k n : ℕ) (k5 : k < 5) (p : Apart m m2 a l
 
 -- all of this at once
 record Kept (m m' : List ℕ) (a len k : ℕ) : Type 0 where
-  sign : num4 m' 0 ≡ num4 m 0
+  sign : num4 m' 0 ≡ signature
   head : headAt m' ≡ headAt m
   first : firstAt m' ≡ firstAt m
   begins : firstAt m' ≤ headAt m .capacity / 4
@@ -187,7 +187,7 @@ record Kept (m m' : List ℕ) (a len k : ℕ) : Type 0 where
 kept : (m m2 m' : List ℕ) (a len k n : ℕ) → k < 5 → Room m → 84 ≤ a → Apart m m2 a len → Recount m2 m' k n → Kept m m' a len k
 kept m m2 m' a len k n b r h p q =
     record {
-      sign = sign-kept m m2 m' a len k n b p q h;
+      sign = sign-kept m m2 m' a len k n b p q h ∙ r .sign;
       head = head-kept m m2 m' a len k n b p q h;
       first = first-kept m m2 m' a len k n b p q h;
       begins = rw (first-kept m m2 m' a len k n b p q h) (r .first);
@@ -201,13 +201,11 @@ kept m m2 m' a len k n b r h p q =
 
 -- ---- from parts to the whole
 
-pub flat-eq : (a b : Flat) → a .head ≡ b .head → a .opens ≡ b .opens → a .rows ≡ b .rows → a .entries ≡ b .entries → a .named ≡ b .named
-    → a .directories ≡ b .directories → a .used ≡ b .used → a ≡ b
-flat-eq a b h o r e n d u = λ i. record { head = h i; opens = o i; rows = r i; entries = e i; named = n i; directories = d i; used = u i }
-
-pub becomes : (m m' : List ℕ) (f : Flat) → length m' ≡ length m → num4 m' 0 ≡ signature → flatOf m' ≡ f → InRange (length m) (f .head) (countsOf f)
+pub becomes : {m m' : List ℕ} {f : Flat} → length m' ≡ length m → num4 m' 0 ≡ signature → headAt m' ≡ f .head → opensOf m' ≡ f .opens → rowsOf m' ≡ f .rows
+    → entriesOf m' ≡ f .entries → namedOf m' ≡ f .named → directoriesOf m' ≡ f .directories → usedAt m' ≡ f .used → InRange (length m) (f .head) (countsOf f)
     → firstAt m' ≤ f .head .capacity / 4 → Becomes m m' f
-becomes m m' f l s e g b =
+becomes {m} {m'} {f} l s h o rs es ns ds u g b =
+    let e : flatOf m' ≡ f = λ i. record { head = h i; opens = o i; rows = rs i; entries = es i; named = ns i; directories = ds i; used = u i } in
     let g1 : InRange (length m') (f .head) (countsOf f) = rw l g in
     record {
       size = l;
@@ -220,9 +218,9 @@ becomes m m' f l s e g b =
       flat = e;
     }
 
-recounted : {size : ℕ} {h : Head} {n : Counts} (n' : Counts) → InRange size h n → n' .rows ≤ h .capacity → n' .pages ≤ h .capacity → n' .opens ≤ 64
+recounted : {size : ℕ} {h : Head} {n n' : Counts} → InRange size h n → n' .rows ≤ h .capacity → n' .pages ≤ h .capacity → n' .opens ≤ 64
     → n' .named ≤ h .capacity → n' .directories ≤ 4 → InRange size h n'
-recounted n' g r p o d b =
+recounted g r p o d b =
     record {
       least = g .least;
       most = g .most;
@@ -254,18 +252,11 @@ module _ (m m2 m' : List ℕ) (a len n : ℕ) (r : Room m) (l : length m' ≡ le
       let K = kept m m2 m' a len 0 n (omega arith) r (omega arith) p q in
       let g = r .range in
       let lx : length xs ≡ n = as-long _ n xs e in
-      becomes m m' (withRows (flatOf m) xs) l (K .sign ∙ r .sign)
-      (flat-eq (flatOf m') (withRows (flatOf m) xs)
-      (K .head)
-      (K .opens (omega arith) (inl (omega arith)))
+      becomes l (K .sign) (K .head) (K .opens (omega arith) (inl (omega arith)))
       (ap (λ (x : ℕ). rowsAt m' x (countAt m' 0)) (K .first)
       ∙ new-cells rowOf (1024 + firstAt m * 80) 80 56 m2 m' 0 n (countAt m' 0) xs (omega arith) (omega arith) (omega arith) q (q .here) e)
-      (K .entries (omega arith) (inr (omega arith)))
-      (K .named (omega arith) (inr (omega arith)))
-      (K .directories (omega arith) (inl (omega arith)))
-      (K .used (inl (omega arith))))
-      (recounted (countsOf (withRows (flatOf m) xs)) g (omega arith) (g .pages) (g .opens) (g .named) (g .directories))
-      (K .begins)
+      (K .entries (omega arith) (inr (omega arith))) (K .named (omega arith) (inr (omega arith))) (K .directories (omega arith) (inl (omega arith)))
+      (K .used (inl (omega arith))) (recounted g (omega arith) (g .pages) (g .opens) (g .named) (g .directories)) (K .begins)
 
   pub entries-become : (xs : List Entry) → 1024 + headAt m .capacity * 100 ≤ a → a + len ≤ 1024 + headAt m .capacity * 108 → Recount m2 m' 1 n
       → n ≤ headAt m .capacity → entriesAt m2 (headAt m .capacity) n ≡ xs → Becomes m m' (withEntries (flatOf m) xs)
@@ -274,19 +265,11 @@ module _ (m m2 m' : List ℕ) (a len n : ℕ) (r : Room m) (l : length m' ≡ le
       let K = kept m m2 m' a len 1 n (omega arith) r (omega arith) p q in
       let g = r .range in
       let lx : length xs ≡ n = as-long _ n xs e in
-      let eh : headAt m' ≡ headAt m = K .head in
-      becomes m m' (withEntries (flatOf m) xs) l (K .sign ∙ r .sign)
-      (flat-eq (flatOf m') (withEntries (flatOf m) xs)
-      eh
-      (K .opens (omega arith) (inl (omega arith)))
-      (K .rows (omega arith) (inl (omega arith)))
-      (ap (λ (x : Head). entriesAt m' (x .capacity) (countAt m' 1)) eh
+      becomes l (K .sign) (K .head) (K .opens (omega arith) (inl (omega arith))) (K .rows (omega arith) (inl (omega arith)))
+      (ap (λ (x : Head). entriesAt m' (x .capacity) (countAt m' 1)) (K .head)
       ∙ new-cells entryOf (1024 + headAt m .capacity * 100) 8 6 m2 m' 1 n (countAt m' 1) xs (omega arith) (omega arith) (omega arith) q (q .here) e)
-      (K .named (omega arith) (inr (omega arith)))
-      (K .directories (omega arith) (inl (omega arith)))
-      (K .used (inl (omega arith))))
-      (recounted (countsOf (withEntries (flatOf m) xs)) g (g .rows) (omega arith) (g .opens) (g .named) (g .directories))
-      (K .begins)
+      (K .named (omega arith) (inr (omega arith))) (K .directories (omega arith) (inl (omega arith)))
+      (K .used (inl (omega arith))) (recounted g (g .rows) (omega arith) (g .opens) (g .named) (g .directories)) (K .begins)
 
   pub opens-become : (xs : List ℕ) → 128 ≤ a → a + len ≤ 384 → Recount m2 m' 2 n → n ≤ 64 → opensAt m2 n ≡ xs → Becomes m m' (withOpens (flatOf m) xs)
   unfolding opensOf
@@ -294,17 +277,11 @@ module _ (m m2 m' : List ℕ) (a len n : ℕ) (r : Room m) (l : length m' ≡ le
       let K = kept m m2 m' a len 2 n (omega arith) r (omega arith) p q in
       let g = r .range in
       let lx : length xs ≡ n = as-long _ n xs e in
-      becomes m m' (withOpens (flatOf m) xs) l (K .sign ∙ r .sign)
-      (flat-eq (flatOf m') (withOpens (flatOf m) xs)
-      (K .head)
+      becomes l (K .sign) (K .head)
       (new-cells word 128 4 4 m2 m' 2 n (countAt m' 2) xs (omega arith) (omega arith) (omega arith) q (q .here) e)
-      (K .rows (omega arith) (inr (omega arith)))
-      (K .entries (omega arith) (inr (omega arith)))
-      (K .named (omega arith) (inr (omega arith)))
+      (K .rows (omega arith) (inr (omega arith))) (K .entries (omega arith) (inr (omega arith))) (K .named (omega arith) (inr (omega arith)))
       (K .directories (omega arith) (inl (omega arith)))
-      (K .used (inr (omega arith))))
-      (recounted (countsOf (withOpens (flatOf m) xs)) g (g .rows) (g .pages) (omega arith) (g .named) (g .directories))
-      (K .begins)
+      (K .used (inr (omega arith))) (recounted g (g .rows) (g .pages) (omega arith) (g .named) (g .directories)) (K .begins)
 
   pub named-become : (xs : List ℕ) → 1024 + headAt m .capacity * 108 ≤ a → Recount m2 m' 3 n
       → n ≤ headAt m .capacity → namedAt m2 (headAt m .capacity) n ≡ xs → Becomes m m' (withNamed (flatOf m) xs)
@@ -313,19 +290,11 @@ module _ (m m2 m' : List ℕ) (a len n : ℕ) (r : Room m) (l : length m' ≡ le
       let K = kept m m2 m' a len 3 n (omega arith) r (omega arith) p q in
       let g = r .range in
       let lx : length xs ≡ n = as-long _ n xs e in
-      let eh : headAt m' ≡ headAt m = K .head in
-      becomes m m' (withNamed (flatOf m) xs) l (K .sign ∙ r .sign)
-      (flat-eq (flatOf m') (withNamed (flatOf m) xs)
-      eh
-      (K .opens (omega arith) (inl (omega arith)))
-      (K .rows (omega arith) (inl (omega arith)))
-      (K .entries (omega arith) (inl (omega arith)))
-      (ap (λ (x : Head). namedAt m' (x .capacity) (countAt m' 3)) eh
+      becomes l (K .sign) (K .head) (K .opens (omega arith) (inl (omega arith))) (K .rows (omega arith) (inl (omega arith))) (K .entries (omega arith) (inl (omega arith)))
+      (ap (λ (x : Head). namedAt m' (x .capacity) (countAt m' 3)) (K .head)
       ∙ new-cells half (1024 + headAt m .capacity * 108) 2 2 m2 m' 3 n (countAt m' 3) xs (omega arith) (omega arith) (omega arith) q (q .here) e)
       (K .directories (omega arith) (inl (omega arith)))
-      (K .used (inl (omega arith))))
-      (recounted (countsOf (withNamed (flatOf m) xs)) g (g .rows) (g .pages) (g .opens) (omega arith) (g .directories))
-      (K .begins)
+      (K .used (inl (omega arith))) (recounted g (g .rows) (g .pages) (g .opens) (omega arith) (g .directories)) (K .begins)
 
   pub directories-become : (xs : List ℕ) → 96 ≤ a → a + len ≤ 112 → Recount m2 m' 4 n → n ≤ 4 → directoriesAt m2 n ≡ xs
       → Becomes m m' (withDirectories (flatOf m) xs)
@@ -334,17 +303,11 @@ module _ (m m2 m' : List ℕ) (a len n : ℕ) (r : Room m) (l : length m' ≡ le
       let K = kept m m2 m' a len 4 n (omega arith) r (omega arith) p q in
       let g = r .range in
       let lx : length xs ≡ n = as-long _ n xs e in
-      becomes m m' (withDirectories (flatOf m) xs) l (K .sign ∙ r .sign)
-      (flat-eq (flatOf m') (withDirectories (flatOf m) xs)
-      (K .head)
-      (K .opens (omega arith) (inr (omega arith)))
-      (K .rows (omega arith) (inr (omega arith)))
-      (K .entries (omega arith) (inr (omega arith)))
+      becomes l (K .sign) (K .head)
+      (K .opens (omega arith) (inr (omega arith))) (K .rows (omega arith) (inr (omega arith))) (K .entries (omega arith) (inr (omega arith)))
       (K .named (omega arith) (inr (omega arith)))
       (new-cells word 96 4 4 m2 m' 4 n (countAt m' 4) xs (omega arith) (omega arith) (omega arith) q (q .here) e)
-      (K .used (inr (omega arith))))
-      (recounted (countsOf (withDirectories (flatOf m) xs)) g (g .rows) (g .pages) (g .opens) (g .named) (omega arith))
-      (K .begins)
+      (K .used (inr (omega arith))) (recounted g (g .rows) (g .pages) (g .opens) (g .named) (omega arith)) (K .begins)
 
 -- the head's numbers, and where the rows begin
 low-become : (m m' : List ℕ) (h : Head) → Room m → length m' ≡ length m → Apart m m' 4 32 → headAt m' ≡ h → Replaces (headAt m) h
@@ -355,9 +318,7 @@ low-become m m' h r l p e t f =
     let ec : h .capacity ≡ headAt m .capacity = t .capacity in
     let c : headAt m' .capacity ≡ headAt m .capacity = ap (λ (x : Head). x .capacity) e ∙ t .capacity in
     let n : (j : ℕ) → countAt m' j ≡ countAt m j = λ j. cell-off word 64 4 4 (omega arith) p j (inr (omega arith)) in
-    becomes m m' (withRows (withHead (flatOf m) h) (rowsOf m')) l (sym (word-at m' 0) ∙ ap word (off p 0 4 (inl (omega arith))) ∙ word-at m 0 ∙ r .sign)
-    (flat-eq (flatOf m') (withRows (withHead (flatOf m) h) (rowsOf m'))
-    e
+    becomes l (sym (word-at m' 0) ∙ ap word (off p 0 4 (inl (omega arith))) ∙ word-at m 0 ∙ r .sign) e
     (ap (opensAt m') (n 2) ∙ cells-off word 128 4 4 (omega arith) p (countAt m 2) (inr (omega arith)))
     refl
     (ap (λ (x : ℕ). entriesAt m' x (countAt m' 1)) c ∙ ap (entriesAt m' (headAt m .capacity)) (n 1)
@@ -365,7 +326,7 @@ low-become m m' h r l p e t f =
     (ap (λ (x : ℕ). namedAt m' x (countAt m' 3)) c ∙ ap (namedAt m' (headAt m .capacity)) (n 3)
     ∙ cells-off half (1024 + headAt m .capacity * 108) 2 2 (omega arith) p (countAt m 3) (inr (omega arith)))
     (ap (directoriesAt m') (n 4) ∙ cells-off word 96 4 4 (omega arith) p (countAt m 4) (inr (omega arith)))
-    (ap usedIn (off p 512 512 (inr (omega arith)))))
+    (ap usedIn (off p 512 512 (inr (omega arith))))
     (record {
       least = omega (arith, g .least);
       most = omega (arith, g .most);
@@ -420,17 +381,7 @@ rows-moved m m' a len r l p h1 h2 =
 pub used-become : (m m' : List ℕ) (a len : ℕ) (u : ℕ → Bool) → Room m → length m' ≡ length m → Apart m m' a len → 512 ≤ a → a + len ≤ 1024 → usedAt m' ≡ u
     → Becomes m m' (withUsed (flatOf m) u)
 used-become m m' a len u r l p h1 h2 e =
-    let g = r .range in
     let K = kept m m' m' a len 0 (countAt m' 0) (omega arith) r (omega arith) p (recount-none m' 0 _ refl) in
     let J = kept m m' m' a len 1 (countAt m' 1) (omega arith) r (omega arith) p (recount-none m' 1 _ refl) in
-    becomes m m' (withUsed (flatOf m) u) l (K .sign ∙ r .sign)
-    (flat-eq (flatOf m') (withUsed (flatOf m) u)
-    (K .head)
-    (K .opens (omega arith) (inl (omega arith)))
-    (J .rows (omega arith) (inr (omega arith)))
-    (K .entries (omega arith) (inr (omega arith)))
-    (K .named (omega arith) (inr (omega arith)))
-    (K .directories (omega arith) (inl (omega arith)))
-    e)
-    (recounted (countsOf (flatOf m)) g (g .rows) (g .pages) (g .opens) (g .named) (g .directories))
-    (K .begins)
+    becomes l (K .sign) (K .head) (K .opens (omega arith) (inl (omega arith))) (J .rows (omega arith) (inr (omega arith)))
+    (K .entries (omega arith) (inr (omega arith))) (K .named (omega arith) (inr (omega arith))) (K .directories (omega arith) (inl (omega arith))) e (r .range) (K .begins)

@@ -1,6 +1,6 @@
 use Rattle.memory.proofs.Access.{count-is}
 use Rattle.memory.proofs.Filling.{Pass, pass, pass-end, one-filled}
-use Rattle.memory.specs.Store.{filledBy, fillsAfter}
+use Rattle.memory.specs.Store.{fillsAfter}
 use Rattle.memory.specs.Views.{entriesFrom}
 use borrow.Author.Needs.{needs}
 use native.Mathlib.Omega.{arith}
