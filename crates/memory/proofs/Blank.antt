@@ -12,7 +12,7 @@ use Rattle.blocks.specs.Numbers.{num4}
 use Rattle.model.specs.Recover.{freshStore}
 use Rattle.memory.specs.Bytes.{bytes4, cut, put, Apart}
 use Rattle.memory.specs.Views.{cell, word, headOf, headAt, firstAt, countAt, usedAt, opensAt, rowsAt, entriesAt, namedAt, directoriesAt}
-use Rattle.memory.specs.Flat.{flatOf, opensOf, rowsOf, entriesOf, namedOf, directoriesOf, signature, Becomes}
+use Rattle.memory.specs.Flat.{opensOf, rowsOf, entriesOf, namedOf, directoriesOf, signature, Becomes}
 use Rattle.memory.specs.Store.{FreshFits, freshFlat, storeOf, nest, checkpointOf, fillsRows, total, filled, storeIn}
 use Rattle.memory.proofs.Laws.{cut-put-in, put-apart, length-put}
 use Rattle.memory.proofs.Cells.{Off, off, put-here}
