@@ -1,8 +1,7 @@
 use Rattle.memory.proofs.Leaves.{entry-in}
 use Rattle.memory.proofs.Changes.{known}
 use native.Mathlib.Omega.{arith}
-use Prim.Native.Nat.{ℕ, _+_, _*_}
-use mathlib.Core.Path.{ap, _∙_}
+use mathlib.Core.Path.{_∙_}
 use borrow.Author.Needs.{needs}
 use Rattle.memory.proofs.insert_entry.Statement.{statement}
 use Rattle.memory.proofs.insert_entry.Tie as tie
@@ -57,8 +56,8 @@ returns c = let put = c .before .before in
     let count = shift .before .before in
     let cap = count .before .before in
     let st = cap .before .before .before in
-    entry-in (st .args .m .now) (st .pre .0) (count .count-at .result) (count .count-at .ensures) (1024 + cap .capacity-of .result * 100)
-    (ap (λ (z : ℕ). 1024 + z * 100) (cap .capacity-of .ensures)) (st .args .p) (st .args .e) (st .pre .1 .0) (st .pre .1 .1)
+    entry-in (st .args .m .now) (st .pre .0) (count .count-at .result) (count .count-at .ensures) (cap .capacity-of .result) (cap .capacity-of .ensures)
+    (st .args .p) (st .args .e) (st .pre .1 .0) (st .pre .1 .1)
     (put .put-count .kept .0 ∙ store .store-entry .kept .0 ∙ shift .shift-up .kept .0) (shift .shift-up .ensures) (store .store-entry .ensures) (put .put-count .ensures) (omega arith)
 
 pub insert-entry-spec : {M : Type 1} → statement M

@@ -1,11 +1,7 @@
 use Rattle.memory.proofs.Leaves.{named-in}
 use Rattle.memory.proofs.Changes.{known}
-use Rattle.memory.proofs.Spelling.{stored-half}
-use Rattle.memory.specs.Views.{half, Only}
-use mathlib.Core.List.{List}
 use native.Mathlib.Omega.{arith}
-use Prim.Native.Nat.{ℕ, _+_, _*_}
-use mathlib.Core.Path.{ap, _∙_}
+use mathlib.Core.Path.{_∙_}
 use borrow.Author.Needs.{needs}
 use Rattle.memory.proofs.push_named.Statement.{statement}
 use Rattle.memory.proofs.push_named.Tie as tie
@@ -49,13 +45,8 @@ returns c = let put = c .before .before in
     let count = store .before .before in
     let cap = count .before .before in
     let st = cap .before .before .before in
-    let m : List ℕ = st .args .m .now in
-    let b : ℕ = 1024 + cap .capacity-of .result * 108 in
-    let j : ℕ = count .count-at .result in
-    let o : Only half b 2 2 m (store .put2 .last .0) j (st .args .x) =
-    rw (store .put2 .ensures) (stored-half m b j (st .args .x) (omega (arith, known m (st .pre .0), count .count-at .ensures, cap .capacity-of .ensures))) in
-    named-in m (st .pre .0) j (count .count-at .ensures) b (ap (λ (z : ℕ). 1024 + z * 108) (cap .capacity-of .ensures)) (st .args .x) (st .pre .1)
-    (put .put-count .kept .0 ∙ store .put2 .kept .0) o (put .put-count .ensures)
+    named-in (st .args .m .now) (st .pre .0) (count .count-at .result) (count .count-at .ensures) (cap .capacity-of .result) (cap .capacity-of .ensures)
+    (st .args .x) (st .pre .1) (put .put-count .kept .0 ∙ store .put2 .kept .0) (store .put2 .ensures) (put .put-count .ensures)
 
 pub push-named-spec : {M : Type 1} → statement M
 push-named-spec =

@@ -1,8 +1,7 @@
 use Rattle.memory.proofs.Leaves.{entry-out}
 use Rattle.memory.proofs.Changes.{known}
 use native.Mathlib.Omega.{arith}
-use Prim.Native.Nat.{ℕ, _+_, _*_}
-use mathlib.Core.Path.{ap, _∙_}
+use mathlib.Core.Path.{_∙_}
 use borrow.Author.Needs.{needs}
 use Rattle.memory.proofs.remove_entry.Statement.{statement}
 use Rattle.memory.proofs.remove_entry.Tie as tie
@@ -52,8 +51,8 @@ returns c = let put = c .before .before in
     let count = shift .before .before in
     let cap = count .before .before in
     let st = cap .before .before .before in
-    entry-out (st .args .m .now) (st .pre .0) (count .count-at .result) (count .count-at .ensures) (1024 + cap .capacity-of .result * 100)
-    (ap (λ (z : ℕ). 1024 + z * 100) (cap .capacity-of .ensures)) (st .args .p) (st .pre .1) (put .put-count .kept .0 ∙ shift .shift-down .kept .0)
+    entry-out (st .args .m .now) (st .pre .0) (count .count-at .result) (count .count-at .ensures) (cap .capacity-of .result) (cap .capacity-of .ensures)
+    (st .args .p) (st .pre .1) (put .put-count .kept .0 ∙ shift .shift-down .kept .0)
     (shift .shift-down .ensures) (put .put-count .ensures)
 
 pub remove-entry-spec : {M : Type 1} → statement M
