@@ -108,30 +108,26 @@ module _ (m : List ℕ) (r : Room m) (n : ℕ) where
     pub row-in : {m1 m2 m' : List ℕ} (i : ℕ) (s : Row) (b : ℕ) → b ≡ 1024 + firstAt m1 * 80 → i ≤ length (rowsOf m) → length (rowsOf m) < headAt m .capacity
         → length m' ≡ length m1 → Opened m m1 i → Only rowOf b 80 56 m1 m2 i s → Only word 64 4 4 m2 m' 0 (n + 1)
         → Becomes m m' (withRows (flatOf m) (insertAt i s (rowsOf m)))
-    row-in {m1} {m2} {m'} i s b eb h f l op o q =
+    row-in {m1} {m2} {m'} i s b eb h f l op o' q' =
         let k = known m r in
-        let r1 : Room m1 = op .others .room in
-        let k1 = known m1 r1 in
+        let k1 = known m1 (op .others .room) in
         let ec : headAt m1 .capacity ≡ headAt m .capacity = ap (λ (x : Flat). x .head .capacity) (op .others .flat) in
-        let xs : List Row = rowsAt m1 (firstAt m1) (n + 1) in
-        let en1 : n + 1 ≡ countAt m 0 + 1 = omega arith in
-        let lx : length xs ≡ n + 1 = length-tab _ 0 (n + 1) in
+        let o : Only rowOf (1024 + firstAt m1 * 80) 80 56 m1 m2 i s = rw eb at o' in
+        let q : Only word 64 4 4 m2 m' 0 (countAt m 0 + 1) = rw en at q' in
+        let xs : List Row = rowsAt m1 (firstAt m1) (countAt m 0 + 1) in
+        let lx : length xs ≡ countAt m 0 + 1 = length-tab _ 0 (countAt m 0 + 1) in
         becomes-then m m1 m' _ (λ (x : Flat). withRows x (insertAt i s (rowsOf m))) (op .others)
-        (rows-become m1 m2 m' (b + i * 80) 80 (n + 1) r1 l (o .apart) (insertAt i s (rowsOf m)) (omega arith) (omega arith) (recount q) (omega arith)
-        (ap (λ (z : ℕ). tab (cell rowOf z 80 56 m2) 0 (n + 1)) (sym eb) ∙ cells-set rowOf b 80 56 (omega arith) (n + 1) o (omega arith)
-        ∙ ap (λ (z : ℕ). set (tab (cell rowOf z 80 56 m1) 0 (n + 1)) i s) eb ∙ set-opened xs i s (omega arith)
-        ∙ ap (λ (z : ℕ). insertAt i s (removeAt i (rowsAt m1 (firstAt m1) z))) en1 ∙ ap (insertAt i s) (op .around)))
+        (rows-become m1 m2 m' _ _ _ (op .others .room) l (o .apart) _ (omega arith) (omega arith) (recount q) (omega arith)
+        (cells-set rowOf _ 80 56 (omega arith) (countAt m 0 + 1) o (omega arith) ∙ set-opened xs i s (omega arith) ∙ ap (insertAt i s) (op .around)))
 
     pub row-out : {m1 m' : List ℕ} (i : ℕ) → i < length (rowsOf m) → length m' ≡ length m1 → Closed m m1 i → Only word 64 4 4 m1 m' 0 (n - 1)
         → Becomes m m' (withRows (flatOf m) (removeAt i (rowsOf m)))
-    row-out {m1} {m'} i h l cl q =
+    row-out {m1} {m'} i h l cl q' =
         let k = known m r in
-        let r1 : Room m1 = cl .others .room in
         let ec : headAt m1 .capacity ≡ headAt m .capacity = ap (λ (x : Flat). x .head .capacity) (cl .others .flat) in
-        let en1 : n - 1 ≡ countAt m 0 - 1 = omega arith in
+        let q : Only word 64 4 4 m1 m' 0 (countAt m 0 - 1) = rw en at q' in
         becomes-then m m1 m' _ (λ (x : Flat). withRows x (removeAt i (rowsOf m))) (cl .others)
-        (rows-become m1 m1 m' 1024 0 (n - 1) r1 l (apart-none m1 1024 0) (removeAt i (rowsOf m)) (omega arith) (omega arith) (recount q) (omega arith)
-        (ap (rowsAt m1 (firstAt m1)) en1 ∙ cl .around))
+        (rows-become m1 m1 m' 1024 0 _ (cl .others .room) l (apart-none m1 1024 0) _ (omega arith) (omega arith) (recount q) (omega arith) (cl .around))
 
   module _ (en : n ≡ countAt m 1) (c : ℕ) (ec : c ≡ headAt m .capacity) where
     pub entry-in : {m1 m2 m' : List ℕ} {k : ℕ} (i : ℕ) (e : Entry) → i ≤ length (entriesOf m) → length (entriesOf m) < headAt m .capacity → length m' ≡ length m
