@@ -23,7 +23,7 @@ between : (P : ℕ → ℕ → Type 0) {a b c d : ℕ} → a ≡ c → b ≡ d �
 between P {a} {b} {c} {d} e f p = subst (λ (z : ℕ). P c z) f (subst (λ (z : ℕ). P z b) e p)
 
 -- b: where row 0 stands, f: how many rows there would be room for before it
-module _ (m : List ℕ) (r : Room m) (n f b : ℕ) (en : n ≡ countAt m 0) (ef : f ≡ firstAt m) (eb : b ≡ 1024 + firstAt m * 80) where
+module _ {m : List ℕ} (r : Room m) {n f b : ℕ} (en : n ≡ countAt m 0) (ef : f ≡ firstAt m) (eb : b ≡ 1024 + firstAt m * 80) where
   rows-are : rowsOf m ≡ tab (cell rowOf b 80 56 m) 0 n
   unfolding rowsOf
   rows-are = ap (rowsAt m (firstAt m)) (sym en) ∙ ap (λ (z : ℕ). tab (cell rowOf z 80 56 m) 0 n) (sym eb)
@@ -103,12 +103,12 @@ module _ (m : List ℕ) (r : Room m) (n f b : ℕ) (en : n ≡ countAt m 0) (ef 
           }
 
 -- n is the count that was read; q: the count that was written
-module _ (m : List ℕ) (r : Room m) (n : ℕ) where
+module _ {m : List ℕ} (r : Room m) {n : ℕ} where
   module _ (en : n ≡ countAt m 0) where
-    pub row-in : {m1 m2 m' : List ℕ} (i : ℕ) (s : Row) (b : ℕ) → b ≡ 1024 + firstAt m1 * 80 → i ≤ length (rowsOf m) → length (rowsOf m) < headAt m .capacity
+    pub row-in : {m1 m2 m' : List ℕ} {b : ℕ} (i : ℕ) (s : Row) → b ≡ 1024 + firstAt m1 * 80 → i ≤ length (rowsOf m) → length (rowsOf m) < headAt m .capacity
         → length m' ≡ length m1 → Opened m m1 i → Only rowOf b 80 56 m1 m2 i s → Only word 64 4 4 m2 m' 0 (n + 1)
         → Becomes m m' (withRows (flatOf m) (insertAt i s (rowsOf m)))
-    row-in {m1} {m2} {m'} i s b eb h f l op o' q' =
+    row-in {m1} {m2} {m'} i s eb h f l op o' q' =
         let k = known m r in
         let k1 = known m1 (op .others .room) in
         let ec : headAt m1 .capacity ≡ headAt m .capacity = ap (λ (x : Flat). x .head .capacity) (op .others .flat) in
@@ -129,7 +129,7 @@ module _ (m : List ℕ) (r : Room m) (n : ℕ) where
         becomes-then m m1 m' _ (λ (x : Flat). withRows x (removeAt i (rowsOf m))) (cl .others)
         (rows-become m1 m1 m' 1024 0 _ (cl .others .room) l (apart-none m1 1024 0) _ (omega arith) (omega arith) (recount q) (omega arith) (cl .around))
 
-  module _ (en : n ≡ countAt m 1) (c : ℕ) (ec : c ≡ headAt m .capacity) where
+  module _ (en : n ≡ countAt m 1) {c : ℕ} (ec : c ≡ headAt m .capacity) where
     pub entry-in : {m1 m2 m' : List ℕ} {k : ℕ} (i : ℕ) (e : Entry) → i ≤ length (entriesOf m) → length (entriesOf m) < headAt m .capacity → length m' ≡ length m
         → Shifted m m1 (1024 + c * 100 + i * 8) (1024 + c * 100 + n * 8) 8 → Only entryOf (1024 + c * 100) 8 6 m1 m2 i e → Only word 64 4 4 m2 m' 1 k → k ≡ n + 1
         → Becomes m m' (withEntries (flatOf m) (insertAt i e (entriesOf m)))
@@ -163,7 +163,7 @@ module _ (m : List ℕ) (r : Room m) (n : ℕ) where
         opens-become m m1 m' _ _ _ r l (sh .apart) _ (omega arith) (omega arith) (recount q) (omega arith)
         (cells-remove word 128 4 4 (omega arith) n sh (omega arith) ∙ ap (λ (z : ℕ). removeAt i (opensAt m z)) en)
 
-  module _ (en : n ≡ countAt m 3) (c : ℕ) (ec : c ≡ headAt m .capacity) where
+  module _ (en : n ≡ countAt m 3) {c : ℕ} (ec : c ≡ headAt m .capacity) where
     pub named-in : {m2 m' : List ℕ} (x : ℕ) → length (namedOf m) < headAt m .capacity → length m' ≡ length m
         → m2 ≡ put (1024 + c * 108 + n * 2) (bytes2 x) m → Only word 64 4 4 m2 m' 3 (n + 1) → Becomes m m' (withNamed (flatOf m) (namedOf m ++ x ∷ []))
     unfolding namedOf
@@ -173,31 +173,31 @@ module _ (m : List ℕ) (r : Room m) (n : ℕ) where
         let q : Only word 64 4 4 m2 m' 3 (countAt m 3 + 1) = rw en at q' in
         named-become m m2 m' _ _ _ r l (o .apart) _ (omega arith) (recount q) (omega arith) (cells-push half _ 2 2 (omega arith) o)
 
-module _ (m : List ℕ) (r : Room m) {m' : List ℕ} (l : length m' ≡ length m) where
+module _ {m m' : List ℕ} (r : Room m) (l : length m' ≡ length m) where
   -- a cell set above the counts: count k stays
   stays : {A : Type 0} {of : List ℕ → A} {base w v i : ℕ} {x : A} (k : ℕ) → k < 5 → Only of base w v m m' i x → 84 ≤ base → Recount m' m' k (countAt m k)
   stays k b o h = recount-none m' k _ (cell-off word 64 4 4 (omega arith) (o .apart) k (inl (omega arith)))
 
-  pub row-set : (b : ℕ) → b ≡ 1024 + firstAt m * 80 → (i : ℕ) (s : Row) → i < length (rowsOf m) → Only rowOf b 80 56 m m' i s
+  pub row-set : {b : ℕ} → b ≡ 1024 + firstAt m * 80 → (i : ℕ) (s : Row) → i < length (rowsOf m) → Only rowOf b 80 56 m m' i s
       → Becomes m m' (withRows (flatOf m) (set (rowsOf m) i s))
   unfolding rowsOf
-  row-set b eb i s h o' =
+  row-set eb i s h o' =
       let k = known m r in
       let o : Only rowOf (1024 + firstAt m * 80) 80 56 m m' i s = rw eb at o' in
       rows-become m m' m' _ _ _ r l (o .apart) _ (omega arith) (omega arith) (stays 0 (omega arith) o (omega arith)) (k .rows) (cells-set rowOf _ 80 56 (omega arith) (countAt m 0) o (omega arith))
 
-  pub entry-set : (c : ℕ) → c ≡ headAt m .capacity → (i : ℕ) (e : Entry) → i < length (entriesOf m) → Only entryOf (1024 + c * 100) 8 6 m m' i e
+  pub entry-set : {c : ℕ} → c ≡ headAt m .capacity → (i : ℕ) (e : Entry) → i < length (entriesOf m) → Only entryOf (1024 + c * 100) 8 6 m m' i e
       → Becomes m m' (withEntries (flatOf m) (set (entriesOf m) i e))
   unfolding entriesOf
-  entry-set c ec i e h o' =
+  entry-set ec i e h o' =
       let k = known m r in
       let o : Only entryOf (1024 + headAt m .capacity * 100) 8 6 m m' i e = rw ec at o' in
       entries-become m m' m' _ _ _ r l (o .apart) _ (omega arith) (omega arith) (stays 1 (omega arith) o (omega arith)) (k .pages) (cells-set entryOf _ 8 6 (omega arith) (countAt m 1) o (omega arith))
 
-  pub named-set : (c : ℕ) → c ≡ headAt m .capacity → (i x : ℕ) → i < length (namedOf m) → m' ≡ put (1024 + c * 108 + i * 2) (bytes2 x) m
+  pub named-set : {c : ℕ} → c ≡ headAt m .capacity → (i x : ℕ) → i < length (namedOf m) → m' ≡ put (1024 + c * 108 + i * 2) (bytes2 x) m
       → Becomes m m' (withNamed (flatOf m) (set (namedOf m) i x))
   unfolding namedOf
-  named-set c ec i x h e =
+  named-set ec i x h e =
       let k = known m r in
       let o : Only half (1024 + headAt m .capacity * 108) 2 2 m m' i x = rw (e, ec) (stored-half m _ i x (omega arith)) in
       named-become m m' m' _ _ _ r l (o .apart) _ (omega arith) (stays 3 (omega arith) o (omega arith)) (k .named) (cells-set half _ 2 2 (omega arith) (countAt m 3) o (omega arith))

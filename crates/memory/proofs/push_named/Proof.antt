@@ -42,11 +42,10 @@ same-length c = search needs
 returns : tie.Need-returns
 returns c = let put = c .before .before in
     let store = put .before .before .before .before in
-    let count = store .before .before in
-    let cap = count .before .before in
+    let cap = store .before .before .before .before in
     let st = cap .before .before .before in
-    named-in (st .args .m .now) (st .pre .0) (count .count-at .result) (count .count-at .ensures) (cap .capacity-of .result) (cap .capacity-of .ensures)
-    (st .args .x) (st .pre .1) (put .put-count .kept .0 ∙ store .put2 .kept .0) (store .put2 .ensures) (put .put-count .ensures)
+    named-in (st .pre .0) (store .before .before .count-at .ensures) (cap .capacity-of .ensures) (st .args .x) (st .pre .1)
+    (put .put-count .kept .0 ∙ store .put2 .kept .0) (store .put2 .ensures) (put .put-count .ensures)
 
 pub push-named-spec : {M : Type 1} → statement M
 push-named-spec =

@@ -16,8 +16,7 @@ returns : tie.Need-returns
 returns c = let store = c .before .before in
     let cap = store .before .before in
     let st = cap .before .before .before in
-    entry-set (st .args .m .now) (st .pre .0) (store .store-entry .kept .0) (cap .capacity-of .result) (cap .capacity-of .ensures) (st .args .p) (st .args .e) (st .pre .1)
-    (store .store-entry .ensures)
+    entry-set (st .pre .0) (store .store-entry .kept .0) (cap .capacity-of .ensures) (st .args .p) (st .args .e) (st .pre .1) (store .store-entry .ensures)
 
 pub put-entry-spec : {M : Type 1} → statement M
 put-entry-spec = tie.close (tie.spec capacity-of-requires store-entry-requires same-length returns)

@@ -28,7 +28,7 @@ returns : tie.Need-returns
 returns c = let store = c .before .before in
     let cap = store .before .before in
     let st = cap .before .before .before in
-    named-set (st .args .m .now) (st .pre .0) (store .put2 .kept .0) (cap .capacity-of .result) (cap .capacity-of .ensures) (st .args .i) (st .args .x) (st .pre .1) (store .put2 .ensures)
+    named-set (st .pre .0) (store .put2 .kept .0) (cap .capacity-of .ensures) (st .args .i) (st .args .x) (st .pre .1) (store .put2 .ensures)
 
 pub put-named-spec : {M : Type 1} → statement M
 put-named-spec =

@@ -18,7 +18,7 @@ same-length c = search needs
 returns : tie.Need-returns
 returns c = let store = c .before .before in
     let st = store .before .before .before in
-    open-set (st .args .m .now) (st .pre .0) (store .put4 .kept .0) (st .args .i) (st .args .x) (st .pre .1) (store .put4 .ensures)
+    open-set (st .pre .0) (store .put4 .kept .0) (st .args .i) (st .args .x) (st .pre .1) (store .put4 .ensures)
 
 pub put-open-spec : {M : Type 1} → statement M
 put-open-spec = tie.close (tie.spec mul-put4 add-put4 put4-requires same-length returns)

@@ -39,9 +39,8 @@ same-length c = search needs
 returns : tie.Need-returns
 returns c = let put = c .before .before in
     let shift = put .before .before .before .before in
-    let count = shift .before .before in
-    let st = count .before .before .before in
-    open-out (st .args .m .now) (st .pre .0) (count .count-at .result) (count .count-at .ensures) (st .args .i) (st .pre .1)
+    let st = shift .before .before .before .before .before in
+    open-out (st .pre .0) (shift .before .before .count-at .ensures) (st .args .i) (st .pre .1)
     (put .put-count .kept .0 ∙ shift .shift-down .kept .0) (shift .shift-down .ensures) (put .put-count .ensures)
 
 pub remove-open-spec : {M : Type 1} → statement M
