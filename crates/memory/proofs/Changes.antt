@@ -106,72 +106,6 @@ word-at m a =
     let z : a + 0 ≡ a = omega arith in
     rw (e0, e1, e2, e3, z)
 
-module _ (m m2 m' : List ℕ) (a len k n : ℕ) (k5 : k < 5) (p : Apart m m2 a len) (q : Recount m2 m' k n) where
-  both : (b l : ℕ) → Off b l a len → Off b l (64 + k * 4) 4 → cut b l m' ≡ cut b l m
-  both b l o1 o2 = off (q .apart) b l o2 ∙ off p b l o1
-
-  sign-kept : 84 ≤ a → num4 m' 0 ≡ num4 m 0
-  sign-kept h = sym (word-at m' 0) ∙ ap word (both 0 4 (inl (omega arith)) (inl (omega arith))) ∙ word-at m 0
-
-  head-kept : 84 ≤ a → headAt m' ≡ headAt m
-  unfolding headAt
-  head-kept h = ap headOf (both 4 28 (inl (omega arith)) (inl (omega arith)))
-
-  first-kept : 84 ≤ a → firstAt m' ≡ firstAt m
-  first-kept h = sym (word-at m' 32) ∙ ap word (both 32 4 (inl (omega arith)) (inl (omega arith))) ∙ word-at m 32
-
-  count-kept : 84 ≤ a → (j : ℕ) → j < 5 → (j ≡ k → ⊥) → countAt m' j ≡ countAt m j
-  count-kept h j b ne = q .others j ne ∙ cell-off word 64 4 4 (omega arith) p j (inl (omega arith))
-
-  -- cells of a region above the counts
-  region-kept : {A : Type 0} (of : List ℕ → A) (base w v : ℕ) → v ≤ w → 84 ≤ base → (i : ℕ) → Off base (i * w) a len
-      → tab (cell of base w v m') 0 i ≡ tab (cell of base w v m) 0 i
-  region-kept of base w v s h i o = cells-off of base w v s (q .apart) i (inr (omega arith)) ∙ cells-off of base w v s p i o
-
-  module _ (h : 84 ≤ a) (r : Room m) where
-    opens-kept : (2 ≡ k → ⊥) → Off 128 256 a len → opensOf m' ≡ opensOf m
-    unfolding opensOf
-    opens-kept ne o =
-        let u = known m r .opens in
-        ap (opensAt m') (count-kept h 2 (omega arith) ne)
-        ∙ region-kept word 128 4 4 (omega arith) (omega arith) (countAt m 2) (⊎-elim (λ z. inl (omega arith)) (λ z. inr z) o)
-
-    directories-kept : (4 ≡ k → ⊥) → Off 96 16 a len → directoriesOf m' ≡ directoriesOf m
-    unfolding directoriesOf
-    directories-kept ne o =
-        let u = known m r .directories in
-        ap (directoriesAt m') (count-kept h 4 (omega arith) ne)
-        ∙ region-kept word 96 4 4 (omega arith) (omega arith) (countAt m 4) (⊎-elim (λ z. inl (omega arith)) (λ z. inr z) o)
-
-    used-kept : Off 512 512 a len → usedAt m' ≡ usedAt m
-    used-kept o = ap usedIn (both 512 512 o (inr (omega arith)))
-
-    rows-kept : (0 ≡ k → ⊥) → Off 1024 (headAt m .capacity * 100) a len → rowsOf m' ≡ rowsOf m
-    unfolding rowsOf
-    rows-kept ne o =
-        let u = known m r .rows in
-        let v = known m r .first in
-        ap (λ (x : ℕ). rowsAt m' x (countAt m' 0)) (first-kept h)
-        ∙ ap (rowsAt m' (firstAt m)) (count-kept h 0 (omega arith) ne)
-        ∙ region-kept rowOf (1024 + firstAt m * 80) 80 56 (omega arith) (omega arith) (countAt m 0) (⊎-elim (λ z. inl (omega arith)) (λ z. inr (omega arith)) o)
-
-    entries-kept : (1 ≡ k → ⊥) → Off (1024 + headAt m .capacity * 100) (headAt m .capacity * 8) a len → entriesOf m' ≡ entriesOf m
-    unfolding entriesOf
-    entries-kept ne o =
-        let u = known m r .pages in
-        ap (λ (x : Head). entriesAt m' (x .capacity) (countAt m' 1)) (head-kept h)
-        ∙ ap (entriesAt m' (headAt m .capacity)) (count-kept h 1 (omega arith) ne)
-        ∙ region-kept entryOf (1024 + headAt m .capacity * 100) 8 6 (omega arith) (omega arith) (countAt m 1) (⊎-elim (λ z. inl (omega arith)) (λ z. inr z) o)
-
-    named-kept : (3 ≡ k → ⊥) → Off (1024 + headAt m .capacity * 108) (headAt m .capacity * 2) a len → namedOf m' ≡ namedOf m
-    unfolding namedOf
-    named-kept ne o =
-        let u = known m r .named in
-        ap (λ (x : Head). namedAt m' (x .capacity) (countAt m' 3)) (head-kept h)
-        ∙ ap (namedAt m' (headAt m .capacity)) (count-kept h 3 (omega arith) ne)
-        ∙ region-kept half (1024 + headAt m .capacity * 108) 2 2 (omega arith) (omega arith) (countAt m 3) (⊎-elim (λ z. inl (omega arith)) (λ z. inr z) o)
-
--- all of this at once
 record Kept (m m' : List ℕ) (a len k : ℕ) : Type 0 where
   sign : num4 m' 0 ≡ signature
   head : headAt m' ≡ headAt m
@@ -184,20 +118,53 @@ record Kept (m m' : List ℕ) (a len k : ℕ) : Type 0 where
   directories : (4 ≡ k → ⊥) → Off 96 16 a len → directoriesOf m' ≡ directoriesOf m
   used : Off 512 512 a len → usedAt m' ≡ usedAt m
 
-kept : (m m2 m' : List ℕ) (a len k n : ℕ) → k < 5 → Room m → 84 ≤ a → Apart m m2 a len → Recount m2 m' k n → Kept m m' a len k
-kept m m2 m' a len k n b r h p q =
-    record {
-      sign = sign-kept m m2 m' a len k n b p q h ∙ r .sign;
-      head = head-kept m m2 m' a len k n b p q h;
-      first = first-kept m m2 m' a len k n b p q h;
-      begins = rw (first-kept m m2 m' a len k n b p q h) (r .first);
-      opens = opens-kept m m2 m' a len k n b p q h r;
-      rows = rows-kept m m2 m' a len k n b p q h r;
-      entries = entries-kept m m2 m' a len k n b p q h r;
-      named = named-kept m m2 m' a len k n b p q h r;
-      directories = directories-kept m m2 m' a len k n b p q h r;
-      used = used-kept m m2 m' a len k n b p q h r;
-    }
+module _ {m m2 m' : List ℕ} {a len k n : ℕ} (r : Room m) (p : Apart m m2 a len) (q : Recount m2 m' k n) (k5 : k < 5) (h : 84 ≤ a) where
+  both : (b l : ℕ) → Off b l a len → Off b l (64 + k * 4) 4 → cut b l m' ≡ cut b l m
+  both b l o1 o2 = off (q .apart) b l o2 ∙ off p b l o1
+
+  word-kept : (b : ℕ) → b + 4 ≤ 64 → num4 m' b ≡ num4 m b
+  word-kept b z = sym (word-at m' b) ∙ ap word (both b 4 (inl (omega arith)) (inl (omega arith))) ∙ word-at m b
+
+  head-kept : headAt m' ≡ headAt m
+  unfolding headAt
+  head-kept = ap headOf (both 4 28 (inl (omega arith)) (inl (omega arith)))
+
+  count-kept : (j : ℕ) → j < 5 → (j ≡ k → ⊥) → countAt m' j ≡ countAt m j
+  count-kept j b ne = q .others j ne ∙ cell-off word 64 4 4 (omega arith) p j (inl (omega arith))
+
+  -- cells within the s bytes from b on, above the counts
+  cells-kept : {A : Type 0} (of : List ℕ → A) (base w v i b s : ℕ) → v ≤ w → 84 ≤ base → b ≤ base → base + i * w ≤ b + s → Off b s a len
+      → tab (cell of base w v m') 0 i ≡ tab (cell of base w v m) 0 i
+  cells-kept of base w v i b s z h1 h2 h3 o =
+      cells-off of base w v z (q .apart) i (inr (omega arith)) ∙ cells-off of base w v z p i (⊎-elim (λ x. inl (omega arith)) (λ x. inr (omega arith)) o)
+
+  kept : Kept m m' a len k
+  unfolding opensOf rowsOf entriesOf namedOf directoriesOf
+  kept =
+      let u = known m r in
+      let c : ℕ = headAt m .capacity in
+      record {
+        sign = word-kept 0 (omega arith) ∙ r .sign;
+        head = head-kept;
+        first = word-kept 32 (omega arith);
+        begins = rw (word-kept 32 (omega arith)) (r .first);
+        opens = λ ne o.
+            ap (opensAt m') (count-kept 2 (omega arith) ne)
+            ∙ cells-kept word 128 4 4 (countAt m 2) 128 256 (omega arith) (omega arith) (omega arith) (omega arith) o;
+        rows = λ ne o.
+            ap (λ (x : ℕ). rowsAt m' x (countAt m' 0)) (word-kept 32 (omega arith)) ∙ ap (rowsAt m' (firstAt m)) (count-kept 0 (omega arith) ne)
+            ∙ cells-kept rowOf (1024 + firstAt m * 80) 80 56 (countAt m 0) 1024 (c * 100) (omega arith) (omega arith) (omega arith) (omega arith) o;
+        entries = λ ne o.
+            ap (λ (x : Head). entriesAt m' (x .capacity) (countAt m' 1)) head-kept ∙ ap (entriesAt m' c) (count-kept 1 (omega arith) ne)
+            ∙ cells-kept entryOf (1024 + c * 100) 8 6 (countAt m 1) (1024 + c * 100) (c * 8) (omega arith) (omega arith) (omega arith) (omega arith) o;
+        named = λ ne o.
+            ap (λ (x : Head). namedAt m' (x .capacity) (countAt m' 3)) head-kept ∙ ap (namedAt m' c) (count-kept 3 (omega arith) ne)
+            ∙ cells-kept half (1024 + c * 108) 2 2 (countAt m 3) (1024 + c * 108) (c * 2) (omega arith) (omega arith) (omega arith) (omega arith) o;
+        directories = λ ne o.
+            ap (directoriesAt m') (count-kept 4 (omega arith) ne)
+            ∙ cells-kept word 96 4 4 (countAt m 4) 96 16 (omega arith) (omega arith) (omega arith) (omega arith) o;
+        used = λ o. ap usedIn (both 512 512 o (inr (omega arith)));
+      }
 
 -- ---- from parts to the whole
 
@@ -249,7 +216,7 @@ module _ (m m2 m' : List ℕ) (a len n : ℕ) (r : Room m) (l : length m' ≡ le
       → rowsAt m2 (firstAt m) n ≡ xs → Becomes m m' (withRows (flatOf m) xs)
   unfolding rowsOf
   rows-become xs h1 h2 q b e =
-      let K = kept m m2 m' a len 0 n (omega arith) r (omega arith) p q in
+      let K = kept r p q (omega arith) (omega arith) in
       let g = r .range in
       let lx : length xs ≡ n = as-long _ n xs e in
       becomes l (K .sign) (K .head) (K .opens (omega arith) (inl (omega arith)))
@@ -262,7 +229,7 @@ module _ (m m2 m' : List ℕ) (a len n : ℕ) (r : Room m) (l : length m' ≡ le
       → n ≤ headAt m .capacity → entriesAt m2 (headAt m .capacity) n ≡ xs → Becomes m m' (withEntries (flatOf m) xs)
   unfolding entriesOf
   entries-become xs h1 h2 q b e =
-      let K = kept m m2 m' a len 1 n (omega arith) r (omega arith) p q in
+      let K = kept r p q (omega arith) (omega arith) in
       let g = r .range in
       let lx : length xs ≡ n = as-long _ n xs e in
       becomes l (K .sign) (K .head) (K .opens (omega arith) (inl (omega arith))) (K .rows (omega arith) (inl (omega arith)))
@@ -274,7 +241,7 @@ module _ (m m2 m' : List ℕ) (a len n : ℕ) (r : Room m) (l : length m' ≡ le
   pub opens-become : (xs : List ℕ) → 128 ≤ a → a + len ≤ 384 → Recount m2 m' 2 n → n ≤ 64 → opensAt m2 n ≡ xs → Becomes m m' (withOpens (flatOf m) xs)
   unfolding opensOf
   opens-become xs h1 h2 q b e =
-      let K = kept m m2 m' a len 2 n (omega arith) r (omega arith) p q in
+      let K = kept r p q (omega arith) (omega arith) in
       let g = r .range in
       let lx : length xs ≡ n = as-long _ n xs e in
       becomes l (K .sign) (K .head)
@@ -287,7 +254,7 @@ module _ (m m2 m' : List ℕ) (a len n : ℕ) (r : Room m) (l : length m' ≡ le
       → n ≤ headAt m .capacity → namedAt m2 (headAt m .capacity) n ≡ xs → Becomes m m' (withNamed (flatOf m) xs)
   unfolding namedOf
   named-become xs h1 q b e =
-      let K = kept m m2 m' a len 3 n (omega arith) r (omega arith) p q in
+      let K = kept r p q (omega arith) (omega arith) in
       let g = r .range in
       let lx : length xs ≡ n = as-long _ n xs e in
       becomes l (K .sign) (K .head) (K .opens (omega arith) (inl (omega arith))) (K .rows (omega arith) (inl (omega arith))) (K .entries (omega arith) (inl (omega arith)))
@@ -300,7 +267,7 @@ module _ (m m2 m' : List ℕ) (a len n : ℕ) (r : Room m) (l : length m' ≡ le
       → Becomes m m' (withDirectories (flatOf m) xs)
   unfolding directoriesOf
   directories-become xs h1 h2 q b e =
-      let K = kept m m2 m' a len 4 n (omega arith) r (omega arith) p q in
+      let K = kept r p q (omega arith) (omega arith) in
       let g = r .range in
       let lx : length xs ≡ n = as-long _ n xs e in
       becomes l (K .sign) (K .head)
@@ -371,7 +338,7 @@ pub rows-moved : (m m' : List ℕ) (a len : ℕ) → Room m → length m' ≡ le
     → (firstAt m' ≡ firstAt m) × Becomes m m' (withRows (flatOf m) (rowsOf m'))
 unfolding rowsOf
 rows-moved m m' a len r l p h1 h2 =
-    let K = kept m m' m' a len 1 (countAt m' 1) (omega arith) r (omega arith) p (recount-none m' 1 _ refl) in
+    let K = kept r p (recount-none m' 1 _ refl) (omega arith) (omega arith) in
     let n : countAt m' 0 ≡ countAt m 0 = cell-off word 64 4 4 (omega arith) p 0 (inl (omega arith)) in (
       K .first,
       rows-become m m' m' a len (countAt m 0) r l p (rowsOf m') h1 h2 (recount-none m' 0 _ n) (known m r .rows)
@@ -381,7 +348,7 @@ rows-moved m m' a len r l p h1 h2 =
 pub used-become : (m m' : List ℕ) (a len : ℕ) (u : ℕ → Bool) → Room m → length m' ≡ length m → Apart m m' a len → 512 ≤ a → a + len ≤ 1024 → usedAt m' ≡ u
     → Becomes m m' (withUsed (flatOf m) u)
 used-become m m' a len u r l p h1 h2 e =
-    let K = kept m m' m' a len 0 (countAt m' 0) (omega arith) r (omega arith) p (recount-none m' 0 _ refl) in
-    let J = kept m m' m' a len 1 (countAt m' 1) (omega arith) r (omega arith) p (recount-none m' 1 _ refl) in
+    let K = kept r p (recount-none m' 0 _ refl) (omega arith) (omega arith) in
+    let J = kept r p (recount-none m' 1 _ refl) (omega arith) (omega arith) in
     becomes l (K .sign) (K .head) (K .opens (omega arith) (inl (omega arith))) (J .rows (omega arith) (inr (omega arith)))
     (K .entries (omega arith) (inr (omega arith))) (K .named (omega arith) (inr (omega arith))) (K .directories (omega arith) (inl (omega arith))) e (r .range) (K .begins)

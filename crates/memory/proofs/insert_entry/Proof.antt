@@ -53,9 +53,8 @@ returns : tie.Need-returns
 returns c = let put = c .before .before in
     let store = put .before .before .before .before in
     let shift = store .before .before .before .before in
-    let cap = shift .before .before .before .before in
-    let st = cap .before .before .before in
-    entry-in (st .pre .0) (shift .before .before .count-at .ensures) (cap .capacity-of .ensures) (st .args .p) (st .args .e) (st .pre .1 .0) (st .pre .1 .1)
+    let st = shift .before .before .before .before .before .before .before in
+    entry-in (st .pre .0) (shift .before .before .count-at .ensures) (shift .before .before .before .before .capacity-of .ensures) (st .args .p) (st .args .e) (st .pre .1 .0) (st .pre .1 .1)
     (put .put-count .kept .0 ∙ store .store-entry .kept .0 ∙ shift .shift-up .kept .0) (shift .shift-up .ensures) (store .store-entry .ensures) (put .put-count .ensures) (omega arith)
 
 pub insert-entry-spec : {M : Type 1} → statement M

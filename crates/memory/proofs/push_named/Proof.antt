@@ -42,9 +42,8 @@ same-length c = search needs
 returns : tie.Need-returns
 returns c = let put = c .before .before in
     let store = put .before .before .before .before in
-    let cap = store .before .before .before .before in
-    let st = cap .before .before .before in
-    named-in (st .pre .0) (store .before .before .count-at .ensures) (cap .capacity-of .ensures) (st .args .x) (st .pre .1)
+    let st = store .before .before .before .before .before .before .before in
+    named-in (st .pre .0) (store .before .before .count-at .ensures) (store .before .before .before .before .capacity-of .ensures) (st .args .x) (st .pre .1)
     (put .put-count .kept .0 ∙ store .put2 .kept .0) (store .put2 .ensures) (put .put-count .ensures)
 
 pub push-named-spec : {M : Type 1} → statement M

@@ -48,9 +48,8 @@ same-length c = search needs
 returns : tie.Need-returns
 returns c = let put = c .before .before in
     let shift = put .before .before .before .before in
-    let cap = shift .before .before .before .before in
-    let st = cap .before .before .before in
-    entry-out (st .pre .0) (shift .before .before .count-at .ensures) (cap .capacity-of .ensures) (st .args .p) (st .pre .1)
+    let st = shift .before .before .before .before .before .before .before in
+    entry-out (st .pre .0) (shift .before .before .count-at .ensures) (shift .before .before .before .before .capacity-of .ensures) (st .args .p) (st .pre .1)
     (put .put-count .kept .0 ∙ shift .shift-down .kept .0) (shift .shift-down .ensures) (put .put-count .ensures)
 
 pub remove-entry-spec : {M : Type 1} → statement M
