@@ -211,11 +211,11 @@ new-cells of base w v m2 m' k n c xs s b h q ec e =
 as-long : {A : Type 0} (f : ℕ → A) (n : ℕ) (xs : List A) → tab f 0 n ≡ xs → length xs ≡ n
 as-long f n xs e = ap length (sym e) ∙ length-tab f 0 n
 
-module _ (m m2 m' : List ℕ) (a len n : ℕ) (r : Room m) (l : length m' ≡ length m) (p : Apart m m2 a len) where
-  pub rows-become : (xs : List Row) → 1024 ≤ a → a + len ≤ 1024 + headAt m .capacity * 100 → Recount m2 m' 0 n → n ≤ headAt m .capacity
+module _ {m m2 m' : List ℕ} {a len n : ℕ} (r : Room m) (l : length m' ≡ length m) (p : Apart m m2 a len) where
+  pub rows-become : {xs : List Row} → 1024 ≤ a → a + len ≤ 1024 + headAt m .capacity * 100 → Recount m2 m' 0 n → n ≤ headAt m .capacity
       → rowsAt m2 (firstAt m) n ≡ xs → Becomes m m' (withRows (flatOf m) xs)
   unfolding rowsOf
-  rows-become xs h1 h2 q b e =
+  rows-become {xs} h1 h2 q b e =
       let K = kept r p q (omega arith) (omega arith) in
       let g = r .range in
       let lx : length xs ≡ n = as-long _ n xs e in
@@ -225,10 +225,10 @@ module _ (m m2 m' : List ℕ) (a len n : ℕ) (r : Room m) (l : length m' ≡ le
       (K .entries (omega arith) (inr (omega arith))) (K .named (omega arith) (inr (omega arith))) (K .directories (omega arith) (inl (omega arith)))
       (K .used (inl (omega arith))) (recounted g (omega arith) (g .pages) (g .opens) (g .named) (g .directories)) (K .begins)
 
-  pub entries-become : (xs : List Entry) → 1024 + headAt m .capacity * 100 ≤ a → a + len ≤ 1024 + headAt m .capacity * 108 → Recount m2 m' 1 n
+  pub entries-become : {xs : List Entry} → 1024 + headAt m .capacity * 100 ≤ a → a + len ≤ 1024 + headAt m .capacity * 108 → Recount m2 m' 1 n
       → n ≤ headAt m .capacity → entriesAt m2 (headAt m .capacity) n ≡ xs → Becomes m m' (withEntries (flatOf m) xs)
   unfolding entriesOf
-  entries-become xs h1 h2 q b e =
+  entries-become {xs} h1 h2 q b e =
       let K = kept r p q (omega arith) (omega arith) in
       let g = r .range in
       let lx : length xs ≡ n = as-long _ n xs e in
@@ -238,9 +238,9 @@ module _ (m m2 m' : List ℕ) (a len n : ℕ) (r : Room m) (l : length m' ≡ le
       (K .named (omega arith) (inr (omega arith))) (K .directories (omega arith) (inl (omega arith)))
       (K .used (inl (omega arith))) (recounted g (g .rows) (omega arith) (g .opens) (g .named) (g .directories)) (K .begins)
 
-  pub opens-become : (xs : List ℕ) → 128 ≤ a → a + len ≤ 384 → Recount m2 m' 2 n → n ≤ 64 → opensAt m2 n ≡ xs → Becomes m m' (withOpens (flatOf m) xs)
+  pub opens-become : {xs : List ℕ} → 128 ≤ a → a + len ≤ 384 → Recount m2 m' 2 n → n ≤ 64 → opensAt m2 n ≡ xs → Becomes m m' (withOpens (flatOf m) xs)
   unfolding opensOf
-  opens-become xs h1 h2 q b e =
+  opens-become {xs} h1 h2 q b e =
       let K = kept r p q (omega arith) (omega arith) in
       let g = r .range in
       let lx : length xs ≡ n = as-long _ n xs e in
@@ -250,10 +250,10 @@ module _ (m m2 m' : List ℕ) (a len n : ℕ) (r : Room m) (l : length m' ≡ le
       (K .directories (omega arith) (inl (omega arith)))
       (K .used (inr (omega arith))) (recounted g (g .rows) (g .pages) (omega arith) (g .named) (g .directories)) (K .begins)
 
-  pub named-become : (xs : List ℕ) → 1024 + headAt m .capacity * 108 ≤ a → Recount m2 m' 3 n
+  pub named-become : {xs : List ℕ} → 1024 + headAt m .capacity * 108 ≤ a → Recount m2 m' 3 n
       → n ≤ headAt m .capacity → namedAt m2 (headAt m .capacity) n ≡ xs → Becomes m m' (withNamed (flatOf m) xs)
   unfolding namedOf
-  named-become xs h1 q b e =
+  named-become {xs} h1 q b e =
       let K = kept r p q (omega arith) (omega arith) in
       let g = r .range in
       let lx : length xs ≡ n = as-long _ n xs e in
@@ -263,10 +263,10 @@ module _ (m m2 m' : List ℕ) (a len n : ℕ) (r : Room m) (l : length m' ≡ le
       (K .directories (omega arith) (inl (omega arith)))
       (K .used (inl (omega arith))) (recounted g (g .rows) (g .pages) (g .opens) (omega arith) (g .directories)) (K .begins)
 
-  pub directories-become : (xs : List ℕ) → 96 ≤ a → a + len ≤ 112 → Recount m2 m' 4 n → n ≤ 4 → directoriesAt m2 n ≡ xs
+  pub directories-become : {xs : List ℕ} → 96 ≤ a → a + len ≤ 112 → Recount m2 m' 4 n → n ≤ 4 → directoriesAt m2 n ≡ xs
       → Becomes m m' (withDirectories (flatOf m) xs)
   unfolding directoriesOf
-  directories-become xs h1 h2 q b e =
+  directories-become {xs} h1 h2 q b e =
       let K = kept r p q (omega arith) (omega arith) in
       let g = r .range in
       let lx : length xs ≡ n = as-long _ n xs e in
@@ -341,7 +341,7 @@ rows-moved m m' a len r l p h1 h2 =
     let K = kept r p (recount-none m' 1 _ refl) (omega arith) (omega arith) in
     let n : countAt m' 0 ≡ countAt m 0 = cell-off word 64 4 4 (omega arith) p 0 (inl (omega arith)) in (
       K .first,
-      rows-become m m' m' a len (countAt m 0) r l p (rowsOf m') h1 h2 (recount-none m' 0 _ n) (known m r .rows)
+      rows-become r l p h1 h2 (recount-none m' 0 _ n) (known m r .rows)
           (ap (λ (x : ℕ). rowsAt m' x (countAt m 0)) (sym (K .first)) ∙ ap (rowsAt m' (firstAt m')) (sym n)),
     )
 

@@ -117,7 +117,7 @@ module _ {m : List ℕ} (r : Room m) {n : ℕ} where
         let xs : List Row = rowsAt m1 (firstAt m1) (countAt m 0 + 1) in
         let lx : length xs ≡ countAt m 0 + 1 = length-tab _ 0 (countAt m 0 + 1) in
         becomes-then m m1 m' _ (λ (x : Flat). withRows x (insertAt i s (rowsOf m))) (op .others)
-        (rows-become m1 m2 m' _ _ _ (op .others .room) l (o .apart) _ (omega arith) (omega arith) (recount q) (omega arith)
+        (rows-become (op .others .room) l (o .apart) (omega arith) (omega arith) (recount q) (omega arith)
         (cells-set rowOf _ 80 56 (omega arith) (countAt m 0 + 1) o (omega arith) ∙ set-opened xs i s (omega arith) ∙ ap (insertAt i s) (op .around)))
 
     pub row-out : {m1 m' : List ℕ} (i : ℕ) → i < length (rowsOf m) → length m' ≡ length m1 → Closed m m1 i → Only word 64 4 4 m1 m' 0 (n - 1)
@@ -127,7 +127,7 @@ module _ {m : List ℕ} (r : Room m) {n : ℕ} where
         let ec : headAt m1 .capacity ≡ headAt m .capacity = ap (λ (x : Flat). x .head .capacity) (cl .others .flat) in
         let q : Only word 64 4 4 m1 m' 0 (countAt m 0 - 1) = rw en at q' in
         becomes-then m m1 m' _ (λ (x : Flat). withRows x (removeAt i (rowsOf m))) (cl .others)
-        (rows-become m1 m1 m' 1024 0 _ (cl .others .room) l (apart-none m1 1024 0) _ (omega arith) (omega arith) (recount q) (omega arith) (cl .around))
+        (rows-become (cl .others .room) l (apart-none m1 1024 0) (omega arith) (omega arith) (recount q) (omega arith) (cl .around))
 
   module _ (en : n ≡ countAt m 1) {c : ℕ} (ec : c ≡ headAt m .capacity) where
     pub entry-in : {m1 m2 m' : List ℕ} {k : ℕ} (i : ℕ) (e : Entry) → i ≤ length (entriesOf m) → length (entriesOf m) < headAt m .capacity → length m' ≡ length m
@@ -140,9 +140,9 @@ module _ {m : List ℕ} (r : Room m) {n : ℕ} where
         let sh : Shifted m m1 (b + i * 8) (b + countAt m 1 * 8) 8 = rw (ec, en) at sh' in
         let o : Only entryOf b 8 6 m1 m2 i e = rw ec at o' in
         let q : Only word 64 4 4 m2 m' 1 (countAt m 1 + 1) = rw (ek, en) at q' in
-        entries-become m m2 m' (b + i * 8) (b + countAt m 1 * 8 - (b + i * 8) + 8) _ r l
+        entries-become r l
         (apart-then (b + i * 8) (b + countAt m 1 * 8 - (b + i * 8) + 8) (sh .apart) (o .apart) (omega arith) (omega arith) (omega arith) (omega arith))
-        _ (omega arith) (omega arith) (recount q) (omega arith) (cells-insert entryOf b 8 6 (omega arith) _ sh o (omega arith))
+        (omega arith) (omega arith) (recount q) (omega arith) (cells-insert entryOf b 8 6 (omega arith) _ sh o (omega arith))
 
     pub entry-out : {m1 m' : List ℕ} (i : ℕ) → i < length (entriesOf m) → length m' ≡ length m
         → Lowered m m1 (1024 + c * 100 + i * 8) (1024 + c * 100 + n * 8) 8 → Only word 64 4 4 m1 m' 1 (n - 1) → Becomes m m' (withEntries (flatOf m) (removeAt i (entriesOf m)))
@@ -152,7 +152,7 @@ module _ {m : List ℕ} (r : Room m) {n : ℕ} where
         let b : ℕ = 1024 + headAt m .capacity * 100 in
         let sh : Lowered m m1 (b + i * 8) (b + countAt m 1 * 8) 8 = rw (ec, en) at sh' in
         let q : Only word 64 4 4 m1 m' 1 (countAt m 1 - 1) = rw en at q' in
-        entries-become m m1 m' _ _ _ r l (sh .apart) _ (omega arith) (omega arith) (recount q) (omega arith) (cells-remove entryOf b 8 6 (omega arith) _ sh (omega arith))
+        entries-become r l (sh .apart) (omega arith) (omega arith) (recount q) (omega arith) (cells-remove entryOf b 8 6 (omega arith) _ sh (omega arith))
 
   module _ (en : n ≡ countAt m 2) where
     pub open-out : {m1 m' : List ℕ} (i : ℕ) → i < length (opensOf m) → length m' ≡ length m
@@ -160,7 +160,7 @@ module _ {m : List ℕ} (r : Room m) {n : ℕ} where
     unfolding opensOf
     open-out {m1} {m'} i h l sh q =
         let k = known m r in
-        opens-become m m1 m' _ _ _ r l (sh .apart) _ (omega arith) (omega arith) (recount q) (omega arith)
+        opens-become r l (sh .apart) (omega arith) (omega arith) (recount q) (omega arith)
         (cells-remove word 128 4 4 (omega arith) n sh (omega arith) ∙ ap (λ (z : ℕ). removeAt i (opensAt m z)) en)
 
   module _ (en : n ≡ countAt m 3) {c : ℕ} (ec : c ≡ headAt m .capacity) where
@@ -171,7 +171,7 @@ module _ {m : List ℕ} (r : Room m) {n : ℕ} where
         let k = known m r in
         let o : Only half (1024 + headAt m .capacity * 108) 2 2 m m2 (countAt m 3) x = rw (e, ec, en) (stored-half m _ _ x (omega arith)) in
         let q : Only word 64 4 4 m2 m' 3 (countAt m 3 + 1) = rw en at q' in
-        named-become m m2 m' _ _ _ r l (o .apart) _ (omega arith) (recount q) (omega arith) (cells-push half _ 2 2 (omega arith) o)
+        named-become r l (o .apart) (omega arith) (recount q) (omega arith) (cells-push half _ 2 2 (omega arith) o)
 
 module _ {m m' : List ℕ} (r : Room m) (l : length m' ≡ length m) where
   -- a cell set above the counts: count k stays
@@ -184,7 +184,7 @@ module _ {m m' : List ℕ} (r : Room m) (l : length m' ≡ length m) where
   row-set eb i s h o' =
       let k = known m r in
       let o : Only rowOf (1024 + firstAt m * 80) 80 56 m m' i s = rw eb at o' in
-      rows-become m m' m' _ _ _ r l (o .apart) _ (omega arith) (omega arith) (stays 0 (omega arith) o (omega arith)) (k .rows) (cells-set rowOf _ 80 56 (omega arith) (countAt m 0) o (omega arith))
+      rows-become r l (o .apart) (omega arith) (omega arith) (stays 0 (omega arith) o (omega arith)) (k .rows) (cells-set rowOf _ 80 56 (omega arith) (countAt m 0) o (omega arith))
 
   pub entry-set : {c : ℕ} → c ≡ headAt m .capacity → (i : ℕ) (e : Entry) → i < length (entriesOf m) → Only entryOf (1024 + c * 100) 8 6 m m' i e
       → Becomes m m' (withEntries (flatOf m) (set (entriesOf m) i e))
@@ -192,7 +192,7 @@ module _ {m m' : List ℕ} (r : Room m) (l : length m' ≡ length m) where
   entry-set ec i e h o' =
       let k = known m r in
       let o : Only entryOf (1024 + headAt m .capacity * 100) 8 6 m m' i e = rw ec at o' in
-      entries-become m m' m' _ _ _ r l (o .apart) _ (omega arith) (omega arith) (stays 1 (omega arith) o (omega arith)) (k .pages) (cells-set entryOf _ 8 6 (omega arith) (countAt m 1) o (omega arith))
+      entries-become r l (o .apart) (omega arith) (omega arith) (stays 1 (omega arith) o (omega arith)) (k .pages) (cells-set entryOf _ 8 6 (omega arith) (countAt m 1) o (omega arith))
 
   pub named-set : {c : ℕ} → c ≡ headAt m .capacity → (i x : ℕ) → i < length (namedOf m) → m' ≡ put (1024 + c * 108 + i * 2) (bytes2 x) m
       → Becomes m m' (withNamed (flatOf m) (set (namedOf m) i x))
@@ -200,32 +200,32 @@ module _ {m m' : List ℕ} (r : Room m) (l : length m' ≡ length m) where
   named-set ec i x h e =
       let k = known m r in
       let o : Only half (1024 + headAt m .capacity * 108) 2 2 m m' i x = rw (e, ec) (stored-half m _ i x (omega arith)) in
-      named-become m m' m' _ _ _ r l (o .apart) _ (omega arith) (stays 3 (omega arith) o (omega arith)) (k .named) (cells-set half _ 2 2 (omega arith) (countAt m 3) o (omega arith))
+      named-become r l (o .apart) (omega arith) (stays 3 (omega arith) o (omega arith)) (k .named) (cells-set half _ 2 2 (omega arith) (countAt m 3) o (omega arith))
 
   pub open-set : (i x : ℕ) → i < length (opensOf m) → m' ≡ put (128 + i * 4) (bytes4 x) m → Becomes m m' (withOpens (flatOf m) (set (opensOf m) i x))
   unfolding opensOf
   open-set i x h e =
       let k = known m r in
       let o : Only word 128 4 4 m m' i x = rw e (stored-word m 128 i x (omega arith)) in
-      opens-become m m' m' _ _ _ r l (o .apart) _ (omega arith) (omega arith) (stays 2 (omega arith) o (omega arith)) (k .opens) (cells-set word 128 4 4 (omega arith) (countAt m 2) o (omega arith))
+      opens-become r l (o .apart) (omega arith) (omega arith) (stays 2 (omega arith) o (omega arith)) (k .opens) (cells-set word 128 4 4 (omega arith) (countAt m 2) o (omega arith))
 
   pub open-in : (x : ℕ) → length (opensOf m) < 64 → m' ≡ pushed 128 2 (countAt m 2) x m → Becomes m m' (withOpens (flatOf m) (opensOf m ++ x ∷ []))
   unfolding opensOf
   open-in x f e =
       let k = known m r in
       let p = pushed-word m 128 2 (countAt m 2) x (omega arith) (omega arith) (omega arith) in
-      opens-become m _ m' _ _ (countAt m 2 + 1) r l (p .0 .apart) _ (omega arith) (omega arith) (recount (rw e (p .1))) (omega arith) (cells-push word 128 4 4 (omega arith) (p .0))
+      opens-become {n = countAt m 2 + 1} r l (p .0 .apart) (omega arith) (omega arith) (recount (rw e (p .1))) (omega arith) (cells-push word 128 4 4 (omega arith) (p .0))
 
   pub directory-in : (x : ℕ) → length (directoriesOf m) < 4 → m' ≡ pushed 96 4 (countAt m 4) x m → Becomes m m' (withDirectories (flatOf m) (directoriesOf m ++ x ∷ []))
   unfolding directoriesOf
   directory-in x f e =
       let k = known m r in
       let p = pushed-word m 96 4 (countAt m 4) x (omega arith) (omega arith) (omega arith) in
-      directories-become m _ m' _ _ (countAt m 4 + 1) r l (p .0 .apart) _ (omega arith) (omega arith) (recount (rw e (p .1))) (omega arith) (cells-push word 96 4 4 (omega arith) (p .0))
+      directories-become {n = countAt m 4 + 1} r l (p .0 .apart) (omega arith) (omega arith) (recount (rw e (p .1))) (omega arith) (cells-push word 96 4 4 (omega arith) (p .0))
 
   -- a list is emptied by its count alone
   pub named-none : Only word 64 4 4 m m' 3 0 → Becomes m m' (withNamed (flatOf m) [])
-  named-none q = named-become m m m' (1024 + headAt m .capacity * 108) 0 0 r l (apart-none m _ 0) [] (omega arith) (recount q) (omega arith) refl
+  named-none q = named-become r l (apart-none m (1024 + headAt m .capacity * 108) 0) (omega arith) (recount q) (omega arith) refl
 
   pub directories-none : Only word 64 4 4 m m' 4 0 → Becomes m m' (withDirectories (flatOf m) [])
-  directories-none q = directories-become m m m' 96 0 0 r l (apart-none m _ 0) [] (omega arith) (omega arith) (recount q) (omega arith) refl
+  directories-none q = directories-become r l (apart-none m 96 0) (omega arith) (omega arith) (recount q) (omega arith) refl
