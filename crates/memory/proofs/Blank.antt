@@ -12,12 +12,12 @@ use Rattle.blocks.specs.Numbers.{num4}
 use Rattle.model.specs.Recover.{freshStore}
 use Rattle.memory.specs.Bytes.{bytes4, cut, put, Apart}
 use Rattle.memory.specs.Views.{cell, word, headOf, headAt, firstAt, countAt, usedAt, opensAt, rowsAt, entriesAt, namedAt, directoriesAt}
-use Rattle.memory.specs.Flat.{flatOf, opensOf, rowsOf, entriesOf, namedOf, directoriesOf, signature, Becomes}
+use Rattle.memory.specs.Flat.{opensOf, rowsOf, entriesOf, namedOf, directoriesOf, signature, Becomes}
 use Rattle.memory.specs.Store.{FreshFits, freshFlat, storeOf, nest, checkpointOf, fillsRows, total, filled, storeIn}
 use Rattle.memory.proofs.Laws.{cut-put-in, put-apart, length-put}
 use Rattle.memory.proofs.Cells.{Off, off, put-here}
 use Rattle.memory.proofs.Spelling.{word-back}
-use Rattle.memory.proofs.Changes.{word-at, becomes, flat-eq}
+use Rattle.memory.proofs.Changes.{word-at, becomes}
 use Rattle.memory.proofs.Access.{num4-cut}
 use Rattle.memory.proofs.Marks.{clear-is, clear-apart}
 use Rattle.memory.proofs.Meaning.{in-next}
@@ -123,15 +123,13 @@ module _ (m m1 m2 m3 m4 m5 m' : List ℕ) (b n : ℕ) (d : Blanked m m1 m2 m3 m4
   pub blank-becomes : FreshFits (length m) b n → length m' ≡ length m → Becomes m m' (freshFlat b n)
   unfolding freshFlat opensOf rowsOf entriesOf namedOf directoriesOf word num4
   blank-becomes g l =
-      becomes m m' (freshFlat b n) l sign-is
-      (flat-eq (flatOf m') (freshFlat b n)
-      head-is
+      becomes l sign-is head-is
       (ap (opensAt m') (none 2 72 refl (omega arith) (omega arith) refl))
       (ap (rowsAt m' (firstAt m')) (none 0 64 refl (omega arith) (omega arith) refl))
       (ap (entriesAt m' (headAt m' .capacity)) (none 1 68 refl (omega arith) (omega arith) refl))
       (ap (namedAt m' (headAt m' .capacity)) (none 3 76 refl (omega arith) (omega arith) refl))
       (ap (directoriesAt m') (none 4 80 refl (omega arith) (omega arith) refl))
-      (ap usedAt (d .unused) ∙ clear-is m5 (omega (arith, l5))))
+      (ap usedAt (d .unused) ∙ clear-is m5 (omega (arith, l5)))
       (record {
         least = g .least;
         most = g .most;

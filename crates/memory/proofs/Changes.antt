@@ -106,74 +106,8 @@ word-at m a =
     let z : a + 0 ≡ a = omega arith in
     rw (e0, e1, e2, e3, z)
 
-module _ (m m2 m' : List ℕ) (a len k n : ℕ) (k5 : k < 5) (p : Apart m m2 a len) (q : Recount m2 m' k n) where
-  both : (b l : ℕ) → Off b l a len → Off b l (64 + k * 4) 4 → cut b l m' ≡ cut b l m
-  both b l o1 o2 = off (q .apart) b l o2 ∙ off p b l o1
-
-  sign-kept : 84 ≤ a → num4 m' 0 ≡ num4 m 0
-  sign-kept h = sym (word-at m' 0) ∙ ap word (both 0 4 (inl (omega arith)) (inl (omega arith))) ∙ word-at m 0
-
-  head-kept : 84 ≤ a → headAt m' ≡ headAt m
-  unfolding headAt
-  head-kept h = ap headOf (both 4 28 (inl (omega arith)) (inl (omega arith)))
-
-  first-kept : 84 ≤ a → firstAt m' ≡ firstAt m
-  first-kept h = sym (word-at m' 32) ∙ ap word (both 32 4 (inl (omega arith)) (inl (omega arith))) ∙ word-at m 32
-
-  count-kept : 84 ≤ a → (j : ℕ) → j < 5 → (j ≡ k → ⊥) → countAt m' j ≡ countAt m j
-  count-kept h j b ne = q .others j ne ∙ cell-off word 64 4 4 (omega arith) p j (inl (omega arith))
-
-  -- cells of a region above the counts
-  region-kept : {A : Type 0} (of : List ℕ → A) (base w v : ℕ) → v ≤ w → 84 ≤ base → (i : ℕ) → Off base (i * w) a len
-      → tab (cell of base w v m') 0 i ≡ tab (cell of base w v m) 0 i
-  region-kept of base w v s h i o = cells-off of base w v s (q .apart) i (inr (omega arith)) ∙ cells-off of base w v s p i o
-
-  module _ (h : 84 ≤ a) (r : Room m) where
-    opens-kept : (2 ≡ k → ⊥) → Off 128 256 a len → opensOf m' ≡ opensOf m
-    unfolding opensOf
-    opens-kept ne o =
-        let u = known m r .opens in
-        ap (opensAt m') (count-kept h 2 (omega arith) ne)
-        ∙ region-kept word 128 4 4 (omega arith) (omega arith) (countAt m 2) (⊎-elim (λ z. inl (omega arith)) (λ z. inr z) o)
-
-    directories-kept : (4 ≡ k → ⊥) → Off 96 16 a len → directoriesOf m' ≡ directoriesOf m
-    unfolding directoriesOf
-    directories-kept ne o =
-        let u = known m r .directories in
-        ap (directoriesAt m') (count-kept h 4 (omega arith) ne)
-        ∙ region-kept word 96 4 4 (omega arith) (omega arith) (countAt m 4) (⊎-elim (λ z. inl (omega arith)) (λ z. inr z) o)
-
-    used-kept : Off 512 512 a len → usedAt m' ≡ usedAt m
-    used-kept o = ap usedIn (both 512 512 o (inr (omega arith)))
-
-    rows-kept : (0 ≡ k → ⊥) → Off 1024 (headAt m .capacity * 100) a len → rowsOf m' ≡ rowsOf m
-    unfolding rowsOf
-    rows-kept ne o =
-        let u = known m r .rows in
-        let v = known m r .first in
-        ap (λ (x : ℕ). rowsAt m' x (countAt m' 0)) (first-kept h)
-        ∙ ap (rowsAt m' (firstAt m)) (count-kept h 0 (omega arith) ne)
-        ∙ region-kept rowOf (1024 + firstAt m * 80) 80 56 (omega arith) (omega arith) (countAt m 0) (⊎-elim (λ z. inl (omega arith)) (λ z. inr (omega arith)) o)
-
-    entries-kept : (1 ≡ k → ⊥) → Off (1024 + headAt m .capacity * 100) (headAt m .capacity * 8) a len → entriesOf m' ≡ entriesOf m
-    unfolding entriesOf
-    entries-kept ne o =
-        let u = known m r .pages in
-        ap (λ (x : Head). entriesAt m' (x .capacity) (countAt m' 1)) (head-kept h)
-        ∙ ap (entriesAt m' (headAt m .capacity)) (count-kept h 1 (omega arith) ne)
-        ∙ region-kept entryOf (1024 + headAt m .capacity * 100) 8 6 (omega arith) (omega arith) (countAt m 1) (⊎-elim (λ z. inl (omega arith)) (λ z. inr z) o)
-
-    named-kept : (3 ≡ k → ⊥) → Off (1024 + headAt m .capacity * 108) (headAt m .capacity * 2) a len → namedOf m' ≡ namedOf m
-    unfolding namedOf
-    named-kept ne o =
-        let u = known m r .named in
-        ap (λ (x : Head). namedAt m' (x .capacity) (countAt m' 3)) (head-kept h)
-        ∙ ap (namedAt m' (headAt m .capacity)) (count-kept h 3 (omega arith) ne)
-        ∙ region-kept half (1024 + headAt m .capacity * 108) 2 2 (omega arith) (omega arith) (countAt m 3) (⊎-elim (λ z. inl (omega arith)) (λ z. inr z) o)
-
--- all of this at once
 record Kept (m m' : List ℕ) (a len k : ℕ) : Type 0 where
-  sign : num4 m' 0 ≡ num4 m 0
+  sign : num4 m' 0 ≡ signature
   head : headAt m' ≡ headAt m
   first : firstAt m' ≡ firstAt m
   begins : firstAt m' ≤ headAt m .capacity / 4
@@ -184,30 +118,61 @@ record Kept (m m' : List ℕ) (a len k : ℕ) : Type 0 where
   directories : (4 ≡ k → ⊥) → Off 96 16 a len → directoriesOf m' ≡ directoriesOf m
   used : Off 512 512 a len → usedAt m' ≡ usedAt m
 
-kept : (m m2 m' : List ℕ) (a len k n : ℕ) → k < 5 → Room m → 84 ≤ a → Apart m m2 a len → Recount m2 m' k n → Kept m m' a len k
-kept m m2 m' a len k n b r h p q =
-    record {
-      sign = sign-kept m m2 m' a len k n b p q h;
-      head = head-kept m m2 m' a len k n b p q h;
-      first = first-kept m m2 m' a len k n b p q h;
-      begins = rw (first-kept m m2 m' a len k n b p q h) (r .first);
-      opens = opens-kept m m2 m' a len k n b p q h r;
-      rows = rows-kept m m2 m' a len k n b p q h r;
-      entries = entries-kept m m2 m' a len k n b p q h r;
-      named = named-kept m m2 m' a len k n b p q h r;
-      directories = directories-kept m m2 m' a len k n b p q h r;
-      used = used-kept m m2 m' a len k n b p q h r;
-    }
+module _ {m m2 m' : List ℕ} {a len k n : ℕ} (r : Room m) (p : Apart m m2 a len) (q : Recount m2 m' k n) (k5 : k < 5) (h : 84 ≤ a) where
+  both : (b l : ℕ) → Off b l a len → Off b l (64 + k * 4) 4 → cut b l m' ≡ cut b l m
+  both b l o1 o2 = off (q .apart) b l o2 ∙ off p b l o1
+
+  word-kept : (b : ℕ) → b + 4 ≤ 64 → num4 m' b ≡ num4 m b
+  word-kept b z = sym (word-at m' b) ∙ ap word (both b 4 (inl (omega arith)) (inl (omega arith))) ∙ word-at m b
+
+  head-kept : headAt m' ≡ headAt m
+  unfolding headAt
+  head-kept = ap headOf (both 4 28 (inl (omega arith)) (inl (omega arith)))
+
+  count-kept : (j : ℕ) → j < 5 → (j ≡ k → ⊥) → countAt m' j ≡ countAt m j
+  count-kept j b ne = q .others j ne ∙ cell-off word 64 4 4 (omega arith) p j (inl (omega arith))
+
+  -- cells within the s bytes from b on, above the counts
+  cells-kept : {A : Type 0} (of : List ℕ → A) (base w v i b s : ℕ) → v ≤ w → 84 ≤ base → b ≤ base → base + i * w ≤ b + s → Off b s a len
+      → tab (cell of base w v m') 0 i ≡ tab (cell of base w v m) 0 i
+  cells-kept of base w v i b s z h1 h2 h3 o =
+      cells-off of base w v z (q .apart) i (inr (omega arith)) ∙ cells-off of base w v z p i (⊎-elim (λ x. inl (omega arith)) (λ x. inr (omega arith)) o)
+
+  kept : Kept m m' a len k
+  unfolding opensOf rowsOf entriesOf namedOf directoriesOf
+  kept =
+      let u = known m r in
+      let c : ℕ = headAt m .capacity in
+      record {
+        sign = word-kept 0 (omega arith) ∙ r .sign;
+        head = head-kept;
+        first = word-kept 32 (omega arith);
+        begins = rw (word-kept 32 (omega arith)) (r .first);
+        opens = λ ne o.
+            ap (opensAt m') (count-kept 2 (omega arith) ne)
+            ∙ cells-kept word 128 4 4 (countAt m 2) 128 256 (omega arith) (omega arith) (omega arith) (omega arith) o;
+        rows = λ ne o.
+            ap (λ (x : ℕ). rowsAt m' x (countAt m' 0)) (word-kept 32 (omega arith)) ∙ ap (rowsAt m' (firstAt m)) (count-kept 0 (omega arith) ne)
+            ∙ cells-kept rowOf (1024 + firstAt m * 80) 80 56 (countAt m 0) 1024 (c * 100) (omega arith) (omega arith) (omega arith) (omega arith) o;
+        entries = λ ne o.
+            ap (λ (x : Head). entriesAt m' (x .capacity) (countAt m' 1)) head-kept ∙ ap (entriesAt m' c) (count-kept 1 (omega arith) ne)
+            ∙ cells-kept entryOf (1024 + c * 100) 8 6 (countAt m 1) (1024 + c * 100) (c * 8) (omega arith) (omega arith) (omega arith) (omega arith) o;
+        named = λ ne o.
+            ap (λ (x : Head). namedAt m' (x .capacity) (countAt m' 3)) head-kept ∙ ap (namedAt m' c) (count-kept 3 (omega arith) ne)
+            ∙ cells-kept half (1024 + c * 108) 2 2 (countAt m 3) (1024 + c * 108) (c * 2) (omega arith) (omega arith) (omega arith) (omega arith) o;
+        directories = λ ne o.
+            ap (directoriesAt m') (count-kept 4 (omega arith) ne)
+            ∙ cells-kept word 96 4 4 (countAt m 4) 96 16 (omega arith) (omega arith) (omega arith) (omega arith) o;
+        used = λ o. ap usedIn (both 512 512 o (inr (omega arith)));
+      }
 
 -- ---- from parts to the whole
 
-pub flat-eq : (a b : Flat) → a .head ≡ b .head → a .opens ≡ b .opens → a .rows ≡ b .rows → a .entries ≡ b .entries → a .named ≡ b .named
-    → a .directories ≡ b .directories → a .used ≡ b .used → a ≡ b
-flat-eq a b h o r e n d u = λ i. record { head = h i; opens = o i; rows = r i; entries = e i; named = n i; directories = d i; used = u i }
-
-pub becomes : (m m' : List ℕ) (f : Flat) → length m' ≡ length m → num4 m' 0 ≡ signature → flatOf m' ≡ f → InRange (length m) (f .head) (countsOf f)
+pub becomes : {m m' : List ℕ} {f : Flat} → length m' ≡ length m → num4 m' 0 ≡ signature → headAt m' ≡ f .head → opensOf m' ≡ f .opens → rowsOf m' ≡ f .rows
+    → entriesOf m' ≡ f .entries → namedOf m' ≡ f .named → directoriesOf m' ≡ f .directories → usedAt m' ≡ f .used → InRange (length m) (f .head) (countsOf f)
     → firstAt m' ≤ f .head .capacity / 4 → Becomes m m' f
-becomes m m' f l s e g b =
+becomes {m} {m'} {f} l s h o rs es ns ds u g b =
+    let e : flatOf m' ≡ f = λ i. record { head = h i; opens = o i; rows = rs i; entries = es i; named = ns i; directories = ds i; used = u i } in
     let g1 : InRange (length m') (f .head) (countsOf f) = rw l g in
     record {
       size = l;
@@ -220,9 +185,9 @@ becomes m m' f l s e g b =
       flat = e;
     }
 
-recounted : {size : ℕ} {h : Head} {n : Counts} (n' : Counts) → InRange size h n → n' .rows ≤ h .capacity → n' .pages ≤ h .capacity → n' .opens ≤ 64
+recounted : {size : ℕ} {h : Head} {n n' : Counts} → InRange size h n → n' .rows ≤ h .capacity → n' .pages ≤ h .capacity → n' .opens ≤ 64
     → n' .named ≤ h .capacity → n' .directories ≤ 4 → InRange size h n'
-recounted n' g r p o d b =
+recounted g r p o d b =
     record {
       least = g .least;
       most = g .most;
@@ -246,105 +211,70 @@ new-cells of base w v m2 m' k n c xs s b h q ec e =
 as-long : {A : Type 0} (f : ℕ → A) (n : ℕ) (xs : List A) → tab f 0 n ≡ xs → length xs ≡ n
 as-long f n xs e = ap length (sym e) ∙ length-tab f 0 n
 
-module _ (m m2 m' : List ℕ) (a len n : ℕ) (r : Room m) (l : length m' ≡ length m) (p : Apart m m2 a len) where
-  pub rows-become : (xs : List Row) → 1024 ≤ a → a + len ≤ 1024 + headAt m .capacity * 100 → Recount m2 m' 0 n → n ≤ headAt m .capacity
+module _ {m m2 m' : List ℕ} {a len n : ℕ} (r : Room m) (l : length m' ≡ length m) (p : Apart m m2 a len) where
+  pub rows-become : {xs : List Row} → 1024 ≤ a → a + len ≤ 1024 + headAt m .capacity * 100 → Recount m2 m' 0 n → n ≤ headAt m .capacity
       → rowsAt m2 (firstAt m) n ≡ xs → Becomes m m' (withRows (flatOf m) xs)
   unfolding rowsOf
-  rows-become xs h1 h2 q b e =
-      let K = kept m m2 m' a len 0 n (omega arith) r (omega arith) p q in
+  rows-become {xs} h1 h2 q b e =
+      let K = kept r p q (omega arith) (omega arith) in
       let g = r .range in
       let lx : length xs ≡ n = as-long _ n xs e in
-      becomes m m' (withRows (flatOf m) xs) l (K .sign ∙ r .sign)
-      (flat-eq (flatOf m') (withRows (flatOf m) xs)
-      (K .head)
-      (K .opens (omega arith) (inl (omega arith)))
+      becomes l (K .sign) (K .head) (K .opens (omega arith) (inl (omega arith)))
       (ap (λ (x : ℕ). rowsAt m' x (countAt m' 0)) (K .first)
       ∙ new-cells rowOf (1024 + firstAt m * 80) 80 56 m2 m' 0 n (countAt m' 0) xs (omega arith) (omega arith) (omega arith) q (q .here) e)
-      (K .entries (omega arith) (inr (omega arith)))
-      (K .named (omega arith) (inr (omega arith)))
-      (K .directories (omega arith) (inl (omega arith)))
-      (K .used (inl (omega arith))))
-      (recounted (countsOf (withRows (flatOf m) xs)) g (omega arith) (g .pages) (g .opens) (g .named) (g .directories))
-      (K .begins)
+      (K .entries (omega arith) (inr (omega arith))) (K .named (omega arith) (inr (omega arith))) (K .directories (omega arith) (inl (omega arith)))
+      (K .used (inl (omega arith))) (recounted g (omega arith) (g .pages) (g .opens) (g .named) (g .directories)) (K .begins)
 
-  pub entries-become : (xs : List Entry) → 1024 + headAt m .capacity * 100 ≤ a → a + len ≤ 1024 + headAt m .capacity * 108 → Recount m2 m' 1 n
+  pub entries-become : {xs : List Entry} → 1024 + headAt m .capacity * 100 ≤ a → a + len ≤ 1024 + headAt m .capacity * 108 → Recount m2 m' 1 n
       → n ≤ headAt m .capacity → entriesAt m2 (headAt m .capacity) n ≡ xs → Becomes m m' (withEntries (flatOf m) xs)
   unfolding entriesOf
-  entries-become xs h1 h2 q b e =
-      let K = kept m m2 m' a len 1 n (omega arith) r (omega arith) p q in
+  entries-become {xs} h1 h2 q b e =
+      let K = kept r p q (omega arith) (omega arith) in
       let g = r .range in
       let lx : length xs ≡ n = as-long _ n xs e in
-      let eh : headAt m' ≡ headAt m = K .head in
-      becomes m m' (withEntries (flatOf m) xs) l (K .sign ∙ r .sign)
-      (flat-eq (flatOf m') (withEntries (flatOf m) xs)
-      eh
-      (K .opens (omega arith) (inl (omega arith)))
-      (K .rows (omega arith) (inl (omega arith)))
-      (ap (λ (x : Head). entriesAt m' (x .capacity) (countAt m' 1)) eh
+      becomes l (K .sign) (K .head) (K .opens (omega arith) (inl (omega arith))) (K .rows (omega arith) (inl (omega arith)))
+      (ap (λ (x : Head). entriesAt m' (x .capacity) (countAt m' 1)) (K .head)
       ∙ new-cells entryOf (1024 + headAt m .capacity * 100) 8 6 m2 m' 1 n (countAt m' 1) xs (omega arith) (omega arith) (omega arith) q (q .here) e)
-      (K .named (omega arith) (inr (omega arith)))
-      (K .directories (omega arith) (inl (omega arith)))
-      (K .used (inl (omega arith))))
-      (recounted (countsOf (withEntries (flatOf m) xs)) g (g .rows) (omega arith) (g .opens) (g .named) (g .directories))
-      (K .begins)
+      (K .named (omega arith) (inr (omega arith))) (K .directories (omega arith) (inl (omega arith)))
+      (K .used (inl (omega arith))) (recounted g (g .rows) (omega arith) (g .opens) (g .named) (g .directories)) (K .begins)
 
-  pub opens-become : (xs : List ℕ) → 128 ≤ a → a + len ≤ 384 → Recount m2 m' 2 n → n ≤ 64 → opensAt m2 n ≡ xs → Becomes m m' (withOpens (flatOf m) xs)
+  pub opens-become : {xs : List ℕ} → 128 ≤ a → a + len ≤ 384 → Recount m2 m' 2 n → n ≤ 64 → opensAt m2 n ≡ xs → Becomes m m' (withOpens (flatOf m) xs)
   unfolding opensOf
-  opens-become xs h1 h2 q b e =
-      let K = kept m m2 m' a len 2 n (omega arith) r (omega arith) p q in
+  opens-become {xs} h1 h2 q b e =
+      let K = kept r p q (omega arith) (omega arith) in
       let g = r .range in
       let lx : length xs ≡ n = as-long _ n xs e in
-      becomes m m' (withOpens (flatOf m) xs) l (K .sign ∙ r .sign)
-      (flat-eq (flatOf m') (withOpens (flatOf m) xs)
-      (K .head)
+      becomes l (K .sign) (K .head)
       (new-cells word 128 4 4 m2 m' 2 n (countAt m' 2) xs (omega arith) (omega arith) (omega arith) q (q .here) e)
-      (K .rows (omega arith) (inr (omega arith)))
-      (K .entries (omega arith) (inr (omega arith)))
-      (K .named (omega arith) (inr (omega arith)))
+      (K .rows (omega arith) (inr (omega arith))) (K .entries (omega arith) (inr (omega arith))) (K .named (omega arith) (inr (omega arith)))
       (K .directories (omega arith) (inl (omega arith)))
-      (K .used (inr (omega arith))))
-      (recounted (countsOf (withOpens (flatOf m) xs)) g (g .rows) (g .pages) (omega arith) (g .named) (g .directories))
-      (K .begins)
+      (K .used (inr (omega arith))) (recounted g (g .rows) (g .pages) (omega arith) (g .named) (g .directories)) (K .begins)
 
-  pub named-become : (xs : List ℕ) → 1024 + headAt m .capacity * 108 ≤ a → Recount m2 m' 3 n
+  pub named-become : {xs : List ℕ} → 1024 + headAt m .capacity * 108 ≤ a → Recount m2 m' 3 n
       → n ≤ headAt m .capacity → namedAt m2 (headAt m .capacity) n ≡ xs → Becomes m m' (withNamed (flatOf m) xs)
   unfolding namedOf
-  named-become xs h1 q b e =
-      let K = kept m m2 m' a len 3 n (omega arith) r (omega arith) p q in
+  named-become {xs} h1 q b e =
+      let K = kept r p q (omega arith) (omega arith) in
       let g = r .range in
       let lx : length xs ≡ n = as-long _ n xs e in
-      let eh : headAt m' ≡ headAt m = K .head in
-      becomes m m' (withNamed (flatOf m) xs) l (K .sign ∙ r .sign)
-      (flat-eq (flatOf m') (withNamed (flatOf m) xs)
-      eh
-      (K .opens (omega arith) (inl (omega arith)))
-      (K .rows (omega arith) (inl (omega arith)))
-      (K .entries (omega arith) (inl (omega arith)))
-      (ap (λ (x : Head). namedAt m' (x .capacity) (countAt m' 3)) eh
+      becomes l (K .sign) (K .head) (K .opens (omega arith) (inl (omega arith))) (K .rows (omega arith) (inl (omega arith))) (K .entries (omega arith) (inl (omega arith)))
+      (ap (λ (x : Head). namedAt m' (x .capacity) (countAt m' 3)) (K .head)
       ∙ new-cells half (1024 + headAt m .capacity * 108) 2 2 m2 m' 3 n (countAt m' 3) xs (omega arith) (omega arith) (omega arith) q (q .here) e)
       (K .directories (omega arith) (inl (omega arith)))
-      (K .used (inl (omega arith))))
-      (recounted (countsOf (withNamed (flatOf m) xs)) g (g .rows) (g .pages) (g .opens) (omega arith) (g .directories))
-      (K .begins)
+      (K .used (inl (omega arith))) (recounted g (g .rows) (g .pages) (g .opens) (omega arith) (g .directories)) (K .begins)
 
-  pub directories-become : (xs : List ℕ) → 96 ≤ a → a + len ≤ 112 → Recount m2 m' 4 n → n ≤ 4 → directoriesAt m2 n ≡ xs
+  pub directories-become : {xs : List ℕ} → 96 ≤ a → a + len ≤ 112 → Recount m2 m' 4 n → n ≤ 4 → directoriesAt m2 n ≡ xs
       → Becomes m m' (withDirectories (flatOf m) xs)
   unfolding directoriesOf
-  directories-become xs h1 h2 q b e =
-      let K = kept m m2 m' a len 4 n (omega arith) r (omega arith) p q in
+  directories-become {xs} h1 h2 q b e =
+      let K = kept r p q (omega arith) (omega arith) in
       let g = r .range in
       let lx : length xs ≡ n = as-long _ n xs e in
-      becomes m m' (withDirectories (flatOf m) xs) l (K .sign ∙ r .sign)
-      (flat-eq (flatOf m') (withDirectories (flatOf m) xs)
-      (K .head)
-      (K .opens (omega arith) (inr (omega arith)))
-      (K .rows (omega arith) (inr (omega arith)))
-      (K .entries (omega arith) (inr (omega arith)))
+      becomes l (K .sign) (K .head)
+      (K .opens (omega arith) (inr (omega arith))) (K .rows (omega arith) (inr (omega arith))) (K .entries (omega arith) (inr (omega arith)))
       (K .named (omega arith) (inr (omega arith)))
       (new-cells word 96 4 4 m2 m' 4 n (countAt m' 4) xs (omega arith) (omega arith) (omega arith) q (q .here) e)
-      (K .used (inr (omega arith))))
-      (recounted (countsOf (withDirectories (flatOf m) xs)) g (g .rows) (g .pages) (g .opens) (g .named) (omega arith))
-      (K .begins)
+      (K .used (inr (omega arith))) (recounted g (g .rows) (g .pages) (g .opens) (g .named) (omega arith)) (K .begins)
 
 -- the head's numbers, and where the rows begin
 low-become : (m m' : List ℕ) (h : Head) → Room m → length m' ≡ length m → Apart m m' 4 32 → headAt m' ≡ h → Replaces (headAt m) h
@@ -355,9 +285,7 @@ low-become m m' h r l p e t f =
     let ec : h .capacity ≡ headAt m .capacity = t .capacity in
     let c : headAt m' .capacity ≡ headAt m .capacity = ap (λ (x : Head). x .capacity) e ∙ t .capacity in
     let n : (j : ℕ) → countAt m' j ≡ countAt m j = λ j. cell-off word 64 4 4 (omega arith) p j (inr (omega arith)) in
-    becomes m m' (withRows (withHead (flatOf m) h) (rowsOf m')) l (sym (word-at m' 0) ∙ ap word (off p 0 4 (inl (omega arith))) ∙ word-at m 0 ∙ r .sign)
-    (flat-eq (flatOf m') (withRows (withHead (flatOf m) h) (rowsOf m'))
-    e
+    becomes l (sym (word-at m' 0) ∙ ap word (off p 0 4 (inl (omega arith))) ∙ word-at m 0 ∙ r .sign) e
     (ap (opensAt m') (n 2) ∙ cells-off word 128 4 4 (omega arith) p (countAt m 2) (inr (omega arith)))
     refl
     (ap (λ (x : ℕ). entriesAt m' x (countAt m' 1)) c ∙ ap (entriesAt m' (headAt m .capacity)) (n 1)
@@ -365,7 +293,7 @@ low-become m m' h r l p e t f =
     (ap (λ (x : ℕ). namedAt m' x (countAt m' 3)) c ∙ ap (namedAt m' (headAt m .capacity)) (n 3)
     ∙ cells-off half (1024 + headAt m .capacity * 108) 2 2 (omega arith) p (countAt m 3) (inr (omega arith)))
     (ap (directoriesAt m') (n 4) ∙ cells-off word 96 4 4 (omega arith) p (countAt m 4) (inr (omega arith)))
-    (ap usedIn (off p 512 512 (inr (omega arith)))))
+    (ap usedIn (off p 512 512 (inr (omega arith))))
     (record {
       least = omega (arith, g .least);
       most = omega (arith, g .most);
@@ -410,27 +338,17 @@ pub rows-moved : (m m' : List ℕ) (a len : ℕ) → Room m → length m' ≡ le
     → (firstAt m' ≡ firstAt m) × Becomes m m' (withRows (flatOf m) (rowsOf m'))
 unfolding rowsOf
 rows-moved m m' a len r l p h1 h2 =
-    let K = kept m m' m' a len 1 (countAt m' 1) (omega arith) r (omega arith) p (recount-none m' 1 _ refl) in
+    let K = kept r p (recount-none m' 1 _ refl) (omega arith) (omega arith) in
     let n : countAt m' 0 ≡ countAt m 0 = cell-off word 64 4 4 (omega arith) p 0 (inl (omega arith)) in (
       K .first,
-      rows-become m m' m' a len (countAt m 0) r l p (rowsOf m') h1 h2 (recount-none m' 0 _ n) (known m r .rows)
+      rows-become r l p h1 h2 (recount-none m' 0 _ n) (known m r .rows)
           (ap (λ (x : ℕ). rowsAt m' x (countAt m 0)) (sym (K .first)) ∙ ap (rowsAt m' (firstAt m')) (sym n)),
     )
 
 pub used-become : (m m' : List ℕ) (a len : ℕ) (u : ℕ → Bool) → Room m → length m' ≡ length m → Apart m m' a len → 512 ≤ a → a + len ≤ 1024 → usedAt m' ≡ u
     → Becomes m m' (withUsed (flatOf m) u)
 used-become m m' a len u r l p h1 h2 e =
-    let g = r .range in
-    let K = kept m m' m' a len 0 (countAt m' 0) (omega arith) r (omega arith) p (recount-none m' 0 _ refl) in
-    let J = kept m m' m' a len 1 (countAt m' 1) (omega arith) r (omega arith) p (recount-none m' 1 _ refl) in
-    becomes m m' (withUsed (flatOf m) u) l (K .sign ∙ r .sign)
-    (flat-eq (flatOf m') (withUsed (flatOf m) u)
-    (K .head)
-    (K .opens (omega arith) (inl (omega arith)))
-    (J .rows (omega arith) (inr (omega arith)))
-    (K .entries (omega arith) (inr (omega arith)))
-    (K .named (omega arith) (inr (omega arith)))
-    (K .directories (omega arith) (inl (omega arith)))
-    e)
-    (recounted (countsOf (flatOf m)) g (g .rows) (g .pages) (g .opens) (g .named) (g .directories))
-    (K .begins)
+    let K = kept r p (recount-none m' 0 _ refl) (omega arith) (omega arith) in
+    let J = kept r p (recount-none m' 1 _ refl) (omega arith) (omega arith) in
+    becomes l (K .sign) (K .head) (K .opens (omega arith) (inl (omega arith))) (J .rows (omega arith) (inr (omega arith)))
+    (K .entries (omega arith) (inr (omega arith))) (K .named (omega arith) (inr (omega arith))) (K .directories (omega arith) (inl (omega arith))) e (r .range) (K .begins)

@@ -5,16 +5,16 @@ use Prim.Native.Nat.{ℕ, _+_, _*_, _-_, _/_, _≤_, _<_}
 use native.Mathlib.Omega.{arith}
 use mathlib.Core.List.{List, [], _∷_, _++_}
 use lib.ListN.{length, set}
-use Rattle.memory.specs.Bytes.{bytes4, put, Apart, Shifted, Lowered}
-use Rattle.memory.specs.Views.{cell, tab, word, half, rowOf, entryOf, headAt, firstAt, countAt, opensAt, rowsAt, entriesAt, namedAt, pushed, Only}
+use Rattle.memory.specs.Bytes.{bytes4, bytes2, put, Apart, Shifted, Lowered}
+use Rattle.memory.specs.Views.{cell, tab, word, half, rowOf, entryOf, headAt, firstAt, countAt, opensAt, rowsAt, pushed, Only}
 use Rattle.memory.specs.Flat.{Flat, flatOf, opensOf, rowsOf, entriesOf, namedOf, directoriesOf, Room, Becomes, withOpens, withRows, withEntries, withNamed, withDirectories, insertAt, removeAt, Opened, Closed}
 use Rattle.memory.specs.declared.Row.{Row}
 use Rattle.memory.specs.declared.Entry.{Entry}
 use Rattle.memory.specs.declared.Head.{Head}
 use Rattle.memory.proofs.Laws.{length-tab, set-opened}
 use Rattle.memory.proofs.Cells.{cell-off, cells-off, apart-none, apart-then, cells-set, cells-push, cells-opened, cells-opened-front, cells-insert, cells-remove, cells-remove-front}
-use Rattle.memory.proofs.Spelling.{stored-word, pushed-word}
-use Rattle.memory.proofs.Changes.{known, recount, recount-none, rows-become, rows-moved, first-become, entries-become, opens-become, named-become, directories-become}
+use Rattle.memory.proofs.Spelling.{stored-word, stored-half, pushed-word}
+use Rattle.memory.proofs.Changes.{known, Recount, recount, recount-none, rows-become, rows-moved, first-become, entries-become, opens-become, named-become, directories-become}
 use Rattle.memory.proofs.Meaning.{becomes-then}
 
 -- ---- places of rows
@@ -23,7 +23,7 @@ between : (P : ℕ → ℕ → Type 0) {a b c d : ℕ} → a ≡ c → b ≡ d �
 between P {a} {b} {c} {d} e f p = subst (λ (z : ℕ). P c z) f (subst (λ (z : ℕ). P z b) e p)
 
 -- b: where row 0 stands, f: how many rows there would be room for before it
-module _ (m : List ℕ) (r : Room m) (n f b : ℕ) (en : n ≡ countAt m 0) (ef : f ≡ firstAt m) (eb : b ≡ 1024 + firstAt m * 80) where
+module _ {m : List ℕ} (r : Room m) {n f b : ℕ} (en : n ≡ countAt m 0) (ef : f ≡ firstAt m) (eb : b ≡ 1024 + firstAt m * 80) where
   rows-are : rowsOf m ≡ tab (cell rowOf b 80 56 m) 0 n
   unfolding rowsOf
   rows-are = ap (rowsAt m (firstAt m)) (sym en) ∙ ap (λ (z : ℕ). tab (cell rowOf z 80 56 m) 0 n) (sym eb)
@@ -103,59 +103,56 @@ module _ (m : List ℕ) (r : Room m) (n f b : ℕ) (en : n ≡ countAt m 0) (ef 
           }
 
 -- n is the count that was read; q: the count that was written
-module _ (m : List ℕ) (r : Room m) (n : ℕ) where
+module _ {m : List ℕ} (r : Room m) {n : ℕ} where
   module _ (en : n ≡ countAt m 0) where
-    pub row-in : {m1 m2 m' : List ℕ} (i : ℕ) (s : Row) (b : ℕ) → b ≡ 1024 + firstAt m1 * 80 → i ≤ length (rowsOf m) → length (rowsOf m) < headAt m .capacity
+    pub row-in : {m1 m2 m' : List ℕ} {b : ℕ} (i : ℕ) (s : Row) → b ≡ 1024 + firstAt m1 * 80 → i ≤ length (rowsOf m) → length (rowsOf m) < headAt m .capacity
         → length m' ≡ length m1 → Opened m m1 i → Only rowOf b 80 56 m1 m2 i s → Only word 64 4 4 m2 m' 0 (n + 1)
         → Becomes m m' (withRows (flatOf m) (insertAt i s (rowsOf m)))
-    row-in {m1} {m2} {m'} i s b eb h f l op o q =
+    row-in {m1} {m2} {m'} i s eb h f l op o' q' =
         let k = known m r in
-        let r1 : Room m1 = op .others .room in
-        let k1 = known m1 r1 in
+        let k1 = known m1 (op .others .room) in
         let ec : headAt m1 .capacity ≡ headAt m .capacity = ap (λ (x : Flat). x .head .capacity) (op .others .flat) in
-        let xs : List Row = rowsAt m1 (firstAt m1) (n + 1) in
-        let en1 : n + 1 ≡ countAt m 0 + 1 = omega arith in
-        let lx : length xs ≡ n + 1 = length-tab _ 0 (n + 1) in
+        let o : Only rowOf (1024 + firstAt m1 * 80) 80 56 m1 m2 i s = rw eb at o' in
+        let q : Only word 64 4 4 m2 m' 0 (countAt m 0 + 1) = rw en at q' in
+        let xs : List Row = rowsAt m1 (firstAt m1) (countAt m 0 + 1) in
+        let lx : length xs ≡ countAt m 0 + 1 = length-tab _ 0 (countAt m 0 + 1) in
         becomes-then m m1 m' _ (λ (x : Flat). withRows x (insertAt i s (rowsOf m))) (op .others)
-        (rows-become m1 m2 m' (b + i * 80) 80 (n + 1) r1 l (o .apart) (insertAt i s (rowsOf m)) (omega arith) (omega arith) (recount q) (omega arith)
-        (ap (λ (z : ℕ). tab (cell rowOf z 80 56 m2) 0 (n + 1)) (sym eb) ∙ cells-set rowOf b 80 56 (omega arith) (n + 1) o (omega arith)
-        ∙ ap (λ (z : ℕ). set (tab (cell rowOf z 80 56 m1) 0 (n + 1)) i s) eb ∙ set-opened xs i s (omega arith)
-        ∙ ap (λ (z : ℕ). insertAt i s (removeAt i (rowsAt m1 (firstAt m1) z))) en1 ∙ ap (insertAt i s) (op .around)))
+        (rows-become (op .others .room) l (o .apart) (omega arith) (omega arith) (recount q) (omega arith)
+        (cells-set rowOf _ 80 56 (omega arith) (countAt m 0 + 1) o (omega arith) ∙ set-opened xs i s (omega arith) ∙ ap (insertAt i s) (op .around)))
 
     pub row-out : {m1 m' : List ℕ} (i : ℕ) → i < length (rowsOf m) → length m' ≡ length m1 → Closed m m1 i → Only word 64 4 4 m1 m' 0 (n - 1)
         → Becomes m m' (withRows (flatOf m) (removeAt i (rowsOf m)))
-    row-out {m1} {m'} i h l cl q =
+    row-out {m1} {m'} i h l cl q' =
         let k = known m r in
-        let r1 : Room m1 = cl .others .room in
         let ec : headAt m1 .capacity ≡ headAt m .capacity = ap (λ (x : Flat). x .head .capacity) (cl .others .flat) in
-        let en1 : n - 1 ≡ countAt m 0 - 1 = omega arith in
+        let q : Only word 64 4 4 m1 m' 0 (countAt m 0 - 1) = rw en at q' in
         becomes-then m m1 m' _ (λ (x : Flat). withRows x (removeAt i (rowsOf m))) (cl .others)
-        (rows-become m1 m1 m' 1024 0 (n - 1) r1 l (apart-none m1 1024 0) (removeAt i (rowsOf m)) (omega arith) (omega arith) (recount q) (omega arith)
-        (ap (rowsAt m1 (firstAt m1)) en1 ∙ cl .around))
+        (rows-become (cl .others .room) l (apart-none m1 1024 0) (omega arith) (omega arith) (recount q) (omega arith) (cl .around))
 
-  module _ (en : n ≡ countAt m 1) (b : ℕ) (eb : b ≡ 1024 + headAt m .capacity * 100) where
-    pub entry-in : {m1 m2 m' : List ℕ} {c : ℕ} (i : ℕ) (e : Entry) → i ≤ length (entriesOf m) → length (entriesOf m) < headAt m .capacity → length m' ≡ length m
-        → Shifted m m1 (b + i * 8) (b + n * 8) 8 → Only entryOf b 8 6 m1 m2 i e → Only word 64 4 4 m2 m' 1 c → c ≡ n + 1
+  module _ (en : n ≡ countAt m 1) {c : ℕ} (ec : c ≡ headAt m .capacity) where
+    pub entry-in : {m1 m2 m' : List ℕ} {k : ℕ} (i : ℕ) (e : Entry) → i ≤ length (entriesOf m) → length (entriesOf m) < headAt m .capacity → length m' ≡ length m
+        → Shifted m m1 (1024 + c * 100 + i * 8) (1024 + c * 100 + n * 8) 8 → Only entryOf (1024 + c * 100) 8 6 m1 m2 i e → Only word 64 4 4 m2 m' 1 k → k ≡ n + 1
         → Becomes m m' (withEntries (flatOf m) (insertAt i e (entriesOf m)))
     unfolding entriesOf
-    entry-in {m1} {m2} {m'} i e h f l sh o q' ec =
+    entry-in {m1} {m2} {m'} i e h f l sh' o' q' ek =
         let k = known m r in
-        let q : Only word 64 4 4 m2 m' 1 (n + 1) = subst (λ (z : ℕ). Only word 64 4 4 m2 m' 1 z) ec q' in
-        entries-become m m2 m' (b + i * 8) (b + n * 8 - (b + i * 8) + 8) (n + 1) r l
-        (apart-then (b + i * 8) (b + n * 8 - (b + i * 8) + 8) (sh .apart) (o .apart) (omega arith) (omega arith) (omega arith) (omega arith))
-        (insertAt i e (entriesOf m)) (omega arith) (omega arith) (recount q) (omega arith)
-        (ap (λ (z : ℕ). tab (cell entryOf z 8 6 m2) 0 (n + 1)) (sym eb) ∙ cells-insert entryOf b 8 6 (omega arith) n sh o (omega arith)
-        ∙ ap (λ (z : ℕ). insertAt i e (tab (cell entryOf z 8 6 m) 0 n)) eb ∙ ap (λ (z : ℕ). insertAt i e (entriesAt m (headAt m .capacity) z)) en)
+        let b : ℕ = 1024 + headAt m .capacity * 100 in
+        let sh : Shifted m m1 (b + i * 8) (b + countAt m 1 * 8) 8 = rw (ec, en) at sh' in
+        let o : Only entryOf b 8 6 m1 m2 i e = rw ec at o' in
+        let q : Only word 64 4 4 m2 m' 1 (countAt m 1 + 1) = rw (ek, en) at q' in
+        entries-become r l
+        (apart-then (b + i * 8) (b + countAt m 1 * 8 - (b + i * 8) + 8) (sh .apart) (o .apart) (omega arith) (omega arith) (omega arith) (omega arith))
+        (omega arith) (omega arith) (recount q) (omega arith) (cells-insert entryOf b 8 6 (omega arith) _ sh o (omega arith))
 
     pub entry-out : {m1 m' : List ℕ} (i : ℕ) → i < length (entriesOf m) → length m' ≡ length m
-        → Lowered m m1 (b + i * 8) (b + n * 8) 8 → Only word 64 4 4 m1 m' 1 (n - 1) → Becomes m m' (withEntries (flatOf m) (removeAt i (entriesOf m)))
+        → Lowered m m1 (1024 + c * 100 + i * 8) (1024 + c * 100 + n * 8) 8 → Only word 64 4 4 m1 m' 1 (n - 1) → Becomes m m' (withEntries (flatOf m) (removeAt i (entriesOf m)))
     unfolding entriesOf
-    entry-out {m1} {m'} i h l sh q =
+    entry-out {m1} {m'} i h l sh' q' =
         let k = known m r in
-        entries-become m m1 m' (b + i * 8) (b + n * 8 - (b + i * 8)) (n - 1) r l (sh .apart)
-        (removeAt i (entriesOf m)) (omega arith) (omega arith) (recount q) (omega arith)
-        (ap (λ (z : ℕ). tab (cell entryOf z 8 6 m1) 0 (n - 1)) (sym eb) ∙ cells-remove entryOf b 8 6 (omega arith) n sh (omega arith)
-        ∙ ap (λ (z : ℕ). removeAt i (tab (cell entryOf z 8 6 m) 0 n)) eb ∙ ap (λ (z : ℕ). removeAt i (entriesAt m (headAt m .capacity) z)) en)
+        let b : ℕ = 1024 + headAt m .capacity * 100 in
+        let sh : Lowered m m1 (b + i * 8) (b + countAt m 1 * 8) 8 = rw (ec, en) at sh' in
+        let q : Only word 64 4 4 m1 m' 1 (countAt m 1 - 1) = rw en at q' in
+        entries-become r l (sh .apart) (omega arith) (omega arith) (recount q) (omega arith) (cells-remove entryOf b 8 6 (omega arith) _ sh (omega arith))
 
   module _ (en : n ≡ countAt m 2) where
     pub open-out : {m1 m' : List ℕ} (i : ℕ) → i < length (opensOf m) → length m' ≡ length m
@@ -163,83 +160,72 @@ module _ (m : List ℕ) (r : Room m) (n : ℕ) where
     unfolding opensOf
     open-out {m1} {m'} i h l sh q =
         let k = known m r in
-        opens-become m m1 m' (128 + i * 4) (128 + n * 4 - (128 + i * 4)) (n - 1) r l (sh .apart)
-        (removeAt i (opensOf m)) (omega arith) (omega arith) (recount q) (omega arith)
+        opens-become r l (sh .apart) (omega arith) (omega arith) (recount q) (omega arith)
         (cells-remove word 128 4 4 (omega arith) n sh (omega arith) ∙ ap (λ (z : ℕ). removeAt i (opensAt m z)) en)
 
-  module _ (en : n ≡ countAt m 3) (b : ℕ) (eb : b ≡ 1024 + headAt m .capacity * 108) where
+  module _ (en : n ≡ countAt m 3) {c : ℕ} (ec : c ≡ headAt m .capacity) where
     pub named-in : {m2 m' : List ℕ} (x : ℕ) → length (namedOf m) < headAt m .capacity → length m' ≡ length m
-        → Only half b 2 2 m m2 n x → Only word 64 4 4 m2 m' 3 (n + 1) → Becomes m m' (withNamed (flatOf m) (namedOf m ++ x ∷ []))
+        → m2 ≡ put (1024 + c * 108 + n * 2) (bytes2 x) m → Only word 64 4 4 m2 m' 3 (n + 1) → Becomes m m' (withNamed (flatOf m) (namedOf m ++ x ∷ []))
     unfolding namedOf
-    named-in {m2} {m'} x f l o q =
+    named-in {m2} {m'} x f l e q' =
         let k = known m r in
-        named-become m m2 m' (b + n * 2) 2 (n + 1) r l (o .apart) (namedOf m ++ x ∷ []) (omega arith) (recount q) (omega arith)
-        (ap (λ (z : ℕ). tab (cell half z 2 2 m2) 0 (n + 1)) (sym eb) ∙ cells-push half b 2 2 (omega arith) o
-        ∙ ap (λ (z : ℕ). tab (cell half z 2 2 m) 0 n ++ x ∷ []) eb ∙ ap (λ (z : ℕ). namedAt m (headAt m .capacity) z ++ x ∷ []) en)
+        let o : Only half (1024 + headAt m .capacity * 108) 2 2 m m2 (countAt m 3) x = rw (e, ec, en) (stored-half m _ _ x (omega arith)) in
+        let q : Only word 64 4 4 m2 m' 3 (countAt m 3 + 1) = rw en at q' in
+        named-become r l (o .apart) (omega arith) (recount q) (omega arith) (cells-push half _ 2 2 (omega arith) o)
 
-kept-count : {m m' : List ℕ} {a n : ℕ} (k : ℕ) → k < 5 → Apart m m' a n → 84 ≤ a → countAt m' k ≡ countAt m k
-kept-count k b p h = cell-off word 64 4 4 (omega arith) p k (inl (omega arith))
+module _ {m m' : List ℕ} (r : Room m) (l : length m' ≡ length m) where
+  -- a cell set above the counts: count k stays
+  stays : {A : Type 0} {of : List ℕ → A} {base w v i : ℕ} {x : A} (k : ℕ) → k < 5 → Only of base w v m m' i x → 84 ≤ base → Recount m' m' k (countAt m k)
+  stays k b o h = recount-none m' k _ (cell-off word 64 4 4 (omega arith) (o .apart) k (inl (omega arith)))
 
-module _ (m : List ℕ) (r : Room m) {m' : List ℕ} (l : length m' ≡ length m) where
-  pub row-set : (b : ℕ) → b ≡ 1024 + firstAt m * 80 → (i : ℕ) (s : Row) → i < length (rowsOf m) → Only rowOf b 80 56 m m' i s
+  pub row-set : {b : ℕ} → b ≡ 1024 + firstAt m * 80 → (i : ℕ) (s : Row) → i < length (rowsOf m) → Only rowOf b 80 56 m m' i s
       → Becomes m m' (withRows (flatOf m) (set (rowsOf m) i s))
   unfolding rowsOf
-  row-set b eb i s h o =
+  row-set eb i s h o' =
       let k = known m r in
-      let en : countAt m' 0 ≡ countAt m 0 = kept-count 0 (omega arith) (o .apart) (omega arith) in
-      rows-become m m' m' (b + i * 80) 80 (countAt m 0) r l (o .apart) (set (rowsOf m) i s) (omega arith) (omega arith) (recount-none m' 0 _ en) (k .rows)
-      (ap (λ (z : ℕ). tab (cell rowOf z 80 56 m') 0 (countAt m 0)) (sym eb) ∙ cells-set rowOf b 80 56 (omega arith) (countAt m 0) o (omega arith)
-      ∙ ap (λ (z : ℕ). set (tab (cell rowOf z 80 56 m) 0 (countAt m 0)) i s) eb)
+      let o : Only rowOf (1024 + firstAt m * 80) 80 56 m m' i s = rw eb at o' in
+      rows-become r l (o .apart) (omega arith) (omega arith) (stays 0 (omega arith) o (omega arith)) (k .rows) (cells-set rowOf _ 80 56 (omega arith) (countAt m 0) o (omega arith))
 
-  pub entry-set : (b : ℕ) → b ≡ 1024 + headAt m .capacity * 100 → (i : ℕ) (e : Entry) → i < length (entriesOf m) → Only entryOf b 8 6 m m' i e
+  pub entry-set : {c : ℕ} → c ≡ headAt m .capacity → (i : ℕ) (e : Entry) → i < length (entriesOf m) → Only entryOf (1024 + c * 100) 8 6 m m' i e
       → Becomes m m' (withEntries (flatOf m) (set (entriesOf m) i e))
   unfolding entriesOf
-  entry-set b eb i e h o =
+  entry-set ec i e h o' =
       let k = known m r in
-      let en : countAt m' 1 ≡ countAt m 1 = kept-count 1 (omega arith) (o .apart) (omega arith) in
-      entries-become m m' m' (b + i * 8) 8 (countAt m 1) r l (o .apart) (set (entriesOf m) i e) (omega arith) (omega arith) (recount-none m' 1 _ en) (k .pages)
-      (ap (λ (z : ℕ). tab (cell entryOf z 8 6 m') 0 (countAt m 1)) (sym eb) ∙ cells-set entryOf b 8 6 (omega arith) (countAt m 1) o (omega arith)
-      ∙ ap (λ (z : ℕ). set (tab (cell entryOf z 8 6 m) 0 (countAt m 1)) i e) eb)
+      let o : Only entryOf (1024 + headAt m .capacity * 100) 8 6 m m' i e = rw ec at o' in
+      entries-become r l (o .apart) (omega arith) (omega arith) (stays 1 (omega arith) o (omega arith)) (k .pages) (cells-set entryOf _ 8 6 (omega arith) (countAt m 1) o (omega arith))
 
-  pub named-set : (b : ℕ) → b ≡ 1024 + headAt m .capacity * 108 → (i x : ℕ) → i < length (namedOf m) → Only half b 2 2 m m' i x
+  pub named-set : {c : ℕ} → c ≡ headAt m .capacity → (i x : ℕ) → i < length (namedOf m) → m' ≡ put (1024 + c * 108 + i * 2) (bytes2 x) m
       → Becomes m m' (withNamed (flatOf m) (set (namedOf m) i x))
   unfolding namedOf
-  named-set b eb i x h o =
+  named-set ec i x h e =
       let k = known m r in
-      let en : countAt m' 3 ≡ countAt m 3 = kept-count 3 (omega arith) (o .apart) (omega arith) in
-      named-become m m' m' (b + i * 2) 2 (countAt m 3) r l (o .apart) (set (namedOf m) i x) (omega arith) (recount-none m' 3 _ en) (k .named)
-      (ap (λ (z : ℕ). tab (cell half z 2 2 m') 0 (countAt m 3)) (sym eb) ∙ cells-set half b 2 2 (omega arith) (countAt m 3) o (omega arith)
-      ∙ ap (λ (z : ℕ). set (tab (cell half z 2 2 m) 0 (countAt m 3)) i x) eb)
+      let o : Only half (1024 + headAt m .capacity * 108) 2 2 m m' i x = rw (e, ec) (stored-half m _ i x (omega arith)) in
+      named-become r l (o .apart) (omega arith) (stays 3 (omega arith) o (omega arith)) (k .named) (cells-set half _ 2 2 (omega arith) (countAt m 3) o (omega arith))
 
-  pub open-set : (i x : ℕ) → i < length (opensOf m) → Only word 128 4 4 m m' i x → Becomes m m' (withOpens (flatOf m) (set (opensOf m) i x))
+  pub open-set : (i x : ℕ) → i < length (opensOf m) → m' ≡ put (128 + i * 4) (bytes4 x) m → Becomes m m' (withOpens (flatOf m) (set (opensOf m) i x))
   unfolding opensOf
-  open-set i x h o =
+  open-set i x h e =
       let k = known m r in
-      let en : countAt m' 2 ≡ countAt m 2 = kept-count 2 (omega arith) (o .apart) (omega arith) in
-      opens-become m m' m' (128 + i * 4) 4 (countAt m 2) r l (o .apart) (set (opensOf m) i x) (omega arith) (omega arith) (recount-none m' 2 _ en) (k .opens)
-      (cells-set word 128 4 4 (omega arith) (countAt m 2) o (omega arith))
+      let o : Only word 128 4 4 m m' i x = rw e (stored-word m 128 i x (omega arith)) in
+      opens-become r l (o .apart) (omega arith) (omega arith) (stays 2 (omega arith) o (omega arith)) (k .opens) (cells-set word 128 4 4 (omega arith) (countAt m 2) o (omega arith))
 
   pub open-in : (x : ℕ) → length (opensOf m) < 64 → m' ≡ pushed 128 2 (countAt m 2) x m → Becomes m m' (withOpens (flatOf m) (opensOf m ++ x ∷ []))
   unfolding opensOf
   open-in x f e =
       let k = known m r in
-      let n : ℕ = countAt m 2 in
-      let p = pushed-word m 128 2 n x (omega arith) (omega arith) (omega arith) in
-      opens-become m _ m' (128 + n * 4) 4 (n + 1) r l (p .0 .apart) (opensOf m ++ x ∷ []) (omega arith) (omega arith) (recount (rw e (p .1))) (omega arith)
-      (cells-push word 128 4 4 (omega arith) (p .0))
+      let p = pushed-word m 128 2 (countAt m 2) x (omega arith) (omega arith) (omega arith) in
+      opens-become {n = countAt m 2 + 1} r l (p .0 .apart) (omega arith) (omega arith) (recount (rw e (p .1))) (omega arith) (cells-push word 128 4 4 (omega arith) (p .0))
 
   pub directory-in : (x : ℕ) → length (directoriesOf m) < 4 → m' ≡ pushed 96 4 (countAt m 4) x m → Becomes m m' (withDirectories (flatOf m) (directoriesOf m ++ x ∷ []))
   unfolding directoriesOf
   directory-in x f e =
       let k = known m r in
-      let n : ℕ = countAt m 4 in
-      let p = pushed-word m 96 4 n x (omega arith) (omega arith) (omega arith) in
-      directories-become m _ m' (96 + n * 4) 4 (n + 1) r l (p .0 .apart) (directoriesOf m ++ x ∷ []) (omega arith) (omega arith) (recount (rw e (p .1))) (omega arith)
-      (cells-push word 96 4 4 (omega arith) (p .0))
+      let p = pushed-word m 96 4 (countAt m 4) x (omega arith) (omega arith) (omega arith) in
+      directories-become {n = countAt m 4 + 1} r l (p .0 .apart) (omega arith) (omega arith) (recount (rw e (p .1))) (omega arith) (cells-push word 96 4 4 (omega arith) (p .0))
 
   -- a list is emptied by its count alone
   pub named-none : Only word 64 4 4 m m' 3 0 → Becomes m m' (withNamed (flatOf m) [])
-  named-none q = named-become m m m' (1024 + headAt m .capacity * 108) 0 0 r l (apart-none m _ 0) [] (omega arith) (recount q) (omega arith) refl
+  named-none q = named-become r l (apart-none m (1024 + headAt m .capacity * 108) 0) (omega arith) (recount q) (omega arith) refl
 
   pub directories-none : Only word 64 4 4 m m' 4 0 → Becomes m m' (withDirectories (flatOf m) [])
-  directories-none q = directories-become m m m' 96 0 0 r l (apart-none m _ 0) [] (omega arith) (omega arith) (recount q) (omega arith) refl
+  directories-none q = directories-become r l (apart-none m 96 0) (omega arith) (omega arith) (recount q) (omega arith) refl

@@ -11,7 +11,7 @@ same-length c = search needs
 
 returns : tie.Need-returns
 returns c = let st = c .before .before .before .before .before in
-    directories-none (st .args .m .now) (st .pre) (c .before .before .put-count .kept .0) (c .before .before .put-count .ensures)
+    directories-none (st .pre) (c .before .before .put-count .kept .0) (c .before .before .put-count .ensures)
 
 pub clear-directories-spec : {M : Type 1} → statement M
 clear-directories-spec = tie.close (tie.spec put-count-requires same-length returns)

@@ -2,9 +2,8 @@ use Rattle.memory.proofs.Leaves.{closed-front, closed-back}
 use Rattle.memory.proofs.Changes.{known}
 use Rattle.basics.proofs.Facts.{and-true}
 use borrow.Author.Tests.{ltb-true}
-use mathlib.Core.List.{List}
 use native.Mathlib.Omega.{arith}
-use Prim.Native.Nat.{ℕ, _/_, _<_}
+use Prim.Native.Nat.{_/_, _<_}
 use borrow.Author.Needs.{needs}
 use Rattle.memory.proofs.close_row.Statement.{statement}
 use Rattle.memory.proofs.close_row.Tie as tie
@@ -52,7 +51,6 @@ same-length c = search needs
 
 returns : tie.Need-returns
 returns c = let st = c .before .before .before .before .before .before .before .before .before .before .before .before .before .before .before .before .before .before in
-    let m : List ℕ = st .args .m .now in
     let n = c .before .before .before .before .before .before .before .before .before .before .before .before .before .before .before .count-at in
     let f = c .before .before .before .before .before .before .before .before .before .before .before .before .before .get4 in
     let b = c .before .before .before .before .before .before .before .before .before .before .before .rows-from in
@@ -60,7 +58,7 @@ returns c = let st = c .before .before .before .before .before .before .before .
     let w1 = c .before .before .before .before .before .before .shift-up in
     let w2 = c .before .before .put4 in
     let t : f .result < d .result / 4 = ltb-true _ _ (and-true _ _ (c .before .before .before .before .before .before .before .before .if1 .taken) .0) in
-    closed-front m (st .pre .0) (n .result) (f .result) (b .result) (n .ensures) (f .ensures) (b .ensures) (st .args .i) (w1 .kept .0) (w2 .kept .0)
+    closed-front (st .pre .0) (n .ensures) (f .ensures) (b .ensures) (st .args .i) (w1 .kept .0) (w2 .kept .0)
     _ (w2 .ensures) (omega arith) (omega (arith, t, d .ensures)) (st .pre .1) (w1 .ensures) (omega arith) (omega arith)
 
 mul-shift-down : tie.Need-mul-shift-down
@@ -90,7 +88,7 @@ returns-2 c = let st = c .before .before .before .before .before .before .before
     let f = c .before .before .before .before .before .before .before .before .before .get4 in
     let b = c .before .before .before .before .before .before .before .rows-from in
     let w = c .before .before .shift-down in
-    closed-back (st .args .m .now) (st .pre .0) (n .result) (f .result) (b .result) (n .ensures) (f .ensures) (b .ensures) (st .args .i) (w .kept .0) (st .pre .1)
+    closed-back (st .pre .0) (n .ensures) (f .ensures) (b .ensures) (st .args .i) (w .kept .0) (st .pre .1)
     (w .ensures) (omega arith) (omega arith)
 
 pub close-row-spec : {M : Type 1} → statement M

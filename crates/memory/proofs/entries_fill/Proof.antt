@@ -1,10 +1,9 @@
-use Rattle.memory.proofs.Filling.{pass-start, pass-on, pass-stop, next-run}
-use Rattle.memory.specs.declared.Entry.{Entry}
+use Rattle.memory.proofs.Filling.{pass-start, Pass, pass}
 use Rattle.memory.specs.Store.{fillsAfter, fillsRows}
-use Rattle.memory.specs.Views.{cell, tab, entryOf, entriesAt, entriesFrom}
+use Rattle.memory.specs.Views.{entriesAt, entriesFrom}
 use mathlib.Core.List.{List}
 use native.Mathlib.Omega.{arith}
-use Prim.Native.Nat.{ℕ, _+_, _*_, _-_, _≤_}
+use Prim.Native.Nat.{ℕ, _*_, _-_, _≤_}
 use mathlib.Core.Path.{_≡_, sym, ap, _∙_}
 use Rattle.memory.proofs.entries_fill.Statement.{statement}
 use Rattle.memory.proofs.entries_fill.Tie as tie
@@ -34,15 +33,13 @@ add-loop c = omega arith
 four-filled-requires : tie.Need-four-filled-requires Inv-loop μ-loop
 four-filled-requires c κs = omega arith
 
+-- the next four
+passed : (g : tie.After-four-filled Inv-loop μ-loop) → let l = g .before .before in let a = l .before .before .args in
+    Pass (a .m .now) (a .n) (l .loop .i) 4 (a .c) (l .loop .sum) (a .rows) (g .four-filled .result)
+passed g = pass (omega (arith, g .before .loop-test .taken)) (omega arith) (g .four-filled .ensures .0)
+
 returns : tie.Need-returns Inv-loop μ-loop
-returns c = let g = c .before in
-    let l = g .before .before in
-    let st = l .before .before in
-    let f : ℕ → Entry = cell entryOf (1024 + st .args .n * 100) 8 6 (st .args .m .now) in
-    let end : ℕ = st .args .c in
-    let i : ℕ = l .loop .i in
-    let run = ap (λ (es : List Entry). fillsAfter (l .loop .sum) es (st .args .rows)) (next-run f i 4 end (omega (arith, g .before .loop-test .taken))) in
-    pass-stop (tab f i 4) (tab f (i + 4) (end - (i + 4))) (l .loop .sum) (st .args .rows) (g .four-filled .result) (g .four-filled .ensures .0) (omega arith) (c .if1 .taken) ∙ sym (l .loop .inv .1 .1 ∙ run)
+returns c = let g = c .before in passed g .stop (c .if1 .taken) ∙ sym (g .before .before .loop .inv .1 .1)
 
 add-sum : tie.Need-add-sum Inv-loop μ-loop
 add-sum c = omega arith
@@ -54,14 +51,7 @@ loop-less : tie.Need-loop-less Inv-loop μ-loop
 loop-less c = omega arith
 
 loop-again : tie.Need-loop-again Inv-loop μ-loop
-loop-again c = let g = c .before in
-    let l = g .before .before in
-    let st = l .before .before in
-    let f : ℕ → Entry = cell entryOf (1024 + st .args .n * 100) 8 6 (st .args .m .now) in
-    let end : ℕ = st .args .c in
-    let i : ℕ = l .loop .i in
-    let run = ap (λ (es : List Entry). fillsAfter (l .loop .sum) es (st .args .rows)) (next-run f i 4 end (omega (arith, g .before .loop-test .taken))) in
-    (omega arith, (omega arith, l .loop .inv .1 .1 ∙ run ∙ pass-on (tab f i 4) (tab f (i + 4) (end - (i + 4))) (l .loop .sum) (st .args .rows) (g .four-filled .result) (g .four-filled .ensures .0) (c .if1 .left)))
+loop-again c = let g = c .before in (omega arith, (omega arith, g .before .before .loop .inv .1 .1 ∙ passed g .on (c .if1 .left)))
 
 rest-fill-requires : tie.Need-rest-fill-requires Inv-loop μ-loop
 rest-fill-requires c κs = omega arith

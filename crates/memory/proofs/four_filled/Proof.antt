@@ -1,14 +1,13 @@
-use Rattle.memory.proofs.Access.{count-is}
-use Rattle.memory.proofs.Filling.{four-none, four-some}
-use Rattle.memory.specs.declared.Entry.{Entry}
-use Rattle.memory.specs.Views.{cell, entryOf}
-use mathlib.Core.List.{List}
+use Rattle.memory.proofs.Filling.{Four, four}
 use native.Mathlib.Omega.{arith}
-use Prim.Native.Nat.{ℕ, suc, _+_, _*_}
-use mathlib.Core.Path.{refl, _∙_}
 use borrow.Author.Needs.{needs}
 use Rattle.memory.proofs.four_filled.Statement.{statement}
 use Rattle.memory.proofs.four_filled.Tie as tie
+
+-- the four counts that were read
+filled : (c : tie.After-get24) → let a = c .before .before .before .before .before .args in
+    Four (a .m .now) (a .n) (a .i) (c .before .before .before .get2 .result) (c .before .before .get22 .result) (c .before .get23 .result) (c .get24 .result)
+filled c = four (c .before .before .before .get2 .ensures) (c .before .before .get22 .ensures) (c .before .get23 .ensures) (c .get24 .ensures)
 
 mul-a : tie.Need-mul-a
 mul-a c = search needs
@@ -59,20 +58,7 @@ cast-s : tie.Need-cast-s
 cast-s c = search needs
 
 returns : tie.Need-returns
-returns c = let st = c .before .before .before .before .before .before in
-    let m : List ℕ = st .args .m .now in
-    let n : ℕ = st .args .n in
-    let i : ℕ = st .args .i in
-    let a : ℕ = 1024 + n * 100 + 2 + i * 8 in
-    let f : ℕ → Entry = cell entryOf (1024 + n * 100) 8 6 m in (
-      four-none (f i) (f (suc i)) (f (suc (suc i))) (f (suc (suc (suc i)))) _ _ _ _
-          (c .before .before .before .before .get2 .ensures ∙ count-is m n i a refl)
-          (c .before .before .before .get22 .ensures ∙ count-is m n (suc i) (a + 8) (omega arith))
-          (c .before .before .get23 .ensures ∙ count-is m n (suc (suc i)) (a + 16) (omega arith))
-          (c .before .get24 .ensures ∙ count-is m n (suc (suc (suc i))) (a + 24) (omega arith))
-          (c .if1 .taken),
-      omega arith,
-    )
+returns c = (filled (c .before) .none (c .if1 .taken), omega arith)
 
 add-result : tie.Need-add-result
 add-result c = search needs
@@ -84,20 +70,7 @@ add-result-3 : tie.Need-add-result-3
 add-result-3 c = search needs
 
 returns-2 : tie.Need-returns-2
-returns-2 c = let st = c .before .before .before .before .before .before in
-    let m : List ℕ = st .args .m .now in
-    let n : ℕ = st .args .n in
-    let i : ℕ = st .args .i in
-    let a : ℕ = 1024 + n * 100 + 2 + i * 8 in
-    let f : ℕ → Entry = cell entryOf (1024 + n * 100) 8 6 m in (
-      four-some (f i) (f (suc i)) (f (suc (suc i))) (f (suc (suc (suc i)))) _ _ _ _
-          (c .before .before .before .before .get2 .ensures ∙ count-is m n i a refl)
-          (c .before .before .before .get22 .ensures ∙ count-is m n (suc i) (a + 8) (omega arith))
-          (c .before .before .get23 .ensures ∙ count-is m n (suc (suc i)) (a + 16) (omega arith))
-          (c .before .get24 .ensures ∙ count-is m n (suc (suc (suc i))) (a + 24) (omega arith))
-          (c .if1 .left),
-      omega arith,
-    )
+returns-2 c = (filled (c .before) .some (c .if1 .left), omega arith)
 
 pub four-filled-spec : {M : Type 1} → statement M
 four-filled-spec =

@@ -1,9 +1,7 @@
 use Rattle.memory.proofs.Leaves.{entry-in}
 use Rattle.memory.proofs.Changes.{known}
-use Rattle.memory.specs.Views.{headAt}
 use native.Mathlib.Omega.{arith}
-use Prim.Native.Nat.{ℕ, _+_, _*_}
-use mathlib.Core.Path.{_≡_, ap, _∙_}
+use mathlib.Core.Path.{_∙_}
 use borrow.Author.Needs.{needs}
 use Rattle.memory.proofs.insert_entry.Statement.{statement}
 use Rattle.memory.proofs.insert_entry.Tie as tie
@@ -36,19 +34,14 @@ add-shift-up-2 : tie.Need-add-shift-up-2
 add-shift-up-2 c = search needs
 
 shift-up-requires : tie.Need-shift-up-requires
-shift-up-requires c κs = let k = known _ (c .before .before .before .before .before .before .pre .0) in
-    let e = c .before .count-at .ensures in
-    let d = c .before .before .before .capacity-of .ensures in
-    omega arith
+shift-up-requires c κs = omega (arith, known _ (c .before .before .before .before .before .before .pre .0))
 
 store-entry-requires : tie.Need-store-entry-requires
 store-entry-requires c κs = search needs
 
 add-put-count : tie.Need-add-put-count
-add-put-count c = let k = known _ (c .before .before .before .before .before .before .before .before .before .before .before .before .before .before .pre .0) in
-    let e = c .before .before .before .before .before .before .before .before .before .count-at .ensures in
-    let d = c .before .before .before .before .before .before .before .before .before .before .before .capacity-of .ensures in
-    omega arith
+add-put-count c = let n = c .before .before .before .before .before .before .before .before .before in
+    omega (arith, known _ (n .before .before .before .before .before .pre .0), n .count-at .ensures)
 
 put-count-requires : tie.Need-put-count-requires
 put-count-requires c κs = search needs
@@ -57,12 +50,12 @@ same-length : tie.Need-same-length
 same-length c = search needs
 
 returns : tie.Need-returns
-returns c = let st = c .before .before .before .before .before .before .before .before .before .before .before .before .before .before .before .before .before in
-    let n : ℕ = c .before .before .before .before .before .before .before .before .before .before .before .before .before .before .capacity-of .result in
-    let eb : 1024 + n * 100 ≡ 1024 + headAt (st .args .m .now) .capacity * 100 = ap (λ (z : ℕ). 1024 + z * 100) (c .before .before .before .before .before .before .before .before .before .before .before .before .before .before .capacity-of .ensures) in
-    let l = c .before .before .put-count .kept .0 ∙ c .before .before .before .before .before .before .store-entry .kept .0 ∙ c .before .before .before .before .before .before .before .before .before .before .shift-up .kept .0 in
-    entry-in (st .args .m .now) (st .pre .0) (c .before .before .before .before .before .before .before .before .before .before .before .before .count-at .result) (c .before .before .before .before .before .before .before .before .before .before .before .before .count-at .ensures) (1024 + n * 100) eb (st .args .p) (st .args .e) (st .pre .1 .0) (st .pre .1 .1) l
-    (c .before .before .before .before .before .before .before .before .before .before .shift-up .ensures) (c .before .before .before .before .before .before .store-entry .ensures) (c .before .before .put-count .ensures) (omega arith)
+returns c = let put = c .before .before in
+    let store = put .before .before .before .before in
+    let shift = store .before .before .before .before in
+    let st = shift .before .before .before .before .before .before .before in
+    entry-in (st .pre .0) (shift .before .before .count-at .ensures) (shift .before .before .before .before .capacity-of .ensures) (st .args .p) (st .args .e) (st .pre .1 .0) (st .pre .1 .1)
+    (put .put-count .kept .0 ∙ store .store-entry .kept .0 ∙ shift .shift-up .kept .0) (shift .shift-up .ensures) (store .store-entry .ensures) (put .put-count .ensures) (omega arith)
 
 pub insert-entry-spec : {M : Type 1} → statement M
 insert-entry-spec =

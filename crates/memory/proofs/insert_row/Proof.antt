@@ -36,7 +36,7 @@ returns c = let st = c .before .before .before .before .before .before .before .
     let b = c .before .before .before .before .before .before .before .before .rows-from in
     let w2 = c .before .before .before .before .before .before .store-row in
     let w3 = c .before .before .put-count in
-    row-in (st .args .m .now) (st .pre .0) (n .result) (n .ensures) (st .args .i) (st .args .s) (b .result) (b .ensures) (st .pre .1 .0) (st .pre .1 .1)
+    row-in (st .pre .0) (n .ensures) (st .args .i) (st .args .s) (b .ensures) (st .pre .1 .0) (st .pre .1 .1)
     (w3 .kept .0 ∙ w2 .kept .0) (w1 .ensures) (w2 .ensures) (w3 .ensures)
 
 pub insert-row-spec : {M : Type 1} → statement M

@@ -15,7 +15,7 @@ same-length c = search needs
 returns : tie.Need-returns
 returns c = let st = c .before .before .before .before .before in
     let w = c .before .before .push-word in
-    directory-in (st .args .m .now) (st .pre .0) (w .kept .0) (st .args .x) (st .pre .1) (w .ensures)
+    directory-in (st .pre .0) (w .kept .0) (st .args .x) (st .pre .1) (w .ensures)
 
 pub push-directory-spec : {M : Type 1} → statement M
 push-directory-spec = tie.close (tie.spec push-word-requires same-length returns)

@@ -15,7 +15,7 @@ same-length c = search needs
 returns : tie.Need-returns
 returns c = let st = c .before .before .before .before .before in
     let w = c .before .before .push-word in
-    open-in (st .args .m .now) (st .pre .0) (w .kept .0) (st .args .x) (st .pre .1) (w .ensures)
+    open-in (st .pre .0) (w .kept .0) (st .args .x) (st .pre .1) (w .ensures)
 
 pub push-open-spec : {M : Type 1} → statement M
 push-open-spec = tie.close (tie.spec push-word-requires same-length returns)

@@ -1,11 +1,4 @@
 use Rattle.memory.proofs.Leaves.{named-set}
-use Rattle.memory.proofs.Changes.{known}
-use Rattle.memory.proofs.Spelling.{stored-half}
-use Rattle.memory.specs.Views.{half, headAt, Only}
-use mathlib.Core.List.{List}
-use native.Mathlib.Omega.{arith}
-use Prim.Native.Nat.{ℕ, _+_, _*_}
-use mathlib.Core.Path.{_≡_, ap}
 use borrow.Author.Needs.{needs}
 use Rattle.memory.proofs.put_named.Statement.{statement}
 use Rattle.memory.proofs.put_named.Tie as tie
@@ -32,13 +25,10 @@ same-length : tie.Need-same-length
 same-length c = search needs
 
 returns : tie.Need-returns
-returns c = let st = c .before .before .before .before .before .before .before in
-    let m : List ℕ = st .args .m .now in
-    let n : ℕ = c .before .before .before .before .capacity-of .result in
-    let eb : 1024 + n * 108 ≡ 1024 + headAt (st .args .m .now) .capacity * 108 = ap (λ (z : ℕ). 1024 + z * 108) (c .before .before .before .before .capacity-of .ensures) in
-    let k = known m (st .pre .0) in
-    let o : Only half (1024 + n * 108) 2 2 m (c .before .before .put2 .last .0) (st .args .i) (st .args .x) = rw (c .before .before .put2 .ensures) (stored-half m (1024 + n * 108) (st .args .i) (st .args .x) (omega arith)) in
-    named-set m (st .pre .0) (c .before .before .put2 .kept .0) (1024 + n * 108) eb (st .args .i) (st .args .x) (st .pre .1) o
+returns c = let store = c .before .before in
+    let cap = store .before .before in
+    let st = cap .before .before .before in
+    named-set (st .pre .0) (store .put2 .kept .0) (cap .capacity-of .ensures) (st .args .i) (st .args .x) (st .pre .1) (store .put2 .ensures)
 
 pub put-named-spec : {M : Type 1} → statement M
 put-named-spec =

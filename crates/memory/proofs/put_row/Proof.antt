@@ -16,7 +16,7 @@ returns : tie.Need-returns
 returns c = let st = c .before .before .before .before .before .before .before in
     let w = c .before .before .store-row in
     let b = c .before .before .before .before .rows-from in
-    row-set (st .args .m .now) (st .pre .0) (w .kept .0) (b .result) (b .ensures) (st .args .i) (st .args .s) (st .pre .1) (w .ensures)
+    row-set (st .pre .0) (w .kept .0) (b .ensures) (st .args .i) (st .args .s) (st .pre .1) (w .ensures)
 
 pub put-row-spec : {M : Type 1} → statement M
 put-row-spec = tie.close (tie.spec rows-from-requires store-row-requires same-length returns)

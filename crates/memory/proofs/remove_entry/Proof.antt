@@ -1,9 +1,7 @@
 use Rattle.memory.proofs.Leaves.{entry-out}
 use Rattle.memory.proofs.Changes.{known}
-use Rattle.memory.specs.Views.{headAt}
 use native.Mathlib.Omega.{arith}
-use Prim.Native.Nat.{ℕ, _+_, _*_}
-use mathlib.Core.Path.{_≡_, ap, _∙_}
+use mathlib.Core.Path.{_∙_}
 use borrow.Author.Needs.{needs}
 use Rattle.memory.proofs.remove_entry.Statement.{statement}
 use Rattle.memory.proofs.remove_entry.Tie as tie
@@ -36,16 +34,10 @@ add-shift-down-2 : tie.Need-add-shift-down-2
 add-shift-down-2 c = search needs
 
 shift-down-requires : tie.Need-shift-down-requires
-shift-down-requires c κs = let k = known _ (c .before .before .before .before .before .before .pre .0) in
-    let e = c .before .count-at .ensures in
-    let d = c .before .before .before .capacity-of .ensures in
-    omega arith
+shift-down-requires c κs = omega (arith, known _ (c .before .before .before .before .before .before .pre .0))
 
 sub-put-count : tie.Need-sub-put-count
-sub-put-count c = let k = known _ (c .before .before .before .before .before .before .before .before .before .before .pre .0) in
-    let e = c .before .before .before .before .before .count-at .ensures in
-    let d = c .before .before .before .before .before .before .before .capacity-of .ensures in
-    omega arith
+sub-put-count c = let n = c .before .before .before .before .before in omega (arith, known _ (n .before .before .before .before .before .pre .0), n .count-at .ensures)
 
 put-count-requires : tie.Need-put-count-requires
 put-count-requires c κs = search needs
@@ -54,12 +46,11 @@ same-length : tie.Need-same-length
 same-length c = search needs
 
 returns : tie.Need-returns
-returns c = let st = c .before .before .before .before .before .before .before .before .before .before .before .before .before in
-    let n : ℕ = c .before .before .before .before .before .before .before .before .before .before .capacity-of .result in
-    let eb : 1024 + n * 100 ≡ 1024 + headAt (st .args .m .now) .capacity * 100 = ap (λ (z : ℕ). 1024 + z * 100) (c .before .before .before .before .before .before .before .before .before .before .capacity-of .ensures) in
-    let l = c .before .before .put-count .kept .0 ∙ c .before .before .before .before .before .before .shift-down .kept .0 in
-    entry-out (st .args .m .now) (st .pre .0) (c .before .before .before .before .before .before .before .before .count-at .result) (c .before .before .before .before .before .before .before .before .count-at .ensures) (1024 + n * 100) eb (st .args .p) (st .pre .1) l
-    (c .before .before .before .before .before .before .shift-down .ensures) (c .before .before .put-count .ensures)
+returns c = let put = c .before .before in
+    let shift = put .before .before .before .before in
+    let st = shift .before .before .before .before .before .before .before in
+    entry-out (st .pre .0) (shift .before .before .count-at .ensures) (shift .before .before .before .before .capacity-of .ensures) (st .args .p) (st .pre .1)
+    (put .put-count .kept .0 ∙ shift .shift-down .kept .0) (shift .shift-down .ensures) (put .put-count .ensures)
 
 pub remove-entry-spec : {M : Type 1} → statement M
 remove-entry-spec =

@@ -25,14 +25,10 @@ add-shift-down-2 : tie.Need-add-shift-down-2
 add-shift-down-2 c = search needs
 
 shift-down-requires : tie.Need-shift-down-requires
-shift-down-requires c κs = let k = known _ (c .before .before .before .before .pre .0) in
-    let e = c .before .count-at .ensures in
-    omega arith
+shift-down-requires c κs = omega (arith, known _ (c .before .before .before .before .pre .0))
 
 sub-put-count : tie.Need-sub-put-count
-sub-put-count c = let k = known _ (c .before .before .before .before .before .before .before .before .pre .0) in
-    let e = c .before .before .before .before .before .count-at .ensures in
-    omega arith
+sub-put-count c = let n = c .before .before .before .before .before in omega (arith, known _ (n .before .before .before .pre .0), n .count-at .ensures)
 
 put-count-requires : tie.Need-put-count-requires
 put-count-requires c κs = search needs
@@ -41,9 +37,11 @@ same-length : tie.Need-same-length
 same-length c = search needs
 
 returns : tie.Need-returns
-returns c = let st = c .before .before .before .before .before .before .before .before .before .before .before in
-    let l = c .before .before .put-count .kept .0 ∙ c .before .before .before .before .before .before .shift-down .kept .0 in
-    open-out (st .args .m .now) (st .pre .0) (c .before .before .before .before .before .before .before .before .count-at .result) (c .before .before .before .before .before .before .before .before .count-at .ensures) (st .args .i) (st .pre .1) l (c .before .before .before .before .before .before .shift-down .ensures) (c .before .before .put-count .ensures)
+returns c = let put = c .before .before in
+    let shift = put .before .before .before .before in
+    let st = shift .before .before .before .before .before in
+    open-out (st .pre .0) (shift .before .before .count-at .ensures) (st .args .i) (st .pre .1)
+    (put .put-count .kept .0 ∙ shift .shift-down .kept .0) (shift .shift-down .ensures) (put .put-count .ensures)
 
 pub remove-open-spec : {M : Type 1} → statement M
 remove-open-spec =

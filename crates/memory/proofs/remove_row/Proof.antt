@@ -27,7 +27,7 @@ returns c = let st = c .before .before .before .before .before .before .before .
     let n = c .before .before .before .before .before .before .before .before .count-at in
     let w1 = c .before .before .before .before .before .before .close-row in
     let w2 = c .before .before .put-count in
-    row-out (st .args .m .now) (st .pre .0) (n .result) (n .ensures) (st .args .i) (st .pre .1) (w2 .kept .0) (w1 .ensures) (w2 .ensures)
+    row-out (st .pre .0) (n .ensures) (st .args .i) (st .pre .1) (w2 .kept .0) (w1 .ensures) (w2 .ensures)
 
 pub remove-row-spec : {M : Type 1} → statement M
 remove-row-spec =

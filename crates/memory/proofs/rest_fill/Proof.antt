@@ -1,13 +1,11 @@
 use Rattle.memory.proofs.Access.{count-is}
-use Rattle.memory.proofs.Filling.{pass-on, pass-stop, pass-end, next-run, one-filled}
-use Rattle.memory.specs.declared.Entry.{Entry}
-use Rattle.memory.specs.Store.{filledBy, fillsAfter}
-use Rattle.memory.specs.Views.{cell, tab, entryOf, entriesFrom}
+use Rattle.memory.proofs.Filling.{Pass, pass, pass-end, one-filled}
+use Rattle.memory.specs.Store.{fillsAfter}
+use Rattle.memory.specs.Views.{entriesFrom}
 use borrow.Author.Needs.{needs}
-use mathlib.Core.List.{List, [], _∷_}
 use native.Mathlib.Omega.{arith}
-use Prim.Native.Nat.{ℕ, _+_, _*_, _-_, _≤_}
-use mathlib.Core.Path.{_≡_, refl, sym, ap, _∙_}
+use Prim.Native.Nat.{_*_, _-_, _≤_}
+use mathlib.Core.Path.{_≡_, refl, sym, _∙_}
 use Rattle.memory.proofs.rest_fill.Statement.{statement}
 use Rattle.memory.proofs.rest_fill.Tie as tie
 
@@ -42,16 +40,13 @@ get2-requires c κs = omega arith
 cast-k : tie.Need-cast-k Inv-loop μ-loop
 cast-k c = search needs
 
+-- the next one
+passed : (g : tie.After-get2 Inv-loop μ-loop) → let l = g .before .before in let a = l .before .before .args in
+    Pass (a .m .now) (a .n) (l .loop .j) 1 (a .c) (l .loop .sum) (a .rows) (g .get2 .result)
+passed g = pass (omega (arith, g .before .loop-test .taken)) (omega arith) (g .get2 .ensures ∙ count-is _ _ _ _ refl ∙ one-filled _)
+
 returns : tie.Need-returns Inv-loop μ-loop
-returns c = let g = c .before in
-    let l = g .before .before in
-    let st = l .before .before in
-    let f : ℕ → Entry = cell entryOf (1024 + st .args .n * 100) 8 6 (st .args .m .now) in
-    let end : ℕ = st .args .c in
-    let j : ℕ = l .loop .j in
-    let e : g .get2 .result ≡ filledBy (f j ∷ []) = g .get2 .ensures ∙ count-is (st .args .m .now) (st .args .n) j _ refl ∙ one-filled (f j) in
-    let run = ap (λ (es : List Entry). fillsAfter (l .loop .sum) es (st .args .rows)) (next-run f j 1 end (omega (arith, g .before .loop-test .taken))) in
-    pass-stop (f j ∷ []) (tab f (j + 1) (end - (j + 1))) (l .loop .sum) (st .args .rows) (g .get2 .result) e (omega arith) (c .if1 .taken) ∙ sym (l .loop .inv .1 .1 ∙ run)
+returns c = let g = c .before in passed g .stop (c .if1 .taken) ∙ sym (g .before .before .loop .inv .1 .1)
 
 add-sum : tie.Need-add-sum Inv-loop μ-loop
 add-sum c = omega arith
@@ -63,21 +58,12 @@ loop-less : tie.Need-loop-less Inv-loop μ-loop
 loop-less c = omega arith
 
 loop-again : tie.Need-loop-again Inv-loop μ-loop
-loop-again c = let g = c .before in
-    let l = g .before .before in
-    let st = l .before .before in
-    let f : ℕ → Entry = cell entryOf (1024 + st .args .n * 100) 8 6 (st .args .m .now) in
-    let end : ℕ = st .args .c in
-    let j : ℕ = l .loop .j in
-    let e : g .get2 .result ≡ filledBy (f j ∷ []) = g .get2 .ensures ∙ count-is (st .args .m .now) (st .args .n) j _ refl ∙ one-filled (f j) in
-    let run = ap (λ (es : List Entry). fillsAfter (l .loop .sum) es (st .args .rows)) (next-run f j 1 end (omega (arith, g .before .loop-test .taken))) in
-    (omega arith, (omega arith, l .loop .inv .1 .1 ∙ run ∙ pass-on (f j ∷ []) (tab f (j + 1) (end - (j + 1))) (l .loop .sum) (st .args .rows) (g .get2 .result) e (c .if1 .left)))
+loop-again c = let g = c .before in (omega arith, (omega arith, g .before .before .loop .inv .1 .1 ∙ passed g .on (c .if1 .left)))
 
 returns-2 : tie.Need-returns-2 Inv-loop μ-loop
 returns-2 c = let l = c .before in
-    let st = l .before .before in
-    pass-end (cell entryOf (1024 + st .args .n * 100) 8 6 (st .args .m .now)) (l .loop .j) (st .args .c) (l .loop .sum) (st .args .rows) (c .loop-test .left)
-    ∙ sym (l .loop .inv .1 .1)
+    let a = l .before .before .args in
+    pass-end (a .m .now) (a .n) (l .loop .j) (a .c) (l .loop .sum) (a .rows) (c .loop-test .left) ∙ sym (l .loop .inv .1 .1)
 
 pub rest-fill-spec : {M : Type 1} → statement M
 rest-fill-spec =
