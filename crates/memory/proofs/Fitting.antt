@@ -14,7 +14,8 @@ use Rattle.model.specs.State.{Held}
 use Rattle.memory.specs.Bytes.{cut}
 use Rattle.memory.specs.Views.{tab, rowOf, firstAt}
 use Rattle.memory.specs.Flat.{flatOf, rowsOf}
-use Rattle.memory.specs.Store.{ownerOf, tupleOf, tupleBy, heldOf, heldIn}
+use Rattle.memory.specs.Store.{ownerOf, tupleOf, tupleBy, heldOf, heldIn, pageOf}
+use Rattle.memory.specs.declared.Entry.{Entry}
 use Rattle.memory.proofs.Access.{row-at}
 
 -- ---- bytes
@@ -58,3 +59,10 @@ module _ (m : List ℕ) (bytes : AllBytes m) where
   pub run-fits : (s c : ℕ) → s + c ≤ length (rowsOf m) → AllOf (λ (h : Held). Fits (h .tuple)) (tab (heldIn (flatOf m)) s c)
   run-fits s zero h = tt
   run-fits s (suc c) h = (tuple-fits s (omega arith), run-fits (suc s) c (omega arith))
+
+-- ---- a page
+
+-- the law: whatever the bytes, there are 8 tables and at most 4,096 blocks
+pub page-fits : (e : Entry) (hs : List Held) → (pageOf e hs .table < 8) × (pageOf e hs .block < 4096)
+unfolding pageOf
+page-fits e hs = (omega arith, omega arith)
