@@ -1,21 +1,19 @@
 -- One tuple of a page, found by its number, removed or changed.
 use mathlib.Core.Path.{_≡_, refl, sym, ap, _∙_}
 use mathlib.Core.Bool.{Bool, true, false}
-use Prim.Native.Nat.{ℕ, zero, suc, _+_, _-_, _/_, _%_, _≤_, _<_}
+use Prim.Native.Nat.{ℕ, zero, suc, _+_, _-_, _≤_, _<_}
 use native.Mathlib.Omega.{arith}
 use mathlib.Core.List.{List, [], _∷_, _++_}
 use lib.ListN.{length, take, drop, set, getD, length-set}
-use lib.Dec.{eqb}
-use borrow.Author.Tests.{eq-eqb, ne-eqb, eqb-false}
+use borrow.Author.Tests.{eq-eqb, ne-eqb}
 use Rattle.basics.specs.Basics.{if_then_else_, any, isEmpty}
 use Rattle.basics.proofs.Facts.{by}
 use Rattle.model.specs.State.{removing, Held}
-use Rattle.model.specs.Rules.{isAdding, isRemoving, isNumber, edit, goneLater, takenLater, withPending}
+use Rattle.model.specs.Rules.{isAdding, isNumber, edit, goneLater, takenLater, withPending}
 use Rattle.model.proofs.Lists.{nonempty}
 use Rattle.memory.specs.Views.{tab}
 use Rattle.memory.specs.Flat.{flatOf, noRow, removeAt}
-use Rattle.memory.specs.Store.{pendingOf, heldOf, heldIn}
-use Rattle.memory.specs.declared.Row.{Row}
+use Rattle.memory.specs.Store.{heldOf, heldIn}
 use Rattle.memory.proofs.Laws.{tab-next, getD-tab}
 use Rattle.pages.specs.Turns.{tuplesAt, entryAt, startAt, At}
 use Rattle.pages.specs.Changes.{RowOn}
@@ -138,37 +136,3 @@ pub row-inside : {m : List ℕ} {p at : ℕ} → RowOn m p at → at - startAt m
 row-inside {m} {p} {at} r =
     let a : At m p (startAt m p) = record { held = r .there .held; inside = r .there .inside; begins = refl } in
     omega (arith, tuples-many a, r .least, r .most)
-
--- ---- what is pending
-
-pub pending-is : (r : Row) → heldOf r .pending ≡ pendingOf (r .flags / 4 % 4)
-unfolding heldOf
-pending-is r = refl
-
-gap : (k : ℕ) → (k ≡ 0 → ⊥) → (k ≡ 1 → ⊥) → (k ≡ 2 → ⊥) → k < 4 → (k ≡ 3 → ⊥) → ⊥
-gap zero a b c l d = a refl
-gap (suc zero) a b c l d = b refl
-gap (suc (suc zero)) a b c l d = c refl
-gap (suc (suc (suc zero))) a b c l d = d refl
-gap (suc (suc (suc (suc k)))) a b c l d = absurd (omega arith)
-
-module _ (k : ℕ) where
-  pub adding-is : k ≡ 1 → isAdding (pendingOf k) ≡ true
-  unfolding isAdding pendingOf if_then_else_
-  adding-is e = ap (λ (z : ℕ). isAdding (pendingOf z)) e
-
-  pub not-adding : (k ≡ 1 → ⊥) → isAdding (pendingOf k) ≡ false
-  unfolding isAdding pendingOf if_then_else_
-  not-adding ne =
-      by (eqb k 0) (λ e. rw e refl) (λ e0. by (eqb k 2) (λ e2. rw (e0, ne-eqb k 1 ne, e2) refl) (λ e2. rw (e0, ne-eqb k 1 ne, e2) refl))
-
-  pub removing-is : k ≡ 3 → isRemoving (pendingOf k) ≡ true
-  unfolding isRemoving pendingOf if_then_else_
-  removing-is e = ap (λ (z : ℕ). isRemoving (pendingOf z)) e
-
-  pub not-removing : k < 4 → (k ≡ 3 → ⊥) → isRemoving (pendingOf k) ≡ false
-  unfolding isRemoving pendingOf if_then_else_
-  not-removing l ne =
-      by (eqb k 0) (λ e. rw e refl)
-      (λ e0. by (eqb k 1) (λ e1. rw (e0, e1) refl)
-      (λ e1. by (eqb k 2) (λ e2. rw (e0, e1, e2) refl) (λ e2. absurd (gap k (eqb-false k 0 e0) (eqb-false k 1 e1) (eqb-false k 2 e2) l ne))))

@@ -8,6 +8,8 @@ use native.Mathlib.Numerals.{add-one}
 use mathlib.Core.List.{List, [], _∷_}
 use lib.ListN.{length, take, set, getD}
 use lib.Seq.{take-all}
+use lib.Dec.{eqb}
+use borrow.Author.Tests.{eq-eqb, ne-eqb}
 use Rattle.basics.specs.Basics.{if_then_else_}
 use Rattle.model.specs.State.{removing, Held, Page}
 use Rattle.model.specs.Rules.{isAdding, hasNumber, edit, gone, takenLater, withPending, withTuples, fresh, listOf, settle, removeOn, remove, around}
@@ -20,12 +22,13 @@ use Rattle.pages.specs.Changes.{RowOn, Tries, settledAt}
 use Rattle.pages.specs.Finding.{firstOf, editAt, takenAt, lessOne, settledBy, NoneOf, FirstPage, FoundRow, FoundBy}
 use Rattle.memory.specs.Views.{tab}
 use Rattle.memory.proofs.Runs.{start-zero, pages-count}
+use Rattle.memory.proofs.Flags.{pending-set}
 use Rattle.pages.proofs.Places.{there-at, same-count, same-table, turns-to, turns-stay, turns-then, swap-same, from-page, at-first, page-first, has-row, start-on, tuples-many}
 use Rattle.pages.proofs.Swaps.{fresh-page, length-remove}
 use Rattle.pages.proofs.Splitting.{run-tuples, with-tuples}
 use Rattle.pages.specs.Thawing.{withFlags}
-use Rattle.pages.proofs.Flags.{held-pending}
-use Rattle.pages.proofs.Edits.{first-any, first-none, edit-none, edit-first, taken-first, taken-last, taken-away, taken-noted, held-at, row-inside, pending-is, adding-is, not-adding}
+use Rattle.pages.proofs.Flags.{row-adding, same-flags}
+use Rattle.pages.proofs.Edits.{first-any, first-none, edit-none, edit-first, taken-first, taken-last, taken-away, taken-noted, held-at, row-inside}
 use Rattle.pages.specs.declared.Found.{Found}
 use Rattle.pages.specs.declared.Found.the-variants.{Here, Nowhere}
 use Rattle.pages.proofs.Around.{on-swap, on-same, around-on, around-none, none-snoc}
@@ -53,11 +56,8 @@ module _ {m : List ℕ} {p at : ℕ} (g : RowOn m p at) where
     pub held-row : getD (tuplesAt m p) (at - startAt m p) (heldOf noRow) ≡ heldOf row
     held-row = held-at g ∙ ap heldOf (sym er)
 
-    row-adding : row .flags / 4 % 4 ≡ 1 → isAdding (getD (tuplesAt m p) (at - startAt m p) (heldOf noRow) .pending) ≡ true
-    row-adding h = ap (λ (z : Held). isAdding (z .pending)) held-row ∙ ap isAdding (pending-is row) ∙ adding-is _ h
-
-    row-other : (row .flags / 4 % 4 ≡ 1 → ⊥) → isAdding (getD (tuplesAt m p) (at - startAt m p) (heldOf noRow) .pending) ≡ false
-    row-other h = ap (λ (z : Held). isAdding (z .pending)) held-row ∙ ap isAdding (pending-is row) ∙ not-adding _ h
+    pub is-adding : isAdding (getD (tuplesAt m p) (at - startAt m p) (heldOf noRow) .pending) ≡ eqb (row .flags / 4 % 4) 1
+    is-adding = ap (λ (z : Held). isAdding (z .pending)) held-row ∙ row-adding row
 
     same-tuples : withTuples (pageAt m p) (tuplesAt m p) ≡ pageAt m p
     unfolding withTuples
@@ -68,7 +68,7 @@ module _ {m : List ℕ} {p at : ℕ} (g : RowOn m p at) where
     later-last h l =
         let k : length (tuplesAt m p) ≡ 1 = many-is ∙ sym (same-count ee) ∙ l in
         turns-to (turns-stay m (g .there .held))
-        (sym (ap (λ (z : List Held). swapped p (withTuples (pageAt m p) z ∷ []) (pagesOf m)) (taken-last (at - startAt m p) (tuplesAt m p) (heldOf noRow) (row-inside g) (row-adding h) k)
+        (sym (ap (λ (z : List Held). swapped p (withTuples (pageAt m p) z ∷ []) (pagesOf m)) (taken-last (at - startAt m p) (tuplesAt m p) (heldOf noRow) (row-inside g) (is-adding ∙ eq-eqb _ 1 h) k)
         ∙ ap (λ (z : Page). swapped p (z ∷ []) (pagesOf m)) same-tuples ∙ swap-same (here g)))
 
     pub later-away : {m' : List ℕ} (n : ℕ) → row .flags / 4 % 4 ≡ 1 → (e .count ≡ 1 → ⊥)
@@ -79,7 +79,7 @@ module _ {m : List ℕ} {p at : ℕ} (g : RowOn m p at) where
         turns-to t (ap (λ (z : Page). swapped p (z ∷ []) (pagesOf m))
         (ap (λ (x : Entry). pageOf (record { table = x .table; frozen = x .frozen; count = n; block = x .block }) (removeAt (at - startAt m p) (tuplesAt m p))) ee
         ∙ with-tuples m p n (removeAt (at - startAt m p) (tuplesAt m p))
-        ∙ ap (withTuples (pageAt m p)) (sym (taken-away (at - startAt m p) (tuplesAt m p) (heldOf noRow) (row-inside g) (row-adding h) k))))
+        ∙ ap (withTuples (pageAt m p)) (sym (taken-away (at - startAt m p) (tuplesAt m p) (heldOf noRow) (row-inside g) (is-adding ∙ eq-eqb _ 1 h) k))))
 
     pub later-noted : {m' : List ℕ} (f : ℕ) → f ≡ row .flags % 4 + 12 → (row .flags / 4 % 4 ≡ 1 → ⊥)
         → Turns m m' (swapped p (pageOf e (set (tuplesAt m p) (at - startAt m p) (heldOf (withFlags row f))) ∷ []) (pagesOf m))
@@ -88,11 +88,11 @@ module _ {m : List ℕ} {p at : ℕ} (g : RowOn m p at) where
     later-noted f ef h t =
         let x : Held = heldOf (withFlags row f) in
         let ex : x ≡ withPending removing (getD (tuplesAt m p) (at - startAt m p) (heldOf noRow)) =
-        held-pending row f 3 ef (omega arith) ∙ ap (withPending removing) (sym held-row) in
+        same-flags row ef ∙ pending-set row 3 (omega arith) ∙ ap (withPending removing) (sym held-row) in
         turns-to t (ap (λ (z : Page). swapped p (z ∷ []) (pagesOf m))
         (ap (λ (y : Entry). pageOf y (set (tuplesAt m p) (at - startAt m p) x)) ee
         ∙ page-with m p (set (tuplesAt m p) (at - startAt m p) x)
-        ∙ ap (withTuples (pageAt m p)) (sym (taken-noted (at - startAt m p) (tuplesAt m p) (heldOf noRow) (row-inside g) x (row-other h) ex))))
+        ∙ ap (withTuples (pageAt m p)) (sym (taken-noted (at - startAt m p) (tuplesAt m p) (heldOf noRow) (row-inside g) x (is-adding ∙ ne-eqb _ 1 h) ex))))
 
   -- ---- on another page
 
