@@ -3,11 +3,12 @@ use mathlib.Core.Path.{_≡_, refl, sym, ap, _∙_}
 use mathlib.Core.Bool.{Bool, true, false}
 use Prim.Native.Nat.{ℕ, zero, suc, _+_, _-_, _≤_, _<_}
 use native.Mathlib.Omega.{arith}
+use native.Mathlib.Numerals.{unary-clauses}
 use mathlib.Core.List.{List, [], _∷_, _++_}
 use lib.ListN.{length, take, drop, set, getD, length-set}
 use borrow.Author.Tests.{eq-eqb, ne-eqb}
 use Rattle.basics.specs.Basics.{if_then_else_, any, isEmpty}
-use Rattle.basics.proofs.Facts.{by}
+use Rattle.basics.proofs.Facts.{by, lie}
 use Rattle.model.specs.State.{removing, Held}
 use Rattle.model.specs.Rules.{isAdding, isNumber, edit, goneLater, takenLater, withPending}
 use Rattle.model.proofs.Lists.{nonempty}
@@ -41,17 +42,21 @@ module _ (n : ℕ) where
   unfolding any
   any-later h hs e = rw (e, any)
 
-  pub first-any : (hs : List Held) → firstOf n hs < length hs → any (isNumber n) hs ≡ true
-  unfolding firstOf
-  first-any [] l = absurd (omega arith)
-  first-any (h ∷ hs) l =
-      by (isNumber n h) (λ e. any-here h hs e) (λ e. any-later h hs e ∙ first-any hs (omega (arith, first-later h hs e)))
-
-  pub first-none : (hs : List Held) → length hs ≤ firstOf n hs → any (isNumber n) hs ≡ false
+  -- in one list after another
+  pub first-in : (xs ys : List Held) → any (isNumber n) xs ≡ true → (firstOf n (xs ++ ys) ≡ firstOf n xs) × (firstOf n xs < length xs)
   unfolding any
-  first-none [] l = refl
-  first-none (h ∷ hs) l =
-      by (isNumber n h) (λ e. absurd (omega (arith, first-here h hs e))) (λ e. any-later h hs e ∙ first-none hs (omega (arith, first-later h hs e)))
+  first-in [] ys a = lie a
+  first-in (h ∷ hs) ys a =
+      by (isNumber n h) (λ e. let z = first-here h hs e in (first-here h (hs ++ ys) e ∙ sym z, omega arith))
+      (λ e. let r = first-in hs ys (sym (any-later h hs e) ∙ a) in
+      let z = first-later h hs e in
+      (omega (arith, first-later h (hs ++ ys) e, r .0), omega (arith, r .1)))
+
+  pub first-after : (xs ys : List Held) → any (isNumber n) xs ≡ false → firstOf n (xs ++ ys) ≡ length xs + firstOf n ys
+  first-after [] ys a = omega arith
+  first-after (h ∷ hs) ys a =
+      by (isNumber n h) (λ e. lie (sym a ∙ any-here h hs e))
+      (λ e. let r = first-after hs ys (sym (any-later h hs e) ∙ a) in omega (arith, first-later h (hs ++ ys) e))
 
   pub edit-first : (g : Held → List Held) (hs : List Held) → edit g n hs ≡ editAt g (firstOf n hs) hs
   unfolding edit editAt firstOf if_then_else_
@@ -63,6 +68,9 @@ module _ (n : ℕ) where
   taken-first hs = ap (λ (z : List Held). if isEmpty z then hs else z) (edit-first goneLater hs)
 
   -- turn by turn
+  pub find-start : (f : ℕ → Held) (e : ℕ) → firstOf n (tab f 0 e) ≡ 0 + firstOf n (tab f 0 (e - 0))
+  find-start f e = simp unary-clauses (omega arith)
+
   module _ (f : ℕ → Held) (i e : ℕ) where
     pub find-hit : i < e → f i .tuple .number ≡ n → firstOf n (tab f i (e - i)) ≡ 0
     unfolding isNumber

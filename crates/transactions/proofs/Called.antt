@@ -31,7 +31,7 @@ delete-is tx t k bs m r m' a e = subst (λ (call : Store → Outcome). Answers c
 
 -- ---- a write: its tests, and what it leaves
 
-pub write-numbered : (new : Bool) (tx t k n : ℕ) (s : Store) → Numbered (writeTests new tx t k n s)
+write-numbered : (new : Bool) (tx t k n : ℕ) (s : Store) → Numbered (writeTests new tx t k n s)
 unfolding writeTests notOpen noTable foreign present unseen full if_then_else_
 write-numbered true tx t k n s = (omega arith, (omega arith, (omega arith, (omega arith, (omega arith, (omega arith, (omega arith, (omega arith, tt))))))))
 write-numbered false tx t k n s = (omega arith, (omega arith, (omega arith, (omega arith, (omega arith, (omega arith, (omega arith, (omega arith, tt))))))))
