@@ -18,6 +18,7 @@ use Rattle.memory.specs.Store.{pendingOf, heldOf, pageOf, pageIn, holdsStore}
 use Rattle.memory.specs.declared.Row.{Row}
 use Rattle.memory.specs.declared.Entry.{Entry}
 use Rattle.memory.proofs.Runs.{pages-count}
+use Rattle.memory.proofs.Flags.{pending-set, committed-set}
 use Rattle.pages.specs.Turns.{Turns, pagesOf, pageAt, tuplesAt, entryAt, startAt, At, swapped}
 use Rattle.pages.specs.Changes.{There, RowOn}
 use Rattle.pages.specs.Finding.{editAt, committedAt, FoundRow}
@@ -25,11 +26,11 @@ use Rattle.pages.proofs.Places.{same-table, turns-to, turns-stay, turns
 use Rattle.pages.proofs.Swaps.{fresh-page}
 use Rattle.pages.proofs.Splitting.{is-frozen, not-frozen}
 use Rattle.pages.specs.Thawing.{withFlags}
-use Rattle.pages.proofs.Flags.{held-committed, held-pending}
-use Rattle.pages.proofs.Edits.{edit-one, edit-first, pending-is, adding-is, not-adding, removing-is, not-removing}
+use Rattle.pages.proofs.Flags.{row-removing, same-flags}
+use Rattle.pages.proofs.Edits.{edit-one, edit-first}
 use Rattle.pages.proofs.Placing.{take-snoc}
 use Rattle.pages.proofs.Around.{on-swap}
-use Rattle.pages.proofs.Removing.{here, held-row, page-with, found-around, found-first}
+use Rattle.pages.proofs.Removing.{here, held-row, is-adding, page-with, found-around, found-first}
 
 committed-frozen : (j : ℕ) (q : Page) → q .frozen ≡ true → committedAt j q ≡ withTuples q (editAt keptLater j (q .tuples))
 unfolding committedAt if_then_else_
@@ -52,14 +53,14 @@ module _ {m : List ℕ} {p at : ℕ} (g : RowOn m p at) {row : Row} (er : row �
   old-row : getD (tuplesAt m p) (at - startAt m p) (heldOf noRow) ≡ heldOf row
   old-row = held-row g er ee
 
-  old-pending : getD (tuplesAt m p) (at - startAt m p) (heldOf noRow) .pending ≡ pendingOf (row .flags / 4 % 4)
-  old-pending = ap (λ (z : Held). z .pending) old-row ∙ pending-is row
+  is-removing : isRemoving (getD (tuplesAt m p) (at - startAt m p) (heldOf noRow) .pending) ≡ eqb (row .flags / 4 % 4) 3
+  is-removing = ap (λ (z : Held). isRemoving (z .pending)) old-row ∙ row-removing row
 
   kept-is : (f : ℕ) → f ≡ row .flags - row .flags % 2 → kept (getD (tuplesAt m p) (at - startAt m p) (heldOf noRow)) ≡ heldOf (withFlags row f) ∷ []
   unfolding kept heldOf
   kept-is f ef =
       ap (λ (z : Held). record { tuple = asCommitted (z .tuple); pending = z .pending } ∷ []) old-row
-      ∙ ap (λ (z : Held). z ∷ []) (sym (held-committed row f ef))
+      ∙ ap (λ (z : Held). z ∷ []) (sym (same-flags row ef ∙ committed-set row))
 
   -- on a page that is not frozen
   pub commit-now : {m' : List ℕ} (f : ℕ) → f ≡ row .flags - row .flags % 2 → e .frozen ≡ 0
@@ -91,14 +92,14 @@ module _ {m : List ℕ} {p at : ℕ} (g : RowOn m p at) {row : Row} (er : row �
         → Turns m m' (swapped p (committedAt (at - startAt m p) (pageAt m p) ∷ []) (pagesOf m))
     unfolding keptLater if_then_else_
     commit-adding f ef h t =
-        let a : isAdding (old .pending) ≡ true = ap isAdding old-pending ∙ adding-is _ h in
+        let a : isAdding (old .pending) ≡ true = is-adding g er ee ∙ eq-eqb _ 1 h in
         later (heldOf (withFlags row f)) (rw a (kept-is f ef)) t
 
     pub commit-left : row .flags / 4 % 4 ≡ 3 → Turns m m (swapped p (committedAt (at - startAt m p) (pageAt m p) ∷ []) (pagesOf m))
     unfolding keptLater if_then_else_ withTuples
     commit-left h =
-        let a : isAdding (old .pending) ≡ false = ap isAdding old-pending ∙ not-adding _ (λ z. absurd (omega arith)) in
-        let b : isRemoving (old .pending) ≡ true = ap isRemoving old-pending ∙ removing-is _ h in
+        let a : isAdding (old .pending) ≡ false = is-adding g er ee ∙ ne-eqb (row .flags / 4 % 4) 1 (λ z. absurd (omega arith)) in
+        let b : isRemoving (old .pending) ≡ true = is-removing ∙ eq-eqb _ 3 h in
         let k : keptLater old ≡ old ∷ [] = rw (a, b) refl in
         turns-to (turns-stay m (g .there .held))
         (sym (ap (λ (z : Page). swapped p (z ∷ []) (pagesOf m))
@@ -111,9 +112,9 @@ module _ {m : List ℕ} {p at : ℕ} (g : RowOn m p at) {row : Row} (er : row �
     unfolding keptLater if_then_else_ pendingOf
     commit-noted f ef n1 n3 t =
         let x : Held = heldOf (withFlags row f) in
-        let a : isAdding (old .pending) ≡ false = ap isAdding old-pending ∙ not-adding (row .flags / 4 % 4) n1 in
-        let b : isRemoving (old .pending) ≡ false = ap isRemoving old-pending ∙ not-removing (row .flags / 4 % 4) (omega arith) n3 in
-        let ex : x ≡ withPending committing old = held-pending row f 2 ef (omega arith) ∙ ap (withPending committing) (sym old-row) in
+        let a : isAdding (old .pending) ≡ false = is-adding g er ee ∙ ne-eqb _ 1 n1 in
+        let b : isRemoving (old .pending) ≡ false = is-removing ∙ ne-eqb _ 3 n3 in
+        let ex : x ≡ withPending committing old = same-flags row ef ∙ pending-set row 2 (omega arith) ∙ ap (withPending committing) (sym old-row) in
         later x (rw (a, b) (ap (λ (z : Held). z ∷ []) (sym ex))) t
 
 -- the rule

@@ -1,21 +1,20 @@
 -- One tuple of a page, found by its number, removed or changed.
 use mathlib.Core.Path.{_≡_, refl, sym, ap, _∙_}
 use mathlib.Core.Bool.{Bool, true, false}
-use Prim.Native.Nat.{ℕ, zero, suc, _+_, _-_, _/_, _%_, _≤_, _<_}
+use Prim.Native.Nat.{ℕ, zero, suc, _+_, _-_, _≤_, _<_}
 use native.Mathlib.Omega.{arith}
+use native.Mathlib.Numerals.{unary-clauses}
 use mathlib.Core.List.{List, [], _∷_, _++_}
 use lib.ListN.{length, take, drop, set, getD, length-set}
-use lib.Dec.{eqb}
-use borrow.Author.Tests.{eq-eqb, ne-eqb, eqb-false}
+use borrow.Author.Tests.{eq-eqb, ne-eqb}
 use Rattle.basics.specs.Basics.{if_then_else_, any, isEmpty}
-use Rattle.basics.proofs.Facts.{by}
+use Rattle.basics.proofs.Facts.{by, lie}
 use Rattle.model.specs.State.{removing, Held}
-use Rattle.model.specs.Rules.{isAdding, isRemoving, isNumber, edit, goneLater, takenLater, withPending}
+use Rattle.model.specs.Rules.{isAdding, isNumber, edit, goneLater, takenLater, withPending}
 use Rattle.model.proofs.Lists.{nonempty}
 use Rattle.memory.specs.Views.{tab}
 use Rattle.memory.specs.Flat.{flatOf, noRow, removeAt}
-use Rattle.memory.specs.Store.{pendingOf, heldOf, heldIn}
-use Rattle.memory.specs.declared.Row.{Row}
+use Rattle.memory.specs.Store.{heldOf, heldIn}
 use Rattle.memory.proofs.Laws.{tab-next, getD-tab}
 use Rattle.pages.specs.Turns.{tuplesAt, entryAt, startAt, At}
 use Rattle.pages.specs.Changes.{RowOn}
@@ -43,17 +42,21 @@ module _ (n : ℕ) where
   unfolding any
   any-later h hs e = rw (e, any)
 
-  pub first-any : (hs : List Held) → firstOf n hs < length hs → any (isNumber n) hs ≡ true
-  unfolding firstOf
-  first-any [] l = absurd (omega arith)
-  first-any (h ∷ hs) l =
-      by (isNumber n h) (λ e. any-here h hs e) (λ e. any-later h hs e ∙ first-any hs (omega (arith, first-later h hs e)))
-
-  pub first-none : (hs : List Held) → length hs ≤ firstOf n hs → any (isNumber n) hs ≡ false
+  -- in one list after another
+  pub first-in : (xs ys : List Held) → any (isNumber n) xs ≡ true → (firstOf n (xs ++ ys) ≡ firstOf n xs) × (firstOf n xs < length xs)
   unfolding any
-  first-none [] l = refl
-  first-none (h ∷ hs) l =
-      by (isNumber n h) (λ e. absurd (omega (arith, first-here h hs e))) (λ e. any-later h hs e ∙ first-none hs (omega (arith, first-later h hs e)))
+  first-in [] ys a = lie a
+  first-in (h ∷ hs) ys a =
+      by (isNumber n h) (λ e. let z = first-here h hs e in (first-here h (hs ++ ys) e ∙ sym z, omega arith))
+      (λ e. let r = first-in hs ys (sym (any-later h hs e) ∙ a) in
+      let z = first-later h hs e in
+      (omega (arith, first-later h (hs ++ ys) e, r .0), omega (arith, r .1)))
+
+  pub first-after : (xs ys : List Held) → any (isNumber n) xs ≡ false → firstOf n (xs ++ ys) ≡ length xs + firstOf n ys
+  first-after [] ys a = omega arith
+  first-after (h ∷ hs) ys a =
+      by (isNumber n h) (λ e. lie (sym a ∙ any-here h hs e))
+      (λ e. let r = first-after hs ys (sym (any-later h hs e) ∙ a) in omega (arith, first-later h (hs ++ ys) e))
 
   pub edit-first : (g : Held → List Held) (hs : List Held) → edit g n hs ≡ editAt g (firstOf n hs) hs
   unfolding edit editAt firstOf if_then_else_
@@ -65,6 +68,9 @@ module _ (n : ℕ) where
   taken-first hs = ap (λ (z : List Held). if isEmpty z then hs else z) (edit-first goneLater hs)
 
   -- turn by turn
+  pub find-start : (f : ℕ → Held) (e : ℕ) → firstOf n (tab f 0 e) ≡ 0 + firstOf n (tab f 0 (e - 0))
+  find-start f e = simp unary-clauses (omega arith)
+
   module _ (f : ℕ → Held) (i e : ℕ) where
     pub find-hit : i < e → f i .tuple .number ≡ n → firstOf n (tab f i (e - i)) ≡ 0
     unfolding isNumber
@@ -138,37 +144,3 @@ pub row-inside : {m : List ℕ} {p at : ℕ} → RowOn m p at → at - startAt m
 row-inside {m} {p} {at} r =
     let a : At m p (startAt m p) = record { held = r .there .held; inside = r .there .inside; begins = refl } in
     omega (arith, tuples-many a, r .least, r .most)
-
--- ---- what is pending
-
-pub pending-is : (r : Row) → heldOf r .pending ≡ pendingOf (r .flags / 4 % 4)
-unfolding heldOf
-pending-is r = refl
-
-gap : (k : ℕ) → (k ≡ 0 → ⊥) → (k ≡ 1 → ⊥) → (k ≡ 2 → ⊥) → k < 4 → (k ≡ 3 → ⊥) → ⊥
-gap zero a b c l d = a refl
-gap (suc zero) a b c l d = b refl
-gap (suc (suc zero)) a b c l d = c refl
-gap (suc (suc (suc zero))) a b c l d = d refl
-gap (suc (suc (suc (suc k)))) a b c l d = absurd (omega arith)
-
-module _ (k : ℕ) where
-  pub adding-is : k ≡ 1 → isAdding (pendingOf k) ≡ true
-  unfolding isAdding pendingOf if_then_else_
-  adding-is e = ap (λ (z : ℕ). isAdding (pendingOf z)) e
-
-  pub not-adding : (k ≡ 1 → ⊥) → isAdding (pendingOf k) ≡ false
-  unfolding isAdding pendingOf if_then_else_
-  not-adding ne =
-      by (eqb k 0) (λ e. rw e refl) (λ e0. by (eqb k 2) (λ e2. rw (e0, ne-eqb k 1 ne, e2) refl) (λ e2. rw (e0, ne-eqb k 1 ne, e2) refl))
-
-  pub removing-is : k ≡ 3 → isRemoving (pendingOf k) ≡ true
-  unfolding isRemoving pendingOf if_then_else_
-  removing-is e = ap (λ (z : ℕ). isRemoving (pendingOf z)) e
-
-  pub not-removing : k < 4 → (k ≡ 3 → ⊥) → isRemoving (pendingOf k) ≡ false
-  unfolding isRemoving pendingOf if_then_else_
-  not-removing l ne =
-      by (eqb k 0) (λ e. rw e refl)
-      (λ e0. by (eqb k 1) (λ e1. rw (e0, e1) refl)
-      (λ e1. by (eqb k 2) (λ e2. rw (e0, e1, e2) refl) (λ e2. absurd (gap k (eqb-false k 0 e0) (eqb-false k 1 e1) (eqb-false k 2 e2) l ne))))

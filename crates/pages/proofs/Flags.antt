@@ -1,98 +1,58 @@
--- A row with other flags: the tuple that it holds, and what is pending.
-use mathlib.Core.Path.{_≡_, sym, ap, _∙_}
+-- What is pending by a row's flags, and the tuple of a row with other flags.
+use mathlib.Core.Path.{_≡_, refl, ap, _∙_}
+use mathlib.Core.Bool.{not}
 use Prim.Native.Nat.{ℕ, _+_, _*_, _-_, _/_, _%_, _<_}
 use native.Mathlib.Omega.{arith}
-use native.Mathlib.Nat.{mul-mod-right}
-use lib.ListN.{take}
 use lib.Dec.{eqb}
 use Rattle.basics.specs.Basics.{if_then_else_}
-use Rattle.blocks.specs.Limits.{payloadLimit}
-use Rattle.model.specs.State.{Pending, nothing, adding}
-use Rattle.model.specs.Rules.{calm, withPending, asCommitted}
-use Rattle.memory.specs.Store.{ownerOf, pendingOf, tupleOf, heldOf, tupleBy}
+use Rattle.model.specs.State.{adding, Held}
+use Rattle.model.specs.Rules.{isAdding, isRemoving, isCommitting, isPending, calm, withPending, asCommitted}
+use Rattle.memory.specs.Store.{pendingOf, tupleOf, heldOf}
 use Rattle.memory.specs.declared.Row.{Row}
+use Rattle.memory.proofs.Flags.{four, adding-is, pending-set, committed-set}
 use Rattle.pages.specs.Thawing.{withFlags}
 
-module _ (r : Row) (f : ℕ) where
-  -- the two low bits stay
-  held-flags : (o : Pending) → f % 2 ≡ r .flags % 2 → f / 2 % 2 ≡ r .flags / 2 % 2 → pendingOf (f / 4 % 4) ≡ o
-      → heldOf (withFlags r f) ≡ record { tuple = tupleOf r; pending = o }
-  unfolding heldOf tupleOf tupleBy
-  held-flags o e1 e2 e3 i =
-      record {
-        tuple = record {
-          key = r .key;
-          number = r .number;
-          owner = ownerOf (e1 i) (r .owner);
-          mark = eqb (e2 i) 1;
-          payload = take (r .size % (payloadLimit + 1)) (r .payload);
-        };
-        pending = e3 i;
-      }
+module _ (r : Row) where
+  pub row-adding : isAdding (heldOf r .pending) ≡ eqb (r .flags / 4 % 4) 1
+  unfolding heldOf
+  row-adding = adding-is (r .flags / 4 % 4) (omega arith)
 
-  -- the lowest bit goes
-  pub held-committed : f ≡ r .flags - r .flags % 2 → heldOf (withFlags r f) ≡ record { tuple = asCommitted (tupleOf r); pending = heldOf r .pending }
-  unfolding heldOf tupleOf asCommitted ownerOf if_then_else_ tupleBy
-  held-committed e =
-      let d : f ≡ 2 * (r .flags / 2) = omega arith in
-      let e1 : f % 2 ≡ 0 = ap (λ (z : ℕ). z % 2) d ∙ mul-mod-right 2 (r .flags / 2) in
-      let h : f / 2 ≡ r .flags / 2 = omega arith in
-      let e2 : f / 2 % 2 ≡ r .flags / 2 % 2 = ap (λ (z : ℕ). z % 2) h in
-      let q1 : f / 4 ≡ f / 2 / 2 = omega arith in
-      let q2 : r .flags / 4 ≡ r .flags / 2 / 2 = omega arith in
-      let q : f / 4 ≡ r .flags / 4 = q1 ∙ ap (λ (z : ℕ). z / 2) h ∙ sym q2 in
-      let e3 : f / 4 % 4 ≡ r .flags / 4 % 4 = ap (λ (z : ℕ). z % 4) q in
-      λ i. record {
-        tuple = record {
-          key = r .key;
-          number = r .number;
-          owner = ownerOf (e1 i) (r .owner);
-          mark = eqb (e2 i) 1;
-          payload = take (r .size % (payloadLimit + 1)) (r .payload);
-        };
-        pending = pendingOf (e3 i);
-      }
+  pub row-committing : isCommitting (heldOf r .pending) ≡ eqb (r .flags / 4 % 4) 2
+  unfolding heldOf isCommitting pendingOf if_then_else_
+  row-committing = four (λ k. isCommitting (pendingOf k) ≡ eqb k 2) refl refl refl refl (r .flags / 4 % 4) (omega arith)
 
-  pub held-adding : r .flags < 4 → f ≡ r .flags + 4 → heldOf (withFlags r f) ≡ record { tuple = tupleOf r; pending = adding }
-  unfolding pendingOf if_then_else_
-  held-adding h e = let z : f / 4 % 4 ≡ 1 = omega arith in held-flags adding (omega arith) (omega arith) (ap pendingOf z)
+  pub row-removing : isRemoving (heldOf r .pending) ≡ eqb (r .flags / 4 % 4) 3
+  unfolding heldOf isRemoving pendingOf if_then_else_
+  row-removing = four (λ k. isRemoving (pendingOf k) ≡ eqb k 3) refl refl refl refl (r .flags / 4 % 4) (omega arith)
 
-  pub held-pending : (k : ℕ) → f ≡ r .flags % 4 + 4 * k → k < 4 → heldOf (withFlags r f) ≡ withPending (pendingOf k) (heldOf r)
-  unfolding withPending heldOf
-  held-pending k e h = let z : f / 4 % 4 ≡ k = omega arith in held-flags (pendingOf k) (omega arith) (omega arith) (ap pendingOf z)
+  pub row-pending : isPending (heldOf r .pending) ≡ not (eqb (r .flags / 4 % 4) 0)
+  unfolding heldOf isPending pendingOf if_then_else_
+  row-pending = four (λ k. isPending (pendingOf k) ≡ not (eqb k 0)) refl refl refl refl (r .flags / 4 % 4) (omega arith)
 
-pub held-calm : (r : Row) → r .flags < 4 → heldOf r ≡ calm (tupleOf r)
-unfolding heldOf calm pendingOf if_then_else_
-held-calm r h =
-    let z : r .flags / 4 % 4 ≡ 0 = omega arith in
-    ap (λ (k : ℕ). record { tuple = tupleOf r; pending = pendingOf k }) z
+  pub held-calm : r .flags / 4 % 4 ≡ 0 → heldOf r ≡ calm (tupleOf r)
+  unfolding heldOf calm pendingOf if_then_else_
+  held-calm e = ap (λ (k : ℕ). record { tuple = tupleOf r; pending = pendingOf k }) e
 
--- ---- a row whose pending operation takes hold
+  -- ---- with other flags
 
-module _ (r : Row) (f : ℕ) where
-  -- nothing is pending any more, and the tuple stays
-  pub held-done : f ≡ r .flags % 4 → heldOf (withFlags r f) ≡ calm (tupleOf r)
-  unfolding pendingOf if_then_else_ calm
-  held-done e = let z : f / 4 % 4 ≡ 0 = omega arith in held-flags r f nothing (omega arith) (omega arith) (ap pendingOf z)
+  pub same-flags : {f g : ℕ} → f ≡ g → heldOf (withFlags r f) ≡ heldOf (withFlags r g)
+  same-flags e = ap (λ (z : ℕ). heldOf (withFlags r z)) e
 
-  -- the tuple is committed
-  pub held-kept : f ≡ r .flags % 4 - r .flags % 2 → heldOf (withFlags r f) ≡ calm (asCommitted (tupleOf r))
-  unfolding heldOf tupleOf asCommitted ownerOf if_then_else_ calm pendingOf tupleBy
-  held-kept e =
-      let d : f ≡ 2 * (r .flags / 2 % 2) = omega arith in
-      let e1 : f % 2 ≡ 0 = ap (λ (z : ℕ). z % 2) d ∙ mul-mod-right 2 (r .flags / 2 % 2) in
-      let h : f / 2 ≡ r .flags / 2 % 2 = omega arith in
-      let w : r .flags / 2 % 2 % 2 ≡ r .flags / 2 % 2 = omega arith in
-      let e2 : f / 2 % 2 ≡ r .flags / 2 % 2 = ap (λ (z : ℕ). z % 2) h ∙ w in
-      let q : f / 4 ≡ 0 = omega arith in
-      let e3 : f / 4 % 4 ≡ 0 = ap (λ (z : ℕ). z % 4) q in
-      λ i. record {
-        tuple = record {
-          key = r .key;
-          number = r .number;
-          owner = ownerOf (e1 i) (r .owner);
-          mark = eqb (e2 i) 1;
-          payload = take (r .size % (payloadLimit + 1)) (r .payload);
-        };
-        pending = pendingOf (e3 i);
-      }
+  module _ (f : ℕ) where
+    pub held-adding : r .flags < 4 → f ≡ r .flags + 4 → heldOf (withFlags r f) ≡ record { tuple = tupleOf r; pending = adding }
+    unfolding heldOf withPending pendingOf if_then_else_
+    held-adding h e = let q : f ≡ r .flags % 4 + 4 * 1 = omega arith in same-flags q ∙ pending-set r 1 (omega arith)
+
+    -- nothing is pending any more, and the tuple stays
+    pub held-done : f ≡ r .flags % 4 → heldOf (withFlags r f) ≡ calm (tupleOf r)
+    unfolding heldOf withPending pendingOf if_then_else_ calm
+    held-done e = let q : f ≡ r .flags % 4 + 4 * 0 = omega arith in same-flags q ∙ pending-set r 0 (omega arith)
+
+    -- the tuple is committed
+    pub held-kept : f ≡ r .flags % 4 - r .flags % 2 → heldOf (withFlags r f) ≡ calm (asCommitted (tupleOf r))
+    unfolding heldOf withPending pendingOf if_then_else_ calm
+    held-kept e =
+        let g : ℕ = r .flags % 4 + 4 * 0 in
+        let q : f ≡ g - g % 2 = omega arith in
+        same-flags q ∙ committed-set (withFlags r g)
+        ∙ ap (λ (h : Held). record { tuple = asCommitted (h .tuple); pending = h .pending }) (pending-set r 0 (omega arith))

@@ -5,27 +5,33 @@ use mathlib.Core.Option.{Option, none}
 use Prim.Native.Nat.{ℕ, zero, suc, _+_, _-_, _/_, _%_, _≤_, _<_}
 use native.Mathlib.Omega.{arith}
 use native.Mathlib.Numerals.{add-one}
-use mathlib.Core.List.{List, [], _∷_}
+use mathlib.Core.List.{List, [], _∷_, _++_}
 use lib.ListN.{length, take, set, getD}
 use lib.Seq.{take-all}
-use Rattle.basics.specs.Basics.{if_then_else_}
+use lib.Dec.{eqb}
+use borrow.Author.Tests.{eq-eqb, ne-eqb}
+use Rattle.basics.specs.Basics.{if_then_else_, any}
+use Rattle.basics.proofs.Facts.{by}
 use Rattle.model.specs.State.{removing, Held, Page}
-use Rattle.model.specs.Rules.{isAdding, hasNumber, edit, gone, takenLater, withPending, withTuples, fresh, listOf, settle, removeOn, remove, around}
-use Rattle.memory.specs.Flat.{flatOf, rowIn, noRow, removeAt}
+use Rattle.model.specs.Rules.{isAdding, isNumber, hasNumber, edit, gone, takenLater, withPending, withTuples, fresh, listOf, settle, removeOn, remove, around}
+use Rattle.memory.specs.Flat.{flatOf, rowIn, noRow, removeAt, countsOf}
 use Rattle.memory.specs.Store.{pendingOf, heldOf, heldIn, pageOf, pageIn, startOf}
 use Rattle.memory.specs.declared.Row.{Row}
+use Rattle.memory.specs.declared.Counts.{Counts}
 use Rattle.memory.specs.declared.Entry.{Entry}
 use Rattle.pages.specs.Turns.{Turns, pagesOf, pageAt, tuplesAt, entryAt, startAt, At, swapped, onPage}
 use Rattle.pages.specs.Changes.{RowOn, Tries, settledAt}
 use Rattle.pages.specs.Finding.{firstOf, editAt, takenAt, lessOne, settledBy, NoneOf, FirstPage, FoundRow, FoundBy}
 use Rattle.memory.specs.Views.{tab}
 use Rattle.memory.proofs.Runs.{start-zero, pages-count}
-use Rattle.pages.proofs.Places.{there-at, same-count, same-table, turns-to, turns-stay, turns-then, swap-same, from-page, at-first, page-first, has-row, start-on, tuples-many}
+use Rattle.memory.proofs.Flags.{pending-set}
+use Rattle.memory.proofs.Laws.{tab-add}
+use Rattle.pages.proofs.Places.{there-at, same-count, same-table, turns-to, turns-stay, turns-then, swap-same, from-page, at-first, page-first, has-row, run-in, start-on, tuples-many}
 use Rattle.pages.proofs.Swaps.{fresh-page, length-remove}
 use Rattle.pages.proofs.Splitting.{run-tuples, with-tuples}
 use Rattle.pages.specs.Thawing.{withFlags}
-use Rattle.pages.proofs.Flags.{held-pending}
-use Rattle.pages.proofs.Edits.{first-any, first-none, edit-none, edit-first, taken-first, taken-last, taken-away, taken-noted, held-at, row-inside, pending-is, adding-is, not-adding}
+use Rattle.pages.proofs.Flags.{row-adding, same-flags}
+use Rattle.pages.proofs.Edits.{first-in, first-after, find-start, edit-none, edit-first, taken-first, taken-last, taken-away, taken-noted, held-at, row-inside}
 use Rattle.pages.specs.declared.Found.{Found}
 use Rattle.pages.specs.declared.Found.the-variants.{Here, Nowhere}
 use Rattle.pages.proofs.Around.{on-swap, on-same, around-on, around-none, none-snoc}
@@ -53,11 +59,8 @@ module _ {m : List ℕ} {p at : ℕ} (g : RowOn m p at) where
     pub held-row : getD (tuplesAt m p) (at - startAt m p) (heldOf noRow) ≡ heldOf row
     held-row = held-at g ∙ ap heldOf (sym er)
 
-    row-adding : row .flags / 4 % 4 ≡ 1 → isAdding (getD (tuplesAt m p) (at - startAt m p) (heldOf noRow) .pending) ≡ true
-    row-adding h = ap (λ (z : Held). isAdding (z .pending)) held-row ∙ ap isAdding (pending-is row) ∙ adding-is _ h
-
-    row-other : (row .flags / 4 % 4 ≡ 1 → ⊥) → isAdding (getD (tuplesAt m p) (at - startAt m p) (heldOf noRow) .pending) ≡ false
-    row-other h = ap (λ (z : Held). isAdding (z .pending)) held-row ∙ ap isAdding (pending-is row) ∙ not-adding _ h
+    pub is-adding : isAdding (getD (tuplesAt m p) (at - startAt m p) (heldOf noRow) .pending) ≡ eqb (row .flags / 4 % 4) 1
+    is-adding = ap (λ (z : Held). isAdding (z .pending)) held-row ∙ row-adding row
 
     same-tuples : withTuples (pageAt m p) (tuplesAt m p) ≡ pageAt m p
     unfolding withTuples
@@ -68,7 +71,7 @@ module _ {m : List ℕ} {p at : ℕ} (g : RowOn m p at) where
     later-last h l =
         let k : length (tuplesAt m p) ≡ 1 = many-is ∙ sym (same-count ee) ∙ l in
         turns-to (turns-stay m (g .there .held))
-        (sym (ap (λ (z : List Held). swapped p (withTuples (pageAt m p) z ∷ []) (pagesOf m)) (taken-last (at - startAt m p) (tuplesAt m p) (heldOf noRow) (row-inside g) (row-adding h) k)
+        (sym (ap (λ (z : List Held). swapped p (withTuples (pageAt m p) z ∷ []) (pagesOf m)) (taken-last (at - startAt m p) (tuplesAt m p) (heldOf noRow) (row-inside g) (is-adding ∙ eq-eqb _ 1 h) k)
         ∙ ap (λ (z : Page). swapped p (z ∷ []) (pagesOf m)) same-tuples ∙ swap-same (here g)))
 
     pub later-away : {m' : List ℕ} (n : ℕ) → row .flags / 4 % 4 ≡ 1 → (e .count ≡ 1 → ⊥)
@@ -79,7 +82,7 @@ module _ {m : List ℕ} {p at : ℕ} (g : RowOn m p at) where
         turns-to t (ap (λ (z : Page). swapped p (z ∷ []) (pagesOf m))
         (ap (λ (x : Entry). pageOf (record { table = x .table; frozen = x .frozen; count = n; block = x .block }) (removeAt (at - startAt m p) (tuplesAt m p))) ee
         ∙ with-tuples m p n (removeAt (at - startAt m p) (tuplesAt m p))
-        ∙ ap (withTuples (pageAt m p)) (sym (taken-away (at - startAt m p) (tuplesAt m p) (heldOf noRow) (row-inside g) (row-adding h) k))))
+        ∙ ap (withTuples (pageAt m p)) (sym (taken-away (at - startAt m p) (tuplesAt m p) (heldOf noRow) (row-inside g) (is-adding ∙ eq-eqb _ 1 h) k))))
 
     pub later-noted : {m' : List ℕ} (f : ℕ) → f ≡ row .flags % 4 + 12 → (row .flags / 4 % 4 ≡ 1 → ⊥)
         → Turns m m' (swapped p (pageOf e (set (tuplesAt m p) (at - startAt m p) (heldOf (withFlags row f))) ∷ []) (pagesOf m))
@@ -88,11 +91,11 @@ module _ {m : List ℕ} {p at : ℕ} (g : RowOn m p at) where
     later-noted f ef h t =
         let x : Held = heldOf (withFlags row f) in
         let ex : x ≡ withPending removing (getD (tuplesAt m p) (at - startAt m p) (heldOf noRow)) =
-        held-pending row f 3 ef (omega arith) ∙ ap (withPending removing) (sym held-row) in
+        same-flags row ef ∙ pending-set row 3 (omega arith) ∙ ap (withPending removing) (sym held-row) in
         turns-to t (ap (λ (z : Page). swapped p (z ∷ []) (pagesOf m))
         (ap (λ (y : Entry). pageOf y (set (tuplesAt m p) (at - startAt m p) x)) ee
         ∙ page-with m p (set (tuplesAt m p) (at - startAt m p) x)
-        ∙ ap (withTuples (pageAt m p)) (sym (taken-noted (at - startAt m p) (tuplesAt m p) (heldOf noRow) (row-inside g) x (row-other h) ex))))
+        ∙ ap (withTuples (pageAt m p)) (sym (taken-noted (at - startAt m p) (tuplesAt m p) (heldOf noRow) (row-inside g) x (is-adding ∙ ne-eqb _ 1 h) ex))))
 
   -- ---- on another page
 
@@ -164,9 +167,6 @@ nowhere-around m n f h = sym (around-none f (hasNumber n) (pagesOf m) h none)
 abbrev pub PassInv : List ℕ → (Page → Bool) → ℕ → ℕ → Type 0
 PassInv m hit p start = (p ≤ length (flatOf m .entries)) × ((start ≡ startOf (flatOf m) p) × NoneOf hit (take p (pagesOf m)))
 
-pub pass-start : (m : List ℕ) (hit : Page → Bool) → PassInv m hit 0 0
-pass-start m hit = (omega arith, (sym (start-zero (flatOf m)), tt))
-
 pub pass-end : (m : List ℕ) (hit : Page → Bool) (p start : ℕ) → PassInv m hit p start → length (flatOf m .entries) ≤ p → NoneOf hit (pagesOf m)
 pass-end m hit p start inv l = subst (NoneOf hit) (take-all p (pagesOf m) (omega (arith, pages-count (flatOf m)))) (inv .1 .1)
 
@@ -183,29 +183,43 @@ module _ {m : List ℕ} {p start : ℕ} (a : At m p start) (hit : Page → Bool)
   pub pass-first : hit (pageAt m p) ≡ true → FirstPage m hit p start
   pass-first hits = record { on = a; passed = inv .1 .1; hits = hits }
 
--- what the search on a page for a number found
-module _ {m : List ℕ} {p start : ℕ} (a : At m p start) (n : ℕ) (inv : PassInv m (hasNumber n) p start) {e : Entry} (ee : e ≡ entryAt m p) {at : ℕ}
-    (ea : at ≡ start + firstOf n (tab (heldIn (flatOf m)) start (start + e .count - start))) where
-  number-is : firstOf n (tuplesAt m p) ≡ at - start
-  number-is =
-      let el : start + e .count - start ≡ entryAt m p .count = omega (arith, same-count ee) in
-      let q : firstOf n (tab (heldIn (flatOf m)) start (start + e .count - start)) ≡ firstOf n (tuplesAt m p) = ap (firstOf n) (run-tuples a (start + e .count - start) el) in
-      omega arith
+-- row `at` is the first of number n, and is not on the pages passed
+abbrev pub RowInv : List ℕ → ℕ → ℕ → ℕ → ℕ → Type 0
+RowInv m n at p start = (at ≡ start + firstOf n (tab (heldIn (flatOf m)) start (length (flatOf m .rows) - start))) × PassInv m (hasNumber n) p start
+
+pub row-start : (m : List ℕ) (n : ℕ) {c : Counts} → c ≡ countsOf (flatOf m) → {at : ℕ} → at ≡ firstOf n (tab (heldIn (flatOf m)) 0 (c .rows)) → RowInv m n at 0 0
+row-start m n ec ea = (
+  ea ∙ ap (λ (x : Counts). firstOf n (tab (heldIn (flatOf m)) 0 (x .rows))) ec ∙ find-start n (heldIn (flatOf m)) (length (flatOf m .rows)),
+  (omega arith, (sym (start-zero (flatOf m)), tt)),
+)
+
+module _ {m : List ℕ} {p start : ℕ} (a : At m p start) (n : ℕ) {at : ℕ} (inv : RowInv m n at p start) {e : Entry} (ee : e ≡ entryAt m p) where
+  abbrev later : List Held
+  later = tab (heldIn (flatOf m)) (start + e .count) (length (flatOf m .rows) - (start + e .count))
+
+  first-is : at ≡ start + firstOf n (tuplesAt m p ++ later)
+  first-is =
+      let z : length (flatOf m .rows) - start ≡ e .count + (length (flatOf m .rows) - (start + e .count)) = omega (arith, run-in a ee .1) in
+      inv .0 ∙ ap (λ (hs : List Held). start + firstOf n hs)
+      (ap (tab (heldIn (flatOf m)) start) z ∙ tab-add (heldIn (flatOf m)) start (e .count) _ ∙ ap (λ (hs : List Held). hs ++ later) (run-tuples a (e .count) (same-count ee)))
+
+  many : length (tuplesAt m p) ≡ e .count
+  many = tuples-many a ∙ sym (same-count ee)
 
   pub row-found : at < start + e .count → FoundRow m n p start at
   unfolding hasNumber
   row-found l =
-      let ec = same-count ee in
-      record {
-        page = pass-first a (hasNumber n) inv (first-any n (tuplesAt m p) (omega (arith, number-is, tuples-many a)));
-        least = omega arith;
-        most = omega arith;
-        first = number-is;
-      }
+      by (any (isNumber n) (tuplesAt m p))
+      (λ y. let q : at ≡ start + firstOf n (tuplesAt m p) = first-is ∙ ap (λ (z : ℕ). start + z) (first-in n (tuplesAt m p) later y .0) in
+      record { page = pass-first a (hasNumber n) (inv .1) y; least = omega arith; most = omega (arith, same-count ee); first = omega arith })
+      (λ y. absurd (omega (arith, first-is, first-after n (tuplesAt m p) later y, many)))
 
-  pub row-passed : start + e .count ≤ at → PassInv m (hasNumber n) (p + 1) (start + e .count)
+  pub row-passed : start + e .count ≤ at → RowInv m n at (p + 1) (start + e .count)
   unfolding hasNumber
-  row-passed l = pass-on a (hasNumber n) inv ee (first-none n (tuplesAt m p) (omega (arith, number-is, tuples-many a, same-count ee)))
+  row-passed l =
+      by (any (isNumber n) (tuplesAt m p))
+      (λ y. let q = first-in n (tuplesAt m p) later y in absurd (omega (arith, first-is, q .0, q .1, many)))
+      (λ y. (omega (arith, first-is, first-after n (tuplesAt m p) later y, many), pass-on a (hasNumber n) (inv .1) ee y))
 
 -- where the search led
 module _ (m : List ℕ) (n : ℕ) (r : Found) (o : FoundBy m n r) where

@@ -1,6 +1,6 @@
 -- Pending operations take hold: rows, turn by turn, and the page that they leave.
 use mathlib.Core.Path.{_≡_, refl, sym, ap, _∙_, subst}
-use mathlib.Core.Bool.{Bool, true, false}
+use mathlib.Core.Bool.{Bool, true, false, not}
 use Prim.Native.Nat.{ℕ, suc, _+_, _-_, _/_, _%_, _≤_, _<_}
 use native.Mathlib.Omega.{arith}
 use native.Mathlib.Numerals.{add-one}
@@ -13,10 +13,10 @@ use Rattle.basics.specs.Basics.{if_then_else_, any, sum}
 use Rattle.basics.proofs.Facts.{by}
 use Rattle.basics.proofs.Lists.{map-append}
 use Rattle.model.specs.State.{Held, Page}
-use Rattle.model.specs.Rules.{isPending, isRemoving, isCommitting, ripe, ripened, calm, asCommitted, fresh}
+use Rattle.model.specs.Rules.{isPending, isRemoving, ripe, ripened, calm, asCommitted, fresh}
 use Rattle.memory.specs.Views.{tab}
 use Rattle.memory.specs.Flat.{Flat, flatOf, rowIn, entryIn, noRow, Room, Becomes, withRows, withEntries, removeAt}
-use Rattle.memory.specs.Store.{pendingOf, heldOf, heldIn, tupleOf, pageOf, total, nest}
+use Rattle.memory.specs.Store.{heldOf, heldIn, tupleOf, pageOf, total, nest}
 use Rattle.memory.specs.declared.Row.{Row}
 use Rattle.memory.specs.declared.Entry.{Entry}
 use Rattle.memory.proofs.Laws.{tab-next}
@@ -26,29 +26,7 @@ use Rattle.pages.specs.Turns.{tuplesAt, entryAt, At}
 use Rattle.pages.proofs.Places.{pos-of, same-count, same-table}
 use Rattle.pages.specs.Thawing.{withFlags, ripeFlags, ripeOne, ripeRows, ripeTuples, ripeRun, RipensOne, Ripens, TakesHold}
 use Rattle.pages.proofs.Swaps.{turned-one, run-held, run-long, nest-one, fresh-page}
-use Rattle.pages.proofs.Flags.{held-done, held-kept}
-use Rattle.pages.proofs.Edits.{pending-is, removing-is, not-removing}
-
--- ---- what is pending
-
-module _ (k : ℕ) where
-  pub pending-none : k ≡ 0 → isPending (pendingOf k) ≡ false
-  unfolding isPending pendingOf if_then_else_
-  pending-none e = ap (λ (z : ℕ). isPending (pendingOf z)) e
-
-  pub pending-some : (k ≡ 0 → ⊥) → isPending (pendingOf k) ≡ true
-  unfolding isPending pendingOf if_then_else_
-  pending-some ne =
-      by (eqb k 1) (λ e1. rw (ne-eqb k 0 ne, e1) refl) (λ e1. by (eqb k 2) (λ e2. rw (ne-eqb k 0 ne, e1, e2) refl) (λ e2. rw (ne-eqb k 0 ne, e1, e2) refl))
-
-  committing-is : k ≡ 2 → isCommitting (pendingOf k) ≡ true
-  unfolding isCommitting pendingOf if_then_else_
-  committing-is e = ap (λ (z : ℕ). isCommitting (pendingOf z)) e
-
-  not-committing : (k ≡ 2 → ⊥) → isCommitting (pendingOf k) ≡ false
-  unfolding isCommitting pendingOf if_then_else_
-  not-committing ne =
-      by (eqb k 0) (λ e0. rw e0 refl) (λ e0. by (eqb k 1) (λ e1. rw (e0, e1) refl) (λ e1. rw (e0, e1, ne-eqb k 2 ne) refl))
+use Rattle.pages.proofs.Flags.{row-committing, row-removing, row-pending, held-calm, held-done, held-kept}
 
 -- the test of a run, turn by turn
 abbrev pub waits : Held → Bool
@@ -67,16 +45,13 @@ module _ (f : ℕ → Held) (i e : ℕ) where
   unfolding any
   any-end h = let z : e - i ≡ 0 = omega arith in ap (λ (k : ℕ). any waits (tab f i k)) z
 
-pub waits-is : (f : Flat) (i : ℕ) → waits (heldIn f i) ≡ isPending (pendingOf (rowIn f i .flags / 4 % 4))
-waits-is f i = ap isPending (pending-is (rowIn f i))
-
 -- by the flags that were read
 module _ (f : Flat) (i : ℕ) {k : ℕ} (ek : k ≡ rowIn f i .flags) where
   pub waits-some : (k / 4 % 4 ≡ 0 → ⊥) → waits (heldIn f i) ≡ true
-  waits-some h = waits-is f i ∙ pending-some _ (λ z. h (ap (λ (x : ℕ). x / 4 % 4) ek ∙ z))
+  waits-some h = row-pending (rowIn f i) ∙ ap not (ne-eqb _ 0 (λ z. h (ap (λ (x : ℕ). x / 4 % 4) ek ∙ z)))
 
   pub waits-none : k / 4 % 4 ≡ 0 → waits (heldIn f i) ≡ false
-  waits-none h = waits-is f i ∙ pending-none _ (ap (λ (x : ℕ). x / 4 % 4) (sym ek) ∙ h)
+  waits-none h = row-pending (rowIn f i) ∙ ap not (eq-eqb _ 0 (ap (λ (x : ℕ). x / 4 % 4) (sym ek) ∙ h))
 
 -- ---- one row
 
@@ -104,21 +79,17 @@ module _ (r : Row) where
 
   ripe-kept : r .flags / 4 % 4 ≡ 2 → ripe (heldOf r) ≡ asCommitted (tupleOf r)
   unfolding ripe heldOf if_then_else_
-  ripe-kept e = ap (λ (b : Bool). if b then asCommitted (tupleOf r) else tupleOf r) (committing-is (r .flags / 4 % 4) e)
+  ripe-kept e = ap (λ (b : Bool). if b then asCommitted (tupleOf r) else tupleOf r) (row-committing r ∙ eq-eqb _ 2 e)
 
   ripe-same : (r .flags / 4 % 4 ≡ 2 → ⊥) → ripe (heldOf r) ≡ tupleOf r
   unfolding ripe heldOf if_then_else_
-  ripe-same e = ap (λ (b : Bool). if b then asCommitted (tupleOf r) else tupleOf r) (not-committing (r .flags / 4 % 4) e)
-
-  still : r .flags / 4 % 4 ≡ 0 → heldOf r ≡ calm (tupleOf r)
-  unfolding heldOf calm pendingOf if_then_else_
-  still e = ap (λ (z : ℕ). record { tuple = tupleOf r; pending = pendingOf z }) e
+  ripe-same e = ap (λ (b : Bool). if b then asCommitted (tupleOf r) else tupleOf r) (row-committing r ∙ ne-eqb _ 2 e)
 
   one-held : (r .flags / 4 % 4 ≡ 3 → ⊥) → map heldOf (ripeOne r) ≡ calm (ripe (heldOf r)) ∷ []
   one-held ne =
       by (eqb (r .flags / 4 % 4) 0)
       (λ e. let z = eqb-true (r .flags / 4 % 4) 0 e in
-      ap (map heldOf) (one-same ne z) ∙ ap (λ (h : Held). h ∷ []) (still z ∙ ap calm (sym (ripe-same (λ q. absurd (omega arith))))))
+      ap (map heldOf) (one-same ne z) ∙ ap (λ (h : Held). h ∷ []) (held-calm r z ∙ ap calm (sym (ripe-same (λ q. absurd (omega arith))))))
       (λ e. let n0 = eqb-false (r .flags / 4 % 4) 0 e in
       ap (map heldOf) (one-done ne n0)
       ∙ by (eqb (r .flags / 4 % 4) 2)
@@ -143,12 +114,12 @@ ripe-held (r ∷ rs) =
     by (eqb (r .flags / 4 % 4) 3)
     (λ e. let z = eqb-true (r .flags / 4 % 4) 3 e in
     ap (λ (x : List Row). map heldOf (x ++ ripeRows rs)) (one-gone r z) ∙ ripe-held rs
-    ∙ ap (map calm) (sym (ripened-gone (heldOf r) (map heldOf rs) (ap isRemoving (pending-is r) ∙ removing-is _ z))))
+    ∙ ap (map calm) (sym (ripened-gone (heldOf r) (map heldOf rs) (row-removing r ∙ e))))
     (λ e. let z = eqb-false (r .flags / 4 % 4) 3 e in
     map-append heldOf (ripeOne r) (ripeRows rs)
     ∙ ap (λ (x : List Held). x ++ map heldOf (ripeRows rs)) (one-held r z)
     ∙ ap (λ (x : List Held). calm (ripe (heldOf r)) ∷ x) (ripe-held rs)
-    ∙ ap (map calm) (sym (ripened-stays (heldOf r) (map heldOf rs) (ap isRemoving (pending-is r) ∙ not-removing (r .flags / 4 % 4) (omega arith) z))))
+    ∙ ap (map calm) (sym (ripened-stays (heldOf r) (map heldOf rs) (row-removing r ∙ e))))
 
 ripe-append : (xs ys : List Row) → ripeRows (xs ++ ys) ≡ ripeRows xs ++ ripeRows ys
 unfolding ripeRows

@@ -167,7 +167,7 @@ module _ {m : List ℕ} {p start at : ℕ} (g : GrowAt m p start at) where
           turns-to t (ap (λ (z : Page). swapped p (z ∷ []) (pagesOf m))
           (fresh-page (e .table) n (insertAt (at - startAt m p) (heldOf row) (tuplesAt m p))
           ∙ ap (λ (z : ℕ). fresh z (insertAt (at - startAt m p) (heldOf row) (tuplesAt m p))) (same-table m p ee)
-          ∙ ap (λ (z : Held). fresh (pageAt m p .table) (insertAt (at - startAt m p) z (tuplesAt m p))) (held-calm row plain)
+          ∙ ap (λ (z : Held). fresh (pageAt m p .table) (insertAt (at - startAt m p) z (tuplesAt m p))) (held-calm row (omega arith))
           ∙ ap (λ (z : ℕ). fresh (pageAt m p .table) (insertAt z (calm (tupleOf row)) (tuplesAt m p))) place-is))
 
       pub grew-at : At m1 p start

@@ -288,7 +288,7 @@ module _ {m : List ℕ} {p at : ℕ} (g : AddAt m p at) (row : Row) {m1 : List �
       let et : t % 8 ≡ t = omega arith in
       turns-to (added m m1 m2 (g .held) p at row (record { table = t; frozen = 0; count = 1; block = 0 }) (g .begins) refl b1 b2)
       (ap (λ (z : Page). take p (pagesOf m) ++ z ∷ drop p (pagesOf m))
-      (fresh-page t 1 (heldOf row ∷ []) ∙ ap (λ (z : ℕ). fresh z (heldOf row ∷ [])) et ∙ ap (λ (z : Held). fresh t (z ∷ [])) (held-calm row plain)))
+      (fresh-page t 1 (heldOf row ∷ []) ∙ ap (λ (z : ℕ). fresh z (heldOf row ∷ [])) et ∙ ap (λ (z : Held). fresh t (z ∷ [])) (held-calm row (omega arith))))
 
 -- ---- a page cut after k rows, two pages made one
 

@@ -402,35 +402,35 @@ fn join(m: &mut [u8], p: usize, start: usize) -> bool
 
 // ---- a tuple by its number
 
-// The first row from start to end with this number; end, if there is none.
-fn find_number(m: &[u8], start: usize, end: usize, number: u32) -> usize
-    requires { ⌜ Room (now m) × ((start ≤ end) × (end ≤ length (flatOf (now m) .rows))) ⌝ }
-    ensures { λ r. ⌜ r ≡ start + firstOf number (tab (heldIn (flatOf (now (m .entry)))) start (end - start)) ⌝ }
+// The first of n rows with this number; n, if there is none.
+fn find_number(m: &[u8], n: usize, number: u32) -> usize
+    requires { ⌜ Room (now m) × (n ≤ length (flatOf (now m) .rows)) ⌝ }
+    ensures { λ r. ⌜ r ≡ firstOf number (tab (heldIn (flatOf (now (m .entry)))) 0 n) ⌝ }
 {
-    let mut i = start;
-    while i < end {
-        let n = memory::number_at(m, i);
-        if n == number {
+    let mut i: usize = 0;
+    while i < n {
+        let k = memory::number_at(m, i);
+        if k == number {
             return i;
         }
         i += 1;
     }
-    end
+    n
 }
 
-// The first row with this number, and its page.
+// The first row with this number, and its page: all rows in one loop, then the pages.
 fn find_row(m: &[u8], number: u32) -> Found
     requires { ⌜ holdsStore (now m) ≡ true ⌝ }
     ensures { λ r. ⌜ FoundBy (now (m .entry)) number r ⌝ }
 {
     let c = memory::get_counts(m);
     let n = c.pages as usize;
+    let at = find_number(m, c.rows as usize, number);
     let mut start: usize = 0;
     let mut p: usize = 0;
     while p < n {
         let e = memory::get_entry(m, p);
         let end = start + e.count as usize;
-        let at = find_number(m, start, end, number);
         if at < end {
             return Found::Here {
                 page: p,

@@ -4,7 +4,7 @@ use mathlib.Core.List.{List, [], _∷_, _++_, map, append-assoc}
 use Prim.Native.Nat.{ℕ, suc, _+_, _*_, _/_, _%_, _≤_, _<_}
 use native.Mathlib.Omega.{arith}
 use native.Mathlib.Numerals.{add-one}
-use lib.ListN.{length, take, drop, getD, set, length-map, length-append, length-drop}
+use lib.ListN.{length, take, drop, getD, set, length-map, length-append}
 use lib.Seq.{take-suc, drop-cons, set-at, length-take-le}
 use borrow.Author.Tests.{lt-ltb, le-ltb}
 use Rattle.basics.proofs.Lists.{map-append}
@@ -72,11 +72,6 @@ module _ (ws p : List ℕ) (i : ℕ) (h : i < length ws) (fits : 2 * length ws �
       ∙ ap (λ (z : List ℕ). z ++ drop (2 * (i + 1)) p)
       (sym (listed-last (take i ws) w) ∙ ap (λ (z : ℕ). listed (take i ws ++ z ∷ [])) ew
       ∙ ap listed (sym (take-suc ws i 0 h) ∙ ap (λ (z : ℕ). take z ws) (sym (add-one i))))
-
-  pub list-length : (q : List ℕ) → q ≡ listed (take i ws) ++ drop (2 * i) p → length q ≡ length p
-  list-length q e =
-      ap length e ∙ length-append (listed (take i ws)) (drop (2 * i) p)
-      ∙ omega (arith, length-listed (take i ws), length-take-le i ws (omega arith), length-drop (2 * i) p)
 
 -- ---- the call
 

@@ -12,7 +12,7 @@ use Rattle.basics.proofs.Lists.{map-append}
 use Rattle.model.specs.State.{Active, Store}
 use Rattle.model.specs.Transactions.{gives, openNumbers, openCall, changed}
 use Rattle.memory.specs.Flat.{Flat, withOpens}
-use Rattle.memory.specs.Store.{activeOf, storeOf, pagesIn}
+use Rattle.memory.specs.Store.{activeOf, storeOf}
 use Rattle.look.specs.Opens.{findOpen}
 use Rattle.look.proofs.Places.{found-open, not-found-open}
 use Rattle.transactions.proofs.Verdicts.{refused-here, passed-on, unless-none}

@@ -9,11 +9,10 @@ use Rattle.basics.specs.Basics.{if_then_else_, keep}
 use Rattle.blocks.specs.Limits.{payloadLimit}
 use Rattle.image.specs.Stages.{Stage, refuses, holds}
 use Rattle.rows.specs.Rows.{isOwn}
-use Rattle.model.specs.State.{done, Page, Store, Outcome}
+use Rattle.model.specs.State.{Page, Store, Outcome}
 use Rattle.model.specs.Sight.{rows}
-use Rattle.model.specs.Transactions.{Test, _when_, Op, gives, unless, notOpen, noTable, foreign, present, unseen, full, plan, removeAll, commitCall, abortCall}
+use Rattle.model.specs.Transactions.{Test, _when_, Op, unless, notOpen, noTable, foreign, present, unseen, full, written, insertCall, replaceCall, plan, removeAll, commitCall, abortCall}
 use Rattle.memory.specs.Flat.{Flat}
-use Rattle.changes.specs.Writes.{afterWrite}
 use Rattle.look.specs.Sightings.{picked}
 use Rattle.look.specs.declared.Look.{Look}
 use Rattle.look.specs.declared.Seen.{Seen}
@@ -34,9 +33,15 @@ unfoldable pub writeTests : Bool → ℕ → ℕ → ℕ → ℕ → Store → L
 writeTests new tx t k n s =
     notOpen tx s ++ (noTable t ∷ 11 when ltb payloadLimit n ∷ foreign tx t k s ∷ (if new then present t k s else unseen tx t k s) ∷ full s)
 
--- insert, replace and delete: their tests, then one tuple more
-unfoldable pub writeCall : Bool → ℕ → ℕ → ℕ → Bool → List ℕ → Store → Outcome
-writeCall new tx t k mark bs s = unless (writeTests new tx t k (length bs) s) s (gives done (afterWrite tx t k bs mark s))
+-- a write of a delete mark: the same tests, then one tuple more. With no payload it is a delete
+unfoldable pub markCall : Bool → ℕ → ℕ → ℕ → List ℕ → Store → Outcome
+markCall new tx t k bs s = unless (writeTests new tx t k (length bs) s) s (written tx t k bs true s)
+
+-- insert, replace and delete, by whether the key is new and by the mark
+abbrev pub writeCall : Bool → Bool → ℕ → ℕ → ℕ → List ℕ → Store → Outcome
+writeCall true false = insertCall
+writeCall false false = replaceCall
+writeCall new true = markCall new
 
 -- the operations of a commit (what the transaction wrote is kept) and of an abort
 abbrev pub closeOps : Bool → ℕ → List Page → List Op

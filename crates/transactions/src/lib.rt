@@ -244,7 +244,7 @@ fn write(
     mark: bool,
     payload: &[u8],
 ) -> Answer
-    ensures { λ r. ⌜ Answers (writeCall new transaction table key mark (now (payload .entry))) (now (m .entry)) r (now (m .exit)) ⌝ }
+    ensures { λ r. ⌜ Answers (writeCall new mark transaction table key (now (payload .entry))) (now (m .entry)) r (now (m .exit)) ⌝ }
 {
     let v = write_refusal(m, new, transaction, table, key, payload.len());
     if v != 0 {

@@ -14,7 +14,7 @@ same-length c = search needs
 
 returns : tie.Need-returns
 returns c = let a = c .before .before .before .before .before .args in
-    write-refused (a .new) (a .transaction) (a .table) (a .key) (a .mark) (a .payload .now) (a .m .now) _ (c .before .write-refusal .ensures) (c .if1 .taken)
+    write-refused (a .new) (a .mark) (a .transaction) (a .table) (a .key) (a .payload .now) (a .m .now) _ (c .before .write-refusal .ensures) (c .if1 .taken)
 
 cast-t : tie.Need-cast-t
 cast-t c = let a = c .before .before .before .before .before .args in
@@ -30,7 +30,7 @@ same-length-2 c = search needs
 
 returns-2 : tie.Need-returns-2
 returns-2 c = let a = c .before .before .before .before .before .before .before .before .before .args in
-    write-done (a .new) (a .transaction) (a .table) (a .key) (a .mark) (a .payload .now) (a .m .now) _ (c .before .before .before .before .before .write-refusal .ensures) (c .before .before .before .before .if1 .left) _ (c .before .before .accept .ensures)
+    write-done (a .new) (a .mark) (a .transaction) (a .table) (a .key) (a .payload .now) (a .m .now) _ (c .before .before .before .before .before .write-refusal .ensures) (c .before .before .before .before .if1 .left) _ (c .before .before .accept .ensures)
 
 pub write-spec : {M : Type 1} → statement M
 write-spec =
