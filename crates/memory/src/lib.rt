@@ -13,12 +13,12 @@ ghost use lib.Bits.{bitOr};
 ghost use lib.ListN.{length, take, getD, set, replicate};
 ghost use Rattle.blocks.specs.Limits.{payloadLimit};
 ghost use Rattle.blocks.specs.Numbers.{num4};
-ghost use Rattle.model.specs.Rules.{heldSize, calm, withPending, kept};
+ghost use Rattle.model.specs.Rules.{heldSize, calm};
 ghost use Rattle.model.specs.Recover.{freshStore};
 ghost use Rattle.memory.specs.Bytes.{num2, bytes4, bytes2, cut, put, Shifted, Lowered};
 ghost use Rattle.memory.specs.Views.{rowOf, entryOf, word, numbersOf, entryBytes, firstAt, countAt, entriesAt, entriesFrom, pushed, Only};
 ghost use Rattle.memory.specs.Flat.{flatOf, countsOf, rowIn, entryIn, Room, Replaces, Becomes, withHead, withOpens, withRows, withEntries, withNamed, withDirectories, withUsed, insertAt, removeAt, usedAnd, Opened, Closed};
-ghost use Rattle.memory.specs.Store.{pendingOf, heldOf, tupleBy, inRange, filledBy, fillsAfter, fillsRows, holdsStore, heldIn, Holds, Copied, FreshFits, freshFlat, storeIn};
+ghost use Rattle.memory.specs.Store.{heldOf, tupleBy, inRange, filledBy, fillsAfter, fillsRows, holdsStore, heldIn, Holds, Copied, FreshFits, freshFlat, storeIn};
 
 // What a memory that holds a store begins with: V, O, Z and the layout's version.
 const SIGNATURE: u32 = 1448040962;
@@ -498,23 +498,6 @@ pub fn new_row(
         size: len as u8,
         payload: p,
     }
-}
-
-// The row with another pending operation.
-pub fn with_pending(mut s: Row, k: u8) -> Row
-    requires { ⌜ k < 4 ⌝ }
-    ensures { λ r. ⌜ heldOf r ≡ withPending (pendingOf k) (heldOf s) ⌝ }
-{
-    s.flags = s.flags % 4 + 4 * k;
-    s
-}
-
-// The row, committed.
-pub fn as_committed(mut s: Row) -> Row
-    ensures { λ r. ⌜ kept (heldOf s) ≡ heldOf r ∷ [] ⌝ }
-{
-    s.flags = s.flags - s.flags % 2;
-    s
 }
 
 pub fn put_row(m: &mut [u8], i: usize, s: Row)
