@@ -48,10 +48,12 @@ module _ {A : Type 0} where
   last f [] = none
   last f (x ∷ xs) = elim (last f xs) [ some y ↦ some y | none ↦ if f x then some x else none ]
 
+  -- it has no element
   unfoldable pub isEmpty : List A → Bool
   isEmpty [] = true
   isEmpty (x ∷ xs) = false
 
+  -- there is one
   unfoldable pub isSome : Option A → Bool
   isSome none = false
   isSome (some a) = true

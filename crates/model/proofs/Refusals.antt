@@ -1,4 +1,4 @@
--- The runs that meet every refusal, by computation.
+-- The runs that meet the refusals of make and of the calls, by computation.
 use mathlib.Core.Path.{refl}
 use Rattle.model.specs.Cases.{Refusals, cases}
 

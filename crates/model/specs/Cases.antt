@@ -1,5 +1,5 @@
 -- The starred cases of the specification that are about the rules, as one table; worked runs of the four places where builds go
--- astray; runs that meet every refusal; and one run cut at every store. All are proved in proofs/ by computation.
+-- astray; runs that meet the refusals of make and of the calls; and one run cut at every store. All are proved in proofs/ by computation.
 use Prim.Native.Nat.{ℕ, zero, suc, _+_}
 use mathlib.Core.Path.{_≡_}
 use mathlib.Core.Bool.{Bool, true, false, _&&_, _||_}
@@ -192,7 +192,7 @@ pub record Traps : Type 0 where
   pub not-joined : after5 (bothFrozen ++ (steps 8192 ∷ [])) ≡ (1, 49) ∷ (5, 245) ∷ []
   pub joined-later : after5 (bothFrozen ++ (steps 8192 ∷ steps 8192 ∷ [])) ≡ (5, 245) ∷ []
 
--- ---- refusals: runs that meet each one, and where two tests hold, the one that comes first
+-- ---- refusals: runs that meet those of make and of the calls (20 is met above), and where two tests hold, the one that comes first
 
 -- on an empty store of 16 blocks, N 2
 unfoldable pub refusedCalls : List Call
