@@ -1,156 +1,149 @@
-/* A checkpoint of a full store against SQLite's backup of the same rows in memory; recovery against copying the image's bytes; a page
- * store against copying 512 bytes 16 times; how begin, step and recover grow with N.
- *   cc -O2 -Iinclude bench/checkpoint.c target/staticlib/libstore.a -lsqlite3 -o /tmp/checkpoint && /tmp/checkpoint
- * Best of many rounds, in nanoseconds. All pages are dirty at each begin. */
+/* Checkpoints against SQLite's backup of the same rows from memory to memory, and recovery against copying the image's bytes. */
 #include <sqlite3.h>
-#include <stdio.h>
-#include <stdlib.h>
 #include <string.h>
-#include <time.h>
+#include "bench.h"
 #include "vodzanu.h"
 
-enum { TABLES = 8, ROUNDS = 200 };
-static uint8_t image[4096 * 512], copy[4096 * 512], memory[128 * 1024 + 1024], second[128 * 1024 + 1024], payload[20];
-static size_t image_len, memory_len;
+enum { ROUNDS = 100, BLOCKS = 512 };
+static uint8_t image[BLOCKS * 512], memory[128 * CAPACITY_LIMIT + 1024];
+static uint8_t dirty[sizeof memory]; /* the memory that every checkpoint measured begins with */
+static size_t memory_len;
 
-static double now(void) {
-    struct timespec t;
-    clock_gettime(CLOCK_MONOTONIC, &t);
-    return t.tv_sec * 1e9 + t.tv_nsec;
-}
-static double best(double a, double b) { return b < a ? b : a; }
-static uint32_t key_of(unsigned i) { return i * 2654435761u; }
-static int64_t must(int64_t r) { if (r < 0) { printf("refused %ld\n", (long)-r); exit(1); } return r; }
+/* The first backup has pages of 4,096 bytes, all in one step; the second pages of 512, one a step. */
+struct figures { double begin, whole, recover, copy, sixteen, backup[2]; };
+static const struct figures none = {NEVER, NEVER, NEVER, NEVER, NEVER, {NEVER, NEVER}};
 
-static sqlite3 *sql_empty(int page_size) {
-    sqlite3 *db;
-    char pragma[40];
-    sqlite3_open(":memory:", &db);
-    snprintf(pragma, sizeof pragma, "pragma page_size=%d", page_size);
-    sqlite3_exec(db, pragma, 0, 0, 0);
-    return db;
-}
-
-static sqlite3 *sql_store(unsigned n, int page_size) {
-    sqlite3 *db = sql_empty(page_size);
-    sqlite3_stmt *st;
-    sqlite3_exec(db, "create table t(tab integer, key integer, payload blob, primary key(tab, key)) without rowid; begin", 0, 0, 0);
-    sqlite3_prepare_v2(db, "insert into t values(?,?,?)", -1, &st, 0);
-    for (unsigned i = 0; i < n; i++) {
-        sqlite3_bind_int64(st, 1, i % TABLES); sqlite3_bind_int64(st, 2, key_of(i)); sqlite3_bind_blob(st, 3, payload, 20, SQLITE_STATIC);
-        if (sqlite3_step(st) != SQLITE_DONE) exit(1);
-        sqlite3_reset(st);
+/* A full store, whose first rows are of transaction 1, still open, and the others committed. */
+static void fill(unsigned open_rows) {
+    struct row row;
+    memory_len = 128 * (size_t)shape.capacity + 1024;
+    must(vodzanu_make(image, sizeof image, memory, memory_len, shape.capacity) == 0, "make");
+    for (uint64_t t = 0; t < 2; t++) must(vodzanu_open(memory, memory_len, t) == 0, "open");
+    for (unsigned i = 0; i < shape.capacity; i++) {
+        spell(&row, i, 0);
+        must(vodzanu_insert(memory, memory_len, i < open_rows, row.table, row.key, row.payload, shape.payload_len) == 0, "insert");
     }
-    sqlite3_finalize(st);
-    sqlite3_exec(db, "commit", 0, 0, 0);
-    return db;
+    must(vodzanu_commit(memory, memory_len, 0) == 0, "commit");
+    memcpy(dirty, memory, memory_len);
 }
 
-/* all pages at once (-1), or one page a step (1); SQLite's own pages are of 4,096 bytes, the store's blocks of 512 */
-static double backup(unsigned n, int pages, int page_size) {
-    double b = 1e18;
-    sqlite3 *from = sql_store(n, page_size);
-    for (int round = 0; round < ROUNDS; round++) {
-        sqlite3 *to = sql_empty(page_size);
-        double t = now();
-        sqlite3_backup *k = sqlite3_backup_init(to, "main", from, "main");
-        int r;
-        while ((r = sqlite3_backup_step(k, pages)) == SQLITE_OK) {}
-        if (r != SQLITE_DONE) exit(1);
-        sqlite3_backup_finish(k);
-        b = best(b, now() - t);
-        sqlite3_close(to);
+static void fill_sqlite(int size) {
+    struct row row;
+    page_size = size;
+    engines[SQLITE].start();
+    engines[SQLITE].begin(INSERT);
+    for (unsigned i = 0; i < shape.capacity; i++) spell(&row, i, 0), engines[SQLITE].call(INSERT, &row);
+    engines[SQLITE].commit();
+}
+
+/* Begin and every step. Answers how many stores were made. */
+static int64_t checkpoint(struct figures *f) {
+    memcpy(memory, dirty, memory_len);
+    double start = now();
+    int64_t stores = vodzanu_begin(memory, memory_len), left = stores;
+    double begun = now();
+    while (left > 0) left = vodzanu_step(image, sizeof image, memory, memory_len);
+    double stop = now();
+    f->begin = least(f->begin, elapsed(start, begun));
+    f->whole = least(f->whole, elapsed(start, begun) + elapsed(begun, stop));
+    must(stores > 0 && left == 0, "checkpoint");
+    return stores;
+}
+
+static void recover(struct figures *f) {
+    double start = now();
+    must(vodzanu_recover(image, sizeof image, memory, memory_len) == 0, "recover");
+    f->recover = least(f->recover, elapsed(start, now()));
+}
+
+/* Transaction 1, which may be open again, sees every row. */
+static void check_recovered(void) {
+    struct row row;
+    int64_t opened = vodzanu_open(memory, memory_len, 1);
+    must(opened == 0 || opened == -8, "open");
+    for (unsigned i = 0; i < shape.capacity; i++) {
+        spell(&row, i, 0);
+        row.reply_len = (int)vodzanu_read(memory, memory_len, 1, row.table, row.key, row.reply, sizeof row.reply);
+        check_reply(&row);
     }
-    sqlite3_close(from);
-    return b;
 }
 
-static void measure(unsigned n) {
-    image_len = 512 * (size_t)(n + 16), memory_len = 128 * (size_t)n + 1024;
-    must(vodzanu_make(image, image_len, memory, memory_len, n));
-    must(vodzanu_open(memory, memory_len, 1));
-    for (unsigned i = 0; i < n; i++) must(vodzanu_insert(memory, memory_len, 1, i % TABLES, key_of(i), payload, 20));
-    memcpy(second, memory, memory_len); /* dirty, before any checkpoint */
-    memcpy(copy, image, image_len);
-    double begin = 1e18, step = 1e18, whole = 1e18, test = 1e18, recover = 1e18, copying = 1e18, sixteen = 1e18;
+/* Of the image, and of 512 bytes 16 times; the compiler is told that the copies are read. */
+static void copies(struct figures *f) {
+    static uint8_t copy[sizeof image];
+    double start = now();
+    memcpy(copy, image, sizeof image);
+    __asm__ volatile("" ::"r"(copy) : "memory");
+    f->copy = least(f->copy, elapsed(start, now()));
+    start = now();
+    for (int i = 0; i < 16; i++) {
+        memcpy(copy + 512 * i, image + 512 * i, 512);
+        __asm__ volatile("" ::"r"(copy) : "memory");
+    }
+    f->sixteen = least(f->sixteen, elapsed(start, now()));
+}
+
+/* Into a new database, with so many pages a step; -1 is all of them. */
+static double backup(int pages) {
+    sqlite3 *to = new_database();
+    int answer;
+    double start = now();
+    sqlite3_backup *b = sqlite3_backup_init(to, "main", db, "main");
+    while ((answer = sqlite3_backup_step(b, pages)) == SQLITE_OK) {}
+    must(sqlite3_backup_finish(b) == SQLITE_OK && answer == SQLITE_DONE, "SQLite backup");
+    double time = elapsed(start, now());
+    sqlite3_close(to);
+    return time;
+}
+
+static void full(void) {
+    struct figures f = none, open = none;
     int64_t stores = 0;
-    for (int round = 0; round < ROUNDS; round++) {
-        memcpy(memory, second, memory_len);
-        memcpy(image, copy, image_len);
-        double t = now();
-        stores = must(vodzanu_begin(memory, memory_len));
-        begin = best(begin, now() - t);
-        for (int64_t k = stores; k > 2; k--) {
-            double u = now();
-            must(vodzanu_step(image, image_len, memory, memory_len));
-            step = best(step, now() - u);
+    fill(0);
+    for (int b = 0; b < 2; b++) {
+        fill_sqlite(b ? 512 : 4096);
+        for (int round = 0; round < ROUNDS; round++) {
+            stores = checkpoint(&f), recover(&f), copies(&f);
+            f.backup[b] = least(f.backup[b], backup(b ? 1 : -1));
         }
-        must(vodzanu_run(image, image_len, memory, memory_len, 9));
-        memcpy(memory, second, memory_len);
-        memcpy(image, copy, image_len);
-        t = now();
-        must(vodzanu_begin(memory, memory_len));
-        must(vodzanu_run(image, image_len, memory, memory_len, 5000));
-        whole = best(whole, now() - t);
-        t = now();
-        for (int k = 0; k < 100; k++) if (vodzanu_open(memory, memory_len, 5000) != -6) exit(1);
-        test = best(test, (now() - t) / 100);
-        t = now();
-        must(vodzanu_recover(image, image_len, memory, memory_len));
-        recover = best(recover, now() - t);
-        static uint8_t to[4096 * 512], block[16][512];
-        t = now();
-        memcpy(to, image, image_len);
-        __asm__ volatile("" ::"r"(to) : "memory");
-        copying = best(copying, now() - t);
-        t = now();
-        for (int k = 0; k < 100; k++) {
-            for (int i = 0; i < 16; i++) memcpy(block[i], image + 512 * i, 512);
-            __asm__ volatile("" ::"r"(block) : "memory");
-        }
-        sixteen = best(sixteen, (now() - t) / 100);
     }
-    printf("N %4u stores %3ld begin %6.0f step %6.0f (16 copies of 512 bytes %4.0f: %.1f) recover %8.0f (copy %6.0f: %.0f)\n",
-           n, (long)stores, begin, step, sixteen, step / sixteen, recover, copying, recover / copying);
-    printf("       checkpoint %7.0f, of that the test of the memory before each store %6.0f; SQLite backup", whole, test * stores);
-    for (int size = 4096; size >= 512; size /= 8) {
-        double sql = backup(n, -1, size), stepped = backup(n, 1, size);
-        printf(", pages of %d: %7.0f (%.2f), page by page %7.0f (%.2f)", size, sql, whole / sql, stepped, whole / stepped);
-    }
-    printf("\n");
+    check_recovered();
+    fill(shape.capacity);
+    for (int round = 0; round < ROUNDS; round++) checkpoint(&open), recover(&open);
+    check_recovered();
+    double step = (f.whole - f.begin) / (double)stores;
+    printf("| %u | %u | %u | %ld |", shape.capacity, shape.payload_len, shape.tables, (long)stores);
+    printf(" %.0f | %.0f | %.2f |", f.begin, step, step / f.sixteen);
+    printf(" %.0f | %.0f | %.2f | %.0f | %.2f |", f.whole, f.backup[0], f.whole / f.backup[0], f.backup[1], f.whole / f.backup[1]);
+    printf(" %.0f | %.0f | %.2f | %.0f |\n", f.recover, f.copy, f.recover / f.copy, open.recover);
 }
 
-/* a full store of 1,024 tuples whose pages are clean but for those of `late` tuples, committed since the last checkpoint */
-static void changed(unsigned late, double sql) {
-    unsigned n = 1024;
-    image_len = 512 * (size_t)(n + 256), memory_len = 128 * (size_t)n + 1024;
-    must(vodzanu_make(image, image_len, memory, memory_len, n));
-    must(vodzanu_open(memory, memory_len, 1));
-    must(vodzanu_open(memory, memory_len, 2));
-    for (unsigned i = 0; i < n; i++) must(vodzanu_insert(memory, memory_len, i < late ? 2 : 1, i % TABLES, key_of(i), payload, 20));
-    must(vodzanu_commit(memory, memory_len, 1));
-    must(vodzanu_begin(memory, memory_len));
-    must(vodzanu_run(image, image_len, memory, memory_len, 5000));
-    must(vodzanu_commit(memory, memory_len, 2));
-    memcpy(second, memory, memory_len);
-    memcpy(copy, image, image_len);
-    double whole = 1e18;
+/* A full store whose pages are clean but for those of the first rows, committed since the last checkpoint. */
+static void changed(unsigned rows) {
+    struct figures f = none;
     int64_t stores = 0;
-    for (int round = 0; round < ROUNDS; round++) {
-        memcpy(memory, second, memory_len);
-        memcpy(image, copy, image_len);
-        double t = now();
-        stores = must(vodzanu_begin(memory, memory_len));
-        must(vodzanu_run(image, image_len, memory, memory_len, 5000));
-        whole = best(whole, now() - t);
-    }
-    printf("N %4u stores %3ld, the others' pages clean: checkpoint %7.0f; SQLite backup, pages of 4096: %7.0f (%.2f)\n",
-           n, (long)stores, whole, sql, whole / sql);
+    fill(rows);
+    checkpoint(&f);
+    must(vodzanu_commit(memory, memory_len, 1) == 0, "commit");
+    memcpy(dirty, memory, memory_len);
+    f = none;
+    for (int round = 0; round < ROUNDS; round++) stores = checkpoint(&f), f.backup[0] = least(f.backup[0], backup(-1));
+    recover(&f);
+    check_recovered();
+    printf("| %u | %ld | %.0f | %.0f | %.2f |\n", rows, (long)stores, f.whole, f.backup[0], f.whole / f.backup[0]);
 }
 
-int main(void) {
-    for (unsigned n = 64; n <= 1024; n *= 2) measure(n);
-    double sql = backup(1024, -1, 4096);
-    for (unsigned late = 1; late <= 64; late *= 2) changed(late, sql);
-    return 0;
+void checkpoint_tables(void) {
+    printf("\n## Checkpoint and recovery\n\nNanoseconds; a full store, all pages dirty, all rows committed; an image of %d blocks. SQLite's backup\n", BLOCKS);
+    printf("goes from memory to memory: pages of 4,096 bytes at once, and pages of 512 one a step. In the last column all rows are of\n");
+    printf("one open transaction.\n\n");
+    printf("| N | Payload | Tables | Stores | Begin | Step | / 16 copies of 512 bytes | Checkpoint | Backup at once | ratio |");
+    printf(" Backup by pages | ratio | Recovery | Copy of the image | ratio | Recovery, open |\n");
+    printf("|---|---|---|---|---|---|---|---|---|---|---|---|---|---|---|---|\n");
+    for_each_shape(64, full);
+    shape = (struct shape){CAPACITY_LIMIT, 20, 8};
+    fill_sqlite(4096);
+    printf("\nN = 1,024, payloads of 20, eight tables; only the pages of some rows have changed since the last checkpoint:\n\n");
+    printf("| Rows changed | Stores | Checkpoint | Backup at once | ratio |\n|---|---|---|---|---|\n");
+    for (unsigned rows = 1; rows <= 64; rows *= 2) changed(rows);
 }

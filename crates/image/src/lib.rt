@@ -68,6 +68,7 @@ fn test_rows(
     marks: &mut [u8],
 ) -> bool
     requires { ⌜ all (blockOk (blockCount (now image))) (now entries) ≡ true ⌝ }
+    requires { ⌜ h .capacity ≤ 1024 ⌝ }
     requires { ⌜ (h .capacity ≤ length (now places)) × ((h .capacity ≤ length (now numbers)) × ((h .capacity ≤ length (now owners)) × (h .capacity ≤ length (now marks)))) ⌝ }
     ensures { λ r. ⌜ r ≡ accepts (pageTest (view (now (image .entry))) h (now (entries .entry))) ⌝ }
 {

@@ -7,15 +7,16 @@ use mathlib.Core.Logic.{_≢_}
 use mathlib.Core.Option.{Option, none, some}
 use lib.Dec.{eqb}
 use Rattle.basics.specs.Basics.{if_then_else_, keep, any, last}
-use Rattle.basics.proofs.Facts.{by, AllOf, and-true, lie, never, by-option}
+use Rattle.basics.proofs.Facts.{by, AllOf, and-true, lie, by-option}
 use Rattle.rows.specs.Rows.{Row, number, isAt, isOwn}
 use Rattle.model.specs.State.{Page}
-use Rattle.model.specs.Rules.{asCommitted, remove, commit}
+use Rattle.model.specs.Rules.{asCommitted}
 use Rattle.model.specs.Sight.{rows, held}
-use Rattle.model.specs.Transactions.{Op, toCommit, isRow, toRemove, perform, removeAll, planKey, ownAt, planRows}
-use Rattle.model.proofs.Lists.{Pairs, Mem, here, all-map, there, mem-all, eqb-self, eqb-true, all-keep, all-mem, all-append, mem-keep, any-off, last-off}
-use Rattle.model.proofs.Sound.{PageOk, perform-ok}
+use Rattle.model.proofs.Lists.{Pairs, Mem, here, all-map, there, mem-all, eqb-self, eqb-true, all-keep, all-mem, all-append, mem-keep, any-off, last-off, last-any, last-skip, last-some, last-here}
+use Rattle.model.proofs.ByNumber.{remove, commit, Op, toCommit, isRow, toRemove, perform, removeAll, planKey, ownAt, planRows, placeIn, plan-skip, plan-take}
+use Rattle.model.proofs.Sound.{PageOk, removeRow-ok, commitRow-ok}
 use Rattle.model.proofs.Rows.{amend, away, kept-row, Alike, Differ, Entry, Sub, plain, live, entries, sub-refl, amends-commit, sub-pairs, sub-trans, pairs-plain, amends-remove, held-plain, rows-live}
+use Rattle.model.proofs.Places.{numbers, remove-place, commit-place}
 
 -- ---- a list of operations on the rows
 
@@ -57,11 +58,11 @@ unfolding perform
 perform-entries [] ps a d = (sub-refl (plain (entries ps)), sym (gather-nil (live (entries ps))))
 perform-entries (toCommit n ∷ os) ps a d =
     let m = amends-commit n ps a in
-    let r = perform-entries os (commit n ps) (perform-ok (toCommit n ∷ []) ps a) (sub-pairs Differ differ-alike (m .0) d) in
+    let r = perform-entries os (commit n ps) (subst (AllOf PageOk) (sym (commit-place n ps)) (commitRow-ok (placeIn n (numbers ps)) ps a)) (sub-pairs Differ differ-alike (m .0) d) in
     (sub-trans (r .0) (m .0), r .1 ∙ ap (gather (fate os)) (m .1 (pairs-plain Differ (entries ps) d)) ∙ gather-commits n os (live (entries ps)))
 perform-entries (toRemove n ∷ os) ps a d =
     let m = amends-remove n ps a in
-    let r = perform-entries os (remove n ps) (perform-ok (toRemove n ∷ []) ps a) (sub-pairs Differ differ-alike (m .0) d) in
+    let r = perform-entries os (remove n ps) (subst (AllOf PageOk) (sym (remove-place n ps)) (removeRow-ok (placeIn n (numbers ps)) ps a)) (sub-pairs Differ differ-alike (m .0) d) in
     (sub-trans (r .0) (m .0), r .1 ∙ ap (gather (fate os)) (m .1 (pairs-plain Differ (entries ps) d)) ∙ gather-removes n os (live (entries ps)))
 
 pub perform-rows : (os : List Op) (ps : List Page) → AllOf PageOk ps → Pairs Differ (held ps)
@@ -240,33 +241,6 @@ module _ (tx : ℕ) (all : List Row) (d : Pairs Differ all) where
   abbrev Own : Row → Row → Bool
   Own r y = ownAt tx (r .0) (r .1 .key) y
 
-  last-any : (f : Row → Bool) (xs : List Row) (y : Row) → last f xs ≡ some y → any f xs ≡ true
-  unfolding last any if_then_else_
-  last-any f [] y h = never h
-  last-any f (x ∷ xs) y h =
-      by (f x) (λ k. rw (k, any)) (λ k. rw (k, any) (by-option (last f xs) (λ n. never (rw (n, k) at h)) (λ z n. last-any f xs z n)))
-
-  last-skip : (f : Row → Bool) (x : Row) (xs : List Row) → f x ≡ false → last f (x ∷ xs) ≡ last f xs
-  unfolding last if_then_else_
-  last-skip f x xs k = by-option (last f xs) (λ n. rw (n, k)) (λ y n. rw (n, last))
-
-  last-some : (f : Row → Bool) (x : Row) (xs : List Row) (y : Row) → last f xs ≡ some y → last f (x ∷ xs) ≡ some y
-  unfolding last
-  last-some f x xs y n = rw (n, last)
-
-  last-here : (f : Row → Bool) (x : Row) (xs : List Row) → last f xs ≡ none → f x ≡ true → last f (x ∷ xs) ≡ some x
-  unfolding last if_then_else_
-  last-here f x xs n k = rw (n, k)
-
-  plan-skip : (x : Row) (xs : List Row) → (isOwn tx x && not (any (Own x) xs)) ≡ false → planRows tx all (x ∷ xs) ≡ planRows tx all xs
-  unfolding planRows if_then_else_
-  plan-skip x xs h = rw h
-
-  plan-take : (x : Row) (xs : List Row) → (isOwn tx x && not (any (Own x) xs)) ≡ true
-      → planRows tx all (x ∷ xs) ≡ planKey x (keep (With x) all) ++ planRows tx all xs
-  unfolding planRows if_then_else_
-  plan-take x xs h = rw h
-
   -- the same key, the same test
   own-same : (x r : Row) → With r x ≡ true → (xs : List Row) → any (Own x) xs ≡ any (Own r) xs
   own-same x r h xs = let s = at-split (r .0) (r .1 .key) x h in ap₂ (λ t k. any (ownAt tx t k) xs) (s .0) (s .1)
@@ -290,16 +264,16 @@ module _ (tx : ℕ) (all : List Row) (d : Pairs Differ all) where
       by-option (last (Own r) xs)
       (λ n. let q : any (Own r) xs ≡ false = any-off (Own r) xs (last-off (Own r) xs n) in
       let e : (isOwn tx x && not (any (Own x) xs)) ≡ true = rw (o .0, own-same x r (o .1) xs, q) in
-      ap (λ z. fate z r) (plan-take x xs e) ∙ planKey-hit x r (planRows tx all xs) mx mr (with-true x r (o .1)) (plan-off r mr xs w q)
+      ap (λ z. fate z r) (plan-take tx all x xs e) ∙ planKey-hit x r (planRows tx all xs) mx mr (with-true x r (o .1)) (plan-off r mr xs w q)
       ∙ ap (λ z. verdict z r) (sym (last-here (Own r) x xs n k)))
       (λ y n. let e : (isOwn tx x && not (any (Own x) xs)) ≡ false = rw (o .0, own-same x r (o .1) xs, last-any (Own r) xs y n) in
-      ap (λ z. fate z r) (plan-skip x xs e) ∙ ih ∙ ap (λ z. verdict z r) (n ∙ sym (last-some (Own r) x xs y n))))
+      ap (λ z. fate z r) (plan-skip tx all x xs e) ∙ ih ∙ ap (λ z. verdict z r) (n ∙ sym (last-some (Own r) x xs y n))))
       (λ k. let rest : fate (planRows tx all xs) r ≡ verdict (last (Own r) (x ∷ xs)) r = ih ∙ ap (λ z. verdict z r) (sym (last-skip (Own r) x xs k)) in
       by (isOwn tx x && not (any (Own x) xs))
       (λ e. let o = and-true (isOwn tx x) (not (any (Own x) xs)) e in
-      ap (λ z. fate z r) (plan-take x xs e) ∙ off-append (planKey x (keep (With x) all)) (planRows tx all xs) r
+      ap (λ z. fate z r) (plan-take tx all x xs e) ∙ off-append (planKey x (keep (With x) all)) (planRows tx all xs) r
       (planKey-off x r mx mr (with-sym r x (own-not r x k (o .0)))) ∙ rest)
-      (λ e. ap (λ z. fate z r) (plan-skip x xs e) ∙ rest))
+      (λ e. ap (λ z. fate z r) (plan-skip tx all x xs e) ∙ rest))
 
   plan-fate : (r : Row) → Mem r all → (xs : List Row) → Within xs → fate (planRows tx all xs) r ≡ verdict (last (Own r) xs) r
   plan-fate r mr [] w = unfold planRows fate verdict last in refl

@@ -1,9 +1,9 @@
 -- What the running checkpoint will store of the frozen pages, in list order, is not touched by transactions; and each thaw
 -- takes the first of them away.
 use mathlib.Core.Path.{_≡_, refl, subst, sym, _∙_}
-use Prim.Native.Nat.{ℕ, _<_}
+use Prim.Native.Nat.{ℕ, zero, suc, _-_, _<_}
 use native.Mathlib.Omega.{arith}
-use mathlib.Core.Bool.{true, false, Bool}
+use mathlib.Core.Bool.{true, false}
 use mathlib.Core.List.{List, map, [], _∷_, _++_, append-nil, tail}
 use mathlib.Core.Option.{some, Option, none}
 use lib.Dec.{leb, eqb, ltb}
@@ -12,8 +12,8 @@ use Rattle.basics.specs.Basics.{if_then_else_, isEmpty, any, first}
 use Rattle.basics.proofs.Facts.{by, never, by-option, lie}
 use Rattle.blocks.specs.Tuple.{Tuple}
 use Rattle.model.specs.State.{Held, Page, adding, Pending, nothing, committing, removing}
-use Rattle.model.specs.Rules.{shown, fresh, after, isAdding, grown, withTuples, entering, placeAfter, place, placeFront, joins, settleNext, settle, joined, settleFull, listOf, around, goneLater, edit, withPending, isNumber, kept, keptLater, asCommitted, isRemoving, takenLater, remove, removeOn, commit, commitOn, hasNumber, thaw, thawOn, isPending, splitAll, calm, ripened, isFrozen}
-use Rattle.model.specs.Transactions.{Op, perform, toCommit, toRemove}
+use Rattle.model.specs.Rules.{shown, fresh, after, isAdding, grown, withTuples, entering, placeAfter, place, placeFront, joins, settleNext, settle, joined, settleFull, listOf, goneLater, withPending, kept, keptLater, asCommitted, isRemoving, thaw, thawOn, isPending, splitAll, calm, ripened, isFrozen, around, editAt, takenAt, removeRowOn, committedAt, commitRowOn, atRow, removeRow, commitRow}
+use Rattle.model.specs.Transactions.{PlaceOp, commitPlace, removePlace, carryOut}
 use Rattle.model.proofs.Lists.{some-eq}
 
 -- a page's table and tuples, as an image has them
@@ -117,67 +117,64 @@ images-settle : (rest : List Page) (o : Option Page) (p : Page) (ps : List Page)
 unfolding settle if_then_else_
 images-settle rest o p ps r = by (isEmpty (p .tuples)) (λ h. rw h) (λ h. rw h (images-settleFull rest o p ps r))
 
--- ---- what is done at one page, to all of them
-
-images-around : (hit : Page → Bool) (f : Option Page → Page → List Page → List Page)
-    → ((o : Option Page) (p : Page) (ps : List Page) → images (f o p ps) ≡ images (listOf o ++ p ∷ ps))
-    → (o : Option Page) (ps : List Page) → images (around hit f o ps) ≡ images (listOf o ++ ps)
-unfolding around listOf
-images-around hit f F o [] = rw append-nil
-images-around hit f F o (p ∷ ps) =
-    by (hit p) (λ h. rw (h, around) (F o p ps))
-    (λ h. rw (h, around, images-append (listOf o), images-around hit f F (some p) ps, images-append (listOf o) (p ∷ ps)))
-
 -- ---- removing and committing a tuple
 
-pub shown-goneLater : (n : ℕ) (ts : List Held) → shown (edit goneLater n ts) ≡ shown ts
-unfolding edit goneLater shown if_then_else_ withPending isAdding
-shown-goneLater n [] = refl
-shown-goneLater n (x ∷ xs) =
-    by (isNumber n x)
-    (λ h. by (isAdding (x .pending)) (λ k. rw (h, k)) (λ k. rw (h, k)))
-    (λ h. by (isAdding (x .pending)) (λ k. rw (h, k, shown-goneLater n xs)) (λ k. rw (h, k, shown-goneLater n xs)))
+images-row : (f : ℕ → Option Page → Page → List Page → List Page)
+    → ((j : ℕ) (o : Option Page) (p : Page) (ps : List Page) → images (f j o p ps) ≡ images (listOf o ++ p ∷ ps))
+    → (i : ℕ) (o : Option Page) (ps : List Page) → images (atRow f i o ps) ≡ images (listOf o ++ ps)
+unfolding atRow listOf
+images-row f F i o [] = rw append-nil
+images-row f F i o (p ∷ ps) =
+    by (ltb i (length (p .tuples))) (λ h. rw (h, atRow) (F i o p ps))
+    (λ h. rw (h, atRow, images-append (listOf o), images-row f F (i - length (p .tuples)) (some p) ps, images-append (listOf o) (p ∷ ps)))
 
-pub shown-keptLater : (n : ℕ) (ts : List Held) → shown (edit keptLater n ts) ≡ shown ts
-unfolding edit keptLater kept shown if_then_else_ withPending isAdding asCommitted
-shown-keptLater n [] = refl
-shown-keptLater n (x ∷ xs) =
-    by (isNumber n x)
-    (λ h. by (isAdding (x .pending)) (λ k. rw (h, k, k)) (λ k. by (isRemoving (x .pending)) (λ m. rw (h, k, m, k)) (λ m. rw (h, k, m))))
-    (λ h. by (isAdding (x .pending)) (λ k. rw (h, k, shown-keptLater n xs)) (λ k. rw (h, k, shown-keptLater n xs)))
+shown-goneLater : (j : ℕ) (ts : List Held) → shown (editAt goneLater j ts) ≡ shown ts
+unfolding editAt goneLater shown if_then_else_ withPending isAdding
+shown-goneLater j [] = refl
+shown-goneLater zero (x ∷ xs) = by (isAdding (x .pending)) (λ k. rw k) (λ k. rw k)
+shown-goneLater (suc j) (x ∷ xs) = by (isAdding (x .pending)) (λ k. rw (k, shown-goneLater j xs)) (λ k. rw (k, shown-goneLater j xs))
 
-pub shown-takenLater : (n : ℕ) (ts : List Held) → shown (takenLater n ts) ≡ shown ts
-unfolding takenLater if_then_else_
-shown-takenLater n ts = by (isEmpty (edit goneLater n ts)) (λ h. rw h) (λ h. rw h (shown-goneLater n ts))
+pub shown-keptLater : (j : ℕ) (ts : List Held) → shown (editAt keptLater j ts) ≡ shown ts
+unfolding editAt keptLater kept shown if_then_else_ withPending isAdding asCommitted
+shown-keptLater j [] = refl
+shown-keptLater zero (x ∷ xs) =
+    by (isAdding (x .pending)) (λ k. rw (k, k)) (λ k. by (isRemoving (x .pending)) (λ m. rw (k, m, k)) (λ m. rw (k, m)))
+shown-keptLater (suc j) (x ∷ xs) = by (isAdding (x .pending)) (λ k. rw (k, shown-keptLater j xs)) (λ k. rw (k, shown-keptLater j xs))
+
+pub shown-takenAt : (j : ℕ) (ts : List Held) → shown (takenAt j ts) ≡ shown ts
+unfolding takenAt if_then_else_
+shown-takenAt j ts = by (isEmpty (editAt goneLater j ts)) (λ h. rw h) (λ h. rw h (shown-goneLater j ts))
 
 -- a page that shows a tuple keeps one
-pub takenLater-is : (n : ℕ) (ts : List Held) → 0 < length (shown ts) → takenLater n ts ≡ edit goneLater n ts
-unfolding takenLater if_then_else_
-takenLater-is n ts h = by (isEmpty (edit goneLater n ts)) (λ k. absurd (shows (edit goneLater n ts) k (subst (λ z. 0 < length z) (sym (shown-goneLater n ts)) h))) (λ k. rw k)
+pub takenAt-is : (j : ℕ) (ts : List Held) → 0 < length (shown ts) → takenAt j ts ≡ editAt goneLater j ts
+unfolding takenAt if_then_else_
+takenAt-is j ts h =
+    by (isEmpty (editAt goneLater j ts))
+    (λ k. absurd (shows (editAt goneLater j ts) k (subst (λ z. 0 < length z) (sym (shown-goneLater j ts)) h))) (λ k. rw k)
   where
     shows : (hs : List Held) → isEmpty hs ≡ true → 0 < length (shown hs) → ⊥
     shows [] k l = unfold shown in omega arith
     shows (x ∷ xs) k l = lie (unfold isEmpty in k)
 
-images-removeOn : (n : ℕ) (o : Option Page) (p : Page) (ps : List Page) → images (removeOn n o p ps) ≡ images (listOf o ++ p ∷ ps)
-unfolding removeOn images if_then_else_ withTuples fresh
-images-removeOn n o p ps =
+images-removeRowOn : (j : ℕ) (o : Option Page) (p : Page) (ps : List Page) → images (removeRowOn j o p ps) ≡ images (listOf o ++ p ∷ ps)
+unfolding removeRowOn images if_then_else_ withTuples fresh
+images-removeRowOn j o p ps =
     by (p .frozen)
-    (λ h. rw (h, images-append (listOf o), shown-takenLater, images-append (listOf o)))
+    (λ h. rw (h, images-append (listOf o), shown-takenAt, images-append (listOf o)))
     (λ h. rw (h, images-settle, images-append (listOf o), images-append (listOf o)))
 
-images-commitOn : (n : ℕ) (o : Option Page) (p : Page) (ps : List Page) → images (commitOn n o p ps) ≡ images (listOf o ++ p ∷ ps)
-unfolding commitOn images if_then_else_ withTuples fresh
-images-commitOn n o p ps =
+images-commitRowOn : (j : ℕ) (o : Option Page) (p : Page) (ps : List Page) → images (commitRowOn j o p ps) ≡ images (listOf o ++ p ∷ ps)
+unfolding commitRowOn committedAt images if_then_else_ withTuples fresh
+images-commitRowOn j o p ps =
     by (p .frozen)
     (λ h. rw (h, images-append (listOf o), shown-keptLater, images-append (listOf o)))
     (λ h. rw (h, images-append (listOf o), images-append (listOf o)))
 
-pub images-perform : (os : List Op) (ps : List Page) → images (perform os ps) ≡ images ps
-unfolding perform remove commit listOf
-images-perform [] ps = refl
-images-perform (toCommit n ∷ os) ps = images-perform os (commit n ps) ∙ images-around (hasNumber n) (commitOn n) (images-commitOn n) none ps
-images-perform (toRemove n ∷ os) ps = images-perform os (remove n ps) ∙ images-around (hasNumber n) (removeOn n) (images-removeOn n) none ps
+pub images-carry : (n : ℕ) (os : List PlaceOp) (ps : List Page) → images (carryOut n os ps) ≡ images ps
+unfolding carryOut removeRow commitRow listOf
+images-carry n [] ps = refl
+images-carry n (commitPlace i ∷ os) ps = images-carry n os _ ∙ images-row commitRowOn images-commitRowOn _ none ps
+images-carry n (removePlace i ∷ os) ps = images-carry n os _ ∙ images-row removeRowOn images-removeRowOn _ none ps
 
 -- ---- thawing takes the first image away
 

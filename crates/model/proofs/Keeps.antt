@@ -16,21 +16,23 @@ use Rattle.image.specs.Stages.{directoriesFor}
 use Rattle.model.specs.State.{Store, Page, Held, idle, running, nothing, Checkpoint}
 use Rattle.model.specs.Rules.{place, heldSize, isPending, freeze, isFrozen}
 use Rattle.model.specs.Sight.{rows, held, isForeign, versions, seen, seenOf}
-use Rattle.model.specs.Transactions.{Op, openCall, gives, changed, written, openNumbers, writtenBy, newTuple, withWrite, notOpen, noTable, tooLong, foreign, _when_, full, insertCall, present, replaceCall, unseen, deleteCall, readCall, readSeen, listCall, perform, without, commitCall, plan, planRows, abortCall, removeAll}
+use Rattle.model.specs.Transactions.{openCall, gives, changed, written, openNumbers, writtenBy, newTuple, withWrite, notOpen, noTable, tooLong, foreign, _when_, full, insertCall, present, replaceCall, unseen, deleteCall, readCall, readSeen, listCall, without, commitCall, abortCall, PlaceOp, carryOut, closePlan, abortPlan}
 use Rattle.model.specs.Checkpoint.{stored, beginCall, storePage, made, allocate, storeDirectory, storeHeader, stepAt, stepOf, inTurn, stepCall, runCall, left}
 use Rattle.model.specs.Calls.{Call, others, call, opens, inserts, replaces, deletes, commits, aborts, reads, lists, begins, steps, runs}
 use Rattle.model.proofs.Lists.{in-append, all-map, leb-false, Pairs, not-false}
+use Rattle.model.proofs.ByNumber.{planRows, removeAll}
 use Rattle.model.proofs.Owners.{numbers-append, numbers-write, numbers-length, others-length, numbers-without}
 use Rattle.model.proofs.Splits.{mostSize}
-use Rattle.model.proofs.Frozen.{images, images-place, images-perform, shown-calm, images-none}
+use Rattle.model.proofs.Frozen.{images, images-place, shown-calm, images-none, images-carry}
 use Rattle.model.proofs.Quiet.{unless-keeps, Passed}
 use Rattle.model.proofs.Books.{below-most, idle-of}
-use Rattle.model.proofs.Sound.{place-ok, perform-ok, PageOk, bare-size, thaw-ok}
+use Rattle.model.proofs.Sound.{place-ok, PageOk, bare-size, thaw-ok, carry-ok}
 use Rattle.model.proofs.Rows.{Sub, rows-live, held-plain, live-sub, entries, sub-all, Differ, sub-pairs, held-freeze, rows-freeze, thaw-rows}
 use Rattle.model.proofs.Placing.{Before, Put, place-put}
-use Rattle.model.proofs.Fate.{differ-alike, gather, fate, perform-rows, commit-rows, abort-rows}
+use Rattle.model.proofs.Fate.{differ-alike, gather, fate, commit-rows, abort-rows}
 use Rattle.model.proofs.Valid.{Opened, LiveOk, Valid, before-alike, HeldOk, held-insert, live-insert, Counted, held-sub}
 use Rattle.model.proofs.Closing.{commit-live, abort-live}
+use Rattle.model.proofs.ByPlace.{commit-carried, abort-carried}
 
 -- ---- open
 
@@ -175,17 +177,18 @@ list-valid r s v = unless-keeps Valid _ s _ v (λ p. v)
 
 -- ---- commit, abort
 
--- the operations os are performed, and tx is closed
-closed-valid : (tx : ℕ) (os : List Op) (s : Store) → Valid s → LiveOk (others tx (openNumbers (s .active))) (gather (fate os) (rows (s .pages)))
-    → Valid (changed s (s .next) (perform os (s .pages)) (without tx (s .active)))
+-- the operations os are carried out, F says what becomes of each row, and tx is closed
+closed-valid : (tx n : ℕ) (os : List PlaceOp) (F : Row → List Row) (s : Store) → Valid s
+    → Sub (held (carryOut n os (s .pages))) (held (s .pages)) × (rows (carryOut n os (s .pages)) ≡ gather F (rows (s .pages)))
+    → LiveOk (others tx (openNumbers (s .active))) (gather F (rows (s .pages)))
+    → Valid (changed s (s .next) (carryOut n os (s .pages)) (without tx (s .active)))
 unfolding changed
-closed-valid tx os s v live =
-    let r = perform-rows os (s .pages) (v .pages) (v .has .differ) in
+closed-valid tx n os F s v r live =
     let l = others-length tx (openNumbers (s .active)) in
     let o = numbers-without tx (s .active) in
     record {
-      pages = perform-ok os (s .pages) (v .pages);
-      still = λ h. images-perform os (s .pages) ∙ v .still h;
+      pages = carry-ok n os (s .pages) (v .pages);
+      still = λ h. images-carry n os (s .pages) ∙ v .still h;
       has = held-sub (s .capacity) (s .next) (r .0) (v .has);
       sees = rw (o, r .1) live;
       opened = omega (arith, v .opened, numbers-length (s .active), numbers-length (without tx (s .active)), ap length o);
@@ -194,12 +197,14 @@ closed-valid tx os s v live =
     }
 
 commit-valid : (tx : ℕ) (s : Store) → Valid s → Valid (commitCall tx s .store)
-unfolding commitCall gives plan
+unfolding commitCall gives
 commit-valid tx s v =
     let rs = rows (s .pages) in
     let d = rows-differ s v in
     unless-keeps Valid _ s _ v
-    (λ p. closed-valid tx (planRows tx rs rs) s v (rw (commit-rows tx rs d) (commit-live tx (openNumbers (s .active)) rs (v .sees) d)))
+    (λ p. closed-valid tx (length (held (s .pages))) (closePlan tx (s .pages)) (fate (planRows tx rs rs)) s v
+    (commit-carried (s .pages) (v .has .rising) (v .has .differ) (v .pages) tx)
+    (rw (commit-rows tx rs d) (commit-live tx (openNumbers (s .active)) rs (v .sees) d)))
 
 abort-valid : (tx : ℕ) (s : Store) → Valid s → Valid (abortCall tx s .store)
 unfolding abortCall gives
@@ -207,7 +212,9 @@ abort-valid tx s v =
     let rs = rows (s .pages) in
     let d = rows-differ s v in
     unless-keeps Valid _ s _ v
-    (λ p. closed-valid tx (removeAll (keep (isOwn tx) rs)) s v (rw (abort-rows tx rs d) (abort-live tx (openNumbers (s .active)) rs (v .sees) d)))
+    (λ p. closed-valid tx (length (held (s .pages))) (abortPlan tx (s .pages)) (fate (removeAll (keep (isOwn tx) rs))) s v
+    (abort-carried (s .pages) (v .has .rising) (v .has .differ) (v .pages) tx)
+    (rw (abort-rows tx rs d) (abort-live tx (openNumbers (s .active)) rs (v .sees) d)))
 
 -- ---- the checkpoint
 

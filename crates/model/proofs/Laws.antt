@@ -1,4 +1,4 @@
--- The order of the rows held, the blocks that a checkpoint takes, the stores that are left, and run as steps.
+-- The order of the rows held, runs as keys, the blocks that a checkpoint takes, the stores that are left, and run as steps.
 use mathlib.Core.Path.{subst, _≡_, sym, ap, refl, _∙_}
 use Prim.Native.Nat.{_+_, _<_, _≤_, suc, ℕ, _*_, zero}
 use native.Mathlib.Omega.{arith}
@@ -7,17 +7,18 @@ use mathlib.Core.List.{List, _∷_, _++_, [], map}
 use mathlib.Core.Option.{Option, some, none}
 use lib.Dec.{ltb}
 use lib.ListN.{length, length-map, length-append}
-use Rattle.basics.specs.Basics.{if_then_else_, howMany, first}
-use Rattle.basics.proofs.Facts.{by, lie}
+use Rattle.basics.specs.Basics.{if_then_else_, howMany, first, keep}
+use Rattle.basics.proofs.Facts.{by, lie, AllOf}
 use Rattle.rows.specs.Rows.{Row, isOwn}
 use Rattle.image.specs.Stages.{directoriesFor}
 use Rattle.model.specs.State.{Checkpoint, idle, running, Outcome, Store, refused, Page, count}
 use Rattle.model.specs.Rules.{isFrozen, freeze, isDirty, thaw}
-use Rattle.model.specs.Sight.{seen, rows}
-use Rattle.model.specs.Transactions.{unless, Test, gives, _when_, readSeen, openCall, insertCall, replaceCall, deleteCall, written, commitCall, abortCall, readCall, listCall}
+use Rattle.model.specs.Sight.{seen, rows, versions}
+use Rattle.model.specs.Transactions.{rowOf, liveOf, unless, Test, gives, _when_, readSeen, openCall, insertCall, replaceCall, deleteCall, written, commitCall, abortCall, readCall, listCall}
 use Rattle.model.specs.Checkpoint.{left, leftOf, allocate, beginCall, stored, blocksNeeded, stepOf, storePage, storeDirectory, storeHeader, made, stepCall, stepAt, badImage, inTurn, runCall}
 use Rattle.model.specs.Calls.{accepted, call, steps, afterCalls, opens, inserts, replaces, deletes, commits, aborts, reads, lists, begins, runs}
 use Rattle.model.specs.WellFormed.{ListOrder, EnoughBlocks, CheckpointWell, BeginAnswers, OneLess, times, writesOf, RunIsSteps, CountsLow}
+use Rattle.model.specs.Places.{RunIsKey}
 use Rattle.model.specs.Seen.{RefusedKeeps}
 use Rattle.model.proofs.Lists.{Pairs, pairs-parts, all-parts, leb-true, leb-false, eqb-self, eqb-true, not-false, many-length}
 use Rattle.model.proofs.Frozen.{images-thaw, images-first, images-none}
@@ -26,6 +27,9 @@ use Rattle.model.proofs.Quiet.{Passed, step-frame}
 use Rattle.model.proofs.Books.{length-fill}
 use Rattle.model.proofs.Rows.{sub-length}
 use Rattle.model.proofs.Placing.{Before}
+use Rattle.model.proofs.Fate.{With}
+use Rattle.model.proofs.Runs.{Grouped}
+use Rattle.model.proofs.ByPlace.{all-grouped, grouped-run}
 use Rattle.model.proofs.Keeps.{rows-sub}
 use Rattle.model.proofs.Well.{sound, before-true, many-frozen}
 
@@ -190,3 +194,13 @@ pub counts-low : CountsLow
 counts-low s w tx h =
     let v = sound s w .valid in
     subst (λ n. n ≤ s .capacity) (sym (w .counts tx h)) (omega (arith, many-length (isOwn tx) (rows (s .pages)), sub-length (rows-sub (s .pages)), v .has .few))
+
+-- ---- runs
+
+pub run-is-key : RunIsKey
+unfolding versions
+run-is-key s w before run behind e lower x upper f =
+    let h = sound s w .valid .has in
+    let rs = rows (s .pages) in
+    let g = grouped-run rs before run behind (subst (Grouped rs) e (all-grouped (s .pages) (h .rising) (h .differ) .0)) in
+    all-parts _ lower (x ∷ upper) (subst (AllOf (λ x. map (λ y. y .1) (liveOf run) ≡ keep (With (rowOf x)) rs)) f g) .1 .0

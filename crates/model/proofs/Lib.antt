@@ -3,6 +3,7 @@ pub mod Lists
 pub mod Owners
 pub mod Splits
 pub mod Frozen
+pub mod ByNumber
 pub mod Pages
 pub mod Totals
 pub mod Alloc
@@ -18,7 +19,12 @@ pub mod Start
 pub mod Sound
 pub mod Rows
 pub mod Placing
+pub mod Places
 pub mod Fate
+pub mod Carry
+pub mod Runs
+pub mod Plans
+pub mod ByPlace
 pub mod Valid
 pub mod Closing
 pub mod Keeps
@@ -40,4 +46,8 @@ pub mod Reread
 pub mod Cases
 pub mod Traps
 pub mod Refusals
+pub mod Flat
+pub mod Others
+pub mod Passes
+pub mod PlaceCases
 pub mod Cuts

@@ -251,6 +251,24 @@ module _ {A : Type 0} (f : A → Bool) where
       (λ n. by (f x) (λ h. never (sym (rw (n, h) at e))) (λ h. (h, last-off xs n)))
       (λ z n. never (sym (rw (n, last) at e)))
 
+  pub last-any : (xs : List A) (y : A) → last f xs ≡ some y → any f xs ≡ true
+  unfolding last any if_then_else_
+  last-any [] y h = never h
+  last-any (x ∷ xs) y h =
+      by (f x) (λ k. rw (k, any)) (λ k. rw (k, any) (by-option (last f xs) (λ n. never (rw (n, k) at h)) (λ z n. last-any xs z n)))
+
+  pub last-skip : (x : A) (xs : List A) → f x ≡ false → last f (x ∷ xs) ≡ last f xs
+  unfolding last if_then_else_
+  last-skip x xs k = by-option (last f xs) (λ n. rw (n, k)) (λ y n. rw (n, last))
+
+  pub last-some : (x : A) (xs : List A) (y : A) → last f xs ≡ some y → last f (x ∷ xs) ≡ some y
+  unfolding last
+  last-some x xs y n = rw (n, last)
+
+  pub last-here : (x : A) (xs : List A) → last f xs ≡ none → f x ≡ true → last f (x ∷ xs) ≡ some x
+  unfolding last if_then_else_
+  last-here x xs n k = rw (n, k)
+
   pub any-cons : (r : A) (rs : List A) → any f (r ∷ rs) ≡ (f r || any f rs)
   unfolding any
   any-cons r rs = by (f r) (λ h. rw (h, any)) (λ h. rw (h, any))

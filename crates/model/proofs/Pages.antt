@@ -1,16 +1,17 @@
 -- A property of pages that every fresh page has, and a frozen page whatever its tuples, is kept by the rules.
 use mathlib.Core.Path.{_≡_, subst, sym}
-use Prim.Native.Nat.{ℕ}
+use Prim.Native.Nat.{ℕ, _-_}
 use mathlib.Core.Bool.{true, Bool, false}
 use mathlib.Core.List.{List, map, [], _∷_, _++_}
 use mathlib.Core.Option.{some, Option, none}
 use lib.Dec.{eqb, ltb}
+use lib.ListN.{length}
 use Rattle.basics.specs.Basics.{if_then_else_, isEmpty, first, any}
 use Rattle.basics.proofs.Facts.{AllOf, by, never, by-option}
 use Rattle.blocks.specs.Tuple.{Tuple}
 use Rattle.model.specs.State.{Page, Held}
-use Rattle.model.specs.Rules.{fresh, grown, withTuples, splitOnce, placeAfter, place, after, entering, placeFront, settle, settleNext, joined, joins, settleFull, listOf, around, remove, removeOn, hasNumber, commitOn, commit, thaw, isFrozen, isPending, thawOn, splitAll, calm, ripened}
-use Rattle.model.specs.Transactions.{Op, perform, toCommit, toRemove}
+use Rattle.model.specs.Rules.{fresh, grown, withTuples, splitOnce, placeAfter, place, after, entering, placeFront, settle, settleNext, joined, joins, settleFull, listOf, around, thaw, isFrozen, isPending, thawOn, splitAll, calm, ripened, removeRowOn, committedAt, commitRowOn, atRow, removeRow, commitRow}
+use Rattle.model.specs.Transactions.{PlaceOp, commitPlace, removePlace, carryOut}
 use Rattle.model.proofs.Lists.{all-append, some-eq}
 
 -- a page that is frozen, with other tuples
@@ -68,33 +69,31 @@ module _ (Q : Page → Type 0) (Q-fresh : (t : ℕ) (ts : List Held) → Q (fres
   unfolding settle if_then_else_
   all-settle rest o p ps r l a = by (isEmpty (p .tuples)) (λ h. rw h (all-append Q (listOf o) ps l a)) (λ h. rw h (all-settleFull rest o p ps r l a))
 
-  all-around : (hit : Page → Bool) (f : Option Page → Page → List Page → List Page)
-      → ((o : Option Page) (p : Page) (ps : List Page) → hit p ≡ true → AllOf Q (listOf o) → AllOf Q (p ∷ ps) → AllOf Q (f o p ps))
-      → (o : Option Page) (ps : List Page) → AllOf Q (listOf o) → AllOf Q ps → AllOf Q (around hit f o ps)
-  unfolding around listOf
-  all-around hit f F o [] l a = l
-  all-around hit f F o (p ∷ ps) l a =
-      by (hit p) (λ h. rw (h, around) (F o p ps h l a))
-      (λ h. rw (h, around) (all-append Q (listOf o) _ l (all-around hit f F (some p) ps (a .0, tt) (a .1))))
+  all-row : (f : ℕ → Option Page → Page → List Page → List Page)
+      → ((j : ℕ) (o : Option Page) (p : Page) (ps : List Page) → AllOf Q (listOf o) → AllOf Q (p ∷ ps) → AllOf Q (f j o p ps))
+      → (i : ℕ) (o : Option Page) (ps : List Page) → AllOf Q (listOf o) → AllOf Q ps → AllOf Q (atRow f i o ps)
+  unfolding atRow listOf
+  all-row f F i o [] l a = l
+  all-row f F i o (p ∷ ps) l a =
+      by (ltb i (length (p .tuples))) (λ h. rw (h, atRow) (F i o p ps l a))
+      (λ h. rw (h, atRow) (all-append Q (listOf o) _ l (all-row f F (i - length (p .tuples)) (some p) ps (a .0, tt) (a .1))))
 
-  all-removeOn : (n : ℕ) (o : Option Page) (p : Page) (ps : List Page) → hasNumber n p ≡ true → AllOf Q (listOf o) → AllOf Q (p ∷ ps)
-      → AllOf Q (removeOn n o p ps)
-  unfolding removeOn withTuples stillFrozen if_then_else_
-  all-removeOn n o p ps e l a =
+  all-removeRowOn : (j : ℕ) (o : Option Page) (p : Page) (ps : List Page) → AllOf Q (listOf o) → AllOf Q (p ∷ ps) → AllOf Q (removeRowOn j o p ps)
+  unfolding removeRowOn withTuples stillFrozen if_then_else_
+  all-removeRowOn j o p ps l a =
       by (p .frozen) (λ h. rw h (all-append Q (listOf o) _ l (Q-frozen p _ h (a .0), a .1)))
       (λ h. rw h (all-settle _ o _ ps (Q-fresh _ _, tt) l (a .1)))
 
-  all-commitOn : (n : ℕ) (o : Option Page) (p : Page) (ps : List Page) → hasNumber n p ≡ true → AllOf Q (listOf o) → AllOf Q (p ∷ ps)
-      → AllOf Q (commitOn n o p ps)
-  unfolding commitOn withTuples stillFrozen if_then_else_
-  all-commitOn n o p ps e l a =
+  all-commitRowOn : (j : ℕ) (o : Option Page) (p : Page) (ps : List Page) → AllOf Q (listOf o) → AllOf Q (p ∷ ps) → AllOf Q (commitRowOn j o p ps)
+  unfolding commitRowOn committedAt withTuples stillFrozen if_then_else_
+  all-commitRowOn j o p ps l a =
       by (p .frozen) (λ h. rw h (all-append Q (listOf o) _ l (Q-frozen p _ h (a .0), a .1))) (λ h. rw h (all-append Q (listOf o) _ l (Q-fresh _ _, a .1)))
 
-  pub all-perform : (os : List Op) (ps : List Page) → AllOf Q ps → AllOf Q (perform os ps)
-  unfolding perform remove commit listOf
-  all-perform [] ps a = a
-  all-perform (toCommit n ∷ os) ps a = all-perform os (commit n ps) (all-around (hasNumber n) (commitOn n) (all-commitOn n) none ps tt a)
-  all-perform (toRemove n ∷ os) ps a = all-perform os (remove n ps) (all-around (hasNumber n) (removeOn n) (all-removeOn n) none ps tt a)
+  pub all-carry : (n : ℕ) (os : List PlaceOp) (ps : List Page) → AllOf Q ps → AllOf Q (carryOut n os ps)
+  unfolding carryOut removeRow commitRow listOf
+  all-carry n [] ps a = a
+  all-carry n (commitPlace i ∷ os) ps a = all-carry n os _ (all-row commitRowOn all-commitRowOn _ none ps tt a)
+  all-carry n (removePlace i ∷ os) ps a = all-carry n os _ (all-row removeRowOn all-removeRowOn _ none ps tt a)
 
   all-aroundFirst : (hit : Page → Bool) (f : Option Page → Page → List Page → List Page) (q : Page)
       → ((o : Option Page) (ps : List Page) → AllOf Q (listOf o) → AllOf Q ps → AllOf Q (f o q ps))

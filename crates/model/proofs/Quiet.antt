@@ -15,12 +15,12 @@ use Rattle.image.specs.Stages.{directoriesFor}
 use Rattle.model.specs.State.{Store, Write, Outcome, Page, Active, Held, Answer, refused, done, Checkpoint, idle, running}
 use Rattle.model.specs.Rules.{fresh, isFrozen}
 use Rattle.model.specs.Sight.{seen}
-use Rattle.model.specs.Transactions.{unless, Test, gives, _when_, written, changed, perform, Op, readSeen, openCall, insertCall, replaceCall, deleteCall, commitCall, abortCall, readCall, listCall}
+use Rattle.model.specs.Transactions.{unless, Test, gives, _when_, written, changed, readSeen, openCall, insertCall, replaceCall, deleteCall, commitCall, abortCall, readCall, listCall, PlaceOp, carryOut}
 use Rattle.model.specs.Checkpoint.{stored, stepAt, stepOf, storePage, storeDirectory, storeHeader, made}
 use Rattle.model.specs.Calls.{Call, opens, inserts, replaces, deletes, commits, aborts, reads, lists, begins, steps, runs, call}
-use Rattle.model.proofs.Frozen.{images, images-place, images-perform}
-use Rattle.model.proofs.Pages.{stillFrozen, all-place, all-perform}
-use Rattle.model.proofs.Totals.{sum-place, sum-perform}
+use Rattle.model.proofs.Frozen.{images, images-place, images-carry}
+use Rattle.model.proofs.Pages.{stillFrozen, all-place, all-carry}
+use Rattle.model.proofs.Totals.{sum-place, sum-carry}
 
 -- a property of the store after a call and the blocks written: none if it is refused
 pub unless-out : (P : Store → List Write → Type 0) (ts : List Test) (s : Store) (o : Outcome) → P s [] → P (o .store) (o .writes)
@@ -97,9 +97,9 @@ module _ (s : Store) where
         less = λ w f g. sum-place w f g t _ (s .pages);
       }
 
-  quiet-performed : (ops : List Op) (os : List Active) → Quiet s (gives done (changed s (s .next) (perform ops (s .pages)) os))
+  quiet-carried : (n : ℕ) (ops : List PlaceOp) (os : List Active) → Quiet s (gives done (changed s (s .next) (carryOut n ops (s .pages)) os))
   unfolding gives
-  quiet-performed ops os =
+  quiet-carried n ops os =
       record {
         none-written = refl;
         next = _;
@@ -107,9 +107,9 @@ module _ (s : Store) where
         active = _;
         eq = refl;
         more = omega arith;
-        same = images-perform ops (s .pages);
-        kept = λ Q f g. all-perform Q f g ops (s .pages);
-        less = λ w f g. sum-perform w f g ops (s .pages);
+        same = images-carry n ops (s .pages);
+        kept = λ Q f g. all-carry Q f g n ops (s .pages);
+        less = λ w f g. sum-carry w f g n ops (s .pages);
       }
 
   quiet-seen : (r : ℕ) (o : Option Row) → Quiet s (readSeen r o s)
@@ -123,8 +123,8 @@ module _ (s : Store) where
   quiet (inserts tx t k bs) h = quiet-unless _ _ (quiet-written tx t k bs false)
   quiet (replaces tx t k bs) h = quiet-unless _ _ (quiet-written tx t k bs false)
   quiet (deletes tx t k) h = quiet-unless _ _ (quiet-written tx t k [] true)
-  quiet (commits tx) h = quiet-unless _ _ (quiet-performed _ _)
-  quiet (aborts tx) h = quiet-unless _ _ (quiet-performed _ _)
+  quiet (commits tx) h = quiet-unless _ _ (quiet-carried _ _ _)
+  quiet (aborts tx) h = quiet-unless _ _ (quiet-carried _ _ _)
   quiet (reads tx t k room) h = quiet-unless _ _ (quiet-seen room (seen tx t k s))
   quiet (lists room) h = quiet-unless _ _ (quiet-same _)
   quiet begins h = lie h

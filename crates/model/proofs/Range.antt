@@ -16,7 +16,7 @@ use Rattle.image.specs.Stages.{directoriesFor}
 use Rattle.model.specs.State.{Store, Page, Checkpoint, idle, running, Held}
 use Rattle.model.specs.Rules.{isFrozen, shown, isAdding}
 use Rattle.model.specs.Sight.{rows, held, seen}
-use Rattle.model.specs.Transactions.{writtenBy, written, newTuple, gives, changed, perform, Op, openCall, insertCall, replaceCall, deleteCall, commitCall, abortCall, readCall, readSeen, listCall, notOpen, noTable, tooLong}
+use Rattle.model.specs.Transactions.{writtenBy, written, newTuple, gives, changed, openCall, insertCall, replaceCall, deleteCall, commitCall, abortCall, readCall, readSeen, listCall, notOpen, noTable, tooLong}
 use Rattle.model.specs.Checkpoint.{stepAt, stepOf, storePage, storeDirectory, storeHeader, made, stored, allocate, inTurn, beginCall, stepCall, runCall, left}
 use Rattle.model.specs.Calls.{Call, Typed, call, opens, inserts, replaces, deletes, commits, aborts, reads, lists, begins, steps, runs}
 use Rattle.model.proofs.Lists.{many-length, all-insert, leb-false, not-false, all-map, all-two}
@@ -26,8 +26,8 @@ use Rattle.model.proofs.Steps.{FrozenFit, FrozenSmall}
 use Rattle.model.proofs.Sound.{PageOk}
 use Rattle.model.proofs.Rows.{Since, still, settled, Alike, Sub, sub-all, sub-length, thaw-rows, held-freeze}
 use Rattle.model.proofs.Placing.{place-put, page-full}
-use Rattle.model.proofs.Fate.{perform-rows}
 use Rattle.model.proofs.Valid.{Valid, Counted}
+use Rattle.model.proofs.ByPlace.{commit-carried, abort-carried}
 use Rattle.model.proofs.Keeps.{rows-sub, step-valid}
 use Rattle.model.proofs.Whole.{Fitting}
 
@@ -72,11 +72,6 @@ written-fits s v f tx t k bs m told lt lk lb ab =
     (all-insert (λ r. Fits (r .1)) (p .low) _ (p .high) (subst (AllOf (λ r. Fits (r .1))) (p .was) f)
     (new-fits s v tx k bs m told (omega (arith, leb-false 4096 tx lt)) lk lb ab))
 
--- ---- commit, abort
-
-performed-fits : (s : Store) → Valid s → Fitting s → (os : List Op) → AllOf (λ r. Fits (r .1)) (held (perform os (s .pages)))
-performed-fits s v f os = sub-fits (perform-rows os (s .pages) (v .pages) (v .has .differ) .0) f
-
 -- ---- the checkpoint
 
 pub step-fits : (s : Store) → Valid s → Fitting s → Fitting (stepAt (s .checkpoint) s .store)
@@ -107,8 +102,10 @@ keeps-fits (replaces tx tb k bs) s t v c f =
     unless-keeps Fitting _ s _ f (λ p. written-fits s v f tx tb k bs false (c tx (not-false _ (p .1 .0))) (p .0) (t .0)
     (omega (arith, leb-false (suc payloadLimit) (length bs) (p .1 .1 .1 .0))) (t .1))
 keeps-fits (deletes tx tb k) s t v c f = unless-keeps Fitting _ s _ f (λ p. written-fits s v f tx tb k [] true (c tx (not-false _ (p .1 .0))) (p .0) t (omega arith) tt)
-keeps-fits (commits tx) s t v c f = unless-keeps Fitting _ s _ f (λ p. performed-fits s v f _)
-keeps-fits (aborts tx) s t v c f = unless-keeps Fitting _ s _ f (λ p. performed-fits s v f _)
+keeps-fits (commits tx) s t v c f =
+    unless-keeps Fitting _ s _ f (λ p. sub-fits (commit-carried (s .pages) (v .has .rising) (v .has .differ) (v .pages) tx .0) f)
+keeps-fits (aborts tx) s t v c f =
+    unless-keeps Fitting _ s _ f (λ p. sub-fits (abort-carried (s .pages) (v .has .rising) (v .has .differ) (v .pages) tx .0) f)
 keeps-fits (reads tx tb k r) s t v c f = unless-keeps Fitting _ s _ f (λ p. seen-fits (seen tx tb k s))
   where
     seen-fits : (o : Option Row) → Fitting (readSeen r o s .store)

@@ -13,12 +13,12 @@ use Rattle.basics.proofs.Facts.{by, lie, and-true, AllOf}
 use Rattle.blocks.specs.Tuple.{Owner, committed, Tuple}
 use Rattle.rows.specs.Rows.{Row, rowsOf, number}
 use Rattle.model.specs.State.{Held, Page}
-use Rattle.model.specs.Rules.{isRemoving, ripe, ripened, fresh, joins, joined, settleNext, settle, settleFull, listOf, commit, asCommitted, isCommitting, around, calm, splitAll, thawOn, thaw, isPending, isFrozen, kept, isNumber, edit, hasNumber, gone, goneLater, withPending, isAdding, keptLater, remove, removeOn, withTuples, commitOn, freeze}
+use Rattle.model.specs.Rules.{isRemoving, ripe, ripened, fresh, joins, joined, settleNext, settle, settleFull, listOf, asCommitted, isCommitting, around, calm, splitAll, thawOn, thaw, isPending, isFrozen, kept, gone, goneLater, withPending, isAdding, keptLater, withTuples, freeze}
 use Rattle.model.specs.Sight.{rows, held}
-use Rattle.model.specs.Transactions.{isRow}
 use Rattle.model.proofs.Lists.{eqb-true, nothing-left, has-some, here, Pairs, all-map, off-any, pairs-parts}
 use Rattle.model.proofs.Splits.{together, Small, split-all}
-use Rattle.model.proofs.Frozen.{bare, takenLater-is}
+use Rattle.model.proofs.Frozen.{bare}
+use Rattle.model.proofs.ByNumber.{commit, isNumber, edit, hasNumber, remove, removeOn, commitOn, isRow, takenLater-is}
 use Rattle.model.proofs.Sound.{PageOk, small, ripened-calm}
 
 -- a tuple as it stands on its page, with its table
@@ -47,7 +47,7 @@ live (e ∷ es) = if isRemoving (e .1 .pending) then live es else (e .0, ripe (e
 
 -- ---- appending
 
-table-append : (t : ℕ) (a b : List Held) → withTable t (a ++ b) ≡ withTable t a ++ withTable t b
+pub table-append : (t : ℕ) (a b : List Held) → withTable t (a ++ b) ≡ withTable t a ++ withTable t b
 unfolding withTable
 table-append t [] b = refl
 table-append t (x ∷ a) b = rw (table-append t a b)
@@ -119,7 +119,7 @@ entries-settleFull rest (some o) p ps r =
     (λ h. rw h (entries-append (o ∷ []) (settleNext rest p ps) ∙ ap (λ z. entries (o ∷ []) ++ z) (entries-settleNext rest p ps r)
     ∙ sym (entries-append (o ∷ []) (p ∷ ps))))
 
-entries-settle : (rest : List Page) (o : Option Page) (p : Page) (ps : List Page) → (0 < length (p .tuples) → entries rest ≡ entries (p ∷ []))
+pub entries-settle : (rest : List Page) (o : Option Page) (p : Page) (ps : List Page) → (0 < length (p .tuples) → entries rest ≡ entries (p ∷ []))
     → entries (settle rest o p ps) ≡ entries (listOf o ++ p ∷ ps)
 unfolding settle if_then_else_
 entries-settle rest o p ps r =
@@ -249,7 +249,7 @@ still-ripe t ts =
     let c = calm-plain t (ripened ts) in
     (subst (λ z. Sub z (plain (withTable t ts))) (live-rows t ts ∙ sym (c .0)) (live-sub (withTable t ts)), c .1 ∙ sym (live-rows t ts))
 
-entries-page : (o : Option Page) (p : Page) (ps : List Page)
+pub entries-page : (o : Option Page) (p : Page) (ps : List Page)
     → entries (listOf o ++ p ∷ ps) ≡ entries (listOf o) ++ (withTable (p .table) (p .tuples) ++ entries ps)
 unfolding entries
 entries-page o p ps = entries-append (listOf o) (p ∷ ps)
@@ -467,7 +467,8 @@ amends-none G n = (empty, λ d. refl)
 
 pub amends-remove : (n : ℕ) (ps : List Page) → AllOf PageOk ps → Amends away n (entries (remove n ps)) (entries ps)
 unfolding remove listOf
-amends-remove n ps a = around-held (Amends away n) (hasNumber n) (removeOn n) (amends-none away n) (λ p h a b s. amends-past away n (withTable (p .table) (p .tuples)) a b (hasNumber-off n p h) s) (λ o p ps h k ok. amends-removeOn n o p ps h k (ok .0)) none ps tt a
+amends-remove n ps a = around-held (Amends away n) (hasNumber n) (removeOn n) (amends-none away n)
+    (λ p h a b s. amends-past away n (withTable (p .table) (p .tuples)) a b (hasNumber-off n p h) s) (λ o p ps h k ok. amends-removeOn n o p ps h k (ok .0)) none ps tt a
 
 pub amends-commit : (n : ℕ) (ps : List Page) → AllOf PageOk ps → Amends kept-row n (entries (commit n ps)) (entries ps)
 unfolding commit listOf

@@ -14,11 +14,12 @@ use Rattle.rows.specs.Rows.{Row, isAt, isOwn, isBy, number}
 use Rattle.model.specs.State.{Store, Outcome, filled, refused}
 use Rattle.model.specs.Rules.{asCommitted}
 use Rattle.model.specs.Sight.{seen, rows, versions, seenOf}
-use Rattle.model.specs.Transactions.{newTuple, written, openNumbers, isRow, ownAt, unless, Test, gives, _when_, readSeen, readCall, notOpen, noTable, withWrite, changed, insertCall, replaceCall, deleteCall, listCall, commitCall, perform, removeAll, without, openCall, abortCall}
+use Rattle.model.specs.Transactions.{newTuple, written, openNumbers, unless, Test, gives, _when_, readSeen, readCall, notOpen, noTable, withWrite, changed, insertCall, replaceCall, deleteCall, listCall, commitCall, without, openCall, abortCall}
 use Rattle.model.specs.Checkpoint.{left, stepCall, beginCall, stored, inTurn, stepAt, runCall}
 use Rattle.model.specs.Calls.{Call, reads, call, opens, inserts, replaces, deletes, commits, aborts, lists, begins, steps, runs}
 use Rattle.model.specs.Seen.{remains, WriterReads, WriterMisses, LooksOnly, RowsStay, SeenAfterCommit, mayShow, SeenAsBefore}
 use Rattle.model.proofs.Lists.{leb-false, eqb-self, here, Pairs, keep-cons, keep-past, all-map, keep-none, and-yes, and-no, eqb-true, all-mem, not-false, Mem, there, mem-all, last-mem, pairs-keep, lt-false, eqb-sym, in-append}
+use Rattle.model.proofs.ByNumber.{isRow, ownAt}
 use Rattle.model.proofs.Owners.{numbers-write, numbers-without, in-others, numbers-append}
 use Rattle.model.proofs.Quiet.{unless-out, unless-keeps}
 use Rattle.model.proofs.Rows.{kept-row, Differ}
@@ -26,6 +27,7 @@ use Rattle.model.proofs.Placing.{Above, Before}
 use Rattle.model.proofs.Fate.{at-join, at-split, gather, afterAbort, verdict, row-self, row-false, afterCommit}
 use Rattle.model.proofs.Valid.{above-off, Valid}
 use Rattle.model.proofs.Closing.{abort-at, gather-cons, gather-none, commit-at, verdict-stays}
+use Rattle.model.proofs.ByPlace.{abortedPages}
 use Rattle.model.proofs.Keeps.{rows-rising, rows-differ}
 use Rattle.model.proofs.Inserted.{notAbove, insertRow}
 use Rattle.model.proofs.Tally.{written-rows, begin-rows, stepCall-rows, run-rows, committed-rows, step-active, aborted-rows}
@@ -402,7 +404,7 @@ module _ (s : Store) (v : Valid s) (u t k : ℕ) where
   unmoved-written tx tb key bs m d = (sees-others s v tx tb key bs m u d t k, still-listed tx u s)
 
   unmoved-aborted : (tx : ℕ) → eqb tx u ≡ false
-      → Unmoved u t k s (changed s (s .next) (perform (removeAll (keep (isOwn tx) (rows (s .pages)))) (s .pages)) (without tx (s .active)))
+      → Unmoved u t k s (changed s (s .next) (abortedPages tx (s .pages)) (without tx (s .active)))
   unfolding changed
   unmoved-aborted tx d = (
     aborted-sight tx s v u d t k _ (aborted-rows tx s v),

@@ -1,8 +1,8 @@
 -- Every page that is not frozen is not empty, fits its block and has nothing pending; and every tuple has at most 53 bytes.
 use mathlib.Core.Path.{_≡_, ap, sym, _∙_, subst, refl}
-use Prim.Native.Nat.{_≤_, _<_, _-_, ℕ, _+_, _*_, min}
+use Prim.Native.Nat.{_≤_, _<_, _-_, ℕ, zero, suc, _+_, _*_, min}
 use native.Mathlib.Omega.{arith}
-use mathlib.Core.Bool.{not, false, true, _&&_, Bool}
+use mathlib.Core.Bool.{not, false, true, _&&_}
 use mathlib.Core.List.{List, map, [], _∷_, _++_}
 use mathlib.Core.Option.{some, Option, none}
 use lib.Dec.{leb, eqb, ltb}
@@ -11,11 +11,11 @@ use Rattle.basics.specs.Basics.{sum, if_then_else_, isEmpty, any}
 use Rattle.basics.proofs.Facts.{AllOf, lie, by, never, by-option, and-true}
 use Rattle.blocks.specs.Tuple.{Tuple, size, ownerSize}
 use Rattle.model.specs.State.{Held, nothing, Page, adding, Pending, removing, committing}
-use Rattle.model.specs.Rules.{heldSize, shown, fresh, withTuples, lead, splitOnce, fits, half, after, entering, calm, grown, place, placeAfter, placeFront, joins, joined, settle, settleNext, settleFull, listOf, edit, isNumber, commit, asCommitted, withPending, kept, gone, goneLater, isAdding, keptLater, isRemoving, takenLater, removeOn, remove, commitOn, around, hasNumber, ripe, isCommitting, ripened, splitAll, isPending, thawOn, thaw, isFrozen}
-use Rattle.model.specs.Transactions.{Op, perform, toCommit, toRemove}
+use Rattle.model.specs.Rules.{heldSize, shown, fresh, withTuples, lead, splitOnce, fits, half, after, entering, calm, grown, place, placeAfter, placeFront, joins, joined, settle, settleNext, settleFull, listOf, asCommitted, withPending, kept, gone, goneLater, isAdding, keptLater, isRemoving, around, ripe, isCommitting, ripened, splitAll, isPending, thawOn, thaw, isFrozen, editAt, takenAt, removeRowOn, committedAt, commitRowOn, atRow, removeRow, commitRow}
+use Rattle.model.specs.Transactions.{PlaceOp, commitPlace, removePlace, carryOut}
 use Rattle.model.proofs.Lists.{all-map, leb-true, leb-false, all-take, all-drop, some-eq, all-append, not-true, has-some, all-parts}
 use Rattle.model.proofs.Splits.{mostSize, Small, half-between, after-all, together, split-all}
-use Rattle.model.proofs.Frozen.{after-shown, entering-adding, shown-takenLater, shown-keptLater, bare, shown-calm}
+use Rattle.model.proofs.Frozen.{after-shown, entering-adding, shown-takenAt, shown-keptLater, bare, shown-calm}
 
 -- a tuple of a page that is not frozen: small, nothing pending
 abbrev pub Calm : Held → Type 0
@@ -201,17 +201,19 @@ settle-ok rest o p ps r l c a =
 
 -- ---- removing and committing
 
-edit-all : (P : Held → Type 0) (g : Held → List Held) (n : ℕ) → ((x : Held) → P x → AllOf P (g x)) → (ts : List Held) → AllOf P ts
-    → AllOf P (edit g n ts)
-unfolding edit if_then_else_
-edit-all P g n f [] a = tt
-edit-all P g n f (x ∷ xs) a = by (isNumber n x) (λ h. rw h (all-append P (g x) xs (f x (a .0)) (a .1))) (λ h. rw h (a .0, edit-all P g n f xs (a .1)))
+edit-all : (P : Held → Type 0) (g : Held → List Held) → ((x : Held) → P x → AllOf P (g x)) → (j : ℕ) (ts : List Held) → AllOf P ts
+    → AllOf P (editAt g j ts)
+unfolding editAt
+edit-all P g f j [] a = tt
+edit-all P g f zero (x ∷ xs) a = all-append P (g x) xs (f x (a .0)) (a .1)
+edit-all P g f (suc j) (x ∷ xs) a = (a .0, edit-all P g f j xs (a .1))
 
-edit-sum : (g : Held → List Held) (n : ℕ) → ((x : Held) → sum heldSize (g x) ≤ heldSize x) → (ts : List Held)
-    → sum heldSize (edit g n ts) ≤ sum heldSize ts
-unfolding edit if_then_else_ sum
-edit-sum g n f [] = omega arith
-edit-sum g n f (x ∷ xs) = by (isNumber n x) (λ h. let k = f x in rw (h, sum-append (g x) xs) (omega arith)) (λ h. let k = edit-sum g n f xs in rw h (omega arith))
+edit-sum : (g : Held → List Held) → ((x : Held) → sum heldSize (g x) ≤ heldSize x) → (j : ℕ) (ts : List Held)
+    → sum heldSize (editAt g j ts) ≤ sum heldSize ts
+unfolding editAt sum
+edit-sum g f j [] = omega arith
+edit-sum g f zero (x ∷ xs) = let k = f x in rw (sum-append (g x) xs) (omega arith)
+edit-sum g f (suc j) (x ∷ xs) = let k = edit-sum g f j xs in omega arith
 
 committed-size : (x : Tuple) → size (asCommitted x) ≤ size x
 unfolding size asCommitted ownerSize
@@ -243,54 +245,63 @@ kept-calm : (x : Held) → Calm x → AllOf Calm (kept x)
 unfolding kept heldSize
 kept-calm x c = let k = committed-size (x .tuple) in ((omega (arith, c .0), c .1), tt)
 
-taken-small : (n : ℕ) (ts : List Held) → AllOf Small ts → AllOf Small (takenLater n ts)
-unfolding takenLater if_then_else_
-taken-small n ts a = by (isEmpty (edit goneLater n ts)) (λ h. rw h a) (λ h. rw h (edit-all Small goneLater n goneLater-small ts a))
+taken-small : (j : ℕ) (ts : List Held) → AllOf Small ts → AllOf Small (takenAt j ts)
+unfolding takenAt if_then_else_
+taken-small j ts a = by (isEmpty (editAt goneLater j ts)) (λ h. rw h a) (λ h. rw h (edit-all Small goneLater goneLater-small j ts a))
 
-removeOn-ok : (n : ℕ) (o : Option Page) (p : Page) (ps : List Page) → AllOf PageOk (listOf o) → AllOf PageOk (p ∷ ps)
-    → AllOf PageOk (removeOn n o p ps)
-unfolding removeOn if_then_else_ gone sum fresh
-removeOn-ok n o p ps l a =
+removeRowOn-ok : (j : ℕ) (o : Option Page) (p : Page) (ps : List Page) → AllOf PageOk (listOf o) → AllOf PageOk (p ∷ ps)
+    → AllOf PageOk (removeRowOn j o p ps)
+unfolding removeRowOn if_then_else_ gone sum fresh
+removeRowOn-ok j o p ps l a =
     by (p .frozen)
-    (λ h. rw h (all-append PageOk (listOf o) _ l (frozen-ok _ _ refl (taken-small n (p .tuples) (a .0 .0)) (shown-takenLater n (p .tuples)) (a .0 .2 h), a .1)))
+    (λ h. rw h (all-append PageOk (listOf o) _ l (frozen-ok _ _ refl (taken-small j (p .tuples) (a .0 .0)) (shown-takenAt j (p .tuples)) (a .0 .2 h), a .1)))
     (λ h.
     let f = a .0 .1 h in
-    let c = edit-all Calm gone n (λ x q. tt) (p .tuples) (f .0) in
-    let k = edit-sum gone n (λ x. omega arith) (p .tuples) in
-    rw h (settle-ok _ o _ ps (λ m. (fresh-ok (p .table) (edit gone n (p .tuples)) (c, omega arith, m), tt)) l c (a .1)))
+    let c = edit-all Calm gone (λ x q. tt) j (p .tuples) (f .0) in
+    let k = edit-sum gone (λ x. omega arith) j (p .tuples) in
+    rw h (settle-ok _ o _ ps (λ m. (fresh-ok (p .table) (editAt gone j (p .tuples)) (c, omega arith, m), tt)) l c (a .1)))
 
-kept-length : (n : ℕ) (ts : List Held) → length (edit kept n ts) ≡ length ts
-unfolding edit if_then_else_ kept
-kept-length n [] = refl
-kept-length n (x ∷ xs) = by (isNumber n x) (λ h. rw h) (λ h. rw (h, kept-length n xs))
+kept-length : (j : ℕ) (ts : List Held) → length (editAt kept j ts) ≡ length ts
+unfolding editAt kept
+kept-length j [] = refl
+kept-length zero (x ∷ xs) = refl
+kept-length (suc j) (x ∷ xs) = rw (kept-length j xs)
 
-commitOn-ok : (n : ℕ) (o : Option Page) (p : Page) (ps : List Page) → AllOf PageOk (listOf o) → AllOf PageOk (p ∷ ps)
-    → AllOf PageOk (commitOn n o p ps)
-unfolding commitOn if_then_else_ kept sum
-commitOn-ok n o p ps l a =
+commitRowOn-ok : (j : ℕ) (o : Option Page) (p : Page) (ps : List Page) → AllOf PageOk (listOf o) → AllOf PageOk (p ∷ ps)
+    → AllOf PageOk (commitRowOn j o p ps)
+unfolding commitRowOn committedAt if_then_else_ kept sum
+commitRowOn-ok j o p ps l a =
     by (p .frozen)
     (λ h. rw h (all-append PageOk (listOf o) _ l
-    (frozen-ok _ _ refl (edit-all Small keptLater n keptLater-small (p .tuples) (a .0 .0)) (shown-keptLater n (p .tuples)) (a .0 .2 h), a .1)))
+    (frozen-ok _ _ refl (edit-all Small keptLater keptLater-small j (p .tuples) (a .0 .0)) (shown-keptLater j (p .tuples)) (a .0 .2 h), a .1)))
     (λ h.
     let f = a .0 .1 h in
-    let c = edit-all Calm kept n kept-calm (p .tuples) (f .0) in
-    let k = edit-sum kept n kept-size (p .tuples) in
-    rw h (all-append PageOk (listOf o) _ l (fresh-ok (p .table) (edit kept n (p .tuples)) (c, omega arith, rw (kept-length n (p .tuples)) (f .2)), a .1)))
+    let c = edit-all Calm kept kept-calm j (p .tuples) (f .0) in
+    let k = edit-sum kept kept-size j (p .tuples) in
+    rw h (all-append PageOk (listOf o) _ l (fresh-ok (p .table) (editAt kept j (p .tuples)) (c, omega arith, rw (kept-length j (p .tuples)) (f .2)), a .1)))
 
-around-ok : (hit : Page → Bool) (f : Option Page → Page → List Page → List Page)
-    → ((o : Option Page) (p : Page) (ps : List Page) → AllOf PageOk (listOf o) → AllOf PageOk (p ∷ ps) → AllOf PageOk (f o p ps))
-    → (o : Option Page) (ps : List Page) → AllOf PageOk (listOf o) → AllOf PageOk ps → AllOf PageOk (around hit f o ps)
-unfolding around listOf
-around-ok hit f F o [] l a = l
-around-ok hit f F o (p ∷ ps) l a =
-    by (hit p) (λ h. rw (h, around) (F o p ps l a))
-    (λ h. rw (h, around) (all-append PageOk (listOf o) _ l (around-ok hit f F (some p) ps (a .0, tt) (a .1))))
+row-ok : (f : ℕ → Option Page → Page → List Page → List Page)
+    → ((j : ℕ) (o : Option Page) (p : Page) (ps : List Page) → AllOf PageOk (listOf o) → AllOf PageOk (p ∷ ps) → AllOf PageOk (f j o p ps))
+    → (i : ℕ) (o : Option Page) (ps : List Page) → AllOf PageOk (listOf o) → AllOf PageOk ps → AllOf PageOk (atRow f i o ps)
+unfolding atRow listOf
+row-ok f F i o [] l a = l
+row-ok f F i o (p ∷ ps) l a =
+    by (ltb i (length (p .tuples))) (λ h. rw (h, atRow) (F i o p ps l a))
+    (λ h. rw (h, atRow) (all-append PageOk (listOf o) _ l (row-ok f F (i - length (p .tuples)) (some p) ps (a .0, tt) (a .1))))
 
-pub perform-ok : (os : List Op) (ps : List Page) → AllOf PageOk ps → AllOf PageOk (perform os ps)
-unfolding perform remove commit listOf
-perform-ok [] ps a = a
-perform-ok (toCommit n ∷ os) ps a = perform-ok os (commit n ps) (around-ok (hasNumber n) (commitOn n) (commitOn-ok n) none ps tt a)
-perform-ok (toRemove n ∷ os) ps a = perform-ok os (remove n ps) (around-ok (hasNumber n) (removeOn n) (removeOn-ok n) none ps tt a)
+pub removeRow-ok : (i : ℕ) (ps : List Page) → AllOf PageOk ps → AllOf PageOk (removeRow i ps)
+unfolding removeRow listOf
+removeRow-ok i ps a = row-ok removeRowOn removeRowOn-ok i none ps tt a
+
+pub commitRow-ok : (i : ℕ) (ps : List Page) → AllOf PageOk ps → AllOf PageOk (commitRow i ps)
+unfolding commitRow listOf
+commitRow-ok i ps a = row-ok commitRowOn commitRowOn-ok i none ps tt a
+
+pub carry-ok : (n : ℕ) (os : List PlaceOp) (ps : List Page) → AllOf PageOk ps → AllOf PageOk (carryOut n os ps)
+unfolding carryOut
+carry-ok n [] ps a = a
+carry-ok n (commitPlace i ∷ os) ps a = carry-ok n os _ (commitRow-ok _ ps a)
+carry-ok n (removePlace i ∷ os) ps a = carry-ok n os _ (removeRow-ok _ ps a)
 
 -- ---- thawing
 

@@ -7,7 +7,7 @@ use mathlib.Core.List.{List, [], _∷_, _++_}
 use mathlib.Core.Option.{none, Option, some}
 use lib.Dec.{eqb, ltb}
 use lib.ListN.{length}
-use Rattle.basics.specs.Basics.{if_then_else_, howMany, any, keep, first, isIn}
+use Rattle.basics.specs.Basics.{if_then_else_, howMany, any, first, isIn}
 use Rattle.basics.proofs.Facts.{lie, by, AllOf, by-option, and-true}
 use Rattle.blocks.specs.Tuple.{tentative, committed, Owner}
 use Rattle.rows.specs.Rows.{isOwn, isBy, Row}
@@ -15,16 +15,17 @@ use Rattle.image.specs.Stages.{directoriesFor}
 use Rattle.model.specs.State.{Answer, Store, Outcome, Page, Checkpoint, idle, running, done, refused, filled, Active}
 use Rattle.model.specs.Rules.{isFrozen}
 use Rattle.model.specs.Sight.{rows, seen}
-use Rattle.model.specs.Transactions.{unless, Test, gives, _when_, newTuple, written, changed, perform, plan, planRows, removeAll, openCall, insertCall, replaceCall, deleteCall, openNumbers, commitCall, abortCall, readCall, readSeen, listCall, listing, writtenBy, withWrite, without}
+use Rattle.model.specs.Transactions.{unless, Test, gives, _when_, newTuple, written, changed, openCall, insertCall, replaceCall, deleteCall, openNumbers, commitCall, abortCall, readCall, readSeen, listCall, listing, writtenBy, withWrite, without}
 use Rattle.model.specs.Checkpoint.{beginCall, stored, storePage, made, allocate, stepAt, stepOf, storeDirectory, storeHeader, inTurn, stepCall, runCall, left}
 use Rattle.model.specs.Calls.{Call, opens, commits, aborts, inserts, replaces, deletes, reads, lists, begins, steps, runs, accepted, call, others, withWriter, writers, afterCalls, hadWritten}
 use Rattle.model.proofs.Lists.{Mem, many-none, all-map, eqb-true, all-mem, eqb-sym, many-length, in-keep, not-true, le-true, in-here, eqb-self, in-cons, and-no, and-yes, any-many}
 use Rattle.model.proofs.Owners.{count-append, count-new, numbers-write, count-write, count-other, numbers-without, count-without}
 use Rattle.model.proofs.Quiet.{unless-out, unless-keeps, step-frame}
 use Rattle.model.proofs.Rows.{rows-freeze, thaw-rows, sub-length}
-use Rattle.model.proofs.Fate.{gather, afterCommit, perform-rows, commit-rows, afterAbort, abort-rows}
+use Rattle.model.proofs.Fate.{gather, afterCommit, commit-rows, afterAbort, abort-rows}
 use Rattle.model.proofs.Valid.{Valid, Counted, Opened}
 use Rattle.model.proofs.Closing.{Comes, as-is, final, not-own, own-owner, gather-all, many-gather, commit-comes, commit-stays, abort-comes, abort-stays}
+use Rattle.model.proofs.ByPlace.{committedPages, abortedPages, commit-carried, abort-carried}
 use Rattle.model.proofs.Keeps.{rows-differ, step-valid, keeps, rows-sub}
 use Rattle.model.proofs.Inserted.{insertRow, place-rows, many-inserted}
 
@@ -118,16 +119,11 @@ module _ (tx : ℕ) (rs : List Row) (F : Row → List Row)
       (all-mem _ rs (λ r m. all-map (Comes tx r) (λ a. isOwn u a ≡ false) (λ a c. ap (λ z. isOwn z a) (sym q) ∙ gone-own r a c) (F r) (comes r m))))))
       (λ e. rw e (many-gather (isOwn u) F rs (all-mem _ rs (λ r m. one-own u (eqb-sym tx u e) r m))))
 
-pub committed-rows : (tx : ℕ) (s : Store) → Valid s
-    → rows (perform (plan tx (s .pages)) (s .pages)) ≡ gather (afterCommit tx (rows (s .pages))) (rows (s .pages))
-unfolding plan
-committed-rows tx s v = perform-rows (planRows tx (rows (s .pages)) (rows (s .pages))) (s .pages) (v .pages) (v .has .differ) .1
-    ∙ commit-rows tx (rows (s .pages)) (rows-differ s v)
+pub committed-rows : (tx : ℕ) (s : Store) → Valid s → rows (committedPages tx (s .pages)) ≡ gather (afterCommit tx (rows (s .pages))) (rows (s .pages))
+committed-rows tx s v = commit-carried (s .pages) (v .has .rising) (v .has .differ) (v .pages) tx .1 ∙ commit-rows tx (rows (s .pages)) (rows-differ s v)
 
-pub aborted-rows : (tx : ℕ) (s : Store) → Valid s
-    → rows (perform (removeAll (keep (isOwn tx) (rows (s .pages)))) (s .pages)) ≡ gather (afterAbort tx) (rows (s .pages))
-aborted-rows tx s v = perform-rows (removeAll (keep (isOwn tx) (rows (s .pages)))) (s .pages) (v .pages) (v .has .differ) .1
-    ∙ abort-rows tx (rows (s .pages)) (rows-differ s v)
+pub aborted-rows : (tx : ℕ) (s : Store) → Valid s → rows (abortedPages tx (s .pages)) ≡ gather (afterAbort tx) (rows (s .pages))
+aborted-rows tx s v = abort-carried (s .pages) (v .has .rising) (v .has .differ) (v .pages) tx .1 ∙ abort-rows tx (rows (s .pages)) (rows-differ s v)
 
 -- ---- the checkpoint leaves the rows
 
@@ -190,7 +186,7 @@ delete-tally : (tx t k : ℕ) (s : Store) → Valid s → Tallies (deletes tx t 
 unfolding deleteCall noted
 delete-tally tx t k s v = unless-tally (deletes tx t k) _ s _ (written-tally (deletes tx t k) s v tx t k [] true (λ u n. refl))
 
-committed-own : (tx : ℕ) (s : Store) → Valid s → (u : ℕ) → howMany (isOwn u) (rows (perform (plan tx (s .pages)) (s .pages))) ≡ closed u tx (own u s)
+committed-own : (tx : ℕ) (s : Store) → Valid s → (u : ℕ) → howMany (isOwn u) (rows (committedPages tx (s .pages))) ≡ closed u tx (own u s)
 unfolding own
 committed-own tx s v u =
     let os = openNumbers (s .active) in
@@ -199,7 +195,7 @@ committed-own tx s v u =
     ap (howMany (isOwn u)) (committed-rows tx s v) ∙ closed-own tx rs (afterCommit tx rs) (commit-comes tx os rs (v .sees) d) (commit-stays tx os rs (v .sees) d) u
 
 aborted-own : (tx : ℕ) (s : Store) → Valid s → (u : ℕ)
-    → howMany (isOwn u) (rows (perform (removeAll (keep (isOwn tx) (rows (s .pages)))) (s .pages))) ≡ closed u tx (own u s)
+    → howMany (isOwn u) (rows (abortedPages tx (s .pages))) ≡ closed u tx (own u s)
 unfolding own
 aborted-own tx s v u =
     let os = openNumbers (s .active) in

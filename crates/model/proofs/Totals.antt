@@ -1,17 +1,19 @@
 -- A total over the pages, to which a fresh page adds nothing and a frozen page the same whatever its tuples, is not raised by the rules.
 use mathlib.Core.Path.{_≡_, refl, subst, sym}
-use Prim.Native.Nat.{ℕ, _+_, _≤_}
+use Prim.Native.Nat.{ℕ, _+_, _-_, _≤_}
+use native.Mathlib.Nat.{le-trans}
 use native.Mathlib.Omega.{arith}
 use mathlib.Core.Bool.{true, Bool, false}
 use mathlib.Core.List.{List, _∷_, [], _++_, map}
 use mathlib.Core.Option.{Option, some, none}
 use lib.Dec.{eqb, ltb}
+use lib.ListN.{length}
 use Rattle.basics.specs.Basics.{if_then_else_, sum, isEmpty, any}
 use Rattle.basics.proofs.Facts.{by, never, by-option}
 use Rattle.blocks.specs.Tuple.{Tuple}
 use Rattle.model.specs.State.{Page, Held}
-use Rattle.model.specs.Rules.{grown, withTuples, remove, removeOn, listOf, edit, gone, commit, commitOn, keptLater, kept, fresh, splitOnce, placeAfter, place, after, entering, placeFront, calm, settle, settleNext, joined, joins, settleFull, around, hasNumber, thaw, isFrozen, thawOn, isPending, ripened, splitAll, takenLater}
-use Rattle.model.specs.Transactions.{Op, perform, toCommit, toRemove}
+use Rattle.model.specs.Rules.{grown, withTuples, listOf, gone, keptLater, kept, fresh, splitOnce, placeAfter, place, after, entering, placeFront, calm, settle, settleNext, joined, joins, settleFull, around, thaw, isFrozen, thawOn, isPending, ripened, splitAll, editAt, takenAt, removeRowOn, committedAt, commitRowOn, atRow, removeRow, commitRow}
+use Rattle.model.specs.Transactions.{PlaceOp, commitPlace, removePlace, carryOut}
 use Rattle.model.proofs.Lists.{some-eq}
 use Rattle.model.proofs.Pages.{stillFrozen}
 
@@ -19,15 +21,15 @@ grown-frozen : (p : Page) (ts : List Held) → p .frozen ≡ true → grown p ts
 unfolding grown withTuples stillFrozen if_then_else_
 grown-frozen p ts h = rw h
 
-removeOn-frozen : (n : ℕ) (o : Option Page) (p : Page) (ps : List Page) → p .frozen ≡ true
-    → removeOn n o p ps ≡ listOf o ++ stillFrozen p (takenLater n (p .tuples)) ∷ ps
-unfolding removeOn withTuples stillFrozen if_then_else_
-removeOn-frozen n o p ps h = rw h
+removeRowOn-frozen : (j : ℕ) (o : Option Page) (p : Page) (ps : List Page) → p .frozen ≡ true
+    → removeRowOn j o p ps ≡ listOf o ++ stillFrozen p (takenAt j (p .tuples)) ∷ ps
+unfolding removeRowOn withTuples stillFrozen if_then_else_
+removeRowOn-frozen j o p ps h = rw h
 
-commitOn-frozen : (n : ℕ) (o : Option Page) (p : Page) (ps : List Page) → p .frozen ≡ true
-    → commitOn n o p ps ≡ listOf o ++ stillFrozen p (edit keptLater n (p .tuples)) ∷ ps
-unfolding commitOn withTuples stillFrozen if_then_else_
-commitOn-frozen n o p ps h = rw h
+commitRowOn-frozen : (j : ℕ) (o : Option Page) (p : Page) (ps : List Page) → p .frozen ≡ true
+    → commitRowOn j o p ps ≡ listOf o ++ stillFrozen p (editAt keptLater j (p .tuples)) ∷ ps
+unfolding commitRowOn committedAt withTuples stillFrozen if_then_else_
+commitRowOn-frozen j o p ps h = rw h
 
 module _ (w : Page → ℕ) (w-fresh : (t : ℕ) (ts : List Held) → w (fresh t ts) ≡ 0)
     (w-frozen : (p : Page) (ts : List Held) → p .frozen ≡ true → w (stillFrozen p ts) ≡ w p) where
@@ -100,28 +102,47 @@ module _ (w : Page → ℕ) (w-fresh : (t : ℕ) (ts : List Held) → w (fresh t
       by (hit p) (λ h. rw (h, around) (F o p ps))
       (λ h. let l = sum-around hit f more F (some p) ps in let e = sum-append (listOf o) (around hit f (some p) ps) in rw (h, around) (omega arith))
 
-  sum-removeOn : (n : ℕ) (o : Option Page) (p : Page) (ps : List Page) → sum w (removeOn n o p ps) ≤ sum w (listOf o) + (w p + sum w ps) + 0
-  unfolding removeOn if_then_else_ sum
-  sum-removeOn n o p ps =
+  sum-row : (f : ℕ → Option Page → Page → List Page → List Page)
+      → ((j : ℕ) (o : Option Page) (p : Page) (ps : List Page) → sum w (f j o p ps) ≤ sum w (listOf o) + (w p + sum w ps))
+      → (i : ℕ) (o : Option Page) (ps : List Page) → sum w (atRow f i o ps) ≤ sum w (listOf o) + sum w ps
+  unfolding atRow listOf sum
+  sum-row f F i o [] = omega arith
+  sum-row f F i o (p ∷ ps) =
+      by (ltb i (length (p .tuples))) (λ h. rw (h, atRow) (F i o p ps))
+      (λ h. let k = i - length (p .tuples) in let l = sum-row f F k (some p) ps in let e = sum-append (listOf o) (atRow f k (some p) ps) in
+      rw (h, atRow) (omega arith))
+
+  sum-removeRowOn : (j : ℕ) (o : Option Page) (p : Page) (ps : List Page) → sum w (removeRowOn j o p ps) ≤ sum w (listOf o) + (w p + sum w ps)
+  unfolding removeRowOn if_then_else_ sum
+  sum-removeRowOn j o p ps =
       by (p .frozen)
-      (λ h. let e = w-frozen p (takenLater n (p .tuples)) h in let f = sum-append (listOf o) (stillFrozen p (takenLater n (p .tuples)) ∷ ps) in
-      subst (λ z. sum w z ≤ sum w (listOf o) + (w p + sum w ps) + 0) (sym (removeOn-frozen n o p ps h)) (omega arith))
-      (λ h. let q = fresh (p .table) (edit gone n (p .tuples)) in let f = w-fresh (p .table) (edit gone n (p .tuples)) in
+      (λ h. let e = w-frozen p (takenAt j (p .tuples)) h in let f = sum-append (listOf o) (stillFrozen p (takenAt j (p .tuples)) ∷ ps) in
+      subst (λ z. sum w z ≤ sum w (listOf o) + (w p + sum w ps)) (sym (removeRowOn-frozen j o p ps h)) (omega arith))
+      (λ h. let q = fresh (p .table) (editAt gone j (p .tuples)) in let f = w-fresh (p .table) (editAt gone j (p .tuples)) in
       let l = sum-settle (q ∷ []) o q ps (omega arith) in rw h (omega arith))
 
-  sum-commitOn : (n : ℕ) (o : Option Page) (p : Page) (ps : List Page) → sum w (commitOn n o p ps) ≤ sum w (listOf o) + (w p + sum w ps) + 0
-  unfolding commitOn if_then_else_ sum
-  sum-commitOn n o p ps =
+  sum-commitRowOn : (j : ℕ) (o : Option Page) (p : Page) (ps : List Page) → sum w (commitRowOn j o p ps) ≤ sum w (listOf o) + (w p + sum w ps)
+  unfolding commitRowOn committedAt if_then_else_ sum
+  sum-commitRowOn j o p ps =
       by (p .frozen)
-      (λ h. let e = w-frozen p (edit keptLater n (p .tuples)) h in let f = sum-append (listOf o) (stillFrozen p (edit keptLater n (p .tuples)) ∷ ps) in
-      subst (λ z. sum w z ≤ sum w (listOf o) + (w p + sum w ps) + 0) (sym (commitOn-frozen n o p ps h)) (omega arith))
-      (λ h. let f = w-fresh (p .table) (edit kept n (p .tuples)) in let e = sum-append (listOf o) (fresh (p .table) (edit kept n (p .tuples)) ∷ ps) in rw h (omega arith))
+      (λ h. let e = w-frozen p (editAt keptLater j (p .tuples)) h in let f = sum-append (listOf o) (stillFrozen p (editAt keptLater j (p .tuples)) ∷ ps) in
+      subst (λ z. sum w z ≤ sum w (listOf o) + (w p + sum w ps)) (sym (commitRowOn-frozen j o p ps h)) (omega arith))
+      (λ h. let f = w-fresh (p .table) (editAt kept j (p .tuples)) in
+      let e = sum-append (listOf o) (fresh (p .table) (editAt kept j (p .tuples)) ∷ ps) in rw h (omega arith))
 
-  pub sum-perform : (os : List Op) (ps : List Page) → sum w (perform os ps) ≤ sum w ps
-  unfolding perform remove commit listOf sum
-  sum-perform [] ps = omega arith
-  sum-perform (toCommit n ∷ os) ps = let l = sum-perform os (commit n ps) in let k = sum-around (hasNumber n) (commitOn n) 0 (sum-commitOn n) none ps in omega arith
-  sum-perform (toRemove n ∷ os) ps = let l = sum-perform os (remove n ps) in let k = sum-around (hasNumber n) (removeOn n) 0 (sum-removeOn n) none ps in omega arith
+  sum-removeRow : (i : ℕ) (ps : List Page) → sum w (removeRow i ps) ≤ sum w ps
+  unfolding removeRow listOf sum
+  sum-removeRow i ps = let k = sum-row removeRowOn sum-removeRowOn i none ps in omega arith
+
+  sum-commitRow : (i : ℕ) (ps : List Page) → sum w (commitRow i ps) ≤ sum w ps
+  unfolding commitRow listOf sum
+  sum-commitRow i ps = let k = sum-row commitRowOn sum-commitRowOn i none ps in omega arith
+
+  pub sum-carry : (n : ℕ) (os : List PlaceOp) (ps : List Page) → sum w (carryOut n os ps) ≤ sum w ps
+  unfolding carryOut
+  sum-carry n [] ps = omega arith
+  sum-carry n (commitPlace i ∷ os) ps = le-trans (sum-carry n os _) (sum-commitRow _ ps)
+  sum-carry n (removePlace i ∷ os) ps = le-trans (sum-carry n os _) (sum-removeRow _ ps)
 
   -- the thawed page, if it is clean, may add
   pub sum-thaw : (b more : ℕ) (ps : List Page) → ((p : Page) → w (record { table = p .table; block = b; frozen = false; tuples = p .tuples }) ≤ more)

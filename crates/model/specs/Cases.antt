@@ -21,7 +21,7 @@ use Rattle.image.specs.Whole.{headerStage, pagesBelow, pagesStage}
 use Rattle.model.specs.State.{Held, Page, idle, Store, Write, storedBytes, Answer, refused, done, count, filled}
 use Rattle.model.specs.Rules.{heldSize, fresh, calm, joins, rules}
 use Rattle.model.specs.Sight.{held, rows, isForeign, versions, seenOf, seen}
-use Rattle.model.specs.Transactions.{gives, unless, changed, openCall, notOpen, noTable, tooLong, foreign, present, unseen, full, newTuple, written, insertCall, replaceCall, deleteCall, readSeen, readCall, listing, listCall, perform, isRow, removeAll, planKey, ownAt, planRows, plan, openNumbers, isFor, writtenBy, withWrite, without, commitCall, abortCall}
+use Rattle.model.specs.Transactions.{gives, unless, changed, openCall, notOpen, noTable, tooLong, foreign, present, unseen, full, newTuple, written, insertCall, replaceCall, deleteCall, readSeen, readCall, listing, listCall, openNumbers, isFor, writtenBy, withWrite, without, commitCall, abortCall, placeRules}
 use Rattle.model.specs.Checkpoint.{stored as storedStore, isFree, allocate, freeCount, usedToo, isRunning, blocksNeeded, beginCall, leftOf, left, made, fill, storable, storePage, storeDirectory, headerFor, storeHeader, stepOf, stepAt, badImage, stepCall, inTurn, runCall}
 use Rattle.model.specs.Calls.{Call, opens, inserts, replaces, deletes, commits, aborts, reads, lists, begins, steps, runs, call, isBegin, others, withWriter, writers, accepted, afterCalls, hadWritten}
 use Rattle.model.specs.Recover.{memoryFor, putBlock, imageAfter, freshStore, make, madeImage, loaded, reopened, recoveredStore, recoverPages, recoverBelow, recover}
@@ -297,5 +297,5 @@ pub record Cuts : Type 0 where
 
 -- opens all that the cases compute with: `unfolding cases`
 unfoldable pub cases : ℕ
-unfolding basics bitsOf numberOf bitsIn field num4 same isTentative ownerSize size spell bytesOf filledUp blockOf committedBit markBit ownerFields payloadFields recordFields recordsFields entryFields encodeBlock kind spelledBy readHeader headerIn readOwner readTuple taken whole readTuples pageTable pageCount pageLevel pageOfBytes pageIn readEntries directoryCount directoryLevel directoryIn decodeBlock rowRules blockAt blockCount view wholeBlocks blockOk isZero directoriesFor directoryBlocks unusedNumbers headerOk headerTest addEntries readDirectories entriesOk testedEntries directoryTest pageOk addPage readPages rowsOfPages testedPages pageTest headerStage pagesBelow pagesStage rules held rows isForeign versions seenOf seen gives unless changed openCall notOpen noTable tooLong foreign present unseen full newTuple written insertCall replaceCall deleteCall readSeen readCall listing listCall perform isRow removeAll planKey ownAt planRows plan openNumbers isFor writtenBy withWrite without others commitCall abortCall storedStore isFree allocate freeCount usedToo isRunning blocksNeeded beginCall leftOf left made fill storable storePage storeDirectory headerFor storeHeader stepOf stepAt badImage stepCall inTurn runCall call isBegin withWriter writers accepted afterCalls hadWritten memoryFor putBlock freshStore make madeImage loaded reopened recoveredStore recoverPages recoverBelow recover tag log isHeader landed stored content answers writes shape many after5 tuple pageOf clean booking committedPages reading spells firstOf imageAfter shapeOf recoveredAfter places splitMeanwhile commitMeanwhile committedLate threeTimes oneAgain bothFrozen refusedCalls lastStore refusalOf ownerNumbers tupleNumbers heldNumbers pageNumbers agrees recoversTo tears cutHere cutEverywhere script scriptLog
+unfolding basics bitsOf numberOf bitsIn field num4 same isTentative ownerSize size spell bytesOf filledUp blockOf committedBit markBit ownerFields payloadFields recordFields recordsFields entryFields encodeBlock kind spelledBy readHeader headerIn readOwner readTuple taken whole readTuples pageTable pageCount pageLevel pageOfBytes pageIn readEntries directoryCount directoryLevel directoryIn decodeBlock rowRules blockAt blockCount view wholeBlocks blockOk isZero directoriesFor directoryBlocks unusedNumbers headerOk headerTest addEntries readDirectories entriesOk testedEntries directoryTest pageOk addPage readPages rowsOfPages testedPages pageTest headerStage pagesBelow pagesStage rules held rows isForeign versions seenOf seen gives unless changed openCall notOpen noTable tooLong foreign present unseen full newTuple written insertCall replaceCall deleteCall readSeen readCall listing listCall placeRules openNumbers isFor writtenBy withWrite without others commitCall abortCall storedStore isFree allocate freeCount usedToo isRunning blocksNeeded beginCall leftOf left made fill storable storePage storeDirectory headerFor storeHeader stepOf stepAt badImage stepCall inTurn runCall call isBegin withWriter writers accepted afterCalls hadWritten memoryFor putBlock freshStore make madeImage loaded reopened recoveredStore recoverPages recoverBelow recover tag log isHeader landed stored content answers writes shape many after5 tuple pageOf clean booking committedPages reading spells firstOf imageAfter shapeOf recoveredAfter places splitMeanwhile commitMeanwhile committedLate threeTimes oneAgain bothFrozen refusedCalls lastStore refusalOf ownerNumbers tupleNumbers heldNumbers pageNumbers agrees recoversTo tears cutHere cutEverywhere script scriptLog
 cases = 0

@@ -8,5 +8,7 @@ pub mod Recover
 pub mod QuotedLine
 pub mod Checkpoints
 pub mod WellFormed
+pub mod Places
+pub mod PlaceCases
 pub mod Seen
 pub mod Cases

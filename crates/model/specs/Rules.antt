@@ -1,5 +1,5 @@
 -- The rules on pages: placing, splitting, joining, dropping, freezing and thawing.
-use Prim.Native.Nat.{ℕ, zero, suc, _+_, _*_}
+use Prim.Native.Nat.{ℕ, zero, suc, _+_, _-_, _*_}
 use mathlib.Core.Bool.{Bool, true, false, not, _&&_}
 use mathlib.Core.Option.{Option, none, some, Option·map}
 use mathlib.Core.List.{List, [], _∷_, _++_, map}
@@ -131,7 +131,7 @@ unfoldable pub around : (Page → Bool) → (Option Page → Page → List Page 
 around hit f prev [] = listOf prev
 around hit f prev (p ∷ ps) = elim (hit p) [ true ↦ f prev p ps | false ↦ listOf prev ++ around hit f (some p) ps ]
 
--- ---- removing and committing a tuple, by its number
+-- ---- removing and committing a tuple, by its place among all tuples held
 
 -- a pending add
 unfoldable pub isAdding : Pending → Bool
@@ -169,19 +169,6 @@ withPending o h = record { tuple = h .tuple; pending = o }
 unfoldable pub asCommitted : Tuple → Tuple
 asCommitted x = record { key = x .key; number = x .number; owner = committed; mark = x .mark; payload = x .payload }
 
--- the tuple of number n
-unfoldable pub isNumber : ℕ → Held → Bool
-isNumber n h = eqb (h .tuple .number) n
-
--- the page that has it
-unfoldable pub hasNumber : ℕ → Page → Bool
-hasNumber n p = any (isNumber n) (p .tuples)
-
--- g on the tuple of that number: it gives none or one
-unfoldable pub edit : (Held → List Held) → ℕ → List Held → List Held
-edit g n [] = []
-edit g n (h ∷ hs) = if isNumber n h then g h ++ hs else h ∷ edit g n hs
-
 -- removed
 unfoldable pub gone : Held → List Held
 gone h = []
@@ -189,10 +176,6 @@ gone h = []
 -- on a frozen page: a pending add is taken away, another becomes a pending remove, which replaces a pending commit
 unfoldable pub goneLater : Held → List Held
 goneLater h = if isAdding (h .pending) then [] else withPending removing h ∷ []
-
--- the tuples of a frozen page after a removal. (The last one stays: a frozen page has a tuple of its begin, so that it never is a pending add.)
-unfoldable pub takenLater : ℕ → List Held → List Held
-takenLater n hs = let left = edit goneLater n hs in if isEmpty left then hs else left
 
 -- committed, whatever is pending
 unfoldable pub kept : Held → List Held
@@ -205,24 +188,46 @@ keptLater h =
     else if isRemoving (h .pending) then h ∷ []
     else withPending committing h ∷ []
 
+-- g on tuple j: it gives none or one
+unfoldable pub editAt : (Held → List Held) → ℕ → List Held → List Held
+editAt g j [] = []
+editAt g zero (h ∷ hs) = g h ++ hs
+editAt g (suc j) (h ∷ hs) = h ∷ editAt g j hs
+
+-- the tuples of a frozen page after the removal of tuple j. (The last one stays: a frozen page has a tuple of its begin, so that it never is a pending add.)
+unfoldable pub takenAt : ℕ → List Held → List Held
+takenAt j hs = if isEmpty (editAt goneLater j hs) then hs else editAt goneLater j hs
+
 -- a frozen page notes the removal; another one changes directly, and is dropped or joined
-unfoldable pub removeOn : ℕ → Option Page → Page → List Page → List Page
-removeOn n prev p ps =
-    if p .frozen then listOf prev ++ withTuples p (takenLater n (p .tuples)) ∷ ps
-    else (let q = fresh (p .table) (edit gone n (p .tuples)) in settle (q ∷ []) prev q ps)
+unfoldable pub removeRowOn : ℕ → Option Page → Page → List Page → List Page
+removeRowOn j prev p ps =
+    if p .frozen then listOf prev ++ withTuples p (takenAt j (p .tuples)) ∷ ps
+    else (let q = fresh (p .table) (editAt gone j (p .tuples)) in settle (q ∷ []) prev q ps)
+
+-- a page with tuple j committed: at once, or as a frozen page notes it
+unfoldable pub committedAt : ℕ → Page → Page
+committedAt j p = if p .frozen then withTuples p (editAt keptLater j (p .tuples)) else fresh (p .table) (editAt kept j (p .tuples))
 
 -- direct commit never joins
-unfoldable pub commitOn : ℕ → Option Page → Page → List Page → List Page
-commitOn n prev p ps =
-    listOf prev ++ (if p .frozen then withTuples p (edit keptLater n (p .tuples)) else fresh (p .table) (edit kept n (p .tuples))) ∷ ps
+unfoldable pub commitRowOn : ℕ → Option Page → Page → List Page → List Page
+commitRowOn j prev p ps = listOf prev ++ committedAt j p ∷ ps
 
--- the tuple of number n is removed
-unfoldable pub remove : ℕ → List Page → List Page
-remove n ps = around (hasNumber n) (removeOn n) none ps
+-- f on the page that has row i of all tuples held, with the row's place on that page, the page before it and those after
+unfoldable pub atRow : (ℕ → Option Page → Page → List Page → List Page) → ℕ → Option Page → List Page → List Page
+atRow f i prev [] = listOf prev
+atRow f i prev (p ∷ ps) =
+    elim (ltb i (length (p .tuples))) [
+      | true ↦ f i prev p ps
+      | false ↦ listOf prev ++ atRow f (i - length (p .tuples)) (some p) ps
+    ]
 
--- the tuple of number n is committed
-unfoldable pub commit : ℕ → List Page → List Page
-commit n ps = around (hasNumber n) (commitOn n) none ps
+-- row i is removed
+unfoldable pub removeRow : ℕ → List Page → List Page
+removeRow i ps = atRow removeRowOn i none ps
+
+-- row i is committed
+unfoldable pub commitRow : ℕ → List Page → List Page
+commitRow i ps = atRow commitRowOn i none ps
 
 -- ---- freezing and thawing
 
@@ -265,5 +270,5 @@ thaw b ps = around isFrozen (thawOn b) none ps
 
 -- opens all of this module: `unfolding rules`
 unfoldable pub rules : ℕ
-unfolding heldSize fits fresh withTuples lead half splitOnce splitDeep splitAll after grown entering calm placeAfter placeFront place joins joined listOf settleNext settleFull settle around isAdding isRemoving isCommitting isPending withPending asCommitted isNumber hasNumber edit gone goneLater takenLater kept keptLater removeOn commitOn remove commit isDirty freeze shown ripe ripened isFrozen thawOn thaw
+unfolding heldSize fits fresh withTuples lead half splitOnce splitDeep splitAll after grown entering calm placeAfter placeFront place joins joined listOf settleNext settleFull settle around isAdding isRemoving isCommitting isPending withPending asCommitted gone goneLater kept keptLater editAt takenAt removeRowOn committedAt commitRowOn atRow removeRow commitRow isDirty freeze shown ripe ripened isFrozen thawOn thaw
 rules = 0

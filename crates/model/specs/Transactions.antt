@@ -1,17 +1,17 @@
 -- Open, insert, replace, delete, read, list, commit, abort: each with its refusals in the order in which they are tested.
-use Prim.Native.Nat.{ℕ, suc, _*_, _/_, _%_, min}
-use mathlib.Core.Bool.{Bool, true, false, not, _&&_}
+use Prim.Native.Nat.{ℕ, suc, _-_, _*_, _/_, _%_, min}
+use mathlib.Core.Bool.{Bool, true, false, not}
 use mathlib.Core.Option.{Option, none, some}
 use mathlib.Core.List.{List, [], _∷_, _++_, map}
 use lib.ListN.{length}
 use lib.Dec.{leb, ltb, eqb}
-use Rattle.basics.specs.Basics.{if_then_else_, any, keep, isEmpty, isSome, isIn}
+use Rattle.basics.specs.Basics.{if_then_else_, any, keep, last, isEmpty, isSome, isIn}
 use Rattle.blocks.specs.Limits.{payloadLimit, mostNumber}
 use Rattle.blocks.specs.Tuple.{Tuple, tentative}
-use Rattle.rows.specs.Rows.{Row, number, isOwn, isAt, openLimit}
-use Rattle.model.specs.State.{Page, Active, Store, Answer, refused, done, filled, Outcome}
-use Rattle.model.specs.Rules.{place, remove, commit}
-use Rattle.model.specs.Sight.{held, rows, isForeign, versions, seen}
+use Rattle.rows.specs.Rows.{Row, isOwn, isAt, openLimit}
+use Rattle.model.specs.State.{Held, Page, Active, Store, Answer, refused, done, filled, Outcome}
+use Rattle.model.specs.Rules.{place, isRemoving, ripe, removeRow, commitRow}
+use Rattle.model.specs.Sight.{held, isForeign, versions, seen}
 
 -- ---- refusals: the first test that holds
 
@@ -143,54 +143,110 @@ unfoldable pub listCall : ℕ → Store → Outcome
 listCall room s =
     unless (21 when ltb room (2 * length (s .active)) ∷ []) s (gives (filled (length (s .active)) (listing (openNumbers (s .active)))) s)
 
--- ---- commit, abort: a plan of operations on tuples by number, made from the rows at entry
+-- ---- runs: all tuples held, numbered from 0 in order, those of one key together
 
--- an operation on the tuple of that number
-pub data Op : Type 0 where
-  toCommit toRemove : ℕ → Op
+-- every tuple that is held, with its table
+unfoldable pub tagged : List Page → List (ℕ × Held)
+tagged [] = []
+tagged (p ∷ ps) = map (λ h. (p .table, h)) (p .tuples) ++ tagged ps
 
--- the operations, one after another
-unfoldable pub perform : List Op → List Page → List Page
-perform [] ps = ps
-perform (toCommit n ∷ os) ps = perform os (commit n ps)
-perform (toRemove n ∷ os) ps = perform os (remove n ps)
+-- a tuple with its place and its table
+abbrev pub Placed : Type 0
+Placed = ℕ × (ℕ × Held)
 
--- the row of number n
-unfoldable pub isRow : ℕ → Row → Bool
-isRow n r = eqb (number r) n
+-- the row that it holds
+abbrev pub rowOf : Placed → Row
+rowOf x = (x .1 .0, x .1 .1 .tuple)
 
--- all of these are removed, in their order
-unfoldable pub removeAll : List Row → List Op
-removeAll [] = []
-removeAll (r ∷ rs) = toRemove (number r) ∷ removeAll rs
+-- the tuples with their places, from i on
+unfoldable pub placed : ℕ → List (ℕ × Held) → List Placed
+placed i [] = []
+placed i (x ∷ xs) = (i, x) ∷ placed (suc i) xs
 
--- r: the transaction's newest version of a key; vs: every version of it, by rising number. A delete mark removes them all; else the
--- newest is committed and then the others are removed
-unfoldable pub planKey : Row → List Row → List Op
-planKey r vs = if r .1 .mark then removeAll vs else toCommit (number r) ∷ removeAll (keep (λ y. not (isRow (number r) y)) vs)
+-- every tuple that is held, with its place and its table
+unfoldable pub allPlaced : List Page → List Placed
+allPlaced ps = placed 0 (tagged ps)
 
--- the transaction's own version of key k of table t
-unfoldable pub ownAt : ℕ → ℕ → ℕ → Row → Bool
-ownAt tx t k y = isOwn tx y && isAt t k y
+-- x is of the run's table and key; an empty run takes any
+unfoldable pub continues : List Placed → Placed → Bool
+continues [] x = true
+continues (y ∷ ys) x = isAt (rowOf y .0) (rowOf y .1 .key) (rowOf x)
 
--- along the rows, by table, then key: at the last own one of each key
-unfoldable pub planRows : ℕ → List Row → List Row → List Op
-planRows tx everything [] = []
-planRows tx everything (x ∷ xs) =
-    (if isOwn tx x && not (any (ownAt tx (x .0) (x .1 .key)) xs) then planKey x (keep (isAt (x .0) (x .1 .key)) everything) else [])
-    ++ planRows tx everything xs
+-- runs of neighbours of one table and key, those pending add or removal too; run is the one so far
+unfoldable pub runs : List Placed → List Placed → List (List Placed)
+runs run [] = run ∷ []
+runs run (x ∷ xs) = elim (continues run x) [ true ↦ runs (run ++ x ∷ []) xs | false ↦ run ∷ runs (x ∷ []) xs ]
+
+-- the runs of all pages
+unfoldable pub allRuns : List Page → List (List Placed)
+allRuns ps = runs [] (allPlaced ps)
+
+-- the live rows with their places: pending operations taken as done
+unfoldable pub liveOf : List Placed → List (ℕ × Row)
+liveOf [] = []
+liveOf (x ∷ xs) = if isRemoving (x .1 .1 .pending) then liveOf xs else (x .0, (x .1 .0, ripe (x .1 .1))) ∷ liveOf xs
+
+-- ---- plans of operations on tuples by their places at entry
+
+-- an operation on the tuple of that place at entry
+pub data PlaceOp : Type 0 where
+  commitPlace removePlace : ℕ → PlaceOp
+
+-- the transaction's own row
+unfoldable pub ownPlaced : ℕ → ℕ × Row → Bool
+ownPlaced tx y = isOwn tx (y .1)
+
+-- all of these are removed, by rising place
+unfoldable pub removePlaces : List (ℕ × Row) → List PlaceOp
+removePlaces [] = []
+removePlaces (y ∷ ys) = removePlace (y .0) ∷ removePlaces ys
+
+-- ys: the live rows of a run; the newest own one, if there is one. A delete mark removes them all; else the newest is committed and then
+-- the others are removed
+unfoldable pub planNewest : Option (ℕ × Row) → List (ℕ × Row) → List PlaceOp
+planNewest none ys = []
+planNewest (some x) ys =
+    if x .1 .1 .mark then removePlaces ys else commitPlace (x .0) ∷ removePlaces (keep (λ y. not (eqb (y .0) (x .0))) ys)
+
+-- the operations of a commit on one run
+unfoldable pub planRun : ℕ → List Placed → List PlaceOp
+planRun tx run = planNewest (last (ownPlaced tx) (liveOf run)) (liveOf run)
+
+-- the operations of a commit, run by run
+unfoldable pub planRuns : ℕ → List (List Placed) → List PlaceOp
+planRuns tx [] = []
+planRuns tx (run ∷ rs) = planRun tx run ++ planRuns tx rs
 
 -- the operations of a commit
-unfoldable pub plan : ℕ → List Page → List Op
-plan tx ps = let rs = rows ps in planRows tx rs rs
+unfoldable pub closePlan : ℕ → List Page → List PlaceOp
+closePlan tx ps = planRuns tx (allRuns ps)
+
+-- the operations of an abort: each live own row is removed
+unfoldable pub abortPlan : ℕ → List Page → List PlaceOp
+abortPlan tx ps = removePlaces (keep (ownPlaced tx) (liveOf (allPlaced ps)))
+
+-- ---- commit, abort
+
+-- The operations, one after another; n is how many tuples were held at entry. A tuple's place now is its place at entry less the
+-- tuples gone since, which all stood before it.
+unfoldable pub carryOut : ℕ → List PlaceOp → List Page → List Page
+carryOut n [] ps = ps
+carryOut n (commitPlace i ∷ os) ps = carryOut n os (commitRow (i - (n - length (held ps))) ps)
+carryOut n (removePlace i ∷ os) ps = carryOut n os (removeRow (i - (n - length (held ps))) ps)
 
 -- commit carries out its plan and closes the transaction
 unfoldable pub commitCall : ℕ → Store → Outcome
 commitCall tx s =
-    unless (notOpen tx s) s (gives done (changed s (s .next) (perform (plan tx (s .pages)) (s .pages)) (without tx (s .active))))
+    unless (notOpen tx s) s
+    (gives done (changed s (s .next) (carryOut (length (held (s .pages))) (closePlan tx (s .pages)) (s .pages)) (without tx (s .active))))
 
--- abort removes the transaction's tuples in that order
+-- so does abort
 unfoldable pub abortCall : ℕ → Store → Outcome
 abortCall tx s =
     unless (notOpen tx s) s
-    (gives done (changed s (s .next) (perform (removeAll (keep (isOwn tx) (rows (s .pages)))) (s .pages)) (without tx (s .active))))
+    (gives done (changed s (s .next) (carryOut (length (held (s .pages))) (abortPlan tx (s .pages)) (s .pages)) (without tx (s .active))))
+
+-- opens what commit and abort plan and carry out: `unfolding placeRules`
+unfoldable pub placeRules : ℕ
+unfolding tagged placed allPlaced continues runs allRuns liveOf ownPlaced removePlaces planNewest planRun planRuns closePlan abortPlan carryOut
+placeRules = 0

@@ -3,6 +3,7 @@ use blocks::Header;
 ghost use mathlib.Core.Path.{_≡_};
 ghost use mathlib.Core.Bool.{not};
 ghost use Prim.Native.Nat.{_≤_};
+ghost use lib.ListN.{length};
 ghost use Rattle.basics.specs.Basics.{all, isIn};
 ghost use Rattle.naming.specs.Names.{capacityLimit, directoriesFor, blockOk, isZero, countsOk, headerOk, entriesOk};
 
@@ -67,6 +68,7 @@ fn apart(s: &[u32], t: &[u32]) -> bool
 
 // The directories' entries, in an image of n blocks.
 pub fn entries_ok(entries: &[u32], directories: &[u32], n: u32) -> bool
+    requires { ⌜ length (now entries) ≤ capacityLimit ⌝ }
     ensures { λ r. ⌜ r ≡ entriesOk n (now (directories .entry)) (now (entries .entry)) ⌝ }
 {
     if !in_blocks(entries, n) {

@@ -1,6 +1,6 @@
 // Replays the script on standard input: calls, one a line, on one image and one memory, and prints what each answers. A script may also
 // overwrite a block of the image, as a cut store does, and have blocks and a digest of the image printed.
-use answers::Answer;
+use contracts::Answer;
 use libc::STDIN_FILENO;
 use script::Call;
 use script::Extent;

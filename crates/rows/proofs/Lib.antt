@@ -1,6 +1,12 @@
 pub mod Ands
 pub mod Turns
 pub mod Owners
+pub mod Chains
+pub mod Keys
+pub mod Totals
+pub mod Ranks
+pub mod Order
+pub mod Counts
 pub mod Places
 pub mod Kept
 pub mod Bare

@@ -2,12 +2,12 @@
 use mathlib.Core.Path.{_≡_, refl, sym, ap, _∙_}
 use mathlib.Core.Bool.{Bool, true, false, _||_}
 use mathlib.Core.List.{List, [], _∷_}
-use Prim.Native.Nat.{ℕ, zero, suc, _+_, _-_, _≤_, _<_}
+use Prim.Native.Nat.{ℕ, suc, _+_, _-_, _≤_, _<_}
 use native.Mathlib.Omega.{arith}
 use native.Mathlib.Numerals.{add-one}
 use lib.ListN.{length, drop, getD, drop-of-length-le}
 use lib.Seq.{drop-cons}
-use Rattle.basics.specs.Basics.{if_then_else_, any, all, paired, howMany, isIn, distinct}
+use Rattle.basics.specs.Basics.{if_then_else_, any, all, paired, howMany}
 use Rattle.basics.proofs.Facts.{by}
 use Rattle.rows.specs.Columns.{tab}
 
@@ -31,19 +31,6 @@ module _ {A : Type 0} (g : ℕ → A) (i n : ℕ) where
 -- all of a list by its index
 pub tab-whole : {A : Type 0} (g : ℕ → A) (n : ℕ) → tab g 0 (n - 0) ≡ tab g 0 n
 tab-whole g n = let e : n - 0 ≡ n = omega arith in rw e
-
-drop-tab : {A : Type 0} (g : ℕ → A) (i n j : ℕ) → drop j (tab g i n) ≡ tab g (i + j) (n - j)
-unfolding tab
-drop-tab g i n zero = let e : i + 0 ≡ i = omega arith in let m : n - 0 ≡ n = omega arith in rw (e, m)
-drop-tab g i zero (suc j) = let e : 0 - suc j ≡ 0 = omega arith in rw e
-drop-tab g i (suc n) (suc j) =
-    let e : i + suc j ≡ i + 1 + j = omega arith in
-    let m : suc n - suc j ≡ n - j = omega arith in
-    rw (e, m) (drop-tab g (i + 1) n j)
-
--- what is left of a list by its index
-pub tab-left : {A : Type 0} (g : ℕ → A) (n i : ℕ) → drop i (tab g 0 n) ≡ tab g i (n - i)
-tab-left g n i = let e : 0 + i ≡ i = omega arith in drop-tab g 0 n i ∙ ap (λ (k : ℕ). tab g k (n - i)) e
 
 -- ---- turns
 
@@ -81,15 +68,6 @@ module _ {A : Type 0} (f : A → A → Bool) {x y : A} {xs l : List A} (e : l �
   unfolding paired
   pair-not t = rw (e, t)
 
-module _ {x : ℕ} {xs l : List ℕ} (e : l ≡ x ∷ xs) where
-  pub distinct-yes : isIn x xs ≡ false → distinct l ≡ distinct xs
-  unfolding distinct
-  distinct-yes t = rw (e, t)
-
-  pub distinct-not : isIn x xs ≡ true → distinct l ≡ false
-  unfolding distinct
-  distinct-not t = rw (e, t)
-
 -- ---- ends
 
 module _ {A : Type 0} (f : A → Bool) {l : List A} (e : l ≡ []) where
@@ -104,10 +82,6 @@ module _ {A : Type 0} (f : A → Bool) {l : List A} (e : l ≡ []) where
   pub count-end : howMany f l ≡ 0
   unfolding howMany
   count-end = ap (howMany f) e
-
-pub distinct-end : {l : List ℕ} → l ≡ [] → distinct l ≡ true
-unfolding distinct
-distinct-end e = ap distinct e
 
 pub any-cons : {A : Type 0} (f : A → Bool) (x : A) (xs : List A) → any f (x ∷ xs) ≡ (f x || any f xs)
 any-cons f x xs = by (f x) (λ t. rw t (any-yes f refl t)) (λ t. rw t (any-not f refl t))

@@ -1,12 +1,12 @@
 -- Rows as the code holds them for its tests: four columns of numbers. A row read from them has no payload.
-use Prim.Native.Nat.{ℕ, zero, suc, _+_, _-_, _*_, _/_, _%_}
-use mathlib.Core.Bool.{Bool, false, not}
+use Prim.Native.Nat.{ℕ, zero, suc, _+_, _-_, _/_, _%_}
+use mathlib.Core.Bool.{Bool}
 use mathlib.Core.List.{List, [], _∷_, map}
 use lib.ListN.{length, getD}
 use lib.Dec.{eqb, leb}
-use Rattle.basics.specs.Basics.{if_then_else_, any, all, every, paired, distinct}
+use Rattle.basics.specs.Basics.{if_then_else_, all, every, paired, distinct}
 use Rattle.blocks.specs.Tuple.{Owner, committed, tentative}
-use Rattle.rows.specs.Rows.{Row, number, isOwn, follows, startsWell, isBelow, transactions, openLimit, statementOk}
+use Rattle.rows.specs.Rows.{Row, number, follows, startsWell, isBelow, transactions, openLimit, statementOk}
 
 -- an owner's code is 0 for committed, else 1 + transaction and statement
 unfoldable pub codedOwner : ℕ → Owner
@@ -33,15 +33,6 @@ rowsIn ps ns os ms n = tab (rowAt ps ns os ms) 0 n
 -- a row without its payload
 abbrev pub bare : Row → Row
 bare r = (r .0, record { key = r .1 .key; number = r .1 .number; owner = r .1 .owner; mark = r .1 .mark; payload = [] })
-
--- r is tentative, and no row after it is its transaction's
-unfoldable pub isLastBy : Owner → List Row → Bool
-isLastBy committed rs = false
-isLastBy (tentative t s) rs = not (any (isOwn t) rs)
-
--- the last row of its transaction, before the rows rs
-unfoldable pub isLast : Row → List Row → Bool
-isLast r rs = isLastBy (r .1 .owner) rs
 
 -- the tests of `rowsOk` that columns show: all but the count and the delete marks' payloads
 unfoldable pub columnsOk : ℕ → List Row → Bool

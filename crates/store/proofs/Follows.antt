@@ -12,18 +12,18 @@ use Rattle.model.specs.Calls.{Call, opens, inserts, replaces, deletes, commits,
 use Rattle.model.specs.Recover.{imageAfter}
 use Rattle.model.proofs.Lists.{eqb-true}
 use Rattle.model.proofs.Quiet.{isPlain, quiet}
-use Rattle.memory.specs.Store.{storeIn}
-use Rattle.answers.specs.Shape.{Leaves, Afterwards, Answers, AnswersAt, StoredBy, Stores, StoresAt}
-use Rattle.answers.specs.declared.Answer.{Answer as Answered}
+use Rattle.memory_layout.specs.Store.{storeIn}
+use Rattle.contracts.specs.Shape.{Leaves, Afterwards, Answers, AnswersAt, StoredBy, Stores, StoresAt}
+use Rattle.contracts.specs.declared.Answer.{Answer as Answered}
 use Rattle.store.specs.QuotedLine.{Does, opening, inserting, replacing, deleting, committing, aborting, reading, listing, beginning, stepping, running, stepping-elsewhere, running-elsewhere, Runs, ends, next}
 use Rattle.store.proofs.Refused.{Honest, honest, read-kept, list-kept, begin-none, bad-step, bad-run}
 
 -- the memory after a call: the store of its outcome, also when it is refused
 leaves : (a : Answer) (t s : Store) (m m′ : List ℕ) → Leaves a t m m′ → storeIn m ≡ some s → ((n : ℕ) → a ≡ refused n → t ≡ s) → storeIn m′ ≡ some t
 leaves (refused n) t s m m′ l e h = ap storeIn l ∙ e ∙ ap some (sym (h n refl))
-leaves done t s m m′ l e h = l .1
-leaves (count n) t s m m′ l e h = l .1
-leaves (filled n bs) t s m m′ l e h = l .1
+leaves done t s m m′ l e h = l .store
+leaves (count n) t s m m′ l e h = l .store
+leaves (filled n bs) t s m m′ l e h = l .store
 
 module _ (f : Store → Outcome) (s : Store) (m : List ℕ) (e : storeIn m ≡ some s) (h : Honest s (f s)) where
   answered : (r : Answered) (m′ : List ℕ) → Answers f m r m′ → storeIn m′ ≡ some (f s .store)

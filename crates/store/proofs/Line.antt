@@ -19,10 +19,10 @@ use Rattle.model.proofs.Lists.{all-parts}
 use Rattle.model.proofs.Bytes.{view-sane}
 use Rattle.model.proofs.Claim.{writes-ok}
 use Rattle.model.proofs.Line.{written-long, started, quoted-line}
-use Rattle.memory.specs.Store.{storeIn}
-use Rattle.answers.specs.Shape.{meaning, MadeBy, Made, RecoveredBy, Recovered}
-use Rattle.answers.specs.declared.Answer.{Answer}
-use Rattle.answers.specs.declared.Answer.the-variants.{Done, Count, Filled, Refused}
+use Rattle.memory_layout.specs.Store.{storeIn, HoldsNow}
+use Rattle.contracts.specs.Shape.{meaning, MadeBy, Made, RecoveredBy, Recovered}
+use Rattle.contracts.specs.declared.Answer.{Answer}
+use Rattle.contracts.specs.declared.Answer.the-variants.{Done, Count, Filled, Refused}
 use Rattle.store.specs.QuotedLine.{Started, made, recovered, Starts, Runs, ends, next, Restored, QuotedLine}
 use Rattle.store.proofs.Refused.{blocks-kept}
 use Rattle.store.proofs.Follows.{does, all-typed}
@@ -72,11 +72,11 @@ record Begins (img m : List ℕ) (s : Store) : Type 0 where
 starts : (img m : List ℕ) (s : Store) → Started img m s → Begins img m s
 unfolding MadeBy RecoveredBy
 starts img m s (made img₀ m₀ n e k) =
-    let q : (answer.done ≡ answer.done) × ((img ≡ madeImage img₀ n) × ((length m ≡ length m₀) × (storeIn m ≡ some s))) = rw e at k in
-    record { start = subst (λ z. Start z s) (sym (q .1 .0)) (fresh img₀ (length m₀) n e); here = q .1 .1 .1 }
+    let q : (answer.done ≡ answer.done) × ((img ≡ madeImage img₀ n) × HoldsNow m₀ m s) = rw e at k in
+    record { start = subst (λ z. Start z s) (sym (q .1 .0)) (fresh img₀ (length m₀) n e); here = q .1 .1 .store }
 starts img m s (recovered m₀ e k) =
-    let q : (answer.done ≡ answer.done) × ((length m ≡ length m₀) × (storeIn m ≡ some s)) = rw e at k in
-    record { start = Start.recovered (length m₀) e; here = q .1 .1 }
+    let q : (answer.done ≡ answer.done) × HoldsNow m₀ m s = rw e at k in
+    record { start = Start.recovered (length m₀) e; here = q .1 .store }
 
 -- ---- the restart
 
@@ -120,8 +120,8 @@ restored : (s t : Store) (base : List Call) (cut m₀ m₁ : List ℕ) (r : Answ
     → Recovered cut m₀ r m₁ → Restored s base r m₁
 unfolding RecoveredBy
 restored s t base cut m₀ m₁ r e same k =
-    let q : (meaning r [] ≡ answer.done) × ((length m₁ ≡ length m₀) × (storeIn m₁ ≡ some t)) = rw e at k in
-    record { accepted = done-alone r (q .0); store = t; held = q .1 .1; same = same }
+    let q : (meaning r [] ≡ answer.done) × HoldsNow m₀ m₁ t = rw e at k in
+    record { accepted = done-alone r (q .0); store = t; held = q .1 .store; same = same }
 
 -- ---- the claim
 

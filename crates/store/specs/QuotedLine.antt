@@ -12,10 +12,10 @@ use Rattle.model.specs.Checkpoint.{beginCall, stepCall, runCall}
 use Rattle.model.specs.Calls.{Call, opens, inserts, replaces, deletes, commits, aborts, reads, lists, begins, steps, runs, afterCalls}
 use Rattle.model.specs.Recover.{memoryFor, imageAfter, make, recover}
 use Rattle.model.specs.QuotedLine.{log, Cut, Same}
-use Rattle.memory.specs.Store.{storeIn}
-use Rattle.answers.specs.Shape.{Answers, Replies, Lists, Stores, Made, Recovered}
-use Rattle.answers.specs.declared.Answer.{Answer}
-use Rattle.answers.specs.declared.Answer.the-variants.{Done}
+use Rattle.memory_layout.specs.Store.{storeIn}
+use Rattle.contracts.specs.Shape.{Answers, Replies, Lists, Stores, Made, Recovered}
+use Rattle.contracts.specs.declared.Answer.{Answer}
+use Rattle.contracts.specs.declared.Answer.the-variants.{Done}
 
 -- ---- where a run starts
 

@@ -1,103 +1,103 @@
 // The booking store: every call, for Rattle and for C. No call asks anything of its caller. What the contracts promise together, for every
 // list of calls and wherever power fails, is the theorem of specs/QuotedLine, which names the relations that they cite.
-use answers::Answer;
+use contracts::Answer;
 ghost use mathlib.Core.Path.{_≡_};
 ghost use lib.IntN.{pos};
 ghost use lib.ListN.{length};
 ghost use Rattle.model.specs.Transactions.{openCall, insertCall, replaceCall, deleteCall, commitCall, abortCall, readCall};
 ghost use Rattle.model.specs.Checkpoint.{beginCall, stepCall, runCall};
-ghost use Rattle.answers.specs.Shape.{Answers, Replies, Lists, Stores, Made, Recovered};
+ghost use Rattle.contracts.specs.Shape.{Answers, Replies, Lists, Stores, Made, Recovered};
 ghost use Rattle.store.specs.Code.{whole, code, Coded};
 
 // An empty store, in image and memory.
 pub fn make(image: &mut [u8], m: &mut [u8], capacity: u64) -> Answer
     ensures { λ r. ⌜ Made capacity (now (image .entry)) (now (m .entry)) r (now (image .exit)) (now (m .exit)) ⌝ }
 {
-    transactions::make(image, m, capacity)
+    call_transactions::make(image, m, capacity)
 }
 
 // What the image holds, laid out in the memory.
 pub fn recover(image: &[u8], m: &mut [u8]) -> Answer
     ensures { λ r. ⌜ Recovered (now (image .entry)) (now (m .entry)) r (now (m .exit)) ⌝ }
 {
-    recovery::recover(image, m)
+    call_recovery::recover(image, m)
 }
 
 // A transaction opens.
 pub fn open(m: &mut [u8], transaction: u64) -> Answer
     ensures { λ r. ⌜ Answers (openCall transaction) (now (m .entry)) r (now (m .exit)) ⌝ }
 {
-    transactions::open(m, transaction)
+    call_transactions::open(m, transaction)
 }
 
 // A tuple of a new key.
 pub fn insert(m: &mut [u8], transaction: u64, table: u64, key: u32, payload: &[u8]) -> Answer
     ensures { λ r. ⌜ Answers (insertCall transaction table key (now (payload .entry))) (now (m .entry)) r (now (m .exit)) ⌝ }
 {
-    transactions::insert(m, transaction, table, key, payload)
+    call_transactions::insert(m, transaction, table, key, payload)
 }
 
 // Another payload for a key.
 pub fn replace(m: &mut [u8], transaction: u64, table: u64, key: u32, payload: &[u8]) -> Answer
     ensures { λ r. ⌜ Answers (replaceCall transaction table key (now (payload .entry))) (now (m .entry)) r (now (m .exit)) ⌝ }
 {
-    transactions::replace(m, transaction, table, key, payload)
+    call_transactions::replace(m, transaction, table, key, payload)
 }
 
 // A key goes.
 pub fn delete(m: &mut [u8], transaction: u64, table: u64, key: u32) -> Answer
     ensures { λ r. ⌜ Answers (deleteCall transaction table key) (now (m .entry)) r (now (m .exit)) ⌝ }
 {
-    transactions::delete(m, transaction, table, key)
+    call_transactions::delete(m, transaction, table, key)
 }
 
 // What the transaction wrote is seen by all.
 pub fn commit(m: &mut [u8], transaction: u64) -> Answer
     ensures { λ r. ⌜ Answers (commitCall transaction) (now (m .entry)) r (now (m .exit)) ⌝ }
 {
-    transactions::commit(m, transaction)
+    call_transactions::commit(m, transaction)
 }
 
 // What the transaction wrote is gone.
 pub fn abort(m: &mut [u8], transaction: u64) -> Answer
     ensures { λ r. ⌜ Answers (abortCall transaction) (now (m .entry)) r (now (m .exit)) ⌝ }
 {
-    transactions::abort(m, transaction)
+    call_transactions::abort(m, transaction)
 }
 
 // The payload of a key, over the first bytes of the reply.
 pub fn read(m: &[u8], transaction: u64, table: u64, key: u32, reply: &mut [u8]) -> Answer
     ensures { λ r. ⌜ Replies (readCall transaction table key (length (now (reply .entry)))) (now (m .entry)) r (now (reply .entry)) (now (reply .exit)) ⌝ }
 {
-    transactions::read(m, transaction, table, key, reply)
+    call_transactions::read(m, transaction, table, key, reply)
 }
 
 // The open transactions, over the first bytes of the reply.
 pub fn list(m: &[u8], reply: &mut [u8]) -> Answer
     ensures { λ r. ⌜ Lists (now (m .entry)) r (now (reply .entry)) (now (reply .exit)) ⌝ }
 {
-    transactions::list(m, reply)
+    call_transactions::list(m, reply)
 }
 
 // A checkpoint begins.
 pub fn begin(m: &mut [u8]) -> Answer
     ensures { λ r. ⌜ Answers beginCall (now (m .entry)) r (now (m .exit)) ⌝ }
 {
-    checkpoint::begin(m)
+    call_checkpoint::begin(m)
 }
 
 // One block store.
 pub fn step(image: &mut [u8], m: &mut [u8]) -> Answer
     ensures { λ r. ⌜ Stores (stepCall (length (now (image .entry)))) (now (image .entry)) (now (m .entry)) r (now (image .exit)) (now (m .exit)) ⌝ }
 {
-    checkpoint::step(image, m)
+    call_checkpoint::step(image, m)
 }
 
 // At most `limit` block stores.
 pub fn run(image: &mut [u8], m: &mut [u8], limit: u64) -> Answer
     ensures { λ r. ⌜ Stores (runCall limit (length (now (image .entry)))) (now (image .entry)) (now (m .entry)) r (now (image .exit)) (now (m .exit)) ⌝ }
 {
-    checkpoint::run(image, m, limit)
+    call_checkpoint::run(image, m, limit)
 }
 
 // ---- for C

@@ -17,7 +17,7 @@ slice-aggregate-test-rows-4 c = refl
 test-rows-requires : tie.Need-test-rows-requires
 test-rows-requires c κs =
     let p6 = c .before .before .before .before .before .before in
-    let p = p6 .pre in (p .0, (p .1, (p .1, (p .1, p .1))))
+    let p = p6 .pre in (p .0, (p .1, (p .1, (p .1, (p .1, p .1)))))
 
 returns : tie.Need-returns
 returns c =

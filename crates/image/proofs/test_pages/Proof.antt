@@ -70,7 +70,9 @@ slice-aggregate-entries-ok-2 c =
     let k = four _ _ _ _ (begun p8) in simp length-take (omega arith)
 
 entries-ok-requires : tie.Need-entries-ok-requires
-entries-ok-requires c κs = search needs
+entries-ok-requires c κs =
+    let p8 = c .before .before .before .before .before .before .before .before in
+    let b = begun p8 in simp length-take (omega (arith, b .pages-are, b .passed .counts .pages, b .passed .counts .high))
 
 refused-pages-requires-2 : tie.Need-refused-pages-requires-2
 refused-pages-requires-2 c κs = search needs

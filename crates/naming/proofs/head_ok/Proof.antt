@@ -52,7 +52,7 @@ slice-aggregate-distinct c =
     let h = four-used (p7 .args .n) _ (p7 .args .h) _ (p6 .counts-ok .ensures) (p5 .if1 .left) (p4 .wide .ensures) in simp length-take (omega arith)
 
 distinct-requires : tie.Need-distinct-requires
-distinct-requires c κs = search needs
+distinct-requires c κs = simp length-take (omega arith)
 
 returns-3 : tie.Need-returns-3
 returns-3 c =

@@ -1,69 +1,42 @@
-use lib.ListN.{length, drop}
-use Prim.Native.Nat.{_-_}
-use mathlib.Core.Path.{_≡_, refl, sym, _∙_}
+use Rattle.rows.proofs.Chains.{empty-table}
+use Rattle.rows.proofs.Keys.{keys-distinct}
 use native.Mathlib.Omega.{arith}
-use Rattle.rows.proofs.Turns.{drop-turn, drop-end, distinct-yes, distinct-not, distinct-end}
-use Rattle.basics.specs.Basics.{distinct}
+use mathlib.Core.Path.{_∙_}
+use borrow.Author.Needs.{needs}
 use Rattle.rows.proofs.distinct.Statement.{statement}
 use Rattle.rows.proofs.distinct.Tie as tie
 
-abbrev Inv-loop : tie.InvT-loop
-Inv-loop s i₀ i = distinct s ≡ distinct (drop i s)
+slice-aggregate-to-keys : tie.Need-slice-aggregate-to-keys
+slice-aggregate-to-keys c = search needs
 
-abbrev μ-loop : tie.MeasureT-loop
-μ-loop s i₀ i = length s - i
+to-keys-requires : tie.Need-to-keys-requires
+to-keys-requires c κs = search needs
 
-loop-holds : tie.Need-loop-holds Inv-loop μ-loop
-loop-holds c = refl
+slice-aggregate-link-all : tie.Need-slice-aggregate-link-all
+slice-aggregate-link-all c = search needs
 
-add-is-in : tie.Need-add-is-in Inv-loop μ-loop
-add-is-in c = omega arith
+slice-aggregate-link-all-2 : tie.Need-slice-aggregate-link-all-2
+slice-aggregate-link-all-2 c = search needs
 
-mul-is-in : tie.Need-mul-is-in Inv-loop μ-loop
-mul-is-in c = omega arith
+slice-aggregate-link-all-3 : tie.Need-slice-aggregate-link-all-3
+slice-aggregate-link-all-3 c = search needs
 
-shared-slice-read-is-in : tie.Need-shared-slice-read-is-in Inv-loop μ-loop
-shared-slice-read-is-in c = omega arith
+link-all-requires : tie.Need-link-all-requires
+link-all-requires c κs = ((omega arith, empty-table _ _), (omega arith, omega arith))
 
-is-in-requires : tie.Need-is-in-requires Inv-loop μ-loop
-is-in-requires c κs = tt
-
-returns : tie.Need-returns Inv-loop μ-loop
+returns : tie.Need-returns
 returns c =
-    let p4 = c .before .before .before .before in let p6 = p4 .before .before in
-    let s = p6 in let p = p4 .loop in
-    sym (p .inv ∙ distinct-not (drop-turn (s .args .s .now) (p .i) (omega arith)) (sym (c .before .is-in .ensures) ∙ c .if1 .taken))
-
-add-i : tie.Need-add-i Inv-loop μ-loop
-add-i c = omega arith
-
-loop-less : tie.Need-loop-less Inv-loop μ-loop
-loop-less c = omega arith
-
-loop-again : tie.Need-loop-again Inv-loop μ-loop
-loop-again c =
-    let p4 = c .before .before .before .before in let p6 = p4 .before .before in
-    let s = p6 in let p = p4 .loop in
-    p .inv ∙ distinct-yes (drop-turn (s .args .s .now) (p .i) (omega arith)) (sym (c .before .is-in .ensures) ∙ c .if1 .left)
-
-returns-2 : tie.Need-returns-2 Inv-loop μ-loop
-returns-2 c =
-    let p3 = c .before .before .before in
-    let s = p3 in let p = c .before .loop in sym (p .inv ∙ distinct-end (drop-end (s .args .s .now) (p .i) (omega arith)))
+    let p2 = c .before .before in let p7 = p2 .before .before .before .before .before in let s = p7 .before .before .before in
+    p2 .link-all .ensures .0 ∙ keys-distinct (p7 .to-keys .last .1 .0) (s .args .s .now) (p7 .to-keys .ensures)
 
 pub distinct-spec : {M : Type 1} → statement M
 distinct-spec =
     tie.close
     (tie.spec
-    Inv-loop
-    μ-loop
-    loop-holds
-    add-is-in
-    mul-is-in
-    shared-slice-read-is-in
-    is-in-requires
-    returns
-    add-i
-    loop-less
-    loop-again
-    returns-2)
+    slice-aggregate-to-keys
+    to-keys-requires
+    slice-aggregate-link-all
+    slice-aggregate-link-all-2
+    slice-aggregate-link-all-3
+    link-all-requires
+    returns)

@@ -1,0 +1,136 @@
+-- Run: steps in turn.
+use mathlib.Core.Path.{_≡_, refl, sym, ap, _∙_, subst}
+use mathlib.Core.Bool.{true, false}
+use mathlib.Core.Option.{some}
+use mathlib.Core.List.{List, [], _∷_, _++_}
+use Prim.Native.Nat.{ℕ, suc, _+_, _-_, _*_, _≤_, _<_, min}
+use native.Mathlib.Omega.{arith}
+use lib.ListN.{length}
+use borrow.Author.Tests.{eq-eqb, ne-eqb}
+use Rattle.basics.specs.Basics.{if_then_else_}
+use Rattle.basics.proofs.Facts.{by}
+use Rattle.model.specs.State.{Store, Write, Outcome}
+use Rattle.model.specs.Transactions.{gives, unless}
+use Rattle.model.specs.Checkpoint.{stored, isRunning, left, stepAt, badImage, stepCall, inTurn, runCall}
+use Rattle.model.specs.Recover.{imageAfter}
+use Rattle.model.proofs.Quiet.{step-frame}
+use Rattle.memory_layout.specs.Flat.{Flat, flatOf}
+use Rattle.memory_layout.specs.Store.{holdsStore, storeOf, HoldsNow}
+use Rattle.memory_layout.proofs.Laws.{Sound, in-some, in-sound}
+use Rattle.contracts.specs.Shape.{Leaves, StoredBy, Stores, StoresAt}
+use Rattle.contracts.specs.declared.Answer.{Answer}
+use Rattle.contracts.specs.declared.Answer.the-variants.{Count}
+use Rattle.contracts.proofs.Answering.{stores-count}
+use Rattle.call_checkpoint.specs.Keeping.{Ready}
+use Rattle.call_checkpoint.proofs.Tallies.{left-none}
+use Rattle.call_checkpoint.proofs.Allotting.{lowers}
+use Rattle.call_checkpoint.proofs.Stepping.{blocks-is, step-at, answer-of}
+use Rattle.model.specs.State as model
+
+image-append : (ws vs : List Write) (img : List ℕ) → imageAfter (ws ++ vs) img ≡ imageAfter vs (imageAfter ws img)
+unfolding imageAfter
+image-append [] vs img = refl
+image-append (w ∷ ws) vs img = image-append ws vs _
+
+step-size : (s : Store) → stepAt (s .checkpoint) s .store .blocks ≡ s .blocks
+unfolding stored
+step-size s = step-frame (λ z. z .blocks ≡ s .blocks) s refl (λ l ps u b c. refl)
+
+-- ---- the tests
+
+module _ (limit len : ℕ) (s : Store) where
+  pub run-5 : (len ≡ 512 * s .blocks → ⊥) → runCall limit len s ≡ gives (model.refused 5) s
+  unfolding runCall badImage unless if_then_else_
+  run-5 h = rw (ne-eqb len (512 * s .blocks) h)
+
+  module _ (e : len ≡ 512 * s .blocks) where
+    pub run-18 : isRunning (s .checkpoint) ≡ false → runCall limit len s ≡ gives (model.refused 18) s
+    unfolding runCall badImage unless if_then_else_
+    run-18 h = rw (eq-eqb len (512 * s .blocks) e, h)
+
+    run-at : isRunning (s .checkpoint) ≡ true
+        → runCall limit len s ≡ record { answer = model.count (min limit (left s)); store = inTurn (min limit (left s)) s .store; writes = inTurn (min limit (left s)) s .writes }
+    unfolding runCall badImage unless if_then_else_
+    run-at h = rw (eq-eqb len (512 * s .blocks) e, h)
+
+-- ---- turn by turn
+
+-- n of k steps are still to be made
+pub record Repeats (img₀ m₀ : List ℕ) (k : ℕ) (img m : List ℕ) (n : ℕ) : Type 0 where
+  pub size : length m ≡ length m₀
+  pub wide : length img ≡ length img₀
+  pub held : holdsStore m ≡ true
+  pub long : length img ≡ 512 * flatOf m .head .blocks
+  pub few : n ≤ left (storeOf (flatOf m))
+  pub store : inTurn n (storeOf (flatOf m)) .store ≡ inTurn k (storeOf (flatOf m₀)) .store
+  pub image : imageAfter (inTurn n (storeOf (flatOf m)) .writes) img ≡ imageAfter (inTurn k (storeOf (flatOf m₀)) .writes) img₀
+
+pub repeats-start : (img m : List ℕ) (k : ℕ) → Ready img m → k ≤ left (storeOf (flatOf m)) → Repeats img m k img m k
+repeats-start img m k r h = record { size = refl; wide = refl; held = r .runs .held; long = r .long; few = h; store = refl; image = refl }
+
+-- while stores are left, the checkpoint runs
+left-runs : (f : Flat) → 0 < left (storeOf f) → isRunning (storeOf f .checkpoint) ≡ true
+left-runs f h = by (isRunning (storeOf f .checkpoint)) (λ e. e) (λ e. absurd (omega (arith, left-none f e)))
+
+counted : (a : model.Answer) (s : Store) (m m' : List ℕ) (n : ℕ) → a ≡ model.count n → Leaves a s m m' → HoldsNow m m' s
+counted a s m m' n e l = subst (λ (z : model.Answer). Leaves z s m m') e l
+
+stored-by : (call : Store → Outcome) (o : Outcome) (img m : List ℕ) (r : Answer) (img' m' : List ℕ) → holdsStore m ≡ true → call (storeOf (flatOf m)) ≡ o
+    → Stores call img m r img' m' → StoredBy o img m r img' m'
+unfolding Stores StoresAt
+stored-by call o img m r img' m' h e t = subst (λ (z : Outcome). StoredBy z img m r img' m') e (rw (in-some m h) at t)
+
+turn-next : (n : ℕ) (s : Store) → (inTurn (suc n) s .store ≡ inTurn n (stepAt (s .checkpoint) s .store) .store)
+    × (inTurn (suc n) s .writes ≡ stepAt (s .checkpoint) s .writes ++ inTurn n (stepAt (s .checkpoint) s .store) .writes)
+unfolding inTurn
+turn-next n s = (refl, refl)
+
+module _ {img₀ m₀ : List ℕ} {k : ℕ} {img m : List ℕ} {n : ℕ} (c : Repeats img₀ m₀ k img m n) where
+  module _ (h : 0 < n) (r : Answer) (img' m' : List ℕ) (w : length img' ≡ length img) (t : Stores (stepCall (length img)) img m r img' m') where
+    pub repeats-turn : Repeats img₀ m₀ k img' m' (n - 1)
+    repeats-turn =
+        let s : Store = storeOf (flatOf m) in
+        let o : Outcome = stepAt (s .checkpoint) s in
+        let e : length img ≡ 512 * s .blocks = c .long ∙ ap (λ (z : ℕ). 512 * z) (sym (blocks-is (flatOf m))) in
+        let on : isRunning (s .checkpoint) ≡ true = left-runs (flatOf m) (omega (arith, c .few)) in
+        let a = answer-of (s .checkpoint) s on in
+        let q : stepCall (length img) s ≡ o = step-at (length img) s e in
+        let d : StoredBy o img m r img' m' = stored-by (stepCall (length img)) o img m r img' m' (c .held) q t in
+        let l = counted (o .answer) (o .store) m m' (left (o .store)) a (d .memory) in
+        let u : Sound m' (o .store) = in-sound m' (o .store) (l .store) in
+        let less : left s ≡ suc (left (o .store)) = lowers s on in
+        let j : n ≡ suc (n - 1) = omega arith in
+        let x = turn-next (n - 1) s in
+        record {
+          size = l .size ∙ c .size;
+          wide = w ∙ c .wide;
+          held = u .held;
+          long = w ∙ e ∙ ap (λ (z : ℕ). 512 * z) (sym (step-size s) ∙ ap (λ (z : Store). z .blocks) (sym (u .means)) ∙ blocks-is (flatOf m'));
+          few = omega (arith, c .few, less, ap left (u .means));
+          store = ap (λ (z : Store). inTurn (n - 1) z .store) (u .means) ∙ sym (x .0) ∙ ap (λ (z : ℕ). inTurn z s .store) (sym j) ∙ c .store;
+          image =
+              ap (λ (z : Store). imageAfter (inTurn (n - 1) z .writes) img') (u .means)
+              ∙ ap (imageAfter (inTurn (n - 1) (o .store) .writes)) (d .image)
+              ∙ sym (image-append (o .writes) (inTurn (n - 1) (o .store) .writes) img)
+              ∙ ap (λ (z : List Write). imageAfter z img) (sym (x .1))
+              ∙ ap (λ (z : ℕ). imageAfter (inTurn z s .writes) img) (sym j)
+              ∙ c .image;
+        }
+
+  none-left : n ≤ 0 → (storeOf (flatOf m) ≡ inTurn k (storeOf (flatOf m₀)) .store) × (img ≡ imageAfter (inTurn k (storeOf (flatOf m₀)) .writes) img₀)
+  unfolding inTurn gives imageAfter
+  none-left h =
+      let z : n ≡ 0 = omega arith in
+      (ap (λ (i : ℕ). inTurn i (storeOf (flatOf m)) .store) (sym z) ∙ c .store, ap (λ (i : ℕ). imageAfter (inTurn i (storeOf (flatOf m)) .writes) img) (sym z) ∙ c .image)
+
+  pub repeats-end : n ≤ 0 → (limit : ℕ) → Ready img₀ m₀ → k ≡ min limit (left (storeOf (flatOf m₀))) → (a : ℕ) → a ≡ k
+      → Stores (runCall limit (length img₀)) img₀ m₀ (Count a) img m
+  repeats-end h limit r ek a ea =
+      let s : Store = storeOf (flatOf m₀) in
+      let x = none-left h in
+      let e : length img₀ ≡ 512 * s .blocks = r .long ∙ ap (λ (z : ℕ). 512 * z) (sym (blocks-is (flatOf m₀))) in
+      stores-count (runCall limit (length img₀)) m₀ img₀ img m a (inTurn k s .store) (inTurn k s .writes) (r .runs .held)
+      (run-at limit (length img₀) s e (r .runs .on)
+      ∙ ap (λ (i : ℕ). record { answer = model.count i; store = inTurn i s .store; writes = inTurn i s .writes }) (sym ek)
+      ∙ ap (λ (i : ℕ). record { answer = model.count i; store = inTurn k s .store; writes = inTurn k s .writes }) (sym ea))
+      (record { size = c .size; store = in-some m (c .held) ∙ ap some (x .0) }) (x .1)

@@ -1,0 +1,341 @@
+-- A step: which store it makes, its tests, and what it answers.
+use mathlib.Core.Path.{_≡_, refl, sym, ap, _∙_, subst}
+use mathlib.Core.Bool.{Bool, true, false, not}
+use mathlib.Core.Option.{Option, none, some}
+use mathlib.Core.List.{List, [], _∷_, _++_}
+use Prim.Native.Nat.{ℕ, zero, suc, _+_, _-_, _*_, _≤_, _<_}
+use native.Mathlib.Omega.{arith}
+use native.Mathlib.Numerals.{add-one}
+use lib.ListN.{length, take, drop}
+use lib.Seq.{drop-drop}
+use lib.Dec.{eqb, ltb}
+use borrow.Author.Tests.{eq-eqb, ne-eqb, eqb-true, eqb-false, lt-ltb, le-ltb}
+use Rattle.basics.specs.Basics.{if_then_else_, howMany, first, isIn}
+use Rattle.basics.proofs.Facts.{by, lie}
+use Rattle.blocks.specs.Block.{Block, header, page, directory, encodeBlock}
+use Rattle.image.specs.Stages.{directoriesFor}
+use Rattle.model.specs.State.{Held, Page, Checkpoint, idle, running, Store, Outcome}
+use Rattle.model.specs.Rules.{isFrozen, shown, thaw}
+use Rattle.model.specs.Transactions.{gives, unless}
+use Rattle.model.specs.Checkpoint.{stored, allocate, usedToo, isRunning, left, made, storable, storePage, storeDirectory, headerFor, storeHeader, stepOf, stepAt, badImage, stepCall}
+use Rattle.model.specs.Recover.{putBlock, imageAfter}
+use Rattle.model.proofs.Lists.{first-none as none-many}
+use Rattle.memory_bytes.specs.Columns.{firstIndex}
+use Rattle.memory_layout.specs.Flat.{Flat, flatOf}
+use Rattle.memory_layout.specs.Store.{pageOf, nest, pagesIn, holdsStore, storeOf, storeIn, HoldsNow}
+use Rattle.memory_layout.specs.declared.Entry.{Entry}
+use Rattle.memory_layout.proofs.Laws.{in-none, in-some, in-sound}
+use Rattle.memory_layout.proofs.Exchange.{pages-count}
+use Rattle.memory_pages.specs.Pages.{frozenEntry}
+use Rattle.engine_pages.specs.Pages.{pagesOf, pageAt, entryOf, firstRow, rowsFrom}
+use Rattle.engine_pages.specs.Pending.{FirstFrozen}
+use Rattle.engine_pages.proofs.Places.{from-page, page-table, tuples-are}
+use Rattle.contracts.specs.Shape.{Stores}
+use Rattle.contracts.specs.declared.Answer.the-variants.{Count, Refused}
+use Rattle.contracts.proofs.Answering.{stores-4, stores-refused, stores-count}
+use Rattle.call_checkpoint.specs.Keeping.{filledBy, writtenBy, namedBy, pageKept, directoryKept, headerKept, Runs, Ready, NoneFrozen, Does, Steps, stepRefusal}
+use Rattle.call_checkpoint.proofs.Tallies.{running-is, first-hit, first-past, frozen-many}
+use Rattle.model.specs.State as model
+
+-- ---- the first frozen page
+
+index-hit : (hit : Page → Bool) (q : Page) (qs : List Page) → hit q ≡ true → firstIndex hit (q ∷ qs) ≡ 0
+unfolding firstIndex
+index-hit hit q qs e = rw e refl
+
+index-past : (hit : Page → Bool) (q : Page) (qs : List Page) → hit q ≡ false → firstIndex hit (q ∷ qs) ≡ suc (firstIndex hit qs)
+unfolding firstIndex
+index-past hit q qs e = rw e refl
+
+-- none passes
+index-none : (hit : Page → Bool) (ps : List Page) → length ps ≤ firstIndex hit ps → first hit ps ≡ none
+unfolding first
+index-none hit [] h = refl
+index-none hit (q ∷ qs) h =
+    by (hit q) (λ e. absurd (omega (arith, index-hit hit q qs e)))
+    (λ e. first-past hit q qs e ∙ index-none hit qs (omega (arith, index-past hit q qs e)))
+
+-- one does
+index-some : (hit : Page → Bool) (p : ℕ) (q : Page) (ps : List Page) → p ≡ firstIndex hit ps → drop p ps ≡ q ∷ drop (suc p) ps → first hit ps ≡ some q
+index-some hit zero q [] e d = absurd (let z : _≡_ {A = ℕ} 0 1 = cc in omega arith)
+index-some hit (suc p) q [] e d = absurd (let z : _≡_ {A = ℕ} 0 1 = cc in omega arith)
+index-some hit zero q (r ∷ ps) e d =
+    by (hit r) (λ t. let z : r ≡ q = cc in first-hit hit r ps t ∙ ap some z) (λ t. absurd (omega (arith, index-past hit r ps t)))
+index-some hit (suc p) q (r ∷ ps) e d =
+    by (hit r) (λ t. absurd (omega (arith, index-hit hit r ps t)))
+    (λ t. first-past hit r ps t ∙ index-some hit p q ps (omega (arith, index-past hit r ps t)) d)
+
+-- none before it does
+index-many : (hit : Page → Bool) (p : ℕ) (ps : List Page) → p ≡ firstIndex hit ps → howMany hit (drop p ps) ≡ howMany hit ps
+unfolding howMany if_then_else_
+index-many hit zero ps e = refl
+index-many hit (suc p) [] e = refl
+index-many hit (suc p) (q ∷ ps) e =
+    by (hit q) (λ t. absurd (omega (arith, index-hit hit q ps t)))
+    (λ t. index-many hit p ps (omega (arith, index-past hit q ps t)) ∙ sym (rw t refl))
+
+index-nest : (es : List Entry) (hs : List Held) → firstIndex isFrozen (nest es hs) ≡ firstIndex frozenEntry es
+unfolding firstIndex nest isFrozen pageOf
+index-nest [] hs = refl
+index-nest (e ∷ es) hs = rw (index-nest es (drop (e .count) hs)) refl
+
+-- of the page that was found by the entries
+module _ (m : List ℕ) {p : ℕ} (e : p ≡ firstIndex frozenEntry (flatOf m .entries)) where
+  pub found-first : p ≡ firstIndex isFrozen (pagesOf m)
+  found-first = e ∙ sym (index-nest (flatOf m .entries) (flatOf m .rows))
+
+  pub found-none : length (flatOf m .entries) ≤ p → NoneFrozen m
+  found-none h = index-none isFrozen (pagesOf m) (omega (arith, pages-count (flatOf m), found-first))
+
+  -- only pages from the first frozen one on are frozen
+  pub frozen-from : {r : ℕ} → r ≡ howMany frozenEntry (drop p (flatOf m .entries)) → r ≡ howMany isFrozen (pagesOf m)
+  frozen-from q = q ∙ sym (frozen-many (flatOf m) p) ∙ index-many isFrozen p (pagesOf m) found-first
+
+module _ (m : List ℕ) where
+  pub frozen-all : {r : ℕ} → r ≡ howMany frozenEntry (flatOf m .entries) → r ≡ howMany isFrozen (pagesOf m)
+  frozen-all e = e ∙ sym (frozen-many (flatOf m) 0)
+
+  pub frozen-none : NoneFrozen m → 0 ≡ howMany isFrozen (pagesOf m)
+  frozen-none h = sym (none-many isFrozen (pagesOf m) h)
+
+-- ---- which store a step makes
+
+module _ (s : Store) (n : ℕ) (es ds : List ℕ) (e : s .checkpoint ≡ running n es ds) where
+  step-is : stepAt (s .checkpoint) s ≡ stepOf (first isFrozen (s .pages)) n es ds s
+  unfolding stepAt
+  step-is = ap (λ (c : Checkpoint). stepAt c s) e
+
+  page-made : (q : Page) → storePage n es ds q s ≡ made (allocate s) (page (q .table) (suc (s .level)) (storable (shown (q .tuples)))) (pageKept (allocate s) s)
+  unfolding storePage pageKept filledBy
+  page-made q =
+      ap (λ (c : Checkpoint). made (allocate s) (page (q .table) (suc (s .level)) (storable (shown (q .tuples))))
+      (stored s (s .level) (thaw (allocate s) (s .pages)) (usedToo s (allocate s)) (allocate s) (filledBy (allocate s) c))) (sym e)
+
+  pub step-page : (q : Page) → first isFrozen (s .pages) ≡ some q
+      → stepAt (s .checkpoint) s ≡ made (allocate s) (page (q .table) (suc (s .level)) (storable (shown (q .tuples)))) (pageKept (allocate s) s)
+  unfolding stepOf
+  step-page q f = step-is ∙ ap (λ (o : Option Page). stepOf o n es ds s) f ∙ page-made q
+
+  directory-made : storeDirectory n es ds s ≡ made (allocate s) (directory (suc (s .level)) (take 336 (drop (336 * length ds) es))) (directoryKept (allocate s) s)
+  unfolding storeDirectory directoryKept writtenBy
+  directory-made =
+      ap (λ (c : Checkpoint). made (allocate s) (directory (suc (s .level)) (take 336 (drop (336 * length ds) es)))
+      (stored s (s .level) (s .pages) (usedToo s (allocate s)) (allocate s) (writtenBy (allocate s) c))) (sym e)
+
+  header-made : storeHeader n es ds s ≡ made 0 (header (headerFor s (suc (s .level)) n (length es) ds)) (headerKept s)
+  unfolding storeHeader headerKept namedBy
+  header-made =
+      ap (λ (c : Checkpoint). made 0 (header (headerFor s (suc (s .level)) n (length es) ds))
+      (stored s (suc (s .level)) (s .pages) (λ b. isIn b (namedBy c)) (s .taken) idle)) (sym e)
+
+  module _ (f : first isFrozen (s .pages) ≡ none) where
+    rest-is : stepAt (s .checkpoint) s ≡ (if ltb (length ds) (directoriesFor (length es)) then storeDirectory n es ds s else storeHeader n es ds s)
+    unfolding stepOf
+    rest-is = step-is ∙ ap (λ (o : Option Page). stepOf o n es ds s) f
+
+    pub step-directory : length ds < directoriesFor (length es)
+        → stepAt (s .checkpoint) s ≡ made (allocate s) (directory (suc (s .level)) (take 336 (drop (336 * length ds) es))) (directoryKept (allocate s) s)
+    unfolding if_then_else_
+    step-directory h =
+        rest-is ∙ ap (λ (b : Bool). if b then storeDirectory n es ds s else storeHeader n es ds s) (lt-ltb (length ds) (directoriesFor (length es)) h)
+        ∙ directory-made
+
+    pub step-header : directoriesFor (length es) ≤ length ds
+        → stepAt (s .checkpoint) s ≡ made 0 (header (headerFor s (suc (s .level)) n (length es) ds)) (headerKept s)
+    unfolding if_then_else_
+    step-header h =
+        rest-is ∙ ap (λ (b : Bool). if b then storeDirectory n es ds s else storeHeader n es ds s) (le-ltb (length ds) (directoriesFor (length es)) h)
+        ∙ header-made
+
+-- ---- one block exchanged
+
+pub back-is : (img part : List ℕ) (b : ℕ) → take (512 * b) img ++ (part ++ drop (512 * b + 512 - 512 * b) (drop (512 * b) img)) ≡ putBlock img b part
+unfolding putBlock
+back-is img part b =
+    let e : 512 * b + 512 - 512 * b ≡ 512 = omega arith in
+    ap (λ (k : ℕ). take (512 * b) img ++ (part ++ drop k (drop (512 * b) img))) e
+    ∙ ap (λ (z : List ℕ). take (512 * b) img ++ (part ++ z)) (drop-drop 512 (512 * b) img)
+
+pub front-is : (img part : List ℕ) → part ++ drop 512 img ≡ putBlock img 0 part
+unfolding putBlock
+front-is img part = refl
+
+does-made : {img m img' m' : List ℕ} (o : Outcome) (b : ℕ) (x : Block) (s : Store) → o ≡ made b x s → HoldsNow m m' s → img' ≡ putBlock img b (encodeBlock x)
+    → Does o img m img' m'
+unfolding made imageAfter
+does-made {img} o b x s e l q =
+    record {
+      memory = record { size = l .size; store = l .store ∙ ap (λ (z : Outcome). some (z .store)) (sym e) };
+      image = q ∙ ap (λ (z : Outcome). imageAfter (z .writes) img) (sym e);
+    }
+
+module _ {m : List ℕ} (r : Runs m) where
+  runs : storeOf (flatOf m) .checkpoint ≡ running (flatOf m .head .begun) (flatOf m .named) (flatOf m .directories)
+  runs = running-is (flatOf m) (r .on) .0
+
+module _ (m : List ℕ) where
+  level-is : storeOf (flatOf m) .level ≡ flatOf m .head .level
+  unfolding storeOf
+  level-is = refl
+
+  pages-are : storeOf (flatOf m) .pages ≡ pagesOf m
+  unfolding storeOf
+  pages-are = refl
+
+  none-is : NoneFrozen m → first isFrozen (storeOf (flatOf m) .pages) ≡ none
+  none-is h = ap (first isFrozen) pages-are ∙ h
+
+module _ {img m img' m' part : List ℕ} (r : Runs m) where
+  pub page-does : (p b t a e l : ℕ) → FirstFrozen m p → b ≡ allocate (storeOf (flatOf m)) → t ≡ entryOf m p .table → a ≡ firstRow m p → e ≡ firstRow m (p + 1)
+      → l ≡ flatOf m .head .level + 1 → part ≡ encodeBlock (page t l (storable (shown (rowsFrom m a e)))) → img' ≡ putBlock img b part
+      → HoldsNow m m' (pageKept b (storeOf (flatOf m))) → Steps img m img' m'
+  page-does p b t a e l o eb et ea ee el ep ei k =
+      let s : Store = storeOf (flatOf m) in
+      let q : Page = pageAt m p in
+      let e1 : q .table ≡ t = page-table (o .there) ∙ sym et in
+      let e2 : suc (s .level) ≡ l = ap suc (level-is m) ∙ sym (add-one (flatOf m .head .level)) ∙ sym el in
+      let e3 : rowsFrom m a e ≡ q .tuples = tuples-are (o .there) ea ee in
+      let x : encodeBlock (page t l (storable (shown (rowsFrom m a e)))) ≡ encodeBlock (page (q .table) (suc (s .level)) (storable (shown (q .tuples)))) = cc in
+      does-made _ (allocate s) (page (q .table) (suc (s .level)) (storable (shown (q .tuples)))) (pageKept (allocate s) s)
+      (step-page s _ _ _ (runs r) q (ap (first isFrozen) (pages-are m) ∙ index-some isFrozen p q (pagesOf m) (o .first) (from-page (o .there))))
+      (subst (λ (z : ℕ). HoldsNow m m' (pageKept z s)) eb k)
+      (ei ∙ ap (putBlock img b) (ep ∙ x) ∙ ap (λ (z : ℕ). putBlock img z (encodeBlock (page (q .table) (suc (s .level)) (storable (shown (q .tuples)))))) eb)
+
+  module _ (none-frozen : NoneFrozen m) where
+    pub directory-does : (b k l : ℕ) → length (flatOf m .directories) < directoriesFor (length (flatOf m .named)) → b ≡ allocate (storeOf (flatOf m))
+        → k ≡ length (flatOf m .directories) → l ≡ flatOf m .head .level + 1
+        → part ≡ encodeBlock (directory l (take 336 (drop (336 * k) (flatOf m .named)))) → img' ≡ putBlock img b part
+        → HoldsNow m m' (directoryKept b (storeOf (flatOf m))) → Steps img m img' m'
+    directory-does b k l h eb ek el ep ei d =
+        let s : Store = storeOf (flatOf m) in
+        let es : List ℕ = flatOf m .named in
+        let ds : List ℕ = flatOf m .directories in
+        let e2 : suc (s .level) ≡ l = ap suc (level-is m) ∙ sym (add-one (flatOf m .head .level)) ∙ sym el in
+        let x : encodeBlock (directory l (take 336 (drop (336 * k) es))) ≡ encodeBlock (directory (suc (s .level)) (take 336 (drop (336 * length ds) es))) = cc in
+        does-made _ (allocate s) (directory (suc (s .level)) (take 336 (drop (336 * length ds) es))) (directoryKept (allocate s) s)
+        (step-directory s _ es ds (runs r) (none-is m none-frozen) h)
+        (subst (λ (z : ℕ). HoldsNow m m' (directoryKept z s)) eb d)
+        (ei ∙ ap (putBlock img b) (ep ∙ x) ∙ ap (λ (z : ℕ). putBlock img z (encodeBlock (directory (suc (s .level)) (take 336 (drop (336 * length ds) es))))) eb)
+
+    pub header-does : directoriesFor (length (flatOf m .named)) ≤ length (flatOf m .directories)
+        → part ≡ encodeBlock (header (headerFor (storeOf (flatOf m)) (suc (flatOf m .head .level)) (flatOf m .head .begun) (length (flatOf m .named)) (flatOf m .directories)))
+        → img' ≡ putBlock img 0 part → HoldsNow m m' (headerKept (storeOf (flatOf m))) → Steps img m img' m'
+    header-does h ep ei d =
+        let s : Store = storeOf (flatOf m) in
+        let n : ℕ = flatOf m .head .begun in
+        let es : List ℕ = flatOf m .named in
+        let ds : List ℕ = flatOf m .directories in
+        let e : suc (flatOf m .head .level) ≡ suc (s .level) = sym (ap suc (level-is m)) in
+        does-made _ 0 (header (headerFor s (suc (s .level)) n (length es) ds)) (headerKept s)
+        (step-header s n es ds (runs r) (none-is m none-frozen) h) d
+        (ei ∙ ap (putBlock img 0) (ep ∙ ap (λ (z : ℕ). encodeBlock (header (headerFor s z n (length es) ds))) e))
+
+-- ---- the tests
+
+pub blocks-is : (f : Flat) → storeOf f .blocks ≡ f .head .blocks
+unfolding storeOf
+blocks-is f = refl
+
+module _ (len : ℕ) (m : List ℕ) where
+  pub refusal-4 : holdsStore m ≡ false → 4 ≡ stepRefusal len (storeIn m)
+  unfolding stepRefusal
+  refusal-4 h = sym (ap (stepRefusal len) (in-none m h))
+
+  module _ (held : holdsStore m ≡ true) where
+    refusal-is : stepRefusal len (storeIn m) ≡ (if not (eqb len (512 * flatOf m .head .blocks)) then 5 else if isRunning (storeOf (flatOf m) .checkpoint) then 0 else 18)
+    unfolding stepRefusal
+    refusal-is =
+        ap (stepRefusal len) (in-some m held)
+        ∙ ap (λ (b : ℕ). if not (eqb len (512 * b)) then 5 else if isRunning (storeOf (flatOf m) .checkpoint) then 0 else 18) (blocks-is (flatOf m))
+
+    pub refusal-5 : (len ≡ 512 * flatOf m .head .blocks → ⊥) → 5 ≡ stepRefusal len (storeIn m)
+    unfolding if_then_else_
+    refusal-5 h = sym (refusal-is ∙ rw (ne-eqb len (512 * flatOf m .head .blocks) h))
+
+    module _ (e : len ≡ 512 * flatOf m .head .blocks) where
+      pub refusal-18 : isRunning (storeOf (flatOf m) .checkpoint) ≡ false → 18 ≡ stepRefusal len (storeIn m)
+      unfolding if_then_else_
+      refusal-18 h = sym (refusal-is ∙ rw (eq-eqb len (512 * flatOf m .head .blocks) e, h))
+
+      pub refusal-none : isRunning (storeOf (flatOf m) .checkpoint) ≡ true → 0 ≡ stepRefusal len (storeIn m)
+      unfolding if_then_else_
+      refusal-none h = sym (refusal-is ∙ rw (eq-eqb len (512 * flatOf m .head .blocks) e, h))
+
+  -- a call with these tests: each of them refuses
+  module _ (v : ℕ) (ev : v ≡ stepRefusal len (storeIn m)) where
+    passed-held : v ≡ 0 → holdsStore m ≡ true
+    passed-held z = by (holdsStore m) (λ h. h) (λ h. absurd (omega (arith, refusal-4 h)))
+
+    passed-long : v ≡ 0 → len ≡ 512 * flatOf m .head .blocks
+    passed-long z =
+        by (eqb len (512 * flatOf m .head .blocks)) (λ h. eqb-true len _ h)
+        (λ h. absurd (omega (arith, refusal-5 (passed-held z) (eqb-false len _ h))))
+
+    passed-runs : v ≡ 0 → Runs m
+    passed-runs z =
+        let held : holdsStore m ≡ true = passed-held z in
+        record {
+          held = held;
+          on = by (isRunning (storeOf (flatOf m) .checkpoint)) (λ h. h) (λ h. absurd (omega (arith, refusal-18 held (passed-long z) h)));
+        }
+
+    pub stopped : (call : Store → Outcome)
+        → ((s : Store) → (len ≡ 512 * s .blocks → ⊥) → call s ≡ gives (model.refused 5) s)
+        → ((s : Store) → len ≡ 512 * s .blocks → isRunning (s .checkpoint) ≡ false → call s ≡ gives (model.refused 18) s)
+        → (img : List ℕ) → (v ≡ 0 → ⊥) → Stores call img m (Refused v) img m
+    stopped call c5 c18 img nz =
+        by (holdsStore m)
+        (λ h. let s : Store = storeOf (flatOf m) in
+        let n : ℕ = flatOf m .head .blocks in
+        let e : 512 * s .blocks ≡ 512 * n = ap (λ (z : ℕ). 512 * z) (blocks-is (flatOf m)) in
+        by (eqb len (512 * n))
+        (λ k. let q : len ≡ 512 * n = eqb-true len (512 * n) k in
+        by (isRunning (s .checkpoint))
+        (λ w. absurd (nz (ev ∙ sym (refusal-none h q w))))
+        (λ w. rw (ev ∙ sym (refusal-18 h q w)) (stores-refused call m img 18 h (c18 s (q ∙ sym e) w))))
+        (λ k. let ne : len ≡ 512 * n → ⊥ = eqb-false len (512 * n) k in
+        rw (ev ∙ sym (refusal-5 h ne)) (stores-refused call m img 5 h (c5 s (λ z. ne (z ∙ e))))))
+        (λ h. rw (ev ∙ sym (refusal-4 h)) (stores-4 call m img h))
+
+pub passed-ready : (img m : List ℕ) (v : ℕ) → v ≡ stepRefusal (length img) (storeIn m) → v ≡ 0 → Ready img m
+passed-ready img m v ev z = record { runs = passed-runs (length img) m v ev z; long = passed-long (length img) m v ev z }
+
+idle-step : (c : Checkpoint) (s : Store) → isRunning c ≡ false → stepAt c s ≡ gives (model.refused 18) s
+unfolding stepAt isRunning
+idle-step idle s e = refl
+idle-step (running n es ds) s e = lie (sym e)
+
+module _ (len : ℕ) (s : Store) where
+  pub step-5 : (len ≡ 512 * s .blocks → ⊥) → stepCall len s ≡ gives (model.refused 5) s
+  unfolding stepCall badImage unless if_then_else_
+  step-5 h = rw (ne-eqb len (512 * s .blocks) h)
+
+  module _ (e : len ≡ 512 * s .blocks) where
+    pub step-at : stepCall len s ≡ stepAt (s .checkpoint) s
+    unfolding stepCall badImage unless if_then_else_
+    step-at = rw (eq-eqb len (512 * s .blocks) e)
+
+    pub step-18 : isRunning (s .checkpoint) ≡ false → stepCall len s ≡ gives (model.refused 18) s
+    step-18 h = step-at ∙ idle-step (s .checkpoint) s h
+
+-- ---- the answer
+
+answer-at : (o : Option Page) (n : ℕ) (es ds : List ℕ) (s : Store) → stepOf o n es ds s .answer ≡ model.count (left (stepOf o n es ds s .store))
+unfolding stepOf storePage storeDirectory storeHeader made if_then_else_
+answer-at (some p) n es ds s = refl
+answer-at none n es ds s = by (ltb (length ds) (directoriesFor (length es))) (λ h. rw h refl) (λ h. rw h refl)
+
+pub answer-of : (c : Checkpoint) (s : Store) → isRunning c ≡ true → stepAt c s .answer ≡ model.count (left (stepAt c s .store))
+unfolding stepAt isRunning
+answer-of idle s e = lie e
+answer-of (running n es ds) s e = answer-at (first isFrozen (s .pages)) n es ds s
+
+pub step-done : (img m img' m' : List ℕ) (k : ℕ) → Ready img m → Steps img m img' m' → k ≡ left (storeOf (flatOf m')) → Stores (stepCall (length img)) img m (Count k) img' m'
+step-done img m img' m' k r d e =
+    let s : Store = storeOf (flatOf m) in
+    let o : Outcome = stepAt (s .checkpoint) s in
+    let n : k ≡ left (o .store) = e ∙ ap left (in-sound m' (o .store) (d .memory .store) .means) in
+    stores-count (stepCall (length img)) m img img' m' k (o .store) (o .writes) (r .runs .held)
+    (step-at (length img) s (r .long ∙ ap (λ (b : ℕ). 512 * b) (sym (blocks-is (flatOf m))))
+    ∙ ap (λ (a : model.Answer). record { answer = a; store = o .store; writes = o .writes }) (answer-of (s .checkpoint) s (r .runs .on) ∙ ap model.count (sym n)))
+    (d .memory) (d .image)

@@ -1,0 +1,139 @@
+-- `call_checkpoint::begin` meets its contract.
+use mathlib.Core.Path.{_≡_, sym, ap, _∙_}
+use mathlib.Core.List.{List}
+use mathlib.Core.Bool.{true, false}
+use Prim.Native.Nat.{ℕ, _+_}
+use native.Mathlib.Omega.{arith}
+use borrow.Author.Tests.{not-true, not-false, leb-true, leb-false}
+use borrow.Author.Needs.{needs}
+use Rattle.memory_layout.specs.declared.Head.{Head}
+use Rattle.memory_layout.specs.Store.{holdsStore, storeOf}
+use Rattle.memory_layout.specs.Flat.{flatOf}
+use Rattle.memory_layout.proofs.Laws.{holds-room}
+use Rattle.model.specs.Checkpoint.{isRunning, freeCount, beginCall}
+use Rattle.model.specs.Transactions.{gives}
+use Rattle.model.specs.State.{Store}
+use Rattle.contracts.proofs.Answering.{answers-4, answers-refused, answers-count}
+use Rattle.call_checkpoint.specs.Keeping.{begun}
+use Rattle.call_checkpoint.proofs.Tallies.{sizes}
+use Rattle.call_checkpoint.proofs.Beginning.{begin-17, begin-19, begin-20, begin-done}
+use Rattle.call_checkpoint.proofs.begin.Statement.{statement}
+use Rattle.model.specs.State as model
+use Rattle.call_checkpoint.proofs.begin.Tie as tie
+
+-- what each test that was passed says: a store is held, none runs, the level is not the last one
+abbrev began : tie.Else1 → tie.Start
+began c = c .before .before .before .before
+
+abbrev memory : tie.Else1 → List ℕ
+memory c = began c .args .m .now
+
+held : (c : tie.Else1) → holdsStore (memory c) ≡ true
+held c = sym (c .before .holds-store .ensures) ∙ not-false _ (c .if1 .left)
+
+abbrev holds : tie.Else2 → tie.Else1
+holds c = c .before .before .before
+
+idle : (c : tie.Else2) → isRunning (storeOf (flatOf (memory (holds c))) .checkpoint) ≡ false
+idle c = sym (c .before .is-running .ensures) ∙ c .if2 .left
+
+abbrev rests : tie.Else3 → tie.Else2
+rests c = c .before .before .before .before
+
+level-is : (c : tie.Else3) → c .before .before .get-head .result .level ≡ flatOf (memory (holds (rests c))) .head .level
+level-is c = ap (λ (h : Head). h .level) (c .before .before .get-head .ensures)
+
+low : (c : tie.Else3) → flatOf (memory (holds (rests c))) .head .level ≡ 4294967295 → ⊥
+low c z = c .if3 .left (level-is c ∙ z)
+
+holds-store-requires : tie.Need-holds-store-requires
+holds-store-requires c κs = search needs
+
+same-length : tie.Need-same-length
+same-length c = search needs
+
+returns : tie.Need-returns
+returns c = answers-4 beginCall (c .before .before .before .before .args .m .now) (sym (c .before .holds-store .ensures) ∙ not-true _ (c .if1 .taken))
+
+is-running-requires : tie.Need-is-running-requires
+is-running-requires c κs = sizes (holds-room _ (held (c .before))) .long
+
+same-length-2 : tie.Need-same-length-2
+same-length-2 c = search needs
+
+returns-2 : tie.Need-returns-2
+returns-2 c =
+    let e = c .before .before .before in
+    answers-refused beginCall (memory e) 17 (held e) (begin-17 (flatOf (memory e)) (sym (c .before .is-running .ensures) ∙ c .if2 .taken))
+
+get-head-requires : tie.Need-get-head-requires
+get-head-requires c κs = sizes (holds-room _ (held (holds (c .before)))) .long
+
+same-length-3 : tie.Need-same-length-3
+same-length-3 c = search needs
+
+returns-3 : tie.Need-returns-3
+returns-3 c =
+    let e = c .before .before .before .before in
+    let m = memory (holds e) in
+    answers-refused beginCall m 19 (held (holds e)) (begin-19 (flatOf m) (idle e) (ap (λ (h : Head). h .level) (sym (c .before .before .get-head .ensures)) ∙ c .if3 .taken))
+
+blocks-needed-requires : tie.Need-blocks-needed-requires
+blocks-needed-requires c κs = held (holds (rests (c .before)))
+
+enough-free-requires : tie.Need-enough-free-requires
+enough-free-requires c κs = holds-room _ (held (holds (rests (c .before .before .before))))
+
+same-length-4 : tie.Need-same-length-4
+same-length-4 c = search needs
+
+returns-4 : tie.Need-returns-4
+returns-4 c =
+    let n = c .before .before .before .blocks-needed in
+    let e = c .before .before .before .before .before in
+    let m = memory (holds (rests e)) in
+    let few = leb-false (n .result) (freeCount (storeOf (flatOf m))) (sym (c .before .enough-free .ensures) ∙ not-true _ (c .if4 .taken)) in
+    answers-refused beginCall m 20 (held (holds (rests e))) (begin-20 (flatOf m) (idle (rests e)) (low e) (omega (arith, few, n .ensures .0)))
+
+start-requires : tie.Need-start-requires
+start-requires c κs = let e = c .before .before .before .before .before .before in (held (holds (rests e)), omega (arith, level-is e, e .if3 .left))
+
+add-t21 : tie.Need-add-t21
+add-t21 c = search needs
+
+same-length-5 : tie.Need-same-length-5
+same-length-5 c = search needs
+
+returns-5 : tie.Need-returns-5
+returns-5 c =
+    let q = c .before .before .before .before in
+    let n = q .before .before .before .blocks-needed in
+    let e = q .before .before .before .before .before in
+    let m = memory (holds (rests e)) in
+    let s : Store = storeOf (flatOf m) in
+    let enough = leb-true (n .result) (freeCount s) (sym (q .before .enough-free .ensures) ∙ not-false _ (q .if4 .left)) in
+    answers-count beginCall m _ _ (begun s) (held (holds (rests e)))
+    (begin-done (flatOf m) (idle (rests e)) (low e) (omega (arith, enough, n .ensures .0)) ∙ ap (λ (z : ℕ). gives (model.count (z + 1)) (begun s)) (sym (n .ensures .0)))
+    (c .before .before .start .ensures)
+
+pub begin-spec : {M : Type 1} → statement M
+begin-spec =
+    tie.close
+    (tie.spec
+    holds-store-requires
+    same-length
+    returns
+    is-running-requires
+    same-length-2
+    returns-2
+    get-head-requires
+    same-length-3
+    returns-3
+    blocks-needed-requires
+    enough-free-requires
+    same-length-4
+    returns-4
+    start-requires
+    add-t21
+    same-length-5
+    returns-5)

@@ -1,0 +1,73 @@
+-- `call_checkpoint::block_named` meets its contract.
+use mathlib.Core.Path.{ap, _∙_}
+use Prim.Native.Nat.{ℕ, _-_}
+use native.Mathlib.Omega.{arith}
+use lib.ListN.{length, getD}
+use borrow.Author.Needs.{needs}
+use Rattle.memory_layout.specs.Flat.{flatOf}
+use Rattle.call_checkpoint.proofs.Tallies.{named-read, named-low, directory-low}
+use Rattle.call_checkpoint.proofs.Leaving.{named-count, page-block, directory-block}
+use Rattle.call_checkpoint.proofs.block_named.Statement.{statement}
+use Rattle.call_checkpoint.proofs.block_named.Tie as tie
+
+get-counts-requires : tie.Need-get-counts-requires
+get-counts-requires c κs = search needs
+
+cast-n : tie.Need-cast-n
+cast-n c = search needs
+
+get-named-requires : tie.Need-get-named-requires
+get-named-requires c κs =
+    let k = c .before .before in
+    let st = k .before .before in
+    (st .pre .0, omega (arith, c .if1 .taken, named-read (st .args .m .now) (k .get-counts .ensures)))
+
+cast-result : tie.Need-cast-result
+cast-result c = search needs
+
+returns : tie.Need-returns
+returns c =
+    let k = c .before .before .before in
+    let st = k .before .before in
+    let m = st .args .m .now in
+    let e = named-read m (k .get-counts .ensures) in
+    let i = st .args .i in (
+      c .get-named .ensures ∙ page-block (flatOf m) i (omega (arith, c .before .if1 .taken, e)),
+      omega (arith, c .get-named .ensures, named-low m i (omega (arith, c .before .if1 .taken, e))),
+    )
+
+get-directory-requires : tie.Need-get-directory-requires
+get-directory-requires c κs =
+    let k = c .before .before in
+    let st = k .before .before in
+    let m = st .args .m .now in
+    (st .pre .0, omega (arith, c .if1 .left, named-read m (k .get-counts .ensures), st .pre .1, named-count (flatOf m)))
+
+cast-result-2 : tie.Need-cast-result-2
+cast-result-2 c = search needs
+
+returns-2 : tie.Need-returns-2
+returns-2 c =
+    let k = c .before .before .before in
+    let st = k .before .before in
+    let m = st .args .m .now in
+    let f = flatOf m in
+    let e = named-read m (k .get-counts .ensures) in
+    let i = st .args .i in
+    let q = c .get-directory .ensures ∙ ap (λ (z : ℕ). getD (f .directories) (i - z) 0) e in (
+      q ∙ directory-block f i (omega (arith, c .before .if1 .left, e)),
+      omega (arith, q, directory-low m (i - length (f .named)) (omega (arith, c .before .if1 .left, e, st .pre .1, named-count f))),
+    )
+
+pub block-named-spec : {M : Type 1} → statement M
+block-named-spec =
+    tie.close
+    (tie.spec
+    get-counts-requires
+    cast-n
+    get-named-requires
+    cast-result
+    returns
+    get-directory-requires
+    cast-result-2
+    returns-2)

@@ -1,0 +1,69 @@
+-- `call_checkpoint::first_unnamed` meets its contract.
+use mathlib.Core.Path.{_≡_, sym, _∙_}
+use Prim.Native.Nat.{_-_}
+use native.Mathlib.Omega.{arith}
+use lib.ListN.{length}
+use borrow.Author.Needs.{needs}
+use Rattle.memory_layout.specs.Flat.{flatOf}
+use Rattle.call_checkpoint.specs.Counting.{NamedBefore}
+use Rattle.call_checkpoint.proofs.Tallies.{sizes, named-read}
+use Rattle.call_checkpoint.proofs.Leaving.{named-hit, named-miss, named-end}
+use Rattle.call_checkpoint.proofs.first_unnamed.Statement.{statement}
+use Rattle.call_checkpoint.proofs.first_unnamed.Tie as tie
+
+abbrev Inv-loop : tie.InvT-loop
+Inv-loop m n i₀ i = (n ≡ length (flatOf m .named)) × NamedBefore (flatOf m .named) i
+
+abbrev μ-loop : tie.MeasureT-loop
+μ-loop m n i₀ i = n - i
+
+get-counts-requires : tie.Need-get-counts-requires Inv-loop μ-loop
+get-counts-requires c κs = sizes (c .before .pre) .long
+
+cast-n : tie.Need-cast-n Inv-loop μ-loop
+cast-n c = search needs
+
+named-fours-requires : tie.Need-named-fours-requires Inv-loop μ-loop
+named-fours-requires c κs = let st = c .before .before .before in (st .pre, named-read (st .args .m .now) (c .before .get-counts .ensures))
+
+loop-holds : tie.Need-loop-holds Inv-loop μ-loop
+loop-holds c = (named-read (c .before .before .before .before .args .m .now) (c .before .before .get-counts .ensures), c .named-fours .ensures)
+
+get-named-requires : tie.Need-get-named-requires Inv-loop μ-loop
+get-named-requires c κs = (c .before .before .before .before .before .before .pre, omega (arith, c .before .loop .inv .0, c .loop-test .taken))
+
+returns : tie.Need-returns Inv-loop μ-loop
+returns c =
+    let l = c .before .before .before .loop in
+    named-hit (l .inv .1) (omega (arith, l .inv .0, c .before .before .loop-test .taken)) (sym (c .before .get-named .ensures) ∙ c .if1 .taken)
+
+add-i : tie.Need-add-i Inv-loop μ-loop
+add-i c = omega arith
+
+loop-less : tie.Need-loop-less Inv-loop μ-loop
+loop-less c = omega arith
+
+loop-again : tie.Need-loop-again Inv-loop μ-loop
+loop-again c =
+    let l = c .before .before .before .loop in
+    (l .inv .0, named-miss (l .inv .1) (omega (arith, l .inv .0, c .before .before .loop-test .taken)) (λ q. c .if1 .left (c .before .get-named .ensures ∙ q)))
+
+returns-2 : tie.Need-returns-2 Inv-loop μ-loop
+returns-2 c = let l = c .before .loop in l .inv .0 ∙ named-end (l .inv .1) (omega (arith, l .inv .0, c .loop-test .left))
+
+pub first-unnamed-spec : {M : Type 1} → statement M
+first-unnamed-spec =
+    tie.close
+    (tie.spec
+    Inv-loop
+    μ-loop
+    get-counts-requires
+    cast-n
+    named-fours-requires
+    loop-holds
+    get-named-requires
+    returns
+    add-i
+    loop-less
+    loop-again
+    returns-2)

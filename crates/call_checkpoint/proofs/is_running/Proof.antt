@@ -1,0 +1,30 @@
+-- `call_checkpoint::is_running` meets its contract.
+use mathlib.Core.Path.{_≡_, sym, ap, _∙_}
+use mathlib.Core.Bool.{true}
+use native.Mathlib.Omega.{arith}
+use lib.Dec.{ltb}
+use borrow.Author.Tests.{ltb-true, ltb-false, not-true, not-false}
+use borrow.Author.Needs.{needs}
+use Rattle.memory_layout.specs.declared.Head.{Head}
+use Rattle.memory_layout.specs.Flat.{flatOf}
+use Rattle.basics.proofs.Facts.{by}
+use Rattle.call_checkpoint.proofs.Tallies.{not-on, runs-on, last-level}
+use Rattle.call_checkpoint.proofs.is_running.Statement.{statement}
+use Rattle.call_checkpoint.proofs.is_running.Tie as tie
+
+get-head-requires : tie.Need-get-head-requires
+get-head-requires c κs = search needs
+
+returns : tie.Need-returns
+returns c = not-on (flatOf (c .before .before .before .before .args .m .now)) (ap (λ (h : Head). h .running) (sym (c .before .before .get-head .ensures)) ∙ not-true _ (c .if1 .taken))
+
+returns-2 : tie.Need-returns-2
+returns-2 c = let f = flatOf (c .before .before .before .before .before .args .m .now) in
+    let e = c .before .before .before .get-head .ensures in
+    let on : f .head .running ≡ true = ap (λ (h : Head). h .running) (sym e) ∙ not-false _ (c .before .if1 .left) in
+    by (ltb (c .before .before .before .get-head .result .level) 4294967295)
+    (λ t. t ∙ runs-on f on (omega (arith, ltb-true (c .before .before .before .get-head .result .level) 4294967295 t, ap (λ (h : Head). h .level) e)))
+    (λ t. t ∙ last-level f on (omega (arith, ltb-false (c .before .before .before .get-head .result .level) 4294967295 t, ap (λ (h : Head). h .level) e)))
+
+pub is-running-spec : {M : Type 1} → statement M
+is-running-spec = tie.close (tie.spec get-head-requires returns returns-2)

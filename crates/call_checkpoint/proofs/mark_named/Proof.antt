@@ -1,0 +1,85 @@
+-- `call_checkpoint::mark_named` meets its contract.
+use mathlib.Core.Path.{ap, _∙_}
+use mathlib.Core.List.{List}
+use Prim.Native.Nat.{ℕ, _-_}
+use native.Mathlib.Omega.{arith}
+use lib.ListN.{length, getD}
+use borrow.Author.Needs.{needs}
+use Rattle.memory_layout.specs.Flat.{flatOf}
+use Rattle.call_checkpoint.specs.Counting.{namedIn}
+use Rattle.call_checkpoint.proofs.Tallies.{sizes, named-read, directories-read}
+use Rattle.call_checkpoint.proofs.Leaving.{Marking, marking-start, marking-turn, marking-same, marking-end, named-count}
+use Rattle.call_checkpoint.proofs.mark_named.Statement.{statement}
+use Rattle.call_checkpoint.proofs.mark_named.Tie as tie
+
+abbrev Inv-loop : tie.InvT-loop
+Inv-loop m₀ n i₀ m i = Marking m₀ m (namedIn (flatOf m₀)) n i
+
+abbrev μ-loop : tie.MeasureT-loop
+μ-loop m₀ n i₀ m i = n - i
+
+get-counts-requires : tie.Need-get-counts-requires Inv-loop μ-loop
+get-counts-requires c κs = omega (arith, c .before .before .pre .range .long)
+
+cast-n : tie.Need-cast-n Inv-loop μ-loop
+cast-n c = search needs
+
+cast-n-2 : tie.Need-cast-n-2 Inv-loop μ-loop
+cast-n-2 c = search needs
+
+add-n : tie.Need-add-n Inv-loop μ-loop
+add-n c = search needs
+
+loop-holds : tie.Need-loop-holds Inv-loop μ-loop
+loop-holds c = let e = c .before .before .get-counts .ensures in
+    let m = c .before .before .before .before .before .args .m .now in
+    marking-start m _ _ (c .before .before .before .before .before .pre) (omega (arith, named-read m e, directories-read m e, named-count (flatOf m)))
+
+block-named-requires : tie.Need-block-named-requires Inv-loop μ-loop
+block-named-requires c κs = let k = c .before .before .loop .inv in
+    (k .becomes .room, omega (arith, k .whole, c .before .loop-test .taken, ap length (marking-same k)))
+
+mark-used-requires : tie.Need-mark-used-requires Inv-loop μ-loop
+mark-used-requires c κs = (c .before .before .before .before .loop .inv .becomes .room, c .before .block-named .ensures .1)
+
+add-i : tie.Need-add-i Inv-loop μ-loop
+add-i c =
+    let i = c .before .before .before .before .before .before in
+    let l = i .before in
+    let st = l .before .before .before .before .before .before in
+    omega (arith, l .loop .inv .whole, i .loop-test .taken, named-count (flatOf (st .args .m .now)), sizes (st .pre))
+
+loop-less : tie.Need-loop-less Inv-loop μ-loop
+loop-less c = omega (arith, c .before .before .before .before .before .before .loop-test .taken)
+
+loop-again : tie.Need-loop-again Inv-loop μ-loop
+loop-again c =
+    let i = c .before .before .before .before .before .before in
+    let l = i .before .loop in
+    let e = c .before .before .before .before .block-named .ensures .0 ∙ ap (λ (bs : List ℕ). getD bs (l .i) 0) (marking-same (l .inv)) in
+    marking-turn (l .inv) (i .loop-test .taken) _ e _ (c .before .before .mark-used .ensures)
+
+same-length : tie.Need-same-length Inv-loop μ-loop
+same-length c = c .before .loop .inv .becomes .size
+
+returns : tie.Need-returns Inv-loop μ-loop
+returns c = marking-end (c .before .loop .inv) (c .loop-test .left)
+
+pub mark-named-spec : {M : Type 1} → statement M
+mark-named-spec =
+    tie.close
+    (tie.spec
+    Inv-loop
+    μ-loop
+    get-counts-requires
+    cast-n
+    cast-n-2
+    add-n
+    loop-holds
+    block-named-requires
+    mark-used-requires
+    add-i
+    loop-less
+    loop-again
+    same-length
+    returns)

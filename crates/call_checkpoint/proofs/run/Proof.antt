@@ -1,0 +1,99 @@
+-- `call_checkpoint::run` meets its contract.
+use mathlib.Core.Path.{ap, _∙_}
+use mathlib.Core.List.{List}
+use Prim.Native.Nat.{ℕ, min}
+use native.Mathlib.Omega.{arith}
+use lib.ListN.{length}
+use borrow.Author.Needs.{needs}
+use Rattle.model.specs.Checkpoint.{runCall}
+use Rattle.memory_layout.proofs.Laws.{holds-room}
+use Rattle.call_checkpoint.specs.Keeping.{Ready}
+use Rattle.call_checkpoint.proofs.Stepping.{frozen-all, stopped, passed-ready}
+use Rattle.call_checkpoint.proofs.Repeating.{run-5, run-18, Repeats, repeats-start, repeats-turn, repeats-end}
+use Rattle.call_checkpoint.proofs.run.Statement.{statement}
+use Rattle.call_checkpoint.proofs.run.Tie as tie
+
+abbrev Inv-loop : tie.InvT-loop
+Inv-loop image₀ m₀ limit v k n₀ image m n = Repeats image₀ m₀ k image m n
+
+abbrev μ-loop : tie.MeasureT-loop
+μ-loop image₀ m₀ limit v k n₀ image m n = n
+
+abbrev began : tie.Else1 Inv-loop μ-loop → tie.Start Inv-loop μ-loop
+began c = c .before .before .before .before .before
+
+-- the tests are passed
+ready : (c : tie.Else1 Inv-loop μ-loop) → Ready (began c .args .image .now) (began c .args .m .now)
+ready c = let p = began c .args in passed-ready (p .image .now) (p .m .now) _ (c .before .step-refusal .ensures) (c .if1 .left)
+
+step-refusal-requires : tie.Need-step-refusal-requires Inv-loop μ-loop
+step-refusal-requires c κs = search needs
+
+same-length : tie.Need-same-length Inv-loop μ-loop
+same-length c = search needs
+
+returns : tie.Need-returns Inv-loop μ-loop
+returns c = let p = c .before .before .before .before .before .args in
+    let img : List ℕ = p .image .now in
+    stopped (length img) (p .m .now) _ (c .before .step-refusal .ensures) (runCall (p .limit) (length img)) (run-5 (p .limit) (length img)) (run-18 (p .limit) (length img)) img (c .if1 .taken)
+
+count-frozen-requires : tie.Need-count-frozen-requires Inv-loop μ-loop
+count-frozen-requires c κs = (holds-room _ (ready (c .before) .runs .held), omega arith)
+
+left-requires : tie.Need-left-requires Inv-loop μ-loop
+left-requires c κs = let passed = c .before .before in
+    (ready passed .runs, frozen-all (began passed .args .m .now) (c .count-frozen .ensures))
+
+smaller-requires : tie.Need-smaller-requires Inv-loop μ-loop
+smaller-requires c κs = search needs
+
+loop-holds : tie.Need-loop-holds Inv-loop μ-loop
+loop-holds c = let passed = c .before .before .before .before in
+    let p = began passed .args in
+    repeats-start (p .image .now) (p .m .now) _ (ready passed) (omega (arith, c .smaller .ensures, c .before .left .ensures))
+
+step-requires : tie.Need-step-requires Inv-loop μ-loop
+step-requires c κs = search needs
+
+sub-n : tie.Need-sub-n Inv-loop μ-loop
+sub-n c = omega arith
+
+loop-less : tie.Need-loop-less Inv-loop μ-loop
+loop-less c = omega (arith, c .before .before .before .before .before .before .before .loop-test .taken)
+
+loop-again : tie.Need-loop-again Inv-loop μ-loop
+loop-again c =
+    let i = c .before .before .before .before .before .before .before in
+    repeats-turn (i .before .loop .inv) (i .loop-test .taken) _ _ _ (search needs) (c .before .before .before .before .step .ensures)
+
+same-length-2 : tie.Need-same-length-2 Inv-loop μ-loop
+same-length-2 c = c .before .loop .inv .wide
+
+same-length-3 : tie.Need-same-length-3 Inv-loop μ-loop
+same-length-3 c = c .before .loop .inv .size
+
+returns-2 : tie.Need-returns-2 Inv-loop μ-loop
+returns-2 c = let passed = c .before .before .before .before .before .before in
+    let limit = began passed .args .limit in
+    repeats-end (c .before .loop .inv) (c .loop-test .left) limit (ready passed) (c .before .before .smaller .ensures ∙ ap (min limit) (c .before .before .before .left .ensures)) _ (omega arith)
+
+pub run-spec : {M : Type 1} → statement M
+run-spec =
+    tie.close
+    (tie.spec
+    Inv-loop
+    μ-loop
+    step-refusal-requires
+    same-length
+    returns
+    count-frozen-requires
+    left-requires
+    smaller-requires
+    loop-holds
+    step-requires
+    sub-n
+    loop-less
+    loop-again
+    same-length-2
+    same-length-3
+    returns-2)

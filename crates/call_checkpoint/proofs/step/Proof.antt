@@ -1,0 +1,49 @@
+-- `call_checkpoint::step` meets its contract.
+use mathlib.Core.List.{List}
+use Prim.Native.Nat.{ℕ}
+use native.Mathlib.Omega.{arith}
+use lib.ListN.{length}
+use borrow.Author.Needs.{needs}
+use Rattle.model.specs.Checkpoint.{stepCall}
+use Rattle.call_checkpoint.specs.Keeping.{Ready}
+use Rattle.call_checkpoint.proofs.Allotting.{left-is}
+use Rattle.call_checkpoint.proofs.Stepping.{stopped, step-5, step-18, passed-ready, step-done}
+use Rattle.call_checkpoint.proofs.step.Statement.{statement}
+use Rattle.call_checkpoint.proofs.step.Tie as tie
+
+abbrev began : tie.Else1 → tie.Start
+began c = c .before .before .before .before .before
+
+-- the tests are passed
+ready : (c : tie.Else1) → Ready (began c .args .image .now) (began c .args .m .now)
+ready c = let p = began c .args in passed-ready (p .image .now) (p .m .now) _ (c .before .step-refusal .ensures) (c .if1 .left)
+
+step-refusal-requires : tie.Need-step-refusal-requires
+step-refusal-requires c κs = search needs
+
+same-length : tie.Need-same-length
+same-length c = search needs
+
+returns : tie.Need-returns
+returns c = let p = c .before .before .before .before .before .args in
+    let img : List ℕ = p .image .now in
+    stopped (length img) (p .m .now) _ (c .before .step-refusal .ensures) (stepCall (length img)) (step-5 (length img)) (step-18 (length img)) img (c .if1 .taken)
+
+store-next-requires : tie.Need-store-next-requires
+store-next-requires c κs = ready (c .before .before)
+
+same-length-2 : tie.Need-same-length-2
+same-length-2 c = search needs
+
+same-length-3 : tie.Need-same-length-3
+same-length-3 c = search needs
+
+returns-2 : tie.Need-returns-2
+returns-2 c = let passed = c .before .before .before .before .before .before .before in
+    let p = began passed .args in
+    let d = c .before .before .before .before .store-next .ensures in
+    step-done (p .image .now) (p .m .now) _ _ _ (ready passed) (d .0) (omega (arith, left-is _ _ (d .1)))
+
+pub step-spec : {M : Type 1} → statement M
+step-spec =
+    tie.close (tie.spec step-refusal-requires same-length returns store-next-requires same-length-2 same-length-3 returns-2)

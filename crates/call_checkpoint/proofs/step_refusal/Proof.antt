@@ -1,0 +1,80 @@
+-- `call_checkpoint::step_refusal` meets its contract.
+use mathlib.Core.Path.{_≡_, sym, ap, _∙_}
+use mathlib.Core.Bool.{true}
+use mathlib.Core.List.{List}
+use Prim.Native.Nat.{ℕ, _*_}
+use borrow.Author.Tests.{not-true, not-false}
+use borrow.Author.Needs.{needs}
+use Rattle.memory_layout.specs.declared.Head.{Head}
+use Rattle.memory_layout.specs.Flat.{flatOf}
+use Rattle.memory_layout.specs.Store.{holdsStore}
+use Rattle.memory_layout.proofs.Laws.{holds-room}
+use Rattle.call_checkpoint.proofs.Tallies.{sizes}
+use Rattle.call_checkpoint.proofs.Stepping.{refusal-4, refusal-5, refusal-18, refusal-none}
+use Rattle.call_checkpoint.proofs.step_refusal.Statement.{statement}
+use Rattle.call_checkpoint.proofs.step_refusal.Tie as tie
+
+-- what each test that was passed says: a store is held, the image is as long as its blocks
+abbrev began : tie.Else1 → tie.Start
+began c = c .before .before .before
+
+abbrev memory : tie.Else1 → List ℕ
+memory c = began c .args .m .now
+
+held : (c : tie.Else1) → holdsStore (memory c) ≡ true
+held c = sym (c .before .holds-store .ensures) ∙ not-false _ (c .if1 .left)
+
+abbrev holds : tie.Else2 → tie.Else1
+holds c = c .before .before .before
+
+long : (c : tie.Else2) → began (holds c) .args .len ≡ 512 * flatOf (memory (holds c)) .head .blocks
+long c = c .if2 .left ∙ ap (λ (h : Head). 512 * h .blocks) (c .before .before .get-head .ensures)
+
+holds-store-requires : tie.Need-holds-store-requires
+holds-store-requires c κs = search needs
+
+returns : tie.Need-returns
+returns c = let a = c .before .before .before .args in refusal-4 (a .len) (a .m .now) (sym (c .before .holds-store .ensures) ∙ not-true _ (c .if1 .taken))
+
+get-head-requires : tie.Need-get-head-requires
+get-head-requires c κs = sizes (holds-room _ (held c)) .long
+
+cast-n : tie.Need-cast-n
+cast-n c = search needs
+
+mul-if2 : tie.Need-mul-if2
+mul-if2 c = search needs
+
+returns-2 : tie.Need-returns-2
+returns-2 c =
+    let e = c .before .before .before in
+    refusal-5 (began e .args .len) (memory e) (held e) (λ q. c .if2 .taken (q ∙ ap (λ (h : Head). 512 * h .blocks) (sym (c .before .before .get-head .ensures))))
+
+is-running-requires : tie.Need-is-running-requires
+is-running-requires c κs = sizes (holds-room _ (held (holds c))) .long
+
+returns-3 : tie.Need-returns-3
+returns-3 c =
+    let e = c .before .before in
+    let h = holds e in
+    refusal-18 (began h .args .len) (memory h) (held h) (long e) (sym (c .before .is-running .ensures) ∙ not-true _ (c .if3 .taken))
+
+returns-4 : tie.Need-returns-4
+returns-4 c =
+    let e = c .before .before in
+    let h = holds e in
+    refusal-none (began h .args .len) (memory h) (held h) (long e) (sym (c .before .is-running .ensures) ∙ not-false _ (c .if3 .left))
+
+pub step-refusal-spec : {M : Type 1} → statement M
+step-refusal-spec =
+    tie.close
+    (tie.spec
+    holds-store-requires
+    returns
+    get-head-requires
+    cast-n
+    mul-if2
+    returns-2
+    is-running-requires
+    returns-3
+    returns-4)

@@ -1,0 +1,62 @@
+-- `call_checkpoint::store_header` meets its contract.
+use native.Mathlib.Omega.{arith}
+use lib.ListN.{length-take}
+use borrow.Author.Needs.{needs}
+use Rattle.memory_layout.proofs.Laws.{holds-room}
+use Rattle.call_checkpoint.proofs.Allotting.{header-hands}
+use Rattle.call_checkpoint.proofs.Stepping.{front-is, header-does}
+use Rattle.call_checkpoint.proofs.Tallies.{sizes, running-is}
+use Rattle.call_checkpoint.proofs.store_header.Statement.{statement}
+use Rattle.call_checkpoint.proofs.store_header.Tie as tie
+
+sub-write-header : tie.Need-sub-write-header
+sub-write-header c = search needs
+
+part-write-header-start : tie.Need-part-write-header-start
+part-write-header-start c = search needs
+
+part-write-header-end : tie.Need-part-write-header-end
+part-write-header-end c = let p = c .before .before .pre .0 in omega (arith, p .long, sizes (holds-room _ (p .runs .held)))
+
+write-header-requires : tie.Need-write-header-requires
+write-header-requires c κs =
+    let st = c .before .before .before .before in
+    let p = st .pre .0 in
+    let r = holds-room _ (p .runs .held) in
+    (r, (running-is _ (p .runs .on) .1, omega (arith, p .long, sizes r, length-take 512 (st .args .image .now))))
+
+keep-header-requires : tie.Need-keep-header-requires
+keep-header-requires c κs = search needs
+
+landed-requires : tie.Need-landed-requires
+landed-requires c κs = search needs
+
+same-length : tie.Need-same-length
+same-length c = search needs
+
+same-length-2 : tie.Need-same-length-2
+same-length-2 c = search needs
+
+returns : tie.Need-returns
+returns c =
+    let w = c .before .before .before .before .before .before .before in
+    let st = w .before .before .before .before .before in
+    let r = st .pre .0 .runs in
+    let k = c .before .before .before .keep-header .ensures in (
+      header-does r (st .pre .1 .0) (st .pre .1 .1 .0) (w .write-header .ensures) (front-is (st .args .image .now) _) k,
+      header-hands r (st .pre .1 .1 .1) (c .landed .ensures) k,
+    )
+
+pub store-header-spec : {M : Type 1} → statement M
+store-header-spec =
+    tie.close
+    (tie.spec
+    sub-write-header
+    part-write-header-start
+    part-write-header-end
+    write-header-requires
+    keep-header-requires
+    landed-requires
+    same-length
+    same-length-2
+    returns)

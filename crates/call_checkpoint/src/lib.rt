@@ -1,0 +1,467 @@
+// Begin, step and run: the checkpoint on the working memory. No call asks anything of its caller: each contract says what the call
+// answers and leaves, for any image and any memory, by the model's function.
+use allocator::Allocator;
+use contracts::Answer;
+ghost use mathlib.Core.Path.{_≡_};
+ghost use mathlib.Core.Bool.{true};
+ghost use mathlib.Core.List.{[], _∷_, _++_, map};
+ghost use Prim.Native.Nat.{_+_, _-_, _≤_, _<_, min};
+ghost use lib.ListN.{length, getD};
+ghost use lib.Dec.{leb};
+ghost use Rattle.basics.specs.Basics.{howMany};
+ghost use Rattle.image.specs.Stages.{directoriesFor};
+ghost use Rattle.model.specs.Rules.{isFrozen};
+ghost use Rattle.model.specs.Checkpoint.{allocate, freeCount, isRunning, blocksNeeded, beginCall, fill, left, stepCall, runCall};
+ghost use Rattle.memory_layout.specs.Flat.{flatOf, Room, Becomes, withNamed};
+ghost use Rattle.memory_layout.specs.Store.{holdsStore, storeOf, storeIn, HoldsNow};
+ghost use Rattle.engine_pages.specs.Pages.{pagesOf};
+ghost use Rattle.engine_pages.specs.Pending.{FirstFrozen};
+ghost use Rattle.contracts.specs.Shape.{Answers, Stores};
+ghost use Rattle.call_checkpoint.specs.Counting.{oneIf, freeFrom, firstZero, NamedBefore, fourNamed, namedIn};
+ghost use Rattle.call_checkpoint.specs.Keeping.{allocatorIn, begun, pageKept, directoryKept, headerKept, Runs, Ready, NoneFrozen, taking, Marks, Steps, stepRefusal};
+
+// A level, and with it a header's number, is at most this.
+const LAST_LEVEL: u32 = 4294967295;
+
+const BLOCK_SIZE: usize = 512;
+
+// ---- counting
+
+fn one_if(b: bool) -> usize
+    ensures { λ r. ⌜ (r ≡ oneIf b) × (r ≤ 1) ⌝ }
+{
+    if b {
+        return 1;
+    }
+    0
+}
+
+// Whether so many blocks are free: the search ends where that is known.
+fn enough_free(m: &[u8], need: usize) -> bool
+    requires { ⌜ Room (now m) ⌝ }
+    ensures { λ r. ⌜ r ≡ leb need (freeCount (storeOf (flatOf (now (m .entry))))) ⌝ }
+{
+    let h = memory_layout::get_head(m);
+    let n = h.blocks as usize;
+    let mut k: usize = 0;
+    let mut b: usize = 1;
+    while b < n {
+        if need <= k {
+            return true;
+        }
+        k += one_if(!memory_layout::is_used(m, b));
+        b += 1;
+    }
+    need <= k
+}
+
+// How many free blocks a begin needs.
+fn blocks_needed(m: &[u8]) -> usize
+    requires { ⌜ holdsStore (now m) ≡ true ⌝ }
+    ensures { λ r. ⌜ (r ≡ blocksNeeded (pagesOf (now (m .entry)))) × (r ≤ 1028) ⌝ }
+{
+    let c = memory_layout::get_counts(m);
+    memory_pages::count_dirty(m) + naming::directories_for(c.pages as usize)
+}
+
+// Whether a checkpoint runs: none does at the last level.
+fn is_running(m: &[u8]) -> bool
+    requires { ⌜ 1024 ≤ length (now m) ⌝ }
+    ensures { λ r. ⌜ r ≡ isRunning (storeOf (flatOf (now (m .entry))) .checkpoint) ⌝ }
+{
+    let h = memory_layout::get_head(m);
+    if !h.running {
+        return false;
+    }
+    h.level < LAST_LEVEL
+}
+
+// ---- what is left to store
+
+// How many directory blocks are still to be written.
+fn directories_left(m: &[u8]) -> usize
+    requires { ⌜ Room (now m) ⌝ }
+    ensures { λ r. ⌜ (r ≡ directoriesFor (length (flatOf (now (m .entry)) .named)) - length (flatOf (now (m .entry)) .directories)) × (r ≤ 4) ⌝ }
+{
+    let c = memory_layout::get_counts(m);
+    let d = naming::directories_for(c.named as usize);
+    let w = c.directories as usize;
+    if d < w {
+        return 0;
+    }
+    d - w
+}
+
+// How many stores are left: the frozen pages, the directory blocks, the header.
+fn left(m: &[u8], frozen: usize) -> u64
+    requires { ⌜ Runs (now m) × (frozen ≡ howMany isFrozen (pagesOf (now m))) ⌝ }
+    ensures { λ r. ⌜ r ≡ left (storeOf (flatOf (now (m .entry)))) ⌝ }
+{
+    let n = frozen + directories_left(m) + 1;
+    n as u64
+}
+
+// ---- the next block
+
+// The first free block from a up to, not including, e; e, if there is none.
+fn first_free(m: &[u8], a: usize, e: usize) -> usize
+    requires { ⌜ (1024 ≤ length (now m)) × ((a ≤ e) × (e ≤ 4096)) ⌝ }
+    ensures { λ r. ⌜ (r ≡ freeFrom (flatOf (now (m .entry)) .used) a e) × (r ≤ e) ⌝ }
+{
+    let mut b = a;
+    while b < e {
+        if !memory_layout::is_used(m, b) {
+            return b;
+        }
+        b += 1;
+    }
+    e
+}
+
+// The first free block after the one last taken, round to block 1; the last block, if there is none.
+fn allocate(m: &[u8], taken: u32) -> usize
+    requires { ⌜ Room (now m) × (taken ≡ flatOf (now m) .head .taken) ⌝ }
+    ensures { λ r. ⌜ (r ≡ allocate (storeOf (flatOf (now (m .entry))))) × (r < flatOf (now (m .entry)) .head .blocks) ⌝ }
+{
+    let h = memory_layout::get_head(m);
+    let n = h.blocks as usize;
+    let t = taken as usize;
+    let b = first_free(m, t + 1, n);
+    if b < n {
+        return b;
+    }
+    let w = first_free(m, 1, t + 1);
+    if w <= t {
+        return w;
+    }
+    n - 1
+}
+
+// Where the search for a free block goes on, and how many stores the running checkpoint has still to make.
+fn allocator_of(m: &[u8], frozen: usize) -> Allocator
+    requires { ⌜ Runs (now m) × (frozen ≡ howMany isFrozen (pagesOf (now m))) ⌝ }
+    ensures { λ r. ⌜ r ≡ allocatorIn (now (m .entry)) ⌝ }
+{
+    let h = memory_layout::get_head(m);
+    Allocator {
+        taken: h.taken,
+        left: left(m, frozen),
+    }
+}
+
+// ---- begin
+
+// The list of all pages: the block of each, 0 if it is dirty.
+fn name_pages(m: &mut [u8])
+    requires { ⌜ (holdsStore (now m) ≡ true) × (flatOf (now m) .named ≡ []) ⌝ }
+    ensures { λ _. ⌜ Becomes (now (m .entry)) (now (m .exit)) (withNamed (flatOf (now (m .entry))) (map (λ e. e .block) (flatOf (now (m .entry)) .entries))) ⌝ }
+{
+    let c = memory_layout::get_counts(m);
+    let n = c.pages as usize;
+    let mut p: usize = 0;
+    while p < n {
+        let b = memory_pages::block_at(m, p);
+        memory_layout::push_named(m, b);
+        p += 1;
+    }
+}
+
+// All tests are passed: the list of all pages is fixed, and every dirty page is frozen.
+fn start(m: &mut [u8])
+    requires { ⌜ (holdsStore (now m) ≡ true) × (flatOf (now m) .head .level < 4294967295) ⌝ }
+    ensures { λ _. ⌜ HoldsNow (now (m .entry)) (now (m .exit)) (begun (storeOf (flatOf (now (m .entry))))) ⌝ }
+{
+    memory_layout::clear_named(m);
+    name_pages(m);
+    memory_layout::clear_directories(m);
+    let mut h = memory_layout::get_head(m);
+    h.running = true;
+    h.begun = h.next;
+    memory_layout::put_head(m, h);
+    engine_pages::freeze(m);
+}
+
+// Freezes every dirty page and fixes the list of all pages; answers how many stores are left.
+pub fn begin(m: &mut [u8]) -> Answer
+    ensures { λ r. ⌜ Answers beginCall (now (m .entry)) r (now (m .exit)) ⌝ }
+{
+    if !memory_layout::holds_store(m) {
+        return Answer::Refused(4);
+    }
+    if is_running(m) {
+        return Answer::Refused(17);
+    }
+    let h = memory_layout::get_head(m);
+    if h.level == LAST_LEVEL {
+        return Answer::Refused(19);
+    }
+    let need = blocks_needed(m);
+    if !enough_free(m, need) {
+        return Answer::Refused(20);
+    }
+    start(m);
+    let n = need as u64;
+    Answer::Count(n + 1)
+}
+
+// ---- what a store leaves in the memory
+
+// Block b is in use, and it is the one last taken.
+fn take_block(m: &mut [u8], b: u32)
+    requires { ⌜ Room (now m) × (b < flatOf (now m) .head .blocks) ⌝ }
+    ensures { λ _. ⌜ Becomes (now (m .entry)) (now (m .exit)) (taking b (flatOf (now (m .entry)))) ⌝ }
+{
+    let mut h = memory_layout::get_head(m);
+    h.taken = b;
+    memory_layout::put_head(m, h);
+    memory_layout::mark_used(m, b as usize);
+}
+
+// Whether each of the four directory entries from i on has a block: one branch for the four.
+fn four_named(m: &[u8], i: usize) -> bool
+    requires { ⌜ Room (now m) × (i + 4 ≤ length (flatOf (now m) .named)) ⌝ }
+    ensures { λ r. ⌜ r ≡ fourNamed (flatOf (now (m .entry)) .named) i ⌝ }
+{
+    let a = memory_layout::get_named(m, i);
+    let b = memory_layout::get_named(m, i + 1);
+    let c = memory_layout::get_named(m, i + 2);
+    let d = memory_layout::get_named(m, i + 3);
+    (a != 0) & (b != 0) & (c != 0) & (d != 0)
+}
+
+// Where the search for a page without a block, among n, may start: each page before has one. Whole fours are passed over.
+fn named_fours(m: &[u8], n: usize) -> usize
+    requires { ⌜ Room (now m) × (n ≡ length (flatOf (now m) .named)) ⌝ }
+    ensures { λ r. ⌜ NamedBefore (flatOf (now (m .entry)) .named) r ⌝ }
+{
+    let mut i: usize = 0;
+    while i + 4 <= n {
+        if !four_named(m, i) {
+            return i;
+        }
+        i += 4;
+    }
+    i
+}
+
+// The place of the first page of the list that has no block yet; how many pages there are, if each has one.
+fn first_unnamed(m: &[u8]) -> usize
+    requires { ⌜ Room (now m) ⌝ }
+    ensures { λ r. ⌜ r ≡ firstZero (flatOf (now (m .entry)) .named) ⌝ }
+{
+    let c = memory_layout::get_counts(m);
+    let n = c.named as usize;
+    let mut i = named_fours(m, n);
+    while i < n {
+        if memory_layout::get_named(m, i) == 0 {
+            return i;
+        }
+        i += 1;
+    }
+    n
+}
+
+// The first page of the list that has no block yet gets block b.
+fn fill_entry(m: &mut [u8], b: u16)
+    requires { ⌜ Room (now m) × (b < 4096) ⌝ }
+    ensures { λ _. ⌜ Becomes (now (m .entry)) (now (m .exit)) (withNamed (flatOf (now (m .entry))) (fill b (flatOf (now (m .entry)) .named))) ⌝ }
+{
+    let c = memory_layout::get_counts(m);
+    let n = c.named as usize;
+    let i = first_unnamed(m);
+    if n <= i {
+        return;
+    }
+    memory_layout::put_named(m, i, b);
+}
+
+// After the store of the first frozen page, p, as block b.
+fn keep_page(m: &mut [u8], p: usize, b: u32)
+    requires { ⌜ Runs (now m) × ((b < flatOf (now m) .head .blocks) × FirstFrozen (now m) p) ⌝ }
+    ensures { λ _. ⌜ HoldsNow (now (m .entry)) (now (m .exit)) (pageKept b (storeOf (flatOf (now (m .entry))))) ⌝ }
+{
+    take_block(m, b);
+    fill_entry(m, b as u16);
+    engine_pages::thaw(m, p, b as u16);
+}
+
+// After the store of a directory block as block b.
+fn keep_directory(m: &mut [u8], b: u32)
+    requires { ⌜ Runs (now m) × ((b < flatOf (now m) .head .blocks) × (length (flatOf (now m) .directories) < 4)) ⌝ }
+    ensures { λ _. ⌜ HoldsNow (now (m .entry)) (now (m .exit)) (directoryKept b (storeOf (flatOf (now (m .entry))))) ⌝ }
+{
+    take_block(m, b);
+    memory_layout::push_directory(m, b);
+}
+
+// Block i of those that the header to come and its directory name: first of the listed pages, then of the directory.
+fn block_named(m: &[u8], i: usize) -> usize
+    requires { ⌜ Room (now m) × (i < length (namedIn (flatOf (now m)))) ⌝ }
+    ensures { λ r. ⌜ (r ≡ getD (namedIn (flatOf (now (m .entry)))) i 0) × (r < 4096) ⌝ }
+{
+    let c = memory_layout::get_counts(m);
+    let n = c.named as usize;
+    if i < n {
+        return memory_layout::get_named(m, i) as usize;
+    }
+    memory_layout::get_directory(m, i - n) as usize
+}
+
+// All of them are in use.
+fn mark_named(m: &mut [u8])
+    requires { ⌜ Room (now m) ⌝ }
+    ensures { λ _. ⌜ Marks (now (m .entry)) (now (m .exit)) (namedIn (flatOf (now (m .entry)))) ⌝ }
+{
+    let c = memory_layout::get_counts(m);
+    let n = c.named as usize + c.directories as usize;
+    let mut i: usize = 0;
+    while i < n {
+        let b = block_named(m, i);
+        memory_layout::mark_used(m, b);
+        i += 1;
+    }
+}
+
+// After the header's store: the blocks that it no longer names are free.
+fn keep_header(m: &mut [u8])
+    requires { ⌜ Runs (now m) ⌝ }
+    ensures { λ _. ⌜ HoldsNow (now (m .entry)) (now (m .exit)) (headerKept (storeOf (flatOf (now (m .entry))))) ⌝ }
+{
+    memory_layout::clear_used(m);
+    mark_named(m);
+    let mut h = memory_layout::get_head(m);
+    h.level += 1;
+    h.running = false;
+    memory_layout::put_head(m, h);
+}
+
+// ---- step: each store is handed the allocator, and hands on the one after it
+
+// The first frozen page, p, goes into the next free block.
+fn store_page(image: &mut [u8], m: &mut [u8], p: usize, alloc: Allocator) -> Allocator
+    requires { ⌜ Ready (now image) (now m) × (FirstFrozen (now m) p × (alloc ≡ allocatorIn (now m))) ⌝ }
+    ensures { λ r. ⌜ Steps (now (image .entry)) (now (m .entry)) (now (image .exit)) (now (m .exit)) × (r ≡ allocatorIn (now (m .exit))) ⌝ }
+{
+    let h = memory_layout::get_head(m);
+    let t = memory_pages::table_of(m, p);
+    let s = memory_pages::start_of(m, p);
+    let e = memory_pages::start_of(m, p + 1);
+    let b = allocate(m, alloc.taken);
+    let a = BLOCK_SIZE * b;
+    let end = a + BLOCK_SIZE;
+    engine_writer::write_page(&mut image[a..end], m, t, s, e, h.level + 1);
+    let next = allocator::taken_by(alloc, b as u32);
+    keep_page(m, p, next.taken);
+    next
+}
+
+// The next part of the list of pages goes into the next free block.
+fn store_directory(image: &mut [u8], m: &mut [u8], alloc: Allocator) -> Allocator
+    requires { ⌜ Ready (now image) (now m) × (NoneFrozen (now m) × ((length (flatOf (now m) .directories) < directoriesFor (length (flatOf (now m) .named))) × (alloc ≡ allocatorIn (now m)))) ⌝ }
+    ensures { λ r. ⌜ Steps (now (image .entry)) (now (m .entry)) (now (image .exit)) (now (m .exit)) × (r ≡ allocatorIn (now (m .exit))) ⌝ }
+{
+    let h = memory_layout::get_head(m);
+    let c = memory_layout::get_counts(m);
+    let b = allocate(m, alloc.taken);
+    let a = BLOCK_SIZE * b;
+    let end = a + BLOCK_SIZE;
+    let k = c.directories as usize;
+    engine_writer::write_directory(&mut image[a..end], m, k, h.level + 1);
+    let next = allocator::taken_by(alloc, b as u32);
+    keep_directory(m, next.taken);
+    next
+}
+
+// The header goes into block 0, and the checkpoint ends.
+fn store_header(image: &mut [u8], m: &mut [u8], alloc: Allocator) -> Allocator
+    requires { ⌜ Ready (now image) (now m) × (NoneFrozen (now m) × ((directoriesFor (length (flatOf (now m) .named)) ≤ length (flatOf (now m) .directories)) × (alloc ≡ allocatorIn (now m)))) ⌝ }
+    ensures { λ r. ⌜ Steps (now (image .entry)) (now (m .entry)) (now (image .exit)) (now (m .exit)) × (r ≡ allocatorIn (now (m .exit))) ⌝ }
+{
+    engine_writer::write_header(&mut image[0..BLOCK_SIZE], m);
+    keep_header(m);
+    allocator::landed(alloc)
+}
+
+// No page is frozen any more: the directory, then the header.
+fn store_rest(image: &mut [u8], m: &mut [u8], alloc: Allocator) -> Allocator
+    requires { ⌜ Ready (now image) (now m) × (NoneFrozen (now m) × (alloc ≡ allocatorIn (now m))) ⌝ }
+    ensures { λ r. ⌜ Steps (now (image .entry)) (now (m .entry)) (now (image .exit)) (now (m .exit)) × (r ≡ allocatorIn (now (m .exit))) ⌝ }
+{
+    if 0 < directories_left(m) {
+        return store_directory(image, m, alloc);
+    }
+    store_header(image, m, alloc)
+}
+
+// The frozen pages in list order, then the directory, then the header: one store. No page before the first frozen one counts.
+fn store_next(image: &mut [u8], m: &mut [u8]) -> Allocator
+    requires { ⌜ Ready (now image) (now m) ⌝ }
+    ensures { λ r. ⌜ Steps (now (image .entry)) (now (m .entry)) (now (image .exit)) (now (m .exit)) × (r ≡ allocatorIn (now (m .exit))) ⌝ }
+{
+    let p = memory_pages::first_frozen(m);
+    let c = memory_layout::get_counts(m);
+    if p < c.pages as usize {
+        let alloc = allocator_of(m, memory_pages::count_frozen(m, p));
+        return store_page(image, m, p, alloc);
+    }
+    let alloc = allocator_of(m, 0);
+    store_rest(image, m, alloc)
+}
+
+// 4; 5 image, of len bytes, is not exactly the store's blocks long; 18 none running; else 0.
+fn step_refusal(len: usize, m: &[u8]) -> u64
+    ensures { λ r. ⌜ r ≡ stepRefusal len (storeIn (now (m .entry))) ⌝ }
+{
+    if !memory_layout::holds_store(m) {
+        return 4;
+    }
+    let h = memory_layout::get_head(m);
+    let n = h.blocks as usize;
+    if len != BLOCK_SIZE * n {
+        return 5;
+    }
+    if !is_running(m) {
+        return 18;
+    }
+    0
+}
+
+// Makes one store; answers how many are left.
+pub fn step(image: &mut [u8], m: &mut [u8]) -> Answer
+    ensures { λ r. ⌜ Stores (stepCall (length (now (image .entry)))) (now (image .entry)) (now (m .entry)) r (now (image .exit)) (now (m .exit)) ⌝ }
+{
+    let v = step_refusal(image.len(), m);
+    if v != 0 {
+        return Answer::Refused(v);
+    }
+    let next = store_next(image, m);
+    Answer::Count(next.left)
+}
+
+// ---- run
+
+fn smaller(a: u64, b: u64) -> u64
+    ensures { λ r. ⌜ r ≡ min a b ⌝ }
+{
+    if a < b {
+        return a;
+    }
+    b
+}
+
+// Makes stores by steps, at most as many as the limit; answers how many.
+pub fn run(image: &mut [u8], m: &mut [u8], limit: u64) -> Answer
+    ensures { λ r. ⌜ Stores (runCall limit (length (now (image .entry)))) (now (image .entry)) (now (m .entry)) r (now (image .exit)) (now (m .exit)) ⌝ }
+{
+    let v = step_refusal(image.len(), m);
+    if v != 0 {
+        return Answer::Refused(v);
+    }
+    let k = smaller(limit, left(m, memory_pages::count_frozen(m, 0)));
+    let mut n = k;
+    while 0 < n {
+        step(image, m);
+        n -= 1;
+    }
+    Answer::Count(k)
+}

@@ -1,0 +1,144 @@
+-- Rows behind those that are there, on the last page.
+use mathlib.Core.Path.{_≡_, refl, sym, ap, subst, _∙_}
+use mathlib.Core.Bool.{true}
+use mathlib.Core.List.{List, [], _∷_, _++_, map, append-assoc, append-nil}
+use Prim.Native.Nat.{ℕ, _+_, _-_, _≤_, _<_}
+use native.Mathlib.Nat.{add-zero}
+use native.Mathlib.Omega.{arith}
+use lib.ListN.{length, take, set, length-append, length-map}
+use lib.Seq.{take-all, take-at, length-take-le}
+use Rattle.basics.proofs.Facts.{lie}
+use Rattle.basics.proofs.Lists.{map-append}
+use Rattle.blocks.specs.Tuple.{Tuple}
+use Rattle.blocks.specs.Block.{Block, malformed, header, page, directory}
+use Rattle.blocks.specs.Decode.{decodeBlock}
+use Rattle.reader.proofs.Walk.{Walk, walk-start}
+use Rattle.model.specs.State.{Held}
+use Rattle.model.specs.Rules.{calm}
+use Rattle.memory_layout.specs.Flat.{Flat, flatOf, noEntry, Room, Becomes, withRows, withEntries}
+use Rattle.memory_layout.specs.declared.Entry.{Entry}
+use Rattle.memory_layout.proofs.Laws.{becomes-none, becomes-then}
+use Rattle.memory_rows.specs.Cells.{InOrder}
+use Rattle.memory_pages.specs.Pages.{withCount, entryOf, moreRows, moreLast, behind, RowsBecome}
+use Rattle.memory_pages.proofs.Appending.{last-got, last-set}
+use Rattle.call_recovery.specs.Loading.{tuplesIn, isPage, lastMore, Fills}
+
+-- the same lists, said otherwise
+pub becomes-as : (m m' : List ℕ) (f g : Flat) → f ≡ g → Becomes m m' f → Becomes m m' g
+becomes-as m m' f g e b = record { size = b .size; room = b .room; flat = b .flat ∙ e }
+
+-- ---- the tuples of a page
+
+pub page-walk : (xs : List ℕ) (b : Block) → decodeBlock xs ≡ b → isPage b ≡ true → Walk xs (tuplesIn b) 8 0
+unfolding isPage tuplesIn
+page-walk xs malformed e h = lie h
+page-walk xs (header k) e h = lie h
+page-walk xs (page t l ts) e h = walk-start xs t l ts e
+page-walk xs (directory l es) e h = lie h
+
+-- ---- the last page
+
+last-index : (xs : List Entry) (y : Entry) → length (xs ++ y ∷ []) - 1 ≡ length xs
+last-index xs y = omega (arith, length-append xs (y ∷ []))
+
+pub last-more : (xs : List Entry) (y : Entry) (k : ℕ) → lastMore k (xs ++ y ∷ []) ≡ xs ++ withCount y (y .count + k) ∷ []
+unfolding lastMore
+last-more xs y k =
+    let es : List Entry = xs ++ y ∷ [] in
+    ap (λ (n : ℕ). take n es ++ withCount (entryOf es n) (entryOf es n .count + k) ∷ []) (last-index xs y)
+    ∙ (λ i. take-at xs (y ∷ []) (length xs) refl i ++ withCount (last-got xs y noEntry i) (last-got xs y noEntry i .count + k) ∷ [])
+
+more-last : (xs : List Entry) (y : Entry) → moreLast (xs ++ y ∷ []) ≡ xs ++ withCount y (y .count + 1) ∷ []
+more-last xs y =
+    let es : List Entry = xs ++ y ∷ [] in
+    ap (λ (n : ℕ). moreRows n es) (last-index xs y)
+    ∙ ap (λ (z : Entry). set es (length xs) (withCount z (z .count + 1))) (last-got xs y noEntry)
+    ∙ last-set xs y (withCount y (y .count + 1))
+
+-- a list that is not empty ends with an element
+record Ends (es : List Entry) : Type 0 where
+  pub front : List Entry
+  pub last : Entry
+  pub is : es ≡ front ++ last ∷ []
+
+ends : (es : List Entry) → 1 ≤ length es → Ends es
+ends [] h = absurd (omega arith)
+ends (e ∷ []) h = record { front = []; last = e; is = refl }
+ends (e ∷ (f ∷ es)) h = let r = ends (f ∷ es) (omega arith) in record { front = e ∷ r .front; last = r .last; is = ap (λ (z : List Entry). e ∷ z) (r .is) }
+
+module _ (es : List Entry) (s : 1 ≤ length es) where
+  last-none : lastMore 0 es ≡ es
+  last-none =
+      let r = ends es s in
+      ap (lastMore 0) (r .is) ∙ last-more (r .front) (r .last) 0
+      ∙ (λ i. r .front ++ withCount (r .last) (add-zero (r .last .count) i) ∷ []) ∙ sym (r .is)
+
+  last-next : (k : ℕ) → moreLast (lastMore k es) ≡ lastMore (k + 1) es
+  last-next k =
+      let r = ends es s in
+      let n : ℕ = r .last .count in
+      let e : n + k + 1 ≡ n + (k + 1) = omega arith in
+      ap (λ (z : List Entry). moreLast (lastMore k z)) (r .is)
+      ∙ ap moreLast (last-more (r .front) (r .last) k)
+      ∙ more-last (r .front) (withCount (r .last) (n + k))
+      ∙ (λ i. r .front ++ withCount (r .last) (e i) ∷ [])
+      ∙ sym (last-more (r .front) (r .last) (k + 1))
+      ∙ ap (lastMore (k + 1)) (sym (r .is))
+
+last-some : (k : ℕ) (es : List Entry) → 1 ≤ length (lastMore k es)
+unfolding lastMore
+last-some k es =
+    let n : ℕ = length es - 1 in
+    omega (arith, length-append (take n es) (withCount (entryOf es n) (entryOf es n .count + k) ∷ []))
+
+-- ---- rows added
+
+pub fills-none : (m : List ℕ) → Room m → InOrder m → 1 ≤ length (flatOf m .entries) → Fills [] m m
+fills-none m r o s =
+    record {
+      becomes = becomes-as m m _ _ (sym (λ i. withEntries (withRows (flatOf m) (append-nil (flatOf m .rows) i)) (last-none (flatOf m .entries) s i))) (becomes-none m r);
+      order = o;
+    }
+
+module _ (m m1 : List ℕ) (hs : List Held) (a : Fills hs m m1) where
+  fills-count : length (flatOf m1 .rows) ≡ length (flatOf m .rows) + length hs
+  fills-count = ap (λ (f : Flat). length (f .rows)) (a .becomes .flat) ∙ length-append (flatOf m .rows) hs
+
+  fills-page : 1 ≤ length (flatOf m1 .entries)
+  fills-page = omega (arith, ap (λ (f : Flat). length (f .entries)) (a .becomes .flat), last-some (length hs) (flatOf m .entries))
+
+  fills-more : (m2 : List ℕ) (h : Held) → 1 ≤ length (flatOf m .entries) → RowsBecome m1 m2 (behind h) moreLast × InOrder m2 → Fills (hs ++ h ∷ []) m m2
+  fills-more m2 h s b =
+      let es : List Entry = flatOf m .entries in
+      let F : Flat → Flat = λ f. withEntries (withRows f (behind h (f .rows))) (moreLast (f .entries)) in
+      let c = becomes-then m m1 m2 (withEntries (withRows (flatOf m) (flatOf m .rows ++ hs)) (lastMore (length hs) es)) F (a .becomes) (b .0) in
+      let e : moreLast (lastMore (length hs) es) ≡ lastMore (length (hs ++ h ∷ [])) es =
+      last-next es s (length hs) ∙ ap (λ (k : ℕ). lastMore k es) (sym (length-append hs (h ∷ []))) in
+      record {
+        becomes = becomes-as m m2 _ _ (λ i. withEntries (withRows (flatOf m) (append-assoc (flatOf m .rows) hs (h ∷ []) i)) (e i)) c;
+        order = b .1;
+      }
+
+-- the same row, said otherwise
+pub row-as : {m m' : List ℕ} (h g : Held) → h ≡ g → RowsBecome m m' (behind h) moreLast × InOrder m' → RowsBecome m m' (behind g) moreLast × InOrder m'
+row-as {m} {m'} h g e b = (becomes-as m m' _ _ (λ i. withEntries (withRows (flatOf m) (behind (e i) (flatOf m .rows))) (moreLast (flatOf m .entries))) (b .0), b .1)
+
+-- the first i + 1 tuples
+calm-next : (i : ℕ) (ts : List Tuple) (x : Tuple) → take (i + 1) ts ≡ take i ts ++ x ∷ [] → map calm (take i ts) ++ calm x ∷ [] ≡ map calm (take (i + 1) ts)
+calm-next i ts x e = sym (ap (map calm) e ∙ map-append calm (take i ts) (x ∷ []))
+
+pub calm-all : (i : ℕ) (ts : List Tuple) → length ts ≤ i → map calm (take i ts) ≡ map calm ts
+calm-all i ts h = ap (map calm) (take-all i ts h)
+
+pub fills-turn : {m m1 m2 : List ℕ} (i : ℕ) (ts : List Tuple) (x : Tuple) → take (i + 1) ts ≡ take i ts ++ x ∷ [] → Fills (map calm (take i ts)) m m1
+    → 1 ≤ length (flatOf m .entries) → RowsBecome m1 m2 (behind (calm x)) moreLast × InOrder m2 → Fills (map calm (take (i + 1) ts)) m m2
+fills-turn {m} {m1} {m2} i ts x e a s b = subst (λ (hs : List Held). Fills hs m m2) (calm-next i ts x e) (fills-more m m1 (map calm (take i ts)) a m2 (calm x) s b)
+
+-- where the first i of n tuples are rows, there is room for one more
+pub row-room : (m m1 : List ℕ) (n i : ℕ) (ts : List Tuple) → length ts ≡ n → Fills (map calm (take i ts)) m m1
+    → length (flatOf m .rows) + n ≤ flatOf m .head .capacity → i < n
+    → Room m1 × (InOrder m1 × ((1 ≤ length (flatOf m1 .entries)) × (length (flatOf m1 .rows) < flatOf m1 .head .capacity)))
+row-room m m1 n i ts l a k h =
+    let c : length (map calm (take i ts)) ≡ i = length-map (take i ts) calm ∙ length-take-le i ts (omega arith) in
+    let q : flatOf m1 .head .capacity ≡ flatOf m .head .capacity = ap (λ (f : Flat). f .head .capacity) (a .becomes .flat) in
+    (a .becomes .room, (a .order, (fills-page m m1 (map calm (take i ts)) a, omega (arith, fills-count m m1 (map calm (take i ts)) a))))

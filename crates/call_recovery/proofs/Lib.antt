@@ -1,0 +1,11 @@
+pub mod Records
+pub mod Adding
+pub mod Marking
+pub mod Paging
+pub mod Naming
+pub mod Owning
+pub mod Tested
+pub mod Rising
+pub mod Answered
+pub mod Stored
+pub mod Laying

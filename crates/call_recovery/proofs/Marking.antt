@@ -1,0 +1,38 @@
+-- Blocks that are in use too: none, one, and one list after another.
+use mathlib.Core.Path.{_≡_, refl, sym, ap, _∙_}
+use mathlib.Core.Bool.{Bool, true, false, _||_}
+use mathlib.Core.List.{List, [], _∷_, _++_}
+use Prim.Native.Nat.{ℕ}
+use lib.Dec.{eqb}
+use Rattle.basics.specs.Basics.{any, isIn}
+use Rattle.rows.proofs.Owners.{same-test}
+use Rattle.rows.proofs.Turns.{any-cons}
+use Rattle.model.proofs.Lists.{in-append}
+use Rattle.memory_layout.specs.Flat.{usedAnd}
+use Rattle.call_recovery.specs.Loading.{usedBy}
+
+or-swap : (a b c : Bool) → (b || (a || c)) ≡ ((a || b) || c)
+or-swap true true c = refl
+or-swap true false c = refl
+or-swap false b c = refl
+
+pub used-none : (u : ℕ → Bool) → usedBy [] u ≡ u
+unfolding usedBy isIn any
+used-none u = refl
+
+or-end : (b : Bool) → (b || false) ≡ b
+or-end true = refl
+or-end false = refl
+
+pub used-one : (b : ℕ) (u : ℕ → Bool) → usedAnd b u ≡ usedBy (b ∷ []) u
+unfolding usedBy isIn any
+used-one b u = λ i c. ((same-test b c ∙ sym (or-end (eqb c b)) ∙ sym (any-cons (eqb c) b [])) i) || u c
+
+pub used-then : (xs ys : List ℕ) (u : ℕ → Bool) → usedBy ys (usedBy xs u) ≡ usedBy (xs ++ ys) u
+unfolding usedBy
+used-then xs ys u = λ i c. (or-swap (isIn c xs) (isIn c ys) (u c) ∙ ap (λ (b : Bool). b || u c) (sym (in-append c xs ys))) i
+
+-- where no block was in use
+pub used-first : (xs : List ℕ) → usedBy xs (λ c. false) ≡ (λ c. isIn c xs)
+unfolding usedBy
+used-first xs = λ i c. or-end (isIn c xs) i

@@ -1,0 +1,128 @@
+-- The blocks that the directory and the header name, one after the other.
+use mathlib.Core.Path.{_≡_, refl, sym, ap, subst, _∙_}
+use mathlib.Core.Bool.{Bool, true}
+use mathlib.Core.List.{List, [], _∷_, _++_, map, append-assoc, append-nil}
+use Prim.Native.Nat.{ℕ, _+_, _≤_, _<_}
+use native.Mathlib.Omega.{arith}
+use native.Mathlib.Numerals.{add-one}
+use lib.ListN.{length, take, drop, getD, length-append, length-map, take-append-drop}
+use lib.Seq.{take-suc, take-all}
+use lib.Dec.{ltb}
+use borrow.Author.Tests.{ltb-true, lt-ltb}
+use Rattle.basics.specs.Basics.{all}
+use Rattle.basics.proofs.Facts.{and-true}
+use Rattle.rows.proofs.Turns.{drop-turn}
+use Rattle.image.specs.View.{View}
+use Rattle.image.specs.Stages.{blockOk, StoredPage}
+use Rattle.image.proofs.Collect.{all-at}
+use Rattle.memory_layout.specs.Flat.{Flat, flatOf, Room, Becomes, withUsed, usedAnd}
+use Rattle.memory_layout.specs.declared.Entry.{Entry}
+use Rattle.memory_layout.proofs.Laws.{becomes-none, becomes-then}
+use Rattle.memory_rows.specs.Cells.{InOrder}
+use Rattle.call_recovery.specs.Loading.{pageAt, pagesAt, heldsOf, entryFor, usedBy, TablesRise, Loads, RoomFor}
+use Rattle.call_recovery.proofs.Adding.{becomes-as}
+use Rattle.call_recovery.proofs.Marking.{used-none, used-one, used-then}
+use Rattle.call_recovery.proofs.Paging.{helds-append, loads-none, loads-then, rise-split}
+
+-- ---- block numbers
+
+-- a block that may be named is below the image's count
+pub named-below : (n : ℕ) (s : List ℕ) (i : ℕ) → all (blockOk n) s ≡ true → i < length s → getD s i 0 < n
+unfolding blockOk
+named-below n s i e h = ltb-true (getD s i 0) n (and-true (ltb 0 (getD s i 0)) (ltb (getD s i 0) n) (all-at (blockOk n) s i e h) .1)
+
+-- it is so in a longer image too
+pub named-more : (n k : ℕ) (s : List ℕ) → n ≤ k → all (blockOk n) s ≡ true → all (blockOk k) s ≡ true
+unfolding all blockOk
+named-more n k [] h e = refl
+named-more n k (x ∷ s) h e =
+    let a = and-true (blockOk n x) (all (blockOk n) s) e in
+    let b = and-true (ltb 0 x) (ltb x n) (a .0) in
+    rw (b .0, lt-ltb x k (omega (arith, ltb-true x n (b .1))), named-more n k s h (a .1))
+
+-- ---- pages
+
+module _ (v : View) where
+  pages-append : (xs ys : List ℕ) → pagesAt v (xs ++ ys) ≡ pagesAt v xs ++ pagesAt v ys
+  unfolding pagesAt
+  pages-append [] ys = refl
+  pages-append (x ∷ xs) ys = ap (λ (z : List StoredPage). pageAt x (v x) ++ z) (pages-append xs ys) ∙ sym (append-assoc (pageAt x (v x)) (pagesAt v xs) (pagesAt v ys))
+
+  module _ (es : List ℕ) (i e : ℕ) (h : i < length es) (q : e ≡ getD es i 0) where
+    pages-next : pagesAt v (take i es) ++ pageAt e (v e) ≡ pagesAt v (take (i + 1) es)
+    unfolding pagesAt
+    pages-next =
+        sym (ap (λ (k : ℕ). pagesAt v (take k es)) (add-one i)
+        ∙ ap (pagesAt v) (take-suc es i 0 h ∙ ap (λ (k : ℕ). take i es ++ k ∷ []) (sym q))
+        ∙ pages-append (take i es) (e ∷ [])
+        ∙ ap (λ (z : List StoredPage). pagesAt v (take i es) ++ z) (append-nil (pageAt e (v e))))
+
+    pages-split : pagesAt v es ≡ pagesAt v (take i es) ++ (pageAt e (v e) ++ pagesAt v (drop (i + 1) es))
+    unfolding pagesAt
+    pages-split =
+        ap (pagesAt v) (sym (take-append-drop i es))
+        ∙ pages-append (take i es) (drop i es)
+        ∙ ap (λ (z : List ℕ). pagesAt v (take i es) ++ pagesAt v z) (drop-turn es i h ∙ ap (λ (k : ℕ). k ∷ drop (i + 1) es) (sym q))
+
+    -- one page more
+    pub loading-turn : (m m1 m2 : List ℕ) → Loads (pagesAt v (take i es)) m m1 → Loads (pageAt e (v e)) m1 m2 → Loads (pagesAt v (take (i + 1) es)) m m2
+    loading-turn m m1 m2 a b =
+        subst (λ (ps : List StoredPage). Loads ps m m2) pages-next (loads-then m m1 m2 (pagesAt v (take i es)) (pageAt e (v e)) a b)
+
+    -- and room for it
+    pub loading-room : (m m1 : List ℕ) → Loads (pagesAt v (take i es)) m m1 → RoomFor (pagesAt v es) (flatOf m) → RoomFor (pageAt e (v e)) (flatOf m1)
+    loading-room m m1 a r =
+        let ps : List StoredPage = pagesAt v (take i es) in
+        let p : List StoredPage = pageAt e (v e) in
+        let qs : List StoredPage = pagesAt v (drop (i + 1) es) in
+        let s : pagesAt v es ≡ ps ++ (p ++ qs) = pages-split in
+        let n1 : length (pagesAt v es) ≡ length ps + length (p ++ qs) = ap length s ∙ length-append ps (p ++ qs) in
+        let n2 : length (p ++ qs) ≡ length p + length qs = length-append p qs in
+        let h1 : length (heldsOf (pagesAt v es)) ≡ length (heldsOf ps) + length (heldsOf (p ++ qs)) =
+        ap (λ (z : List StoredPage). length (heldsOf z)) s ∙ ap length (helds-append ps (p ++ qs)) ∙ length-append (heldsOf ps) (heldsOf (p ++ qs)) in
+        let h2 : length (heldsOf (p ++ qs)) ≡ length (heldsOf p) + length (heldsOf qs) = ap length (helds-append p qs) ∙ length-append (heldsOf p) (heldsOf qs) in
+        let c : flatOf m1 .head .capacity ≡ flatOf m .head .capacity = ap (λ (f : Flat). f .head .capacity) (a .becomes .flat) in
+        let k1 : length (flatOf m1 .rows) ≡ length (flatOf m .rows) + length (heldsOf ps) =
+        ap (λ (f : Flat). length (f .rows)) (a .becomes .flat) ∙ length-append (flatOf m .rows) (heldsOf ps) in
+        let k2 : length (flatOf m1 .entries) ≡ length (flatOf m .entries) + length ps =
+        ap (λ (f : Flat). length (f .entries)) (a .becomes .flat) ∙ length-append (flatOf m .entries) _
+        ∙ ap (λ (k : ℕ). length (flatOf m .entries) + k) (length-map ps _) in
+        let t = rise-split (flatOf m .entries) ps (p ++ qs) (subst (TablesRise (flatOf m .entries)) s (r .tables)) in
+        let u = rise-split (flatOf m .entries ++ map entryFor ps) p qs (t .1) in
+        let g : flatOf m1 .entries ≡ flatOf m .entries ++ map entryFor ps = ap (λ (f : Flat). f .entries) (a .becomes .flat) in
+        record {
+          rows = omega (arith, r .rows);
+          entries = omega (arith, r .entries);
+          tables = subst (λ (z : List Entry). TablesRise z p) (sym g) (u .0);
+        }
+
+  pub loading-start : (m es : List ℕ) → Room m → InOrder m → Loads (pagesAt v (take 0 es)) m m
+  unfolding pagesAt
+  loading-start m es r o = loads-none m [] r o refl
+
+  pub loading-end : (m m1 es : List ℕ) (i : ℕ) → length es ≤ i → Loads (pagesAt v (take i es)) m m1 → Loads (pagesAt v es) m m1
+  loading-end m m1 es i h a = subst (λ (z : List ℕ). Loads (pagesAt v z) m m1) (take-all i es h) a
+
+-- ---- blocks in use
+
+-- the blocks bs are in use
+abbrev pub Marked : List ℕ → List ℕ → List ℕ → Type 0
+Marked bs m m1 = Becomes m m1 (withUsed (flatOf m) (usedBy bs (flatOf m .used)))
+
+pub marking-start : (m bs : List ℕ) → Room m → Marked (take 0 bs) m m
+marking-start m bs r = becomes-as m m _ _ (sym (λ i. withUsed (flatOf m) (used-none (flatOf m .used) i))) (becomes-none m r)
+
+pub marking-turn : (m m1 m2 bs : List ℕ) (i b : ℕ) → i < length bs → b ≡ getD bs i 0 → Marked (take i bs) m m1
+    → Becomes m1 m2 (withUsed (flatOf m1) (usedAnd b (flatOf m1 .used))) → Marked (take (i + 1) bs) m m2
+marking-turn m m1 m2 bs i b h q a c =
+    let U : Flat → Flat = λ f. withUsed f (usedAnd b (f .used)) in
+    let u : ℕ → Bool = flatOf m .used in
+    let d = becomes-then m m1 m2 (withUsed (flatOf m) (usedBy (take i bs) u)) U a c in
+    let t : take i bs ++ b ∷ [] ≡ take (i + 1) bs =
+    ap (λ (k : ℕ). take i bs ++ k ∷ []) q ∙ sym (take-suc bs i 0 h) ∙ ap (λ (k : ℕ). take k bs) (sym (add-one i)) in
+    let e : usedAnd b (usedBy (take i bs) u) ≡ usedBy (take (i + 1) bs) u =
+    used-one b (usedBy (take i bs) u) ∙ used-then (take i bs) (b ∷ []) u ∙ ap (λ (z : List ℕ). usedBy z u) t in
+    becomes-as m m2 _ _ (λ k. withUsed (flatOf m) (e k)) d
+
+pub marking-end : (m m1 bs : List ℕ) (i : ℕ) → length bs ≤ i → Marked (take i bs) m m1 → Marked bs m m1
+marking-end m m1 bs i h a = subst (λ (z : List ℕ). Marked z m m1) (take-all i bs h) a

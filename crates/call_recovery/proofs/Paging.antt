@@ -1,0 +1,160 @@
+-- Pages, one behind the other: what a block that was read says, and what it comes to in the memory.
+use mathlib.Core.Path.{_≡_, refl, sym, ap, subst, _∙_}
+use mathlib.Core.Logic.{⊎-elim}
+use mathlib.Core.Bool.{Bool, true}
+use mathlib.Core.List.{List, [], _∷_, _++_, map, append-assoc, append-nil}
+use Prim.Native.Nat.{ℕ, zero, suc, _+_, _≤_, _<_}
+use native.Mathlib.Nat.{zero-add}
+use native.Mathlib.Omega.{arith}
+use lib.ListN.{length, getD, length-map, length-append}
+use lib.Dec.{leb}
+use borrow.Author.Tests.{leb-true}
+use Rattle.basics.specs.Basics.{all}
+use Rattle.basics.proofs.Lists.{map-append}
+use Rattle.basics.proofs.Facts.{clash, and-true}
+use Rattle.blocks.specs.Tuple.{Tuple}
+use Rattle.blocks.specs.Block.{Block, malformed, header, page, directory}
+use Rattle.blocks.specs.Decode.{decodeBlock}
+use Rattle.reader.specs.Answers.{reading}
+use Rattle.reader.specs.declared.Reading.{Reading}
+use Rattle.reader.specs.declared.Reading.the-variants.{IsPage}
+use Rattle.reader.proofs.Answering.{answer-page, OneOfThese}
+use Rattle.blocks.proofs.Laws.{decode-in-range}
+use Rattle.image.specs.View.{view, blockAt}
+use Rattle.image.specs.Stages.{StoredPage}
+use Rattle.model.specs.State.{Held}
+use Rattle.model.specs.Rules.{calm}
+use Rattle.memory_layout.specs.Flat.{Flat, flatOf, noEntry, Room, withRows, withEntries}
+use Rattle.memory_layout.specs.declared.Entry.{Entry}
+use Rattle.memory_layout.proofs.Laws.{becomes-none, becomes-then}
+use Rattle.memory_rows.specs.Cells.{InOrder}
+use Rattle.memory_pages.specs.Pages.{MayAppend, clean, behind, EntriesBecome}
+use Rattle.call_recovery.specs.Loading.{storedPage, pageAt, tuplesIn, isPage, heldsOf, entryFor, lastMore, withPages, TablesRise, Fills, Loads, RoomFor}
+use Rattle.call_recovery.proofs.Adding.{becomes-as, last-more}
+
+-- ---- a block that was read
+
+-- block e, which is b, is a page of table t with n tuples
+pub record Here (e t n : ℕ) (b : Block) : Type 0 where
+  pub is : isPage b ≡ true
+  pub count : length (tuplesIn b) ≡ n
+  pub stored : pageAt e b ≡ storedPage e t (tuplesIn b) ∷ []
+
+here-page : (e t n k : ℕ) (ts : List Tuple) → length ts ≡ n → Here e t n (page t k ts)
+unfolding isPage tuplesIn pageAt
+here-page e t n k ts l = record { is = refl; count = l; stored = refl }
+
+pub here : (e t n l : ℕ) (b : Block) → IsPage t n l ≡ reading b → Here e t n b
+here e t n l b q = let p = answer-page b t n l (sym q) in rw (p .is) (here-page e t n l (p .tuples) (p .count))
+
+pub table-small : (xs : List ℕ) (t n l : ℕ) → IsPage t n l ≡ reading (decodeBlock xs) → t < 8
+table-small xs t n l q =
+    let p = answer-page (decodeBlock xs) t n l (sym q) in
+    decode-in-range xs (page t l (p .tuples)) (p .is) (λ m. clash cc) .table
+
+-- a block of another kind
+pub none-here : (e : ℕ) (x : Reading) (b : Block) → x ≡ reading b → OneOfThese (0 ∷ 2 ∷ 3 ∷ []) x → pageAt e b ≡ []
+unfolding pageAt reading
+none-here e x malformed q k = refl
+none-here e x (header h) q k = refl
+none-here e x (page t j ts) q k =
+    let n = subst (OneOfThese (0 ∷ 2 ∷ 3 ∷ [])) q k in
+    ⊎-elim (λ z. absurd (omega arith)) (⊎-elim (λ z. absurd (omega arith)) (λ z. absurd (omega arith))) n
+none-here e x (directory j es) q k = refl
+
+pub seen-here : (img bs : List ℕ) (e : ℕ) → bs ≡ blockAt img e → decodeBlock bs ≡ view img e
+unfolding view
+seen-here img bs e q = ap decodeBlock q
+
+-- ---- room
+
+all-entries : (f : Entry → Bool) (es : List Entry) (j : ℕ) → all f es ≡ true → j < length es → f (getD es j noEntry) ≡ true
+unfolding all
+all-entries f [] j e h = absurd (omega arith)
+all-entries f (x ∷ es) zero e h = and-true (f x) (all f es) e .0
+all-entries f (x ∷ es) (suc j) e h = all-entries f es j (and-true (f x) (all f es) e .1) (omega arith)
+
+-- one page may stand behind the others, and its n rows behind the others
+pub record OneFits (e t n : ℕ) (f : Flat) : Type 0 where
+  pub may : MayAppend f t e
+  pub rows : length (f .rows) + n ≤ f .head .capacity
+
+pub one-fits : (e t n : ℕ) (b : Block) (f : Flat) → e < 4096 → t < 8 → 1 ≤ f .head .capacity → Here e t n b → RoomFor (pageAt e b) f → OneFits e t n f
+unfolding heldsOf TablesRise
+one-fits e t n b f he ht hc h r =
+    let ts : List Tuple = tuplesIn b in
+    let q : RoomFor (storedPage e t ts ∷ []) f = subst (λ (ps : List StoredPage). RoomFor ps f) (h .stored) r in
+    let k : length (map calm ts ++ []) ≡ n = ap length (append-nil (map calm ts)) ∙ length-map ts calm ∙ h .count in
+    record {
+      may = record {
+        table = ht;
+        below = λ j l. leb-true (getD (f .entries) j noEntry .table) t (all-entries (λ x. leb (x .table) t) (f .entries) j (q .tables .0) l);
+        space = omega (arith, q .entries);
+        block = he;
+      };
+      rows = omega (arith, q .rows);
+    }
+
+-- behind the new page, which has no row
+pub page-room : (m m1 : List ℕ) (e t n : ℕ) → EntriesBecome m m1 (behind (clean t e 0)) × InOrder m1 → OneFits e t n (flatOf m)
+    → Room m1 × (InOrder m1 × ((1 ≤ length (flatOf m1 .entries)) × (length (flatOf m1 .rows) + n ≤ flatOf m1 .head .capacity)))
+page-room m m1 e t n a o =
+    let l : length (flatOf m1 .entries) ≡ length (flatOf m .entries) + 1 =
+    ap (λ (f : Flat). length (f .entries)) (a .0 .flat) ∙ length-append (flatOf m .entries) (clean t e 0 ∷ []) in
+    let r : length (flatOf m1 .rows) ≡ length (flatOf m .rows) = ap (λ (f : Flat). length (f .rows)) (a .0 .flat) in
+    let c : flatOf m1 .head .capacity ≡ flatOf m .head .capacity = ap (λ (f : Flat). f .head .capacity) (a .0 .flat) in
+    (a .0 .room, (a .1, (omega arith, omega (arith, o .rows))))
+
+-- ---- pages loaded
+
+pub loads-none : (m : List ℕ) (ps : List StoredPage) → Room m → InOrder m → ps ≡ [] → Loads ps m m
+unfolding heldsOf
+loads-none m ps r o e = rw e (record {
+  becomes = becomes-as m m _ _ (sym (λ i. withEntries (withRows (flatOf m) (append-nil (flatOf m .rows) i)) (append-nil (flatOf m .entries) i))) (becomes-none m r);
+  order = o;
+})
+
+-- the page's entry, then its rows
+pub loads-one : (m m1 m2 : List ℕ) (p : StoredPage) → EntriesBecome m m1 (behind (clean (p .table) (p .block) 0)) → Fills (map calm (p .tuples)) m1 m2 → Loads (p ∷ []) m m2
+unfolding heldsOf entryFor
+loads-one m m1 m2 p a b =
+    let hs : List Held = map calm (p .tuples) in
+    let es : List Entry = flatOf m .entries in
+    let d : Entry = clean (p .table) (p .block) 0 in
+    let F : Flat → Flat = λ f. withEntries (withRows f (f .rows ++ hs)) (lastMore (length hs) (f .entries)) in
+    let c = becomes-then m m1 m2 (withEntries (flatOf m) (es ++ d ∷ [])) F a (b .becomes) in
+    let n : 0 + length hs ≡ length (p .tuples) = zero-add (length hs) ∙ length-map (p .tuples) calm in
+    let e : lastMore (length hs) (es ++ d ∷ []) ≡ es ++ entryFor p ∷ [] =
+    last-more es d (length hs) ∙ (λ i. es ++ clean (p .table) (p .block) (n i) ∷ []) in
+    record {
+      becomes = becomes-as m m2 _ _ (λ i. withEntries (withRows (flatOf m) (flatOf m .rows ++ sym (append-nil hs) i)) (e i)) c;
+      order = b .order;
+    }
+
+pub helds-append : (ps qs : List StoredPage) → heldsOf (ps ++ qs) ≡ heldsOf ps ++ heldsOf qs
+unfolding heldsOf
+helds-append [] qs = refl
+helds-append (p ∷ ps) qs = ap (λ (z : List Held). map calm (p .tuples) ++ z) (helds-append ps qs) ∙ sym (append-assoc (map calm (p .tuples)) (heldsOf ps) (heldsOf qs))
+
+-- the same pages, said otherwise
+pub loads-as : {m m1 : List ℕ} {ps qs : List StoredPage} → ps ≡ qs → Loads ps m m1 → Loads qs m m1
+loads-as {m} {m1} e a = subst (λ (z : List StoredPage). Loads z m m1) e a
+
+-- pages, then further pages
+pub loads-then : (m m1 m2 : List ℕ) (ps qs : List StoredPage) → Loads ps m m1 → Loads qs m1 m2 → Loads (ps ++ qs) m m2
+loads-then m m1 m2 ps qs a b =
+    let F : Flat → Flat = λ f. withPages f qs in
+    let c = becomes-then m m1 m2 (withPages (flatOf m) ps) F (a .becomes) (b .becomes) in
+    let er : (flatOf m .rows ++ heldsOf ps) ++ heldsOf qs ≡ flatOf m .rows ++ heldsOf (ps ++ qs) =
+    append-assoc (flatOf m .rows) (heldsOf ps) (heldsOf qs) ∙ ap (λ (z : List Held). flatOf m .rows ++ z) (sym (helds-append ps qs)) in
+    let ee : (flatOf m .entries ++ map entryFor ps) ++ map entryFor qs ≡ flatOf m .entries ++ map entryFor (ps ++ qs) =
+    append-assoc (flatOf m .entries) (map entryFor ps) (map entryFor qs) ∙ ap (λ (z : List Entry). flatOf m .entries ++ z) (sym (map-append entryFor ps qs)) in
+    record { becomes = becomes-as m m2 _ _ (λ i. withEntries (withRows (flatOf m) (er i)) (ee i)) c; order = b .order }
+
+-- the tables of some pages, and of those behind them
+pub rise-split : (es : List Entry) (ps qs : List StoredPage) → TablesRise es (ps ++ qs) → TablesRise es ps × TablesRise (es ++ map entryFor ps) qs
+unfolding TablesRise
+rise-split es [] qs h = (tt, subst (λ (z : List Entry). TablesRise z qs) (sym (append-nil es)) h)
+rise-split es (p ∷ ps) qs h =
+    let r = rise-split (es ++ entryFor p ∷ []) ps qs (h .1) in
+    ((h .0, r .0), subst (λ (z : List Entry). TablesRise z qs) (append-assoc es (entryFor p ∷ []) (map entryFor ps)) (r .1))

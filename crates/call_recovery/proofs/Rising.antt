@@ -1,0 +1,109 @@
+-- The tables of the pages do not fall: rows rise by table, and every page has a row.
+use mathlib.Core.Path.{_≡_, refl}
+use mathlib.Core.Bool.{Bool, true, not, _&&_}
+use mathlib.Core.List.{List, [], _∷_, _++_}
+use Prim.Native.Nat.{ℕ, _≤_}
+use native.Mathlib.Omega.{arith}
+use lib.ListN.{length}
+use lib.Dec.{leb, ltb, eqb}
+use borrow.Author.Tests.{eqb-true, ltb-true, leb-true, le-leb}
+use Rattle.basics.specs.Basics.{if_then_else_, all, paired}
+use Rattle.basics.proofs.Facts.{by, AllOf, and-true}
+use Rattle.blocks.specs.Tuple.{Tuple}
+use Rattle.rows.specs.Rows.{Row, rowsOf, isAt, isLower, follows}
+use Rattle.image.specs.Stages.{StoredPage, rowsOfPages}
+use Rattle.memory_layout.specs.declared.Entry.{Entry}
+use Rattle.call_recovery.specs.Loading.{entryFor, TablesRise}
+use Rattle.call_recovery.proofs.Tested.{PageOk}
+
+-- ---- rows
+
+at-table : (t k : ℕ) (r : Row) → isAt t k r ≡ true → r .0 ≡ t
+unfolding isAt
+at-table t k r e = eqb-true (r .0) t (and-true (eqb (r .0) t) (eqb (r .1 .key) k) e .0)
+
+lower-table : (r s : Row) → isLower r s ≡ true → r .0 ≤ s .0
+unfolding isLower
+lower-table r s h =
+    by (ltb (r .0) (s .0))
+    (λ e. omega (arith, ltb-true (r .0) (s .0) e))
+    (λ e.
+    let k : (eqb (r .0) (s .0) && ltb (r .1 .key) (s .1 .key)) ≡ true = rw e at h in
+    omega (arith, eqb-true (r .0) (s .0) (and-true (eqb (r .0) (s .0)) (ltb (r .1 .key) (s .1 .key)) k .0)))
+
+follows-table : (r s : Row) → follows r s ≡ true → r .0 ≤ s .0
+unfolding follows if_then_else_
+follows-table r s h =
+    by (isAt (s .0) (s .1 .key) r)
+    (λ e. omega (arith, at-table (s .0) (s .1 .key) r e))
+    (λ e.
+    let k : (isLower r s && not (s .1 .mark)) ≡ true = rw e at h in
+    lower-table r s (and-true (isLower r s) (not (s .1 .mark)) k .0))
+
+-- behind the rows of a page
+rest-follows : (t : ℕ) (x : Tuple) (xs : List Tuple) (rs : List Row) → paired follows ((t, x) ∷ (rowsOf t xs ++ rs)) ≡ true
+    → (y : Tuple) × (paired follows ((t, y) ∷ rs) ≡ true)
+unfolding rowsOf paired
+rest-follows t x [] rs h = (x, h)
+rest-follows t x (z ∷ xs) rs h = rest-follows t z xs rs (and-true (follows (t, x) (t, z)) (paired follows ((t, z) ∷ (rowsOf t xs ++ rs))) h .1)
+
+-- ---- pages
+
+-- the tables of the pages rise from u on
+abbrev RisesFrom : ℕ → List StoredPage → Type 0
+RisesFrom u [] = Unit {0}
+RisesFrom u (p ∷ ps) = (u ≤ p .table) × RisesFrom (p .table) ps
+
+page-rises : (r : Row) (t : ℕ) (ts : List Tuple) (rs : List Row) → 1 ≤ length ts → paired follows (r ∷ (rowsOf t ts ++ rs)) ≡ true
+    → (r .0 ≤ t) × ((y : Tuple) × (paired follows ((t, y) ∷ rs) ≡ true))
+unfolding rowsOf paired
+page-rises r t [] rs l h = absurd (omega arith)
+page-rises r t (x ∷ xs) rs l h =
+    let a = and-true (follows r (t, x)) (paired follows ((t, x) ∷ (rowsOf t xs ++ rs))) h in
+    (follows-table r (t, x) (a .0), rest-follows t x xs rs (a .1))
+
+page-first : (t : ℕ) (ts : List Tuple) (rs : List Row) → 1 ≤ length ts → paired follows (rowsOf t ts ++ rs) ≡ true → (y : Tuple) × (paired follows ((t, y) ∷ rs) ≡ true)
+unfolding rowsOf
+page-first t [] rs l h = absurd (omega arith)
+page-first t (x ∷ xs) rs l h = rest-follows t x xs rs h
+
+rises : (r : Row) (ps : List StoredPage) → AllOf PageOk ps → paired follows (r ∷ rowsOfPages ps) ≡ true → RisesFrom (r .0) ps
+unfolding rowsOfPages
+rises r [] a h = tt
+rises r (p ∷ ps) a h =
+    let q = page-rises r (p .table) (p .tuples) (rowsOfPages ps) (a .0 .filled) h in (q .0, rises (p .table, q .1 .0) ps (a .1) (q .1 .1))
+
+all-rise : (ps : List StoredPage) → AllOf PageOk ps → paired follows (rowsOfPages ps) ≡ true → RisesFrom 0 ps
+unfolding rowsOfPages
+all-rise [] a h = tt
+all-rise (p ∷ ps) a h =
+    let q = page-first (p .table) (p .tuples) (rowsOfPages ps) (a .0 .filled) h in (omega arith, rises (p .table, q .0) ps (a .1) (q .1))
+
+-- ---- entries
+
+all-up : (u t : ℕ) → u ≤ t → (es : List Entry) → all (λ (e : Entry). leb (e .table) u) es ≡ true → all (λ (e : Entry). leb (e .table) t) es ≡ true
+unfolding all
+all-up u t h [] a = refl
+all-up u t h (e ∷ es) a =
+    let b = and-true (leb (e .table) u) (all (λ (x : Entry). leb (x .table) u) es) a in
+    rw (le-leb (e .table) t (omega (arith, leb-true (e .table) u (b .0))), all-up u t h es (b .1))
+
+all-behind : (f : Entry → Bool) (es : List Entry) (x : Entry) → all f es ≡ true → f x ≡ true → all f (es ++ x ∷ []) ≡ true
+unfolding all
+all-behind f [] x a h = rw h
+all-behind f (e ∷ es) x a h = let b = and-true (f e) (all f es) a in rw (b .0, all-behind f es x (b .1) h)
+
+entry-table : (p : StoredPage) → leb (entryFor p .table) (p .table) ≡ true
+unfolding entryFor
+entry-table p = le-leb (p .table) (p .table) (omega arith)
+
+tables-from : (u : ℕ) (es : List Entry) (ps : List StoredPage) → all (λ (e : Entry). leb (e .table) u) es ≡ true → RisesFrom u ps → TablesRise es ps
+unfolding TablesRise
+tables-from u es [] a r = tt
+tables-from u es (p ∷ ps) a r =
+    let b = all-up u (p .table) (r .0) es a in
+    (b, tables-from (p .table) (es ++ entryFor p ∷ []) ps (all-behind (λ (e : Entry). leb (e .table) (p .table)) es (entryFor p) b (entry-table p)) (r .1))
+
+pub tables-rise : (ps : List StoredPage) → AllOf PageOk ps → paired follows (rowsOfPages ps) ≡ true → TablesRise [] ps
+unfolding all
+tables-rise ps a h = tables-from 0 [] ps refl (all-rise ps a h)

@@ -1,0 +1,114 @@
+-- `call_recovery::load_page` meets its contract.
+use Rattle.call_recovery.proofs.Paging.{Here, here, table-small, none-here, seen-here, OneFits, one-fits, page-room, loads-none, loads-one, loads-as}
+use Rattle.call_recovery.specs.Loading.{storedPage, pageAt, tuplesIn, RoomFor}
+use Rattle.memory_layout.specs.Flat.{flatOf}
+use Rattle.image.specs.Stages.{StoredPage}
+use Rattle.blocks.specs.Decode.{decodeBlock}
+use Rattle.blocks.specs.Block.{Block}
+use native.Mathlib.Omega.{arith}
+use mathlib.Core.Path.{sym, ap, subst, _∙_}
+use borrow.Author.Needs.{needs}
+use Rattle.call_recovery.proofs.load_page.Statement.{statement}
+use Rattle.call_recovery.proofs.load_page.Tie as tie
+
+-- the page that was read
+found : (c : tie.After-known-told)
+    → let g = c .before .table .given .0 in
+    Here (c .before .before .before .before .before .before .before .before .args .e) (g .0) (g .1 .0) (decodeBlock (c .before .before .before .before .before .block-at .result))
+found c =
+    let p1 = c .before in
+    let p3 = p1 .before .before in
+    let p5 = p3 .before .before in
+    let p8 = p5 .before .before .before in
+    let g = p1 .table .given in
+    here (p8 .args .e) (g .0 .0) (g .0 .1 .0) (g .0 .1 .1 .0) (decodeBlock (p5 .block-at .result)) (sym (g .1) ∙ p3 .read-block .ensures)
+
+-- there is room for it
+fits : (c : tie.After-known-told)
+    → let p8 = c .before .before .before .before .before .before .before .before in
+    let g = c .before .table .given .0 in
+    OneFits (p8 .args .e) (g .0) (g .1 .0) (flatOf (p8 .args .m .now))
+fits c =
+    let p1 = c .before in
+    let p3 = p1 .before .before in
+    let p5 = p3 .before .before in
+    let p8 = p5 .before .before .before in
+    let a = p8 .args in
+    let g = p1 .table .given in
+    let q = seen-here (a .image .now) (p5 .block-at .result) (a .e) (p5 .block-at .ensures) in
+    one-fits (a .e) _ _ _ (flatOf (a .m .now)) (p8 .pre .0 .1) (table-small _ (g .0 .0) (g .0 .1 .0) (g .0 .1 .1 .0) (sym (g .1) ∙ p3 .read-block .ensures))
+    (p8 .pre .1 .0 .range .least) (found c) (subst (λ (b : Block). RoomFor (pageAt (a .e) b) (flatOf (a .m .now))) (sym q) (p8 .pre .1 .1 .1))
+
+block-at-requires : tie.Need-block-at-requires
+block-at-requires c κs = search needs
+
+read-block-requires : tie.Need-read-block-requires
+read-block-requires c κs = search needs
+
+enum-known-table : tie.Need-enum-known-table
+enum-known-table c = search needs
+
+cast-append-page : tie.Need-cast-append-page
+cast-append-page c = omega (arith, fits (c .before) .may .table)
+
+cast-append-page-2 : tie.Need-cast-append-page-2
+cast-append-page-2 c = search needs
+
+append-page-requires : tie.Need-append-page-requires
+append-page-requires c κs =
+    let p1 = c .before in
+    let p9 = p1 .before .before .before .before .before .before .before .before in
+    (p9 .pre .1 .0, (p9 .pre .1 .1 .0, fits p1 .may))
+
+slice-aggregate-load-rows : tie.Need-slice-aggregate-load-rows
+slice-aggregate-load-rows c = search needs
+
+load-rows-requires : tie.Need-load-rows-requires
+load-rows-requires c κs =
+    let p4 = c .before .before .before .before in
+    let p6 = p4 .before .before in
+    let h = found p6 in
+    ((omega arith, (h .is, h .count)), page-room _ _ _ _ _ (p4 .append-page .ensures) (fits p6))
+
+returns : tie.Need-returns
+returns c =
+    let p1 = c .before in
+    let p3 = p1 .before .before in
+    let p6 = p3 .before .before .before in
+    let a = p6 .args in
+    let e = ap (pageAt (a .e)) (sym (seen-here (a .image .now) _ (a .e) (p3 .block-at .ensures))) in
+    loads-none _ _ (p6 .pre .1 .0) (p6 .pre .1 .1 .0) (e ∙ none-here (a .e) _ _ (p1 .read-block .ensures) (c .match .keys2))
+
+same-length : tie.Need-same-length
+same-length c = search needs
+
+returns-2 : tie.Need-returns-2
+returns-2 c =
+    let p2 = c .before .before in
+    let p7 = p2 .before .before .before .before .before in
+    let p9 = p7 .before .before in
+    let p10 = p9 .before in
+    let p14 = p10 .before .before .before .before in
+    let p17 = p14 .before .before .before in
+    let a = p17 .args in
+    let h = found p9 in
+    let b : Block = decodeBlock (p14 .block-at .result) in
+    let p : StoredPage = storedPage (a .e) (p10 .table .given .0 .0) (tuplesIn b) in
+    let l = loads-one _ _ _ p (p7 .append-page .ensures .0) (p2 .load-rows .ensures) in
+    loads-as (sym (h .stored) ∙ ap (pageAt (a .e)) (seen-here (a .image .now) _ (a .e) (p14 .block-at .ensures))) l
+
+pub load-page-spec : {M : Type 1} → statement M
+load-page-spec =
+    tie.close
+    (tie.spec
+    block-at-requires
+    read-block-requires
+    enum-known-table
+    cast-append-page
+    cast-append-page-2
+    append-page-requires
+    slice-aggregate-load-rows
+    load-rows-requires
+    returns
+    same-length
+    returns-2)

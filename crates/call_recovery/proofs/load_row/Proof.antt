@@ -1,0 +1,62 @@
+-- `call_recovery::load_row` meets its contract.
+use Rattle.blocks.specs.Bytes.{tupleOf}
+use Rattle.model.specs.Rules.{calm}
+use native.Mathlib.Omega.{arith}
+use lib.ListN.{take, drop, length-take}
+use Prim.Native.Nat.{ℕ, _+_, _-_}
+use mathlib.Core.List.{List}
+use mathlib.Core.Path.{_≡_, ap, _∙_}
+use Rattle.call_recovery.proofs.Adding.{row-as}
+use borrow.Author.Needs.{needs}
+use Rattle.call_recovery.proofs.load_row.Statement.{statement}
+use Rattle.call_recovery.proofs.load_row.Tie as tie
+
+add-to : tie.Need-add-to
+add-to c = search needs
+
+row-of-requires : tie.Need-row-of-requires
+row-of-requires c κs = search needs
+
+sub-append-row : tie.Need-sub-append-row
+sub-append-row c = search needs
+
+part-append-row-start : tie.Need-part-append-row-start
+part-append-row-start c = search needs
+
+part-append-row-end : tie.Need-part-append-row-end
+part-append-row-end c = search needs
+
+append-row-requires : tie.Need-append-row-requires
+append-row-requires c κs =
+    let p2 = c .before .before in
+    let p6 = p2 .before .before .before .before in
+    let pre = p6 .pre in (
+      record { room = pre .1 .0; at = omega arith; more = pre .1 .1 .1 .1; owner = p2 .row-of .ensures .fits; payload = simp length-take (omega (arith, pre .0 .0)) },
+      (pre .1 .1 .0, pre .1 .1 .1 .0),
+    )
+
+same-length : tie.Need-same-length
+same-length c = search needs
+
+returns : tie.Need-returns
+returns c =
+    let p2 = c .before .before in
+    let p5 = p2 .before .before .before in
+    let p9 = p5 .before .before .before .before in
+    let r = p9 .args .r in
+    let bs : List ℕ = drop (r .start) (p9 .args .block .now) in
+    let k : r .start + r .len - r .start ≡ r .len = omega arith in
+    row-as _ _ (p5 .row-of .ensures .held _ ∙ ap (λ (n : ℕ). calm (tupleOf r (take n bs))) k) (p2 .append-row .ensures)
+
+pub load-row-spec : {M : Type 1} → statement M
+load-row-spec =
+    tie.close
+    (tie.spec
+    add-to
+    row-of-requires
+    sub-append-row
+    part-append-row-start
+    part-append-row-end
+    append-row-requires
+    same-length
+    returns)

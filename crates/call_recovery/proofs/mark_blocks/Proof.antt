@@ -1,0 +1,76 @@
+-- `call_recovery::mark_blocks` meets its contract.
+use Rattle.call_recovery.proofs.Naming.{named-below, Marked, marking-start, marking-turn, marking-end}
+use native.Mathlib.Omega.{arith}
+use lib.ListN.{length, take}
+use Prim.Native.Nat.{_-_, _≤_, _<_}
+use Rattle.call_recovery.proofs.mark_blocks.Statement.{statement}
+use Rattle.call_recovery.proofs.mark_blocks.Tie as tie
+
+abbrev Inv-loop : tie.InvT-loop
+Inv-loop bs m₀ i₀ m i = (i ≤ length bs) × Marked (take i bs) m₀ m
+
+abbrev μ-loop : tie.MeasureT-loop
+μ-loop bs m₀ i₀ m i = length bs - i
+
+loop-holds : tie.Need-loop-holds Inv-loop μ-loop
+loop-holds c = let s = c .before .before in (omega arith, marking-start (s .args .m .now) (s .args .bs .now) (s .pre .1))
+
+mul-wide : tie.Need-mul-wide Inv-loop μ-loop
+mul-wide c = omega arith
+
+shared-slice-read-wide : tie.Need-shared-slice-read-wide Inv-loop μ-loop
+shared-slice-read-wide c = omega arith
+
+wide-requires : tie.Need-wide-requires Inv-loop μ-loop
+wide-requires c κs = omega arith
+
+mark-used-requires : tie.Need-mark-used-requires Inv-loop μ-loop
+mark-used-requires c κs =
+    let p3 = c .before .before .before in
+    let p4 = p3 .before in
+    let p7 = p4 .before .before .before in
+    let bs = p7 .args .bs .now in
+    let l = p4 .loop in
+    let h : l .i < length bs = omega (arith, p3 .loop-test) in
+    (l .inv .1 .room, omega (arith, named-below 4096 bs (l .i) (p7 .pre .0) h, c .wide .ensures))
+
+add-i : tie.Need-add-i Inv-loop μ-loop
+add-i c = omega arith
+
+loop-less : tie.Need-loop-less Inv-loop μ-loop
+loop-less c = omega arith
+
+loop-again : tie.Need-loop-again Inv-loop μ-loop
+loop-again c =
+    let p2 = c .before .before in
+    let p3 = p2 .before in
+    let p6 = p3 .before .before .before in
+    let p7 = p6 .before in
+    let p10 = p7 .before .before .before in
+    let a = p10 .args in
+    let l = p7 .loop in
+    let h : l .i < length (a .bs .now) = omega (arith, p6 .loop-test) in
+    (omega arith, marking-turn (a .m .now) (l .m) _ (a .bs .now) (l .i) _ h (p3 .wide .ensures) (l .inv .1) (p2 .mark-used .ensures))
+
+same-length : tie.Need-same-length Inv-loop μ-loop
+same-length c = c .before .loop .inv .1 .size
+
+returns : tie.Need-returns Inv-loop μ-loop
+returns c = let s = c .before .before .before .before in let a = s .args in let p = c .before .loop in marking-end (a .m .now) (p .m) (a .bs .now) (p .i) (omega (arith, c .loop-test)) (p .inv .1)
+
+pub mark-blocks-spec : {M : Type 1} → statement M
+mark-blocks-spec =
+    tie.close
+    (tie.spec
+    Inv-loop
+    μ-loop
+    loop-holds
+    mul-wide
+    shared-slice-read-wide
+    wide-requires
+    mark-used-requires
+    add-i
+    loop-less
+    loop-again
+    same-length
+    returns)

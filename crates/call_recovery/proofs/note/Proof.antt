@@ -1,0 +1,74 @@
+-- `call_recovery::note` meets its contract.
+use Rattle.call_recovery.proofs.Owning.{noted-by}
+use Rattle.call_recovery.specs.Reopening.{noted}
+use Rattle.memory_rows.specs.Rows.{ownerIs}
+use Rattle.memory_rows.specs.declared.Owner.{Owner}
+use Rattle.blocks.specs.Tuple.{OwnerFits}
+use native.Mathlib.Omega.{arith}
+use Prim.Native.Nat.{_<_}
+use mathlib.Core.Path.{ap, sym, subst}
+use borrow.Author.Needs.{needs}
+use Rattle.call_recovery.proofs.note.Statement.{statement}
+use Rattle.call_recovery.proofs.note.Tie as tie
+
+-- the transaction is one that there may be
+small : (c : tie.After-wide) → c .wide .result < 4096
+small c =
+    let p2 = c .before .before in
+    let p5 = p2 .before .before .before in
+    omega (arith, c .wide .ensures, subst (λ (o : Owner). OwnerFits (ownerIs o)) (p2 .o .given .1) (p5 .pre .1))
+
+enum-told : tie.Need-enum-told
+enum-told c = search needs
+
+enum-known-o : tie.Need-enum-known-o
+enum-known-o c = search needs
+
+wide-requires : tie.Need-wide-requires
+wide-requires c κs = search needs
+
+mul-counts : tie.Need-mul-counts
+mul-counts c = search needs
+
+slice-read-counts : tie.Need-slice-read-counts
+slice-read-counts c = omega (arith, small (c .before), c .before .before .before .before .before .before .pre .0 .size)
+
+add-counts : tie.Need-add-counts
+add-counts c = omega (arith, c .before .before .before .before .before .before .pre .0 .most _ (small (c .before)))
+
+mul-counts-2 : tie.Need-mul-counts-2
+mul-counts-2 c = search needs
+
+slice-write-counts : tie.Need-slice-write-counts
+slice-write-counts c = omega (arith, small (c .before), c .before .before .before .before .before .before .pre .0 .size)
+
+returns : tie.Need-returns
+unfolding noted
+returns c = let xs = c .before .before .before .args .counts .now in sym (ap (λ (o : Owner). noted (ownerIs o) xs) (c .enum-told .given .1))
+
+same-length : tie.Need-same-length
+same-length c = search needs
+
+returns-2 : tie.Need-returns-2
+returns-2 c =
+    let p1 = c .before in
+    let p3 = p1 .before .before in
+    let p6 = p3 .before .before .before in
+    let xs = p6 .args .counts .now in
+    noted-by xs (ap ownerIs (p3 .o .given .1)) (p1 .wide .ensures) _ (omega arith)
+
+pub note-spec : {M : Type 1} → statement M
+note-spec =
+    tie.close
+    (tie.spec
+    enum-told
+    enum-known-o
+    wide-requires
+    mul-counts
+    slice-read-counts
+    add-counts
+    mul-counts-2
+    slice-write-counts
+    returns
+    same-length
+    returns-2)

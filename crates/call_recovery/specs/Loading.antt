@@ -1,0 +1,109 @@
+-- What recovery puts into the memory: rows and page entries of the pages, and blocks in use.
+use Prim.Native.Nat.{ℕ, _+_, _-_, _≤_}
+use mathlib.Core.Path.{_≡_}
+use mathlib.Core.Bool.{Bool, true, false, _||_}
+use mathlib.Core.List.{List, [], _∷_, _++_, map}
+use lib.ListN.{length, take}
+use lib.Dec.{leb}
+use Rattle.basics.specs.Basics.{all, isIn}
+use Rattle.blocks.specs.Tuple.{Tuple}
+use Rattle.blocks.specs.Block.{Block, malformed, header, page, directory}
+use Rattle.blocks.specs.Bytes.{tupleOf}
+use Rattle.blocks.specs.declared.Record.{Record}
+use Rattle.image.specs.View.{View}
+use Rattle.image.specs.Stages.{StoredPage}
+use Rattle.model.specs.State.{Held}
+use Rattle.model.specs.Rules.{calm}
+use Rattle.memory_layout.specs.Flat.{Flat, flatOf, Becomes, withRows, withEntries}
+use Rattle.memory_layout.specs.declared.Entry.{Entry}
+use Rattle.memory_rows.specs.Rows.{heldBy, RowFits}
+use Rattle.memory_rows.specs.Cells.{InOrder}
+use Rattle.memory_rows.specs.declared.Row.{Row}
+use Rattle.memory_pages.specs.Pages.{clean, withCount, entryOf}
+
+-- ---- pages
+
+-- the tuples of a page; a block of another kind has none
+unfoldable pub tuplesIn : Block → List Tuple
+tuplesIn malformed = []
+tuplesIn (header h) = []
+tuplesIn (page t l ts) = ts
+tuplesIn (directory l es) = []
+
+-- a page block
+unfoldable pub isPage : Block → Bool
+isPage malformed = false
+isPage (header h) = false
+isPage (page t l ts) = true
+isPage (directory l es) = false
+
+-- the page of table t in block e
+abbrev pub storedPage : ℕ → ℕ → List Tuple → StoredPage
+storedPage e t ts = record { block = e; table = t; tuples = ts }
+
+-- the page in block e: none, if the block is no page
+unfoldable pub pageAt : ℕ → Block → List StoredPage
+pageAt e malformed = []
+pageAt e (header h) = []
+pageAt e (page t l ts) = storedPage e t ts ∷ []
+pageAt e (directory l es) = []
+
+-- the pages in the blocks es
+unfoldable pub pagesAt : View → List ℕ → List StoredPage
+pagesAt v [] = []
+pagesAt v (e ∷ es) = pageAt e (v e) ++ pagesAt v es
+
+-- ---- what they are in the memory
+
+-- the row is the record's, whatever its payload, nothing pending
+pub record RowFor (r : Record) (s : Row) : Type 0 where
+  pub held : (p : List ℕ) → heldBy s p ≡ calm (tupleOf r p)
+  pub fits : RowFits s
+
+-- the tuples of all pages, in order, nothing pending
+unfoldable pub heldsOf : List StoredPage → List Held
+heldsOf [] = []
+heldsOf (p ∷ ps) = map calm (p .tuples) ++ heldsOf ps
+
+-- recovered pages are clean
+unfoldable pub entryFor : StoredPage → Entry
+entryFor p = clean (p .table) (p .block) (length (p .tuples))
+
+-- the blocks of pages
+unfoldable pub blocksIn : List StoredPage → List ℕ
+blocksIn ps = map (λ p. p .block) ps
+
+-- the blocks bs are in use too
+unfoldable pub usedBy : List ℕ → (ℕ → Bool) → ℕ → Bool
+usedBy bs u c = isIn c bs || u c
+
+-- the pages ps behind those that are there
+abbrev pub withPages : Flat → List StoredPage → Flat
+withPages f ps = withEntries (withRows f (f .rows ++ heldsOf ps)) (f .entries ++ map entryFor ps)
+
+-- the last page has k rows more
+unfoldable pub lastMore : ℕ → List Entry → List Entry
+lastMore k es = take (length es - 1) es ++ withCount (entryOf es (length es - 1)) (entryOf es (length es - 1) .count + k) ∷ []
+
+-- ---- what the loading functions promise
+
+-- the rows hs stand behind those that were there, on the last page
+pub record Fills (hs : List Held) (m m' : List ℕ) : Type 0 where
+  pub becomes : Becomes m m' (withEntries (withRows (flatOf m) (flatOf m .rows ++ hs)) (lastMore (length hs) (flatOf m .entries)))
+  pub order : InOrder m'
+
+-- the pages ps stand behind those that were there
+pub record Loads (ps : List StoredPage) (m m' : List ℕ) : Type 0 where
+  pub becomes : Becomes m m' (withPages (flatOf m) ps)
+  pub order : InOrder m'
+
+-- no page of ps is of an earlier table than one before it, or than one of es
+unfoldable pub TablesRise : List Entry → List StoredPage → Type 0
+TablesRise es [] = Unit {0}
+TablesRise es (p ∷ ps) = (all (λ e. leb (e .table) (p .table)) es ≡ true) × TablesRise (es ++ entryFor p ∷ []) ps
+
+-- there is room for these pages behind those that are there
+pub record RoomFor (ps : List StoredPage) (f : Flat) : Type 0 where
+  pub rows : length (f .rows) + length (heldsOf ps) ≤ f .head .capacity
+  pub entries : length (f .entries) + length ps ≤ f .head .capacity
+  pub tables : TablesRise (f .entries) ps

@@ -1,0 +1,52 @@
+-- The transactions of the tentative tuples are open.
+use Prim.Native.Nat.{ℕ, _+_, _≤_, _<_}
+use mathlib.Core.Path.{_≡_}
+use mathlib.Core.List.{List, [], _∷_, map}
+use lib.ListN.{length, getD, set}
+use lib.Dec.{eqb}
+use Rattle.basics.specs.Basics.{if_then_else_, any, howMany}
+use Rattle.blocks.specs.Tuple.{Owner, committed, tentative, OwnerFits}
+use Rattle.rows.specs.Rows.{Row, isOwn}
+use Rattle.model.specs.State.{Held, Active}
+use Rattle.model.specs.Recover.{reopened}
+use Rattle.memory_layout.specs.Flat.{Flat}
+
+-- every owner's numbers are in their ranges
+abbrev pub AllOwners : List Held → Type 0
+AllOwners [] = Unit {0}
+AllOwners (h ∷ hs) = OwnerFits (h .tuple .owner) × AllOwners hs
+
+-- a row of the memory with its tuple; whose it is does not depend on its table
+abbrev pub ownRow : Held → Row
+ownRow h = (0, h .tuple)
+
+-- all rows
+unfoldable pub ownRows : Flat → List Row
+ownRows f = map ownRow (f .rows)
+
+-- ---- counts by transaction
+
+-- a count for every transaction, none above the most rows that there are
+pub record Sized (xs : List ℕ) : Type 0 where
+  pub size : length xs ≡ 4096
+  pub most : (t : ℕ) → t < 4096 → getD xs t 0 ≤ 1024
+
+-- how many of the rows are each transaction's
+pub record Counts (rs : List Row) (xs : List ℕ) : Type 0 where
+  pub size : length xs ≡ 4096
+  pub each : (t : ℕ) → t < 4096 → getD xs t 0 ≡ howMany (isOwn t) rs
+
+-- one tuple more of the owner's transaction
+unfoldable pub noted : Owner → List ℕ → List ℕ
+noted committed xs = xs
+noted (tentative t s) xs = set xs t (getD xs t 0 + 1)
+
+-- the owner's transaction, once as many of its tuples are passed as there are
+unfoldable pub openedBy : Owner → List ℕ → List ℕ → List Active
+openedBy committed counts passed = []
+openedBy (tentative t s) counts passed = if eqb (getD passed t 0) (getD counts t 0) then record { transaction = t; written = getD counts t 0 } ∷ [] else []
+
+-- at the last row of a transaction it is opened: rs come after the row, and all is all rows
+unfoldable pub opened : List Row → Owner → List Row → List Active
+opened all committed rs = []
+opened all (tentative t s) rs = if any (isOwn t) rs then [] else reopened all t ∷ []

@@ -1,0 +1,118 @@
+-- Commit and abort: the transaction's entries are taken out, and the calls.
+use mathlib.Core.Path.{_≡_, refl, sym, ap, _∙_}
+use mathlib.Core.Option.{some}
+use mathlib.Core.List.{List}
+use Prim.Native.Nat.{ℕ, _+_, _≤_, _<_}
+use native.Mathlib.Omega.{arith}
+use lib.ListN.{length, take, drop, length-append, length-drop}
+use lib.Seq.{length-take-le}
+use Rattle.model.specs.State.{Page, Active, Store, Outcome}
+use Rattle.model.specs.Sight.{held}
+use Rattle.model.specs.Places.{carryOut, closePlan, abortPlan}
+use Rattle.model.specs.Transactions.{gives, unless, changed, notOpen, without, commitCall, abortCall}
+use Rattle.memory_bytes.specs.Columns.{removeAt}
+use Rattle.memory_layout.specs.Flat.{Flat, flatOf, Room, Becomes, withOpens}
+use Rattle.memory_layout.specs.Store.{storeOf, storeIn, pagesIn, HoldsNow}
+use Rattle.memory_layout.specs.Opens.{findOpen}
+use Rattle.memory_layout.proofs.Laws.{Sound, in-sound}
+use Rattle.contracts.specs.Shape.{Answers}
+use Rattle.contracts.specs.declared.Answer.the-variants.{Done, Refused}
+use Rattle.contracts.proofs.Answering.{answers-done}
+use Rattle.engine_pages.specs.Pages.{withPages}
+use Rattle.call_transactions.specs.Refusals.{verdictIn}
+use Rattle.call_transactions.proofs.Opens.{without-found, without-none}
+use Rattle.call_transactions.proofs.Verdicts.{passed-held, call-after, answers-stopped, open-numbered}
+use Rattle.call_transactions.proofs.Opening.{opens-hold}
+use Rattle.model.specs.State as model
+
+-- what the loop has shown: only the list of open transactions has changed
+pub record Closed (m m' : List ℕ) (tx : ℕ) : Type 0 where
+  pub becomes : Becomes m m' (withOpens (flatOf m) (flatOf m' .opens))
+  pub left : without tx (flatOf m' .opens) ≡ without tx (flatOf m .opens)
+
+pub closed-start : {m : List ℕ} (tx : ℕ) → Room m → Closed m m tx
+closed-start tx r = record { becomes = record { size = refl; room = r; flat = refl }; left = refl }
+
+module _ {m m' : List ℕ} {tx i : ℕ} (d : Closed m m' tx) (e : i ≡ findOpen tx (flatOf m' .opens)) where
+  pub closed-out : i < length (flatOf m' .opens) → {m2 : List ℕ} → Becomes m' m2 (withOpens (flatOf m') (removeAt i (flatOf m' .opens))) → Closed m m2 tx
+  closed-out h {m2} b =
+      let os : List Active = flatOf m' .opens in
+      let o : flatOf m2 .opens ≡ removeAt i os = ap (λ (z : Flat). z .opens) (b .flat) in
+      record {
+        becomes = record {
+          size = b .size ∙ d .becomes .size;
+          room = b .room;
+          flat = b .flat ∙ ap (λ (z : Flat). withOpens z (removeAt i os)) (d .becomes .flat) ∙ ap (withOpens (flatOf m)) (sym o);
+        };
+        left = ap (without tx) o ∙ ap (λ (j : ℕ). without tx (removeAt j os)) e ∙ without-found tx os (omega (arith, e, h)) ∙ d .left;
+      }
+
+  pub closed-end : length (flatOf m' .opens) ≤ i → Becomes m m' (withOpens (flatOf m) (without tx (flatOf m .opens)))
+  closed-end h =
+      record {
+        size = d .becomes .size;
+        room = d .becomes .room;
+        flat = d .becomes .flat ∙ ap (withOpens (flatOf m)) (sym (without-none tx (flatOf m' .opens) (omega (arith, e, h))) ∙ d .left);
+      }
+
+pub removed-count : {m m' : List ℕ} (i : ℕ) → i < length (flatOf m .opens) → Becomes m m' (withOpens (flatOf m) (removeAt i (flatOf m .opens)))
+    → length (flatOf m' .opens) + 1 ≡ length (flatOf m .opens)
+removed-count {m} {m'} i h b =
+    let os : List Active = flatOf m .opens in
+    let o : length (flatOf m' .opens) ≡ length (take i os) + length (drop (i + 1) os) = ap (λ (z : Flat). length (z .opens)) (b .flat) ∙ length-append (take i os) (drop (i + 1) os) in
+    omega (arith, o, length-take-le i os (omega arith), length-drop (i + 1) os)
+
+-- ---- commit, abort
+
+-- the pages after a commit and after an abort
+abbrev pub committedPages : ℕ → List Page → List Page
+committedPages tx ps = carryOut (length (held ps)) (closePlan tx ps) ps
+
+abbrev pub abortedPages : ℕ → List Page → List Page
+abortedPages tx ps = carryOut (length (held ps)) (abortPlan tx ps) ps
+
+-- closing the transaction, with other pages
+abbrev closing : (List Page → List Page) → ℕ → Store → Outcome
+closing g tx s = gives model.done (changed s (s .next) (g (s .pages)) (without tx (s .active)))
+
+pub is-commit : (tx : ℕ) (s : Store) → commitCall tx s ≡ unless (notOpen tx s) s (closing (committedPages tx) tx s)
+unfolding commitCall
+is-commit tx s = refl
+
+pub is-abort : (tx : ℕ) (s : Store) → abortCall tx s ≡ unless (notOpen tx s) s (closing (abortedPages tx) tx s)
+unfolding abortCall
+is-abort tx s = refl
+
+closed-store : (f : Flat) (tx : ℕ) → storeOf (withOpens f (without tx (f .opens))) ≡ changed (storeOf f) (storeOf f .next) (storeOf f .pages) (without tx (storeOf f .active))
+unfolding storeOf changed
+closed-store f tx = refl
+
+after-with : (s : Store) (ps : List Page) (tx : ℕ) → let z = withPages s ps in
+    changed z (z .next) (z .pages) (without tx (z .active)) ≡ changed s (s .next) ps (without tx (s .active))
+unfolding withPages changed
+after-with s ps tx = refl
+
+pages-is : (f : Flat) → storeOf f .pages ≡ pagesIn f
+unfolding storeOf
+pages-is f = refl
+
+module _ (m : List ℕ) (tx v : ℕ) (ev : v ≡ verdictIn (storeIn m) (notOpen tx)) (call : Store → Outcome) (g : List Page → List Page)
+    (is : (s : Store) → call s ≡ unless (notOpen tx s) s (closing g tx s)) where
+  pub close-refused : (v ≡ 0 → ⊥) → Answers call m (Refused v) m
+  close-refused nz = answers-stopped m (notOpen tx) v ev call (closing g tx) is nz
+
+  pub close-done : v ≡ 0 → (m1 m2 : List ℕ) → HoldsNow m m1 (withPages (storeOf (flatOf m)) (g (pagesIn (flatOf m))))
+      → Becomes m1 m2 (withOpens (flatOf m1) (without tx (flatOf m1 .opens))) → Answers call m Done m2
+  close-done z m1 m2 u b =
+      let s : Store = storeOf (flatOf m) in
+      let ps : List Page = g (pagesIn (flatOf m)) in
+      let d : Sound m1 (withPages s ps) = in-sound m1 _ (u .store) in
+      let k = opens-hold m1 m2 _ (d .held) b in
+      let e = closed-store (flatOf m1) tx ∙ ap (λ (x : Store). changed x (x .next) (x .pages) (without tx (x .active))) (d .means) ∙ after-with s ps tx in
+      let p : g (s .pages) ≡ ps = ap g (pages-is (flatOf m)) in
+      answers-done call m m2 _ (passed-held m (notOpen tx) v ev z) (call-after m (notOpen tx) v ev call (closing g tx) is (open-numbered tx) z)
+      (record { size = k .size ∙ u .size; store = k .store ∙ ap some (e ∙ ap (λ (x : List Page). changed s (s .next) x (without tx (s .active))) (sym p)) })
+
+-- the rows are closed: the memory holds a store
+pub closed-room : {m m1 : List ℕ} {s : Store} → HoldsNow m m1 s → Room m1
+closed-room u = in-sound _ _ (u .store) .room

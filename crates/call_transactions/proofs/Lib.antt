@@ -1,0 +1,10 @@
+pub mod Opens
+pub mod Verdicts
+pub mod Opening
+pub mod Reading
+pub mod Making
+pub mod Listing
+pub mod Testing
+pub mod Called
+pub mod Writing
+pub mod Closing

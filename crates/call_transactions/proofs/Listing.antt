@@ -1,0 +1,89 @@
+-- The listing of open transactions, two bytes after the other.
+use mathlib.Core.Path.{_≡_, refl, sym, ap, _∙_}
+use mathlib.Core.List.{List, [], _∷_, _++_, append-assoc}
+use Prim.Native.Nat.{ℕ, suc, _+_, _*_, _/_, _%_, _≤_, _<_}
+use native.Mathlib.Omega.{arith}
+use native.Mathlib.Numerals.{add-one}
+use lib.ListN.{length, take, drop, getD, set, length-map, length-append}
+use lib.Seq.{take-suc, take-all, drop-cons, set-at, length-take-le}
+use borrow.Author.Tests.{lt-ltb, le-ltb}
+use Rattle.basics.proofs.Lists.{map-append}
+use Rattle.model.specs.State.{Active}
+use Rattle.model.specs.Transactions.{gives, openNumbers, listing, listCall}
+use Rattle.memory_layout.specs.Flat.{Flat, noOpen}
+use Rattle.memory_layout.specs.Store.{storeOf}
+use Rattle.contracts.proofs.Answering.{length-listing}
+use Rattle.call_transactions.proofs.Verdicts.{refused-here, passed-on, unless-none}
+use Rattle.model.specs.State as model
+
+-- the listing of open transactions
+abbrev pub listed : List Active → List ℕ
+listed os = listing (openNumbers os)
+
+listing-append : (xs ys : List ℕ) → listing (xs ++ ys) ≡ listing xs ++ listing ys
+unfolding listing
+listing-append [] ys = refl
+listing-append (x ∷ xs) ys = ap (λ (z : List ℕ). x / 256 % 256 ∷ x % 256 ∷ z) (listing-append xs ys)
+
+listed-last : (os : List Active) (o : Active) → listed (os ++ o ∷ []) ≡ listed os ++ o .transaction / 256 % 256 ∷ o .transaction % 256 ∷ []
+unfolding openNumbers listing
+listed-last os o =
+    let number : Active → ℕ = λ o. o .transaction in
+    ap listing (map-append number os (o ∷ [])) ∙ listing-append (openNumbers os) (openNumbers (o ∷ []))
+
+pub length-listed : (os : List Active) → length (listed os) ≡ 2 * length os
+unfolding openNumbers
+length-listed os = length-listing (openNumbers os) ∙ ap (λ (z : ℕ). 2 * z) (length-map os (λ (o : Active). o .transaction))
+
+-- two bytes more
+two-more : (xs p : List ℕ) (i a b : ℕ) → length xs ≡ 2 * i → 2 * i + 2 ≤ length p
+    → set (set (xs ++ drop (2 * i) p) (2 * i) a) (2 * i + 1) b ≡ (xs ++ a ∷ b ∷ []) ++ drop (2 * (i + 1)) p
+two-more xs p i a b l h =
+    let y0 : ℕ = getD p (2 * i) 0 in
+    let y1 : ℕ = getD p (suc (2 * i)) 0 in
+    let d : List ℕ = drop (suc (suc (2 * i))) p in
+    let e0 : drop (2 * i) p ≡ y0 ∷ y1 ∷ d = drop-cons p (2 * i) 0 (omega arith) ∙ ap (λ (z : List ℕ). y0 ∷ z) (drop-cons p (suc (2 * i)) 0 (omega arith)) in
+    let s0 : set (xs ++ drop (2 * i) p) (2 * i) a ≡ xs ++ a ∷ y1 ∷ d = ap (λ (z : List ℕ). set (xs ++ z) (2 * i) a) e0 ∙ set-at xs y0 (y1 ∷ d) a (2 * i) l in
+    let l1 : length (xs ++ a ∷ []) ≡ 2 * i + 1 = length-append xs (a ∷ []) ∙ omega (arith, l) in
+    let z : suc (suc (2 * i)) ≡ 2 * (i + 1) = omega arith in
+    ap (λ (q : List ℕ). set q (2 * i + 1) b) (s0 ∙ sym (append-assoc xs (a ∷ []) (y1 ∷ d)))
+    ∙ set-at (xs ++ a ∷ []) y1 d b (2 * i + 1) l1
+    ∙ append-assoc xs (a ∷ []) (b ∷ d)
+    ∙ sym (append-assoc xs (a ∷ b ∷ []) d)
+    ∙ ap (λ (q : ℕ). (xs ++ a ∷ b ∷ []) ++ drop q p) z
+
+-- the first i are listed over the reply p
+abbrev pub listedTo : List Active → ℕ → List ℕ → List ℕ
+listedTo os i p = listed (take i os) ++ drop (2 * i) p
+
+pub list-none : (os : List Active) (p : List ℕ) → p ≡ listedTo os 0 p
+unfolding listing openNumbers
+list-none os p = refl
+
+module _ (os : List Active) (p : List ℕ) where
+  pub list-turn : (i : ℕ) → i < length os → 2 * length os ≤ length p → (q : List ℕ) (t : ℕ) → t ≡ getD os i noOpen .transaction → q ≡ listedTo os i p
+      → set (set q (2 * i) (t / 256 % 256)) (2 * i + 1) (t % 256) ≡ listedTo os (i + 1) p
+  list-turn i h fits q t et e =
+      let o : Active = getD os i noOpen in
+      let l : length (listed (take i os)) ≡ 2 * i = length-listed (take i os) ∙ ap (λ (z : ℕ). 2 * z) (length-take-le i os (omega arith)) in
+      let one : take i os ++ o ∷ [] ≡ take (i + 1) os = sym (take-suc os i noOpen h) ∙ ap (λ (z : ℕ). take z os) (sym (add-one i)) in
+      ap (λ (z : ℕ). set (set q (2 * i) (z / 256 % 256)) (2 * i + 1) (z % 256)) et
+      ∙ ap (λ (z : List ℕ). set (set z (2 * i) (o .transaction / 256 % 256)) (2 * i + 1) (o .transaction % 256)) e
+      ∙ two-more (listed (take i os)) p i (o .transaction / 256 % 256) (o .transaction % 256) l (omega arith)
+      ∙ ap (λ (z : List ℕ). z ++ drop (2 * (i + 1)) p) (sym (listed-last (take i os) o) ∙ ap listed one)
+
+  pub list-end : (n i : ℕ) → n ≡ length os → n ≤ i → i ≤ n → (q : List ℕ) → q ≡ listedTo os i p → q ≡ listed os ++ drop (2 * n) p
+  list-end n i e a b q h =
+      let z : i ≡ n = omega arith in
+      h ∙ ap (λ (k : ℕ). listedTo os k p) z ∙ ap (λ (u : List Active). listed u ++ drop (2 * n) p) (take-all n os (omega arith))
+
+-- ---- the call
+
+module _ (room : ℕ) (f : Flat) where
+  pub list-21 : room < 2 * length (f .opens) → listCall room (storeOf f) ≡ gives (model.refused 21) (storeOf f)
+  unfolding listCall storeOf
+  list-21 h = refused-here 21 _ _ _ _ (lt-ltb room (2 * length (f .opens)) h)
+
+  pub list-done : 2 * length (f .opens) ≤ room → listCall room (storeOf f) ≡ gives (model.filled (length (f .opens)) (listed (f .opens))) (storeOf f)
+  unfolding listCall storeOf
+  list-done h = passed-on 21 _ _ _ _ (le-ltb room (2 * length (f .opens)) h) ∙ unless-none _ _

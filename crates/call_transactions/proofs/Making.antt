@@ -1,0 +1,124 @@
+-- Make: its tests, and the image with block 0 written.
+use mathlib.Core.Path.{_≡_, refl, sym, ap, _∙_}
+use mathlib.Core.Bool.{true, false}
+use mathlib.Core.List.{List, _++_}
+use Prim.Native.Nat.{ℕ, _+_, _*_, _/_, _%_, _≤_, _<_}
+use mathlib.Core.Logic.{⊎-elim}
+use native.Mathlib.Omega.{arith}
+use lib.ListN.{length, drop}
+use lib.Dec.{leb, ltb, eqb}
+use borrow.Author.Tests.{lt-ltb, le-ltb, le-leb, lt-leb, eq-eqb, ne-eqb, eqb-true, eqb-false}
+use Rattle.basics.specs.Basics.{if_then_else_}
+use Rattle.basics.proofs.Facts.{by}
+use Rattle.blocks.specs.Block.{header, encodeBlock}
+use Rattle.blocks.specs.declared.Header.{Header}
+use Rattle.image.specs.Stages.{Stage, refuses, holds, wholeBlocks}
+use Rattle.model.specs.State.{Store}
+use Rattle.model.specs.Checkpoint.{headerFor}
+use Rattle.model.specs.Recover.{memoryFor, putBlock, freshStore, make, madeImage}
+use Rattle.model.proofs.Lists.{and-no, or-right}
+use Rattle.memory_layout.specs.Store.{FreshFits, HoldsNow}
+use Rattle.memory_bytes.proofs.Columns.{lt-or-ge}
+use Rattle.contracts.specs.Shape.{MadeBy, Made}
+use Rattle.contracts.specs.declared.Answer.the-variants.{Done, Refused}
+use Rattle.call_transactions.specs.Refusals.{makeVerdict}
+
+module _ (n : ℕ) (img m : List ℕ) where
+  pub made-refused : (k : ℕ) → make (length img) (length m) n ≡ refuses k → Made n img m (Refused k) img m
+  unfolding MadeBy
+  made-refused k e = rw e (refl, (refl, refl))
+
+  pub made-done : (s : Store) (img' m' : List ℕ) → make (length img) (length m) n ≡ holds s → img' ≡ madeImage img n → HoldsNow m m' s
+      → Made n img m Done img' m'
+  unfolding MadeBy
+  made-done s img' m' e q k = rw e (refl, (q, k))
+
+-- ---- the tests
+
+module _ (len mem n : ℕ) where
+  not-whole : wholeBlocks len ≡ false → make len mem n ≡ refuses 1
+  unfolding make if_then_else_
+  not-whole e = rw e
+
+  pub make-odd : (len % 512 ≡ 0 → ⊥) → make len mem n ≡ refuses 1
+  unfolding wholeBlocks
+  make-odd e = not-whole (rw (ne-eqb (len % 512) 0 e))
+
+  pub make-few : len / 512 < 2 → make len mem n ≡ refuses 1
+  unfolding wholeBlocks
+  make-few h = not-whole (rw (lt-leb 2 (len / 512) h) (and-no (eqb (len % 512) 0)))
+
+  pub make-many : 4096 < len / 512 → make len mem n ≡ refuses 1
+  unfolding wholeBlocks
+  make-many h = not-whole (rw (lt-leb (len / 512) 4096 h, and-no (leb 2 (len / 512))) (and-no (eqb (len % 512) 0)))
+
+  module _ (whole : len % 512 ≡ 0) (few : 2 ≤ len / 512) (many : len / 512 ≤ 4096) where
+    is-whole : wholeBlocks len ≡ true
+    unfolding wholeBlocks
+    is-whole = rw (eq-eqb (len % 512) 0 whole, le-leb 2 (len / 512) few, le-leb (len / 512) 4096 many)
+
+    pub make-none : n < 1 → make len mem n ≡ refuses 2
+    unfolding make if_then_else_
+    make-none h = rw (is-whole, lt-ltb n 1 h)
+
+    pub make-large : 1024 < n → make len mem n ≡ refuses 2
+    unfolding make if_then_else_
+    make-large h = rw (is-whole, lt-ltb 1024 n h, or-right (ltb n 1) true refl)
+
+    module _ (least : 1 ≤ n) (most : n ≤ 1024) where
+      pub make-short : mem < 128 * n + 1024 → make len mem n ≡ refuses 3
+      unfolding make memoryFor if_then_else_
+      make-short h = rw (is-whole, le-ltb n 1 least, le-ltb 1024 n most, lt-ltb mem (128 * n + 1024) h)
+
+      make-done : 128 * n + 1024 ≤ mem → make len mem n ≡ holds (freshStore (len / 512) n)
+      unfolding make memoryFor if_then_else_
+      make-done h = rw (is-whole, le-ltb n 1 least, le-ltb 1024 n most, le-ltb mem (128 * n + 1024) h)
+
+-- ---- their verdict
+
+-- the lengths and the capacity that are accepted
+pub record Fits (len mem n : ℕ) : Type 0 where
+  pub whole : len % 512 ≡ 0
+  pub room : FreshFits mem (len / 512) n
+
+pub make-accepts : {len mem n : ℕ} → Fits len mem n → make len mem n ≡ holds (freshStore (len / 512) n)
+make-accepts f = let r = f .room in make-done _ _ _ (f .whole) (r .few) (r .many) (r .least) (r .most) (r .long)
+
+stage-refuses : (g : Stage Store) (v : ℕ) → v ≡ makeVerdict g → (v ≡ 0 → ⊥) → g ≡ refuses v
+unfolding makeVerdict
+stage-refuses (refuses k) v e nz = ap refuses (sym e)
+stage-refuses (holds s) v e nz = absurd (nz e)
+
+module _ (len mem n : ℕ) where
+  pub verdict-refuses : {k : ℕ} → make len mem n ≡ refuses k → k ≡ makeVerdict (make len mem n)
+  unfolding makeVerdict
+  verdict-refuses e = sym (ap makeVerdict e)
+
+  pub verdict-accepts : Fits len mem n → 0 ≡ makeVerdict (make len mem n)
+  unfolding makeVerdict
+  verdict-accepts f = sym (ap makeVerdict (make-accepts f))
+
+  module _ (v : ℕ) (ev : v ≡ makeVerdict (make len mem n)) where
+    pub make-refused : (v ≡ 0 → ⊥) → make len mem n ≡ refuses v
+    make-refused nz = stage-refuses (make len mem n) v ev nz
+
+    pub make-fits : v ≡ 0 → Fits len mem n
+    make-fits z =
+        let not-by : (k : ℕ) → 0 < k → make len mem n ≡ refuses k → ⊥ = λ k p e. omega (arith, ev, verdict-refuses e) in
+        let whole : len % 512 ≡ 0 = by (eqb (len % 512) 0) (λ t. eqb-true _ _ t) (λ t. absurd (not-by 1 (omega arith) (make-odd len mem n (eqb-false _ _ t)))) in
+        let few : 2 ≤ len / 512 = ⊎-elim (λ h. absurd (not-by 1 (omega arith) (make-few len mem n h))) (λ h. h) (lt-or-ge (len / 512) 2) in
+        let many : len / 512 ≤ 4096 = ⊎-elim (λ h. absurd (not-by 1 (omega arith) (make-many len mem n h))) (λ h. h) (lt-or-ge 4096 (len / 512)) in
+        let least : 1 ≤ n = ⊎-elim (λ h. absurd (not-by 2 (omega arith) (make-none len mem n whole few many h))) (λ h. h) (lt-or-ge n 1) in
+        let most : n ≤ 1024 = ⊎-elim (λ h. absurd (not-by 2 (omega arith) (make-large len mem n whole few many h))) (λ h. h) (lt-or-ge 1024 n) in
+        let long : 128 * n + 1024 ≤ mem = ⊎-elim (λ h. absurd (not-by 3 (omega arith) (make-short len mem n whole few many least most h))) (λ h. h) (lt-or-ge mem (128 * n + 1024)) in
+        record { whole = whole; room = record { least = least; most = most; long = long; few = few; many = many } }
+
+-- ---- block 0
+
+pub image-made : (img part : List ℕ) (b n : ℕ) (h : Header) → b ≡ length img / 512
+    → h ≡ record { blocks = b; capacity = n; level = 0; next = 0; pages = 0; directories = 0; d0 = 0; d1 = 0; d2 = 0; d3 = 0 }
+    → part ≡ encodeBlock (header h) → part ++ drop 512 img ≡ madeImage img n
+unfolding madeImage putBlock headerFor freshStore
+image-made img part b n h eb eh ep =
+    ap (λ (z : List ℕ). z ++ drop 512 img) (ep ∙ ap (λ (z : Header). encodeBlock (header z)) eh
+    ∙ ap (λ (z : ℕ). encodeBlock (header (record { blocks = z; capacity = n; level = 0; next = 0; pages = 0; directories = 0; d0 = 0; d1 = 0; d2 = 0; d3 = 0 }))) eb)

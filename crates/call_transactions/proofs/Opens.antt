@@ -1,0 +1,145 @@
+-- A transaction's entry among the open ones: what is found there, written and taken out.
+use mathlib.Core.Path.{_≡_, refl, sym, ap, _∙_}
+use mathlib.Core.Bool.{true, false, not}
+use mathlib.Core.List.{List, [], _∷_, _++_}
+use Prim.Native.Nat.{ℕ, suc, _+_, _≤_, _<_}
+use native.Mathlib.Omega.{arith}
+use lib.ListN.{length, take, drop, getD, set}
+use borrow.Author.Tests.{eq-eqb, ne-eqb, eqb-true, eqb-false}
+use Rattle.basics.specs.Basics.{if_then_else_, any, isIn, keep}
+use Rattle.basics.proofs.Facts.{by}
+use Rattle.model.specs.State.{Active}
+use Rattle.model.specs.Transactions.{isFor, openNumbers, writtenBy, withWrite, without}
+use Rattle.model.proofs.Lists.{in-here, in-cons, keep-cons, keep-past}
+use Rattle.memory_bytes.specs.Columns.{removeAt, tab}
+use Rattle.memory_bytes.proofs.Columns.{getD-tab}
+use Rattle.memory_layout.specs.Views.{countsOf, openAt, openCount}
+use Rattle.memory_layout.specs.Flat.{flatOf, opensOf, noOpen}
+use Rattle.memory_layout.specs.Opens.{findOpen}
+use Rattle.memory_layout.specs.declared.Counts.{Counts}
+use Rattle.memory_layout.proofs.Laws.{opens-length, rows-length}
+use Rattle.call_transactions.specs.Calls.{oneMore}
+
+-- ---- one entry
+
+module _ (tx : ℕ) (o : Active) (os : List Active) where
+  module _ (e : isFor tx o ≡ true) where
+    find-here : findOpen tx (o ∷ os) ≡ 0
+    unfolding findOpen if_then_else_
+    find-here = rw e
+
+    numbers-here : isIn tx (openNumbers (o ∷ os)) ≡ true
+    unfolding openNumbers isFor
+    numbers-here = in-here tx (o .transaction) _ (eq-eqb tx (o .transaction) (sym (eqb-true (o .transaction) tx e)))
+
+    wrote-here : withWrite tx (o ∷ os) ≡ oneMore o ∷ os
+    unfolding withWrite oneMore if_then_else_
+    wrote-here = rw e
+
+    count-here : writtenBy tx (o ∷ os) ≡ o .written
+    unfolding writtenBy if_then_else_
+    count-here = rw e
+
+    without-here : without tx (o ∷ os) ≡ without tx os
+    unfolding without
+    without-here = keep-past (λ (x : Active). not (isFor tx x)) o os (ap not e)
+
+  module _ (e : isFor tx o ≡ false) where
+    find-on : findOpen tx (o ∷ os) ≡ suc (findOpen tx os)
+    unfolding findOpen if_then_else_
+    find-on = rw e
+
+    numbers-on : isIn tx (openNumbers (o ∷ os)) ≡ isIn tx (openNumbers os)
+    unfolding openNumbers isFor
+    numbers-on = in-cons tx (o .transaction) _ (ne-eqb tx (o .transaction) (λ q. eqb-false (o .transaction) tx e (sym q)))
+
+    wrote-on : withWrite tx (o ∷ os) ≡ o ∷ withWrite tx os
+    unfolding withWrite if_then_else_
+    wrote-on = rw e
+
+    count-on : writtenBy tx (o ∷ os) ≡ writtenBy tx os
+    unfolding writtenBy if_then_else_
+    count-on = rw e
+
+    without-on : without tx (o ∷ os) ≡ o ∷ without tx os
+    unfolding without
+    without-on = keep-cons (λ (x : Active). not (isFor tx x)) o os (ap not e)
+
+-- ---- found below the count: it is open
+
+pub found-open : (tx : ℕ) (os : List Active) → findOpen tx os < length os → isIn tx (openNumbers os) ≡ true
+found-open tx [] h = absurd (omega arith)
+found-open tx (o ∷ os) h =
+    by (isFor tx o) (λ e. numbers-here tx o os e) (λ e. numbers-on tx o os e ∙ found-open tx os (omega (arith, find-on tx o os e)))
+
+-- else it is not
+pub not-found-open : (tx : ℕ) (os : List Active) → length os ≤ findOpen tx os → isIn tx (openNumbers os) ≡ false
+unfolding openNumbers isIn any
+not-found-open tx [] h = refl
+not-found-open tx (o ∷ os) h =
+    by (isFor tx o) (λ e. absurd (omega (arith, find-here tx o os e))) (λ e. numbers-on tx o os e ∙ not-found-open tx os (omega (arith, find-on tx o os e)))
+
+-- ---- the entry found
+
+pub found-is : (tx : ℕ) (os : List Active) → findOpen tx os < length os → getD os (findOpen tx os) noOpen .transaction ≡ tx
+unfolding isFor
+found-is tx [] h = absurd (omega arith)
+found-is tx (o ∷ os) h =
+    by (isFor tx o)
+    (λ e. ap (λ (i : ℕ). getD (o ∷ os) i noOpen .transaction) (find-here tx o os e) ∙ eqb-true _ _ e)
+    (λ e. ap (λ (i : ℕ). getD (o ∷ os) i noOpen .transaction) (find-on tx o os e) ∙ found-is tx os (omega (arith, find-on tx o os e)))
+
+pub count-is : (tx : ℕ) (os : List Active) → findOpen tx os < length os → getD os (findOpen tx os) noOpen .written ≡ writtenBy tx os
+count-is tx [] h = absurd (omega arith)
+count-is tx (o ∷ os) h =
+    by (isFor tx o)
+    (λ e. ap (λ (i : ℕ). getD (o ∷ os) i noOpen .written) (find-here tx o os e) ∙ sym (count-here tx o os e))
+    (λ e. ap (λ (i : ℕ). getD (o ∷ os) i noOpen .written) (find-on tx o os e) ∙ count-is tx os (omega (arith, find-on tx o os e)) ∙ sym (count-on tx o os e))
+
+pub wrote-is : (tx : ℕ) (os : List Active) → findOpen tx os < length os → set os (findOpen tx os) (oneMore (getD os (findOpen tx os) noOpen)) ≡ withWrite tx os
+wrote-is tx [] h = absurd (omega arith)
+wrote-is tx (o ∷ os) h =
+    let at : ℕ → List Active = λ i. set (o ∷ os) i (oneMore (getD (o ∷ os) i noOpen)) in
+    by (isFor tx o)
+    (λ e. ap at (find-here tx o os e) ∙ sym (wrote-here tx o os e))
+    (λ e. ap at (find-on tx o os e) ∙ ap (λ (z : List Active). o ∷ z) (wrote-is tx os (omega (arith, find-on tx o os e))) ∙ sym (wrote-on tx o os e))
+
+-- ---- the entry taken out
+
+remove-on : (o : Active) (os : List Active) (i : ℕ) → removeAt (suc i) (o ∷ os) ≡ o ∷ removeAt i os
+remove-on o os i = let e : suc i + 1 ≡ suc (i + 1) = omega arith in ap (λ (z : ℕ). o ∷ take i os ++ drop z (o ∷ os)) e
+
+pub without-found : (tx : ℕ) (os : List Active) → findOpen tx os < length os → without tx (removeAt (findOpen tx os) os) ≡ without tx os
+without-found tx [] h = absurd (omega arith)
+without-found tx (o ∷ os) h =
+    by (isFor tx o)
+    (λ e. ap (λ (i : ℕ). without tx (removeAt i (o ∷ os))) (find-here tx o os e) ∙ sym (without-here tx o os e))
+    (λ e. ap (λ (i : ℕ). without tx (removeAt i (o ∷ os))) (find-on tx o os e) ∙ ap (without tx) (remove-on o os (findOpen tx os))
+    ∙ without-on tx o (removeAt (findOpen tx os) os) e
+    ∙ ap (λ (z : List Active). o ∷ z) (without-found tx os (omega (arith, find-on tx o os e))) ∙ sym (without-on tx o os e))
+
+pub without-none : (tx : ℕ) (os : List Active) → length os ≤ findOpen tx os → without tx os ≡ os
+unfolding without keep
+without-none tx [] h = refl
+without-none tx (o ∷ os) h =
+    by (isFor tx o)
+    (λ e. absurd (omega (arith, find-here tx o os e)))
+    (λ e. without-on tx o os e ∙ ap (λ (z : List Active). o ∷ z) (without-none tx os (omega (arith, find-on tx o os e))))
+
+-- ---- counts that the code reads
+
+module _ (m : List ℕ) {c : Counts} (e : c ≡ countsOf m) where
+  pub opens-count : c .opens ≡ length (flatOf m .opens)
+  unfolding countsOf
+  opens-count = ap (λ (x : Counts). x .opens) e ∙ sym (opens-length m)
+
+  pub rows-count : c .rows ≡ length (flatOf m .rows)
+  unfolding countsOf
+  rows-count = ap (λ (x : Counts). x .rows) e ∙ sym (rows-length m)
+
+-- a count has 20 bits
+pub written-small : (m : List ℕ) (i : ℕ) → i < length (flatOf m .opens) → getD (flatOf m .opens) i noOpen .written < 1048576
+unfolding opensOf openAt
+written-small m i h =
+    let e : getD (tab (openAt m) 0 (openCount m)) i noOpen ≡ openAt m (0 + i) = getD-tab (openAt m) 0 (openCount m) i noOpen (omega (arith, opens-length m)) in
+    omega (arith, ap (λ (x : Active). x .written) e)

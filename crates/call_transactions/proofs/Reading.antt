@@ -1,0 +1,76 @@
+-- Read: what it answers by the version that is seen.
+use mathlib.Core.Path.{_≡_, sym, ap, _∙_}
+use mathlib.Core.Option.{Option}
+use mathlib.Core.List.{List, [], _∷_}
+use Prim.Native.Nat.{ℕ, _≤_, _<_}
+use native.Mathlib.Omega.{arith}
+use lib.ListN.{length}
+use lib.Dec.{ltb}
+use borrow.Author.Tests.{lt-ltb, le-ltb}
+use Rattle.basics.specs.Basics.{if_then_else_}
+use Rattle.basics.proofs.Facts.{by}
+use Rattle.rows.specs.Rows.{Row}
+use Rattle.model.specs.State.{Held, Store, Outcome}
+use Rattle.model.specs.Rules.{isCommitting, asCommitted, ripe}
+use Rattle.model.specs.Sight.{seen}
+use Rattle.model.specs.Transactions.{_when_, gives, unless, notOpen, noTable, readSeen, readCall}
+use Rattle.memory_layout.specs.Flat.{Flat, rowIn}
+use Rattle.memory_layout.specs.Store.{storeOf}
+use Rattle.engine_lookup.specs.Lookup.{version, seenAt, Sees, Inside}
+use Rattle.engine_lookup.specs.declared.Seen.{Seen}
+use Rattle.engine_lookup.specs.declared.Seen.the-variants.{At, Nothing}
+use Rattle.call_transactions.proofs.Verdicts.{refused-here, passed-on, unless-none, unless-append}
+use Rattle.model.specs.State as model
+
+ripe-payload : (h : Held) → ripe h .payload ≡ h .tuple .payload
+unfolding ripe asCommitted if_then_else_
+ripe-payload h = by (isCommitting (h .pending)) (λ e. rw e) (λ e. rw e)
+
+version-payload : (f : Flat) (t i : ℕ) → version f t i .1 .payload ≡ rowIn f i .tuple .payload
+unfolding version
+version-payload f t i = ripe-payload (rowIn f i)
+
+-- what read does once the transaction is known to be open
+abbrev pub readAfter : ℕ → ℕ → ℕ → ℕ → Store → Outcome
+readAfter tx t k room s = unless (noTable t ∷ []) s (readSeen room (seen tx t k s) s)
+
+pub read-tests : (tx t k room : ℕ) (s : Store) → readCall tx t k room s ≡ unless (notOpen tx s) s (readAfter tx t k room s)
+unfolding readCall
+read-tests tx t k room s = unless-append (notOpen tx s) (noTable t ∷ []) s (readSeen room (seen tx t k s) s)
+
+module _ (tx t k room : ℕ) (f : Flat) where
+  pub read-10 : 7 < t → readAfter tx t k room (storeOf f) ≡ gives (model.refused 10) (storeOf f)
+  unfolding noTable
+  read-10 h = refused-here 10 (ltb 7 t) [] _ _ (lt-ltb 7 t h)
+
+  module _ (h : t ≤ 7) (r : Seen) (sees : Sees f t r (seen tx t k (storeOf f))) where
+    seen-only : readAfter tx t k room (storeOf f) ≡ readSeen room (seenAt f t r) (storeOf f)
+    unfolding noTable
+    seen-only = passed-on 10 (ltb 7 t) [] _ _ (le-ltb 7 t h) ∙ unless-none _ _ ∙ ap (λ (o : Option Row). readSeen room o (storeOf f)) (sym (sees .means))
+
+    pub read-14 : r ≡ Nothing → readAfter tx t k room (storeOf f) ≡ gives (model.refused 14) (storeOf f)
+    unfolding seenAt readSeen
+    read-14 e = seen-only ∙ ap (λ (z : Seen). readSeen room (seenAt f t z) (storeOf f)) e
+
+    module _ (i : ℕ) (e : r ≡ At i) where
+      pub seen-in : i < length (f .rows)
+      unfolding Inside
+      seen-in = rw e at (sees .inside)
+
+      abbrev bytes : List ℕ
+      bytes = rowIn f i .tuple .payload
+
+      at-version : readAfter tx t k room (storeOf f) ≡ unless (21 when ltb room (length bytes) ∷ []) (storeOf f) (gives (model.filled (length bytes) bytes) (storeOf f))
+      unfolding seenAt readSeen
+      at-version =
+          seen-only ∙ ap (λ (z : Seen). readSeen room (seenAt f t z) (storeOf f)) e
+          ∙ ap (λ (z : List ℕ). unless (21 when ltb room (length z) ∷ []) (storeOf f) (gives (model.filled (length z) z) (storeOf f))) (version-payload f t i)
+
+      pub read-21 : room < length (rowIn f i .tuple .payload) → readAfter tx t k room (storeOf f) ≡ gives (model.refused 21) (storeOf f)
+      read-21 l = at-version ∙ refused-here 21 (ltb room (length bytes)) [] _ _ (lt-ltb _ _ l)
+
+      pub read-done : (n : ℕ) → n ≡ length (rowIn f i .tuple .payload) → n ≤ room
+          → readAfter tx t k room (storeOf f) ≡ gives (model.filled n (rowIn f i .tuple .payload)) (storeOf f)
+      read-done n q l =
+          let b : length bytes ≤ room = omega (arith, q, l) in
+          at-version ∙ passed-on 21 (ltb room (length bytes)) [] _ _ (le-ltb room (length bytes) b) ∙ unless-none _ _ ∙ ap (λ (z : ℕ). gives (model.filled z bytes) (storeOf f)) (sym q)

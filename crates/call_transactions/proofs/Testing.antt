@@ -1,0 +1,240 @@
+-- The tests of insert, replace and delete: those that look at no tuple, and those by a look at the key; what is known once none holds.
+use mathlib.Core.Path.{_≡_, refl, sym, ap, _∙_}
+use mathlib.Core.Bool.{Bool, true, false, not}
+use mathlib.Core.Option.{Option}
+use mathlib.Core.List.{List, [], _∷_, _++_}
+use mathlib.Core.Logic.{⊎-elim}
+use Prim.Native.Nat.{ℕ, _≤_, _<_}
+use native.Mathlib.Omega.{arith}
+use lib.ListN.{length}
+use lib.Dec.{leb, ltb, eqb}
+use borrow.Author.Tests.{lt-ltb, le-ltb, le-leb, lt-leb, eq-eqb, ne-eqb, eqb-false, ltb-false}
+use Rattle.basics.specs.Basics.{if_then_else_, any, isSome, isIn}
+use Rattle.basics.proofs.Facts.{by, lie}
+use Rattle.blocks.specs.Limits.{payloadLimit}
+use Rattle.rows.specs.Rows.{Row}
+use Rattle.model.specs.State.{Store}
+use Rattle.model.specs.Sight.{held, versions}
+use Rattle.model.specs.Transactions.{Test, _when_, notOpen, noTable, foreign, present, unseen, full, openNumbers}
+use Rattle.model.proofs.Lists.{leb-false, not-false}
+use Rattle.memory_bytes.proofs.Columns.{lt-or-ge}
+use Rattle.memory_layout.specs.Flat.{Flat, flatOf}
+use Rattle.memory_layout.specs.Store.{holdsStore, storeOf, storeIn, pagesIn}
+use Rattle.memory_layout.specs.Opens.{findOpen}
+use Rattle.memory_layout.proofs.Laws.{holds-room, filled}
+use Rattle.memory_layout.proofs.Runs.{held-count}
+use Rattle.memory_pages.specs.Spots.{placeIn}
+use Rattle.engine_lookup.specs.Lookup.{Shows, seenAt, picked}
+use Rattle.engine_lookup.specs.declared.Look.{Look}
+use Rattle.engine_lookup.specs.declared.Seen.{Seen}
+use Rattle.engine_lookup.specs.declared.Seen.the-variants.{At, Nothing}
+use Rattle.engine_lookup.proofs.Picking.{look-sees}
+use Rattle.call_transactions.specs.Refusals.{verdict, verdictIn, callTests, unknown, keyTest, keyTests}
+use Rattle.call_transactions.specs.Calls.{AcceptAt}
+use Rattle.call_transactions.proofs.Opens.{not-found-open}
+use Rattle.call_transactions.proofs.Verdicts.{Numbered, stop-here, go-on, verdict-none, verdict-append, verdict-first, verdict-4, verdict-in, passed-held, passed-tests, open-numbered}
+
+-- ---- 4, 6, 7, 10, 11
+
+-- the tests behind those of an open transaction
+abbrev ownTests : ℕ → ℕ → List Test
+ownTests t n = noTable t ∷ 11 when ltb payloadLimit n ∷ []
+
+tests-are : (tx t n : ℕ) (s : Store) → callTests tx t n s ≡ notOpen tx s ++ ownTests t n
+unfolding callTests
+tests-are tx t n s = refl
+
+module _ (tx t n : ℕ) (m : List ℕ) (v : ℕ) (ev : v ≡ verdictIn (storeIn m) (notOpen tx)) where
+  abbrev S : Store
+  S = storeOf (flatOf m)
+
+  pub call-stopped : (v ≡ 0 → ⊥) → v ≡ verdictIn (storeIn m) (callTests tx t n)
+  call-stopped nz =
+      by (holdsStore m)
+      (λ h. let e1 : v ≡ verdict (notOpen tx S) = ev ∙ verdict-in m (notOpen tx) h in
+      e1 ∙ sym (verdict-in m (callTests tx t n) h ∙ ap verdict (tests-are tx t n S) ∙ verdict-first (notOpen tx S) (ownTests t n) (λ z. nz (e1 ∙ z))))
+      (λ h. ev ∙ verdict-4 m (notOpen tx) h ∙ sym (verdict-4 m (callTests tx t n) h))
+
+  module _ (z : v ≡ 0) where
+    rest-is : verdictIn (storeIn m) (callTests tx t n) ≡ verdict (ownTests t n)
+    rest-is =
+        verdict-in m (callTests tx t n) (passed-held m (notOpen tx) v ev z) ∙ ap verdict (tests-are tx t n S)
+        ∙ verdict-append (notOpen tx S) (ownTests t n) (passed-tests m (notOpen tx) v ev z) (open-numbered tx S)
+
+    pub call-10 : 7 < t → 10 ≡ verdictIn (storeIn m) (callTests tx t n)
+    unfolding noTable
+    call-10 h = sym (rest-is ∙ stop-here 10 (ltb 7 t) _ (lt-ltb 7 t h))
+
+    module _ (h10 : t ≤ 7) where
+      past-10 : verdictIn (storeIn m) (callTests tx t n) ≡ verdict (11 when ltb payloadLimit n ∷ [])
+      unfolding noTable
+      past-10 = rest-is ∙ go-on 10 (ltb 7 t) _ (le-ltb 7 t h10)
+
+      pub call-11 : payloadLimit < n → 11 ≡ verdictIn (storeIn m) (callTests tx t n)
+      call-11 h = sym (past-10 ∙ stop-here 11 (ltb payloadLimit n) _ (lt-ltb payloadLimit n h))
+
+      pub call-passed : n ≤ payloadLimit → 0 ≡ verdictIn (storeIn m) (callTests tx t n)
+      call-passed h = sym (past-10 ∙ go-on 11 (ltb payloadLimit n) _ (le-ltb payloadLimit n h) ∙ verdict-none)
+
+-- ---- 15, 16
+
+module _ (m : List ℕ) (there : holdsStore m ≡ true) where
+  abbrev f : Flat
+  f = flatOf m
+
+  held-rows : length (held (storeOf f .pages)) ≡ length (f .rows)
+  unfolding storeOf
+  held-rows = held-count f (filled m (holds-room m there))
+
+  cap-is : storeOf f .capacity ≡ f .head .capacity
+  unfolding storeOf
+  cap-is = refl
+
+  next-is : storeOf f .next ≡ f .head .next
+  unfolding storeOf
+  next-is = refl
+
+  pub full-15 : f .head .capacity ≤ length (f .rows) → 15 ≡ verdict (full (storeOf f))
+  unfolding full
+  full-15 h = sym (stop-here 15 _ _ (le-leb (storeOf f .capacity) (length (held (storeOf f .pages))) (omega (arith, h, held-rows, cap-is))))
+
+  module _ (h : length (f .rows) < f .head .capacity) where
+    free : leb (storeOf f .capacity) (length (held (storeOf f .pages))) ≡ false
+    free = lt-leb (storeOf f .capacity) (length (held (storeOf f .pages))) (omega (arith, h, held-rows, cap-is))
+
+    pub full-16 : f .head .next ≡ 4294967295 → 16 ≡ verdict (full (storeOf f))
+    unfolding full
+    full-16 e = sym (go-on 15 _ _ free ∙ stop-here 16 _ _ (eq-eqb _ _ (next-is ∙ e)))
+
+    pub full-none : (f .head .next ≡ 4294967295 → ⊥) → 0 ≡ verdict (full (storeOf f))
+    unfolding full
+    full-none e = sym (go-on 15 _ _ free ∙ go-on 16 _ _ (ne-eqb _ _ (λ q. e (sym next-is ∙ q))) ∙ verdict-none)
+
+-- ---- 12, 13, 14
+
+module _ (f : Flat) (l : Look) where
+  pub key-12 : (new : Bool) → l .foreign ≡ true → 12 ≡ verdict (keyTests new f l)
+  unfolding keyTests
+  key-12 new e = sym (stop-here 12 _ _ e)
+
+  module _ (e12 : l .foreign ≡ false) where
+    past-12 : (new : Bool) → verdict (keyTests new f l) ≡ verdict (keyTest new f l ∷ full (storeOf f))
+    unfolding keyTests
+    past-12 new = go-on 12 _ _ e12
+
+    pub key-13 : (new : Bool) → new ≡ true → l .any ≡ true → 13 ≡ verdict (keyTests new f l)
+    unfolding keyTest
+    key-13 new en e = sym (past-12 new ∙ ap (λ (b : Bool). verdict (keyTest b f l ∷ full (storeOf f))) en ∙ stop-here 13 _ _ e)
+
+    pub key-new : (new : Bool) → new ≡ true → l .any ≡ false → verdict (full (storeOf f)) ≡ verdict (keyTests new f l)
+    unfolding keyTest
+    key-new new en e = sym (past-12 new ∙ ap (λ (b : Bool). verdict (keyTest b f l ∷ full (storeOf f))) en ∙ go-on 13 _ _ e)
+
+    module _ (new : Bool) (en : new ≡ false) (r : Seen) (er : r ≡ picked f l) where
+      by-sight : verdict (keyTests new f l) ≡ verdict (14 when unknown r ∷ full (storeOf f))
+      unfolding keyTest
+      by-sight =
+          past-12 new ∙ ap (λ (b : Bool). verdict (keyTest b f l ∷ full (storeOf f))) en
+          ∙ ap (λ (z : Seen). verdict (14 when unknown z ∷ full (storeOf f))) (sym er)
+
+      pub key-14 : r ≡ Nothing → 14 ≡ verdict (keyTests new f l)
+      unfolding unknown
+      key-14 q = sym (by-sight ∙ stop-here 14 (unknown r) _ (ap unknown q))
+
+      pub key-seen : (i : ℕ) → r ≡ At i → verdict (full (storeOf f)) ≡ verdict (keyTests new f l)
+      unfolding unknown
+      key-seen i q = sym (by-sight ∙ go-on 14 (unknown r) _ (ap unknown q))
+
+-- ---- by the model's words
+
+-- the tests of a write that look at the tuples
+unfoldable pub laterTests : Bool → ℕ → ℕ → ℕ → Store → List Test
+laterTests new tx t k s = foreign tx t k s ∷ (if new then present t k s else unseen tx t k s) ∷ full s
+
+unknown-is : (f : Flat) (t : ℕ) (r : Seen) → unknown r ≡ not (isSome (seenAt f t r))
+unfolding unknown seenAt isSome
+unknown-is f t (At i) = refl
+unknown-is f t Nothing = refl
+
+module _ (f : Flat) (t tx k : ℕ) (l : Look) (shown : Shows f t tx (versions t k (pagesIn f)) l) where
+  foreign-is : 12 when l .foreign ≡ foreign tx t k (storeOf f)
+  unfolding foreign storeOf
+  foreign-is = ap (λ (b : Bool). 12 when b) (shown .others)
+
+  key-test-is : (new : Bool) → keyTest new f l ≡ (if new then present t k (storeOf f) else unseen tx t k (storeOf f))
+  unfolding keyTest present unseen storeOf if_then_else_
+  key-test-is true = ap (λ (b : Bool). 13 when b) (shown .there)
+  key-test-is false =
+      ap (λ (b : Bool). 14 when b) (unknown-is f t (picked f l) ∙ ap (λ (o : Option Row). not (isSome o)) (look-sees f t tx k l (picked f l) shown refl .means))
+
+  pub key-tests-are : (new : Bool) → keyTests new f l ≡ laterTests new tx t k (storeOf f)
+  unfolding keyTests laterTests
+  key-tests-are new = λ i. foreign-is i ∷ key-test-is new i ∷ full (storeOf f)
+
+pub later-numbered : (new : Bool) (tx t k : ℕ) (s : Store) → Numbered (laterTests new tx t k s)
+unfolding laterTests foreign present unseen full if_then_else_
+later-numbered true tx t k s = (omega arith, (omega arith, (omega arith, (omega arith, tt))))
+later-numbered false tx t k s = (omega arith, (omega arith, (omega arith, (omega arith, tt))))
+
+pub call-numbered : (tx t n : ℕ) (s : Store) → Numbered (callTests tx t n s)
+unfolding callTests notOpen noTable
+call-numbered tx t n s = (omega arith, (omega arith, (omega arith, (omega arith, tt))))
+
+-- ---- none holds
+
+pass-one : (n : ℕ) (b : Bool) (ts : List Test) → 0 < n → verdict (n when b ∷ ts) ≡ 0 → (b ≡ false) × (verdict ts ≡ 0)
+pass-one n b ts p e = by b (λ h. absurd (omega (arith, p, e, stop-here n b ts h))) (λ h. (h, sym (go-on n b ts h) ∙ e))
+
+pass-key : (new : Bool) (f : Flat) (l : Look) → verdict (keyTests new f l) ≡ 0 → verdict (full (storeOf f)) ≡ 0
+unfolding keyTests keyTest
+pass-key true f l e = pass-one 13 _ _ (omega arith) (pass-one 12 _ _ (omega arith) e .1) .1
+pass-key false f l e = pass-one 14 _ _ (omega arith) (pass-one 12 _ _ (omega arith) e .1) .1
+
+is-open : (tx : ℕ) (f : Flat) → not (isIn tx (openNumbers (storeOf f .active))) ≡ false → findOpen tx (f .opens) < length (f .opens)
+unfolding storeOf
+is-open tx f e =
+    ⊎-elim (λ h. h) (λ h. lie (sym (not-found-open tx (f .opens) h) ∙ not-false (isIn tx (openNumbers (f .opens))) e)) (lt-or-ge (findOpen tx (f .opens)) (length (f .opens)))
+
+-- what the first tests have shown
+pub record Called (m : List ℕ) (tx t n : ℕ) : Type 0 where
+  pub there : holdsStore m ≡ true
+  pub opened : findOpen tx (flatOf m .opens) < length (flatOf m .opens)
+  pub transaction : tx ≤ 4095
+  pub table : t < 8
+  pub short : n ≤ payloadLimit
+
+pub called : {tx t n : ℕ} {m : List ℕ} {v : ℕ} → v ≡ verdictIn (storeIn m) (callTests tx t n) → v ≡ 0 → Called m tx t n
+unfolding callTests notOpen noTable
+called {tx} {t} {n} {m} {v} ev z =
+    let s : Store = storeOf (flatOf m) in
+    let p6 = pass-one 6 (ltb 4095 tx) _ (omega arith) (passed-tests m (callTests tx t n) v ev z) in
+    let p7 = pass-one 7 (not (isIn tx (openNumbers (s .active)))) _ (omega arith) (p6 .1) in
+    let p10 = pass-one 10 (ltb 7 t) _ (omega arith) (p7 .1) in
+    let p11 = pass-one 11 (ltb payloadLimit n) _ (omega arith) (p10 .1) in
+    record {
+      there = passed-held m (callTests tx t n) v ev z;
+      opened = is-open tx (flatOf m) (p7 .0);
+      transaction = ltb-false 4095 tx (p6 .0);
+      table = omega (arith, ltb-false 7 t (p10 .0));
+      short = ltb-false payloadLimit n (p11 .0);
+    }
+
+-- and the others
+pub accepts : {m : List ℕ} {tx t at k : ℕ} {bs : List ℕ} (new : Bool) (l : Look) → Called m tx t (length bs) → verdict (keyTests new (flatOf m) l) ≡ 0
+    → at ≡ placeIn (flatOf m) t k → AcceptAt m tx t at k bs
+unfolding full
+accepts {m} new l c e p =
+    let s : Store = storeOf (flatOf m) in
+    let there : holdsStore m ≡ true = c .there in
+    let p15 = pass-one 15 (leb (s .capacity) (length (held (s .pages)))) _ (omega arith) (pass-key new (flatOf m) l e) in
+    let p16 = pass-one 16 (eqb (s .next) 4294967295) [] (omega arith) (p15 .1) in
+    record {
+      held = there;
+      opened = c .opened;
+      transaction = c .transaction;
+      table = c .table;
+      short = c .short;
+      free = omega (arith, leb-false (s .capacity) (length (held (s .pages))) (p15 .0), held-rows m there, cap-is m there);
+      next = λ q. eqb-false (s .next) 4294967295 (p16 .0) (next-is m there ∙ q);
+      place = p;
+    }

@@ -1,0 +1,27 @@
+-- `call_transactions::call_refusal` meets its contract.
+use borrow.Author.Needs.{needs}
+use Rattle.call_transactions.proofs.Testing.{call-stopped, call-10, call-11, call-passed}
+use Rattle.call_transactions.proofs.call_refusal.Statement.{statement}
+use Rattle.call_transactions.proofs.call_refusal.Tie as tie
+
+not-open-requires : tie.Need-not-open-requires
+not-open-requires c κs = search needs
+
+returns : tie.Need-returns
+returns c = let a = c .before .before .before .args in
+    call-stopped (a .transaction) (a .table) (a .len) (a .m .now) _ (c .before .not-open .ensures) (c .if1 .taken)
+
+returns-2 : tie.Need-returns-2
+returns-2 c = let a = c .before .before .before .before .args in
+    call-10 (a .transaction) (a .table) (a .len) (a .m .now) _ (c .before .before .not-open .ensures) (c .before .if1 .left) (c .if2 .taken)
+
+returns-3 : tie.Need-returns-3
+returns-3 c = let a = c .before .before .before .before .before .args in
+    call-11 (a .transaction) (a .table) (a .len) (a .m .now) _ (c .before .before .before .not-open .ensures) (c .before .before .if1 .left) (c .before .if2 .left) (c .if3 .taken)
+
+returns-4 : tie.Need-returns-4
+returns-4 c = let a = c .before .before .before .before .before .args in
+    call-passed (a .transaction) (a .table) (a .len) (a .m .now) _ (c .before .before .before .not-open .ensures) (c .before .before .if1 .left) (c .before .if2 .left) (c .if3 .left)
+
+pub call-refusal-spec : {M : Type 1} → statement M
+call-refusal-spec = tie.close (tie.spec not-open-requires returns returns-2 returns-3 returns-4)

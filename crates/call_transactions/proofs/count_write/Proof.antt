@@ -1,0 +1,60 @@
+-- `call_transactions::count_write` meets its contract.
+use mathlib.Core.Path.{_≡_, sym, ap, _∙_}
+use native.Mathlib.Omega.{arith}
+use borrow.Author.Needs.{needs}
+use Rattle.memory_layout.specs.declared.Head.{Head}
+use Rattle.call_transactions.specs.Calls.{oneMore}
+use Rattle.call_transactions.proofs.Writing.{read-fits, next-replaces, same-opens, counted}
+use Rattle.call_transactions.proofs.count_write.Statement.{statement}
+use Rattle.call_transactions.proofs.count_write.Tie as tie
+
+get-head-requires : tie.Need-get-head-requires
+get-head-requires c κs = search needs
+
+add-h : tie.Need-add-h
+add-h c = let st = c .before .before .before .before in
+    let e = ap (λ (x : Head). x .next) (c .before .get-head .ensures) in
+    let ne : c .before .get-head .result .next ≡ 4294967295 → ⊥ = λ q. st .pre .next (sym e ∙ q) in
+    omega (arith, ne)
+
+get-open-requires : tie.Need-get-open-requires
+get-open-requires c κs = search needs
+
+one-more-requires : tie.Need-one-more-requires
+one-more-requires c κs = read-fits (c .before .before .before .before .before .before .pre) (c .get-open .ensures)
+
+put-head-requires : tie.Need-put-head-requires
+put-head-requires c κs =
+    let h = c .before .before .before .before .before in
+    let st = h .before .before .before in
+    (st .pre .room, next-replaces (st .pre .room) (h .get-head .ensures))
+
+put-open-requires : tie.Need-put-open-requires
+put-open-requires c κs =
+    let h = c .before .before .before in
+    let st = h .before .before .before .before .before .before .before .before .before in
+    (h .put-head .ensures .room, (omega (arith, st .pre .inside, same-opens (h .put-head .ensures)), h .before .before .one-more .ensures .1))
+
+same-length : tie.Need-same-length
+same-length c = search needs
+
+returns : tie.Need-returns
+returns c =
+    let o = c .before .before .before .before .before .before .before .before in
+    let h = o .before .before .before .before in
+    let st = h .before .before .before in
+    let more = o .one-more .ensures .0 ∙ ap oneMore (o .before .get-open .ensures) in
+    counted (st .args .i) (h .get-head .ensures) more (c .before .before .before .before .before .before .put-head .ensures) (c .before .before .put-open .ensures)
+
+pub count-write-spec : {M : Type 1} → statement M
+count-write-spec =
+    tie.close
+    (tie.spec
+    get-head-requires
+    add-h
+    get-open-requires
+    one-more-requires
+    put-head-requires
+    put-open-requires
+    same-length
+    returns)

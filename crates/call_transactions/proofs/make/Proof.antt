@@ -1,0 +1,78 @@
+-- `call_transactions::make` meets its contract.
+use mathlib.Core.Path.{refl}
+use Prim.Native.Nat.{ℕ, _/_}
+use native.Mathlib.Omega.{arith}
+use lib.ListN.{length}
+use borrow.Author.Needs.{needs}
+use Rattle.model.specs.Recover.{freshStore}
+use Rattle.call_transactions.proofs.Making.{Fits, made-refused, made-done, make-refused, make-fits, make-accepts, image-made}
+use Rattle.call_transactions.proofs.make.Statement.{statement}
+use Rattle.call_transactions.proofs.make.Tie as tie
+
+abbrev began : tie.Else1 → tie.Start
+began c = c .before .before .before .before
+
+-- the tests are passed
+fits : (c : tie.Else1) → let a = began c .args in Fits (length (a .image .now)) (length (a .m .now)) (a .capacity)
+fits c = let a = began c .args in make-fits (length (a .image .now)) (length (a .m .now)) (a .capacity) _ (c .before .make-refusal .ensures) (c .if1 .left)
+
+make-refusal-requires : tie.Need-make-refusal-requires
+make-refusal-requires c κs = search needs
+
+returns : tie.Need-returns
+returns c = let a = c .before .before .before .before .args in
+    made-refused (a .capacity) (a .image .now) (a .m .now) _
+    (make-refused (length (a .image .now)) (length (a .m .now)) (a .capacity) _ (c .before .make-refusal .ensures) (c .if1 .taken))
+
+cast-b : tie.Need-cast-b
+cast-b c = omega (arith, fits c .room .many)
+
+cast-c : tie.Need-cast-c
+cast-c c = omega (arith, fits c .room .most)
+
+sub-write-header : tie.Need-sub-write-header
+sub-write-header c = search needs
+
+part-write-header-start : tie.Need-part-write-header-start
+part-write-header-start c = search needs
+
+part-write-header-end : tie.Need-part-write-header-end
+part-write-header-end c = omega (arith, fits c .room .few)
+
+write-header-requires : tie.Need-write-header-requires
+write-header-requires c κs = search needs
+
+fresh-requires : tie.Need-fresh-requires
+fresh-requires c κs = fits (c .before .before .before .before .before) .room
+
+same-length : tie.Need-same-length
+same-length c = search needs
+
+same-length-2 : tie.Need-same-length-2
+same-length-2 c = search needs
+
+returns-2 : tie.Need-returns-2
+returns-2 c = let b6 = c .before .before .before .before .before .before in
+    let passed = b6 .before .before in
+    let a = began passed .args in
+    let b : ℕ = length (a .image .now) / 512 in
+    let f = c .before .before .fresh .ensures in
+    made-done (a .capacity) (a .image .now) (a .m .now) (freshStore b (a .capacity)) _ _ (make-accepts (fits passed))
+    (image-made (a .image .now) _ b (a .capacity) _ refl refl (b6 .write-header .ensures)) (record { size = f .0 .size; store = f .1 })
+
+pub make-spec : {M : Type 1} → statement M
+make-spec =
+    tie.close
+    (tie.spec
+    make-refusal-requires
+    returns
+    cast-b
+    cast-c
+    sub-write-header
+    part-write-header-start
+    part-write-header-end
+    write-header-requires
+    fresh-requires
+    same-length
+    same-length-2
+    returns-2)

@@ -1,0 +1,30 @@
+-- `call_transactions::next_row` meets its contract.
+use mathlib.Core.Path.{refl, ap}
+use borrow.Author.Needs.{needs}
+use Rattle.blocks.specs.Tuple.{tentative}
+use Rattle.model.specs.State.{Active}
+use Rattle.memory_layout.specs.declared.Head.{Head}
+use Rattle.call_transactions.proofs.Writing.{read-fits}
+use Rattle.call_transactions.proofs.next_row.Statement.{statement}
+use Rattle.call_transactions.proofs.next_row.Tie as tie
+
+get-head-requires : tie.Need-get-head-requires
+get-head-requires c κs = search needs
+
+get-open-requires : tie.Need-get-open-requires
+get-open-requires c κs = search needs
+
+returns : tie.Need-returns
+returns c =
+    let fit = read-fits (c .before .before .before .pre) (c .get-open .ensures) in
+    record {
+      key = refl;
+      number = ap (λ (x : Head). x .next) (c .before .get-head .ensures);
+      owner = ap (λ (x : Active). tentative (x .transaction) (x .written)) (c .get-open .ensures);
+      marked = refl;
+      pending = refl;
+      fits = (fit .transaction, fit .written);
+    }
+
+pub next-row-spec : {M : Type 1} → statement M
+next-row-spec = tie.close (tie.spec get-head-requires get-open-requires returns)

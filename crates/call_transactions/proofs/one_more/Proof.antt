@@ -1,0 +1,21 @@
+-- `call_transactions::one_more` meets its contract.
+use native.Mathlib.Omega.{arith}
+use borrow.Author.Needs.{needs}
+use Rattle.call_transactions.proofs.Writing.{more-one, more-full}
+use Rattle.call_transactions.proofs.one_more.Statement.{statement}
+use Rattle.call_transactions.proofs.one_more.Tie as tie
+
+add-t3 : tie.Need-add-t3
+add-t3 c = search needs
+
+returns : tie.Need-returns
+returns c = let e = c .before in
+    let st = e .before .before in
+    (more-one (st .args .o) (e .if1 .taken), record { transaction = st .pre .transaction; written = omega (arith, e .if1 .taken) })
+
+returns-2 : tie.Need-returns-2
+returns-2 c = let st = c .before .before in
+    (more-full (st .args .o) (st .pre) (c .if1 .left), st .pre)
+
+pub one-more-spec : {M : Type 1} → statement M
+one-more-spec = tie.close (tie.spec add-t3 returns returns-2)

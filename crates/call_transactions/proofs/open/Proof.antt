@@ -1,0 +1,112 @@
+-- `call_transactions::open` meets its contract.
+use mathlib.Core.Bool.{true}
+use mathlib.Core.Path.{_≡_, sym, _∙_}
+use Prim.Native.Nat.{_≤_, _<_}
+use native.Mathlib.Omega.{arith}
+use lib.ListN.{length}
+use borrow.Author.Needs.{needs}
+use borrow.Author.Tests.{not-true, not-false}
+use Rattle.memory_layout.specs.Flat.{Flat, flatOf}
+use Rattle.memory_layout.specs.Opens.{findOpen}
+use Rattle.memory_layout.specs.Store.{holdsStore}
+use Rattle.memory_layout.proofs.Laws.{holds-room}
+use Rattle.contracts.proofs.Answering.{answers-4, answers-refused, answers-done}
+use Rattle.call_transactions.proofs.Opening.{open-6, open-8, open-9, open-done, opens-hold}
+use Rattle.call_transactions.proofs.open.Statement.{statement}
+use Rattle.call_transactions.proofs.open.Tie as tie
+
+abbrev start : tie.Else1 → tie.Start
+start c = c .before .before .before .before
+
+-- the memory holds a store
+stored : (c : tie.Else1) → holdsStore (start c .args .m .now) ≡ true
+stored c = sym (c .before .holds-store .ensures) ∙ not-false _ (c .if1 .left)
+
+holds-store-requires : tie.Need-holds-store-requires
+holds-store-requires c κs = search needs
+
+same-length : tie.Need-same-length
+same-length c = search needs
+
+returns : tie.Need-returns
+returns c = answers-4 _ (c .before .before .before .before .args .m .now) (sym (c .before .holds-store .ensures) ∙ not-true _ (c .if1 .taken))
+
+same-length-2 : tie.Need-same-length-2
+same-length-2 c = search needs
+
+returns-2 : tie.Need-returns-2
+returns-2 c = let e1 = c .before in
+    let a = start e1 .args in
+    answers-refused _ (a .m .now) 6 (stored e1) (open-6 (a .transaction) (flatOf (a .m .now)) (c .if2 .taken))
+
+open-count-requires : tie.Need-open-count-requires
+open-count-requires c κs = holds-room _ (stored (c .before .before))
+
+find-open-requires : tie.Need-find-open-requires
+find-open-requires c κs = holds-room _ (stored (c .before .before .before .before))
+
+same-length-3 : tie.Need-same-length-3
+same-length-3 c = search needs
+
+returns-3 : tie.Need-returns-3
+returns-3 c = let e2 = c .before .before .before .before .before in
+    let a = start (e2 .before) .args in
+    answers-refused _ (a .m .now) 8 (stored (e2 .before))
+    (open-8 (a .transaction) (flatOf (a .m .now)) (e2 .if2 .left) (omega (arith, c .before .before .before .open-count .ensures, c .before .find-open .ensures, c .if3 .taken)))
+
+same-length-4 : tie.Need-same-length-4
+same-length-4 c = search needs
+
+returns-4 : tie.Need-returns-4
+returns-4 c = let e2 = c .before .before .before .before .before .before in
+    let a = start (e2 .before) .args in
+    let en = c .before .before .before .before .open-count .ensures in
+    answers-refused _ (a .m .now) 9 (stored (e2 .before))
+    (open-9 (a .transaction) (flatOf (a .m .now)) (e2 .if2 .left) (omega (arith, en, c .before .before .find-open .ensures, c .before .if3 .left)) (omega (arith, en, c .if4 .taken)))
+
+cast-t14 : tie.Need-cast-t14
+cast-t14 c = search needs
+
+push-open-requires : tie.Need-push-open-requires
+push-open-requires c κs = let e2 = c .before .before .before .before .before .before .before in (
+  holds-room _ (stored (e2 .before)),
+  (
+    omega (arith, c .before .before .before .before .before .open-count .ensures, c .before .if4 .left),
+    record { transaction = omega (arith, e2 .if2 .left); written = omega arith },
+  ),
+)
+
+same-length-5 : tie.Need-same-length-5
+same-length-5 c = search needs
+
+returns-5 : tie.Need-returns-5
+returns-5 c = let e2 = c .before .before .before .before .before .before .before .before .before .before in
+    let a = start (e2 .before) .args in
+    let f : Flat = flatOf (a .m .now) in
+    let looked = c .before .before .before .before .before in
+    let en = looked .before .before .before .open-count .ensures in
+    let few : length (f .opens) < 64 = omega (arith, en, c .before .before .before .before .if4 .left) in
+    let new : length (f .opens) ≤ findOpen (a .transaction) (f .opens) = omega (arith, en, looked .before .find-open .ensures, looked .if3 .left) in
+    answers-done _ (a .m .now) _ _ (stored (e2 .before))
+    (open-done (a .transaction) f (e2 .if2 .left) new few)
+    (opens-hold (a .m .now) _ _ (stored (e2 .before)) (c .before .before .push-open .ensures))
+
+pub open-spec : {M : Type 1} → statement M
+open-spec =
+    tie.close
+    (tie.spec
+    holds-store-requires
+    same-length
+    returns
+    same-length-2
+    returns-2
+    open-count-requires
+    find-open-requires
+    same-length-3
+    returns-3
+    same-length-4
+    returns-4
+    cast-t14
+    push-open-requires
+    same-length-5
+    returns-5)

@@ -1,0 +1,125 @@
+-- `call_transactions::read` meets its contract.
+use mathlib.Core.Bool.{true}
+use mathlib.Core.List.{List, _++_}
+use mathlib.Core.Path.{_≡_, ap, _∙_}
+use Prim.Native.Nat.{ℕ}
+use native.Mathlib.Omega.{arith}
+use lib.ListN.{length, drop}
+use borrow.Author.Needs.{needs}
+use Rattle.model.specs.Transactions.{notOpen, readCall}
+use Rattle.memory_layout.specs.Flat.{flatOf, rowIn}
+use Rattle.memory_layout.specs.Store.{holdsStore, storeOf}
+use Rattle.memory_layout.proofs.Laws.{holds-room}
+use Rattle.contracts.proofs.Answering.{replies-refused, replies-filled}
+use Rattle.call_transactions.proofs.Reading.{readAfter, read-tests, read-10, read-14, seen-in, read-21, read-done}
+use Rattle.call_transactions.proofs.Verdicts.{passed-held, call-after, replies-stopped, open-numbered}
+use Rattle.call_transactions.proofs.read.Statement.{statement}
+use Rattle.call_transactions.proofs.read.Tie as tie
+
+abbrev start : tie.Else1 → tie.Start
+start c = c .before .before .before .before
+
+-- the transaction is open: the memory holds a store, and the call goes on
+stored : (c : tie.Else1) → holdsStore (start c .args .m .now) ≡ true
+stored c = let a = start c .args in passed-held (a .m .now) (notOpen (a .transaction)) _ (c .before .not-open .ensures) (c .if1 .left)
+
+opened : (c : tie.Else1) → let a = start c .args in
+    readCall (a .transaction) (a .table) (a .key) (length (a .reply .now)) (storeOf (flatOf (a .m .now)))
+    ≡ readAfter (a .transaction) (a .table) (a .key) (length (a .reply .now)) (storeOf (flatOf (a .m .now)))
+opened c =
+    let a = start c .args in
+    let n : ℕ = length (a .reply .now) in
+    call-after (a .m .now) (notOpen (a .transaction)) _ (c .before .not-open .ensures) (readCall (a .transaction) (a .table) (a .key) n)
+    (readAfter (a .transaction) (a .table) (a .key) n) (read-tests (a .transaction) (a .table) (a .key) n) (open-numbered (a .transaction)) (c .if1 .left)
+
+not-open-requires : tie.Need-not-open-requires
+not-open-requires c κs = search needs
+
+returns : tie.Need-returns
+returns c = let a = c .before .before .before .before .args in
+    let p : List ℕ = a .reply .now in
+    replies-stopped (a .m .now) (notOpen (a .transaction)) _ (c .before .not-open .ensures) _
+    (readAfter (a .transaction) (a .table) (a .key) (length p)) (read-tests (a .transaction) (a .table) (a .key) (length p)) (c .if1 .taken) p
+
+returns-2 : tie.Need-returns-2
+returns-2 c = let e1 = c .before in
+    let a = start e1 .args in
+    replies-refused _ (a .m .now) (a .reply .now) 10 (stored e1) (opened e1 ∙ read-10 (a .transaction) (a .table) (a .key) (length (a .reply .now)) (flatOf (a .m .now)) (c .if2 .taken))
+
+cast-t : tie.Need-cast-t
+cast-t c = search needs
+
+seen-by-requires : tie.Need-seen-by-requires
+seen-by-requires c κs = (stored (c .before), omega (arith, c .if2 .left))
+
+enum-known-i : tie.Need-enum-known-i
+enum-known-i c = search needs
+
+enum-told : tie.Need-enum-told
+enum-told c = search needs
+
+returns-3 : tie.Need-returns-3
+returns-3 c = let s = c .before .before in
+    let e1 = s .before .before in
+    let a = start e1 .args in
+    replies-refused _ (a .m .now) (a .reply .now) 14 (stored e1)
+    (opened e1 ∙ read-14 (a .transaction) (a .table) (a .key) (length (a .reply .now)) (flatOf (a .m .now)) (s .before .if2 .left) _ (s .seen-by .ensures) (c .enum-told .given .1))
+
+payload-at-requires : tie.Need-payload-at-requires
+payload-at-requires c κs = let s = c .before .before .before in
+    let e1 = s .before .before in
+    let a = start e1 .args in
+    (holds-room _ (stored e1), seen-in (a .transaction) (a .table) (a .key) 0 (flatOf (a .m .now)) (s .before .if2 .left) _ (s .seen-by .ensures) _ (c .before .i .given .1))
+
+returns-4 : tie.Need-returns-4
+returns-4 c = let s = c .before .before .before .before .before in
+    let e1 = s .before .before in
+    let a = start e1 .args in
+    let hd = c .before .payload-at .ensures in
+    replies-refused _ (a .m .now) (a .reply .now) 21 (stored e1)
+    (opened e1 ∙ read-21 (a .transaction) (a .table) (a .key) (length (a .reply .now)) (flatOf (a .m .now)) (s .before .if2 .left) _ (s .seen-by .ensures) _ (c .before .before .before .i .given .1)
+    (omega (arith, hd .count, c .if3 .taken)))
+
+copy-payload-requires : tie.Need-copy-payload-requires
+copy-payload-requires c κs = let s = c .before .before .before .before .before .before in
+    let e1 = s .before .before in
+    let a = start e1 .args in
+    let hd = c .before .before .payload-at .ensures in
+    let i = c .before .before .before .before .i .given in
+    let inside = seen-in (a .transaction) (a .table) (a .key) 0 (flatOf (a .m .now)) (s .before .if2 .left) _ (s .seen-by .ensures) _ (i .1) in
+    (holds-room _ (stored e1), (inside, omega (arith, hd .count, c .before .if3 .left)))
+
+same-length : tie.Need-same-length
+same-length c = search needs
+
+returns-5 : tie.Need-returns-5
+returns-5 c = let s = c .before .before .before .before .before .before .before .before .before in
+    let e1 = s .before .before in
+    let a = start e1 .args in
+    let p : List ℕ = a .reply .now in
+    let hd = c .before .before .before .before .before .payload-at .ensures in
+    let cp = c .before .before .copy-payload .ensures in
+    let bs : List ℕ = rowIn (flatOf (a .m .now)) (c .before .before .before .before .before .before .before .i .given .0 .0) .tuple .payload in
+    replies-filled _ (a .m .now) p _ bs _ (stored e1)
+    (opened e1 ∙ read-done (a .transaction) (a .table) (a .key) (length p) (flatOf (a .m .now)) (s .before .if2 .left) _ (s .seen-by .ensures) _
+    (c .before .before .before .before .before .before .before .i .given .1) _ (hd .count)
+    (omega (arith, c .before .before .before .before .if3 .left)))
+    (cp .first ∙ ap (λ (z : ℕ). bs ++ drop z p) (cp .count))
+
+pub read-spec : {M : Type 1} → statement M
+read-spec =
+    tie.close
+    (tie.spec
+    not-open-requires
+    returns
+    returns-2
+    cast-t
+    seen-by-requires
+    enum-known-i
+    enum-told
+    returns-3
+    payload-at-requires
+    returns-4
+    copy-payload-requires
+    same-length
+    returns-5)

@@ -1,0 +1,81 @@
+-- `call_transactions::write` meets its contract.
+use mathlib.Core.Path.{sym, _∙_}
+use native.Mathlib.Omega.{arith}
+use lib.ListN.{length}
+use borrow.Author.Needs.{needs}
+use Rattle.call_transactions.proofs.Called.{call-refused, key-refused, write-done}
+use Rattle.call_transactions.proofs.Testing.{Called, called, accepts}
+use Rattle.call_transactions.proofs.write.Statement.{statement}
+use Rattle.call_transactions.proofs.write.Tie as tie
+
+abbrev start : tie.Else1 → tie.Start
+start c = c .before .before .before .before .before
+
+-- the tests that look at no tuple are passed
+passed : (c : tie.Else1) → let a = start c .args in Called (a .m .now) (a .transaction) (a .table) (length (a .payload .now))
+passed c = called (c .before .call-refusal .ensures) (c .if1 .left)
+
+call-refusal-requires : tie.Need-call-refusal-requires
+call-refusal-requires c κs = search needs
+
+same-length : tie.Need-same-length
+same-length c = search needs
+
+returns : tie.Need-returns
+returns c = let a = c .before .before .before .before .before .args in
+    call-refused (a .new) (a .mark) (a .transaction) (a .table) (a .key) (a .payload .now) (a .m .now) _ (c .before .call-refusal .ensures) (c .if1 .taken)
+
+cast-t : tie.Need-cast-t
+cast-t c = omega (arith, passed c .table)
+
+look-place-requires : tie.Need-look-place-requires
+look-place-requires c κs = (passed (c .before) .there, passed (c .before) .table)
+
+key-refusal-requires : tie.Need-key-refusal-requires
+key-refusal-requires c κs = (passed (c .before .before .before) .there, c .before .look-place .ensures .look .own-in)
+
+same-length-2 : tie.Need-same-length-2
+same-length-2 c = search needs
+
+returns-2 : tie.Need-returns-2
+returns-2 c =
+    let k = c .before in
+    let s = k .before .before in
+    let e1 = s .before .before in
+    let a = start e1 .args in
+    key-refused (a .new) (a .mark) (a .transaction) (a .table) (a .key) (a .payload .now) (a .m .now) _ (e1 .before .call-refusal .ensures) (e1 .if1 .left)
+    _ (s .look-place .ensures .look) _ (k .key-refusal .ensures) (c .if2 .taken)
+
+accept-requires : tie.Need-accept-requires
+accept-requires c κs =
+    let k = c .before .before in
+    let s = k .before .before in
+    accepts _ _ (passed (s .before .before)) (sym (k .key-refusal .ensures) ∙ c .before .if2 .left) (s .look-place .ensures .place)
+
+same-length-3 : tie.Need-same-length-3
+same-length-3 c = search needs
+
+returns-3 : tie.Need-returns-3
+returns-3 c =
+    let k = c .before .before .before .before .before in
+    let s = k .before .before in
+    let e1 = s .before .before in
+    let a = start e1 .args in
+    write-done (a .new) (a .mark) (a .transaction) (a .table) (a .key) (a .payload .now) (a .m .now) _ (e1 .before .call-refusal .ensures) (e1 .if1 .left)
+    _ (s .look-place .ensures .look) _ (k .key-refusal .ensures) (c .before .before .before .before .if2 .left) _ (c .before .before .accept .ensures)
+
+pub write-spec : {M : Type 1} → statement M
+write-spec =
+    tie.close
+    (tie.spec
+    call-refusal-requires
+    same-length
+    returns
+    cast-t
+    look-place-requires
+    key-refusal-requires
+    same-length-2
+    returns-2
+    accept-requires
+    same-length-3
+    returns-3)

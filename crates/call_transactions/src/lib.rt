@@ -1,0 +1,417 @@
+// Make, and the calls of transactions. No call asks anything of its caller: each contract says what the call answers and leaves, for
+// any memory and any arguments, by the model's function.
+use blocks::Header;
+use blocks::PageLayout;
+use contracts::Answer;
+use engine_lookup::Look;
+use engine_lookup::Seen;
+use memory_layout::Open;
+use memory_rows::Owner;
+use memory_rows::Pending;
+use memory_rows::Row;
+ghost use mathlib.Core.Path.{_≡_};
+ghost use mathlib.Core.Bool.{true};
+ghost use mathlib.Core.List.{_++_};
+ghost use Prim.Native.Nat.{_*_, _≤_, _<_};
+ghost use lib.ListN.{length, drop};
+ghost use Rattle.model.specs.Transactions.{openNumbers, notOpen, full, listing, without, openCall, insertCall, replaceCall, deleteCall, commitCall, abortCall, readCall};
+ghost use Rattle.model.specs.Recover.{make};
+ghost use Rattle.memory_layout.specs.Flat.{flatOf, Room, Becomes, withOpens};
+ghost use Rattle.memory_layout.specs.Store.{holdsStore, storeIn, storeOf, HoldsNow};
+ghost use Rattle.memory_layout.specs.Opens.{activeOf, OpenFits};
+ghost use Rattle.contracts.specs.Shape.{Answers, Replies, Lists, Made};
+ghost use Rattle.call_transactions.specs.Refusals.{verdict, verdictIn, callTests, keyTests, makeVerdict};
+ghost use Rattle.call_transactions.specs.Calls.{writeCall, oneMore, WriterAt, NextRow, afterCount, AcceptAt, afterWrite};
+
+// The most blocks, the largest capacity, and the memory that a store takes: so much a row, and the head.
+const BLOCK_SIZE: usize = 512;
+
+const BLOCK_LIMIT: usize = 4096;
+
+const CAPACITY_LIMIT: u64 = 1024;
+
+const ROW_SPACE: usize = 128;
+
+const HEAD_SIZE: usize = 1024;
+
+// The largest number of a transaction and of a table, and how many transactions may be open.
+const TRANSACTION_LIMIT: u64 = 4095;
+
+const TABLE_LIMIT: u64 = 7;
+
+const OPEN_LIMIT: usize = 64;
+
+// The most that a transaction's count of tuples goes to, and the number that no tuple gets.
+const WRITTEN_LIMIT: u32 = 1048575;
+
+const LAST_NUMBER: u32 = 4294967295;
+
+// ---- make
+
+// 1 image, of len bytes, not 2 to 4,096 whole blocks; 2 capacity not 1 to 1,024; 3 memory, of room bytes, too short; else 0.
+fn make_refusal(len: usize, room: usize, capacity: u64) -> u64
+    ensures { λ r. ⌜ r ≡ makeVerdict (make len room capacity) ⌝ }
+{
+    let blocks = len / BLOCK_SIZE;
+    if len % BLOCK_SIZE != 0 {
+        return 1;
+    }
+    if blocks < 2 {
+        return 1;
+    }
+    if BLOCK_LIMIT < blocks {
+        return 1;
+    }
+    if capacity < 1 {
+        return 2;
+    }
+    if CAPACITY_LIMIT < capacity {
+        return 2;
+    }
+    let n = capacity as usize;
+    if room < ROW_SPACE * n + HEAD_SIZE {
+        return 3;
+    }
+    0
+}
+
+// Writes block 0 of the image, and lays an empty store out in the memory.
+pub fn make(image: &mut [u8], m: &mut [u8], capacity: u64) -> Answer
+    ensures { λ r. ⌜ Made capacity (now (image .entry)) (now (m .entry)) r (now (image .exit)) (now (m .exit)) ⌝ }
+{
+    let len = image.len();
+    let v = make_refusal(len, m.len(), capacity);
+    if v != 0 {
+        return Answer::Refused(v);
+    }
+    let b = (len / BLOCK_SIZE) as u32;
+    let c = capacity as u32;
+    let h = Header {
+        blocks: b,
+        capacity: c,
+        level: 0,
+        next: 0,
+        pages: 0,
+        directories: 0,
+        d0: 0,
+        d1: 0,
+        d2: 0,
+        d3: 0,
+    };
+    blocks::write_header(&mut image[0..BLOCK_SIZE], h);
+    memory_layout::fresh(m, b, c);
+    Answer::Done
+}
+
+// ---- open
+
+// How many transactions are open.
+fn open_count(m: &[u8]) -> usize
+    requires { ⌜ Room (now m) ⌝ }
+    ensures { λ r. ⌜ r ≡ length (flatOf (now (m .entry)) .opens) ⌝ }
+{
+    let c = memory_layout::get_counts(m);
+    c.opens as usize
+}
+
+// 4; 6 transaction above 4,095; 7 not open; 0 if it is open.
+fn not_open(m: &[u8], transaction: u64) -> u64
+    ensures { λ r. ⌜ r ≡ verdictIn (storeIn (now (m .entry))) (notOpen transaction) ⌝ }
+{
+    if !memory_layout::holds_store(m) {
+        return 4;
+    }
+    if TRANSACTION_LIMIT < transaction {
+        return 6;
+    }
+    if open_count(m) <= memory_layout::find_open(m, transaction) {
+        return 7;
+    }
+    0
+}
+
+pub fn open(m: &mut [u8], transaction: u64) -> Answer
+    ensures { λ r. ⌜ Answers (openCall transaction) (now (m .entry)) r (now (m .exit)) ⌝ }
+{
+    if !memory_layout::holds_store(m) {
+        return Answer::Refused(4);
+    }
+    if TRANSACTION_LIMIT < transaction {
+        return Answer::Refused(6);
+    }
+    let n = open_count(m);
+    if memory_layout::find_open(m, transaction) < n {
+        return Answer::Refused(8);
+    }
+    if OPEN_LIMIT <= n {
+        return Answer::Refused(9);
+    }
+    let o = Open {
+        transaction: transaction as u32,
+        written: 0,
+    };
+    memory_layout::push_open(m, o);
+    Answer::Done
+}
+
+// ---- read, list
+
+pub fn read(m: &[u8], transaction: u64, table: u64, key: u32, reply: &mut [u8]) -> Answer
+    ensures { λ r. ⌜ Replies (readCall transaction table key (length (now (reply .entry)))) (now (m .entry)) r (now (reply .entry)) (now (reply .exit)) ⌝ }
+{
+    let v = not_open(m, transaction);
+    if v != 0 {
+        return Answer::Refused(v);
+    }
+    if TABLE_LIMIT < table {
+        return Answer::Refused(10);
+    }
+    let t = table as u8;
+    let Seen::At(i) = engine_lookup::seen_by(m, t, transaction, key) else {
+        return Answer::Refused(14);
+    };
+    let p = memory_rows::payload_at(m, i);
+    let len = p.len;
+    if reply.len() < len {
+        return Answer::Refused(21);
+    }
+    memory_rows::copy_payload(m, i, reply);
+    Answer::Filled(len)
+}
+
+// The numbers of the open transactions, over the first bytes of the reply, high byte first.
+fn fill_list(m: &[u8], n: usize, reply: &mut [u8])
+    requires { ⌜ Room (now m) × ((n ≡ length (flatOf (now m) .opens)) × (2 * n ≤ length (now reply))) ⌝ }
+    ensures { λ _. ⌜ now (reply .exit) ≡ listing (openNumbers (flatOf (now (m .entry)) .opens)) ++ drop (2 * n) (now (reply .entry)) ⌝ }
+{
+    let mut i: usize = 0;
+    while i < n {
+        let o = memory_layout::get_open(m, i);
+        let t = o.transaction;
+        reply[2 * i] = (t / 256 % 256) as u8;
+        reply[2 * i + 1] = (t % 256) as u8;
+        i += 1;
+    }
+}
+
+pub fn list(m: &[u8], reply: &mut [u8]) -> Answer
+    ensures { λ r. ⌜ Lists (now (m .entry)) r (now (reply .entry)) (now (reply .exit)) ⌝ }
+{
+    if !memory_layout::holds_store(m) {
+        return Answer::Refused(4);
+    }
+    let n = open_count(m);
+    if reply.len() < 2 * n {
+        return Answer::Refused(21);
+    }
+    fill_list(m, n, reply);
+    Answer::Filled(n)
+}
+
+// ---- insert, replace, delete: the tests
+
+// 4, 6, 7; 10 table above 7; 11 payload, of len bytes, too long; 0 if none holds.
+fn call_refusal(m: &[u8], transaction: u64, table: u64, len: usize) -> u64
+    ensures { λ r. ⌜ r ≡ verdictIn (storeIn (now (m .entry))) (callTests transaction table len) ⌝ }
+{
+    let v = not_open(m, transaction);
+    if v != 0 {
+        return v;
+    }
+    if TABLE_LIMIT < table {
+        return 10;
+    }
+    if PageLayout::PAYLOAD_LIMIT < len {
+        return 11;
+    }
+    0
+}
+
+// 15 N tuples held; 16 next number is 4,294,967,295; else 0.
+fn full_refusal(m: &[u8]) -> u64
+    requires { ⌜ holdsStore (now m) ≡ true ⌝ }
+    ensures { λ r. ⌜ r ≡ verdict (full (storeOf (flatOf (now (m .entry))))) ⌝ }
+{
+    let h = memory_layout::get_head(m);
+    let c = memory_layout::get_counts(m);
+    if h.capacity <= c.rows {
+        return 15;
+    }
+    if h.next == LAST_NUMBER {
+        return 16;
+    }
+    0
+}
+
+// By the look at the key: 12 foreign; 13 there already, if it is to be new, else 14 not seen; 15, 16; 0 if none holds.
+fn key_refusal(m: &[u8], new: bool, look: Look) -> u64
+    requires { ⌜ (holdsStore (now m) ≡ true) × (look .own ≤ length (flatOf (now m) .rows)) ⌝ }
+    ensures { λ r. ⌜ r ≡ verdict (keyTests new (flatOf (now (m .entry))) look) ⌝ }
+{
+    if look.foreign {
+        return 12;
+    }
+    if new {
+        if look.any {
+            return 13;
+        }
+        return full_refusal(m);
+    }
+    let Seen::At(_) = engine_lookup::pick(m, look) else {
+        return 14;
+    };
+    full_refusal(m)
+}
+
+// ---- insert, replace, delete: what is written
+
+// One tuple more was written. The count stays in its 20 bits.
+fn one_more(o: Open) -> Open
+    requires { ⌜ OpenFits o ⌝ }
+    ensures { λ r. ⌜ (activeOf r ≡ oneMore (activeOf o)) × OpenFits r ⌝ }
+{
+    if o.written < WRITTEN_LIMIT {
+        return Open {
+            transaction: o.transaction,
+            written: o.written + 1,
+        };
+    }
+    o
+}
+
+// The row that open transaction i writes next.
+fn next_row(m: &[u8], i: usize, key: u32, mark: bool) -> Row
+    requires { ⌜ WriterAt (now m) i ⌝ }
+    ensures { λ r. ⌜ NextRow (flatOf (now (m .entry))) i key mark r ⌝ }
+{
+    let h = memory_layout::get_head(m);
+    let o = memory_layout::get_open(m, i);
+    Row {
+        key: key,
+        number: h.next,
+        owner: Owner::Tentative {
+            transaction: o.transaction,
+            statement: o.written,
+        },
+        mark: mark,
+        pending: Pending::Nothing,
+    }
+}
+
+// The next number goes up, and open transaction i has written one tuple more.
+fn count_write(m: &mut [u8], i: usize)
+    requires { ⌜ WriterAt (now m) i ⌝ }
+    ensures { λ _. ⌜ Becomes (now (m .entry)) (now (m .exit)) (afterCount (flatOf (now (m .entry))) i) ⌝ }
+{
+    let mut h = memory_layout::get_head(m);
+    h.next += 1;
+    let o = one_more(memory_layout::get_open(m, i));
+    memory_layout::put_head(m, h);
+    memory_layout::put_open(m, i, o);
+}
+
+// All tests are passed: the counters go up, and the tuple is placed as row `at`.
+fn accept(
+    m: &mut [u8],
+    transaction: u64,
+    table: u8,
+    at: usize,
+    key: u32,
+    mark: bool,
+    payload: &[u8],
+)
+    requires { ⌜ AcceptAt (now m) transaction table at key (now payload) ⌝ }
+    ensures { λ _. ⌜ HoldsNow (now (m .entry)) (now (m .exit)) (afterWrite transaction table key (now (payload .entry)) mark (storeOf (flatOf (now (m .entry))))) ⌝ }
+{
+    let i = memory_layout::find_open(m, transaction);
+    let row = next_row(m, i, key, mark);
+    count_write(m, i);
+    engine_pages::place(m, table, at, row, payload);
+}
+
+// One tentative tuple more, unless a test holds. One look at the key serves the tests and gives the tuple's place.
+fn write(
+    m: &mut [u8],
+    new: bool,
+    transaction: u64,
+    table: u64,
+    key: u32,
+    mark: bool,
+    payload: &[u8],
+) -> Answer
+    ensures { λ r. ⌜ Answers (writeCall new mark transaction table key (now (payload .entry))) (now (m .entry)) r (now (m .exit)) ⌝ }
+{
+    let v = call_refusal(m, transaction, table, payload.len());
+    if v != 0 {
+        return Answer::Refused(v);
+    }
+    let t = table as u8;
+    let s = engine_lookup::look_place(m, t, transaction, key);
+    let w = key_refusal(m, new, s.look);
+    if w != 0 {
+        return Answer::Refused(w);
+    }
+    accept(m, transaction, t, s.at, key, mark, payload);
+    Answer::Done
+}
+
+pub fn insert(m: &mut [u8], transaction: u64, table: u64, key: u32, payload: &[u8]) -> Answer
+    ensures { λ r. ⌜ Answers (insertCall transaction table key (now (payload .entry))) (now (m .entry)) r (now (m .exit)) ⌝ }
+{
+    write(m, true, transaction, table, key, false, payload)
+}
+
+pub fn replace(m: &mut [u8], transaction: u64, table: u64, key: u32, payload: &[u8]) -> Answer
+    ensures { λ r. ⌜ Answers (replaceCall transaction table key (now (payload .entry))) (now (m .entry)) r (now (m .exit)) ⌝ }
+{
+    write(m, false, transaction, table, key, false, payload)
+}
+
+// A delete mark with empty payload: the key is gone for this transaction now, for all others at its commit.
+pub fn delete(m: &mut [u8], transaction: u64, table: u64, key: u32) -> Answer
+    ensures { λ r. ⌜ Answers (deleteCall transaction table key) (now (m .entry)) r (now (m .exit)) ⌝ }
+{
+    write(m, false, transaction, table, key, true, b"")
+}
+
+// ---- commit, abort
+
+// Every entry of the transaction goes.
+fn close(m: &mut [u8], transaction: u64)
+    requires { ⌜ Room (now m) ⌝ }
+    ensures { λ _. ⌜ Becomes (now (m .entry)) (now (m .exit)) (withOpens (flatOf (now (m .entry))) (without transaction (flatOf (now (m .entry)) .opens))) ⌝ }
+{
+    let mut n = open_count(m);
+    let mut i = memory_layout::find_open(m, transaction);
+    while i < n {
+        memory_layout::remove_open(m, i);
+        n -= 1;
+        i = memory_layout::find_open(m, transaction);
+    }
+}
+
+// Keeps what the transaction wrote, and closes it.
+pub fn commit(m: &mut [u8], transaction: u64) -> Answer
+    ensures { λ r. ⌜ Answers (commitCall transaction) (now (m .entry)) r (now (m .exit)) ⌝ }
+{
+    let v = not_open(m, transaction);
+    if v != 0 {
+        return Answer::Refused(v);
+    }
+    engine_close::commit_rows(m, transaction);
+    close(m, transaction);
+    Answer::Done
+}
+
+// Takes back what the transaction wrote, and closes it.
+pub fn abort(m: &mut [u8], transaction: u64) -> Answer
+    ensures { λ r. ⌜ Answers (abortCall transaction) (now (m .entry)) r (now (m .exit)) ⌝ }
+{
+    let v = not_open(m, transaction);
+    if v != 0 {
+        return Answer::Refused(v);
+    }
+    engine_close::abort_rows(m, transaction);
+    close(m, transaction);
+    Answer::Done
+}

@@ -1,0 +1,7 @@
+pub mod Removals
+pub mod RunPlans
+pub mod Memory
+pub mod RunBounds
+pub mod Own
+pub mod Closing
+pub mod Next

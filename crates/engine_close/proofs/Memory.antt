@@ -1,0 +1,180 @@
+-- The rows of a memory with room, each with its table: as many as the memory says, in its order, and tables by the page entries.
+use mathlib.Core.Path.{_≡_, refl, ap, sym, _∙_, subst, ap₂}
+use Prim.Native.Nat.{ℕ, zero, suc, _+_, _-_, _<_, _≤_}
+use native.Mathlib.Omega.{arith}
+use native.Mathlib.Numerals.{add-one}
+use mathlib.Core.Bool.{true}
+use mathlib.Core.List.{List, [], _∷_, _++_, map}
+use lib.Dec.{ltb}
+use lib.ListN.{length, take, drop, getD, length-map, length-drop, take-append-drop, List·getD-append, List·getD-map}
+use lib.Seq.{getD-append-add, length-take-le, take-length, take-suc}
+use mathlib.Core.Logic.{⊎-elim}
+use Rattle.basics.specs.Basics.{sum}
+use Rattle.basics.proofs.Facts.{by}
+use Rattle.model.specs.State.{Held}
+use Rattle.model.specs.Places.{tagged}
+use Rattle.model.proofs.Lists.{leb-true, leb-false}
+use Rattle.model.proofs.Places.{map-append}
+use Rattle.memory_layout.specs.Flat.{Flat, flatOf, noRow, noEntry, rowIn, entryIn, Room}
+use Rattle.memory_layout.specs.Store.{pageOf, nest, total, startOf, holdsStore}
+use Rattle.memory_layout.specs.declared.Entry.{Entry}
+use Rattle.memory_layout.specs.Views.{countsOf}
+use Rattle.memory_layout.specs.declared.Counts.{Counts}
+use Rattle.memory_layout.proofs.Laws.{filled, rows-length, entries-length, known}
+use Rattle.memory_layout.proofs.Nest.{total-append}
+use Rattle.memory_bytes.proofs.Columns.{lt-or-ge}
+use Rattle.memory_pages.specs.Pages.{TableFrom, OnPages, PageOf}
+use Rattle.engine_pages.specs.Pages.{RowOn}
+use Rattle.engine_close.specs.Close.{taggedOf, rowFrom, RowsFrom}
+
+-- ---- rows
+
+abbrev tag : ℕ → Held → ℕ × Held
+tag t h = (t, h)
+
+map-page : (t : ℕ) (hs : List Held) → map (λ (x : ℕ × Held). x .1) (map (tag t) hs) ≡ hs
+map-page t [] = refl
+map-page t (h ∷ hs) = ap (λ z. h ∷ z) (map-page t hs)
+
+nest-rows : (es : List Entry) (hs : List Held) → total es ≡ length hs → map (λ (x : ℕ × Held). x .1) (tagged (nest es hs)) ≡ hs
+unfolding tagged nest total sum pageOf
+nest-rows [] [] e = refl
+nest-rows [] (h ∷ hs) e = absurd (omega arith)
+nest-rows (e ∷ es) hs t =
+    let c = e .count in
+    map-append (λ (x : ℕ × Held). x .1) (map (tag (e .table)) (take c hs)) (tagged (nest es (drop c hs)))
+    ∙ ap₂ (λ a b. a ++ b) (map-page (e .table) (take c hs)) (nest-rows es (drop c hs) (omega (arith, length-drop c hs)))
+    ∙ take-append-drop c hs
+
+module _ (m : List ℕ) (room : Room m) where
+  pub rows-are : map (λ (x : ℕ × Held). x .1) (taggedOf m) ≡ flatOf m .rows
+  rows-are = nest-rows (flatOf m .entries) (flatOf m .rows) (filled m room)
+
+  pub tagged-length : length (taggedOf m) ≡ length (flatOf m .rows)
+  tagged-length = sym (length-map (taggedOf m) (λ (x : ℕ × Held). x .1)) ∙ ap length rows-are
+
+  pub row-is : (i : ℕ) → rowFrom (taggedOf m) i .1 ≡ rowIn (flatOf m) i
+  row-is i = sym (List·getD-map (λ (x : ℕ × Held). x .1) (taggedOf m) i (0, noRow)) ∙ ap (λ hs. getD hs i noRow) rows-are
+
+  pub rows-counted : {n : Counts} → n ≡ countsOf m → n .rows ≡ length (taggedOf m)
+  unfolding countsOf
+  rows-counted e = ap (λ (z : Counts). z .rows) e ∙ sym (rows-length m) ∙ sym tagged-length
+
+  pub pages-counted : {n : Counts} → n ≡ countsOf m → n .pages ≡ length (flatOf m .entries)
+  unfolding countsOf
+  pages-counted e = ap (λ (z : Counts). z .pages) e ∙ sym (entries-length m)
+
+  -- there are few
+  pub few-rows : length (taggedOf m) ≤ 1024
+  few-rows = let k = known m room in omega (arith, tagged-length, k .rows-are, k .rows, k .most)
+
+-- ---- tables
+
+tag-page : (t : ℕ) (hs : List Held) (i : ℕ) (d : ℕ × Held) → i < length hs → getD (map (tag t) hs) i d .0 ≡ t
+tag-page t [] i d h = absurd (omega arith)
+tag-page t (x ∷ hs) zero d h = refl
+tag-page t (x ∷ hs) (suc i) d h = tag-page t hs i d (omega arith)
+
+module _ (e : Entry) (es : List Entry) (hs : List Held) (full : total (e ∷ es) ≡ length hs) (j : ℕ) (d : ℕ × Held) where
+  first-long : length (map (tag (e .table)) (take (e .count) hs)) ≡ e .count
+  unfolding total sum
+  first-long = length-map (take (e .count) hs) (tag (e .table)) ∙ length-take-le (e .count) hs (omega arith)
+
+  tag-first : j < e .count → getD (tagged (nest (e ∷ es) hs)) j d .0 ≡ e .table
+  unfolding tagged nest pageOf total sum
+  tag-first h =
+      ap (λ (x : ℕ × Held). x .0) (List·getD-append (map (tag (e .table)) (take (e .count) hs)) (tagged (nest es (drop (e .count) hs))) d j (omega (arith, first-long)))
+      ∙ tag-page (e .table) (take (e .count) hs) j d (omega (arith, length-take-le (e .count) hs (omega arith)))
+
+  tag-rest : e .count ≤ j → getD (tagged (nest (e ∷ es) hs)) j d .0 ≡ getD (tagged (nest es (drop (e .count) hs))) (j - e .count) d .0
+  unfolding tagged nest pageOf total sum
+  tag-rest h =
+      let a = map (tag (e .table)) (take (e .count) hs) in
+      let b = tagged (nest es (drop (e .count) hs)) in
+      let z : j ≡ length a + (j - e .count) = omega (arith, first-long) in
+      ap (λ k. getD (a ++ b) k d .0) z ∙ ap (λ (x : ℕ × Held). x .0) (getD-append-add a b (j - e .count) d)
+
+  rest-full : total es ≡ length (drop (e .count) hs)
+  unfolding total sum
+  rest-full = omega (arith, length-drop (e .count) hs)
+
+take-total : (e : Entry) (es : List Entry) (q : ℕ) → total (take (suc q) (e ∷ es)) ≡ e .count + total (take q es)
+unfolding total sum
+take-total e es q = refl
+
+none-total : (es : List Entry) → total (take 0 es) ≡ 0
+unfolding total sum
+none-total es = refl
+
+-- what the tables of pages q up to r have, the tables of their rows have
+range-table : (P : ℕ → Type 0) (es : List Entry) (hs : List Held) (q r j : ℕ) (d : ℕ × Held)
+    → ((p : ℕ) → q ≤ p → p < r → P (getD es p noEntry .table)) → total es ≡ length hs → total (take q es) ≤ j → j < total (take r es)
+    → P (getD (tagged (nest es hs)) j d .0)
+range-table P [] hs q r j d k f a b = absurd (unfold total sum in nothing r b)
+  where
+    nothing : (r : ℕ) → j < total (take r []) → ⊥
+    nothing zero b = unfold total sum in omega arith
+    nothing (suc r) b = unfold total sum in omega arith
+range-table P (e ∷ es) hs q zero j d k f a b = absurd (omega (arith, none-total (e ∷ es)))
+range-table P (e ∷ es) hs zero (suc r) j d k f a b =
+    let t = take-total e es r in
+    by (ltb j (e .count))
+    (λ l. subst P (sym (tag-first e es hs f j d (leb-true (suc j) (e .count) l))) (k 0 (omega arith) (omega arith)))
+    (λ l. let u = leb-false (suc j) (e .count) l in
+    subst P (sym (tag-rest e es hs f j d (omega arith)))
+    (range-table P es (drop (e .count) hs) 0 r (j - e .count) d (λ p x y. k (suc p) (omega arith) (omega arith)) (rest-full e es hs f j d)
+    (omega (arith, none-total es)) (omega arith)))
+range-table P (e ∷ es) hs (suc q) (suc r) j d k f a b =
+    let t = take-total e es r in
+    let s = take-total e es q in
+    subst P (sym (tag-rest e es hs f j d (omega arith)))
+    (range-table P es (drop (e .count) hs) q r (j - e .count) d (λ p x y. k (suc p) (omega arith) (omega arith)) (rest-full e es hs f j d)
+    (omega arith) (omega arith))
+
+module _ (m : List ℕ) (room : Room m) where
+  -- the table of a row is that of its page
+  pub table-is : {a b i r : ℕ} → PageOf (flatOf m) a b i r → rowFrom (taggedOf m) i .0 ≡ entryIn (flatOf m) r .table
+  table-is {a} {b} {i} {r} o =
+      range-table (λ t. t ≡ entryIn (flatOf m) r .table) (flatOf m .entries) (flatOf m .rows) r (suc r) i (0, noRow)
+      (λ p x y. let z : p ≡ r = omega arith in ap (λ k. entryIn (flatOf m) k .table) z) (filled m room) (o .first)
+      (subst (λ z. i < startOf (flatOf m) z) (add-one r) (o .last))
+
+  all-total : total (take (length (flatOf m .entries)) (flatOf m .entries)) ≡ length (taggedOf m)
+  all-total = ap total (take-length (flatOf m .entries)) ∙ filled m room ∙ sym (tagged-length m room)
+
+  -- the rows from the first page of a table on
+  pub rows-from : {t p r : ℕ} → TableFrom (flatOf m) t p → r ≡ startOf (flatOf m) p → r ≤ length (flatOf m .rows) → RowsFrom (taggedOf m) t r
+  rows-from {t} {p} {r} o e l =
+      let es = flatOf m .entries in
+      let hs = flatOf m .rows in
+      record {
+        most = omega (arith, tagged-length m room);
+        below = λ j b. range-table (λ z. z < t) es hs 0 p j (0, noRow) (λ q x y. o .below q y) (filled m room) (omega (arith, none-total es)) (omega arith);
+        above = λ j a b. range-table (λ z. t ≤ z) es hs p (length es) j (0, noRow) (λ q x y. o .above q x y) (filled m room) (omega arith) (omega (arith, all-total));
+      }
+
+  -- a row is on one of all pages
+  pub on-pages : {b i : ℕ} → b ≡ length (flatOf m .entries) → i < length (taggedOf m) → OnPages (flatOf m) 0 b i
+  on-pages {b} {i} e h =
+      let l : startOf (flatOf m) b ≡ length (taggedOf m) = ap (startOf (flatOf m)) e ∙ all-total in
+      record {
+        some = ⊎-elim (λ x. x) (λ x. let z : b ≡ 0 = omega arith in absurd (omega (arith, ap (startOf (flatOf m)) z, none-total (flatOf m .entries)))) (lt-or-ge 0 b);
+        most = omega arith;
+        first = omega (arith, none-total (flatOf m .entries));
+        last = omega arith;
+      }
+
+next-start : (f : Flat) (p : ℕ) → p < length (f .entries) → startOf f (suc p) ≡ startOf f p + entryIn f p .count
+unfolding total sum
+next-start f p h =
+    let e = entryIn f p in
+    let z : e .count + 0 ≡ e .count = omega arith in
+    ap total (take-suc (f .entries) p noEntry h) ∙ total-append (take p (f .entries)) (e ∷ []) ∙ ap (λ k. total (take p (f .entries)) + k) z
+
+pub row-on : {m : List ℕ} {i r : ℕ} → holdsStore m ≡ true → PageOf (flatOf m) 0 (length (flatOf m .entries)) i r → RowOn m r i
+row-on {m} {i} {r} h o =
+    record {
+      there = record { held = h; inside = o .high };
+      least = o .first;
+      most = omega (arith, next-start (flatOf m) r (o .high), subst (λ z. i < startOf (flatOf m) z) (add-one r) (o .last));
+    }

@@ -1,0 +1,78 @@
+-- Own rows looked for: a row that is not tentative is nobody's.
+use mathlib.Core.Path.{_≡_, refl, ap, sym, _∙_}
+use Prim.Native.Nat.{ℕ, zero, suc, _+_, _-_, _<_, _≤_}
+use native.Mathlib.Omega.{arith}
+use mathlib.Core.Bool.{false, not}
+use mathlib.Core.List.{List, [], _∷_}
+use mathlib.Core.Logic.{⊎-elim}
+use lib.ListN.{length, take, drop, getD, length-take, length-drop}
+use lib.Seq.{getD-take, getD-drop}
+use Rattle.basics.specs.Basics.{if_then_else_, any}
+use Rattle.basics.proofs.Facts.{by, AllOf}
+use Rattle.blocks.specs.Tuple.{Owner, committed, tentative, isTentative}
+use Rattle.rows.specs.Rows.{isBy}
+use Rattle.model.specs.State.{Held}
+use Rattle.model.specs.Rules.{isRemoving, isCommitting, ripe, asCommitted}
+use Rattle.model.proofs.Lists.{off-any, and-no}
+use Rattle.memory_bytes.proofs.Columns.{lt-or-ge}
+use Rattle.memory_layout.specs.Flat.{flatOf, noRow, rowIn, Room}
+use Rattle.memory_rows.specs.Rows.{isLiveOwn, isOwned, pendingIs}
+use Rattle.memory_rows.specs.declared.Pending.{Pending}
+use Rattle.engine_close.specs.Close.{taggedOf, rowFrom, isLive, isOwnRow}
+use Rattle.engine_close.proofs.Memory.{row-is, tagged-length}
+
+-- rows i up to r are not own
+abbrev pub NotOwn : List ℕ → ℕ → ℕ → ℕ → Type 0
+NotOwn m tx i r = (j : ℕ) → i ≤ j → j < r → isOwnRow tx (taggedOf m) j ≡ false
+
+-- rows behind r up to e are not own
+abbrev pub NotLater : List ℕ → ℕ → ℕ → ℕ → Type 0
+NotLater m tx r e = (j : ℕ) → r < j → j < e → isOwnRow tx (taggedOf m) j ≡ false
+
+by-none : (tx : ℕ) (o : Owner) → isTentative o ≡ false → isBy tx o ≡ false
+unfolding isTentative isBy
+by-none tx committed e = refl
+by-none tx (tentative u s) e = absurd (let z : _≡_ {A = ℕ} 0 1 = cc in omega arith)
+
+own-not : (tx : ℕ) (h : Held) → isOwned h ≡ false → isLiveOwn tx h ≡ false
+unfolding isOwned isLiveOwn ripe asCommitted if_then_else_
+own-not tx h e =
+    by (isCommitting (h .pending)) (λ k. rw k ((unfold isBy in and-no (not (isRemoving (h .pending))))))
+    (λ k. rw (k, by-none tx (h .tuple .owner) e) (and-no (not (isRemoving (h .pending)))))
+
+all-at : (P : Held → Type 0) (xs : List Held) (i : ℕ) → i < length xs → AllOf P xs → P (getD xs i noRow)
+all-at P [] i h a = absurd (omega arith)
+all-at P (x ∷ xs) zero h a = a .0
+all-at P (x ∷ xs) (suc i) h a = all-at P xs i (omega arith) (a .1)
+
+module _ (m : List ℕ) (room : Room m) (tx : ℕ) where
+  pub own-is : (i : ℕ) → isOwnRow tx (taggedOf m) i ≡ isLiveOwn tx (rowIn (flatOf m) i)
+  unfolding isOwnRow
+  own-is i = ap (isLiveOwn tx) (row-is m room i)
+
+  pub not-own-more : {i r : ℕ} → NotOwn m tx i r → isLiveOwn tx (rowIn (flatOf m) r) ≡ false → NotOwn m tx i (r + 1)
+  not-own-more {i} {r} n o j x y = ⊎-elim (λ z. n j x z) (λ z. let q : j ≡ r = omega arith in own-is j ∙ ap (λ k. isLiveOwn tx (rowIn (flatOf m) k)) q ∙ o) (lt-or-ge j r)
+
+  pub not-own-then : {i r e : ℕ} → NotOwn m tx i r → NotOwn m tx r e → NotOwn m tx i e
+  not-own-then {i} {r} a b j x y = ⊎-elim (λ z. a j x z) (λ z. b j z y) (lt-or-ge j r)
+
+  -- a group without a tentative row
+  pub group-not-own : (g : ℕ) → g + 16 ≤ length (taggedOf m) → any isOwned (take 16 (drop g (flatOf m .rows))) ≡ false → NotOwn m tx g (g + 16)
+  group-not-own g h e j x y =
+      let hs = flatOf m .rows in
+      let l = length-take 16 (drop g hs) in
+      let d = length-drop g hs in
+      let z : g + (j - g) ≡ j = omega arith in
+      let a = all-at (λ r. isOwned r ≡ false) (take 16 (drop g hs)) (j - g) (omega (arith, tagged-length m room)) (off-any isOwned (take 16 (drop g hs)) e) in
+      own-is j ∙ own-not tx (rowIn (flatOf m) j)
+      (ap isOwned (sym (getD-take 16 (drop g hs) (j - g) noRow (omega arith) ∙ getD-drop g hs (j - g) noRow ∙ ap (λ k. getD hs k noRow) z)) ∙ a)
+
+  pub not-later-more : {r e : ℕ} → NotLater m tx r e → isLiveOwn tx (rowIn (flatOf m) r) ≡ false → NotLater m tx (r - 1) e
+  not-later-more {r} n o j x y = ⊎-elim (λ z. n j z y) (λ z. let q : j ≡ r = omega arith in own-is j ∙ ap (λ k. isLiveOwn tx (rowIn (flatOf m) k)) q ∙ o) (lt-or-ge r j)
+
+-- whether a row is live, by its pending operation
+pub live-is : (m : List ℕ) → Room m → (i : ℕ) {o p : Pending} → o ≡ p → pendingIs o ≡ rowIn (flatOf m) i .pending
+    → not (isRemoving (pendingIs p)) ≡ isLive (rowFrom (taggedOf m) i .1)
+unfolding isLive
+live-is m room i e k =
+    ap (λ z. not (isRemoving (pendingIs z))) (sym e) ∙ ap (λ z. not (isRemoving z)) k ∙ ap (λ (h : Held). not (isRemoving (h .pending))) (sym (row-is m room i))

@@ -1,0 +1,69 @@
+use Rattle.engine_close.specs.Close.{isOwnRow, taggedOf}
+use Rattle.engine_close.proofs.Own.{NotLater, own-is, not-later-more}
+use Rattle.engine_close.proofs.Memory.{tagged-length}
+use Prim.Native.Nat.{_-_, _<_, _≤_}
+use mathlib.Core.Path.{_≡_, ap, sym, _∙_}
+use native.Mathlib.Omega.{arith}
+use Rattle.engine_close.proofs.newest_own.Statement.{statement}
+use Rattle.engine_close.proofs.newest_own.Tie as tie
+
+abbrev Inv-loop : tie.InvT-loop
+Inv-loop m i e transaction r₀ r = (i ≤ r) × ((r < e) × NotLater m transaction r e)
+
+abbrev μ-loop : tie.MeasureT-loop
+μ-loop m i e transaction r₀ r = r
+
+sub-r : tie.Need-sub-r Inv-loop μ-loop
+sub-r c = omega arith
+
+loop-holds : tie.Need-loop-holds Inv-loop μ-loop
+loop-holds c = (omega arith, (omega arith, λ j x y. absurd (omega arith)))
+
+owns-requires : tie.Need-owns-requires Inv-loop μ-loop
+owns-requires c κs = let st = c .before .before .before in (st .pre .0, omega (arith, st .pre .1 .1 .0, tagged-length (st .args .m .now) (st .pre .0)))
+
+returns : tie.Need-returns Inv-loop μ-loop
+returns c = let p3 = c .before .before .before in let st = p3 .before .before in
+    let l = p3 .loop in let m = st .args .m .now in
+    record {
+      low = l .inv .0;
+      high = l .inv .1 .0;
+      own = own-is m (st .pre .0) (st .args .transaction) (l .r) ∙ sym (c .before .owns .ensures) ∙ c .if1 .taken;
+      later = l .inv .1 .1;
+    }
+
+sub-r-2 : tie.Need-sub-r-2 Inv-loop μ-loop
+sub-r-2 c = omega arith
+
+loop-less : tie.Need-loop-less Inv-loop μ-loop
+loop-less c = omega arith
+
+loop-again : tie.Need-loop-again Inv-loop μ-loop
+loop-again c = let p3 = c .before .before .before in let st = p3 .before .before in
+    let l = p3 .loop in
+    (omega arith, (omega arith, not-later-more (st .args .m .now) (st .pre .0) (st .args .transaction) (l .inv .1 .1) (sym (c .before .owns .ensures) ∙ c .if1 .left)))
+
+returns-2 : tie.Need-returns-2 Inv-loop μ-loop
+returns-2 c = let l = c .before .loop in let st = c .before .before .before in
+    let q : l .r ≡ st .args .i = omega (arith, c .loop-test .left, l .inv .0) in
+    record {
+      low = l .inv .0;
+      high = l .inv .1 .0;
+      own = ap (isOwnRow (st .args .transaction) (taggedOf (st .args .m .now))) q ∙ st .pre .1 .1 .1;
+      later = l .inv .1 .1;
+    }
+
+pub newest-own-spec : {M : Type 1} → statement M
+newest-own-spec =
+    tie.close
+    (tie.spec
+    Inv-loop
+    μ-loop
+    sub-r
+    loop-holds
+    owns-requires
+    returns
+    sub-r-2
+    loop-less
+    loop-again
+    returns-2)

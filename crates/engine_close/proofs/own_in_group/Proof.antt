@@ -1,0 +1,32 @@
+use Rattle.engine_close.proofs.Own.{group-not-own}
+use Rattle.engine_close.proofs.Memory.{tagged-length, few-rows}
+use mathlib.Core.Path.{sym, _∙_}
+use native.Mathlib.Omega.{arith}
+use borrow.Author.Needs.{needs}
+use Rattle.engine_close.proofs.own_in_group.Statement.{statement}
+use Rattle.engine_close.proofs.own_in_group.Tie as tie
+
+any-tentative-requires : tie.Need-any-tentative-requires
+any-tentative-requires c κs = let st = c .before in (st .pre .0, omega (arith, st .pre .1, tagged-length (st .args .m .now) (st .pre .0)))
+
+add-own-in : tie.Need-add-own-in
+add-own-in c = let st = c .before .before .before in omega (arith, st .pre .1, few-rows (st .args .m .now) (st .pre .0))
+
+own-in-requires : tie.Need-own-in-requires
+own-in-requires c κs = search needs
+
+returns : tie.Need-returns
+returns c = search needs
+
+add-result : tie.Need-add-result
+add-result c = let st = c .before .before .before in omega (arith, st .pre .1, few-rows (st .args .m .now) (st .pre .0))
+
+returns-2 : tie.Need-returns-2
+returns-2 c = let st = c .before .before .before in
+    let g = group-not-own (st .args .m .now) (st .pre .0) (st .args .transaction) (st .args .g) (st .pre .1) (sym (c .before .any-tentative .ensures) ∙ c .if1 .left) in
+    record { low = omega arith; most = omega arith; passed = g; found = λ x. absurd (omega arith) }
+
+pub own-in-group-spec : {M : Type 1} → statement M
+own-in-group-spec =
+    tie.close
+    (tie.spec any-tentative-requires add-own-in own-in-requires returns add-result returns-2)

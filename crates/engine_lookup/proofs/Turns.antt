@@ -1,0 +1,97 @@
+-- A look along rows: turn by turn, in parts, and past rows of other keys.
+use mathlib.Core.Path.{_≡_, refl, sym, ap, _∙_}
+use mathlib.Core.Bool.{true, false}
+use mathlib.Core.List.{List, _∷_}
+use Prim.Native.Nat.{ℕ, zero, suc, _+_, _-_, _≤_, _<_}
+use native.Mathlib.Numerals.{add-one}
+use native.Mathlib.Omega.{arith}
+use lib.Dec.{eqb}
+use borrow.Author.Tests.{eq-eqb, ne-eqb}
+use Rattle.basics.specs.Basics.{if_then_else_}
+use Rattle.model.specs.State.{Held}
+use Rattle.memory_bytes.specs.Columns.{tab}
+use Rattle.memory_bytes.proofs.Scans.{tab-next, tab-none}
+use Rattle.memory_layout.specs.Flat.{Flat, rowIn}
+use Rattle.engine_lookup.specs.Lookup.{note, notes}
+use Rattle.engine_lookup.specs.declared.Look.{Look}
+
+module _ (tx k i : ℕ) (h : Held) (hs : List Held) (l : Look) where
+  pub notes-on : eqb (h .tuple .key) k ≡ false → notes tx k i (h ∷ hs) l ≡ notes tx k (suc i) hs l
+  unfolding notes if_then_else_
+  notes-on e = rw e
+
+  pub notes-here : eqb (h .tuple .key) k ≡ true → notes tx k i (h ∷ hs) l ≡ notes tx k (suc i) hs (note tx i h l)
+  unfolding notes if_then_else_
+  notes-here e = rw e
+
+-- ---- turn by turn
+
+module _ (f : Flat) (tx k i e : ℕ) (l : Look) where
+  abbrev rest : ℕ → List Held
+  rest j = tab (rowIn f) j (e - j)
+
+  step : i < e → (l1 : Look) → notes tx k i (rowIn f i ∷ rest (i + 1)) l ≡ notes tx k (suc i) (rest (i + 1)) l1
+      → notes tx k i (rest i) l ≡ notes tx k (i + 1) (rest (i + 1)) l1
+  step h l1 q =
+      ap (λ (z : List Held). notes tx k i z l) (tab-next (rowIn f) i e h) ∙ q ∙ ap (λ (z : ℕ). notes tx k z (rest (i + 1)) l1) (sym (add-one i))
+
+  pub turn-here : i < e → rowIn f i .tuple .key ≡ k → notes tx k i (tab (rowIn f) i (e - i)) l ≡ notes tx k (i + 1) (tab (rowIn f) (i + 1) (e - (i + 1))) (note tx i (rowIn f i) l)
+  turn-here h q = step h _ (notes-here tx k i (rowIn f i) (rest (i + 1)) l (eq-eqb _ _ q))
+
+  pub turn-on : i < e → (rowIn f i .tuple .key ≡ k → ⊥) → notes tx k i (tab (rowIn f) i (e - i)) l ≡ notes tx k (i + 1) (tab (rowIn f) (i + 1) (e - (i + 1))) l
+  turn-on h q = step h _ (notes-on tx k i (rowIn f i) (rest (i + 1)) l (ne-eqb _ _ q))
+
+  pub turn-end : e ≤ i → notes tx k i (tab (rowIn f) i (e - i)) l ≡ l
+  unfolding notes
+  turn-end h = ap (λ (z : List Held). notes tx k i z l) (tab-none (rowIn f) i e h)
+
+-- ---- in parts
+
+module _ (f : Flat) (tx k : ℕ) where
+  notes-parts : (i a n : ℕ) (l : Look) → notes tx k i (tab (rowIn f) i (a + n)) l ≡ notes tx k (i + a) (tab (rowIn f) (i + a) n) (notes tx k i (tab (rowIn f) i a) l)
+  unfolding notes
+  notes-parts i zero n l =
+      let e : 0 + n ≡ n = omega arith in
+      let q : i + 0 ≡ i = omega arith in
+      ap (λ (z : ℕ). notes tx k i (tab (rowIn f) i z) l) e ∙ sym (ap (λ (z : ℕ). notes tx k z (tab (rowIn f) z n) l) q)
+  notes-parts i (suc a) n l =
+      let e : suc a + n ≡ suc (a + n) = omega arith in
+      let q : suc i + a ≡ i + suc a = omega arith in
+      let l1 : Look = if eqb (rowIn f i .tuple .key) k then note tx i (rowIn f i) l else l in
+      ap (λ (z : ℕ). notes tx k i (tab (rowIn f) i z) l) e
+      ∙ notes-parts (suc i) a n l1
+      ∙ ap (λ (z : ℕ). notes tx k z (tab (rowIn f) z n) (notes tx k (suc i) (tab (rowIn f) (suc i) a) l1)) q
+
+  -- rows of other keys change nothing
+  notes-past : (i n : ℕ) (l : Look) → ((j : ℕ) → i ≤ j → j < i + n → eqb (rowIn f j .tuple .key) k ≡ false) → notes tx k i (tab (rowIn f) i n) l ≡ l
+  unfolding notes
+  notes-past i zero l h = refl
+  notes-past i (suc n) l h =
+      notes-on tx k i (rowIn f i) (tab (rowIn f) (suc i) n) l (h i (omega arith) (omega arith))
+      ∙ notes-past (suc i) n l (λ j a b. h j (omega arith) (omega arith))
+
+-- all rows with the key k of those from s up to e stand from a up to b
+pub record Covers (f : Flat) (k s e a b : ℕ) : Type 0 where
+  pub low : s ≤ a
+  pub order : a ≤ b
+  pub high : b ≤ e
+  pub before : (j : ℕ) → s ≤ j → j < a → eqb (rowIn f j .tuple .key) k ≡ false
+  pub behind : (j : ℕ) → b ≤ j → j < e → eqb (rowIn f j .tuple .key) k ≡ false
+
+-- so these are enough
+pub notes-covered : (f : Flat) (tx k s e a b : ℕ) (l : Look) → Covers f k s e a b
+    → notes tx k a (tab (rowIn f) a (b - a)) l ≡ notes tx k s (tab (rowIn f) s (e - s)) l
+notes-covered f tx k s e a b l c =
+    let n1 : e - s ≡ (a - s) + (e - a) = omega (arith, c .low, c .order, c .high) in
+    let n2 : e - a ≡ (b - a) + (e - b) = omega (arith, c .low, c .order, c .high) in
+    let p1 : s + (a - s) ≡ a = omega (arith, c .low) in
+    let p2 : a + (b - a) ≡ b = omega (arith, c .order) in
+    let l1 : Look = notes tx k a (tab (rowIn f) a (b - a)) l in
+    sym (ap (λ (z : ℕ). notes tx k s (tab (rowIn f) s z) l) n1
+    ∙ notes-parts f tx k s (a - s) (e - a) l
+    ∙ ap (λ (z : ℕ). notes tx k z (tab (rowIn f) z (e - a)) (notes tx k s (tab (rowIn f) s (a - s)) l)) p1
+    ∙ ap (λ (z : Look). notes tx k a (tab (rowIn f) a (e - a)) z) (notes-past f tx k s (a - s) l (λ j x y. c .before j x (omega arith)))
+    ∙ ap (λ (z : ℕ). notes tx k a (tab (rowIn f) a z) l) n2
+    ∙ notes-parts f tx k a (b - a) (e - b) l
+    ∙ ap (λ (z : ℕ). notes tx k z (tab (rowIn f) z (e - b)) l1) p2
+    ∙ notes-past f tx k b (e - b) l1 (λ j x y. c .behind j x (omega (arith, c .high))))

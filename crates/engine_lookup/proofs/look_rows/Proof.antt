@@ -1,0 +1,67 @@
+-- `engine_lookup::look_rows` meets its contract.
+use mathlib.Core.Logic.{⊎-elim}
+use mathlib.Core.Path.{_≡_, refl, sym, ap, _∙_}
+use Prim.Native.Nat.{_+_, _-_, _<_}
+use native.Mathlib.Omega.{arith}
+use Rattle.memory_layout.specs.Flat.{Flat, flatOf, rowIn}
+use Rattle.memory_bytes.specs.Columns.{tab}
+use Rattle.engine_lookup.specs.Lookup.{notes}
+use Rattle.engine_lookup.proofs.Turns.{turn-here, turn-on, turn-end}
+use Rattle.engine_lookup.proofs.look_rows.Statement.{statement}
+use Rattle.engine_lookup.proofs.look_rows.Tie as tie
+
+abbrev Inv-loop : tie.InvT-loop
+Inv-loop m from to transaction key l₀ i₀ l i =
+    notes transaction key i (tab (rowIn (flatOf m)) i (to - i)) l ≡ notes transaction key from (tab (rowIn (flatOf m)) from (to - from)) l₀
+
+abbrev μ-loop : tie.MeasureT-loop
+μ-loop m from to transaction key l₀ i₀ l i = to - i
+
+loop-holds : tie.Need-loop-holds Inv-loop μ-loop
+loop-holds c = refl
+
+key-at-requires : tie.Need-key-at-requires Inv-loop μ-loop
+key-at-requires c κs = (c .before .before .before .pre .0, omega (arith, c .before .before .before .pre .1, c .loop-test .taken))
+
+look-row-requires : tie.Need-look-row-requires Inv-loop μ-loop
+look-row-requires c κs =
+    let st = c .before .before .before .before .before in
+    (st .pre .0, omega (arith, st .pre .1, c .before .before .loop-test .taken))
+
+add-i : tie.Need-add-i Inv-loop μ-loop
+add-i c = omega arith
+
+loop-less : tie.Need-loop-less Inv-loop μ-loop
+loop-less c = omega (arith, c .before .before .loop-test .taken)
+
+loop-again : tie.Need-loop-again Inv-loop μ-loop
+loop-again c =
+    let a = c .before .before .before .before .before .args in
+    let f : Flat = flatOf (a .m .now) in
+    let g = c .before .before .before .loop in
+    let lt : g .i < a .to = c .before .before .loop-test .taken in
+    let on = notes (a .transaction) (a .key) (g .i + 1) (tab (rowIn f) (g .i + 1) (a .to - (g .i + 1))) in
+    ⊎-elim
+    (λ w. ap on (w .2 ∙ w .1 .ensures) ∙ sym (turn-here f (a .transaction) (a .key) (g .i) (a .to) (g .l) lt (sym (c .before .key-at .ensures) ∙ w .0 .taken)) ∙ g .inv)
+    (λ w. ap on (w .1) ∙ sym (turn-on f (a .transaction) (a .key) (g .i) (a .to) (g .l) lt (λ q. w .0 .left (c .before .key-at .ensures ∙ q))) ∙ g .inv)
+    (c .if1 .came)
+
+returns : tie.Need-returns Inv-loop μ-loop
+returns c =
+    let a = c .before .before .before .args in
+    let g = c .before .loop in
+    sym (turn-end (flatOf (a .m .now)) (a .transaction) (a .key) (g .i) (a .to) (g .l) (omega (arith, c .loop-test .left))) ∙ g .inv
+
+pub look-rows-spec : {M : Type 1} → statement M
+look-rows-spec =
+    tie.close
+    (tie.spec
+    Inv-loop
+    μ-loop
+    loop-holds
+    key-at-requires
+    look-row-requires
+    add-i
+    loop-less
+    loop-again
+    returns)

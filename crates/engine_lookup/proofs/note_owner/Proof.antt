@@ -1,0 +1,49 @@
+-- `engine_lookup::note_owner` meets its contract.
+use mathlib.Core.Path.{sym, ap, _∙_}
+use Rattle.memory_rows.specs.declared.Owner.{Owner}
+use Rattle.memory_rows.specs.Rows.{ownerIs}
+use Rattle.engine_lookup.specs.Lookup.{noteOwner}
+use borrow.Author.Needs.{needs}
+use Rattle.engine_lookup.proofs.note_owner.Statement.{statement}
+use Rattle.engine_lookup.proofs.note_owner.Tie as tie
+
+enum-told : tie.Need-enum-told
+enum-told c = search needs
+
+note-committed-requires : tie.Need-note-committed-requires
+note-committed-requires c κs = search needs
+
+enum-known-owner : tie.Need-enum-known-owner
+enum-known-owner c = search needs
+
+cast-note-tentative : tie.Need-cast-note-tentative
+cast-note-tentative c = search needs
+
+note-tentative-requires : tie.Need-note-tentative-requires
+note-tentative-requires c κs = search needs
+
+returns : tie.Need-returns
+unfolding noteOwner
+returns c =
+    let a = c .before .before .before .args in
+    c .note-committed .ensures
+    ∙ sym (ap (λ (o : Owner). noteOwner (a .transaction) (a .i) (ownerIs o) (a .look)) (c .before .enum-told .given .1))
+
+returns-2 : tie.Need-returns-2
+unfolding noteOwner
+returns-2 c =
+    let a = c .before .before .before .before .args in
+    c .note-tentative .ensures
+    ∙ sym (ap (λ (o : Owner). noteOwner (a .transaction) (a .i) (ownerIs o) (a .look)) (c .before .before .owner .given .1))
+
+pub note-owner-spec : {M : Type 1} → statement M
+note-owner-spec =
+    tie.close
+    (tie.spec
+    enum-told
+    note-committed-requires
+    enum-known-owner
+    cast-note-tentative
+    note-tentative-requires
+    returns
+    returns-2)

@@ -1,0 +1,37 @@
+-- `engine_lookup::table_rows` meets its contract.
+use Rattle.engine_lookup.proofs.Tables.{table-range}
+use borrow.Author.Needs.{needs}
+use Rattle.engine_lookup.proofs.table_rows.Statement.{statement}
+use Rattle.engine_lookup.proofs.table_rows.Tie as tie
+
+table-start-requires : tie.Need-table-start-requires
+table-start-requires c κs = search needs
+
+add-table-start : tie.Need-add-table-start
+add-table-start c = search needs
+
+table-start-requires-2 : tie.Need-table-start-requires-2
+table-start-requires-2 c κs = search needs
+
+start-of-requires : tie.Need-start-of-requires
+start-of-requires c κs = search needs
+
+start-of-requires-2 : tie.Need-start-of-requires-2
+start-of-requires-2 c κs = search needs
+
+returns : tie.Need-returns
+returns c =
+    let st = c .before .before .before .before .before in
+    let p = c .before .before .before .table-start .ensures in
+    table-range (st .pre .0) p (c .before .before .table-start2 .ensures) (c .before .start-of .ensures .0) (c .start-of2 .ensures .0) (c .start-of2 .ensures .1)
+
+pub table-rows-spec : {M : Type 1} → statement M
+table-rows-spec =
+    tie.close
+    (tie.spec
+    table-start-requires
+    add-table-start
+    table-start-requires-2
+    start-of-requires
+    start-of-requires-2
+    returns)

@@ -1,0 +1,197 @@
+// What a transaction sees of a key, on the working memory: the table's keys are searched by groups, and the rows between the first and the
+// last one with the key are looked at. Right for rows in any order. Every function only reads the memory.
+use memory_rows::Owner;
+use memory_rows::Pending;
+ghost use mathlib.Core.Path.{_≡_};
+ghost use mathlib.Core.Bool.{true};
+ghost use Prim.Native.Nat.{_-_, _≤_, _<_};
+ghost use lib.ListN.{length};
+ghost use Rattle.model.specs.Sight.{versions, seen};
+ghost use Rattle.memory_bytes.specs.Columns.{tab};
+ghost use Rattle.memory_layout.specs.Flat.{flatOf, rowIn, Room};
+ghost use Rattle.memory_layout.specs.Store.{holdsStore, pagesIn, storeOf};
+ghost use Rattle.memory_rows.specs.Rows.{ownerIs};
+ghost use Rattle.engine_lookup.specs.Lookup.{Shows, blank, noteCommitted, noteTentative, noteOwner, note, notes, picked, Sees, TableRange, Spots};
+
+// What there is of a key. foreign: a version of another open transaction; any: any version; own: 1 + the row of the last own
+// version, 0 if there is none; committed: 1 + the row of the first committed version, 0 if there is none.
+pub struct Look {
+    pub foreign: bool,
+    pub any: bool,
+    pub own: usize,
+    pub committed: usize,
+}
+
+// The row of the version that is seen.
+pub enum Seen {
+    At(usize),
+    Nothing,
+}
+
+// The look at a key, and the row before which a new tuple with this key goes.
+pub struct Spot {
+    pub look: Look,
+    pub at: usize,
+}
+
+// The rows from start up to, not including, end.
+struct Range {
+    start: usize,
+    end: usize,
+}
+
+// ---- a look at rows
+
+// A committed version at row i: the first one counts.
+fn note_committed(i: usize, look: Look) -> Look
+    requires { ⌜ i < 1024 ⌝ }
+    ensures { λ r. ⌜ r ≡ noteCommitted i look ⌝ }
+{
+    let mut l = look;
+    l.any = true;
+    if l.committed == 0 {
+        l.committed = i + 1;
+    }
+    l
+}
+
+// A tentative version at row i, the transaction's own or another's: the last own one counts.
+fn note_tentative(i: usize, own: bool, look: Look) -> Look
+    requires { ⌜ i < 1024 ⌝ }
+    ensures { λ r. ⌜ r ≡ noteTentative i own look ⌝ }
+{
+    let mut l = look;
+    l.any = true;
+    if own {
+        l.own = i + 1;
+        return l;
+    }
+    l.foreign = true;
+    l
+}
+
+// A version of this owner at row i.
+fn note_owner(i: usize, owner: Owner, transaction: u64, look: Look) -> Look
+    requires { ⌜ i < 1024 ⌝ }
+    ensures { λ r. ⌜ r ≡ noteOwner transaction i (ownerIs owner) look ⌝ }
+{
+    match owner {
+        Owner::Committed => note_committed(i, look),
+        Owner::Tentative {
+            transaction: t,
+            statement: _,
+        } => note_tentative(i, t as u64 == transaction, look),
+    }
+}
+
+// Row i, whose key is the one that is looked for: one pending removal is no version, one pending commit a committed one.
+fn look_row(m: &[u8], i: usize, transaction: u64, look: Look) -> Look
+    requires { ⌜ Room (now m) × (i < length (flatOf (now m) .rows)) ⌝ }
+    ensures { λ r. ⌜ r ≡ note transaction i (rowIn (flatOf (now (m .entry))) i) look ⌝ }
+{
+    match memory_rows::pending_at(m, i) {
+        Pending::Removing => look,
+        Pending::Committing => note_committed(i, look),
+        _ => note_owner(i, memory_rows::owner_at(m, i), transaction, look),
+    }
+}
+
+// The rows from `from` up to, not including, `to`; those of another key are passed by.
+pub fn look_rows(m: &[u8], from: usize, to: usize, transaction: u64, key: u32, look: Look) -> Look
+    requires { ⌜ Room (now m) × (to ≤ length (flatOf (now m) .rows)) ⌝ }
+    ensures { λ r. ⌜ r ≡ notes transaction key from (tab (rowIn (flatOf (now (m .entry)))) from (to - from)) look ⌝ }
+{
+    let mut l = look;
+    let mut i = from;
+    while i < to {
+        if memory_rows::key_at(m, i) == key {
+            l = look_row(m, i, transaction, l);
+        }
+        i += 1;
+    }
+    l
+}
+
+// The rows from s up to, not including, e: only those between the first and the last one with the key are looked at.
+fn look_range(m: &[u8], s: usize, e: usize, transaction: u64, key: u32) -> Look
+    requires { ⌜ Room (now m) × ((s ≤ e) × (e ≤ length (flatOf (now m) .rows))) ⌝ }
+    ensures { λ r. ⌜ r ≡ notes transaction key s (tab (rowIn (flatOf (now (m .entry)))) s (e - s)) blank ⌝ }
+{
+    let first = memory_rows::find_equal(m, s, e, key);
+    let last = memory_rows::last_equal(m, first, e, key);
+    let none = Look {
+        foreign: false,
+        any: false,
+        own: 0,
+        committed: 0,
+    };
+    look_rows(m, first, last, transaction, key, none)
+}
+
+// ---- a key of a table
+
+fn table_rows(m: &[u8], table: u8) -> Range
+    requires { ⌜ Room (now m) × (table < 8) ⌝ }
+    ensures { λ r. ⌜ TableRange (flatOf (now (m .entry))) table r ⌝ }
+{
+    let t = table as usize;
+    let p = memory_pages::table_start(m, t);
+    let q = memory_pages::table_start(m, t + 1);
+    Range {
+        start: memory_pages::start_of(m, p),
+        end: memory_pages::start_of(m, q),
+    }
+}
+
+pub fn look_up(m: &[u8], table: u8, transaction: u64, key: u32) -> Look
+    requires { ⌜ (holdsStore (now m) ≡ true) × (table < 8) ⌝ }
+    ensures { λ r. ⌜ Shows (flatOf (now (m .entry))) table transaction (versions table key (pagesIn (flatOf (now (m .entry))))) r ⌝ }
+{
+    let t = table_rows(m, table);
+    look_range(m, t.start, t.end, transaction, key)
+}
+
+// The same, and the place of a new tuple with the key: behind all rows of the table with a key not above, so that the rows with the key
+// stand before it.
+pub fn look_place(m: &[u8], table: u8, transaction: u64, key: u32) -> Spot
+    requires { ⌜ (holdsStore (now m) ≡ true) × (table < 8) ⌝ }
+    ensures { λ r. ⌜ Spots (flatOf (now (m .entry))) table transaction key r ⌝ }
+{
+    let t = table_rows(m, table);
+    let at = memory_rows::last_up_to(m, t.start, t.end, key);
+    Spot {
+        look: look_range(m, t.start, at, transaction, key),
+        at: at,
+    }
+}
+
+// ---- what is seen
+
+// What is seen by what the look shows: the own newest version, unless it is a delete mark; without one the committed version.
+pub fn pick(m: &[u8], look: Look) -> Seen
+    requires { ⌜ Room (now m) × (look .own ≤ length (flatOf (now m) .rows)) ⌝ }
+    ensures { λ r. ⌜ r ≡ picked (flatOf (now (m .entry))) look ⌝ }
+{
+    let own = look.own;
+    let committed = look.committed;
+    if own == 0 {
+        if committed == 0 {
+            return Seen::Nothing;
+        }
+        return Seen::At(committed - 1);
+    }
+    let i = own - 1;
+    if memory_rows::mark_at(m, i) {
+        return Seen::Nothing;
+    }
+    Seen::At(i)
+}
+
+// The version of a key that the transaction sees.
+pub fn seen_by(m: &[u8], table: u8, transaction: u64, key: u32) -> Seen
+    requires { ⌜ (holdsStore (now m) ≡ true) × (table < 8) ⌝ }
+    ensures { λ r. ⌜ Sees (flatOf (now (m .entry))) table r (seen transaction table key (storeOf (flatOf (now (m .entry))))) ⌝ }
+{
+    let l = look_up(m, table, transaction, key);
+    pick(m, l)
+}

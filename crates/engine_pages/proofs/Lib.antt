@@ -1,0 +1,16 @@
+pub mod Places
+pub mod Sizes
+pub mod Pending
+pub mod Around
+pub mod Rows
+pub mod Splitting
+pub mod Parts
+pub mod Joining
+pub mod Committing
+pub mod Freezing
+pub mod Removing
+pub mod Placing
+pub mod Spots
+pub mod Growing
+pub mod Applying
+pub mod Thawing

@@ -1,0 +1,204 @@
+-- A removal, on a frozen page and on another.
+use mathlib.Core.Path.{_≡_, refl, sym, ap, _∙_, subst}
+use mathlib.Core.Bool.{Bool, true, false}
+use mathlib.Core.Option.{Option, none}
+use Prim.Native.Nat.{ℕ, zero, suc, _+_, _-_, _≤_, _<_}
+use native.Mathlib.Omega.{arith}
+use mathlib.Core.List.{List, [], _∷_, _++_}
+use lib.ListN.{length, take, drop, set, getD, length-set}
+use lib.Seq.{getD-set-same, take-set-le, drop-set-lt, set-set}
+use Rattle.basics.specs.Basics.{if_then_else_, isEmpty}
+use Rattle.model.specs.State.{removing, Held, Page}
+use Rattle.model.specs.Rules.{isAdding, gone, goneLater, withPending, withTuples, fresh, settle}
+use Rattle.model.specs.Places.{editAt, takenAt, removeRowOn, removeRow}
+use Rattle.model.proofs.Lists.{nonempty}
+use Rattle.model.proofs.Flat.{edit-none, edit-one}
+use Rattle.memory_bytes.specs.Columns.{removeAt}
+use Rattle.memory_layout.specs.Flat.{Flat, flatOf, entryIn, rowIn, noRow, noEntry, Room, Becomes, withRows, withEntries}
+use Rattle.memory_layout.specs.Store.{nest, pageOf, pageIn}
+use Rattle.memory_layout.specs.declared.Entry.{Entry}
+use Rattle.memory_layout.proofs.Laws.{becomes-then}
+use Rattle.memory_layout.proofs.Nest.{Counted}
+use Rattle.memory_layout.proofs.Exchange.{length-remove, counted-set, counted-exchange, row-removed, row-dropped}
+use Rattle.memory_pages.specs.Pages.{dirty, withBlock, withCount, fewerRows, MayLose}
+use Rattle.engine_pages.specs.Pages.{PagesNow, pagesOf, pageAt, tuplesAt, entryOf, firstRow, There, RowOn, swapped}
+use Rattle.engine_pages.specs.Changes.{Tries, settledAt, settledBy}
+use Rattle.engine_pages.proofs.Places.{now-to, now-then, now-stay, now-becomes, counted, full, room, many}
+use Rattle.engine_pages.proofs.Places.{has-row, swap-same, row-in, row-inside, tuple-is, first-there, first-page, still-there}
+use Rattle.engine_pages.proofs.Around.{on-swap, on-same}
+use Rattle.engine_pages.proofs.Rows.{at-row, row-now, page-fresh}
+use Rattle.engine_pages.proofs.Joining.{empty-none, tries-done, settled-none, settled-by}
+
+pub more : (k : ℕ) → 1 ≤ k → (k ≡ 1 → ⊥) → 1 < k
+more zero l h = absurd (omega arith)
+more (suc zero) l h = absurd (h refl)
+more (suc (suc k)) l h = omega arith
+
+-- ---- tuple j of a frozen page
+
+taken-some : (j : ℕ) (hs left : List Held) → editAt goneLater j hs ≡ left → 0 < length left → takenAt j hs ≡ left
+unfolding takenAt if_then_else_
+taken-some j hs left e l =
+    ap (λ (z : List Held). if isEmpty z then hs else z) e ∙ ap (λ (b : Bool). if b then hs else left) (nonempty left l)
+
+module _ (j : ℕ) (hs : List Held) (lt : j < length hs) where
+  later-none : isAdding (getD hs j noRow .pending) ≡ true → editAt goneLater j hs ≡ removeAt j hs
+  unfolding goneLater if_then_else_
+  later-none e = edit-none goneLater noRow hs j lt (rw e)
+
+  -- the last one stays
+  taken-last : isAdding (getD hs j noRow .pending) ≡ true → length hs ≡ 1 → takenAt j hs ≡ hs
+  unfolding takenAt if_then_else_
+  taken-last e l =
+      ap (λ (z : List Held). if isEmpty z then hs else z) (later-none e)
+      ∙ ap (λ (b : Bool). if b then hs else removeAt j hs) (empty-none (removeAt j hs) (length-remove j hs lt ∙ omega arith))
+
+  taken-away : isAdding (getD hs j noRow .pending) ≡ true → 1 < length hs → takenAt j hs ≡ removeAt j hs
+  taken-away e l = taken-some j hs (removeAt j hs) (later-none e) (omega (arith, length-remove j hs lt))
+
+  taken-noted : (x : Held) → isAdding (getD hs j noRow .pending) ≡ false → x ≡ withPending removing (getD hs j noRow) → takenAt j hs ≡ set hs j x
+  unfolding goneLater if_then_else_
+  taken-noted x e ex = taken-some j hs (set hs j x) (edit-one goneLater noRow x hs j (rw (e, ex) refl)) (omega (arith, length-set hs j x))
+
+-- ---- entries
+
+module _ {A : Type 0} where
+  -- what was set before does not matter
+  pub remove-set : (xs : List A) (p : ℕ) (x : A) → removeAt p (set xs p x) ≡ removeAt p xs
+  remove-set xs p x = ap (λ (z : List A). z ++ drop (p + 1) (set xs p x)) (take-set-le p xs p x (omega arith)) ∙ ap (λ (z : List A). take p xs ++ z) (drop-set-lt (p + 1) xs p x (omega arith))
+
+pub page-less : (m : List ℕ) (p n : ℕ) (hs : List Held) → pageOf (withCount (entryOf m p) n) hs ≡ withTuples (pageAt m p) hs
+unfolding pageIn pageOf withTuples
+page-less m p n hs = refl
+
+-- the same entries, written otherwise
+pub becomes-to : {m m' : List ℕ} (f : Flat) {E F : List Entry} → Becomes m m' (withEntries f E) → E ≡ F → Becomes m m' (withEntries f F)
+becomes-to {m} {m'} f b e = subst (λ (z : List Entry). Becomes m m' (withEntries f z)) e b
+
+-- ---- on the memory
+
+module _ {m : List ℕ} {p i : ℕ} (g : RowOn m p i) where
+  abbrev j : ℕ
+  j = i - firstRow m p
+
+  abbrev hs : List Held
+  hs = tuplesAt m p
+
+  abbrev t : ℕ
+  t = pageAt m p .table
+
+  a : There m p
+  a = g .there
+
+  adding-is : {b : Bool} → b ≡ isAdding (rowIn (flatOf m) i .pending) → isAdding (getD (tuplesAt m p) (i - firstRow m p) noRow .pending) ≡ b
+  adding-is e = ap (λ (z : Held). isAdding (z .pending)) (tuple-is g) ∙ sym e
+
+  pub may-lose : Room m × MayLose (flatOf m) p i
+  may-lose = (room a, record { place = a .inside; rows = has-row a; row = row-in g .1 })
+
+  -- ---- a frozen page
+
+  with-same : withTuples (pageAt m p) (tuplesAt m p) ≡ pageAt m p
+  unfolding withTuples
+  with-same = refl
+
+  abbrev noted : List Page
+  noted = swapped p (withTuples (pageAt m p) (takenAt (i - firstRow m p) (tuplesAt m p)) ∷ []) (pagesOf m)
+
+  later : (left : List Held) → takenAt (i - firstRow m p) (tuplesAt m p) ≡ left → {m' : List ℕ}
+      → PagesNow m m' (swapped p (withTuples (pageAt m p) left ∷ []) (pagesOf m)) → PagesNow m m' noted
+  later left e u = now-to u (ap (λ (z : List Held). swapped p (withTuples (pageAt m p) z ∷ []) (pagesOf m)) (sym e))
+
+  pub later-noted : {b : Bool} → b ≡ isAdding (rowIn (flatOf m) i .pending) → b ≡ false → {m' : List ℕ}
+      → Becomes m m' (withRows (flatOf m) (set (flatOf m .rows) i (withPending removing (rowIn (flatOf m) i)))) → PagesNow m m' noted
+  later-noted eb h u =
+      let x : Held = withPending removing (rowIn (flatOf m) i) in
+      later (set hs j x) (taken-noted j hs (row-inside g) x (adding-is eb ∙ h) (ap (withPending removing) (sym (tuple-is g)))) (row-now g x u)
+
+  module _ {b : Bool} (eb : b ≡ isAdding (rowIn (flatOf m) i .pending)) (h : b ≡ true) {n : ℕ} (en : n ≡ entryOf m p .count) where
+    pub later-last : n ≡ 1 → PagesNow m m noted
+    later-last l =
+        later hs (taken-last j hs (row-inside g) (adding-is eb ∙ h) (many a ∙ sym en ∙ l))
+        (now-to (now-stay m (a .held)) (sym (ap (λ (z : Page). swapped p (z ∷ []) (pagesOf m)) with-same ∙ swap-same a)))
+
+    pub later-away : (n ≡ 1 → ⊥) → {m' : List ℕ} → Becomes m m' (withEntries (withRows (flatOf m) (removeAt i (flatOf m .rows))) (fewerRows p (flatOf m .entries)))
+        → PagesNow m m' noted
+    unfolding swapped
+    later-away l u =
+        let k : 1 < entryOf m p .count = more _ (has-row a) (λ z. l (en ∙ z)) in
+        let e : Entry = withCount (entryOf m p) (entryOf m p .count - 1) in
+        later (removeAt j hs) (taken-away j hs (row-inside g) (adding-is eb ∙ h) (omega (arith, many a)))
+        (now-becomes u (counted-set (flatOf m .entries) p e (counted m (a .held)) (omega arith))
+        (row-removed (flatOf m) (full a) p (a .inside) i (g .least) (g .most) e (omega arith)
+        ∙ ap (λ (z : Page). take p (pagesOf m) ++ z ∷ drop (suc p) (pagesOf m)) (page-less m p _ _)))
+
+  -- ---- another page
+
+  abbrev left : List Held
+  left = removeAt (i - firstRow m p) (tuplesAt m p)
+
+  abbrev new : Page
+  new = fresh (pageAt m p .table) (removeAt (i - firstRow m p) (tuplesAt m p))
+
+  left-long : length (removeAt (i - firstRow m p) (tuplesAt m p)) ≡ entryOf m p .count - 1
+  left-long = length-remove j hs (row-inside g) ∙ ap (λ (z : ℕ). z - 1) (many a)
+
+  module _ {m1 : List ℕ} (u : Becomes m m1 (withEntries (withRows (flatOf m) (removeAt i (flatOf m .rows))) (fewerRows p (flatOf m .entries)))) where
+    abbrev less : Entry
+    less = withCount (entryOf m p) (entryOf m p .count - 1)
+
+    pub less-there : p < length (flatOf m1 .entries)
+    less-there = still-there p u (omega (arith, length-set (flatOf m .entries) p less, a .inside))
+
+    entry-then : entryOf m1 p ≡ less
+    entry-then = ap (λ (y : Flat). entryIn y p) (u .flat) ∙ getD-set-same (flatOf m .entries) p less noEntry (a .inside)
+
+    pub less-empty : entryOf m p .count ≡ 1 → entryOf m1 p .count ≡ 0
+    less-empty l = ap (λ (y : Entry). y .count) entry-then ∙ omega arith
+
+    -- the only row: the page goes
+    pub now-none : entryOf m p .count ≡ 1 → {m2 : List ℕ} → Becomes m1 m2 (withEntries (flatOf m1) (removeAt p (flatOf m1 .entries)))
+        → PagesNow m m2 (settledBy p (new ∷ []) new (pagesOf m))
+    unfolding swapped
+    now-none l {m2} v =
+        now-to (now-becomes (becomes-then m m1 m2 _ (λ (y : Flat). withEntries y (removeAt p (y .entries))) u v)
+        (subst Counted (sym (remove-set (flatOf m .entries) p less)) (counted-exchange (flatOf m .entries) [] p 1 (counted m (a .held)) tt))
+        (ap (λ (z : List Entry). nest z (removeAt i (flatOf m .rows))) (remove-set (flatOf m .entries) p less)
+        ∙ row-dropped (flatOf m) (full a) p (a .inside) i (g .least) (g .most) l))
+        (settled-none a t left (new ∷ []) (left-long ∙ omega arith))
+
+    module _ (l : 1 < entryOf m p .count) {m2 : List ℕ} (v : Becomes m1 m2 (withEntries (flatOf m1) (set (flatOf m1 .entries) p (withBlock (entryOf m1 p) 0 false)))) where
+      came : PagesNow m m2 (swapped p (fresh (pageAt m p .table) (removeAt (i - firstRow m p) (tuplesAt m p)) ∷ []) (pagesOf m))
+      unfolding swapped
+      came =
+          let e : Entry = dirty (entryOf m p .table) (entryOf m p .count - 1) in
+          let es : set (set (flatOf m .entries) p less) p (withBlock (getD (set (flatOf m .entries) p less) p noEntry) 0 false) ≡ set (flatOf m .entries) p e =
+          set-set (flatOf m .entries) p less _ ∙ ap (λ (y : Entry). set (flatOf m .entries) p (withBlock y 0 false)) (getD-set-same (flatOf m .entries) p less noEntry (a .inside)) in
+          now-becomes (becomes-to (withRows (flatOf m) (removeAt i (flatOf m .rows)))
+          (becomes-then m m1 m2 _ (λ (y : Flat). withEntries y (set (y .entries) p (withBlock (entryIn y p) 0 false))) u v) es)
+          (counted-set (flatOf m .entries) p e (counted m (a .held)) (omega arith))
+          (row-removed (flatOf m) (full a) p (a .inside) i (g .least) (g .most) e (omega arith)
+          ∙ ap (λ (z : Page). take p (pagesOf m) ++ z ∷ drop (suc p) (pagesOf m)) (page-fresh m p _ _))
+
+      pub now-there : There m2 p
+      now-there = first-there a new [] came
+
+      pub now-joined : {m3 : List ℕ} (r : Bool) → Tries m2 m3 r (settledAt p (pagesOf m2)) (λ rest. swapped p rest (pagesOf m2))
+          → PagesNow m m3 (settledBy p (new ∷ []) new (pagesOf m))
+      now-joined r w =
+          now-to (now-then came (tries-done now-there r w))
+          (ap (λ (z : Page). settledAt p (pagesOf m2) (z ∷ [])) (first-page a new [] came)
+          ∙ settled-by a t left (new ∷ []) (omega (arith, left-long)) came)
+
+  -- ---- the rule
+
+  pub removed-later : pageAt m p .frozen ≡ true → noted ≡ removeRow i (pagesOf m)
+  unfolding removeRow removeRowOn if_then_else_
+  removed-later e =
+      sym (at-row g removeRowOn ∙ on-swap a (removeRowOn j) (withTuples (pageAt m p) (takenAt j hs) ∷ []) (λ prev qs. rw e refl))
+
+  pub removed-now : pageAt m p .frozen ≡ false → settledBy p (new ∷ []) new (pagesOf m) ≡ removeRow i (pagesOf m)
+  unfolding removeRow removeRowOn settledBy if_then_else_ gone
+  removed-now e =
+      let x : editAt gone j hs ≡ removeAt j hs = edit-none gone noRow hs j (row-inside g) refl in
+      sym (at-row g removeRowOn ∙ on-same a (removeRowOn j) (λ prev r qs. settle (new ∷ []) prev new qs) (λ prev qs. rw (e, x) refl))

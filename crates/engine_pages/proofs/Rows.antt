@@ -1,0 +1,94 @@
+-- A row of a page changed, put in or taken out: what it does to the pages; and the row's place in the model's list of all tuples.
+use mathlib.Core.Path.{_≡_, refl, sym, ap, _∙_}
+use mathlib.Core.Bool.{Bool, true, false}
+use mathlib.Core.Option.{Option, none}
+use Prim.Native.Nat.{ℕ, zero, suc, _+_, _-_, _≤_, _<_}
+use native.Mathlib.Omega.{arith}
+use mathlib.Core.List.{List, [], _∷_, _++_, map}
+use lib.ListN.{length, take, drop, set, length-append, length-map, length-drop}
+use lib.Seq.{length-take-le, set-getD}
+use Rattle.basics.specs.Basics.{sum}
+use Rattle.model.specs.State.{Held, Page}
+use Rattle.model.specs.Rules.{fresh, withTuples}
+use Rattle.model.specs.Places as places
+use Rattle.model.specs.Places.{atRow, onPage, tagged}
+use Rattle.model.proofs.Flat.{row-by-page}
+use Rattle.memory_layout.specs.Flat.{Flat, flatOf, entryIn, noEntry, Becomes, withRows, withEntries}
+use Rattle.memory_layout.specs.Store.{nest, pageOf, pageIn, total, startOf}
+use Rattle.memory_layout.specs.declared.Entry.{Entry}
+use Rattle.memory_layout.proofs.Laws.{becomes-then}
+use Rattle.memory_layout.proofs.Nest.{take-nest}
+use Rattle.memory_layout.proofs.Exchange.{start-le, counted-set, row-changed, entry-set}
+use Rattle.memory_pages.specs.Pages.{dirty, withBlock}
+use Rattle.engine_pages.specs.Pages.{PagesNow, pagesOf, pageAt, tuplesAt, entryOf, firstRow, There, RowOn, swapped}
+use Rattle.engine_pages.proofs.Places.{now-becomes, counted, full, has-row, from-page, row-inside, page-table}
+
+-- ---- all tuples, by place
+
+tagged-nest : (es : List Entry) (ts : List Held) → length ts ≡ total es → length (tagged (nest es ts)) ≡ total es
+unfolding nest tagged total sum pageOf
+tagged-nest [] ts h = refl
+tagged-nest (e ∷ es) ts h =
+    let xs : List Held = take (e .count) ts in
+    let l : length xs ≡ e .count = length-take-le (e .count) ts (omega arith) in
+    let b : length (tagged (nest es (drop (e .count) ts))) ≡ total es = tagged-nest es (drop (e .count) ts) (simp length-drop (omega arith)) in
+    length-append (map (λ (h : Held). (e .table, h)) xs) (tagged (nest es (drop (e .count) ts))) ∙ omega (arith, length-map {B = ℕ × Held} xs (λ (h : Held). (e .table, h)))
+
+module _ {m : List ℕ} {p i : ℕ} (g : RowOn m p i) where
+  tagged-start : length (tagged (take p (pagesOf m))) ≡ firstRow m p
+  tagged-start =
+      let f : Flat = flatOf m in
+      let s : ℕ = startOf f p in
+      ap (λ (z : List Page). length (tagged z)) (take-nest p (f .entries) (f .rows))
+      ∙ tagged-nest (take p (f .entries)) (take s (f .rows)) (length-take-le s (f .rows) (start-le f (full (g .there)) p))
+
+  -- what is done at a row is done on its page
+  pub at-row : (F : ℕ → Option Page → Page → List Page → List Page) → atRow F i none (pagesOf m) ≡ onPage (F (i - firstRow m p)) p none (pagesOf m)
+  at-row F =
+      row-by-page F (pagesOf m) i p (i - firstRow m p) (pageAt m p)
+      (record { page = from-page (g .there); place = omega (arith, tagged-start, g .least); inside = row-inside g }) none
+
+-- ---- the entry changed
+
+module _ {m m' : List ℕ} {p : ℕ} (a : There m p) where
+  pub page-now : (b : ℕ) (z : Bool) → Becomes m m' (withEntries (flatOf m) (set (flatOf m .entries) p (withBlock (entryOf m p) b z)))
+      → PagesNow m m' (swapped p (pageOf (withBlock (entryOf m p) b z) (tuplesAt m p) ∷ []) (pagesOf m))
+  unfolding swapped
+  page-now b z u =
+      let e : Entry = withBlock (entryOf m p) b z in
+      now-becomes u (counted-set (flatOf m .entries) p e (counted m (a .held)) (has-row a)) (entry-set (flatOf m) (full a) p (a .inside) e refl)
+
+-- ---- a row changed
+
+pub page-with : (m : List ℕ) (p : ℕ) (hs : List Held) → pageOf (entryOf m p) hs ≡ withTuples (pageAt m p) hs
+unfolding pageIn pageOf withTuples
+page-with m p hs = refl
+
+pub page-fresh : (m : List ℕ) (p n : ℕ) (hs : List Held) → pageOf (dirty (entryOf m p .table) n) hs ≡ fresh (pageAt m p .table) hs
+unfolding pageIn pageOf fresh
+page-fresh m p n hs = refl
+
+module _ {m : List ℕ} {p i : ℕ} (g : RowOn m p i) (x : Held) {m1 : List ℕ} (u : Becomes m m1 (withRows (flatOf m) (set (flatOf m .rows) i x))) where
+  abbrev f : Flat
+  f = flatOf m
+
+  pub row-now : PagesNow m m1 (swapped p (withTuples (pageAt m p) (set (tuplesAt m p) (i - firstRow m p) x) ∷ []) (pagesOf m))
+  unfolding swapped
+  row-now =
+      let a : There m p = g .there in
+      now-becomes u (counted m (a .held))
+      (ap (λ (z : List Entry). nest z (set (flatOf m .rows) i x)) (sym (set-getD (flatOf m .entries) p noEntry))
+      ∙ row-changed (flatOf m) (full a) p (a .inside) i (g .least) (g .most) (entryOf m p) x refl
+      ∙ ap (λ (z : Page). take p (pagesOf m) ++ z ∷ drop (suc p) (pagesOf m)) (page-with m p _))
+
+  -- and the page is dirty
+  pub row-dirty : {m2 : List ℕ} → Becomes m1 m2 (withEntries (flatOf m1) (set (flatOf m1 .entries) p (withBlock (entryOf m1 p) 0 false)))
+      → PagesNow m m2 (swapped p (fresh (pageAt m p .table) (set (tuplesAt m p) (i - firstRow m p) x) ∷ []) (pagesOf m))
+  unfolding swapped
+  row-dirty {m2} v =
+      let a : There m p = g .there in
+      let e : Entry = withBlock (entryOf m p) 0 false in
+      now-becomes (becomes-then m m1 m2 _ (λ (y : Flat). withEntries y (set (y .entries) p (withBlock (entryIn y p) 0 false))) u v)
+      (counted-set (flatOf m .entries) p e (counted m (a .held)) (has-row a))
+      (row-changed (flatOf m) (full a) p (a .inside) i (g .least) (g .most) e x refl
+      ∙ ap (λ (z : Page). take p (pagesOf m) ++ z ∷ drop (suc p) (pagesOf m)) (page-fresh m p _ _))

@@ -1,0 +1,110 @@
+-- Rows from s up to e, turn by turn: their sizes, and tests over them.
+use mathlib.Core.Path.{_≡_, refl, sym, ap, _∙_}
+use mathlib.Core.Bool.{Bool, true, false, _||_}
+use Prim.Native.Nat.{ℕ, zero, suc, _+_, _*_, _-_, _≤_, _<_}
+use native.Mathlib.Omega.{arith}
+use native.Mathlib.Numerals.{add-one}
+use mathlib.Core.List.{List, [], _∷_}
+use lib.ListN.{length, take, drop, getD}
+use lib.Seq.{drop-cons}
+use lib.Dec.{leb, ltb}
+use borrow.Author.Tests.{le-leb, lt-leb}
+use Rattle.basics.specs.Basics.{if_then_else_, sum, any}
+use Rattle.basics.proofs.Facts.{AllOf}
+use Rattle.blocks.specs.Limits.{payloadLimit}
+use Rattle.model.specs.State.{Held}
+use Rattle.model.specs.Rules.{heldSize, lead}
+use Rattle.model.proofs.Splits.{Small}
+use Rattle.model.proofs.Lists.{any-cons, all-take, all-drop}
+use Rattle.memory_layout.specs.Flat.{flatOf, capacityOf, rowIn, noRow, Room}
+use Rattle.memory_layout.specs.Views.{lengthOf, stateOf}
+use Rattle.memory_rows.proofs.Fields.{size-is}
+use Rattle.engine_pages.specs.Pages.{rowsFrom, Span}
+use Rattle.engine_pages.proofs.Places.{few-rows}
+
+-- ---- no row is large
+
+length-most : (s : ℕ) → lengthOf s ≤ payloadLimit
+unfolding lengthOf
+length-most s = omega arith
+
+owner-most : (b : Bool) → (if b then 4 else 0) ≤ 4
+unfolding if_then_else_
+owner-most true = omega arith
+owner-most false = omega arith
+
+pub row-small : (m : List ℕ) (i : ℕ) → i < length (flatOf m .rows) → heldSize (rowIn (flatOf m) i) ≤ 13 + payloadLimit
+row-small m i h =
+    let s : ℕ = stateOf m (capacityOf m) i in
+    omega (arith, size-is m i h s refl, length-most s, owner-most (ltb s 128))
+
+-- every element by its index
+all-by : {A : Type 0} (P : A → Type 0) (xs : List A) (d : A) → ((i : ℕ) → i < length xs → P (getD xs i d)) → AllOf P xs
+all-by P [] d h = tt
+all-by P (x ∷ xs) d h = (h 0 (omega arith), all-by P xs d (λ i l. h (suc i) (omega arith)))
+
+pub rows-small : (m : List ℕ) (s e : ℕ) → AllOf Small (rowsFrom m s e)
+rows-small m s e = all-take Small (e - s) _ (all-drop Small s (flatOf m .rows) (all-by Small (flatOf m .rows) noRow (row-small m)))
+
+-- ---- turn by turn
+
+module _ (m : List ℕ) (i e : ℕ) where
+  pub rows-next : i < e → e ≤ length (flatOf m .rows) → rowsFrom m i e ≡ rowIn (flatOf m) i ∷ rowsFrom m (i + 1) e
+  rows-next h l =
+      let rs : List Held = flatOf m .rows in
+      let z : e - i ≡ suc (e - (i + 1)) = omega arith in
+      ap (λ (n : ℕ). take n (drop i rs)) z ∙ ap (take (suc (e - (i + 1)))) (drop-cons rs i noRow (omega arith))
+      ∙ ap (λ (n : ℕ). rowIn (flatOf m) i ∷ take (e - (i + 1)) (drop n rs)) (sym (add-one i))
+
+  pub rows-none : e ≤ i → rowsFrom m i e ≡ []
+  rows-none h = let z : e - i ≡ 0 = omega arith in ap (λ (n : ℕ). take n (drop i (flatOf m .rows))) z
+
+  pub sum-next : i < e → e ≤ length (flatOf m .rows) → sum heldSize (rowsFrom m i e) ≡ heldSize (rowIn (flatOf m) i) + sum heldSize (rowsFrom m (i + 1) e)
+  unfolding sum
+  sum-next h l = ap (sum heldSize) (rows-next h l)
+
+  pub sum-none : e ≤ i → sum heldSize (rowsFrom m i e) ≡ 0
+  unfolding sum
+  sum-none h = ap (sum heldSize) (rows-none h)
+
+  module _ (w a : ℕ) where
+    pub lead-stop : i < e → e ≤ length (flatOf m .rows) → w ≤ 2 * (a + heldSize (rowIn (flatOf m) i)) → lead w a (rowsFrom m i e) ≡ 1
+    unfolding lead if_then_else_
+    lead-stop h l k = ap (lead w a) (rows-next h l) ∙ (simp (le-leb _ _ k))
+
+    pub lead-go : i < e → e ≤ length (flatOf m .rows) → 2 * (a + heldSize (rowIn (flatOf m) i)) < w
+        → lead w a (rowsFrom m i e) ≡ suc (lead w (a + heldSize (rowIn (flatOf m) i)) (rowsFrom m (i + 1) e))
+    unfolding lead if_then_else_
+    lead-go h l k = ap (lead w a) (rows-next h l) ∙ (simp (lt-leb _ _ k))
+
+    pub lead-end : e ≤ i → lead w a (rowsFrom m i e) ≡ 0
+    unfolding lead
+    lead-end h = ap (lead w a) (rows-none h)
+
+  module _ (f : Held → Bool) (h : i < e) (l : e ≤ length (flatOf m .rows)) {b : Bool} (eb : b ≡ f (rowIn (flatOf m) i)) where
+    any-next : any f (rowsFrom m i e) ≡ (b || any f (rowsFrom m (i + 1) e))
+    any-next = ap (any f) (rows-next h l) ∙ any-cons f (rowIn (flatOf m) i) (rowsFrom m (i + 1) e) ∙ ap (λ z. z || any f (rowsFrom m (i + 1) e)) (sym eb)
+
+    pub any-stop : b ≡ true → any f (rowsFrom m i e) ≡ true
+    any-stop k = any-next ∙ ap (λ z. z || any f (rowsFrom m (i + 1) e)) k
+
+    pub any-go : b ≡ false → any f (rowsFrom m i e) ≡ any f (rowsFrom m (i + 1) e)
+    any-go k = any-next ∙ ap (λ z. z || any f (rowsFrom m (i + 1) e)) k
+
+  pub any-none : (f : Held → Bool) → e ≤ i → any f (rowsFrom m i e) ≡ false
+  unfolding any
+  any-none f h = ap (any f) (rows-none h)
+
+-- a turn of a loop over the rows from s up to e: it is at row i, of size w, and the rows before it have size all
+pub record Turn (m : List ℕ) (s e i all w : ℕ) : Type 0 where
+  pub least : s ≤ i
+  pub inside : i < e
+  pub most : e ≤ length (flatOf m .rows)
+  pub few : e ≤ 1024
+  pub light : all ≤ 53 * (i - s)
+  pub small : w ≤ 53
+  pub size : w ≡ heldSize (rowIn (flatOf m) i)
+
+pub turn : {m : List ℕ} {s e i all w : ℕ} → Span m s e → s ≤ i → i < e → all ≤ 53 * (i - s) → (w ≡ heldSize (rowIn (flatOf m) i)) × (w ≤ 13 + payloadLimit) → Turn m s e i all w
+turn g least inside light es =
+    record { least = least; inside = inside; most = g .inside; few = omega (arith, g .inside, few-rows (g .room)); light = light; small = es .1; size = es .0 }

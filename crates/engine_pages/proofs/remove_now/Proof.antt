@@ -1,0 +1,82 @@
+use Prim.Native.Nat.{_<_}
+use mathlib.Core.Path.{sym, _∙_}
+use Rattle.engine_pages.specs.Pages.{entryOf}
+use Rattle.engine_pages.proofs.Places.{has-row, page-in}
+use Rattle.engine_pages.proofs.Removing.{more, may-lose, less-there, less-empty, now-none, now-there, now-joined}
+use native.Mathlib.Omega.{arith}
+use borrow.Author.Needs.{needs}
+use Rattle.engine_pages.proofs.remove_now.Statement.{statement}
+use Rattle.engine_pages.proofs.remove_now.Tie as tie
+
+-- another row is left
+two : (c : tie.Else1) → 1 < entryOf ((c .before .before .before .before .before .before .before .before) .args .m .now)
+    ((c .before .before .before .before .before .before .before .before) .args .p) .count
+two c = more _ (has-row ((c .before .before .before .before .before .before .before .before) .pre .there)) (λ z. c .if1 .left ((c .before .before .before .before .before) .count-at .ensures ∙ z))
+
+count-at-requires : tie.Need-count-at-requires
+count-at-requires c κs = search needs
+
+remove-row-requires : tie.Need-remove-row-requires
+remove-row-requires c κs = let b4 = c .before .before .before .before in may-lose (b4 .pre)
+
+remove-page-requires : tie.Need-remove-page-requires
+remove-page-requires c κs =
+    let b1 = c .before in
+    let b4 = b1 .before .before .before in
+    let b6 = b4 .before .before in
+    let b9 = b6 .before .before .before in
+    let g = b9 .pre in
+    let u = b4 .remove-row .ensures in
+    (u .room, record { place = less-there g u; empty = less-empty g u (sym (b6 .count-at .ensures) ∙ b1 .if1 .taken) })
+
+same-length : tie.Need-same-length
+same-length c = search needs
+
+returns : tie.Need-returns
+returns c =
+    let b2 = c .before .before in
+    let b4 = b2 .before .before in
+    let b7 = b4 .before .before .before in
+    let b9 = b7 .before .before in
+    let b12 = b9 .before .before .before in
+    now-none (b12 .pre) (b7 .remove-row .ensures) (sym (b9 .count-at .ensures) ∙ b4 .if1 .taken) (b2 .remove-page .ensures)
+
+set-page-requires : tie.Need-set-page-requires
+set-page-requires c κs =
+    let b4 = c .before .before .before .before in
+    let b9 = b4 .before .before .before .before .before in
+    let u = b4 .remove-row .ensures in (u .room, record { place = less-there (b9 .pre) u; block = omega arith })
+
+join-requires : tie.Need-join-requires
+join-requires c κs =
+    let b3 = c .before .before .before in
+    let b5 = b3 .before .before in
+    let b8 = b5 .before .before .before in
+    let b13 = b8 .before .before .before .before .before in
+    now-there (b13 .pre) (b8 .remove-row .ensures) (two b5) (b3 .set-page .ensures)
+
+same-length-2 : tie.Need-same-length-2
+same-length-2 c = search needs
+
+returns-2 : tie.Need-returns-2
+returns-2 c =
+    let b2 = c .before .before in
+    let b6 = b2 .before .before .before .before in
+    let b8 = b6 .before .before in
+    let b11 = b8 .before .before .before in
+    let b16 = b11 .before .before .before .before .before in
+    now-joined (b16 .pre) (b11 .remove-row .ensures) (two b8) (b6 .set-page .ensures) (b2 .join .result) (b2 .join .ensures)
+
+pub remove-now-spec : {M : Type 1} → statement M
+remove-now-spec =
+    tie.close
+    (tie.spec
+    count-at-requires
+    remove-row-requires
+    remove-page-requires
+    same-length
+    returns
+    set-page-requires
+    join-requires
+    same-length-2
+    returns-2)

@@ -1,0 +1,43 @@
+-- What the functions that split a page, or join two, need and promise.
+use Prim.Native.Nat.{ℕ, _-_, _<_}
+use mathlib.Core.Path.{_≡_}
+use mathlib.Core.Bool.{Bool, true, false}
+use mathlib.Core.Option.{none}
+use mathlib.Core.List.{List, [], _∷_, _++_, map}
+use lib.ListN.{length}
+use Rattle.model.specs.State.{Page}
+use Rattle.model.specs.Rules.{fresh, listOf, fits, half, splitOnce, settleFull, settleNext, settle}
+use Rattle.model.specs.Places.{onPage}
+use Rattle.memory_bytes.specs.Columns.{removeAt}
+use Rattle.engine_pages.specs.Pages.{PagesNow, pagesOf, pageAt, tuplesAt, firstRow, swapped}
+
+-- made or changed: dirty and not frozen
+abbrev pub Dirty : Page → Type 0
+Dirty q = q ≡ fresh (q .table) (q .tuples)
+
+-- page p is split if it is above 504 bytes, after r tuples; else r is 0
+pub record Halved (m m' : List ℕ) (p r : ℕ) : Type 0 where
+  pub pages : PagesNow m m' (swapped p (map (fresh (pageAt m p .table)) (splitOnce (tuplesAt m p))) (pagesOf m))
+  pub whole : r ≡ 0 → fits (tuplesAt m p) ≡ true
+  pub parts : (r ≡ 0 → ⊥) → (fits (tuplesAt m p) ≡ false) × ((r ≡ half (tuplesAt m p)) × (r < length (tuplesAt m p)))
+
+-- page p joined as it may be, or replaced by the pages of rest
+unfoldable pub settledAt : ℕ → List Page → List Page → List Page
+settledAt p ps rest = onPage (settleFull rest) p none ps
+
+-- the same without its predecessor
+unfoldable pub settledNext : ℕ → List Page → List Page → List Page
+settledNext p ps rest = onPage (λ prev q qs. listOf prev ++ settleNext rest q qs) p none ps
+
+-- page p has become q: it is dropped, joined as it may be, or replaced by the pages of rest
+unfoldable pub settledBy : ℕ → List Page → Page → List Page → List Page
+settledBy p rest q ps = onPage (λ o r qs. settle rest o q qs) p none ps
+
+-- the answer true: F is done, whatever the rest; false: nothing is, and F is G
+pub record Tries (m m' : List ℕ) (r : Bool) (F G : List Page → List Page) : Type 0 where
+  pub done : r ≡ true → (rest : List Page) → PagesNow m m' (F rest)
+  pub not-done : r ≡ false → (m' ≡ m) × ((rest : List Page) → F rest ≡ G rest)
+
+-- page p without row i, dirty
+abbrev pub lessOne : List ℕ → ℕ → ℕ → Page
+lessOne m p i = fresh (pageAt m p .table) (removeAt (i - firstRow m p) (tuplesAt m p))

@@ -1,0 +1,4 @@
+pub mod Pages
+pub mod Changes
+pub mod Pending
+pub mod Spots

@@ -1,0 +1,61 @@
+-- Counts and header, from what the memory holds.
+use mathlib.Core.Path.{_≡_, sym, ap, _∙_}
+use mathlib.Core.List.{List}
+use Prim.Native.Nat.{ℕ, suc, _+_, _≤_}
+use native.Mathlib.Omega.{arith}
+use lib.ListN.{length, getD}
+use Rattle.model.specs.Checkpoint.{headerFor}
+use Rattle.memory_layout.specs.Views.{headOf, countsOf}
+use Rattle.memory_layout.specs.Flat.{flatOf, Room}
+use Rattle.memory_layout.specs.Store.{storeOf}
+use Rattle.memory_layout.specs.declared.Head.{Head}
+use Rattle.memory_layout.specs.declared.Counts.{Counts}
+use Rattle.engine_writer.specs.Written.{nextHeader}
+use Rattle.memory_layout.proofs.Laws.{named-length, directories-length}
+
+-- there are at most as many directory entries as rows
+pub named-few : (m : List ℕ) → Room m → length (flatOf m .named) ≤ 1024
+unfolding countsOf
+named-few m r = omega (arith, named-length m, r .range .named, r .range .most)
+
+module _ (m : List ℕ) {c : Counts} (ec : c ≡ countsOf m) where
+  -- the counts are how long the lists are
+  pub count-named : c .named ≡ length (flatOf m .named)
+  unfolding countsOf
+  count-named = ap (λ (z : Counts). z .named) ec ∙ sym (named-length m)
+
+  pub count-directories : c .directories ≡ length (flatOf m .directories)
+  unfolding countsOf
+  count-directories = ap (λ (z : Counts). z .directories) ec ∙ sym (directories-length m)
+
+  -- the header, field by field
+  pub header-is : {h : Head} {d0 d1 d2 d3 : ℕ} → h ≡ headOf m
+      → d0 ≡ getD (flatOf m .directories) 0 0 → d1 ≡ getD (flatOf m .directories) 1 0
+      → d2 ≡ getD (flatOf m .directories) 2 0 → d3 ≡ getD (flatOf m .directories) 3 0
+      → record {
+        blocks = h .blocks;
+        capacity = h .capacity;
+        level = h .level + 1;
+        next = h .begun;
+        pages = c .named;
+        directories = c .directories;
+        d0 = d0;
+        d1 = d1;
+        d2 = d2;
+        d3 = d3;
+      } ≡ nextHeader (flatOf m)
+  unfolding headerFor storeOf
+  header-is {h} eh e0 e1 e2 e3 =
+      let l : h .level + 1 ≡ suc (headOf m .level) = omega (arith, ap (λ (z : Head). z .level) eh) in
+      λ i. record {
+        blocks = eh i .blocks;
+        capacity = eh i .capacity;
+        level = l i;
+        next = eh i .begun;
+        pages = count-named i;
+        directories = count-directories i;
+        d0 = e0 i;
+        d1 = e1 i;
+        d2 = e2 i;
+        d3 = e3 i;
+      }

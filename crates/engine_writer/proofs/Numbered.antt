@@ -1,0 +1,34 @@
+-- Directory entries and directory blocks: one by one, and a run of them.
+use mathlib.Core.Path.{_≡_, sym, ap, _∙_}
+use Prim.Native.Nat.{ℕ, _+_, _≤_, _<_}
+use native.Mathlib.Omega.{arith}
+use native.Mathlib.Numerals.{add-one}
+use mathlib.Core.List.{List}
+use lib.ListN.{length, take, drop, getD, set, length-drop}
+use lib.Seq.{take-suc, take-suc-set, take-all, getD-drop}
+use Rattle.blocks.specs.Limits.{entriesPerBlock}
+
+-- one entry more of a run
+pub entries-turn : (ns out : List ℕ) (first i v : ℕ) → i < length out → first + i < length ns → v ≡ getD ns (first + i) 0
+    → take i out ≡ take i (drop first ns) → take (i + 1) (set out i v) ≡ take (i + 1) (drop first ns)
+entries-turn ns out first i v h k e t =
+    let l : i < length (drop first ns) = simp length-drop (omega arith) in
+    let x : v ≡ getD (drop first ns) i 0 = e ∙ sym (getD-drop first ns i 0) in
+    rw (add-one i, take-suc-set out i v h, t, x) (sym (take-suc (drop first ns) i 0 l))
+
+-- count entries from first on are those of one directory block
+pub record Run (ns : List ℕ) (first count : ℕ) : Type 0 where
+  pub few : count ≤ entriesPerBlock
+  pub inside : first + count ≤ length ns
+  pub whole : take count (drop first ns) ≡ take entriesPerBlock (drop first ns)
+
+module _ {ns : List ℕ} {first count : ℕ} where
+  -- a block that is not the last
+  pub run-full : first + entriesPerBlock ≤ length ns → count ≡ entriesPerBlock → Run ns first count
+  run-full h e = record { few = omega arith; inside = omega arith; whole = ap (λ (z : ℕ). take z (drop first ns)) e }
+
+  -- the last
+  pub run-last : first + count ≡ length ns → count ≤ entriesPerBlock → Run ns first count
+  run-last e h =
+      let l : length (drop first ns) ≡ count = simp length-drop (omega arith) in
+      record { few = h; inside = omega arith; whole = take-all count (drop first ns) (omega arith) ∙ sym (take-all entriesPerBlock (drop first ns) (omega arith)) }

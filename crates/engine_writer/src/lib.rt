@@ -1,0 +1,167 @@
+// The blocks that a checkpoint stores, from the working memory: each is built in zeros and copied out whole.
+ghost use mathlib.Core.Path.{_≡_};
+ghost use mathlib.Core.Bool.{not};
+ghost use mathlib.Core.List.{[]};
+ghost use Prim.Native.Nat.{_+_, _*_, _-_, _≤_, _<_};
+ghost use lib.ListN.{length, take, drop, getD};
+ghost use Rattle.blocks.specs.Limits.{entriesPerBlock};
+ghost use Rattle.blocks.specs.Tuple.{OwnerFits};
+ghost use Rattle.blocks.specs.Block.{header, page, directory, encodeBlock};
+ghost use Rattle.model.specs.Rules.{isAdding, shown};
+ghost use Rattle.model.specs.Checkpoint.{storable};
+ghost use Rattle.memory_layout.specs.Flat.{flatOf, rowIn, Room};
+ghost use Rattle.memory_rows.specs.Rows.{ownerIs};
+ghost use Rattle.engine_writer.specs.Written.{nextHeader, ownerWord, Spells};
+use memory_rows::Owner;
+use memory_rows::Pending;
+
+// ---- the header
+
+// The number of directory block i, 0 if there is none.
+fn directory_number(m: &[u8], i: usize) -> u32
+    requires { ⌜ Room (now m) ⌝ }
+    ensures { λ r. ⌜ r ≡ getD (flatOf (now (m .entry)) .directories) i 0 ⌝ }
+{
+    let c = memory_layout::get_counts(m);
+    let n = c.directories as usize;
+    if i < n {
+        return memory_layout::get_directory(m, i);
+    }
+    0
+}
+
+// The header to come, as the memory has it.
+pub fn write_header(out: &mut [u8], m: &[u8])
+    requires { ⌜ Room (now m) × ((flatOf (now m) .head .level < 4294967295) × (length (now out) ≡ 512)) ⌝ }
+    ensures { λ _. ⌜ now (out .exit) ≡ encodeBlock (header (nextHeader (flatOf (now (m .entry))))) ⌝ }
+{
+    let h = memory_layout::get_head(m);
+    let c = memory_layout::get_counts(m);
+    let block = blocks::Header {
+        blocks: h.blocks,
+        capacity: h.capacity,
+        level: h.level + 1,
+        next: h.begun,
+        pages: c.named,
+        directories: c.directories,
+        d0: directory_number(m, 0),
+        d1: directory_number(m, 1),
+        d2: directory_number(m, 2),
+        d3: directory_number(m, 3),
+    };
+    blocks::write_header(out, block);
+}
+
+// ---- the directory
+
+// count entries of the list of pages at begin, from the entry first on.
+fn named_from(m: &[u8], first: usize, count: usize) -> [u16; blocks::ENTRIES_PER_BLOCK]
+    requires { ⌜ Room (now m) × ((count ≤ entriesPerBlock) × (first + count ≤ length (flatOf (now m) .named))) ⌝ }
+    ensures { λ r. ⌜ take count r ≡ take count (drop first (flatOf (now (m .entry)) .named)) ⌝ }
+{
+    let mut entries = [0u16; blocks::ENTRIES_PER_BLOCK];
+    let mut i: usize = 0;
+    while i < count {
+        entries[i] = memory_layout::get_named(m, first + i);
+        i += 1;
+    }
+    entries
+}
+
+// Directory block k of the list of pages at begin.
+pub fn write_directory(out: &mut [u8], m: &[u8], k: usize, level: u32)
+    requires { ⌜ Room (now m) × ((entriesPerBlock * k ≤ length (flatOf (now m) .named)) × (length (now out) ≡ 512)) ⌝ }
+    ensures { λ _. ⌜ now (out .exit) ≡ encodeBlock (directory level (take entriesPerBlock (drop (entriesPerBlock * k) (flatOf (now (m .entry)) .named)))) ⌝ }
+{
+    let c = memory_layout::get_counts(m);
+    let first = blocks::ENTRIES_PER_BLOCK * k;
+    let mut count = c.named as usize - first;
+    if blocks::ENTRIES_PER_BLOCK < count {
+        count = blocks::ENTRIES_PER_BLOCK;
+    }
+    let entries = named_from(m, first, count);
+    blocks::write_directory(out, level, &entries[0..count]);
+}
+
+// ---- a page
+
+// A pending add is no part of the image; every other row is shown as it was when its page was frozen.
+fn is_shown(m: &[u8], i: usize) -> bool
+    requires { ⌜ Room (now m) × (i < length (flatOf (now m) .rows)) ⌝ }
+    ensures { λ r. ⌜ r ≡ not (isAdding (rowIn (flatOf (now (m .entry))) i .pending)) ⌝ }
+{
+    match memory_rows::pending_at(m, i) {
+        Pending::Nothing => true,
+        Pending::Adding => false,
+        Pending::Committing => true,
+        Pending::Removing => true,
+    }
+}
+
+// An owner's four bytes as a number.
+fn owner_word(o: Owner) -> u32
+    requires { ⌜ OwnerFits (ownerIs o) ⌝ }
+    ensures { λ r. ⌜ r ≡ ownerWord (ownerIs o) ⌝ }
+{
+    match o {
+        Owner::Committed => 0,
+        Owner::Tentative {
+            transaction: t,
+            statement: s,
+        } => t * 1048576 + s,
+    }
+}
+
+// Row i as a record. A pending commit or removal is not looked at.
+fn record_at(m: &[u8], i: usize) -> blocks::Record
+    requires { ⌜ Room (now m) × (i < length (flatOf (now m) .rows)) ⌝ }
+    ensures { λ r. ⌜ Spells (now (m .entry)) r (rowIn (flatOf (now (m .entry))) i .tuple) ⌝ }
+{
+    let p = memory_rows::payload_at(m, i);
+    let f = memory_rows::flags_at(m, i);
+    let w = owner_word(memory_rows::owner_at(m, i));
+    blocks::Record {
+        key: memory_rows::key_at(m, i),
+        number: memory_rows::number_at(m, i),
+        flags: f,
+        owner: w,
+        start: p.start,
+        len: p.len,
+    }
+}
+
+// The block of a page that shows nothing, or more than a block has room for.
+fn write_empty(out: &mut [u8], table: u8, level: u32)
+    requires { ⌜ (table < 8) × (length (now out) ≡ 512) ⌝ }
+    ensures { λ _. ⌜ now (out .exit) ≡ encodeBlock (page table level []) ⌝ }
+{
+    let mut block = [0u8; 512];
+    blocks::put_page_head(&mut block, table as u32, 0, 0, level);
+    blocks::copy(out, 0, &block, 0, 512);
+}
+
+// The block of a page whose rows go from row s up to, not including, row e: what it showed when it was frozen, and nothing if that is
+// more than a block has room for.
+pub fn write_page(out: &mut [u8], m: &[u8], table: u8, s: usize, e: usize, level: u32)
+    requires { ⌜ Room (now m) × (((s ≤ e) × (e ≤ length (flatOf (now m) .rows))) × ((table < 8) × (length (now out) ≡ 512))) ⌝ }
+    ensures { λ _. ⌜ now (out .exit) ≡ encodeBlock (page table level (storable (shown (take (e - s) (drop s (flatOf (now (m .entry)) .rows)))))) ⌝ }
+{
+    let mut block = [0u8; 512];
+    let mut at: usize = 8;
+    let mut count: u32 = 0;
+    let mut i = s;
+    while i < e {
+        if is_shown(m, i) {
+            if 8 + blocks::PageLayout::RECORD_SPACE < at + memory_rows::size_at(m, i) {
+                write_empty(out, table, level);
+                return;
+            }
+            let r = record_at(m, i);
+            at = blocks::append(&mut block, at, r, m);
+            count += 1;
+        }
+        i += 1;
+    }
+    blocks::put_page_head(&mut block, table as u32, count, at as u32 - 8, level);
+    blocks::copy(out, 0, &block, 0, 512);
+}

@@ -1,9 +1,0 @@
-pub mod Places
-pub mod Flags
-pub mod Versions
-pub mod Tables
-pub mod Choices
-pub mod Pushing
-pub mod Removing
-pub mod Bound
-pub mod Planning

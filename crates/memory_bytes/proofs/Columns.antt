@@ -1,0 +1,103 @@
+-- Lists by index.
+use mathlib.Core.Path.{_≡_, refl, ap, _∙_}
+use mathlib.Core.Logic.{_⊎_, inl, inr, ⊎-elim}
+use mathlib.Core.List.{List, _∷_, _++_}
+use Prim.Native.Nat.{ℕ, zero, suc, _+_, _-_, _≤_, _<_, zero-le, suc-le-suc}
+use native.Mathlib.Nat.{add-zero, zero-add, suc-add, le-of-suc-le-suc, not-suc-le-zero, zero-lt-suc}
+use native.Mathlib.Omega.{arith}
+use lib.ListN.{length, take, drop, set, getD}
+use lib.Seq.{ext-getD, set-split}
+use Rattle.memory_bytes.specs.Columns.{tab, insertAt, removeAt}
+
+-- either way round
+pub lt-or-ge : (a b : ℕ) → (a < b) ⊎ (b ≤ a)
+lt-or-ge a zero = inr zero-le
+lt-or-ge zero (suc b) = inl (suc-le-suc zero-le)
+lt-or-ge (suc a) (suc b) = ⊎-elim (λ p. inl (suc-le-suc p)) (λ q. inr (suc-le-suc q)) (lt-or-ge a b)
+
+pub length-tab : {A : Type 0} (f : ℕ → A) (i n : ℕ) → length (tab f i n) ≡ n
+length-tab f i zero = refl
+length-tab f i (suc n) = ap suc (length-tab f (suc i) n)
+
+-- equal element by element
+pub tab-cong : {A : Type 0} (f g : ℕ → A) (i j n : ℕ) → ((k : ℕ) → k < n → f (i + k) ≡ g (j + k)) → tab f i n ≡ tab g j n
+tab-cong f g i j zero h = refl
+tab-cong f g i j (suc n) h =
+    let first : f i ≡ g j = rw (add-zero, add-zero) at (h zero (zero-lt-suc n)) in
+    let rest : tab f (suc i) n ≡ tab g (suc j) n =
+    tab-cong f g (suc i) (suc j) n
+    (λ k b. ap f (omega arith) ∙ h (suc k) (suc-le-suc b) ∙ ap g (omega arith)) in
+    cc
+
+pub getD-tab : {A : Type 0} (f : ℕ → A) (i n k : ℕ) (d : A) → k < n → getD (tab f i n) k d ≡ f (i + k)
+getD-tab f i zero k d h = absurd (not-suc-le-zero h)
+getD-tab f i (suc n) zero d h = rw add-zero
+getD-tab f i (suc n) (suc k) d h = getD-tab f (suc i) n k d (le-of-suc-le-suc h) ∙ ap f (omega arith)
+
+pub tab-add : {A : Type 0} (f : ℕ → A) (i k n : ℕ) → tab f i (k + n) ≡ tab f i k ++ tab f (i + k) n
+tab-add f i zero n = rw (zero-add, add-zero)
+tab-add {A} f i (suc k) n =
+    ap (tab f i) (suc-add k n)
+    ∙ ap (λ (r : List A). f i ∷ r) (tab-add f (suc i) k n ∙ ap (λ (z : ℕ). tab f (suc i) k ++ tab f z n) (omega arith))
+
+pub take-tab : {A : Type 0} (f : ℕ → A) (i k n : ℕ) → k ≤ n → take k (tab f i n) ≡ tab f i k
+take-tab f i zero n h = refl
+take-tab f i (suc k) zero h = absurd (not-suc-le-zero h)
+take-tab {A} f i (suc k) (suc n) h = ap (λ (r : List A). f i ∷ r) (take-tab f (suc i) k n (le-of-suc-le-suc h))
+
+pub drop-tab : {A : Type 0} (f : ℕ → A) (i k n : ℕ) → k ≤ n → drop k (tab f i n) ≡ tab f (i + k) (n - k)
+drop-tab f i zero n h = let e : n - 0 ≡ n = omega arith in rw (add-zero, e)
+drop-tab f i (suc k) zero h = absurd (not-suc-le-zero h)
+drop-tab f i (suc k) (suc n) h =
+    let e : suc i + k ≡ i + suc k = omega arith in
+    let e2 : n - k ≡ suc n - suc k = omega arith in
+    drop-tab f (suc i) k n (le-of-suc-le-suc h) ∙ ap (λ (z : ℕ). tab f z (n - k)) e ∙ ap (tab f (i + suc k)) e2
+
+-- one element more, at place at
+pub tab-insert : {A : Type 0} (f g : ℕ → A) (n at : ℕ) (x : A) → at ≤ n → ((j : ℕ) → j < at → g j ≡ f j) → g at ≡ x
+    → ((j : ℕ) → at ≤ j → j < n → g (suc j) ≡ f j) → tab g 0 (n + 1) ≡ insertAt at x (tab f 0 n)
+tab-insert {A} f g n at x h below here moved =
+    let e : n + 1 ≡ at + suc (n - at) = omega arith in
+    let z : 0 + at ≡ at = omega arith in
+    let a : tab g 0 at ≡ tab f 0 at = tab-cong g f 0 0 at (λ k b. below (0 + k) (omega arith)) in
+    let b : tab g (suc (0 + at)) (n - at) ≡ tab f (0 + at) (n - at) =
+    tab-cong g f (suc (0 + at)) (0 + at) (n - at) (λ k b. ap g (omega arith) ∙ moved (0 + at + k) (omega arith) (omega arith)) in
+    let w : g (0 + at) ≡ x = ap g z ∙ here in
+    let t : take at (tab f 0 n) ≡ tab f 0 at = take-tab f 0 at n h in
+    let d : drop at (tab f 0 n) ≡ tab f (0 + at) (n - at) = drop-tab f 0 at n h in
+    ap (tab g 0) e ∙ tab-add g 0 at (suc (n - at)) ∙ cc
+
+-- one element less, that at place at
+pub tab-remove : {A : Type 0} (f g : ℕ → A) (n at : ℕ) → at < n → ((j : ℕ) → j < at → g j ≡ f j)
+    → ((j : ℕ) → at ≤ j → suc j < n → g j ≡ f (suc j)) → tab g 0 (n - 1) ≡ removeAt at (tab f 0 n)
+tab-remove {A} f g n at h below moved =
+    let e : n - 1 ≡ at + (n - (at + 1)) = omega arith in
+    let a : tab g 0 at ≡ tab f 0 at = tab-cong g f 0 0 at (λ k b. below (0 + k) (omega arith)) in
+    let b : tab g (0 + at) (n - (at + 1)) ≡ tab f (0 + (at + 1)) (n - (at + 1)) =
+    tab-cong g f (0 + at) (0 + (at + 1)) (n - (at + 1)) (λ k b. moved (0 + at + k) (omega arith) (omega arith) ∙ ap f (omega arith)) in
+    let t : take at (tab f 0 n) ≡ tab f 0 at = take-tab f 0 at n (omega arith) in
+    let d : drop (at + 1) (tab f 0 n) ≡ tab f (0 + (at + 1)) (n - (at + 1)) = drop-tab f 0 (at + 1) n (omega arith) in
+    ap (tab g 0) e ∙ tab-add g 0 at (n - (at + 1)) ∙ cc
+
+-- another element at place at
+pub tab-set : {A : Type 0} (f g : ℕ → A) (n at : ℕ) (x : A) → at < n → ((j : ℕ) → j < at → g j ≡ f j) → g at ≡ x
+    → ((j : ℕ) → at < j → j < n → g j ≡ f j) → tab g 0 n ≡ set (tab f 0 n) at x
+tab-set f g n at x h below here above =
+    let l : length (tab f 0 n) ≡ n = length-tab f 0 n in
+    let e : n ≡ at + suc (n - suc at) = omega arith in
+    let z : 0 + at ≡ at = omega arith in
+    let q : 0 + suc at ≡ suc (0 + at) = omega arith in
+    let a : tab g 0 at ≡ tab f 0 at = tab-cong g f 0 0 at (λ k b. below (0 + k) (omega arith)) in
+    let b : tab g (suc (0 + at)) (n - suc at) ≡ tab f (suc (0 + at)) (n - suc at) =
+    tab-cong g f (suc (0 + at)) (suc (0 + at)) (n - suc at) (λ k b. above (suc (0 + at) + k) (omega arith) (omega arith)) in
+    let w : g (0 + at) ≡ x = ap g z ∙ here in
+    let t : take at (tab f 0 n) ≡ tab f 0 at = take-tab f 0 at n (omega arith) in
+    let d : drop (suc at) (tab f 0 n) ≡ tab f (0 + suc at) (n - suc at) = drop-tab f 0 (suc at) n h in
+    ap (tab g 0) e ∙ tab-add g 0 at (suc (n - suc at)) ∙ cc (set-split (tab f 0 n) at x (omega arith))
+
+-- a list by its own elements
+pub tab-self : (xs : List ℕ) → tab (λ k. getD xs k 0) 0 (length xs) ≡ xs
+tab-self xs =
+    ext-getD 0 (tab (λ k. getD xs k 0) 0 (length xs)) xs (length-tab (λ k. getD xs k 0) 0 (length xs))
+    (λ i h. getD-tab (λ k. getD xs k 0) 0 (length xs) i 0 (omega (arith, length-tab (λ k. getD xs k 0) 0 (length xs)))
+    ∙ ap (λ (z : ℕ). getD xs z 0) (zero-add i))

@@ -1,0 +1,6 @@
+pub mod Columns
+pub mod Bytes
+pub mod Moves
+pub mod Scans
+pub mod Found
+pub mod Changes

@@ -1,0 +1,61 @@
+use Rattle.memory_bytes.proofs.Scans.{any-turn, any-end}
+use Rattle.memory_bytes.specs.Columns.{tab, equals}
+use Rattle.memory_bytes.specs.Bytes.{column4}
+use Rattle.basics.specs.Basics.{any}
+use native.Mathlib.Omega.{arith}
+use Prim.Native.Nat.{_-_, _≤_}
+use mathlib.Core.Bool.{_||_}
+use mathlib.Core.Path.{_≡_, refl}
+use Rattle.memory_bytes.proofs.any_equal.Statement.{statement}
+use Rattle.memory_bytes.proofs.any_equal.Tie as tie
+
+abbrev Inv-loop : tie.InvT-loop
+Inv-loop m at key hit₀ j₀ hit j = (j ≤ 16) × (any (equals key) (tab (column4 m at) 0 16) ≡ (hit || any (equals key) (tab (column4 m at) j (16 - j))))
+
+abbrev μ-loop : tie.MeasureT-loop
+μ-loop m at key hit₀ j₀ hit j = 16 - j
+
+loop-holds : tie.Need-loop-holds Inv-loop μ-loop
+loop-holds c = (omega arith, refl)
+
+mul-get4 : tie.Need-mul-get4 Inv-loop μ-loop
+mul-get4 c = omega arith
+
+add-get4 : tie.Need-add-get4 Inv-loop μ-loop
+add-get4 c = omega arith
+
+get4-requires : tie.Need-get4-requires Inv-loop μ-loop
+get4-requires c κs = omega arith
+
+add-j : tie.Need-add-j Inv-loop μ-loop
+add-j c = omega arith
+
+loop-less : tie.Need-loop-less Inv-loop μ-loop
+loop-less c = omega arith
+
+loop-again : tie.Need-loop-again Inv-loop μ-loop
+loop-again c = let l = c .before .before in
+    let a = l .before .before .args in (
+      omega arith,
+      any-turn (equals (a .key)) (column4 (a .m .now) (a .at)) (l .loop .j) 16 (omega arith) (l .loop .hit) (l .loop .inv .1) (c .get4 .ensures),
+    )
+
+returns : tie.Need-returns Inv-loop μ-loop
+returns c = let l = c .before in
+    let a = l .before .before .args in
+    any-end (equals (a .key)) (column4 (a .m .now) (a .at)) (l .loop .j) 16 (omega arith) (l .loop .hit) (l .loop .inv .1)
+
+pub any-equal-spec : {M : Type 1} → statement M
+any-equal-spec =
+    tie.close
+    (tie.spec
+    Inv-loop
+    μ-loop
+    loop-holds
+    mul-get4
+    add-get4
+    get4-requires
+    add-j
+    loop-less
+    loop-again
+    returns)

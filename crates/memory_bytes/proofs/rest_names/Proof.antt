@@ -1,0 +1,61 @@
+use Rattle.memory_bytes.proofs.Scans.{any-turn, any-end}
+use Rattle.memory_bytes.specs.Columns.{tab, names}
+use Rattle.memory_bytes.specs.Bytes.{column2}
+use Rattle.basics.specs.Basics.{any}
+use native.Mathlib.Omega.{arith}
+use Prim.Native.Nat.{_-_, _≤_}
+use mathlib.Core.Bool.{_||_}
+use mathlib.Core.Path.{_≡_, refl}
+use Rattle.memory_bytes.proofs.rest_names.Statement.{statement}
+use Rattle.memory_bytes.proofs.rest_names.Tie as tie
+
+abbrev Inv-loop : tie.InvT-loop
+Inv-loop m base i n s hit₀ j₀ hit j = (j ≤ n) × (any (names s) (tab (column2 m base) i (n - i)) ≡ (hit || any (names s) (tab (column2 m base) j (n - j))))
+
+abbrev μ-loop : tie.MeasureT-loop
+μ-loop m base i n s hit₀ j₀ hit j = n - j
+
+loop-holds : tie.Need-loop-holds Inv-loop μ-loop
+loop-holds c = (omega arith, refl)
+
+mul-get2 : tie.Need-mul-get2 Inv-loop μ-loop
+mul-get2 c = omega arith
+
+add-get2 : tie.Need-add-get2 Inv-loop μ-loop
+add-get2 c = omega arith
+
+get2-requires : tie.Need-get2-requires Inv-loop μ-loop
+get2-requires c κs = omega arith
+
+add-j : tie.Need-add-j Inv-loop μ-loop
+add-j c = omega arith
+
+loop-less : tie.Need-loop-less Inv-loop μ-loop
+loop-less c = omega arith
+
+loop-again : tie.Need-loop-again Inv-loop μ-loop
+loop-again c = let l = c .before .before in
+    let a = l .before .before .args in (
+      omega arith,
+      any-turn (names (a .s)) (column2 (a .m .now) (a .base)) (l .loop .j) (a .n) (omega arith) (l .loop .hit) (l .loop .inv .1) (c .get2 .ensures),
+    )
+
+returns : tie.Need-returns Inv-loop μ-loop
+returns c = let l = c .before in
+    let a = l .before .before .args in
+    any-end (names (a .s)) (column2 (a .m .now) (a .base)) (l .loop .j) (a .n) (omega arith) (l .loop .hit) (l .loop .inv .1)
+
+pub rest-names-spec : {M : Type 1} → statement M
+rest-names-spec =
+    tie.close
+    (tie.spec
+    Inv-loop
+    μ-loop
+    loop-holds
+    mul-get2
+    add-get2
+    get2-requires
+    add-j
+    loop-less
+    loop-again
+    returns)

@@ -1,0 +1,71 @@
+use Rattle.memory_bytes.proofs.Scans.{paired-start, paired-turn, paired-end}
+use Rattle.memory_bytes.specs.Columns.{tab}
+use Rattle.memory_bytes.specs.Bytes.{column2, le2}
+use Rattle.basics.specs.Basics.{paired}
+use native.Mathlib.Omega.{arith}
+use Prim.Native.Nat.{_-_, _≤_, _+_}
+use lib.Dec.{ltb}
+use mathlib.Core.Bool.{_&&_}
+use mathlib.Core.Path.{_≡_, ap, _∙_}
+use Rattle.memory_bytes.proofs.rising2.Statement.{statement}
+use Rattle.memory_bytes.proofs.rising2.Tie as tie
+
+abbrev Inv-loop : tie.InvT-loop
+Inv-loop m base n ok₀ j₀ ok j = (j ≤ n) × (paired ltb (tab (column2 m base) 0 (n + 1)) ≡ (ok && paired ltb (tab (column2 m base) j (n - j + 1))))
+
+abbrev μ-loop : tie.MeasureT-loop
+μ-loop m base n ok₀ j₀ ok j = n - j
+
+loop-holds : tie.Need-loop-holds Inv-loop μ-loop
+loop-holds c = let a = c .before .args in (omega arith, paired-start ltb (column2 (a .m .now) (a .base)) (a .n))
+
+mul-a : tie.Need-mul-a Inv-loop μ-loop
+mul-a c = omega arith
+
+add-a : tie.Need-add-a Inv-loop μ-loop
+add-a c = omega arith
+
+get2-requires : tie.Need-get2-requires Inv-loop μ-loop
+get2-requires c κs = omega arith
+
+add-get2 : tie.Need-add-get2 Inv-loop μ-loop
+add-get2 c = omega arith
+
+get2-requires-2 : tie.Need-get2-requires-2 Inv-loop μ-loop
+get2-requires-2 c κs = omega arith
+
+add-j : tie.Need-add-j Inv-loop μ-loop
+add-j c = omega arith
+
+loop-less : tie.Need-loop-less Inv-loop μ-loop
+loop-less c = omega arith
+
+loop-again : tie.Need-loop-again Inv-loop μ-loop
+loop-again c = let l = c .before .before .before in
+    let a = l .before .before .args in
+    let next : c .get22 .result ≡ column2 (a .m .now) (a .base) (l .loop .j + 1) = c .get22 .ensures ∙ ap (le2 (a .m .now)) (omega arith) in (
+      omega arith,
+      paired-turn ltb (column2 (a .m .now) (a .base)) (l .loop .j) (a .n) (l .loop .ok) (l .loop .inv .1) (omega arith) (c .before .get2 .ensures) next,
+    )
+
+returns : tie.Need-returns Inv-loop μ-loop
+returns c = let l = c .before in
+    let a = l .before .before .args in
+    paired-end ltb (column2 (a .m .now) (a .base)) (l .loop .j) (a .n) (l .loop .ok) (l .loop .inv .1) (omega arith)
+
+pub rising2-spec : {M : Type 1} → statement M
+rising2-spec =
+    tie.close
+    (tie.spec
+    Inv-loop
+    μ-loop
+    loop-holds
+    mul-a
+    add-a
+    get2-requires
+    add-get2
+    get2-requires-2
+    add-j
+    loop-less
+    loop-again
+    returns)

@@ -1,0 +1,54 @@
+use Rattle.memory_bytes.proofs.Moves.{Raising, raise-start, raise-turn, raise-end}
+use native.Mathlib.Omega.{arith}
+use Prim.Native.Nat.{_≤_}
+use Rattle.memory_bytes.proofs.up1.Statement.{statement}
+use Rattle.memory_bytes.proofs.up1.Tie as tie
+
+abbrev Inv-loop : tie.InvT-loop
+Inv-loop m₀ lo hi k₀ m k = (lo ≤ k) × ((k ≤ hi) × Raising m₀ m hi 1 k)
+
+abbrev μ-loop : tie.MeasureT-loop
+μ-loop m₀ lo hi k₀ m k = k
+
+loop-holds : tie.Need-loop-holds Inv-loop μ-loop
+loop-holds c = (omega arith, (omega arith, raise-start (c .args .m .now) (c .args .hi) 1))
+
+sub-k : tie.Need-sub-k Inv-loop μ-loop
+sub-k c = omega arith
+
+slice-read-m : tie.Need-slice-read-m Inv-loop μ-loop
+slice-read-m c = omega (arith, c .before .before .loop .inv .1 .1 .size)
+
+add-m : tie.Need-add-m Inv-loop μ-loop
+add-m c = omega arith
+
+slice-write-m : tie.Need-slice-write-m Inv-loop μ-loop
+slice-write-m c = omega (arith, c .before .before .loop .inv .1 .1 .size)
+
+loop-less : tie.Need-loop-less Inv-loop μ-loop
+loop-less c = omega arith
+
+loop-again : tie.Need-loop-again Inv-loop μ-loop
+loop-again c = let l = c .before .before in (omega arith, (omega arith, raise-turn (l .loop .inv .1 .1) (omega arith) (omega arith) (omega arith)))
+
+same-length : tie.Need-same-length Inv-loop μ-loop
+same-length c = c .before .loop .inv .1 .1 .size
+
+returns : tie.Need-returns Inv-loop μ-loop
+returns c = let l = c .before in raise-end (l .before .args .lo) (l .loop .inv .1 .1) (omega arith) (omega arith) (omega arith)
+
+pub up1-spec : {M : Type 1} → statement M
+up1-spec =
+    tie.close
+    (tie.spec
+    Inv-loop
+    μ-loop
+    loop-holds
+    sub-k
+    slice-read-m
+    add-m
+    slice-write-m
+    loop-less
+    loop-again
+    same-length
+    returns)

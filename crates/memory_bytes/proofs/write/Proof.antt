@@ -1,0 +1,56 @@
+use Rattle.memory_bytes.proofs.Moves.{Writing, write-start, write-turn, write-end}
+use native.Mathlib.Omega.{arith}
+use Prim.Native.Nat.{_-_, _≤_}
+use lib.ListN.{length}
+use mathlib.Core.Path.{refl}
+use Rattle.memory_bytes.proofs.write.Statement.{statement}
+use Rattle.memory_bytes.proofs.write.Tie as tie
+
+abbrev Inv-loop : tie.InvT-loop
+Inv-loop m₀ a src j₀ m j = (j ≤ length src) × Writing m₀ m a src j
+
+abbrev μ-loop : tie.MeasureT-loop
+μ-loop m₀ a src j₀ m j = length src - j
+
+loop-holds : tie.Need-loop-holds Inv-loop μ-loop
+loop-holds c = (omega arith, write-start (c .args .m .now) (c .args .a) (c .args .src .now))
+
+shared-slice-read-m : tie.Need-shared-slice-read-m Inv-loop μ-loop
+shared-slice-read-m c = omega arith
+
+add-m : tie.Need-add-m Inv-loop μ-loop
+add-m c = omega arith
+
+slice-write-m : tie.Need-slice-write-m Inv-loop μ-loop
+slice-write-m c = omega (arith, c .before .before .loop .inv .1 .size)
+
+add-j : tie.Need-add-j Inv-loop μ-loop
+add-j c = omega arith
+
+loop-less : tie.Need-loop-less Inv-loop μ-loop
+loop-less c = omega arith
+
+loop-again : tie.Need-loop-again Inv-loop μ-loop
+loop-again c = let l = c .before .before in (omega arith, write-turn (l .loop .inv .1) (omega arith) refl)
+
+same-length : tie.Need-same-length Inv-loop μ-loop
+same-length c = c .before .loop .inv .1 .size
+
+returns : tie.Need-returns Inv-loop μ-loop
+returns c = let l = c .before in write-end (l .loop .inv .1) (omega arith)
+
+pub write-spec : {M : Type 1} → statement M
+write-spec =
+    tie.close
+    (tie.spec
+    Inv-loop
+    μ-loop
+    loop-holds
+    shared-slice-read-m
+    add-m
+    slice-write-m
+    add-j
+    loop-less
+    loop-again
+    same-length
+    returns)

@@ -1,0 +1,405 @@
+// The lowest layer of the working memory: numbers in bytes, low byte first, bytes moved and written, columns of numbers searched.
+// It knows nothing of the store's layout: every function asks only that its bytes lie inside the memory.
+ghost use mathlib.Core.Path.{_≡_};
+ghost use mathlib.Core.List.{_++_};
+ghost use Prim.Native.Nat.{_+_, _*_, _-_, _%_, _≤_};
+ghost use lib.ListN.{length, drop, replicate};
+ghost use Rattle.memory_bytes.specs.Bytes.{le2, le4, bytes, bytes2, bytes4, column2, column4, Raised, Lowered, Wrote, Added};
+ghost use Rattle.memory_bytes.specs.Columns.{tab, firstIndex, lastIndex, equals, upTo, names};
+ghost use Rattle.basics.specs.Basics.{any, howMany, paired};
+ghost use mathlib.Core.Bool.{cond};
+ghost use lib.Dec.{ltb};
+
+// ---- numbers
+
+fn wide2(x: u8) -> u16
+    ensures { λ r. ⌜ r ≡ x ⌝ }
+{
+    x as u16
+}
+
+fn wide4(x: u8) -> u32
+    ensures { λ r. ⌜ r ≡ x ⌝ }
+{
+    x as u32
+}
+
+fn join2(a: u8, b: u8) -> u16
+    ensures { λ r. ⌜ r ≡ a + b * 256 ⌝ }
+{
+    wide2(a) + wide2(b) * 256
+}
+
+fn join4(a: u8, b: u8, c: u8, d: u8) -> u32
+    ensures { λ r. ⌜ r ≡ a + b * 256 + c * 65536 + d * 16777216 ⌝ }
+{
+    wide4(a) + wide4(b) * 256 + wide4(c) * 65536 + wide4(d) * 16777216
+}
+
+// The number in the two bytes from a on.
+pub fn get2(m: &[u8], a: usize) -> u16
+    requires { ⌜ a + 2 ≤ length (now m) ⌝ }
+    ensures { λ r. ⌜ r ≡ le2 (now (m .entry)) a ⌝ }
+{
+    join2(m[a], m[a + 1])
+}
+
+// The number in the four bytes from a on.
+pub fn get4(m: &[u8], a: usize) -> u32
+    requires { ⌜ a + 4 ≤ length (now m) ⌝ }
+    ensures { λ r. ⌜ r ≡ le4 (now (m .entry)) a ⌝ }
+{
+    join4(m[a], m[a + 1], m[a + 2], m[a + 3])
+}
+
+// x, in the two bytes from a on.
+pub fn put2(m: &mut [u8], a: usize, x: u16)
+    requires { ⌜ a + 2 ≤ length (now m) ⌝ }
+    ensures { λ _. ⌜ Wrote (now (m .entry)) (now (m .exit)) a (bytes2 x) ⌝ }
+{
+    m[a] = (x % 256) as u8;
+    m[a + 1] = (x / 256 % 256) as u8;
+}
+
+// x, in the four bytes from a on.
+pub fn put4(m: &mut [u8], a: usize, x: u32)
+    requires { ⌜ a + 4 ≤ length (now m) ⌝ }
+    ensures { λ _. ⌜ Wrote (now (m .entry)) (now (m .exit)) a (bytes4 x) ⌝ }
+{
+    m[a] = (x % 256) as u8;
+    m[a + 1] = (x / 256 % 256) as u8;
+    m[a + 2] = (x / 65536 % 256) as u8;
+    m[a + 3] = (x / 16777216 % 256) as u8;
+}
+
+// ---- bytes written
+
+// src, over the bytes from a on.
+pub fn write(m: &mut [u8], a: usize, src: &[u8])
+    requires { ⌜ a + length (now src) ≤ length (now m) ⌝ }
+    ensures { λ _. ⌜ Wrote (now (m .entry)) (now (m .exit)) a (now (src .entry)) ⌝ }
+{
+    let mut j = 0;
+    while j < src.len() {
+        m[a + j] = src[j];
+        j += 1;
+    }
+}
+
+// n zeros, over the bytes from a on.
+pub fn clear(m: &mut [u8], a: usize, n: usize)
+    requires { ⌜ a + n ≤ length (now m) ⌝ }
+    ensures { λ _. ⌜ Wrote (now (m .entry)) (now (m .exit)) a (replicate n 0) ⌝ }
+{
+    let mut j = 0;
+    while j < n {
+        m[a + j] = 0;
+        j += 1;
+    }
+}
+
+// The n bytes of m from a on, over the first bytes of out.
+pub fn copy_out(m: &[u8], a: usize, n: usize, out: &mut [u8])
+    requires { ⌜ (a + n ≤ length (now m)) × (n ≤ length (now out)) ⌝ }
+    ensures { λ _. ⌜ now (out .exit) ≡ bytes (now (m .entry)) a n ++ drop n (now (out .entry)) ⌝ }
+{
+    let mut j = 0;
+    while j < n {
+        out[j] = m[a + j];
+        j += 1;
+    }
+}
+
+// ---- bytes moved by the width of a column: from the end that is left free, so that each byte is read before it is written over
+
+// The bytes from lo up to, not including, hi go up by one.
+pub fn up1(m: &mut [u8], lo: usize, hi: usize)
+    requires { ⌜ (lo ≤ hi) × (hi + 1 ≤ length (now m)) ⌝ }
+    ensures { λ _. ⌜ Raised (now (m .entry)) (now (m .exit)) lo hi 1 ⌝ }
+{
+    let mut k = hi;
+    while lo < k {
+        k -= 1;
+        m[k + 1] = m[k];
+    }
+}
+
+// The bytes from lo up to, not including, hi go up by two.
+pub fn up2(m: &mut [u8], lo: usize, hi: usize)
+    requires { ⌜ (lo ≤ hi) × (hi + 2 ≤ length (now m)) ⌝ }
+    ensures { λ _. ⌜ Raised (now (m .entry)) (now (m .exit)) lo hi 2 ⌝ }
+{
+    let mut k = hi;
+    while lo < k {
+        k -= 1;
+        m[k + 2] = m[k];
+    }
+}
+
+// The bytes from lo up to, not including, hi go up by four.
+pub fn up4(m: &mut [u8], lo: usize, hi: usize)
+    requires { ⌜ (lo ≤ hi) × (hi + 4 ≤ length (now m)) ⌝ }
+    ensures { λ _. ⌜ Raised (now (m .entry)) (now (m .exit)) lo hi 4 ⌝ }
+{
+    let mut k = hi;
+    while lo < k {
+        k -= 1;
+        m[k + 4] = m[k];
+    }
+}
+
+// The bytes from lo + 1 up to, not including, hi go down by one.
+pub fn down1(m: &mut [u8], lo: usize, hi: usize)
+    requires { ⌜ (lo + 1 ≤ hi) × (hi ≤ length (now m)) ⌝ }
+    ensures { λ _. ⌜ Lowered (now (m .entry)) (now (m .exit)) lo hi 1 ⌝ }
+{
+    let e = hi - 1;
+    let mut k = lo;
+    while k < e {
+        m[k] = m[k + 1];
+        k += 1;
+    }
+}
+
+// The bytes from lo + 2 up to, not including, hi go down by two.
+pub fn down2(m: &mut [u8], lo: usize, hi: usize)
+    requires { ⌜ (lo + 2 ≤ hi) × (hi ≤ length (now m)) ⌝ }
+    ensures { λ _. ⌜ Lowered (now (m .entry)) (now (m .exit)) lo hi 2 ⌝ }
+{
+    let e = hi - 2;
+    let mut k = lo;
+    while k < e {
+        m[k] = m[k + 2];
+        k += 1;
+    }
+}
+
+// The bytes from lo + 4 up to, not including, hi go down by four.
+pub fn down4(m: &mut [u8], lo: usize, hi: usize)
+    requires { ⌜ (lo + 4 ≤ hi) × (hi ≤ length (now m)) ⌝ }
+    ensures { λ _. ⌜ Lowered (now (m .entry)) (now (m .exit)) lo hi 4 ⌝ }
+{
+    let e = hi - 4;
+    let mut k = lo;
+    while k < e {
+        m[k] = m[k + 4];
+        k += 1;
+    }
+}
+
+// ---- columns searched: by groups without a branch, which become vector code
+
+// Whether one of the 16 numbers of four bytes from byte at on is key.
+pub fn any_equal(m: &[u8], at: usize, key: u32) -> bool
+    requires { ⌜ at + 64 ≤ length (now m) ⌝ }
+    ensures { λ r. ⌜ r ≡ any (equals key) (tab (column4 (now (m .entry)) at) 0 16) ⌝ }
+{
+    let mut hit = false;
+    let mut j: usize = 0;
+    while j < 16 {
+        hit = hit | (get4(m, at + j * 4) == key);
+        j += 1;
+    }
+    hit
+}
+
+// Whether one of the 16 numbers of four bytes from byte at on is not above key.
+pub fn any_up_to(m: &[u8], at: usize, key: u32) -> bool
+    requires { ⌜ at + 64 ≤ length (now m) ⌝ }
+    ensures { λ r. ⌜ r ≡ any (upTo key) (tab (column4 (now (m .entry)) at) 0 16) ⌝ }
+{
+    let mut hit = false;
+    let mut j: usize = 0;
+    while j < 16 {
+        hit = hit | (get4(m, at + j * 4) <= key);
+        j += 1;
+    }
+    hit
+}
+
+// The first index from i on, below n, whose number of four bytes from base on is key, or n.
+pub fn find_equal(m: &[u8], base: usize, i: usize, n: usize, key: u32) -> usize
+    requires { ⌜ (i ≤ n) × (base + n * 4 ≤ length (now m)) ⌝ }
+    ensures { λ r. ⌜ r ≡ i + firstIndex (equals key) (tab (column4 (now (m .entry)) base) i (n - i)) ⌝ }
+{
+    let mut k = i;
+    while k + 16 <= n {
+        if any_equal(m, base + k * 4, key) {
+            break;
+        }
+        k += 16;
+    }
+    while k < n {
+        if get4(m, base + k * 4) == key {
+            return k;
+        }
+        k += 1;
+    }
+    n
+}
+
+// One behind the last index from s on, below e, whose number of four bytes from base on is not above key, or s.
+pub fn last_up_to(m: &[u8], base: usize, s: usize, e: usize, key: u32) -> usize
+    requires { ⌜ (s ≤ e) × (base + e * 4 ≤ length (now m)) ⌝ }
+    ensures { λ r. ⌜ r ≡ s + lastIndex (upTo key) (tab (column4 (now (m .entry)) base) s (e - s)) ⌝ }
+{
+    let mut k = e;
+    while s + 16 <= k {
+        let t = k - 16;
+        if any_up_to(m, base + t * 4, key) {
+            break;
+        }
+        k = t;
+    }
+    while s < k {
+        let t = k - 1;
+        if get4(m, base + t * 4) <= key {
+            return k;
+        }
+        k = t;
+    }
+    s
+}
+
+// One behind the last index from s on, below e, whose number of four bytes from base on is key, or s.
+pub fn last_equal(m: &[u8], base: usize, s: usize, e: usize, key: u32) -> usize
+    requires { ⌜ (s ≤ e) × (base + e * 4 ≤ length (now m)) ⌝ }
+    ensures { λ r. ⌜ r ≡ s + lastIndex (equals key) (tab (column4 (now (m .entry)) base) s (e - s)) ⌝ }
+{
+    let mut k = e;
+    while s + 16 <= k {
+        let t = k - 16;
+        if any_equal(m, base + t * 4, key) {
+            break;
+        }
+        k = t;
+    }
+    while s < k {
+        let t = k - 1;
+        if get4(m, base + t * 4) == key {
+            return k;
+        }
+        k = t;
+    }
+    s
+}
+
+fn one_if(b: bool) -> u16
+    ensures { λ r. ⌜ r ≡ cond b 1 0 ⌝ }
+{
+    b as u16
+}
+
+// How many of the numbers of two bytes from base on, from index s up to, not including, e, are not above x. They are counted in 16 bits, like
+// what is read, so that no lane of a vector is wider.
+pub fn count_up_to2(m: &[u8], base: usize, s: usize, e: usize, x: u16) -> usize
+    requires { ⌜ (s ≤ e) × ((e ≤ s + 65535) × (base + e * 2 ≤ length (now m))) ⌝ }
+    ensures { λ r. ⌜ r ≡ howMany (upTo x) (tab (column2 (now (m .entry)) base) s (e - s)) ⌝ }
+{
+    let mut k: u16 = 0;
+    let mut j = s;
+    while j < e {
+        k += one_if(get2(m, base + j * 2) <= x);
+        j += 1;
+    }
+    k as usize
+}
+
+// Whether each of the n numbers of two bytes from base on is below the next one: n + 1 numbers.
+pub fn rising2(m: &[u8], base: usize, n: usize) -> bool
+    requires { ⌜ base + n * 2 + 2 ≤ length (now m) ⌝ }
+    ensures { λ r. ⌜ r ≡ paired ltb (tab (column2 (now (m .entry)) base) 0 (n + 1)) ⌝ }
+{
+    let mut ok = true;
+    let mut j: usize = 0;
+    while j < n {
+        let a = base + j * 2;
+        ok = ok & (get2(m, a) < get2(m, a + 2));
+        j += 1;
+    }
+    ok
+}
+
+// Whether one of the 64 numbers of two bytes from byte at on is s modulo 1,024.
+fn any_names(m: &[u8], at: usize, s: u16) -> bool
+    requires { ⌜ at + 128 ≤ length (now m) ⌝ }
+    ensures { λ r. ⌜ r ≡ any (names s) (tab (column2 (now (m .entry)) at) 0 64) ⌝ }
+{
+    let mut hit = false;
+    let mut j: usize = 0;
+    while j < 64 {
+        hit = hit | (get2(m, at + j * 2) % 1024 == s);
+        j += 1;
+    }
+    hit
+}
+
+// The same of those from index i on, below n: fewer than a group.
+fn rest_names(m: &[u8], base: usize, i: usize, n: usize, s: u16) -> bool
+    requires { ⌜ (i ≤ n) × (base + n * 2 ≤ length (now m)) ⌝ }
+    ensures { λ r. ⌜ r ≡ any (names s) (tab (column2 (now (m .entry)) base) i (n - i)) ⌝ }
+{
+    let mut hit = false;
+    let mut j = i;
+    while j < n {
+        hit = hit | (get2(m, base + j * 2) % 1024 == s);
+        j += 1;
+    }
+    hit
+}
+
+// Whether one of the n numbers of two bytes from base on is s modulo 1,024.
+pub fn names16(m: &[u8], base: usize, n: usize, s: u16) -> bool
+    requires { ⌜ base + n * 2 ≤ length (now m) ⌝ }
+    ensures { λ r. ⌜ r ≡ any (names s) (tab (column2 (now (m .entry)) base) 0 n) ⌝ }
+{
+    let mut i: usize = 0;
+    while i + 64 <= n {
+        if any_names(m, base + i * 2, s) {
+            return true;
+        }
+        i += 64;
+    }
+    rest_names(m, base, i, n, s)
+}
+
+// ---- numbers changed
+
+// x + d, modulo 65,536.
+fn plus2(x: u16, d: u16) -> u16
+    ensures { λ r. ⌜ r ≡ (x + d) % 65536 ⌝ }
+{
+    ((x as u32 + d as u32) % 65536) as u16
+}
+
+// Each of the numbers of two bytes from base on, from index s up to, not including, e, is d more, modulo 65,536.
+fn add_each2(m: &mut [u8], base: usize, s: usize, e: usize, d: u16)
+    requires { ⌜ (s ≤ e) × (base + e * 2 ≤ length (now m)) ⌝ }
+    ensures { λ _. ⌜ Added (now (m .entry)) (now (m .exit)) base s e d ⌝ }
+{
+    let mut j = s;
+    while j < e {
+        let a = base + j * 2;
+        let x = plus2(get2(m, a), d);
+        put2(m, a, x);
+        j += 1;
+    }
+}
+
+// What makes a number one more, or one less.
+fn step2(up: bool) -> u16
+    ensures { λ r. ⌜ r ≡ cond up 1 65535 ⌝ }
+{
+    if up {
+        return 1;
+    }
+    65535
+}
+
+// The same, one more or one less.
+pub fn add2(m: &mut [u8], base: usize, s: usize, e: usize, up: bool)
+    requires { ⌜ (s ≤ e) × (base + e * 2 ≤ length (now m)) ⌝ }
+    ensures { λ _. ⌜ Added (now (m .entry)) (now (m .exit)) base s e (cond up 1 65535) ⌝ }
+{
+    add_each2(m, base, s, e, step2(up));
+}

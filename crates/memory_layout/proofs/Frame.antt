@@ -1,0 +1,190 @@
+-- What a change of some bytes leaves of what the memory holds: each list is as it was if its bytes are.
+use mathlib.Core.Path.{_≡_, refl, ap, _∙_, fun-ext}
+use Prim.Native.Nat.{ℕ, zero, suc, _+_, _*_, _-_, _/_, _%_, _^_, _≤_, _<_}
+use native.Mathlib.Omega.{arith}
+use native.Mathlib.Nat.{min-le-right}
+use mathlib.Core.Bool.{Bool, true, false, not, _&&_}
+use mathlib.Core.List.{List, _∷_}
+use lib.ListN.{getD}
+use lib.Dec.{eqb, ltb, leb}
+use borrow.Author.Tests.{ltb-true}
+use Rattle.basics.specs.Basics.{if_then_else_}
+use Rattle.basics.specs.Basics.{howMany, from}
+use Rattle.memory_bytes.specs.Bytes.{le2, le4, bytes}
+use Rattle.memory_bytes.specs.Columns.{tab}
+use Rattle.memory_bytes.proofs.Bytes.{le2-cong, le4-cong, bytes-cong}
+use Rattle.memory_layout.specs.Places.{startsAt}
+use Rattle.memory_layout.specs.Views.{headOf, rowCount, pageCount, tableEnd, openAt, directoryAt, isUsed, slotOf, slotPlace, heldOf, rowAt, keyOf, refOf, stateOf, startAt, tableAt, entryAt, blockWord, namedBlock, lengthOf, ownerOf, markOf, pendingOf}
+use Rattle.memory_layout.specs.Flat.{opensOf, directoriesOf}
+
+-- the n bytes from a on are the same in both
+abbrev pub Same : List ℕ → List ℕ → ℕ → ℕ → Type 0
+Same m m' a n = (b : ℕ) → a ≤ b → b < a + n → getD m' b 0 ≡ getD m b 0
+
+-- lists by index are equal if their elements are
+pub tab-cong : {A : Type 0} (f g : ℕ → A) (i n : ℕ) → ((k : ℕ) → i ≤ k → k < i + n → f k ≡ g k) → tab f i n ≡ tab g i n
+tab-cong f g i zero h = refl
+tab-cong f g i (suc n) h =
+    let a : f i ≡ g i = h i (omega arith) (omega arith) in
+    let b : tab f (suc i) n ≡ tab g (suc i) n = tab-cong f g (suc i) n (λ k p q. h k (omega arith) (omega arith)) in
+    λ j. a j ∷ b j
+
+-- as many pass two tests that agree
+pub count-cong : (f g : ℕ → Bool) (a n : ℕ) → ((t : ℕ) → a ≤ t → t < a + n → f t ≡ g t) → howMany f (from a n) ≡ howMany g (from a n)
+unfolding howMany from
+count-cong f g a zero h = refl
+count-cong f g a (suc n) h =
+    let r : howMany f (from (suc a) n) ≡ howMany g (from (suc a) n) = count-cong f g (suc a) n (λ t p q. h t (omega arith) (omega arith)) in
+    let e : f a ≡ g a = h a (omega arith) (omega arith) in
+    λ i. if e i then suc (r i) else r i
+
+module _ (m m' : List ℕ) where
+  -- a number in bytes that are the same
+  pub same2 : (a : ℕ) → Same m m' a 2 → le2 m' a ≡ le2 m a
+  same2 a s = le2-cong m m' a a (λ k h. s (a + k) (omega arith) (omega arith))
+
+  pub same4 : (a : ℕ) → Same m m' a 4 → le4 m' a ≡ le4 m a
+  same4 a s = le4-cong m m' a a (λ k h. s (a + k) (omega arith) (omega arith))
+
+  pub same-bytes : (a n : ℕ) → Same m m' a n → bytes m' a n ≡ bytes m a n
+  same-bytes a n s = bytes-cong m m' a a n (λ k h. s (a + k) (omega arith) (omega arith))
+
+  -- a part of bytes that are the same
+  pub within : (a n b k : ℕ) → Same m m' a n → a ≤ b → b + k ≤ a + n → Same m m' b k
+  within a n b k s p q c h1 h2 = s c (omega arith) (omega arith)
+
+  pub within2 : (a n b : ℕ) → Same m m' a n → a ≤ b → b + 2 ≤ a + n → le2 m' b ≡ le2 m b
+  within2 a n b s p q = same2 b (within a n b 2 s p q)
+
+  pub within4 : (a n b : ℕ) → Same m m' a n → a ≤ b → b + 4 ≤ a + n → le4 m' b ≡ le4 m b
+  within4 a n b s p q = same4 b (within a n b 4 s p q)
+
+  -- ---- the head and what stands in it
+
+  pub same-head : Same m m' 4 28 → headOf m' ≡ headOf m
+  unfolding headOf
+  same-head s = λ i. record {
+    capacity = within4 4 28 4 s (omega arith) (omega arith) i;
+    blocks = within4 4 28 8 s (omega arith) (omega arith) i;
+    level = within4 4 28 12 s (omega arith) (omega arith) i;
+    next = within4 4 28 16 s (omega arith) (omega arith) i;
+    running = not (eqb (within4 4 28 20 s (omega arith) (omega arith) i) 0);
+    begun = within4 4 28 24 s (omega arith) (omega arith) i;
+    taken = within4 4 28 28 s (omega arith) (omega arith) i;
+  }
+
+  pub same-opens : Same m m' 36 4 → Same m m' 128 256 → le4 m 36 ≤ 64 → opensOf m' ≡ opensOf m
+  unfolding opensOf openAt
+  same-opens s t h =
+      ap (tab (openAt m') 0) (same4 36 s)
+      ∙ tab-cong (openAt m') (openAt m) 0 (le4 m 36)
+      (λ k p q. ap (λ (w : ℕ). record { transaction = w / 1048576; written = w % 1048576 }) (within4 128 256 (128 + k * 4) t (omega arith) (omega arith)))
+
+  pub same-directories : Same m m' 44 4 → Same m m' 96 16 → le4 m 44 ≤ 4 → directoriesOf m' ≡ directoriesOf m
+  unfolding directoriesOf directoryAt
+  same-directories s t h =
+      ap (tab (directoryAt m') 0) (same4 44 s)
+      ∙ tab-cong (directoryAt m') (directoryAt m) 0 (le4 m 44)
+      (λ k p q. ap (λ (w : ℕ). w % 4096) (within4 96 16 (96 + k * 4) t (omega arith) (omega arith)))
+
+  pub same-used : Same m m' 512 512 → isUsed m' ≡ isUsed m
+  unfolding isUsed
+  same-used s = fun-ext (λ b. by-bound b (ltb b 4096) refl)
+    where
+      by-bound : (b : ℕ) (t : Bool) → ltb b 4096 ≡ t → (t && eqb (getD m' (512 + b / 8) 0 / 2 ^ (b % 8) % 2) 1) ≡ (t && eqb (getD m (512 + b / 8) 0 / 2 ^ (b % 8) % 2) 1)
+      by-bound b false h = refl
+      by-bound b true h =
+          let l : b < 4096 = ltb-true b 4096 h in
+          ap (λ (x : ℕ). eqb (x / 2 ^ (b % 8) % 2) 1) (s (512 + b / 8) (omega arith) (omega arith))
+
+  -- a page's table goes by the ends of the tables alone
+  pub same-table : (p : ℕ) → ((t : ℕ) → t < 8 → tableEnd m' t ≡ tableEnd m t) → tableAt m' p ≡ tableAt m p
+  unfolding tableAt
+  same-table p e =
+      count-cong (λ t. leb (tableEnd m' t) p) (λ t. leb (tableEnd m t) p) 0 7 (λ t a b. ap (λ (z : ℕ). leb z p) (e t (omega arith)))
+
+  -- ---- columns, for a capacity c
+
+  module _ (c : ℕ) where
+    pub same-named : Same m m' 40 4 → Same m m' (1024 + c * 87) (le4 m 40 * 2) → tab (namedBlock m' c) 0 (le4 m' 40) ≡ tab (namedBlock m c) 0 (le4 m 40)
+    unfolding namedBlock
+    same-named s t =
+        ap (tab (namedBlock m' c) 0) (same4 40 s)
+        ∙ tab-cong (namedBlock m' c) (namedBlock m c) 0 (le4 m 40)
+        (λ k p q. ap (λ (w : ℕ). w % 4096) (within2 (1024 + c * 87) (le4 m 40 * 2) (1024 + c * 87 + k * 2) t (omega arith) (omega arith)))
+
+    -- a slot that is named is one of c
+    pub slot-below : (r : ℕ) → 1 ≤ c → slotOf c r < c
+    unfolding slotOf if_then_else_
+    slot-below r h = by-test (ltb (r % 1024) c) refl
+      where
+        by-test : (t : Bool) → ltb (r % 1024) c ≡ t → (if t then r % 1024 else 0) < c
+        by-test true e = ltb-true (r % 1024) c e
+        by-test false e = h
+
+    -- what stands in a slot, by its bytes
+    pub same-held : (a k s r : ℕ) → Same m m' a 72 → heldOf m' a k s r ≡ heldOf m a k s r
+    unfolding heldOf lengthOf
+    same-held a k s r t =
+        let n : lengthOf s ≤ 40 = omega (arith, min-le-right (s % 64) 40) in
+        λ i. record {
+          tuple = record {
+            key = k;
+            number = within4 a 72 a t (omega arith) (omega arith) i;
+            owner = ownerOf s (within4 a 72 (a + 4) t (omega arith) (omega arith) i);
+            mark = markOf s;
+            payload = same-bytes (a + 8) (lengthOf s) (within a 72 (a + 8) (lengthOf s) t (omega arith) (omega arith)) i;
+          };
+          pending = pendingOf r;
+        }
+
+    -- row j of the one is row i of the other: its key, slot number and state stand there, and the slot's bytes are the same
+    pub moved-row : (i j : ℕ) → keyOf m' c j ≡ keyOf m c i → refOf m' c j ≡ refOf m c i → stateOf m' c j ≡ stateOf m c i
+        → Same m m' (slotPlace (slotOf c (refOf m c i))) 72 → rowAt m' c j ≡ rowAt m c i
+    unfolding rowAt
+    moved-row i j ek er es t =
+        (λ x. heldOf m' (slotPlace (slotOf c (er x))) (ek x) (es x) (er x))
+        ∙ same-held (slotPlace (slotOf c (refOf m c i))) (keyOf m c i) (stateOf m c i) (refOf m c i) t
+
+    -- the rows are the same if all slots and the first n cells of each column are
+    pub same-rows : (n : ℕ) → 1 ≤ c → Same m m' 1024 (c * 72) → Same m m' (1024 + c * 72) (n * 4) → Same m m' (1024 + c * 76) (n * 2) → Same m m' (1024 + c * 78) n
+        → tab (rowAt m' c) 0 n ≡ tab (rowAt m c) 0 n
+    same-rows n h ss sk sr st =
+        tab-cong (rowAt m' c) (rowAt m c) 0 n
+        (λ k p q.
+        let b : slotOf c (refOf m c k) < c = slot-below (refOf m c k) h in
+        moved-row k k
+        (within4 (1024 + c * 72) (n * 4) (1024 + c * 72 + k * 4) sk (omega arith) (omega arith))
+        (within2 (1024 + c * 76) (n * 2) (1024 + c * 76 + k * 2) sr (omega arith) (omega arith))
+        (st (1024 + c * 78 + k) (omega arith) (omega arith))
+        (within 1024 (c * 72) (slotPlace (slotOf c (refOf m c k))) 72 ss (omega arith) (omega arith)))
+
+    -- ---- pages
+
+    pub same-start : (n p : ℕ) → pageCount m' ≡ pageCount m → rowCount m' ≡ rowCount m → pageCount m ≤ n → Same m m' (1024 + c * 79) (n * 2)
+        → startAt m' c p ≡ startAt m c p
+    unfolding startAt if_then_else_
+    same-start n p ep er h s = ap (λ (k : ℕ). if ltb p k then le2 m' (startsAt c + p * 2) else rowCount m') ep ∙ by-test (ltb p (pageCount m)) refl
+      where
+        by-test : (t : Bool) → ltb p (pageCount m) ≡ t → (if t then le2 m' (startsAt c + p * 2) else rowCount m') ≡ (if t then le2 m (startsAt c + p * 2) else rowCount m)
+        by-test true e =
+            let l : p < pageCount m = ltb-true p (pageCount m) e in
+            within2 (1024 + c * 79) (n * 2) (1024 + c * 79 + p * 2) s (omega arith) (omega arith)
+        by-test false e = er
+
+    pub same-entries : (n : ℕ) → Same m m' 32 4 → Same m m' 64 16 → pageCount m ≤ n → Same m m' (1024 + c * 79) (n * 2) → Same m m' (1024 + c * 83) (n * 2)
+        → tab (entryAt m' c) 0 (pageCount m') ≡ tab (entryAt m c) 0 (pageCount m)
+    unfolding entryAt tableAt
+    same-entries n sr st h ss sb =
+        let ep : pageCount m' ≡ pageCount m = within2 64 16 78 st (omega arith) (omega arith) in
+        let er : rowCount m' ≡ rowCount m = same4 32 sr in
+        let ends : (t : ℕ) → t < 8 → tableEnd m' t ≡ tableEnd m t = λ t b. within2 64 16 (64 + t * 2) st (omega arith) (omega arith) in
+        ap (tab (entryAt m' c) 0) ep
+        ∙ tab-cong (entryAt m' c) (entryAt m c) 0 (pageCount m)
+        (λ p a b. let w : blockWord m' c p ≡ blockWord m c p = within2 (1024 + c * 83) (n * 2) (1024 + c * 83 + p * 2) sb (omega arith) (omega arith) in
+        λ i. record {
+          table = same-table p ends i;
+          frozen = eqb (w i / 4096 % 2) 1;
+          count = same-start n (suc p) ep er h ss i - same-start n p ep er h ss i;
+          block = w i % 4096;
+        })

@@ -1,0 +1,263 @@
+-- Each change of a list in the head, or of the directory entries, from the bytes written.
+use mathlib.Core.Path.{_≡_, refl, sym, ap, _∙_}
+use mathlib.Core.Bool.{Bool, true, false, not}
+use Prim.Native.Nat.{ℕ, suc, _+_, _*_, _-_, _/_, _%_, _≤_, _<_}
+use native.Mathlib.Nat.{zero-add}
+use native.Mathlib.Omega.{arith}
+use mathlib.Core.List.{List, [], _∷_, _++_}
+use lib.ListN.{length, getD, set}
+use lib.Dec.{eqb}
+use borrow.Author.Tests.{eq-eqb, ne-eqb}
+use Rattle.basics.specs.Basics.{if_then_else_}
+use Rattle.memory_bytes.specs.Bytes.{le2, le4, bytes2, bytes4, Apart, Wrote, Lowered}
+use Rattle.memory_bytes.specs.Columns.{tab, removeAt}
+use Rattle.memory_bytes.proofs.Columns.{getD-tab, tab-add, tab-set, tab-remove}
+use Rattle.memory_bytes.proofs.Bytes.{le2-below, le2-above, le4-below, le4-above, le2-wrote, le4-wrote, le4-lowered}
+use Rattle.model.specs.Transactions.{isFor}
+use Rattle.memory_layout.specs.Views.{headOf, openAt, directoryAt, namedBlock}
+use Rattle.memory_layout.specs.Flat.{flatOf, capacityOf, opensOf, namedOf, directoriesOf, Room, Replaces, Becomes, withHead, withOpens, withNamed, withDirectories, noOpen}
+use Rattle.memory_layout.specs.Opens.{activeOf, OpenFits, findOpen, oneIf}
+use Rattle.memory_layout.specs.declared.Head.{Head}
+use Rattle.memory_layout.specs.declared.Open.{Open}
+use Rattle.memory_layout.proofs.Frame.{tab-cong}
+use Rattle.memory_layout.proofs.Laws.{Known, known, opens-length, named-length, directories-length}
+use Rattle.memory_layout.proofs.Changes.{same-below, same-above, apart-then, becomes-head, becomes-opens, becomes-named, becomes-directories}
+
+-- one more element
+pub tab-push : {A : Type 0} (f g : ℕ → A) (n : ℕ) (x : A) → g n ≡ x → ((j : ℕ) → j < n → g j ≡ f j) → tab g 0 (n + 1) ≡ tab f 0 n ++ x ∷ []
+tab-push f g n x here other =
+    let a : tab g 0 n ≡ tab f 0 n = tab-cong g f 0 n (λ k p q. other k (omega arith)) in
+    let w : g (0 + n) ≡ x = ap g (zero-add n) ∙ here in
+    tab-add g 0 n 1 ∙ cc
+
+-- a truth value as a number
+one-back : (b : Bool) → not (eqb (oneIf b) 0) ≡ b
+one-back true = refl
+one-back false = refl
+
+one-small : (b : Bool) → oneIf b ≤ 1
+one-small true = omega arith
+one-small false = omega arith
+
+-- ---- the head
+
+-- seven numbers written one after the other; x: the running checkpoint as a number
+module _ {m m1 m2 m3 m4 m5 m6 m7 : List ℕ} {x : ℕ} (h : Head) (room : Room m) (rep : Replaces (headOf m) h) (lb : h .level < 4294967296) (nb : h .next < 4294967296)
+    (bb : h .begun < 4294967296) (one : x ≡ oneIf (h .running)) where
+  pub head-put : Wrote m m1 4 (bytes4 (h .capacity)) → Wrote m1 m2 8 (bytes4 (h .blocks)) → Wrote m2 m3 12 (bytes4 (h .level)) → Wrote m3 m4 16 (bytes4 (h .next))
+      → Wrote m4 m5 20 (bytes4 x) → Wrote m5 m6 24 (bytes4 (h .begun)) → Wrote m6 m7 28 (bytes4 (h .taken)) → Becomes m m7 (withHead (flatOf m) h)
+  unfolding headOf
+  head-put w1 w2 w3 w4 w5 w6 w7 =
+      let k : Known m = known m room in
+      let a4 : Apart m m4 4 16 = apart-then 4 (apart-then 4 (apart-then 4 (w1 .apart) (w2 .apart)) (w3 .apart)) (w4 .apart) in
+      let a7 : Apart m m7 4 28 = apart-then 4 (apart-then 4 (apart-then 4 a4 (w5 .apart)) (w6 .apart)) (w7 .apart) in
+      let k2 = le4-below (w2 .apart) in
+      let k3 = le4-below (w3 .apart) in
+      let k4 = le4-below (w4 .apart) in
+      let k5 = le4-below (w5 .apart) in
+      let k6 = le4-below (w6 .apart) in
+      let k7 = le4-below (w7 .apart) in
+      let above5 : (b : ℕ) → b + 4 ≤ 20 → le4 m7 b ≡ le4 m4 b = λ b l. k7 b (omega arith) ∙ k6 b (omega arith) ∙ k5 b (omega arith) in
+      let f1 : le4 m7 4 ≡ h .capacity =
+      above5 4 (omega arith) ∙ k4 4 (omega arith) ∙ k3 4 (omega arith) ∙ k2 4 (omega arith) ∙ le4-wrote _ (omega (arith, rep .capacity)) w1 in
+      let f2 : le4 m7 8 ≡ h .blocks = above5 8 (omega arith) ∙ k4 8 (omega arith) ∙ k3 8 (omega arith) ∙ le4-wrote _ (omega (arith, rep .many)) w2 in
+      let f3 : le4 m7 12 ≡ h .level = above5 12 (omega arith) ∙ k4 12 (omega arith) ∙ le4-wrote _ lb w3 in
+      let f4 : le4 m7 16 ≡ h .next = above5 16 (omega arith) ∙ le4-wrote _ nb w4 in
+      let f5 : le4 m7 20 ≡ oneIf (h .running) = k7 20 (omega arith) ∙ k6 20 (omega arith) ∙ le4-wrote x (omega (arith, one-small (h .running))) w5 ∙ one in
+      let f6 : le4 m7 24 ≡ h .begun = k7 24 (omega arith) ∙ le4-wrote _ bb w6 in
+      let f7 : le4 m7 28 ≡ h .taken = le4-wrote _ (omega (arith, rep .many, rep .taken)) w7 in
+      let running : not (eqb (le4 m7 20) 0) ≡ h .running = ap (λ (z : ℕ). not (eqb z 0)) f5 ∙ one-back (h .running) in
+      becomes-head m m7 room (a7 .size) (same-below 0 4 a7 (omega arith)) (same-above 32 (length m) a7 (omega arith)) rep
+      (λ i. record { capacity = f1 i; blocks = f2 i; level = f3 i; next = f4 i; running = running i; begun = f6 i; taken = f7 i })
+
+-- an element by its index
+element : {A : Type 0} (f : ℕ → A) (n i : ℕ) (d : A) → i < n → getD (tab f 0 n) i d ≡ f i
+element f n i d h = getD-tab f 0 n i d h ∙ ap f (zero-add i)
+
+-- ---- open transactions
+
+open-by : (m m' : List ℕ) (i j : ℕ) → le4 m' (128 + j * 4) ≡ le4 m (128 + i * 4) → openAt m' j ≡ openAt m i
+unfolding openAt
+open-by m m' i j e = ap (λ (w : ℕ). record { transaction = w / 1048576; written = w % 1048576 }) e
+
+pub open-new : (m : List ℕ) (i : ℕ) (o : Open) → OpenFits o → le4 m (128 + i * 4) ≡ o .transaction * 1048576 + o .written → openAt m i ≡ activeOf o
+unfolding openAt
+open-new m i o f e =
+    let w : o .written < 1048576 = f .written in
+    let a : le4 m (128 + i * 4) / 1048576 ≡ o .transaction = omega arith in
+    let b : le4 m (128 + i * 4) % 1048576 ≡ o .written = omega arith in
+    λ x. record { transaction = a x; written = b x }
+
+word-small : (o : Open) → OpenFits o → o .transaction * 1048576 + o .written < 4294967296
+word-small o f = omega (arith, f .transaction, f .written)
+
+pub open-at : (m : List ℕ) (i x : ℕ) → Room m → i < length (opensOf m) → x ≡ le4 m (128 + i * 4)
+    → activeOf (record { transaction = x / 1048576; written = x % 1048576 }) ≡ getD (opensOf m) i noOpen
+unfolding opensOf openAt
+open-at m i x room h e =
+    ap (λ (w : ℕ). record { transaction = w / 1048576; written = w % 1048576 }) e ∙ sym (element (openAt m) (le4 m 36) i noOpen (omega (arith, opens-length m)))
+
+module _ {m m' : List ℕ} (room : Room m) (i : ℕ) where
+  pub open-set : (o : Open) → i < length (opensOf m) → OpenFits o → Wrote m m' (128 + i * 4) (bytes4 (o .transaction * 1048576 + o .written))
+      → Becomes m m' (withOpens (flatOf m) (set (opensOf m) i (activeOf o)))
+  unfolding opensOf
+  open-set o h f w =
+      let k : Known m = known m room in
+      let n : le4 m' 36 ≡ le4 m 36 = le4-below (w .apart) 36 (omega arith) in
+      becomes-opens m m' room (w .apart .size) (same-below 0 36 (w .apart) (omega arith)) (same-below 40 88 (w .apart) (omega arith))
+      (same-above 384 (length m) (w .apart) (omega arith)) (omega arith)
+      (ap (tab (openAt m') 0) n
+      ∙ tab-set (openAt m) (openAt m') (le4 m 36) i (activeOf o) (omega arith)
+      (λ j b. open-by m m' j j (le4-below (w .apart) (128 + j * 4) (omega arith)))
+      (open-new m' i o f (le4-wrote _ (word-small o f) w))
+      (λ j b l. open-by m m' j j (le4-above (w .apart) (128 + j * 4) (omega arith))))
+
+  module _ {m2 : List ℕ} {n : ℕ} (e : n ≡ le4 m 36) where
+    pub open-push : (o : Open) → length (opensOf m) < 64 → OpenFits o → Wrote m m' (128 + n * 4) (bytes4 (o .transaction * 1048576 + o .written))
+        → Wrote m' m2 36 (bytes4 (n + 1)) → Becomes m m2 (withOpens (flatOf m) (opensOf m ++ activeOf o ∷ []))
+    unfolding opensOf
+    open-push o h f w v =
+        let k : Known m = known m room in
+        let c : le4 m2 36 ≡ le4 m 36 + 1 = le4-wrote (n + 1) (omega arith) v ∙ ap (λ (z : ℕ). z + 1) e in
+        let new : le4 m2 (128 + le4 m 36 * 4) ≡ o .transaction * 1048576 + o .written =
+        le4-above (v .apart) (128 + le4 m 36 * 4) (omega arith) ∙ ap (λ (z : ℕ). le4 m' (128 + z * 4)) (sym e) ∙ le4-wrote _ (word-small o f) w in
+        becomes-opens m m2 room (v .apart .size ∙ w .apart .size)
+        (λ b p q. v .apart .below b (omega arith) ∙ w .apart .below b (omega arith))
+        (λ b p q. v .apart .above b (omega arith) ∙ w .apart .below b (omega arith))
+        (λ b p q. v .apart .above b (omega arith) ∙ w .apart .above b (omega arith))
+        (omega arith)
+        (ap (tab (openAt m2) 0) c
+        ∙ tab-push (openAt m) (openAt m2) (le4 m 36) (activeOf o) (open-new m2 (le4 m 36) o f new)
+        (λ j b. open-by m m2 j j (le4-above (v .apart) (128 + j * 4) (omega arith) ∙ le4-below (w .apart) (128 + j * 4) (omega arith))))
+
+    pub open-remove : i < length (opensOf m) → Lowered m m' (128 + i * 4) (128 + n * 4) 4 → Wrote m' m2 36 (bytes4 (n - 1))
+        → Becomes m m2 (withOpens (flatOf m) (removeAt i (opensOf m)))
+    unfolding opensOf
+    open-remove h w v =
+        let k : Known m = known m room in
+        let c : le4 m2 36 ≡ le4 m 36 - 1 = le4-wrote (n - 1) (omega arith) v ∙ ap (λ (z : ℕ). z - 1) e in
+        becomes-opens m m2 room (v .apart .size ∙ w .apart .size)
+        (λ b p q. v .apart .below b (omega arith) ∙ w .apart .below b (omega arith))
+        (λ b p q. v .apart .above b (omega arith) ∙ w .apart .below b (omega arith))
+        (λ b p q. v .apart .above b (omega arith) ∙ w .apart .above b (omega arith))
+        (omega arith)
+        (ap (tab (openAt m2) 0) c
+        ∙ tab-remove (openAt m) (openAt m2) (le4 m 36) i (omega arith)
+        (λ j b. open-by m m2 j j (le4-above (v .apart) (128 + j * 4) (omega arith) ∙ le4-below (w .apart) (128 + j * 4) (omega arith)))
+        (λ j b l. open-by m m2 (suc j) j (le4-above (v .apart) (128 + j * 4) (omega arith)
+        ∙ le4-lowered w (128 + j * 4) (omega arith) (omega arith) ∙ ap (le4 m) (omega arith))))
+
+-- a search from entry i on, turn by turn: x is the number that stands there
+module _ (m : List ℕ) (tx i n : ℕ) where
+  left : i < n → tab (openAt m) i (n - i) ≡ openAt m i ∷ tab (openAt m) (i + 1) (n - (i + 1))
+  left h =
+      let e : n - i ≡ suc (n - (i + 1)) = omega arith in
+      let e2 : suc i ≡ i + 1 = omega arith in
+      ap (tab (openAt m) i) e ∙ ap (λ (z : ℕ). openAt m i ∷ tab (openAt m) z (n - (i + 1))) e2
+
+  pub find-here : {x : ℕ} → i < n → x ≡ le4 m (128 + i * 4) → x / 1048576 ≡ tx → findOpen tx (tab (openAt m) i (n - i)) ≡ 0
+  unfolding findOpen isFor openAt if_then_else_
+  find-here h e t = ap (findOpen tx) (left h) ∙ rw (eq-eqb (le4 m (128 + i * 4) / 1048576) tx (omega arith))
+
+  pub find-turn : {x : ℕ} → i < n → x ≡ le4 m (128 + i * 4) → (x / 1048576 ≡ tx → ⊥)
+      → findOpen tx (tab (openAt m) i (n - i)) ≡ suc (findOpen tx (tab (openAt m) (i + 1) (n - (i + 1))))
+  unfolding findOpen isFor openAt if_then_else_
+  find-turn {x} h e t = ap (findOpen tx) (left h) ∙ rw (ne-eqb (le4 m (128 + i * 4) / 1048576) tx (λ z. t (ap (λ (y : ℕ). y / 1048576) e ∙ z)))
+
+  pub find-end : n ≤ i → findOpen tx (tab (openAt m) i (n - i)) ≡ 0
+  unfolding findOpen
+  find-end h = let e : n - i ≡ 0 = omega arith in ap (λ (z : ℕ). findOpen tx (tab (openAt m) i z)) e
+
+-- ---- directory entries
+
+named-by : (m m' : List ℕ) (c i : ℕ) → le2 m' (1024 + c * 87 + i * 2) ≡ le2 m (1024 + c * 87 + i * 2) → namedBlock m' c i ≡ namedBlock m c i
+unfolding namedBlock
+named-by m m' c i e = ap (λ (w : ℕ). w % 4096) e
+
+pub named-new : (m : List ℕ) (c i b : ℕ) → b < 4096 → le2 m (1024 + c * 87 + i * 2) ≡ b → namedBlock m c i ≡ b
+unfolding namedBlock
+named-new m c i b h e = omega arith
+
+pub named-at : (m : List ℕ) (i x : ℕ) → Room m → i < length (namedOf m) → x ≡ le2 m (1024 + capacityOf m * 87 + i * 2) → x % 4096 ≡ getD (namedOf m) i 0
+unfolding namedOf namedBlock
+named-at m i x room h e = ap (λ (w : ℕ). w % 4096) e ∙ sym (element (namedBlock m (capacityOf m)) (le4 m 40) i 0 (omega (arith, named-length m)))
+
+module _ {m m' : List ℕ} (room : Room m) {a : ℕ} (b : ℕ) (small : b < 4096) where
+  pub named-set : (i : ℕ) → i < length (namedOf m) → a ≡ 1024 + capacityOf m * 87 + i * 2 → Wrote m m' a (bytes2 b) → Becomes m m' (withNamed (flatOf m) (set (namedOf m) i b))
+  unfolding namedOf
+  named-set i h e w =
+      let k : Known m = known m room in
+      let c : ℕ = capacityOf m in
+      let n : le4 m' 40 ≡ le4 m 40 = le4-below (w .apart) 40 (omega arith) in
+      let new : le2 m' (1024 + c * 87 + i * 2) ≡ b = ap (le2 m') (sym e) ∙ le2-wrote b (omega arith) w in
+      becomes-named m m' room (w .apart .size) (same-below 0 40 (w .apart) (omega arith)) (same-below 44 (980 + c * 87) (w .apart) (omega arith)) (omega arith)
+      ((λ x. tab (namedBlock m' (le4-below (w .apart) 4 (omega arith) x)) 0 (n x))
+      ∙ tab-set (namedBlock m c) (namedBlock m' c) (le4 m 40) i b (omega arith)
+      (λ j l. named-by m m' c j (le2-below (w .apart) (1024 + c * 87 + j * 2) (omega arith)))
+      (named-new m' c i b small new)
+      (λ j l r. named-by m m' c j (le2-above (w .apart) (1024 + c * 87 + j * 2) (omega arith))))
+
+  pub named-push : {m2 : List ℕ} {n : ℕ} → n ≡ le4 m 40 → length (namedOf m) < capacityOf m → a ≡ 1024 + capacityOf m * 87 + n * 2 → Wrote m m' a (bytes2 b)
+      → Wrote m' m2 40 (bytes4 (n + 1)) → Becomes m m2 (withNamed (flatOf m) (namedOf m ++ b ∷ []))
+  unfolding namedOf
+  named-push {m2} {n} en h e w v =
+      let k : Known m = known m room in
+      let c : ℕ = capacityOf m in
+      let l : ℕ = le4 m 40 in
+      let cap : le4 m2 4 ≡ c = le4-below (v .apart) 4 (omega arith) ∙ le4-below (w .apart) 4 (omega arith) in
+      let count : le4 m2 40 ≡ l + 1 = le4-wrote (n + 1) (omega arith) v ∙ ap (λ (z : ℕ). z + 1) en in
+      let place : 1024 + c * 87 + l * 2 ≡ a = omega arith in
+      let new : le2 m2 (1024 + c * 87 + l * 2) ≡ b = ap (le2 m2) place ∙ le2-above (v .apart) a (omega arith) ∙ le2-wrote b (omega arith) w in
+      becomes-named m m2 room (v .apart .size ∙ w .apart .size)
+      (λ x p q. v .apart .below x (omega arith) ∙ w .apart .below x (omega arith))
+      (λ x p q. v .apart .above x (omega arith) ∙ w .apart .below x (omega arith))
+      (omega arith)
+      ((λ x. tab (namedBlock m2 (cap x)) 0 (count x))
+      ∙ tab-push (namedBlock m c) (namedBlock m2 c) l b (named-new m2 c l b small new)
+      (λ j r. named-by m m2 c j (le2-above (v .apart) (1024 + c * 87 + j * 2) (omega arith) ∙ le2-below (w .apart) (1024 + c * 87 + j * 2) (omega arith))))
+
+pub named-clear : {m m' : List ℕ} → Room m → Wrote m m' 40 (bytes4 0) → Becomes m m' (withNamed (flatOf m) [])
+unfolding namedOf
+named-clear {m} {m'} room w =
+    let n : le4 m' 40 ≡ 0 = le4-wrote 0 (omega arith) w in
+    becomes-named m m' room (w .apart .size) (same-below 0 40 (w .apart) (omega arith)) (same-above 44 (980 + capacityOf m * 87) (w .apart) (omega arith)) (omega arith)
+    (ap (tab (namedBlock m' (le4 m' 4)) 0) n)
+
+-- ---- directory blocks written
+
+directory-by : (m m' : List ℕ) (i : ℕ) → le4 m' (96 + i * 4) ≡ le4 m (96 + i * 4) → directoryAt m' i ≡ directoryAt m i
+unfolding directoryAt
+directory-by m m' i e = ap (λ (w : ℕ). w % 4096) e
+
+directory-new : (m : List ℕ) (i b : ℕ) → b < 4096 → le4 m (96 + i * 4) ≡ b → directoryAt m i ≡ b
+unfolding directoryAt
+directory-new m i b h e = omega arith
+
+pub directory-at : (m : List ℕ) (i x : ℕ) → Room m → i < length (directoriesOf m) → x ≡ le4 m (96 + i * 4) → x % 4096 ≡ getD (directoriesOf m) i 0
+unfolding directoriesOf directoryAt
+directory-at m i x room h e = ap (λ (w : ℕ). w % 4096) e ∙ sym (element (directoryAt m) (le4 m 44) i 0 (omega (arith, directories-length m)))
+
+pub directory-push : {m m' m2 : List ℕ} {n : ℕ} (b : ℕ) → Room m → n ≡ le4 m 44 → length (directoriesOf m) < 4 → b < 4096 → Wrote m m' (96 + n * 4) (bytes4 b)
+    → Wrote m' m2 44 (bytes4 (n + 1)) → Becomes m m2 (withDirectories (flatOf m) (directoriesOf m ++ b ∷ []))
+unfolding directoriesOf
+directory-push {m} {m'} {m2} {n} b room e h small w v =
+    let k : Known m = known m room in
+    let l : ℕ = le4 m 44 in
+    let count : le4 m2 44 ≡ l + 1 = le4-wrote (n + 1) (omega arith) v ∙ ap (λ (z : ℕ). z + 1) e in
+    let new : le4 m2 (96 + l * 4) ≡ b =
+    le4-above (v .apart) (96 + l * 4) (omega arith) ∙ ap (λ (z : ℕ). le4 m' (96 + z * 4)) (sym e) ∙ le4-wrote b (omega arith) w in
+    becomes-directories m m2 room (v .apart .size ∙ w .apart .size)
+    (λ x p q. v .apart .below x (omega arith) ∙ w .apart .below x (omega arith))
+    (λ x p q. v .apart .above x (omega arith) ∙ w .apart .below x (omega arith))
+    (λ x p q. v .apart .above x (omega arith) ∙ w .apart .above x (omega arith))
+    (omega arith)
+    (ap (tab (directoryAt m2) 0) count
+    ∙ tab-push (directoryAt m) (directoryAt m2) l b (directory-new m2 l b small new)
+    (λ j r. directory-by m m2 j (le4-above (v .apart) (96 + j * 4) (omega arith) ∙ le4-below (w .apart) (96 + j * 4) (omega arith))))
+
+pub directories-clear : {m m' : List ℕ} → Room m → Wrote m m' 44 (bytes4 0) → Becomes m m' (withDirectories (flatOf m) [])
+unfolding directoriesOf
+directories-clear {m} {m'} room w =
+    let n : le4 m' 44 ≡ 0 = le4-wrote 0 (omega arith) w in
+    becomes-directories m m' room (w .apart .size) (same-below 0 44 (w .apart) (omega arith)) (same-above 48 48 (w .apart) (omega arith))
+    (same-above 112 (length m) (w .apart) (omega arith)) (omega arith) (ap (tab (directoryAt m') 0) n)

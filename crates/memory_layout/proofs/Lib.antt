@@ -1,0 +1,10 @@
+pub mod Frame
+pub mod Refusal
+pub mod Laws
+pub mod Changes
+pub mod Leaves
+pub mod Marks
+pub mod Blank
+pub mod Nest
+pub mod Exchange
+pub mod Runs

@@ -1,0 +1,183 @@
+-- Nested pages over flat rows: in parts, and with entries and their rows exchanged.
+use mathlib.Core.Path.{_≡_, refl, sym, ap, _∙_}
+use mathlib.Core.Bool.{true}
+use Prim.Native.Nat.{ℕ, zero, suc, _+_, _-_, _≤_, _<_}
+use native.Mathlib.Omega.{arith}
+use native.Mathlib.Nat.{zero-add, suc-add}
+use mathlib.Core.List.{List, [], _∷_, _++_, append-assoc}
+use lib.ListN.{length, take, drop, getD, set, length-drop, take-append-drop}
+use lib.Seq.{take-append-le, drop-append-le, take-take, drop-drop, take-add, drop-nil, take-nil, length-take-le, set-split}
+use borrow.Author.Tests.{leb-true, le-leb}
+use Rattle.basics.specs.Basics.{all, sum}
+use Rattle.basics.proofs.Facts.{AllOf, and-true}
+use Rattle.model.specs.State.{Held, Page}
+use Rattle.memory_bytes.specs.Columns.{insertAt, removeAt}
+use Rattle.memory_layout.specs.Store.{pageOf, nest, total, hasRows}
+use Rattle.memory_layout.specs.declared.Entry.{Entry}
+
+-- ---- how many rows entries have
+
+-- each entry has a row
+abbrev pub Counted : List Entry → Type 0
+Counted es = AllOf (λ (e : Entry). 1 ≤ e .count) es
+
+pub total-append : (es fs : List Entry) → total (es ++ fs) ≡ total es + total fs
+unfolding total sum
+total-append [] fs = sym (zero-add _)
+total-append (e ∷ es) fs = omega (arith, total-append es fs)
+
+pub total-split : (i : ℕ) (es : List Entry) → total (take i es) + total (drop i es) ≡ total es
+total-split i es = sym (total-append (take i es) (drop i es)) ∙ ap total (take-append-drop i es)
+
+pub counted-append : (es fs : List Entry) → Counted es → Counted fs → Counted (es ++ fs)
+counted-append [] fs a b = b
+counted-append (e ∷ es) fs a b = (a .0, counted-append es fs (a .1) b)
+
+pub counted-take : (i : ℕ) (es : List Entry) → Counted es → Counted (take i es)
+counted-take zero es a = tt
+counted-take (suc i) [] a = tt
+counted-take (suc i) (e ∷ es) a = (a .0, counted-take i es (a .1))
+
+pub counted-drop : (i : ℕ) (es : List Entry) → Counted es → Counted (drop i es)
+counted-drop zero es a = a
+counted-drop (suc i) [] a = tt
+counted-drop (suc i) (e ∷ es) a = counted-drop i es (a .1)
+
+pub counted-at : (es : List Entry) (i : ℕ) (d : Entry) → Counted es → i < length es → 1 ≤ getD es i d .count
+counted-at [] i d c h = absurd (omega arith)
+counted-at (e ∷ es) zero d c h = c .0
+counted-at (e ∷ es) (suc i) d c h = counted-at es i d (c .1) (omega arith)
+
+pub counted-length : (es : List Entry) → Counted es → length es ≤ total es
+unfolding total sum
+counted-length [] a = omega arith
+counted-length (e ∷ es) a = omega (arith, a .0, counted-length es (a .1))
+
+pub all-counted : (es : List Entry) → all hasRows es ≡ true → Counted es
+unfolding all hasRows
+all-counted [] h = tt
+all-counted (e ∷ es) h = let t = and-true _ _ h in (leb-true 1 (e .count) (t .0), all-counted es (t .1))
+
+pub counted-all : (es : List Entry) → Counted es → all hasRows es ≡ true
+unfolding all hasRows
+counted-all [] h = refl
+counted-all (e ∷ es) h = simp (le-leb 1 (e .count) (h .0), counted-all es (h .1))
+
+-- ---- nested lists, in parts
+
+drop-take : {A : Type 0} (n k : ℕ) (l : List A) → drop n (take (n + k) l) ≡ take k (drop n l)
+drop-take zero k l = ap (λ (z : ℕ). take z l) (zero-add k)
+drop-take (suc n) k [] = rw (take-nil, drop-nil, take-nil)
+drop-take (suc n) k (x ∷ l) = rw suc-add (drop-take n k l)
+
+pub nest-append : (es fs : List Entry) (us vs : List Held) → length us ≡ total es → nest (es ++ fs) (us ++ vs) ≡ nest es us ++ nest fs vs
+unfolding nest total sum
+nest-append [] fs [] vs h = refl
+nest-append [] fs (u ∷ us) vs h = absurd (omega arith)
+nest-append (e ∷ es) fs us vs h =
+    let l : e .count ≤ length us = omega arith in
+    let ld : length (drop (e .count) us) ≡ total es = simp length-drop (omega arith) in
+    let a : take (e .count) (us ++ vs) ≡ take (e .count) us = take-append-le (e .count) us vs l in
+    let b : drop (e .count) (us ++ vs) ≡ drop (e .count) us ++ vs = drop-append-le (e .count) us vs l in
+    ap (λ (z : List Held). pageOf e z ∷ nest (es ++ fs) (drop (e .count) (us ++ vs))) a
+    ∙ ap (λ (z : List Held). pageOf e (take (e .count) us) ∷ nest (es ++ fs) z) b
+    ∙ ap (λ (z : List Page). pageOf e (take (e .count) us) ∷ z) (nest-append es fs (drop (e .count) us) vs ld)
+
+pub length-nest : (es : List Entry) (ts : List Held) → length (nest es ts) ≡ length es
+unfolding nest
+length-nest [] ts = refl
+length-nest (e ∷ es) ts = ap suc (length-nest es (drop (e .count) ts))
+
+pub take-nest : (i : ℕ) (es : List Entry) (ts : List Held) → take i (nest es ts) ≡ nest (take i es) (take (total (take i es)) ts)
+unfolding nest total sum
+take-nest zero es ts = refl
+take-nest (suc i) [] ts = refl
+take-nest (suc i) (e ∷ es) ts =
+    let n : ℕ = e .count in
+    let k : ℕ = total (take i es) in
+    let a : take n (take (n + k) ts) ≡ take n ts = take-take n (n + k) ts (omega arith) in
+    let b : drop n (take (n + k) ts) ≡ take k (drop n ts) = drop-take n k ts in
+    ap (λ (z : List Page). pageOf e (take n ts) ∷ z) (take-nest i es (drop n ts))
+    ∙ ap (λ (z : List Held). pageOf e (take n ts) ∷ nest (take i es) z) (sym b)
+    ∙ ap (λ (z : List Held). pageOf e z ∷ nest (take i es) (drop n (take (n + k) ts))) (sym a)
+
+pub drop-nest : (i : ℕ) (es : List Entry) (ts : List Held) → drop i (nest es ts) ≡ nest (drop i es) (drop (total (take i es)) ts)
+unfolding nest total sum
+drop-nest zero es ts = refl
+drop-nest (suc i) [] ts = refl
+drop-nest (suc i) (e ∷ es) ts = drop-nest i es (drop (e .count) ts) ∙ ap (nest (drop i es)) (drop-drop (total (take i es)) (e .count) ts)
+
+-- page i
+pub nest-at : (es : List Entry) (ts : List Held) (i : ℕ) (d : Entry) → i < length es
+    → drop i (nest es ts) ≡ pageOf (getD es i d) (take (getD es i d .count) (drop (total (take i es)) ts)) ∷ drop (suc i) (nest es ts)
+unfolding nest total sum
+nest-at [] ts i d h = absurd (omega arith)
+nest-at (e ∷ es) ts zero d h = refl
+nest-at (e ∷ es) ts (suc i) d h =
+    let s : ℕ = total (take i es) in
+    nest-at es (drop (e .count) ts) i d (omega arith)
+    ∙ ap (λ (z : List Held). pageOf (getD es i d) (take (getD es i d .count) z) ∷ drop (suc i) (nest es (drop (e .count) ts))) (drop-drop s (e .count) ts)
+
+-- the r entries from i on are exchanged, and their c rows from s on with them: so are r pages
+pub nest-replace : (es : List Entry) (ts : List Held) (i r : ℕ) (s c : ℕ) (ms : List Entry) (ws : List Held)
+    → s ≡ total (take i es) → s + c ≡ total (take (i + r) es) → s ≤ length ts → length ws ≡ total ms
+    → nest (take i es ++ (ms ++ drop (i + r) es)) (take s ts ++ (ws ++ drop (s + c) ts))
+    ≡ take i (nest es ts) ++ (nest ms ws ++ drop (i + r) (nest es ts))
+nest-replace es ts i r s c ms ws es1 es2 l lw =
+    nest-append (take i es) (ms ++ drop (i + r) es) (take s ts) (ws ++ drop (s + c) ts) (length-take-le s ts l ∙ es1)
+    ∙ ap (λ (z : List Page). nest (take i es) (take s ts) ++ z) (nest-append ms (drop (i + r) es) ws (drop (s + c) ts) lw)
+    ∙ ap (λ (z : List Page). z ++ (nest ms ws ++ nest (drop (i + r) es) (drop (s + c) ts)))
+    (ap (λ (z : ℕ). nest (take i es) (take z ts)) es1 ∙ sym (take-nest i es ts))
+    ∙ ap (λ (z : List Page). take i (nest es ts) ++ (nest ms ws ++ z))
+    (ap (λ (z : ℕ). nest (drop (i + r) es) (drop z ts)) es2 ∙ sym (drop-nest (i + r) es ts))
+
+-- ---- one element put in, taken out or changed among c elements from s on
+
+module _ {A : Type 0} (ts : List A) (s j c : ℕ) where
+  before-j : j ≤ c → take (s + j) ts ≡ take s ts ++ take j (take c (drop s ts))
+  before-j h = take-add s j ts ∙ ap (λ (z : List A). take s ts ++ z) (sym (take-take j c (drop s ts) h))
+
+  after-j : j ≤ c → drop (s + j) ts ≡ drop j (take c (drop s ts)) ++ drop (s + c) ts
+  after-j h =
+      let e : j + (c - j) ≡ c = omega arith in
+      let e2 : s + j + (c - j) ≡ s + c = omega arith in
+      let d : drop j (take c (drop s ts)) ≡ take (c - j) (drop (s + j) ts) =
+      ap (λ (z : ℕ). drop j (take z (drop s ts))) (sym e) ∙ drop-take j (c - j) (drop s ts) ∙ ap (take (c - j)) (drop-drop j s ts) in
+      sym (take-append-drop (c - j) (drop (s + j) ts))
+      ∙ ap (λ (z : List A). z ++ drop (c - j) (drop (s + j) ts)) (sym d)
+      ∙ ap (λ (z : List A). drop j (take c (drop s ts)) ++ z) (drop-drop (c - j) (s + j) ts ∙ ap (λ (z : ℕ). drop z ts) e2)
+
+  pub insert-within : (x : A) → j ≤ c → insertAt (s + j) x ts ≡ take s ts ++ (insertAt j x (take c (drop s ts)) ++ drop (s + c) ts)
+  insert-within x h =
+      let v : List A = take c (drop s ts) in
+      ap (λ (z : List A). z ++ x ∷ drop (s + j) ts) (before-j h)
+      ∙ ap (λ (z : List A). (take s ts ++ take j v) ++ x ∷ z) (after-j h)
+      ∙ append-assoc (take s ts) (take j v) (x ∷ (drop j v ++ drop (s + c) ts))
+      ∙ ap (λ (z : List A). take s ts ++ z) (sym (append-assoc (take j v) (x ∷ drop j v) (drop (s + c) ts)))
+
+module _ {A : Type 0} (ts : List A) (s j c : ℕ) (h : j < c) where
+  next : drop (s + j + 1) ts ≡ drop (j + 1) (take c (drop s ts)) ++ drop (s + c) ts
+  next =
+      let e : s + j + 1 ≡ s + (j + 1) = omega arith in
+      ap (λ (z : ℕ). drop z ts) e ∙ after-j ts s (j + 1) c (omega arith)
+
+  pub remove-within : removeAt (s + j) ts ≡ take s ts ++ (removeAt j (take c (drop s ts)) ++ drop (s + c) ts)
+  remove-within =
+      let v : List A = take c (drop s ts) in
+      ap (λ (z : List A). z ++ drop (s + j + 1) ts) (before-j ts s j c (omega arith))
+      ∙ ap (λ (z : List A). (take s ts ++ take j v) ++ z) next
+      ∙ append-assoc (take s ts) (take j v) (drop (j + 1) v ++ drop (s + c) ts)
+      ∙ ap (λ (z : List A). take s ts ++ z) (sym (append-assoc (take j v) (drop (j + 1) v) (drop (s + c) ts)))
+
+  pub set-within : (x : A) → s + c ≤ length ts → set ts (s + j) x ≡ take s ts ++ (set (take c (drop s ts)) j x ++ drop (s + c) ts)
+  set-within x l =
+      let v : List A = take c (drop s ts) in
+      let lv : length v ≡ c = length-take-le c (drop s ts) (simp length-drop (omega arith)) in
+      let e : suc (s + j) ≡ s + j + 1 = omega arith in
+      let e2 : j + 1 ≡ suc j = omega arith in
+      set-split ts (s + j) x (omega arith)
+      ∙ ap (λ (z : List A). z ++ x ∷ drop (suc (s + j)) ts) (before-j ts s j c (omega arith))
+      ∙ ap (λ (z : List A). (take s ts ++ take j v) ++ x ∷ z) (ap (λ (z : ℕ). drop z ts) e ∙ next ∙ ap (λ (z : ℕ). drop z v ++ drop (s + c) ts) e2)
+      ∙ append-assoc (take s ts) (take j v) (x ∷ (drop (suc j) v ++ drop (s + c) ts))
+      ∙ ap (λ (z : List A). take s ts ++ z) (sym (append-assoc (take j v) (x ∷ drop (suc j) v) (drop (s + c) ts)))
+      ∙ ap (λ (z : List A). take s ts ++ (z ++ drop (s + c) ts)) (sym (set-split v j x (omega arith)))

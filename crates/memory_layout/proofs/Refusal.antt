@@ -1,0 +1,270 @@
+-- The tests that decide whether the memory holds a store, and what they mean.
+use mathlib.Core.Path.{_≡_, refl, sym, ap, _∙_}
+use mathlib.Core.Logic.{⊎-elim}
+use mathlib.Core.Bool.{Bool, true, false, _&&_}
+use Prim.Native.Nat.{ℕ, zero, suc, _+_, _*_, _-_, _≤_, _<_}
+use native.Mathlib.Nat.{add-zero, zero-add}
+use native.Mathlib.Numerals.{add-one}
+use native.Mathlib.Omega.{arith}
+use mathlib.Core.List.{List, [], _∷_}
+use lib.ListN.{length}
+use lib.Dec.{leb, ltb, eqb}
+use borrow.Author.Tests.{le-leb, leb-true, lt-ltb, le-ltb, ltb-true, eq-eqb, lt-leb, ne-eqb}
+use Rattle.basics.specs.Basics.{if_then_else_, every, all, paired, from}
+use Rattle.basics.proofs.Facts.{and-true}
+use Rattle.rows.proofs.Ands.{and-yes, and-no, and-assoc}
+use Rattle.model.specs.Recover.{memoryFor}
+use Rattle.memory_bytes.specs.Bytes.{le2, le4, column2}
+use Rattle.memory_bytes.specs.Columns.{tab}
+use Rattle.memory_bytes.proofs.Columns.{lt-or-ge}
+use Rattle.memory_layout.specs.Places.{signature}
+use Rattle.memory_layout.specs.Views.{headOf, countsOf, tableEnd, pageCount, startAt}
+use Rattle.memory_layout.specs.Flat.{InRange, capacityOf}
+use Rattle.memory_layout.specs.Store.{inRange, tablesRise, startsRise, StartsAt, holdsStore}
+use Rattle.memory_layout.specs.declared.Head.{Head}
+use Rattle.memory_layout.specs.declared.Counts.{Counts}
+
+-- ---- lists of tests
+
+pub every-true : (b : Bool) (bs : List Bool) → every (b ∷ bs) ≡ true → (b ≡ true) × (every bs ≡ true)
+unfolding every
+every-true b bs e = and-true b (every bs) e
+
+pub every-cons : (b : Bool) (bs : List Bool) → b ≡ true → every (b ∷ bs) ≡ every bs
+unfolding every
+every-cons b bs e = rw e
+
+pub every-stop : (b : Bool) (bs : List Bool) → b ≡ false → every (b ∷ bs) ≡ false
+unfolding every
+every-stop b bs e = rw e
+
+pub every-one : (b : Bool) → every (b ∷ []) ≡ b
+unfolding every
+every-one b = and-yes b
+
+-- a test of numbers in a row, or of a list by index, number by number
+module _ (f : ℕ → Bool) where
+  pub all-from : (a n : ℕ) → all f (from a n) ≡ true → (k : ℕ) → a ≤ k → k < a + n → f k ≡ true
+  unfolding all from
+  all-from a zero h k p q = absurd (omega arith)
+  all-from a (suc n) h k p q =
+      let t = and-true (f a) (all f (from (suc a) n)) h in
+      ⊎-elim (λ (l : a < k). all-from (suc a) n (t .1) k (omega arith) (omega arith)) (λ (g : k ≤ a). let e : k ≡ a = omega arith in ap f e ∙ t .0) (lt-or-ge a k)
+
+  pub from-all : (a n : ℕ) → ((k : ℕ) → a ≤ k → k < a + n → f k ≡ true) → all f (from a n) ≡ true
+  unfolding all from
+  from-all a zero h = refl
+  from-all a (suc n) h = rw (h a (omega arith) (omega arith), from-all (suc a) n (λ k p q. h k (omega arith) (omega arith)))
+
+  -- turn by turn
+  pub all-turn : (t n : ℕ) → t < n → all f (from t (n - t)) ≡ (f t && all f (from (t + 1) (n - (t + 1))))
+  unfolding all from
+  all-turn t n h =
+      let e : n - t ≡ suc (n - (t + 1)) = omega arith in
+      let e2 : suc t ≡ t + 1 = omega arith in
+      ap (λ (z : ℕ). all f (from t z)) e ∙ ap (λ (z : ℕ). f t && all f (from z (n - (t + 1)))) e2
+
+  pub all-end : (t n : ℕ) → n ≤ t → all f (from t (n - t)) ≡ true
+  unfolding all from
+  all-end t n h = let e : n - t ≡ 0 = omega arith in ap (λ (z : ℕ). all f (from t z)) e
+
+module _ {A : Type 0} (f : A → Bool) (g : ℕ → A) where
+  pub all-tab : (a n : ℕ) → ((k : ℕ) → a ≤ k → k < a + n → f (g k) ≡ true) → all f (tab g a n) ≡ true
+  unfolding all
+  all-tab a zero h = refl
+  all-tab a (suc n) h = rw (h a (omega arith) (omega arith), all-tab (suc a) n (λ k p q. h k (omega arith) (omega arith)))
+
+  pub tab-all : (a n : ℕ) → all f (tab g a n) ≡ true → (k : ℕ) → a ≤ k → k < a + n → f (g k) ≡ true
+  unfolding all
+  tab-all a zero h k p q = absurd (omega arith)
+  tab-all a (suc n) h k p q =
+      let t = and-true (f (g a)) (all f (tab g (suc a) n)) h in
+      ⊎-elim (λ (l : a < k). tab-all (suc a) n (t .1) k (omega arith) (omega arith)) (λ (l : k ≤ a). let e : k ≡ a = omega arith in ap (λ (z : ℕ). f (g z)) e ∙ t .0)
+      (lt-or-ge a k)
+
+-- ---- the head's numbers
+
+pub range-in : (size : ℕ) (h : Head) (n : Counts) → inRange size h n ≡ true → InRange size h n
+unfolding inRange memoryFor
+range-in size h n e =
+    let t1 = every-true _ _ e in
+    let t2 = every-true _ _ (t1 .1) in
+    let t3 = every-true _ _ (t2 .1) in
+    let t4 = every-true _ _ (t3 .1) in
+    let t5 = every-true _ _ (t4 .1) in
+    let t6 = every-true _ _ (t5 .1) in
+    let t7 = every-true _ _ (t6 .1) in
+    let t8 = every-true _ _ (t7 .1) in
+    let t9 = every-true _ _ (t8 .1) in
+    let t10 = every-true _ _ (t9 .1) in
+    let t11 = every-true _ _ (t10 .1) in
+    record {
+      least = leb-true _ _ (t1 .0);
+      most = leb-true _ _ (t2 .0);
+      long = leb-true _ _ (t3 .0);
+      few = leb-true _ _ (t4 .0);
+      many = leb-true _ _ (t5 .0);
+      taken = ltb-true _ _ (t6 .0);
+      rows = leb-true _ _ (t7 .0);
+      pages = leb-true _ _ (t8 .0);
+      opens = leb-true _ _ (t9 .0);
+      named = leb-true _ _ (t10 .0);
+      directories = leb-true _ _ (t11 .0);
+    }
+
+pub in-range : (size : ℕ) (h : Head) (n : Counts) → InRange size h n → inRange size h n ≡ true
+unfolding inRange memoryFor
+in-range size h n g =
+    every-cons _ _ (le-leb _ _ (g .least))
+    ∙ every-cons _ _ (le-leb _ _ (g .most))
+    ∙ every-cons _ _ (le-leb _ _ (g .long))
+    ∙ every-cons _ _ (le-leb _ _ (g .few))
+    ∙ every-cons _ _ (le-leb _ _ (g .many))
+    ∙ every-cons _ _ (lt-ltb _ _ (g .taken))
+    ∙ every-cons _ _ (le-leb _ _ (g .rows))
+    ∙ every-cons _ _ (le-leb _ _ (g .pages))
+    ∙ every-cons _ _ (le-leb _ _ (g .opens))
+    ∙ every-cons _ _ (le-leb _ _ (g .named))
+    ∙ every-one _
+    ∙ le-leb _ _ (g .directories)
+
+-- eleven tests joined from the left
+pub joined : (a b c d e f g h i j k : Bool) → ((((((((((a && b) && c) && d) && e) && f) && g) && h) && i) && j) && k)
+    ≡ every (a ∷ b ∷ c ∷ d ∷ e ∷ f ∷ g ∷ h ∷ i ∷ j ∷ k ∷ [])
+unfolding every
+joined a b c d e f g h i j k = simp (and-assoc, and-yes)
+
+-- ---- the pass over the tables, turn by turn: a and b are the ends of tables t and t + 1
+
+abbrev pub endRises : List ℕ → ℕ → Bool
+endRises m t = leb (tableEnd m t) (tableEnd m (suc t))
+
+-- page p starts before the next one, the last before the end of the rows
+abbrev pub startRises : List ℕ → ℕ → Bool
+startRises m p = ltb (startAt m (capacityOf m) p) (startAt m (capacityOf m) (suc p))
+
+pub tables-turn : (m : List ℕ) (t a b : ℕ) (rise : Bool) → t < 7 → a ≡ le2 m (64 + t * 2) → b ≡ le2 m (64 + t * 2 + 2)
+    → tablesRise m ≡ (rise && all (endRises m) (from t (7 - t))) → tablesRise m ≡ ((rise && leb a b) && all (endRises m) (from (t + 1) (7 - (t + 1))))
+tables-turn m t a b rise h ea eb inv =
+    let e : 64 + t * 2 + 2 ≡ 64 + suc t * 2 = omega arith in
+    let rest : Bool = all (endRises m) (from (t + 1) (7 - (t + 1))) in
+    inv
+    ∙ ap (λ (z : Bool). rise && z) (all-turn (endRises m) t 7 h ∙ (λ i. leb (sym ea i) (sym (eb ∙ ap (le2 m) e) i) && rest))
+    ∙ sym (and-assoc rise (leb a b) rest)
+
+-- ---- the pass over the pages
+
+pub paired-all : (f : ℕ → ℕ → Bool) (g : ℕ → ℕ) (i k : ℕ) → paired f (tab g i (suc k)) ≡ all (λ p. f (g p) (g (suc p))) (from i k)
+unfolding paired all from
+paired-all f g i zero = refl
+paired-all f g i (suc k) = ap (λ (z : Bool). f (g i) (g (suc i)) && z) (paired-all f g (suc i) k)
+
+all-same : (f g : ℕ → Bool) (i k : ℕ) → ((p : ℕ) → i ≤ p → p < i + k → f p ≡ g p) → all f (from i k) ≡ all g (from i k)
+unfolding all from
+all-same f g i zero h = refl
+all-same f g i (suc k) h =
+    let e : f i ≡ g i = h i (omega arith) (omega arith) in
+    let r : all f (from (suc i) k) ≡ all g (from (suc i) k) = all-same f g (suc i) k (λ p a b. h p (omega arith) (omega arith)) in
+    λ j. e j && r j
+
+all-snoc : (f : ℕ → Bool) (i k : ℕ) → all f (from i (suc k)) ≡ (all f (from i k) && f (i + k))
+unfolding all from
+all-snoc f i zero = and-yes (f i) ∙ ap f (sym (add-zero i))
+all-snoc f i (suc k) =
+    let e : suc i + k ≡ i + suc k = omega arith in
+    ap (λ (z : Bool). f i && z) (all-snoc f (suc i) k ∙ ap (λ (z : ℕ). all f (from (suc i) k) && f z) e)
+    ∙ sym (and-assoc (f i) (all f (from (suc i) k)) (f (i + suc k)))
+
+module _ {m : List ℕ} {c pages rows : ℕ} (at : StartsAt m c pages rows) where
+  -- a page's start, by its two bytes
+  start-in : (p : ℕ) → p < pages → startAt m (capacityOf m) p ≡ column2 m (1024 + c * 79) p
+  unfolding startAt if_then_else_
+  start-in p h =
+      let t : ltb p (pageCount m) ≡ true = lt-ltb p (pageCount m) (omega (arith, at .pages)) in
+      rw t (ap (λ (z : ℕ). le2 m (1024 + z * 79 + p * 2)) (sym (at .capacity)))
+
+  start-behind : startAt m (capacityOf m) pages ≡ rows
+  unfolding startAt if_then_else_
+  start-behind = let t : ltb pages (pageCount m) ≡ false = le-ltb pages (pageCount m) (omega (arith, at .pages)) in rw t (sym (at .rows))
+
+  pub no-pages : pages ≡ 0 → startsRise m ≡ eqb rows 0
+  unfolding startsRise all from
+  no-pages e =
+      let n : pageCount m ≡ 0 = omega (arith, at .pages) in
+      let s : startAt m (capacityOf m) 0 ≡ rows = ap (startAt m (capacityOf m)) (sym e) ∙ start-behind in
+      ap (λ (z : ℕ). eqb (startAt m (capacityOf m) 0) 0 && all (startRises m) (from 0 z)) n ∙ and-yes _ ∙ ap (λ (z : ℕ). eqb z 0) s
+
+  -- with pages: the first start, the rise from each to the next, and the last against the rows
+  module _ (some : 1 ≤ pages) where
+    pub some-pages : startsRise m ≡ (eqb (le2 m (1024 + c * 79)) 0
+        && (paired ltb (tab (column2 m (1024 + c * 79)) 0 (pages - 1 + 1)) && ltb (column2 m (1024 + c * 79) (pages - 1)) rows))
+    unfolding startsRise
+    some-pages =
+        let k : ℕ = pages - 1 in
+        let g : ℕ → ℕ = column2 m (1024 + c * 79) in
+        let n : pageCount m ≡ suc k = omega (arith, at .pages) in
+        let first : startAt m (capacityOf m) 0 ≡ le2 m (1024 + c * 79) = start-in 0 (omega arith) ∙ ap (le2 m) (add-zero (1024 + c * 79)) in
+        let mid : all (startRises m) (from 0 k) ≡ paired ltb (tab g 0 (k + 1)) =
+        all-same (startRises m) (λ p. ltb (g p) (g (suc p))) 0 k (λ p a b. λ i. ltb (start-in p (omega arith) i) (start-in (suc p) (omega arith) i))
+        ∙ sym (paired-all ltb g 0 k) ∙ ap (λ (z : ℕ). paired ltb (tab g 0 z)) (sym (add-one k)) in
+        let behind : suc (0 + k) ≡ pages = omega arith in
+        let last : startRises m (0 + k) ≡ ltb (g k) rows =
+        (λ i. ltb ((ap (startAt m (capacityOf m)) (zero-add k) ∙ start-in k (omega arith)) i) ((ap (startAt m (capacityOf m)) behind ∙ start-behind) i)) in
+        (λ i. eqb (first i) 0 && all (startRises m) (from 0 (n i)))
+        ∙ ap (λ (z : Bool). eqb (le2 m (1024 + c * 79)) 0 && z) (all-snoc (startRises m) 0 k ∙ (λ i. mid i && last i))
+
+    pub last-empty : {x : ℕ} → x ≡ column2 m (1024 + c * 79) (pages - 1) → rows ≤ x → false ≡ startsRise m
+    last-empty e h =
+        sym (some-pages ∙ rw (le-ltb (column2 m (1024 + c * 79) (pages - 1)) rows (omega arith), and-no, and-no))
+
+    pub first-moved : {x : ℕ} → x ≡ le2 m (1024 + c * 79) → (x ≡ 0 → ⊥) → false ≡ startsRise m
+    first-moved e ne = sym (some-pages ∙ rw (ne-eqb (le2 m (1024 + c * 79)) 0 (λ z. ne (e ∙ z))))
+
+    pub all-rise : {x y : ℕ} {b : Bool} → x ≡ column2 m (1024 + c * 79) (pages - 1) → x < rows → y ≡ le2 m (1024 + c * 79) → y ≡ 0
+        → b ≡ paired ltb (tab (column2 m (1024 + c * 79)) 0 (pages - 1 + 1)) → b ≡ startsRise m
+    all-rise ex hx ey hy eb =
+        eb ∙ sym (some-pages ∙ rw (eq-eqb (le2 m (1024 + c * 79)) 0 (sym ey ∙ hy), lt-ltb (column2 m (1024 + c * 79) (pages - 1)) rows (omega arith), and-yes))
+
+-- ---- the whole test, where it stops
+
+pub too-short : (m : List ℕ) → length m < 1024 → false ≡ holdsStore m
+unfolding holdsStore
+too-short m h = sym (every-stop _ _ (lt-leb 1024 (length m) h))
+
+module _ (m : List ℕ) {s : ℕ} (big : 1024 ≤ length m) (es : s ≡ le4 m 0) where
+  pub unsigned : (s ≡ signature → ⊥) → false ≡ holdsStore m
+  unfolding holdsStore
+  unsigned ne = sym (every-cons _ _ (le-leb 1024 (length m) big) ∙ every-stop _ _ (ne-eqb _ _ (λ z. ne (es ∙ z))))
+
+  module _ {h : Head} {n : Counts} {b : Bool} (sign : s ≡ signature) (eh : h ≡ headOf m) (en : n ≡ countsOf m) (eb : b ≡ inRange (length m) h n) where
+    range-is : inRange (length m) (headOf m) (countsOf m) ≡ b
+    range-is = sym (eb ∙ ap (λ (x : Head). inRange (length m) x n) eh ∙ ap (inRange (length m) (headOf m)) en)
+
+    front : holdsStore m ≡ every (b ∷ tablesRise m ∷ startsRise m ∷ [])
+    unfolding holdsStore
+    front =
+        every-cons _ _ (le-leb 1024 (length m) big) ∙ every-cons _ _ (eq-eqb _ _ (sym es ∙ sign))
+        ∙ ap (λ (z : Bool). every (z ∷ tablesRise m ∷ startsRise m ∷ [])) range-is
+
+    pub out-of-range : b ≡ false → false ≡ holdsStore m
+    out-of-range f = sym (front ∙ every-stop _ _ f)
+
+    module _ {t : Bool} (in-it : b ≡ true) (et : t ≡ tablesRise m) where
+      pub tables-fall : t ≡ false → false ≡ holdsStore m
+      tables-fall f = sym (front ∙ every-cons _ _ in-it ∙ every-stop _ _ (sym et ∙ f))
+
+      pub last-test : t ≡ true → holdsStore m ≡ startsRise m
+      last-test y = front ∙ every-cons _ _ in-it ∙ every-cons _ _ (sym et ∙ y) ∙ every-one _
+
+    -- what the last test asks for
+    pub starts-at : b ≡ true → StartsAt m (h .capacity) (n .pages) (n .rows)
+    unfolding headOf countsOf
+    starts-at t =
+        let g : InRange (length m) h n = range-in _ _ _ (sym eb ∙ t) in
+        record {
+          long = omega (arith, g .long);
+          capacity = ap (λ (x : Head). x .capacity) eh;
+          most = g .pages;
+          pages = ap (λ (x : Counts). x .pages) en;
+          rows = ap (λ (x : Counts). x .rows) en;
+        }

@@ -1,0 +1,34 @@
+use Rattle.memory_layout.specs.Views.{countsOf}
+use borrow.Author.Needs.{needs}
+use Rattle.memory_layout.proofs.get_counts.Statement.{statement}
+use Rattle.memory_layout.proofs.get_counts.Tie as tie
+
+get4-requires : tie.Need-get4-requires
+get4-requires c κs = search needs
+
+get2-requires : tie.Need-get2-requires
+get2-requires c κs = search needs
+
+get4-requires-2 : tie.Need-get4-requires-2
+get4-requires-2 c κs = search needs
+
+get4-requires-3 : tie.Need-get4-requires-3
+get4-requires-3 c κs = search needs
+
+get4-requires-4 : tie.Need-get4-requires-4
+get4-requires-4 c κs = search needs
+
+returns : tie.Need-returns
+unfolding countsOf
+returns c = λ i. record {
+  rows = c .before .before .before .before .get4 .ensures i;
+  pages = c .before .before .before .get2 .ensures i;
+  opens = c .before .before .get42 .ensures i;
+  named = c .before .get43 .ensures i;
+  directories = c .get44 .ensures i;
+}
+
+pub get-counts-spec : {M : Type 1} → statement M
+get-counts-spec =
+    tie.close
+    (tie.spec get4-requires get2-requires get4-requires-2 get4-requires-3 get4-requires-4 returns)

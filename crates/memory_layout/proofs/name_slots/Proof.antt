@@ -1,0 +1,71 @@
+use Prim.Native.Nat.{_+_, _*_, _-_, _≤_}
+use native.Mathlib.Omega.{arith}
+use Rattle.memory_bytes.specs.Bytes.{Apart}
+use Rattle.memory_layout.proofs.Blank.{names-start, names-turn}
+use Rattle.memory_layout.proofs.name_slots.Statement.{statement}
+use Rattle.memory_layout.proofs.name_slots.Tie as tie
+
+abbrev Inv-loop : tie.InvT-loop
+Inv-loop m₀ n i₀ m i = (i ≤ n) × Apart m₀ m (1024 + n * 76) (i * 2)
+
+abbrev μ-loop : tie.MeasureT-loop
+μ-loop m₀ n i₀ m i = n - i
+
+loop-holds : tie.Need-loop-holds Inv-loop μ-loop
+loop-holds c = (omega arith, names-start (c .before .args .m .now) (1024 + c .before .args .n * 76))
+
+mul-put2 : tie.Need-mul-put2 Inv-loop μ-loop
+mul-put2 c = omega arith
+
+add-put2 : tie.Need-add-put2 Inv-loop μ-loop
+add-put2 c = omega arith
+
+mul-put2-2 : tie.Need-mul-put2-2 Inv-loop μ-loop
+mul-put2-2 c = omega arith
+
+add-put2-2 : tie.Need-add-put2-2 Inv-loop μ-loop
+add-put2-2 c = omega arith
+
+cast-put2 : tie.Need-cast-put2 Inv-loop μ-loop
+cast-put2 c = omega arith
+
+put2-requires : tie.Need-put2-requires Inv-loop μ-loop
+put2-requires c κs = omega (arith, c .before .before .loop .inv .1 .size)
+
+add-i : tie.Need-add-i Inv-loop μ-loop
+add-i c = omega arith
+
+loop-less : tie.Need-loop-less Inv-loop μ-loop
+loop-less c = omega arith
+
+loop-again : tie.Need-loop-again Inv-loop μ-loop
+loop-again c = let w = c .before .before in
+    let l = w .before .before .before in
+    (omega arith, names-turn (l .loop .i) (l .loop .inv .1) (w .put2 .ensures .apart))
+
+same-length : tie.Need-same-length Inv-loop μ-loop
+same-length c = c .before .loop .inv .1 .size
+
+returns : tie.Need-returns Inv-loop μ-loop
+returns c = let l = c .before in
+    let s = l .loop .inv .1 in
+    record { size = s .size; below = s .below; above = λ b h. s .above b (omega arith) }
+
+pub name-slots-spec : {M : Type 1} → statement M
+name-slots-spec =
+    tie.close
+    (tie.spec
+    Inv-loop
+    μ-loop
+    loop-holds
+    mul-put2
+    add-put2
+    mul-put2-2
+    add-put2-2
+    cast-put2
+    put2-requires
+    add-i
+    loop-less
+    loop-again
+    same-length
+    returns)

@@ -1,0 +1,80 @@
+use mathlib.Core.Path.{refl, sym, ap, _∙_}
+use mathlib.Core.Bool.{Bool}
+use Rattle.rows.proofs.Ands.{and-yes}
+use mathlib.Core.Path.{_≡_}
+use mathlib.Core.Bool.{_&&_}
+use Prim.Native.Nat.{_-_, _≤_}
+use native.Mathlib.Omega.{arith}
+use Rattle.basics.specs.Basics.{all, from}
+use Rattle.memory_layout.specs.Store.{tablesRise}
+use Rattle.memory_layout.proofs.Refusal.{endRises, tables-turn, all-end}
+use Rattle.memory_layout.proofs.tables_rise.Statement.{statement}
+use Rattle.memory_layout.proofs.tables_rise.Tie as tie
+
+abbrev Inv-loop : tie.InvT-loop
+Inv-loop m rise₀ t₀ rise t = (t ≤ 7) × (tablesRise m ≡ (rise && all (endRises m) (from t (7 - t))))
+
+abbrev μ-loop : tie.MeasureT-loop
+μ-loop m rise₀ t₀ rise t = 7 - t
+
+loop-holds : tie.Need-loop-holds Inv-loop μ-loop
+unfolding tablesRise
+loop-holds c = (omega arith, refl)
+
+mul-get2 : tie.Need-mul-get2 Inv-loop μ-loop
+mul-get2 c = omega arith
+
+add-get2 : tie.Need-add-get2 Inv-loop μ-loop
+add-get2 c = omega arith
+
+get2-requires : tie.Need-get2-requires Inv-loop μ-loop
+get2-requires c κs = omega arith
+
+mul-get2-2 : tie.Need-mul-get2-2 Inv-loop μ-loop
+mul-get2-2 c = omega arith
+
+add-get2-2 : tie.Need-add-get2-2 Inv-loop μ-loop
+add-get2-2 c = omega arith
+
+add-get2-3 : tie.Need-add-get2-3 Inv-loop μ-loop
+add-get2-3 c = omega arith
+
+get2-requires-2 : tie.Need-get2-requires-2 Inv-loop μ-loop
+get2-requires-2 c κs = omega arith
+
+add-t : tie.Need-add-t Inv-loop μ-loop
+add-t c = omega arith
+
+loop-less : tie.Need-loop-less Inv-loop μ-loop
+loop-less c = omega arith
+
+loop-again : tie.Need-loop-again Inv-loop μ-loop
+loop-again c = let l = c .before .before .before in (
+  omega arith,
+  tables-turn (l .before .before .args .m .now) (l .loop .t) (c .before .get2 .result) (c .get22 .result) (l .loop .rise) (omega arith)
+      (c .before .get2 .ensures) (c .get22 .ensures) (l .loop .inv .1),
+)
+
+returns : tie.Need-returns Inv-loop μ-loop
+returns c = let l = c .before in
+    let m = l .before .before .args .m .now in
+    sym (l .loop .inv .1 ∙ ap (λ (z : Bool). l .loop .rise && z) (all-end (endRises m) (l .loop .t) 7 (omega arith)) ∙ and-yes (l .loop .rise))
+
+pub tables-rise-spec : {M : Type 1} → statement M
+tables-rise-spec =
+    tie.close
+    (tie.spec
+    Inv-loop
+    μ-loop
+    loop-holds
+    mul-get2
+    add-get2
+    get2-requires
+    mul-get2-2
+    add-get2-2
+    add-get2-3
+    get2-requires-2
+    add-t
+    loop-less
+    loop-again
+    returns)

@@ -1,0 +1,5 @@
+pub mod Places
+pub mod Views
+pub mod Opens
+pub mod Flat
+pub mod Store

@@ -1,0 +1,27 @@
+-- Open transactions as values of the code, and a transaction's place among them.
+use Prim.Native.Nat.{ℕ, suc, _<_}
+use mathlib.Core.Bool.{Bool, true, false}
+use mathlib.Core.List.{List, [], _∷_}
+use Rattle.basics.specs.Basics.{if_then_else_}
+use Rattle.model.specs.State.{Active}
+use Rattle.model.specs.Transactions.{isFor}
+use Rattle.memory_layout.specs.declared.Open.{Open}
+
+-- an open transaction
+abbrev pub activeOf : Open → Active
+activeOf o = record { transaction = o .transaction; written = o .written }
+
+-- its numbers have 12 and 20 bits
+pub record OpenFits (o : Open) : Type 0 where
+  pub transaction : o .transaction < 4096
+  pub written : o .written < 1048576
+
+-- the place of the first entry of the transaction; how many entries there are, if it has none
+unfoldable pub findOpen : ℕ → List Active → ℕ
+findOpen tx [] = 0
+findOpen tx (o ∷ os) = if isFor tx o then 0 else suc (findOpen tx os)
+
+-- 1 for true, 0 for false
+abbrev pub oneIf : Bool → ℕ
+oneIf true = 1
+oneIf false = 0

@@ -1,0 +1,441 @@
+// The layout of the working memory: a head of 1,024 bytes, then columns whose places go by the capacity. docs/LAYOUT.md says what
+// stands where. This crate has the test of refusal 4, the head and the lists that stand in it; rows and pages have crates of their own.
+// Each function that changes the memory promises one equation on the flat lists that it holds.
+ghost use mathlib.Core.Path.{_≡_};
+ghost use mathlib.Core.Bool.{false, _&&_};
+ghost use mathlib.Core.Option.{some};
+ghost use mathlib.Core.List.{_∷_, [], _++_};
+ghost use Prim.Native.Nat.{_+_, _*_, _/_, _%_, _^_, _≤_, _<_};
+ghost use lib.Dec.{eqb};
+ghost use lib.Bits.{bitOr};
+ghost use lib.ListN.{length, getD, set};
+ghost use Rattle.model.specs.Recover.{freshStore};
+ghost use Rattle.memory_bytes.specs.Bytes.{Apart};
+ghost use Rattle.memory_bytes.specs.Columns.{removeAt};
+ghost use Rattle.memory_layout.specs.Views.{headOf, countsOf};
+ghost use Rattle.memory_layout.specs.Flat.{flatOf, Room, Replaces, Becomes, withHead, withOpens, withNamed, withDirectories, withUsed, noOpen, usedAnd};
+ghost use Rattle.memory_layout.specs.Opens.{activeOf, OpenFits, findOpen, oneIf};
+ghost use Rattle.memory_layout.specs.Store.{inRange, tablesRise, startsRise, StartsAt, holdsStore, FreshFits, freshFlat, storeIn};
+
+// What a memory that holds a store begins with: V, O, Z and the layout's version.
+const SIGNATURE: u32 = 56250198;
+
+// Where the head's numbers stand, four bytes each.
+const CAPACITY: usize = 4;
+
+const BLOCKS: usize = 8;
+
+const LEVEL: usize = 12;
+
+const NEXT: usize = 16;
+
+const RUNNING: usize = 20;
+
+const BEGUN: usize = 24;
+
+const TAKEN: usize = 28;
+
+const ROWS: usize = 32;
+
+const OPEN_COUNT: usize = 36;
+
+const NAMED_COUNT: usize = 40;
+
+const DIRECTORY_COUNT: usize = 44;
+
+// Where the head's lists stand, and how long the head is.
+const TABLES: usize = 64;
+
+const PAGES: usize = 78;
+
+const DIRECTORIES: usize = 96;
+
+const OPENS: usize = 128;
+
+const USED: usize = 512;
+
+const USED_SIZE: usize = 512;
+
+const HEAD_SIZE: usize = 1024;
+
+// Bytes a row before the slots of the rows, the first rows of the pages and the directory entries.
+const REFS: usize = 76;
+
+const STARTS: usize = 79;
+
+const NAMED: usize = 87;
+
+// Above a transaction's count of tuples written stands its number.
+const WRITTEN_LIMIT: u32 = 1048576;
+
+// The largest capacity, and how many bytes of memory each row of it takes.
+const CAPACITY_LIMIT: u32 = 1024;
+
+const ROW_SPACE: usize = 128;
+
+// At most so many blocks, open transactions and directory blocks.
+const BLOCK_LIMIT: u32 = 4096;
+
+const OPEN_LIMIT: u32 = 64;
+
+const DIRECTORY_LIMIT: u32 = 4;
+
+// A directory entry has the block in its low twelve bits.
+const ENTRY_BLOCKS: u16 = 4096;
+
+// The numbers of the head that are no counts. begun: the next number at begin; taken: the block last taken.
+pub struct Head {
+    pub capacity: u32,
+    pub blocks: u32,
+    pub level: u32,
+    pub next: u32,
+    pub running: bool,
+    pub begun: u32,
+    pub taken: u32,
+}
+
+// How many rows, pages, open transactions, directory entries and directory blocks written there are.
+pub struct Counts {
+    pub rows: u32,
+    pub pages: u16,
+    pub opens: u32,
+    pub named: u32,
+    pub directories: u32,
+}
+
+// A page: its table, how many rows it has, its block, 0 if it is dirty.
+pub struct Entry {
+    pub table: u8,
+    pub frozen: bool,
+    pub count: u16,
+    pub block: u16,
+}
+
+// An open transaction, and how many tuples it has written.
+pub struct Open {
+    pub transaction: u32,
+    pub written: u32,
+}
+
+// ---- the head
+
+pub fn get_head(m: &[u8]) -> Head
+    requires { ⌜ 1024 ≤ length (now m) ⌝ }
+    ensures { λ r. ⌜ r ≡ headOf (now (m .entry)) ⌝ }
+{
+    Head {
+        capacity: memory_bytes::get4(m, CAPACITY),
+        blocks: memory_bytes::get4(m, BLOCKS),
+        level: memory_bytes::get4(m, LEVEL),
+        next: memory_bytes::get4(m, NEXT),
+        running: memory_bytes::get4(m, RUNNING) != 0,
+        begun: memory_bytes::get4(m, BEGUN),
+        taken: memory_bytes::get4(m, TAKEN),
+    }
+}
+
+pub fn get_counts(m: &[u8]) -> Counts
+    requires { ⌜ 1024 ≤ length (now m) ⌝ }
+    ensures { λ r. ⌜ r ≡ countsOf (now (m .entry)) ⌝ }
+{
+    Counts {
+        rows: memory_bytes::get4(m, ROWS),
+        pages: memory_bytes::get2(m, PAGES),
+        opens: memory_bytes::get4(m, OPEN_COUNT),
+        named: memory_bytes::get4(m, NAMED_COUNT),
+        directories: memory_bytes::get4(m, DIRECTORY_COUNT),
+    }
+}
+
+fn one_if(b: bool) -> u32
+    ensures { λ r. ⌜ r ≡ oneIf b ⌝ }
+{
+    if b {
+        return 1;
+    }
+    0
+}
+
+// The numbers that are no counts, all of them; the counts stay.
+pub fn put_head(m: &mut [u8], h: Head)
+    requires { ⌜ Room (now m) × Replaces (flatOf (now m) .head) h ⌝ }
+    ensures { λ _. ⌜ Becomes (now (m .entry)) (now (m .exit)) (withHead (flatOf (now (m .entry))) h) ⌝ }
+{
+    memory_bytes::put4(m, CAPACITY, h.capacity);
+    memory_bytes::put4(m, BLOCKS, h.blocks);
+    memory_bytes::put4(m, LEVEL, h.level);
+    memory_bytes::put4(m, NEXT, h.next);
+    memory_bytes::put4(m, RUNNING, one_if(h.running));
+    memory_bytes::put4(m, BEGUN, h.begun);
+    memory_bytes::put4(m, TAKEN, h.taken);
+}
+
+// ---- open transactions, in the order in which they opened
+
+pub fn get_open(m: &[u8], i: usize) -> Open
+    requires { ⌜ Room (now m) × (i < length (flatOf (now m) .opens)) ⌝ }
+    ensures { λ r. ⌜ activeOf r ≡ getD (flatOf (now (m .entry)) .opens) i noOpen ⌝ }
+{
+    let w = memory_bytes::get4(m, OPENS + i * 4);
+    Open {
+        transaction: w / WRITTEN_LIMIT,
+        written: w % WRITTEN_LIMIT,
+    }
+}
+
+// The place of the transaction's first open entry, or how many are open.
+pub fn find_open(m: &[u8], transaction: u64) -> usize
+    requires { ⌜ Room (now m) ⌝ }
+    ensures { λ r. ⌜ r ≡ findOpen transaction (flatOf (now (m .entry)) .opens) ⌝ }
+{
+    let n = memory_bytes::get4(m, OPEN_COUNT) as usize;
+    let mut i = 0;
+    while i < n {
+        let t = (memory_bytes::get4(m, OPENS + i * 4) / WRITTEN_LIMIT) as u64;
+        if t == transaction {
+            return i;
+        }
+        i += 1;
+    }
+    n
+}
+
+pub fn put_open(m: &mut [u8], i: usize, o: Open)
+    requires { ⌜ Room (now m) × ((i < length (flatOf (now m) .opens)) × OpenFits o) ⌝ }
+    ensures { λ _. ⌜ Becomes (now (m .entry)) (now (m .exit)) (withOpens (flatOf (now (m .entry))) (set (flatOf (now (m .entry)) .opens) i (activeOf o))) ⌝ }
+{
+    memory_bytes::put4(m, OPENS + i * 4, o.transaction * WRITTEN_LIMIT + o.written);
+}
+
+pub fn push_open(m: &mut [u8], o: Open)
+    requires { ⌜ Room (now m) × ((length (flatOf (now m) .opens) < 64) × OpenFits o) ⌝ }
+    ensures { λ _. ⌜ Becomes (now (m .entry)) (now (m .exit)) (withOpens (flatOf (now (m .entry))) (flatOf (now (m .entry)) .opens ++ activeOf o ∷ [])) ⌝ }
+{
+    let n = memory_bytes::get4(m, OPEN_COUNT);
+    let i = n as usize;
+    memory_bytes::put4(m, OPENS + i * 4, o.transaction * WRITTEN_LIMIT + o.written);
+    memory_bytes::put4(m, OPEN_COUNT, n + 1);
+}
+
+pub fn remove_open(m: &mut [u8], i: usize)
+    requires { ⌜ Room (now m) × (i < length (flatOf (now m) .opens)) ⌝ }
+    ensures { λ _. ⌜ Becomes (now (m .entry)) (now (m .exit)) (withOpens (flatOf (now (m .entry))) (removeAt i (flatOf (now (m .entry)) .opens))) ⌝ }
+{
+    let n = memory_bytes::get4(m, OPEN_COUNT);
+    let e = n as usize;
+    memory_bytes::down4(m, OPENS + i * 4, OPENS + e * 4);
+    memory_bytes::put4(m, OPEN_COUNT, n - 1);
+}
+
+// ---- directory entries
+
+fn named_place(m: &[u8], i: usize) -> usize
+    requires { ⌜ Room (now m) × (i < 1024) ⌝ }
+    ensures { λ r. ⌜ r ≡ 1024 + headOf (now (m .entry)) .capacity * 87 + i * 2 ⌝ }
+{
+    let c = memory_bytes::get4(m, CAPACITY) as usize;
+    HEAD_SIZE + c * NAMED + i * 2
+}
+
+pub fn get_named(m: &[u8], i: usize) -> u16
+    requires { ⌜ Room (now m) × (i < length (flatOf (now m) .named)) ⌝ }
+    ensures { λ r. ⌜ r ≡ getD (flatOf (now (m .entry)) .named) i 0 ⌝ }
+{
+    memory_bytes::get2(m, named_place(m, i)) % ENTRY_BLOCKS
+}
+
+pub fn put_named(m: &mut [u8], i: usize, b: u16)
+    requires { ⌜ Room (now m) × ((i < length (flatOf (now m) .named)) × (b < 4096)) ⌝ }
+    ensures { λ _. ⌜ Becomes (now (m .entry)) (now (m .exit)) (withNamed (flatOf (now (m .entry))) (set (flatOf (now (m .entry)) .named) i b)) ⌝ }
+{
+    let a = named_place(m, i);
+    memory_bytes::put2(m, a, b);
+}
+
+pub fn push_named(m: &mut [u8], b: u16)
+    requires { ⌜ Room (now m) × ((length (flatOf (now m) .named) < flatOf (now m) .head .capacity) × (b < 4096)) ⌝ }
+    ensures { λ _. ⌜ Becomes (now (m .entry)) (now (m .exit)) (withNamed (flatOf (now (m .entry))) (flatOf (now (m .entry)) .named ++ b ∷ [])) ⌝ }
+{
+    let n = memory_bytes::get4(m, NAMED_COUNT);
+    let a = named_place(m, n as usize);
+    memory_bytes::put2(m, a, b);
+    memory_bytes::put4(m, NAMED_COUNT, n + 1);
+}
+
+pub fn clear_named(m: &mut [u8])
+    requires { ⌜ Room (now m) ⌝ }
+    ensures { λ _. ⌜ Becomes (now (m .entry)) (now (m .exit)) (withNamed (flatOf (now (m .entry))) []) ⌝ }
+{
+    memory_bytes::put4(m, NAMED_COUNT, 0);
+}
+
+// ---- directory blocks written
+
+pub fn get_directory(m: &[u8], i: usize) -> u32
+    requires { ⌜ Room (now m) × (i < length (flatOf (now m) .directories)) ⌝ }
+    ensures { λ r. ⌜ r ≡ getD (flatOf (now (m .entry)) .directories) i 0 ⌝ }
+{
+    memory_bytes::get4(m, DIRECTORIES + i * 4) % BLOCK_LIMIT
+}
+
+pub fn push_directory(m: &mut [u8], b: u32)
+    requires { ⌜ Room (now m) × ((length (flatOf (now m) .directories) < 4) × (b < 4096)) ⌝ }
+    ensures { λ _. ⌜ Becomes (now (m .entry)) (now (m .exit)) (withDirectories (flatOf (now (m .entry))) (flatOf (now (m .entry)) .directories ++ b ∷ [])) ⌝ }
+{
+    let n = memory_bytes::get4(m, DIRECTORY_COUNT);
+    let i = n as usize;
+    memory_bytes::put4(m, DIRECTORIES + i * 4, b);
+    memory_bytes::put4(m, DIRECTORY_COUNT, n + 1);
+}
+
+pub fn clear_directories(m: &mut [u8])
+    requires { ⌜ Room (now m) ⌝ }
+    ensures { λ _. ⌜ Becomes (now (m .entry)) (now (m .exit)) (withDirectories (flatOf (now (m .entry))) []) ⌝ }
+{
+    memory_bytes::put4(m, DIRECTORY_COUNT, 0);
+}
+
+// ---- blocks in use
+
+// bit k of x, from the low end
+fn bit(x: u8, k: usize) -> bool
+    requires { ⌜ k < 8 ⌝ }
+    ensures { λ r. ⌜ r ≡ eqb (x / 2 ^ k % 2) 1 ⌝ }
+{
+    (x >> k) % 2 == 1
+}
+
+// x with bit k set
+fn with_bit(x: u8, k: usize) -> u8
+    requires { ⌜ k < 8 ⌝ }
+    ensures { λ r. ⌜ r ≡ bitOr x (2 ^ k) ⌝ }
+{
+    x | (1 << k)
+}
+
+pub fn is_used(m: &[u8], b: usize) -> bool
+    requires { ⌜ (b < 4096) × (1024 ≤ length (now m)) ⌝ }
+    ensures { λ r. ⌜ r ≡ flatOf (now (m .entry)) .used b ⌝ }
+{
+    bit(m[USED + b / 8], b % 8)
+}
+
+pub fn mark_used(m: &mut [u8], b: usize)
+    requires { ⌜ Room (now m) × (b < 4096) ⌝ }
+    ensures { λ _. ⌜ Becomes (now (m .entry)) (now (m .exit)) (withUsed (flatOf (now (m .entry))) (usedAnd b (flatOf (now (m .entry)) .used))) ⌝ }
+{
+    let a = USED + b / 8;
+    m[a] = with_bit(m[a], b % 8);
+}
+
+pub fn clear_used(m: &mut [u8])
+    requires { ⌜ Room (now m) ⌝ }
+    ensures { λ _. ⌜ Becomes (now (m .entry)) (now (m .exit)) (withUsed (flatOf (now (m .entry))) (λ c. false)) ⌝ }
+{
+    memory_bytes::clear(m, USED, USED_SIZE);
+}
+
+// ---- refusal 4
+
+// The ranges of the head's numbers: no branch, since nearly every memory passes.
+fn in_range(size: usize, h: Head, n: Counts) -> bool
+    ensures { λ r. ⌜ r ≡ inRange size h n ⌝ }
+{
+    let need = ROW_SPACE * (h.capacity as usize) + HEAD_SIZE;
+    let pages = n.pages as u64;
+    let most = 2 * (h.capacity as u64);
+    (1 <= h.capacity)
+        & (h.capacity <= CAPACITY_LIMIT)
+        & (need <= size)
+        & (2 <= h.blocks)
+        & (h.blocks <= BLOCK_LIMIT)
+        & (h.taken < h.blocks)
+        & (n.rows <= h.capacity)
+        & (pages <= most)
+        & (n.opens <= OPEN_LIMIT)
+        & (n.named <= h.capacity)
+        & (n.directories <= DIRECTORY_LIMIT)
+}
+
+// No table ends before the one below it.
+fn tables_rise(m: &[u8]) -> bool
+    requires { ⌜ 1024 ≤ length (now m) ⌝ }
+    ensures { λ r. ⌜ r ≡ tablesRise (now (m .entry)) ⌝ }
+{
+    let mut rise = true;
+    let mut t: usize = 0;
+    while t < 7 {
+        let a = memory_bytes::get2(m, TABLES + t * 2);
+        let b = memory_bytes::get2(m, TABLES + t * 2 + 2);
+        rise = rise & (a <= b);
+        t += 1;
+    }
+    rise
+}
+
+// The pages start at row 0, and each has a row: one pass over the first rows, no branch.
+fn starts_rise(m: &[u8], c: usize, pages: usize, rows: u32) -> bool
+    requires { ⌜ StartsAt (now m) c pages rows ⌝ }
+    ensures { λ r. ⌜ r ≡ startsRise (now (m .entry)) ⌝ }
+{
+    if pages == 0 {
+        return rows == 0;
+    }
+    let a = HEAD_SIZE + c * STARTS;
+    let last = pages - 1;
+    if rows <= memory_bytes::get2(m, a + last * 2) as u32 {
+        return false;
+    }
+    if memory_bytes::get2(m, a) != 0 {
+        return false;
+    }
+    memory_bytes::rising2(m, a, last)
+}
+
+// The head, and one pass each over the tables and the pages.
+pub fn holds_store(m: &[u8]) -> bool
+    ensures { λ r. ⌜ r ≡ holdsStore (now (m .entry)) ⌝ }
+{
+    if m.len() < HEAD_SIZE {
+        return false;
+    }
+    if memory_bytes::get4(m, 0) != SIGNATURE {
+        return false;
+    }
+    let h = get_head(m);
+    let n = get_counts(m);
+    if !in_range(m.len(), h, n) {
+        return false;
+    }
+    if !tables_rise(m) {
+        return false;
+    }
+    starts_rise(m, h.capacity as usize, n.pages as usize, n.rows)
+}
+
+// ---- an empty store
+
+// The slots that may be free: all, in order, behind no rows.
+fn name_slots(m: &mut [u8], n: usize)
+    requires { ⌜ (n ≤ 1024) × (128 * n + 1024 ≤ length (now m)) ⌝ }
+    ensures { λ _. ⌜ Apart (now (m .entry)) (now (m .exit)) (1024 + n * 76) (n * 2) ⌝ }
+{
+    let mut i: usize = 0;
+    while i < n {
+        memory_bytes::put2(m, HEAD_SIZE + n * REFS + i * 2, i as u16);
+        i += 1;
+    }
+}
+
+// Lays it out over any old content.
+pub fn fresh(m: &mut [u8], blocks: u32, n: u32)
+    requires { ⌜ FreshFits (length (now m)) blocks n ⌝ }
+    ensures { λ _. ⌜ Becomes (now (m .entry)) (now (m .exit)) (freshFlat blocks n) × (storeIn (now (m .exit)) ≡ some (freshStore blocks n)) ⌝ }
+{
+    memory_bytes::clear(m, 0, OPENS);
+    memory_bytes::put4(m, 0, SIGNATURE);
+    memory_bytes::put4(m, CAPACITY, n);
+    memory_bytes::put4(m, BLOCKS, blocks);
+    memory_bytes::clear(m, USED, USED_SIZE);
+    name_slots(m, n as usize);
+}

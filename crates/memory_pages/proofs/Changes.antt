@@ -1,0 +1,261 @@
+-- What the memory holds after each change of the pages.
+use mathlib.Core.Path.{_≡_, sym, ap, subst, _∙_}
+use mathlib.Core.Logic.{⊎-elim}
+use mathlib.Core.Bool.{Bool, true, false}
+use mathlib.Core.List.{List, _∷_, _++_}
+use Prim.Native.Nat.{ℕ, suc, _+_, _*_, _-_, _/_, _%_, _≤_, _<_}
+use native.Mathlib.Numerals.{add-one}
+use native.Mathlib.Omega.{arith}
+use lib.ListN.{length, take, drop, set}
+use lib.Dec.{eqb}
+use borrow.Author.Tests.{eq-eqb, ne-eqb}
+use lib.Seq.{set-split}
+use Rattle.memory_bytes.specs.Bytes.{le2, bytes2, Wrote}
+use Rattle.memory_bytes.specs.Columns.{tab, insertAt, removeAt}
+use Rattle.memory_bytes.proofs.Bytes.{le2-below, le2-above, le2-wrote}
+use Rattle.memory_bytes.proofs.Columns.{lt-or-ge}
+use Rattle.memory_layout.specs.Places.{startsAt, blocksAt}
+use Rattle.memory_layout.specs.Views.{pageCount, tableEnd, tableAt, startAt, blockWord, entryAt}
+use Rattle.memory_layout.specs.Flat.{flatOf, capacityOf, entriesOf, entryIn, Room, Becomes, withEntries}
+use Rattle.memory_layout.specs.declared.Entry.{Entry}
+use Rattle.memory_layout.proofs.Frame.{same-table}
+use Rattle.memory_layout.proofs.Laws.{entries-length}
+use Rattle.memory_pages.specs.Columns.{Opened, Closed}
+use Rattle.memory_pages.specs.Pages.{dirty, withBlock, withCount, wordOf}
+use Rattle.memory_pages.proofs.Ranges.{ranges, entry-table, entry-count, start-stored, start-behind, start-step, starts-rise}
+use Rattle.memory_pages.proofs.Tables.{TableIs, table-is}
+use Rattle.memory_pages.proofs.Columns.{in-columns, same-row-count}
+use Rattle.memory_pages.proofs.Parts.{splice, entries-become}
+use Rattle.memory_pages.proofs.Entries.{entry-is, entry-same, entry-counted, Stands, stands-behind}
+use Rattle.memory_pages.proofs.Entries.{open-tables, open-before, open-here, open-same, open-rises, open-entry, close-tables, close-before, close-same, close-entry}
+
+-- one change of the pages after another
+pub then-entries : {m m1 m2 : List ℕ} {es ds : List Entry} → Becomes m m1 (withEntries (flatOf m) es) → Becomes m1 m2 (withEntries (flatOf m1) ds)
+    → Becomes m m2 (withEntries (flatOf m) ds)
+then-entries {m} {m1} {m2} {es} {ds} s t =
+    record { size = t .size ∙ s .size; room = t .room; flat = t .flat ∙ (λ i. withEntries (s .flat i) ds) }
+
+-- ---- a page's block
+
+word-frozen : (b : ℕ) (z : Bool) → b < 4096 → eqb (wordOf b z / 4096 % 2) 1 ≡ z
+unfolding wordOf
+word-frozen b true h = eq-eqb ((b + 4096) / 4096 % 2) 1 (omega arith)
+word-frozen b false h = ne-eqb ((b + 0) / 4096 % 2) 1 (λ e. omega arith)
+
+word-block : (b : ℕ) (z : Bool) → b < 4096 → wordOf b z % 4096 ≡ b
+unfolding wordOf
+word-block b true h = omega arith
+word-block b false h = omega arith
+
+word-fits : (b : ℕ) (z : Bool) → b < 4096 → wordOf b z < 65536
+unfolding wordOf
+word-fits b true h = omega arith
+word-fits b false h = omega arith
+
+module _ {m m' : List ℕ} {p b a w : ℕ} (z : Bool) (room : Room m) (h : p < pageCount m) (fits : b < 4096) (ew : w ≡ wordOf b z)
+    (ea : a ≡ blocksAt (capacityOf m)) (s : Wrote m m' (a + p * 2) (bytes2 w)) where
+  block-end : (t : ℕ) → t < 8 → tableEnd m' t ≡ tableEnd m t
+  block-end t k = le2-below (s .apart) (64 + t * 2) (omega arith)
+
+  block-start : (j : ℕ) → startAt m' (capacityOf m) j ≡ startAt m (capacityOf m) j
+  block-start j =
+      let c : ℕ = capacityOf m in
+      let n = block-end 7 (omega arith) in
+      ⊎-elim
+      (λ k. start-stored m' c j (omega arith)
+      ∙ le2-below (s .apart) (startsAt c + j * 2) (omega (arith, ranges room))
+      ∙ sym (start-stored m c j k))
+      (λ k. start-behind m' c j (omega arith)
+      ∙ same-row-count (in-columns {c = c} (s .apart) (omega arith) (omega (arith, ranges room)))
+      ∙ sym (start-behind m c j k))
+      (lt-or-ge j (pageCount m))
+
+  block-entry : (j : ℕ) → blockWord m' (capacityOf m) j ≡ blockWord m (capacityOf m) j → entryAt m' (capacityOf m) j ≡ entryAt m (capacityOf m) j
+  block-entry j e =
+      entry-same m m' (capacityOf m) j j (same-table m m' j block-end) (omega (arith, block-start j, block-start (suc j))) e
+
+  block-here : entryAt m' (capacityOf m) p ≡ withBlock (entryIn (flatOf m) p) b z
+  block-here =
+      let c : ℕ = capacityOf m in
+      let e : blockWord m' c p ≡ wordOf b z =
+      ap (λ (k : ℕ). le2 m' (k + p * 2)) (sym ea) ∙ le2-wrote w (omega (arith, word-fits b z fits)) s ∙ ew in
+      entry-is m' c p (same-table m m' p block-end ∙ sym (entry-table m p h))
+      (omega (arith, block-start p, block-start (suc p), entry-count m p h)) e
+      ∙ (λ i. record { table = entryIn (flatOf m) p .table; frozen = word-frozen b z fits i; count = entryIn (flatOf m) p .count; block = word-block b z fits i })
+
+  pub block-set : Becomes m m' (withEntries (flatOf m) (set (flatOf m .entries) p (withBlock (entryIn (flatOf m) p) b z)))
+  unfolding entriesOf
+  block-set =
+      let c : ℕ = capacityOf m in
+      let n : ℕ = pageCount m in
+      let es : List Entry = tab (entryAt m c) 0 n in
+      let r = ranges room in
+      let en : pageCount m' ≡ n = block-end 7 (omega arith) in
+      let l : length es ≡ n = entries-length m in
+      entries-become room (record {
+        only = in-columns (s .apart) (omega arith) (omega arith);
+        entries =
+            splice (entryAt m c) (entryAt m' c) n (pageCount m') p 1 (suc p) (omega arith) (omega arith) (omega arith)
+            (λ j k. block-entry j (le2-below (s .apart) (blocksAt c + j * 2) (omega arith)))
+            (λ j k. ap (λ (x : ℕ). entryAt m' c (x + j)) (add-one p) ∙ block-entry (suc p + j) (le2-above (s .apart) (blocksAt c + (suc p + j) * 2) (omega arith)))
+            ∙ ap (λ (e : Entry). take p es ++ e ∷ drop (suc p) es) block-here
+            ∙ sym (set-split es p (withBlock (entryIn (flatOf m) p) b z) (omega arith));
+        few = omega (arith, en);
+        tables = λ t k. omega (arith, room .tables t k, block-end t (omega arith), block-end (t + 1) (omega arith));
+        begins = block-start 0 ∙ room .begins;
+        rises = λ j k. omega (arith, block-start j, block-start (j + 1), start-step room j);
+      })
+
+-- ---- a page more
+
+module _ {m m' : List ℕ} {p t x : ℕ} (room : Room m) (s : Stands m p t) (space : pageCount m < 2 * capacityOf m) (top : p ≤ pageCount m)
+    (ex : x ≡ startAt m (capacityOf m) p) (o : Opened m m' p t x) where
+  insert-start : (j : ℕ) → j ≤ p → startAt m' (capacityOf m) j ≡ startAt m (capacityOf m) j
+  insert-start j h = ⊎-elim
+      (λ k. o .starts-before j k)
+      (λ k. let e : j ≡ p = omega arith in ap (startAt m' (capacityOf m)) e ∙ o .start ∙ ex ∙ ap (startAt m (capacityOf m)) (sym e))
+      (lt-or-ge j p)
+
+  pub page-inserted : Becomes m m' (withEntries (flatOf m) (insertAt p (dirty t 0) (flatOf m .entries)))
+  unfolding entriesOf
+  page-inserted =
+      let c : ℕ = capacityOf m in
+      let n : ℕ = pageCount m in
+      let es : List Entry = tab (entryAt m c) 0 n in
+      let en : pageCount m' ≡ n + 1 = o .ends-from 7 (omega (arith, s .table)) (omega arith) in
+      entries-become room (record {
+        only = o .only;
+        entries =
+            splice (entryAt m c) (entryAt m' c) n (pageCount m') p 1 p (omega arith) top (omega arith)
+            (λ j k. entry-same m m' c j j (open-before room s o j k) (omega (arith, insert-start j (omega arith), insert-start (suc j) k)) (o .words-before j k))
+            (λ j k. let e : p + 1 + j ≡ suc (p + j) = omega arith in ap (entryAt m' c) e ∙ open-entry room s o (p + j) (omega arith) (omega arith))
+            ∙ ap (λ (e : Entry). take p es ++ e ∷ drop p es)
+            (entry-is m' c p (open-here room s o) (omega (arith, o .starts-from p (omega arith), o .start)) (o .word));
+        few = omega arith;
+        tables = open-tables room s o;
+        begins = insert-start 0 (omega arith) ∙ room .begins;
+        rises = λ j k. open-rises room s o (λ q l. omega (arith, starts-rise room q p (omega arith))) (omega arith) j;
+      })
+
+-- ---- a page in two: k rows stay
+
+module _ {m m' : List ℕ} {p t x : ℕ} (k : ℕ) (room : Room m) (h : p < pageCount m) (space : pageCount m < 2 * capacityOf m) (et : t ≡ tableAt m p)
+    (ex : x ≡ startAt m (capacityOf m) p + k) (fits : k ≤ entryIn (flatOf m) p .count) (o : Opened m m' (suc p) t x) where
+  split-stands : Stands m (suc p) t
+  split-stands = subst (λ (z : ℕ). Stands m (suc p) z) (sym et) (stands-behind room p h)
+
+  pub page-split : Becomes m m'
+      (withEntries (flatOf m) (take p (flatOf m .entries) ++ withCount (entryIn (flatOf m) p) k ∷ dirty t (entryIn (flatOf m) p .count - k) ∷ drop (suc p) (flatOf m .entries)))
+  unfolding entriesOf
+  page-split =
+      let c : ℕ = capacityOf m in
+      let n : ℕ = pageCount m in
+      let es : List Entry = tab (entryAt m c) 0 n in
+      let s = split-stands in
+      let en : pageCount m' ≡ n + 1 = o .ends-from 7 (omega (arith, s .table)) (omega arith) in
+      let count = entry-count m p h in
+      let step = starts-rise room p (suc p) (omega arith) in
+      let first : entryAt m' c p ≡ withCount (entryIn (flatOf m) p) k =
+      entry-counted m m' p h (open-before room s o p (omega arith)) (omega (arith, o .starts-before p (omega arith), o .start)) (o .words-before p (omega arith)) in
+      let second : entryAt m' c (suc p) ≡ dirty t (entryIn (flatOf m) p .count - k) =
+      entry-is m' c (suc p) (open-here room s o) (omega (arith, o .starts-from (suc p) (omega arith), o .start)) (o .word) in
+      entries-become room (record {
+        only = o .only;
+        entries =
+            splice (entryAt m c) (entryAt m' c) n (pageCount m') p 2 (suc p) (omega arith) (omega arith) (omega arith)
+            (λ j l. open-same room s o j (omega arith))
+            (λ j l. let e : p + 2 + j ≡ suc (suc p + j) = omega arith in ap (entryAt m' c) e ∙ open-entry room s o (suc p + j) (omega arith) (omega arith))
+            ∙ (λ i. take p es ++ first i ∷ second i ∷ drop (suc p) es);
+        few = omega arith;
+        tables = open-tables room s o;
+        begins = o .starts-before 0 (omega arith) ∙ room .begins;
+        rises = λ j l. open-rises room s o (λ q b. omega (arith, starts-rise room q p (omega arith))) (omega arith) j;
+      })
+
+-- ---- a page less
+
+module _ {m m' : List ℕ} {p t : ℕ} (room : Room m) (h : p < pageCount m) (et : t ≡ tableAt m p) (o : Closed m m' p t) where
+  close-is : TableIs m p t
+  close-is = subst (λ (z : ℕ). TableIs m p z) (sym et) (table-is room p)
+
+  close-pages : pageCount m' + 1 ≡ pageCount m
+  close-pages = o .ends-from 7 (omega (arith, close-is .most)) (omega arith)
+
+  close-rises : (j : ℕ) → startAt m' (capacityOf m) j ≤ startAt m' (capacityOf m) (j + 1)
+  close-rises j =
+      let c : ℕ = capacityOf m in
+      ⊎-elim
+      (λ v. ⊎-elim
+      (λ w. omega (arith, o .starts-before j v, o .starts-before (j + 1) w, start-step room j))
+      (λ w. omega (arith, o .starts-before j v, o .starts-from (j + 1) w, starts-rise room j (suc (j + 1)) (omega arith)))
+      (lt-or-ge (j + 1) p))
+      (λ v. omega (arith, o .starts-from j v, o .starts-from (j + 1) (omega arith), starts-rise room (suc j) (suc (j + 1)) (omega arith)))
+      (lt-or-ge j p)
+
+  module _ (none : entryIn (flatOf m) p .count ≡ 0) where
+    remove-start : (j : ℕ) → j ≤ p → startAt m' (capacityOf m) j ≡ startAt m (capacityOf m) j
+    remove-start j k = ⊎-elim
+        (λ l. o .starts-before j l)
+        (λ l.
+        let e : j ≡ p = omega arith in
+        let step = starts-rise room p (suc p) (omega arith) in
+        omega (arith, o .starts-from j l, entry-count m p h, ap (startAt m (capacityOf m)) e, ap (λ (z : ℕ). startAt m (capacityOf m) (suc z)) e))
+        (lt-or-ge j p)
+
+    pub page-removed : Becomes m m' (withEntries (flatOf m) (removeAt p (flatOf m .entries)))
+    unfolding entriesOf
+    page-removed =
+        let c : ℕ = capacityOf m in
+        let n : ℕ = pageCount m in
+        let s = close-is in
+        let en = close-pages in
+        entries-become room (record {
+          only = o .only;
+          entries =
+              splice (entryAt m c) (entryAt m' c) n (pageCount m') p 0 (p + 1) (omega arith) (omega arith) (omega arith)
+              (λ j k. entry-same m m' c j j (close-before room s h o j k) (omega (arith, remove-start j (omega arith), remove-start (suc j) k)) (o .words-before j k))
+              (λ j k.
+              let e : p + 0 + j ≡ p + j = omega arith in
+              let e2 : suc (p + j) ≡ p + 1 + j = omega arith in
+              ap (entryAt m' c) e ∙ close-entry room s h o (p + j) (omega arith) (omega arith) ∙ ap (entryAt m c) e2);
+          few = omega (arith, ranges room);
+          tables = close-tables room s h o;
+          begins = remove-start 0 (omega arith) ∙ room .begins;
+          rises = λ j k. close-rises j;
+        })
+
+-- ---- two pages in one
+
+module _ {m m' : List ℕ} {p t : ℕ} (room : Room m) (h : suc p < pageCount m) (et : t ≡ tableAt m (suc p)) (o : Closed m m' (suc p) t) where
+  pub pages-joined : Becomes m m'
+      (withEntries (flatOf m) (take p (flatOf m .entries) ++ withCount (entryIn (flatOf m) p) (entryIn (flatOf m) p .count + entryIn (flatOf m) (suc p) .count) ∷ drop (p + 2) (flatOf m .entries)))
+  unfolding entriesOf
+  pages-joined =
+      let c : ℕ = capacityOf m in
+      let n : ℕ = pageCount m in
+      let es : List Entry = tab (entryAt m c) 0 n in
+      let s = close-is room h et o in
+      let en = close-pages room h et o in
+      let hp : p < pageCount m = omega arith in
+      let count : ℕ = entryIn (flatOf m) p .count + entryIn (flatOf m) (suc p) .count in
+      let step = starts-rise room p (suc p) (omega arith) in
+      let step2 = starts-rise room (suc p) (suc (suc p)) (omega arith) in
+      let both : startAt m' c (suc p) - startAt m' c p ≡ count =
+      omega (arith, o .starts-before p (omega arith), o .starts-from (suc p) (omega arith), entry-count m p hp, entry-count m (suc p) h) in
+      let first : entryAt m' c p ≡ withCount (entryIn (flatOf m) p) count =
+      entry-counted m m' p hp (close-before room s h o p (omega arith)) both (o .words-before p (omega arith)) in
+      entries-become room (record {
+        only = o .only;
+        entries =
+            splice (entryAt m c) (entryAt m' c) n (pageCount m') p 1 (p + 2) (omega arith) (omega arith) (omega arith)
+            (λ j k. close-same room s h o j (omega arith))
+            (λ j k.
+            let e : p + 1 + j ≡ suc p + j = omega arith in
+            let e2 : suc (suc p + j) ≡ p + 2 + j = omega arith in
+            ap (entryAt m' c) e ∙ close-entry room s h o (suc p + j) (omega arith) (omega arith) ∙ ap (entryAt m c) e2)
+            ∙ ap (λ (e : Entry). take p es ++ e ∷ drop (p + 2) es) first;
+        few = omega (arith, ranges room);
+        tables = close-tables room s h o;
+        begins = o .starts-before 0 (omega arith) ∙ room .begins;
+        rises = λ j k. close-rises room h et o j;
+      })

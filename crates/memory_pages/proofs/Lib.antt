@@ -1,0 +1,13 @@
+pub mod Ranges
+pub mod Tables
+pub mod Finding
+pub mod Columns
+pub mod Parts
+pub mod Entries
+pub mod Changes
+pub mod Halves
+pub mod Moves
+pub mod Appending
+pub mod Spots
+pub mod Counting
+pub mod Frozen

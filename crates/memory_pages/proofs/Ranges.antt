@@ -1,0 +1,89 @@
+-- What a memory with room is known to have, as numbers of its bytes, and an entry by its place.
+use mathlib.Core.Path.{_≡_, refl, ap, _∙_}
+use mathlib.Core.Logic.{⊎-elim}
+use mathlib.Core.List.{List}
+use Prim.Native.Nat.{ℕ, zero, suc, _+_, _*_, _-_, _/_, _%_, _≤_, _<_}
+use native.Mathlib.Nat.{add-zero, zero-add}
+use native.Mathlib.Omega.{arith}
+use lib.ListN.{length}
+use lib.Dec.{eqb}
+use borrow.Author.Tests.{lt-ltb, le-ltb}
+use Rattle.basics.specs.Basics.{if_then_else_}
+use Rattle.memory_bytes.specs.Bytes.{le2}
+use Rattle.memory_bytes.proofs.Columns.{lt-or-ge, getD-tab}
+use Rattle.memory_layout.specs.Places.{startsAt}
+use Rattle.memory_layout.specs.Views.{headOf, countsOf, rowCount, pageCount, tableAt, startAt, blockWord, entryAt}
+use Rattle.memory_layout.specs.Flat.{flatOf, capacityOf, entriesOf, entryIn, noEntry, Room}
+use Rattle.memory_layout.specs.declared.Entry.{Entry}
+
+pub record Ranges (m : List ℕ) : Type 0 where
+  pub least : 1 ≤ capacityOf m
+  pub most : capacityOf m ≤ 1024
+  pub long : 128 * capacityOf m + 1024 ≤ length m
+  pub rows : rowCount m ≤ capacityOf m
+  pub pages : pageCount m ≤ 2 * capacityOf m
+
+pub ranges : {m : List ℕ} → Room m → Ranges m
+unfolding headOf countsOf
+ranges room =
+    let r = room .range in
+    record { least = r .least; most = r .most; long = r .long; rows = r .rows; pages = r .pages }
+
+-- ---- an entry by its place
+
+module _ (m : List ℕ) (p : ℕ) (h : p < pageCount m) where
+  pub entry-at : entryIn (flatOf m) p ≡ entryAt m (capacityOf m) p
+  unfolding entriesOf
+  entry-at = getD-tab (entryAt m (capacityOf m)) 0 (pageCount m) p noEntry h ∙ ap (entryAt m (capacityOf m)) (zero-add p)
+
+  pub entry-table : entryIn (flatOf m) p .table ≡ tableAt m p
+  unfolding entryAt
+  entry-table = ap (λ (e : Entry). e .table) entry-at
+
+  pub entry-count : entryIn (flatOf m) p .count ≡ startAt m (capacityOf m) (suc p) - startAt m (capacityOf m) p
+  unfolding entryAt
+  entry-count = ap (λ (e : Entry). e .count) entry-at
+
+  pub entry-frozen : entryIn (flatOf m) p .frozen ≡ eqb (blockWord m (capacityOf m) p / 4096 % 2) 1
+  unfolding entryAt
+  entry-frozen = ap (λ (e : Entry). e .frozen) entry-at
+
+  pub entry-block : entryIn (flatOf m) p .block ≡ blockWord m (capacityOf m) p % 4096
+  unfolding entryAt
+  entry-block = ap (λ (e : Entry). e .block) entry-at
+
+-- ---- a page's start
+
+pub start-stored : (m : List ℕ) (c p : ℕ) → p < pageCount m → startAt m c p ≡ le2 m (startsAt c + p * 2)
+unfolding startAt if_then_else_
+start-stored m c p h = rw (lt-ltb p (pageCount m) h)
+
+pub start-behind : (m : List ℕ) (c p : ℕ) → pageCount m ≤ p → startAt m c p ≡ rowCount m
+unfolding startAt if_then_else_
+start-behind m c p h = rw (le-ltb p (pageCount m) h)
+
+-- a step from number to number, many steps
+pub rising : (E : ℕ → ℕ) (a k : ℕ) → ((t : ℕ) → a ≤ t → t < a + k → E t ≤ E (t + 1)) → E a ≤ E (a + k)
+rising E a zero h = omega (arith, ap E (add-zero a))
+rising E a (suc k) h =
+    let e : a + suc k ≡ a + k + 1 = omega arith in
+    omega (arith, rising E a k (λ t p q. h t p (omega arith)), h (a + k) (omega arith) (omega arith), ap E e)
+
+-- pages do not start before those below them, and none behind the rows
+module _ {m : List ℕ} (room : Room m) where
+  pub start-step : (p : ℕ) → startAt m (capacityOf m) p ≤ startAt m (capacityOf m) (p + 1)
+  start-step p = ⊎-elim (λ h. room .rises p h) (λ h. omega (arith, start-behind m (capacityOf m) p h, start-behind m (capacityOf m) (p + 1) (omega arith))) (lt-or-ge p (pageCount m))
+
+  pub starts-rise : (p q : ℕ) → p ≤ q → startAt m (capacityOf m) p ≤ startAt m (capacityOf m) q
+  starts-rise p q h =
+      let e : p + (q - p) ≡ q = omega arith in
+      omega (arith, rising (startAt m (capacityOf m)) p (q - p) (λ t a b. start-step t), ap (startAt m (capacityOf m)) e)
+
+  pub start-most : (p : ℕ) → startAt m (capacityOf m) p ≤ rowCount m
+  start-most p =
+      omega (arith, starts-rise p (p + pageCount m) (omega arith), start-behind m (capacityOf m) (p + pageCount m) (omega arith))
+
+-- the capacity in the head
+pub head-capacity : (m : List ℕ) → flatOf m .head .capacity ≡ capacityOf m
+unfolding headOf
+head-capacity m = refl

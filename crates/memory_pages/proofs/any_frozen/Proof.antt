@@ -1,0 +1,63 @@
+use mathlib.Core.Bool.{_||_}
+use native.Mathlib.Omega.{arith}
+use mathlib.Core.Path.{_≡_, refl}
+use Prim.Native.Nat.{_-_, _≤_}
+use Rattle.memory_pages.specs.Pages.{frozenWord}
+use Rattle.basics.specs.Basics.{any}
+use Rattle.memory_bytes.specs.Bytes.{column2}
+use Rattle.memory_bytes.specs.Columns.{tab}
+use Rattle.memory_bytes.proofs.Scans.{any-turn, any-end}
+use Rattle.memory_pages.proofs.any_frozen.Statement.{statement}
+use Rattle.memory_pages.proofs.any_frozen.Tie as tie
+use Rattle.memory_pages.proofs.any_frozen.Reads as reads
+use Rattle.memory_pages.proofs.any_frozen.Lts as lts
+use Rattle.memory_bytes.proofs.get2.Reads as get2-reads
+
+abbrev Inv-loop : tie.InvT-loop
+Inv-loop m at hit₀ j₀ hit j = (j ≤ 16) × (any frozenWord (tab (column2 m at) 0 16) ≡ (hit || any frozenWord (tab (column2 m at) j (16 - j))))
+
+abbrev μ-loop : tie.MeasureT-loop
+μ-loop m at hit₀ j₀ hit j = 16 - j
+
+loop-holds : tie.Need-loop-holds Inv-loop μ-loop
+loop-holds c = (omega arith, refl)
+
+mul-get2 : tie.Need-mul-get2 Inv-loop μ-loop
+mul-get2 c = omega arith
+
+add-get2 : tie.Need-add-get2 Inv-loop μ-loop
+add-get2 c = omega arith
+
+get2-requires : tie.Need-get2-requires Inv-loop μ-loop
+get2-requires c κs = omega arith
+
+add-j : tie.Need-add-j Inv-loop μ-loop
+add-j c = omega arith
+
+loop-less : tie.Need-loop-less Inv-loop μ-loop
+loop-less c = omega arith
+
+loop-again : tie.Need-loop-again Inv-loop μ-loop
+loop-again c = let l = c .before .before in
+    let a = l .before .before .args in
+    (omega arith, any-turn frozenWord (column2 (a .m .now) (a .at)) (l .loop .j) 16 (omega arith) (l .loop .hit) (l .loop .inv .1) (c .get2 .ensures))
+
+returns : tie.Need-returns Inv-loop μ-loop
+returns c = let l = c .before in
+    let a = l .before .before .args in
+    any-end frozenWord (column2 (a .m .now) (a .at)) (l .loop .j) 16 (omega arith) (l .loop .hit) (l .loop .inv .1)
+
+pub any-frozen-spec : {M : Type 1} → statement M
+any-frozen-spec =
+    tie.close
+    (tie.spec
+    Inv-loop
+    μ-loop
+    loop-holds
+    mul-get2
+    add-get2
+    get2-requires
+    add-j
+    loop-less
+    loop-again
+    returns)

@@ -1,0 +1,116 @@
+use native.Mathlib.Omega.{arith}
+use mathlib.Core.Path.{_≡_, sym, _∙_}
+use Prim.Native.Nat.{_*_, _<_}
+use Rattle.memory_layout.proofs.Laws.{entries-length}
+use Rattle.memory_layout.specs.Views.{pageCount, startAt}
+use Rattle.memory_layout.specs.Flat.{capacityOf}
+use Rattle.memory_pages.proofs.Appending.{last-stands, open-room, open-pages, page-appended, page-order}
+use Rattle.memory_pages.proofs.Ranges.{ranges, head-capacity, start-behind}
+use borrow.Author.Needs.{needs}
+use Rattle.memory_pages.proofs.append_page.Statement.{statement}
+use Rattle.memory_pages.proofs.append_page.Tie as tie
+
+page-count-requires : tie.Need-page-count-requires
+page-count-requires c κs = search needs
+
+row-count-requires : tie.Need-row-count-requires
+row-count-requires c κs = search needs
+
+cast-start : tie.Need-cast-start
+cast-start c = omega (arith, ranges (c .before .before .before .before .before .pre .0), c .row-count .ensures)
+
+-- there is room for a page more
+space : (c : tie.After-page-count) → let m = c .before .before .before .args .m .now in pageCount m < 2 * capacityOf m
+space c = let st = c .before .before .before in let m = st .args .m .now in omega (arith, st .pre .1 .1 .space, entries-length m, head-capacity m)
+
+-- the page starts behind the last row
+start : (c : tie.After-row-count) → let m = c .before .before .before .before .before .args .m .now in c .row-count .result ≡ startAt m (capacityOf m) (c .before .before .page-count .result)
+start c =
+    let m = c .before .before .before .before .before .args .m .now in
+    let n = c .before .before .page-count in
+    c .row-count .ensures ∙ sym (start-behind m (capacityOf m) (n .result) (omega (arith, n .ensures)))
+
+open-page-requires : tie.Need-open-page-requires
+open-page-requires c κs =
+    let p3 = c .before .before .before in
+    let st = p3 .before .before .before in
+    (st .pre .0, record { table = st .pre .1 .1 .table; place = omega (arith, p3 .page-count .ensures); space = space p3 })
+
+blocks-requires : tie.Need-blocks-requires
+blocks-requires c κs =
+    let p3 = c .before .before .before in
+    let p5 = p3 .before .before in
+    let p7 = p5 .before .before in
+    let p10 = p7 .before .before .before in
+    let pre = p10 .pre in
+    let n = p7 .page-count .ensures in
+    let s = last-stands (pre .0) n (pre .1 .1) in
+    open-room (pre .0) n s (space p7) (pre .1 .1 .block) (start p5) (p3 .open-page .ensures)
+
+mul-a : tie.Need-mul-a
+mul-a c =
+    let p4 = c .before .before .before .before in
+    let p6 = p4 .before .before in
+    let p8 = p6 .before .before in
+    let p11 = p8 .before .before .before in
+    let pre = p11 .pre in
+    let n = p8 .page-count .ensures in
+    let s = last-stands (pre .0) n (pre .1 .1) in
+    omega (arith, ranges (pre .0), ranges (open-room (pre .0) n s (space p8) (pre .1 .1 .block) (start p6) (p4 .open-page .ensures)), c .blocks2 .ensures)
+
+add-a : tie.Need-add-a
+add-a c =
+    let p4 = c .before .before .before .before in
+    let p6 = p4 .before .before in
+    let p8 = p6 .before .before in
+    let p11 = p8 .before .before .before in
+    let pre = p11 .pre in
+    let n = p8 .page-count .ensures in
+    let s = last-stands (pre .0) n (pre .1 .1) in
+    omega (arith, ranges (pre .0), ranges (open-room (pre .0) n s (space p8) (pre .1 .1 .block) (start p6) (p4 .open-page .ensures)), c .blocks2 .ensures)
+
+put2-requires : tie.Need-put2-requires
+put2-requires c κs =
+    let p5 = c .before .before .before .before .before in
+    let p7 = p5 .before .before in
+    let p9 = p7 .before .before in
+    let p12 = p9 .before .before .before in
+    let pre = p12 .pre in
+    let n = p9 .page-count .ensures in
+    let s = last-stands (pre .0) n (pre .1 .1) in
+    let o = p5 .open-page .ensures in
+    let b = pre .1 .1 .block in
+    omega (arith, ranges (open-room (pre .0) n s (space p9) b (start p7) o), open-pages (pre .0) n s (space p9) b (start p7) o, c .before .blocks2 .ensures)
+
+same-length : tie.Need-same-length
+same-length c = search needs
+
+returns : tie.Need-returns
+returns c =
+    let p8 = c .before .before .before .before .before .before .before .before in
+    let p10 = p8 .before .before in
+    let p12 = p10 .before .before in
+    let p15 = p12 .before .before .before in
+    let pre = p15 .pre in
+    let n = p12 .page-count .ensures in
+    let s = last-stands (pre .0) n (pre .1 .1) in
+    let b = c .before .before .before .before .blocks2 .ensures in
+    let w = c .before .before .put2 .ensures in (
+      page-appended (pre .0) n s (space p12) (pre .1 .1 .block) (start p10) (p8 .open-page .ensures) b w,
+      page-order (pre .0) n s (space p12) (pre .1 .1 .block) (start p10) (p8 .open-page .ensures) b w (pre .1 .0),
+    )
+
+pub append-page-spec : {M : Type 1} → statement M
+append-page-spec =
+    tie.close
+    (tie.spec
+    page-count-requires
+    row-count-requires
+    cast-start
+    open-page-requires
+    blocks-requires
+    mul-a
+    add-a
+    put2-requires
+    same-length
+    returns)

@@ -1,0 +1,35 @@
+use native.Mathlib.Omega.{arith}
+use Rattle.memory_layout.proofs.Laws.{entries-length, rows-length}
+use lib.ListN.{length-append}
+use mathlib.Core.List.{[], _∷_}
+use mathlib.Core.Path.{refl}
+use Rattle.memory_rows.specs.Rows.{heldBy}
+use Rattle.memory_layout.specs.Flat.{flatOf}
+use Rattle.memory_pages.proofs.Moves.{row-inserted}
+use Rattle.memory_pages.proofs.Appending.{added-none}
+use Rattle.memory_pages.proofs.Ranges.{head-capacity}
+use borrow.Author.Needs.{needs}
+use Rattle.memory_pages.proofs.append_row.Statement.{statement}
+use Rattle.memory_pages.proofs.append_row.Tie as tie
+
+append-row-requires : tie.Need-append-row-requires
+append-row-requires c κs = search needs
+
+same-length : tie.Need-same-length
+same-length c = search needs
+
+returns : tie.Need-returns
+returns c =
+    let p2 = c .before .before in
+    let st = p2 .before .before .before .before in
+    let m = st .args .m .now in
+    let new = st .pre .0 in
+    let h = heldBy (st .args .row) (st .args .payload .now) in (
+      row-inserted (new .room) (omega (arith, entries-length m, st .pre .1 .1)) (p2 .append-row .ensures .0) refl refl (added-none _ _ _ 1)
+          (omega (arith, entries-length m, st .pre .1 .1)) (omega (arith, length-append (flatOf m .rows) (h ∷ []), rows-length m))
+          (omega (arith, new .more, rows-length m, head-capacity m)),
+      p2 .append-row .ensures .1,
+    )
+
+pub append-row-spec : {M : Type 1} → statement M
+append-row-spec = tie.close (tie.spec append-row-requires same-length returns)

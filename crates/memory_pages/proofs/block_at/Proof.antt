@@ -1,0 +1,19 @@
+use Prim.Native.Nat.{_%_}
+use Rattle.memory_layout.proofs.Laws.{entries-length}
+use mathlib.Core.Path.{sym, ap, _∙_}
+use Prim.Native.Nat.{ℕ}
+use native.Mathlib.Omega.{arith}
+use Rattle.memory_pages.proofs.Ranges.{entry-block}
+use borrow.Author.Needs.{needs}
+use Rattle.memory_pages.proofs.block_at.Statement.{statement}
+use Rattle.memory_pages.proofs.block_at.Tie as tie
+
+block-word-requires : tie.Need-block-word-requires
+block-word-requires c κs = search needs
+
+returns : tie.Need-returns
+returns c = let st = c .before .before in let m = st .args .m .now in
+    ap (λ (z : ℕ). z % 4096) (c .block-word .ensures) ∙ sym (entry-block m (st .args .p) (omega (arith, entries-length m)))
+
+pub block-at-spec : {M : Type 1} → statement M
+block-at-spec = tie.close (tie.spec block-word-requires returns)

@@ -1,0 +1,80 @@
+-- `memory_pages::count_dirty` meets its contract.
+use Prim.Native.Nat.{ℕ, _-_}
+use mathlib.Core.Path.{_≡_, ap, _∙_}
+use mathlib.Core.Bool.{cond}
+use native.Mathlib.Omega.{arith}
+use lib.ListN.{length}
+use lib.Dec.{eqb}
+use borrow.Author.Needs.{needs}
+use Rattle.basics.specs.Basics.{howMany}
+use Rattle.memory_bytes.proofs.Scans.{one-most}
+use Rattle.memory_layout.specs.Flat.{flatOf, noEntry}
+use Rattle.memory_layout.proofs.Laws.{entries-length}
+use Rattle.memory_pages.specs.Pages.{dirtyEntry}
+use Rattle.memory_pages.proofs.Ranges.{ranges}
+use Rattle.memory_pages.proofs.Counting.{Counted, counted-start, counted-turn, counted-end}
+use Rattle.memory_pages.proofs.count_dirty.Statement.{statement}
+use Rattle.memory_pages.proofs.count_dirty.Tie as tie
+
+abbrev Inv-loop : tie.InvT-loop
+Inv-loop m n k₀ p₀ k p = (n ≡ length (flatOf m .entries)) × Counted dirtyEntry (flatOf m .entries) (howMany dirtyEntry (flatOf m .entries)) k p
+
+abbrev μ-loop : tie.MeasureT-loop
+μ-loop m n k₀ p₀ k p = n - p
+
+page-count-requires : tie.Need-page-count-requires Inv-loop μ-loop
+page-count-requires c κs = search needs
+
+loop-holds : tie.Need-loop-holds Inv-loop μ-loop
+loop-holds c = let st = c .before .before in
+    (omega (arith, c .page-count .ensures, entries-length (st .args .m .now)), counted-start dirtyEntry (flatOf (st .args .m .now) .entries) 0 (omega arith))
+
+block-at-requires : tie.Need-block-at-requires Inv-loop μ-loop
+block-at-requires c κs = let l = c .before in (l .before .before .before .pre, omega (arith, l .loop .inv .0))
+
+one-if-requires : tie.Need-one-if-requires Inv-loop μ-loop
+one-if-requires c κs = search needs
+
+add-k : tie.Need-add-k Inv-loop μ-loop
+add-k c =
+    let l = c .before .before .before in
+    let st = l .before .before .before in
+    omega (arith, one-most (eqb (c .before .block-at .result) 0) (c .one-if .ensures), l .loop .inv .0, l .loop .inv .1 .few, ranges (st .pre), entries-length (st .args .m .now))
+
+add-p : tie.Need-add-p Inv-loop μ-loop
+add-p c = omega arith
+
+loop-less : tie.Need-loop-less Inv-loop μ-loop
+loop-less c = omega arith
+
+loop-again : tie.Need-loop-again Inv-loop μ-loop
+loop-again c =
+    let l = c .before .before .before in
+    let st = l .before .before .before in
+    let e = c .one-if .ensures ∙ ap (λ (z : ℕ). cond (eqb z 0) 1 0) (c .before .block-at .ensures) in
+    (l .loop .inv .0, counted-turn dirtyEntry (flatOf (st .args .m .now) .entries) (l .loop .inv .1) noEntry (omega (arith, l .loop .inv .0)) e (one-most (eqb (c .before .block-at .result) 0) (c .one-if .ensures)))
+
+cast-result : tie.Need-cast-result Inv-loop μ-loop
+cast-result c = search needs
+
+returns : tie.Need-returns Inv-loop μ-loop
+returns c =
+    let l = c .before in
+    counted-end dirtyEntry (flatOf (l .before .before .before .args .m .now) .entries) (l .loop .inv .1) (omega (arith, l .loop .inv .0))
+
+pub count-dirty-spec : {M : Type 1} → statement M
+count-dirty-spec =
+    tie.close
+    (tie.spec
+    Inv-loop
+    μ-loop
+    page-count-requires
+    loop-holds
+    block-at-requires
+    one-if-requires
+    add-k
+    add-p
+    loop-less
+    loop-again
+    cast-result
+    returns)

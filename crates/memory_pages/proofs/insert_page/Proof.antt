@@ -1,0 +1,39 @@
+use native.Mathlib.Omega.{arith}
+use Rattle.memory_layout.proofs.Laws.{entries-length}
+use Rattle.memory_pages.proofs.Changes.{page-inserted}
+use Rattle.memory_pages.proofs.Entries.{stands}
+use Rattle.memory_pages.proofs.Ranges.{ranges, start-most, head-capacity}
+use borrow.Author.Needs.{needs}
+use Rattle.memory_pages.proofs.insert_page.Statement.{statement}
+use Rattle.memory_pages.proofs.insert_page.Tie as tie
+
+start-at-requires : tie.Need-start-at-requires
+start-at-requires c κs = search needs
+
+cast-start : tie.Need-cast-start
+cast-start c = let st = c .before .before .before in omega (arith, ranges (st .pre .0), start-most (st .pre .0) (st .args .p), c .start-at .ensures)
+
+open-page-requires : tie.Need-open-page-requires
+open-page-requires c κs =
+    let st = c .before .before .before .before in
+    let m = st .args .m .now in
+    let b = st .pre .1 .place in
+    (st .pre .0, record { table = b .table; place = omega (arith, b .most, entries-length m); space = omega (arith, st .pre .1 .space, entries-length m, head-capacity m) })
+
+same-length : tie.Need-same-length
+same-length c = search needs
+
+returns : tie.Need-returns
+returns c =
+    let c2 = c .before .before in
+    let c4 = c2 .before .before in
+    let st = c4 .before .before .before in
+    let m = st .args .m .now in
+    let b = st .pre .1 .place in
+    page-inserted (st .pre .0) (stands (st .pre .0) b)
+    (omega (arith, st .pre .1 .space, entries-length m, head-capacity m)) (omega (arith, b .most, entries-length m))
+    (c4 .start-at .ensures) (c2 .open-page .ensures)
+
+pub insert-page-spec : {M : Type 1} → statement M
+insert-page-spec =
+    tie.close (tie.spec start-at-requires cast-start open-page-requires same-length returns)

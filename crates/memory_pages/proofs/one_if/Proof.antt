@@ -1,0 +1,19 @@
+use mathlib.Core.Path.{_≡_, refl}
+use mathlib.Core.Bool.{Bool, true, false, cond}
+use mir.Val.{boolByte}
+use borrow.Author.Needs.{needs}
+use Rattle.memory_pages.proofs.one_if.Statement.{statement}
+use Rattle.memory_pages.proofs.one_if.Tie as tie
+
+either : (b : Bool) → boolByte b ≡ cond b 1 0
+either true = refl
+either false = refl
+
+cast-result : tie.Need-cast-result
+cast-result c = search needs
+
+returns : tie.Need-returns
+returns c = either (c .args .b)
+
+pub one-if-spec : {M : Type 1} → statement M
+one-if-spec = tie.close (tie.spec cast-result returns)

@@ -1,0 +1,71 @@
+use native.Mathlib.Omega.{arith}
+use mathlib.Core.Path.{refl}
+use Prim.Native.Nat.{_-_}
+use Rattle.memory_pages.specs.Pages.{frozenWord, Passed}
+use Rattle.memory_bytes.specs.Bytes.{column2}
+use Rattle.memory_bytes.proofs.Scans.{first-skip, any-group2}
+use Rattle.memory_pages.proofs.pass_groups.Statement.{statement}
+use Rattle.memory_pages.proofs.pass_groups.Tie as tie
+use Rattle.memory_pages.proofs.pass_groups.Reads as reads
+use Rattle.memory_pages.proofs.pass_groups.Lts as lts
+use Rattle.memory_pages.proofs.any_frozen.Reads as any-frozen-reads
+
+abbrev Inv-loop : tie.InvT-loop
+Inv-loop m base n p₀ p = Passed (column2 m base) n p
+
+abbrev μ-loop : tie.MeasureT-loop
+μ-loop m base n p₀ p = n - p
+
+loop-holds : tie.Need-loop-holds Inv-loop μ-loop
+loop-holds c = record { most = omega arith; rest = omega arith }
+
+add-loop : tie.Need-add-loop Inv-loop μ-loop
+add-loop c = omega arith
+
+mul-any-frozen : tie.Need-mul-any-frozen Inv-loop μ-loop
+mul-any-frozen c = omega arith
+
+add-any-frozen : tie.Need-add-any-frozen Inv-loop μ-loop
+add-any-frozen c = omega arith
+
+any-frozen-requires : tie.Need-any-frozen-requires Inv-loop μ-loop
+any-frozen-requires c κs = omega arith
+
+returns : tie.Need-returns Inv-loop μ-loop
+returns c = c .before .before .before .loop .inv
+
+add-p : tie.Need-add-p Inv-loop μ-loop
+add-p c = omega arith
+
+loop-less : tie.Need-loop-less Inv-loop μ-loop
+loop-less c = omega arith
+
+loop-again : tie.Need-loop-again Inv-loop μ-loop
+loop-again c = let l = c .before .before .before in
+    let a = l .before .before .args in
+    let g = column2 (a .m .now) (a .base) in
+    record {
+      most = omega (arith, c .before .before .loop-test .taken);
+      rest = first-skip frozenWord g (l .loop .p) (a .n) (l .loop .inv .rest) 16 (omega (arith, c .before .before .loop-test .taken))
+          (any-group2 (a .m .now) (a .base) (l .loop .p) 16 frozenWord (c .before .any-frozen .ensures) (c .if1 .left));
+    }
+
+returns-2 : tie.Need-returns-2 Inv-loop μ-loop
+returns-2 c = c .before .loop .inv
+
+pub pass-groups-spec : {M : Type 1} → statement M
+pass-groups-spec =
+    tie.close
+    (tie.spec
+    Inv-loop
+    μ-loop
+    loop-holds
+    add-loop
+    mul-any-frozen
+    add-any-frozen
+    any-frozen-requires
+    returns
+    add-p
+    loop-less
+    loop-again
+    returns-2)

@@ -1,0 +1,56 @@
+use Rattle.memory_layout.specs.Flat.{capacityOf}
+use Rattle.memory_bytes.specs.Bytes.{le2}
+use mathlib.Core.Path.{sym, ap, _∙_}
+use Prim.Native.Nat.{ℕ, _+_, _*_}
+use native.Mathlib.Omega.{arith}
+use Rattle.memory_pages.proofs.Ranges.{ranges, start-stored, start-behind}
+use borrow.Author.Needs.{needs}
+use Rattle.memory_pages.proofs.start_at.Statement.{statement}
+use Rattle.memory_pages.proofs.start_at.Tie as tie
+
+page-count-requires : tie.Need-page-count-requires
+page-count-requires c κs = search needs
+
+starts-requires : tie.Need-starts-requires
+starts-requires c κs = search needs
+
+mul-get2 : tie.Need-mul-get2
+mul-get2 c = let st = c .before .before .before .before in omega (arith, ranges (st .pre))
+
+add-get2 : tie.Need-add-get2
+add-get2 c = let st = c .before .before .before .before in omega (arith, ranges (st .pre))
+
+get2-requires : tie.Need-get2-requires
+get2-requires c κs = let st = c .before .before .before .before in omega (arith, ranges (st .pre))
+
+cast-result : tie.Need-cast-result
+cast-result c = search needs
+
+row-count-requires : tie.Need-row-count-requires
+row-count-requires c κs = search needs
+
+returns : tie.Need-returns
+returns c =
+    let st = c .before .before .before .before .before in
+    let m = st .args .m .now in
+    c .get2 .ensures ∙ ap (λ (z : ℕ). le2 m (z + st .args .p * 2)) (c .before .starts .ensures) ∙ sym (start-stored m (capacityOf m) (st .args .p) (omega arith))
+
+returns-2 : tie.Need-returns-2
+returns-2 c =
+    let st = c .before .before .before .before in
+    let m = st .args .m .now in
+    c .row-count .ensures ∙ sym (start-behind m (capacityOf m) (st .args .p) (omega arith))
+
+pub start-at-spec : {M : Type 1} → statement M
+start-at-spec =
+    tie.close
+    (tie.spec
+    page-count-requires
+    starts-requires
+    mul-get2
+    add-get2
+    get2-requires
+    cast-result
+    row-count-requires
+    returns
+    returns-2)

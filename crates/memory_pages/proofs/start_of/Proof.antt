@@ -1,0 +1,20 @@
+use Rattle.memory_layout.proofs.Laws.{starts, entries-length, rows-length}
+use mathlib.Core.Path.{_∙_}
+use native.Mathlib.Omega.{arith}
+use Rattle.memory_pages.proofs.Ranges.{start-most}
+use borrow.Author.Needs.{needs}
+use Rattle.memory_pages.proofs.start_of.Statement.{statement}
+use Rattle.memory_pages.proofs.start_of.Tie as tie
+
+start-at-requires : tie.Need-start-at-requires
+start-at-requires c κs = search needs
+
+returns : tie.Need-returns
+returns c =
+    let st = c .before .before in
+    let m = st .args .m .now in
+    let p = st .args .p in
+    (c .start-at .ensures ∙ starts m (st .pre .0) p (omega (arith, entries-length m)), omega (arith, c .start-at .ensures, start-most (st .pre .0) p, rows-length m))
+
+pub start-of-spec : {M : Type 1} → statement M
+start-of-spec = tie.close (tie.spec start-at-requires returns)

@@ -1,0 +1,28 @@
+use Rattle.memory_layout.specs.Views.{tableAt}
+use Rattle.memory_layout.proofs.Laws.{entries-length}
+use mathlib.Core.Path.{_≡_, sym, _∙_}
+use native.Mathlib.Omega.{arith}
+use Rattle.memory_pages.proofs.Ranges.{ranges, entry-table}
+use Rattle.memory_pages.proofs.Tables.{table-is, table-counted}
+use borrow.Author.Needs.{needs}
+use Rattle.memory_pages.proofs.table_of.Statement.{statement}
+use Rattle.memory_pages.proofs.table_of.Tie as tie
+
+cast-count-up-to2 : tie.Need-cast-count-up-to2
+cast-count-up-to2 c = let st = c .before in omega (arith, ranges (st .pre .0), entries-length (st .args .m .now))
+
+count-up-to2-requires : tie.Need-count-up-to2-requires
+count-up-to2-requires c κs = search needs
+
+cast-result : tie.Need-cast-result
+cast-result c = let st = c .before .before in let m = st .args .m .now in let p = st .args .p in
+    let e : c .count-up-to2 .result ≡ tableAt m p = c .count-up-to2 .ensures ∙ table-counted m p in
+    omega (arith, table-is (st .pre .0) p .most)
+
+returns : tie.Need-returns
+returns c = let st = c .before .before in let m = st .args .m .now in let p = st .args .p in
+    let e : c .count-up-to2 .result ≡ tableAt m p = c .count-up-to2 .ensures ∙ table-counted m p in
+    (e ∙ sym (entry-table m p (omega (arith, entries-length m))), omega (arith, table-is (st .pre .0) p .most))
+
+pub table-of-spec : {M : Type 1} → statement M
+table-of-spec = tie.close (tie.spec cast-count-up-to2 count-up-to2-requires cast-result returns)

@@ -1,0 +1,22 @@
+use native.Mathlib.Nat.{add-zero}
+use mathlib.Core.Bool.{Bool, cond}
+use mathlib.Core.Path.{sym, ap, _∙_}
+use Prim.Native.Nat.{_+_}
+use Rattle.memory_pages.specs.Pages.{wordOf}
+use borrow.Author.Needs.{needs}
+use Rattle.memory_pages.proofs.word.Statement.{statement}
+use Rattle.memory_pages.proofs.word.Tie as tie
+
+add-result : tie.Need-add-result
+add-result c = search needs
+
+returns : tie.Need-returns
+unfolding wordOf
+returns c = let b = c .before .args .block in ap (λ (z : Bool). b + cond z 4096 0) (sym (c .if1 .taken))
+
+returns-2 : tie.Need-returns-2
+unfolding wordOf
+returns-2 c = let b = c .before .args .block in sym (add-zero b) ∙ ap (λ (z : Bool). b + cond z 4096 0) (sym (c .if1 .left))
+
+pub word-spec : {M : Type 1} → statement M
+word-spec = tie.close (tie.spec add-result returns returns-2)

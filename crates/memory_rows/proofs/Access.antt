@@ -1,0 +1,67 @@
+-- What the head's numbers give, and a row by its bytes.
+use mathlib.Core.Path.{_≡_, refl, sym, ap, _∙_}
+use Prim.Native.Nat.{ℕ, _+_, _*_, _-_, _≤_, _<_}
+use native.Mathlib.Omega.{arith}
+use native.Mathlib.Nat.{zero-add}
+use mathlib.Core.List.{List}
+use lib.ListN.{length}
+use Rattle.memory_bytes.specs.Columns.{tab}
+use Rattle.memory_bytes.specs.Bytes.{le4, bytes, column4}
+use Rattle.memory_bytes.proofs.Columns.{getD-tab, tab-cong}
+use Rattle.model.specs.State.{Held}
+use Rattle.memory_layout.specs.Places.{keysAt}
+use Rattle.memory_layout.specs.Views.{rowCount, rowAt, heldOf, ownerOf, markOf, pendingOf, lengthOf, keyOf, refOf, stateOf, slotPlace}
+use Rattle.memory_layout.specs.Flat.{flatOf, rowsOf, capacityOf, rowIn, noRow, Room}
+use Rattle.memory_layout.proofs.Laws.{rows-length, known}
+use Rattle.memory_rows.specs.Rows.{keyIn}
+use Rattle.memory_rows.specs.Cells.{Capacity, slotIn, slotAt}
+
+module _ (m : List ℕ) where
+  pub sized : Room m → Capacity m (capacityOf m)
+  sized r =
+      let k = known m r in
+      record { is = refl; least = k .least; most = k .most; long = omega (arith, k .long); rows = omega (arith, k .rows, k .rows-are) }
+
+  pub row-is : (i : ℕ) → i < length (rowsOf m) → rowIn (flatOf m) i ≡ rowAt m (capacityOf m) i
+  unfolding rowsOf
+  row-is i h =
+      getD-tab (rowAt m (capacityOf m)) 0 (rowCount m) i noRow (omega (arith, rows-length m))
+      ∙ ap (rowAt m (capacityOf m)) (zero-add i)
+
+  -- ---- the fields of row i
+
+  module _ (i : ℕ) (h : i < length (rowsOf m)) where
+    pub key-is : rowIn (flatOf m) i .tuple .key ≡ keyOf m (capacityOf m) i
+    unfolding rowAt heldOf
+    key-is = ap (λ (r : Held). r .tuple .key) (row-is i h)
+
+    pub number-is : rowIn (flatOf m) i .tuple .number ≡ le4 m (slotPlace (slotAt m i))
+    unfolding rowAt heldOf slotIn
+    number-is = ap (λ (r : Held). r .tuple .number) (row-is i h)
+
+    pub owner-is : rowIn (flatOf m) i .tuple .owner ≡ ownerOf (stateOf m (capacityOf m) i) (le4 m (slotPlace (slotAt m i) + 4))
+    unfolding rowAt heldOf slotIn
+    owner-is = ap (λ (r : Held). r .tuple .owner) (row-is i h)
+
+    pub mark-is : rowIn (flatOf m) i .tuple .mark ≡ markOf (stateOf m (capacityOf m) i)
+    unfolding rowAt heldOf
+    mark-is = ap (λ (r : Held). r .tuple .mark) (row-is i h)
+
+    pub payload-is : rowIn (flatOf m) i .tuple .payload ≡ bytes m (slotPlace (slotAt m i) + 8) (lengthOf (stateOf m (capacityOf m) i))
+    unfolding rowAt heldOf slotIn
+    payload-is = ap (λ (r : Held). r .tuple .payload) (row-is i h)
+
+    pub pending-is : rowIn (flatOf m) i .pending ≡ pendingOf (refOf m (capacityOf m) i)
+    unfolding rowAt heldOf
+    pending-is = ap (λ (r : Held). r .pending) (row-is i h)
+
+  -- the keys of the rows are a column
+  keys-are : (s e : ℕ) → e ≤ length (rowsOf m) → (a : ℕ) → a ≡ keysAt (capacityOf m) → tab (column4 m a) s (e - s) ≡ tab (keyIn (flatOf m)) s (e - s)
+  keys-are s e h a q =
+      tab-cong (column4 m a) (keyIn (flatOf m)) s s (e - s)
+      (λ k b. ap (λ (z : ℕ). le4 m (z + (s + k) * 4)) q ∙ sym (key-is (s + k) (omega arith)))
+
+  -- what a search in the column answers is over the rows
+  pub over-keys : (f : List ℕ → ℕ) (s e : ℕ) → e ≤ length (rowsOf m) → {a r : ℕ} → a ≡ keysAt (capacityOf m) → r ≡ s + f (tab (column4 m a) s (e - s))
+      → r ≡ s + f (tab (keyIn (flatOf m)) s (e - s))
+  over-keys f s e h {a} q p = p ∙ ap (λ (xs : List ℕ). s + f xs) (keys-are s e h a q)

@@ -1,0 +1,81 @@
+-- A row behind all others, in the slot of its own index.
+use mathlib.Core.Path.{_≡_, refl, sym, ap, subst, _∙_}
+use mathlib.Core.Logic.{⊎-elim}
+use mathlib.Core.Bool.{false, _||_}
+use mathlib.Core.List.{List, [], _∷_, _++_}
+use Prim.Native.Nat.{ℕ, zero, suc, _+_, _*_, _≤_, _<_}
+use native.Mathlib.Omega.{arith}
+use lib.ListN.{length, drop, length-append}
+use lib.Seq.{take-length, drop-length}
+use borrow.Author.Tests.{ne-eqb}
+use Rattle.basics.specs.Basics.{any}
+use Rattle.memory_bytes.specs.Bytes.{bytes4, Wrote}
+use Rattle.memory_bytes.specs.Columns.{tab, equals, insertAt}
+use Rattle.memory_bytes.proofs.Columns.{lt-or-ge}
+use Rattle.memory_bytes.proofs.Scans.{any-cons}
+use Rattle.memory_layout.specs.Views.{slotOf, refOf}
+use Rattle.memory_layout.specs.Flat.{capacityOf, rowsOf}
+use Rattle.memory_layout.proofs.Frame.{same4}
+use Rattle.memory_rows.specs.Rows.{heldBy, RowFits, RowsOnly}
+use Rattle.memory_rows.specs.Cells.{codeOf, Capacity, slotIn, slotAt, isTaken, InOrder, wordOf, stateBy, RowsRaised, CellsPut, SlotFilled}
+use Rattle.memory_rows.specs.declared.Row.{Row}
+use Rattle.memory_rows.proofs.Moving.{cells-stay}
+use Rattle.memory_rows.proofs.Inserting.{slot-own, inserted}
+
+-- behind all others
+pub insert-last : {A : Type 0} (n : ℕ) (x : A) (xs : List A) → n ≡ length xs → insertAt n x xs ≡ xs ++ x ∷ []
+insert-last n x xs e =
+    ap (λ (k : ℕ). insertAt k x xs) e ∙ ap (λ (z : List _). z ++ x ∷ drop (length xs) xs) (take-length xs)
+    ∙ ap (λ (z : List _). xs ++ x ∷ z) (drop-length xs)
+
+-- no row is moved
+raised-none : (m : List ℕ) (c n : ℕ) → RowsRaised m m c n n
+raised-none m c n =
+    record {
+      only = record { size = refl; below = λ b h. refl; above = λ b h. refl };
+      before = λ j h. record { key = refl; ref = refl; state = refl };
+      moved = λ j h k. absurd (omega arith);
+    }
+
+none-equal : (f : ℕ → ℕ) (s i k : ℕ) → ((j : ℕ) → i ≤ j → j < i + k → f j ≡ s → ⊥) → any (equals s) (tab f i k) ≡ false
+unfolding any
+none-equal f s i zero h = refl
+none-equal f s i (suc k) h =
+    any-cons (equals s) (f i) (tab f (suc i) k)
+    ∙ (λ y. ne-eqb (f i) s (h i (omega arith) (omega arith)) y || none-equal f s (suc i) k (λ j p q. h j (omega arith) (omega arith)) y)
+
+-- while every row is in the slot of its own index, the next slot is free
+order-free : {m : List ℕ} {n : ℕ} → InOrder m → n ≡ length (rowsOf m) → isTaken m n ≡ false
+order-free {m} {n} o e = none-equal (slotAt m) n 0 (length (rowsOf m)) (λ j p q z. omega (arith, o .slot j (omega arith)))
+
+module _ {m m1 m3 m4 : List ℕ} {c n w r st : ℕ} (row : Row) {xs : List ℕ} (z : Capacity m c) (en : n ≡ length (rowsOf m)) (full : n < c)
+    (own : RowFits row) (fit : length xs ≤ 40) (o : InOrder m)
+    (ew : w ≡ wordOf (row .owner)) (er : r ≡ n + codeOf (row .pending) * 1024) (es : st ≡ stateBy (row .owner) (row .mark) (length xs))
+    (fill : SlotFilled m m1 n (row .number) w xs) (put : CellsPut m1 m3 c n (row .key) r st) (count : Wrote m3 m4 32 (bytes4 (n + 1))) where
+  pub appended : RowsOnly m m4 (rowsOf m ++ heldBy row xs ∷ [])
+  appended =
+      subst (RowsOnly m m4) (insert-last n (heldBy row xs) (rowsOf m) en)
+      (inserted row z en (omega arith) full own fit full (order-free o en) ew er es fill (raised-none m1 c n) put count)
+
+  -- the slots of the rows, for the capacity c
+  slot-kept : (i : ℕ) → i < n → slotIn m4 c i ≡ i
+  unfolding slotIn
+  slot-kept i h =
+      let e : refOf m4 c i ≡ refOf m c i =
+      cells-stay c i (count .apart) (omega arith) .ref ∙ put .others i (omega arith) (λ x. omega arith) .ref ∙ cells-stay c i (fill .apart) (omega arith) .ref in
+      ap (slotOf c) e ∙ (λ y. slotOf (z .is y) (refOf m (z .is y) i)) ∙ o .slot i (omega arith)
+
+  slot-new : slotIn m4 c n ≡ n
+  unfolding slotIn
+  slot-new = ap (slotOf c) (cells-stay c n (count .apart) (omega arith) .ref ∙ put .ref ∙ er) ∙ slot-own c _ n (omega (arith, z .most)) full
+
+  pub in-order : InOrder m4
+  in-order =
+      let cap : capacityOf m4 ≡ c =
+      same4 m m4 4 (λ b p q. count .apart .below b (omega arith) ∙ put .only .below b (omega arith) ∙ fill .apart .below b (omega arith)) ∙ sym (z .is) in
+      let l : length (rowsOf m4) ≡ n + 1 = ap length (appended .rows) ∙ omega (arith, length-append (rowsOf m) (heldBy row xs ∷ [])) in
+      record {
+        slot = λ i h.
+            ap (λ (k : ℕ). slotIn m4 k i) cap
+            ∙ ⊎-elim (λ k. slot-kept i k) (λ k. let e : i ≡ n = omega arith in ap (slotIn m4 c) e ∙ slot-new ∙ sym e) (lt-or-ge i n);
+      }

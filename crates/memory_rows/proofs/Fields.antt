@@ -1,0 +1,61 @@
+-- Numbers of a row's columns as the model's values.
+use mathlib.Core.Path.{_≡_, refl, sym, ap, _∙_}
+use mathlib.Core.Bool.{Bool, true, false, _&&_}
+use mathlib.Core.List.{List}
+use Prim.Native.Nat.{ℕ, _+_, _/_, _%_, _≤_, _<_}
+use native.Mathlib.Omega.{arith}
+use lib.ListN.{length}
+use lib.Dec.{ltb, leb}
+use borrow.Author.Tests.{le-leb, lt-leb, ltb-true, ltb-false}
+use Rattle.basics.specs.Basics.{if_then_else_}
+use Rattle.blocks.specs.Tuple.{committed, tentative, Tuple, size, ownerSize}
+use Rattle.rows.specs.Rows.{isBy}
+use Rattle.model.specs.State.{Pending, nothing, adding, committing, removing, Held}
+use Rattle.model.specs.Rules.{heldSize, isRemoving, isCommitting, ripe, asCommitted}
+use Rattle.memory_bytes.specs.Bytes.{le4}
+use Rattle.memory_bytes.proofs.Bytes.{length-bytes}
+use Rattle.memory_layout.specs.Views.{ownerOf, lengthOf, stateOf, slotPlace}
+use Rattle.memory_layout.specs.Flat.{flatOf, rowsOf, capacityOf, rowIn}
+use Rattle.memory_rows.specs.Rows.{isLiveOwn}
+use Rattle.memory_rows.specs.Cells.{keepsOwner, slotAt}
+use Rattle.memory_rows.proofs.Access.{owner-is, payload-is}
+
+-- ---- sizes
+
+owner-size : (s w : ℕ) → ownerSize (ownerOf s w) ≡ (if ltb s 128 then 4 else 0)
+unfolding ownerOf ownerSize if_then_else_
+owner-size s w = by-test (ltb s 128) refl
+  where
+    by-test : (t : Bool) → ltb s 128 ≡ t → ownerSize (if leb 128 s then committed else tentative (w / 1048576) (w % 1048576)) ≡ (if t then 4 else 0)
+    by-test true e = rw (lt-leb 128 s (ltb-true s 128 e))
+    by-test false e = rw (le-leb 128 s (ltb-false s 128 e))
+
+-- the size goes by the state alone
+pub size-is : (m : List ℕ) (i : ℕ) → i < length (rowsOf m) → (s : ℕ) → s ≡ stateOf m (capacityOf m) i
+    → heldSize (rowIn (flatOf m) i) ≡ 9 + (if ltb s 128 then 4 else 0) + lengthOf s
+unfolding heldSize size
+size-is m i h s e =
+    let o : ownerSize (rowIn (flatOf m) i .tuple .owner) ≡ (if ltb s 128 then 4 else 0) =
+    ap ownerSize (owner-is m i h) ∙ owner-size (stateOf m (capacityOf m) i) (le4 m (slotPlace (slotAt m i) + 4))
+    ∙ ap (λ (z : ℕ). if ltb z 128 then 4 else 0) (sym e) in
+    let p : length (rowIn (flatOf m) i .tuple .payload) ≡ lengthOf s =
+    ap length (payload-is m i h) ∙ length-bytes m (slotPlace (slotAt m i) + 8) (lengthOf (stateOf m (capacityOf m) i)) ∙ ap lengthOf (sym e) in
+    λ j. 9 + o j + p j
+
+-- ---- owners
+
+-- a live row is its owner's as long as the pending operation leaves it there
+pub live-is : (tx : ℕ) (h : Held) → isLiveOwn tx h ≡ (keepsOwner (h .pending) && isBy tx (h .tuple .owner))
+unfolding isLiveOwn ripe asCommitted isRemoving isCommitting isBy if_then_else_
+live-is tx h = by-pending (h .tuple) (h .pending)
+  where
+    by-pending : (x : Tuple) (p : Pending) → isLiveOwn tx (record { tuple = x; pending = p }) ≡ (keepsOwner p && isBy tx (x .owner))
+    by-pending x nothing = refl
+    by-pending x adding = refl
+    by-pending x committing = refl
+    by-pending x removing = refl
+
+pub at-most : (t : Bool) → (if t then 4 else 0) ≤ 4
+unfolding if_then_else_
+at-most true = omega arith
+at-most false = omega arith

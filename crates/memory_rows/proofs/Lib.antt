@@ -1,0 +1,10 @@
+pub mod Access
+pub mod Fields
+pub mod Flags
+pub mod Kept
+pub mod Exchange
+pub mod Slots
+pub mod Moving
+pub mod Inserting
+pub mod Appending
+pub mod Groups

@@ -1,0 +1,71 @@
+use Rattle.memory_rows.proofs.Groups.{unset, group-is}
+use Rattle.memory_rows.proofs.Access.{sized}
+use Rattle.memory_bytes.proofs.Scans.{any-turn, any-end}
+use Rattle.memory_bytes.specs.Columns.{tab}
+use Rattle.basics.specs.Basics.{any}
+use lib.ListN.{getD}
+use native.Mathlib.Omega.{arith}
+use Prim.Native.Nat.{_+_, _-_, _≤_}
+use mathlib.Core.Bool.{_||_}
+use mathlib.Core.Path.{_≡_, refl, _∙_, sym}
+use Rattle.memory_rows.proofs.any_tentative.Statement.{statement}
+use Rattle.memory_rows.proofs.any_tentative.Tie as tie
+use Rattle.memory_rows.proofs.any_tentative.Reads as reads
+use Rattle.memory_rows.proofs.any_tentative.Lts as lts
+use Rattle.memory_rows.proofs.state_place.Reads as state-place-reads
+
+abbrev Inv-loop : tie.InvT-loop
+Inv-loop m i a hit₀ j₀ hit j =
+    (j ≤ 16) × (any unset (tab (λ k. getD m (a + k) 0) 0 16) ≡ (hit || any unset (tab (λ k. getD m (a + k) 0) j (16 - j))))
+
+abbrev μ-loop : tie.MeasureT-loop
+μ-loop m i a hit₀ j₀ hit j = 16 - j
+
+state-place-requires : tie.Need-state-place-requires Inv-loop μ-loop
+state-place-requires c κs = let p = c .before .pre in (p .0, omega (arith, p .1))
+
+loop-holds : tie.Need-loop-holds Inv-loop μ-loop
+loop-holds c = (omega arith, refl)
+
+add-hit : tie.Need-add-hit Inv-loop μ-loop
+add-hit c = let st = c .before .before .before .before in
+    omega (arith, sized (st .args .m .now) (st .pre .0) .most, sized (st .args .m .now) (st .pre .0) .rows, c .before .before .state-place .ensures .0)
+
+shared-slice-read-hit : tie.Need-shared-slice-read-hit Inv-loop μ-loop
+shared-slice-read-hit c = let st = c .before .before .before .before .before in let z = sized (st .args .m .now) (st .pre .0) in
+    omega (arith, z .long, z .rows, c .before .before .before .state-place .ensures .0, st .pre .1)
+
+add-j : tie.Need-add-j Inv-loop μ-loop
+add-j c = omega arith
+
+loop-less : tie.Need-loop-less Inv-loop μ-loop
+loop-less c = omega arith
+
+loop-again : tie.Need-loop-again Inv-loop μ-loop
+loop-again c = let l = c .before .before in
+    let a = l .before .state-place .result in (
+      omega arith,
+      any-turn unset (λ k. getD (l .before .before .before .args .m .now) (a + k) 0) (l .loop .j) 16 (omega arith) (l .loop .hit) (l .loop .inv .1) refl,
+    )
+
+returns : tie.Need-returns Inv-loop μ-loop
+returns c = let l = c .before in
+    let a = l .before .state-place in
+    let st = l .before .before .before in
+    any-end unset (λ k. getD (st .args .m .now) (a .result + k) 0) (l .loop .j) 16 (omega arith) (l .loop .hit) (l .loop .inv .1)
+    ∙ sym (group-is (st .args .m .now) (st .args .i) (a .result) (st .pre .1) (a .ensures .0))
+
+pub any-tentative-spec : {M : Type 1} → statement M
+any-tentative-spec =
+    tie.close
+    (tie.spec
+    Inv-loop
+    μ-loop
+    state-place-requires
+    loop-holds
+    add-hit
+    shared-slice-read-hit
+    add-j
+    loop-less
+    loop-again
+    returns)

@@ -1,0 +1,102 @@
+use Rattle.memory_rows.proofs.Appending.{appended, in-order}
+use Rattle.memory_layout.specs.Views.{headOf}
+use native.Mathlib.Omega.{arith}
+use Prim.Native.Nat.{ℕ, _+_, _*_, _<_}
+use mathlib.Core.Path.{ap}
+use borrow.Author.Needs.{needs}
+use Rattle.memory_rows.proofs.append_row.Statement.{statement}
+use Rattle.memory_rows.proofs.append_row.Tie as tie
+
+capacity-requires : tie.Need-capacity-requires
+capacity-requires c κs = search needs
+
+row-count-requires : tie.Need-row-count-requires
+row-count-requires c κs = search needs
+
+state-by-requires : tie.Need-state-by-requires
+state-by-requires c κs = search needs
+
+cast-r : tie.Need-cast-r
+cast-r c = search needs
+
+pending-code-requires : tie.Need-pending-code-requires
+pending-code-requires c κs = search needs
+
+mul-r : tie.Need-mul-r
+mul-r c = search needs
+
+add-r : tie.Need-add-r
+add-r c = search needs
+
+owner-word-requires : tie.Need-owner-word-requires
+owner-word-requires c κs = search needs
+
+fill-slot-requires : tie.Need-fill-slot-requires
+fill-slot-requires c κs = search needs
+
+put-cells-requires : tie.Need-put-cells-requires
+unfolding headOf
+put-cells-requires c κs =
+    let p3 = c .before .before .before in
+    let p8 = p3 .before .before .before .before .before in
+    let p10 = p8 .before .before in
+    let p14 = p10 .before .before .before .before in
+    let cap = p10 .capacity .ensures in
+    (record { most = cap .most; long = omega (arith, cap .long, p3 .fill-slot .ensures .apart .size) }, omega (arith, cap .is, p8 .row-count .ensures, p14 .pre .0 .more))
+
+add-put4 : tie.Need-add-put4
+add-put4 c = search needs
+
+cast-put4 : tie.Need-cast-put4
+cast-put4 c = search needs
+
+put4-requires : tie.Need-put4-requires
+put4-requires c κs = search needs
+
+same-length : tie.Need-same-length
+same-length c = search needs
+
+returns : tie.Need-returns
+unfolding headOf
+returns c =
+    let p2 = c .before .before in
+    let p6 = p2 .before .before .before .before in
+    let p10 = p6 .before .before .before .before in
+    let p11 = p10 .before in
+    let p13 = p11 .before .before in
+    let p14 = p13 .before in
+    let p15 = p14 .before in
+    let p17 = p15 .before .before in
+    let p21 = p17 .before .before .before .before in
+    let cap = p17 .capacity .ensures in
+    let n = p15 .row-count in
+    let pre = p21 .pre .0 in
+    let full : n .result < p17 .capacity .result = omega (arith, n .ensures, cap .is, pre .more) in
+    let word = p11 .owner-word .ensures in
+    let ref = ap (λ (z : ℕ). n .result + z * 1024) (p13 .pending-code .ensures .0) in
+    let state = p14 .state-by .ensures in (
+      appended (p21 .args .row) cap (n .ensures) full (pre .owner) (pre .payload) (p21 .pre .1) word ref state
+          (p10 .fill-slot .ensures) (p6 .put-cells .ensures) (p2 .put4 .ensures),
+      in-order (p21 .args .row) cap (n .ensures) full (pre .owner) (pre .payload) (p21 .pre .1) word ref state
+          (p10 .fill-slot .ensures) (p6 .put-cells .ensures) (p2 .put4 .ensures),
+    )
+
+pub append-row-spec : {M : Type 1} → statement M
+append-row-spec =
+    tie.close
+    (tie.spec
+    capacity-requires
+    row-count-requires
+    state-by-requires
+    cast-r
+    pending-code-requires
+    mul-r
+    add-r
+    owner-word-requires
+    fill-slot-requires
+    put-cells-requires
+    add-put4
+    cast-put4
+    put4-requires
+    same-length
+    returns)

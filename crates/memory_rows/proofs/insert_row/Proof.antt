@@ -1,0 +1,120 @@
+use Rattle.memory_rows.proofs.Inserting.{inserted}
+use Rattle.memory_layout.specs.Views.{headOf}
+use native.Mathlib.Omega.{arith}
+use Prim.Native.Nat.{ℕ, _+_, _*_}
+use mathlib.Core.Path.{ap}
+use borrow.Author.Needs.{needs}
+use Rattle.memory_rows.proofs.insert_row.Statement.{statement}
+use Rattle.memory_rows.proofs.insert_row.Tie as tie
+
+capacity-requires : tie.Need-capacity-requires
+capacity-requires c κs = search needs
+
+row-count-requires : tie.Need-row-count-requires
+row-count-requires c κs = search needs
+
+free-slot-requires : tie.Need-free-slot-requires
+unfolding headOf
+free-slot-requires c κs = let st = c .before .before .before .before .before .before .before in (st .pre .room, st .pre .more)
+
+state-by-requires : tie.Need-state-by-requires
+state-by-requires c κs = search needs
+
+pending-code-requires : tie.Need-pending-code-requires
+pending-code-requires c κs = search needs
+
+mul-r : tie.Need-mul-r
+mul-r c = search needs
+
+add-r : tie.Need-add-r
+add-r c = search needs
+
+cast-fill-slot : tie.Need-cast-fill-slot
+cast-fill-slot c = search needs
+
+owner-word-requires : tie.Need-owner-word-requires
+owner-word-requires c κs = search needs
+
+fill-slot-requires : tie.Need-fill-slot-requires
+fill-slot-requires c κs = search needs
+
+raise-rows-requires : tie.Need-raise-rows-requires
+unfolding headOf
+raise-rows-requires c κs =
+    let p3 = c .before .before .before in
+    let p10 = p3 .before .before .before .before .before .before .before in
+    let p12 = p10 .before .before in
+    let st = p12 .before .before .before .before in
+    let cap = p12 .capacity .ensures in
+    let n = p10 .row-count .ensures in (
+      record { most = cap .most; long = omega (arith, cap .long, p3 .fill-slot .ensures .apart .size) },
+      (omega (arith, n, st .pre .at), omega (arith, n, cap .is, st .pre .more)),
+    )
+
+put-cells-requires : tie.Need-put-cells-requires
+unfolding headOf
+put-cells-requires c κs =
+    let p3 = c .before .before .before in
+    let p7 = p3 .before .before .before .before in
+    let p16 = p7 .before .before .before .before .before .before .before .before .before in
+    let st = p16 .before .before .before .before in
+    let cap = p16 .capacity .ensures in (
+      record { most = cap .most; long = omega (arith, cap .long, p7 .fill-slot .ensures .apart .size, p3 .raise-rows .ensures .only .size) },
+      omega (arith, cap .is, st .pre .at, st .pre .more),
+    )
+
+add-put4 : tie.Need-add-put4
+add-put4 c = search needs
+
+cast-put4 : tie.Need-cast-put4
+cast-put4 c = search needs
+
+put4-requires : tie.Need-put4-requires
+put4-requires c κs = search needs
+
+same-length : tie.Need-same-length
+same-length c = search needs
+
+returns : tie.Need-returns
+unfolding headOf
+returns c =
+    let p2 = c .before .before in
+    let p6 = p2 .before .before .before .before in
+    let p10 = p6 .before .before .before .before in
+    let p14 = p10 .before .before .before .before in
+    let p15 = p14 .before in
+    let p17 = p15 .before .before in
+    let p18 = p17 .before in
+    let p19 = p18 .before in
+    let p21 = p19 .before .before in
+    let p23 = p21 .before .before in
+    let st = p23 .before .before .before .before in
+    let cap = p23 .capacity .ensures in
+    let n = p21 .row-count .ensures in
+    let s = p19 .free-slot in
+    inserted (st .args .row) cap n (omega (arith, n, st .pre .at)) (omega (arith, n, cap .is, st .pre .more)) (st .pre .owner) (st .pre .payload)
+    (omega (arith, cap .is, s .ensures .0)) (s .ensures .1)
+    (p15 .owner-word .ensures) (ap (λ (z : ℕ). s .result + z * 1024) (p17 .pending-code .ensures .0)) (p18 .state-by .ensures)
+    (p14 .fill-slot .ensures) (p10 .raise-rows .ensures) (p6 .put-cells .ensures) (p2 .put4 .ensures)
+
+pub insert-row-spec : {M : Type 1} → statement M
+insert-row-spec =
+    tie.close
+    (tie.spec
+    capacity-requires
+    row-count-requires
+    free-slot-requires
+    state-by-requires
+    pending-code-requires
+    mul-r
+    add-r
+    cast-fill-slot
+    owner-word-requires
+    fill-slot-requires
+    raise-rows-requires
+    put-cells-requires
+    add-put4
+    cast-put4
+    put4-requires
+    same-length
+    returns)

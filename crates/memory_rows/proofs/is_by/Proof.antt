@@ -1,0 +1,30 @@
+use Rattle.memory_rows.specs.declared.Owner.{Owner}
+use Rattle.memory_rows.specs.Rows.{ownerIs}
+use Rattle.rows.specs.Rows.{isBy}
+use mathlib.Core.Path.{ap, sym}
+use borrow.Author.Needs.{needs}
+use Rattle.memory_rows.proofs.is_by.Statement.{statement}
+use Rattle.memory_rows.proofs.is_by.Tie as tie
+
+enum-told : tie.Need-enum-told
+enum-told c = search needs
+
+enum-known-o : tie.Need-enum-known-o
+enum-known-o c = search needs
+
+cast-result : tie.Need-cast-result
+cast-result c = search needs
+
+returns : tie.Need-returns
+unfolding isBy
+returns c = sym (ap (λ (o : Owner). isBy (c .before .before .args .transaction) (ownerIs o)) (c .enum-told .given .1))
+
+returns-2 : tie.Need-returns-2
+unfolding isBy
+returns-2 c =
+    let p1 = c .before in
+    let p3 = p1 .before .before in
+    sym (ap (λ (o : Owner). isBy (p3 .args .transaction) (ownerIs o)) (p1 .o .given .1))
+
+pub is-by-spec : {M : Type 1} → statement M
+is-by-spec = tie.close (tie.spec enum-told enum-known-o cast-result returns returns-2)

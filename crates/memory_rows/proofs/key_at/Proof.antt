@@ -1,0 +1,22 @@
+use Rattle.memory_rows.proofs.Access.{key-is}
+use Rattle.memory_bytes.specs.Bytes.{le4}
+use mathlib.Core.Path.{ap, sym, _∙_}
+use borrow.Author.Needs.{needs}
+use Rattle.memory_rows.proofs.key_at.Statement.{statement}
+use Rattle.memory_rows.proofs.key_at.Tie as tie
+
+key-place-requires : tie.Need-key-place-requires
+key-place-requires c κs = search needs
+
+get4-requires : tie.Need-get4-requires
+get4-requires c κs = search needs
+
+returns : tie.Need-returns
+returns c =
+    let p1 = c .before in
+    let st = p1 .before .before in
+    let m = st .args .m .now in
+    c .get4 .ensures ∙ ap (le4 m) (p1 .key-place .ensures .0) ∙ sym (key-is m (st .args .i) (st .pre .1))
+
+pub key-at-spec : {M : Type 1} → statement M
+key-at-spec = tie.close (tie.spec key-place-requires get4-requires returns)

@@ -1,0 +1,21 @@
+use Rattle.memory_layout.specs.Views.{lengthOf}
+use native.Mathlib.Omega.{arith}
+use mathlib.Core.Path.{sym}
+use native.Mathlib.Nat.{min-eq-left, min-eq-right}
+use borrow.Author.Needs.{needs}
+use Rattle.memory_rows.proofs.length_of.Statement.{statement}
+use Rattle.memory_rows.proofs.length_of.Tie as tie
+
+cast-n : tie.Need-cast-n
+cast-n c = search needs
+
+returns : tie.Need-returns
+unfolding lengthOf
+returns c = (sym (min-eq-left (omega arith)), omega arith)
+
+returns-2 : tie.Need-returns-2
+unfolding lengthOf
+returns-2 c = (sym (min-eq-right (c .if1 .left)), omega arith)
+
+pub length-of-spec : {M : Type 1} → statement M
+length-of-spec = tie.close (tie.spec cast-n returns returns-2)

@@ -1,0 +1,21 @@
+use Rattle.memory_rows.proofs.Access.{pending-is}
+use Rattle.memory_layout.specs.Views.{pendingOf}
+use mathlib.Core.Path.{ap, sym, _∙_}
+use borrow.Author.Needs.{needs}
+use Rattle.memory_rows.proofs.pending_at.Statement.{statement}
+use Rattle.memory_rows.proofs.pending_at.Tie as tie
+
+ref-at-requires : tie.Need-ref-at-requires
+ref-at-requires c κs = search needs
+
+pending-of-requires : tie.Need-pending-of-requires
+pending-of-requires c κs = search needs
+
+returns : tie.Need-returns
+returns c =
+    let p1 = c .before in
+    let st = p1 .before .before in
+    c .pending-of .ensures ∙ ap pendingOf (p1 .ref-at .ensures) ∙ sym (pending-is (st .args .m .now) (st .args .i) (st .pre .1))
+
+pub pending-at-spec : {M : Type 1} → statement M
+pending-at-spec = tie.close (tie.spec ref-at-requires pending-of-requires returns)

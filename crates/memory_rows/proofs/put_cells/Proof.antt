@@ -1,0 +1,80 @@
+use Rattle.memory_rows.proofs.Moving.{cells-put}
+use Rattle.memory_bytes.proofs.Moves.{write-first, write-end}
+use native.Mathlib.Omega.{arith}
+use lib.ListN.{length-set}
+use mathlib.Core.List.{[]}
+use mathlib.Core.Path.{refl, _∙_}
+use borrow.Author.Needs.{needs}
+use Rattle.memory_rows.proofs.put_cells.Statement.{statement}
+use Rattle.memory_rows.proofs.put_cells.Tie as tie
+
+states-at-requires : tie.Need-states-at-requires
+states-at-requires c κs = search needs
+
+add-s : tie.Need-add-s
+add-s c = search needs
+
+keys-at-requires : tie.Need-keys-at-requires
+keys-at-requires c κs = search needs
+
+mul-put4 : tie.Need-mul-put4
+mul-put4 c = search needs
+
+add-put4 : tie.Need-add-put4
+add-put4 c = search needs
+
+put4-requires : tie.Need-put4-requires
+put4-requires c κs = search needs
+
+refs-at-requires : tie.Need-refs-at-requires
+refs-at-requires c κs = search needs
+
+mul-put2 : tie.Need-mul-put2
+mul-put2 c = search needs
+
+add-put2 : tie.Need-add-put2
+add-put2 c = search needs
+
+put2-requires : tie.Need-put2-requires
+put2-requires c κs = search needs
+
+slice-write-m : tie.Need-slice-write-m
+slice-write-m c = search needs
+
+same-length : tie.Need-same-length
+same-length c =
+    let p2 = c .before .before in
+    let p7 = p2 .before .before .before .before .before in
+    simp length-set (p2 .put2 .ensures .apart .size ∙ p7 .put4 .ensures .apart .size)
+
+returns : tie.Need-returns
+returns c =
+    let p2 = c .before .before in
+    let p3 = p2 .before in
+    let p7 = p3 .before .before .before .before in
+    let p8 = p7 .before in
+    let p10 = p8 .before .before in
+    let st = p10 .before .before in
+    let w4 = p7 .put4 .ensures in
+    let w2 = p2 .put2 .ensures in
+    let s = p10 .states-at in
+    cells-put (p8 .keys-at .ensures) (p3 .refs-at .ensures) (s .ensures) (st .pre .1) (omega arith) (omega arith) w4 w2
+    (write-end (write-first _ _ (st .args .state) [] (omega (arith, w4 .apart .size, w2 .apart .size))) refl)
+
+pub put-cells-spec : {M : Type 1} → statement M
+put-cells-spec =
+    tie.close
+    (tie.spec
+    states-at-requires
+    add-s
+    keys-at-requires
+    mul-put4
+    add-put4
+    put4-requires
+    refs-at-requires
+    mul-put2
+    add-put2
+    put2-requires
+    slice-write-m
+    same-length
+    returns)

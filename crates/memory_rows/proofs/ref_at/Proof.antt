@@ -1,0 +1,20 @@
+use Rattle.memory_bytes.specs.Bytes.{le2}
+use mathlib.Core.Path.{ap, _∙_}
+use borrow.Author.Needs.{needs}
+use Rattle.memory_rows.proofs.ref_at.Statement.{statement}
+use Rattle.memory_rows.proofs.ref_at.Tie as tie
+
+ref-place-requires : tie.Need-ref-place-requires
+ref-place-requires c κs = search needs
+
+get2-requires : tie.Need-get2-requires
+get2-requires c κs = search needs
+
+returns : tie.Need-returns
+returns c =
+    let p1 = c .before in
+    let p3 = p1 .before .before in
+    c .get2 .ensures ∙ ap (le2 (p3 .args .m .now)) (p1 .ref-place .ensures .0)
+
+pub ref-at-spec : {M : Type 1} → statement M
+ref-at-spec = tie.close (tie.spec ref-place-requires get2-requires returns)

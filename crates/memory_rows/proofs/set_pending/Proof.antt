@@ -1,0 +1,52 @@
+use Rattle.memory_rows.proofs.Exchange.{pends}
+use native.Mathlib.Omega.{arith}
+use Prim.Native.Nat.{_+_, _*_, _%_}
+use borrow.Author.Needs.{needs}
+use Rattle.memory_rows.proofs.set_pending.Statement.{statement}
+use Rattle.memory_rows.proofs.set_pending.Tie as tie
+
+ref-place-requires : tie.Need-ref-place-requires
+ref-place-requires c κs = search needs
+
+get2-requires : tie.Need-get2-requires
+get2-requires c κs = search needs
+
+pending-code-requires : tie.Need-pending-code-requires
+pending-code-requires c κs = search needs
+
+mul-put2 : tie.Need-mul-put2
+mul-put2 c = search needs
+
+add-put2 : tie.Need-add-put2
+add-put2 c = search needs
+
+put2-requires : tie.Need-put2-requires
+put2-requires c κs = search needs
+
+same-length : tie.Need-same-length
+same-length c = search needs
+
+returns : tie.Need-returns
+returns c =
+    let p2 = c .before .before in
+    let p3 = p2 .before in
+    let p5 = p3 .before .before in
+    let p7 = p5 .before .before in
+    let st = p7 .before .before .before in
+    let a = p7 .ref-place in
+    let code = p3 .pending-code in
+    pends (st .pre .0) (st .args .i) (st .pre .1) (st .args .p) (a .ensures .0) (omega (arith, code .ensures))
+    (λ y. p5 .get2 .ensures y % 1024 + code .ensures .0 y * 1024) (p2 .put2 .ensures)
+
+pub set-pending-spec : {M : Type 1} → statement M
+set-pending-spec =
+    tie.close
+    (tie.spec
+    ref-place-requires
+    get2-requires
+    pending-code-requires
+    mul-put2
+    add-put2
+    put2-requires
+    same-length
+    returns)

@@ -1,0 +1,32 @@
+use Rattle.memory_rows.proofs.Fields.{size-is, at-most}
+use lib.Dec.{ltb}
+use Rattle.basics.specs.Basics.{if_then_else_}
+use native.Mathlib.Omega.{arith}
+use Prim.Native.Nat.{ℕ, _+_}
+use mathlib.Core.Path.{ap, sym, _∙_}
+use borrow.Author.Needs.{needs}
+use Rattle.memory_rows.proofs.size_at.Statement.{statement}
+use Rattle.memory_rows.proofs.size_at.Tie as tie
+
+state-at-requires : tie.Need-state-at-requires
+state-at-requires c κs = search needs
+
+length-of-requires : tie.Need-length-of-requires
+length-of-requires c κs = search needs
+
+record-size-requires : tie.Need-record-size-requires
+record-size-requires c κs = search needs
+
+returns : tie.Need-returns
+returns c =
+    let p1 = c .before in
+    let p2 = p1 .before in
+    let st = p2 .before .before in
+    let s = p2 .state-at .result in
+    let n = p1 .length-of in
+    let e = c .record-size .ensures ∙ ap (λ (z : ℕ). 9 + (if ltb s 128 then 4 else 0) + z) (n .ensures .0) in
+    (e ∙ sym (size-is (st .args .m .now) (st .args .i) (st .pre .1) s (p2 .state-at .ensures)), omega (arith, c .record-size .ensures, at-most (ltb s 128)))
+
+pub size-at-spec : {M : Type 1} → statement M
+size-at-spec =
+    tie.close (tie.spec state-at-requires length-of-requires record-size-requires returns)

@@ -1,0 +1,21 @@
+use lib.ListN.{getD}
+use Prim.Native.Nat.{ℕ}
+use mathlib.Core.Path.{ap}
+use borrow.Author.Needs.{needs}
+use Rattle.memory_rows.proofs.state_at.Statement.{statement}
+use Rattle.memory_rows.proofs.state_at.Tie as tie
+
+state-place-requires : tie.Need-state-place-requires
+state-place-requires c κs = search needs
+
+shared-slice-read-result : tie.Need-shared-slice-read-result
+shared-slice-read-result c = search needs
+
+returns : tie.Need-returns
+returns c =
+    let p1 = c .before in
+    let p3 = p1 .before .before in
+    ap (λ (z : ℕ). getD (p3 .args .m .now) z 0) (p1 .state-place .ensures .0)
+
+pub state-at-spec : {M : Type 1} → statement M
+state-at-spec = tie.close (tie.spec state-place-requires shared-slice-read-result returns)

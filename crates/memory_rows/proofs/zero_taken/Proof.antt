@@ -1,0 +1,76 @@
+use Rattle.memory_rows.specs.Cells.{slotIn}
+use Rattle.memory_layout.specs.Views.{slotOf}
+use Rattle.memory_bytes.proofs.Scans.{any-start, any-turn, any-end}
+use Rattle.memory_bytes.specs.Columns.{tab, equals}
+use Rattle.basics.specs.Basics.{any}
+use native.Mathlib.Omega.{arith}
+use Prim.Native.Nat.{ℕ, _+_, _*_, _-_, _≤_}
+use Rattle.memory_bytes.specs.Bytes.{le2}
+use mathlib.Core.Bool.{_||_}
+use mathlib.Core.Path.{_≡_, ap, _∙_}
+use Rattle.memory_rows.proofs.zero_taken.Statement.{statement}
+use Rattle.memory_rows.proofs.zero_taken.Tie as tie
+
+abbrev Inv-loop : tie.InvT-loop
+Inv-loop m c n a hit₀ i₀ hit i = (i ≤ n) × (any (equals 0) (tab (slotIn m c) 0 n) ≡ (hit || any (equals 0) (tab (slotIn m c) i (n - i))))
+
+abbrev μ-loop : tie.MeasureT-loop
+μ-loop m c n a hit₀ i₀ hit i = n - i
+
+refs-at-requires : tie.Need-refs-at-requires Inv-loop μ-loop
+refs-at-requires c κs = omega arith
+
+loop-holds : tie.Need-loop-holds Inv-loop μ-loop
+loop-holds c = let a = c .before .before .args in (omega arith, any-start (equals 0) (slotIn (a .m .now) (a .c)) (a .n))
+
+mul-get2 : tie.Need-mul-get2 Inv-loop μ-loop
+mul-get2 c = omega arith
+
+add-get2 : tie.Need-add-get2 Inv-loop μ-loop
+add-get2 c = omega arith
+
+get2-requires : tie.Need-get2-requires Inv-loop μ-loop
+get2-requires c κs = omega arith
+
+slot-of-requires : tie.Need-slot-of-requires Inv-loop μ-loop
+slot-of-requires c κs = omega arith
+
+add-i : tie.Need-add-i Inv-loop μ-loop
+add-i c = omega arith
+
+loop-less : tie.Need-loop-less Inv-loop μ-loop
+loop-less c = omega arith
+
+loop-again : tie.Need-loop-again Inv-loop μ-loop
+unfolding slotIn
+loop-again c =
+    let l = c .before .before .before in
+    let a = l .before .before .before .args in
+    let e = c .before .get2 .ensures ∙ ap (λ (z : ℕ). le2 (a .m .now) (z + l .loop .i * 2)) (l .before .refs-at .ensures) in (
+      omega arith,
+      any-turn (equals 0) (slotIn (a .m .now) (a .c)) (l .loop .i) (a .n) (omega arith) (l .loop .hit) (l .loop .inv .1)
+          (c .slot-of .ensures .0 ∙ ap (slotOf (a .c)) e),
+    )
+
+returns : tie.Need-returns Inv-loop μ-loop
+returns c =
+    let l = c .before in
+    let a = l .before .before .before .args in
+    any-end (equals 0) (slotIn (a .m .now) (a .c)) (l .loop .i) (a .n) (omega arith) (l .loop .hit) (l .loop .inv .1)
+
+pub zero-taken-spec : {M : Type 1} → statement M
+zero-taken-spec =
+    tie.close
+    (tie.spec
+    Inv-loop
+    μ-loop
+    refs-at-requires
+    loop-holds
+    mul-get2
+    add-get2
+    get2-requires
+    slot-of-requires
+    add-i
+    loop-less
+    loop-again
+    returns)

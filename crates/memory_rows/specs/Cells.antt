@@ -1,0 +1,128 @@
+-- What the inner functions say: numbers that are stored, slots, and cells of the rows' columns.
+use Prim.Native.Nat.{ℕ, _+_, _*_, _≤_, _<_}
+use mathlib.Core.Path.{_≡_}
+use mathlib.Core.Bool.{Bool, true, false}
+use mathlib.Core.List.{List}
+use lib.ListN.{length, getD}
+use Rattle.memory_bytes.specs.Bytes.{le4, bytes, Apart}
+use Rattle.memory_layout.specs.Places.{slotSize, keysAt, startsAt}
+use Rattle.memory_layout.specs.Views.{slotOf, keyOf, refOf, stateOf, slotPlace}
+use Rattle.basics.specs.Basics.{any}
+use Rattle.model.specs.State as model
+use Rattle.memory_bytes.specs.Columns.{tab, equals}
+use Rattle.memory_layout.specs.Flat.{capacityOf, rowsOf}
+use Rattle.memory_rows.specs.declared.Owner.{Owner}
+use Rattle.memory_rows.specs.declared.Owner.the-variants.{Committed, Tentative}
+use Rattle.memory_rows.specs.declared.Pending.{Pending}
+use Rattle.memory_rows.specs.declared.Pending.the-variants.{Nothing, Adding, Committing, Removing}
+
+-- ---- numbers that are stored
+
+-- what stands above a slot's number for a pending operation
+abbrev pub codeOf : Pending → ℕ
+codeOf Nothing = 0
+codeOf Adding = 1
+codeOf Committing = 2
+codeOf Removing = 3
+
+-- the word of an owner: the transaction above 20 bits of statement
+abbrev pub wordOf : Owner → ℕ
+wordOf Committed = 0
+wordOf (Tentative t s) = t * 1048576 + s
+
+-- a state's high bit
+abbrev pub committedBit : Owner → ℕ
+committedBit Committed = 128
+committedBit (Tentative t s) = 0
+
+-- a state's second bit
+abbrev pub markBit : Bool → ℕ
+markBit true = 64
+markBit false = 0
+
+-- a state, for a payload of n bytes
+abbrev pub stateBy : Owner → Bool → ℕ → ℕ
+stateBy o mark n = committedBit o + markBit mark + n
+
+-- ---- pending operations
+
+-- the operation, once done, leaves the row and its owner
+abbrev pub keepsOwner : model.Pending → Bool
+keepsOwner model.nothing = true
+keepsOwner model.adding = true
+keepsOwner model.committing = false
+keepsOwner model.removing = false
+
+-- ---- the capacity
+
+-- c is the capacity, and the rows and their columns have room
+pub record Capacity (m : List ℕ) (c : ℕ) : Type 0 where
+  pub is : c ≡ capacityOf m
+  pub least : 1 ≤ c
+  pub most : c ≤ 1024
+  pub long : 128 * c + 1024 ≤ length m
+  pub rows : length (rowsOf m) ≤ c
+
+-- ---- slots
+
+-- the slot of row i, for the capacity c
+unfoldable pub slotIn : List ℕ → ℕ → ℕ → ℕ
+slotIn m c i = slotOf c (refOf m c i)
+
+-- the slot of row i
+abbrev pub slotAt : List ℕ → ℕ → ℕ
+slotAt m i = slotIn m (capacityOf m) i
+
+-- a row is in slot s
+abbrev pub isTaken : List ℕ → ℕ → Bool
+isTaken m s = any (equals s) (tab (slotAt m) 0 (length (rowsOf m)))
+
+-- every row is in the slot of its own index
+pub record InOrder (m : List ℕ) : Type 0 where
+  pub slot : (i : ℕ) → i < length (rowsOf m) → slotAt m i ≡ i
+
+-- ---- cells, for the capacity c
+
+-- row k of m' has the key, the slot number and the state of row j of m
+pub record SameCells (m m' : List ℕ) (c j k : ℕ) : Type 0 where
+  pub key : keyOf m' c k ≡ keyOf m c j
+  pub ref : refOf m' c k ≡ refOf m c j
+  pub state : stateOf m' c k ≡ stateOf m c j
+
+-- bytes of the three columns may differ, and no other
+pub record ColumnsOnly (m m' : List ℕ) (c : ℕ) : Type 0 where
+  pub size : length m' ≡ length m
+  pub below : (b : ℕ) → b < keysAt c → getD m' b 0 ≡ getD m b 0
+  pub above : (b : ℕ) → startsAt c ≤ b → getD m' b 0 ≡ getD m b 0
+
+-- the memory has room for the columns
+pub record ColumnsFit (m : List ℕ) (c : ℕ) : Type 0 where
+  pub most : c ≤ 1024
+  pub long : startsAt c ≤ length m
+
+-- of n rows, those from row i on are one further up
+pub record RowsRaised (m m' : List ℕ) (c i n : ℕ) : Type 0 where
+  pub only : ColumnsOnly m m' c
+  pub before : (j : ℕ) → j < i → SameCells m m' c j j
+  pub moved : (j : ℕ) → i ≤ j → j < n → SameCells m m' c j (j + 1)
+
+-- of n rows, those behind row i are one further down
+pub record RowsLowered (m m' : List ℕ) (c i n : ℕ) : Type 0 where
+  pub only : ColumnsOnly m m' c
+  pub before : (j : ℕ) → j < i → SameCells m m' c j j
+  pub moved : (j : ℕ) → i ≤ j → j + 1 < n → SameCells m m' c (j + 1) j
+
+-- row i has these cells, and the others theirs
+pub record CellsPut (m m' : List ℕ) (c i k r s : ℕ) : Type 0 where
+  pub only : ColumnsOnly m m' c
+  pub others : (j : ℕ) → j < c → (j ≡ i → ⊥) → SameCells m m' c j j
+  pub key : keyOf m' c i ≡ k
+  pub ref : refOf m' c i ≡ r
+  pub state : stateOf m' c i ≡ s
+
+-- slot s has number n, the owner of word w and payload xs
+pub record SlotFilled (m m' : List ℕ) (s n w : ℕ) (xs : List ℕ) : Type 0 where
+  pub apart : Apart m m' (slotPlace s) slotSize
+  pub number : le4 m' (slotPlace s) ≡ n
+  pub owner : le4 m' (slotPlace s + 4) ≡ w
+  pub payload : bytes m' (slotPlace s + 8) (length xs) ≡ xs

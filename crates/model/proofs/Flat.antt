@@ -1,0 +1,276 @@
+-- What an operation at a row does, on any pages: to its page, and to the list of all tuples.
+use mathlib.Core.Path.{_≡_, refl, ap, sym, _∙_, ap₂}
+use Prim.Native.Nat.{ℕ, zero, suc, _+_, _-_, _<_, _≤_}
+use native.Mathlib.Omega.{arith}
+use mathlib.Core.Bool.{Bool, true, false}
+use mathlib.Core.List.{List, [], _∷_, _++_, map, append-assoc}
+use mathlib.Core.Option.{Option, none, some}
+use lib.ListN.{length, take, drop, getD, set, length-append, length-map, length-set, take-append-drop}
+use lib.Seq.{drop-nil, set-append-left, set-getD}
+use Rattle.basics.specs.Basics.{if_then_else_, isEmpty}
+use Rattle.basics.proofs.Facts.{by, lie}
+use Rattle.model.specs.State.{Pending, nothing, adding, committing, removing, Held, Page}
+use Rattle.model.specs.Rules.{listOf, fresh, withTuples, settle, gone, goneLater, kept, keptLater, isAdding, isRemoving, withPending}
+use Rattle.model.specs.Places.{editAt, takenAt, removeRowOn, committedAt, commitRowOn, removeRow, commitRow, onPage, tagged, removeAt, RowOn, RowByPage, RemovedNow, RemovedLater, LastStays, RemovedStays, committedTuple, CommittedRow}
+use Rattle.model.proofs.Lists.{nonempty, le-true, lt-false}
+use Rattle.model.proofs.Rows.{withTable, entries, entries-append}
+use Rattle.model.proofs.Places.{tagged-page, tagged-entries, row-here, row-past, removeAt-suc, removeAt-left, removeAt-right, entriesAt, removedOn, committedOn, entries-removeRow, entries-commitRow}
+
+-- ---- the page of a row
+
+no-page : (k : ℕ) (p : Page) (qs : List Page) → drop k [] ≡ p ∷ qs → ⊥
+no-page k p qs e = let l = ap length (sym (drop-nil k) ∙ e) in omega arith
+
+-- the first page is passed
+tagged-length : (q : Page) (qs : List Page) → length (tagged (q ∷ qs)) ≡ length (q .tuples) + length (tagged qs)
+unfolding tagged
+tagged-length q qs = length-append (map (λ h. (q .table, h)) (q .tuples)) (tagged qs) ∙ ap (λ z. z + length (tagged qs)) (length-map (q .tuples) _)
+
+on-first : (q : Page) (qs : List Page) (i j : ℕ) (p : Page) → RowOn (q ∷ qs) i 0 j p → (q ≡ p) × (i ≡ j)
+unfolding tagged
+on-first q qs i j p o = let e = o .page in (cc, omega (arith, o .place))
+
+on-later : (q : Page) (qs : List Page) (i k j : ℕ) (p : Page) → RowOn (q ∷ qs) i (suc k) j p
+    → (length (q .tuples) ≤ i) × RowOn qs (i - length (q .tuples)) k j p
+on-later q qs i k j p o =
+    let l = tagged-length q (take k qs) in
+    (omega (arith, o .place), record { page = o .page; place = omega (arith, o .place); inside = o .inside })
+
+pub row-by-page : RowByPage
+unfolding onPage
+row-by-page f [] i k j p o prev = absurd (no-page k p (drop (suc k) []) (o .page))
+row-by-page f (q ∷ qs) i zero j p o prev =
+    let w = on-first q qs i j p o in
+    row-here f i prev q qs (omega (arith, o .inside, w .1, ap (λ z. length (z .tuples)) (w .0))) ∙ ap (λ z. f z prev q qs) (w .1)
+row-by-page f (q ∷ qs) i (suc k) j p o prev =
+    let w = on-later q qs i k j p o in
+    row-past f i prev q qs (w .0) ∙ ap (λ z. listOf prev ++ z) (row-by-page f qs (i - length (q .tuples)) k j p (w .1) (some q))
+
+-- ---- all tuples
+
+module _ (E : ℕ → Page → List Held) where
+  changed-here : (i : ℕ) (p : Page) (ps : List Page) → i < length (p .tuples) → entriesAt E i (p ∷ ps) ≡ withTable (p .table) (E i p) ++ entries ps
+  unfolding entriesAt
+  changed-here i p ps h = rw (le-true (suc i) (length (p .tuples)) h, entriesAt)
+
+  changed-past : (i : ℕ) (p : Page) (ps : List Page) → length (p .tuples) ≤ i
+      → entriesAt E i (p ∷ ps) ≡ withTable (p .table) (p .tuples) ++ entriesAt E (i - length (p .tuples)) ps
+  unfolding entriesAt
+  changed-past i p ps h = rw (lt-false i (length (p .tuples)) h, entriesAt)
+
+  -- the tuples before the page, its own, those behind it
+  changed-on : (ps : List Page) (i k j : ℕ) (p : Page) → RowOn ps i k j p
+      → entriesAt E i ps ≡ tagged (take k ps) ++ (map (λ h. (p .table, h)) (E j p) ++ tagged (drop (suc k) ps))
+  unfolding tagged
+  changed-on [] i k j p o = absurd (no-page k p (drop (suc k) []) (o .page))
+  changed-on (q ∷ qs) i zero j p o =
+      let w = on-first q qs i j p o in
+      changed-here i q qs (omega (arith, o .inside, w .1, ap (λ z. length (z .tuples)) (w .0)))
+      ∙ ap₂ (λ z n. withTable (z .table) (E n z) ++ entries qs) (w .0) (w .1)
+      ∙ sym (ap₂ (λ a b. a ++ b) (tagged-page (p .table) (E j p)) (tagged-entries qs))
+  changed-on (q ∷ qs) i (suc k) j p o =
+      let w = on-later q qs i k j p o in
+      changed-past i q qs (w .0)
+      ∙ ap₂ (λ a b. a ++ b) (sym (tagged-page (q .table) (q .tuples))) (changed-on qs (i - length (q .tuples)) k j p (w .1))
+      ∙ sym (append-assoc (map (λ h. (q .table, h)) (q .tuples)) (tagged (take k qs)) _)
+
+tagged-append : (a b : List Page) → tagged (a ++ b) ≡ tagged a ++ tagged b
+tagged-append a b = tagged-entries (a ++ b) ∙ entries-append a b ∙ sym (ap₂ (λ x y. x ++ y) (tagged-entries a) (tagged-entries b))
+
+tagged-on : (ps : List Page) (i k j : ℕ) (p : Page) → RowOn ps i k j p
+    → tagged ps ≡ tagged (take k ps) ++ (map (λ h. (p .table, h)) (p .tuples) ++ tagged (drop (suc k) ps))
+tagged-on ps i k j p o = ap tagged (sym (take-append-drop k ps) ∙ ap (λ z. take k ps ++ z) (o .page)) ∙ tagged-append (take k ps) (p ∷ drop (suc k) ps)
+    ∙ (unfold tagged in refl)
+
+module _ {A : Type 0} where
+  set-right : (a b : List A) (j : ℕ) (x : A) → set (a ++ b) (length a + j) x ≡ a ++ set b j x
+  set-right [] b j x = let z : 0 + j ≡ j = omega arith in ap (λ n. set b n x) z
+  set-right (y ∷ a) b j x =
+      let z : suc (length a) + j ≡ suc (length a + j) = omega arith in
+      ap (λ n. set (y ∷ (a ++ b)) n x) z ∙ ap (λ l. y ∷ l) (set-right a b j x)
+
+  -- element j of the middle part
+  remove-middle : (a b c : List A) (j : ℕ) → j < length b → removeAt (length a + j) (a ++ (b ++ c)) ≡ a ++ (removeAt j b ++ c)
+  remove-middle a b c j h =
+      let z : length a + j - length a ≡ j = omega arith in
+      removeAt-right (length a + j) a (b ++ c) (omega arith) ∙ ap (λ n. a ++ removeAt n (b ++ c)) z ∙ ap (λ l. a ++ l) (removeAt-left j b c h)
+
+  set-middle : (a b c : List A) (j : ℕ) (x : A) → j < length b → set (a ++ (b ++ c)) (length a + j) x ≡ a ++ (set b j x ++ c)
+  set-middle a b c j x h = set-right a (b ++ c) j x ∙ ap (λ l. a ++ l) (set-append-left b c j x h)
+
+map-set : {A B : Type 0} (f : A → B) (xs : List A) (j : ℕ) (x : A) → map f (set xs j x) ≡ set (map f xs) j (f x)
+map-set f [] j x = refl
+map-set f (y ∷ ys) zero x = refl
+map-set f (y ∷ ys) (suc j) x = ap (λ l. f y ∷ l) (map-set f ys j x)
+
+map-remove : {A B : Type 0} (f : A → B) (xs : List A) (j : ℕ) → j < length xs → map f (removeAt j xs) ≡ removeAt j (map f xs)
+map-remove f [] j h = absurd (omega arith)
+map-remove f (y ∷ ys) zero h = refl
+map-remove f (y ∷ ys) (suc j) h =
+    ap (map f) (removeAt-suc j y ys) ∙ ap (λ l. f y ∷ l) (map-remove f ys j (omega arith)) ∙ sym (removeAt-suc j (f y) (map f ys))
+
+-- ---- one tuple of a page
+
+module _ (g : Held → List Held) (d : Held) where
+  pub edit-none : (hs : List Held) (j : ℕ) → j < length hs → g (getD hs j d) ≡ [] → editAt g j hs ≡ removeAt j hs
+  unfolding editAt
+  edit-none [] j h e = absurd (omega arith)
+  edit-none (x ∷ xs) zero h e = ap (λ z. z ++ xs) e
+  edit-none (x ∷ xs) (suc j) h e = ap (λ z. x ∷ z) (edit-none xs j (omega arith) e) ∙ sym (removeAt-suc j x xs)
+
+  pub edit-one : (x : Held) (hs : List Held) (j : ℕ) → g (getD hs j d) ≡ x ∷ [] → editAt g j hs ≡ set hs j x
+  unfolding editAt
+  edit-one x [] j e = refl
+  edit-one x (y ∷ ys) zero e = ap (λ z. z ++ ys) e
+  edit-one x (y ∷ ys) (suc j) e = ap (λ z. y ∷ z) (edit-one x ys j e)
+
+removed-length : {A : Type 0} (xs : List A) (j : ℕ) → j < length xs → suc (length (removeAt j xs)) ≡ length xs
+removed-length [] j h = absurd (omega arith)
+removed-length (x ∷ xs) zero h = refl
+removed-length (x ∷ xs) (suc j) h = let r = removed-length xs j (omega arith) in let e = ap length (removeAt-suc j x xs) in omega arith
+
+taken-is : (j : ℕ) (hs left : List Held) → editAt goneLater j hs ≡ left → 0 < length left → takenAt j hs ≡ left
+unfolding takenAt if_then_else_
+taken-is j hs left e l = ap (λ z. if isEmpty z then hs else z) e ∙ ap (λ b. if b then hs else left) (nonempty left l)
+
+taken-not : (j : ℕ) (hs : List Held) → editAt goneLater j hs ≡ [] → takenAt j hs ≡ hs
+unfolding takenAt if_then_else_ isEmpty
+taken-not j hs e = ap (λ z. if isEmpty z then hs else z) e
+
+module _ (p : Page) (j : ℕ) (d : Held) (inside : j < length (p .tuples)) where
+  later-gone : isAdding (getD (p .tuples) j d .pending) ≡ true → editAt goneLater j (p .tuples) ≡ removeAt j (p .tuples)
+  unfolding goneLater if_then_else_
+  later-gone a = edit-none goneLater d (p .tuples) j inside (rw a)
+
+  page-removed : (p .frozen ≡ true → (isAdding (getD (p .tuples) j d .pending) ≡ true) × (1 < length (p .tuples))) → removedOn j p ≡ removeAt j (p .tuples)
+  page-removed f = by (p .frozen) (λ h. frozen h (f h)) (λ h. thawed h)
+    where
+      frozen : p .frozen ≡ true → (isAdding (getD (p .tuples) j d .pending) ≡ true) × (1 < length (p .tuples)) → removedOn j p ≡ removeAt j (p .tuples)
+      frozen h a = unfold removedOn if_then_else_ in ap (λ b. if b then takenAt j (p .tuples) else editAt gone j (p .tuples)) h
+          ∙ taken-is j (p .tuples) (removeAt j (p .tuples)) (later-gone (a .0)) (omega (arith, a .1, removed-length (p .tuples) j inside))
+
+      thawed : p .frozen ≡ false → removedOn j p ≡ removeAt j (p .tuples)
+      thawed h = unfold removedOn if_then_else_ gone in ap (λ b. if b then takenAt j (p .tuples) else editAt gone j (p .tuples)) h
+          ∙ edit-none gone d (p .tuples) j inside refl
+
+  page-noted : p .frozen ≡ true → isAdding (getD (p .tuples) j d .pending) ≡ false → removedOn j p ≡ set (p .tuples) j (withPending removing (getD (p .tuples) j d))
+  unfolding removedOn if_then_else_ goneLater
+  page-noted h a =
+      ap (λ b. if b then takenAt j (p .tuples) else editAt gone j (p .tuples)) h
+      ∙ taken-is j (p .tuples) _ (edit-one goneLater d (withPending removing (getD (p .tuples) j d)) (p .tuples) j (rw a))
+      (omega (arith, length-set (p .tuples) j (withPending removing (getD (p .tuples) j d))))
+
+  page-last : isAdding (getD (p .tuples) j d .pending) ≡ true → length (p .tuples) ≡ 1 → takenAt j (p .tuples) ≡ p .tuples
+  page-last a l = taken-not j (p .tuples) (later-gone a ∙ none-left (removeAt j (p .tuples)) (omega (arith, removed-length (p .tuples) j inside)))
+    where
+      none-left : (hs : List Held) → length hs ≡ 0 → hs ≡ []
+      none-left [] e = refl
+      none-left (h ∷ hs) e = absurd (omega arith)
+
+  page-committed : committedOn j p ≡ set (p .tuples) j (committedTuple (p .frozen) (getD (p .tuples) j d))
+  page-committed = by (p .frozen) (λ h. frozen h) (λ h. thawed h)
+    where
+      both : Bool → List Held
+      both b = if b then editAt keptLater j (p .tuples) else editAt kept j (p .tuples)
+
+      later : (h : Held) → keptLater h ≡ committedTuple true h ∷ []
+      later h = unfold keptLater kept committedTuple if_then_else_ in by (isAdding (h .pending)) (λ a. rw a)
+          (λ a. by (isRemoving (h .pending)) (λ r. rw (a, r)) (λ r. rw (a, r)))
+
+      now : (h : Held) → kept h ≡ committedTuple false h ∷ []
+      now h = unfold kept committedTuple if_then_else_ in refl
+
+      frozen : p .frozen ≡ true → committedOn j p ≡ set (p .tuples) j (committedTuple (p .frozen) (getD (p .tuples) j d))
+      frozen h = unfold committedOn if_then_else_ in ap both h ∙ edit-one keptLater d (committedTuple true (getD (p .tuples) j d)) (p .tuples) j (later (getD (p .tuples) j d))
+          ∙ ap (λ b. set (p .tuples) j (committedTuple b (getD (p .tuples) j d))) (sym h)
+
+      thawed : p .frozen ≡ false → committedOn j p ≡ set (p .tuples) j (committedTuple (p .frozen) (getD (p .tuples) j d))
+      thawed h = unfold committedOn if_then_else_ in ap both h ∙ edit-one kept d (committedTuple false (getD (p .tuples) j d)) (p .tuples) j (now (getD (p .tuples) j d))
+          ∙ ap (λ b. set (p .tuples) j (committedTuple b (getD (p .tuples) j d))) (sym h)
+
+-- ---- one tuple among all
+
+module _ (ps : List Page) (i k j : ℕ) (p : Page) (o : RowOn ps i k j p) where
+  tag : Held → ℕ × Held
+  tag h = (p .table, h)
+
+  all-removed : tagged (removeRow i ps) ≡ tagged (take k ps) ++ (map tag (removedOn j p) ++ tagged (drop (suc k) ps))
+  unfolding tag
+  all-removed = tagged-entries (removeRow i ps) ∙ entries-removeRow i ps ∙ changed-on removedOn ps i k j p o
+
+  all-committed : tagged (commitRow i ps) ≡ tagged (take k ps) ++ (map tag (committedOn j p) ++ tagged (drop (suc k) ps))
+  unfolding tag
+  all-committed = tagged-entries (commitRow i ps) ∙ entries-commitRow i ps ∙ changed-on committedOn ps i k j p o
+
+  inside-tagged : j < length (map tag (p .tuples))
+  inside-tagged = omega (arith, o .inside, length-map (p .tuples) tag)
+
+  -- one tuple less on the page
+  all-less : (hs : List Held) → hs ≡ removeAt j (p .tuples) → tagged (take k ps) ++ (map tag hs ++ tagged (drop (suc k) ps)) ≡ removeAt i (tagged ps)
+  unfolding tag
+  all-less hs e =
+      ap (λ l. tagged (take k ps) ++ (l ++ tagged (drop (suc k) ps))) (ap (map tag) e ∙ map-remove tag (p .tuples) j (o .inside))
+      ∙ sym (ap₂ (λ n l. removeAt n l) (o .place) (tagged-on ps i k j p o)
+      ∙ remove-middle (tagged (take k ps)) (map tag (p .tuples)) (tagged (drop (suc k) ps)) j inside-tagged)
+
+  -- one tuple of the page changed
+  all-set : (hs : List Held) (x : Held) → hs ≡ set (p .tuples) j x → tagged (take k ps) ++ (map tag hs ++ tagged (drop (suc k) ps)) ≡ set (tagged ps) i (p .table, x)
+  unfolding tag
+  all-set hs x e =
+      ap (λ l. tagged (take k ps) ++ (l ++ tagged (drop (suc k) ps))) (ap (map tag) e ∙ map-set tag (p .tuples) j x)
+      ∙ sym (ap₂ (λ n l. set l n (p .table, x)) (o .place) (tagged-on ps i k j p o)
+      ∙ set-middle (tagged (take k ps)) (map tag (p .tuples)) (tagged (drop (suc k) ps)) j (p .table, x) inside-tagged)
+
+pub removed-now : RemovedNow
+removed-now ps i k j p d o f = all-removed ps i k j p o ∙ all-less ps i k j p o (removedOn j p) (page-removed p j d (o .inside) f)
+
+pub removed-later : RemovedLater
+removed-later ps i k j p d o f a =
+    all-removed ps i k j p o ∙ all-set ps i k j p o (removedOn j p) (withPending removing (getD (p .tuples) j d)) (page-noted p j d (o .inside) f a)
+
+pub committed-row : CommittedRow
+committed-row ps i k j p d o =
+    all-committed ps i k j p o ∙ all-set ps i k j p o (committedOn j p) (committedTuple (p .frozen) (getD (p .tuples) j d)) (page-committed p j d (o .inside))
+
+-- ---- where nothing changes
+
+-- a page that stays
+on-same : (f : Option Page → Page → List Page → List Page) (ps : List Page) (k : ℕ) (p : Page) → drop k ps ≡ p ∷ drop (suc k) ps
+    → ((o : Option Page) (qs : List Page) → f o p qs ≡ listOf o ++ p ∷ qs) → (prev : Option Page) → onPage f k prev ps ≡ listOf prev ++ ps
+unfolding onPage listOf
+on-same f [] k p e h prev = absurd (no-page k p (drop (suc k) []) e)
+on-same f (q ∷ qs) zero p e h prev = let w : q ≡ p = cc in ap (λ z. f prev z qs) w ∙ h prev qs ∙ ap (λ z. listOf prev ++ z ∷ qs) (sym w)
+on-same f (q ∷ qs) (suc k) p e h prev = ap (λ z. listOf prev ++ z) (on-same f qs k p e h (some q))
+
+pub last-stays : LastStays
+unfolding removeRow listOf
+last-stays ps i k j p d o f a l =
+    row-by-page removeRowOn ps i k j p o none ∙ on-same (removeRowOn j) ps k p (o .page) (λ r qs. stays r qs) none
+  where
+    stays : (r : Option Page) (qs : List Page) → removeRowOn j r p qs ≡ listOf r ++ p ∷ qs
+    stays r qs = unfold removeRowOn if_then_else_ withTuples in
+        ap (λ b. if b then listOf r ++ withTuples p (takenAt j (p .tuples)) ∷ qs
+        else settle (fresh (p .table) (editAt gone j (p .tuples)) ∷ []) r (fresh (p .table) (editAt gone j (p .tuples))) qs) f
+        ∙ ap (λ hs. listOf r ++ withTuples p hs ∷ qs) (page-last p j d (o .inside) a l)
+
+removing-kept : (h : Held) → isRemoving (h .pending) ≡ true → keptLater h ≡ h ∷ []
+unfolding keptLater if_then_else_
+removing-kept h r = rw (not-adding (h .pending) r, r)
+  where
+    not-adding : (w : Pending) → isRemoving w ≡ true → isAdding w ≡ false
+    not-adding nothing e = unfold isAdding in refl
+    not-adding adding e = lie (unfold isRemoving in e)
+    not-adding committing e = unfold isAdding in refl
+    not-adding removing e = unfold isAdding in refl
+
+pub removed-stays : RemovedStays
+unfolding commitRow listOf
+removed-stays ps i k j p d o f a = row-by-page commitRowOn ps i k j p o none ∙ on-same (commitRowOn j) ps k p (o .page) (λ r qs. stays r qs) none
+  where
+    same : editAt keptLater j (p .tuples) ≡ p .tuples
+    same = edit-one keptLater d (getD (p .tuples) j d) (p .tuples) j (removing-kept (getD (p .tuples) j d) a) ∙ set-getD (p .tuples) j d
+
+    stays : (r : Option Page) (qs : List Page) → commitRowOn j r p qs ≡ listOf r ++ p ∷ qs
+    stays r qs = unfold commitRowOn committedAt if_then_else_ withTuples in
+        ap (λ b. listOf r ++ (if b then withTuples p (editAt keptLater j (p .tuples)) else fresh (p .table) (editAt kept j (p .tuples))) ∷ qs) f
+        ∙ ap (λ hs. listOf r ++ withTuples p hs ∷ qs) same

@@ -1,0 +1,19 @@
+use Rattle.rows.specs.Chains.{isStart}
+use borrow.Author.Tests.{eq-eqb, ne-eqb}
+use borrow.Author.Needs.{needs}
+use Rattle.rows.proofs.is_start.Statement.{statement}
+use Rattle.rows.proofs.is_start.Tie as tie
+
+returns : tie.Need-returns
+unfolding isStart
+returns c = rw (eq-eqb _ _ (c .if1 .taken))
+
+sub-result : tie.Need-sub-result
+sub-result c = search needs
+
+returns-2 : tie.Need-returns-2
+unfolding isStart
+returns-2 c = rw (ne-eqb _ _ (c .if1 .left))
+
+pub is-start-spec : {M : Type 1} → statement M
+is-start-spec = tie.close (tie.spec returns sub-result returns-2)

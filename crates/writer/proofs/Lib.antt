@@ -1,5 +1,0 @@
-pub mod Numbered
-pub mod Headers
-pub mod Showing
-pub mod Recorded
-pub mod Writing
