@@ -1,2 +1,3 @@
+pub mod Ands
 pub mod Facts
 pub mod Lists

@@ -1,6 +1,6 @@
 -- Rows from s up to e, turn by turn: their sizes, and tests over them.
 use mathlib.Core.Path.{_≡_, refl, sym, ap, _∙_}
-use mathlib.Core.Bool.{Bool, true, false, _||_}
+use mathlib.Core.Bool.{Bool, true, false, _||_, or-assoc}
 use Prim.Native.Nat.{ℕ, zero, suc, _+_, _*_, _-_, _≤_, _<_}
 use native.Mathlib.Omega.{arith}
 use native.Mathlib.Numerals.{add-one}
@@ -16,6 +16,7 @@ use Rattle.model.specs.State.{Held}
 use Rattle.model.specs.Rules.{heldSize, lead}
 use Rattle.model.proofs.Splits.{Small}
 use Rattle.model.proofs.Lists.{any-cons, all-take, all-drop}
+use Rattle.memory_bytes.proofs.Scans.{or-none}
 use Rattle.memory_layout.specs.Flat.{flatOf, capacityOf, rowIn, noRow, Room}
 use Rattle.memory_layout.specs.Views.{lengthOf, stateOf}
 use Rattle.memory_rows.proofs.Fields.{size-is}
@@ -81,19 +82,17 @@ module _ (m : List ℕ) (i e : ℕ) where
     unfolding lead
     lead-end h = ap (lead w a) (rows-none h)
 
-  module _ (f : Held → Bool) (h : i < e) (l : e ≤ length (flatOf m .rows)) {b : Bool} (eb : b ≡ f (rowIn (flatOf m) i)) where
-    any-next : any f (rowsFrom m i e) ≡ (b || any f (rowsFrom m (i + 1) e))
-    any-next = ap (any f) (rows-next h l) ∙ any-cons f (rowIn (flatOf m) i) (rowsFrom m (i + 1) e) ∙ ap (λ z. z || any f (rowsFrom m (i + 1) e)) (sym eb)
+  -- whether a row has a property: w is the answer, hit that of the rows before row i
+  module _ (f : Held → Bool) (hit : Bool) {w : Bool} (p : w ≡ (hit || any f (rowsFrom m i e))) where
+    pub any-turn : i < e → e ≤ length (flatOf m .rows) → {b : Bool} → b ≡ f (rowIn (flatOf m) i) → w ≡ ((hit || b) || any f (rowsFrom m (i + 1) e))
+    any-turn h l {b} eb =
+        let rest : Bool = any f (rowsFrom m (i + 1) e) in
+        p ∙ ap (λ z. hit || any f z) (rows-next h l) ∙ ap (λ z. hit || z) (any-cons f (rowIn (flatOf m) i) (rowsFrom m (i + 1) e))
+        ∙ ap (λ z. hit || (z || rest)) (sym eb) ∙ sym (or-assoc hit b rest)
 
-    pub any-stop : b ≡ true → any f (rowsFrom m i e) ≡ true
-    any-stop k = any-next ∙ ap (λ z. z || any f (rowsFrom m (i + 1) e)) k
-
-    pub any-go : b ≡ false → any f (rowsFrom m i e) ≡ any f (rowsFrom m (i + 1) e)
-    any-go k = any-next ∙ ap (λ z. z || any f (rowsFrom m (i + 1) e)) k
-
-  pub any-none : (f : Held → Bool) → e ≤ i → any f (rowsFrom m i e) ≡ false
-  unfolding any
-  any-none f h = ap (any f) (rows-none h)
+    pub any-end : e ≤ i → hit ≡ w
+    unfolding any
+    any-end h = sym (p ∙ ap (λ z. hit || any f z) (rows-none h) ∙ or-none hit)
 
 -- a turn of a loop over the rows from s up to e: it is at row i, of size w, and the rows before it have size all
 pub record Turn (m : List ℕ) (s e i all w : ℕ) : Type 0 where

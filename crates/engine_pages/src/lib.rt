@@ -11,8 +11,7 @@ ghost use lib.ListN.{length, take, drop};
 ghost use lib.Dec.{leb};
 ghost use Rattle.basics.specs.Basics.{sum, any};
 ghost use Rattle.blocks.specs.Limits.{joinSum};
-ghost use Rattle.model.specs.Rules.{heldSize, lead, fresh, withTuples, joins, isAdding, isCommitting, isRemoving, splitAll, freeze, calm, ripe, thaw, isFrozen, place};
-ghost use Rattle.memory_bytes.specs.Columns.{firstIndex};
+ghost use Rattle.model.specs.Rules.{heldSize, lead, fresh, withTuples, joins, isAdding, isCommitting, isRemoving, splitAll, freeze, calm, ripe, thaw, place};
 ghost use Rattle.model.specs.Places.{takenAt, removeRow, committedAt, commitRow};
 ghost use Rattle.memory_layout.specs.Flat.{flatOf, rowIn, Room, Becomes};
 ghost use Rattle.memory_rows.specs.Rows.{withRow};
@@ -123,20 +122,19 @@ fn is_pending(m: &[u8], i: usize) -> bool
     }
 }
 
-// Whether a row of page p has a pending operation.
+// Whether a row of page p has a pending operation: no branch, since nearly no row has one.
 fn has_pending(m: &[u8], p: usize) -> bool
     requires { ⌜ There (now m) p ⌝ }
     ensures { λ r. ⌜ r ≡ any waits (tuplesAt (now (m .entry)) p) ⌝ }
 {
     let e = memory_pages::start_of(m, p + 1);
+    let mut hit = false;
     let mut i = memory_pages::start_of(m, p);
     while i < e {
-        if is_pending(m, i) {
-            return true;
-        }
+        hit = hit | is_pending(m, i);
         i += 1;
     }
-    false
+    hit
 }
 
 // ---- joining
@@ -404,14 +402,6 @@ fn apply_pending(m: &mut [u8], p: usize) -> usize
     }
     memory_pages::set_page(m, p, 0, false);
     left
-}
-
-// The first frozen page, or how many pages there are.
-pub fn find_frozen(m: &[u8]) -> usize
-    requires { ⌜ holdsStore (now m) ≡ true ⌝ }
-    ensures { λ r. ⌜ r ≡ firstIndex isFrozen (pagesOf (now (m .entry))) ⌝ }
-{
-    memory_pages::first_frozen(m)
 }
 
 // Page p, the first frozen one, is stored as block b: it is clean if nothing was pending, else dropped, joined or split.

@@ -18,7 +18,7 @@ use Rattle.blocks.specs.Decode.{readTuples, decodeBlock}
 use Rattle.blocks.specs.declared.Header.{Header}
 use Rattle.rows.specs.Rows.{Row, rowsOf, markOk, rowsOk}
 use Rattle.rows.specs.Columns.{bare, tab, rowsIn, columnsOk}
-use Rattle.rows.proofs.Ands.{and-yes, and-no, and-assoc}
+use Rattle.basics.proofs.Ands.{and-yes, and-no, and-assoc}
 use Rattle.rows.proofs.Turns.{drop-turn, drop-end}
 use Rattle.rows.proofs.Bare.{columns-bare, rows-tests}
 use Rattle.one_page.specs.Page.{goodPage}

@@ -21,7 +21,7 @@ use Rattle.reader.specs.declared.Reading.{Reading}
 use Rattle.reader.specs.declared.Reading.the-variants.{IsHeader}
 use Rattle.reader.proofs.Answering.{OneOfThese}
 use Rattle.rows.specs.Rows.{rowsOk}
-use Rattle.rows.proofs.Ands.{and-no}
+use Rattle.basics.proofs.Ands.{and-no}
 use Rattle.image.specs.View.{View, view, blockAt, blockCount}
 use Rattle.image.specs.Stages.{Stage, refuses, holds, wholeBlocks, blockOk, numbersOf, directoryBlocks, headerOk, headerTest, addEntries, readDirectories, entriesOk, testedEntries, directoryTest, StoredPage, addPage, pageOk, readPages, rowsOfPages, testedPages, pageTest}
 use Rattle.image.specs.Whole.{headerStage, pagesBelow, pagesStage, withHeader, afterHeader, readImage}

@@ -7,6 +7,7 @@ use native.Mathlib.Nat.{zero-add, suc-add}
 use native.Mathlib.Omega.{arith}
 use lib.ListN.{length}
 use Rattle.basics.specs.Basics.{any, howMany, paired, if_then_else_}
+use Rattle.basics.proofs.Ands.{and-yes, and-assoc}
 use Rattle.memory_bytes.specs.Columns.{tab, firstIndex, lastIndex}
 use Rattle.memory_bytes.specs.Bytes.{le2, le4, column2, column4}
 use Rattle.memory_bytes.proofs.Columns.{tab-add, tab-cong, length-tab}
@@ -54,7 +55,7 @@ pub or-split : (a b : Bool) → (a || b) ≡ false → (a ≡ false) × (b ≡ f
 or-split false b h = (refl, h)
 or-split true b h = let z : _≡_ {A = ℕ} 0 1 = cc in absurd (omega arith)
 
-or-none : (b : Bool) → (b || false) ≡ b
+pub or-none : (b : Bool) → (b || false) ≡ b
 or-none true = refl
 or-none false = refl
 
@@ -213,14 +214,6 @@ module _ {A : Type 0} (f : A → Bool) (g : ℕ → A) (i n k : ℕ) {w : ℕ} (
 
 -- ---- neighbours: w is the answer, ok that of the pairs below i
 
-and-assoc : (a b c : Bool) → (a && (b && c)) ≡ ((a && b) && c)
-and-assoc true b c = refl
-and-assoc false b c = refl
-
-and-all : (b : Bool) → (b && true) ≡ b
-and-all true = refl
-and-all false = refl
-
 module _ {A : Type 0} (f : A → A → Bool) (g : ℕ → A) (i n : ℕ) (ok : Bool) {w : Bool} (p : w ≡ (ok && paired f (tab g i (n - i + 1)))) where
   pub paired-turn : {x y : A} → i < n → x ≡ g i → y ≡ g (i + 1) → w ≡ ((ok && f x y) && paired f (tab g (i + 1) (n - (i + 1) + 1)))
   unfolding paired
@@ -234,11 +227,11 @@ module _ {A : Type 0} (f : A → A → Bool) (g : ℕ → A) (i n : ℕ) (ok : B
       ∙ ap (λ (z : List A). ok && (f (g i) (g (i + 1)) && paired f z)) (sym a)
       ∙ ap (λ (z : A). ok && (f z (g (i + 1)) && paired f (tab g (i + 1) (n - (i + 1) + 1)))) (sym e1)
       ∙ ap (λ (z : A). ok && (f x z && paired f (tab g (i + 1) (n - (i + 1) + 1)))) (sym e2)
-      ∙ and-assoc ok (f x y) (paired f (tab g (i + 1) (n - (i + 1) + 1)))
+      ∙ sym (and-assoc ok (f x y) (paired f (tab g (i + 1) (n - (i + 1) + 1))))
 
   pub paired-end : n ≤ i → ok ≡ w
   unfolding paired
-  paired-end h = let q : n - i + 1 ≡ 1 = omega arith in sym (p ∙ ap (λ (k : ℕ). ok && paired f (tab g i k)) q ∙ and-all ok)
+  paired-end h = let q : n - i + 1 ≡ 1 = omega arith in sym (p ∙ ap (λ (k : ℕ). ok && paired f (tab g i k)) q ∙ and-yes ok)
 
 pub paired-start : {A : Type 0} (f : A → A → Bool) (g : ℕ → A) (n : ℕ) → paired f (tab g 0 (n + 1)) ≡ paired f (tab g 0 (n - 0 + 1))
 paired-start f g n = let e : n + 1 ≡ n - 0 + 1 = omega arith in ap (λ (z : ℕ). paired f (tab g 0 z)) e

@@ -12,7 +12,7 @@ use lib.Dec.{leb, ltb, eqb}
 use borrow.Author.Tests.{le-leb, leb-true, lt-ltb, le-ltb, ltb-true, eq-eqb, lt-leb, ne-eqb}
 use Rattle.basics.specs.Basics.{if_then_else_, every, all, paired, from}
 use Rattle.basics.proofs.Facts.{and-true}
-use Rattle.rows.proofs.Ands.{and-yes, and-no, and-assoc}
+use Rattle.basics.proofs.Ands.{and-yes, and-no, and-assoc}
 use Rattle.model.specs.Recover.{memoryFor}
 use Rattle.memory_bytes.specs.Bytes.{le2, le4, column2}
 use Rattle.memory_bytes.specs.Columns.{tab}

@@ -1,7 +1,6 @@
 // The page entries of the working memory: two columns, first rows and blocks, and the ends of the tables in the head. A page's table and
 // how many rows it has are not stored: the ends and the first rows say them. docs/LAYOUT.md says what stands where.
 // Each function that changes the memory promises one equation on the flat lists that it holds.
-use memory_layout::Entry;
 use memory_rows::Row;
 ghost use mathlib.Core.Path.{_≡_};
 ghost use Prim.Native.Nat.{_+_, _*_, _≤_, _<_};
@@ -148,21 +147,6 @@ pub fn table_of(m: &[u8], p: usize) -> u8
     ensures { λ r. ⌜ (r ≡ entryIn (flatOf (now (m .entry))) p .table) × (r < 8) ⌝ }
 {
     memory_bytes::count_up_to2(m, TABLE_ENDS, 0, LAST_TABLE, p as u16) as u8
-}
-
-// Page p.
-pub fn get_entry(m: &[u8], p: usize) -> Entry
-    requires { ⌜ Room (now m) × (p < length (flatOf (now m) .entries)) ⌝ }
-    ensures { λ r. ⌜ r ≡ entryIn (flatOf (now (m .entry))) p ⌝ }
-{
-    let start = start_at(m, p);
-    let end = start_at(m, p + 1);
-    Entry {
-        table: table_of(m, p),
-        frozen: frozen_at(m, p),
-        count: (end - start) as u16,
-        block: block_at(m, p),
-    }
 }
 
 // The page, of those from page a up to, not including, page b, that has row i: the last one that starts at or before it.

@@ -11,7 +11,7 @@ use borrow.Author.Tests.{eqb-true, leb-true, not-false}
 use Rattle.basics.specs.Basics.{all, every, distinct}
 use Rattle.basics.proofs.Facts.{and-true}
 use Rattle.blocks.specs.declared.Header.{Header}
-use Rattle.rows.proofs.Ands.{and-yes, and-assoc}
+use Rattle.basics.proofs.Ands.{and-yes, and-assoc}
 use Rattle.naming.specs.Names.{blockOk, isZero, directoriesFor, numbersOf, directoryBlocks, unusedNumbers, headerOk, countsOk}
 
 -- the counts of a header that passed

@@ -19,7 +19,7 @@ use Rattle.reader.specs.declared.Reading.the-variants.{IsPage}
 use Rattle.reader.proofs.Answering.{answer-page, OneOfThese}
 use Rattle.reader.proofs.Walk.{walk-start}
 use Rattle.rows.specs.Rows.{rowsOf, markOk}
-use Rattle.rows.proofs.Ands.{and-assoc}
+use Rattle.basics.proofs.Ands.{and-assoc}
 use Rattle.one_page.specs.Page.{pageOk, goodPage}
 use Rattle.one_page.specs.declared.GoodPage.the-variants.{Good, Bad}
 

@@ -1,23 +1,24 @@
 -- The comparison of two lists from an index on: a turn of its loop.
-use mathlib.Core.Path.{_≡_}
-use mathlib.Core.Bool.{true, false}
+use mathlib.Core.Path.{_≡_, sym, ap, _∙_}
+use mathlib.Core.Bool.{Bool, true, _&&_}
 use mathlib.Core.List.{List}
 use Prim.Native.Nat.{ℕ, _+_, _≤_, _<_}
 use native.Mathlib.Numerals.{add-one}
+use lib.Dec.{eqb}
 use lib.ListN.{length, drop, getD, drop-of-length-le}
 use lib.Seq.{drop-cons}
-use borrow.Author.Tests.{eq-eqb, ne-eqb}
 use Rattle.blocks.specs.Numbers.{same}
+use Rattle.basics.proofs.Ands.{and-yes, and-assoc}
 
-module _ (a b : List ℕ) (i : ℕ) where
-  pub same-turn : i < length a → i < length b → getD a i 0 ≡ getD b i 0 → same (drop i a) (drop i b) ≡ same (drop (i + 1) a) (drop (i + 1) b)
+-- what is known of the two lists so far, and what is left to compare
+module _ (a b : List ℕ) (i : ℕ) (ok : Bool) (known : same a b ≡ (ok && same (drop i a) (drop i b))) where
+  pub same-turn : i < length a → i < length b → same a b ≡ ((ok && eqb (getD a i 0) (getD b i 0)) && same (drop (i + 1) a) (drop (i + 1) b))
   unfolding same
-  same-turn ha hb e = rw (drop-cons a i 0 ha, drop-cons b i 0 hb, eq-eqb (getD a i 0) (getD b i 0) e, add-one i)
+  same-turn ha hb =
+      let e : same (drop i a) (drop i b) ≡ (eqb (getD a i 0) (getD b i 0) && same (drop (i + 1) a) (drop (i + 1) b)) =
+      rw (drop-cons a i 0 ha, drop-cons b i 0 hb, add-one i) in
+      known ∙ ap (λ (z : Bool). ok && z) e ∙ sym (and-assoc ok (eqb (getD a i 0) (getD b i 0)) (same (drop (i + 1) a) (drop (i + 1) b)))
 
-  pub same-stop : i < length a → i < length b → (getD a i 0 ≡ getD b i 0 → ⊥) → same (drop i a) (drop i b) ≡ false
+  pub same-end : length a ≤ i → length b ≤ i → ok ≡ same a b
   unfolding same
-  same-stop ha hb e = rw (drop-cons a i 0 ha, drop-cons b i 0 hb, ne-eqb (getD a i 0) (getD b i 0) e)
-
-  pub same-end : length a ≤ i → length b ≤ i → same (drop i a) (drop i b) ≡ true
-  unfolding same
-  same-end ha hb = rw (drop-of-length-le a ha, drop-of-length-le b hb)
+  same-end ha hb = sym (known ∙ rw (drop-of-length-le a ha, drop-of-length-le b hb) (and-yes ok))

@@ -90,19 +90,18 @@ impl Cursor {
     }
 }
 
-// The two blocks are the same.
+// The two blocks are the same: no branch, since nearly every block that is read is well formed.
 fn same_block(a: &[u8], b: &[u8]) -> bool
     requires { ⌜ (length (now a) ≡ 512) × (length (now b) ≡ 512) ⌝ }
     ensures { λ r. ⌜ r ≡ same (now (a .entry)) (now (b .entry)) ⌝ }
 {
+    let mut ok = true;
     let mut i: usize = 0;
     while i < 512 {
-        if a[i] != b[i] {
-            return false;
-        }
+        ok = ok & (a[i] == b[i]);
         i = i + 1;
     }
-    true
+    ok
 }
 
 // The number in at most 32 bits of a block.

@@ -8,7 +8,7 @@ use lib.Dec.{leb}
 use Rattle.basics.specs.Basics.{if_then_else_, all, every, paired, distinct}
 use Rattle.rows.specs.Rows.{Row, number, isAt, isLower, follows, startsWell, isBelow, statementOk, transactions, openLimit, markOk, rowsOk}
 use Rattle.rows.specs.Columns.{bare, columnsOk}
-use Rattle.rows.proofs.Ands.{and-assoc, and-comm, and-swap}
+use Rattle.basics.proofs.Ands.{and-assoc, and-comm, and-swap}
 use Rattle.rows.proofs.Kept.{paired-kept, numbers-kept, below-kept, transactions-kept, statements-kept}
 
 -- ---- tests

@@ -12,7 +12,7 @@ use Rattle.basics.specs.Basics.{if_then_else_, all, every, paired, howMany, dis
 use Rattle.blocks.specs.Tuple.{Owner, committed, tentative}
 use Rattle.rows.specs.Rows.{Row, number, isBy, isOwn, follows, startsWell, isBelow, earlierBy, statementIs, statementOk, transactions, openLimit}
 use Rattle.rows.specs.Columns.{codedOwner, coded, rowAt, tab, rowsIn, columnsOk}
-use Rattle.rows.proofs.Ands.{and-yes, and-assoc}
+use Rattle.basics.proofs.Ands.{and-yes, and-assoc}
 
 module _ {A : Type 0} (f g : A → Bool) (h : A → A) (e : (x : A) → f (h x) ≡ g x) where
   pub all-kept : (xs : List A) → all f (map h xs) ≡ all g xs

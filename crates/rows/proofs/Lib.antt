@@ -1,4 +1,3 @@
-pub mod Ands
 pub mod Turns
 pub mod Owners
 pub mod Chains

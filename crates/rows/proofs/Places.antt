@@ -12,7 +12,7 @@ use Rattle.basics.proofs.Facts.{by}
 use Rattle.blocks.specs.Tuple.{committed}
 use Rattle.rows.specs.Rows.{isAt, isLower, ownerAfter, follows, startsWell}
 use Rattle.rows.specs.Columns.{coded, codedOwner, rowAt, tab, rowsIn}
-use Rattle.rows.proofs.Ands.{and-yes, and-no}
+use Rattle.basics.proofs.Ands.{and-yes, and-no}
 use Rattle.rows.proofs.Turns.{tab-whole, pair-turn, pair-stop}
 
 abbrev B : ℕ

@@ -2,7 +2,7 @@
 use native.Mathlib.Omega.{arith}
 use borrow.Author.Needs.{needs}
 use Rattle.basics.specs.Basics.{all}
-use Rattle.rows.proofs.Ands.{and-yes, and-assoc}
+use Rattle.basics.proofs.Ands.{and-yes, and-assoc}
 use Rattle.call_checkpoint.specs.Counting.{isNamed, fourNamed}
 use Rattle.call_checkpoint.proofs.Tallies.{sizes}
 use Rattle.call_checkpoint.proofs.four_named.Statement.{statement}

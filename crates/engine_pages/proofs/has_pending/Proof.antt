@@ -1,31 +1,28 @@
+-- `engine_pages::has_pending` meets its contract.
 use native.Mathlib.Omega.{arith}
-use Rattle.engine_pages.proofs.Sizes.{any-stop, any-go, any-none}
+use Rattle.engine_pages.proofs.Sizes.{any-turn, any-end}
 use Rattle.engine_pages.proofs.Places.{few-pages, few-rows, room, start-there, next-there, page-span, tuples-are}
 use Rattle.engine_pages.specs.Pending.{waits}
-use Rattle.engine_pages.specs.Pages.{tuplesAt, rowsFrom, firstRow, Span}
+use Rattle.engine_pages.specs.Pages.{tuplesAt, rowsFrom, Span}
 use Rattle.basics.specs.Basics.{any}
-use mathlib.Core.Bool.{true, false, _||_}
+use mathlib.Core.Bool.{_||_}
 use mathlib.Core.Path.{_≡_, refl, ap, sym, _∙_}
-use Prim.Native.Nat.{_+_, _-_, _≤_, _<_}
-use Rattle.memory_layout.specs.Flat.{flatOf}
+use Prim.Native.Nat.{_-_, _≤_}
 use Rattle.engine_pages.proofs.has_pending.Statement.{statement}
 use Rattle.engine_pages.proofs.has_pending.Tie as tie
 
 abbrev Inv-loop : tie.InvT-loop
-Inv-loop m p e i₀ i = (i₀ ≤ i) × ((i ≤ e) × (any waits (rowsFrom m i₀ e) ≡ any waits (rowsFrom m i e)))
+Inv-loop m p e hit₀ i₀ hit i = (i₀ ≤ i) × ((i ≤ e) × (any waits (rowsFrom m i₀ e) ≡ (hit || any waits (rowsFrom m i e))))
 
 abbrev μ-loop : tie.MeasureT-loop
-μ-loop m p e i₀ i = e - i
+μ-loop m p e hit₀ i₀ hit i = e - i
 
--- src/lib.rt:124:39
 add-start-of : tie.Need-add-start-of Inv-loop μ-loop
 add-start-of c = let a = c .before .pre in omega (arith, a .inside, few-pages (room a))
 
--- src/lib.rt:124:9
 start-of-requires : tie.Need-start-of-requires Inv-loop μ-loop
 start-of-requires c κs = next-there (c .before .pre)
 
--- src/lib.rt:125:9
 start-of-requires-2 : tie.Need-start-of-requires-2 Inv-loop μ-loop
 start-of-requires-2 c κs = start-there (c .before .before .pre)
 
@@ -37,48 +34,34 @@ tuples : (c : tie.After-start-of2 Inv-loop μ-loop) → let a = c .before .befor
     any waits (tuplesAt (a .m .now) (a .p)) ≡ any waits (rowsFrom (a .m .now) (c .start-of2 .result) (c .before .start-of .result))
 tuples c = ap (any waits) (sym (tuples-are (c .before .before .before .pre) (c .start-of2 .ensures .0) (c .before .start-of .ensures .0)))
 
--- src/lib.rt:126:5
 loop-holds : tie.Need-loop-holds Inv-loop μ-loop
 loop-holds c = (omega arith, (omega (arith, spanned c .order), refl))
 
--- src/lib.rt:127:12
 is-pending-requires : tie.Need-is-pending-requires Inv-loop μ-loop
 is-pending-requires c κs = let g = spanned (c .before .before) in (g .room, omega (arith, g .inside, c .loop-test .taken))
 
--- src/lib.rt:128:13
-returns : tie.Need-returns Inv-loop μ-loop
-returns c =
-    let l = c .before .before .before .loop in
-    sym (tuples (c .before .before .before .before) ∙ l .inv .1 .1
-    ∙ any-stop (c .before .before .before .before .before .before .before .args .m .now) (l .i) (c .before .before .before .before .before .start-of .result) waits
-    (c .before .before .loop-test .taken) (spanned (c .before .before .before .before) .inside) (c .before .is-pending .ensures) (c .if1 .taken))
-
--- src/lib.rt:130:9
 add-i : tie.Need-add-i Inv-loop μ-loop
-add-i c = let g = spanned (c .before .before .before .before) in let k = c .before .before .loop-test .taken in omega (arith, g .inside, few-rows (g .room))
+add-i c = let g = spanned (c .before .before .before) in let k = c .before .loop-test .taken in omega (arith, g .inside, few-rows (g .room))
 
--- src/lib.rt:126:5
 loop-less : tie.Need-loop-less Inv-loop μ-loop
-loop-less c = let k = c .before .before .loop-test .taken in omega arith
+loop-less c = let k = c .before .loop-test .taken in omega arith
 
--- src/lib.rt:126:5
 loop-again : tie.Need-loop-again Inv-loop μ-loop
 loop-again c =
-    let l = c .before .before .before .loop in
-    let k = c .before .before .loop-test .taken in (
+    let l = c .before .before .loop in
+    let s = c .before .before .before in
+    let k = c .before .loop-test .taken in (
       omega (arith, l .inv .0),
       (
         omega arith,
-        l .inv .1 .1
-            ∙ any-go (c .before .before .before .before .before .before .before .args .m .now) (l .i) (c .before .before .before .before .before .start-of .result) waits k
-            (spanned (c .before .before .before .before) .inside) (c .before .is-pending .ensures) (c .if1 .left),
+        any-turn (s .before .before .before .args .m .now) (l .i) (s .before .start-of .result) waits (l .hit) (l .inv .1 .1) k (spanned s .inside) (c .is-pending .ensures),
       ),
     )
 
--- src/lib.rt:120:1
-returns-2 : tie.Need-returns-2 Inv-loop μ-loop
-returns-2 c = let l = c .before .loop in sym (tuples (c .before .before) ∙ l .inv .1 .1 ∙ any-none (c .before .before .before .before .before .args .m .now) (l .i)
-    (c .before .before .before .start-of .result) waits (c .loop-test .left))
+returns : tie.Need-returns Inv-loop μ-loop
+returns c = let l = c .before .loop in
+    let s = c .before .before in
+    any-end (s .before .before .before .args .m .now) (l .i) (s .before .start-of .result) waits (l .hit) (l .inv .1 .1) (c .loop-test .left) ∙ sym (tuples s)
 
 pub has-pending-spec : {M : Type 1} → statement M
 has-pending-spec =
@@ -91,8 +74,7 @@ has-pending-spec =
     start-of-requires-2
     loop-holds
     is-pending-requires
-    returns
     add-i
     loop-less
     loop-again
-    returns-2)
+    returns)

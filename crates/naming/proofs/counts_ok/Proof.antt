@@ -1,6 +1,6 @@
 use borrow.Author.Tests.{le-leb, lt-leb, eq-eqb, ne-eqb}
 use borrow.Author.Needs.{needs}
-use Rattle.rows.proofs.Ands.{and-yes, and-no}
+use Rattle.basics.proofs.Ands.{and-yes, and-no}
 use Rattle.naming.specs.Names.{countsOk}
 use Rattle.basics.specs.Basics.{every}
 use Rattle.naming.proofs.counts_ok.Statement.{statement}

@@ -1,7 +1,7 @@
 use mathlib.Core.Path.{sym, _∙_}
 use borrow.Author.Tests.{not-true, not-false}
 use borrow.Author.Needs.{needs}
-use Rattle.rows.proofs.Ands.{and-yes, and-no}
+use Rattle.basics.proofs.Ands.{and-yes, and-no}
 use Rattle.naming.specs.Names.{entriesOk}
 use Rattle.basics.specs.Basics.{every, distinct}
 use Rattle.naming.proofs.entries_ok.Statement.{statement}

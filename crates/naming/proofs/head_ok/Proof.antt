@@ -4,7 +4,7 @@ use borrow.Author.Tests.{not-true, not-false}
 use native.Mathlib.Omega.{arith}
 use borrow.Author.Needs.{needs}
 use Rattle.naming.proofs.Heads.{four-used, header-tests, used, unused}
-use Rattle.rows.proofs.Ands.{and-no}
+use Rattle.basics.proofs.Ands.{and-no}
 use Rattle.naming.specs.Names.{blockOk, isZero}
 use Rattle.basics.specs.Basics.{all, distinct}
 use Rattle.naming.proofs.head_ok.Statement.{statement}

@@ -3,7 +3,7 @@ use borrow.Author.Tests.{not-true, not-false, le-leb, lt-leb}
 use native.Mathlib.Omega.{arith}
 use borrow.Author.Needs.{needs}
 use Rattle.one_page.proofs.Decoded.{is-page, good-not, good-yes, no-page}
-use Rattle.rows.proofs.Ands.{and-no}
+use Rattle.basics.proofs.Ands.{and-no}
 use Rattle.blocks.specs.Decode.{decodeBlock}
 use Rattle.basics.specs.Basics.{every}
 use Rattle.one_page.proofs.good_page.Statement.{statement}

@@ -1,7 +1,7 @@
 use Rattle.rows.proofs.Counts.{starts-transactions}
 use Rattle.rows.proofs.Order.{statements-ordered}
 use Rattle.rows.proofs.Kept.{columns-tests}
-use Rattle.rows.proofs.Ands.{and-yes, and-no}
+use Rattle.basics.proofs.Ands.{and-yes, and-no}
 use native.Mathlib.Omega.{arith}
 use borrow.Author.Tests.{not-true, not-false}
 use mathlib.Core.Path.{sym, _∙_}
