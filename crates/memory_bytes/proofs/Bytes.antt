@@ -1,10 +1,10 @@
 -- Numbers and bytes read before and after a change of other bytes, and behind one that moved or wrote them.
 use mathlib.Core.Path.{_≡_, sym, ap, _∙_}
-use mathlib.Core.List.{List, _∷_, _++_}
+use mathlib.Core.List.{List, _∷_, _++_, append-nil}
 use Prim.Native.Nat.{ℕ, _+_, _-_, _/_, _%_, _≤_, _<_}
 use native.Mathlib.Nat.{add-zero, zero-add}
 use native.Mathlib.Omega.{arith}
-use lib.ListN.{length, drop, getD, length-append, length-drop, List·getD-append}
+use lib.ListN.{length, drop, getD, length-append, length-drop, drop-of-length-le, List·getD-append}
 use lib.Seq.{ext-getD, getD-append-add, getD-drop}
 use mathlib.Core.Logic.{⊎-elim}
 use Rattle.memory_bytes.specs.Bytes.{le2, le4, bytes, bytes2, bytes4, Apart, Raised, Lowered, Wrote}
@@ -110,6 +110,10 @@ module _ {m m' : List ℕ} {a : ℕ} where
       let e3 : x / 16777216 ≡ x / 65536 / 256 = omega arith in
       let top : x / 16777216 % 256 ≡ x / 16777216 = omega arith in
       omega (arith, first-wrote s, s .here 1 (omega arith), s .here 2 (omega arith), s .here 3 (omega arith))
+
+-- a block copied out over as many bytes is the bytes that were there
+pub copied-whole : (m xs : List ℕ) (a n : ℕ) {ys : List ℕ} → length xs ≡ n → ys ≡ bytes m a n ++ drop n xs → ys ≡ bytes m a n
+copied-whole m xs a n l e = let h : length xs ≤ n = omega arith in e ∙ ap (λ (z : List ℕ). bytes m a n ++ z) (drop-of-length-le xs h) ∙ append-nil (bytes m a n)
 
 -- written from the first byte on
 pub front-wrote : {m m' xs : List ℕ} → Wrote m m' 0 xs → length xs ≤ length m → m' ≡ xs ++ drop (length xs) m

@@ -110,6 +110,38 @@ pub fn copy_out(m: &[u8], a: usize, n: usize, out: &mut [u8])
     }
 }
 
+// ---- bytes copied as a block: read whole, then written, so that the two places may overlap
+
+// The 8 bytes from `from` on, over those from `to` on.
+pub fn copy8(m: &mut [u8], from: usize, to: usize)
+    requires { ⌜ (from + 8 ≤ length (now m)) × (to + 8 ≤ length (now m)) ⌝ }
+    ensures { λ _. ⌜ Wrote (now (m .entry)) (now (m .exit)) to (bytes (now (m .entry)) from 8) ⌝ }
+{
+    let mut t = [0u8; 8];
+    copy_out(m, from, 8, &mut t);
+    write(m, to, &t);
+}
+
+// The 16 bytes from `from` on, over those from `to` on.
+pub fn copy16(m: &mut [u8], from: usize, to: usize)
+    requires { ⌜ (from + 16 ≤ length (now m)) × (to + 16 ≤ length (now m)) ⌝ }
+    ensures { λ _. ⌜ Wrote (now (m .entry)) (now (m .exit)) to (bytes (now (m .entry)) from 16) ⌝ }
+{
+    let mut t = [0u8; 16];
+    copy_out(m, from, 16, &mut t);
+    write(m, to, &t);
+}
+
+// The 32 bytes from `from` on, over those from `to` on.
+pub fn copy32(m: &mut [u8], from: usize, to: usize)
+    requires { ⌜ (from + 32 ≤ length (now m)) × (to + 32 ≤ length (now m)) ⌝ }
+    ensures { λ _. ⌜ Wrote (now (m .entry)) (now (m .exit)) to (bytes (now (m .entry)) from 32) ⌝ }
+{
+    let mut t = [0u8; 32];
+    copy_out(m, from, 32, &mut t);
+    write(m, to, &t);
+}
+
 // ---- bytes moved by the width of a column: from the end that is left free, so that each byte is read before it is written over
 
 // The bytes from lo up to, not including, hi go up by one.

@@ -5,6 +5,7 @@ pub mod Kept
 pub mod Exchange
 pub mod Slots
 pub mod Moving
+pub mod Eights
 pub mod Inserting
 pub mod Appending
 pub mod Groups

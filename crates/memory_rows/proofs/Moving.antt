@@ -31,7 +31,7 @@ cells-stay c j s h =
 -- three changes, one in each column
 module _ {m m1 m2 m3 : List ℕ} {a1 n1 a2 n2 a3 n3 : ℕ} (c : ℕ) (s1 : Apart m m1 a1 n1) (s2 : Apart m1 m2 a2 n2) (s3 : Apart m2 m3 a3 n3)
     (f1 : keysAt c ≤ a1) (t1 : a1 + n1 ≤ refsAt c) (f2 : refsAt c ≤ a2) (t2 : a2 + n2 ≤ statesAt c) (f3 : statesAt c ≤ a3) (t3 : a3 + n3 ≤ startsAt c) where
-  columns-only : ColumnsOnly m m3 c
+  pub columns-only : ColumnsOnly m m3 c
   columns-only =
       record {
         size = s3 .size ∙ s2 .size ∙ s1 .size;
@@ -40,7 +40,7 @@ module _ {m m1 m2 m3 : List ℕ} {a1 n1 a2 n2 a3 n3 : ℕ} (c : ℕ) (s1 : Apart
       }
 
   -- row k's cells by what the change of each column made of them
-  cells-by : (j k : ℕ) → k < c → j < c → keyOf m1 c k ≡ keyOf m c j → refOf m2 c k ≡ refOf m1 c j → stateOf m3 c k ≡ stateOf m2 c j → SameCells m m3 c j k
+  pub cells-by : (j k : ℕ) → k < c → j < c → keyOf m1 c k ≡ keyOf m c j → refOf m2 c k ≡ refOf m1 c j → stateOf m3 c k ≡ stateOf m2 c j → SameCells m m3 c j k
   cells-by j k hk hj ek er es =
       record {
         key = le4-below s3 (keysAt c + k * 4) (omega arith) ∙ le4-below s2 (keysAt c + k * 4) (omega arith) ∙ ek;

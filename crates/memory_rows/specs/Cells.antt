@@ -5,12 +5,13 @@ use mathlib.Core.Bool.{Bool, true, false}
 use mathlib.Core.List.{List}
 use lib.ListN.{length, getD}
 use Rattle.memory_bytes.specs.Bytes.{le4, bytes, Apart}
-use Rattle.memory_layout.specs.Places.{slotSize, keysAt, startsAt}
+use Rattle.memory_layout.specs.Places.{slotSize, keysAt, refsAt, statesAt, startsAt}
 use Rattle.memory_layout.specs.Views.{slotOf, keyOf, refOf, stateOf, slotPlace}
 use Rattle.basics.specs.Basics.{any}
 use Rattle.model.specs.State as model
 use Rattle.memory_bytes.specs.Columns.{tab, equals}
 use Rattle.memory_layout.specs.Flat.{capacityOf, rowsOf}
+use Rattle.memory_rows.specs.declared.Eight.{Eight}
 use Rattle.memory_rows.specs.declared.Owner.{Owner}
 use Rattle.memory_rows.specs.declared.Owner.the-variants.{Committed, Tentative}
 use Rattle.memory_rows.specs.declared.Pending.{Pending}
@@ -111,6 +112,25 @@ pub record RowsLowered (m m' : List ℕ) (c i n : ℕ) : Type 0 where
   pub only : ColumnsOnly m m' c
   pub before : (j : ℕ) → j < i → SameCells m m' c j j
   pub moved : (j : ℕ) → i ≤ j → j + 1 < n → SameCells m m' c (j + 1) j
+
+-- in each column there are the cells of eight rows
+pub record EightFits (rows : Eight) : Type 0 where
+  pub keys : length (rows .keys) ≡ 32
+  pub refs : length (rows .refs) ≡ 16
+  pub states : length (rows .states) ≡ 8
+
+-- rows has the cells of the eight rows of m from row i on
+pub record EightOf (m : List ℕ) (c i : ℕ) (rows : Eight) : Type 0 where
+  pub keys : rows .keys ≡ bytes m (keysAt c + i * 4) 32
+  pub refs : rows .refs ≡ bytes m (refsAt c + i * 2) 16
+  pub states : rows .states ≡ bytes m (statesAt c + i) 8
+
+-- the eight rows of m' from row k on have the cells of those of m₀ from row i on, and all others those that they have in m
+pub record EightPut (m₀ m m' : List ℕ) (c i k : ℕ) : Type 0 where
+  pub only : ColumnsOnly m m' c
+  pub here : (j l : ℕ) → i ≤ j → j < i + 8 → l + i ≡ j + k → SameCells m₀ m' c j l
+  pub before : (j : ℕ) → j < k → SameCells m m' c j j
+  pub behind : (j : ℕ) → k + 8 ≤ j → j < c → SameCells m m' c j j
 
 -- row i has these cells, and the others theirs
 pub record CellsPut (m m' : List ℕ) (c i k r s : ℕ) : Type 0 where

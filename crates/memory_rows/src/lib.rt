@@ -3,8 +3,8 @@
 use blocks::PageLayout;
 ghost use mathlib.Core.Path.{_≡_};
 ghost use mathlib.Core.Bool.{false};
-ghost use mathlib.Core.List.{_∷_, [], _++_};
-ghost use Prim.Native.Nat.{_+_, _*_, _-_, _≤_, _<_};
+ghost use mathlib.Core.List.{List, _∷_, [], _++_};
+ghost use Prim.Native.Nat.{ℕ, _+_, _*_, _-_, _≤_, _<_};
 ghost use lib.ListN.{length, take, drop};
 ghost use Rattle.basics.specs.Basics.{any};
 ghost use Rattle.blocks.specs.Limits.{payloadLimit};
@@ -16,7 +16,7 @@ ghost use Rattle.memory_layout.specs.Places.{slotSize, keysAt, refsAt, statesAt
 ghost use Rattle.memory_layout.specs.Views.{lengthOf, slotOf, slotPlace, refOf, stateOf, ownerOf, pendingOf};
 ghost use Rattle.memory_layout.specs.Flat.{flatOf, capacityOf, rowIn, Room, Becomes};
 ghost use Rattle.memory_rows.specs.Rows.{ownerIs, pendingIs, flagsOf, heldBy, committedRow, isLiveOwn, isOwned, withRow, keyIn, Holds, Copied, NewRow, RowsOnly};
-ghost use Rattle.memory_rows.specs.Cells.{codeOf, keepsOwner, slotIn, slotAt, isTaken, InOrder, Capacity, wordOf, committedBit, markBit, stateBy, ColumnsFit, RowsRaised, RowsLowered, CellsPut, SlotFilled};
+ghost use Rattle.memory_rows.specs.Cells.{codeOf, keepsOwner, slotIn, slotAt, isTaken, InOrder, Capacity, wordOf, committedBit, markBit, stateBy, ColumnsFit, EightFits, EightOf, EightPut, RowsRaised, RowsLowered, CellsPut, SlotFilled};
 
 // Where the head has the capacity, and how many rows there are.
 const CAPACITY_AT: usize = 4;
@@ -456,11 +456,99 @@ fn free_slot(m: &[u8]) -> u16
 
 // ---- changes of the number of rows
 
+// The cells of eight rows that stand behind each other.
+struct Eight {
+    keys: [u8; 32],
+    refs: [u8; 16],
+    states: [u8; 8],
+}
+
+// Those of the rows from row i on.
+fn take_eight(m: &[u8], c: usize, i: usize) -> Eight
+    requires { ⌜ ColumnsFit (now m) c × (i + 8 ≤ c) ⌝ }
+    ensures { λ r. ⌜ EightOf (now (m .entry)) c i r ⌝ }
+{
+    let mut keys = [0u8; 32];
+    let mut refs = [0u8; 16];
+    let mut states = [0u8; 8];
+    memory_bytes::copy_out(m, keys_at(c) + i * 4, 32, &mut keys);
+    memory_bytes::copy_out(m, refs_at(c) + i * 2, 16, &mut refs);
+    memory_bytes::copy_out(m, states_at(c) + i, 8, &mut states);
+    Eight {
+        keys: keys,
+        refs: refs,
+        states: states,
+    }
+}
+
+// They become the cells of the rows from row k on.
+fn give_eight(m: &mut [u8], c: usize, k: usize, rows: Eight)
+    requires { ⌜ ColumnsFit (now m) c × ((k + 8 ≤ c) × EightFits rows) ⌝ }
+    ensures { λ _. ⌜ ((m₀ : List ℕ) (i : ℕ) → EightOf m₀ c i rows → EightPut m₀ (now (m .entry)) (now (m .exit)) c i k) ⌝ }
+{
+    let keys = rows.keys;
+    let refs = rows.refs;
+    let states = rows.states;
+    memory_bytes::write(m, keys_at(c) + k * 4, &keys);
+    memory_bytes::write(m, refs_at(c) + k * 2, &refs);
+    memory_bytes::write(m, states_at(c) + k, &states);
+}
+
+// The rows from row k on get the cells of the eight from row i on, as they were.
+fn copy_eight(m: &mut [u8], c: usize, i: usize, k: usize)
+    requires { ⌜ ColumnsFit (now m) c × ((i + 8 ≤ c) × (k + 8 ≤ c)) ⌝ }
+    ensures { λ _. ⌜ EightPut (now (m .entry)) (now (m .entry)) (now (m .exit)) c i k ⌝ }
+{
+    let keys = keys_at(c);
+    let refs = refs_at(c);
+    let states = states_at(c);
+    memory_bytes::copy32(m, keys + i * 4, keys + k * 4);
+    memory_bytes::copy16(m, refs + i * 2, refs + k * 2);
+    memory_bytes::copy8(m, states + i, states + k);
+}
+
+// Of n rows, those from row i on, eight or more, go one up: by blocks whose new place is a multiple of eight, from the last one down. The
+// first and the last eight are read before and written after them, so that the blocks need not meet the ends.
+fn raise_eights(m: &mut [u8], c: usize, i: usize, n: usize)
+    requires { ⌜ ColumnsFit (now m) c × ((i + 8 ≤ n) × (n < c)) ⌝ }
+    ensures { λ _. ⌜ RowsRaised (now (m .entry)) (now (m .exit)) c i n ⌝ }
+{
+    let first = take_eight(m, c, i);
+    let last = take_eight(m, c, n - 8);
+    let mut k = (n + 1) / 8 * 8 - 1;
+    while i + 8 < k {
+        k -= 8;
+        copy_eight(m, c, k, k + 1);
+    }
+    give_eight(m, c, i + 1, first);
+    give_eight(m, c, n - 7, last);
+}
+
+// Of n rows, those behind row i, eight or more, go one down: by blocks whose new place is a multiple of eight, from the first one up.
+fn lower_eights(m: &mut [u8], c: usize, i: usize, n: usize)
+    requires { ⌜ ColumnsFit (now m) c × ((i + 9 ≤ n) × (n ≤ c)) ⌝ }
+    ensures { λ _. ⌜ RowsLowered (now (m .entry)) (now (m .exit)) c i n ⌝ }
+{
+    let first = take_eight(m, c, i + 1);
+    let last = take_eight(m, c, n - 8);
+    let mut k = (i + 7) / 8 * 8;
+    while k + 9 < n {
+        copy_eight(m, c, k + 1, k);
+        k += 8;
+    }
+    give_eight(m, c, i, first);
+    give_eight(m, c, n - 9, last);
+}
+
 // Of n rows, those from row i on go one up.
 fn raise_rows(m: &mut [u8], c: usize, i: usize, n: usize)
     requires { ⌜ ColumnsFit (now m) c × ((i ≤ n) × (n < c)) ⌝ }
     ensures { λ _. ⌜ RowsRaised (now (m .entry)) (now (m .exit)) c i n ⌝ }
 {
+    if i + 8 <= n {
+        raise_eights(m, c, i, n);
+        return;
+    }
     let k = keys_at(c);
     let r = refs_at(c);
     let s = states_at(c);
@@ -474,6 +562,10 @@ fn lower_rows(m: &mut [u8], c: usize, i: usize, n: usize)
     requires { ⌜ ColumnsFit (now m) c × ((i < n) × (n ≤ c)) ⌝ }
     ensures { λ _. ⌜ RowsLowered (now (m .entry)) (now (m .exit)) c i n ⌝ }
 {
+    if i + 9 <= n {
+        lower_eights(m, c, i, n);
+        return;
+    }
     let k = keys_at(c);
     let r = refs_at(c);
     let s = states_at(c);

@@ -1,7 +1,20 @@
+-- `memory_rows::lower_rows` meets its contract.
 use Rattle.memory_rows.proofs.Moving.{lowered-rows}
 use borrow.Author.Needs.{needs}
 use Rattle.memory_rows.proofs.lower_rows.Statement.{statement}
 use Rattle.memory_rows.proofs.lower_rows.Tie as tie
+
+add-if1 : tie.Need-add-if1
+add-if1 c = search needs
+
+lower-eights-requires : tie.Need-lower-eights-requires
+lower-eights-requires c κs = search needs
+
+same-length : tie.Need-same-length
+same-length c = search needs
+
+returns : tie.Need-returns
+returns c = search needs
 
 keys-at-requires : tie.Need-keys-at-requires
 keys-at-requires c κs = search needs
@@ -51,24 +64,25 @@ add-down1-2 c = search needs
 down1-requires : tie.Need-down1-requires
 down1-requires c κs = search needs
 
-same-length : tie.Need-same-length
-same-length c = search needs
+same-length-2 : tie.Need-same-length-2
+same-length-2 c = search needs
 
-returns : tie.Need-returns
-returns c =
-    let p2 = c .before .before in
-    let p6 = p2 .before .before .before .before in
-    let p10 = p6 .before .before .before .before in
-    let p12 = p10 .before .before in
-    let p13 = p12 .before in
-    let p14 = p13 .before in
-    let st = p14 .before .before in
-    lowered-rows (p14 .keys-at .ensures) (p13 .refs-at .ensures) (p12 .states-at .ensures) (st .pre .1 .0) (st .pre .1 .1) (p10 .down4 .ensures) (p6 .down2 .ensures) (p2 .down1 .ensures)
+returns-2 : tie.Need-returns-2
+returns-2 c =
+    let p12 = c .before .before .before .before .before .before .before .before .before .before .before .before in
+    let p14 = p12 .before .before in
+    let st = p14 .before .before .before in
+    lowered-rows (p14 .keys-at .ensures) (p12 .before .refs-at .ensures) (p12 .states-at .ensures) (st .pre .1 .0) (st .pre .1 .1)
+    (c .before .before .before .before .before .before .before .before .before .before .down4 .ensures) (c .before .before .before .before .before .before .down2 .ensures) (c .before .before .down1 .ensures)
 
 pub lower-rows-spec : {M : Type 1} → statement M
 lower-rows-spec =
     tie.close
     (tie.spec
+    add-if1
+    lower-eights-requires
+    same-length
+    returns
     keys-at-requires
     refs-at-requires
     states-at-requires
@@ -85,5 +99,5 @@ lower-rows-spec =
     add-down1
     add-down1-2
     down1-requires
-    same-length
-    returns)
+    same-length-2
+    returns-2)

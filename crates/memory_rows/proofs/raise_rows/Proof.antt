@@ -1,7 +1,20 @@
+-- `memory_rows::raise_rows` meets its contract.
 use Rattle.memory_rows.proofs.Moving.{raised-rows}
 use borrow.Author.Needs.{needs}
 use Rattle.memory_rows.proofs.raise_rows.Statement.{statement}
 use Rattle.memory_rows.proofs.raise_rows.Tie as tie
+
+add-if1 : tie.Need-add-if1
+add-if1 c = search needs
+
+raise-eights-requires : tie.Need-raise-eights-requires
+raise-eights-requires c κs = search needs
+
+same-length : tie.Need-same-length
+same-length c = search needs
+
+returns : tie.Need-returns
+returns c = search needs
 
 keys-at-requires : tie.Need-keys-at-requires
 keys-at-requires c κs = search needs
@@ -51,24 +64,25 @@ add-up1-2 c = search needs
 up1-requires : tie.Need-up1-requires
 up1-requires c κs = search needs
 
-same-length : tie.Need-same-length
-same-length c = search needs
+same-length-2 : tie.Need-same-length-2
+same-length-2 c = search needs
 
-returns : tie.Need-returns
-returns c =
-    let p2 = c .before .before in
-    let p6 = p2 .before .before .before .before in
-    let p10 = p6 .before .before .before .before in
-    let p12 = p10 .before .before in
-    let p13 = p12 .before in
-    let p14 = p13 .before in
-    let st = p14 .before .before in
-    raised-rows (p14 .keys-at .ensures) (p13 .refs-at .ensures) (p12 .states-at .ensures) (st .pre .1 .0) (st .pre .1 .1) (p10 .up4 .ensures) (p6 .up2 .ensures) (p2 .up1 .ensures)
+returns-2 : tie.Need-returns-2
+returns-2 c =
+    let p12 = c .before .before .before .before .before .before .before .before .before .before .before .before in
+    let p14 = p12 .before .before in
+    let st = p14 .before .before .before in
+    raised-rows (p14 .keys-at .ensures) (p12 .before .refs-at .ensures) (p12 .states-at .ensures) (st .pre .1 .0) (st .pre .1 .1)
+    (c .before .before .before .before .before .before .before .before .before .before .up4 .ensures) (c .before .before .before .before .before .before .up2 .ensures) (c .before .before .up1 .ensures)
 
 pub raise-rows-spec : {M : Type 1} → statement M
 raise-rows-spec =
     tie.close
     (tie.spec
+    add-if1
+    raise-eights-requires
+    same-length
+    returns
     keys-at-requires
     refs-at-requires
     states-at-requires
@@ -85,5 +99,5 @@ raise-rows-spec =
     add-up1
     add-up1-2
     up1-requires
-    same-length
-    returns)
+    same-length-2
+    returns-2)

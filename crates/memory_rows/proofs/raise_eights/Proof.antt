@@ -1,0 +1,110 @@
+-- `memory_rows::raise_eights` meets its contract.
+use Prim.Native.Nat.{_+_, _-_}
+use mathlib.Core.Path.{_∙_}
+use native.Mathlib.Omega.{arith}
+use Rattle.memory_rows.proofs.Eights.{taken-fits, fit-then, Raising, raising-start, raising-turn, raising-end}
+use Rattle.memory_rows.proofs.raise_eights.Statement.{statement}
+use Rattle.memory_rows.proofs.raise_eights.Tie as tie
+
+abbrev Inv-loop : tie.InvT-loop
+Inv-loop m₀ c i n first last k₀ m k = Raising m₀ m c i n k₀ k
+
+abbrev μ-loop : tie.MeasureT-loop
+μ-loop m₀ c i n first last k₀ m k = k
+
+take-eight-requires : tie.Need-take-eight-requires Inv-loop μ-loop
+take-eight-requires c κs = let p = c .before .before .pre in (p .0, omega arith)
+
+sub-take-eight : tie.Need-sub-take-eight Inv-loop μ-loop
+sub-take-eight c = omega arith
+
+take-eight-requires-2 : tie.Need-take-eight-requires-2 Inv-loop μ-loop
+take-eight-requires-2 c κs = let p = c .before .before .before .before .pre in (p .0, omega arith)
+
+add-k : tie.Need-add-k Inv-loop μ-loop
+add-k c = omega arith
+
+mul-k : tie.Need-mul-k Inv-loop μ-loop
+mul-k c = omega arith
+
+sub-k : tie.Need-sub-k Inv-loop μ-loop
+sub-k c = omega arith
+
+loop-holds : tie.Need-loop-holds Inv-loop μ-loop
+loop-holds c = let s = c .before .before .before .before .before in raising-start (s .args .m .now) (s .args .c) (s .args .i) (s .args .n) _ (omega arith) (omega arith) (omega arith)
+
+add-loop : tie.Need-add-loop Inv-loop μ-loop
+add-loop c = let p = c .before .before .before .before .before .before .pre in omega (arith, p .0 .most)
+
+sub-k-2 : tie.Need-sub-k-2 Inv-loop μ-loop
+sub-k-2 c = omega arith
+
+add-copy-eight : tie.Need-add-copy-eight Inv-loop μ-loop
+add-copy-eight c = omega arith
+
+copy-eight-requires : tie.Need-copy-eight-requires Inv-loop μ-loop
+copy-eight-requires c κs = let p = c .before .before .before .before .before .before .before .before .pre in
+    let l = c .before .before .loop in
+    let q = l .inv in
+    (fit-then (p .0) (q .only), (omega (arith, q .high, q .most), omega (arith, q .high, q .most)))
+
+loop-less : tie.Need-loop-less Inv-loop μ-loop
+loop-less c = omega arith
+
+loop-again : tie.Need-loop-again Inv-loop μ-loop
+loop-again c = let p = c .before .before .before .before .before .before .before .before .before .before .before .pre in raising-turn (c .before .before .before .before .before .loop .inv) (p .1 .1) (c .before .before .before .before .loop-test .taken) (c .before .before .copy-eight .ensures)
+
+add-give-eight : tie.Need-add-give-eight Inv-loop μ-loop
+add-give-eight c = omega arith
+
+give-eight-requires : tie.Need-give-eight-requires Inv-loop μ-loop
+give-eight-requires c κs = let s = c .before .before .before .before .before .before .before .before in
+    let t = c .before .before .before .before .before .take-eight in
+    let l = c .before .before .loop in
+    (fit-then (s .pre .0) (l .inv .only), (omega arith, taken-fits (s .args .m .now) (s .args .c) (s .args .i) (t .ensures)))
+
+sub-give-eight : tie.Need-sub-give-eight Inv-loop μ-loop
+sub-give-eight c = omega arith
+
+give-eight-requires-2 : tie.Need-give-eight-requires-2 Inv-loop μ-loop
+give-eight-requires-2 c κs = let s = c .before .before .before .before .before .before .before .before .before .before .before .before in
+    let a = s .args in
+    let g = c .before .before .before .give-eight .ensures (a .m .now) (a .i) (c .before .before .before .before .before .before .before .before .before .take-eight .ensures) in
+    let f = fit-then (fit-then (s .pre .0) (c .before .before .before .before .before .before .loop .inv .only)) (g .only) in
+    (f, (omega arith, taken-fits (a .m .now) (a .c) (a .n - 8) (c .before .before .before .before .before .before .before .take-eight2 .ensures)))
+
+same-length : tie.Need-same-length Inv-loop μ-loop
+same-length c = omega arith
+
+returns : tie.Need-returns Inv-loop μ-loop
+returns c = let s = c .before .before .before .before .before .before .before .before .before .before .before .before .before .before .before in
+    let a = s .args in
+    raising-end (c .before .before .before .before .before .before .before .before .before .loop .inv) (s .pre .1 .0) (s .pre .1 .1) (c .before .before .before .before .before .before .before .before .loop-test .left)
+    (c .before .before .before .before .before .before .give-eight .ensures (a .m .now) (a .i) (c .before .before .before .before .before .before .before .before .before .before .before .before .take-eight .ensures))
+    (c .before .before .give-eight2 .ensures (a .m .now) (a .n - 8) (c .before .before .before .before .before .before .before .before .before .before .take-eight2 .ensures))
+
+pub raise-eights-spec : {M : Type 1} → statement M
+raise-eights-spec =
+    tie.close
+    (tie.spec
+    Inv-loop
+    μ-loop
+    take-eight-requires
+    sub-take-eight
+    take-eight-requires-2
+    add-k
+    mul-k
+    sub-k
+    loop-holds
+    add-loop
+    sub-k-2
+    add-copy-eight
+    copy-eight-requires
+    loop-less
+    loop-again
+    add-give-eight
+    give-eight-requires
+    sub-give-eight
+    give-eight-requires-2
+    same-length
+    returns)

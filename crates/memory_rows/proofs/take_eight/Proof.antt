@@ -1,0 +1,86 @@
+-- `memory_rows::take_eight` meets its contract.
+use Prim.Native.Nat.{ℕ}
+use lib.ListN.{replicate, length-replicate}
+use mathlib.Core.Path.{ap, _∙_}
+use Prim.Native.Nat.{_+_, _*_}
+use Rattle.memory_bytes.specs.Bytes.{bytes}
+use Rattle.memory_bytes.proofs.Bytes.{copied-whole}
+use borrow.Author.Needs.{needs}
+use Rattle.memory_rows.proofs.take_eight.Statement.{statement}
+use Rattle.memory_rows.proofs.take_eight.Tie as tie
+
+keys-at-requires : tie.Need-keys-at-requires
+keys-at-requires c κs = search needs
+
+mul-copy-out : tie.Need-mul-copy-out
+mul-copy-out c = search needs
+
+add-copy-out : tie.Need-add-copy-out
+add-copy-out c = search needs
+
+slice-aggregate-copy-out : tie.Need-slice-aggregate-copy-out
+slice-aggregate-copy-out c = search needs
+
+copy-out-requires : tie.Need-copy-out-requires
+copy-out-requires c κs = search needs
+
+refs-at-requires : tie.Need-refs-at-requires
+refs-at-requires c κs = search needs
+
+mul-copy-out-2 : tie.Need-mul-copy-out-2
+mul-copy-out-2 c = search needs
+
+add-copy-out-2 : tie.Need-add-copy-out-2
+add-copy-out-2 c = search needs
+
+slice-aggregate-copy-out-2 : tie.Need-slice-aggregate-copy-out-2
+slice-aggregate-copy-out-2 c = search needs
+
+copy-out-requires-2 : tie.Need-copy-out-requires-2
+copy-out-requires-2 c κs = search needs
+
+states-at-requires : tie.Need-states-at-requires
+states-at-requires c κs = search needs
+
+add-copy-out-3 : tie.Need-add-copy-out-3
+add-copy-out-3 c = search needs
+
+slice-aggregate-copy-out-3 : tie.Need-slice-aggregate-copy-out-3
+slice-aggregate-copy-out-3 c = search needs
+
+copy-out-requires-3 : tie.Need-copy-out-requires-3
+copy-out-requires-3 c κs = search needs
+
+returns : tie.Need-returns
+returns c = let s = c .before .before .before .before .before .before .before .before .before .before .before .before .before .args in
+    let k = c .before .before .before .before .before .before .before .before .before .before .before .keys-at in
+    let r = c .before .before .before .before .before .before .before .refs-at in
+    let t = c .before .before .before .states-at in
+    record {
+      keys = copied-whole (s .m .now) (replicate {A = ℕ} 32 0) (k .result + s .i * 4) 32 (length-replicate {A = ℕ} 32 0) (c .before .before .before .before .before .before .before .before .before .copy-out .ensures)
+          ∙ ap (λ (z : ℕ). bytes (s .m .now) (z + s .i * 4) 32) (k .ensures);
+      refs = copied-whole (s .m .now) (replicate {A = ℕ} 16 0) (r .result + s .i * 2) 16 (length-replicate {A = ℕ} 16 0) (c .before .before .before .before .before .copy-out2 .ensures)
+          ∙ ap (λ (z : ℕ). bytes (s .m .now) (z + s .i * 2) 16) (r .ensures);
+      states = copied-whole (s .m .now) (replicate {A = ℕ} 8 0) (t .result + s .i) 8 (length-replicate {A = ℕ} 8 0) (c .before .copy-out3 .ensures)
+          ∙ ap (λ (z : ℕ). bytes (s .m .now) (z + s .i) 8) (t .ensures);
+    }
+
+pub take-eight-spec : {M : Type 1} → statement M
+take-eight-spec =
+    tie.close
+    (tie.spec
+    keys-at-requires
+    mul-copy-out
+    add-copy-out
+    slice-aggregate-copy-out
+    copy-out-requires
+    refs-at-requires
+    mul-copy-out-2
+    add-copy-out-2
+    slice-aggregate-copy-out-2
+    copy-out-requires-2
+    states-at-requires
+    add-copy-out-3
+    slice-aggregate-copy-out-3
+    copy-out-requires-3
+    returns)
