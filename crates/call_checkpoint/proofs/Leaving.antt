@@ -7,11 +7,12 @@ use Prim.Native.Nat.{ℕ, suc, _+_, _-_, _≤_, _<_}
 use native.Mathlib.Omega.{arith}
 use native.Mathlib.Numerals.{add-one}
 use lib.ListN.{length, drop, getD, set, List·getD-append, length-append, drop-of-length-le}
-use lib.Seq.{drop-cons, getD-append-add}
+use lib.Seq.{getD-append-add}
 use lib.Dec.{eqb, leb}
 use borrow.Author.Tests.{eq-eqb, ne-eqb, eqb-true, eqb-false, not-true}
 use Rattle.basics.specs.Basics.{if_then_else_, any, isIn}
 use Rattle.basics.proofs.Facts.{by}
+use Rattle.rows.proofs.Turns.{drop-turn}
 use Rattle.model.specs.State.{Page, Checkpoint, idle, running, Store}
 use Rattle.model.specs.Rules.{isFrozen, thaw}
 use Rattle.model.specs.Transactions.{changed}
@@ -52,18 +53,15 @@ module _ (e : ℕ) (es : List ℕ) where
   unfolding firstZero if_then_else_
   zero-on q = rw (ne-eqb (e) 0 q)
 
-drop-next : (ws : List ℕ) (i : ℕ) → i < length ws → drop i ws ≡ getD ws i 0 ∷ drop (i + 1) ws
-drop-next ws i h = drop-cons ws i 0 h ∙ ap (λ (z : ℕ). getD ws i 0 ∷ drop z ws) (sym (add-one i))
-
 pub named-start : (ws : List ℕ) → NamedBefore ws 0
 named-start ws = record { inside = omega arith; rest = omega arith }
 
 module _ {ws : List ℕ} {i : ℕ} (k : NamedBefore ws i) where
   pub named-hit : i < length ws → getD ws i 0 ≡ 0 → i ≡ firstZero ws
-  named-hit h e = omega (arith, k .rest, ap firstZero (drop-next ws i h) ∙ zero-here _ _ e)
+  named-hit h e = omega (arith, k .rest, ap firstZero (drop-turn ws i h) ∙ zero-here _ _ e)
 
   pub named-miss : i < length ws → (getD ws i 0 ≡ 0 → ⊥) → NamedBefore ws (i + 1)
-  named-miss h e = record { inside = omega arith; rest = omega (arith, k .rest, ap firstZero (drop-next ws i h) ∙ zero-on _ _ e) }
+  named-miss h e = record { inside = omega arith; rest = omega (arith, k .rest, ap firstZero (drop-turn ws i h) ∙ zero-on _ _ e) }
 
   pub named-end : length ws ≤ i → length ws ≡ firstZero ws
   unfolding firstZero
@@ -247,7 +245,7 @@ module _ {m m' : List ℕ} {bs : List ℕ} {n i : ℕ} (k : Marking m m' bs n i)
       → Marking m m2 bs n (i + 1)
   marking-turn h b e m2 x =
       let q : flatOf m2 .used ≡ usedAnd b (flatOf m' .used) = ap (λ (f : Flat). f .used) (x .flat) in
-      let d : b ∷ drop (i + 1) bs ≡ drop i bs = ap (λ (z : ℕ). z ∷ drop (i + 1) bs) e ∙ sym (drop-next bs i (omega (arith, k .whole))) in
+      let d : b ∷ drop (i + 1) bs ≡ drop i bs = ap (λ (z : ℕ). z ∷ drop (i + 1) bs) e ∙ sym (drop-turn bs i (omega (arith, k .whole))) in
       record {
         whole = k .whole;
         inside = omega arith;

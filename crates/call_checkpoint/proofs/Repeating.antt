@@ -11,9 +11,9 @@ use Rattle.basics.specs.Basics.{if_then_else_}
 use Rattle.basics.proofs.Facts.{by}
 use Rattle.model.specs.State.{Store, Write, Outcome}
 use Rattle.model.specs.Transactions.{gives, unless}
-use Rattle.model.specs.Checkpoint.{stored, isRunning, left, stepAt, badImage, stepCall, inTurn, runCall}
+use Rattle.model.specs.Checkpoint.{isRunning, left, stepAt, badImage, stepCall, inTurn, runCall}
 use Rattle.model.specs.Recover.{imageAfter}
-use Rattle.model.proofs.Quiet.{step-frame}
+use Rattle.model.proofs.Laws.{step-size}
 use Rattle.memory_layout.specs.Flat.{Flat, flatOf}
 use Rattle.memory_layout.specs.Store.{holdsStore, storeOf, HoldsNow}
 use Rattle.memory_layout.proofs.Laws.{Sound, in-some, in-sound}
@@ -31,10 +31,6 @@ image-append : (ws vs : List Write) (img : List ℕ) → imageAfter (ws ++ vs) i
 unfolding imageAfter
 image-append [] vs img = refl
 image-append (w ∷ ws) vs img = image-append ws vs _
-
-step-size : (s : Store) → stepAt (s .checkpoint) s .store .blocks ≡ s .blocks
-unfolding stored
-step-size s = step-frame (λ z. z .blocks ≡ s .blocks) s refl (λ l ps u b c. refl)
 
 -- ---- the tests
 

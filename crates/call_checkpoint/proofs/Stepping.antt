@@ -29,6 +29,7 @@ use Rattle.memory_layout.proofs.Exchange.{pages-count}
 use Rattle.memory_pages.specs.Pages.{frozenEntry}
 use Rattle.engine_pages.specs.Pages.{pagesOf, pageAt, entryOf, firstRow, rowsFrom}
 use Rattle.engine_pages.specs.Pending.{FirstFrozen}
+use Rattle.engine_pages.proofs.Around.{index-hit, index-pass}
 use Rattle.engine_pages.proofs.Places.{from-page, page-table, tuples-are}
 use Rattle.contracts.specs.Shape.{Stores}
 use Rattle.contracts.specs.declared.Answer.the-variants.{Count, Refused}
@@ -39,31 +40,23 @@ use Rattle.model.specs.State as model
 
 -- ---- the first frozen page
 
-index-hit : (hit : Page → Bool) (q : Page) (qs : List Page) → hit q ≡ true → firstIndex hit (q ∷ qs) ≡ 0
-unfolding firstIndex
-index-hit hit q qs e = rw e refl
-
-index-past : (hit : Page → Bool) (q : Page) (qs : List Page) → hit q ≡ false → firstIndex hit (q ∷ qs) ≡ suc (firstIndex hit qs)
-unfolding firstIndex
-index-past hit q qs e = rw e refl
-
 -- none passes
 index-none : (hit : Page → Bool) (ps : List Page) → length ps ≤ firstIndex hit ps → first hit ps ≡ none
 unfolding first
 index-none hit [] h = refl
 index-none hit (q ∷ qs) h =
     by (hit q) (λ e. absurd (omega (arith, index-hit hit q qs e)))
-    (λ e. first-past hit q qs e ∙ index-none hit qs (omega (arith, index-past hit q qs e)))
+    (λ e. first-past hit q qs e ∙ index-none hit qs (omega (arith, index-pass hit q qs e)))
 
 -- one does
 index-some : (hit : Page → Bool) (p : ℕ) (q : Page) (ps : List Page) → p ≡ firstIndex hit ps → drop p ps ≡ q ∷ drop (suc p) ps → first hit ps ≡ some q
 index-some hit zero q [] e d = absurd (let z : _≡_ {A = ℕ} 0 1 = cc in omega arith)
 index-some hit (suc p) q [] e d = absurd (let z : _≡_ {A = ℕ} 0 1 = cc in omega arith)
 index-some hit zero q (r ∷ ps) e d =
-    by (hit r) (λ t. let z : r ≡ q = cc in first-hit hit r ps t ∙ ap some z) (λ t. absurd (omega (arith, index-past hit r ps t)))
+    by (hit r) (λ t. let z : r ≡ q = cc in first-hit hit r ps t ∙ ap some z) (λ t. absurd (omega (arith, index-pass hit r ps t)))
 index-some hit (suc p) q (r ∷ ps) e d =
     by (hit r) (λ t. absurd (omega (arith, index-hit hit r ps t)))
-    (λ t. first-past hit r ps t ∙ index-some hit p q ps (omega (arith, index-past hit r ps t)) d)
+    (λ t. first-past hit r ps t ∙ index-some hit p q ps (omega (arith, index-pass hit r ps t)) d)
 
 -- none before it does
 index-many : (hit : Page → Bool) (p : ℕ) (ps : List Page) → p ≡ firstIndex hit ps → howMany hit (drop p ps) ≡ howMany hit ps
@@ -72,7 +65,7 @@ index-many hit zero ps e = refl
 index-many hit (suc p) [] e = refl
 index-many hit (suc p) (q ∷ ps) e =
     by (hit q) (λ t. absurd (omega (arith, index-hit hit q ps t)))
-    (λ t. index-many hit p ps (omega (arith, index-past hit q ps t)) ∙ sym (rw t refl))
+    (λ t. index-many hit p ps (omega (arith, index-pass hit q ps t)) ∙ sym (rw t refl))
 
 index-nest : (es : List Entry) (hs : List Held) → firstIndex isFrozen (nest es hs) ≡ firstIndex frozenEntry es
 unfolding firstIndex nest isFrozen pageOf

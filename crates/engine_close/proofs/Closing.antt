@@ -8,6 +8,7 @@ use mathlib.Core.List.{List, [], _∷_, _++_}
 use lib.ListN.{length, take, drop, length-take, length-drop}
 use lib.Seq.{drop-cons, drop-drop, take-add, take-nil}
 use Rattle.basics.specs.Basics.{if_then_else_}
+use Rattle.blocks.specs.Tuple.{Tuple}
 use Rattle.model.specs.State.{Held, Page}
 use Rattle.model.specs.Places.{tagged, carryOut, removeRow, commitRow, planNewest, commitPlace, OnlyRow}
 use Rattle.memory_layout.specs.Flat.{flatOf}
@@ -16,10 +17,11 @@ use Rattle.engine_pages.specs.Pages.{withPages, PagesNow, pagesOf}
 use Rattle.engine_pages.proofs.Places.{now-held, now-pages, now-then, now-to, now-stay}
 use Rattle.engine_close.specs.Close.{taggedOf, isLive, rowFrom, isOwnRow, entryPlace, removedLive, closedRun, abortedFrom, Behind, RowRemoved, LiveRemoved, Within, RunClosed, NextDone}
 use Rattle.model.proofs.Others.{others-stay, only-count, only-front, only-behind}
-use Rattle.model.proofs.Passes.{carry-append}
+use Rattle.model.proofs.Rows.{ripe-is}
+use Rattle.model.proofs.Carry.{carry-append}
 use Rattle.engine_close.proofs.Removals.{carry-commit, removed-behind, removed-least, removed-most, behind-fewer, behind-place, behind-left, behind-more}
 use Rattle.engine_close.proofs.Removals.{behind-then, behind-at, picks, removing, none-left, pass-row, hit-row, removing-then, live-removing, abort-one}
-use Rattle.engine_close.proofs.RunPlans.{other-picks, ripe-mark}
+use Rattle.engine_close.proofs.RunPlans.{other-picks}
 
 -- ---- pages now
 
@@ -148,7 +150,7 @@ same-before xs ys a k l e = sym (part ys) ∙ ap (drop a) e ∙ part xs
 
 newest-marked : (n a e k : ℕ) (ps : List Page) → rowFrom (tagged ps) k .1 .tuple .mark ≡ true → closedRun n a e k ps ≡ removedLive n a (e - a) ps
 unfolding closedRun planNewest removedLive if_then_else_
-newest-marked n a e k ps h = rw (ripe-mark (rowFrom (tagged ps) k .1), h)
+newest-marked n a e k ps h = rw (ap (λ (x : Tuple). x .mark) (ripe-is (rowFrom (tagged ps) k .1)), h)
 
 newest-kept : (n a e k : ℕ) (ps : List Page) → a ≤ k → k < e → e ≤ length (tagged ps) → rowFrom (tagged ps) k .1 .tuple .mark ≡ false
     → closedRun n a e k ps
@@ -162,7 +164,7 @@ newest-kept n a e k ps l u m h =
     let d = length-drop a xs in
     let t = length-take (k - a) (drop a xs) in
     let z : entryPlace n xs k ≡ entryPlace n xs a + length ws = omega arith in
-    rw (ripe-mark (rowFrom (tagged ps) k .1), h, split-run (tagged ps) a e k l u m)
+    rw (ap (λ (x : Tuple). x .mark) (ripe-is (rowFrom (tagged ps) k .1)), h, split-run (tagged ps) a e k l u m)
     (ap (λ os. carryOut n (commitPlace (entryPlace n xs k) ∷ os) ps) (other-picks (entryPlace n xs a) (entryPlace n xs k) ws (rowFrom xs k) (take (e - suc k) (drop (suc k) xs)) z))
 
 -- a delete mark

@@ -10,11 +10,11 @@ use lib.ListN.{length, take, drop, getD, length-map, length-drop, take-append-dr
 use lib.Seq.{getD-append-add, length-take-le, take-length, take-suc}
 use mathlib.Core.Logic.{⊎-elim}
 use Rattle.basics.specs.Basics.{sum}
+use Rattle.basics.proofs.Lists.{map-append}
 use Rattle.basics.proofs.Facts.{by}
 use Rattle.model.specs.State.{Held}
 use Rattle.model.specs.Places.{tagged}
 use Rattle.model.proofs.Lists.{leb-true, leb-false}
-use Rattle.model.proofs.Places.{map-append}
 use Rattle.memory_layout.specs.Flat.{Flat, flatOf, noRow, noEntry, rowIn, entryIn, Room}
 use Rattle.memory_layout.specs.Store.{pageOf, nest, total, startOf, holdsStore}
 use Rattle.memory_layout.specs.declared.Entry.{Entry}

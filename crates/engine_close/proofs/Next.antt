@@ -19,7 +19,7 @@ use Rattle.memory_layout.specs.Flat.{noRow}
 use Rattle.memory_layout.specs.Store.{holdsStore}
 use Rattle.memory_rows.specs.Rows.{isLiveOwn}
 use Rattle.engine_close.specs.Close.{taggedOf, sameKey, rowFrom, isOwnRow, NextOwn, RunFrom, RunTo, NewestOwn, entryPlace, closedRun, closedFrom, abortedFrom, RunClosed, NextDone}
-use Rattle.model.proofs.Passes.{carry-append}
+use Rattle.model.proofs.Carry.{carry-append}
 use Rattle.engine_close.proofs.Removals.{held-length, behind-fewer, behind-place, behind-left, abort-next, abort-ends, abort-starts}
 use Rattle.engine_close.proofs.RunPlans.{same-as, same-self, same-not, plan-none, plan-past, Ends, plan-first, newest-is}
 use Rattle.engine_pages.specs.Pages.{PagesNow, pagesOf}

@@ -1,19 +1,19 @@
 -- Own rows looked for: a row that is not tentative is nobody's.
 use mathlib.Core.Path.{_≡_, refl, ap, sym, _∙_}
-use Prim.Native.Nat.{ℕ, zero, suc, _+_, _-_, _<_, _≤_}
+use Prim.Native.Nat.{ℕ, _+_, _-_, _<_, _≤_}
 use native.Mathlib.Omega.{arith}
 use mathlib.Core.Bool.{false, not}
-use mathlib.Core.List.{List, [], _∷_}
+use mathlib.Core.List.{List}
 use mathlib.Core.Logic.{⊎-elim}
 use lib.ListN.{length, take, drop, getD, length-take, length-drop}
 use lib.Seq.{getD-take, getD-drop}
 use Rattle.basics.specs.Basics.{if_then_else_, any}
-use Rattle.basics.proofs.Facts.{by, AllOf}
+use Rattle.basics.proofs.Facts.{by}
 use Rattle.blocks.specs.Tuple.{Owner, committed, tentative, isTentative}
 use Rattle.rows.specs.Rows.{isBy}
 use Rattle.model.specs.State.{Held}
 use Rattle.model.specs.Rules.{isRemoving, isCommitting, ripe, asCommitted}
-use Rattle.model.proofs.Lists.{off-any, and-no}
+use Rattle.model.proofs.Lists.{off-any, and-no, all-at}
 use Rattle.memory_bytes.proofs.Columns.{lt-or-ge}
 use Rattle.memory_layout.specs.Flat.{flatOf, noRow, rowIn, Room}
 use Rattle.memory_rows.specs.Rows.{isLiveOwn, isOwned, pendingIs}
@@ -40,11 +40,6 @@ own-not tx h e =
     by (isCommitting (h .pending)) (λ k. rw k ((unfold isBy in and-no (not (isRemoving (h .pending))))))
     (λ k. rw (k, by-none tx (h .tuple .owner) e) (and-no (not (isRemoving (h .pending)))))
 
-all-at : (P : Held → Type 0) (xs : List Held) (i : ℕ) → i < length xs → AllOf P xs → P (getD xs i noRow)
-all-at P [] i h a = absurd (omega arith)
-all-at P (x ∷ xs) zero h a = a .0
-all-at P (x ∷ xs) (suc i) h a = all-at P xs i (omega arith) (a .1)
-
 module _ (m : List ℕ) (room : Room m) (tx : ℕ) where
   pub own-is : (i : ℕ) → isOwnRow tx (taggedOf m) i ≡ isLiveOwn tx (rowIn (flatOf m) i)
   unfolding isOwnRow
@@ -63,7 +58,7 @@ module _ (m : List ℕ) (room : Room m) (tx : ℕ) where
       let l = length-take 16 (drop g hs) in
       let d = length-drop g hs in
       let z : g + (j - g) ≡ j = omega arith in
-      let a = all-at (λ r. isOwned r ≡ false) (take 16 (drop g hs)) (j - g) (omega (arith, tagged-length m room)) (off-any isOwned (take 16 (drop g hs)) e) in
+      let a = all-at (λ r. isOwned r ≡ false) noRow (take 16 (drop g hs)) (j - g) (omega (arith, tagged-length m room)) (off-any isOwned (take 16 (drop g hs)) e) in
       own-is j ∙ own-not tx (rowIn (flatOf m) j)
       (ap isOwned (sym (getD-take 16 (drop g hs) (j - g) noRow (omega arith) ∙ getD-drop g hs (j - g) noRow ∙ ap (λ k. getD hs k noRow) z)) ∙ a)
 

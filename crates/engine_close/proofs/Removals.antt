@@ -19,7 +19,7 @@ use Rattle.engine_close.specs.Close.{isLive, rowFrom, isOwnRow, NextOwn,
 use Rattle.model.proofs.Rows.{entries, held-plain, asRow}
 use Rattle.model.proofs.Places.{tagged-entries}
 use Rattle.model.proofs.Others.{others-stay, only-count, only-behind}
-use Rattle.model.proofs.Passes.{carry-append}
+use Rattle.model.proofs.Carry.{carry-append}
 
 pub held-length : (ps : List Page) → length (held ps) ≡ length (tagged ps)
 held-length ps = ap length (held-plain ps) ∙ length-map (entries ps) asRow ∙ sym (ap length (tagged-entries ps))

@@ -27,7 +27,7 @@ Back m i r = (j : ℕ) → r ≤ j → j < i → sameKey (rowFrom (taggedOf m) i
 abbrev pub Onward : List ℕ → ℕ → ℕ → Type 0
 Onward m i r = (j : ℕ) → i < j → j < r → sameKey (rowFrom (taggedOf m) i) (rowFrom (taggedOf m) j) ≡ true
 
-module _ (m : List ℕ) (room : Room m) where
+module _ {m : List ℕ} (room : Room m) where
   -- tables do not fall
   rows-rise : (j i : ℕ) → j ≤ i → i < length (taggedOf m) → rowFrom (taggedOf m) i .0 < 8 → rowFrom (taggedOf m) j .0 ≤ rowFrom (taggedOf m) i .0
   rows-rise j i h l b =
@@ -35,7 +35,7 @@ module _ (m : List ℕ) (room : Room m) where
       let f = rows-from m room (from-end room t b refl) refl (omega (arith, total-split (tableEnd m t) (flatOf m .entries), filled m room)) in
       ⊎-elim (λ x. omega (arith, f .below j (omega arith))) (λ x. absurd (omega (arith, f .above i x l))) (lt-or-ge i (startOf (flatOf m) (tableEnd m t)))
 
-  module _ (i : ℕ) (h : i < length (taggedOf m)) (t : ℕ) (e : t ≡ rowFrom (taggedOf m) i .0) (b : t < 8) where
+  module _ {i t : ℕ} (h : i < length (taggedOf m)) (e : (t ≡ rowFrom (taggedOf m) i .0) × (t < 8)) where
     module _ (j : ℕ) where
       key-same : rowFrom (taggedOf m) j .0 ≡ rowFrom (taggedOf m) i .0 → rowIn (flatOf m) j .tuple .key ≡ rowIn (flatOf m) i .tuple .key
           → sameKey (rowFrom (taggedOf m) i) (rowFrom (taggedOf m) j) ≡ true
@@ -62,7 +62,7 @@ module _ (m : List ℕ) (room : Room m) where
       pub first-low : first ≤ i
       first-low = ⊎-elim (λ x. absurd (omega (arith, f .below i x))) (λ x. x) (lt-or-ge i first)
 
-      module _ (r : ℕ) (s : Back m i r) where
+      module _ {r : ℕ} (s : Back m i r) where
         -- one row more
         pub back-more : first < r → r ≤ i → rowIn (flatOf m) (r - 1) .tuple .key ≡ rowIn (flatOf m) i .tuple .key → Back m i (r - 1)
         back-more l u k j x y =
@@ -85,7 +85,7 @@ module _ (m : List ℕ) (room : Room m) where
       pub end-high : i < end
       end-high = ⊎-elim (λ x. x) (λ x. absurd (omega (arith, f .above i x h))) (lt-or-ge i end)
 
-      module _ (r : ℕ) (s : Onward m i r) where
+      module _ {r : ℕ} (s : Onward m i r) where
         pub onward-more : i < r → r < end → rowIn (flatOf m) r .tuple .key ≡ rowIn (flatOf m) i .tuple .key → Onward m i (r + 1)
         onward-more l u k j x y =
             ⊎-elim (λ z. s j x z)

@@ -10,12 +10,13 @@ use lib.ListN.{length}
 use borrow.Author.Tests.{eq-eqb, ne-eqb}
 use Rattle.basics.specs.Basics.{if_then_else_, keep, last}
 use Rattle.basics.proofs.Facts.{by, lie, AllOf}
-use Rattle.rows.specs.Rows.{isBy, isOwn, isAt}
+use Rattle.rows.specs.Rows.{isBy, isOwn}
 use Rattle.model.specs.State.{Held}
-use Rattle.model.specs.Rules.{isRemoving, isCommitting, ripe, asCommitted}
+use Rattle.model.specs.Rules.{isRemoving, ripe}
 use Rattle.model.specs.Places.{removePlace, Placed, placed, continues, runs, liveOf, ownPlaced, removePlaces, planNewest, planRun, planRuns}
 use Rattle.model.proofs.Lists.{all-append}
-use Rattle.model.proofs.Fate.{at-split, at-join}
+use Rattle.model.proofs.Fate.{with-self, with-as, with-sym}
+use Rattle.model.proofs.Rows.{asRow}
 use Rattle.memory_rows.specs.Rows.{isLiveOwn}
 use Rattle.engine_close.specs.Close.{isLive, sameKey}
 use Rattle.engine_close.proofs.Removals.{picks}
@@ -28,21 +29,16 @@ Tagged = ℕ × Held
 -- of one key with y: the same as y to every other
 pub same-as : (y x z : Tagged) → sameKey y x ≡ true → sameKey x z ≡ sameKey y z
 unfolding sameKey
-same-as y x z h = let s = at-split (y .0) (y .1 .tuple .key) (x .0, x .1 .tuple) h in ap₂ (λ t k. isAt t k (z .0, z .1 .tuple)) (s .0) (s .1)
+same-as y x z h = with-as (asRow y) (asRow x) (asRow z) h
 
 pub same-self : (x : Tagged) → sameKey x x ≡ true
 unfolding sameKey
-same-self x = at-join (x .0) (x .1 .tuple .key) (x .0, x .1 .tuple) refl refl
+same-self x = with-self (asRow x)
 
 -- w is not of the key of y and x is: they are of different keys
 pub same-not : (y w x : Tagged) → sameKey y w ≡ false → sameKey y x ≡ true → sameKey w x ≡ false
 unfolding sameKey
-same-not y w x a b =
-    by (sameKey w x)
-    (λ k. let s = at-split (w .0) (w .1 .tuple .key) (x .0, x .1 .tuple) k in
-    let t = at-split (y .0) (y .1 .tuple .key) (x .0, x .1 .tuple) b in
-    lie (sym a ∙ at-join (y .0) (y .1 .tuple .key) (w .0, w .1 .tuple) (sym (s .0) ∙ t .0) (sym (s .1) ∙ t .1)))
-    (λ k. k)
+same-not y w x a b = with-sym (asRow x) (asRow w) (with-as (asRow y) (asRow x) (asRow w) b ∙ a)
 
 module _ (tx : ℕ) where
   -- ---- runs without an own row
@@ -189,7 +185,3 @@ other-picks i k (w ∷ ws) x ys e =
     let s : eqb i k ≡ false = ne-eqb i k (λ q. omega arith) in
     let r = other-picks (suc i) k ws x ys (omega arith) in
     by (isRemoving (w .1 .pending)) (λ d. rw d r) (λ d. rw (d, s) (ap (λ z. removePlace i ∷ z) r))
-
-pub ripe-mark : (h : Held) → ripe h .mark ≡ h .tuple .mark
-unfolding ripe asCommitted if_then_else_
-ripe-mark h = by (isCommitting (h .pending)) (λ k. rw k) (λ k. rw k)

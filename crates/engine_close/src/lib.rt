@@ -45,12 +45,18 @@ fn page_of(m: &[u8], i: usize) -> usize
     memory_pages::page_of(m, 0, page_count(m), i)
 }
 
-// The table of row i.
-fn table_at(m: &[u8], i: usize) -> usize
+// The same, looked for on page `near` first: a page that probably has the row. Any number is right.
+fn page_near(m: &[u8], near: usize, i: usize) -> usize
     requires { ⌜ Room (now m) × (i < length (taggedOf (now m))) ⌝ }
-    ensures { λ r. ⌜ (r ≡ rowFrom (taggedOf (now (m .entry))) i .0) × (r < 8) ⌝ }
+    ensures { λ r. ⌜ PageOf (flatOf (now (m .entry))) 0 (length (flatOf (now (m .entry)) .entries)) i r ⌝ }
 {
-    memory_pages::table_of(m, page_of(m, i)) as usize
+    if near < page_count(m)
+        && memory_pages::start_of(m, near) <= i
+        && i < memory_pages::start_of(m, near + 1)
+    {
+        return near;
+    }
+    page_of(m, i)
 }
 
 // The first row of table t or of a later one, or how many rows there are.
@@ -146,12 +152,13 @@ fn later(a: usize, b: usize) -> usize
     a
 }
 
-// The first of the run of row i, not before row `from`.
-fn run_start(m: &[u8], from: usize, i: usize) -> usize
+// The first of the run of row i, which is of table t, not before row `from`.
+fn run_start(m: &[u8], from: usize, i: usize, t: usize) -> usize
     requires { ⌜ Room (now m) × ((from ≤ i) × (i < length (taggedOf (now m)))) ⌝ }
+    requires { ⌜ (t ≡ rowFrom (taggedOf (now m)) i .0) × (t < 8) ⌝ }
     ensures { λ r. ⌜ RunFrom (taggedOf (now (m .entry))) from i r ⌝ }
 {
-    let low = later(from, first_row(m, table_at(m, i)));
+    let low = later(from, first_row(m, t));
     let key = memory_rows::key_at(m, i);
     let mut r = i;
     while low < r {
@@ -163,12 +170,13 @@ fn run_start(m: &[u8], from: usize, i: usize) -> usize
     r
 }
 
-// The row behind the run of row i.
-fn run_end(m: &[u8], i: usize) -> usize
+// The row behind the run of row i, which is of table t.
+fn run_end(m: &[u8], i: usize, t: usize) -> usize
     requires { ⌜ Room (now m) × (i < length (taggedOf (now m))) ⌝ }
+    requires { ⌜ (t ≡ rowFrom (taggedOf (now m)) i .0) × (t < 8) ⌝ }
     ensures { λ r. ⌜ RunTo (taggedOf (now (m .entry))) i r ⌝ }
 {
-    let end = first_row(m, table_at(m, i) + 1);
+    let end = first_row(m, t + 1);
     let key = memory_rows::key_at(m, i);
     let mut r = i + 1;
     while r < end {
@@ -180,48 +188,48 @@ fn run_end(m: &[u8], i: usize) -> usize
     r
 }
 
-// ---- changes
+// ---- changes. `near` is a page that probably has the row, so that it is not looked for again; any number is right.
 
 // Removes row i; the row that is then behind it. On a frozen page it stays, pending removal.
-fn remove_row(m: &mut [u8], i: usize) -> usize
+fn remove_row(m: &mut [u8], i: usize, near: usize) -> usize
     requires { ⌜ (holdsStore (now m) ≡ true) × (i < length (taggedOf (now m))) ⌝ }
     ensures { λ r. ⌜ RowRemoved (now (m .entry)) (now (m .exit)) i r ⌝ }
 {
     let n = row_count(m);
-    let p = page_of(m, i);
+    let p = page_near(m, near, i);
     engine_pages::remove_at(m, p, i);
     i + 1 + row_count(m) - n
 }
 
 // Commits row i.
-fn commit_row(m: &mut [u8], i: usize)
+fn commit_row(m: &mut [u8], i: usize, near: usize)
     requires { ⌜ (holdsStore (now m) ≡ true) × (i < length (taggedOf (now m))) ⌝ }
     ensures { λ _. ⌜ PagesNow (now (m .entry)) (now (m .exit)) (commitRow i (pagesOf (now (m .entry)))) ⌝ }
 {
-    let p = page_of(m, i);
+    let p = page_near(m, near, i);
     engine_pages::commit_at(m, p, i);
 }
 
 // Removes row i if it is live; the row that is then behind it.
-fn remove_live(m: &mut [u8], i: usize) -> usize
+fn remove_live(m: &mut [u8], i: usize, near: usize) -> usize
     requires { ⌜ (holdsStore (now m) ≡ true) × (i < length (taggedOf (now m))) ⌝ }
     ensures { λ r. ⌜ LiveRemoved (now (m .entry)) (now (m .exit)) i 1 r ⌝ }
 {
     if is_live(m, i) {
-        return remove_row(m, i);
+        return remove_row(m, i, near);
     }
     i + 1
 }
 
 // Removes the live ones of k rows from row i on; the row that is then behind them.
-fn remove_rows(m: &mut [u8], i: usize, k: usize) -> usize
+fn remove_rows(m: &mut [u8], i: usize, k: usize, near: usize) -> usize
     requires { ⌜ (holdsStore (now m) ≡ true) × (i + k ≤ length (taggedOf (now m))) ⌝ }
     ensures { λ r. ⌜ LiveRemoved (now (m .entry)) (now (m .exit)) i k r ⌝ }
 {
     let mut r = i;
     let mut left = k;
     while 0 < left {
-        r = remove_live(m, r);
+        r = remove_live(m, r, near);
         left -= 1;
     }
     r
@@ -229,16 +237,16 @@ fn remove_rows(m: &mut [u8], i: usize, k: usize) -> usize
 
 // Closes the run from row a up to row e, whose newest own row is k; the row that is then behind it. A delete mark removes all of them,
 // else row k is committed and the others are removed.
-fn close_run(m: &mut [u8], a: usize, e: usize, k: usize) -> usize
+fn close_run(m: &mut [u8], a: usize, e: usize, k: usize, near: usize) -> usize
     requires { ⌜ Within (now m) a e k ⌝ }
     ensures { λ r. ⌜ RunClosed (now (m .entry)) (now (m .exit)) a e k r ⌝ }
 {
     if memory_rows::mark_at(m, k) {
-        return remove_rows(m, a, e - a);
+        return remove_rows(m, a, e - a, near);
     }
-    commit_row(m, k);
-    let r = remove_rows(m, a, k - a);
-    remove_rows(m, r + 1, e - k - 1)
+    commit_row(m, k, near);
+    let r = remove_rows(m, a, k - a, near);
+    remove_rows(m, r + 1, e - k - 1, near)
 }
 
 // Closes the first run with an own row from row i on; the row that is then behind it, or how many rows there are. The rows before row i
@@ -251,10 +259,12 @@ fn close_next(m: &mut [u8], i: usize, transaction: u64) -> usize
     if own == row_count(m) {
         return own;
     }
-    let a = run_start(m, i, own);
-    let e = run_end(m, own);
+    let p = page_of(m, own);
+    let t = memory_pages::table_of(m, p) as usize;
+    let a = run_start(m, i, own, t);
+    let e = run_end(m, own, t);
     let k = newest_own(m, own, e, transaction);
-    close_run(m, a, e, k)
+    close_run(m, a, e, k, p)
 }
 
 // Removes the first own row from row i on; the row that is then behind it, or how many rows there are.
@@ -266,7 +276,8 @@ fn abort_next(m: &mut [u8], i: usize, transaction: u64) -> usize
     if own == row_count(m) {
         return own;
     }
-    remove_row(m, own)
+    let p = page_of(m, own);
+    remove_row(m, own, p)
 }
 
 // ---- commit, abort

@@ -8,10 +8,10 @@ use native.Mathlib.Omega.{arith}
 use lib.ListN.{length}
 use Rattle.basics.specs.Basics.{if_then_else_, first, last}
 use Rattle.basics.proofs.Facts.{by}
+use Rattle.blocks.specs.Tuple.{Tuple}
 use Rattle.rows.specs.Rows.{Row, isOwn}
-use Rattle.model.specs.State.{Held}
-use Rattle.model.specs.Rules.{isCommitting, asCommitted, ripe}
 use Rattle.model.specs.Sight.{versions, seenOf, seen}
+use Rattle.model.proofs.Rows.{ripe-is}
 use Rattle.memory_layout.specs.Flat.{Flat, rowIn}
 use Rattle.memory_layout.specs.Store.{pagesIn, storeOf}
 use Rattle.engine_lookup.specs.Lookup.{isCommitted, version, versionAt, Shows, seenAt, Inside, placeOf, pickedAt, picked, Sees}
@@ -19,13 +19,9 @@ use Rattle.engine_lookup.specs.declared.Look.{Look}
 use Rattle.engine_lookup.specs.declared.Seen.{Seen}
 use Rattle.engine_lookup.specs.declared.Seen.the-variants.{At, Nothing}
 
-pub ripe-mark : (h : Held) → ripe h .mark ≡ h .tuple .mark
-unfolding ripe asCommitted if_then_else_
-ripe-mark h = by (isCommitting (h .pending)) (λ e. rw e) (λ e. rw e)
-
 version-mark : (f : Flat) (t i : ℕ) → version f t i .1 .mark ≡ rowIn f i .tuple .mark
 unfolding version
-version-mark f t i = ripe-mark (rowIn f i)
+version-mark f t i = ap (λ (x : Tuple). x .mark) (ripe-is (rowIn f i))
 
 place-seen : (f : Flat) (t h : ℕ) → seenAt f t (placeOf h) ≡ versionAt f t h
 unfolding seenAt placeOf versionAt

@@ -10,11 +10,12 @@ use lib.Dec.{eqb}
 use borrow.Author.Tests.{eq-eqb, ne-eqb}
 use Rattle.basics.specs.Basics.{if_then_else_, any, first, last, isEmpty, keep}
 use Rattle.basics.proofs.Facts.{by, never}
-use Rattle.blocks.specs.Tuple.{Owner, committed, tentative, isTentative}
+use Rattle.blocks.specs.Tuple.{Tuple, Owner, committed, tentative, isTentative}
 use Rattle.rows.specs.Rows.{Row, rowsOf, isBy, isOwn, isAt}
 use Rattle.model.specs.State.{Held}
-use Rattle.model.specs.Rules.{isRemoving, isCommitting, asCommitted, ripe, ripened}
+use Rattle.model.specs.Rules.{isRemoving, ripe, ripened}
 use Rattle.model.specs.Sight.{isForeign}
+use Rattle.model.proofs.Rows.{ripe-is}
 use Rattle.model.proofs.Lists.{keep-cons, keep-past}
 use Rattle.memory_bytes.specs.Columns.{tab}
 use Rattle.memory_layout.specs.Flat.{Flat, rowIn}
@@ -127,10 +128,6 @@ shows-one f t tx i (tentative u w) vs l eo h s =
 
 -- ---- along rows
 
-pub ripe-key : (h : Held) → ripe h .key ≡ h .tuple .key
-unfolding ripe asCommitted if_then_else_
-ripe-key h = by (isCommitting (h .pending)) (λ e. rw e) (λ e. rw e)
-
 -- the versions of a key among tuples of table t
 abbrev pub versionsOn : ℕ → ℕ → List Held → List Row
 versionsOn t k hs = keep (isAt t k) (rowsOf t (ripened hs))
@@ -146,7 +143,7 @@ module _ (t k : ℕ) (h : Held) (hs : List Held) where
 
   at-is : isAt t k (t, ripe h) ≡ eqb (h .tuple .key) k
   unfolding isAt
-  at-is = rw (eq-eqb t t refl, ripe-key h)
+  at-is = rw (eq-eqb t t refl, ap (λ (x : Tuple). x .key) (ripe-is h))
 
   past-other : eqb (h .tuple .key) k ≡ false → versionsOn t k (h ∷ hs) ≡ versionsOn t k hs
   past-other e =

@@ -28,6 +28,14 @@ drop-none (suc p) = refl
 
 -- ---- f on page p
 
+pub index-hit : (hit : Page → Bool) (p : Page) (ps : List Page) → hit p ≡ true → firstIndex hit (p ∷ ps) ≡ 0
+unfolding firstIndex
+index-hit hit p ps e = ap (λ b. cond b 0 (suc (firstIndex hit ps))) e
+
+pub index-pass : (hit : Page → Bool) (p : Page) (ps : List Page) → hit p ≡ false → firstIndex hit (p ∷ ps) ≡ suc (firstIndex hit ps)
+unfolding firstIndex
+index-pass hit p ps e = ap (λ b. cond b 0 (suc (firstIndex hit ps))) e
+
 module _ (f : Option Page → Page → List Page → List Page) where
   -- what f leaves before and after page q alone
   pub on-local : (Y : List Page → List Page) (p : ℕ) (q : Page) (ps : List Page) → ((prev : Option Page) (qs : List Page) → f prev q qs ≡ listOf prev ++ Y qs)
@@ -70,14 +78,6 @@ module _ (f : Option Page → Page → List Page → List Page) where
   around-pass : (hit : Page → Bool) (prev : Option Page) (p : Page) (ps : List Page) → hit p ≡ false → around hit f prev (p ∷ ps) ≡ listOf prev ++ around hit f (some p) ps
   unfolding around
   around-pass hit prev p ps e = rw (e, around)
-
-  index-hit : (hit : Page → Bool) (p : Page) (ps : List Page) → hit p ≡ true → firstIndex hit (p ∷ ps) ≡ 0
-  unfolding firstIndex
-  index-hit hit p ps e = ap (λ b. cond b 0 (suc (firstIndex hit ps))) e
-
-  index-pass : (hit : Page → Bool) (p : Page) (ps : List Page) → hit p ≡ false → firstIndex hit (p ∷ ps) ≡ suc (firstIndex hit ps)
-  unfolding firstIndex
-  index-pass hit p ps e = ap (λ b. cond b 0 (suc (firstIndex hit ps))) e
 
   pub around-first : (hit : Page → Bool) (ps : List Page) → firstIndex hit ps < length ps → (prev : Option Page) → around hit f prev ps ≡ onPage f (firstIndex hit ps) prev ps
   unfolding onPage

@@ -1,21 +1,22 @@
 -- Whether two pages may be joined, and what joining a changed page does.
 use mathlib.Core.Path.{_≡_, refl, sym, ap, _∙_, subst}
-use mathlib.Core.Bool.{Bool, true, false, not, _&&_}
+use mathlib.Core.Bool.{Bool, true, false, not}
 use mathlib.Core.Option.{none}
 use Prim.Native.Nat.{ℕ, suc, _+_, _-_, _≤_, _<_}
 use native.Mathlib.Omega.{arith}
 use mathlib.Core.List.{List, [], _∷_, _++_}
 use lib.ListN.{length, take, drop}
 use lib.Seq.{take-add, drop-drop}
-use lib.Dec.{leb, eqb}
-use borrow.Author.Tests.{eq-eqb, ne-eqb, eqb-true}
+use lib.Dec.{leb}
+use borrow.Author.Tests.{eq-eqb, ne-eqb}
 use Rattle.basics.specs.Basics.{sum, isEmpty}
-use Rattle.basics.proofs.Facts.{by, lie, and-true}
+use Rattle.basics.proofs.Facts.{by, lie}
 use Rattle.blocks.specs.Limits.{joinSum}
 use Rattle.model.specs.State.{Held, Page}
 use Rattle.model.specs.Rules.{heldSize, joins, joined, fresh, settle, settleFull}
 use Rattle.model.specs.Places.{onPage}
 use Rattle.model.proofs.Lists.{nonempty}
+use Rattle.model.proofs.Rows.{joins-table}
 use Rattle.memory_layout.specs.Flat.{flatOf, Room, Becomes, withEntries}
 use Rattle.memory_layout.proofs.Exchange.{sum-append, counted-exchange, pages-joined}
 use Rattle.memory_pages.specs.Pages.{dirty, joinEntries, MayJoin}
@@ -108,13 +109,6 @@ module _ {m : List ℕ} {p : ℕ} (a : There m p) (lt : p + 1 < length (flatOf m
             (page-table a ∙ sym et ∙ h ∙ eu ∙ sym (page-table next-at)))
 
 -- ---- two pages made one
-
-joins-table : (p q : Page) → joins p q ≡ true → p .table ≡ q .table
-unfolding joins
-joins-table p q e =
-    let d : Bool = leb (sum heldSize (p .tuples) + sum heldSize (q .tuples)) joinSum in
-    let c : Bool = eqb (p .table) (q .table) in
-    eqb-true (p .table) (q .table) (and-true c d (and-true (not (q .frozen)) (c && d) (and-true (not (p .frozen)) (not (q .frozen) && (c && d)) e .1) .1) .0)
 
 module _ {m : List ℕ} {p : ℕ} (a : There m p) (lt : p + 1 < length (flatOf m .entries)) (j : joins (pageAt m p) (pageAt m (p + 1)) ≡ true) where
   pub may-join : Room m × MayJoin (flatOf m) p

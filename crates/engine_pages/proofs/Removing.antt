@@ -11,8 +11,7 @@ use Rattle.basics.specs.Basics.{if_then_else_, isEmpty}
 use Rattle.model.specs.State.{removing, Held, Page}
 use Rattle.model.specs.Rules.{isAdding, gone, goneLater, withPending, withTuples, fresh, settle}
 use Rattle.model.specs.Places.{editAt, takenAt, removeRowOn, removeRow}
-use Rattle.model.proofs.Lists.{nonempty}
-use Rattle.model.proofs.Flat.{edit-none, edit-one}
+use Rattle.model.proofs.Flat.{edit-none, edit-one, taken-is}
 use Rattle.memory_bytes.specs.Columns.{removeAt}
 use Rattle.memory_layout.specs.Flat.{Flat, flatOf, entryIn, rowIn, noRow, noEntry, Room, Becomes, withRows, withEntries}
 use Rattle.memory_layout.specs.Store.{nest, pageOf, pageIn}
@@ -36,11 +35,6 @@ more (suc (suc k)) l h = omega arith
 
 -- ---- tuple j of a frozen page
 
-taken-some : (j : ℕ) (hs left : List Held) → editAt goneLater j hs ≡ left → 0 < length left → takenAt j hs ≡ left
-unfolding takenAt if_then_else_
-taken-some j hs left e l =
-    ap (λ (z : List Held). if isEmpty z then hs else z) e ∙ ap (λ (b : Bool). if b then hs else left) (nonempty left l)
-
 module _ (j : ℕ) (hs : List Held) (lt : j < length hs) where
   later-none : isAdding (getD hs j noRow .pending) ≡ true → editAt goneLater j hs ≡ removeAt j hs
   unfolding goneLater if_then_else_
@@ -54,11 +48,11 @@ module _ (j : ℕ) (hs : List Held) (lt : j < length hs) where
       ∙ ap (λ (b : Bool). if b then hs else removeAt j hs) (empty-none (removeAt j hs) (length-remove j hs lt ∙ omega arith))
 
   taken-away : isAdding (getD hs j noRow .pending) ≡ true → 1 < length hs → takenAt j hs ≡ removeAt j hs
-  taken-away e l = taken-some j hs (removeAt j hs) (later-none e) (omega (arith, length-remove j hs lt))
+  taken-away e l = taken-is j hs (removeAt j hs) (later-none e) (omega (arith, length-remove j hs lt))
 
   taken-noted : (x : Held) → isAdding (getD hs j noRow .pending) ≡ false → x ≡ withPending removing (getD hs j noRow) → takenAt j hs ≡ set hs j x
   unfolding goneLater if_then_else_
-  taken-noted x e ex = taken-some j hs (set hs j x) (edit-one goneLater noRow x hs j (rw (e, ex) refl)) (omega (arith, length-set hs j x))
+  taken-noted x e ex = taken-is j hs (set hs j x) (edit-one goneLater noRow x hs j (rw (e, ex) refl)) (omega (arith, length-set hs j x))
 
 -- ---- entries
 

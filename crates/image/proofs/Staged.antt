@@ -162,10 +162,10 @@ blocks-page l e (page t k ts) es (some qs) ps f q =
     (λ r. never (rw r at q))
 blocks-page l e (directory k fs) es o ps f q = never q
 
-blocks-are : (v : View) (l : ℕ) (es : List ℕ) (ps : List StoredPage) → readPages v l es ≡ some ps → map (λ p. p .block) ps ≡ es
+pub read-blocks : (v : View) (l : ℕ) (es : List ℕ) (ps : List StoredPage) → readPages v l es ≡ some ps → map (λ p. p .block) ps ≡ es
 unfolding readPages
-blocks-are v l [] ps e = let z : ps ≡ [] = cc in ap (map (λ p. p .block)) z
-blocks-are v l (x ∷ es) ps e = blocks-page l x (v x) es (readPages v l es) ps (λ qs q. blocks-are v l es qs q) e
+read-blocks v l [] ps e = let z : ps ≡ [] = cc in ap (map (λ p. p .block)) z
+read-blocks v l (x ∷ es) ps e = blocks-page l x (v x) es (readPages v l es) ps (λ qs q. read-blocks v l es qs q) e
 
 -- ---- 23 and 24 together
 
@@ -205,7 +205,7 @@ module _ (v : View) (h : Header) where
       pages-accepted none r q = lie q
       pages-accepted (some ps) r q =
           by (rowsOk (h .capacity) (h .next) (rowsOfPages ps))
-          (λ k. rw (k, blocks-are v (h .level) es ps r))
+          (λ k. rw (k, read-blocks v (h .level) es ps r))
           (λ k. let z : false ≡ true = rw k at q in lie z)
 
       pub all-good : accepts (pageTest v h es) ≡ true → pagesAnswer (pagesStage v h) ≡ record { refusal = 0; entries = over noEntries 0 es }

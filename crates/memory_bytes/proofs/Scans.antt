@@ -174,24 +174,29 @@ module _ {A : Type 0} (f : A → Bool) (g : ℕ → A) (i n : ℕ) {w : ℕ} (p 
   unfolding firstIndex
   first-end h k = let z : firstIndex f (tab g i (n - i)) ≡ 0 = ap (firstIndex f) (tab-none g i n k) in omega arith
 
--- ---- from the end: w is the answer, those from e on have no hit
+-- ---- from the end: those from k on have no hit
 
-module _ {A : Type 0} (f : A → Bool) (g : ℕ → A) (s e : ℕ) {w : ℕ} (p : w ≡ lastIndex f (tab g s (e - s))) where
-  pub last-skip : (k : ℕ) → s + k ≤ e → any f (tab g (e - k) k) ≡ false → w ≡ lastIndex f (tab g s (e - k - s))
-  last-skip k h t = p ∙ ap (lastIndex f) (tab-back g s e k h) ∙ last-append f (tab g s (e - k - s)) (tab g (e - k) k) t
+-- the last hit from s on, below e, is below k
+abbrev pub LastBelow : {A : Type 0} → (A → Bool) → (ℕ → A) → ℕ → ℕ → ℕ → Type 0
+LastBelow f g s e k = (s ≤ k) × ((k ≤ e) × (lastIndex f (tab g s (e - s)) ≡ lastIndex f (tab g s (k - s))))
 
-  pub last-pass : {r : A} → s < e → r ≡ g (e - 1) → f r ≡ false → w ≡ lastIndex f (tab g s (e - 1 - s))
-  last-pass h q t = last-skip 1 (omega arith) (any-one f (g (e - 1)) ∙ ap f (sym q) ∙ t)
+module _ {A : Type 0} (f : A → Bool) (g : ℕ → A) (s e k : ℕ) (p : LastBelow f g s e k) where
+  pub last-skip : (n : ℕ) → s + n ≤ k → any f (tab g (k - n) n) ≡ false → LastBelow f g s e (k - n)
+  last-skip n h t =
+      (omega arith, (omega (arith, p .1 .0), p .1 .1 ∙ ap (lastIndex f) (tab-back g s k n h) ∙ last-append f (tab g s (k - n - s)) (tab g (k - n) n) t))
 
-  pub last-hit : {r : A} → s < e → r ≡ g (e - 1) → f r ≡ true → e ≡ s + w
+  pub last-pass : {r : A} → s < k → r ≡ g (k - 1) → f r ≡ false → LastBelow f g s e (k - 1)
+  last-pass h q t = last-skip 1 (omega arith) (any-one f (g (k - 1)) ∙ ap f (sym q) ∙ t)
+
+  pub last-hit : {r : A} → s < k → r ≡ g (k - 1) → f r ≡ true → k ≡ s + lastIndex f (tab g s (e - s))
   last-hit h q t =
-      let z : w ≡ suc (length (tab g s (e - 1 - s))) =
-      p ∙ ap (lastIndex f) (tab-back g s e 1 (omega arith)) ∙ last-snoc f (tab g s (e - 1 - s)) (g (e - 1)) (ap f (sym q) ∙ t) in
-      omega (arith, length-tab g s (e - 1 - s))
+      let z : lastIndex f (tab g s (e - s)) ≡ suc (length (tab g s (k - 1 - s))) =
+      p .1 .1 ∙ ap (lastIndex f) (tab-back g s k 1 (omega arith)) ∙ last-snoc f (tab g s (k - 1 - s)) (g (k - 1)) (ap f (sym q) ∙ t) in
+      omega (arith, length-tab g s (k - 1 - s))
 
-  pub last-end : e ≤ s → s ≡ s + w
+  pub last-end : k ≤ s → s ≡ s + lastIndex f (tab g s (e - s))
   unfolding lastIndex
-  last-end h = let z : w ≡ 0 = p ∙ ap (lastIndex f) (tab-none g s e h) in omega arith
+  last-end h = let z : lastIndex f (tab g s (e - s)) ≡ 0 = p .1 .1 ∙ ap (lastIndex f) (tab-none g s k h) in omega arith
 
 pub one-most : (b : Bool) {v : ℕ} → v ≡ cond b 1 0 → v ≤ 1
 one-most true e = omega arith

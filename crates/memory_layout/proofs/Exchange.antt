@@ -12,7 +12,7 @@ use Rattle.memory_bytes.specs.Columns.{insertAt, removeAt}
 use Rattle.memory_layout.specs.Flat.{Flat, entryIn, noEntry, noRow, rowIn}
 use Rattle.memory_layout.specs.Store.{pageOf, nest, pagesIn, pageIn, total, startOf}
 use Rattle.memory_layout.specs.declared.Entry.{Entry}
-use Rattle.memory_layout.proofs.Nest.{Counted, total-append, total-split, counted-at, counted-append, counted-take, counted-drop, nest-at, length-nest, nest-replace, insert-within, remove-within, set-within}
+use Rattle.memory_layout.proofs.Nest.{Counted, counted-length, total-append, total-split, counted-at, counted-append, counted-take, counted-drop, nest-at, length-nest, nest-replace, insert-within, remove-within, set-within}
 
 -- ---- lengths
 
@@ -42,11 +42,7 @@ counted-exchange es ms p r c cm = counted-append (take p es) _ (counted-take p e
 pub counted-more : (es : List Entry) (p : ℕ) → Counted es → p < length es → 1 < getD es p noEntry .count → length es < total es
 unfolding total sum
 counted-more [] p c h t = absurd (omega arith)
-counted-more (e ∷ es) zero c h t = omega (arith, counted-rest es (c .1))
-  where
-    counted-rest : (es : List Entry) → Counted es → length es ≤ total es
-    counted-rest [] a = omega arith
-    counted-rest (e ∷ es) a = omega (arith, a .0, counted-rest es (a .1))
+counted-more (e ∷ es) zero c h t = omega (arith, counted-length es (c .1))
 counted-more (e ∷ es) (suc p) c h t = omega (arith, c .0, counted-more es p (c .1) (omega arith) t)
 
 -- ---- one or two new pages

@@ -6,7 +6,7 @@ use Prim.Native.Nat.{ℕ, _+_, _*_, _-_, _≤_, _<_}
 use native.Mathlib.Nat.{add-zero}
 use native.Mathlib.Omega.{arith}
 use lib.ListN.{length, getD, set}
-use Rattle.memory_bytes.specs.Bytes.{bytes2, Added, Wrote}
+use Rattle.memory_bytes.specs.Bytes.{bytes2, Wrote}
 use Rattle.memory_bytes.specs.Columns.{insertAt}
 use Rattle.memory_bytes.proofs.Bytes.{le2-cong, le4-cong}
 use Rattle.memory_layout.specs.Places.{refsAt, startsAt, blocksAt}
@@ -91,7 +91,3 @@ module _ {m m1 : List ℕ} {n t x b : ℕ} (room : Room m) (en : n ≡ pageCount
         (ap (λ (f : Flat). length (f .rows)) (page-appended .flat)) i
 
 -- ---- a row
-
--- no page starts elsewhere
-pub added-none : (m : List ℕ) (s n d : ℕ) → Added m m s n n d
-added-none m s n d = record { apart = record { size = refl; below = λ b h. refl; above = λ b h. refl }; each = λ j h k. absurd (omega arith) }

@@ -8,7 +8,7 @@ use native.Mathlib.Omega.{arith}
 use lib.ListN.{length, take, drop, set, length-append, length-drop}
 use lib.Seq.{set-split, length-take-le}
 use Rattle.memory_bytes.specs.Bytes.{le2, Added}
-use Rattle.memory_bytes.specs.Columns.{tab, insertAt, removeAt}
+use Rattle.memory_bytes.specs.Columns.{tab, removeAt}
 use Rattle.memory_bytes.proofs.Bytes.{le2-cong, le4-cong, le2-below, le2-above, le4-below}
 use Rattle.memory_bytes.proofs.Columns.{lt-or-ge}
 use Rattle.model.specs.State.{Held}
@@ -25,9 +25,6 @@ use Rattle.memory_pages.proofs.Parts.{splice, becomes}
 use Rattle.memory_pages.proofs.Entries.{entry-same, entry-counted}
 
 -- ---- how many there are then
-
-pub length-insert : {A : Type 0} (i : ℕ) (x : A) (xs : List A) → i ≤ length xs → length (insertAt i x xs) ≡ length xs + 1
-length-insert i x xs h = omega (arith, length-append (take i xs) (x ∷ drop i xs), length-take-le i xs h, length-drop i xs)
 
 pub length-remove : {A : Type 0} (i : ℕ) (xs : List A) → i < length xs → length (removeAt i xs) + 1 ≡ length xs
 length-remove i xs h = omega (arith, length-append (take i xs) (drop (i + 1) xs), length-take-le i xs (omega arith), length-drop (i + 1) xs)

@@ -17,6 +17,13 @@ use Rattle.model.proofs.ByNumber.{remove, commit, Op, toCommit, toRemov
 use Rattle.model.proofs.Rows.{entries, held-plain, asRow}
 use Rattle.model.proofs.Places.{numberOf, numbers, remove-place, commit-place, Less, removeAt-seam, remove-numbers, commit-numbers}
 
+-- operations in two parts
+pub carry-append : (n : ℕ) (a b : List PlaceOp) (ps : List Page) → carryOut n (a ++ b) ps ≡ carryOut n b (carryOut n a ps)
+unfolding carryOut
+carry-append n [] b ps = refl
+carry-append n (commitPlace i ∷ a) b ps = carry-append n a b _
+carry-append n (removePlace i ∷ a) b ps = carry-append n a b _
+
 -- the operation by number, where ns are the numbers at entry
 unfoldable pub numbered : List ℕ → PlaceOp → Op
 numbered ns (commitPlace i) = toCommit (getD ns i 0)

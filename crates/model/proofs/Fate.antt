@@ -126,7 +126,14 @@ at-join t k r e f = rw (e, f, eqb-self t, eqb-self k)
 abbrev pub With : Row → Row → Bool
 With x r = isAt (x .0) (x .1 .key) r
 
-with-sym : (x r : Row) → With x r ≡ false → With r x ≡ false
+pub with-self : (x : Row) → With x x ≡ true
+with-self x = at-join (x .0) (x .1 .key) x refl refl
+
+-- of one key with y: the same as y to every other
+pub with-as : (y x r : Row) → With y x ≡ true → With x r ≡ With y r
+with-as y x r h = let s = at-split (y .0) (y .1 .key) x h in ap₂ (λ t k. isAt t k r) (s .0) (s .1)
+
+pub with-sym : (x r : Row) → With x r ≡ false → With r x ≡ false
 with-sym x r h = by (With r x) (λ k. let s = at-split (r .0) (r .1 .key) x k in lie (sym h ∙ at-join (x .0) (x .1 .key) r (sym (s .0)) (sym (s .1)))) (λ k. k)
 
 pub row-number : (n : ℕ) (r : Row) → isRow n r ≡ true → r .1 .number ≡ n

@@ -129,7 +129,7 @@ removed-length [] j h = absurd (omega arith)
 removed-length (x ∷ xs) zero h = refl
 removed-length (x ∷ xs) (suc j) h = let r = removed-length xs j (omega arith) in let e = ap length (removeAt-suc j x xs) in omega arith
 
-taken-is : (j : ℕ) (hs left : List Held) → editAt goneLater j hs ≡ left → 0 < length left → takenAt j hs ≡ left
+pub taken-is : (j : ℕ) (hs left : List Held) → editAt goneLater j hs ≡ left → 0 < length left → takenAt j hs ≡ left
 unfolding takenAt if_then_else_
 taken-is j hs left e l = ap (λ z. if isEmpty z then hs else z) e ∙ ap (λ b. if b then hs else left) (nonempty left l)
 

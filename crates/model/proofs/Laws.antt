@@ -106,7 +106,7 @@ one-less len s h = unless-accepted (Stepped s) _ s _ (λ p k. go (s .checkpoint)
 -- ---- run
 
 -- a step keeps the store's blocks
-step-size : (s : Store) → stepAt (s .checkpoint) s .store .blocks ≡ s .blocks
+pub step-size : (s : Store) → stepAt (s .checkpoint) s .store .blocks ≡ s .blocks
 unfolding stored
 step-size s = step-frame (λ z. z .blocks ≡ s .blocks) s refl (λ l ps u b c. refl)
 

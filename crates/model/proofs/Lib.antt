@@ -48,6 +48,5 @@ pub mod Traps
 pub mod Refusals
 pub mod Flat
 pub mod Others
-pub mod Passes
 pub mod PlaceCases
 pub mod Cuts

@@ -5,12 +5,13 @@ use native.Mathlib.Omega.{arith}
 use mathlib.Core.Bool.{true, Bool, false, not, _&&_, _||_}
 use mathlib.Core.List.{List, [], _∷_, map, _++_}
 use mathlib.Core.Option.{some, none}
-use lib.Dec.{T, eqb, eqb-refl, eqb→eq, leb, le→leb, leb→le, nleb→lt, ltb}
-use lib.ListN.{take, drop, length}
+use lib.Dec.{T, eqb, eqb-refl, leb, le→leb, ltb}
+use lib.ListN.{take, drop, length, getD}
 use Rattle.basics.specs.Basics.{every, all, keep, if_then_else_, isEmpty, first, last, any, howMany, isIn}
 use Rattle.basics.proofs.Facts.{by, lie, AllOf, and-true, never, by-option}
-
 -- ---- tests
+
+pub use borrow.Author.Tests.{eqb-true, leb-true, leb-false}
 
 T-true : (b : Bool) → T b → b ≡ true
 T-true true t = refl
@@ -19,20 +20,11 @@ T-true false t = absurd t
 pub eqb-self : (n : ℕ) → eqb n n ≡ true
 eqb-self n = T-true _ (eqb-refl n)
 
-pub eqb-true : (m n : ℕ) → eqb m n ≡ true → m ≡ n
-eqb-true m n e = eqb→eq m n (rw e tt)
-
 pub eqb-sym : (a b : ℕ) → eqb a b ≡ false → eqb b a ≡ false
 eqb-sym a b e = by (eqb b a) (λ h. lie (sym e ∙ ap (λ c. eqb c b) (sym (eqb-true b a h)) ∙ eqb-self b)) (λ h. h)
 
 pub le-true : (m n : ℕ) → m ≤ n → leb m n ≡ true
 le-true m n h = T-true _ (le→leb m n h)
-
-pub leb-true : (m n : ℕ) → leb m n ≡ true → m ≤ n
-leb-true m n e = leb→le m n (rw e tt)
-
-pub leb-false : (m n : ℕ) → leb m n ≡ false → n < m
-leb-false m n e = nleb→lt m n (rw e tt)
 
 pub lt-false : (a b : ℕ) → b ≤ a → ltb a b ≡ false
 lt-false a b h = by (ltb a b) (λ k. let l = leb-true (suc a) b k in absurd (omega arith)) (λ k. k)
@@ -89,6 +81,11 @@ module _ {A : Type 0} where
   pub all-append : (P : A → Type 0) (xs ys : List A) → AllOf P xs → AllOf P ys → AllOf P (xs ++ ys)
   all-append P [] ys a b = b
   all-append P (x ∷ xs) ys a b = (a .0, all-append P xs ys (a .1) b)
+
+  pub all-at : (P : A → Type 0) (d : A) (xs : List A) (i : ℕ) → i < length xs → AllOf P xs → P (getD xs i d)
+  all-at P d [] i h a = absurd (omega arith)
+  all-at P d (x ∷ xs) zero h a = a .0
+  all-at P d (x ∷ xs) (suc i) h a = all-at P d xs i (omega arith) (a .1)
 
   pub all-parts : (P : A → Type 0) (a b : List A) → AllOf P (a ++ b) → AllOf P a × AllOf P b
   all-parts P [] b h = (tt, h)

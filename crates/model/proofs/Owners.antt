@@ -2,48 +2,21 @@
 use mathlib.Core.Path.{_≡_, ap, sym, _∙_, refl}
 use Prim.Native.Nat.{ℕ, _≤_, _<_, suc, min}
 use native.Mathlib.Omega.{arith}
-use mathlib.Core.Bool.{_||_, true, false, not}
+use mathlib.Core.Bool.{true, false, not}
 use mathlib.Core.List.{List, _∷_, [], _++_, map}
 use lib.Dec.{eqb}
 use lib.ListN.{length}
 use Rattle.basics.specs.Basics.{isIn, if_then_else_, any, distinct, keep, howMany}
 use Rattle.basics.proofs.Facts.{by, lie, AllOf, and-true}
-use Rattle.blocks.specs.Tuple.{Owner, committed, tentative}
-use Rattle.rows.specs.Rows.{transactions, Row, isOwn, addOwner, isBy}
+use Rattle.blocks.specs.Tuple.{tentative}
+use Rattle.rows.specs.Rows.{transactions, Row, isOwn}
 use Rattle.model.specs.State.{Active}
 use Rattle.model.specs.Transactions.{openNumbers, withWrite, isFor, without, writtenBy}
 use Rattle.model.specs.Calls.{others}
 use Rattle.model.specs.Recover.{reopened}
-use Rattle.model.proofs.Lists.{eqb-true, in-here, eqb-self, in-cons, eqb-sym, any-cons, in-keep, not-in, not-in-all, not-true, all-two}
-
-in-added : (tx t : ℕ) (ts : List ℕ) → isIn tx (if isIn t ts then ts else t ∷ ts) ≡ (eqb t tx || isIn tx ts)
-unfolding if_then_else_
-in-added tx t ts =
-    by (eqb t tx)
-    (λ e. let q = eqb-true t tx e in by (isIn t ts) (λ h. rw (h, e) (ap (λ z. isIn z ts) (sym q) ∙ h))
-    (λ h. rw (h, e) (in-here tx t ts (ap (λ z. eqb tx z) q ∙ eqb-self tx))))
-    (λ e. by (isIn t ts) (λ h. rw (h, e)) (λ h. rw (h, e) (in-cons tx t ts (eqb-sym t tx e))))
-
-pub in-transactions : (tx : ℕ) (rs : List Row) → isIn tx (transactions rs) ≡ any (isOwn tx) rs
-unfolding transactions
-in-transactions tx [] = unfold isIn any in refl
-in-transactions tx (r ∷ rs) = go ∙ ap (λ z. isOwn tx r || z) (in-transactions tx rs) ∙ sym (any-cons (isOwn tx) r rs)
-  where
-    add : (o : Owner) → isIn tx (addOwner o (transactions rs)) ≡ (isBy tx o || isIn tx (transactions rs))
-    add committed = unfold addOwner isBy in refl
-    add (tentative t s) = unfold addOwner isBy in in-added tx t (transactions rs)
-
-    go : isIn tx (addOwner (r .1 .owner) (transactions rs)) ≡ (isOwn tx r || isIn tx (transactions rs))
-    go = unfold isOwn in add (r .1 .owner)
-
-pub transactions-distinct : (rs : List Row) → distinct (transactions rs) ≡ true
-unfolding transactions
-transactions-distinct [] = unfold distinct in refl
-transactions-distinct (r ∷ rs) = add (r .1 .owner) (transactions rs) (transactions-distinct rs)
-  where
-    add : (o : Owner) (ts : List ℕ) → distinct ts ≡ true → distinct (addOwner o ts) ≡ true
-    add committed ts h = unfold addOwner in h
-    add (tentative t s) ts h = unfold addOwner distinct if_then_else_ in by (isIn t ts) (λ k. rw k h) (λ k. rw k (rw (k, h)))
+use Rattle.model.proofs.Lists.{eqb-true, in-cons, eqb-sym, in-keep, not-in, not-in-all, not-true, all-two}
+pub use Rattle.rows.proofs.Owners.{in-transactions}
+pub use Rattle.rows.proofs.Counts.{transactions-distinct}
 
 -- ---- all open transactions but one
 

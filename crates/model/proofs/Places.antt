@@ -10,6 +10,7 @@ use lib.Dec.{eqb, ltb}
 use lib.ListN.{length, take, drop, length-map}
 use lib.Seq.{take-append-le, drop-append-le, take-append-add, drop-append-add, take-append-seam}
 use Rattle.basics.specs.Basics.{if_then_else_, any, isEmpty}
+use Rattle.basics.proofs.Lists.{map-append}
 use Rattle.basics.proofs.Facts.{by, lie}
 use Rattle.model.specs.State.{Held, Page}
 use Rattle.model.specs.Rules.{fresh, listOf, withTuples, around, gone, goneLater, kept, keptLater, isAdding, isRemoving, withPending, asCommitted}
@@ -38,10 +39,6 @@ numberOf e = e .1 .tuple .number
 -- the numbers of all tuples held
 abbrev pub numbers : List Page → List ℕ
 numbers ps = map numberOf (entries ps)
-
-pub map-append : {A B : Type 0} (f : A → B) (a b : List A) → map f (a ++ b) ≡ map f a ++ map f b
-map-append f [] b = refl
-map-append f (x ∷ a) b = ap (λ z. f x ∷ z) (map-append f a b)
 
 numbers-table : (t : ℕ) (hs : List Held) → map numberOf (withTable t hs) ≡ numbersOn hs
 unfolding withTable

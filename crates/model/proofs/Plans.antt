@@ -10,16 +10,17 @@ use lib.Dec.{eqb}
 use lib.ListN.{length, getD, length-append}
 use lib.Seq.{append-snoc, getD-append-seam}
 use Rattle.basics.specs.Basics.{if_then_else_, keep, any, last}
+use Rattle.basics.proofs.Lists.{map-append}
 use Rattle.basics.proofs.Facts.{by, lie, by-option, AllOf}
+use Rattle.blocks.specs.Tuple.{Tuple}
 use Rattle.rows.specs.Rows.{Row, number, isOwn, isAt}
-use Rattle.model.specs.State.{Held}
-use Rattle.model.specs.Rules.{isRemoving, isCommitting, ripe, asCommitted}
+use Rattle.model.specs.Rules.{isRemoving}
 use Rattle.model.specs.Places.{PlaceOp, commitPlace, removePlace, Placed, rowOf, placed, continues, runs, liveOf, ownPlaced, removePlaces, planNewest, planRun, planRuns}
-use Rattle.model.proofs.Lists.{Pairs, Mem, here, there, mem-all, all-mem, all-map, all-parts, all-keep, any-off, last-off, last-any, last-skip, last-some, last-here, last-mem, eqb-self, eqb-true, and-no, and-yes}
+use Rattle.model.proofs.Lists.{Pairs, all-at, Mem, here, there, mem-all, all-mem, all-map, all-parts, all-keep, any-off, last-off, last-any, last-skip, last-some, last-here, last-mem, eqb-self, eqb-true, and-no, and-yes}
 use Rattle.model.proofs.ByNumber.{Op, toCommit, toRemove, removeAll, isRow, planKey, ownAt, planRows, plan-skip, plan-take}
-use Rattle.model.proofs.Rows.{Entry}
+use Rattle.model.proofs.Rows.{Entry, ripe-is}
 use Rattle.model.proofs.Fate.{With}
-use Rattle.model.proofs.Places.{numberOf, map-append}
+use Rattle.model.proofs.Places.{numberOf}
 use Rattle.model.proofs.Carry.{numbered, Rising}
 use Rattle.model.proofs.Runs.{rowsIn, rows-append, flat, Grouped}
 
@@ -109,17 +110,12 @@ module _ (n : ℕ) where
 abbrev pub Named : List ℕ → ℕ → ℕ → Type 0
 Named ns i n = (i < length ns) × (getD ns i 0 ≡ n)
 
-all-at : (P : ℕ → Type 0) (xs : List ℕ) (i : ℕ) → i < length xs → AllOf P xs → P (getD xs i 0)
-all-at P [] i h a = absurd (omega arith)
-all-at P (x ∷ xs) zero h a = a .0
-all-at P (x ∷ xs) (suc i) h a = all-at P xs i (omega arith) (a .1)
-
 -- distinct numbers stand at distinct places
 same-place : (ns : List ℕ) → Pairs (λ a b. a ≢ b) ns → (i j : ℕ) → i < length ns → j < length ns → getD ns i 0 ≡ getD ns j 0 → i ≡ j
 same-place [] d i j h k e = absurd (omega arith)
 same-place (n ∷ ns) d zero zero h k e = refl
-same-place (n ∷ ns) d zero (suc j) h k e = absurd (all-at (λ x. n ≢ x) ns j (omega arith) (d .0) e)
-same-place (n ∷ ns) d (suc i) zero h k e = absurd (all-at (λ x. n ≢ x) ns i (omega arith) (d .0) (sym e))
+same-place (n ∷ ns) d zero (suc j) h k e = absurd (all-at (λ x. n ≢ x) 0 ns j (omega arith) (d .0) e)
+same-place (n ∷ ns) d (suc i) zero h k e = absurd (all-at (λ x. n ≢ x) 0 ns i (omega arith) (d .0) (sym e))
 same-place (n ∷ ns) d (suc i) (suc j) h k e = ap suc (same-place ns (d .1) i j (omega arith) (omega arith) e)
 
 place-number : (ns : List ℕ) → Pairs (λ a b. a ≢ b) ns → (i j m n : ℕ) → Named ns i m → Named ns j n → eqb i j ≡ eqb m n
@@ -144,16 +140,12 @@ named-placed ms (e ∷ es) =
           (subst (λ q. AllOf (λ x. Named q (x .0) (rowOf x .1 .number)) (placed (length (ms ++ numberOf e ∷ [])) es)) (append-assoc ms (numberOf e ∷ []) (map numberOf es)) r),
     )
 
-ripe-number : (h : Held) → ripe h .number ≡ h .tuple .number
-unfolding ripe asCommitted if_then_else_
-ripe-number h = by (isCommitting (h .pending)) (λ k. rw k) (λ k. rw k)
-
 pub named-live : (ns : List ℕ) (xs : List Placed) → AllOf (λ x. Named ns (x .0) (rowOf x .1 .number)) xs → AllOf (λ y. Named ns (y .0) (y .1 .1 .number)) (liveOf xs)
 unfolding liveOf if_then_else_
 named-live ns [] a = tt
 named-live ns (x ∷ xs) a =
     by (isRemoving (x .1 .1 .pending)) (λ h. rw h (named-live ns xs (a .1)))
-    (λ h. rw h ((a .0 .0, a .0 .1 ∙ sym (ripe-number (x .1 .1))), named-live ns xs (a .1)))
+    (λ h. rw h ((a .0 .0, a .0 .1 ∙ sym (ap (λ (z : Tuple). z .number) (ripe-is (x .1 .1)))), named-live ns xs (a .1)))
 
 -- ---- plans
 
@@ -226,16 +218,12 @@ module _ (tx : ℕ) (ev : List Row) where
       plan-skip tx ev x (L ++ Y) (ap (λ b. isOwn tx x && b) e ∙ and-no (isOwn tx x)) ∙ ih
       ∙ ap (λ w. newest w vs ++ planRows tx ev Y) (n ∙ sym (last-some (isOwn tx) x L z n)))
 
-ripe-key : (h : Held) → ripe h .key ≡ h .tuple .key
-unfolding ripe asCommitted if_then_else_
-ripe-key h = by (isCommitting (h .pending)) (λ k. rw k) (λ k. rw k)
-
 rows-all : (P : ℕ → ℕ → Type 0) (xs : List Placed) → AllOf (λ x. P (rowOf x .0) (rowOf x .1 .key)) xs → AllOf (λ r. P (r .0) (r .1 .key)) (rowsIn xs)
 unfolding liveOf if_then_else_
 rows-all P [] a = tt
 rows-all P (x ∷ xs) a =
     by (isRemoving (x .1 .1 .pending)) (λ h. rw h (rows-all P xs (a .1)))
-    (λ h. rw h (subst (P (x .1 .0)) (sym (ripe-key (x .1 .1))) (a .0), rows-all P xs (a .1)))
+    (λ h. rw h (subst (P (x .1 .0)) (sym (ap (λ (z : Tuple). z .key) (ripe-is (x .1 .1)))) (a .0), rows-all P xs (a .1)))
 
 pairs-of : (R : Row → Row → Type 0) (L : List Row) → AllOf (λ r. AllOf (R r) L) L → Pairs R L
 pairs-of R [] a = tt

@@ -3,21 +3,22 @@ use mathlib.Core.Path.{_≡_, ap, refl, sym, _∙_}
 use Prim.Native.Nat.{_-_, ℕ}
 use native.Mathlib.Omega.{arith}
 use mathlib.Core.Bool.{true}
-use mathlib.Core.List.{List, map, [], _∷_, _++_}
+use mathlib.Core.List.{List, [], _∷_, _++_}
 use mathlib.Core.Option.{some}
 use Rattle.basics.specs.Basics.{if_then_else_, isIn}
-use Rattle.basics.proofs.Facts.{by, by-option, never, AllOf}
+use Rattle.basics.proofs.Facts.{by, by-option, AllOf}
 use Rattle.blocks.specs.Block.{page, header, directory, Block, malformed}
 use Rattle.blocks.specs.Limits.{entriesPerBlock}
 use Rattle.blocks.specs.declared.Header.{Header}
 use Rattle.rows.specs.Rows.{rowsOk}
 use Rattle.image.specs.Whole.{pagesStage, pagesBelow}
-use Rattle.image.specs.Stages.{refuses, holds, StoredPage, headerOk, readDirectories, directoryBlocks, entriesOk, readPages, rowsOfPages, headerTest, directoryTest, testedEntries, pageTest, testedPages, addPage, pageOk}
+use Rattle.image.specs.Stages.{refuses, holds, StoredPage, headerOk, readDirectories, directoryBlocks, entriesOk, readPages, rowsOfPages, headerTest, directoryTest, testedEntries, pageTest, testedPages}
 use Rattle.image.specs.View.{View}
+pub use Rattle.image.proofs.Staged.{read-blocks}
 use Rattle.model.specs.State.{Store}
 use Rattle.model.specs.Recover.{recoveredStore, recoverPages}
 use Rattle.model.proofs.Views.{recoverView, recoverFrom}
-use Rattle.model.proofs.Lists.{some-eq, all-parts, all-in}
+use Rattle.model.proofs.Lists.{all-parts, all-in}
 
 pub refuses-holds {ℓ} : {A : Type 0} {X : Type ℓ} {n : ℕ} {a : A} → refuses n ≡ holds a → X
 refuses-holds e = let z : _≡_ {A = ℕ} 0 1 = cc in absurd (omega arith)
@@ -76,24 +77,6 @@ unfolding recoverView recoverFrom headerTest pagesStage pagesBelow directoryTest
 recovers n v s f = rw (f .top, f .head-ok, f .listed, f .entries-ok, f .read, f .rows-ok) (ap holds (f .store))
 
 -- ---- the blocks named
-
-pub read-blocks : (v : View) (l : ℕ) (es : List ℕ) (ps : List StoredPage) → readPages v l es ≡ some ps → map (λ p. p .block) ps ≡ es
-unfolding readPages addPage if_then_else_
-read-blocks v l [] ps e = ap (map (λ p. p .block)) (sym (some-eq e))
-read-blocks v l (e ∷ es) ps h = go (v e) h (read-blocks v l es)
-  where
-    go : (x : Block) → addPage l e x (readPages v l es) ≡ some ps
-        → ((qs : List StoredPage) → readPages v l es ≡ some qs → map (λ p. p .block) qs ≡ es)
-        → map (λ p. p .block) ps ≡ e ∷ es
-    go malformed h r = never h
-    go (header a) h r = never h
-    go (directory k ds) h r = never h
-    go (page t k ts) h r =
-        by (pageOk l k ts)
-        (λ y. by-option (readPages v l es)
-        (λ z. never (rw (y, z) at h))
-        (λ qs z. ap (map (λ p. p .block)) (sym (some-eq (rw (y, z) at h))) ∙ ap (λ u. e ∷ u) (r qs z)))
-        (λ y. never (rw y at h))
 
 pub found-used : {n : ℕ} {v : View} {s : Store} (f : Found n v s) (b : ℕ) → s .used b ≡ isIn b (f .entries ++ directoryBlocks (f .head))
 unfolding recoveredStore

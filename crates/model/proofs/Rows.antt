@@ -93,7 +93,7 @@ entries-fresh t (ts ∷ tss) = rw (entries-fresh t tss, table-append t ts (toget
 
 -- ---- settling leaves the entries
 
-joins-table : (p q : Page) → joins p q ≡ true → p .table ≡ q .table
+pub joins-table : (p q : Page) → joins p q ≡ true → p .table ≡ q .table
 unfolding joins
 joins-table p q e = by (p .frozen) (λ h. lie (rw (h, joins) at e))
     (λ h. by (q .frozen) (λ k. lie (rw (h, k, joins) at e)) (λ k. eqb-true (p .table) (q .table) (and-true (eqb (p .table) (q .table)) _ (rw (h, k, joins) at e) .0)))
@@ -295,9 +295,14 @@ Differ a b = a .1 .number ≢ b .1 .number
 abbrev pub Apart : Entry → Entry → Type 0
 Apart a b = Differ (asRow a) (asRow b)
 
+-- a live row is its tuple but for the owner
+pub ripe-is : (h : Held) → ripe h ≡ record { key = h .tuple .key; number = h .tuple .number; owner = ripe h .owner; mark = h .tuple .mark; payload = h .tuple .payload }
+unfolding ripe asCommitted if_then_else_
+ripe-is h = by (isCommitting (h .pending)) (λ k. rw k) (λ k. rw k)
+
 ripe-number : (n t : ℕ) (x : Held) → isRow n (t, ripe x) ≡ isNumber n x
-unfolding isRow number isNumber ripe asCommitted if_then_else_
-ripe-number n t x = by (isCommitting (x .pending)) (λ h. rw h) (λ h. rw h)
+unfolding isRow number isNumber
+ripe-number n t x = ap (λ (z : Tuple). eqb (z .number) n) (ripe-is x)
 
 -- rows without that number stay
 amend-off : (G : Row → List Row) (n : ℕ) (rs : List Entry) → AllOf (λ r. isNumber n (r .1) ≡ false) rs → amend G n (live rs) ≡ live rs

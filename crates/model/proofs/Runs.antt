@@ -5,15 +5,15 @@ use native.Mathlib.Omega.{arith}
 use mathlib.Core.List.{List, [], _∷_, _++_, map, append-assoc, append-nil}
 use mathlib.Core.Bool.{Bool, true, false}
 use Rattle.basics.specs.Basics.{if_then_else_, keep}
+use Rattle.basics.proofs.Lists.{map-append}
 use Rattle.basics.proofs.Facts.{by, lie, AllOf}
 use Rattle.rows.specs.Rows.{Row, isAt}
-use Rattle.model.specs.Rules.{isRemoving, isCommitting, ripe, asCommitted}
+use Rattle.model.specs.Rules.{isRemoving, ripe}
 use Rattle.model.specs.Places.{Placed, rowOf, placed, continues, runs, liveOf}
 use Rattle.model.proofs.Lists.{Pairs, all-mem, all-map, all-two, all-append, all-parts, pairs-parts, keep-append, keep-all, keep-none}
-use Rattle.model.proofs.Rows.{Entry, live}
+use Rattle.model.proofs.Rows.{Entry, live, ripe-is}
 use Rattle.model.proofs.Placing.{Before}
-use Rattle.model.proofs.Fate.{With, at-split, at-join}
-use Rattle.model.proofs.Places.{map-append}
+use Rattle.model.proofs.Fate.{With, with-self, with-as, with-sym, at-split, at-join}
 
 -- ---- the live rows of placed tuples
 
@@ -35,35 +35,18 @@ rows-placed i [] = refl
 rows-placed i (e ∷ es) =
     by (isRemoving (e .1 .pending)) (λ h. rw h (rows-placed (suc i) es)) (λ h. rw h (ap (λ z. (e .0, ripe (e .1)) ∷ z) (rows-placed (suc i) es)))
 
-ripe-at : (t k : ℕ) (x : Placed) → isAt t k (x .1 .0, ripe (x .1 .1)) ≡ isAt t k (rowOf x)
-unfolding isAt ripe asCommitted if_then_else_
-ripe-at t k x = by (isCommitting (x .1 .1 .pending)) (λ h. rw h) (λ h. rw h)
-
 -- the key of a live row is its tuple's
 rows-at : (t k : ℕ) (b : Bool) (xs : List Placed) → AllOf (λ x. isAt t k (rowOf x) ≡ b) xs → AllOf (λ r. isAt t k r ≡ b) (rowsIn xs)
-unfolding liveOf if_then_else_
+unfolding liveOf isAt if_then_else_
 rows-at t k b [] a = tt
 rows-at t k b (x ∷ xs) a =
-    by (isRemoving (x .1 .1 .pending)) (λ h. rw h (rows-at t k b xs (a .1))) (λ h. rw h (ripe-at t k x ∙ a .0, rows-at t k b xs (a .1)))
+    by (isRemoving (x .1 .1 .pending)) (λ h. rw h (rows-at t k b xs (a .1))) (λ h. rw h (ap (λ z. isAt t k (x .1 .0, z)) (ripe-is (x .1 .1)) ∙ a .0, rows-at t k b xs (a .1)))
 
 -- ---- runs of one key
 
 -- x and z are of one table and key
 abbrev Same : Placed → Placed → Bool
 Same x z = With (rowOf x) (rowOf z)
-
-same-self : (x : Placed) → Same x x ≡ true
-same-self x = at-join (rowOf x .0) (rowOf x .1 .key) (rowOf x) refl refl
-
--- of one key with y: the same as y to every other
-same-as : (y x : Placed) (q : Row) → Same y x ≡ true → With (rowOf x) q ≡ With (rowOf y) q
-same-as y x q h = let s = at-split (rowOf y .0) (rowOf y .1 .key) (rowOf x) h in ap₂ (λ t k. isAt t k q) (s .0) (s .1)
-
-same-back : (y x : Placed) → Same y x ≡ false → Same x y ≡ false
-same-back y x h =
-    by (Same x y)
-    (λ k. let s = at-split (rowOf x .0) (rowOf x .1 .key) (rowOf y) k in lie (sym h ∙ at-join (rowOf y .0) (rowOf y .1 .key) (rowOf x) (sym (s .0)) (sym (s .1))))
-    (λ k. k)
 
 -- tuples that rise: what stands behind one of another key is of another key
 same-later : (y x z : Placed) → Before (rowOf y) (rowOf x) → Before (rowOf x) (rowOf z) → Same y x ≡ false → Same y z ≡ false
@@ -104,7 +87,7 @@ module _ (ev : List Row) (y : Placed) (run behind : List Placed) (same : AllOf (
       (λ x s e. sym (e ∙ keep-same y x (rowsIn (run ++ behind)) s ∙ run-at)) run same h
 
   run-apart : (z : Placed) → Same y z ≡ false → AllOf (λ x. Same z x ≡ false) run
-  run-apart z h = all-map _ _ (λ x s. same-back x z (same-as y x (rowOf z) s ∙ h)) run same
+  run-apart z h = all-map _ _ (λ x s. with-sym (rowOf x) (rowOf z) (with-as (rowOf y) (rowOf x) (rowOf z) s ∙ h)) run same
 
   behind-rows : AllOf (λ z. keep (With (rowOf z)) ev ≡ keep (With (rowOf z)) (rowsIn (run ++ behind))) behind
       → AllOf (λ z. keep (With (rowOf z)) ev ≡ keep (With (rowOf z)) (rowsIn behind)) behind
@@ -116,7 +99,7 @@ module _ (ev : List Row) (y : Placed) (run behind : List Placed) (same : AllOf (
 
   behind-apart : AllOf (λ x. AllOf (λ q. With (rowOf x) q ≡ false) (rowsIn behind)) run
   behind-apart = all-map _ _
-      (λ x s. rows-at _ _ false behind (all-map (λ z. Same y z ≡ false) (λ z. Same x z ≡ false) (λ z d. same-as y x (rowOf z) s ∙ d) behind other)) run same
+      (λ x s. rows-at _ _ false behind (all-map (λ z. Same y z ≡ false) (λ z. Same x z ≡ false) (λ z d. with-as (rowOf y) (rowOf x) (rowOf z) s ∙ d) behind other)) run same
 
 -- tuples that rise
 abbrev pub Risen : List Placed → Type 0
@@ -139,7 +122,7 @@ group ev y run (x ∷ xs) s r h =
     let b : AllOf (λ z. Before (rowOf y) (rowOf z)) (x ∷ xs) = p .2 .0 in
     let o : AllOf (λ z. Same y z ≡ false) (x ∷ xs) = (c, all-map _ _ (λ z k. same-later y x z (b .0) k c) xs (p .1 .0)) in
     let q = all-parts _ (y ∷ run) (x ∷ xs) h in
-    let g = group ev x [] xs (same-self x, tt) (p .1) (behind-rows ev y (y ∷ run) (x ∷ xs) s o (q .1)) in
+    let g = group ev x [] xs (with-self (rowOf x), tt) (p .1) (behind-rows ev y (y ∷ run) (x ∷ xs) s o (q .1)) in
     rw (c, runs) (
       (
         run-rows ev y (y ∷ run) (x ∷ xs) s o (q .0),
@@ -152,4 +135,4 @@ group ev y run (x ∷ xs) s r h =
 pub group-all : (xs : List Placed) → Risen xs → Grouped (rowsIn xs) (runs [] xs) × (flat (runs [] xs) ≡ xs)
 unfolding runs continues flat
 group-all [] r = ((tt, tt, tt), refl)
-group-all (x ∷ xs) r = group (rowsIn (x ∷ xs)) x [] xs (same-self x, tt) r (all-mem _ (x ∷ xs) (λ z m. refl))
+group-all (x ∷ xs) r = group (rowsIn (x ∷ xs)) x [] xs (with-self (rowOf x), tt) r (all-mem _ (x ∷ xs) (λ z m. refl))

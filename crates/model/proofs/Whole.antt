@@ -15,6 +15,7 @@ use Rattle.blocks.specs.declared.Header.{Header}
 use Rattle.rows.specs.Rows.{rowsOf, Row, isOwn, openLimit, rowsOk, transactions, markOk, statementOk, number, isBelow, isBy, follows, startsWell}
 use Rattle.image.specs.Stages.{StoredPage, rowsOfPages, capacityLimit}
 use Rattle.image.specs.View.{View}
+use Rattle.image.proofs.Collect.{length-rows}
 use Rattle.model.specs.State.{Held, Page, Store, idle}
 use Rattle.model.specs.Rules.{ripe, ripened, isRemoving, isCommitting, calm, shown, heldSize}
 use Rattle.model.specs.Sight.{rows, held}
@@ -57,11 +58,6 @@ page-some : (p : Page) → PageOk p → isEmpty (content p .1) ≡ false
 unfolding content
 page-some p o = nonempty (bare (p .tuples)) (let y = length-map (p .tuples) (λ h. h .tuple) in let l = page-full p o in omega arith)
 
-rows-length : (t : ℕ) (ts : List Tuple) → length (rowsOf t ts) ≡ length ts
-unfolding rowsOf
-rows-length t [] = refl
-rows-length t (x ∷ xs) = ap suc (rows-length t xs)
-
 pages-few : (ps : List Page) → AllOf PageOk ps → length ps ≤ length (held ps)
 pages-few [] a = omega arith
 pages-few (p ∷ ps) a =
@@ -69,7 +65,7 @@ pages-few (p ∷ ps) a =
     let h = page-full p (a .0) in
     let y = length-map (p .tuples) (λ h. h .tuple) in
     let e : length (held (p ∷ ps)) ≡ length (bare (p .tuples)) + length (held ps)
-    = unfold held in length-append (rowsOf (p .table) (bare (p .tuples))) (held ps) ∙ ap (λ z. z + length (held ps)) (rows-length (p .table) (bare (p .tuples))) in
+    = unfold held in length-append (rowsOf (p .table) (bare (p .tuples))) (held ps) ∙ ap (λ z. z + length (held ps)) (length-rows (p .table) (bare (p .tuples))) in
     omega arith
 
 pub few-pages : (s : Store) → Valid s → length (s .pages) ≤ s .capacity

@@ -47,7 +47,7 @@ unfolding addOwner distinct if_then_else_
 added-distinct committed ts d = d
 added-distinct (tentative t s) ts d = by (isIn t ts) (λ h. rw h d) (λ h. rw (h, h) d)
 
-transactions-distinct : (rs : List Row) → distinct (transactions rs) ≡ true
+pub transactions-distinct : (rs : List Row) → distinct (transactions rs) ≡ true
 unfolding transactions distinct
 transactions-distinct [] = refl
 transactions-distinct (r ∷ rs) = added-distinct (r .1 .owner) (transactions rs) (transactions-distinct rs)

@@ -1,6 +1,9 @@
+use Rattle.engine_close.specs.Close.{taggedOf}
 use Rattle.engine_close.proofs.Closing.{own-gone}
 use Rattle.engine_close.proofs.Next.{less-than, none-aborted, one-aborted}
 use Rattle.memory_layout.proofs.Laws.{holds-room}
+use Prim.Native.Nat.{_<_}
+use lib.ListN.{length}
 use mathlib.Core.Path.{sym, _∙_}
 use native.Mathlib.Omega.{arith}
 use borrow.Author.Needs.{needs}
@@ -20,17 +23,23 @@ returns : tie.Need-returns
 returns c = let p3 = c .before .before .before in let p6 = p3 .before .before .before in
     none-aborted (p6 .pre .0) (p6 .pre .1) (p3 .next-own .ensures) (c .if1 .taken ∙ c .before .row-count .ensures)
 
+-- there is an own row
+own-there : (c : tie.Else1) → c .before .before .before .next-own .result < length (taggedOf (c .before .before .before .before .before .before .args .m .now))
+own-there c = less-than (c .before .before .before .next-own .ensures .most) (λ q. c .if1 .left (q ∙ sym (c .before .row-count .ensures)))
+
+page-of-requires : tie.Need-page-of-requires
+page-of-requires c κs = let p1 = c .before in (holds-room _ (p1 .before .before .before .before .before .before .pre .0), own-there p1)
+
 remove-row-requires : tie.Need-remove-row-requires
-remove-row-requires c κs = search needs
+remove-row-requires c κs = let p3 = c .before .before .before in (p3 .before .before .before .before .before .before .pre .0, own-there p3)
 
 same-length-2 : tie.Need-same-length-2
 same-length-2 c = search needs
 
 returns-2 : tie.Need-returns-2
-returns-2 c = let p2 = c .before .before in let p4 = p2 .before .before in let p5 = p4 .before in let p7 = p5 .before .before in
-    let p10 = p7 .before .before .before in
-    let o = p7 .next-own .ensures in let h = less-than (p7 .next-own .ensures .most) (λ q. p4 .if1 .left (q ∙ sym (p5 .row-count .ensures))) in
-    one-aborted o (own-gone h (p2 .remove-row .ensures) (p10 .args .transaction) (o .found h))
+returns-2 c = let p2 = c .before .before in let p6 = p2 .before .before .before .before in let p9 = p6 .before .before .before in
+    let h = own-there p6 in let o = p9 .next-own .ensures in
+    one-aborted o (own-gone h (p2 .remove-row .ensures) (p9 .before .before .before .args .transaction) (o .found h))
 
 pub abort-next-spec : {M : Type 1} → statement M
 abort-next-spec =
@@ -40,6 +49,7 @@ abort-next-spec =
     row-count-requires
     same-length
     returns
+    page-of-requires
     remove-row-requires
     same-length-2
     returns-2)

@@ -1,6 +1,11 @@
+use Rattle.engine_close.specs.Close.{taggedOf, rowFrom}
+use Rattle.engine_close.proofs.Memory.{table-is}
 use Rattle.engine_close.proofs.Next.{less-than, none-closed, one-closed}
+use Rattle.memory_layout.specs.Flat.{Room}
 use Rattle.memory_layout.proofs.Laws.{holds-room}
-use mathlib.Core.Path.{sym, _∙_}
+use Prim.Native.Nat.{_<_}
+use lib.ListN.{length}
+use mathlib.Core.Path.{_≡_, sym, _∙_}
 use native.Mathlib.Omega.{arith}
 use borrow.Author.Needs.{needs}
 use Rattle.engine_close.proofs.close_next.Statement.{statement}
@@ -19,21 +24,39 @@ returns : tie.Need-returns
 returns c = let p3 = c .before .before .before in let p6 = p3 .before .before .before in
     none-closed (p6 .pre .0) (p6 .pre .1) (p3 .next-own .ensures) (c .if1 .taken ∙ c .before .row-count .ensures)
 
+-- there is an own row
+row-there : (c : tie.Else1) →
+    let m = c .before .before .before .before .before .before .args .m .now in Room m × (c .before .before .before .next-own .result < length (taggedOf m))
+row-there c = let p3 = c .before .before .before in
+    (holds-room _ (p3 .before .before .before .pre .0), less-than (p3 .next-own .ensures .most) (λ q. c .if1 .left (q ∙ sym (c .before .row-count .ensures))))
+
+page-of-requires : tie.Need-page-of-requires
+page-of-requires c κs = row-there (c .before)
+
+table-of-requires : tie.Need-table-of-requires
+table-of-requires c κs = (row-there (c .before .before .before) .0, c .before .page-of .ensures .high)
+
+cast-t : tie.Need-cast-t
+cast-t c = search needs
+
+-- the table of its page is its table
+table-there : (c : tie.After-table-of) →
+    let p7 = c .before .before .before .before .before .before .before in
+    (c .table-of .result ≡ rowFrom (taggedOf (p7 .before .before .before .args .m .now)) (p7 .next-own .result) .0) × (c .table-of .result < 8)
+table-there c = let p2 = c .before .before in
+    (c .table-of .ensures .0 ∙ sym (table-is _ (row-there (p2 .before .before) .0) (p2 .page-of .ensures)), c .table-of .ensures .1)
+
 run-start-requires : tie.Need-run-start-requires
-run-start-requires c κs = let p2 = c .before .before in let p4 = p2 .before .before in let p7 = p4 .before .before .before in
-    (holds-room _ (p7 .pre .0), (p4 .next-own .ensures .low, less-than (p4 .next-own .ensures .most) (λ q. c .before .if1 .left (q ∙ sym (p2 .row-count .ensures)))))
+run-start-requires c κs = let p5 = c .before .before .before .before .before in let h = row-there p5 in
+    ((h .0, (p5 .before .before .before .next-own .ensures .low, h .1)), table-there (c .before))
 
 run-end-requires : tie.Need-run-end-requires
-run-end-requires c κs = let p3 = c .before .before .before in let p4 = p3 .before in let p6 = p4 .before .before in
-    let p9 = p6 .before .before .before in
-    (holds-room _ (p9 .pre .0), less-than (p6 .next-own .ensures .most) (λ q. p3 .if1 .left (q ∙ sym (p4 .row-count .ensures))))
+run-end-requires c κs = let p3 = c .before .before .before in (row-there (p3 .before .before .before .before), table-there p3)
 
 newest-own-requires : tie.Need-newest-own-requires
-newest-own-requires c κs = let p5 = c .before .before .before .before .before in
-    let p6 = p5 .before in let p8 = p6 .before .before in
-    let p11 = p8 .before .before .before in
-    let t = c .before .run-end .ensures in let o = p8 .next-own .ensures in
-    (holds-room _ (p11 .pre .0), (t .low, (t .most, o .found (less-than (p8 .next-own .ensures .most) (λ q. p5 .if1 .left (q ∙ sym (p6 .row-count .ensures)))))))
+newest-own-requires c κs = let p9 = c .before .before .before .before .before .before .before .before .before in
+    let h = row-there p9 in let t = c .before .run-end .ensures in
+    (h .0, (t .low, (t .most, p9 .before .before .before .next-own .ensures .found (h .1))))
 
 close-run-requires : tie.Need-close-run-requires
 close-run-requires c κs = search needs
@@ -43,8 +66,8 @@ same-length-2 c = search needs
 
 returns-2 : tie.Need-returns-2
 returns-2 c = let p2 = c .before .before in let p4 = p2 .before .before in let p6 = p4 .before .before in let p8 = p6 .before .before in
-    let p13 = p8 .before .before .before .before .before in
-    one-closed (p13 .next-own .ensures) (p8 .run-start .ensures) (p6 .run-end .ensures) (p4 .newest-own .ensures) (p2 .close-run .ensures)
+    let p17 = p8 .before .before .before .before .before .before .before .before .before in
+    one-closed (p17 .next-own .ensures) (p8 .run-start .ensures) (p6 .run-end .ensures) (p4 .newest-own .ensures) (p2 .close-run .ensures)
 
 pub close-next-spec : {M : Type 1} → statement M
 close-next-spec =
@@ -54,6 +77,9 @@ close-next-spec =
     row-count-requires
     same-length
     returns
+    page-of-requires
+    table-of-requires
+    cast-t
     run-start-requires
     run-end-requires
     newest-own-requires

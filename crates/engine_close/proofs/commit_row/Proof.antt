@@ -7,12 +7,12 @@ use borrow.Author.Needs.{needs}
 use Rattle.engine_close.proofs.commit_row.Statement.{statement}
 use Rattle.engine_close.proofs.commit_row.Tie as tie
 
-page-of-requires : tie.Need-page-of-requires
-page-of-requires c κs = let p = c .before .before .pre in (holds-room _ (p .0), p .1)
+page-near-requires : tie.Need-page-near-requires
+page-near-requires c κs = let p = c .before .before .pre in (holds-room _ (p .0), p .1)
 
 commit-at-requires : tie.Need-commit-at-requires
 commit-at-requires c κs = let p4 = c .before .before .before .before in
-    row-on (p4 .pre .0) (c .before .page-of .ensures)
+    row-on (p4 .pre .0) (c .before .page-near .ensures)
 
 same-length : tie.Need-same-length
 same-length c = search needs
@@ -22,4 +22,4 @@ returns c = let p2 = c .before .before in let st = p2 .before .before .before .b
     turned (commitRow (st .args .i) (pagesOf (st .args .m .now))) (p2 .commit-at .ensures)
 
 pub commit-row-spec : {M : Type 1} → statement M
-commit-row-spec = tie.close (tie.spec page-of-requires commit-at-requires same-length returns)
+commit-row-spec = tie.close (tie.spec page-near-requires commit-at-requires same-length returns)

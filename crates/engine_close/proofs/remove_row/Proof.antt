@@ -13,12 +13,12 @@ use Rattle.engine_close.proofs.remove_row.Tie as tie
 row-count-requires : tie.Need-row-count-requires
 row-count-requires c κs = holds-room _ (c .before .before .pre .0)
 
-page-of-requires : tie.Need-page-of-requires
-page-of-requires c κs = let p = c .before .before .before .before .pre in (holds-room _ (p .0), p .1)
+page-near-requires : tie.Need-page-near-requires
+page-near-requires c κs = let p = c .before .before .before .before .pre in (holds-room _ (p .0), p .1)
 
 remove-at-requires : tie.Need-remove-at-requires
 remove-at-requires c κs = let p6 = c .before .before .before .before .before .before in
-    row-on (p6 .pre .0) (c .before .page-of .ensures)
+    row-on (p6 .pre .0) (c .before .page-near .ensures)
 
 add-result : tie.Need-add-result
 add-result c = let st = c .before .before .before .before .before .before .before .before .before in
@@ -51,7 +51,7 @@ remove-row-spec =
     tie.close
     (tie.spec
     row-count-requires
-    page-of-requires
+    page-near-requires
     remove-at-requires
     add-result
     row-count-requires-2

@@ -5,10 +5,10 @@ use Rattle.engine_close.proofs.remove_rows.Statement.{statement}
 use Rattle.engine_close.proofs.remove_rows.Tie as tie
 
 abbrev Inv-loop : tie.InvT-loop
-Inv-loop m₀ i k r₀ left₀ m r left = LiveLeft m₀ m i k r left
+Inv-loop m₀ i k near r₀ left₀ m r left = LiveLeft m₀ m i k r left
 
 abbrev μ-loop : tie.MeasureT-loop
-μ-loop m₀ i k r₀ left₀ m r left = left
+μ-loop m₀ i k near r₀ left₀ m r left = left
 
 loop-holds : tie.Need-loop-holds Inv-loop μ-loop
 loop-holds c = left-starts (c .before .pre .0) (c .before .pre .1)

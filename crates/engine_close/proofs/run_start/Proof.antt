@@ -10,41 +10,37 @@ use Rattle.engine_close.proofs.run_start.Statement.{statement}
 use Rattle.engine_close.proofs.run_start.Tie as tie
 
 abbrev Inv-loop : tie.InvT-loop
-Inv-loop m from i low key r₀ r = (low ≤ r) × ((r ≤ i) × Back m i r)
+Inv-loop m from i t low key r₀ r = (low ≤ r) × ((r ≤ i) × Back m i r)
 
 abbrev μ-loop : tie.MeasureT-loop
-μ-loop m from i low key r₀ r = r
-
-table-at-requires : tie.Need-table-at-requires Inv-loop μ-loop
-table-at-requires c κs = let st = c .before in (st .pre .0, st .pre .1 .1)
+μ-loop m from i t low key r₀ r = r
 
 first-row-requires : tie.Need-first-row-requires Inv-loop μ-loop
-first-row-requires c κs = let st = c .before .before in (st .pre .0, omega (arith, c .table-at .ensures .1))
+first-row-requires c κs = let p = c .before .pre in (p .0 .0, omega (arith, p .1 .1))
 
 later-requires : tie.Need-later-requires Inv-loop μ-loop
 later-requires c κs = search needs
 
 key-at-requires : tie.Need-key-at-requires Inv-loop μ-loop
-key-at-requires c κs = let st = c .before .before .before .before in (st .pre .0, omega (arith, st .pre .1 .1, tagged-length (st .args .m .now) (st .pre .0)))
+key-at-requires c κs = let st = c .before .before .before in let p = st .pre .0 in (p .0, omega (arith, p .1 .1, tagged-length (st .args .m .now) (p .0)))
 
 loop-holds : tie.Need-loop-holds Inv-loop μ-loop
-loop-holds c = let p2 = c .before .before in let p3 = p2 .before in let st = p3 .before .before in
-    let t = p3 .table-at in let m = st .args .m .now in let v = c .before .later in
-    let f = first-low m (st .pre .0) (st .args .i) (st .pre .1 .1) (t .result) (t .ensures .0) (t .ensures .1) (p2 .first-row .ensures) in
-    (⊎-elim (λ x. omega (arith, v .ensures .1 .1 x)) (λ x. omega (arith, st .pre .1 .0)) (lt-or-ge (st .args .from) (v .result)), (omega arith, λ j x y. absurd (omega arith)))
+loop-holds c = let p2 = c .before .before in let st = p2 .before .before in
+    let v = c .before .later in let p = st .pre .0 in
+    let f = first-low (p .0) (p .1 .1) (st .pre .1) (p2 .first-row .ensures) in
+    (⊎-elim (λ x. omega (arith, v .ensures .1 .1 x)) (λ x. omega (arith, p .1 .0)) (lt-or-ge (st .args .from) (v .result)), (omega arith, λ j x y. absurd (omega arith)))
 
 sub-key-at : tie.Need-sub-key-at Inv-loop μ-loop
 sub-key-at c = omega arith
 
 key-at-requires-2 : tie.Need-key-at-requires-2 Inv-loop μ-loop
-key-at-requires-2 c κs = let st = c .before .before .before .before .before .before .before in
-    (st .pre .0, omega (arith, st .pre .1 .1, tagged-length (st .args .m .now) (st .pre .0)))
+key-at-requires-2 c κs = let st = c .before .before .before .before .before .before in let p = st .pre .0 in
+    (p .0, omega (arith, p .1 .1, tagged-length (st .args .m .now) (p .0)))
 
 returns : tie.Need-returns Inv-loop μ-loop
-returns c = let p3 = c .before .before .before in let p4 = p3 .before in let p5 = p4 .before in let p6 = p5 .before in let p7 = p6 .before in
-    let st = p7 .before .before in
-    let l = p3 .loop in let t = p7 .table-at in let m = st .args .m .now in let i = st .args .i in
-    back-ends m (st .pre .0) i (st .pre .1 .1) (t .result) (t .ensures .0) (t .ensures .1) (p6 .first-row .ensures) (l .r) (l .inv .1 .1) (st .args .from)
+returns c = let p3 = c .before .before .before in let p4 = p3 .before in let p5 = p4 .before in let p6 = p5 .before in
+    let st = p6 .before .before in let l = p3 .loop in let p = st .pre .0 in
+    back-ends (p .0) (p .1 .1) (st .pre .1) (p6 .first-row .ensures) (l .inv .1 .1) (st .args .from)
     (omega (arith, p5 .later .ensures .0, l .inv .0)) (l .inv .1 .0) (λ q. c .if1 .taken (c .before .key-at2 .ensures ∙ q ∙ sym (p4 .key-at .ensures)))
 
 sub-r : tie.Need-sub-r Inv-loop μ-loop
@@ -55,20 +51,19 @@ loop-less c = omega arith
 
 loop-again : tie.Need-loop-again Inv-loop μ-loop
 loop-again c = let p2 = c .before .before in let p3 = p2 .before in let p4 = p3 .before in let p5 = p4 .before in let p6 = p5 .before in
-    let p7 = p6 .before in let st = p7 .before .before in
-    let l = p3 .loop in let t = p7 .table-at in let m = st .args .m .now in let i = st .args .i in (
+    let st = p6 .before .before in let l = p3 .loop in let p = st .pre .0 in (
       omega arith,
       (
         omega arith,
-        back-more m (st .pre .0) i (st .pre .1 .1) (t .result) (t .ensures .0) (t .ensures .1) (p6 .first-row .ensures) (l .r) (l .inv .1 .1)
+        back-more (p .0) (p .1 .1) (st .pre .1) (p6 .first-row .ensures) (l .inv .1 .1)
             (omega (arith, p5 .later .ensures .1 .0, p2 .loop-test .taken)) (l .inv .1 .0) (sym (c .before .key-at2 .ensures) ∙ c .if1 .left ∙ p4 .key-at .ensures),
       ),
     )
 
 returns-2 : tie.Need-returns-2 Inv-loop μ-loop
-returns-2 c = let p3 = c .before .before .before in let p4 = p3 .before in let p5 = p4 .before in let st = p5 .before .before in
-    let l = c .before .loop in let t = p5 .table-at in let m = st .args .m .now in let v = p3 .later in
-    back-stops m (st .pre .0) (st .args .i) (st .pre .1 .1) (t .result) (t .ensures .0) (t .ensures .1) (p4 .first-row .ensures) (l .r) (l .inv .1 .1) (st .args .from)
+returns-2 c = let p3 = c .before .before .before in let p4 = p3 .before in let st = p4 .before .before in
+    let l = c .before .loop in let v = p3 .later in let p = st .pre .0 in
+    back-stops (p .0) (p .1 .1) (st .pre .1) (p4 .first-row .ensures) (l .inv .1 .1) (st .args .from)
     (omega (arith, v .ensures .0, l .inv .0)) (l .inv .1 .0) (λ x. omega (arith, v .ensures .1 .1 (omega (arith, l .inv .0)), c .loop-test .left, l .inv .0))
 
 pub run-start-spec : {M : Type 1} → statement M
@@ -77,7 +72,6 @@ run-start-spec =
     (tie.spec
     Inv-loop
     μ-loop
-    table-at-requires
     first-row-requires
     later-requires
     key-at-requires

@@ -1,15 +1,15 @@
-use Rattle.memory_bytes.proofs.Scans.{last-skip, last-pass, last-hit, last-end, any-group4}
-use Rattle.memory_bytes.specs.Columns.{tab, upTo, lastIndex}
+use Rattle.memory_bytes.proofs.Scans.{LastBelow, last-skip, last-pass, last-hit, last-end, any-group4}
+use Rattle.memory_bytes.specs.Columns.{upTo}
 use Rattle.memory_bytes.specs.Bytes.{column4}
 use borrow.Author.Tests.{le-leb, lt-leb}
 use native.Mathlib.Omega.{arith}
-use Prim.Native.Nat.{_-_, _≤_}
-use mathlib.Core.Path.{_≡_, refl}
+use Prim.Native.Nat.{_-_}
+use mathlib.Core.Path.{refl}
 use Rattle.memory_bytes.proofs.last_up_to.Statement.{statement}
 use Rattle.memory_bytes.proofs.last_up_to.Tie as tie
 
 abbrev Inv-loop : tie.InvT-loop
-Inv-loop m base s e key k₀ k = (s ≤ k) × ((k ≤ e) × (lastIndex (upTo key) (tab (column4 m base) s (e - s)) ≡ lastIndex (upTo key) (tab (column4 m base) s (k - s))))
+Inv-loop m base s e key k₀ k = LastBelow (upTo key) (column4 m base) s e k
 
 abbrev μ-loop : tie.MeasureT-loop
 μ-loop m base s e key k₀ k = k
@@ -42,16 +42,8 @@ loop-less : tie.Need-loop-less Inv-loop μ-loop Inv-loop2 μ-loop2
 loop-less c = omega arith
 
 loop-again : tie.Need-loop-again Inv-loop μ-loop Inv-loop2 μ-loop2
-loop-again c = let l = c .before .before .before in
-    let a = l .before .before .args in
-    let k = l .loop .k in (
-      omega arith,
-      (
-        omega arith,
-        last-skip (upTo (a .key)) (column4 (a .m .now) (a .base)) (a .s) k (l .loop .inv .1 .1) 16 (omega arith)
-            (any-group4 (a .m .now) (a .base) (k - 16) 16 (upTo (a .key)) (c .before .any-up-to .ensures) (c .if1 .left)),
-      ),
-    )
+loop-again c = let l = c .before .before .before in let a = l .before .before .args in let k = l .loop .k in
+    last-skip _ _ _ _ k (l .loop .inv) 16 (omega arith) (any-group4 (a .m .now) (a .base) (k - 16) 16 _ (c .before .any-up-to .ensures) (c .if1 .left))
 
 loop2-holds : tie.Need-loop2-holds Inv-loop μ-loop Inv-loop2 μ-loop2
 loop2-holds c = c .before .loop .inv
@@ -70,28 +62,17 @@ get4-requires c κs = omega arith
 
 returns : tie.Need-returns Inv-loop μ-loop Inv-loop2 μ-loop2
 returns c = let l = c .before .before .before in
-    let a = l .before .before .before .before .args in
-    last-hit (upTo (a .key)) (column4 (a .m .now) (a .base)) (a .s) (l .loop2 .k) (l .loop2 .inv .1 .1) (omega arith) (c .before .get4 .ensures)
-    (le-leb _ _ (c .if2 .taken))
+    last-hit _ _ _ _ _ (l .loop2 .inv) (omega arith) (c .before .get4 .ensures) (le-leb _ _ (c .if2 .taken))
 
 loop2-less : tie.Need-loop2-less Inv-loop μ-loop Inv-loop2 μ-loop2
 loop2-less c = omega arith
 
 loop2-again : tie.Need-loop2-again Inv-loop μ-loop Inv-loop2 μ-loop2
 loop2-again c = let l = c .before .before .before in
-    let a = l .before .before .before .before .args in (
-      omega arith,
-      (
-        omega arith,
-        last-pass (upTo (a .key)) (column4 (a .m .now) (a .base)) (a .s) (l .loop2 .k) (l .loop2 .inv .1 .1) (omega arith) (c .before .get4 .ensures)
-            (lt-leb _ _ (c .if2 .left)),
-      ),
-    )
+    last-pass _ _ _ _ (l .loop2 .k) (l .loop2 .inv) (omega arith) (c .before .get4 .ensures) (lt-leb _ _ (c .if2 .left))
 
 returns-2 : tie.Need-returns-2 Inv-loop μ-loop Inv-loop2 μ-loop2
-returns-2 c = let l = c .before in
-    let a = l .before .before .before .before .args in
-    last-end (upTo (a .key)) (column4 (a .m .now) (a .base)) (a .s) (l .loop2 .k) (l .loop2 .inv .1 .1) (omega arith)
+returns-2 c = let l = c .before in last-end _ _ _ _ (l .loop2 .k) (l .loop2 .inv) (omega arith)
 
 pub last-up-to-spec : {M : Type 1} → statement M
 last-up-to-spec =

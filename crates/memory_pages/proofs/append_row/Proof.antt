@@ -6,7 +6,7 @@ use mathlib.Core.Path.{refl}
 use Rattle.memory_rows.specs.Rows.{heldBy}
 use Rattle.memory_layout.specs.Flat.{flatOf}
 use Rattle.memory_pages.proofs.Moves.{row-inserted}
-use Rattle.memory_pages.proofs.Appending.{added-none}
+use Rattle.memory_bytes.proofs.Moves.{add-start}
 use Rattle.memory_pages.proofs.Ranges.{head-capacity}
 use borrow.Author.Needs.{needs}
 use Rattle.memory_pages.proofs.append_row.Statement.{statement}
@@ -25,7 +25,7 @@ returns c =
     let m = st .args .m .now in
     let new = st .pre .0 in
     let h = heldBy (st .args .row) (st .args .payload .now) in (
-      row-inserted (new .room) (omega (arith, entries-length m, st .pre .1 .1)) (p2 .append-row .ensures .0) refl refl (added-none _ _ _ 1)
+      row-inserted (new .room) (omega (arith, entries-length m, st .pre .1 .1)) (p2 .append-row .ensures .0) refl refl (add-start _ _ _ 1)
           (omega (arith, entries-length m, st .pre .1 .1)) (omega (arith, length-append (flatOf m .rows) (h ∷ []), rows-length m))
           (omega (arith, new .more, rows-length m, head-capacity m)),
       p2 .append-row .ensures .1,
