@@ -10,7 +10,7 @@ ghost use Rattle.blocks.specs.Numbers.{be4};
 ghost use Rattle.blocks.specs.Tuple.{OwnerFits};
 ghost use Rattle.blocks.specs.Spell.{zeros};
 ghost use Rattle.blocks.specs.Block.{header, directory, encodeBlock};
-ghost use Rattle.blocks.specs.Decode.{readOwner};
+ghost use Rattle.blocks.specs.Decode.{readOwner, readMark};
 ghost use Rattle.blocks.specs.Bytes.{ownerIs, ownerAs, flagsOf, ownerWord, payloadIn, tupleOf, sizeOf, recordBytes, Appendable, pageHead};
 
 // A header block's fields.
@@ -159,6 +159,13 @@ pub fn owner_of(flags: u8, word: u32) -> Owner
         };
     }
     Owner::Committed
+}
+
+// The delete mark, from a record's ninth byte.
+pub fn mark_of(flags: u8) -> bool
+    ensures { λ r. ⌜ r ≡ readMark flags ⌝ }
+{
+    MARK <= flags % COMMITTED
 }
 
 // One record more: its place is at, and the answer the place after it.

@@ -2,11 +2,11 @@
 use Prim.Native.Nat.{ℕ, _+_, _%_}
 use mathlib.Core.List.{List}
 use lib.ListN.{length, getD, drop}
-use lib.Dec.{ltb, leb}
+use lib.Dec.{ltb}
 use Rattle.basics.specs.Basics.{if_then_else_}
 use Rattle.blocks.specs.Numbers.{num4}
 use Rattle.blocks.specs.Block.{Block, malformed, header, page, directory}
-use Rattle.blocks.specs.Decode.{readOwner, taken, whole}
+use Rattle.blocks.specs.Decode.{readOwner, readMark, taken, whole}
 use Rattle.blocks.specs.Bytes.{ownerAs}
 use Rattle.blocks.specs.declared.Record.{Record}
 use Rattle.reader.specs.declared.Next.{Next}
@@ -22,7 +22,7 @@ recordAt xs at =
       key = num4 xs at;
       number = num4 xs (at + 4);
       owner = ownerAs (readOwner f (num4 xs (at + 9)));
-      mark = leb 64 (f % 128);
+      mark = readMark f;
       start = if ltb f 128 then at + 13 else at + 9;
       len = f % 64;
     }

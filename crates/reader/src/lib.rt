@@ -82,7 +82,7 @@ impl Cursor {
             key: get4(block, at),
             number: get4(block, at + 4),
             owner: blocks::owner_of(flags, word),
-            mark: 64 <= flags % 128,
+            mark: blocks::mark_of(flags),
             start: end - len,
             len: len,
         };

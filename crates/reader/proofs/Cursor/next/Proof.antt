@@ -67,23 +67,27 @@ get4-requires-3 c κs = let s = c .before .before .before .before .before .befor
 owner-of-requires : tie.Need-owner-of-requires
 owner-of-requires c κs = search needs
 
+mark-of-requires : tie.Need-mark-of-requires
+mark-of-requires c κs = search needs
+
 sub-t18 : tie.Need-sub-t18
-sub-t18 c = omega (arith, c .before .before .before .before .before .record-size .ensures)
+sub-t18 c = omega (arith, c .before .before .before .before .before .before .record-size .ensures)
 
 returns-4 : tie.Need-returns-4
-returns-4 c = let p3 = c .before .before .before in
-    let p5 = p3 .before .before in
-    let p8 = p5 .before .before .before in
-    let s = p8 .before .before in
+returns-4 c = let p1 = c .before in
+    let p4 = p1 .before .before .before in
+    let p6 = p4 .before .before in
+    let p9 = p6 .before .before .before in
+    let s = p9 .before .before in
     let xs : List ℕ = s .args .block .now in
     let at : ℕ = s .args .self .at in
     let f : ℕ = flagsAt xs at in
     let w : ℕ = num4 xs (at + 9) in
-    let z = p5 .record-size in
-    let word : p3 .if4 .word ≡ (if ltb f 128 then w else 0) =
-    ⊎-elim (λ h. h .2 ∙ h .1 .ensures ∙ word-tentative f w (h .0 .taken)) (λ h. h .1 ∙ word-committed f w (h .0 .left)) (p3 .if4 .came) in
-    found-as xs at (s .pre) (omega (arith, p8 .if1 .left)) (omega (arith, p5 .before .if2 .left)) (z .result) (z .ensures) (c .before .before .get42 .ensures)
-    (c .before .get43 .ensures) word (c .owner-of .ensures) (omega (arith, p3 .before .if3 .left))
+    let z = p6 .record-size in
+    let word : p4 .if4 .word ≡ (if ltb f 128 then w else 0) =
+    ⊎-elim (λ h. h .2 ∙ h .1 .ensures ∙ word-tentative f w (h .0 .taken)) (λ h. h .1 ∙ word-committed f w (h .0 .left)) (p4 .if4 .came) in
+    found-as xs at (s .pre) (omega (arith, p9 .if1 .left)) (omega (arith, p6 .before .if2 .left)) (z .result) (z .ensures) (p1 .before .before .get42 .ensures)
+    (p1 .before .get43 .ensures) word (p1 .owner-of .ensures) (c .mark-of .ensures) (omega (arith, p4 .before .if3 .left))
 
 pub next-spec : {M : Type 1} → statement M
 next-spec =
@@ -103,5 +107,6 @@ next-spec =
     add-get4-2
     get4-requires-3
     owner-of-requires
+    mark-of-requires
     sub-t18
     returns-4)
