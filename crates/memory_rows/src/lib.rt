@@ -9,7 +9,6 @@ ghost use Prim.Native.Nat.{_+_, _*_, _-_, _≤_, _<_};
 ghost use lib.ListN.{length, take, drop};
 ghost use Rattle.basics.specs.Basics.{any};
 ghost use Rattle.blocks.specs.Limits.{payloadLimit};
-ghost use Rattle.blocks.specs.Tuple.{OwnerFits};
 ghost use Rattle.rows.specs.Rows.{isBy};
 ghost use Rattle.model.specs.Rules.{heldSize, withPending};
 ghost use Rattle.memory_bytes.specs.Columns.{tab, insertAt, removeAt, firstIndex, lastIndex, equals, upTo};

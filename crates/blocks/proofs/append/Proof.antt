@@ -97,9 +97,12 @@ returns-2 c = let p7 = c .before .before .before .before .before .before .before
     let P : List ℕ = payloadIn (s .args .from .now) r in
     let l : length P ≡ r .len = length-part (r .len) (r .start) (s .args .from .now) (s .pre .inside) in
     let k : length (s .args .block .now) ≡ 512 = omega (arith, p12 .before .put4-arg) in
-    let number = p7 .before .before .before .put42 .ensures in (
+    let number = p7 .before .before .before .put42 .ensures in
+    let word = c .before .before .before .word-of .ensures in
+    let owner = c .before .before .put43 .ensures in (
       omega arith,
-      appended-tentative (s .args .block .now) P (s .args .at) r l (p12 .put4 .ensures) number (p7 .before .flags-of .ensures) (p7 .put1 .ensures) o (c .before .before .before .word-of .ensures) (c .before .before .put43 .ensures) (c .copy2 .ensures) (omega arith),
+      appended-tentative (s .args .block .now) P (s .args .at) r l (p12 .put4 .ensures) number (p7 .before .flags-of .ensures) (p7 .put1 .ensures)
+          o word owner (c .copy2 .ensures) (omega arith),
     )
 
 pub append-spec : {M : Type 1} → statement M
