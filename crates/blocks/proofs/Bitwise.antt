@@ -12,9 +12,9 @@ use Rattle.blocks.specs.Numbers.{be4}
 use Rattle.blocks.specs.Tuple.{Owner, committed, tentative, Tuple, sizes, AllBytes, OwnerFits, Fits, AllFit}
 use Rattle.blocks.specs.Spell.{zeros, spell, filled}
 use Rattle.blocks.specs.Block.{page, committedBit, markBit, ownerFields, payloadFields, recordFields, recordsFields, pageFields, encodeBlock, PageFits}
-use Rattle.blocks.specs.Bytes.{pageHead}
+use Rattle.blocks.specs.Bytes.{flagsOf, ownerWord, ownerBytes, recordBytes, pageHead}
 use Rattle.blocks.proofs.Spelled.{spell-append, zero-bits-in, length-zeros, bytes-append, bytes-zeros, block-is}
-use Rattle.blocks.proofs.Tuples.{flags, ownerBytes, recordBytes, records, length-records, count-sizes, be4-bytes, records-bytes}
+use Rattle.blocks.proofs.Tuples.{records, length-records, count-sizes, be4-bytes, records-bytes}
 
 -- a number's four bytes are its 32 bits
 pub be4-bits : (v : ℕ) → bitsIn (be4 v) ≡ bitsOf 32 v
@@ -36,17 +36,13 @@ unfolding markBit
 mark-low true n h = omega arith
 mark-low false n h = omega arith
 
-flag-bits : (x : Tuple) → length (x .payload) < 64
-    → bitsOf 8 (flags x) ≡ bitsOf 1 (committedBit (x .owner)) ++ (bitsOf 1 (markBit (x .mark)) ++ bitsOf 6 (length (x .payload)))
-unfolding flags
-flag-bits x h =
-    let c = committedBit (x .owner) in
-    let m = markBit (x .mark) in
-    let n = length (x .payload) in
-    bitsOf-digits 1 7 c (m * 64 + n) (mark-low (x .mark) n h) ∙ ap (λ (l : List ℕ). bitsOf 1 c ++ l) (bitsOf-digits 1 6 m n h)
+flag-bits : (o : Owner) (m : Bool) (n : ℕ) → n < 64 → bitsOf 8 (flagsOf o m n) ≡ bitsOf 1 (committedBit o) ++ (bitsOf 1 (markBit m) ++ bitsOf 6 n)
+unfolding flagsOf
+flag-bits o m n h =
+    bitsOf-digits 1 7 (committedBit o) (markBit m * 64 + n) (mark-low m n h) ∙ ap (λ (l : List ℕ). bitsOf 1 (committedBit o) ++ l) (bitsOf-digits 1 6 (markBit m) n h)
 
 owner-bits : (o : Owner) → OwnerFits o → bitsIn (ownerBytes o) ≡ spell (ownerFields o)
-unfolding ownerBytes ownerFields spell bitsIn
+unfolding ownerBytes ownerWord ownerFields spell bitsIn
 owner-bits committed f = refl
 owner-bits (tentative t s) f = be4-bits (t * 1048576 + s) ∙ bitsOf-digits 12 20 t s (f .1) ∙ rw (append-nil (bitsOf 20 s))
 
@@ -65,14 +61,15 @@ unfolding recordBytes recordFields spell
 record-bits x f =
     let h : length (x .payload) < 64 = omega (arith, f .payload) in
     let O = ownerBytes (x .owner) in
+    let F = flagsOf (x .owner) (x .mark) (length (x .payload)) in
     rw (
-      bitsIn-append (be4 (x .key)) (be4 (x .number) ++ (flags x ∷ (O ++ x .payload))),
-      bitsIn-append (be4 (x .number)) (flags x ∷ (O ++ x .payload)),
-      byte-then (flags x) (O ++ x .payload),
+      bitsIn-append (be4 (x .key)) (be4 (x .number) ++ (F ∷ (O ++ x .payload))),
+      bitsIn-append (be4 (x .number)) (F ∷ (O ++ x .payload)),
+      byte-then F (O ++ x .payload),
       bitsIn-append O (x .payload),
       be4-bits (x .key),
       be4-bits (x .number),
-      flag-bits x h,
+      flag-bits (x .owner) (x .mark) (length (x .payload)) h,
       owner-bits (x .owner) (f .owner),
       payload-bits (x .payload),
       spell-append (ownerFields (x .owner)) (payloadFields (x .payload)),

@@ -1,7 +1,7 @@
 -- A page's block is built in zeros: its records one by one from place 8 on, then its head.
 use mathlib.Core.Path.{_≡_, refl, sym, ap, _∙_}
 use mathlib.Core.List.{List, [], _∷_, _++_, append-assoc}
-use Prim.Native.Nat.{ℕ, _+_, _-_, _%_, _≤_, _<_}
+use Prim.Native.Nat.{ℕ, _+_, _-_, _≤_}
 use native.Mathlib.Omega.{arith}
 use lib.ListN.{length, length-append}
 use Rattle.basics.specs.Basics.{sum}
@@ -10,10 +10,10 @@ use Rattle.bits.proofs.Lists.{over-middle}
 use Rattle.blocks.specs.Tuple.{Tuple, size, sizes}
 use Rattle.blocks.specs.Spell.{zeros}
 use Rattle.blocks.specs.Block.{page, encodeBlock, PageFits}
-use Rattle.blocks.specs.Bytes.{sizeOf, bytesOfRecord, tupleOf, pageHead}
+use Rattle.blocks.specs.Bytes.{sizeOf, recordBytes, tupleOf, pageHead}
 use Rattle.blocks.specs.declared.Record.{Record}
 use Rattle.blocks.proofs.Spelled.{length-zeros, zeros-add}
-use Rattle.blocks.proofs.Tuples.{recordBytes, records, length-record, length-records, records-more, sizes-more, record-spells, record-size}
+use Rattle.blocks.proofs.Tuples.{records, length-record, length-records, records-more, sizes-more, record-size}
 use Rattle.blocks.proofs.Bitwise.{body, length-body, length-head, page-bytes}
 
 -- the block holds the records of ts, and zeros in the place of the head; the next record goes to at
@@ -41,15 +41,16 @@ put-record ts x at pl h =
 
 module _ {block : List ℕ} {at : ℕ} {ts : List Tuple} (b : Built block at ts) where
   -- one record more
-  pub built-turn : (r : Record) (p : List ℕ) → r .flags < 256 → r .len ≡ r .flags % 64 → length p ≡ r .len → at + sizeOf r ≤ 512
-      → Built (over block at (bytesOfRecord r p)) (at + sizeOf r) (ts ++ (tupleOf r p ∷ []))
-  built-turn r p f e l h =
-      let x = tupleOf r p in
+  pub built-turn : (r : Record) (p : List ℕ) → length p ≡ r .len → at + sizeOf r ≤ 512
+      → Built (over block at (recordBytes (tupleOf r p))) (at + sizeOf r) (ts ++ (tupleOf r p ∷ []))
+  built-turn r p l h =
       let s = record-size r p l in
       let pl = b .place in
-      let put : over block at (bytesOfRecord r p) ≡ zeros 8 ++ body (ts ++ (tupleOf r p ∷ [])) =
-      rw (b .made, record-spells r p f (l ∙ e)) (put-record ts (tupleOf r p) at (b .place) (omega arith)) in
-      record { made = put; place = omega (arith, sizes-more ts (tupleOf r p)); room = h }
+      record {
+        made = rw (b .made) (put-record ts (tupleOf r p) at (b .place) (omega arith));
+        place = omega (arith, sizes-more ts (tupleOf r p));
+        room = h;
+      }
 
   pub built-length : length block ≡ 512
   built-length =

@@ -7,14 +7,15 @@ use Prim.Native.Nat.{ℕ, _+_, _*_, _/_, _%_, _≤_, _<_}
 use native.Mathlib.Omega.{arith}
 use lib.ListN.{length, take, drop, getD, length-append}
 use lib.Seq.{drop-at, take-append-seam}
-use lib.Dec.{ltb, leb}
+use lib.Dec.{ltb}
 use borrow.Author.Tests.{lt-ltb, le-ltb, le-leb, lt-leb}
 use Rattle.basics.specs.Basics.{if_then_else_}
 use Rattle.blocks.specs.Numbers.{be4, num4}
 use Rattle.blocks.specs.Tuple.{Owner, committed, tentative, Tuple, ownerSize, size, OwnerFits, Fits, AllFit}
 use Rattle.blocks.specs.Block.{committedBit, markBit}
-use Rattle.blocks.specs.Decode.{readOwner, readTuple, taken, whole, readTuples}
-use Rattle.blocks.proofs.Tuples.{flags, ownerBytes, recordBytes, records, length-record}
+use Rattle.blocks.specs.Decode.{readOwner, readMark, readTuple, taken, whole, readTuples}
+use Rattle.blocks.specs.Bytes.{flagsOf, ownerWord, ownerBytes, recordBytes}
+use Rattle.blocks.proofs.Tuples.{records, length-record}
 
 four : (v : ℕ) → v < 4294967296 → v / 16777216 % 256 * 16777216 + v / 65536 % 256 * 65536 + v / 256 % 256 * 256 + v % 256 ≡ v
 four v h =
@@ -25,33 +26,37 @@ four v h =
 
 -- ---- the ninth byte
 
--- the byte of a payload of n bytes
-abbrev ninth : Owner → Bool → ℕ → ℕ
-ninth o m n = committedBit o * 128 + (markBit m * 64 + n)
-
 module _ (o : Owner) (m : Bool) (n : ℕ) (h : n ≤ 40) where
-  ninth-length : ninth o m n % 64 ≡ n
-  unfolding committedBit markBit
-  ninth-length = elim o [
+  pub flags-length : flagsOf o m n % 64 ≡ n
+  unfolding flagsOf committedBit markBit
+  flags-length = elim o [
     | committed ↦ elim m [ true ↦ omega arith | false ↦ omega arith ]
     | tentative t s ↦ elim m [ true ↦ omega arith | false ↦ omega arith ]
   ]
 
-  ninth-mark : leb 64 (ninth o m n % 128) ≡ m
-  unfolding committedBit markBit
-  ninth-mark = elim o [
+  pub flags-mark : readMark (flagsOf o m n) ≡ m
+  unfolding readMark flagsOf committedBit markBit
+  flags-mark = elim o [
     | committed ↦ elim m [ true ↦ le-leb 64 ((128 + (64 + n)) % 128) (omega arith) | false ↦ lt-leb 64 ((128 + (0 + n)) % 128) (omega arith) ]
     | tentative t s ↦ elim m [ true ↦ le-leb 64 ((0 + (64 + n)) % 128) (omega arith) | false ↦ lt-leb 64 ((0 + (0 + n)) % 128) (omega arith) ]
   ]
 
-ninth-committed : (m : Bool) (n : ℕ) → ltb (ninth committed m n) 128 ≡ false
-unfolding committedBit
-ninth-committed m n = le-ltb (128 + (markBit m * 64 + n)) 128 (omega arith)
+flags-committed : (m : Bool) (n : ℕ) → ltb (flagsOf committed m n) 128 ≡ false
+unfolding flagsOf committedBit
+flags-committed m n = le-ltb (128 + (markBit m * 64 + n)) 128 (omega arith)
 
-ninth-tentative : (t s : ℕ) (m : Bool) (n : ℕ) → n ≤ 40 → ltb (ninth (tentative t s) m n) 128 ≡ true
-unfolding committedBit markBit
-ninth-tentative t s true n h = lt-ltb (0 + (64 + n)) 128 (omega arith)
-ninth-tentative t s false n h = lt-ltb (0 + (0 + n)) 128 (omega arith)
+flags-tentative : (t s : ℕ) (m : Bool) (n : ℕ) → n ≤ 40 → ltb (flagsOf (tentative t s) m n) 128 ≡ true
+unfolding flagsOf committedBit markBit
+flags-tentative t s true n h = lt-ltb (0 + (64 + n)) 128 (omega arith)
+flags-tentative t s false n h = lt-ltb (0 + (0 + n)) 128 (omega arith)
+
+pub flags-owner : (o : Owner) (m : Bool) (n : ℕ) → n ≤ 40 → OwnerFits o → readOwner (flagsOf o m n) (ownerWord o) ≡ o
+unfolding readOwner ownerWord if_then_else_
+flags-owner committed m n h f = rw (flags-committed m n)
+flags-owner (tentative t s) m n h f =
+    let a : (t * 1048576 + s) / 1048576 ≡ t = omega arith in
+    let b : (t * 1048576 + s) % 1048576 ≡ s = omega arith in
+    rw (flags-tentative t s m n h, a, b)
 
 -- ---- a record
 
@@ -61,13 +66,13 @@ tuple k n o m p = record { key = k; number = n; owner = o; mark = m; payload = p
 
 read-fields : (k n : ℕ) (o : Owner) (m : Bool) (p rest : List ℕ) → k < 4294967296 → n < 4294967296 → OwnerFits o → length p ≤ 40
     → readTuple (recordBytes (tuple k n o m p) ++ rest) ≡ tuple k n o m p
-unfolding readTuple recordBytes flags be4 num4 ownerBytes ownerSize readOwner if_then_else_
+unfolding readTuple recordBytes be4 num4 ownerBytes ownerWord ownerSize readOwner if_then_else_
 read-fields k n committed m p rest hk hn ho hp =
     let a = four k hk in
     let b = four n hn in
-    let d = ninth-mark committed m (length p) hp in
-    let q : take (ninth committed m (length p) % 64) (p ++ rest) ≡ p = rw (ninth-length committed m (length p) hp) (take-append-seam p rest) in
-    rw (ninth-committed m (length p)) (λ i. record { key = a i; number = b i; owner = committed; mark = d i; payload = q i })
+    let d = flags-mark committed m (length p) hp in
+    let q : take (flagsOf committed m (length p) % 64) (p ++ rest) ≡ p = rw (flags-length committed m (length p) hp) (take-append-seam p rest) in
+    rw (flags-committed m (length p)) (λ i. record { key = a i; number = b i; owner = committed; mark = d i; payload = q i })
 read-fields k n (tentative t s) m p rest hk hn ho hp =
     let a = four k hk in
     let b = four n hn in
@@ -75,14 +80,14 @@ read-fields k n (tentative t s) m p rest hk hn ho hp =
     let g = four (t * 1048576 + s) hw in
     let g1 : (t * 1048576 + s) / 1048576 ≡ t = omega arith in
     let g2 : (t * 1048576 + s) % 1048576 ≡ s = omega arith in
-    let d = ninth-mark (tentative t s) m (length p) hp in
-    let q : take (ninth (tentative t s) m (length p) % 64) (p ++ rest) ≡ p = rw (ninth-length (tentative t s) m (length p) hp) (take-append-seam p rest) in
-    rw (ninth-tentative t s m (length p) hp, g) (λ i. record { key = a i; number = b i; owner = tentative (g1 i) (g2 i); mark = d i; payload = q i })
+    let d = flags-mark (tentative t s) m (length p) hp in
+    let q : take (flagsOf (tentative t s) m (length p) % 64) (p ++ rest) ≡ p = rw (flags-length (tentative t s) m (length p) hp) (take-append-seam p rest) in
+    rw (flags-tentative t s m (length p) hp, g) (λ i. record { key = a i; number = b i; owner = tentative (g1 i) (g2 i); mark = d i; payload = q i })
 
 record-takes : (k n : ℕ) (o : Owner) (m : Bool) (p rest : List ℕ) → length p ≤ 40 → taken (recordBytes (tuple k n o m p) ++ rest) ≡ size (tuple k n o m p)
-unfolding taken recordBytes flags be4 ownerSize size if_then_else_
-record-takes k n committed m p rest hp = rw (ninth-committed m (length p), ninth-length committed m (length p) hp)
-record-takes k n (tentative t s) m p rest hp = rw (ninth-tentative t s m (length p) hp, ninth-length (tentative t s) m (length p) hp)
+unfolding taken recordBytes be4 ownerSize size if_then_else_
+record-takes k n committed m p rest hp = rw (flags-committed m (length p), flags-length committed m (length p) hp)
+record-takes k n (tentative t s) m p rest hp = rw (flags-tentative t s m (length p) hp, flags-length (tentative t s) m (length p) hp)
 
 module _ (x : Tuple) (rest : List ℕ) (fit : Fits x) where
   at-least : 9 ≤ size x + length rest
@@ -90,8 +95,8 @@ module _ (x : Tuple) (rest : List ℕ) (fit : Fits x) where
   at-least = omega arith
 
   limit : getD (recordBytes x ++ rest) 8 0 % 64 ≤ 40
-  unfolding recordBytes be4 flags
-  limit = omega (arith, ninth-length (x .owner) (x .mark) (length (x .payload)) (fit .payload), fit .payload)
+  unfolding recordBytes be4
+  limit = omega (arith, flags-length (x .owner) (x .mark) (length (x .payload)) (fit .payload), fit .payload)
 
   takes : taken (recordBytes x ++ rest) ≡ size x
   takes = record-takes (x .key) (x .number) (x .owner) (x .mark) (x .payload) rest (fit .payload)

@@ -1,5 +1,5 @@
 -- The tuples that are read from bytes: their sizes and ranges.
-use mathlib.Core.Path.{_≡_}
+use mathlib.Core.Path.{_≡_, refl}
 use mathlib.Core.Bool.{true, _&&_}
 use mathlib.Core.Option.{none, some}
 use mathlib.Core.List.{List, [], _∷_}
@@ -11,8 +11,9 @@ use borrow.Author.Tests.{leb-true}
 use Rattle.basics.specs.Basics.{if_then_else_, sum}
 use Rattle.basics.proofs.Facts.{by, by-option, never, and-true}
 use Rattle.blocks.specs.Numbers.{num4}
-use Rattle.blocks.specs.Tuple.{Tuple, ownerSize, size, sizes, OwnerFits, AllBytes, Fits, AllFit}
+use Rattle.blocks.specs.Tuple.{Owner, committed, tentative, Tuple, ownerSize, size, sizes, OwnerFits, AllBytes, Fits, AllFit}
 use Rattle.blocks.specs.Decode.{readOwner, readTuple, taken, whole, readTuples}
+use Rattle.blocks.specs.Bytes.{ownerIs, ownerAs}
 use Rattle.blocks.proofs.Spelled.{bytes-at, bytes-take, bytes-drop}
 
 -- four bytes more if tentative
@@ -33,6 +34,14 @@ pub owner-size : (f w : ℕ) → ownerSize (readOwner f w) ≡ ownerPart f
 unfolding ownerSize readOwner if_then_else_
 owner-size f w = by (ltb f 128) (λ h. rw h) (λ h. rw h)
 
+pub owner-fits : (f v : ℕ) → v < 4294967296 → OwnerFits (readOwner f v)
+unfolding readOwner if_then_else_
+owner-fits f v h = by (ltb f 128) (λ e. rw e (omega arith, omega arith)) (λ e. rw e tt)
+
+pub owner-same : (o : Owner) → ownerIs (ownerAs o) ≡ o
+owner-same committed = refl
+owner-same (tentative t s) = refl
+
 module _ (ys : List ℕ) (w : whole ys ≡ true) where
   payload-length : length (readTuple ys .payload) ≡ getD ys 8 0 % 64
   unfolding readTuple taken
@@ -48,10 +57,6 @@ module _ (ys : List ℕ) (w : whole ys ≡ true) where
   num4-small : (at : ℕ) → AllBytes ys → num4 ys at < 4294967296
   unfolding num4
   num4-small at b = omega (arith, bytes-at ys b at, bytes-at ys b (at + 1), bytes-at ys b (at + 2), bytes-at ys b (at + 3))
-
-  owner-fits : (f v : ℕ) → v < 4294967296 → OwnerFits (readOwner f v)
-  unfolding readOwner if_then_else_
-  owner-fits f v h = by (ltb f 128) (λ e. rw e (omega arith, omega arith)) (λ e. rw e tt)
 
   pub read-fits : AllBytes ys → Fits (readTuple ys)
   unfolding readTuple

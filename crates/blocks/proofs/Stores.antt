@@ -6,14 +6,13 @@ use native.Mathlib.Omega.{arith}
 use native.Mathlib.Numerals.{add-one}
 use lib.ListN.{length, take, drop, getD, set, length-take, length-drop, drop-of-length-le}
 use lib.Seq.{take-suc, set-split, getD-drop, take-all}
-use lib.Dec.{ltb}
-use borrow.Author.Tests.{lt-ltb, le-ltb, ltb-true, ltb-false}
-use Rattle.basics.specs.Basics.{if_then_else_}
-use Rattle.basics.proofs.Facts.{by}
 use Rattle.bits.specs.Bits.{over}
 use Rattle.bits.proofs.Lists.{over-over, length-over}
 use Rattle.blocks.specs.Numbers.{be4}
-use Rattle.blocks.specs.Bytes.{sizeOf, bytesOfRecord, pageHead}
+use Rattle.blocks.specs.Tuple.{ownerSize}
+use Rattle.blocks.specs.Bytes.{ownerIs, tupleOf, sizeOf, flagsOf, ownerWord, ownerBytes, recordBytes, pageHead}
+use Rattle.blocks.specs.declared.Owner.{Owner}
+use Rattle.blocks.specs.declared.Owner.the-variants.{Committed, Tentative}
 use Rattle.blocks.specs.declared.Record.{Record}
 
 pub set-over : (m : List ℕ) (i v : ℕ) → i < length m → set m i v ≡ over m i (v ∷ [])
@@ -57,54 +56,47 @@ over-then m xs ys at n e h = rw e (over-over m xs ys at h)
 
 -- ---- a record is appended
 
-module _ (m p : List ℕ) (at : ℕ) (r : Record) where
-  -- m with the first nine bytes of r's record at at
-  abbrev front : List ℕ
-  front = over (over (over m at (be4 (r .key))) (at + 4) (be4 (r .number))) (at + 8) (r .flags ∷ [])
+module _ (m p : List ℕ) (at : ℕ) (r : Record) (l : length p ≡ r .len) where
+  -- the first nine bytes of the record
+  abbrev nine : List ℕ
+  nine = be4 (r .key) ++ (be4 (r .number) ++ (flagsOf (ownerIs (r .owner)) (r .mark) (r .len) ∷ []))
 
-  append-tentative : r .flags < 128 → at + (13 + length p) ≤ length m → over (over front (at + 9) (be4 (r .owner))) (at + 13) p ≡ over m at (bytesOfRecord r p)
-  unfolding bytesOfRecord be4 if_then_else_
-  append-tentative o h =
-      let k = be4 (r .key) in
-      let n = be4 (r .number) in
-      let f : List ℕ = r .flags ∷ [] in
-      rw (
-        over-then m k n at 4 refl (omega arith),
-        over-then m (k ++ n) f at 8 refl (omega arith),
-        over-then m (k ++ n ++ f) (be4 (r .owner)) at 9 refl (omega arith),
-        over-then m (k ++ n ++ f ++ be4 (r .owner)) p at 13 refl (omega arith),
-        lt-ltb (r .flags) 128 o,
-      )
-
-  append-committed : 128 ≤ r .flags → at + (9 + length p) ≤ length m → over front (at + 9) p ≡ over m at (bytesOfRecord r p)
-  unfolding bytesOfRecord be4 if_then_else_
-  append-committed o h =
-      let k = be4 (r .key) in
-      let n = be4 (r .number) in
-      let f : List ℕ = r .flags ∷ [] in
-      rw (over-then m k n at 4 refl (omega arith), over-then m (k ++ n) f at 8 refl (omega arith), over-then m (k ++ n ++ f) p at 9 refl (omega arith), le-ltb (r .flags) 128 o)
+  bytes-are : recordBytes (tupleOf r p) ≡ nine ++ (ownerBytes (ownerIs (r .owner)) ++ p)
+  unfolding recordBytes tupleOf be4
+  bytes-are = rw l
 
   -- the stores one after the other
-  module _ {m₁ m₂ m₃ : List ℕ} (key : m₁ ≡ over m at (be4 (r .key))) (number : m₂ ≡ over m₁ (at + 4) (be4 (r .number))) (flags : m₃ ≡ over m₂ (at + 8) (r .flags ∷ [])) where
-    pub appended-tentative : {m₄ m₅ : List ℕ} → m₄ ≡ over m₃ (at + 9) (be4 (r .owner)) → m₅ ≡ over m₄ (at + 13) p → r .flags < 128 → at + (13 + length p) ≤ length m
-        → m₅ ≡ over m at (bytesOfRecord r p)
-    appended-tentative owner last o h = last ∙ rw (owner, flags, number, key) (append-tentative o h)
+  module _ {m₁ m₂ m₃ : List ℕ} {f : ℕ} (key : m₁ ≡ over m at (be4 (r .key))) (number : m₂ ≡ over m₁ (at + 4) (be4 (r .number)))
+      (ef : f ≡ flagsOf (ownerIs (r .owner)) (r .mark) (r .len)) (flags : m₃ ≡ over m₂ (at + 8) (f ∷ [])) where
+    first-nine : at + 9 ≤ length m → m₃ ≡ over m at nine
+    unfolding be4
+    first-nine h =
+        let k = be4 (r .key) in
+        let n = be4 (r .number) in
+        flags ∙ rw (ef, number, key, over-then m k n at 4 refl (omega arith), over-then m (k ++ n) (flagsOf (ownerIs (r .owner)) (r .mark) (r .len) ∷ []) at 8 refl (omega arith))
 
-    pub appended-committed : {m₄ : List ℕ} → m₄ ≡ over m₃ (at + 9) p → 128 ≤ r .flags → at + (9 + length p) ≤ length m → m₄ ≡ over m at (bytesOfRecord r p)
-    appended-committed last o h = last ∙ rw (flags, number, key) (append-committed o h)
+    pub appended-tentative : {m₄ m₅ : List ℕ} {w t s : ℕ} → r .owner ≡ Tentative t s → w ≡ ownerWord (ownerIs (r .owner)) → m₄ ≡ over m₃ (at + 9) (be4 w)
+        → m₅ ≡ over m₄ (at + 13) p → at + (13 + length p) ≤ length m → m₅ ≡ over m at (recordBytes (tupleOf r p))
+    unfolding be4 ownerBytes
+    appended-tentative {w = w} o ew owner last h =
+        last ∙ rw (owner, first-nine (omega arith), over-then m nine (be4 w) at 9 refl (omega arith), over-then m (nine ++ be4 w) p at 13 refl (omega arith), bytes-are, ew, o)
+
+    pub appended-committed : {m₄ : List ℕ} → r .owner ≡ Committed → m₄ ≡ over m₃ (at + 9) p → at + (9 + length p) ≤ length m → m₄ ≡ over m at (recordBytes (tupleOf r p))
+    unfolding be4 ownerBytes
+    appended-committed o last h = last ∙ rw (first-nine (omega arith), over-then m nine p at 9 refl (omega arith), bytes-are, o)
 
 module _ (r : Record) where
-  pub size-tentative : r .flags < 128 → sizeOf r ≡ 13 + r .len
-  unfolding sizeOf if_then_else_
-  size-tentative h = rw (lt-ltb (r .flags) 128 h)
+  pub size-tentative : {t s : ℕ} → r .owner ≡ Tentative t s → sizeOf r ≡ 13 + r .len
+  unfolding sizeOf ownerSize
+  size-tentative e = ap (λ (o : Owner). 9 + ownerSize (ownerIs o) + r .len) e
 
-  pub size-committed : 128 ≤ r .flags → sizeOf r ≡ 9 + r .len
-  unfolding sizeOf if_then_else_
-  size-committed h = rw (le-ltb (r .flags) 128 h)
+  pub size-committed : r .owner ≡ Committed → sizeOf r ≡ 9 + r .len
+  unfolding sizeOf ownerSize
+  size-committed e = ap (λ (o : Owner). 9 + ownerSize (ownerIs o) + r .len) e
 
   pub size-nine : 9 + r .len ≤ sizeOf r
-  size-nine =
-      by (ltb (r .flags) 128) (λ h. omega (arith, size-tentative (ltb-true (r .flags) 128 h))) (λ h. omega (arith, size-committed (ltb-false (r .flags) 128 h)))
+  unfolding sizeOf
+  size-nine = omega arith
 
 pub length-part : (n k : ℕ) (s : List ℕ) → k + n ≤ length s → length (take n (drop k s)) ≡ n
 length-part n k s h = simp (length-take, length-drop) (omega arith)

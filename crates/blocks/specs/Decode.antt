@@ -49,12 +49,16 @@ headerIn xs = spelledBy xs (header (readHeader xs))
 unfoldable pub readOwner : ℕ → ℕ → Owner
 readOwner f w = if ltb f 128 then tentative (w / 1048576) (w % 1048576) else committed
 
+-- the delete mark of a record whose ninth byte is f
+unfoldable pub readMark : ℕ → Bool
+readMark f = leb 64 (f % 128)
+
 -- the record at the front of xs: a record starts at a byte, and so do all its fields but those of its ninth byte and its owner
 unfoldable pub readTuple : List ℕ → Tuple
 readTuple xs =
     let f = getD xs 8 0 in
     let o = readOwner f (num4 xs 9) in
-    record { key = num4 xs 0; number = num4 xs 4; owner = o; mark = leb 64 (f % 128); payload = take (f % 64) (drop (9 + ownerSize o) xs) }
+    record { key = num4 xs 0; number = num4 xs 4; owner = o; mark = readMark f; payload = take (f % 64) (drop (9 + ownerSize o) xs) }
 
 -- how many bytes the record at the front of xs takes
 unfoldable pub taken : List ℕ → ℕ

@@ -5,11 +5,13 @@ ghost use Prim.Native.Nat.{_+_, _%_, _<_, _≤_};
 ghost use lib.ListN.{length, take, drop};
 ghost use Rattle.basics.specs.Basics.{if_then_else_};
 ghost use Rattle.bits.specs.Bits.{over};
-ghost use Rattle.blocks.specs.Limits.{entriesPerBlock};
+ghost use Rattle.blocks.specs.Limits.{payloadLimit, entriesPerBlock};
 ghost use Rattle.blocks.specs.Numbers.{be4};
+ghost use Rattle.blocks.specs.Tuple.{OwnerFits};
 ghost use Rattle.blocks.specs.Spell.{zeros};
 ghost use Rattle.blocks.specs.Block.{header, directory, encodeBlock};
-ghost use Rattle.blocks.specs.Bytes.{sizeOf, bytesOfRecord, pageHead};
+ghost use Rattle.blocks.specs.Decode.{readOwner, readMark};
+ghost use Rattle.blocks.specs.Bytes.{ownerIs, ownerAs, flagsOf, ownerWord, payloadIn, tupleOf, sizeOf, recordBytes, Appendable, pageHead};
 
 // A header block's fields.
 pub struct Header {
@@ -25,13 +27,18 @@ pub struct Header {
     pub d3: u32,
 }
 
-// A record as it stands in a block or in any other slice: its ninth byte, its owner's four bytes as a number (0 if committed),
-// and its payload's place.
+// Who owns a tuple: the committed mark, or its transaction and statement.
+pub enum Owner {
+    Committed,
+    Tentative { transaction: u32, statement: u32 },
+}
+
+// A tuple whose payload stands in a block or in any other slice, from start on.
 pub struct Record {
     pub key: u32,
     pub number: u32,
-    pub flags: u8,
-    pub owner: u32,
+    pub owner: Owner,
+    pub mark: bool,
     pub start: usize,
     pub len: usize,
 }
@@ -99,23 +106,93 @@ pub fn copy(block: &mut [u8], at: usize, from: &[u8], start: usize, len: usize)
     }
 }
 
+// ---- a record's ninth byte and its owner's word
+
+// A ninth byte: committed from here on; below it, the delete mark and the payload's length.
+const COMMITTED: u8 = 128;
+
+const MARK: u8 = 64;
+
+// How many tuples a transaction may write, and what its number is multiplied by in an owner's word.
+const STATEMENTS: u32 = 1048576;
+
+// A record's ninth byte.
+pub fn flags_of(owner: Owner, mark: bool, len: usize) -> u8
+    requires { ⌜ len ≤ payloadLimit ⌝ }
+    ensures { λ r. ⌜ r ≡ flagsOf (ownerIs owner) mark len ⌝ }
+{
+    let mut flags = len as u8;
+    if mark {
+        flags = MARK + flags;
+    }
+    match owner {
+        Owner::Committed => COMMITTED + flags,
+        Owner::Tentative {
+            transaction: _,
+            statement: _,
+        } => flags,
+    }
+}
+
+// An owner's four bytes as a number, 0 if committed.
+pub fn word_of(owner: Owner) -> u32
+    requires { ⌜ OwnerFits (ownerIs owner) ⌝ }
+    ensures { λ r. ⌜ r ≡ ownerWord (ownerIs owner) ⌝ }
+{
+    match owner {
+        Owner::Committed => 0,
+        Owner::Tentative {
+            transaction: t,
+            statement: s,
+        } => t * STATEMENTS + s,
+    }
+}
+
+// The owner, from a record's ninth byte and the owner's word, which is not looked at if committed.
+pub fn owner_of(flags: u8, word: u32) -> Owner
+    ensures { λ r. ⌜ r ≡ ownerAs (readOwner flags word) ⌝ }
+{
+    if flags < COMMITTED {
+        return Owner::Tentative {
+            transaction: word / STATEMENTS,
+            statement: word % STATEMENTS,
+        };
+    }
+    Owner::Committed
+}
+
+// The delete mark, from a record's ninth byte.
+pub fn mark_of(flags: u8) -> bool
+    ensures { λ r. ⌜ r ≡ readMark flags ⌝ }
+{
+    MARK <= flags % COMMITTED
+}
+
 // One record more: its place is at, and the answer the place after it.
 pub fn append(block: &mut [u8; 512], at: usize, r: Record, from: &[u8]) -> usize
-    requires { ⌜ (at + sizeOf r ≤ 512) × (r .start + r .len ≤ length (now from)) ⌝ }
-    ensures { λ n. ⌜ (n ≡ at + sizeOf r) × (now (block .exit) ≡ over (now (block .entry)) at (bytesOfRecord r (take (r .len) (drop (r .start) (now (from .entry)))))) ⌝ }
+    requires { ⌜ Appendable at r (now from) ⌝ }
+    ensures { λ n. ⌜ (n ≡ at + sizeOf r) × (now (block .exit) ≡ over (now (block .entry)) at (recordBytes (tupleOf r (payloadIn (now (from .entry)) r)))) ⌝ }
 {
     let start = r.start;
     let len = r.len;
+    let owner = r.owner;
     put4(block, at, r.key);
     put4(block, at + 4, r.number);
-    put1(block, at + 8, r.flags);
-    if r.flags < 128 {
-        put4(block, at + 9, r.owner);
-        copy(block, at + 13, from, start, len);
-        return at + 13 + len;
+    put1(block, at + 8, flags_of(owner, r.mark, len));
+    match owner {
+        Owner::Committed => {
+            copy(block, at + 9, from, start, len);
+            at + 9 + len
+        }
+        Owner::Tentative {
+            transaction: _,
+            statement: _,
+        } => {
+            put4(block, at + 9, word_of(owner));
+            copy(block, at + 13, from, start, len);
+            at + 13 + len
+        }
     }
-    copy(block, at + 9, from, start, len);
-    at + 9 + len
 }
 
 // The head of a page of count tuples with the given record bytes.

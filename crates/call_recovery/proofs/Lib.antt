@@ -1,4 +1,3 @@
-pub mod Records
 pub mod Adding
 pub mod Marking
 pub mod Paging

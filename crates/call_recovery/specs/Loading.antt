@@ -8,7 +8,6 @@ use lib.Dec.{leb}
 use Rattle.basics.specs.Basics.{all, isIn}
 use Rattle.blocks.specs.Tuple.{Tuple}
 use Rattle.blocks.specs.Block.{Block, malformed, header, page, directory}
-use Rattle.blocks.specs.Bytes.{tupleOf}
 use Rattle.blocks.specs.declared.Record.{Record}
 use Rattle.image.specs.View.{View}
 use Rattle.image.specs.Stages.{StoredPage}
@@ -16,8 +15,8 @@ use Rattle.model.specs.State.{Held}
 use Rattle.model.specs.Rules.{calm}
 use Rattle.memory_layout.specs.Flat.{Flat, flatOf, Becomes, withRows, withEntries}
 use Rattle.memory_layout.specs.declared.Entry.{Entry}
-use Rattle.memory_rows.specs.Rows.{heldBy, RowFits}
 use Rattle.memory_rows.specs.Cells.{InOrder}
+use Rattle.memory_rows.specs.declared.Pending.the-variants.{Nothing}
 use Rattle.memory_rows.specs.declared.Row.{Row}
 use Rattle.memory_pages.specs.Pages.{clean, withCount, entryOf}
 
@@ -55,10 +54,9 @@ pagesAt v (e ∷ es) = pageAt e (v e) ++ pagesAt v es
 
 -- ---- what they are in the memory
 
--- the row is the record's, whatever its payload, nothing pending
-pub record RowFor (r : Record) (s : Row) : Type 0 where
-  pub held : (p : List ℕ) → heldBy s p ≡ calm (tupleOf r p)
-  pub fits : RowFits s
+-- the row of a record, nothing pending
+abbrev pub rowFor : Record → Row
+rowFor r = record { key = r .key; number = r .number; owner = r .owner; mark = r .mark; pending = Nothing }
 
 -- the tuples of all pages, in order, nothing pending
 unfoldable pub heldsOf : List StoredPage → List Held

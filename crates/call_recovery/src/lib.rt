@@ -1,11 +1,11 @@
 // Recovery: what an image holds, laid out in the working memory. All tests come first; only then is the memory touched. Rows and pages
 // are appended in the image's order, so that loading takes one pass.
 use blocks::Header;
+use blocks::Owner;
 use blocks::Record;
 use contracts::Answer;
 use memory_layout::Head;
 use memory_layout::Open;
-use memory_rows::Owner;
 use memory_rows::Pending;
 use memory_rows::Row;
 ghost use mathlib.Core.Path.{_≡_};
@@ -16,8 +16,8 @@ ghost use lib.ListN.{length};
 ghost use Rattle.basics.specs.Basics.{all};
 ghost use Rattle.blocks.specs.Limits.{payloadLimit};
 ghost use Rattle.blocks.specs.Tuple.{OwnerFits};
-ghost use Rattle.blocks.specs.Decode.{decodeBlock, readOwner};
-ghost use Rattle.blocks.specs.Bytes.{tupleOf, payloadIn};
+ghost use Rattle.blocks.specs.Decode.{decodeBlock};
+ghost use Rattle.blocks.specs.Bytes.{tupleOf, payloadIn, ownerIs};
 ghost use Rattle.rows.specs.Rows.{transactions};
 ghost use Rattle.image.specs.View.{view, blockCount};
 ghost use Rattle.image.specs.Stages.{holds, blockOk};
@@ -26,20 +26,11 @@ ghost use Rattle.model.specs.Rules.{calm};
 ghost use Rattle.model.specs.Recover.{recoveredStore, reopened};
 ghost use Rattle.memory_layout.specs.Flat.{flatOf, Room, Becomes, withOpens, withUsed};
 ghost use Rattle.memory_layout.specs.Store.{HoldsNow};
-ghost use Rattle.memory_rows.specs.Rows.{ownerIs};
 ghost use Rattle.memory_rows.specs.Cells.{InOrder};
 ghost use Rattle.memory_pages.specs.Pages.{RowsBecome, behind, moreLast};
 ghost use Rattle.contracts.specs.Shape.{Recovered};
-ghost use Rattle.call_recovery.specs.Loading.{pageAt, pagesAt, isPage, tuplesIn, blocksIn, usedBy, RowFor, Fills, Loads, RoomFor};
+ghost use Rattle.call_recovery.specs.Loading.{pageAt, pagesAt, isPage, tuplesIn, blocksIn, usedBy, rowFor, Fills, Loads, RoomFor};
 ghost use Rattle.call_recovery.specs.Reopening.{AllOwners, ownRows, Counts, Sized, noted, openedBy};
-
-// A transaction's number stands above 20 bits of a statement's.
-const STATEMENTS: u32 = 1048576;
-
-// The ninth byte of a record: committed from here on; the delete mark stands below.
-const COMMITTED: u8 = 128;
-
-const MARK: u8 = 64;
 
 // How many transactions there may be.
 const TRANSACTIONS: usize = 4096;
@@ -58,35 +49,23 @@ fn wide(x: u32) -> usize
 
 // ---- the rows of a page
 
-// A record's owner, from its ninth byte and the word of the owner.
-fn owner_of(flags: u8, word: u32) -> Owner
-    ensures { λ r. ⌜ (ownerIs r ≡ readOwner flags word) × OwnerFits (ownerIs r) ⌝ }
-{
-    if flags < COMMITTED {
-        return Owner::Tentative {
-            transaction: word / STATEMENTS,
-            statement: word % STATEMENTS,
-        };
-    }
-    Owner::Committed
-}
-
 // The row of a record, nothing pending.
 fn row_of(r: Record) -> Row
-    ensures { λ s. ⌜ RowFor r s ⌝ }
+    ensures { λ s. ⌜ s ≡ rowFor r ⌝ }
 {
+    let o = r.owner;
     Row {
         key: r.key,
         number: r.number,
-        owner: owner_of(r.flags, r.owner),
-        mark: MARK <= r.flags % COMMITTED,
+        owner: o,
+        mark: r.mark,
         pending: Pending::Nothing,
     }
 }
 
 // The row of a record that stands in a block, behind all others, on the last page.
 fn load_row(block: &[u8], r: Record, m: &mut [u8])
-    requires { ⌜ (r .len ≤ payloadLimit) × (r .start + r .len ≤ length (now block)) ⌝ }
+    requires { ⌜ (r .len ≤ payloadLimit) × ((r .start + r .len ≤ length (now block)) × OwnerFits (ownerIs (r .owner))) ⌝ }
     requires { ⌜ Room (now m) × (InOrder (now m) × ((1 ≤ length (flatOf (now m) .entries)) × (length (flatOf (now m) .rows) < flatOf (now m) .head .capacity))) ⌝ }
     ensures { λ _. ⌜ RowsBecome (now (m .entry)) (now (m .exit)) (behind (calm (tupleOf r (payloadIn (now (block .entry)) r)))) moreLast × InOrder (now (m .exit)) ⌝ }
 {

@@ -18,7 +18,7 @@ use Rattle.memory_layout.specs.Opens.{activeOf, OpenFits, findOpen}
 use Rattle.memory_layout.specs.declared.Head.{Head}
 use Rattle.memory_layout.specs.declared.Open.{Open}
 use Rattle.memory_layout.proofs.Laws.{holds-room, holds-counted, held-again, becomes-then}
-use Rattle.memory_rows.specs.Rows.{ownerIs}
+use Rattle.blocks.specs.Bytes.{ownerIs}
 use Rattle.memory_rows.specs.declared.Row.{Row}
 use Rattle.memory_pages.specs.Spots.{tablePage, tableRow, tableRows, placeIn}
 use Rattle.engine_pages.specs.Pages.{withPages}

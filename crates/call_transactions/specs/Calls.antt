@@ -15,7 +15,8 @@ use Rattle.memory_layout.specs.Flat.{Flat, flatOf, Room, withHead, withOpens, n
 use Rattle.memory_layout.specs.Store.{holdsStore}
 use Rattle.memory_layout.specs.Opens.{findOpen}
 use Rattle.memory_layout.specs.declared.Head.{Head}
-use Rattle.memory_rows.specs.Rows.{ownerIs, RowFits}
+use Rattle.blocks.specs.Bytes.{ownerIs}
+use Rattle.memory_rows.specs.Rows.{RowFits}
 use Rattle.memory_rows.specs.declared.Pending.the-variants.{Nothing}
 use Rattle.memory_rows.specs.declared.Row.{Row}
 use Rattle.memory_pages.specs.Spots.{placeIn}

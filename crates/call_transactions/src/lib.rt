@@ -1,12 +1,12 @@
 // Make, and the calls of transactions. No call asks anything of its caller: each contract says what the call answers and leaves, for
 // any memory and any arguments, by the model's function.
 use blocks::Header;
+use blocks::Owner;
 use blocks::PageLayout;
 use contracts::Answer;
 use engine_lookup::Look;
 use engine_lookup::Seen;
 use memory_layout::Open;
-use memory_rows::Owner;
 use memory_rows::Pending;
 use memory_rows::Row;
 ghost use mathlib.Core.Path.{_≡_};

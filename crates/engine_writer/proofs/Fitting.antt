@@ -5,24 +5,20 @@ use Prim.Native.Nat.{ℕ, zero, suc, _+_, _*_, _-_, _%_, _≤_, _<_}
 use native.Mathlib.Nat.{min-le-right}
 use native.Mathlib.Omega.{arith}
 use lib.ListN.{length, getD}
-use lib.Dec.{leb}
 use mir.Syntax.{w8}
 use mir.Val as val
 use Rattle.basics.specs.Basics.{if_then_else_}
 use Rattle.basics.proofs.Facts.{by}
-use Rattle.blocks.specs.Tuple.{OwnerFits, AllBytes, Fits, AllFit}
+use Rattle.blocks.specs.Tuple.{AllBytes, Fits, AllFit}
 use Rattle.model.specs.Rules.{isAdding, shown}
+use Rattle.blocks.proofs.ReadTuples.{owner-fits}
 use Rattle.memory_bytes.specs.Bytes.{le4, bytes}
 use Rattle.memory_bytes.proofs.Bytes.{length-bytes}
 use Rattle.memory_layout.specs.Places.{keysAt}
-use Rattle.memory_layout.specs.Views.{ownerOf, lengthOf, heldOf, rowAt, keyOf, stateOf, refOf, slotOf, slotPlace}
+use Rattle.memory_layout.specs.Views.{lengthOf, heldOf, rowAt, keyOf, stateOf, refOf, slotOf, slotPlace}
 use Rattle.memory_layout.specs.Flat.{flatOf, rowsOf, capacityOf, rowIn}
 use Rattle.memory_rows.proofs.Access.{row-is}
 use Rattle.engine_writer.proofs.Showing.{run, run-next}
-
-owner-fits : (s w : ℕ) → w < 4294967296 → OwnerFits (ownerOf s w)
-unfolding ownerOf if_then_else_
-owner-fits s w h = by (leb 128 s) (λ e. rw e tt) (λ e. rw e (omega arith, omega arith))
 
 module _ (m : List ℕ) (small : (k : ℕ) → val.Fits w8 (getD m k 0)) where
   word-small : (a : ℕ) → le4 m a < 4294967296

@@ -1,15 +1,15 @@
 -- A page's block while its rows are written: what it holds already, and what is still to come.
-use mathlib.Core.Path.{_≡_, refl, sym, ap, _∙_}
+use mathlib.Core.Path.{_≡_, refl, sym, ap, subst, _∙_}
 use mathlib.Core.List.{List, [], _∷_, _++_, append-assoc, append-nil}
 use Prim.Native.Nat.{ℕ, _+_, _-_, _≤_, _<_}
 use native.Mathlib.Omega.{arith}
 use lib.ListN.{length, length-append}
 use Rattle.basics.specs.Basics.{sum}
 use Rattle.bits.specs.Bits.{over}
-use Rattle.blocks.specs.Tuple.{Tuple, size, sizes, AllFit}
+use Rattle.blocks.specs.Tuple.{Tuple, size, sizes, OwnerFits, Fits, AllFit}
 use Rattle.blocks.specs.Spell.{zeros}
 use Rattle.blocks.specs.Block.{page, encodeBlock, PageFits}
-use Rattle.blocks.specs.Bytes.{payloadIn, tupleOf, sizeOf, bytesOfRecord, pageHead}
+use Rattle.blocks.specs.Bytes.{payloadIn, tupleOf, sizeOf, recordBytes, Appendable, pageHead}
 use Rattle.blocks.specs.declared.Record.{Record}
 use Rattle.blocks.proofs.Stores.{length-part}
 use Rattle.blocks.proofs.Tuples.{count-sizes, record-size}
@@ -33,6 +33,18 @@ pub record Writing (all : List Tuple) (block : List ℕ) (at n : ℕ) (rest : Li
 -- the record takes as much room as the tuple
 pub spells-size : {m : List ℕ} {r : Record} {x : Tuple} → Spells m r x → sizeOf r ≡ size x
 spells-size {m} {r} s = record-size r (payloadIn m r) (length-part (r .len) (r .start) m (s .inside)) ∙ ap size (s .tuple)
+
+-- the record of a tuple in range can be appended
+pub spells-appends : {m : List ℕ} {r : Record} {x : Tuple} {at : ℕ} → Spells m r x → Fits x → at + size x ≤ 512 → Appendable at r m
+unfolding tupleOf
+spells-appends {m} {r} s fit h =
+    let l : length (payloadIn m r) ≡ r .len = length-part (r .len) (r .start) m (s .inside) in
+    record {
+      room = omega (arith, spells-size s);
+      inside = s .inside;
+      limit = omega (arith, ap (λ (z : Tuple). length (z .payload)) (s .tuple), fit .payload);
+      owner = subst (λ (z : Tuple). OwnerFits (z .owner)) (sym (s .tuple)) (fit .owner);
+    }
 
 pub writing-start : {all rest : List Tuple} → rest ≡ all → Writing all (zeros 512) 8 0 rest
 writing-start e = record { done = []; count = refl; built = built-start; split = sym e }
@@ -73,14 +85,14 @@ module _ {all rest : List Tuple} {block : List ℕ} {at n : ℕ} (w : Writing al
         storable-none all (omega (arith, ap sizes (w .split), sizes-append (w .done) rest, ap sizes next))
 
     -- one tuple more
-    pub writing-turn : {m : List ℕ} {r : Record} → Spells m r x → at + size x ≤ 512 → Writing all (over block at (bytesOfRecord r (payloadIn m r))) (at + sizeOf r) (n + 1) more
+    pub writing-turn : {m : List ℕ} {r : Record} → Spells m r x → at + size x ≤ 512 → Writing all (over block at (recordBytes (tupleOf r (payloadIn m r)))) (at + sizeOf r) (n + 1) more
     writing-turn {m} {r} s h =
         let p : List ℕ = payloadIn m r in
         let y = tupleOf r p in
         record {
           done = w .done ++ (y ∷ []);
           count = length-append (w .done) (y ∷ []) ∙ omega (arith, w .count);
-          built = built-turn (w .built) r p (s .byte) (s .count) (length-part (r .len) (r .start) m (s .inside)) (omega (arith, spells-size s));
+          built = built-turn (w .built) r p (length-part (r .len) (r .start) m (s .inside)) (omega (arith, spells-size s));
           split = w .split
               ∙ ap (λ (z : List Tuple). w .done ++ z) (next ∙ ap (λ (z : Tuple). z ∷ more) (sym (s .tuple)))
               ∙ sym (append-assoc (w .done) (y ∷ []) more);

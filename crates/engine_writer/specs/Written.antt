@@ -1,9 +1,9 @@
 -- A row as a record of a page, and the header to come.
-use Prim.Native.Nat.{ℕ, suc, _+_, _*_, _%_, _≤_, _<_}
+use Prim.Native.Nat.{ℕ, suc, _+_, _≤_}
 use mathlib.Core.Path.{_≡_}
 use mathlib.Core.List.{List}
 use lib.ListN.{length}
-use Rattle.blocks.specs.Tuple.{Owner, committed, tentative, Tuple}
+use Rattle.blocks.specs.Tuple.{Tuple}
 use Rattle.blocks.specs.Bytes.{payloadIn, tupleOf}
 use Rattle.blocks.specs.declared.Header.{Header}
 use Rattle.blocks.specs.declared.Record.{Record}
@@ -15,14 +15,7 @@ use Rattle.memory_layout.specs.Store.{storeOf}
 abbrev pub nextHeader : Flat → Header
 nextHeader f = headerFor (storeOf f) (suc (f .head .level)) (f .head .begun) (length (f .named)) (f .directories)
 
--- an owner's four bytes as a number: the transaction above 20 bits of statement
-unfoldable pub ownerWord : Owner → ℕ
-ownerWord committed = 0
-ownerWord (tentative t s) = t * 1048576 + s
-
 -- the record r, with its payload in m, is the tuple x
 pub record Spells (m : List ℕ) (r : Record) (x : Tuple) : Type 0 where
   pub inside : r .start + r .len ≤ length m
-  pub byte : r .flags < 256
-  pub count : r .len ≡ r .flags % 64
   pub tuple : tupleOf r (payloadIn m r) ≡ x

@@ -5,14 +5,11 @@ ghost use mathlib.Core.List.{[]};
 ghost use Prim.Native.Nat.{_+_, _*_, _-_, _≤_, _<_};
 ghost use lib.ListN.{length, take, drop, getD};
 ghost use Rattle.blocks.specs.Limits.{entriesPerBlock};
-ghost use Rattle.blocks.specs.Tuple.{OwnerFits};
 ghost use Rattle.blocks.specs.Block.{header, page, directory, encodeBlock};
 ghost use Rattle.model.specs.Rules.{isAdding, shown};
 ghost use Rattle.model.specs.Checkpoint.{storable};
 ghost use Rattle.memory_layout.specs.Flat.{flatOf, rowIn, Room};
-ghost use Rattle.memory_rows.specs.Rows.{ownerIs};
-ghost use Rattle.engine_writer.specs.Written.{nextHeader, ownerWord, Spells};
-use memory_rows::Owner;
+ghost use Rattle.engine_writer.specs.Written.{nextHeader, Spells};
 use memory_rows::Pending;
 
 // ---- the header
@@ -98,33 +95,18 @@ fn is_shown(m: &[u8], i: usize) -> bool
     }
 }
 
-// An owner's four bytes as a number.
-fn owner_word(o: Owner) -> u32
-    requires { ⌜ OwnerFits (ownerIs o) ⌝ }
-    ensures { λ r. ⌜ r ≡ ownerWord (ownerIs o) ⌝ }
-{
-    match o {
-        Owner::Committed => 0,
-        Owner::Tentative {
-            transaction: t,
-            statement: s,
-        } => t * 1048576 + s,
-    }
-}
-
 // Row i as a record. A pending commit or removal is not looked at.
 fn record_at(m: &[u8], i: usize) -> blocks::Record
     requires { ⌜ Room (now m) × (i < length (flatOf (now m) .rows)) ⌝ }
     ensures { λ r. ⌜ Spells (now (m .entry)) r (rowIn (flatOf (now (m .entry))) i .tuple) ⌝ }
 {
     let p = memory_rows::payload_at(m, i);
-    let f = memory_rows::flags_at(m, i);
-    let w = owner_word(memory_rows::owner_at(m, i));
+    let o = memory_rows::owner_at(m, i);
     blocks::Record {
         key: memory_rows::key_at(m, i),
         number: memory_rows::number_at(m, i),
-        flags: f,
-        owner: w,
+        owner: o,
+        mark: memory_rows::mark_at(m, i),
         start: p.start,
         len: p.len,
     }

@@ -1,5 +1,6 @@
 // The listing of an image as text. Each function but the last two puts its text into out from a place on and answers the place after it; what
 // does not fit is left out.
+use blocks::Owner;
 use blocks::Record;
 use libc::STDOUT_FILENO;
 use reader::Cursor;
@@ -44,12 +45,17 @@ fn page_line(out: &mut [u8], at: usize, table: u32, block: u32, count: u32) -> u
     text(out, to, b"\n")
 }
 
-fn owner_part(out: &mut [u8], at: usize, r: Record) -> usize {
-    if r.flags < 128 {
-        let to = number(out, at, b" open ", (r.owner / 1048576) as u64);
-        return number(out, to, b" ", (r.owner % 1048576) as u64);
+fn owner_part(out: &mut [u8], at: usize, owner: Owner) -> usize {
+    match owner {
+        Owner::Committed => text(out, at, b" held"),
+        Owner::Tentative {
+            transaction: t,
+            statement: s,
+        } => {
+            let to = number(out, at, b" open ", t as u64);
+            number(out, to, b" ", s as u64)
+        }
     }
-    text(out, at, b" held")
 }
 
 fn line_end(out: &mut [u8], at: usize, mark: bool) -> usize {
@@ -62,9 +68,10 @@ fn line_end(out: &mut [u8], at: usize, mark: bool) -> usize {
 fn tuple_line(out: &mut [u8], at: usize, r: Record) -> usize {
     let mut to = number(out, at, b"tuple ", r.key as u64);
     to = number(out, to, b" ", r.number as u64);
-    to = owner_part(out, to, r);
+    let o = r.owner;
+    to = owner_part(out, to, o);
     to = number(out, to, b" ", r.len as u64);
-    line_end(out, to, 0 < r.flags / 64 % 2)
+    line_end(out, to, r.mark)
 }
 
 fn tuple_lines(out: &mut [u8], at: usize, block: &[u8; 512], count: u32) -> usize {

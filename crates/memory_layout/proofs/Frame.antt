@@ -14,7 +14,8 @@ use Rattle.memory_bytes.specs.Bytes.{le2, le4, bytes}
 use Rattle.memory_bytes.specs.Columns.{tab}
 use Rattle.memory_bytes.proofs.Bytes.{le2-cong, le4-cong, bytes-cong}
 use Rattle.memory_layout.specs.Places.{startsAt}
-use Rattle.memory_layout.specs.Views.{headOf, rowCount, pageCount, tableEnd, openAt, directoryAt, isUsed, slotOf, slotPlace, heldOf, rowAt, keyOf, refOf, stateOf, startAt, tableAt, entryAt, blockWord, namedBlock, lengthOf, ownerOf, markOf, pendingOf}
+use Rattle.blocks.specs.Decode.{readOwner, readMark}
+use Rattle.memory_layout.specs.Views.{headOf, rowCount, pageCount, tableEnd, openAt, directoryAt, isUsed, slotOf, slotPlace, heldOf, rowAt, keyOf, refOf, stateOf, startAt, tableAt, entryAt, blockWord, namedBlock, lengthOf, pendingOf}
 use Rattle.memory_layout.specs.Flat.{opensOf, directoriesOf}
 
 -- the n bytes from a on are the same in both
@@ -131,8 +132,8 @@ module _ (m m' : List ℕ) where
           tuple = record {
             key = k;
             number = within4 a 72 a t (omega arith) (omega arith) i;
-            owner = ownerOf s (within4 a 72 (a + 4) t (omega arith) (omega arith) i);
-            mark = markOf s;
+            owner = readOwner s (within4 a 72 (a + 4) t (omega arith) (omega arith) i);
+            mark = readMark s;
             payload = same-bytes (a + 8) (lengthOf s) (within a 72 (a + 8) (lengthOf s) t (omega arith) (omega arith)) i;
           };
           pending = pendingOf r;

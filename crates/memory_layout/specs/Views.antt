@@ -7,7 +7,7 @@ use lib.Dec.{eqb, ltb, leb}
 use Rattle.basics.specs.Basics.{if_then_else_, howMany, from}
 use Rattle.memory_bytes.specs.Bytes.{le2, le4, bytes}
 use Rattle.blocks.specs.Limits.{payloadLimit}
-use Rattle.blocks.specs.Tuple.{Owner, committed, tentative, Tuple}
+use Rattle.blocks.specs.Decode.{readOwner, readMark}
 use Rattle.model.specs.State.{Pending, nothing, adding, committing, removing, Held, Active}
 use Rattle.memory_layout.specs.Places.{tablesAt, directoriesAt, opensAt, usedAt, slotsAt, slotSize, keysAt, refsAt, statesAt, startsAt, blocksAt, namedAt}
 use Rattle.memory_layout.specs.declared.Head.{Head}
@@ -83,14 +83,6 @@ pendingOf r =
     else if eqb (r / 1024 % 4) 2 then committing
     else removing
 
--- committed by a state's high bit; else the transaction stands above 20 bits of statement
-unfoldable pub ownerOf : ℕ → ℕ → Owner
-ownerOf s w = if leb 128 s then committed else tentative (w / 1048576) (w % 1048576)
-
--- a delete mark by a state's second bit
-unfoldable pub markOf : ℕ → Bool
-markOf s = eqb (s / 64 % 2) 1
-
 -- the payload's length by a state's low six bits, and never above the limit
 unfoldable pub lengthOf : ℕ → ℕ
 lengthOf s = min (s % 64) payloadLimit
@@ -115,7 +107,7 @@ slotPlace s = slotsAt + s * slotSize
 unfoldable pub heldOf : List ℕ → ℕ → ℕ → ℕ → ℕ → Held
 heldOf m a k s r =
     record {
-      tuple = record { key = k; number = le4 m a; owner = ownerOf s (le4 m (a + 4)); mark = markOf s; payload = bytes m (a + 8) (lengthOf s) };
+      tuple = record { key = k; number = le4 m a; owner = readOwner s (le4 m (a + 4)); mark = readMark s; payload = bytes m (a + 8) (lengthOf s) };
       pending = pendingOf r;
     }
 

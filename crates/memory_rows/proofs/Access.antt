@@ -10,7 +10,8 @@ use Rattle.memory_bytes.specs.Bytes.{le4, bytes, column4}
 use Rattle.memory_bytes.proofs.Columns.{getD-tab, tab-cong}
 use Rattle.model.specs.State.{Held}
 use Rattle.memory_layout.specs.Places.{keysAt}
-use Rattle.memory_layout.specs.Views.{rowCount, rowAt, heldOf, ownerOf, markOf, pendingOf, lengthOf, keyOf, refOf, stateOf, slotPlace}
+use Rattle.blocks.specs.Decode.{readOwner, readMark}
+use Rattle.memory_layout.specs.Views.{rowCount, rowAt, heldOf, pendingOf, lengthOf, keyOf, refOf, stateOf, slotPlace}
 use Rattle.memory_layout.specs.Flat.{flatOf, rowsOf, capacityOf, rowIn, noRow, Room}
 use Rattle.memory_layout.proofs.Laws.{rows-length, known}
 use Rattle.memory_rows.specs.Rows.{keyIn}
@@ -39,11 +40,11 @@ module _ (m : List ℕ) where
     unfolding rowAt heldOf slotIn
     number-is = ap (λ (r : Held). r .tuple .number) (row-is i h)
 
-    pub owner-is : rowIn (flatOf m) i .tuple .owner ≡ ownerOf (stateOf m (capacityOf m) i) (le4 m (slotPlace (slotAt m i) + 4))
+    pub owner-is : rowIn (flatOf m) i .tuple .owner ≡ readOwner (stateOf m (capacityOf m) i) (le4 m (slotPlace (slotAt m i) + 4))
     unfolding rowAt heldOf slotIn
     owner-is = ap (λ (r : Held). r .tuple .owner) (row-is i h)
 
-    pub mark-is : rowIn (flatOf m) i .tuple .mark ≡ markOf (stateOf m (capacityOf m) i)
+    pub mark-is : rowIn (flatOf m) i .tuple .mark ≡ readMark (stateOf m (capacityOf m) i)
     unfolding rowAt heldOf
     mark-is = ap (λ (r : Held). r .tuple .mark) (row-is i h)
 

@@ -9,6 +9,7 @@ use lib.ListN.{length, drop, length-append}
 use lib.Seq.{take-length, drop-length}
 use borrow.Author.Tests.{ne-eqb}
 use Rattle.basics.specs.Basics.{any}
+use Rattle.blocks.specs.Bytes.{ownerIs, flagsOf, ownerWord}
 use Rattle.memory_bytes.specs.Bytes.{bytes4, Wrote}
 use Rattle.memory_bytes.specs.Columns.{tab, equals, insertAt}
 use Rattle.memory_bytes.proofs.Columns.{lt-or-ge}
@@ -17,7 +18,7 @@ use Rattle.memory_layout.specs.Views.{slotOf, refOf}
 use Rattle.memory_layout.specs.Flat.{capacityOf, rowsOf}
 use Rattle.memory_layout.proofs.Frame.{same4}
 use Rattle.memory_rows.specs.Rows.{heldBy, RowFits, RowsOnly}
-use Rattle.memory_rows.specs.Cells.{codeOf, Capacity, slotIn, slotAt, isTaken, InOrder, wordOf, stateBy, RowsRaised, CellsPut, SlotFilled}
+use Rattle.memory_rows.specs.Cells.{codeOf, Capacity, slotIn, slotAt, isTaken, InOrder, RowsRaised, CellsPut, SlotFilled}
 use Rattle.memory_rows.specs.declared.Row.{Row}
 use Rattle.memory_rows.proofs.Moving.{cells-stay}
 use Rattle.memory_rows.proofs.Inserting.{slot-own, inserted}
@@ -50,7 +51,7 @@ order-free {m} {n} o e = none-equal (slotAt m) n 0 (length (rowsOf m)) (λ j p q
 
 module _ {m m1 m3 m4 : List ℕ} {c n w r st : ℕ} (row : Row) {xs : List ℕ} (z : Capacity m c) (en : n ≡ length (rowsOf m)) (full : n < c)
     (own : RowFits row) (fit : length xs ≤ 40) (o : InOrder m)
-    (ew : w ≡ wordOf (row .owner)) (er : r ≡ n + codeOf (row .pending) * 1024) (es : st ≡ stateBy (row .owner) (row .mark) (length xs))
+    (ew : w ≡ ownerWord (ownerIs (row .owner))) (er : r ≡ n + codeOf (row .pending) * 1024) (es : st ≡ flagsOf (ownerIs (row .owner)) (row .mark) (length xs))
     (fill : SlotFilled m m1 n (row .number) w xs) (put : CellsPut m1 m3 c n (row .key) r st) (count : Wrote m3 m4 32 (bytes4 (n + 1))) where
   pub appended : RowsOnly m m4 (rowsOf m ++ heldBy row xs ∷ [])
   appended =

@@ -5,9 +5,9 @@ use mathlib.Core.List.{List, [], _∷_}
 use Prim.Native.Nat.{ℕ, _+_, _*_, _/_, _%_, _≤_, _<_, min}
 use native.Mathlib.Omega.{arith}
 use lib.ListN.{length, getD}
-use lib.Dec.{eqb, ltb}
+use lib.Dec.{eqb, ltb, leb}
 use mathlib.Core.Bool.{Bool}
-use borrow.Author.Tests.{le-leb}
+use borrow.Author.Tests.{le-ltb}
 use Rattle.basics.specs.Basics.{if_then_else_}
 use Rattle.blocks.specs.Limits.{payloadLimit}
 use Rattle.blocks.specs.Tuple.{committed, tentative}
@@ -19,7 +19,8 @@ use Rattle.memory_bytes.specs.Columns.{tab}
 use Rattle.memory_bytes.proofs.Bytes.{le2-below, le2-above, le4-below, le2-wrote}
 use Rattle.memory_bytes.proofs.Columns.{lt-or-ge, tab-set}
 use Rattle.memory_layout.specs.Places.{keysAt, refsAt, statesAt, startsAt}
-use Rattle.memory_layout.specs.Views.{rowCount, ownerOf, markOf, pendingOf, lengthOf, slotOf, slotPlace, keyOf, refOf, stateOf, heldOf, rowAt}
+use Rattle.blocks.specs.Decode.{readOwner, readMark}
+use Rattle.memory_layout.specs.Views.{rowCount, pendingOf, lengthOf, slotOf, slotPlace, keyOf, refOf, stateOf, heldOf, rowAt}
 use Rattle.memory_layout.specs.Flat.{flatOf, capacityOf, rowsOf, rowIn, Room, Becomes}
 use Rattle.memory_layout.proofs.Laws.{rows-length}
 use Rattle.memory_layout.proofs.Frame.{Same, same4, same-held, moved-row, slot-below}
@@ -63,17 +64,17 @@ module _ {m m' : List ℕ} (room : Room m) (i : ℕ) (h : i < length (rowsOf m))
 
 -- ---- committed
 
-owner-committed : (s w : ℕ) → 128 ≤ s → ownerOf s w ≡ committed
-unfolding ownerOf if_then_else_
-owner-committed s w h = ap (λ (t : Bool). if t then committed else tentative (w / 1048576) (w % 1048576)) (le-leb 128 s h)
+owner-committed : (s w : ℕ) → 128 ≤ s → readOwner s w ≡ committed
+unfolding readOwner if_then_else_
+owner-committed s w h = ap (λ (t : Bool). if t then tentative (w / 1048576) (w % 1048576) else committed) (le-ltb s 128 h)
 
 pub length-by : (s t : ℕ) → s % 64 ≡ t % 64 → lengthOf s ≡ lengthOf t
 unfolding lengthOf
 length-by s t h = ap (λ (z : ℕ). min z payloadLimit) h
 
-pub mark-by : (s t : ℕ) → s / 64 % 2 ≡ t / 64 % 2 → markOf s ≡ markOf t
-unfolding markOf
-mark-by s t h = ap (λ (z : ℕ). eqb z 1) h
+mark-by : (s t : ℕ) → s % 128 ≡ t % 128 → readMark s ≡ readMark t
+unfolding readMark
+mark-by s t h = ap (leb 64) h
 
 committed-is : (m : List ℕ) (a k s r : ℕ) → heldOf m a k (s % 128 + 128) r ≡ committedRow (heldOf m a k s r)
 unfolding heldOf committedRow asCommitted
@@ -134,7 +135,7 @@ unfolding heldOf withPending
 pending-is m a k s r v p e =
     let o : pendingOf v ≡ pendingIs p = ap pendingOf e ∙ code-is p (r % 1024) (omega arith) in
     λ i. record {
-      tuple = record { key = k; number = le4 m a; owner = ownerOf s (le4 m (a + 4)); mark = markOf s; payload = bytes m (a + 8) (lengthOf s) };
+      tuple = record { key = k; number = le4 m a; owner = readOwner s (le4 m (a + 4)); mark = readMark s; payload = bytes m (a + 8) (lengthOf s) };
       pending = o i;
     }
 

@@ -2,33 +2,25 @@
 use mathlib.Core.Path.{_≡_, refl, sym, ap, _∙_}
 use mathlib.Core.Bool.{Bool, true, false, _&&_}
 use mathlib.Core.List.{List}
-use Prim.Native.Nat.{ℕ, _+_, _/_, _%_, _≤_, _<_}
+use Prim.Native.Nat.{ℕ, _+_, _≤_, _<_}
 use native.Mathlib.Omega.{arith}
 use lib.ListN.{length}
-use lib.Dec.{ltb, leb}
-use borrow.Author.Tests.{le-leb, lt-leb, ltb-true, ltb-false}
+use lib.Dec.{ltb}
 use Rattle.basics.specs.Basics.{if_then_else_}
-use Rattle.blocks.specs.Tuple.{committed, tentative, Tuple, size, ownerSize}
+use Rattle.blocks.specs.Tuple.{Tuple, size, ownerSize}
 use Rattle.rows.specs.Rows.{isBy}
 use Rattle.model.specs.State.{Pending, nothing, adding, committing, removing, Held}
 use Rattle.model.specs.Rules.{heldSize, isRemoving, isCommitting, ripe, asCommitted}
+use Rattle.blocks.proofs.ReadTuples.{owner-size}
 use Rattle.memory_bytes.specs.Bytes.{le4}
 use Rattle.memory_bytes.proofs.Bytes.{length-bytes}
-use Rattle.memory_layout.specs.Views.{ownerOf, lengthOf, stateOf, slotPlace}
+use Rattle.memory_layout.specs.Views.{lengthOf, stateOf, slotPlace}
 use Rattle.memory_layout.specs.Flat.{flatOf, rowsOf, capacityOf, rowIn}
 use Rattle.memory_rows.specs.Rows.{isLiveOwn}
 use Rattle.memory_rows.specs.Cells.{keepsOwner, slotAt}
 use Rattle.memory_rows.proofs.Access.{owner-is, payload-is}
 
 -- ---- sizes
-
-owner-size : (s w : ℕ) → ownerSize (ownerOf s w) ≡ (if ltb s 128 then 4 else 0)
-unfolding ownerOf ownerSize if_then_else_
-owner-size s w = by-test (ltb s 128) refl
-  where
-    by-test : (t : Bool) → ltb s 128 ≡ t → ownerSize (if leb 128 s then committed else tentative (w / 1048576) (w % 1048576)) ≡ (if t then 4 else 0)
-    by-test true e = rw (lt-leb 128 s (ltb-true s 128 e))
-    by-test false e = rw (le-leb 128 s (ltb-false s 128 e))
 
 -- the size goes by the state alone
 pub size-is : (m : List ℕ) (i : ℕ) → i < length (rowsOf m) → (s : ℕ) → s ≡ stateOf m (capacityOf m) i

@@ -2,17 +2,18 @@
 use mathlib.Core.Path.{_≡_, refl, sym, ap, ap₂, _∙_}
 use Prim.Native.Nat.{ℕ, zero, suc, _+_, _*_, _-_, _≤_, _<_}
 use native.Mathlib.Omega.{arith}
-use mathlib.Core.Bool.{Bool, true, false, _||_}
+use mathlib.Core.Bool.{Bool, _||_}
 use mathlib.Core.List.{List}
-use lib.Dec.{leb, ltb}
+use lib.Dec.{ltb}
 use lib.ListN.{length, take, drop, getD}
 use Rattle.basics.specs.Basics.{if_then_else_, any}
 use Rattle.basics.proofs.Facts.{by}
 use Rattle.blocks.specs.Tuple.{isTentative}
 use Rattle.memory_bytes.specs.Columns.{tab}
 use Rattle.memory_bytes.proofs.Columns.{take-tab, drop-tab}
-use Rattle.model.proofs.Lists.{any-cons, leb-true, leb-false, le-true, lt-false}
-use Rattle.memory_layout.specs.Views.{rowCount, rowAt, heldOf, ownerOf, stateOf}
+use Rattle.model.proofs.Lists.{any-cons}
+use Rattle.blocks.specs.Decode.{readOwner}
+use Rattle.memory_layout.specs.Views.{rowCount, rowAt, heldOf, stateOf}
 use Rattle.memory_layout.specs.Flat.{flatOf, rowsOf, capacityOf}
 use Rattle.memory_rows.specs.Rows.{isOwned}
 use Rattle.memory_layout.proofs.Laws.{rows-length}
@@ -35,10 +36,8 @@ any-tabs f g t h i j (suc n) e =
     ∙ sym (any-cons t (h j) (tab h (suc j) n))
 
 owned-is : (m : List ℕ) (c i : ℕ) → isOwned (rowAt m c i) ≡ unset (stateOf m c i)
-unfolding isOwned rowAt heldOf ownerOf isTentative if_then_else_
-owned-is m c i =
-    by (leb 128 (stateOf m c i)) (λ h. rw (h, lt-false (stateOf m c i) 128 (leb-true 128 (stateOf m c i) h)))
-    (λ h. rw (h, le-true (suc (stateOf m c i)) 128 (omega (arith, leb-false 128 (stateOf m c i) h))))
+unfolding isOwned rowAt heldOf readOwner isTentative if_then_else_
+owned-is m c i = by (ltb (stateOf m c i) 128) (λ h. rw h) (λ h. rw h)
 
 pub group-is : (m : List ℕ) (i a : ℕ) → i + 16 ≤ length (flatOf m .rows) → a ≡ 1024 + capacityOf m * 78 + i
     → any isOwned (take 16 (drop i (flatOf m .rows))) ≡ any unset (tab (λ k. getD m (a + k) 0) 0 16)

@@ -3,29 +3,30 @@ use mathlib.Core.Path.{_≡_, sym, ap, _∙_}
 use mathlib.Core.Logic.{⊎-elim}
 use mathlib.Core.Bool.{Bool, true, false}
 use mathlib.Core.List.{List}
-use Prim.Native.Nat.{ℕ, suc, _+_, _*_, _-_, _/_, _%_, _≤_, _<_, min}
+use Prim.Native.Nat.{ℕ, suc, _+_, _*_, _-_, _%_, _≤_, _<_, min}
 use native.Mathlib.Nat.{zero-add, min-eq-left}
 use native.Mathlib.Omega.{arith}
 use lib.ListN.{length, getD}
 use lib.Dec.{eqb, ltb}
-use borrow.Author.Tests.{lt-ltb, lt-leb, le-leb, eq-eqb, ne-eqb}
+use borrow.Author.Tests.{lt-ltb, eq-eqb}
 use Rattle.basics.specs.Basics.{if_then_else_}
 use Rattle.blocks.specs.Limits.{payloadLimit}
-use Rattle.blocks.specs.Tuple.{committed, tentative, OwnerFits}
+use Rattle.blocks.specs.Tuple.{Owner}
 use Rattle.memory_bytes.specs.Bytes.{le4, bytes, bytes2, bytes4, Wrote}
 use Rattle.memory_bytes.specs.Columns.{tab, equals, insertAt, removeAt}
 use Rattle.memory_bytes.proofs.Bytes.{le2-below, le4-below, le4-wrote}
 use Rattle.memory_bytes.proofs.Columns.{lt-or-ge, length-tab, getD-tab, tab-insert, tab-remove}
 use Rattle.memory_bytes.proofs.Found.{any-none}
 use Rattle.memory_layout.specs.Places.{keysAt, refsAt, statesAt, startsAt}
-use Rattle.memory_layout.specs.Views.{rowCount, ownerOf, markOf, lengthOf, slotOf, slotPlace, keyOf, refOf, stateOf, heldOf, rowAt}
+use Rattle.blocks.specs.Decode.{readOwner}
+use Rattle.memory_layout.specs.Views.{rowCount, lengthOf, slotOf, slotPlace, keyOf, refOf, stateOf, heldOf, rowAt}
 use Rattle.memory_layout.specs.Flat.{capacityOf, rowsOf}
 use Rattle.memory_layout.proofs.Laws.{rows-length}
 use Rattle.memory_layout.proofs.Frame.{Same, same4, same-bytes, within, within4, moved-row, slot-below}
-use Rattle.memory_rows.specs.Rows.{ownerIs, heldBy, RowFits, RowsOnly}
-use Rattle.memory_rows.specs.Cells.{codeOf, Capacity, slotIn, slotAt, isTaken, wordOf, markBit, stateBy, SameCells, RowsRaised, RowsLowered, CellsPut, SlotFilled}
-use Rattle.memory_rows.specs.declared.Owner.{Owner}
-use Rattle.memory_rows.specs.declared.Owner.the-variants.{Committed, Tentative}
+use Rattle.blocks.specs.Bytes.{ownerIs, flagsOf, ownerWord}
+use Rattle.blocks.proofs.ReadBack.{flags-length, flags-mark, flags-owner}
+use Rattle.memory_rows.specs.Rows.{heldBy, RowFits, RowsOnly}
+use Rattle.memory_rows.specs.Cells.{codeOf, Capacity, slotIn, slotAt, isTaken, SameCells, RowsRaised, RowsLowered, CellsPut, SlotFilled}
 use Rattle.memory_rows.specs.declared.Row.{Row}
 use Rattle.memory_rows.proofs.Exchange.{apart, code-is}
 use Rattle.memory_rows.proofs.Moving.{cells-then, cells-stay}
@@ -36,43 +37,15 @@ pub slot-own : (c r s : ℕ) → r % 1024 ≡ s → s < c → slotOf c r ≡ s
 unfolding slotOf if_then_else_
 slot-own c r s e h = ap (λ (z : ℕ). if ltb z c then z else 0) e ∙ ap (λ (t : Bool). if t then s else 0) (lt-ltb s c h)
 
-owner-read : (o : Owner) (mark : Bool) (n : ℕ) → n ≤ 40 → OwnerFits (ownerIs o) → ownerOf (stateBy o mark n) (wordOf o) ≡ ownerIs o
-unfolding ownerOf if_then_else_
-owner-read Committed mark n h f = ap (λ (t : Bool). if t then committed else tentative 0 0) (le-leb 128 (stateBy Committed mark n) (omega arith))
-owner-read (Tentative t s) mark n h f =
-    let w : ℕ = t * 1048576 + s in
-    let a : w / 1048576 ≡ t = omega arith in
-    let b : w % 1048576 ≡ s = omega arith in
-    let l : markBit mark ≤ 64 = at-most mark in
-    ap (λ (x : Bool). if x then committed else tentative (w / 1048576) (w % 1048576)) (lt-leb 128 (stateBy (Tentative t s) mark n) (omega arith))
-    ∙ (λ i. tentative (a i) (b i))
-  where
-    at-most : (b : Bool) → markBit b ≤ 64
-    at-most true = omega arith
-    at-most false = omega arith
-
-mark-read : (o : Owner) (mark : Bool) (n : ℕ) → n ≤ 40 → markOf (stateBy o mark n) ≡ mark
-unfolding markOf
-mark-read Committed true n h = eq-eqb ((128 + 64 + n) / 64 % 2) 1 (omega arith)
-mark-read Committed false n h = ne-eqb ((128 + 0 + n) / 64 % 2) 1 (λ e. omega arith)
-mark-read (Tentative t s) true n h = eq-eqb ((0 + 64 + n) / 64 % 2) 1 (omega arith)
-mark-read (Tentative t s) false n h = ne-eqb ((0 + 0 + n) / 64 % 2) 1 (λ e. omega arith)
-
-length-read : (o : Owner) (mark : Bool) (n : ℕ) → n ≤ 40 → lengthOf (stateBy o mark n) ≡ n
+length-read : (o : Owner) (mark : Bool) (n : ℕ) → n ≤ 40 → lengthOf (flagsOf o mark n) ≡ n
 unfolding lengthOf
-length-read o mark n h = ap (λ (z : ℕ). min z payloadLimit) (low o mark) ∙ min-eq-left h
-  where
-    low : (o : Owner) (mark : Bool) → stateBy o mark n % 64 ≡ n
-    low Committed true = omega arith
-    low Committed false = omega arith
-    low (Tentative t s) true = omega arith
-    low (Tentative t s) false = omega arith
+length-read o mark n h = ap (λ (z : ℕ). min z payloadLimit) (flags-length o mark n h) ∙ min-eq-left h
 
 -- ---- a row more
 
 module _ {m m1 m2 m3 m4 : List ℕ} {c i n s w r st : ℕ} (row : Row) {xs : List ℕ} (z : Capacity m c) (en : n ≡ length (rowsOf m)) (at : i ≤ n) (full : n < c)
     (own : RowFits row) (fit : length xs ≤ 40) (ls : s < c) (free : isTaken m s ≡ false)
-    (ew : w ≡ wordOf (row .owner)) (er : r ≡ s + codeOf (row .pending) * 1024) (es : st ≡ stateBy (row .owner) (row .mark) (length xs))
+    (ew : w ≡ ownerWord (ownerIs (row .owner))) (er : r ≡ s + codeOf (row .pending) * 1024) (es : st ≡ flagsOf (ownerIs (row .owner)) (row .mark) (length xs))
     (fill : SlotFilled m m1 s (row .number) w xs) (up : RowsRaised m1 m2 c i n) (put : CellsPut m2 m3 c i (row .key) r st)
     (count : Wrote m3 m4 32 (bytes4 (n + 1))) where
   -- slots are as they were when the new one was filled
@@ -120,17 +93,17 @@ module _ {m m1 m2 m3 m4 : List ℕ} {c i n s w r st : ℕ} (row : Row) {xs : Lis
   row-new : rowAt m4 c i ≡ heldBy row xs
   unfolding rowAt heldOf
   row-new =
-      let o : Owner = row .owner in
+      let o : Owner = ownerIs (row .owner) in
       let l : ℕ = length xs in
       let a : ℕ = slotPlace s in
       let ref : ℕ = s + codeOf (row .pending) * 1024 in
-      let state : ℕ = stateBy o (row .mark) l in
+      let state : ℕ = flagsOf o (row .mark) l in
       let pr : refOf m4 c i ≡ ref = counted i .ref ∙ put .ref ∙ er in
       let ps : stateOf m4 c i ≡ state = counted i .state ∙ put .state ∙ es in
       let pk : keyOf m4 c i ≡ row .key = counted i .key ∙ put .key in
       let sl : slotOf c ref ≡ s = slot-own c ref s (omega (arith, z .most)) ls in
       let num : le4 m4 a ≡ row .number = within4 m1 m4 a 72 a new-slot (omega arith) (omega arith) ∙ fill .number in
-      let word : le4 m4 (a + 4) ≡ wordOf o = within4 m1 m4 a 72 (a + 4) new-slot (omega arith) (omega arith) ∙ fill .owner ∙ ew in
+      let word : le4 m4 (a + 4) ≡ ownerWord o = within4 m1 m4 a 72 (a + 4) new-slot (omega arith) (omega arith) ∙ fill .owner ∙ ew in
       let pay : bytes m4 (a + 8) l ≡ xs = same-bytes m1 m4 (a + 8) l (within m1 m4 a 72 (a + 8) l new-slot (omega arith) (omega arith)) ∙ fill .payload in
       (λ y. heldOf m4 (slotPlace (slotOf c (pr y))) (pk y) (ps y) (pr y))
       ∙ (λ y. heldOf m4 (slotPlace (sl y)) (row .key) state ref)
@@ -138,8 +111,8 @@ module _ {m m1 m2 m3 m4 : List ℕ} {c i n s w r st : ℕ} (row : Row) {xs : Lis
         tuple = record {
           key = row .key;
           number = num y;
-          owner = (ap (ownerOf state) word ∙ owner-read o (row .mark) l fit own) y;
-          mark = mark-read o (row .mark) l fit y;
+          owner = (ap (readOwner state) word ∙ flags-owner o (row .mark) l fit own) y;
+          mark = flags-mark o (row .mark) l fit y;
           payload = (ap (bytes m4 (a + 8)) (length-read o (row .mark) l fit) ∙ pay) y;
         };
         pending = code-is (row .pending) s (omega (arith, z .most)) y;

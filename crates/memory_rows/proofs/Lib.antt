@@ -1,6 +1,5 @@
 pub mod Access
 pub mod Fields
-pub mod Flags
 pub mod Kept
 pub mod Exchange
 pub mod Slots

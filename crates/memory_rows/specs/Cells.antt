@@ -12,8 +12,6 @@ use Rattle.model.specs.State as model
 use Rattle.memory_bytes.specs.Columns.{tab, equals}
 use Rattle.memory_layout.specs.Flat.{capacityOf, rowsOf}
 use Rattle.memory_rows.specs.declared.Eight.{Eight}
-use Rattle.memory_rows.specs.declared.Owner.{Owner}
-use Rattle.memory_rows.specs.declared.Owner.the-variants.{Committed, Tentative}
 use Rattle.memory_rows.specs.declared.Pending.{Pending}
 use Rattle.memory_rows.specs.declared.Pending.the-variants.{Nothing, Adding, Committing, Removing}
 
@@ -25,25 +23,6 @@ codeOf Nothing = 0
 codeOf Adding = 1
 codeOf Committing = 2
 codeOf Removing = 3
-
--- the word of an owner: the transaction above 20 bits of statement
-abbrev pub wordOf : Owner → ℕ
-wordOf Committed = 0
-wordOf (Tentative t s) = t * 1048576 + s
-
--- a state's high bit
-abbrev pub committedBit : Owner → ℕ
-committedBit Committed = 128
-committedBit (Tentative t s) = 0
-
--- a state's second bit
-abbrev pub markBit : Bool → ℕ
-markBit true = 64
-markBit false = 0
-
--- a state, for a payload of n bytes
-abbrev pub stateBy : Owner → Bool → ℕ → ℕ
-stateBy o mark n = committedBit o + markBit mark + n
 
 -- ---- pending operations
 

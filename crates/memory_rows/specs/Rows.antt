@@ -1,13 +1,12 @@
 -- Rows as values of the code, and what a change of the rows leaves.
-use Prim.Native.Nat.{ℕ, _*_, _+_, _≤_, _<_}
+use Prim.Native.Nat.{ℕ, _+_, _≤_, _<_}
 use mathlib.Core.Path.{_≡_}
 use mathlib.Core.Bool.{Bool, not, _&&_}
 use mathlib.Core.List.{List, _++_}
 use lib.ListN.{length, drop, getD, set}
 use Rattle.blocks.specs.Limits.{payloadLimit}
-use Rattle.blocks.specs.Tuple as tuples
-use Rattle.blocks.specs.Tuple.{Tuple, OwnerFits}
-use Rattle.blocks.specs.Block.{committedBit, markBit}
+use Rattle.blocks.specs.Tuple.{isTentative, OwnerFits}
+use Rattle.blocks.specs.Bytes.{ownerIs}
 use Rattle.rows.specs.Rows.{isBy}
 use Rattle.model.specs.State as model
 use Rattle.model.specs.State.{Held}
@@ -15,19 +14,12 @@ use Rattle.model.specs.Rules.{isRemoving, ripe, asCommitted}
 use Rattle.memory_bytes.specs.Bytes.{le4, bytes}
 use Rattle.memory_layout.specs.Places.{startsAt}
 use Rattle.memory_layout.specs.Flat.{Flat, flatOf, withRows, capacityOf, rowsOf, rowIn, Room}
-use Rattle.memory_rows.specs.declared.Owner.{Owner}
-use Rattle.memory_rows.specs.declared.Owner.the-variants.{Committed, Tentative}
 use Rattle.memory_rows.specs.declared.Pending.{Pending}
 use Rattle.memory_rows.specs.declared.Pending.the-variants.{Nothing, Adding, Committing, Removing}
 use Rattle.memory_rows.specs.declared.Row.{Row}
 use Rattle.memory_rows.specs.declared.Part.{Part}
 
 -- ---- values of the code and of the model
-
--- an owner
-abbrev pub ownerIs : Owner → tuples.Owner
-ownerIs Committed = tuples.committed
-ownerIs (Tentative t s) = tuples.tentative t s
 
 -- a pending operation
 abbrev pub pendingIs : Pending → model.Pending
@@ -48,10 +40,6 @@ heldBy r bs =
 abbrev pub RowFits : Row → Type 0
 RowFits r = OwnerFits (ownerIs (r .owner))
 
--- the ninth byte of the tuple's record
-unfoldable pub flagsOf : Tuple → ℕ
-flagsOf x = committedBit (x .owner) * 128 + (markBit (x .mark) * 64 + length (x .payload))
-
 -- the row, committed, whatever is pending
 unfoldable pub committedRow : Held → Held
 committedRow h = record { tuple = asCommitted (h .tuple); pending = h .pending }
@@ -62,7 +50,7 @@ isLiveOwn tx h = not (isRemoving (h .pending)) && isBy tx (ripe h .owner)
 
 -- tentative, its pending operation left aside
 unfoldable pub isOwned : Held → Bool
-isOwned h = tuples.isTentative (h .tuple .owner)
+isOwned h = isTentative (h .tuple .owner)
 
 -- ---- parts of the memory
 

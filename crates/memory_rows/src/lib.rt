@@ -1,5 +1,6 @@
 // The rows of the working memory, in list order as three columns: key, slot with pending operation, state. Number, owner and payload
 // stand in slots that never move while a row lives. docs/LAYOUT.md says what stands where. Above this crate a row has typed values only.
+use blocks::Owner;
 use blocks::PageLayout;
 ghost use mathlib.Core.Path.{_≡_};
 ghost use mathlib.Core.Bool.{false};
@@ -8,15 +9,15 @@ ghost use Prim.Native.Nat.{ℕ, _+_, _*_, _-_, _≤_, _<_};
 ghost use lib.ListN.{length, take, drop};
 ghost use Rattle.basics.specs.Basics.{any};
 ghost use Rattle.blocks.specs.Limits.{payloadLimit};
-ghost use Rattle.blocks.specs.Tuple.{OwnerFits};
 ghost use Rattle.rows.specs.Rows.{isBy};
 ghost use Rattle.model.specs.Rules.{heldSize, withPending};
 ghost use Rattle.memory_bytes.specs.Columns.{tab, insertAt, removeAt, firstIndex, lastIndex, equals, upTo};
 ghost use Rattle.memory_layout.specs.Places.{slotSize, keysAt, refsAt, statesAt};
-ghost use Rattle.memory_layout.specs.Views.{lengthOf, slotOf, slotPlace, refOf, stateOf, ownerOf, pendingOf};
+ghost use Rattle.memory_layout.specs.Views.{lengthOf, slotOf, slotPlace, refOf, stateOf, pendingOf};
 ghost use Rattle.memory_layout.specs.Flat.{flatOf, capacityOf, rowIn, Room, Becomes};
-ghost use Rattle.memory_rows.specs.Rows.{ownerIs, pendingIs, flagsOf, heldBy, committedRow, isLiveOwn, isOwned, withRow, keyIn, Holds, Copied, NewRow, RowsOnly};
-ghost use Rattle.memory_rows.specs.Cells.{codeOf, keepsOwner, slotIn, slotAt, isTaken, InOrder, Capacity, wordOf, committedBit, markBit, stateBy, ColumnsFit, EightFits, EightOf, EightPut, RowsRaised, RowsLowered, CellsPut, SlotFilled};
+ghost use Rattle.blocks.specs.Bytes.{ownerIs};
+ghost use Rattle.memory_rows.specs.Rows.{pendingIs, heldBy, committedRow, isLiveOwn, isOwned, withRow, keyIn, Holds, Copied, NewRow, RowsOnly};
+ghost use Rattle.memory_rows.specs.Cells.{codeOf, keepsOwner, slotIn, slotAt, isTaken, InOrder, Capacity, ColumnsFit, EightFits, EightOf, EightPut, RowsRaised, RowsLowered, CellsPut, SlotFilled};
 
 // Where the head has the capacity, and how many rows there are.
 const CAPACITY_AT: usize = 4;
@@ -32,16 +33,8 @@ const SLOT_SIZE: usize = 72;
 // A slot's number has ten bits, and a pending operation stands above it.
 const SLOT_LIMIT: u16 = 1024;
 
-// A state: committed from here on; below it, the delete mark and the payload's length.
+// A row's state is the ninth byte of its record: committed from here on.
 const COMMITTED: u8 = 128;
-
-// How many tuples a transaction may write, and what its number is multiplied by in the word of an owner.
-const STATEMENTS: u32 = 1048576;
-
-pub enum Owner {
-    Committed,
-    Tentative { transaction: u32, statement: u32 },
-}
 
 // What a checkpoint will do to a row of a frozen page.
 pub enum Pending {
@@ -185,32 +178,19 @@ pub fn number_at(m: &[u8], i: usize) -> u32
     memory_bytes::get4(m, slot_place(m, i))
 }
 
-// What the word of an owner says below a state.
-fn owner_of(state: u8, word: u32) -> Owner
-    ensures { λ r. ⌜ ownerIs r ≡ ownerOf state word ⌝ }
-{
-    if COMMITTED <= state {
-        return Owner::Committed;
-    }
-    Owner::Tentative {
-        transaction: word / STATEMENTS,
-        statement: word % STATEMENTS,
-    }
-}
-
 pub fn owner_at(m: &[u8], i: usize) -> Owner
     requires { ⌜ Room (now m) × (i < length (flatOf (now m) .rows)) ⌝ }
     ensures { λ r. ⌜ ownerIs r ≡ rowIn (flatOf (now (m .entry))) i .tuple .owner ⌝ }
 {
     let w = memory_bytes::get4(m, slot_place(m, i) + 4);
-    owner_of(state_at(m, i), w)
+    blocks::owner_of(state_at(m, i), w)
 }
 
 pub fn mark_at(m: &[u8], i: usize) -> bool
     requires { ⌜ Room (now m) × (i < length (flatOf (now m) .rows)) ⌝ }
     ensures { λ r. ⌜ r ≡ rowIn (flatOf (now (m .entry))) i .tuple .mark ⌝ }
 {
-    state_at(m, i) / 64 % 2 == 1
+    blocks::mark_of(state_at(m, i))
 }
 
 fn pending_of(r: u16) -> Pending
@@ -254,15 +234,6 @@ pub fn size_at(m: &[u8], i: usize) -> usize
 {
     let s = state_at(m, i);
     PageLayout::record_size(length_of(s), s < COMMITTED)
-}
-
-// The ninth byte of the row's record: committed, delete mark and the payload's length.
-pub fn flags_at(m: &[u8], i: usize) -> u8
-    requires { ⌜ Room (now m) × (i < length (flatOf (now m) .rows)) ⌝ }
-    ensures { λ r. ⌜ r ≡ flagsOf (rowIn (flatOf (now (m .entry))) i .tuple) ⌝ }
-{
-    let s = state_at(m, i);
-    s / 64 * 64 + length_of(s) as u8
 }
 
 // Where the payload stands.
@@ -596,45 +567,6 @@ fn fill_slot(m: &mut [u8], s: usize, number: u32, owner: u32, payload: &[u8])
     memory_bytes::write(m, a + 8, payload);
 }
 
-fn owner_word(o: Owner) -> u32
-    requires { ⌜ OwnerFits (ownerIs o) ⌝ }
-    ensures { λ r. ⌜ r ≡ wordOf o ⌝ }
-{
-    match o {
-        Owner::Committed => 0,
-        Owner::Tentative {
-            transaction: t,
-            statement: s,
-        } => t * STATEMENTS + s,
-    }
-}
-
-fn committed_bit(o: Owner) -> u8
-    ensures { λ r. ⌜ (r ≡ committedBit o) × (r ≤ 128) ⌝ }
-{
-    match o {
-        Owner::Committed => COMMITTED,
-        Owner::Tentative {
-            transaction: _,
-            statement: _,
-        } => 0,
-    }
-}
-
-fn mark_bit(mark: bool) -> u8
-    ensures { λ r. ⌜ (r ≡ markBit mark) × (r ≤ 64) ⌝ }
-{
-    if mark { 64 } else { 0 }
-}
-
-// The state of a row with a payload of len bytes.
-fn state_by(o: Owner, mark: bool, len: usize) -> u8
-    requires { ⌜ len ≤ payloadLimit ⌝ }
-    ensures { λ r. ⌜ r ≡ stateBy o mark len ⌝ }
-{
-    committed_bit(o) + mark_bit(mark) + len as u8
-}
-
 // The row, with its payload, becomes row i, in a slot that no row is in: all other rows are as they were.
 pub fn insert_row(m: &mut [u8], i: usize, row: Row, payload: &[u8])
     requires { ⌜ NewRow (now m) i row (now payload) ⌝ }
@@ -644,10 +576,10 @@ pub fn insert_row(m: &mut [u8], i: usize, row: Row, payload: &[u8])
     let n = row_count(m);
     let s = free_slot(m);
     let o = row.owner;
-    let state = state_by(o, row.mark, payload.len());
+    let state = blocks::flags_of(o, row.mark, payload.len());
     let p = row.pending;
     let r = s + pending_code(p) * SLOT_LIMIT;
-    fill_slot(m, s as usize, row.number, owner_word(o), payload);
+    fill_slot(m, s as usize, row.number, blocks::word_of(o), payload);
     raise_rows(m, c, i, n);
     put_cells(m, c, i, row.key, r, state);
     memory_bytes::put4(m, ROWS_AT, (n + 1) as u32);
@@ -661,10 +593,10 @@ pub fn append_row(m: &mut [u8], row: Row, payload: &[u8])
     let c = capacity(m);
     let n = row_count(m);
     let o = row.owner;
-    let state = state_by(o, row.mark, payload.len());
+    let state = blocks::flags_of(o, row.mark, payload.len());
     let p = row.pending;
     let r = n as u16 + pending_code(p) * SLOT_LIMIT;
-    fill_slot(m, n, row.number, owner_word(o), payload);
+    fill_slot(m, n, row.number, blocks::word_of(o), payload);
     put_cells(m, c, n, row.key, r, state);
     memory_bytes::put4(m, ROWS_AT, (n + 1) as u32);
 }

@@ -1,47 +1,42 @@
 -- A record as a row, put into columns; and its delete mark.
 use mathlib.Core.Path.{_≡_, refl, sym, ap, _∙_}
-use mathlib.Core.Bool.{true, false}
+use mathlib.Core.Bool.{Bool, true, false, not}
 use mathlib.Core.List.{List, [], _∷_, _++_}
-use Prim.Native.Nat.{ℕ, zero, suc, _+_, _-_, _*_, _/_, _%_, _≤_, _<_}
+use Prim.Native.Nat.{ℕ, zero, suc, _+_, _-_, _*_, _/_, _%_, _<_}
 use native.Mathlib.Omega.{arith}
 use lib.ListN.{length, set}
 use lib.Seq.{getD-set-same, getD-set-other}
 use lib.Dec.{leb, eqb}
-use borrow.Author.Tests.{lt-ltb, le-ltb, le-leb, lt-leb, leb-true, leb-false, ne-eqb}
+use borrow.Author.Tests.{ne-eqb}
+use mir.Val.{boolByte}
 use Rattle.basics.specs.Basics.{if_then_else_, isEmpty}
-use Rattle.basics.proofs.Facts.{by}
-use Rattle.blocks.specs.Tuple.{isTentative}
-use Rattle.blocks.specs.Decode.{readOwner}
-use Rattle.blocks.specs.Bytes.{tupleOf}
+use Rattle.blocks.specs.Tuple.{tentative, isTentative}
+use Rattle.blocks.specs.Bytes.{ownerIs, tupleOf}
+use Rattle.blocks.specs.declared.Owner.the-variants.{Committed, Tentative}
 use Rattle.blocks.specs.declared.Record.{Record}
 use Rattle.rows.specs.Rows.{markOk}
 use Rattle.rows.specs.Columns.{codedOwner, coded, rowAt, tab, rowsIn}
 
 -- ---- the row of a record
 
-pub owner-open : (f w : ℕ) → f < 128 → codedOwner (1 + w) ≡ readOwner f w
-unfolding codedOwner readOwner if_then_else_
-owner-open f w h =
-    let e : 1 + w - 1 ≡ w = omega arith in
-    rw (ne-eqb (1 + w) 0 (λ z. omega arith), lt-ltb f 128 h, e)
+pub owner-coded : {t s o : ℕ} → o ≡ 1 + t * 1048576 + s → s < 1048576 → codedOwner o ≡ tentative t s
+unfolding codedOwner if_then_else_
+owner-coded {t} {s} {o} e h =
+    let a : (o - 1) / 1048576 ≡ t = omega arith in
+    let b : (o - 1) % 1048576 ≡ s = omega arith in
+    rw (ne-eqb o 0 (λ z. omega arith), a, b)
 
-pub owner-held : (f w : ℕ) → 128 ≤ f → codedOwner 0 ≡ readOwner f w
-unfolding codedOwner readOwner if_then_else_
-owner-held f w h = rw (le-ltb f 128 h)
+mark-coded : (m : Bool) → leb 1 (boolByte m) ≡ m
+mark-coded true = refl
+mark-coded false = refl
 
-mark-code : (f : ℕ) → leb 1 (f / 64 % 2) ≡ leb 64 (f % 128)
-mark-code f =
-    by (leb 64 (f % 128))
-    (λ e. let g = leb-true 64 (f % 128) e in rw (e, le-leb 1 (f / 64 % 2) (omega arith)))
-    (λ e. let g = leb-false 64 (f % 128) e in rw (e, lt-leb 1 (f / 64 % 2) (omega arith)))
-
-pub record-row : (t p o : ℕ) (r : Record) → p ≡ t * 4294967296 + r .key → r .key < 4294967296 → codedOwner o ≡ readOwner (r .flags) (r .owner)
-    → coded p (r .number) o (r .flags / 64 % 2) ≡ (t, tupleOf r [])
+pub record-row : (t p o : ℕ) (r : Record) → p ≡ t * 4294967296 + r .key → r .key < 4294967296 → codedOwner o ≡ ownerIs (r .owner)
+    → coded p (r .number) o (boolByte (r .mark)) ≡ (t, tupleOf r [])
 unfolding coded tupleOf
-record-row t p o r e k w =
+record-row t p o r e h w =
     let a : p / 4294967296 ≡ t = omega arith in
     let b : p % 4294967296 ≡ r .key = omega arith in
-    let m = mark-code (r .flags) in
+    let m = mark-coded (r .mark) in
     λ i. (a i, record { key = b i; number = r .number; owner = w i; mark = m i; payload = [] })
 
 -- ---- one row more
@@ -90,14 +85,14 @@ empty-length [] = refl
 empty-length (x ∷ p) = sym (ne-eqb (suc (length p)) 0 (λ e. omega arith))
 
 module _ (t : ℕ) (r : Record) (p : List ℕ) where
-  pub unmarked : r .flags % 128 < 64 → markOk (t, tupleOf r p) ≡ true
+  pub unmarked : not (r .mark) ≡ true → markOk (t, tupleOf r p) ≡ true
   unfolding markOk tupleOf
-  unmarked h = rw (lt-leb 64 (r .flags % 128) h)
+  unmarked h = rw h
 
-  pub marked-held : 64 ≤ r .flags % 128 → 128 ≤ r .flags → markOk (t, tupleOf r p) ≡ false
-  unfolding markOk tupleOf readOwner isTentative if_then_else_
-  marked-held h o = rw (le-leb 64 (r .flags % 128) h, le-ltb (r .flags) 128 o)
+  pub marked-held : not (r .mark) ≡ false → r .owner ≡ Committed → markOk (t, tupleOf r p) ≡ false
+  unfolding markOk tupleOf isTentative
+  marked-held h o = rw (h, o)
 
-  pub marked-open : 64 ≤ r .flags % 128 → r .flags < 128 → length p ≡ r .len → markOk (t, tupleOf r p) ≡ eqb (r .len) 0
-  unfolding markOk tupleOf readOwner isTentative if_then_else_
-  marked-open h o l = rw (le-leb 64 (r .flags % 128) h, lt-ltb (r .flags) 128 o, ← l) (empty-length p)
+  pub marked-open : {u s : ℕ} → not (r .mark) ≡ false → r .owner ≡ Tentative u s → length p ≡ r .len → markOk (t, tupleOf r p) ≡ eqb (r .len) 0
+  unfolding markOk tupleOf isTentative
+  marked-open h o l = rw (h, o, ← l) (empty-length p)

@@ -1,4 +1,5 @@
 // One page of an image: its tests by itself, and its tuples as rows in columns.
+use blocks::Owner;
 use blocks::Record;
 use reader::Cursor;
 use reader::Next;
@@ -9,9 +10,9 @@ ghost use mathlib.Core.List.{List, [], _∷_, _++_, map};
 ghost use Prim.Native.Nat.{ℕ, _+_, _*_, _<_, _≤_};
 ghost use lib.ListN.{length, drop};
 ghost use Rattle.basics.specs.Basics.{all};
-ghost use Rattle.blocks.specs.Tuple.{Tuple};
-ghost use Rattle.blocks.specs.Decode.{readOwner, readTuples, decodeBlock};
-ghost use Rattle.blocks.specs.Bytes.{tupleOf};
+ghost use Rattle.blocks.specs.Tuple.{Tuple, OwnerFits};
+ghost use Rattle.blocks.specs.Decode.{readTuples, decodeBlock};
+ghost use Rattle.blocks.specs.Bytes.{ownerIs, tupleOf};
 ghost use Rattle.rows.specs.Rows.{rowsOf, markOk};
 ghost use Rattle.rows.specs.Columns.{codedOwner, rowsIn, bare};
 ghost use Rattle.one_page.specs.Page.{goodPage};
@@ -33,13 +34,17 @@ fn wide(x: u32) -> usize
 fn mark_ok(r: Record) -> bool
     ensures { λ b. ⌜ ((t : ℕ) (p : List ℕ) → length p ≡ r .len → b ≡ markOk (t, tupleOf r p)) ⌝ }
 {
-    if r.flags % 128 < 64 {
+    if !r.mark {
         return true;
     }
-    if 128 <= r.flags {
-        return false;
+    let o = r.owner;
+    match o {
+        Owner::Committed => false,
+        Owner::Tentative {
+            transaction: _,
+            statement: _,
+        } => r.len == 0,
     }
-    r.len == 0
 }
 
 // The delete marks of a page's block.
@@ -73,14 +78,18 @@ fn place(table: u32, key: u32) -> u64
     table as u64 * 4294967296 + key as u64
 }
 
-// An owner's code, from a record's ninth byte and its owner's number.
-fn owner_code(flags: u8, owner: u32) -> u64
-    ensures { λ r. ⌜ codedOwner r ≡ readOwner flags owner ⌝ }
+// An owner's code in a column: 0 if committed, else 1 plus the statement in 20 bits and the transaction above them.
+fn owner_code(owner: Owner) -> u64
+    requires { ⌜ OwnerFits (ownerIs owner) ⌝ }
+    ensures { λ r. ⌜ codedOwner r ≡ ownerIs owner ⌝ }
 {
-    if flags < 128 {
-        return 1 + owner as u64;
+    match owner {
+        Owner::Committed => 0,
+        Owner::Tentative {
+            transaction: t,
+            statement: s,
+        } => 1 + t as u64 * 1048576 + s as u64,
     }
-    0
 }
 
 // A record's row goes into place k of the columns.
@@ -94,13 +103,15 @@ fn put_row(
     r: Record,
 )
     requires { ⌜ (k < length (now places)) × ((k < length (now numbers)) × ((k < length (now owners)) × (k < length (now marks)))) ⌝ }
+    requires { ⌜ OwnerFits (ownerIs (r .owner)) ⌝ }
     ensures { λ _. ⌜ rowsIn (now (places .exit)) (now (numbers .exit)) (now (owners .exit)) (now (marks .exit)) (k + 1)
         ≡ rowsIn (now (places .entry)) (now (numbers .entry)) (now (owners .entry)) (now (marks .entry)) k ++ ((table, tupleOf r []) ∷ []) ⌝ }
 {
     places[k] = place(table, r.key);
     numbers[k] = r.number;
-    owners[k] = owner_code(r.flags, r.owner);
-    marks[k] = r.flags / 64 % 2;
+    let o = r.owner;
+    owners[k] = owner_code(o);
+    marks[k] = r.mark as u8;
 }
 
 // The tuples of a page's block go into the columns from place k on.

@@ -14,7 +14,7 @@ use Rattle.blocks.specs.Tuple.{Tuple, AllBytes}
 use Rattle.blocks.specs.Block.{page, encodeBlock, PageFits}
 use Rattle.blocks.specs.Decode.{readTuple, taken, whole, readTuples}
 use Rattle.blocks.specs.Spell.{zeros}
-use Rattle.blocks.specs.Bytes.{sizeOf, bytesOfRecord, payloadIn, tupleOf, pageHead}
+use Rattle.blocks.specs.Bytes.{sizeOf, recordBytes, payloadIn, tupleOf, pageHead}
 use Rattle.blocks.specs.declared.Record.{Record}
 use Rattle.reader.specs.declared.Cursor.{Cursor}
 use Rattle.blocks.proofs.Spelled.{bytes-drop}
@@ -50,10 +50,10 @@ module _ {xs copy : List ℕ} {n at i : ℕ} (a : Again xs copy n at i) where
       let e : n - i ≡ suc (n - (i + 1)) = omega arith in
       a .rest ∙ rw (e, w)
 
-  pub again-turn : i < n → length xs ≡ 512 → {r : Record} {c : Cursor} → r .flags < 256 → Found-is xs at r c
-      → Again xs (over copy at (bytesOfRecord r (payloadIn xs r))) n (at + sizeOf r) (i + 1)
+  pub again-turn : i < n → length xs ≡ 512 → {r : Record} {c : Cursor} → Found-is xs at r c
+      → Again xs (over copy at (recordBytes (tupleOf r (payloadIn xs r)))) n (at + sizeOf r) (i + 1)
   unfolding readTuples if_then_else_
-  again-turn h l {r} f g =
+  again-turn h l {r} g =
       let x = readTuple (drop at xs) in
       let e : n - i ≡ suc (n - (i + 1)) = omega arith in
       let room : at + sizeOf r ≤ 512 = omega (arith, g .next, g .ends, g .takes) in
@@ -63,7 +63,7 @@ module _ {xs copy : List ℕ} {n at i : ℕ} (a : Again xs copy n at i) where
         done = a .done ++ (tupleOf r (payloadIn xs r) ∷ []);
         turn = omega arith;
         count = length-append (a .done) (tupleOf r (payloadIn xs r) ∷ []) ∙ omega (arith, a .count);
-        built = built-turn (a .built) r (payloadIn xs r) f (g .length-flags) (g .payload) room;
+        built = built-turn (a .built) r (payloadIn xs r) (g .payload) room;
         rest = rw (g .tuple, g .takes) next;
       }
 

@@ -1,6 +1,6 @@
 -- What the cursor finds at a place of a block.
-use mathlib.Core.Path.{_≡_, sym}
-use mathlib.Core.Bool.{true, false}
+use mathlib.Core.Path.{_≡_, sym, ap, _∙_}
+use mathlib.Core.Bool.{Bool, true, false}
 use mathlib.Core.List.{List}
 use Prim.Native.Nat.{ℕ, _+_, _-_, _%_, _≤_, _<_}
 use native.Mathlib.Omega.{arith}
@@ -11,7 +11,9 @@ use borrow.Author.Tests.{le-leb, lt-leb}
 use Rattle.basics.specs.Basics.{if_then_else_}
 use Rattle.basics.proofs.Facts.{by}
 use Rattle.blocks.specs.Numbers.{num4}
-use Rattle.blocks.specs.Decode.{taken, whole}
+use Rattle.blocks.specs.Decode.{readOwner, readMark, taken, whole}
+use Rattle.blocks.specs.Bytes.{ownerAs}
+use Rattle.blocks.specs.declared.Owner.{Owner}
 use Rattle.blocks.proofs.ReadTuples.{ownerPart}
 use Rattle.reader.specs.Answers.{recordAt, nextAt}
 use Rattle.reader.specs.declared.Next.the-variants.{Found, Bad}
@@ -28,13 +30,17 @@ pub part-tentative : (f : ℕ) → ltb f 128 ≡ true → ownerPart f ≡ 4
 unfolding if_then_else_
 part-tentative f h = rw h
 
-pub owner-tentative : (f n : ℕ) → ltb f 128 ≡ true → n ≡ (if ltb f 128 then n else 0)
+pub word-tentative : (f n : ℕ) → ltb f 128 ≡ true → n ≡ (if ltb f 128 then n else 0)
 unfolding if_then_else_
-owner-tentative f n h = rw h
+word-tentative f n h = rw h
 
-pub owner-committed : (f n : ℕ) → ltb f 128 ≡ false → 0 ≡ (if ltb f 128 then n else 0)
+pub word-committed : (f n : ℕ) → ltb f 128 ≡ false → 0 ≡ (if ltb f 128 then n else 0)
 unfolding if_then_else_
-owner-committed f n h = rw h
+word-committed f n h = rw h
+
+word-read : (f n : ℕ) → readOwner f (if ltb f 128 then n else 0) ≡ readOwner f n
+unfolding readOwner if_then_else_
+word-read f n = by (ltb f 128) (λ h. rw h) (λ h. rw h)
 
 pub taken-at : (xs : List ℕ) (at : ℕ) → taken (drop at xs) ≡ 9 + ownerPart (flagsAt xs at) + flagsAt xs at % 64
 unfolding taken
@@ -66,14 +72,32 @@ module _ (xs : List ℕ) (at : ℕ) (l : length xs ≡ 512) where
       unfolding nextAt if_then_else_
       none-short h = rw (fits, lt-leb e (512 - at) (omega arith))
 
-      found-whole : (o : ℕ) → o ≡ (if ltb (flagsAt xs at) 128 then num4 xs (at + 9) else 0) → at + e ≤ 512
+      found-whole : {o : Owner} {mark : Bool} → o ≡ ownerAs (readOwner (flagsAt xs at) (num4 xs (at + 9))) → mark ≡ readMark (flagsAt xs at) → at + e ≤ 512
           → nextAt xs at ≡ Found
-          (record { key = num4 xs at; number = num4 xs (at + 4); flags = flagsAt xs at; owner = o; start = at + e - flagsAt xs at % 64; len = flagsAt xs at % 64 })
+          (record {
+            key = num4 xs at;
+            number = num4 xs (at + 4);
+            owner = o;
+            mark = mark;
+            start = at + e - flagsAt xs at % 64;
+            len = flagsAt xs at % 64;
+          })
           (record { at = at + e })
       unfolding nextAt recordAt if_then_else_
-      found-whole o eo h = rw (fits, le-leb e (512 - at) (omega arith), ← eo, start-at (flagsAt xs at) at, taken-at xs at, t)
+      found-whole eo em h = rw (fits, le-leb e (512 - at) (omega arith), ← eo, ← em, start-at (flagsAt xs at) at, taken-at xs at, t)
 
-      pub found-as : {k n o : ℕ} → k ≡ num4 xs at → n ≡ num4 xs (at + 4) → o ≡ (if ltb (flagsAt xs at) 128 then num4 xs (at + 9) else 0) → at + e ≤ 512
-          → Found (record { key = k; number = n; flags = flagsAt xs at; owner = o; start = at + e - flagsAt xs at % 64; len = flagsAt xs at % 64 }) (record { at = at + e })
+      pub found-as : {k n w : ℕ} {o : Owner} {mark : Bool} → k ≡ num4 xs at → n ≡ num4 xs (at + 4) → w ≡ (if ltb (flagsAt xs at) 128 then num4 xs (at + 9) else 0)
+          → o ≡ ownerAs (readOwner (flagsAt xs at) w) → mark ≡ readMark (flagsAt xs at) → at + e ≤ 512
+          → Found
+          (record {
+            key = k;
+            number = n;
+            owner = o;
+            mark = mark;
+            start = at + e - flagsAt xs at % 64;
+            len = flagsAt xs at % 64;
+          })
+          (record { at = at + e })
           ≡ nextAt xs at
-      found-as {k} {n} {o} key number owner h = rw (key, number) (sym (found-whole o owner h))
+      found-as key number word owner marked h =
+          rw (key, number) (sym (found-whole (owner ∙ ap ownerAs (ap (readOwner (flagsAt xs at)) word ∙ word-read (flagsAt xs at) (num4 xs (at + 9)))) marked h))

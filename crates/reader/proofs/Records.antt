@@ -11,10 +11,12 @@ use lib.Dec.{ltb}
 use Rattle.basics.specs.Basics.{if_then_else_}
 use Rattle.basics.proofs.Facts.{by}
 use Rattle.blocks.specs.Numbers.{num4}
+use Rattle.blocks.specs.Tuple.{AllBytes, OwnerFits, Fits}
 use Rattle.blocks.specs.Decode.{readOwner, readTuple, taken, whole}
-use Rattle.blocks.specs.Bytes.{sizeOf, payloadIn, tupleOf}
+use Rattle.blocks.specs.Bytes.{ownerIs, sizeOf, payloadIn, tupleOf, Appendable}
 use Rattle.blocks.specs.declared.Record.{Record}
-use Rattle.blocks.proofs.ReadTuples.{ownerPart, whole-parts, owner-size}
+use Rattle.blocks.proofs.Spelled.{bytes-drop}
+use Rattle.blocks.proofs.ReadTuples.{ownerPart, whole-parts, owner-size, owner-same, read-fits}
 use Rattle.reader.specs.Answers.{recordAt, nextAt}
 use Rattle.reader.specs.declared.Cursor.{Cursor}
 use Rattle.reader.specs.declared.Next.the-variants.{Found, Bad}
@@ -26,10 +28,6 @@ num4-drop xs at n =
     rw (getD-drop at xs n 0, getD-drop at xs (n + 1) 0, getD-drop at xs (n + 2) 0, getD-drop at xs (n + 3) 0, add-assoc at n 1, add-assoc at n 2, add-assoc at n 3)
 
 module _ (xs : List ℕ) (at : ℕ) where
-  owner-read : (f n : ℕ) → readOwner f (if ltb f 128 then n else 0) ≡ readOwner f n
-  unfolding readOwner if_then_else_
-  owner-read f n = by (ltb f 128) (λ h. rw h) (λ h. rw h)
-
   start-read : (f : ℕ) → (if ltb f 128 then at + 13 else at + 9) ≡ at + (9 + ownerPart f)
   unfolding if_then_else_
   start-read f = by (ltb f 128) (λ h. rw h) (λ h. rw h)
@@ -45,33 +43,29 @@ module _ (xs : List ℕ) (at : ℕ) where
         num4-drop xs at 9,
         getD-drop at xs 8 0,
         add-zero at,
-        owner-read f (num4 xs (at + 9)),
+        owner-same (readOwner f (num4 xs (at + 9))),
         owner-size f (num4 xs (at + 9)),
         start-read f,
         drop-drop (9 + ownerPart f) at xs,
       )
 
   pub record-taken : sizeOf (recordAt xs at) ≡ taken (drop at xs)
-  unfolding sizeOf recordAt if_then_else_
-  record-taken = rw (taken-at xs at) (by (ltb (flagsAt xs at) 128) (λ h. rw h) (λ h. rw h))
+  unfolding sizeOf recordAt
+  record-taken =
+      let o = readOwner (flagsAt xs at) (num4 xs (at + 9)) in
+      rw (taken-at xs at, owner-same o, owner-size (flagsAt xs at) (num4 xs (at + 9)))
 
   record-ends : recordAt xs at .start + recordAt xs at .len ≡ at + taken (drop at xs)
   unfolding recordAt
   record-ends = rw (taken-at xs at, start-read (flagsAt xs at)) (omega arith)
 
-  record-length : recordAt xs at .len ≡ recordAt xs at .flags % 64
+  record-length : recordAt xs at .len ≡ flagsAt xs at % 64
   unfolding recordAt
   record-length = refl
-
-  record-flags : recordAt xs at .flags ≡ flagsAt xs at
-  unfolding recordAt
-  record-flags = refl
 
   -- what a record that the cursor found is
   pub record Found-is (r : Record) (c : Cursor) : Type 0 where
     pub is-whole : whole (drop at xs) ≡ true
-    pub flags : r .flags ≡ flagsAt xs at
-    pub length-flags : r .len ≡ r .flags % 64
     pub limit : r .len ≤ 40
     pub payload : length (payloadIn xs r) ≡ r .len
     pub inside : r .start + r .len ≤ length xs
@@ -95,9 +89,7 @@ module _ (xs : List ℕ) (at : ℕ) where
       let l : length (payloadIn xs (recordAt xs at)) ≡ recordAt xs at .len = simp (length-take, length-drop) (omega arith) in
       rw (er, ec) (record {
         is-whole = w;
-        flags = record-flags;
-        length-flags = record-length;
-        limit = omega (arith, record-length, record-flags, h .1 .0, fl);
+        limit = omega (arith, record-length, h .1 .0, fl);
         payload = l;
         inside = end;
         tuple = record-tuple;
@@ -106,6 +98,17 @@ module _ (xs : List ℕ) (at : ℕ) where
         ends = omega (arith, h .1 .1);
       }))
       (λ w. let k : Found r c ≡ Bad = rw w at e in let z : _≡_ {A = ℕ} 0 1 = cc in absurd (omega arith))
+
+  -- its owner is in range
+  pub found-fits : {r : Record} {c : Cursor} → AllBytes xs → Found-is r c → OwnerFits (ownerIs (r .owner))
+  unfolding tupleOf
+  found-fits {r} b g =
+      let fit : Fits (tupleOf r (payloadIn xs r)) = rw (g .tuple) (read-fits (drop at xs) (g .is-whole) (bytes-drop at xs b)) in
+      fit .owner
+
+  -- it can be appended to a block at the same place
+  pub found-appends : {r : Record} {c : Cursor} → length xs ≡ 512 → AllBytes xs → Found-is r c → Appendable at r xs
+  found-appends l b g = record { room = omega (arith, g .takes, g .next, g .ends); inside = g .inside; limit = g .limit; owner = found-fits b g }
 
   pub bad-is : Bad ≡ nextAt xs at → whole (drop at xs) ≡ false
   unfolding nextAt if_then_else_

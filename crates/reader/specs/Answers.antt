@@ -6,7 +6,8 @@ use lib.Dec.{ltb}
 use Rattle.basics.specs.Basics.{if_then_else_}
 use Rattle.blocks.specs.Numbers.{num4}
 use Rattle.blocks.specs.Block.{Block, malformed, header, page, directory}
-use Rattle.blocks.specs.Decode.{taken, whole}
+use Rattle.blocks.specs.Decode.{readOwner, readMark, taken, whole}
+use Rattle.blocks.specs.Bytes.{ownerAs}
 use Rattle.blocks.specs.declared.Record.{Record}
 use Rattle.reader.specs.declared.Next.{Next}
 use Rattle.reader.specs.declared.Next.the-variants.{Found, Bad}
@@ -20,8 +21,8 @@ recordAt xs at =
     record {
       key = num4 xs at;
       number = num4 xs (at + 4);
-      flags = f;
-      owner = if ltb f 128 then num4 xs (at + 9) else 0;
+      owner = ownerAs (readOwner f (num4 xs (at + 9)));
+      mark = readMark f;
       start = if ltb f 128 then at + 13 else at + 9;
       len = f % 64;
     }

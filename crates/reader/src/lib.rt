@@ -74,15 +74,15 @@ impl Cursor {
         if 512 < end {
             return Next::Bad;
         }
-        let mut owner: u32 = 0;
+        let mut word: u32 = 0;
         if tentative {
-            owner = get4(block, at + 9);
+            word = get4(block, at + 9);
         }
         let found = Record {
             key: get4(block, at),
             number: get4(block, at + 4),
-            flags: flags,
-            owner: owner,
+            owner: blocks::owner_of(flags, word),
+            mark: blocks::mark_of(flags),
             start: end - len,
             len: len,
         };

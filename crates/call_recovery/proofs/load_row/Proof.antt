@@ -1,11 +1,13 @@
 -- `call_recovery::load_row` meets its contract.
 use Rattle.blocks.specs.Bytes.{tupleOf}
 use Rattle.model.specs.Rules.{calm}
+use Rattle.memory_rows.specs.Rows.{heldBy, RowFits}
+use Rattle.memory_rows.specs.declared.Row.{Row}
 use native.Mathlib.Omega.{arith}
 use lib.ListN.{take, drop, length-take}
 use Prim.Native.Nat.{ℕ, _+_, _-_}
 use mathlib.Core.List.{List}
-use mathlib.Core.Path.{_≡_, ap, _∙_}
+use mathlib.Core.Path.{_≡_, sym, ap, subst, _∙_}
 use Rattle.call_recovery.proofs.Adding.{row-as}
 use borrow.Author.Needs.{needs}
 use Rattle.call_recovery.proofs.load_row.Statement.{statement}
@@ -31,7 +33,7 @@ append-row-requires c κs =
     let p2 = c .before .before in
     let p6 = p2 .before .before .before .before in
     let pre = p6 .pre in (
-      record { room = pre .1 .0; at = omega arith; more = pre .1 .1 .1 .1; owner = p2 .row-of .ensures .fits; payload = simp length-take (omega (arith, pre .0 .0)) },
+      record { room = pre .1 .0; at = omega arith; more = pre .1 .1 .1 .1; owner = subst RowFits (sym (p2 .row-of .ensures)) (pre .0 .1 .1); payload = simp length-take (omega (arith, pre .0 .0)) },
       (pre .1 .1 .0, pre .1 .1 .1 .0),
     )
 
@@ -39,14 +41,16 @@ same-length : tie.Need-same-length
 same-length c = search needs
 
 returns : tie.Need-returns
+unfolding calm tupleOf
 returns c =
     let p2 = c .before .before in
     let p5 = p2 .before .before .before in
     let p9 = p5 .before .before .before .before in
     let r = p9 .args .r in
     let bs : List ℕ = drop (r .start) (p9 .args .block .now) in
-    let k : r .start + r .len - r .start ≡ r .len = omega arith in
-    row-as _ _ (p5 .row-of .ensures .held _ ∙ ap (λ (n : ℕ). calm (tupleOf r (take n bs))) k) (p2 .append-row .ensures)
+    let n : ℕ = r .start + r .len - r .start in
+    let k : n ≡ r .len = omega arith in
+    row-as _ _ (ap (λ (s : Row). heldBy s (take n bs)) (p5 .row-of .ensures) ∙ ap (λ (j : ℕ). calm (tupleOf r (take j bs))) k) (p2 .append-row .ensures)
 
 pub load-row-spec : {M : Type 1} → statement M
 load-row-spec =

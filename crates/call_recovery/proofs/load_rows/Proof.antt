@@ -4,6 +4,8 @@ use Rattle.call_recovery.specs.Loading.{tuplesIn, Fills}
 use Rattle.model.specs.State.{Held}
 use Rattle.model.specs.Rules.{calm}
 use Rattle.reader.proofs.Walk.{Walk, walk-found, walk-bad}
+use Rattle.reader.proofs.Records.{found-fits}
+use Rattle.blocks.proofs.Spelled.{all-bytes}
 use Rattle.blocks.specs.Tuple.{Tuple}
 use Rattle.blocks.specs.Decode.{decodeBlock}
 use native.Mathlib.Omega.{arith}
@@ -39,12 +41,15 @@ load-row-requires c κs =
     let p4 = p2 .before .before in
     let p5 = p4 .before in
     let p6 = p5 .before in
-    let p9 = p6 .before .before .before in
+    let p8 = p6 .before .before in
+    let p9 = p8 .before in
+    let xs = p9 .args .block .now in
     let l = p6 .loop in
     let pre = p9 .pre in
     let h : l .i < p9 .args .count = omega (arith, p5 .loop-test) in
     let f = walk-found (l .inv .1 .0) (omega (arith, pre .0 .1 .1)) (sym (p2 .r .given .1) ∙ p4 .next .ensures) in
-    ((f .found .limit, f .found .inside), row-room _ _ (p9 .args .count) (l .i) _ (pre .0 .1 .1) (l .inv .1 .1) (pre .1 .1 .1 .1) h)
+    let fits = found-fits xs (l .at) (all-bytes xs (λ j. omega (arith, p8 .shared-slice-known .given j))) (f .found) in
+    ((f .found .limit, (f .found .inside, fits)), row-room _ _ (p9 .args .count) (l .i) _ (pre .0 .1 .1) (l .inv .1 .1) (pre .1 .1 .1 .1) h)
 
 enum-told : tie.Need-enum-told Inv-loop μ-loop
 enum-told c = omega arith

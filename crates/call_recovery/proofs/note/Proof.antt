@@ -1,8 +1,8 @@
 -- `call_recovery::note` meets its contract.
 use Rattle.call_recovery.proofs.Owning.{noted-by}
 use Rattle.call_recovery.specs.Reopening.{noted}
-use Rattle.memory_rows.specs.Rows.{ownerIs}
-use Rattle.memory_rows.specs.declared.Owner.{Owner}
+use Rattle.blocks.specs.Bytes.{ownerIs}
+use Rattle.blocks.specs.declared.Owner.{Owner}
 use Rattle.blocks.specs.Tuple.{OwnerFits}
 use native.Mathlib.Omega.{arith}
 use Prim.Native.Nat.{_<_}

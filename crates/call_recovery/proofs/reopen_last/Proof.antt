@@ -1,7 +1,7 @@
 -- `call_recovery::reopen_last` meets its contract.
 use Rattle.call_recovery.proofs.Owning.{opened-settled, opened-other, opened-last, opens-none, opens-one}
-use Rattle.memory_rows.specs.Rows.{ownerIs}
-use Rattle.memory_rows.specs.declared.Owner.{Owner}
+use Rattle.blocks.specs.Bytes.{ownerIs}
+use Rattle.blocks.specs.declared.Owner.{Owner}
 use Rattle.blocks.specs.Tuple.{OwnerFits}
 use native.Mathlib.Omega.{arith}
 use lib.ListN.{length}

@@ -1,7 +1,7 @@
 -- `engine_lookup::note_owner` meets its contract.
 use mathlib.Core.Path.{sym, ap, _∙_}
-use Rattle.memory_rows.specs.declared.Owner.{Owner}
-use Rattle.memory_rows.specs.Rows.{ownerIs}
+use Rattle.blocks.specs.declared.Owner.{Owner}
+use Rattle.blocks.specs.Bytes.{ownerIs}
 use Rattle.engine_lookup.specs.Lookup.{noteOwner}
 use borrow.Author.Needs.{needs}
 use Rattle.engine_lookup.proofs.note_owner.Statement.{statement}

@@ -12,9 +12,9 @@ use Rattle.blocks.specs.Block.{page, encodeBlock}
 use Rattle.blocks.proofs.Stores.{over-whole}
 use Rattle.model.specs.Rules.{heldSize, shown}
 use Rattle.memory_layout.specs.Flat.{flatOf, noRow}
-use Rattle.engine_writer.proofs.Writing.{Writing, spells-size, writing-start, writing-same, writing-length, writing-few, writing-turn, writing-over, writing-end}
+use Rattle.engine_writer.proofs.Writing.{Writing, spells-appends, writing-start, writing-same, writing-length, writing-few, writing-turn, writing-over, writing-end}
 use Rattle.engine_writer.proofs.Showing.{run, shown-next, shown-skip, shown-end}
-use Rattle.engine_writer.proofs.Fitting.{shown-fits}
+use Rattle.engine_writer.proofs.Fitting.{tuple-fits, shown-fits}
 use Rattle.engine_writer.proofs.write_page.Statement.{statement}
 use Rattle.engine_writer.proofs.write_page.Tie as tie
 use Rattle.engine_writer.proofs.write_page.Reads as reads
@@ -106,8 +106,12 @@ record-at-requires c κs = let s = c .before .before .before .before .before .be
 
 append-requires : tie.Need-append-requires Inv-loop μ-loop
 unfolding heldSize
-append-requires c κs = let r = c .before .record-at .ensures in
-    (omega (arith, spells-size r, c .before .before .before .size-at .ensures .0, c .before .before .if2 .left), r .inside)
+append-requires c κs = let q = c .before .before .before .before .before .before in
+    let p = q .before in
+    let k = p .before in
+    let s = k .before .before in
+    let fit = tuple-fits (s .args .m .now) (k .shared-slice-known .given) (p .loop .i) (omega (arith, s .pre .1 .0 .1, q .loop-test .taken)) in
+    spells-appends (c .before .record-at .ensures) fit (omega (arith, c .before .before .before .size-at .ensures .0, c .before .before .if2 .left))
 
 add-count : tie.Need-add-count Inv-loop μ-loop
 add-count c = omega (arith, writing-few (c .before .before .before .before .before .before .before .before .loop .inv .1 .1) .0)

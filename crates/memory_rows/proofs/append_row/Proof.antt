@@ -13,8 +13,8 @@ capacity-requires c κs = search needs
 row-count-requires : tie.Need-row-count-requires
 row-count-requires c κs = search needs
 
-state-by-requires : tie.Need-state-by-requires
-state-by-requires c κs = search needs
+flags-of-requires : tie.Need-flags-of-requires
+flags-of-requires c κs = search needs
 
 cast-r : tie.Need-cast-r
 cast-r c = search needs
@@ -28,8 +28,8 @@ mul-r c = search needs
 add-r : tie.Need-add-r
 add-r c = search needs
 
-owner-word-requires : tie.Need-owner-word-requires
-owner-word-requires c κs = search needs
+word-of-requires : tie.Need-word-of-requires
+word-of-requires c κs = search needs
 
 fill-slot-requires : tie.Need-fill-slot-requires
 fill-slot-requires c κs = search needs
@@ -72,9 +72,9 @@ returns c =
     let n = p15 .row-count in
     let pre = p21 .pre .0 in
     let full : n .result < p17 .capacity .result = omega (arith, n .ensures, cap .is, pre .more) in
-    let word = p11 .owner-word .ensures in
+    let word = p11 .word-of .ensures in
     let ref = ap (λ (z : ℕ). n .result + z * 1024) (p13 .pending-code .ensures .0) in
-    let state = p14 .state-by .ensures in (
+    let state = p14 .flags-of .ensures in (
       appended (p21 .args .row) cap (n .ensures) full (pre .owner) (pre .payload) (p21 .pre .1) word ref state
           (p10 .fill-slot .ensures) (p6 .put-cells .ensures) (p2 .put4 .ensures),
       in-order (p21 .args .row) cap (n .ensures) full (pre .owner) (pre .payload) (p21 .pre .1) word ref state
@@ -87,12 +87,12 @@ append-row-spec =
     (tie.spec
     capacity-requires
     row-count-requires
-    state-by-requires
+    flags-of-requires
     cast-r
     pending-code-requires
     mul-r
     add-r
-    owner-word-requires
+    word-of-requires
     fill-slot-requires
     put-cells-requires
     add-put4

@@ -17,8 +17,8 @@ free-slot-requires : tie.Need-free-slot-requires
 unfolding headOf
 free-slot-requires c κs = let st = c .before .before .before .before .before .before .before in (st .pre .room, st .pre .more)
 
-state-by-requires : tie.Need-state-by-requires
-state-by-requires c κs = search needs
+flags-of-requires : tie.Need-flags-of-requires
+flags-of-requires c κs = search needs
 
 pending-code-requires : tie.Need-pending-code-requires
 pending-code-requires c κs = search needs
@@ -32,8 +32,8 @@ add-r c = search needs
 cast-fill-slot : tie.Need-cast-fill-slot
 cast-fill-slot c = search needs
 
-owner-word-requires : tie.Need-owner-word-requires
-owner-word-requires c κs = search needs
+word-of-requires : tie.Need-word-of-requires
+word-of-requires c κs = search needs
 
 fill-slot-requires : tie.Need-fill-slot-requires
 fill-slot-requires c κs = search needs
@@ -94,7 +94,7 @@ returns c =
     let s = p19 .free-slot in
     inserted (st .args .row) cap n (omega (arith, n, st .pre .at)) (omega (arith, n, cap .is, st .pre .more)) (st .pre .owner) (st .pre .payload)
     (omega (arith, cap .is, s .ensures .0)) (s .ensures .1)
-    (p15 .owner-word .ensures) (ap (λ (z : ℕ). s .result + z * 1024) (p17 .pending-code .ensures .0)) (p18 .state-by .ensures)
+    (p15 .word-of .ensures) (ap (λ (z : ℕ). s .result + z * 1024) (p17 .pending-code .ensures .0)) (p18 .flags-of .ensures)
     (p14 .fill-slot .ensures) (p10 .raise-rows .ensures) (p6 .put-cells .ensures) (p2 .put4 .ensures)
 
 pub insert-row-spec : {M : Type 1} → statement M
@@ -104,12 +104,12 @@ insert-row-spec =
     capacity-requires
     row-count-requires
     free-slot-requires
-    state-by-requires
+    flags-of-requires
     pending-code-requires
     mul-r
     add-r
     cast-fill-slot
-    owner-word-requires
+    word-of-requires
     fill-slot-requires
     raise-rows-requires
     put-cells-requires

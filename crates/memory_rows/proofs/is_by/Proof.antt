@@ -1,5 +1,5 @@
-use Rattle.memory_rows.specs.declared.Owner.{Owner}
-use Rattle.memory_rows.specs.Rows.{ownerIs}
+use Rattle.blocks.specs.declared.Owner.{Owner}
+use Rattle.blocks.specs.Bytes.{ownerIs}
 use Rattle.rows.specs.Rows.{isBy}
 use mathlib.Core.Path.{ap, sym}
 use borrow.Author.Needs.{needs}

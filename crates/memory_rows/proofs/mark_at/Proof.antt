@@ -1,5 +1,5 @@
 use Rattle.memory_rows.proofs.Access.{mark-is}
-use Rattle.memory_layout.specs.Views.{markOf}
+use Rattle.blocks.specs.Decode.{readMark}
 use mathlib.Core.Path.{ap, sym, _∙_}
 use borrow.Author.Needs.{needs}
 use Rattle.memory_rows.proofs.mark_at.Statement.{statement}
@@ -8,9 +8,14 @@ use Rattle.memory_rows.proofs.mark_at.Tie as tie
 state-at-requires : tie.Need-state-at-requires
 state-at-requires c κs = search needs
 
+mark-of-requires : tie.Need-mark-of-requires
+mark-of-requires c κs = search needs
+
 returns : tie.Need-returns
-unfolding markOf
-returns c = let st = c .before .before in ap markOf (c .state-at .ensures) ∙ sym (mark-is (st .args .m .now) (st .args .i) (st .pre .1))
+returns c =
+    let p1 = c .before in
+    let st = p1 .before .before in
+    c .mark-of .ensures ∙ ap readMark (p1 .state-at .ensures) ∙ sym (mark-is (st .args .m .now) (st .args .i) (st .pre .1))
 
 pub mark-at-spec : {M : Type 1} → statement M
-mark-at-spec = tie.close (tie.spec state-at-requires returns)
+mark-at-spec = tie.close (tie.spec state-at-requires mark-of-requires returns)

@@ -1,5 +1,7 @@
 use Rattle.memory_rows.proofs.Access.{owner-is}
-use Rattle.memory_layout.specs.Views.{ownerOf}
+use Rattle.blocks.specs.Decode.{readOwner}
+use Rattle.blocks.specs.Bytes.{ownerIs}
+use Rattle.blocks.proofs.ReadTuples.{owner-same}
 use Rattle.memory_bytes.specs.Bytes.{le4}
 use Prim.Native.Nat.{ℕ, _+_}
 use mathlib.Core.Path.{ap, sym, _∙_}
@@ -30,7 +32,7 @@ returns c =
     let st = p3 .before .before in
     let m = st .args .m .now in
     let w = p2 .get4 .ensures ∙ ap (λ (z : ℕ). le4 m (z + 4)) (p3 .slot-place .ensures .0) in
-    c .owner-of .ensures ∙ (λ i. ownerOf (p1 .state-at .ensures i) (w i)) ∙ sym (owner-is m (st .args .i) (st .pre .1))
+    ap ownerIs (c .owner-of .ensures) ∙ owner-same _ ∙ (λ i. readOwner (p1 .state-at .ensures i) (w i)) ∙ sym (owner-is m (st .args .i) (st .pre .1))
 
 pub owner-at-spec : {M : Type 1} → statement M
 owner-at-spec =

@@ -1,14 +1,15 @@
 use mathlib.Core.List.{List, map, _++_}
 use mathlib.Core.Option.{some}
 use lib.ListN.{length, take, drop}
-use Prim.Native.Nat.{_+_, _-_, _≤_, _<_}
+use Prim.Native.Nat.{ℕ, _+_, _-_, _≤_, _<_}
 use mathlib.Core.Path.{_≡_, refl, sym, _∙_}
 use native.Mathlib.Omega.{arith}
 use Rattle.reader.proofs.Walk.{Left, left-start, left-end, left-bad, turn}
 use Rattle.one_page.proofs.Walk.{row-first, row-next, row-last}
 use Rattle.rows.specs.Columns.{rowsIn, bare}
 use Rattle.rows.specs.Rows.{rowsOf}
-use Rattle.reader.proofs.Records.{found-is, bad-is}
+use Rattle.blocks.proofs.Spelled.{all-bytes}
+use Rattle.reader.proofs.Records.{found-is, found-fits, bad-is}
 use Rattle.blocks.specs.Bytes.{payloadIn}
 use Rattle.blocks.specs.Decode.{readTuples}
 use Rattle.blocks.specs.Tuple.{Tuple}
@@ -38,9 +39,17 @@ enum-known-r : tie.Need-enum-known-r Inv-loop μ-loop
 enum-known-r c = omega arith
 
 put-row-requires : tie.Need-put-row-requires Inv-loop μ-loop
-put-row-requires c κs = let s = c .before .before .before .before .before .before .before .before .before .before .before .before .before .before .before in
-    let p = c .before .before .before .before .before .before .before .before .before .loop in
-    omega (arith, c .before .before .before .before .before .before .before .before .loop-test .taken, p .inv .1 .1 .0, p .inv .1 .1 .1 .0, s .pre)
+put-row-requires c κs = let p5 = c .before .before .before .before .before in
+    let p8 = p5 .before .before .before in
+    let p9 = p8 .before in
+    let known = p9 .before .before .before .before .before in
+    let s = known .before in
+    let xs : List ℕ = s .args .block .now in
+    let p = p9 .loop in
+    let f = found-is xs (p .at) (omega (arith, s .pre .0, p .inv .1 .0)) (sym (p5 .r .given .1) ∙ p5 .before .before .next .ensures) in (
+      omega (arith, p8 .loop-test .taken, p .inv .1 .1 .0, p .inv .1 .1 .1 .0, s .pre),
+      found-fits xs (p .at) (all-bytes xs (λ j. omega (arith, known .shared-slice-known .given j))) f,
+    )
 
 enum-told : tie.Need-enum-told Inv-loop μ-loop
 enum-told c = omega arith

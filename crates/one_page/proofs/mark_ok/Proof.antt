@@ -1,23 +1,29 @@
+-- `one_page::mark_ok` meets its contract.
 use mathlib.Core.Path.{sym}
-use native.Mathlib.Omega.{arith}
+use borrow.Author.Needs.{needs}
 use Rattle.one_page.proofs.Places.{unmarked, marked-held, marked-open}
 use Rattle.one_page.proofs.mark_ok.Statement.{statement}
 use Rattle.one_page.proofs.mark_ok.Tie as tie
 
 returns : tie.Need-returns
-returns c =
-    let p2 = c .before .before in
-    λ t p e. sym (unmarked t (p2 .args .r) p (c .if1 .taken))
+returns c = λ t p e. sym (unmarked t (c .before .before .args .r) p (c .if1 .taken))
+
+enum-told : tie.Need-enum-told
+enum-told c = search needs
+
+enum-told-2 : tie.Need-enum-told-2
+enum-told-2 c = search needs
 
 returns-2 : tie.Need-returns-2
 returns-2 c =
-    let p2 = c .before .before in let p4 = p2 .before .before in
-    λ t p e. sym (marked-held t (p4 .args .r) p (p2 .if1 .left) (omega (arith, c .if2 .taken)))
+    let p2 = c .before .before in
+    λ t p e. sym (marked-held t (p2 .before .before .args .r) p (p2 .if1 .left) (c .enum-told .given .1))
 
 returns-3 : tie.Need-returns-3
 returns-3 c =
-    let p3 = c .before .before .before in let p5 = p3 .before .before in
-    λ t p e. sym (marked-open t (p5 .args .r) p (p3 .if1 .left) (omega (arith, c .before .if2 .left)) e)
+    let p1 = c .before in
+    let p3 = p1 .before .before in
+    λ t p e. sym (marked-open t (p3 .before .before .args .r) p (p3 .if1 .left) (p1 .enum-told2 .given .1) e)
 
 pub mark-ok-spec : {M : Type 1} → statement M
-mark-ok-spec = tie.close (tie.spec returns returns-2 returns-3)
+mark-ok-spec = tie.close (tie.spec returns enum-told enum-told-2 returns-2 returns-3)

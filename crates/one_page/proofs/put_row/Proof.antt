@@ -1,6 +1,7 @@
-use Prim.Native.Nat.{_/_, _%_}
+-- `one_page::put_row` meets its contract.
 use mathlib.Core.List.{[], _∷_, _++_}
 use mathlib.Core.Path.{ap, _∙_}
+use mir.Val.{boolByte}
 use borrow.Author.Needs.{needs}
 use Rattle.one_page.proofs.Places.{record-row, row-put}
 use Rattle.rows.specs.Rows.{Row}
@@ -32,6 +33,9 @@ mul-owners c = search needs
 slice-write-owners : tie.Need-slice-write-owners
 slice-write-owners c = search needs
 
+cast-marks : tie.Need-cast-marks
+cast-marks c = search needs
+
 slice-write-marks : tie.Need-slice-write-marks
 slice-write-marks c = search needs
 
@@ -49,12 +53,13 @@ same-length-4 c = search needs
 
 returns : tie.Need-returns
 returns c =
-    let p2 = c .before .before in let p7 = p2 .before .before .before .before .before in
-    let s = p7 in let a = s .args in
-    let e = record-row (a .table) (p2 .place .result) (c .before .owner-code .result) (a .r) (p2 .place .ensures .0) (p2 .place .ensures .1)
-    (c .before .owner-code .ensures) in
-    row-put (a .places .now) (a .numbers .now) (a .owners .now) (a .marks .now) (a .k) (p2 .place .result) (a .r .number) (c .before .owner-code .result)
-    (a .r .flags / 64 % 2) (s .pre)
+    let p1 = c .before in
+    let p2 = p1 .before in
+    let s = p2 .before .before .before .before .before in
+    let a = s .args in
+    let e = record-row (a .table) (p2 .place .result) (p1 .owner-code .result) (a .r) (p2 .place .ensures .0) (p2 .place .ensures .1) (p1 .owner-code .ensures) in
+    row-put (a .places .now) (a .numbers .now) (a .owners .now) (a .marks .now) (a .k) (p2 .place .result) (a .r .number) (p1 .owner-code .result)
+    (boolByte (a .r .mark)) (s .pre .0)
     ∙ ap (λ (x : Row). rowsIn (a .places .now) (a .numbers .now) (a .owners .now) (a .marks .now) (a .k) ++ (x ∷ [])) e
 
 pub put-row-spec : {M : Type 1} → statement M
@@ -69,6 +74,7 @@ put-row-spec =
     owner-code-requires
     mul-owners
     slice-write-owners
+    cast-marks
     slice-write-marks
     same-length
     same-length-2

@@ -1,7 +1,7 @@
 -- `reader::read_page` meets its contract.
 use mathlib.Core.Path.{_≡_, refl, sym, ap, _∙_}
 use mathlib.Core.List.{List}
-use Prim.Native.Nat.{ℕ, _+_, _-_, _<_}
+use Prim.Native.Nat.{ℕ, _+_, _-_}
 use native.Mathlib.Omega.{arith}
 use lib.ListN.{length}
 use Rattle.blocks.specs.Block.{Block, page, encodeBlock}
@@ -10,7 +10,7 @@ use Rattle.blocks.specs.Numbers.{same}
 use Rattle.reader.proofs.Answering.{page-none, page-yes, page-no}
 use Rattle.reader.proofs.Again.{Again, again-start, again-bad, again-turn, again-end, again-spells}
 use Rattle.blocks.proofs.Built.{built-length}
-use Rattle.reader.proofs.Records.{found-is, bad-is}
+use Rattle.reader.proofs.Records.{found-is, found-appends, bad-is}
 use Rattle.blocks.proofs.Spelled.{all-bytes}
 use Rattle.reader.proofs.read_page.Statement.{statement}
 use Rattle.reader.proofs.read_page.Tie as tie
@@ -56,11 +56,12 @@ enum-known-r : tie.Need-enum-known-r Inv-loop μ-loop
 enum-known-r c = omega arith
 
 append-requires : tie.Need-append-requires Inv-loop μ-loop
-append-requires c κs = let s = c .before .before .before .before .before .before .before .before .before .before .before in
-    let p = c .before .before .before .before .before .before .loop in
-    let r = c .before .before .r .given in
-    let g = found-is (s .args .block .now) (p .at) (omega (arith, s .pre, p .inv .1 .built .room)) (sym (r .1) ∙ c .before .before .before .before .next .ensures) in
-    (omega (arith, s .pre, g .takes, g .next, g .ends), g .inside)
+append-requires c κs = let p6 = c .before .before .before .before .before .before in
+    let known = p6 .before .before .before .before in
+    let s = known .before in
+    let xs : List ℕ = s .args .block .now in
+    let g = found-is xs (p6 .loop .at) (omega (arith, s .pre, p6 .loop .inv .1 .built .room)) (sym (c .before .before .r .given .1) ∙ c .before .before .before .before .next .ensures) in
+    found-appends xs (p6 .loop .at) (s .pre) (all-bytes xs (λ j. omega (arith, known .shared-slice-known .given j))) g
 
 enum-told : tie.Need-enum-told Inv-loop μ-loop
 enum-told c = omega arith
@@ -87,9 +88,8 @@ loop-again c = let s = c .before .before .before .before .before .before .before
     let r = c .before .before .before .r .given in
     let n = c .before .before .before .before .before .before .before .before .before .get-bits2 .result in
     let g = found-is xs (p .at) (omega (arith, s .pre, p .inv .1 .built .room)) (sym (r .1) ∙ c .before .before .before .before .before .next .ensures) in
-    let f : r .0 .0 .flags < 256 = omega (arith, c .before .before .known-told) in
     let more : Again xs (c .append .last .0) n (c .append .result) (p .i + 1) =
-    rw (c .append .ensures .1, c .append .ensures .0) (again-turn (p .inv .1) (omega arith) (s .pre) f g) in
+    rw (c .append .ensures .1, c .append .ensures .0) (again-turn (p .inv .1) (omega arith) (s .pre) g) in
     (built-length (more .built), more)
 
 slice-aggregate-put-page-head : tie.Need-slice-aggregate-put-page-head Inv-loop μ-loop

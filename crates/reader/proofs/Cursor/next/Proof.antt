@@ -8,7 +8,7 @@ use lib.Dec.{ltb}
 use Rattle.basics.specs.Basics.{if_then_else_}
 use Rattle.blocks.specs.Numbers.{num4}
 use Rattle.blocks.proofs.ReadTuples.{ownerPart}
-use Rattle.reader.proofs.Cursors.{owner-tentative, owner-committed, flagsAt, part-small, part-tentative, none-far, none-long, none-short, found-as}
+use Rattle.reader.proofs.Cursors.{word-tentative, word-committed, flagsAt, part-small, part-tentative, none-far, none-long, none-short, found-as}
 use borrow.Author.Needs.{needs}
 use Rattle.reader.proofs.Cursor.next.Statement.{statement}
 use Rattle.reader.proofs.Cursor.next.Tie as tie
@@ -64,20 +64,30 @@ get4-requires-3 : tie.Need-get4-requires-3
 get4-requires-3 c κs = let s = c .before .before .before .before .before .before .before .before in
     omega (arith, c .before .before .before .before .before .before .if1 .left, s .pre)
 
-sub-t17 : tie.Need-sub-t17
-sub-t17 c = omega (arith, c .before .before .before .before .record-size .ensures)
+owner-of-requires : tie.Need-owner-of-requires
+owner-of-requires c κs = search needs
+
+mark-of-requires : tie.Need-mark-of-requires
+mark-of-requires c κs = search needs
+
+sub-t18 : tie.Need-sub-t18
+sub-t18 c = omega (arith, c .before .before .before .before .before .before .record-size .ensures)
 
 returns-4 : tie.Need-returns-4
-returns-4 c = let s = c .before .before .before .before .before .before .before .before .before in
+returns-4 c = let p1 = c .before in
+    let p4 = p1 .before .before .before in
+    let p6 = p4 .before .before in
+    let p9 = p6 .before .before .before in
+    let s = p9 .before .before in
     let xs : List ℕ = s .args .block .now in
     let at : ℕ = s .args .self .at in
     let f : ℕ = flagsAt xs at in
     let w : ℕ = num4 xs (at + 9) in
-    let z = c .before .before .before .before .record-size in
-    let o : c .before .before .if4 .owner ≡ (if ltb f 128 then w else 0) =
-    ⊎-elim (λ h. h .2 ∙ h .1 .ensures ∙ owner-tentative f w (h .0 .taken)) (λ h. h .1 ∙ owner-committed f w (h .0 .left)) (c .before .before .if4 .came) in
-    found-as xs at (s .pre) (omega (arith, c .before .before .before .before .before .before .before .if1 .left)) (omega (arith, c .before .before .before .before .before .if2 .left)) (z .result) (z .ensures) (c .before .get42 .ensures)
-    (c .get43 .ensures) o (omega (arith, c .before .before .before .if3 .left))
+    let z = p6 .record-size in
+    let word : p4 .if4 .word ≡ (if ltb f 128 then w else 0) =
+    ⊎-elim (λ h. h .2 ∙ h .1 .ensures ∙ word-tentative f w (h .0 .taken)) (λ h. h .1 ∙ word-committed f w (h .0 .left)) (p4 .if4 .came) in
+    found-as xs at (s .pre) (omega (arith, p9 .if1 .left)) (omega (arith, p6 .before .if2 .left)) (z .result) (z .ensures) (p1 .before .before .get42 .ensures)
+    (p1 .before .get43 .ensures) word (p1 .owner-of .ensures) (c .mark-of .ensures) (omega (arith, p4 .before .if3 .left))
 
 pub next-spec : {M : Type 1} → statement M
 next-spec =
@@ -96,5 +106,7 @@ next-spec =
     get4-requires-2
     add-get4-2
     get4-requires-3
-    sub-t17
+    owner-of-requires
+    mark-of-requires
+    sub-t18
     returns-4)

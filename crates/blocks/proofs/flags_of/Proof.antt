@@ -1,0 +1,47 @@
+-- `blocks::flags_of` meets its contract.
+use mathlib.Core.Path.{_≡_, ap}
+use mathlib.Core.Logic.{⊎-elim}
+use Prim.Native.Nat.{_+_, _*_}
+use native.Mathlib.Omega.{arith}
+use borrow.Author.Needs.{needs}
+use Rattle.blocks.specs.Block.{committedBit, markBit}
+use Rattle.blocks.specs.Bytes.{ownerIs, flagsOf}
+use Rattle.blocks.specs.declared.Owner.{Owner}
+use Rattle.blocks.proofs.flags_of.Statement.{statement}
+use Rattle.blocks.proofs.flags_of.Tie as tie
+use Rattle.blocks.proofs.flags_of.Reads as reads
+use Rattle.blocks.proofs.flags_of.Lts as lts
+
+-- the delete mark and the length
+low-flags : (c : lts.Joined1 reads.Pre reads.Post) → c .if1 .flags ≡ markBit (c .before .args .mark) * 64 + c .before .args .len
+unfolding markBit
+low-flags c = ⊎-elim (λ w. omega (arith, ap markBit (w .0 .taken))) (λ w. omega (arith, ap markBit (w .0 .left))) (c .if1 .came)
+
+cast-flags : tie.Need-cast-flags
+cast-flags c = search needs
+
+add-flags : tie.Need-add-flags
+add-flags c = search needs
+
+enum-told : tie.Need-enum-told
+enum-told c = search needs
+
+add-result : tie.Need-add-result
+add-result c = let j = c .before .before .before in
+    ⊎-elim (λ w. omega arith) (λ w. omega arith) (j .if1 .came)
+
+enum-told-2 : tie.Need-enum-told-2
+enum-told-2 c = search needs
+
+returns : tie.Need-returns
+unfolding flagsOf committedBit
+returns c = let j = c .before .before .before in
+    omega (arith, low-flags j, ap (λ (o : Owner). committedBit (ownerIs o)) (c .before .enum-told .given .1))
+
+returns-2 : tie.Need-returns-2
+unfolding flagsOf committedBit
+returns-2 c = let j = c .before .before in
+    omega (arith, low-flags j, ap (λ (o : Owner). committedBit (ownerIs o)) (c .enum-told2 .given .1))
+
+pub flags-of-spec : {M : Type 1} → statement M
+flags-of-spec = tie.close (tie.spec cast-flags add-flags enum-told add-result enum-told-2 returns returns-2)

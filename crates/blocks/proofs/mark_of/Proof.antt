@@ -1,0 +1,12 @@
+-- `blocks::mark_of` meets its contract.
+use mathlib.Core.Path.{refl}
+use Rattle.blocks.specs.Decode.{readMark}
+use Rattle.blocks.proofs.mark_of.Statement.{statement}
+use Rattle.blocks.proofs.mark_of.Tie as tie
+
+returns : tie.Need-returns
+unfolding readMark
+returns c = refl
+
+pub mark-of-spec : {M : Type 1} → statement M
+mark-of-spec = tie.close (tie.spec returns)

@@ -1,0 +1,34 @@
+-- `blocks::word_of` meets its contract.
+use mathlib.Core.Path.{ap, sym, subst}
+use native.Mathlib.Omega.{arith}
+use borrow.Author.Needs.{needs}
+use Rattle.blocks.specs.Tuple.{OwnerFits}
+use Rattle.blocks.specs.Bytes.{ownerIs, ownerWord}
+use Rattle.blocks.specs.declared.Owner.{Owner}
+use Rattle.blocks.proofs.word_of.Statement.{statement}
+use Rattle.blocks.proofs.word_of.Tie as tie
+
+enum-told : tie.Need-enum-told
+enum-told c = search needs
+
+enum-known-owner : tie.Need-enum-known-owner
+enum-known-owner c = search needs
+
+mul-result : tie.Need-mul-result
+mul-result c = let p = c .before in
+    omega (arith, subst (λ (o : Owner). OwnerFits (ownerIs o)) (p .owner .given .1) (p .before .before .pre))
+
+add-result : tie.Need-add-result
+add-result c = let p = c .before in
+    omega (arith, subst (λ (o : Owner). OwnerFits (ownerIs o)) (p .owner .given .1) (p .before .before .pre))
+
+returns : tie.Need-returns
+unfolding ownerWord
+returns c = sym (ap (λ (o : Owner). ownerWord (ownerIs o)) (c .enum-told .given .1))
+
+returns-2 : tie.Need-returns-2
+unfolding ownerWord
+returns-2 c = sym (ap (λ (o : Owner). ownerWord (ownerIs o)) (c .before .owner .given .1))
+
+pub word-of-spec : {M : Type 1} → statement M
+word-of-spec = tie.close (tie.spec enum-told enum-known-owner mul-result add-result returns returns-2)
