@@ -36,7 +36,7 @@ add-copy c = search needs
 
 copy-requires : tie.Need-copy-requires
 copy-requires c κs = let s = c .before .before .before .before .before .before .before .before .before .before .before in
-    (omega (arith, size-committed (s .args .r) (c .before .enum-told .given .1), s .pre .room, c .copy-arg), s .pre .inside)
+    (omega (arith, size-committed (s .args .r) (c .before .enum-told .given .1), s .pre .room, c .copy-arg), omega (arith, s .pre .inside))
 
 add-result : tie.Need-add-result
 add-result c = search needs
@@ -62,7 +62,7 @@ add-copy-2 c = search needs
 
 copy-requires-2 : tie.Need-copy-requires-2
 copy-requires-2 c κs = let s = c .before .before .before .before .before .before .before .before .before .before .before .before .before .before in
-    (omega (arith, size-tentative (s .args .r) (c .before .before .before .before .enum-told2 .given .1), s .pre .room, c .copy-arg2), s .pre .inside)
+    (omega (arith, size-tentative (s .args .r) (c .before .before .before .before .enum-told2 .given .1), s .pre .room, c .copy-arg2), omega (arith, s .pre .inside))
 
 add-result-3 : tie.Need-add-result-3
 add-result-3 c = search needs
