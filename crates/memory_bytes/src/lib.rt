@@ -357,7 +357,7 @@ fn last_equal16(m: &[u8], at: usize, key: u32) -> usize
     f as usize
 }
 
-// a if h, or b: behind a call, so that it becomes a move and not a branch.
+// a if h, otherwise b.
 fn pick(h: bool, a: usize, b: usize) -> usize
     ensures { λ r. ⌜ r ≡ cond h a b ⌝ }
 {
@@ -413,7 +413,7 @@ pub fn span_equal(m: &[u8], base: usize, s: usize, e: usize, key: u32) -> Span
     }
 }
 
-// ---- columns counted and compared
+// ---- columns of two bytes: counted, compared, searched
 
 fn one_if(b: bool) -> u16
     ensures { λ r. ⌜ r ≡ cond b 1 0 ⌝ }
