@@ -185,7 +185,7 @@ module _ {m : List ℕ} (room : Room m) (t tx k : ℕ) (h : t < 8) {r : Range} (
   module _ {at : ℕ} (q : at ≡ r .start + lastIndex (upTo k) (tab (keyIn (flatOf m)) (r .start) (r .end - r .start))) where
     pub spot-shown : {l : Look} → l ≡ notes tx k (r .start) (tab (rowIn (flatOf m)) (r .start) (at - r .start)) blank
         → Shows (flatOf m) t tx (versions t k (pagesIn (flatOf m))) l
-    spot-shown e = table-shown (e ∙ notes-covered (flatOf m) tx k (r .start) (r .end) (r .start) at blank (place-covers (flatOf m) k (r .start) (r .end) (g .order) q))
+    spot-shown e = table-shown (e ∙ notes-covered (flatOf m) tx blank (place-covers (flatOf m) k (r .start) (r .end) (g .order) q))
 
     pub spot-place : at ≡ placeIn (flatOf m) t k
     unfolding placeIn

@@ -9,10 +9,11 @@ use lib.Dec.{eqb}
 use borrow.Author.Tests.{eq-eqb, ne-eqb}
 use Rattle.basics.specs.Basics.{if_then_else_}
 use Rattle.model.specs.State.{Held}
-use Rattle.memory_bytes.specs.Columns.{tab}
+use Rattle.memory_bytes.specs.Columns.{tab, Covers}
 use Rattle.memory_bytes.proofs.Scans.{tab-next, tab-none}
 use Rattle.memory_layout.specs.Flat.{Flat, rowIn}
-use Rattle.engine_lookup.specs.Lookup.{note, notes}
+use Rattle.memory_rows.specs.Rows.{keyIn}
+use Rattle.engine_lookup.specs.Lookup.{note, notes, blank}
 use Rattle.engine_lookup.specs.declared.Look.{Look}
 
 module _ (tx k i : ℕ) (h : Held) (hs : List Held) (l : Look) where
@@ -70,18 +71,10 @@ module _ (f : Flat) (tx k : ℕ) where
       notes-on tx k i (rowIn f i) (tab (rowIn f) (suc i) n) l (h i (omega arith) (omega arith))
       ∙ notes-past (suc i) n l (λ j a b. h j (omega arith) (omega arith))
 
--- all rows with the key k of those from s up to e stand from a up to b
-pub record Covers (f : Flat) (k s e a b : ℕ) : Type 0 where
-  pub low : s ≤ a
-  pub order : a ≤ b
-  pub high : b ≤ e
-  pub before : (j : ℕ) → s ≤ j → j < a → eqb (rowIn f j .tuple .key) k ≡ false
-  pub behind : (j : ℕ) → b ≤ j → j < e → eqb (rowIn f j .tuple .key) k ≡ false
-
--- so these are enough
-pub notes-covered : (f : Flat) (tx k s e a b : ℕ) (l : Look) → Covers f k s e a b
+-- the rows between which all with the key stand are enough
+pub notes-covered : (f : Flat) (tx : ℕ) {k s e a b : ℕ} (l : Look) → Covers (keyIn f) k s e a b
     → notes tx k a (tab (rowIn f) a (b - a)) l ≡ notes tx k s (tab (rowIn f) s (e - s)) l
-notes-covered f tx k s e a b l c =
+notes-covered f tx {k} {s} {e} {a} {b} l c =
     let n1 : e - s ≡ (a - s) + (e - a) = omega (arith, c .low, c .order, c .high) in
     let n2 : e - a ≡ (b - a) + (e - b) = omega (arith, c .low, c .order, c .high) in
     let p1 : s + (a - s) ≡ a = omega (arith, c .low) in
@@ -95,3 +88,8 @@ notes-covered f tx k s e a b l c =
     ∙ notes-parts f tx k a (b - a) (e - b) l
     ∙ ap (λ (z : ℕ). notes tx k z (tab (rowIn f) z (e - b)) l1) p2
     ∙ notes-past f tx k b (e - b) l1 (λ j x y. c .behind j x (omega (arith, c .high))))
+
+-- so a look that starts there, with nothing seen, shows what one at all rows does
+pub range-looked : (f : Flat) (tx : ℕ) {k s e a b : ℕ} {l none : Look} → l ≡ notes tx k a (tab (rowIn f) a (b - a)) none → none ≡ blank → Covers (keyIn f) k s e a b
+    → l ≡ notes tx k s (tab (rowIn f) s (e - s)) blank
+range-looked f tx {k} {s} {e} {none = none} p q c = p ∙ notes-covered f tx none c ∙ ap (notes tx k s (tab (rowIn f) s (e - s))) q

@@ -112,20 +112,38 @@ pub fn look_rows(m: &[u8], from: usize, to: usize, transaction: u64, key: u32, l
     l
 }
 
-// The rows from s up to, not including, e: only those between the first and the last one with the key are looked at.
+// Nothing is seen yet.
+fn no_look() -> Look
+    ensures { λ r. ⌜ r ≡ blank ⌝ }
+{
+    Look {
+        foreign: false,
+        any: false,
+        own: 0,
+        committed: 0,
+    }
+}
+
+// The rows from s up to, not including, e: only those between the first and the last one with the key are looked at. The two searches end where
+// they find it: for the rows before the place of a new one, where a pass over all keys is no faster.
 fn look_range(m: &[u8], s: usize, e: usize, transaction: u64, key: u32) -> Look
     requires { ⌜ Room (now m) × ((s ≤ e) × (e ≤ length (flatOf (now m) .rows))) ⌝ }
     ensures { λ r. ⌜ r ≡ notes transaction key s (tab (rowIn (flatOf (now (m .entry)))) s (e - s)) blank ⌝ }
 {
     let first = memory_rows::find_equal(m, s, e, key);
     let last = memory_rows::last_equal(m, first, e, key);
-    let none = Look {
-        foreign: false,
-        any: false,
-        own: 0,
-        committed: 0,
-    };
+    let none = no_look();
     look_rows(m, first, last, transaction, key, none)
+}
+
+// The same by one pass over the keys of all the rows, in a loop that does not depend on where the key is: for a read, whose key may be anywhere.
+fn look_span(m: &[u8], s: usize, e: usize, transaction: u64, key: u32) -> Look
+    requires { ⌜ Room (now m) × ((s ≤ e) × (e ≤ length (flatOf (now m) .rows))) ⌝ }
+    ensures { λ r. ⌜ r ≡ notes transaction key s (tab (rowIn (flatOf (now (m .entry)))) s (e - s)) blank ⌝ }
+{
+    let span = memory_rows::span_equal(m, s, e, key);
+    let none = no_look();
+    look_rows(m, span.first, span.last, transaction, key, none)
 }
 
 // ---- a key of a table
@@ -148,7 +166,7 @@ pub fn look_up(m: &[u8], table: u8, transaction: u64, key: u32) -> Look
     ensures { λ r. ⌜ Shows (flatOf (now (m .entry))) table transaction (versions table key (pagesIn (flatOf (now (m .entry))))) r ⌝ }
 {
     let t = table_rows(m, table);
-    look_range(m, t.start, t.end, transaction, key)
+    look_span(m, t.start, t.end, transaction, key)
 }
 
 // The same, and the place of a new tuple with the key: behind all rows of the table with a key not above, so that the rows with the key

@@ -3,4 +3,5 @@ pub mod Bytes
 pub mod Moves
 pub mod Scans
 pub mod Found
+pub mod Spans
 pub mod Changes

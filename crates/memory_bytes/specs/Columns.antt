@@ -1,9 +1,11 @@
 -- Lists by index, and searches in them.
-use Prim.Native.Nat.{ℕ, zero, suc, _+_, _%_}
-use mathlib.Core.Bool.{Bool, cond}
+use Prim.Native.Nat.{ℕ, zero, suc, _+_, _%_, _≤_, _<_}
+use mathlib.Core.Path.{_≡_}
+use mathlib.Core.Bool.{Bool, true, false, cond}
 use mathlib.Core.List.{List, [], _∷_, _++_}
 use lib.ListN.{take, drop}
 use lib.Dec.{eqb, leb}
+use Rattle.basics.specs.Basics.{any}
 
 -- f i, f (i + 1), .., n of them
 abbrev pub tab : {A : Type 0} → (ℕ → A) → ℕ → ℕ → List A
@@ -39,3 +41,18 @@ upTo key x = leb x key
 -- x is s modulo 1,024
 abbrev pub names : ℕ → ℕ → Bool
 names s x = eqb (x % 1024) s
+
+-- every number that is the key, of those from index s up to, not including, e, stands from a up to, not including, b
+pub record Covers (g : ℕ → ℕ) (key s e a b : ℕ) : Type 0 where
+  pub low : s ≤ a
+  pub order : a ≤ b
+  pub high : b ≤ e
+  pub before : (j : ℕ) → s ≤ j → j < a → equals key (g j) ≡ false
+  pub behind : (j : ℕ) → b ≤ j → j < e → equals key (g j) ≡ false
+
+-- the same of groups of 16, the first with the key from a on, the last up to b; b is s if no number is the key
+pub record Grouped (g : ℕ → ℕ) (key s e a b : ℕ) : Type 0 where
+  pub found : (b ≡ s → ⊥) → (s ≤ a) × ((a + 16 ≤ b) × (any (equals key) (tab g a 16) ≡ true))
+  pub high : b ≤ e
+  pub before : (j : ℕ) → s ≤ j → j < a → j < e → equals key (g j) ≡ false
+  pub behind : (j : ℕ) → s ≤ j → b ≤ j → j < e → equals key (g j) ≡ false

@@ -5,7 +5,7 @@ use native.Mathlib.Omega.{arith}
 use native.Mathlib.Nat.{zero-add}
 use mathlib.Core.List.{List}
 use lib.ListN.{length}
-use Rattle.memory_bytes.specs.Columns.{tab}
+use Rattle.memory_bytes.specs.Columns.{tab, equals, Covers}
 use Rattle.memory_bytes.specs.Bytes.{le4, bytes, column4}
 use Rattle.memory_bytes.proofs.Columns.{getD-tab, tab-cong}
 use Rattle.model.specs.State.{Held}
@@ -57,12 +57,26 @@ module _ (m : List ℕ) where
     pending-is = ap (λ (r : Held). r .pending) (row-is i h)
 
   -- the keys of the rows are a column
+  column-key : {a : ℕ} → a ≡ keysAt (capacityOf m) → (j : ℕ) → j < length (rowsOf m) → column4 m a j ≡ keyIn (flatOf m) j
+  column-key q j h = ap (λ (z : ℕ). le4 m (z + j * 4)) q ∙ sym (key-is j h)
+
   keys-are : (s e : ℕ) → e ≤ length (rowsOf m) → (a : ℕ) → a ≡ keysAt (capacityOf m) → tab (column4 m a) s (e - s) ≡ tab (keyIn (flatOf m)) s (e - s)
-  keys-are s e h a q =
-      tab-cong (column4 m a) (keyIn (flatOf m)) s s (e - s)
-      (λ k b. ap (λ (z : ℕ). le4 m (z + (s + k) * 4)) q ∙ sym (key-is (s + k) (omega arith)))
+  keys-are s e h a q = tab-cong (column4 m a) (keyIn (flatOf m)) s s (e - s) (λ k b. column-key q (s + k) (omega arith))
 
   -- what a search in the column answers is over the rows
   pub over-keys : (f : List ℕ → ℕ) (s e : ℕ) → e ≤ length (rowsOf m) → {a r : ℕ} → a ≡ keysAt (capacityOf m) → r ≡ s + f (tab (column4 m a) s (e - s))
       → r ≡ s + f (tab (keyIn (flatOf m)) s (e - s))
   over-keys f s e h {a} q p = p ∙ ap (λ (xs : List ℕ). s + f xs) (keys-are s e h a q)
+
+  -- and so is the span of a key
+  pub covers-keys : {a k s e x y : ℕ} → e ≤ length (rowsOf m) → a ≡ keysAt (capacityOf m) → Covers (column4 m a) k s e x y → Covers (keyIn (flatOf m)) k s e x y
+  covers-keys {k = k} h q c =
+      let o = c .order in
+      let t = c .high in
+      record {
+        low = c .low;
+        order = o;
+        high = t;
+        before = λ j u v. ap (equals k) (sym (column-key q j (omega arith))) ∙ c .before j u v;
+        behind = λ j u v. ap (equals k) (sym (column-key q j (omega arith))) ∙ c .behind j u v;
+      }

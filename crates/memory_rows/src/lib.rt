@@ -2,6 +2,7 @@
 // stand in slots that never move while a row lives. docs/LAYOUT.md says what stands where. Above this crate a row has typed values only.
 use blocks::Owner;
 use blocks::PageLayout;
+use memory_bytes::Span;
 ghost use mathlib.Core.Path.{_≡_};
 ghost use mathlib.Core.Bool.{false};
 ghost use mathlib.Core.List.{List, _∷_, [], _++_};
@@ -11,7 +12,7 @@ ghost use Rattle.basics.specs.Basics.{any};
 ghost use Rattle.blocks.specs.Limits.{payloadLimit};
 ghost use Rattle.rows.specs.Rows.{isBy};
 ghost use Rattle.model.specs.Rules.{heldSize, withPending};
-ghost use Rattle.memory_bytes.specs.Columns.{tab, insertAt, removeAt, firstIndex, lastIndex, equals, upTo};
+ghost use Rattle.memory_bytes.specs.Columns.{tab, insertAt, removeAt, firstIndex, lastIndex, equals, upTo, Covers};
 ghost use Rattle.memory_layout.specs.Places.{slotSize, keysAt, refsAt, statesAt};
 ghost use Rattle.memory_layout.specs.Views.{lengthOf, slotOf, slotPlace, refOf, stateOf, pendingOf};
 ghost use Rattle.memory_layout.specs.Flat.{flatOf, capacityOf, rowIn, Room, Becomes};
@@ -366,6 +367,14 @@ pub fn last_equal(m: &[u8], s: usize, e: usize, key: u32) -> usize
     ensures { λ r. ⌜ r ≡ s + lastIndex (equals key) (tab (keyIn (flatOf (now (m .entry)))) s (e - s)) ⌝ }
 {
     memory_bytes::last_equal(m, keys_at(capacity(m)), s, e, key)
+}
+
+// Rows between which every row with the key stands: from the first to behind the last one, or none.
+pub fn span_equal(m: &[u8], s: usize, e: usize, key: u32) -> Span
+    requires { ⌜ Room (now m) × ((s ≤ e) × (e ≤ length (flatOf (now m) .rows))) ⌝ }
+    ensures { λ r. ⌜ Covers (keyIn (flatOf (now (m .entry)))) key s e (r .first) (r .last) ⌝ }
+{
+    memory_bytes::span_equal(m, keys_at(capacity(m)), s, e, key)
 }
 
 // ---- a slot that no row is in
