@@ -21,7 +21,8 @@ use Rattle.memory_layout.proofs.Laws.{becomes-none, becomes-then}
 use Rattle.memory_rows.specs.Cells.{InOrder}
 use Rattle.memory_pages.specs.Pages.{withCount, entryOf, moreRows, moreLast, behind, RowsBecome}
 use Rattle.memory_pages.proofs.Appending.{last-got, last-set}
-use Rattle.call_recovery.specs.Loading.{tuplesIn, isPage, lastMore, Fills}
+use Rattle.reader.specs.Answers.{isPage}
+use Rattle.call_recovery.specs.Loading.{tuplesIn, lastMore, Fills}
 
 -- the same lists, said otherwise
 pub becomes-as : (m m' : List ℕ) (f g : Flat) → f ≡ g → Becomes m m' f → Becomes m m' g

@@ -2,7 +2,7 @@
 use mathlib.Core.Path.{_≡_, refl, sym, ap, subst, _∙_}
 use mathlib.Core.Bool.{Bool, true}
 use mathlib.Core.List.{List, [], _∷_, _++_, map, append-assoc, append-nil}
-use Prim.Native.Nat.{ℕ, _+_, _≤_, _<_}
+use Prim.Native.Nat.{ℕ, zero, suc, _+_, _≤_, _<_}
 use native.Mathlib.Omega.{arith}
 use native.Mathlib.Numerals.{add-one}
 use lib.ListN.{length, take, drop, getD, length-append, length-map, take-append-drop}
@@ -12,6 +12,8 @@ use borrow.Author.Tests.{ltb-true, lt-ltb}
 use Rattle.basics.specs.Basics.{all}
 use Rattle.basics.proofs.Facts.{and-true}
 use Rattle.rows.proofs.Turns.{drop-turn}
+use Rattle.blocks.specs.Block.{Block, malformed, header, page, directory}
+use Rattle.reader.specs.Answers.{isPage}
 use Rattle.image.specs.View.{View}
 use Rattle.image.specs.Stages.{blockOk, StoredPage}
 use Rattle.image.proofs.Collect.{all-at}
@@ -19,7 +21,7 @@ use Rattle.memory_layout.specs.Flat.{Flat, flatOf, Room, Becomes, withUsed, use
 use Rattle.memory_layout.specs.declared.Entry.{Entry}
 use Rattle.memory_layout.proofs.Laws.{becomes-none, becomes-then}
 use Rattle.memory_rows.specs.Cells.{InOrder}
-use Rattle.call_recovery.specs.Loading.{pageAt, pagesAt, heldsOf, entryFor, usedBy, TablesRise, Loads, RoomFor}
+use Rattle.call_recovery.specs.Loading.{pageAt, pagesAt, blocksIn, heldsOf, entryFor, usedBy, TablesRise, Loads, RoomFor}
 use Rattle.call_recovery.proofs.Adding.{becomes-as}
 use Rattle.call_recovery.proofs.Marking.{used-none, used-one, used-then}
 use Rattle.call_recovery.proofs.Paging.{helds-append, loads-none, loads-then, rise-split}
@@ -42,7 +44,36 @@ named-more n k (x ∷ s) h e =
 
 -- ---- pages
 
+-- a block adds a page at most
+one-few : (e : ℕ) (b : Block) (ps : List StoredPage) → length (blocksIn (pageAt e b ++ ps)) ≤ suc (length (blocksIn ps))
+unfolding pageAt blocksIn
+one-few e malformed ps = omega arith
+one-few e (header h) ps = omega arith
+one-few e (page t l ts) ps = omega arith
+one-few e (directory l es) ps = omega arith
+
+-- the first of as many blocks as there are pages is a page
+first-page : (e : ℕ) (b : Block) (ps : List StoredPage) (es : List ℕ) → length (blocksIn ps) ≤ length es → blocksIn (pageAt e b ++ ps) ≡ e ∷ es
+    → (isPage b ≡ true) × (blocksIn ps ≡ es)
+unfolding pageAt blocksIn isPage
+first-page e malformed ps es h q = absurd (omega (arith, ap length q))
+first-page e (header k) ps es h q = absurd (omega (arith, ap length q))
+first-page e (page t l ts) ps es h q = (refl, cc)
+first-page e (directory l ds) ps es h q = absurd (omega (arith, ap length q))
+
 module _ (v : View) where
+  pages-few : (es : List ℕ) → length (blocksIn (pagesAt v es)) ≤ length es
+  unfolding pagesAt blocksIn
+  pages-few [] = omega arith
+  pages-few (e ∷ es) = let a = one-few e (v e) (pagesAt v es) in let b = pages-few es in omega arith
+
+  -- where there are as many pages as blocks, each block is a page
+  pub all-pages : (es : List ℕ) (i : ℕ) → blocksIn (pagesAt v es) ≡ es → i < length es → isPage (v (getD es i 0)) ≡ true
+  unfolding pagesAt
+  all-pages [] i q h = absurd (omega arith)
+  all-pages (e ∷ es) zero q h = first-page e (v e) (pagesAt v es) es (pages-few es) q .0
+  all-pages (e ∷ es) (suc i) q h = all-pages es i (first-page e (v e) (pagesAt v es) es (pages-few es) q .1) (omega arith)
+
   pages-append : (xs ys : List ℕ) → pagesAt v (xs ++ ys) ≡ pagesAt v xs ++ pagesAt v ys
   unfolding pagesAt
   pages-append [] ys = refl

@@ -15,7 +15,7 @@ use Rattle.basics.proofs.Facts.{clash, and-true}
 use Rattle.blocks.specs.Tuple.{Tuple}
 use Rattle.blocks.specs.Block.{Block, malformed, header, page, directory}
 use Rattle.blocks.specs.Decode.{decodeBlock}
-use Rattle.reader.specs.Answers.{reading}
+use Rattle.reader.specs.Answers.{isPage, reading}
 use Rattle.reader.specs.declared.Reading.{Reading}
 use Rattle.reader.specs.declared.Reading.the-variants.{IsPage}
 use Rattle.reader.proofs.Answering.{answer-page, OneOfThese}
@@ -29,7 +29,7 @@ use Rattle.memory_layout.specs.declared.Entry.{Entry}
 use Rattle.memory_layout.proofs.Laws.{becomes-none, becomes-then}
 use Rattle.memory_rows.specs.Cells.{InOrder}
 use Rattle.memory_pages.specs.Pages.{MayAppend, clean, behind, EntriesBecome}
-use Rattle.call_recovery.specs.Loading.{storedPage, pageAt, tuplesIn, isPage, heldsOf, entryFor, lastMore, withPages, TablesRise, Fills, Loads, RoomFor}
+use Rattle.call_recovery.specs.Loading.{storedPage, pageAt, tuplesIn, heldsOf, entryFor, lastMore, withPages, TablesRise, Fills, Loads, RoomFor}
 use Rattle.call_recovery.proofs.Adding.{becomes-as, last-more}
 
 -- ---- a block that was read

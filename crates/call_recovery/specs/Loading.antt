@@ -29,13 +29,6 @@ tuplesIn (header h) = []
 tuplesIn (page t l ts) = ts
 tuplesIn (directory l es) = []
 
--- a page block
-unfoldable pub isPage : Block → Bool
-isPage malformed = false
-isPage (header h) = false
-isPage (page t l ts) = true
-isPage (directory l es) = false
-
 -- the page of table t in block e
 abbrev pub storedPage : ℕ → ℕ → List Tuple → StoredPage
 storedPage e t ts = record { block = e; table = t; tuples = ts }

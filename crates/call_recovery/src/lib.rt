@@ -18,6 +18,7 @@ ghost use Rattle.blocks.specs.Limits.{payloadLimit};
 ghost use Rattle.blocks.specs.Tuple.{OwnerFits};
 ghost use Rattle.blocks.specs.Decode.{decodeBlock};
 ghost use Rattle.blocks.specs.Bytes.{tupleOf, payloadIn, ownerIs};
+ghost use Rattle.reader.specs.Answers.{isPage};
 ghost use Rattle.rows.specs.Rows.{transactions};
 ghost use Rattle.image.specs.View.{view, blockCount};
 ghost use Rattle.image.specs.Stages.{holds, blockOk};
@@ -29,7 +30,7 @@ ghost use Rattle.memory_layout.specs.Store.{HoldsNow};
 ghost use Rattle.memory_rows.specs.Cells.{InOrder};
 ghost use Rattle.memory_pages.specs.Pages.{RowsBecome, behind, moreLast};
 ghost use Rattle.contracts.specs.Shape.{Recovered};
-ghost use Rattle.call_recovery.specs.Loading.{pageAt, pagesAt, isPage, tuplesIn, blocksIn, usedBy, rowFor, Fills, Loads, RoomFor};
+ghost use Rattle.call_recovery.specs.Loading.{pageAt, pagesAt, tuplesIn, blocksIn, usedBy, rowFor, Fills, Loads, RoomFor};
 ghost use Rattle.call_recovery.specs.Reopening.{AllOwners, ownRows, Counts, Sized, noted, openedBy};
 
 // How many transactions there may be.
@@ -101,12 +102,12 @@ fn load_rows(block: &[u8], count: u32, m: &mut [u8])
 
 // The page in block e, behind those that are there.
 fn load_page(image: &[u8], e: usize, m: &mut [u8])
-    requires { ⌜ (512 * e + 512 ≤ length (now image)) × (e < 4096) ⌝ }
+    requires { ⌜ (512 * e + 512 ≤ length (now image)) × ((e < 4096) × (isPage (view (now image) e) ≡ true)) ⌝ }
     requires { ⌜ Room (now m) × (InOrder (now m) × RoomFor (pageAt e (view (now image) e)) (flatOf (now m))) ⌝ }
     ensures { λ _. ⌜ Loads (pageAt e (view (now (image .entry)) e)) (now (m .entry)) (now (m .exit)) ⌝ }
 {
     let block = image::block_at(image, e);
-    match reader::read_block(&block) {
+    match reader::known_page(&block) {
         reader::Reading::IsPage {
             table,
             count,
@@ -123,7 +124,7 @@ fn load_page(image: &[u8], e: usize, m: &mut [u8])
 
 // The pages in the blocks that the entries name, in their order.
 fn load_pages(image: &[u8], entries: &[u32], m: &mut [u8])
-    requires { ⌜ (all (blockOk (blockCount (now image))) (now entries) ≡ true) × (blockCount (now image) ≤ 4096) ⌝ }
+    requires { ⌜ (all (blockOk (blockCount (now image))) (now entries) ≡ true) × ((blockCount (now image) ≤ 4096) × (blocksIn (pagesAt (view (now image)) (now entries)) ≡ now entries)) ⌝ }
     requires { ⌜ Room (now m) × (InOrder (now m) × RoomFor (pagesAt (view (now image)) (now entries)) (flatOf (now m))) ⌝ }
     ensures { λ _. ⌜ Loads (pagesAt (view (now (image .entry))) (now (entries .entry))) (now (m .entry)) (now (m .exit)) ⌝ }
 {

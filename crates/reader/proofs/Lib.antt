@@ -4,4 +4,5 @@ pub mod Cursors
 pub mod Records
 pub mod Walk
 pub mod Answering
+pub mod Known
 pub mod Again

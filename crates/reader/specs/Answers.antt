@@ -1,5 +1,6 @@
 -- What reading a block answers, and what the cursor finds in a page.
 use Prim.Native.Nat.{ℕ, _+_, _%_}
+use mathlib.Core.Bool.{Bool, true, false}
 use mathlib.Core.List.{List}
 use lib.ListN.{length, getD, drop}
 use lib.Dec.{ltb}
@@ -30,6 +31,13 @@ recordAt xs at =
 -- the record at a cursor's place, with the cursor behind it
 unfoldable pub nextAt : List ℕ → ℕ → Next
 nextAt xs at = if whole (drop at xs) then Found (recordAt xs at) (record { at = at + taken (drop at xs) }) else Bad
+
+-- a page block
+unfoldable pub isPage : Block → Bool
+isPage malformed = false
+isPage (header h) = false
+isPage (page t l ts) = true
+isPage (directory l es) = false
 
 -- a page's tuples and a directory's entries are left in the block
 unfoldable pub reading : Block → Reading

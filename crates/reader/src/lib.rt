@@ -3,13 +3,14 @@ use blocks::Header;
 use blocks::PageLayout;
 use blocks::Record;
 ghost use mathlib.Core.Path.{_≡_};
+ghost use mathlib.Core.Bool.{true};
 ghost use Prim.Native.Nat.{_+_, _<_, _≤_};
 ghost use lib.ListN.{length, take};
 ghost use Rattle.bits.specs.Bits.{bitsIn, field};
 ghost use Rattle.blocks.specs.Limits.{entriesPerBlock};
 ghost use Rattle.blocks.specs.Numbers.{num4, same};
 ghost use Rattle.blocks.specs.Decode.{readHeader, readEntries, headerIn, pageIn, directoryIn, decodeBlock};
-ghost use Rattle.reader.specs.Answers.{nextAt, reading};
+ghost use Rattle.reader.specs.Answers.{nextAt, isPage, reading};
 
 // A place in a page's block, before a record.
 pub struct Cursor {
@@ -209,6 +210,18 @@ fn read_header(block: &[u8; 512]) -> Reading
         return Reading::IsHeader(h);
     }
     Reading::Malformed
+}
+
+// What a block that is known to be a page is: its head is read, and nothing is tested.
+pub fn known_page(block: &[u8; 512]) -> Reading
+    requires { ⌜ isPage (decodeBlock (now block)) ≡ true ⌝ }
+    ensures { λ r. ⌜ r ≡ reading (decodeBlock (now (block .entry))) ⌝ }
+{
+    Reading::IsPage {
+        table: get32(block, 4, 3),
+        count: get32(block, 7, 6),
+        level: get32(block, 22, 32),
+    }
 }
 
 // What a block is: by its first four bits a header, a page or a directory, and any other is refused.

@@ -48,7 +48,7 @@ load-pages-requires c κs =
     let a = p9 .args in
     let ps = pagesAt (view (a .image .now)) (a .entries .now) in
     let f = p3 .fresh .ensures .0 in
-    ((k .named, k .whole .many), (f .room, (order-none (a .h) ps (k .pages) f, pages-room (a .h) ps (k .pages) f (k .rows) (k .follow))))
+    ((k .named, (k .whole .many, p9 .pre .1 .1)), (f .room, (order-none (a .h) ps (k .pages) f, pages-room (a .h) ps (k .pages) f (k .rows) (k .follow))))
 
 mark-blocks-requires : tie.Need-mark-blocks-requires
 mark-blocks-requires c κs =

@@ -3,6 +3,7 @@ use Rattle.call_recovery.proofs.Paging.{Here, here, table-small, none-h
 use Rattle.call_recovery.specs.Loading.{storedPage, pageAt, tuplesIn, RoomFor}
 use Rattle.memory_layout.specs.Flat.{flatOf}
 use Rattle.image.specs.Stages.{StoredPage}
+use Rattle.reader.specs.Answers.{isPage}
 use Rattle.blocks.specs.Decode.{decodeBlock}
 use Rattle.blocks.specs.Block.{Block}
 use native.Mathlib.Omega.{arith}
@@ -21,7 +22,7 @@ found c =
     let p5 = p3 .before .before in
     let p8 = p5 .before .before .before in
     let g = p1 .table .given in
-    here (p8 .args .e) (g .0 .0) (g .0 .1 .0) (g .0 .1 .1 .0) (decodeBlock (p5 .block-at .result)) (sym (g .1) ∙ p3 .read-block .ensures)
+    here (p8 .args .e) (g .0 .0) (g .0 .1 .0) (g .0 .1 .1 .0) (decodeBlock (p5 .block-at .result)) (sym (g .1) ∙ p3 .known-page .ensures)
 
 -- there is room for it
 fits : (c : tie.After-known-told)
@@ -36,14 +37,17 @@ fits c =
     let a = p8 .args in
     let g = p1 .table .given in
     let q = seen-here (a .image .now) (p5 .block-at .result) (a .e) (p5 .block-at .ensures) in
-    one-fits (a .e) _ _ _ (flatOf (a .m .now)) (p8 .pre .0 .1) (table-small _ (g .0 .0) (g .0 .1 .0) (g .0 .1 .1 .0) (sym (g .1) ∙ p3 .read-block .ensures))
+    one-fits (a .e) _ _ _ (flatOf (a .m .now)) (p8 .pre .0 .1 .0) (table-small _ (g .0 .0) (g .0 .1 .0) (g .0 .1 .1 .0) (sym (g .1) ∙ p3 .known-page .ensures))
     (p8 .pre .1 .0 .range .least) (found c) (subst (λ (b : Block). RoomFor (pageAt (a .e) b) (flatOf (a .m .now))) (sym q) (p8 .pre .1 .1 .1))
 
 block-at-requires : tie.Need-block-at-requires
 block-at-requires c κs = search needs
 
-read-block-requires : tie.Need-read-block-requires
-read-block-requires c κs = search needs
+known-page-requires : tie.Need-known-page-requires
+known-page-requires c κs =
+    let p2 = c .before .before in
+    let a = c .before .before .before .before .args in
+    ap isPage (seen-here (a .image .now) _ (a .e) (c .before .block-at .ensures)) ∙ c .before .before .before .before .pre .0 .1 .1
 
 enum-known-table : tie.Need-enum-known-table
 enum-known-table c = search needs
@@ -77,7 +81,7 @@ returns c =
     let p6 = p3 .before .before .before in
     let a = p6 .args in
     let e = ap (pageAt (a .e)) (sym (seen-here (a .image .now) _ (a .e) (p3 .block-at .ensures))) in
-    loads-none _ _ (p6 .pre .1 .0) (p6 .pre .1 .1 .0) (e ∙ none-here (a .e) _ _ (p1 .read-block .ensures) (c .match .keys2))
+    loads-none _ _ (p6 .pre .1 .0) (p6 .pre .1 .1 .0) (e ∙ none-here (a .e) _ _ (p1 .known-page .ensures) (c .match .keys2))
 
 same-length : tie.Need-same-length
 same-length c = search needs
@@ -102,7 +106,7 @@ load-page-spec =
     tie.close
     (tie.spec
     block-at-requires
-    read-block-requires
+    known-page-requires
     enum-known-table
     cast-append-page
     cast-append-page-2

@@ -1,11 +1,13 @@
 -- `call_recovery::load_pages` meets its contract.
-use Rattle.call_recovery.proofs.Naming.{named-below, loading-start, loading-turn, loading-room, loading-end}
+use Rattle.call_recovery.proofs.Naming.{named-below, all-pages, loading-start, loading-turn, loading-room, loading-end}
 use Rattle.call_recovery.specs.Loading.{pagesAt, Loads}
 use Rattle.image.proofs.Collect.{within}
 use Rattle.image.specs.View.{view}
 use native.Mathlib.Omega.{arith}
 use lib.ListN.{length, take}
-use Prim.Native.Nat.{_-_, _≤_, _<_}
+use mathlib.Core.Path.{ap, _∙_}
+use Rattle.reader.specs.Answers.{isPage}
+use Prim.Native.Nat.{ℕ, _-_, _≤_, _<_}
 use Rattle.call_recovery.proofs.load_pages.Statement.{statement}
 use Rattle.call_recovery.proofs.load_pages.Tie as tie
 
@@ -38,7 +40,13 @@ load-page-requires c κs =
     let pre = p8 .pre in
     let h : l .i < length (a .entries .now) = omega (arith, p3 .loop-test) in
     let w = p1 .wide .ensures in (
-      (omega (arith, within (a .image .now) (a .entries .now) (l .i) (pre .0 .0) h, w), omega (arith, named-below _ (a .entries .now) (l .i) (pre .0 .0) h, w, pre .0 .1)),
+      (
+        omega (arith, within (a .image .now) (a .entries .now) (l .i) (pre .0 .0) h, w),
+        (
+          omega (arith, named-below _ (a .entries .now) (l .i) (pre .0 .0) h, w, pre .0 .1 .0),
+          ap (λ (z : ℕ). isPage (view (a .image .now) z)) w ∙ all-pages (view (a .image .now)) (a .entries .now) (l .i) (pre .0 .1 .1) h,
+        ),
+      ),
       (l .inv .1 .becomes .room, (l .inv .1 .order, loading-room (view (a .image .now)) (a .entries .now) (l .i) _ h w (a .m .now) (l .m) (l .inv .1) (pre .1 .1 .1))),
     )
 
