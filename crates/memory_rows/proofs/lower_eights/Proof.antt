@@ -50,7 +50,7 @@ loop-less : tie.Need-loop-less Inv-loop μ-loop
 loop-less c = omega arith
 
 loop-again : tie.Need-loop-again Inv-loop μ-loop
-loop-again c = let p = c .before .before .before .before .before .before .before .before .before .before .before .pre in lowering-turn (c .before .before .before .before .before .loop .inv) (p .1 .1) (c .before .before .before .before .loop-test .taken) (c .before .before .copy-eight .ensures)
+loop-again c = let p = c .before .before .before .before .before .before .before .before .before .before .before .pre in lowering-turn (c .before .before .before .before .before .loop .inv) (p .1 .1) (omega (arith, c .before .before .before .before .loop-test .taken)) (c .before .before .copy-eight .ensures)
 
 give-eight-requires : tie.Need-give-eight-requires Inv-loop μ-loop
 give-eight-requires c κs = let s = c .before .before .before .before .before .before .before .before in
@@ -74,7 +74,7 @@ same-length c = omega arith
 returns : tie.Need-returns Inv-loop μ-loop
 returns c = let s = c .before .before .before .before .before .before .before .before .before .before .before .before .before .before .before in
     let a = s .args in
-    lowering-end (c .before .before .before .before .before .before .before .before .before .loop .inv) (s .pre .1 .0) (s .pre .1 .1) (c .before .before .before .before .before .before .before .before .loop-test .left)
+    lowering-end (c .before .before .before .before .before .before .before .before .before .loop .inv) (s .pre .1 .0) (s .pre .1 .1) (omega (arith, c .before .before .before .before .before .before .before .before .loop-test .left))
     (c .before .before .before .before .before .before .give-eight .ensures (a .m .now) (a .i + 1) (c .before .before .before .before .before .before .before .before .before .before .before .before .take-eight .ensures))
     (c .before .before .give-eight2 .ensures (a .m .now) (a .n - 8) (c .before .before .before .before .before .before .before .before .before .before .take-eight2 .ensures))
 

@@ -52,7 +52,7 @@ loop-less : tie.Need-loop-less Inv-loop μ-loop
 loop-less c = omega arith
 
 loop-again : tie.Need-loop-again Inv-loop μ-loop
-loop-again c = let p = c .before .before .before .before .before .before .before .before .before .before .before .pre in raising-turn (c .before .before .before .before .before .loop .inv) (p .1 .1) (c .before .before .before .before .loop-test .taken) (c .before .before .copy-eight .ensures)
+loop-again c = let p = c .before .before .before .before .before .before .before .before .before .before .before .pre in raising-turn (c .before .before .before .before .before .loop .inv) (p .1 .1) (omega (arith, c .before .before .before .before .loop-test .taken)) (c .before .before .copy-eight .ensures)
 
 add-give-eight : tie.Need-add-give-eight Inv-loop μ-loop
 add-give-eight c = omega arith
@@ -79,7 +79,7 @@ same-length c = omega arith
 returns : tie.Need-returns Inv-loop μ-loop
 returns c = let s = c .before .before .before .before .before .before .before .before .before .before .before .before .before .before .before in
     let a = s .args in
-    raising-end (c .before .before .before .before .before .before .before .before .before .loop .inv) (s .pre .1 .0) (s .pre .1 .1) (c .before .before .before .before .before .before .before .before .loop-test .left)
+    raising-end (c .before .before .before .before .before .before .before .before .before .loop .inv) (s .pre .1 .0) (s .pre .1 .1) (omega (arith, c .before .before .before .before .before .before .before .before .loop-test .left))
     (c .before .before .before .before .before .before .give-eight .ensures (a .m .now) (a .i) (c .before .before .before .before .before .before .before .before .before .before .before .before .take-eight .ensures))
     (c .before .before .give-eight2 .ensures (a .m .now) (a .n - 8) (c .before .before .before .before .before .before .before .before .before .before .take-eight2 .ensures))
 
