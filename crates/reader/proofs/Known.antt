@@ -12,7 +12,8 @@ use Rattle.blocks.specs.Limits.{entriesPerBlock}
 use Rattle.blocks.specs.Numbers.{same}
 use Rattle.blocks.specs.Tuple.{Tuple}
 use Rattle.blocks.specs.Block.{Block, header, page, directory, encodeBlock}
-use Rattle.blocks.specs.Decode.{spelledBy, readHeader, headerIn, taken, readTuples, pageTable, pageCount, pageLevel, pageOf, pageIn, readEntries, directoryCount, directoryLevel, directoryIn, kind, decodeBlock}
+use Rattle.blocks.specs.Decode.{spelledBy, readHeader, headerIn, taken, readTuples, pageTable, pageCount, pageLevel, pageOf, pageIn}
+use Rattle.blocks.specs.Decode.{readEntries, directoryCount, directoryLevel, directoryIn, kind, decodeBlock}
 use Rattle.blocks.proofs.Laws.{spelled-yes, spelled-no}
 use Rattle.blocks.proofs.ReadTuples.{split, none-is}
 use Rattle.reader.specs.Answers.{isPage, reading}

@@ -56,9 +56,16 @@ same-length : tie.Need-same-length
 same-length c = search needs
 
 returns : tie.Need-returns
-returns c = let p = c .before .before .before .before .before .before .before .before .before .before .before .before .before .before .before .before .pre in
-    copied-eight (c .before .before .before .before .before .before .before .before .before .before .before .before .before .before .keys-at .ensures) (c .before .before .before .before .before .before .before .before .before .before .before .before .before .refs-at .ensures) (c .before .before .before .before .before .before .before .before .before .before .before .before .states-at .ensures) (p .1 .0) (p .1 .1)
-    (c .before .before .before .before .before .before .before .before .before .before .copy32 .ensures) (c .before .before .before .before .before .before .copy16 .ensures) (c .before .before .copy8 .ensures)
+returns c =
+    let p2 = c .before .before in
+    let p6 = p2 .before .before .before .before in
+    let p10 = p6 .before .before .before .before in
+    let p12 = p10 .before .before in
+    let p13 = p12 .before in
+    let p14 = p13 .before in
+    let h = p14 .before .before .pre .1 in
+    copied-eight (p14 .keys-at .ensures) (p13 .refs-at .ensures) (p12 .states-at .ensures) (h .0) (h .1)
+    (p10 .copy32 .ensures) (p6 .copy16 .ensures) (p2 .copy8 .ensures)
 
 pub copy-eight-spec : {M : Type 1} → statement M
 copy-eight-spec =

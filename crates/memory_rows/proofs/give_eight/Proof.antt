@@ -45,15 +45,26 @@ slice-aggregate-write-3 : tie.Need-slice-aggregate-write-3
 slice-aggregate-write-3 c = search needs
 
 write-requires-3 : tie.Need-write-requires-3
-write-requires-3 c κs = let p = c .before .before .before .before .before .before .before .before .before .before .before .before .before .before .before .before .before .before .before .pre in omega (arith, p .0 .long, p .1 .1 .states)
+write-requires-3 c κs =
+    let p4 = c .before .before .before .before in
+    let p12 = p4 .before .before .before .before .before .before .before .before in
+    let p = p12 .before .before .before .before .before .before .before .pre in
+    omega (arith, p .0 .long, p .1 .1 .states)
 
 same-length : tie.Need-same-length
 same-length c = search needs
 
 returns : tie.Need-returns
-returns c = let s = c .before .before .before .before .before .before .before .before .before .before .before .before .before .before .before .before .before .before .before .before .before .before in
-    given (s .args .rows) (c .before .before .before .before .before .before .before .before .before .before .before .before .before .before .before .before .keys-at .ensures) (c .before .before .before .before .before .before .before .before .before .before .refs-at .ensures) (c .before .before .before .before .states-at .ensures) (s .pre .1 .0)
-    (c .before .before .before .before .before .before .before .before .before .before .before .before .before .before .write .ensures) (c .before .before .before .before .before .before .before .before .write2 .ensures) (c .before .before .write3 .ensures)
+returns c =
+    let p2 = c .before .before in
+    let p4 = p2 .before .before in
+    let p8 = p4 .before .before .before .before in
+    let p10 = p8 .before .before in
+    let p14 = p10 .before .before .before .before in
+    let p16 = p14 .before .before in
+    let s = p16 .before .before .before .before .before .before in
+    given (s .args .rows) (p16 .keys-at .ensures) (p10 .refs-at .ensures) (p4 .states-at .ensures) (s .pre .1 .0)
+    (p14 .write .ensures) (p8 .write2 .ensures) (p2 .write3 .ensures)
 
 pub give-eight-spec : {M : Type 1} → statement M
 give-eight-spec =

@@ -52,7 +52,12 @@ loop-less : tie.Need-loop-less Inv-loop μ-loop
 loop-less c = omega arith
 
 loop-again : tie.Need-loop-again Inv-loop μ-loop
-loop-again c = let p = c .before .before .before .before .before .before .before .before .before .before .before .pre in raising-turn (c .before .before .before .before .before .loop .inv) (p .1 .1) (omega (arith, c .before .before .before .before .loop-test .taken)) (c .before .before .copy-eight .ensures)
+loop-again c =
+    let p2 = c .before .before in
+    let p4 = p2 .before .before in
+    let p5 = p4 .before in
+    let s = p5 .before .before .before .before .before .before in
+    raising-turn (p5 .loop .inv) (s .pre .1 .1) (omega (arith, p4 .loop-test .taken)) (p2 .copy-eight .ensures)
 
 add-give-eight : tie.Need-add-give-eight Inv-loop μ-loop
 add-give-eight c = omega arith
@@ -77,11 +82,17 @@ same-length : tie.Need-same-length Inv-loop μ-loop
 same-length c = omega arith
 
 returns : tie.Need-returns Inv-loop μ-loop
-returns c = let s = c .before .before .before .before .before .before .before .before .before .before .before .before .before .before .before in
+returns c =
+    let p2 = c .before .before in
+    let p6 = p2 .before .before .before .before in
+    let p8 = p6 .before .before in
+    let p9 = p8 .before in
+    let p10 = p9 .before in
+    let p12 = p10 .before .before in
+    let s = p12 .before .before .before in
     let a = s .args in
-    raising-end (c .before .before .before .before .before .before .before .before .before .loop .inv) (s .pre .1 .0) (s .pre .1 .1) (omega (arith, c .before .before .before .before .before .before .before .before .loop-test .left))
-    (c .before .before .before .before .before .before .give-eight .ensures (a .m .now) (a .i) (c .before .before .before .before .before .before .before .before .before .before .before .before .take-eight .ensures))
-    (c .before .before .give-eight2 .ensures (a .m .now) (a .n - 8) (c .before .before .before .before .before .before .before .before .before .before .take-eight2 .ensures))
+    raising-end (p9 .loop .inv) (s .pre .1 .0) (s .pre .1 .1) (omega (arith, p8 .loop-test .left))
+    (p6 .give-eight .ensures (a .m .now) (a .i) (p12 .take-eight .ensures)) (p2 .give-eight2 .ensures (a .m .now) (a .n - 8) (p10 .take-eight2 .ensures))
 
 pub raise-eights-spec : {M : Type 1} → statement M
 raise-eights-spec =

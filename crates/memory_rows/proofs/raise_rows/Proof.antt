@@ -69,11 +69,15 @@ same-length-2 c = search needs
 
 returns-2 : tie.Need-returns-2
 returns-2 c =
-    let p12 = c .before .before .before .before .before .before .before .before .before .before .before .before in
-    let p14 = p12 .before .before in
+    let p2 = c .before .before in
+    let p6 = p2 .before .before .before .before in
+    let p10 = p6 .before .before .before .before in
+    let p12 = p10 .before .before in
+    let p13 = p12 .before in
+    let p14 = p13 .before in
     let st = p14 .before .before .before in
-    raised-rows (p14 .keys-at .ensures) (p12 .before .refs-at .ensures) (p12 .states-at .ensures) (st .pre .1 .0) (st .pre .1 .1)
-    (c .before .before .before .before .before .before .before .before .before .before .up4 .ensures) (c .before .before .before .before .before .before .up2 .ensures) (c .before .before .up1 .ensures)
+    raised-rows (p14 .keys-at .ensures) (p13 .refs-at .ensures) (p12 .states-at .ensures) (st .pre .1 .0) (st .pre .1 .1)
+    (p10 .up4 .ensures) (p6 .up2 .ensures) (p2 .up1 .ensures)
 
 pub raise-rows-spec : {M : Type 1} → statement M
 raise-rows-spec =

@@ -52,17 +52,25 @@ copy-out-requires-3 : tie.Need-copy-out-requires-3
 copy-out-requires-3 c κs = search needs
 
 returns : tie.Need-returns
-returns c = let s = c .before .before .before .before .before .before .before .before .before .before .before .before .before .args in
-    let k = c .before .before .before .before .before .before .before .before .before .before .before .keys-at in
-    let r = c .before .before .before .before .before .before .before .refs-at in
-    let t = c .before .before .before .states-at in
+returns c =
+    let p1 = c .before in
+    let p3 = p1 .before .before in
+    let p5 = p3 .before .before in
+    let p7 = p5 .before .before in
+    let p9 = p7 .before .before in
+    let p11 = p9 .before .before in
+    let a = p11 .before .before .args in
+    let m = a .m .now in
+    let k = p11 .keys-at in
+    let r = p7 .refs-at in
+    let t = p3 .states-at in
     record {
-      keys = copied-whole (s .m .now) (replicate {A = ℕ} 32 0) (k .result + s .i * 4) 32 (length-replicate {A = ℕ} 32 0) (c .before .before .before .before .before .before .before .before .before .copy-out .ensures)
-          ∙ ap (λ (z : ℕ). bytes (s .m .now) (z + s .i * 4) 32) (k .ensures);
-      refs = copied-whole (s .m .now) (replicate {A = ℕ} 16 0) (r .result + s .i * 2) 16 (length-replicate {A = ℕ} 16 0) (c .before .before .before .before .before .copy-out2 .ensures)
-          ∙ ap (λ (z : ℕ). bytes (s .m .now) (z + s .i * 2) 16) (r .ensures);
-      states = copied-whole (s .m .now) (replicate {A = ℕ} 8 0) (t .result + s .i) 8 (length-replicate {A = ℕ} 8 0) (c .before .copy-out3 .ensures)
-          ∙ ap (λ (z : ℕ). bytes (s .m .now) (z + s .i) 8) (t .ensures);
+      keys = copied-whole m (replicate {A = ℕ} 32 0) (k .result + a .i * 4) 32 (length-replicate {A = ℕ} 32 0) (p9 .copy-out .ensures)
+          ∙ ap (λ (z : ℕ). bytes m (z + a .i * 4) 32) (k .ensures);
+      refs = copied-whole m (replicate {A = ℕ} 16 0) (r .result + a .i * 2) 16 (length-replicate {A = ℕ} 16 0) (p5 .copy-out2 .ensures)
+          ∙ ap (λ (z : ℕ). bytes m (z + a .i * 2) 16) (r .ensures);
+      states = copied-whole m (replicate {A = ℕ} 8 0) (t .result + a .i) 8 (length-replicate {A = ℕ} 8 0) (p1 .copy-out3 .ensures)
+          ∙ ap (λ (z : ℕ). bytes m (z + a .i) 8) (t .ensures);
     }
 
 pub take-eight-spec : {M : Type 1} → statement M
