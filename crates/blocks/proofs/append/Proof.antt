@@ -13,62 +13,23 @@ use Rattle.blocks.proofs.append.Tie as tie
 put4-requires : tie.Need-put4-requires
 put4-requires c κs = let s = c .before .before in omega (arith, size-nine (s .args .r), s .pre .room, c .put4-arg)
 
-add-put4 : tie.Need-add-put4
-add-put4 c = search needs
-
 put4-requires-2 : tie.Need-put4-requires-2
 put4-requires-2 c κs = let s = c .before .before .before .before in omega (arith, size-nine (s .args .r), s .pre .room, c .put4-arg2)
 
-add-put1 : tie.Need-add-put1
-add-put1 c = search needs
-
-flags-of-requires : tie.Need-flags-of-requires
-flags-of-requires c κs = search needs
-
 put1-requires : tie.Need-put1-requires
 put1-requires c κs = let s = c .before .before .before .before .before .before .before in omega (arith, size-nine (s .args .r), s .pre .room, c .before .put1-arg)
-
-enum-told : tie.Need-enum-told
-enum-told c = search needs
-
-add-copy : tie.Need-add-copy
-add-copy c = search needs
 
 copy-requires : tie.Need-copy-requires
 copy-requires c κs = let s = c .before .before .before .before .before .before .before .before .before .before .before in
     (omega (arith, size-committed (s .args .r) (c .before .enum-told .given .1), s .pre .room, c .copy-arg), omega (arith, s .pre .inside))
 
-add-result : tie.Need-add-result
-add-result c = search needs
-
-add-result-2 : tie.Need-add-result-2
-add-result-2 c = search needs
-
-enum-told-2 : tie.Need-enum-told-2
-enum-told-2 c = search needs
-
-add-put4-2 : tie.Need-add-put4-2
-add-put4-2 c = search needs
-
-word-of-requires : tie.Need-word-of-requires
-word-of-requires c κs = search needs
-
 put4-requires-3 : tie.Need-put4-requires-3
 put4-requires-3 c κs = let s = c .before .before .before .before .before .before .before .before .before .before .before .before in
     omega (arith, size-tentative (s .args .r) (c .before .before .enum-told2 .given .1), s .pre .room, c .before .put4-arg3)
 
-add-copy-2 : tie.Need-add-copy-2
-add-copy-2 c = search needs
-
 copy-requires-2 : tie.Need-copy-requires-2
 copy-requires-2 c κs = let s = c .before .before .before .before .before .before .before .before .before .before .before .before .before .before in
     (omega (arith, size-tentative (s .args .r) (c .before .before .before .before .enum-told2 .given .1), s .pre .room, c .copy-arg2), omega (arith, s .pre .inside))
-
-add-result-3 : tie.Need-add-result-3
-add-result-3 c = search needs
-
-add-result-4 : tie.Need-add-result-4
-add-result-4 c = search needs
 
 returns : tie.Need-returns
 returns c = let p4 = c .before .before .before .before in
@@ -106,27 +67,6 @@ returns-2 c = let p7 = c .before .before .before .before .before .before .before
     )
 
 pub append-spec : {M : Type 1} → statement M
-append-spec =
-    tie.close
-    (tie.spec
-    put4-requires
-    add-put4
-    put4-requires-2
-    add-put1
-    flags-of-requires
-    put1-requires
-    enum-told
-    add-copy
-    copy-requires
-    add-result
-    add-result-2
-    enum-told-2
-    add-put4-2
-    word-of-requires
-    put4-requires-3
-    add-copy-2
-    copy-requires-2
-    add-result-3
-    add-result-4
-    returns
+append-spec = tie.close (tie.spec put4-requires (search needs) put4-requires-2 (search needs) (λ c κs. search needs) put1-requires (search needs) (search needs) copy-requires
+    (search needs) (search needs) (search needs) (search needs) (λ c κs. search needs) put4-requires-3 (search needs) copy-requires-2 (search needs) (search needs) returns
     returns-2)

@@ -50,18 +50,4 @@ returns c = let p = c .before .loop in
     p .inv .1 .1 ∙ rw e
 
 pub copy-spec : {M : Type 1} → statement M
-copy-spec =
-    tie.close
-    (tie.spec
-    Inv-loop
-    μ-loop
-    loop-holds
-    add-block
-    shared-slice-read-block
-    add-block-2
-    slice-write-block
-    add-i
-    loop-less
-    loop-again
-    same-length
-    returns)
+copy-spec = tie.close (tie.spec Inv-loop μ-loop loop-holds add-block shared-slice-read-block add-block-2 slice-write-block add-i loop-less loop-again same-length returns)

@@ -17,21 +17,9 @@ low-flags : (c : lts.Joined1 reads.Pre reads.Post) → c .if1 .flags ≡ markBit
 unfolding markBit
 low-flags c = ⊎-elim (λ w. omega (arith, ap markBit (w .0 .taken))) (λ w. omega (arith, ap markBit (w .0 .left))) (c .if1 .came)
 
-cast-flags : tie.Need-cast-flags
-cast-flags c = search needs
-
-add-flags : tie.Need-add-flags
-add-flags c = search needs
-
-enum-told : tie.Need-enum-told
-enum-told c = search needs
-
 add-result : tie.Need-add-result
 add-result c = let j = c .before .before .before in
     ⊎-elim (λ w. omega arith) (λ w. omega arith) (j .if1 .came)
-
-enum-told-2 : tie.Need-enum-told-2
-enum-told-2 c = search needs
 
 returns : tie.Need-returns
 unfolding flagsOf committedBit
@@ -44,4 +32,4 @@ returns-2 c = let j = c .before .before in
     omega (arith, low-flags j, ap (λ (o : Owner). committedBit (ownerIs o)) (c .enum-told2 .given .1))
 
 pub flags-of-spec : {M : Type 1} → statement M
-flags-of-spec = tie.close (tie.spec cast-flags add-flags enum-told add-result enum-told-2 returns returns-2)
+flags-of-spec = tie.close (tie.spec (search needs) (search needs) (search needs) add-result (search needs) returns returns-2)

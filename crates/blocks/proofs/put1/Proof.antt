@@ -5,14 +5,8 @@ use borrow.Author.Needs.{needs}
 use Rattle.blocks.proofs.put1.Statement.{statement}
 use Rattle.blocks.proofs.put1.Tie as tie
 
-slice-write-block : tie.Need-slice-write-block
-slice-write-block c = search needs
-
-same-length : tie.Need-same-length
-same-length c = search needs
-
 returns : tie.Need-returns
 returns c = set-over (c .args .block .now) (c .args .at) (c .args .v) (omega arith)
 
 pub put1-spec : {M : Type 1} → statement M
-put1-spec = tie.close (tie.spec slice-write-block same-length returns)
+put1-spec = tie.close (tie.spec (search needs) (search needs) returns)

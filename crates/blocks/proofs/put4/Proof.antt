@@ -7,41 +7,14 @@ use borrow.Author.Needs.{needs}
 use Rattle.blocks.proofs.put4.Statement.{statement}
 use Rattle.blocks.proofs.put4.Tie as tie
 
-low-requires : tie.Need-low-requires
-low-requires c κs = search needs
-
-slice-write-block : tie.Need-slice-write-block
-slice-write-block c = search needs
-
-low-requires-2 : tie.Need-low-requires-2
-low-requires-2 c κs = search needs
-
-add-block : tie.Need-add-block
-add-block c = search needs
-
 slice-write-block-2 : tie.Need-slice-write-block-2
 slice-write-block-2 c = simp length-set (omega arith)
-
-low-requires-3 : tie.Need-low-requires-3
-low-requires-3 c κs = search needs
-
-add-block-2 : tie.Need-add-block-2
-add-block-2 c = search needs
 
 slice-write-block-3 : tie.Need-slice-write-block-3
 slice-write-block-3 c = simp length-set (omega arith)
 
-low-requires-4 : tie.Need-low-requires-4
-low-requires-4 c κs = search needs
-
-add-block-3 : tie.Need-add-block-3
-add-block-3 c = search needs
-
 slice-write-block-4 : tie.Need-slice-write-block-4
 slice-write-block-4 c = simp length-set (omega arith)
-
-same-length : tie.Need-same-length
-same-length c = search needs
 
 returns : tie.Need-returns
 unfolding be4
@@ -50,19 +23,5 @@ returns c = let s = c .before .before .before .before .before in
     (put-four (s .args .block .now) (s .args .at) _ _ _ _ (omega arith))
 
 pub put4-spec : {M : Type 1} → statement M
-put4-spec =
-    tie.close
-    (tie.spec
-    low-requires
-    slice-write-block
-    low-requires-2
-    add-block
-    slice-write-block-2
-    low-requires-3
-    add-block-2
-    slice-write-block-3
-    low-requires-4
-    add-block-3
-    slice-write-block-4
-    same-length
-    returns)
+put4-spec = tie.close (tie.spec (λ c κs. search needs) (search needs) (λ c κs. search needs) (search needs) slice-write-block-2 (λ c κs. search needs) (search needs)
+    slice-write-block-3 (λ c κs. search needs) (search needs) slice-write-block-4 (search needs) returns)

@@ -88,24 +88,5 @@ returns c = let s = c .before .before .before .before .before .before .before .b
     dir-done (s .args .level) (s .args .count) (s .args .entries .now) (p .block) (s .pre .1 .0) (p .inv .1 .0) (p .inv .1 .1 .0) (rw e at (p .inv .1 .1 .1))
 
 pub spell-directory-spec : {M : Type 1} → statement M
-spell-directory-spec =
-    tie.close
-    (tie.spec
-    Inv-loop
-    μ-loop
-    put-bits-requires
-    put-bits-requires-2
-    put-bits-requires-3
-    put-bits-requires-4
-    loop-holds
-    mul-put-bits
-    add-put-bits
-    mul-big
-    shared-slice-read-big
-    big-requires
-    put-bits-requires-5
-    add-i
-    loop-less
-    loop-again
-    same-length
-    returns)
+spell-directory-spec = tie.close (tie.spec Inv-loop μ-loop put-bits-requires put-bits-requires-2 put-bits-requires-3 put-bits-requires-4 loop-holds mul-put-bits add-put-bits
+    mul-big shared-slice-read-big big-requires put-bits-requires-5 add-i loop-less loop-again same-length returns)

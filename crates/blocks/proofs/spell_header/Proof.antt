@@ -7,41 +7,8 @@ use borrow.Author.Needs.{needs}
 use Rattle.blocks.proofs.spell_header.Statement.{statement}
 use Rattle.blocks.proofs.spell_header.Tie as tie
 
-cast-t5 : tie.Need-cast-t5
-cast-t5 c = search needs
-
-cast-t6 : tie.Need-cast-t6
-cast-t6 c = search needs
-
-cast-t7 : tie.Need-cast-t7
-cast-t7 c = search needs
-
-cast-t8 : tie.Need-cast-t8
-cast-t8 c = search needs
-
-cast-t9 : tie.Need-cast-t9
-cast-t9 c = search needs
-
-cast-t10 : tie.Need-cast-t10
-cast-t10 c = search needs
-
-cast-t11 : tie.Need-cast-t11
-cast-t11 c = search needs
-
-cast-t12 : tie.Need-cast-t12
-cast-t12 c = search needs
-
-cast-t13 : tie.Need-cast-t13
-cast-t13 c = search needs
-
 cast-t14 : tie.Need-cast-t14
 cast-t14 c = omega (arith, c .struct-known10)
-
-slice-aggregate-put-fields : tie.Need-slice-aggregate-put-fields
-slice-aggregate-put-fields c = search needs
-
-slice-aggregate-put-fields-2 : tie.Need-slice-aggregate-put-fields-2
-slice-aggregate-put-fields-2 c = search needs
 
 put-fields-requires : tie.Need-put-fields-requires
 put-fields-requires c κs = let s = c .before .before .before .before .before .before .before .before .before .before .before .before .before .before in (
@@ -53,9 +20,6 @@ put-fields-requires c κs = let s = c .before .before .before .before .before .b
   refl,
 )
 
-same-length : tie.Need-same-length
-same-length c = search needs
-
 returns : tie.Need-returns
 unfolding encodeBlock
 returns c = let s = c .before .before .before .before .before .before .before .before .before .before .before .before .before .before .before .before .before in
@@ -63,21 +27,5 @@ returns c = let s = c .before .before .before .before .before .before .before .b
     whole-block (headerFields (s .args .h)) (s .args .block .now) (p .last .0) (s .pre .1) (omega arith) (omega (arith, p .kept, s .pre .0)) (λ j. omega (arith, c .slice-known2 .given j)) (p .ensures)
 
 pub spell-header-spec : {M : Type 1} → statement M
-spell-header-spec =
-    tie.close
-    (tie.spec
-    cast-t5
-    cast-t6
-    cast-t7
-    cast-t8
-    cast-t9
-    cast-t10
-    cast-t11
-    cast-t12
-    cast-t13
-    cast-t14
-    slice-aggregate-put-fields
-    slice-aggregate-put-fields-2
-    put-fields-requires
-    same-length
-    returns)
+spell-header-spec = tie.close (tie.spec (search needs) (search needs) (search needs) (search needs) (search needs) (search needs) (search needs) (search needs) (search needs)
+    cast-t14 (search needs) (search needs) put-fields-requires (search needs) returns)

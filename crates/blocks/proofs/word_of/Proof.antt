@@ -8,12 +8,6 @@ use Rattle.blocks.specs.declared.Owner.{Owner}
 use Rattle.blocks.proofs.word_of.Statement.{statement}
 use Rattle.blocks.proofs.word_of.Tie as tie
 
-enum-told : tie.Need-enum-told
-enum-told c = search needs
-
-enum-known-owner : tie.Need-enum-known-owner
-enum-known-owner c = search needs
-
 mul-result : tie.Need-mul-result
 mul-result c = let p = c .before in
     omega (arith, subst (λ (o : Owner). OwnerFits (ownerIs o)) (p .owner .given .1) (p .before .before .pre))
@@ -31,4 +25,4 @@ unfolding ownerWord
 returns-2 c = sym (ap (λ (o : Owner). ownerWord (ownerIs o)) (c .before .owner .given .1))
 
 pub word-of-spec : {M : Type 1} → statement M
-word-of-spec = tie.close (tie.spec enum-told enum-known-owner mul-result add-result returns returns-2)
+word-of-spec = tie.close (tie.spec (search needs) (search needs) mul-result add-result returns returns-2)

@@ -11,21 +11,6 @@ use borrow.Author.Needs.{needs}
 use Rattle.blocks.proofs.write_directory.Statement.{statement}
 use Rattle.blocks.proofs.write_directory.Tie as tie
 
-slice-aggregate-spell-directory : tie.Need-slice-aggregate-spell-directory
-slice-aggregate-spell-directory c = search needs
-
-spell-directory-requires : tie.Need-spell-directory-requires
-spell-directory-requires c κs = search needs
-
-slice-aggregate-copy : tie.Need-slice-aggregate-copy
-slice-aggregate-copy c = search needs
-
-copy-requires : tie.Need-copy-requires
-copy-requires c κs = search needs
-
-same-length : tie.Need-same-length
-same-length c = search needs
-
 returns : tie.Need-returns
 returns c = let s = c .before .before .before .before .before .before .before .before .before .before in
     let p = c .before .before .before .before .before .before .spell-directory in
@@ -34,12 +19,4 @@ returns c = let s = c .before .before .before .before .before .before .before .b
     out ∙ p .ensures ∙ ap (λ (k : List ℕ). encodeBlock (directory (s .args .level) k)) (take-all (length es) es (omega arith))
 
 pub write-directory-spec : {M : Type 1} → statement M
-write-directory-spec =
-    tie.close
-    (tie.spec
-    slice-aggregate-spell-directory
-    spell-directory-requires
-    slice-aggregate-copy
-    copy-requires
-    same-length
-    returns)
+write-directory-spec = tie.close (tie.spec (search needs) (λ c κs. search needs) (search needs) (λ c κs. search needs) (search needs) returns)

@@ -6,33 +6,10 @@ use borrow.Author.Needs.{needs}
 use Rattle.blocks.proofs.write_header.Statement.{statement}
 use Rattle.blocks.proofs.write_header.Tie as tie
 
-slice-aggregate-spell-header : tie.Need-slice-aggregate-spell-header
-slice-aggregate-spell-header c = search needs
-
-spell-header-requires : tie.Need-spell-header-requires
-spell-header-requires c κs = search needs
-
-slice-aggregate-copy : tie.Need-slice-aggregate-copy
-slice-aggregate-copy c = search needs
-
-copy-requires : tie.Need-copy-requires
-copy-requires c κs = search needs
-
-same-length : tie.Need-same-length
-same-length c = search needs
-
 returns : tie.Need-returns
 returns c = let s = c .before .before .before .before .before .before .before .before .before in
     let p = c .before .before .before .before .before .before .spell-header in
     c .before .before .copy .ensures ∙ over-whole (s .args .out .now) (p .last .0) 512 (s .pre) (omega arith) ∙ p .ensures
 
 pub write-header-spec : {M : Type 1} → statement M
-write-header-spec =
-    tie.close
-    (tie.spec
-    slice-aggregate-spell-header
-    spell-header-requires
-    slice-aggregate-copy
-    copy-requires
-    same-length
-    returns)
+write-header-spec = tie.close (tie.spec (search needs) (λ c κs. search needs) (search needs) (λ c κs. search needs) (search needs) returns)

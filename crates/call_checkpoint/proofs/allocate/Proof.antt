@@ -8,15 +8,6 @@ use Rattle.call_checkpoint.proofs.Tallies.{alloc-up, alloc-round, alloc
 use Rattle.call_checkpoint.proofs.allocate.Statement.{statement}
 use Rattle.call_checkpoint.proofs.allocate.Tie as tie
 
-get-head-requires : tie.Need-get-head-requires
-get-head-requires c κs = search needs
-
-cast-n : tie.Need-cast-n
-cast-n c = search needs
-
-add-first-free : tie.Need-add-first-free
-add-first-free c = search needs
-
 first-free-requires : tie.Need-first-free-requires
 first-free-requires c κs = let p = c .before .before .before in
     let r = p .pre .0 .range in
@@ -30,9 +21,6 @@ returns c = let p = c .before .before .before .before .before in
     let eb = ap (λ (h : Head). h .blocks) e in
     let q = up-from f e (c .before .first-free .ensures .0) (omega (arith, p .pre .1)) in
     (q ∙ alloc-up f (p .pre .0 .range .taken) (omega (arith, q, c .if1 .taken)), omega (arith, c .if1 .taken))
-
-add-first-free-2 : tie.Need-add-first-free-2
-add-first-free-2 c = search needs
 
 first-free-requires-2 : tie.Need-first-free-requires-2
 first-free-requires-2 c κs = let p = c .before .before .before .before .before in
@@ -70,16 +58,5 @@ returns-3 c =
     (omega (arith, alloc-none f (r .taken) (omega (arith, q, c .before .before .if1 .left)) (omega (arith, w, c .if2 .left, p .pre .1))), omega (arith, r .few))
 
 pub allocate-spec : {M : Type 1} → statement M
-allocate-spec =
-    tie.close
-    (tie.spec
-    get-head-requires
-    cast-n
-    add-first-free
-    first-free-requires
-    returns
-    add-first-free-2
-    first-free-requires-2
-    returns-2
-    sub-result
+allocate-spec = tie.close (tie.spec (λ c κs. search needs) (search needs) (search needs) first-free-requires returns (search needs) first-free-requires-2 returns-2 sub-result
     returns-3)

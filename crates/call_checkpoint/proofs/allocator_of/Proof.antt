@@ -12,11 +12,8 @@ use Rattle.call_checkpoint.proofs.allocator_of.Tie as tie
 get-head-requires : tie.Need-get-head-requires
 get-head-requires c κs = omega (arith, holds-room _ (c .before .pre .0 .held) .range .long)
 
-left-requires : tie.Need-left-requires
-left-requires c κs = search needs
-
 returns : tie.Need-returns
 returns c = allocator-is (flatOf (c .before .before .before .args .m .now)) _ _ (ap (λ (h : Head). h .taken) (c .before .get-head .ensures)) (c .left .ensures)
 
 pub allocator-of-spec : {M : Type 1} → statement M
-allocator-of-spec = tie.close (tie.spec get-head-requires left-requires returns)
+allocator-of-spec = tie.close (tie.spec get-head-requires (λ c κs. search needs) returns)

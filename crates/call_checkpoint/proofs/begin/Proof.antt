@@ -46,20 +46,11 @@ level-is c = ap (λ (h : Head). h .level) (c .before .before .get-head .ensures)
 low : (c : tie.Else3) → flatOf (memory (holds (rests c))) .head .level ≡ 4294967295 → ⊥
 low c z = c .if3 .left (level-is c ∙ z)
 
-holds-store-requires : tie.Need-holds-store-requires
-holds-store-requires c κs = search needs
-
-same-length : tie.Need-same-length
-same-length c = search needs
-
 returns : tie.Need-returns
 returns c = answers-4 beginCall (c .before .before .before .before .args .m .now) (sym (c .before .holds-store .ensures) ∙ not-true _ (c .if1 .taken))
 
 is-running-requires : tie.Need-is-running-requires
 is-running-requires c κs = sizes (holds-room _ (held (c .before))) .long
-
-same-length-2 : tie.Need-same-length-2
-same-length-2 c = search needs
 
 returns-2 : tie.Need-returns-2
 returns-2 c =
@@ -68,9 +59,6 @@ returns-2 c =
 
 get-head-requires : tie.Need-get-head-requires
 get-head-requires c κs = sizes (holds-room _ (held (holds (c .before)))) .long
-
-same-length-3 : tie.Need-same-length-3
-same-length-3 c = search needs
 
 returns-3 : tie.Need-returns-3
 returns-3 c =
@@ -84,9 +72,6 @@ blocks-needed-requires c κs = held (holds (rests (c .before)))
 enough-free-requires : tie.Need-enough-free-requires
 enough-free-requires c κs = holds-room _ (held (holds (rests (c .before .before .before))))
 
-same-length-4 : tie.Need-same-length-4
-same-length-4 c = search needs
-
 returns-4 : tie.Need-returns-4
 returns-4 c =
     let n = c .before .before .before .blocks-needed in
@@ -97,12 +82,6 @@ returns-4 c =
 
 start-requires : tie.Need-start-requires
 start-requires c κs = let e = c .before .before .before .before .before .before in (held (holds (rests e)), omega (arith, level-is e, e .if3 .left))
-
-add-t21 : tie.Need-add-t21
-add-t21 c = search needs
-
-same-length-5 : tie.Need-same-length-5
-same-length-5 c = search needs
 
 returns-5 : tie.Need-returns-5
 returns-5 c =
@@ -117,23 +96,5 @@ returns-5 c =
     (c .before .before .start .ensures)
 
 pub begin-spec : {M : Type 1} → statement M
-begin-spec =
-    tie.close
-    (tie.spec
-    holds-store-requires
-    same-length
-    returns
-    is-running-requires
-    same-length-2
-    returns-2
-    get-head-requires
-    same-length-3
-    returns-3
-    blocks-needed-requires
-    enough-free-requires
-    same-length-4
-    returns-4
-    start-requires
-    add-t21
-    same-length-5
-    returns-5)
+begin-spec = tie.close (tie.spec (λ c κs. search needs) (search needs) returns is-running-requires (search needs) returns-2 get-head-requires (search needs) returns-3
+    blocks-needed-requires enough-free-requires (search needs) returns-4 start-requires (search needs) (search needs) returns-5)

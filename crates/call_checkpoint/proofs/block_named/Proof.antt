@@ -10,20 +10,11 @@ use Rattle.call_checkpoint.proofs.Leaving.{named-count, page-block, dir
 use Rattle.call_checkpoint.proofs.block_named.Statement.{statement}
 use Rattle.call_checkpoint.proofs.block_named.Tie as tie
 
-get-counts-requires : tie.Need-get-counts-requires
-get-counts-requires c κs = search needs
-
-cast-n : tie.Need-cast-n
-cast-n c = search needs
-
 get-named-requires : tie.Need-get-named-requires
 get-named-requires c κs =
     let k = c .before .before in
     let st = k .before .before in
     (st .pre .0, omega (arith, c .if1 .taken, named-read (st .args .m .now) (k .get-counts .ensures)))
-
-cast-result : tie.Need-cast-result
-cast-result c = search needs
 
 returns : tie.Need-returns
 returns c =
@@ -43,9 +34,6 @@ get-directory-requires c κs =
     let m = st .args .m .now in
     (st .pre .0, omega (arith, c .if1 .left, named-read m (k .get-counts .ensures), st .pre .1, named-count (flatOf m)))
 
-cast-result-2 : tie.Need-cast-result-2
-cast-result-2 c = search needs
-
 returns-2 : tie.Need-returns-2
 returns-2 c =
     let k = c .before .before .before in
@@ -60,14 +48,4 @@ returns-2 c =
     )
 
 pub block-named-spec : {M : Type 1} → statement M
-block-named-spec =
-    tie.close
-    (tie.spec
-    get-counts-requires
-    cast-n
-    get-named-requires
-    cast-result
-    returns
-    get-directory-requires
-    cast-result-2
-    returns-2)
+block-named-spec = tie.close (tie.spec (λ c κs. search needs) (search needs) get-named-requires (search needs) returns get-directory-requires (search needs) returns-2)

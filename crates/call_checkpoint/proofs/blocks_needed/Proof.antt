@@ -15,9 +15,6 @@ get-counts-requires c κs = sizes (holds-room _ (c .before .pre)) .long
 count-dirty-requires : tie.Need-count-dirty-requires
 count-dirty-requires c κs = holds-room _ (c .before .before .pre)
 
-cast-directories-for : tie.Need-cast-directories-for
-cast-directories-for c = search needs
-
 directories-for-requires : tie.Need-directories-for-requires
 directories-for-requires c κs =
     let k = c .before .before in
@@ -41,12 +38,4 @@ returns c =
     (omega (arith, c .directories-for .ensures .0, d, e, needed-is (flatOf m)), omega (arith, c .directories-for .ensures .1, d, dirty-few (flatOf m), pages-most m (st .pre)))
 
 pub blocks-needed-spec : {M : Type 1} → statement M
-blocks-needed-spec =
-    tie.close
-    (tie.spec
-    get-counts-requires
-    count-dirty-requires
-    cast-directories-for
-    directories-for-requires
-    add-result
-    returns)
+blocks-needed-spec = tie.close (tie.spec get-counts-requires count-dirty-requires (search needs) directories-for-requires add-result returns)

@@ -7,19 +7,10 @@ use Rattle.call_checkpoint.proofs.Tallies.{sizes, named-read, directori
 use Rattle.call_checkpoint.proofs.directories_left.Statement.{statement}
 use Rattle.call_checkpoint.proofs.directories_left.Tie as tie
 
-get-counts-requires : tie.Need-get-counts-requires
-get-counts-requires c κs = search needs
-
-cast-directories-for : tie.Need-cast-directories-for
-cast-directories-for c = search needs
-
 directories-for-requires : tie.Need-directories-for-requires
 directories-for-requires c κs =
     let st = c .before .before .before in
     omega (arith, sizes (st .pre), named-read (st .args .m .now) (c .before .get-counts .ensures))
-
-cast-w : tie.Need-cast-w
-cast-w c = search needs
 
 returns : tie.Need-returns
 returns c =
@@ -38,12 +29,4 @@ returns-2 c =
     (omega (arith, d .directories-for .ensures .0, e, directories-read m (k .get-counts .ensures), c .if1 .left), omega (arith, d .directories-for .ensures .1))
 
 pub directories-left-spec : {M : Type 1} → statement M
-directories-left-spec =
-    tie.close
-    (tie.spec
-    get-counts-requires
-    cast-directories-for
-    directories-for-requires
-    cast-w
-    returns
-    returns-2)
+directories-left-spec = tie.close (tie.spec (λ c κs. search needs) (search needs) directories-for-requires (search needs) returns returns-2)

@@ -98,19 +98,4 @@ returns-2 c =
     ap (leb (st .args .need)) e
 
 pub enough-free-spec : {M : Type 1} → statement M
-enough-free-spec =
-    tie.close
-    (tie.spec
-    Inv-loop
-    μ-loop
-    get-head-requires
-    cast-n
-    loop-holds
-    returns
-    is-used-requires
-    one-if-requires
-    add-k
-    add-b
-    loop-less
-    loop-again
-    returns-2)
+enough-free-spec = tie.close (tie.spec Inv-loop μ-loop get-head-requires cast-n loop-holds returns is-used-requires one-if-requires add-k add-b loop-less loop-again returns-2)

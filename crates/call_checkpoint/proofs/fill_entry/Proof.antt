@@ -6,18 +6,6 @@ use Rattle.call_checkpoint.proofs.Leaving.{fills-none, fills-at}
 use Rattle.call_checkpoint.proofs.fill_entry.Statement.{statement}
 use Rattle.call_checkpoint.proofs.fill_entry.Tie as tie
 
-get-counts-requires : tie.Need-get-counts-requires
-get-counts-requires c κs = search needs
-
-cast-n : tie.Need-cast-n
-cast-n c = search needs
-
-first-unnamed-requires : tie.Need-first-unnamed-requires
-first-unnamed-requires c κs = search needs
-
-same-length : tie.Need-same-length
-same-length c = search needs
-
 returns : tie.Need-returns
 returns c =
     let f = c .before in
@@ -31,9 +19,6 @@ put-named-requires c κs =
     let st = k .before .before .before in
     (st .pre .0, (omega (arith, c .before .if1 .left, named-read (st .args .m .now) (k .get-counts .ensures)), st .pre .1))
 
-same-length-2 : tie.Need-same-length-2
-same-length-2 c = search needs
-
 returns-2 : tie.Need-returns-2
 returns-2 c =
     let i = c .before .before .before .before in
@@ -43,14 +28,4 @@ returns-2 c =
     fills-at (st .args .b) _ (f .first-unnamed .ensures) (omega (arith, i .if1 .left, named-read (st .args .m .now) (k .get-counts .ensures))) (c .before .before .put-named .ensures)
 
 pub fill-entry-spec : {M : Type 1} → statement M
-fill-entry-spec =
-    tie.close
-    (tie.spec
-    get-counts-requires
-    cast-n
-    first-unnamed-requires
-    same-length
-    returns
-    put-named-requires
-    same-length-2
-    returns-2)
+fill-entry-spec = tie.close (tie.spec (λ c κs. search needs) (search needs) (λ c κs. search needs) (search needs) returns put-named-requires (search needs) returns-2)

@@ -43,15 +43,4 @@ returns-2 : tie.Need-returns-2 Inv-loop μ-loop
 returns-2 c = (sym (c .before .loop .inv .1 .1 ∙ free-end (flatOf (c .before .before .before .args .m .now) .used) _ _ (c .loop-test .left)), omega arith)
 
 pub first-free-spec : {M : Type 1} → statement M
-first-free-spec =
-    tie.close
-    (tie.spec
-    Inv-loop
-    μ-loop
-    loop-holds
-    is-used-requires
-    returns
-    add-b
-    loop-less
-    loop-again
-    returns-2)
+first-free-spec = tie.close (tie.spec Inv-loop μ-loop loop-holds is-used-requires returns add-b loop-less loop-again returns-2)

@@ -52,18 +52,5 @@ returns-2 : tie.Need-returns-2 Inv-loop μ-loop
 returns-2 c = let l = c .before .loop in l .inv .0 ∙ named-end (l .inv .1) (omega (arith, l .inv .0, c .loop-test .left))
 
 pub first-unnamed-spec : {M : Type 1} → statement M
-first-unnamed-spec =
-    tie.close
-    (tie.spec
-    Inv-loop
-    μ-loop
-    get-counts-requires
-    cast-n
-    named-fours-requires
-    loop-holds
-    get-named-requires
-    returns
-    add-i
-    loop-less
-    loop-again
+first-unnamed-spec = tie.close (tie.spec Inv-loop μ-loop get-counts-requires cast-n named-fours-requires loop-holds get-named-requires returns add-i loop-less loop-again
     returns-2)

@@ -8,26 +8,14 @@ use Rattle.call_checkpoint.proofs.Tallies.{sizes}
 use Rattle.call_checkpoint.proofs.four_named.Statement.{statement}
 use Rattle.call_checkpoint.proofs.four_named.Tie as tie
 
-get-named-requires : tie.Need-get-named-requires
-get-named-requires c κs = search needs
-
 add-get-named : tie.Need-add-get-named
 add-get-named c = let p = c .before .before .pre in omega (arith, p .1, sizes (p .0))
-
-get-named-requires-2 : tie.Need-get-named-requires-2
-get-named-requires-2 c κs = search needs
 
 add-get-named-2 : tie.Need-add-get-named-2
 add-get-named-2 c = let p = c .before .before .before .pre in omega (arith, p .1, sizes (p .0))
 
-get-named-requires-3 : tie.Need-get-named-requires-3
-get-named-requires-3 c κs = search needs
-
 add-get-named-3 : tie.Need-add-get-named-3
 add-get-named-3 c = let p = c .before .before .before .before .pre in omega (arith, p .1, sizes (p .0))
-
-get-named-requires-4 : tie.Need-get-named-requires-4
-get-named-requires-4 c κs = search needs
 
 returns : tie.Need-returns
 unfolding fourNamed isNamed all
@@ -35,14 +23,5 @@ returns c =
     rw (c .before .before .before .get-named .ensures, c .before .before .get-named2 .ensures, c .before .get-named3 .ensures, c .get-named4 .ensures) (simp (and-assoc, and-yes))
 
 pub four-named-spec : {M : Type 1} → statement M
-four-named-spec =
-    tie.close
-    (tie.spec
-    get-named-requires
-    add-get-named
-    get-named-requires-2
-    add-get-named-2
-    get-named-requires-3
-    add-get-named-3
-    get-named-requires-4
+four-named-spec = tie.close (tie.spec (λ c κs. search needs) add-get-named (λ c κs. search needs) add-get-named-2 (λ c κs. search needs) add-get-named-3 (λ c κs. search needs)
     returns)

@@ -12,9 +12,6 @@ use Rattle.call_checkpoint.proofs.Tallies.{not-on, runs-on, last-level}
 use Rattle.call_checkpoint.proofs.is_running.Statement.{statement}
 use Rattle.call_checkpoint.proofs.is_running.Tie as tie
 
-get-head-requires : tie.Need-get-head-requires
-get-head-requires c κs = search needs
-
 returns : tie.Need-returns
 returns c = not-on (flatOf (c .before .before .before .before .args .m .now)) (ap (λ (h : Head). h .running) (sym (c .before .before .get-head .ensures)) ∙ not-true _ (c .if1 .taken))
 
@@ -27,4 +24,4 @@ returns-2 c = let f = flatOf (c .before .before .before .before .before .args .m
     (λ t. t ∙ last-level f on (omega (arith, ltb-false (c .before .before .before .get-head .result .level) 4294967295 t, ap (λ (h : Head). h .level) e)))
 
 pub is-running-spec : {M : Type 1} → statement M
-is-running-spec = tie.close (tie.spec get-head-requires returns returns-2)
+is-running-spec = tie.close (tie.spec (λ c κs. search needs) returns returns-2)

@@ -18,9 +18,6 @@ push-directory-requires c κs =
     let p = c .before .before .before .before .before .before .pre in
     (b .room, (omega (arith, p .1 .1, ap (λ (f : Flat). length (f .directories)) (b .flat)), omega (arith, p .1 .0, holds-room _ (p .0 .held) .range .many)))
 
-same-length : tie.Need-same-length
-same-length c = search needs
-
 returns : tie.Need-returns
 returns c =
     let t = c .before .before .before .before .before .before in
@@ -28,6 +25,4 @@ returns c =
     directory-leads (st .args .b) (st .pre .0) (t .take-block .ensures) (c .before .before .push-directory .ensures)
 
 pub keep-directory-spec : {M : Type 1} → statement M
-keep-directory-spec =
-    tie.close
-    (tie.spec take-block-requires push-directory-requires same-length returns)
+keep-directory-spec = tie.close (tie.spec take-block-requires push-directory-requires (search needs) returns)

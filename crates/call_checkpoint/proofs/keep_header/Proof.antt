@@ -12,12 +12,6 @@ use Rattle.call_checkpoint.proofs.keep_header.Tie as tie
 clear-used-requires : tie.Need-clear-used-requires
 clear-used-requires c κs = holds-room _ (c .before .before .pre .held)
 
-mark-named-requires : tie.Need-mark-named-requires
-mark-named-requires c κs = search needs
-
-get-head-requires : tie.Need-get-head-requires
-get-head-requires c κs = search needs
-
 add-h : tie.Need-add-h
 add-h c =
     let k = c .before .before .before .before .before in
@@ -30,9 +24,6 @@ put-head-requires c κs =
     let r = c .before .before .before .before .before .before .mark-named .ensures .becomes .room in
     (r, head-replaces _ (g .result) _ r (g .ensures) refl refl (taken-low _ (g .result) r (g .ensures)))
 
-same-length : tie.Need-same-length
-same-length c = search needs
-
 returns : tie.Need-returns
 returns c =
     let g = c .before .before .before .before .before .get-head in
@@ -41,13 +32,4 @@ returns c =
     header-leads (u .before .before .before .pre) (u .clear-used .ensures) (k .mark-named .ensures) (g .result) (g .ensures) _ (c .before .before .put-head .ensures)
 
 pub keep-header-spec : {M : Type 1} → statement M
-keep-header-spec =
-    tie.close
-    (tie.spec
-    clear-used-requires
-    mark-named-requires
-    get-head-requires
-    add-h
-    put-head-requires
-    same-length
-    returns)
+keep-header-spec = tie.close (tie.spec clear-used-requires (λ c κs. search needs) (λ c κs. search needs) add-h put-head-requires (search needs) returns)

@@ -32,9 +32,6 @@ thaw-requires c κs =
     let p = t .before .before .before .pre in
     (still-first _ (p .0) (t .take-block .ensures) (f .fill-entry .ensures) (p .1 .1), omega (arith, p .1 .0, holds-room _ (p .0 .held) .range .many))
 
-same-length : tie.Need-same-length
-same-length c = search needs
-
 returns : tie.Need-returns
 returns c =
     let f = c .before .before .before .before .before .before in
@@ -42,13 +39,4 @@ returns c =
     page-leads _ (t .before .before .before .pre .0) (t .take-block .ensures) (f .fill-entry .ensures) (c .before .before .thaw .ensures)
 
 pub keep-page-spec : {M : Type 1} → statement M
-keep-page-spec =
-    tie.close
-    (tie.spec
-    take-block-requires
-    cast-fill-entry
-    fill-entry-requires
-    cast-thaw
-    thaw-requires
-    same-length
-    returns)
+keep-page-spec = tie.close (tie.spec take-block-requires cast-fill-entry fill-entry-requires cast-thaw thaw-requires (search needs) returns)

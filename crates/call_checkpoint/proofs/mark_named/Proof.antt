@@ -66,20 +66,5 @@ returns : tie.Need-returns Inv-loop μ-loop
 returns c = marking-end (c .before .loop .inv) (c .loop-test .left)
 
 pub mark-named-spec : {M : Type 1} → statement M
-mark-named-spec =
-    tie.close
-    (tie.spec
-    Inv-loop
-    μ-loop
-    get-counts-requires
-    cast-n
-    cast-n-2
-    add-n
-    loop-holds
-    block-named-requires
-    mark-used-requires
-    add-i
-    loop-less
-    loop-again
-    same-length
-    returns)
+mark-named-spec = tie.close (tie.spec Inv-loop μ-loop get-counts-requires cast-n cast-n-2 add-n loop-holds block-named-requires mark-used-requires add-i loop-less loop-again
+    same-length returns)

@@ -60,18 +60,4 @@ returns : tie.Need-returns Inv-loop μ-loop
 returns c = naming-end (c .before .loop .inv) (c .loop-test .left)
 
 pub name-pages-spec : {M : Type 1} → statement M
-name-pages-spec =
-    tie.close
-    (tie.spec
-    Inv-loop
-    μ-loop
-    get-counts-requires
-    cast-n
-    loop-holds
-    block-at-requires
-    push-named-requires
-    add-p
-    loop-less
-    loop-again
-    same-length
-    returns)
+name-pages-spec = tie.close (tie.spec Inv-loop μ-loop get-counts-requires cast-n loop-holds block-at-requires push-named-requires add-p loop-less loop-again same-length returns)

@@ -41,16 +41,4 @@ returns-2 : tie.Need-returns-2 Inv-loop μ-loop
 returns-2 c = c .before .loop .inv
 
 pub named-fours-spec : {M : Type 1} → statement M
-named-fours-spec =
-    tie.close
-    (tie.spec
-    Inv-loop
-    μ-loop
-    loop-holds
-    add-loop
-    four-named-requires
-    returns
-    add-i
-    loop-less
-    loop-again
-    returns-2)
+named-fours-spec = tie.close (tie.spec Inv-loop μ-loop loop-holds add-loop four-named-requires returns add-i loop-less loop-again returns-2)

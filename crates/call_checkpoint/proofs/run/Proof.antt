@@ -78,22 +78,5 @@ returns-2 c = let passed = c .before .before .before .before .before .before in
     repeats-end (c .before .loop .inv) (c .loop-test .left) limit (ready passed) (c .before .before .smaller .ensures ∙ ap (min limit) (c .before .before .before .left .ensures)) _ (omega arith)
 
 pub run-spec : {M : Type 1} → statement M
-run-spec =
-    tie.close
-    (tie.spec
-    Inv-loop
-    μ-loop
-    step-refusal-requires
-    same-length
-    returns
-    count-frozen-requires
-    left-requires
-    smaller-requires
-    loop-holds
-    step-requires
-    sub-n
-    loop-less
-    loop-again
-    same-length-2
-    same-length-3
-    returns-2)
+run-spec = tie.close (tie.spec Inv-loop μ-loop step-refusal-requires same-length returns count-frozen-requires left-requires smaller-requires loop-holds step-requires sub-n
+    loop-less loop-again same-length-2 same-length-3 returns-2)

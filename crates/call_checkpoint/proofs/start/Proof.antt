@@ -16,12 +16,6 @@ name-pages-requires c κs =
     let b = n .clear-named .ensures in
     (held-still (n .before .before .before .pre .0) b refl, ap (λ (f : Flat). f .named) (b .flat))
 
-clear-directories-requires : tie.Need-clear-directories-requires
-clear-directories-requires c κs = search needs
-
-get-head-requires : tie.Need-get-head-requires
-get-head-requires c κs = search needs
-
 put-head-requires : tie.Need-put-head-requires
 put-head-requires c κs =
     let g = c .before .get-head in
@@ -37,9 +31,6 @@ freeze-requires c κs =
     begin-held (n .before .before .before .pre .0) (n .clear-named .ensures) (l .name-pages .ensures) (d .clear-directories .ensures) (g .result) (g .ensures)
     (c .before .before .before .put-head .ensures)
 
-same-length : tie.Need-same-length
-same-length c = search needs
-
 returns : tie.Need-returns
 returns c =
     let g = c .before .before .before .before .before .before .before .before .get-head in
@@ -51,14 +42,4 @@ returns c =
     (c .before .before .before .before .before .before .put-head .ensures) (st .pre .1) (c .before .before .freeze .ensures)
 
 pub start-spec : {M : Type 1} → statement M
-start-spec =
-    tie.close
-    (tie.spec
-    clear-named-requires
-    name-pages-requires
-    clear-directories-requires
-    get-head-requires
-    put-head-requires
-    freeze-requires
-    same-length
-    returns)
+start-spec = tie.close (tie.spec clear-named-requires name-pages-requires (λ c κs. search needs) (λ c κs. search needs) put-head-requires freeze-requires (search needs) returns)

@@ -18,12 +18,6 @@ began c = c .before .before .before .before .before
 ready : (c : tie.Else1) → Ready (began c .args .image .now) (began c .args .m .now)
 ready c = let p = began c .args in passed-ready (p .image .now) (p .m .now) _ (c .before .step-refusal .ensures) (c .if1 .left)
 
-step-refusal-requires : tie.Need-step-refusal-requires
-step-refusal-requires c κs = search needs
-
-same-length : tie.Need-same-length
-same-length c = search needs
-
 returns : tie.Need-returns
 returns c = let p = c .before .before .before .before .before .args in
     let img : List ℕ = p .image .now in
@@ -32,12 +26,6 @@ returns c = let p = c .before .before .before .before .before .args in
 store-next-requires : tie.Need-store-next-requires
 store-next-requires c κs = ready (c .before .before)
 
-same-length-2 : tie.Need-same-length-2
-same-length-2 c = search needs
-
-same-length-3 : tie.Need-same-length-3
-same-length-3 c = search needs
-
 returns-2 : tie.Need-returns-2
 returns-2 c = let passed = c .before .before .before .before .before .before .before in
     let p = began passed .args in
@@ -45,5 +33,4 @@ returns-2 c = let passed = c .before .before .before .before .before .before .be
     step-done (p .image .now) (p .m .now) _ _ _ (ready passed) (d .0) (omega (arith, left-is _ _ (d .1)))
 
 pub step-spec : {M : Type 1} → statement M
-step-spec =
-    tie.close (tie.spec step-refusal-requires same-length returns store-next-requires same-length-2 same-length-3 returns-2)
+step-spec = tie.close (tie.spec (λ c κs. search needs) (search needs) returns store-next-requires (search needs) (search needs) returns-2)

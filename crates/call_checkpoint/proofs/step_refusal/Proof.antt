@@ -30,20 +30,11 @@ holds c = c .before .before .before
 long : (c : tie.Else2) → began (holds c) .args .len ≡ 512 * flatOf (memory (holds c)) .head .blocks
 long c = c .if2 .left ∙ ap (λ (h : Head). 512 * h .blocks) (c .before .before .get-head .ensures)
 
-holds-store-requires : tie.Need-holds-store-requires
-holds-store-requires c κs = search needs
-
 returns : tie.Need-returns
 returns c = let a = c .before .before .before .args in refusal-4 (a .len) (a .m .now) (sym (c .before .holds-store .ensures) ∙ not-true _ (c .if1 .taken))
 
 get-head-requires : tie.Need-get-head-requires
 get-head-requires c κs = sizes (holds-room _ (held c)) .long
-
-cast-n : tie.Need-cast-n
-cast-n c = search needs
-
-mul-if2 : tie.Need-mul-if2
-mul-if2 c = search needs
 
 returns-2 : tie.Need-returns-2
 returns-2 c =
@@ -66,15 +57,4 @@ returns-4 c =
     refusal-none (began h .args .len) (memory h) (held h) (long e) (sym (c .before .is-running .ensures) ∙ not-false _ (c .if3 .left))
 
 pub step-refusal-spec : {M : Type 1} → statement M
-step-refusal-spec =
-    tie.close
-    (tie.spec
-    holds-store-requires
-    returns
-    get-head-requires
-    cast-n
-    mul-if2
-    returns-2
-    is-running-requires
-    returns-3
-    returns-4)
+step-refusal-spec = tie.close (tie.spec (λ c κs. search needs) returns get-head-requires (search needs) (search needs) returns-2 is-running-requires returns-3 returns-4)

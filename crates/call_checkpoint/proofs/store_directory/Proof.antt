@@ -24,24 +24,6 @@ get-counts-requires c κs = sizes (holds-room _ (c .before .before .before .befo
 allocate-requires : tie.Need-allocate-requires
 allocate-requires c κs = let st = c .before .before .before .before .before .before .before in (holds-room _ (st .pre .0 .runs .held), taken-is (flatOf (st .args .m .now)) _ (st .pre .1 .1 .1))
 
-mul-a : tie.Need-mul-a
-mul-a c = search needs
-
-add-end : tie.Need-add-end
-add-end c = search needs
-
-cast-k : tie.Need-cast-k
-cast-k c = search needs
-
-sub-write-directory : tie.Need-sub-write-directory
-sub-write-directory c = search needs
-
-part-write-directory-start : tie.Need-part-write-directory-start
-part-write-directory-start c = search needs
-
-part-write-directory-end : tie.Need-part-write-directory-end
-part-write-directory-end c = search needs
-
 add-write-directory : tie.Need-add-write-directory
 add-write-directory c =
     let g = c .before .before .before .before .before .before .before .before in
@@ -75,12 +57,6 @@ keep-directory-requires c κs =
     let t = ap (λ (x : Allocator). x .taken) (c .before .taken-by .ensures) in
     (p .0 .runs, (omega (arith, t, b .allocate .ensures .1), omega (arith, p .1 .1 .0, sizes (holds-room _ (p .0 .runs .held)))))
 
-same-length : tie.Need-same-length
-same-length c = search needs
-
-same-length-2 : tie.Need-same-length-2
-same-length-2 c = search needs
-
 returns : tie.Need-returns
 returns c =
     let b = c .before .before .before .before .before .before .before .before .before .before .before .before .allocate in
@@ -95,23 +71,5 @@ returns c =
     (c .before .before .before .before .before .before .before .write-directory .ensures) (back-is (st .args .image .now) _ (b .result)))
 
 pub store-directory-spec : {M : Type 1} → statement M
-store-directory-spec =
-    tie.close
-    (tie.spec
-    get-head-requires
-    get-counts-requires
-    allocate-requires
-    mul-a
-    add-end
-    cast-k
-    sub-write-directory
-    part-write-directory-start
-    part-write-directory-end
-    add-write-directory
-    write-directory-requires
-    cast-taken-by
-    taken-by-requires
-    keep-directory-requires
-    same-length
-    same-length-2
-    returns)
+store-directory-spec = tie.close (tie.spec get-head-requires get-counts-requires allocate-requires (search needs) (search needs) (search needs) (search needs) (search needs)
+    (search needs) add-write-directory write-directory-requires cast-taken-by taken-by-requires keep-directory-requires (search needs) (search needs) returns)

@@ -9,12 +9,6 @@ use Rattle.call_checkpoint.proofs.Tallies.{sizes, running-is}
 use Rattle.call_checkpoint.proofs.store_header.Statement.{statement}
 use Rattle.call_checkpoint.proofs.store_header.Tie as tie
 
-sub-write-header : tie.Need-sub-write-header
-sub-write-header c = search needs
-
-part-write-header-start : tie.Need-part-write-header-start
-part-write-header-start c = search needs
-
 part-write-header-end : tie.Need-part-write-header-end
 part-write-header-end c = let p = c .before .before .pre .0 in omega (arith, p .long, sizes (holds-room _ (p .runs .held)))
 
@@ -24,18 +18,6 @@ write-header-requires c κs =
     let p = st .pre .0 in
     let r = holds-room _ (p .runs .held) in
     (r, (running-is _ (p .runs .on) .1, omega (arith, p .long, sizes r, length-take 512 (st .args .image .now))))
-
-keep-header-requires : tie.Need-keep-header-requires
-keep-header-requires c κs = search needs
-
-landed-requires : tie.Need-landed-requires
-landed-requires c κs = search needs
-
-same-length : tie.Need-same-length
-same-length c = search needs
-
-same-length-2 : tie.Need-same-length-2
-same-length-2 c = search needs
 
 returns : tie.Need-returns
 returns c =
@@ -48,15 +30,5 @@ returns c =
     )
 
 pub store-header-spec : {M : Type 1} → statement M
-store-header-spec =
-    tie.close
-    (tie.spec
-    sub-write-header
-    part-write-header-start
-    part-write-header-end
-    write-header-requires
-    keep-header-requires
-    landed-requires
-    same-length
-    same-length-2
-    returns)
+store-header-spec = tie.close (tie.spec (search needs) (search needs) part-write-header-end write-header-requires (λ c κs. search needs) (λ c κs. search needs) (search needs)
+    (search needs) returns)

@@ -38,9 +38,6 @@ first-frozen-requires c κs = holds-room _ (c .before .before .before .pre .runs
 get-counts-requires : tie.Need-get-counts-requires
 get-counts-requires c κs = sizes (holds-room _ (c .before .before .before .before .before .pre .runs .held)) .long
 
-cast-if1 : tie.Need-cast-if1
-cast-if1 c = search needs
-
 count-frozen-requires : tie.Need-count-frozen-requires
 count-frozen-requires c κs = let o = found (c .before) .there in (holds-room _ (o .held), omega (arith, o .inside))
 
@@ -52,45 +49,12 @@ allocator-of-requires c κs =
 store-page-requires : tie.Need-store-page-requires
 store-page-requires c κs = let here = c .before .before .before .before .before in (began here .pre, (found here, c .before .before .allocator-of .ensures))
 
-same-length : tie.Need-same-length
-same-length c = search needs
-
-same-length-2 : tie.Need-same-length-2
-same-length-2 c = search needs
-
-returns : tie.Need-returns
-returns c = search needs
-
 allocator-of-requires-2 : tie.Need-allocator-of-requires-2
 allocator-of-requires-2 c κs = let st = begun (c .before) in (st .pre .runs, frozen-none (st .args .m .now) (nowhere (c .before)))
 
 store-rest-requires : tie.Need-store-rest-requires
 store-rest-requires c κs = let told = c .before .before .before .before in (begun told .pre, (nowhere told, c .before .before .allocator-of2 .ensures))
 
-same-length-3 : tie.Need-same-length-3
-same-length-3 c = search needs
-
-same-length-4 : tie.Need-same-length-4
-same-length-4 c = search needs
-
-returns-2 : tie.Need-returns-2
-returns-2 c = search needs
-
 pub store-next-spec : {M : Type 1} → statement M
-store-next-spec =
-    tie.close
-    (tie.spec
-    first-frozen-requires
-    get-counts-requires
-    cast-if1
-    count-frozen-requires
-    allocator-of-requires
-    store-page-requires
-    same-length
-    same-length-2
-    returns
-    allocator-of-requires-2
-    store-rest-requires
-    same-length-3
-    same-length-4
-    returns-2)
+store-next-spec = tie.close (tie.spec first-frozen-requires get-counts-requires (search needs) count-frozen-requires allocator-of-requires store-page-requires (search needs)
+    (search needs) (search needs) allocator-of-requires-2 store-rest-requires (search needs) (search needs) (search needs))

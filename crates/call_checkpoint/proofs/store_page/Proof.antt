@@ -35,21 +35,6 @@ allocate-requires c κs =
     let st = c .before .before .before .before .before .before .before .before .before .before .before in
     (holds-room _ (st .pre .0 .runs .held), taken-is (flatOf (st .args .m .now)) _ (st .pre .1 .1))
 
-mul-a : tie.Need-mul-a
-mul-a c = search needs
-
-add-end : tie.Need-add-end
-add-end c = search needs
-
-sub-write-page : tie.Need-sub-write-page
-sub-write-page c = search needs
-
-part-write-page-start : tie.Need-part-write-page-start
-part-write-page-start c = search needs
-
-part-write-page-end : tie.Need-part-write-page-end
-part-write-page-end c = search needs
-
 add-write-page : tie.Need-add-write-page
 add-write-page c =
     let g = c .before .before .before .before .before .before .before .before .before .before .before in
@@ -79,12 +64,6 @@ keep-page-requires c κs =
     let p = b .before .before .before .before .before .before .before .before .before .before .before .before .pre in
     (p .0 .runs, (omega (arith, ap (λ (x : Allocator). x .taken) (c .before .taken-by .ensures), b .allocate .ensures .1), p .1 .0))
 
-same-length : tie.Need-same-length
-same-length c = search needs
-
-same-length-2 : tie.Need-same-length-2
-same-length-2 c = search needs
-
 returns : tie.Need-returns
 returns c =
     let b = c .before .before .before .before .before .before .before .before .before .before .before .allocate in
@@ -101,25 +80,5 @@ returns c =
     (c .before .before .before .before .before .before .before .write-page .ensures) (back-is (st .args .image .now) _ (b .result)))
 
 pub store-page-spec : {M : Type 1} → statement M
-store-page-spec =
-    tie.close
-    (tie.spec
-    get-head-requires
-    table-of-requires
-    start-of-requires
-    add-start-of
-    start-of-requires-2
-    allocate-requires
-    mul-a
-    add-end
-    sub-write-page
-    part-write-page-start
-    part-write-page-end
-    add-write-page
-    write-page-requires
-    cast-taken-by
-    taken-by-requires
-    keep-page-requires
-    same-length
-    same-length-2
-    returns)
+store-page-spec = tie.close (tie.spec get-head-requires table-of-requires start-of-requires add-start-of start-of-requires-2 allocate-requires (search needs) (search needs)
+    (search needs) (search needs) (search needs) add-write-page write-page-requires cast-taken-by taken-by-requires keep-page-requires (search needs) (search needs) returns)

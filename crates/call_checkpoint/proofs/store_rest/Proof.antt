@@ -12,38 +12,10 @@ store-directory-requires : tie.Need-store-directory-requires
 store-directory-requires c κs = let p = c .before .before .before .before .before .before .before .pre in
     (p .0, (p .1 .0, (omega (arith, c .before .before .if1 .taken, c .before .before .before .directories-left .ensures .0), p .1 .1)))
 
-same-length : tie.Need-same-length
-same-length c = search needs
-
-same-length-2 : tie.Need-same-length-2
-same-length-2 c = search needs
-
-returns : tie.Need-returns
-returns c = search needs
-
 store-header-requires : tie.Need-store-header-requires
 store-header-requires c κs = let p = c .before .before .before .before .before .before .before .pre in
     (p .0, (p .1 .0, (omega (arith, c .before .before .if1 .left, c .before .before .before .directories-left .ensures .0), p .1 .1)))
 
-same-length-3 : tie.Need-same-length-3
-same-length-3 c = search needs
-
-same-length-4 : tie.Need-same-length-4
-same-length-4 c = search needs
-
-returns-2 : tie.Need-returns-2
-returns-2 c = search needs
-
 pub store-rest-spec : {M : Type 1} → statement M
-store-rest-spec =
-    tie.close
-    (tie.spec
-    directories-left-requires
-    store-directory-requires
-    same-length
-    same-length-2
-    returns
-    store-header-requires
-    same-length-3
-    same-length-4
-    returns-2)
+store-rest-spec = tie.close (tie.spec directories-left-requires store-directory-requires (search needs) (search needs) (search needs) store-header-requires (search needs)
+    (search needs) (search needs))

@@ -8,20 +8,11 @@ use Rattle.call_checkpoint.proofs.Beginning.{head-replaces}
 use Rattle.call_checkpoint.proofs.take_block.Statement.{statement}
 use Rattle.call_checkpoint.proofs.take_block.Tie as tie
 
-get-head-requires : tie.Need-get-head-requires
-get-head-requires c κs = search needs
-
 put-head-requires : tie.Need-put-head-requires
 put-head-requires c κs =
     let g = c .before .get-head in
     let p = c .before .before .before .before .pre in
     (p .0, head-replaces _ (g .result) _ (p .0) (g .ensures) refl refl (omega (arith, p .1, ap (λ (h : Head). h .blocks) (g .ensures))))
-
-mark-used-requires : tie.Need-mark-used-requires
-mark-used-requires c κs = search needs
-
-same-length : tie.Need-same-length
-same-length c = search needs
 
 returns : tie.Need-returns
 returns c =
@@ -30,5 +21,4 @@ returns c =
     took (g .before .before .before .args .b) (g .get-head .result) (g .get-head .ensures) (h .put-head .ensures) (c .before .before .mark-used .ensures)
 
 pub take-block-spec : {M : Type 1} → statement M
-take-block-spec =
-    tie.close (tie.spec get-head-requires put-head-requires mark-used-requires same-length returns)
+take-block-spec = tie.close (tie.spec (λ c κs. search needs) put-head-requires (λ c κs. search needs) (search needs) returns)

@@ -72,18 +72,5 @@ returns c =
     counts-end (flatOf (p6 .args .m .now)) (p1 .loop .i) (omega (arith, p1 .loop .inv .0, c .loop-test)) (p1 .loop .inv .1)
 
 pub count-rows-spec : {M : Type 1} → statement M
-count-rows-spec =
-    tie.close
-    (tie.spec
-    Inv-loop
-    μ-loop
-    get-counts-requires
-    wide-requires
-    loop-holds
-    owner-at-requires
-    note-requires
-    add-i
-    loop-less
-    loop-again
-    same-length
+count-rows-spec = tie.close (tie.spec Inv-loop μ-loop get-counts-requires wide-requires loop-holds owner-at-requires note-requires add-i loop-less loop-again same-length
     returns)

@@ -28,9 +28,6 @@ known c =
 in-directory : (c : tie.After-wide) → let h = c .before .before .before .before .args .h in take (c .wide .result) (numbersOf h) ≡ directoryBlocks h
 in-directory c = used 0 (c .wide .result) (c .before .before .before .before .args .h) (c .wide .ensures) (λ (l : List ℕ). l)
 
-wide-requires : tie.Need-wide-requires
-wide-requires c κs = search needs
-
 fresh-requires : tie.Need-fresh-requires
 fresh-requires c κs =
     let p1 = c .before in
@@ -114,9 +111,6 @@ put-head-requires c κs =
           (omega (arith, n .blocks, k .whole .few)) (omega (arith, n .blocks, k .whole .many)),
     )
 
-same-length : tie.Need-same-length
-same-length c = search needs
-
 returns : tie.Need-returns
 returns c =
     let p2 = c .before .before in
@@ -135,17 +129,5 @@ returns c =
     (p6 .reopen .ensures) (sym (p29 .pre .1 .1)) (in-directory p25) (p2 .put-head .ensures)
 
 pub lay-out-spec : {M : Type 1} → statement M
-lay-out-spec =
-    tie.close
-    (tie.spec
-    wide-requires
-    fresh-requires
-    load-pages-requires
-    mark-blocks-requires
-    array-share-prefix-directories
-    slice-aggregate-mark-blocks
-    mark-blocks-requires-2
-    reopen-requires
-    put-head-requires
-    same-length
-    returns)
+lay-out-spec = tie.close (tie.spec (λ c κs. search needs) fresh-requires load-pages-requires mark-blocks-requires array-share-prefix-directories slice-aggregate-mark-blocks
+    mark-blocks-requires-2 reopen-requires put-head-requires (search needs) returns)

@@ -40,32 +40,20 @@ fits c =
     one-fits (a .e) _ _ _ (flatOf (a .m .now)) (p8 .pre .0 .1 .0) (table-small _ (g .0 .0) (g .0 .1 .0) (g .0 .1 .1 .0) (sym (g .1) ∙ p3 .known-page .ensures))
     (p8 .pre .1 .0 .range .least) (found c) (subst (λ (b : Block). RoomFor (pageAt (a .e) b) (flatOf (a .m .now))) (sym q) (p8 .pre .1 .1 .1))
 
-block-at-requires : tie.Need-block-at-requires
-block-at-requires c κs = search needs
-
 known-page-requires : tie.Need-known-page-requires
 known-page-requires c κs =
     let p2 = c .before .before in
     let a = c .before .before .before .before .args in
     ap isPage (seen-here (a .image .now) _ (a .e) (c .before .block-at .ensures)) ∙ c .before .before .before .before .pre .0 .1 .1
 
-enum-known-table : tie.Need-enum-known-table
-enum-known-table c = search needs
-
 cast-append-page : tie.Need-cast-append-page
 cast-append-page c = omega (arith, fits (c .before) .may .table)
-
-cast-append-page-2 : tie.Need-cast-append-page-2
-cast-append-page-2 c = search needs
 
 append-page-requires : tie.Need-append-page-requires
 append-page-requires c κs =
     let p1 = c .before in
     let p9 = p1 .before .before .before .before .before .before .before .before in
     (p9 .pre .1 .0, (p9 .pre .1 .1 .0, fits p1 .may))
-
-slice-aggregate-load-rows : tie.Need-slice-aggregate-load-rows
-slice-aggregate-load-rows c = search needs
 
 load-rows-requires : tie.Need-load-rows-requires
 load-rows-requires c κs =
@@ -83,9 +71,6 @@ returns c =
     let e = ap (pageAt (a .e)) (sym (seen-here (a .image .now) _ (a .e) (p3 .block-at .ensures))) in
     loads-none _ _ (p6 .pre .1 .0) (p6 .pre .1 .1 .0) (e ∙ none-here (a .e) _ _ (p1 .known-page .ensures) (c .match .keys2))
 
-same-length : tie.Need-same-length
-same-length c = search needs
-
 returns-2 : tie.Need-returns-2
 returns-2 c =
     let p2 = c .before .before in
@@ -102,17 +87,5 @@ returns-2 c =
     loads-as (sym (h .stored) ∙ ap (pageAt (a .e)) (seen-here (a .image .now) _ (a .e) (p14 .block-at .ensures))) l
 
 pub load-page-spec : {M : Type 1} → statement M
-load-page-spec =
-    tie.close
-    (tie.spec
-    block-at-requires
-    known-page-requires
-    enum-known-table
-    cast-append-page
-    cast-append-page-2
-    append-page-requires
-    slice-aggregate-load-rows
-    load-rows-requires
-    returns
-    same-length
-    returns-2)
+load-page-spec = tie.close (tie.spec (λ c κs. search needs) known-page-requires (search needs) cast-append-page (search needs) append-page-requires (search needs)
+    load-rows-requires returns (search needs) returns-2)

@@ -80,18 +80,4 @@ returns c =
     loading-end (view (a .image .now)) (a .m .now) (l .m) (a .entries .now) (l .i) (omega (arith, c .loop-test)) (l .inv .1)
 
 pub load-pages-spec : {M : Type 1} → statement M
-load-pages-spec =
-    tie.close
-    (tie.spec
-    Inv-loop
-    μ-loop
-    loop-holds
-    mul-wide
-    shared-slice-read-wide
-    wide-requires
-    load-page-requires
-    add-i
-    loop-less
-    loop-again
-    same-length
-    returns)
+load-pages-spec = tie.close (tie.spec Inv-loop μ-loop loop-holds mul-wide shared-slice-read-wide wide-requires load-page-requires add-i loop-less loop-again same-length returns)

@@ -13,21 +13,6 @@ use borrow.Author.Needs.{needs}
 use Rattle.call_recovery.proofs.load_row.Statement.{statement}
 use Rattle.call_recovery.proofs.load_row.Tie as tie
 
-add-to : tie.Need-add-to
-add-to c = search needs
-
-row-of-requires : tie.Need-row-of-requires
-row-of-requires c κs = search needs
-
-sub-append-row : tie.Need-sub-append-row
-sub-append-row c = search needs
-
-part-append-row-start : tie.Need-part-append-row-start
-part-append-row-start c = search needs
-
-part-append-row-end : tie.Need-part-append-row-end
-part-append-row-end c = search needs
-
 append-row-requires : tie.Need-append-row-requires
 append-row-requires c κs =
     let p2 = c .before .before in
@@ -36,9 +21,6 @@ append-row-requires c κs =
       record { room = pre .1 .0; at = omega arith; more = pre .1 .1 .1 .1; owner = subst RowFits (sym (p2 .row-of .ensures)) (pre .0 .1 .1); payload = simp length-take (omega (arith, pre .0 .0)) },
       (pre .1 .1 .0, pre .1 .1 .1 .0),
     )
-
-same-length : tie.Need-same-length
-same-length c = search needs
 
 returns : tie.Need-returns
 unfolding calm tupleOf
@@ -53,14 +35,4 @@ returns c =
     row-as _ _ (ap (λ (s : Row). heldBy s (take n bs)) (p5 .row-of .ensures) ∙ ap (λ (j : ℕ). calm (tupleOf r (take j bs))) k) (p2 .append-row .ensures)
 
 pub load-row-spec : {M : Type 1} → statement M
-load-row-spec =
-    tie.close
-    (tie.spec
-    add-to
-    row-of-requires
-    sub-append-row
-    part-append-row-start
-    part-append-row-end
-    append-row-requires
-    same-length
-    returns)
+load-row-spec = tie.close (tie.spec (search needs) (λ c κs. search needs) (search needs) (search needs) (search needs) append-row-requires (search needs) returns)

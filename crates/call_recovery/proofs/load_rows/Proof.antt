@@ -101,20 +101,5 @@ returns-2 c =
     subst (λ (hs : List Held). Fills hs (p4 .args .m .now) (l .m)) (calm-all (l .i) ts (omega (arith, p4 .pre .0 .1 .1, c .loop-test))) (l .inv .1 .1)
 
 pub load-rows-spec : {M : Type 1} → statement M
-load-rows-spec =
-    tie.close
-    (tie.spec
-    Inv-loop
-    μ-loop
-    loop-holds
-    next-requires
-    enum-known-r
-    load-row-requires
-    enum-told
-    same-length
-    returns
-    add-i
-    loop-less
-    loop-again
-    same-length-2
-    returns-2)
+load-rows-spec = tie.close (tie.spec Inv-loop μ-loop loop-holds next-requires enum-known-r load-row-requires enum-told same-length returns add-i loop-less loop-again
+    same-length-2 returns-2)

@@ -59,18 +59,5 @@ returns : tie.Need-returns Inv-loop μ-loop
 returns c = let s = c .before .before .before .before in let a = s .args in let p = c .before .loop in marking-end (a .m .now) (p .m) (a .bs .now) (p .i) (omega (arith, c .loop-test)) (p .inv .1)
 
 pub mark-blocks-spec : {M : Type 1} → statement M
-mark-blocks-spec =
-    tie.close
-    (tie.spec
-    Inv-loop
-    μ-loop
-    loop-holds
-    mul-wide
-    shared-slice-read-wide
-    wide-requires
-    mark-used-requires
-    add-i
-    loop-less
-    loop-again
-    same-length
+mark-blocks-spec = tie.close (tie.spec Inv-loop μ-loop loop-holds mul-wide shared-slice-read-wide wide-requires mark-used-requires add-i loop-less loop-again same-length
     returns)

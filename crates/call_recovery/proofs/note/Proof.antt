@@ -18,26 +18,11 @@ small c =
     let p5 = p2 .before .before .before in
     omega (arith, c .wide .ensures, subst (λ (o : Owner). OwnerFits (ownerIs o)) (p2 .o .given .1) (p5 .pre .1))
 
-enum-told : tie.Need-enum-told
-enum-told c = search needs
-
-enum-known-o : tie.Need-enum-known-o
-enum-known-o c = search needs
-
-wide-requires : tie.Need-wide-requires
-wide-requires c κs = search needs
-
-mul-counts : tie.Need-mul-counts
-mul-counts c = search needs
-
 slice-read-counts : tie.Need-slice-read-counts
 slice-read-counts c = omega (arith, small (c .before), c .before .before .before .before .before .before .pre .0 .size)
 
 add-counts : tie.Need-add-counts
 add-counts c = omega (arith, c .before .before .before .before .before .before .pre .0 .most _ (small (c .before)))
-
-mul-counts-2 : tie.Need-mul-counts-2
-mul-counts-2 c = search needs
 
 slice-write-counts : tie.Need-slice-write-counts
 slice-write-counts c = omega (arith, small (c .before), c .before .before .before .before .before .before .pre .0 .size)
@@ -45,9 +30,6 @@ slice-write-counts c = omega (arith, small (c .before), c .before .before .befor
 returns : tie.Need-returns
 unfolding noted
 returns c = let xs = c .before .before .before .args .counts .now in sym (ap (λ (o : Owner). noted (ownerIs o) xs) (c .enum-told .given .1))
-
-same-length : tie.Need-same-length
-same-length c = search needs
 
 returns-2 : tie.Need-returns-2
 returns-2 c =
@@ -58,17 +40,5 @@ returns-2 c =
     noted-by xs (ap ownerIs (p3 .o .given .1)) (p1 .wide .ensures) _ (omega arith)
 
 pub note-spec : {M : Type 1} → statement M
-note-spec =
-    tie.close
-    (tie.spec
-    enum-told
-    enum-known-o
-    wide-requires
-    mul-counts
-    slice-read-counts
-    add-counts
-    mul-counts-2
-    slice-write-counts
-    returns
-    same-length
-    returns-2)
+note-spec = tie.close (tie.spec (search needs) (search needs) (λ c κs. search needs) (search needs) slice-read-counts add-counts (search needs) slice-write-counts returns
+    (search needs) returns-2)

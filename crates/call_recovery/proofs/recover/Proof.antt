@@ -36,21 +36,6 @@ prepared c =
     ready (p13 .args .image .now) (p8 .h .given .0 .0) (p4 .test-pages .result) (c .wide2 .result) (passed p7) (p4 .test-pages .ensures)
     (omega (arith, p2 .if2 .left)) (c .wide2 .ensures)
 
-test-header-requires : tie.Need-test-header-requires
-test-header-requires c κs = search needs
-
-enum-known-h : tie.Need-enum-known-h
-enum-known-h c = search needs
-
-wide-requires : tie.Need-wide-requires
-wide-requires c κs = search needs
-
-mul-if1 : tie.Need-mul-if1
-mul-if1 c = search needs
-
-add-if1 : tie.Need-add-if1
-add-if1 c = search needs
-
 returns : tie.Need-returns
 returns c =
     let p1 = c .before in
@@ -73,9 +58,6 @@ returns-2 c =
     refused-pages (a .image .now) (a .m .now) _ (passed p5) (omega (arith, p4 .wide .ensures, p3 .if1 .left)) _
     (pages-refusal _ _ (p2 .test-pages .ensures) (λ z. omega (arith, z, c .if2 .taken)))
 
-wide-requires-2 : tie.Need-wide-requires-2
-wide-requires-2 c κs = search needs
-
 array-share-prefix-entries : tie.Need-array-share-prefix-entries
 array-share-prefix-entries c = omega (arith, prepared c .count, length-take (c .wide2 .result) (c .before .before .before .before .test-pages .result .entries))
 
@@ -92,12 +74,6 @@ lay-out-requires c κs =
       (passed p9, omega (arith, p8 .wide .ensures, p7 .if1 .left)),
       (r .passed ∙ ap holds (sym (r .there)), ap blocksIn (r .there) ∙ r .blocks),
     )
-
-enum-known-n : tie.Need-enum-known-n
-enum-known-n c = search needs
-
-same-length : tie.Need-same-length
-same-length c = search needs
 
 returns-3 : tie.Need-returns-3
 returns-3 c =
@@ -124,22 +100,5 @@ returns-4 c =
     refused-header (a .image .now) (a .m .now) _ (stage-refused _ (g .0 .0) (sym (g .1) ∙ p3 .test-header .ensures))
 
 pub recover-spec : {M : Type 1} → statement M
-recover-spec =
-    tie.close
-    (tie.spec
-    test-header-requires
-    enum-known-h
-    wide-requires
-    mul-if1
-    add-if1
-    returns
-    test-pages-requires
-    returns-2
-    wide-requires-2
-    array-share-prefix-entries
-    slice-aggregate-lay-out
-    lay-out-requires
-    enum-known-n
-    same-length
-    returns-3
-    returns-4)
+recover-spec = tie.close (tie.spec (λ c κs. search needs) (search needs) (λ c κs. search needs) (search needs) (search needs) returns test-pages-requires returns-2
+    (λ c κs. search needs) array-share-prefix-entries slice-aggregate-lay-out lay-out-requires (search needs) (search needs) returns-3 returns-4)

@@ -4,17 +4,8 @@ use borrow.Author.Needs.{needs}
 use Rattle.call_recovery.proofs.reopen.Statement.{statement}
 use Rattle.call_recovery.proofs.reopen.Tie as tie
 
-slice-aggregate-count-rows : tie.Need-slice-aggregate-count-rows
-slice-aggregate-count-rows c = search needs
-
 count-rows-requires : tie.Need-count-rows-requires
 count-rows-requires c κs = let pre = c .before .before .before .pre in (pre .0, (pre .1 .0, no-counts))
-
-slice-aggregate-reopen-rows : tie.Need-slice-aggregate-reopen-rows
-slice-aggregate-reopen-rows c = search needs
-
-slice-aggregate-reopen-rows-2 : tie.Need-slice-aggregate-reopen-rows-2
-slice-aggregate-reopen-rows-2 c = search needs
 
 reopen-rows-requires : tie.Need-reopen-rows-requires
 reopen-rows-requires c κs =
@@ -23,20 +14,5 @@ reopen-rows-requires c κs =
     let pre = p8 .pre in
     ((pre .0, (pre .1 .0, (p4 .count-rows .ensures, no-counts))), pre .1 .1)
 
-same-length : tie.Need-same-length
-same-length c = search needs
-
-returns : tie.Need-returns
-returns c = search needs
-
 pub reopen-spec : {M : Type 1} → statement M
-reopen-spec =
-    tie.close
-    (tie.spec
-    slice-aggregate-count-rows
-    count-rows-requires
-    slice-aggregate-reopen-rows
-    slice-aggregate-reopen-rows-2
-    reopen-rows-requires
-    same-length
-    returns)
+reopen-spec = tie.close (tie.spec (search needs) count-rows-requires (search needs) (search needs) reopen-rows-requires (search needs) (search needs))

@@ -18,23 +18,8 @@ small c =
     let p7 = p2 .before .before .before .before .before in
     omega (arith, c .wide .ensures, subst (λ (o : Owner). OwnerFits (ownerIs o)) (p2 .o .given .1) (p7 .pre .1 .1 .0))
 
-enum-told : tie.Need-enum-told
-enum-told c = search needs
-
-enum-known-o : tie.Need-enum-known-o
-enum-known-o c = search needs
-
-wide-requires : tie.Need-wide-requires
-wide-requires c κs = search needs
-
-mul-written : tie.Need-mul-written
-mul-written c = search needs
-
 shared-slice-read-written : tie.Need-shared-slice-read-written
 shared-slice-read-written c = omega (arith, small (c .before), c .before .before .before .before .before .before .before .before .pre .1 .0 .0 .size)
-
-mul-if1 : tie.Need-mul-if1
-mul-if1 c = search needs
 
 shared-slice-read-if1 : tie.Need-shared-slice-read-if1
 shared-slice-read-if1 c = omega (arith, small (c .before .before), c .before .before .before .before .before .before .before .before .before .pre .1 .0 .1 .size)
@@ -56,9 +41,6 @@ push-open-requires c κs =
 returns : tie.Need-returns
 returns c = let p5 = c .before .before .before .before .before in opens-none _ _ (p5 .pre .0) (opened-settled _ _ (ap ownerIs (c .enum-told .given .1)))
 
-same-length : tie.Need-same-length
-same-length c = search needs
-
 returns-2 : tie.Need-returns-2
 returns-2 c =
     let p2 = c .before .before in
@@ -75,18 +57,5 @@ returns-3 c =
     opens-none _ _ (p10 .pre .0) (opened-other _ _ _ _ _ (ap ownerIs (p5 .o .given .1)) (p3 .wide .ensures) (c .if1 .left))
 
 pub reopen-last-spec : {M : Type 1} → statement M
-reopen-last-spec =
-    tie.close
-    (tie.spec
-    enum-told
-    enum-known-o
-    wide-requires
-    mul-written
-    shared-slice-read-written
-    mul-if1
-    shared-slice-read-if1
-    push-open-requires
-    returns
-    same-length
-    returns-2
-    returns-3)
+reopen-last-spec = tie.close (tie.spec (search needs) (search needs) (λ c κs. search needs) (search needs) shared-slice-read-written (search needs) shared-slice-read-if1
+    push-open-requires returns (search needs) returns-2 returns-3)

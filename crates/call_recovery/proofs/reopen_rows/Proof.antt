@@ -104,20 +104,5 @@ returns : tie.Need-returns Inv-loop μ-loop
 returns c = reopened-end (c .before .loop .inv .1 .0) (omega (arith, c .before .loop .inv .0, c .loop-test))
 
 pub reopen-rows-spec : {M : Type 1} → statement M
-reopen-rows-spec =
-    tie.close
-    (tie.spec
-    Inv-loop
-    μ-loop
-    get-counts-requires
-    wide-requires
-    loop-holds
-    owner-at-requires
-    note-requires
-    reopen-last-requires
-    add-i
-    loop-less
-    loop-again
-    same-length
-    same-length-2
-    returns)
+reopen-rows-spec = tie.close (tie.spec Inv-loop μ-loop get-counts-requires wide-requires loop-holds owner-at-requires note-requires reopen-last-requires add-i loop-less
+    loop-again same-length same-length-2 returns)

@@ -20,9 +20,6 @@ place-requires c κs =
     let n = w .before .before in
     place-at (n .before .before .before .before .before .before .pre) (n .before .before .find-open .ensures) (n .next-row .ensures) (w .count-write .ensures)
 
-same-length : tie.Need-same-length
-same-length c = search needs
-
 returns : tie.Need-returns
 returns c =
     let w = c .before .before .before .before .before .before in
@@ -30,12 +27,4 @@ returns c =
     accepted (n .before .before .before .before .before .before .pre) (n .before .before .find-open .ensures) (n .next-row .ensures) (w .count-write .ensures) (c .before .before .place .ensures)
 
 pub accept-spec : {M : Type 1} → statement M
-accept-spec =
-    tie.close
-    (tie.spec
-    find-open-requires
-    next-row-requires
-    count-write-requires
-    place-requires
-    same-length
-    returns)
+accept-spec = tie.close (tie.spec find-open-requires next-row-requires count-write-requires place-requires (search needs) returns)

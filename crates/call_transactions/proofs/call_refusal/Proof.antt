@@ -4,9 +4,6 @@ use Rattle.call_transactions.proofs.Testing.{call-stopped, call-10, cal
 use Rattle.call_transactions.proofs.call_refusal.Statement.{statement}
 use Rattle.call_transactions.proofs.call_refusal.Tie as tie
 
-not-open-requires : tie.Need-not-open-requires
-not-open-requires c κs = search needs
-
 returns : tie.Need-returns
 returns c = let a = c .before .before .before .args in
     call-stopped (a .transaction) (a .table) (a .len) (a .m .now) _ (c .before .not-open .ensures) (c .if1 .taken)
@@ -24,4 +21,4 @@ returns-4 c = let a = c .before .before .before .before .before .args in
     call-passed (a .transaction) (a .table) (a .len) (a .m .now) _ (c .before .before .before .not-open .ensures) (c .before .before .if1 .left) (c .before .if2 .left) (c .if3 .left)
 
 pub call-refusal-spec : {M : Type 1} → statement M
-call-refusal-spec = tie.close (tie.spec not-open-requires returns returns-2 returns-3 returns-4)
+call-refusal-spec = tie.close (tie.spec (λ c κs. search needs) returns returns-2 returns-3 returns-4)

@@ -55,18 +55,5 @@ returns : tie.Need-returns Inv-loop μ-loop
 returns c = let l = c .before .loop in closed-end (l .inv .1 .1 .1) (l .inv .1 .0) (omega (arith, l .inv .0, c .loop-test .left))
 
 pub close-spec : {M : Type 1} → statement M
-close-spec =
-    tie.close
-    (tie.spec
-    Inv-loop
-    μ-loop
-    open-count-requires
-    find-open-requires
-    loop-holds
-    remove-open-requires
-    sub-n
-    find-open-requires-2
-    loop-less
-    loop-again
-    same-length
-    returns)
+close-spec = tie.close (tie.spec Inv-loop μ-loop open-count-requires find-open-requires loop-holds remove-open-requires sub-n find-open-requires-2 loop-less loop-again
+    same-length returns)

@@ -8,12 +8,6 @@ use Rattle.call_transactions.proofs.Verdicts.{passed-held}
 use Rattle.call_transactions.proofs.commit.Statement.{statement}
 use Rattle.call_transactions.proofs.commit.Tie as tie
 
-not-open-requires : tie.Need-not-open-requires
-not-open-requires c κs = search needs
-
-same-length : tie.Need-same-length
-same-length c = search needs
-
 returns : tie.Need-returns
 returns c =
     let a = c .before .before .before .before .args in
@@ -27,9 +21,6 @@ commit-rows-requires c κs = let a = c .before .before .before .before .before .
 close-requires : tie.Need-close-requires
 close-requires c κs = closed-room (c .before .before .before .commit-rows .ensures)
 
-same-length-2 : tie.Need-same-length-2
-same-length-2 c = search needs
-
 returns-2 : tie.Need-returns-2
 returns-2 c =
     let e1 = c .before .before .before .before .before .before .before .before in
@@ -39,13 +30,4 @@ returns-2 c =
     _ _ (c .before .before .before .before .before .before .commit-rows .ensures) (c .before .before .close .ensures)
 
 pub commit-spec : {M : Type 1} → statement M
-commit-spec =
-    tie.close
-    (tie.spec
-    not-open-requires
-    same-length
-    returns
-    commit-rows-requires
-    close-requires
-    same-length-2
-    returns-2)
+commit-spec = tie.close (tie.spec (λ c κs. search needs) (search needs) returns commit-rows-requires close-requires (search needs) returns-2)

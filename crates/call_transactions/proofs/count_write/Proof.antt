@@ -8,17 +8,11 @@ use Rattle.call_transactions.proofs.Writing.{read-fits, next-replaces, 
 use Rattle.call_transactions.proofs.count_write.Statement.{statement}
 use Rattle.call_transactions.proofs.count_write.Tie as tie
 
-get-head-requires : tie.Need-get-head-requires
-get-head-requires c κs = search needs
-
 add-h : tie.Need-add-h
 add-h c = let st = c .before .before .before .before in
     let e = ap (λ (x : Head). x .next) (c .before .get-head .ensures) in
     let ne : c .before .get-head .result .next ≡ 4294967295 → ⊥ = λ q. st .pre .next (sym e ∙ q) in
     omega (arith, ne)
-
-get-open-requires : tie.Need-get-open-requires
-get-open-requires c κs = search needs
 
 one-more-requires : tie.Need-one-more-requires
 one-more-requires c κs = read-fits (c .before .before .before .before .before .before .pre) (c .get-open .ensures)
@@ -35,9 +29,6 @@ put-open-requires c κs =
     let st = h .before .before .before .before .before .before .before .before .before in
     (h .put-head .ensures .room, (omega (arith, st .pre .inside, same-opens (h .put-head .ensures)), h .before .before .one-more .ensures .1))
 
-same-length : tie.Need-same-length
-same-length c = search needs
-
 returns : tie.Need-returns
 returns c =
     let o = c .before .before .before .before .before .before .before .before in
@@ -47,14 +38,4 @@ returns c =
     counted (st .args .i) (h .get-head .ensures) more (c .before .before .before .before .before .before .put-head .ensures) (c .before .before .put-open .ensures)
 
 pub count-write-spec : {M : Type 1} → statement M
-count-write-spec =
-    tie.close
-    (tie.spec
-    get-head-requires
-    add-h
-    get-open-requires
-    one-more-requires
-    put-head-requires
-    put-open-requires
-    same-length
-    returns)
+count-write-spec = tie.close (tie.spec (λ c κs. search needs) add-h (λ c κs. search needs) one-more-requires put-head-requires put-open-requires (search needs) returns)

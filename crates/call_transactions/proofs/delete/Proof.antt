@@ -5,17 +5,8 @@ use Rattle.call_transactions.proofs.Called.{delete-is}
 use Rattle.call_transactions.proofs.delete.Statement.{statement}
 use Rattle.call_transactions.proofs.delete.Tie as tie
 
-slice-aggregate-write : tie.Need-slice-aggregate-write
-slice-aggregate-write c = search needs
-
-write-requires : tie.Need-write-requires
-write-requires c κs = search needs
-
-same-length : tie.Need-same-length
-same-length c = search needs
-
 returns : tie.Need-returns
 returns c = delete-is _ _ _ _ _ _ _ (c .before .before .write .ensures) (omega arith)
 
 pub delete-spec : {M : Type 1} → statement M
-delete-spec = tie.close (tie.spec slice-aggregate-write write-requires same-length returns)
+delete-spec = tie.close (tie.spec (search needs) (λ c κs. search needs) (search needs) returns)

@@ -68,22 +68,5 @@ returns c = let l = c .before in
     list-end (flatOf (st .args .m .now) .opens) (st .args .reply .now) (st .args .n) (l .loop .i) (st .pre .1 .0) (c .loop-test .left) (l .loop .inv .0) _ (l .loop .inv .1 .1)
 
 pub fill-list-spec : {M : Type 1} → statement M
-fill-list-spec =
-    tie.close
-    (tie.spec
-    Inv-loop
-    μ-loop
-    loop-holds
-    get-open-requires
-    cast-reply
-    mul-reply
-    slice-write-reply
-    cast-reply-2
-    mul-reply-2
-    add-reply
-    slice-write-reply-2
-    add-i
-    loop-less
-    loop-again
-    same-length
-    returns)
+fill-list-spec = tie.close (tie.spec Inv-loop μ-loop loop-holds get-open-requires cast-reply mul-reply slice-write-reply cast-reply-2 mul-reply-2 add-reply slice-write-reply-2
+    add-i loop-less loop-again same-length returns)

@@ -37,5 +37,4 @@ returns-3 c = let g = c .before .before .before .before .before in
     full-none m (g .before .before .before .pre) (omega (arith, ec, rows-count m (g .get-counts .ensures), c .before .before .if1 .left)) (λ q. c .if2 .left (en ∙ q))
 
 pub full-refusal-spec : {M : Type 1} → statement M
-full-refusal-spec =
-    tie.close (tie.spec get-head-requires get-counts-requires returns returns-2 returns-3)
+full-refusal-spec = tie.close (tie.spec get-head-requires get-counts-requires returns returns-2 returns-3)

@@ -16,9 +16,6 @@ returns-2 c = let e1 = c .before .before in
     let a = e1 .before .before .args in
     key-13 (flatOf (a .m .now)) (a .look) (e1 .if1 .left) (a .new) (c .before .if2 .taken) (c .if3 .taken)
 
-full-refusal-requires : tie.Need-full-refusal-requires
-full-refusal-requires c κs = search needs
-
 returns-3 : tie.Need-returns-3
 returns-3 c = let e1 = c .before .before .before in
     let a = e1 .before .before .args in
@@ -27,20 +24,11 @@ returns-3 c = let e1 = c .before .before .before in
 pick-requires : tie.Need-pick-requires
 pick-requires c κs = let st = c .before .before .before in (holds-room _ (st .pre .0), st .pre .1)
 
-enum-told : tie.Need-enum-told
-enum-told c = search needs
-
-enum-told-2 : tie.Need-enum-told-2
-enum-told-2 c = search needs
-
 returns-4 : tie.Need-returns-4
 returns-4 c = let p = c .before .before in
     let e1 = p .before .before in
     let a = e1 .before .before .args in
     key-14 (flatOf (a .m .now)) (a .look) (e1 .if1 .left) (a .new) (p .before .if2 .left) _ (p .pick .ensures) (c .enum-told2 .given .1)
-
-full-refusal-requires-2 : tie.Need-full-refusal-requires-2
-full-refusal-requires-2 c κs = search needs
 
 returns-5 : tie.Need-returns-5
 returns-5 c = let p = c .before .before .before in
@@ -49,16 +37,4 @@ returns-5 c = let p = c .before .before .before in
     c .full-refusal2 .ensures ∙ key-seen (flatOf (a .m .now)) (a .look) (e1 .if1 .left) (a .new) (p .before .if2 .left) _ (p .pick .ensures) _ (c .before .enum-told .given .1)
 
 pub key-refusal-spec : {M : Type 1} → statement M
-key-refusal-spec =
-    tie.close
-    (tie.spec
-    returns
-    returns-2
-    full-refusal-requires
-    returns-3
-    pick-requires
-    enum-told
-    enum-told-2
-    returns-4
-    full-refusal-requires-2
-    returns-5)
+key-refusal-spec = tie.close (tie.spec returns returns-2 (λ c κs. search needs) returns-3 pick-requires (search needs) (search needs) returns-4 (λ c κs. search needs) returns-5)

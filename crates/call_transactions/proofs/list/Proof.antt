@@ -22,9 +22,6 @@ start c = c .before .before .before .before
 stored : (c : tie.Else1) → holdsStore (start c .args .m .now) ≡ true
 stored c = sym (c .before .holds-store .ensures) ∙ not-false _ (c .if1 .left)
 
-holds-store-requires : tie.Need-holds-store-requires
-holds-store-requires c κs = search needs
-
 returns : tie.Need-returns
 returns c = let a = c .before .before .before .before .args in
     replies-lists _ _ _ _ (replies-4 _ (a .m .now) (a .reply .now) (sym (c .before .holds-store .ensures) ∙ not-true _ (c .if1 .taken)))
@@ -44,9 +41,6 @@ returns-2 c = let e1 = c .before .before in
 fill-list-requires : tie.Need-fill-list-requires
 fill-list-requires c κs = (holds-room _ (stored (c .before .before .before)), (c .before .before .open-count .ensures, omega (arith, c .before .if2 .left)))
 
-same-length : tie.Need-same-length
-same-length c = search needs
-
 returns-3 : tie.Need-returns-3
 returns-3 c = let e1 = c .before .before .before .before .before .before in
     let a = start e1 .args in
@@ -59,14 +53,4 @@ returns-3 c = let e1 = c .before .before .before .before .before .before in
     replies-lists (a .m .now) _ p _ (rw en (replies-filled _ (a .m .now) p _ (listed (f .opens)) _ (stored e1) q filled))
 
 pub list-spec : {M : Type 1} → statement M
-list-spec =
-    tie.close
-    (tie.spec
-    holds-store-requires
-    returns
-    open-count-requires
-    mul-if2
-    returns-2
-    fill-list-requires
-    same-length
-    returns-3)
+list-spec = tie.close (tie.spec (λ c κs. search needs) returns open-count-requires mul-if2 returns-2 fill-list-requires (search needs) returns-3)

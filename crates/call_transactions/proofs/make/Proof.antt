@@ -16,9 +16,6 @@ began c = c .before .before .before .before
 fits : (c : tie.Else1) → let a = began c .args in Fits (length (a .image .now)) (length (a .m .now)) (a .capacity)
 fits c = let a = began c .args in make-fits (length (a .image .now)) (length (a .m .now)) (a .capacity) _ (c .before .make-refusal .ensures) (c .if1 .left)
 
-make-refusal-requires : tie.Need-make-refusal-requires
-make-refusal-requires c κs = search needs
-
 returns : tie.Need-returns
 returns c = let a = c .before .before .before .before .args in
     made-refused (a .capacity) (a .image .now) (a .m .now) _
@@ -30,26 +27,11 @@ cast-b c = omega (arith, fits c .room .many)
 cast-c : tie.Need-cast-c
 cast-c c = omega (arith, fits c .room .most)
 
-sub-write-header : tie.Need-sub-write-header
-sub-write-header c = search needs
-
-part-write-header-start : tie.Need-part-write-header-start
-part-write-header-start c = search needs
-
 part-write-header-end : tie.Need-part-write-header-end
 part-write-header-end c = omega (arith, fits c .room .few)
 
-write-header-requires : tie.Need-write-header-requires
-write-header-requires c κs = search needs
-
 fresh-requires : tie.Need-fresh-requires
 fresh-requires c κs = fits (c .before .before .before .before .before) .room
-
-same-length : tie.Need-same-length
-same-length c = search needs
-
-same-length-2 : tie.Need-same-length-2
-same-length-2 c = search needs
 
 returns-2 : tie.Need-returns-2
 returns-2 c = let b6 = c .before .before .before .before .before .before in
@@ -61,18 +43,5 @@ returns-2 c = let b6 = c .before .before .before .before .before .before in
     (image-made (a .image .now) _ b (a .capacity) _ refl refl (b6 .write-header .ensures)) (record { size = f .0 .size; store = f .1 })
 
 pub make-spec : {M : Type 1} → statement M
-make-spec =
-    tie.close
-    (tie.spec
-    make-refusal-requires
-    returns
-    cast-b
-    cast-c
-    sub-write-header
-    part-write-header-start
-    part-write-header-end
-    write-header-requires
-    fresh-requires
-    same-length
-    same-length-2
-    returns-2)
+make-spec = tie.close (tie.spec (λ c κs. search needs) returns cast-b cast-c (search needs) (search needs) part-write-header-end (λ c κs. search needs) fresh-requires
+    (search needs) (search needs) returns-2)

@@ -26,12 +26,6 @@ returns-5 c = let b3 = c .before .before .before in
     let a = b3 .before .before .args in
     verdict-refuses (a .len) (a .room) (a .capacity) (make-large _ _ _ (b3 .before .if1 .left) (b3 .if2 .left) (c .before .before .if3 .left) (omega (arith, c .if5 .taken)))
 
-mul-if6 : tie.Need-mul-if6
-mul-if6 c = search needs
-
-add-if6 : tie.Need-add-if6
-add-if6 c = search needs
-
 returns-6 : tie.Need-returns-6
 returns-6 c = let b3 = c .before .before .before in
     let a = b3 .before .before .before .args in
@@ -51,6 +45,4 @@ returns-7 c = let b3 = c .before .before .before in
     verdict-accepts (a .len) (a .room) (a .capacity) (record { whole = b3 .before .before .if1 .left; room = r })
 
 pub make-refusal-spec : {M : Type 1} → statement M
-make-refusal-spec =
-    tie.close
-    (tie.spec returns returns-2 returns-3 returns-4 returns-5 mul-if6 add-if6 returns-6 returns-7)
+make-refusal-spec = tie.close (tie.spec returns returns-2 returns-3 returns-4 returns-5 (search needs) (search needs) returns-6 returns-7)

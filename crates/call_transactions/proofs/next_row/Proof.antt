@@ -8,12 +8,6 @@ use Rattle.call_transactions.proofs.Writing.{read-fits}
 use Rattle.call_transactions.proofs.next_row.Statement.{statement}
 use Rattle.call_transactions.proofs.next_row.Tie as tie
 
-get-head-requires : tie.Need-get-head-requires
-get-head-requires c κs = search needs
-
-get-open-requires : tie.Need-get-open-requires
-get-open-requires c κs = search needs
-
 returns : tie.Need-returns
 returns c =
     let fit = read-fits (c .before .before .before .pre) (c .get-open .ensures) in
@@ -27,4 +21,4 @@ returns c =
     }
 
 pub next-row-spec : {M : Type 1} → statement M
-next-row-spec = tie.close (tie.spec get-head-requires get-open-requires returns)
+next-row-spec = tie.close (tie.spec (λ c κs. search needs) (λ c κs. search needs) returns)

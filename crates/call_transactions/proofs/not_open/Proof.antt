@@ -19,9 +19,6 @@ start c = c .before .before .before
 stored : (c : tie.Else1) → holdsStore (start c .args .m .now) ≡ true
 stored c = sym (c .before .holds-store .ensures) ∙ not-false _ (c .if1 .left)
 
-holds-store-requires : tie.Need-holds-store-requires
-holds-store-requires c κs = search needs
-
 returns : tie.Need-returns
 returns c = let a = c .before .before .before .args in
     sym (verdict-4 (a .m .now) (notOpen (a .transaction)) (sym (c .before .holds-store .ensures) ∙ not-true _ (c .if1 .taken)))
@@ -51,13 +48,4 @@ returns-4 c =
     (omega (arith, c .before .before .open-count .ensures, c .before .find-open .ensures, c .if3 .left)))
 
 pub not-open-spec : {M : Type 1} → statement M
-not-open-spec =
-    tie.close
-    (tie.spec
-    holds-store-requires
-    returns
-    returns-2
-    open-count-requires
-    find-open-requires
-    returns-3
-    returns-4)
+not-open-spec = tie.close (tie.spec (λ c κs. search needs) returns returns-2 open-count-requires find-open-requires returns-3 returns-4)

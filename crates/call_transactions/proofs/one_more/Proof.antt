@@ -5,9 +5,6 @@ use Rattle.call_transactions.proofs.Writing.{more-one, more-full}
 use Rattle.call_transactions.proofs.one_more.Statement.{statement}
 use Rattle.call_transactions.proofs.one_more.Tie as tie
 
-add-t3 : tie.Need-add-t3
-add-t3 c = search needs
-
 returns : tie.Need-returns
 returns c = let e = c .before in
     let st = e .before .before in
@@ -18,4 +15,4 @@ returns-2 c = let st = c .before .before in
     (more-full (st .args .o) (st .pre) (c .if1 .left), st .pre)
 
 pub one-more-spec : {M : Type 1} → statement M
-one-more-spec = tie.close (tie.spec add-t3 returns returns-2)
+one-more-spec = tie.close (tie.spec (search needs) returns returns-2)

@@ -22,17 +22,8 @@ start c = c .before .before .before .before
 stored : (c : tie.Else1) → holdsStore (start c .args .m .now) ≡ true
 stored c = sym (c .before .holds-store .ensures) ∙ not-false _ (c .if1 .left)
 
-holds-store-requires : tie.Need-holds-store-requires
-holds-store-requires c κs = search needs
-
-same-length : tie.Need-same-length
-same-length c = search needs
-
 returns : tie.Need-returns
 returns c = answers-4 _ (c .before .before .before .before .args .m .now) (sym (c .before .holds-store .ensures) ∙ not-true _ (c .if1 .taken))
-
-same-length-2 : tie.Need-same-length-2
-same-length-2 c = search needs
 
 returns-2 : tie.Need-returns-2
 returns-2 c = let e1 = c .before in
@@ -45,17 +36,11 @@ open-count-requires c κs = holds-room _ (stored (c .before .before))
 find-open-requires : tie.Need-find-open-requires
 find-open-requires c κs = holds-room _ (stored (c .before .before .before .before))
 
-same-length-3 : tie.Need-same-length-3
-same-length-3 c = search needs
-
 returns-3 : tie.Need-returns-3
 returns-3 c = let e2 = c .before .before .before .before .before in
     let a = start (e2 .before) .args in
     answers-refused _ (a .m .now) 8 (stored (e2 .before))
     (open-8 (a .transaction) (flatOf (a .m .now)) (e2 .if2 .left) (omega (arith, c .before .before .before .open-count .ensures, c .before .find-open .ensures, c .if3 .taken)))
-
-same-length-4 : tie.Need-same-length-4
-same-length-4 c = search needs
 
 returns-4 : tie.Need-returns-4
 returns-4 c = let e2 = c .before .before .before .before .before .before in
@@ -63,9 +48,6 @@ returns-4 c = let e2 = c .before .before .before .before .before .before in
     let en = c .before .before .before .before .open-count .ensures in
     answers-refused _ (a .m .now) 9 (stored (e2 .before))
     (open-9 (a .transaction) (flatOf (a .m .now)) (e2 .if2 .left) (omega (arith, en, c .before .before .find-open .ensures, c .before .if3 .left)) (omega (arith, en, c .if4 .taken)))
-
-cast-t14 : tie.Need-cast-t14
-cast-t14 c = search needs
 
 push-open-requires : tie.Need-push-open-requires
 push-open-requires c κs = let e2 = c .before .before .before .before .before .before .before in (
@@ -75,9 +57,6 @@ push-open-requires c κs = let e2 = c .before .before .before .before .before .b
     record { transaction = omega (arith, e2 .if2 .left); written = omega arith },
   ),
 )
-
-same-length-5 : tie.Need-same-length-5
-same-length-5 c = search needs
 
 returns-5 : tie.Need-returns-5
 returns-5 c = let e2 = c .before .before .before .before .before .before .before .before .before .before in
@@ -92,21 +71,5 @@ returns-5 c = let e2 = c .before .before .before .before .before .before .before
     (opens-hold (a .m .now) _ _ (stored (e2 .before)) (c .before .before .push-open .ensures))
 
 pub open-spec : {M : Type 1} → statement M
-open-spec =
-    tie.close
-    (tie.spec
-    holds-store-requires
-    same-length
-    returns
-    same-length-2
-    returns-2
-    open-count-requires
-    find-open-requires
-    same-length-3
-    returns-3
-    same-length-4
-    returns-4
-    cast-t14
-    push-open-requires
-    same-length-5
-    returns-5)
+open-spec = tie.close (tie.spec (λ c κs. search needs) (search needs) returns (search needs) returns-2 open-count-requires find-open-requires (search needs) returns-3
+    (search needs) returns-4 (search needs) push-open-requires (search needs) returns-5)

@@ -4,14 +4,8 @@ use Rattle.call_transactions.proofs.Opens.{opens-count}
 use Rattle.call_transactions.proofs.open_count.Statement.{statement}
 use Rattle.call_transactions.proofs.open_count.Tie as tie
 
-get-counts-requires : tie.Need-get-counts-requires
-get-counts-requires c κs = search needs
-
-cast-result : tie.Need-cast-result
-cast-result c = search needs
-
 returns : tie.Need-returns
 returns c = opens-count _ (c .before .get-counts .ensures)
 
 pub open-count-spec : {M : Type 1} → statement M
-open-count-spec = tie.close (tie.spec get-counts-requires cast-result returns)
+open-count-spec = tie.close (tie.spec (λ c κs. search needs) (search needs) returns)

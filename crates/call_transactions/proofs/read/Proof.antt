@@ -32,9 +32,6 @@ opened c =
     call-after (a .m .now) (notOpen (a .transaction)) _ (c .before .not-open .ensures) (readCall (a .transaction) (a .table) (a .key) n)
     (readAfter (a .transaction) (a .table) (a .key) n) (read-tests (a .transaction) (a .table) (a .key) n) (open-numbered (a .transaction)) (c .if1 .left)
 
-not-open-requires : tie.Need-not-open-requires
-not-open-requires c κs = search needs
-
 returns : tie.Need-returns
 returns c = let a = c .before .before .before .before .args in
     let p : List ℕ = a .reply .now in
@@ -46,17 +43,8 @@ returns-2 c = let e1 = c .before in
     let a = start e1 .args in
     replies-refused _ (a .m .now) (a .reply .now) 10 (stored e1) (opened e1 ∙ read-10 (a .transaction) (a .table) (a .key) (length (a .reply .now)) (flatOf (a .m .now)) (c .if2 .taken))
 
-cast-t : tie.Need-cast-t
-cast-t c = search needs
-
 seen-by-requires : tie.Need-seen-by-requires
 seen-by-requires c κs = (stored (c .before), omega (arith, c .if2 .left))
-
-enum-known-i : tie.Need-enum-known-i
-enum-known-i c = search needs
-
-enum-told : tie.Need-enum-told
-enum-told c = search needs
 
 returns-3 : tie.Need-returns-3
 returns-3 c = let s = c .before .before in
@@ -89,9 +77,6 @@ copy-payload-requires c κs = let s = c .before .before .before .before .before 
     let inside = seen-in (a .transaction) (a .table) (a .key) 0 (flatOf (a .m .now)) (s .before .if2 .left) _ (s .seen-by .ensures) _ (i .1) in
     (holds-room _ (stored e1), (inside, omega (arith, hd .count, c .before .if3 .left)))
 
-same-length : tie.Need-same-length
-same-length c = search needs
-
 returns-5 : tie.Need-returns-5
 returns-5 c = let s = c .before .before .before .before .before .before .before .before .before in
     let e1 = s .before .before in
@@ -107,19 +92,5 @@ returns-5 c = let s = c .before .before .before .before .before .before .before 
     (cp .first ∙ ap (λ (z : ℕ). bs ++ drop z p) (cp .count))
 
 pub read-spec : {M : Type 1} → statement M
-read-spec =
-    tie.close
-    (tie.spec
-    not-open-requires
-    returns
-    returns-2
-    cast-t
-    seen-by-requires
-    enum-known-i
-    enum-told
-    returns-3
-    payload-at-requires
-    returns-4
-    copy-payload-requires
-    same-length
-    returns-5)
+read-spec = tie.close (tie.spec (λ c κs. search needs) returns returns-2 (search needs) seen-by-requires (search needs) (search needs) returns-3 payload-at-requires returns-4
+    copy-payload-requires (search needs) returns-5)

@@ -15,12 +15,6 @@ start c = c .before .before .before .before .before
 passed : (c : tie.Else1) → let a = start c .args in Called (a .m .now) (a .transaction) (a .table) (length (a .payload .now))
 passed c = called (c .before .call-refusal .ensures) (c .if1 .left)
 
-call-refusal-requires : tie.Need-call-refusal-requires
-call-refusal-requires c κs = search needs
-
-same-length : tie.Need-same-length
-same-length c = search needs
-
 returns : tie.Need-returns
 returns c = let a = c .before .before .before .before .before .args in
     call-refused (a .new) (a .mark) (a .transaction) (a .table) (a .key) (a .payload .now) (a .m .now) _ (c .before .call-refusal .ensures) (c .if1 .taken)
@@ -33,9 +27,6 @@ look-place-requires c κs = (passed (c .before) .there, passed (c .before) .tabl
 
 key-refusal-requires : tie.Need-key-refusal-requires
 key-refusal-requires c κs = (passed (c .before .before .before) .there, c .before .look-place .ensures .look .own-in)
-
-same-length-2 : tie.Need-same-length-2
-same-length-2 c = search needs
 
 returns-2 : tie.Need-returns-2
 returns-2 c =
@@ -52,9 +43,6 @@ accept-requires c κs =
     let s = k .before .before in
     accepts _ _ (passed (s .before .before)) (sym (k .key-refusal .ensures) ∙ c .before .if2 .left) (s .look-place .ensures .place)
 
-same-length-3 : tie.Need-same-length-3
-same-length-3 c = search needs
-
 returns-3 : tie.Need-returns-3
 returns-3 c =
     let k = c .before .before .before .before .before in
@@ -65,17 +53,5 @@ returns-3 c =
     _ (s .look-place .ensures .look) _ (k .key-refusal .ensures) (c .before .before .before .before .if2 .left) _ (c .before .before .accept .ensures)
 
 pub write-spec : {M : Type 1} → statement M
-write-spec =
-    tie.close
-    (tie.spec
-    call-refusal-requires
-    same-length
-    returns
-    cast-t
-    look-place-requires
-    key-refusal-requires
-    same-length-2
-    returns-2
-    accept-requires
-    same-length-3
-    returns-3)
+write-spec = tie.close (tie.spec (λ c κs. search needs) (search needs) returns cast-t look-place-requires key-refusal-requires (search needs) returns-2 accept-requires
+    (search needs) returns-3)

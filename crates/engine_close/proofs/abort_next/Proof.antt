@@ -16,9 +16,6 @@ next-own-requires c κs = let p = c .before .before .pre in (holds-room _ (p .0)
 row-count-requires : tie.Need-row-count-requires
 row-count-requires c κs = holds-room _ (c .before .before .before .before .pre .0)
 
-same-length : tie.Need-same-length
-same-length c = search needs
-
 returns : tie.Need-returns
 returns c = let p3 = c .before .before .before in let p6 = p3 .before .before .before in
     none-aborted (p6 .pre .0) (p6 .pre .1) (p3 .next-own .ensures) (c .if1 .taken ∙ c .before .row-count .ensures)
@@ -33,23 +30,10 @@ page-of-requires c κs = let p1 = c .before in (holds-room _ (p1 .before .before
 remove-row-requires : tie.Need-remove-row-requires
 remove-row-requires c κs = let p3 = c .before .before .before in (p3 .before .before .before .before .before .before .pre .0, own-there p3)
 
-same-length-2 : tie.Need-same-length-2
-same-length-2 c = search needs
-
 returns-2 : tie.Need-returns-2
 returns-2 c = let p2 = c .before .before in let p6 = p2 .before .before .before .before in let p9 = p6 .before .before .before in
     let h = own-there p6 in let o = p9 .next-own .ensures in
     one-aborted o (own-gone h (p2 .remove-row .ensures) (p9 .before .before .before .args .transaction) (o .found h))
 
 pub abort-next-spec : {M : Type 1} → statement M
-abort-next-spec =
-    tie.close
-    (tie.spec
-    next-own-requires
-    row-count-requires
-    same-length
-    returns
-    page-of-requires
-    remove-row-requires
-    same-length-2
-    returns-2)
+abort-next-spec = tie.close (tie.spec next-own-requires row-count-requires (search needs) returns page-of-requires remove-row-requires (search needs) returns-2)

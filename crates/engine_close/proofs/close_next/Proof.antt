@@ -17,9 +17,6 @@ next-own-requires c κs = let p = c .before .before .pre in (holds-room _ (p .0)
 row-count-requires : tie.Need-row-count-requires
 row-count-requires c κs = holds-room _ (c .before .before .before .before .pre .0)
 
-same-length : tie.Need-same-length
-same-length c = search needs
-
 returns : tie.Need-returns
 returns c = let p3 = c .before .before .before in let p6 = p3 .before .before .before in
     none-closed (p6 .pre .0) (p6 .pre .1) (p3 .next-own .ensures) (c .if1 .taken ∙ c .before .row-count .ensures)
@@ -35,9 +32,6 @@ page-of-requires c κs = row-there (c .before)
 
 table-of-requires : tie.Need-table-of-requires
 table-of-requires c κs = (row-there (c .before .before .before) .0, c .before .page-of .ensures .high)
-
-cast-t : tie.Need-cast-t
-cast-t c = search needs
 
 -- the table of its page is its table
 table-there : (c : tie.After-table-of) →
@@ -58,31 +52,11 @@ newest-own-requires c κs = let p9 = c .before .before .before .before .before .
     let h = row-there p9 in let t = c .before .run-end .ensures in
     (h .0, (t .low, (t .most, p9 .before .before .before .next-own .ensures .found (h .1))))
 
-close-run-requires : tie.Need-close-run-requires
-close-run-requires c κs = search needs
-
-same-length-2 : tie.Need-same-length-2
-same-length-2 c = search needs
-
 returns-2 : tie.Need-returns-2
 returns-2 c = let p2 = c .before .before in let p4 = p2 .before .before in let p6 = p4 .before .before in let p8 = p6 .before .before in
     let p17 = p8 .before .before .before .before .before .before .before .before .before in
     one-closed (p17 .next-own .ensures) (p8 .run-start .ensures) (p6 .run-end .ensures) (p4 .newest-own .ensures) (p2 .close-run .ensures)
 
 pub close-next-spec : {M : Type 1} → statement M
-close-next-spec =
-    tie.close
-    (tie.spec
-    next-own-requires
-    row-count-requires
-    same-length
-    returns
-    page-of-requires
-    table-of-requires
-    cast-t
-    run-start-requires
-    run-end-requires
-    newest-own-requires
-    close-run-requires
-    same-length-2
-    returns-2)
+close-next-spec = tie.close (tie.spec next-own-requires row-count-requires (search needs) returns page-of-requires table-of-requires (search needs) run-start-requires
+    run-end-requires newest-own-requires (λ c κs. search needs) (search needs) returns-2)

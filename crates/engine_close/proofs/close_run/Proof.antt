@@ -12,47 +12,20 @@ use Rattle.engine_close.proofs.close_run.Tie as tie
 mark-at-requires : tie.Need-mark-at-requires
 mark-at-requires c κs = let st = c .before .before in let r = holds-room _ (st .pre .held) in (r, omega (arith, st .pre .high, st .pre .most, tagged-length (st .args .m .now) r))
 
-sub-remove-rows : tie.Need-sub-remove-rows
-sub-remove-rows c = search needs
-
-remove-rows-requires : tie.Need-remove-rows-requires
-remove-rows-requires c κs = search needs
-
-same-length : tie.Need-same-length
-same-length c = search needs
-
 returns : tie.Need-returns
 returns c = let p2 = c .before .before in let p4 = p2 .before .before in let p5 = p4 .before in let st = p5 .before .before .before in
     let m = st .args .m .now in
     let k = ap (λ (h : Held). h .tuple .mark) (row-is m (holds-room _ (st .pre .held)) (st .args .k)) ∙ sym (p5 .mark-at .ensures) in
     run-marked (st .pre) (k ∙ p4 .if1 .taken) (p2 .remove-rows .ensures)
 
-commit-row-requires : tie.Need-commit-row-requires
-commit-row-requires c κs = search needs
-
-sub-remove-rows-2 : tie.Need-sub-remove-rows-2
-sub-remove-rows-2 c = search needs
-
 remove-rows-requires-2 : tie.Need-remove-rows-requires-2
 remove-rows-requires-2 c κs = let p3 = c .before .before .before in let p9 = p3 .before .before .before .before .before .before in
     let w = p9 .pre in (now-held (p3 .commit-row .ensures), omega (arith, kept-length w (p3 .commit-row .ensures), w .low, w .high, w .most))
-
-add-remove-rows : tie.Need-add-remove-rows
-add-remove-rows c = search needs
-
-sub-remove-rows-3 : tie.Need-sub-remove-rows-3
-sub-remove-rows-3 c = search needs
-
-sub-remove-rows-4 : tie.Need-sub-remove-rows-4
-sub-remove-rows-4 c = search needs
 
 remove-rows-requires-3 : tie.Need-remove-rows-requires-3
 remove-rows-requires-3 c κs = let p3 = c .before .before .before in let p7 = p3 .before .before .before .before in
     let p13 = p7 .before .before .before .before .before .before in
     let u = p3 .remove-rows2 .ensures in (live-held u, kept-there (p13 .pre) (p7 .commit-row .ensures) u)
-
-same-length-2 : tie.Need-same-length-2
-same-length-2 c = search needs
 
 returns-2 : tie.Need-returns-2
 returns-2 c = let p2 = c .before .before in let p6 = p2 .before .before .before .before in let p10 = p6 .before .before .before .before in
@@ -62,20 +35,5 @@ returns-2 c = let p2 = c .before .before in let p6 = p2 .before .before .before 
     run-kept (st .pre) (p10 .commit-row .ensures) (p6 .remove-rows2 .ensures) (k ∙ p12 .if1 .left) (p2 .remove-rows3 .ensures)
 
 pub close-run-spec : {M : Type 1} → statement M
-close-run-spec =
-    tie.close
-    (tie.spec
-    mark-at-requires
-    sub-remove-rows
-    remove-rows-requires
-    same-length
-    returns
-    commit-row-requires
-    sub-remove-rows-2
-    remove-rows-requires-2
-    add-remove-rows
-    sub-remove-rows-3
-    sub-remove-rows-4
-    remove-rows-requires-3
-    same-length-2
-    returns-2)
+close-run-spec = tie.close (tie.spec mark-at-requires (search needs) (λ c κs. search needs) (search needs) returns (λ c κs. search needs) (search needs) remove-rows-requires-2
+    (search needs) (search needs) (search needs) remove-rows-requires-3 (search needs) returns-2)

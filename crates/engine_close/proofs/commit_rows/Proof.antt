@@ -40,15 +40,4 @@ returns c = let p3 = c .before .before .before in let p5 = p3 .before .before in
     holds-now (commit-done (p5 .args .transaction) (p3 .loop .inv) (omega (arith, c .if1 .left, c .before .row-count .ensures)))
 
 pub commit-rows-spec : {M : Type 1} → statement M
-commit-rows-spec =
-    tie.close
-    (tie.spec
-    Inv-loop
-    μ-loop
-    loop-holds
-    row-count-requires
-    close-next-requires
-    loop-less
-    loop-again
-    same-length
-    returns)
+commit-rows-spec = tie.close (tie.spec Inv-loop μ-loop loop-holds row-count-requires close-next-requires loop-less loop-again same-length returns)

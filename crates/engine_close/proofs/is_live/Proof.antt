@@ -9,18 +9,6 @@ use Rattle.engine_close.proofs.is_live.Tie as tie
 pending-at-requires : tie.Need-pending-at-requires
 pending-at-requires c κs = let st = c .before in (st .pre .0, omega (arith, st .pre .1, tagged-length (st .args .m .now) (st .pre .0)))
 
-enum-told : tie.Need-enum-told
-enum-told c = search needs
-
-enum-told-2 : tie.Need-enum-told-2
-enum-told-2 c = search needs
-
-enum-told-3 : tie.Need-enum-told-3
-enum-told-3 c = search needs
-
-enum-told-4 : tie.Need-enum-told-4
-enum-told-4 c = search needs
-
 returns : tie.Need-returns
 unfolding isRemoving
 returns c = let p2 = c .before .before in let p4 = p2 .before .before in
@@ -42,15 +30,4 @@ returns-4 c = let p2 = c .before .before in let p4 = p2 .before .before in
     live-is (p4 .args .m .now) (p4 .pre .0) (p4 .args .i) (c .enum-told4 .given .1) (p2 .pending-at .ensures)
 
 pub is-live-spec : {M : Type 1} → statement M
-is-live-spec =
-    tie.close
-    (tie.spec
-    pending-at-requires
-    enum-told
-    enum-told-2
-    enum-told-3
-    enum-told-4
-    returns
-    returns-2
-    returns-3
-    returns-4)
+is-live-spec = tie.close (tie.spec pending-at-requires (search needs) (search needs) (search needs) (search needs) returns returns-2 returns-3 returns-4)

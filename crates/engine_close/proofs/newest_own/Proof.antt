@@ -54,16 +54,4 @@ returns-2 c = let l = c .before .loop in let st = c .before .before .before in
     }
 
 pub newest-own-spec : {M : Type 1} → statement M
-newest-own-spec =
-    tie.close
-    (tie.spec
-    Inv-loop
-    μ-loop
-    sub-r
-    loop-holds
-    owns-requires
-    returns
-    sub-r-2
-    loop-less
-    loop-again
-    returns-2)
+newest-own-spec = tie.close (tie.spec Inv-loop μ-loop sub-r loop-holds owns-requires returns sub-r-2 loop-less loop-again returns-2)

@@ -63,18 +63,4 @@ returns-2 c = let p2 = c .before .before in let p3 = p2 .before in let st = p3 .
     }
 
 pub next-own-spec : {M : Type 1} → statement M
-next-own-spec =
-    tie.close
-    (tie.spec
-    Inv-loop
-    μ-loop
-    row-count-requires
-    loop-holds
-    add-loop
-    own-in-group-requires
-    add-if1
-    returns
-    loop-less
-    loop-again
-    own-in-requires
-    returns-2)
+next-own-spec = tie.close (tie.spec Inv-loop μ-loop row-count-requires loop-holds add-loop own-in-group-requires add-if1 returns loop-less loop-again own-in-requires returns-2)

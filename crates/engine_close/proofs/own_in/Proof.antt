@@ -44,15 +44,4 @@ returns-2 c = let l = c .before .loop in
     record { low = l .inv .0; most = l .inv .1 .0; passed = l .inv .1 .1; found = λ x. absurd (omega (arith, c .loop-test .left)) }
 
 pub own-in-spec : {M : Type 1} → statement M
-own-in-spec =
-    tie.close
-    (tie.spec
-    Inv-loop
-    μ-loop
-    loop-holds
-    owns-requires
-    returns
-    add-r
-    loop-less
-    loop-again
-    returns-2)
+own-in-spec = tie.close (tie.spec Inv-loop μ-loop loop-holds owns-requires returns add-r loop-less loop-again returns-2)

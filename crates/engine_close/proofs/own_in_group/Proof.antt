@@ -12,12 +12,6 @@ any-tentative-requires c κs = let st = c .before in (st .pre .0, omega (arith, 
 add-own-in : tie.Need-add-own-in
 add-own-in c = let st = c .before .before .before in omega (arith, st .pre .1, few-rows (st .args .m .now) (st .pre .0))
 
-own-in-requires : tie.Need-own-in-requires
-own-in-requires c κs = search needs
-
-returns : tie.Need-returns
-returns c = search needs
-
 add-result : tie.Need-add-result
 add-result c = let st = c .before .before .before in omega (arith, st .pre .1, few-rows (st .args .m .now) (st .pre .0))
 
@@ -27,6 +21,4 @@ returns-2 c = let st = c .before .before .before in
     record { low = omega arith; most = omega arith; passed = g; found = λ x. absurd (omega arith) }
 
 pub own-in-group-spec : {M : Type 1} → statement M
-own-in-group-spec =
-    tie.close
-    (tie.spec any-tentative-requires add-own-in own-in-requires returns add-result returns-2)
+own-in-group-spec = tie.close (tie.spec any-tentative-requires add-own-in (λ c κs. search needs) (search needs) add-result returns-2)

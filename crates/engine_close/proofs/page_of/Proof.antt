@@ -3,14 +3,8 @@ use borrow.Author.Needs.{needs}
 use Rattle.engine_close.proofs.page_of.Statement.{statement}
 use Rattle.engine_close.proofs.page_of.Tie as tie
 
-page-count-requires : tie.Need-page-count-requires
-page-count-requires c κs = search needs
-
 page-of-requires : tie.Need-page-of-requires
 page-of-requires c κs = let st = c .before .before in (st .pre .0, on-pages (st .args .m .now) (st .pre .0) (c .page-count .ensures) (st .pre .1))
 
-returns : tie.Need-returns
-returns c = search needs
-
 pub page-of-spec : {M : Type 1} → statement M
-page-of-spec = tie.close (tie.spec page-count-requires page-of-requires returns)
+page-of-spec = tie.close (tie.spec (λ c κs. search needs) page-of-requires (search needs))

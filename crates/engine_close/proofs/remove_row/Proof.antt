@@ -38,24 +38,10 @@ sub-result c = let p4 = c .before .before .before .before in let p8 = p4 .before
     let g = one-gone (st .pre .1) (turned (removeRow (st .args .i) (pagesOf (st .args .m .now))) (p4 .remove-at .ensures)) in
     omega (arith, st .pre .1, p8 .row-count .ensures, c .row-count2 .ensures, g .0)
 
-same-length : tie.Need-same-length
-same-length c = search needs
-
 returns : tie.Need-returns
 returns c = let p4 = c .before .before .before .before in let p8 = p4 .before .before .before .before in let st = p8 .before .before .before in
     let u = turned (removeRow (st .args .i) (pagesOf (st .args .m .now))) (p4 .remove-at .ensures) in let g = one-gone (st .pre .1) u in
     record { pages = u; next = omega (arith, st .pre .1, p8 .row-count .ensures, c .row-count2 .ensures, g .0) }
 
 pub remove-row-spec : {M : Type 1} → statement M
-remove-row-spec =
-    tie.close
-    (tie.spec
-    row-count-requires
-    page-near-requires
-    remove-at-requires
-    add-result
-    row-count-requires-2
-    add-result-2
-    sub-result
-    same-length
-    returns)
+remove-row-spec = tie.close (tie.spec row-count-requires page-near-requires remove-at-requires add-result row-count-requires-2 add-result-2 sub-result (search needs) returns)

@@ -34,15 +34,4 @@ returns : tie.Need-returns Inv-loop μ-loop
 returns c = left-ends (c .before .before .before .pre .1) (c .before .loop .inv) (omega (arith, c .loop-test .left))
 
 pub remove-rows-spec : {M : Type 1} → statement M
-remove-rows-spec =
-    tie.close
-    (tie.spec
-    Inv-loop
-    μ-loop
-    loop-holds
-    remove-live-requires
-    sub-left
-    loop-less
-    loop-again
-    same-length
-    returns)
+remove-rows-spec = tie.close (tie.spec Inv-loop μ-loop loop-holds remove-live-requires sub-left loop-less loop-again same-length returns)

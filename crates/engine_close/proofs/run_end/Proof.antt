@@ -62,19 +62,5 @@ returns-2 c = let p3 = c .before .before .before in let p = p3 .before .before .
     (l .inv .0) (omega (arith, c .loop-test .left, l .inv .1 .0))
 
 pub run-end-spec : {M : Type 1} → statement M
-run-end-spec =
-    tie.close
-    (tie.spec
-    Inv-loop
-    μ-loop
-    add-first-row
-    first-row-requires
-    key-at-requires
-    add-r
-    loop-holds
-    key-at-requires-2
-    returns
-    add-r-2
-    loop-less
-    loop-again
+run-end-spec = tie.close (tie.spec Inv-loop μ-loop add-first-row first-row-requires key-at-requires add-r loop-holds key-at-requires-2 returns add-r-2 loop-less loop-again
     returns-2)

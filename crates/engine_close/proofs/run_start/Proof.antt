@@ -67,19 +67,5 @@ returns-2 c = let p3 = c .before .before .before in let p4 = p3 .before in let s
     (omega (arith, v .ensures .0, l .inv .0)) (l .inv .1 .0) (λ x. omega (arith, v .ensures .1 .1 (omega (arith, l .inv .0)), c .loop-test .left, l .inv .0))
 
 pub run-start-spec : {M : Type 1} → statement M
-run-start-spec =
-    tie.close
-    (tie.spec
-    Inv-loop
-    μ-loop
-    first-row-requires
-    later-requires
-    key-at-requires
-    loop-holds
-    sub-key-at
-    key-at-requires-2
-    returns
-    sub-r
-    loop-less
-    loop-again
-    returns-2)
+run-start-spec = tie.close (tie.spec Inv-loop μ-loop first-row-requires later-requires key-at-requires loop-holds sub-key-at key-at-requires-2 returns sub-r loop-less
+    loop-again returns-2)

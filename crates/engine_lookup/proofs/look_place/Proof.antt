@@ -34,5 +34,4 @@ returns c =
     }
 
 pub look-place-spec : {M : Type 1} → statement M
-look-place-spec =
-    tie.close (tie.spec table-rows-requires last-up-to-requires look-range-requires returns)
+look-place-spec = tie.close (tie.spec table-rows-requires last-up-to-requires look-range-requires returns)

@@ -10,17 +10,11 @@ use borrow.Author.Needs.{needs}
 use Rattle.engine_lookup.proofs.look_range.Statement.{statement}
 use Rattle.engine_lookup.proofs.look_range.Tie as tie
 
-find-equal-requires : tie.Need-find-equal-requires
-find-equal-requires c κs = search needs
-
 last-equal-requires : tie.Need-last-equal-requires
 last-equal-requires c κs =
     let st = c .before .before in
     let a = st .args in
     (st .pre .0, (first-in (keyIn (flatOf (a .m .now))) (a .key) (a .s) (a .e) (st .pre .1 .0) (c .find-equal .ensures), st .pre .1 .1))
-
-no-look-requires : tie.Need-no-look-requires
-no-look-requires c κs = search needs
 
 look-rows-requires : tie.Need-look-rows-requires
 look-rows-requires c κs =
@@ -40,5 +34,4 @@ returns c =
     (found-covers (keyIn (flatOf (a .m .now))) (a .key) (a .s) (a .e) _ _ (st .pre .1 .0) (omega (arith, p2 .before .find-equal .ensures)) (omega (arith, p2 .last-equal .ensures)))
 
 pub look-range-spec : {M : Type 1} → statement M
-look-range-spec =
-    tie.close (tie.spec find-equal-requires last-equal-requires no-look-requires look-rows-requires returns)
+look-range-spec = tie.close (tie.spec (λ c κs. search needs) last-equal-requires (λ c κs. search needs) look-rows-requires returns)

@@ -8,20 +8,8 @@ use borrow.Author.Needs.{needs}
 use Rattle.engine_lookup.proofs.look_row.Statement.{statement}
 use Rattle.engine_lookup.proofs.look_row.Tie as tie
 
-pending-at-requires : tie.Need-pending-at-requires
-pending-at-requires c κs = search needs
-
-enum-told : tie.Need-enum-told
-enum-told c = search needs
-
-enum-told-2 : tie.Need-enum-told-2
-enum-told-2 c = search needs
-
 note-committed-requires : tie.Need-note-committed-requires
 note-committed-requires c κs = let st = c .before .before .before .before in row-below (st .pre .0) (st .pre .1)
-
-owner-at-requires : tie.Need-owner-at-requires
-owner-at-requires c κs = search needs
 
 note-owner-requires : tie.Need-note-owner-requires
 note-owner-requires c κs = let st = c .before .before .before .before in row-below (st .pre .0) (st .pre .1)
@@ -41,15 +29,5 @@ returns-3 c = let g = c .before .before .before in let a = g .before .before .ar
     ∙ note-other (a .transaction) (a .i) (rowIn (flatOf (a .m .now)) (a .i)) (a .look) (g .pending-at .result) (g .pending-at .ensures) (c .before .before .match .keys3)
 
 pub look-row-spec : {M : Type 1} → statement M
-look-row-spec =
-    tie.close
-    (tie.spec
-    pending-at-requires
-    enum-told
-    enum-told-2
-    note-committed-requires
-    owner-at-requires
-    note-owner-requires
-    returns
-    returns-2
+look-row-spec = tie.close (tie.spec (λ c κs. search needs) (search needs) (search needs) note-committed-requires (λ c κs. search needs) note-owner-requires returns returns-2
     returns-3)

@@ -53,15 +53,4 @@ returns c =
     sym (turn-end (flatOf (a .m .now)) (a .transaction) (a .key) (g .i) (a .to) (g .l) (omega (arith, c .loop-test .left))) ∙ g .inv
 
 pub look-rows-spec : {M : Type 1} → statement M
-look-rows-spec =
-    tie.close
-    (tie.spec
-    Inv-loop
-    μ-loop
-    loop-holds
-    key-at-requires
-    look-row-requires
-    add-i
-    loop-less
-    loop-again
-    returns)
+look-rows-spec = tie.close (tie.spec Inv-loop μ-loop loop-holds key-at-requires look-row-requires add-i loop-less loop-again returns)

@@ -5,20 +5,10 @@ use borrow.Author.Needs.{needs}
 use Rattle.engine_lookup.proofs.look_span.Statement.{statement}
 use Rattle.engine_lookup.proofs.look_span.Tie as tie
 
-span-equal-requires : tie.Need-span-equal-requires
-span-equal-requires c κs = search needs
-
-no-look-requires : tie.Need-no-look-requires
-no-look-requires c κs = search needs
-
-look-rows-requires : tie.Need-look-rows-requires
-look-rows-requires c κs = search needs
-
 returns : tie.Need-returns
 returns c =
     let a = c .before .before .before .before .args in
     range-looked (flatOf (a .m .now)) (a .transaction) (c .look-rows .ensures) (c .before .no-look .ensures) (c .before .before .span-equal .ensures)
 
 pub look-span-spec : {M : Type 1} → statement M
-look-span-spec =
-    tie.close (tie.spec span-equal-requires no-look-requires look-rows-requires returns)
+look-span-spec = tie.close (tie.spec (λ c κs. search needs) (λ c κs. search needs) (λ c κs. search needs) returns)

@@ -4,9 +4,6 @@ use borrow.Author.Needs.{needs}
 use Rattle.engine_lookup.proofs.note_committed.Statement.{statement}
 use Rattle.engine_lookup.proofs.note_committed.Tie as tie
 
-add-l : tie.Need-add-l
-add-l c = search needs
-
 returns : tie.Need-returns
 returns c = let a = c .before .before .args in first-committed (a .i) (a .look) (c .if1 .taken)
 
@@ -14,4 +11,4 @@ returns-2 : tie.Need-returns-2
 returns-2 c = let a = c .before .before .args in later-committed (a .i) (a .look) (c .if1 .left)
 
 pub note-committed-spec : {M : Type 1} → statement M
-note-committed-spec = tie.close (tie.spec add-l returns returns-2)
+note-committed-spec = tie.close (tie.spec (search needs) returns returns-2)

@@ -7,21 +7,6 @@ use borrow.Author.Needs.{needs}
 use Rattle.engine_lookup.proofs.note_owner.Statement.{statement}
 use Rattle.engine_lookup.proofs.note_owner.Tie as tie
 
-enum-told : tie.Need-enum-told
-enum-told c = search needs
-
-note-committed-requires : tie.Need-note-committed-requires
-note-committed-requires c κs = search needs
-
-enum-known-owner : tie.Need-enum-known-owner
-enum-known-owner c = search needs
-
-cast-note-tentative : tie.Need-cast-note-tentative
-cast-note-tentative c = search needs
-
-note-tentative-requires : tie.Need-note-tentative-requires
-note-tentative-requires c κs = search needs
-
 returns : tie.Need-returns
 unfolding noteOwner
 returns c =
@@ -37,13 +22,4 @@ returns-2 c =
     ∙ sym (ap (λ (o : Owner). noteOwner (a .transaction) (a .i) (ownerIs o) (a .look)) (c .before .before .owner .given .1))
 
 pub note-owner-spec : {M : Type 1} → statement M
-note-owner-spec =
-    tie.close
-    (tie.spec
-    enum-told
-    note-committed-requires
-    enum-known-owner
-    cast-note-tentative
-    note-tentative-requires
-    returns
-    returns-2)
+note-owner-spec = tie.close (tie.spec (search needs) (λ c κs. search needs) (search needs) (search needs) (λ c κs. search needs) returns returns-2)

@@ -4,9 +4,6 @@ use borrow.Author.Needs.{needs}
 use Rattle.engine_lookup.proofs.note_tentative.Statement.{statement}
 use Rattle.engine_lookup.proofs.note_tentative.Tie as tie
 
-add-l : tie.Need-add-l
-add-l c = search needs
-
 returns : tie.Need-returns
 returns c = let a = c .before .args in own-tentative (a .i) (a .look) (a .own) (c .if1 .taken)
 
@@ -14,4 +11,4 @@ returns-2 : tie.Need-returns-2
 returns-2 c = let a = c .before .args in foreign-tentative (a .i) (a .look) (a .own) (c .if1 .left)
 
 pub note-tentative-spec : {M : Type 1} → statement M
-note-tentative-spec = tie.close (tie.spec add-l returns returns-2)
+note-tentative-spec = tie.close (tie.spec (search needs) returns returns-2)

@@ -9,17 +9,8 @@ use Rattle.engine_lookup.proofs.pick.Tie as tie
 returns : tie.Need-returns
 returns c = let a = c .before .before .before .args in pick-none (flatOf (a .m .now)) (a .look) (c .before .if1 .taken) (c .if2 .taken)
 
-sub-t8 : tie.Need-sub-t8
-sub-t8 c = search needs
-
 returns-2 : tie.Need-returns-2
 returns-2 c = let a = c .before .before .before .args in pick-committed (flatOf (a .m .now)) (a .look) (c .before .if1 .taken) (c .if2 .left)
-
-sub-i : tie.Need-sub-i
-sub-i c = search needs
-
-mark-at-requires : tie.Need-mark-at-requires
-mark-at-requires c κs = search needs
 
 returns-3 : tie.Need-returns-3
 returns-3 c =
@@ -32,5 +23,4 @@ returns-4 c =
     pick-own (flatOf (a .m .now)) (a .look) _ refl (c .before .before .if1 .left) _ (c .before .mark-at .ensures) (c .if3 .left)
 
 pub pick-spec : {M : Type 1} → statement M
-pick-spec =
-    tie.close (tie.spec returns sub-t8 returns-2 sub-i mark-at-requires returns-3 returns-4)
+pick-spec = tie.close (tie.spec returns (search needs) returns-2 (search needs) (λ c κs. search needs) returns-3 returns-4)

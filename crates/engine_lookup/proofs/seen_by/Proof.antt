@@ -6,9 +6,6 @@ use borrow.Author.Needs.{needs}
 use Rattle.engine_lookup.proofs.seen_by.Statement.{statement}
 use Rattle.engine_lookup.proofs.seen_by.Tie as tie
 
-look-up-requires : tie.Need-look-up-requires
-look-up-requires c κs = search needs
-
 pick-requires : tie.Need-pick-requires
 pick-requires c κs = let st = c .before .before in (holds-room (st .args .m .now) (st .pre .0), c .look-up .ensures .own-in)
 
@@ -18,4 +15,4 @@ returns c =
     look-sees (flatOf (a .m .now)) (a .table) (a .transaction) (a .key) (c .before .look-up .result) (c .pick .result) (c .before .look-up .ensures) (c .pick .ensures)
 
 pub seen-by-spec : {M : Type 1} → statement M
-seen-by-spec = tie.close (tie.spec look-up-requires pick-requires returns)
+seen-by-spec = tie.close (tie.spec (λ c κs. search needs) pick-requires returns)

@@ -4,21 +4,6 @@ use borrow.Author.Needs.{needs}
 use Rattle.engine_lookup.proofs.table_rows.Statement.{statement}
 use Rattle.engine_lookup.proofs.table_rows.Tie as tie
 
-table-start-requires : tie.Need-table-start-requires
-table-start-requires c κs = search needs
-
-add-table-start : tie.Need-add-table-start
-add-table-start c = search needs
-
-table-start-requires-2 : tie.Need-table-start-requires-2
-table-start-requires-2 c κs = search needs
-
-start-of-requires : tie.Need-start-of-requires
-start-of-requires c κs = search needs
-
-start-of-requires-2 : tie.Need-start-of-requires-2
-start-of-requires-2 c κs = search needs
-
 returns : tie.Need-returns
 returns c =
     let st = c .before .before .before .before .before in
@@ -26,12 +11,4 @@ returns c =
     table-range (st .pre .0) p (c .before .before .table-start2 .ensures) (c .before .start-of .ensures .0) (c .start-of2 .ensures .0) (c .start-of2 .ensures .1)
 
 pub table-rows-spec : {M : Type 1} → statement M
-table-rows-spec =
-    tie.close
-    (tie.spec
-    table-start-requires
-    add-table-start
-    table-start-requires-2
-    start-of-requires
-    start-of-requires-2
-    returns)
+table-rows-spec = tie.close (tie.spec (λ c κs. search needs) (search needs) (λ c κs. search needs) (λ c κs. search needs) (λ c κs. search needs) returns)

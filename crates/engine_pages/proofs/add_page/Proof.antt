@@ -19,9 +19,6 @@ insert-row-requires c κs =
     let b9 = b5 .before .before .before .before in
     let u = b3 .insert-page .ensures in (added-new (b9 .pre) u (b5 .start-of .ensures .0), added-there (b9 .pre) u)
 
-same-length : tie.Need-same-length
-same-length c = search needs
-
 returns : tie.Need-returns
 returns c =
     let b2 = c .before .before in
@@ -31,6 +28,4 @@ returns c =
     added (b12 .pre) (b6 .insert-page .ensures) (b8 .start-of .ensures .0) (b2 .insert-row .ensures)
 
 pub add-page-spec : {M : Type 1} → statement M
-add-page-spec =
-    tie.close
-    (tie.spec start-of-requires insert-page-requires insert-row-requires same-length returns)
+add-page-spec = tie.close (tie.spec start-of-requires insert-page-requires insert-row-requires (search needs) returns)

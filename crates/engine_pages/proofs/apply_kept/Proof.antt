@@ -2,7 +2,6 @@ use mathlib.Core.Path.{sym, ap, _∙_}
 use lib.ListN.{length, length-set}
 use Rattle.memory_layout.specs.Flat.{Flat}
 use Rattle.engine_pages.proofs.Applying.{kept-both, kept-one, still-row}
-use native.Mathlib.Omega.{arith}
 use borrow.Author.Needs.{needs}
 use Rattle.engine_pages.proofs.apply_kept.Statement.{statement}
 use Rattle.engine_pages.proofs.apply_kept.Tie as tie
@@ -19,9 +18,6 @@ set-pending-requires c κs =
     let b9 = b3 .before .before .before .before .before .before in
     let u = b3 .commit-row .ensures in (u .room, still-row (b9 .args .m .now) (b9 .args .i) (b9 .pre .1) u)
 
-same-length : tie.Need-same-length
-same-length c = search needs
-
 returns : tie.Need-returns
 returns c =
     let b2 = c .before .before in
@@ -34,9 +30,6 @@ returns c =
 set-pending-requires-2 : tie.Need-set-pending-requires-2
 set-pending-requires-2 c κs = let b5 = c .before .before .before .before .before in b5 .pre
 
-same-length-2 : tie.Need-same-length-2
-same-length-2 c = search needs
-
 returns-2 : tie.Need-returns-2
 returns-2 c =
     let b2 = c .before .before in
@@ -46,14 +39,4 @@ returns-2 c =
     kept-one (b8 .args .m .now) (b8 .args .i) (sym (b5 .is-committing .ensures) ∙ b4 .if1 .left) (b2 .set-pending2 .ensures)
 
 pub apply-kept-spec : {M : Type 1} → statement M
-apply-kept-spec =
-    tie.close
-    (tie.spec
-    is-committing-requires
-    commit-row-requires
-    set-pending-requires
-    same-length
-    returns
-    set-pending-requires-2
-    same-length-2
-    returns-2)
+apply-kept-spec = tie.close (tie.spec is-committing-requires commit-row-requires set-pending-requires (search needs) returns set-pending-requires-2 (search needs) returns-2)

@@ -4,9 +4,6 @@ use borrow.Author.Needs.{needs}
 use Rattle.engine_pages.proofs.apply_pending.Statement.{statement}
 use Rattle.engine_pages.proofs.apply_pending.Tie as tie
 
-apply-pending-rows-requires : tie.Need-apply-pending-rows-requires
-apply-pending-rows-requires c κs = search needs
-
 remove-page-requires : tie.Need-remove-page-requires
 remove-page-requires c κs =
     let b1 = c .before in
@@ -14,9 +11,6 @@ remove-page-requires c κs =
     let b7 = b4 .before .before .before in
     let o = b4 .apply-pending-rows .ensures in
     (o .becomes .room, record { place = left-there (b7 .pre) o; empty = left-empty (b7 .pre) o (b1 .if1 .taken) })
-
-same-length : tie.Need-same-length
-same-length c = search needs
 
 returns : tie.Need-returns
 returns c =
@@ -32,9 +26,6 @@ set-page-requires c κs =
     let b7 = b4 .before .before .before in
     let o = b4 .apply-pending-rows .ensures in (o .becomes .room, record { place = left-there (b7 .pre) o; block = omega arith })
 
-same-length-2 : tie.Need-same-length-2
-same-length-2 c = search needs
-
 returns-2 : tie.Need-returns-2
 returns-2 c =
     let b2 = c .before .before in
@@ -44,13 +35,4 @@ returns-2 c =
     left-some (b10 .pre) (b7 .apply-pending-rows .ensures) (b4 .if1 .left) (b2 .set-page .ensures)
 
 pub apply-pending-spec : {M : Type 1} → statement M
-apply-pending-spec =
-    tie.close
-    (tie.spec
-    apply-pending-rows-requires
-    remove-page-requires
-    same-length
-    returns
-    set-page-requires
-    same-length-2
-    returns-2)
+apply-pending-spec = tie.close (tie.spec (λ c κs. search needs) remove-page-requires (search needs) returns set-page-requires (search needs) returns-2)

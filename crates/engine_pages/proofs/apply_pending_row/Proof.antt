@@ -10,9 +10,6 @@ is-removing-requires c κs = let b2 = c .before .before in let g = b2 .pre in (g
 remove-row-requires : tie.Need-remove-row-requires
 remove-row-requires c κs = let b5 = c .before .before .before .before .before in b5 .pre
 
-same-length : tie.Need-same-length
-same-length c = search needs
-
 returns : tie.Need-returns
 returns c =
     let b2 = c .before .before in
@@ -24,9 +21,6 @@ returns c =
 apply-kept-requires : tie.Need-apply-kept-requires
 apply-kept-requires c κs = let b5 = c .before .before .before .before .before in let g = b5 .pre in (g .0, g .1 .row)
 
-same-length-2 : tie.Need-same-length-2
-same-length-2 c = search needs
-
 returns-2 : tie.Need-returns-2
 returns-2 c =
     let b2 = c .before .before in
@@ -36,13 +30,4 @@ returns-2 c =
     row-kept (b8 .pre) (sym (b5 .is-removing .ensures) ∙ b4 .if1 .left) (b2 .apply-kept .ensures)
 
 pub apply-pending-row-spec : {M : Type 1} → statement M
-apply-pending-row-spec =
-    tie.close
-    (tie.spec
-    is-removing-requires
-    remove-row-requires
-    same-length
-    returns
-    apply-kept-requires
-    same-length-2
-    returns-2)
+apply-pending-row-spec = tie.close (tie.spec is-removing-requires remove-row-requires (search needs) returns apply-kept-requires (search needs) returns-2)

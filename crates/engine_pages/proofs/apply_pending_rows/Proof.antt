@@ -69,19 +69,5 @@ returns c =
     apply-end (b7 .pre) (b4 .start-of .ensures .0) (c .loop-test .left) (b1 .loop .inv)
 
 pub apply-pending-rows-spec : {M : Type 1} → statement M
-apply-pending-rows-spec =
-    tie.close
-    (tie.spec
-    Inv-loop
-    μ-loop
-    start-of-requires
-    count-at-requires
-    loop-holds
-    apply-pending-row-requires
-    add-i
-    sub-left
-    loop-less
-    loop-again
-    sub-result
-    same-length
-    returns)
+apply-pending-rows-spec = tie.close (tie.spec Inv-loop μ-loop start-of-requires count-at-requires loop-holds apply-pending-row-requires add-i sub-left loop-less loop-again
+    sub-result same-length returns)

@@ -18,9 +18,6 @@ commit-later-requires c κs =
     let b5 = b2 .before .before .before in
     (b5 .pre, page-frozen (b5 .pre .there) ∙ sym (b2 .frozen-at .ensures) ∙ b1 .if1 .taken)
 
-same-length : tie.Need-same-length
-same-length c = search needs
-
 returns : tie.Need-returns
 returns c =
     let b2 = c .before .before in
@@ -37,9 +34,6 @@ set-page-requires c κs =
     let u = b3 .commit-row .ensures in
     (u .room, record { place = still-there (b9 .args .p) u (b9 .pre .there .inside); block = omega arith })
 
-same-length-2 : tie.Need-same-length-2
-same-length-2 c = search needs
-
 returns-2 : tie.Need-returns-2
 returns-2 c =
     let b2 = c .before .before in
@@ -51,14 +45,4 @@ returns-2 c =
     holds-now (now-to (commit-now g (page-frozen (g .there) ∙ sym (b9 .frozen-at .ensures) ∙ b8 .if1 .left) (b6 .commit-row .ensures) (b2 .set-page .ensures)) (commit-is g))
 
 pub commit-at-spec : {M : Type 1} → statement M
-commit-at-spec =
-    tie.close
-    (tie.spec
-    frozen-at-requires
-    commit-later-requires
-    same-length
-    returns
-    commit-row-requires
-    set-page-requires
-    same-length-2
-    returns-2)
+commit-at-spec = tie.close (tie.spec frozen-at-requires commit-later-requires (search needs) returns commit-row-requires set-page-requires (search needs) returns-2)

@@ -11,9 +11,6 @@ is-adding-requires c κs = let b2 = c .before .before in row-in (b2 .pre .0)
 commit-row-requires : tie.Need-commit-row-requires
 commit-row-requires c κs = let b5 = c .before .before .before .before .before in row-in (b5 .pre .0)
 
-same-length : tie.Need-same-length
-same-length c = search needs
-
 returns : tie.Need-returns
 returns c =
     let b2 = c .before .before in
@@ -24,9 +21,6 @@ returns c =
 
 is-removing-requires : tie.Need-is-removing-requires
 is-removing-requires c κs = let b5 = c .before .before .before .before .before in row-in (b5 .pre .0)
-
-same-length-2 : tie.Need-same-length-2
-same-length-2 c = search needs
 
 returns-2 : tie.Need-returns-2
 returns-2 c =
@@ -39,9 +33,6 @@ returns-2 c =
 set-pending-requires : tie.Need-set-pending-requires
 set-pending-requires c κs = let b8 = c .before .before .before .before .before .before .before .before in row-in (b8 .pre .0)
 
-same-length-3 : tie.Need-same-length-3
-same-length-3 c = search needs
-
 returns-3 : tie.Need-returns-3
 returns-3 c =
     let b2 = c .before .before in
@@ -53,16 +44,5 @@ returns-3 c =
     commit-noted (b11 .pre .0) (b11 .pre .1) (sym (b8 .is-adding .ensures) ∙ b7 .if1 .left) (sym (b5 .is-removing .ensures) ∙ b4 .if2 .left) (b2 .set-pending .ensures)
 
 pub commit-later-spec : {M : Type 1} → statement M
-commit-later-spec =
-    tie.close
-    (tie.spec
-    is-adding-requires
-    commit-row-requires
-    same-length
-    returns
-    is-removing-requires
-    same-length-2
-    returns-2
-    set-pending-requires
-    same-length-3
-    returns-3)
+commit-later-spec = tie.close (tie.spec is-adding-requires commit-row-requires (search needs) returns is-removing-requires (search needs) returns-2 set-pending-requires
+    (search needs) returns-3)

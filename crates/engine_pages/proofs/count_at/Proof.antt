@@ -25,5 +25,4 @@ returns c =
     omega (arith, b1 .start-of .ensures .0, c .start-of2 .ensures .0, ends-at (b3 .pre))
 
 pub count-at-spec : {M : Type 1} → statement M
-count-at-spec =
-    tie.close (tie.spec start-of-requires add-start-of start-of-requires-2 sub-result returns)
+count-at-spec = tie.close (tie.spec start-of-requires add-start-of start-of-requires-2 sub-result returns)

@@ -63,17 +63,4 @@ returns c =
     holds-now (freeze-end (b1 .loop .p) (b1 .loop .inv) (omega (arith, pages-are (b6 .args .m .now) (b3 .get-counts .ensures), c .loop-test .left)))
 
 pub freeze-spec : {M : Type 1} → statement M
-freeze-spec =
-    tie.close
-    (tie.spec
-    Inv-loop
-    μ-loop
-    get-counts-requires
-    cast-n
-    loop-holds
-    freeze-page-requires
-    add-p
-    loop-less
-    loop-again
-    same-length
-    returns)
+freeze-spec = tie.close (tie.spec Inv-loop μ-loop get-counts-requires cast-n loop-holds freeze-page-requires add-p loop-less loop-again same-length returns)

@@ -15,9 +15,6 @@ set-page-requires c κs =
     let b4 = b1 .before .before .before in
     let a = b4 .pre in (room a, record { place = a .inside; block = omega (arith, b1 .block-at .ensures, block-small a) })
 
-same-length : tie.Need-same-length
-same-length c = search needs
-
 returns : tie.Need-returns
 returns c =
     let b2 = c .before .before in
@@ -26,4 +23,4 @@ returns c =
     frozen-now (b7 .pre) (b4 .block-at .result) (b4 .block-at .ensures) (b2 .set-page .ensures)
 
 pub freeze-page-spec : {M : Type 1} → statement M
-freeze-page-spec = tie.close (tie.spec block-at-requires set-page-requires same-length returns)
+freeze-page-spec = tie.close (tie.spec block-at-requires set-page-requires (search needs) returns)

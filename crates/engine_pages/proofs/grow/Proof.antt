@@ -18,9 +18,6 @@ set-pending-requires c κs =
     let b10 = b4 .before .before .before .before .before .before in
     let u = b4 .insert-row .ensures in (u .room, more-rows (b10 .pre) u)
 
-same-length : tie.Need-same-length
-same-length c = search needs
-
 returns : tie.Need-returns
 returns c =
     let b2 = c .before .before in
@@ -47,9 +44,6 @@ halve-requires c κs =
     let v = b3 .set-page .ensures in
     (grew-there g u v, grew-dirty g u v)
 
-same-length-2 : tie.Need-same-length-2
-same-length-2 c = search needs
-
 returns-2 : tie.Need-returns-2
 returns-2 c =
     let b2 = c .before .before in
@@ -62,15 +56,4 @@ returns-2 c =
     grew g (b11 .insert-row .ensures) (b6 .set-page .ensures) (page-frozen (grow-there g) ∙ sym (b13 .frozen-at .ensures) ∙ b8 .if1 .left) (b2 .halve .ensures)
 
 pub grow-spec : {M : Type 1} → statement M
-grow-spec =
-    tie.close
-    (tie.spec
-    frozen-at-requires
-    insert-row-requires
-    set-pending-requires
-    same-length
-    returns
-    set-page-requires
-    halve-requires
-    same-length-2
-    returns-2)
+grow-spec = tie.close (tie.spec frozen-at-requires insert-row-requires set-pending-requires (search needs) returns set-page-requires halve-requires (search needs) returns-2)

@@ -77,20 +77,4 @@ returns-2 c = let l = c .before .loop in
     omega (arith, l .inv .0, l .inv .1 .1 .1, l .inv .1 .0, lead-end (a .m .now) (l .i) (a .e) (a .whole) (l .all) (c .loop-test .left))
 
 pub half-spec : {M : Type 1} → statement M
-half-spec =
-    tie.close
-    (tie.spec
-    Inv-loop
-    μ-loop
-    loop-holds
-    size-at-requires
-    add-all
-    mul-if1
-    add-result
-    sub-result
-    returns
-    add-i
-    loop-less
-    loop-again
-    sub-result-2
-    returns-2)
+half-spec = tie.close (tie.spec Inv-loop μ-loop loop-holds size-at-requires add-all mul-if1 add-result sub-result returns add-i loop-less loop-again sub-result-2 returns-2)

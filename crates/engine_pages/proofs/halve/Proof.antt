@@ -31,9 +31,6 @@ rows-size-requires c κs =
     let b6 = b3 .before .before .before in
     page-span (b6 .pre .0) (b3 .start-of .ensures .0) (b1 .start-of2 .ensures .0)
 
-same-length : tie.Need-same-length
-same-length c = search needs
-
 returns : tie.Need-returns
 returns c =
     let b1 = c .before in
@@ -64,9 +61,6 @@ split-page-requires c κs =
     let k1 = cuts b1 .1 in
     (room a, record { place = a .inside; rows = omega arith; space = spacious a (few a (omega arith)) })
 
-same-length-2 : tie.Need-same-length-2
-same-length-2 c = search needs
-
 returns-2 : tie.Need-returns-2
 returns-2 c =
     let b2 = c .before .before in
@@ -79,17 +73,5 @@ returns-2 c =
     halved-parts (b14 .pre .0) (b11 .start-of .ensures .0) (b9 .start-of2 .ensures .0) (b7 .rows-size .ensures) (b6 .if1 .left) (b4 .half .ensures) (b2 .split-page .ensures)
 
 pub halve-spec : {M : Type 1} → statement M
-halve-spec =
-    tie.close
-    (tie.spec
-    start-of-requires
-    add-start-of
-    start-of-requires-2
-    rows-size-requires
-    same-length
-    returns
-    half-requires
-    cast-split-page
-    split-page-requires
-    same-length-2
-    returns-2)
+halve-spec = tie.close (tie.spec start-of-requires add-start-of start-of-requires-2 rows-size-requires (search needs) returns half-requires cast-split-page split-page-requires
+    (search needs) returns-2)

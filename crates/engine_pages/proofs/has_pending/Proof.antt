@@ -64,17 +64,4 @@ returns c = let l = c .before .loop in
     any-end (s .before .before .before .args .m .now) (l .i) (s .before .start-of .result) waits (l .hit) (l .inv .1 .1) (c .loop-test .left) ∙ sym (tuples s)
 
 pub has-pending-spec : {M : Type 1} → statement M
-has-pending-spec =
-    tie.close
-    (tie.spec
-    Inv-loop
-    μ-loop
-    add-start-of
-    start-of-requires
-    start-of-requires-2
-    loop-holds
-    is-pending-requires
-    add-i
-    loop-less
-    loop-again
-    returns)
+has-pending-spec = tie.close (tie.spec Inv-loop μ-loop add-start-of start-of-requires start-of-requires-2 loop-holds is-pending-requires add-i loop-less loop-again returns)

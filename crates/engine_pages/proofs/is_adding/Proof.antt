@@ -45,15 +45,4 @@ unfolding isAdding
 returns-4 c = told isAdding (c .enum-told4 .given .1) (c .before .before .pending-at .ensures)
 
 pub is-adding-spec : {M : Type 1} → statement M
-is-adding-spec =
-    tie.close
-    (tie.spec
-    pending-at-requires
-    enum-told
-    enum-told-2
-    enum-told-3
-    enum-told-4
-    returns
-    returns-2
-    returns-3
-    returns-4)
+is-adding-spec = tie.close (tie.spec pending-at-requires enum-told enum-told-2 enum-told-3 enum-told-4 returns returns-2 returns-3 returns-4)

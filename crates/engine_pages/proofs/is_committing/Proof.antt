@@ -45,15 +45,4 @@ unfolding isCommitting
 returns-4 c = told isCommitting (c .enum-told4 .given .1) (c .before .before .pending-at .ensures)
 
 pub is-committing-spec : {M : Type 1} → statement M
-is-committing-spec =
-    tie.close
-    (tie.spec
-    pending-at-requires
-    enum-told
-    enum-told-2
-    enum-told-3
-    enum-told-4
-    returns
-    returns-2
-    returns-3
-    returns-4)
+is-committing-spec = tie.close (tie.spec pending-at-requires enum-told enum-told-2 enum-told-3 enum-told-4 returns returns-2 returns-3 returns-4)

@@ -45,15 +45,4 @@ unfolding isRemoving
 returns-4 c = told isRemoving (c .enum-told4 .given .1) (c .before .before .pending-at .ensures)
 
 pub is-removing-spec : {M : Type 1} → statement M
-is-removing-spec =
-    tie.close
-    (tie.spec
-    pending-at-requires
-    enum-told
-    enum-told-2
-    enum-told-3
-    enum-told-4
-    returns
-    returns-2
-    returns-3
-    returns-4)
+is-removing-spec = tie.close (tie.spec pending-at-requires enum-told enum-told-2 enum-told-3 enum-told-4 returns returns-2 returns-3 returns-4)

@@ -7,12 +7,6 @@ use borrow.Author.Needs.{needs}
 use Rattle.engine_pages.proofs.join.Statement.{statement}
 use Rattle.engine_pages.proofs.join.Tie as tie
 
-join-before-requires : tie.Need-join-before-requires
-join-before-requires c κs = search needs
-
-same-length : tie.Need-same-length
-same-length c = search needs
-
 returns : tie.Need-returns
 returns c = let b3 = c .before .before .before in tried (b3 .join-before .ensures .done (c .if1 .taken))
 
@@ -23,9 +17,6 @@ join-after-requires c κs =
     let b7 = b4 .before .before .before in
     subst (λ (z : List ℕ). There z (b7 .args .p)) (sym (b4 .join-before .ensures .not-done (b1 .if1 .left) .0)) (b7 .pre)
 
-same-length-2 : tie.Need-same-length-2
-same-length-2 c = search needs
-
 returns-2 : tie.Need-returns-2
 returns-2 c =
     let b2 = c .before .before in
@@ -35,6 +26,4 @@ returns-2 c =
     tried-both (b10 .args .p) (b7 .join-before .result) (b2 .join-after .result) (b4 .if1 .left) (b7 .join-before .ensures) (b2 .join-after .ensures)
 
 pub join-spec : {M : Type 1} → statement M
-join-spec =
-    tie.close
-    (tie.spec join-before-requires same-length returns join-after-requires same-length-2 returns-2)
+join-spec = tie.close (tie.spec (λ c κs. search needs) (search needs) returns join-after-requires (search needs) returns-2)

@@ -18,14 +18,8 @@ inside c = omega (arith, pages-are ((c .before .before .before .before .before) 
 get-counts-requires : tie.Need-get-counts-requires
 get-counts-requires c κs = let b2 = c .before .before in long (room (b2 .pre))
 
-cast-n : tie.Need-cast-n
-cast-n c = search needs
-
 add-if1 : tie.Need-add-if1
 add-if1 c = let b4 = c .before .before .before .before in let a = b4 .pre in omega (arith, a .inside, few-pages (room a))
-
-same-length : tie.Need-same-length
-same-length c = search needs
 
 returns : tie.Need-returns
 returns c =
@@ -38,9 +32,6 @@ joinable-requires c κs =
     let b1 = c .before in
     let b6 = b1 .before .before .before .before .before in
     (b6 .pre, inside b1)
-
-same-length-2 : tie.Need-same-length-2
-same-length-2 c = search needs
 
 returns-2 : tie.Need-returns-2
 returns-2 c =
@@ -57,9 +48,6 @@ join-pages-requires c κs =
     let b9 = b4 .before .before .before .before .before in
     may-join (b9 .pre) (inside b4) (sym (b2 .joinable .ensures) ∙ not-false _ (b1 .if2 .left))
 
-same-length-3 : tie.Need-same-length-3
-same-length-3 c = search needs
-
 returns-3 : tie.Need-returns-3
 returns-3 c =
     let b2 = c .before .before in
@@ -73,17 +61,5 @@ returns-3 c =
     tried (λ rest. now-to (joined-now a lt j (b2 .join-pages .ensures)) (sym (next-joins a (next-at a lt) j rest)))
 
 pub join-after-spec : {M : Type 1} → statement M
-join-after-spec =
-    tie.close
-    (tie.spec
-    get-counts-requires
-    cast-n
-    add-if1
-    same-length
-    returns
-    joinable-requires
-    same-length-2
-    returns-2
-    join-pages-requires
-    same-length-3
-    returns-3)
+join-after-spec = tie.close (tie.spec get-counts-requires (search needs) add-if1 (search needs) returns joinable-requires (search needs) returns-2 join-pages-requires
+    (search needs) returns-3)

@@ -19,9 +19,6 @@ joinable-requires c κs =
     let b3 = b1 .before .before in
     (prev-at (b3 .pre) (b1 .if1 .left), prev-inside (b3 .pre) (b1 .if1 .left))
 
-same-length : tie.Need-same-length
-same-length c = search needs
-
 returns-2 : tie.Need-returns-2
 returns-2 c =
     let b1 = c .before in
@@ -42,9 +39,6 @@ join-pages-requires c κs =
     let ne = b4 .if1 .left in
     may-join (prev-at a ne) (prev-inside a ne) (sym (b2 .joinable .ensures) ∙ not-false _ (b1 .if2 .left))
 
-same-length-2 : tie.Need-same-length-2
-same-length-2 c = search needs
-
 returns-3 : tie.Need-returns-3
 returns-3 c =
     let b2 = c .before .before in
@@ -58,15 +52,4 @@ returns-3 c =
     tried (λ rest. now-to (joined-now (prev-at a ne) (prev-inside a ne) j (b2 .join-pages .ensures)) (prev-joins a ne j rest))
 
 pub join-before-spec : {M : Type 1} → statement M
-join-before-spec =
-    tie.close
-    (tie.spec
-    returns
-    sub-joinable
-    joinable-requires
-    same-length
-    returns-2
-    sub-join-pages
-    join-pages-requires
-    same-length-2
-    returns-3)
+join-before-spec = tie.close (tie.spec returns sub-joinable joinable-requires (search needs) returns-2 sub-join-pages join-pages-requires (search needs) returns-3)

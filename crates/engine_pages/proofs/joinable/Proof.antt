@@ -82,20 +82,5 @@ returns-4 c =
     (b3 .if3 .left) (b2 .start-of .ensures .0) (b1 .start-of2 .ensures .0) (c .size-up-to .result) (c .size-up-to .ensures)
 
 pub joinable-spec : {M : Type 1} → statement M
-joinable-spec =
-    tie.close
-    (tie.spec
-    frozen-at-requires
-    returns
-    add-frozen-at
-    frozen-at-requires-2
-    returns-2
-    table-of-requires
-    add-table-of
-    table-of-requires-2
-    returns-3
-    start-of-requires
-    add-start-of
-    start-of-requires-2
-    size-up-to-requires
-    returns-4)
+joinable-spec = tie.close (tie.spec frozen-at-requires returns add-frozen-at frozen-at-requires-2 returns-2 table-of-requires add-table-of table-of-requires-2 returns-3
+    start-of-requires add-start-of start-of-requires-2 size-up-to-requires returns-4)

@@ -24,9 +24,6 @@ add-page-requires c κs =
     let b8 = b4 .before .before .before .before in
     may-add (b8 .pre) (b4 .table-start .ensures) (b2 .table-start2 .ensures)
 
-same-length : tie.Need-same-length
-same-length c = search needs
-
 returns : tie.Need-returns
 returns c =
     let b2 = c .before .before in
@@ -53,9 +50,6 @@ grow-requires c κs =
     let b7 = b5 .before .before in
     let b11 = b7 .before .before .before .before in
     may-grow-first (b11 .pre) (b7 .table-start .ensures) (b5 .table-start2 .ensures) (b4 .if1 .left) (b2 .start-of .ensures .0) (b1 .if2 .taken)
-
-same-length-2 : tie.Need-same-length-2
-same-length-2 c = search needs
 
 returns-2 : tie.Need-returns-2
 returns-2 c =
@@ -100,9 +94,6 @@ grow-requires-2 c κs =
     let b13 = b9 .before .before .before .before in
     may-grow-later (b13 .pre) (b9 .table-start .ensures) (b7 .table-start2 .ensures) (b6 .if1 .left) (b4 .start-of .ensures .0) (b3 .if2 .left) (b1 .page-of .ensures)
 
-same-length-3 : tie.Need-same-length-3
-same-length-3 c = search needs
-
 returns-3 : tie.Need-returns-3
 returns-3 c =
     let b2 = c .before .before in
@@ -117,21 +108,5 @@ returns-3 c =
     (b4 .page-of .ensures)))
 
 pub place-spec : {M : Type 1} → statement M
-place-spec =
-    tie.close
-    (tie.spec
-    table-start-requires
-    add-table-start
-    table-start-requires-2
-    add-page-requires
-    same-length
-    returns
-    start-of-requires
-    grow-requires
-    same-length-2
-    returns-2
-    sub-page-of
-    page-of-requires
-    grow-requires-2
-    same-length-3
-    returns-3)
+place-spec = tie.close (tie.spec table-start-requires add-table-start table-start-requires-2 add-page-requires (search needs) returns start-of-requires grow-requires
+    (search needs) returns-2 sub-page-of page-of-requires grow-requires-2 (search needs) returns-3)

@@ -8,12 +8,6 @@ use Rattle.engine_pages.proofs.remove_at.Tie as tie
 frozen-at-requires : tie.Need-frozen-at-requires
 frozen-at-requires c κs = let b2 = c .before .before in page-in (b2 .pre .there)
 
-remove-later-requires : tie.Need-remove-later-requires
-remove-later-requires c κs = search needs
-
-same-length : tie.Need-same-length
-same-length c = search needs
-
 returns : tie.Need-returns
 returns c =
     let b2 = c .before .before in
@@ -21,12 +15,6 @@ returns c =
     let b5 = b4 .before in
     let b8 = b5 .before .before .before in
     let g = b8 .pre in holds-now (now-to (b2 .remove-later .ensures) (removed-later g (page-frozen (g .there) ∙ sym (b5 .frozen-at .ensures) ∙ b4 .if1 .taken)))
-
-remove-now-requires : tie.Need-remove-now-requires
-remove-now-requires c κs = search needs
-
-same-length-2 : tie.Need-same-length-2
-same-length-2 c = search needs
 
 returns-2 : tie.Need-returns-2
 returns-2 c =
@@ -37,13 +25,4 @@ returns-2 c =
     let g = b8 .pre in holds-now (now-to (b2 .remove-now .ensures) (removed-now g (page-frozen (g .there) ∙ sym (b5 .frozen-at .ensures) ∙ b4 .if1 .left)))
 
 pub remove-at-spec : {M : Type 1} → statement M
-remove-at-spec =
-    tie.close
-    (tie.spec
-    frozen-at-requires
-    remove-later-requires
-    same-length
-    returns
-    remove-now-requires
-    same-length-2
-    returns-2)
+remove-at-spec = tie.close (tie.spec frozen-at-requires (λ c κs. search needs) (search needs) returns (λ c κs. search needs) (search needs) returns-2)

@@ -11,9 +11,6 @@ is-adding-requires c κs = let b2 = c .before .before in row-in (b2 .pre)
 set-pending-requires : tie.Need-set-pending-requires
 set-pending-requires c κs = let b5 = c .before .before .before .before .before in row-in (b5 .pre)
 
-same-length : tie.Need-same-length
-same-length c = search needs
-
 returns : tie.Need-returns
 returns c =
     let b2 = c .before .before in
@@ -21,12 +18,6 @@ returns c =
     let b5 = b4 .before in
     let b8 = b5 .before .before .before in
     later-noted (b8 .pre) (b5 .is-adding .ensures) (not-true _ (b4 .if1 .taken)) (b2 .set-pending .ensures)
-
-count-at-requires : tie.Need-count-at-requires
-count-at-requires c κs = search needs
-
-same-length-2 : tie.Need-same-length-2
-same-length-2 c = search needs
 
 returns-2 : tie.Need-returns-2
 returns-2 c =
@@ -39,9 +30,6 @@ returns-2 c =
 remove-row-requires : tie.Need-remove-row-requires
 remove-row-requires c κs = let b8 = c .before .before .before .before .before .before .before .before in may-lose (b8 .pre)
 
-same-length-3 : tie.Need-same-length-3
-same-length-3 c = search needs
-
 returns-3 : tie.Need-returns-3
 returns-3 c =
     let b2 = c .before .before in
@@ -53,16 +41,5 @@ returns-3 c =
     later-away (b11 .pre) (b8 .is-adding .ensures) (not-false _ (b7 .if1 .left)) (b5 .count-at .ensures) (b4 .if2 .left) (b2 .remove-row .ensures)
 
 pub remove-later-spec : {M : Type 1} → statement M
-remove-later-spec =
-    tie.close
-    (tie.spec
-    is-adding-requires
-    set-pending-requires
-    same-length
-    returns
-    count-at-requires
-    same-length-2
-    returns-2
-    remove-row-requires
-    same-length-3
-    returns-3)
+remove-later-spec = tie.close (tie.spec is-adding-requires set-pending-requires (search needs) returns (λ c κs. search needs) (search needs) returns-2 remove-row-requires
+    (search needs) returns-3)

@@ -13,9 +13,6 @@ two : (c : tie.Else1) → 1 < entryOf ((c .before .before .before .before .befor
     ((c .before .before .before .before .before .before .before .before) .args .p) .count
 two c = more _ (has-row ((c .before .before .before .before .before .before .before .before) .pre .there)) (λ z. c .if1 .left ((c .before .before .before .before .before) .count-at .ensures ∙ z))
 
-count-at-requires : tie.Need-count-at-requires
-count-at-requires c κs = search needs
-
 remove-row-requires : tie.Need-remove-row-requires
 remove-row-requires c κs = let b4 = c .before .before .before .before in may-lose (b4 .pre)
 
@@ -28,9 +25,6 @@ remove-page-requires c κs =
     let g = b9 .pre in
     let u = b4 .remove-row .ensures in
     (u .room, record { place = less-there g u; empty = less-empty g u (sym (b6 .count-at .ensures) ∙ b1 .if1 .taken) })
-
-same-length : tie.Need-same-length
-same-length c = search needs
 
 returns : tie.Need-returns
 returns c =
@@ -55,9 +49,6 @@ join-requires c κs =
     let b13 = b8 .before .before .before .before .before in
     now-there (b13 .pre) (b8 .remove-row .ensures) (two b5) (b3 .set-page .ensures)
 
-same-length-2 : tie.Need-same-length-2
-same-length-2 c = search needs
-
 returns-2 : tie.Need-returns-2
 returns-2 c =
     let b2 = c .before .before in
@@ -68,15 +59,5 @@ returns-2 c =
     now-joined (b16 .pre) (b11 .remove-row .ensures) (two b8) (b6 .set-page .ensures) (b2 .join .result) (b2 .join .ensures)
 
 pub remove-now-spec : {M : Type 1} → statement M
-remove-now-spec =
-    tie.close
-    (tie.spec
-    count-at-requires
-    remove-row-requires
-    remove-page-requires
-    same-length
-    returns
-    set-page-requires
-    join-requires
-    same-length-2
+remove-now-spec = tie.close (tie.spec (λ c κs. search needs) remove-row-requires remove-page-requires (search needs) returns set-page-requires join-requires (search needs)
     returns-2)

@@ -64,15 +64,4 @@ returns : tie.Need-returns Inv-loop μ-loop
 returns c = let l = c .before .loop in omega (arith, l .inv .1 .1 .1, sum-none (c .before .before .before .args .m .now) (l .i) (c .before .before .before .args .e) (c .loop-test .left))
 
 pub rows-size-spec : {M : Type 1} → statement M
-rows-size-spec =
-    tie.close
-    (tie.spec
-    Inv-loop
-    μ-loop
-    loop-holds
-    size-at-requires
-    add-all
-    add-i
-    loop-less
-    loop-again
-    returns)
+rows-size-spec = tie.close (tie.spec Inv-loop μ-loop loop-holds size-at-requires add-all add-i loop-less loop-again returns)

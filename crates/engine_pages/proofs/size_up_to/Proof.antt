@@ -77,16 +77,4 @@ returns-2 c =
     ap (λ z. leb z 336) e
 
 pub size-up-to-spec : {M : Type 1} → statement M
-size-up-to-spec =
-    tie.close
-    (tie.spec
-    Inv-loop
-    μ-loop
-    loop-holds
-    returns
-    size-at-requires
-    add-all
-    add-i
-    loop-less
-    loop-again
-    returns-2)
+size-up-to-spec = tie.close (tie.spec Inv-loop μ-loop loop-holds returns size-at-requires add-all add-i loop-less loop-again returns-2)

@@ -14,9 +14,6 @@ set-page-requires c κs =
     let b5 = c .before .before .before .before .before in
     let g = b5 .pre in (room (g .0 .there), record { place = g .0 .there .inside; block = g .1 })
 
-same-length : tie.Need-same-length
-same-length c = search needs
-
 returns : tie.Need-returns
 returns c =
     let b2 = c .before .before in
@@ -27,9 +24,6 @@ returns c =
 
 apply-pending-requires : tie.Need-apply-pending-requires
 apply-pending-requires c κs = let b5 = c .before .before .before .before .before in b5 .pre .0 .there
-
-same-length-2 : tie.Need-same-length-2
-same-length-2 c = search needs
 
 returns-2 : tie.Need-returns-2
 returns-2 c =
@@ -47,9 +41,6 @@ join-requires c κs =
     let b7 = b6 .before in
     let b10 = b7 .before .before .before in
     left-at (b10 .pre .0) (b10 .args .b) (sym (b7 .has-pending .ensures) ∙ not-false _ (b6 .if1 .left)) (b4 .apply-pending .ensures) (b1 .if2 .left)
-
-same-length-3 : tie.Need-same-length-3
-same-length-3 c = search needs
 
 returns-3 : tie.Need-returns-3
 returns-3 c =
@@ -77,9 +68,6 @@ split-requires c κs =
     let nz = b6 .if2 .left in
     (apart-at g (b15 .args .b) w o nz (b4 .join .ensures) (b1 .if3 .left), apart-dirty g (b15 .args .b) w o nz (b4 .join .ensures) (b1 .if3 .left))
 
-same-length-4 : tie.Need-same-length-4
-same-length-4 c = search needs
-
 returns-4 : tie.Need-returns-4
 returns-4 c =
     let b2 = c .before .before in
@@ -94,19 +82,5 @@ returns-4 c =
     (b4 .if3 .left) (b2 .split .ensures))
 
 pub thaw-spec : {M : Type 1} → statement M
-thaw-spec =
-    tie.close
-    (tie.spec
-    has-pending-requires
-    set-page-requires
-    same-length
-    returns
-    apply-pending-requires
-    same-length-2
-    returns-2
-    join-requires
-    same-length-3
-    returns-3
-    split-requires
-    same-length-4
-    returns-4)
+thaw-spec = tie.close (tie.spec has-pending-requires set-page-requires (search needs) returns apply-pending-requires (search needs) returns-2 join-requires (search needs)
+    returns-3 split-requires (search needs) returns-4)

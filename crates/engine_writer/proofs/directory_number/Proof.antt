@@ -8,22 +8,12 @@ use borrow.Author.Needs.{needs}
 use Rattle.engine_writer.proofs.directory_number.Statement.{statement}
 use Rattle.engine_writer.proofs.directory_number.Tie as tie
 
-get-counts-requires : tie.Need-get-counts-requires
-get-counts-requires c κs = search needs
-
-cast-n : tie.Need-cast-n
-cast-n c = search needs
-
 get-directory-requires : tie.Need-get-directory-requires
 get-directory-requires c κs = let s = c .before .before .before .before in (s .pre, omega (arith, count-directories (s .args .m .now) (c .before .before .get-counts .ensures)))
-
-returns : tie.Need-returns
-returns c = search needs
 
 returns-2 : tie.Need-returns-2
 returns-2 c = let s = c .before .before .before .before in
     sym (List·getD-eq-default (flatOf (s .args .m .now) .directories) 0 {n = s .args .i} (omega (arith, count-directories (s .args .m .now) (c .before .before .get-counts .ensures))))
 
 pub directory-number-spec : {M : Type 1} → statement M
-directory-number-spec =
-    tie.close (tie.spec get-counts-requires cast-n get-directory-requires returns returns-2)
+directory-number-spec = tie.close (tie.spec (λ c κs. search needs) (search needs) get-directory-requires (search needs) returns-2)

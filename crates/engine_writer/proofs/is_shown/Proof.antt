@@ -5,21 +5,6 @@ use borrow.Author.Needs.{needs}
 use Rattle.engine_writer.proofs.is_shown.Statement.{statement}
 use Rattle.engine_writer.proofs.is_shown.Tie as tie
 
-pending-at-requires : tie.Need-pending-at-requires
-pending-at-requires c κs = search needs
-
-enum-told : tie.Need-enum-told
-enum-told c = search needs
-
-enum-told-2 : tie.Need-enum-told-2
-enum-told-2 c = search needs
-
-enum-told-3 : tie.Need-enum-told-3
-enum-told-3 c = search needs
-
-enum-told-4 : tie.Need-enum-told-4
-enum-told-4 c = search needs
-
 returns : tie.Need-returns
 unfolding isAdding
 returns c = shown-by (c .enum-told .given .1) (c .before .before .pending-at .ensures)
@@ -37,15 +22,4 @@ unfolding isAdding
 returns-4 c = shown-by (c .enum-told4 .given .1) (c .before .before .pending-at .ensures)
 
 pub is-shown-spec : {M : Type 1} → statement M
-is-shown-spec =
-    tie.close
-    (tie.spec
-    pending-at-requires
-    enum-told
-    enum-told-2
-    enum-told-3
-    enum-told-4
-    returns
-    returns-2
-    returns-3
-    returns-4)
+is-shown-spec = tie.close (tie.spec (λ c κs. search needs) (search needs) (search needs) (search needs) (search needs) returns returns-2 returns-3 returns-4)

@@ -49,17 +49,4 @@ returns c = let p = c .before .loop in
     rw e at (p .inv .1 .1)
 
 pub named-from-spec : {M : Type 1} → statement M
-named-from-spec =
-    tie.close
-    (tie.spec
-    Inv-loop
-    μ-loop
-    loop-holds
-    add-get-named
-    get-named-requires
-    mul-entries
-    array-write-entries
-    add-i
-    loop-less
-    loop-again
-    returns)
+named-from-spec = tie.close (tie.spec Inv-loop μ-loop loop-holds add-get-named get-named-requires mul-entries array-write-entries add-i loop-less loop-again returns)

@@ -19,14 +19,8 @@ use Rattle.blocks.proofs.write_directory.Reads as write-directory-reads
 use Rattle.engine_writer.proofs.named_from.Reads as named-from-reads
 use Rattle.memory_layout.proofs.get_counts.Reads as get-counts-reads
 
-get-counts-requires : tie.Need-get-counts-requires
-get-counts-requires c κs = search needs
-
 mul-first : tie.Need-mul-first
 mul-first c = let s = c .before .before .before in omega (arith, s .pre .1 .0, named-few (s .args .m .now) (s .pre .0))
-
-cast-count : tie.Need-cast-count
-cast-count c = search needs
 
 sub-count : tie.Need-sub-count
 sub-count c = let s = c .before .before .before .before in omega (arith, s .pre .1 .0, count-named (s .args .m .now) (c .before .get-counts .ensures))
@@ -48,20 +42,11 @@ run c =
 named-from-requires : tie.Need-named-from-requires
 named-from-requires c κs = (c .before .before .before .before .before .pre .0, (run c .few, run c .inside))
 
-sub-write-directory : tie.Need-sub-write-directory
-sub-write-directory c = search needs
-
-part-write-directory-start : tie.Need-part-write-directory-start
-part-write-directory-start c = search needs
-
 part-write-directory-end : tie.Need-part-write-directory-end
 part-write-directory-end c = omega (arith, run (c .before .before .before .before) .few)
 
 write-directory-requires : tie.Need-write-directory-requires
 write-directory-requires c κs = (omega arith, simp length-take (omega (arith, run (c .before .before .before .before .before) .few)))
-
-same-length : tie.Need-same-length
-same-length c = search needs
 
 returns : tie.Need-returns
 returns c = let j = c .before .before .before .before .before .before .before in
@@ -74,17 +59,5 @@ returns c = let j = c .before .before .before .before .before .before .before in
     (ap (λ (z : ℕ). take z (f .result)) e ∙ f .ensures ∙ run (j .before) .whole)
 
 pub write-directory-spec : {M : Type 1} → statement M
-write-directory-spec =
-    tie.close
-    (tie.spec
-    get-counts-requires
-    mul-first
-    cast-count
-    sub-count
-    named-from-requires
-    sub-write-directory
-    part-write-directory-start
-    part-write-directory-end
-    write-directory-requires
-    same-length
-    returns)
+write-directory-spec = tie.close (tie.spec (λ c κs. search needs) mul-first (search needs) sub-count named-from-requires (search needs) (search needs) part-write-directory-end
+    write-directory-requires (search needs) returns)

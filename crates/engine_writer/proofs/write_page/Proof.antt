@@ -177,30 +177,6 @@ returns-2 c = let h = c .before .before .before .before .before .before in
     ∙ writing-end (p .loop .inv .1 .1) end fits (s .args .table) (s .args .level) (s .pre .1 .1 .0) (omega (arith, s .fits))
 
 pub write-page-spec : {M : Type 1} → statement M
-write-page-spec =
-    tie.close
-    (tie.spec
-    Inv-loop
-    μ-loop
-    loop-holds
-    is-shown-requires
-    add-if2
-    size-at-requires
-    add-if2-2
-    write-empty-requires
-    same-length
-    returns
-    record-at-requires
-    append-requires
-    add-count
-    add-i
-    loop-less
-    loop-again
-    slice-aggregate-put-page-head
-    cast-put-page-head
-    sub-put-page-head
-    put-page-head-requires
-    slice-aggregate-copy
-    copy-requires
-    same-length-2
-    returns-2)
+write-page-spec = tie.close (tie.spec Inv-loop μ-loop loop-holds is-shown-requires add-if2 size-at-requires add-if2-2 write-empty-requires same-length returns
+    record-at-requires append-requires add-count add-i loop-less loop-again slice-aggregate-put-page-head cast-put-page-head sub-put-page-head put-page-head-requires
+    slice-aggregate-copy copy-requires same-length-2 returns-2)

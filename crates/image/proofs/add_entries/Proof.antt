@@ -7,21 +7,12 @@ use Rattle.blocks.specs.Decode.{decodeBlock}
 use Rattle.image.proofs.add_entries.Statement.{statement}
 use Rattle.image.proofs.add_entries.Tie as tie
 
-read-block-requires : tie.Need-read-block-requires
-read-block-requires c κs = search needs
-
-enum-known-count : tie.Need-enum-known-count
-enum-known-count c = search needs
-
 returns : tie.Need-returns
 returns c =
     let p2 = c .before .before in let p4 = p2 .before .before in let p6 = p4 .before .before in
     let a = p6 .args in let g = p2 .count .given in
     let r = is-directory (g .0 .0) (g .0 .1 .0) (a .block .now) _ refl (sym (g .1) ∙ p4 .read-block .ensures) in
     not-put _ (a .at) (a .out .now) _ (other-level (a .level) (a .left) (some []) (g .0 .0) (g .0 .1 .0) (a .block .now) _ r (c .if1 .taken))
-
-due-requires : tie.Need-due-requires
-due-requires c κs = search needs
 
 returns-2 : tie.Need-returns-2
 returns-2 c =
@@ -30,18 +21,6 @@ returns-2 c =
     let r = is-directory (g .0 .0) (g .0 .1 .0) (a .block .now) _ refl (sym (g .1) ∙ p6 .read-block .ensures) in
     not-put _ (a .at) (a .out .now) _ (other-count (a .level) (a .left) (some []) (g .0 .0) (g .0 .1 .0) (a .block .now) _ r
     (λ e. c .if2 .taken (e ∙ sym (c .before .due .ensures))))
-
-read-entries-requires : tie.Need-read-entries-requires
-read-entries-requires c κs = search needs
-
-slice-aggregate-put-entries : tie.Need-slice-aggregate-put-entries
-slice-aggregate-put-entries c = search needs
-
-put-entries-requires : tie.Need-put-entries-requires
-put-entries-requires c κs = search needs
-
-same-length : tie.Need-same-length
-same-length c = search needs
 
 returns-3 : tie.Need-returns-3
 returns-3 c =
@@ -59,17 +38,5 @@ returns-4 c =
     not-put _ (a .at) (a .out .now) _ (no-directory (a .level) (a .left) (some []) _ (decodeBlock (a .block .now)) (c .before .read-block .ensures) (c .match .keys2))
 
 pub add-entries-spec : {M : Type 1} → statement M
-add-entries-spec =
-    tie.close
-    (tie.spec
-    read-block-requires
-    enum-known-count
-    returns
-    due-requires
-    returns-2
-    read-entries-requires
-    slice-aggregate-put-entries
-    put-entries-requires
-    same-length
-    returns-3
-    returns-4)
+add-entries-spec = tie.close (tie.spec (λ c κs. search needs) (search needs) returns (λ c κs. search needs) returns-2 (λ c κs. search needs) (search needs)
+    (λ c κs. search needs) (search needs) returns-3 returns-4)

@@ -87,24 +87,5 @@ returns-2 c =
     gathering-end (view (a .image .now)) (a .level) (a .pages) (a .directories .now) (a .out .now) (p .i) (p .at) (p .out) (p .inv .0) (omega (arith, c .loop-test))
 
 pub gather-spec : {M : Type 1} → statement M
-gather-spec =
-    tie.close
-    (tie.spec
-    Inv-loop
-    μ-loop
-    loop-holds
-    mul-wide
-    shared-slice-read-wide
-    wide-requires
-    block-at-requires
-    sub-left
-    add-entries-requires
-    same-length
-    returns
-    due-requires
-    add-at
-    add-i
-    loop-less
-    loop-again
-    same-length-2
-    returns-2)
+gather-spec = tie.close (tie.spec Inv-loop μ-loop loop-holds mul-wide shared-slice-read-wide wide-requires block-at-requires sub-left add-entries-requires same-length returns
+    due-requires add-at add-i loop-less loop-again same-length-2 returns-2)

@@ -25,12 +25,4 @@ returns c =
     p4 .test-rows .ensures
 
 pub pages-ok-spec : {M : Type 1} → statement M
-pages-ok-spec =
-    tie.close
-    (tie.spec
-    slice-aggregate-test-rows
-    slice-aggregate-test-rows-2
-    slice-aggregate-test-rows-3
-    slice-aggregate-test-rows-4
-    test-rows-requires
-    returns)
+pages-ok-spec = tie.close (tie.spec slice-aggregate-test-rows slice-aggregate-test-rows-2 slice-aggregate-test-rows-3 slice-aggregate-test-rows-4 test-rows-requires returns)

@@ -66,20 +66,5 @@ returns c =
     (λ (k : ℕ). over (a .out .now) (a .at) (take k (a .entries .now))) e
 
 pub put-entries-spec : {M : Type 1} → statement M
-put-entries-spec =
-    tie.close
-    (tie.spec
-    Inv-loop
-    μ-loop
-    loop-holds
-    mul-number
-    shared-slice-read-number
-    number-requires
-    add-out
-    mul-out
-    slice-write-out
-    add-i
-    loop-less
-    loop-again
-    same-length
-    returns)
+put-entries-spec = tie.close (tie.spec Inv-loop μ-loop loop-holds mul-number shared-slice-read-number number-requires add-out mul-out slice-write-out add-i loop-less loop-again
+    same-length returns)

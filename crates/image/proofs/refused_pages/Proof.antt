@@ -3,12 +3,9 @@ use Rattle.image.specs.Answers.{pagesAnswer}
 use Rattle.image.proofs.refused_pages.Statement.{statement}
 use Rattle.image.proofs.refused_pages.Tie as tie
 
-no-entries-requires : tie.Need-no-entries-requires
-no-entries-requires c κs = search needs
-
 returns : tie.Need-returns
 unfolding pagesAnswer
 returns c = let e = c .no-entries .ensures in λ i. record { refusal = c .before .args .n; entries = e i }
 
 pub refused-pages-spec : {M : Type 1} → statement M
-refused-pages-spec = tie.close (tie.spec no-entries-requires returns)
+refused-pages-spec = tie.close (tie.spec (λ c κs. search needs) returns)

@@ -23,21 +23,6 @@ returns-3 c =
     let p4 = c .before .before .before .before in
     too-many (p4 .args .image .now) (c .if3 .taken)
 
-block-at-requires : tie.Need-block-at-requires
-block-at-requires c κs = search needs
-
-read-block-requires : tie.Need-read-block-requires
-read-block-requires c κs = search needs
-
-enum-known-h : tie.Need-enum-known-h
-enum-known-h c = search needs
-
-cast-head-ok : tie.Need-cast-head-ok
-cast-head-ok c = search needs
-
-head-ok-requires : tie.Need-head-ok-requires
-head-ok-requires c κs = search needs
-
 returns-4 : tie.Need-returns-4
 returns-4 c =
     let p3 = c .before .before .before in let p5 = p3 .before .before in let p7 = p5 .before .before in let p8 = p7 .before in let p9 = p8 .before in
@@ -64,17 +49,5 @@ returns-6 c =
     no-header (length x / 512) _ (decodeBlock (p3 .block-at .result)) (c .before .read-block .ensures) (c .match .keys2) ∙ ap headerAnswer e
 
 pub test-header-spec : {M : Type 1} → statement M
-test-header-spec =
-    tie.close
-    (tie.spec
-    returns
-    returns-2
-    returns-3
-    block-at-requires
-    read-block-requires
-    enum-known-h
-    cast-head-ok
-    head-ok-requires
-    returns-4
-    returns-5
-    returns-6)
+test-header-spec = tie.close (tie.spec returns returns-2 returns-3 (λ c κs. search needs) (λ c κs. search needs) (search needs) (search needs) (λ c κs. search needs) returns-4
+    returns-5 returns-6)

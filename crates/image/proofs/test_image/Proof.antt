@@ -4,19 +4,10 @@ use Rattle.image.proofs.Staged.{passed-is, image-refused, image-stopped
 use Rattle.image.proofs.test_image.Statement.{statement}
 use Rattle.image.proofs.test_image.Tie as tie
 
-test-header-requires : tie.Need-test-header-requires
-test-header-requires c κs = search needs
-
-enum-known-h : tie.Need-enum-known-h
-enum-known-h c = search needs
-
 test-pages-requires : tie.Need-test-pages-requires
 test-pages-requires c κs =
     let p3 = c .before .before .before in let p5 = p3 .before .before in
     let g = c .before .h .given in passed-is (p5 .args .image .now) (g .0 .0) (sym (g .1) ∙ p3 .test-header .ensures)
-
-refused-image-requires : tie.Need-refused-image-requires
-refused-image-requires c κs = search needs
 
 returns : tie.Need-returns
 returns c =
@@ -24,12 +15,6 @@ returns c =
     let x = p9 .args .image .now in let g = p5 .h .given in
     let e = passed-is x (g .0 .0) (sym (g .1) ∙ p7 .test-header .ensures) in
     c .refused-image .ensures ∙ image-stopped x (g .0 .0) e _ (p3 .test-pages .ensures) (c .before .if1 .taken)
-
-enum-known-n : tie.Need-enum-known-n
-enum-known-n c = search needs
-
-refused-image-requires-2 : tie.Need-refused-image-requires-2
-refused-image-requires-2 c κs = search needs
 
 returns-2 : tie.Need-returns-2
 returns-2 c =
@@ -44,15 +29,5 @@ returns-3 c =
     let g = p2 .n .given in c .refused-image2 .ensures ∙ image-refused (p6 .args .image .now) (g .0 .0) (sym (g .1) ∙ p4 .test-header .ensures)
 
 pub test-image-spec : {M : Type 1} → statement M
-test-image-spec =
-    tie.close
-    (tie.spec
-    test-header-requires
-    enum-known-h
-    test-pages-requires
-    refused-image-requires
-    returns
-    enum-known-n
-    refused-image-requires-2
-    returns-2
+test-image-spec = tie.close (tie.spec (λ c κs. search needs) (search needs) test-pages-requires (λ c κs. search needs) returns (search needs) (λ c κs. search needs) returns-2
     returns-3)

@@ -14,15 +14,6 @@ begun c =
     let p3 = c .before .before .before in
     record { passed = passing (p3 .args .image .now) (p3 .args .h) (p3 .pre); pages-are = c .before .wide .ensures; used-are = c .wide2 .ensures }
 
-wide-requires : tie.Need-wide-requires
-wide-requires c κs = search needs
-
-wide-requires-2 : tie.Need-wide-requires-2
-wide-requires-2 c κs = search needs
-
-no-entries-requires : tie.Need-no-entries-requires
-no-entries-requires c κs = search needs
-
 array-share-prefix-directories : tie.Need-array-share-prefix-directories
 array-share-prefix-directories c = four _ _ _ _ (begun (c .before))
 
@@ -31,16 +22,10 @@ slice-aggregate-gather c =
     let p2 = c .before .before in
     let k = four _ _ _ _ (begun p2) in simp length-take (omega arith)
 
-slice-aggregate-gather-2 : tie.Need-slice-aggregate-gather-2
-slice-aggregate-gather-2 c = search needs
-
 gather-requires : tie.Need-gather-requires
 gather-requires c κs =
     let p2 = c .before .before in let p3 = p2 .before in
     let b = begun p3 in (named _ _ _ _ b, within-none _ _ _ _ b _ (p2 .no-entries .ensures))
-
-refused-pages-requires : tie.Need-refused-pages-requires
-refused-pages-requires c κs = search needs
 
 returns : tie.Need-returns
 returns c =
@@ -74,9 +59,6 @@ entries-ok-requires c κs =
     let p8 = c .before .before .before .before .before .before .before .before in
     let b = begun p8 in simp length-take (omega (arith, b .pages-are, b .passed .counts .pages, b .passed .counts .high))
 
-refused-pages-requires-2 : tie.Need-refused-pages-requires-2
-refused-pages-requires-2 c κs = search needs
-
 returns-2 : tie.Need-returns-2
 returns-2 c =
     let p2 = c .before .before in let p5 = p2 .before .before .before in let p7 = p5 .before .before in let p10 = p7 .before .before .before in
@@ -103,9 +85,6 @@ pages-ok-requires c κs =
     let r = got _ _ _ _ b _ o e (g .result) (g .ensures) (not-false _ (p5 .if1 .left)) in
     (in-image _ _ _ _ b _ o e (g .result) (g .ensures) r _ (p2 .entries-ok .ensures) (not-false _ (c .before .if2 .left)), b .passed .counts .high)
 
-refused-pages-requires-3 : tie.Need-refused-pages-requires-3
-refused-pages-requires-3 c κs = search needs
-
 returns-3 : tie.Need-returns-3
 returns-3 c =
     let p2 = c .before .before in let p4 = p2 .before .before in let p5 = p4 .before in let p8 = p5 .before .before .before in
@@ -125,28 +104,6 @@ returns-4 c =
     (not-false _ (c .if3 .left))
 
 pub test-pages-spec : {M : Type 1} → statement M
-test-pages-spec =
-    tie.close
-    (tie.spec
-    wide-requires
-    wide-requires-2
-    no-entries-requires
-    array-share-prefix-directories
-    slice-aggregate-gather
-    slice-aggregate-gather-2
-    gather-requires
-    refused-pages-requires
-    returns
-    array-share-prefix-entries
-    slice-aggregate-entries-ok
-    array-share-prefix-directories-2
-    slice-aggregate-entries-ok-2
-    entries-ok-requires
-    refused-pages-requires-2
-    returns-2
-    array-share-prefix-entries-2
-    slice-aggregate-pages-ok
-    pages-ok-requires
-    refused-pages-requires-3
-    returns-3
-    returns-4)
+test-pages-spec = tie.close (tie.spec (λ c κs. search needs) (λ c κs. search needs) (λ c κs. search needs) array-share-prefix-directories slice-aggregate-gather (search needs)
+    gather-requires (λ c κs. search needs) returns array-share-prefix-entries slice-aggregate-entries-ok array-share-prefix-directories-2 slice-aggregate-entries-ok-2
+    entries-ok-requires (λ c κs. search needs) returns-2 array-share-prefix-entries-2 slice-aggregate-pages-ok pages-ok-requires (λ c κs. search needs) returns-3 returns-4)

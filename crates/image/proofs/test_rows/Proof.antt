@@ -151,36 +151,6 @@ returns-2 c =
     c .columns-ok .ensures ∙ collecting-end (view (a .image .now)) (a .h) (a .entries .now) (p .i) (p .to) _ (p .inv .0) (omega (arith, c .before .before .before .before .before .loop-test))
 
 pub test-rows-spec : {M : Type 1} → statement M
-test-rows-spec =
-    tie.close
-    (tie.spec
-    Inv-loop
-    μ-loop
-    wide-requires
-    loop-holds
-    mul-wide
-    shared-slice-read-wide
-    wide-requires-2
-    block-at-requires
-    sub-good-page
-    good-page-requires
-    enum-known-table
-    slice-aggregate-add-rows
-    add-rows-requires
-    wide-requires-3
-    add-to
-    enum-told
-    same-length
-    same-length-2
-    same-length-3
-    same-length-4
-    returns
-    add-i
-    loop-less
-    loop-again
-    columns-ok-requires
-    same-length-5
-    same-length-6
-    same-length-7
-    same-length-8
-    returns-2)
+test-rows-spec = tie.close (tie.spec Inv-loop μ-loop wide-requires loop-holds mul-wide shared-slice-read-wide wide-requires-2 block-at-requires sub-good-page good-page-requires
+    enum-known-table slice-aggregate-add-rows add-rows-requires wide-requires-3 add-to enum-told same-length same-length-2 same-length-3 same-length-4 returns add-i loop-less
+    loop-again columns-ok-requires same-length-5 same-length-6 same-length-7 same-length-8 returns-2)

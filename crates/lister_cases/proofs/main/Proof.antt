@@ -38,17 +38,4 @@ returns : tie.Need-returns Inv-loop μ-loop
 returns c = tt
 
 pub main-spec : {M : Type 1} → statement M
-main-spec =
-    tie.close
-    (tie.spec
-    Inv-loop
-    μ-loop
-    loop-holds
-    add-t6
-    add-t8
-    slice-aggregate-list-file
-    list-file-requires
-    add-i
-    loop-less
-    loop-again
-    returns)
+main-spec = tie.close (tie.spec Inv-loop μ-loop loop-holds add-t6 add-t8 slice-aggregate-list-file list-file-requires add-i loop-less loop-again returns)

@@ -46,19 +46,4 @@ returns-2 : tie.Need-returns-2 Inv-loop μ-loop
 returns-2 c = tt
 
 pub pages-spec : {M : Type 1} → statement M
-pages-spec =
-    tie.close
-    (tie.spec
-    Inv-loop
-    μ-loop
-    loop-holds
-    same-length
-    returns
-    mul-page
-    array-read-page
-    page-requires
-    add-i
-    loop-less
-    loop-again
-    same-length-2
-    returns-2)
+pages-spec = tie.close (tie.spec Inv-loop μ-loop loop-holds same-length returns mul-page array-read-page page-requires add-i loop-less loop-again same-length-2 returns-2)

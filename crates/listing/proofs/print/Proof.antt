@@ -12,20 +12,11 @@ slice-aggregate-read-full c = sym (length-replicate {A = ℕ} 65537 0)
 read-full-requires : tie.Need-read-full-requires
 read-full-requires c κs = tt
 
-array-share-prefix-input : tie.Need-array-share-prefix-input
-array-share-prefix-input c = search needs
-
-slice-aggregate-list : tie.Need-slice-aggregate-list
-slice-aggregate-list c = search needs
-
 slice-aggregate-list-2 : tie.Need-slice-aggregate-list-2
 slice-aggregate-list-2 c = sym (length-replicate {A = ℕ} 81920 0)
 
 list-requires : tie.Need-list-requires
 list-requires c κs = tt
-
-slice-aggregate-print-first : tie.Need-slice-aggregate-print-first
-slice-aggregate-print-first c = search needs
 
 print-first-requires : tie.Need-print-first-requires
 print-first-requires c κs = tt
@@ -34,15 +25,5 @@ returns : tie.Need-returns
 returns c = tt
 
 pub print-spec : {M : Type 1} → statement M
-print-spec =
-    tie.close
-    (tie.spec
-    slice-aggregate-read-full
-    read-full-requires
-    array-share-prefix-input
-    slice-aggregate-list
-    slice-aggregate-list-2
-    list-requires
-    slice-aggregate-print-first
-    print-first-requires
-    returns)
+print-spec = tie.close (tie.spec slice-aggregate-read-full read-full-requires (search needs) (search needs) slice-aggregate-list-2 list-requires (search needs)
+    print-first-requires returns)

@@ -8,15 +8,5 @@ use Rattle.listing.proofs.print_first.Tie as tie
 slice-aggregate-write-all : tie.Need-slice-aggregate-write-all
 slice-aggregate-write-all c = simp length-take (omega arith)
 
-write-all-requires : tie.Need-write-all-requires
-write-all-requires c κs = search needs
-
-returns : tie.Need-returns
-returns c = search needs
-
-returns-2 : tie.Need-returns-2
-returns-2 c = search needs
-
 pub print-first-spec : {M : Type 1} → statement M
-print-first-spec =
-    tie.close (tie.spec slice-aggregate-write-all write-all-requires returns returns-2)
+print-first-spec = tie.close (tie.spec slice-aggregate-write-all (λ c κs. search needs) (search needs) (search needs))

@@ -44,17 +44,4 @@ returns : tie.Need-returns Inv-loop μ-loop
 returns c = tt
 
 pub text-spec : {M : Type 1} → statement M
-text-spec =
-    tie.close
-    (tie.spec
-    Inv-loop
-    μ-loop
-    loop-holds
-    shared-slice-read-out
-    slice-write-out
-    add-to
-    add-i
-    loop-less
-    loop-again
-    same-length
-    returns)
+text-spec = tie.close (tie.spec Inv-loop μ-loop loop-holds shared-slice-read-out slice-write-out add-to add-i loop-less loop-again same-length returns)

@@ -52,21 +52,5 @@ returns-2 : tie.Need-returns-2 Inv-loop μ-loop
 returns-2 c = tt
 
 pub tuple-lines-spec : {M : Type 1} → statement M
-tuple-lines-spec =
-    tie.close
-    (tie.spec
-    Inv-loop
-    μ-loop
-    first-requires
-    loop-holds
-    next-requires
-    enum-known-r
-    tuple-line-requires
-    enum-told
-    same-length
-    returns
-    add-counter
-    loop-less
-    loop-again
-    same-length-2
-    returns-2)
+tuple-lines-spec = tie.close (tie.spec Inv-loop μ-loop first-requires loop-holds next-requires enum-known-r tuple-line-requires enum-told same-length returns add-counter
+    loop-less loop-again same-length-2 returns-2)

@@ -4,17 +4,8 @@ use borrow.Author.Needs.{needs}
 use Rattle.memory_bytes.proofs.add2.Statement.{statement}
 use Rattle.memory_bytes.proofs.add2.Tie as tie
 
-step2-requires : tie.Need-step2-requires
-step2-requires c κs = search needs
-
-add-each2-requires : tie.Need-add-each2-requires
-add-each2-requires c κs = search needs
-
-same-length : tie.Need-same-length
-same-length c = search needs
-
 returns : tie.Need-returns
 returns c = add-end (c .before .before .add-each2 .ensures) refl (c .before .before .before .step2 .ensures)
 
 pub add2-spec : {M : Type 1} → statement M
-add2-spec = tie.close (tie.spec step2-requires add-each2-requires same-length returns)
+add2-spec = tie.close (tie.spec (λ c κs. search needs) (λ c κs. search needs) (search needs) returns)

@@ -54,19 +54,4 @@ returns : tie.Need-returns Inv-loop μ-loop
 returns c = let l = c .before in add-end (l .loop .inv .1 .1) (omega arith) refl
 
 pub add-each2-spec : {M : Type 1} → statement M
-add-each2-spec =
-    tie.close
-    (tie.spec
-    Inv-loop
-    μ-loop
-    loop-holds
-    mul-a
-    add-a
-    get2-requires
-    plus2-requires
-    put2-requires
-    add-j
-    loop-less
-    loop-again
-    same-length
-    returns)
+add-each2-spec = tie.close (tie.spec Inv-loop μ-loop loop-holds mul-a add-a get2-requires plus2-requires put2-requires add-j loop-less loop-again same-length returns)

@@ -46,16 +46,4 @@ returns c = let l = c .before in
     any-end (equals (a .key)) (column4 (a .m .now) (a .at)) (l .loop .j) 16 (omega arith) (l .loop .hit) (l .loop .inv .1)
 
 pub any-equal-spec : {M : Type 1} → statement M
-any-equal-spec =
-    tie.close
-    (tie.spec
-    Inv-loop
-    μ-loop
-    loop-holds
-    mul-get4
-    add-get4
-    get4-requires
-    add-j
-    loop-less
-    loop-again
-    returns)
+any-equal-spec = tie.close (tie.spec Inv-loop μ-loop loop-holds mul-get4 add-get4 get4-requires add-j loop-less loop-again returns)

@@ -38,16 +38,4 @@ returns : tie.Need-returns Inv-loop μ-loop
 returns c = let l = c .before in write-end (l .loop .inv .1) (omega (arith, length-replicate {A = ℕ} (l .before .args .n) 0))
 
 pub clear-spec : {M : Type 1} → statement M
-clear-spec =
-    tie.close
-    (tie.spec
-    Inv-loop
-    μ-loop
-    loop-holds
-    add-m
-    slice-write-m
-    add-j
-    loop-less
-    loop-again
-    same-length
-    returns)
+clear-spec = tie.close (tie.spec Inv-loop μ-loop loop-holds add-m slice-write-m add-j loop-less loop-again same-length returns)

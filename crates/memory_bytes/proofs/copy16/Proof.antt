@@ -8,21 +8,6 @@ use borrow.Author.Needs.{needs}
 use Rattle.memory_bytes.proofs.copy16.Statement.{statement}
 use Rattle.memory_bytes.proofs.copy16.Tie as tie
 
-slice-aggregate-copy-out : tie.Need-slice-aggregate-copy-out
-slice-aggregate-copy-out c = search needs
-
-copy-out-requires : tie.Need-copy-out-requires
-copy-out-requires c κs = search needs
-
-slice-aggregate-write : tie.Need-slice-aggregate-write
-slice-aggregate-write c = search needs
-
-write-requires : tie.Need-write-requires
-write-requires c κs = search needs
-
-same-length : tie.Need-same-length
-same-length c = search needs
-
 returns : tie.Need-returns
 returns c = let w = c .before .before in
     let t = w .before .before .before .before in
@@ -31,12 +16,4 @@ returns c = let w = c .before .before in
     (copied-whole (a .m .now) (replicate {A = ℕ} 16 0) (a .from) 16 (length-replicate {A = ℕ} 16 0) (t .copy-out .ensures)) (w .write .ensures)
 
 pub copy16-spec : {M : Type 1} → statement M
-copy16-spec =
-    tie.close
-    (tie.spec
-    slice-aggregate-copy-out
-    copy-out-requires
-    slice-aggregate-write
-    write-requires
-    same-length
-    returns)
+copy16-spec = tie.close (tie.spec (search needs) (λ c κs. search needs) (search needs) (λ c κs. search needs) (search needs) returns)

@@ -47,17 +47,4 @@ returns c = let l = c .before in
     front-wrote (write-end (l .loop .inv .1) (omega arith)) (omega arith) ∙ ap (λ (k : ℕ). bytes (a .m .now) (a .a) (a .n) ++ drop k (a .out .now)) e
 
 pub copy-out-spec : {M : Type 1} → statement M
-copy-out-spec =
-    tie.close
-    (tie.spec
-    Inv-loop
-    μ-loop
-    loop-holds
-    add-out
-    shared-slice-read-out
-    slice-write-out
-    add-j
-    loop-less
-    loop-again
-    same-length
-    returns)
+copy-out-spec = tie.close (tie.spec Inv-loop μ-loop loop-holds add-out shared-slice-read-out slice-write-out add-j loop-less loop-again same-length returns)

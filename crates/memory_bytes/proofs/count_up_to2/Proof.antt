@@ -62,19 +62,4 @@ returns c = let l = c .before in
     count-end (upTo (a .x)) (column2 (a .m .now) (a .base)) (l .loop .j) (a .e) (l .loop .k) (l .loop .inv .1 .1 .1) (omega arith)
 
 pub count-up-to2-spec : {M : Type 1} → statement M
-count-up-to2-spec =
-    tie.close
-    (tie.spec
-    Inv-loop
-    μ-loop
-    loop-holds
-    mul-get2
-    add-get2
-    get2-requires
-    one-if-requires
-    add-k
-    add-j
-    loop-less
-    loop-again
-    cast-result
-    returns)
+count-up-to2-spec = tie.close (tie.spec Inv-loop μ-loop loop-holds mul-get2 add-get2 get2-requires one-if-requires add-k add-j loop-less loop-again cast-result returns)

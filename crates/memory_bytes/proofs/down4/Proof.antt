@@ -41,18 +41,4 @@ returns : tie.Need-returns Inv-loop μ-loop
 returns c = let l = c .before in lower-end (l .before .args .hi) (l .loop .inv .1 .1) (omega arith) (omega arith) (omega arith)
 
 pub down4-spec : {M : Type 1} → statement M
-down4-spec =
-    tie.close
-    (tie.spec
-    Inv-loop
-    μ-loop
-    sub-e
-    loop-holds
-    add-m
-    slice-read-m
-    slice-write-m
-    add-k
-    loop-less
-    loop-again
-    same-length
-    returns)
+down4-spec = tie.close (tie.spec Inv-loop μ-loop sub-e loop-holds add-m slice-read-m slice-write-m add-k loop-less loop-again same-length returns)

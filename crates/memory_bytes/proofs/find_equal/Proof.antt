@@ -88,27 +88,5 @@ returns-2 c = let l = c .before in
     first-end (equals (a .key)) (column4 (a .m .now) (a .base)) (l .loop2 .k) (a .n) (l .loop2 .inv .1) (omega arith) (omega arith)
 
 pub find-equal-spec : {M : Type 1} → statement M
-find-equal-spec =
-    tie.close
-    (tie.spec
-    Inv-loop
-    μ-loop
-    Inv-loop2
-    μ-loop2
-    loop-holds
-    add-loop
-    mul-any-equal
-    add-any-equal
-    any-equal-requires
-    add-k
-    loop-less
-    loop-again
-    loop2-holds
-    mul-get4
-    add-get4
-    get4-requires
-    returns
-    add-k-2
-    loop2-less
-    loop2-again
-    returns-2)
+find-equal-spec = tie.close (tie.spec Inv-loop μ-loop Inv-loop2 μ-loop2 loop-holds add-loop mul-any-equal add-any-equal any-equal-requires add-k loop-less loop-again
+    loop2-holds mul-get4 add-get4 get4-requires returns add-k-2 loop2-less loop2-again returns-2)

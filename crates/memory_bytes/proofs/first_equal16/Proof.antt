@@ -50,20 +50,5 @@ returns : tie.Need-returns Inv-loop μ-loop
 returns c = covers-is (c .before .loop .inv .1) (omega arith) refl
 
 pub first-equal16-spec : {M : Type 1} → statement M
-first-equal16-spec =
-    tie.close
-    (tie.spec
-    Inv-loop
-    μ-loop
-    loop-holds
-    sub-j
-    cast-get4
-    mul-get4
-    add-get4
-    get4-requires
-    loop-less
-    loop-again
-    loop-less-2
-    loop-again-2
-    cast-result
+first-equal16-spec = tie.close (tie.spec Inv-loop μ-loop loop-holds sub-j cast-get4 mul-get4 add-get4 get4-requires loop-less loop-again loop-less-2 loop-again-2 cast-result
     returns)

@@ -72,25 +72,5 @@ returns c = let l = c .before .before .before .before in
     grouped-turn (l .loop .inv .1 .1) (omega arith) (omega arith) (omega arith) (omega arith) hit (c .before .pick3 .ensures) (c .pick4 .ensures) (omega arith)
 
 pub groups-equal-spec : {M : Type 1} → statement M
-groups-equal-spec =
-    tie.close
-    (tie.spec
-    Inv-loop
-    μ-loop
-    loop-holds
-    add-loop
-    mul-any-equal
-    add-any-equal
-    any-equal-requires
-    pick-requires
-    add-k
-    pick-requires-2
-    loop-less
-    loop-again
-    sub-t
-    mul-any-equal-2
-    add-any-equal-2
-    any-equal-requires-2
-    pick-requires-3
-    pick-requires-4
-    returns)
+groups-equal-spec = tie.close (tie.spec Inv-loop μ-loop loop-holds add-loop mul-any-equal add-any-equal any-equal-requires pick-requires add-k pick-requires-2 loop-less
+    loop-again sub-t mul-any-equal-2 add-any-equal-2 any-equal-requires-2 pick-requires-3 pick-requires-4 returns)

@@ -75,27 +75,5 @@ returns-2 : tie.Need-returns-2 Inv-loop μ-loop Inv-loop2 μ-loop2
 returns-2 c = let l = c .before in last-end _ _ _ _ (l .loop2 .k) (l .loop2 .inv) (omega arith)
 
 pub last-equal-spec : {M : Type 1} → statement M
-last-equal-spec =
-    tie.close
-    (tie.spec
-    Inv-loop
-    μ-loop
-    Inv-loop2
-    μ-loop2
-    loop-holds
-    add-loop
-    sub-t
-    mul-any-equal
-    add-any-equal
-    any-equal-requires
-    loop-less
-    loop-again
-    loop2-holds
-    sub-t-2
-    mul-get4
-    add-get4
-    get4-requires
-    returns
-    loop2-less
-    loop2-again
-    returns-2)
+last-equal-spec = tie.close (tie.spec Inv-loop μ-loop Inv-loop2 μ-loop2 loop-holds add-loop sub-t mul-any-equal add-any-equal any-equal-requires loop-less loop-again
+    loop2-holds sub-t-2 mul-get4 add-get4 get4-requires returns loop2-less loop2-again returns-2)

@@ -49,19 +49,4 @@ returns : tie.Need-returns Inv-loop μ-loop
 returns c = covers-is (c .before .loop .inv .1) refl (omega arith)
 
 pub last-equal16-spec : {M : Type 1} → statement M
-last-equal16-spec =
-    tie.close
-    (tie.spec
-    Inv-loop
-    μ-loop
-    loop-holds
-    cast-get4
-    mul-get4
-    add-get4
-    get4-requires
-    add-f
-    add-j
-    loop-less
-    loop-again
-    cast-result
-    returns)
+last-equal16-spec = tie.close (tie.spec Inv-loop μ-loop loop-holds cast-get4 mul-get4 add-get4 get4-requires add-f add-j loop-less loop-again cast-result returns)

@@ -58,19 +58,5 @@ returns-2 : tie.Need-returns-2 Inv-loop μ-loop
 returns-2 c = let l = c .before .before in c .rest-names .ensures ∙ sym (l .loop .inv .1)
 
 pub names16-spec : {M : Type 1} → statement M
-names16-spec =
-    tie.close
-    (tie.spec
-    Inv-loop
-    μ-loop
-    loop-holds
-    add-loop
-    mul-any-names
-    add-any-names
-    any-names-requires
-    returns
-    add-i
-    loop-less
-    loop-again
-    rest-names-requires
+names16-spec = tie.close (tie.spec Inv-loop μ-loop loop-holds add-loop mul-any-names add-any-names any-names-requires returns add-i loop-less loop-again rest-names-requires
     returns-2)

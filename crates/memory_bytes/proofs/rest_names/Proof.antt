@@ -46,16 +46,4 @@ returns c = let l = c .before in
     any-end (names (a .s)) (column2 (a .m .now) (a .base)) (l .loop .j) (a .n) (omega arith) (l .loop .hit) (l .loop .inv .1)
 
 pub rest-names-spec : {M : Type 1} → statement M
-rest-names-spec =
-    tie.close
-    (tie.spec
-    Inv-loop
-    μ-loop
-    loop-holds
-    mul-get2
-    add-get2
-    get2-requires
-    add-j
-    loop-less
-    loop-again
-    returns)
+rest-names-spec = tie.close (tie.spec Inv-loop μ-loop loop-holds mul-get2 add-get2 get2-requires add-j loop-less loop-again returns)

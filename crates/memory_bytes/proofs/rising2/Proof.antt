@@ -54,18 +54,4 @@ returns c = let l = c .before in
     paired-end ltb (column2 (a .m .now) (a .base)) (l .loop .j) (a .n) (l .loop .ok) (l .loop .inv .1) (omega arith)
 
 pub rising2-spec : {M : Type 1} → statement M
-rising2-spec =
-    tie.close
-    (tie.spec
-    Inv-loop
-    μ-loop
-    loop-holds
-    mul-a
-    add-a
-    get2-requires
-    add-get2
-    get2-requires-2
-    add-j
-    loop-less
-    loop-again
-    returns)
+rising2-spec = tie.close (tie.spec Inv-loop μ-loop loop-holds mul-a add-a get2-requires add-get2 get2-requires-2 add-j loop-less loop-again returns)

@@ -5,12 +5,6 @@ use borrow.Author.Needs.{needs}
 use Rattle.memory_bytes.proofs.span_equal.Statement.{statement}
 use Rattle.memory_bytes.proofs.span_equal.Tie as tie
 
-add-if1 : tie.Need-add-if1
-add-if1 c = search needs
-
-find-equal-requires : tie.Need-find-equal-requires
-find-equal-requires c κs = search needs
-
 last-equal-requires : tie.Need-last-equal-requires
 last-equal-requires c κs = let st = c .before .before .before in
     let a = st .args in
@@ -20,9 +14,6 @@ returns : tie.Need-returns
 returns c = let st = c .before .before .before .before in
     let a = st .args in
     found-covers (column4 (a .m .now) (a .base)) (a .key) (a .s) (a .e) _ _ (st .pre .0) (c .before .find-equal .ensures) (c .last-equal .ensures)
-
-groups-equal-requires : tie.Need-groups-equal-requires
-groups-equal-requires c κs = search needs
 
 returns-2 : tie.Need-returns-2
 returns-2 c = let st = c .before .before .before .before .before in
@@ -44,18 +35,6 @@ first-equal16-requires c κs = let f = c .before .before .before .groups-equal .
 add-t15 : tie.Need-add-t15
 add-t15 c = let f = c .before .before .before .before .groups-equal .ensures .found (c .before .before .if2 .left) in omega arith
 
-mul-last-equal16 : tie.Need-mul-last-equal16
-mul-last-equal16 c = search needs
-
-add-last-equal16 : tie.Need-add-last-equal16
-add-last-equal16 c = search needs
-
-last-equal16-requires : tie.Need-last-equal16-requires
-last-equal16-requires c κs = search needs
-
-add-t19 : tie.Need-add-t19
-add-t19 c = search needs
-
 returns-3 : tie.Need-returns-3
 returns-3 c =
     let p3 = c .before .before .before in
@@ -64,22 +43,5 @@ returns-3 c =
     (c .last-equal16 .ensures)
 
 pub span-equal-spec : {M : Type 1} → statement M
-span-equal-spec =
-    tie.close
-    (tie.spec
-    add-if1
-    find-equal-requires
-    last-equal-requires
-    returns
-    groups-equal-requires
-    returns-2
-    sub-hi
-    mul-first-equal16
-    add-first-equal16
-    first-equal16-requires
-    add-t15
-    mul-last-equal16
-    add-last-equal16
-    last-equal16-requires
-    add-t19
-    returns-3)
+span-equal-spec = tie.close (tie.spec (search needs) (λ c κs. search needs) last-equal-requires returns (λ c κs. search needs) returns-2 sub-hi mul-first-equal16
+    add-first-equal16 first-equal16-requires add-t15 (search needs) (search needs) (λ c κs. search needs) (search needs) returns-3)

@@ -38,17 +38,4 @@ returns : tie.Need-returns Inv-loop μ-loop
 returns c = let l = c .before in raise-end (l .before .args .lo) (l .loop .inv .1 .1) (omega arith) (omega arith) (omega arith)
 
 pub up4-spec : {M : Type 1} → statement M
-up4-spec =
-    tie.close
-    (tie.spec
-    Inv-loop
-    μ-loop
-    loop-holds
-    sub-k
-    slice-read-m
-    add-m
-    slice-write-m
-    loop-less
-    loop-again
-    same-length
-    returns)
+up4-spec = tie.close (tie.spec Inv-loop μ-loop loop-holds sub-k slice-read-m add-m slice-write-m loop-less loop-again same-length returns)

@@ -40,17 +40,4 @@ returns : tie.Need-returns Inv-loop μ-loop
 returns c = let l = c .before in write-end (l .loop .inv .1) (omega arith)
 
 pub write-spec : {M : Type 1} → statement M
-write-spec =
-    tie.close
-    (tie.spec
-    Inv-loop
-    μ-loop
-    loop-holds
-    shared-slice-read-m
-    add-m
-    slice-write-m
-    add-j
-    loop-less
-    loop-again
-    same-length
-    returns)
+write-spec = tie.close (tie.spec Inv-loop μ-loop loop-holds shared-slice-read-m add-m slice-write-m add-j loop-less loop-again same-length returns)

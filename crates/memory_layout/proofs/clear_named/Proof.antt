@@ -3,14 +3,8 @@ use borrow.Author.Needs.{needs}
 use Rattle.memory_layout.proofs.clear_named.Statement.{statement}
 use Rattle.memory_layout.proofs.clear_named.Tie as tie
 
-put4-requires : tie.Need-put4-requires
-put4-requires c κs = search needs
-
-same-length : tie.Need-same-length
-same-length c = search needs
-
 returns : tie.Need-returns
 returns c = let w = c .before .before in named-clear (w .before .before .before .pre) (w .put4 .ensures)
 
 pub clear-named-spec : {M : Type 1} → statement M
-clear-named-spec = tie.close (tie.spec put4-requires same-length returns)
+clear-named-spec = tie.close (tie.spec (λ c κs. search needs) (search needs) returns)

@@ -3,14 +3,8 @@ use borrow.Author.Needs.{needs}
 use Rattle.memory_layout.proofs.clear_used.Statement.{statement}
 use Rattle.memory_layout.proofs.clear_used.Tie as tie
 
-clear-requires : tie.Need-clear-requires
-clear-requires c κs = search needs
-
-same-length : tie.Need-same-length
-same-length c = search needs
-
 returns : tie.Need-returns
 returns c = let w = c .before .before in clear-becomes (w .before .before .before .pre) (w .clear .ensures)
 
 pub clear-used-spec : {M : Type 1} → statement M
-clear-used-spec = tie.close (tie.spec clear-requires same-length returns)
+clear-used-spec = tie.close (tie.spec (λ c κs. search needs) (search needs) returns)

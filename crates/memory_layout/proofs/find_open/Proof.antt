@@ -71,20 +71,4 @@ returns-2 c = let l = c .before in
     omega (arith, l .loop .inv .1 .1, find-end (st .args .m .now) (st .args .transaction) (l .loop .i) (l .before .get4 .result) (omega arith))
 
 pub find-open-spec : {M : Type 1} → statement M
-find-open-spec =
-    tie.close
-    (tie.spec
-    Inv-loop
-    μ-loop
-    get4-requires
-    cast-n
-    loop-holds
-    mul-get4
-    add-get4
-    get4-requires-2
-    cast-t
-    returns
-    add-i
-    loop-less
-    loop-again
-    returns-2)
+find-open-spec = tie.close (tie.spec Inv-loop μ-loop get4-requires cast-n loop-holds mul-get4 add-get4 get4-requires-2 cast-t returns add-i loop-less loop-again returns-2)

@@ -6,27 +6,6 @@ use borrow.Author.Needs.{needs}
 use Rattle.memory_layout.proofs.fresh.Statement.{statement}
 use Rattle.memory_layout.proofs.fresh.Tie as tie
 
-clear-requires : tie.Need-clear-requires
-clear-requires c κs = search needs
-
-put4-requires : tie.Need-put4-requires
-put4-requires c κs = search needs
-
-put4-requires-2 : tie.Need-put4-requires-2
-put4-requires-2 c κs = search needs
-
-put4-requires-3 : tie.Need-put4-requires-3
-put4-requires-3 c κs = search needs
-
-clear-requires-2 : tie.Need-clear-requires-2
-clear-requires-2 c κs = search needs
-
-name-slots-requires : tie.Need-name-slots-requires
-name-slots-requires c κs = search needs
-
-same-length : tie.Need-same-length
-same-length c = search needs
-
 returns : tie.Need-returns
 returns c = let s = c .before .before in
     let w5 = s .before .before .before .before in
@@ -42,14 +21,5 @@ returns c = let s = c .before .before in
     (b, blank-in (a .blocks) (a .n) b)
 
 pub fresh-spec : {M : Type 1} → statement M
-fresh-spec =
-    tie.close
-    (tie.spec
-    clear-requires
-    put4-requires
-    put4-requires-2
-    put4-requires-3
-    clear-requires-2
-    name-slots-requires
-    same-length
-    returns)
+fresh-spec = tie.close (tie.spec (λ c κs. search needs) (λ c κs. search needs) (λ c κs. search needs) (λ c κs. search needs) (λ c κs. search needs) (λ c κs. search needs)
+    (search needs) returns)

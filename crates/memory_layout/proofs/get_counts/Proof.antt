@@ -3,21 +3,6 @@ use borrow.Author.Needs.{needs}
 use Rattle.memory_layout.proofs.get_counts.Statement.{statement}
 use Rattle.memory_layout.proofs.get_counts.Tie as tie
 
-get4-requires : tie.Need-get4-requires
-get4-requires c κs = search needs
-
-get2-requires : tie.Need-get2-requires
-get2-requires c κs = search needs
-
-get4-requires-2 : tie.Need-get4-requires-2
-get4-requires-2 c κs = search needs
-
-get4-requires-3 : tie.Need-get4-requires-3
-get4-requires-3 c κs = search needs
-
-get4-requires-4 : tie.Need-get4-requires-4
-get4-requires-4 c κs = search needs
-
 returns : tie.Need-returns
 unfolding countsOf
 returns c = λ i. record {
@@ -29,6 +14,4 @@ returns c = λ i. record {
 }
 
 pub get-counts-spec : {M : Type 1} → statement M
-get-counts-spec =
-    tie.close
-    (tie.spec get4-requires get2-requires get4-requires-2 get4-requires-3 get4-requires-4 returns)
+get-counts-spec = tie.close (tie.spec (λ c κs. search needs) (λ c κs. search needs) (λ c κs. search needs) (λ c κs. search needs) (λ c κs. search needs) returns)

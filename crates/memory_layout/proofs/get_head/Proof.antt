@@ -5,27 +5,6 @@ use borrow.Author.Needs.{needs}
 use Rattle.memory_layout.proofs.get_head.Statement.{statement}
 use Rattle.memory_layout.proofs.get_head.Tie as tie
 
-get4-requires : tie.Need-get4-requires
-get4-requires c κs = search needs
-
-get4-requires-2 : tie.Need-get4-requires-2
-get4-requires-2 c κs = search needs
-
-get4-requires-3 : tie.Need-get4-requires-3
-get4-requires-3 c κs = search needs
-
-get4-requires-4 : tie.Need-get4-requires-4
-get4-requires-4 c κs = search needs
-
-get4-requires-5 : tie.Need-get4-requires-5
-get4-requires-5 c κs = search needs
-
-get4-requires-6 : tie.Need-get4-requires-6
-get4-requires-6 c κs = search needs
-
-get4-requires-7 : tie.Need-get4-requires-7
-get4-requires-7 c κs = search needs
-
 returns : tie.Need-returns
 unfolding headOf
 returns c = λ i. record {
@@ -39,14 +18,5 @@ returns c = λ i. record {
 }
 
 pub get-head-spec : {M : Type 1} → statement M
-get-head-spec =
-    tie.close
-    (tie.spec
-    get4-requires
-    get4-requires-2
-    get4-requires-3
-    get4-requires-4
-    get4-requires-5
-    get4-requires-6
-    get4-requires-7
-    returns)
+get-head-spec = tie.close (tie.spec (λ c κs. search needs) (λ c κs. search needs) (λ c κs. search needs) (λ c κs. search needs) (λ c κs. search needs) (λ c κs. search needs)
+    (λ c κs. search needs) returns)

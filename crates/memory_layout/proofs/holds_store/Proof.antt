@@ -9,21 +9,9 @@ use Rattle.memory_layout.proofs.holds_store.Tie as tie
 returns : tie.Need-returns
 returns c = too-short (c .before .before .args .m .now) (omega (arith, c .if1 .taken))
 
-get4-requires : tie.Need-get4-requires
-get4-requires c κs = omega arith
-
 returns-2 : tie.Need-returns-2
 returns-2 c = let s = c .before in
     unsigned (s .before .before .before .args .m .now) (omega (arith, s .before .if1 .left)) (s .get4 .ensures) (c .if2 .taken)
-
-get-head-requires : tie.Need-get-head-requires
-get-head-requires c κs = omega arith
-
-get-counts-requires : tie.Need-get-counts-requires
-get-counts-requires c κs = omega arith
-
-in-range-requires : tie.Need-in-range-requires
-in-range-requires c κs = search needs
 
 returns-3 : tie.Need-returns-3
 returns-3 c = let r = c .before in
@@ -33,9 +21,6 @@ returns-3 c = let r = c .before in
     out-of-range (s .before .before .before .args .m .now) (omega (arith, s .before .if1 .left)) (s .get4 .ensures) (h .before .if2 .left)
     (h .get-head .ensures) (n .get-counts .ensures) (r .in-range .ensures) (not-true _ (c .if3 .taken))
 
-tables-rise-requires : tie.Need-tables-rise-requires
-tables-rise-requires c κs = omega arith
-
 returns-4 : tie.Need-returns-4
 returns-4 c = let t = c .before in
     let r = t .before .before in
@@ -44,12 +29,6 @@ returns-4 c = let t = c .before in
     let s = h .before .before in
     tables-fall (s .before .before .before .args .m .now) (omega (arith, s .before .if1 .left)) (s .get4 .ensures) (h .before .if2 .left)
     (h .get-head .ensures) (n .get-counts .ensures) (r .in-range .ensures) (not-false _ (t .before .if3 .left)) (t .tables-rise .ensures) (not-true _ (c .if4 .taken))
-
-cast-starts-rise : tie.Need-cast-starts-rise
-cast-starts-rise c = search needs
-
-cast-starts-rise-2 : tie.Need-cast-starts-rise-2
-cast-starts-rise-2 c = search needs
 
 starts-rise-requires : tie.Need-starts-rise-requires
 starts-rise-requires c κs = let t = c .before .before .before in
@@ -71,19 +50,5 @@ returns-5 c = let e = c .before .before .before in
     (h .get-head .ensures) (n .get-counts .ensures) (r .in-range .ensures) (not-false _ (t .before .if3 .left)) (t .tables-rise .ensures) (not-false _ (e .if4 .left)))
 
 pub holds-store-spec : {M : Type 1} → statement M
-holds-store-spec =
-    tie.close
-    (tie.spec
-    returns
-    get4-requires
-    returns-2
-    get-head-requires
-    get-counts-requires
-    in-range-requires
-    returns-3
-    tables-rise-requires
-    returns-4
-    cast-starts-rise
-    cast-starts-rise-2
-    starts-rise-requires
-    returns-5)
+holds-store-spec = tie.close (tie.spec returns (λ c κs. omega arith) returns-2 (λ c κs. omega arith) (λ c κs. omega arith) (λ c κs. search needs) returns-3
+    (λ c κs. omega arith) returns-4 (search needs) (search needs) starts-rise-requires returns-5)

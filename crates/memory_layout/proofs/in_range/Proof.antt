@@ -9,24 +9,6 @@ use borrow.Author.Needs.{needs}
 use Rattle.memory_layout.proofs.in_range.Statement.{statement}
 use Rattle.memory_layout.proofs.in_range.Tie as tie
 
-cast-need : tie.Need-cast-need
-cast-need c = search needs
-
-mul-need : tie.Need-mul-need
-mul-need c = search needs
-
-add-need : tie.Need-add-need
-add-need c = search needs
-
-cast-pages : tie.Need-cast-pages
-cast-pages c = search needs
-
-cast-most : tie.Need-cast-most
-cast-most c = search needs
-
-mul-most : tie.Need-mul-most
-mul-most c = search needs
-
 returns : tie.Need-returns
 unfolding inRange memoryFor
 returns c = let s5 = c .before .before .before .before .before in
@@ -38,5 +20,4 @@ returns c = let s5 = c .before .before .before .before .before in
     (ltb (h .taken) (h .blocks)) (leb (n .rows) (h .capacity)) (leb (n .pages) (2 * h .capacity)) (leb (n .opens) 64) (leb (n .named) (h .capacity)) (leb (n .directories) 4)
 
 pub in-range-spec : {M : Type 1} → statement M
-in-range-spec =
-    tie.close (tie.spec cast-need mul-need add-need cast-pages cast-most mul-most returns)
+in-range-spec = tie.close (tie.spec (search needs) (search needs) (search needs) (search needs) (search needs) (search needs) returns)

@@ -4,18 +4,9 @@ use borrow.Author.Needs.{needs}
 use Rattle.memory_layout.proofs.is_used.Statement.{statement}
 use Rattle.memory_layout.proofs.is_used.Tie as tie
 
-add-bit : tie.Need-add-bit
-add-bit c = search needs
-
-shared-slice-read-bit : tie.Need-shared-slice-read-bit
-shared-slice-read-bit c = search needs
-
-bit-requires : tie.Need-bit-requires
-bit-requires c κs = search needs
-
 returns : tie.Need-returns
 unfolding isUsed
 returns c = let st = c .before .before .before in rw (lt-ltb (st .args .b) 4096 (st .pre .0)) (c .bit .ensures)
 
 pub is-used-spec : {M : Type 1} → statement M
-is-used-spec = tie.close (tie.spec add-bit shared-slice-read-bit bit-requires returns)
+is-used-spec = tie.close (tie.spec (search needs) (search needs) (λ c κs. search needs) returns)

@@ -52,20 +52,4 @@ returns c = let l = c .before in
     record { size = s .size; below = s .below; above = λ b h. s .above b (omega arith) }
 
 pub name-slots-spec : {M : Type 1} → statement M
-name-slots-spec =
-    tie.close
-    (tie.spec
-    Inv-loop
-    μ-loop
-    loop-holds
-    mul-put2
-    add-put2
-    mul-put2-2
-    add-put2-2
-    cast-put2
-    put2-requires
-    add-i
-    loop-less
-    loop-again
-    same-length
-    returns)
+name-slots-spec = tie.close (tie.spec Inv-loop μ-loop loop-holds mul-put2 add-put2 mul-put2-2 add-put2-2 cast-put2 put2-requires add-i loop-less loop-again same-length returns)

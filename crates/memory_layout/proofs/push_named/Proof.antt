@@ -6,12 +6,6 @@ use borrow.Author.Needs.{needs}
 use Rattle.memory_layout.proofs.push_named.Statement.{statement}
 use Rattle.memory_layout.proofs.push_named.Tie as tie
 
-get4-requires : tie.Need-get4-requires
-get4-requires c κs = search needs
-
-cast-named-place : tie.Need-cast-named-place
-cast-named-place c = search needs
-
 named-place-requires : tie.Need-named-place-requires
 named-place-requires c κs = let st = c .before .before .before .before in (st .pre .0, omega (arith, known _ (st .pre .0), st .pre .1 .0, c .before .get4 .ensures))
 
@@ -24,12 +18,6 @@ put2-requires c κs = let n = c .before .before .before in
 add-put4 : tie.Need-add-put4
 add-put4 c = let n = c .before .before .before .before .before .before .before in omega (arith, known _ (n .before .before .before .pre .0), n .get4 .ensures)
 
-put4-requires : tie.Need-put4-requires
-put4-requires c κs = search needs
-
-same-length : tie.Need-same-length
-same-length c = search needs
-
 returns : tie.Need-returns
 unfolding headOf
 returns c = let v = c .before .before in
@@ -40,14 +28,4 @@ returns c = let v = c .before .before in
     named-push (st .pre .0) (st .args .b) (st .pre .1 .1) (n .get4 .ensures) (st .pre .1 .0) (p .named-place .ensures) (w .put2 .ensures) (v .put4 .ensures)
 
 pub push-named-spec : {M : Type 1} → statement M
-push-named-spec =
-    tie.close
-    (tie.spec
-    get4-requires
-    cast-named-place
-    named-place-requires
-    put2-requires
-    add-put4
-    put4-requires
-    same-length
-    returns)
+push-named-spec = tie.close (tie.spec (λ c κs. search needs) (search needs) named-place-requires put2-requires add-put4 (λ c κs. search needs) (search needs) returns)

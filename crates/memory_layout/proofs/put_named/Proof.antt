@@ -13,9 +13,6 @@ put2-requires : tie.Need-put2-requires
 unfolding headOf
 put2-requires c κs = let st = c .before .before .before .before in omega (arith, known _ (st .pre .0), st .pre .1 .0, c .before .named-place .ensures)
 
-same-length : tie.Need-same-length
-same-length c = search needs
-
 returns : tie.Need-returns
 unfolding headOf
 returns c = let w = c .before .before in
@@ -24,4 +21,4 @@ returns c = let w = c .before .before in
     named-set (st .pre .0) (st .args .b) (st .pre .1 .1) (st .args .i) (st .pre .1 .0) (p .named-place .ensures) (w .put2 .ensures)
 
 pub put-named-spec : {M : Type 1} → statement M
-put-named-spec = tie.close (tie.spec named-place-requires put2-requires same-length returns)
+put-named-spec = tie.close (tie.spec named-place-requires put2-requires (search needs) returns)

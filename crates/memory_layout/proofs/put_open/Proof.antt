@@ -11,17 +11,8 @@ mul-put4 c = omega (arith, known _ (c .before .before .pre .0))
 add-put4 : tie.Need-add-put4
 add-put4 c = omega (arith, known _ (c .before .before .pre .0))
 
-mul-put4-2 : tie.Need-mul-put4-2
-mul-put4-2 c = search needs
-
-add-put4-2 : tie.Need-add-put4-2
-add-put4-2 c = search needs
-
 put4-requires : tie.Need-put4-requires
 put4-requires c κs = omega (arith, known _ (c .before .before .before .before .pre .0))
-
-same-length : tie.Need-same-length
-same-length c = search needs
 
 returns : tie.Need-returns
 returns c = let w = c .before .before in
@@ -29,5 +20,4 @@ returns c = let w = c .before .before in
     open-set (st .pre .0) (st .args .i) (st .args .o) (st .pre .1 .0) (st .pre .1 .1) (w .put4 .ensures)
 
 pub put-open-spec : {M : Type 1} → statement M
-put-open-spec =
-    tie.close (tie.spec mul-put4 add-put4 mul-put4-2 add-put4-2 put4-requires same-length returns)
+put-open-spec = tie.close (tie.spec mul-put4 add-put4 (search needs) (search needs) put4-requires (search needs) returns)

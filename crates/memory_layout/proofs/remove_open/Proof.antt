@@ -5,23 +5,11 @@ use borrow.Author.Needs.{needs}
 use Rattle.memory_layout.proofs.remove_open.Statement.{statement}
 use Rattle.memory_layout.proofs.remove_open.Tie as tie
 
-get4-requires : tie.Need-get4-requires
-get4-requires c κs = search needs
-
-cast-e : tie.Need-cast-e
-cast-e c = search needs
-
 mul-down4 : tie.Need-mul-down4
 mul-down4 c = omega (arith, known _ (c .before .before .before .before .pre .0))
 
 add-down4 : tie.Need-add-down4
 add-down4 c = omega (arith, known _ (c .before .before .before .before .pre .0))
-
-mul-down4-2 : tie.Need-mul-down4-2
-mul-down4-2 c = search needs
-
-add-down4-2 : tie.Need-add-down4-2
-add-down4-2 c = search needs
 
 down4-requires : tie.Need-down4-requires
 down4-requires c κs = let k = known _ (c .before .before .before .before .pre .0) in
@@ -29,12 +17,6 @@ down4-requires c κs = let k = known _ (c .before .before .before .before .pre .
 
 sub-put4 : tie.Need-sub-put4
 sub-put4 c = let n = c .before .before .before .before .before in omega (arith, known _ (n .before .before .before .pre .0), n .get4 .ensures)
-
-put4-requires : tie.Need-put4-requires
-put4-requires c κs = search needs
-
-same-length : tie.Need-same-length
-same-length c = search needs
 
 returns : tie.Need-returns
 returns c = let v = c .before .before in
@@ -44,17 +26,5 @@ returns c = let v = c .before .before in
     open-remove (st .pre .0) (st .args .i) (n .get4 .ensures) (st .pre .1) (w .down4 .ensures) (v .put4 .ensures)
 
 pub remove-open-spec : {M : Type 1} → statement M
-remove-open-spec =
-    tie.close
-    (tie.spec
-    get4-requires
-    cast-e
-    mul-down4
-    add-down4
-    mul-down4-2
-    add-down4-2
-    down4-requires
-    sub-put4
-    put4-requires
-    same-length
-    returns)
+remove-open-spec = tie.close (tie.spec (λ c κs. search needs) (search needs) mul-down4 add-down4 (search needs) (search needs) down4-requires sub-put4 (λ c κs. search needs)
+    (search needs) returns)

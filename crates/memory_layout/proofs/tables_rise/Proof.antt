@@ -61,20 +61,5 @@ returns c = let l = c .before in
     sym (l .loop .inv .1 ∙ ap (λ (z : Bool). l .loop .rise && z) (all-end (endRises m) (l .loop .t) 7 (omega arith)) ∙ and-yes (l .loop .rise))
 
 pub tables-rise-spec : {M : Type 1} → statement M
-tables-rise-spec =
-    tie.close
-    (tie.spec
-    Inv-loop
-    μ-loop
-    loop-holds
-    mul-get2
-    add-get2
-    get2-requires
-    mul-get2-2
-    add-get2-2
-    add-get2-3
-    get2-requires-2
-    add-t
-    loop-less
-    loop-again
+tables-rise-spec = tie.close (tie.spec Inv-loop μ-loop loop-holds mul-get2 add-get2 get2-requires mul-get2-2 add-get2-2 add-get2-3 get2-requires-2 add-t loop-less loop-again
     returns)

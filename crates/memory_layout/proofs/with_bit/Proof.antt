@@ -7,16 +7,10 @@ use borrow.Author.Needs.{needs}
 use Rattle.memory_layout.proofs.with_bit.Statement.{statement}
 use Rattle.memory_layout.proofs.with_bit.Tie as tie
 
-cast-result : tie.Need-cast-result
-cast-result c = search needs
-
-shl-result : tie.Need-shl-result
-shl-result c = search needs
-
 returns : tie.Need-returns
 returns c = let k : ℕ = c .args .k in
     let e : 1 * 2 ^ k % 256 ≡ 2 ^ k = ap (λ (z : ℕ). z % 256) (one-mul (2 ^ k)) ∙ mod-eq-of-lt (pow-lt {i = k} {j = 8} (c .pre)) in
     ap (bitOr (c .args .x)) e
 
 pub with-bit-spec : {M : Type 1} → statement M
-with-bit-spec = tie.close (tie.spec cast-result shl-result returns)
+with-bit-spec = tie.close (tie.spec (search needs) (search needs) returns)

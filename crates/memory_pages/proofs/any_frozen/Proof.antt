@@ -48,16 +48,4 @@ returns c = let l = c .before in
     any-end frozenWord (column2 (a .m .now) (a .at)) (l .loop .j) 16 (omega arith) (l .loop .hit) (l .loop .inv .1)
 
 pub any-frozen-spec : {M : Type 1} → statement M
-any-frozen-spec =
-    tie.close
-    (tie.spec
-    Inv-loop
-    μ-loop
-    loop-holds
-    mul-get2
-    add-get2
-    get2-requires
-    add-j
-    loop-less
-    loop-again
-    returns)
+any-frozen-spec = tie.close (tie.spec Inv-loop μ-loop loop-holds mul-get2 add-get2 get2-requires add-j loop-less loop-again returns)

@@ -10,12 +10,6 @@ use borrow.Author.Needs.{needs}
 use Rattle.memory_pages.proofs.append_page.Statement.{statement}
 use Rattle.memory_pages.proofs.append_page.Tie as tie
 
-page-count-requires : tie.Need-page-count-requires
-page-count-requires c κs = search needs
-
-row-count-requires : tie.Need-row-count-requires
-row-count-requires c κs = search needs
-
 cast-start : tie.Need-cast-start
 cast-start c = omega (arith, ranges (c .before .before .before .before .before .pre .0), c .row-count .ensures)
 
@@ -82,9 +76,6 @@ put2-requires c κs =
     let b = pre .1 .1 .block in
     omega (arith, ranges (open-room (pre .0) n s (space p9) b (start p7) o), open-pages (pre .0) n s (space p9) b (start p7) o, c .before .blocks2 .ensures)
 
-same-length : tie.Need-same-length
-same-length c = search needs
-
 returns : tie.Need-returns
 returns c =
     let p8 = c .before .before .before .before .before .before .before .before in
@@ -101,16 +92,5 @@ returns c =
     )
 
 pub append-page-spec : {M : Type 1} → statement M
-append-page-spec =
-    tie.close
-    (tie.spec
-    page-count-requires
-    row-count-requires
-    cast-start
-    open-page-requires
-    blocks-requires
-    mul-a
-    add-a
-    put2-requires
-    same-length
+append-page-spec = tie.close (tie.spec (λ c κs. search needs) (λ c κs. search needs) cast-start open-page-requires blocks-requires mul-a add-a put2-requires (search needs)
     returns)

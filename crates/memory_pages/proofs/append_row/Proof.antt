@@ -12,12 +12,6 @@ use borrow.Author.Needs.{needs}
 use Rattle.memory_pages.proofs.append_row.Statement.{statement}
 use Rattle.memory_pages.proofs.append_row.Tie as tie
 
-append-row-requires : tie.Need-append-row-requires
-append-row-requires c κs = search needs
-
-same-length : tie.Need-same-length
-same-length c = search needs
-
 returns : tie.Need-returns
 returns c =
     let p2 = c .before .before in
@@ -32,4 +26,4 @@ returns c =
     )
 
 pub append-row-spec : {M : Type 1} → statement M
-append-row-spec = tie.close (tie.spec append-row-requires same-length returns)
+append-row-spec = tie.close (tie.spec (λ c κs. search needs) (search needs) returns)

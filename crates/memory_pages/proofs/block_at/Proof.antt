@@ -8,12 +8,9 @@ use borrow.Author.Needs.{needs}
 use Rattle.memory_pages.proofs.block_at.Statement.{statement}
 use Rattle.memory_pages.proofs.block_at.Tie as tie
 
-block-word-requires : tie.Need-block-word-requires
-block-word-requires c κs = search needs
-
 returns : tie.Need-returns
 returns c = let st = c .before .before in let m = st .args .m .now in
     ap (λ (z : ℕ). z % 4096) (c .block-word .ensures) ∙ sym (entry-block m (st .args .p) (omega (arith, entries-length m)))
 
 pub block-at-spec : {M : Type 1} → statement M
-block-at-spec = tie.close (tie.spec block-word-requires returns)
+block-at-spec = tie.close (tie.spec (λ c κs. search needs) returns)

@@ -8,9 +8,6 @@ use borrow.Author.Needs.{needs}
 use Rattle.memory_pages.proofs.block_word.Statement.{statement}
 use Rattle.memory_pages.proofs.block_word.Tie as tie
 
-blocks-requires : tie.Need-blocks-requires
-blocks-requires c κs = search needs
-
 mul-get2 : tie.Need-mul-get2
 mul-get2 c = let st = c .before .before in omega (arith, ranges (st .pre .0), entries-length (st .args .m .now))
 
@@ -26,4 +23,4 @@ returns c =
     c .get2 .ensures ∙ ap (λ (z : ℕ). le2 (st .args .m .now) (z + st .args .p * 2)) (c .before .blocks2 .ensures)
 
 pub block-word-spec : {M : Type 1} → statement M
-block-word-spec = tie.close (tie.spec blocks-requires mul-get2 add-get2 get2-requires returns)
+block-word-spec = tie.close (tie.spec (λ c κs. search needs) mul-get2 add-get2 get2-requires returns)

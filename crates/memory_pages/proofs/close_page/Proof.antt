@@ -5,15 +5,6 @@ use borrow.Author.Needs.{needs}
 use Rattle.memory_pages.proofs.close_page.Statement.{statement}
 use Rattle.memory_pages.proofs.close_page.Tie as tie
 
-page-count-requires : tie.Need-page-count-requires
-page-count-requires c κs = search needs
-
-starts-requires : tie.Need-starts-requires
-starts-requires c κs = search needs
-
-blocks-requires : tie.Need-blocks-requires
-blocks-requires c κs = search needs
-
 remove2-requires : tie.Need-remove2-requires
 remove2-requires c κs =
     let st = c .before .before .before .before .before .before .before .before in
@@ -35,9 +26,6 @@ add2-requires c κs =
     let st = c7 .before .before .before .before .before .before .before .before .before in
     (omega (arith, st .pre .1 .table), omega (arith, ranges (st .pre .0), c7 .remove2 .ensures .apart .size, c3 .remove22 .ensures .apart .size))
 
-same-length : tie.Need-same-length
-same-length c = search needs
-
 returns : tie.Need-returns
 returns c =
     let c2 = c .before .before in
@@ -52,14 +40,5 @@ returns c =
     (c10 .remove2 .ensures) (c6 .remove22 .ensures) (c2 .add2 .ensures) (omega arith) (omega arith)
 
 pub close-page-spec : {M : Type 1} → statement M
-close-page-spec =
-    tie.close
-    (tie.spec
-    page-count-requires
-    starts-requires
-    blocks-requires
-    remove2-requires
-    remove2-requires-2
-    add2-requires
-    same-length
+close-page-spec = tie.close (tie.spec (λ c κs. search needs) (λ c κs. search needs) (λ c κs. search needs) remove2-requires remove2-requires-2 add2-requires (search needs)
     returns)

@@ -63,18 +63,4 @@ returns c =
     counted-end dirtyEntry (flatOf (l .before .before .before .args .m .now) .entries) (l .loop .inv .1) (omega (arith, l .loop .inv .0))
 
 pub count-dirty-spec : {M : Type 1} → statement M
-count-dirty-spec =
-    tie.close
-    (tie.spec
-    Inv-loop
-    μ-loop
-    page-count-requires
-    loop-holds
-    block-at-requires
-    one-if-requires
-    add-k
-    add-p
-    loop-less
-    loop-again
-    cast-result
-    returns)
+count-dirty-spec = tie.close (tie.spec Inv-loop μ-loop page-count-requires loop-holds block-at-requires one-if-requires add-k add-p loop-less loop-again cast-result returns)

@@ -62,18 +62,4 @@ returns c =
     counted-end frozenEntry (flatOf (l .before .before .before .args .m .now) .entries) (l .loop .inv .1) (omega (arith, l .loop .inv .0))
 
 pub count-frozen-spec : {M : Type 1} → statement M
-count-frozen-spec =
-    tie.close
-    (tie.spec
-    Inv-loop
-    μ-loop
-    page-count-requires
-    loop-holds
-    frozen-at-requires
-    one-if-requires
-    add-k
-    add-p
-    loop-less
-    loop-again
-    cast-result
-    returns)
+count-frozen-spec = tie.close (tie.spec Inv-loop μ-loop page-count-requires loop-holds frozen-at-requires one-if-requires add-k add-p loop-less loop-again cast-result returns)

@@ -92,20 +92,5 @@ returns-2 c =
     ∙ frozen-entries m (b4 .page-count .ensures) (b3 .blocks2 .ensures)
 
 pub first-frozen-spec : {M : Type 1} → statement M
-first-frozen-spec =
-    tie.close
-    (tie.spec
-    Inv-loop
-    μ-loop
-    page-count-requires
-    blocks-requires
-    pass-groups-requires
-    loop-holds
-    mul-get2
-    add-get2
-    get2-requires
-    returns
-    add-p
-    loop-less
-    loop-again
-    returns-2)
+first-frozen-spec = tie.close (tie.spec Inv-loop μ-loop page-count-requires blocks-requires pass-groups-requires loop-holds mul-get2 add-get2 get2-requires returns add-p
+    loop-less loop-again returns-2)

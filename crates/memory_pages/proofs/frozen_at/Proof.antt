@@ -9,12 +9,9 @@ use borrow.Author.Needs.{needs}
 use Rattle.memory_pages.proofs.frozen_at.Statement.{statement}
 use Rattle.memory_pages.proofs.frozen_at.Tie as tie
 
-block-word-requires : tie.Need-block-word-requires
-block-word-requires c κs = search needs
-
 returns : tie.Need-returns
 returns c = let st = c .before .before in let m = st .args .m .now in
     ap (λ (z : ℕ). eqb (z / 4096 % 2) 1) (c .block-word .ensures) ∙ sym (entry-frozen m (st .args .p) (omega (arith, entries-length m)))
 
 pub frozen-at-spec : {M : Type 1} → statement M
-frozen-at-spec = tie.close (tie.spec block-word-requires returns)
+frozen-at-spec = tie.close (tie.spec (λ c κs. search needs) returns)

@@ -7,9 +7,6 @@ use borrow.Author.Needs.{needs}
 use Rattle.memory_pages.proofs.insert_page.Statement.{statement}
 use Rattle.memory_pages.proofs.insert_page.Tie as tie
 
-start-at-requires : tie.Need-start-at-requires
-start-at-requires c κs = search needs
-
 cast-start : tie.Need-cast-start
 cast-start c = let st = c .before .before .before in omega (arith, ranges (st .pre .0), start-most (st .pre .0) (st .args .p), c .start-at .ensures)
 
@@ -19,9 +16,6 @@ open-page-requires c κs =
     let m = st .args .m .now in
     let b = st .pre .1 .place in
     (st .pre .0, record { table = b .table; place = omega (arith, b .most, entries-length m); space = omega (arith, st .pre .1 .space, entries-length m, head-capacity m) })
-
-same-length : tie.Need-same-length
-same-length c = search needs
 
 returns : tie.Need-returns
 returns c =
@@ -35,5 +29,4 @@ returns c =
     (c4 .start-at .ensures) (c2 .open-page .ensures)
 
 pub insert-page-spec : {M : Type 1} → statement M
-insert-page-spec =
-    tie.close (tie.spec start-at-requires cast-start open-page-requires same-length returns)
+insert-page-spec = tie.close (tie.spec (λ c κs. search needs) cast-start open-page-requires (search needs) returns)

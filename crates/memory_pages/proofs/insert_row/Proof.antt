@@ -9,15 +9,6 @@ use borrow.Author.Needs.{needs}
 use Rattle.memory_pages.proofs.insert_row.Statement.{statement}
 use Rattle.memory_pages.proofs.insert_row.Tie as tie
 
-starts-requires : tie.Need-starts-requires
-starts-requires c κs = search needs
-
-page-count-requires : tie.Need-page-count-requires
-page-count-requires c κs = search needs
-
-insert-row-requires : tie.Need-insert-row-requires
-insert-row-requires c κs = search needs
-
 add-add2 : tie.Need-add-add2
 add-add2 c =
     let st = c .before .before .before .before .before .before .before .before .before .before .before in
@@ -32,9 +23,6 @@ add2-requires c κs =
     let m = st .args .m .now in
     let n = c5 .page-count .ensures in
     (omega (arith, entries-length m, st .pre .1), omega (arith, ranges (st .pre .0 .room), c7 .starts .ensures, c3 .insert-row .ensures .size))
-
-same-length : tie.Need-same-length
-same-length c = search needs
 
 returns : tie.Need-returns
 returns c =
@@ -51,13 +39,4 @@ returns c =
     (omega (arith, new .more, rows-length m, head-capacity m))
 
 pub insert-row-spec : {M : Type 1} → statement M
-insert-row-spec =
-    tie.close
-    (tie.spec
-    starts-requires
-    page-count-requires
-    insert-row-requires
-    add-add2
-    add2-requires
-    same-length
-    returns)
+insert-row-spec = tie.close (tie.spec (λ c κs. search needs) (λ c κs. search needs) (λ c κs. search needs) add-add2 add2-requires (search needs) returns)

@@ -6,15 +6,6 @@ use borrow.Author.Needs.{needs}
 use Rattle.memory_pages.proofs.join_pages.Statement.{statement}
 use Rattle.memory_pages.proofs.join_pages.Tie as tie
 
-table-of-requires : tie.Need-table-of-requires
-table-of-requires c κs = search needs
-
-cast-table : tie.Need-cast-table
-cast-table c = search needs
-
-set-page-requires : tie.Need-set-page-requires
-set-page-requires c κs = search needs
-
 add-close-page : tie.Need-add-close-page
 add-close-page c =
     let st = c .before .before .before .before .before .before .before .before in
@@ -27,9 +18,6 @@ close-page-requires c κs =
     let st = c5 .before .before .before in
     (c3 .set-page .ensures .room, join-may (st .pre .0) (st .pre .1) (c3 .set-page .ensures) (c5 .table-of .ensures .0))
 
-same-length : tie.Need-same-length
-same-length c = search needs
-
 returns : tie.Need-returns
 returns c =
     let c2 = c .before .before in
@@ -39,13 +27,4 @@ returns c =
     join-done (st .pre .0) (st .pre .1) (c6 .set-page .ensures) (c8 .table-of .ensures .0) (c2 .close-page .ensures)
 
 pub join-pages-spec : {M : Type 1} → statement M
-join-pages-spec =
-    tie.close
-    (tie.spec
-    table-of-requires
-    cast-table
-    set-page-requires
-    add-close-page
-    close-page-requires
-    same-length
-    returns)
+join-pages-spec = tie.close (tie.spec (λ c κs. search needs) (search needs) (λ c κs. search needs) add-close-page close-page-requires (search needs) returns)

@@ -9,11 +9,8 @@ either : (b : Bool) → boolByte b ≡ cond b 1 0
 either true = refl
 either false = refl
 
-cast-result : tie.Need-cast-result
-cast-result c = search needs
-
 returns : tie.Need-returns
 returns c = either (c .args .b)
 
 pub one-if-spec : {M : Type 1} → statement M
-one-if-spec = tie.close (tie.spec cast-result returns)
+one-if-spec = tie.close (tie.spec (search needs) returns)

@@ -5,15 +5,6 @@ use borrow.Author.Needs.{needs}
 use Rattle.memory_pages.proofs.open_page.Statement.{statement}
 use Rattle.memory_pages.proofs.open_page.Tie as tie
 
-page-count-requires : tie.Need-page-count-requires
-page-count-requires c κs = search needs
-
-starts-requires : tie.Need-starts-requires
-starts-requires c κs = search needs
-
-blocks-requires : tie.Need-blocks-requires
-blocks-requires c κs = search needs
-
 insert2-requires : tie.Need-insert2-requires
 insert2-requires c κs =
     let st = c .before .before .before .before .before .before .before .before in
@@ -27,12 +18,6 @@ insert2-requires-2 c κs =
     let st = c5 .before .before .before .before .before .before .before in
     let may = st .pre .1 in
     (omega (arith, may .place), omega (arith, ranges (st .pre .0), may .space, c3 .insert2 .ensures .apart .size, c5 .blocks2 .ensures))
-
-add2-requires : tie.Need-add2-requires
-add2-requires c κs = search needs
-
-same-length : tie.Need-same-length
-same-length c = search needs
 
 returns : tie.Need-returns
 returns c =
@@ -48,14 +33,5 @@ returns c =
     (c10 .insert2 .ensures) (c6 .insert22 .ensures) (c2 .add2 .ensures) (omega arith) (omega arith)
 
 pub open-page-spec : {M : Type 1} → statement M
-open-page-spec =
-    tie.close
-    (tie.spec
-    page-count-requires
-    starts-requires
-    blocks-requires
-    insert2-requires
-    insert2-requires-2
-    add2-requires
-    same-length
-    returns)
+open-page-spec = tie.close (tie.spec (λ c κs. search needs) (λ c κs. search needs) (λ c κs. search needs) insert2-requires insert2-requires-2 (λ c κs. search needs)
+    (search needs) returns)

@@ -15,9 +15,6 @@ use Rattle.memory_pages.proofs.page_of.Lts as lts
 use Rattle.memory_bytes.proofs.count_up_to2.Reads as count-up-to2-reads
 use Rattle.memory_pages.proofs.starts.Reads as starts-reads
 
-starts-requires : tie.Need-starts-requires
-starts-requires c κs = search needs
-
 cast-count-up-to2 : tie.Need-cast-count-up-to2
 cast-count-up-to2 c =
     let st = c .before .before in
@@ -53,12 +50,4 @@ returns : tie.Need-returns
 returns c = known c .page
 
 pub page-of-spec : {M : Type 1} → statement M
-page-of-spec =
-    tie.close
-    (tie.spec
-    starts-requires
-    cast-count-up-to2
-    count-up-to2-requires
-    add-result
-    sub-result
-    returns)
+page-of-spec = tie.close (tie.spec (λ c κs. search needs) cast-count-up-to2 count-up-to2-requires add-result sub-result returns)

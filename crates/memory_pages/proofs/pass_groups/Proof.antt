@@ -54,18 +54,4 @@ returns-2 : tie.Need-returns-2 Inv-loop μ-loop
 returns-2 c = c .before .loop .inv
 
 pub pass-groups-spec : {M : Type 1} → statement M
-pass-groups-spec =
-    tie.close
-    (tie.spec
-    Inv-loop
-    μ-loop
-    loop-holds
-    add-loop
-    mul-any-frozen
-    add-any-frozen
-    any-frozen-requires
-    returns
-    add-p
-    loop-less
-    loop-again
-    returns-2)
+pass-groups-spec = tie.close (tie.spec Inv-loop μ-loop loop-holds add-loop mul-any-frozen add-any-frozen any-frozen-requires returns add-p loop-less loop-again returns-2)

@@ -12,12 +12,6 @@ use borrow.Author.Needs.{needs}
 use Rattle.memory_pages.proofs.remove_page.Statement.{statement}
 use Rattle.memory_pages.proofs.remove_page.Tie as tie
 
-table-of-requires : tie.Need-table-of-requires
-table-of-requires c κs = search needs
-
-cast-table : tie.Need-cast-table
-cast-table c = search needs
-
 close-page-requires : tie.Need-close-page-requires
 close-page-requires c κs =
     let st = c .before .before .before .before in
@@ -26,9 +20,6 @@ close-page-requires c κs =
     let h : p < pageCount m = omega (arith, entries-length m, st .pre .1 .place) in
     let e : c .before .table-of .result ≡ tableAt m p = c .before .table-of .ensures .0 ∙ entry-table m p h in
     (st .pre .0, record { table = c .before .table-of .ensures .1; place = h; behind = ends-behind (subst (λ (z : ℕ). TableIs m p z) (sym e) (table-is (st .pre .0) p)) h })
-
-same-length : tie.Need-same-length
-same-length c = search needs
 
 returns : tie.Need-returns
 returns c =
@@ -41,5 +32,4 @@ returns c =
     page-removed (st .pre .0) h (c4 .table-of .ensures .0 ∙ entry-table m p h) (c2 .close-page .ensures) (st .pre .1 .empty)
 
 pub remove-page-spec : {M : Type 1} → statement M
-remove-page-spec =
-    tie.close (tie.spec table-of-requires cast-table close-page-requires same-length returns)
+remove-page-spec = tie.close (tie.spec (λ c κs. search needs) (search needs) close-page-requires (search needs) returns)

@@ -7,15 +7,6 @@ use borrow.Author.Needs.{needs}
 use Rattle.memory_pages.proofs.remove_row.Statement.{statement}
 use Rattle.memory_pages.proofs.remove_row.Tie as tie
 
-starts-requires : tie.Need-starts-requires
-starts-requires c κs = search needs
-
-page-count-requires : tie.Need-page-count-requires
-page-count-requires c κs = search needs
-
-remove-row-requires : tie.Need-remove-row-requires
-remove-row-requires c κs = search needs
-
 add-add2 : tie.Need-add-add2
 add-add2 c =
     let st = c .before .before .before .before .before .before .before .before .before .before in
@@ -31,9 +22,6 @@ add2-requires c κs =
     let n = c5 .page-count .ensures in
     (omega (arith, entries-length m, st .pre .1 .place), omega (arith, ranges (st .pre .0), c7 .starts .ensures, c3 .remove-row .ensures .size))
 
-same-length : tie.Need-same-length
-same-length c = search needs
-
 returns : tie.Need-returns
 returns c =
     let c2 = c .before .before in
@@ -48,13 +36,4 @@ returns c =
     (omega (arith, length-remove (st .args .i) (flatOf m .rows) (may .row), rows-length m)) (may .rows)
 
 pub remove-row-spec : {M : Type 1} → statement M
-remove-row-spec =
-    tie.close
-    (tie.spec
-    starts-requires
-    page-count-requires
-    remove-row-requires
-    add-add2
-    add2-requires
-    same-length
-    returns)
+remove-row-spec = tie.close (tie.spec (λ c κs. search needs) (λ c κs. search needs) (λ c κs. search needs) add-add2 add2-requires (search needs) returns)

@@ -6,26 +6,17 @@ use borrow.Author.Needs.{needs}
 use Rattle.memory_pages.proofs.set_page.Statement.{statement}
 use Rattle.memory_pages.proofs.set_page.Tie as tie
 
-blocks-requires : tie.Need-blocks-requires
-blocks-requires c κs = search needs
-
 mul-a : tie.Need-mul-a
 mul-a c = let st = c .before .before .before in omega (arith, ranges (st .pre .0), entries-length (st .args .m .now))
 
 add-a : tie.Need-add-a
 add-a c = let st = c .before .before .before in omega (arith, ranges (st .pre .0), entries-length (st .args .m .now))
 
-word-requires : tie.Need-word-requires
-word-requires c κs = search needs
-
 put2-requires : tie.Need-put2-requires
 put2-requires c κs =
     let c2 = c .before .before in
     let st = c2 .before .before .before in
     omega (arith, ranges (st .pre .0), entries-length (st .args .m .now), c2 .blocks2 .ensures)
-
-same-length : tie.Need-same-length
-same-length c = search needs
 
 returns : tie.Need-returns
 returns c =
@@ -37,6 +28,4 @@ returns c =
     block-set (st .args .frozen) (st .pre .0) (omega (arith, entries-length m)) (st .pre .1 .block) (c3 .word .ensures) (c5 .blocks2 .ensures) (c2 .put2 .ensures)
 
 pub set-page-spec : {M : Type 1} → statement M
-set-page-spec =
-    tie.close
-    (tie.spec blocks-requires mul-a add-a word-requires put2-requires same-length returns)
+set-page-spec = tie.close (tie.spec (λ c κs. search needs) mul-a add-a (λ c κs. search needs) put2-requires (search needs) returns)

@@ -7,25 +7,10 @@ use borrow.Author.Needs.{needs}
 use Rattle.memory_pages.proofs.split_page.Statement.{statement}
 use Rattle.memory_pages.proofs.split_page.Tie as tie
 
-table-of-requires : tie.Need-table-of-requires
-table-of-requires c κs = search needs
-
-cast-table : tie.Need-cast-table
-cast-table c = search needs
-
-start-at-requires : tie.Need-start-at-requires
-start-at-requires c κs = search needs
-
 cast-start : tie.Need-cast-start
 cast-start c =
     let st = c .before .before .before .before .before in
     omega (arith, ranges (st .pre .0), start-most (st .pre .0) (st .args .p), c .start-at .ensures)
-
-set-page-requires : tie.Need-set-page-requires
-set-page-requires c κs = search needs
-
-add-open-page : tie.Need-add-open-page
-add-open-page c = search needs
 
 add-open-page-2 : tie.Need-add-open-page-2
 add-open-page-2 c =
@@ -45,9 +30,6 @@ open-page-requires c κs =
     let st = c7 .before .before .before in
     (c3 .set-page .ensures .room, split-may (st .args .k) (st .pre .0) (st .pre .1) (c3 .set-page .ensures) (c7 .table-of .result) (c7 .table-of .ensures .1))
 
-same-length : tie.Need-same-length
-same-length c = search needs
-
 returns : tie.Need-returns
 returns c =
     let c2 = c .before .before in
@@ -58,16 +40,5 @@ returns c =
     split-done (st .args .k) (st .pre .0) (st .pre .1) (c6 .set-page .ensures) (c10 .table-of .ensures .0) (omega (arith, c8 .start-at .ensures)) (c2 .open-page .ensures)
 
 pub split-page-spec : {M : Type 1} → statement M
-split-page-spec =
-    tie.close
-    (tie.spec
-    table-of-requires
-    cast-table
-    start-at-requires
-    cast-start
-    set-page-requires
-    add-open-page
-    add-open-page-2
-    open-page-requires
-    same-length
-    returns)
+split-page-spec = tie.close (tie.spec (λ c κs. search needs) (search needs) (λ c κs. search needs) cast-start (λ c κs. search needs) (search needs) add-open-page-2
+    open-page-requires (search needs) returns)

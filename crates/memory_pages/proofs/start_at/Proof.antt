@@ -8,12 +8,6 @@ use borrow.Author.Needs.{needs}
 use Rattle.memory_pages.proofs.start_at.Statement.{statement}
 use Rattle.memory_pages.proofs.start_at.Tie as tie
 
-page-count-requires : tie.Need-page-count-requires
-page-count-requires c κs = search needs
-
-starts-requires : tie.Need-starts-requires
-starts-requires c κs = search needs
-
 mul-get2 : tie.Need-mul-get2
 mul-get2 c = let st = c .before .before .before .before in omega (arith, ranges (st .pre))
 
@@ -22,12 +16,6 @@ add-get2 c = let st = c .before .before .before .before in omega (arith, ranges 
 
 get2-requires : tie.Need-get2-requires
 get2-requires c κs = let st = c .before .before .before .before in omega (arith, ranges (st .pre))
-
-cast-result : tie.Need-cast-result
-cast-result c = search needs
-
-row-count-requires : tie.Need-row-count-requires
-row-count-requires c κs = search needs
 
 returns : tie.Need-returns
 returns c =
@@ -42,15 +30,4 @@ returns-2 c =
     c .row-count .ensures ∙ sym (start-behind m (capacityOf m) (st .args .p) (omega arith))
 
 pub start-at-spec : {M : Type 1} → statement M
-start-at-spec =
-    tie.close
-    (tie.spec
-    page-count-requires
-    starts-requires
-    mul-get2
-    add-get2
-    get2-requires
-    cast-result
-    row-count-requires
-    returns
-    returns-2)
+start-at-spec = tie.close (tie.spec (λ c κs. search needs) (λ c κs. search needs) mul-get2 add-get2 get2-requires (search needs) (λ c κs. search needs) returns returns-2)

@@ -6,9 +6,6 @@ use borrow.Author.Needs.{needs}
 use Rattle.memory_pages.proofs.start_of.Statement.{statement}
 use Rattle.memory_pages.proofs.start_of.Tie as tie
 
-start-at-requires : tie.Need-start-at-requires
-start-at-requires c κs = search needs
-
 returns : tie.Need-returns
 returns c =
     let st = c .before .before in
@@ -17,4 +14,4 @@ returns c =
     (c .start-at .ensures ∙ starts m (st .pre .0) p (omega (arith, entries-length m)), omega (arith, c .start-at .ensures, start-most (st .pre .0) p, rows-length m))
 
 pub start-of-spec : {M : Type 1} → statement M
-start-of-spec = tie.close (tie.spec start-at-requires returns)
+start-of-spec = tie.close (tie.spec (λ c κs. search needs) returns)

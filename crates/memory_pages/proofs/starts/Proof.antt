@@ -4,17 +4,11 @@ use borrow.Author.Needs.{needs}
 use Rattle.memory_pages.proofs.starts.Statement.{statement}
 use Rattle.memory_pages.proofs.starts.Tie as tie
 
-capacity-requires : tie.Need-capacity-requires
-capacity-requires c κs = search needs
-
 mul-result : tie.Need-mul-result
 mul-result c = omega (arith, ranges (c .before .before .pre))
 
 add-result : tie.Need-add-result
 add-result c = omega (arith, ranges (c .before .before .pre))
 
-returns : tie.Need-returns
-returns c = search needs
-
 pub starts-spec : {M : Type 1} → statement M
-starts-spec = tie.close (tie.spec capacity-requires mul-result add-result returns)
+starts-spec = tie.close (tie.spec (λ c κs. search needs) mul-result add-result (search needs))

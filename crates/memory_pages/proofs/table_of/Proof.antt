@@ -11,9 +11,6 @@ use Rattle.memory_pages.proofs.table_of.Tie as tie
 cast-count-up-to2 : tie.Need-cast-count-up-to2
 cast-count-up-to2 c = let st = c .before in omega (arith, ranges (st .pre .0), entries-length (st .args .m .now))
 
-count-up-to2-requires : tie.Need-count-up-to2-requires
-count-up-to2-requires c κs = search needs
-
 cast-result : tie.Need-cast-result
 cast-result c = let st = c .before .before in let m = st .args .m .now in let p = st .args .p in
     let e : c .count-up-to2 .result ≡ tableAt m p = c .count-up-to2 .ensures ∙ table-counted m p in
@@ -25,4 +22,4 @@ returns c = let st = c .before .before in let m = st .args .m .now in let p = st
     (e ∙ sym (entry-table m p (omega (arith, entries-length m))), omega (arith, table-is (st .pre .0) p .most))
 
 pub table-of-spec : {M : Type 1} → statement M
-table-of-spec = tie.close (tie.spec cast-count-up-to2 count-up-to2-requires cast-result returns)
+table-of-spec = tie.close (tie.spec cast-count-up-to2 (λ c κs. search needs) cast-result returns)

@@ -7,9 +7,6 @@ use borrow.Author.Needs.{needs}
 use Rattle.memory_pages.proofs.word.Statement.{statement}
 use Rattle.memory_pages.proofs.word.Tie as tie
 
-add-result : tie.Need-add-result
-add-result c = search needs
-
 returns : tie.Need-returns
 unfolding wordOf
 returns c = let b = c .before .args .block in ap (λ (z : Bool). b + cond z 4096 0) (sym (c .if1 .taken))
@@ -19,4 +16,4 @@ unfolding wordOf
 returns-2 c = let b = c .before .args .block in sym (add-zero b) ∙ ap (λ (z : Bool). b + cond z 4096 0) (sym (c .if1 .left))
 
 pub word-spec : {M : Type 1} → statement M
-word-spec = tie.close (tie.spec add-result returns returns-2)
+word-spec = tie.close (tie.spec (search needs) returns returns-2)

@@ -56,16 +56,4 @@ returns c = let l = c .before in
     ∙ sym (group-is (st .args .m .now) (st .args .i) (a .result) (st .pre .1) (a .ensures .0))
 
 pub any-tentative-spec : {M : Type 1} → statement M
-any-tentative-spec =
-    tie.close
-    (tie.spec
-    Inv-loop
-    μ-loop
-    state-place-requires
-    loop-holds
-    add-hit
-    shared-slice-read-hit
-    add-j
-    loop-less
-    loop-again
-    returns)
+any-tentative-spec = tie.close (tie.spec Inv-loop μ-loop state-place-requires loop-holds add-hit shared-slice-read-hit add-j loop-less loop-again returns)

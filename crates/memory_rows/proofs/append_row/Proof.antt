@@ -7,33 +7,6 @@ use borrow.Author.Needs.{needs}
 use Rattle.memory_rows.proofs.append_row.Statement.{statement}
 use Rattle.memory_rows.proofs.append_row.Tie as tie
 
-capacity-requires : tie.Need-capacity-requires
-capacity-requires c κs = search needs
-
-row-count-requires : tie.Need-row-count-requires
-row-count-requires c κs = search needs
-
-flags-of-requires : tie.Need-flags-of-requires
-flags-of-requires c κs = search needs
-
-cast-r : tie.Need-cast-r
-cast-r c = search needs
-
-pending-code-requires : tie.Need-pending-code-requires
-pending-code-requires c κs = search needs
-
-mul-r : tie.Need-mul-r
-mul-r c = search needs
-
-add-r : tie.Need-add-r
-add-r c = search needs
-
-word-of-requires : tie.Need-word-of-requires
-word-of-requires c κs = search needs
-
-fill-slot-requires : tie.Need-fill-slot-requires
-fill-slot-requires c κs = search needs
-
 put-cells-requires : tie.Need-put-cells-requires
 unfolding headOf
 put-cells-requires c κs =
@@ -43,18 +16,6 @@ put-cells-requires c κs =
     let p14 = p10 .before .before .before .before in
     let cap = p10 .capacity .ensures in
     (record { most = cap .most; long = omega (arith, cap .long, p3 .fill-slot .ensures .apart .size) }, omega (arith, cap .is, p8 .row-count .ensures, p14 .pre .0 .more))
-
-add-put4 : tie.Need-add-put4
-add-put4 c = search needs
-
-cast-put4 : tie.Need-cast-put4
-cast-put4 c = search needs
-
-put4-requires : tie.Need-put4-requires
-put4-requires c κs = search needs
-
-same-length : tie.Need-same-length
-same-length c = search needs
 
 returns : tie.Need-returns
 unfolding headOf
@@ -82,21 +43,5 @@ returns c =
     )
 
 pub append-row-spec : {M : Type 1} → statement M
-append-row-spec =
-    tie.close
-    (tie.spec
-    capacity-requires
-    row-count-requires
-    flags-of-requires
-    cast-r
-    pending-code-requires
-    mul-r
-    add-r
-    word-of-requires
-    fill-slot-requires
-    put-cells-requires
-    add-put4
-    cast-put4
-    put4-requires
-    same-length
-    returns)
+append-row-spec = tie.close (tie.spec (λ c κs. search needs) (λ c κs. search needs) (λ c κs. search needs) (search needs) (λ c κs. search needs) (search needs) (search needs)
+    (λ c κs. search needs) (λ c κs. search needs) put-cells-requires (search needs) (search needs) (λ c κs. search needs) (search needs) returns)

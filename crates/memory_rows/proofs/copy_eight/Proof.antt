@@ -4,57 +4,6 @@ use borrow.Author.Needs.{needs}
 use Rattle.memory_rows.proofs.copy_eight.Statement.{statement}
 use Rattle.memory_rows.proofs.copy_eight.Tie as tie
 
-keys-at-requires : tie.Need-keys-at-requires
-keys-at-requires c κs = search needs
-
-refs-at-requires : tie.Need-refs-at-requires
-refs-at-requires c κs = search needs
-
-states-at-requires : tie.Need-states-at-requires
-states-at-requires c κs = search needs
-
-mul-copy32 : tie.Need-mul-copy32
-mul-copy32 c = search needs
-
-add-copy32 : tie.Need-add-copy32
-add-copy32 c = search needs
-
-mul-copy32-2 : tie.Need-mul-copy32-2
-mul-copy32-2 c = search needs
-
-add-copy32-2 : tie.Need-add-copy32-2
-add-copy32-2 c = search needs
-
-copy32-requires : tie.Need-copy32-requires
-copy32-requires c κs = search needs
-
-mul-copy16 : tie.Need-mul-copy16
-mul-copy16 c = search needs
-
-add-copy16 : tie.Need-add-copy16
-add-copy16 c = search needs
-
-mul-copy16-2 : tie.Need-mul-copy16-2
-mul-copy16-2 c = search needs
-
-add-copy16-2 : tie.Need-add-copy16-2
-add-copy16-2 c = search needs
-
-copy16-requires : tie.Need-copy16-requires
-copy16-requires c κs = search needs
-
-add-copy8 : tie.Need-add-copy8
-add-copy8 c = search needs
-
-add-copy8-2 : tie.Need-add-copy8-2
-add-copy8-2 c = search needs
-
-copy8-requires : tie.Need-copy8-requires
-copy8-requires c κs = search needs
-
-same-length : tie.Need-same-length
-same-length c = search needs
-
 returns : tie.Need-returns
 returns c =
     let p2 = c .before .before in
@@ -68,24 +17,6 @@ returns c =
     (p10 .copy32 .ensures) (p6 .copy16 .ensures) (p2 .copy8 .ensures)
 
 pub copy-eight-spec : {M : Type 1} → statement M
-copy-eight-spec =
-    tie.close
-    (tie.spec
-    keys-at-requires
-    refs-at-requires
-    states-at-requires
-    mul-copy32
-    add-copy32
-    mul-copy32-2
-    add-copy32-2
-    copy32-requires
-    mul-copy16
-    add-copy16
-    mul-copy16-2
-    add-copy16-2
-    copy16-requires
-    add-copy8
-    add-copy8-2
-    copy8-requires
-    same-length
-    returns)
+copy-eight-spec = tie.close (tie.spec (λ c κs. search needs) (λ c κs. search needs) (λ c κs. search needs) (search needs) (search needs) (search needs) (search needs)
+    (λ c κs. search needs) (search needs) (search needs) (search needs) (search needs) (λ c κs. search needs) (search needs) (search needs) (λ c κs. search needs)
+    (search needs) returns)

@@ -6,15 +6,6 @@ use borrow.Author.Needs.{needs}
 use Rattle.memory_rows.proofs.copy_payload.Statement.{statement}
 use Rattle.memory_rows.proofs.copy_payload.Tie as tie
 
-payload-at-requires : tie.Need-payload-at-requires
-payload-at-requires c κs = search needs
-
-copy-out-requires : tie.Need-copy-out-requires
-copy-out-requires c κs = search needs
-
-same-length : tie.Need-same-length
-same-length c = search needs
-
 returns : tie.Need-returns
 returns c =
     let p2 = c .before .before in
@@ -24,4 +15,4 @@ returns c =
     record { count = p .ensures .count; first = p2 .copy-out .ensures ∙ ap (λ (y : List ℕ). y ++ drop (p .result .len) (p7 .args .out .now)) (p .ensures .here) }
 
 pub copy-payload-spec : {M : Type 1} → statement M
-copy-payload-spec = tie.close (tie.spec payload-at-requires copy-out-requires same-length returns)
+copy-payload-spec = tie.close (tie.spec (λ c κs. search needs) (λ c κs. search needs) (search needs) returns)

@@ -4,27 +4,6 @@ use borrow.Author.Needs.{needs}
 use Rattle.memory_rows.proofs.fill_slot.Statement.{statement}
 use Rattle.memory_rows.proofs.fill_slot.Tie as tie
 
-slot-at-requires : tie.Need-slot-at-requires
-slot-at-requires c κs = search needs
-
-put4-requires : tie.Need-put4-requires
-put4-requires c κs = search needs
-
-add-put4 : tie.Need-add-put4
-add-put4 c = search needs
-
-put4-requires-2 : tie.Need-put4-requires-2
-put4-requires-2 c κs = search needs
-
-add-write : tie.Need-add-write
-add-write c = search needs
-
-write-requires : tie.Need-write-requires
-write-requires c κs = search needs
-
-same-length : tie.Need-same-length
-same-length c = search needs
-
 returns : tie.Need-returns
 returns c =
     let p2 = c .before .before in
@@ -35,14 +14,5 @@ returns c =
     slot-filled (p12 .slot-at .ensures) (omega arith) (omega arith) (st .pre .1 .1) (p10 .put4 .ensures) (p6 .put42 .ensures) (p2 .write .ensures)
 
 pub fill-slot-spec : {M : Type 1} → statement M
-fill-slot-spec =
-    tie.close
-    (tie.spec
-    slot-at-requires
-    put4-requires
-    add-put4
-    put4-requires-2
-    add-write
-    write-requires
-    same-length
+fill-slot-spec = tie.close (tie.spec (λ c κs. search needs) (λ c κs. search needs) (search needs) (λ c κs. search needs) (search needs) (λ c κs. search needs) (search needs)
     returns)

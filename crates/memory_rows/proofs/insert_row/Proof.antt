@@ -7,36 +7,9 @@ use borrow.Author.Needs.{needs}
 use Rattle.memory_rows.proofs.insert_row.Statement.{statement}
 use Rattle.memory_rows.proofs.insert_row.Tie as tie
 
-capacity-requires : tie.Need-capacity-requires
-capacity-requires c κs = search needs
-
-row-count-requires : tie.Need-row-count-requires
-row-count-requires c κs = search needs
-
 free-slot-requires : tie.Need-free-slot-requires
 unfolding headOf
 free-slot-requires c κs = let st = c .before .before .before .before .before .before .before in (st .pre .room, st .pre .more)
-
-flags-of-requires : tie.Need-flags-of-requires
-flags-of-requires c κs = search needs
-
-pending-code-requires : tie.Need-pending-code-requires
-pending-code-requires c κs = search needs
-
-mul-r : tie.Need-mul-r
-mul-r c = search needs
-
-add-r : tie.Need-add-r
-add-r c = search needs
-
-cast-fill-slot : tie.Need-cast-fill-slot
-cast-fill-slot c = search needs
-
-word-of-requires : tie.Need-word-of-requires
-word-of-requires c κs = search needs
-
-fill-slot-requires : tie.Need-fill-slot-requires
-fill-slot-requires c κs = search needs
 
 raise-rows-requires : tie.Need-raise-rows-requires
 unfolding headOf
@@ -63,18 +36,6 @@ put-cells-requires c κs =
       omega (arith, cap .is, st .pre .at, st .pre .more),
     )
 
-add-put4 : tie.Need-add-put4
-add-put4 c = search needs
-
-cast-put4 : tie.Need-cast-put4
-cast-put4 c = search needs
-
-put4-requires : tie.Need-put4-requires
-put4-requires c κs = search needs
-
-same-length : tie.Need-same-length
-same-length c = search needs
-
 returns : tie.Need-returns
 unfolding headOf
 returns c =
@@ -98,23 +59,6 @@ returns c =
     (p14 .fill-slot .ensures) (p10 .raise-rows .ensures) (p6 .put-cells .ensures) (p2 .put4 .ensures)
 
 pub insert-row-spec : {M : Type 1} → statement M
-insert-row-spec =
-    tie.close
-    (tie.spec
-    capacity-requires
-    row-count-requires
-    free-slot-requires
-    flags-of-requires
-    pending-code-requires
-    mul-r
-    add-r
-    cast-fill-slot
-    word-of-requires
-    fill-slot-requires
-    raise-rows-requires
-    put-cells-requires
-    add-put4
-    cast-put4
-    put4-requires
-    same-length
-    returns)
+insert-row-spec = tie.close (tie.spec (λ c κs. search needs) (λ c κs. search needs) free-slot-requires (λ c κs. search needs) (λ c κs. search needs) (search needs)
+    (search needs) (search needs) (λ c κs. search needs) (λ c κs. search needs) raise-rows-requires put-cells-requires (search needs) (search needs) (λ c κs. search needs)
+    (search needs) returns)

@@ -6,15 +6,6 @@ use borrow.Author.Needs.{needs}
 use Rattle.memory_rows.proofs.is_by.Statement.{statement}
 use Rattle.memory_rows.proofs.is_by.Tie as tie
 
-enum-told : tie.Need-enum-told
-enum-told c = search needs
-
-enum-known-o : tie.Need-enum-known-o
-enum-known-o c = search needs
-
-cast-result : tie.Need-cast-result
-cast-result c = search needs
-
 returns : tie.Need-returns
 unfolding isBy
 returns c = sym (ap (λ (o : Owner). isBy (c .before .before .args .transaction) (ownerIs o)) (c .enum-told .given .1))
@@ -27,4 +18,4 @@ returns-2 c =
     sym (ap (λ (o : Owner). isBy (p3 .args .transaction) (ownerIs o)) (p1 .o .given .1))
 
 pub is-by-spec : {M : Type 1} → statement M
-is-by-spec = tie.close (tie.spec enum-told enum-known-o cast-result returns returns-2)
+is-by-spec = tie.close (tie.spec (search needs) (search needs) (search needs) returns returns-2)

@@ -9,15 +9,6 @@ use mathlib.Core.Path.{sym, _∙_}
 use Rattle.memory_rows.proofs.is_taken.Statement.{statement}
 use Rattle.memory_rows.proofs.is_taken.Tie as tie
 
-capacity-requires : tie.Need-capacity-requires
-capacity-requires c κs = search needs
-
-row-count-requires : tie.Need-row-count-requires
-row-count-requires c κs = search needs
-
-zero-taken-requires : tie.Need-zero-taken-requires
-zero-taken-requires c κs = search needs
-
 returns : tie.Need-returns
 returns c =
     let p1 = c .before in
@@ -26,12 +17,6 @@ returns c =
     let p5 = p3 .before .before in
     let a = p5 .args in
     c .zero-taken .ensures ∙ (λ y. any (equals (sym (p1 .if1 .taken) y)) (tab (slotIn (a .m .now) (p3 .capacity .ensures .is y)) 0 (p2 .row-count .ensures y)))
-
-refs-at-requires : tie.Need-refs-at-requires
-refs-at-requires c κs = search needs
-
-names16-requires : tie.Need-names16-requires
-names16-requires c κs = search needs
 
 returns-2 : tie.Need-returns-2
 returns-2 c =
@@ -50,13 +35,4 @@ returns-2 c =
     ∙ (λ y. any (equals (a .s)) (tab (slotIn (a .m .now) (cap .ensures .is y)) 0 (n .ensures y)))
 
 pub is-taken-spec : {M : Type 1} → statement M
-is-taken-spec =
-    tie.close
-    (tie.spec
-    capacity-requires
-    row-count-requires
-    zero-taken-requires
-    returns
-    refs-at-requires
-    names16-requires
-    returns-2)
+is-taken-spec = tie.close (tie.spec (λ c κs. search needs) (λ c κs. search needs) (λ c κs. search needs) returns (λ c κs. search needs) (λ c κs. search needs) returns-2)

@@ -5,12 +5,6 @@ use borrow.Author.Needs.{needs}
 use Rattle.memory_rows.proofs.key_at.Statement.{statement}
 use Rattle.memory_rows.proofs.key_at.Tie as tie
 
-key-place-requires : tie.Need-key-place-requires
-key-place-requires c κs = search needs
-
-get4-requires : tie.Need-get4-requires
-get4-requires c κs = search needs
-
 returns : tie.Need-returns
 returns c =
     let p1 = c .before in
@@ -19,4 +13,4 @@ returns c =
     c .get4 .ensures ∙ ap (le4 m) (p1 .key-place .ensures .0) ∙ sym (key-is m (st .args .i) (st .pre .1))
 
 pub key-at-spec : {M : Type 1} → statement M
-key-at-spec = tie.close (tie.spec key-place-requires get4-requires returns)
+key-at-spec = tie.close (tie.spec (λ c κs. search needs) (λ c κs. search needs) returns)

@@ -6,15 +6,6 @@ use borrow.Author.Needs.{needs}
 use Rattle.memory_rows.proofs.last_up_to.Statement.{statement}
 use Rattle.memory_rows.proofs.last_up_to.Tie as tie
 
-capacity-requires : tie.Need-capacity-requires
-capacity-requires c κs = search needs
-
-keys-at-requires : tie.Need-keys-at-requires
-keys-at-requires c κs = search needs
-
-last-up-to-requires : tie.Need-last-up-to-requires
-last-up-to-requires c κs = search needs
-
 returns : tie.Need-returns
 returns c =
     let p2 = c .before .before in
@@ -23,5 +14,4 @@ returns c =
     over-keys (a .m .now) (lastIndex (upTo (a .key))) (a .s) (a .e) (st .pre .1 .1) (c .before .keys-at .ensures ∙ ap keysAt (p2 .capacity .ensures .is)) (c .last-up-to .ensures)
 
 pub last-up-to-spec : {M : Type 1} → statement M
-last-up-to-spec =
-    tie.close (tie.spec capacity-requires keys-at-requires last-up-to-requires returns)
+last-up-to-spec = tie.close (tie.spec (λ c κs. search needs) (λ c κs. search needs) (λ c κs. search needs) returns)

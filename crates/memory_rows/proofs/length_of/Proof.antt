@@ -6,9 +6,6 @@ use borrow.Author.Needs.{needs}
 use Rattle.memory_rows.proofs.length_of.Statement.{statement}
 use Rattle.memory_rows.proofs.length_of.Tie as tie
 
-cast-n : tie.Need-cast-n
-cast-n c = search needs
-
 returns : tie.Need-returns
 unfolding lengthOf
 returns c = (sym (min-eq-left (omega arith)), omega arith)
@@ -18,4 +15,4 @@ unfolding lengthOf
 returns-2 c = (sym (min-eq-right (c .if1 .left)), omega arith)
 
 pub length-of-spec : {M : Type 1} → statement M
-length-of-spec = tie.close (tie.spec cast-n returns returns-2)
+length-of-spec = tie.close (tie.spec (search needs) returns returns-2)

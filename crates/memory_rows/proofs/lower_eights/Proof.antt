@@ -90,26 +90,5 @@ returns c =
     (p6 .give-eight .ensures (a .m .now) (a .i + 1) (p12 .take-eight .ensures)) (p2 .give-eight2 .ensures (a .m .now) (a .n - 8) (p10 .take-eight2 .ensures))
 
 pub lower-eights-spec : {M : Type 1} → statement M
-lower-eights-spec =
-    tie.close
-    (tie.spec
-    Inv-loop
-    μ-loop
-    add-take-eight
-    take-eight-requires
-    sub-take-eight
-    take-eight-requires-2
-    add-k
-    mul-k
-    loop-holds
-    add-loop
-    add-copy-eight
-    copy-eight-requires
-    add-k-2
-    loop-less
-    loop-again
-    give-eight-requires
-    sub-give-eight
-    give-eight-requires-2
-    same-length
-    returns)
+lower-eights-spec = tie.close (tie.spec Inv-loop μ-loop add-take-eight take-eight-requires sub-take-eight take-eight-requires-2 add-k mul-k loop-holds add-loop add-copy-eight
+    copy-eight-requires add-k-2 loop-less loop-again give-eight-requires sub-give-eight give-eight-requires-2 same-length returns)

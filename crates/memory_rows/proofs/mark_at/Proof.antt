@@ -5,12 +5,6 @@ use borrow.Author.Needs.{needs}
 use Rattle.memory_rows.proofs.mark_at.Statement.{statement}
 use Rattle.memory_rows.proofs.mark_at.Tie as tie
 
-state-at-requires : tie.Need-state-at-requires
-state-at-requires c κs = search needs
-
-mark-of-requires : tie.Need-mark-of-requires
-mark-of-requires c κs = search needs
-
 returns : tie.Need-returns
 returns c =
     let p1 = c .before in
@@ -18,4 +12,4 @@ returns c =
     c .mark-of .ensures ∙ ap readMark (p1 .state-at .ensures) ∙ sym (mark-is (st .args .m .now) (st .args .i) (st .pre .1))
 
 pub mark-at-spec : {M : Type 1} → statement M
-mark-at-spec = tie.close (tie.spec state-at-requires mark-of-requires returns)
+mark-at-spec = tie.close (tie.spec (λ c κs. search needs) (λ c κs. search needs) returns)

@@ -5,12 +5,6 @@ use borrow.Author.Needs.{needs}
 use Rattle.memory_rows.proofs.number_at.Statement.{statement}
 use Rattle.memory_rows.proofs.number_at.Tie as tie
 
-slot-place-requires : tie.Need-slot-place-requires
-slot-place-requires c κs = search needs
-
-get4-requires : tie.Need-get4-requires
-get4-requires c κs = search needs
-
 returns : tie.Need-returns
 returns c =
     let p1 = c .before in
@@ -19,4 +13,4 @@ returns c =
     c .get4 .ensures ∙ ap (le4 m) (p1 .slot-place .ensures .0) ∙ sym (number-is m (st .args .i) (st .pre .1))
 
 pub number-at-spec : {M : Type 1} → statement M
-number-at-spec = tie.close (tie.spec slot-place-requires get4-requires returns)
+number-at-spec = tie.close (tie.spec (λ c κs. search needs) (λ c κs. search needs) returns)

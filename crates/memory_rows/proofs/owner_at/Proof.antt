@@ -9,21 +9,6 @@ use borrow.Author.Needs.{needs}
 use Rattle.memory_rows.proofs.owner_at.Statement.{statement}
 use Rattle.memory_rows.proofs.owner_at.Tie as tie
 
-slot-place-requires : tie.Need-slot-place-requires
-slot-place-requires c κs = search needs
-
-add-get4 : tie.Need-add-get4
-add-get4 c = search needs
-
-get4-requires : tie.Need-get4-requires
-get4-requires c κs = search needs
-
-state-at-requires : tie.Need-state-at-requires
-state-at-requires c κs = search needs
-
-owner-of-requires : tie.Need-owner-of-requires
-owner-of-requires c κs = search needs
-
 returns : tie.Need-returns
 returns c =
     let p1 = c .before in
@@ -35,12 +20,4 @@ returns c =
     ap ownerIs (c .owner-of .ensures) ∙ owner-same _ ∙ (λ i. readOwner (p1 .state-at .ensures i) (w i)) ∙ sym (owner-is m (st .args .i) (st .pre .1))
 
 pub owner-at-spec : {M : Type 1} → statement M
-owner-at-spec =
-    tie.close
-    (tie.spec
-    slot-place-requires
-    add-get4
-    get4-requires
-    state-at-requires
-    owner-of-requires
-    returns)
+owner-at-spec = tie.close (tie.spec (λ c κs. search needs) (search needs) (λ c κs. search needs) (λ c κs. search needs) (λ c κs. search needs) returns)

@@ -8,18 +8,6 @@ use borrow.Author.Needs.{needs}
 use Rattle.memory_rows.proofs.owns.Statement.{statement}
 use Rattle.memory_rows.proofs.owns.Tie as tie
 
-pending-at-requires : tie.Need-pending-at-requires
-pending-at-requires c κs = search needs
-
-keeps-owner-requires : tie.Need-keeps-owner-requires
-keeps-owner-requires c κs = search needs
-
-owner-at-requires : tie.Need-owner-at-requires
-owner-at-requires c κs = search needs
-
-is-by-requires : tie.Need-is-by-requires
-is-by-requires c κs = search needs
-
 returns : tie.Need-returns
 returns c =
     let p1 = c .before in
@@ -42,12 +30,4 @@ returns-2 c =
     sym (live-is (st .args .transaction) r ∙ ap (λ (b : Bool). b && isBy (st .args .transaction) (r .tuple .owner)) k)
 
 pub owns-spec : {M : Type 1} → statement M
-owns-spec =
-    tie.close
-    (tie.spec
-    pending-at-requires
-    keeps-owner-requires
-    owner-at-requires
-    is-by-requires
-    returns
-    returns-2)
+owns-spec = tie.close (tie.spec (λ c κs. search needs) (λ c κs. search needs) (λ c κs. search needs) (λ c κs. search needs) returns returns-2)

@@ -10,18 +10,6 @@ use borrow.Author.Needs.{needs}
 use Rattle.memory_rows.proofs.payload_at.Statement.{statement}
 use Rattle.memory_rows.proofs.payload_at.Tie as tie
 
-slot-place-requires : tie.Need-slot-place-requires
-slot-place-requires c κs = search needs
-
-add-t4 : tie.Need-add-t4
-add-t4 c = search needs
-
-state-at-requires : tie.Need-state-at-requires
-state-at-requires c κs = search needs
-
-length-of-requires : tie.Need-length-of-requires
-length-of-requires c κs = search needs
-
 returns : tie.Need-returns
 returns c =
     let p1 = c .before in
@@ -34,5 +22,4 @@ returns c =
     record { inside = omega arith; count = sym (length-bytes m (a .result + 8) (n .result)) ∙ ap length e; here = e }
 
 pub payload-at-spec : {M : Type 1} → statement M
-payload-at-spec =
-    tie.close (tie.spec slot-place-requires add-t4 state-at-requires length-of-requires returns)
+payload-at-spec = tie.close (tie.spec (λ c κs. search needs) (search needs) (λ c κs. search needs) (λ c κs. search needs) returns)

@@ -5,12 +5,6 @@ use borrow.Author.Needs.{needs}
 use Rattle.memory_rows.proofs.pending_at.Statement.{statement}
 use Rattle.memory_rows.proofs.pending_at.Tie as tie
 
-ref-at-requires : tie.Need-ref-at-requires
-ref-at-requires c κs = search needs
-
-pending-of-requires : tie.Need-pending-of-requires
-pending-of-requires c κs = search needs
-
 returns : tie.Need-returns
 returns c =
     let p1 = c .before in
@@ -18,4 +12,4 @@ returns c =
     c .pending-of .ensures ∙ ap pendingOf (p1 .ref-at .ensures) ∙ sym (pending-is (st .args .m .now) (st .args .i) (st .pre .1))
 
 pub pending-at-spec : {M : Type 1} → statement M
-pending-at-spec = tie.close (tie.spec ref-at-requires pending-of-requires returns)
+pending-at-spec = tie.close (tie.spec (λ c κs. search needs) (λ c κs. search needs) returns)

@@ -8,39 +8,6 @@ use borrow.Author.Needs.{needs}
 use Rattle.memory_rows.proofs.put_cells.Statement.{statement}
 use Rattle.memory_rows.proofs.put_cells.Tie as tie
 
-states-at-requires : tie.Need-states-at-requires
-states-at-requires c κs = search needs
-
-add-s : tie.Need-add-s
-add-s c = search needs
-
-keys-at-requires : tie.Need-keys-at-requires
-keys-at-requires c κs = search needs
-
-mul-put4 : tie.Need-mul-put4
-mul-put4 c = search needs
-
-add-put4 : tie.Need-add-put4
-add-put4 c = search needs
-
-put4-requires : tie.Need-put4-requires
-put4-requires c κs = search needs
-
-refs-at-requires : tie.Need-refs-at-requires
-refs-at-requires c κs = search needs
-
-mul-put2 : tie.Need-mul-put2
-mul-put2 c = search needs
-
-add-put2 : tie.Need-add-put2
-add-put2 c = search needs
-
-put2-requires : tie.Need-put2-requires
-put2-requires c κs = search needs
-
-slice-write-m : tie.Need-slice-write-m
-slice-write-m c = search needs
-
 same-length : tie.Need-same-length
 same-length c =
     let p2 = c .before .before in
@@ -62,19 +29,5 @@ returns c =
     (write-end (write-first _ _ (st .args .state) [] (omega (arith, w4 .apart .size, w2 .apart .size))) refl)
 
 pub put-cells-spec : {M : Type 1} → statement M
-put-cells-spec =
-    tie.close
-    (tie.spec
-    states-at-requires
-    add-s
-    keys-at-requires
-    mul-put4
-    add-put4
-    put4-requires
-    refs-at-requires
-    mul-put2
-    add-put2
-    put2-requires
-    slice-write-m
-    same-length
-    returns)
+put-cells-spec = tie.close (tie.spec (λ c κs. search needs) (search needs) (λ c κs. search needs) (search needs) (search needs) (λ c κs. search needs) (λ c κs. search needs)
+    (search needs) (search needs) (λ c κs. search needs) (search needs) same-length returns)

@@ -95,27 +95,5 @@ returns c =
     (p6 .give-eight .ensures (a .m .now) (a .i) (p12 .take-eight .ensures)) (p2 .give-eight2 .ensures (a .m .now) (a .n - 8) (p10 .take-eight2 .ensures))
 
 pub raise-eights-spec : {M : Type 1} → statement M
-raise-eights-spec =
-    tie.close
-    (tie.spec
-    Inv-loop
-    μ-loop
-    take-eight-requires
-    sub-take-eight
-    take-eight-requires-2
-    add-k
-    mul-k
-    sub-k
-    loop-holds
-    add-loop
-    sub-k-2
-    add-copy-eight
-    copy-eight-requires
-    loop-less
-    loop-again
-    add-give-eight
-    give-eight-requires
-    sub-give-eight
-    give-eight-requires-2
-    same-length
-    returns)
+raise-eights-spec = tie.close (tie.spec Inv-loop μ-loop take-eight-requires sub-take-eight take-eight-requires-2 add-k mul-k sub-k loop-holds add-loop sub-k-2 add-copy-eight
+    copy-eight-requires loop-less loop-again add-give-eight give-eight-requires sub-give-eight give-eight-requires-2 same-length returns)

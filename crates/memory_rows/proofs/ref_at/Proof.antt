@@ -4,12 +4,6 @@ use borrow.Author.Needs.{needs}
 use Rattle.memory_rows.proofs.ref_at.Statement.{statement}
 use Rattle.memory_rows.proofs.ref_at.Tie as tie
 
-ref-place-requires : tie.Need-ref-place-requires
-ref-place-requires c κs = search needs
-
-get2-requires : tie.Need-get2-requires
-get2-requires c κs = search needs
-
 returns : tie.Need-returns
 returns c =
     let p1 = c .before in
@@ -17,4 +11,4 @@ returns c =
     c .get2 .ensures ∙ ap (le2 (p3 .args .m .now)) (p1 .ref-place .ensures .0)
 
 pub ref-at-spec : {M : Type 1} → statement M
-ref-at-spec = tie.close (tie.spec ref-place-requires get2-requires returns)
+ref-at-spec = tie.close (tie.spec (λ c κs. search needs) (λ c κs. search needs) returns)

@@ -4,14 +4,8 @@ use borrow.Author.Needs.{needs}
 use Rattle.memory_rows.proofs.row_count.Statement.{statement}
 use Rattle.memory_rows.proofs.row_count.Tie as tie
 
-get4-requires : tie.Need-get4-requires
-get4-requires c κs = search needs
-
-cast-result : tie.Need-cast-result
-cast-result c = search needs
-
 returns : tie.Need-returns
 returns c = c .get4 .ensures ∙ sym (rows-length (c .before .before .args .m .now))
 
 pub row-count-spec : {M : Type 1} → statement M
-row-count-spec = tie.close (tie.spec get4-requires cast-result returns)
+row-count-spec = tie.close (tie.spec (λ c κs. search needs) (search needs) returns)

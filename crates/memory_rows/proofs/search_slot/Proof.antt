@@ -45,6 +45,4 @@ returns c =
     (p2 .loop .inv .0, sym (p1 .is-taken .ensures) ∙ c .if1 .left)
 
 pub search-slot-spec : {M : Type 1} → statement M
-search-slot-spec =
-    tie.close
-    (tie.spec Inv-loop μ-loop loop-holds is-taken-requires add-s loop-less loop-again returns)
+search-slot-spec = tie.close (tie.spec Inv-loop μ-loop loop-holds is-taken-requires add-s loop-less loop-again returns)

@@ -5,27 +5,6 @@ use borrow.Author.Needs.{needs}
 use Rattle.memory_rows.proofs.set_pending.Statement.{statement}
 use Rattle.memory_rows.proofs.set_pending.Tie as tie
 
-ref-place-requires : tie.Need-ref-place-requires
-ref-place-requires c κs = search needs
-
-get2-requires : tie.Need-get2-requires
-get2-requires c κs = search needs
-
-pending-code-requires : tie.Need-pending-code-requires
-pending-code-requires c κs = search needs
-
-mul-put2 : tie.Need-mul-put2
-mul-put2 c = search needs
-
-add-put2 : tie.Need-add-put2
-add-put2 c = search needs
-
-put2-requires : tie.Need-put2-requires
-put2-requires c κs = search needs
-
-same-length : tie.Need-same-length
-same-length c = search needs
-
 returns : tie.Need-returns
 returns c =
     let p2 = c .before .before in
@@ -39,14 +18,5 @@ returns c =
     (λ y. p5 .get2 .ensures y % 1024 + code .ensures .0 y * 1024) (p2 .put2 .ensures)
 
 pub set-pending-spec : {M : Type 1} → statement M
-set-pending-spec =
-    tie.close
-    (tie.spec
-    ref-place-requires
-    get2-requires
-    pending-code-requires
-    mul-put2
-    add-put2
-    put2-requires
-    same-length
+set-pending-spec = tie.close (tie.spec (λ c κs. search needs) (λ c κs. search needs) (λ c κs. search needs) (search needs) (search needs) (λ c κs. search needs) (search needs)
     returns)

@@ -8,15 +8,6 @@ use borrow.Author.Needs.{needs}
 use Rattle.memory_rows.proofs.size_at.Statement.{statement}
 use Rattle.memory_rows.proofs.size_at.Tie as tie
 
-state-at-requires : tie.Need-state-at-requires
-state-at-requires c κs = search needs
-
-length-of-requires : tie.Need-length-of-requires
-length-of-requires c κs = search needs
-
-record-size-requires : tie.Need-record-size-requires
-record-size-requires c κs = search needs
-
 returns : tie.Need-returns
 returns c =
     let p1 = c .before in
@@ -28,5 +19,4 @@ returns c =
     (e ∙ sym (size-is (st .args .m .now) (st .args .i) (st .pre .1) s (p2 .state-at .ensures)), omega (arith, c .record-size .ensures, at-most (ltb s 128)))
 
 pub size-at-spec : {M : Type 1} → statement M
-size-at-spec =
-    tie.close (tie.spec state-at-requires length-of-requires record-size-requires returns)
+size-at-spec = tie.close (tie.spec (λ c κs. search needs) (λ c κs. search needs) (λ c κs. search needs) returns)

@@ -5,9 +5,6 @@ use borrow.Author.Needs.{needs}
 use Rattle.memory_rows.proofs.slot_of.Statement.{statement}
 use Rattle.memory_rows.proofs.slot_of.Tie as tie
 
-cast-s : tie.Need-cast-s
-cast-s c = search needs
-
 returns : tie.Need-returns
 unfolding slotOf if_then_else_
 returns c = (simp (lt-ltb _ _ (c .if1 .taken)), c .if1 .taken)
@@ -17,4 +14,4 @@ unfolding slotOf if_then_else_
 returns-2 c = (simp (le-ltb _ _ (c .if1 .left)), c .before .pre)
 
 pub slot-of-spec : {M : Type 1} → statement M
-slot-of-spec = tie.close (tie.spec cast-s returns returns-2)
+slot-of-spec = tie.close (tie.spec (search needs) returns returns-2)

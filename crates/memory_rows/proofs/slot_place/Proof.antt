@@ -6,18 +6,6 @@ use borrow.Author.Needs.{needs}
 use Rattle.memory_rows.proofs.slot_place.Statement.{statement}
 use Rattle.memory_rows.proofs.slot_place.Tie as tie
 
-capacity-requires : tie.Need-capacity-requires
-capacity-requires c κs = search needs
-
-ref-at-requires : tie.Need-ref-at-requires
-ref-at-requires c κs = search needs
-
-slot-of-requires : tie.Need-slot-of-requires
-slot-of-requires c κs = search needs
-
-slot-at-requires : tie.Need-slot-at-requires
-slot-at-requires c κs = search needs
-
 returns : tie.Need-returns
 unfolding slotIn
 returns c =
@@ -30,6 +18,4 @@ returns c =
     (c .slot-at .ensures ∙ ap slotPlace e, omega arith)
 
 pub slot-place-spec : {M : Type 1} → statement M
-slot-place-spec =
-    tie.close
-    (tie.spec capacity-requires ref-at-requires slot-of-requires slot-at-requires returns)
+slot-place-spec = tie.close (tie.spec (λ c κs. search needs) (λ c κs. search needs) (λ c κs. search needs) (λ c κs. search needs) returns)

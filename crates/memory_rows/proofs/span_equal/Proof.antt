@@ -5,15 +5,6 @@ use borrow.Author.Needs.{needs}
 use Rattle.memory_rows.proofs.span_equal.Statement.{statement}
 use Rattle.memory_rows.proofs.span_equal.Tie as tie
 
-capacity-requires : tie.Need-capacity-requires
-capacity-requires c κs = search needs
-
-keys-at-requires : tie.Need-keys-at-requires
-keys-at-requires c κs = search needs
-
-span-equal-requires : tie.Need-span-equal-requires
-span-equal-requires c κs = search needs
-
 returns : tie.Need-returns
 returns c =
     let p2 = c .before .before in
@@ -22,5 +13,4 @@ returns c =
     covers-keys (a .m .now) (st .pre .1 .1) (c .before .keys-at .ensures ∙ ap keysAt (p2 .capacity .ensures .is)) (c .span-equal .ensures)
 
 pub span-equal-spec : {M : Type 1} → statement M
-span-equal-spec =
-    tie.close (tie.spec capacity-requires keys-at-requires span-equal-requires returns)
+span-equal-spec = tie.close (tie.spec (λ c κs. search needs) (λ c κs. search needs) (λ c κs. search needs) returns)

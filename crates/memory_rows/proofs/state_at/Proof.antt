@@ -5,12 +5,6 @@ use borrow.Author.Needs.{needs}
 use Rattle.memory_rows.proofs.state_at.Statement.{statement}
 use Rattle.memory_rows.proofs.state_at.Tie as tie
 
-state-place-requires : tie.Need-state-place-requires
-state-place-requires c κs = search needs
-
-shared-slice-read-result : tie.Need-shared-slice-read-result
-shared-slice-read-result c = search needs
-
 returns : tie.Need-returns
 returns c =
     let p1 = c .before in
@@ -18,4 +12,4 @@ returns c =
     ap (λ (z : ℕ). getD (p3 .args .m .now) z 0) (p1 .state-place .ensures .0)
 
 pub state-at-spec : {M : Type 1} → statement M
-state-at-spec = tie.close (tie.spec state-place-requires shared-slice-read-result returns)
+state-at-spec = tie.close (tie.spec (λ c κs. search needs) (search needs) returns)

@@ -9,48 +9,6 @@ use borrow.Author.Needs.{needs}
 use Rattle.memory_rows.proofs.take_eight.Statement.{statement}
 use Rattle.memory_rows.proofs.take_eight.Tie as tie
 
-keys-at-requires : tie.Need-keys-at-requires
-keys-at-requires c κs = search needs
-
-mul-copy-out : tie.Need-mul-copy-out
-mul-copy-out c = search needs
-
-add-copy-out : tie.Need-add-copy-out
-add-copy-out c = search needs
-
-slice-aggregate-copy-out : tie.Need-slice-aggregate-copy-out
-slice-aggregate-copy-out c = search needs
-
-copy-out-requires : tie.Need-copy-out-requires
-copy-out-requires c κs = search needs
-
-refs-at-requires : tie.Need-refs-at-requires
-refs-at-requires c κs = search needs
-
-mul-copy-out-2 : tie.Need-mul-copy-out-2
-mul-copy-out-2 c = search needs
-
-add-copy-out-2 : tie.Need-add-copy-out-2
-add-copy-out-2 c = search needs
-
-slice-aggregate-copy-out-2 : tie.Need-slice-aggregate-copy-out-2
-slice-aggregate-copy-out-2 c = search needs
-
-copy-out-requires-2 : tie.Need-copy-out-requires-2
-copy-out-requires-2 c κs = search needs
-
-states-at-requires : tie.Need-states-at-requires
-states-at-requires c κs = search needs
-
-add-copy-out-3 : tie.Need-add-copy-out-3
-add-copy-out-3 c = search needs
-
-slice-aggregate-copy-out-3 : tie.Need-slice-aggregate-copy-out-3
-slice-aggregate-copy-out-3 c = search needs
-
-copy-out-requires-3 : tie.Need-copy-out-requires-3
-copy-out-requires-3 c κs = search needs
-
 returns : tie.Need-returns
 returns c =
     let p1 = c .before in
@@ -74,21 +32,5 @@ returns c =
     }
 
 pub take-eight-spec : {M : Type 1} → statement M
-take-eight-spec =
-    tie.close
-    (tie.spec
-    keys-at-requires
-    mul-copy-out
-    add-copy-out
-    slice-aggregate-copy-out
-    copy-out-requires
-    refs-at-requires
-    mul-copy-out-2
-    add-copy-out-2
-    slice-aggregate-copy-out-2
-    copy-out-requires-2
-    states-at-requires
-    add-copy-out-3
-    slice-aggregate-copy-out-3
-    copy-out-requires-3
-    returns)
+take-eight-spec = tie.close (tie.spec (λ c κs. search needs) (search needs) (search needs) (search needs) (λ c κs. search needs) (λ c κs. search needs) (search needs)
+    (search needs) (search needs) (λ c κs. search needs) (λ c κs. search needs) (search needs) (search needs) (λ c κs. search needs) returns)

@@ -59,18 +59,4 @@ returns c =
     any-end (equals 0) (slotIn (a .m .now) (a .c)) (l .loop .i) (a .n) (omega arith) (l .loop .hit) (l .loop .inv .1)
 
 pub zero-taken-spec : {M : Type 1} → statement M
-zero-taken-spec =
-    tie.close
-    (tie.spec
-    Inv-loop
-    μ-loop
-    refs-at-requires
-    loop-holds
-    mul-get2
-    add-get2
-    get2-requires
-    slot-of-requires
-    add-i
-    loop-less
-    loop-again
-    returns)
+zero-taken-spec = tie.close (tie.spec Inv-loop μ-loop refs-at-requires loop-holds mul-get2 add-get2 get2-requires slot-of-requires add-i loop-less loop-again returns)

@@ -50,16 +50,4 @@ returns-2 c =
     let s = p2 in let p = c .before .loop in sym (p .inv ∙ all-end isZero (drop-end (s .args .s .now) (p .i) (omega arith)))
 
 pub all-zero-spec : {M : Type 1} → statement M
-all-zero-spec =
-    tie.close
-    (tie.spec
-    Inv-loop
-    μ-loop
-    loop-holds
-    mul-if1
-    shared-slice-read-if1
-    returns
-    add-i
-    loop-less
-    loop-again
-    returns-2)
+all-zero-spec = tie.close (tie.spec Inv-loop μ-loop loop-holds mul-if1 shared-slice-read-if1 returns add-i loop-less loop-again returns-2)

@@ -51,17 +51,4 @@ returns-2 c =
     sym (p .inv ∙ all-end (λ (e : ℕ). not (isIn e (s .args .t .now))) (drop-end (s .args .s .now) (p .i) (omega arith)))
 
 pub apart-spec : {M : Type 1} → statement M
-apart-spec =
-    tie.close
-    (tie.spec
-    Inv-loop
-    μ-loop
-    loop-holds
-    mul-is-in
-    shared-slice-read-is-in
-    is-in-requires
-    returns
-    add-i
-    loop-less
-    loop-again
-    returns-2)
+apart-spec = tie.close (tie.spec Inv-loop μ-loop loop-holds mul-is-in shared-slice-read-is-in is-in-requires returns add-i loop-less loop-again returns-2)

@@ -22,15 +22,6 @@ returns-4 : tie.Need-returns-4
 unfolding countsOk every
 returns-4 c = rw (lt-leb _ _ (c .if4 .taken), and-no, and-no, and-no)
 
-wide-requires : tie.Need-wide-requires
-wide-requires c κs = search needs
-
-wide-requires-2 : tie.Need-wide-requires-2
-wide-requires-2 c κs = search needs
-
-directories-for-requires : tie.Need-directories-for-requires
-directories-for-requires c κs = search needs
-
 returns-5 : tie.Need-returns-5
 unfolding countsOk every
 returns-5 c =
@@ -48,4 +39,4 @@ returns-5 c =
     )
 
 pub counts-ok-spec : {M : Type 1} → statement M
-counts-ok-spec = tie.close (tie.spec returns returns-2 returns-3 returns-4 wide-requires wide-requires-2 directories-for-requires returns-5)
+counts-ok-spec = tie.close (tie.spec returns returns-2 returns-3 returns-4 (λ c κs. search needs) (λ c κs. search needs) (λ c κs. search needs) returns-5)

@@ -6,15 +6,9 @@ use Rattle.naming.specs.Names.{directoriesFor}
 use Rattle.naming.proofs.directories_for.Statement.{statement}
 use Rattle.naming.proofs.directories_for.Tie as tie
 
-sub-result : tie.Need-sub-result
-sub-result c = search needs
-
-add-result : tie.Need-add-result
-add-result c = search needs
-
 returns : tie.Need-returns
 unfolding directoriesFor
 returns c = (refl, omega arith)
 
 pub directories-for-spec : {M : Type 1} → statement M
-directories-for-spec = tie.close (tie.spec sub-result add-result returns)
+directories-for-spec = tie.close (tie.spec (search needs) (search needs) returns)

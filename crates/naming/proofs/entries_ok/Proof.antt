@@ -7,22 +7,13 @@ use Rattle.basics.specs.Basics.{every, distinct}
 use Rattle.naming.proofs.entries_ok.Statement.{statement}
 use Rattle.naming.proofs.entries_ok.Tie as tie
 
-in-blocks-requires : tie.Need-in-blocks-requires
-in-blocks-requires c κs = search needs
-
 returns : tie.Need-returns
 unfolding entriesOk every
 returns c = rw (sym (c .before .in-blocks .ensures) ∙ not-true _ (c .if1 .taken))
 
-apart-requires : tie.Need-apart-requires
-apart-requires c κs = search needs
-
 returns-2 : tie.Need-returns-2
 unfolding entriesOk every
 returns-2 c = rw (sym (c .before .apart .ensures) ∙ not-true _ (c .if2 .taken), and-no)
-
-distinct-requires : tie.Need-distinct-requires
-distinct-requires c κs = search needs
 
 returns-3 : tie.Need-returns-3
 unfolding entriesOk every
@@ -31,6 +22,4 @@ returns-3 c =
     rw (sym (p4 .in-blocks .ensures) ∙ not-false _ (p3 .if1 .left), sym (p2 .apart .ensures) ∙ not-false _ (c .before .if2 .left), c .distinct .ensures, and-yes)
 
 pub entries-ok-spec : {M : Type 1} → statement M
-entries-ok-spec =
-    tie.close
-    (tie.spec in-blocks-requires returns apart-requires returns-2 distinct-requires returns-3)
+entries-ok-spec = tie.close (tie.spec (λ c κs. search needs) returns (λ c κs. search needs) returns-2 (λ c κs. search needs) returns-3)

@@ -10,16 +10,10 @@ use Rattle.basics.specs.Basics.{all, distinct}
 use Rattle.naming.proofs.head_ok.Statement.{statement}
 use Rattle.naming.proofs.head_ok.Tie as tie
 
-counts-ok-requires : tie.Need-counts-ok-requires
-counts-ok-requires c κs = search needs
-
 returns : tie.Need-returns
 returns c =
     let p2 = c .before .before in
     let a = p2 .args in sym (header-tests (a .n) (a .h) ∙ rw (sym (c .before .counts-ok .ensures) ∙ not-true _ (c .if1 .taken)))
-
-wide-requires : tie.Need-wide-requires
-wide-requires c κs = search needs
 
 array-share-prefix-ds : tie.Need-array-share-prefix-ds
 array-share-prefix-ds c =
@@ -30,9 +24,6 @@ slice-aggregate-in-blocks : tie.Need-slice-aggregate-in-blocks
 slice-aggregate-in-blocks c =
     let p2 = c .before .before in let p3 = p2 .before in let p4 = p3 .before in
     let h = four-used (p4 .args .n) _ (p4 .args .h) _ (p3 .counts-ok .ensures) (p2 .if1 .left) (c .before .wide .ensures) in simp length-take (omega arith)
-
-in-blocks-requires : tie.Need-in-blocks-requires
-in-blocks-requires c κs = search needs
 
 returns-2 : tie.Need-returns-2
 returns-2 c =
@@ -61,9 +52,6 @@ returns-3 c =
     let d = sym (used (a .n) _ (a .h) (p6 .wide .ensures) distinct) ∙ sym (c .before .distinct .ensures) ∙ not-true _ (c .if3 .taken) in
     sym (header-tests (a .n) (a .h) ∙ rw (d, and-no, and-no))
 
-mul-all-zero : tie.Need-mul-all-zero
-mul-all-zero c = search needs
-
 sub-all-zero : tie.Need-sub-all-zero
 sub-all-zero c =
     let p6 = c .before .before .before .before .before .before in let p7 = p6 .before in let p8 = p7 .before in let p9 = p8 .before in
@@ -73,12 +61,6 @@ part-all-zero-start : tie.Need-part-all-zero-start
 part-all-zero-start c =
     let p7 = c .before .before .before .before .before .before .before in let p8 = p7 .before in let p9 = p8 .before in let p10 = p9 .before in
     four-used (p10 .args .n) _ (p10 .args .h) _ (p9 .counts-ok .ensures) (p8 .if1 .left) (p7 .wide .ensures)
-
-part-all-zero-end : tie.Need-part-all-zero-end
-part-all-zero-end c = search needs
-
-all-zero-requires : tie.Need-all-zero-requires
-all-zero-requires c κs = search needs
 
 returns-4 : tie.Need-returns-4
 returns-4 c =
@@ -93,23 +75,5 @@ returns-4 c =
     z ∙ sym (header-tests (a .n) (a .h) ∙ rw (sym (p11 .counts-ok .ensures) ∙ not-false _ (p10 .if1 .left), b, d))
 
 pub head-ok-spec : {M : Type 1} → statement M
-head-ok-spec =
-    tie.close
-    (tie.spec
-    counts-ok-requires
-    returns
-    wide-requires
-    array-share-prefix-ds
-    slice-aggregate-in-blocks
-    in-blocks-requires
-    returns-2
-    array-share-prefix-ds-2
-    slice-aggregate-distinct
-    distinct-requires
-    returns-3
-    mul-all-zero
-    sub-all-zero
-    part-all-zero-start
-    part-all-zero-end
-    all-zero-requires
-    returns-4)
+head-ok-spec = tie.close (tie.spec (λ c κs. search needs) returns (λ c κs. search needs) array-share-prefix-ds slice-aggregate-in-blocks (λ c κs. search needs) returns-2
+    array-share-prefix-ds-2 slice-aggregate-distinct distinct-requires returns-3 (search needs) sub-all-zero part-all-zero-start (search needs) (λ c κs. search needs) returns-4)

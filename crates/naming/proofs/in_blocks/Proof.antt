@@ -51,17 +51,4 @@ returns-2 c =
     let s = p3 in let p = c .before .loop in sym (p .inv ∙ all-end (blockOk (s .args .n)) (drop-end (s .args .s .now) (p .i) (omega arith)))
 
 pub in-blocks-spec : {M : Type 1} → statement M
-in-blocks-spec =
-    tie.close
-    (tie.spec
-    Inv-loop
-    μ-loop
-    loop-holds
-    mul-block-ok
-    shared-slice-read-block-ok
-    block-ok-requires
-    returns
-    add-i
-    loop-less
-    loop-again
-    returns-2)
+in-blocks-spec = tie.close (tie.spec Inv-loop μ-loop loop-holds mul-block-ok shared-slice-read-block-ok block-ok-requires returns add-i loop-less loop-again returns-2)

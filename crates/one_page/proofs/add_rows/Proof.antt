@@ -134,27 +134,5 @@ returns-2 c =
     (left-end (a .block .now) (a .count) (p .at) (p .i) ts (omega (arith, p .inv .0, c .loop-test)) (p .inv .1 .1 .1 .1 ts h .0)))
 
 pub add-rows-spec : {M : Type 1} → statement M
-add-rows-spec =
-    tie.close
-    (tie.spec
-    Inv-loop
-    μ-loop
-    loop-holds
-    next-requires
-    enum-known-r
-    put-row-requires
-    enum-told
-    same-length
-    same-length-2
-    same-length-3
-    same-length-4
-    returns
-    add-to
-    add-i
-    loop-less
-    loop-again
-    same-length-5
-    same-length-6
-    same-length-7
-    same-length-8
-    returns-2)
+add-rows-spec = tie.close (tie.spec Inv-loop μ-loop loop-holds next-requires enum-known-r put-row-requires enum-told same-length same-length-2 same-length-3 same-length-4
+    returns add-to add-i loop-less loop-again same-length-5 same-length-6 same-length-7 same-length-8 returns-2)

@@ -9,12 +9,6 @@ use Rattle.basics.specs.Basics.{every}
 use Rattle.one_page.proofs.good_page.Statement.{statement}
 use Rattle.one_page.proofs.good_page.Tie as tie
 
-read-block-requires : tie.Need-read-block-requires
-read-block-requires c κs = search needs
-
-enum-known-table : tie.Need-enum-known-table
-enum-known-table c = search needs
-
 returns : tie.Need-returns
 unfolding every
 returns c =
@@ -39,9 +33,6 @@ returns-3 c =
     let p = is-page (g .0) (g .1 .0) (g .1 .1 .0) (a .block .now) _ refl (sym (p4 .table .given .1) ∙ p6 .read-block .ensures) in
     good-not (a .level) (a .room) (g .0) (g .1 .0) (g .1 .1 .0) (a .block .now) _ p (rw (lt-leb (g .1 .1 .0) (a .level) (omega arith), and-no, and-no))
 
-wide-requires : tie.Need-wide-requires
-wide-requires c κs = search needs
-
 returns-4 : tie.Need-returns-4
 unfolding every
 returns-4 c =
@@ -49,9 +40,6 @@ returns-4 c =
     let a = p9 .args in let g = p6 .table .given .0 in
     let p = is-page (g .0) (g .1 .0) (g .1 .1 .0) (a .block .now) _ refl (sym (p6 .table .given .1) ∙ p8 .read-block .ensures) in
     good-not (a .level) (a .room) (g .0) (g .1 .0) (g .1 .1 .0) (a .block .now) _ p (rw (lt-leb (g .1 .0) (a .room) (omega arith), and-no, and-no, and-no))
-
-marks-ok-requires : tie.Need-marks-ok-requires
-marks-ok-requires c κs = search needs
 
 returns-5 : tie.Need-returns-5
 unfolding every
@@ -78,17 +66,5 @@ returns-7 c =
     let a = p2 .args in no-page (a .level) (a .room) _ (decodeBlock (a .block .now)) (c .before .read-block .ensures) (c .match .keys2)
 
 pub good-page-spec : {M : Type 1} → statement M
-good-page-spec =
-    tie.close
-    (tie.spec
-    read-block-requires
-    enum-known-table
-    returns
-    returns-2
-    returns-3
-    wide-requires
-    returns-4
-    marks-ok-requires
-    returns-5
-    returns-6
-    returns-7)
+good-page-spec = tie.close (tie.spec (λ c κs. search needs) (search needs) returns returns-2 returns-3 (λ c κs. search needs) returns-4 (λ c κs. search needs) returns-5
+    returns-6 returns-7)

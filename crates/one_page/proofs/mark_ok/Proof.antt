@@ -8,12 +8,6 @@ use Rattle.one_page.proofs.mark_ok.Tie as tie
 returns : tie.Need-returns
 returns c = λ t p e. sym (unmarked t (c .before .before .args .r) p (c .if1 .taken))
 
-enum-told : tie.Need-enum-told
-enum-told c = search needs
-
-enum-told-2 : tie.Need-enum-told-2
-enum-told-2 c = search needs
-
 returns-2 : tie.Need-returns-2
 returns-2 c =
     let p2 = c .before .before in
@@ -26,4 +20,4 @@ returns-3 c =
     λ t p e. sym (marked-open t (p3 .before .before .args .r) p (p3 .if1 .left) (p1 .enum-told2 .given .1) e)
 
 pub mark-ok-spec : {M : Type 1} → statement M
-mark-ok-spec = tie.close (tie.spec returns enum-told enum-told-2 returns-2 returns-3)
+mark-ok-spec = tie.close (tie.spec returns (search needs) (search needs) returns-2 returns-3)

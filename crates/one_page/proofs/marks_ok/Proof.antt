@@ -82,19 +82,4 @@ returns-3 c =
     λ t ts e. sym (p .inv .1 .1 t ts e .1 ∙ marks-end t (drop (p .i) ts) (left-end (a .block .now) (a .count) (p .at) (p .i) ts (omega arith) (p .inv .1 .1 t ts e .0)))
 
 pub marks-ok-spec : {M : Type 1} → statement M
-marks-ok-spec =
-    tie.close
-    (tie.spec
-    Inv-loop
-    μ-loop
-    loop-holds
-    next-requires
-    enum-known-r
-    mark-ok-requires
-    returns
-    enum-told
-    returns-2
-    add-i
-    loop-less
-    loop-again
-    returns-3)
+marks-ok-spec = tie.close (tie.spec Inv-loop μ-loop loop-holds next-requires enum-known-r mark-ok-requires returns enum-told returns-2 add-i loop-less loop-again returns-3)

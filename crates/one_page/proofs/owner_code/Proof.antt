@@ -11,27 +11,6 @@ use Rattle.one_page.proofs.Places.{owner-coded}
 use Rattle.one_page.proofs.owner_code.Statement.{statement}
 use Rattle.one_page.proofs.owner_code.Tie as tie
 
-enum-told : tie.Need-enum-told
-enum-told c = search needs
-
-enum-known-owner : tie.Need-enum-known-owner
-enum-known-owner c = search needs
-
-cast-result : tie.Need-cast-result
-cast-result c = search needs
-
-mul-result : tie.Need-mul-result
-mul-result c = search needs
-
-add-result : tie.Need-add-result
-add-result c = search needs
-
-cast-result-2 : tie.Need-cast-result-2
-cast-result-2 c = search needs
-
-add-result-2 : tie.Need-add-result-2
-add-result-2 c = search needs
-
 returns : tie.Need-returns
 unfolding codedOwner if_then_else_
 returns c = sym (ap ownerIs (c .enum-told .given .1))
@@ -41,15 +20,4 @@ returns-2 c = let g = c .before .owner .given in
     owner-coded refl (omega (arith, subst (λ (o : Owner). OwnerFits (ownerIs o)) (g .1) (c .before .before .before .pre))) ∙ sym (ap ownerIs (g .1))
 
 pub owner-code-spec : {M : Type 1} → statement M
-owner-code-spec =
-    tie.close
-    (tie.spec
-    enum-told
-    enum-known-owner
-    cast-result
-    mul-result
-    add-result
-    cast-result-2
-    add-result-2
-    returns
-    returns-2)
+owner-code-spec = tie.close (tie.spec (search needs) (search needs) (search needs) (search needs) (search needs) (search needs) (search needs) returns returns-2)

@@ -6,16 +6,10 @@ use borrow.Author.Needs.{needs}
 use Rattle.reader.proofs.get32.Statement.{statement}
 use Rattle.reader.proofs.get32.Tie as tie
 
-get-bits-requires : tie.Need-get-bits-requires
-get-bits-requires c κs = search needs
-
 cast-result : tie.Need-cast-result
 cast-result c = let s = c .before .before in
     let p : 2 ^ (s .args .width) ≤ 2 ^ 32 = pow-mono (s .pre .1) in
     omega (arith, c .get-bits .ensures .1)
 
-returns : tie.Need-returns
-returns c = search needs
-
 pub get32-spec : {M : Type 1} → statement M
-get32-spec = tie.close (tie.spec get-bits-requires cast-result returns)
+get32-spec = tie.close (tie.spec (λ c κs. search needs) cast-result (search needs))

@@ -7,15 +7,6 @@ use borrow.Author.Needs.{needs}
 use Rattle.reader.proofs.known_page.Statement.{statement}
 use Rattle.reader.proofs.known_page.Tie as tie
 
-get32-requires : tie.Need-get32-requires
-get32-requires c κs = search needs
-
-get32-requires-2 : tie.Need-get32-requires-2
-get32-requires-2 c κs = search needs
-
-get32-requires-3 : tie.Need-get32-requires-3
-get32-requires-3 c κs = search needs
-
 returns : tie.Need-returns
 unfolding pageTable pageCount pageLevel
 returns c = let p2 = c .before .before in
@@ -23,4 +14,4 @@ returns c = let p2 = c .before .before in
     (λ i. IsPage (p2 .get32 .ensures i) (c .before .get322 .ensures i) (c .get323 .ensures i)) ∙ sym (known (s .args .block .now) (s .pre))
 
 pub known-page-spec : {M : Type 1} → statement M
-known-page-spec = tie.close (tie.spec get32-requires get32-requires-2 get32-requires-3 returns)
+known-page-spec = tie.close (tie.spec (λ c κs. search needs) (λ c κs. search needs) (λ c κs. search needs) returns)

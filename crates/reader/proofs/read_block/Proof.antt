@@ -7,18 +7,6 @@ use borrow.Author.Needs.{needs}
 use Rattle.reader.proofs.read_block.Statement.{statement}
 use Rattle.reader.proofs.read_block.Tie as tie
 
-get32-requires : tie.Need-get32-requires
-get32-requires c κs = search needs
-
-read-header-requires : tie.Need-read-header-requires
-read-header-requires c κs = search needs
-
-read-page-requires : tie.Need-read-page-requires
-read-page-requires c κs = search needs
-
-read-directory-requires : tie.Need-read-directory-requires
-read-directory-requires c κs = search needs
-
 returns : tie.Need-returns
 returns c = let s = c .before .before .before in
     c .read-header .ensures ∙ ap reading (sym (kind-header (s .args .block .now) (c .before .before .get32 .ensures) (omega arith)))
@@ -44,16 +32,5 @@ returns-6 c = let s = c .before .before .before in
     sym (reads-other (s .args .block .now) (c .before .before .get32 .ensures) (λ h. omega arith) (λ h. omega arith) (λ h. omega arith))
 
 pub read-block-spec : {M : Type 1} → statement M
-read-block-spec =
-    tie.close
-    (tie.spec
-    get32-requires
-    read-header-requires
-    read-page-requires
-    read-directory-requires
-    returns
-    returns-2
-    returns-3
-    returns-4
-    returns-5
-    returns-6)
+read-block-spec = tie.close (tie.spec (λ c κs. search needs) (λ c κs. search needs) (λ c κs. search needs) (λ c κs. search needs) returns returns-2 returns-3 returns-4
+    returns-5 returns-6)

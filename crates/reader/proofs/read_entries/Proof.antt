@@ -53,19 +53,5 @@ returns c = let p = c .before .loop in
     rw e at (p .inv .1 .1)
 
 pub read-entries-spec : {M : Type 1} → statement M
-read-entries-spec =
-    tie.close
-    (tie.spec
-    Inv-loop
-    μ-loop
-    loop-holds
-    mul-get-bits
-    add-get-bits
-    get-bits-requires
-    cast-out
-    mul-out
-    array-write-out
-    add-i
-    loop-less
-    loop-again
+read-entries-spec = tie.close (tie.spec Inv-loop μ-loop loop-holds mul-get-bits add-get-bits get-bits-requires cast-out mul-out array-write-out add-i loop-less loop-again
     returns)

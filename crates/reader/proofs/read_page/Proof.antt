@@ -160,31 +160,6 @@ returns-3 c = let xs : List ℕ = c .before .before .before .before .before .bef
     sym (page-no xs t n l (again-end a (omega arith)) (sym (spells (c .before)) ∙ c .if1 .left))
 
 pub read-page-spec : {M : Type 1} → statement M
-read-page-spec =
-    tie.close
-    (tie.spec
-    Inv-loop
-    μ-loop
-    get-bits-requires
-    cast-table
-    get-bits-requires-2
-    cast-count
-    get-bits-requires-3
-    cast-level
-    loop-holds
-    next-requires
-    enum-known-r
-    append-requires
-    enum-told
-    returns
-    add-i
-    loop-less
-    loop-again
-    slice-aggregate-put-page-head
-    cast-put-page-head
-    sub-put-page-head
-    put-page-head-requires
-    slice-aggregate-same-block
-    same-block-requires
-    returns-2
-    returns-3)
+read-page-spec = tie.close (tie.spec Inv-loop μ-loop get-bits-requires cast-table get-bits-requires-2 cast-count get-bits-requires-3 cast-level loop-holds next-requires
+    enum-known-r append-requires enum-told returns add-i loop-less loop-again slice-aggregate-put-page-head cast-put-page-head sub-put-page-head put-page-head-requires
+    slice-aggregate-same-block same-block-requires returns-2 returns-3)

@@ -41,15 +41,4 @@ returns c = let s = c .before .before in
     same-end (s .args .a .now) (s .args .b .now) (p .i) (p .ok) (p .inv .1) (omega arith) (omega arith)
 
 pub same-block-spec : {M : Type 1} → statement M
-same-block-spec =
-    tie.close
-    (tie.spec
-    Inv-loop
-    μ-loop
-    loop-holds
-    shared-slice-read-ok
-    shared-slice-read-ok-2
-    add-i
-    loop-less
-    loop-again
-    returns)
+same-block-spec = tie.close (tie.spec Inv-loop μ-loop loop-holds shared-slice-read-ok shared-slice-read-ok-2 add-i loop-less loop-again returns)

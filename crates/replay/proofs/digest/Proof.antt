@@ -34,15 +34,4 @@ returns : tie.Need-returns Inv-loop μ-loop
 returns c = tt
 
 pub digest-spec : {M : Type 1} → statement M
-digest-spec =
-    tie.close
-    (tie.spec
-    Inv-loop
-    μ-loop
-    loop-holds
-    shared-slice-read-digest-with
-    digest-with-requires
-    add-i
-    loop-less
-    loop-again
-    returns)
+digest-spec = tie.close (tie.spec Inv-loop μ-loop loop-holds shared-slice-read-digest-with digest-with-requires add-i loop-less loop-again returns)

@@ -18,18 +18,5 @@ slice-aggregate-replay-input-2 c = repeated 2097664
 slice-aggregate-replay-input-3 : tie.Need-slice-aggregate-replay-input-3
 slice-aggregate-replay-input-3 c = repeated 135168
 
-replay-input-requires : tie.Need-replay-input-requires
-replay-input-requires c κs = search needs
-
-returns : tie.Need-returns
-returns c = search needs
-
 pub main-spec : {M : Type 1} → statement M
-main-spec =
-    tie.close
-    (tie.spec
-    slice-aggregate-replay-input
-    slice-aggregate-replay-input-2
-    slice-aggregate-replay-input-3
-    replay-input-requires
-    returns)
+main-spec = tie.close (tie.spec slice-aggregate-replay-input slice-aggregate-replay-input-2 slice-aggregate-replay-input-3 (λ c κs. search needs) (search needs))

@@ -52,20 +52,5 @@ returns : tie.Need-returns Inv-loop μ-loop
 returns c = tt
 
 pub mark-all-spec : {M : Type 1} → statement M
-mark-all-spec =
-    tie.close
-    (tie.spec
-    Inv-loop
-    μ-loop
-    loop-holds
-    mul-mark
-    shared-slice-read-mark
-    mul-mark-2
-    add-mark
-    shared-slice-read-mark-2
-    mark-requires
-    add-i
-    loop-less
-    loop-again
-    same-length
-    returns)
+mark-all-spec = tie.close (tie.spec Inv-loop μ-loop loop-holds mul-mark shared-slice-read-mark mul-mark-2 add-mark shared-slice-read-mark-2 mark-requires add-i loop-less
+    loop-again same-length returns)

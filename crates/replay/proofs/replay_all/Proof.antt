@@ -49,20 +49,5 @@ returns : tie.Need-returns Inv-loop μ-loop
 returns c = tt
 
 pub replay-all-spec : {M : Type 1} → statement M
-replay-all-spec =
-    tie.close
-    (tie.spec
-    Inv-loop
-    μ-loop
-    loop-holds
-    until-requires
-    sub-replay-line
-    part-replay-line-start
-    part-replay-line-end
-    replay-line-requires
-    add-from
-    loop-less
-    loop-again
-    same-length
-    same-length-2
-    returns)
+replay-all-spec = tie.close (tie.spec Inv-loop μ-loop loop-holds until-requires sub-replay-line part-replay-line-start part-replay-line-end replay-line-requires add-from
+    loop-less loop-again same-length same-length-2 returns)

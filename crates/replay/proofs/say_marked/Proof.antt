@@ -40,17 +40,4 @@ returns : tie.Need-returns Inv-loop μ-loop
 returns c = omega arith
 
 pub say-marked-spec : {M : Type 1} → statement M
-say-marked-spec =
-    tie.close
-    (tie.spec
-    Inv-loop
-    μ-loop
-    loop-holds
-    shared-slice-read-if1
-    slice-aggregate-say
-    say-requires
-    say-number-requires
-    add-t
-    loop-less
-    loop-again
-    returns)
+say-marked-spec = tie.close (tie.spec Inv-loop μ-loop loop-holds shared-slice-read-if1 slice-aggregate-say say-requires say-number-requires add-t loop-less loop-again returns)

@@ -53,16 +53,4 @@ returns-2 c =
     sym (p .inv ∙ all-end (isBelow (s .args .next)) (tab-end (rowAt [] (s .args .numbers .now) [] []) (p .i) (s .args .count) (omega arith)))
 
 pub below-spec : {M : Type 1} → statement M
-below-spec =
-    tie.close
-    (tie.spec
-    Inv-loop
-    μ-loop
-    loop-holds
-    mul-if1
-    shared-slice-read-if1
-    returns
-    add-i
-    loop-less
-    loop-again
-    returns-2)
+below-spec = tie.close (tie.spec Inv-loop μ-loop loop-holds mul-if1 shared-slice-read-if1 returns add-i loop-less loop-again returns-2)

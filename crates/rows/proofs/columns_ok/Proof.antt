@@ -10,9 +10,6 @@ use borrow.Author.Needs.{needs}
 use Rattle.rows.proofs.columns_ok.Statement.{statement}
 use Rattle.rows.proofs.columns_ok.Tie as tie
 
-rising-requires : tie.Need-rising-requires
-rising-requires c κs = search needs
-
 returns : tie.Need-returns
 returns c = let s = c .before .before .before .before .before .before in let a = s .args in
     sym (columns-tests (a .places .now) (a .numbers .now) (a .owners .now) (a .marks .now) (a .count) (s .pre .1 .1 .0) (a .next) ∙ rw
@@ -29,9 +26,6 @@ returns-2 c = let s = c .before .before .before .before .before .before .before 
     sym (columns-tests (a .places .now) (a .numbers .now) (a .owners .now) (a .marks .now) (a .count) (s .pre .1 .1 .0) (a .next) ∙ rw
     (sym (c .before .distinct .ensures) ∙ not-true _ (c .if2 .taken), and-no))
 
-below-requires : tie.Need-below-requires
-below-requires c κs = search needs
-
 returns-3 : tie.Need-returns-3
 returns-3 c = let s = c .before .before .before .before .before .before .before .before .before .before .before in let a = s .args in
     sym (columns-tests (a .places .now) (a .numbers .now) (a .owners .now) (a .marks .now) (a .count) (s .pre .1 .1 .0) (a .next) ∙ rw
@@ -46,9 +40,6 @@ returns-4 c = let s = c .before .before .before .before .before .before .before 
     sym (columns-tests (a .places .now) (a .numbers .now) (a .owners .now) (a .marks .now) (a .count) (s .pre .1 .1 .0) (a .next) ∙ rw
     (sym (c .before .statements .ensures) ∙ not-true _ (c .if4 .taken), and-no, and-no, and-no, and-no))
 
-starts-requires : tie.Need-starts-requires
-starts-requires c κs = search needs
-
 returns-5 : tie.Need-returns-5
 returns-5 c = let p2 = c .before .before in let p4 = p2 .before .before in let p6 = p4 .before .before in let p9 = p6 .before .before .before in
     let s = c .before .before .before .before .before .before .before .before .before .before .before .before .before .before in let a = s .args in
@@ -62,17 +53,5 @@ returns-5 c = let p2 = c .before .before in let p4 = p2 .before .before in let p
     (r, d, b, t, ← n, and-yes))
 
 pub columns-ok-spec : {M : Type 1} → statement M
-columns-ok-spec =
-    tie.close
-    (tie.spec
-    rising-requires
-    returns
-    slice-aggregate-distinct
-    distinct-requires
-    returns-2
-    below-requires
-    returns-3
-    statements-requires
-    returns-4
-    starts-requires
-    returns-5)
+columns-ok-spec = tie.close (tie.spec (λ c κs. search needs) returns slice-aggregate-distinct distinct-requires returns-2 (λ c κs. search needs) returns-3 statements-requires
+    returns-4 (λ c κs. search needs) returns-5)

@@ -51,20 +51,4 @@ unfolding lastBy
 returns-2 c = let p = c .before .loop in let e : p .j ≡ 0 = omega arith in sym (p .inv .1 ∙ rw e)
 
 pub find-spec : {M : Type 1} → statement M
-find-spec =
-    tie.close
-    (tie.spec
-    Inv-loop
-    μ-loop
-    loop-holds
-    sub-if1
-    mul-if1
-    shared-slice-read-if1
-    returns
-    sub-j
-    mul-j
-    shared-slice-read-j
-    cast-j
-    loop-less
-    loop-again
-    returns-2)
+find-spec = tie.close (tie.spec Inv-loop μ-loop loop-holds sub-if1 mul-if1 shared-slice-read-if1 returns sub-j mul-j shared-slice-read-j cast-j loop-less loop-again returns-2)

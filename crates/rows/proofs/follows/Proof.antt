@@ -32,12 +32,6 @@ returns-5 c = let a = c .before .before .before .before .before .args in
     let e = follows-there (a .p) (a .n) (a .o) (a .p2) (a .n2) (a .o2) (a .m2) (omega (arith, c .before .before .before .if2 .left)) in
     sym (e ∙ rw (lt-ltb _ _ (c .before .before .if3 .left), ne-eqb _ _ (c .before .if4 .left), eq-eqb _ _ (c .if5 .taken)))
 
-sub-result : tie.Need-sub-result
-sub-result c = search needs
-
-sub-result-2 : tie.Need-sub-result-2
-sub-result-2 c = search needs
-
 returns-6 : tie.Need-returns-6
 unfolding codedOwner ownerAfter if_then_else_
 returns-6 c = let a = c .before .before .before .before .before .args in
@@ -45,6 +39,4 @@ returns-6 c = let a = c .before .before .before .before .before .args in
     sym (e ∙ rw (lt-ltb _ _ (c .before .before .if3 .left), ne-eqb _ _ (c .before .if4 .left), ne-eqb _ _ (c .if5 .left)))
 
 pub follows-spec : {M : Type 1} → statement M
-follows-spec =
-    tie.close
-    (tie.spec returns returns-2 returns-3 returns-4 returns-5 sub-result sub-result-2 returns-6)
+follows-spec = tie.close (tie.spec returns returns-2 returns-3 returns-4 returns-5 (search needs) (search needs) returns-6)

@@ -51,16 +51,4 @@ returns-2 c =
     let s = p2 in let p = c .before .loop in sym (p .inv ∙ any-end (eqb (s .args .x)) (drop-end (s .args .s .now) (p .i) (omega arith)))
 
 pub is-in-spec : {M : Type 1} → statement M
-is-in-spec =
-    tie.close
-    (tie.spec
-    Inv-loop
-    μ-loop
-    loop-holds
-    mul-if1
-    shared-slice-read-if1
-    returns
-    add-i
-    loop-less
-    loop-again
-    returns-2)
+is-in-spec = tie.close (tie.spec Inv-loop μ-loop loop-holds mul-if1 shared-slice-read-if1 returns add-i loop-less loop-again returns-2)

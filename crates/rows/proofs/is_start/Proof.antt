@@ -8,12 +8,9 @@ returns : tie.Need-returns
 unfolding isStart
 returns c = rw (eq-eqb _ _ (c .if1 .taken))
 
-sub-result : tie.Need-sub-result
-sub-result c = search needs
-
 returns-2 : tie.Need-returns-2
 unfolding isStart
 returns-2 c = rw (ne-eqb _ _ (c .if1 .left))
 
 pub is-start-spec : {M : Type 1} → statement M
-is-start-spec = tie.close (tie.spec returns sub-result returns-2)
+is-start-spec = tie.close (tie.spec returns (search needs) returns-2)

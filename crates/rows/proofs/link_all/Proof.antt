@@ -89,31 +89,5 @@ returns-2 c =
     let a = c .before .before .before .before .before .args in linking-end (a .keys .now) (a .count) (c .before .loop .inv .0) (omega arith)
 
 pub link-all-spec : {M : Type 1} → statement M
-link-all-spec =
-    tie.close
-    (tie.spec
-    Inv-loop
-    μ-loop
-    loop-holds
-    mul-x
-    shared-slice-read-x
-    bucket-requires
-    mul-head
-    slice-read-head
-    cast-find
-    find-requires
-    same-length
-    same-length-2
-    returns
-    mul-links
-    slice-write-links
-    add-heads
-    cast-heads
-    mul-heads
-    slice-write-heads
-    add-i
-    loop-less
-    loop-again
-    same-length-3
-    same-length-4
-    returns-2)
+link-all-spec = tie.close (tie.spec Inv-loop μ-loop loop-holds mul-x shared-slice-read-x bucket-requires mul-head slice-read-head cast-find find-requires same-length
+    same-length-2 returns mul-links slice-write-links add-heads cast-heads mul-heads slice-write-heads add-i loop-less loop-again same-length-3 same-length-4 returns-2)

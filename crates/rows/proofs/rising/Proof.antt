@@ -109,32 +109,6 @@ returns-4 c =
     sym (p .inv .1 .1 ∙ pair-end follows (rowAt (a .places .now) (a .numbers .now) (a .owners .now) (a .marks .now)) (p .i) (a .count) (p .inv .0) (omega arith))
 
 pub rising-spec : {M : Type 1} → statement M
-rising-spec =
-    tie.close
-    (tie.spec
-    Inv-loop
-    μ-loop
-    returns
-    shared-slice-read-if2
-    returns-2
-    loop-holds
-    sub-j
-    mul-follows
-    shared-slice-read-follows
-    mul-follows-2
-    shared-slice-read-follows-2
-    mul-follows-3
-    shared-slice-read-follows-3
-    mul-follows-4
-    shared-slice-read-follows-4
-    mul-follows-5
-    shared-slice-read-follows-5
-    mul-follows-6
-    shared-slice-read-follows-6
-    shared-slice-read-follows-7
-    follows-requires
-    returns-3
-    add-i
-    loop-less
-    loop-again
-    returns-4)
+rising-spec = tie.close (tie.spec Inv-loop μ-loop returns shared-slice-read-if2 returns-2 loop-holds sub-j mul-follows shared-slice-read-follows mul-follows-2
+    shared-slice-read-follows-2 mul-follows-3 shared-slice-read-follows-3 mul-follows-4 shared-slice-read-follows-4 mul-follows-5 shared-slice-read-follows-5 mul-follows-6
+    shared-slice-read-follows-6 shared-slice-read-follows-7 follows-requires returns-3 add-i loop-less loop-again returns-4)

@@ -51,17 +51,4 @@ returns c = let p = c .before .loop in let s = c .before .before .before in
     let h = count-end isStart (tab-end (λ j. getD (s .args .owners .now) j 0) (p .i) (s .args .count) (omega arith)) in omega (arith, p .inv .1 .1)
 
 pub starts-spec : {M : Type 1} → statement M
-starts-spec =
-    tie.close
-    (tie.spec
-    Inv-loop
-    μ-loop
-    loop-holds
-    mul-is-start
-    shared-slice-read-is-start
-    is-start-requires
-    add-k
-    add-i
-    loop-less
-    loop-again
-    returns)
+starts-spec = tie.close (tie.spec Inv-loop μ-loop loop-holds mul-is-start shared-slice-read-is-start is-start-requires add-k add-i loop-less loop-again returns)

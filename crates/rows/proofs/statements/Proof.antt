@@ -7,12 +7,6 @@ use borrow.Author.Needs.{needs}
 use Rattle.rows.proofs.statements.Statement.{statement}
 use Rattle.rows.proofs.statements.Tie as tie
 
-slice-aggregate-link-all : tie.Need-slice-aggregate-link-all
-slice-aggregate-link-all c = search needs
-
-slice-aggregate-link-all-2 : tie.Need-slice-aggregate-link-all-2
-slice-aggregate-link-all-2 c = search needs
-
 link-all-requires : tie.Need-link-all-requires
 link-all-requires c κs = ((omega arith, empty-table _ _), (omega arith, omega arith))
 
@@ -21,12 +15,6 @@ returns c =
     let p3 = c .before .before .before in let s = p3 .before .before .before .before .before in let a = s .args in
     sym (sym (statements-tests (a .owners .now) (a .numbers .now) (a .count) (s .pre .0 .1 .0) (s .pre .1))
     ∙ rw (sym (p3 .link-all .ensures .0) ∙ not-true _ (c .if1 .taken)))
-
-slice-aggregate-statements-rise : tie.Need-slice-aggregate-statements-rise
-slice-aggregate-statements-rise c = search needs
-
-slice-aggregate-statements-rise-2 : tie.Need-slice-aggregate-statements-rise-2
-slice-aggregate-statements-rise-2 c = search needs
 
 statements-rise-requires : tie.Need-statements-rise-requires
 statements-rise-requires c κs =
@@ -40,14 +28,4 @@ returns-2 c =
     ∙ rw (sym (p6 .link-all .ensures .0) ∙ not-false _ (p3 .if1 .left)))
 
 pub statements-spec : {M : Type 1} → statement M
-statements-spec =
-    tie.close
-    (tie.spec
-    slice-aggregate-link-all
-    slice-aggregate-link-all-2
-    link-all-requires
-    returns
-    slice-aggregate-statements-rise
-    slice-aggregate-statements-rise-2
-    statements-rise-requires
-    returns-2)
+statements-spec = tie.close (tie.spec (search needs) (search needs) link-all-requires returns (search needs) (search needs) statements-rise-requires returns-2)

@@ -41,15 +41,4 @@ returns-2 c = let p = c .before .loop in let a = c .before .before .before .befo
     sym (p .inv ∙ all-end (isNext (a .numbers .now) (a .owners .now) (a .count)) (tab-end (λ j. j) (p .i) (a .count) (omega arith)))
 
 pub statements-rise-spec : {M : Type 1} → statement M
-statements-rise-spec =
-    tie.close
-    (tie.spec
-    Inv-loop
-    μ-loop
-    loop-holds
-    is-next-requires
-    returns
-    add-i
-    loop-less
-    loop-again
-    returns-2)
+statements-rise-spec = tie.close (tie.spec Inv-loop μ-loop loop-holds is-next-requires returns add-i loop-less loop-again returns-2)

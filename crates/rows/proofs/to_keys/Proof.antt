@@ -50,20 +50,5 @@ returns : tie.Need-returns Inv-loop μ-loop
 returns c = λ i h. c .before .loop .inv .1 .1 i (omega arith)
 
 pub to-keys-spec : {M : Type 1} → statement M
-to-keys-spec =
-    tie.close
-    (tie.spec
-    Inv-loop
-    μ-loop
-    loop-holds
-    mul-keys
-    shared-slice-read-keys
-    cast-keys
-    add-keys
-    mul-keys-2
-    slice-write-keys
-    add-i
-    loop-less
-    loop-again
-    same-length
-    returns)
+to-keys-spec = tie.close (tie.spec Inv-loop μ-loop loop-holds mul-keys shared-slice-read-keys cast-keys add-keys mul-keys-2 slice-write-keys add-i loop-less loop-again
+    same-length returns)

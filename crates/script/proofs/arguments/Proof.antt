@@ -35,15 +35,4 @@ returns : tie.Need-returns Inv-loop μ-loop
 returns c = tt
 
 pub arguments-spec : {M : Type 1} → statement M
-arguments-spec =
-    tie.close
-    (tie.spec
-    Inv-loop
-    μ-loop
-    loop-holds
-    shared-slice-read-if1
-    add-n
-    add-i
-    loop-less
-    loop-again
-    returns)
+arguments-spec = tie.close (tie.spec Inv-loop μ-loop loop-holds shared-slice-read-if1 add-n add-i loop-less loop-again returns)

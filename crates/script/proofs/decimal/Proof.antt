@@ -52,21 +52,5 @@ returns-4 : tie.Need-returns-4 Inv-loop μ-loop
 returns-4 c = tt
 
 pub decimal-spec : {M : Type 1} → statement M
-decimal-spec =
-    tie.close
-    (tie.spec
-    Inv-loop
-    μ-loop
-    returns
-    loop-holds
-    shared-slice-read-digit
-    digit-requires
-    returns-2
-    sub-if3
-    returns-3
-    mul-n
-    add-n
-    add-i
-    loop-less
-    loop-again
+decimal-spec = tie.close (tie.spec Inv-loop μ-loop returns loop-holds shared-slice-read-digit digit-requires returns-2 sub-if3 returns-3 mul-n add-n add-i loop-less loop-again
     returns-4)

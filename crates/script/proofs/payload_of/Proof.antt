@@ -64,24 +64,5 @@ returns-4 : tie.Need-returns-4 Inv-loop μ-loop
 returns-4 c = tt
 
 pub payload-of-spec : {M : Type 1} → statement M
-payload-of-spec =
-    tie.close
-    (tie.spec
-    Inv-loop
-    μ-loop
-    slice-aggregate-same
-    same-requires
-    returns
-    returns-2
-    loop-holds
-    mul-byte-at
-    byte-at-requires
-    same-length
-    returns-3
-    cast-out
-    slice-write-out
-    add-i
-    loop-less
-    loop-again
-    same-length-2
-    returns-4)
+payload-of-spec = tie.close (tie.spec Inv-loop μ-loop slice-aggregate-same same-requires returns returns-2 loop-holds mul-byte-at byte-at-requires same-length returns-3
+    cast-out slice-write-out add-i loop-less loop-again same-length-2 returns-4)

@@ -40,17 +40,4 @@ returns : tie.Need-returns Inv-loop μ-loop
 returns c = omega arith
 
 pub say-bytes-spec : {M : Type 1} → statement M
-say-bytes-spec =
-    tie.close
-    (tie.spec
-    Inv-loop
-    μ-loop
-    slice-aggregate-say
-    say-requires
-    loop-holds
-    shared-slice-read-say-byte
-    say-byte-requires
-    add-i
-    loop-less
-    loop-again
-    returns)
+say-bytes-spec = tie.close (tie.spec Inv-loop μ-loop slice-aggregate-say say-requires loop-holds shared-slice-read-say-byte say-byte-requires add-i loop-less loop-again returns)

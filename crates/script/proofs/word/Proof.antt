@@ -42,18 +42,5 @@ returns : tie.Need-returns Inv-loop μ-loop
 returns c = tt
 
 pub word-spec : {M : Type 1} → statement M
-word-spec =
-    tie.close
-    (tie.spec
-    Inv-loop
-    μ-loop
-    loop-holds
-    past-space-requires
-    add-counter
-    loop-less
-    loop-again
-    until-requires
-    sub-result
-    part-result-start
-    part-result-end
+word-spec = tie.close (tie.spec Inv-loop μ-loop loop-holds past-space-requires add-counter loop-less loop-again until-requires sub-result part-result-start part-result-end
     returns)

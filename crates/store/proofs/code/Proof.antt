@@ -62,18 +62,5 @@ unfolding code
 returns-4 c = minus-back (c .whole3 .result) _ (c .whole3 .ensures) ∙ ap code (sym (c .before .before .a3 .given .1))
 
 pub code-spec : {M : Type 1} → statement M
-code-spec =
-    tie.close
-    (tie.spec
-    enum-told
-    enum-known-a
-    whole-requires
-    enum-known-a-2
-    whole-requires-2
-    enum-known-a-3
-    whole-requires-3
-    sub-result
-    returns
-    returns-2
-    returns-3
+code-spec = tie.close (tie.spec enum-told enum-known-a whole-requires enum-known-a-2 whole-requires-2 enum-known-a-3 whole-requires-3 sub-result returns returns-2 returns-3
     returns-4)

@@ -17,21 +17,9 @@ returns : tie.Need-returns
 returns c = let s = c .before .before in
     sym (none-far (s .args .block .now) (s .args .self .at) (s .pre) (omega arith))
 
-add-flags : tie.Need-add-flags
-add-flags c = search needs
-
-shared-slice-read-flags : tie.Need-shared-slice-read-flags
-shared-slice-read-flags c = search needs
-
-cast-len : tie.Need-cast-len
-cast-len c = search needs
-
 returns-2 : tie.Need-returns-2
 returns-2 c = let s = c .before .before .before .before in
     sym (none-long (s .args .block .now) (s .args .self .at) (s .pre) (omega (arith, c .before .before .if1 .left)) (omega (arith, c .if2 .taken)))
-
-record-size-requires : tie.Need-record-size-requires
-record-size-requires c κs = search needs
 
 add-end : tie.Need-add-end
 add-end c = let s = c .before .before .before .before .before in
@@ -64,12 +52,6 @@ get4-requires-3 : tie.Need-get4-requires-3
 get4-requires-3 c κs = let s = c .before .before .before .before .before .before .before .before in
     omega (arith, c .before .before .before .before .before .before .if1 .left, s .pre)
 
-owner-of-requires : tie.Need-owner-of-requires
-owner-of-requires c κs = search needs
-
-mark-of-requires : tie.Need-mark-of-requires
-mark-of-requires c κs = search needs
-
 sub-t18 : tie.Need-sub-t18
 sub-t18 c = omega (arith, c .before .before .before .before .before .before .record-size .ensures)
 
@@ -90,23 +72,5 @@ returns-4 c = let p1 = c .before in
     (p1 .before .get43 .ensures) word (p1 .owner-of .ensures) (c .mark-of .ensures) (omega (arith, p4 .before .if3 .left))
 
 pub next-spec : {M : Type 1} → statement M
-next-spec =
-    tie.close
-    (tie.spec
-    returns
-    add-flags
-    shared-slice-read-flags
-    cast-len
-    returns-2
-    record-size-requires
-    add-end
-    returns-3
-    add-get4
-    get4-requires
-    get4-requires-2
-    add-get4-2
-    get4-requires-3
-    owner-of-requires
-    mark-of-requires
-    sub-t18
-    returns-4)
+next-spec = tie.close (tie.spec returns (search needs) (search needs) (search needs) returns-2 (λ c κs. search needs) add-end returns-3 add-get4 get4-requires get4-requires-2
+    add-get4-2 get4-requires-3 (λ c κs. search needs) (λ c κs. search needs) sub-t18 returns-4)
