@@ -1,3 +1,4 @@
 pub mod Ands
 pub mod Facts
+pub mod Kit
 pub mod Lists

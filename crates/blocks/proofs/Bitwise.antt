@@ -1,10 +1,5 @@
 -- The byte forms of a record and of a page's head are their fields, most significant bit first; so a page's block is known byte by byte.
-use mathlib.Core.Path.{_≡_, refl, sym, ap, _∙_}
-use mathlib.Core.Bool.{Bool, true, false}
-use mathlib.Core.List.{List, [], _∷_, _++_, append-assoc, append-nil}
-use Prim.Native.Nat.{ℕ, _+_, _-_, _*_, _/_, _%_, _≤_, _<_}
-use native.Mathlib.Omega.{arith}
-use lib.ListN.{length, length-append}
+use Rattle.basics.proofs.Kit.{_≡_, refl, sym, ap, _∙_, Bool, true, false, List, [], _∷_, _++_, append-assoc, append-nil, ℕ, _+_, _*_, _%_, _≤_, _<_, _/_, _-_, length, length-append, arith}
 use Rattle.bits.specs.Bits.{bitsOf, bitsIn}
 use Rattle.bits.proofs.Numbers.{bitsOf-add, bitsOf-mod, bitsOf-digits}
 use Rattle.bits.proofs.Blocks.{bitsIn-append, length-bitsIn}

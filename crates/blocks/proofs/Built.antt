@@ -1,9 +1,5 @@
 -- A page's block is built in zeros: its records one by one from place 8 on, then its head.
-use mathlib.Core.Path.{_≡_, refl, sym, ap, _∙_}
-use mathlib.Core.List.{List, [], _∷_, _++_, append-assoc}
-use Prim.Native.Nat.{ℕ, _+_, _-_, _≤_}
-use native.Mathlib.Omega.{arith}
-use lib.ListN.{length, length-append}
+use Rattle.basics.proofs.Kit.{_≡_, refl, sym, ap, _∙_, List, [], _∷_, _++_, append-assoc, ℕ, _+_, _≤_, _-_, length, length-append, arith}
 use Rattle.basics.specs.Basics.{sum}
 use Rattle.bits.specs.Bits.{over}
 use Rattle.bits.proofs.Lists.{over-middle}

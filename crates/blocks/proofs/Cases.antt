@@ -1,5 +1,5 @@
 -- The starred cases about bytes, by computation.
-use mathlib.Core.Path.{refl}
+use Rattle.basics.proofs.Kit.{refl}
 use Rattle.basics.specs.Basics.{sum}
 use Rattle.bits.specs.Bits.{bitsOf, number}
 use Rattle.blocks.specs.Numbers.{same}

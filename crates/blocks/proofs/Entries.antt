@@ -1,11 +1,6 @@
 -- A directory is filled from the front.
-use mathlib.Core.Path.{_≡_, refl, sym, ap, _∙_}
-use mathlib.Core.List.{List, [], _∷_, _++_, append-assoc, append-nil}
-use Prim.Native.Nat.{ℕ, _+_, _*_, _≤_, _<_}
-use native.Mathlib.Omega.{arith}
-use native.Mathlib.Numerals.{add-one}
-use lib.ListN.{length, take, getD, length-append, length-take}
-use lib.Seq.{take-suc}
+use Rattle.basics.proofs.Kit.{_≡_, refl, sym, ap, _∙_, List, [], _∷_, _++_, append-assoc, append-nil, ℕ, _+_, _*_, _≤_, _<_, add-one, length, take, getD, length-append, length-take}
+use Rattle.basics.proofs.Kit.{take-suc, arith}
 use Rattle.bits.specs.Bits.{bitsOf, bitsIn, over}
 use Rattle.bits.proofs.Numbers.{length-bitsOf}
 use Rattle.blocks.specs.Spell.{zeros, spell, filled}

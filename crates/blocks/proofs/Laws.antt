@@ -1,14 +1,6 @@
 -- One reading and one spelling of a block (`decode-encode`, `encode-decode`); a block's length and bytes; what is read is in range.
-use mathlib.Core.Path.{_≡_, refl, sym, ap, _∙_}
-use mathlib.Core.Bool.{true, false}
-use mathlib.Core.Option.{some}
-use mathlib.Core.List.{List, [], _∷_, _++_, append-nil}
-use Prim.Native.Nat.{ℕ, zero, suc, _+_, _*_, _≤_, _<_}
-use native.Mathlib.Omega.{arith}
-use lib.ListN.{length, drop, length-drop}
-use lib.Seq.{drop-at}
-use lib.Dec.{leb, eqb}
-use borrow.Author.Tests.{le-leb, leb-true}
+use Rattle.basics.proofs.Kit.{_≡_, refl, sym, ap, _∙_, true, false, some, List, [], _∷_, _++_, append-nil, ℕ, suc, _+_, _*_, _≤_, _<_, zero, leb, eqb, length, drop, length-drop, drop-at}
+use Rattle.basics.proofs.Kit.{le-leb, leb-true, arith}
 use Rattle.basics.specs.Basics.{if_then_else_}
 use Rattle.basics.proofs.Facts.{by, by-option}
 use Rattle.bits.specs.Bits.{bitsIn, field}

@@ -1,14 +1,6 @@
 -- Records that are spelled are read back; the record of a tuple.
-use mathlib.Core.Path.{_≡_, refl}
-use mathlib.Core.Bool.{Bool, true, false}
-use mathlib.Core.Option.{some}
-use mathlib.Core.List.{List, [], _∷_, _++_, append-assoc}
-use Prim.Native.Nat.{ℕ, _+_, _*_, _/_, _%_, _≤_, _<_}
-use native.Mathlib.Omega.{arith}
-use lib.ListN.{length, take, drop, getD, length-append}
-use lib.Seq.{drop-at, take-append-seam}
-use lib.Dec.{ltb}
-use borrow.Author.Tests.{lt-ltb, le-ltb, le-leb, lt-leb}
+use Rattle.basics.proofs.Kit.{_≡_, refl, Bool, true, false, some, List, [], _∷_, _++_, append-assoc, ℕ, _+_, _*_, _%_, _≤_, _<_, _/_, ltb, length, take, drop, getD, length-append}
+use Rattle.basics.proofs.Kit.{take-append-seam, drop-at, le-leb, lt-ltb, le-ltb, lt-leb, arith}
 use Rattle.basics.specs.Basics.{if_then_else_}
 use Rattle.blocks.specs.Numbers.{be4, num4}
 use Rattle.blocks.specs.Tuple.{Owner, committed, tentative, Tuple, ownerSize, size, OwnerFits, Fits, AllFit}

@@ -1,13 +1,5 @@
 -- The tuples that are read from bytes: their sizes and ranges.
-use mathlib.Core.Path.{_≡_, refl}
-use mathlib.Core.Bool.{true, _&&_}
-use mathlib.Core.Option.{none, some}
-use mathlib.Core.List.{List, [], _∷_}
-use Prim.Native.Nat.{ℕ, zero, suc, _+_, _%_, _≤_, _<_}
-use native.Mathlib.Omega.{arith}
-use lib.ListN.{length, drop, getD, length-take, length-drop}
-use lib.Dec.{ltb, leb}
-use borrow.Author.Tests.{leb-true}
+use Rattle.basics.proofs.Kit.{_≡_, refl, true, _&&_, some, none, List, [], _∷_, ℕ, suc, _+_, _%_, _≤_, _<_, zero, leb, ltb, length, drop, getD, length-take, length-drop, leb-true, arith}
 use Rattle.basics.specs.Basics.{if_then_else_, sum}
 use Rattle.basics.proofs.Facts.{by, by-option, never, and-true}
 use Rattle.blocks.specs.Numbers.{num4}

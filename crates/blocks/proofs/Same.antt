@@ -1,10 +1,5 @@
 -- The comparison of two lists.
-use mathlib.Core.Path.{_≡_, refl}
-use mathlib.Core.Bool.{true}
-use mathlib.Core.List.{List, [], _∷_}
-use Prim.Native.Nat.{ℕ}
-use lib.Dec.{eqb}
-use borrow.Author.Tests.{eqb-true, eq-eqb}
+use Rattle.basics.proofs.Kit.{_≡_, refl, true, List, [], _∷_, ℕ, eqb, eqb-true, eq-eqb}
 use Rattle.basics.proofs.Facts.{lie, and-true}
 use Rattle.blocks.specs.Numbers.{same}
 

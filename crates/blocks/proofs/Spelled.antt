@@ -1,13 +1,7 @@
 -- A block of fields: its bits and its bytes; what is spelled is read back at every width.
-use mathlib.Core.Path.{_≡_, refl, sym, ap, _∙_}
-use mathlib.Core.List.{List, [], _∷_, _++_, append-assoc, append-nil}
-use Prim.Native.Nat.{ℕ, zero, suc, _+_, _-_, _*_, _%_, _^_, _≤_, _<_}
-use native.Mathlib.Omega.{arith}
-use native.Mathlib.Nat.{mod-eq-of-lt, lt-of-lt-of-le}
-use lib.ListN.{length, take, drop, getD, length-append, length-take, length-drop, length-replicate, take-append-drop, replicate-append-replicate}
-use lib.Seq.{take-at, drop-at, drop-append-seam}
-use lib.Dec.{lit<}
-use lib.Pow.{pow-mono}
+use Rattle.basics.proofs.Kit.{_≡_, refl, sym, ap, _∙_, List, [], _∷_, _++_, append-assoc, append-nil, ℕ, suc, _+_, _*_, _%_, _^_, _≤_, _<_, zero, _-_, lt-of-lt-of-le, mod-eq-of-lt, pow-mono}
+use Rattle.basics.proofs.Kit.{lit<, length, take, drop, getD, length-append, length-take, length-drop, take-append-drop, length-replicate, replicate-append-replicate, take-at}
+use Rattle.basics.proofs.Kit.{drop-append-seam, drop-at, arith}
 use Rattle.bits.specs.Bits.{bitsOf, bitsIn, number, field, over}
 use Rattle.bits.specs.Fields.{putAll, getAll, widths, values, total, Fit}
 use Rattle.bits.proofs.Numbers.{length-bitsOf, number-bitsOf, Bits, bits-of, bits-append, number-lt, bitsOf-number}

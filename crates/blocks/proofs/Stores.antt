@@ -1,11 +1,6 @@
 -- Runs of stores: a number's bytes, a part copied, a record appended, a page's head.
-use mathlib.Core.Path.{_≡_, refl, sym, ap, _∙_}
-use mathlib.Core.List.{List, [], _∷_, _++_, append-nil}
-use Prim.Native.Nat.{ℕ, _+_, _*_, _/_, _%_, _≤_, _<_}
-use native.Mathlib.Omega.{arith}
-use native.Mathlib.Numerals.{add-one}
-use lib.ListN.{length, take, drop, getD, set, length-take, length-drop, drop-of-length-le}
-use lib.Seq.{take-suc, set-split, getD-drop, take-all}
+use Rattle.basics.proofs.Kit.{_≡_, refl, sym, ap, _∙_, List, [], _∷_, _++_, append-nil, ℕ, _+_, _*_, _%_, _≤_, _<_, _/_, add-one, length, take, drop, getD, set, length-take, length-drop}
+use Rattle.basics.proofs.Kit.{drop-of-length-le, set-split, take-all, take-suc, getD-drop, arith}
 use Rattle.bits.specs.Bits.{over}
 use Rattle.bits.proofs.Lists.{over-over, length-over}
 use Rattle.blocks.specs.Numbers.{be4}

@@ -1,10 +1,5 @@
 -- A tuple's record and a page's records byte by byte, their sizes and bounds.
-use mathlib.Core.Path.{_≡_, refl, sym}
-use mathlib.Core.Bool.{Bool, true, false}
-use mathlib.Core.List.{List, [], _∷_, _++_, append-assoc, append-nil}
-use Prim.Native.Nat.{ℕ, _+_, _*_, _≤_, _<_}
-use native.Mathlib.Omega.{arith}
-use lib.ListN.{length, length-append}
+use Rattle.basics.proofs.Kit.{_≡_, refl, sym, Bool, true, false, List, [], _∷_, _++_, append-assoc, append-nil, ℕ, _+_, _*_, _≤_, _<_, length, length-append, arith}
 use Rattle.basics.specs.Basics.{sum}
 use Rattle.blocks.specs.Numbers.{be4}
 use Rattle.blocks.specs.Tuple.{Owner, committed, tentative, Tuple, ownerSize, size, sizes, AllBytes, Fits, AllFit}

@@ -1,9 +1,5 @@
 -- The allocator from store to store: what each store hands on is the allocator of the store after it.
-use mathlib.Core.Path.{_≡_, refl, sym, ap, _∙_, subst}
-use mathlib.Core.Bool.{true}
-use mathlib.Core.List.{List}
-use Prim.Native.Nat.{ℕ, suc, _-_, _*_, _≤_}
-use native.Mathlib.Omega.{arith}
+use Rattle.basics.proofs.Kit.{_≡_, refl, sym, ap, _∙_, subst, true, List, ℕ, suc, _*_, _≤_, _-_, arith}
 use Rattle.allocator.specs.declared.Allocator.{Allocator}
 use Rattle.allocator.specs.Stores.{taking, landing}
 use Rattle.model.specs.State.{Store, Outcome}

@@ -1,15 +1,6 @@
 -- Begin: the list of all pages, the store that it leaves, and its tests.
-use mathlib.Core.Path.{_≡_, refl, sym, ap, _∙_}
-use mathlib.Core.Bool.{true, false}
-use mathlib.Core.Option.{some}
-use mathlib.Core.List.{List, [], _∷_, _++_, map}
-use Prim.Native.Nat.{ℕ, _+_, _≤_, _<_}
-use native.Mathlib.Omega.{arith}
-use native.Mathlib.Numerals.{add-one}
-use lib.ListN.{length, take, getD, length-map}
-use lib.Seq.{take-suc, take-all, length-take-le}
-use lib.Dec.{eqb, ltb}
-use borrow.Author.Tests.{eq-eqb, ne-eqb, lt-ltb, le-ltb}
+use Rattle.basics.proofs.Kit.{_≡_, refl, sym, ap, _∙_, true, false, some, List, [], _∷_, _++_, map, ℕ, _+_, _≤_, _<_, add-one, eqb, ltb, length, take, getD, length-map, take-all, take-suc}
+use Rattle.basics.proofs.Kit.{length-take-le, lt-ltb, le-ltb, eq-eqb, ne-eqb, arith}
 use Rattle.basics.specs.Basics.{if_then_else_, all}
 use Rattle.basics.proofs.Lists.{map-append}
 use Rattle.model.specs.State.{Held, Page, Checkpoint, running, Store}

@@ -1,15 +1,6 @@
 -- What the memory holds after each kind of store.
-use mathlib.Core.Path.{_≡_, refl, sym, ap, _∙_, subst, fun-ext}
-use mathlib.Core.Bool.{Bool, true, false, not, _||_}
-use mathlib.Core.Option.{some}
-use mathlib.Core.List.{List, [], _∷_, _++_}
-use Prim.Native.Nat.{ℕ, suc, _+_, _-_, _≤_, _<_}
-use native.Mathlib.Omega.{arith}
-use native.Mathlib.Numerals.{add-one}
-use lib.ListN.{length, drop, getD, set, List·getD-append, length-append, drop-of-length-le}
-use lib.Seq.{getD-append-add}
-use lib.Dec.{eqb, leb}
-use borrow.Author.Tests.{eq-eqb, ne-eqb, eqb-true, eqb-false, not-true}
+use Rattle.basics.proofs.Kit.{_≡_, refl, sym, ap, _∙_, subst, fun-ext, Bool, true, false, not, _||_, some, List, [], _∷_, _++_, ℕ, suc, _+_, _≤_, _<_, _-_, add-one, leb, eqb, length, drop}
+use Rattle.basics.proofs.Kit.{getD, set, length-append, drop-of-length-le, List·getD-append, getD-append-add, eqb-true, eq-eqb, ne-eqb, eqb-false, not-true, arith}
 use Rattle.basics.specs.Basics.{if_then_else_, any, isIn}
 use Rattle.basics.proofs.Facts.{by}
 use Rattle.rows.proofs.Turns.{drop-turn}

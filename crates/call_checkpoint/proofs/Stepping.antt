@@ -1,15 +1,6 @@
 -- A step: which store it makes, its tests, and what it answers.
-use mathlib.Core.Path.{_≡_, refl, sym, ap, _∙_, subst}
-use mathlib.Core.Bool.{Bool, true, false, not}
-use mathlib.Core.Option.{Option, none, some}
-use mathlib.Core.List.{List, [], _∷_, _++_}
-use Prim.Native.Nat.{ℕ, zero, suc, _+_, _-_, _*_, _≤_, _<_}
-use native.Mathlib.Omega.{arith}
-use native.Mathlib.Numerals.{add-one}
-use lib.ListN.{length, take, drop}
-use lib.Seq.{drop-drop}
-use lib.Dec.{eqb, ltb}
-use borrow.Author.Tests.{eq-eqb, ne-eqb, eqb-true, eqb-false, lt-ltb, le-ltb}
+use Rattle.basics.proofs.Kit.{_≡_, refl, sym, ap, _∙_, subst, Bool, true, false, not, some, none, Option, List, [], _∷_, _++_, ℕ, suc, _+_, _*_, _≤_, _<_, zero, _-_, add-one, eqb, ltb}
+use Rattle.basics.proofs.Kit.{length, take, drop, drop-drop, lt-ltb, le-ltb, eqb-true, eq-eqb, ne-eqb, eqb-false, arith}
 use Rattle.basics.specs.Basics.{if_then_else_, howMany, first, isIn}
 use Rattle.basics.proofs.Facts.{by, lie}
 use Rattle.blocks.specs.Block.{Block, header, page, directory, encodeBlock}

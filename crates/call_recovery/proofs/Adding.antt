@@ -1,12 +1,6 @@
 -- Rows behind those that are there, on the last page.
-use mathlib.Core.Path.{_≡_, refl, sym, ap, subst, _∙_}
-use mathlib.Core.Bool.{true}
-use mathlib.Core.List.{List, [], _∷_, _++_, map, append-assoc, append-nil}
-use Prim.Native.Nat.{ℕ, _+_, _-_, _≤_, _<_}
-use native.Mathlib.Nat.{add-zero}
-use native.Mathlib.Omega.{arith}
-use lib.ListN.{length, take, set, length-append, length-map}
-use lib.Seq.{take-all, take-at, length-take-le}
+use Rattle.basics.proofs.Kit.{_≡_, refl, sym, ap, _∙_, subst, true, List, [], _∷_, _++_, append-assoc, append-nil, map, ℕ, _+_, _≤_, _<_, _-_, add-zero, length, take, set, length-append}
+use Rattle.basics.proofs.Kit.{length-map, take-at, take-all, length-take-le, arith}
 use Rattle.basics.proofs.Facts.{lie}
 use Rattle.basics.proofs.Lists.{map-append}
 use Rattle.blocks.specs.Tuple.{Tuple}

@@ -1,11 +1,5 @@
 -- Recovery's answers: by the stage that refused, or with the store recovered.
-use mathlib.Core.Path.{_≡_, refl, sym, ap, _∙_}
-use mathlib.Core.List.{List, map}
-use Prim.Native.Nat.{ℕ, _+_, _*_, _≤_, _<_}
-use native.Mathlib.Omega.{arith}
-use lib.ListN.{length, take}
-use lib.Seq.{take-at}
-use borrow.Author.Tests.{lt-ltb, le-ltb}
+use Rattle.basics.proofs.Kit.{_≡_, refl, sym, ap, _∙_, List, map, ℕ, _+_, _*_, _≤_, _<_, length, take, take-at, lt-ltb, le-ltb, arith}
 use Rattle.basics.specs.Basics.{if_then_else_}
 use Rattle.bits.specs.Bits.{over}
 use Rattle.blocks.specs.declared.Header.{Header}

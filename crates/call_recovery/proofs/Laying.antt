@@ -1,11 +1,5 @@
 -- The steps of the loading, one after the other: what each asks, and what they come to.
-use mathlib.Core.Path.{_≡_, refl, sym, ap, subst, _∙_}
-use mathlib.Core.Bool.{true}
-use mathlib.Core.Option.{some}
-use mathlib.Core.List.{List}
-use Prim.Native.Nat.{ℕ, _+_, _≤_}
-use native.Mathlib.Omega.{arith}
-use lib.ListN.{length}
+use Rattle.basics.proofs.Kit.{_≡_, refl, sym, ap, _∙_, subst, true, some, List, ℕ, _+_, _≤_, length, arith}
 use Rattle.basics.specs.Basics.{all, paired}
 use Rattle.basics.proofs.Facts.{AllOf}
 use Rattle.blocks.specs.declared.Header.{Header}

@@ -1,9 +1,5 @@
 -- Blocks that are in use too: none, one, and one list after another.
-use mathlib.Core.Path.{_≡_, refl, sym, ap, _∙_}
-use mathlib.Core.Bool.{Bool, true, false, _||_}
-use mathlib.Core.List.{List, [], _∷_, _++_}
-use Prim.Native.Nat.{ℕ}
-use lib.Dec.{eqb}
+use Rattle.basics.proofs.Kit.{_≡_, refl, sym, ap, _∙_, Bool, true, false, _||_, List, [], _∷_, _++_, ℕ, eqb}
 use Rattle.basics.specs.Basics.{any, isIn}
 use Rattle.rows.proofs.Owners.{same-test}
 use Rattle.rows.proofs.Turns.{any-cons}

@@ -1,14 +1,6 @@
 -- The blocks that the directory and the header name, one after the other.
-use mathlib.Core.Path.{_≡_, refl, sym, ap, subst, _∙_}
-use mathlib.Core.Bool.{Bool, true}
-use mathlib.Core.List.{List, [], _∷_, _++_, map, append-assoc, append-nil}
-use Prim.Native.Nat.{ℕ, zero, suc, _+_, _≤_, _<_}
-use native.Mathlib.Omega.{arith}
-use native.Mathlib.Numerals.{add-one}
-use lib.ListN.{length, take, drop, getD, length-append, length-map, take-append-drop}
-use lib.Seq.{take-suc, take-all}
-use lib.Dec.{ltb}
-use borrow.Author.Tests.{ltb-true, lt-ltb}
+use Rattle.basics.proofs.Kit.{_≡_, refl, sym, ap, _∙_, subst, Bool, true, List, [], _∷_, _++_, append-assoc, append-nil, map, ℕ, suc, _+_, _≤_, _<_, zero, add-one, ltb, length, take, drop}
+use Rattle.basics.proofs.Kit.{getD, length-append, take-append-drop, length-map, take-all, take-suc, lt-ltb, ltb-true, arith}
 use Rattle.basics.specs.Basics.{all}
 use Rattle.basics.proofs.Facts.{and-true}
 use Rattle.rows.proofs.Turns.{drop-turn}

@@ -1,14 +1,7 @@
 -- Counts by transaction, and the transactions that are opened at their last rows.
-use mathlib.Core.Path.{_≡_, refl, sym, ap, subst, _∙_}
-use mathlib.Core.Bool.{Bool, true, false, cond}
-use mathlib.Core.List.{List, [], _∷_, _++_, map, append-assoc, append-nil}
-use Prim.Native.Nat.{ℕ, zero, suc, _+_, _≤_, _<_}
-use native.Mathlib.Omega.{arith}
-use native.Mathlib.Numerals.{add-one}
-use lib.ListN.{length, take, drop, getD, set, replicate, length-replicate, getD-replicate, length-append, length-map, length-set, take-append-drop, drop-of-length-le, List·getD-map}
-use lib.Seq.{take-suc, take-all, drop-cons, getD-set-same, getD-set-other}
-use lib.Dec.{eqb}
-use borrow.Author.Tests.{eq-eqb, ne-eqb, eqb-true, eqb-false, ltb-true, ltb-false}
+use Rattle.basics.proofs.Kit.{_≡_, refl, sym, ap, _∙_, subst, Bool, true, false, cond, List, [], _∷_, _++_, append-assoc, append-nil, map, ℕ, suc, _+_, _≤_, _<_, zero, add-one, eqb, length}
+use Rattle.basics.proofs.Kit.{take, drop, getD, set, length-append, take-append-drop, length-set, length-replicate, drop-of-length-le, length-map, replicate, getD-replicate, List·getD-map}
+use Rattle.basics.proofs.Kit.{drop-cons, take-all, take-suc, getD-set-same, getD-set-other, eqb-true, eq-eqb, ne-eqb, eqb-false, ltb-true, ltb-false, arith}
 use Rattle.basics.specs.Basics.{if_then_else_, any, howMany}
 use Rattle.basics.proofs.Facts.{by}
 use Rattle.blocks.specs.Tuple.{Owner, committed, tentative, OwnerFits}

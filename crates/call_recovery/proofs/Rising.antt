@@ -1,12 +1,5 @@
 -- The tables of the pages do not fall: rows rise by table, and every page has a row.
-use mathlib.Core.Path.{_≡_, refl}
-use mathlib.Core.Bool.{Bool, true, not, _&&_}
-use mathlib.Core.List.{List, [], _∷_, _++_}
-use Prim.Native.Nat.{ℕ, _≤_}
-use native.Mathlib.Omega.{arith}
-use lib.ListN.{length}
-use lib.Dec.{leb, ltb, eqb}
-use borrow.Author.Tests.{eqb-true, ltb-true, leb-true, le-leb}
+use Rattle.basics.proofs.Kit.{_≡_, refl, Bool, true, _&&_, not, List, [], _∷_, _++_, ℕ, _≤_, leb, eqb, ltb, length, le-leb, leb-true, eqb-true, ltb-true, arith}
 use Rattle.basics.specs.Basics.{if_then_else_, all, paired}
 use Rattle.basics.proofs.Facts.{by, AllOf, and-true}
 use Rattle.blocks.specs.Tuple.{Tuple}

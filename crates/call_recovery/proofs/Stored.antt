@@ -1,12 +1,5 @@
 -- The store that the memory holds when all is loaded.
-use mathlib.Core.Path.{_≡_, refl, sym, ap, _∙_}
-use mathlib.Core.Bool.{true, false}
-use mathlib.Core.List.{List, [], _∷_, _++_, map}
-use Prim.Native.Nat.{ℕ, _≤_}
-use native.Mathlib.Omega.{arith}
-use lib.ListN.{length, drop, length-append, length-map}
-use lib.Seq.{take-at, drop-at}
-use borrow.Author.Tests.{le-leb}
+use Rattle.basics.proofs.Kit.{_≡_, refl, sym, ap, _∙_, true, false, List, [], _∷_, _++_, map, ℕ, _≤_, length, drop, length-append, length-map, take-at, drop-at, le-leb, arith}
 use Rattle.basics.specs.Basics.{if_then_else_, all, howMany, isIn}
 use Rattle.basics.proofs.Facts.{AllOf}
 use Rattle.basics.proofs.Lists.{map-append}

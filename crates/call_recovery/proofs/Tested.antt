@@ -1,13 +1,6 @@
 -- What recovery's tests showed, where they passed.
-use mathlib.Core.Path.{_≡_, refl, sym, ap, subst, _∙_}
-use mathlib.Core.Bool.{true, not, _&&_}
-use mathlib.Core.Option.{Option, none, some}
-use mathlib.Core.List.{List, [], _∷_, _++_, map}
-use Prim.Native.Nat.{ℕ, _+_, _-_, _≤_, _<_}
-use native.Mathlib.Omega.{arith}
-use lib.ListN.{length, length-take}
-use lib.Dec.{ltb, leb}
-use borrow.Author.Tests.{leb-true, ltb-true}
+use Rattle.basics.proofs.Kit.{_≡_, refl, sym, ap, _∙_, subst, true, _&&_, not, some, none, Option, List, [], _∷_, _++_, map, ℕ, _+_, _≤_, _<_, _-_, leb, ltb, length, length-take, leb-true}
+use Rattle.basics.proofs.Kit.{ltb-true, arith}
 use Rattle.basics.specs.Basics.{if_then_else_, all, every, paired, isEmpty, distinct}
 use Rattle.basics.proofs.Facts.{by, by-option, never, lie, AllOf, and-true}
 use Rattle.blocks.specs.Tuple.{Tuple, AllFit}

@@ -1,10 +1,5 @@
 -- Insert, replace and delete as a write: its tests and what is written.
-use mathlib.Core.Path.{_≡_, refl, sym, ap, subst, fun-ext, _∙_}
-use mathlib.Core.Bool.{Bool, true, false}
-use mathlib.Core.List.{List, [], _∷_}
-use Prim.Native.Nat.{ℕ}
-use native.Mathlib.Omega.{arith}
-use lib.ListN.{length}
+use Rattle.basics.proofs.Kit.{_≡_, refl, sym, ap, _∙_, subst, fun-ext, Bool, true, false, List, [], _∷_, ℕ, length, arith}
 use Rattle.basics.specs.Basics.{if_then_else_}
 use Rattle.model.specs.State.{Store, Outcome}
 use Rattle.model.specs.Sight.{versions}

@@ -1,11 +1,5 @@
 -- Commit and abort: the transaction's entries are taken out, and the calls.
-use mathlib.Core.Path.{_≡_, refl, sym, ap, _∙_}
-use mathlib.Core.Option.{some}
-use mathlib.Core.List.{List}
-use Prim.Native.Nat.{ℕ, _+_, _≤_, _<_}
-use native.Mathlib.Omega.{arith}
-use lib.ListN.{length, take, drop, length-append, length-drop}
-use lib.Seq.{length-take-le}
+use Rattle.basics.proofs.Kit.{_≡_, refl, sym, ap, _∙_, some, List, ℕ, _+_, _≤_, _<_, length, take, drop, length-append, length-drop, length-take-le, arith}
 use Rattle.model.specs.State.{Page, Active, Store, Outcome}
 use Rattle.model.specs.Sight.{held}
 use Rattle.model.specs.Places.{carryOut, closePlan, abortPlan}

@@ -1,12 +1,6 @@
 -- The listing of open transactions, two bytes after the other.
-use mathlib.Core.Path.{_≡_, refl, sym, ap, _∙_}
-use mathlib.Core.List.{List, [], _∷_, _++_, append-assoc}
-use Prim.Native.Nat.{ℕ, suc, _+_, _*_, _/_, _%_, _≤_, _<_}
-use native.Mathlib.Omega.{arith}
-use native.Mathlib.Numerals.{add-one}
-use lib.ListN.{length, take, drop, getD, set, length-map, length-append}
-use lib.Seq.{take-suc, take-all, drop-cons, set-at, length-take-le}
-use borrow.Author.Tests.{lt-ltb, le-ltb}
+use Rattle.basics.proofs.Kit.{_≡_, refl, sym, ap, _∙_, List, [], _∷_, _++_, append-assoc, ℕ, suc, _+_, _*_, _%_, _≤_, _<_, _/_, add-one, length, take, drop, getD, set, length-append}
+use Rattle.basics.proofs.Kit.{length-map, drop-cons, take-all, take-suc, length-take-le, set-at, lt-ltb, le-ltb, arith}
 use Rattle.basics.proofs.Lists.{map-append}
 use Rattle.model.specs.State.{Active}
 use Rattle.model.specs.Transactions.{gives, openNumbers, listing, listCall}

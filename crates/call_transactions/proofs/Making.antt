@@ -1,13 +1,6 @@
 -- Make: its tests, and the image with block 0 written.
-use mathlib.Core.Path.{_≡_, refl, sym, ap, _∙_}
-use mathlib.Core.Bool.{true, false}
-use mathlib.Core.List.{List, _++_}
-use Prim.Native.Nat.{ℕ, _+_, _*_, _/_, _%_, _≤_, _<_}
-use mathlib.Core.Logic.{⊎-elim}
-use native.Mathlib.Omega.{arith}
-use lib.ListN.{length, drop}
-use lib.Dec.{leb, ltb, eqb}
-use borrow.Author.Tests.{lt-ltb, le-ltb, le-leb, lt-leb, eq-eqb, ne-eqb, eqb-true, eqb-false}
+use Rattle.basics.proofs.Kit.{_≡_, refl, sym, ap, _∙_, ⊎-elim, true, false, List, _++_, ℕ, _+_, _*_, _%_, _≤_, _<_, _/_, leb, eqb, ltb, length, drop, le-leb, lt-ltb, le-ltb, lt-leb}
+use Rattle.basics.proofs.Kit.{eqb-true, eq-eqb, ne-eqb, eqb-false, arith}
 use Rattle.basics.specs.Basics.{if_then_else_}
 use Rattle.basics.proofs.Facts.{by}
 use Rattle.blocks.specs.Block.{header, encodeBlock}

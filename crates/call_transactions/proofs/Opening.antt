@@ -1,11 +1,5 @@
 -- Open: its tests, and the store with one transaction more.
-use mathlib.Core.Path.{_≡_, _∙_}
-use mathlib.Core.Bool.{true}
-use mathlib.Core.List.{List, [], _∷_, _++_}
-use Prim.Native.Nat.{ℕ, _≤_, _<_}
-use lib.ListN.{length}
-use lib.Dec.{ltb}
-use borrow.Author.Tests.{lt-ltb, le-ltb, le-leb, lt-leb}
+use Rattle.basics.proofs.Kit.{_≡_, _∙_, true, List, [], _∷_, _++_, ℕ, _≤_, _<_, ltb, length, le-leb, lt-ltb, le-ltb, lt-leb}
 use Rattle.model.specs.State.{Active}
 use Rattle.model.specs.Transactions.{gives, openCall, changed}
 use Rattle.memory_layout.specs.Flat.{Flat, flatOf, Becomes, withOpens}

@@ -1,11 +1,6 @@
 -- A transaction's entry among the open ones: what is found there, written and taken out.
-use mathlib.Core.Path.{_≡_, refl, sym, ap, _∙_}
-use mathlib.Core.Bool.{true, false, not}
-use mathlib.Core.List.{List, [], _∷_, _++_}
-use Prim.Native.Nat.{ℕ, suc, _+_, _≤_, _<_}
-use native.Mathlib.Omega.{arith}
-use lib.ListN.{length, take, drop, getD, set}
-use borrow.Author.Tests.{eq-eqb, ne-eqb, eqb-true, eqb-false}
+use Rattle.basics.proofs.Kit.{_≡_, refl, sym, ap, _∙_, true, false, not, List, [], _∷_, _++_, ℕ, suc, _+_, _≤_, _<_, length, take, drop, getD, set, eqb-true, eq-eqb, ne-eqb, eqb-false}
+use Rattle.basics.proofs.Kit.{arith}
 use Rattle.basics.specs.Basics.{if_then_else_, any, isIn, keep}
 use Rattle.basics.proofs.Facts.{by}
 use Rattle.model.specs.State.{Active}

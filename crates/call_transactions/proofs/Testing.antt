@@ -1,14 +1,6 @@
 -- The tests of insert, replace and delete: those that look at no tuple, and those by a look at the key; what is known once none holds.
-use mathlib.Core.Path.{_≡_, refl, sym, ap, _∙_}
-use mathlib.Core.Bool.{Bool, true, false, not}
-use mathlib.Core.Option.{Option}
-use mathlib.Core.List.{List, [], _∷_, _++_}
-use mathlib.Core.Logic.{⊎-elim}
-use Prim.Native.Nat.{ℕ, _≤_, _<_}
-use native.Mathlib.Omega.{arith}
-use lib.ListN.{length}
-use lib.Dec.{leb, ltb, eqb}
-use borrow.Author.Tests.{lt-ltb, le-ltb, le-leb, lt-leb, eq-eqb, ne-eqb, eqb-false, ltb-false}
+use Rattle.basics.proofs.Kit.{_≡_, refl, sym, ap, _∙_, ⊎-elim, Bool, true, false, not, Option, List, [], _∷_, _++_, ℕ, _≤_, _<_, leb, eqb, ltb, length, le-leb, lt-ltb, le-ltb, lt-leb}
+use Rattle.basics.proofs.Kit.{eq-eqb, ne-eqb, eqb-false, ltb-false, arith}
 use Rattle.basics.specs.Basics.{if_then_else_, any, isSome, isIn}
 use Rattle.basics.proofs.Facts.{by, lie}
 use Rattle.blocks.specs.Limits.{payloadLimit}

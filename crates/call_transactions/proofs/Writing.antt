@@ -1,12 +1,5 @@
 -- A tuple written: its row, the counters, the store with it.
-use mathlib.Core.Path.{_≡_, refl, sym, ap, _∙_}
-use mathlib.Core.Bool.{Bool}
-use mathlib.Core.Option.{some}
-use mathlib.Core.List.{List}
-use Prim.Native.Nat.{ℕ, suc, _+_, _≤_, _<_, min}
-use native.Mathlib.Omega.{arith}
-use native.Mathlib.Numerals.{add-one}
-use lib.ListN.{length, set}
+use Rattle.basics.proofs.Kit.{_≡_, refl, sym, ap, _∙_, Bool, some, List, ℕ, suc, _+_, _≤_, _<_, min, add-one, length, set, arith}
 use Rattle.basics.specs.Basics.{all}
 use Rattle.blocks.specs.Tuple.{Tuple, tentative}
 use Rattle.model.specs.State.{Page, Active, Store}

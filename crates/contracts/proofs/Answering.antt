@@ -1,12 +1,5 @@
 -- The lemmas that close every return of every call: without a store, refused, accepted.
-use mathlib.Core.Path.{_≡_, refl, ap, _∙_, subst}
-use mathlib.Core.Bool.{Bool, true, false}
-use mathlib.Core.Option.{Option, none, some}
-use mathlib.Core.List.{List, [], _∷_, _++_}
-use Prim.Native.Nat.{ℕ, _*_, _/_, _%_}
-use native.Mathlib.Omega.{arith}
-use lib.ListN.{length, drop, length-map}
-use lib.Dec.{ltb}
+use Rattle.basics.proofs.Kit.{_≡_, refl, ap, _∙_, subst, Bool, true, false, some, none, Option, List, [], _∷_, _++_, ℕ, _*_, ltb, length, drop, length-map, arith}
 use Rattle.basics.specs.Basics.{if_then_else_}
 use Rattle.model.specs.State.{Active, Store, Write, Outcome}
 use Rattle.model.specs.Transactions.{_when_, gives, unless, openNumbers, listing, listCall}

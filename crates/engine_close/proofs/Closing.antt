@@ -1,12 +1,6 @@
 -- The functions that change the memory, one after another: what each leaves of the pages and of what is left to do.
-use mathlib.Core.Path.{_≡_, refl, ap, sym, _∙_, subst, ap₂}
-use Prim.Native.Nat.{ℕ, zero, suc, _+_, _-_, _<_, _≤_}
-use native.Mathlib.Omega.{arith}
-use native.Mathlib.Numerals.{add-one}
-use mathlib.Core.Bool.{true, false}
-use mathlib.Core.List.{List, [], _∷_, _++_}
-use lib.ListN.{length, take, drop, length-take, length-drop}
-use lib.Seq.{drop-cons, drop-drop, take-add, take-nil}
+use Rattle.basics.proofs.Kit.{_≡_, refl, sym, ap, _∙_, subst, ap₂, true, false, List, [], _∷_, _++_, ℕ, suc, _+_, _≤_, _<_, zero, _-_, add-one, length, take, drop, length-take, length-drop}
+use Rattle.basics.proofs.Kit.{drop-drop, take-add, drop-cons, take-nil, arith}
 use Rattle.basics.specs.Basics.{if_then_else_}
 use Rattle.blocks.specs.Tuple.{Tuple}
 use Rattle.model.specs.State.{Held, Page}

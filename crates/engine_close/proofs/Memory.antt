@@ -1,14 +1,6 @@
 -- The rows of a memory with room, each with its table: as many as the memory says, in its order, and tables by the page entries.
-use mathlib.Core.Path.{_≡_, refl, ap, sym, _∙_, subst, ap₂}
-use Prim.Native.Nat.{ℕ, zero, suc, _+_, _-_, _<_, _≤_}
-use native.Mathlib.Omega.{arith}
-use native.Mathlib.Numerals.{add-one}
-use mathlib.Core.Bool.{true}
-use mathlib.Core.List.{List, [], _∷_, _++_, map}
-use lib.Dec.{ltb}
-use lib.ListN.{length, take, drop, getD, length-map, length-drop, take-append-drop, List·getD-append, List·getD-map}
-use lib.Seq.{getD-append-add, length-take-le, take-length, take-suc}
-use mathlib.Core.Logic.{⊎-elim}
+use Rattle.basics.proofs.Kit.{_≡_, refl, sym, ap, _∙_, subst, ap₂, ⊎-elim, true, List, [], _∷_, _++_, map, ℕ, suc, _+_, _≤_, _<_, zero, _-_, add-one, ltb, length, take, drop, getD}
+use Rattle.basics.proofs.Kit.{length-drop, take-append-drop, length-map, List·getD-append, List·getD-map, take-suc, length-take-le, getD-append-add, take-length, arith}
 use Rattle.basics.specs.Basics.{sum}
 use Rattle.basics.proofs.Lists.{map-append}
 use Rattle.basics.proofs.Facts.{by}

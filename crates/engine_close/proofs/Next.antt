@@ -1,13 +1,6 @@
 -- A commit and an abort, step by step: what is left to do from a row on.
-use mathlib.Core.Path.{_≡_, refl, ap, sym, _∙_, subst, ap₂}
-use Prim.Native.Nat.{ℕ, suc, _+_, _-_, _<_, _≤_}
-use native.Mathlib.Omega.{arith}
-use mathlib.Core.Bool.{true, false}
-use mathlib.Core.Option.{some}
-use mathlib.Core.List.{List, [], _∷_, _++_}
-use mathlib.Core.Logic.{⊎-elim}
-use lib.ListN.{length, take, drop, length-take, length-drop, take-append-drop, drop-of-length-le}
-use lib.Seq.{drop-cons, drop-drop, getD-take, getD-drop}
+use Rattle.basics.proofs.Kit.{_≡_, refl, sym, ap, _∙_, subst, ap₂, ⊎-elim, true, false, some, List, [], _∷_, _++_, ℕ, suc, _+_, _≤_, _<_, _-_, length, take, drop, length-take, length-drop}
+use Rattle.basics.proofs.Kit.{take-append-drop, drop-of-length-le, drop-drop, drop-cons, getD-drop, getD-take, arith}
 use Rattle.basics.specs.Basics.{last}
 use Rattle.basics.proofs.Facts.{AllOf}
 use Rattle.model.specs.State.{Held, Page}

@@ -1,12 +1,6 @@
 -- The removal of chosen rows, one after another: what is left to do, in terms of the rows as they are now.
-use mathlib.Core.Path.{_≡_, refl, ap, sym, _∙_, subst, ap₂}
-use Prim.Native.Nat.{ℕ, zero, suc, _+_, _-_, _<_, _≤_}
-use native.Mathlib.Omega.{arith}
-use native.Mathlib.Numerals.{add-one}
-use mathlib.Core.Bool.{Bool, true, false}
-use mathlib.Core.List.{List, [], _∷_, _++_}
-use lib.ListN.{length, take, drop, length-take, length-drop, length-map}
-use lib.Seq.{drop-cons, drop-drop, take-all, take-add}
+use Rattle.basics.proofs.Kit.{_≡_, refl, sym, ap, _∙_, subst, ap₂, Bool, true, false, List, [], _∷_, _++_, ℕ, suc, _+_, _≤_, _<_, zero, _-_, add-one, length, take, drop, length-take}
+use Rattle.basics.proofs.Kit.{length-drop, length-map, drop-drop, take-add, drop-cons, take-all, arith}
 use Rattle.basics.specs.Basics.{if_then_else_, keep}
 use Rattle.basics.proofs.Facts.{by}
 use Rattle.rows.specs.Rows.{isBy, isOwn}

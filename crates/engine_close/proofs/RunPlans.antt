@@ -1,13 +1,6 @@
 -- The plan of a commit, run by run: rows without an own one among them are passed over, and a run is split off at its end.
-use mathlib.Core.Path.{_≡_, refl, ap, sym, _∙_, ap₂}
-use Prim.Native.Nat.{ℕ, suc, _+_, _-_, _<_}
-use native.Mathlib.Omega.{arith}
-use mathlib.Core.Bool.{true, false, not}
-use mathlib.Core.Option.{none, some}
-use mathlib.Core.List.{List, [], _∷_, _++_, append-assoc, append-nil}
-use lib.Dec.{eqb}
-use lib.ListN.{length}
-use borrow.Author.Tests.{eq-eqb, ne-eqb}
+use Rattle.basics.proofs.Kit.{_≡_, refl, sym, ap, _∙_, ap₂, true, false, not, some, none, List, [], _∷_, _++_, append-assoc, append-nil, ℕ, suc, _+_, _<_, _-_, eqb, length, eq-eqb, ne-eqb}
+use Rattle.basics.proofs.Kit.{arith}
 use Rattle.basics.specs.Basics.{if_then_else_, keep, last}
 use Rattle.basics.proofs.Facts.{by, lie, AllOf}
 use Rattle.rows.specs.Rows.{isBy, isOwn}

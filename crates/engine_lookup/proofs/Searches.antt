@@ -1,11 +1,5 @@
 -- What the searches by key find of the rows with a key.
-use mathlib.Core.Path.{_≡_, refl, sym, ap, _∙_}
-use mathlib.Core.Bool.{Bool, false, cond}
-use Prim.Native.Nat.{ℕ, zero, suc, _+_, _-_, _≤_}
-use native.Mathlib.Omega.{arith}
-use lib.ListN.{length}
-use lib.Dec.{leb}
-use borrow.Author.Tests.{ne-eqb, leb-false}
+use Rattle.basics.proofs.Kit.{_≡_, refl, sym, ap, _∙_, Bool, false, cond, ℕ, suc, _+_, _≤_, zero, _-_, leb, length, ne-eqb, leb-false, arith}
 use Rattle.memory_bytes.specs.Columns.{tab, lastIndex, upTo, Covers}
 use Rattle.memory_bytes.proofs.Columns.{length-tab}
 use Rattle.memory_bytes.proofs.Found.{last-most, last-behind}

@@ -1,11 +1,6 @@
 -- The versions of a key are among the rows of its table, one run of all rows.
-use mathlib.Core.Path.{_≡_, refl, sym, ap, _∙_}
-use mathlib.Core.List.{List, [], _∷_, _++_}
-use Prim.Native.Nat.{ℕ, zero, suc, _+_, _-_, _≤_, _<_}
-use native.Mathlib.Omega.{arith}
-use lib.ListN.{length, take, drop, getD, length-drop}
-use lib.Seq.{take-add, drop-drop, length-take-le, getD-take, getD-drop, ext-getD}
-use borrow.Author.Tests.{ne-eqb}
+use Rattle.basics.proofs.Kit.{_≡_, refl, sym, ap, _∙_, List, [], _∷_, _++_, ℕ, suc, _+_, _≤_, _<_, zero, _-_, length, take, drop, getD, length-drop, drop-drop, take-add, getD-drop}
+use Rattle.basics.proofs.Kit.{length-take-le, getD-take, ext-getD, ne-eqb, arith}
 use Rattle.basics.specs.Basics.{if_then_else_, keep, sum}
 use Rattle.basics.proofs.Facts.{by}
 use Rattle.blocks.specs.Tuple.{Tuple}

@@ -1,13 +1,6 @@
 -- A look along rows shows the versions of a key among them.
-use mathlib.Core.Path.{_≡_, refl, sym, ap, _∙_}
-use mathlib.Core.Bool.{Bool, true, false, not, _&&_}
-use mathlib.Core.Option.{none, some}
-use mathlib.Core.List.{List, [], _∷_, _++_, append-assoc, append-nil}
-use Prim.Native.Nat.{ℕ, zero, suc, _+_, _≤_, _<_}
-use native.Mathlib.Omega.{arith}
-use lib.ListN.{length}
-use lib.Dec.{eqb}
-use borrow.Author.Tests.{eq-eqb, ne-eqb}
+use Rattle.basics.proofs.Kit.{_≡_, refl, sym, ap, _∙_, Bool, true, false, _&&_, not, some, none, List, [], _∷_, _++_, append-assoc, append-nil, ℕ, suc, _+_, _≤_, _<_, zero, eqb, length}
+use Rattle.basics.proofs.Kit.{eq-eqb, ne-eqb, arith}
 use Rattle.basics.specs.Basics.{if_then_else_, any, first, last, isEmpty, keep}
 use Rattle.basics.proofs.Facts.{by, never}
 use Rattle.blocks.specs.Tuple.{Tuple, Owner, committed, tentative, isTentative}

@@ -1,12 +1,7 @@
 -- Pending operations applied: to one row, to the rows of a page, and the page that they leave.
-use mathlib.Core.Path.{_≡_, refl, sym, ap, _∙_, subst}
-use mathlib.Core.Bool.{Bool, true, false}
-use Prim.Native.Nat.{ℕ, zero, suc, _+_, _-_, _≤_, _<_}
-use native.Mathlib.Omega.{arith}
-use native.Mathlib.Numerals.{add-one}
-use mathlib.Core.List.{List, [], _∷_, _++_, map, append-assoc, append-nil}
-use lib.ListN.{length, take, drop, set, getD, length-append, length-drop, length-set, take-append-drop}
-use lib.Seq.{length-take-le, take-suc, take-at, drop-at, drop-cons, getD-drop, getD-set-same, set-getD, set-set, set-split}
+use Rattle.basics.proofs.Kit.{_≡_, refl, sym, ap, _∙_, subst, true, false, List, [], _∷_, _++_, append-assoc, append-nil, map, ℕ, suc, _+_, _≤_, _<_, _-_, add-one, length, take, drop, getD}
+use Rattle.basics.proofs.Kit.{set, length-append, length-drop, take-append-drop, length-set, set-split, take-at, drop-at, drop-cons, take-suc, getD-drop, length-take-le, getD-set-same}
+use Rattle.basics.proofs.Kit.{set-getD, set-set, arith}
 use Rattle.basics.specs.Basics.{if_then_else_, sum}
 use Rattle.basics.proofs.Facts.{by}
 use Rattle.model.specs.State.{nothing, Held, Page}

@@ -1,12 +1,6 @@
 -- The model's walk to the first page that passes a test, by place; pages joined there.
-use mathlib.Core.Path.{_≡_, refl, sym, ap, _∙_, subst}
-use mathlib.Core.Bool.{Bool, true, false, cond}
-use mathlib.Core.Option.{Option, none, some}
-use Prim.Native.Nat.{ℕ, zero, suc, _+_, _≤_, _<_}
-use native.Mathlib.Omega.{arith}
-use native.Mathlib.Numerals.{add-one}
-use mathlib.Core.List.{List, [], _∷_, _++_, append-nil}
-use lib.ListN.{length, take, drop, drop-of-length-le}
+use Rattle.basics.proofs.Kit.{_≡_, refl, sym, ap, _∙_, subst, Bool, true, false, cond, some, none, Option, List, [], _∷_, _++_, append-nil, ℕ, suc, _+_, _≤_, _<_, zero, add-one, length}
+use Rattle.basics.proofs.Kit.{take, drop, drop-of-length-le, arith}
 use Rattle.basics.specs.Basics.{if_then_else_, isEmpty}
 use Rattle.basics.proofs.Facts.{by}
 use Rattle.memory_bytes.specs.Columns.{firstIndex}

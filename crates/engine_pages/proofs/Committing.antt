@@ -1,10 +1,5 @@
 -- A commit, on a frozen page and on another.
-use mathlib.Core.Path.{_≡_, refl, sym, ap, _∙_}
-use mathlib.Core.Bool.{Bool, true, false}
-use Prim.Native.Nat.{ℕ, _-_}
-use mathlib.Core.List.{List, [], _∷_, _++_}
-use lib.ListN.{set, getD}
-use lib.Seq.{set-getD}
+use Rattle.basics.proofs.Kit.{_≡_, refl, sym, ap, _∙_, true, false, List, [], _∷_, ℕ, _-_, set, set-getD}
 use Rattle.basics.specs.Basics.{if_then_else_}
 use Rattle.model.specs.State.{committing, Held, Page}
 use Rattle.model.specs.Rules.{isAdding, isRemoving, kept, keptLater, asCommitted, withPending, withTuples, fresh}

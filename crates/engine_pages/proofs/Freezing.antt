@@ -1,13 +1,6 @@
 -- Freezing, page by page.
-use mathlib.Core.Path.{_≡_, refl, sym, ap, _∙_}
-use mathlib.Core.Bool.{Bool, true, false}
-use Prim.Native.Nat.{ℕ, zero, suc, _+_, _≤_, _<_}
-use native.Mathlib.Omega.{arith}
-use native.Mathlib.Numerals.{add-one}
-use mathlib.Core.List.{List, [], _∷_, _++_, map, append-assoc, append-nil}
-use lib.ListN.{length, take, drop, length-map, drop-of-length-le}
-use lib.Seq.{take-all}
-use lib.Dec.{eqb}
+use Rattle.basics.proofs.Kit.{_≡_, sym, ap, _∙_, true, List, [], _∷_, _++_, append-assoc, append-nil, map, ℕ, suc, _+_, _≤_, _<_, zero, add-one, eqb, length, take, drop, set}
+use Rattle.basics.proofs.Kit.{drop-of-length-le, length-map, take-all, arith}
 use Rattle.basics.proofs.Lists.{map-append}
 use Rattle.model.specs.State.{Page}
 use Rattle.model.specs.Rules.{isDirty, freeze}
@@ -15,7 +8,6 @@ use Rattle.memory_layout.specs.Flat.{flatOf, Becomes, withEntries}
 use Rattle.memory_layout.specs.Store.{pageOf, pageIn, holdsStore}
 use Rattle.memory_layout.proofs.Exchange.{pages-count}
 use Rattle.memory_pages.specs.Pages.{withBlock}
-use lib.ListN.{set}
 use Rattle.engine_pages.specs.Pages.{PagesNow, pagesOf, pageAt, tuplesAt, entryOf, There, swapped}
 use Rattle.engine_pages.proofs.Places.{now-to, now-stay, now-then, now-pages, now-held, from-page, before-long, there-here, page-here, swap-at, cons-head}
 use Rattle.engine_pages.proofs.Rows.{page-now}

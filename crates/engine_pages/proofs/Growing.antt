@@ -1,11 +1,6 @@
 -- A row goes on a page, or on a new page.
-use mathlib.Core.Path.{_≡_, refl, sym, ap, _∙_, subst}
-use mathlib.Core.Bool.{Bool, true, false}
-use Prim.Native.Nat.{ℕ, suc, _+_, _*_, _-_, _≤_, _<_}
-use native.Mathlib.Omega.{arith}
-use mathlib.Core.List.{List, [], _∷_, _++_, map}
-use lib.ListN.{length, take, drop, set, getD, length-set, length-append}
-use lib.Seq.{length-take-le, getD-set-same, set-set, set-at}
+use Rattle.basics.proofs.Kit.{_≡_, refl, sym, ap, _∙_, subst, true, false, List, [], _∷_, _++_, map, ℕ, suc, _+_, _*_, _<_, _-_, length, take, drop, getD, set, length-set, length-take-le}
+use Rattle.basics.proofs.Kit.{getD-set-same, set-at, set-set, arith}
 use Rattle.basics.specs.Basics.{if_then_else_}
 use Rattle.blocks.specs.Tuple.{Tuple}
 use Rattle.model.specs.State.{adding, Held, Page}

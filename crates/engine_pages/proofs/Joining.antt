@@ -1,14 +1,6 @@
 -- Whether two pages may be joined, and what joining a changed page does.
-use mathlib.Core.Path.{_≡_, refl, sym, ap, _∙_, subst}
-use mathlib.Core.Bool.{Bool, true, false, not}
-use mathlib.Core.Option.{none}
-use Prim.Native.Nat.{ℕ, suc, _+_, _-_, _≤_, _<_}
-use native.Mathlib.Omega.{arith}
-use mathlib.Core.List.{List, [], _∷_, _++_}
-use lib.ListN.{length, take, drop}
-use lib.Seq.{take-add, drop-drop}
-use lib.Dec.{leb}
-use borrow.Author.Tests.{eq-eqb, ne-eqb}
+use Rattle.basics.proofs.Kit.{_≡_, refl, sym, ap, _∙_, subst, Bool, true, false, not, none, List, [], _∷_, _++_, ℕ, suc, _+_, _<_, _-_, leb, length, take, drop, drop-drop, take-add, eq-eqb}
+use Rattle.basics.proofs.Kit.{ne-eqb, arith}
 use Rattle.basics.specs.Basics.{sum, isEmpty}
 use Rattle.basics.proofs.Facts.{by, lie}
 use Rattle.blocks.specs.Limits.{joinSum}

@@ -1,12 +1,6 @@
 -- A page split, and its parts again.
-use mathlib.Core.Path.{_≡_, refl, sym, ap, _∙_}
-use mathlib.Core.Bool.{true, false}
-use Prim.Native.Nat.{ℕ, zero, suc, _+_, _-_, _≤_, _<_}
-use native.Mathlib.Omega.{arith}
-use mathlib.Core.List.{List, [], _∷_, _++_, map}
-use lib.ListN.{length, take, drop, length-drop}
-use lib.Seq.{length-take-le}
-use borrow.Author.Tests.{leb-false}
+use Rattle.basics.proofs.Kit.{_≡_, refl, sym, ap, _∙_, true, false, List, [], _∷_, _++_, map, ℕ, suc, _+_, _≤_, _<_, zero, _-_, length, take, drop, length-drop, length-take-le, leb-false}
+use Rattle.basics.proofs.Kit.{arith}
 use Rattle.basics.specs.Basics.{sum}
 use Rattle.basics.proofs.Facts.{AllOf, by}
 use Rattle.basics.proofs.Lists.{map-append}

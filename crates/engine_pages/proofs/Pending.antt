@@ -1,6 +1,5 @@
 -- Pending operations, by the value that was read.
-use mathlib.Core.Path.{_≡_, sym, ap, _∙_}
-use mathlib.Core.Bool.{Bool}
+use Rattle.basics.proofs.Kit.{_≡_, sym, ap, _∙_, Bool}
 use Rattle.model.specs.State as model
 use Rattle.memory_rows.specs.Rows.{pendingIs}
 use Rattle.memory_rows.specs.declared.Pending.{Pending}

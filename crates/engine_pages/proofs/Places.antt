@@ -1,12 +1,6 @@
 -- Pages by place: what stands where after pages were exchanged, and one change after another.
-use mathlib.Core.Path.{_≡_, refl, sym, ap, _∙_}
-use mathlib.Core.Bool.{Bool, true}
-use mathlib.Core.Option.{some}
-use Prim.Native.Nat.{ℕ, zero, suc, _+_, _*_, _-_, _≤_, _<_}
-use native.Mathlib.Omega.{arith}
-use mathlib.Core.List.{List, [], _∷_, _++_, append-assoc, append-nil}
-use lib.ListN.{length, take, drop, getD, length-append, take-append-drop}
-use lib.Seq.{length-take-le, take-at, drop-at}
+use Rattle.basics.proofs.Kit.{_≡_, refl, sym, ap, _∙_, true, some, List, [], _∷_, _++_, append-assoc, append-nil, ℕ, suc, _+_, _*_, _≤_, _<_, zero, _-_, length, take, drop, getD}
+use Rattle.basics.proofs.Kit.{length-append, take-append-drop, take-at, drop-at, length-take-le, arith}
 use Rattle.model.specs.State.{Held, Page, Store}
 use Rattle.model.specs.Transactions.{changed}
 use Rattle.memory_layout.specs.Flat.{Flat, flatOf, capacityOf, entryIn, rowIn, noRow, Room, Becomes, withRows, withEntries}

@@ -1,12 +1,6 @@
 -- A row of a page changed, put in or taken out: what it does to the pages; and the row's place in the model's list of all tuples.
-use mathlib.Core.Path.{_≡_, refl, sym, ap, _∙_}
-use mathlib.Core.Bool.{Bool, true, false}
-use mathlib.Core.Option.{Option, none}
-use Prim.Native.Nat.{ℕ, zero, suc, _+_, _-_, _≤_, _<_}
-use native.Mathlib.Omega.{arith}
-use mathlib.Core.List.{List, [], _∷_, _++_, map}
-use lib.ListN.{length, take, drop, set, length-append, length-map, length-drop}
-use lib.Seq.{length-take-le, set-getD}
+use Rattle.basics.proofs.Kit.{_≡_, refl, sym, ap, _∙_, Bool, false, none, Option, List, [], _∷_, _++_, map, ℕ, suc, _+_, _-_, length, take, drop, set, length-append, length-drop, length-map}
+use Rattle.basics.proofs.Kit.{length-take-le, set-getD, arith}
 use Rattle.basics.specs.Basics.{sum}
 use Rattle.model.specs.State.{Held, Page}
 use Rattle.model.specs.Rules.{fresh, withTuples}

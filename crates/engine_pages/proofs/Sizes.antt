@@ -1,14 +1,6 @@
 -- Rows from s up to e, turn by turn: their sizes, and tests over them.
-use mathlib.Core.Path.{_≡_, refl, sym, ap, _∙_}
-use mathlib.Core.Bool.{Bool, true, false, _||_, or-assoc}
-use Prim.Native.Nat.{ℕ, zero, suc, _+_, _*_, _-_, _≤_, _<_}
-use native.Mathlib.Omega.{arith}
-use native.Mathlib.Numerals.{add-one}
-use mathlib.Core.List.{List, [], _∷_}
-use lib.ListN.{length, take, drop, getD}
-use lib.Seq.{drop-cons}
-use lib.Dec.{leb, ltb}
-use borrow.Author.Tests.{le-leb, lt-leb}
+use Rattle.basics.proofs.Kit.{_≡_, refl, sym, ap, _∙_, Bool, true, false, _||_, or-assoc, List, [], _∷_, ℕ, suc, _+_, _*_, _≤_, _<_, _-_, add-one, ltb, length, take, drop, getD, drop-cons}
+use Rattle.basics.proofs.Kit.{le-leb, lt-leb, arith}
 use Rattle.basics.specs.Basics.{if_then_else_, sum, any}
 use Rattle.basics.proofs.Facts.{AllOf}
 use Rattle.blocks.specs.Limits.{payloadLimit}

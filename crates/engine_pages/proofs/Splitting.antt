@@ -1,11 +1,5 @@
 -- A page that is split where it is above 504 bytes; a page that took a tuple in.
-use mathlib.Core.Path.{_≡_, refl, sym, ap, _∙_, subst}
-use mathlib.Core.Bool.{true, false}
-use Prim.Native.Nat.{ℕ, _+_, _-_, _≤_, _<_}
-use native.Mathlib.Omega.{arith}
-use mathlib.Core.List.{List, [], _∷_, map}
-use lib.ListN.{length, take, drop}
-use borrow.Author.Tests.{le-leb, lt-leb}
+use Rattle.basics.proofs.Kit.{_≡_, refl, sym, ap, _∙_, subst, true, false, List, [], _∷_, map, ℕ, _+_, _≤_, _<_, _-_, take, drop, le-leb, lt-leb, arith}
 use Rattle.basics.specs.Basics.{if_then_else_, sum}
 use Rattle.basics.proofs.Facts.{AllOf}
 use Rattle.blocks.specs.Limits.{recordSpace}

@@ -1,16 +1,6 @@
 -- The place of a tuple among the rows of its table is where the model puts it.
-use mathlib.Core.Path.{_≡_, refl, sym, ap, _∙_}
-use mathlib.Core.Bool.{Bool, true, false}
-use mathlib.Core.Option.{none}
-use mathlib.Core.Logic.{⊎-elim}
-use Prim.Native.Nat.{ℕ, zero, suc, _+_, _-_, _≤_, _<_}
-use native.Mathlib.Omega.{arith}
-use native.Mathlib.Numerals.{add-one}
-use mathlib.Core.List.{List, [], _∷_, _++_}
-use lib.ListN.{length, take, drop, getD, length-drop}
-use lib.Seq.{length-take-le, getD-take, getD-drop, take-add}
-use lib.Dec.{eqb}
-use borrow.Author.Tests.{eqb-true, eqb-false}
+use Rattle.basics.proofs.Kit.{_≡_, refl, sym, ap, _∙_, ⊎-elim, Bool, true, false, none, List, [], _∷_, _++_, ℕ, suc, _+_, _≤_, _<_, zero, _-_, add-one, eqb, length, take, drop, getD}
+use Rattle.basics.proofs.Kit.{length-drop, take-add, getD-drop, length-take-le, getD-take, eqb-true, eqb-false, arith}
 use Rattle.basics.proofs.Facts.{by, lie}
 use Rattle.blocks.specs.Tuple.{Tuple}
 use Rattle.model.specs.State.{Held, Page}

@@ -1,11 +1,5 @@
 -- Thawing the first frozen page: the model's rule by place.
-use mathlib.Core.Path.{_≡_, refl, sym, ap, _∙_, subst}
-use mathlib.Core.Bool.{Bool, true, false, cond}
-use mathlib.Core.Option.{Option, none}
-use Prim.Native.Nat.{ℕ, suc, _<_}
-use native.Mathlib.Omega.{arith}
-use mathlib.Core.List.{List, [], _∷_, _++_, map}
-use lib.ListN.{length, drop, set}
+use Rattle.basics.proofs.Kit.{_≡_, refl, sym, ap, _∙_, subst, Bool, true, false, cond, none, Option, List, [], _∷_, _++_, map, ℕ, suc, drop, set, arith}
 use Rattle.basics.specs.Basics.{if_then_else_, any}
 use Rattle.model.specs.State.{Held, Page}
 use Rattle.model.specs.Rules.{isFrozen, fresh, listOf, splitAll, settle, thawOn, thaw}

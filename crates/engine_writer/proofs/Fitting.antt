@@ -1,10 +1,5 @@
 -- Whatever bytes the memory has, its tuples are in the ranges of a block.
-use mathlib.Core.Path.{_≡_}
-use mathlib.Core.List.{List, []}
-use Prim.Native.Nat.{ℕ, zero, suc, _+_, _*_, _-_, _%_, _≤_, _<_}
-use native.Mathlib.Nat.{min-le-right}
-use native.Mathlib.Omega.{arith}
-use lib.ListN.{length, getD}
+use Rattle.basics.proofs.Kit.{_≡_, List, ℕ, suc, _+_, _*_, _%_, _≤_, _<_, zero, _-_, min-le-right, length, getD, arith}
 use mir.Syntax.{w8}
 use mir.Val as val
 use Rattle.basics.specs.Basics.{if_then_else_}

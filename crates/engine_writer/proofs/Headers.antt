@@ -1,9 +1,5 @@
 -- Counts and header, from what the memory holds.
-use mathlib.Core.Path.{_≡_, sym, ap, _∙_}
-use mathlib.Core.List.{List}
-use Prim.Native.Nat.{ℕ, suc, _+_, _≤_}
-use native.Mathlib.Omega.{arith}
-use lib.ListN.{length, getD}
+use Rattle.basics.proofs.Kit.{_≡_, sym, ap, _∙_, List, ℕ, suc, _+_, _≤_, length, getD, arith}
 use Rattle.model.specs.Checkpoint.{headerFor}
 use Rattle.memory_layout.specs.Views.{headOf, countsOf}
 use Rattle.memory_layout.specs.Flat.{flatOf, Room}

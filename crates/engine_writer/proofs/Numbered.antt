@@ -1,11 +1,5 @@
 -- Directory entries and directory blocks: one by one, and a run of them.
-use mathlib.Core.Path.{_≡_, sym, ap, _∙_}
-use Prim.Native.Nat.{ℕ, _+_, _≤_, _<_}
-use native.Mathlib.Omega.{arith}
-use native.Mathlib.Numerals.{add-one}
-use mathlib.Core.List.{List}
-use lib.ListN.{length, take, drop, getD, set, length-drop}
-use lib.Seq.{take-suc, take-suc-set, take-all, getD-drop}
+use Rattle.basics.proofs.Kit.{_≡_, sym, ap, _∙_, List, ℕ, _+_, _≤_, _<_, add-one, length, take, drop, getD, set, length-drop, take-suc-set, take-all, take-suc, getD-drop, arith}
 use Rattle.blocks.specs.Limits.{entriesPerBlock}
 
 -- one entry more of a run

@@ -1,11 +1,5 @@
 -- A row of the memory as a record of a page.
-use mathlib.Core.Path.{_≡_, sym, _∙_}
-use mathlib.Core.Bool.{Bool}
-use mathlib.Core.List.{List}
-use Prim.Native.Nat.{ℕ, _+_, _≤_, _<_}
-use native.Mathlib.Omega.{arith}
-use lib.ListN.{length, take, drop}
-use lib.Seq.{ext-getD, getD-take, getD-drop}
+use Rattle.basics.proofs.Kit.{_≡_, sym, _∙_, Bool, List, ℕ, _+_, _≤_, _<_, length, take, drop, getD-drop, getD-take, ext-getD, arith}
 use Rattle.blocks.specs.Tuple.{Tuple}
 use Rattle.blocks.specs.Bytes.{ownerIs, tupleOf}
 use Rattle.blocks.specs.declared.Owner.{Owner}

@@ -1,13 +1,5 @@
 -- What a run of rows shows, row by row.
-use mathlib.Core.Path.{_≡_, sym, ap, _∙_}
-use mathlib.Core.Bool.{true, false, not}
-use mathlib.Core.List.{List, [], _∷_}
-use Prim.Native.Nat.{ℕ, suc, _+_, _-_, _≤_, _<_}
-use native.Mathlib.Numerals.{add-one}
-use native.Mathlib.Omega.{arith}
-use lib.ListN.{length, take, drop, getD}
-use lib.Seq.{drop-cons}
-use borrow.Author.Tests.{le-leb, lt-leb}
+use Rattle.basics.proofs.Kit.{_≡_, sym, ap, _∙_, true, false, not, List, [], _∷_, ℕ, suc, _+_, _≤_, _<_, _-_, add-one, length, take, drop, getD, drop-cons, le-leb, lt-leb, arith}
 use Rattle.basics.specs.Basics.{if_then_else_}
 use Rattle.blocks.specs.Limits.{recordSpace}
 use Rattle.blocks.specs.Tuple.{Tuple, sizes}

@@ -1,9 +1,5 @@
 -- A page's block while its rows are written: what it holds already, and what is still to come.
-use mathlib.Core.Path.{_≡_, refl, sym, ap, subst, _∙_}
-use mathlib.Core.List.{List, [], _∷_, _++_, append-assoc, append-nil}
-use Prim.Native.Nat.{ℕ, _+_, _-_, _≤_, _<_}
-use native.Mathlib.Omega.{arith}
-use lib.ListN.{length, length-append}
+use Rattle.basics.proofs.Kit.{_≡_, refl, sym, ap, _∙_, subst, List, [], _∷_, _++_, append-assoc, append-nil, ℕ, _+_, _≤_, _<_, _-_, length, length-append, arith}
 use Rattle.basics.specs.Basics.{sum}
 use Rattle.bits.specs.Bits.{over}
 use Rattle.blocks.specs.Tuple.{Tuple, size, sizes, OwnerFits, Fits, AllFit}

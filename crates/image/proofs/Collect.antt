@@ -1,13 +1,7 @@
 -- The pages of an image one after another, their rows in columns; and what the tests make of them.
-use mathlib.Core.Path.{_≡_, refl, sym, ap, _∙_}
-use mathlib.Core.Bool.{Bool, true, false, _&&_}
-use mathlib.Core.Option.{Option, none, some, Option·map}
-use mathlib.Core.List.{List, [], _∷_, _++_, map, append-assoc, append-nil}
-use Prim.Native.Nat.{ℕ, zero, suc, _+_, _-_, _*_, _/_, _≤_, _<_}
-use native.Mathlib.Omega.{arith}
-use lib.ListN.{length, take, drop, getD, length-append, length-take, length-drop, drop-of-length-le}
-use lib.Dec.{ltb, leb}
-use borrow.Author.Tests.{le-leb, lt-leb, leb-true, leb-false, ltb-true}
+use Rattle.basics.proofs.Kit.{_≡_, refl, sym, ap, _∙_, Bool, true, false, _&&_, some, none, Option, Option·map, List, [], _∷_, _++_, append-assoc, append-nil, map, ℕ, suc, _+_, _*_, _≤_}
+use Rattle.basics.proofs.Kit.{_<_, zero, _/_, _-_, leb, ltb, length, take, drop, getD, length-append, length-take, length-drop, drop-of-length-le, le-leb, leb-true, lt-leb, leb-false}
+use Rattle.basics.proofs.Kit.{ltb-true, arith}
 use Rattle.basics.specs.Basics.{if_then_else_, all, every}
 use Rattle.basics.proofs.Facts.{by, by-option, never, and-true}
 use Rattle.basics.proofs.Lists.{map-append}

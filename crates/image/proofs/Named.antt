@@ -1,16 +1,6 @@
 -- The entries of directory blocks, one block after another.
-use mathlib.Core.Path.{_≡_, refl, sym, ap, subst, _∙_}
-use mathlib.Core.Logic.{⊎-elim}
-use mathlib.Core.Bool.{Bool, true, false, _&&_}
-use mathlib.Core.Option.{Option, none, some, Option·map}
-use mathlib.Core.List.{List, [], _∷_, _++_, append-assoc, append-nil}
-use Prim.Native.Nat.{ℕ, _+_, _-_, _≤_, _<_, min}
-use native.Mathlib.Omega.{arith}
-use native.Mathlib.Numerals.{add-one}
-use lib.ListN.{length, take, drop, getD, set, length-take, length-append}
-use lib.Seq.{take-suc}
-use lib.Dec.{eqb}
-use borrow.Author.Tests.{eqb-true, eq-eqb, ne-eqb}
+use Rattle.basics.proofs.Kit.{_≡_, refl, sym, ap, _∙_, subst, ⊎-elim, Bool, true, false, _&&_, some, none, Option, Option·map, List, [], _∷_, _++_, append-assoc, append-nil, ℕ, _+_, _≤_}
+use Rattle.basics.proofs.Kit.{_<_, _-_, min, add-one, eqb, length, take, drop, getD, set, length-append, length-take, take-suc, eqb-true, eq-eqb, ne-eqb, arith}
 use Rattle.basics.specs.Basics.{if_then_else_}
 use Rattle.basics.proofs.Facts.{by, never, lie, and-true, clash}
 use Rattle.bits.specs.Bits.{over}

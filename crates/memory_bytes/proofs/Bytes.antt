@@ -1,12 +1,6 @@
 -- Numbers and bytes read before and after a change of other bytes, and behind one that moved or wrote them.
-use mathlib.Core.Path.{_≡_, sym, ap, _∙_}
-use mathlib.Core.List.{List, _∷_, _++_, append-nil}
-use Prim.Native.Nat.{ℕ, _+_, _-_, _/_, _%_, _≤_, _<_}
-use native.Mathlib.Nat.{add-zero, zero-add}
-use native.Mathlib.Omega.{arith}
-use lib.ListN.{length, drop, getD, length-append, length-drop, drop-of-length-le, List·getD-append}
-use lib.Seq.{ext-getD, getD-append-add, getD-drop}
-use mathlib.Core.Logic.{⊎-elim}
+use Rattle.basics.proofs.Kit.{_≡_, sym, ap, _∙_, ⊎-elim, List, _∷_, _++_, append-nil, ℕ, _+_, _%_, _≤_, _<_, _/_, _-_, add-zero, zero-add, length, drop, getD, length-append, length-drop}
+use Rattle.basics.proofs.Kit.{drop-of-length-le, List·getD-append, getD-drop, getD-append-add, ext-getD, arith}
 use Rattle.memory_bytes.specs.Bytes.{le2, le4, bytes, bytes2, bytes4, Apart, Raised, Lowered, Wrote}
 use Rattle.memory_bytes.proofs.Columns.{lt-or-ge, tab-cong, tab-self, length-tab, getD-tab}
 

@@ -1,9 +1,5 @@
 -- A column with a number more, less or changed, from its bytes: those below the place as they were, those behind it moved by the width or as they were.
-use mathlib.Core.Path.{_≡_, ap, _∙_}
-use mathlib.Core.List.{List}
-use Prim.Native.Nat.{ℕ, suc, _+_, _*_, _-_, _≤_, _<_}
-use native.Mathlib.Omega.{arith}
-use lib.ListN.{getD, set}
+use Rattle.basics.proofs.Kit.{_≡_, ap, _∙_, List, ℕ, suc, _+_, _*_, _≤_, _<_, _-_, getD, set, arith}
 use Rattle.memory_bytes.specs.Columns.{tab, insertAt, removeAt}
 use Rattle.memory_bytes.specs.Bytes.{column1, column2, column4}
 use Rattle.memory_bytes.proofs.Columns.{tab-cong, tab-insert, tab-remove, tab-set}

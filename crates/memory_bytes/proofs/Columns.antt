@@ -1,12 +1,6 @@
 -- Lists by index.
-use mathlib.Core.Path.{_≡_, refl, ap, _∙_}
-use mathlib.Core.Logic.{_⊎_, inl, inr, ⊎-elim}
-use mathlib.Core.List.{List, _∷_, _++_}
-use Prim.Native.Nat.{ℕ, zero, suc, _+_, _-_, _≤_, _<_, zero-le, suc-le-suc}
-use native.Mathlib.Nat.{add-zero, zero-add, suc-add, le-of-suc-le-suc, not-suc-le-zero, zero-lt-suc}
-use native.Mathlib.Omega.{arith}
-use lib.ListN.{length, take, drop, set, getD}
-use lib.Seq.{ext-getD, set-split}
+use Rattle.basics.proofs.Kit.{_≡_, refl, ap, _∙_, ⊎-elim, _⊎_, inl, inr, List, _∷_, _++_, ℕ, suc, _+_, _≤_, _<_, zero, _-_, zero-le, suc-le-suc, add-zero, zero-add, suc-add}
+use Rattle.basics.proofs.Kit.{le-of-suc-le-suc, not-suc-le-zero, zero-lt-suc, length, take, drop, getD, set, set-split, ext-getD, arith}
 use Rattle.memory_bytes.specs.Columns.{tab, insertAt, removeAt}
 
 -- either way round

@@ -1,11 +1,5 @@
 -- What is known of the element that a search finds, and of those that it passes.
-use mathlib.Core.Path.{_≡_, sym, ap, _∙_}
-use mathlib.Core.Bool.{Bool, true, false, cond}
-use mathlib.Core.List.{List, [], _∷_}
-use Prim.Native.Nat.{ℕ, zero, suc, _≤_, _<_, zero-le, suc-le-suc}
-use native.Mathlib.Nat.{le-of-suc-le-suc, not-suc-le-zero}
-use native.Mathlib.Omega.{arith}
-use lib.ListN.{length, getD}
+use Rattle.basics.proofs.Kit.{_≡_, sym, ap, _∙_, Bool, true, false, cond, List, [], _∷_, ℕ, suc, _≤_, _<_, zero, zero-le, suc-le-suc, le-of-suc-le-suc, not-suc-le-zero, length, getD, arith}
 use Rattle.basics.specs.Basics.{any}
 use Rattle.basics.proofs.Facts.{by}
 use Rattle.memory_bytes.specs.Columns.{firstIndex, lastIndex}

@@ -1,12 +1,6 @@
 -- One turn of each loop that changes bytes.
-use mathlib.Core.Path.{_≡_, refl, sym, ap, subst, _∙_}
-use mathlib.Core.Logic.{⊎-elim}
-use mathlib.Core.List.{List, [], _∷_}
-use Prim.Native.Nat.{ℕ, _+_, _*_, _-_, _%_, _≤_, _<_}
-use native.Mathlib.Nat.{add-zero, zero-add}
-use native.Mathlib.Omega.{arith}
-use lib.ListN.{length, getD, set, length-set}
-use lib.Seq.{getD-set-same, getD-set-other}
+use Rattle.basics.proofs.Kit.{_≡_, refl, sym, ap, _∙_, subst, ⊎-elim, List, [], _∷_, ℕ, _+_, _*_, _%_, _≤_, _<_, _-_, add-zero, zero-add, length, getD, set, length-set, getD-set-same}
+use Rattle.basics.proofs.Kit.{getD-set-other, arith}
 use Rattle.memory_bytes.specs.Bytes.{le2, bytes2, Raised, Lowered, Wrote, Added}
 use Rattle.memory_bytes.proofs.Columns.{lt-or-ge}
 use Rattle.memory_bytes.proofs.Bytes.{le2-below, le2-above, le2-wrote}

@@ -1,11 +1,6 @@
 -- Searches in lists by index, and one turn of each loop that searches a column.
-use mathlib.Core.Path.{_≡_, refl, sym, ap, _∙_}
-use mathlib.Core.Bool.{Bool, true, false, _||_, _&&_, cond, or-assoc}
-use mathlib.Core.List.{List, [], _∷_, _++_}
-use Prim.Native.Nat.{ℕ, zero, suc, _+_, _*_, _-_, _≤_, _<_}
-use native.Mathlib.Nat.{zero-add, suc-add}
-use native.Mathlib.Omega.{arith}
-use lib.ListN.{length}
+use Rattle.basics.proofs.Kit.{_≡_, refl, sym, ap, _∙_, Bool, true, false, _&&_, _||_, cond, or-assoc, List, [], _∷_, _++_, ℕ, suc, _+_, _*_, _≤_, _<_, zero, _-_, zero-add, suc-add, length}
+use Rattle.basics.proofs.Kit.{arith}
 use Rattle.basics.specs.Basics.{any, howMany, paired, if_then_else_}
 use Rattle.basics.proofs.Ands.{and-yes, and-assoc}
 use Rattle.memory_bytes.specs.Columns.{tab, firstIndex, lastIndex}

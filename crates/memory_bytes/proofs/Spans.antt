@@ -1,13 +1,5 @@
 -- Where the numbers that are a key stand: what the searches find of them, and one turn of each loop that looks for the span of them.
-use mathlib.Core.Path.{_≡_, refl, sym, ap, _∙_}
-use mathlib.Core.Bool.{Bool, true, false, _&&_, cond}
-use mathlib.Core.Logic.{⊎-elim}
-use mathlib.Core.List.{List}
-use Prim.Native.Nat.{ℕ, zero, suc, _+_, _*_, _-_, _≤_, _<_}
-use native.Mathlib.Omega.{arith}
-use lib.ListN.{getD}
-use lib.Dec.{eqb}
-use borrow.Author.Tests.{ne-eqb, eqb-true, eqb-false}
+use Rattle.basics.proofs.Kit.{_≡_, refl, sym, ap, _∙_, ⊎-elim, Bool, true, false, _&&_, cond, List, ℕ, suc, _+_, _*_, _≤_, _<_, zero, _-_, eqb, getD, eqb-true, ne-eqb, eqb-false, arith}
 use Rattle.basics.specs.Basics.{any}
 use Rattle.memory_bytes.specs.Columns.{tab, firstIndex, lastIndex, equals, Covers, Grouped}
 use Rattle.memory_bytes.specs.Bytes.{le4, column4}

@@ -1,10 +1,5 @@
 -- From the bytes that a function leaves to one equation on the flat lists: everything but one part is as it was.
-use mathlib.Core.Path.{_≡_, refl, ap, _∙_}
-use Prim.Native.Nat.{ℕ, _+_, _*_, _-_, _≤_, _<_}
-use native.Mathlib.Omega.{arith}
-use mathlib.Core.Bool.{Bool}
-use mathlib.Core.List.{List}
-use lib.ListN.{length}
+use Rattle.basics.proofs.Kit.{_≡_, refl, ap, _∙_, Bool, List, ℕ, _+_, _*_, _≤_, _<_, _-_, length, arith}
 use Rattle.memory_bytes.specs.Bytes.{le4, Apart}
 use Rattle.memory_bytes.specs.Columns.{tab}
 use Rattle.model.specs.State.{Active}

@@ -1,11 +1,6 @@
 -- Pages as runs of the rows: where each starts and what it holds; what becomes of the pages where rows and entries change together.
-use mathlib.Core.Path.{_≡_, refl, sym, ap, _∙_}
-use Prim.Native.Nat.{ℕ, zero, suc, _+_, _-_, _≤_, _<_}
-use native.Mathlib.Omega.{arith}
-use native.Mathlib.Numerals.{add-one}
-use mathlib.Core.List.{List, [], _∷_, _++_, append-assoc}
-use lib.ListN.{length, take, drop, getD, set, length-append, length-drop, length-set, take-append-drop, drop-of-length-le}
-use lib.Seq.{take-suc, take-all, take-at, drop-at, take-add, drop-drop, length-take-le, set-split, getD-take, getD-drop}
+use Rattle.basics.proofs.Kit.{_≡_, refl, sym, ap, _∙_, List, [], _∷_, _++_, ℕ, suc, _+_, _≤_, _<_, zero, _-_, add-one, length, take, drop, getD, set, length-append, length-drop}
+use Rattle.basics.proofs.Kit.{take-append-drop, length-set, drop-of-length-le, set-split, drop-drop, take-add, take-all, take-suc, getD-drop, length-take-le, getD-take, arith}
 use Rattle.basics.specs.Basics.{sum}
 use Rattle.model.specs.State.{Held, Page}
 use Rattle.memory_bytes.specs.Columns.{insertAt, removeAt}

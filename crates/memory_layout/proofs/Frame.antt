@@ -1,13 +1,6 @@
 -- What a change of some bytes leaves of what the memory holds: each list is as it was if its bytes are.
-use mathlib.Core.Path.{_≡_, refl, ap, _∙_, fun-ext}
-use Prim.Native.Nat.{ℕ, zero, suc, _+_, _*_, _-_, _/_, _%_, _^_, _≤_, _<_}
-use native.Mathlib.Omega.{arith}
-use native.Mathlib.Nat.{min-le-right}
-use mathlib.Core.Bool.{Bool, true, false, not, _&&_}
-use mathlib.Core.List.{List, _∷_}
-use lib.ListN.{getD}
-use lib.Dec.{eqb, ltb, leb}
-use borrow.Author.Tests.{ltb-true}
+use Rattle.basics.proofs.Kit.{_≡_, refl, ap, _∙_, fun-ext, Bool, true, false, _&&_, not, List, _∷_, ℕ, suc, _+_, _*_, _%_, _^_, _≤_, _<_, zero, _/_, _-_, min-le-right, leb, eqb, ltb, getD}
+use Rattle.basics.proofs.Kit.{ltb-true, arith}
 use Rattle.basics.specs.Basics.{if_then_else_}
 use Rattle.basics.specs.Basics.{howMany, from}
 use Rattle.memory_bytes.specs.Bytes.{le2, le4, bytes}

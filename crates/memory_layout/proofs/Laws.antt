@@ -1,16 +1,7 @@
 -- What the flat lists of any memory with room are known to have: how long each is, where each page starts; and from the flat lists to
 -- the store that the memory holds.
-use mathlib.Core.Path.{_≡_, refl, sym, ap, _∙_}
-use mathlib.Core.Bool.{true, false}
-use mathlib.Core.Option.{none, some}
-use Prim.Native.Nat.{ℕ, zero, suc, _+_, _*_, _-_, _≤_, _<_, zero-le}
-use native.Mathlib.Nat.{add-zero, zero-add}
-use native.Mathlib.Numerals.{add-one}
-use native.Mathlib.Omega.{arith}
-use mathlib.Core.List.{List}
-use lib.ListN.{length, take}
-use lib.Dec.{eqb}
-use borrow.Author.Tests.{le-ltb, lt-ltb, ltb-true, le-leb, leb-true, eq-eqb, eqb-true}
+use Rattle.basics.proofs.Kit.{_≡_, refl, sym, ap, _∙_, true, false, some, none, List, ℕ, suc, _+_, _*_, _≤_, _<_, zero, _-_, zero-le, add-one, add-zero, zero-add, eqb, length, take, le-leb}
+use Rattle.basics.proofs.Kit.{leb-true, lt-ltb, le-ltb, eqb-true, eq-eqb, ltb-true, arith}
 use Rattle.basics.specs.Basics.{if_then_else_, all, from, sum}
 use Rattle.basics.proofs.Facts.{by, never, and-true}
 use Rattle.model.specs.State.{Store}

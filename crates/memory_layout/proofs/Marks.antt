@@ -1,17 +1,7 @@
 -- One bit for each block: set, read, cleared.
-use mathlib.Core.Path.{_≡_, sym, ap, _∙_, fun-ext}
-use mathlib.Core.Logic.{_⊎_, inl, inr, ⊎-elim}
-use mathlib.Core.Bool.{Bool, false, _||_}
-use Prim.Native.Nat.{ℕ, suc, _+_, _-_, _/_, _%_, _^_, _≤_, _<_, max}
-use native.Mathlib.Nat.{div-eq-of-lt, div-self, zero-div, pow-suc, mul-mod-left}
-use native.Mathlib.Omega.{arith}
-use mathlib.Core.List.{List}
-use lib.ListN.{length, getD, set, replicate, length-set, length-replicate, getD-replicate}
-use lib.Seq.{getD-set-same, getD-set-other}
-use lib.Dec.{eqb, ltb}
-use lib.Pow.{pow-pos, pow-lt, pow-add, shl-shr}
-use lib.Bits.{bitOr, or-step, or-shr}
-use borrow.Author.Tests.{eq-eqb, ne-eqb, ltb-true, ltb-false}
+use Rattle.basics.proofs.Kit.{_≡_, sym, ap, _∙_, fun-ext, ⊎-elim, _⊎_, inl, inr, Bool, false, _||_, List, ℕ, suc, _+_, _%_, _^_, _≤_, _<_, _/_, _-_, max, pow-suc, div-eq-of-lt, div-self}
+use Rattle.basics.proofs.Kit.{zero-div, mul-mod-left, pow-pos, pow-add, pow-lt, shl-shr, bitOr, or-step, or-shr, eqb, ltb, length, getD, set, length-set, length-replicate, replicate}
+use Rattle.basics.proofs.Kit.{getD-replicate, getD-set-same, getD-set-other, eq-eqb, ne-eqb, ltb-true, ltb-false, arith}
 use Rattle.basics.proofs.Facts.{by}
 use Rattle.memory_bytes.specs.Bytes.{Wrote}
 use Rattle.memory_bytes.proofs.Columns.{lt-or-ge}

@@ -1,13 +1,7 @@
 -- Nested pages over flat rows: in parts, and with entries and their rows exchanged.
-use mathlib.Core.Path.{_≡_, refl, sym, ap, _∙_}
-use mathlib.Core.Bool.{true}
-use Prim.Native.Nat.{ℕ, zero, suc, _+_, _-_, _≤_, _<_}
-use native.Mathlib.Omega.{arith}
-use native.Mathlib.Nat.{zero-add, suc-add}
-use mathlib.Core.List.{List, [], _∷_, _++_, append-assoc}
-use lib.ListN.{length, take, drop, getD, set, length-drop, take-append-drop}
-use lib.Seq.{take-append-le, drop-append-le, take-take, drop-drop, take-add, drop-nil, take-nil, length-take-le, set-split}
-use borrow.Author.Tests.{leb-true, le-leb}
+use Rattle.basics.proofs.Kit.{_≡_, refl, sym, ap, _∙_, true, List, [], _∷_, _++_, append-assoc, ℕ, suc, _+_, _≤_, _<_, zero, _-_, zero-add, suc-add, length, take, drop, getD, set}
+use Rattle.basics.proofs.Kit.{length-drop, take-append-drop, set-split, drop-drop, take-add, take-append-le, drop-append-le, length-take-le, take-nil, take-take, drop-nil, le-leb, leb-true}
+use Rattle.basics.proofs.Kit.{arith}
 use Rattle.basics.specs.Basics.{all, sum}
 use Rattle.basics.proofs.Facts.{AllOf, and-true}
 use Rattle.model.specs.State.{Held, Page}

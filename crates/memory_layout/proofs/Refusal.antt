@@ -1,15 +1,6 @@
 -- The tests that decide whether the memory holds a store, and what they mean.
-use mathlib.Core.Path.{_≡_, refl, sym, ap, _∙_}
-use mathlib.Core.Logic.{⊎-elim}
-use mathlib.Core.Bool.{Bool, true, false, _&&_}
-use Prim.Native.Nat.{ℕ, zero, suc, _+_, _*_, _-_, _≤_, _<_}
-use native.Mathlib.Nat.{add-zero, zero-add}
-use native.Mathlib.Numerals.{add-one}
-use native.Mathlib.Omega.{arith}
-use mathlib.Core.List.{List, [], _∷_}
-use lib.ListN.{length}
-use lib.Dec.{leb, ltb, eqb}
-use borrow.Author.Tests.{le-leb, leb-true, lt-ltb, le-ltb, ltb-true, eq-eqb, lt-leb, ne-eqb}
+use Rattle.basics.proofs.Kit.{_≡_, refl, sym, ap, _∙_, ⊎-elim, Bool, true, false, _&&_, List, [], _∷_, ℕ, suc, _+_, _*_, _≤_, _<_, zero, _-_, add-one, add-zero, zero-add, leb, eqb, ltb}
+use Rattle.basics.proofs.Kit.{length, le-leb, leb-true, lt-ltb, le-ltb, lt-leb, eq-eqb, ne-eqb, ltb-true, arith}
 use Rattle.basics.specs.Basics.{if_then_else_, every, all, paired, from}
 use Rattle.basics.proofs.Facts.{and-true}
 use Rattle.basics.proofs.Ands.{and-yes, and-no, and-assoc}

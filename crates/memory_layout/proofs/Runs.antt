@@ -1,10 +1,5 @@
 -- Pages as runs of the rows: as many tuples are held as there are rows.
-use mathlib.Core.Path.{_≡_, refl, sym, _∙_}
-use Prim.Native.Nat.{ℕ}
-use native.Mathlib.Omega.{arith}
-use mathlib.Core.List.{List, [], _∷_, map}
-use lib.ListN.{length, take, drop, length-map, length-append, length-drop}
-use lib.Seq.{length-take-le}
+use Rattle.basics.proofs.Kit.{_≡_, refl, sym, _∙_, List, [], _∷_, map, length, take, drop, length-append, length-drop, length-map, length-take-le, arith}
 use Rattle.basics.specs.Basics.{sum}
 use Rattle.rows.specs.Rows.{rowsOf}
 use Rattle.image.proofs.Collect.{length-rows}

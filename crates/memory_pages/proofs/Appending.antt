@@ -1,11 +1,5 @@
 -- A page and a row behind all others: no row and no other page is moved.
-use mathlib.Core.Path.{_≡_, refl, sym, ap, _∙_}
-use mathlib.Core.Bool.{false}
-use mathlib.Core.List.{List, [], _∷_, _++_}
-use Prim.Native.Nat.{ℕ, _+_, _*_, _-_, _≤_, _<_}
-use native.Mathlib.Nat.{add-zero}
-use native.Mathlib.Omega.{arith}
-use lib.ListN.{length, getD, set}
+use Rattle.basics.proofs.Kit.{_≡_, refl, sym, ap, _∙_, false, List, [], _∷_, _++_, ℕ, _+_, _*_, _≤_, _<_, _-_, add-zero, length, getD, set, arith}
 use Rattle.memory_bytes.specs.Bytes.{bytes2, Wrote}
 use Rattle.memory_bytes.specs.Columns.{insertAt}
 use Rattle.memory_bytes.proofs.Bytes.{le2-cong, le4-cong}

@@ -1,15 +1,6 @@
 -- What the memory holds after each change of the pages.
-use mathlib.Core.Path.{_≡_, sym, ap, subst, _∙_}
-use mathlib.Core.Logic.{⊎-elim}
-use mathlib.Core.Bool.{Bool, true, false}
-use mathlib.Core.List.{List, _∷_, _++_}
-use Prim.Native.Nat.{ℕ, suc, _+_, _*_, _-_, _/_, _%_, _≤_, _<_}
-use native.Mathlib.Numerals.{add-one}
-use native.Mathlib.Omega.{arith}
-use lib.ListN.{length, take, drop, set}
-use lib.Dec.{eqb}
-use borrow.Author.Tests.{eq-eqb, ne-eqb}
-use lib.Seq.{set-split}
+use Rattle.basics.proofs.Kit.{_≡_, sym, ap, _∙_, subst, ⊎-elim, Bool, true, false, List, _∷_, _++_, ℕ, suc, _+_, _*_, _%_, _≤_, _<_, _/_, _-_, add-one, eqb, length, take, drop, set}
+use Rattle.basics.proofs.Kit.{set-split, eq-eqb, ne-eqb, arith}
 use Rattle.memory_bytes.specs.Bytes.{le2, bytes2, Wrote}
 use Rattle.memory_bytes.specs.Columns.{tab, insertAt, removeAt}
 use Rattle.memory_bytes.proofs.Bytes.{le2-below, le2-above, le2-wrote}

@@ -1,9 +1,5 @@
 -- What the bytes of the pages say after a number was put into a column or taken out, and after a page was opened or closed.
-use mathlib.Core.Path.{_≡_, sym, ap, _∙_}
-use mathlib.Core.Logic.{⊎-elim}
-use mathlib.Core.List.{List}
-use Prim.Native.Nat.{ℕ, suc, _+_, _*_, _≤_, _<_}
-use native.Mathlib.Omega.{arith}
+use Rattle.basics.proofs.Kit.{_≡_, sym, ap, _∙_, ⊎-elim, List, ℕ, suc, _+_, _*_, _≤_, _<_, arith}
 use Rattle.memory_bytes.specs.Bytes.{le2, bytes2, column2, Apart, Raised, Lowered, Wrote, Added}
 use Rattle.memory_bytes.proofs.Bytes.{le2-below, le2-above, le2-raised, le2-lowered, le2-wrote, le4-cong}
 use Rattle.memory_bytes.proofs.Columns.{lt-or-ge}

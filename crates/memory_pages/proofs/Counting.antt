@@ -1,12 +1,5 @@
 -- A count of the pages, turn by turn.
-use mathlib.Core.Path.{_≡_, sym, ap, _∙_}
-use mathlib.Core.Bool.{Bool, true, false, cond}
-use mathlib.Core.List.{List, [], _∷_}
-use Prim.Native.Nat.{ℕ, _+_, _≤_, _<_}
-use native.Mathlib.Omega.{arith}
-use native.Mathlib.Numerals.{add-one}
-use lib.ListN.{length, drop, getD, drop-of-length-le}
-use lib.Seq.{drop-cons}
+use Rattle.basics.proofs.Kit.{_≡_, sym, ap, _∙_, Bool, cond, List, _∷_, ℕ, _+_, _≤_, _<_, add-one, length, drop, getD, drop-of-length-le, drop-cons, arith}
 use Rattle.basics.specs.Basics.{if_then_else_, howMany}
 use Rattle.basics.proofs.Facts.{by}
 

@@ -1,11 +1,5 @@
 -- Tables and entries after a page was opened or closed.
-use mathlib.Core.Path.{_≡_, sym, ap, _∙_}
-use mathlib.Core.Logic.{⊎-elim}
-use mathlib.Core.List.{List}
-use Prim.Native.Nat.{ℕ, suc, _+_, _-_, _/_, _%_, _≤_, _<_}
-use native.Mathlib.Omega.{arith}
-use lib.ListN.{length}
-use lib.Dec.{eqb}
+use Rattle.basics.proofs.Kit.{_≡_, sym, ap, _∙_, ⊎-elim, List, ℕ, suc, _+_, _%_, _≤_, _<_, _/_, _-_, eqb, length, arith}
 use Rattle.memory_bytes.proofs.Columns.{lt-or-ge}
 use Rattle.memory_layout.specs.Views.{pageCount, tableEnd, tableAt, startAt, blockWord, entryAt}
 use Rattle.memory_layout.specs.Flat.{flatOf, capacityOf, entryIn, Room}

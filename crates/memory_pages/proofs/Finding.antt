@@ -1,9 +1,5 @@
 -- The page that has a row, by a count of the pages that start at or before it.
-use mathlib.Core.Path.{_≡_, sym, ap, _∙_}
-use mathlib.Core.Logic.{⊎-elim}
-use mathlib.Core.List.{List}
-use Prim.Native.Nat.{ℕ, _+_, _-_, _≤_, _<_}
-use native.Mathlib.Omega.{arith}
+use Rattle.basics.proofs.Kit.{_≡_, sym, ap, _∙_, ⊎-elim, List, ℕ, _+_, _≤_, _<_, _-_, arith}
 use Rattle.basics.specs.Basics.{howMany}
 use Rattle.memory_bytes.specs.Bytes.{column2}
 use Rattle.memory_bytes.specs.Columns.{tab, upTo}

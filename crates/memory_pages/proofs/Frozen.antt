@@ -1,10 +1,5 @@
 -- The first frozen page, by the numbers of two bytes that name the pages' blocks.
-use mathlib.Core.Path.{_≡_, refl, sym, ap, _∙_}
-use mathlib.Core.Bool.{Bool, cond}
-use mathlib.Core.List.{List}
-use Prim.Native.Nat.{ℕ, zero, suc, _+_, _*_, _-_, _≤_}
-use lib.ListN.{length}
-use native.Mathlib.Omega.{arith}
+use Rattle.basics.proofs.Kit.{_≡_, refl, ap, _∙_, cond, List, ℕ, suc, _+_, _*_, _≤_, zero, _-_, length, arith}
 use Rattle.memory_bytes.specs.Bytes.{column2}
 use Rattle.memory_bytes.specs.Columns.{tab, firstIndex}
 use Rattle.memory_layout.specs.Places.{blocksAt}

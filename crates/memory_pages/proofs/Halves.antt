@@ -1,12 +1,6 @@
 -- A page split and two pages joined: the first page leaves its block, then a page is opened or closed behind it.
-use mathlib.Core.Path.{_≡_, sym, ap, subst, _∙_}
-use mathlib.Core.Bool.{false}
-use mathlib.Core.List.{List, _∷_, _++_}
-use Prim.Native.Nat.{ℕ, suc, _+_, _-_, _<_}
-use native.Mathlib.Numerals.{add-one}
-use native.Mathlib.Omega.{arith}
-use lib.ListN.{length, take, drop, getD, set, length-set}
-use lib.Seq.{take-set-le, drop-set-lt, getD-set-same, getD-set-other}
+use Rattle.basics.proofs.Kit.{_≡_, sym, ap, _∙_, subst, false, List, _∷_, _++_, ℕ, suc, _+_, _<_, _-_, add-one, length, take, drop, getD, set, length-set, getD-set-same, getD-set-other}
+use Rattle.basics.proofs.Kit.{take-set-le, drop-set-lt, arith}
 use Rattle.memory_layout.specs.Views.{pageCount, tableAt, startAt}
 use Rattle.memory_layout.specs.Flat.{Flat, flatOf, capacityOf, entryIn, noEntry, Room, Becomes, withEntries}
 use Rattle.memory_layout.specs.Store.{total}

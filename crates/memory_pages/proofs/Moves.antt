@@ -1,12 +1,6 @@
 -- A row put in or taken out: the pages behind its page start one row later or earlier.
-use mathlib.Core.Path.{_≡_, sym, ap, _∙_}
-use mathlib.Core.Logic.{⊎-elim}
-use mathlib.Core.List.{List, _∷_, _++_}
-use Prim.Native.Nat.{ℕ, suc, _+_, _*_, _-_, _%_, _≤_, _<_}
-use native.Mathlib.Numerals.{add-one}
-use native.Mathlib.Omega.{arith}
-use lib.ListN.{length, take, drop, set, length-append, length-drop}
-use lib.Seq.{set-split, length-take-le}
+use Rattle.basics.proofs.Kit.{_≡_, sym, ap, _∙_, ⊎-elim, List, _∷_, _++_, ℕ, suc, _+_, _*_, _%_, _≤_, _<_, _-_, add-one, length, take, drop, set, length-append, length-drop, set-split}
+use Rattle.basics.proofs.Kit.{length-take-le, arith}
 use Rattle.memory_bytes.specs.Bytes.{le2, Added}
 use Rattle.memory_bytes.specs.Columns.{tab, removeAt}
 use Rattle.memory_bytes.proofs.Bytes.{le2-cong, le4-cong, le2-below, le2-above, le4-below}

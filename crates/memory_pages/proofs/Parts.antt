@@ -1,10 +1,5 @@
 -- From bytes to what the memory holds: a change of rows and pages that leaves the rest.
-use mathlib.Core.Path.{_≡_, sym, ap, _∙_}
-use mathlib.Core.List.{List, _++_}
-use Prim.Native.Nat.{ℕ, _+_, _*_, _-_, _≤_, _<_}
-use native.Mathlib.Nat.{zero-add}
-use native.Mathlib.Omega.{arith}
-use lib.ListN.{length, take, drop, getD}
+use Rattle.basics.proofs.Kit.{_≡_, sym, ap, _∙_, List, _++_, ℕ, _+_, _*_, _≤_, _<_, _-_, zero-add, length, take, drop, getD, arith}
 use Rattle.memory_bytes.specs.Bytes.{le4}
 use Rattle.memory_bytes.specs.Columns.{tab}
 use Rattle.memory_bytes.proofs.Columns.{tab-add, tab-cong, take-tab, drop-tab}

@@ -1,13 +1,5 @@
 -- What a memory with room is known to have, as numbers of its bytes, and an entry by its place.
-use mathlib.Core.Path.{_≡_, refl, ap, _∙_}
-use mathlib.Core.Logic.{⊎-elim}
-use mathlib.Core.List.{List}
-use Prim.Native.Nat.{ℕ, zero, suc, _+_, _*_, _-_, _/_, _%_, _≤_, _<_}
-use native.Mathlib.Nat.{add-zero, zero-add}
-use native.Mathlib.Omega.{arith}
-use lib.ListN.{length}
-use lib.Dec.{eqb}
-use borrow.Author.Tests.{lt-ltb, le-ltb}
+use Rattle.basics.proofs.Kit.{_≡_, refl, ap, _∙_, ⊎-elim, List, ℕ, suc, _+_, _*_, _%_, _≤_, _<_, zero, _/_, _-_, add-zero, zero-add, eqb, length, lt-ltb, le-ltb, arith}
 use Rattle.basics.specs.Basics.{if_then_else_}
 use Rattle.memory_bytes.specs.Bytes.{le2}
 use Rattle.memory_bytes.proofs.Columns.{lt-or-ge, getD-tab}

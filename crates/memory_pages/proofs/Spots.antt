@@ -1,14 +1,5 @@
 -- The pages and rows of a table are one run.
-use mathlib.Core.Path.{_≡_, refl, sym, ap, subst, _∙_}
-use mathlib.Core.Logic.{⊎-elim}
-use mathlib.Core.Bool.{Bool, true, false}
-use mathlib.Core.List.{List}
-use Prim.Native.Nat.{ℕ, zero, suc, _+_, _≤_, _<_}
-use native.Mathlib.Numerals.{add-one}
-use native.Mathlib.Omega.{arith}
-use lib.ListN.{length, getD}
-use lib.Dec.{leb}
-use borrow.Author.Tests.{le-leb, lt-leb}
+use Rattle.basics.proofs.Kit.{_≡_, refl, sym, ap, _∙_, subst, ⊎-elim, Bool, true, false, List, ℕ, suc, _+_, _≤_, _<_, zero, add-one, leb, length, getD, le-leb, lt-leb, arith}
 use Rattle.basics.proofs.Facts.{lie}
 use Rattle.memory_bytes.specs.Columns.{firstIndex}
 use Rattle.memory_bytes.proofs.Columns.{lt-or-ge}

@@ -1,13 +1,5 @@
 -- A page's table by the ends of the tables.
-use mathlib.Core.Path.{_≡_, refl, sym, ap, _∙_}
-use mathlib.Core.Logic.{⊎-elim}
-use mathlib.Core.Bool.{true, false}
-use mathlib.Core.List.{List}
-use Prim.Native.Nat.{ℕ, zero, suc, _+_, _-_, _≤_, _<_}
-use native.Mathlib.Omega.{arith}
-use lib.ListN.{length}
-use lib.Dec.{leb}
-use borrow.Author.Tests.{le-leb, lt-leb}
+use Rattle.basics.proofs.Kit.{_≡_, refl, sym, ap, _∙_, ⊎-elim, true, false, List, ℕ, suc, _+_, _≤_, _<_, zero, _-_, leb, length, le-leb, lt-leb, arith}
 use Rattle.basics.specs.Basics.{if_then_else_, howMany, from}
 use Rattle.memory_bytes.specs.Columns.{tab, upTo}
 use Rattle.memory_bytes.proofs.Columns.{lt-or-ge}

@@ -1,10 +1,5 @@
 -- What the head's numbers give, and a row by its bytes.
-use mathlib.Core.Path.{_≡_, refl, sym, ap, _∙_}
-use Prim.Native.Nat.{ℕ, _+_, _*_, _-_, _≤_, _<_}
-use native.Mathlib.Omega.{arith}
-use native.Mathlib.Nat.{zero-add}
-use mathlib.Core.List.{List}
-use lib.ListN.{length}
+use Rattle.basics.proofs.Kit.{_≡_, refl, sym, ap, _∙_, List, ℕ, _+_, _*_, _≤_, _<_, _-_, zero-add, length, arith}
 use Rattle.memory_bytes.specs.Columns.{tab, equals, Covers}
 use Rattle.memory_bytes.specs.Bytes.{le4, bytes, column4}
 use Rattle.memory_bytes.proofs.Columns.{getD-tab, tab-cong}

@@ -1,13 +1,6 @@
 -- A row behind all others, in the slot of its own index.
-use mathlib.Core.Path.{_≡_, refl, sym, ap, subst, _∙_}
-use mathlib.Core.Logic.{⊎-elim}
-use mathlib.Core.Bool.{false, _||_}
-use mathlib.Core.List.{List, [], _∷_, _++_}
-use Prim.Native.Nat.{ℕ, zero, suc, _+_, _*_, _≤_, _<_}
-use native.Mathlib.Omega.{arith}
-use lib.ListN.{length, drop, length-append}
-use lib.Seq.{take-length, drop-length}
-use borrow.Author.Tests.{ne-eqb}
+use Rattle.basics.proofs.Kit.{_≡_, refl, sym, ap, _∙_, subst, ⊎-elim, false, _||_, List, [], _∷_, _++_, ℕ, suc, _+_, _*_, _≤_, _<_, zero, length, drop, length-append, drop-length}
+use Rattle.basics.proofs.Kit.{take-length, ne-eqb, arith}
 use Rattle.basics.specs.Basics.{any}
 use Rattle.blocks.specs.Bytes.{ownerIs, flagsOf, ownerWord}
 use Rattle.memory_bytes.specs.Bytes.{bytes4, Wrote}

@@ -1,10 +1,5 @@
 -- Rows moved by eights: what a block of them becomes, and the turns of the two loops.
-use mathlib.Core.Path.{_≡_, sym, ap, subst, _∙_, refl}
-use mathlib.Core.Logic.{⊎-elim}
-use mathlib.Core.List.{List}
-use Prim.Native.Nat.{ℕ, _+_, _*_, _-_, _≤_, _<_}
-use native.Mathlib.Omega.{arith}
-use lib.ListN.{length, getD}
+use Rattle.basics.proofs.Kit.{_≡_, refl, ap, _∙_, subst, ⊎-elim, List, ℕ, _+_, _*_, _≤_, _<_, _-_, length, getD, arith}
 use Rattle.memory_bytes.specs.Bytes.{le2, le4, bytes, Apart, Wrote}
 use Rattle.memory_bytes.proofs.Bytes.{length-bytes, getD-bytes, le2-cong, le4-cong, le2-below, le2-above, le4-below, le4-above, bytes-above}
 use Rattle.memory_bytes.proofs.Columns.{lt-or-ge}

@@ -1,13 +1,5 @@
 -- One row exchanged by a change of its columns: another state, another pending operation.
-use mathlib.Core.Path.{_≡_, refl, sym, ap, _∙_}
-use mathlib.Core.Logic.{⊎-elim}
-use mathlib.Core.List.{List, [], _∷_}
-use Prim.Native.Nat.{ℕ, _+_, _*_, _/_, _%_, _≤_, _<_, min}
-use native.Mathlib.Omega.{arith}
-use lib.ListN.{length, getD}
-use lib.Dec.{eqb, ltb, leb}
-use mathlib.Core.Bool.{Bool}
-use borrow.Author.Tests.{le-ltb}
+use Rattle.basics.proofs.Kit.{_≡_, refl, sym, ap, _∙_, ⊎-elim, Bool, List, [], _∷_, ℕ, _+_, _*_, _%_, _≤_, _<_, _/_, min, leb, eqb, ltb, length, getD, le-ltb, arith}
 use Rattle.basics.specs.Basics.{if_then_else_}
 use Rattle.blocks.specs.Limits.{payloadLimit}
 use Rattle.blocks.specs.Tuple.{committed, tentative}

@@ -1,11 +1,5 @@
 -- The states of 16 rows, tested together.
-use mathlib.Core.Path.{_≡_, refl, sym, ap, ap₂, _∙_}
-use Prim.Native.Nat.{ℕ, zero, suc, _+_, _*_, _-_, _≤_, _<_}
-use native.Mathlib.Omega.{arith}
-use mathlib.Core.Bool.{Bool, _||_}
-use mathlib.Core.List.{List}
-use lib.Dec.{ltb}
-use lib.ListN.{length, take, drop, getD}
+use Rattle.basics.proofs.Kit.{_≡_, refl, sym, ap, _∙_, ap₂, Bool, _||_, List, ℕ, suc, _+_, _*_, _≤_, _<_, zero, _-_, ltb, length, take, drop, getD, arith}
 use Rattle.basics.specs.Basics.{if_then_else_, any}
 use Rattle.basics.proofs.Facts.{by}
 use Rattle.blocks.specs.Tuple.{isTentative}

@@ -1,14 +1,6 @@
 -- A row is put in or taken out: the rows are then the old list with one element more or less.
-use mathlib.Core.Path.{_≡_, sym, ap, _∙_}
-use mathlib.Core.Logic.{⊎-elim}
-use mathlib.Core.Bool.{Bool, true, false}
-use mathlib.Core.List.{List}
-use Prim.Native.Nat.{ℕ, suc, _+_, _*_, _-_, _%_, _≤_, _<_, min}
-use native.Mathlib.Nat.{zero-add, min-eq-left}
-use native.Mathlib.Omega.{arith}
-use lib.ListN.{length, getD}
-use lib.Dec.{eqb, ltb}
-use borrow.Author.Tests.{lt-ltb, eq-eqb}
+use Rattle.basics.proofs.Kit.{_≡_, sym, ap, _∙_, ⊎-elim, Bool, true, false, List, ℕ, suc, _+_, _*_, _%_, _≤_, _<_, _-_, min, zero-add, min-eq-left, eqb, ltb, length, getD, lt-ltb, eq-eqb}
+use Rattle.basics.proofs.Kit.{arith}
 use Rattle.basics.specs.Basics.{if_then_else_}
 use Rattle.blocks.specs.Limits.{payloadLimit}
 use Rattle.blocks.specs.Tuple.{Owner}

@@ -1,9 +1,5 @@
 -- Slots and columns of rows change, all other bytes are as they were.
-use mathlib.Core.Path.{_≡_, ap, _∙_}
-use Prim.Native.Nat.{ℕ, _+_, _*_, _≤_, _<_}
-use native.Mathlib.Omega.{arith}
-use mathlib.Core.List.{List}
-use lib.ListN.{length, getD}
+use Rattle.basics.proofs.Kit.{_≡_, ap, _∙_, List, ℕ, _+_, _*_, _≤_, _<_, length, getD, arith}
 use Rattle.model.specs.State.{Held}
 use Rattle.memory_bytes.specs.Bytes.{le4}
 use Rattle.memory_bytes.specs.Columns.{tab}

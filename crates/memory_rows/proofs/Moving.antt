@@ -1,10 +1,5 @@
 -- Cells of the columns after the moves and stores of an insert or a remove.
-use mathlib.Core.Path.{_≡_, sym, ap, _∙_}
-use mathlib.Core.Logic.{⊎-elim}
-use mathlib.Core.List.{List, [], _∷_}
-use Prim.Native.Nat.{ℕ, _+_, _*_, _-_, _≤_, _<_}
-use native.Mathlib.Omega.{arith}
-use lib.ListN.{length, getD}
+use Rattle.basics.proofs.Kit.{_≡_, sym, ap, _∙_, ⊎-elim, List, [], _∷_, ℕ, _+_, _*_, _≤_, _<_, _-_, length, getD, arith}
 use Rattle.memory_bytes.specs.Bytes.{le2, le4, bytes, bytes2, bytes4, Apart, Raised, Lowered, Wrote}
 use Rattle.memory_bytes.proofs.Bytes.{le2-below, le2-above, le4-below, le4-above, le2-raised, le4-raised, le2-lowered, le4-lowered, le2-wrote, le4-wrote, bytes-wrote}
 use Rattle.memory_bytes.proofs.Columns.{lt-or-ge}

@@ -1,12 +1,6 @@
 -- Which slots are taken, and that one is free as long as there are fewer rows than slots.
-use mathlib.Core.Path.{_≡_, refl, sym, ap, _∙_}
-use mathlib.Core.Bool.{Bool, true, false, _||_}
-use mathlib.Core.List.{List, [], _∷_}
-use Prim.Native.Nat.{ℕ, zero, suc, _-_, _%_, _≤_, _<_, zero-le}
-use native.Mathlib.Omega.{arith}
-use lib.ListN.{length}
-use lib.Dec.{eqb, ltb}
-use borrow.Author.Tests.{eqb-true, ne-eqb, ltb-false}
+use Rattle.basics.proofs.Kit.{_≡_, refl, sym, ap, _∙_, Bool, true, false, _||_, List, [], _∷_, ℕ, suc, _%_, _≤_, _<_, zero, _-_, zero-le, eqb, ltb, length, eqb-true, ne-eqb, ltb-false}
+use Rattle.basics.proofs.Kit.{arith}
 use Rattle.basics.specs.Basics.{if_then_else_, any}
 use Rattle.memory_bytes.specs.Bytes.{column2}
 use Rattle.memory_bytes.specs.Columns.{tab, equals, names}

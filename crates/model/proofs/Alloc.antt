@@ -1,10 +1,5 @@
 -- The block that a store takes: in range, free, and there while enough are free.
-use mathlib.Core.Path.{ap, _≡_, refl}
-use Prim.Native.Nat.{_-_, ℕ, _+_, zero, suc, _≤_, _<_}
-use native.Mathlib.Omega.{arith}
-use mathlib.Core.Bool.{Bool, false, not, true}
-use mathlib.Core.List.{_++_}
-use lib.Dec.{eqb}
+use Rattle.basics.proofs.Kit.{_≡_, refl, ap, Bool, true, false, not, _++_, ℕ, suc, _+_, _≤_, _<_, zero, _-_, eqb, arith}
 use Rattle.basics.specs.Basics.{from, first, howMany, if_then_else_}
 use Rattle.basics.proofs.Facts.{AllOf, by, by-option}
 use Rattle.model.specs.State.{Store}

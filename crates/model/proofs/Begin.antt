@@ -1,10 +1,5 @@
 -- An accepted begin keeps what holds, and its base is the store before it.
-use mathlib.Core.Path.{_≡_, subst, refl}
-use Prim.Native.Nat.{ℕ, suc}
-use native.Mathlib.Omega.{arith}
-use mathlib.Core.Bool.{false}
-use mathlib.Core.List.{List, map, [], _∷_}
-use lib.Dec.{eqb}
+use Rattle.basics.proofs.Kit.{_≡_, refl, subst, false, List, [], _∷_, map, ℕ, suc, eqb, arith}
 use Rattle.basics.specs.Basics.{if_then_else_}
 use Rattle.basics.proofs.Facts.{AllOf, by, lie}
 use Rattle.image.specs.View.{View}

@@ -1,12 +1,6 @@
 -- The blocks in use, the block last taken, and the books of a running checkpoint: an invariant of the store alone.
-use mathlib.Core.Path.{_≡_, refl, sym, _∙_, ap, subst, ap₂}
-use Prim.Native.Nat.{_-_, ℕ, _<_, _≤_, _+_, zero, suc, min}
-use native.Mathlib.Omega.{arith}
-use mathlib.Core.Bool.{false, true, Bool}
-use mathlib.Core.List.{List, [], _∷_, _++_, map, append-nil, tail}
-use mathlib.Core.Option.{none, some}
-use lib.Dec.{eqb, leb, ltb}
-use lib.ListN.{length, length-map, length-append}
+use Rattle.basics.proofs.Kit.{_≡_, refl, sym, ap, _∙_, subst, ap₂, Bool, true, false, some, none, List, [], _∷_, _++_, append-nil, map, tail, ℕ, suc, _+_, _≤_, _<_, zero, _-_, min, leb, eqb}
+use Rattle.basics.proofs.Kit.{ltb, length, length-append, length-map, arith}
 use Rattle.basics.specs.Basics.{isIn, any, if_then_else_, howMany, sum, distinct, first}
 use Rattle.basics.proofs.Facts.{by, AllOf, lie, by-option}
 use Rattle.blocks.specs.Limits.{mostNumber}

@@ -1,12 +1,6 @@
 -- Commit and abort by number, a form between the rules, which go by place, and what becomes of the rows (Fate): a plan of operations on tuples by
 -- number, made from the live rows. ByPlace shows that on tuples that rise and have distinct numbers it is the same.
-use mathlib.Core.Path.{_≡_, refl, ap, sym, _∙_}
-use Prim.Native.Nat.{ℕ, suc, _<_}
-use mathlib.Core.Bool.{Bool, true, false, not, _&&_}
-use mathlib.Core.List.{List, [], _∷_, _++_, map}
-use mathlib.Core.Option.{Option, none}
-use lib.Dec.{eqb}
-use lib.ListN.{length}
+use Rattle.basics.proofs.Kit.{_≡_, refl, sym, ap, _∙_, Bool, true, false, _&&_, not, none, Option, List, [], _∷_, _++_, map, ℕ, suc, _<_, eqb, length}
 use Rattle.basics.specs.Basics.{if_then_else_, any, keep, isEmpty}
 use Rattle.basics.proofs.Facts.{by}
 use Rattle.rows.specs.Rows.{Row, number, isOwn, isAt}

@@ -1,10 +1,5 @@
 -- On tuples that rise and have distinct numbers the runs are the keys, and commit and abort by place are commit and abort by number.
-use mathlib.Core.Path.{_≡_, refl, ap, sym, _∙_, subst}
-use Prim.Native.Nat.{ℕ, suc, _+_, _<_}
-use native.Mathlib.Omega.{arith}
-use mathlib.Core.List.{List, [], _∷_, _++_, map, append-nil}
-use mathlib.Core.Logic.{_≢_}
-use lib.ListN.{length, getD, length-map}
+use Rattle.basics.proofs.Kit.{_≡_, refl, sym, ap, _∙_, subst, _≢_, List, [], _∷_, _++_, append-nil, map, ℕ, suc, _+_, _<_, length, getD, length-map, arith}
 use Rattle.basics.specs.Basics.{keep}
 use Rattle.basics.proofs.Facts.{AllOf}
 use Rattle.rows.specs.Rows.{Row, isOwn}

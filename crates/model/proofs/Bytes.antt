@@ -1,12 +1,6 @@
 -- An image's bytes and its view: a block exchanged in the one is exchanged in the other; recovery of bytes is recovery of the view.
-use mathlib.Core.Path.{_≡_, refl, sym, ap, _∙_, subst, fun-ext}
-use Prim.Native.Nat.{ℕ, zero, suc, _+_, _-_, _*_, _/_, _%_, _≤_, _<_}
-use native.Mathlib.Omega.{arith}
-use mathlib.Core.Bool.{true, false, not}
-use mathlib.Core.List.{List, [], _++_}
-use lib.ListN.{length, take, drop, length-append, length-take, length-drop, take-append-drop}
-use lib.Seq.{take-at, drop-at, drop-append-le, take-append-le, drop-append-add, drop-drop}
-use lib.Dec.{eqb, leb, ltb}
+use Rattle.basics.proofs.Kit.{_≡_, refl, sym, ap, _∙_, subst, fun-ext, true, false, not, List, [], _++_, ℕ, suc, _+_, _*_, _%_, _≤_, _<_, zero, _/_, _-_, leb, eqb, ltb, length, take, drop}
+use Rattle.basics.proofs.Kit.{length-append, length-take, length-drop, take-append-drop, take-at, drop-drop, take-append-le, drop-append-add, drop-append-le, drop-at, arith}
 use Rattle.basics.specs.Basics.{if_then_else_, basics}
 use Rattle.basics.proofs.Facts.{by, lie, and-true}
 use Rattle.blocks.specs.Block.{Block, malformed, header, page, directory, encodeBlock}

@@ -1,11 +1,5 @@
 -- Every header has the capacity of the store: what is recovered has it too, wherever the stores are cut.
-use mathlib.Core.Path.{_≡_, refl, sym, ap, _∙_, subst}
-use Prim.Native.Nat.{ℕ, zero, suc, min}
-use mathlib.Core.Bool.{_&&_}
-use mathlib.Core.Option.{Option, none, some}
-use mathlib.Core.List.{List, [], _∷_, _++_, map}
-use lib.ListN.{length}
-use lib.Dec.{eqb, ltb}
+use Rattle.basics.proofs.Kit.{_≡_, refl, sym, ap, _∙_, subst, _&&_, some, none, Option, List, [], _∷_, _++_, map, ℕ, suc, zero, min, eqb, ltb, length}
 use Rattle.basics.specs.Basics.{if_then_else_, first}
 use Rattle.basics.proofs.Facts.{AllOf, by}
 use Rattle.blocks.specs.Block.{Block, malformed, header, page, directory}

@@ -1,12 +1,6 @@
 -- Operations by place at entry, carried out one after another, are the operations by number: what went since stood before.
-use mathlib.Core.Path.{_≡_, refl, ap, sym, _∙_, subst}
-use Prim.Native.Nat.{ℕ, suc, _+_, _-_, _<_, _≤_}
-use native.Mathlib.Omega.{arith}
-use mathlib.Core.List.{List, [], _∷_, _++_, map, append-assoc}
-use mathlib.Core.Logic.{_≢_, ⊎-elim}
-use lib.Dec.{eqb}
-use lib.ListN.{length, take, drop, getD, length-append, length-map, length-take, length-drop, take-append-drop}
-use lib.Seq.{drop-cons, drop-drop}
+use Rattle.basics.proofs.Kit.{_≡_, refl, sym, ap, _∙_, subst, ⊎-elim, _≢_, List, [], _∷_, _++_, append-assoc, map, ℕ, suc, _+_, _≤_, _<_, _-_, eqb, length, take, drop, getD, length-append}
+use Rattle.basics.proofs.Kit.{length-take, length-drop, take-append-drop, length-map, drop-drop, drop-cons, arith}
 use Rattle.basics.specs.Basics.{if_then_else_}
 use Rattle.basics.proofs.Facts.{by, AllOf}
 use Rattle.model.specs.State.{Page}

@@ -1,5 +1,5 @@
 -- The table of cases, by computation.
-use mathlib.Core.Path.{refl}
+use Rattle.basics.proofs.Kit.{refl}
 use Rattle.model.specs.Cases.{Cases, cases}
 
 pub cases-hold : Cases

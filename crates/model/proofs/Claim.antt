@@ -1,8 +1,5 @@
 -- The claims on views, with no assumption left.
-use mathlib.Core.Path.{_≡_, refl, _∙_}
-use Prim.Native.Nat.{_≤_}
-use mathlib.Core.Bool.{true}
-use mathlib.Core.List.{[], List, _∷_}
+use Rattle.basics.proofs.Kit.{_≡_, refl, _∙_, true, List, [], _∷_, _≤_}
 use Rattle.basics.proofs.Facts.{AllOf}
 use Rattle.image.specs.Stages.{holds}
 use Rattle.image.specs.View.{View}

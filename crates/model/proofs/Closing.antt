@@ -1,10 +1,5 @@
 -- Commit and abort keep what holds of the live rows.
-use mathlib.Core.Path.{_≡_, ap, refl, _∙_, ap₂, sym, subst}
-use Prim.Native.Nat.{ℕ, _+_}
-use mathlib.Core.Bool.{false, Bool, true, not}
-use mathlib.Core.List.{List, [], _∷_, _++_}
-use mathlib.Core.Option.{none, Option, some}
-use lib.Dec.{eqb}
+use Rattle.basics.proofs.Kit.{_≡_, refl, sym, ap, _∙_, subst, ap₂, Bool, true, false, not, some, none, Option, List, [], _∷_, _++_, ℕ, _+_, eqb}
 use Rattle.basics.specs.Basics.{howMany, keep, if_then_else_, last}
 use Rattle.basics.proofs.Facts.{AllOf, lie, by, and-true, by-option, never}
 use Rattle.blocks.specs.Tuple.{committed, tentative, Owner}

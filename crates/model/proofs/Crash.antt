@@ -1,10 +1,5 @@
 -- The claims over an invariant of the store alone: `Valid`, which every call keeps and which makes an idle store `Ready`.
-use mathlib.Core.Path.{_≡_, ap, subst, sym, refl, _∙_}
-use Prim.Native.Nat.{suc, ℕ, _≤_, zero, min}
-use mathlib.Core.Bool.{true, Bool, false, not}
-use mathlib.Core.List.{List, [], _++_, _∷_, map, append-nil}
-use lib.Dec.{eqb, ltb}
-use lib.ListN.{length}
+use Rattle.basics.proofs.Kit.{_≡_, refl, sym, ap, _∙_, subst, Bool, true, false, not, List, [], _∷_, _++_, append-nil, map, ℕ, suc, _≤_, zero, min, eqb, ltb, length}
 use Rattle.basics.specs.Basics.{if_then_else_, first}
 use Rattle.basics.proofs.Facts.{AllOf, by, by-option}
 use Rattle.blocks.specs.Block.{Block}

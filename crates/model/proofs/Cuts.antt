@@ -1,5 +1,5 @@
 -- One run with two checkpoints, cut at every store, by computation on the image's bytes.
-use mathlib.Core.Path.{refl}
+use Rattle.basics.proofs.Kit.{refl}
 use Rattle.model.specs.Cases.{Cuts, cases}
 
 pub cuts-hold : Cuts

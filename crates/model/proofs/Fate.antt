@@ -1,11 +1,5 @@
 -- Commit and abort on the live rows, in closed form: what becomes of each row.
-use mathlib.Core.Path.{_≡_, refl, ap, sym, _∙_, subst, ap₂}
-use Prim.Native.Nat.{ℕ}
-use mathlib.Core.Bool.{false, true, Bool, not, _&&_}
-use mathlib.Core.List.{List, [], _∷_, _++_, append-nil}
-use mathlib.Core.Logic.{_≢_}
-use mathlib.Core.Option.{Option, none, some}
-use lib.Dec.{eqb}
+use Rattle.basics.proofs.Kit.{_≡_, refl, sym, ap, _∙_, subst, ap₂, _≢_, Bool, true, false, _&&_, not, some, none, Option, List, [], _∷_, _++_, append-nil, ℕ, eqb}
 use Rattle.basics.specs.Basics.{if_then_else_, keep, any, last}
 use Rattle.basics.proofs.Facts.{by, AllOf, and-true, lie, by-option}
 use Rattle.rows.specs.Rows.{Row, number, isAt, isOwn}

@@ -1,12 +1,6 @@
 -- What an operation at a row does, on any pages: to its page, and to the list of all tuples.
-use mathlib.Core.Path.{_≡_, refl, ap, sym, _∙_, ap₂}
-use Prim.Native.Nat.{ℕ, zero, suc, _+_, _-_, _<_, _≤_}
-use native.Mathlib.Omega.{arith}
-use mathlib.Core.Bool.{Bool, true, false}
-use mathlib.Core.List.{List, [], _∷_, _++_, map, append-assoc}
-use mathlib.Core.Option.{Option, none, some}
-use lib.ListN.{length, take, drop, getD, set, length-append, length-map, length-set, take-append-drop}
-use lib.Seq.{drop-nil, set-append-left, set-getD}
+use Rattle.basics.proofs.Kit.{_≡_, refl, sym, ap, _∙_, ap₂, Bool, true, false, some, none, Option, List, [], _∷_, _++_, append-assoc, map, ℕ, suc, _+_, _≤_, _<_, zero, _-_, length, take}
+use Rattle.basics.proofs.Kit.{drop, getD, set, length-append, take-append-drop, length-set, length-map, set-getD, drop-nil, set-append-left, arith}
 use Rattle.basics.specs.Basics.{if_then_else_, isEmpty}
 use Rattle.basics.proofs.Facts.{by, lie}
 use Rattle.model.specs.State.{Pending, nothing, adding, committing, removing, Held, Page}

@@ -1,13 +1,6 @@
 -- What the running checkpoint will store of the frozen pages, in list order, is not touched by transactions; and each thaw
 -- takes the first of them away.
-use mathlib.Core.Path.{_≡_, refl, subst, sym, _∙_}
-use Prim.Native.Nat.{ℕ, zero, suc, _-_, _<_}
-use native.Mathlib.Omega.{arith}
-use mathlib.Core.Bool.{true, false}
-use mathlib.Core.List.{List, map, [], _∷_, _++_, append-nil, tail}
-use mathlib.Core.Option.{some, Option, none}
-use lib.Dec.{leb, eqb, ltb}
-use lib.ListN.{length}
+use Rattle.basics.proofs.Kit.{_≡_, refl, sym, _∙_, subst, true, false, some, none, Option, List, [], _∷_, _++_, append-nil, map, tail, ℕ, suc, _<_, zero, _-_, leb, eqb, ltb, length, arith}
 use Rattle.basics.specs.Basics.{if_then_else_, isEmpty, any, first}
 use Rattle.basics.proofs.Facts.{by, never, by-option, lie}
 use Rattle.blocks.specs.Tuple.{Tuple}

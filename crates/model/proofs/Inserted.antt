@@ -1,10 +1,5 @@
 -- Placing, on the live rows, in closed form.
-use mathlib.Core.Path.{_≡_, refl, _∙_, sym, ap}
-use Prim.Native.Nat.{suc, ℕ}
-use native.Mathlib.Omega.{arith}
-use mathlib.Core.Bool.{Bool, _||_, _&&_, true, false}
-use mathlib.Core.List.{List, [], _∷_, _++_}
-use lib.Dec.{ltb, eqb, leb}
+use Rattle.basics.proofs.Kit.{_≡_, refl, sym, ap, _∙_, Bool, true, false, _&&_, _||_, List, [], _∷_, _++_, ℕ, suc, leb, eqb, ltb, arith}
 use Rattle.basics.specs.Basics.{if_then_else_, howMany}
 use Rattle.basics.proofs.Facts.{by, AllOf}
 use Rattle.blocks.specs.Tuple.{Tuple}

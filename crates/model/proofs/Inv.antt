@@ -1,11 +1,5 @@
 -- What holds of the view, the store and its base at any moment between two block stores.
-use mathlib.Core.Path.{_≡_, refl}
-use Prim.Native.Nat.{ℕ, _<_, _≤_, suc}
-use native.Mathlib.Omega.{arith}
-use mathlib.Core.Bool.{Bool, not, _&&_, true, false}
-use mathlib.Core.List.{List, [], _∷_, _++_, map}
-use lib.Dec.{ltb, eqb}
-use lib.ListN.{length}
+use Rattle.basics.proofs.Kit.{_≡_, refl, Bool, true, false, _&&_, not, List, [], _∷_, _++_, map, ℕ, suc, _≤_, _<_, eqb, ltb, length, arith}
 use Rattle.basics.specs.Basics.{isEmpty, if_then_else_, isIn, any}
 use Rattle.basics.proofs.Facts.{lie, by, AllOf}
 use Rattle.blocks.specs.Block.{page, Block}

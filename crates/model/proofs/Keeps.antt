@@ -1,12 +1,6 @@
 -- Every call keeps the invariant.
-use mathlib.Core.Path.{ap, subst, sym, _≡_, refl, _∙_}
-use Prim.Native.Nat.{ℕ, _<_, _≤_, suc, zero, min}
-use native.Mathlib.Omega.{arith}
-use mathlib.Core.Bool.{false, Bool, true, not, _||_}
-use mathlib.Core.List.{List, _++_, _∷_, [], map}
-use mathlib.Core.Option.{some, Option, none}
-use lib.Dec.{ltb}
-use lib.ListN.{length, length-append, length-map}
+use Rattle.basics.proofs.Kit.{_≡_, refl, sym, ap, _∙_, subst, Bool, true, false, not, _||_, some, none, Option, List, [], _∷_, _++_, map, ℕ, suc, _≤_, _<_, zero, min, ltb, length}
+use Rattle.basics.proofs.Kit.{length-append, length-map, arith}
 use Rattle.basics.specs.Basics.{keep, if_then_else_, isIn, howMany, any, first, isEmpty, isSome, last}
 use Rattle.basics.proofs.Facts.{AllOf, lie, by, by-option}
 use Rattle.blocks.specs.Limits.{payloadLimit, mostNumber}

@@ -1,12 +1,6 @@
 -- The order of the rows held, runs as keys, the blocks that a checkpoint takes, the stores that are left, and run as steps.
-use mathlib.Core.Path.{subst, _≡_, sym, ap, refl, _∙_}
-use Prim.Native.Nat.{_+_, _<_, _≤_, suc, ℕ, _*_, zero}
-use native.Mathlib.Omega.{arith}
-use mathlib.Core.Bool.{true, false}
-use mathlib.Core.List.{List, _∷_, _++_, [], map}
-use mathlib.Core.Option.{Option, some, none}
-use lib.Dec.{ltb}
-use lib.ListN.{length, length-map, length-append}
+use Rattle.basics.proofs.Kit.{_≡_, refl, sym, ap, _∙_, subst, true, false, some, none, Option, List, [], _∷_, _++_, map, ℕ, suc, _+_, _*_, _≤_, _<_, zero, ltb, length, length-append}
+use Rattle.basics.proofs.Kit.{length-map, arith}
 use Rattle.basics.specs.Basics.{if_then_else_, howMany, first, keep}
 use Rattle.basics.proofs.Facts.{by, lie, AllOf}
 use Rattle.rows.specs.Rows.{Row, isOwn}

@@ -1,9 +1,5 @@
 -- The quoted line: a cut of an image's bytes is a cut of its view, and recovery of the one is recovery of the other.
-use mathlib.Core.Path.{_≡_, sym, ap, _∙_, subst}
-use Prim.Native.Nat.{ℕ, _+_, _*_, _≤_, _<_}
-use native.Mathlib.Omega.{arith}
-use mathlib.Core.List.{List, _∷_}
-use lib.ListN.{length}
+use Rattle.basics.proofs.Kit.{_≡_, sym, ap, _∙_, subst, List, _∷_, ℕ, _+_, _*_, _≤_, _<_, length, arith}
 use Rattle.basics.proofs.Facts.{AllOf}
 use Rattle.blocks.specs.Block.{encodeBlock}
 use Rattle.blocks.specs.Decode.{decodeBlock}

@@ -1,11 +1,5 @@
 -- The open transactions are listed each once, and each is 0 to 4,095.
-use mathlib.Core.Path.{_≡_, refl, ap, sym, subst, _∙_}
-use Prim.Native.Nat.{_≤_, ℕ, zero, suc, min}
-use native.Mathlib.Omega.{arith}
-use mathlib.Core.Bool.{true, false, not, Bool}
-use mathlib.Core.List.{List, _++_, _∷_, [], map}
-use mathlib.Core.Option.{Option, none, some}
-use lib.Dec.{eqb}
+use Rattle.basics.proofs.Kit.{_≡_, refl, sym, ap, _∙_, subst, Bool, true, false, not, some, none, Option, List, [], _∷_, _++_, map, ℕ, suc, _≤_, zero, min, eqb, arith}
 use Rattle.basics.specs.Basics.{distinct, isIn, any, keep, if_then_else_}
 use Rattle.basics.proofs.Facts.{AllOf, and-true, by, lie}
 use Rattle.blocks.specs.Tuple.{Owner, OwnerFits, Fits, committed, tentative}

@@ -1,12 +1,6 @@
 -- General lemmas: tests, properties of all elements and of all pairs, members, and the searches on lists.
-use mathlib.Core.Path.{_≡_, refl, sym, _∙_, ap, subst}
-use Prim.Native.Nat.{ℕ, _≤_, _<_, suc, zero, _+_}
-use native.Mathlib.Omega.{arith}
-use mathlib.Core.Bool.{true, Bool, false, not, _&&_, _||_}
-use mathlib.Core.List.{List, [], _∷_, map, _++_}
-use mathlib.Core.Option.{some, none}
-use lib.Dec.{T, eqb, eqb-refl, leb, le→leb, ltb}
-use lib.ListN.{take, drop, length, getD}
+use Rattle.basics.proofs.Kit.{_≡_, refl, sym, ap, _∙_, subst, Bool, true, false, _&&_, not, _||_, some, none, List, [], _∷_, _++_, map, ℕ, suc, _+_, _≤_, _<_, zero, leb, eqb, ltb, T}
+use Rattle.basics.proofs.Kit.{eqb-refl, le→leb, length, take, drop, getD, arith}
 use Rattle.basics.specs.Basics.{every, all, keep, if_then_else_, isEmpty, first, last, any, howMany, isIn}
 use Rattle.basics.proofs.Facts.{by, lie, AllOf, and-true, never, by-option}
 -- ---- tests

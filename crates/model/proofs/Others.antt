@@ -1,11 +1,6 @@
 -- An operation at a row leaves all other rows, on any pages.
-use mathlib.Core.Path.{_≡_, refl, ap, sym, _∙_, ap₂}
-use Prim.Native.Nat.{ℕ, zero, suc, _+_, _-_, _<_, _≤_}
-use native.Mathlib.Omega.{arith}
-use mathlib.Core.List.{List, [], _∷_, _++_, append-assoc}
-use lib.Dec.{ltb}
-use lib.ListN.{length, take, drop, length-append, length-map, length-take, length-drop, take-append-drop}
-use lib.Seq.{take-append-le, drop-append-le, take-append-add, drop-append-add, drop-drop, take-at, drop-at}
+use Rattle.basics.proofs.Kit.{_≡_, refl, sym, ap, _∙_, ap₂, List, [], _∷_, _++_, append-assoc, ℕ, suc, _+_, _≤_, _<_, zero, _-_, ltb, length, take, drop, length-append, length-take}
+use Rattle.basics.proofs.Kit.{length-drop, take-append-drop, length-map, take-at, drop-drop, take-append-add, take-append-le, drop-append-add, drop-append-le, drop-at, arith}
 use Rattle.basics.specs.Basics.{if_then_else_, isEmpty}
 use Rattle.basics.proofs.Facts.{by}
 use Rattle.model.specs.State.{Held, Page}

@@ -1,11 +1,5 @@
 -- The transactions of the tentative rows.
-use mathlib.Core.Path.{_≡_, ap, sym, _∙_, refl}
-use Prim.Native.Nat.{ℕ, _≤_, _<_, suc, min}
-use native.Mathlib.Omega.{arith}
-use mathlib.Core.Bool.{true, false, not}
-use mathlib.Core.List.{List, _∷_, [], _++_, map}
-use lib.Dec.{eqb}
-use lib.ListN.{length}
+use Rattle.basics.proofs.Kit.{_≡_, refl, sym, ap, _∙_, true, false, not, List, [], _∷_, _++_, map, ℕ, suc, _≤_, _<_, min, eqb, length, arith}
 use Rattle.basics.specs.Basics.{isIn, if_then_else_, any, distinct, keep, howMany}
 use Rattle.basics.proofs.Facts.{by, lie, AllOf, and-true}
 use Rattle.blocks.specs.Tuple.{tentative}

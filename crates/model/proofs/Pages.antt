@@ -1,11 +1,5 @@
 -- A property of pages that every fresh page has, and a frozen page whatever its tuples, is kept by the rules.
-use mathlib.Core.Path.{_≡_, subst, sym}
-use Prim.Native.Nat.{ℕ, _-_}
-use mathlib.Core.Bool.{true, Bool, false}
-use mathlib.Core.List.{List, map, [], _∷_, _++_}
-use mathlib.Core.Option.{some, Option, none}
-use lib.Dec.{eqb, ltb}
-use lib.ListN.{length}
+use Rattle.basics.proofs.Kit.{_≡_, sym, subst, Bool, true, false, some, none, Option, List, [], _∷_, _++_, map, ℕ, _-_, eqb, ltb, length}
 use Rattle.basics.specs.Basics.{if_then_else_, isEmpty, first, any}
 use Rattle.basics.proofs.Facts.{AllOf, by, never, by-option}
 use Rattle.blocks.specs.Tuple.{Tuple}

@@ -1,5 +1,5 @@
 -- The worked commits and aborts by place, by computation.
-use mathlib.Core.Path.{refl}
+use Rattle.basics.proofs.Kit.{refl}
 use Rattle.model.specs.PlaceCases.{PlaceCases, placeCases}
 
 pub place-cases-hold : PlaceCases

@@ -1,14 +1,6 @@
 -- An operation by number is the one at that number's place; and what operations by place do to all tuples held.
-use mathlib.Core.Path.{_≡_, refl, ap, sym, _∙_, ap₂}
-use Prim.Native.Nat.{ℕ, zero, suc, _+_, _-_, _<_, _≤_}
-use native.Mathlib.Omega.{arith}
-use mathlib.Core.Bool.{true, false}
-use mathlib.Core.List.{List, [], _∷_, _++_, map, append-assoc, append-nil}
-use mathlib.Core.Logic.{_⊎_, inl, inr, ⊎-elim}
-use mathlib.Core.Option.{Option, none, some}
-use lib.Dec.{eqb, ltb}
-use lib.ListN.{length, take, drop, length-map}
-use lib.Seq.{take-append-le, drop-append-le, take-append-add, drop-append-add, take-append-seam}
+use Rattle.basics.proofs.Kit.{_≡_, refl, sym, ap, _∙_, ap₂, ⊎-elim, _⊎_, inl, inr, true, false, some, none, Option, List, [], _∷_, _++_, append-assoc, append-nil, map, ℕ, suc, _+_, _≤_, _<_}
+use Rattle.basics.proofs.Kit.{zero, _-_, eqb, ltb, length, take, drop, length-map, take-append-add, take-append-le, take-append-seam, drop-append-add, drop-append-le, arith}
 use Rattle.basics.specs.Basics.{if_then_else_, any, isEmpty}
 use Rattle.basics.proofs.Lists.{map-append}
 use Rattle.basics.proofs.Facts.{by, lie}

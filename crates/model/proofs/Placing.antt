@@ -1,12 +1,5 @@
 -- Placing a tuple puts its row after all rows whose table and key are not above its own, and before all others.
-use mathlib.Core.Path.{_≡_, subst, refl, ap, _∙_, sym}
-use Prim.Native.Nat.{_≤_, _<_, ℕ, suc}
-use native.Mathlib.Omega.{arith}
-use mathlib.Core.Bool.{false}
-use mathlib.Core.List.{List, _++_, _∷_, [], append-assoc, map}
-use mathlib.Core.Option.{some, none}
-use lib.Dec.{leb, eqb, ltb}
-use lib.ListN.{length}
+use Rattle.basics.proofs.Kit.{_≡_, refl, sym, ap, _∙_, subst, false, some, none, List, [], _∷_, _++_, append-assoc, map, ℕ, suc, _≤_, _<_, leb, eqb, ltb, length, arith}
 use Rattle.basics.specs.Basics.{if_then_else_}
 use Rattle.basics.proofs.Facts.{AllOf, lie, never, by, by-option}
 use Rattle.blocks.specs.Tuple.{Tuple}

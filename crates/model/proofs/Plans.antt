@@ -1,14 +1,6 @@
 -- The plans by place are the plans by number, and their places rise.
-use mathlib.Core.Path.{_≡_, refl, ap, sym, _∙_, subst, ap₂}
-use Prim.Native.Nat.{ℕ, zero, suc, _+_, _<_, _≤_}
-use native.Mathlib.Omega.{arith}
-use mathlib.Core.List.{List, [], _∷_, _++_, map, append-assoc}
-use mathlib.Core.Logic.{_≢_}
-use mathlib.Core.Option.{Option, none, some, Option·map}
-use mathlib.Core.Bool.{Bool, true, false, not, _&&_}
-use lib.Dec.{eqb}
-use lib.ListN.{length, getD, length-append}
-use lib.Seq.{append-snoc, getD-append-seam}
+use Rattle.basics.proofs.Kit.{_≡_, refl, sym, ap, _∙_, subst, ap₂, _≢_, Bool, true, false, _&&_, not, some, none, Option, Option·map, List, [], _∷_, _++_, append-assoc, map, ℕ, suc, _+_}
+use Rattle.basics.proofs.Kit.{_≤_, _<_, zero, eqb, length, getD, length-append, append-snoc, getD-append-seam, arith}
 use Rattle.basics.specs.Basics.{if_then_else_, keep, any, last}
 use Rattle.basics.proofs.Lists.{map-append}
 use Rattle.basics.proofs.Facts.{by, lie, by-option, AllOf}

@@ -1,13 +1,6 @@
 -- Calls that make no store and touch no checkpoint: they change the next number, the pages and the open transactions only, and
 -- not what the frozen pages show.
-use mathlib.Core.Path.{_≡_, refl}
-use Prim.Native.Nat.{ℕ, _≤_}
-use native.Mathlib.Omega.{arith}
-use mathlib.Core.Bool.{false, Bool, true}
-use mathlib.Core.List.{List, [], _∷_}
-use mathlib.Core.Option.{none, Option, some}
-use lib.Dec.{ltb}
-use lib.ListN.{length}
+use Rattle.basics.proofs.Kit.{_≡_, refl, Bool, true, false, some, none, Option, List, [], _∷_, ℕ, _≤_, ltb, length, arith}
 use Rattle.basics.specs.Basics.{if_then_else_, sum, first}
 use Rattle.basics.proofs.Facts.{by, AllOf, lie, by-option}
 use Rattle.rows.specs.Rows.{Row}

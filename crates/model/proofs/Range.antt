@@ -1,12 +1,5 @@
 -- Calls with keys of 32 bits and payloads of bytes keep the fields of every tuple held in range.
-use mathlib.Core.Path.{subst, sym, _≡_}
-use Prim.Native.Nat.{_≤_, ℕ, _<_, zero, suc, min}
-use native.Mathlib.Omega.{arith}
-use mathlib.Core.Bool.{Bool, false, true}
-use mathlib.Core.List.{List, [], _∷_, _++_}
-use mathlib.Core.Option.{Option, none, some}
-use lib.Dec.{ltb}
-use lib.ListN.{length, length-map}
+use Rattle.basics.proofs.Kit.{_≡_, sym, subst, Bool, true, false, some, none, Option, List, [], _∷_, _++_, ℕ, suc, _≤_, _<_, zero, min, ltb, length, length-map, arith}
 use Rattle.basics.specs.Basics.{howMany, if_then_else_, first}
 use Rattle.basics.proofs.Facts.{by, AllOf, by-option}
 use Rattle.blocks.specs.Limits.{payloadLimit, recordSpace}

@@ -1,10 +1,5 @@
 -- Recovery taken apart: what it finds in the header, directory and page blocks, and that it looks at no other block.
-use mathlib.Core.Path.{_≡_, ap, refl, sym, _∙_}
-use Prim.Native.Nat.{_-_, ℕ}
-use native.Mathlib.Omega.{arith}
-use mathlib.Core.Bool.{true}
-use mathlib.Core.List.{List, [], _∷_, _++_}
-use mathlib.Core.Option.{some}
+use Rattle.basics.proofs.Kit.{_≡_, refl, sym, ap, _∙_, true, some, List, [], _∷_, _++_, ℕ, _-_, arith}
 use Rattle.basics.specs.Basics.{if_then_else_, isIn}
 use Rattle.basics.proofs.Facts.{by, by-option, AllOf}
 use Rattle.blocks.specs.Block.{page, header, directory, Block, malformed}

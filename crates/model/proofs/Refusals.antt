@@ -1,5 +1,5 @@
 -- The runs that meet the refusals of make and of the calls, by computation.
-use mathlib.Core.Path.{refl}
+use Rattle.basics.proofs.Kit.{refl}
 use Rattle.model.specs.Cases.{Refusals, cases}
 
 pub refusals-given : Refusals

@@ -1,9 +1,5 @@
 -- When a checkpoint's header has landed, its blocks are read as the store before its begin.
-use mathlib.Core.Path.{_≡_, subst, sym, ap, _∙_}
-use Prim.Native.Nat.{ℕ, _*_, _≤_, _<_}
-use mathlib.Core.Bool.{true, Bool}
-use mathlib.Core.List.{List, _++_, _∷_, [], map}
-use lib.ListN.{length}
+use Rattle.basics.proofs.Kit.{_≡_, sym, ap, _∙_, subst, Bool, true, List, [], _∷_, _++_, map, ℕ, _*_, _≤_, _<_, length}
 use Rattle.basics.specs.Basics.{if_then_else_}
 use Rattle.basics.proofs.Facts.{AllOf}
 use Rattle.blocks.specs.Block.{header, Block}

@@ -1,13 +1,5 @@
 -- The rows of the pages, held and live, as two images of one list of entries; and what each rule on pages does to them.
-use mathlib.Core.Path.{ap, _≡_, refl, _∙_, sym, subst}
-use Prim.Native.Nat.{ℕ, _<_, _≤_}
-use native.Mathlib.Omega.{arith}
-use mathlib.Core.Bool.{true, Bool, false}
-use mathlib.Core.List.{List, [], _∷_, _++_, map, append-assoc, append-nil}
-use mathlib.Core.Logic.{_≢_}
-use mathlib.Core.Option.{Option, none, some}
-use lib.Dec.{eqb}
-use lib.ListN.{length}
+use Rattle.basics.proofs.Kit.{_≡_, refl, sym, ap, _∙_, subst, _≢_, Bool, true, false, some, none, Option, List, [], _∷_, _++_, append-assoc, append-nil, map, ℕ, _≤_, _<_, eqb, length, arith}
 use Rattle.basics.specs.Basics.{if_then_else_, isEmpty, any}
 use Rattle.basics.proofs.Facts.{by, lie, and-true, AllOf}
 use Rattle.blocks.specs.Tuple.{Owner, committed, Tuple}

@@ -1,9 +1,5 @@
 -- Runs of neighbours of one key: on rising tuples a run has all live rows of its key.
-use mathlib.Core.Path.{_≡_, refl, ap, sym, _∙_, subst, ap₂}
-use Prim.Native.Nat.{ℕ, suc, _+_}
-use native.Mathlib.Omega.{arith}
-use mathlib.Core.List.{List, [], _∷_, _++_, map, append-assoc, append-nil}
-use mathlib.Core.Bool.{Bool, true, false}
+use Rattle.basics.proofs.Kit.{_≡_, refl, sym, ap, _∙_, subst, ap₂, Bool, true, false, List, [], _∷_, _++_, append-assoc, append-nil, map, ℕ, suc, _+_, arith}
 use Rattle.basics.specs.Basics.{if_then_else_, keep}
 use Rattle.basics.proofs.Lists.{map-append}
 use Rattle.basics.proofs.Facts.{by, lie, AllOf}

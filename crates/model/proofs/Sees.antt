@@ -1,12 +1,6 @@
 -- What a transaction sees after each call.
-use mathlib.Core.Path.{_≡_, sym, refl, ap, _∙_, ap₂, subst}
-use Prim.Native.Nat.{_≤_, suc, ℕ, zero, min}
-use native.Mathlib.Omega.{arith}
-use mathlib.Core.Bool.{not, false, true, Bool, _&&_}
-use mathlib.Core.List.{List, _∷_, [], _++_, append-nil}
-use mathlib.Core.Option.{none, some, Option}
-use lib.Dec.{ltb, eqb}
-use lib.ListN.{length}
+use Rattle.basics.proofs.Kit.{_≡_, refl, sym, ap, _∙_, subst, ap₂, Bool, true, false, _&&_, not, some, none, Option, List, [], _∷_, _++_, append-nil, ℕ, suc, _≤_, zero, min, eqb, ltb}
+use Rattle.basics.proofs.Kit.{length, arith}
 use Rattle.basics.specs.Basics.{if_then_else_, keep, last, first, isIn}
 use Rattle.basics.proofs.Facts.{by, lie, AllOf, by-option}
 use Rattle.blocks.specs.Tuple.{isTentative, Owner, committed, tentative}

@@ -1,12 +1,6 @@
 -- Every page that is not frozen is not empty, fits its block and has nothing pending; and every tuple has at most 53 bytes.
-use mathlib.Core.Path.{_≡_, ap, sym, _∙_, subst, refl}
-use Prim.Native.Nat.{_≤_, _<_, _-_, ℕ, zero, suc, _+_, _*_, min}
-use native.Mathlib.Omega.{arith}
-use mathlib.Core.Bool.{not, false, true, _&&_}
-use mathlib.Core.List.{List, map, [], _∷_, _++_}
-use mathlib.Core.Option.{some, Option, none}
-use lib.Dec.{leb, eqb, ltb}
-use lib.ListN.{length, take, drop, take-append-drop, length-take, length-drop, length-append, length-map}
+use Rattle.basics.proofs.Kit.{_≡_, refl, sym, ap, _∙_, subst, true, false, _&&_, not, some, none, Option, List, [], _∷_, _++_, map, ℕ, suc, _+_, _*_, _≤_, _<_, zero, _-_, min, leb, eqb, ltb}
+use Rattle.basics.proofs.Kit.{length, take, drop, length-append, length-take, length-drop, take-append-drop, length-map, arith}
 use Rattle.basics.specs.Basics.{sum, if_then_else_, isEmpty, any}
 use Rattle.basics.proofs.Facts.{AllOf, lie, by, never, by-option, and-true}
 use Rattle.blocks.specs.Tuple.{Tuple, size, ownerSize}

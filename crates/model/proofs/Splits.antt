@@ -1,12 +1,6 @@
 -- Splitting: the parts append to the whole, none is empty, and all fit; and where a tuple is placed on a page.
-use mathlib.Core.Path.{_≡_, refl, subst, sym}
-use Prim.Native.Nat.{_-_, ℕ, _<_, _*_, _+_, _≤_, zero, suc, min}
-use native.Mathlib.Omega.{arith}
-use mathlib.Core.Bool.{false, true}
-use mathlib.Core.List.{List, _∷_, [], _++_, append-assoc, append-nil}
-use mathlib.Core.Option.{none, some}
-use lib.Dec.{leb}
-use lib.ListN.{length, take, length-take, drop, length-drop, take-append-drop}
+use Rattle.basics.proofs.Kit.{_≡_, refl, sym, subst, true, false, some, none, List, [], _∷_, _++_, append-assoc, append-nil, ℕ, suc, _+_, _*_, _≤_, _<_, zero, _-_, min, leb, length, take}
+use Rattle.basics.proofs.Kit.{drop, length-take, length-drop, take-append-drop, arith}
 use Rattle.basics.specs.Basics.{if_then_else_, sum, isEmpty}
 use Rattle.basics.proofs.Facts.{by, AllOf, never, by-option}
 use Rattle.blocks.specs.Limits.{payloadLimit}

@@ -1,11 +1,5 @@
 -- A store just recovered.
-use mathlib.Core.Path.{_≡_, subst, refl, ap, sym, _∙_}
-use Prim.Native.Nat.{ℕ, _<_, _≤_, suc}
-use native.Mathlib.Omega.{arith}
-use mathlib.Core.Bool.{false, true, not, _&&_, Bool}
-use mathlib.Core.List.{List, [], _∷_, map, _++_}
-use mathlib.Core.Option.{some}
-use lib.Dec.{leb, ltb, eqb}
+use Rattle.basics.proofs.Kit.{_≡_, refl, sym, ap, _∙_, subst, Bool, true, false, _&&_, not, some, List, [], _∷_, _++_, map, ℕ, suc, _≤_, _<_, leb, eqb, ltb, arith}
 use Rattle.basics.specs.Basics.{isEmpty, if_then_else_, all, distinct, isIn, any, howMany}
 use Rattle.basics.proofs.Facts.{AllOf, never, by, by-option, and-true, lie}
 use Rattle.blocks.specs.Block.{page, Block, malformed, header, directory, InRange}

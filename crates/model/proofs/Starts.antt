@@ -1,11 +1,5 @@
 -- A store made or recovered is well formed, and every call keeps it so.
-use mathlib.Core.Path.{_≡_, refl, subst, sym}
-use Prim.Native.Nat.{ℕ, _≤_, _/_}
-use native.Mathlib.Omega.{arith}
-use mathlib.Core.Bool.{true}
-use mathlib.Core.List.{List, [], _∷_}
-use lib.Dec.{leb}
-use lib.ListN.{length}
+use Rattle.basics.proofs.Kit.{_≡_, refl, sym, subst, true, List, [], _∷_, ℕ, _≤_, _/_, leb, length, arith}
 use Rattle.basics.specs.Basics.{basics}
 use Rattle.basics.proofs.Facts.{lie, AllOf}
 use Rattle.blocks.specs.Tuple.{Fits}

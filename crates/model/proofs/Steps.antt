@@ -1,12 +1,6 @@
 -- One step of a running checkpoint keeps what holds, and writes a block whose fields are in range.
-use mathlib.Core.Path.{_≡_, ap, refl, _∙_, sym, subst, ap₂}
-use Prim.Native.Nat.{_<_, _≤_, suc, ℕ, zero, _*_, min}
-use native.Mathlib.Omega.{arith}
-use mathlib.Core.Bool.{true, false, Bool, not}
-use mathlib.Core.List.{List, [], _∷_, tail, map, _++_}
-use mathlib.Core.Option.{none, some}
-use lib.Dec.{eqb, ltb}
-use lib.ListN.{length, take, drop, length-take, length-map, getD}
+use Rattle.basics.proofs.Kit.{_≡_, refl, sym, ap, _∙_, subst, ap₂, Bool, true, false, not, some, none, List, [], _∷_, _++_, map, tail, ℕ, suc, _*_, _≤_, _<_, zero, min, eqb, ltb, length}
+use Rattle.basics.proofs.Kit.{take, drop, getD, length-take, length-map, arith}
 use Rattle.basics.specs.Basics.{if_then_else_, all, first, isIn, any, every}
 use Rattle.basics.proofs.Facts.{AllOf, lie, by}
 use Rattle.blocks.specs.Block.{page, Block, header, InRange, EntriesFit, directory}

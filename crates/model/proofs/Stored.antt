@@ -1,13 +1,6 @@
 -- The running checkpoint's entries, the base's pages and the blocks written: what holds all along, and what is read back at the end.
-use mathlib.Core.Path.{_≡_, _∙_, subst, refl}
-use Prim.Native.Nat.{_-_, ℕ, _<_, _≤_, _*_, _+_, suc, min}
-use native.Mathlib.Omega.{arith}
-use mathlib.Core.Bool.{false}
-use mathlib.Core.List.{List, [], _∷_, map, _++_}
-use mathlib.Core.Option.{some}
-use lib.Dec.{eqb}
-use lib.ListN.{take, drop, length, length-take, length-drop, take-append-drop}
-use lib.Seq.{drop-drop}
+use Rattle.basics.proofs.Kit.{_≡_, refl, _∙_, subst, false, some, List, [], _∷_, _++_, map, ℕ, suc, _+_, _*_, _≤_, _<_, _-_, min, eqb, length, take, drop, length-take, length-drop}
+use Rattle.basics.proofs.Kit.{take-append-drop, drop-drop, arith}
 use Rattle.basics.specs.Basics.{if_then_else_, isIn, isEmpty}
 use Rattle.basics.proofs.Facts.{by, AllOf}
 use Rattle.blocks.specs.Block.{Block, page, directory}

@@ -1,12 +1,5 @@
 -- A transaction's live rows are as many as the writes accepted since it opened: the count is kept from the calls and answers alone.
-use mathlib.Core.Path.{_≡_, refl, ap, _∙_, sym}
-use Prim.Native.Nat.{ℕ, suc, zero, min, _≤_}
-use native.Mathlib.Omega.{arith}
-use mathlib.Core.Bool.{not, Bool, false, true}
-use mathlib.Core.List.{List, [], _∷_, _++_}
-use mathlib.Core.Option.{none, Option, some}
-use lib.Dec.{eqb, ltb}
-use lib.ListN.{length}
+use Rattle.basics.proofs.Kit.{_≡_, refl, sym, ap, _∙_, Bool, true, false, not, some, none, Option, List, [], _∷_, _++_, ℕ, suc, _≤_, zero, min, eqb, ltb, length, arith}
 use Rattle.basics.specs.Basics.{if_then_else_, howMany, any, first, isIn}
 use Rattle.basics.proofs.Facts.{lie, by, AllOf, by-option, and-true}
 use Rattle.blocks.specs.Tuple.{tentative, committed, Owner}

@@ -1,10 +1,5 @@
 -- Recovery's tests on the rows say what the invariant says.
-use mathlib.Core.Path.{_≡_, sym, _∙_, refl, ap, ap₂}
-use Prim.Native.Nat.{suc, ℕ}
-use native.Mathlib.Omega.{arith}
-use mathlib.Core.Bool.{true, false, not}
-use mathlib.Core.List.{List, _∷_, [], map}
-use lib.Dec.{ltb, eqb}
+use Rattle.basics.proofs.Kit.{_≡_, refl, sym, ap, _∙_, ap₂, true, false, not, List, [], _∷_, map, ℕ, suc, eqb, ltb, arith}
 use Rattle.basics.specs.Basics.{if_then_else_, paired, keep, isIn, any, distinct}
 use Rattle.basics.proofs.Facts.{by, and-true, lie, AllOf}
 use Rattle.blocks.specs.Tuple.{Owner, committed, tentative}

@@ -1,13 +1,5 @@
 -- A total over the pages, to which a fresh page adds nothing and a frozen page the same whatever its tuples, is not raised by the rules.
-use mathlib.Core.Path.{_≡_, refl, subst, sym}
-use Prim.Native.Nat.{ℕ, _+_, _-_, _≤_}
-use native.Mathlib.Nat.{le-trans}
-use native.Mathlib.Omega.{arith}
-use mathlib.Core.Bool.{true, Bool, false}
-use mathlib.Core.List.{List, _∷_, [], _++_, map}
-use mathlib.Core.Option.{Option, some, none}
-use lib.Dec.{eqb, ltb}
-use lib.ListN.{length}
+use Rattle.basics.proofs.Kit.{_≡_, refl, sym, subst, Bool, true, false, some, none, Option, List, [], _∷_, _++_, map, ℕ, _+_, _≤_, _-_, le-trans, eqb, ltb, length, arith}
 use Rattle.basics.specs.Basics.{if_then_else_, sum, isEmpty, any}
 use Rattle.basics.proofs.Facts.{by, never, by-option}
 use Rattle.blocks.specs.Tuple.{Tuple}

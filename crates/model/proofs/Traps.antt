@@ -1,5 +1,5 @@
 -- The worked runs of where builds go astray, by computation.
-use mathlib.Core.Path.{refl}
+use Rattle.basics.proofs.Kit.{refl}
 use Rattle.model.specs.Cases.{Traps, cases}
 
 pub traps-avoided : Traps

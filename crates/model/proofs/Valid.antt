@@ -1,11 +1,5 @@
 -- The invariant of a store, and that placing a new tuple, commit and abort keep its parts.
-use mathlib.Core.Path.{ap, _≡_, refl, sym, ap₂, _∙_, subst}
-use Prim.Native.Nat.{ℕ, _<_, _≤_, suc}
-use native.Mathlib.Omega.{arith}
-use mathlib.Core.Bool.{true, _&&_, not, false}
-use mathlib.Core.List.{List, [], _++_, _∷_, append-nil}
-use lib.Dec.{eqb, ltb}
-use lib.ListN.{length}
+use Rattle.basics.proofs.Kit.{_≡_, refl, sym, ap, _∙_, subst, ap₂, true, false, _&&_, not, List, [], _∷_, _++_, append-nil, ℕ, suc, _≤_, _<_, eqb, ltb, length, arith}
 use Rattle.basics.specs.Basics.{isIn, keep, howMany, any, isEmpty}
 use Rattle.basics.proofs.Facts.{AllOf, by, lie}
 use Rattle.blocks.specs.Limits.{mostNumber}

@@ -1,9 +1,5 @@
 -- Images as views, that is what each block is: recovery, a cut and the claim on views, and what is said of every block written.
-use mathlib.Core.Path.{_≡_}
-use Prim.Native.Nat.{ℕ, _<_, _≤_}
-use mathlib.Core.Bool.{false}
-use mathlib.Core.List.{List, _∷_, []}
-use lib.Dec.{eqb}
+use Rattle.basics.proofs.Kit.{_≡_, false, List, [], _∷_, ℕ, _≤_, _<_, eqb}
 use Rattle.basics.specs.Basics.{if_then_else_}
 use Rattle.basics.proofs.Facts.{AllOf}
 use Rattle.blocks.specs.Block.{Block, page, header, malformed, InRange, directory}

@@ -1,11 +1,5 @@
 -- A store is well formed exactly if it has the invariants; so a store made or recovered is, and every call keeps it.
-use mathlib.Core.Path.{_≡_, refl, sym, subst, _∙_}
-use Prim.Native.Nat.{_-_, suc, _≤_, _<_, ℕ, _+_}
-use native.Mathlib.Omega.{arith}
-use mathlib.Core.Bool.{true, false, Bool, _||_}
-use mathlib.Core.List.{List, [], _∷_, map}
-use lib.Dec.{ltb, leb, eqb}
-use lib.ListN.{length, length-map}
+use Rattle.basics.proofs.Kit.{_≡_, refl, sym, _∙_, subst, Bool, true, false, _||_, List, [], _∷_, map, ℕ, suc, _+_, _≤_, _<_, _-_, leb, eqb, ltb, length, length-map, arith}
 use Rattle.basics.specs.Basics.{all, paired, any, howMany, if_then_else_, sum, every, isIn, distinct, isEmpty}
 use Rattle.basics.proofs.Facts.{by, and-true, AllOf, lie}
 use Rattle.blocks.specs.Tuple.{Fits, AllFit, Tuple, size, Owner, committed, tentative}

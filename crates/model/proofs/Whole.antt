@@ -1,11 +1,5 @@
 -- The invariant makes an idle store ready for a checkpoint, and a recovered store has it.
-use mathlib.Core.Path.{_≡_, refl, ap, _∙_, subst, sym}
-use Prim.Native.Nat.{ℕ, suc, _≤_, _+_, _<_}
-use native.Mathlib.Omega.{arith}
-use mathlib.Core.Bool.{false, true}
-use mathlib.Core.List.{List, [], _∷_, map}
-use lib.Dec.{leb}
-use lib.ListN.{length-map, length, length-append}
+use Rattle.basics.proofs.Kit.{_≡_, refl, sym, ap, _∙_, subst, true, false, List, [], _∷_, map, ℕ, suc, _+_, _≤_, _<_, leb, length, length-append, length-map, arith}
 use Rattle.basics.specs.Basics.{if_then_else_, all, isEmpty, any, isIn, every, distinct, sum, paired, howMany}
 use Rattle.basics.proofs.Facts.{AllOf, lie, by}
 use Rattle.blocks.specs.Block.{PageFits}

@@ -1,13 +1,5 @@
 -- What a header that passed its tests says.
-use mathlib.Core.Path.{_≡_, sym, ap, _∙_}
-use mathlib.Core.Bool.{Bool, true, false, not, _&&_}
-use mathlib.Core.List.{List}
-use Prim.Native.Nat.{ℕ, _+_, _-_, _/_, _≤_}
-use native.Mathlib.Omega.{arith}
-use lib.ListN.{take, drop, length-drop}
-use lib.Seq.{take-all}
-use lib.Dec.{eqb, leb}
-use borrow.Author.Tests.{eqb-true, leb-true, not-false}
+use Rattle.basics.proofs.Kit.{_≡_, sym, ap, _∙_, Bool, true, false, _&&_, not, List, ℕ, _+_, _≤_, _/_, _-_, leb, eqb, take, drop, length-drop, take-all, leb-true, eqb-true, not-false, arith}
 use Rattle.basics.specs.Basics.{all, every, distinct}
 use Rattle.basics.proofs.Facts.{and-true}
 use Rattle.blocks.specs.declared.Header.{Header}

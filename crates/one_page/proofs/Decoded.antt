@@ -1,14 +1,5 @@
 -- What a page that was read says of its bytes, and what its tests make of it.
-use mathlib.Core.Path.{_≡_, refl, sym, subst, _∙_}
-use mathlib.Core.Logic.{⊎-elim}
-use mathlib.Core.Bool.{true, false, not}
-use mathlib.Core.Option.{some}
-use mathlib.Core.List.{List, [], _∷_}
-use Prim.Native.Nat.{ℕ, suc, _-_}
-use native.Mathlib.Omega.{arith}
-use lib.ListN.{length, drop}
-use lib.Dec.{leb}
-use borrow.Author.Tests.{le-leb}
+use Rattle.basics.proofs.Kit.{_≡_, refl, sym, _∙_, subst, ⊎-elim, true, false, not, some, List, [], _∷_, ℕ, suc, _-_, leb, length, drop, le-leb, arith}
 use Rattle.basics.specs.Basics.{if_then_else_, all, every, isEmpty}
 use Rattle.blocks.specs.Tuple.{Tuple}
 use Rattle.blocks.specs.Block.{Block, malformed, header, page, directory}

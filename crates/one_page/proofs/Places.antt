@@ -1,13 +1,6 @@
 -- A record as a row, put into columns; and its delete mark.
-use mathlib.Core.Path.{_≡_, refl, sym, ap, _∙_}
-use mathlib.Core.Bool.{Bool, true, false, not}
-use mathlib.Core.List.{List, [], _∷_, _++_}
-use Prim.Native.Nat.{ℕ, zero, suc, _+_, _-_, _*_, _/_, _%_, _<_}
-use native.Mathlib.Omega.{arith}
-use lib.ListN.{length, set}
-use lib.Seq.{getD-set-same, getD-set-other}
-use lib.Dec.{leb, eqb}
-use borrow.Author.Tests.{ne-eqb}
+use Rattle.basics.proofs.Kit.{_≡_, refl, sym, ap, _∙_, Bool, true, false, not, List, [], _∷_, _++_, ℕ, suc, _+_, _*_, _%_, _<_, zero, _/_, _-_, leb, eqb, length, set, getD-set-same}
+use Rattle.basics.proofs.Kit.{getD-set-other, ne-eqb, arith}
 use mir.Val.{boolByte}
 use Rattle.basics.specs.Basics.{if_then_else_, isEmpty}
 use Rattle.blocks.specs.Tuple.{tentative, isTentative}

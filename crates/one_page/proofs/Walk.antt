@@ -1,9 +1,5 @@
 -- What a walk over a page's tuples makes of them: their marks tested, their rows put into columns.
-use mathlib.Core.Path.{_≡_, refl, sym, ap, _∙_}
-use mathlib.Core.Bool.{Bool, true, false}
-use mathlib.Core.List.{List, [], _∷_, _++_, map, append-assoc, append-nil}
-use Prim.Native.Nat.{ℕ, _+_, _-_, _<_}
-use lib.ListN.{length, take, drop, take-append-drop}
+use Rattle.basics.proofs.Kit.{_≡_, refl, sym, ap, _∙_, Bool, true, false, List, [], _∷_, _++_, append-assoc, append-nil, map, ℕ, _+_, _<_, _-_, length, take, drop, take-append-drop}
 use Rattle.basics.specs.Basics.{all}
 use Rattle.basics.proofs.Lists.{map-append}
 use Rattle.blocks.specs.Tuple.{Tuple}

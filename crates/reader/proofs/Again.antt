@@ -1,12 +1,6 @@
 -- A page is spelled again, record by record, as it is read.
-use mathlib.Core.Path.{_≡_, refl, sym, ap, _∙_}
-use mathlib.Core.Bool.{false}
-use mathlib.Core.Option.{Option, none, some, Option·map}
-use mathlib.Core.List.{List, [], _∷_, _++_, append-assoc, append-nil}
-use Prim.Native.Nat.{ℕ, suc, _+_, _-_, _≤_, _<_}
-use native.Mathlib.Omega.{arith}
-use lib.ListN.{length, drop, length-append, length-drop}
-use lib.Seq.{drop-drop}
+use Rattle.basics.proofs.Kit.{_≡_, refl, sym, ap, _∙_, false, some, none, Option, Option·map, List, [], _∷_, _++_, append-assoc, append-nil, ℕ, suc, _+_, _≤_, _<_, _-_, length, drop}
+use Rattle.basics.proofs.Kit.{length-append, length-drop, drop-drop, arith}
 use Rattle.basics.specs.Basics.{if_then_else_}
 use Rattle.bits.specs.Bits.{over, bitsIn, field}
 use Rattle.bits.proofs.Blocks.{field-lt}

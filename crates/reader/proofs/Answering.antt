@@ -1,11 +1,5 @@
 -- What reading a block answers, once its fields are read and spelled again.
-use mathlib.Core.Path.{_≡_}
-use mathlib.Core.Bool.{true, false}
-use mathlib.Core.Option.{none, some}
-use mathlib.Core.List.{List}
-use Prim.Native.Nat.{ℕ, _≤_, _<_}
-use lib.ListN.{length, take, drop}
-use borrow.Author.Tests.{le-leb, lt-leb, ne-eqb}
+use Rattle.basics.proofs.Kit.{_≡_, true, false, some, none, List, ℕ, _≤_, _<_, length, take, drop, le-leb, lt-leb, ne-eqb}
 use types.Run.{OneOf}
 use denote.Enum.Declared.{tagOf}
 use Rattle.basics.specs.Basics.{if_then_else_}

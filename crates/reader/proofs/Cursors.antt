@@ -1,13 +1,5 @@
 -- What the cursor finds at a place of a block.
-use mathlib.Core.Path.{_≡_, sym, ap, _∙_}
-use mathlib.Core.Bool.{Bool, true, false}
-use mathlib.Core.List.{List}
-use Prim.Native.Nat.{ℕ, _+_, _-_, _%_, _≤_, _<_}
-use native.Mathlib.Omega.{arith}
-use lib.ListN.{length, drop, getD, length-drop}
-use lib.Seq.{getD-drop}
-use lib.Dec.{ltb, leb}
-use borrow.Author.Tests.{le-leb, lt-leb}
+use Rattle.basics.proofs.Kit.{_≡_, sym, ap, _∙_, Bool, true, false, List, ℕ, _+_, _%_, _≤_, _<_, _-_, leb, ltb, length, drop, getD, length-drop, getD-drop, le-leb, lt-leb, arith}
 use Rattle.basics.specs.Basics.{if_then_else_}
 use Rattle.basics.proofs.Facts.{by}
 use Rattle.blocks.specs.Numbers.{num4}

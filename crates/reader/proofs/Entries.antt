@@ -1,11 +1,5 @@
 -- The entries of a directory, read one by one.
-use mathlib.Core.Path.{_≡_, sym, ap, _∙_}
-use mathlib.Core.List.{List, [], _∷_, _++_}
-use Prim.Native.Nat.{ℕ, zero, suc, _+_, _*_, _<_}
-use native.Mathlib.Omega.{arith}
-use native.Mathlib.Numerals.{add-one}
-use lib.ListN.{length, take, set}
-use lib.Seq.{take-suc-set}
+use Rattle.basics.proofs.Kit.{_≡_, sym, ap, _∙_, List, [], _∷_, _++_, ℕ, suc, _+_, _*_, _<_, zero, add-one, length, take, set, take-suc-set, arith}
 use Rattle.bits.specs.Bits.{bitsIn, field}
 use Rattle.blocks.specs.Decode.{readEntries}
 

@@ -1,11 +1,5 @@
 -- A block that is known to be a page: its fields are those of its head.
-use mathlib.Core.Path.{_≡_, refl, sym, ap, _∙_}
-use mathlib.Core.Bool.{Bool, true, false}
-use mathlib.Core.Option.{Option, none, some}
-use mathlib.Core.List.{List}
-use Prim.Native.Nat.{ℕ, zero, suc}
-use lib.ListN.{length, drop}
-use lib.Dec.{eqb, leb}
+use Rattle.basics.proofs.Kit.{_≡_, refl, sym, ap, _∙_, true, false, some, none, Option, List, ℕ, suc, zero, leb, eqb, length, drop}
 use Rattle.basics.specs.Basics.{if_then_else_}
 use Rattle.basics.proofs.Facts.{by, lie}
 use Rattle.blocks.specs.Limits.{entriesPerBlock}

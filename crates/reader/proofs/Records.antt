@@ -1,13 +1,5 @@
 -- The record that the cursor finds is the tuple that is read there.
-use mathlib.Core.Path.{_≡_, refl}
-use mathlib.Core.Bool.{true, false}
-use mathlib.Core.List.{List}
-use Prim.Native.Nat.{ℕ, _+_, _%_, _≤_}
-use native.Mathlib.Omega.{arith}
-use native.Mathlib.Nat.{add-assoc, add-zero}
-use lib.ListN.{length, drop, length-take, length-drop}
-use lib.Seq.{getD-drop, drop-drop}
-use lib.Dec.{ltb}
+use Rattle.basics.proofs.Kit.{_≡_, refl, true, false, List, ℕ, _+_, _%_, _≤_, add-zero, add-assoc, ltb, length, drop, length-take, length-drop, drop-drop, getD-drop, arith}
 use Rattle.basics.specs.Basics.{if_then_else_}
 use Rattle.basics.proofs.Facts.{by}
 use Rattle.blocks.specs.Numbers.{num4}

@@ -1,12 +1,5 @@
 -- The comparison of two lists from an index on: a turn of its loop.
-use mathlib.Core.Path.{_≡_, sym, ap, _∙_}
-use mathlib.Core.Bool.{Bool, true, _&&_}
-use mathlib.Core.List.{List}
-use Prim.Native.Nat.{ℕ, _+_, _≤_, _<_}
-use native.Mathlib.Numerals.{add-one}
-use lib.Dec.{eqb}
-use lib.ListN.{length, drop, getD, drop-of-length-le}
-use lib.Seq.{drop-cons}
+use Rattle.basics.proofs.Kit.{_≡_, sym, ap, _∙_, Bool, _&&_, List, ℕ, _+_, _≤_, _<_, add-one, eqb, length, drop, getD, drop-of-length-le, drop-cons}
 use Rattle.blocks.specs.Numbers.{same}
 use Rattle.basics.proofs.Ands.{and-yes, and-assoc}
 

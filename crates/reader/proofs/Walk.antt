@@ -1,12 +1,5 @@
 -- The cursor goes through a page: at each of its places it finds the record of the next tuple.
-use mathlib.Core.Path.{_≡_, sym, ap, _∙_}
-use mathlib.Core.Bool.{false}
-use mathlib.Core.Option.{none, some}
-use mathlib.Core.List.{List, [], _∷_, _++_}
-use Prim.Native.Nat.{ℕ, suc, _+_, _-_, _≤_, _<_}
-use native.Mathlib.Omega.{arith}
-use lib.ListN.{length, take, drop}
-use lib.Seq.{drop-drop, take-add}
+use Rattle.basics.proofs.Kit.{_≡_, sym, ap, _∙_, false, some, none, List, [], _∷_, _++_, ℕ, suc, _+_, _≤_, _<_, _-_, length, take, drop, drop-drop, take-add, arith}
 use Rattle.basics.specs.Basics.{if_then_else_}
 use Rattle.basics.proofs.Facts.{never}
 use Rattle.blocks.specs.Tuple.{Tuple}

@@ -1,10 +1,5 @@
 -- Rows without their payloads: what columns hold of rows, and the tests on them.
-use mathlib.Core.Path.{_≡_, refl}
-use mathlib.Core.Bool.{Bool, _&&_}
-use mathlib.Core.List.{List, [], _∷_, map}
-use Prim.Native.Nat.{ℕ, _+_, _-_, _*_, _/_, _%_}
-use lib.ListN.{length}
-use lib.Dec.{leb}
+use Rattle.basics.proofs.Kit.{_≡_, refl, Bool, _&&_, List, [], _∷_, map, ℕ, _-_, leb, length}
 use Rattle.basics.specs.Basics.{if_then_else_, all, every, paired, distinct}
 use Rattle.rows.specs.Rows.{Row, number, isAt, isLower, follows, startsWell, isBelow, statementOk, transactions, openLimit, markOk, rowsOk}
 use Rattle.rows.specs.Columns.{bare, columnsOk}

@@ -1,14 +1,6 @@
 -- The hash table: what `lastBy` finds, one step along a chain, and one more row linked.
-use mathlib.Core.Path.{_≡_, refl, sym, ap, _∙_}
-use mathlib.Core.Bool.{Bool, true, false, _&&_}
-use mathlib.Core.List.{List}
-use Prim.Native.Nat.{ℕ, zero, suc, _+_, _-_, _%_, _≤_, _<_}
-use native.Mathlib.Omega.{arith}
-use native.Mathlib.Numerals.{add-one}
-use lib.ListN.{length, getD, set, replicate, length-set, length-replicate, getD-replicate}
-use lib.Seq.{getD-set-same, getD-set-other}
-use lib.Dec.{eqb, ltb}
-use borrow.Author.Tests.{eqb-true, eqb-false, eq-eqb, ne-eqb, ltb-true, lt-ltb}
+use Rattle.basics.proofs.Kit.{_≡_, refl, sym, ap, _∙_, Bool, true, false, _&&_, List, ℕ, suc, _+_, _%_, _≤_, _<_, zero, _-_, add-one, eqb, ltb, length, getD, set, length-set}
+use Rattle.basics.proofs.Kit.{length-replicate, replicate, getD-replicate, getD-set-same, getD-set-other, lt-ltb, eqb-true, eq-eqb, ne-eqb, eqb-false, ltb-true, arith}
 use Rattle.basics.specs.Basics.{if_then_else_, all}
 use Rattle.basics.proofs.Facts.{by, lie, and-true}
 use Rattle.rows.specs.Columns.{tab}

@@ -1,12 +1,6 @@
 -- Where statements are in order, each transaction has one row of statement 0, so these rows count the transactions.
-use mathlib.Core.Path.{_≡_, refl, sym, ap, _∙_}
-use mathlib.Core.Bool.{Bool, true, false, not, _&&_}
-use mathlib.Core.List.{List, [], _∷_}
-use Prim.Native.Nat.{ℕ, zero, suc, _+_, _≤_, _<_}
-use native.Mathlib.Omega.{arith}
-use lib.ListN.{length, getD}
-use lib.Dec.{eqb}
-use borrow.Author.Tests.{eqb-true, eqb-false, eq-eqb, not-true}
+use Rattle.basics.proofs.Kit.{_≡_, refl, sym, ap, _∙_, Bool, true, false, _&&_, not, List, [], _∷_, ℕ, suc, _+_, _≤_, _<_, zero, eqb, length, getD, eqb-true, eq-eqb, eqb-false, not-true}
+use Rattle.basics.proofs.Kit.{arith}
 use Rattle.basics.specs.Basics.{if_then_else_, any, isIn, distinct}
 use Rattle.basics.proofs.Facts.{by, lie, and-true}
 use Rattle.blocks.specs.Tuple.{Owner, committed, tentative}

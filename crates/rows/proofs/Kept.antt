@@ -1,13 +1,6 @@
 -- Rows that are changed but for what a test looks at: the test answers the same. So the tests read columns with the others missing, and rows
 -- without payloads.
-use mathlib.Core.Path.{_≡_, refl, sym, ap, _∙_}
-use mathlib.Core.Bool.{Bool, false, _&&_}
-use mathlib.Core.List.{List, [], _∷_, map}
-use Prim.Native.Nat.{ℕ, zero, suc, _+_, _≤_}
-use native.Mathlib.Omega.{arith}
-use native.Mathlib.Numerals.{add-one}
-use lib.ListN.{length, take, getD}
-use lib.Dec.{ltb, leb}
+use Rattle.basics.proofs.Kit.{_≡_, refl, sym, ap, _∙_, Bool, false, _&&_, List, [], _∷_, map, ℕ, suc, _+_, _≤_, zero, add-one, leb, ltb, length, take, getD, arith}
 use Rattle.basics.specs.Basics.{if_then_else_, all, every, paired, howMany, distinct}
 use Rattle.blocks.specs.Tuple.{Owner, committed, tentative}
 use Rattle.rows.specs.Rows.{Row, number, isBy, isOwn, follows, startsWell, isBelow, earlierBy, statementIs, statementOk, transactions, openLimit}

@@ -1,13 +1,6 @@
 -- Numbers as keys: each is there once as a key if it is there once as a number.
-use mathlib.Core.Path.{_≡_, refl, sym, ap, _∙_}
-use mathlib.Core.Bool.{Bool, true, false, not}
-use mathlib.Core.List.{List, [], _∷_}
-use Prim.Native.Nat.{ℕ, zero, suc, _+_, _-_, _≤_, _<_}
-use native.Mathlib.Omega.{arith}
-use lib.ListN.{length, getD, set}
-use lib.Seq.{getD-set-same, getD-set-other}
-use lib.Dec.{eqb}
-use borrow.Author.Tests.{eqb-true, eqb-false, eq-eqb, ne-eqb, not-true}
+use Rattle.basics.proofs.Kit.{_≡_, refl, sym, ap, _∙_, Bool, true, false, not, List, [], _∷_, ℕ, suc, _+_, _≤_, _<_, zero, _-_, eqb, length, getD, set, getD-set-same, getD-set-other}
+use Rattle.basics.proofs.Kit.{eqb-true, eq-eqb, ne-eqb, eqb-false, not-true, arith}
 use Rattle.basics.specs.Basics.{all, isIn, distinct}
 use Rattle.basics.proofs.Facts.{by, lie, and-true}
 use Rattle.rows.specs.Columns.{tab}

@@ -1,13 +1,6 @@
 -- The tests of statements that the code makes are the definition's, and count the transactions.
-use mathlib.Core.Path.{_≡_, refl, sym, ap, _∙_}
-use mathlib.Core.Bool.{true, _&&_}
-use mathlib.Core.List.{List, []}
-use Prim.Native.Nat.{ℕ, zero, suc, _-_, _≤_, _<_}
-use native.Mathlib.Omega.{arith}
-use lib.ListN.{length, take, getD, length-take}
-use lib.Seq.{getD-take}
-use lib.Dec.{eqb, ltb}
-use borrow.Author.Tests.{eqb-true, eqb-false, eq-eqb, ne-eqb, lt-ltb, ltb-true}
+use Rattle.basics.proofs.Kit.{_≡_, refl, sym, ap, _∙_, true, _&&_, List, [], ℕ, suc, _≤_, _<_, zero, _-_, eqb, ltb, length, take, getD, length-take, getD-take, lt-ltb, eqb-true, eq-eqb}
+use Rattle.basics.proofs.Kit.{ne-eqb, eqb-false, ltb-true, arith}
 use Rattle.basics.specs.Basics.{if_then_else_, all, howMany, distinct}
 use Rattle.basics.proofs.Facts.{by, lie, and-true}
 use Rattle.rows.specs.Rows.{Row, number, isBy, isOwn, earlierBy, statementIs, statementOk}

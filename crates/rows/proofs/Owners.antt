@@ -1,10 +1,5 @@
 -- The transactions of a list of rows: those that have a row.
-use mathlib.Core.Path.{_≡_, refl, sym, ap, _∙_}
-use mathlib.Core.Bool.{Bool, true, _||_}
-use mathlib.Core.List.{List, [], _∷_}
-use Prim.Native.Nat.{ℕ}
-use lib.Dec.{eqb}
-use borrow.Author.Tests.{eqb-true, eqb-false, eq-eqb, ne-eqb}
+use Rattle.basics.proofs.Kit.{_≡_, refl, sym, ap, _∙_, Bool, true, _||_, List, [], _∷_, ℕ, eqb, eqb-true, eq-eqb, ne-eqb, eqb-false}
 use Rattle.basics.specs.Basics.{if_then_else_, any, isIn}
 use Rattle.basics.proofs.Facts.{by}
 use Rattle.blocks.specs.Tuple.{Owner, committed, tentative}

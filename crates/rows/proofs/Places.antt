@@ -1,12 +1,6 @@
 -- Places in order: what `follows` is where the place rises, stays or falls; the first row. A place is table and key in one number.
-use mathlib.Core.Path.{_≡_, refl, sym, _∙_}
-use mathlib.Core.Bool.{Bool, true, false, not, _&&_, _||_}
-use mathlib.Core.List.{List}
-use Prim.Native.Nat.{ℕ, suc, _+_, _-_, _/_, _%_, _≤_, _<_}
-use native.Mathlib.Omega.{arith}
-use lib.ListN.{getD}
-use lib.Dec.{eqb, ltb, leb}
-use borrow.Author.Tests.{eqb-true, eqb-false, lt-ltb, le-ltb, le-leb, lt-leb, eq-eqb, ne-eqb, not-true, not-false}
+use Rattle.basics.proofs.Kit.{_≡_, refl, sym, _∙_, Bool, true, false, _&&_, not, _||_, List, ℕ, suc, _+_, _%_, _≤_, _<_, _/_, _-_, leb, eqb, ltb, getD, le-leb, lt-ltb, le-ltb, lt-leb}
+use Rattle.basics.proofs.Kit.{eqb-true, eq-eqb, ne-eqb, eqb-false, not-true, not-false, arith}
 use Rattle.basics.specs.Basics.{if_then_else_, paired}
 use Rattle.basics.proofs.Facts.{by}
 use Rattle.blocks.specs.Tuple.{committed}

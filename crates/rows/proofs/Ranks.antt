@@ -1,13 +1,7 @@
 -- Statements by rising number: where each code is there once, and each statement but 0 has the one before it at a lower number, a row's statement is
 -- how many rows its transaction wrote before; and the other way round.
-use mathlib.Core.Path.{_≡_, refl, sym, ap, _∙_}
-use mathlib.Core.Bool.{Bool, true, not, _&&_}
-use mathlib.Core.List.{List}
-use Prim.Native.Nat.{ℕ, zero, suc, _+_, _-_, _/_, _%_, _≤_, _<_}
-use native.Mathlib.Omega.{arith}
-use lib.ListN.{getD}
-use lib.Dec.{eqb, ltb}
-use borrow.Author.Tests.{eqb-true, eqb-false, eq-eqb, ne-eqb, lt-ltb, le-ltb, not-true}
+use Rattle.basics.proofs.Kit.{_≡_, refl, sym, ap, _∙_, Bool, true, _&&_, not, List, ℕ, suc, _+_, _%_, _≤_, _<_, zero, _/_, _-_, eqb, ltb, getD, lt-ltb, le-ltb, eqb-true, eq-eqb, ne-eqb}
+use Rattle.basics.proofs.Kit.{eqb-false, not-true, arith}
 use Rattle.basics.proofs.Facts.{by, and-true}
 use Rattle.rows.proofs.Totals.{total, bit, bit-most, bit-true, true-bit, bit-suc, bit-none, bit-below, compared, total-le, total-same, total-sum, total-none, total-some, total-find, total-one}
 

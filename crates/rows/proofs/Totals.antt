@@ -1,11 +1,6 @@
 -- Sums over the first n indices.
-use mathlib.Core.Path.{_≡_, refl, ap}
-use mathlib.Core.Bool.{Bool, true, false, _&&_}
-use Prim.Native.Nat.{ℕ, zero, suc, _+_, _≤_, _<_}
-use native.Mathlib.Omega.{arith}
-use native.Mathlib.Numerals.{add-one}
-use lib.Dec.{eqb, ltb}
-use borrow.Author.Tests.{eqb-true, eqb-false, eq-eqb, ne-eqb, ltb-true, ltb-false, lt-ltb, le-ltb}
+use Rattle.basics.proofs.Kit.{_≡_, refl, ap, Bool, true, false, _&&_, ℕ, suc, _+_, _≤_, _<_, zero, add-one, eqb, ltb, lt-ltb, le-ltb, eqb-true, eq-eqb, ne-eqb, eqb-false, ltb-true}
+use Rattle.basics.proofs.Kit.{ltb-false, arith}
 use Rattle.basics.specs.Basics.{if_then_else_, howMany}
 use Rattle.basics.proofs.Facts.{by}
 use Rattle.rows.specs.Columns.{tab}

@@ -1,12 +1,5 @@
 -- One turn of each search and test along a list, whose head is known; and the lists' heads: what is left of a list, and a list by its index.
-use mathlib.Core.Path.{_≡_, refl, sym, ap, _∙_}
-use mathlib.Core.Bool.{Bool, true, false, _||_}
-use mathlib.Core.List.{List, [], _∷_}
-use Prim.Native.Nat.{ℕ, suc, _+_, _-_, _≤_, _<_}
-use native.Mathlib.Omega.{arith}
-use native.Mathlib.Numerals.{add-one}
-use lib.ListN.{length, drop, getD, drop-of-length-le}
-use lib.Seq.{drop-cons}
+use Rattle.basics.proofs.Kit.{_≡_, refl, sym, ap, _∙_, Bool, true, false, _||_, List, [], _∷_, ℕ, suc, _+_, _≤_, _<_, _-_, add-one, length, drop, getD, drop-of-length-le, drop-cons, arith}
 use Rattle.basics.specs.Basics.{if_then_else_, any, all, paired, howMany}
 use Rattle.basics.proofs.Facts.{by}
 use Rattle.rows.specs.Columns.{tab}

@@ -1,11 +1,5 @@
 -- A call that does what its contract says follows the rules: in memory and image.
-use mathlib.Core.Path.{_≡_, refl, sym, ap, _∙_}
-use mathlib.Core.Bool.{true, false}
-use mathlib.Core.Option.{some}
-use mathlib.Core.List.{List, [], _∷_}
-use Prim.Native.Nat.{ℕ, _*_}
-use lib.ListN.{length}
-use lib.Dec.{eqb}
+use Rattle.basics.proofs.Kit.{_≡_, refl, sym, ap, _∙_, true, false, some, List, [], ℕ, _*_, eqb, length}
 use Rattle.basics.proofs.Facts.{by}
 use Rattle.model.specs.State.{Store, Write, Answer, refused, done, count, filled, Outcome}
 use Rattle.model.specs.Calls.{Call, opens, inserts, replaces, deletes, commits, aborts, reads, lists, begins, steps, runs, call, Typed, AllTyped}

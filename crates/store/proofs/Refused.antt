@@ -1,12 +1,5 @@
 -- By the rules: a refused call changes nothing, no call changes the number of blocks, and only steps store blocks.
-use mathlib.Core.Path.{_≡_, refl, ap, _∙_}
-use mathlib.Core.Bool.{false}
-use mathlib.Core.Option.{Option, none, some}
-use mathlib.Core.List.{List, [], _∷_}
-use Prim.Native.Nat.{ℕ, zero, suc, _*_, min}
-use native.Mathlib.Omega.{arith}
-use lib.Dec.{ltb, eqb}
-use lib.ListN.{length}
+use Rattle.basics.proofs.Kit.{_≡_, refl, ap, _∙_, false, some, none, Option, List, [], _∷_, ℕ, suc, _*_, zero, min, eqb, ltb, length, arith}
 use Rattle.basics.specs.Basics.{if_then_else_, first}
 use Rattle.basics.proofs.Facts.{by}
 use Rattle.rows.specs.Rows.{Row}

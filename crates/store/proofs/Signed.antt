@@ -1,11 +1,7 @@
 -- Numbers with a sign: what C is answered.
-use mathlib.Core.Path.{_≡_, ap, _∙_}
-use Prim.Native.Nat.{ℕ, zero, suc, _≤_, _<_}
-use native.Mathlib.Omega.{arith}
-use lib.IntN.{ℤ, pos, negℤ, _-ℤ_, +ℤ-idl}
+use Rattle.basics.proofs.Kit.{_≡_, ap, _∙_, ℕ, suc, _≤_, _<_, zero, ℤ, pos, negℤ, _-ℤ_, +ℤ-idl, toZ-ofZ, toZ-pos, arith}
 use mir.Syntax.{w64}
 use mir.Val.{SFits, toZ, ofZ}
-use mir.Facts.{toZ-ofZ, toZ-pos}
 use Rattle.store.specs.Code.{whole}
 
 pub whole-low : (n : ℕ) → n < 9223372036854775808 → toZ w64 n ≡ pos (whole n)

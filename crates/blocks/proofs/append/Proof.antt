@@ -1,12 +1,7 @@
 -- `blocks::append` meets its contract.
-use mathlib.Core.Path.{_≡_}
-use mathlib.Core.List.{List}
-use Prim.Native.Nat.{ℕ}
-use native.Mathlib.Omega.{arith}
-use lib.ListN.{length}
+use Rattle.basics.proofs.Kit.{_≡_, List, ℕ, length, needs, arith}
 use Rattle.blocks.specs.Bytes.{payloadIn}
 use Rattle.blocks.proofs.Stores.{appended-tentative, appended-committed, size-tentative, size-committed, size-nine, length-part}
-use borrow.Author.Needs.{needs}
 use Rattle.blocks.proofs.append.Statement.{statement}
 use Rattle.blocks.proofs.append.Tie as tie
 

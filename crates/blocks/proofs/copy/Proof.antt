@@ -1,8 +1,5 @@
 -- `blocks::copy` meets its contract.
-use mathlib.Core.Path.{_≡_, refl, sym, _∙_}
-use Prim.Native.Nat.{_-_, _≤_}
-use native.Mathlib.Omega.{arith}
-use lib.ListN.{length, take, drop, length-set}
+use Rattle.basics.proofs.Kit.{_≡_, refl, sym, _∙_, _≤_, _-_, length, take, drop, length-set, arith}
 use Rattle.bits.specs.Bits.{over}
 use Rattle.bits.proofs.Lists.{over-nil}
 use Rattle.blocks.proofs.Stores.{copy-turn}

@@ -1,9 +1,5 @@
 -- `blocks::flags_of` meets its contract.
-use mathlib.Core.Path.{_≡_, ap}
-use mathlib.Core.Logic.{⊎-elim}
-use Prim.Native.Nat.{_+_, _*_}
-use native.Mathlib.Omega.{arith}
-use borrow.Author.Needs.{needs}
+use Rattle.basics.proofs.Kit.{_≡_, ap, ⊎-elim, _+_, _*_, needs, arith}
 use Rattle.blocks.specs.Block.{committedBit, markBit}
 use Rattle.blocks.specs.Bytes.{ownerIs, flagsOf}
 use Rattle.blocks.specs.declared.Owner.{Owner}

@@ -1,5 +1,5 @@
 -- `blocks::mark_of` meets its contract.
-use mathlib.Core.Path.{refl}
+use Rattle.basics.proofs.Kit.{refl}
 use Rattle.blocks.specs.Decode.{readMark}
 use Rattle.blocks.proofs.mark_of.Statement.{statement}
 use Rattle.blocks.proofs.mark_of.Tie as tie

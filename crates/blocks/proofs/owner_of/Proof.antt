@@ -1,5 +1,5 @@
 -- `blocks::owner_of` meets its contract.
-use borrow.Author.Tests.{lt-ltb, le-ltb}
+use Rattle.basics.proofs.Kit.{lt-ltb, le-ltb}
 use Rattle.basics.specs.Basics.{if_then_else_}
 use Rattle.blocks.specs.Decode.{readOwner}
 use Rattle.blocks.proofs.owner_of.Statement.{statement}

@@ -1,7 +1,6 @@
 -- `blocks::put1` meets its contract.
-use native.Mathlib.Omega.{arith}
+use Rattle.basics.proofs.Kit.{needs, arith}
 use Rattle.blocks.proofs.Stores.{set-over}
-use borrow.Author.Needs.{needs}
 use Rattle.blocks.proofs.put1.Statement.{statement}
 use Rattle.blocks.proofs.put1.Tie as tie
 

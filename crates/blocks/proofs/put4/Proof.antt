@@ -1,9 +1,7 @@
 -- `blocks::put4` meets its contract.
-use native.Mathlib.Omega.{arith}
-use lib.ListN.{length-set}
+use Rattle.basics.proofs.Kit.{length-set, needs, arith}
 use Rattle.blocks.specs.Numbers.{be4}
 use Rattle.blocks.proofs.Stores.{put-four}
-use borrow.Author.Needs.{needs}
 use Rattle.blocks.proofs.put4.Statement.{statement}
 use Rattle.blocks.proofs.put4.Tie as tie
 

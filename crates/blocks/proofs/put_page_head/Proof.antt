@@ -1,7 +1,6 @@
 -- `blocks::put_page_head` meets its contract.
-use native.Mathlib.Omega.{arith}
+use Rattle.basics.proofs.Kit.{needs, arith}
 use Rattle.blocks.proofs.Stores.{put-head}
-use borrow.Author.Needs.{needs}
 use Rattle.blocks.proofs.put_page_head.Statement.{statement}
 use Rattle.blocks.proofs.put_page_head.Tie as tie
 

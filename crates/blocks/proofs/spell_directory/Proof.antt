@@ -1,8 +1,5 @@
 -- `blocks::spell_directory` meets its contract.
-use mathlib.Core.Path.{_≡_, ap}
-use Prim.Native.Nat.{ℕ, _-_, _≤_, _<_}
-use native.Mathlib.Omega.{arith}
-use lib.ListN.{length, take, getD}
+use Rattle.basics.proofs.Kit.{_≡_, ap, ℕ, _≤_, _<_, _-_, length, take, getD, arith}
 use Rattle.bits.specs.Bits.{bitsIn}
 use Rattle.blocks.specs.Spell.{filled}
 use Rattle.blocks.proofs.Entries.{dirBits, head-filled, entry-filled, dir-done}

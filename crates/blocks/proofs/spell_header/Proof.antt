@@ -1,9 +1,7 @@
 -- `blocks::spell_header` meets its contract.
-use mathlib.Core.Path.{refl}
-use native.Mathlib.Omega.{arith}
+use Rattle.basics.proofs.Kit.{refl, needs, arith}
 use Rattle.blocks.specs.Block.{headerFields, encodeBlock}
 use Rattle.blocks.proofs.Spelled.{whole-block}
-use borrow.Author.Needs.{needs}
 use Rattle.blocks.proofs.spell_header.Statement.{statement}
 use Rattle.blocks.proofs.spell_header.Tie as tie
 

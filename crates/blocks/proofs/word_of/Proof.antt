@@ -1,7 +1,5 @@
 -- `blocks::word_of` meets its contract.
-use mathlib.Core.Path.{ap, sym, subst}
-use native.Mathlib.Omega.{arith}
-use borrow.Author.Needs.{needs}
+use Rattle.basics.proofs.Kit.{sym, ap, subst, needs, arith}
 use Rattle.blocks.specs.Tuple.{OwnerFits}
 use Rattle.blocks.specs.Bytes.{ownerIs, ownerWord}
 use Rattle.blocks.specs.declared.Owner.{Owner}

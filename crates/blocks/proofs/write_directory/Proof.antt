@@ -1,13 +1,7 @@
 -- `blocks::write_directory` meets its contract.
-use mathlib.Core.Path.{_≡_, ap, _∙_}
-use mathlib.Core.List.{List}
-use Prim.Native.Nat.{ℕ}
-use native.Mathlib.Omega.{arith}
-use lib.ListN.{length}
-use lib.Seq.{take-all}
+use Rattle.basics.proofs.Kit.{_≡_, ap, _∙_, List, ℕ, length, take-all, needs, arith}
 use Rattle.blocks.specs.Block.{directory, encodeBlock}
 use Rattle.blocks.proofs.Stores.{over-whole}
-use borrow.Author.Needs.{needs}
 use Rattle.blocks.proofs.write_directory.Statement.{statement}
 use Rattle.blocks.proofs.write_directory.Tie as tie
 

@@ -1,8 +1,6 @@
 -- `blocks::write_header` meets its contract.
-use mathlib.Core.Path.{_∙_}
-use native.Mathlib.Omega.{arith}
+use Rattle.basics.proofs.Kit.{_∙_, needs, arith}
 use Rattle.blocks.proofs.Stores.{over-whole}
-use borrow.Author.Needs.{needs}
 use Rattle.blocks.proofs.write_header.Statement.{statement}
 use Rattle.blocks.proofs.write_header.Tie as tie
 

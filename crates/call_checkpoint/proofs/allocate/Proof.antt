@@ -1,7 +1,5 @@
 -- `call_checkpoint::allocate` meets its contract.
-use mathlib.Core.Path.{ap, _∙_}
-use native.Mathlib.Omega.{arith}
-use borrow.Author.Needs.{needs}
+use Rattle.basics.proofs.Kit.{ap, _∙_, needs, arith}
 use Rattle.memory_layout.specs.declared.Head.{Head}
 use Rattle.memory_layout.specs.Flat.{flatOf}
 use Rattle.call_checkpoint.proofs.Tallies.{alloc-up, alloc-round, alloc-none, up-from, round-from}

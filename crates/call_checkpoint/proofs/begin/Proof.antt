@@ -1,11 +1,5 @@
 -- `call_checkpoint::begin` meets its contract.
-use mathlib.Core.Path.{_≡_, sym, ap, _∙_}
-use mathlib.Core.List.{List}
-use mathlib.Core.Bool.{true, false}
-use Prim.Native.Nat.{ℕ, _+_}
-use native.Mathlib.Omega.{arith}
-use borrow.Author.Tests.{not-true, not-false, leb-true, leb-false}
-use borrow.Author.Needs.{needs}
+use Rattle.basics.proofs.Kit.{_≡_, sym, ap, _∙_, true, false, List, ℕ, _+_, leb-true, not-true, not-false, leb-false, needs, arith}
 use Rattle.memory_layout.specs.declared.Head.{Head}
 use Rattle.memory_layout.specs.Store.{holdsStore, storeOf}
 use Rattle.memory_layout.specs.Flat.{flatOf}

@@ -1,9 +1,5 @@
 -- `call_checkpoint::block_named` meets its contract.
-use mathlib.Core.Path.{ap, _∙_}
-use Prim.Native.Nat.{ℕ, _-_}
-use native.Mathlib.Omega.{arith}
-use lib.ListN.{length, getD}
-use borrow.Author.Needs.{needs}
+use Rattle.basics.proofs.Kit.{ap, _∙_, ℕ, _-_, length, getD, needs, arith}
 use Rattle.memory_layout.specs.Flat.{flatOf}
 use Rattle.call_checkpoint.proofs.Tallies.{named-read, named-low, directory-low}
 use Rattle.call_checkpoint.proofs.Leaving.{named-count, page-block, directory-block}

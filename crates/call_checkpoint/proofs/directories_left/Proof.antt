@@ -1,7 +1,5 @@
 -- `call_checkpoint::directories_left` meets its contract.
-use mathlib.Core.Path.{ap}
-use native.Mathlib.Omega.{arith}
-use borrow.Author.Needs.{needs}
+use Rattle.basics.proofs.Kit.{ap, needs, arith}
 use Rattle.image.specs.Stages.{directoriesFor}
 use Rattle.call_checkpoint.proofs.Tallies.{sizes, named-read, directories-read}
 use Rattle.call_checkpoint.proofs.directories_left.Statement.{statement}

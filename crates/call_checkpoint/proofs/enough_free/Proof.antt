@@ -1,11 +1,5 @@
 -- `call_checkpoint::enough_free` meets its contract.
-use mathlib.Core.Path.{_≡_, sym, ap}
-use mathlib.Core.Bool.{Bool, not}
-use Prim.Native.Nat.{ℕ, _+_, _-_, _≤_}
-use native.Mathlib.Omega.{arith}
-use lib.Dec.{leb}
-use borrow.Author.Needs.{needs}
-use borrow.Author.Tests.{le-leb}
+use Rattle.basics.proofs.Kit.{_≡_, sym, ap, Bool, not, ℕ, _+_, _≤_, _-_, leb, le-leb, needs, arith}
 use Rattle.memory_layout.specs.declared.Head.{Head}
 use Rattle.memory_layout.specs.Flat.{Flat, flatOf}
 use Rattle.memory_layout.specs.Store.{storeOf}

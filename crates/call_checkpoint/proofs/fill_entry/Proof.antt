@@ -1,6 +1,5 @@
 -- `call_checkpoint::fill_entry` meets its contract.
-use native.Mathlib.Omega.{arith}
-use borrow.Author.Needs.{needs}
+use Rattle.basics.proofs.Kit.{needs, arith}
 use Rattle.call_checkpoint.proofs.Tallies.{named-read}
 use Rattle.call_checkpoint.proofs.Leaving.{fills-none, fills-at}
 use Rattle.call_checkpoint.proofs.fill_entry.Statement.{statement}

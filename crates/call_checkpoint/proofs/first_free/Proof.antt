@@ -1,8 +1,5 @@
 -- `call_checkpoint::first_free` meets its contract.
-use mathlib.Core.Path.{_≡_, refl, sym, _∙_}
-use Prim.Native.Nat.{_-_, _≤_}
-use native.Mathlib.Omega.{arith}
-use borrow.Author.Tests.{not-true, not-false}
+use Rattle.basics.proofs.Kit.{_≡_, refl, sym, _∙_, _≤_, _-_, not-true, not-false, arith}
 use Rattle.memory_layout.specs.Flat.{flatOf}
 use Rattle.call_checkpoint.specs.Counting.{freeFrom}
 use Rattle.call_checkpoint.proofs.Tallies.{free-hit, free-miss, free-end}

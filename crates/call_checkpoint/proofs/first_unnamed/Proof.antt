@@ -1,9 +1,5 @@
 -- `call_checkpoint::first_unnamed` meets its contract.
-use mathlib.Core.Path.{_≡_, sym, _∙_}
-use Prim.Native.Nat.{_-_}
-use native.Mathlib.Omega.{arith}
-use lib.ListN.{length}
-use borrow.Author.Needs.{needs}
+use Rattle.basics.proofs.Kit.{_≡_, sym, _∙_, _-_, length, needs, arith}
 use Rattle.memory_layout.specs.Flat.{flatOf}
 use Rattle.call_checkpoint.specs.Counting.{NamedBefore}
 use Rattle.call_checkpoint.proofs.Tallies.{sizes, named-read}

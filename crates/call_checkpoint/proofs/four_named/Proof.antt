@@ -1,6 +1,5 @@
 -- `call_checkpoint::four_named` meets its contract.
-use native.Mathlib.Omega.{arith}
-use borrow.Author.Needs.{needs}
+use Rattle.basics.proofs.Kit.{needs, arith}
 use Rattle.basics.specs.Basics.{all}
 use Rattle.basics.proofs.Ands.{and-yes, and-assoc}
 use Rattle.call_checkpoint.specs.Counting.{isNamed, fourNamed}

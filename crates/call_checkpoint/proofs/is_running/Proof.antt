@@ -1,10 +1,5 @@
 -- `call_checkpoint::is_running` meets its contract.
-use mathlib.Core.Path.{_≡_, sym, ap, _∙_}
-use mathlib.Core.Bool.{true}
-use native.Mathlib.Omega.{arith}
-use lib.Dec.{ltb}
-use borrow.Author.Tests.{ltb-true, ltb-false, not-true, not-false}
-use borrow.Author.Needs.{needs}
+use Rattle.basics.proofs.Kit.{_≡_, sym, ap, _∙_, true, ltb, not-true, not-false, ltb-true, ltb-false, needs, arith}
 use Rattle.memory_layout.specs.declared.Head.{Head}
 use Rattle.memory_layout.specs.Flat.{flatOf}
 use Rattle.basics.proofs.Facts.{by}

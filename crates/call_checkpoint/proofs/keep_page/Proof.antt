@@ -1,6 +1,5 @@
 -- `call_checkpoint::keep_page` meets its contract.
-use native.Mathlib.Omega.{arith}
-use borrow.Author.Needs.{needs}
+use Rattle.basics.proofs.Kit.{needs, arith}
 use Rattle.memory_layout.proofs.Laws.{holds-room}
 use Rattle.call_checkpoint.proofs.Leaving.{still-first, page-leads}
 use Rattle.call_checkpoint.proofs.keep_page.Statement.{statement}

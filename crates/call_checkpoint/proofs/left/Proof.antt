@@ -1,5 +1,5 @@
 -- `call_checkpoint::left` meets its contract.
-use native.Mathlib.Omega.{arith}
+use Rattle.basics.proofs.Kit.{arith}
 use Rattle.memory_layout.specs.Flat.{flatOf}
 use Rattle.memory_layout.proofs.Laws.{holds-room}
 use Rattle.call_checkpoint.proofs.Tallies.{frozen-few, left-is}

@@ -1,10 +1,5 @@
 -- `call_checkpoint::mark_named` meets its contract.
-use mathlib.Core.Path.{ap, _∙_}
-use mathlib.Core.List.{List}
-use Prim.Native.Nat.{ℕ, _-_}
-use native.Mathlib.Omega.{arith}
-use lib.ListN.{length, getD}
-use borrow.Author.Needs.{needs}
+use Rattle.basics.proofs.Kit.{ap, _∙_, List, ℕ, _-_, length, getD, needs, arith}
 use Rattle.memory_layout.specs.Flat.{flatOf}
 use Rattle.call_checkpoint.specs.Counting.{namedIn}
 use Rattle.call_checkpoint.proofs.Tallies.{sizes, named-read, directories-read}

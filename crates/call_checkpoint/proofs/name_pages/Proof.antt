@@ -1,7 +1,5 @@
 -- `call_checkpoint::name_pages` meets its contract.
-use Prim.Native.Nat.{_-_}
-use native.Mathlib.Omega.{arith}
-use borrow.Author.Needs.{needs}
+use Rattle.basics.proofs.Kit.{_-_, needs, arith}
 use Rattle.memory_layout.proofs.Laws.{holds-room}
 use Rattle.call_checkpoint.proofs.Tallies.{sizes, pages-read}
 use Rattle.call_checkpoint.proofs.Beginning.{Naming, naming-start, naming-in, naming-room, naming-low, naming-turn, naming-end}

@@ -1,8 +1,5 @@
 -- `call_checkpoint::named_fours` meets its contract.
-use Prim.Native.Nat.{_-_}
-use mathlib.Core.Path.{sym, _∙_}
-use native.Mathlib.Omega.{arith}
-use borrow.Author.Tests.{not-false}
+use Rattle.basics.proofs.Kit.{sym, _∙_, _-_, not-false, arith}
 use Rattle.memory_layout.specs.Flat.{flatOf}
 use Rattle.call_checkpoint.specs.Counting.{NamedBefore}
 use Rattle.call_checkpoint.proofs.Tallies.{sizes}

@@ -1,6 +1,5 @@
 -- `call_checkpoint::one_if` meets its contract.
-use mathlib.Core.Path.{sym, ap}
-use native.Mathlib.Omega.{arith}
+use Rattle.basics.proofs.Kit.{sym, ap, arith}
 use Rattle.call_checkpoint.specs.Counting.{oneIf}
 use Rattle.call_checkpoint.proofs.one_if.Statement.{statement}
 use Rattle.call_checkpoint.proofs.one_if.Tie as tie

@@ -1,10 +1,5 @@
 -- `call_checkpoint::run` meets its contract.
-use mathlib.Core.Path.{ap, _∙_}
-use mathlib.Core.List.{List}
-use Prim.Native.Nat.{ℕ, min}
-use native.Mathlib.Omega.{arith}
-use lib.ListN.{length}
-use borrow.Author.Needs.{needs}
+use Rattle.basics.proofs.Kit.{ap, _∙_, List, ℕ, min, length, needs, arith}
 use Rattle.model.specs.Checkpoint.{runCall}
 use Rattle.memory_layout.proofs.Laws.{holds-room}
 use Rattle.call_checkpoint.specs.Keeping.{Ready}

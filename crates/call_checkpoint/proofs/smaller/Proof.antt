@@ -1,5 +1,5 @@
 -- `call_checkpoint::smaller` meets its contract.
-use native.Mathlib.Omega.{arith}
+use Rattle.basics.proofs.Kit.{arith}
 use Rattle.call_checkpoint.proofs.smaller.Statement.{statement}
 use Rattle.call_checkpoint.proofs.smaller.Tie as tie
 

@@ -1,6 +1,5 @@
 -- `call_checkpoint::start` meets its contract.
-use mathlib.Core.Path.{refl, ap}
-use borrow.Author.Needs.{needs}
+use Rattle.basics.proofs.Kit.{refl, ap, needs}
 use Rattle.memory_layout.specs.Flat.{Flat}
 use Rattle.memory_layout.proofs.Laws.{holds-room}
 use Rattle.call_checkpoint.proofs.Beginning.{held-still, head-replaces, taken-low, begin-held, begin-leads}

@@ -1,9 +1,5 @@
 -- `call_checkpoint::step` meets its contract.
-use mathlib.Core.List.{List}
-use Prim.Native.Nat.{ℕ}
-use native.Mathlib.Omega.{arith}
-use lib.ListN.{length}
-use borrow.Author.Needs.{needs}
+use Rattle.basics.proofs.Kit.{List, ℕ, length, needs, arith}
 use Rattle.model.specs.Checkpoint.{stepCall}
 use Rattle.call_checkpoint.specs.Keeping.{Ready}
 use Rattle.call_checkpoint.proofs.Allotting.{left-is}

@@ -1,9 +1,5 @@
 -- `call_checkpoint::store_directory` meets its contract.
-use mathlib.Core.Path.{ap}
-use Prim.Native.Nat.{_+_}
-use native.Mathlib.Omega.{arith}
-use lib.ListN.{length-take, length-drop}
-use borrow.Author.Needs.{needs}
+use Rattle.basics.proofs.Kit.{ap, _+_, length-take, length-drop, needs, arith}
 use Rattle.allocator.specs.declared.Allocator.{Allocator}
 use Rattle.memory_layout.specs.Flat.{flatOf}
 use Rattle.memory_layout.specs.declared.Head.{Head}

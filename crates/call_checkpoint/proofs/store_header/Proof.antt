@@ -1,7 +1,5 @@
 -- `call_checkpoint::store_header` meets its contract.
-use native.Mathlib.Omega.{arith}
-use lib.ListN.{length-take}
-use borrow.Author.Needs.{needs}
+use Rattle.basics.proofs.Kit.{length-take, needs, arith}
 use Rattle.memory_layout.proofs.Laws.{holds-room}
 use Rattle.call_checkpoint.proofs.Allotting.{header-hands}
 use Rattle.call_checkpoint.proofs.Stepping.{front-is, header-does}

@@ -1,6 +1,5 @@
 -- `call_checkpoint::store_rest` meets its contract.
-use native.Mathlib.Omega.{arith}
-use borrow.Author.Needs.{needs}
+use Rattle.basics.proofs.Kit.{needs, arith}
 use Rattle.memory_layout.proofs.Laws.{holds-room}
 use Rattle.call_checkpoint.proofs.store_rest.Statement.{statement}
 use Rattle.call_checkpoint.proofs.store_rest.Tie as tie

@@ -1,7 +1,5 @@
 -- `call_checkpoint::take_block` meets its contract.
-use mathlib.Core.Path.{refl, ap}
-use native.Mathlib.Omega.{arith}
-use borrow.Author.Needs.{needs}
+use Rattle.basics.proofs.Kit.{refl, ap, needs, arith}
 use Rattle.memory_layout.specs.declared.Head.{Head}
 use Rattle.call_checkpoint.proofs.Leaving.{took}
 use Rattle.call_checkpoint.proofs.Beginning.{head-replaces}

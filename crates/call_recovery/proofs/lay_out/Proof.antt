@@ -7,12 +7,7 @@ use Rattle.naming.proofs.Heads.{used}
 use Rattle.image.specs.Stages.{numbersOf, directoryBlocks, blockOk}
 use Rattle.image.specs.View.{view}
 use Rattle.basics.specs.Basics.{all}
-use native.Mathlib.Omega.{arith}
-use lib.ListN.{take, length-take}
-use Prim.Native.Nat.{ℕ}
-use mathlib.Core.List.{List}
-use mathlib.Core.Path.{_≡_, sym, ap, _∙_}
-use borrow.Author.Needs.{needs}
+use Rattle.basics.proofs.Kit.{_≡_, sym, ap, _∙_, List, ℕ, take, length-take, needs, arith}
 use Rattle.call_recovery.proofs.lay_out.Statement.{statement}
 use Rattle.call_recovery.proofs.lay_out.Tie as tie
 

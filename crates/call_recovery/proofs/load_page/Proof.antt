@@ -6,9 +6,7 @@ use Rattle.image.specs.Stages.{StoredPage}
 use Rattle.reader.specs.Answers.{isPage}
 use Rattle.blocks.specs.Decode.{decodeBlock}
 use Rattle.blocks.specs.Block.{Block}
-use native.Mathlib.Omega.{arith}
-use mathlib.Core.Path.{sym, ap, subst, _∙_}
-use borrow.Author.Needs.{needs}
+use Rattle.basics.proofs.Kit.{sym, ap, _∙_, subst, needs, arith}
 use Rattle.call_recovery.proofs.load_page.Statement.{statement}
 use Rattle.call_recovery.proofs.load_page.Tie as tie
 

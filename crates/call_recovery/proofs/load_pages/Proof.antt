@@ -3,11 +3,8 @@ use Rattle.call_recovery.proofs.Naming.{named-below, all-pages, loading
 use Rattle.call_recovery.specs.Loading.{pagesAt, Loads}
 use Rattle.image.proofs.Collect.{within}
 use Rattle.image.specs.View.{view}
-use native.Mathlib.Omega.{arith}
-use lib.ListN.{length, take}
-use mathlib.Core.Path.{ap, _∙_}
+use Rattle.basics.proofs.Kit.{ap, _∙_, ℕ, _≤_, _<_, _-_, length, take, arith}
 use Rattle.reader.specs.Answers.{isPage}
-use Prim.Native.Nat.{ℕ, _-_, _≤_, _<_}
 use Rattle.call_recovery.proofs.load_pages.Statement.{statement}
 use Rattle.call_recovery.proofs.load_pages.Tie as tie
 

@@ -3,13 +3,8 @@ use Rattle.blocks.specs.Bytes.{tupleOf}
 use Rattle.model.specs.Rules.{calm}
 use Rattle.memory_rows.specs.Rows.{heldBy, RowFits}
 use Rattle.memory_rows.specs.declared.Row.{Row}
-use native.Mathlib.Omega.{arith}
-use lib.ListN.{take, drop, length-take}
-use Prim.Native.Nat.{ℕ, _+_, _-_}
-use mathlib.Core.List.{List}
-use mathlib.Core.Path.{_≡_, sym, ap, subst, _∙_}
+use Rattle.basics.proofs.Kit.{_≡_, sym, ap, _∙_, subst, List, ℕ, _+_, _-_, take, drop, length-take, needs, arith}
 use Rattle.call_recovery.proofs.Adding.{row-as}
-use borrow.Author.Needs.{needs}
 use Rattle.call_recovery.proofs.load_row.Statement.{statement}
 use Rattle.call_recovery.proofs.load_row.Tie as tie
 

@@ -8,11 +8,7 @@ use Rattle.reader.proofs.Records.{found-fits}
 use Rattle.blocks.proofs.Spelled.{all-bytes}
 use Rattle.blocks.specs.Tuple.{Tuple}
 use Rattle.blocks.specs.Decode.{decodeBlock}
-use native.Mathlib.Omega.{arith}
-use lib.ListN.{length, take}
-use Prim.Native.Nat.{_-_, _≤_, _<_}
-use mathlib.Core.List.{List, map}
-use mathlib.Core.Path.{refl, sym, subst, _∙_}
+use Rattle.basics.proofs.Kit.{refl, sym, _∙_, subst, List, map, _≤_, _<_, _-_, length, take, arith}
 use Rattle.call_recovery.proofs.load_rows.Statement.{statement}
 use Rattle.call_recovery.proofs.load_rows.Tie as tie
 

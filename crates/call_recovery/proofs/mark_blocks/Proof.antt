@@ -1,8 +1,6 @@
 -- `call_recovery::mark_blocks` meets its contract.
 use Rattle.call_recovery.proofs.Naming.{named-below, Marked, marking-start, marking-turn, marking-end}
-use native.Mathlib.Omega.{arith}
-use lib.ListN.{length, take}
-use Prim.Native.Nat.{_-_, _≤_, _<_}
+use Rattle.basics.proofs.Kit.{_≤_, _<_, _-_, length, take, arith}
 use Rattle.call_recovery.proofs.mark_blocks.Statement.{statement}
 use Rattle.call_recovery.proofs.mark_blocks.Tie as tie
 

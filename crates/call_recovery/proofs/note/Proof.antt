@@ -4,10 +4,7 @@ use Rattle.call_recovery.specs.Reopening.{noted}
 use Rattle.blocks.specs.Bytes.{ownerIs}
 use Rattle.blocks.specs.declared.Owner.{Owner}
 use Rattle.blocks.specs.Tuple.{OwnerFits}
-use native.Mathlib.Omega.{arith}
-use Prim.Native.Nat.{_<_}
-use mathlib.Core.Path.{ap, sym, subst}
-use borrow.Author.Needs.{needs}
+use Rattle.basics.proofs.Kit.{sym, ap, subst, _<_, needs, arith}
 use Rattle.call_recovery.proofs.note.Statement.{statement}
 use Rattle.call_recovery.proofs.note.Tie as tie
 

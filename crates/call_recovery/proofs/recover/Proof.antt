@@ -5,10 +5,7 @@ use Rattle.image.proofs.Staged.{passed-is, stage-refused, pages-refusal}
 use Rattle.image.specs.Whole.{headerStage}
 use Rattle.image.specs.Stages.{holds}
 use Rattle.image.specs.View.{view}
-use native.Mathlib.Omega.{arith}
-use lib.ListN.{take, length-take}
-use mathlib.Core.Path.{_≡_, sym, ap, _∙_}
-use borrow.Author.Needs.{needs}
+use Rattle.basics.proofs.Kit.{_≡_, sym, ap, _∙_, take, length-take, needs, arith}
 use Rattle.call_recovery.proofs.recover.Statement.{statement}
 use Rattle.call_recovery.proofs.recover.Tie as tie
 

@@ -1,6 +1,6 @@
 -- `call_recovery::reopen` meets its contract.
 use Rattle.call_recovery.proofs.Owning.{no-counts}
-use borrow.Author.Needs.{needs}
+use Rattle.basics.proofs.Kit.{needs}
 use Rattle.call_recovery.proofs.reopen.Statement.{statement}
 use Rattle.call_recovery.proofs.reopen.Tie as tie
 

@@ -3,11 +3,7 @@ use Rattle.call_recovery.proofs.Owning.{opened-settled, opened-other, o
 use Rattle.blocks.specs.Bytes.{ownerIs}
 use Rattle.blocks.specs.declared.Owner.{Owner}
 use Rattle.blocks.specs.Tuple.{OwnerFits}
-use native.Mathlib.Omega.{arith}
-use lib.ListN.{length}
-use Prim.Native.Nat.{_<_}
-use mathlib.Core.Path.{ap, subst}
-use borrow.Author.Needs.{needs}
+use Rattle.basics.proofs.Kit.{ap, subst, _<_, length, needs, arith}
 use Rattle.call_recovery.proofs.reopen_last.Statement.{statement}
 use Rattle.call_recovery.proofs.reopen_last.Tie as tie
 

@@ -3,10 +3,7 @@ use Rattle.call_recovery.proofs.Owning.{counts-sized, own-length, rows-
 use Rattle.call_recovery.proofs.Owning.{Reopened, reopened-start, same-rows, same-owner, reopened-turn, reopened-room, reopened-end}
 use Rattle.call_recovery.specs.Reopening.{ownRows, Counts}
 use Rattle.memory_layout.specs.Flat.{flatOf}
-use native.Mathlib.Omega.{arith}
-use lib.ListN.{length, take}
-use Prim.Native.Nat.{_+_, _-_, _<_}
-use mathlib.Core.Path.{_≡_, sym, _∙_}
+use Rattle.basics.proofs.Kit.{_≡_, sym, _∙_, _+_, _<_, _-_, length, take, arith}
 use Rattle.call_recovery.proofs.reopen_rows.Statement.{statement}
 use Rattle.call_recovery.proofs.reopen_rows.Tie as tie
 

@@ -1,6 +1,5 @@
 -- `call_transactions::abort` meets its contract.
-use Prim.Native.Nat.{ℕ}
-use borrow.Author.Needs.{needs}
+use Rattle.basics.proofs.Kit.{ℕ, needs}
 use Rattle.model.specs.Transactions.{notOpen}
 use Rattle.model.specs.Transactions.{abortCall}
 use Rattle.call_transactions.proofs.Closing.{abortedPages, is-abort, close-refused, close-done, closed-room}

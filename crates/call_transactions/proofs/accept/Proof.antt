@@ -1,5 +1,5 @@
 -- `call_transactions::accept` meets its contract.
-use borrow.Author.Needs.{needs}
+use Rattle.basics.proofs.Kit.{needs}
 use Rattle.memory_layout.proofs.Laws.{holds-room}
 use Rattle.call_transactions.proofs.Writing.{writer-at, place-at, accepted}
 use Rattle.call_transactions.proofs.accept.Statement.{statement}

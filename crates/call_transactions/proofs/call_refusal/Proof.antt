@@ -1,5 +1,5 @@
 -- `call_transactions::call_refusal` meets its contract.
-use borrow.Author.Needs.{needs}
+use Rattle.basics.proofs.Kit.{needs}
 use Rattle.call_transactions.proofs.Testing.{call-stopped, call-10, call-11, call-passed}
 use Rattle.call_transactions.proofs.call_refusal.Statement.{statement}
 use Rattle.call_transactions.proofs.call_refusal.Tie as tie

@@ -1,8 +1,5 @@
 -- `call_transactions::close` meets its contract.
-use mathlib.Core.Path.{_≡_, refl, _∙_}
-use Prim.Native.Nat.{_<_}
-use native.Mathlib.Omega.{arith}
-use lib.ListN.{length}
+use Rattle.basics.proofs.Kit.{_≡_, refl, _∙_, _<_, length, arith}
 use Rattle.memory_layout.specs.Flat.{flatOf}
 use Rattle.memory_layout.specs.Opens.{findOpen}
 use Rattle.call_transactions.proofs.Closing.{Closed, closed-start, closed-out, closed-end, removed-count}

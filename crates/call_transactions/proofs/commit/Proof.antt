@@ -1,6 +1,5 @@
 -- `call_transactions::commit` meets its contract.
-use Prim.Native.Nat.{ℕ}
-use borrow.Author.Needs.{needs}
+use Rattle.basics.proofs.Kit.{ℕ, needs}
 use Rattle.model.specs.Transactions.{notOpen}
 use Rattle.model.specs.Transactions.{commitCall}
 use Rattle.call_transactions.proofs.Closing.{committedPages, is-commit, close-refused, close-done, closed-room}

@@ -1,7 +1,5 @@
 -- `call_transactions::count_write` meets its contract.
-use mathlib.Core.Path.{_≡_, sym, ap, _∙_}
-use native.Mathlib.Omega.{arith}
-use borrow.Author.Needs.{needs}
+use Rattle.basics.proofs.Kit.{_≡_, sym, ap, _∙_, needs, arith}
 use Rattle.memory_layout.specs.declared.Head.{Head}
 use Rattle.call_transactions.specs.Calls.{oneMore}
 use Rattle.call_transactions.proofs.Writing.{read-fits, next-replaces, same-opens, counted}

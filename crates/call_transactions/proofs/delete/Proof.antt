@@ -1,6 +1,5 @@
 -- `call_transactions::delete` meets its contract.
-use native.Mathlib.Omega.{arith}
-use borrow.Author.Needs.{needs}
+use Rattle.basics.proofs.Kit.{needs, arith}
 use Rattle.call_transactions.proofs.Called.{delete-is}
 use Rattle.call_transactions.proofs.delete.Statement.{statement}
 use Rattle.call_transactions.proofs.delete.Tie as tie

@@ -1,9 +1,5 @@
 -- `call_transactions::fill_list` meets its contract.
-use mathlib.Core.List.{List}
-use mathlib.Core.Path.{_≡_, refl, ap}
-use Prim.Native.Nat.{ℕ, _*_, _-_, _≤_, _<_}
-use native.Mathlib.Omega.{arith}
-use lib.ListN.{length, length-set}
+use Rattle.basics.proofs.Kit.{_≡_, refl, ap, List, ℕ, _*_, _≤_, _<_, _-_, length, length-set, arith}
 use Rattle.model.specs.State.{Active}
 use Rattle.memory_layout.specs.Flat.{flatOf}
 use Rattle.call_transactions.proofs.Listing.{listedTo, list-none, list-turn, list-end}

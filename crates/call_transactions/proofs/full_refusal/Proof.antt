@@ -1,8 +1,5 @@
 -- `call_transactions::full_refusal` meets its contract.
-use mathlib.Core.List.{List}
-use mathlib.Core.Path.{sym, ap, _∙_}
-use Prim.Native.Nat.{ℕ}
-use native.Mathlib.Omega.{arith}
+use Rattle.basics.proofs.Kit.{sym, ap, _∙_, List, ℕ, arith}
 use Rattle.memory_layout.specs.declared.Head.{Head}
 use Rattle.memory_layout.proofs.Laws.{known, holds-room}
 use Rattle.call_transactions.proofs.Opens.{rows-count}

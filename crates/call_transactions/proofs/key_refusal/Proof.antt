@@ -1,6 +1,5 @@
 -- `call_transactions::key_refusal` meets its contract.
-use mathlib.Core.Path.{_∙_}
-use borrow.Author.Needs.{needs}
+use Rattle.basics.proofs.Kit.{_∙_, needs}
 use Rattle.memory_layout.specs.Flat.{flatOf}
 use Rattle.memory_layout.proofs.Laws.{holds-room}
 use Rattle.call_transactions.proofs.Testing.{key-12, key-13, key-new, key-14, key-seen}

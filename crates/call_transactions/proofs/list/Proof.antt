@@ -1,12 +1,5 @@
 -- `call_transactions::list` meets its contract.
-use mathlib.Core.Bool.{true}
-use mathlib.Core.List.{List, _++_}
-use mathlib.Core.Path.{_≡_, sym, ap, _∙_}
-use Prim.Native.Nat.{ℕ, _*_}
-use native.Mathlib.Omega.{arith}
-use lib.ListN.{length, drop}
-use borrow.Author.Needs.{needs}
-use borrow.Author.Tests.{not-true, not-false}
+use Rattle.basics.proofs.Kit.{_≡_, sym, ap, _∙_, true, List, _++_, ℕ, _*_, length, drop, not-true, not-false, needs, arith}
 use Rattle.memory_layout.specs.Flat.{Flat, flatOf}
 use Rattle.memory_layout.specs.Store.{holdsStore}
 use Rattle.memory_layout.proofs.Laws.{known, holds-room}

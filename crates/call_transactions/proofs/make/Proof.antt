@@ -1,9 +1,5 @@
 -- `call_transactions::make` meets its contract.
-use mathlib.Core.Path.{refl}
-use Prim.Native.Nat.{ℕ, _/_}
-use native.Mathlib.Omega.{arith}
-use lib.ListN.{length}
-use borrow.Author.Needs.{needs}
+use Rattle.basics.proofs.Kit.{refl, ℕ, _/_, length, needs, arith}
 use Rattle.model.specs.Recover.{freshStore}
 use Rattle.call_transactions.proofs.Making.{Fits, made-refused, made-done, make-refused, make-fits, make-accepts, image-made}
 use Rattle.call_transactions.proofs.make.Statement.{statement}

@@ -1,7 +1,5 @@
 -- `call_transactions::make_refusal` meets its contract.
-use Prim.Native.Nat.{_/_}
-use native.Mathlib.Omega.{arith}
-use borrow.Author.Needs.{needs}
+use Rattle.basics.proofs.Kit.{_/_, needs, arith}
 use Rattle.memory_layout.specs.Store.{FreshFits}
 use Rattle.call_transactions.proofs.Making.{make-odd, make-few, make-many, make-none, make-large, make-short, verdict-refuses, verdict-accepts}
 use Rattle.call_transactions.proofs.make_refusal.Statement.{statement}

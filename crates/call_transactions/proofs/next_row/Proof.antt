@@ -1,6 +1,5 @@
 -- `call_transactions::next_row` meets its contract.
-use mathlib.Core.Path.{refl, ap}
-use borrow.Author.Needs.{needs}
+use Rattle.basics.proofs.Kit.{refl, ap, needs}
 use Rattle.blocks.specs.Tuple.{tentative}
 use Rattle.model.specs.State.{Active}
 use Rattle.memory_layout.specs.declared.Head.{Head}

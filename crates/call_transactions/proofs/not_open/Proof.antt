@@ -1,9 +1,5 @@
 -- `call_transactions::not_open` meets its contract.
-use mathlib.Core.Bool.{true}
-use mathlib.Core.Path.{_≡_, sym, _∙_}
-use native.Mathlib.Omega.{arith}
-use borrow.Author.Needs.{needs}
-use borrow.Author.Tests.{not-true, not-false}
+use Rattle.basics.proofs.Kit.{_≡_, sym, _∙_, true, not-true, not-false, needs, arith}
 use Rattle.model.specs.Transactions.{notOpen}
 use Rattle.memory_layout.specs.Flat.{flatOf}
 use Rattle.memory_layout.specs.Store.{holdsStore}

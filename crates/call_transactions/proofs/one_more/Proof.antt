@@ -1,6 +1,5 @@
 -- `call_transactions::one_more` meets its contract.
-use native.Mathlib.Omega.{arith}
-use borrow.Author.Needs.{needs}
+use Rattle.basics.proofs.Kit.{needs, arith}
 use Rattle.call_transactions.proofs.Writing.{more-one, more-full}
 use Rattle.call_transactions.proofs.one_more.Statement.{statement}
 use Rattle.call_transactions.proofs.one_more.Tie as tie

@@ -1,11 +1,5 @@
 -- `call_transactions::open` meets its contract.
-use mathlib.Core.Bool.{true}
-use mathlib.Core.Path.{_≡_, sym, _∙_}
-use Prim.Native.Nat.{_≤_, _<_}
-use native.Mathlib.Omega.{arith}
-use lib.ListN.{length}
-use borrow.Author.Needs.{needs}
-use borrow.Author.Tests.{not-true, not-false}
+use Rattle.basics.proofs.Kit.{_≡_, sym, _∙_, true, _≤_, _<_, length, not-true, not-false, needs, arith}
 use Rattle.memory_layout.specs.Flat.{Flat, flatOf}
 use Rattle.memory_layout.specs.Opens.{findOpen}
 use Rattle.memory_layout.specs.Store.{holdsStore}

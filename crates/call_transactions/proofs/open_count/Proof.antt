@@ -1,5 +1,5 @@
 -- `call_transactions::open_count` meets its contract.
-use borrow.Author.Needs.{needs}
+use Rattle.basics.proofs.Kit.{needs}
 use Rattle.call_transactions.proofs.Opens.{opens-count}
 use Rattle.call_transactions.proofs.open_count.Statement.{statement}
 use Rattle.call_transactions.proofs.open_count.Tie as tie

@@ -1,11 +1,5 @@
 -- `call_transactions::read` meets its contract.
-use mathlib.Core.Bool.{true}
-use mathlib.Core.List.{List, _++_}
-use mathlib.Core.Path.{_≡_, ap, _∙_}
-use Prim.Native.Nat.{ℕ}
-use native.Mathlib.Omega.{arith}
-use lib.ListN.{length, drop}
-use borrow.Author.Needs.{needs}
+use Rattle.basics.proofs.Kit.{_≡_, ap, _∙_, true, List, _++_, ℕ, length, drop, needs, arith}
 use Rattle.model.specs.Transactions.{notOpen, readCall}
 use Rattle.memory_layout.specs.Flat.{flatOf, rowIn}
 use Rattle.memory_layout.specs.Store.{holdsStore, storeOf}

@@ -1,8 +1,5 @@
 -- `call_transactions::write` meets its contract.
-use mathlib.Core.Path.{sym, _∙_}
-use native.Mathlib.Omega.{arith}
-use lib.ListN.{length}
-use borrow.Author.Needs.{needs}
+use Rattle.basics.proofs.Kit.{sym, _∙_, length, needs, arith}
 use Rattle.call_transactions.proofs.Called.{call-refused, key-refused, write-done}
 use Rattle.call_transactions.proofs.Testing.{Called, called, accepts}
 use Rattle.call_transactions.proofs.write.Statement.{statement}

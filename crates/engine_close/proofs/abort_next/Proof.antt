@@ -2,11 +2,7 @@ use Rattle.engine_close.specs.Close.{taggedOf}
 use Rattle.engine_close.proofs.Closing.{own-gone}
 use Rattle.engine_close.proofs.Next.{less-than, none-aborted, one-aborted}
 use Rattle.memory_layout.proofs.Laws.{holds-room}
-use Prim.Native.Nat.{_<_}
-use lib.ListN.{length}
-use mathlib.Core.Path.{sym, _∙_}
-use native.Mathlib.Omega.{arith}
-use borrow.Author.Needs.{needs}
+use Rattle.basics.proofs.Kit.{sym, _∙_, _<_, length, needs, arith}
 use Rattle.engine_close.proofs.abort_next.Statement.{statement}
 use Rattle.engine_close.proofs.abort_next.Tie as tie
 

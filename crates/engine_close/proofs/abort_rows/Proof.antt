@@ -1,10 +1,8 @@
 use Rattle.engine_pages.proofs.Places.{holds-now}
 use Rattle.engine_close.specs.Close.{taggedOf, abortedFrom}
 use Rattle.engine_close.proofs.Next.{Doing, doing-starts, doing-next, abort-done}
-use lib.ListN.{length}
-use Prim.Native.Nat.{_-_}
+use Rattle.basics.proofs.Kit.{_-_, length, arith}
 use Rattle.memory_layout.proofs.Laws.{holds-room}
-use native.Mathlib.Omega.{arith}
 use Rattle.engine_close.proofs.abort_rows.Statement.{statement}
 use Rattle.engine_close.proofs.abort_rows.Tie as tie
 

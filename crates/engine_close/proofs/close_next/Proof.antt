@@ -3,11 +3,7 @@ use Rattle.engine_close.proofs.Memory.{table-is}
 use Rattle.engine_close.proofs.Next.{less-than, none-closed, one-closed}
 use Rattle.memory_layout.specs.Flat.{Room}
 use Rattle.memory_layout.proofs.Laws.{holds-room}
-use Prim.Native.Nat.{_<_}
-use lib.ListN.{length}
-use mathlib.Core.Path.{_≡_, sym, _∙_}
-use native.Mathlib.Omega.{arith}
-use borrow.Author.Needs.{needs}
+use Rattle.basics.proofs.Kit.{_≡_, sym, _∙_, _<_, length, needs, arith}
 use Rattle.engine_close.proofs.close_next.Statement.{statement}
 use Rattle.engine_close.proofs.close_next.Tie as tie
 

@@ -3,9 +3,7 @@ use Rattle.engine_close.proofs.Closing.{live-held, run-marked, kept-len
 use Rattle.engine_close.proofs.Memory.{row-is, tagged-length}
 use Rattle.model.specs.State.{Held}
 use Rattle.memory_layout.proofs.Laws.{holds-room}
-use mathlib.Core.Path.{ap, sym, _∙_}
-use native.Mathlib.Omega.{arith}
-use borrow.Author.Needs.{needs}
+use Rattle.basics.proofs.Kit.{sym, ap, _∙_, needs, arith}
 use Rattle.engine_close.proofs.close_run.Statement.{statement}
 use Rattle.engine_close.proofs.close_run.Tie as tie
 

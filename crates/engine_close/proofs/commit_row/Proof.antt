@@ -3,7 +3,7 @@ use Rattle.engine_pages.specs.Pages.{pagesOf}
 use Rattle.model.specs.Places.{commitRow}
 use Rattle.engine_close.proofs.Memory.{row-on}
 use Rattle.memory_layout.proofs.Laws.{holds-room}
-use borrow.Author.Needs.{needs}
+use Rattle.basics.proofs.Kit.{needs}
 use Rattle.engine_close.proofs.commit_row.Statement.{statement}
 use Rattle.engine_close.proofs.commit_row.Tie as tie
 

@@ -1,5 +1,5 @@
 use Rattle.engine_close.proofs.Memory.{rows-from}
-use borrow.Author.Needs.{needs}
+use Rattle.basics.proofs.Kit.{needs}
 use Rattle.engine_close.proofs.first_row.Statement.{statement}
 use Rattle.engine_close.proofs.first_row.Tie as tie
 

@@ -1,8 +1,7 @@
 use Rattle.model.specs.Rules.{isRemoving}
 use Rattle.engine_close.proofs.Own.{live-is}
 use Rattle.engine_close.proofs.Memory.{tagged-length}
-use native.Mathlib.Omega.{arith}
-use borrow.Author.Needs.{needs}
+use Rattle.basics.proofs.Kit.{needs, arith}
 use Rattle.engine_close.proofs.is_live.Statement.{statement}
 use Rattle.engine_close.proofs.is_live.Tie as tie
 

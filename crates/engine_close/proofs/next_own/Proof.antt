@@ -1,7 +1,6 @@
 use Rattle.engine_close.proofs.Own.{NotOwn, not-own-then}
 use Rattle.engine_close.proofs.Memory.{few-rows}
-use Prim.Native.Nat.{_-_, _≤_}
-use native.Mathlib.Omega.{arith}
+use Rattle.basics.proofs.Kit.{_≤_, _-_, arith}
 use Rattle.engine_close.proofs.next_own.Statement.{statement}
 use Rattle.engine_close.proofs.next_own.Tie as tie
 

@@ -1,8 +1,6 @@
 use Rattle.engine_close.proofs.Own.{NotOwn, own-is, not-own-more}
 use Rattle.engine_close.proofs.Memory.{tagged-length}
-use Prim.Native.Nat.{_-_, _≤_}
-use mathlib.Core.Path.{sym, _∙_}
-use native.Mathlib.Omega.{arith}
+use Rattle.basics.proofs.Kit.{sym, _∙_, _≤_, _-_, arith}
 use Rattle.engine_close.proofs.own_in.Statement.{statement}
 use Rattle.engine_close.proofs.own_in.Tie as tie
 

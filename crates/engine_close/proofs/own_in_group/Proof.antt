@@ -1,8 +1,6 @@
 use Rattle.engine_close.proofs.Own.{group-not-own}
 use Rattle.engine_close.proofs.Memory.{tagged-length, few-rows}
-use mathlib.Core.Path.{sym, _∙_}
-use native.Mathlib.Omega.{arith}
-use borrow.Author.Needs.{needs}
+use Rattle.basics.proofs.Kit.{sym, _∙_, needs, arith}
 use Rattle.engine_close.proofs.own_in_group.Statement.{statement}
 use Rattle.engine_close.proofs.own_in_group.Tie as tie
 

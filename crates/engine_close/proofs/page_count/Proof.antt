@@ -1,5 +1,5 @@
 use Rattle.engine_close.proofs.Memory.{pages-counted}
-use borrow.Author.Needs.{needs}
+use Rattle.basics.proofs.Kit.{needs}
 use Rattle.engine_close.proofs.page_count.Statement.{statement}
 use Rattle.engine_close.proofs.page_count.Tie as tie
 

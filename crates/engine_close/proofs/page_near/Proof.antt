@@ -1,8 +1,4 @@
-use Prim.Native.Nat.{_≤_, _<_}
-use mathlib.Core.Path.{subst}
-use borrow.Author.Tests.{leb-true, ltb-true}
-use native.Mathlib.Omega.{arith}
-use borrow.Author.Needs.{needs}
+use Rattle.basics.proofs.Kit.{subst, _≤_, _<_, leb-true, ltb-true, needs, arith}
 use Rattle.engine_close.proofs.page_near.Statement.{statement}
 use Rattle.engine_close.proofs.page_near.Tie as tie
 

@@ -1,5 +1,5 @@
 use Rattle.engine_close.proofs.Memory.{on-pages}
-use borrow.Author.Needs.{needs}
+use Rattle.basics.proofs.Kit.{needs}
 use Rattle.engine_close.proofs.page_of.Statement.{statement}
 use Rattle.engine_close.proofs.page_of.Tie as tie
 

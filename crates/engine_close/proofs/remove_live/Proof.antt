@@ -1,9 +1,7 @@
 use Rattle.engine_close.proofs.Closing.{live-gone, live-passed}
 use Rattle.engine_close.proofs.Memory.{few-rows}
 use Rattle.memory_layout.proofs.Laws.{holds-room}
-use mathlib.Core.Path.{sym, _∙_}
-use native.Mathlib.Omega.{arith}
-use borrow.Author.Needs.{needs}
+use Rattle.basics.proofs.Kit.{sym, _∙_, needs, arith}
 use Rattle.engine_close.proofs.remove_live.Statement.{statement}
 use Rattle.engine_close.proofs.remove_live.Tie as tie
 

@@ -4,9 +4,7 @@ use Rattle.engine_pages.specs.Pages.{pagesOf}
 use Rattle.engine_close.proofs.Closing.{turned, one-gone}
 use Rattle.engine_close.proofs.Memory.{row-on, few-rows}
 use Rattle.memory_layout.proofs.Laws.{holds-room}
-use Prim.Native.Nat.{_-_}
-use native.Mathlib.Omega.{arith}
-use borrow.Author.Needs.{needs}
+use Rattle.basics.proofs.Kit.{_-_, needs, arith}
 use Rattle.engine_close.proofs.remove_row.Statement.{statement}
 use Rattle.engine_close.proofs.remove_row.Tie as tie
 

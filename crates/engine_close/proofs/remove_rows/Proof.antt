@@ -1,6 +1,6 @@
 use Rattle.engine_pages.proofs.Places.{now-held}
 use Rattle.engine_close.proofs.Closing.{LiveLeft, left-starts, left-there, left-next, left-ends}
-use native.Mathlib.Omega.{arith}
+use Rattle.basics.proofs.Kit.{arith}
 use Rattle.engine_close.proofs.remove_rows.Statement.{statement}
 use Rattle.engine_close.proofs.remove_rows.Tie as tie
 

@@ -1,8 +1,6 @@
 use Rattle.engine_close.proofs.RunBounds.{Onward, end-high, onward-more, onward-ends, onward-stops}
 use Rattle.engine_close.proofs.Memory.{tagged-length, few-rows}
-use Prim.Native.Nat.{_-_, _<_, _≤_}
-use mathlib.Core.Path.{sym, _∙_}
-use native.Mathlib.Omega.{arith}
+use Rattle.basics.proofs.Kit.{sym, _∙_, _≤_, _<_, _-_, arith}
 use Rattle.engine_close.proofs.run_end.Statement.{statement}
 use Rattle.engine_close.proofs.run_end.Tie as tie
 

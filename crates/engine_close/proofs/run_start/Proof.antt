@@ -1,11 +1,7 @@
 use Rattle.engine_close.proofs.RunBounds.{Back, first-low, back-more, back-ends, back-stops}
 use Rattle.engine_close.proofs.Memory.{tagged-length}
-use borrow.Author.Needs.{needs}
+use Rattle.basics.proofs.Kit.{sym, _∙_, ⊎-elim, _≤_, _-_, needs, arith}
 use Rattle.memory_bytes.proofs.Columns.{lt-or-ge}
-use mathlib.Core.Logic.{⊎-elim}
-use Prim.Native.Nat.{_-_, _≤_}
-use mathlib.Core.Path.{sym, _∙_}
-use native.Mathlib.Omega.{arith}
 use Rattle.engine_close.proofs.run_start.Statement.{statement}
 use Rattle.engine_close.proofs.run_start.Tie as tie
 

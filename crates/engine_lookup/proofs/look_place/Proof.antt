@@ -1,5 +1,5 @@
 -- `engine_lookup::look_place` meets its contract.
-use native.Mathlib.Omega.{arith}
+use Rattle.basics.proofs.Kit.{arith}
 use Rattle.memory_bytes.specs.Columns.{upTo}
 use Rattle.memory_layout.specs.Flat.{flatOf}
 use Rattle.memory_layout.proofs.Laws.{holds-room}

@@ -1,12 +1,11 @@
 -- `engine_lookup::look_range` meets its contract.
-use native.Mathlib.Omega.{arith}
+use Rattle.basics.proofs.Kit.{needs, arith}
 use Rattle.memory_layout.specs.Flat.{flatOf}
 use Rattle.memory_bytes.specs.Columns.{equals}
 use Rattle.memory_bytes.proofs.Spans.{first-in, found-covers}
 use Rattle.memory_rows.specs.Rows.{keyIn}
 use Rattle.engine_lookup.proofs.Searches.{last-in}
 use Rattle.engine_lookup.proofs.Turns.{range-looked}
-use borrow.Author.Needs.{needs}
 use Rattle.engine_lookup.proofs.look_range.Statement.{statement}
 use Rattle.engine_lookup.proofs.look_range.Tie as tie
 

@@ -1,10 +1,9 @@
 -- `engine_lookup::look_row` meets its contract.
-use mathlib.Core.Path.{ap, _∙_}
+use Rattle.basics.proofs.Kit.{ap, _∙_, needs}
 use Rattle.blocks.specs.Tuple as tuples
 use Rattle.memory_layout.specs.Flat.{flatOf, rowIn}
 use Rattle.engine_lookup.specs.Lookup.{noteOwner}
 use Rattle.engine_lookup.proofs.Notes.{note-removed, note-committing, note-other, row-below}
-use borrow.Author.Needs.{needs}
 use Rattle.engine_lookup.proofs.look_row.Statement.{statement}
 use Rattle.engine_lookup.proofs.look_row.Tie as tie
 

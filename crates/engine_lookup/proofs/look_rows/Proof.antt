@@ -1,8 +1,5 @@
 -- `engine_lookup::look_rows` meets its contract.
-use mathlib.Core.Logic.{⊎-elim}
-use mathlib.Core.Path.{_≡_, refl, sym, ap, _∙_}
-use Prim.Native.Nat.{_+_, _-_, _<_}
-use native.Mathlib.Omega.{arith}
+use Rattle.basics.proofs.Kit.{_≡_, refl, sym, ap, _∙_, ⊎-elim, _+_, _<_, _-_, arith}
 use Rattle.memory_layout.specs.Flat.{Flat, flatOf, rowIn}
 use Rattle.memory_bytes.specs.Columns.{tab}
 use Rattle.engine_lookup.specs.Lookup.{notes}

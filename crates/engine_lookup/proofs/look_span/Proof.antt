@@ -1,7 +1,7 @@
 -- `engine_lookup::look_span` meets its contract.
 use Rattle.memory_layout.specs.Flat.{flatOf}
 use Rattle.engine_lookup.proofs.Turns.{range-looked}
-use borrow.Author.Needs.{needs}
+use Rattle.basics.proofs.Kit.{needs}
 use Rattle.engine_lookup.proofs.look_span.Statement.{statement}
 use Rattle.engine_lookup.proofs.look_span.Tie as tie
 

@@ -1,6 +1,6 @@
 -- `engine_lookup::note_committed` meets its contract.
 use Rattle.engine_lookup.proofs.Notes.{first-committed, later-committed}
-use borrow.Author.Needs.{needs}
+use Rattle.basics.proofs.Kit.{needs}
 use Rattle.engine_lookup.proofs.note_committed.Statement.{statement}
 use Rattle.engine_lookup.proofs.note_committed.Tie as tie
 

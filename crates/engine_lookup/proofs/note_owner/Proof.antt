@@ -1,9 +1,8 @@
 -- `engine_lookup::note_owner` meets its contract.
-use mathlib.Core.Path.{sym, ap, _∙_}
+use Rattle.basics.proofs.Kit.{sym, ap, _∙_, needs}
 use Rattle.blocks.specs.declared.Owner.{Owner}
 use Rattle.blocks.specs.Bytes.{ownerIs}
 use Rattle.engine_lookup.specs.Lookup.{noteOwner}
-use borrow.Author.Needs.{needs}
 use Rattle.engine_lookup.proofs.note_owner.Statement.{statement}
 use Rattle.engine_lookup.proofs.note_owner.Tie as tie
 

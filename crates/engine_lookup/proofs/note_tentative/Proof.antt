@@ -1,6 +1,6 @@
 -- `engine_lookup::note_tentative` meets its contract.
 use Rattle.engine_lookup.proofs.Notes.{own-tentative, foreign-tentative}
-use borrow.Author.Needs.{needs}
+use Rattle.basics.proofs.Kit.{needs}
 use Rattle.engine_lookup.proofs.note_tentative.Statement.{statement}
 use Rattle.engine_lookup.proofs.note_tentative.Tie as tie
 

@@ -1,8 +1,7 @@
 -- `engine_lookup::pick` meets its contract.
-use mathlib.Core.Path.{refl}
+use Rattle.basics.proofs.Kit.{refl, needs}
 use Rattle.memory_layout.specs.Flat.{flatOf}
 use Rattle.engine_lookup.proofs.Picking.{pick-none, pick-committed, pick-marked, pick-own}
-use borrow.Author.Needs.{needs}
 use Rattle.engine_lookup.proofs.pick.Statement.{statement}
 use Rattle.engine_lookup.proofs.pick.Tie as tie
 

@@ -2,7 +2,7 @@
 use Rattle.memory_layout.specs.Flat.{flatOf}
 use Rattle.memory_layout.proofs.Laws.{holds-room}
 use Rattle.engine_lookup.proofs.Picking.{look-sees}
-use borrow.Author.Needs.{needs}
+use Rattle.basics.proofs.Kit.{needs}
 use Rattle.engine_lookup.proofs.seen_by.Statement.{statement}
 use Rattle.engine_lookup.proofs.seen_by.Tie as tie
 

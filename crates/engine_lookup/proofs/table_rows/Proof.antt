@@ -1,6 +1,6 @@
 -- `engine_lookup::table_rows` meets its contract.
 use Rattle.engine_lookup.proofs.Tables.{table-range}
-use borrow.Author.Needs.{needs}
+use Rattle.basics.proofs.Kit.{needs}
 use Rattle.engine_lookup.proofs.table_rows.Statement.{statement}
 use Rattle.engine_lookup.proofs.table_rows.Tie as tie
 

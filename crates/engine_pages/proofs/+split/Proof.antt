@@ -1,9 +1,7 @@
 use Rattle.engine_pages.specs.Pages.{entryOf}
 use Rattle.engine_pages.proofs.Places.{few-pages, room}
 use Rattle.engine_pages.proofs.Parts.{split-whole, second-at, second-dirty, second-less, first-at, first-dirty, first-less, split-parts}
-use borrow.Author.Needs.{needs}
-use native.Mathlib.Omega.{arith}
-use Prim.Native.Nat.{ℕ, _<_}
+use Rattle.basics.proofs.Kit.{ℕ, _<_, needs, arith}
 use borrow.Fn.Kinds.{In}
 use borrow.Fn.PlainCycle.{Measures, is, falls, and}
 use Rattle.engine_pages.proofs.split.Reads as split

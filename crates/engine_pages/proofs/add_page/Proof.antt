@@ -1,6 +1,6 @@
 use Rattle.memory_layout.proofs.Laws.{holds-room}
 use Rattle.engine_pages.proofs.Growing.{add-space, added-there, added-new, added}
-use borrow.Author.Needs.{needs}
+use Rattle.basics.proofs.Kit.{needs}
 use Rattle.engine_pages.proofs.add_page.Statement.{statement}
 use Rattle.engine_pages.proofs.add_page.Tie as tie
 

@@ -1,8 +1,6 @@
-use mathlib.Core.Path.{sym, ap, _∙_}
-use lib.ListN.{length, length-set}
+use Rattle.basics.proofs.Kit.{sym, _∙_, needs}
 use Rattle.memory_layout.specs.Flat.{Flat}
 use Rattle.engine_pages.proofs.Applying.{kept-both, kept-one, still-row}
-use borrow.Author.Needs.{needs}
 use Rattle.engine_pages.proofs.apply_kept.Statement.{statement}
 use Rattle.engine_pages.proofs.apply_kept.Tie as tie
 

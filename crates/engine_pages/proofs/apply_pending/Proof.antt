@@ -1,6 +1,5 @@
 use Rattle.engine_pages.proofs.Applying.{left-there, left-empty, left-none, left-some}
-use native.Mathlib.Omega.{arith}
-use borrow.Author.Needs.{needs}
+use Rattle.basics.proofs.Kit.{needs, arith}
 use Rattle.engine_pages.proofs.apply_pending.Statement.{statement}
 use Rattle.engine_pages.proofs.apply_pending.Tie as tie
 

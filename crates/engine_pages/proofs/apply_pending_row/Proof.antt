@@ -1,6 +1,5 @@
-use mathlib.Core.Path.{sym, _∙_}
+use Rattle.basics.proofs.Kit.{sym, _∙_, needs}
 use Rattle.engine_pages.proofs.Applying.{row-gone, row-kept}
-use borrow.Author.Needs.{needs}
 use Rattle.engine_pages.proofs.apply_pending_row.Statement.{statement}
 use Rattle.engine_pages.proofs.apply_pending_row.Tie as tie
 

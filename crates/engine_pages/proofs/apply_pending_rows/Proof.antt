@@ -1,6 +1,6 @@
 use Rattle.engine_pages.proofs.Places.{start-there, few-rows}
 use Rattle.engine_pages.proofs.Applying.{ApplyInv, apply-start, apply-may, apply-next, apply-end, one-most}
-use native.Mathlib.Omega.{arith}
+use Rattle.basics.proofs.Kit.{arith}
 use Rattle.engine_pages.proofs.apply_pending_rows.Statement.{statement}
 use Rattle.engine_pages.proofs.apply_pending_rows.Tie as tie
 

@@ -1,10 +1,7 @@
-use mathlib.Core.Path.{sym, ap, _∙_}
+use Rattle.basics.proofs.Kit.{sym, _∙_, needs, arith}
 use Rattle.memory_layout.specs.Flat.{Flat}
-use lib.ListN.{length}
 use Rattle.engine_pages.proofs.Places.{row-in, page-in, page-frozen, now-to, holds-now, still-there}
 use Rattle.engine_pages.proofs.Committing.{commit-is, commit-now}
-use native.Mathlib.Omega.{arith}
-use borrow.Author.Needs.{needs}
 use Rattle.engine_pages.proofs.commit_at.Statement.{statement}
 use Rattle.engine_pages.proofs.commit_at.Tie as tie
 

@@ -1,7 +1,6 @@
-use mathlib.Core.Path.{sym, _∙_}
+use Rattle.basics.proofs.Kit.{sym, _∙_, needs}
 use Rattle.engine_pages.proofs.Places.{row-in}
 use Rattle.engine_pages.proofs.Committing.{commit-left, commit-adding, commit-noted}
-use borrow.Author.Needs.{needs}
 use Rattle.engine_pages.proofs.commit_later.Statement.{statement}
 use Rattle.engine_pages.proofs.commit_later.Tie as tie
 

@@ -1,5 +1,5 @@
 use Rattle.engine_pages.proofs.Places.{start-there, next-there, few-pages, room, ends-at}
-use native.Mathlib.Omega.{arith}
+use Rattle.basics.proofs.Kit.{arith}
 use Rattle.engine_pages.proofs.count_at.Statement.{statement}
 use Rattle.engine_pages.proofs.count_at.Tie as tie
 

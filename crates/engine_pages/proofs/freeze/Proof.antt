@@ -1,11 +1,8 @@
 use Rattle.memory_layout.specs.Flat.{flatOf}
 use Rattle.memory_layout.proofs.Laws.{holds-room}
-use lib.ListN.{length}
-use Prim.Native.Nat.{_<_, _-_}
+use Rattle.basics.proofs.Kit.{_<_, _-_, length, needs, arith}
 use Rattle.engine_pages.proofs.Places.{few-pages, long, pages-are, holds-now}
 use Rattle.engine_pages.proofs.Freezing.{FreezeInv, freeze-start, freeze-there, freeze-next, freeze-end}
-use native.Mathlib.Omega.{arith}
-use borrow.Author.Needs.{needs}
 use Rattle.engine_pages.proofs.freeze.Statement.{statement}
 use Rattle.engine_pages.proofs.freeze.Tie as tie
 

@@ -1,8 +1,6 @@
-use mathlib.Core.Path.{_∙_}
+use Rattle.basics.proofs.Kit.{needs, arith}
 use Rattle.engine_pages.proofs.Places.{page-in, room, block-small}
 use Rattle.engine_pages.proofs.Freezing.{frozen-now}
-use native.Mathlib.Omega.{arith}
-use borrow.Author.Needs.{needs}
 use Rattle.engine_pages.proofs.freeze_page.Statement.{statement}
 use Rattle.engine_pages.proofs.freeze_page.Tie as tie
 

@@ -1,8 +1,6 @@
-use mathlib.Core.Path.{sym, _∙_}
+use Rattle.basics.proofs.Kit.{sym, _∙_, needs, arith}
 use Rattle.engine_pages.proofs.Places.{page-in, page-frozen}
 use Rattle.engine_pages.proofs.Growing.{grow-there, grow-new, more-there, more-rows, grew-frozen, grew-there, grew-dirty, grew}
-use native.Mathlib.Omega.{arith}
-use borrow.Author.Needs.{needs}
 use Rattle.engine_pages.proofs.grow.Statement.{statement}
 use Rattle.engine_pages.proofs.grow.Tie as tie
 

@@ -1,9 +1,7 @@
-use native.Mathlib.Omega.{arith}
+use Rattle.basics.proofs.Kit.{_≡_, sym, ap, ℕ, _+_, _*_, _≤_, _-_, arith}
 use Rattle.engine_pages.proofs.Sizes.{Turn, turn, lead-stop, lead-go, lead-end}
 use Rattle.engine_pages.specs.Pages.{rowsFrom}
 use Rattle.model.specs.Rules.{lead}
-use mathlib.Core.Path.{_≡_, ap, sym}
-use Prim.Native.Nat.{ℕ, _+_, _*_, _-_, _≤_}
 use Rattle.memory_layout.specs.Flat.{flatOf}
 use Rattle.engine_pages.proofs.half.Statement.{statement}
 use Rattle.engine_pages.proofs.half.Tie as tie

@@ -1,9 +1,7 @@
-use Prim.Native.Nat.{_<_, _≤_}
+use Rattle.basics.proofs.Kit.{_≤_, _<_, needs, arith}
 use Rattle.engine_pages.specs.Pages.{entryOf}
 use Rattle.engine_pages.proofs.Places.{start-there, next-there, few-pages, few-rows, room, page-span, page-end, few, spacious}
 use Rattle.engine_pages.proofs.Splitting.{halved-whole, between, halved-parts}
-use native.Mathlib.Omega.{arith}
-use borrow.Author.Needs.{needs}
 use Rattle.engine_pages.proofs.halve.Statement.{statement}
 use Rattle.engine_pages.proofs.halve.Tie as tie
 

@@ -1,13 +1,10 @@
 -- `engine_pages::has_pending` meets its contract.
-use native.Mathlib.Omega.{arith}
+use Rattle.basics.proofs.Kit.{_≡_, refl, sym, ap, _∙_, _||_, _≤_, _-_, arith}
 use Rattle.engine_pages.proofs.Sizes.{any-turn, any-end}
 use Rattle.engine_pages.proofs.Places.{few-pages, few-rows, room, start-there, next-there, page-span, tuples-are}
 use Rattle.engine_pages.specs.Pending.{waits}
 use Rattle.engine_pages.specs.Pages.{tuplesAt, rowsFrom, Span}
 use Rattle.basics.specs.Basics.{any}
-use mathlib.Core.Bool.{_||_}
-use mathlib.Core.Path.{_≡_, refl, ap, sym, _∙_}
-use Prim.Native.Nat.{_-_, _≤_}
 use Rattle.engine_pages.proofs.has_pending.Statement.{statement}
 use Rattle.engine_pages.proofs.has_pending.Tie as tie
 

@@ -1,6 +1,6 @@
 use Rattle.engine_pages.proofs.Pending.{told}
 use Rattle.model.specs.Rules.{isCommitting}
-use borrow.Author.Needs.{needs}
+use Rattle.basics.proofs.Kit.{needs}
 use Rattle.engine_pages.proofs.is_committing.Statement.{statement}
 use Rattle.engine_pages.proofs.is_committing.Tie as tie
 

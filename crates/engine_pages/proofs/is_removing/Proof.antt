@@ -1,6 +1,6 @@
 use Rattle.engine_pages.proofs.Pending.{told}
 use Rattle.model.specs.Rules.{isRemoving}
-use borrow.Author.Needs.{needs}
+use Rattle.basics.proofs.Kit.{needs}
 use Rattle.engine_pages.proofs.is_removing.Statement.{statement}
 use Rattle.engine_pages.proofs.is_removing.Tie as tie
 

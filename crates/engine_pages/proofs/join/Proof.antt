@@ -1,9 +1,6 @@
 use Rattle.engine_pages.specs.Pages.{There}
-use mathlib.Core.List.{List}
-use Prim.Native.Nat.{ℕ}
-use mathlib.Core.Path.{sym, subst}
+use Rattle.basics.proofs.Kit.{sym, subst, List, ℕ, needs}
 use Rattle.engine_pages.proofs.Joining.{tried, tried-both}
-use borrow.Author.Needs.{needs}
 use Rattle.engine_pages.proofs.join.Statement.{statement}
 use Rattle.engine_pages.proofs.join.Tie as tie
 

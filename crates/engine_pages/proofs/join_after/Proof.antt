@@ -1,13 +1,8 @@
-use mathlib.Core.Path.{_≡_, sym, ap, _∙_}
-use Prim.Native.Nat.{_+_, _<_}
-use lib.ListN.{length}
-use borrow.Author.Tests.{not-true, not-false}
+use Rattle.basics.proofs.Kit.{sym, _∙_, _+_, _<_, length, not-true, not-false, needs, arith}
 use Rattle.memory_layout.specs.Flat.{flatOf}
 use Rattle.engine_pages.proofs.Places.{now-to, few-pages, room, long, pages-are}
 use Rattle.engine_pages.proofs.Around.{next-none, next-joins, next-apart}
 use Rattle.engine_pages.proofs.Joining.{tried, not-tried, next-at, may-join, joined-now}
-use native.Mathlib.Omega.{arith}
-use borrow.Author.Needs.{needs}
 use Rattle.engine_pages.proofs.join_after.Statement.{statement}
 use Rattle.engine_pages.proofs.join_after.Tie as tie
 

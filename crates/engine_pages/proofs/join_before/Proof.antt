@@ -1,9 +1,6 @@
-use mathlib.Core.Path.{sym, _∙_}
-use borrow.Author.Tests.{not-true, not-false}
+use Rattle.basics.proofs.Kit.{sym, _∙_, not-true, not-false, needs, arith}
 use Rattle.engine_pages.proofs.Places.{pos-of, now-to}
 use Rattle.engine_pages.proofs.Joining.{tried, not-tried, first-apart, prev-at, prev-inside, prev-joins, prev-apart, may-join, joined-now}
-use native.Mathlib.Omega.{arith}
-use borrow.Author.Needs.{needs}
 use Rattle.engine_pages.proofs.join_before.Statement.{statement}
 use Rattle.engine_pages.proofs.join_before.Tie as tie
 

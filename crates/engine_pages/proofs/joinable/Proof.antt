@@ -1,6 +1,6 @@
 use Rattle.engine_pages.proofs.Places.{page-in, start-there, few-pages, room}
 use Rattle.engine_pages.proofs.Joining.{next-at, both-span, apart-frozen, apart-next, apart-tables, by-sizes}
-use native.Mathlib.Omega.{arith}
+use Rattle.basics.proofs.Kit.{arith}
 use Rattle.engine_pages.proofs.joinable.Statement.{statement}
 use Rattle.engine_pages.proofs.joinable.Tie as tie
 

@@ -1,8 +1,7 @@
 use Rattle.memory_layout.proofs.Laws.{holds-room}
 use Rattle.engine_pages.proofs.Places.{now-to, holds-now}
 use Rattle.engine_pages.proofs.Spots.{may-add, placed-new, first-in, may-grow-first, placed-first, behind-first, place-on-pages, may-grow-later, placed-later}
-use native.Mathlib.Omega.{arith}
-use borrow.Author.Needs.{needs}
+use Rattle.basics.proofs.Kit.{needs, arith}
 use Rattle.engine_pages.proofs.place.Statement.{statement}
 use Rattle.engine_pages.proofs.place.Tie as tie
 

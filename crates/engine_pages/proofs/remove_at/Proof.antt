@@ -1,7 +1,6 @@
-use mathlib.Core.Path.{sym, _∙_}
+use Rattle.basics.proofs.Kit.{sym, _∙_, needs}
 use Rattle.engine_pages.proofs.Places.{page-in, page-frozen, now-to, holds-now}
 use Rattle.engine_pages.proofs.Removing.{removed-later, removed-now}
-use borrow.Author.Needs.{needs}
 use Rattle.engine_pages.proofs.remove_at.Statement.{statement}
 use Rattle.engine_pages.proofs.remove_at.Tie as tie
 

@@ -1,7 +1,6 @@
-use borrow.Author.Tests.{not-true, not-false}
+use Rattle.basics.proofs.Kit.{not-true, not-false, needs}
 use Rattle.engine_pages.proofs.Places.{row-in}
 use Rattle.engine_pages.proofs.Removing.{may-lose, later-noted, later-last, later-away}
-use borrow.Author.Needs.{needs}
 use Rattle.engine_pages.proofs.remove_later.Statement.{statement}
 use Rattle.engine_pages.proofs.remove_later.Tie as tie
 

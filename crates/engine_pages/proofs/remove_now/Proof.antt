@@ -1,10 +1,7 @@
-use Prim.Native.Nat.{_<_}
-use mathlib.Core.Path.{sym, _∙_}
+use Rattle.basics.proofs.Kit.{sym, _∙_, _<_, needs, arith}
 use Rattle.engine_pages.specs.Pages.{entryOf}
 use Rattle.engine_pages.proofs.Places.{has-row, page-in}
 use Rattle.engine_pages.proofs.Removing.{more, may-lose, less-there, less-empty, now-none, now-there, now-joined}
-use native.Mathlib.Omega.{arith}
-use borrow.Author.Needs.{needs}
 use Rattle.engine_pages.proofs.remove_now.Statement.{statement}
 use Rattle.engine_pages.proofs.remove_now.Tie as tie
 

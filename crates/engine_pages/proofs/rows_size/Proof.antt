@@ -1,10 +1,8 @@
-use native.Mathlib.Omega.{arith}
+use Rattle.basics.proofs.Kit.{_≡_, _+_, _*_, _≤_, _-_, arith}
 use Rattle.engine_pages.proofs.Sizes.{Turn, turn, sum-next, sum-none}
 use Rattle.engine_pages.specs.Pages.{rowsFrom}
 use Rattle.model.specs.Rules.{heldSize}
 use Rattle.basics.specs.Basics.{sum}
-use mathlib.Core.Path.{_≡_, ap}
-use Prim.Native.Nat.{_+_, _*_, _-_, _≤_}
 use Rattle.memory_layout.specs.Flat.{flatOf}
 use Rattle.engine_pages.proofs.rows_size.Statement.{statement}
 use Rattle.engine_pages.proofs.rows_size.Tie as tie

@@ -1,12 +1,8 @@
-use native.Mathlib.Omega.{arith}
+use Rattle.basics.proofs.Kit.{_≡_, sym, ap, _∙_, _+_, _*_, _≤_, _-_, leb, lt-leb, arith}
 use Rattle.engine_pages.proofs.Sizes.{Turn, turn, sum-next, sum-none}
 use Rattle.engine_pages.specs.Pages.{rowsFrom}
 use Rattle.model.specs.Rules.{heldSize}
 use Rattle.basics.specs.Basics.{sum}
-use borrow.Author.Tests.{lt-leb}
-use lib.Dec.{leb}
-use mathlib.Core.Path.{_≡_, ap, sym, _∙_}
-use Prim.Native.Nat.{_+_, _*_, _-_, _≤_}
 use Rattle.memory_layout.specs.Flat.{flatOf}
 use Rattle.engine_pages.proofs.size_up_to.Statement.{statement}
 use Rattle.engine_pages.proofs.size_up_to.Tie as tie

@@ -1,8 +1,6 @@
-use mathlib.Core.Path.{sym, _∙_}
-use borrow.Author.Tests.{not-true, not-false}
+use Rattle.basics.proofs.Kit.{sym, _∙_, not-true, not-false, needs}
 use Rattle.engine_pages.proofs.Places.{room, holds-now}
 use Rattle.engine_pages.proofs.Thawing.{thawed-clean, thawed-none, left-at, thawed-joined, apart-at, apart-dirty, thawed-split}
-use borrow.Author.Needs.{needs}
 use Rattle.engine_pages.proofs.thaw.Statement.{statement}
 use Rattle.engine_pages.proofs.thaw.Tie as tie
 

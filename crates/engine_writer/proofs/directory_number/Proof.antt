@@ -1,10 +1,7 @@
 -- `engine_writer::directory_number` meets its contract.
 use Rattle.memory_layout.specs.Flat.{flatOf}
 use Rattle.engine_writer.proofs.Headers.{count-directories}
-use lib.ListN.{List·getD-eq-default}
-use mathlib.Core.Path.{sym}
-use native.Mathlib.Omega.{arith}
-use borrow.Author.Needs.{needs}
+use Rattle.basics.proofs.Kit.{sym, List·getD-eq-default, needs, arith}
 use Rattle.engine_writer.proofs.directory_number.Statement.{statement}
 use Rattle.engine_writer.proofs.directory_number.Tie as tie
 

@@ -1,7 +1,7 @@
 -- `engine_writer::is_shown` meets its contract.
 use Rattle.engine_writer.proofs.Showing.{shown-by}
 use Rattle.model.specs.Rules.{isAdding}
-use borrow.Author.Needs.{needs}
+use Rattle.basics.proofs.Kit.{needs}
 use Rattle.engine_writer.proofs.is_shown.Statement.{statement}
 use Rattle.engine_writer.proofs.is_shown.Tie as tie
 

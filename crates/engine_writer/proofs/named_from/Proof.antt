@@ -3,10 +3,7 @@ use Rattle.engine_writer.proofs.Headers.{named-few}
 use Rattle.engine_writer.proofs.Numbered.{entries-turn}
 use Rattle.memory_layout.specs.Flat.{flatOf}
 use Rattle.blocks.specs.Limits.{entriesPerBlock}
-use lib.ListN.{length, take, drop, length-set}
-use Prim.Native.Nat.{_-_, _≤_}
-use mathlib.Core.Path.{_≡_, refl}
-use native.Mathlib.Omega.{arith}
+use Rattle.basics.proofs.Kit.{_≡_, refl, _≤_, _-_, length, take, drop, length-set, arith}
 use Rattle.engine_writer.proofs.named_from.Statement.{statement}
 use Rattle.engine_writer.proofs.named_from.Tie as tie
 

@@ -1,6 +1,6 @@
 -- `engine_writer::record_at` meets its contract.
 use Rattle.engine_writer.proofs.Recorded.{row-spells}
-use borrow.Author.Needs.{needs}
+use Rattle.basics.proofs.Kit.{needs}
 use Rattle.engine_writer.proofs.record_at.Statement.{statement}
 use Rattle.engine_writer.proofs.record_at.Tie as tie
 

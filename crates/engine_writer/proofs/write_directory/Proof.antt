@@ -1,16 +1,10 @@
 -- `engine_writer::write_directory` meets its contract.
-use mathlib.Core.Path.{_≡_, ap, _∙_}
-use mathlib.Core.Logic.{⊎-elim}
-use mathlib.Core.List.{List}
-use Prim.Native.Nat.{ℕ, _*_, _-_}
-use native.Mathlib.Omega.{arith}
-use lib.ListN.{take, length-take}
+use Rattle.basics.proofs.Kit.{_≡_, ap, _∙_, ⊎-elim, List, ℕ, _*_, _-_, take, length-take, needs, arith}
 use Rattle.blocks.specs.Limits.{entriesPerBlock}
 use Rattle.blocks.specs.Block.{directory, encodeBlock}
 use Rattle.memory_layout.specs.Flat.{flatOf}
 use Rattle.engine_writer.proofs.Numbered.{Run, run-full, run-last}
 use Rattle.engine_writer.proofs.Headers.{named-few, count-named}
-use borrow.Author.Needs.{needs}
 use Rattle.engine_writer.proofs.write_directory.Statement.{statement}
 use Rattle.engine_writer.proofs.write_directory.Tie as tie
 use Rattle.engine_writer.proofs.write_directory.Reads as reads

@@ -1,8 +1,5 @@
 -- `engine_writer::write_empty` meets its contract.
-use mathlib.Core.Path.{_∙_}
-use mathlib.Core.List.{[]}
-use native.Mathlib.Omega.{arith}
-use borrow.Author.Needs.{needs}
+use Rattle.basics.proofs.Kit.{_∙_, [], needs, arith}
 use Rattle.basics.specs.Basics.{sum}
 use Rattle.blocks.specs.Block.{PageFits}
 use Rattle.blocks.proofs.Stores.{over-whole}

@@ -3,9 +3,7 @@ use Rattle.engine_writer.proofs.Headers.{header-is}
 use Rattle.memory_layout.specs.declared.Head.{Head}
 use Rattle.blocks.specs.declared.Header.{Header}
 use Rattle.blocks.specs.Block.{header, encodeBlock}
-use mathlib.Core.Path.{ap, _∙_}
-use native.Mathlib.Omega.{arith}
-use borrow.Author.Needs.{needs}
+use Rattle.basics.proofs.Kit.{ap, _∙_, needs, arith}
 use Rattle.engine_writer.proofs.write_header.Statement.{statement}
 use Rattle.engine_writer.proofs.write_header.Tie as tie
 

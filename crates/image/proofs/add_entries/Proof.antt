@@ -1,7 +1,4 @@
-use mathlib.Core.Option.{some}
-use mathlib.Core.List.{[]}
-use mathlib.Core.Path.{refl, sym, _∙_}
-use borrow.Author.Needs.{needs}
+use Rattle.basics.proofs.Kit.{refl, sym, _∙_, some, [], needs}
 use Rattle.image.proofs.Named.{is-directory, no-directory, other-level, other-count, entries-put, not-put}
 use Rattle.blocks.specs.Decode.{decodeBlock}
 use Rattle.image.proofs.add_entries.Statement.{statement}

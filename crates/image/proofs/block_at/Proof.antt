@@ -1,5 +1,4 @@
-use mathlib.Core.Path.{refl, _∙_}
-use borrow.Author.Needs.{needs}
+use Rattle.basics.proofs.Kit.{refl, _∙_, needs}
 use Rattle.blocks.specs.Spell.{zeros}
 use Rattle.image.proofs.Collect.{whole-copy}
 use Rattle.image.proofs.block_at.Statement.{statement}

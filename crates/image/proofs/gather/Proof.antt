@@ -1,8 +1,4 @@
-use lib.ListN.{length}
-use Prim.Native.Nat.{_-_}
-use mathlib.Core.Path.{_≡_, refl, _∙_}
-use borrow.Author.Tests.{not-true, not-false}
-use native.Mathlib.Omega.{arith}
+use Rattle.basics.proofs.Kit.{_≡_, refl, _∙_, _-_, length, not-true, not-false, arith}
 use Rattle.image.proofs.Named.{Gathering, filled-there, gathering-start, gathering-turn, gathering-stop, gathering-end}
 use Rattle.image.proofs.Collect.{within, seen}
 use Rattle.image.specs.View.{view}

@@ -1,4 +1,4 @@
-use mathlib.Core.Path.{refl}
+use Rattle.basics.proofs.Kit.{refl}
 use Rattle.image.specs.Answers.{noEntries}
 use Rattle.image.proofs.no_entries.Statement.{statement}
 use Rattle.image.proofs.no_entries.Tie as tie

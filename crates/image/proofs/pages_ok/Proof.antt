@@ -1,4 +1,4 @@
-use mathlib.Core.Path.{refl}
+use Rattle.basics.proofs.Kit.{refl}
 use Rattle.image.proofs.pages_ok.Statement.{statement}
 use Rattle.image.proofs.pages_ok.Tie as tie
 

@@ -1,8 +1,4 @@
-use lib.ListN.{length-set, length, take, set}
-use Prim.Native.Nat.{ℕ, _+_, _-_, _≤_}
-use mathlib.Core.List.{List}
-use mathlib.Core.Path.{_≡_, refl, sym, ap, _∙_}
-use native.Mathlib.Omega.{arith}
+use Rattle.basics.proofs.Kit.{_≡_, refl, sym, ap, _∙_, List, ℕ, _+_, _≤_, _-_, length, take, set, length-set, arith}
 use Rattle.image.proofs.Named.{put-turn}
 use Rattle.bits.proofs.Lists.{over-nil}
 use Rattle.bits.specs.Bits.{over}

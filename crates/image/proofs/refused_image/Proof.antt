@@ -1,4 +1,4 @@
-use borrow.Author.Needs.{needs}
+use Rattle.basics.proofs.Kit.{needs}
 use Rattle.image.specs.Answers.{noHeader, imageAnswer}
 use Rattle.image.proofs.refused_image.Statement.{statement}
 use Rattle.image.proofs.refused_image.Tie as tie

@@ -1,4 +1,4 @@
-use borrow.Author.Needs.{needs}
+use Rattle.basics.proofs.Kit.{needs}
 use Rattle.image.specs.Answers.{pagesAnswer}
 use Rattle.image.proofs.refused_pages.Statement.{statement}
 use Rattle.image.proofs.refused_pages.Tie as tie

@@ -1,7 +1,4 @@
-use lib.ListN.{length}
-use Prim.Native.Nat.{_/_}
-use mathlib.Core.Path.{sym, ap, _∙_}
-use borrow.Author.Needs.{needs}
+use Rattle.basics.proofs.Kit.{sym, ap, _∙_, _/_, length, needs}
 use Rattle.image.proofs.Staged.{not-whole, too-few, too-many, by-block, header-yes, header-no, no-header}
 use Rattle.image.specs.Answers.{headerAnswer}
 use Rattle.blocks.specs.Decode.{decodeBlock}

@@ -1,5 +1,4 @@
-use mathlib.Core.Path.{sym, _∙_}
-use borrow.Author.Needs.{needs}
+use Rattle.basics.proofs.Kit.{sym, _∙_, needs}
 use Rattle.image.proofs.Staged.{passed-is, image-refused, image-stopped, image-holds}
 use Rattle.image.proofs.test_image.Statement.{statement}
 use Rattle.image.proofs.test_image.Tie as tie

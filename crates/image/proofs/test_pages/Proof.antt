@@ -1,8 +1,4 @@
-use lib.ListN.{length-take}
-use mathlib.Core.Path.{sym, ap, _∙_}
-use borrow.Author.Tests.{not-true, not-false}
-use native.Mathlib.Omega.{arith}
-use borrow.Author.Needs.{needs}
+use Rattle.basics.proofs.Kit.{sym, ap, _∙_, length-take, not-true, not-false, needs, arith}
 use Rattle.image.proofs.Staged.{Begun, passing, four, within-none, named, not-read, got, not-ok, in-image, wrong-pages, right-pages}
 use Rattle.image.specs.Answers.{pagesAnswer}
 use Rattle.image.proofs.test_pages.Statement.{statement}

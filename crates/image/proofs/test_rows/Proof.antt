@@ -1,7 +1,4 @@
-use lib.ListN.{length, getD}
-use Prim.Native.Nat.{_-_}
-use mathlib.Core.Path.{_≡_, refl, _∙_}
-use native.Mathlib.Omega.{arith}
+use Rattle.basics.proofs.Kit.{_≡_, refl, _∙_, _-_, length, getD, arith}
 use Rattle.image.proofs.Collect.{Collecting, within, Goods, goods, page-here, tuples-here, collecting-start, collecting-turn, collecting-end, collecting-bad}
 use Rattle.image.specs.View.{view}
 use Rattle.rows.specs.Columns.{rowsIn}

@@ -1,6 +1,5 @@
 -- `main` ends after 59 turns.
-use native.Mathlib.Omega.{arith}
-use Prim.Native.Nat.{_≤_, _-_}
+use Rattle.basics.proofs.Kit.{_≤_, _-_, arith}
 use Rattle.lister_cases.proofs.main.Statement.{statement}
 use Rattle.lister_cases.proofs.main.Tie as tie
 

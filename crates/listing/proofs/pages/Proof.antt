@@ -1,8 +1,5 @@
 -- `pages` is safe and ends: at most 1,024 turns, and the lent buffer keeps its length.
-use lib.ListN.{length}
-use native.Mathlib.Omega.{arith}
-use mathlib.Core.Path.{_≡_}
-use Prim.Native.Nat.{_≤_, _-_}
+use Rattle.basics.proofs.Kit.{_≡_, _≤_, _-_, length, arith}
 use Rattle.listing.proofs.pages.Statement.{statement}
 use Rattle.listing.proofs.pages.Tie as tie
 

@@ -1,8 +1,5 @@
 -- `print` lends its buffers whole, and of the input what was read.
-use mathlib.Core.Path.{sym}
-use Prim.Native.Nat.{ℕ}
-use lib.ListN.{length-replicate}
-use borrow.Author.Needs.{needs}
+use Rattle.basics.proofs.Kit.{sym, ℕ, length-replicate, needs}
 use Rattle.listing.proofs.print.Statement.{statement}
 use Rattle.listing.proofs.print.Tie as tie
 

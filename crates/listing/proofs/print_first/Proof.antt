@@ -1,7 +1,5 @@
 -- `print_first` writes a part of the lent buffer.
-use lib.ListN.{length-take}
-use native.Mathlib.Omega.{arith}
-use borrow.Author.Needs.{needs}
+use Rattle.basics.proofs.Kit.{length-take, needs, arith}
 use Rattle.listing.proofs.print_first.Statement.{statement}
 use Rattle.listing.proofs.print_first.Tie as tie
 

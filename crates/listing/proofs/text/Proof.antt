@@ -1,10 +1,5 @@
 -- `text` is safe and ends: the counter stays within the text, and the lent buffer keeps its length.
-use Prim.Native.Nat.{_≤_, _-_}
-use mathlib.Core.Path.{_≡_, ap, _∙_}
-use mathlib.Core.Logic.{⊎-elim}
-use native.Mathlib.Omega.{arith}
-use borrow.Author.Needs.{needs}
-use lib.ListN.{length, length-set}
+use Rattle.basics.proofs.Kit.{_≡_, ap, _∙_, ⊎-elim, _≤_, _-_, length, length-set, needs, arith}
 use Rattle.listing.proofs.text.Statement.{statement}
 use Rattle.listing.proofs.text.Tie as tie
 

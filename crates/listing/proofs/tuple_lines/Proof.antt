@@ -1,8 +1,5 @@
 -- `tuple_lines` is safe and ends: at most count turns, and the lent buffer keeps its length.
-use lib.ListN.{length}
-use native.Mathlib.Omega.{arith}
-use mathlib.Core.Path.{_≡_}
-use Prim.Native.Nat.{_≤_, _-_}
+use Rattle.basics.proofs.Kit.{_≡_, _≤_, _-_, length, arith}
 use Rattle.listing.proofs.tuple_lines.Statement.{statement}
 use Rattle.listing.proofs.tuple_lines.Tie as tie
 

@@ -1,6 +1,5 @@
 use Rattle.memory_bytes.proofs.Moves.{add-end}
-use mathlib.Core.Path.{refl}
-use borrow.Author.Needs.{needs}
+use Rattle.basics.proofs.Kit.{refl, needs}
 use Rattle.memory_bytes.proofs.add2.Statement.{statement}
 use Rattle.memory_bytes.proofs.add2.Tie as tie
 

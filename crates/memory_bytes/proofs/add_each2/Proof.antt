@@ -1,9 +1,6 @@
 use Rattle.memory_bytes.proofs.Moves.{add-start, add-turn, add-end}
 use Rattle.memory_bytes.specs.Bytes.{Added}
-use borrow.Author.Needs.{needs}
-use native.Mathlib.Omega.{arith}
-use mathlib.Core.Path.{refl}
-use Prim.Native.Nat.{_-_, _≤_}
+use Rattle.basics.proofs.Kit.{refl, _≤_, _-_, needs, arith}
 use Rattle.memory_bytes.proofs.add_each2.Statement.{statement}
 use Rattle.memory_bytes.proofs.add_each2.Tie as tie
 

@@ -2,10 +2,7 @@ use Rattle.memory_bytes.proofs.Scans.{any-turn, any-end}
 use Rattle.memory_bytes.specs.Columns.{tab, equals}
 use Rattle.memory_bytes.specs.Bytes.{column4}
 use Rattle.basics.specs.Basics.{any}
-use native.Mathlib.Omega.{arith}
-use Prim.Native.Nat.{_-_, _≤_}
-use mathlib.Core.Bool.{_||_}
-use mathlib.Core.Path.{_≡_, refl}
+use Rattle.basics.proofs.Kit.{_≡_, refl, _||_, _≤_, _-_, arith}
 use Rattle.memory_bytes.proofs.any_equal.Statement.{statement}
 use Rattle.memory_bytes.proofs.any_equal.Tie as tie
 

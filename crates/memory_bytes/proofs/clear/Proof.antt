@@ -1,8 +1,5 @@
 use Rattle.memory_bytes.proofs.Moves.{Writing, write-start, write-turn, write-end}
-use native.Mathlib.Omega.{arith}
-use Prim.Native.Nat.{ℕ, _-_, _≤_}
-use mathlib.Core.Path.{sym}
-use lib.ListN.{replicate, length-replicate, getD-replicate}
+use Rattle.basics.proofs.Kit.{sym, ℕ, _≤_, _-_, length-replicate, replicate, getD-replicate, arith}
 use Rattle.memory_bytes.proofs.clear.Statement.{statement}
 use Rattle.memory_bytes.proofs.clear.Tie as tie
 

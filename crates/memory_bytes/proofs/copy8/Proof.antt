@@ -1,10 +1,7 @@
 -- `memory_bytes::copy8` meets its contract.
-use Prim.Native.Nat.{ℕ}
-use mathlib.Core.Path.{subst}
-use lib.ListN.{replicate, length-replicate}
+use Rattle.basics.proofs.Kit.{subst, ℕ, length-replicate, replicate, needs}
 use Rattle.memory_bytes.specs.Bytes.{Wrote}
 use Rattle.memory_bytes.proofs.Bytes.{copied-whole}
-use borrow.Author.Needs.{needs}
 use Rattle.memory_bytes.proofs.copy8.Statement.{statement}
 use Rattle.memory_bytes.proofs.copy8.Tie as tie
 

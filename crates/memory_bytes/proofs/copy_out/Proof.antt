@@ -1,11 +1,7 @@
 use Rattle.memory_bytes.proofs.Moves.{Writing, write-start, write-front, write-end}
 use Rattle.memory_bytes.proofs.Bytes.{length-bytes, getD-bytes, front-wrote}
 use Rattle.memory_bytes.specs.Bytes.{bytes}
-use native.Mathlib.Omega.{arith}
-use Prim.Native.Nat.{ℕ, _-_, _≤_}
-use mathlib.Core.Path.{_≡_, sym, ap, _∙_}
-use mathlib.Core.List.{_++_}
-use lib.ListN.{length, drop}
+use Rattle.basics.proofs.Kit.{_≡_, sym, ap, _∙_, _++_, ℕ, _≤_, _-_, length, drop, arith}
 use Rattle.memory_bytes.proofs.copy_out.Statement.{statement}
 use Rattle.memory_bytes.proofs.copy_out.Tie as tie
 

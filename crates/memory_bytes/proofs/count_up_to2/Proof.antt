@@ -2,10 +2,7 @@ use Rattle.memory_bytes.proofs.Scans.{count-turn, count-end, one-most}
 use Rattle.memory_bytes.specs.Columns.{tab, upTo}
 use Rattle.memory_bytes.specs.Bytes.{column2}
 use Rattle.basics.specs.Basics.{howMany}
-use native.Mathlib.Omega.{arith}
-use Prim.Native.Nat.{_-_, _≤_, _+_}
-use lib.Dec.{leb}
-use mathlib.Core.Path.{_≡_}
+use Rattle.basics.proofs.Kit.{_≡_, _+_, _≤_, _-_, leb, arith}
 use Rattle.memory_bytes.proofs.count_up_to2.Statement.{statement}
 use Rattle.memory_bytes.proofs.count_up_to2.Tie as tie
 

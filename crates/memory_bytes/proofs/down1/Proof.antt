@@ -1,6 +1,5 @@
 use Rattle.memory_bytes.proofs.Moves.{Lowering, lower-start, lower-turn, lower-end}
-use native.Mathlib.Omega.{arith}
-use Prim.Native.Nat.{_-_, _≤_}
+use Rattle.basics.proofs.Kit.{_≤_, _-_, arith}
 use Rattle.memory_bytes.proofs.down1.Statement.{statement}
 use Rattle.memory_bytes.proofs.down1.Tie as tie
 

@@ -1,10 +1,7 @@
 use Rattle.memory_bytes.proofs.Scans.{first-skip, first-pass, first-hit, first-end, any-group4}
 use Rattle.memory_bytes.specs.Columns.{tab, equals, firstIndex}
 use Rattle.memory_bytes.specs.Bytes.{column4}
-use borrow.Author.Tests.{ne-eqb, eq-eqb}
-use native.Mathlib.Omega.{arith}
-use Prim.Native.Nat.{_-_, _≤_, _+_}
-use mathlib.Core.Path.{_≡_, refl}
+use Rattle.basics.proofs.Kit.{_≡_, refl, _+_, _≤_, _-_, eq-eqb, ne-eqb, arith}
 use Rattle.memory_bytes.proofs.find_equal.Statement.{statement}
 use Rattle.memory_bytes.proofs.find_equal.Tie as tie
 

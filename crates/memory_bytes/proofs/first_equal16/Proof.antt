@@ -1,9 +1,7 @@
-use mathlib.Core.Path.{refl, _∙_}
+use Rattle.basics.proofs.Kit.{refl, _∙_, _≤_, arith}
 use Rattle.memory_bytes.proofs.Spans.{covers-none, covers-is, down-here, down-past}
 use Rattle.memory_bytes.specs.Bytes.{column4}
 use Rattle.memory_bytes.specs.Columns.{Covers}
-use Prim.Native.Nat.{_≤_}
-use native.Mathlib.Omega.{arith}
 use Rattle.memory_bytes.proofs.first_equal16.Statement.{statement}
 use Rattle.memory_bytes.proofs.first_equal16.Tie as tie
 

@@ -1,5 +1,5 @@
 use Rattle.memory_bytes.specs.Bytes.{le4}
-use borrow.Author.Needs.{needs}
+use Rattle.basics.proofs.Kit.{needs}
 use Rattle.memory_bytes.proofs.get4.Statement.{statement}
 use Rattle.memory_bytes.proofs.get4.Tie as tie
 

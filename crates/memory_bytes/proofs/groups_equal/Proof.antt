@@ -1,10 +1,8 @@
-use mathlib.Core.Path.{refl, sym}
+use Rattle.basics.proofs.Kit.{refl, sym, _≤_, _-_, arith}
 use Rattle.memory_bytes.proofs.Scans.{any-group4}
 use Rattle.memory_bytes.proofs.Spans.{grouped-none, grouped-turn}
 use Rattle.memory_bytes.specs.Bytes.{column4}
 use Rattle.memory_bytes.specs.Columns.{equals, Grouped}
-use Prim.Native.Nat.{_-_, _≤_}
-use native.Mathlib.Omega.{arith}
 use Rattle.memory_bytes.proofs.groups_equal.Statement.{statement}
 use Rattle.memory_bytes.proofs.groups_equal.Tie as tie
 

@@ -1,10 +1,7 @@
 use Rattle.memory_bytes.proofs.Scans.{LastBelow, last-skip, last-pass, last-hit, last-end, any-group4}
 use Rattle.memory_bytes.specs.Columns.{equals}
 use Rattle.memory_bytes.specs.Bytes.{column4}
-use borrow.Author.Tests.{eq-eqb, ne-eqb}
-use native.Mathlib.Omega.{arith}
-use Prim.Native.Nat.{_-_}
-use mathlib.Core.Path.{refl}
+use Rattle.basics.proofs.Kit.{refl, _-_, eq-eqb, ne-eqb, arith}
 use Rattle.memory_bytes.proofs.last_equal.Statement.{statement}
 use Rattle.memory_bytes.proofs.last_equal.Tie as tie
 

@@ -1,10 +1,7 @@
-use mathlib.Core.Path.{refl, _∙_}
-use mathlib.Core.Logic.{⊎-elim}
+use Rattle.basics.proofs.Kit.{refl, _∙_, ⊎-elim, _≤_, _-_, arith}
 use Rattle.memory_bytes.proofs.Spans.{covers-none, covers-is, up-here, up-past}
 use Rattle.memory_bytes.specs.Bytes.{column4}
 use Rattle.memory_bytes.specs.Columns.{Covers}
-use Prim.Native.Nat.{_-_, _≤_}
-use native.Mathlib.Omega.{arith}
 use Rattle.memory_bytes.proofs.last_equal16.Statement.{statement}
 use Rattle.memory_bytes.proofs.last_equal16.Tie as tie
 

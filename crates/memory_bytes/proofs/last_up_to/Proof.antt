@@ -1,10 +1,7 @@
 use Rattle.memory_bytes.proofs.Scans.{LastBelow, last-skip, last-pass, last-hit, last-end, any-group4}
 use Rattle.memory_bytes.specs.Columns.{upTo}
 use Rattle.memory_bytes.specs.Bytes.{column4}
-use borrow.Author.Tests.{le-leb, lt-leb}
-use native.Mathlib.Omega.{arith}
-use Prim.Native.Nat.{_-_}
-use mathlib.Core.Path.{refl}
+use Rattle.basics.proofs.Kit.{refl, _-_, le-leb, lt-leb, arith}
 use Rattle.memory_bytes.proofs.last_up_to.Statement.{statement}
 use Rattle.memory_bytes.proofs.last_up_to.Tie as tie
 

@@ -2,9 +2,7 @@ use Rattle.memory_bytes.proofs.Scans.{any-start, any-hit, any-pass, any
 use Rattle.memory_bytes.specs.Columns.{tab, names}
 use Rattle.memory_bytes.specs.Bytes.{column2}
 use Rattle.basics.specs.Basics.{any}
-use native.Mathlib.Omega.{arith}
-use Prim.Native.Nat.{_-_, _≤_}
-use mathlib.Core.Path.{_≡_, sym, _∙_}
+use Rattle.basics.proofs.Kit.{_≡_, sym, _∙_, _≤_, _-_, arith}
 use Rattle.memory_bytes.proofs.names16.Statement.{statement}
 use Rattle.memory_bytes.proofs.names16.Tie as tie
 

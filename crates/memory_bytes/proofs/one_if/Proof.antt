@@ -1,7 +1,5 @@
-use mathlib.Core.Path.{_≡_, refl}
-use mathlib.Core.Bool.{Bool, true, false, cond}
+use Rattle.basics.proofs.Kit.{_≡_, refl, Bool, true, false, cond, needs}
 use mir.Val.{boolByte}
-use borrow.Author.Needs.{needs}
 use Rattle.memory_bytes.proofs.one_if.Statement.{statement}
 use Rattle.memory_bytes.proofs.one_if.Tie as tie
 

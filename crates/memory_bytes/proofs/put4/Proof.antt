@@ -1,7 +1,5 @@
 use Rattle.memory_bytes.proofs.Moves.{wrote4}
-use lib.ListN.{length-set}
-use native.Mathlib.Omega.{arith}
-use borrow.Author.Needs.{needs}
+use Rattle.basics.proofs.Kit.{length-set, needs, arith}
 use Rattle.memory_bytes.proofs.put4.Statement.{statement}
 use Rattle.memory_bytes.proofs.put4.Tie as tie
 

@@ -2,11 +2,7 @@ use Rattle.memory_bytes.proofs.Scans.{paired-start, paired-turn, paired
 use Rattle.memory_bytes.specs.Columns.{tab}
 use Rattle.memory_bytes.specs.Bytes.{column2, le2}
 use Rattle.basics.specs.Basics.{paired}
-use native.Mathlib.Omega.{arith}
-use Prim.Native.Nat.{_-_, _≤_, _+_}
-use lib.Dec.{ltb}
-use mathlib.Core.Bool.{_&&_}
-use mathlib.Core.Path.{_≡_, ap, _∙_}
+use Rattle.basics.proofs.Kit.{_≡_, ap, _∙_, _&&_, _+_, _≤_, _-_, ltb, arith}
 use Rattle.memory_bytes.proofs.rising2.Statement.{statement}
 use Rattle.memory_bytes.proofs.rising2.Tie as tie
 

@@ -1,7 +1,6 @@
-use native.Mathlib.Omega.{arith}
+use Rattle.basics.proofs.Kit.{needs, arith}
 use Rattle.memory_bytes.specs.Bytes.{column4}
 use Rattle.memory_bytes.proofs.Spans.{first-in, found-covers, grouped-empty, grouped-covers}
-use borrow.Author.Needs.{needs}
 use Rattle.memory_bytes.proofs.span_equal.Statement.{statement}
 use Rattle.memory_bytes.proofs.span_equal.Tie as tie
 

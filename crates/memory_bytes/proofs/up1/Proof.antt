@@ -1,6 +1,5 @@
 use Rattle.memory_bytes.proofs.Moves.{Raising, raise-start, raise-turn, raise-end}
-use native.Mathlib.Omega.{arith}
-use Prim.Native.Nat.{_≤_}
+use Rattle.basics.proofs.Kit.{_≤_, arith}
 use Rattle.memory_bytes.proofs.up1.Statement.{statement}
 use Rattle.memory_bytes.proofs.up1.Tie as tie
 

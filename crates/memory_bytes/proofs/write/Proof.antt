@@ -1,8 +1,5 @@
 use Rattle.memory_bytes.proofs.Moves.{Writing, write-start, write-turn, write-end}
-use native.Mathlib.Omega.{arith}
-use Prim.Native.Nat.{_-_, _≤_}
-use lib.ListN.{length}
-use mathlib.Core.Path.{refl}
+use Rattle.basics.proofs.Kit.{refl, _≤_, _-_, length, arith}
 use Rattle.memory_bytes.proofs.write.Statement.{statement}
 use Rattle.memory_bytes.proofs.write.Tie as tie
 

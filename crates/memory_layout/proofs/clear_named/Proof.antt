@@ -1,5 +1,5 @@
 use Rattle.memory_layout.proofs.Leaves.{named-clear}
-use borrow.Author.Needs.{needs}
+use Rattle.basics.proofs.Kit.{needs}
 use Rattle.memory_layout.proofs.clear_named.Statement.{statement}
 use Rattle.memory_layout.proofs.clear_named.Tie as tie
 

@@ -1,8 +1,4 @@
-use mathlib.Core.List.{List}
-use native.Mathlib.Nat.{zero-add}
-use mathlib.Core.Path.{_≡_, ap, sym, _∙_}
-use Prim.Native.Nat.{ℕ, _+_, _-_, _≤_}
-use native.Mathlib.Omega.{arith}
+use Rattle.basics.proofs.Kit.{_≡_, sym, ap, _∙_, List, ℕ, _+_, _≤_, _-_, zero-add, arith}
 use Rattle.memory_bytes.specs.Bytes.{le4}
 use Rattle.memory_bytes.specs.Columns.{tab}
 use Rattle.memory_layout.specs.Views.{openAt}

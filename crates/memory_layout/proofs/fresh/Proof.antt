@@ -1,8 +1,7 @@
-use mathlib.Core.Path.{_∙_}
+use Rattle.basics.proofs.Kit.{_∙_, needs}
 use Rattle.memory_layout.specs.Store.{freshFlat}
 use Rattle.memory_layout.specs.Flat.{Becomes}
 use Rattle.memory_layout.proofs.Blank.{blanked, blank-becomes, blank-in}
-use borrow.Author.Needs.{needs}
 use Rattle.memory_layout.proofs.fresh.Statement.{statement}
 use Rattle.memory_layout.proofs.fresh.Tie as tie
 

@@ -1,5 +1,5 @@
 use Rattle.memory_layout.specs.Views.{countsOf}
-use borrow.Author.Needs.{needs}
+use Rattle.basics.proofs.Kit.{needs}
 use Rattle.memory_layout.proofs.get_counts.Statement.{statement}
 use Rattle.memory_layout.proofs.get_counts.Tie as tie
 

@@ -1,7 +1,5 @@
-use mathlib.Core.Bool.{not}
-use lib.Dec.{eqb}
+use Rattle.basics.proofs.Kit.{not, eqb, needs}
 use Rattle.memory_layout.specs.Views.{headOf}
-use borrow.Author.Needs.{needs}
 use Rattle.memory_layout.proofs.get_head.Statement.{statement}
 use Rattle.memory_layout.proofs.get_head.Tie as tie
 

@@ -1,5 +1,4 @@
-use mathlib.Core.Path.{ap, _∙_}
-use native.Mathlib.Omega.{arith}
+use Rattle.basics.proofs.Kit.{ap, _∙_, arith}
 use Rattle.memory_bytes.specs.Bytes.{le2}
 use Rattle.memory_layout.specs.Views.{headOf}
 use Rattle.memory_layout.proofs.Laws.{known}

@@ -1,4 +1,4 @@
-use native.Mathlib.Omega.{arith}
+use Rattle.basics.proofs.Kit.{arith}
 use Rattle.memory_layout.proofs.Laws.{known}
 use Rattle.memory_layout.proofs.Leaves.{open-at}
 use Rattle.memory_layout.proofs.get_open.Statement.{statement}

@@ -1,8 +1,5 @@
-use native.Mathlib.Omega.{arith}
-use mathlib.Core.Path.{sym, _∙_}
-use borrow.Author.Tests.{not-true, not-false}
+use Rattle.basics.proofs.Kit.{sym, _∙_, not-true, not-false, needs, arith}
 use Rattle.memory_layout.proofs.Refusal.{too-short, unsigned, out-of-range, tables-fall, last-test, starts-at}
-use borrow.Author.Needs.{needs}
 use Rattle.memory_layout.proofs.holds_store.Statement.{statement}
 use Rattle.memory_layout.proofs.holds_store.Tie as tie
 

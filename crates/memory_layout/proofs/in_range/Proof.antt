@@ -1,11 +1,9 @@
-use Prim.Native.Nat.{_+_, _*_}
-use lib.Dec.{leb, ltb}
+use Rattle.basics.proofs.Kit.{_+_, _*_, leb, ltb, needs}
 use Rattle.memory_layout.specs.declared.Head.{Head}
 use Rattle.memory_layout.specs.declared.Counts.{Counts}
 use Rattle.memory_layout.proofs.Refusal.{joined}
 use Rattle.memory_layout.specs.Store.{inRange}
 use Rattle.model.specs.Recover.{memoryFor}
-use borrow.Author.Needs.{needs}
 use Rattle.memory_layout.proofs.in_range.Statement.{statement}
 use Rattle.memory_layout.proofs.in_range.Tie as tie
 

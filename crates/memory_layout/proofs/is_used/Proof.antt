@@ -1,6 +1,5 @@
-use borrow.Author.Tests.{lt-ltb}
+use Rattle.basics.proofs.Kit.{lt-ltb, needs}
 use Rattle.memory_layout.specs.Views.{isUsed}
-use borrow.Author.Needs.{needs}
 use Rattle.memory_layout.proofs.is_used.Statement.{statement}
 use Rattle.memory_layout.proofs.is_used.Tie as tie
 

@@ -1,5 +1,5 @@
 use Rattle.memory_layout.proofs.Marks.{mark-becomes}
-use borrow.Author.Needs.{needs}
+use Rattle.basics.proofs.Kit.{needs}
 use Rattle.memory_layout.proofs.mark_used.Statement.{statement}
 use Rattle.memory_layout.proofs.mark_used.Tie as tie
 

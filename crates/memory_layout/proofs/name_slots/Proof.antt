@@ -1,5 +1,4 @@
-use Prim.Native.Nat.{_+_, _*_, _-_, _≤_}
-use native.Mathlib.Omega.{arith}
+use Rattle.basics.proofs.Kit.{_+_, _*_, _≤_, _-_, arith}
 use Rattle.memory_bytes.specs.Bytes.{Apart}
 use Rattle.memory_layout.proofs.Blank.{names-start, names-turn}
 use Rattle.memory_layout.proofs.name_slots.Statement.{statement}

@@ -1,6 +1,5 @@
-use native.Mathlib.Omega.{arith}
+use Rattle.basics.proofs.Kit.{needs, arith}
 use Rattle.memory_layout.specs.Views.{headOf}
-use borrow.Author.Needs.{needs}
 use Rattle.memory_layout.proofs.named_place.Statement.{statement}
 use Rattle.memory_layout.proofs.named_place.Tie as tie
 

@@ -1,7 +1,6 @@
-use native.Mathlib.Omega.{arith}
+use Rattle.basics.proofs.Kit.{needs, arith}
 use Rattle.memory_layout.proofs.Laws.{known}
 use Rattle.memory_layout.proofs.Leaves.{open-push}
-use borrow.Author.Needs.{needs}
 use Rattle.memory_layout.proofs.push_open.Statement.{statement}
 use Rattle.memory_layout.proofs.push_open.Tie as tie
 

@@ -1,6 +1,5 @@
 use Rattle.memory_layout.proofs.Leaves.{head-put}
-use native.Mathlib.Omega.{arith}
-use borrow.Author.Needs.{needs}
+use Rattle.basics.proofs.Kit.{needs, arith}
 use Rattle.memory_layout.proofs.put_head.Statement.{statement}
 use Rattle.memory_layout.proofs.put_head.Tie as tie
 

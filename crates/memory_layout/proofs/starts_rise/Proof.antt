@@ -1,7 +1,5 @@
-use mathlib.Core.Path.{sym}
-use native.Mathlib.Omega.{arith}
+use Rattle.basics.proofs.Kit.{sym, needs, arith}
 use Rattle.memory_layout.proofs.Refusal.{no-pages, last-empty, first-moved, all-rise}
-use borrow.Author.Needs.{needs}
 use Rattle.memory_layout.proofs.starts_rise.Statement.{statement}
 use Rattle.memory_layout.proofs.starts_rise.Tie as tie
 

@@ -1,10 +1,5 @@
-use mathlib.Core.Path.{refl, sym, ap, _∙_}
-use mathlib.Core.Bool.{Bool}
+use Rattle.basics.proofs.Kit.{_≡_, refl, sym, ap, _∙_, Bool, _&&_, _≤_, _-_, arith}
 use Rattle.basics.proofs.Ands.{and-yes}
-use mathlib.Core.Path.{_≡_}
-use mathlib.Core.Bool.{_&&_}
-use Prim.Native.Nat.{_-_, _≤_}
-use native.Mathlib.Omega.{arith}
 use Rattle.basics.specs.Basics.{all, from}
 use Rattle.memory_layout.specs.Store.{tablesRise}
 use Rattle.memory_layout.proofs.Refusal.{endRises, tables-turn, all-end}

@@ -1,9 +1,4 @@
-use mathlib.Core.Path.{_≡_, ap, _∙_}
-use Prim.Native.Nat.{ℕ, _*_, _%_, _^_}
-use native.Mathlib.Nat.{one-mul, mod-eq-of-lt}
-use lib.Bits.{bitOr}
-use lib.Pow.{pow-lt}
-use borrow.Author.Needs.{needs}
+use Rattle.basics.proofs.Kit.{_≡_, ap, _∙_, ℕ, _*_, _%_, _^_, mod-eq-of-lt, one-mul, pow-lt, bitOr, needs}
 use Rattle.memory_layout.proofs.with_bit.Statement.{statement}
 use Rattle.memory_layout.proofs.with_bit.Tie as tie
 

@@ -1,7 +1,4 @@
-use mathlib.Core.Bool.{_||_}
-use native.Mathlib.Omega.{arith}
-use mathlib.Core.Path.{_≡_, refl}
-use Prim.Native.Nat.{_-_, _≤_}
+use Rattle.basics.proofs.Kit.{_≡_, refl, _||_, _≤_, _-_, arith}
 use Rattle.memory_pages.specs.Pages.{frozenWord}
 use Rattle.basics.specs.Basics.{any}
 use Rattle.memory_bytes.specs.Bytes.{column2}

@@ -1,12 +1,9 @@
-use native.Mathlib.Omega.{arith}
-use mathlib.Core.Path.{_≡_, sym, _∙_}
-use Prim.Native.Nat.{_*_, _<_}
+use Rattle.basics.proofs.Kit.{_≡_, sym, _∙_, _*_, _<_, needs, arith}
 use Rattle.memory_layout.proofs.Laws.{entries-length}
 use Rattle.memory_layout.specs.Views.{pageCount, startAt}
 use Rattle.memory_layout.specs.Flat.{capacityOf}
 use Rattle.memory_pages.proofs.Appending.{last-stands, open-room, open-pages, page-appended, page-order}
 use Rattle.memory_pages.proofs.Ranges.{ranges, head-capacity, start-behind}
-use borrow.Author.Needs.{needs}
 use Rattle.memory_pages.proofs.append_page.Statement.{statement}
 use Rattle.memory_pages.proofs.append_page.Tie as tie
 

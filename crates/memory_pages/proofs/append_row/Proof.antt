@@ -1,14 +1,10 @@
-use native.Mathlib.Omega.{arith}
+use Rattle.basics.proofs.Kit.{refl, [], _∷_, length-append, needs, arith}
 use Rattle.memory_layout.proofs.Laws.{entries-length, rows-length}
-use lib.ListN.{length-append}
-use mathlib.Core.List.{[], _∷_}
-use mathlib.Core.Path.{refl}
 use Rattle.memory_rows.specs.Rows.{heldBy}
 use Rattle.memory_layout.specs.Flat.{flatOf}
 use Rattle.memory_pages.proofs.Moves.{row-inserted}
 use Rattle.memory_bytes.proofs.Moves.{add-start}
 use Rattle.memory_pages.proofs.Ranges.{head-capacity}
-use borrow.Author.Needs.{needs}
 use Rattle.memory_pages.proofs.append_row.Statement.{statement}
 use Rattle.memory_pages.proofs.append_row.Tie as tie
 

@@ -1,10 +1,6 @@
-use Prim.Native.Nat.{_%_}
+use Rattle.basics.proofs.Kit.{sym, ap, _∙_, ℕ, _%_, needs, arith}
 use Rattle.memory_layout.proofs.Laws.{entries-length}
-use mathlib.Core.Path.{sym, ap, _∙_}
-use Prim.Native.Nat.{ℕ}
-use native.Mathlib.Omega.{arith}
 use Rattle.memory_pages.proofs.Ranges.{entry-block}
-use borrow.Author.Needs.{needs}
 use Rattle.memory_pages.proofs.block_at.Statement.{statement}
 use Rattle.memory_pages.proofs.block_at.Tie as tie
 

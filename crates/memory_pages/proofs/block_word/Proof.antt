@@ -1,10 +1,7 @@
 use Rattle.memory_bytes.specs.Bytes.{le2}
 use Rattle.memory_layout.proofs.Laws.{entries-length}
-use mathlib.Core.Path.{ap, _∙_}
-use Prim.Native.Nat.{ℕ, _+_, _*_}
-use native.Mathlib.Omega.{arith}
+use Rattle.basics.proofs.Kit.{ap, _∙_, ℕ, _+_, _*_, needs, arith}
 use Rattle.memory_pages.proofs.Ranges.{ranges}
-use borrow.Author.Needs.{needs}
 use Rattle.memory_pages.proofs.block_word.Statement.{statement}
 use Rattle.memory_pages.proofs.block_word.Tie as tie
 

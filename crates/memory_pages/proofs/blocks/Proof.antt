@@ -1,6 +1,5 @@
-use native.Mathlib.Omega.{arith}
+use Rattle.basics.proofs.Kit.{needs, arith}
 use Rattle.memory_pages.proofs.Ranges.{ranges}
-use borrow.Author.Needs.{needs}
 use Rattle.memory_pages.proofs.blocks.Statement.{statement}
 use Rattle.memory_pages.proofs.blocks.Tie as tie
 

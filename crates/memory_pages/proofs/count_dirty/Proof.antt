@@ -1,11 +1,5 @@
 -- `memory_pages::count_dirty` meets its contract.
-use Prim.Native.Nat.{ℕ, _-_}
-use mathlib.Core.Path.{_≡_, ap, _∙_}
-use mathlib.Core.Bool.{cond}
-use native.Mathlib.Omega.{arith}
-use lib.ListN.{length}
-use lib.Dec.{eqb}
-use borrow.Author.Needs.{needs}
+use Rattle.basics.proofs.Kit.{_≡_, ap, _∙_, cond, ℕ, _-_, eqb, length, needs, arith}
 use Rattle.basics.specs.Basics.{howMany}
 use Rattle.memory_bytes.proofs.Scans.{one-most}
 use Rattle.memory_layout.specs.Flat.{flatOf, noEntry}

@@ -1,10 +1,5 @@
 -- `memory_pages::count_frozen` meets its contract.
-use Prim.Native.Nat.{_-_}
-use mathlib.Core.Path.{_≡_, ap, _∙_}
-use mathlib.Core.Bool.{Bool, cond}
-use native.Mathlib.Omega.{arith}
-use lib.ListN.{length, drop}
-use borrow.Author.Needs.{needs}
+use Rattle.basics.proofs.Kit.{_≡_, ap, _∙_, Bool, cond, _-_, length, drop, needs, arith}
 use Rattle.basics.specs.Basics.{howMany}
 use Rattle.memory_bytes.proofs.Scans.{one-most}
 use Rattle.memory_layout.specs.Flat.{flatOf, noEntry}

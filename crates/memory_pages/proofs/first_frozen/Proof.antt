@@ -1,7 +1,4 @@
-use native.Mathlib.Omega.{arith}
-use borrow.Author.Tests.{ne-eqb, eq-eqb}
-use mathlib.Core.Path.{_∙_}
-use Prim.Native.Nat.{_-_}
+use Rattle.basics.proofs.Kit.{_∙_, _-_, eq-eqb, ne-eqb, arith}
 use Rattle.memory_pages.proofs.Frozen.{frozen-entries, blocks-inside}
 use Rattle.memory_pages.specs.Pages.{frozenWord, Passed}
 use Rattle.memory_bytes.specs.Bytes.{column2}

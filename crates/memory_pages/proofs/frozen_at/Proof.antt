@@ -1,11 +1,6 @@
-use lib.Dec.{eqb}
-use Prim.Native.Nat.{_/_, _%_}
+use Rattle.basics.proofs.Kit.{sym, ap, _∙_, ℕ, _%_, _/_, eqb, needs, arith}
 use Rattle.memory_layout.proofs.Laws.{entries-length}
-use mathlib.Core.Path.{sym, ap, _∙_}
-use Prim.Native.Nat.{ℕ}
-use native.Mathlib.Omega.{arith}
 use Rattle.memory_pages.proofs.Ranges.{entry-frozen}
-use borrow.Author.Needs.{needs}
 use Rattle.memory_pages.proofs.frozen_at.Statement.{statement}
 use Rattle.memory_pages.proofs.frozen_at.Tie as tie
 

@@ -1,6 +1,5 @@
-use native.Mathlib.Omega.{arith}
+use Rattle.basics.proofs.Kit.{needs, arith}
 use Rattle.memory_pages.proofs.Columns.{inserted2}
-use borrow.Author.Needs.{needs}
 use Rattle.memory_pages.proofs.insert2.Statement.{statement}
 use Rattle.memory_pages.proofs.insert2.Tie as tie
 

@@ -1,9 +1,8 @@
-use native.Mathlib.Omega.{arith}
+use Rattle.basics.proofs.Kit.{needs, arith}
 use Rattle.memory_layout.proofs.Laws.{entries-length}
 use Rattle.memory_pages.proofs.Changes.{page-inserted}
 use Rattle.memory_pages.proofs.Entries.{stands}
 use Rattle.memory_pages.proofs.Ranges.{ranges, start-most, head-capacity}
-use borrow.Author.Needs.{needs}
 use Rattle.memory_pages.proofs.insert_page.Statement.{statement}
 use Rattle.memory_pages.proofs.insert_page.Tie as tie
 

@@ -1,8 +1,7 @@
-use native.Mathlib.Omega.{arith}
+use Rattle.basics.proofs.Kit.{needs, arith}
 use Rattle.memory_pages.proofs.Ranges.{ranges}
 use Rattle.memory_layout.proofs.Laws.{entries-length}
 use Rattle.memory_pages.proofs.Halves.{join-may, join-done}
-use borrow.Author.Needs.{needs}
 use Rattle.memory_pages.proofs.join_pages.Statement.{statement}
 use Rattle.memory_pages.proofs.join_pages.Tie as tie
 

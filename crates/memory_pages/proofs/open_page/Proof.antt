@@ -1,7 +1,6 @@
-use native.Mathlib.Omega.{arith}
+use Rattle.basics.proofs.Kit.{needs, arith}
 use Rattle.memory_pages.proofs.Columns.{opened}
 use Rattle.memory_pages.proofs.Ranges.{ranges}
-use borrow.Author.Needs.{needs}
 use Rattle.memory_pages.proofs.open_page.Statement.{statement}
 use Rattle.memory_pages.proofs.open_page.Tie as tie
 

@@ -2,12 +2,9 @@ use Rattle.memory_layout.proofs.Laws.{starts, entries-length}
 use Rattle.memory_bytes.specs.Columns.{tab, upTo}
 use Rattle.memory_bytes.specs.Bytes.{column2}
 use Rattle.basics.specs.Basics.{howMany}
-use mathlib.Core.Path.{ap, _∙_}
-use Prim.Native.Nat.{ℕ, _-_}
-use native.Mathlib.Omega.{arith}
+use Rattle.basics.proofs.Kit.{ap, _∙_, ℕ, _-_, needs, arith}
 use Rattle.memory_pages.proofs.Finding.{Found, found}
 use Rattle.memory_pages.proofs.Ranges.{ranges, start-most}
-use borrow.Author.Needs.{needs}
 use Rattle.memory_pages.proofs.page_of.Statement.{statement}
 use Rattle.memory_pages.proofs.page_of.Tie as tie
 use Rattle.memory_pages.proofs.page_of.Reads as reads

@@ -1,6 +1,4 @@
-use native.Mathlib.Omega.{arith}
-use mathlib.Core.Path.{refl}
-use Prim.Native.Nat.{_-_}
+use Rattle.basics.proofs.Kit.{_-_, arith}
 use Rattle.memory_pages.specs.Pages.{frozenWord, Passed}
 use Rattle.memory_bytes.specs.Bytes.{column2}
 use Rattle.memory_bytes.proofs.Scans.{first-skip, any-group2}

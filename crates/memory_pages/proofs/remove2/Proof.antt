@@ -1,5 +1,5 @@
 use Rattle.memory_pages.proofs.Columns.{removed2}
-use borrow.Author.Needs.{needs}
+use Rattle.basics.proofs.Kit.{needs}
 use Rattle.memory_pages.proofs.remove2.Statement.{statement}
 use Rattle.memory_pages.proofs.remove2.Tie as tie
 

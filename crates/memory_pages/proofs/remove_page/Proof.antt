@@ -1,14 +1,10 @@
-use native.Mathlib.Omega.{arith}
-use Prim.Native.Nat.{_<_}
+use Rattle.basics.proofs.Kit.{_≡_, sym, _∙_, subst, ℕ, _<_, needs, arith}
 use Rattle.memory_layout.proofs.Laws.{entries-length}
 use Rattle.memory_layout.specs.Views.{pageCount, tableAt}
 use Rattle.memory_pages.proofs.Changes.{page-removed}
 use Rattle.memory_pages.proofs.Entries.{ends-behind}
 use Rattle.memory_pages.proofs.Tables.{TableIs, table-is}
 use Rattle.memory_pages.proofs.Ranges.{entry-table}
-use Prim.Native.Nat.{ℕ}
-use mathlib.Core.Path.{_≡_, sym, subst, _∙_}
-use borrow.Author.Needs.{needs}
 use Rattle.memory_pages.proofs.remove_page.Statement.{statement}
 use Rattle.memory_pages.proofs.remove_page.Tie as tie
 

@@ -1,9 +1,8 @@
-use native.Mathlib.Omega.{arith}
+use Rattle.basics.proofs.Kit.{needs, arith}
 use Rattle.memory_layout.specs.Flat.{flatOf}
 use Rattle.memory_layout.proofs.Laws.{entries-length, rows-length}
 use Rattle.memory_pages.proofs.Moves.{length-remove, row-removed}
 use Rattle.memory_pages.proofs.Ranges.{ranges}
-use borrow.Author.Needs.{needs}
 use Rattle.memory_pages.proofs.remove_row.Statement.{statement}
 use Rattle.memory_pages.proofs.remove_row.Tie as tie
 

@@ -1,8 +1,7 @@
-use native.Mathlib.Omega.{arith}
+use Rattle.basics.proofs.Kit.{needs, arith}
 use Rattle.memory_layout.proofs.Laws.{entries-length}
 use Rattle.memory_pages.proofs.Changes.{block-set}
 use Rattle.memory_pages.proofs.Ranges.{ranges}
-use borrow.Author.Needs.{needs}
 use Rattle.memory_pages.proofs.set_page.Statement.{statement}
 use Rattle.memory_pages.proofs.set_page.Tie as tie
 

@@ -1,9 +1,7 @@
-use native.Mathlib.Omega.{arith}
-use Prim.Native.Nat.{suc}
+use Rattle.basics.proofs.Kit.{suc, needs, arith}
 use Rattle.memory_layout.proofs.Laws.{entries-length}
 use Rattle.memory_pages.proofs.Halves.{split-may, split-done}
 use Rattle.memory_pages.proofs.Ranges.{ranges, start-most, entry-count, starts-rise}
-use borrow.Author.Needs.{needs}
 use Rattle.memory_pages.proofs.split_page.Statement.{statement}
 use Rattle.memory_pages.proofs.split_page.Tie as tie
 

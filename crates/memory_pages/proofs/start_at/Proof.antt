@@ -1,10 +1,7 @@
 use Rattle.memory_layout.specs.Flat.{capacityOf}
 use Rattle.memory_bytes.specs.Bytes.{le2}
-use mathlib.Core.Path.{sym, ap, _∙_}
-use Prim.Native.Nat.{ℕ, _+_, _*_}
-use native.Mathlib.Omega.{arith}
+use Rattle.basics.proofs.Kit.{sym, ap, _∙_, ℕ, _+_, _*_, needs, arith}
 use Rattle.memory_pages.proofs.Ranges.{ranges, start-stored, start-behind}
-use borrow.Author.Needs.{needs}
 use Rattle.memory_pages.proofs.start_at.Statement.{statement}
 use Rattle.memory_pages.proofs.start_at.Tie as tie
 

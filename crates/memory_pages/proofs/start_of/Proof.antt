@@ -1,8 +1,6 @@
 use Rattle.memory_layout.proofs.Laws.{starts, entries-length, rows-length}
-use mathlib.Core.Path.{_∙_}
-use native.Mathlib.Omega.{arith}
+use Rattle.basics.proofs.Kit.{_∙_, needs, arith}
 use Rattle.memory_pages.proofs.Ranges.{start-most}
-use borrow.Author.Needs.{needs}
 use Rattle.memory_pages.proofs.start_of.Statement.{statement}
 use Rattle.memory_pages.proofs.start_of.Tie as tie
 

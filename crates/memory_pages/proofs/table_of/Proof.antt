@@ -1,10 +1,8 @@
 use Rattle.memory_layout.specs.Views.{tableAt}
 use Rattle.memory_layout.proofs.Laws.{entries-length}
-use mathlib.Core.Path.{_≡_, sym, _∙_}
-use native.Mathlib.Omega.{arith}
+use Rattle.basics.proofs.Kit.{_≡_, sym, _∙_, needs, arith}
 use Rattle.memory_pages.proofs.Ranges.{ranges, entry-table}
 use Rattle.memory_pages.proofs.Tables.{table-is, table-counted}
-use borrow.Author.Needs.{needs}
 use Rattle.memory_pages.proofs.table_of.Statement.{statement}
 use Rattle.memory_pages.proofs.table_of.Tie as tie
 

@@ -1,11 +1,7 @@
-use Prim.Native.Nat.{_-_}
+use Rattle.basics.proofs.Kit.{_≡_, subst, ℕ, _+_, _-_, needs, arith}
 use Rattle.memory_layout.specs.Flat.{flatOf}
 use Rattle.memory_pages.specs.Pages.{TableFrom}
-use mathlib.Core.Path.{_≡_, subst}
-use Prim.Native.Nat.{ℕ, _+_}
-use native.Mathlib.Omega.{arith}
 use Rattle.memory_pages.proofs.Tables.{from-end}
-use borrow.Author.Needs.{needs}
 use Rattle.memory_pages.proofs.table_start.Statement.{statement}
 use Rattle.memory_pages.proofs.table_start.Tie as tie
 

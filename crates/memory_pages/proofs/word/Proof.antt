@@ -1,9 +1,5 @@
-use native.Mathlib.Nat.{add-zero}
-use mathlib.Core.Bool.{Bool, cond}
-use mathlib.Core.Path.{sym, ap, _∙_}
-use Prim.Native.Nat.{_+_}
+use Rattle.basics.proofs.Kit.{sym, ap, _∙_, Bool, cond, _+_, add-zero, needs}
 use Rattle.memory_pages.specs.Pages.{wordOf}
-use borrow.Author.Needs.{needs}
 use Rattle.memory_pages.proofs.word.Statement.{statement}
 use Rattle.memory_pages.proofs.word.Tie as tie
 

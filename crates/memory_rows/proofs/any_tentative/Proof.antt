@@ -3,11 +3,7 @@ use Rattle.memory_rows.proofs.Access.{sized}
 use Rattle.memory_bytes.proofs.Scans.{any-turn, any-end}
 use Rattle.memory_bytes.specs.Columns.{tab}
 use Rattle.basics.specs.Basics.{any}
-use lib.ListN.{getD}
-use native.Mathlib.Omega.{arith}
-use Prim.Native.Nat.{_+_, _-_, _≤_}
-use mathlib.Core.Bool.{_||_}
-use mathlib.Core.Path.{_≡_, refl, _∙_, sym}
+use Rattle.basics.proofs.Kit.{_≡_, refl, sym, _∙_, _||_, _+_, _≤_, _-_, getD, arith}
 use Rattle.memory_rows.proofs.any_tentative.Statement.{statement}
 use Rattle.memory_rows.proofs.any_tentative.Tie as tie
 use Rattle.memory_rows.proofs.any_tentative.Reads as reads

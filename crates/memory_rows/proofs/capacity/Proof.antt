@@ -1,8 +1,6 @@
 use Rattle.memory_rows.proofs.Access.{sized}
 use Rattle.memory_rows.specs.Cells.{Capacity}
-use Prim.Native.Nat.{ℕ}
-use mathlib.Core.Path.{subst, sym}
-use borrow.Author.Needs.{needs}
+use Rattle.basics.proofs.Kit.{sym, subst, ℕ, needs}
 use Rattle.memory_rows.proofs.capacity.Statement.{statement}
 use Rattle.memory_rows.proofs.capacity.Tie as tie
 

@@ -1,8 +1,6 @@
 use Rattle.memory_rows.proofs.Exchange.{commits}
 use Rattle.memory_bytes.proofs.Moves.{write-first, write-end}
-use mathlib.Core.List.{[]}
-use mathlib.Core.Path.{refl}
-use borrow.Author.Needs.{needs}
+use Rattle.basics.proofs.Kit.{refl, [], needs}
 use Rattle.memory_rows.proofs.commit_row.Statement.{statement}
 use Rattle.memory_rows.proofs.commit_row.Tie as tie
 

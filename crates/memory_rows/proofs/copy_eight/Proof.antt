@@ -1,6 +1,6 @@
 -- `memory_rows::copy_eight` meets its contract.
 use Rattle.memory_rows.proofs.Eights.{copied-eight}
-use borrow.Author.Needs.{needs}
+use Rattle.basics.proofs.Kit.{needs}
 use Rattle.memory_rows.proofs.copy_eight.Statement.{statement}
 use Rattle.memory_rows.proofs.copy_eight.Tie as tie
 

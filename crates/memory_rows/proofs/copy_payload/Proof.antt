@@ -1,8 +1,4 @@
-use lib.ListN.{drop}
-use mathlib.Core.List.{List, _++_}
-use Prim.Native.Nat.{ℕ, _+_}
-use mathlib.Core.Path.{ap, _∙_}
-use borrow.Author.Needs.{needs}
+use Rattle.basics.proofs.Kit.{ap, _∙_, List, _++_, ℕ, _+_, drop, needs}
 use Rattle.memory_rows.proofs.copy_payload.Statement.{statement}
 use Rattle.memory_rows.proofs.copy_payload.Tie as tie
 

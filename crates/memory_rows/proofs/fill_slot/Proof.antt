@@ -1,6 +1,5 @@
 use Rattle.memory_rows.proofs.Moving.{slot-filled}
-use native.Mathlib.Omega.{arith}
-use borrow.Author.Needs.{needs}
+use Rattle.basics.proofs.Kit.{needs, arith}
 use Rattle.memory_rows.proofs.fill_slot.Statement.{statement}
 use Rattle.memory_rows.proofs.fill_slot.Tie as tie
 

@@ -1,8 +1,7 @@
 use Rattle.memory_rows.proofs.Access.{over-keys}
 use Rattle.memory_bytes.specs.Columns.{firstIndex, equals}
 use Rattle.memory_layout.specs.Places.{keysAt}
-use mathlib.Core.Path.{ap, _∙_}
-use borrow.Author.Needs.{needs}
+use Rattle.basics.proofs.Kit.{ap, _∙_, needs}
 use Rattle.memory_rows.proofs.find_equal.Statement.{statement}
 use Rattle.memory_rows.proofs.find_equal.Tie as tie
 

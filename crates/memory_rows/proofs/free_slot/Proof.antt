@@ -1,7 +1,4 @@
-use borrow.Author.Tests.{not-true}
-use native.Mathlib.Omega.{arith}
-use mathlib.Core.Path.{sym, _∙_}
-use borrow.Author.Needs.{needs}
+use Rattle.basics.proofs.Kit.{sym, _∙_, not-true, needs, arith}
 use Rattle.memory_rows.proofs.free_slot.Statement.{statement}
 use Rattle.memory_rows.proofs.free_slot.Tie as tie
 

@@ -1,7 +1,6 @@
 -- `memory_rows::give_eight` meets its contract.
-use native.Mathlib.Omega.{arith}
+use Rattle.basics.proofs.Kit.{needs, arith}
 use Rattle.memory_rows.proofs.Eights.{given}
-use borrow.Author.Needs.{needs}
 use Rattle.memory_rows.proofs.give_eight.Statement.{statement}
 use Rattle.memory_rows.proofs.give_eight.Tie as tie
 

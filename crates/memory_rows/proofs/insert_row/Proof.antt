@@ -1,9 +1,6 @@
 use Rattle.memory_rows.proofs.Inserting.{inserted}
 use Rattle.memory_layout.specs.Views.{headOf}
-use native.Mathlib.Omega.{arith}
-use Prim.Native.Nat.{ℕ, _+_, _*_}
-use mathlib.Core.Path.{ap}
-use borrow.Author.Needs.{needs}
+use Rattle.basics.proofs.Kit.{ap, ℕ, _+_, _*_, needs, arith}
 use Rattle.memory_rows.proofs.insert_row.Statement.{statement}
 use Rattle.memory_rows.proofs.insert_row.Tie as tie
 

@@ -1,8 +1,7 @@
 use Rattle.blocks.specs.declared.Owner.{Owner}
 use Rattle.blocks.specs.Bytes.{ownerIs}
 use Rattle.rows.specs.Rows.{isBy}
-use mathlib.Core.Path.{ap, sym}
-use borrow.Author.Needs.{needs}
+use Rattle.basics.proofs.Kit.{sym, ap, needs}
 use Rattle.memory_rows.proofs.is_by.Statement.{statement}
 use Rattle.memory_rows.proofs.is_by.Tie as tie
 

@@ -3,9 +3,7 @@ use Rattle.memory_rows.specs.Cells.{slotIn}
 use Rattle.memory_bytes.specs.Columns.{tab, equals, names}
 use Rattle.memory_bytes.specs.Bytes.{column2}
 use Rattle.basics.specs.Basics.{any}
-use borrow.Author.Needs.{needs}
-use native.Mathlib.Omega.{arith}
-use mathlib.Core.Path.{sym, _∙_}
+use Rattle.basics.proofs.Kit.{sym, _∙_, needs, arith}
 use Rattle.memory_rows.proofs.is_taken.Statement.{statement}
 use Rattle.memory_rows.proofs.is_taken.Tie as tie
 

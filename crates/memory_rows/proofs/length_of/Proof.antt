@@ -1,8 +1,5 @@
 use Rattle.memory_layout.specs.Views.{lengthOf}
-use native.Mathlib.Omega.{arith}
-use mathlib.Core.Path.{sym}
-use native.Mathlib.Nat.{min-eq-left, min-eq-right}
-use borrow.Author.Needs.{needs}
+use Rattle.basics.proofs.Kit.{sym, min-eq-left, min-eq-right, needs, arith}
 use Rattle.memory_rows.proofs.length_of.Statement.{statement}
 use Rattle.memory_rows.proofs.length_of.Tie as tie
 

@@ -1,6 +1,5 @@
 -- `memory_rows::lower_eights` meets its contract.
-use Prim.Native.Nat.{_+_, _-_}
-use native.Mathlib.Omega.{arith}
+use Rattle.basics.proofs.Kit.{_+_, _-_, arith}
 use Rattle.memory_rows.proofs.Eights.{taken-fits, fit-then, Lowering, lowering-start, lowering-turn, lowering-end}
 use Rattle.memory_rows.proofs.lower_eights.Statement.{statement}
 use Rattle.memory_rows.proofs.lower_eights.Tie as tie

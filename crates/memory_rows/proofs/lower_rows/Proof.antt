@@ -1,6 +1,6 @@
 -- `memory_rows::lower_rows` meets its contract.
 use Rattle.memory_rows.proofs.Moving.{lowered-rows}
-use borrow.Author.Needs.{needs}
+use Rattle.basics.proofs.Kit.{needs}
 use Rattle.memory_rows.proofs.lower_rows.Statement.{statement}
 use Rattle.memory_rows.proofs.lower_rows.Tie as tie
 

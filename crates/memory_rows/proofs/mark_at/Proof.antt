@@ -1,7 +1,6 @@
 use Rattle.memory_rows.proofs.Access.{mark-is}
 use Rattle.blocks.specs.Decode.{readMark}
-use mathlib.Core.Path.{ap, sym, _∙_}
-use borrow.Author.Needs.{needs}
+use Rattle.basics.proofs.Kit.{sym, ap, _∙_, needs}
 use Rattle.memory_rows.proofs.mark_at.Statement.{statement}
 use Rattle.memory_rows.proofs.mark_at.Tie as tie
 

@@ -1,7 +1,6 @@
 use Rattle.memory_rows.proofs.Access.{number-is}
 use Rattle.memory_bytes.specs.Bytes.{le4}
-use mathlib.Core.Path.{ap, sym, _∙_}
-use borrow.Author.Needs.{needs}
+use Rattle.basics.proofs.Kit.{sym, ap, _∙_, needs}
 use Rattle.memory_rows.proofs.number_at.Statement.{statement}
 use Rattle.memory_rows.proofs.number_at.Tie as tie
 

@@ -3,9 +3,7 @@ use Rattle.blocks.specs.Decode.{readOwner}
 use Rattle.blocks.specs.Bytes.{ownerIs}
 use Rattle.blocks.proofs.ReadTuples.{owner-same}
 use Rattle.memory_bytes.specs.Bytes.{le4}
-use Prim.Native.Nat.{ℕ, _+_}
-use mathlib.Core.Path.{ap, sym, _∙_}
-use borrow.Author.Needs.{needs}
+use Rattle.basics.proofs.Kit.{sym, ap, _∙_, ℕ, _+_, needs}
 use Rattle.memory_rows.proofs.owner_at.Statement.{statement}
 use Rattle.memory_rows.proofs.owner_at.Tie as tie
 

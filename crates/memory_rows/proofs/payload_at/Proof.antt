@@ -2,11 +2,7 @@ use Rattle.memory_rows.proofs.Access.{payload-is}
 use Rattle.memory_layout.specs.Views.{lengthOf}
 use Rattle.memory_bytes.proofs.Bytes.{length-bytes}
 use Rattle.memory_bytes.specs.Bytes.{bytes}
-use lib.ListN.{length}
-use native.Mathlib.Omega.{arith}
-use Prim.Native.Nat.{_+_}
-use mathlib.Core.Path.{ap, sym, _∙_}
-use borrow.Author.Needs.{needs}
+use Rattle.basics.proofs.Kit.{sym, ap, _∙_, _+_, length, needs, arith}
 use Rattle.memory_rows.proofs.payload_at.Statement.{statement}
 use Rattle.memory_rows.proofs.payload_at.Tie as tie
 

@@ -1,7 +1,6 @@
 use Rattle.memory_rows.proofs.Access.{pending-is}
 use Rattle.memory_layout.specs.Views.{pendingOf}
-use mathlib.Core.Path.{ap, sym, _∙_}
-use borrow.Author.Needs.{needs}
+use Rattle.basics.proofs.Kit.{sym, ap, _∙_, needs}
 use Rattle.memory_rows.proofs.pending_at.Statement.{statement}
 use Rattle.memory_rows.proofs.pending_at.Tie as tie
 

@@ -1,6 +1,5 @@
 use Rattle.memory_layout.specs.Views.{pendingOf}
-use borrow.Author.Tests.{eq-eqb, ne-eqb}
-use Prim.Native.Nat.{ℕ, _/_, _%_}
+use Rattle.basics.proofs.Kit.{ℕ, _%_, _/_, eq-eqb, ne-eqb}
 use Rattle.basics.specs.Basics.{if_then_else_}
 use Rattle.memory_rows.proofs.pending_of.Statement.{statement}
 use Rattle.memory_rows.proofs.pending_of.Tie as tie

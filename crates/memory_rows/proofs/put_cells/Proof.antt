@@ -1,10 +1,6 @@
 use Rattle.memory_rows.proofs.Moving.{cells-put}
 use Rattle.memory_bytes.proofs.Moves.{write-first, write-end}
-use native.Mathlib.Omega.{arith}
-use lib.ListN.{length-set}
-use mathlib.Core.List.{[]}
-use mathlib.Core.Path.{refl, _∙_}
-use borrow.Author.Needs.{needs}
+use Rattle.basics.proofs.Kit.{refl, _∙_, [], length-set, needs, arith}
 use Rattle.memory_rows.proofs.put_cells.Statement.{statement}
 use Rattle.memory_rows.proofs.put_cells.Tie as tie
 

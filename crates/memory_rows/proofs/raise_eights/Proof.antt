@@ -1,7 +1,5 @@
 -- `memory_rows::raise_eights` meets its contract.
-use Prim.Native.Nat.{_+_, _-_}
-use mathlib.Core.Path.{_∙_}
-use native.Mathlib.Omega.{arith}
+use Rattle.basics.proofs.Kit.{_-_, arith}
 use Rattle.memory_rows.proofs.Eights.{taken-fits, fit-then, Raising, raising-start, raising-turn, raising-end}
 use Rattle.memory_rows.proofs.raise_eights.Statement.{statement}
 use Rattle.memory_rows.proofs.raise_eights.Tie as tie

@@ -1,6 +1,6 @@
 -- `memory_rows::raise_rows` meets its contract.
 use Rattle.memory_rows.proofs.Moving.{raised-rows}
-use borrow.Author.Needs.{needs}
+use Rattle.basics.proofs.Kit.{needs}
 use Rattle.memory_rows.proofs.raise_rows.Statement.{statement}
 use Rattle.memory_rows.proofs.raise_rows.Tie as tie
 

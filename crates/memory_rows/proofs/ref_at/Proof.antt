@@ -1,6 +1,5 @@
 use Rattle.memory_bytes.specs.Bytes.{le2}
-use mathlib.Core.Path.{ap, _∙_}
-use borrow.Author.Needs.{needs}
+use Rattle.basics.proofs.Kit.{ap, _∙_, needs}
 use Rattle.memory_rows.proofs.ref_at.Statement.{statement}
 use Rattle.memory_rows.proofs.ref_at.Tie as tie
 

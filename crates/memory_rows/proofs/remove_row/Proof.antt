@@ -1,6 +1,5 @@
-use native.Mathlib.Omega.{arith}
+use Rattle.basics.proofs.Kit.{needs, arith}
 use Rattle.memory_rows.proofs.Inserting.{removed}
-use borrow.Author.Needs.{needs}
 use Rattle.memory_rows.proofs.remove_row.Statement.{statement}
 use Rattle.memory_rows.proofs.remove_row.Tie as tie
 

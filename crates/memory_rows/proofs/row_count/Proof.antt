@@ -1,6 +1,5 @@
 use Rattle.memory_layout.proofs.Laws.{rows-length}
-use mathlib.Core.Path.{sym, _∙_}
-use borrow.Author.Needs.{needs}
+use Rattle.basics.proofs.Kit.{sym, _∙_, needs}
 use Rattle.memory_rows.proofs.row_count.Statement.{statement}
 use Rattle.memory_rows.proofs.row_count.Tie as tie
 

@@ -2,11 +2,7 @@ use Rattle.memory_rows.proofs.Slots.{fewer}
 use Rattle.memory_rows.proofs.Access.{sized}
 use Rattle.memory_rows.specs.Cells.{isTaken}
 use Rattle.memory_layout.specs.Flat.{capacityOf}
-use borrow.Author.Count.{below-none, below-more}
-use native.Mathlib.Omega.{arith}
-use Prim.Native.Nat.{ℕ, _+_, _-_, _<_}
-use mathlib.Core.Bool.{true}
-use mathlib.Core.Path.{_≡_, sym, _∙_}
+use Rattle.basics.proofs.Kit.{_≡_, sym, _∙_, true, ℕ, _+_, _<_, _-_, below-none, below-more, arith}
 use Rattle.memory_rows.proofs.search_slot.Statement.{statement}
 use Rattle.memory_rows.proofs.search_slot.Tie as tie
 

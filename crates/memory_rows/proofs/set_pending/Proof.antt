@@ -1,7 +1,5 @@
 use Rattle.memory_rows.proofs.Exchange.{pends}
-use native.Mathlib.Omega.{arith}
-use Prim.Native.Nat.{_+_, _*_, _%_}
-use borrow.Author.Needs.{needs}
+use Rattle.basics.proofs.Kit.{_+_, _*_, _%_, needs, arith}
 use Rattle.memory_rows.proofs.set_pending.Statement.{statement}
 use Rattle.memory_rows.proofs.set_pending.Tie as tie
 

@@ -1,10 +1,6 @@
 use Rattle.memory_rows.proofs.Fields.{size-is, at-most}
-use lib.Dec.{ltb}
+use Rattle.basics.proofs.Kit.{sym, ap, _∙_, ℕ, _+_, ltb, needs, arith}
 use Rattle.basics.specs.Basics.{if_then_else_}
-use native.Mathlib.Omega.{arith}
-use Prim.Native.Nat.{ℕ, _+_}
-use mathlib.Core.Path.{ap, sym, _∙_}
-use borrow.Author.Needs.{needs}
 use Rattle.memory_rows.proofs.size_at.Statement.{statement}
 use Rattle.memory_rows.proofs.size_at.Tie as tie
 

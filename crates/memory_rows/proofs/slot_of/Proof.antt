@@ -1,7 +1,6 @@
 use Rattle.memory_layout.specs.Views.{slotOf}
-use borrow.Author.Tests.{lt-ltb, le-ltb}
+use Rattle.basics.proofs.Kit.{lt-ltb, le-ltb, needs}
 use Rattle.basics.specs.Basics.{if_then_else_}
-use borrow.Author.Needs.{needs}
 use Rattle.memory_rows.proofs.slot_of.Statement.{statement}
 use Rattle.memory_rows.proofs.slot_of.Tie as tie
 

@@ -1,8 +1,6 @@
 use Rattle.memory_rows.specs.Cells.{slotIn, slotAt}
 use Rattle.memory_layout.specs.Views.{slotOf, slotPlace}
-use native.Mathlib.Omega.{arith}
-use mathlib.Core.Path.{_≡_, ap, _∙_}
-use borrow.Author.Needs.{needs}
+use Rattle.basics.proofs.Kit.{_≡_, ap, _∙_, needs, arith}
 use Rattle.memory_rows.proofs.slot_place.Statement.{statement}
 use Rattle.memory_rows.proofs.slot_place.Tie as tie
 

@@ -1,7 +1,6 @@
 use Rattle.memory_rows.proofs.Access.{covers-keys}
 use Rattle.memory_layout.specs.Places.{keysAt}
-use mathlib.Core.Path.{ap, _∙_}
-use borrow.Author.Needs.{needs}
+use Rattle.basics.proofs.Kit.{ap, _∙_, needs}
 use Rattle.memory_rows.proofs.span_equal.Statement.{statement}
 use Rattle.memory_rows.proofs.span_equal.Tie as tie
 

@@ -1,7 +1,4 @@
-use lib.ListN.{getD}
-use Prim.Native.Nat.{ℕ}
-use mathlib.Core.Path.{ap}
-use borrow.Author.Needs.{needs}
+use Rattle.basics.proofs.Kit.{ap, ℕ, getD, needs}
 use Rattle.memory_rows.proofs.state_at.Statement.{statement}
 use Rattle.memory_rows.proofs.state_at.Tie as tie
 

@@ -1,11 +1,7 @@
 -- `memory_rows::take_eight` meets its contract.
-use Prim.Native.Nat.{ℕ}
-use lib.ListN.{replicate, length-replicate}
-use mathlib.Core.Path.{ap, _∙_}
-use Prim.Native.Nat.{_+_, _*_}
+use Rattle.basics.proofs.Kit.{ap, _∙_, ℕ, _+_, _*_, length-replicate, replicate, needs}
 use Rattle.memory_bytes.specs.Bytes.{bytes}
 use Rattle.memory_bytes.proofs.Bytes.{copied-whole}
-use borrow.Author.Needs.{needs}
 use Rattle.memory_rows.proofs.take_eight.Statement.{statement}
 use Rattle.memory_rows.proofs.take_eight.Tie as tie
 

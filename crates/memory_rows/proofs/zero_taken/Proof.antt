@@ -3,11 +3,8 @@ use Rattle.memory_layout.specs.Views.{slotOf}
 use Rattle.memory_bytes.proofs.Scans.{any-start, any-turn, any-end}
 use Rattle.memory_bytes.specs.Columns.{tab, equals}
 use Rattle.basics.specs.Basics.{any}
-use native.Mathlib.Omega.{arith}
-use Prim.Native.Nat.{ℕ, _+_, _*_, _-_, _≤_}
+use Rattle.basics.proofs.Kit.{_≡_, ap, _∙_, _||_, ℕ, _+_, _*_, _≤_, _-_, arith}
 use Rattle.memory_bytes.specs.Bytes.{le2}
-use mathlib.Core.Bool.{_||_}
-use mathlib.Core.Path.{_≡_, ap, _∙_}
 use Rattle.memory_rows.proofs.zero_taken.Statement.{statement}
 use Rattle.memory_rows.proofs.zero_taken.Tie as tie
 

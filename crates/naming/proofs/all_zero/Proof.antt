@@ -1,8 +1,4 @@
-use lib.ListN.{length, drop}
-use Prim.Native.Nat.{_-_}
-use mathlib.Core.Path.{_≡_, refl, sym, _∙_}
-use borrow.Author.Tests.{eq-eqb, ne-eqb}
-use native.Mathlib.Omega.{arith}
+use Rattle.basics.proofs.Kit.{_≡_, refl, sym, _∙_, _-_, length, drop, eq-eqb, ne-eqb, arith}
 use Rattle.rows.proofs.Turns.{drop-turn, drop-end, all-yes, all-not, all-end}
 use Rattle.naming.specs.Names.{isZero}
 use Rattle.basics.specs.Basics.{all}

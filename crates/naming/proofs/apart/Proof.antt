@@ -1,8 +1,4 @@
-use lib.ListN.{length, drop}
-use Prim.Native.Nat.{ℕ, _-_}
-use mathlib.Core.Bool.{Bool, not}
-use mathlib.Core.Path.{_≡_, refl, sym, ap, _∙_}
-use native.Mathlib.Omega.{arith}
+use Rattle.basics.proofs.Kit.{_≡_, refl, sym, ap, _∙_, Bool, not, ℕ, _-_, length, drop, arith}
 use Rattle.rows.proofs.Turns.{drop-turn, drop-end, all-yes, all-not, all-end}
 use Rattle.basics.specs.Basics.{all, isIn}
 use Rattle.naming.proofs.apart.Statement.{statement}

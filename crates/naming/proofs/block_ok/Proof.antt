@@ -1,4 +1,4 @@
-use borrow.Author.Tests.{lt-ltb, le-ltb}
+use Rattle.basics.proofs.Kit.{lt-ltb, le-ltb}
 use Rattle.naming.specs.Names.{blockOk}
 use Rattle.naming.proofs.block_ok.Statement.{statement}
 use Rattle.naming.proofs.block_ok.Tie as tie

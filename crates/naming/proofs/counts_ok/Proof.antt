@@ -1,5 +1,4 @@
-use borrow.Author.Tests.{le-leb, lt-leb, eq-eqb, ne-eqb}
-use borrow.Author.Needs.{needs}
+use Rattle.basics.proofs.Kit.{le-leb, lt-leb, eq-eqb, ne-eqb, needs}
 use Rattle.basics.proofs.Ands.{and-yes, and-no}
 use Rattle.naming.specs.Names.{countsOk}
 use Rattle.basics.specs.Basics.{every}

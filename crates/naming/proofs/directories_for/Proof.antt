@@ -1,7 +1,5 @@
 -- `naming::directories_for` meets its contract.
-use mathlib.Core.Path.{refl}
-use native.Mathlib.Omega.{arith}
-use borrow.Author.Needs.{needs}
+use Rattle.basics.proofs.Kit.{refl, needs, arith}
 use Rattle.naming.specs.Names.{directoriesFor}
 use Rattle.naming.proofs.directories_for.Statement.{statement}
 use Rattle.naming.proofs.directories_for.Tie as tie

@@ -1,6 +1,4 @@
-use mathlib.Core.Path.{sym, _∙_}
-use borrow.Author.Tests.{not-true, not-false}
-use borrow.Author.Needs.{needs}
+use Rattle.basics.proofs.Kit.{sym, _∙_, not-true, not-false, needs}
 use Rattle.basics.proofs.Ands.{and-yes, and-no}
 use Rattle.naming.specs.Names.{entriesOk}
 use Rattle.basics.specs.Basics.{every, distinct}

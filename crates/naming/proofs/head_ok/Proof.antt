@@ -1,8 +1,4 @@
-use lib.ListN.{length-take}
-use mathlib.Core.Path.{sym, _∙_}
-use borrow.Author.Tests.{not-true, not-false}
-use native.Mathlib.Omega.{arith}
-use borrow.Author.Needs.{needs}
+use Rattle.basics.proofs.Kit.{sym, _∙_, length-take, not-true, not-false, needs, arith}
 use Rattle.naming.proofs.Heads.{four-used, header-tests, used, unused}
 use Rattle.basics.proofs.Ands.{and-no}
 use Rattle.naming.specs.Names.{blockOk, isZero}

@@ -1,9 +1,4 @@
-use mathlib.Core.List.{List, map, _++_}
-use mathlib.Core.Option.{some}
-use lib.ListN.{length, take, drop}
-use Prim.Native.Nat.{ℕ, _+_, _-_, _≤_, _<_}
-use mathlib.Core.Path.{_≡_, refl, sym, _∙_}
-use native.Mathlib.Omega.{arith}
+use Rattle.basics.proofs.Kit.{_≡_, refl, sym, _∙_, some, List, _++_, map, ℕ, _+_, _≤_, _<_, _-_, length, take, drop, arith}
 use Rattle.reader.proofs.Walk.{Left, left-start, left-end, left-bad, turn}
 use Rattle.one_page.proofs.Walk.{row-first, row-next, row-last}
 use Rattle.rows.specs.Columns.{rowsIn, bare}

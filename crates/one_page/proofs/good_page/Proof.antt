@@ -1,7 +1,4 @@
-use mathlib.Core.Path.{refl, sym, _∙_}
-use borrow.Author.Tests.{not-true, not-false, le-leb, lt-leb}
-use native.Mathlib.Omega.{arith}
-use borrow.Author.Needs.{needs}
+use Rattle.basics.proofs.Kit.{refl, sym, _∙_, le-leb, lt-leb, not-true, not-false, needs, arith}
 use Rattle.one_page.proofs.Decoded.{is-page, good-not, good-yes, no-page}
 use Rattle.basics.proofs.Ands.{and-no}
 use Rattle.blocks.specs.Decode.{decodeBlock}

@@ -1,6 +1,5 @@
 -- `one_page::mark_ok` meets its contract.
-use mathlib.Core.Path.{sym}
-use borrow.Author.Needs.{needs}
+use Rattle.basics.proofs.Kit.{sym, needs}
 use Rattle.one_page.proofs.Places.{unmarked, marked-held, marked-open}
 use Rattle.one_page.proofs.mark_ok.Statement.{statement}
 use Rattle.one_page.proofs.mark_ok.Tie as tie

@@ -1,10 +1,4 @@
-use mathlib.Core.Option.{some}
-use lib.ListN.{drop}
-use Prim.Native.Nat.{ℕ, _-_, _≤_, _<_}
-use mathlib.Core.List.{List}
-use mathlib.Core.Path.{_≡_, refl, sym, _∙_}
-use borrow.Author.Tests.{not-true, not-false}
-use native.Mathlib.Omega.{arith}
+use Rattle.basics.proofs.Kit.{_≡_, refl, sym, _∙_, some, List, ℕ, _≤_, _<_, _-_, drop, not-true, not-false, arith}
 use Rattle.reader.proofs.Walk.{Left, left-start, left-end, left-bad, turn}
 use Rattle.one_page.proofs.Walk.{mark-right, mark-wrong, marks-end}
 use Rattle.rows.specs.Rows.{rowsOf, markOk}

@@ -1,7 +1,5 @@
 -- `one_page::owner_code` meets its contract.
-use mathlib.Core.Path.{refl, sym, ap, subst, _∙_}
-use native.Mathlib.Omega.{arith}
-use borrow.Author.Needs.{needs}
+use Rattle.basics.proofs.Kit.{refl, sym, ap, _∙_, subst, needs, arith}
 use Rattle.basics.specs.Basics.{if_then_else_}
 use Rattle.blocks.specs.Tuple.{OwnerFits}
 use Rattle.blocks.specs.Bytes.{ownerIs}

@@ -1,8 +1,6 @@
 -- `one_page::put_row` meets its contract.
-use mathlib.Core.List.{[], _∷_, _++_}
-use mathlib.Core.Path.{ap, _∙_}
+use Rattle.basics.proofs.Kit.{ap, _∙_, [], _∷_, _++_, needs}
 use mir.Val.{boolByte}
-use borrow.Author.Needs.{needs}
 use Rattle.one_page.proofs.Places.{record-row, row-put}
 use Rattle.rows.specs.Rows.{Row}
 use Rattle.rows.specs.Columns.{rowsIn}

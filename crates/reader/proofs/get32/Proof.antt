@@ -1,8 +1,5 @@
 -- `reader::get32` meets its contract.
-use Prim.Native.Nat.{_^_, _≤_}
-use native.Mathlib.Omega.{arith}
-use lib.Pow.{pow-mono}
-use borrow.Author.Needs.{needs}
+use Rattle.basics.proofs.Kit.{_^_, _≤_, pow-mono, needs, arith}
 use Rattle.reader.proofs.get32.Statement.{statement}
 use Rattle.reader.proofs.get32.Tie as tie
 

@@ -1,7 +1,6 @@
 -- `reader::get4` meets its contract.
-use native.Mathlib.Omega.{arith}
+use Rattle.basics.proofs.Kit.{needs, arith}
 use Rattle.blocks.specs.Numbers.{num4}
-use borrow.Author.Needs.{needs}
 use Rattle.reader.proofs.get4.Statement.{statement}
 use Rattle.reader.proofs.get4.Tie as tie
 

@@ -1,6 +1,6 @@
 -- `reader::get_header` meets its contract.
 use Rattle.blocks.specs.Decode.{readHeader}
-use borrow.Author.Needs.{needs}
+use Rattle.basics.proofs.Kit.{needs}
 use Rattle.reader.proofs.get_header.Statement.{statement}
 use Rattle.reader.proofs.get_header.Tie as tie
 

@@ -1,9 +1,8 @@
 -- `reader::known_page` meets its contract.
-use mathlib.Core.Path.{sym, _∙_}
+use Rattle.basics.proofs.Kit.{sym, _∙_, needs}
 use Rattle.blocks.specs.Decode.{pageTable, pageCount, pageLevel}
 use Rattle.reader.specs.declared.Reading.the-variants.{IsPage}
 use Rattle.reader.proofs.Known.{known}
-use borrow.Author.Needs.{needs}
 use Rattle.reader.proofs.known_page.Statement.{statement}
 use Rattle.reader.proofs.known_page.Tie as tie
 

@@ -1,9 +1,7 @@
 -- `reader::read_block` meets its contract.
-use mathlib.Core.Path.{sym, ap, _∙_}
-use native.Mathlib.Omega.{arith}
+use Rattle.basics.proofs.Kit.{sym, ap, _∙_, needs, arith}
 use Rattle.reader.specs.Answers.{reading}
 use Rattle.reader.proofs.Answering.{kind-header, kind-page, kind-directory, reads-other}
-use borrow.Author.Needs.{needs}
 use Rattle.reader.proofs.read_block.Statement.{statement}
 use Rattle.reader.proofs.read_block.Tie as tie
 

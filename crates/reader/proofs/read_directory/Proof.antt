@@ -1,11 +1,6 @@
 -- `reader::read_directory` meets its contract.
-use mathlib.Core.Path.{_≡_, refl, sym, _∙_}
-use mathlib.Core.List.{List}
-use Prim.Native.Nat.{ℕ}
-use native.Mathlib.Omega.{arith}
-use lib.ListN.{length, take, length-take}
+use Rattle.basics.proofs.Kit.{_≡_, refl, sym, _∙_, List, ℕ, length, take, length-take, needs, arith}
 use Rattle.reader.proofs.Answering.{directory-many, directory-yes, directory-no}
-use borrow.Author.Needs.{needs}
 use Rattle.reader.proofs.read_directory.Statement.{statement}
 use Rattle.reader.proofs.read_directory.Tie as tie
 

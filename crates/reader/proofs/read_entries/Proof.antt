@@ -1,8 +1,5 @@
 -- `reader::read_entries` meets its contract.
-use mathlib.Core.Path.{_≡_, refl}
-use Prim.Native.Nat.{_-_, _≤_}
-use native.Mathlib.Omega.{arith}
-use lib.ListN.{length, take, length-set}
+use Rattle.basics.proofs.Kit.{_≡_, refl, _≤_, _-_, length, take, length-set, arith}
 use Rattle.blocks.specs.Decode.{readEntries}
 use Rattle.reader.proofs.Entries.{entries-turn}
 use Rattle.reader.proofs.read_entries.Statement.{statement}

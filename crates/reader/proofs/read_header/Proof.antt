@@ -1,10 +1,7 @@
 -- `reader::read_header` meets its contract.
-use mathlib.Core.Path.{sym, ap, _∙_}
-use mathlib.Core.List.{List}
-use Prim.Native.Nat.{ℕ}
+use Rattle.basics.proofs.Kit.{sym, ap, _∙_, List, ℕ, needs}
 use Rattle.blocks.specs.Numbers.{same}
 use Rattle.reader.proofs.Answering.{header-yes, header-no}
-use borrow.Author.Needs.{needs}
 use Rattle.reader.proofs.read_header.Statement.{statement}
 use Rattle.reader.proofs.read_header.Tie as tie
 

@@ -1,9 +1,5 @@
 -- `reader::read_page` meets its contract.
-use mathlib.Core.Path.{_≡_, refl, sym, ap, _∙_}
-use mathlib.Core.List.{List}
-use Prim.Native.Nat.{ℕ, _+_, _-_}
-use native.Mathlib.Omega.{arith}
-use lib.ListN.{length}
+use Rattle.basics.proofs.Kit.{_≡_, refl, sym, ap, _∙_, List, ℕ, _+_, _-_, length, arith}
 use Rattle.blocks.specs.Block.{Block, page, encodeBlock}
 use Rattle.blocks.specs.Tuple.{AllBytes}
 use Rattle.blocks.specs.Numbers.{same}

@@ -1,9 +1,5 @@
 -- `reader::same_block` meets its contract.
-use mathlib.Core.Path.{_≡_, refl}
-use mathlib.Core.Bool.{_&&_}
-use Prim.Native.Nat.{_-_, _≤_}
-use native.Mathlib.Omega.{arith}
-use lib.ListN.{drop}
+use Rattle.basics.proofs.Kit.{_≡_, refl, _&&_, _≤_, _-_, drop, arith}
 use Rattle.blocks.specs.Numbers.{same}
 use Rattle.reader.proofs.Same.{same-turn, same-end}
 use Rattle.reader.proofs.same_block.Statement.{statement}

@@ -1,8 +1,5 @@
 -- `digest` is safe and ends: a digest is a remainder, to which one byte more can be added.
-use lib.ListN.{length}
-use native.Mathlib.Omega.{arith}
-use mathlib.Core.Path.{_≡_}
-use Prim.Native.Nat.{_≤_, _<_, _-_}
+use Rattle.basics.proofs.Kit.{_≡_, _≤_, _<_, _-_, length, arith}
 use Rattle.replay.proofs.digest.Statement.{statement}
 use Rattle.replay.proofs.digest.Tie as tie
 

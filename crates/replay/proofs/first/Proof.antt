@@ -1,7 +1,5 @@
 -- `first` gives a part of the slice.
-use native.Mathlib.Omega.{arith}
-use lib.ListN.{length-take}
-use borrow.Author.Needs.{needs}
+use Rattle.basics.proofs.Kit.{length-take, needs, arith}
 use Rattle.replay.proofs.first.Statement.{statement}
 use Rattle.replay.proofs.first.Tie as tie
 

@@ -1,7 +1,5 @@
 -- `lend` gives a part of the slice.
-use native.Mathlib.Omega.{arith}
-use lib.ListN.{length-take}
-use borrow.Author.Needs.{needs}
+use Rattle.basics.proofs.Kit.{length-take, needs, arith}
 use Rattle.replay.proofs.lend.Statement.{statement}
 use Rattle.replay.proofs.lend.Tie as tie
 

@@ -1,8 +1,5 @@
 -- `main` lends three arrays. Their lengths are shown by a law: they are too large to be computed.
-use Prim.Native.Nat.{ℕ}
-use mathlib.Core.Path.{_≡_, sym}
-use lib.ListN.{length, replicate, length-replicate}
-use borrow.Author.Needs.{needs}
+use Rattle.basics.proofs.Kit.{_≡_, sym, ℕ, length, length-replicate, replicate, needs}
 use Rattle.replay.proofs.main.Statement.{statement}
 use Rattle.replay.proofs.main.Tie as tie
 

@@ -1,9 +1,5 @@
 -- `mark_all` is safe and ends: two bytes of the listing for each turn, and the marks keep their length.
-use mathlib.Core.Path.{_≡_, ap, _∙_}
-use lib.ListN.{length}
-use native.Mathlib.Omega.{arith}
-use mathlib.Core.Logic.{⊎-elim}
-use Prim.Native.Nat.{_≤_, _-_, _/_}
+use Rattle.basics.proofs.Kit.{_≡_, ap, _∙_, ⊎-elim, _≤_, _/_, _-_, length, arith}
 use Rattle.replay.proofs.mark_all.Statement.{statement}
 use Rattle.replay.proofs.mark_all.Tie as tie
 

@@ -1,8 +1,5 @@
 -- `replay_all` is safe and ends: each line ends behind its start, and the lent slices keep their lengths.
-use lib.ListN.{length}
-use native.Mathlib.Omega.{arith}
-use mathlib.Core.Path.{_≡_}
-use Prim.Native.Nat.{_-_}
+use Rattle.basics.proofs.Kit.{_≡_, _-_, length, arith}
 use Rattle.replay.proofs.replay_all.Statement.{statement}
 use Rattle.replay.proofs.replay_all.Tie as tie
 

@@ -1,8 +1,5 @@
 -- `say_marked` is safe and ends: at most one turn for each mark.
-use lib.ListN.{length}
-use native.Mathlib.Omega.{arith}
-use mathlib.Core.Path.{_≡_}
-use Prim.Native.Nat.{_≤_, _-_}
+use Rattle.basics.proofs.Kit.{_≡_, _≤_, _-_, length, arith}
 use Rattle.replay.proofs.say_marked.Statement.{statement}
 use Rattle.replay.proofs.say_marked.Tie as tie
 

@@ -1,8 +1,5 @@
 -- `set_all` is safe and ends: the slice keeps its length.
-use lib.ListN.{length, length-set}
-use native.Mathlib.Omega.{arith}
-use mathlib.Core.Path.{_≡_}
-use Prim.Native.Nat.{_≤_, _-_}
+use Rattle.basics.proofs.Kit.{_≡_, _≤_, _-_, length, length-set, arith}
 use Rattle.replay.proofs.set_all.Statement.{statement}
 use Rattle.replay.proofs.set_all.Tie as tie
 

@@ -1,8 +1,5 @@
 -- `used` is safe and ends: at most one turn for each byte.
-use lib.ListN.{length}
-use native.Mathlib.Omega.{arith}
-use mathlib.Core.Path.{_≡_}
-use Prim.Native.Nat.{_≤_, _-_}
+use Rattle.basics.proofs.Kit.{_≡_, _≤_, _-_, length, arith}
 use Rattle.replay.proofs.used.Statement.{statement}
 use Rattle.replay.proofs.used.Tie as tie
 

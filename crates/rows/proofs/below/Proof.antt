@@ -1,8 +1,4 @@
-use Prim.Native.Nat.{_-_}
-use mathlib.Core.List.{[]}
-use mathlib.Core.Path.{_≡_, sym, ap, _∙_}
-use borrow.Author.Tests.{lt-ltb, le-ltb}
-use native.Mathlib.Omega.{arith}
+use Rattle.basics.proofs.Kit.{_≡_, sym, ap, _∙_, [], _-_, lt-ltb, le-ltb, arith}
 use Rattle.rows.proofs.Turns.{tab-turn, tab-end, tab-whole, all-yes, all-not, all-end}
 use Rattle.rows.specs.Columns.{coded, rowAt, rowsIn, tab}
 use Rattle.rows.specs.Rows.{isBelow, number}

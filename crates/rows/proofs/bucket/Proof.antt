@@ -1,7 +1,6 @@
 use Rattle.rows.specs.Chains.{bucketOf}
 use Rattle.basics.specs.Basics.{if_then_else_}
-use native.Mathlib.Omega.{arith}
-use borrow.Author.Tests.{eq-eqb, ne-eqb}
+use Rattle.basics.proofs.Kit.{eq-eqb, ne-eqb, arith}
 use Rattle.rows.proofs.bucket.Statement.{statement}
 use Rattle.rows.proofs.bucket.Tie as tie
 

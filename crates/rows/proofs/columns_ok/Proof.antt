@@ -2,11 +2,7 @@ use Rattle.rows.proofs.Counts.{starts-transactions}
 use Rattle.rows.proofs.Order.{statements-ordered}
 use Rattle.rows.proofs.Kept.{columns-tests}
 use Rattle.basics.proofs.Ands.{and-yes, and-no}
-use native.Mathlib.Omega.{arith}
-use borrow.Author.Tests.{not-true, not-false}
-use mathlib.Core.Path.{sym, _∙_}
-use lib.ListN.{length-take}
-use borrow.Author.Needs.{needs}
+use Rattle.basics.proofs.Kit.{sym, _∙_, length-take, not-true, not-false, needs, arith}
 use Rattle.rows.proofs.columns_ok.Statement.{statement}
 use Rattle.rows.proofs.columns_ok.Tie as tie
 

@@ -1,8 +1,6 @@
 use Rattle.rows.proofs.Chains.{empty-table}
 use Rattle.rows.proofs.Keys.{keys-distinct}
-use native.Mathlib.Omega.{arith}
-use mathlib.Core.Path.{_∙_}
-use borrow.Author.Needs.{needs}
+use Rattle.basics.proofs.Kit.{_∙_, needs, arith}
 use Rattle.rows.proofs.distinct.Statement.{statement}
 use Rattle.rows.proofs.distinct.Tie as tie
 

@@ -1,9 +1,6 @@
 use Rattle.rows.proofs.Chains.{next-less, next-chain, found-here, look-on}
 use Rattle.rows.specs.Chains.{Chain, lastBy}
-use lib.Dec.{eqb}
-use native.Mathlib.Omega.{arith}
-use mathlib.Core.Path.{_≡_, refl, sym, _∙_}
-use Prim.Native.Nat.{_-_}
+use Rattle.basics.proofs.Kit.{_≡_, refl, sym, _∙_, _-_, eqb, arith}
 use Rattle.rows.proofs.find.Statement.{statement}
 use Rattle.rows.proofs.find.Tie as tie
 

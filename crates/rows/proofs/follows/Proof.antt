@@ -1,7 +1,4 @@
-use mathlib.Core.Path.{sym, _∙_}
-use borrow.Author.Tests.{lt-ltb, le-ltb, eq-eqb, ne-eqb}
-use native.Mathlib.Omega.{arith}
-use borrow.Author.Needs.{needs}
+use Rattle.basics.proofs.Kit.{sym, _∙_, lt-ltb, le-ltb, eq-eqb, ne-eqb, needs, arith}
 use Rattle.rows.proofs.Places.{follows-rising, follows-falling, follows-there, after-committed}
 use Rattle.rows.specs.Columns.{codedOwner}
 use Rattle.rows.specs.Rows.{ownerAfter}

@@ -1,9 +1,4 @@
-use lib.Dec.{eqb}
-use lib.ListN.{length, drop}
-use Prim.Native.Nat.{_-_}
-use mathlib.Core.Path.{_≡_, refl, sym, _∙_}
-use borrow.Author.Tests.{eq-eqb, ne-eqb}
-use native.Mathlib.Omega.{arith}
+use Rattle.basics.proofs.Kit.{_≡_, refl, sym, _∙_, _-_, eqb, length, drop, eq-eqb, ne-eqb, arith}
 use Rattle.rows.proofs.Turns.{drop-turn, drop-end, any-yes, any-not, any-end}
 use Rattle.basics.specs.Basics.{isIn}
 use Rattle.rows.proofs.is_in.Statement.{statement}

@@ -1,11 +1,6 @@
-use mathlib.Core.Path.{_≡_}
-use lib.Dec.{eqb}
+use Rattle.basics.proofs.Kit.{_≡_, _-_, eqb, getD, needs, arith}
 use Rattle.rows.specs.Chains.{lastBy}
-use lib.ListN.{getD}
-use Prim.Native.Nat.{_-_}
 use Rattle.rows.proofs.Chains.{last-le, table-chain, table-finds, next-first, next-none, next-found}
-use native.Mathlib.Omega.{arith}
-use borrow.Author.Needs.{needs}
 use Rattle.rows.proofs.is_next.Statement.{statement}
 use Rattle.rows.proofs.is_next.Tie as tie
 use Rattle.rows.proofs.is_next.Reads as reads

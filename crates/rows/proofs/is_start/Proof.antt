@@ -1,6 +1,5 @@
 use Rattle.rows.specs.Chains.{isStart}
-use borrow.Author.Tests.{eq-eqb, ne-eqb}
-use borrow.Author.Needs.{needs}
+use Rattle.basics.proofs.Kit.{eq-eqb, ne-eqb, needs}
 use Rattle.rows.proofs.is_start.Statement.{statement}
 use Rattle.rows.proofs.is_start.Tie as tie
 

@@ -1,7 +1,4 @@
-use lib.ListN.{length, length-set}
-use Prim.Native.Nat.{_-_}
-use mathlib.Core.Path.{_≡_, refl}
-use native.Mathlib.Omega.{arith}
+use Rattle.basics.proofs.Kit.{_≡_, refl, _-_, length, length-set, arith}
 use Rattle.basics.proofs.Facts.{lie}
 use Rattle.rows.proofs.Chains.{table-chain, Linking, linking-start, linking-end, linking-stop, linking-turn}
 use Rattle.rows.proofs.link_all.Statement.{statement}

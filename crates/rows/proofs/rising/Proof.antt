@@ -1,7 +1,4 @@
-use Prim.Native.Nat.{_-_, _≤_}
-use mathlib.Core.Bool.{_&&_}
-use mathlib.Core.Path.{_≡_, sym, _∙_}
-use native.Mathlib.Omega.{arith}
+use Rattle.basics.proofs.Kit.{_≡_, sym, _∙_, _&&_, _≤_, _-_, arith}
 use Rattle.rows.proofs.Places.{rising-none, rising-first, rising-marked, rising-stop, rising-turn}
 use Rattle.rows.proofs.Turns.{pair-end}
 use Rattle.rows.specs.Columns.{rowAt, rowsIn, tab}

@@ -2,11 +2,7 @@ use Rattle.rows.proofs.Turns.{tab-turn, tab-end, tab-whole, count-yes, 
 use Rattle.basics.specs.Basics.{howMany}
 use Rattle.rows.specs.Chains.{isStart, starts}
 use Rattle.rows.specs.Columns.{tab}
-use native.Mathlib.Omega.{arith}
-use mathlib.Core.Logic.{⊎-elim}
-use mathlib.Core.Path.{_≡_, sym, _∙_}
-use lib.ListN.{getD}
-use Prim.Native.Nat.{_+_, _-_, _≤_}
+use Rattle.basics.proofs.Kit.{_≡_, sym, _∙_, ⊎-elim, _+_, _≤_, _-_, getD, arith}
 use Rattle.rows.proofs.starts.Statement.{statement}
 use Rattle.rows.proofs.starts.Tie as tie
 

@@ -1,9 +1,6 @@
 use Rattle.rows.proofs.Order.{statements-tests}
 use Rattle.rows.proofs.Chains.{empty-table}
-use native.Mathlib.Omega.{arith}
-use borrow.Author.Tests.{not-true, not-false}
-use mathlib.Core.Path.{sym, _∙_}
-use borrow.Author.Needs.{needs}
+use Rattle.basics.proofs.Kit.{sym, _∙_, not-true, not-false, needs, arith}
 use Rattle.rows.proofs.statements.Statement.{statement}
 use Rattle.rows.proofs.statements.Tie as tie
 

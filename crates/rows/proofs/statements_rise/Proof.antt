@@ -2,10 +2,7 @@ use Rattle.rows.proofs.Turns.{tab-turn, tab-end, tab-whole, all-yes, al
 use Rattle.rows.specs.Chains.{isNext, statementsRise}
 use Rattle.rows.specs.Columns.{tab}
 use Rattle.basics.specs.Basics.{all}
-use native.Mathlib.Omega.{arith}
-use borrow.Author.Tests.{not-true, not-false}
-use mathlib.Core.Path.{_≡_, sym, ap, _∙_}
-use Prim.Native.Nat.{_-_}
+use Rattle.basics.proofs.Kit.{_≡_, sym, ap, _∙_, _-_, not-true, not-false, arith}
 use Rattle.rows.proofs.statements_rise.Statement.{statement}
 use Rattle.rows.proofs.statements_rise.Tie as tie
 

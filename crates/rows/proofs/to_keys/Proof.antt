@@ -1,8 +1,5 @@
 use Rattle.rows.proofs.Keys.{one-key}
-use native.Mathlib.Omega.{arith}
-use mathlib.Core.Path.{_≡_, refl}
-use lib.ListN.{length, getD, length-set}
-use Prim.Native.Nat.{ℕ, _+_, _-_, _≤_, _<_}
+use Rattle.basics.proofs.Kit.{_≡_, refl, ℕ, _+_, _≤_, _<_, _-_, length, getD, length-set, arith}
 use Rattle.rows.proofs.to_keys.Statement.{statement}
 use Rattle.rows.proofs.to_keys.Tie as tie
 

@@ -1,8 +1,7 @@
 -- `store::code` meets its contract.
-use mathlib.Core.Path.{sym, ap, _∙_}
+use Rattle.basics.proofs.Kit.{sym, ap, _∙_, needs}
 use Rattle.store.specs.Code.{code}
 use Rattle.store.proofs.Signed.{back, minus-fits, minus-back}
-use borrow.Author.Needs.{needs}
 use Rattle.store.proofs.code.Statement.{statement}
 use Rattle.store.proofs.code.Tie as tie
 use Rattle.store.proofs.code.Reads as reads

@@ -1,6 +1,6 @@
 -- `store::whole` meets its contract.
 use Rattle.store.proofs.Signed.{whole-low, whole-high}
-use borrow.Author.Needs.{needs}
+use Rattle.basics.proofs.Kit.{needs}
 use Rattle.store.proofs.whole.Statement.{statement}
 use Rattle.store.proofs.whole.Tie as tie
 use Rattle.store.proofs.whole.Reads as reads

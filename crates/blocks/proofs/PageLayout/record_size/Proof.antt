@@ -1,6 +1,6 @@
 -- `blocks::PageLayout::record_size` meets its contract.
 use Rattle.basics.specs.Basics.{if_then_else_}
-use borrow.Author.Needs.{needs}
+use Rattle.basics.proofs.Kit.{needs}
 use Rattle.blocks.proofs.PageLayout.record_size.Statement.{statement}
 use Rattle.blocks.proofs.PageLayout.record_size.Tie as tie
 

@@ -1,15 +1,9 @@
 -- `reader::Cursor::next` meets its contract.
-use mathlib.Core.Path.{_≡_, sym, _∙_}
-use mathlib.Core.Logic.{⊎-elim}
-use mathlib.Core.List.{List}
-use Prim.Native.Nat.{ℕ, _+_, _%_}
-use native.Mathlib.Omega.{arith}
-use lib.Dec.{ltb}
+use Rattle.basics.proofs.Kit.{_≡_, sym, _∙_, ⊎-elim, List, ℕ, _+_, _%_, ltb, needs, arith}
 use Rattle.basics.specs.Basics.{if_then_else_}
 use Rattle.blocks.specs.Numbers.{num4}
 use Rattle.blocks.proofs.ReadTuples.{ownerPart}
 use Rattle.reader.proofs.Cursors.{word-tentative, word-committed, flagsAt, part-small, part-tentative, none-far, none-long, none-short, found-as}
-use borrow.Author.Needs.{needs}
 use Rattle.reader.proofs.Cursor.next.Statement.{statement}
 use Rattle.reader.proofs.Cursor.next.Tie as tie
 
