@@ -5,7 +5,7 @@ use Rattle.bits.proofs.Numbers.{bitsOf-add, bitsOf-mod, bitsOf-digits}
 use Rattle.bits.proofs.Blocks.{bitsIn-append, length-bitsIn}
 use Rattle.blocks.specs.Numbers.{be4}
 use Rattle.blocks.specs.Tuple.{Owner, committed, tentative, Tuple, sizes, AllBytes, OwnerFits, Fits, AllFit}
-use Rattle.blocks.specs.Spell.{zeros, spell, filled}
+use Rattle.blocks.specs.Spell.{zeros, spell, padded}
 use Rattle.blocks.specs.Block.{page, committedBit, markBit, ownerFields, payloadFields, recordFields, recordsFields, pageFields, encodeBlock, PageFits}
 use Rattle.blocks.specs.Bytes.{flagsOf, ownerWord, ownerBytes, recordBytes, pageHead}
 use Rattle.blocks.proofs.Spelled.{spell-append, zero-bits-in, length-zeros, bytes-append, bytes-zeros, block-is}
@@ -122,8 +122,8 @@ pub length-body : (ts : List Tuple) → sizes ts ≤ 504 → length (body ts) �
 length-body ts h = rw (length-append (records ts) (zeros (504 - sizes ts)), length-records ts, length-zeros (504 - sizes ts)) (omega arith)
 
 module _ (t l : ℕ) (ts : List Tuple) (fit : PageFits t l ts) where
-  page-bits : bitsIn (pageHead t (length ts) (sizes ts) l ++ body ts) ≡ filled (spell (pageFields t l ts))
-  unfolding filled
+  page-bits : bitsIn (pageHead t (length ts) (sizes ts) l ++ body ts) ≡ padded (spell (pageFields t l ts))
+  unfolding padded
   page-bits =
       let H = pageHead t (length ts) (sizes ts) l in
       let k = 504 - sizes ts in

@@ -10,7 +10,7 @@ use Rattle.blocks.specs.Numbers.{same}
 use Rattle.blocks.specs.Tuple.{Tuple, sizes, AllBytes}
 use Rattle.blocks.specs.Spell.{spell}
 use Rattle.blocks.specs.Block.{Block, malformed, header, page, directory, headerFields, entryFields, directoryFields, blockFields, encodeBlock, EntriesFit, PageFits, DirectoryFits, InRange}
-use Rattle.blocks.specs.Decode.{kind, spelledBy, readHeader, headerIn, readTuples, pageTable, pageCount, pageLevel, pageOf, pageIn, readEntries, directoryCount, directoryLevel, directoryIn, decodeBlock}
+use Rattle.blocks.specs.Decode.{kind, spelledBy, readHeader, headerIn, readTuples, pageTable, pageCount, pageLevel, pageSpelled, pageIn, readEntries, directoryCount, directoryLevel, directoryIn, decodeBlock}
 use Rattle.blocks.specs.Laws.{DecodeOfEncode, EncodeOfDecode}
 use Rattle.blocks.specs.Bytes.{pageHead}
 use Rattle.blocks.specs.declared.Header.{Header}
@@ -159,7 +159,7 @@ module _ (t l : ℕ) (ts : List Tuple) (fit : PageFits t l ts) where
 -- ---- one reading
 
 pub decode-encode : DecodeOfEncode
-unfolding decodeBlock headerIn pageIn pageOf directoryIn if_then_else_
+unfolding decodeBlock headerIn pageIn pageSpelled directoryIn if_then_else_
 decode-encode malformed r = absurd r
 decode-encode (header h) r = rw (header-kind h r, header-back h r) (spells-itself (header h))
 decode-encode (page t l ts) r =
@@ -220,7 +220,7 @@ read-header xs = read-spelled xs (header (readHeader xs)) (λ q. (
 ))
 
 read-page : (xs : List ℕ) → Reads xs (pageIn xs)
-unfolding pageIn pageOf pageTable pageLevel
+unfolding pageIn pageSpelled pageTable pageLevel
 read-page xs g =
     by-option (readTuples (pageCount xs) (drop 8 xs))
     (λ h. absurd (g (rw h)))

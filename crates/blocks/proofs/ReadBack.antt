@@ -5,7 +5,7 @@ use Rattle.basics.specs.Basics.{if_then_else_}
 use Rattle.blocks.specs.Numbers.{be4, num4}
 use Rattle.blocks.specs.Tuple.{Owner, committed, tentative, Tuple, ownerSize, size, OwnerFits, Fits, AllFit}
 use Rattle.blocks.specs.Block.{committedBit, markBit}
-use Rattle.blocks.specs.Decode.{readOwner, readMark, readTuple, taken, whole, readTuples}
+use Rattle.blocks.specs.Decode.{readOwner, readMark, readTuple, recordLength, isRecord, readTuples}
 use Rattle.blocks.specs.Bytes.{flagsOf, ownerWord, ownerBytes, recordBytes}
 use Rattle.blocks.proofs.Tuples.{records, length-record}
 
@@ -76,8 +76,8 @@ read-fields k n (tentative t s) m p rest hk hn ho hp =
     let q : take (flagsOf (tentative t s) m (length p) % 64) (p ++ rest) ≡ p = rw (flags-length (tentative t s) m (length p) hp) (take-append-seam p rest) in
     rw (flags-tentative t s m (length p) hp, g) (λ i. record { key = a i; number = b i; owner = tentative (g1 i) (g2 i); mark = d i; payload = q i })
 
-record-takes : (k n : ℕ) (o : Owner) (m : Bool) (p rest : List ℕ) → length p ≤ 40 → taken (recordBytes (tuple k n o m p) ++ rest) ≡ size (tuple k n o m p)
-unfolding taken recordBytes be4 ownerSize size if_then_else_
+record-takes : (k n : ℕ) (o : Owner) (m : Bool) (p rest : List ℕ) → length p ≤ 40 → recordLength (recordBytes (tuple k n o m p) ++ rest) ≡ size (tuple k n o m p)
+unfolding recordLength recordBytes be4 ownerSize size if_then_else_
 record-takes k n committed m p rest hp = rw (flags-committed m (length p), flags-length committed m (length p) hp)
 record-takes k n (tentative t s) m p rest hp = rw (flags-tentative t s m (length p) hp, flags-length (tentative t s) m (length p) hp)
 
@@ -90,11 +90,11 @@ module _ (x : Tuple) (rest : List ℕ) (fit : Fits x) where
   unfolding recordBytes be4
   limit = omega (arith, flags-length (x .owner) (x .mark) (length (x .payload)) (fit .payload), fit .payload)
 
-  takes : taken (recordBytes x ++ rest) ≡ size x
+  takes : recordLength (recordBytes x ++ rest) ≡ size x
   takes = record-takes (x .key) (x .number) (x .owner) (x .mark) (x .payload) rest (fit .payload)
 
-  whole-record : whole (recordBytes x ++ rest) ≡ true
-  unfolding whole
+  whole-record : isRecord (recordBytes x ++ rest) ≡ true
+  unfolding isRecord
   whole-record =
       let l : length (recordBytes x ++ rest) ≡ size x + length rest = rw (length-append (recordBytes x) rest, length-record x) in
       rw (l, takes, le-leb 9 (size x + length rest) at-least, le-leb (getD (recordBytes x ++ rest) 8 0 % 64) 40 limit, le-leb (size x) (size x + length rest) (omega arith))

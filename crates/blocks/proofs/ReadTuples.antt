@@ -4,7 +4,7 @@ use Rattle.basics.specs.Basics.{if_then_else_, sum}
 use Rattle.basics.proofs.Facts.{by, by-option, never, and-true}
 use Rattle.blocks.specs.Numbers.{num4}
 use Rattle.blocks.specs.Tuple.{Owner, committed, tentative, Tuple, ownerSize, size, sizes, OwnerFits, AllBytes, Fits, AllFit}
-use Rattle.blocks.specs.Decode.{readOwner, readTuple, taken, whole, readTuples}
+use Rattle.blocks.specs.Decode.{readOwner, readTuple, recordLength, isRecord, readTuples}
 use Rattle.blocks.specs.Bytes.{ownerIs, ownerAs}
 use Rattle.blocks.proofs.Spelled.{bytes-at, bytes-take, bytes-drop}
 
@@ -12,13 +12,13 @@ use Rattle.blocks.proofs.Spelled.{bytes-at, bytes-take, bytes-drop}
 abbrev pub ownerPart : ℕ → ℕ
 ownerPart f = if ltb f 128 then 4 else 0
 
-pub whole-parts : (ys : List ℕ) → whole ys ≡ true → (9 ≤ length ys) × ((getD ys 8 0 % 64 ≤ 40) × (taken ys ≤ length ys))
-unfolding whole
+pub whole-parts : (ys : List ℕ) → isRecord ys ≡ true → (9 ≤ length ys) × ((getD ys 8 0 % 64 ≤ 40) × (recordLength ys ≤ length ys))
+unfolding isRecord
 whole-parts ys e =
     let n = getD ys 8 0 % 64 in
-    let h = and-true (leb 9 (length ys)) (leb n 40 && leb (taken ys) (length ys)) e in
-    let g = and-true (leb n 40) (leb (taken ys) (length ys)) (h .1) in
-    (leb-true 9 (length ys) (h .0), (leb-true (getD ys 8 0 % 64) 40 (g .0), leb-true (taken ys) (length ys) (g .1)))
+    let h = and-true (leb 9 (length ys)) (leb n 40 && leb (recordLength ys) (length ys)) e in
+    let g = and-true (leb n 40) (leb (recordLength ys) (length ys)) (h .1) in
+    (leb-true 9 (length ys) (h .0), (leb-true (getD ys 8 0 % 64) 40 (g .0), leb-true (recordLength ys) (length ys) (g .1)))
 
 -- ---- one tuple
 
@@ -34,16 +34,16 @@ pub owner-same : (o : Owner) → ownerIs (ownerAs o) ≡ o
 owner-same committed = refl
 owner-same (tentative t s) = refl
 
-module _ (ys : List ℕ) (w : whole ys ≡ true) where
+module _ (ys : List ℕ) (w : isRecord ys ≡ true) where
   payload-length : length (readTuple ys .payload) ≡ getD ys 8 0 % 64
-  unfolding readTuple taken
+  unfolding readTuple recordLength
   payload-length =
       let h = whole-parts ys w in
       let o = owner-size (getD ys 8 0) (num4 ys 9) in
       simp (length-take, length-drop) (omega arith)
 
-  pub read-size : size (readTuple ys) ≡ taken ys
-  unfolding size readTuple taken
+  pub read-size : size (readTuple ys) ≡ recordLength ys
+  unfolding size readTuple recordLength
   read-size = rw (payload-length, owner-size (getD ys 8 0) (num4 ys 9))
 
   num4-small : (at : ℕ) → AllBytes ys → num4 ys at < 4294967296
@@ -68,16 +68,16 @@ module _ (ys : List ℕ) (w : whole ys ≡ true) where
 
 -- what reading one more says
 pub record Split (n : ℕ) (xs : List ℕ) (ts : List Tuple) : Type 0 where
-  pub whole-first : whole xs ≡ true
+  pub whole-first : isRecord xs ≡ true
   pub others : List Tuple
-  pub read : readTuples n (drop (taken xs) xs) ≡ some others
+  pub read : readTuples n (drop (recordLength xs) xs) ≡ some others
   pub is : ts ≡ readTuple xs ∷ others
 
 pub split : (n : ℕ) (xs : List ℕ) (ts : List Tuple) → readTuples (suc n) xs ≡ some ts → Split n xs ts
 unfolding readTuples if_then_else_
 split n xs ts e =
-    by (whole xs)
-    (λ w. by-option (readTuples n (drop (taken xs) xs))
+    by (isRecord xs)
+    (λ w. by-option (readTuples n (drop (recordLength xs) xs))
     (λ h. let k : none ≡ some ts = rw (w, h) at e in never k)
     (λ us h. let k : some (readTuple xs ∷ us) ≡ some ts = rw (w, h) at e in record { whole-first = w; others = us; read = h; is = cc }))
     (λ w. let k : none ≡ some ts = rw w at e in never k)
@@ -90,7 +90,7 @@ pub read-all-fit : (n : ℕ) (xs : List ℕ) (ts : List Tuple) → AllBytes xs �
 read-all-fit zero xs ts b e = rw (none-is xs ts e) tt
 read-all-fit (suc n) xs ts b e =
     let s = split n xs ts e in
-    rw (s .is) (read-fits xs (s .whole-first) b, read-all-fit n (drop (taken xs) xs) (s .others) (bytes-drop (taken xs) xs b) (s .read))
+    rw (s .is) (read-fits xs (s .whole-first) b, read-all-fit n (drop (recordLength xs) xs) (s .others) (bytes-drop (recordLength xs) xs b) (s .read))
 
 pub read-room : (n : ℕ) (xs : List ℕ) (ts : List Tuple) → readTuples n xs ≡ some ts → sizes ts ≤ length xs
 unfolding sum
@@ -98,5 +98,5 @@ read-room zero xs ts e = rw (none-is xs ts e) (omega arith)
 read-room (suc n) xs ts e =
     let s = split n xs ts e in
     let h = whole-parts xs (s .whole-first) in
-    let d = length-drop (taken xs) xs in
-    rw (s .is) (omega (arith, read-size xs (s .whole-first), read-room n (drop (taken xs) xs) (s .others) (s .read), h .1 .1))
+    let d = length-drop (recordLength xs) xs in
+    rw (s .is) (omega (arith, read-size xs (s .whole-first), read-room n (drop (recordLength xs) xs) (s .others) (s .read), h .1 .1))

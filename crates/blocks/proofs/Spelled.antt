@@ -7,7 +7,7 @@ use Rattle.bits.specs.Fields.{putAll, getAll, widths, values, total, Fit}
 use Rattle.bits.proofs.Numbers.{length-bitsOf, number-bitsOf, Bits, bits-of, bits-append, number-lt, bitsOf-number}
 use Rattle.bits.proofs.Lists.{over-middle}
 use Rattle.blocks.specs.Tuple.{AllBytes}
-use Rattle.blocks.specs.Spell.{zeros, spell, bytesOf, filled, blockOf}
+use Rattle.blocks.specs.Spell.{zeros, spell, bytesOf, padded, blockOf}
 
 -- ---- bytes
 
@@ -119,44 +119,44 @@ get-spelled (f ∷ fs) p q fit =
     let r : getAll (p ++ (X ++ (S ++ q))) (length p + f .0) (widths fs) ≡ values fs = rw (b, ← l) (get-spelled fs (p ++ X) q (fit .1)) in
     rw a (λ i. v i ∷ r i)
 
-pub length-filled : (d : List ℕ) → length d ≤ 4096 → length (filled d) ≡ 4096
-unfolding filled
+pub length-filled : (d : List ℕ) → length d ≤ 4096 → length (padded d) ≡ 4096
+unfolding padded
 length-filled d h = rw (length-append d (zeros (4096 - length d)), length-zeros (4096 - length d)) (omega arith)
 
-filled-bits : (fs : List (ℕ × ℕ)) → Bits (filled (spell fs))
-unfolding filled
+filled-bits : (fs : List (ℕ × ℕ)) → Bits (padded (spell fs))
+unfolding padded
 filled-bits fs = bits-append (spell fs) (zeros (4096 - length (spell fs))) (spell-bits fs) (zero-bits (4096 - length (spell fs)))
 
 pub length-block : (fs : List (ℕ × ℕ)) → length (blockOf fs) ≡ 512
 unfolding blockOf
-length-block fs = length-bytesOf 512 (filled (spell fs))
+length-block fs = length-bytesOf 512 (padded (spell fs))
 
 pub block-bytes : (fs : List (ℕ × ℕ)) → AllBytes (blockOf fs)
 unfolding blockOf
-block-bytes fs = bytes-of-bits 512 (filled (spell fs)) (filled-bits fs)
+block-bytes fs = bytes-of-bits 512 (padded (spell fs)) (filled-bits fs)
 
 -- bytes with the bits of a block of fields are that block
-pub block-is : (fs : List (ℕ × ℕ)) (s : List ℕ) → length s ≡ 512 → AllBytes s → bitsIn s ≡ filled (spell fs) → s ≡ blockOf fs
+pub block-is : (fs : List (ℕ × ℕ)) (s : List ℕ) → length s ≡ 512 → AllBytes s → bitsIn s ≡ padded (spell fs) → s ≡ blockOf fs
 unfolding blockOf
 block-is fs s k b e = sym (bytes-bits s b) ∙ rw (k, e)
 
-pub filled-spell : (fs : List (ℕ × ℕ)) → total fs ≤ 4096 → bitsIn (blockOf fs) ≡ filled (spell fs)
+pub filled-spell : (fs : List (ℕ × ℕ)) → total fs ≤ 4096 → bitsIn (blockOf fs) ≡ padded (spell fs)
 unfolding blockOf
 filled-spell fs h =
     let l : length (spell fs) ≤ 4096 = rw (length-spell fs) h in
-    bits-bytes 512 (filled (spell fs)) (length-filled (spell fs) l) (filled-bits fs)
+    bits-bytes 512 (padded (spell fs)) (length-filled (spell fs) l) (filled-bits fs)
 
 -- what is spelled is read back, at every width
 pub block-fields : (fs : List (ℕ × ℕ)) → total fs ≤ 4096 → Fit fs → getAll (bitsIn (blockOf fs)) 0 (widths fs) ≡ values fs
-unfolding filled
+unfolding padded
 block-fields fs h fit = rw (filled-spell fs h) (get-spelled fs [] (zeros (4096 - length (spell fs))) fit)
 
 split-room : (a b : ℕ) → a + b ≤ 4096 → 4096 - a ≡ b + (4096 - (a + b))
 split-room a b h = omega arith
 
 -- one field more
-pub put-next : (d x : List ℕ) → length d + length x ≤ 4096 → over (filled d) (length d) x ≡ filled (d ++ x)
-unfolding filled
+pub put-next : (d x : List ℕ) → length d + length x ≤ 4096 → over (padded d) (length d) x ≡ padded (d ++ x)
+unfolding padded
 put-next d x h =
     let k = 4096 - length d in
     let e : zeros (4096 - length d) ≡ zeros (length x) ++ zeros (4096 - (length d + length x)) =
@@ -172,16 +172,16 @@ spell-one : (f : ℕ × ℕ) → spell (f ∷ []) ≡ bitsOf (f .0) (f .1)
 unfolding spell
 spell-one f = append-nil (bitsOf (f .0) (f .1))
 
--- fields put one after another into a block that is filled from the front
-pub put-fields : (fs done : List (ℕ × ℕ)) (at : ℕ) → at ≡ length (spell done) → at + total fs ≤ 4096 → putAll (filled (spell done)) at fs ≡ filled (spell (done ++ fs))
-put-fields [] done at e h = ap (λ (l : List (ℕ × ℕ)). filled (spell l)) (sym (append-nil done))
+-- fields put one after another into a block that is padded from the front
+pub put-fields : (fs done : List (ℕ × ℕ)) (at : ℕ) → at ≡ length (spell done) → at + total fs ≤ 4096 → putAll (padded (spell done)) at fs ≡ padded (spell (done ++ fs))
+put-fields [] done at e h = ap (λ (l : List (ℕ × ℕ)). padded (spell l)) (sym (append-nil done))
 put-fields (f ∷ fs) done at e h =
     let X = bitsOf (f .0) (f .1) in
     let w = length-bitsOf (f .0) (f .1) in
-    let p : over (filled (spell done)) at X ≡ filled (spell done ++ X) = rw e (put-next (spell done) X (omega arith)) in
+    let p : over (padded (spell done)) at X ≡ padded (spell done ++ X) = rw e (put-next (spell done) X (omega arith)) in
     let q : spell done ++ X ≡ spell (done ++ (f ∷ [])) = sym (spell-append done (f ∷ []) ∙ ap (λ (l : List ℕ). spell done ++ l) (spell-one f)) in
     let n : at + f .0 ≡ length (spell (done ++ (f ∷ []))) = rw (← q, length-append (spell done) X) (omega arith) in
-    rw (p, q) (put-fields fs (done ++ (f ∷ [])) (at + f .0) n (omega arith) ∙ ap (λ (l : List (ℕ × ℕ)). filled (spell l)) (append-assoc done (f ∷ []) fs))
+    rw (p, q) (put-fields fs (done ++ (f ∷ [])) (at + f .0) n (omega arith) ∙ ap (λ (l : List (ℕ × ℕ)). padded (spell l)) (append-assoc done (f ∷ []) fs))
 
 zero-byte : (b : List ℕ) → bitsOf 8 0 ++ b ≡ zeros 8 ++ b
 unfolding bitsOf
@@ -194,8 +194,8 @@ zero-bits-in (suc n) =
     let e : 8 * suc n ≡ 8 + 8 * n = omega arith in
     rw (zero-bits-in n, zero-byte (zeros (8 * n)), zeros-add 8 (8 * n), e)
 
-pub empty-block : bitsIn (zeros 512) ≡ filled []
-unfolding filled
+pub empty-block : bitsIn (zeros 512) ≡ padded []
+unfolding padded
 empty-block = zero-bits-in 512
 
 -- a block of zeros in which fields were put from the front

@@ -61,17 +61,17 @@ readTuple xs =
     record { key = num4 xs 0; number = num4 xs 4; owner = o; mark = readMark f; payload = take (f % 64) (drop (9 + ownerSize o) xs) }
 
 -- how many bytes the record at the front of xs takes
-unfoldable pub taken : List ℕ → ℕ
-taken xs = 9 + (if ltb (getD xs 8 0) 128 then 4 else 0) + getD xs 8 0 % 64
+unfoldable pub recordLength : List ℕ → ℕ
+recordLength xs = 9 + (if ltb (getD xs 8 0) 128 then 4 else 0) + getD xs 8 0 % 64
 
--- a whole record is there, with a payload within the limit
-unfoldable pub whole : List ℕ → Bool
-whole xs = leb 9 (length xs) && (leb (getD xs 8 0 % 64) payloadLimit && leb (taken xs) (length xs))
+-- a isRecord record is there, with a payload within the limit
+unfoldable pub isRecord : List ℕ → Bool
+isRecord xs = leb 9 (length xs) && (leb (getD xs 8 0 % 64) payloadLimit && leb (recordLength xs) (length xs))
 
--- n records from the front on, each whole
+-- n records from the front on, each isRecord
 unfoldable pub readTuples : ℕ → List ℕ → Option (List Tuple)
 readTuples zero xs = some []
-readTuples (suc n) xs = if whole xs then Option·map (λ ts. readTuple xs ∷ ts) (readTuples n (drop (taken xs) xs)) else none
+readTuples (suc n) xs = if isRecord xs then Option·map (λ ts. readTuple xs ∷ ts) (readTuples n (drop (recordLength xs) xs)) else none
 
 -- a page's table
 unfoldable pub pageTable : List ℕ → ℕ
@@ -86,13 +86,13 @@ unfoldable pub pageLevel : List ℕ → ℕ
 pageLevel xs = field (bitsIn xs) 22 32
 
 -- the page of these tuples, if these bytes spell it
-unfoldable pub pageOf : List ℕ → Option (List Tuple) → Block
-pageOf xs none = malformed
-pageOf xs (some ts) = spelledBy xs (page (pageTable xs) (pageLevel xs) ts)
+unfoldable pub pageSpelled : List ℕ → Option (List Tuple) → Block
+pageSpelled xs none = malformed
+pageSpelled xs (some ts) = spelledBy xs (page (pageTable xs) (pageLevel xs) ts)
 
 -- the page that these bytes spell
 unfoldable pub pageIn : List ℕ → Block
-pageIn xs = pageOf xs (readTuples (pageCount xs) (drop 8 xs))
+pageIn xs = pageSpelled xs (readTuples (pageCount xs) (drop 8 xs))
 
 -- ---- directory
 

@@ -19,9 +19,9 @@ bytesOf zero b = []
 bytesOf (suc n) b = number (take 8 b) ∷ bytesOf n (drop 8 b)
 
 -- bits, and zeros up to a block's end
-unfoldable pub filled : List ℕ → List ℕ
-filled d = d ++ zeros (4096 - length d)
+unfoldable pub padded : List ℕ → List ℕ
+padded d = d ++ zeros (4096 - length d)
 
 -- the 512 bytes of fields
 unfoldable pub blockOf : List (ℕ × ℕ) → List ℕ
-blockOf fs = bytesOf 512 (filled (spell fs))
+blockOf fs = bytesOf 512 (padded (spell fs))

@@ -3,13 +3,13 @@ use Rattle.basics.proofs.Kit.{_≡_, refl, sym, ap, _∙_, subst, true, List, �
 use Rattle.allocator.specs.declared.Allocator.{Allocator}
 use Rattle.allocator.specs.Stores.{taking, landing}
 use Rattle.model.specs.State.{Store, Outcome}
-use Rattle.model.specs.Checkpoint.{stored, isRunning, left, leftOf, stepAt, stepCall}
+use Rattle.model.specs.Checkpoint.{withProgress, isRunning, left, leftOf, stepAt, stepCall}
 use Rattle.model.specs.Calls.{accepted}
 use Rattle.model.proofs.Laws.{one-less}
 use Rattle.memory_layout.specs.Flat.{Flat, flatOf}
 use Rattle.memory_layout.specs.Store.{storeOf, HoldsNow}
 use Rattle.memory_layout.proofs.Laws.{in-sound}
-use Rattle.call_checkpoint.specs.Keeping.{allocatorOf, allocatorIn, pageKept, directoryKept, headerKept, Runs, Steps}
+use Rattle.call_checkpoint.specs.Keeping.{allocatorOf, allocatorIn, pageKept, directoryKept, headerKept, RunningIn, Steps}
 use Rattle.call_checkpoint.proofs.Stepping.{step-at, answer-of}
 use Rattle.model.specs.State as model
 
@@ -37,7 +37,7 @@ pub allocator-is : (f : Flat) (t l : ℕ) → t ≡ f .head .taken → l ≡ lef
 unfolding allocatorOf storeOf
 allocator-is f t l et el = λ i. record { taken = et i; left = el i }
 
-module _ {m : List ℕ} {a : Allocator} (r : Runs m) (e : a ≡ allocatorIn m) where
+module _ {m : List ℕ} {a : Allocator} (r : RunningIn m) (e : a ≡ allocatorIn m) where
   pub some-left : 1 ≤ a .left
   some-left = omega (arith, left-is _ a e, lowers (storeOf (flatOf m)) (r .on))
 
@@ -56,16 +56,16 @@ module _ {m : List ℕ} {a : Allocator} (r : Runs m) (e : a ≡ allocatorIn m) w
 
     pub page-hands : (b : ℕ) → n ≡ taking a b → HoldsNow m m' (pageKept (n .taken) (storeOf (flatOf m))) → (HoldsNow m m' (pageKept b (storeOf (flatOf m))) → Steps img m img' m')
         → Steps img m img' m' × (n ≡ allocatorIn m')
-    unfolding pageKept stored
+    unfolding pageKept withProgress
     page-hands b = hands b (λ z. pageKept z (storeOf (flatOf m))) refl
 
     pub directory-hands : (b : ℕ) → n ≡ taking a b → HoldsNow m m' (directoryKept (n .taken) (storeOf (flatOf m))) → (HoldsNow m m' (directoryKept b (storeOf (flatOf m))) → Steps img m img' m')
         → Steps img m img' m' × (n ≡ allocatorIn m')
-    unfolding directoryKept stored
+    unfolding directoryKept withProgress
     directory-hands b = hands b (λ z. directoryKept z (storeOf (flatOf m))) refl
 
   pub header-hands : {m' : List ℕ} {n : Allocator} → n ≡ landing a → HoldsNow m m' (headerKept (storeOf (flatOf m))) → n ≡ allocatorIn m'
-  unfolding allocatorOf headerKept stored left leftOf
+  unfolding allocatorOf headerKept withProgress left leftOf
   header-hands {m'} en l =
       let et = ap (λ (x : Allocator). x .taken) e in
       en ∙ (λ i. record { taken = et i; left = 0 }) ∙ ap allocatorOf (sym (in-sound m' _ (l .store) .means))

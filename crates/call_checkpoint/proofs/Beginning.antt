@@ -6,7 +6,7 @@ use Rattle.basics.proofs.Lists.{map-append}
 use Rattle.model.specs.State.{Held, Page, Checkpoint, running, Store}
 use Rattle.model.specs.Rules.{freeze}
 use Rattle.model.specs.Transactions.{_when_, gives, unless, changed}
-use Rattle.model.specs.Checkpoint.{stored, isRunning, freeCount, blocksNeeded, beginCall}
+use Rattle.model.specs.Checkpoint.{withProgress, isRunning, freeCount, blocksNeeded, beginCall}
 use Rattle.memory_layout.specs.Flat.{Flat, flatOf, noEntry, entryIn, Room, Replaces, Becomes, withHead, withNamed, withDirectories}
 use Rattle.memory_layout.specs.Store.{pageOf, nest, pagesIn, hasRows, holdsStore, storeOf, HoldsNow}
 use Rattle.memory_layout.specs.declared.Entry.{Entry}
@@ -116,11 +116,11 @@ abbrev listed : Flat → Flat
 listed f = withHead (withDirectories (withNamed f (map blockIn (f .entries))) []) (beginHead (f .head))
 
 frozen-store : (f : Flat) → withPages (storeOf (listed f)) (map freeze (pagesIn (listed f)))
-    ≡ stored (storeOf f) (storeOf f .level) (map freeze (pagesIn f)) (storeOf f .used) (storeOf f .taken) (storeOf (listed f) .checkpoint)
-unfolding withPages changed stored storeOf
+    ≡ withProgress (storeOf f) (storeOf f .level) (map freeze (pagesIn f)) (storeOf f .used) (storeOf f .taken) (storeOf (listed f) .checkpoint)
+unfolding withPages changed withProgress storeOf
 frozen-store f = refl
 
-begun-at : (f : Flat) → stored (storeOf f) (storeOf f .level) (map freeze (pagesIn f)) (storeOf f .used) (storeOf f .taken)
+begun-at : (f : Flat) → withProgress (storeOf f) (storeOf f .level) (map freeze (pagesIn f)) (storeOf f .used) (storeOf f .taken)
     (running (f .head .next) (map (λ p. p .block) (pagesIn f)) []) ≡ begun (storeOf f)
 unfolding begun storeOf
 begun-at f = refl
@@ -130,8 +130,8 @@ begun-is f h =
     let s : Store = storeOf f in
     let ps : List Page = map freeze (pagesIn f) in
     frozen-store f
-    ∙ ap (λ (c : Checkpoint). stored s (s .level) ps (s .used) (s .taken) c) (runs-is (listed f) refl h)
-    ∙ ap (λ (es : List ℕ). stored s (s .level) ps (s .used) (s .taken) (running (f .head .next) es [])) (names-are (f .entries) _)
+    ∙ ap (λ (c : Checkpoint). withProgress s (s .level) ps (s .used) (s .taken) c) (runs-is (listed f) refl h)
+    ∙ ap (λ (es : List ℕ). withProgress s (s .level) ps (s .used) (s .taken) (running (f .head .next) es [])) (names-are (f .entries) _)
     ∙ begun-at f
 
 module _ {m m1 m2 m3 m4 : List ℕ} (held : holdsStore m ≡ true)

@@ -3,11 +3,11 @@ use Rattle.basics.proofs.Kit.{_≡_, refl, sym, ap, _∙_, subst, fun-ext, Bool
 use Rattle.basics.proofs.Kit.{getD, set, length-append, drop-of-length-le, List·getD-append, getD-append-add, eqb-true, eq-eqb, ne-eqb, eqb-false, not-true, arith}
 use Rattle.basics.specs.Basics.{if_then_else_, any, isIn}
 use Rattle.basics.proofs.Facts.{by}
-use Rattle.rows.proofs.Turns.{drop-turn}
+use Rattle.rows.proofs.Iterations.{drop-turn}
 use Rattle.model.specs.State.{Page, Checkpoint, idle, running, Store}
 use Rattle.model.specs.Rules.{isFrozen, thaw}
 use Rattle.model.specs.Transactions.{changed}
-use Rattle.model.specs.Checkpoint.{stored, isRunning, usedToo, fill}
+use Rattle.model.specs.Checkpoint.{withProgress, isRunning, usedToo, fill}
 use Rattle.model.proofs.Lists.{any-cons, all-split}
 use Rattle.memory_bytes.specs.Columns.{firstIndex}
 use Rattle.memory_layout.specs.Flat.{Flat, flatOf, usedAnd, Room, Becomes, withHead, withNamed, withDirectories, withUsed}
@@ -17,7 +17,7 @@ use Rattle.memory_layout.proofs.Laws.{holds-counted, becomes-store, becomes-the
 use Rattle.engine_pages.specs.Pages.{withPages, pagesOf}
 use Rattle.engine_pages.specs.Pending.{FirstFrozen}
 use Rattle.call_checkpoint.specs.Counting.{firstZero, NamedBefore, isNamed, fourNamed, namedIn}
-use Rattle.call_checkpoint.specs.Keeping.{filledBy, writtenBy, namedBy, pageKept, directoryKept, headerKept, Runs, taking, Marks}
+use Rattle.call_checkpoint.specs.Keeping.{entryFilled, directoryAdded, namedBy, pageKept, directoryKept, headerKept, RunningIn, taking, Marks}
 use Rattle.call_checkpoint.proofs.Tallies.{running-is}
 use Rattle.call_checkpoint.proofs.Beginning.{held-still}
 
@@ -123,15 +123,15 @@ still-runs f g on er el = running-is g (still f g on er el) .0
 -- ---- after a page's store
 
 page-store : (f : Flat) (b : ℕ) (ns : List ℕ) (ps : List Page) → withPages (storeOf (withNamed (taking b f) ns)) ps
-    ≡ stored (storeOf f) (storeOf f .level) ps (usedToo (storeOf f) b) b (storeOf (withNamed (taking b f) ns) .checkpoint)
-unfolding withPages changed stored storeOf usedToo
+    ≡ withProgress (storeOf f) (storeOf f .level) ps (usedToo (storeOf f) b) b (storeOf (withNamed (taking b f) ns) .checkpoint)
+unfolding withPages changed withProgress storeOf usedToo
 page-store f b ns ps = refl
 
-filled-is : (b n : ℕ) (es ds : List ℕ) → running n (fill b es) ds ≡ filledBy b (running n es ds)
-unfolding filledBy
+filled-is : (b n : ℕ) (es ds : List ℕ) → running n (fill b es) ds ≡ entryFilled b (running n es ds)
+unfolding entryFilled
 filled-is b n es ds = refl
 
-kept-is-page : (f : Flat) (b : ℕ) → stored (storeOf f) (storeOf f .level) (thaw b (pagesIn f)) (usedToo (storeOf f) b) b (filledBy b (storeOf f .checkpoint)) ≡ pageKept b (storeOf f)
+kept-is-page : (f : Flat) (b : ℕ) → withProgress (storeOf f) (storeOf f .level) (thaw b (pagesIn f)) (usedToo (storeOf f) b) b (entryFilled b (storeOf f .checkpoint)) ≡ pageKept b (storeOf f)
 unfolding pageKept storeOf
 kept-is-page f b = refl
 
@@ -144,11 +144,11 @@ page-kept : (f : Flat) (b : ℕ) → isRunning (storeOf f .checkpoint) ≡ true
 page-kept f b on =
     let s : Store = storeOf f in
     page-store f b (fill b (f .named)) (thaw b (pagesIn f))
-    ∙ ap (λ (c : Checkpoint). stored s (s .level) (thaw b (pagesIn f)) (usedToo s b) b c)
-    (still-runs f (placed b f) on refl refl ∙ filled-is b (f .head .begun) (f .named) (f .directories) ∙ ap (filledBy b) (sym (running-is f on .0)))
+    ∙ ap (λ (c : Checkpoint). withProgress s (s .level) (thaw b (pagesIn f)) (usedToo s b) b c)
+    (still-runs f (placed b f) on refl refl ∙ filled-is b (f .head .begun) (f .named) (f .directories) ∙ ap (entryFilled b) (sym (running-is f on .0)))
     ∙ kept-is-page f b
 
-module _ {m m1 m2 : List ℕ} (b : ℕ) (r : Runs m) (x : Becomes m m1 (taking b (flatOf m))) (y : Fills m1 m2 b) where
+module _ {m m1 m2 : List ℕ} (b : ℕ) (r : RunningIn m) (x : Becomes m m1 (taking b (flatOf m))) (y : Fills m1 m2 b) where
   page-flat : Becomes m m2 (placed b (flatOf m))
   page-flat = becomes-then m m1 m2 _ (λ f. withNamed f (fill b (f .named))) x y
 
@@ -158,7 +158,7 @@ module _ {m m1 m2 : List ℕ} (b : ℕ) (r : Runs m) (x : Becomes m m1 (taking b
       let e = sym (page-flat .flat) in
       record {
         there = record {
-          held = held-still (r .held) page-flat refl;
+          has-store = held-still (r .has-store) page-flat refl;
           inside = subst (λ (f : Flat). p < length (f .entries)) e (o .there .inside);
         };
         first = subst (λ (f : Flat). p ≡ firstIndex isFrozen (pagesIn f)) e (o .first);
@@ -176,15 +176,15 @@ module _ {m m1 m2 : List ℕ} (b : ℕ) (r : Runs m) (x : Becomes m m1 (taking b
 -- ---- after a directory block's store
 
 store-is-directory : (f : Flat) (b : ℕ) → storeOf (withDirectories (taking b f) (f .directories ++ b ∷ []))
-    ≡ stored (storeOf f) (storeOf f .level) (storeOf f .pages) (usedToo (storeOf f) b) b (storeOf (withDirectories (taking b f) (f .directories ++ b ∷ [])) .checkpoint)
-unfolding stored storeOf usedToo
+    ≡ withProgress (storeOf f) (storeOf f .level) (storeOf f .pages) (usedToo (storeOf f) b) b (storeOf (withDirectories (taking b f) (f .directories ++ b ∷ [])) .checkpoint)
+unfolding withProgress storeOf usedToo
 store-is-directory f b = refl
 
-written-is : (b n : ℕ) (es ds : List ℕ) → running n es (ds ++ b ∷ []) ≡ writtenBy b (running n es ds)
-unfolding writtenBy
+written-is : (b n : ℕ) (es ds : List ℕ) → running n es (ds ++ b ∷ []) ≡ directoryAdded b (running n es ds)
+unfolding directoryAdded
 written-is b n es ds = refl
 
-kept-is-directory : (s : Store) (b : ℕ) → stored s (s .level) (s .pages) (usedToo s b) b (writtenBy b (s .checkpoint)) ≡ directoryKept b s
+kept-is-directory : (s : Store) (b : ℕ) → withProgress s (s .level) (s .pages) (usedToo s b) b (directoryAdded b (s .checkpoint)) ≡ directoryKept b s
 unfolding directoryKept
 kept-is-directory s b = refl
 
@@ -194,15 +194,15 @@ directory-kept f b on =
     let s : Store = storeOf f in
     let g : Flat = withDirectories (taking b f) (f .directories ++ b ∷ []) in
     store-is-directory f b
-    ∙ ap (λ (c : Checkpoint). stored s (s .level) (s .pages) (usedToo s b) b c)
-    (still-runs f g on refl refl ∙ written-is b (f .head .begun) (f .named) (f .directories) ∙ ap (writtenBy b) (sym (running-is f on .0)))
+    ∙ ap (λ (c : Checkpoint). withProgress s (s .level) (s .pages) (usedToo s b) b c)
+    (still-runs f g on refl refl ∙ written-is b (f .head .begun) (f .named) (f .directories) ∙ ap (directoryAdded b) (sym (running-is f on .0)))
     ∙ kept-is-directory s b
 
-pub directory-leads : {m m1 m2 : List ℕ} (b : ℕ) → Runs m → Becomes m m1 (taking b (flatOf m))
+pub directory-leads : {m m1 m2 : List ℕ} (b : ℕ) → RunningIn m → Becomes m m1 (taking b (flatOf m))
     → Becomes m1 m2 (withDirectories (flatOf m1) (flatOf m1 .directories ++ b ∷ [])) → HoldsNow m m2 (directoryKept b (storeOf (flatOf m)))
 directory-leads {m} {m1} {m2} b r x y =
     let z = becomes-then m m1 m2 _ (λ f. withDirectories f (f .directories ++ b ∷ [])) x y in
-    record { size = z .size; store = becomes-store z (holds-counted m (r .held)) ∙ ap some (directory-kept (flatOf m) b (r .on)) }
+    record { size = z .size; store = becomes-store z (holds-counted m (r .has-store)) ∙ ap some (directory-kept (flatOf m) b (r .on)) }
 
 -- ---- after the header's store
 
@@ -283,8 +283,8 @@ abbrev landedHead : Head → Head
 landedHead h =
     record { capacity = h .capacity; blocks = h .blocks; level = h .level + 1; next = h .next; running = false; begun = h .begun; taken = h .taken }
 
-store-is-header : (f : Flat) (u : ℕ → Bool) → storeOf (withHead (withUsed f u) (landedHead (f .head))) ≡ stored (storeOf f) (storeOf f .level + 1) (storeOf f .pages) u (storeOf f .taken) idle
-unfolding stored storeOf checkpointOf if_then_else_
+store-is-header : (f : Flat) (u : ℕ → Bool) → storeOf (withHead (withUsed f u) (landedHead (f .head))) ≡ withProgress (storeOf f) (storeOf f .level + 1) (storeOf f .pages) u (storeOf f .taken) idle
+unfolding withProgress storeOf checkpointOf if_then_else_
 store-is-header f u = refl
 
 or-none : (b : Bool) → (b || false) ≡ b
@@ -292,9 +292,9 @@ or-none true = refl
 or-none false = refl
 
 kept-is-header : (s : Store) (n : ℕ) (es ds : List ℕ) → s .checkpoint ≡ running n es ds
-    → stored s (suc (s .level)) (s .pages) (λ b. isIn b (es ++ ds)) (s .taken) idle ≡ headerKept s
+    → withProgress s (suc (s .level)) (s .pages) (λ b. isIn b (es ++ ds)) (s .taken) idle ≡ headerKept s
 unfolding headerKept namedBy
-kept-is-header s n es ds q = ap (λ (c : Checkpoint). stored s (suc (s .level)) (s .pages) (λ b. isIn b (namedBy c)) (s .taken) idle) (sym q)
+kept-is-header s n es ds q = ap (λ (c : Checkpoint). withProgress s (suc (s .level)) (s .pages) (λ b. isIn b (namedBy c)) (s .taken) idle) (sym q)
 
 header-kept : (f : Flat) (u : ℕ → Bool) → isRunning (storeOf f .checkpoint) ≡ true
     → ((c : ℕ) → u c ≡ (isIn c (namedIn f) || false))
@@ -304,11 +304,11 @@ header-kept f u on e =
     let es : List ℕ = f .named in
     let ds : List ℕ = f .directories in
     let q : u ≡ (λ b. isIn b (es ++ ds)) = fun-ext (λ c. e c ∙ or-none (isIn c (namedIn f)) ∙ ap (isIn c) (named-is-both f)) in
-    store-is-header f u ∙ ap (λ (v : ℕ → Bool). stored s (s .level + 1) (s .pages) v (s .taken) idle) q
-    ∙ ap (λ (l : ℕ). stored s l (s .pages) (λ b. isIn b (es ++ ds)) (s .taken) idle) (add-one (s .level))
+    store-is-header f u ∙ ap (λ (v : ℕ → Bool). withProgress s (s .level + 1) (s .pages) v (s .taken) idle) q
+    ∙ ap (λ (l : ℕ). withProgress s l (s .pages) (λ b. isIn b (es ++ ds)) (s .taken) idle) (add-one (s .level))
     ∙ kept-is-header s (f .head .begun) es ds (running-is f on .0)
 
-module _ {m m1 m2 : List ℕ} (r : Runs m) (a : Becomes m m1 (withUsed (flatOf m) (λ c. false))) (b : Marks m1 m2 (namedIn (flatOf m1))) where
+module _ {m m1 m2 : List ℕ} (r : RunningIn m) (a : Becomes m m1 (withUsed (flatOf m) (λ c. false))) (b : Marks m1 m2 (namedIn (flatOf m1))) where
   header-flat : Becomes m m2 (withUsed (flatOf m) (flatOf m2 .used))
   header-flat =
       record {
@@ -328,7 +328,7 @@ module _ {m m1 m2 : List ℕ} (r : Runs m) (a : Becomes m m1 (withUsed (flatOf m
         room = x .room;
         flat = x .flat ∙ ap (λ (g : Head). withHead (flatOf m2) (landedHead g)) eh ∙ ap (λ (f : Flat). withHead f (landedHead (f .head))) (header-flat .flat);
       } in
-      record { size = z .size; store = becomes-store z (holds-counted m (r .held)) ∙ ap some (header-kept (flatOf m) (flatOf m2 .used) (r .on) used-is) }
+      record { size = z .size; store = becomes-store z (holds-counted m (r .has-store)) ∙ ap some (header-kept (flatOf m) (flatOf m2 .used) (r .on) used-is) }
 
   pub header-low : flatOf m2 .head .level < 4294967295
   header-low = omega (arith, running-is (flatOf m) (r .on) .1, ap (λ (f : Flat). f .head .level) (header-flat .flat))

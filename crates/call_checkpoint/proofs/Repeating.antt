@@ -10,7 +10,7 @@ use Rattle.model.proofs.Laws.{step-size}
 use Rattle.memory_layout.specs.Flat.{Flat, flatOf}
 use Rattle.memory_layout.specs.Store.{holdsStore, storeOf, HoldsNow}
 use Rattle.memory_layout.proofs.Laws.{Sound, in-some, in-sound}
-use Rattle.contracts.specs.Shape.{Leaves, StoredBy, Stores, StoresAt}
+use Rattle.contracts.specs.Shape.{MemoryAfter, StoredBy, Stores, StoresAt}
 use Rattle.contracts.specs.declared.Answer.{Answer}
 use Rattle.contracts.specs.declared.Answer.the-variants.{Count}
 use Rattle.contracts.proofs.Answering.{stores-count}
@@ -48,21 +48,21 @@ module _ (limit len : ℕ) (s : Store) where
 pub record Repeats (img₀ m₀ : List ℕ) (k : ℕ) (img m : List ℕ) (n : ℕ) : Type 0 where
   pub size : length m ≡ length m₀
   pub wide : length img ≡ length img₀
-  pub held : holdsStore m ≡ true
+  pub has-store : holdsStore m ≡ true
   pub long : length img ≡ 512 * flatOf m .head .blocks
   pub few : n ≤ left (storeOf (flatOf m))
   pub store : inTurn n (storeOf (flatOf m)) .store ≡ inTurn k (storeOf (flatOf m₀)) .store
   pub image : imageAfter (inTurn n (storeOf (flatOf m)) .writes) img ≡ imageAfter (inTurn k (storeOf (flatOf m₀)) .writes) img₀
 
 pub repeats-start : (img m : List ℕ) (k : ℕ) → Ready img m → k ≤ left (storeOf (flatOf m)) → Repeats img m k img m k
-repeats-start img m k r h = record { size = refl; wide = refl; held = r .runs .held; long = r .long; few = h; store = refl; image = refl }
+repeats-start img m k r h = record { size = refl; wide = refl; has-store = r .runs .has-store; long = r .long; few = h; store = refl; image = refl }
 
 -- while stores are left, the checkpoint runs
 left-runs : (f : Flat) → 0 < left (storeOf f) → isRunning (storeOf f .checkpoint) ≡ true
 left-runs f h = by (isRunning (storeOf f .checkpoint)) (λ e. e) (λ e. absurd (omega (arith, left-none f e)))
 
-counted : (a : model.Answer) (s : Store) (m m' : List ℕ) (n : ℕ) → a ≡ model.count n → Leaves a s m m' → HoldsNow m m' s
-counted a s m m' n e l = subst (λ (z : model.Answer). Leaves z s m m') e l
+counted : (a : model.Answer) (s : Store) (m m' : List ℕ) (n : ℕ) → a ≡ model.count n → MemoryAfter a s m m' → HoldsNow m m' s
+counted a s m m' n e l = subst (λ (z : model.Answer). MemoryAfter z s m m') e l
 
 stored-by : (call : Store → Outcome) (o : Outcome) (img m : List ℕ) (r : Answer) (img' m' : List ℕ) → holdsStore m ≡ true → call (storeOf (flatOf m)) ≡ o
     → Stores call img m r img' m' → StoredBy o img m r img' m'
@@ -84,7 +84,7 @@ module _ {img₀ m₀ : List ℕ} {k : ℕ} {img m : List ℕ} {n : ℕ} (c : Re
         let on : isRunning (s .checkpoint) ≡ true = left-runs (flatOf m) (omega (arith, c .few)) in
         let a = answer-of (s .checkpoint) s on in
         let q : stepCall (length img) s ≡ o = step-at (length img) s e in
-        let d : StoredBy o img m r img' m' = stored-by (stepCall (length img)) o img m r img' m' (c .held) q t in
+        let d : StoredBy o img m r img' m' = stored-by (stepCall (length img)) o img m r img' m' (c .has-store) q t in
         let l = counted (o .answer) (o .store) m m' (left (o .store)) a (d .memory) in
         let u : Sound m' (o .store) = in-sound m' (o .store) (l .store) in
         let less : left s ≡ suc (left (o .store)) = lowers s on in
@@ -93,7 +93,7 @@ module _ {img₀ m₀ : List ℕ} {k : ℕ} {img m : List ℕ} {n : ℕ} (c : Re
         record {
           size = l .size ∙ c .size;
           wide = w ∙ c .wide;
-          held = u .held;
+          has-store = u .has-store;
           long = w ∙ e ∙ ap (λ (z : ℕ). 512 * z) (sym (step-size s) ∙ ap (λ (z : Store). z .blocks) (sym (u .means)) ∙ blocks-is (flatOf m'));
           few = omega (arith, c .few, less, ap left (u .means));
           store = ap (λ (z : Store). inTurn (n - 1) z .store) (u .means) ∙ sym (x .0) ∙ ap (λ (z : ℕ). inTurn z s .store) (sym j) ∙ c .store;
@@ -118,8 +118,8 @@ module _ {img₀ m₀ : List ℕ} {k : ℕ} {img m : List ℕ} {n : ℕ} (c : Re
       let s : Store = storeOf (flatOf m₀) in
       let x = none-left h in
       let e : length img₀ ≡ 512 * s .blocks = r .long ∙ ap (λ (z : ℕ). 512 * z) (sym (blocks-is (flatOf m₀))) in
-      stores-count (runCall limit (length img₀)) m₀ img₀ img m a (inTurn k s .store) (inTurn k s .writes) (r .runs .held)
+      stores-count (runCall limit (length img₀)) m₀ img₀ img m a (inTurn k s .store) (inTurn k s .writes) (r .runs .has-store)
       (run-at limit (length img₀) s e (r .runs .on)
       ∙ ap (λ (i : ℕ). record { answer = model.count i; store = inTurn i s .store; writes = inTurn i s .writes }) (sym ek)
       ∙ ap (λ (i : ℕ). record { answer = model.count i; store = inTurn k s .store; writes = inTurn k s .writes }) (sym ea))
-      (record { size = c .size; store = in-some m (c .held) ∙ ap some (x .0) }) (x .1)
+      (record { size = c .size; store = in-some m (c .has-store) ∙ ap some (x .0) }) (x .1)

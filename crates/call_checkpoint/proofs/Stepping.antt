@@ -8,7 +8,7 @@ use Rattle.image.specs.Stages.{directoriesFor}
 use Rattle.model.specs.State.{Held, Page, Checkpoint, idle, running, Store, Outcome}
 use Rattle.model.specs.Rules.{isFrozen, shown, thaw}
 use Rattle.model.specs.Transactions.{gives, unless}
-use Rattle.model.specs.Checkpoint.{stored, allocate, usedToo, isRunning, left, made, storable, storePage, storeDirectory, headerFor, storeHeader, stepOf, stepAt, badImage, stepCall}
+use Rattle.model.specs.Checkpoint.{withProgress, allocate, usedToo, isRunning, left, made, storable, storePage, storeDirectory, headerFor, storeHeader, stepOf, stepAt, badImage, stepCall}
 use Rattle.model.specs.Recover.{putBlock, imageAfter}
 use Rattle.model.proofs.Lists.{first-none as none-many}
 use Rattle.memory_bytes.specs.Columns.{firstIndex}
@@ -25,7 +25,7 @@ use Rattle.engine_pages.proofs.Places.{from-page, page-table, tuples-are}
 use Rattle.contracts.specs.Shape.{Stores}
 use Rattle.contracts.specs.declared.Answer.the-variants.{Count, Refused}
 use Rattle.contracts.proofs.Answering.{stores-4, stores-refused, stores-count}
-use Rattle.call_checkpoint.specs.Keeping.{filledBy, writtenBy, namedBy, pageKept, directoryKept, headerKept, Runs, Ready, NoneFrozen, Does, Steps, stepRefusal}
+use Rattle.call_checkpoint.specs.Keeping.{entryFilled, directoryAdded, namedBy, pageKept, directoryKept, headerKept, RunningIn, Ready, NoneFrozen, Effect, Steps, stepRefusal}
 use Rattle.call_checkpoint.proofs.Tallies.{running-is, first-hit, first-past, frozen-many}
 use Rattle.model.specs.State as model
 
@@ -90,10 +90,10 @@ module _ (s : Store) (n : ℕ) (es ds : List ℕ) (e : s .checkpoint ≡ running
   step-is = ap (λ (c : Checkpoint). stepAt c s) e
 
   page-made : (q : Page) → storePage n es ds q s ≡ made (allocate s) (page (q .table) (suc (s .level)) (storable (shown (q .tuples)))) (pageKept (allocate s) s)
-  unfolding storePage pageKept filledBy
+  unfolding storePage pageKept entryFilled
   page-made q =
       ap (λ (c : Checkpoint). made (allocate s) (page (q .table) (suc (s .level)) (storable (shown (q .tuples))))
-      (stored s (s .level) (thaw (allocate s) (s .pages)) (usedToo s (allocate s)) (allocate s) (filledBy (allocate s) c))) (sym e)
+      (withProgress s (s .level) (thaw (allocate s) (s .pages)) (usedToo s (allocate s)) (allocate s) (entryFilled (allocate s) c))) (sym e)
 
   pub step-page : (q : Page) → first isFrozen (s .pages) ≡ some q
       → stepAt (s .checkpoint) s ≡ made (allocate s) (page (q .table) (suc (s .level)) (storable (shown (q .tuples)))) (pageKept (allocate s) s)
@@ -101,16 +101,16 @@ module _ (s : Store) (n : ℕ) (es ds : List ℕ) (e : s .checkpoint ≡ running
   step-page q f = step-is ∙ ap (λ (o : Option Page). stepOf o n es ds s) f ∙ page-made q
 
   directory-made : storeDirectory n es ds s ≡ made (allocate s) (directory (suc (s .level)) (take 336 (drop (336 * length ds) es))) (directoryKept (allocate s) s)
-  unfolding storeDirectory directoryKept writtenBy
+  unfolding storeDirectory directoryKept directoryAdded
   directory-made =
       ap (λ (c : Checkpoint). made (allocate s) (directory (suc (s .level)) (take 336 (drop (336 * length ds) es)))
-      (stored s (s .level) (s .pages) (usedToo s (allocate s)) (allocate s) (writtenBy (allocate s) c))) (sym e)
+      (withProgress s (s .level) (s .pages) (usedToo s (allocate s)) (allocate s) (directoryAdded (allocate s) c))) (sym e)
 
   header-made : storeHeader n es ds s ≡ made 0 (header (headerFor s (suc (s .level)) n (length es) ds)) (headerKept s)
   unfolding storeHeader headerKept namedBy
   header-made =
       ap (λ (c : Checkpoint). made 0 (header (headerFor s (suc (s .level)) n (length es) ds))
-      (stored s (suc (s .level)) (s .pages) (λ b. isIn b (namedBy c)) (s .taken) idle)) (sym e)
+      (withProgress s (suc (s .level)) (s .pages) (λ b. isIn b (namedBy c)) (s .taken) idle)) (sym e)
 
   module _ (f : first isFrozen (s .pages) ≡ none) where
     rest-is : stepAt (s .checkpoint) s ≡ (if ltb (length ds) (directoriesFor (length es)) then storeDirectory n es ds s else storeHeader n es ds s)
@@ -145,7 +145,7 @@ unfolding putBlock
 front-is img part = refl
 
 does-made : {img m img' m' : List ℕ} (o : Outcome) (b : ℕ) (x : Block) (s : Store) → o ≡ made b x s → HoldsNow m m' s → img' ≡ putBlock img b (encodeBlock x)
-    → Does o img m img' m'
+    → Effect o img m img' m'
 unfolding made imageAfter
 does-made {img} o b x s e l q =
     record {
@@ -153,7 +153,7 @@ does-made {img} o b x s e l q =
       image = q ∙ ap (λ (z : Outcome). imageAfter (z .writes) img) (sym e);
     }
 
-module _ {m : List ℕ} (r : Runs m) where
+module _ {m : List ℕ} (r : RunningIn m) where
   runs : storeOf (flatOf m) .checkpoint ≡ running (flatOf m .head .begun) (flatOf m .named) (flatOf m .directories)
   runs = running-is (flatOf m) (r .on) .0
 
@@ -169,7 +169,7 @@ module _ (m : List ℕ) where
   none-is : NoneFrozen m → first isFrozen (storeOf (flatOf m) .pages) ≡ none
   none-is h = ap (first isFrozen) pages-are ∙ h
 
-module _ {img m img' m' part : List ℕ} (r : Runs m) where
+module _ {img m img' m' part : List ℕ} (r : RunningIn m) where
   pub page-does : (p b t a e l : ℕ) → FirstFrozen m p → b ≡ allocate (storeOf (flatOf m)) → t ≡ entryOf m p .table → a ≡ firstRow m p → e ≡ firstRow m (p + 1)
       → l ≡ flatOf m .head .level + 1 → part ≡ encodeBlock (page t l (storable (shown (rowsFrom m a e)))) → img' ≡ putBlock img b part
       → HoldsNow m m' (pageKept b (storeOf (flatOf m))) → Steps img m img' m'
@@ -255,11 +255,11 @@ module _ (len : ℕ) (m : List ℕ) where
         by (eqb len (512 * flatOf m .head .blocks)) (λ h. eqb-true len _ h)
         (λ h. absurd (omega (arith, refusal-5 (passed-held z) (eqb-false len _ h))))
 
-    passed-runs : v ≡ 0 → Runs m
+    passed-runs : v ≡ 0 → RunningIn m
     passed-runs z =
         let held : holdsStore m ≡ true = passed-held z in
         record {
-          held = held;
+          has-store = held;
           on = by (isRunning (storeOf (flatOf m) .checkpoint)) (λ h. h) (λ h. absurd (omega (arith, refusal-18 held (passed-long z) h)));
         }
 
@@ -319,7 +319,7 @@ step-done img m img' m' k r d e =
     let s : Store = storeOf (flatOf m) in
     let o : Outcome = stepAt (s .checkpoint) s in
     let n : k ≡ left (o .store) = e ∙ ap left (in-sound m' (o .store) (d .memory .store) .means) in
-    stores-count (stepCall (length img)) m img img' m' k (o .store) (o .writes) (r .runs .held)
+    stores-count (stepCall (length img)) m img img' m' k (o .store) (o .writes) (r .runs .has-store)
     (step-at (length img) s (r .long ∙ ap (λ (b : ℕ). 512 * b) (sym (blocks-is (flatOf m))))
     ∙ ap (λ (a : model.Answer). record { answer = a; store = o .store; writes = o .writes }) (answer-of (s .checkpoint) s (r .runs .on) ∙ ap model.count (sym n)))
     (d .memory) (d .image)

@@ -10,7 +10,7 @@ use Rattle.allocator.specs.declared.Allocator.{Allocator}
 use Rattle.basics.specs.Basics.{if_then_else_, isIn, first}
 use Rattle.model.specs.State.{Checkpoint, idle, running, Store, Outcome}
 use Rattle.model.specs.Rules.{isFrozen, freeze, thaw}
-use Rattle.model.specs.Checkpoint.{stored, isRunning, left, usedToo, fill, stepAt}
+use Rattle.model.specs.Checkpoint.{withProgress, isRunning, left, usedToo, fill, stepAt}
 use Rattle.model.specs.Recover.{imageAfter}
 use Rattle.memory_layout.specs.Flat.{Flat, flatOf, usedAnd, Becomes, withHead, withUsed}
 use Rattle.memory_layout.specs.Store.{holdsStore, storeOf, storeIn, HoldsNow}
@@ -26,17 +26,17 @@ allocatorIn m = allocatorOf (storeOf (flatOf m))
 
 -- begin freezes every dirty page and fixes the list of all pages
 unfoldable pub begun : Store → Store
-begun s = stored s (s .level) (map freeze (s .pages)) (s .used) (s .taken) (running (s .next) (map (λ p. p .block) (s .pages)) [])
+begun s = withProgress s (s .level) (map freeze (s .pages)) (s .used) (s .taken) (running (s .next) (map (λ p. p .block) (s .pages)) [])
 
--- the directory will name block b for the page stored
-unfoldable pub filledBy : ℕ → Checkpoint → Checkpoint
-filledBy b idle = idle
-filledBy b (running n es ds) = running n (fill b es) ds
+-- the directory will name block b for the page withProgress
+unfoldable pub entryFilled : ℕ → Checkpoint → Checkpoint
+entryFilled b idle = idle
+entryFilled b (running n es ds) = running n (fill b es) ds
 
 -- one directory block more is written
-unfoldable pub writtenBy : ℕ → Checkpoint → Checkpoint
-writtenBy b idle = idle
-writtenBy b (running n es ds) = running n es (ds ++ b ∷ [])
+unfoldable pub directoryAdded : ℕ → Checkpoint → Checkpoint
+directoryAdded b idle = idle
+directoryAdded b (running n es ds) = running n es (ds ++ b ∷ [])
 
 -- the blocks that the header to come and its directory name
 unfoldable pub namedBy : Checkpoint → List ℕ
@@ -45,24 +45,24 @@ namedBy (running n es ds) = es ++ ds
 
 -- after a page's store as block b
 unfoldable pub pageKept : ℕ → Store → Store
-pageKept b s = stored s (s .level) (thaw b (s .pages)) (usedToo s b) b (filledBy b (s .checkpoint))
+pageKept b s = withProgress s (s .level) (thaw b (s .pages)) (usedToo s b) b (entryFilled b (s .checkpoint))
 
 -- after the store of a directory block as block b
 unfoldable pub directoryKept : ℕ → Store → Store
-directoryKept b s = stored s (s .level) (s .pages) (usedToo s b) b (writtenBy b (s .checkpoint))
+directoryKept b s = withProgress s (s .level) (s .pages) (usedToo s b) b (directoryAdded b (s .checkpoint))
 
 -- after the header's store
 unfoldable pub headerKept : Store → Store
-headerKept s = stored s (suc (s .level)) (s .pages) (λ b. isIn b (namedBy (s .checkpoint))) (s .taken) idle
+headerKept s = withProgress s (suc (s .level)) (s .pages) (λ b. isIn b (namedBy (s .checkpoint))) (s .taken) idle
 
 -- a checkpoint runs in the store that the memory holds
-pub record Runs (m : List ℕ) : Type 0 where
-  pub held : holdsStore m ≡ true
+pub record RunningIn (m : List ℕ) : Type 0 where
+  pub has-store : holdsStore m ≡ true
   pub on : isRunning (storeOf (flatOf m) .checkpoint) ≡ true
 
 -- and the image is exactly the store's blocks long
 pub record Ready (img m : List ℕ) : Type 0 where
-  pub runs : Runs m
+  pub runs : RunningIn m
   pub long : length img ≡ 512 * flatOf m .head .blocks
 
 -- no page is frozen
@@ -81,13 +81,13 @@ pub record Marks (m m' : List ℕ) (bs : List ℕ) : Type 0 where
   pub used : (c : ℕ) → flatOf m' .used c ≡ (isIn c bs || flatOf m .used c)
 
 -- what the outcome o does to image and memory
-pub record Does (o : Outcome) (img m img' m' : List ℕ) : Type 0 where
+pub record Effect (o : Outcome) (img m img' m' : List ℕ) : Type 0 where
   pub memory : HoldsNow m m' (o .store)
   pub image : img' ≡ imageAfter (o .writes) img
 
 -- one step of the running checkpoint is made
 abbrev pub Steps : List ℕ → List ℕ → List ℕ → List ℕ → Type 0
-Steps img m img' m' = Does (stepAt (storeOf (flatOf m) .checkpoint) (storeOf (flatOf m))) img m img' m'
+Steps img m img' m' = Effect (stepAt (storeOf (flatOf m) .checkpoint) (storeOf (flatOf m))) img m img' m'
 
 -- the number of the first test of a step that holds, 0 if none does: 4; 5 image is not exactly the store's blocks long; 18 none running
 unfoldable pub stepRefusal : ℕ → Option Store → ℕ

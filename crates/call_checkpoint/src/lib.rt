@@ -18,7 +18,7 @@ ghost use Rattle.engine_pages.specs.Pages.{pagesOf};
 ghost use Rattle.engine_pages.specs.Pending.{FirstFrozen};
 ghost use Rattle.contracts.specs.Shape.{Answers, Stores};
 ghost use Rattle.call_checkpoint.specs.Counting.{oneIf, freeFrom, firstZero, NamedBefore, fourNamed, namedIn};
-ghost use Rattle.call_checkpoint.specs.Keeping.{allocatorIn, begun, pageKept, directoryKept, headerKept, Runs, Ready, NoneFrozen, taking, Marks, Steps, stepRefusal};
+ghost use Rattle.call_checkpoint.specs.Keeping.{allocatorIn, begun, pageKept, directoryKept, headerKept, RunningIn, Ready, NoneFrozen, taking, Marks, Steps, stepRefusal};
 
 // A level, and with it a header's number, is at most this.
 const LAST_LEVEL: u32 = 4294967295;
@@ -94,7 +94,7 @@ fn directories_left(m: &[u8]) -> usize
 
 // How many stores are left: the frozen pages, the directory blocks, the header.
 fn left(m: &[u8], frozen: usize) -> u64
-    requires { ⌜ Runs (now m) × (frozen ≡ howMany isFrozen (pagesOf (now m))) ⌝ }
+    requires { ⌜ RunningIn (now m) × (frozen ≡ howMany isFrozen (pagesOf (now m))) ⌝ }
     ensures { λ r. ⌜ r ≡ left (storeOf (flatOf (now (m .entry)))) ⌝ }
 {
     let n = frozen + directories_left(m) + 1;
@@ -139,7 +139,7 @@ fn allocate(m: &[u8], taken: u32) -> usize
 
 // Where the search for a free block goes on, and how many stores the running checkpoint has still to make.
 fn allocator_of(m: &[u8], frozen: usize) -> Allocator
-    requires { ⌜ Runs (now m) × (frozen ≡ howMany isFrozen (pagesOf (now m))) ⌝ }
+    requires { ⌜ RunningIn (now m) × (frozen ≡ howMany isFrozen (pagesOf (now m))) ⌝ }
     ensures { λ r. ⌜ r ≡ allocatorIn (now (m .entry)) ⌝ }
 {
     let h = memory_layout::get_head(m);
@@ -277,7 +277,7 @@ fn fill_entry(m: &mut [u8], b: u16)
 
 // After the store of the first frozen page, p, as block b.
 fn keep_page(m: &mut [u8], p: usize, b: u32)
-    requires { ⌜ Runs (now m) × ((b < flatOf (now m) .head .blocks) × FirstFrozen (now m) p) ⌝ }
+    requires { ⌜ RunningIn (now m) × ((b < flatOf (now m) .head .blocks) × FirstFrozen (now m) p) ⌝ }
     ensures { λ _. ⌜ HoldsNow (now (m .entry)) (now (m .exit)) (pageKept b (storeOf (flatOf (now (m .entry))))) ⌝ }
 {
     take_block(m, b);
@@ -287,7 +287,7 @@ fn keep_page(m: &mut [u8], p: usize, b: u32)
 
 // After the store of a directory block as block b.
 fn keep_directory(m: &mut [u8], b: u32)
-    requires { ⌜ Runs (now m) × ((b < flatOf (now m) .head .blocks) × (length (flatOf (now m) .directories) < 4)) ⌝ }
+    requires { ⌜ RunningIn (now m) × ((b < flatOf (now m) .head .blocks) × (length (flatOf (now m) .directories) < 4)) ⌝ }
     ensures { λ _. ⌜ HoldsNow (now (m .entry)) (now (m .exit)) (directoryKept b (storeOf (flatOf (now (m .entry))))) ⌝ }
 {
     take_block(m, b);
@@ -324,7 +324,7 @@ fn mark_named(m: &mut [u8])
 
 // After the header's store: the blocks that it no longer names are free.
 fn keep_header(m: &mut [u8])
-    requires { ⌜ Runs (now m) ⌝ }
+    requires { ⌜ RunningIn (now m) ⌝ }
     ensures { λ _. ⌜ HoldsNow (now (m .entry)) (now (m .exit)) (headerKept (storeOf (flatOf (now (m .entry))))) ⌝ }
 {
     memory_layout::clear_used(m);

@@ -8,7 +8,7 @@ use Rattle.blocks.specs.Block.{Block, malformed, header, page, directory}
 use Rattle.blocks.specs.Decode.{decodeBlock}
 use Rattle.reader.proofs.Walk.{Walk, walk-start}
 use Rattle.model.specs.State.{Held}
-use Rattle.model.specs.Rules.{calm}
+use Rattle.model.specs.Rules.{withoutPending}
 use Rattle.memory_layout.specs.Flat.{Flat, flatOf, noEntry, Room, Becomes, withRows, withEntries}
 use Rattle.memory_layout.specs.declared.Entry.{Entry}
 use Rattle.memory_layout.proofs.Laws.{becomes-none, becomes-then}
@@ -119,21 +119,21 @@ pub row-as : {m m' : List ℕ} (h g : Held) → h ≡ g → RowsBecome m m' (beh
 row-as {m} {m'} h g e b = (becomes-as m m' _ _ (λ i. withEntries (withRows (flatOf m) (behind (e i) (flatOf m .rows))) (moreLast (flatOf m .entries))) (b .0), b .1)
 
 -- the first i + 1 tuples
-calm-next : (i : ℕ) (ts : List Tuple) (x : Tuple) → take (i + 1) ts ≡ take i ts ++ x ∷ [] → map calm (take i ts) ++ calm x ∷ [] ≡ map calm (take (i + 1) ts)
-calm-next i ts x e = sym (ap (map calm) e ∙ map-append calm (take i ts) (x ∷ []))
+withoutPending-next : (i : ℕ) (ts : List Tuple) (x : Tuple) → take (i + 1) ts ≡ take i ts ++ x ∷ [] → map withoutPending (take i ts) ++ withoutPending x ∷ [] ≡ map withoutPending (take (i + 1) ts)
+withoutPending-next i ts x e = sym (ap (map withoutPending) e ∙ map-append withoutPending (take i ts) (x ∷ []))
 
-pub calm-all : (i : ℕ) (ts : List Tuple) → length ts ≤ i → map calm (take i ts) ≡ map calm ts
-calm-all i ts h = ap (map calm) (take-all i ts h)
+pub withoutPending-all : (i : ℕ) (ts : List Tuple) → length ts ≤ i → map withoutPending (take i ts) ≡ map withoutPending ts
+withoutPending-all i ts h = ap (map withoutPending) (take-all i ts h)
 
-pub fills-turn : {m m1 m2 : List ℕ} (i : ℕ) (ts : List Tuple) (x : Tuple) → take (i + 1) ts ≡ take i ts ++ x ∷ [] → Fills (map calm (take i ts)) m m1
-    → 1 ≤ length (flatOf m .entries) → RowsBecome m1 m2 (behind (calm x)) moreLast × InOrder m2 → Fills (map calm (take (i + 1) ts)) m m2
-fills-turn {m} {m1} {m2} i ts x e a s b = subst (λ (hs : List Held). Fills hs m m2) (calm-next i ts x e) (fills-more m m1 (map calm (take i ts)) a m2 (calm x) s b)
+pub fills-turn : {m m1 m2 : List ℕ} (i : ℕ) (ts : List Tuple) (x : Tuple) → take (i + 1) ts ≡ take i ts ++ x ∷ [] → Fills (map withoutPending (take i ts)) m m1
+    → 1 ≤ length (flatOf m .entries) → RowsBecome m1 m2 (behind (withoutPending x)) moreLast × InOrder m2 → Fills (map withoutPending (take (i + 1) ts)) m m2
+fills-turn {m} {m1} {m2} i ts x e a s b = subst (λ (hs : List Held). Fills hs m m2) (withoutPending-next i ts x e) (fills-more m m1 (map withoutPending (take i ts)) a m2 (withoutPending x) s b)
 
 -- where the first i of n tuples are rows, there is room for one more
-pub row-room : (m m1 : List ℕ) (n i : ℕ) (ts : List Tuple) → length ts ≡ n → Fills (map calm (take i ts)) m m1
+pub row-room : (m m1 : List ℕ) (n i : ℕ) (ts : List Tuple) → length ts ≡ n → Fills (map withoutPending (take i ts)) m m1
     → length (flatOf m .rows) + n ≤ flatOf m .head .capacity → i < n
     → Room m1 × (InOrder m1 × ((1 ≤ length (flatOf m1 .entries)) × (length (flatOf m1 .rows) < flatOf m1 .head .capacity)))
 row-room m m1 n i ts l a k h =
-    let c : length (map calm (take i ts)) ≡ i = length-map (take i ts) calm ∙ length-take-le i ts (omega arith) in
+    let c : length (map withoutPending (take i ts)) ≡ i = length-map (take i ts) withoutPending ∙ length-take-le i ts (omega arith) in
     let q : flatOf m1 .head .capacity ≡ flatOf m .head .capacity = ap (λ (f : Flat). f .head .capacity) (a .becomes .flat) in
-    (a .becomes .room, (a .order, (fills-page m m1 (map calm (take i ts)) a, omega (arith, fills-count m m1 (map calm (take i ts)) a))))
+    (a .becomes .room, (a .order, (fills-page m m1 (map withoutPending (take i ts)) a, omega (arith, fills-count m m1 (map withoutPending (take i ts)) a))))

@@ -15,7 +15,7 @@ use Rattle.blocks.proofs.Laws.{decode-in-range}
 use Rattle.image.specs.View.{view, blockAt}
 use Rattle.image.specs.Stages.{StoredPage}
 use Rattle.model.specs.State.{Held}
-use Rattle.model.specs.Rules.{calm}
+use Rattle.model.specs.Rules.{withoutPending}
 use Rattle.memory_layout.specs.Flat.{Flat, flatOf, noEntry, Room, withRows, withEntries}
 use Rattle.memory_layout.specs.declared.Entry.{Entry}
 use Rattle.memory_layout.proofs.Laws.{becomes-none, becomes-then}
@@ -76,7 +76,7 @@ unfolding heldsOf TablesRise
 one-fits e t n b f he ht hc h r =
     let ts : List Tuple = tuplesIn b in
     let q : RoomFor (storedPage e t ts ∷ []) f = subst (λ (ps : List StoredPage). RoomFor ps f) (h .stored) r in
-    let k : length (map calm ts ++ []) ≡ n = ap length (append-nil (map calm ts)) ∙ length-map ts calm ∙ h .count in
+    let k : length (map withoutPending ts ++ []) ≡ n = ap length (append-nil (map withoutPending ts)) ∙ length-map ts withoutPending ∙ h .count in
     record {
       may = record {
         table = ht;
@@ -107,15 +107,15 @@ loads-none m ps r o e = rw e (record {
 })
 
 -- the page's entry, then its rows
-pub loads-one : (m m1 m2 : List ℕ) (p : StoredPage) → EntriesBecome m m1 (behind (clean (p .table) (p .block) 0)) → Fills (map calm (p .tuples)) m1 m2 → Loads (p ∷ []) m m2
+pub loads-one : (m m1 m2 : List ℕ) (p : StoredPage) → EntriesBecome m m1 (behind (clean (p .table) (p .block) 0)) → Fills (map withoutPending (p .tuples)) m1 m2 → Loads (p ∷ []) m m2
 unfolding heldsOf entryFor
 loads-one m m1 m2 p a b =
-    let hs : List Held = map calm (p .tuples) in
+    let hs : List Held = map withoutPending (p .tuples) in
     let es : List Entry = flatOf m .entries in
     let d : Entry = clean (p .table) (p .block) 0 in
     let F : Flat → Flat = λ f. withEntries (withRows f (f .rows ++ hs)) (lastMore (length hs) (f .entries)) in
     let c = becomes-then m m1 m2 (withEntries (flatOf m) (es ++ d ∷ [])) F a (b .becomes) in
-    let n : 0 + length hs ≡ length (p .tuples) = zero-add (length hs) ∙ length-map (p .tuples) calm in
+    let n : 0 + length hs ≡ length (p .tuples) = zero-add (length hs) ∙ length-map (p .tuples) withoutPending in
     let e : lastMore (length hs) (es ++ d ∷ []) ≡ es ++ entryFor p ∷ [] =
     last-more es d (length hs) ∙ (λ i. es ++ clean (p .table) (p .block) (n i) ∷ []) in
     record {
@@ -126,7 +126,7 @@ loads-one m m1 m2 p a b =
 pub helds-append : (ps qs : List StoredPage) → heldsOf (ps ++ qs) ≡ heldsOf ps ++ heldsOf qs
 unfolding heldsOf
 helds-append [] qs = refl
-helds-append (p ∷ ps) qs = ap (λ (z : List Held). map calm (p .tuples) ++ z) (helds-append ps qs) ∙ sym (append-assoc (map calm (p .tuples)) (heldsOf ps) (heldsOf qs))
+helds-append (p ∷ ps) qs = ap (λ (z : List Held). map withoutPending (p .tuples) ++ z) (helds-append ps qs) ∙ sym (append-assoc (map withoutPending (p .tuples)) (heldsOf ps) (heldsOf qs))
 
 -- the same pages, said otherwise
 pub loads-as : {m m1 : List ℕ} {ps qs : List StoredPage} → ps ≡ qs → Loads ps m m1 → Loads qs m m1

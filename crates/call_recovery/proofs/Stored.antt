@@ -10,7 +10,7 @@ use Rattle.rows.proofs.Kept.{count-kept, transactions-kept}
 use Rattle.image.specs.Stages.{directoryBlocks, StoredPage, rowsOfPages}
 use Rattle.image.proofs.Collect.{length-rows}
 use Rattle.model.specs.State.{Held, idle}
-use Rattle.model.specs.Rules.{calm}
+use Rattle.model.specs.Rules.{withoutPending}
 use Rattle.model.specs.Recover.{loaded, reopened, recoveredStore}
 use Rattle.memory_layout.specs.Flat.{Flat, withHead, withOpens, withUsed}
 use Rattle.memory_layout.specs.Store.{pageOf, nest, checkpointOf, storeOf, hasRows, freshFlat}
@@ -27,18 +27,18 @@ pub helds-count : (ps : List StoredPage) → length (heldsOf ps) ≡ length (row
 unfolding heldsOf rowsOfPages
 helds-count [] = refl
 helds-count (p ∷ ps) =
-    let a = length-append (map calm (p .tuples)) (heldsOf ps) in
+    let a = length-append (map withoutPending (p .tuples)) (heldsOf ps) in
     let b = length-append (rowsOf (p .table) (p .tuples)) (rowsOfPages ps) in
-    omega (arith, a, b, length-map (p .tuples) calm, length-rows (p .table) (p .tuples), helds-count ps)
+    omega (arith, a, b, length-map (p .tuples) withoutPending, length-rows (p .table) (p .tuples), helds-count ps)
 
 -- as many pages as rows at most
 pub pages-few : (ps : List StoredPage) → AllOf PageOk ps → length ps ≤ length (heldsOf ps)
 unfolding heldsOf
 pages-few [] a = omega arith
 pages-few (p ∷ ps) a =
-    omega (arith, length-append (map calm (p .tuples)) (heldsOf ps), length-map (p .tuples) calm, a .0 .filled, pages-few ps (a .1))
+    omega (arith, length-append (map withoutPending (p .tuples)) (heldsOf ps), length-map (p .tuples) withoutPending, a .0 .filled, pages-few ps (a .1))
 
-page-is : (p : StoredPage) → pageOf (entryFor p) (map calm (p .tuples)) ≡ loaded p
+page-is : (p : StoredPage) → pageOf (entryFor p) (map withoutPending (p .tuples)) ≡ loaded p
 unfolding pageOf entryFor loaded
 page-is p = refl
 
@@ -50,8 +50,8 @@ pages-are : (ps : List StoredPage) → nest (map entryFor ps) (heldsOf ps) ≡ m
 unfolding nest heldsOf
 pages-are [] = refl
 pages-are (p ∷ ps) =
-    let hs : List Held = map calm (p .tuples) in
-    let l : length hs ≡ entryFor p .count = length-map (p .tuples) calm ∙ sym (entry-count p) in
+    let hs : List Held = map withoutPending (p .tuples) in
+    let l : length hs ≡ entryFor p .count = length-map (p .tuples) withoutPending ∙ sym (entry-count p) in
     ap (λ (z : List Held). pageOf (entryFor p) z ∷ nest (map entryFor ps) (drop (entryFor p .count) (hs ++ heldsOf ps))) (take-at hs (heldsOf ps) (entryFor p .count) l)
     ∙ ap (λ (z : List Held). pageOf (entryFor p) hs ∷ nest (map entryFor ps) z) (drop-at hs (heldsOf ps) (entryFor p .count) l)
     ∙ (λ i. page-is p i ∷ pages-are ps i)
@@ -63,10 +63,10 @@ rows-there (p ∷ ps) a = rw (le-leb 1 (entryFor p .count) (omega (arith, entry-
 
 -- ---- open transactions
 
-owners-calm : (ts : List Tuple) → AllFit ts → AllOwners (map calm ts)
-unfolding calm
-owners-calm [] a = tt
-owners-calm (x ∷ ts) a = (a .0 .owner, owners-calm ts (a .1))
+owners-withoutPending : (ts : List Tuple) → AllFit ts → AllOwners (map withoutPending ts)
+unfolding withoutPending
+owners-withoutPending [] a = tt
+owners-withoutPending (x ∷ ts) a = (a .0 .owner, owners-withoutPending ts (a .1))
 
 owners-append : (hs gs : List Held) → AllOwners hs → AllOwners gs → AllOwners (hs ++ gs)
 owners-append [] gs a b = b
@@ -75,14 +75,14 @@ owners-append (h ∷ hs) gs a b = (a .0, owners-append hs gs (a .1) b)
 pub owners-there : (ps : List StoredPage) → AllOf PageOk ps → AllOwners (heldsOf ps)
 unfolding heldsOf
 owners-there [] a = tt
-owners-there (p ∷ ps) a = owners-append (map calm (p .tuples)) (heldsOf ps) (owners-calm (p .tuples) (a .0 .tuples)) (owners-there ps (a .1))
+owners-there (p ∷ ps) a = owners-append (map withoutPending (p .tuples)) (heldsOf ps) (owners-withoutPending (p .tuples) (a .0 .tuples)) (owners-there ps (a .1))
 
 -- a row without its table
 abbrev plain : Row → Row
 plain r = (0, r .1)
 
-rows-plain : (t : ℕ) (ts : List Tuple) → map ownRow (map calm ts) ≡ map plain (rowsOf t ts)
-unfolding rowsOf calm
+rows-plain : (t : ℕ) (ts : List Tuple) → map ownRow (map withoutPending ts) ≡ map plain (rowsOf t ts)
+unfolding rowsOf withoutPending
 rows-plain t [] = refl
 rows-plain t (x ∷ ts) = ap (λ (z : List Row). (0, x) ∷ z) (rows-plain t ts)
 
@@ -90,7 +90,7 @@ helds-plain : (ps : List StoredPage) → map ownRow (heldsOf ps) ≡ map plain (
 unfolding heldsOf rowsOfPages
 helds-plain [] = refl
 helds-plain (p ∷ ps) =
-    map-append ownRow (map calm (p .tuples)) (heldsOf ps)
+    map-append ownRow (map withoutPending (p .tuples)) (heldsOf ps)
     ∙ (λ i. rows-plain (p .table) (p .tuples) i ++ helds-plain ps i)
     ∙ sym (map-append plain (rowsOf (p .table) (p .tuples)) (rowsOfPages ps))
 

@@ -12,7 +12,7 @@ use Rattle.blocks.specs.declared.Record.{Record}
 use Rattle.image.specs.View.{View}
 use Rattle.image.specs.Stages.{StoredPage}
 use Rattle.model.specs.State.{Held}
-use Rattle.model.specs.Rules.{calm}
+use Rattle.model.specs.Rules.{withoutPending}
 use Rattle.memory_layout.specs.Flat.{Flat, flatOf, Becomes, withRows, withEntries}
 use Rattle.memory_layout.specs.declared.Entry.{Entry}
 use Rattle.memory_rows.specs.Cells.{InOrder}
@@ -54,7 +54,7 @@ rowFor r = record { key = r .key; number = r .number; owner = r .owner; mark = r
 -- the tuples of all pages, in order, nothing pending
 unfoldable pub heldsOf : List StoredPage → List Held
 heldsOf [] = []
-heldsOf (p ∷ ps) = map calm (p .tuples) ++ heldsOf ps
+heldsOf (p ∷ ps) = map withoutPending (p .tuples) ++ heldsOf ps
 
 -- recovered pages are clean
 unfoldable pub entryFor : StoredPage → Entry

@@ -23,7 +23,7 @@ ghost use Rattle.rows.specs.Rows.{transactions};
 ghost use Rattle.image.specs.View.{view, blockCount};
 ghost use Rattle.image.specs.Stages.{holds, blockOk};
 ghost use Rattle.image.specs.Whole.{headerStage, pagesStage};
-ghost use Rattle.model.specs.Rules.{calm};
+ghost use Rattle.model.specs.Rules.{withoutPending};
 ghost use Rattle.model.specs.Recover.{recoveredStore, reopened};
 ghost use Rattle.memory_layout.specs.Flat.{flatOf, Room, Becomes, withOpens, withUsed};
 ghost use Rattle.memory_layout.specs.Store.{HoldsNow};
@@ -68,7 +68,7 @@ fn row_of(r: Record) -> Row
 fn load_row(block: &[u8], r: Record, m: &mut [u8])
     requires { ⌜ (r .len ≤ payloadLimit) × ((r .start + r .len ≤ length (now block)) × OwnerFits (ownerIs (r .owner))) ⌝ }
     requires { ⌜ Room (now m) × (InOrder (now m) × ((1 ≤ length (flatOf (now m) .entries)) × (length (flatOf (now m) .rows) < flatOf (now m) .head .capacity))) ⌝ }
-    ensures { λ _. ⌜ RowsBecome (now (m .entry)) (now (m .exit)) (behind (calm (tupleOf r (payloadIn (now (block .entry)) r)))) moreLast × InOrder (now (m .exit)) ⌝ }
+    ensures { λ _. ⌜ RowsBecome (now (m .entry)) (now (m .exit)) (behind (withoutPending (tupleOf r (payloadIn (now (block .entry)) r)))) moreLast × InOrder (now (m .exit)) ⌝ }
 {
     let from = r.start;
     let to = from + r.len;
@@ -80,7 +80,7 @@ fn load_row(block: &[u8], r: Record, m: &mut [u8])
 fn load_rows(block: &[u8], count: u32, m: &mut [u8])
     requires { ⌜ (length (now block) ≡ 512) × ((isPage (decodeBlock (now block)) ≡ true) × (length (tuplesIn (decodeBlock (now block))) ≡ count)) ⌝ }
     requires { ⌜ Room (now m) × (InOrder (now m) × ((1 ≤ length (flatOf (now m) .entries)) × (length (flatOf (now m) .rows) + count ≤ flatOf (now m) .head .capacity))) ⌝ }
-    ensures { λ _. ⌜ Fills (map calm (tuplesIn (decodeBlock (now (block .entry))))) (now (m .entry)) (now (m .exit)) ⌝ }
+    ensures { λ _. ⌜ Fills (map withoutPending (tuplesIn (decodeBlock (now (block .entry))))) (now (m .entry)) (now (m .exit)) ⌝ }
 {
     let mut at: usize = 8;
     let mut i: u32 = 0;

@@ -1,9 +1,9 @@
--- Insert, replace and delete as a write: its tests and what is written.
+-- Insert, replace and delete as a write: its tests and what is withTuple.
 use Rattle.basics.proofs.Kit.{_≡_, refl, sym, ap, _∙_, subst, fun-ext, Bool, true, false, List, [], _∷_, ℕ, length, arith}
 use Rattle.basics.specs.Basics.{if_then_else_}
 use Rattle.model.specs.State.{Store, Outcome}
 use Rattle.model.specs.Sight.{versions}
-use Rattle.model.specs.Transactions.{gives, unless, notOpen, noTable, tooLong, written, insertCall, replaceCall, deleteCall}
+use Rattle.model.specs.Transactions.{gives, unless, notOpen, noTable, tooLong, withTuple, insertCall, replaceCall, deleteCall}
 use Rattle.memory_layout.specs.Flat.{flatOf}
 use Rattle.memory_layout.specs.Store.{holdsStore, storeOf, storeIn, pagesIn, HoldsNow}
 use Rattle.contracts.specs.Shape.{Answers}
@@ -11,7 +11,7 @@ use Rattle.contracts.specs.declared.Answer.{Answer}
 use Rattle.contracts.specs.declared.Answer.the-variants.{Done, Refused}
 use Rattle.contracts.proofs.Answering.{answers-refused, answers-done}
 use Rattle.engine_lookup.specs.Lookup.{Shows}
-use Rattle.engine_lookup.specs.declared.Look.{Look}
+use Rattle.engine_lookup.specs.declared.Visibility.{Visibility}
 use Rattle.call_transactions.specs.Refusals.{verdict, verdictIn, callTests, keyTests}
 use Rattle.call_transactions.specs.Calls.{markCall, writeCall, afterWrite}
 use Rattle.call_transactions.proofs.Verdicts.{unless-stop, unless-pass, passed-held, call-after, answers-stopped}
@@ -35,7 +35,7 @@ wrote new mark tx t k bs s = unless (laterTests new tx t k s) s (gives model.don
 
 is-write : (new mark : Bool) (tx t k : ℕ) (bs : List ℕ) (s : Store)
     → writeCall new mark tx t k bs s ≡ unless (callTests tx t (length bs) s) s (wrote new mark tx t k bs s)
-unfolding insertCall replaceCall markCall callTests laterTests notOpen noTable tooLong written afterWrite unless wrote if_then_else_
+unfolding insertCall replaceCall markCall callTests laterTests notOpen noTable tooLong withTuple afterWrite unless wrote if_then_else_
 is-write true true tx t k bs s = refl
 is-write true false tx t k bs s = refl
 is-write false true tx t k bs s = refl
@@ -51,7 +51,7 @@ module _ (new mark : Bool) (tx t k : ℕ) (bs m : List ℕ) (v : ℕ) (ev : v �
   pub call-refused : (v ≡ 0 → ⊥) → Answers (writeCall new mark tx t k bs) m (Refused v) m
   call-refused nz = answers-stopped m (callTests tx t (length bs)) v ev call (wrote new mark tx t k bs) (is-write new mark tx t k bs) nz
 
-  module _ (z : v ≡ 0) (l : Look) (shown : Shows (flatOf m) t tx (versions t k (pagesIn (flatOf m))) l) (w : ℕ) (ew : w ≡ verdict (keyTests new (flatOf m) l)) where
+  module _ (z : v ≡ 0) (l : Visibility) (shown : Shows (flatOf m) t tx (versions t k (pagesIn (flatOf m))) l) (w : ℕ) (ew : w ≡ verdict (keyTests new (flatOf m) l)) where
     there : holdsStore m ≡ true
     there = passed-held m (callTests tx t (length bs)) v ev z
 

@@ -101,7 +101,7 @@ module _ (m : List ℕ) (tx v : ℕ) (ev : v ≡ verdictIn (storeIn m) (notOpen 
       let s : Store = storeOf (flatOf m) in
       let ps : List Page = g (pagesIn (flatOf m)) in
       let d : Sound m1 (withPages s ps) = in-sound m1 _ (u .store) in
-      let k = opens-hold m1 m2 _ (d .held) b in
+      let k = opens-hold m1 m2 _ (d .has-store) b in
       let e = closed-store (flatOf m1) tx ∙ ap (λ (x : Store). changed x (x .next) (x .pages) (without tx (x .active))) (d .means) ∙ after-with s ps tx in
       let p : g (s .pages) ≡ ps = ap g (pages-is (flatOf m)) in
       answers-done call m m2 _ (passed-held m (notOpen tx) v ev z) (call-after m (notOpen tx) v ev call (closing g tx) is (open-numbered tx) z)

@@ -4,7 +4,7 @@ use Rattle.basics.specs.Basics.{if_then_else_}
 use Rattle.basics.proofs.Facts.{by}
 use Rattle.rows.specs.Rows.{Row}
 use Rattle.model.specs.State.{Held, Store, Outcome}
-use Rattle.model.specs.Rules.{isCommitting, asCommitted, ripe}
+use Rattle.model.specs.Rules.{isCommitting, asCommitted, applied}
 use Rattle.model.specs.Sight.{seen}
 use Rattle.model.specs.Transactions.{_when_, gives, unless, notOpen, noTable, readSeen, readCall}
 use Rattle.memory_layout.specs.Flat.{Flat, rowIn}
@@ -15,13 +15,13 @@ use Rattle.engine_lookup.specs.declared.Seen.the-variants.{At, Nothing}
 use Rattle.call_transactions.proofs.Verdicts.{refused-here, passed-on, unless-none, unless-append}
 use Rattle.model.specs.State as model
 
-ripe-payload : (h : Held) → ripe h .payload ≡ h .tuple .payload
-unfolding ripe asCommitted if_then_else_
-ripe-payload h = by (isCommitting (h .pending)) (λ e. rw e) (λ e. rw e)
+applied-payload : (h : Held) → applied h .payload ≡ h .tuple .payload
+unfolding applied asCommitted if_then_else_
+applied-payload h = by (isCommitting (h .pending)) (λ e. rw e) (λ e. rw e)
 
 version-payload : (f : Flat) (t i : ℕ) → version f t i .1 .payload ≡ rowIn f i .tuple .payload
 unfolding version
-version-payload f t i = ripe-payload (rowIn f i)
+version-payload f t i = applied-payload (rowIn f i)
 
 -- what read does once the transaction is known to be open
 abbrev pub readAfter : ℕ → ℕ → ℕ → ℕ → Store → Outcome

@@ -1,4 +1,4 @@
--- The tests of insert, replace and delete: those that look at no tuple, and those by a look at the key; what is known once none holds.
+-- The tests of insert, replace and delete: those that look at no tuple, and those by what there is of the key; what is known once none holds.
 use Rattle.basics.proofs.Kit.{_≡_, refl, sym, ap, _∙_, ⊎-elim, Bool, true, false, not, Option, List, [], _∷_, _++_, ℕ, _≤_, _<_, leb, eqb, ltb, length, le-leb, lt-ltb, le-ltb, lt-leb}
 use Rattle.basics.proofs.Kit.{eq-eqb, ne-eqb, eqb-false, ltb-false, arith}
 use Rattle.basics.specs.Basics.{if_then_else_, any, isSome, isIn}
@@ -17,10 +17,10 @@ use Rattle.memory_layout.proofs.Laws.{holds-room, filled}
 use Rattle.memory_layout.proofs.Runs.{held-count}
 use Rattle.memory_pages.specs.Spots.{placeIn}
 use Rattle.engine_lookup.specs.Lookup.{Shows, seenAt, picked}
-use Rattle.engine_lookup.specs.declared.Look.{Look}
+use Rattle.engine_lookup.specs.declared.Visibility.{Visibility}
 use Rattle.engine_lookup.specs.declared.Seen.{Seen}
 use Rattle.engine_lookup.specs.declared.Seen.the-variants.{At, Nothing}
-use Rattle.engine_lookup.proofs.Picking.{look-sees}
+use Rattle.engine_lookup.proofs.Picking.{visibility-sees}
 use Rattle.call_transactions.specs.Refusals.{verdict, verdictIn, callTests, unknown, keyTest, keyTests}
 use Rattle.call_transactions.specs.Calls.{AcceptAt}
 use Rattle.call_transactions.proofs.Opens.{not-found-open}
@@ -104,7 +104,7 @@ module _ (m : List ℕ) (there : holdsStore m ≡ true) where
 
 -- ---- 12, 13, 14
 
-module _ (f : Flat) (l : Look) where
+module _ (f : Flat) (l : Visibility) where
   pub key-12 : (new : Bool) → l .foreign ≡ true → 12 ≡ verdict (keyTests new f l)
   unfolding keyTests
   key-12 new e = sym (stop-here 12 _ _ e)
@@ -148,7 +148,7 @@ unfolding unknown seenAt isSome
 unknown-is f t (At i) = refl
 unknown-is f t Nothing = refl
 
-module _ (f : Flat) (t tx k : ℕ) (l : Look) (shown : Shows f t tx (versions t k (pagesIn f)) l) where
+module _ (f : Flat) (t tx k : ℕ) (l : Visibility) (shown : Shows f t tx (versions t k (pagesIn f)) l) where
   foreign-is : 12 when l .foreign ≡ foreign tx t k (storeOf f)
   unfolding foreign storeOf
   foreign-is = ap (λ (b : Bool). 12 when b) (shown .others)
@@ -157,7 +157,7 @@ module _ (f : Flat) (t tx k : ℕ) (l : Look) (shown : Shows f t tx (versions t 
   unfolding keyTest present unseen storeOf if_then_else_
   key-test-is true = ap (λ (b : Bool). 13 when b) (shown .there)
   key-test-is false =
-      ap (λ (b : Bool). 14 when b) (unknown-is f t (picked f l) ∙ ap (λ (o : Option Row). not (isSome o)) (look-sees f t tx k l (picked f l) shown refl .means))
+      ap (λ (b : Bool). 14 when b) (unknown-is f t (picked f l) ∙ ap (λ (o : Option Row). not (isSome o)) (visibility-sees f t tx k l (picked f l) shown refl .means))
 
   pub key-tests-are : (new : Bool) → keyTests new f l ≡ laterTests new tx t k (storeOf f)
   unfolding keyTests laterTests
@@ -177,7 +177,7 @@ call-numbered tx t n s = (omega arith, (omega arith, (omega arith, (omega arith,
 pass-one : (n : ℕ) (b : Bool) (ts : List Test) → 0 < n → verdict (n when b ∷ ts) ≡ 0 → (b ≡ false) × (verdict ts ≡ 0)
 pass-one n b ts p e = by b (λ h. absurd (omega (arith, p, e, stop-here n b ts h))) (λ h. (h, sym (go-on n b ts h) ∙ e))
 
-pass-key : (new : Bool) (f : Flat) (l : Look) → verdict (keyTests new f l) ≡ 0 → verdict (full (storeOf f)) ≡ 0
+pass-key : (new : Bool) (f : Flat) (l : Visibility) → verdict (keyTests new f l) ≡ 0 → verdict (full (storeOf f)) ≡ 0
 unfolding keyTests keyTest
 pass-key true f l e = pass-one 13 _ _ (omega arith) (pass-one 12 _ _ (omega arith) e .1) .1
 pass-key false f l e = pass-one 14 _ _ (omega arith) (pass-one 12 _ _ (omega arith) e .1) .1
@@ -212,7 +212,7 @@ called {tx} {t} {n} {m} {v} ev z =
     }
 
 -- and the others
-pub accepts : {m : List ℕ} {tx t at k : ℕ} {bs : List ℕ} (new : Bool) (l : Look) → Called m tx t (length bs) → verdict (keyTests new (flatOf m) l) ≡ 0
+pub accepts : {m : List ℕ} {tx t at k : ℕ} {bs : List ℕ} (new : Bool) (l : Visibility) → Called m tx t (length bs) → verdict (keyTests new (flatOf m) l) ≡ 0
     → at ≡ placeIn (flatOf m) t k → AcceptAt m tx t at k bs
 unfolding full
 accepts {m} new l c e p =
@@ -221,7 +221,7 @@ accepts {m} new l c e p =
     let p15 = pass-one 15 (leb (s .capacity) (length (held (s .pages)))) _ (omega arith) (pass-key new (flatOf m) l e) in
     let p16 = pass-one 16 (eqb (s .next) 4294967295) [] (omega arith) (p15 .1) in
     record {
-      held = there;
+      has-store = there;
       opened = c .opened;
       transaction = c .transaction;
       table = c .table;

@@ -74,7 +74,7 @@ writer-at {m} {tx} {i = i} g e =
     let inside : i < length (flatOf m .opens) = omega (arith, g .opened, e) in
     let is : openIn (flatOf m) i .transaction ≡ tx = ap (λ (z : ℕ). openIn (flatOf m) z .transaction) e ∙ found-is tx (flatOf m .opens) (g .opened) in
     record {
-      room = holds-room m (g .held);
+      room = holds-room m (g .has-store);
       inside = inside;
       transaction = omega (arith, is, g .transaction);
       written = written-small m i inside;
@@ -120,7 +120,7 @@ module _ {m : List ℕ} {tx t at k : ℕ} {bs : List ℕ} {mark : Bool} {i : ℕ
         let e : flatOf m1 ≡ afterCount f i = b .flat in
         record {
           tuple = record {
-            held = held-again m1 (b .room) (ap (λ (z : Flat). all hasRows (z .entries)) e ∙ holds-counted m (g .held));
+            has-store = held-again m1 (b .room) (ap (λ (z : Flat). all hasRows (z .entries)) e ∙ holds-counted m (g .has-store));
             more = omega (arith, g .free, ap (λ (z : Flat). length (z .rows)) e, ap (λ (z : Flat). z .head .capacity) e);
             plain = new .pending;
             owner = new .fits;

@@ -10,7 +10,7 @@ use Rattle.blocks.specs.Tuple.{tentative}
 use Rattle.model.specs.State.{Active, Store, Outcome}
 use Rattle.model.specs.Rules.{place}
 use Rattle.model.specs.Sight.{held}
-use Rattle.model.specs.Transactions.{unless, changed, notOpen, noTable, tooLong, foreign, present, unseen, full, newTuple, withWrite, written, insertCall, replaceCall}
+use Rattle.model.specs.Transactions.{unless, changed, notOpen, noTable, tooLong, foreign, present, unseen, full, newTuple, withWrite, withTuple, insertCall, replaceCall}
 use Rattle.memory_layout.specs.Flat.{Flat, flatOf, Room, withHead, withOpens, noOpen}
 use Rattle.memory_layout.specs.Store.{holdsStore}
 use Rattle.memory_layout.specs.Opens.{findOpen}
@@ -27,7 +27,7 @@ use Rattle.memory_pages.specs.Spots.{placeIn}
 unfoldable pub markCall : Bool → ℕ → ℕ → ℕ → List ℕ → Store → Outcome
 markCall new tx t k bs s =
     unless (notOpen tx s ++ (noTable t ∷ tooLong bs ∷ foreign tx t k s ∷ (if new then present t k s else unseen tx t k s) ∷ full s)) s
-    (written tx t k bs true s)
+    (withTuple tx t k bs true s)
 
 -- insert, replace and delete, by whether the key is new and by the mark
 abbrev pub writeCall : Bool → Bool → ℕ → ℕ → ℕ → List ℕ → Store → Outcome
@@ -39,9 +39,9 @@ writeCall new true = markCall new
 unfoldable pub afterWrite : ℕ → ℕ → ℕ → List ℕ → Bool → Store → Store
 afterWrite tx t k bs mark s = changed s (suc (s .next)) (place t (newTuple tx k bs mark s) (s .pages)) (withWrite tx (s .active))
 
--- one tuple more was written
+-- one tuple more was withTuple
 unfoldable pub oneMore : Active → Active
-oneMore o = record { transaction = o .transaction; written = min (suc (o .written)) 1048575 }
+oneMore o = record { transaction = o .transaction; withTuple = min (suc (o .written)) 1048575 }
 
 -- open transaction i
 abbrev pub openIn : Flat → ℕ → Active
@@ -52,7 +52,7 @@ pub record WriterAt (m : List ℕ) (i : ℕ) : Type 0 where
   pub room : Room m
   pub inside : i < length (flatOf m .opens)
   pub transaction : openIn (flatOf m) i .transaction < 4096
-  pub written : openIn (flatOf m) i .written < 1048576
+  pub withTuple : openIn (flatOf m) i .written < 1048576
   pub next : flatOf m .head .next ≡ 4294967295 → ⊥
 
 -- the row that open transaction i writes next
@@ -68,13 +68,13 @@ pub record NextRow (f : Flat) (i k : ℕ) (mark : Bool) (r : Row) : Type 0 where
 abbrev pub nextHead : Head → Head
 nextHead h = record { capacity = h .capacity; blocks = h .blocks; level = h .level; next = h .next + 1; running = h .running; begun = h .begun; taken = h .taken }
 
--- open transaction i has written one tuple more
+-- open transaction i has withTuple one tuple more
 abbrev pub afterCount : Flat → ℕ → Flat
 afterCount f i = withOpens (withHead f (nextHead (f .head))) (set (f .opens) i (oneMore (openIn f i)))
 
--- what was shown of the memory before a tuple is written, as row `at`
+-- what was shown of the memory before a tuple is withTuple, as row `at`
 pub record AcceptAt (m : List ℕ) (tx t at k : ℕ) (bs : List ℕ) : Type 0 where
-  pub held : holdsStore m ≡ true
+  pub has-store : holdsStore m ≡ true
   pub opened : findOpen tx (flatOf m .opens) < length (flatOf m .opens)
   pub transaction : tx ≤ 4095
   pub table : t < 8

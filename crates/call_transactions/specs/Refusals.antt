@@ -12,7 +12,7 @@ use Rattle.model.specs.Transactions.{Test, _when_, notOpen, noTable, full}
 use Rattle.memory_layout.specs.Flat.{Flat}
 use Rattle.memory_layout.specs.Store.{storeOf}
 use Rattle.engine_lookup.specs.Lookup.{picked}
-use Rattle.engine_lookup.specs.declared.Look.{Look}
+use Rattle.engine_lookup.specs.declared.Visibility.{Visibility}
 use Rattle.engine_lookup.specs.declared.Seen.{Seen}
 use Rattle.engine_lookup.specs.declared.Seen.the-variants.{At, Nothing}
 
@@ -35,13 +35,13 @@ unfoldable pub unknown : Seen → Bool
 unknown (At i) = false
 unknown Nothing = true
 
--- 13 for a key that is to be new, 14 for another, by the look l at it
-unfoldable pub keyTest : Bool → Flat → Look → Test
+-- 13 for a key that is to be new, 14 for another, by what there is of it
+unfoldable pub keyTest : Bool → Flat → Visibility → Test
 keyTest true f l = 13 when l .any
 keyTest false f l = 14 when unknown (picked f l)
 
--- the other tests of a write, by the look l at its key
-unfoldable pub keyTests : Bool → Flat → Look → List Test
+-- the other tests of a write, by what there is of its key
+unfoldable pub keyTests : Bool → Flat → Visibility → List Test
 keyTests new f l = 12 when l .foreign ∷ keyTest new f l ∷ full (storeOf f)
 
 -- the number of a refused make, 0 if it is accepted

@@ -4,7 +4,7 @@ use blocks::Header;
 use blocks::Owner;
 use blocks::PageLayout;
 use contracts::Answer;
-use engine_lookup::Look;
+use engine_lookup::Visibility;
 use engine_lookup::Seen;
 use memory_layout::Open;
 use memory_rows::Pending;
@@ -243,21 +243,21 @@ fn full_refusal(m: &[u8]) -> u64
     0
 }
 
-// By the look at the key: 12 foreign; 13 there already, if it is to be new, else 14 not seen; 15, 16; 0 if none holds.
-fn key_refusal(m: &[u8], new: bool, look: Look) -> u64
-    requires { ⌜ (holdsStore (now m) ≡ true) × (look .own ≤ length (flatOf (now m) .rows)) ⌝ }
-    ensures { λ r. ⌜ r ≡ verdict (keyTests new (flatOf (now (m .entry))) look) ⌝ }
+// By what there is of the key: 12 foreign; 13 there already, if it is to be new, else 14 not seen; 15, 16; 0 if none holds.
+fn key_refusal(m: &[u8], new: bool, visibility: Visibility) -> u64
+    requires { ⌜ (holdsStore (now m) ≡ true) × (visibility .own ≤ length (flatOf (now m) .rows)) ⌝ }
+    ensures { λ r. ⌜ r ≡ verdict (keyTests new (flatOf (now (m .entry))) visibility) ⌝ }
 {
-    if look.foreign {
+    if visibility.foreign {
         return 12;
     }
     if new {
-        if look.any {
+        if visibility.any {
             return 13;
         }
         return full_refusal(m);
     }
-    let Seen::At(_) = engine_lookup::pick(m, look) else {
+    let Seen::At(_) = engine_lookup::pick(m, visibility) else {
         return 14;
     };
     full_refusal(m)
@@ -329,7 +329,7 @@ fn accept(
     engine_pages::place(m, table, at, row, payload);
 }
 
-// One tentative tuple more, unless a test holds. One look at the key serves the tests and gives the tuple's place.
+// One tentative tuple more, unless a test holds. One search for the key serves the tests and gives the tuple's place.
 fn write(
     m: &mut [u8],
     new: bool,
@@ -346,8 +346,8 @@ fn write(
         return Answer::Refused(v);
     }
     let t = table as u8;
-    let s = engine_lookup::look_place(m, t, transaction, key);
-    let w = key_refusal(m, new, s.look);
+    let s = engine_lookup::find_place(m, t, transaction, key);
+    let w = key_refusal(m, new, s.visibility);
     if w != 0 {
         return Answer::Refused(w);
     }

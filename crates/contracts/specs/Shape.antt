@@ -33,16 +33,16 @@ bytesOf (model.filled n bs) = bs
 -- ---- calls that change the memory
 
 -- refused: as found; accepted: as long, and it holds the store s
-abbrev pub Leaves : model.Answer → Store → List ℕ → List ℕ → Type 0
-Leaves (model.refused n) s m m' = m' ≡ m
-Leaves model.done s m m' = HoldsNow m m' s
-Leaves (model.count n) s m m' = HoldsNow m m' s
-Leaves (model.filled n bs) s m m' = HoldsNow m m' s
+abbrev pub MemoryAfter : model.Answer → Store → List ℕ → List ℕ → Type 0
+MemoryAfter (model.refused n) s m m' = m' ≡ m
+MemoryAfter model.done s m m' = HoldsNow m m' s
+MemoryAfter (model.count n) s m m' = HoldsNow m m' s
+MemoryAfter (model.filled n bs) s m m' = HoldsNow m m' s
 
 -- the answer is the outcome's, and so is what the memory holds
 pub record Afterwards (o : Outcome) (m : List ℕ) (r : Answer) (m' : List ℕ) : Type 0 where
   pub answer : meaning r (bytesOf (o .answer)) ≡ o .answer
-  pub memory : Leaves (o .answer) (o .store) m m'
+  pub memory : MemoryAfter (o .answer) (o .store) m m'
 
 -- without a store: 4
 unfoldable pub AnswersAt : Option Store → (Store → Outcome) → List ℕ → Answer → List ℕ → Type 0
@@ -98,7 +98,7 @@ Lists m r p p' = ListsAt (storeIn m) r p p'
 -- the answer, the memory and the image are the outcome's
 pub record StoredBy (o : Outcome) (img m : List ℕ) (r : Answer) (img' m' : List ℕ) : Type 0 where
   pub answer : meaning r (bytesOf (o .answer)) ≡ o .answer
-  pub memory : Leaves (o .answer) (o .store) m m'
+  pub memory : MemoryAfter (o .answer) (o .store) m m'
   pub image : img' ≡ imageAfter (o .writes) img
 
 -- without a store: 4, and image and memory stay

@@ -11,7 +11,7 @@ use Rattle.engine_pages.specs.Pages.{withPages, PagesNow, pagesOf}
 use Rattle.engine_pages.proofs.Places.{now-held, now-pages, now-then, now-to, now-stay}
 use Rattle.engine_close.specs.Close.{taggedOf, isLive, rowFrom, isOwnRow, entryPlace, removedLive, closedRun, abortedFrom, Behind, RowRemoved, LiveRemoved, Within, RunClosed, NextDone}
 use Rattle.model.proofs.Others.{others-stay, only-count, only-front, only-behind}
-use Rattle.model.proofs.Rows.{ripe-is}
+use Rattle.model.proofs.Rows.{applied-is}
 use Rattle.model.proofs.Carry.{carry-append}
 use Rattle.engine_close.proofs.Removals.{carry-commit, removed-behind, removed-least, removed-most, behind-fewer, behind-place, behind-left, behind-more}
 use Rattle.engine_close.proofs.Removals.{behind-then, behind-at, picks, removing, none-left, pass-row, hit-row, removing-then, live-removing, abort-one}
@@ -33,8 +33,8 @@ module _ {m m' : List ℕ} {ps : List Page} (u : PagesNow m m' ps) where
 
 module _ {m m' : List ℕ} {i : ℕ} (h : i < length (taggedOf m)) (u : PagesNow m m' (removeRow i (pagesOf m))) where
   -- at most one row is gone
-  pub one-gone : (length (taggedOf m) ≤ suc (length (taggedOf m'))) × (length (taggedOf m') ≤ length (taggedOf m))
-  one-gone = rw (now-rows u) (removed-least i (pagesOf m) h, removed-most i (pagesOf m) h)
+  pub one-removed : (length (taggedOf m) ≤ suc (length (taggedOf m'))) × (length (taggedOf m') ≤ length (taggedOf m))
+  one-removed = rw (now-rows u) (removed-least i (pagesOf m) h, removed-most i (pagesOf m) h)
 
 module _ {m m' : List ℕ} {i r : ℕ} (h : i < length (taggedOf m)) (u : RowRemoved m m' i r) where
   row-next : r + length (taggedOf m) ≡ suc i + length (tagged (removeRow i (pagesOf m)))
@@ -44,16 +44,16 @@ module _ {m m' : List ℕ} {i r : ℕ} (h : i < length (taggedOf m)) (u : RowRem
   row-behind = subst (λ z. Behind (taggedOf m) z (suc i) r) (sym (now-rows (u .pages))) (removed-behind i r (pagesOf m) h row-next)
 
   -- it was live
-  pub live-gone : isLive (rowFrom (taggedOf m) i .1) ≡ true → LiveRemoved m m' i 1 r
-  live-gone l =
+  pub live-removed : isLive (rowFrom (taggedOf m) i .1) ≡ true → LiveRemoved m m' i 1 r
+  live-removed l =
       record {
         pages = λ n b. now-to (u .pages) (sym (live-removing n i 1 (pagesOf m) ∙ hit-row isLive n i 0 (pagesOf m) h r b row-next l ∙ none-left isLive n r (removeRow i (pagesOf m))));
         behind = behind-at (sym (add-one i)) row-behind;
       }
 
   -- it was own
-  pub own-gone : (tx : ℕ) → isOwnRow tx (taggedOf m) i ≡ true → NextDone (abortedFrom tx) m m' i r
-  own-gone tx o =
+  pub own-removed : (tx : ℕ) → isOwnRow tx (taggedOf m) i ≡ true → NextDone (abortedFrom tx) m m' i r
+  own-removed tx o =
       let b = row-behind in
       record {
         pages = now-self (u .pages);
@@ -144,7 +144,7 @@ same-before xs ys a k l e = sym (part ys) ∙ ap (drop a) e ∙ part xs
 
 newest-marked : (n a e k : ℕ) (ps : List Page) → rowFrom (tagged ps) k .1 .tuple .mark ≡ true → closedRun n a e k ps ≡ removedLive n a (e - a) ps
 unfolding closedRun planNewest removedLive if_then_else_
-newest-marked n a e k ps h = rw (ap (λ (x : Tuple). x .mark) (ripe-is (rowFrom (tagged ps) k .1)), h)
+newest-marked n a e k ps h = rw (ap (λ (x : Tuple). x .mark) (applied-is (rowFrom (tagged ps) k .1)), h)
 
 newest-kept : (n a e k : ℕ) (ps : List Page) → a ≤ k → k < e → e ≤ length (tagged ps) → rowFrom (tagged ps) k .1 .tuple .mark ≡ false
     → closedRun n a e k ps
@@ -158,7 +158,7 @@ newest-kept n a e k ps l u m h =
     let d = length-drop a xs in
     let t = length-take (k - a) (drop a xs) in
     let z : entryPlace n xs k ≡ entryPlace n xs a + length ws = omega arith in
-    rw (ap (λ (x : Tuple). x .mark) (ripe-is (rowFrom (tagged ps) k .1)), h, split-run (tagged ps) a e k l u m)
+    rw (ap (λ (x : Tuple). x .mark) (applied-is (rowFrom (tagged ps) k .1)), h, split-run (tagged ps) a e k l u m)
     (ap (λ os. carryOut n (commitPlace (entryPlace n xs k) ∷ os) ps) (other-picks (entryPlace n xs a) (entryPlace n xs k) ws (rowFrom xs k) (take (e - suc k) (drop (suc k) xs)) z))
 
 -- a delete mark

@@ -166,7 +166,7 @@ next-start f p h =
 pub row-on : {m : List ℕ} {i r : ℕ} → holdsStore m ≡ true → PageOf (flatOf m) 0 (length (flatOf m .entries)) i r → RowOn m r i
 row-on {m} {i} {r} h o =
     record {
-      there = record { held = h; inside = o .high };
+      there = record { has-store = h; inside = o .high };
       least = o .first;
       most = omega (arith, next-start (flatOf m) r (o .high), subst (λ z. i < startOf (flatOf m) z) (add-one r) (o .last));
     }

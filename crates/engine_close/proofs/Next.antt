@@ -5,7 +5,7 @@ use Rattle.basics.specs.Basics.{last}
 use Rattle.basics.proofs.Facts.{AllOf}
 use Rattle.model.specs.State.{Held, Page}
 use Rattle.model.specs.Sight.{held}
-use Rattle.model.specs.Rules.{ripe}
+use Rattle.model.specs.Rules.{applied}
 use Rattle.model.specs.Places.{tagged, placed, carryOut, runs, liveOf, planNewest, planRun, planRuns, allPlaced, allRuns, closePlan, abortPlan, ownPlaced, Placed}
 use Rattle.memory_bytes.proofs.Columns.{lt-or-ge}
 use Rattle.memory_layout.specs.Flat.{noRow}
@@ -119,7 +119,7 @@ module _ (tx : ℕ) where
         run-is : (n : ℕ) (xs : List (ℕ × Held)) (a e k : ℕ) → a ≤ k → k < e → e ≤ length xs → isLiveOwn tx (rowFrom xs k .1) ≡ true
             → ((j : ℕ) → k < j → j < e → isLiveOwn tx (rowFrom xs j .1) ≡ false)
             → planRun tx (placed (entryPlace n xs a) (take (e - a) (drop a xs)))
-            ≡ planNewest (some (entryPlace n xs k, (rowFrom xs k .0, ripe (rowFrom xs k .1)))) (liveOf (placed (entryPlace n xs a) (take (e - a) (drop a xs))))
+            ≡ planNewest (some (entryPlace n xs k, (rowFrom xs k .0, applied (rowFrom xs k .1)))) (liveOf (placed (entryPlace n xs a) (take (e - a) (drop a xs))))
         run-is n xs a e k l u m w v =
             let ws = take (k - a) (drop a xs) in
             let t = length-take (k - a) (drop a xs) in
@@ -208,20 +208,20 @@ module _ {m m' : List ℕ} {tx i own a e k r : ℕ} (o : NextOwn (taggedOf m) tx
 -- rows before row i are done
 pub record Doing (left : ℕ → ℕ → List Page → List Page) (m₀ m : List ℕ) (i : ℕ) : Type 0 where
   pub now : PagesNow m₀ m (pagesOf m)
-  pub held : holdsStore m ≡ true
+  pub has-store : holdsStore m ≡ true
   pub most : i ≤ length (taggedOf m)
   pub fewer : length (taggedOf m) ≤ length (taggedOf m₀)
   pub same : left (length (taggedOf m₀)) 0 (pagesOf m₀) ≡ left (length (taggedOf m₀)) i (pagesOf m)
 
 module _ {left : ℕ → ℕ → List Page → List Page} where
   pub doing-starts : {m : List ℕ} → holdsStore m ≡ true → Doing left m m 0
-  doing-starts {m} s = record { now = now-stay m s; held = s; most = omega arith; fewer = omega arith; same = refl }
+  doing-starts {m} s = record { now = now-stay m s; has-store = s; most = omega arith; fewer = omega arith; same = refl }
 
   pub doing-next : {m₀ m m' : List ℕ} {i r : ℕ} → Doing left m₀ m i → NextDone left m m' i r → Doing left m₀ m' r
   doing-next {m₀} d u =
       record {
         now = now-self (now-then (d .now) (u .pages));
-        held = now-held (u .pages);
+        has-store = now-held (u .pages);
         most = u .most;
         fewer = omega (arith, d .fewer, u .fewer);
         same = d .same ∙ u .same (length (taggedOf m₀)) (d .fewer);

@@ -5,7 +5,7 @@ use Rattle.basics.proofs.Facts.{by}
 use Rattle.blocks.specs.Tuple.{Owner, committed, tentative, isTentative}
 use Rattle.rows.specs.Rows.{isBy}
 use Rattle.model.specs.State.{Held}
-use Rattle.model.specs.Rules.{isRemoving, isCommitting, ripe, asCommitted}
+use Rattle.model.specs.Rules.{isRemoving, isCommitting, applied, asCommitted}
 use Rattle.model.proofs.Lists.{off-any, and-no, all-at}
 use Rattle.memory_bytes.proofs.Columns.{lt-or-ge}
 use Rattle.memory_layout.specs.Flat.{flatOf, noRow, rowIn, Room}
@@ -28,7 +28,7 @@ by-none tx committed e = refl
 by-none tx (tentative u s) e = absurd (let z : _≡_ {A = ℕ} 0 1 = cc in omega arith)
 
 own-not : (tx : ℕ) (h : Held) → isOwned h ≡ false → isLiveOwn tx h ≡ false
-unfolding isOwned isLiveOwn ripe asCommitted if_then_else_
+unfolding isOwned isLiveOwn applied asCommitted if_then_else_
 own-not tx h e =
     by (isCommitting (h .pending)) (λ k. rw k ((unfold isBy in and-no (not (isRemoving (h .pending))))))
     (λ k. rw (k, by-none tx (h .tuple .owner) e) (and-no (not (isRemoving (h .pending)))))

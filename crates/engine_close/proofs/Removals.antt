@@ -5,7 +5,7 @@ use Rattle.basics.specs.Basics.{if_then_else_, keep}
 use Rattle.basics.proofs.Facts.{by}
 use Rattle.rows.specs.Rows.{isBy, isOwn}
 use Rattle.model.specs.State.{Held, Page}
-use Rattle.model.specs.Rules.{isRemoving, ripe}
+use Rattle.model.specs.Rules.{isRemoving, applied}
 use Rattle.model.specs.Sight.{held}
 use Rattle.model.specs.Places.{PlaceOp, commitPlace, removePlace, carryOut, removeRow, commitRow, tagged, placed, liveOf, ownPlaced, removePlaces, allPlaced, abortPlan}
 use Rattle.memory_rows.specs.Rows.{isLiveOwn}
@@ -180,7 +180,7 @@ unfolding removePlaces liveOf placed keep ownPlaced isOwn picks isLiveOwn if_the
 own-picks tx i [] = refl
 own-picks tx i (x ∷ xs) =
     by (isRemoving (x .1 .pending)) (λ h. rw h (own-picks tx (suc i) xs))
-    (λ h. by (isBy tx (ripe (x .1) .owner)) (λ b. rw (h, b) (ap (λ z. removePlace i ∷ z) (own-picks tx (suc i) xs))) (λ b. rw (h, b) (own-picks tx (suc i) xs)))
+    (λ h. by (isBy tx (applied (x .1) .owner)) (λ b. rw (h, b) (ap (λ z. removePlace i ∷ z) (own-picks tx (suc i) xs))) (λ b. rw (h, b) (own-picks tx (suc i) xs)))
 
 pub live-removing : (n i k : ℕ) (ps : List Page) → removedLive n i k ps ≡ removing isLive n i k ps
 unfolding removedLive removing

@@ -5,7 +5,7 @@ use Rattle.basics.specs.Basics.{if_then_else_, keep, last}
 use Rattle.basics.proofs.Facts.{by, lie, AllOf}
 use Rattle.rows.specs.Rows.{isBy, isOwn}
 use Rattle.model.specs.State.{Held}
-use Rattle.model.specs.Rules.{isRemoving, ripe}
+use Rattle.model.specs.Rules.{isRemoving, applied}
 use Rattle.model.specs.Places.{removePlace, Placed, placed, continues, runs, liveOf, ownPlaced, removePlaces, planNewest, planRun, planRuns}
 use Rattle.model.proofs.Lists.{all-append}
 use Rattle.model.proofs.Fate.{with-self, with-as, with-sym}
@@ -48,7 +48,7 @@ module _ (tx : ℕ) where
   none-last [] a = refl
   none-last (x ∷ xs) a =
       by (isRemoving (x .1 .1 .pending)) (λ h. rw h (none-last xs (a .1)))
-      (λ h. let b : isBy tx (ripe (x .1 .1) .owner) ≡ false = rw h at (a .0) in rw (h, none-last xs (a .1), b))
+      (λ h. let b : isBy tx (applied (x .1 .1) .owner) ≡ false = rw h at (a .0) in rw (h, none-last xs (a .1), b))
 
   run-none : (run : List Placed) → NoneIn run → planRun tx run ≡ []
   unfolding planRun planNewest
@@ -141,13 +141,13 @@ module _ (tx : ℕ) where
 
   -- the newest own row
   pub newest-is : (i k : ℕ) (ws : List Tagged) (x : Tagged) (ys : List Tagged) → isLiveOwn tx (x .1) ≡ true → NoOwn ys → k ≡ i + length ws
-      → last (ownPlaced tx) (liveOf (placed i (ws ++ x ∷ ys))) ≡ some (k, (x .0, ripe (x .1)))
+      → last (ownPlaced tx) (liveOf (placed i (ws ++ x ∷ ys))) ≡ some (k, (x .0, applied (x .1)))
   unfolding placed last liveOf ownPlaced isOwn isLiveOwn if_then_else_
   newest-is i k [] x ys o n e =
       by (isRemoving (x .1 .pending)) (λ h. lie (rw h at o))
-      (λ h. let b : isBy tx (ripe (x .1) .owner) ≡ true = rw h at o in
+      (λ h. let b : isBy tx (applied (x .1) .owner) ≡ true = rw h at o in
       let z : i ≡ k = omega arith in
-      rw (h, none-last (placed (suc i) ys) (none-placed (suc i) ys n), b) (ap (λ j. some (j, (x .0, ripe (x .1)))) z))
+      rw (h, none-last (placed (suc i) ys) (none-placed (suc i) ys n), b) (ap (λ j. some (j, (x .0, applied (x .1)))) z))
     where
       none-placed : (i : ℕ) (ys : List Tagged) → NoOwn ys → NoneIn (placed i ys)
       none-placed i [] n = tt

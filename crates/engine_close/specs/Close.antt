@@ -9,7 +9,7 @@ use lib.ListN.{length, take, drop, getD}
 use Rattle.basics.specs.Basics.{keep}
 use Rattle.rows.specs.Rows.{isAt}
 use Rattle.model.specs.State.{Held, Page}
-use Rattle.model.specs.Rules.{isRemoving, ripe}
+use Rattle.model.specs.Rules.{isRemoving, applied}
 use Rattle.model.specs.Places.{tagged, placed, runs, liveOf, ownPlaced, removePlaces, planNewest, planRuns, carryOut, removeRow}
 use Rattle.memory_layout.specs.Flat.{noRow}
 use Rattle.memory_layout.specs.Store.{holdsStore}
@@ -86,7 +86,7 @@ removedLive n i k ps = carryOut n (removePlaces (liveOf (placed (entryPlace n (t
 unfoldable pub closedRun : ℕ → ℕ → ℕ → ℕ → List Page → List Page
 closedRun n a e k ps =
     let xs = tagged ps in
-    carryOut n (planNewest (some (entryPlace n xs k, (rowFrom xs k .0, ripe (rowFrom xs k .1)))) (liveOf (placed (entryPlace n xs a) (take (e - a) (drop a xs))))) ps
+    carryOut n (planNewest (some (entryPlace n xs k, (rowFrom xs k .0, applied (rowFrom xs k .1)))) (liveOf (placed (entryPlace n xs a) (take (e - a) (drop a xs))))) ps
 
 -- commit: the runs of the rows from row i on are closed
 unfoldable pub closedFrom : ℕ → ℕ → ℕ → List Page → List Page
@@ -116,7 +116,7 @@ pub record LiveRemoved (m m' : List ℕ) (i k r : ℕ) : Type 0 where
 
 -- k is a row of those from row a up to row e
 pub record Within (m : List ℕ) (a e k : ℕ) : Type 0 where
-  pub held : holdsStore m ≡ true
+  pub has-store : holdsStore m ≡ true
   pub low : a ≤ k
   pub high : k < e
   pub most : e ≤ length (taggedOf m)

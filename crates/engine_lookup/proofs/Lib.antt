@@ -1,5 +1,5 @@
 pub mod Notes
-pub mod Turns
+pub mod Iterations
 pub mod Searches
 pub mod Versions
 pub mod Tables

@@ -1,4 +1,4 @@
--- A look at one row, by what the code finds there.
+-- One row noted, by what the code finds there.
 use Rattle.basics.proofs.Kit.{_≡_, refl, sym, ap, _∙_, ⊎-elim, Bool, true, false, List, [], _∷_, ℕ, _+_, _<_, add-one, length, eq-eqb, ne-eqb, arith}
 use types.Run.{OneOf}
 use denote.Enum.Declared.{tagOf}
@@ -6,7 +6,7 @@ use Rattle.basics.specs.Basics.{if_then_else_}
 use Rattle.blocks.specs.Tuple.{Owner, Tuple, committed}
 use Rattle.model.specs.State as model
 use Rattle.model.specs.State.{Held}
-use Rattle.model.specs.Rules.{isRemoving, isCommitting, ripe, asCommitted}
+use Rattle.model.specs.Rules.{isRemoving, isCommitting, applied, asCommitted}
 use Rattle.memory_layout.specs.Flat.{flatOf, Room}
 use Rattle.memory_layout.proofs.Laws.{Known, known}
 use Rattle.memory_rows.specs.Rows.{pendingIs}
@@ -14,10 +14,10 @@ use Rattle.memory_rows.specs.declared.Pending.{Pending}
 use Rattle.memory_rows.specs.declared.Pending.the-variants.{Nothing, Adding, Committing, Removing}
 use Rattle.memory_rows.proofs.Pending.{the-type}
 use Rattle.engine_lookup.specs.Lookup.{noteCommitted, noteTentative, noteOwner, note}
-use Rattle.engine_lookup.specs.declared.Look.{Look}
+use Rattle.engine_lookup.specs.declared.Visibility.{Visibility}
 
 -- the committed version that counts is the first
-module _ (i : ℕ) (l : Look) where
+module _ (i : ℕ) (l : Visibility) where
   pub first-committed : l .committed ≡ 0 → record { foreign = l .foreign; any = true; own = l .own; committed = i + 1 } ≡ noteCommitted i l
   unfolding noteCommitted if_then_else_
   first-committed e = rw (eq-eqb (l .committed) 0 e, add-one i)
@@ -34,16 +34,16 @@ module _ (i : ℕ) (l : Look) where
   unfolding noteTentative
   foreign-tentative b e = rw (e, noteTentative)
 
--- a look at a row by its pending operation
-abbrev byPending : ℕ → ℕ → model.Pending → Owner → Look → Look
+-- a row noted by its pending operation
+abbrev byPending : ℕ → ℕ → model.Pending → Owner → Visibility → Visibility
 byPending tx i model.nothing o l = noteOwner tx i o l
 byPending tx i model.adding o l = noteOwner tx i o l
 byPending tx i model.committing o l = noteCommitted i l
 byPending tx i model.removing o l = l
 
-module _ (tx i : ℕ) (h : Held) (l : Look) where
+module _ (tx i : ℕ) (h : Held) (l : Visibility) where
   note-is : note tx i h l ≡ byPending tx i (h .pending) (h .tuple .owner) l
-  unfolding note noteOwner ripe asCommitted isRemoving isCommitting if_then_else_
+  unfolding note noteOwner applied asCommitted isRemoving isCommitting if_then_else_
   note-is = by-pending (h .tuple) (h .pending)
     where
       by-pending : (x : Tuple) (p : model.Pending) → note tx i (record { tuple = x; pending = p }) l ≡ byPending tx i p (x .owner) l

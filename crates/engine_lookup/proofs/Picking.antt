@@ -1,21 +1,21 @@
--- What is seen, by what a look shows.
+-- What is seen, by what there is of a key.
 use Rattle.basics.proofs.Kit.{_≡_, refl, sym, ap, _∙_, Bool, true, false, some, none, List, ℕ, suc, _≤_, zero, _-_, length, arith}
 use Rattle.basics.specs.Basics.{if_then_else_, first, last}
 use Rattle.basics.proofs.Facts.{by}
 use Rattle.blocks.specs.Tuple.{Tuple}
 use Rattle.rows.specs.Rows.{Row, isOwn}
 use Rattle.model.specs.Sight.{versions, seenOf, seen}
-use Rattle.model.proofs.Rows.{ripe-is}
+use Rattle.model.proofs.Rows.{applied-is}
 use Rattle.memory_layout.specs.Flat.{Flat, rowIn}
 use Rattle.memory_layout.specs.Store.{pagesIn, storeOf}
 use Rattle.engine_lookup.specs.Lookup.{isCommitted, version, versionAt, Shows, seenAt, Inside, placeOf, pickedAt, picked, Sees}
-use Rattle.engine_lookup.specs.declared.Look.{Look}
+use Rattle.engine_lookup.specs.declared.Visibility.{Visibility}
 use Rattle.engine_lookup.specs.declared.Seen.{Seen}
 use Rattle.engine_lookup.specs.declared.Seen.the-variants.{At, Nothing}
 
 version-mark : (f : Flat) (t i : ℕ) → version f t i .1 .mark ≡ rowIn f i .tuple .mark
 unfolding version
-version-mark f t i = ap (λ (x : Tuple). x .mark) (ripe-is (rowIn f i))
+version-mark f t i = ap (λ (x : Tuple). x .mark) (applied-is (rowIn f i))
 
 place-seen : (f : Flat) (t h : ℕ) → seenAt f t (placeOf h) ≡ versionAt f t h
 unfolding seenAt placeOf versionAt
@@ -42,8 +42,8 @@ picked-at f t tx zero h vs n s = place-seen f t h ∙ s ∙ sym (seen-committed 
 picked-at f t tx (suc i) h vs n s =
     seen-if f t i (rowIn f i .tuple .mark) ∙ ap (λ (b : Bool). if b then none else some (version f t i)) (sym (version-mark f t i)) ∙ sym (seen-own tx vs (version f t i) (sym n))
 
--- what a look shows to be seen is seen
-pub picked-seen : (f : Flat) (t tx : ℕ) (vs : List Row) (l : Look) → Shows f t tx vs l → seenAt f t (picked f l) ≡ seenOf tx vs
+-- what is picked is what is seen
+pub picked-seen : (f : Flat) (t tx : ℕ) (vs : List Row) (l : Visibility) → Shows f t tx vs l → seenAt f t (picked f l) ≡ seenOf tx vs
 unfolding picked
 picked-seen f t tx vs l s = picked-at f t tx (l .own) (l .committed) vs (s .last-own) (s .first-committed)
 
@@ -57,13 +57,13 @@ unfolding Inside pickedAt if_then_else_
 picked-in f zero h a b = place-in f h b
 picked-in f (suc i) h a b = by (rowIn f i .tuple .mark) (λ e. rw e tt) (λ e. rw e a)
 
-pub picked-inside : (f : Flat) (t tx : ℕ) (vs : List Row) (l : Look) → Shows f t tx vs l → Inside f (picked f l)
+pub picked-inside : (f : Flat) (t tx : ℕ) (vs : List Row) (l : Visibility) → Shows f t tx vs l → Inside f (picked f l)
 unfolding picked
 picked-inside f t tx vs l s = picked-in f (l .own) (l .committed) (s .own-in) (s .committed-in)
 
 -- ---- the code's choice
 
-module _ (f : Flat) (l : Look) where
+module _ (f : Flat) (l : Visibility) where
   picked-committed : l .own ≡ 0 → placeOf (l .committed) ≡ picked f l
   unfolding picked pickedAt
   picked-committed e = sym (ap (λ (z : ℕ). pickedAt f z (l .committed)) e)
@@ -91,10 +91,10 @@ module _ (f : Flat) (l : Look) where
     unfolding if_then_else_
     pick-own e = sym (picked-own ∙ rw e)
 
--- a key's version that is seen, from a look at it
-pub look-sees : (f : Flat) (t tx k : ℕ) (l : Look) (r : Seen) → Shows f t tx (versions t k (pagesIn f)) l → r ≡ picked f l → Sees f t r (seen tx t k (storeOf f))
+-- a key's version that is seen, from what there is of the key
+pub visibility-sees : (f : Flat) (t tx k : ℕ) (l : Visibility) (r : Seen) → Shows f t tx (versions t k (pagesIn f)) l → r ≡ picked f l → Sees f t r (seen tx t k (storeOf f))
 unfolding seen storeOf
-look-sees f t tx k l r s e =
+visibility-sees f t tx k l r s e =
     record {
       means = ap (seenAt f t) e ∙ picked-seen f t tx (versions t k (pagesIn f)) l s;
       inside = rw e (picked-inside f t tx (versions t k (pagesIn f)) l s);

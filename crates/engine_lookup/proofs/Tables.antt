@@ -6,7 +6,7 @@ use Rattle.basics.proofs.Facts.{by}
 use Rattle.blocks.specs.Tuple.{Tuple}
 use Rattle.rows.specs.Rows.{Row, rowsOf, isAt}
 use Rattle.model.specs.State.{Held, Page}
-use Rattle.model.specs.Rules.{isRemoving, ripened}
+use Rattle.model.specs.Rules.{isRemoving, live}
 use Rattle.model.specs.Sight.{rows, versions}
 use Rattle.model.proofs.Lists.{keep-append}
 use Rattle.memory_bytes.specs.Columns.{tab, lastIndex, upTo}
@@ -22,18 +22,18 @@ use Rattle.memory_pages.specs.Spots.{tablePage, tableRow, tableRows, keyUpTo, p
 use Rattle.memory_pages.proofs.Ranges.{starts-rise}
 use Rattle.memory_pages.proofs.Spots.{row-from, pages-rise, table-first}
 use Rattle.engine_lookup.specs.Lookup.{Shows, blank, notes, TableRange}
-use Rattle.engine_lookup.specs.declared.Look.{Look}
+use Rattle.engine_lookup.specs.declared.Visibility.{Visibility}
 use Rattle.engine_lookup.specs.declared.Range.{Range}
-use Rattle.engine_lookup.proofs.Turns.{notes-covered}
+use Rattle.engine_lookup.proofs.Iterations.{notes-covered}
 use Rattle.engine_lookup.proofs.Versions.{versionsOn, shows-rows}
 use Rattle.engine_lookup.proofs.Searches.{place-covers, last-keys}
 
 -- ---- in parts
 
-ripened-append : (xs ys : List Held) → ripened (xs ++ ys) ≡ ripened xs ++ ripened ys
-unfolding ripened if_then_else_
-ripened-append [] ys = refl
-ripened-append (x ∷ xs) ys = by (isRemoving (x .pending)) (λ e. rw e (ripened-append xs ys)) (λ e. rw (e, ripened-append xs ys))
+live-append : (xs ys : List Held) → live (xs ++ ys) ≡ live xs ++ live ys
+unfolding live if_then_else_
+live-append [] ys = refl
+live-append (x ∷ xs) ys = by (isRemoving (x .pending)) (λ e. rw e (live-append xs ys)) (λ e. rw (e, live-append xs ys))
 
 rowsOf-append : (t : ℕ) (xs ys : List Tuple) → rowsOf t (xs ++ ys) ≡ rowsOf t xs ++ rowsOf t ys
 unfolding rowsOf
@@ -42,9 +42,9 @@ rowsOf-append t (x ∷ xs) ys = ap (λ (z : List Row). (t, x) ∷ z) (rowsOf-app
 
 versions-append : (t k : ℕ) (xs ys : List Held) → versionsOn t k (xs ++ ys) ≡ versionsOn t k xs ++ versionsOn t k ys
 versions-append t k xs ys =
-    ap (λ (z : List Tuple). keep (isAt t k) (rowsOf t z)) (ripened-append xs ys)
-    ∙ ap (keep (isAt t k)) (rowsOf-append t (ripened xs) (ripened ys))
-    ∙ keep-append (isAt t k) (rowsOf t (ripened xs)) (rowsOf t (ripened ys))
+    ap (λ (z : List Tuple). keep (isAt t k) (rowsOf t z)) (live-append xs ys)
+    ∙ ap (keep (isAt t k)) (rowsOf-append t (live xs) (live ys))
+    ∙ keep-append (isAt t k) (rowsOf t (live xs)) (rowsOf t (live ys))
 
 -- ---- page by page
 
@@ -54,15 +54,15 @@ other-table t k u [] n = refl
 other-table t k u (x ∷ xs) n = rw (ne-eqb u t n) (other-table t k u xs n)
 
 module _ (t k : ℕ) (e : Entry) (hs : List Held) (ps : List Page) where
-  page-versions : versions t k (pageOf e hs ∷ ps) ≡ keep (isAt t k) (rowsOf (e .table) (ripened hs)) ++ versions t k ps
+  page-versions : versions t k (pageOf e hs ∷ ps) ≡ keep (isAt t k) (rowsOf (e .table) (live hs)) ++ versions t k ps
   unfolding versions rows pageOf
-  page-versions = keep-append (isAt t k) (rowsOf (e .table) (ripened hs)) (rows ps)
+  page-versions = keep-append (isAt t k) (rowsOf (e .table) (live hs)) (rows ps)
 
   page-own : e .table ≡ t → versions t k (pageOf e hs ∷ ps) ≡ versionsOn t k hs ++ versions t k ps
-  page-own q = page-versions ∙ ap (λ (z : ℕ). keep (isAt t k) (rowsOf z (ripened hs)) ++ versions t k ps) q
+  page-own q = page-versions ∙ ap (λ (z : ℕ). keep (isAt t k) (rowsOf z (live hs)) ++ versions t k ps) q
 
   page-other : (e .table ≡ t → ⊥) → versions t k (pageOf e hs ∷ ps) ≡ versions t k ps
-  page-other n = page-versions ∙ ap (λ (z : List Row). z ++ versions t k ps) (other-table t k (e .table) (ripened hs) n)
+  page-other n = page-versions ∙ ap (λ (z : List Row). z ++ versions t k ps) (other-table t k (e .table) (live hs) n)
 
 -- the pages from a up to b are those of table t
 record Owned (es : List Entry) (d : Entry) (t a b : ℕ) : Type 0 where
@@ -78,7 +78,7 @@ between es a b hs = take (total (take b es) - total (take a es)) (drop (total (t
 
 module _ (t k : ℕ) (d : Entry) where
   owned-versions : (es : List Entry) (hs : List Held) (a b : ℕ) → Owned es d t a b → versions t k (nest es hs) ≡ versionsOn t k (between es a b hs)
-  unfolding nest total sum versions rows keep ripened rowsOf
+  unfolding nest total sum versions rows keep live rowsOf
   owned-versions [] hs zero zero o = refl
   owned-versions [] hs zero (suc b) o = absurd (omega (arith, o .most))
   owned-versions [] hs (suc a) b o = absurd (omega (arith, o .order, o .most))
@@ -166,8 +166,8 @@ module _ {m : List ℕ} (room : Room m) (t tx k : ℕ) (h : t < 8) {r : Range} (
       let f : Flat = flatOf m in
       (λ i. take (sym (g .end) i - sym (g .start) i) (drop (sym (g .start) i) (f .rows))) ∙ run-rows f (r .start) (r .end - r .start) (omega (arith, g .order, g .inside))
 
-  -- a look at all rows of the table shows all versions
-  pub table-shown : {l : Look} → l ≡ notes tx k (r .start) (tab (rowIn (flatOf m)) (r .start) (r .end - r .start)) blank
+  -- all rows of the table show all versions
+  pub table-shown : {l : Visibility} → l ≡ notes tx k (r .start) (tab (rowIn (flatOf m)) (r .start) (r .end - r .start)) blank
       → Shows (flatOf m) t tx (versions t k (pagesIn (flatOf m))) l
   table-shown {l} e =
       let f : Flat = flatOf m in
@@ -178,7 +178,7 @@ module _ {m : List ℕ} (room : Room m) (t tx k : ℕ) (h : t < 8) {r : Range} (
 
   -- the same of one at the rows before the place alone
   module _ {at : ℕ} (q : at ≡ r .start + lastIndex (upTo k) (tab (keyIn (flatOf m)) (r .start) (r .end - r .start))) where
-    pub spot-shown : {l : Look} → l ≡ notes tx k (r .start) (tab (rowIn (flatOf m)) (r .start) (at - r .start)) blank
+    pub spot-shown : {l : Visibility} → l ≡ notes tx k (r .start) (tab (rowIn (flatOf m)) (r .start) (at - r .start)) blank
         → Shows (flatOf m) t tx (versions t k (pagesIn (flatOf m))) l
     spot-shown e = table-shown (e ∙ notes-covered (flatOf m) tx blank (place-covers (flatOf m) k (r .start) (r .end) (g .order) q))
 

@@ -1,4 +1,4 @@
--- A look along rows shows the versions of a key among them.
+-- The rows noted one after another show the versions of a key among them.
 use Rattle.basics.proofs.Kit.{_≡_, refl, sym, ap, _∙_, Bool, true, false, _&&_, not, some, none, List, [], _∷_, _++_, append-assoc, append-nil, ℕ, suc, _+_, _≤_, _<_, zero, eqb, length}
 use Rattle.basics.proofs.Kit.{eq-eqb, ne-eqb, arith}
 use Rattle.basics.specs.Basics.{if_then_else_, any, first, last, isEmpty, keep}
@@ -6,15 +6,15 @@ use Rattle.basics.proofs.Facts.{by, never}
 use Rattle.blocks.specs.Tuple.{Tuple, Owner, committed, tentative, isTentative}
 use Rattle.rows.specs.Rows.{Row, rowsOf, isBy, isOwn, isAt}
 use Rattle.model.specs.State.{Held}
-use Rattle.model.specs.Rules.{isRemoving, ripe, ripened}
+use Rattle.model.specs.Rules.{isRemoving, applied, live}
 use Rattle.model.specs.Sight.{isForeign}
-use Rattle.model.proofs.Rows.{ripe-is}
+use Rattle.model.proofs.Rows.{applied-is}
 use Rattle.model.proofs.Lists.{keep-cons, keep-past}
 use Rattle.memory_bytes.specs.Columns.{tab}
 use Rattle.memory_layout.specs.Flat.{Flat, rowIn}
 use Rattle.engine_lookup.specs.Lookup.{isCommitted, version, versionAt, Shows, blank, noteCommitted, noteTentative, noteOwner, note, notes}
-use Rattle.engine_lookup.specs.declared.Look.{Look}
-use Rattle.engine_lookup.proofs.Turns.{notes-on, notes-here}
+use Rattle.engine_lookup.specs.declared.Visibility.{Visibility}
+use Rattle.engine_lookup.proofs.Iterations.{notes-on, notes-here}
 
 -- ---- one element more at the end
 
@@ -61,7 +61,7 @@ module _ {A : Type 0} (f : A → Bool) (x : A) where
 
 -- ---- one version more
 
-module _ (f : Flat) (t tx i : ℕ) (o : Owner) (eo : ripe (rowIn f i) .owner ≡ o) where
+module _ (f : Flat) (t tx i : ℕ) (o : Owner) (eo : applied (rowIn f i) .owner ≡ o) where
   own-is : isOwn tx (version f t i) ≡ isBy tx o
   unfolding isOwn version
   own-is = ap (isBy tx) eo
@@ -85,7 +85,7 @@ unfolding if_then_else_
 committed-inside i zero n a b = a
 committed-inside i (suc h) n a b = rw (ne-eqb (suc h) 0 (λ z. omega arith)) b
 
-shows-one : (f : Flat) (t tx i : ℕ) (o : Owner) (vs : List Row) (l : Look) → ripe (rowIn f i) .owner ≡ o → i < length (f .rows) → Shows f t tx vs l
+shows-one : (f : Flat) (t tx i : ℕ) (o : Owner) (vs : List Row) (l : Visibility) → applied (rowIn f i) .owner ≡ o → i < length (f .rows) → Shows f t tx vs l
     → Shows f t tx (vs ++ version f t i ∷ []) (noteOwner tx i o l)
 unfolding noteOwner noteCommitted noteTentative isTentative isBy versionAt if_then_else_
 shows-one f t tx i committed vs l eo h s =
@@ -123,51 +123,51 @@ shows-one f t tx i (tentative u w) vs l eo h s =
 
 -- the versions of a key among tuples of table t
 abbrev pub versionsOn : ℕ → ℕ → List Held → List Row
-versionsOn t k hs = keep (isAt t k) (rowsOf t (ripened hs))
+versionsOn t k hs = keep (isAt t k) (rowsOf t (live hs))
 
 module _ (t k : ℕ) (h : Held) (hs : List Held) where
   past-removed : isRemoving (h .pending) ≡ true → versionsOn t k (h ∷ hs) ≡ versionsOn t k hs
-  unfolding ripened if_then_else_
+  unfolding live if_then_else_
   past-removed e = rw e
 
-  live-row : isRemoving (h .pending) ≡ false → rowsOf t (ripened (h ∷ hs)) ≡ (t, ripe h) ∷ rowsOf t (ripened hs)
-  unfolding ripened rowsOf if_then_else_
+  live-row : isRemoving (h .pending) ≡ false → rowsOf t (live (h ∷ hs)) ≡ (t, applied h) ∷ rowsOf t (live hs)
+  unfolding live rowsOf if_then_else_
   live-row e = rw e
 
-  at-is : isAt t k (t, ripe h) ≡ eqb (h .tuple .key) k
+  at-is : isAt t k (t, applied h) ≡ eqb (h .tuple .key) k
   unfolding isAt
-  at-is = rw (eq-eqb t t refl, ap (λ (x : Tuple). x .key) (ripe-is h))
+  at-is = rw (eq-eqb t t refl, ap (λ (x : Tuple). x .key) (applied-is h))
 
   past-other : eqb (h .tuple .key) k ≡ false → versionsOn t k (h ∷ hs) ≡ versionsOn t k hs
   past-other e =
       by (isRemoving (h .pending)) past-removed
-      (λ r. ap (keep (isAt t k)) (live-row r) ∙ keep-past (isAt t k) (t, ripe h) _ (at-is ∙ e))
+      (λ r. ap (keep (isAt t k)) (live-row r) ∙ keep-past (isAt t k) (t, applied h) _ (at-is ∙ e))
 
-  one-more : isRemoving (h .pending) ≡ false → eqb (h .tuple .key) k ≡ true → versionsOn t k (h ∷ hs) ≡ (t, ripe h) ∷ versionsOn t k hs
-  one-more r e = ap (keep (isAt t k)) (live-row r) ∙ keep-cons (isAt t k) (t, ripe h) _ (at-is ∙ e)
+  one-more : isRemoving (h .pending) ≡ false → eqb (h .tuple .key) k ≡ true → versionsOn t k (h ∷ hs) ≡ (t, applied h) ∷ versionsOn t k hs
+  one-more r e = ap (keep (isAt t k)) (live-row r) ∙ keep-cons (isAt t k) (t, applied h) _ (at-is ∙ e)
 
-module _ (tx i : ℕ) (h : Held) (l : Look) where
-  note-gone : isRemoving (h .pending) ≡ true → note tx i h l ≡ l
+module _ (tx i : ℕ) (h : Held) (l : Visibility) where
+  note-removed : isRemoving (h .pending) ≡ true → note tx i h l ≡ l
   unfolding note if_then_else_
-  note-gone e = rw e
+  note-removed e = rw e
 
-  note-live : isRemoving (h .pending) ≡ false → note tx i h l ≡ noteOwner tx i (ripe h .owner) l
+  note-live : isRemoving (h .pending) ≡ false → note tx i h l ≡ noteOwner tx i (applied h .owner) l
   unfolding note if_then_else_
   note-live e = rw e
 
-shows-same : (f : Flat) (t tx : ℕ) (vs ws : List Row) (l r : Look) → ws ≡ vs → r ≡ l → Shows f t tx vs l → Shows f t tx ws r
+shows-same : (f : Flat) (t tx : ℕ) (vs ws : List Row) (l r : Visibility) → ws ≡ vs → r ≡ l → Shows f t tx vs l → Shows f t tx ws r
 shows-same f t tx vs ws l r e q s = rw (e, q) s
 
-pub shows-as : (f : Flat) (t tx : ℕ) (vs : List Row) (l r : Look) → r ≡ l → Shows f t tx vs l → Shows f t tx vs r
+pub shows-as : (f : Flat) (t tx : ℕ) (vs : List Row) (l r : Visibility) → r ≡ l → Shows f t tx vs l → Shows f t tx vs r
 shows-as f t tx vs l r q s = rw q s
 
-version-is : (f : Flat) (t i : ℕ) → version f t i ≡ (t, ripe (rowIn f i))
+version-is : (f : Flat) (t i : ℕ) → version f t i ≡ (t, applied (rowIn f i))
 unfolding version
 version-is f t i = refl
 
-pub shows-run : (f : Flat) (t tx k n i : ℕ) (vs : List Row) (l : Look) → i + n ≤ length (f .rows) → Shows f t tx vs l
+pub shows-run : (f : Flat) (t tx k n i : ℕ) (vs : List Row) (l : Visibility) → i + n ≤ length (f .rows) → Shows f t tx vs l
     → Shows f t tx (vs ++ versionsOn t k (tab (rowIn f) i n)) (notes tx k i (tab (rowIn f) i n) l)
-unfolding notes ripened rowsOf keep
+unfolding notes live rowsOf keep
 shows-run f t tx k zero i vs l b s = shows-same f t tx vs _ l l (append-nil vs) refl s
 shows-run f t tx k (suc n) i vs l b s =
     let h : Held = rowIn f i in
@@ -177,10 +177,10 @@ shows-run f t tx k (suc n) i vs l b s =
     λ q r. shows-same f t tx _ _ _ _ (ap (λ (z : List Row). vs ++ z) q) r (shows-run f t tx k n (suc i) vs l (omega arith) s) in
     by (eqb (h .tuple .key) k)
     (λ e. by (isRemoving (h .pending))
-    (λ r. on (past-removed t k h hs r) (notes-here tx k i h hs l e ∙ ap (notes tx k (suc i) hs) (note-gone tx i h l r)))
+    (λ r. on (past-removed t k h hs r) (notes-here tx k i h hs l e ∙ ap (notes tx k (suc i) hs) (note-removed tx i h l r)))
     (λ r. let x : Row = version f t i in
-    let l1 : Look = noteOwner tx i (ripe h .owner) l in
-    let s1 : Shows f t tx (vs ++ x ∷ []) l1 = shows-one f t tx i (ripe h .owner) vs l refl (omega arith) s in
+    let l1 : Visibility = noteOwner tx i (applied h .owner) l in
+    let s1 : Shows f t tx (vs ++ x ∷ []) l1 = shows-one f t tx i (applied h .owner) vs l refl (omega arith) s in
     shows-same f t tx _ _ _ _
     (ap (λ (z : List Row). vs ++ z) (one-more t k h hs r e ∙ ap (λ (z : Row). z ∷ versionsOn t k hs) (sym (version-is f t i))) ∙ sym (append-assoc vs (x ∷ []) (versionsOn t k hs)))
     (notes-here tx k i h hs l e ∙ ap (notes tx k (suc i) hs) (note-live tx i h l r))

@@ -10,12 +10,12 @@ use Rattle.basics.specs.Basics.{if_then_else_, any, first, last, isEmpty}
 use Rattle.blocks.specs.Tuple.{Owner, committed, tentative, isTentative}
 use Rattle.rows.specs.Rows.{Row, isOwn}
 use Rattle.model.specs.State.{Held}
-use Rattle.model.specs.Rules.{isRemoving, ripe}
+use Rattle.model.specs.Rules.{isRemoving, applied}
 use Rattle.model.specs.Sight.{versions, isForeign}
 use Rattle.memory_layout.specs.Flat.{Flat, rowIn}
 use Rattle.memory_layout.specs.Store.{pagesIn}
 use Rattle.memory_pages.specs.Spots.{tableRow, placeIn}
-use Rattle.engine_lookup.specs.declared.Look.{Look}
+use Rattle.engine_lookup.specs.declared.Visibility.{Visibility}
 use Rattle.engine_lookup.specs.declared.Seen.{Seen}
 use Rattle.engine_lookup.specs.declared.Seen.the-variants.{At, Nothing}
 use Rattle.engine_lookup.specs.declared.Spot.{Spot}
@@ -27,15 +27,15 @@ isCommitted r = not (isTentative (r .1 .owner))
 
 -- row i as a version of table t, its pending operation taken as done
 unfoldable pub version : Flat → ℕ → ℕ → Row
-version f t i = (t, ripe (rowIn f i))
+version f t i = (t, applied (rowIn f i))
 
 -- 1 + the row's place, 0 for none
 unfoldable pub versionAt : Flat → ℕ → ℕ → Option Row
 versionAt f t zero = none
 versionAt f t (suc i) = some (version f t i)
 
--- what a look at the versions vs of a key of table t shows
-pub record Shows (f : Flat) (t tx : ℕ) (vs : List Row) (l : Look) : Type 0 where
+-- l is what there is of a key of table t with the versions vs
+pub record Shows (f : Flat) (t tx : ℕ) (vs : List Row) (l : Visibility) : Type 0 where
   pub others : l .foreign ≡ any (isForeign tx) vs
   pub there : l .any ≡ not (isEmpty vs)
   pub last-own : versionAt f t (l .own) ≡ last (isOwn tx) vs
@@ -43,33 +43,33 @@ pub record Shows (f : Flat) (t tx : ℕ) (vs : List Row) (l : Look) : Type 0 whe
   pub own-in : l .own ≤ length (f .rows)
   pub committed-in : l .committed ≤ length (f .rows)
 
--- ---- a look, row by row
+-- ---- what there is of a key, row by row
 
 -- nothing seen yet
-abbrev pub blank : Look
+abbrev pub blank : Visibility
 blank = record { foreign = false; any = false; own = 0; committed = 0 }
 
 -- a committed version more, at row i
-unfoldable pub noteCommitted : ℕ → Look → Look
+unfoldable pub noteCommitted : ℕ → Visibility → Visibility
 noteCommitted i l =
     record { foreign = l .foreign; any = true; own = l .own; committed = if eqb (l .committed) 0 then suc i else l .committed }
 
 -- a tentative version more, the transaction's own or not
-unfoldable pub noteTentative : ℕ → Bool → Look → Look
+unfoldable pub noteTentative : ℕ → Bool → Visibility → Visibility
 noteTentative i true l = record { foreign = l .foreign; any = true; own = suc i; committed = l .committed }
 noteTentative i false l = record { foreign = true; any = true; own = l .own; committed = l .committed }
 
 -- one version more, at row i, of this owner
-unfoldable pub noteOwner : ℕ → ℕ → Owner → Look → Look
+unfoldable pub noteOwner : ℕ → ℕ → Owner → Visibility → Visibility
 noteOwner tx i committed l = noteCommitted i l
 noteOwner tx i (tentative u s) l = noteTentative i (eqb u tx) l
 
--- row i is looked at; one pending removal is none
-unfoldable pub note : ℕ → ℕ → Held → Look → Look
-note tx i h l = if isRemoving (h .pending) then l else noteOwner tx i (ripe h .owner) l
+-- row i is noted; one pending removal is none
+unfoldable pub note : ℕ → ℕ → Held → Visibility → Visibility
+note tx i h l = if isRemoving (h .pending) then l else noteOwner tx i (applied h .owner) l
 
 -- the rows from place i on; those of another key are passed by
-unfoldable pub notes : ℕ → ℕ → ℕ → List Held → Look → Look
+unfoldable pub notes : ℕ → ℕ → ℕ → List Held → Visibility → Visibility
 notes tx k i [] l = l
 notes tx k i (h ∷ hs) l = notes tx k (suc i) hs (if eqb (h .tuple .key) k then note tx i h l else l)
 
@@ -96,7 +96,7 @@ pickedAt f zero h = placeOf h
 pickedAt f (suc i) h = if rowIn f i .tuple .mark then Nothing else At i
 
 -- the version that the two places found give
-unfoldable pub picked : Flat → Look → Seen
+unfoldable pub picked : Flat → Visibility → Seen
 picked f l = pickedAt f (l .own) (l .committed)
 
 -- the place found stands for the version that is seen
@@ -113,7 +113,7 @@ pub record TableRange (f : Flat) (t : ℕ) (r : Range) : Type 0 where
   pub order : r .start ≤ r .end
   pub inside : r .end ≤ length (f .rows)
 
--- the look at a key of table t, and the place of a new tuple with it
+-- what there is of a key of table t, and the place of a new tuple with it
 pub record Spots (f : Flat) (t tx k : ℕ) (r : Spot) : Type 0 where
-  pub look : Shows f t tx (versions t k (pagesIn f)) (r .look)
+  pub visibility : Shows f t tx (versions t k (pagesIn f)) (r .visibility)
   pub place : r .at ≡ placeIn f t k

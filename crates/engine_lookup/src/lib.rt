@@ -15,7 +15,7 @@ ghost use Rattle.engine_lookup.specs.Lookup.{Shows, blank, noteCommitted
 
 // What there is of a key. foreign: a version of another open transaction; any: any version; own: 1 + the row of the last own
 // version, 0 if there is none; committed: 1 + the row of the first committed version, 0 if there is none.
-pub struct Look {
+pub struct Visibility {
     pub foreign: bool,
     pub any: bool,
     pub own: usize,
@@ -28,9 +28,9 @@ pub enum Seen {
     Nothing,
 }
 
-// The look at a key, and the row before which a new tuple with this key goes.
+// What there is of a key, and the row before which a new tuple with this key goes.
 pub struct Spot {
-    pub look: Look,
+    pub visibility: Visibility,
     pub at: usize,
 }
 
@@ -40,14 +40,14 @@ struct Range {
     end: usize,
 }
 
-// ---- a look at rows
+// ---- row by row
 
 // A committed version at row i: the first one counts.
-fn note_committed(i: usize, look: Look) -> Look
+fn note_committed(i: usize, visibility: Visibility) -> Visibility
     requires { ⌜ i < 1024 ⌝ }
-    ensures { λ r. ⌜ r ≡ noteCommitted i look ⌝ }
+    ensures { λ r. ⌜ r ≡ noteCommitted i visibility ⌝ }
 {
-    let mut l = look;
+    let mut l = visibility;
     l.any = true;
     if l.committed == 0 {
         l.committed = i + 1;
@@ -56,11 +56,11 @@ fn note_committed(i: usize, look: Look) -> Look
 }
 
 // A tentative version at row i, the transaction's own or another's: the last own one counts.
-fn note_tentative(i: usize, own: bool, look: Look) -> Look
+fn note_tentative(i: usize, own: bool, visibility: Visibility) -> Visibility
     requires { ⌜ i < 1024 ⌝ }
-    ensures { λ r. ⌜ r ≡ noteTentative i own look ⌝ }
+    ensures { λ r. ⌜ r ≡ noteTentative i own visibility ⌝ }
 {
-    let mut l = look;
+    let mut l = visibility;
     l.any = true;
     if own {
         l.own = i + 1;
@@ -71,41 +71,41 @@ fn note_tentative(i: usize, own: bool, look: Look) -> Look
 }
 
 // A version of this owner at row i.
-fn note_owner(i: usize, owner: Owner, transaction: u64, look: Look) -> Look
+fn note_owner(i: usize, owner: Owner, transaction: u64, visibility: Visibility) -> Visibility
     requires { ⌜ i < 1024 ⌝ }
-    ensures { λ r. ⌜ r ≡ noteOwner transaction i (ownerIs owner) look ⌝ }
+    ensures { λ r. ⌜ r ≡ noteOwner transaction i (ownerIs owner) visibility ⌝ }
 {
     match owner {
-        Owner::Committed => note_committed(i, look),
+        Owner::Committed => note_committed(i, visibility),
         Owner::Tentative {
             transaction: t,
             statement: _,
-        } => note_tentative(i, t as u64 == transaction, look),
+        } => note_tentative(i, t as u64 == transaction, visibility),
     }
 }
 
 // Row i, whose key is the one that is looked for: one pending removal is no version, one pending commit a committed one.
-fn look_row(m: &[u8], i: usize, transaction: u64, look: Look) -> Look
+fn note_row(m: &[u8], i: usize, transaction: u64, visibility: Visibility) -> Visibility
     requires { ⌜ Room (now m) × (i < length (flatOf (now m) .rows)) ⌝ }
-    ensures { λ r. ⌜ r ≡ note transaction i (rowIn (flatOf (now (m .entry))) i) look ⌝ }
+    ensures { λ r. ⌜ r ≡ note transaction i (rowIn (flatOf (now (m .entry))) i) visibility ⌝ }
 {
     match memory_rows::pending_at(m, i) {
-        Pending::Removing => look,
-        Pending::Committing => note_committed(i, look),
-        _ => note_owner(i, memory_rows::owner_at(m, i), transaction, look),
+        Pending::Removing => visibility,
+        Pending::Committing => note_committed(i, visibility),
+        _ => note_owner(i, memory_rows::owner_at(m, i), transaction, visibility),
     }
 }
 
 // The rows from `from` up to, not including, `to`; those of another key are passed by.
-pub fn look_rows(m: &[u8], from: usize, to: usize, transaction: u64, key: u32, look: Look) -> Look
+pub fn note_rows(m: &[u8], from: usize, to: usize, transaction: u64, key: u32, visibility: Visibility) -> Visibility
     requires { ⌜ Room (now m) × (to ≤ length (flatOf (now m) .rows)) ⌝ }
-    ensures { λ r. ⌜ r ≡ notes transaction key from (tab (rowIn (flatOf (now (m .entry)))) from (to - from)) look ⌝ }
+    ensures { λ r. ⌜ r ≡ notes transaction key from (tab (rowIn (flatOf (now (m .entry)))) from (to - from)) visibility ⌝ }
 {
-    let mut l = look;
+    let mut l = visibility;
     let mut i = from;
     while i < to {
         if memory_rows::key_at(m, i) == key {
-            l = look_row(m, i, transaction, l);
+            l = note_row(m, i, transaction, l);
         }
         i += 1;
     }
@@ -113,10 +113,10 @@ pub fn look_rows(m: &[u8], from: usize, to: usize, transaction: u64, key: u32, l
 }
 
 // Nothing is seen yet.
-fn no_look() -> Look
+fn no_version() -> Visibility
     ensures { λ r. ⌜ r ≡ blank ⌝ }
 {
-    Look {
+    Visibility {
         foreign: false,
         any: false,
         own: 0,
@@ -126,24 +126,24 @@ fn no_look() -> Look
 
 // The rows from s up to, not including, e: only those between the first and the last one with the key are looked at. The two searches end where
 // they find it: for the rows before the place of a new one, where a pass over all keys is no faster.
-fn look_range(m: &[u8], s: usize, e: usize, transaction: u64, key: u32) -> Look
+fn search_range(m: &[u8], s: usize, e: usize, transaction: u64, key: u32) -> Visibility
     requires { ⌜ Room (now m) × ((s ≤ e) × (e ≤ length (flatOf (now m) .rows))) ⌝ }
     ensures { λ r. ⌜ r ≡ notes transaction key s (tab (rowIn (flatOf (now (m .entry)))) s (e - s)) blank ⌝ }
 {
     let first = memory_rows::find_equal(m, s, e, key);
     let last = memory_rows::last_equal(m, first, e, key);
-    let none = no_look();
-    look_rows(m, first, last, transaction, key, none)
+    let none = no_version();
+    note_rows(m, first, last, transaction, key, none)
 }
 
 // The same by one pass over the keys of all the rows, in a loop that does not depend on where the key is: for a read, whose key may be anywhere.
-fn look_span(m: &[u8], s: usize, e: usize, transaction: u64, key: u32) -> Look
+fn search_span(m: &[u8], s: usize, e: usize, transaction: u64, key: u32) -> Visibility
     requires { ⌜ Room (now m) × ((s ≤ e) × (e ≤ length (flatOf (now m) .rows))) ⌝ }
     ensures { λ r. ⌜ r ≡ notes transaction key s (tab (rowIn (flatOf (now (m .entry)))) s (e - s)) blank ⌝ }
 {
     let span = memory_rows::span_equal(m, s, e, key);
-    let none = no_look();
-    look_rows(m, span.first, span.last, transaction, key, none)
+    let none = no_version();
+    note_rows(m, span.first, span.last, transaction, key, none)
 }
 
 // ---- a key of a table
@@ -161,37 +161,37 @@ fn table_rows(m: &[u8], table: u8) -> Range
     }
 }
 
-pub fn look_up(m: &[u8], table: u8, transaction: u64, key: u32) -> Look
+pub fn find_versions(m: &[u8], table: u8, transaction: u64, key: u32) -> Visibility
     requires { ⌜ (holdsStore (now m) ≡ true) × (table < 8) ⌝ }
     ensures { λ r. ⌜ Shows (flatOf (now (m .entry))) table transaction (versions table key (pagesIn (flatOf (now (m .entry))))) r ⌝ }
 {
     let t = table_rows(m, table);
-    look_span(m, t.start, t.end, transaction, key)
+    search_span(m, t.start, t.end, transaction, key)
 }
 
 // The same, and the place of a new tuple with the key: behind all rows of the table with a key not above, so that the rows with the key
 // stand before it.
-pub fn look_place(m: &[u8], table: u8, transaction: u64, key: u32) -> Spot
+pub fn find_place(m: &[u8], table: u8, transaction: u64, key: u32) -> Spot
     requires { ⌜ (holdsStore (now m) ≡ true) × (table < 8) ⌝ }
     ensures { λ r. ⌜ Spots (flatOf (now (m .entry))) table transaction key r ⌝ }
 {
     let t = table_rows(m, table);
     let at = memory_rows::last_up_to(m, t.start, t.end, key);
     Spot {
-        look: look_range(m, t.start, at, transaction, key),
+        visibility: search_range(m, t.start, at, transaction, key),
         at: at,
     }
 }
 
 // ---- what is seen
 
-// What is seen by what the look shows: the own newest version, unless it is a delete mark; without one the committed version.
-pub fn pick(m: &[u8], look: Look) -> Seen
-    requires { ⌜ Room (now m) × (look .own ≤ length (flatOf (now m) .rows)) ⌝ }
-    ensures { λ r. ⌜ r ≡ picked (flatOf (now (m .entry))) look ⌝ }
+// What is seen, by what there is of the key: the own newest version, unless it is a delete mark; without one the committed version.
+pub fn pick(m: &[u8], visibility: Visibility) -> Seen
+    requires { ⌜ Room (now m) × (visibility .own ≤ length (flatOf (now m) .rows)) ⌝ }
+    ensures { λ r. ⌜ r ≡ picked (flatOf (now (m .entry))) visibility ⌝ }
 {
-    let own = look.own;
-    let committed = look.committed;
+    let own = visibility.own;
+    let committed = visibility.committed;
     if own == 0 {
         if committed == 0 {
             return Seen::Nothing;
@@ -210,6 +210,6 @@ pub fn seen_by(m: &[u8], table: u8, transaction: u64, key: u32) -> Seen
     requires { ⌜ (holdsStore (now m) ≡ true) × (table < 8) ⌝ }
     ensures { λ r. ⌜ Sees (flatOf (now (m .entry))) table r (seen transaction table key (storeOf (flatOf (now (m .entry))))) ⌝ }
 {
-    let l = look_up(m, table, transaction, key);
+    let l = find_versions(m, table, transaction, key);
     pick(m, l)
 }

@@ -1,11 +1,11 @@
--- Pending operations applied: to one row, to the rows of a page, and the page that they leave.
+-- Pending operations applyPending: to one row, to the rows of a page, and the page that they leave.
 use Rattle.basics.proofs.Kit.{_≡_, refl, sym, ap, _∙_, subst, true, false, List, [], _∷_, _++_, append-assoc, append-nil, map, ℕ, suc, _+_, _≤_, _<_, _-_, add-one, length, take, drop, getD}
 use Rattle.basics.proofs.Kit.{set, length-append, length-drop, take-append-drop, length-set, set-split, take-at, drop-at, drop-cons, take-suc, getD-drop, length-take-le, getD-set-same}
 use Rattle.basics.proofs.Kit.{set-getD, set-set, arith}
 use Rattle.basics.specs.Basics.{if_then_else_, sum}
 use Rattle.basics.proofs.Facts.{by}
 use Rattle.model.specs.State.{nothing, Held, Page}
-use Rattle.model.specs.Rules.{isRemoving, isCommitting, withPending, calm, ripe, ripened, asCommitted, fresh}
+use Rattle.model.specs.Rules.{isRemoving, isCommitting, withPending, withoutPending, applied, live, asCommitted, fresh}
 use Rattle.memory_bytes.specs.Columns.{removeAt}
 use Rattle.memory_layout.specs.Flat.{Flat, flatOf, entryIn, rowIn, noRow, noEntry, Room, Becomes, withRows, withEntries}
 use Rattle.memory_layout.specs.Store.{nest, total, pageOf, pageIn, startOf}
@@ -16,7 +16,7 @@ use Rattle.memory_layout.proofs.Exchange.{counted-set, counted-exchange, nest-o
 use Rattle.memory_rows.specs.Rows.{committedRow}
 use Rattle.memory_pages.specs.Pages.{dirty, withBlock, withCount, fewerRows, MayLose}
 use Rattle.engine_pages.specs.Pages.{PagesNow, pagesOf, pageAt, tuplesAt, entryOf, firstRow, There, swapped}
-use Rattle.engine_pages.specs.Pending.{applied, appliedAll, AppliesOne, Applies, Applied}
+use Rattle.engine_pages.specs.Pending.{applyPending, appliedAll, AppliesOne, Applies, Applied}
 use Rattle.engine_pages.proofs.Places.{now-becomes, counted, full, room, many, page-end, has-row, pos-of, still-there}
 use Rattle.engine_pages.proofs.Rows.{page-fresh}
 use Rattle.engine_pages.proofs.Removing.{becomes-to, remove-set}
@@ -24,38 +24,38 @@ use Rattle.engine_pages.proofs.Growing.{getD-front}
 
 -- ---- tuples
 
-applied-gone : (h : Held) → isRemoving (h .pending) ≡ true → applied h ≡ []
-unfolding applied if_then_else_
-applied-gone h e = rw e
+applied-removed : (h : Held) → isRemoving (h .pending) ≡ true → applyPending h ≡ []
+unfolding applyPending if_then_else_
+applied-removed h e = rw e
 
-applied-kept : (h : Held) → isRemoving (h .pending) ≡ false → applied h ≡ calm (ripe h) ∷ []
-unfolding applied if_then_else_
+applied-kept : (h : Held) → isRemoving (h .pending) ≡ false → applyPending h ≡ withoutPending (applied h) ∷ []
+unfolding applyPending if_then_else_
 applied-kept h e = rw e
 
-pub applied-ripened : (hs : List Held) → appliedAll hs ≡ map calm (ripened hs)
-unfolding appliedAll ripened applied if_then_else_
-applied-ripened [] = refl
-applied-ripened (h ∷ hs) = by (isRemoving (h .pending)) (λ e. rw e (applied-ripened hs)) (λ e. rw e (ap (λ (z : List Held). calm (ripe h) ∷ z) (applied-ripened hs)))
+pub applied-live : (hs : List Held) → appliedAll hs ≡ map withoutPending (live hs)
+unfolding appliedAll live applyPending if_then_else_
+applied-live [] = refl
+applied-live (h ∷ hs) = by (isRemoving (h .pending)) (λ e. rw e (applied-live hs)) (λ e. rw e (ap (λ (z : List Held). withoutPending (applied h) ∷ z) (applied-live hs)))
 
 applied-append : (xs ys : List Held) → appliedAll (xs ++ ys) ≡ appliedAll xs ++ appliedAll ys
 unfolding appliedAll
 applied-append [] ys = refl
-applied-append (x ∷ xs) ys = ap (λ (z : List Held). applied x ++ z) (applied-append xs ys) ∙ sym (append-assoc (applied x) (appliedAll xs) (appliedAll ys))
+applied-append (x ∷ xs) ys = ap (λ (z : List Held). applyPending x ++ z) (applied-append xs ys) ∙ sym (append-assoc (applyPending x) (appliedAll xs) (appliedAll ys))
 
-applied-one : (h : Held) → length (applied h) ≤ 1
-applied-one h = by (isRemoving (h .pending)) (λ e. omega (arith, ap length (applied-gone h e))) (λ e. omega (arith, ap length (applied-kept h e)))
+applied-one : (h : Held) → length (applyPending h) ≤ 1
+applied-one h = by (isRemoving (h .pending)) (λ e. omega (arith, ap length (applied-removed h e))) (λ e. omega (arith, ap length (applied-kept h e)))
 
 applied-most : (xs : List Held) → length (appliedAll xs) ≤ length xs
 unfolding appliedAll
 applied-most [] = omega arith
-applied-most (x ∷ xs) = omega (arith, length-append (applied x) (appliedAll xs), applied-one x, applied-most xs)
+applied-most (x ∷ xs) = omega (arith, length-append (applyPending x) (appliedAll xs), applied-one x, applied-most xs)
 
-kept-committing : (h : Held) → isCommitting (h .pending) ≡ true → withPending nothing (committedRow h) ≡ calm (ripe h)
-unfolding withPending committedRow calm ripe if_then_else_
+kept-committing : (h : Held) → isCommitting (h .pending) ≡ true → withPending nothing (committedRow h) ≡ withoutPending (applied h)
+unfolding withPending committedRow withoutPending applied if_then_else_
 kept-committing h e = rw e
 
-kept-other : (h : Held) → isCommitting (h .pending) ≡ false → withPending nothing h ≡ calm (ripe h)
-unfolding withPending calm ripe if_then_else_
+kept-other : (h : Held) → isCommitting (h .pending) ≡ false → withPending nothing h ≡ withoutPending (applied h)
+unfolding withPending withoutPending applied if_then_else_
 kept-other h e = rw e
 
 -- ---- one row
@@ -68,43 +68,43 @@ module _ (m : List ℕ) (i : ℕ) where
   pub kept-both : i < length (flatOf m .rows) → {m1 m2 : List ℕ} → isCommitting (rowIn (flatOf m) i .pending) ≡ true
       → Becomes m m1 (withRows (flatOf m) (set (flatOf m .rows) i (committedRow (rowIn (flatOf m) i))))
       → Becomes m1 m2 (withRows (flatOf m1) (set (flatOf m1 .rows) i (withPending nothing (rowIn (flatOf m1) i))))
-      → Becomes m m2 (withRows (flatOf m) (set (flatOf m .rows) i (calm (ripe (rowIn (flatOf m) i)))))
+      → Becomes m m2 (withRows (flatOf m) (set (flatOf m .rows) i (withoutPending (applied (rowIn (flatOf m) i)))))
   kept-both lt {m1} {m2} e u v =
       let rs : List Held = flatOf m .rows in
       let h : Held = rowIn (flatOf m) i in
-      let es : set (set rs i (committedRow h)) i (withPending nothing (getD (set rs i (committedRow h)) i noRow)) ≡ set rs i (calm (ripe h)) =
+      let es : set (set rs i (committedRow h)) i (withPending nothing (getD (set rs i (committedRow h)) i noRow)) ≡ set rs i (withoutPending (applied h)) =
       set-set rs i (committedRow h) _ ∙ ap (λ (z : Held). set rs i (withPending nothing z)) (getD-set-same rs i (committedRow h) noRow lt) ∙ ap (set rs i) (kept-committing h e) in
       subst (λ (z : List Held). Becomes m m2 (withRows (flatOf m) z)) es
       (becomes-then m m1 m2 _ (λ (y : Flat). withRows y (set (y .rows) i (withPending nothing (rowIn y i)))) u v)
 
   pub kept-one : {m' : List ℕ} → isCommitting (rowIn (flatOf m) i .pending) ≡ false → Becomes m m' (withRows (flatOf m) (set (flatOf m .rows) i (withPending nothing (rowIn (flatOf m) i))))
-      → Becomes m m' (withRows (flatOf m) (set (flatOf m .rows) i (calm (ripe (rowIn (flatOf m) i)))))
+      → Becomes m m' (withRows (flatOf m) (set (flatOf m .rows) i (withoutPending (applied (rowIn (flatOf m) i)))))
   kept-one {m'} e u = subst (λ (z : Held). Becomes m m' (withRows (flatOf m) (set (flatOf m .rows) i z))) (kept-other (rowIn (flatOf m) i) e) u
 
 module _ {m m' : List ℕ} {p i : ℕ} (g : Room m × MayLose (flatOf m) p i) where
-  pub row-gone : isRemoving (rowIn (flatOf m) i .pending) ≡ true
+  pub row-removed : isRemoving (rowIn (flatOf m) i .pending) ≡ true
       → Becomes m m' (withEntries (withRows (flatOf m) (removeAt i (flatOf m .rows))) (fewerRows p (flatOf m .entries))) → AppliesOne m m' p i 0
-  row-gone e u =
-      let a : applied (rowIn (flatOf m) i) ≡ [] = applied-gone (rowIn (flatOf m) i) e in
+  row-removed e u =
+      let a : applyPending (rowIn (flatOf m) i) ≡ [] = applied-removed (rowIn (flatOf m) i) e in
       let z : entryOf m p .count - 1 ≡ entryOf m p .count - 1 + 0 = omega arith in
       record {
         count = sym (ap length a);
-        becomes = subst (λ (k : ℕ). Becomes m m' (withEntries (withRows (flatOf m) (take i (flatOf m .rows) ++ (applied (rowIn (flatOf m) i) ++ drop (i + 1) (flatOf m .rows))))
+        becomes = subst (λ (k : ℕ). Becomes m m' (withEntries (withRows (flatOf m) (take i (flatOf m .rows) ++ (applyPending (rowIn (flatOf m) i) ++ drop (i + 1) (flatOf m .rows))))
             (set (flatOf m .entries) p (withCount (entryOf m p) k)))) z
             (subst (λ (y : List Held). Becomes m m' (withEntries (withRows (flatOf m) (take i (flatOf m .rows) ++ (y ++ drop (i + 1) (flatOf m .rows)))) (fewerRows p (flatOf m .entries))))
             (sym a) u);
       }
 
-  pub row-kept : isRemoving (rowIn (flatOf m) i .pending) ≡ false → Becomes m m' (withRows (flatOf m) (set (flatOf m .rows) i (calm (ripe (rowIn (flatOf m) i))))) → AppliesOne m m' p i 1
+  pub row-kept : isRemoving (rowIn (flatOf m) i .pending) ≡ false → Becomes m m' (withRows (flatOf m) (set (flatOf m .rows) i (withoutPending (applied (rowIn (flatOf m) i))))) → AppliesOne m m' p i 1
   row-kept e u =
       let es : List Entry = flatOf m .entries in
       let rs : List Held = flatOf m .rows in
-      let x : Held = calm (ripe (rowIn (flatOf m) i)) in
-      let a : applied (rowIn (flatOf m) i) ≡ x ∷ [] = applied-kept (rowIn (flatOf m) i) e in
+      let x : Held = withoutPending (applied (rowIn (flatOf m) i)) in
+      let a : applyPending (rowIn (flatOf m) i) ≡ x ∷ [] = applied-kept (rowIn (flatOf m) i) e in
       let n : entryOf m p .count ≡ entryOf m p .count - 1 + 1 = omega (arith, g .1 .rows) in
       let se : es ≡ set es p (withCount (entryOf m p) (entryOf m p .count - 1 + 1)) =
       sym (set-getD es p noEntry) ∙ ap (λ (k : ℕ). set es p (withCount (entryOf m p) k)) n in
-      let sr : set rs i x ≡ take i rs ++ (applied (rowIn (flatOf m) i) ++ drop (i + 1) rs) =
+      let sr : set rs i x ≡ take i rs ++ (applyPending (rowIn (flatOf m) i) ++ drop (i + 1) rs) =
       set-split rs i x (g .1 .row) ∙ ap (λ (k : ℕ). take i rs ++ x ∷ drop k rs) (sym (add-one i)) ∙ ap (λ (z : List Held). take i rs ++ (z ++ drop (i + 1) rs)) (sym a) in
       record {
         count = sym (ap length a);
@@ -112,7 +112,7 @@ module _ {m m' : List ℕ} {p i : ℕ} (g : Room m × MayLose (flatOf m) p i) wh
           size = u .size;
           room = u .room;
           flat = u .flat ∙ ap (λ (z : List Held). withRows (flatOf m) z) sr ∙ ap
-              (λ (z : List Entry). withEntries (withRows (flatOf m) (take i rs ++ (applied (rowIn (flatOf m) i) ++ drop (i + 1) rs))) z) se;
+              (λ (z : List Entry). withEntries (withRows (flatOf m) (take i rs ++ (applyPending (rowIn (flatOf m) i) ++ drop (i + 1) rs))) z) se;
         };
       }
 
@@ -211,7 +211,7 @@ module _ {m : List ℕ} {p : ℕ} (a : There m p) where
       },
     )
 
-    take-more : appliedAll (take (entryOf m p .count - (left - 1)) (drop (firstRow m p) (flatOf m .rows))) ≡ B ++ applied x
+    take-more : appliedAll (take (entryOf m p .count - (left - 1)) (drop (firstRow m p) (flatOf m .rows))) ≡ B ++ applyPending x
     unfolding appliedAll
     take-more =
         let lt : done < length (drop s rs) = simp length-drop (omega (arith, l0, page-end a)) in
@@ -220,17 +220,17 @@ module _ {m : List ℕ} {p : ℕ} (a : There m p) where
         ∙ ap appliedAll (take-suc (drop s rs) done noRow lt)
         ∙ ap (λ (z : Held). appliedAll (take done (drop s rs) ++ z ∷ [])) (getD-drop s rs done noRow)
         ∙ applied-append (take done (drop s rs)) (x ∷ [])
-        ∙ ap (λ (z : List Held). B ++ z) (append-nil (applied x))
+        ∙ ap (λ (z : List Held). B ++ z) (append-nil (applyPending x))
 
     pub apply-next : {m2 : List ℕ} (r : ℕ) → AppliesOne m1 m2 p i r → ApplyInv m m2 p (left - 1) (i + r)
     apply-next {m2} r o =
-        let y : List Held = applied x in
-        let oc : applied (rowIn (flatOf m1) i) ≡ y = ap applied row-is in
+        let y : List Held = applyPending x in
+        let oc : applyPending (rowIn (flatOf m1) i) ≡ y = ap applyPending row-is in
         let long : length ((A ++ B) ++ x ∷ []) ≡ i + 1 = length-append (A ++ B) (x ∷ []) ∙ omega (arith, front-long) in
         let dr : drop (i + 1) (flatOf m1 .rows) ≡ D = ap (drop (i + 1)) (rows-front ∙ sym (append-assoc (A ++ B) (x ∷ []) D)) ∙ drop-at ((A ++ B) ++ x ∷ []) D (i + 1) long in
         let tk : take i (flatOf m1 .rows) ≡ A ++ B = ap (take i) rows-front ∙ take-at (A ++ B) (x ∷ D) i front-long in
         let sd : suc (s + done) ≡ s + (n - (left - 1)) = omega (arith, l0) in
-        let new : take i (flatOf m1 .rows) ++ (applied (rowIn (flatOf m1) i) ++ drop (i + 1) (flatOf m1 .rows)) ≡ doneRows m p (n - (left - 1)) =
+        let new : take i (flatOf m1 .rows) ++ (applyPending (rowIn (flatOf m1) i) ++ drop (i + 1) (flatOf m1 .rows)) ≡ doneRows m p (n - (left - 1)) =
         (λ j. tk j ++ (oc j ++ dr j))
         ∙ append-assoc A B (y ++ D)
         ∙ ap (λ (z : List Held). A ++ z) (sym (append-assoc B y D))
@@ -291,7 +291,7 @@ module _ {m : List ℕ} {p : ℕ} (a : There m p) where
         let R : List Held = take (firstRow m p) rs ++ (hs ++ drop (firstRow m p + entryOf m p .count) rs) in
         let t : PagesNow m m2 (swapped p [] (pagesOf m)) =
         now-becomes (becomes-to (withRows (flatOf m) R) (becomes-then m m1 m2 _ (λ (y : Flat). withEntries y (removeAt p (y .entries))) (o .becomes) v) (remove-set (flatOf m .entries) p less))
-        (counted-exchange (flatOf m .entries) [] p 1 (counted m (a .held)) tt)
+        (counted-exchange (flatOf m .entries) [] p 1 (counted m (a .has-store)) tt)
         (ap (λ (ws : List Held). nest (removeAt p (flatOf m .entries)) (take (firstRow m p) rs ++ (ws ++ drop (firstRow m p + entryOf m p .count) rs))) (nil hs (sym (o .count) ∙ z))
         ∙ for-page (flatOf m) (full a) p (a .inside) [] [] refl) in
         subst (λ (k : ℕ). Applied m m2 p k) z (record { count = o .count; none-left = λ q. t; some-left = λ q. absurd (q z) })
@@ -306,7 +306,7 @@ module _ {m : List ℕ} {p : ℕ} (a : There m p) where
         set-set (flatOf m .entries) p less _ ∙ ap (λ (y : Entry). set (flatOf m .entries) p (withBlock y 0 false)) (getD-set-same (flatOf m .entries) p less noEntry (a .inside)) in
         let t : PagesNow m m2 (swapped p (fresh (pageAt m p .table) hs ∷ []) (pagesOf m)) =
         now-becomes (becomes-to (withRows (flatOf m) R) (becomes-then m m1 m2 _ (λ (y : Flat). withEntries y (set (y .entries) p (withBlock (entryIn y p) 0 false))) (o .becomes) v) es)
-        (counted-set (flatOf m .entries) p e (counted m (a .held)) (pos-of r nz))
+        (counted-set (flatOf m .entries) p e (counted m (a .has-store)) (pos-of r nz))
         (page-set (flatOf m) (full a) p (a .inside) e hs R (o .count) refl
         ∙ ap (λ (z : Page). take p (pagesOf m) ++ z ∷ drop (suc p) (pagesOf m)) (page-fresh m p r hs)) in
         record { count = o .count; none-left = λ q. absurd (nz q); some-left = λ q. t }

@@ -2,7 +2,7 @@
 use Rattle.basics.proofs.Kit.{_≡_, refl, sym, ap, _∙_, true, false, List, [], _∷_, ℕ, _-_, set, set-getD}
 use Rattle.basics.specs.Basics.{if_then_else_}
 use Rattle.model.specs.State.{committing, Held, Page}
-use Rattle.model.specs.Rules.{isAdding, isRemoving, kept, keptLater, asCommitted, withPending, withTuples, fresh}
+use Rattle.model.specs.Rules.{isAdding, isRemoving, commitNow, pendCommit, asCommitted, withPending, withTuples, fresh}
 use Rattle.model.specs.Places.{editAt, committedAt, commitRowOn, commitRow}
 use Rattle.model.proofs.Flat.{edit-one}
 use Rattle.memory_layout.specs.Flat.{flatOf, rowIn, noRow, Becomes, withRows, withEntries}
@@ -13,28 +13,28 @@ use Rattle.engine_pages.proofs.Places.{now-to, now-stay, swap-same, tup
 use Rattle.engine_pages.proofs.Around.{on-swap}
 use Rattle.engine_pages.proofs.Rows.{at-row, row-now, row-dirty}
 
-committed-frozen : (j : ℕ) (q : Page) → q .frozen ≡ true → committedAt j q ≡ withTuples q (editAt keptLater j (q .tuples))
+committed-frozen : (j : ℕ) (q : Page) → q .frozen ≡ true → committedAt j q ≡ withTuples q (editAt pendCommit j (q .tuples))
 unfolding committedAt if_then_else_
 committed-frozen j q e = rw e
 
-committed-now : (j : ℕ) (q : Page) → q .frozen ≡ false → committedAt j q ≡ fresh (q .table) (editAt kept j (q .tuples))
+committed-now : (j : ℕ) (q : Page) → q .frozen ≡ false → committedAt j q ≡ fresh (q .table) (editAt commitNow j (q .tuples))
 unfolding committedAt if_then_else_
 committed-now j q e = rw e
 
-kept-is : (h : Held) → kept h ≡ committedRow h ∷ []
-unfolding kept committedRow
+kept-is : (h : Held) → commitNow h ≡ committedRow h ∷ []
+unfolding commitNow committedRow
 kept-is h = refl
 
-later-adding : (h : Held) → isAdding (h .pending) ≡ true → keptLater h ≡ committedRow h ∷ []
-unfolding keptLater if_then_else_ kept committedRow
+later-adding : (h : Held) → isAdding (h .pending) ≡ true → pendCommit h ≡ committedRow h ∷ []
+unfolding pendCommit if_then_else_ commitNow committedRow
 later-adding h e = rw e
 
-later-removing : (h : Held) → isAdding (h .pending) ≡ false → isRemoving (h .pending) ≡ true → keptLater h ≡ h ∷ []
-unfolding keptLater if_then_else_
+later-removing : (h : Held) → isAdding (h .pending) ≡ false → isRemoving (h .pending) ≡ true → pendCommit h ≡ h ∷ []
+unfolding pendCommit if_then_else_
 later-removing h a e = rw (a, e)
 
-later-noted : (h : Held) → isAdding (h .pending) ≡ false → isRemoving (h .pending) ≡ false → keptLater h ≡ withPending committing h ∷ []
-unfolding keptLater if_then_else_
+later-noted : (h : Held) → isAdding (h .pending) ≡ false → isRemoving (h .pending) ≡ false → pendCommit h ≡ withPending committing h ∷ []
+unfolding pendCommit if_then_else_
 later-noted h a e = rw (a, e)
 
 with-same : (q : Page) → withTuples q (q .tuples) ≡ q
@@ -61,18 +61,18 @@ module _ {m : List ℕ} {p i : ℕ} (g : RowOn m p i) where
   commit-is = sym (at-row g commitRowOn ∙ on-swap (g .there) (commitRowOn j) (committedAt j (pageAt m p) ∷ []) (λ prev qs. refl))
 
   module _ (fz : pageAt m p .frozen ≡ true) where
-    noted : (x : Held) → keptLater (rowIn (flatOf m) i) ≡ x ∷ [] → {m' : List ℕ}
+    noted : (x : Held) → pendCommit (rowIn (flatOf m) i) ≡ x ∷ [] → {m' : List ℕ}
         → PagesNow m m' (swapped p (withTuples (pageAt m p) (set (tuplesAt m p) (i - firstRow m p) x) ∷ []) (pagesOf m))
         → PagesNow m m' (swapped p (committedAt (i - firstRow m p) (pageAt m p) ∷ []) (pagesOf m))
     noted x e t =
         now-to t (ap (λ (z : Page). swapped p (z ∷ []) (pagesOf m))
-        (ap (withTuples (pageAt m p)) (sym (edited keptLater x e)) ∙ sym (committed-frozen j (pageAt m p) fz)))
+        (ap (withTuples (pageAt m p)) (sym (edited pendCommit x e)) ∙ sym (committed-frozen j (pageAt m p) fz)))
 
     pub commit-left : isAdding (rowIn (flatOf m) i .pending) ≡ false → isRemoving (rowIn (flatOf m) i .pending) ≡ true
         → PagesNow m m (swapped p (committedAt (i - firstRow m p) (pageAt m p) ∷ []) (pagesOf m))
     commit-left ea er =
         noted h (later-removing h ea er)
-        (now-to (now-stay m (g .there .held)) (sym (ap (λ (z : List Held). swapped p (withTuples (pageAt m p) z ∷ []) (pagesOf m))
+        (now-to (now-stay m (g .there .has-store)) (sym (ap (λ (z : List Held). swapped p (withTuples (pageAt m p) z ∷ []) (pagesOf m))
         (ap (set hs j) (sym (tuple-is g)) ∙ set-getD hs j noRow) ∙ ap (λ (z : Page). swapped p (z ∷ []) (pagesOf m)) (with-same (pageAt m p)) ∙ swap-same (g .there))))
 
     pub commit-adding : isAdding (rowIn (flatOf m) i .pending) ≡ true → {m' : List ℕ}
@@ -90,4 +90,4 @@ module _ {m : List ℕ} {p i : ℕ} (g : RowOn m p i) where
       → PagesNow m m2 (swapped p (committedAt (i - firstRow m p) (pageAt m p) ∷ []) (pagesOf m))
   commit-now fz u v =
       now-to (row-dirty g (committedRow h) u v) (ap (λ (z : Page). swapped p (z ∷ []) (pagesOf m))
-      (ap (fresh (pageAt m p .table)) (sym (edited kept (committedRow h) (kept-is h))) ∙ sym (committed-now j (pageAt m p) fz)))
+      (ap (fresh (pageAt m p .table)) (sym (edited commitNow (committedRow h) (kept-is h))) ∙ sym (committed-now j (pageAt m p) fz)))

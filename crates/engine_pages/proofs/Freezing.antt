@@ -44,7 +44,7 @@ module _ {m m1 : List ℕ} (p : ℕ) (h : holdsStore m ≡ true) (lt : p < lengt
   ys = drop (suc p) (pagesOf m)
 
   a : There m p
-  a = record { held = h; inside = lt }
+  a = record { has-store = h; inside = lt }
 
   xs-long : length (map freeze (take p (pagesOf m))) ≡ p
   xs-long = length-map (take p ps) freeze ∙ before-long a

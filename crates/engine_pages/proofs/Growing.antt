@@ -4,7 +4,7 @@ use Rattle.basics.proofs.Kit.{getD-set-same, set-at, set-set, arith}
 use Rattle.basics.specs.Basics.{if_then_else_}
 use Rattle.blocks.specs.Tuple.{Tuple}
 use Rattle.model.specs.State.{adding, Held, Page}
-use Rattle.model.specs.Rules.{splitOnce, fresh, calm, grown, entering, withPending, withTuples}
+use Rattle.model.specs.Rules.{splitOnce, fresh, withoutPending, grown, entering, withPending, withTuples}
 use Rattle.memory_bytes.specs.Columns.{insertAt}
 use Rattle.memory_layout.specs.Flat.{Flat, flatOf, entryIn, rowIn, noRow, noEntry, Room, Becomes, withRows, withEntries}
 use Rattle.memory_layout.specs.Views.{headOf}
@@ -31,8 +31,8 @@ unfolding placedOn grown entering if_then_else_
 grown-frozen q x j e = rw e
 
 grown-split : (q : Page) (x : Tuple) (j : ℕ) → q .frozen ≡ false
-    → placedOn x j q ≡ map (fresh (q .table)) (splitOnce (insertAt j (calm x) (q .tuples)))
-unfolding placedOn grown entering calm if_then_else_
+    → placedOn x j q ≡ map (fresh (q .table)) (splitOnce (insertAt j (withoutPending x) (q .tuples)))
+unfolding placedOn grown entering withoutPending if_then_else_
 grown-split q x j e = rw e
 
 pub getD-front : {A : Type 0} (xs : List A) (y : A) (ys : List A) (d : A) → getD (xs ++ y ∷ ys) (length xs) d ≡ y
@@ -40,17 +40,17 @@ getD-front [] y ys d = refl
 getD-front (x ∷ xs) y ys d = getD-front xs y ys d
 
 -- a row with nothing pending
-held-calm : {m : List ℕ} {row : Row} {xs : List ℕ} → NewTuple m row xs → heldBy row xs ≡ calm (tupleBy row xs)
-unfolding calm
-held-calm {m} {row} {xs} n = ap (λ (z : Pending). record { tuple = tupleBy row xs; pending = pendingIs z }) (n .plain)
+held-withoutPending : {m : List ℕ} {row : Row} {xs : List ℕ} → NewTuple m row xs → heldBy row xs ≡ withoutPending (tupleBy row xs)
+unfolding withoutPending
+held-withoutPending {m} {row} {xs} n = ap (λ (z : Pending). record { tuple = tupleBy row xs; pending = pendingIs z }) (n .plain)
 
 module _ {m : List ℕ} {p at : ℕ} {row : Row} {xs : List ℕ} (g : GrowAt m p at row xs) where
   pub grow-there : There m p
-  grow-there = record { held = g .tuple .held; inside = g .inside }
+  grow-there = record { has-store = g .tuple .has-store; inside = g .inside }
 
   pub grow-new : NewRow m at row xs
   grow-new = record {
-    room = holds-room m (g .tuple .held);
+    room = holds-room m (g .tuple .has-store);
     at = omega (arith, g .most, page-end grow-there);
     more = g .tuple .more;
     owner = g .tuple .owner;
@@ -93,14 +93,14 @@ module _ {m : List ℕ} {p at : ℕ} {row : Row} {xs : List ℕ} (g : GrowAt m p
         let w : Becomes m m2 (after h) =
         subst (λ (z : List Held). Becomes m m2 (withEntries (withRows (flatOf m) z) (moreRows p (flatOf m .entries)))) er
         (becomes-then m m1 m2 _ (λ (y : Flat). withRows y (set (y .rows) at (withPending adding (rowIn y at)))) u v) in
-        now-to (now-becomes w (counted-set (flatOf m .entries) p more (counted m (g .tuple .held)) (omega arith))
+        now-to (now-becomes w (counted-set (flatOf m .entries) p more (counted m (g .tuple .has-store)) (omega arith))
         (row-inserted (flatOf m) (full grow-there) p (g .inside) at (g .least) more h (g .most) refl
         ∙ ap (λ (z : Page). take p (pagesOf m) ++ z ∷ drop (suc p) (pagesOf m)) (page-less m p _ _)))
         (ap (λ (z : List Page). swapped p z (pagesOf m)) (sym (grown-frozen (pageAt m p) x j e)))
 
     module _ {m2 : List ℕ} (v : Becomes m1 m2 (withEntries (flatOf m1) (set (flatOf m1 .entries) p (withBlock (entryOf m1 p) 0 false)))) where
       abbrev new : Page
-      new = fresh (pageAt m p .table) (insertAt (at - firstRow m p) (calm (tupleBy row xs)) (tuplesAt m p))
+      new = fresh (pageAt m p .table) (insertAt (at - firstRow m p) (withoutPending (tupleBy row xs)) (tuplesAt m p))
 
       came : PagesNow m m2 (swapped p (new ∷ []) (pagesOf m))
       unfolding swapped
@@ -111,10 +111,10 @@ module _ {m : List ℕ} {p at : ℕ} {row : Row} {xs : List ℕ} (g : GrowAt m p
           set-set (flatOf m .entries) p more _ ∙ ap (λ (y : Entry). set (flatOf m .entries) p (withBlock y 0 false)) (getD-set-same (flatOf m .entries) p more noEntry (g .inside)) in
           now-becomes (becomes-to (withRows (flatOf m) (insertAt at h (flatOf m .rows)))
           (becomes-then m m1 m2 _ (λ (y : Flat). withEntries y (set (y .entries) p (withBlock (entryIn y p) 0 false))) u v) es)
-          (counted-set (flatOf m .entries) p e (counted m (g .tuple .held)) (omega arith))
+          (counted-set (flatOf m .entries) p e (counted m (g .tuple .has-store)) (omega arith))
           (row-inserted (flatOf m) (full grow-there) p (g .inside) at (g .least) e h (g .most) refl
           ∙ ap (λ (z : Page). take p (pagesOf m) ++ z ∷ drop (suc p) (pagesOf m))
-          (page-fresh m p _ _ ∙ ap (λ (z : Held). fresh (pageAt m p .table) (insertAt j z (tuplesAt m p))) (held-calm (g .tuple))))
+          (page-fresh m p _ _ ∙ ap (λ (z : Held). fresh (pageAt m p .table) (insertAt j z (tuplesAt m p))) (held-withoutPending (g .tuple))))
 
       pub grew-there : There m2 p
       grew-there = first-there grow-there new [] came
@@ -140,10 +140,10 @@ module _ {m : List ℕ} {t p : ℕ} {row : Row} {xs : List ℕ} (g : AddAt m t p
   f = flatOf m
 
   add-full : total (flatOf m .entries) ≡ length (flatOf m .rows)
-  add-full = filled m (holds-room m (g .tuple .held))
+  add-full = filled m (holds-room m (g .tuple .has-store))
 
   pub add-space : length (flatOf m .entries) < 2 * flatOf m .head .capacity
-  add-space = omega (arith, counted-length (flatOf m .entries) (counted m (g .tuple .held)), add-full, g .tuple .more)
+  add-space = omega (arith, counted-length (flatOf m .entries) (counted m (g .tuple .has-store)), add-full, g .tuple .more)
 
   module _ {m1 : List ℕ} (u : Becomes m m1 (withEntries (flatOf m) (insertAt p (dirty t 0) (flatOf m .entries)))) where
     pub added-there : p < length (flatOf m1 .entries)
@@ -164,7 +164,7 @@ module _ {m : List ℕ} {t p : ℕ} {row : Row} {xs : List ℕ} (g : AddAt m t p
 
     pub added : {at : ℕ} → at ≡ firstRow m p → {m2 : List ℕ}
         → Becomes m1 m2 (withEntries (withRows (flatOf m1) (insertAt at (heldBy row xs) (flatOf m1 .rows))) (moreRows p (flatOf m1 .entries)))
-        → PagesNow m m2 (take p (pagesOf m) ++ fresh t (calm (tupleBy row xs) ∷ []) ∷ drop p (pagesOf m))
+        → PagesNow m m2 (take p (pagesOf m) ++ fresh t (withoutPending (tupleBy row xs) ∷ []) ∷ drop p (pagesOf m))
     added {at} ea {m2} v =
         let es : List Entry = flatOf m .entries in
         let h : Held = heldBy row xs in
@@ -176,7 +176,7 @@ module _ {m : List ℕ} {t p : ℕ} {row : Row} {xs : List ℕ} (g : AddAt m t p
         ap (λ (y : Entry). set (insertAt p (dirty t 0) es) p (withCount y (y .count + 1))) gd ∙ set-at (take p es) (dirty t 0) (drop p es) (dirty t 1) p lp in
         now-becomes (becomes-to (withRows (flatOf m) (insertAt at h (flatOf m .rows)))
         (becomes-then m m1 m2 _ (λ (y : Flat). withEntries (withRows y (insertAt at h (y .rows))) (moreRows p (y .entries))) u v) eE)
-        (subst (λ (z : ℕ). Counted (take p es ++ dirty t 1 ∷ drop z es)) pz (counted-exchange es (dirty t 1 ∷ []) p 0 (counted m (g .tuple .held)) (omega arith, tt)))
+        (subst (λ (z : ℕ). Counted (take p es ++ dirty t 1 ∷ drop z es)) pz (counted-exchange es (dirty t 1 ∷ []) p 0 (counted m (g .tuple .has-store)) (omega arith, tt)))
         (ap (λ (z : ℕ). nest (insertAt p (dirty t 1) es) (insertAt z h (flatOf m .rows))) ea
         ∙ page-added (flatOf m) add-full p (dirty t 1) h refl
-        ∙ ap (λ (z : Page). take p (pagesOf m) ++ z ∷ drop p (pagesOf m)) (fresh-page t 1 (h ∷ []) ∙ ap (λ (z : Held). fresh t (z ∷ [])) (held-calm (g .tuple))))
+        ∙ ap (λ (z : Page). take p (pagesOf m) ++ z ∷ drop p (pagesOf m)) (fresh-page t 1 (h ∷ []) ∙ ap (λ (z : Held). fresh t (z ∷ [])) (held-withoutPending (g .tuple))))

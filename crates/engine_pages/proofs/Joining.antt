@@ -45,7 +45,7 @@ module _ (p q : Page) where
 
 module _ {m : List ℕ} {p : ℕ} (a : There m p) (lt : p + 1 < length (flatOf m .entries)) where
   pub next-at : There m (p + 1)
-  next-at = record { held = a .held; inside = lt }
+  next-at = record { has-store = a .has-store; inside = lt }
 
   z2 : p + 1 + 1 ≡ p + 2
   z2 = omega arith
@@ -112,7 +112,7 @@ module _ {m : List ℕ} {p : ℕ} (a : There m p) (lt : p + 1 < length (flatOf m
   joined-now b =
       let t : ℕ = entryOf m p .table in
       let c : ℕ = entryOf m p .count + entryOf m (p + 1) .count in
-      now-becomes b (counted-exchange (flatOf m .entries) (dirty t c ∷ []) p 2 (counted m (a .held)) (omega (arith, has-row a), tt))
+      now-becomes b (counted-exchange (flatOf m .entries) (dirty t c ∷ []) p 2 (counted m (a .has-store)) (omega (arith, has-row a), tt))
       (pages-joined (flatOf m) (full a) p (dirty t c) lt refl
       ∙ ap (λ (z : Page). take p (pagesOf m) ++ z ∷ drop (p + 2) (pagesOf m)) (page-fresh m p c _))
 
@@ -125,7 +125,7 @@ tries-done {m} {m'} {p} a r t =
     by r (λ e. t .done e (pageAt m p ∷ []))
     (λ e. let d = t .not-done e in
     subst (λ (z : List ℕ). PagesNow m z (settledAt p (pagesOf m) (pageAt m p ∷ []))) (sym (d .0))
-    (now-to (now-stay m (a .held)) (sym (d .1 (pageAt m p ∷ []) ∙ swap-same a))))
+    (now-to (now-stay m (a .has-store)) (sym (d .1 (pageAt m p ∷ []) ∙ swap-same a))))
 
 module _ {m : List ℕ} {p : ℕ} (a : There m p) (t : ℕ) (hs : List Held) (rest : List Page) where
   -- nothing is left
@@ -171,7 +171,7 @@ module _ {m : List ℕ} {p : ℕ} (a : There m p) (ne : p ≡ 0 → ⊥) where
   suc-is = omega (arith, pos-of p ne)
 
   pub prev-at : There m (p - 1)
-  prev-at = record { held = a .held; inside = omega (arith, a .inside, pos-of p ne) }
+  prev-at = record { has-store = a .has-store; inside = omega (arith, a .inside, pos-of p ne) }
 
   pub prev-inside : p - 1 + 1 < length (flatOf m .entries)
   prev-inside = omega (arith, a .inside, pos-of p ne)

@@ -21,7 +21,7 @@ module _ {m m' : List ℕ} {ps : List Page} (t : PagesNow m m' ps) where
   sound = in-sound m' (withPages (storeOf (flatOf m)) ps) (t .store)
 
   pub now-held : holdsStore m' ≡ true
-  now-held = sound .held
+  now-held = sound .has-store
 
   pub now-pages : pagesOf m' ≡ ps
   unfolding withPages changed storeOf
@@ -74,7 +74,7 @@ still-there p b h = omega (arith, ap (λ (x : Flat). length (x .entries)) (b .fl
 
 module _ {m : List ℕ} {p : ℕ} (a : There m p) where
   pub room : Room m
-  room = holds-room m (a .held)
+  room = holds-room m (a .has-store)
 
   pub full : total (flatOf m .entries) ≡ length (flatOf m .rows)
   full = filled m room
@@ -104,7 +104,7 @@ module _ {m : List ℕ} {p : ℕ} (a : There m p) where
   ends-at = start-next (flatOf m) p (a .inside)
 
   pub has-row : 1 ≤ entryOf m p .count
-  has-row = counted-at (flatOf m .entries) p _ (counted m (a .held)) (a .inside)
+  has-row = counted-at (flatOf m .entries) p _ (counted m (a .has-store)) (a .inside)
 
   -- its tuples are its rows
   pub tuples-are : {s e : ℕ} → s ≡ firstRow m p → e ≡ firstRow m (p + 1) → rowsFrom m s e ≡ tuplesAt m p
@@ -118,7 +118,7 @@ module _ {m : List ℕ} {p : ℕ} (a : There m p) where
 
   -- a page with two rows leaves room for one page more
   pub few : 1 < entryOf m p .count → length (flatOf m .entries) < length (flatOf m .rows)
-  few h = omega (arith, full, counted-more (flatOf m .entries) p (counted m (a .held)) (a .inside) h)
+  few h = omega (arith, full, counted-more (flatOf m .entries) p (counted m (a .has-store)) (a .inside) h)
 
   -- and the memory has room for one more
   pub spacious : length (flatOf m .entries) < length (flatOf m .rows) → length (flatOf m .entries) < 2 * flatOf m .head .capacity
@@ -162,7 +162,7 @@ module _ (m : List ℕ) (h : holdsStore m ≡ true) (xs : List Page) (q : Page) 
   pub there-here : There m p
   there-here =
       let l : length (pagesOf m) ≡ length xs + suc (length ys) = ap length e ∙ length-append xs (q ∷ ys) in
-      record { held = h; inside = omega (arith, pages-count (flatOf m)) }
+      record { has-store = h; inside = omega (arith, pages-count (flatOf m)) }
 
   pub page-here : pageAt m p ≡ q
   page-here =

@@ -4,7 +4,7 @@ use Rattle.basics.proofs.Kit.{drop, take-append-drop, lt-ltb, le-ltb, eq-eqb, n
 use Rattle.basics.specs.Basics.{if_then_else_}
 use Rattle.blocks.specs.Tuple.{Tuple}
 use Rattle.model.specs.State.{Held, Page}
-use Rattle.model.specs.Rules.{after, grown, entering, fresh, calm, placeAfter, placeFront, place}
+use Rattle.model.specs.Rules.{after, grown, entering, fresh, withoutPending, placeAfter, placeFront, place}
 use Rattle.memory_bytes.specs.Columns.{insertAt, lastIndex}
 use Rattle.memory_pages.specs.Spots.{keyUpTo}
 use Rattle.engine_pages.specs.Pages.{swapped}
@@ -127,7 +127,7 @@ module _ (t : ℕ) (x : Tuple) (q : Page) (qs : List Page) where
       let le : t ≤ q .table = omega arith in
       simp (le-ltb (q .table) t le, eq-eqb (q .table) t e)
 
-  front-higher : t < q .table → placeFront t x (q ∷ qs) ≡ fresh t (calm x ∷ []) ∷ (q ∷ qs)
+  front-higher : t < q .table → placeFront t x (q ∷ qs) ≡ fresh t (withoutPending x ∷ []) ∷ (q ∷ qs)
   unfolding placeFront if_then_else_
   front-higher h =
       let le : t ≤ q .table = omega arith in
@@ -145,13 +145,13 @@ module _ (t : ℕ) (x : Tuple) (ps : List Page) (i : ℕ) (q : Page) (ed : drop 
   unfolding swapped
   front-on h = inv ∙ ap (λ (z : List Page). take i ps ++ z) (ap (placeFront t x) ed ∙ front-same t x q (drop (suc i) ps) h)
 
-  pub front-new : t < q .table → placeFront t x ps ≡ take i ps ++ fresh t (calm x ∷ []) ∷ drop i ps
+  pub front-new : t < q .table → placeFront t x ps ≡ take i ps ++ fresh t (withoutPending x ∷ []) ∷ drop i ps
   front-new h =
       inv ∙ ap (λ (z : List Page). take i ps ++ z)
-      (ap (placeFront t x) ed ∙ front-higher t x q (drop (suc i) ps) h ∙ ap (λ (z : List Page). fresh t (calm x ∷ []) ∷ z) (sym ed))
+      (ap (placeFront t x) ed ∙ front-higher t x q (drop (suc i) ps) h ∙ ap (λ (z : List Page). fresh t (withoutPending x ∷ []) ∷ z) (sym ed))
 
 pub front-last : (t : ℕ) (x : Tuple) (ps : List Page) (i : ℕ) → drop i ps ≡ [] → placeFront t x ps ≡ take i ps ++ placeFront t x (drop i ps)
-    → placeFront t x ps ≡ take i ps ++ fresh t (calm x ∷ []) ∷ drop i ps
+    → placeFront t x ps ≡ take i ps ++ fresh t (withoutPending x ∷ []) ∷ drop i ps
 unfolding placeFront
 front-last t x ps i e inv =
-    inv ∙ ap (λ (z : List Page). take i ps ++ placeFront t x z) e ∙ ap (λ (z : List Page). take i ps ++ fresh t (calm x ∷ []) ∷ z) (sym e)
+    inv ∙ ap (λ (z : List Page). take i ps ++ placeFront t x z) e ∙ ap (λ (z : List Page). take i ps ++ fresh t (withoutPending x ∷ []) ∷ z) (sym e)

@@ -3,8 +3,8 @@ use Rattle.basics.proofs.Kit.{_≡_, refl, sym, ap, _∙_, subst, Bool, true, f
 use Rattle.basics.proofs.Kit.{getD-set-same, set-set, take-set-le, drop-set-lt, arith}
 use Rattle.basics.specs.Basics.{if_then_else_, isEmpty}
 use Rattle.model.specs.State.{removing, Held, Page}
-use Rattle.model.specs.Rules.{isAdding, gone, goneLater, withPending, withTuples, fresh, settle}
-use Rattle.model.specs.Places.{editAt, takenAt, removeRowOn, removeRow}
+use Rattle.model.specs.Rules.{isAdding, removeNow, pendRemove, withPending, withTuples, fresh, settle}
+use Rattle.model.specs.Places.{editAt, pendRemoveAt, removeRowOn, removeRow}
 use Rattle.model.proofs.Flat.{edit-none, edit-one, taken-is}
 use Rattle.memory_bytes.specs.Columns.{removeAt}
 use Rattle.memory_layout.specs.Flat.{Flat, flatOf, entryIn, rowIn, noRow, noEntry, Room, Becomes, withRows, withEntries}
@@ -30,23 +30,23 @@ more (suc (suc k)) l h = omega arith
 -- ---- tuple j of a frozen page
 
 module _ (j : ℕ) (hs : List Held) (lt : j < length hs) where
-  later-none : isAdding (getD hs j noRow .pending) ≡ true → editAt goneLater j hs ≡ removeAt j hs
-  unfolding goneLater if_then_else_
-  later-none e = edit-none goneLater noRow hs j lt (rw e)
+  later-none : isAdding (getD hs j noRow .pending) ≡ true → editAt pendRemove j hs ≡ removeAt j hs
+  unfolding pendRemove if_then_else_
+  later-none e = edit-none pendRemove noRow hs j lt (rw e)
 
   -- the last one stays
-  taken-last : isAdding (getD hs j noRow .pending) ≡ true → length hs ≡ 1 → takenAt j hs ≡ hs
-  unfolding takenAt if_then_else_
+  taken-last : isAdding (getD hs j noRow .pending) ≡ true → length hs ≡ 1 → pendRemoveAt j hs ≡ hs
+  unfolding pendRemoveAt if_then_else_
   taken-last e l =
       ap (λ (z : List Held). if isEmpty z then hs else z) (later-none e)
       ∙ ap (λ (b : Bool). if b then hs else removeAt j hs) (empty-none (removeAt j hs) (length-remove j hs lt ∙ omega arith))
 
-  taken-away : isAdding (getD hs j noRow .pending) ≡ true → 1 < length hs → takenAt j hs ≡ removeAt j hs
+  taken-away : isAdding (getD hs j noRow .pending) ≡ true → 1 < length hs → pendRemoveAt j hs ≡ removeAt j hs
   taken-away e l = taken-is j hs (removeAt j hs) (later-none e) (omega (arith, length-remove j hs lt))
 
-  taken-noted : (x : Held) → isAdding (getD hs j noRow .pending) ≡ false → x ≡ withPending removing (getD hs j noRow) → takenAt j hs ≡ set hs j x
-  unfolding goneLater if_then_else_
-  taken-noted x e ex = taken-is j hs (set hs j x) (edit-one goneLater noRow x hs j (rw (e, ex) refl)) (omega (arith, length-set hs j x))
+  taken-noted : (x : Held) → isAdding (getD hs j noRow .pending) ≡ false → x ≡ withPending removing (getD hs j noRow) → pendRemoveAt j hs ≡ set hs j x
+  unfolding pendRemove if_then_else_
+  taken-noted x e ex = taken-is j hs (set hs j x) (edit-one pendRemove noRow x hs j (rw (e, ex) refl)) (omega (arith, length-set hs j x))
 
 -- ---- entries
 
@@ -91,9 +91,9 @@ module _ {m : List ℕ} {p i : ℕ} (g : RowOn m p i) where
   with-same = refl
 
   abbrev noted : List Page
-  noted = swapped p (withTuples (pageAt m p) (takenAt (i - firstRow m p) (tuplesAt m p)) ∷ []) (pagesOf m)
+  noted = swapped p (withTuples (pageAt m p) (pendRemoveAt (i - firstRow m p) (tuplesAt m p)) ∷ []) (pagesOf m)
 
-  later : (left : List Held) → takenAt (i - firstRow m p) (tuplesAt m p) ≡ left → {m' : List ℕ}
+  later : (left : List Held) → pendRemoveAt (i - firstRow m p) (tuplesAt m p) ≡ left → {m' : List ℕ}
       → PagesNow m m' (swapped p (withTuples (pageAt m p) left ∷ []) (pagesOf m)) → PagesNow m m' noted
   later left e u = now-to u (ap (λ (z : List Held). swapped p (withTuples (pageAt m p) z ∷ []) (pagesOf m)) (sym e))
 
@@ -107,7 +107,7 @@ module _ {m : List ℕ} {p i : ℕ} (g : RowOn m p i) where
     pub later-last : n ≡ 1 → PagesNow m m noted
     later-last l =
         later hs (taken-last j hs (row-inside g) (adding-is eb ∙ h) (many a ∙ sym en ∙ l))
-        (now-to (now-stay m (a .held)) (sym (ap (λ (z : Page). swapped p (z ∷ []) (pagesOf m)) with-same ∙ swap-same a)))
+        (now-to (now-stay m (a .has-store)) (sym (ap (λ (z : Page). swapped p (z ∷ []) (pagesOf m)) with-same ∙ swap-same a)))
 
     pub later-away : (n ≡ 1 → ⊥) → {m' : List ℕ} → Becomes m m' (withEntries (withRows (flatOf m) (removeAt i (flatOf m .rows))) (fewerRows p (flatOf m .entries)))
         → PagesNow m m' noted
@@ -116,7 +116,7 @@ module _ {m : List ℕ} {p i : ℕ} (g : RowOn m p i) where
         let k : 1 < entryOf m p .count = more _ (has-row a) (λ z. l (en ∙ z)) in
         let e : Entry = withCount (entryOf m p) (entryOf m p .count - 1) in
         later (removeAt j hs) (taken-away j hs (row-inside g) (adding-is eb ∙ h) (omega (arith, many a)))
-        (now-becomes u (counted-set (flatOf m .entries) p e (counted m (a .held)) (omega arith))
+        (now-becomes u (counted-set (flatOf m .entries) p e (counted m (a .has-store)) (omega arith))
         (row-removed (flatOf m) (full a) p (a .inside) i (g .least) (g .most) e (omega arith)
         ∙ ap (λ (z : Page). take p (pagesOf m) ++ z ∷ drop (suc p) (pagesOf m)) (page-less m p _ _)))
 
@@ -150,7 +150,7 @@ module _ {m : List ℕ} {p i : ℕ} (g : RowOn m p i) where
     unfolding swapped
     now-none l {m2} v =
         now-to (now-becomes (becomes-then m m1 m2 _ (λ (y : Flat). withEntries y (removeAt p (y .entries))) u v)
-        (subst Counted (sym (remove-set (flatOf m .entries) p less)) (counted-exchange (flatOf m .entries) [] p 1 (counted m (a .held)) tt))
+        (subst Counted (sym (remove-set (flatOf m .entries) p less)) (counted-exchange (flatOf m .entries) [] p 1 (counted m (a .has-store)) tt))
         (ap (λ (z : List Entry). nest z (removeAt i (flatOf m .rows))) (remove-set (flatOf m .entries) p less)
         ∙ row-dropped (flatOf m) (full a) p (a .inside) i (g .least) (g .most) l))
         (settled-none a t left (new ∷ []) (left-long ∙ omega arith))
@@ -164,7 +164,7 @@ module _ {m : List ℕ} {p i : ℕ} (g : RowOn m p i) where
           set-set (flatOf m .entries) p less _ ∙ ap (λ (y : Entry). set (flatOf m .entries) p (withBlock y 0 false)) (getD-set-same (flatOf m .entries) p less noEntry (a .inside)) in
           now-becomes (becomes-to (withRows (flatOf m) (removeAt i (flatOf m .rows)))
           (becomes-then m m1 m2 _ (λ (y : Flat). withEntries y (set (y .entries) p (withBlock (entryIn y p) 0 false))) u v) es)
-          (counted-set (flatOf m .entries) p e (counted m (a .held)) (omega arith))
+          (counted-set (flatOf m .entries) p e (counted m (a .has-store)) (omega arith))
           (row-removed (flatOf m) (full a) p (a .inside) i (g .least) (g .most) e (omega arith)
           ∙ ap (λ (z : Page). take p (pagesOf m) ++ z ∷ drop (suc p) (pagesOf m)) (page-fresh m p _ _))
 
@@ -183,10 +183,10 @@ module _ {m : List ℕ} {p i : ℕ} (g : RowOn m p i) where
   pub removed-later : pageAt m p .frozen ≡ true → noted ≡ removeRow i (pagesOf m)
   unfolding removeRow removeRowOn if_then_else_
   removed-later e =
-      sym (at-row g removeRowOn ∙ on-swap a (removeRowOn j) (withTuples (pageAt m p) (takenAt j hs) ∷ []) (λ prev qs. rw e refl))
+      sym (at-row g removeRowOn ∙ on-swap a (removeRowOn j) (withTuples (pageAt m p) (pendRemoveAt j hs) ∷ []) (λ prev qs. rw e refl))
 
   pub removed-now : pageAt m p .frozen ≡ false → settledBy p (new ∷ []) new (pagesOf m) ≡ removeRow i (pagesOf m)
-  unfolding removeRow removeRowOn settledBy if_then_else_ gone
+  unfolding removeRow removeRowOn settledBy if_then_else_ removeNow
   removed-now e =
-      let x : editAt gone j hs ≡ removeAt j hs = edit-none gone noRow hs j (row-inside g) refl in
+      let x : editAt removeNow j hs ≡ removeAt j hs = edit-none removeNow noRow hs j (row-inside g) refl in
       sym (at-row g removeRowOn ∙ on-same a (removeRowOn j) (λ prev r qs. settle (new ∷ []) prev new qs) (λ prev qs. rw (e, x) refl))

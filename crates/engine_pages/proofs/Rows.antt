@@ -50,7 +50,7 @@ module _ {m m' : List ℕ} {p : ℕ} (a : There m p) where
   unfolding swapped
   page-now b z u =
       let e : Entry = withBlock (entryOf m p) b z in
-      now-becomes u (counted-set (flatOf m .entries) p e (counted m (a .held)) (has-row a)) (entry-set (flatOf m) (full a) p (a .inside) e refl)
+      now-becomes u (counted-set (flatOf m .entries) p e (counted m (a .has-store)) (has-row a)) (entry-set (flatOf m) (full a) p (a .inside) e refl)
 
 -- ---- a row changed
 
@@ -70,7 +70,7 @@ module _ {m : List ℕ} {p i : ℕ} (g : RowOn m p i) (x : Held) {m1 : List ℕ}
   unfolding swapped
   row-now =
       let a : There m p = g .there in
-      now-becomes u (counted m (a .held))
+      now-becomes u (counted m (a .has-store))
       (ap (λ (z : List Entry). nest z (set (flatOf m .rows) i x)) (sym (set-getD (flatOf m .entries) p noEntry))
       ∙ row-changed (flatOf m) (full a) p (a .inside) i (g .least) (g .most) (entryOf m p) x refl
       ∙ ap (λ (z : Page). take p (pagesOf m) ++ z ∷ drop (suc p) (pagesOf m)) (page-with m p _))
@@ -83,6 +83,6 @@ module _ {m : List ℕ} {p i : ℕ} (g : RowOn m p i) (x : Held) {m1 : List ℕ}
       let a : There m p = g .there in
       let e : Entry = withBlock (entryOf m p) 0 false in
       now-becomes (becomes-then m m1 m2 _ (λ (y : Flat). withEntries y (set (y .entries) p (withBlock (entryIn y p) 0 false))) u v)
-      (counted-set (flatOf m .entries) p e (counted m (a .held)) (has-row a))
+      (counted-set (flatOf m .entries) p e (counted m (a .has-store)) (has-row a))
       (row-changed (flatOf m) (full a) p (a .inside) i (g .least) (g .most) e x refl
       ∙ ap (λ (z : Page). take p (pagesOf m) ++ z ∷ drop (suc p) (pagesOf m)) (page-fresh m p _ _))

@@ -45,7 +45,7 @@ module _ {m : List ℕ} {p : ℕ} (a : There m p) {s e w : ℕ} (es : s ≡ firs
   halved-whole d h =
       let f : fits (tuplesAt m p) ≡ true = le-leb (sum heldSize (tuplesAt m p)) 504 (omega (arith, size-is)) in
       record {
-        pages = now-to (now-stay m (a .held))
+        pages = now-to (now-stay m (a .has-store))
             (sym (ap (λ (z : List Page). swapped p z (pagesOf m)) (once-whole (pageAt m p .table) (tuplesAt m p) f ∙ ap (λ (z : Page). z ∷ []) (sym d)) ∙ swap-same a));
         whole = λ z. f;
         parts = λ z. absurd (z refl);
@@ -73,7 +73,7 @@ module _ {m : List ℕ} {p : ℕ} (a : There m p) {s e w : ℕ} (es : s ≡ firs
         let l = between .0 in
         let l1 = between .1 in
         record {
-          pages = now-becomes b (counted-exchange (flatOf m .entries) (dirty t k ∷ dirty t (c - k) ∷ []) p 1 (counted m (a .held)) (l, (omega arith, tt)))
+          pages = now-becomes b (counted-exchange (flatOf m .entries) (dirty t k ∷ dirty t (c - k) ∷ []) p 1 (counted m (a .has-store)) (l, (omega arith, tt)))
               (page-split (flatOf m) (full a) p (a .inside) (dirty t k) (dirty t (c - k)) (omega arith)
               ∙ ap (λ (z : List Page). swapped p z (pagesOf m))
               (ap (λ (x : ℕ). fresh x (take k (tuplesAt m p)) ∷ fresh x (drop k (tuplesAt m p)) ∷ []) (sym (page-table a))

@@ -4,7 +4,7 @@ use Rattle.basics.proofs.Kit.{length-drop, take-add, getD-drop, length-take-le,
 use Rattle.basics.proofs.Facts.{by, lie}
 use Rattle.blocks.specs.Tuple.{Tuple}
 use Rattle.model.specs.State.{Held, Page}
-use Rattle.model.specs.Rules.{placeAfter, placeFront, place, fresh, calm}
+use Rattle.model.specs.Rules.{placeAfter, placeFront, place, fresh, withoutPending}
 use Rattle.memory_bytes.specs.Columns.{lastIndex}
 use Rattle.memory_bytes.proofs.Columns.{lt-or-ge}
 use Rattle.memory_bytes.proofs.Found.{last-most, last-at, last-behind}
@@ -82,7 +82,7 @@ module _ (f : Flat) (full : total (f .entries) ≡ length (f .rows)) (t k : ℕ)
 
     -- ---- a table without pages
 
-    pub place-new : a ≡ b → place t x (pagesIn f) ≡ take a (pagesIn f) ++ fresh t (calm x ∷ []) ∷ drop a (pagesIn f)
+    pub place-new : a ≡ b → place t x (pagesIn f) ≡ take a (pagesIn f) ++ fresh t (withoutPending x ∷ []) ∷ drop a (pagesIn f)
     place-new e =
         let n : placeAfter t x (pagesIn f) ≡ none =
         none-from (length (f .entries)) 0 (omega arith) (λ q l h z. let w = from-to q h z in let w0 = w .0 in let w1 = w .1 in absurd (omega arith)) in
@@ -191,7 +191,7 @@ not-same a b l h = ⊎-elim (λ z. z) (λ z. absurd (h (omega arith))) (lt-or-ge
 
 module _ {m : List ℕ} {t at : ℕ} {r : Row} {xs : List ℕ} (g : PlaceAt m t at r xs) {a b : ℕ} (fa : TableFrom (flatOf m) t a) (fb : TableFrom (flatOf m) (t + 1) b) where
   pub place-room : Room m
-  place-room = holds-room m (g .tuple .held)
+  place-room = holds-room m (g .tuple .has-store)
 
   abbrev x : Tuple
   x = tupleBy r xs
@@ -202,7 +202,7 @@ module _ {m : List ℕ} {t at : ℕ} {r : Row} {xs : List ℕ} (g : PlaceAt m t 
     between = record { table = g .table; most = fa .most; below = λ j l. omega (arith, fa .below j l); above = fa .above };
   }
 
-  pub placed-new : a ≡ b → take a (pagesOf m) ++ fresh t (calm (tupleBy r xs) ∷ []) ∷ drop a (pagesOf m) ≡ place t (tupleBy r xs) (pagesOf m)
+  pub placed-new : a ≡ b → take a (pagesOf m) ++ fresh t (withoutPending (tupleBy r xs) ∷ []) ∷ drop a (pagesOf m) ≡ place t (tupleBy r xs) (pagesOf m)
   placed-new e = sym (place-new (flatOf m) (filled m place-room) t (r .key) x refl fa fb e)
 
   module _ (ne : a ≡ b → ⊥) where

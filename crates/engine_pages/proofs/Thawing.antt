@@ -18,7 +18,7 @@ use Rattle.engine_pages.proofs.Around.{on-swap, on-same, around-first}
 use Rattle.engine_pages.proofs.Rows.{page-now}
 use Rattle.engine_pages.proofs.Splitting.{dirty-fresh}
 use Rattle.engine_pages.proofs.Joining.{settled-none, settled-by}
-use Rattle.engine_pages.proofs.Applying.{applied-ripened}
+use Rattle.engine_pages.proofs.Applying.{applied-live}
 
 -- ---- the first frozen page, by the entries
 
@@ -41,7 +41,7 @@ thaw-changed : (b : ℕ) (prev : Option Page) (q : Page) (qs : List Page) → an
     → thawOn b prev q qs ≡ settle (map (fresh (q .table)) (splitAll (appliedAll (q .tuples)))) prev (fresh (q .table) (appliedAll (q .tuples))) qs
 unfolding thawOn if_then_else_
 thaw-changed b prev q qs e =
-    rw e (ap (λ (hs : List Held). settle (map (fresh (q .table)) (splitAll hs)) prev (fresh (q .table) hs) qs) (sym (applied-ripened (q .tuples))))
+    rw e (ap (λ (hs : List Held). settle (map (fresh (q .table)) (splitAll hs)) prev (fresh (q .table) hs) qs) (sym (applied-live (q .tuples))))
 
 module _ {m : List ℕ} {p : ℕ} (first : FirstFrozen m p) (b : ℕ) where
   abbrev a : There m p

@@ -52,7 +52,7 @@ pub record Span (m : List ℕ) (s e : ℕ) : Type 0 where
 
 -- the memory holds a store, and page p is there
 pub record There (m : List ℕ) (p : ℕ) : Type 0 where
-  pub held : holdsStore m ≡ true
+  pub has-store : holdsStore m ≡ true
   pub inside : p < length (flatOf m .entries)
 
 -- row i is on page p

@@ -1,4 +1,4 @@
--- Pending operations that are applied.
+-- Pending operations that are applyPending.
 use Prim.Native.Nat.{ℕ, _+_, _-_}
 use mathlib.Core.Path.{_≡_}
 use mathlib.Core.Bool.{Bool}
@@ -6,7 +6,7 @@ use mathlib.Core.List.{List, [], _∷_, _++_}
 use lib.ListN.{length, take, drop, set}
 use Rattle.basics.specs.Basics.{if_then_else_}
 use Rattle.model.specs.State.{Held}
-use Rattle.model.specs.Rules.{isPending, isRemoving, calm, ripe, fresh, isFrozen}
+use Rattle.model.specs.Rules.{isPending, isRemoving, withoutPending, applied, fresh, isFrozen}
 use Rattle.memory_bytes.specs.Columns.{firstIndex}
 use Rattle.memory_layout.specs.Flat.{flatOf, rowIn, Becomes, withRows, withEntries}
 use Rattle.memory_pages.specs.Pages.{withCount}
@@ -17,28 +17,28 @@ abbrev pub waits : Held → Bool
 waits h = isPending (h .pending)
 
 -- what becomes of a tuple: one pending removal goes, another stays with its operation done
-unfoldable pub applied : Held → List Held
-applied h = if isRemoving (h .pending) then [] else calm (ripe h) ∷ []
+unfoldable pub applyPending : Held → List Held
+applyPending h = if isRemoving (h .pending) then [] else withoutPending (applied h) ∷ []
 
 -- what becomes of tuples, one after the other
 unfoldable pub appliedAll : List Held → List Held
 appliedAll [] = []
-appliedAll (h ∷ hs) = applied h ++ appliedAll hs
+appliedAll (h ∷ hs) = applyPending h ++ appliedAll hs
 
--- row i, on page p, is applied, and r rows are left of it
+-- row i, on page p, is applyPending, and r rows are left of it
 pub record AppliesOne (m m' : List ℕ) (p i r : ℕ) : Type 0 where
-  pub count : r ≡ length (applied (rowIn (flatOf m) i))
-  pub becomes : Becomes m m' (withEntries (withRows (flatOf m) (take i (flatOf m .rows) ++ (applied (rowIn (flatOf m) i) ++ drop (i + 1) (flatOf m .rows))))
+  pub count : r ≡ length (applyPending (rowIn (flatOf m) i))
+  pub becomes : Becomes m m' (withEntries (withRows (flatOf m) (take i (flatOf m .rows) ++ (applyPending (rowIn (flatOf m) i) ++ drop (i + 1) (flatOf m .rows))))
       (set (flatOf m .entries) p (withCount (entryOf m p) (entryOf m p .count - 1 + r))))
 
--- the rows of page p are applied, and r are left, perhaps none
+-- the rows of page p are applyPending, and r are left, perhaps none
 pub record Applies (m m' : List ℕ) (p r : ℕ) : Type 0 where
   pub count : r ≡ length (appliedAll (tuplesAt m p))
   pub becomes : Becomes m m' (withEntries (withRows (flatOf m)
       (take (firstRow m p) (flatOf m .rows) ++ (appliedAll (tuplesAt m p) ++ drop (firstRow m p + entryOf m p .count) (flatOf m .rows))))
       (set (flatOf m .entries) p (withCount (entryOf m p) r)))
 
--- the pending operations of page p are applied, and r tuples are left; an empty page is dropped
+-- the pending operations of page p are applyPending, and r tuples are left; an empty page is dropped
 pub record Applied (m m' : List ℕ) (p r : ℕ) : Type 0 where
   pub count : r ≡ length (appliedAll (tuplesAt m p))
   pub none-left : r ≡ 0 → PagesNow m m' (swapped p [] (pagesOf m))

@@ -28,7 +28,7 @@ placedOn x j q = grown q (insertAt j (entering q x) (q .tuples))
 
 -- the memory holds a store and has room for the row, of which nothing is pending
 pub record NewTuple (m : List ℕ) (r : Row) (xs : List ℕ) : Type 0 where
-  pub held : holdsStore m ≡ true
+  pub has-store : holdsStore m ≡ true
   pub more : length (flatOf m .rows) < flatOf m .head .capacity
   pub plain : r .pending ≡ Nothing
   pub owner : RowFits r

@@ -11,8 +11,8 @@ ghost use lib.ListN.{length, take, drop};
 ghost use lib.Dec.{leb};
 ghost use Rattle.basics.specs.Basics.{sum, any};
 ghost use Rattle.blocks.specs.Limits.{joinSum};
-ghost use Rattle.model.specs.Rules.{heldSize, lead, fresh, withTuples, joins, isAdding, isCommitting, isRemoving, splitAll, freeze, calm, ripe, thaw, place};
-ghost use Rattle.model.specs.Places.{takenAt, removeRow, committedAt, commitRow};
+ghost use Rattle.model.specs.Rules.{heldSize, lead, fresh, withTuples, joins, isAdding, isCommitting, isRemoving, splitAll, freeze, withoutPending, applied, thaw, place};
+ghost use Rattle.model.specs.Places.{pendRemoveAt, removeRow, committedAt, commitRow};
 ghost use Rattle.memory_layout.specs.Flat.{flatOf, rowIn, Room, Becomes};
 ghost use Rattle.memory_rows.specs.Rows.{withRow};
 ghost use Rattle.memory_pages.specs.Pages.{MayLose};
@@ -281,7 +281,7 @@ fn count_at(m: &[u8], p: usize) -> usize
 // On a frozen page: a pending add is taken away unless it is the last tuple, another becomes a pending remove.
 fn remove_later(m: &mut [u8], p: usize, i: usize)
     requires { ⌜ RowOn (now m) p i ⌝ }
-    ensures { λ _. ⌜ PagesNow (now (m .entry)) (now (m .exit)) (swapped p (withTuples (pageAt (now (m .entry)) p) (takenAt (i - firstRow (now (m .entry)) p) (tuplesAt (now (m .entry)) p)) ∷ []) (pagesOf (now (m .entry)))) ⌝ }
+    ensures { λ _. ⌜ PagesNow (now (m .entry)) (now (m .exit)) (swapped p (withTuples (pageAt (now (m .entry)) p) (pendRemoveAt (i - firstRow (now (m .entry)) p) (tuplesAt (now (m .entry)) p)) ∷ []) (pagesOf (now (m .entry)))) ⌝ }
 {
     if !is_adding(m, i) {
         memory_rows::set_pending(m, i, Pending::Removing);
@@ -351,7 +351,7 @@ pub fn freeze(m: &mut [u8])
 // The pending operation of row i, which is no removal, is applied.
 fn apply_kept(m: &mut [u8], i: usize)
     requires { ⌜ Room (now m) × (i < length (flatOf (now m) .rows)) ⌝ }
-    ensures { λ _. ⌜ Becomes (now (m .entry)) (now (m .exit)) (withRow (flatOf (now (m .entry))) i (calm (ripe (rowIn (flatOf (now (m .entry))) i)))) ⌝ }
+    ensures { λ _. ⌜ Becomes (now (m .entry)) (now (m .exit)) (withRow (flatOf (now (m .entry))) i (withoutPending (applied (rowIn (flatOf (now (m .entry))) i)))) ⌝ }
 {
     if is_committing(m, i) {
         memory_rows::commit_row(m, i);
@@ -443,7 +443,7 @@ fn grow(m: &mut [u8], p: usize, at: usize, row: Row, payload: &[u8])
 // A row goes on a new page of the table before page p.
 fn add_page(m: &mut [u8], table: u8, p: usize, row: Row, payload: &[u8])
     requires { ⌜ AddAt (now m) table p row (now payload) ⌝ }
-    ensures { λ _. ⌜ PagesNow (now (m .entry)) (now (m .exit)) (take p (pagesOf (now (m .entry))) ++ fresh table (calm (tupleBy row (now (payload .entry))) ∷ []) ∷ drop p (pagesOf (now (m .entry)))) ⌝ }
+    ensures { λ _. ⌜ PagesNow (now (m .entry)) (now (m .exit)) (take p (pagesOf (now (m .entry))) ++ fresh table (withoutPending (tupleBy row (now (payload .entry))) ∷ []) ∷ drop p (pagesOf (now (m .entry)))) ⌝ }
 {
     let at = memory_pages::start_of(m, p);
     memory_pages::insert_page(m, p, table);

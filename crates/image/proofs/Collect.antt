@@ -13,7 +13,7 @@ use Rattle.blocks.specs.declared.Header.{Header}
 use Rattle.rows.specs.Rows.{Row, rowsOf, markOk, rowsOk}
 use Rattle.rows.specs.Columns.{bare, tab, rowsIn, columnsOk}
 use Rattle.basics.proofs.Ands.{and-yes, and-no, and-assoc}
-use Rattle.rows.proofs.Turns.{drop-turn, drop-end}
+use Rattle.rows.proofs.Iterations.{drop-turn, drop-end}
 use Rattle.rows.proofs.Bare.{columns-bare, rows-tests}
 use Rattle.one_page.specs.Page.{goodPage}
 use Rattle.one_page.specs.declared.GoodPage.{GoodPage}

@@ -14,7 +14,7 @@ use Rattle.reader.proofs.Answering.{OneOfThese}
 use Rattle.blocks.proofs.Laws.{decode-in-range, decode-entries}
 use Rattle.blocks.proofs.Stores.{set-next, over-then}
 use Rattle.basics.proofs.Ands.{and-no}
-use Rattle.rows.proofs.Turns.{drop-turn, drop-end}
+use Rattle.rows.proofs.Iterations.{drop-turn, drop-end}
 use Rattle.image.specs.View.{View}
 use Rattle.image.specs.Stages.{addEntries, readDirectories}
 use Rattle.image.specs.Answers.{Filled}

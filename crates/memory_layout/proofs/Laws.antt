@@ -187,7 +187,7 @@ in-some m e = rw e
 
 -- what a memory that holds a store is known to have
 pub record Sound (m : List ℕ) (s : Store) : Type 0 where
-  pub held : holdsStore m ≡ true
+  pub has-store : holdsStore m ≡ true
   pub room : Room m
   pub counted : all hasRows (flatOf m .entries) ≡ true
   pub means : storeOf (flatOf m) ≡ s
@@ -196,7 +196,7 @@ pub in-sound : (m : List ℕ) (s : Store) → storeIn m ≡ some s → Sound m s
 unfolding storeIn if_then_else_
 in-sound m s e =
     by (holdsStore m)
-    (λ h. let k : some (storeOf (flatOf m)) ≡ some s = rw h at e in record { held = h; room = holds-room m h; counted = holds-counted m h; means = cc })
+    (λ h. let k : some (storeOf (flatOf m)) ≡ some s = rw h at e in record { has-store = h; room = holds-room m h; counted = holds-counted m h; means = cc })
     (λ h. let k : none ≡ some s = rw h at e in never k)
 
 -- after a function the memory holds the store that the new flat lists mean, if every page has a row

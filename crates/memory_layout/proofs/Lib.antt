@@ -2,7 +2,7 @@ pub mod Frame
 pub mod Refusal
 pub mod Laws
 pub mod Changes
-pub mod Leaves
+pub mod HeadLists
 pub mod Marks
 pub mod Blank
 pub mod Nest

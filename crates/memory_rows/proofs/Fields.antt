@@ -4,7 +4,7 @@ use Rattle.basics.specs.Basics.{if_then_else_}
 use Rattle.blocks.specs.Tuple.{Tuple, size, ownerSize}
 use Rattle.rows.specs.Rows.{isBy}
 use Rattle.model.specs.State.{Pending, nothing, adding, committing, removing, Held}
-use Rattle.model.specs.Rules.{heldSize, isRemoving, isCommitting, ripe, asCommitted}
+use Rattle.model.specs.Rules.{heldSize, isRemoving, isCommitting, applied, asCommitted}
 use Rattle.blocks.proofs.ReadTuples.{owner-size}
 use Rattle.memory_bytes.specs.Bytes.{le4}
 use Rattle.memory_bytes.proofs.Bytes.{length-bytes}
@@ -32,7 +32,7 @@ size-is m i h s e =
 
 -- a live row is its owner's as long as the pending operation leaves it there
 pub live-is : (tx : ℕ) (h : Held) → isLiveOwn tx h ≡ (keepsOwner (h .pending) && isBy tx (h .tuple .owner))
-unfolding isLiveOwn ripe asCommitted isRemoving isCommitting isBy if_then_else_
+unfolding isLiveOwn applied asCommitted isRemoving isCommitting isBy if_then_else_
 live-is tx h = by-pending (h .tuple) (h .pending)
   where
     by-pending : (x : Tuple) (p : Pending) → isLiveOwn tx (record { tuple = x; pending = p }) ≡ (keepsOwner p && isBy tx (x .owner))

@@ -10,7 +10,7 @@ use Rattle.blocks.specs.Bytes.{ownerIs}
 use Rattle.rows.specs.Rows.{isBy}
 use Rattle.model.specs.State as model
 use Rattle.model.specs.State.{Held}
-use Rattle.model.specs.Rules.{isRemoving, ripe, asCommitted}
+use Rattle.model.specs.Rules.{isRemoving, applied, asCommitted}
 use Rattle.memory_bytes.specs.Bytes.{le4, bytes}
 use Rattle.memory_layout.specs.Places.{startsAt}
 use Rattle.memory_layout.specs.Flat.{Flat, flatOf, withRows, capacityOf, rowsOf, rowIn, Room}
@@ -46,7 +46,7 @@ committedRow h = record { tuple = asCommitted (h .tuple); pending = h .pending }
 
 -- not pending removal and, its pending operation taken as done, tentative and of the transaction
 unfoldable pub isLiveOwn : ℕ → Held → Bool
-isLiveOwn tx h = not (isRemoving (h .pending)) && isBy tx (ripe h .owner)
+isLiveOwn tx h = not (isRemoving (h .pending)) && isBy tx (applied h .owner)
 
 -- tentative, its pending operation left aside
 unfoldable pub isOwned : Held → Bool

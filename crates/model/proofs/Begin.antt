@@ -5,17 +5,17 @@ use Rattle.basics.proofs.Facts.{AllOf, by, lie}
 use Rattle.image.specs.View.{View}
 use Rattle.model.specs.State.{Page, Store, idle, running}
 use Rattle.model.specs.Rules.{shown, freeze, isDirty}
-use Rattle.model.specs.Checkpoint.{stored}
-use Rattle.model.specs.QuotedLine.{content}
+use Rattle.model.specs.Checkpoint.{withProgress}
+use Rattle.model.specs.CrashRecovery.{content}
 use Rattle.model.proofs.Lists.{eqb-true, not-zero, le-true}
 use Rattle.model.proofs.Frozen.{bare, images}
 use Rattle.model.proofs.Stored.{Stored, end, todo, stands}
 use Rattle.model.proofs.Inv.{Tied, isClean, Inv, Ready, Phase, named-self}
 
-abbrev Calm : Page → Type 0
-Calm p = (p .frozen ≡ false) × (shown (p .tuples) ≡ bare (p .tuples))
+abbrev NothingPending : Page → Type 0
+NothingPending p = (p .frozen ≡ false) × (shown (p .tuples) ≡ bare (p .tuples))
 
-stored-begin : (img : View) (l : ℕ) (ps : List Page) → AllOf (Tied img l) ps → AllOf Calm ps
+stored-begin : (img : View) (l : ℕ) (ps : List Page) → AllOf (Tied img l) ps → AllOf NothingPending ps
     → Stored img (suc l) (map (λ p. p .block) ps) (map content ps) (images (map freeze ps))
 unfolding images freeze isDirty if_then_else_ content isClean
 stored-begin img l [] t c = end
@@ -26,7 +26,7 @@ stored-begin img l (p ∷ ps) t c =
     let u = t .0 (rw (c .0 .0, le-true 1 (p .block) pos)) in
     rw h (stands (u .0) pos (u .1) (u .2) (omega (arith, u .3)) (stored-begin img l ps (t .1) (c .1))))
 
-tied-begin : (img : View) (l : ℕ) (ps : List Page) → AllOf (Tied img l) ps → AllOf Calm ps → AllOf (Tied img (suc l)) (map freeze ps)
+tied-begin : (img : View) (l : ℕ) (ps : List Page) → AllOf (Tied img l) ps → AllOf NothingPending ps → AllOf (Tied img (suc l)) (map freeze ps)
 unfolding freeze isDirty isClean
 tied-begin img l [] t c = tt
 tied-begin img l (p ∷ ps) t c = (
@@ -36,8 +36,8 @@ tied-begin img l (p ∷ ps) t c = (
 )
 
 pub begin-inv : (n : ℕ) (img : View) (s b b₀ : Store) → Inv n img s b b₀ → s .checkpoint ≡ idle → Ready s
-    → Inv n img (stored s (s .level) (map freeze (s .pages)) (s .used) (s .taken) (running (s .next) (map (λ p. p .block) (s .pages)) [])) s b₀
-unfolding stored
+    → Inv n img (withProgress s (s .level) (map freeze (s .pages)) (s .used) (s .taken) (running (s .next) (map (λ p. p .block) (s .pages)) [])) s b₀
+unfolding withProgress
 begin-inv n img s b b₀ inv cp rd =
     let ph : AllOf (Tied img (s .level)) (s .pages) = subst (λ c. Phase img s b c) cp (inv .phase) in
     record {
@@ -45,7 +45,7 @@ begin-inv n img s b b₀ inv cp rd =
       good = inv .good;
       phase = record {
         nxt = refl;
-        stored = stored-begin img (s .level) (s .pages) ph (rd .calm);
+        withProgress = stored-begin img (s .level) (s .pages) ph (rd .thawed);
         dirs = tt;
         base = rd;
         bcap = refl;
@@ -53,6 +53,6 @@ begin-inv n img s b b₀ inv cp rd =
         bblk = refl;
         bused = λ c h. h;
         names = named-self (s .used) (map (λ p. p .block) (s .pages));
-        tied = tied-begin img (s .level) (s .pages) ph (rd .calm);
+        tied = tied-begin img (s .level) (s .pages) ph (rd .thawed);
       };
     }

@@ -8,7 +8,7 @@ use Rattle.image.specs.Stages.{isZero, directoriesFor, capacityLimit}
 use Rattle.model.specs.State.{Page, Store, Checkpoint, idle, running, Held, Active}
 use Rattle.model.specs.Rules.{isDirty, fresh, freeze, isFrozen}
 use Rattle.model.specs.Transactions.{changed, gives}
-use Rattle.model.specs.Checkpoint.{fill, freeCount, left, isFree, isRunning, beginCall, stored, blocksNeeded, usedToo, storePage, made, allocate, storeDirectory, storeHeader, stepAt, stepOf, inTurn, stepCall, runCall}
+use Rattle.model.specs.Checkpoint.{fill, freeCount, left, isFree, isRunning, beginCall, withProgress, blocksNeeded, usedToo, storePage, made, allocate, storeDirectory, storeHeader, stepAt, stepOf, inTurn, stepCall, runCall}
 use Rattle.model.specs.Calls.{Call, call, opens, inserts, replaces, deletes, commits, aborts, reads, lists, begins, steps, runs}
 use Rattle.model.proofs.Lists.{eqb-true, not-zero, pos-not-zero, in-head, in-weak, leb-false, any-many, leb-true, eqb-self, many-append, all-in, in-all, all-map, eqb-sym, all-append, all-two, in-append}
 use Rattle.model.proofs.Frozen.{images, images-first, images-thaw, Content, images-none}
@@ -292,7 +292,7 @@ same-blocks b [] = refl
 same-blocks b (p ∷ ps) = rw (same-blocks b ps)
 
 books-begin : (s : Store) → length (s .pages) ≤ s .capacity → Books s → Books (beginCall s .store)
-unfolding beginCall gives stored freeCount isFree blocksNeeded
+unfolding beginCall gives withProgress freeCount isFree blocksNeeded
 books-begin s few b =
     unless-keeps Books _ s _ b (λ p.
     let i = idle-of (s .checkpoint) (p .0) in
@@ -337,7 +337,7 @@ taken-once c i old {now} l z h =
 
 module _ (s : Store) (b : Books s) (n : ℕ) (es ds : List ℕ) (r : Running n es ds s) where
   page-books : (p : Page) → first isFrozen (s .pages) ≡ some p → Books (storePage n es ds p s .store)
-  unfolding storePage made stored freeCount isFree
+  unfolding storePage made withProgress freeCount isFree
   page-books p e =
       let ims = images-first (s .pages) p e in
       let is = tail (images (s .pages)) in
@@ -383,7 +383,7 @@ module _ (s : Store) (b : Books s) (n : ℕ) (es ds : List ℕ) (r : Running n e
       later h e = let q = r .late h in let z : _≡_ {A = ℕ} 0 1 = cc in omega arith
 
   directory-books : first isFrozen (s .pages) ≡ none → ltb (length ds) (directoriesFor (length es)) ≡ true → Books (storeDirectory n es ds s .store)
-  unfolding storeDirectory made stored freeCount isFree
+  unfolding storeDirectory made withProgress freeCount isFree
   directory-books e lt =
       let few : length ds < directoriesFor (length es) = leb-true (suc (length ds)) (directoriesFor (length es)) lt in
       let i = allocate s in
@@ -417,7 +417,7 @@ module _ (s : Store) (b : Books s) (n : ℕ) (es ds : List ℕ) (r : Running n e
       }
 
   header-books : first isFrozen (s .pages) ≡ none → Books (storeHeader n es ds s .store)
-  unfolding storeHeader made stored
+  unfolding storeHeader made withProgress
   header-books e =
       let ims = ap length (images-none (s .pages) e) in
       let pos = none-waiting es (r .waiting ∙ ims) in

@@ -5,7 +5,7 @@ use Rattle.basics.specs.Basics.{if_then_else_, any, keep, isEmpty}
 use Rattle.basics.proofs.Facts.{by}
 use Rattle.rows.specs.Rows.{Row, number, isOwn, isAt}
 use Rattle.model.specs.State.{Held, Page}
-use Rattle.model.specs.Rules.{fresh, withTuples, listOf, settle, around, gone, goneLater, kept, keptLater, shown, editAt, takenAt, removeRowOn, committedAt, commitRowOn}
+use Rattle.model.specs.Rules.{fresh, withTuples, listOf, settle, around, removeNow, pendRemove, commitNow, pendCommit, shown, editAt, pendRemoveAt, removeRowOn, committedAt, commitRowOn}
 use Rattle.model.proofs.Frozen.{takenAt-is}
 
 -- ---- one operation
@@ -25,18 +25,18 @@ edit g n (h ∷ hs) = if isNumber n h then g h ++ hs else h ∷ edit g n hs
 
 -- the tuples of a frozen page after a removal
 unfoldable pub takenLater : ℕ → List Held → List Held
-takenLater n hs = let left = edit goneLater n hs in if isEmpty left then hs else left
+takenLater n hs = let left = edit pendRemove n hs in if isEmpty left then hs else left
 
 -- a removal on its page
 unfoldable pub removeOn : ℕ → Option Page → Page → List Page → List Page
 removeOn n prev p ps =
     if p .frozen then listOf prev ++ withTuples p (takenLater n (p .tuples)) ∷ ps
-    else (let q = fresh (p .table) (edit gone n (p .tuples)) in settle (q ∷ []) prev q ps)
+    else (let q = fresh (p .table) (edit removeNow n (p .tuples)) in settle (q ∷ []) prev q ps)
 
 -- a commit on its page
 unfoldable pub commitOn : ℕ → Option Page → Page → List Page → List Page
 commitOn n prev p ps =
-    listOf prev ++ (if p .frozen then withTuples p (edit keptLater n (p .tuples)) else fresh (p .table) (edit kept n (p .tuples))) ∷ ps
+    listOf prev ++ (if p .frozen then withTuples p (edit pendCommit n (p .tuples)) else fresh (p .table) (edit commitNow n (p .tuples))) ∷ ps
 
 -- the tuple of number n is removed
 unfoldable pub remove : ℕ → List Page → List Page
@@ -110,18 +110,18 @@ module _ (n : ℕ) where
   edit-place g [] = refl
   edit-place g (h ∷ hs) = by (eqb (h .tuple .number) n) (λ e. rw e) (λ e. rw e (ap (λ z. h ∷ z) (edit-place g hs)))
 
-  taken-place : (hs : List Held) → takenLater n hs ≡ takenAt (placeIn n (numbersOn hs)) hs
-  unfolding takenLater takenAt
-  taken-place hs = ap (λ z. if isEmpty z then hs else z) (edit-place goneLater hs)
+  taken-place : (hs : List Held) → takenLater n hs ≡ pendRemoveAt (placeIn n (numbersOn hs)) hs
+  unfolding takenLater pendRemoveAt
+  taken-place hs = ap (λ z. if isEmpty z then hs else z) (edit-place pendRemove hs)
 
   pub removeOn-place : (o : Option Page) (p : Page) (ps : List Page) → removeOn n o p ps ≡ removeRowOn (placeIn n (numbersOn (p .tuples))) o p ps
   unfolding removeOn removeRowOn
-  removeOn-place o p ps = rw (taken-place (p .tuples), edit-place gone (p .tuples))
+  removeOn-place o p ps = rw (taken-place (p .tuples), edit-place removeNow (p .tuples))
 
   pub commitOn-place : (o : Option Page) (p : Page) (ps : List Page) → commitOn n o p ps ≡ commitRowOn (placeIn n (numbersOn (p .tuples))) o p ps
   unfolding commitOn commitRowOn committedAt
-  commitOn-place o p ps = rw (edit-place kept (p .tuples), edit-place keptLater (p .tuples))
+  commitOn-place o p ps = rw (edit-place commitNow (p .tuples), edit-place pendCommit (p .tuples))
 
   -- a page that shows a tuple keeps one
-  pub takenLater-is : (hs : List Held) → 0 < length (shown hs) → takenLater n hs ≡ edit goneLater n hs
-  takenLater-is hs h = taken-place hs ∙ takenAt-is (placeIn n (numbersOn hs)) hs h ∙ sym (edit-place goneLater hs)
+  pub takenLater-is : (hs : List Held) → 0 < length (shown hs) → takenLater n hs ≡ edit pendRemove n hs
+  takenLater-is hs h = taken-place hs ∙ takenAt-is (placeIn n (numbersOn hs)) hs h ∙ sym (edit-place pendRemove hs)

@@ -9,17 +9,17 @@ use Rattle.image.specs.Stages.{holds, directoriesFor}
 use Rattle.model.specs.State.{Page, Checkpoint, idle, running, Store, Write}
 use Rattle.model.specs.Rules.{isFrozen}
 use Rattle.model.specs.Sight.{seen}
-use Rattle.model.specs.Transactions.{gives, changed, openCall, insertCall, replaceCall, deleteCall, written, readSeen, readCall, listCall, commitCall, abortCall}
-use Rattle.model.specs.Checkpoint.{stored, beginCall, left, made, storePage, storeDirectory, headerFor, storeHeader, stepOf, stepAt, stepCall, inTurn, runCall}
+use Rattle.model.specs.Transactions.{gives, changed, openCall, insertCall, replaceCall, deleteCall, withTuple, readSeen, readCall, listCall, commitCall, abortCall}
+use Rattle.model.specs.Checkpoint.{withProgress, beginCall, left, made, storePage, storeDirectory, headerFor, storeHeader, stepOf, stepAt, stepCall, inTurn, runCall}
 use Rattle.model.specs.Calls.{Call, opens, inserts, replaces, deletes, commits, aborts, reads, lists, begins, steps, runs, call, isBegin, accepted}
 use Rattle.model.specs.Recover.{recoveredStore}
-use Rattle.model.specs.QuotedLine.{Logged, tag, log, isHeader}
+use Rattle.model.specs.CrashRecovery.{Logged, tag, log, isHeader}
 use Rattle.model.proofs.Views.{put, recoverView, CutV, stop, torn, whole}
 use Rattle.model.proofs.Lists.{all-append, all-mapped}
 use Rattle.model.proofs.Recovery.{found}
 use Rattle.model.proofs.Quiet.{unless-out}
 
--- of a block that is written
+-- of a block that is withTuple
 abbrev Apt : ℕ → Block → Type 0
 Apt cap malformed = Unit {0}
 Apt cap (header h) = h .capacity ≡ cap
@@ -31,7 +31,7 @@ abbrev Capacity : ℕ → Store → List Write → Type 0
 Capacity cap t ws = (t .capacity ≡ cap) × AllOf (λ w. Apt cap (w .what)) ws
 
 capacity-of : (o : Option Page) (n : ℕ) (es ds : List ℕ) (s : Store) → Capacity (s .capacity) (stepOf o n es ds s .store) (stepOf o n es ds s .writes)
-unfolding stepOf storePage storeDirectory storeHeader made stored headerFor if_then_else_
+unfolding stepOf storePage storeDirectory storeHeader made withProgress headerFor if_then_else_
 capacity-of (some p) n es ds s = (refl, (tt, tt))
 capacity-of none n es ds s = by (ltb (length ds) (directoriesFor (length es))) (λ h. rw h (refl, (tt, tt))) (λ h. rw h (refl, (refl, tt)))
 
@@ -50,7 +50,7 @@ capacity-turn cap (suc k) s e =
     (b .0, all-append _ (o .writes) (inTurn k (o .store) .writes) (a .1) (b .1))
 
 capacity-call : (c : Call) (s : Store) → Capacity (s .capacity) (call c s .store) (call c s .writes)
-unfolding call openCall insertCall replaceCall deleteCall written commitCall abortCall readCall listCall beginCall stepCall runCall gives changed stored
+unfolding call openCall insertCall replaceCall deleteCall withTuple commitCall abortCall readCall listCall beginCall stepCall runCall gives changed withProgress
 capacity-call (opens tx) s = unless-out (Capacity (s .capacity)) _ s _ (refl, tt) (refl, tt)
 capacity-call (inserts tx t k bs) s = unless-out (Capacity (s .capacity)) _ s _ (refl, tt) (refl, tt)
 capacity-call (replaces tx t k bs) s = unless-out (Capacity (s .capacity)) _ s _ (refl, tt) (refl, tt)

@@ -79,8 +79,8 @@ module _ (ns : List ℕ) where
     now-less = subst (λ z. Less z (numbers (remove (getD ns i 0) ps)) (numbers ps)) now-place
         (rw (remove-place (getD ns i 0) ps) (remove-numbers (placeIn (getD ns i 0) (numbers ps)) ps))
 
-    now-gone : Tail ns (suc i) (numbers (remove (getD ns i 0) ps)) × Pairs (λ a b. a ≢ b) (numbers (remove (getD ns i 0) ps))
-    now-gone = ⊎-elim
+    now-removed : Tail ns (suc i) (numbers (remove (getD ns i 0) ps)) × Pairs (λ a b. a ≢ b) (numbers (remove (getD ns i 0) ps))
+    now-removed = ⊎-elim
         (λ e. (subst (Tail ns (suc i)) (sym e) (tail-more ns i (suc i) (numbers ps) t (omega arith)), subst (Pairs (λ a b. a ≢ b)) (sym e) d))
         (λ e. let q = e ∙ ap (λ z. take (length (t .front)) z ++ drop (length (t .front) + 1) z) now-split ∙ removeAt-seam (t .front) (getD ns i 0) (drop (suc i) ns) in (
           record { front = t .front; is = q; short = omega (arith, t .short) },
@@ -103,7 +103,7 @@ module _ (ns : List ℕ) where
       let n = getD ns i 0 in
       let t′ = tail-more ns k i (numbers ps) t (r .0) in
       let e : removeRow (i - (length ns - length (held ps))) ps ≡ remove n ps = ap (λ z. removeRow z ps) (now-at i (r .1) ps t′ d) ∙ sym (remove-place n ps) in
-      let g = now-gone i (r .1) ps t′ d in
+      let g = now-removed i (r .1) ps t′ d in
       ap (carryOut (length ns) os) e ∙ carry os (suc i) (remove n ps) (r .2) (g .0) (g .1)
 
 -- from entry on

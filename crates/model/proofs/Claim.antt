@@ -5,7 +5,7 @@ use Rattle.image.specs.Stages.{holds}
 use Rattle.image.specs.View.{View}
 use Rattle.model.specs.State.{Store}
 use Rattle.model.specs.Calls.{afterCalls, Call, AllTyped, Typed}
-use Rattle.model.specs.QuotedLine.{log, isHeader, Same}
+use Rattle.model.specs.CrashRecovery.{log, isHeader, Same}
 use Rattle.model.proofs.Views.{AllSane, recoverView, CutV, WriteOk, CrashViews, WritesOk}
 use Rattle.model.proofs.Books.{Books, keeps-books, step-books}
 use Rattle.model.proofs.Recovery.{Found, found}

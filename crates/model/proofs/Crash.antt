@@ -9,9 +9,9 @@ use Rattle.image.specs.View.{View}
 use Rattle.model.specs.State.{Store, Checkpoint, Page, idle, running, Held, Active, Outcome, Write, count}
 use Rattle.model.specs.Rules.{fresh, isFrozen}
 use Rattle.model.specs.Transactions.{changed, unless, gives, _when_}
-use Rattle.model.specs.Checkpoint.{stored, beginCall, isRunning, freeCount, blocksNeeded, stepAt, stepOf, inTurn, stepCall, badImage, runCall, left}
+use Rattle.model.specs.Checkpoint.{withProgress, beginCall, isRunning, freeCount, blocksNeeded, stepAt, stepOf, inTurn, stepCall, badImage, runCall, left}
 use Rattle.model.specs.Calls.{Call, accepted, afterCalls, call, steps, isBegin, runs, begins, opens, inserts, replaces, deletes, commits, aborts, reads, lists}
-use Rattle.model.specs.QuotedLine.{landed, Logged, isHeader, tag, log}
+use Rattle.model.specs.CrashRecovery.{landed, Logged, isHeader, tag, log}
 use Rattle.model.proofs.Views.{CutV, recoverView, WriteOk, stop, put, torn, whole}
 use Rattle.model.proofs.Frozen.{images}
 use Rattle.model.proofs.Pages.{stillFrozen}
@@ -44,7 +44,7 @@ phase-changed img s b nx ps os e idle k ph = k ph
 phase-changed img s b nx ps os e (running n₀ es ds) k r =
     record {
       nxt = r .nxt;
-      stored = rw e (r .stored);
+      withProgress = rw e (r .stored);
       dirs = r .dirs;
       base = r .base;
       bcap = r .bcap;

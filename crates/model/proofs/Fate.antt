@@ -1,4 +1,4 @@
--- Commit and abort on the live rows, in closed form: what becomes of each row.
+-- Commit and abort on the liveRows rows, in closed form: what becomes of each row.
 use Rattle.basics.proofs.Kit.{_≡_, refl, sym, ap, _∙_, subst, ap₂, _≢_, Bool, true, false, _&&_, not, some, none, Option, List, [], _∷_, _++_, append-nil, ℕ, eqb}
 use Rattle.basics.specs.Basics.{if_then_else_, keep, any, last}
 use Rattle.basics.proofs.Facts.{by, AllOf, and-true, lie, by-option}
@@ -9,7 +9,7 @@ use Rattle.model.specs.Sight.{rows, held}
 use Rattle.model.proofs.Lists.{Pairs, Mem, here, all-map, there, mem-all, eqb-self, eqb-true, all-keep, all-mem, all-append, mem-keep, any-off, last-off, last-any, last-skip, last-some, last-here}
 use Rattle.model.proofs.ByNumber.{remove, commit, Op, toCommit, isRow, toRemove, perform, removeAll, planKey, ownAt, planRows, placeIn, plan-skip, plan-take}
 use Rattle.model.proofs.Sound.{PageOk, removeRow-ok, commitRow-ok}
-use Rattle.model.proofs.Rows.{amend, away, kept-row, Alike, Differ, Entry, Sub, plain, live, entries, sub-refl, amends-commit, sub-pairs, sub-trans, pairs-plain, amends-remove, held-plain, rows-live}
+use Rattle.model.proofs.Rows.{amend, away, kept-row, Alike, Differ, Entry, Sub, plain, liveRows, entries, sub-refl, amends-commit, sub-pairs, sub-trans, pairs-plain, amends-remove, held-plain, rows-live}
 use Rattle.model.proofs.Places.{numbers, remove-place, commit-place}
 
 -- ---- a list of operations on the rows
@@ -44,20 +44,20 @@ differ-alike a b c d e f h k = h (sym (e .2) ∙ k ∙ f .2)
 
 -- the operations os on the entries b give a
 abbrev Performed : List Op → List Entry → List Entry → Type 0
-Performed os a b = Sub (plain a) (plain b) × (live a ≡ gather (fate os) (live b))
+Performed os a b = Sub (plain a) (plain b) × (liveRows a ≡ gather (fate os) (liveRows b))
 
 perform-entries : (os : List Op) (ps : List Page) → AllOf PageOk ps → Pairs Differ (plain (entries ps))
     → Performed os (entries (perform os ps)) (entries ps)
 unfolding perform
-perform-entries [] ps a d = (sub-refl (plain (entries ps)), sym (gather-nil (live (entries ps))))
+perform-entries [] ps a d = (sub-refl (plain (entries ps)), sym (gather-nil (liveRows (entries ps))))
 perform-entries (toCommit n ∷ os) ps a d =
     let m = amends-commit n ps a in
     let r = perform-entries os (commit n ps) (subst (AllOf PageOk) (sym (commit-place n ps)) (commitRow-ok (placeIn n (numbers ps)) ps a)) (sub-pairs Differ differ-alike (m .0) d) in
-    (sub-trans (r .0) (m .0), r .1 ∙ ap (gather (fate os)) (m .1 (pairs-plain Differ (entries ps) d)) ∙ gather-commits n os (live (entries ps)))
+    (sub-trans (r .0) (m .0), r .1 ∙ ap (gather (fate os)) (m .1 (pairs-plain Differ (entries ps) d)) ∙ gather-commits n os (liveRows (entries ps)))
 perform-entries (toRemove n ∷ os) ps a d =
     let m = amends-remove n ps a in
     let r = perform-entries os (remove n ps) (subst (AllOf PageOk) (sym (remove-place n ps)) (removeRow-ok (placeIn n (numbers ps)) ps a)) (sub-pairs Differ differ-alike (m .0) d) in
-    (sub-trans (r .0) (m .0), r .1 ∙ ap (gather (fate os)) (m .1 (pairs-plain Differ (entries ps) d)) ∙ gather-removes n os (live (entries ps)))
+    (sub-trans (r .0) (m .0), r .1 ∙ ap (gather (fate os)) (m .1 (pairs-plain Differ (entries ps) d)) ∙ gather-removes n os (liveRows (entries ps)))
 
 pub perform-rows : (os : List Op) (ps : List Page) → AllOf PageOk ps → Pairs Differ (held ps)
     → Sub (held (perform os ps)) (held ps) × (rows (perform os ps) ≡ gather (fate os) (rows ps))
@@ -295,7 +295,7 @@ unfolding gather
 gather-ext F G [] h = refl
 gather-ext F G (r ∷ rs) h = rw (h .0, gather-ext F G rs (h .1))
 
--- commit and abort, on the live rows
+-- commit and abort, on the liveRows rows
 unfoldable pub afterCommit : ℕ → List Row → Row → List Row
 afterCommit tx all r = verdict (last (ownAt tx (r .0) (r .1 .key)) all) r
 

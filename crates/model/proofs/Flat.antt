@@ -4,8 +4,8 @@ use Rattle.basics.proofs.Kit.{drop, getD, set, length-append, take-append-drop,
 use Rattle.basics.specs.Basics.{if_then_else_, isEmpty}
 use Rattle.basics.proofs.Facts.{by, lie}
 use Rattle.model.specs.State.{Pending, nothing, adding, committing, removing, Held, Page}
-use Rattle.model.specs.Rules.{listOf, fresh, withTuples, settle, gone, goneLater, kept, keptLater, isAdding, isRemoving, withPending}
-use Rattle.model.specs.Places.{editAt, takenAt, removeRowOn, committedAt, commitRowOn, removeRow, commitRow, onPage, tagged, removeAt, RowOn, RowByPage, RemovedNow, RemovedLater, LastStays, RemovedStays, committedTuple, CommittedRow}
+use Rattle.model.specs.Rules.{listOf, fresh, withTuples, settle, removeNow, pendRemove, commitNow, pendCommit, isAdding, isRemoving, withPending}
+use Rattle.model.specs.Places.{editAt, pendRemoveAt, removeRowOn, committedAt, commitRowOn, removeRow, commitRow, onPage, tagged, removeAt, RowOn, RowByPage, RemovedNow, RemovedLater, LastStays, RemovedStays, committedTuple, CommittedRow}
 use Rattle.model.proofs.Lists.{nonempty, le-true, lt-false}
 use Rattle.model.proofs.Rows.{withTable, entries, entries-append}
 use Rattle.model.proofs.Places.{tagged-page, tagged-entries, row-here, row-past, removeAt-suc, removeAt-left, removeAt-right, entriesAt, removedOn, committedOn, entries-removeRow, entries-commitRow}
@@ -123,39 +123,39 @@ removed-length [] j h = absurd (omega arith)
 removed-length (x ∷ xs) zero h = refl
 removed-length (x ∷ xs) (suc j) h = let r = removed-length xs j (omega arith) in let e = ap length (removeAt-suc j x xs) in omega arith
 
-pub taken-is : (j : ℕ) (hs left : List Held) → editAt goneLater j hs ≡ left → 0 < length left → takenAt j hs ≡ left
-unfolding takenAt if_then_else_
+pub taken-is : (j : ℕ) (hs left : List Held) → editAt pendRemove j hs ≡ left → 0 < length left → pendRemoveAt j hs ≡ left
+unfolding pendRemoveAt if_then_else_
 taken-is j hs left e l = ap (λ z. if isEmpty z then hs else z) e ∙ ap (λ b. if b then hs else left) (nonempty left l)
 
-taken-not : (j : ℕ) (hs : List Held) → editAt goneLater j hs ≡ [] → takenAt j hs ≡ hs
-unfolding takenAt if_then_else_ isEmpty
+taken-not : (j : ℕ) (hs : List Held) → editAt pendRemove j hs ≡ [] → pendRemoveAt j hs ≡ hs
+unfolding pendRemoveAt if_then_else_ isEmpty
 taken-not j hs e = ap (λ z. if isEmpty z then hs else z) e
 
 module _ (p : Page) (j : ℕ) (d : Held) (inside : j < length (p .tuples)) where
-  later-gone : isAdding (getD (p .tuples) j d .pending) ≡ true → editAt goneLater j (p .tuples) ≡ removeAt j (p .tuples)
-  unfolding goneLater if_then_else_
-  later-gone a = edit-none goneLater d (p .tuples) j inside (rw a)
+  later-removed : isAdding (getD (p .tuples) j d .pending) ≡ true → editAt pendRemove j (p .tuples) ≡ removeAt j (p .tuples)
+  unfolding pendRemove if_then_else_
+  later-removed a = edit-none pendRemove d (p .tuples) j inside (rw a)
 
   page-removed : (p .frozen ≡ true → (isAdding (getD (p .tuples) j d .pending) ≡ true) × (1 < length (p .tuples))) → removedOn j p ≡ removeAt j (p .tuples)
   page-removed f = by (p .frozen) (λ h. frozen h (f h)) (λ h. thawed h)
     where
       frozen : p .frozen ≡ true → (isAdding (getD (p .tuples) j d .pending) ≡ true) × (1 < length (p .tuples)) → removedOn j p ≡ removeAt j (p .tuples)
-      frozen h a = unfold removedOn if_then_else_ in ap (λ b. if b then takenAt j (p .tuples) else editAt gone j (p .tuples)) h
-          ∙ taken-is j (p .tuples) (removeAt j (p .tuples)) (later-gone (a .0)) (omega (arith, a .1, removed-length (p .tuples) j inside))
+      frozen h a = unfold removedOn if_then_else_ in ap (λ b. if b then pendRemoveAt j (p .tuples) else editAt removeNow j (p .tuples)) h
+          ∙ taken-is j (p .tuples) (removeAt j (p .tuples)) (later-removed (a .0)) (omega (arith, a .1, removed-length (p .tuples) j inside))
 
       thawed : p .frozen ≡ false → removedOn j p ≡ removeAt j (p .tuples)
-      thawed h = unfold removedOn if_then_else_ gone in ap (λ b. if b then takenAt j (p .tuples) else editAt gone j (p .tuples)) h
-          ∙ edit-none gone d (p .tuples) j inside refl
+      thawed h = unfold removedOn if_then_else_ removeNow in ap (λ b. if b then pendRemoveAt j (p .tuples) else editAt removeNow j (p .tuples)) h
+          ∙ edit-none removeNow d (p .tuples) j inside refl
 
   page-noted : p .frozen ≡ true → isAdding (getD (p .tuples) j d .pending) ≡ false → removedOn j p ≡ set (p .tuples) j (withPending removing (getD (p .tuples) j d))
-  unfolding removedOn if_then_else_ goneLater
+  unfolding removedOn if_then_else_ pendRemove
   page-noted h a =
-      ap (λ b. if b then takenAt j (p .tuples) else editAt gone j (p .tuples)) h
-      ∙ taken-is j (p .tuples) _ (edit-one goneLater d (withPending removing (getD (p .tuples) j d)) (p .tuples) j (rw a))
+      ap (λ b. if b then pendRemoveAt j (p .tuples) else editAt removeNow j (p .tuples)) h
+      ∙ taken-is j (p .tuples) _ (edit-one pendRemove d (withPending removing (getD (p .tuples) j d)) (p .tuples) j (rw a))
       (omega (arith, length-set (p .tuples) j (withPending removing (getD (p .tuples) j d))))
 
-  page-last : isAdding (getD (p .tuples) j d .pending) ≡ true → length (p .tuples) ≡ 1 → takenAt j (p .tuples) ≡ p .tuples
-  page-last a l = taken-not j (p .tuples) (later-gone a ∙ none-left (removeAt j (p .tuples)) (omega (arith, removed-length (p .tuples) j inside)))
+  page-last : isAdding (getD (p .tuples) j d .pending) ≡ true → length (p .tuples) ≡ 1 → pendRemoveAt j (p .tuples) ≡ p .tuples
+  page-last a l = taken-not j (p .tuples) (later-removed a ∙ none-left (removeAt j (p .tuples)) (omega (arith, removed-length (p .tuples) j inside)))
     where
       none-left : (hs : List Held) → length hs ≡ 0 → hs ≡ []
       none-left [] e = refl
@@ -165,21 +165,21 @@ module _ (p : Page) (j : ℕ) (d : Held) (inside : j < length (p .tuples)) where
   page-committed = by (p .frozen) (λ h. frozen h) (λ h. thawed h)
     where
       both : Bool → List Held
-      both b = if b then editAt keptLater j (p .tuples) else editAt kept j (p .tuples)
+      both b = if b then editAt pendCommit j (p .tuples) else editAt commitNow j (p .tuples)
 
-      later : (h : Held) → keptLater h ≡ committedTuple true h ∷ []
-      later h = unfold keptLater kept committedTuple if_then_else_ in by (isAdding (h .pending)) (λ a. rw a)
+      later : (h : Held) → pendCommit h ≡ committedTuple true h ∷ []
+      later h = unfold pendCommit commitNow committedTuple if_then_else_ in by (isAdding (h .pending)) (λ a. rw a)
           (λ a. by (isRemoving (h .pending)) (λ r. rw (a, r)) (λ r. rw (a, r)))
 
-      now : (h : Held) → kept h ≡ committedTuple false h ∷ []
-      now h = unfold kept committedTuple if_then_else_ in refl
+      now : (h : Held) → commitNow h ≡ committedTuple false h ∷ []
+      now h = unfold commitNow committedTuple if_then_else_ in refl
 
       frozen : p .frozen ≡ true → committedOn j p ≡ set (p .tuples) j (committedTuple (p .frozen) (getD (p .tuples) j d))
-      frozen h = unfold committedOn if_then_else_ in ap both h ∙ edit-one keptLater d (committedTuple true (getD (p .tuples) j d)) (p .tuples) j (later (getD (p .tuples) j d))
+      frozen h = unfold committedOn if_then_else_ in ap both h ∙ edit-one pendCommit d (committedTuple true (getD (p .tuples) j d)) (p .tuples) j (later (getD (p .tuples) j d))
           ∙ ap (λ b. set (p .tuples) j (committedTuple b (getD (p .tuples) j d))) (sym h)
 
       thawed : p .frozen ≡ false → committedOn j p ≡ set (p .tuples) j (committedTuple (p .frozen) (getD (p .tuples) j d))
-      thawed h = unfold committedOn if_then_else_ in ap both h ∙ edit-one kept d (committedTuple false (getD (p .tuples) j d)) (p .tuples) j (now (getD (p .tuples) j d))
+      thawed h = unfold committedOn if_then_else_ in ap both h ∙ edit-one commitNow d (committedTuple false (getD (p .tuples) j d)) (p .tuples) j (now (getD (p .tuples) j d))
           ∙ ap (λ b. set (p .tuples) j (committedTuple b (getD (p .tuples) j d))) (sym h)
 
 -- ---- one tuple among all
@@ -243,12 +243,12 @@ last-stays ps i k j p d o f a l =
   where
     stays : (r : Option Page) (qs : List Page) → removeRowOn j r p qs ≡ listOf r ++ p ∷ qs
     stays r qs = unfold removeRowOn if_then_else_ withTuples in
-        ap (λ b. if b then listOf r ++ withTuples p (takenAt j (p .tuples)) ∷ qs
-        else settle (fresh (p .table) (editAt gone j (p .tuples)) ∷ []) r (fresh (p .table) (editAt gone j (p .tuples))) qs) f
+        ap (λ b. if b then listOf r ++ withTuples p (pendRemoveAt j (p .tuples)) ∷ qs
+        else settle (fresh (p .table) (editAt removeNow j (p .tuples)) ∷ []) r (fresh (p .table) (editAt removeNow j (p .tuples))) qs) f
         ∙ ap (λ hs. listOf r ++ withTuples p hs ∷ qs) (page-last p j d (o .inside) a l)
 
-removing-kept : (h : Held) → isRemoving (h .pending) ≡ true → keptLater h ≡ h ∷ []
-unfolding keptLater if_then_else_
+removing-kept : (h : Held) → isRemoving (h .pending) ≡ true → pendCommit h ≡ h ∷ []
+unfolding pendCommit if_then_else_
 removing-kept h r = rw (not-adding (h .pending) r, r)
   where
     not-adding : (w : Pending) → isRemoving w ≡ true → isAdding w ≡ false
@@ -261,10 +261,10 @@ pub removed-stays : RemovedStays
 unfolding commitRow listOf
 removed-stays ps i k j p d o f a = row-by-page commitRowOn ps i k j p o none ∙ on-same (commitRowOn j) ps k p (o .page) (λ r qs. stays r qs) none
   where
-    same : editAt keptLater j (p .tuples) ≡ p .tuples
-    same = edit-one keptLater d (getD (p .tuples) j d) (p .tuples) j (removing-kept (getD (p .tuples) j d) a) ∙ set-getD (p .tuples) j d
+    same : editAt pendCommit j (p .tuples) ≡ p .tuples
+    same = edit-one pendCommit d (getD (p .tuples) j d) (p .tuples) j (removing-kept (getD (p .tuples) j d) a) ∙ set-getD (p .tuples) j d
 
     stays : (r : Option Page) (qs : List Page) → commitRowOn j r p qs ≡ listOf r ++ p ∷ qs
     stays r qs = unfold commitRowOn committedAt if_then_else_ withTuples in
-        ap (λ b. listOf r ++ (if b then withTuples p (editAt keptLater j (p .tuples)) else fresh (p .table) (editAt kept j (p .tuples))) ∷ qs) f
+        ap (λ b. listOf r ++ (if b then withTuples p (editAt pendCommit j (p .tuples)) else fresh (p .table) (editAt commitNow j (p .tuples))) ∷ qs) f
         ∙ ap (λ hs. listOf r ++ withTuples p hs ∷ qs) same

@@ -5,7 +5,7 @@ use Rattle.basics.specs.Basics.{if_then_else_, isEmpty, any, first}
 use Rattle.basics.proofs.Facts.{by, never, by-option, lie}
 use Rattle.blocks.specs.Tuple.{Tuple}
 use Rattle.model.specs.State.{Held, Page, adding, Pending, nothing, committing, removing}
-use Rattle.model.specs.Rules.{shown, fresh, after, isAdding, grown, withTuples, entering, placeAfter, place, placeFront, joins, settleNext, settle, joined, settleFull, listOf, goneLater, withPending, kept, keptLater, asCommitted, isRemoving, thaw, thawOn, isPending, splitAll, calm, ripened, isFrozen, around, editAt, takenAt, removeRowOn, committedAt, commitRowOn, atRow, removeRow, commitRow}
+use Rattle.model.specs.Rules.{shown, fresh, after, isAdding, grown, withTuples, entering, placeAfter, place, placeFront, joins, settleNext, settle, joined, settleFull, listOf, pendRemove, withPending, commitNow, pendCommit, asCommitted, isRemoving, thaw, thawOn, isPending, splitAll, withoutPending, live, isFrozen, around, editAt, pendRemoveAt, removeRowOn, committedAt, commitRowOn, atRow, removeRow, commitRow}
 use Rattle.model.specs.Transactions.{PlaceOp, commitPlace, removePlace, carryOut}
 use Rattle.model.proofs.Lists.{some-eq}
 
@@ -121,29 +121,29 @@ images-row f F i o (p ∷ ps) =
     by (ltb i (length (p .tuples))) (λ h. rw (h, atRow) (F i o p ps))
     (λ h. rw (h, atRow, images-append (listOf o), images-row f F (i - length (p .tuples)) (some p) ps, images-append (listOf o) (p ∷ ps)))
 
-shown-goneLater : (j : ℕ) (ts : List Held) → shown (editAt goneLater j ts) ≡ shown ts
-unfolding editAt goneLater shown if_then_else_ withPending isAdding
-shown-goneLater j [] = refl
-shown-goneLater zero (x ∷ xs) = by (isAdding (x .pending)) (λ k. rw k) (λ k. rw k)
-shown-goneLater (suc j) (x ∷ xs) = by (isAdding (x .pending)) (λ k. rw (k, shown-goneLater j xs)) (λ k. rw (k, shown-goneLater j xs))
+shown-pendRemove : (j : ℕ) (ts : List Held) → shown (editAt pendRemove j ts) ≡ shown ts
+unfolding editAt pendRemove shown if_then_else_ withPending isAdding
+shown-pendRemove j [] = refl
+shown-pendRemove zero (x ∷ xs) = by (isAdding (x .pending)) (λ k. rw k) (λ k. rw k)
+shown-pendRemove (suc j) (x ∷ xs) = by (isAdding (x .pending)) (λ k. rw (k, shown-pendRemove j xs)) (λ k. rw (k, shown-pendRemove j xs))
 
-pub shown-keptLater : (j : ℕ) (ts : List Held) → shown (editAt keptLater j ts) ≡ shown ts
-unfolding editAt keptLater kept shown if_then_else_ withPending isAdding asCommitted
-shown-keptLater j [] = refl
-shown-keptLater zero (x ∷ xs) =
+pub shown-pendCommit : (j : ℕ) (ts : List Held) → shown (editAt pendCommit j ts) ≡ shown ts
+unfolding editAt pendCommit commitNow shown if_then_else_ withPending isAdding asCommitted
+shown-pendCommit j [] = refl
+shown-pendCommit zero (x ∷ xs) =
     by (isAdding (x .pending)) (λ k. rw (k, k)) (λ k. by (isRemoving (x .pending)) (λ m. rw (k, m, k)) (λ m. rw (k, m)))
-shown-keptLater (suc j) (x ∷ xs) = by (isAdding (x .pending)) (λ k. rw (k, shown-keptLater j xs)) (λ k. rw (k, shown-keptLater j xs))
+shown-pendCommit (suc j) (x ∷ xs) = by (isAdding (x .pending)) (λ k. rw (k, shown-pendCommit j xs)) (λ k. rw (k, shown-pendCommit j xs))
 
-pub shown-takenAt : (j : ℕ) (ts : List Held) → shown (takenAt j ts) ≡ shown ts
-unfolding takenAt if_then_else_
-shown-takenAt j ts = by (isEmpty (editAt goneLater j ts)) (λ h. rw h) (λ h. rw h (shown-goneLater j ts))
+pub shown-takenAt : (j : ℕ) (ts : List Held) → shown (pendRemoveAt j ts) ≡ shown ts
+unfolding pendRemoveAt if_then_else_
+shown-takenAt j ts = by (isEmpty (editAt pendRemove j ts)) (λ h. rw h) (λ h. rw h (shown-pendRemove j ts))
 
 -- a page that shows a tuple keeps one
-pub takenAt-is : (j : ℕ) (ts : List Held) → 0 < length (shown ts) → takenAt j ts ≡ editAt goneLater j ts
-unfolding takenAt if_then_else_
+pub takenAt-is : (j : ℕ) (ts : List Held) → 0 < length (shown ts) → pendRemoveAt j ts ≡ editAt pendRemove j ts
+unfolding pendRemoveAt if_then_else_
 takenAt-is j ts h =
-    by (isEmpty (editAt goneLater j ts))
-    (λ k. absurd (shows (editAt goneLater j ts) k (subst (λ z. 0 < length z) (sym (shown-goneLater j ts)) h))) (λ k. rw k)
+    by (isEmpty (editAt pendRemove j ts))
+    (λ k. absurd (shows (editAt pendRemove j ts) k (subst (λ z. 0 < length z) (sym (shown-pendRemove j ts)) h))) (λ k. rw k)
   where
     shows : (hs : List Held) → isEmpty hs ≡ true → 0 < length (shown hs) → ⊥
     shows [] k l = unfold shown in omega arith
@@ -160,7 +160,7 @@ images-commitRowOn : (j : ℕ) (o : Option Page) (p : Page) (ps : List Page) →
 unfolding commitRowOn committedAt images if_then_else_ withTuples fresh
 images-commitRowOn j o p ps =
     by (p .frozen)
-    (λ h. rw (h, images-append (listOf o), shown-keptLater, images-append (listOf o)))
+    (λ h. rw (h, images-append (listOf o), shown-pendCommit, images-append (listOf o)))
     (λ h. rw (h, images-append (listOf o), images-append (listOf o)))
 
 pub images-carry : (n : ℕ) (os : List PlaceOp) (ps : List Page) → images (carryOut n os ps) ≡ images ps
@@ -175,7 +175,7 @@ images-thawOn : (b : ℕ) (o : Option Page) (p : Page) (ps : List Page) → imag
 unfolding thawOn if_then_else_ images
 images-thawOn b o p ps f =
     by (any (λ x. isPending (x .pending)) (p .tuples))
-    (λ h. rw h (images-settle _ o _ ps (images-fresh (p .table) (splitAll (map calm (ripened (p .tuples))))) ∙ rw (images-append (listOf o), f)))
+    (λ h. rw h (images-settle _ o _ ps (images-fresh (p .table) (splitAll (map withoutPending (live (p .tuples))))) ∙ rw (images-append (listOf o), f)))
     (λ h. rw (h, images-append (listOf o), f))
 
 images-aroundFirst : (f : Option Page → Page → List Page → List Page)
@@ -204,10 +204,10 @@ images-none [] e = refl
 images-none (q ∷ ps) e = by (q .frozen) (λ h. never (sym (rw (h, first) at e))) (λ h. rw h (images-none ps (rw (h, first) at e)))
 
 -- nothing pending: the image is the page
-pub shown-calm : (ts : List Held) → any (λ x. isPending (x .pending)) ts ≡ false → shown ts ≡ bare ts
+pub shown-withoutPending : (ts : List Held) → any (λ x. isPending (x .pending)) ts ≡ false → shown ts ≡ bare ts
 unfolding shown any if_then_else_ isAdding isPending
-shown-calm [] e = refl
-shown-calm (x ∷ xs) e = go (x .pending) refl (shown-calm xs)
+shown-withoutPending [] e = refl
+shown-withoutPending (x ∷ xs) e = go (x .pending) refl (shown-withoutPending xs)
   where
     go : (o : Pending) → x .pending ≡ o → (any (λ x. isPending (x .pending)) xs ≡ false → shown xs ≡ bare xs) → shown (x ∷ xs) ≡ bare (x ∷ xs)
     go nothing h r = rw (h, r (rw (h, any) at e)) refl

@@ -12,7 +12,7 @@ use Rattle.model.specs.Rules.{fresh, shown}
 use Rattle.model.specs.Sight.{rows, held}
 use Rattle.model.specs.Transactions.{openNumbers}
 use Rattle.model.specs.Checkpoint.{fill}
-use Rattle.model.specs.QuotedLine.{content}
+use Rattle.model.specs.CrashRecovery.{content}
 use Rattle.model.specs.Checkpoints.{contentOf}
 use Rattle.model.proofs.Views.{put}
 use Rattle.model.proofs.Lists.{leb-true, eqb-true, pos-not-zero}
@@ -62,7 +62,7 @@ listed-read (p ∷ ps) = rw (listed-read ps)
 -- ---- what a begin asks of an idle store
 
 pub record Ready (s : Store) : Type 0 where
-  pub calm : AllOf (λ p. (p .frozen ≡ false) × (shown (p .tuples) ≡ bare (p .tuples))) (s .pages)
+  pub thawed : AllOf (λ p. (p .frozen ≡ false) × (shown (p .tuples) ≡ bare (p .tuples))) (s .pages)
   pub some : AllOf (λ c. isEmpty (c .1) ≡ false) (map content (s .pages))
   pub ok : rowsOk (s .capacity) (s .next) (held (s .pages)) ≡ true
   pub few : length (s .pages) ≤ s .capacity

@@ -10,14 +10,14 @@ use Rattle.image.specs.Stages.{directoriesFor}
 use Rattle.model.specs.State.{Store, Page, Held, idle, running, nothing, Checkpoint}
 use Rattle.model.specs.Rules.{place, heldSize, isPending, freeze, isFrozen}
 use Rattle.model.specs.Sight.{rows, held, isForeign, versions, seen, seenOf}
-use Rattle.model.specs.Transactions.{openCall, gives, changed, written, openNumbers, writtenBy, newTuple, withWrite, notOpen, noTable, tooLong, foreign, _when_, full, insertCall, present, replaceCall, unseen, deleteCall, readCall, readSeen, listCall, without, commitCall, abortCall, PlaceOp, carryOut, closePlan, abortPlan}
-use Rattle.model.specs.Checkpoint.{stored, beginCall, storePage, made, allocate, storeDirectory, storeHeader, stepAt, stepOf, inTurn, stepCall, runCall, left}
+use Rattle.model.specs.Transactions.{openCall, gives, changed, withTuple, openNumbers, writtenBy, newTuple, withWrite, notOpen, noTable, tooLong, foreign, _when_, full, insertCall, present, replaceCall, unseen, deleteCall, readCall, readSeen, listCall, without, commitCall, abortCall, PlaceOp, carryOut, closePlan, abortPlan}
+use Rattle.model.specs.Checkpoint.{withProgress, beginCall, storePage, made, allocate, storeDirectory, storeHeader, stepAt, stepOf, inTurn, stepCall, runCall, left}
 use Rattle.model.specs.Calls.{Call, others, call, opens, inserts, replaces, deletes, commits, aborts, reads, lists, begins, steps, runs}
 use Rattle.model.proofs.Lists.{in-append, all-map, leb-false, Pairs, not-false}
 use Rattle.model.proofs.ByNumber.{planRows, removeAll}
 use Rattle.model.proofs.Owners.{numbers-append, numbers-write, numbers-length, others-length, numbers-without}
 use Rattle.model.proofs.Splits.{mostSize}
-use Rattle.model.proofs.Frozen.{images, images-place, shown-calm, images-none, images-carry}
+use Rattle.model.proofs.Frozen.{images, images-place, shown-withoutPending, images-none, images-carry}
 use Rattle.model.proofs.Quiet.{unless-keeps, Passed}
 use Rattle.model.proofs.Books.{below-most, idle-of}
 use Rattle.model.proofs.Sound.{place-ok, PageOk, bare-size, thaw-ok, carry-ok}
@@ -51,9 +51,9 @@ open-valid tx s v =
       pages = v .pages;
       still = v .still;
       has = v .has;
-      sees = subst (λ z. LiveOk z (rows (s .pages))) (sym (numbers-append (s .active) (record { transaction = tx; written = 0 })))
+      sees = subst (λ z. LiveOk z (rows (s .pages))) (sym (numbers-append (s .active) (record { transaction = tx; withTuple = 0 })))
           (live-open tx (openNumbers (s .active)) (rows (s .pages)) (v .sees));
-      opened = let l = leb-false 64 (length (s .active)) (p .1 .1 .0) in let m = length-append (s .active) (record { transaction = tx; written = 0 } ∷ []) in omega arith;
+      opened = let l = leb-false 64 (length (s .active)) (p .1 .1 .0) in let m = length-append (s .active) (record { transaction = tx; withTuple = 0 } ∷ []) in omega arith;
       nx = v .nx;
       cap = v .cap;
     })
@@ -106,8 +106,8 @@ module _ (s : Store) (v : Valid s) (tx t k : ℕ) (bs : List ℕ) (m : Bool) (i 
       (ap (λ z. any (isForeign tx) (keep (isAt t k) z)) (sym old) ∙ nf) (λ e. first (ap (λ z. isEmpty (keep (isAt t k) z)) old ∙ e))
       (subst (LiveOk (openNumbers (s .active))) old (v .sees)))
 
-  pub written-valid : Valid (written tx t k bs m s .store)
-  unfolding written gives changed x
+  pub written-valid : Valid (withTuple tx t k bs m s .store)
+  unfolding withTuple gives changed x
   written-valid =
       let put = place-put t x (s .pages) (v .pages) (v .has .rising) in
       record {
@@ -123,7 +123,7 @@ module _ (s : Store) (v : Valid s) (tx t k : ℕ) (bs : List ℕ) (m : Bool) (i 
 
 -- an insert or replace: n when b is the one test in which they differ
 stored-valid : (tx t k : ℕ) (bs : List ℕ) (s : Store) (n : ℕ) (b : Bool) → Valid s → Counted s
-    → Passed (notOpen tx s ++ (noTable t ∷ tooLong bs ∷ foreign tx t k s ∷ n when b ∷ full s)) → Valid (written tx t k bs false s .store)
+    → Passed (notOpen tx s ++ (noTable t ∷ tooLong bs ∷ foreign tx t k s ∷ n when b ∷ full s)) → Valid (withTuple tx t k bs false s .store)
 unfolding notOpen noTable tooLong foreign full
 stored-valid tx t k bs s n b v c p =
     let q = p .1 .1 .1 .1 .1 .1 in
@@ -236,14 +236,14 @@ freeze-ok p h o =
     let f = o .1 h in
     let z = bare-size (p .tuples) in
     let y = length-map (p .tuples) (λ h. h .tuple) in
-    (o .0, λ k. f, λ k. rw (shown-calm (p .tuples) (nothing-pending (p .tuples) (f .0))) (omega (arith, f .1), omega (arith, f .2)))
+    (o .0, λ k. f, λ k. rw (shown-withoutPending (p .tuples) (nothing-pending (p .tuples) (f .0))) (omega (arith, f .1), omega (arith, f .2)))
 
 freeze-all : (ps : List Page) → AllOf (λ p. p .frozen ≡ false) ps → AllOf PageOk ps → AllOf PageOk (map freeze ps)
 freeze-all [] a b = tt
 freeze-all (p ∷ ps) a b = (freeze-ok p (a .0) (b .0), freeze-all ps (a .1) (b .1))
 
 begin-valid : (s : Store) → Valid s → Valid (beginCall s .store)
-unfolding beginCall gives stored
+unfolding beginCall gives withProgress
 begin-valid s v =
     unless-keeps Valid _ s _ v (λ p.
     let free = all-free (s .pages) (v .still (idle-of (s .checkpoint) (p .0))) in
@@ -258,7 +258,7 @@ begin-valid s v =
     })
 
 page-valid : (n : ℕ) (es ds : List ℕ) (p : Page) (s : Store) → Valid s → Valid (storePage n es ds p s .store)
-unfolding storePage made stored
+unfolding storePage made withProgress
 page-valid n es ds p s v =
     let b = allocate s in
     let r = thaw-rows b (s .pages) (v .pages) in
@@ -273,11 +273,11 @@ page-valid n es ds p s v =
     }
 
 directory-valid : (n : ℕ) (es ds : List ℕ) (s : Store) → Valid s → Valid (storeDirectory n es ds s .store)
-unfolding storeDirectory made stored
+unfolding storeDirectory made withProgress
 directory-valid n es ds s v = record { pages = v .pages; still = λ e. no-idle e; has = v .has; sees = v .sees; opened = v .opened; nx = v .nx; cap = v .cap }
 
 header-valid : (n : ℕ) (es ds : List ℕ) (s : Store) → first isFrozen (s .pages) ≡ none → Valid s → Valid (storeHeader n es ds s .store)
-unfolding storeHeader made stored
+unfolding storeHeader made withProgress
 header-valid n es ds s f v = record {
   pages = v .pages;
   still = λ e. images-none

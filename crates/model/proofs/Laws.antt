@@ -8,8 +8,8 @@ use Rattle.image.specs.Stages.{directoriesFor}
 use Rattle.model.specs.State.{Checkpoint, idle, running, Outcome, Store, refused, Page, count}
 use Rattle.model.specs.Rules.{isFrozen, freeze, isDirty, thaw}
 use Rattle.model.specs.Sight.{seen, rows, versions}
-use Rattle.model.specs.Transactions.{rowOf, liveOf, unless, Test, gives, _when_, readSeen, openCall, insertCall, replaceCall, deleteCall, written, commitCall, abortCall, readCall, listCall}
-use Rattle.model.specs.Checkpoint.{left, leftOf, allocate, beginCall, stored, blocksNeeded, stepOf, storePage, storeDirectory, storeHeader, made, stepCall, stepAt, badImage, inTurn, runCall}
+use Rattle.model.specs.Transactions.{rowOf, liveOf, unless, Test, gives, _when_, readSeen, openCall, insertCall, replaceCall, deleteCall, withTuple, commitCall, abortCall, readCall, listCall}
+use Rattle.model.specs.Checkpoint.{left, leftOf, allocate, beginCall, withProgress, blocksNeeded, stepOf, storePage, storeDirectory, storeHeader, made, stepCall, stepAt, badImage, inTurn, runCall}
 use Rattle.model.specs.Calls.{accepted, call, steps, afterCalls, opens, inserts, replaces, deletes, commits, aborts, reads, lists, begins, runs}
 use Rattle.model.specs.WellFormed.{ListOrder, EnoughBlocks, CheckpointWell, BeginAnswers, OneLess, times, writesOf, RunIsSteps, CountsLow}
 use Rattle.model.specs.Places.{RunIsKey}
@@ -64,7 +64,7 @@ unfolding beginCall
 begin-answers s h =
     unless-accepted (λ o. (o .answer ≡ count (howMany isFrozen (o .store .pages) + directoriesFor (length (s .pages)) + 1)) × (left
     (o .store) ≡ howMany isFrozen (o .store .pages) + directoriesFor (length (s .pages)) + 1))
-    _ s _ (λ p k. unfold gives stored blocksNeeded left leftOf in
+    _ s _ (λ p k. unfold gives withProgress blocksNeeded left leftOf in
     (rw (frozen-dirty (s .pages)), rw (length-map (s .pages) (λ p. p .block)) (omega arith))) h
 
 -- of an accepted step
@@ -72,7 +72,7 @@ abbrev Stepped : Store → Outcome → Type 0
 Stepped s o = (length (o .writes) ≡ 1) × (left s ≡ suc (left (o .store))) × (o .answer ≡ count (left (o .store)))
 
 step-less : (n : ℕ) (es ds : List ℕ) (s : Store) → s .checkpoint ≡ running n es ds → (o : Option Page) → first isFrozen (s .pages) ≡ o → Stepped s (stepOf o n es ds s)
-unfolding stepOf storePage storeDirectory storeHeader made stored if_then_else_ left leftOf
+unfolding stepOf storePage storeDirectory storeHeader made withProgress if_then_else_ left leftOf
 step-less n es ds s e (some p) f =
     let i = allocate s in
     let a = many-frozen (s .pages) in
@@ -101,7 +101,7 @@ one-less len s h = unless-accepted (Stepped s) _ s _ (λ p k. go (s .checkpoint)
 
 -- a step keeps the store's blocks
 pub step-size : (s : Store) → stepAt (s .checkpoint) s .store .blocks ≡ s .blocks
-unfolding stored
+unfolding withProgress
 step-size s = step-frame (λ z. z .blocks ≡ s .blocks) s refl (λ l ps u b c. refl)
 
 step-is : (len : ℕ) (s : Store) → len ≡ 512 * s .blocks → call (steps len) s ≡ stepAt (s .checkpoint) s
@@ -169,7 +169,7 @@ kept-step idle s e h = (refl, refl)
 kept-step (running n es ds) s e h = lie (sym h ∙ ap accepted (step-less n es ds s e (first isFrozen (s .pages)) refl .2))
 
 pub refused-keeps : RefusedKeeps
-unfolding call openCall insertCall replaceCall deleteCall written commitCall abortCall readCall listCall beginCall stepCall runCall gives accepted
+unfolding call openCall insertCall replaceCall deleteCall withTuple commitCall abortCall readCall listCall beginCall stepCall runCall gives accepted
 refused-keeps (opens tx) s h = kept-unless _ s _ (λ k. lie (sym k)) h
 refused-keeps (inserts tx t k bs) s h = kept-unless _ s _ (λ k. lie (sym k)) h
 refused-keeps (replaces tx t k bs) s h = kept-unless _ s _ (λ k. lie (sym k)) h

@@ -8,7 +8,7 @@ use Rattle.image.specs.View.{view}
 use Rattle.model.specs.State.{Store}
 use Rattle.model.specs.Calls.{Call}
 use Rattle.model.specs.Recover.{memoryFor}
-use Rattle.model.specs.QuotedLine.{Start, fresh, recovered, Logged, landed, stored, Cut, stop, torn, whole, QuotedLine}
+use Rattle.model.specs.CrashRecovery.{Start, fresh, recovered, Logged, landed, imageWith, Cut, stop, torn, whole, CrashRecovery}
 use Rattle.model.proofs.Views.{put, CutV, WriteOk}
 use Rattle.model.proofs.Bytes.{length-put, view-put, view-sane, recover-view, Accepted, accepted-recovery, made-accepted}
 use Rattle.model.proofs.Claim.{crash-views, writes-ok}
@@ -19,14 +19,14 @@ use Rattle.model.proofs.Capacity.{same-capacity}
 room : (n at len : ℕ) → at < n → len ≡ 512 * n → 512 * at + 512 ≤ len
 room n at len h e = omega arith
 
-pub written : (n : ℕ) (img : List ℕ) (w : Logged) → length img ≡ 512 * n → WriteOk n w → view (stored img w) ≡ put (view img) (w .write .at) (w .write .what)
-unfolding stored
+pub written : (n : ℕ) (img : List ℕ) (w : Logged) → length img ≡ 512 * n → WriteOk n w → view (imageWith img w) ≡ put (view img) (w .write .at) (w .write .what)
+unfolding imageWith
 written n img w e k =
     view-put img (encodeBlock (w .write .what)) (w .write .at) (room n (w .write .at) (length img) (k .0) e) (encode-length (w .write .what))
     ∙ ap (put (view img) (w .write .at)) (decode-encode (w .write .what) (k .1))
 
-pub written-long : (n : ℕ) (img : List ℕ) (w : Logged) → length img ≡ 512 * n → WriteOk n w → length (stored img w) ≡ 512 * n
-unfolding stored
+pub written-long : (n : ℕ) (img : List ℕ) (w : Logged) → length img ≡ 512 * n → WriteOk n w → length (imageWith img w) ≡ 512 * n
+unfolding imageWith
 written-long n img w e k =
     length-put img (encodeBlock (w .write .what)) (w .write .at) (room n (w .write .at) (length img) (k .0) e) (encode-length (w .write .what)) ∙ e
 
@@ -48,8 +48,8 @@ pub started : (img : List ℕ) (s : Store) → Start img s → Accepted img s
 started img s (fresh old m n e) = made-accepted old m n s e
 started img s (recovered m e) = accepted-recovery m img s e
 
-pub quoted-line : QuotedLine
-quoted-line img bytes s start calls typed img′ base cut m h =
+pub crash-recovery : CrashRecovery
+crash-recovery img bytes s start calls typed img′ base cut m h =
     let a = started img s start in
     let sane = view-sane img in
     let c = cut-view (s .blocks) cut (a .long) (writes-ok (view img) sane s (a .least) (a .most) (a .seen) calls typed) in

@@ -6,8 +6,8 @@ use Rattle.blocks.specs.Tuple.{Owner, OwnerFits, Fits, committed, tentative}
 use Rattle.rows.specs.Rows.{Row, isBy, isOwn, transactions}
 use Rattle.model.specs.State.{Store}
 use Rattle.model.specs.Sight.{seen}
-use Rattle.model.specs.Transactions.{openNumbers, gives, openCall, insertCall, replaceCall, deleteCall, written, commitCall, abortCall, readCall, listCall, changed, readSeen}
-use Rattle.model.specs.Checkpoint.{stepAt, inTurn, beginCall, stepCall, runCall, stored, left}
+use Rattle.model.specs.Transactions.{openNumbers, gives, openCall, insertCall, replaceCall, deleteCall, withTuple, commitCall, abortCall, readCall, listCall, changed, readSeen}
+use Rattle.model.specs.Checkpoint.{stepAt, inTurn, beginCall, stepCall, runCall, withProgress, left}
 use Rattle.model.specs.Calls.{others, Call, call, opens, inserts, replaces, deletes, commits, aborts, reads, lists, begins, steps, runs}
 use Rattle.model.specs.Recover.{reopened}
 use Rattle.model.proofs.Lists.{not-in, in-append, not-true, in-one, eqb-sym, in-keep, all-append, all-map, all-keep, leb-false, eqb-true, all-in}
@@ -59,10 +59,10 @@ turn-listed zero s l = l
 turn-listed (suc k) s l = turn-listed k (stepAt (s .checkpoint) s .store) (step-listed s l)
 
 pub keeps-listed : (c : Call) (s : Store) → Listed s → Listed (call c s .store)
-unfolding call openCall insertCall replaceCall deleteCall written commitCall abortCall readCall listCall beginCall stepCall runCall gives changed stored
+unfolding call openCall insertCall replaceCall deleteCall withTuple commitCall abortCall readCall listCall beginCall stepCall runCall gives changed withProgress
 keeps-listed (opens tx) s l =
     unless-keeps Listed _ s _ l (λ p.
-    subst Once (sym (numbers-append (s .active) (record { transaction = tx; written = 0 })))
+    subst Once (sym (numbers-append (s .active) (record { transaction = tx; withTuple = 0 })))
     (once-open tx (openNumbers (s .active)) (p .1 .0) (omega (arith, leb-false 4096 tx (p .0))) l))
 keeps-listed (inserts tx t k bs) s l = unless-keeps Listed _ s _ l (λ p. subst Once (sym (numbers-write tx (s .active))) l)
 keeps-listed (replaces tx t k bs) s l = unless-keeps Listed _ s _ l (λ p. subst Once (sym (numbers-write tx (s .active))) l)

@@ -4,8 +4,8 @@ use Rattle.basics.proofs.Kit.{length-drop, take-append-drop, length-map, take-a
 use Rattle.basics.specs.Basics.{if_then_else_, isEmpty}
 use Rattle.basics.proofs.Facts.{by}
 use Rattle.model.specs.State.{Held, Page}
-use Rattle.model.specs.Rules.{gone, goneLater, kept, keptLater, isAdding, isRemoving}
-use Rattle.model.specs.Places.{editAt, takenAt, removeRow, commitRow, OnlyRow, OthersStay}
+use Rattle.model.specs.Rules.{removeNow, pendRemove, commitNow, pendCommit, isAdding, isRemoving}
+use Rattle.model.specs.Places.{editAt, pendRemoveAt, removeRow, commitRow, OnlyRow, OthersStay}
 use Rattle.model.proofs.Lists.{leb-true, leb-false}
 use Rattle.model.proofs.Rows.{Entry, withTable, entries, table-append}
 use Rattle.model.proofs.Places.{tagged-entries, entriesAt, removedOn, committedOn, entries-removeRow, entries-commitRow, numberOf, commit-numbers}
@@ -90,34 +90,34 @@ only-at E f i (p ∷ ps) =
     rw (h, entriesAt) (only-right i (withTable (p .table) (p .tuples)) (entriesAt E (i - length (p .tuples)) ps) (entries ps) (omega arith)
     (rw l (only-at E f (i - length (p .tuples)) ps))))
 
-later-few : (h : Held) → length (goneLater h) ≤ 1
-unfolding goneLater if_then_else_
+later-few : (h : Held) → length (pendRemove h) ≤ 1
+unfolding pendRemove if_then_else_
 later-few h = by (isAdding (h .pending)) (λ k. rw k (omega arith)) (λ k. rw k (omega arith))
 
-keptLater-few : (h : Held) → length (keptLater h) ≤ 1
-unfolding keptLater kept if_then_else_
-keptLater-few h = by (isAdding (h .pending)) (λ k. rw k (omega arith))
+pendCommit-few : (h : Held) → length (pendCommit h) ≤ 1
+unfolding pendCommit commitNow if_then_else_
+pendCommit-few h = by (isAdding (h .pending)) (λ k. rw k (omega arith))
     (λ k. by (isRemoving (h .pending)) (λ m. rw (k, m) (omega arith)) (λ m. rw (k, m) (omega arith)))
 
-kept-few : (h : Held) → length (kept h) ≤ 1
-unfolding kept
+kept-few : (h : Held) → length (commitNow h) ≤ 1
+unfolding commitNow
 kept-few h = omega arith
 
-gone-few : (h : Held) → length (gone h) ≤ 1
-unfolding gone
-gone-few h = omega arith
+removed-few : (h : Held) → length (removeNow h) ≤ 1
+unfolding removeNow
+removed-few h = omega arith
 
 removed-only : (j : ℕ) (p : Page) → j < length (p .tuples) → OnlyRow j (withTable (p .table) (p .tuples)) (withTable (p .table) (removedOn j p))
-unfolding removedOn takenAt if_then_else_
+unfolding removedOn pendRemoveAt if_then_else_
 removed-only j p l =
     by (p .frozen)
-    (λ h. by (isEmpty (editAt goneLater j (p .tuples))) (λ k. rw (h, k) (only-self j _)) (λ k. rw (h, k) (edit-only goneLater later-few (p .table) j (p .tuples) l)))
-    (λ h. rw h (edit-only gone gone-few (p .table) j (p .tuples) l))
+    (λ h. by (isEmpty (editAt pendRemove j (p .tuples))) (λ k. rw (h, k) (only-self j _)) (λ k. rw (h, k) (edit-only pendRemove later-few (p .table) j (p .tuples) l)))
+    (λ h. rw h (edit-only removeNow removed-few (p .table) j (p .tuples) l))
 
 committed-only : (j : ℕ) (p : Page) → j < length (p .tuples) → OnlyRow j (withTable (p .table) (p .tuples)) (withTable (p .table) (committedOn j p))
 unfolding committedOn if_then_else_
 committed-only j p l =
-    by (p .frozen) (λ h. rw h (edit-only keptLater keptLater-few (p .table) j (p .tuples) l)) (λ h. rw h (edit-only kept kept-few (p .table) j (p .tuples) l))
+    by (p .frozen) (λ h. rw h (edit-only pendCommit pendCommit-few (p .table) j (p .tuples) l)) (λ h. rw h (edit-only commitNow kept-few (p .table) j (p .tuples) l))
 
 pub others-stay : OthersStay
 others-stay i ps = (

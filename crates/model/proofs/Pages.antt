@@ -4,7 +4,7 @@ use Rattle.basics.specs.Basics.{if_then_else_, isEmpty, first, any}
 use Rattle.basics.proofs.Facts.{AllOf, by, never, by-option}
 use Rattle.blocks.specs.Tuple.{Tuple}
 use Rattle.model.specs.State.{Page, Held}
-use Rattle.model.specs.Rules.{fresh, grown, withTuples, splitOnce, placeAfter, place, after, entering, placeFront, settle, settleNext, joined, joins, settleFull, listOf, around, thaw, isFrozen, isPending, thawOn, splitAll, calm, ripened, removeRowOn, committedAt, commitRowOn, atRow, removeRow, commitRow}
+use Rattle.model.specs.Rules.{fresh, grown, withTuples, splitOnce, placeAfter, place, after, entering, placeFront, settle, settleNext, joined, joins, settleFull, listOf, around, thaw, isFrozen, isPending, thawOn, splitAll, withoutPending, live, removeRowOn, committedAt, commitRowOn, atRow, removeRow, commitRow}
 use Rattle.model.specs.Transactions.{PlaceOp, commitPlace, removePlace, carryOut}
 use Rattle.model.proofs.Lists.{all-append, some-eq}
 
@@ -106,6 +106,6 @@ module _ (Q : Page → Type 0) (Q-fresh : (t : ℕ) (ts : List Held) → Q (fres
   all-thaw b p ps e c a =
       all-aroundFirst isFrozen (thawOn b) p
       (λ o qs l g. by (any (λ x. isPending (x .pending)) (p .tuples))
-      (λ h. rw h (all-settle _ o _ qs (all-fresh (p .table) (splitAll (map calm (ripened (p .tuples))))) l g))
+      (λ h. rw h (all-settle _ o _ qs (all-fresh (p .table) (splitAll (map withoutPending (live (p .tuples))))) l g))
       (λ h. rw h (all-append Q (listOf o) _ l (c h, g))))
       none ps e tt a

@@ -5,8 +5,8 @@ use Rattle.basics.specs.Basics.{if_then_else_, any, isEmpty}
 use Rattle.basics.proofs.Lists.{map-append}
 use Rattle.basics.proofs.Facts.{by, lie}
 use Rattle.model.specs.State.{Held, Page}
-use Rattle.model.specs.Rules.{fresh, listOf, withTuples, around, gone, goneLater, kept, keptLater, isAdding, isRemoving, withPending, asCommitted}
-use Rattle.model.specs.Places.{tagged, atRow, editAt, takenAt, removeRowOn, committedAt, commitRowOn, removeRow, commitRow, removeAt}
+use Rattle.model.specs.Rules.{fresh, listOf, withTuples, around, removeNow, pendRemove, commitNow, pendCommit, isAdding, isRemoving, withPending, asCommitted}
+use Rattle.model.specs.Places.{tagged, atRow, editAt, pendRemoveAt, removeRowOn, committedAt, commitRowOn, removeRow, commitRow, removeAt}
 use Rattle.model.proofs.Lists.{le-true, lt-false, leb-true, leb-false}
 use Rattle.model.proofs.ByNumber.{isNumber, hasNumber, remove, commit, removeOn, commitOn, placeIn, numbersOn, removeOn-place, commitOn-place}
 use Rattle.model.proofs.Rows.{Entry, withTable, entries, entries-append, entries-settle, entries-page}
@@ -177,7 +177,7 @@ module _ (E : ℕ → Page → List Held) where
       (λ h. rw (h, entriesAt) (numbers-page (p .table) (p .tuples) (entriesAt E (i - length (p .tuples)) ps)
       ∙ ap (λ z. numbersOn (p .tuples) ++ z) (numbers-same k (i - length (p .tuples)) ps) ∙ sym (numbers-cons p ps)))
 
-  -- the one at that place is gone, or none
+  -- the one at that place is removeNow, or none
   numbers-less : ((j : ℕ) (p : Page) → Less j (numbersOn (E j p)) (numbersOn (p .tuples))) → (i : ℕ) (ps : List Page)
       → Less i (map numberOf (entriesAt E i ps)) (numbers ps)
   unfolding entriesAt
@@ -193,17 +193,17 @@ module _ (E : ℕ → Page → List Held) where
 
 -- the tuples of a page after the removal of tuple j
 unfoldable pub removedOn : ℕ → Page → List Held
-removedOn j p = if p .frozen then takenAt j (p .tuples) else editAt gone j (p .tuples)
+removedOn j p = if p .frozen then pendRemoveAt j (p .tuples) else editAt removeNow j (p .tuples)
 
 -- after its commit
 unfoldable pub committedOn : ℕ → Page → List Held
-committedOn j p = if p .frozen then editAt keptLater j (p .tuples) else editAt kept j (p .tuples)
+committedOn j p = if p .frozen then editAt pendCommit j (p .tuples) else editAt commitNow j (p .tuples)
 
 entries-removeRowOn : (j : ℕ) (o : Option Page) (p : Page) (ps : List Page)
     → entries (removeRowOn j o p ps) ≡ entries (listOf o) ++ (withTable (p .table) (removedOn j p) ++ entries ps)
 unfolding removeRowOn removedOn if_then_else_ withTuples fresh
 entries-removeRowOn j o p ps =
-    let q = fresh (p .table) (editAt gone j (p .tuples)) in
+    let q = fresh (p .table) (editAt removeNow j (p .tuples)) in
     by (p .frozen) (λ h. rw (h, entries-page o _ ps)) (λ h. rw (h, entries-settle (q ∷ []) o q ps (λ m. refl), entries-page o q ps))
 
 entries-commitRowOn : (j : ℕ) (o : Option Page) (p : Page) (ps : List Page)
@@ -220,29 +220,29 @@ pub entries-commitRow : (i : ℕ) (ps : List Page) → entries (commitRow i ps) 
 unfolding commitRow
 entries-commitRow i ps = row-entries commitRowOn committedOn entries-commitRowOn i none ps ∙ (unfold listOf entries in refl)
 
-later-number : (h : Held) → (numbersOn (goneLater h) ≡ h .tuple .number ∷ []) ⊎ (goneLater h ≡ [])
-unfolding goneLater if_then_else_ withPending
+later-number : (h : Held) → (numbersOn (pendRemove h) ≡ h .tuple .number ∷ []) ⊎ (pendRemove h ≡ [])
+unfolding pendRemove if_then_else_ withPending
 later-number h = by (isAdding (h .pending)) (λ k. rw k (inr refl)) (λ k. rw k (inl refl))
 
 removed-less : (j : ℕ) (p : Page) → Less j (numbersOn (removedOn j p)) (numbersOn (p .tuples))
-unfolding removedOn takenAt if_then_else_ gone
+unfolding removedOn pendRemoveAt if_then_else_ removeNow
 removed-less j p =
     by (p .frozen)
-    (λ h. by (isEmpty (editAt goneLater j (p .tuples))) (λ k. rw (h, k) (inl refl)) (λ k. rw (h, k) (edit-less goneLater later-number j (p .tuples))))
-    (λ h. rw h (edit-less gone (λ x. inr refl) j (p .tuples)))
+    (λ h. by (isEmpty (editAt pendRemove j (p .tuples))) (λ k. rw (h, k) (inl refl)) (λ k. rw (h, k) (edit-less pendRemove later-number j (p .tuples))))
+    (λ h. rw h (edit-less removeNow (λ x. inr refl) j (p .tuples)))
 
-kept-number : (h : Held) → numbersOn (kept h) ≡ h .tuple .number ∷ []
-unfolding kept asCommitted
+kept-number : (h : Held) → numbersOn (commitNow h) ≡ h .tuple .number ∷ []
+unfolding commitNow asCommitted
 kept-number h = refl
 
-keptLater-number : (h : Held) → numbersOn (keptLater h) ≡ h .tuple .number ∷ []
-unfolding keptLater if_then_else_ withPending
-keptLater-number h =
+pendCommit-number : (h : Held) → numbersOn (pendCommit h) ≡ h .tuple .number ∷ []
+unfolding pendCommit if_then_else_ withPending
+pendCommit-number h =
     by (isAdding (h .pending)) (λ k. rw k (kept-number h)) (λ k. by (isRemoving (h .pending)) (λ m. rw (k, m)) (λ m. rw (k, m)))
 
 committed-same : (j : ℕ) (p : Page) → numbersOn (committedOn j p) ≡ numbersOn (p .tuples)
 unfolding committedOn if_then_else_
-committed-same j p = by (p .frozen) (λ h. rw h (edit-same keptLater keptLater-number j (p .tuples))) (λ h. rw h (edit-same kept kept-number j (p .tuples)))
+committed-same j p = by (p .frozen) (λ h. rw h (edit-same pendCommit pendCommit-number j (p .tuples))) (λ h. rw h (edit-same commitNow kept-number j (p .tuples)))
 
 pub remove-numbers : (i : ℕ) (ps : List Page) → Less i (numbers (removeRow i ps)) (numbers ps)
 remove-numbers i ps = rw (entries-removeRow i ps) (numbers-less removedOn removed-less i ps)

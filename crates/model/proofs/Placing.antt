@@ -5,12 +5,12 @@ use Rattle.basics.proofs.Facts.{AllOf, lie, never, by, by-option}
 use Rattle.blocks.specs.Tuple.{Tuple}
 use Rattle.rows.specs.Rows.{Row}
 use Rattle.model.specs.State.{Held, Page}
-use Rattle.model.specs.Rules.{after, grown, withTuples, fresh, splitOnce, shown, entering, ripe, isRemoving, isCommitting, calm, place, placeAfter, placeFront}
+use Rattle.model.specs.Rules.{after, grown, withTuples, fresh, splitOnce, shown, entering, applied, isRemoving, isCommitting, withoutPending, place, placeAfter, placeFront}
 use Rattle.model.specs.Sight.{rows, held}
 use Rattle.model.proofs.Lists.{Pairs, some-eq, leb-true, all-append, all-map, eqb-self, all-two, pairs-parts, all-parts, eqb-true, leb-false, all-mapped}
 use Rattle.model.proofs.Splits.{after-none, once-together}
 use Rattle.model.proofs.Sound.{PageOk}
-use Rattle.model.proofs.Rows.{Entry, asRow, withTable, all-table, entries, entries-append, entries-fresh, live, plain, sub-all, live-sub, plain-append, live-append, pairs-plain, held-plain, rows-live}
+use Rattle.model.proofs.Rows.{Entry, asRow, withTable, all-table, entries, entries-append, entries-fresh, liveRows, plain, sub-all, live-sub, plain-append, live-append, pairs-plain, held-plain, rows-live}
 
 -- a stands before b: by table, key, number
 abbrev pub Before : Row → Row → Type 0
@@ -148,15 +148,15 @@ tables-up p ps o s = go (p .tuples) (page-full p o) s
 
 -- the tuple as it is put: pending add on a frozen page
 abbrev Enters : Tuple → Held → Type 0
-Enters x y = (y .tuple ≡ x) × ((t : ℕ) → live ((t, y) ∷ []) ≡ (t, x) ∷ [])
+Enters x y = (y .tuple ≡ x) × ((t : ℕ) → liveRows ((t, y) ∷ []) ≡ (t, x) ∷ [])
 
 enters-page : (p : Page) (x : Tuple) → Enters x (entering p x)
-unfolding entering live if_then_else_ ripe isRemoving isCommitting
+unfolding entering liveRows if_then_else_ applied isRemoving isCommitting
 enters-page p x = (refl, λ t. by (p .frozen) (λ f. rw f) (λ f. rw f))
 
-enters-calm : (x : Tuple) → Enters x (calm x)
-unfolding calm live if_then_else_ ripe isRemoving isCommitting
-enters-calm x = (refl, λ t. refl)
+enters-withoutPending : (x : Tuple) → Enters x (withoutPending x)
+unfolding withoutPending liveRows if_then_else_ applied isRemoving isCommitting
+enters-withoutPending x = (refl, λ t. refl)
 
 -- ---- all pages
 
@@ -249,7 +249,7 @@ module _ (t : ℕ) (x : Tuple) where
   unfolding entries withTable
   front-eq p ps = entries-grown p (entering p x ∷ p .tuples) ps
 
-  front-new : (ps : List Page) → entries (fresh t (calm x ∷ []) ∷ ps) ≡ (t, calm x) ∷ entries ps
+  front-new : (ps : List Page) → entries (fresh t (withoutPending x ∷ []) ∷ ps) ≡ (t, withoutPending x) ∷ entries ps
   unfolding entries withTable fresh
   front-new ps = refl
 
@@ -272,9 +272,9 @@ module _ (t : ℕ) (x : Tuple) where
         (sym (front-eq p ps ∙ ap (λ u. (u, entering p x) ∷ entries (p ∷ ps)) e)) (put-first t (entering p x) (entries (p ∷ ps)) a),
   )
 
-  front-other : (ps : List Page) → AllOf (High t (x .key)) (entries ps) → Placed (entries (fresh t (calm x ∷ []) ∷ ps)) (entries ps)
-  unfolding calm
-  front-other ps a = (calm x, enters-calm x, subst (λ u. Slot t (calm x) u (entries ps)) (sym (front-new ps)) (put-first t (calm x) (entries ps) a))
+  front-other : (ps : List Page) → AllOf (High t (x .key)) (entries ps) → Placed (entries (fresh t (withoutPending x ∷ []) ∷ ps)) (entries ps)
+  unfolding withoutPending
+  front-other ps a = (withoutPending x, enters-withoutPending x, subst (λ u. Slot t (withoutPending x) u (entries ps)) (sym (front-new ps)) (put-first t (withoutPending x) (entries ps) a))
 
   front-step : (p : Page) (ps : List Page) → AllOf (Clear t (x .key)) (entries (p ∷ ps)) → PageOk p → Pairs Earlier (entries (p ∷ ps))
       → Placed (entries (placeFront t x ps)) (entries ps) → Placed (entries (placeFront t x (p ∷ ps))) (entries (p ∷ ps))
@@ -313,13 +313,13 @@ module _ (t : ℕ) (x : Tuple) where
       (λ n. rw (n, place) (placeFront-put ps (placeAfter-clear t x ps n) o s))
       (λ qs n. let r = placeAfter-put ps qs n o s in rw (n, place) (r .0, r .1, r .2 .put))
 
--- ---- what is held, and what is live
+-- ---- what is held, and what is liveRows
 
-low-live : (t k : ℕ) (es : List Entry) → AllOf (NotAbove t k) (plain es) → AllOf (NotAbove t k) (live es)
+low-live : (t k : ℕ) (es : List Entry) → AllOf (NotAbove t k) (plain es) → AllOf (NotAbove t k) (liveRows es)
 low-live t k es a =
     sub-all (NotAbove t k) (NotAbove t k) (λ a b e h. (omega (arith, e .0, h .0), λ u. let z = h .1 (omega (arith, e .0)) in omega (arith, e .1))) (live-sub es) a
 
-high-live : (t k : ℕ) (es : List Entry) → AllOf (Above t k) (plain es) → AllOf (Above t k) (live es)
+high-live : (t k : ℕ) (es : List Entry) → AllOf (Above t k) (plain es) → AllOf (Above t k) (liveRows es)
 high-live t k es a =
     sub-all (Above t k) (Above t k) (λ a b e h. (omega (arith, e .0, h .0), λ u. let z = h .1 (omega (arith, e .0)) in omega (arith, e .1))) (live-sub es) a
 
@@ -340,13 +340,13 @@ module _ (t : ℕ) (x : Tuple) (y : Held) (e : Enters x y) (a b : List Entry) (s
     above = above;
   }
 
-  live-put : Put (t, x) (live a) (live b)
+  live-put : Put (t, x) (liveRows a) (liveRows b)
   live-put = record {
-    low = live (s .low);
-    high = live (s .high);
-    was = ap live (s .was) ∙ live-append (s .low) (s .high);
-    now = ap live (s .now) ∙ live-append (s .low) ((t, y) ∷ s .high)
-        ∙ ap (λ z. live (s .low) ++ z) (live-append ((t, y) ∷ []) (s .high) ∙ ap (λ z. z ++ live (s .high)) (e .1 t));
+    low = liveRows (s .low);
+    high = liveRows (s .high);
+    was = ap liveRows (s .was) ∙ live-append (s .low) (s .high);
+    now = ap liveRows (s .now) ∙ live-append (s .low) ((t, y) ∷ s .high)
+        ∙ ap (λ z. liveRows (s .low) ++ z) (live-append ((t, y) ∷ []) (s .high) ∙ ap (λ z. z ++ liveRows (s .high)) (e .1 t));
     below = low-live t (x .key) (s .low) below;
     above = high-live t (x .key) (s .high) above;
   }
@@ -359,5 +359,5 @@ place-put t x ps o s =
       subst (Put (t, x) (held qs)) (sym (held-plain ps))
           (subst (λ z. Put (t, x) z (plain (entries ps))) (sym (held-plain qs)) (plain-put t x (r .0) (r .1) (entries qs) (entries ps) (r .2))),
       subst (Put (t, x) (rows qs)) (sym (rows-live ps))
-          (subst (λ z. Put (t, x) z (live (entries ps))) (sym (rows-live qs)) (live-put t x (r .0) (r .1) (entries qs) (entries ps) (r .2))),
+          (subst (λ z. Put (t, x) z (liveRows (entries ps))) (sym (rows-live qs)) (live-put t x (r .0) (r .1) (entries qs) (entries ps) (r .2))),
     )

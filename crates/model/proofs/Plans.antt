@@ -10,7 +10,7 @@ use Rattle.model.specs.Rules.{isRemoving}
 use Rattle.model.specs.Places.{PlaceOp, commitPlace, removePlace, Placed, rowOf, placed, continues, runs, liveOf, ownPlaced, removePlaces, planNewest, planRun, planRuns}
 use Rattle.model.proofs.Lists.{Pairs, all-at, Mem, here, there, mem-all, all-mem, all-map, all-parts, all-keep, any-off, last-off, last-any, last-skip, last-some, last-here, last-mem, eqb-self, eqb-true, and-no, and-yes}
 use Rattle.model.proofs.ByNumber.{Op, toCommit, toRemove, removeAll, isRow, planKey, ownAt, planRows, plan-skip, plan-take}
-use Rattle.model.proofs.Rows.{Entry, ripe-is}
+use Rattle.model.proofs.Rows.{Entry, applied-is}
 use Rattle.model.proofs.Fate.{With}
 use Rattle.model.proofs.Places.{numberOf}
 use Rattle.model.proofs.Carry.{numbered, Rising}
@@ -137,7 +137,7 @@ unfolding liveOf if_then_else_
 named-live ns [] a = tt
 named-live ns (x ∷ xs) a =
     by (isRemoving (x .1 .1 .pending)) (λ h. rw h (named-live ns xs (a .1)))
-    (λ h. rw h ((a .0 .0, a .0 .1 ∙ sym (ap (λ (z : Tuple). z .number) (ripe-is (x .1 .1)))), named-live ns xs (a .1)))
+    (λ h. rw h ((a .0 .0, a .0 .1 ∙ sym (ap (λ (z : Tuple). z .number) (applied-is (x .1 .1)))), named-live ns xs (a .1)))
 
 -- ---- plans
 
@@ -215,7 +215,7 @@ unfolding liveOf if_then_else_
 rows-all P [] a = tt
 rows-all P (x ∷ xs) a =
     by (isRemoving (x .1 .1 .pending)) (λ h. rw h (rows-all P xs (a .1)))
-    (λ h. rw h (subst (P (x .1 .0)) (sym (ap (λ (z : Tuple). z .key) (ripe-is (x .1 .1)))) (a .0), rows-all P xs (a .1)))
+    (λ h. rw h (subst (P (x .1 .0)) (sym (ap (λ (z : Tuple). z .key) (applied-is (x .1 .1)))) (a .0), rows-all P xs (a .1)))
 
 pairs-of : (R : Row → Row → Type 0) (L : List Row) → AllOf (λ r. AllOf (R r) L) L → Pairs R L
 pairs-of R [] a = tt

@@ -8,14 +8,14 @@ use Rattle.image.specs.Stages.{directoriesFor}
 use Rattle.model.specs.State.{Store, Write, Outcome, Page, Active, Held, Answer, refused, done, Checkpoint, idle, running}
 use Rattle.model.specs.Rules.{fresh, isFrozen}
 use Rattle.model.specs.Sight.{seen}
-use Rattle.model.specs.Transactions.{unless, Test, gives, _when_, written, changed, readSeen, openCall, insertCall, replaceCall, deleteCall, commitCall, abortCall, readCall, listCall, PlaceOp, carryOut}
-use Rattle.model.specs.Checkpoint.{stored, stepAt, stepOf, storePage, storeDirectory, storeHeader, made}
+use Rattle.model.specs.Transactions.{unless, Test, gives, _when_, withTuple, changed, readSeen, openCall, insertCall, replaceCall, deleteCall, commitCall, abortCall, readCall, listCall, PlaceOp, carryOut}
+use Rattle.model.specs.Checkpoint.{withProgress, stepAt, stepOf, storePage, storeDirectory, storeHeader, made}
 use Rattle.model.specs.Calls.{Call, opens, inserts, replaces, deletes, commits, aborts, reads, lists, begins, steps, runs, call}
 use Rattle.model.proofs.Frozen.{images, images-place, images-carry}
 use Rattle.model.proofs.Pages.{stillFrozen, all-place, all-carry}
 use Rattle.model.proofs.Totals.{sum-place, sum-carry}
 
--- a property of the store after a call and the blocks written: none if it is refused
+-- a property of the store after a call and the blocks withTuple: none if it is refused
 pub unless-out : (P : Store → List Write → Type 0) (ts : List Test) (s : Store) (o : Outcome) → P s [] → P (o .store) (o .writes)
     → P (unless ts s o .store) (unless ts s o .writes)
 unfolding unless if_then_else_ gives
@@ -75,8 +75,8 @@ module _ (s : Store) where
   quiet-unless [] o q = q
   quiet-unless ((n when b) ∷ ts) o q = by b (λ h. rw h (quiet-same (refused n))) (λ h. rw h (quiet-unless ts o q))
 
-  quiet-written : (tx t k : ℕ) (bs : List ℕ) (m : Bool) → Quiet s (written tx t k bs m s)
-  unfolding written gives
+  quiet-written : (tx t k : ℕ) (bs : List ℕ) (m : Bool) → Quiet s (withTuple tx t k bs m s)
+  unfolding withTuple gives
   quiet-written tx t k bs m =
       record {
         none-written = refl;
@@ -126,7 +126,7 @@ module _ (s : Store) where
 
 -- ---- a step changes the level, the pages, the blocks in use, the block last taken and the checkpoint only
 
-pub step-frame : (P : Store → Type 0) (s : Store) → P s → ((l : ℕ) (ps : List Page) (u : ℕ → Bool) (b : ℕ) (c : Checkpoint) → P (stored s l ps u b c))
+pub step-frame : (P : Store → Type 0) (s : Store) → P s → ((l : ℕ) (ps : List Page) (u : ℕ → Bool) (b : ℕ) (c : Checkpoint) → P (withProgress s l ps u b c))
     → P (stepAt (s .checkpoint) s .store)
 unfolding stepAt stepOf gives if_then_else_ storePage storeDirectory storeHeader made
 step-frame P s p f = go (s .checkpoint)

@@ -9,8 +9,8 @@ use Rattle.image.specs.Stages.{directoriesFor}
 use Rattle.model.specs.State.{Store, Page, Checkpoint, idle, running, Held}
 use Rattle.model.specs.Rules.{isFrozen, shown, isAdding}
 use Rattle.model.specs.Sight.{rows, held, seen}
-use Rattle.model.specs.Transactions.{writtenBy, written, newTuple, gives, changed, openCall, insertCall, replaceCall, deleteCall, commitCall, abortCall, readCall, readSeen, listCall, notOpen, noTable, tooLong}
-use Rattle.model.specs.Checkpoint.{stepAt, stepOf, storePage, storeDirectory, storeHeader, made, stored, allocate, inTurn, beginCall, stepCall, runCall, left}
+use Rattle.model.specs.Transactions.{writtenBy, withTuple, newTuple, gives, changed, openCall, insertCall, replaceCall, deleteCall, commitCall, abortCall, readCall, readSeen, listCall, notOpen, noTable, tooLong}
+use Rattle.model.specs.Checkpoint.{stepAt, stepOf, storePage, storeDirectory, storeHeader, made, withProgress, allocate, inTurn, beginCall, stepCall, runCall, left}
 use Rattle.model.specs.Calls.{Call, Typed, call, opens, inserts, replaces, deletes, commits, aborts, reads, lists, begins, steps, runs}
 use Rattle.model.proofs.Lists.{many-length, all-insert, leb-false, not-false, all-map, all-two}
 use Rattle.model.proofs.Frozen.{bare}
@@ -57,8 +57,8 @@ new-fits s v tx k bs m told lt lk lb ab = record {
 written-fits : (s : Store) → Valid s → Fitting s → (tx t k : ℕ) (bs : List ℕ) (m : Bool)
     → writtenBy tx (s .active) ≡ howMany (isOwn tx) (rows (s .pages)) → ltb 4095 tx ≡ false → k < 4294967296
     → length bs ≤ payloadLimit → AllBytes bs
-    → Fitting (written tx t k bs m s .store)
-unfolding written gives changed
+    → Fitting (withTuple tx t k bs m s .store)
+unfolding withTuple gives changed
 written-fits s v f tx t k bs m told lt lk lb ab =
     let p = place-put t (newTuple tx k bs m s) (s .pages) (v .pages) (v .has .rising) .0 in
     subst (AllOf (λ r. Fits (r .1))) (sym (p .now))
@@ -68,7 +68,7 @@ written-fits s v f tx t k bs m told lt lk lb ab =
 -- ---- the checkpoint
 
 pub step-fits : (s : Store) → Valid s → Fitting s → Fitting (stepAt (s .checkpoint) s .store)
-unfolding stepAt stepOf gives if_then_else_ storePage storeDirectory storeHeader made stored
+unfolding stepAt stepOf gives if_then_else_ storePage storeDirectory storeHeader made withProgress
 step-fits s v f = go (s .checkpoint)
   where
     go : (c : Checkpoint) → Fitting (stepAt c s .store)
@@ -86,7 +86,7 @@ turn-fits (suc k) s v f = turn-fits k (stepAt (s .checkpoint) s .store) (step-va
 -- ---- all calls
 
 pub keeps-fits : (c : Call) (s : Store) → Typed c → Valid s → Counted s → Fitting s → Fitting (call c s .store)
-unfolding call openCall insertCall replaceCall deleteCall commitCall abortCall readCall readSeen listCall beginCall stepCall runCall notOpen noTable tooLong gives changed stored
+unfolding call openCall insertCall replaceCall deleteCall commitCall abortCall readCall readSeen listCall beginCall stepCall runCall notOpen noTable tooLong gives changed withProgress
 keeps-fits (opens tx) s t v c f = unless-keeps Fitting _ s _ f (λ p. f)
 keeps-fits (inserts tx tb k bs) s t v c f =
     unless-keeps Fitting _ s _ f (λ p. written-fits s v f tx tb k bs false (c tx (not-false _ (p .1 .0))) (p .0) (t .0)
@@ -109,7 +109,7 @@ keeps-fits begins s t v c f = unless-keeps Fitting _ s _ f (λ p. rw (held-freez
 keeps-fits (steps len) s t v c f = unless-keeps Fitting _ s _ f (λ p. step-fits s v f)
 keeps-fits (runs limit len) s t v c f = unless-keeps Fitting _ s _ f (λ p. turn-fits (min limit (left s)) s v f)
 
--- ---- what the frozen pages show can be written
+-- ---- what the frozen pages show can be withTuple
 
 shown-fits : (hs : List Held) → AllOf Fits (bare hs) → AllFit (shown hs)
 unfolding shown if_then_else_

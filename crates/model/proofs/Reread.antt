@@ -11,7 +11,7 @@ use Rattle.model.specs.State.{Store, Page}
 use Rattle.model.specs.Rules.{isDirty}
 use Rattle.model.specs.Calls.{Call, afterCalls}
 use Rattle.model.specs.Recover.{recoveredStore}
-use Rattle.model.specs.QuotedLine.{Logged, isHeader, landed, Cut, stored, content}
+use Rattle.model.specs.CrashRecovery.{Logged, isHeader, landed, Cut, imageWith, content}
 use Rattle.model.specs.Checkpoints.{afterStores, contentOf, Placed, Checkpointed, Checkpoints}
 use Rattle.model.proofs.Views.{WriteOk, put, CutV}
 use Rattle.model.proofs.Lists.{eqb-true, not-zero, all-map, all-parts, all-append}
@@ -33,8 +33,8 @@ header-lands w base h = rw h
 whole-cut : (img : List ℕ) (base : List Call) (ws : List Logged) (w : Logged) (later : List Logged) → isHeader w ≡ true
     → Cut img base (ws ++ w ∷ later) (afterStores img (ws ++ w ∷ [])) (w .before)
 unfolding afterStores
-whole-cut img base [] w later h = Cut.whole (subst (λ z. Cut (stored img w) z later (stored img w) (w .before)) (sym (header-lands w base h)) Cut.stop)
-whole-cut img base (v ∷ ws) w later h = Cut.whole (whole-cut (stored img v) (landed v base) ws w later h)
+whole-cut img base [] w later h = Cut.whole (subst (λ z. Cut (imageWith img w) z later (imageWith img w) (w .before)) (sym (header-lands w base h)) Cut.stop)
+whole-cut img base (v ∷ ws) w later h = Cut.whole (whole-cut (imageWith img v) (landed v base) ws w later h)
 
 top-block : (n : ℕ) (img : List ℕ) (ws : List Logged) (w : Logged) → length img ≡ 512 * n → AllOf (WriteOk n) (ws ++ w ∷ []) → isHeader w ≡ true
     → view (afterStores img (ws ++ w ∷ [])) 0 ≡ w .write .what
@@ -43,7 +43,7 @@ top-block n img [] w e ok h =
     let z = eqb-true (w .write .at) 0 h in
     ap (λ v. v 0) (written n img w e (ok .0))
     ∙ subst (λ b. put (view img) (w .write .at) (w .write .what) b ≡ w .write .what) z (put-same (view img) (w .write .at) (w .write .what))
-top-block n img (v ∷ ws) w e ok h = top-block n (stored img v) ws w (written-long n img v e (ok .0)) (ok .1) h
+top-block n img (v ∷ ws) w e ok h = top-block n (imageWith img v) ws w (written-long n img v e (ok .0)) (ok .1) h
 
 -- ---- reading
 

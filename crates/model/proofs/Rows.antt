@@ -1,17 +1,17 @@
--- The rows of the pages, held and live, as two images of one list of entries; and what each rule on pages does to them.
+-- The rows of the pages, held and liveRows, as two images of one list of entries; and what each rule on pages does to them.
 use Rattle.basics.proofs.Kit.{_≡_, refl, sym, ap, _∙_, subst, _≢_, Bool, true, false, some, none, Option, List, [], _∷_, _++_, append-assoc, append-nil, map, ℕ, _≤_, _<_, eqb, length, arith}
 use Rattle.basics.specs.Basics.{if_then_else_, isEmpty, any}
 use Rattle.basics.proofs.Facts.{by, lie, and-true, AllOf}
 use Rattle.blocks.specs.Tuple.{Owner, committed, Tuple}
 use Rattle.rows.specs.Rows.{Row, rowsOf, number}
 use Rattle.model.specs.State.{Held, Page}
-use Rattle.model.specs.Rules.{isRemoving, ripe, ripened, fresh, joins, joined, settleNext, settle, settleFull, listOf, asCommitted, isCommitting, around, calm, splitAll, thawOn, thaw, isPending, isFrozen, kept, gone, goneLater, withPending, isAdding, keptLater, withTuples, freeze}
+use Rattle.model.specs.Rules.{isRemoving, applied, live, fresh, joins, joined, settleNext, settle, settleFull, listOf, asCommitted, isCommitting, around, withoutPending, splitAll, thawOn, thaw, isPending, isFrozen, commitNow, removeNow, pendRemove, withPending, isAdding, pendCommit, withTuples, freeze}
 use Rattle.model.specs.Sight.{rows, held}
 use Rattle.model.proofs.Lists.{eqb-true, nothing-left, has-some, here, Pairs, all-map, off-any, pairs-parts}
 use Rattle.model.proofs.Splits.{together, Small, split-all}
 use Rattle.model.proofs.Frozen.{bare}
 use Rattle.model.proofs.ByNumber.{commit, isNumber, edit, hasNumber, remove, removeOn, commitOn, isRow, takenLater-is}
-use Rattle.model.proofs.Sound.{PageOk, small, ripened-calm}
+use Rattle.model.proofs.Sound.{PageOk, small, live-withoutPending}
 
 -- a tuple as it stands on its page, with its table
 abbrev pub Entry : Type 0
@@ -32,10 +32,10 @@ asRow e = (e .0, e .1 .tuple)
 abbrev pub plain : List Entry → List Row
 plain es = map asRow es
 
--- live: pending operations taken as done
-unfoldable pub live : List Entry → List Row
-live [] = []
-live (e ∷ es) = if isRemoving (e .1 .pending) then live es else (e .0, ripe (e .1)) ∷ live es
+-- liveRows: pending operations taken as done
+unfoldable pub liveRows : List Entry → List Row
+liveRows [] = []
+liveRows (e ∷ es) = if isRemoving (e .1 .pending) then liveRows es else (e .0, applied (e .1)) ∷ liveRows es
 
 -- ---- appending
 
@@ -49,8 +49,8 @@ unfolding entries
 entries-append [] b = refl
 entries-append (p ∷ a) b = rw (entries-append a b, append-assoc)
 
-pub live-append : (a b : List Entry) → live (a ++ b) ≡ live a ++ live b
-unfolding live if_then_else_
+pub live-append : (a b : List Entry) → liveRows (a ++ b) ≡ liveRows a ++ liveRows b
+unfolding liveRows if_then_else_
 live-append [] b = refl
 live-append (r ∷ a) b = by (isRemoving (r .1 .pending)) (λ h. rw (h, live-append a b)) (λ h. rw (h, live-append a b))
 
@@ -63,8 +63,8 @@ unfolding withTable rowsOf
 plain-rows t [] = refl
 plain-rows t (x ∷ xs) = rw (plain-rows t xs)
 
-live-rows : (t : ℕ) (ts : List Held) → live (withTable t ts) ≡ rowsOf t (ripened ts)
-unfolding live withTable rowsOf ripened if_then_else_
+live-rows : (t : ℕ) (ts : List Held) → liveRows (withTable t ts) ≡ rowsOf t (live ts)
+unfolding liveRows withTable rowsOf live if_then_else_
 live-rows t [] = refl
 live-rows t (x ∷ xs) = by (isRemoving (x .pending)) (λ h. rw (h, live-rows t xs)) (λ h. rw (h, live-rows t xs))
 
@@ -73,8 +73,8 @@ unfolding held entries
 held-plain [] = refl
 held-plain (p ∷ ps) = rw (held-plain ps, plain-append (withTable (p .table) (p .tuples)), plain-rows (p .table) (p .tuples))
 
-pub rows-live : (ps : List Page) → rows ps ≡ live (entries ps)
-unfolding rows entries live
+pub rows-live : (ps : List Page) → rows ps ≡ liveRows (entries ps)
+unfolding rows entries liveRows
 rows-live [] = refl
 rows-live (p ∷ ps) = rw (rows-live ps, live-append (withTable (p .table) (p .tuples)), live-rows (p .table) (p .tuples))
 
@@ -172,13 +172,13 @@ sub-pairs R f (skip s) h = sub-pairs R f s (h .1)
 sub-pairs R f (take {a} {b} e s) h =
     (sub-all (R b) (R a) (λ c d g r. f a b c d e g r) s (h .0), sub-pairs R f s (h .1))
 
--- the live rows among those held
-pub live-sub : (es : List Entry) → Sub (live es) (plain es)
-unfolding live if_then_else_ ripe asCommitted
+-- the liveRows rows among those held
+pub live-sub : (es : List Entry) → Sub (liveRows es) (plain es)
+unfolding liveRows if_then_else_ applied asCommitted
 live-sub [] = empty
 live-sub (e ∷ es) = by (isRemoving (e .1 .pending)) (λ h. rw h (skip (live-sub es))) (λ h. rw h (take (go (isCommitting (e .1 .pending)) refl) (live-sub es)))
   where
-    go : (b : Bool) → isCommitting (e .1 .pending) ≡ b → Alike (e .0, ripe (e .1)) (asRow e)
+    go : (b : Bool) → isCommitting (e .1 .pending) ≡ b → Alike (e .0, applied (e .1)) (asRow e)
     go true h = rw h (refl, refl, refl, refl, settled)
     go false h = rw h (refl, refl, refl, refl, still)
 
@@ -205,22 +205,22 @@ module _ (P : List Entry → List Entry → Type 0) (hit : Page → Bool) (f : O
       by (hit p) (λ e. rw (e, around) (here o p ps h e k))
       (λ e. rw (e, around, entries-append (listOf o), entries-append (listOf o)) (past-list (listOf o) h _ _ (around-held (some p) ps (e, tt) (k .1))))
 
--- ---- thawing: the live rows stay
+-- ---- thawing: the liveRows rows stay
 
-calm-plain : (t : ℕ) (xs : List Tuple) → (plain (withTable t (map calm xs)) ≡ rowsOf t xs) × (live (withTable t (map calm xs)) ≡ rowsOf t xs)
-unfolding live withTable rowsOf calm if_then_else_ ripe isRemoving isCommitting
-calm-plain t [] = (refl, refl)
-calm-plain t (x ∷ xs) = let r = calm-plain t xs in (rw (r .0), rw (r .1))
+withoutPending-plain : (t : ℕ) (xs : List Tuple) → (plain (withTable t (map withoutPending xs)) ≡ rowsOf t xs) × (liveRows (withTable t (map withoutPending xs)) ≡ rowsOf t xs)
+unfolding liveRows withTable rowsOf withoutPending if_then_else_ applied isRemoving isCommitting
+withoutPending-plain t [] = (refl, refl)
+withoutPending-plain t (x ∷ xs) = let r = withoutPending-plain t xs in (rw (r .0), rw (r .1))
 
--- b became a: among b's rows, and the same live ones
+-- b became a: among b's rows, and the same liveRows ones
 abbrev Still : List Entry → List Entry → Type 0
-Still a b = Sub (plain a) (plain b) × (live a ≡ live b)
+Still a b = Sub (plain a) (plain b) × (liveRows a ≡ liveRows b)
 
 still-append : (a b c d : List Entry) → Still a b → Still c d → Still (a ++ c) (b ++ d)
 still-append a b c d s t = (
   rw (plain-append a c, plain-append b d) (sub-append (s .0) (t .0)),
-  live-append a c ∙ ap (λ z. z ++ live c) (s .1)
-      ∙ ap (λ z. live b ++ z) (t .1) ∙ sym (live-append b d),
+  live-append a c ∙ ap (λ z. z ++ liveRows c) (s .1)
+      ∙ ap (λ z. liveRows b ++ z) (t .1) ∙ sym (live-append b d),
 )
 
 still-refl : (a : List Entry) → Still a a
@@ -236,9 +236,9 @@ still-mid o p ps X s = rw (entries-append (listOf o) (p ∷ ps))
     (still-append (entries (listOf o)) (entries (listOf o)) _ _ (still-refl (entries (listOf o)))
     (still-append X (withTable (p .table) (p .tuples)) (entries ps) (entries ps) s (still-refl (entries ps))))
 
-still-ripe : (t : ℕ) (ts : List Held) → Still (withTable t (map calm (ripened ts))) (withTable t ts)
-still-ripe t ts =
-    let c = calm-plain t (ripened ts) in
+still-applied : (t : ℕ) (ts : List Held) → Still (withTable t (map withoutPending (live ts))) (withTable t ts)
+still-applied t ts =
+    let c = withoutPending-plain t (live ts) in
     (subst (λ z. Sub z (plain (withTable t ts))) (live-rows t ts ∙ sym (c .0)) (live-sub (withTable t ts)), c .1 ∙ sym (live-rows t ts))
 
 pub entries-page : (o : Option Page) (p : Page) (ps : List Page)
@@ -249,26 +249,26 @@ entries-page o p ps = entries-append (listOf o) (p ∷ ps)
 still-thawOn : (b : ℕ) (o : Option Page) (p : Page) (ps : List Page) → PageOk p → Still (entries (thawOn b o p ps)) (entries (listOf o ++ p ∷ ps))
 unfolding thawOn if_then_else_ fresh
 still-thawOn b o p ps ok =
-    let ts = map calm (ripened (p .tuples)) in
+    let ts = map withoutPending (live (p .tuples)) in
     let q = fresh (p .table) ts in
     by (any (λ x. isPending (x .pending)) (p .tuples))
     (λ h. rw (
       h,
       entries-settle (map (fresh (p .table)) (splitAll ts)) o q ps
-          (entries-parts (p .table) ts (small ts (ripened-calm (p .tuples) (ok .0)))),
+          (entries-parts (p .table) ts (small ts (live-withoutPending (p .tuples) (ok .0)))),
       entries-page o q ps,
     )
-    (still-mid o p ps (withTable (p .table) ts) (still-ripe (p .table) (p .tuples))))
+    (still-mid o p ps (withTable (p .table) ts) (still-applied (p .table) (p .tuples))))
     (λ h. rw (h, entries-page o (record { table = p .table; block = b; frozen = false; tuples = p .tuples }) ps)
     (still-mid o p ps (withTable (p .table) (p .tuples)) (still-refl (withTable (p .table) (p .tuples)))))
 
 -- a step of the checkpoint changes nothing that a transaction sees
 still-thaw : (b : ℕ) (ps : List Page) → AllOf PageOk ps → Still (entries (thaw b ps)) (entries ps)
-unfolding thaw listOf live entries
+unfolding thaw listOf liveRows entries
 still-thaw b ps a = around-held Still isFrozen (thawOn b) (empty, refl)
     (λ p h a b s. let c = withTable (p .table) (p .tuples) in still-append c c a b (still-refl c) s) (λ o p ps h k ok. still-thawOn b o p ps (ok .0)) none ps tt a
 
--- ---- removing and committing: the live row of that number is taken away, or committed
+-- ---- removing and committing: the liveRows row of that number is taken away, or committed
 
 unfoldable pub amend : (Row → List Row) → ℕ → List Row → List Row
 amend G n [] = []
@@ -287,31 +287,31 @@ Differ a b = a .1 .number ≢ b .1 .number
 abbrev pub Apart : Entry → Entry → Type 0
 Apart a b = Differ (asRow a) (asRow b)
 
--- a live row is its tuple but for the owner
-pub ripe-is : (h : Held) → ripe h ≡ record { key = h .tuple .key; number = h .tuple .number; owner = ripe h .owner; mark = h .tuple .mark; payload = h .tuple .payload }
-unfolding ripe asCommitted if_then_else_
-ripe-is h = by (isCommitting (h .pending)) (λ k. rw k) (λ k. rw k)
+-- a liveRows row is its tuple but for the owner
+pub applied-is : (h : Held) → applied h ≡ record { key = h .tuple .key; number = h .tuple .number; owner = applied h .owner; mark = h .tuple .mark; payload = h .tuple .payload }
+unfolding applied asCommitted if_then_else_
+applied-is h = by (isCommitting (h .pending)) (λ k. rw k) (λ k. rw k)
 
-ripe-number : (n t : ℕ) (x : Held) → isRow n (t, ripe x) ≡ isNumber n x
+applied-number : (n t : ℕ) (x : Held) → isRow n (t, applied x) ≡ isNumber n x
 unfolding isRow number isNumber
-ripe-number n t x = ap (λ (z : Tuple). eqb (z .number) n) (ripe-is x)
+applied-number n t x = ap (λ (z : Tuple). eqb (z .number) n) (applied-is x)
 
 -- rows without that number stay
-amend-off : (G : Row → List Row) (n : ℕ) (rs : List Entry) → AllOf (λ r. isNumber n (r .1) ≡ false) rs → amend G n (live rs) ≡ live rs
-unfolding amend live if_then_else_
+amend-off : (G : Row → List Row) (n : ℕ) (rs : List Entry) → AllOf (λ r. isNumber n (r .1) ≡ false) rs → amend G n (liveRows rs) ≡ liveRows rs
+unfolding amend liveRows if_then_else_
 amend-off G n [] h = refl
 amend-off G n (r ∷ rs) h =
     by (isRemoving (r .1 .pending)) (λ k. rw k (amend-off G n rs (h .1)))
-    (λ k. rw (k, ripe-number n (r .0) (r .1), h .0, amend-off G n rs (h .1)))
+    (λ k. rw (k, applied-number n (r .0) (r .1), h .0, amend-off G n rs (h .1)))
 
 differ-off : (n : ℕ) (r : Entry) (rs : List Entry) → isNumber n (r .1) ≡ true → AllOf (Apart r) rs → AllOf (λ s. isNumber n (s .1) ≡ false) rs
 unfolding isNumber
 differ-off n r rs h a = all-map _ _ (λ s d. by (eqb (s .1 .tuple .number) n) (λ k. absurd (d (eqb-true _ n h ∙ sym (eqb-true _ n k)))) (λ k. k)) rs a
 
--- what is done to a tuple on its page, g, and what that does to its live row, G
+-- what is done to a tuple on its page, g, and what that does to its liveRows row, G
 record Edits (g : Held → List Held) (G : Row → List Row) : Type 0 where
-  dead : (t : ℕ) (x : Held) → isRemoving (x .pending) ≡ true → live (withTable t (g x)) ≡ []
-  alive : (t : ℕ) (x : Held) → isRemoving (x .pending) ≡ false → live (withTable t (g x)) ≡ G (t, ripe x)
+  dead : (t : ℕ) (x : Held) → isRemoving (x .pending) ≡ true → liveRows (withTable t (g x)) ≡ []
+  alive : (t : ℕ) (x : Held) → isRemoving (x .pending) ≡ false → liveRows (withTable t (g x)) ≡ G (t, applied x)
   among : (t : ℕ) (x : Held) → Sub (plain (withTable t (g x))) (asRow (t, x) ∷ [])
 
 module _ (g : Held → List Held) (G : Row → List Row) (E : Edits g G) (n t : ℕ) where
@@ -323,8 +323,8 @@ module _ (g : Held → List Held) (G : Row → List Row) (E : Edits g G) (n t : 
       (λ h. rw h (take (refl, refl, refl, refl, still) (edit-sub xs)))
 
   edit-live : (ts : List Held) (rest : List Entry) → any (isNumber n) ts ≡ true → Pairs Apart (withTable t ts ++ rest)
-      → live (withTable t (edit g n ts) ++ rest) ≡ amend G n (live (withTable t ts ++ rest))
-  unfolding edit withTable live amend any if_then_else_
+      → liveRows (withTable t (edit g n ts) ++ rest) ≡ amend G n (liveRows (withTable t ts ++ rest))
+  unfolding edit withTable liveRows amend any if_then_else_
   edit-live [] rest e d = lie e
   edit-live (x ∷ xs) rest e d =
       by (isNumber n x)
@@ -334,7 +334,7 @@ module _ (g : Held → List Held) (G : Row → List Row) (E : Edits g G) (n t : 
       (λ k. rw (
         h,
         k,
-        ripe-number n t x,
+        applied-number n t x,
         h,
         off,
         table-append t (g x) xs,
@@ -343,11 +343,11 @@ module _ (g : Held → List Held) (G : Row → List Row) (E : Edits g G) (n t : 
         E .alive t x k,
       )))
       (λ h. let r = edit-live xs rest (rw (h, any) at e) (d .1) in
-      by (isRemoving (x .pending)) (λ k. rw (h, k) r) (λ k. rw (h, k, ripe-number n t x, h) (ap (λ z. (t, ripe x) ∷ z) r)))
+      by (isRemoving (x .pending)) (λ k. rw (h, k) r) (λ k. rw (h, k, applied-number n t x, h) (ap (λ z. (t, applied x) ∷ z) r)))
 
 -- what an operation on the tuple of number n does to the rows
 abbrev pub Amends : (Row → List Row) → ℕ → List Entry → List Entry → Type 0
-Amends G n a b = Sub (plain a) (plain b) × (Pairs Apart b → live a ≡ amend G n (live b))
+Amends G n a b = Sub (plain a) (plain b) × (Pairs Apart b → liveRows a ≡ amend G n (liveRows b))
 
 amend-append : (G : Row → List Row) (n : ℕ) (a b : List Row) → amend G n (a ++ b) ≡ amend G n a ++ amend G n b
 unfolding amend if_then_else_
@@ -368,8 +368,8 @@ amends-past : (G : Row → List Row) (n : ℕ) (c a b : List Entry) → AllOf (�
     → Amends G n (c ++ a) (c ++ b)
 amends-past G n c a b h s = (
   rw (plain-append c a, plain-append c b) (sub-append (sub-refl (plain c)) (s .0)),
-  λ d. live-append c a ∙ ap (λ z. live c ++ z) (s .1 (pairs-parts Apart c b d .1)) ∙ ap (λ z. z ++ amend G n (live b)) (sym (amend-off G n c h))
-      ∙ sym (amend-append G n (live c) (live b)) ∙ ap (amend G n) (sym (live-append c b)),
+  λ d. live-append c a ∙ ap (λ z. liveRows c ++ z) (s .1 (pairs-parts Apart c b d .1)) ∙ ap (λ z. z ++ amend G n (liveRows b)) (sym (amend-off G n c h))
+      ∙ sym (amend-append G n (liveRows c) (liveRows b)) ∙ ap (amend G n) (sym (live-append c b)),
 )
 
 amends-list : (G : Row → List Row) (n : ℕ) (qs : List Page) (a b : List Entry) → AllOf (λ q. hasNumber n q ≡ false) qs → Amends G n a b
@@ -392,29 +392,29 @@ amends-here g G E n o p ps off h =
       λ d. edit-live g G E n (p .table) (p .tuples) (entries ps) h d,
     ))
 
-gone-edits : Edits gone away
-unfolding gone away withTable live
-gone-edits = record { dead = λ t x h. refl; alive = λ t x h. refl; among = λ t x. skip empty }
+removed-edits : Edits removeNow away
+unfolding removeNow away withTable liveRows
+removed-edits = record { dead = λ t x h. refl; alive = λ t x h. refl; among = λ t x. skip empty }
 
-goneLater-edits : Edits goneLater away
-unfolding goneLater away withTable live if_then_else_ withPending isRemoving
-goneLater-edits = record {
+pendRemove-edits : Edits pendRemove away
+unfolding pendRemove away withTable liveRows if_then_else_ withPending isRemoving
+pendRemove-edits = record {
   dead = λ t x h. by (isAdding (x .pending)) (λ k. rw k) (λ k. rw k);
   alive = λ t x h. by (isAdding (x .pending)) (λ k. rw k) (λ k. rw k);
   among = λ t x. by (isAdding (x .pending)) (λ k. rw k (skip empty)) (λ k. rw k (take (refl, refl, refl, refl, still) empty));
 }
 
-kept-edits : Edits kept kept-row
-unfolding kept kept-row withTable live if_then_else_ asCommitted ripe withPending
+kept-edits : Edits commitNow kept-row
+unfolding commitNow kept-row withTable liveRows if_then_else_ asCommitted applied withPending
 kept-edits = record {
   dead = λ t x h. rw h;
   alive = λ t x h. by (isCommitting (x .pending)) (λ k. rw (h, k)) (λ k. rw (h, k));
   among = λ t x. take (refl, refl, refl, refl, settled) empty;
 }
 
-keptLater-edits : Edits keptLater kept-row
-unfolding keptLater kept kept-row withTable live if_then_else_ asCommitted ripe withPending isRemoving isCommitting
-keptLater-edits = record {
+pendCommit-edits : Edits pendCommit kept-row
+unfolding pendCommit commitNow kept-row withTable liveRows if_then_else_ asCommitted applied withPending isRemoving isCommitting
+pendCommit-edits = record {
   dead = λ t x h. by (isAdding (x .pending)) (λ k. rw (k, h)) (λ k. rw (k, h, h));
   alive = λ t x h. by (isAdding (x .pending)) (λ k. by (isCommitting (x .pending)) (λ m. rw (k, h, m)) (λ m. rw (k, h, m)))
       (λ k. by (isCommitting (x .pending)) (λ m. rw (k, h, m)) (λ m. rw (k, h, m)));
@@ -424,22 +424,22 @@ keptLater-edits = record {
 
 -- (equations of lists first: `rw` by a field rewrites the whole record)
 entries-remove-frozen : (n : ℕ) (o : Option Page) (p : Page) (ps : List Page) → p .frozen ≡ true → PageOk p
-    → entries (removeOn n o p ps) ≡ entries (listOf o) ++ (withTable (p .table) (edit goneLater n (p .tuples)) ++ entries ps)
+    → entries (removeOn n o p ps) ≡ entries (listOf o) ++ (withTable (p .table) (edit pendRemove n (p .tuples)) ++ entries ps)
 unfolding removeOn if_then_else_ withTuples
 entries-remove-frozen n o p ps f ok = rw (f, entries-page o _ ps, takenLater-is n (p .tuples) (ok .2 f .1))
 
 entries-remove-free : (n : ℕ) (o : Option Page) (p : Page) (ps : List Page) → p .frozen ≡ false
-    → entries (removeOn n o p ps) ≡ entries (listOf o) ++ (withTable (p .table) (edit gone n (p .tuples)) ++ entries ps)
+    → entries (removeOn n o p ps) ≡ entries (listOf o) ++ (withTable (p .table) (edit removeNow n (p .tuples)) ++ entries ps)
 unfolding removeOn if_then_else_ fresh
-entries-remove-free n o p ps f = let q = fresh (p .table) (edit gone n (p .tuples)) in rw (f, entries-settle (q ∷ []) o q ps (λ m. refl), entries-page o q ps)
+entries-remove-free n o p ps f = let q = fresh (p .table) (edit removeNow n (p .tuples)) in rw (f, entries-settle (q ∷ []) o q ps (λ m. refl), entries-page o q ps)
 
 entries-commit-frozen : (n : ℕ) (o : Option Page) (p : Page) (ps : List Page) → p .frozen ≡ true
-    → entries (commitOn n o p ps) ≡ entries (listOf o) ++ (withTable (p .table) (edit keptLater n (p .tuples)) ++ entries ps)
+    → entries (commitOn n o p ps) ≡ entries (listOf o) ++ (withTable (p .table) (edit pendCommit n (p .tuples)) ++ entries ps)
 unfolding commitOn if_then_else_ withTuples
 entries-commit-frozen n o p ps f = rw (f, entries-page o _ ps)
 
 entries-commit-free : (n : ℕ) (o : Option Page) (p : Page) (ps : List Page) → p .frozen ≡ false
-    → entries (commitOn n o p ps) ≡ entries (listOf o) ++ (withTable (p .table) (edit kept n (p .tuples)) ++ entries ps)
+    → entries (commitOn n o p ps) ≡ entries (listOf o) ++ (withTable (p .table) (edit commitNow n (p .tuples)) ++ entries ps)
 unfolding commitOn if_then_else_ fresh
 entries-commit-free n o p ps f = rw (f, entries-page o _ ps)
 
@@ -447,19 +447,19 @@ amends-removeOn : (n : ℕ) (o : Option Page) (p : Page) (ps : List Page) → Al
     → Amends away n (entries (removeOn n o p ps)) (entries (listOf o ++ p ∷ ps))
 amends-removeOn n o p ps off h ok =
     by (p .frozen)
-    (λ f. subst (λ z. Amends away n z (entries (listOf o ++ p ∷ ps))) (sym (entries-remove-frozen n o p ps f ok)) (amends-here goneLater away goneLater-edits n o p ps off h))
-    (λ f. subst (λ z. Amends away n z (entries (listOf o ++ p ∷ ps))) (sym (entries-remove-free n o p ps f)) (amends-here gone away gone-edits n o p ps off h))
+    (λ f. subst (λ z. Amends away n z (entries (listOf o ++ p ∷ ps))) (sym (entries-remove-frozen n o p ps f ok)) (amends-here pendRemove away pendRemove-edits n o p ps off h))
+    (λ f. subst (λ z. Amends away n z (entries (listOf o ++ p ∷ ps))) (sym (entries-remove-free n o p ps f)) (amends-here removeNow away removed-edits n o p ps off h))
 
 amends-commitOn : (n : ℕ) (o : Option Page) (p : Page) (ps : List Page) → AllOf (λ q. hasNumber n q ≡ false) (listOf o) → hasNumber n p ≡ true
     → Amends kept-row n (entries (commitOn n o p ps)) (entries (listOf o ++ p ∷ ps))
 amends-commitOn n o p ps off h =
     by (p .frozen)
     (λ f. subst (λ z. Amends kept-row n z (entries (listOf o ++ p ∷ ps))) (sym (entries-commit-frozen n o p ps f))
-    (amends-here keptLater kept-row keptLater-edits n o p ps off h))
-    (λ f. subst (λ z. Amends kept-row n z (entries (listOf o ++ p ∷ ps))) (sym (entries-commit-free n o p ps f)) (amends-here kept kept-row kept-edits n o p ps off h))
+    (amends-here pendCommit kept-row pendCommit-edits n o p ps off h))
+    (λ f. subst (λ z. Amends kept-row n z (entries (listOf o ++ p ∷ ps))) (sym (entries-commit-free n o p ps f)) (amends-here commitNow kept-row kept-edits n o p ps off h))
 
 amends-none : (G : Row → List Row) (n : ℕ) → Amends G n [] []
-unfolding live amend
+unfolding liveRows amend
 amends-none G n = (empty, λ d. refl)
 
 pub amends-remove : (n : ℕ) (ps : List Page) → AllOf PageOk ps → Amends away n (entries (remove n ps)) (entries ps)

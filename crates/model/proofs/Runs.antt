@@ -1,19 +1,19 @@
--- Runs of neighbours of one key: on rising tuples a run has all live rows of its key.
+-- Runs of neighbours of one key: on rising tuples a run has all liveRows rows of its key.
 use Rattle.basics.proofs.Kit.{_≡_, refl, sym, ap, _∙_, subst, ap₂, Bool, true, false, List, [], _∷_, _++_, append-assoc, append-nil, map, ℕ, suc, _+_, arith}
 use Rattle.basics.specs.Basics.{if_then_else_, keep}
 use Rattle.basics.proofs.Lists.{map-append}
 use Rattle.basics.proofs.Facts.{by, lie, AllOf}
 use Rattle.rows.specs.Rows.{Row, isAt}
-use Rattle.model.specs.Rules.{isRemoving, ripe}
+use Rattle.model.specs.Rules.{isRemoving, applied}
 use Rattle.model.specs.Places.{Placed, rowOf, placed, continues, runs, liveOf}
 use Rattle.model.proofs.Lists.{Pairs, all-mem, all-map, all-two, all-append, all-parts, pairs-parts, keep-append, keep-all, keep-none}
-use Rattle.model.proofs.Rows.{Entry, live, ripe-is}
+use Rattle.model.proofs.Rows.{Entry, liveRows, applied-is}
 use Rattle.model.proofs.Placing.{Before}
 use Rattle.model.proofs.Fate.{With, with-self, with-as, with-sym, at-split, at-join}
 
--- ---- the live rows of placed tuples
+-- ---- the liveRows rows of placed tuples
 
--- their live rows, in order
+-- their liveRows rows, in order
 abbrev pub rowsIn : List Placed → List Row
 rowsIn xs = map (λ y. y .1) (liveOf xs)
 
@@ -25,18 +25,18 @@ live-append (x ∷ a) b = by (isRemoving (x .1 .1 .pending)) (λ h. rw (h, live-
 pub rows-append : (a b : List Placed) → rowsIn (a ++ b) ≡ rowsIn a ++ rowsIn b
 rows-append a b = ap (map (λ y. y .1)) (live-append a b) ∙ map-append (λ y. y .1) (liveOf a) (liveOf b)
 
-pub rows-placed : (i : ℕ) (es : List Entry) → rowsIn (placed i es) ≡ live es
-unfolding placed liveOf live if_then_else_
+pub rows-placed : (i : ℕ) (es : List Entry) → rowsIn (placed i es) ≡ liveRows es
+unfolding placed liveOf liveRows if_then_else_
 rows-placed i [] = refl
 rows-placed i (e ∷ es) =
-    by (isRemoving (e .1 .pending)) (λ h. rw h (rows-placed (suc i) es)) (λ h. rw h (ap (λ z. (e .0, ripe (e .1)) ∷ z) (rows-placed (suc i) es)))
+    by (isRemoving (e .1 .pending)) (λ h. rw h (rows-placed (suc i) es)) (λ h. rw h (ap (λ z. (e .0, applied (e .1)) ∷ z) (rows-placed (suc i) es)))
 
--- the key of a live row is its tuple's
+-- the key of a liveRows row is its tuple's
 rows-at : (t k : ℕ) (b : Bool) (xs : List Placed) → AllOf (λ x. isAt t k (rowOf x) ≡ b) xs → AllOf (λ r. isAt t k r ≡ b) (rowsIn xs)
 unfolding liveOf isAt if_then_else_
 rows-at t k b [] a = tt
 rows-at t k b (x ∷ xs) a =
-    by (isRemoving (x .1 .1 .pending)) (λ h. rw h (rows-at t k b xs (a .1))) (λ h. rw h (ap (λ z. isAt t k (x .1 .0, z)) (ripe-is (x .1 .1)) ∙ a .0, rows-at t k b xs (a .1)))
+    by (isRemoving (x .1 .1 .pending)) (λ h. rw h (rows-at t k b xs (a .1))) (λ h. rw h (ap (λ z. isAt t k (x .1 .0, z)) (applied-is (x .1 .1)) ∙ a .0, rows-at t k b xs (a .1)))
 
 -- ---- runs of one key
 

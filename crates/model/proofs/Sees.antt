@@ -8,10 +8,10 @@ use Rattle.rows.specs.Rows.{Row, isAt, isOwn, isBy, number}
 use Rattle.model.specs.State.{Store, Outcome, filled, refused}
 use Rattle.model.specs.Rules.{asCommitted}
 use Rattle.model.specs.Sight.{seen, rows, versions, seenOf}
-use Rattle.model.specs.Transactions.{newTuple, written, openNumbers, unless, Test, gives, _when_, readSeen, readCall, notOpen, noTable, withWrite, changed, insertCall, replaceCall, deleteCall, listCall, commitCall, without, openCall, abortCall}
-use Rattle.model.specs.Checkpoint.{left, stepCall, beginCall, stored, inTurn, stepAt, runCall}
+use Rattle.model.specs.Transactions.{newTuple, withTuple, openNumbers, unless, Test, gives, _when_, readSeen, readCall, notOpen, noTable, withWrite, changed, insertCall, replaceCall, deleteCall, listCall, commitCall, without, openCall, abortCall}
+use Rattle.model.specs.Checkpoint.{left, stepCall, beginCall, withProgress, inTurn, stepAt, runCall}
 use Rattle.model.specs.Calls.{Call, reads, call, opens, inserts, replaces, deletes, commits, aborts, lists, begins, steps, runs}
-use Rattle.model.specs.Seen.{remains, WriterReads, WriterMisses, LooksOnly, RowsStay, SeenAfterCommit, mayShow, SeenAsBefore}
+use Rattle.model.specs.Seen.{remains, WriterReads, WriterMisses, ReadsOnly, RowsStay, SeenAfterCommit, mayShow, SeenAsBefore}
 use Rattle.model.proofs.Lists.{leb-false, eqb-self, here, Pairs, keep-cons, keep-past, all-map, keep-none, and-yes, and-no, eqb-true, all-mem, not-false, Mem, there, mem-all, last-mem, pairs-keep, lt-false, eqb-sym, in-append}
 use Rattle.model.proofs.ByNumber.{isRow, ownAt}
 use Rattle.model.proofs.Owners.{numbers-write, numbers-without, in-others, numbers-append}
@@ -172,29 +172,29 @@ module _ (s : Store) (v : Valid s) (tx t k : ℕ) (bs : List ℕ) (m : Bool) whe
   x : Row
   x = (t, newTuple tx k bs m s)
 
-  at-written : versions t k (written tx t k bs m s .store .pages) ≡ versions t k (s .pages) ++ x ∷ []
+  at-written : versions t k (withTuple tx t k bs m s .store .pages) ≡ versions t k (s .pages) ++ x ∷ []
   unfolding versions x newTuple
   at-written = ap (keep (isAt t k)) (written-rows s v tx t k bs m) ∙ keep-inserted (t, newTuple tx k bs m s) (rows (s .pages)) (rows-rising s v)
 
-  off-written : (t′ k′ : ℕ) → isAt t′ k′ x ≡ false → versions t′ k′ (written tx t k bs m s .store .pages) ≡ versions t′ k′ (s .pages)
+  off-written : (t′ k′ : ℕ) → isAt t′ k′ x ≡ false → versions t′ k′ (withTuple tx t k bs m s .store .pages) ≡ versions t′ k′ (s .pages)
   unfolding versions x
   off-written t′ k′ h = ap (keep (isAt t′ k′)) (written-rows s v tx t k bs m) ∙ keep-other t′ k′ (t, newTuple tx k bs m s) (rows (s .pages)) h
 
   -- its own newest version; a delete mark means absent
-  sees-own : seen tx t k (written tx t k bs m s .store) ≡ (if m then none else some (t, newTuple tx k bs m s))
+  sees-own : seen tx t k (withTuple tx t k bs m s .store) ≡ (if m then none else some (t, newTuple tx k bs m s))
   unfolding seen seenOf x newTuple isOwn isBy
   sees-own = rw (at-written, last-snoc (isOwn tx) (versions t k (s .pages)) x (eqb-self tx), seenOf)
 
-  sees-others : (u : ℕ) → eqb tx u ≡ false → (t′ k′ : ℕ) → seen u t′ k′ (written tx t k bs m s .store) ≡ seen u t′ k′ s
+  sees-others : (u : ℕ) → eqb tx u ≡ false → (t′ k′ : ℕ) → seen u t′ k′ (withTuple tx t k bs m s .store) ≡ seen u t′ k′ s
   unfolding seen x newTuple
   sees-others u d t′ k′ =
       by (isAt t′ k′ x)
       (λ h. let e = at-split t′ k′ x h in
-      ap₂ (λ a b. seenOf u (versions a b (written tx t k bs m s .store .pages))) (sym (e .0)) (sym (e .1)) ∙ go
+      ap₂ (λ a b. seenOf u (versions a b (withTuple tx t k bs m s .store .pages))) (sym (e .0)) (sym (e .1)) ∙ go
       ∙ ap₂ (λ a b. seenOf u (versions a b (s .pages))) (e .0) (e .1))
       (λ h. ap (seenOf u) (off-written t′ k′ h))
     where
-      go : seenOf u (versions t k (written tx t k bs m s .store .pages)) ≡ seenOf u (versions t k (s .pages))
+      go : seenOf u (versions t k (withTuple tx t k bs m s .store .pages)) ≡ seenOf u (versions t k (s .pages))
       go = ap (seenOf u) at-written ∙ seen-snoc u (versions t k (s .pages)) x (unfold x newTuple isOwn isBy in d) (unfold x newTuple isTentative in refl)
 
 -- ---- abort
@@ -317,15 +317,15 @@ still-listed : (tx u : ℕ) (s : Store) → isIn u (openNumbers (s .active)) ≡
 still-listed tx u s h = ap (isIn u) (numbers-write tx (s .active)) ∙ h
 
 module _ (s : Store) (v : Valid s) (tx t k room : ℕ) (few : ltb 4095 tx ≡ false) (o : not (isIn tx (openNumbers (s .active))) ≡ false) (tb : ltb 7 t ≡ false) where
-  wrote-reads : (bs : List ℕ) → length bs ≤ room → readCall tx t k room (written tx t k bs false s .store) .answer ≡ filled (length bs) bs
-  unfolding written gives changed newTuple if_then_else_
+  wrote-reads : (bs : List ℕ) → length bs ≤ room → readCall tx t k room (withTuple tx t k bs false s .store) .answer ≡ filled (length bs) bs
+  unfolding withTuple gives changed newTuple if_then_else_
   wrote-reads bs l =
-      reads-some tx t k room (written tx t k bs false s .store) few (still-listed tx tx s (not-false _ o)) tb (t, newTuple tx k bs false s)
+      reads-some tx t k room (withTuple tx t k bs false s .store) few (still-listed tx tx s (not-false _ o)) tb (t, newTuple tx k bs false s)
       (sees-own s v tx t k bs false) l
 
-  wrote-mark : readCall tx t k room (written tx t k [] true s .store) .answer ≡ refused 14
-  unfolding written gives changed if_then_else_
-  wrote-mark = reads-none tx t k room (written tx t k [] true s .store) few (still-listed tx tx s (not-false _ o)) tb (sees-own s v tx t k [] true)
+  wrote-mark : readCall tx t k room (withTuple tx t k [] true s .store) .answer ≡ refused 14
+  unfolding withTuple gives changed if_then_else_
+  wrote-mark = reads-none tx t k room (withTuple tx t k [] true s .store) few (still-listed tx tx s (not-false _ o)) tb (sees-own s v tx t k [] true)
 
 pub writer-reads : WriterReads
 unfolding insertCall replaceCall notOpen noTable
@@ -342,9 +342,9 @@ unfolding deleteCall notOpen noTable
 writer-misses s w tx t k room h =
     unless-accepted (λ o. readCall tx t k room (o .store) .answer ≡ refused 14) _ s _ (λ p q. wrote-mark s (sound s w .valid) tx t k room (p .0) (p .1 .0) (p .1 .1 .0)) h
 
-pub looks-only : LooksOnly
+pub reads-only : ReadsOnly
 unfolding call readCall listCall gives
-looks-only s = (
+reads-only s = (
   λ tx t k room. unless-out (λ z ws. (z ≡ s) × (ws ≡ [])) _ s _ (refl, refl) (go room (seen tx t k s)),
   λ room. unless-out (λ z ws. (z ≡ s) × (ws ≡ [])) _ s _ (refl, refl) (refl, refl),
 )
@@ -372,7 +372,7 @@ active-unless : (ts : List Test) (s : Store) (o : Outcome) → o .store .active 
 active-unless ts s o e = unless-keeps (λ z. z .active ≡ s .active) ts s o refl (λ p. e)
 
 begin-active : (s : Store) → beginCall s .store .active ≡ s .active
-unfolding beginCall gives stored
+unfolding beginCall gives withProgress
 begin-active s = active-unless _ s _ refl
 
 stepCall-active : (len : ℕ) (s : Store) → stepCall len s .store .active ≡ s .active
@@ -393,8 +393,8 @@ abbrev Unmoved : ℕ → ℕ → ℕ → Store → Store → Type 0
 Unmoved u t k s z = (seen u t k z ≡ seen u t k s) × (isIn u (openNumbers (s .active)) ≡ true → isIn u (openNumbers (z .active)) ≡ true)
 
 module _ (s : Store) (v : Valid s) (u t k : ℕ) where
-  unmoved-written : (tx tb key : ℕ) (bs : List ℕ) (m : Bool) → eqb tx u ≡ false → Unmoved u t k s (written tx tb key bs m s .store)
-  unfolding written gives changed
+  unmoved-written : (tx tb key : ℕ) (bs : List ℕ) (m : Bool) → eqb tx u ≡ false → Unmoved u t k s (withTuple tx tb key bs m s .store)
+  unfolding withTuple gives changed
   unmoved-written tx tb key bs m d = (sees-others s v tx tb key bs m u d t k, still-listed tx u s)
 
   unmoved-aborted : (tx : ℕ) → eqb tx u ≡ false
@@ -412,7 +412,7 @@ module _ (s : Store) (v : Valid s) (u t k : ℕ) where
   unfolding mayShow call openCall insertCall replaceCall deleteCall abortCall gives
   unmoved (opens tx) h = unless-keeps (Unmoved u t k s) _ s _ (refl, λ i. i) (λ p. unfold changed in (
     seen-rows u t k s _ refl,
-    λ i. ap (isIn u) (numbers-append (s .active) (record { transaction = tx; written = 0 }))
+    λ i. ap (isIn u) (numbers-append (s .active) (record { transaction = tx; withTuple = 0 }))
         ∙ rw (in-append u (openNumbers (s .active)), i),
   ))
   unmoved (inserts tx tb key bs) h = unless-keeps (Unmoved u t k s) _ s _ (refl, λ i. i) (λ p. unmoved-written tx tb key bs false h)
@@ -420,8 +420,8 @@ module _ (s : Store) (v : Valid s) (u t k : ℕ) where
   unmoved (deletes tx tb key) h = unless-keeps (Unmoved u t k s) _ s _ (refl, λ i. i) (λ p. unmoved-written tx tb key [] true h)
   unmoved (commits tx) h = lie (sym h)
   unmoved (aborts tx) h = unless-keeps (Unmoved u t k s) _ s _ (refl, λ i. i) (λ p. unmoved-aborted tx h)
-  unmoved (reads tx tb key room) h = subst (Unmoved u t k s) (sym (looks-only s .0 tx tb key room .0)) (refl, λ i. i)
-  unmoved (lists room) h = subst (Unmoved u t k s) (sym (looks-only s .1 room .0)) (refl, λ i. i)
+  unmoved (reads tx tb key room) h = subst (Unmoved u t k s) (sym (reads-only s .0 tx tb key room .0)) (refl, λ i. i)
+  unmoved (lists room) h = subst (Unmoved u t k s) (sym (reads-only s .1 room .0)) (refl, λ i. i)
   unmoved begins h = unmoved-stepped (beginCall s .store) (begin-rows s) (begin-active s)
   unmoved (steps len) h = unmoved-stepped (stepCall len s .store) (stepCall-rows len s v) (stepCall-active len s)
   unmoved (runs limit len) h = unmoved-stepped (runCall limit len s .store) (run-rows limit len s v) (run-active limit len s)

@@ -5,19 +5,19 @@ use Rattle.basics.specs.Basics.{sum, if_then_else_, isEmpty, any}
 use Rattle.basics.proofs.Facts.{AllOf, lie, by, never, by-option, and-true}
 use Rattle.blocks.specs.Tuple.{Tuple, size, ownerSize}
 use Rattle.model.specs.State.{Held, nothing, Page, adding, Pending, removing, committing}
-use Rattle.model.specs.Rules.{heldSize, shown, fresh, withTuples, lead, splitOnce, fits, half, after, entering, calm, grown, place, placeAfter, placeFront, joins, joined, settle, settleNext, settleFull, listOf, asCommitted, withPending, kept, gone, goneLater, isAdding, keptLater, isRemoving, around, ripe, isCommitting, ripened, splitAll, isPending, thawOn, thaw, isFrozen, editAt, takenAt, removeRowOn, committedAt, commitRowOn, atRow, removeRow, commitRow}
+use Rattle.model.specs.Rules.{heldSize, shown, fresh, withTuples, lead, splitOnce, fits, half, after, entering, withoutPending, grown, place, placeAfter, placeFront, joins, joined, settle, settleNext, settleFull, listOf, asCommitted, withPending, commitNow, removeNow, pendRemove, isAdding, pendCommit, isRemoving, around, applied, isCommitting, live, splitAll, isPending, thawOn, thaw, isFrozen, editAt, pendRemoveAt, removeRowOn, committedAt, commitRowOn, atRow, removeRow, commitRow}
 use Rattle.model.specs.Transactions.{PlaceOp, commitPlace, removePlace, carryOut}
 use Rattle.model.proofs.Lists.{all-map, leb-true, leb-false, all-take, all-drop, some-eq, all-append, not-true, has-some, all-parts}
 use Rattle.model.proofs.Splits.{mostSize, Small, half-between, after-all, together, split-all}
-use Rattle.model.proofs.Frozen.{after-shown, entering-adding, shown-takenAt, shown-keptLater, bare, shown-calm}
+use Rattle.model.proofs.Frozen.{after-shown, entering-adding, shown-takenAt, shown-pendCommit, bare, shown-withoutPending}
 
 -- a tuple of a page that is not frozen: small, nothing pending
-abbrev pub Calm : Held → Type 0
-Calm x = (heldSize x ≤ mostSize) × (x .pending ≡ nothing)
+abbrev pub NothingPending : Held → Type 0
+NothingPending x = (heldSize x ≤ mostSize) × (x .pending ≡ nothing)
 
 -- a list of tuples that may stand on such a page
 abbrev Fine : List Held → Type 0
-Fine ts = AllOf Calm ts × (sum heldSize ts ≤ 504) × (0 < length ts)
+Fine ts = AllOf NothingPending ts × (sum heldSize ts ≤ 504) × (0 < length ts)
 
 -- and what a frozen page had at begin
 abbrev Whole : List Tuple → Type 0
@@ -26,7 +26,7 @@ Whole ts = (sum size ts ≤ 504) × (0 < length ts)
 abbrev pub PageOk : Page → Type 0
 PageOk p = AllOf Small (p .tuples) × (p .frozen ≡ false → Fine (p .tuples)) × (p .frozen ≡ true → Whole (shown (p .tuples)))
 
-pub small : (ts : List Held) → AllOf Calm ts → AllOf Small ts
+pub small : (ts : List Held) → AllOf NothingPending ts → AllOf Small ts
 small ts a = all-map _ _ (λ x h. h .0) ts a
 
 fresh-ok : (t : ℕ) (ts : List Held) → Fine ts → PageOk (fresh t ts)
@@ -61,7 +61,7 @@ lead-size w a (x ∷ xs) h e s =
     let r = lead-size w (a + heldSize x) xs k (omega arith) (s .1) in
     rw t (omega arith, omega arith))
 
-split-once : (ts : List Held) → AllOf Calm ts → 0 < length ts → sum heldSize ts ≤ 504 + mostSize → AllOf Fine (splitOnce ts)
+split-once : (ts : List Held) → AllOf NothingPending ts → 0 < length ts → sum heldSize ts ≤ 504 + mostSize → AllOf Fine (splitOnce ts)
 unfolding splitOnce if_then_else_ fits half
 split-once ts c p l =
     by (leb (sum heldSize ts) 504) (λ h. rw h ((c, leb-true (sum heldSize ts) 504 h, p), tt))
@@ -92,14 +92,14 @@ entering-size : (p : Page) (x : Tuple) → heldSize (entering p x) ≡ size x
 unfolding heldSize entering
 entering-size p x = refl
 
-entering-calm : (p : Page) (x : Tuple) → p .frozen ≡ false → entering p x .pending ≡ nothing
+entering-withoutPending : (p : Page) (x : Tuple) → p .frozen ≡ false → entering p x .pending ≡ nothing
 unfolding entering if_then_else_
-entering-calm p x h = rw h
+entering-withoutPending p x h = rw h
 
 -- a page takes the tuples zs, which are its own and x
 all-grown : (p : Page) (zs : List Held) (ps : List Page) → AllOf Small zs
     → (p .frozen ≡ true → (shown zs ≡ shown (p .tuples)) × Whole (shown (p .tuples)))
-    → (p .frozen ≡ false → AllOf Calm zs × (sum heldSize zs ≤ 504 + mostSize) × (0 < length zs)) → AllOf PageOk ps → AllOf PageOk (grown p zs ++ ps)
+    → (p .frozen ≡ false → AllOf NothingPending zs × (sum heldSize zs ≤ 504 + mostSize) × (0 < length zs)) → AllOf PageOk ps → AllOf PageOk (grown p zs ++ ps)
 unfolding grown if_then_else_
 all-grown p zs ps s w f a =
     by (p .frozen) (λ h. rw h (frozen-ok _ zs refl s (w h .0) (w h .1), a))
@@ -114,7 +114,7 @@ module _ (t : ℕ) (x : Tuple) (sx : size x ≤ mostSize) where
       let es : heldSize (entering p x) ≤ mostSize = omega arith in
       all-grown p zs ps (after-all Small (entering p x) (p .tuples) zs e es (o .0))
       (λ h. (after-shown (entering p x) (p .tuples) zs (entering-adding p x h) e, o .2 h))
-      (λ h. let f = o .1 h in (after-all Calm (entering p x) (p .tuples) zs e (es, entering-calm p x h) (f .0), omega arith, k .1)) a
+      (λ h. let f = o .1 h in (after-all NothingPending (entering p x) (p .tuples) zs e (es, entering-withoutPending p x h) (f .0), omega arith, k .1)) a
 
   all-placeAfter : (ps qs : List Page) → placeAfter t x ps ≡ some qs → AllOf PageOk ps → AllOf PageOk qs
   unfolding placeAfter if_then_else_
@@ -128,8 +128,8 @@ module _ (t : ℕ) (x : Tuple) (sx : size x ≤ mostSize) where
       (λ h. never (rw (n, h) at e)))
       (λ ws n. let k : p ∷ ws ≡ qs = some-eq (rw (n, placeAfter) at e) in subst (AllOf PageOk) k (a .0, all-placeAfter ps ws n (a .1)))
 
-  alone : Fine (calm x ∷ [])
-  unfolding sum calm heldSize
+  alone : Fine (withoutPending x ∷ [])
+  unfolding sum withoutPending heldSize
   alone = (((sx, refl), tt), omega arith, omega arith)
 
   grown-front : (p : Page) (ps : List Page) → PageOk p → AllOf PageOk ps → AllOf PageOk (grown p (entering p x ∷ p .tuples) ++ ps)
@@ -138,14 +138,14 @@ module _ (t : ℕ) (x : Tuple) (sx : size x ≤ mostSize) where
       let eq = entering-size p x in
       let es : heldSize (entering p x) ≤ mostSize = omega arith in
       all-grown p (entering p x ∷ p .tuples) ps (es, o .0) (λ h. (rw (entering-adding p x h), o .2 h))
-      (λ h. let f = o .1 h in (((es, entering-calm p x h), f .0), omega arith, omega arith)) a
+      (λ h. let f = o .1 h in (((es, entering-withoutPending p x h), f .0), omega arith, omega arith)) a
 
   all-placeFront : (ps : List Page) → AllOf PageOk ps → AllOf PageOk (placeFront t x ps)
   unfolding placeFront if_then_else_
-  all-placeFront [] a = (fresh-ok t (calm x ∷ []) alone, tt)
+  all-placeFront [] a = (fresh-ok t (withoutPending x ∷ []) alone, tt)
   all-placeFront (p ∷ ps) a =
       by (ltb (p .table) t) (λ h. rw h (a .0, all-placeFront ps (a .1)))
-      (λ h. by (eqb (p .table) t) (λ k. rw (h, k) (grown-front p ps (a .0) (a .1))) (λ k. rw (h, k) (fresh-ok t (calm x ∷ []) alone, a)))
+      (λ h. by (eqb (p .table) t) (λ k. rw (h, k) (grown-front p ps (a .0) (a .1))) (λ k. rw (h, k) (fresh-ok t (withoutPending x ∷ []) alone, a)))
 
   pub place-ok : (ps : List Page) → AllOf PageOk ps → AllOf PageOk (place t x ps)
   unfolding place
@@ -163,15 +163,15 @@ joins-in p q e =
     let c = and-true (eqb (p .table) (q .table)) (leb (sum heldSize (p .tuples) + sum heldSize (q .tuples)) 336) (b .1) in
     (not-true _ (a .0), not-true _ (b .0), leb-true _ 336 (c .1))
 
-joined-ok : (p q : Page) → joins p q ≡ true → AllOf Calm (p .tuples) → 0 < length (p .tuples) → AllOf Calm (q .tuples) → PageOk (joined p q)
+joined-ok : (p q : Page) → joins p q ≡ true → AllOf NothingPending (p .tuples) → 0 < length (p .tuples) → AllOf NothingPending (q .tuples) → PageOk (joined p q)
 unfolding joined
 joined-ok p q e a h b =
     let k = joins-in p q e in
     let s = sum-append (p .tuples) (q .tuples) in
     let l = length-append (p .tuples) (q .tuples) in
-    fresh-ok (p .table) (p .tuples ++ q .tuples) (all-append Calm (p .tuples) (q .tuples) a b, omega arith, omega arith)
+    fresh-ok (p .table) (p .tuples ++ q .tuples) (all-append NothingPending (p .tuples) (q .tuples) a b, omega arith, omega arith)
 
-settleNext-ok : (rest : List Page) (p : Page) (ps : List Page) → AllOf PageOk rest → AllOf Calm (p .tuples) → 0 < length (p .tuples) → AllOf PageOk ps
+settleNext-ok : (rest : List Page) (p : Page) (ps : List Page) → AllOf PageOk rest → AllOf NothingPending (p .tuples) → 0 < length (p .tuples) → AllOf PageOk ps
     → AllOf PageOk (settleNext rest p ps)
 unfolding settleNext if_then_else_
 settleNext-ok rest p [] r c l a = r
@@ -179,7 +179,7 @@ settleNext-ok rest p (q ∷ qs) r c l a =
     by (joins p q) (λ h. rw h (joined-ok p q h c l (a .0 .1 (joins-in p q h .1) .0), a .1)) (λ h. rw h (all-append PageOk rest (q ∷ qs) r a))
 
 settleFull-ok : (rest : List Page) (o : Option Page) (p : Page) (ps : List Page) → AllOf PageOk rest → AllOf PageOk (listOf o)
-    → AllOf Calm (p .tuples) → 0 < length (p .tuples) → AllOf PageOk ps
+    → AllOf NothingPending (p .tuples) → 0 < length (p .tuples) → AllOf PageOk ps
     → AllOf PageOk (settleFull rest o p ps)
 unfolding settleFull if_then_else_ listOf
 settleFull-ok rest none p ps r l c n a = settleNext-ok rest p ps r c n a
@@ -187,7 +187,7 @@ settleFull-ok rest (some o) p ps r l c n a =
     by (joins o p) (λ h. let f = l .0 .1 (joins-in o p h .0) in rw h (joined-ok o p h (f .0) (f .2) c, a)) (λ h. rw h (l .0, settleNext-ok rest p ps r c n a))
 
 settle-ok : (rest : List Page) (o : Option Page) (p : Page) (ps : List Page) → (0 < length (p .tuples) → AllOf PageOk rest) → AllOf PageOk (listOf o)
-    → AllOf Calm (p .tuples) → AllOf PageOk ps → AllOf PageOk (settle rest o p ps)
+    → AllOf NothingPending (p .tuples) → AllOf PageOk ps → AllOf PageOk (settle rest o p ps)
 unfolding settle if_then_else_
 settle-ok rest o p ps r l c a =
     by (isEmpty (p .tuples)) (λ h. rw h (all-append PageOk (listOf o) ps l a))
@@ -217,62 +217,62 @@ pending-size : (o : Pending) (x : Held) → heldSize (withPending o x) ≡ heldS
 unfolding heldSize withPending
 pending-size o x = refl
 
-kept-size : (x : Held) → sum heldSize (kept x) ≤ heldSize x
-unfolding kept sum heldSize
+kept-size : (x : Held) → sum heldSize (commitNow x) ≤ heldSize x
+unfolding commitNow sum heldSize
 kept-size x = let c = committed-size (x .tuple) in omega arith
 
-goneLater-small : (x : Held) → Small x → AllOf Small (goneLater x)
-unfolding goneLater if_then_else_
-goneLater-small x s = by (isAdding (x .pending)) (λ h. rw h tt) (λ h. let k = pending-size removing x in rw h (omega arith, tt))
+pendRemove-small : (x : Held) → Small x → AllOf Small (pendRemove x)
+unfolding pendRemove if_then_else_
+pendRemove-small x s = by (isAdding (x .pending)) (λ h. rw h tt) (λ h. let k = pending-size removing x in rw h (omega arith, tt))
 
-kept-small : (x : Held) → Small x → AllOf Small (kept x)
-unfolding kept heldSize
+kept-small : (x : Held) → Small x → AllOf Small (commitNow x)
+unfolding commitNow heldSize
 kept-small x s = let c = committed-size (x .tuple) in (omega arith, tt)
 
-keptLater-small : (x : Held) → Small x → AllOf Small (keptLater x)
-unfolding keptLater if_then_else_
-keptLater-small x s =
+pendCommit-small : (x : Held) → Small x → AllOf Small (pendCommit x)
+unfolding pendCommit if_then_else_
+pendCommit-small x s =
     by (isAdding (x .pending)) (λ h. rw h (kept-small x s))
     (λ h. by (isRemoving (x .pending)) (λ m. rw (h, m) (s, tt)) (λ m. let k = pending-size committing x in rw (h, m) (omega arith, tt)))
 
-kept-calm : (x : Held) → Calm x → AllOf Calm (kept x)
-unfolding kept heldSize
-kept-calm x c = let k = committed-size (x .tuple) in ((omega (arith, c .0), c .1), tt)
+kept-withoutPending : (x : Held) → NothingPending x → AllOf NothingPending (commitNow x)
+unfolding commitNow heldSize
+kept-withoutPending x c = let k = committed-size (x .tuple) in ((omega (arith, c .0), c .1), tt)
 
-taken-small : (j : ℕ) (ts : List Held) → AllOf Small ts → AllOf Small (takenAt j ts)
-unfolding takenAt if_then_else_
-taken-small j ts a = by (isEmpty (editAt goneLater j ts)) (λ h. rw h a) (λ h. rw h (edit-all Small goneLater goneLater-small j ts a))
+taken-small : (j : ℕ) (ts : List Held) → AllOf Small ts → AllOf Small (pendRemoveAt j ts)
+unfolding pendRemoveAt if_then_else_
+taken-small j ts a = by (isEmpty (editAt pendRemove j ts)) (λ h. rw h a) (λ h. rw h (edit-all Small pendRemove pendRemove-small j ts a))
 
 removeRowOn-ok : (j : ℕ) (o : Option Page) (p : Page) (ps : List Page) → AllOf PageOk (listOf o) → AllOf PageOk (p ∷ ps)
     → AllOf PageOk (removeRowOn j o p ps)
-unfolding removeRowOn if_then_else_ gone sum fresh
+unfolding removeRowOn if_then_else_ removeNow sum fresh
 removeRowOn-ok j o p ps l a =
     by (p .frozen)
     (λ h. rw h (all-append PageOk (listOf o) _ l (frozen-ok _ _ refl (taken-small j (p .tuples) (a .0 .0)) (shown-takenAt j (p .tuples)) (a .0 .2 h), a .1)))
     (λ h.
     let f = a .0 .1 h in
-    let c = edit-all Calm gone (λ x q. tt) j (p .tuples) (f .0) in
-    let k = edit-sum gone (λ x. omega arith) j (p .tuples) in
-    rw h (settle-ok _ o _ ps (λ m. (fresh-ok (p .table) (editAt gone j (p .tuples)) (c, omega arith, m), tt)) l c (a .1)))
+    let c = edit-all NothingPending removeNow (λ x q. tt) j (p .tuples) (f .0) in
+    let k = edit-sum removeNow (λ x. omega arith) j (p .tuples) in
+    rw h (settle-ok _ o _ ps (λ m. (fresh-ok (p .table) (editAt removeNow j (p .tuples)) (c, omega arith, m), tt)) l c (a .1)))
 
-kept-length : (j : ℕ) (ts : List Held) → length (editAt kept j ts) ≡ length ts
-unfolding editAt kept
+kept-length : (j : ℕ) (ts : List Held) → length (editAt commitNow j ts) ≡ length ts
+unfolding editAt commitNow
 kept-length j [] = refl
 kept-length zero (x ∷ xs) = refl
 kept-length (suc j) (x ∷ xs) = rw (kept-length j xs)
 
 commitRowOn-ok : (j : ℕ) (o : Option Page) (p : Page) (ps : List Page) → AllOf PageOk (listOf o) → AllOf PageOk (p ∷ ps)
     → AllOf PageOk (commitRowOn j o p ps)
-unfolding commitRowOn committedAt if_then_else_ kept sum
+unfolding commitRowOn committedAt if_then_else_ commitNow sum
 commitRowOn-ok j o p ps l a =
     by (p .frozen)
     (λ h. rw h (all-append PageOk (listOf o) _ l
-    (frozen-ok _ _ refl (edit-all Small keptLater keptLater-small j (p .tuples) (a .0 .0)) (shown-keptLater j (p .tuples)) (a .0 .2 h), a .1)))
+    (frozen-ok _ _ refl (edit-all Small pendCommit pendCommit-small j (p .tuples) (a .0 .0)) (shown-pendCommit j (p .tuples)) (a .0 .2 h), a .1)))
     (λ h.
     let f = a .0 .1 h in
-    let c = edit-all Calm kept kept-calm j (p .tuples) (f .0) in
-    let k = edit-sum kept kept-size j (p .tuples) in
-    rw h (all-append PageOk (listOf o) _ l (fresh-ok (p .table) (editAt kept j (p .tuples)) (c, omega arith, rw (kept-length j (p .tuples)) (f .2)), a .1)))
+    let c = edit-all NothingPending commitNow kept-withoutPending j (p .tuples) (f .0) in
+    let k = edit-sum commitNow kept-size j (p .tuples) in
+    rw h (all-append PageOk (listOf o) _ l (fresh-ok (p .table) (editAt commitNow j (p .tuples)) (c, omega arith, rw (kept-length j (p .tuples)) (f .2)), a .1)))
 
 row-ok : (f : ℕ → Option Page → Page → List Page → List Page)
     → ((j : ℕ) (o : Option Page) (p : Page) (ps : List Page) → AllOf PageOk (listOf o) → AllOf PageOk (p ∷ ps) → AllOf PageOk (f j o p ps))
@@ -299,16 +299,16 @@ carry-ok n (removePlace i ∷ os) ps a = carry-ok n os _ (removeRow-ok _ ps a)
 
 -- ---- thawing
 
-ripe-size : (x : Held) → size (ripe x) ≤ heldSize x
-unfolding ripe if_then_else_ heldSize
-ripe-size x = let c = committed-size (x .tuple) in by (isCommitting (x .pending)) (λ h. rw h c) (λ h. rw h (omega arith))
+applied-size : (x : Held) → size (applied x) ≤ heldSize x
+unfolding applied if_then_else_ heldSize
+applied-size x = let c = committed-size (x .tuple) in by (isCommitting (x .pending)) (λ h. rw h c) (λ h. rw h (omega arith))
 
-pub ripened-calm : (ts : List Held) → AllOf Small ts → AllOf Calm (map calm (ripened ts))
-unfolding ripened if_then_else_ calm heldSize
-ripened-calm [] a = tt
-ripened-calm (x ∷ xs) a =
-    let s = ripe-size x in
-    by (isRemoving (x .pending)) (λ h. rw h (ripened-calm xs (a .1))) (λ h. rw h ((omega (arith, a .0), refl), ripened-calm xs (a .1)))
+pub live-withoutPending : (ts : List Held) → AllOf Small ts → AllOf NothingPending (map withoutPending (live ts))
+unfolding live if_then_else_ withoutPending heldSize
+live-withoutPending [] a = tt
+live-withoutPending (x ∷ xs) a =
+    let s = applied-size x in
+    by (isRemoving (x .pending)) (λ h. rw h (live-withoutPending xs (a .1))) (λ h. rw h ((omega (arith, a .0), refl), live-withoutPending xs (a .1)))
 
 -- the tuples alone are as large
 pub bare-size : (ts : List Held) → sum size (bare ts) ≡ sum heldSize ts
@@ -317,25 +317,25 @@ bare-size [] = refl
 bare-size (x ∷ xs) = rw (bare-size xs)
 
 -- what the deep split makes is fine
-split-fine : (ts : List Held) → AllOf Calm ts → 0 < length ts → AllOf Fine (splitAll ts)
+split-fine : (ts : List Held) → AllOf NothingPending ts → 0 < length ts → AllOf Fine (splitAll ts)
 unfolding together fits
 split-fine ts c l =
     let k = split-all ts l (small ts c) in
-    go (splitAll ts) (k .0) (subst (AllOf Calm) (sym (k .1)) c)
+    go (splitAll ts) (k .0) (subst (AllOf NothingPending) (sym (k .1)) c)
   where
-    go : (tss : List (List Held)) → AllOf (λ us. (fits us ≡ true) × (isEmpty us ≡ false)) tss → AllOf Calm (together tss) → AllOf Fine tss
+    go : (tss : List (List Held)) → AllOf (λ us. (fits us ≡ true) × (isEmpty us ≡ false)) tss → AllOf NothingPending (together tss) → AllOf Fine tss
     go [] a b = tt
     go (ts ∷ tss) a b =
-        let q = all-parts Calm ts (together tss) b in
+        let q = all-parts NothingPending ts (together tss) b in
         ((q .0, leb-true (sum heldSize ts) 504 (a .0 .0), has-some ts (a .0 .1)), go tss (a .1) (q .1))
 
--- nothing pending: small tuples are calm
-calm-of : (ts : List Held) → any (λ x. isPending (x .pending)) ts ≡ false → AllOf Small ts → AllOf Calm ts
+-- nothing pending: small tuples are withoutPending
+withoutPending-of : (ts : List Held) → any (λ x. isPending (x .pending)) ts ≡ false → AllOf Small ts → AllOf NothingPending ts
 unfolding any isPending
-calm-of [] e a = tt
-calm-of (x ∷ xs) e a = go (x .pending) refl (calm-of xs)
+withoutPending-of [] e a = tt
+withoutPending-of (x ∷ xs) e a = go (x .pending) refl (withoutPending-of xs)
   where
-    go : (o : Pending) → x .pending ≡ o → (any (λ x. isPending (x .pending)) xs ≡ false → AllOf Small xs → AllOf Calm xs) → AllOf Calm (x ∷ xs)
+    go : (o : Pending) → x .pending ≡ o → (any (λ x. isPending (x .pending)) xs ≡ false → AllOf Small xs → AllOf NothingPending xs) → AllOf NothingPending (x ∷ xs)
     go nothing h r = ((a .0, h), r (rw (h, any) at e) (a .1))
     go adding h r = lie (sym (rw (h, any) at e))
     go committing h r = lie (sym (rw (h, any) at e))
@@ -346,10 +346,10 @@ thawOn-ok : (b : ℕ) (o : Option Page) (p : Page) (ps : List Page) → p .froze
 unfolding thawOn if_then_else_ fresh
 thawOn-ok b o p ps f l a =
     by (any (λ x. isPending (x .pending)) (p .tuples))
-    (λ h. let c = ripened-calm (p .tuples) (a .0 .0) in
-    rw h (settle-ok _ o _ ps (λ m. all-fresh (p .table) (splitAll (map calm (ripened (p .tuples)))) (split-fine (map calm (ripened (p .tuples))) c m)) l c (a .1)))
-    (λ h. let w = subst Whole (shown-calm (p .tuples) h) (a .0 .2 f) in
-    let c = calm-of (p .tuples) h (a .0 .0) in
+    (λ h. let c = live-withoutPending (p .tuples) (a .0 .0) in
+    rw h (settle-ok _ o _ ps (λ m. all-fresh (p .table) (splitAll (map withoutPending (live (p .tuples)))) (split-fine (map withoutPending (live (p .tuples))) c m)) l c (a .1)))
+    (λ h. let w = subst Whole (shown-withoutPending (p .tuples) h) (a .0 .2 f) in
+    let c = withoutPending-of (p .tuples) h (a .0 .0) in
     let z = bare-size (p .tuples) in
     let y = length-map (p .tuples) (λ h. h .tuple) in
     rw h (all-append PageOk (listOf o) _ l ((a .0 .0, λ k. (c, omega (arith, w .0), omega (arith, w .1)), λ k. lie k), a .1)))

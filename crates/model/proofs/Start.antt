@@ -19,7 +19,7 @@ use Rattle.model.proofs.Owners.{numbers-reopened, in-transactions}
 use Rattle.model.proofs.Books.{not-in-many, Booked, Books, inBlock-many}
 use Rattle.model.proofs.Recovery.{Found, read-blocks}
 use Rattle.model.proofs.Inv.{listed, listed-held, listed-read, Tied, Ready, Inv, named-self}
-use Rattle.model.proofs.Steps.{loaded-content, bare-calm, loaded-blocks}
+use Rattle.model.proofs.Steps.{loaded-content, bare-withoutPending, loaded-blocks}
 
 -- a page that was read stands in its block
 abbrev pub Read : View → ℕ → StoredPage → Type 0
@@ -85,7 +85,7 @@ head-range v h a e = let f : InRange (header h) = subst Sane e (a 0) in (omega (
 
 start-tied : (v : View) (l : ℕ) (p : StoredPage) → Read v l p → Tied v l (loaded p)
 unfolding loaded
-start-tied v l p w c = (w .0, w .1 ∙ ap (page (p .table) (w .0)) (sym (bare-calm (p .tuples))), w .2, w .3)
+start-tied v l p w c = (w .0, w .1 ∙ ap (page (p .table) (w .0)) (sym (bare-withoutPending (p .tuples))), w .2, w .3)
 
 start-store : (n : ℕ) (v : View) (s : Store) (f : Found n v s) → Ready (recoveredStore (f .head) (f .pages))
     → Inv n v (recoveredStore (f .head) (f .pages)) (recoveredStore (f .head) (f .pages)) (recoveredStore (f .head) (f .pages))

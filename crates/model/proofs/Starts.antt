@@ -11,7 +11,7 @@ use Rattle.model.specs.Sight.{held, rows}
 use Rattle.model.specs.Transactions.{openNumbers}
 use Rattle.model.specs.Calls.{call, Call, AllTyped, afterCalls}
 use Rattle.model.specs.Recover.{freshStore, recoveredStore}
-use Rattle.model.specs.QuotedLine.{Start}
+use Rattle.model.specs.CrashRecovery.{Start}
 use Rattle.model.specs.WellFormed.{KeptWell, WellFormed, heldOk, openOk, MadeWell, RecoveredWell, AlwaysWell}
 use Rattle.model.proofs.Lists.{le-true}
 use Rattle.model.proofs.Recovery.{found, Found}

@@ -11,16 +11,16 @@ use Rattle.rows.specs.Rows.{rowsOk, transactions, isOwn}
 use Rattle.image.specs.Stages.{directoriesFor, blockOk, directoryBlocks, isZero, unusedNumbers, StoredPage, capacityLimit, headerOk, entriesOk, readDirectories, rowsOfPages, readPages}
 use Rattle.image.specs.View.{View}
 use Rattle.model.specs.State.{Store, Outcome, Write, Page}
-use Rattle.model.specs.Rules.{shown, isDirty, isFrozen, calm}
+use Rattle.model.specs.Rules.{shown, isDirty, isFrozen, withoutPending}
 use Rattle.model.specs.Sight.{held}
-use Rattle.model.specs.Checkpoint.{storable, storePage, made, stored, allocate, fill, usedToo, storeDirectory, headerFor, storeHeader}
+use Rattle.model.specs.Checkpoint.{storable, storePage, made, withProgress, allocate, fill, usedToo, storeDirectory, headerFor, storeHeader}
 use Rattle.model.specs.Recover.{loaded, recoveredStore}
-use Rattle.model.specs.QuotedLine.{content}
+use Rattle.model.specs.CrashRecovery.{content}
 use Rattle.model.specs.Checkpoints.{contentOf}
 use Rattle.model.proofs.Views.{put}
 use Rattle.model.proofs.Lists.{all-two, pos-not-zero, not-zero, first-all, first-passes, all-map, eqb-true, leb-true, all-take, all-drop, all-true, le-true, eqb-self, leb-false, eqb-sym}
 use Rattle.model.proofs.Owners.{numbers-reopened, in-transactions}
-use Rattle.model.proofs.Frozen.{Content, images, images-first, images-thaw, shown-calm, bare, images-none}
+use Rattle.model.proofs.Frozen.{Content, images, images-first, images-thaw, shown-withoutPending, bare, images-none}
 use Rattle.model.proofs.Pages.{all-thaw}
 use Rattle.model.proofs.Alloc.{Fresh, allocate-fresh, used-old}
 use Rattle.model.proofs.Books.{Booked, test-other, Books, Running, off-used, once-distinct, once-right, once-off, once-left}
@@ -78,7 +78,7 @@ tied-off img l b x pool ps h =
 
 pub page-step : (n : ℕ) (img : View) (s b b₀ : Store) (n₀ : ℕ) (es ds : List ℕ) (p : Page) → Books s → Running n₀ es ds s → Inv n img s b b₀ → Run img s b n₀ es ds
     → FrozenSmall s → first isFrozen (s .pages) ≡ some p → Stepped n img s b b₀ (storePage n₀ es ds p s)
-unfolding storePage made stored if_then_else_ isFrozen
+unfolding storePage made withProgress if_then_else_ isFrozen
 page-step n img s b b₀ n₀ es ds p bk r inv run small₀ e =
     let ims = images-first (s .pages) p e in
     let is = tail (images (s .pages)) in
@@ -108,7 +108,7 @@ page-step n img s b b₀ n₀ es ds p bk r inv run small₀ e =
       good = good-more n img′ (s .used) (usedToo s i) b₀ (used-old s i) (g x);
       phase = record {
         nxt = run .nxt;
-        stored = rw images-thaw st;
+        withProgress = rw images-thaw st;
         dirs = no-dirs img′ L (fill i es) ds none-yet;
         base = run .base;
         bcap = run .bcap;
@@ -117,7 +117,7 @@ page-step n img s b b₀ n₀ es ds p bk r inv run small₀ e =
         bused = λ c h. used-old s i c (run .bused c h);
         names = named-fill (b .used) i es _ (by (b .used i) (λ h. lie (sym (fr .free) ∙ run .bused i h)) (λ h. h)) (run .names);
         tied = all-thaw (Tied img′ L) (tied-fresh img′ L) (tied-frozen img′ L) i p (s .pages) e
-            (λ h c. (L, put-same img i x ∙ whole ∙ ap (page (p .table) L) (shown-calm (p .tuples) h), omega arith, omega arith))
+            (λ h c. (L, put-same img i x ∙ whole ∙ ap (page (p .table) L) (shown-withoutPending (p .tuples) h), omega arith, omega arith))
             (tied-off img L i x (λ c. isIn c es) (s .pages) off (r .booked) (run .tied));
       };
     }))
@@ -134,7 +134,7 @@ entries-low s es z f a = all-map _ _ (λ e h. by (eqb e 0) (λ k. let q = eqb-tr
 
 pub directory-step : (n : ℕ) (img : View) (s b b₀ : Store) (n₀ : ℕ) (es ds : List ℕ) → Books s → Running n₀ es ds s → Inv n img s b b₀ → Run img s b n₀ es ds
     → first isFrozen (s .pages) ≡ none → ltb (length ds) (directoriesFor (length es)) ≡ true → Stepped n img s b b₀ (storeDirectory n₀ es ds s)
-unfolding storeDirectory made stored if_then_else_
+unfolding storeDirectory made withProgress if_then_else_
 directory-step n img s b b₀ n₀ es ds bk r inv run e lt =
     let few : length ds < directoriesFor (length es) = leb-true (suc (length ds)) (directoriesFor (length es)) lt in
     let i = allocate s in
@@ -161,7 +161,7 @@ directory-step n img s b b₀ n₀ es ds bk r inv run e lt =
       good = good-more n img′ (s .used) (usedToo s i) b₀ (used-old s i) (g x);
       phase = record {
         nxt = run .nxt;
-        stored = stored-put i x off (run .stored);
+        withProgress = stored-put i x off (run .stored);
         dirs = dirs-snoc img′ L i es ds (put-same img i x) (dirs-put img L i x es ds off′ (run .dirs));
         base = run .base;
         bcap = run .bcap;
@@ -200,15 +200,15 @@ header-numbers s l n p (a ∷ b ∷ c ∷ []) h = (refl, refl)
 header-numbers s l n p (a ∷ b ∷ c ∷ d ∷ []) h = (refl, refl)
 header-numbers s l n p (a ∷ b ∷ c ∷ d ∷ e ∷ ds) h = absurd (omega arith)
 
-pub bare-calm : (ts : List Tuple) → bare (map calm ts) ≡ ts
-unfolding calm
-bare-calm [] = refl
-bare-calm (x ∷ xs) = rw (bare-calm xs)
+pub bare-withoutPending : (ts : List Tuple) → bare (map withoutPending ts) ≡ ts
+unfolding withoutPending
+bare-withoutPending [] = refl
+bare-withoutPending (x ∷ xs) = rw (bare-withoutPending xs)
 
 pub loaded-content : (ps : List StoredPage) → map content (map loaded ps) ≡ map contentOf ps
 unfolding content loaded contentOf
 loaded-content [] = refl
-loaded-content (p ∷ ps) = rw (bare-calm (p .tuples), loaded-content ps)
+loaded-content (p ∷ ps) = rw (bare-withoutPending (p .tuples), loaded-content ps)
 
 pub loaded-blocks : (ps : List StoredPage) → map (λ p. p .block) (map loaded ps) ≡ map (λ p. p .block) ps
 unfolding loaded
@@ -349,7 +349,7 @@ module _ (n : ℕ) (img : View) (s b : Store) (n₀ : ℕ) (es ds : List ℕ) (b
 
 pub header-step : (n : ℕ) (img : View) (s b b₀ : Store) (n₀ : ℕ) (es ds : List ℕ) → Books s → Running n₀ es ds s → Inv n img s b b₀ → Run img s b n₀ es ds
     → first isFrozen (s .pages) ≡ none → ltb (length ds) (directoriesFor (length es)) ≡ false → Stepped n img s b b₀ (storeHeader n₀ es ds s)
-unfolding storeHeader made stored if_then_else_
+unfolding storeHeader made withProgress if_then_else_
 header-step n img s b b₀ n₀ es ds bk r inv run e lt =
     let ims = images-none (s .pages) e in
     let L = suc (s .level) in

@@ -8,8 +8,8 @@ use Rattle.image.specs.Stages.{directoriesFor}
 use Rattle.model.specs.State.{Answer, Store, Outcome, Page, Checkpoint, idle, running, done, refused, filled, Active}
 use Rattle.model.specs.Rules.{isFrozen}
 use Rattle.model.specs.Sight.{rows, seen}
-use Rattle.model.specs.Transactions.{unless, Test, gives, _when_, newTuple, written, changed, openCall, insertCall, replaceCall, deleteCall, openNumbers, commitCall, abortCall, readCall, readSeen, listCall, listing, writtenBy, withWrite, without}
-use Rattle.model.specs.Checkpoint.{beginCall, stored, storePage, made, allocate, stepAt, stepOf, storeDirectory, storeHeader, inTurn, stepCall, runCall, left}
+use Rattle.model.specs.Transactions.{unless, Test, gives, _when_, newTuple, withTuple, changed, openCall, insertCall, replaceCall, deleteCall, openNumbers, commitCall, abortCall, readCall, readSeen, listCall, listing, writtenBy, withWrite, without}
+use Rattle.model.specs.Checkpoint.{beginCall, withProgress, storePage, made, allocate, stepAt, stepOf, storeDirectory, storeHeader, inTurn, stepCall, runCall, left}
 use Rattle.model.specs.Calls.{Call, opens, commits, aborts, inserts, replaces, deletes, reads, lists, begins, steps, runs, accepted, call, others, withWriter, writers, afterCalls, hadWritten}
 use Rattle.model.proofs.Lists.{Mem, many-none, all-map, eqb-true, all-mem, eqb-sym, many-length, in-keep, not-true, le-true, in-here, eqb-self, in-cons, and-no, and-yes, any-many}
 use Rattle.model.proofs.Owners.{count-append, count-new, numbers-write, count-write, count-other, numbers-without, count-without}
@@ -24,7 +24,7 @@ use Rattle.model.proofs.Inserted.{insertRow, place-rows, many-inserted}
 
 -- ---- the count, from the calls and their answers
 
--- c: how many tuples transaction u had written before the call
+-- c: how many tuples transaction u had withTuple before the call
 unfoldable pub wrote : ℕ → ℕ → ℕ → ℕ
 wrote u tx c = if eqb tx u then suc c else c
 
@@ -68,19 +68,19 @@ unfolding isOwn isBy newTuple
 own-new u tx k bs m t s = refl
 
 pub written-rows : (s : Store) → Valid s → (tx t k : ℕ) (bs : List ℕ) (m : Bool)
-    → rows (written tx t k bs m s .store .pages) ≡ insertRow (t, newTuple tx k bs m s) (rows (s .pages))
-unfolding written gives changed newTuple
+    → rows (withTuple tx t k bs m s .store .pages) ≡ insertRow (t, newTuple tx k bs m s) (rows (s .pages))
+unfolding withTuple gives changed newTuple
 written-rows s v tx t k bs m = place-rows t (newTuple tx k bs m s) (s .pages) (v .pages) (v .has .rising)
 
-written-own : (s : Store) → Valid s → (tx t k : ℕ) (bs : List ℕ) (m : Bool) (u : ℕ) → own u (written tx t k bs m s .store) ≡ wrote u tx (own u s)
+written-own : (s : Store) → Valid s → (tx t k : ℕ) (bs : List ℕ) (m : Bool) (u : ℕ) → own u (withTuple tx t k bs m s .store) ≡ wrote u tx (own u s)
 unfolding own wrote
 written-own s v tx t k bs m u =
     ap (howMany (isOwn u)) (written-rows s v tx t k bs m) ∙ many-inserted (isOwn u) (t, newTuple tx k bs m s) (rows (s .pages))
     ∙ ap (λ b. if b then suc (howMany (isOwn u) (rows (s .pages))) else howMany (isOwn u) (rows (s .pages))) (own-new u tx k bs m t s)
 
 written-tally : (c : Call) (s : Store) → Valid s → (tx t k : ℕ) (bs : List ℕ) (m : Bool) → ((u n : ℕ) → noted c u n ≡ wrote u tx n)
-    → Tallies c s (written tx t k bs m s)
-unfolding tally accepted if_then_else_ written gives
+    → Tallies c s (withTuple tx t k bs m s)
+unfolding tally accepted if_then_else_ withTuple gives
 written-tally c s v tx t k bs m e u = written-own s v tx t k bs m u ∙ sym (e u (own u s))
 
 -- ---- closing
@@ -88,9 +88,9 @@ written-tally c s v tx t k bs m e u = written-own s v tx t k bs m u ∙ sym (e u
 module _ (tx : ℕ) (rs : List Row) (F : Row → List Row)
     (comes : (r : Row) → Mem r rs → AllOf (Comes tx r) (F r))
     (stays : (r : Row) (u s : ℕ) → Mem r rs → r .1 .owner ≡ tentative u s → eqb u tx ≡ false → F r ≡ r ∷ []) where
-  gone-own : (r a : Row) → Comes tx r a → isOwn tx a ≡ false
-  gone-own r a (as-is n) = n
-  gone-own r a (final p q o z) = not-own tx a o
+  removed-own : (r a : Row) → Comes tx r a → isOwn tx a ≡ false
+  removed-own r a (as-is n) = n
+  removed-own r a (final p q o z) = not-own tx a o
 
   other-own : (u : ℕ) (r a : Row) → isOwn u r ≡ false → Comes tx r a → isOwn u a ≡ false
   other-own u r a h (as-is n) = h
@@ -109,7 +109,7 @@ module _ (tx : ℕ) (rs : List Row) (F : Row → List Row)
       by (eqb tx u)
       (λ e. let q = eqb-true tx u e in rw e (many-none (isOwn u) (gather F rs)
       (gather-all (λ a. isOwn u a ≡ false) F rs
-      (all-mem _ rs (λ r m. all-map (Comes tx r) (λ a. isOwn u a ≡ false) (λ a c. ap (λ z. isOwn z a) (sym q) ∙ gone-own r a c) (F r) (comes r m))))))
+      (all-mem _ rs (λ r m. all-map (Comes tx r) (λ a. isOwn u a ≡ false) (λ a c. ap (λ z. isOwn z a) (sym q) ∙ removed-own r a c) (F r) (comes r m))))))
       (λ e. rw e (many-gather (isOwn u) F rs (all-mem _ rs (λ r m. one-own u (eqb-sym tx u e) r m))))
 
 pub committed-rows : (tx : ℕ) (s : Store) → Valid s → rows (committedPages tx (s .pages)) ≡ gather (afterCommit tx (rows (s .pages))) (rows (s .pages))
@@ -125,15 +125,15 @@ rows-unless : (ts : List Test) (s : Store) (o : Outcome) → rows (o .store .pag
 rows-unless ts s o e = unless-out (λ t ws. rows (t .pages) ≡ rows (s .pages)) ts s o refl e
 
 pub begin-rows : (s : Store) → rows (beginCall s .store .pages) ≡ rows (s .pages)
-unfolding beginCall gives stored
+unfolding beginCall gives withProgress
 begin-rows s = rows-unless _ s _ (rows-freeze (s .pages))
 
 page-rows : (n : ℕ) (es ds : List ℕ) (p : Page) (s : Store) → Valid s → rows (storePage n es ds p s .store .pages) ≡ rows (s .pages)
-unfolding storePage made stored
+unfolding storePage made withProgress
 page-rows n es ds p s v = thaw-rows (allocate s) (s .pages) (v .pages) .1
 
 step-rows : (s : Store) → Valid s → rows (stepAt (s .checkpoint) s .store .pages) ≡ rows (s .pages)
-unfolding stepAt stepOf gives if_then_else_ storeDirectory storeHeader made stored
+unfolding stepAt stepOf gives if_then_else_ storeDirectory storeHeader made withProgress
 step-rows s v = go (s .checkpoint)
   where
     go : (c : Checkpoint) → rows (stepAt c s .store .pages) ≡ rows (s .pages)
@@ -165,7 +165,7 @@ quiet-tally c s o e r u = by (accepted (o .answer)) (λ h. rw h (ap (howMany (is
 open-tally : (tx : ℕ) (s : Store) → Tallies (opens tx) s (openCall tx s)
 unfolding openCall gives changed noted
 open-tally tx s = unless-tally (opens tx) _ s _
-    (quiet-tally (opens tx) s (gives done (changed s (s .next) (s .pages) (s .active ++ record { transaction = tx; written = 0 } ∷ []))) (λ u n. refl) refl)
+    (quiet-tally (opens tx) s (gives done (changed s (s .next) (s .pages) (s .active ++ record { transaction = tx; withTuple = 0 } ∷ []))) (λ u n. refl) refl)
 
 insert-tally : (tx t k : ℕ) (bs : List ℕ) (s : Store) → Valid s → Tallies (inserts tx t k bs) s (insertCall tx t k bs s)
 unfolding insertCall noted
@@ -270,8 +270,8 @@ more-rows s v u = omega (arith, many-length (isOwn u) (rows (s .pages)), sub-len
 min-under : (n m : ℕ) → n ≤ m → min n m ≡ n
 min-under n m h = omega arith
 
-counted-written : (s : Store) → Valid s → Counted s → (tx t k : ℕ) (bs : List ℕ) (m : Bool) → Counted (written tx t k bs m s .store)
-unfolding written gives changed own
+counted-written : (s : Store) → Valid s → Counted s → (tx t k : ℕ) (bs : List ℕ) (m : Bool) → Counted (withTuple tx t k bs m s .store)
+unfolding withTuple gives changed own
 counted-written s v c tx t k bs m u i =
     let j : isIn u (openNumbers (s .active)) ≡ true = ap (isIn u) (sym (numbers-write tx (s .active))) ∙ i in
     let o = written-own s v tx t k bs m u in
@@ -306,7 +306,7 @@ counted-closed tx s ps own-after c u i =
     closed-other u tx n e = unfold closed if_then_else_ in rw e
 
 pub step-active : (s : Store) → stepAt (s .checkpoint) s .store .active ≡ s .active
-unfolding stored
+unfolding withProgress
 step-active s = step-frame (λ z. z .active ≡ s .active) s refl (λ l ps u b c. refl)
 
 pub counted-step : (s : Store) → Valid s → Counted s → Counted (stepAt (s .checkpoint) s .store)
@@ -318,7 +318,7 @@ counted-turn zero s v c = c
 counted-turn (suc k) s v c = counted-turn k (stepAt (s .checkpoint) s .store) (step-valid s v) (counted-step s v c)
 
 pub keeps-count : (c : Call) (s : Store) → Valid s → Counted s → Counted (call c s .store)
-unfolding call insertCall replaceCall deleteCall commitCall abortCall readCall listCall beginCall stepCall runCall gives stored
+unfolding call insertCall replaceCall deleteCall commitCall abortCall readCall listCall beginCall stepCall runCall gives withProgress
 keeps-count (opens tx) s v c = counted-open tx s v c
 keeps-count (inserts tx t k bs) s v c = unless-keeps Counted _ s _ c (λ p. counted-written s v c tx t k bs false)
 keeps-count (replaces tx t k bs) s v c = unless-keeps Counted _ s _ c (λ p. counted-written s v c tx t k bs false)
@@ -397,7 +397,7 @@ own-any : (u : ℕ) (s : Store) → any (isOwn u) (rows (s .pages)) ≡ ltb 0 (o
 unfolding own
 own-any u s = any-many (isOwn u) (rows (s .pages))
 
--- the transactions of the live rows are those that had written by the calls and their answers
+-- the transactions of the live rows are those that had withTuple by the calls and their answers
 pub writers-law : (s : Store) → Valid s → Counted s → ((u : ℕ) → isIn u (openNumbers (s .active)) ≡ any (isOwn u) (rows (s .pages))) → (cs : List Call) (tx : ℕ)
     → any (isOwn tx) (rows (afterCalls cs s .pages)) ≡ isIn tx (hadWritten cs s (openNumbers (s .active)))
 writers-law s v c a cs tx = own-any tx (afterCalls cs s) ∙ sym (right-run cs s v c (openNumbers (s .active)) (λ u. a u ∙ own-any u s) tx)

@@ -4,7 +4,7 @@ use Rattle.basics.specs.Basics.{if_then_else_, sum, isEmpty, any}
 use Rattle.basics.proofs.Facts.{by, never, by-option}
 use Rattle.blocks.specs.Tuple.{Tuple}
 use Rattle.model.specs.State.{Page, Held}
-use Rattle.model.specs.Rules.{grown, withTuples, listOf, gone, keptLater, kept, fresh, splitOnce, placeAfter, place, after, entering, placeFront, calm, settle, settleNext, joined, joins, settleFull, around, thaw, isFrozen, thawOn, isPending, ripened, splitAll, editAt, takenAt, removeRowOn, committedAt, commitRowOn, atRow, removeRow, commitRow}
+use Rattle.model.specs.Rules.{grown, withTuples, listOf, removeNow, pendCommit, commitNow, fresh, splitOnce, placeAfter, place, after, entering, placeFront, withoutPending, settle, settleNext, joined, joins, settleFull, around, thaw, isFrozen, thawOn, isPending, live, splitAll, editAt, pendRemoveAt, removeRowOn, committedAt, commitRowOn, atRow, removeRow, commitRow}
 use Rattle.model.specs.Transactions.{PlaceOp, commitPlace, removePlace, carryOut}
 use Rattle.model.proofs.Lists.{some-eq}
 use Rattle.model.proofs.Pages.{stillFrozen}
@@ -14,12 +14,12 @@ unfolding grown withTuples stillFrozen if_then_else_
 grown-frozen p ts h = rw h
 
 removeRowOn-frozen : (j : ℕ) (o : Option Page) (p : Page) (ps : List Page) → p .frozen ≡ true
-    → removeRowOn j o p ps ≡ listOf o ++ stillFrozen p (takenAt j (p .tuples)) ∷ ps
+    → removeRowOn j o p ps ≡ listOf o ++ stillFrozen p (pendRemoveAt j (p .tuples)) ∷ ps
 unfolding removeRowOn withTuples stillFrozen if_then_else_
 removeRowOn-frozen j o p ps h = rw h
 
 commitRowOn-frozen : (j : ℕ) (o : Option Page) (p : Page) (ps : List Page) → p .frozen ≡ true
-    → commitRowOn j o p ps ≡ listOf o ++ stillFrozen p (editAt keptLater j (p .tuples)) ∷ ps
+    → commitRowOn j o p ps ≡ listOf o ++ stillFrozen p (editAt pendCommit j (p .tuples)) ∷ ps
 unfolding commitRowOn committedAt withTuples stillFrozen if_then_else_
 commitRowOn-frozen j o p ps h = rw h
 
@@ -55,10 +55,10 @@ module _ (w : Page → ℕ) (w-fresh : (t : ℕ) (ts : List Held) → w (fresh t
 
   sum-placeFront : (t : ℕ) (x : Tuple) (ps : List Page) → sum w (placeFront t x ps) ≤ sum w ps
   unfolding placeFront if_then_else_ sum
-  sum-placeFront t x [] = let f = w-fresh t (calm x ∷ []) in omega arith
+  sum-placeFront t x [] = let f = w-fresh t (withoutPending x ∷ []) in omega arith
   sum-placeFront t x (p ∷ ps) =
       by (ltb (p .table) t) (λ h. let l = sum-placeFront t x ps in rw h (omega arith))
-      (λ h. by (eqb (p .table) t) (λ k. rw (h, k) (sum-grown p _ ps)) (λ k. let f = w-fresh t (calm x ∷ []) in rw (h, k) (omega arith)))
+      (λ h. by (eqb (p .table) t) (λ k. rw (h, k) (sum-grown p _ ps)) (λ k. let f = w-fresh t (withoutPending x ∷ []) in rw (h, k) (omega arith)))
 
   pub sum-place : (t : ℕ) (x : Tuple) (ps : List Page) → sum w (place t x ps) ≤ sum w ps
   unfolding place
@@ -108,19 +108,19 @@ module _ (w : Page → ℕ) (w-fresh : (t : ℕ) (ts : List Held) → w (fresh t
   unfolding removeRowOn if_then_else_ sum
   sum-removeRowOn j o p ps =
       by (p .frozen)
-      (λ h. let e = w-frozen p (takenAt j (p .tuples)) h in let f = sum-append (listOf o) (stillFrozen p (takenAt j (p .tuples)) ∷ ps) in
+      (λ h. let e = w-frozen p (pendRemoveAt j (p .tuples)) h in let f = sum-append (listOf o) (stillFrozen p (pendRemoveAt j (p .tuples)) ∷ ps) in
       subst (λ z. sum w z ≤ sum w (listOf o) + (w p + sum w ps)) (sym (removeRowOn-frozen j o p ps h)) (omega arith))
-      (λ h. let q = fresh (p .table) (editAt gone j (p .tuples)) in let f = w-fresh (p .table) (editAt gone j (p .tuples)) in
+      (λ h. let q = fresh (p .table) (editAt removeNow j (p .tuples)) in let f = w-fresh (p .table) (editAt removeNow j (p .tuples)) in
       let l = sum-settle (q ∷ []) o q ps (omega arith) in rw h (omega arith))
 
   sum-commitRowOn : (j : ℕ) (o : Option Page) (p : Page) (ps : List Page) → sum w (commitRowOn j o p ps) ≤ sum w (listOf o) + (w p + sum w ps)
   unfolding commitRowOn committedAt if_then_else_ sum
   sum-commitRowOn j o p ps =
       by (p .frozen)
-      (λ h. let e = w-frozen p (editAt keptLater j (p .tuples)) h in let f = sum-append (listOf o) (stillFrozen p (editAt keptLater j (p .tuples)) ∷ ps) in
+      (λ h. let e = w-frozen p (editAt pendCommit j (p .tuples)) h in let f = sum-append (listOf o) (stillFrozen p (editAt pendCommit j (p .tuples)) ∷ ps) in
       subst (λ z. sum w z ≤ sum w (listOf o) + (w p + sum w ps)) (sym (commitRowOn-frozen j o p ps h)) (omega arith))
-      (λ h. let f = w-fresh (p .table) (editAt kept j (p .tuples)) in
-      let e = sum-append (listOf o) (fresh (p .table) (editAt kept j (p .tuples)) ∷ ps) in rw h (omega arith))
+      (λ h. let f = w-fresh (p .table) (editAt commitNow j (p .tuples)) in
+      let e = sum-append (listOf o) (fresh (p .table) (editAt commitNow j (p .tuples)) ∷ ps) in rw h (omega arith))
 
   sum-removeRow : (i : ℕ) (ps : List Page) → sum w (removeRow i ps) ≤ sum w ps
   unfolding removeRow listOf sum
@@ -145,6 +145,6 @@ module _ (w : Page → ℕ) (w-fresh : (t : ℕ) (ts : List Held) → w (fresh t
       on : (o : Option Page) (p : Page) (ps : List Page) → sum w (thawOn b o p ps) ≤ sum w (listOf o) + (w p + sum w ps) + more
       on o p ps = unfold thawOn if_then_else_ sum in
           by (any (λ x. isPending (x .pending)) (p .tuples))
-          (λ h. let hs = map calm (ripened (p .tuples)) in let l = sum-settle (map (fresh (p .table)) (splitAll hs)) o (fresh (p .table) hs) ps
+          (λ h. let hs = map withoutPending (live (p .tuples)) in let l = sum-settle (map (fresh (p .table)) (splitAll hs)) o (fresh (p .table) hs) ps
           (sum-fresh (p .table) (splitAll hs)) in rw h (omega arith))
           (λ h. let k = c p in let e = sum-append (listOf o) (record { table = p .table; block = b; frozen = false; tuples = p .tuples } ∷ ps) in rw h (omega arith))

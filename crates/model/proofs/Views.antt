@@ -10,7 +10,7 @@ use Rattle.image.specs.View.{View}
 use Rattle.model.specs.State.{Store}
 use Rattle.model.specs.Calls.{Call, AllTyped}
 use Rattle.model.specs.Recover.{recoverPages}
-use Rattle.model.specs.QuotedLine.{Logged, isHeader, landed, log, Same}
+use Rattle.model.specs.CrashRecovery.{Logged, isHeader, landed, log, Same}
 
 -- block b of a view exchanged
 unfoldable pub put : View → ℕ → Block → View

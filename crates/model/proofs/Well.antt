@@ -17,7 +17,7 @@ use Rattle.model.proofs.Owners.{numbers-length}
 use Rattle.model.proofs.Splits.{Small}
 use Rattle.model.proofs.Frozen.{bare, images}
 use Rattle.model.proofs.Books.{Books, keeps-books, inBlock, Booked, Ledger, booked-more}
-use Rattle.model.proofs.Sound.{PageOk, Calm}
+use Rattle.model.proofs.Sound.{PageOk, NothingPending}
 use Rattle.model.proofs.Placing.{Before, page-full}
 use Rattle.model.proofs.Fate.{at-split}
 use Rattle.model.proofs.Valid.{Valid, Counted, Opened, HeldOk, held-sub, LiveOk}
@@ -146,7 +146,7 @@ in-block-many b (p ∷ ps) = let e = in-block-many b ps in by (eqb b (p .block))
 
 -- ---- a sound store is well formed
 
-settled-true : (hs : List Held) → AllOf Calm hs × (sum heldSize hs ≤ 504) × (0 < length hs) → settledOk hs ≡ true
+settled-true : (hs : List Held) → AllOf NothingPending hs × (sum heldSize hs ≤ 504) × (0 < length hs) → settledOk hs ≡ true
 unfolding settledOk every fits
 settled-true hs f = rw (nonempty hs (f .2), le-true (sum heldSize hs) 504 (f .1), nothing-pending hs (f .0))
 
@@ -252,19 +252,19 @@ or-else : (a b : Bool) → (a || b) ≡ true → a ≡ false → b ≡ true
 or-else true b h e = lie (sym e)
 or-else false b h e = h
 
-calm-pending : (o : Pending) → isPending o ≡ false → o ≡ nothing
+withoutPending-pending : (o : Pending) → isPending o ≡ false → o ≡ nothing
 unfolding isPending
-calm-pending nothing h = refl
-calm-pending adding h = lie (sym h)
-calm-pending committing h = lie (sym h)
-calm-pending removing h = lie (sym h)
+withoutPending-pending nothing h = refl
+withoutPending-pending adding h = lie (sym h)
+withoutPending-pending committing h = lie (sym h)
+withoutPending-pending removing h = lie (sym h)
 
-true-settled : (hs : List Held) → AllOf Small hs → settledOk hs ≡ true → AllOf Calm hs × (sum heldSize hs ≤ 504) × (0 < length hs)
+true-settled : (hs : List Held) → AllOf Small hs → settledOk hs ≡ true → AllOf NothingPending hs × (sum heldSize hs ≤ 504) × (0 < length hs)
 unfolding settledOk fits
 true-settled hs a h =
     let q = every-all _ h in
     let off = off-any (λ h. isPending (h .pending)) hs (not-true _ (q .1 .1 .0)) in (
-      all-two Small (λ h. isPending (h .pending) ≡ false) Calm (λ h k u. (k, calm-pending (h .pending) u)) hs a off,
+      all-two Small (λ h. isPending (h .pending) ≡ false) NothingPending (λ h k u. (k, withoutPending-pending (h .pending) u)) hs a off,
       leb-true (sum heldSize hs) 504 (q .1 .0),
       has-some hs (not-true (isEmpty hs) (q .0)),
     )

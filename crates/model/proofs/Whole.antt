@@ -11,19 +11,19 @@ use Rattle.image.specs.Stages.{StoredPage, rowsOfPages, capacityLimit}
 use Rattle.image.specs.View.{View}
 use Rattle.image.proofs.Collect.{length-rows}
 use Rattle.model.specs.State.{Held, Page, Store, idle}
-use Rattle.model.specs.Rules.{ripe, ripened, isRemoving, isCommitting, calm, shown, heldSize}
+use Rattle.model.specs.Rules.{applied, live, isRemoving, isCommitting, withoutPending, shown, heldSize}
 use Rattle.model.specs.Sight.{rows, held}
 use Rattle.model.specs.Transactions.{openNumbers}
 use Rattle.model.specs.Recover.{loaded, recoveredStore, reopened}
-use Rattle.model.specs.QuotedLine.{content}
+use Rattle.model.specs.CrashRecovery.{content}
 use Rattle.model.proofs.Views.{AllSane, Sane}
 use Rattle.model.proofs.Lists.{all-two, nonempty, all-in, le-true, all-true, here, all-map, all-mapped, has-some, all-append, Mem, there, all-mem, eqb-self, every-all, leb-true, all-split}
 use Rattle.model.proofs.Owners.{pigeon, transactions-distinct, in-transactions, numbers-length, numbers-reopened, count-reopened}
-use Rattle.model.proofs.Frozen.{bare, shown-calm, images}
+use Rattle.model.proofs.Frozen.{bare, shown-withoutPending, images}
 use Rattle.model.proofs.Recovery.{Found}
 use Rattle.model.proofs.Inv.{Ready}
 use Rattle.model.proofs.Start.{Read, loaded-held, head-range, headed, pages-read}
-use Rattle.model.proofs.Sound.{Calm, PageOk, small}
+use Rattle.model.proofs.Sound.{NothingPending, PageOk, small}
 use Rattle.model.proofs.Placing.{page-full}
 use Rattle.model.proofs.Valid.{Valid, Opened, HeldOk, LiveOk, Counted}
 use Rattle.model.proofs.Closing.{own-owner}
@@ -32,21 +32,21 @@ use Rattle.model.proofs.Tests.{order-tests, differ-distinct, paired-pai
 
 -- ---- nothing pending: what is held is live
 
-ripened-bare : (ts : List Held) → AllOf Calm ts → ripened ts ≡ bare ts
-unfolding ripened if_then_else_ ripe isRemoving isCommitting
-ripened-bare [] a = refl
-ripened-bare (x ∷ xs) a = rw (a .0 .1, ripened-bare xs (a .1))
+live-bare : (ts : List Held) → AllOf NothingPending ts → live ts ≡ bare ts
+unfolding live if_then_else_ applied isRemoving isCommitting
+live-bare [] a = refl
+live-bare (x ∷ xs) a = rw (a .0 .1, live-bare xs (a .1))
 
 rows-free : (ps : List Page) → AllOf (λ p. p .frozen ≡ false) ps → AllOf PageOk ps → rows ps ≡ held ps
 unfolding rows held
 rows-free [] a b = refl
-rows-free (p ∷ ps) a b = rw (ripened-bare (p .tuples) (b .0 .1 (a .0) .0), rows-free ps (a .1) (b .1))
+rows-free (p ∷ ps) a b = rw (live-bare (p .tuples) (b .0 .1 (a .0) .0), rows-free ps (a .1) (b .1))
 
 -- ---- ready
 
-free-calm : (ps : List Page) → AllOf (λ p. p .frozen ≡ false) ps → AllOf PageOk ps
+free-withoutPending : (ps : List Page) → AllOf (λ p. p .frozen ≡ false) ps → AllOf PageOk ps
     → AllOf (λ p. (p .frozen ≡ false) × (shown (p .tuples) ≡ bare (p .tuples))) ps
-free-calm ps a b = all-two (λ p. p .frozen ≡ false) PageOk _ (λ p h o. (h, shown-calm (p .tuples) (nothing-pending (p .tuples) (o .1 h .0)))) ps a b
+free-withoutPending ps a b = all-two (λ p. p .frozen ≡ false) PageOk _ (λ p h o. (h, shown-withoutPending (p .tuples) (nothing-pending (p .tuples) (o .1 h .0)))) ps a b
 
 page-some : (p : Page) → PageOk p → isEmpty (content p .1) ≡ false
 unfolding content
@@ -99,7 +99,7 @@ ready s v e =
     let free = all-free (s .pages) (v .still e) in
     let same = rows-free (s .pages) free (v .pages) in
     record {
-      calm = free-calm (s .pages) free (v .pages);
+      withoutPending = free-withoutPending (s .pages) free (v .pages);
       some = all-mapped (λ c. isEmpty (c .1) ≡ false) content (s .pages) (all-map PageOk _ page-some (s .pages) (v .pages));
       ok = rows-tests (s .capacity) (s .next) (openNumbers (s .active)) (held (s .pages)) (v .has)
           (subst (LiveOk (openNumbers (s .active))) same (v .sees)) (omega (arith, numbers-length (s .active), v .opened));
@@ -119,28 +119,28 @@ tested v l sane p r =
     let f : PageFits (p .table) (r .0) (p .tuples) = subst Sane (r .1) (sane (p .block)) in
     (f .table, f .tuples, f .room, has-some (p .tuples) (r .4))
 
-calm-size : (ts : List Tuple) → sum heldSize (map calm ts) ≡ sizes ts
-unfolding sum heldSize calm
-calm-size [] = refl
-calm-size (x ∷ xs) = rw (calm-size xs)
+withoutPending-size : (ts : List Tuple) → sum heldSize (map withoutPending ts) ≡ sizes ts
+unfolding sum heldSize withoutPending
+withoutPending-size [] = refl
+withoutPending-size (x ∷ xs) = rw (withoutPending-size xs)
 
 pub owner-size : (o : Owner) → ownerSize o ≤ 4
 unfolding ownerSize
 owner-size committed = omega arith
 owner-size (tentative t s) = omega arith
 
-calm-small : (ts : List Tuple) → AllFit ts → AllOf Calm (map calm ts)
-unfolding calm heldSize size
-calm-small [] a = tt
-calm-small (x ∷ xs) a = let o = owner-size (x .owner) in ((omega (arith, a .0 .payload), refl), calm-small xs (a .1))
+withoutPending-small : (ts : List Tuple) → AllFit ts → AllOf NothingPending (map withoutPending ts)
+unfolding withoutPending heldSize size
+withoutPending-small [] a = tt
+withoutPending-small (x ∷ xs) a = let o = owner-size (x .owner) in ((omega (arith, a .0 .payload), refl), withoutPending-small xs (a .1))
 
 loaded-ok : (p : StoredPage) → Tested p → PageOk (loaded p)
 unfolding loaded
 loaded-ok p t =
-    let c = calm-small (p .tuples) (t .1) in
-    let z = calm-size (p .tuples) in
-    let y = length-map (p .tuples) calm in
-    (small (map calm (p .tuples)) c, λ h. (c, omega (arith, t .2), omega (arith, t .3)), λ h. lie h)
+    let c = withoutPending-small (p .tuples) (t .1) in
+    let z = withoutPending-size (p .tuples) in
+    let y = length-map (p .tuples) withoutPending in
+    (small (map withoutPending (p .tuples)) c, λ h. (c, omega (arith, t .2), omega (arith, t .3)), λ h. lie h)
 
 images-loaded : (ps : List StoredPage) → images (map loaded ps) ≡ []
 unfolding images loaded if_then_else_

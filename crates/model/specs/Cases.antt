@@ -11,21 +11,21 @@ use Rattle.bits.specs.Bits.{bitsOf, number as numberOf, bitsIn, field}
 use Rattle.blocks.specs.Limits.{mostNumber}
 use Rattle.blocks.specs.Numbers.{num4, same}
 use Rattle.blocks.specs.Tuple.{Owner, committed, tentative, Tuple, isTentative, ownerSize, size}
-use Rattle.blocks.specs.Spell.{zeros, spell, bytesOf, filled as filledUp, blockOf}
+use Rattle.blocks.specs.Spell.{zeros, spell, bytesOf, padded as filledUp, blockOf}
 use Rattle.blocks.specs.Block.{page, committedBit, markBit, ownerFields, payloadFields, recordFields, recordsFields, entryFields, encodeBlock}
-use Rattle.blocks.specs.Decode.{kind, spelledBy, readHeader, headerIn, readOwner, readMark, readTuple, taken, whole, readTuples, pageTable, pageCount, pageLevel, pageOf as pageOfBytes, pageIn, readEntries, directoryCount, directoryLevel, directoryIn, decodeBlock}
+use Rattle.blocks.specs.Decode.{kind, spelledBy, readHeader, headerIn, readOwner, readMark, readTuple, recordLength, isRecord, readTuples, pageTable, pageCount, pageLevel, samplePage as pageOfBytes, pageIn, readEntries, directoryCount, directoryLevel, directoryIn, decodeBlock}
 use Rattle.rows.specs.Rows.{rowRules}
 use Rattle.image.specs.View.{blockAt, blockCount, view}
 use Rattle.image.specs.Stages.{Stage, refuses, holds, wholeBlocks, blockOk, isZero, directoriesFor, directoryBlocks, unusedNumbers, headerOk, headerTest, addEntries, readDirectories, entriesOk, testedEntries, directoryTest, pageOk, addPage, readPages, rowsOfPages, testedPages, pageTest}
 use Rattle.image.specs.Whole.{headerStage, pagesBelow, pagesStage}
 use Rattle.model.specs.State.{Held, Page, idle, Store, Write, storedBytes, Answer, refused, done, count, filled}
-use Rattle.model.specs.Rules.{heldSize, fresh, calm, joins, rules}
+use Rattle.model.specs.Rules.{heldSize, fresh, withoutPending, joins, rules}
 use Rattle.model.specs.Sight.{held, rows, isForeign, versions, seenOf, seen}
-use Rattle.model.specs.Transactions.{gives, unless, changed, openCall, notOpen, noTable, tooLong, foreign, present, unseen, full, newTuple, written, insertCall, replaceCall, deleteCall, readSeen, readCall, listing, listCall, openNumbers, isFor, writtenBy, withWrite, without, commitCall, abortCall, placeRules}
-use Rattle.model.specs.Checkpoint.{stored as storedStore, isFree, allocate, freeCount, usedToo, isRunning, blocksNeeded, beginCall, leftOf, left, made, fill, storable, storePage, storeDirectory, headerFor, storeHeader, stepOf, stepAt, badImage, stepCall, inTurn, runCall}
+use Rattle.model.specs.Transactions.{gives, unless, changed, openCall, notOpen, noTable, tooLong, foreign, present, unseen, full, newTuple, withTuple, insertCall, replaceCall, deleteCall, readSeen, readCall, listing, listCall, openNumbers, isFor, writtenBy, withWrite, without, commitCall, abortCall, placeRules}
+use Rattle.model.specs.Checkpoint.{withProgress as storedStore, isFree, allocate, freeCount, usedToo, isRunning, blocksNeeded, beginCall, leftOf, left, made, fill, storable, storePage, storeDirectory, headerFor, storeHeader, stepOf, stepAt, badImage, stepCall, inTurn, runCall}
 use Rattle.model.specs.Calls.{Call, opens, inserts, replaces, deletes, commits, aborts, reads, lists, begins, steps, runs, call, isBegin, others, withWriter, writers, accepted, afterCalls, hadWritten}
 use Rattle.model.specs.Recover.{memoryFor, putBlock, imageAfter, freshStore, make, madeImage, loaded, reopened, recoveredStore, recoverPages, recoverBelow, recover}
-use Rattle.model.specs.QuotedLine.{Logged, tag, log, isHeader, landed, stored, content}
+use Rattle.model.specs.CrashRecovery.{Logged, tag, log, isHeader, landed, imageWith, content}
 
 -- ---- runs of calls
 
@@ -59,8 +59,8 @@ unfoldable pub tuple : ℕ → Tuple
 tuple n = record { key = 0; number = 0; owner = committed; mark = false; payload = replicate n 0 }
 
 -- a page of k tuples of 42 bytes, and one of 42 + n
-unfoldable pub pageOf : ℕ → ℕ → Page
-pageOf k n = fresh 0 (map calm (replicate k (tuple 33) ++ tuple (33 + n) ∷ []))
+unfoldable pub samplePage : ℕ → ℕ → Page
+samplePage k n = fresh 0 (map withoutPending (replicate k (tuple 33) ++ tuple (33 + n) ∷ []))
 
 -- a store of 512 blocks with p clean pages of one tuple each
 unfoldable pub clean : ℕ → Store
@@ -70,10 +70,10 @@ clean p =
       capacity = 1024;
       level = 1;
       next = p;
-      pages = map (λ b. record { table = 0; block = b; frozen = false; tuples = calm (tuple 0) ∷ [] }) (from 1 p);
+      pages = map (λ b. record { table = 0; block = b; frozen = false; tuples = withoutPending (tuple 0) ∷ [] }) (from 1 p);
       active = [];
       used = λ b. isIn b (from 1 p);
-      taken = p;
+      recordLength = p;
       checkpoint = idle;
     }
 
@@ -109,8 +109,8 @@ pub record Cases : Type 0 where
   pub stays : after5 (many 0 9 40 ++ many 9 1 14) ≡ (10, 504) ∷ []
   pub splits : after5 (many 0 9 40 ++ many 9 1 15) ≡ (5, 265) ∷ (5, 240) ∷ []
   -- sum 336 joins, 337 does not
-  pub joins-336 : joins (pageOf 3 0) (pageOf 3 0) ≡ true
-  pub joins-337 : joins (pageOf 3 0) (pageOf 3 1) ≡ false
+  pub joins-336 : joins (samplePage 3 0) (samplePage 3 0) ≡ true
+  pub joins-337 : joins (samplePage 3 0) (samplePage 3 1) ≡ false
   -- direct commit never joins, though the sum is 333 then
   pub commit-alone : after5 committedPages ≡ (18, 162) ∷ (19, 171) ∷ []
   -- frozen nine, ten more pending: 1,007 at thaw, pages of 5, 5, 9
@@ -174,18 +174,18 @@ bothFrozen =
 
 -- what the runs above give
 pub record Traps : Type 0 where
-  -- the pages at the end are not those listed: the page that was clean at begin is listed whole, with the block that it had
+  -- the pages at the end are not those listed: the page that was clean at begin is listed isRecord, with the block that it had
   pub at-the-end : shape (afterCalls splitMeanwhile (freshStore 16 64)) ≡ (5, 265) ∷ (5, 265) ∷ (1, 13) ∷ []
   pub as-at-begin : shapeOf (recoveredAfter splitMeanwhile) ≡ (9, 477) ∷ (1, 13) ∷ []
   pub listed-blocks : places splitMeanwhile 16 ≡ 1 ∷ 2 ∷ 0 ∷ 3 ∷ 4 ∷ 0 ∷ []
-  -- a pending commit is written as tentative, and takes hold when the page is thawed
+  -- a pending commit is withTuple as tentative, and takes hold when the page is thawed
   pub written-tentative : writes commitMeanwhile (freshStore 16 64) ≡ record { at = 1; what = page 0 1 (committedLate (tentative 5 0) ∷ []) } ∷ []
   pub thawed-committed : held (afterCalls commitMeanwhile (freshStore 16 64) .pages) ≡ (0, committedLate committed) ∷ []
   -- a replaced page's block is free only when the header has landed
   pub not-reused : places (threeTimes 3072) 6 ≡ 1 ∷ 2 ∷ 3 ∷ 0 ∷ 4 ∷ 5 ∷ 0 ∷ 2 ∷ 3 ∷ 0 ∷ []
   pub no-room : answers (threeTimes 2560) (freshStore 5 64)
       ≡ done ∷ done ∷ done ∷ count 4 ∷ count 4 ∷ done ∷ refused 20 ∷ refused 18 ∷ done ∷ refused 20 ∷ refused 18 ∷ []
-  -- the search goes on after the block last taken, and wraps to 1
+  -- the search goes on after the block last recordLength, and wraps to 1
   pub wraps : places (oneAgain 2560) 5 ≡ 1 ∷ 2 ∷ 0 ∷ 3 ∷ 4 ∷ 0 ∷ 1 ∷ 2 ∷ 0 ∷ []
   -- a thawed page of 49 bytes is not joined with its frozen neighbour of 245; when that is thawed too, they are joined
   pub frozen-both : after5 bothFrozen ≡ (5, 245) ∷ (5, 245) ∷ []
@@ -206,7 +206,7 @@ refusedCalls =
 -- a store at its last level and its last number
 unfoldable pub lastStore : Store
 lastStore =
-    record { blocks = 16; capacity = 2; level = mostNumber; next = mostNumber; pages = []; active = []; used = λ b. false; taken = 0; checkpoint = idle }
+    record { blocks = 16; capacity = 2; level = mostNumber; next = mostNumber; pages = []; active = []; used = λ b. false; recordLength = 0; checkpoint = idle }
 
 -- the refusal's number, 0 if there is none
 unfoldable pub refusalOf : Stage Store → ℕ
@@ -225,7 +225,7 @@ pub record Refusals : Type 0 where
   pub crowded : answers (map opens (from 0 64) ++ (opens 64 ∷ opens 0 ∷ [])) (freshStore 16 2) ≡ replicate 64 done ++ (refused 9 ∷ refused 8 ∷ [])
   -- the last number is not given, and the last level is not left
   pub last-numbers : answers (opens 5 ∷ inserts 5 0 0 [] ∷ begins ∷ []) lastStore ≡ done ∷ refused 16 ∷ refused 19 ∷ []
-  -- an image of 512 bytes, of no whole blocks; N 0 and 1,025; memory one byte too short, and just long enough
+  -- an image of 512 bytes, of no isRecord blocks; N 0 and 1,025; memory one byte too short, and just long enough
   pub makes : map refusalOf (make 512 0 0 ∷ make 8191 0 0 ∷ make 8192 0 0 ∷ make 8192 0 1025 ∷ make 8192 1151 1 ∷ make 8192 1152 1 ∷ []) ≡ 1 ∷ 1 ∷ 2 ∷ 2 ∷ 3 ∷ 0 ∷ []
 
 -- ---- one run cut at every store
@@ -277,7 +277,7 @@ cutHere s img base w =
 -- every cut of the stores ws
 unfoldable pub cutEverywhere : Store → List ℕ → List Call → List Logged → Bool
 cutEverywhere s img base [] = recoversTo s base img
-cutEverywhere s img base (w ∷ ws) = cutHere s img base w && cutEverywhere s (stored img w) (landed w base) ws
+cutEverywhere s img base (w ∷ ws) = cutHere s img base w && cutEverywhere s (imageWith img w) (landed w base) ws
 
 -- two checkpoints and the start of a third, with inserts, replaces, deletes and commits between their stores
 unfoldable pub script : List Call
@@ -297,5 +297,5 @@ pub record Cuts : Type 0 where
 
 -- opens all that the cases compute with: `unfolding cases`
 unfoldable pub cases : ℕ
-unfolding basics bitsOf numberOf bitsIn field num4 same isTentative ownerSize size spell bytesOf filledUp blockOf committedBit markBit ownerFields payloadFields recordFields recordsFields entryFields encodeBlock kind spelledBy readHeader headerIn readOwner readMark readTuple taken whole readTuples pageTable pageCount pageLevel pageOfBytes pageIn readEntries directoryCount directoryLevel directoryIn decodeBlock rowRules blockAt blockCount view wholeBlocks blockOk isZero directoriesFor directoryBlocks unusedNumbers headerOk headerTest addEntries readDirectories entriesOk testedEntries directoryTest pageOk addPage readPages rowsOfPages testedPages pageTest headerStage pagesBelow pagesStage rules held rows isForeign versions seenOf seen gives unless changed openCall notOpen noTable tooLong foreign present unseen full newTuple written insertCall replaceCall deleteCall readSeen readCall listing listCall placeRules openNumbers isFor writtenBy withWrite without others commitCall abortCall storedStore isFree allocate freeCount usedToo isRunning blocksNeeded beginCall leftOf left made fill storable storePage storeDirectory headerFor storeHeader stepOf stepAt badImage stepCall inTurn runCall call isBegin withWriter writers accepted afterCalls hadWritten memoryFor putBlock freshStore make madeImage loaded reopened recoveredStore recoverPages recoverBelow recover tag log isHeader landed stored content answers writes shape many after5 tuple pageOf clean booking committedPages reading spells firstOf imageAfter shapeOf recoveredAfter places splitMeanwhile commitMeanwhile committedLate threeTimes oneAgain bothFrozen refusedCalls lastStore refusalOf ownerNumbers tupleNumbers heldNumbers pageNumbers agrees recoversTo tears cutHere cutEverywhere script scriptLog
+unfolding basics bitsOf numberOf bitsIn field num4 same isTentative ownerSize size spell bytesOf filledUp blockOf committedBit markBit ownerFields payloadFields recordFields recordsFields entryFields encodeBlock kind spelledBy readHeader headerIn readOwner readMark readTuple recordLength isRecord readTuples pageTable pageCount pageLevel pageOfBytes pageIn readEntries directoryCount directoryLevel directoryIn decodeBlock rowRules blockAt blockCount view wholeBlocks blockOk isZero directoriesFor directoryBlocks unusedNumbers headerOk headerTest addEntries readDirectories entriesOk testedEntries directoryTest pageOk addPage readPages rowsOfPages testedPages pageTest headerStage pagesBelow pagesStage rules held rows isForeign versions seenOf seen gives unless changed openCall notOpen noTable tooLong foreign present unseen full newTuple withTuple insertCall replaceCall deleteCall readSeen readCall listing listCall placeRules openNumbers isFor writtenBy withWrite without others commitCall abortCall storedStore isFree allocate freeCount usedToo isRunning blocksNeeded beginCall leftOf left made fill storable storePage storeDirectory headerFor storeHeader stepOf stepAt badImage stepCall inTurn runCall call isBegin withWriter writers accepted afterCalls hadWritten memoryFor putBlock freshStore make madeImage loaded reopened recoveredStore recoverPages recoverBelow recover tag log isHeader landed imageWith content answers writes shape many after5 tuple samplePage clean booking committedPages reading spells firstOf imageAfter shapeOf recoveredAfter places splitMeanwhile commitMeanwhile committedLate threeTimes oneAgain bothFrozen refusedCalls lastStore refusalOf ownerNumbers tupleNumbers heldNumbers pageNumbers agrees recoversTo tears cutHere cutEverywhere script scriptLog
 cases = 0

@@ -16,8 +16,8 @@ use Rattle.model.specs.Rules.{isDirty, isFrozen, freeze, shown, thaw}
 use Rattle.model.specs.Transactions.{Test, _when_, gives, unless}
 
 -- the store with another level, other pages, blocks in use, block last taken, checkpoint
-unfoldable pub stored : Store → ℕ → List Page → (ℕ → Bool) → ℕ → Checkpoint → Store
-stored s l ps u b c =
+unfoldable pub withProgress : Store → ℕ → List Page → (ℕ → Bool) → ℕ → Checkpoint → Store
+withProgress s l ps u b c =
     record { blocks = s .blocks; capacity = s .capacity; level = l; next = s .next; pages = ps; active = s .active; used = u; taken = b; checkpoint = c }
 
 -- ---- free blocks
@@ -57,7 +57,7 @@ unfoldable pub beginCall : Store → Outcome
 beginCall s =
     unless (17 when isRunning (s .checkpoint) ∷ 19 when eqb (s .level) mostNumber ∷ 20 when ltb (freeCount s) (blocksNeeded (s .pages)) ∷ []) s
     (gives (count (blocksNeeded (s .pages) + 1))
-    (stored s (s .level) (map freeze (s .pages)) (s .used) (s .taken) (running (s .next) (map (λ p. p .block) (s .pages)) [])))
+    (withProgress s (s .level) (map freeze (s .pages)) (s .used) (s .taken) (running (s .next) (map (λ p. p .block) (s .pages)) [])))
 
 -- ---- step
 
@@ -88,14 +88,14 @@ unfoldable pub storePage : ℕ → List ℕ → List ℕ → Page → Store → 
 storePage n es ds p s =
     let b = allocate s in
     made b (page (p .table) (suc (s .level)) (storable (shown (p .tuples))))
-    (stored s (s .level) (thaw b (s .pages)) (usedToo s b) b (running n (fill b es) ds))
+    (withProgress s (s .level) (thaw b (s .pages)) (usedToo s b) b (running n (fill b es) ds))
 
 -- 336 entries in every directory block but the last
 unfoldable pub storeDirectory : ℕ → List ℕ → List ℕ → Store → Outcome
 storeDirectory n es ds s =
     let b = allocate s in
     made b (directory (suc (s .level)) (take entriesPerBlock (drop (entriesPerBlock * length ds) es)))
-    (stored s (s .level) (s .pages) (usedToo s b) b (running n es (ds ++ b ∷ [])))
+    (withProgress s (s .level) (s .pages) (usedToo s b) b (running n es (ds ++ b ∷ [])))
 
 -- the next number and page count are those at begin
 unfoldable pub headerFor : Store → ℕ → ℕ → ℕ → List ℕ → Header
@@ -117,7 +117,7 @@ headerFor s l n p ds =
 unfoldable pub storeHeader : ℕ → List ℕ → List ℕ → Store → Outcome
 storeHeader n es ds s =
     made 0 (header (headerFor s (suc (s .level)) n (length es) ds))
-    (stored s (suc (s .level)) (s .pages) (λ b. isIn b (es ++ ds)) (s .taken) idle)
+    (withProgress s (suc (s .level)) (s .pages) (λ b. isIn b (es ++ ds)) (s .taken) idle)
 
 -- the frozen pages in list order, then the directory, then the header
 unfoldable pub stepOf : Option Page → ℕ → List ℕ → List ℕ → Store → Outcome

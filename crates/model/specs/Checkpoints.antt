@@ -10,12 +10,12 @@ use Rattle.image.specs.Whole.{Contents, readImage}
 use Rattle.model.specs.State.{Page, Store}
 use Rattle.model.specs.Rules.{isDirty}
 use Rattle.model.specs.Calls.{Call, AllTyped, afterCalls}
-use Rattle.model.specs.QuotedLine.{Start, Logged, log, isHeader, stored, content}
+use Rattle.model.specs.CrashRecovery.{Start, Logged, log, isHeader, imageWith, content}
 
 -- the image after block stores, each of them whole
 unfoldable pub afterStores : List ℕ → List Logged → List ℕ
 afterStores img [] = img
-afterStores img (w ∷ ws) = afterStores (stored img w) ws
+afterStores img (w ∷ ws) = afterStores (imageWith img w) ws
 
 -- a page as it is compared: its table, and its tuples in order with all their fields
 unfoldable pub contentOf : StoredPage → ℕ × List Tuple

@@ -5,7 +5,7 @@ pub mod Transactions
 pub mod Checkpoint
 pub mod Calls
 pub mod Recover
-pub mod QuotedLine
+pub mod CrashRecovery
 pub mod Checkpoints
 pub mod WellFormed
 pub mod Places

@@ -11,7 +11,7 @@ use Rattle.model.specs.Rules.{listOf, isAdding, isRemoving, withPending,
 use Rattle.model.specs.Sight.{versions}
 use Rattle.model.specs.WellFormed.{WellFormed}
 -- the definitions by place, passed on for crates that name them here
-unfoldable pub use Rattle.model.specs.Rules.{editAt, takenAt, removeRowOn, committedAt, commitRowOn, atRow, removeRow, commitRow}
+unfoldable pub use Rattle.model.specs.Rules.{editAt, pendRemoveAt, removeRowOn, committedAt, commitRowOn, atRow, removeRow, commitRow}
 pub use Rattle.model.specs.Transactions.{Placed, rowOf, PlaceOp, commitPlace, removePlace}
 unfoldable pub use Rattle.model.specs.Transactions.{tagged, placed, allPlaced, continues, runs, allRuns, liveOf, ownPlaced, removePlaces, planNewest, planRun, planRuns, closePlan, abortPlan, carryOut}
 

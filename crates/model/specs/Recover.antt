@@ -12,7 +12,7 @@ use Rattle.image.specs.View.{View, view}
 use Rattle.image.specs.Stages.{Stage, refuses, holds, capacityLimit, wholeBlocks, directoryBlocks, StoredPage, rowsOfPages}
 use Rattle.image.specs.Whole.{headerStage, pagesStage}
 use Rattle.model.specs.State.{Page, Active, idle, Store, Write, storedBytes}
-use Rattle.model.specs.Rules.{calm}
+use Rattle.model.specs.Rules.{withoutPending}
 use Rattle.model.specs.Checkpoint.{headerFor}
 
 -- the memory that a store of capacity N needs
@@ -51,7 +51,7 @@ madeImage img n = putBlock img 0 (encodeBlock (header (headerFor (freshStore (le
 
 -- recovered pages are clean
 unfoldable pub loaded : StoredPage → Page
-loaded p = record { table = p .table; block = p .block; frozen = false; tuples = map calm (p .tuples) }
+loaded p = record { table = p .table; block = p .block; frozen = false; tuples = map withoutPending (p .tuples) }
 
 -- an open transaction of the rows rs
 unfoldable pub reopened : List Row → ℕ → Active

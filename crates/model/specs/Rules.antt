@@ -71,8 +71,8 @@ unfoldable pub entering : Page → Tuple → Held
 entering p x = record { tuple = x; pending = if p .frozen then adding else nothing }
 
 -- a tuple with nothing pending
-unfoldable pub calm : Tuple → Held
-calm x = record { tuple = x; pending = nothing }
+unfoldable pub withoutPending : Tuple → Held
+withoutPending x = record { tuple = x; pending = nothing }
 
 -- after the last tuple of its table with key not above its own, on that tuple's page
 unfoldable pub placeAfter : ℕ → Tuple → List Page → Option (List Page)
@@ -85,11 +85,11 @@ placeAfter t x (p ∷ ps) =
 
 -- else to the front of the first page; an empty table gets a new page
 unfoldable pub placeFront : ℕ → Tuple → List Page → List Page
-placeFront t x [] = fresh t (calm x ∷ []) ∷ []
+placeFront t x [] = fresh t (withoutPending x ∷ []) ∷ []
 placeFront t x (p ∷ ps) =
     if ltb (p .table) t then p ∷ placeFront t x ps
     else if eqb (p .table) t then grown p (entering p x ∷ p .tuples) ++ ps
-    else fresh t (calm x ∷ []) ∷ p ∷ ps
+    else fresh t (withoutPending x ∷ []) ∷ p ∷ ps
 
 -- a new tuple of table t
 unfoldable pub place : ℕ → Tuple → List Page → List Page
@@ -170,21 +170,21 @@ unfoldable pub asCommitted : Tuple → Tuple
 asCommitted x = record { key = x .key; number = x .number; owner = committed; mark = x .mark; payload = x .payload }
 
 -- removed
-unfoldable pub gone : Held → List Held
-gone h = []
+unfoldable pub removeNow : Held → List Held
+removeNow h = []
 
 -- on a frozen page: a pending add is taken away, another becomes a pending remove, which replaces a pending commit
-unfoldable pub goneLater : Held → List Held
-goneLater h = if isAdding (h .pending) then [] else withPending removing h ∷ []
+unfoldable pub pendRemove : Held → List Held
+pendRemove h = if isAdding (h .pending) then [] else withPending removing h ∷ []
 
 -- committed, whatever is pending
-unfoldable pub kept : Held → List Held
-kept h = record { tuple = asCommitted (h .tuple); pending = h .pending } ∷ []
+unfoldable pub commitNow : Held → List Held
+commitNow h = record { tuple = asCommitted (h .tuple); pending = h .pending } ∷ []
 
 -- on a frozen page: a pending add is committed, another becomes a pending commit; one pending removal is left alone
-unfoldable pub keptLater : Held → List Held
-keptLater h =
-    if isAdding (h .pending) then kept h
+unfoldable pub pendCommit : Held → List Held
+pendCommit h =
+    if isAdding (h .pending) then commitNow h
     else if isRemoving (h .pending) then h ∷ []
     else withPending committing h ∷ []
 
@@ -195,18 +195,18 @@ editAt g zero (h ∷ hs) = g h ++ hs
 editAt g (suc j) (h ∷ hs) = h ∷ editAt g j hs
 
 -- the tuples of a frozen page after the removal of tuple j. (The last one stays: a frozen page has a tuple of its begin, so that it never is a pending add.)
-unfoldable pub takenAt : ℕ → List Held → List Held
-takenAt j hs = if isEmpty (editAt goneLater j hs) then hs else editAt goneLater j hs
+unfoldable pub pendRemoveAt : ℕ → List Held → List Held
+pendRemoveAt j hs = if isEmpty (editAt pendRemove j hs) then hs else editAt pendRemove j hs
 
 -- a frozen page notes the removal; another one changes directly, and is dropped or joined
 unfoldable pub removeRowOn : ℕ → Option Page → Page → List Page → List Page
 removeRowOn j prev p ps =
-    if p .frozen then listOf prev ++ withTuples p (takenAt j (p .tuples)) ∷ ps
-    else (let q = fresh (p .table) (editAt gone j (p .tuples)) in settle (q ∷ []) prev q ps)
+    if p .frozen then listOf prev ++ withTuples p (pendRemoveAt j (p .tuples)) ∷ ps
+    else (let q = fresh (p .table) (editAt removeNow j (p .tuples)) in settle (q ∷ []) prev q ps)
 
 -- a page with tuple j committed: at once, or as a frozen page notes it
 unfoldable pub committedAt : ℕ → Page → Page
-committedAt j p = if p .frozen then withTuples p (editAt keptLater j (p .tuples)) else fresh (p .table) (editAt kept j (p .tuples))
+committedAt j p = if p .frozen then withTuples p (editAt pendCommit j (p .tuples)) else fresh (p .table) (editAt commitNow j (p .tuples))
 
 -- direct commit never joins
 unfoldable pub commitRowOn : ℕ → Option Page → Page → List Page → List Page
@@ -245,13 +245,13 @@ shown [] = []
 shown (h ∷ hs) = if isAdding (h .pending) then shown hs else h .tuple ∷ shown hs
 
 -- the tuple with its pending operation taken as done
-unfoldable pub ripe : Held → Tuple
-ripe h = if isCommitting (h .pending) then asCommitted (h .tuple) else h .tuple
+unfoldable pub applied : Held → Tuple
+applied h = if isCommitting (h .pending) then asCommitted (h .tuple) else h .tuple
 
--- the tuples with pending operations taken as done: those pending removal are gone
-unfoldable pub ripened : List Held → List Tuple
-ripened [] = []
-ripened (h ∷ hs) = if isRemoving (h .pending) then ripened hs else ripe h ∷ ripened hs
+-- the tuples with pending operations taken as done: those pending removal are removeNow
+unfoldable pub live : List Held → List Tuple
+live [] = []
+live (h ∷ hs) = if isRemoving (h .pending) then live hs else applied h ∷ live hs
 
 -- frozen by begin and not stored yet
 unfoldable pub isFrozen : Page → Bool
@@ -261,7 +261,7 @@ isFrozen p = p .frozen
 unfoldable pub thawOn : ℕ → Option Page → Page → List Page → List Page
 thawOn b prev p ps =
     if any (λ h. isPending (h .pending)) (p .tuples)
-    then (let hs = map calm (ripened (p .tuples)) in settle (map (fresh (p .table)) (splitAll hs)) prev (fresh (p .table) hs) ps)
+    then (let hs = map withoutPending (live (p .tuples)) in settle (map (fresh (p .table)) (splitAll hs)) prev (fresh (p .table) hs) ps)
     else listOf prev ++ record { table = p .table; block = b; frozen = false; tuples = p .tuples } ∷ ps
 
 -- the first frozen page is thawed after its store as block b
@@ -270,5 +270,5 @@ thaw b ps = around isFrozen (thawOn b) none ps
 
 -- opens all of this module: `unfolding rules`
 unfoldable pub rules : ℕ
-unfolding heldSize fits fresh withTuples lead half splitOnce splitDeep splitAll after grown entering calm placeAfter placeFront place joins joined listOf settleNext settleFull settle around isAdding isRemoving isCommitting isPending withPending asCommitted gone goneLater kept keptLater editAt takenAt removeRowOn committedAt commitRowOn atRow removeRow commitRow isDirty freeze shown ripe ripened isFrozen thawOn thaw
+unfolding heldSize fits fresh withTuples lead half splitOnce splitDeep splitAll after grown entering withoutPending placeAfter placeFront place joins joined listOf settleNext settleFull settle around isAdding isRemoving isCommitting isPending withPending asCommitted removeNow pendRemove commitNow pendCommit editAt pendRemoveAt removeRowOn committedAt commitRowOn atRow removeRow commitRow isDirty freeze shown applied live isFrozen thawOn thaw
 rules = 0

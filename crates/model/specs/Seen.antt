@@ -73,8 +73,8 @@ abbrev pub RefusedKeeps : Type 0
 RefusedKeeps = (c : Call) (s : Store) → accepted (call c s .answer) ≡ false → (call c s .store ≡ s) × (call c s .writes ≡ [])
 
 -- read and list change nothing and store nothing
-abbrev pub LooksOnly : Type 0
-LooksOnly =
+abbrev pub ReadsOnly : Type 0
+ReadsOnly =
     (s : Store)
     → ((tx t k room : ℕ) → (call (reads tx t k room) s .store ≡ s) × (call (reads tx t k room) s .writes ≡ []))
     × ((room : ℕ) → (call (lists room) s .store ≡ s) × (call (lists room) s .writes ≡ []))

@@ -7,7 +7,7 @@ use Rattle.basics.specs.Basics.{if_then_else_, keep, first, last}
 use Rattle.blocks.specs.Tuple.{isTentative}
 use Rattle.rows.specs.Rows.{Row, rowsOf, isBy, isOwn, isAt}
 use Rattle.model.specs.State.{Page, Store}
-use Rattle.model.specs.Rules.{ripened}
+use Rattle.model.specs.Rules.{live}
 
 -- every tuple that is held, page by page, those pending add or removal too
 unfoldable pub held : List Page → List Row
@@ -17,7 +17,7 @@ held (p ∷ ps) = rowsOf (p .table) (map (λ h. h .tuple) (p .tuples)) ++ held p
 -- the live rows: pending operations taken as done
 unfoldable pub rows : List Page → List Row
 rows [] = []
-rows (p ∷ ps) = rowsOf (p .table) (ripened (p .tuples)) ++ rows ps
+rows (p ∷ ps) = rowsOf (p .table) (live (p .tuples)) ++ rows ps
 
 -- a tentative tuple of another transaction
 unfoldable pub isForeign : ℕ → Row → Bool

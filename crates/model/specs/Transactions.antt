@@ -10,7 +10,7 @@ use Rattle.blocks.specs.Limits.{payloadLimit, mostNumber}
 use Rattle.blocks.specs.Tuple.{Tuple, tentative}
 use Rattle.rows.specs.Rows.{Row, isOwn, isAt, openLimit}
 use Rattle.model.specs.State.{Held, Page, Active, Store, Answer, refused, done, filled, Outcome}
-use Rattle.model.specs.Rules.{place, isRemoving, ripe, removeRow, commitRow}
+use Rattle.model.specs.Rules.{place, isRemoving, applied, removeRow, commitRow}
 use Rattle.model.specs.Sight.{held, isForeign, versions, seen}
 
 -- ---- refusals: the first test that holds
@@ -44,16 +44,16 @@ openNumbers os = map (λ o. o .transaction) os
 unfoldable pub isFor : ℕ → Active → Bool
 isFor tx o = eqb (o .transaction) tx
 
--- how many tuples a transaction has written
+-- how many tuples a transaction has withTuple
 unfoldable pub writtenBy : ℕ → List Active → ℕ
 writtenBy tx [] = 0
 writtenBy tx (o ∷ os) = if isFor tx o then o .written else writtenBy tx os
 
--- it has written one more. (A count has 20 bits; no transaction has more tuples than a store holds.)
+-- it has withTuple one more. (A count has 20 bits; no transaction has more tuples than a store holds.)
 unfoldable pub withWrite : ℕ → List Active → List Active
 withWrite tx [] = []
 withWrite tx (o ∷ os) =
-    if isFor tx o then record { transaction = o .transaction; written = min (suc (o .written)) 1048575 } ∷ os else o ∷ withWrite tx os
+    if isFor tx o then record { transaction = o .transaction; withTuple = min (suc (o .written)) 1048575 } ∷ os else o ∷ withWrite tx os
 
 -- it is closed
 unfoldable pub without : ℕ → List Active → List Active
@@ -65,7 +65,7 @@ without tx os = keep (λ o. not (isFor tx o)) os
 unfoldable pub openCall : ℕ → Store → Outcome
 openCall tx s =
     unless (6 when ltb 4095 tx ∷ 8 when isIn tx (openNumbers (s .active)) ∷ 9 when leb openLimit (length (s .active)) ∷ []) s
-    (gives done (changed s (s .next) (s .pages) (s .active ++ record { transaction = tx; written = 0 } ∷ [])))
+    (gives done (changed s (s .next) (s .pages) (s .active ++ record { transaction = tx; withTuple = 0 } ∷ [])))
 
 -- ---- insert, replace, delete
 
@@ -97,29 +97,29 @@ unseen tx t k s = 14 when not (isSome (seen tx t k s))
 unfoldable pub full : Store → List Test
 full s = 15 when leb (s .capacity) (length (held (s .pages))) ∷ 16 when eqb (s .next) mostNumber ∷ []
 
--- a tentative tuple; its statement is how many tuples the transaction had written before
+-- a tentative tuple; its statement is how many tuples the transaction had withTuple before
 unfoldable pub newTuple : ℕ → ℕ → List ℕ → Bool → Store → Tuple
 newTuple tx k bs m s =
     record { key = k; number = s .next; owner = tentative tx (writtenBy tx (s .active)); mark = m; payload = bs }
 
 -- one tentative tuple more
-unfoldable pub written : ℕ → ℕ → ℕ → List ℕ → Bool → Store → Outcome
-written tx t k bs m s = gives done (changed s (suc (s .next)) (place t (newTuple tx k bs m s) (s .pages)) (withWrite tx (s .active)))
+unfoldable pub withTuple : ℕ → ℕ → ℕ → List ℕ → Bool → Store → Outcome
+withTuple tx t k bs m s = gives done (changed s (suc (s .next)) (place t (newTuple tx k bs m s) (s .pages)) (withWrite tx (s .active)))
 
 -- insert: a tuple of a key of which there is none
 unfoldable pub insertCall : ℕ → ℕ → ℕ → List ℕ → Store → Outcome
 insertCall tx t k bs s =
-    unless (notOpen tx s ++ (noTable t ∷ tooLong bs ∷ foreign tx t k s ∷ present t k s ∷ full s)) s (written tx t k bs false s)
+    unless (notOpen tx s ++ (noTable t ∷ tooLong bs ∷ foreign tx t k s ∷ present t k s ∷ full s)) s (withTuple tx t k bs false s)
 
 -- replace: a newer version of a key that is seen
 unfoldable pub replaceCall : ℕ → ℕ → ℕ → List ℕ → Store → Outcome
 replaceCall tx t k bs s =
-    unless (notOpen tx s ++ (noTable t ∷ tooLong bs ∷ foreign tx t k s ∷ unseen tx t k s ∷ full s)) s (written tx t k bs false s)
+    unless (notOpen tx s ++ (noTable t ∷ tooLong bs ∷ foreign tx t k s ∷ unseen tx t k s ∷ full s)) s (withTuple tx t k bs false s)
 
 -- delete adds a mark with empty payload
 unfoldable pub deleteCall : ℕ → ℕ → ℕ → Store → Outcome
 deleteCall tx t k s =
-    unless (notOpen tx s ++ (noTable t ∷ foreign tx t k s ∷ unseen tx t k s ∷ full s)) s (written tx t k [] true s)
+    unless (notOpen tx s ++ (noTable t ∷ foreign tx t k s ∷ unseen tx t k s ∷ full s)) s (withTuple tx t k [] true s)
 
 -- ---- read, list
 
@@ -184,7 +184,7 @@ allRuns ps = runs [] (allPlaced ps)
 -- the live rows with their places: pending operations taken as done
 unfoldable pub liveOf : List Placed → List (ℕ × Row)
 liveOf [] = []
-liveOf (x ∷ xs) = if isRemoving (x .1 .1 .pending) then liveOf xs else (x .0, (x .1 .0, ripe (x .1 .1))) ∷ liveOf xs
+liveOf (x ∷ xs) = if isRemoving (x .1 .1 .pending) then liveOf xs else (x .0, (x .1 .0, applied (x .1 .1))) ∷ liveOf xs
 
 -- ---- plans of operations on tuples by their places at entry
 

@@ -18,7 +18,7 @@ use Rattle.model.specs.Transactions.{openNumbers, writtenBy}
 use Rattle.model.specs.Checkpoint.{allocate, freeCount, left, beginCall, stepCall, runCall}
 use Rattle.model.specs.Calls.{Call, steps, call, Typed, AllTyped, accepted, afterCalls}
 use Rattle.model.specs.Recover.{make, recover}
-use Rattle.model.specs.QuotedLine.{Start}
+use Rattle.model.specs.CrashRecovery.{Start}
 
 -- ---- tuples
 

@@ -10,7 +10,7 @@ use Rattle.reader.proofs.Records.{Found-is}
 use Rattle.reader.proofs.Walk.{Left, turn, take-next}
 use Rattle.rows.specs.Rows.{Row, rowsOf, markOk}
 use Rattle.rows.specs.Columns.{bare}
-use Rattle.rows.proofs.Turns.{all-yes, all-not}
+use Rattle.rows.proofs.Iterations.{all-yes, all-not}
 
 -- ---- one turn
 

@@ -6,7 +6,7 @@ use Rattle.bits.specs.Bits.{over, bitsIn, field}
 use Rattle.bits.proofs.Blocks.{field-lt}
 use Rattle.blocks.specs.Tuple.{Tuple, AllBytes}
 use Rattle.blocks.specs.Block.{page, encodeBlock, PageFits}
-use Rattle.blocks.specs.Decode.{readTuple, taken, whole, readTuples}
+use Rattle.blocks.specs.Decode.{readTuple, recordLength, isRecord, readTuples}
 use Rattle.blocks.specs.Spell.{zeros}
 use Rattle.blocks.specs.Bytes.{sizeOf, recordBytes, payloadIn, tupleOf, pageHead}
 use Rattle.blocks.specs.declared.Record.{Record}
@@ -38,7 +38,7 @@ again-start xs n =
     record { done = []; turn = omega arith; count = refl; built = built-start; rest = rw z (sym (map-same (readTuples n (drop 8 xs)))) }
 
 module _ {xs copy : List ℕ} {n at i : ℕ} (a : Again xs copy n at i) where
-  pub again-bad : i < n → whole (drop at xs) ≡ false → readTuples n (drop 8 xs) ≡ none
+  pub again-bad : i < n → isRecord (drop at xs) ≡ false → readTuples n (drop 8 xs) ≡ none
   unfolding readTuples if_then_else_
   again-bad h w =
       let e : n - i ≡ suc (n - (i + 1)) = omega arith in
@@ -51,8 +51,8 @@ module _ {xs copy : List ℕ} {n at i : ℕ} (a : Again xs copy n at i) where
       let x = readTuple (drop at xs) in
       let e : n - i ≡ suc (n - (i + 1)) = omega arith in
       let room : at + sizeOf r ≤ 512 = omega (arith, g .next, g .ends, g .takes) in
-      let next : readTuples n (drop 8 xs) ≡ Option·map (λ ts. (a .done ++ (readTuple (drop at xs) ∷ [])) ++ ts) (readTuples (n - (i + 1)) (drop (at + taken (drop at xs)) xs)) =
-      a .rest ∙ rw (e, g .is-whole, map-more (a .done) x (readTuples (n - (i + 1)) (drop (taken (drop at xs)) (drop at xs))), drop-drop (taken (drop at xs)) at xs) in
+      let next : readTuples n (drop 8 xs) ≡ Option·map (λ ts. (a .done ++ (readTuple (drop at xs) ∷ [])) ++ ts) (readTuples (n - (i + 1)) (drop (at + recordLength (drop at xs)) xs)) =
+      a .rest ∙ rw (e, g .is-whole, map-more (a .done) x (readTuples (n - (i + 1)) (drop (recordLength (drop at xs)) (drop at xs))), drop-drop (recordLength (drop at xs)) at xs) in
       record {
         done = a .done ++ (tupleOf r (payloadIn xs r) ∷ []);
         turn = omega arith;

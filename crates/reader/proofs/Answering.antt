@@ -8,7 +8,7 @@ use Rattle.bits.specs.Bits.{bitsIn, field}
 use Rattle.blocks.specs.Numbers.{same}
 use Rattle.blocks.specs.Tuple.{Tuple}
 use Rattle.blocks.specs.Block.{Block, malformed, header, page, directory, encodeBlock}
-use Rattle.blocks.specs.Decode.{spelledBy, readHeader, headerIn, readTuples, pageTable, pageCount, pageLevel, pageOf, pageIn, readEntries, directoryCount, directoryLevel, directoryIn, kind, decodeBlock}
+use Rattle.blocks.specs.Decode.{spelledBy, readHeader, headerIn, readTuples, pageTable, pageCount, pageLevel, pageSpelled, pageIn, readEntries, directoryCount, directoryLevel, directoryIn, kind, decodeBlock}
 use Rattle.blocks.specs.declared.Header.{Header}
 use Rattle.blocks.proofs.Laws.{spelled-yes, spelled-no}
 use Rattle.reader.specs.Answers.{reading}
@@ -51,12 +51,12 @@ module _ (xs : List ℕ) {n : ℕ} (en : n ≡ field (bitsIn xs) 4 9) where
 
 module _ (xs : List ℕ) {t n l : ℕ} (et : t ≡ field (bitsIn xs) 4 3) (en : n ≡ field (bitsIn xs) 7 6) (el : l ≡ field (bitsIn xs) 22 32) where
   pub page-none : readTuples n (drop 8 xs) ≡ none → reading (pageIn xs) ≡ Malformed
-  unfolding pageIn pageOf pageCount reading
+  unfolding pageIn pageSpelled pageCount reading
   page-none h = rw (← en, h)
 
   module _ {ts : List Tuple} (g : readTuples n (drop 8 xs) ≡ some ts) where
     there : pageIn xs ≡ spelledBy xs (page t l ts)
-    unfolding pageIn pageOf pageCount pageTable pageLevel
+    unfolding pageIn pageSpelled pageCount pageTable pageLevel
     there = rw (← en, g, ← et, ← el)
 
     pub page-yes : length ts ≡ n → same (encodeBlock (page t l ts)) xs ≡ true → reading (pageIn xs) ≡ IsPage t n l

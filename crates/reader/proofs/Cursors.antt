@@ -3,7 +3,7 @@ use Rattle.basics.proofs.Kit.{_≡_, sym, ap, _∙_, Bool, true, false, List, �
 use Rattle.basics.specs.Basics.{if_then_else_}
 use Rattle.basics.proofs.Facts.{by}
 use Rattle.blocks.specs.Numbers.{num4}
-use Rattle.blocks.specs.Decode.{readOwner, readMark, taken, whole}
+use Rattle.blocks.specs.Decode.{readOwner, readMark, recordLength, isRecord}
 use Rattle.blocks.specs.Bytes.{ownerAs}
 use Rattle.blocks.specs.declared.Owner.{Owner}
 use Rattle.blocks.proofs.ReadTuples.{ownerPart}
@@ -34,8 +34,8 @@ word-read : (f n : ℕ) → readOwner f (if ltb f 128 then n else 0) ≡ readOwn
 unfolding readOwner if_then_else_
 word-read f n = by (ltb f 128) (λ h. rw h) (λ h. rw h)
 
-pub taken-at : (xs : List ℕ) (at : ℕ) → taken (drop at xs) ≡ 9 + ownerPart (flagsAt xs at) + flagsAt xs at % 64
-unfolding taken
+pub taken-at : (xs : List ℕ) (at : ℕ) → recordLength (drop at xs) ≡ 9 + ownerPart (flagsAt xs at) + flagsAt xs at % 64
+unfolding recordLength
 taken-at xs at = rw (getD-drop at xs 8 0)
 
 start-at : (f at : ℕ) → (if ltb f 128 then at + 13 else at + 9) ≡ at + (9 + ownerPart f + f % 64) - f % 64
@@ -47,17 +47,17 @@ module _ (xs : List ℕ) (at : ℕ) (l : length xs ≡ 512) where
   left = rw (length-drop at xs, l)
 
   pub none-far : 503 < at → nextAt xs at ≡ Bad
-  unfolding nextAt whole if_then_else_
+  unfolding nextAt isRecord if_then_else_
   none-far h = rw (left, lt-leb 9 (512 - at) (omega arith))
 
   module _ (n : at ≤ 503) where
     pub none-long : 40 < flagsAt xs at % 64 → nextAt xs at ≡ Bad
-    unfolding nextAt whole if_then_else_
+    unfolding nextAt isRecord if_then_else_
     none-long h = rw (left, le-leb 9 (512 - at) (omega arith), getD-drop at xs 8 0, lt-leb (flagsAt xs at % 64) 40 h)
 
     module _ (p : flagsAt xs at % 64 ≤ 40) (e : ℕ) (t : e ≡ 9 + ownerPart (flagsAt xs at) + flagsAt xs at % 64) where
-      fits : whole (drop at xs) ≡ leb e (512 - at)
-      unfolding whole
+      fits : isRecord (drop at xs) ≡ leb e (512 - at)
+      unfolding isRecord
       fits = rw (left, le-leb 9 (512 - at) (omega arith), getD-drop at xs 8 0, le-leb (flagsAt xs at % 64) 40 p, taken-at xs at, t)
 
       pub none-short : 512 < at + e → nextAt xs at ≡ Bad

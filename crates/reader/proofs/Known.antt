@@ -6,7 +6,7 @@ use Rattle.blocks.specs.Limits.{entriesPerBlock}
 use Rattle.blocks.specs.Numbers.{same}
 use Rattle.blocks.specs.Tuple.{Tuple}
 use Rattle.blocks.specs.Block.{Block, header, page, directory, encodeBlock}
-use Rattle.blocks.specs.Decode.{spelledBy, readHeader, headerIn, taken, readTuples, pageTable, pageCount, pageLevel, pageOf, pageIn}
+use Rattle.blocks.specs.Decode.{spelledBy, readHeader, headerIn, recordLength, readTuples, pageTable, pageCount, pageLevel, pageSpelled, pageIn}
 use Rattle.blocks.specs.Decode.{readEntries, directoryCount, directoryLevel, directoryIn, kind, decodeBlock}
 use Rattle.blocks.proofs.Laws.{spelled-yes, spelled-no}
 use Rattle.blocks.proofs.ReadTuples.{split, none-is}
@@ -16,7 +16,7 @@ use Rattle.reader.specs.declared.Reading.the-variants.{IsPage}
 -- as many tuples are read as are asked for
 read-count : (n : ℕ) (xs : List ℕ) (ts : List Tuple) → readTuples n xs ≡ some ts → length ts ≡ n
 read-count zero xs ts e = ap length (none-is xs ts e)
-read-count (suc n) xs ts e = let s = split n xs ts e in ap length (s .is) ∙ ap suc (read-count n (drop (taken xs) xs) (s .others) (s .read))
+read-count (suc n) xs ts e = let s = split n xs ts e in ap length (s .is) ∙ ap suc (read-count n (drop (recordLength xs) xs) (s .others) (s .read))
 
 module _ (xs : List ℕ) where
   -- what is not spelled is no page
@@ -24,9 +24,9 @@ module _ (xs : List ℕ) where
   unfolding isPage
   spelled-page b h = by (same (encodeBlock b) xs) (λ s. spelled-yes xs b s) (λ s. lie (sym (ap isPage (spelled-no xs b s)) ∙ h))
 
-  known-of : (o : Option (List Tuple)) → readTuples (pageCount xs) (drop 8 xs) ≡ o → isPage (pageOf xs o) ≡ true
-      → reading (pageOf xs o) ≡ IsPage (pageTable xs) (pageCount xs) (pageLevel xs)
-  unfolding isPage pageOf reading
+  known-of : (o : Option (List Tuple)) → readTuples (pageCount xs) (drop 8 xs) ≡ o → isPage (pageSpelled xs o) ≡ true
+      → reading (pageSpelled xs o) ≡ IsPage (pageTable xs) (pageCount xs) (pageLevel xs)
+  unfolding isPage pageSpelled reading
   known-of none e h = lie h
   known-of (some ts) e h = ap reading (spelled-page (page (pageTable xs) (pageLevel xs) ts) h)
       ∙ ap (λ (n : ℕ). IsPage (pageTable xs) n (pageLevel xs)) (read-count (pageCount xs) (drop 8 xs) ts e)
@@ -55,7 +55,7 @@ module _ (xs : List ℕ) where
 
     paged : eqb (kind xs) 2 ≡ true → isPage (decodeBlock xs) ≡ true → reading (decodeBlock xs) ≡ IsPage (pageTable xs) (pageCount xs) (pageLevel xs)
     unfolding decodeBlock if_then_else_ pageIn
-    paged b h = let q : isPage (pageOf xs (readTuples (pageCount xs) (drop 8 xs))) ≡ true = rw (a, b) at h in rw (a, b) (known-of _ refl q)
+    paged b h = let q : isPage (pageSpelled xs (readTuples (pageCount xs) (drop 8 xs))) ≡ true = rw (a, b) at h in rw (a, b) (known-of _ refl q)
 
   headed : eqb (kind xs) 1 ≡ true → isPage (decodeBlock xs) ≡ true → false ≡ true
   unfolding decodeBlock if_then_else_

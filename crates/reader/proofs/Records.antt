@@ -4,7 +4,7 @@ use Rattle.basics.specs.Basics.{if_then_else_}
 use Rattle.basics.proofs.Facts.{by}
 use Rattle.blocks.specs.Numbers.{num4}
 use Rattle.blocks.specs.Tuple.{AllBytes, OwnerFits, Fits}
-use Rattle.blocks.specs.Decode.{readOwner, readTuple, taken, whole}
+use Rattle.blocks.specs.Decode.{readOwner, readTuple, recordLength, isRecord}
 use Rattle.blocks.specs.Bytes.{ownerIs, sizeOf, payloadIn, tupleOf, Appendable}
 use Rattle.blocks.specs.declared.Record.{Record}
 use Rattle.blocks.proofs.Spelled.{bytes-drop}
@@ -41,13 +41,13 @@ module _ (xs : List ℕ) (at : ℕ) where
         drop-drop (9 + ownerPart f) at xs,
       )
 
-  pub record-taken : sizeOf (recordAt xs at) ≡ taken (drop at xs)
+  pub record-taken : sizeOf (recordAt xs at) ≡ recordLength (drop at xs)
   unfolding sizeOf recordAt
   record-taken =
       let o = readOwner (flagsAt xs at) (num4 xs (at + 9)) in
       rw (taken-at xs at, owner-same o, owner-size (flagsAt xs at) (num4 xs (at + 9)))
 
-  record-ends : recordAt xs at .start + recordAt xs at .len ≡ at + taken (drop at xs)
+  record-ends : recordAt xs at .start + recordAt xs at .len ≡ at + recordLength (drop at xs)
   unfolding recordAt
   record-ends = rw (taken-at xs at, start-read (flagsAt xs at)) (omega arith)
 
@@ -57,23 +57,23 @@ module _ (xs : List ℕ) (at : ℕ) where
 
   -- what a record that the cursor found is
   pub record Found-is (r : Record) (c : Cursor) : Type 0 where
-    pub is-whole : whole (drop at xs) ≡ true
+    pub is-whole : isRecord (drop at xs) ≡ true
     pub limit : r .len ≤ 40
     pub payload : length (payloadIn xs r) ≡ r .len
     pub inside : r .start + r .len ≤ length xs
     pub tuple : tupleOf r (payloadIn xs r) ≡ readTuple (drop at xs)
-    pub takes : sizeOf r ≡ taken (drop at xs)
-    pub next : c .at ≡ at + taken (drop at xs)
+    pub takes : sizeOf r ≡ recordLength (drop at xs)
+    pub next : c .at ≡ at + recordLength (drop at xs)
     pub ends : c .at ≤ length xs
 
   pub found-is : {r : Record} {c : Cursor} → at ≤ length xs → Found r c ≡ nextAt xs at → Found-is r c
   unfolding nextAt if_then_else_
   found-is {r} {c} room e =
-      by (whole (drop at xs))
+      by (isRecord (drop at xs))
       (λ w.
-      let k : Found r c ≡ Found (recordAt xs at) (record { at = at + taken (drop at xs) }) = rw w at e in
+      let k : Found r c ≡ Found (recordAt xs at) (record { at = at + recordLength (drop at xs) }) = rw w at e in
       let er : r ≡ recordAt xs at = cc in
-      let ec : c ≡ record { at = at + taken (drop at xs) } = cc in
+      let ec : c ≡ record { at = at + recordLength (drop at xs) } = cc in
       let h = whole-parts (drop at xs) w in
       let d = length-drop at xs in
       let fl = getD-drop at xs 8 0 in
@@ -102,9 +102,9 @@ module _ (xs : List ℕ) (at : ℕ) where
   pub found-appends : {r : Record} {c : Cursor} → length xs ≡ 512 → AllBytes xs → Found-is r c → Appendable at r xs
   found-appends l b g = record { room = omega (arith, g .takes, g .next, g .ends); inside = g .inside; limit = g .limit; owner = found-fits b g }
 
-  pub bad-is : Bad ≡ nextAt xs at → whole (drop at xs) ≡ false
+  pub bad-is : Bad ≡ nextAt xs at → isRecord (drop at xs) ≡ false
   unfolding nextAt if_then_else_
   bad-is e =
-      by (whole (drop at xs))
-      (λ w. let k : Bad ≡ Found (recordAt xs at) (record { at = at + taken (drop at xs) }) = rw w at e in let z : _≡_ {A = ℕ} 0 1 = cc in absurd (omega arith))
+      by (isRecord (drop at xs))
+      (λ w. let k : Bad ≡ Found (recordAt xs at) (record { at = at + recordLength (drop at xs) }) = rw w at e in let z : _≡_ {A = ℕ} 0 1 = cc in absurd (omega arith))
       (λ w. w)

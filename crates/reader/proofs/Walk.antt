@@ -4,7 +4,7 @@ use Rattle.basics.specs.Basics.{if_then_else_}
 use Rattle.basics.proofs.Facts.{never}
 use Rattle.blocks.specs.Tuple.{Tuple}
 use Rattle.blocks.specs.Block.{page}
-use Rattle.blocks.specs.Decode.{readTuple, taken, whole, readTuples, decodeBlock}
+use Rattle.blocks.specs.Decode.{readTuple, recordLength, isRecord, readTuples, decodeBlock}
 use Rattle.blocks.specs.Bytes.{payloadIn, tupleOf}
 use Rattle.blocks.specs.declared.Record.{Record}
 use Rattle.blocks.proofs.ReadTuples.{split, none-is}
@@ -25,7 +25,7 @@ pub left-end : (xs : List ℕ) (n at i : ℕ) (ts : List Tuple) → n ≤ i → 
 left-end xs n at i ts h e =
     let z : n - i ≡ 0 = omega arith in none-is (drop at xs) (drop i ts) (rw z at e)
 
-pub left-bad {ℓ} : {X : Type ℓ} (xs : List ℕ) (n at i : ℕ) (ts : List Tuple) → i < n → whole (drop at xs) ≡ false → Left xs n at i ts → X
+pub left-bad {ℓ} : {X : Type ℓ} (xs : List ℕ) (n at i : ℕ) (ts : List Tuple) → i < n → isRecord (drop at xs) ≡ false → Left xs n at i ts → X
 unfolding readTuples if_then_else_
 left-bad xs n at i ts h w e =
     let z : n - i ≡ suc (n - (i + 1)) = omega arith in
@@ -51,7 +51,7 @@ module _ (xs : List ℕ) (n at i : ℕ) (ts : List Tuple) (h : i < n) (e : Left 
       let d = drop-next i ts (readTuple (drop at xs)) (s .others) (s .is) in
       record {
         first = rw (d, f .tuple) (s .is);
-        left = rw (d, f .next, ← drop-drop (taken (drop at xs)) at xs) (s .read);
+        left = rw (d, f .next, ← drop-drop (recordLength (drop at xs)) at xs) (s .read);
       }
 
 -- i of the tuples ts are passed, and the cursor is at at

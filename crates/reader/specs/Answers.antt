@@ -7,7 +7,7 @@ use lib.Dec.{ltb}
 use Rattle.basics.specs.Basics.{if_then_else_}
 use Rattle.blocks.specs.Numbers.{num4}
 use Rattle.blocks.specs.Block.{Block, malformed, header, page, directory}
-use Rattle.blocks.specs.Decode.{readOwner, readMark, taken, whole}
+use Rattle.blocks.specs.Decode.{readOwner, readMark, recordLength, isRecord}
 use Rattle.blocks.specs.Bytes.{ownerAs}
 use Rattle.blocks.specs.declared.Record.{Record}
 use Rattle.reader.specs.declared.Next.{Next}
@@ -30,7 +30,7 @@ recordAt xs at =
 
 -- the record at a cursor's place, with the cursor behind it
 unfoldable pub nextAt : List ℕ → ℕ → Next
-nextAt xs at = if whole (drop at xs) then Found (recordAt xs at) (record { at = at + taken (drop at xs) }) else Bad
+nextAt xs at = if isRecord (drop at xs) then Found (recordAt xs at) (record { at = at + recordLength (drop at xs) }) else Bad
 
 -- a page block
 unfoldable pub isPage : Block → Bool

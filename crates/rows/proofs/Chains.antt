@@ -5,7 +5,7 @@ use Rattle.basics.specs.Basics.{if_then_else_, all}
 use Rattle.basics.proofs.Facts.{by, lie, and-true}
 use Rattle.rows.specs.Columns.{tab}
 use Rattle.rows.specs.Chains.{bucketCount, lastBy, bucketOf, inBucket, Chained, Table, Chain, isNew, keysOnce, isThereBelow, isNext}
-use Rattle.rows.proofs.Turns.{tab-turn, tab-end, tab-whole, all-yes, all-not, all-end}
+use Rattle.rows.proofs.Iterations.{tab-turn, tab-end, tab-whole, all-yes, all-not, all-end}
 
 -- ---- the last that passes
 
@@ -91,8 +91,8 @@ module _ {xs links : List ℕ} {j x : ℕ} (c : Chain xs links j x) (pos : 0 < j
       let z : j ≡ j - 1 + 1 = omega arith in
       z ∙ sym (last-yes (eqb x) xs (j - 1) (eq-eqb _ _ (sym e))) ∙ ap (lastBy (eqb x) xs) (sym z)
 
-  pub look-on : (getD xs (j - 1) 0 ≡ x → ⊥) → lastBy (eqb x) xs j ≡ lastBy (eqb x) xs (getD links (j - 1) 0)
-  look-on h =
+  pub visibility-on : (getD xs (j - 1) 0 ≡ x → ⊥) → lastBy (eqb x) xs j ≡ lastBy (eqb x) xs (getD links (j - 1) 0)
+  visibility-on h =
       let z : j ≡ j - 1 + 1 = omega arith in
       ap (lastBy (eqb x) xs) z
       ∙ last-not (eqb x) xs (j - 1) (ne-eqb _ _ (λ e. h (sym e)))

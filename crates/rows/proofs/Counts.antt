@@ -8,7 +8,7 @@ use Rattle.rows.specs.Rows.{Row, isOwn, addOwner, transactions}
 use Rattle.rows.specs.Columns.{rowAt, tab, rowsIn}
 use Rattle.rows.specs.Chains.{isStart, starts}
 use Rattle.basics.proofs.Ands.{and-no}
-use Rattle.rows.proofs.Turns.{any-yes, any-not, any-cons}
+use Rattle.rows.proofs.Iterations.{any-yes, any-not, any-cons}
 use Rattle.rows.proofs.Owners.{in-transactions}
 use Rattle.rows.proofs.Totals.{total, bit, total-same, total-sum, total-none, count-total}
 use Rattle.rows.proofs.Ranks.{txOf, stOf, own, own-in, own-out, placed, Ordered, placed-one}

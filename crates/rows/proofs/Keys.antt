@@ -5,7 +5,7 @@ use Rattle.basics.specs.Basics.{all, isIn, distinct}
 use Rattle.basics.proofs.Facts.{by, lie, and-true}
 use Rattle.rows.specs.Columns.{tab}
 use Rattle.rows.specs.Chains.{lastBy, isNew, keysOnce}
-use Rattle.rows.proofs.Turns.{any-yes, any-not, any-end}
+use Rattle.rows.proofs.Iterations.{any-yes, any-not, any-end}
 use Rattle.rows.proofs.Chains.{last-le, last-passes, last-there}
 
 -- ---- tests by index

@@ -1,4 +1,4 @@
-pub mod Turns
+pub mod Iterations
 pub mod Owners
 pub mod Chains
 pub mod Keys

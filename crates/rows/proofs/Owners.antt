@@ -4,7 +4,7 @@ use Rattle.basics.specs.Basics.{if_then_else_, any, isIn}
 use Rattle.basics.proofs.Facts.{by}
 use Rattle.blocks.specs.Tuple.{Owner, committed, tentative}
 use Rattle.rows.specs.Rows.{Row, isBy, isOwn, addOwner, transactions}
-use Rattle.rows.proofs.Turns.{any-cons}
+use Rattle.rows.proofs.Iterations.{any-cons}
 
 pub same-test : (m n : ℕ) → eqb m n ≡ eqb n m
 same-test m n =

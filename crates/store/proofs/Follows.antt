@@ -7,13 +7,13 @@ use Rattle.model.specs.Recover.{imageAfter}
 use Rattle.model.proofs.Lists.{eqb-true}
 use Rattle.model.proofs.Quiet.{isPlain, quiet}
 use Rattle.memory_layout.specs.Store.{storeIn}
-use Rattle.contracts.specs.Shape.{Leaves, Afterwards, Answers, AnswersAt, StoredBy, Stores, StoresAt}
+use Rattle.contracts.specs.Shape.{MemoryAfter, Afterwards, Answers, AnswersAt, StoredBy, Stores, StoresAt}
 use Rattle.contracts.specs.declared.Answer.{Answer as Answered}
-use Rattle.store.specs.QuotedLine.{Does, opening, inserting, replacing, deleting, committing, aborting, reading, listing, beginning, stepping, running, stepping-elsewhere, running-elsewhere, Runs, ends, next}
+use Rattle.store.specs.CrashRecovery.{Executes, opening, inserting, replacing, deleting, committing, aborting, reading, listing, beginning, stepping, running, stepping-elsewhere, running-elsewhere, ExecutesAll, ends, next}
 use Rattle.store.proofs.Refused.{Honest, honest, read-kept, list-kept, begin-none, bad-step, bad-run}
 
 -- the memory after a call: the store of its outcome, also when it is refused
-leaves : (a : Answer) (t s : Store) (m m′ : List ℕ) → Leaves a t m m′ → storeIn m ≡ some s → ((n : ℕ) → a ≡ refused n → t ≡ s) → storeIn m′ ≡ some t
+leaves : (a : Answer) (t s : Store) (m m′ : List ℕ) → MemoryAfter a t m m′ → storeIn m ≡ some s → ((n : ℕ) → a ≡ refused n → t ≡ s) → storeIn m′ ≡ some t
 leaves (refused n) t s m m′ l e h = ap storeIn l ∙ e ∙ ap some (sym (h n refl))
 leaves done t s m m′ l e h = l .store
 leaves (count n) t s m m′ l e h = l .store
@@ -43,7 +43,7 @@ module _ (s : Store) (img m : List ℕ) (e : storeIn m ≡ some s) where
       → (storeIn m′ ≡ some (call c s .store)) × (img ≡ imageAfter (call c s .writes) img)
   plain c h r m′ a = (answered (call c) s m e (honest c s) r m′ a, still (call c s .writes) img (quiet s c h .none-written))
 
-  pub does : (c : Call) (img′ m′ : List ℕ) → length img ≡ 512 * s .blocks → Does c img m img′ m′
+  pub does : (c : Call) (img′ m′ : List ℕ) → length img ≡ 512 * s .blocks → Executes c img m img′ m′
       → (storeIn m′ ≡ some (call c s .store)) × (img′ ≡ imageAfter (call c s .writes) img)
   unfolding call isPlain
   does (opens tx) img′ m′ l (opening r a) = plain (opens tx) refl r m′ a
@@ -64,7 +64,7 @@ module _ (s : Store) (img m : List ℕ) (e : storeIn m ≡ some s) where
       (stored (call (runs limit len)) s m e (honest (runs limit len) s) p r p′ m′ a .0, still _ img (bad-run len s (other len img s l h) limit))
 
 -- the arguments are numbers and bytes of their types
-typed : {c : Call} {img m img′ m′ : List ℕ} → Does c img m img′ m′ → Typed c
+typed : {c : Call} {img m img′ m′ : List ℕ} → Executes c img m img′ m′ → Typed c
 typed (opening r a) = tt
 typed (inserting r b1 b2 a) = (b1, b2)
 typed (replacing r b1 b2 a) = (b1, b2)
@@ -79,6 +79,6 @@ typed (running r a) = tt
 typed (stepping-elsewhere p p′ r h a) = tt
 typed (running-elsewhere p p′ r h a) = tt
 
-pub all-typed : {cs : List Call} {img m img′ m′ : List ℕ} → Runs cs img m img′ m′ → AllTyped cs
+pub all-typed : {cs : List Call} {img m img′ m′ : List ℕ} → ExecutesAll cs img m img′ m′ → AllTyped cs
 all-typed ends = tt
 all-typed (next d rs) = (typed d, all-typed rs)

@@ -7,20 +7,20 @@ use Rattle.image.specs.View.{view}
 use Rattle.model.specs.State.{Store, Write}
 use Rattle.model.specs.Calls.{Call, call, isBegin, accepted, afterCalls}
 use Rattle.model.specs.Recover.{imageAfter, make, madeImage, recover}
-use Rattle.model.specs.QuotedLine.{Start, fresh, Logged, tag, log, stored, Same}
+use Rattle.model.specs.CrashRecovery.{Start, fresh, Logged, tag, log, imageWith, Same}
 use Rattle.model.proofs.Views.{WriteOk}
 use Rattle.model.proofs.Lists.{all-parts}
 use Rattle.model.proofs.Bytes.{view-sane}
 use Rattle.model.proofs.Claim.{writes-ok}
-use Rattle.model.proofs.Line.{written-long, started, quoted-line}
+use Rattle.model.proofs.Line.{written-long, started, crash-recovery}
 use Rattle.memory_layout.specs.Store.{storeIn, HoldsNow}
 use Rattle.contracts.specs.Shape.{meaning, MadeBy, Made, RecoveredBy, Recovered}
 use Rattle.contracts.specs.declared.Answer.{Answer}
 use Rattle.contracts.specs.declared.Answer.the-variants.{Done, Count, Filled, Refused}
-use Rattle.store.specs.QuotedLine.{Started, made, recovered, Starts, Runs, ends, next, Restored, QuotedLine}
+use Rattle.store.specs.CrashRecovery.{Started, made, recovered, Starts, ExecutesAll, ends, next, Restored, CrashRecovery}
 use Rattle.store.proofs.Refused.{blocks-kept}
 use Rattle.store.proofs.Follows.{does, all-typed}
-use Rattle.model.specs.QuotedLine as model
+use Rattle.model.specs.CrashRecovery as model
 use Rattle.model.specs.State as answer
 
 abbrev written : List Logged → List Write
@@ -36,13 +36,13 @@ after-append b (w ∷ ws) ls img = after-append b ws ls _
 
 long-after : (n : ℕ) (b : List Call) (ws : List Write) (img : List ℕ) → length img ≡ 512 * n → AllOf (WriteOk n) (map (tag b) ws)
     → length (imageAfter ws img) ≡ 512 * n
-unfolding imageAfter tag stored
+unfolding imageAfter tag imageWith
 long-after n b [] img e ok = e
 long-after n b (w ∷ ws) img e ok = long-after n b ws _ (written-long n img (tag b w) e (ok .0)) (ok .1)
 
 -- ---- a run
 
-follows : (n : ℕ) (past base : List Call) (s : Store) (cs : List Call) (img m img′ m′ : List ℕ) → Runs cs img m img′ m′ → storeIn m ≡ some s
+follows : (n : ℕ) (past base : List Call) (s : Store) (cs : List Call) (img m img′ m′ : List ℕ) → ExecutesAll cs img m img′ m′ → storeIn m ≡ some s
     → s .blocks ≡ n → length img ≡ 512 * n → AllOf (WriteOk n) (log past base s cs)
     → (storeIn m′ ≡ some (afterCalls cs s)) × (img′ ≡ imageAfter (written (log past base s cs)) img)
 unfolding afterCalls log imageAfter
@@ -115,12 +115,12 @@ restored : (s t : Store) (base : List Call) (cut m₀ m₁ : List ℕ) (r : Answ
 unfolding RecoveredBy
 restored s t base cut m₀ m₁ r e same k =
     let q : (meaning r [] ≡ answer.done) × HoldsNow m₀ m₁ t = rw e at k in
-    record { accepted = done-alone r (q .0); store = t; held = q .1 .store; same = same }
+    record { accepted = done-alone r (q .0); store = t; has-store = q .1 .store; same = same }
 
 -- ---- the claim
 
-pub quoted : QuotedLine
-quoted img m bytes s st calls img′ m′ rs =
+pub recovers-always : CrashRecovery
+recovers-always img m bytes s st calls img′ m′ rs =
     let a = starts img m s st in
     let g = started img s (a .start) in
     let ty = all-typed rs in
@@ -130,5 +130,5 @@ quoted img m bytes s st calls img′ m′ rs =
       memory = k .0;
       image = k .1;
       restart = λ cut base c m₀ m₁ r h rec.
-          let x = quoted-line img bytes s (a .start) calls ty cut base c (length m₀) h in restored s (x .0) base cut m₀ m₁ r (x .1) (x .2) rec;
+          let x = crash-recovery img bytes s (a .start) calls ty cut base c (length m₀) h in restored s (x .0) base cut m₀ m₁ r (x .1) (x .2) rec;
     }

@@ -7,8 +7,8 @@ use Rattle.image.specs.Stages.{directoriesFor}
 use Rattle.model.specs.State.{Page, Checkpoint, idle, running, Store, Write, Answer, refused, done, count, filled, Outcome}
 use Rattle.model.specs.Rules.{isFrozen}
 use Rattle.model.specs.Sight.{seen}
-use Rattle.model.specs.Transactions.{Test, _when_, gives, unless, changed, openCall, insertCall, replaceCall, deleteCall, written, commitCall, abortCall, readCall, readSeen, listCall}
-use Rattle.model.specs.Checkpoint.{stored, beginCall, badImage, stepCall, stepAt, inTurn, left, stepOf, storePage, storeDirectory, storeHeader, made, runCall}
+use Rattle.model.specs.Transactions.{Test, _when_, gives, unless, changed, openCall, insertCall, replaceCall, deleteCall, withTuple, commitCall, abortCall, readCall, readSeen, listCall}
+use Rattle.model.specs.Checkpoint.{withProgress, beginCall, badImage, stepCall, stepAt, inTurn, left, stepOf, storePage, storeDirectory, storeHeader, made, runCall}
 use Rattle.model.specs.Calls.{Call, opens, inserts, replaces, deletes, commits, aborts, reads, lists, begins, steps, runs, call}
 use Rattle.model.proofs.Quiet.{unless-out, step-frame}
 
@@ -56,7 +56,7 @@ step-honest idle s = refuses s (refused 18)
 step-honest (running n es ds) s = step-of (first isFrozen (s .pages)) n es ds s
 
 pub honest : (c : Call) (s : Store) → Honest s (call c s)
-unfolding call openCall insertCall replaceCall deleteCall written commitCall abortCall readCall listCall beginCall stepCall runCall gives number
+unfolding call openCall insertCall replaceCall deleteCall withTuple commitCall abortCall readCall listCall beginCall stepCall runCall gives number
 honest (opens tx) s = tested _ s _ (accepts s _ refl)
 honest (inserts tx t k bs) s = tested _ s _ (accepts s _ refl)
 honest (replaces tx t k bs) s = tested _ s _ (accepts s _ refl)
@@ -74,7 +74,7 @@ honest (runs limit len) s = tested _ s _ (accepts s _ refl)
 turn-blocks : (k : ℕ) (s : Store) → inTurn k s .store .blocks ≡ s .blocks
 unfolding inTurn gives
 turn-blocks zero s = refl
-turn-blocks (suc k) s = turn-blocks k (stepAt (s .checkpoint) s .store) ∙ step-frame (λ t. t .blocks ≡ s .blocks) s refl (unfold stored in λ l ps u b c. refl)
+turn-blocks (suc k) s = turn-blocks k (stepAt (s .checkpoint) s .store) ∙ step-frame (λ t. t .blocks ≡ s .blocks) s refl (unfold withProgress in λ l ps u b c. refl)
 
 seen-kept : (P : Store → List Write → Type 0) (room : ℕ) (o : Option Row) (s : Store) → P s [] → P (readSeen room o s .store) (readSeen room o s .writes)
 unfolding readSeen gives
@@ -82,7 +82,7 @@ seen-kept P room none s p = p
 seen-kept P room (some r) s p = unless-out P _ s _ p p
 
 pub blocks-kept : (c : Call) (s : Store) → call c s .store .blocks ≡ s .blocks
-unfolding call openCall insertCall replaceCall deleteCall written commitCall abortCall readCall listCall beginCall stepCall runCall gives changed stored
+unfolding call openCall insertCall replaceCall deleteCall withTuple commitCall abortCall readCall listCall beginCall stepCall runCall gives changed withProgress
 blocks-kept (opens tx) s = unless-out (λ t ws. t .blocks ≡ s .blocks) _ s _ refl refl
 blocks-kept (inserts tx t k bs) s = unless-out (λ t ws. t .blocks ≡ s .blocks) _ s _ refl refl
 blocks-kept (replaces tx t k bs) s = unless-out (λ t ws. t .blocks ≡ s .blocks) _ s _ refl refl

@@ -6,15 +6,15 @@ use Rattle.contracts.specs.declared.Answer.{Answer}
 use Rattle.contracts.specs.declared.Answer.the-variants.{Done, Count, Filled, Refused}
 
 -- as far as 64 bits with a sign go; every answer and refusal is far below
-unfoldable pub whole : ℕ → ℕ
-whole n = min n 9223372036854775807
+unfoldable pub clamped : ℕ → ℕ
+clamped n = min n 9223372036854775807
 
 -- the call's answer, 0 where none is named, or minus the refusal's number
 unfoldable pub code : Answer → ℤ
 code Done = pos 0
-code (Count n) = pos (whole n)
-code (Filled n) = pos (whole n)
-code (Refused n) = negℤ (pos (whole n))
+code (Count n) = pos (clamped n)
+code (Filled n) = pos (clamped n)
+code (Refused n) = negℤ (pos (clamped n))
 
 -- x is the number of an answer for which this holds
 pub record Coded (x : ℤ) (Holds : Answer → Type 0) : Type 0 where

@@ -1,2 +1,2 @@
-pub mod QuotedLine
+pub mod CrashRecovery
 pub mod Code

@@ -1,5 +1,5 @@
 // The booking store: every call, for Rattle and for C. No call asks anything of its caller. What the contracts promise together, for every
-// list of calls and wherever power fails, is the theorem of specs/QuotedLine, which names the relations that they cite.
+// list of calls and wherever power fails, is the theorem of specs/CrashRecovery, which names the relations that they cite.
 use contracts::Answer;
 ghost use mathlib.Core.Path.{_≡_};
 ghost use lib.IntN.{pos};
@@ -7,7 +7,7 @@ ghost use lib.ListN.{length};
 ghost use Rattle.model.specs.Transactions.{openCall, insertCall, replaceCall, deleteCall, commitCall, abortCall, readCall};
 ghost use Rattle.model.specs.Checkpoint.{beginCall, stepCall, runCall};
 ghost use Rattle.contracts.specs.Shape.{Answers, Replies, Lists, Stores, Made, Recovered};
-ghost use Rattle.store.specs.Code.{whole, code, Coded};
+ghost use Rattle.store.specs.Code.{clamped, code, Coded};
 
 // An empty store, in image and memory.
 pub fn make(image: &mut [u8], m: &mut [u8], capacity: u64) -> Answer
@@ -103,8 +103,8 @@ pub fn run(image: &mut [u8], m: &mut [u8], limit: u64) -> Answer
 // ---- for C
 
 // As far as 64 bits with a sign go.
-fn whole(n: u64) -> i64
-    ensures { λ r. ⌜ r ≡ pos (whole n) ⌝ }
+fn clamped(n: u64) -> i64
+    ensures { λ r. ⌜ r ≡ pos (clamped n) ⌝ }
 {
     if n < 9223372036854775808 {
         return n as i64;
@@ -118,8 +118,8 @@ fn code(a: Answer) -> i64
 {
     match a {
         Answer::Done => 0,
-        Answer::Count(n) => whole(n),
-        Answer::Filled(n) => whole(n as u64),
+        Answer::Count(n) => clamped(n),
+        Answer::Filled(n) => clamped(n as u64),
         Answer::Refused(n) => -whole(n),
     }
 }

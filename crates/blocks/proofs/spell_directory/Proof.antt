@@ -1,13 +1,13 @@
 -- `blocks::spell_directory` meets its contract.
 use Rattle.basics.proofs.Kit.{_≡_, ap, ℕ, _≤_, _<_, _-_, length, take, getD, arith}
 use Rattle.bits.specs.Bits.{bitsIn}
-use Rattle.blocks.specs.Spell.{filled}
+use Rattle.blocks.specs.Spell.{padded}
 use Rattle.blocks.proofs.Entries.{dirBits, head-filled, entry-filled, dir-done}
 use Rattle.blocks.proofs.spell_directory.Statement.{statement}
 use Rattle.blocks.proofs.spell_directory.Tie as tie
 
 abbrev Inv-loop : tie.InvT-loop
-Inv-loop block₀ level entries count i₀ block i = (i ≤ count) × ((length block ≡ 512) × (((j : ℕ) → getD block j 0 < 256) × (bitsIn block ≡ filled (dirBits level count (take i entries)))))
+Inv-loop block₀ level entries count i₀ block i = (i ≤ count) × ((length block ≡ 512) × (((j : ℕ) → getD block j 0 < 256) × (bitsIn block ≡ padded (dirBits level count (take i entries)))))
 
 abbrev μ-loop : tie.MeasureT-loop
 μ-loop block₀ level entries count i₀ block i = count - i

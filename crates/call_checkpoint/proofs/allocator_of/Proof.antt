@@ -8,7 +8,7 @@ use Rattle.call_checkpoint.proofs.allocator_of.Statement.{statement}
 use Rattle.call_checkpoint.proofs.allocator_of.Tie as tie
 
 get-head-requires : tie.Need-get-head-requires
-get-head-requires c κs = omega (arith, holds-room _ (c .before .pre .0 .held) .range .long)
+get-head-requires c κs = omega (arith, holds-room _ (c .before .pre .0 .has-store) .range .long)
 
 returns : tie.Need-returns
 returns c = allocator-is (flatOf (c .before .before .before .args .m .now)) _ _ (ap (λ (h : Head). h .taken) (c .before .get-head .ensures)) (c .left .ensures)

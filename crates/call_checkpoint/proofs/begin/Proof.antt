@@ -15,15 +15,15 @@ use Rattle.call_checkpoint.proofs.begin.Statement.{statement}
 use Rattle.model.specs.State as model
 use Rattle.call_checkpoint.proofs.begin.Tie as tie
 
--- what each test that was passed says: a store is held, none runs, the level is not the last one
+-- what each test that was passed says: a store is has-store, none runs, the level is not the last one
 abbrev began : tie.Else1 → tie.Start
 began c = c .before .before .before .before
 
 abbrev memory : tie.Else1 → List ℕ
 memory c = began c .args .m .now
 
-held : (c : tie.Else1) → holdsStore (memory c) ≡ true
-held c = sym (c .before .holds-store .ensures) ∙ not-false _ (c .if1 .left)
+has-store : (c : tie.Else1) → holdsStore (memory c) ≡ true
+has-store c = sym (c .before .holds-store .ensures) ∙ not-false _ (c .if1 .left)
 
 abbrev holds : tie.Else2 → tie.Else1
 holds c = c .before .before .before
@@ -44,27 +44,27 @@ returns : tie.Need-returns
 returns c = answers-4 beginCall (c .before .before .before .before .args .m .now) (sym (c .before .holds-store .ensures) ∙ not-true _ (c .if1 .taken))
 
 is-running-requires : tie.Need-is-running-requires
-is-running-requires c κs = sizes (holds-room _ (held (c .before))) .long
+is-running-requires c κs = sizes (holds-room _ (has-store (c .before))) .long
 
 returns-2 : tie.Need-returns-2
 returns-2 c =
     let e = c .before .before .before in
-    answers-refused beginCall (memory e) 17 (held e) (begin-17 (flatOf (memory e)) (sym (c .before .is-running .ensures) ∙ c .if2 .taken))
+    answers-refused beginCall (memory e) 17 (has-store e) (begin-17 (flatOf (memory e)) (sym (c .before .is-running .ensures) ∙ c .if2 .taken))
 
 get-head-requires : tie.Need-get-head-requires
-get-head-requires c κs = sizes (holds-room _ (held (holds (c .before)))) .long
+get-head-requires c κs = sizes (holds-room _ (has-store (holds (c .before)))) .long
 
 returns-3 : tie.Need-returns-3
 returns-3 c =
     let e = c .before .before .before .before in
     let m = memory (holds e) in
-    answers-refused beginCall m 19 (held (holds e)) (begin-19 (flatOf m) (idle e) (ap (λ (h : Head). h .level) (sym (c .before .before .get-head .ensures)) ∙ c .if3 .taken))
+    answers-refused beginCall m 19 (has-store (holds e)) (begin-19 (flatOf m) (idle e) (ap (λ (h : Head). h .level) (sym (c .before .before .get-head .ensures)) ∙ c .if3 .taken))
 
 blocks-needed-requires : tie.Need-blocks-needed-requires
-blocks-needed-requires c κs = held (holds (rests (c .before)))
+blocks-needed-requires c κs = has-store (holds (rests (c .before)))
 
 enough-free-requires : tie.Need-enough-free-requires
-enough-free-requires c κs = holds-room _ (held (holds (rests (c .before .before .before))))
+enough-free-requires c κs = holds-room _ (has-store (holds (rests (c .before .before .before))))
 
 returns-4 : tie.Need-returns-4
 returns-4 c =
@@ -72,10 +72,10 @@ returns-4 c =
     let e = c .before .before .before .before .before in
     let m = memory (holds (rests e)) in
     let few = leb-false (n .result) (freeCount (storeOf (flatOf m))) (sym (c .before .enough-free .ensures) ∙ not-true _ (c .if4 .taken)) in
-    answers-refused beginCall m 20 (held (holds (rests e))) (begin-20 (flatOf m) (idle (rests e)) (low e) (omega (arith, few, n .ensures .0)))
+    answers-refused beginCall m 20 (has-store (holds (rests e))) (begin-20 (flatOf m) (idle (rests e)) (low e) (omega (arith, few, n .ensures .0)))
 
 start-requires : tie.Need-start-requires
-start-requires c κs = let e = c .before .before .before .before .before .before in (held (holds (rests e)), omega (arith, level-is e, e .if3 .left))
+start-requires c κs = let e = c .before .before .before .before .before .before in (has-store (holds (rests e)), omega (arith, level-is e, e .if3 .left))
 
 returns-5 : tie.Need-returns-5
 returns-5 c =
@@ -85,7 +85,7 @@ returns-5 c =
     let m = memory (holds (rests e)) in
     let s : Store = storeOf (flatOf m) in
     let enough = leb-true (n .result) (freeCount s) (sym (q .before .enough-free .ensures) ∙ not-false _ (q .if4 .left)) in
-    answers-count beginCall m _ _ (begun s) (held (holds (rests e)))
+    answers-count beginCall m _ _ (begun s) (has-store (holds (rests e)))
     (begin-done (flatOf m) (idle (rests e)) (low e) (omega (arith, enough, n .ensures .0)) ∙ ap (λ (z : ℕ). gives (model.count (z + 1)) (begun s)) (sym (n .ensures .0)))
     (c .before .before .start .ensures)
 

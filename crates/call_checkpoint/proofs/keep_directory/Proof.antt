@@ -7,13 +7,13 @@ use Rattle.call_checkpoint.proofs.keep_directory.Statement.{statement}
 use Rattle.call_checkpoint.proofs.keep_directory.Tie as tie
 
 take-block-requires : tie.Need-take-block-requires
-take-block-requires c κs = (holds-room _ (c .before .before .pre .0 .held), c .before .before .pre .1 .0)
+take-block-requires c κs = (holds-room _ (c .before .before .pre .0 .has-store), c .before .before .pre .1 .0)
 
 push-directory-requires : tie.Need-push-directory-requires
 push-directory-requires c κs =
     let b = c .before .before .before .take-block .ensures in
     let p = c .before .before .before .before .before .before .pre in
-    (b .room, (omega (arith, p .1 .1, ap (λ (f : Flat). length (f .directories)) (b .flat)), omega (arith, p .1 .0, holds-room _ (p .0 .held) .range .many)))
+    (b .room, (omega (arith, p .1 .1, ap (λ (f : Flat). length (f .directories)) (b .flat)), omega (arith, p .1 .0, holds-room _ (p .0 .has-store) .range .many)))
 
 returns : tie.Need-returns
 returns c =

@@ -8,7 +8,7 @@ use Rattle.call_checkpoint.proofs.keep_header.Statement.{statement}
 use Rattle.call_checkpoint.proofs.keep_header.Tie as tie
 
 clear-used-requires : tie.Need-clear-used-requires
-clear-used-requires c κs = holds-room _ (c .before .before .pre .held)
+clear-used-requires c κs = holds-room _ (c .before .before .pre .has-store)
 
 add-h : tie.Need-add-h
 add-h c =

@@ -7,13 +7,13 @@ use Rattle.call_checkpoint.proofs.left.Statement.{statement}
 use Rattle.call_checkpoint.proofs.left.Tie as tie
 
 directories-left-requires : tie.Need-directories-left-requires
-directories-left-requires c κs = holds-room _ (c .before .pre .0 .held)
+directories-left-requires c κs = holds-room _ (c .before .pre .0 .has-store)
 
 add-n : tie.Need-add-n
-add-n c = let p = c .before .before .pre in omega (arith, p .1, frozen-few (holds-room _ (p .0 .held)), c .directories-left .ensures .1)
+add-n c = let p = c .before .before .pre in omega (arith, p .1, frozen-few (holds-room _ (p .0 .has-store)), c .directories-left .ensures .1)
 
 add-n-2 : tie.Need-add-n-2
-add-n-2 c = let p = c .before .before .pre in omega (arith, p .1, frozen-few (holds-room _ (p .0 .held)), c .directories-left .ensures .1)
+add-n-2 c = let p = c .before .before .pre in omega (arith, p .1, frozen-few (holds-room _ (p .0 .has-store)), c .directories-left .ensures .1)
 
 returns : tie.Need-returns
 returns c = let st = c .before .before in

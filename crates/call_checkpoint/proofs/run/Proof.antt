@@ -33,7 +33,7 @@ returns c = let p = c .before .before .before .before .before .args in
     stopped (length img) (p .m .now) _ (c .before .step-refusal .ensures) (runCall (p .limit) (length img)) (run-5 (p .limit) (length img)) (run-18 (p .limit) (length img)) img (c .if1 .taken)
 
 count-frozen-requires : tie.Need-count-frozen-requires Inv-loop μ-loop
-count-frozen-requires c κs = (holds-room _ (ready (c .before) .runs .held), omega arith)
+count-frozen-requires c κs = (holds-room _ (ready (c .before) .runs .has-store), omega arith)
 
 left-requires : tie.Need-left-requires Inv-loop μ-loop
 left-requires c κs = let passed = c .before .before in

@@ -12,13 +12,13 @@ use Rattle.call_checkpoint.proofs.store_directory.Statement.{statement}
 use Rattle.call_checkpoint.proofs.store_directory.Tie as tie
 
 get-head-requires : tie.Need-get-head-requires
-get-head-requires c κs = sizes (holds-room _ (c .before .before .before .pre .0 .runs .held)) .long
+get-head-requires c κs = sizes (holds-room _ (c .before .before .before .pre .0 .runs .has-store)) .long
 
 get-counts-requires : tie.Need-get-counts-requires
-get-counts-requires c κs = sizes (holds-room _ (c .before .before .before .before .before .pre .0 .runs .held)) .long
+get-counts-requires c κs = sizes (holds-room _ (c .before .before .before .before .before .pre .0 .runs .has-store)) .long
 
 allocate-requires : tie.Need-allocate-requires
-allocate-requires c κs = let st = c .before .before .before .before .before .before .before in (holds-room _ (st .pre .0 .runs .held), taken-is (flatOf (st .args .m .now)) _ (st .pre .1 .1 .1))
+allocate-requires c κs = let st = c .before .before .before .before .before .before .before in (holds-room _ (st .pre .0 .runs .has-store), taken-is (flatOf (st .args .m .now)) _ (st .pre .1 .1 .1))
 
 add-write-directory : tie.Need-add-write-directory
 add-write-directory c =
@@ -30,7 +30,7 @@ unfolding directoriesFor
 write-directory-requires c κs =
     let k = c .before .before .before .before .before .before in
     let p = k .before .before .before .before .before .before .pre in (
-      holds-room _ (p .0 .runs .held),
+      holds-room _ (p .0 .runs .has-store),
       (
         omega (arith, p .1 .1 .0, directories-read _ (k .get-counts .ensures)),
         simp (length-take, length-drop) (omega (arith, p .0 .long, c .before .before .before .before .allocate .ensures .1)),
@@ -40,7 +40,7 @@ write-directory-requires c κs =
 cast-taken-by : tie.Need-cast-taken-by
 cast-taken-by c =
     let b = c .before .before .before .before .before .before .before in
-    record { fits = omega (arith, b .allocate .ensures .1, sizes (holds-room _ (b .before .before .before .before .before .before .before .before .pre .0 .runs .held))) }
+    record { fits = omega (arith, b .allocate .ensures .1, sizes (holds-room _ (b .before .before .before .before .before .before .before .before .pre .0 .runs .has-store))) }
 
 taken-by-requires : tie.Need-taken-by-requires
 taken-by-requires c κs = let p = c .before .before .before .before .before .before .before .before .before .before .before .before .before .before .before .pre in some-left (p .0 .runs) (p .1 .1 .1)
@@ -51,7 +51,7 @@ keep-directory-requires c κs =
     let b = c .before .before .before .before .before .before .before .before .before in
     let p = b .before .before .before .before .before .before .before .before .pre in
     let t = ap (λ (x : Allocator). x .taken) (c .before .taken-by .ensures) in
-    (p .0 .runs, (omega (arith, t, b .allocate .ensures .1), omega (arith, p .1 .1 .0, sizes (holds-room _ (p .0 .runs .held)))))
+    (p .0 .runs, (omega (arith, t, b .allocate .ensures .1), omega (arith, p .1 .1 .0, sizes (holds-room _ (p .0 .runs .has-store)))))
 
 returns : tie.Need-returns
 returns c =

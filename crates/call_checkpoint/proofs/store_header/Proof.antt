@@ -8,13 +8,13 @@ use Rattle.call_checkpoint.proofs.store_header.Statement.{statement}
 use Rattle.call_checkpoint.proofs.store_header.Tie as tie
 
 part-write-header-end : tie.Need-part-write-header-end
-part-write-header-end c = let p = c .before .before .pre .0 in omega (arith, p .long, sizes (holds-room _ (p .runs .held)))
+part-write-header-end c = let p = c .before .before .pre .0 in omega (arith, p .long, sizes (holds-room _ (p .runs .has-store)))
 
 write-header-requires : tie.Need-write-header-requires
 write-header-requires c κs =
     let st = c .before .before .before .before in
     let p = st .pre .0 in
-    let r = holds-room _ (p .runs .held) in
+    let r = holds-room _ (p .runs .has-store) in
     (r, (running-is _ (p .runs .on) .1, omega (arith, p .long, sizes r, length-take 512 (st .args .image .now))))
 
 returns : tie.Need-returns

@@ -17,7 +17,7 @@ found : (c : tie.Then1) → FirstFrozen (began c .args .m .now) (c .before .befo
 found c =
     let m = began c .args .m .now in
     record {
-      there = record { held = began c .pre .runs .held; inside = omega (arith, c .if1 .taken, pages-read m (c .before .before .get-counts .ensures)) };
+      there = record { has-store = began c .pre .runs .has-store; inside = omega (arith, c .if1 .taken, pages-read m (c .before .before .get-counts .ensures)) };
       first = found-first m (c .before .before .before .before .first-frozen .ensures);
     }
 
@@ -31,13 +31,13 @@ nowhere c =
     found-none m (c .before .before .before .before .first-frozen .ensures) (omega (arith, c .if1 .left, pages-read m (c .before .before .get-counts .ensures)))
 
 first-frozen-requires : tie.Need-first-frozen-requires
-first-frozen-requires c κs = holds-room _ (c .before .before .before .pre .runs .held)
+first-frozen-requires c κs = holds-room _ (c .before .before .before .pre .runs .has-store)
 
 get-counts-requires : tie.Need-get-counts-requires
-get-counts-requires c κs = sizes (holds-room _ (c .before .before .before .before .before .pre .runs .held)) .long
+get-counts-requires c κs = sizes (holds-room _ (c .before .before .before .before .before .pre .runs .has-store)) .long
 
 count-frozen-requires : tie.Need-count-frozen-requires
-count-frozen-requires c κs = let o = found (c .before) .there in (holds-room _ (o .held), omega (arith, o .inside))
+count-frozen-requires c κs = let o = found (c .before) .there in (holds-room _ (o .has-store), omega (arith, o .inside))
 
 allocator-of-requires : tie.Need-allocator-of-requires
 allocator-of-requires c κs =

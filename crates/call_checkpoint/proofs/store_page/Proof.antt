@@ -12,7 +12,7 @@ use Rattle.call_checkpoint.proofs.store_page.Statement.{statement}
 use Rattle.call_checkpoint.proofs.store_page.Tie as tie
 
 get-head-requires : tie.Need-get-head-requires
-get-head-requires c κs = sizes (holds-room _ (c .before .before .before .pre .0 .runs .held)) .long
+get-head-requires c κs = sizes (holds-room _ (c .before .before .before .pre .0 .runs .has-store)) .long
 
 table-of-requires : tie.Need-table-of-requires
 table-of-requires c κs = page-in (c .before .before .before .before .before .pre .1 .0 .there)
@@ -21,7 +21,7 @@ start-of-requires : tie.Need-start-of-requires
 start-of-requires c κs = start-there (c .before .before .before .before .before .before .before .pre .1 .0 .there)
 
 add-start-of : tie.Need-add-start-of
-add-start-of c = let o = c .before .before .before .before .before .before .before .before .before .pre .1 .0 .there in omega (arith, o .inside, sizes (holds-room _ (o .held)))
+add-start-of c = let o = c .before .before .before .before .before .before .before .before .before .pre .1 .0 .there in omega (arith, o .inside, sizes (holds-room _ (o .has-store)))
 
 start-of-requires-2 : tie.Need-start-of-requires-2
 start-of-requires-2 c κs = next-there (c .before .before .before .before .before .before .before .before .before .pre .1 .0 .there)
@@ -29,7 +29,7 @@ start-of-requires-2 c κs = next-there (c .before .before .before .before .befor
 allocate-requires : tie.Need-allocate-requires
 allocate-requires c κs =
     let st = c .before .before .before .before .before .before .before .before .before .before .before in
-    (holds-room _ (st .pre .0 .runs .held), taken-is (flatOf (st .args .m .now)) _ (st .pre .1 .1))
+    (holds-room _ (st .pre .0 .runs .has-store), taken-is (flatOf (st .args .m .now)) _ (st .pre .1 .1))
 
 add-write-page : tie.Need-add-write-page
 add-write-page c =
@@ -47,7 +47,7 @@ cast-taken-by : tie.Need-cast-taken-by
 cast-taken-by c =
     let b = c .before .before .before .before .before .before in
     let p = b .before .before .before .before .before .before .before .before .before .before .before .before .pre in
-    record { fits = omega (arith, b .allocate .ensures .1, sizes (holds-room _ (p .0 .runs .held))) }
+    record { fits = omega (arith, b .allocate .ensures .1, sizes (holds-room _ (p .0 .runs .has-store))) }
 
 taken-by-requires : tie.Need-taken-by-requires
 taken-by-requires c κs =

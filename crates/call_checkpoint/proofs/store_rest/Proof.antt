@@ -5,7 +5,7 @@ use Rattle.call_checkpoint.proofs.store_rest.Statement.{statement}
 use Rattle.call_checkpoint.proofs.store_rest.Tie as tie
 
 directories-left-requires : tie.Need-directories-left-requires
-directories-left-requires c κs = holds-room _ (c .before .before .before .pre .0 .runs .held)
+directories-left-requires c κs = holds-room _ (c .before .before .before .pre .0 .runs .has-store)
 
 store-directory-requires : tie.Need-store-directory-requires
 store-directory-requires c κs = let p = c .before .before .before .before .before .before .before .pre in

@@ -1,6 +1,6 @@
 -- `call_recovery::load_row` meets its contract.
 use Rattle.blocks.specs.Bytes.{tupleOf}
-use Rattle.model.specs.Rules.{calm}
+use Rattle.model.specs.Rules.{withoutPending}
 use Rattle.memory_rows.specs.Rows.{heldBy, RowFits}
 use Rattle.memory_rows.specs.declared.Row.{Row}
 use Rattle.basics.proofs.Kit.{_≡_, sym, ap, _∙_, subst, List, ℕ, _+_, _-_, take, drop, length-take, needs, arith}
@@ -18,7 +18,7 @@ append-row-requires c κs =
     )
 
 returns : tie.Need-returns
-unfolding calm tupleOf
+unfolding withoutPending tupleOf
 returns c =
     let p2 = c .before .before in
     let p5 = p2 .before .before .before in
@@ -27,7 +27,7 @@ returns c =
     let bs : List ℕ = drop (r .start) (p9 .args .block .now) in
     let n : ℕ = r .start + r .len - r .start in
     let k : n ≡ r .len = omega arith in
-    row-as _ _ (ap (λ (s : Row). heldBy s (take n bs)) (p5 .row-of .ensures) ∙ ap (λ (j : ℕ). calm (tupleOf r (take j bs))) k) (p2 .append-row .ensures)
+    row-as _ _ (ap (λ (s : Row). heldBy s (take n bs)) (p5 .row-of .ensures) ∙ ap (λ (j : ℕ). withoutPending (tupleOf r (take j bs))) k) (p2 .append-row .ensures)
 
 pub load-row-spec : {M : Type 1} → statement M
 load-row-spec = tie.close (tie.spec (search needs) (λ c κs. search needs) (search needs) (search needs) (search needs) append-row-requires (search needs) returns)

@@ -1,8 +1,8 @@
 -- `call_recovery::load_rows` meets its contract.
-use Rattle.call_recovery.proofs.Adding.{page-walk, fills-none, fills-turn, row-room, calm-all}
+use Rattle.call_recovery.proofs.Adding.{page-walk, fills-none, fills-turn, row-room, withoutPending-all}
 use Rattle.call_recovery.specs.Loading.{tuplesIn, Fills}
 use Rattle.model.specs.State.{Held}
-use Rattle.model.specs.Rules.{calm}
+use Rattle.model.specs.Rules.{withoutPending}
 use Rattle.reader.proofs.Walk.{Walk, walk-found, walk-bad}
 use Rattle.reader.proofs.Records.{found-fits}
 use Rattle.blocks.proofs.Spelled.{all-bytes}
@@ -13,7 +13,7 @@ use Rattle.call_recovery.proofs.load_rows.Statement.{statement}
 use Rattle.call_recovery.proofs.load_rows.Tie as tie
 
 abbrev Inv-loop : tie.InvT-loop
-Inv-loop block count m₀ at₀ i₀ m at i = (i ≤ count) × (Walk block (tuplesIn (decodeBlock block)) at i × Fills (map calm (take i (tuplesIn (decodeBlock block)))) m₀ m)
+Inv-loop block count m₀ at₀ i₀ m at i = (i ≤ count) × (Walk block (tuplesIn (decodeBlock block)) at i × Fills (map withoutPending (take i (tuplesIn (decodeBlock block)))) m₀ m)
 
 abbrev μ-loop : tie.MeasureT-loop
 μ-loop block count m₀ at₀ i₀ m at i = count - i
@@ -94,7 +94,7 @@ returns-2 c =
     let p4 = p1 .before .before .before in
     let l = p1 .loop in
     let ts : List Tuple = tuplesIn (decodeBlock (p4 .args .block .now)) in
-    subst (λ (hs : List Held). Fills hs (p4 .args .m .now) (l .m)) (calm-all (l .i) ts (omega (arith, p4 .pre .0 .1 .1, c .loop-test))) (l .inv .1 .1)
+    subst (λ (hs : List Held). Fills hs (p4 .args .m .now) (l .m)) (withoutPending-all (l .i) ts (omega (arith, p4 .pre .0 .1 .1, c .loop-test))) (l .inv .1 .1)
 
 pub load-rows-spec : {M : Type 1} → statement M
 load-rows-spec = tie.close (tie.spec Inv-loop μ-loop loop-holds next-requires enum-known-r load-row-requires enum-told same-length returns add-i loop-less loop-again

@@ -6,7 +6,7 @@ use Rattle.call_transactions.proofs.accept.Statement.{statement}
 use Rattle.call_transactions.proofs.accept.Tie as tie
 
 find-open-requires : tie.Need-find-open-requires
-find-open-requires c κs = holds-room _ (c .before .before .before .pre .held)
+find-open-requires c κs = holds-room _ (c .before .before .before .pre .has-store)
 
 next-row-requires : tie.Need-next-row-requires
 next-row-requires c κs = writer-at (c .before .before .before .before .before .pre) (c .before .find-open .ensures)

@@ -12,8 +12,8 @@ abbrev start : tie.Else1 → tie.Start
 start c = c .before .before .before
 
 -- the memory holds a store
-stored : (c : tie.Else1) → holdsStore (start c .args .m .now) ≡ true
-stored c = sym (c .before .holds-store .ensures) ∙ not-false _ (c .if1 .left)
+has-store : (c : tie.Else1) → holdsStore (start c .args .m .now) ≡ true
+has-store c = sym (c .before .holds-store .ensures) ∙ not-false _ (c .if1 .left)
 
 returns : tie.Need-returns
 returns c = let a = c .before .before .before .args in
@@ -21,26 +21,26 @@ returns c = let a = c .before .before .before .args in
 
 returns-2 : tie.Need-returns-2
 returns-2 c = let a = start (c .before) .args in
-    sym (verdict-in (a .m .now) (notOpen (a .transaction)) (stored (c .before)) ∙ stop-6 (a .transaction) (flatOf (a .m .now)) (c .if2 .taken))
+    sym (verdict-in (a .m .now) (notOpen (a .transaction)) (has-store (c .before)) ∙ stop-6 (a .transaction) (flatOf (a .m .now)) (c .if2 .taken))
 
 open-count-requires : tie.Need-open-count-requires
-open-count-requires c κs = holds-room _ (stored (c .before))
+open-count-requires c κs = holds-room _ (has-store (c .before))
 
 find-open-requires : tie.Need-find-open-requires
-find-open-requires c κs = holds-room _ (stored (c .before .before))
+find-open-requires c κs = holds-room _ (has-store (c .before .before))
 
 returns-3 : tie.Need-returns-3
 returns-3 c =
     let e2 = c .before .before .before in
     let a = start (e2 .before) .args in
-    sym (verdict-in (a .m .now) (notOpen (a .transaction)) (stored (e2 .before)) ∙ stop-7 (a .transaction) (flatOf (a .m .now)) (e2 .if2 .left)
+    sym (verdict-in (a .m .now) (notOpen (a .transaction)) (has-store (e2 .before)) ∙ stop-7 (a .transaction) (flatOf (a .m .now)) (e2 .if2 .left)
     (omega (arith, c .before .before .open-count .ensures, c .before .find-open .ensures, c .if3 .taken)))
 
 returns-4 : tie.Need-returns-4
 returns-4 c =
     let e2 = c .before .before .before in
     let a = start (e2 .before) .args in
-    sym (verdict-in (a .m .now) (notOpen (a .transaction)) (stored (e2 .before)) ∙ none-7 (a .transaction) (flatOf (a .m .now)) (e2 .if2 .left)
+    sym (verdict-in (a .m .now) (notOpen (a .transaction)) (has-store (e2 .before)) ∙ none-7 (a .transaction) (flatOf (a .m .now)) (e2 .if2 .left)
     (omega (arith, c .before .before .open-count .ensures, c .before .find-open .ensures, c .if3 .left)))
 
 pub not-open-spec : {M : Type 1} → statement M

@@ -14,8 +14,8 @@ abbrev start : tie.Else1 → tie.Start
 start c = c .before .before .before .before
 
 -- the transaction is open: the memory holds a store, and the call goes on
-stored : (c : tie.Else1) → holdsStore (start c .args .m .now) ≡ true
-stored c = let a = start c .args in passed-held (a .m .now) (notOpen (a .transaction)) _ (c .before .not-open .ensures) (c .if1 .left)
+has-store : (c : tie.Else1) → holdsStore (start c .args .m .now) ≡ true
+has-store c = let a = start c .args in passed-held (a .m .now) (notOpen (a .transaction)) _ (c .before .not-open .ensures) (c .if1 .left)
 
 opened : (c : tie.Else1) → let a = start c .args in
     readCall (a .transaction) (a .table) (a .key) (length (a .reply .now)) (storeOf (flatOf (a .m .now)))
@@ -35,30 +35,30 @@ returns c = let a = c .before .before .before .before .args in
 returns-2 : tie.Need-returns-2
 returns-2 c = let e1 = c .before in
     let a = start e1 .args in
-    replies-refused _ (a .m .now) (a .reply .now) 10 (stored e1) (opened e1 ∙ read-10 (a .transaction) (a .table) (a .key) (length (a .reply .now)) (flatOf (a .m .now)) (c .if2 .taken))
+    replies-refused _ (a .m .now) (a .reply .now) 10 (has-store e1) (opened e1 ∙ read-10 (a .transaction) (a .table) (a .key) (length (a .reply .now)) (flatOf (a .m .now)) (c .if2 .taken))
 
 seen-by-requires : tie.Need-seen-by-requires
-seen-by-requires c κs = (stored (c .before), omega (arith, c .if2 .left))
+seen-by-requires c κs = (has-store (c .before), omega (arith, c .if2 .left))
 
 returns-3 : tie.Need-returns-3
 returns-3 c = let s = c .before .before in
     let e1 = s .before .before in
     let a = start e1 .args in
-    replies-refused _ (a .m .now) (a .reply .now) 14 (stored e1)
+    replies-refused _ (a .m .now) (a .reply .now) 14 (has-store e1)
     (opened e1 ∙ read-14 (a .transaction) (a .table) (a .key) (length (a .reply .now)) (flatOf (a .m .now)) (s .before .if2 .left) _ (s .seen-by .ensures) (c .enum-told .given .1))
 
 payload-at-requires : tie.Need-payload-at-requires
 payload-at-requires c κs = let s = c .before .before .before in
     let e1 = s .before .before in
     let a = start e1 .args in
-    (holds-room _ (stored e1), seen-in (a .transaction) (a .table) (a .key) 0 (flatOf (a .m .now)) (s .before .if2 .left) _ (s .seen-by .ensures) _ (c .before .i .given .1))
+    (holds-room _ (has-store e1), seen-in (a .transaction) (a .table) (a .key) 0 (flatOf (a .m .now)) (s .before .if2 .left) _ (s .seen-by .ensures) _ (c .before .i .given .1))
 
 returns-4 : tie.Need-returns-4
 returns-4 c = let s = c .before .before .before .before .before in
     let e1 = s .before .before in
     let a = start e1 .args in
     let hd = c .before .payload-at .ensures in
-    replies-refused _ (a .m .now) (a .reply .now) 21 (stored e1)
+    replies-refused _ (a .m .now) (a .reply .now) 21 (has-store e1)
     (opened e1 ∙ read-21 (a .transaction) (a .table) (a .key) (length (a .reply .now)) (flatOf (a .m .now)) (s .before .if2 .left) _ (s .seen-by .ensures) _ (c .before .before .before .i .given .1)
     (omega (arith, hd .count, c .if3 .taken)))
 
@@ -69,7 +69,7 @@ copy-payload-requires c κs = let s = c .before .before .before .before .before 
     let hd = c .before .before .payload-at .ensures in
     let i = c .before .before .before .before .i .given in
     let inside = seen-in (a .transaction) (a .table) (a .key) 0 (flatOf (a .m .now)) (s .before .if2 .left) _ (s .seen-by .ensures) _ (i .1) in
-    (holds-room _ (stored e1), (inside, omega (arith, hd .count, c .before .if3 .left)))
+    (holds-room _ (has-store e1), (inside, omega (arith, hd .count, c .before .if3 .left)))
 
 returns-5 : tie.Need-returns-5
 returns-5 c = let s = c .before .before .before .before .before .before .before .before .before in
@@ -79,7 +79,7 @@ returns-5 c = let s = c .before .before .before .before .before .before .before 
     let hd = c .before .before .before .before .before .payload-at .ensures in
     let cp = c .before .before .copy-payload .ensures in
     let bs : List ℕ = rowIn (flatOf (a .m .now)) (c .before .before .before .before .before .before .before .i .given .0 .0) .tuple .payload in
-    replies-filled _ (a .m .now) p _ bs _ (stored e1)
+    replies-filled _ (a .m .now) p _ bs _ (has-store e1)
     (opened e1 ∙ read-done (a .transaction) (a .table) (a .key) (length p) (flatOf (a .m .now)) (s .before .if2 .left) _ (s .seen-by .ensures) _
     (c .before .before .before .before .before .before .before .i .given .1) _ (hd .count)
     (omega (arith, c .before .before .before .before .if3 .left)))

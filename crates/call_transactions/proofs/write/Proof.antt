@@ -19,11 +19,11 @@ returns c = let a = c .before .before .before .before .before .args in
 cast-t : tie.Need-cast-t
 cast-t c = omega (arith, passed c .table)
 
-look-place-requires : tie.Need-look-place-requires
-look-place-requires c κs = (passed (c .before) .there, passed (c .before) .table)
+find-place-requires : tie.Need-find-place-requires
+find-place-requires c κs = (passed (c .before) .there, passed (c .before) .table)
 
 key-refusal-requires : tie.Need-key-refusal-requires
-key-refusal-requires c κs = (passed (c .before .before .before) .there, c .before .look-place .ensures .look .own-in)
+key-refusal-requires c κs = (passed (c .before .before .before) .there, c .before .find-place .ensures .visibility .own-in)
 
 returns-2 : tie.Need-returns-2
 returns-2 c =
@@ -32,13 +32,13 @@ returns-2 c =
     let e1 = s .before .before in
     let a = start e1 .args in
     key-refused (a .new) (a .mark) (a .transaction) (a .table) (a .key) (a .payload .now) (a .m .now) _ (e1 .before .call-refusal .ensures) (e1 .if1 .left)
-    _ (s .look-place .ensures .look) _ (k .key-refusal .ensures) (c .if2 .taken)
+    _ (s .find-place .ensures .visibility) _ (k .key-refusal .ensures) (c .if2 .taken)
 
 accept-requires : tie.Need-accept-requires
 accept-requires c κs =
     let k = c .before .before in
     let s = k .before .before in
-    accepts _ _ (passed (s .before .before)) (sym (k .key-refusal .ensures) ∙ c .before .if2 .left) (s .look-place .ensures .place)
+    accepts _ _ (passed (s .before .before)) (sym (k .key-refusal .ensures) ∙ c .before .if2 .left) (s .find-place .ensures .place)
 
 returns-3 : tie.Need-returns-3
 returns-3 c =
@@ -47,8 +47,8 @@ returns-3 c =
     let e1 = s .before .before in
     let a = start e1 .args in
     write-done (a .new) (a .mark) (a .transaction) (a .table) (a .key) (a .payload .now) (a .m .now) _ (e1 .before .call-refusal .ensures) (e1 .if1 .left)
-    _ (s .look-place .ensures .look) _ (k .key-refusal .ensures) (c .before .before .before .before .if2 .left) _ (c .before .before .accept .ensures)
+    _ (s .find-place .ensures .visibility) _ (k .key-refusal .ensures) (c .before .before .before .before .if2 .left) _ (c .before .before .accept .ensures)
 
 pub write-spec : {M : Type 1} → statement M
-write-spec = tie.close (tie.spec (λ c κs. search needs) (search needs) returns cast-t look-place-requires key-refusal-requires (search needs) returns-2 accept-requires
+write-spec = tie.close (tie.spec (λ c κs. search needs) (search needs) returns cast-t find-place-requires key-refusal-requires (search needs) returns-2 accept-requires
     (search needs) returns-3)

@@ -1,5 +1,5 @@
 use Rattle.engine_close.specs.Close.{taggedOf}
-use Rattle.engine_close.proofs.Closing.{own-gone}
+use Rattle.engine_close.proofs.Closing.{own-removed}
 use Rattle.engine_close.proofs.Next.{less-than, none-aborted, one-aborted}
 use Rattle.memory_layout.proofs.Laws.{holds-room}
 use Rattle.basics.proofs.Kit.{sym, _∙_, _<_, length, needs, arith}
@@ -29,7 +29,7 @@ remove-row-requires c κs = let p3 = c .before .before .before in (p3 .before .b
 returns-2 : tie.Need-returns-2
 returns-2 c = let p2 = c .before .before in let p6 = p2 .before .before .before .before in let p9 = p6 .before .before .before in
     let h = own-there p6 in let o = p9 .next-own .ensures in
-    one-aborted o (own-gone h (p2 .remove-row .ensures) (p9 .before .before .before .args .transaction) (o .found h))
+    one-aborted o (own-removed h (p2 .remove-row .ensures) (p9 .before .before .before .args .transaction) (o .found h))
 
 pub abort-next-spec : {M : Type 1} → statement M
 abort-next-spec = tie.close (tie.spec next-own-requires row-count-requires (search needs) returns page-of-requires remove-row-requires (search needs) returns-2)

@@ -16,11 +16,11 @@ loop-holds : tie.Need-loop-holds Inv-loop μ-loop
 loop-holds c = doing-starts (c .before .pre)
 
 row-count-requires : tie.Need-row-count-requires Inv-loop μ-loop
-row-count-requires c κs = holds-room _ (c .before .loop .inv .held)
+row-count-requires c κs = holds-room _ (c .before .loop .inv .has-store)
 
 abort-next-requires : tie.Need-abort-next-requires Inv-loop μ-loop
 abort-next-requires c κs = let p2 = c .before .before in let p4 = p2 .before .before in
-    (p4 .loop .inv .held, omega (arith, c .before .if1 .taken, p2 .row-count .ensures))
+    (p4 .loop .inv .has-store, omega (arith, c .before .if1 .taken, p2 .row-count .ensures))
 
 loop-less : tie.Need-loop-less Inv-loop μ-loop
 loop-less c = let p2 = c .before .before in let p4 = p2 .before .before in let p5 = p4 .before in

@@ -1,4 +1,4 @@
-use Rattle.engine_close.proofs.Closing.{live-gone, live-passed}
+use Rattle.engine_close.proofs.Closing.{live-removed, live-passed}
 use Rattle.engine_close.proofs.Memory.{few-rows}
 use Rattle.memory_layout.proofs.Laws.{holds-room}
 use Rattle.basics.proofs.Kit.{sym, _∙_, needs, arith}
@@ -10,7 +10,7 @@ is-live-requires c κs = let p = c .before .before .pre in (holds-room _ (p .0),
 
 returns : tie.Need-returns
 returns c = let p2 = c .before .before in let p4 = p2 .before .before in let p5 = p4 .before in let p8 = p5 .before .before .before in
-    live-gone (p8 .pre .1) (p2 .remove-row .ensures) (sym (p5 .is-live .ensures) ∙ p4 .if1 .taken)
+    live-removed (p8 .pre .1) (p2 .remove-row .ensures) (sym (p5 .is-live .ensures) ∙ p4 .if1 .taken)
 
 add-result : tie.Need-add-result
 add-result c = let st = c .before .before .before .before in omega (arith, st .pre .1, few-rows (st .args .m .now) (holds-room _ (st .pre .0)))

@@ -11,14 +11,14 @@ unfolding noteOwner
 returns c =
     let a = c .before .before .before .args in
     c .note-committed .ensures
-    ∙ sym (ap (λ (o : Owner). noteOwner (a .transaction) (a .i) (ownerIs o) (a .look)) (c .before .enum-told .given .1))
+    ∙ sym (ap (λ (o : Owner). noteOwner (a .transaction) (a .i) (ownerIs o) (a .visibility)) (c .before .enum-told .given .1))
 
 returns-2 : tie.Need-returns-2
 unfolding noteOwner
 returns-2 c =
     let a = c .before .before .before .before .args in
     c .note-tentative .ensures
-    ∙ sym (ap (λ (o : Owner). noteOwner (a .transaction) (a .i) (ownerIs o) (a .look)) (c .before .before .owner .given .1))
+    ∙ sym (ap (λ (o : Owner). noteOwner (a .transaction) (a .i) (ownerIs o) (a .visibility)) (c .before .before .owner .given .1))
 
 pub note-owner-spec : {M : Type 1} → statement M
 note-owner-spec = tie.close (tie.spec (search needs) (λ c κs. search needs) (search needs) (search needs) (λ c κs. search needs) returns returns-2)

@@ -6,20 +6,20 @@ use Rattle.engine_lookup.proofs.pick.Statement.{statement}
 use Rattle.engine_lookup.proofs.pick.Tie as tie
 
 returns : tie.Need-returns
-returns c = let a = c .before .before .before .args in pick-none (flatOf (a .m .now)) (a .look) (c .before .if1 .taken) (c .if2 .taken)
+returns c = let a = c .before .before .before .args in pick-none (flatOf (a .m .now)) (a .visibility) (c .before .if1 .taken) (c .if2 .taken)
 
 returns-2 : tie.Need-returns-2
-returns-2 c = let a = c .before .before .before .args in pick-committed (flatOf (a .m .now)) (a .look) (c .before .if1 .taken) (c .if2 .left)
+returns-2 c = let a = c .before .before .before .args in pick-committed (flatOf (a .m .now)) (a .visibility) (c .before .if1 .taken) (c .if2 .left)
 
 returns-3 : tie.Need-returns-3
 returns-3 c =
     let a = c .before .before .before .before .args in
-    pick-marked (flatOf (a .m .now)) (a .look) _ refl (c .before .before .if1 .left) _ (c .before .mark-at .ensures) (c .if3 .taken)
+    pick-marked (flatOf (a .m .now)) (a .visibility) _ refl (c .before .before .if1 .left) _ (c .before .mark-at .ensures) (c .if3 .taken)
 
 returns-4 : tie.Need-returns-4
 returns-4 c =
     let a = c .before .before .before .before .args in
-    pick-own (flatOf (a .m .now)) (a .look) _ refl (c .before .before .if1 .left) _ (c .before .mark-at .ensures) (c .if3 .left)
+    pick-own (flatOf (a .m .now)) (a .visibility) _ refl (c .before .before .if1 .left) _ (c .before .mark-at .ensures) (c .if3 .left)
 
 pub pick-spec : {M : Type 1} → statement M
 pick-spec = tie.close (tie.spec returns (search needs) returns-2 (search needs) (λ c κs. search needs) returns-3 returns-4)

@@ -5,12 +5,12 @@ use Rattle.engine_pages.proofs.add_page.Statement.{statement}
 use Rattle.engine_pages.proofs.add_page.Tie as tie
 
 start-of-requires : tie.Need-start-of-requires
-start-of-requires c κs = let b3 = c .before .before .before in let g = b3 .pre in (holds-room _ (g .tuple .held), g .between .most)
+start-of-requires c κs = let b3 = c .before .before .before in let g = b3 .pre in (holds-room _ (g .tuple .has-store), g .between .most)
 
 insert-page-requires : tie.Need-insert-page-requires
 insert-page-requires c κs =
     let b5 = c .before .before .before .before .before in
-    let g = b5 .pre in (holds-room _ (g .tuple .held), record { place = g .between; space = add-space g })
+    let g = b5 .pre in (holds-room _ (g .tuple .has-store), record { place = g .between; space = add-space g })
 
 insert-row-requires : tie.Need-insert-row-requires
 insert-row-requires c κs =

@@ -1,5 +1,5 @@
 use Rattle.basics.proofs.Kit.{sym, _∙_, needs}
-use Rattle.engine_pages.proofs.Applying.{row-gone, row-kept}
+use Rattle.engine_pages.proofs.Applying.{row-removed, row-kept}
 use Rattle.engine_pages.proofs.apply_pending_row.Statement.{statement}
 use Rattle.engine_pages.proofs.apply_pending_row.Tie as tie
 
@@ -15,7 +15,7 @@ returns c =
     let b4 = b2 .before .before in
     let b5 = b4 .before in
     let b8 = b5 .before .before .before in
-    row-gone (b8 .pre) (sym (b5 .is-removing .ensures) ∙ b4 .if1 .taken) (b2 .remove-row .ensures)
+    row-removed (b8 .pre) (sym (b5 .is-removing .ensures) ∙ b4 .if1 .taken) (b2 .remove-row .ensures)
 
 apply-kept-requires : tie.Need-apply-kept-requires
 apply-kept-requires c κs = let b5 = c .before .before .before .before .before in let g = b5 .pre in (g .0, g .1 .row)

@@ -6,7 +6,7 @@ use Rattle.engine_pages.proofs.place.Statement.{statement}
 use Rattle.engine_pages.proofs.place.Tie as tie
 
 table-start-requires : tie.Need-table-start-requires
-table-start-requires c κs = let b3 = c .before .before .before in let g = b3 .pre in (holds-room _ (g .tuple .held), omega (arith, g .table))
+table-start-requires c κs = let b3 = c .before .before .before in let g = b3 .pre in (holds-room _ (g .tuple .has-store), omega (arith, g .table))
 
 add-table-start : tie.Need-add-table-start
 add-table-start c = let b5 = c .before .before .before .before .before in omega (arith, b5 .pre .table)
@@ -14,7 +14,7 @@ add-table-start c = let b5 = c .before .before .before .before .before in omega 
 table-start-requires-2 : tie.Need-table-start-requires-2
 table-start-requires-2 c κs =
     let b5 = c .before .before .before .before .before in
-    let g = b5 .pre in (holds-room _ (g .tuple .held), omega (arith, g .table))
+    let g = b5 .pre in (holds-room _ (g .tuple .has-store), omega (arith, g .table))
 
 add-page-requires : tie.Need-add-page-requires
 add-page-requires c κs =
@@ -80,7 +80,7 @@ page-of-requires c κs =
     let b7 = b5 .before .before in
     let b11 = b7 .before .before .before .before in
     let g = b11 .pre in
-    (holds-room _ (g .tuple .held), place-on-pages g (b7 .table-start .ensures) (b5 .table-start2 .ensures) (b4 .if1 .left) (b2 .start-of .ensures .0) (b1 .if2 .left))
+    (holds-room _ (g .tuple .has-store), place-on-pages g (b7 .table-start .ensures) (b5 .table-start2 .ensures) (b4 .if1 .left) (b2 .start-of .ensures .0) (b1 .if2 .left))
 
 grow-requires-2 : tie.Need-grow-requires-2
 grow-requires-2 c κs =

@@ -46,8 +46,8 @@ size-at-requires c κs = let s = c .before .before .before .before .before .befo
 add-if2-2 : tie.Need-add-if2-2 Inv-loop μ-loop
 add-if2-2 c = omega (arith, writing-few (c .before .before .before .before .loop .inv .1 .1), c .size-at .ensures .1)
 
-abbrev Looked : Type 0
-Looked =
+abbrev Noted : Type 0
+Noted =
     lts.After-is-shown (
       is-shown-reads.Asked,
       is-shown-reads.Learnt,
@@ -67,7 +67,7 @@ Looked =
     reads.Pre reads.Post Inv-loop μ-loop
 
 -- a row that is shown comes next
-next : (c : Looked) → c .is-shown .result ≡ true
+next : (c : Noted) → c .is-shown .result ≡ true
     → let s = c .before .before .before .before .before in
     let hs = flatOf (s .args .m .now) .rows in
     let i = c .before .before .loop .i in

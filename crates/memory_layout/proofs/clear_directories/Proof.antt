@@ -1,4 +1,4 @@
-use Rattle.memory_layout.proofs.Leaves.{directories-clear}
+use Rattle.memory_layout.proofs.HeadLists.{directories-clear}
 use Rattle.basics.proofs.Kit.{needs}
 use Rattle.memory_layout.proofs.clear_directories.Statement.{statement}
 use Rattle.memory_layout.proofs.clear_directories.Tie as tie

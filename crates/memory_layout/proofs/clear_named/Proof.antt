@@ -1,4 +1,4 @@
-use Rattle.memory_layout.proofs.Leaves.{named-clear}
+use Rattle.memory_layout.proofs.HeadLists.{named-clear}
 use Rattle.basics.proofs.Kit.{needs}
 use Rattle.memory_layout.proofs.clear_named.Statement.{statement}
 use Rattle.memory_layout.proofs.clear_named.Tie as tie

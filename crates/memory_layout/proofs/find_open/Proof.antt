@@ -5,7 +5,7 @@ use Rattle.memory_layout.specs.Views.{openAt}
 use Rattle.memory_layout.specs.Flat.{opensOf}
 use Rattle.memory_layout.specs.Opens.{findOpen}
 use Rattle.memory_layout.proofs.Laws.{known}
-use Rattle.memory_layout.proofs.Leaves.{find-here, find-turn, find-end}
+use Rattle.memory_layout.proofs.HeadLists.{find-here, find-turn, find-end}
 use Rattle.memory_layout.proofs.find_open.Statement.{statement}
 use Rattle.memory_layout.proofs.find_open.Tie as tie
 

@@ -1,6 +1,6 @@
 use Rattle.basics.proofs.Kit.{arith}
 use Rattle.memory_layout.proofs.Laws.{known}
-use Rattle.memory_layout.proofs.Leaves.{directory-at}
+use Rattle.memory_layout.proofs.HeadLists.{directory-at}
 use Rattle.memory_layout.proofs.get_directory.Statement.{statement}
 use Rattle.memory_layout.proofs.get_directory.Tie as tie
 

@@ -2,7 +2,7 @@ use Rattle.basics.proofs.Kit.{ap, _∙_, arith}
 use Rattle.memory_bytes.specs.Bytes.{le2}
 use Rattle.memory_layout.specs.Views.{headOf}
 use Rattle.memory_layout.proofs.Laws.{known}
-use Rattle.memory_layout.proofs.Leaves.{named-at}
+use Rattle.memory_layout.proofs.HeadLists.{named-at}
 use Rattle.memory_layout.proofs.get_named.Statement.{statement}
 use Rattle.memory_layout.proofs.get_named.Tie as tie
 

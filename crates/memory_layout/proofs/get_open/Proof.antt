@@ -1,6 +1,6 @@
 use Rattle.basics.proofs.Kit.{arith}
 use Rattle.memory_layout.proofs.Laws.{known}
-use Rattle.memory_layout.proofs.Leaves.{open-at}
+use Rattle.memory_layout.proofs.HeadLists.{open-at}
 use Rattle.memory_layout.proofs.get_open.Statement.{statement}
 use Rattle.memory_layout.proofs.get_open.Tie as tie
 

@@ -1,6 +1,6 @@
 use Rattle.basics.proofs.Kit.{needs, arith}
 use Rattle.memory_layout.proofs.Laws.{known}
-use Rattle.memory_layout.proofs.Leaves.{directory-push}
+use Rattle.memory_layout.proofs.HeadLists.{directory-push}
 use Rattle.memory_layout.proofs.push_directory.Statement.{statement}
 use Rattle.memory_layout.proofs.push_directory.Tie as tie
 

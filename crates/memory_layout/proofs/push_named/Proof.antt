@@ -1,7 +1,7 @@
 use Rattle.basics.proofs.Kit.{needs, arith}
 use Rattle.memory_layout.specs.Views.{headOf}
 use Rattle.memory_layout.proofs.Laws.{known}
-use Rattle.memory_layout.proofs.Leaves.{named-push}
+use Rattle.memory_layout.proofs.HeadLists.{named-push}
 use Rattle.memory_layout.proofs.push_named.Statement.{statement}
 use Rattle.memory_layout.proofs.push_named.Tie as tie
 

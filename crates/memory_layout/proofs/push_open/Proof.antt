@@ -1,6 +1,6 @@
 use Rattle.basics.proofs.Kit.{needs, arith}
 use Rattle.memory_layout.proofs.Laws.{known}
-use Rattle.memory_layout.proofs.Leaves.{open-push}
+use Rattle.memory_layout.proofs.HeadLists.{open-push}
 use Rattle.memory_layout.proofs.push_open.Statement.{statement}
 use Rattle.memory_layout.proofs.push_open.Tie as tie
 

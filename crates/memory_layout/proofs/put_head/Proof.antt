@@ -1,4 +1,4 @@
-use Rattle.memory_layout.proofs.Leaves.{head-put}
+use Rattle.memory_layout.proofs.HeadLists.{head-put}
 use Rattle.basics.proofs.Kit.{needs, arith}
 use Rattle.memory_layout.proofs.put_head.Statement.{statement}
 use Rattle.memory_layout.proofs.put_head.Tie as tie

@@ -1,5 +1,5 @@
 use Rattle.basics.proofs.Kit.{_≡_, refl, sym, ap, _∙_, Bool, not, ℕ, _-_, length, drop, arith}
-use Rattle.rows.proofs.Turns.{drop-turn, drop-end, all-yes, all-not, all-end}
+use Rattle.rows.proofs.Iterations.{drop-turn, drop-end, all-yes, all-not, all-end}
 use Rattle.basics.specs.Basics.{all, isIn}
 use Rattle.naming.proofs.apart.Statement.{statement}
 use Rattle.naming.proofs.apart.Tie as tie

@@ -1,5 +1,5 @@
 use Rattle.basics.proofs.Kit.{_≡_, refl, sym, _∙_, _-_, length, drop, not-true, not-false, arith}
-use Rattle.rows.proofs.Turns.{drop-turn, drop-end, all-yes, all-not, all-end}
+use Rattle.rows.proofs.Iterations.{drop-turn, drop-end, all-yes, all-not, all-end}
 use Rattle.naming.specs.Names.{blockOk}
 use Rattle.basics.specs.Basics.{all}
 use Rattle.naming.proofs.in_blocks.Statement.{statement}

@@ -1,5 +1,5 @@
 use Rattle.basics.proofs.Kit.{_≡_, sym, ap, _∙_, [], _-_, lt-ltb, le-ltb, arith}
-use Rattle.rows.proofs.Turns.{tab-turn, tab-end, tab-whole, all-yes, all-not, all-end}
+use Rattle.rows.proofs.Iterations.{tab-turn, tab-end, tab-whole, all-yes, all-not, all-end}
 use Rattle.rows.specs.Columns.{coded, rowAt, rowsIn, tab}
 use Rattle.rows.specs.Rows.{isBelow, number}
 use Rattle.basics.specs.Basics.{all}

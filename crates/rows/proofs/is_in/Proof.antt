@@ -1,5 +1,5 @@
 use Rattle.basics.proofs.Kit.{_≡_, refl, sym, _∙_, _-_, eqb, length, drop, eq-eqb, ne-eqb, arith}
-use Rattle.rows.proofs.Turns.{drop-turn, drop-end, any-yes, any-not, any-end}
+use Rattle.rows.proofs.Iterations.{drop-turn, drop-end, any-yes, any-not, any-end}
 use Rattle.basics.specs.Basics.{isIn}
 use Rattle.rows.proofs.is_in.Statement.{statement}
 use Rattle.rows.proofs.is_in.Tie as tie

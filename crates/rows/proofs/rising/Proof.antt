@@ -1,6 +1,6 @@
 use Rattle.basics.proofs.Kit.{_≡_, sym, _∙_, _&&_, _≤_, _-_, arith}
 use Rattle.rows.proofs.Places.{rising-none, rising-first, rising-marked, rising-stop, rising-turn}
-use Rattle.rows.proofs.Turns.{pair-end}
+use Rattle.rows.proofs.Iterations.{pair-end}
 use Rattle.rows.specs.Columns.{rowAt, rowsIn, tab}
 use Rattle.rows.specs.Rows.{follows, startsWell}
 use Rattle.basics.specs.Basics.{paired}

@@ -1,4 +1,4 @@
-use Rattle.rows.proofs.Turns.{tab-turn, tab-end, tab-whole, count-yes, count-not, count-end}
+use Rattle.rows.proofs.Iterations.{tab-turn, tab-end, tab-whole, count-yes, count-not, count-end}
 use Rattle.basics.specs.Basics.{howMany}
 use Rattle.rows.specs.Chains.{isStart, starts}
 use Rattle.rows.specs.Columns.{tab}

@@ -1,4 +1,4 @@
-use Rattle.rows.proofs.Turns.{tab-turn, tab-end, tab-whole, all-yes, all-not, all-end}
+use Rattle.rows.proofs.Iterations.{tab-turn, tab-end, tab-whole, all-yes, all-not, all-end}
 use Rattle.rows.specs.Chains.{isNext, statementsRise}
 use Rattle.rows.specs.Columns.{tab}
 use Rattle.basics.specs.Basics.{all}

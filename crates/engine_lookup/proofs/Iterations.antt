@@ -1,4 +1,4 @@
--- A look along rows: turn by turn, in parts, and past rows of other keys.
+-- Rows noted along a list: one by one, in parts, and past rows of other keys.
 use Rattle.basics.proofs.Kit.{_≡_, refl, sym, ap, _∙_, true, false, List, _∷_, ℕ, suc, _+_, _≤_, _<_, zero, _-_, add-one, eqb, eq-eqb, ne-eqb, arith}
 use Rattle.basics.specs.Basics.{if_then_else_}
 use Rattle.model.specs.State.{Held}
@@ -7,9 +7,9 @@ use Rattle.memory_bytes.proofs.Scans.{tab-next, tab-none}
 use Rattle.memory_layout.specs.Flat.{Flat, rowIn}
 use Rattle.memory_rows.specs.Rows.{keyIn}
 use Rattle.engine_lookup.specs.Lookup.{note, notes, blank}
-use Rattle.engine_lookup.specs.declared.Look.{Look}
+use Rattle.engine_lookup.specs.declared.Visibility.{Visibility}
 
-module _ (tx k i : ℕ) (h : Held) (hs : List Held) (l : Look) where
+module _ (tx k i : ℕ) (h : Held) (hs : List Held) (l : Visibility) where
   pub notes-on : eqb (h .tuple .key) k ≡ false → notes tx k i (h ∷ hs) l ≡ notes tx k (suc i) hs l
   unfolding notes if_then_else_
   notes-on e = rw e
@@ -20,11 +20,11 @@ module _ (tx k i : ℕ) (h : Held) (hs : List Held) (l : Look) where
 
 -- ---- turn by turn
 
-module _ (f : Flat) (tx k i e : ℕ) (l : Look) where
+module _ (f : Flat) (tx k i e : ℕ) (l : Visibility) where
   abbrev rest : ℕ → List Held
   rest j = tab (rowIn f) j (e - j)
 
-  step : i < e → (l1 : Look) → notes tx k i (rowIn f i ∷ rest (i + 1)) l ≡ notes tx k (suc i) (rest (i + 1)) l1
+  step : i < e → (l1 : Visibility) → notes tx k i (rowIn f i ∷ rest (i + 1)) l ≡ notes tx k (suc i) (rest (i + 1)) l1
       → notes tx k i (rest i) l ≡ notes tx k (i + 1) (rest (i + 1)) l1
   step h l1 q =
       ap (λ (z : List Held). notes tx k i z l) (tab-next (rowIn f) i e h) ∙ q ∙ ap (λ (z : ℕ). notes tx k z (rest (i + 1)) l1) (sym (add-one i))
@@ -42,7 +42,7 @@ module _ (f : Flat) (tx k i e : ℕ) (l : Look) where
 -- ---- in parts
 
 module _ (f : Flat) (tx k : ℕ) where
-  notes-parts : (i a n : ℕ) (l : Look) → notes tx k i (tab (rowIn f) i (a + n)) l ≡ notes tx k (i + a) (tab (rowIn f) (i + a) n) (notes tx k i (tab (rowIn f) i a) l)
+  notes-parts : (i a n : ℕ) (l : Visibility) → notes tx k i (tab (rowIn f) i (a + n)) l ≡ notes tx k (i + a) (tab (rowIn f) (i + a) n) (notes tx k i (tab (rowIn f) i a) l)
   unfolding notes
   notes-parts i zero n l =
       let e : 0 + n ≡ n = omega arith in
@@ -51,13 +51,13 @@ module _ (f : Flat) (tx k : ℕ) where
   notes-parts i (suc a) n l =
       let e : suc a + n ≡ suc (a + n) = omega arith in
       let q : suc i + a ≡ i + suc a = omega arith in
-      let l1 : Look = if eqb (rowIn f i .tuple .key) k then note tx i (rowIn f i) l else l in
+      let l1 : Visibility = if eqb (rowIn f i .tuple .key) k then note tx i (rowIn f i) l else l in
       ap (λ (z : ℕ). notes tx k i (tab (rowIn f) i z) l) e
       ∙ notes-parts (suc i) a n l1
       ∙ ap (λ (z : ℕ). notes tx k z (tab (rowIn f) z n) (notes tx k (suc i) (tab (rowIn f) (suc i) a) l1)) q
 
   -- rows of other keys change nothing
-  notes-past : (i n : ℕ) (l : Look) → ((j : ℕ) → i ≤ j → j < i + n → eqb (rowIn f j .tuple .key) k ≡ false) → notes tx k i (tab (rowIn f) i n) l ≡ l
+  notes-past : (i n : ℕ) (l : Visibility) → ((j : ℕ) → i ≤ j → j < i + n → eqb (rowIn f j .tuple .key) k ≡ false) → notes tx k i (tab (rowIn f) i n) l ≡ l
   unfolding notes
   notes-past i zero l h = refl
   notes-past i (suc n) l h =
@@ -65,24 +65,24 @@ module _ (f : Flat) (tx k : ℕ) where
       ∙ notes-past (suc i) n l (λ j a b. h j (omega arith) (omega arith))
 
 -- the rows between which all with the key stand are enough
-pub notes-covered : (f : Flat) (tx : ℕ) {k s e a b : ℕ} (l : Look) → Covers (keyIn f) k s e a b
+pub notes-covered : (f : Flat) (tx : ℕ) {k s e a b : ℕ} (l : Visibility) → Covers (keyIn f) k s e a b
     → notes tx k a (tab (rowIn f) a (b - a)) l ≡ notes tx k s (tab (rowIn f) s (e - s)) l
 notes-covered f tx {k} {s} {e} {a} {b} l c =
     let n1 : e - s ≡ (a - s) + (e - a) = omega (arith, c .low, c .order, c .high) in
     let n2 : e - a ≡ (b - a) + (e - b) = omega (arith, c .low, c .order, c .high) in
     let p1 : s + (a - s) ≡ a = omega (arith, c .low) in
     let p2 : a + (b - a) ≡ b = omega (arith, c .order) in
-    let l1 : Look = notes tx k a (tab (rowIn f) a (b - a)) l in
+    let l1 : Visibility = notes tx k a (tab (rowIn f) a (b - a)) l in
     sym (ap (λ (z : ℕ). notes tx k s (tab (rowIn f) s z) l) n1
     ∙ notes-parts f tx k s (a - s) (e - a) l
     ∙ ap (λ (z : ℕ). notes tx k z (tab (rowIn f) z (e - a)) (notes tx k s (tab (rowIn f) s (a - s)) l)) p1
-    ∙ ap (λ (z : Look). notes tx k a (tab (rowIn f) a (e - a)) z) (notes-past f tx k s (a - s) l (λ j x y. c .before j x (omega arith)))
+    ∙ ap (λ (z : Visibility). notes tx k a (tab (rowIn f) a (e - a)) z) (notes-past f tx k s (a - s) l (λ j x y. c .before j x (omega arith)))
     ∙ ap (λ (z : ℕ). notes tx k a (tab (rowIn f) a z) l) n2
     ∙ notes-parts f tx k a (b - a) (e - b) l
     ∙ ap (λ (z : ℕ). notes tx k z (tab (rowIn f) z (e - b)) l1) p2
     ∙ notes-past f tx k b (e - b) l1 (λ j x y. c .behind j x (omega (arith, c .high))))
 
--- so a look that starts there, with nothing seen, shows what one at all rows does
-pub range-looked : (f : Flat) (tx : ℕ) {k s e a b : ℕ} {l none : Look} → l ≡ notes tx k a (tab (rowIn f) a (b - a)) none → none ≡ blank → Covers (keyIn f) k s e a b
+-- so starting there, with nothing seen, shows what all rows show
+pub range-noted : (f : Flat) (tx : ℕ) {k s e a b : ℕ} {l none : Visibility} → l ≡ notes tx k a (tab (rowIn f) a (b - a)) none → none ≡ blank → Covers (keyIn f) k s e a b
     → l ≡ notes tx k s (tab (rowIn f) s (e - s)) blank
-range-looked f tx {k} {s} {e} {none = none} p q c = p ∙ notes-covered f tx none c ∙ ap (notes tx k s (tab (rowIn f) s (e - s))) q
+range-noted f tx {k} {s} {e} {none = none} p q c = p ∙ notes-covered f tx none c ∙ ap (notes tx k s (tab (rowIn f) s (e - s))) q

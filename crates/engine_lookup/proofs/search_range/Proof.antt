@@ -1,13 +1,13 @@
--- `engine_lookup::look_range` meets its contract.
+-- `engine_lookup::search_range` meets its contract.
 use Rattle.basics.proofs.Kit.{needs, arith}
 use Rattle.memory_layout.specs.Flat.{flatOf}
 use Rattle.memory_bytes.specs.Columns.{equals}
 use Rattle.memory_bytes.proofs.Spans.{first-in, found-covers}
 use Rattle.memory_rows.specs.Rows.{keyIn}
 use Rattle.engine_lookup.proofs.Searches.{last-in}
-use Rattle.engine_lookup.proofs.Turns.{range-looked}
-use Rattle.engine_lookup.proofs.look_range.Statement.{statement}
-use Rattle.engine_lookup.proofs.look_range.Tie as tie
+use Rattle.engine_lookup.proofs.Iterations.{range-noted}
+use Rattle.engine_lookup.proofs.search_range.Statement.{statement}
+use Rattle.engine_lookup.proofs.search_range.Tie as tie
 
 last-equal-requires : tie.Need-last-equal-requires
 last-equal-requires c κs =
@@ -15,8 +15,8 @@ last-equal-requires c κs =
     let a = st .args in
     (st .pre .0, (first-in (keyIn (flatOf (a .m .now))) (a .key) (a .s) (a .e) (st .pre .1 .0) (c .find-equal .ensures), st .pre .1 .1))
 
-look-rows-requires : tie.Need-look-rows-requires
-look-rows-requires c κs =
+note-rows-requires : tie.Need-note-rows-requires
+note-rows-requires c κs =
     let p2 = c .before .before in
     let st = p2 .before .before in
     let a = st .args in
@@ -29,8 +29,8 @@ returns c =
     let p2 = c .before .before in
     let st = p2 .before .before .before in
     let a = st .args in
-    range-looked (flatOf (a .m .now)) (a .transaction) (c .look-rows .ensures) (c .before .no-look .ensures)
+    range-noted (flatOf (a .m .now)) (a .transaction) (c .note-rows .ensures) (c .before .no-version .ensures)
     (found-covers (keyIn (flatOf (a .m .now))) (a .key) (a .s) (a .e) _ _ (st .pre .1 .0) (omega (arith, p2 .before .find-equal .ensures)) (omega (arith, p2 .last-equal .ensures)))
 
-pub look-range-spec : {M : Type 1} → statement M
-look-range-spec = tie.close (tie.spec (λ c κs. search needs) last-equal-requires (λ c κs. search needs) look-rows-requires returns)
+pub search-range-spec : {M : Type 1} → statement M
+search-range-spec = tie.close (tie.spec (λ c κs. search needs) last-equal-requires (λ c κs. search needs) note-rows-requires returns)

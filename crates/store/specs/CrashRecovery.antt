@@ -1,4 +1,4 @@
--- The quoted line, whole: about every program that makes the calls, each of which does what its contract says, and about every cut.
+-- Crash recovery (document 01: the quoted line), whole: about every program that makes the calls, each of which does what its contract says, and about every cut.
 use Prim.Native.Nat.{ℕ, _≤_, _<_}
 use mathlib.Core.Path.{_≡_}
 use mathlib.Core.Option.{some}
@@ -11,7 +11,7 @@ use Rattle.model.specs.Transactions.{openCall, insertCall, replaceCall, deleteC
 use Rattle.model.specs.Checkpoint.{beginCall, stepCall, runCall}
 use Rattle.model.specs.Calls.{Call, opens, inserts, replaces, deletes, commits, aborts, reads, lists, begins, steps, runs, afterCalls}
 use Rattle.model.specs.Recover.{memoryFor, imageAfter, make, recover}
-use Rattle.model.specs.QuotedLine.{log, Cut, Same}
+use Rattle.model.specs.CrashRecovery.{log, Cut, Same}
 use Rattle.memory_layout.specs.Store.{storeIn}
 use Rattle.contracts.specs.Shape.{Answers, Replies, Lists, Stores, Made, Recovered}
 use Rattle.contracts.specs.declared.Answer.{Answer}
@@ -31,31 +31,31 @@ pub record Starts : Type 0 where
 
 -- ---- one call
 
--- `Does c img m img′ m′`: the call c, with the image img and the memory m, leaves img′ and m′, as the contract of its function says
-pub data Does : Call → List ℕ → List ℕ → List ℕ → List ℕ → Type 0 where
-  opening : {tx : ℕ} {img m m′ : List ℕ} (r : Answer) → Answers (openCall tx) m r m′ → Does (opens tx) img m img m′
+-- `Executes c img m img′ m′`: the call c, with the image img and the memory m, leaves img′ and m′, as the contract of its function says
+pub data Executes : Call → List ℕ → List ℕ → List ℕ → List ℕ → Type 0 where
+  opening : {tx : ℕ} {img m m′ : List ℕ} (r : Answer) → Answers (openCall tx) m r m′ → Executes (opens tx) img m img m′
   inserting : {tx t k : ℕ} {bs img m m′ : List ℕ} (r : Answer) → k < 4294967296 → AllBytes bs → Answers (insertCall tx t k bs) m r m′
-      → Does (inserts tx t k bs) img m img m′
+      → Executes (inserts tx t k bs) img m img m′
   replacing : {tx t k : ℕ} {bs img m m′ : List ℕ} (r : Answer) → k < 4294967296 → AllBytes bs → Answers (replaceCall tx t k bs) m r m′
-      → Does (replaces tx t k bs) img m img m′
-  deleting : {tx t k : ℕ} {img m m′ : List ℕ} (r : Answer) → k < 4294967296 → Answers (deleteCall tx t k) m r m′ → Does (deletes tx t k) img m img m′
-  committing : {tx : ℕ} {img m m′ : List ℕ} (r : Answer) → Answers (commitCall tx) m r m′ → Does (commits tx) img m img m′
-  aborting : {tx : ℕ} {img m m′ : List ℕ} (r : Answer) → Answers (abortCall tx) m r m′ → Does (aborts tx) img m img m′
-  reading : {tx t k : ℕ} {img m : List ℕ} (p p′ : List ℕ) (r : Answer) → Replies (readCall tx t k (length p)) m r p p′ → Does (reads tx t k (length p)) img m img m
-  listing : {img m : List ℕ} (p p′ : List ℕ) (r : Answer) → Lists m r p p′ → Does (lists (length p)) img m img m
-  beginning : {img m m′ : List ℕ} (r : Answer) → Answers beginCall m r m′ → Does begins img m img m′
-  stepping : {img m img′ m′ : List ℕ} (r : Answer) → Stores (stepCall (length img)) img m r img′ m′ → Does (steps (length img)) img m img′ m′
-  running : {limit : ℕ} {img m img′ m′ : List ℕ} (r : Answer) → Stores (runCall limit (length img)) img m r img′ m′ → Does (runs limit (length img)) img m img′ m′
+      → Executes (replaces tx t k bs) img m img m′
+  deleting : {tx t k : ℕ} {img m m′ : List ℕ} (r : Answer) → k < 4294967296 → Answers (deleteCall tx t k) m r m′ → Executes (deletes tx t k) img m img m′
+  committing : {tx : ℕ} {img m m′ : List ℕ} (r : Answer) → Answers (commitCall tx) m r m′ → Executes (commits tx) img m img m′
+  aborting : {tx : ℕ} {img m m′ : List ℕ} (r : Answer) → Answers (abortCall tx) m r m′ → Executes (aborts tx) img m img m′
+  reading : {tx t k : ℕ} {img m : List ℕ} (p p′ : List ℕ) (r : Answer) → Replies (readCall tx t k (length p)) m r p p′ → Executes (reads tx t k (length p)) img m img m
+  listing : {img m : List ℕ} (p p′ : List ℕ) (r : Answer) → Lists m r p p′ → Executes (lists (length p)) img m img m
+  beginning : {img m m′ : List ℕ} (r : Answer) → Answers beginCall m r m′ → Executes begins img m img m′
+  stepping : {img m img′ m′ : List ℕ} (r : Answer) → Stores (stepCall (length img)) img m r img′ m′ → Executes (steps (length img)) img m img′ m′
+  running : {limit : ℕ} {img m img′ m′ : List ℕ} (r : Answer) → Stores (runCall limit (length img)) img m r img′ m′ → Executes (runs limit (length img)) img m img′ m′
   -- a step or run that is lent something of another length than the image
   stepping-elsewhere : {img m m′ : List ℕ} (p p′ : List ℕ) (r : Answer) → (length p ≡ length img → ⊥) → Stores (stepCall (length p)) p m r p′ m′
-      → Does (steps (length p)) img m img m′
+      → Executes (steps (length p)) img m img m′
   running-elsewhere : {limit : ℕ} {img m m′ : List ℕ} (p p′ : List ℕ) (r : Answer) → (length p ≡ length img → ⊥) → Stores (runCall limit (length p)) p m r p′ m′
-      → Does (runs limit (length p)) img m img m′
+      → Executes (runs limit (length p)) img m img m′
 
 -- a list of calls, each with image and memory as the last one left them
-pub data Runs : List Call → List ℕ → List ℕ → List ℕ → List ℕ → Type 0 where
-  ends : {img m : List ℕ} → Runs [] img m img m
-  next : {c : Call} {cs : List Call} {img m img₁ m₁ img′ m′ : List ℕ} → Does c img m img₁ m₁ → Runs cs img₁ m₁ img′ m′ → Runs (c ∷ cs) img m img′ m′
+pub data ExecutesAll : List Call → List ℕ → List ℕ → List ℕ → List ℕ → Type 0 where
+  ends : {img m : List ℕ} → ExecutesAll [] img m img m
+  next : {c : Call} {cs : List Call} {img m img₁ m₁ img′ m′ : List ℕ} → Executes c img m img₁ m₁ → ExecutesAll cs img₁ m₁ img′ m′ → ExecutesAll (c ∷ cs) img m img′ m′
 
 -- ---- the claim
 
@@ -63,11 +63,11 @@ pub data Runs : List Call → List ℕ → List ℕ → List ℕ → List ℕ �
 pub record Restored (s : Store) (base : List Call) (r : Answer) (m : List ℕ) : Type 0 where
   pub accepted : r ≡ Done
   pub store : Store
-  pub held : storeIn m ≡ some store
+  pub has-store : storeIn m ≡ some store
   pub same : Same store s base
 
 -- what is promised of a list of calls from img and m, where s is the store at the start, to img′ and m′
-pub record Line (img m : List ℕ) (s : Store) (calls : List Call) (img′ m′ : List ℕ) : Type 0 where
+pub record RunPromise (img m : List ℕ) (s : Store) (calls : List Call) (img′ m′ : List ℕ) : Type 0 where
   -- the memory holds the store of the rules' own run: 4 is never given
   pub memory : storeIn m′ ≡ some (afterCalls calls s)
   -- the image is the first one with the block stores of the rules' own run, made one after another
@@ -78,7 +78,7 @@ pub record Line (img m : List ℕ) (s : Store) (calls : List Call) (img′ m′ 
       → (m₀ m₁ : List ℕ) (r : Answer) → memoryFor (s .capacity) ≤ length m₀ → Recovered cut m₀ r m₁ → Restored s base r m₁
 
 -- from any start, for every list of calls and every cut
-abbrev pub QuotedLine : Type 0
-QuotedLine =
-    (img m : List ℕ) → AllBytes img → (s : Store) → Started img m s → (calls : List Call) (img′ m′ : List ℕ) → Runs calls img m img′ m′
-    → Line img m s calls img′ m′
+abbrev pub CrashRecovery : Type 0
+CrashRecovery =
+    (img m : List ℕ) → AllBytes img → (s : Store) → Started img m s → (calls : List Call) (img′ m′ : List ℕ) → ExecutesAll calls img m img′ m′
+    → RunPromise img m s calls img′ m′

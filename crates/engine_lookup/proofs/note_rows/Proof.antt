@@ -1,11 +1,11 @@
--- `engine_lookup::look_rows` meets its contract.
+-- `engine_lookup::note_rows` meets its contract.
 use Rattle.basics.proofs.Kit.{_≡_, refl, sym, ap, _∙_, ⊎-elim, _+_, _<_, _-_, arith}
 use Rattle.memory_layout.specs.Flat.{Flat, flatOf, rowIn}
 use Rattle.memory_bytes.specs.Columns.{tab}
 use Rattle.engine_lookup.specs.Lookup.{notes}
-use Rattle.engine_lookup.proofs.Turns.{turn-here, turn-on, turn-end}
-use Rattle.engine_lookup.proofs.look_rows.Statement.{statement}
-use Rattle.engine_lookup.proofs.look_rows.Tie as tie
+use Rattle.engine_lookup.proofs.Iterations.{turn-here, turn-on, turn-end}
+use Rattle.engine_lookup.proofs.note_rows.Statement.{statement}
+use Rattle.engine_lookup.proofs.note_rows.Tie as tie
 
 abbrev Inv-loop : tie.InvT-loop
 Inv-loop m from to transaction key l₀ i₀ l i =
@@ -20,8 +20,8 @@ loop-holds c = refl
 key-at-requires : tie.Need-key-at-requires Inv-loop μ-loop
 key-at-requires c κs = (c .before .before .before .pre .0, omega (arith, c .before .before .before .pre .1, c .loop-test .taken))
 
-look-row-requires : tie.Need-look-row-requires Inv-loop μ-loop
-look-row-requires c κs =
+note-row-requires : tie.Need-note-row-requires Inv-loop μ-loop
+note-row-requires c κs =
     let st = c .before .before .before .before .before in
     (st .pre .0, omega (arith, st .pre .1, c .before .before .loop-test .taken))
 
@@ -49,5 +49,5 @@ returns c =
     let g = c .before .loop in
     sym (turn-end (flatOf (a .m .now)) (a .transaction) (a .key) (g .i) (a .to) (g .l) (omega (arith, c .loop-test .left))) ∙ g .inv
 
-pub look-rows-spec : {M : Type 1} → statement M
-look-rows-spec = tie.close (tie.spec Inv-loop μ-loop loop-holds key-at-requires look-row-requires add-i loop-less loop-again returns)
+pub note-rows-spec : {M : Type 1} → statement M
+note-rows-spec = tie.close (tie.spec Inv-loop μ-loop loop-holds key-at-requires note-row-requires add-i loop-less loop-again returns)

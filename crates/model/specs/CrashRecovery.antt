@@ -1,4 +1,4 @@
--- The quoted line: wherever power fails, recovery gives what the uncut run had just before the checkpoint whose header landed last.
+-- Crash recovery (document 01: the quoted line): wherever power fails, recovery gives what the uncut run had just before the checkpoint whose header landed last.
 use Prim.Native.Nat.{ℕ, _≤_}
 use mathlib.Core.Path.{_≡_}
 use mathlib.Core.Bool.{Bool, false, _&&_}
@@ -50,8 +50,8 @@ unfoldable pub landed : Logged → List Call → List Call
 landed w base = if isHeader w then w .before else base
 
 -- the image with that block exchanged
-unfoldable pub stored : List ℕ → Logged → List ℕ
-stored img w = putBlock img (w .write .at) (storedBytes (w .write))
+unfoldable pub imageWith : List ℕ → Logged → List ℕ
+imageWith img w = putBlock img (w .write .at) (storedBytes (w .write))
 
 -- `Cut img base ws img′ base′`: power fails somewhere in the stores ws, which start from the image img, whose last landed header's
 -- checkpoint began after the calls base. It leaves img′, and the calls base′ for its last landed header.
@@ -63,7 +63,7 @@ pub data Cut : List ℕ → List Call → List Logged → List ℕ → List Call
       → Cut img base (w ∷ ws) (putBlock img (w .write .at) xs) base
   -- the next store is whole; or it is a header's, is cut and leaves the new one (and no later store is begun: `stop` follows)
   whole : {img : List ℕ} {base : List Call} {w : Logged} {ws : List Logged} {img′ : List ℕ} {base′ : List Call}
-      → Cut (stored img w) (landed w base) ws img′ base′ → Cut img base (w ∷ ws) img′ base′
+      → Cut (imageWith img w) (landed w base) ws img′ base′ → Cut img base (w ∷ ws) img′ base′
 
 -- ---- the claim
 
@@ -79,8 +79,8 @@ pub record Same (r s : Store) (calls : List Call) : Type 0 where
 
 -- From any start, for every list of calls and every cut of its stores, recovery with memory enough is accepted and gives what the
 -- run of the calls before the begin of the last landed checkpoint had.
-abbrev pub QuotedLine : Type 0
-QuotedLine =
+abbrev pub CrashRecovery : Type 0
+CrashRecovery =
     (img : List ℕ) → AllBytes img → (s : Store) → Start img s → (calls : List Call) → AllTyped calls
     → (img′ : List ℕ) (base : List Call) → Cut img [] (log [] [] s calls) img′ base
     → (m : ℕ) → memoryFor (s .capacity) ≤ m
