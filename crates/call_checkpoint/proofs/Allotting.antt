@@ -1,7 +1,7 @@
 -- The allocator from store to store: what each store hands on is the allocator of the store after it.
 use Rattle.basics.proofs.Kit.{_≡_, refl, sym, ap, _∙_, subst, true, List, ℕ, suc, _*_, _≤_, _-_, arith}
-use Rattle.allocator.specs.declared.Allocator.{Allocator}
-use Rattle.allocator.specs.Stores.{taking, landing}
+use Rattle.engine_allocator.specs.declared.Allocator.{Allocator}
+use Rattle.engine_allocator.specs.Stores.{taking, landing}
 use Rattle.model.specs.State.{Store, Outcome}
 use Rattle.model.specs.Checkpoint.{withProgress, isRunning, left, leftOf, stepAt, stepCall}
 use Rattle.model.specs.Calls.{accepted}

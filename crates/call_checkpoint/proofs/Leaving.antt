@@ -3,7 +3,7 @@ use Rattle.basics.proofs.Kit.{_≡_, refl, sym, ap, _∙_, subst, fun-ext, Bool
 use Rattle.basics.proofs.Kit.{getD, set, length-append, drop-of-length-le, List·getD-append, getD-append-add, eqb-true, eq-eqb, ne-eqb, eqb-false, not-true, arith}
 use Rattle.basics.specs.Basics.{if_then_else_, any, isIn}
 use Rattle.basics.proofs.Facts.{by}
-use Rattle.rows.proofs.Iterations.{drop-turn}
+use Rattle.image_rows.proofs.Iterations.{drop-turn}
 use Rattle.model.specs.State.{Page, Checkpoint, idle, running, Store}
 use Rattle.model.specs.Rules.{isFrozen, thaw}
 use Rattle.model.specs.Transactions.{changed}

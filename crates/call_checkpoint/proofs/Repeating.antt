@@ -10,10 +10,10 @@ use Rattle.model.proofs.Laws.{step-size}
 use Rattle.memory_layout.specs.Flat.{Flat, flatOf}
 use Rattle.memory_layout.specs.Store.{holdsStore, storeOf, HoldsNow}
 use Rattle.memory_layout.proofs.Laws.{Sound, in-some, in-sound}
-use Rattle.contracts.specs.Shape.{MemoryAfter, StoredBy, Stores, StoresAt}
-use Rattle.contracts.specs.declared.Answer.{Answer}
-use Rattle.contracts.specs.declared.Answer.the-variants.{Count}
-use Rattle.contracts.proofs.Answering.{stores-count}
+use Rattle.call_contracts.specs.Shape.{MemoryAfter, StoredBy, Stores, StoresAt}
+use Rattle.call_contracts.specs.declared.Answer.{Answer}
+use Rattle.call_contracts.specs.declared.Answer.the-variants.{Count}
+use Rattle.call_contracts.proofs.Answering.{stores-count}
 use Rattle.call_checkpoint.specs.Keeping.{Ready}
 use Rattle.call_checkpoint.proofs.Tallies.{left-none}
 use Rattle.call_checkpoint.proofs.Allotting.{lowers}

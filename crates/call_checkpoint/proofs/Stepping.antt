@@ -3,7 +3,7 @@ use Rattle.basics.proofs.Kit.{_≡_, refl, sym, ap, _∙_, subst, Bool, true, f
 use Rattle.basics.proofs.Kit.{length, take, drop, drop-drop, lt-ltb, le-ltb, eqb-true, eq-eqb, ne-eqb, eqb-false, arith}
 use Rattle.basics.specs.Basics.{if_then_else_, howMany, first, isIn}
 use Rattle.basics.proofs.Facts.{by, lie}
-use Rattle.blocks.specs.Block.{Block, header, page, directory, encodeBlock}
+use Rattle.block_forms.specs.Block.{Block, header, page, directory, encodeBlock}
 use Rattle.image.specs.Stages.{directoriesFor}
 use Rattle.model.specs.State.{Held, Page, Checkpoint, idle, running, Store, Outcome}
 use Rattle.model.specs.Rules.{isFrozen, shown, thaw}
@@ -22,9 +22,9 @@ use Rattle.engine_pages.specs.Pages.{pagesOf, pageAt, entryOf, firstRow, rowsFr
 use Rattle.engine_pages.specs.Pending.{FirstFrozen}
 use Rattle.engine_pages.proofs.Around.{index-hit, index-pass}
 use Rattle.engine_pages.proofs.Places.{from-page, page-table, tuples-are}
-use Rattle.contracts.specs.Shape.{Stores}
-use Rattle.contracts.specs.declared.Answer.the-variants.{Count, Refused}
-use Rattle.contracts.proofs.Answering.{stores-4, stores-refused, stores-count}
+use Rattle.call_contracts.specs.Shape.{Stores}
+use Rattle.call_contracts.specs.declared.Answer.the-variants.{Count, Refused}
+use Rattle.call_contracts.proofs.Answering.{stores-4, stores-refused, stores-count}
 use Rattle.call_checkpoint.specs.Keeping.{entryFilled, directoryAdded, namedBy, pageKept, directoryKept, headerKept, RunningIn, Ready, NoneFrozen, Effect, Steps, stepRefusal}
 use Rattle.call_checkpoint.proofs.Tallies.{running-is, first-hit, first-past, frozen-many}
 use Rattle.model.specs.State as model

@@ -6,7 +6,7 @@ use mathlib.Core.Option.{Option, none, some}
 use mathlib.Core.List.{List, [], _∷_, _++_, map}
 use lib.ListN.{length}
 use lib.Dec.{eqb}
-use Rattle.allocator.specs.declared.Allocator.{Allocator}
+use Rattle.engine_allocator.specs.declared.Allocator.{Allocator}
 use Rattle.basics.specs.Basics.{if_then_else_, isIn, first}
 use Rattle.model.specs.State.{Checkpoint, idle, running, Store, Outcome}
 use Rattle.model.specs.Rules.{isFrozen, freeze, thaw}

@@ -1,7 +1,7 @@
 // Begin, step and run: the checkpoint on the working memory. No call asks anything of its caller: each contract says what the call
 // answers and leaves, for any image and any memory, by the model's function.
-use allocator::Allocator;
-use contracts::Answer;
+use call_contracts::Answer;
+use engine_allocator::Allocator;
 ghost use mathlib.Core.Path.{_≡_};
 ghost use mathlib.Core.Bool.{true};
 ghost use mathlib.Core.List.{[], _∷_, _++_, map};
@@ -16,7 +16,7 @@ ghost use Rattle.memory_layout.specs.Flat.{flatOf, Room, Becomes, withNamed};
 ghost use Rattle.memory_layout.specs.Store.{holdsStore, storeOf, storeIn, HoldsNow};
 ghost use Rattle.engine_pages.specs.Pages.{pagesOf};
 ghost use Rattle.engine_pages.specs.Pending.{FirstFrozen};
-ghost use Rattle.contracts.specs.Shape.{Answers, Stores};
+ghost use Rattle.call_contracts.specs.Shape.{Answers, Stores};
 ghost use Rattle.call_checkpoint.specs.Counting.{oneIf, freeFrom, firstZero, NamedBefore, fourNamed, namedIn};
 ghost use Rattle.call_checkpoint.specs.Keeping.{allocatorIn, begun, pageKept, directoryKept, headerKept, RunningIn, Ready, NoneFrozen, taking, Marks, Steps, stepRefusal};
 
@@ -61,7 +61,7 @@ fn blocks_needed(m: &[u8]) -> usize
     ensures { λ r. ⌜ (r ≡ blocksNeeded (pagesOf (now (m .entry)))) × (r ≤ 1028) ⌝ }
 {
     let c = memory_layout::get_counts(m);
-    memory_pages::count_dirty(m) + naming::directories_for(c.pages as usize)
+    memory_pages::count_dirty(m) + image_header::directories_for(c.pages as usize)
 }
 
 // Whether a checkpoint runs: none does at the last level.
@@ -84,7 +84,7 @@ fn directories_left(m: &[u8]) -> usize
     ensures { λ r. ⌜ (r ≡ directoriesFor (length (flatOf (now (m .entry)) .named)) - length (flatOf (now (m .entry)) .directories)) × (r ≤ 4) ⌝ }
 {
     let c = memory_layout::get_counts(m);
-    let d = naming::directories_for(c.named as usize);
+    let d = image_header::directories_for(c.named as usize);
     let w = c.directories as usize;
     if d < w {
         return 0;
@@ -350,7 +350,7 @@ fn store_page(image: &mut [u8], m: &mut [u8], p: usize, alloc: Allocator) -> All
     let a = BLOCK_SIZE * b;
     let end = a + BLOCK_SIZE;
     engine_writer::write_page(&mut image[a..end], m, t, s, e, h.level + 1);
-    let next = allocator::taken_by(alloc, b as u32);
+    let next = engine_allocator::taken_by(alloc, b as u32);
     keep_page(m, p, next.taken);
     next
 }
@@ -367,7 +367,7 @@ fn store_directory(image: &mut [u8], m: &mut [u8], alloc: Allocator) -> Allocato
     let end = a + BLOCK_SIZE;
     let k = c.directories as usize;
     engine_writer::write_directory(&mut image[a..end], m, k, h.level + 1);
-    let next = allocator::taken_by(alloc, b as u32);
+    let next = engine_allocator::taken_by(alloc, b as u32);
     keep_directory(m, next.taken);
     next
 }
@@ -379,7 +379,7 @@ fn store_header(image: &mut [u8], m: &mut [u8], alloc: Allocator) -> Allocator
 {
     engine_writer::write_header(&mut image[0..BLOCK_SIZE], m);
     keep_header(m);
-    allocator::landed(alloc)
+    engine_allocator::landed(alloc)
 }
 
 // No page is frozen any more: the directory, then the header.

@@ -3,10 +3,10 @@ use Rattle.basics.proofs.Kit.{_≡_, refl, sym, ap, _∙_, subst, true, List, [
 use Rattle.basics.proofs.Kit.{length-map, take-at, take-all, length-take-le, arith}
 use Rattle.basics.proofs.Facts.{lie}
 use Rattle.basics.proofs.Lists.{map-append}
-use Rattle.blocks.specs.Tuple.{Tuple}
-use Rattle.blocks.specs.Block.{Block, malformed, header, page, directory}
-use Rattle.blocks.specs.Decode.{decodeBlock}
-use Rattle.reader.proofs.Walk.{Walk, walk-start}
+use Rattle.block_forms.specs.Tuple.{Tuple}
+use Rattle.block_forms.specs.Block.{Block, malformed, header, page, directory}
+use Rattle.block_forms.specs.Decode.{decodeBlock}
+use Rattle.block_reader.proofs.Walk.{Walk, walk-start}
 use Rattle.model.specs.State.{Held}
 use Rattle.model.specs.Rules.{withoutPending}
 use Rattle.memory_layout.specs.Flat.{Flat, flatOf, noEntry, Room, Becomes, withRows, withEntries}
@@ -15,7 +15,7 @@ use Rattle.memory_layout.proofs.Laws.{becomes-none, becomes-then}
 use Rattle.memory_rows.specs.Cells.{InOrder}
 use Rattle.memory_pages.specs.Pages.{withCount, entryOf, moreRows, moreLast, behind, RowsBecome}
 use Rattle.memory_pages.proofs.Appending.{last-got, last-set}
-use Rattle.reader.specs.Answers.{isPage}
+use Rattle.block_reader.specs.Answers.{isPage}
 use Rattle.call_recovery.specs.Loading.{tuplesIn, lastMore, Fills}
 
 -- the same lists, said otherwise

@@ -1,8 +1,8 @@
 -- Recovery's answers: by the stage that refused, or with the store recovered.
 use Rattle.basics.proofs.Kit.{_≡_, refl, sym, ap, _∙_, List, map, ℕ, _+_, _*_, _≤_, _<_, length, take, take-at, lt-ltb, le-ltb, arith}
 use Rattle.basics.specs.Basics.{if_then_else_}
-use Rattle.bits.specs.Bits.{over}
-use Rattle.blocks.specs.declared.Header.{Header}
+use Rattle.block_bits.specs.Bits.{over}
+use Rattle.block_forms.specs.declared.Header.{Header}
 use Rattle.image.specs.View.{View, view}
 use Rattle.image.specs.Stages.{Stage, refuses, holds, StoredPage}
 use Rattle.image.specs.Whole.{headerStage, pagesStage}
@@ -14,8 +14,8 @@ use Rattle.model.specs.Recover.{memoryFor, recoveredStore, recoverPages, recove
 use Rattle.memory_layout.specs.Store.{HoldsNow}
 use Rattle.call_recovery.specs.Loading.{pagesAt, blocksIn}
 use Rattle.call_recovery.proofs.Tested.{sure, pages-there}
-use Rattle.contracts.specs.Shape.{RecoveredBy, Recovered}
-use Rattle.contracts.specs.declared.Answer.the-variants.{Done, Refused}
+use Rattle.call_contracts.specs.Shape.{RecoveredBy, Recovered}
+use Rattle.call_contracts.specs.declared.Answer.the-variants.{Done, Refused}
 
 -- ---- what the tests answered
 

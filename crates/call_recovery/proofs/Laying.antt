@@ -2,8 +2,8 @@
 use Rattle.basics.proofs.Kit.{_≡_, refl, sym, ap, _∙_, subst, true, some, List, ℕ, _+_, _≤_, length, arith}
 use Rattle.basics.specs.Basics.{all, paired}
 use Rattle.basics.proofs.Facts.{AllOf}
-use Rattle.blocks.specs.declared.Header.{Header}
-use Rattle.rows.specs.Rows.{transactions, follows}
+use Rattle.block_forms.specs.declared.Header.{Header}
+use Rattle.image_rows.specs.Rows.{transactions, follows}
 use Rattle.image.specs.Stages.{directoryBlocks, StoredPage, rowsOfPages}
 use Rattle.model.specs.Recover.{recoveredStore}
 use Rattle.memory_layout.specs.Flat.{Flat, flatOf, Becomes, Replaces, withHead}

@@ -1,8 +1,8 @@
 -- Blocks that are in use too: none, one, and one list after another.
 use Rattle.basics.proofs.Kit.{_≡_, refl, sym, ap, _∙_, Bool, true, false, _||_, List, [], _∷_, _++_, ℕ, eqb}
 use Rattle.basics.specs.Basics.{any, isIn}
-use Rattle.rows.proofs.Owners.{same-test}
-use Rattle.rows.proofs.Iterations.{any-cons}
+use Rattle.image_rows.proofs.Owners.{same-test}
+use Rattle.image_rows.proofs.Iterations.{any-cons}
 use Rattle.model.proofs.Lists.{in-append}
 use Rattle.memory_layout.specs.Flat.{usedAnd}
 use Rattle.call_recovery.specs.Loading.{usedBy}

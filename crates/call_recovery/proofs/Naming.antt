@@ -3,9 +3,9 @@ use Rattle.basics.proofs.Kit.{_≡_, refl, sym, ap, _∙_, subst, Bool, true, L
 use Rattle.basics.proofs.Kit.{getD, length-append, take-append-drop, length-map, take-all, take-suc, lt-ltb, ltb-true, arith}
 use Rattle.basics.specs.Basics.{all}
 use Rattle.basics.proofs.Facts.{and-true}
-use Rattle.rows.proofs.Iterations.{drop-turn}
-use Rattle.blocks.specs.Block.{Block, malformed, header, page, directory}
-use Rattle.reader.specs.Answers.{isPage}
+use Rattle.image_rows.proofs.Iterations.{drop-turn}
+use Rattle.block_forms.specs.Block.{Block, malformed, header, page, directory}
+use Rattle.block_reader.specs.Answers.{isPage}
 use Rattle.image.specs.View.{View}
 use Rattle.image.specs.Stages.{blockOk, StoredPage}
 use Rattle.image.proofs.Collect.{all-at}

@@ -4,9 +4,9 @@ use Rattle.basics.proofs.Kit.{take, drop, getD, set, length-append, take-append
 use Rattle.basics.proofs.Kit.{drop-cons, take-all, take-suc, getD-set-same, getD-set-other, eqb-true, eq-eqb, ne-eqb, eqb-false, ltb-true, ltb-false, arith}
 use Rattle.basics.specs.Basics.{if_then_else_, any, howMany}
 use Rattle.basics.proofs.Facts.{by}
-use Rattle.blocks.specs.Tuple.{Owner, committed, tentative, OwnerFits}
-use Rattle.rows.specs.Rows.{Row, isBy, isOwn, addOwner, transactions}
-use Rattle.rows.proofs.Owners.{in-transactions}
+use Rattle.block_forms.specs.Tuple.{Owner, committed, tentative, OwnerFits}
+use Rattle.image_rows.specs.Rows.{Row, isBy, isOwn, addOwner, transactions}
+use Rattle.image_rows.proofs.Owners.{in-transactions}
 use Rattle.model.specs.State.{Held, Active}
 use Rattle.model.specs.Recover.{reopened}
 use Rattle.model.proofs.Lists.{many-append, many-length, any-many}

@@ -4,14 +4,14 @@ use Rattle.basics.proofs.Kit.{getD, length-append, length-map, leb-true, arith}
 use Rattle.basics.specs.Basics.{all}
 use Rattle.basics.proofs.Lists.{map-append}
 use Rattle.basics.proofs.Facts.{clash, and-true}
-use Rattle.blocks.specs.Tuple.{Tuple}
-use Rattle.blocks.specs.Block.{Block, malformed, header, page, directory}
-use Rattle.blocks.specs.Decode.{decodeBlock}
-use Rattle.reader.specs.Answers.{isPage, reading}
-use Rattle.reader.specs.declared.Reading.{Reading}
-use Rattle.reader.specs.declared.Reading.the-variants.{IsPage}
-use Rattle.reader.proofs.Answering.{answer-page, OneOfThese}
-use Rattle.blocks.proofs.Laws.{decode-in-range}
+use Rattle.block_forms.specs.Tuple.{Tuple}
+use Rattle.block_forms.specs.Block.{Block, malformed, header, page, directory}
+use Rattle.block_forms.specs.Decode.{decodeBlock}
+use Rattle.block_reader.specs.Answers.{isPage, reading}
+use Rattle.block_reader.specs.declared.Reading.{Reading}
+use Rattle.block_reader.specs.declared.Reading.the-variants.{IsPage}
+use Rattle.block_reader.proofs.Answering.{answer-page, OneOfThese}
+use Rattle.block_forms.proofs.Laws.{decode-in-range}
 use Rattle.image.specs.View.{view, blockAt}
 use Rattle.image.specs.Stages.{StoredPage}
 use Rattle.model.specs.State.{Held}

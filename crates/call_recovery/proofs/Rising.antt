@@ -2,8 +2,8 @@
 use Rattle.basics.proofs.Kit.{_≡_, refl, Bool, true, _&&_, not, List, [], _∷_, _++_, ℕ, _≤_, leb, eqb, ltb, length, le-leb, leb-true, eqb-true, ltb-true, arith}
 use Rattle.basics.specs.Basics.{if_then_else_, all, paired}
 use Rattle.basics.proofs.Facts.{by, AllOf, and-true}
-use Rattle.blocks.specs.Tuple.{Tuple}
-use Rattle.rows.specs.Rows.{Row, rowsOf, isAt, isLower, follows}
+use Rattle.block_forms.specs.Tuple.{Tuple}
+use Rattle.image_rows.specs.Rows.{Row, rowsOf, isAt, isLower, follows}
 use Rattle.image.specs.Stages.{StoredPage, rowsOfPages}
 use Rattle.memory_layout.specs.declared.Entry.{Entry}
 use Rattle.call_recovery.specs.Loading.{entryFor, TablesRise}

@@ -3,10 +3,10 @@ use Rattle.basics.proofs.Kit.{_≡_, refl, sym, ap, _∙_, true, false, List, [
 use Rattle.basics.specs.Basics.{if_then_else_, all, howMany, isIn}
 use Rattle.basics.proofs.Facts.{AllOf}
 use Rattle.basics.proofs.Lists.{map-append}
-use Rattle.blocks.specs.Tuple.{Tuple, AllFit}
-use Rattle.blocks.specs.declared.Header.{Header}
-use Rattle.rows.specs.Rows.{Row, rowsOf, isOwn, transactions}
-use Rattle.rows.proofs.Kept.{count-kept, transactions-kept}
+use Rattle.block_forms.specs.Tuple.{Tuple, AllFit}
+use Rattle.block_forms.specs.declared.Header.{Header}
+use Rattle.image_rows.specs.Rows.{Row, rowsOf, isOwn, transactions}
+use Rattle.image_rows.proofs.Kept.{count-kept, transactions-kept}
 use Rattle.image.specs.Stages.{directoryBlocks, StoredPage, rowsOfPages}
 use Rattle.image.proofs.Collect.{length-rows}
 use Rattle.model.specs.State.{Held, idle}

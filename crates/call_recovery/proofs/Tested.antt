@@ -3,14 +3,14 @@ use Rattle.basics.proofs.Kit.{_≡_, refl, sym, ap, _∙_, subst, true, _&&_, n
 use Rattle.basics.proofs.Kit.{ltb-true, arith}
 use Rattle.basics.specs.Basics.{if_then_else_, all, every, paired, isEmpty, distinct}
 use Rattle.basics.proofs.Facts.{by, by-option, never, lie, AllOf, and-true}
-use Rattle.blocks.specs.Tuple.{Tuple, AllFit}
-use Rattle.blocks.specs.Block.{Block, malformed, header, page, directory}
-use Rattle.blocks.specs.declared.Header.{Header}
-use Rattle.rows.specs.Rows.{Row, number, rowsOk, transactions, follows, startsWell, isBelow}
+use Rattle.block_forms.specs.Tuple.{Tuple, AllFit}
+use Rattle.block_forms.specs.Block.{Block, malformed, header, page, directory}
+use Rattle.block_forms.specs.declared.Header.{Header}
+use Rattle.image_rows.specs.Rows.{Row, number, rowsOk, transactions, follows, startsWell, isBelow}
 use Rattle.image.specs.View.{View, view, blockCount}
 use Rattle.image.specs.Stages.{holds, wholeBlocks, blockOk, directoryBlocks, readDirectories, entriesOk, testedEntries, directoryTest, StoredPage, pageOk, addPage, readPages, rowsOfPages, testedPages, pageTest}
 use Rattle.image.specs.Whole.{headerStage, pagesBelow, pagesStage}
-use Rattle.naming.proofs.Heads.{Counts}
+use Rattle.image_header.proofs.Heads.{Counts}
 use Rattle.image.proofs.Staged.{Passing, passing, entries-count}
 use Rattle.model.proofs.Recovery.{refuses-holds, holds-eq, read-blocks}
 use Rattle.model.proofs.Bytes.{view-sane, blocks-whole}

@@ -6,9 +6,9 @@ use mathlib.Core.List.{List, [], _∷_, _++_, map}
 use lib.ListN.{length, take}
 use lib.Dec.{leb}
 use Rattle.basics.specs.Basics.{all, isIn}
-use Rattle.blocks.specs.Tuple.{Tuple}
-use Rattle.blocks.specs.Block.{Block, malformed, header, page, directory}
-use Rattle.blocks.specs.declared.Record.{Record}
+use Rattle.block_forms.specs.Tuple.{Tuple}
+use Rattle.block_forms.specs.Block.{Block, malformed, header, page, directory}
+use Rattle.block_forms.specs.declared.Record.{Record}
 use Rattle.image.specs.View.{View}
 use Rattle.image.specs.Stages.{StoredPage}
 use Rattle.model.specs.State.{Held}

@@ -5,8 +5,8 @@ use mathlib.Core.List.{List, [], _∷_, map}
 use lib.ListN.{length, getD, set}
 use lib.Dec.{eqb}
 use Rattle.basics.specs.Basics.{if_then_else_, any, howMany}
-use Rattle.blocks.specs.Tuple.{Owner, committed, tentative, OwnerFits}
-use Rattle.rows.specs.Rows.{Row, isOwn}
+use Rattle.block_forms.specs.Tuple.{Owner, committed, tentative, OwnerFits}
+use Rattle.image_rows.specs.Rows.{Row, isOwn}
 use Rattle.model.specs.State.{Held, Active}
 use Rattle.model.specs.Recover.{reopened}
 use Rattle.memory_layout.specs.Flat.{Flat}

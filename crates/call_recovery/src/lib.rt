@@ -1,9 +1,9 @@
 // Recovery: what an image holds, laid out in the working memory. All tests come first; only then is the memory touched. Rows and pages
 // are appended in the image's order, so that loading takes one pass.
-use blocks::Header;
-use blocks::Owner;
-use blocks::Record;
-use contracts::Answer;
+use block_forms::Header;
+use block_forms::Owner;
+use block_forms::Record;
+use call_contracts::Answer;
 use memory_layout::Head;
 use memory_layout::Open;
 use memory_rows::Pending;
@@ -14,12 +14,12 @@ ghost use mathlib.Core.List.{[], _++_, map};
 ghost use Prim.Native.Nat.{_+_, _*_, _≤_, _<_};
 ghost use lib.ListN.{length};
 ghost use Rattle.basics.specs.Basics.{all};
-ghost use Rattle.blocks.specs.Limits.{payloadLimit};
-ghost use Rattle.blocks.specs.Tuple.{OwnerFits};
-ghost use Rattle.blocks.specs.Decode.{decodeBlock};
-ghost use Rattle.blocks.specs.Bytes.{tupleOf, payloadIn, ownerIs};
-ghost use Rattle.reader.specs.Answers.{isPage};
-ghost use Rattle.rows.specs.Rows.{transactions};
+ghost use Rattle.block_forms.specs.Limits.{payloadLimit};
+ghost use Rattle.block_forms.specs.Tuple.{OwnerFits};
+ghost use Rattle.block_forms.specs.Decode.{decodeBlock};
+ghost use Rattle.block_forms.specs.Bytes.{tupleOf, payloadIn, ownerIs};
+ghost use Rattle.block_reader.specs.Answers.{isPage};
+ghost use Rattle.image_rows.specs.Rows.{transactions};
 ghost use Rattle.image.specs.View.{view, blockCount};
 ghost use Rattle.image.specs.Stages.{holds, blockOk};
 ghost use Rattle.image.specs.Whole.{headerStage, pagesStage};
@@ -29,7 +29,7 @@ ghost use Rattle.memory_layout.specs.Flat.{flatOf, Room, Becomes, withOpens, wi
 ghost use Rattle.memory_layout.specs.Store.{HoldsNow};
 ghost use Rattle.memory_rows.specs.Cells.{InOrder};
 ghost use Rattle.memory_pages.specs.Pages.{RowsBecome, behind, moreLast};
-ghost use Rattle.contracts.specs.Shape.{Recovered};
+ghost use Rattle.call_contracts.specs.Shape.{Recovered};
 ghost use Rattle.call_recovery.specs.Loading.{pageAt, pagesAt, tuplesIn, blocksIn, usedBy, rowFor, Fills, Loads, RoomFor};
 ghost use Rattle.call_recovery.specs.Reopening.{AllOwners, ownRows, Counts, Sized, noted, openedBy};
 
@@ -85,12 +85,12 @@ fn load_rows(block: &[u8], count: u32, m: &mut [u8])
     let mut at: usize = 8;
     let mut i: u32 = 0;
     while i < count {
-        match (reader::Cursor { at: at }).next(block) {
-            reader::Next::Found(r, c) => {
+        match (block_reader::Cursor { at: at }).next(block) {
+            block_reader::Next::Found(r, c) => {
                 load_row(block, r, m);
                 at = c.at;
             }
-            reader::Next::Bad => {
+            block_reader::Next::Bad => {
                 return;
             }
         }
@@ -107,8 +107,8 @@ fn load_page(image: &[u8], e: usize, m: &mut [u8])
     ensures { λ _. ⌜ Loads (pageAt e (view (now (image .entry)) e)) (now (m .entry)) (now (m .exit)) ⌝ }
 {
     let block = image::block_at(image, e);
-    match reader::known_page(&block) {
-        reader::Reading::IsPage {
+    match block_reader::known_page(&block) {
+        block_reader::Reading::IsPage {
             table,
             count,
             level: _,

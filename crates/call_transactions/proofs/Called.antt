@@ -6,10 +6,10 @@ use Rattle.model.specs.Sight.{versions}
 use Rattle.model.specs.Transactions.{gives, unless, notOpen, noTable, tooLong, withTuple, insertCall, replaceCall, deleteCall}
 use Rattle.memory_layout.specs.Flat.{flatOf}
 use Rattle.memory_layout.specs.Store.{holdsStore, storeOf, storeIn, pagesIn, HoldsNow}
-use Rattle.contracts.specs.Shape.{Answers}
-use Rattle.contracts.specs.declared.Answer.{Answer}
-use Rattle.contracts.specs.declared.Answer.the-variants.{Done, Refused}
-use Rattle.contracts.proofs.Answering.{answers-refused, answers-done}
+use Rattle.call_contracts.specs.Shape.{Answers}
+use Rattle.call_contracts.specs.declared.Answer.{Answer}
+use Rattle.call_contracts.specs.declared.Answer.the-variants.{Done, Refused}
+use Rattle.call_contracts.proofs.Answering.{answers-refused, answers-done}
 use Rattle.engine_lookup.specs.Lookup.{Shows}
 use Rattle.engine_lookup.specs.declared.Visibility.{Visibility}
 use Rattle.call_transactions.specs.Refusals.{verdict, verdictIn, callTests, keyTests}

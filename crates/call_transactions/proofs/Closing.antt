@@ -9,9 +9,9 @@ use Rattle.memory_layout.specs.Flat.{Flat, flatOf, Room, Becomes, withOpens}
 use Rattle.memory_layout.specs.Store.{storeOf, storeIn, pagesIn, HoldsNow}
 use Rattle.memory_layout.specs.Opens.{findOpen}
 use Rattle.memory_layout.proofs.Laws.{Sound, in-sound}
-use Rattle.contracts.specs.Shape.{Answers}
-use Rattle.contracts.specs.declared.Answer.the-variants.{Done, Refused}
-use Rattle.contracts.proofs.Answering.{answers-done}
+use Rattle.call_contracts.specs.Shape.{Answers}
+use Rattle.call_contracts.specs.declared.Answer.the-variants.{Done, Refused}
+use Rattle.call_contracts.proofs.Answering.{answers-done}
 use Rattle.engine_pages.specs.Pages.{withPages}
 use Rattle.call_transactions.specs.Refusals.{verdictIn}
 use Rattle.call_transactions.proofs.Opens.{without-found, without-none}

@@ -3,8 +3,8 @@ use Rattle.basics.proofs.Kit.{_≡_, refl, sym, ap, _∙_, ⊎-elim, true, fals
 use Rattle.basics.proofs.Kit.{eqb-true, eq-eqb, ne-eqb, eqb-false, arith}
 use Rattle.basics.specs.Basics.{if_then_else_}
 use Rattle.basics.proofs.Facts.{by}
-use Rattle.blocks.specs.Block.{header, encodeBlock}
-use Rattle.blocks.specs.declared.Header.{Header}
+use Rattle.block_forms.specs.Block.{header, encodeBlock}
+use Rattle.block_forms.specs.declared.Header.{Header}
 use Rattle.image.specs.Stages.{Stage, refuses, holds, wholeBlocks}
 use Rattle.model.specs.State.{Store}
 use Rattle.model.specs.Checkpoint.{headerFor}
@@ -12,8 +12,8 @@ use Rattle.model.specs.Recover.{memoryFor, putBlock, freshStore, make, madeImag
 use Rattle.model.proofs.Lists.{and-no, or-right}
 use Rattle.memory_layout.specs.Store.{FreshFits, HoldsNow}
 use Rattle.memory_bytes.proofs.Columns.{lt-or-ge}
-use Rattle.contracts.specs.Shape.{MadeBy, Made}
-use Rattle.contracts.specs.declared.Answer.the-variants.{Done, Refused}
+use Rattle.call_contracts.specs.Shape.{MadeBy, Made}
+use Rattle.call_contracts.specs.declared.Answer.the-variants.{Done, Refused}
 use Rattle.call_transactions.specs.Refusals.{makeVerdict}
 
 module _ (n : ℕ) (img m : List ℕ) where

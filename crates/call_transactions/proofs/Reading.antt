@@ -2,7 +2,7 @@
 use Rattle.basics.proofs.Kit.{_≡_, sym, ap, _∙_, Option, List, [], _∷_, ℕ, _≤_, _<_, ltb, length, lt-ltb, le-ltb, arith}
 use Rattle.basics.specs.Basics.{if_then_else_}
 use Rattle.basics.proofs.Facts.{by}
-use Rattle.rows.specs.Rows.{Row}
+use Rattle.image_rows.specs.Rows.{Row}
 use Rattle.model.specs.State.{Held, Store, Outcome}
 use Rattle.model.specs.Rules.{isCommitting, asCommitted, applied}
 use Rattle.model.specs.Sight.{seen}

@@ -3,8 +3,8 @@ use Rattle.basics.proofs.Kit.{_≡_, refl, sym, ap, _∙_, ⊎-elim, Bool, true
 use Rattle.basics.proofs.Kit.{eq-eqb, ne-eqb, eqb-false, ltb-false, arith}
 use Rattle.basics.specs.Basics.{if_then_else_, any, isSome, isIn}
 use Rattle.basics.proofs.Facts.{by, lie}
-use Rattle.blocks.specs.Limits.{payloadLimit}
-use Rattle.rows.specs.Rows.{Row}
+use Rattle.block_forms.specs.Limits.{payloadLimit}
+use Rattle.image_rows.specs.Rows.{Row}
 use Rattle.model.specs.State.{Store}
 use Rattle.model.specs.Sight.{held, versions}
 use Rattle.model.specs.Transactions.{Test, _when_, notOpen, noTable, foreign, present, unseen, full, openNumbers}

@@ -9,10 +9,10 @@ use Rattle.memory_layout.specs.Store.{holdsStore, storeOf, storeIn}
 use Rattle.memory_layout.proofs.Laws.{in-none, in-some}
 use Rattle.memory_layout.specs.Opens.{findOpen}
 use Rattle.call_transactions.proofs.Opens.{found-open, not-found-open}
-use Rattle.contracts.specs.Shape.{Answers, Replies}
+use Rattle.call_contracts.specs.Shape.{Answers, Replies}
 use Rattle.call_transactions.specs.Refusals.{verdict, verdictIn}
-use Rattle.contracts.specs.declared.Answer.the-variants.{Refused}
-use Rattle.contracts.proofs.Answering.{answers-4, answers-refused, replies-4, replies-refused}
+use Rattle.call_contracts.specs.declared.Answer.the-variants.{Refused}
+use Rattle.call_contracts.proofs.Answering.{answers-4, answers-refused, replies-4, replies-refused}
 use Rattle.model.specs.State as model
 
 -- ---- one test after the other

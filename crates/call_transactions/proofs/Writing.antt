@@ -1,7 +1,7 @@
 -- A tuple written: its row, the counters, the store with it.
 use Rattle.basics.proofs.Kit.{_≡_, refl, sym, ap, _∙_, Bool, some, List, ℕ, suc, _+_, _≤_, _<_, min, add-one, length, set, arith}
 use Rattle.basics.specs.Basics.{all}
-use Rattle.blocks.specs.Tuple.{Tuple, tentative}
+use Rattle.block_forms.specs.Tuple.{Tuple, tentative}
 use Rattle.model.specs.State.{Page, Active, Store}
 use Rattle.model.specs.Rules.{place}
 use Rattle.model.specs.Transactions.{changed, writtenBy, withWrite, newTuple}
@@ -11,7 +11,7 @@ use Rattle.memory_layout.specs.Opens.{activeOf, OpenFits, findOpen}
 use Rattle.memory_layout.specs.declared.Head.{Head}
 use Rattle.memory_layout.specs.declared.Open.{Open}
 use Rattle.memory_layout.proofs.Laws.{holds-room, holds-counted, held-again, becomes-then}
-use Rattle.blocks.specs.Bytes.{ownerIs}
+use Rattle.block_forms.specs.Bytes.{ownerIs}
 use Rattle.memory_rows.specs.declared.Row.{Row}
 use Rattle.memory_pages.specs.Spots.{tablePage, tableRow, tableRows, placeIn}
 use Rattle.engine_pages.specs.Pages.{withPages}

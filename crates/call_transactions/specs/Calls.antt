@@ -5,8 +5,8 @@ use mathlib.Core.List.{List, _∷_, _++_}
 use Prim.Native.Nat.{ℕ, suc, _+_, _≤_, _<_, min}
 use lib.ListN.{length, getD, set}
 use Rattle.basics.specs.Basics.{if_then_else_}
-use Rattle.blocks.specs.Limits.{payloadLimit}
-use Rattle.blocks.specs.Tuple.{tentative}
+use Rattle.block_forms.specs.Limits.{payloadLimit}
+use Rattle.block_forms.specs.Tuple.{tentative}
 use Rattle.model.specs.State.{Active, Store, Outcome}
 use Rattle.model.specs.Rules.{place}
 use Rattle.model.specs.Sight.{held}
@@ -15,7 +15,7 @@ use Rattle.memory_layout.specs.Flat.{Flat, flatOf, Room, withHead, withOpens, n
 use Rattle.memory_layout.specs.Store.{holdsStore}
 use Rattle.memory_layout.specs.Opens.{findOpen}
 use Rattle.memory_layout.specs.declared.Head.{Head}
-use Rattle.blocks.specs.Bytes.{ownerIs}
+use Rattle.block_forms.specs.Bytes.{ownerIs}
 use Rattle.memory_rows.specs.Rows.{RowFits}
 use Rattle.memory_rows.specs.declared.Pending.the-variants.{Nothing}
 use Rattle.memory_rows.specs.declared.Row.{Row}

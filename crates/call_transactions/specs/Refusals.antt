@@ -5,7 +5,7 @@ use mathlib.Core.List.{List, [], _∷_, _++_}
 use Prim.Native.Nat.{ℕ}
 use lib.Dec.{ltb}
 use Rattle.basics.specs.Basics.{if_then_else_}
-use Rattle.blocks.specs.Limits.{payloadLimit}
+use Rattle.block_forms.specs.Limits.{payloadLimit}
 use Rattle.image.specs.Stages.{Stage, refuses, holds}
 use Rattle.model.specs.State.{Store}
 use Rattle.model.specs.Transactions.{Test, _when_, notOpen, noTable, full}

@@ -1,11 +1,11 @@
 // Make, and the calls of transactions. No call asks anything of its caller: each contract says what the call answers and leaves, for
 // any memory and any arguments, by the model's function.
-use blocks::Header;
-use blocks::Owner;
-use blocks::PageLayout;
-use contracts::Answer;
-use engine_lookup::Visibility;
+use block_forms::Header;
+use block_forms::Owner;
+use block_forms::PageLayout;
+use call_contracts::Answer;
 use engine_lookup::Seen;
+use engine_lookup::Visibility;
 use memory_layout::Open;
 use memory_rows::Pending;
 use memory_rows::Row;
@@ -19,7 +19,7 @@ ghost use Rattle.model.specs.Recover.{make};
 ghost use Rattle.memory_layout.specs.Flat.{flatOf, Room, Becomes, withOpens};
 ghost use Rattle.memory_layout.specs.Store.{holdsStore, storeIn, storeOf, HoldsNow};
 ghost use Rattle.memory_layout.specs.Opens.{activeOf, OpenFits};
-ghost use Rattle.contracts.specs.Shape.{Answers, Replies, Lists, Made};
+ghost use Rattle.call_contracts.specs.Shape.{Answers, Replies, Lists, Made};
 ghost use Rattle.call_transactions.specs.Refusals.{verdict, verdictIn, callTests, keyTests, makeVerdict};
 ghost use Rattle.call_transactions.specs.Calls.{writeCall, oneMore, WriterAt, NextRow, afterCount, AcceptAt, afterWrite};
 
@@ -98,7 +98,7 @@ pub fn make(image: &mut [u8], m: &mut [u8], capacity: u64) -> Answer
         d2: 0,
         d3: 0,
     };
-    blocks::write_header(&mut image[0..BLOCK_SIZE], h);
+    block_forms::write_header(&mut image[0..BLOCK_SIZE], h);
     memory_layout::fresh(m, b, c);
     Answer::Done
 }

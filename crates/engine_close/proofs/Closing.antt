@@ -2,7 +2,7 @@
 use Rattle.basics.proofs.Kit.{_≡_, refl, sym, ap, _∙_, subst, ap₂, true, false, List, [], _∷_, _++_, ℕ, suc, _+_, _≤_, _<_, zero, _-_, add-one, length, take, drop, length-take, length-drop}
 use Rattle.basics.proofs.Kit.{drop-drop, take-add, drop-cons, take-nil, arith}
 use Rattle.basics.specs.Basics.{if_then_else_}
-use Rattle.blocks.specs.Tuple.{Tuple}
+use Rattle.block_forms.specs.Tuple.{Tuple}
 use Rattle.model.specs.State.{Held, Page}
 use Rattle.model.specs.Places.{tagged, carryOut, removeRow, commitRow, planNewest, commitPlace, OnlyRow}
 use Rattle.memory_layout.specs.Flat.{flatOf}

@@ -2,8 +2,8 @@
 use Rattle.basics.proofs.Kit.{_≡_, refl, sym, ap, _∙_, ⊎-elim, false, not, List, ℕ, _+_, _≤_, _<_, _-_, length, take, drop, getD, length-take, length-drop, getD-drop, getD-take, arith}
 use Rattle.basics.specs.Basics.{if_then_else_, any}
 use Rattle.basics.proofs.Facts.{by}
-use Rattle.blocks.specs.Tuple.{Owner, committed, tentative, isTentative}
-use Rattle.rows.specs.Rows.{isBy}
+use Rattle.block_forms.specs.Tuple.{Owner, committed, tentative, isTentative}
+use Rattle.image_rows.specs.Rows.{isBy}
 use Rattle.model.specs.State.{Held}
 use Rattle.model.specs.Rules.{isRemoving, isCommitting, applied, asCommitted}
 use Rattle.model.proofs.Lists.{off-any, and-no, all-at}

@@ -3,7 +3,7 @@ use Rattle.basics.proofs.Kit.{_≡_, refl, sym, ap, _∙_, subst, ap₂, Bool, 
 use Rattle.basics.proofs.Kit.{length-drop, length-map, drop-drop, take-add, drop-cons, take-all, arith}
 use Rattle.basics.specs.Basics.{if_then_else_, keep}
 use Rattle.basics.proofs.Facts.{by}
-use Rattle.rows.specs.Rows.{isBy, isOwn}
+use Rattle.image_rows.specs.Rows.{isBy, isOwn}
 use Rattle.model.specs.State.{Held, Page}
 use Rattle.model.specs.Rules.{isRemoving, applied}
 use Rattle.model.specs.Sight.{held}

@@ -3,7 +3,7 @@ use Rattle.basics.proofs.Kit.{_≡_, refl, sym, ap, _∙_, ap₂, true, false, 
 use Rattle.basics.proofs.Kit.{arith}
 use Rattle.basics.specs.Basics.{if_then_else_, keep, last}
 use Rattle.basics.proofs.Facts.{by, lie, AllOf}
-use Rattle.rows.specs.Rows.{isBy, isOwn}
+use Rattle.image_rows.specs.Rows.{isBy, isOwn}
 use Rattle.model.specs.State.{Held}
 use Rattle.model.specs.Rules.{isRemoving, applied}
 use Rattle.model.specs.Places.{removePlace, Placed, placed, continues, runs, liveOf, ownPlaced, removePlaces, planNewest, planRun, planRuns}

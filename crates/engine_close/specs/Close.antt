@@ -7,7 +7,7 @@ use mathlib.Core.Option.{some}
 use mathlib.Core.List.{List, []}
 use lib.ListN.{length, take, drop, getD}
 use Rattle.basics.specs.Basics.{keep}
-use Rattle.rows.specs.Rows.{isAt}
+use Rattle.image_rows.specs.Rows.{isAt}
 use Rattle.model.specs.State.{Held, Page}
 use Rattle.model.specs.Rules.{isRemoving, applied}
 use Rattle.model.specs.Places.{tagged, placed, runs, liveOf, ownPlaced, removePlaces, planNewest, planRuns, carryOut, removeRow}

@@ -3,7 +3,7 @@ use Rattle.basics.proofs.Kit.{_≡_, refl, sym, ap, _∙_, ⊎-elim, Bool, true
 use types.Run.{OneOf}
 use denote.Enum.Declared.{tagOf}
 use Rattle.basics.specs.Basics.{if_then_else_}
-use Rattle.blocks.specs.Tuple.{Owner, Tuple, committed}
+use Rattle.block_forms.specs.Tuple.{Owner, Tuple, committed}
 use Rattle.model.specs.State as model
 use Rattle.model.specs.State.{Held}
 use Rattle.model.specs.Rules.{isRemoving, isCommitting, applied, asCommitted}

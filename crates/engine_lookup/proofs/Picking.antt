@@ -2,8 +2,8 @@
 use Rattle.basics.proofs.Kit.{_≡_, refl, sym, ap, _∙_, Bool, true, false, some, none, List, ℕ, suc, _≤_, zero, _-_, length, arith}
 use Rattle.basics.specs.Basics.{if_then_else_, first, last}
 use Rattle.basics.proofs.Facts.{by}
-use Rattle.blocks.specs.Tuple.{Tuple}
-use Rattle.rows.specs.Rows.{Row, isOwn}
+use Rattle.block_forms.specs.Tuple.{Tuple}
+use Rattle.image_rows.specs.Rows.{Row, isOwn}
 use Rattle.model.specs.Sight.{versions, seenOf, seen}
 use Rattle.model.proofs.Rows.{applied-is}
 use Rattle.memory_layout.specs.Flat.{Flat, rowIn}

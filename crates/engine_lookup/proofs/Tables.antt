@@ -3,8 +3,8 @@ use Rattle.basics.proofs.Kit.{_≡_, refl, sym, ap, _∙_, List, [], _∷_, _++
 use Rattle.basics.proofs.Kit.{length-take-le, getD-take, ext-getD, ne-eqb, arith}
 use Rattle.basics.specs.Basics.{if_then_else_, keep, sum}
 use Rattle.basics.proofs.Facts.{by}
-use Rattle.blocks.specs.Tuple.{Tuple}
-use Rattle.rows.specs.Rows.{Row, rowsOf, isAt}
+use Rattle.block_forms.specs.Tuple.{Tuple}
+use Rattle.image_rows.specs.Rows.{Row, rowsOf, isAt}
 use Rattle.model.specs.State.{Held, Page}
 use Rattle.model.specs.Rules.{isRemoving, live}
 use Rattle.model.specs.Sight.{rows, versions}

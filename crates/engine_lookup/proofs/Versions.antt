@@ -3,8 +3,8 @@ use Rattle.basics.proofs.Kit.{_≡_, refl, sym, ap, _∙_, Bool, true, false, _
 use Rattle.basics.proofs.Kit.{eq-eqb, ne-eqb, arith}
 use Rattle.basics.specs.Basics.{if_then_else_, any, first, last, isEmpty, keep}
 use Rattle.basics.proofs.Facts.{by, never}
-use Rattle.blocks.specs.Tuple.{Tuple, Owner, committed, tentative, isTentative}
-use Rattle.rows.specs.Rows.{Row, rowsOf, isBy, isOwn, isAt}
+use Rattle.block_forms.specs.Tuple.{Tuple, Owner, committed, tentative, isTentative}
+use Rattle.image_rows.specs.Rows.{Row, rowsOf, isBy, isOwn, isAt}
 use Rattle.model.specs.State.{Held}
 use Rattle.model.specs.Rules.{isRemoving, applied, live}
 use Rattle.model.specs.Sight.{isForeign}

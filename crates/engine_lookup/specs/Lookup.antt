@@ -7,8 +7,8 @@ use Prim.Native.Nat.{ℕ, zero, suc, _+_, _≤_, _<_}
 use lib.ListN.{length}
 use lib.Dec.{eqb}
 use Rattle.basics.specs.Basics.{if_then_else_, any, first, last, isEmpty}
-use Rattle.blocks.specs.Tuple.{Owner, committed, tentative, isTentative}
-use Rattle.rows.specs.Rows.{Row, isOwn}
+use Rattle.block_forms.specs.Tuple.{Owner, committed, tentative, isTentative}
+use Rattle.image_rows.specs.Rows.{Row, isOwn}
 use Rattle.model.specs.State.{Held}
 use Rattle.model.specs.Rules.{isRemoving, applied}
 use Rattle.model.specs.Sight.{versions, isForeign}

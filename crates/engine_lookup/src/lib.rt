@@ -1,6 +1,6 @@
 // What a transaction sees of a key, on the working memory: the table's keys are searched by groups, and the rows between the first and the
 // last one with the key are looked at. Right for rows in any order. Every function only reads the memory.
-use blocks::Owner;
+use block_forms::Owner;
 use memory_rows::Pending;
 ghost use mathlib.Core.Path.{_≡_};
 ghost use mathlib.Core.Bool.{true};
@@ -10,7 +10,7 @@ ghost use Rattle.model.specs.Sight.{versions, seen};
 ghost use Rattle.memory_bytes.specs.Columns.{tab};
 ghost use Rattle.memory_layout.specs.Flat.{flatOf, rowIn, Room};
 ghost use Rattle.memory_layout.specs.Store.{holdsStore, pagesIn, storeOf};
-ghost use Rattle.blocks.specs.Bytes.{ownerIs};
+ghost use Rattle.block_forms.specs.Bytes.{ownerIs};
 ghost use Rattle.engine_lookup.specs.Lookup.{Shows, blank, noteCommitted, noteTentative, noteOwner, note, notes, picked, Sees, TableRange, Spots};
 
 // What there is of a key. foreign: a version of another open transaction; any: any version; own: 1 + the row of the last own
@@ -97,7 +97,14 @@ fn note_row(m: &[u8], i: usize, transaction: u64, visibility: Visibility) -> Vis
 }
 
 // The rows from `from` up to, not including, `to`; those of another key are passed by.
-pub fn note_rows(m: &[u8], from: usize, to: usize, transaction: u64, key: u32, visibility: Visibility) -> Visibility
+pub fn note_rows(
+    m: &[u8],
+    from: usize,
+    to: usize,
+    transaction: u64,
+    key: u32,
+    visibility: Visibility,
+) -> Visibility
     requires { ⌜ Room (now m) × (to ≤ length (flatOf (now m) .rows)) ⌝ }
     ensures { λ r. ⌜ r ≡ notes transaction key from (tab (rowIn (flatOf (now (m .entry)))) from (to - from)) visibility ⌝ }
 {

@@ -2,7 +2,7 @@
 use Rattle.basics.proofs.Kit.{_≡_, refl, sym, ap, _∙_, subst, true, false, List, [], _∷_, _++_, map, ℕ, suc, _+_, _*_, _<_, _-_, length, take, drop, getD, set, length-set, length-take-le}
 use Rattle.basics.proofs.Kit.{getD-set-same, set-at, set-set, arith}
 use Rattle.basics.specs.Basics.{if_then_else_}
-use Rattle.blocks.specs.Tuple.{Tuple}
+use Rattle.block_forms.specs.Tuple.{Tuple}
 use Rattle.model.specs.State.{adding, Held, Page}
 use Rattle.model.specs.Rules.{splitOnce, fresh, withoutPending, grown, entering, withPending, withTuples}
 use Rattle.memory_bytes.specs.Columns.{insertAt}

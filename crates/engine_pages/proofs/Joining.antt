@@ -3,7 +3,7 @@ use Rattle.basics.proofs.Kit.{_≡_, refl, sym, ap, _∙_, subst, Bool, true, f
 use Rattle.basics.proofs.Kit.{ne-eqb, arith}
 use Rattle.basics.specs.Basics.{sum, isEmpty}
 use Rattle.basics.proofs.Facts.{by, lie}
-use Rattle.blocks.specs.Limits.{joinSum}
+use Rattle.block_forms.specs.Limits.{joinSum}
 use Rattle.model.specs.State.{Held, Page}
 use Rattle.model.specs.Rules.{heldSize, joins, joined, fresh, settle, settleFull}
 use Rattle.model.specs.Places.{onPage}

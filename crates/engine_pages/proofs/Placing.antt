@@ -2,7 +2,7 @@
 use Rattle.basics.proofs.Kit.{_≡_, refl, sym, ap, _∙_, Bool, true, false, cond, some, none, Option, Option·map, List, [], _∷_, _++_, append-assoc, ℕ, suc, _≤_, _<_, zero, leb, eqb, take}
 use Rattle.basics.proofs.Kit.{drop, take-append-drop, lt-ltb, le-ltb, eq-eqb, ne-eqb, arith}
 use Rattle.basics.specs.Basics.{if_then_else_}
-use Rattle.blocks.specs.Tuple.{Tuple}
+use Rattle.block_forms.specs.Tuple.{Tuple}
 use Rattle.model.specs.State.{Held, Page}
 use Rattle.model.specs.Rules.{after, grown, entering, fresh, withoutPending, placeAfter, placeFront, place}
 use Rattle.memory_bytes.specs.Columns.{insertAt, lastIndex}

@@ -3,7 +3,7 @@ use Rattle.basics.proofs.Kit.{_≡_, refl, sym, ap, _∙_, Bool, true, false, _
 use Rattle.basics.proofs.Kit.{le-leb, lt-leb, arith}
 use Rattle.basics.specs.Basics.{if_then_else_, sum, any}
 use Rattle.basics.proofs.Facts.{AllOf}
-use Rattle.blocks.specs.Limits.{payloadLimit}
+use Rattle.block_forms.specs.Limits.{payloadLimit}
 use Rattle.model.specs.State.{Held}
 use Rattle.model.specs.Rules.{heldSize, lead}
 use Rattle.model.proofs.Splits.{Small}

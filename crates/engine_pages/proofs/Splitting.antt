@@ -2,7 +2,7 @@
 use Rattle.basics.proofs.Kit.{_≡_, refl, sym, ap, _∙_, subst, true, false, List, [], _∷_, map, ℕ, _+_, _≤_, _<_, _-_, take, drop, le-leb, lt-leb, arith}
 use Rattle.basics.specs.Basics.{if_then_else_, sum}
 use Rattle.basics.proofs.Facts.{AllOf}
-use Rattle.blocks.specs.Limits.{recordSpace}
+use Rattle.block_forms.specs.Limits.{recordSpace}
 use Rattle.model.specs.State.{Held, Page}
 use Rattle.model.specs.Rules.{heldSize, lead, half, fits, splitOnce, fresh}
 use Rattle.model.proofs.Splits.{Small, half-between}

@@ -2,7 +2,7 @@
 use Rattle.basics.proofs.Kit.{_≡_, refl, sym, ap, _∙_, ⊎-elim, Bool, true, false, none, List, [], _∷_, _++_, ℕ, suc, _+_, _≤_, _<_, zero, _-_, add-one, eqb, length, take, drop, getD}
 use Rattle.basics.proofs.Kit.{length-drop, take-add, getD-drop, length-take-le, getD-take, eqb-true, eqb-false, arith}
 use Rattle.basics.proofs.Facts.{by, lie}
-use Rattle.blocks.specs.Tuple.{Tuple}
+use Rattle.block_forms.specs.Tuple.{Tuple}
 use Rattle.model.specs.State.{Held, Page}
 use Rattle.model.specs.Rules.{placeAfter, placeFront, place, fresh, withoutPending}
 use Rattle.memory_bytes.specs.Columns.{lastIndex}

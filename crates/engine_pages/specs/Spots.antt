@@ -4,8 +4,8 @@ use mathlib.Core.Path.{_≡_}
 use mathlib.Core.Bool.{true}
 use mathlib.Core.List.{List}
 use lib.ListN.{length}
-use Rattle.blocks.specs.Limits.{payloadLimit}
-use Rattle.blocks.specs.Tuple.{Tuple}
+use Rattle.block_forms.specs.Limits.{payloadLimit}
+use Rattle.block_forms.specs.Tuple.{Tuple}
 use Rattle.model.specs.State.{Page}
 use Rattle.model.specs.Rules.{grown, entering}
 use Rattle.memory_bytes.specs.Columns.{insertAt}

@@ -1,6 +1,6 @@
 // The rules on pages, on the memory: placing, splitting, joining, dropping, freezing and thawing. Each function that changes pages
 // promises what the model's rule makes of them, for any memory that holds a store.
-use blocks::PageLayout;
+use block_forms::PageLayout;
 use memory_rows::Pending;
 use memory_rows::Row;
 ghost use mathlib.Core.Path.{_≡_};
@@ -10,7 +10,7 @@ ghost use Prim.Native.Nat.{_+_, _-_, _≤_, _<_};
 ghost use lib.ListN.{length, take, drop};
 ghost use lib.Dec.{leb};
 ghost use Rattle.basics.specs.Basics.{sum, any};
-ghost use Rattle.blocks.specs.Limits.{joinSum};
+ghost use Rattle.block_forms.specs.Limits.{joinSum};
 ghost use Rattle.model.specs.Rules.{heldSize, lead, fresh, withTuples, joins, isAdding, isCommitting, isRemoving, splitAll, freeze, withoutPending, applied, thaw, place};
 ghost use Rattle.model.specs.Places.{pendRemoveAt, removeRow, committedAt, commitRow};
 ghost use Rattle.memory_layout.specs.Flat.{flatOf, rowIn, Room, Becomes};

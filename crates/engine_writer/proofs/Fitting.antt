@@ -4,9 +4,9 @@ use mir.Syntax.{w8}
 use mir.Val as val
 use Rattle.basics.specs.Basics.{if_then_else_}
 use Rattle.basics.proofs.Facts.{by}
-use Rattle.blocks.specs.Tuple.{AllBytes, Fits, AllFit}
+use Rattle.block_forms.specs.Tuple.{AllBytes, Fits, AllFit}
 use Rattle.model.specs.Rules.{isAdding, shown}
-use Rattle.blocks.proofs.ReadTuples.{owner-fits}
+use Rattle.block_forms.proofs.ReadTuples.{owner-fits}
 use Rattle.memory_bytes.specs.Bytes.{le4, bytes}
 use Rattle.memory_bytes.proofs.Bytes.{length-bytes}
 use Rattle.memory_layout.specs.Places.{keysAt}

@@ -1,6 +1,6 @@
 -- Directory entries and directory blocks: one by one, and a run of them.
 use Rattle.basics.proofs.Kit.{_≡_, sym, ap, _∙_, List, ℕ, _+_, _≤_, _<_, add-one, length, take, drop, getD, set, length-drop, take-suc-set, take-all, take-suc, getD-drop, arith}
-use Rattle.blocks.specs.Limits.{entriesPerBlock}
+use Rattle.block_forms.specs.Limits.{entriesPerBlock}
 
 -- one entry more of a run
 pub entries-turn : (ns out : List ℕ) (first i v : ℕ) → i < length out → first + i < length ns → v ≡ getD ns (first + i) 0

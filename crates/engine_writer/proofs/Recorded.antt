@@ -1,9 +1,9 @@
 -- A row of the memory as a record of a page.
 use Rattle.basics.proofs.Kit.{_≡_, sym, _∙_, Bool, List, ℕ, _+_, _≤_, _<_, length, take, drop, getD-drop, getD-take, ext-getD, arith}
-use Rattle.blocks.specs.Tuple.{Tuple}
-use Rattle.blocks.specs.Bytes.{ownerIs, tupleOf}
-use Rattle.blocks.specs.declared.Owner.{Owner}
-use Rattle.blocks.proofs.Stores.{length-part}
+use Rattle.block_forms.specs.Tuple.{Tuple}
+use Rattle.block_forms.specs.Bytes.{ownerIs, tupleOf}
+use Rattle.block_forms.specs.declared.Owner.{Owner}
+use Rattle.block_forms.proofs.Stores.{length-part}
 use Rattle.memory_bytes.specs.Bytes.{bytes}
 use Rattle.memory_bytes.proofs.Bytes.{length-bytes, getD-bytes}
 use Rattle.memory_rows.specs.Rows.{Holds}

@@ -1,8 +1,8 @@
 -- What a run of rows shows, row by row.
 use Rattle.basics.proofs.Kit.{_≡_, sym, ap, _∙_, true, false, not, List, [], _∷_, ℕ, suc, _+_, _≤_, _<_, _-_, add-one, length, take, drop, getD, drop-cons, le-leb, lt-leb, arith}
 use Rattle.basics.specs.Basics.{if_then_else_}
-use Rattle.blocks.specs.Limits.{recordSpace}
-use Rattle.blocks.specs.Tuple.{Tuple, sizes}
+use Rattle.block_forms.specs.Limits.{recordSpace}
+use Rattle.block_forms.specs.Tuple.{Tuple, sizes}
 use Rattle.model.specs.State as model
 use Rattle.model.specs.State.{Held}
 use Rattle.model.specs.Rules.{isAdding, shown}

@@ -1,15 +1,15 @@
 -- A page's block while its rows are written: what it holds already, and what is still to come.
 use Rattle.basics.proofs.Kit.{_≡_, refl, sym, ap, _∙_, subst, List, [], _∷_, _++_, append-assoc, append-nil, ℕ, _+_, _≤_, _<_, _-_, length, length-append, arith}
 use Rattle.basics.specs.Basics.{sum}
-use Rattle.bits.specs.Bits.{over}
-use Rattle.blocks.specs.Tuple.{Tuple, size, sizes, OwnerFits, Fits, AllFit}
-use Rattle.blocks.specs.Spell.{zeros}
-use Rattle.blocks.specs.Block.{page, encodeBlock, PageFits}
-use Rattle.blocks.specs.Bytes.{payloadIn, tupleOf, sizeOf, recordBytes, Appendable, pageHead}
-use Rattle.blocks.specs.declared.Record.{Record}
-use Rattle.blocks.proofs.Stores.{length-part}
-use Rattle.blocks.proofs.Tuples.{count-sizes, record-size}
-use Rattle.blocks.proofs.Built.{Built, built-start, built-turn, built-length, built-end}
+use Rattle.block_bits.specs.Bits.{over}
+use Rattle.block_forms.specs.Tuple.{Tuple, size, sizes, OwnerFits, Fits, AllFit}
+use Rattle.block_forms.specs.Spell.{zeros}
+use Rattle.block_forms.specs.Block.{page, encodeBlock, PageFits}
+use Rattle.block_forms.specs.Bytes.{payloadIn, tupleOf, sizeOf, recordBytes, Appendable, pageHead}
+use Rattle.block_forms.specs.declared.Record.{Record}
+use Rattle.block_forms.proofs.Stores.{length-part}
+use Rattle.block_forms.proofs.Tuples.{count-sizes, record-size}
+use Rattle.block_forms.proofs.Built.{Built, built-start, built-turn, built-length, built-end}
 use Rattle.model.specs.Checkpoint.{storable}
 use Rattle.engine_writer.specs.Written.{Spells}
 use Rattle.engine_writer.proofs.Showing.{storable-all, storable-none}

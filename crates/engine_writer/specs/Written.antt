@@ -3,10 +3,10 @@ use Prim.Native.Nat.{ℕ, suc, _+_, _≤_}
 use mathlib.Core.Path.{_≡_}
 use mathlib.Core.List.{List}
 use lib.ListN.{length}
-use Rattle.blocks.specs.Tuple.{Tuple}
-use Rattle.blocks.specs.Bytes.{payloadIn, tupleOf}
-use Rattle.blocks.specs.declared.Header.{Header}
-use Rattle.blocks.specs.declared.Record.{Record}
+use Rattle.block_forms.specs.Tuple.{Tuple}
+use Rattle.block_forms.specs.Bytes.{payloadIn, tupleOf}
+use Rattle.block_forms.specs.declared.Header.{Header}
+use Rattle.block_forms.specs.declared.Record.{Record}
 use Rattle.model.specs.Checkpoint.{headerFor}
 use Rattle.memory_layout.specs.Flat.{Flat}
 use Rattle.memory_layout.specs.Store.{storeOf}

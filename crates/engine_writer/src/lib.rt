@@ -4,8 +4,8 @@ ghost use mathlib.Core.Bool.{not};
 ghost use mathlib.Core.List.{[]};
 ghost use Prim.Native.Nat.{_+_, _*_, _-_, _≤_, _<_};
 ghost use lib.ListN.{length, take, drop, getD};
-ghost use Rattle.blocks.specs.Limits.{entriesPerBlock};
-ghost use Rattle.blocks.specs.Block.{header, page, directory, encodeBlock};
+ghost use Rattle.block_forms.specs.Limits.{entriesPerBlock};
+ghost use Rattle.block_forms.specs.Block.{header, page, directory, encodeBlock};
 ghost use Rattle.model.specs.Rules.{isAdding, shown};
 ghost use Rattle.model.specs.Checkpoint.{storable};
 ghost use Rattle.memory_layout.specs.Flat.{flatOf, rowIn, Room};
@@ -34,7 +34,7 @@ pub fn write_header(out: &mut [u8], m: &[u8])
 {
     let h = memory_layout::get_head(m);
     let c = memory_layout::get_counts(m);
-    let block = blocks::Header {
+    let block = block_forms::Header {
         blocks: h.blocks,
         capacity: h.capacity,
         level: h.level + 1,
@@ -46,17 +46,17 @@ pub fn write_header(out: &mut [u8], m: &[u8])
         d2: directory_number(m, 2),
         d3: directory_number(m, 3),
     };
-    blocks::write_header(out, block);
+    block_forms::write_header(out, block);
 }
 
 // ---- the directory
 
 // count entries of the list of pages at begin, from the entry first on.
-fn named_from(m: &[u8], first: usize, count: usize) -> [u16; blocks::ENTRIES_PER_BLOCK]
+fn named_from(m: &[u8], first: usize, count: usize) -> [u16; block_forms::ENTRIES_PER_BLOCK]
     requires { ⌜ Room (now m) × ((count ≤ entriesPerBlock) × (first + count ≤ length (flatOf (now m) .named))) ⌝ }
     ensures { λ r. ⌜ take count r ≡ take count (drop first (flatOf (now (m .entry)) .named)) ⌝ }
 {
-    let mut entries = [0u16; blocks::ENTRIES_PER_BLOCK];
+    let mut entries = [0u16; block_forms::ENTRIES_PER_BLOCK];
     let mut i: usize = 0;
     while i < count {
         entries[i] = memory_layout::get_named(m, first + i);
@@ -71,13 +71,13 @@ pub fn write_directory(out: &mut [u8], m: &[u8], k: usize, level: u32)
     ensures { λ _. ⌜ now (out .exit) ≡ encodeBlock (directory level (take entriesPerBlock (drop (entriesPerBlock * k) (flatOf (now (m .entry)) .named)))) ⌝ }
 {
     let c = memory_layout::get_counts(m);
-    let first = blocks::ENTRIES_PER_BLOCK * k;
+    let first = block_forms::ENTRIES_PER_BLOCK * k;
     let mut count = c.named as usize - first;
-    if blocks::ENTRIES_PER_BLOCK < count {
-        count = blocks::ENTRIES_PER_BLOCK;
+    if block_forms::ENTRIES_PER_BLOCK < count {
+        count = block_forms::ENTRIES_PER_BLOCK;
     }
     let entries = named_from(m, first, count);
-    blocks::write_directory(out, level, &entries[0..count]);
+    block_forms::write_directory(out, level, &entries[0..count]);
 }
 
 // ---- a page
@@ -96,13 +96,13 @@ fn is_shown(m: &[u8], i: usize) -> bool
 }
 
 // Row i as a record. A pending commit or removal is not looked at.
-fn record_at(m: &[u8], i: usize) -> blocks::Record
+fn record_at(m: &[u8], i: usize) -> block_forms::Record
     requires { ⌜ Room (now m) × (i < length (flatOf (now m) .rows)) ⌝ }
     ensures { λ r. ⌜ Spells (now (m .entry)) r (rowIn (flatOf (now (m .entry))) i .tuple) ⌝ }
 {
     let p = memory_rows::payload_at(m, i);
     let o = memory_rows::owner_at(m, i);
-    blocks::Record {
+    block_forms::Record {
         key: memory_rows::key_at(m, i),
         number: memory_rows::number_at(m, i),
         owner: o,
@@ -118,8 +118,8 @@ fn write_empty(out: &mut [u8], table: u8, level: u32)
     ensures { λ _. ⌜ now (out .exit) ≡ encodeBlock (page table level []) ⌝ }
 {
     let mut block = [0u8; 512];
-    blocks::put_page_head(&mut block, table as u32, 0, 0, level);
-    blocks::copy(out, 0, &block, 0, 512);
+    block_forms::put_page_head(&mut block, table as u32, 0, 0, level);
+    block_forms::copy(out, 0, &block, 0, 512);
 }
 
 // The block of a page whose rows go from row s up to, not including, row e: what it showed when it was frozen, and nothing if that is
@@ -134,16 +134,16 @@ pub fn write_page(out: &mut [u8], m: &[u8], table: u8, s: usize, e: usize, level
     let mut i = s;
     while i < e {
         if is_shown(m, i) {
-            if 8 + blocks::PageLayout::RECORD_SPACE < at + memory_rows::size_at(m, i) {
+            if 8 + block_forms::PageLayout::RECORD_SPACE < at + memory_rows::size_at(m, i) {
                 write_empty(out, table, level);
                 return;
             }
             let r = record_at(m, i);
-            at = blocks::append(&mut block, at, r, m);
+            at = block_forms::append(&mut block, at, r, m);
             count += 1;
         }
         i += 1;
     }
-    blocks::put_page_head(&mut block, table as u32, count, at as u32 - 8, level);
-    blocks::copy(out, 0, &block, 0, 512);
+    block_forms::put_page_head(&mut block, table as u32, count, at as u32 - 8, level);
+    block_forms::copy(out, 0, &block, 0, 512);
 }

@@ -5,20 +5,20 @@ use Rattle.basics.proofs.Kit.{ltb-true, arith}
 use Rattle.basics.specs.Basics.{if_then_else_, all, every}
 use Rattle.basics.proofs.Facts.{by, by-option, never, and-true}
 use Rattle.basics.proofs.Lists.{map-append}
-use Rattle.bits.specs.Bits.{over}
-use Rattle.blocks.specs.Tuple.{Tuple}
-use Rattle.blocks.specs.Block.{Block, malformed, header, page, directory}
-use Rattle.blocks.specs.Decode.{readTuples, decodeBlock}
-use Rattle.blocks.specs.declared.Header.{Header}
-use Rattle.rows.specs.Rows.{Row, rowsOf, markOk, rowsOk}
-use Rattle.rows.specs.Columns.{bare, tab, rowsIn, columnsOk}
+use Rattle.block_bits.specs.Bits.{over}
+use Rattle.block_forms.specs.Tuple.{Tuple}
+use Rattle.block_forms.specs.Block.{Block, malformed, header, page, directory}
+use Rattle.block_forms.specs.Decode.{readTuples, decodeBlock}
+use Rattle.block_forms.specs.declared.Header.{Header}
+use Rattle.image_rows.specs.Rows.{Row, rowsOf, markOk, rowsOk}
+use Rattle.image_rows.specs.Columns.{bare, tab, rowsIn, columnsOk}
 use Rattle.basics.proofs.Ands.{and-yes, and-no, and-assoc}
-use Rattle.rows.proofs.Iterations.{drop-turn, drop-end}
-use Rattle.rows.proofs.Bare.{columns-bare, rows-tests}
-use Rattle.one_page.specs.Page.{goodPage}
-use Rattle.one_page.specs.declared.GoodPage.{GoodPage}
-use Rattle.one_page.specs.declared.GoodPage.the-variants.{Good, Bad}
-use Rattle.one_page.proofs.Decoded.{page-tuples}
+use Rattle.image_rows.proofs.Iterations.{drop-turn, drop-end}
+use Rattle.image_rows.proofs.Bare.{columns-bare, rows-tests}
+use Rattle.image_page.specs.Page.{goodPage}
+use Rattle.image_page.specs.declared.GoodPage.{GoodPage}
+use Rattle.image_page.specs.declared.GoodPage.the-variants.{Good, Bad}
+use Rattle.image_page.proofs.Decoded.{page-tuples}
 use Rattle.image.specs.View.{View, view, blockAt, blockCount}
 use Rattle.image.specs.Stages.{refuses, holds, blockOk, StoredPage, pageOk, addPage, readPages, rowsOfPages, testedPages, pageTest}
 use Rattle.image.specs.Answers.{accepts}

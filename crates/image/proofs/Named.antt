@@ -3,18 +3,18 @@ use Rattle.basics.proofs.Kit.{_≡_, refl, sym, ap, _∙_, subst, ⊎-elim, Boo
 use Rattle.basics.proofs.Kit.{_<_, _-_, min, add-one, eqb, length, take, drop, getD, set, length-append, length-take, take-suc, eqb-true, eq-eqb, ne-eqb, arith}
 use Rattle.basics.specs.Basics.{if_then_else_}
 use Rattle.basics.proofs.Facts.{by, never, lie, and-true, clash}
-use Rattle.bits.specs.Bits.{over}
-use Rattle.bits.proofs.Lists.{over-nil}
-use Rattle.blocks.specs.Block.{Block, malformed, header, page, directory}
-use Rattle.blocks.specs.Decode.{readEntries, decodeBlock}
-use Rattle.reader.specs.Answers.{reading}
-use Rattle.reader.specs.declared.Reading.{Reading}
-use Rattle.reader.specs.declared.Reading.the-variants.{IsDirectory}
-use Rattle.reader.proofs.Answering.{OneOfThese}
-use Rattle.blocks.proofs.Laws.{decode-in-range, decode-entries}
-use Rattle.blocks.proofs.Stores.{set-next, over-then}
+use Rattle.block_bits.specs.Bits.{over}
+use Rattle.block_bits.proofs.Lists.{over-nil}
+use Rattle.block_forms.specs.Block.{Block, malformed, header, page, directory}
+use Rattle.block_forms.specs.Decode.{readEntries, decodeBlock}
+use Rattle.block_reader.specs.Answers.{reading}
+use Rattle.block_reader.specs.declared.Reading.{Reading}
+use Rattle.block_reader.specs.declared.Reading.the-variants.{IsDirectory}
+use Rattle.block_reader.proofs.Answering.{OneOfThese}
+use Rattle.block_forms.proofs.Laws.{decode-in-range, decode-entries}
+use Rattle.block_forms.proofs.Stores.{set-next, over-then}
 use Rattle.basics.proofs.Ands.{and-no}
-use Rattle.rows.proofs.Iterations.{drop-turn, drop-end}
+use Rattle.image_rows.proofs.Iterations.{drop-turn, drop-end}
 use Rattle.image.specs.View.{View}
 use Rattle.image.specs.Stages.{addEntries, readDirectories}
 use Rattle.image.specs.Answers.{Filled}

@@ -3,15 +3,15 @@ use Rattle.basics.proofs.Kit.{_≡_, refl, sym, ap, _∙_, subst, ⊎-elim, Boo
 use Rattle.basics.proofs.Kit.{length, take, drop, length-append, length-take, length-replicate, take-at, le-leb, lt-leb, eqb-true, eq-eqb, ne-eqb, arith}
 use Rattle.basics.specs.Basics.{if_then_else_, all, every}
 use Rattle.basics.proofs.Facts.{by, never, lie, and-true, clash}
-use Rattle.bits.specs.Bits.{over}
-use Rattle.blocks.specs.Block.{Block, malformed, header, page, directory}
-use Rattle.blocks.specs.Decode.{decodeBlock}
-use Rattle.reader.specs.Answers.{reading}
-use Rattle.blocks.specs.declared.Header.{Header}
-use Rattle.reader.specs.declared.Reading.{Reading}
-use Rattle.reader.specs.declared.Reading.the-variants.{IsHeader}
-use Rattle.reader.proofs.Answering.{OneOfThese}
-use Rattle.rows.specs.Rows.{rowsOk}
+use Rattle.block_bits.specs.Bits.{over}
+use Rattle.block_forms.specs.Block.{Block, malformed, header, page, directory}
+use Rattle.block_forms.specs.Decode.{decodeBlock}
+use Rattle.block_reader.specs.Answers.{reading}
+use Rattle.block_forms.specs.declared.Header.{Header}
+use Rattle.block_reader.specs.declared.Reading.{Reading}
+use Rattle.block_reader.specs.declared.Reading.the-variants.{IsHeader}
+use Rattle.block_reader.proofs.Answering.{OneOfThese}
+use Rattle.image_rows.specs.Rows.{rowsOk}
 use Rattle.basics.proofs.Ands.{and-no}
 use Rattle.image.specs.View.{View, view, blockAt, blockCount}
 use Rattle.image.specs.Stages.{Stage, refuses, holds, wholeBlocks, blockOk, numbersOf, directoryBlocks, headerOk, headerTest, addEntries, readDirectories, entriesOk, testedEntries, directoryTest, StoredPage, addPage, pageOk, readPages, rowsOfPages, testedPages, pageTest}
@@ -19,7 +19,7 @@ use Rattle.image.specs.Whole.{headerStage, pagesBelow, pagesStage, withH
 use Rattle.image.specs.Answers.{Filled, accepts, headerAnswer, noEntries, entriesIn, pagesAnswer, imageAnswer}
 use Rattle.image.specs.declared.HeaderTest.the-variants.{Passed, Refused}
 use Rattle.image.specs.declared.PagesTest.{PagesTest}
-use Rattle.naming.proofs.Heads.{Counts, counts-are, header-tests}
+use Rattle.image_header.proofs.Heads.{Counts, counts-are, header-tests}
 use Rattle.image.proofs.Named.{filled-yes, filled-not}
 
 -- ---- 1 and 22

@@ -4,9 +4,9 @@ use mathlib.Core.Path.{_≡_}
 use mathlib.Core.Bool.{Bool, true, false}
 use mathlib.Core.Option.{Option, none, some}
 use mathlib.Core.List.{List, map}
-use Rattle.bits.specs.Bits.{over}
-use Rattle.blocks.specs.Spell.{zeros}
-use Rattle.blocks.specs.declared.Header.{Header}
+use Rattle.block_bits.specs.Bits.{over}
+use Rattle.block_forms.specs.Spell.{zeros}
+use Rattle.block_forms.specs.declared.Header.{Header}
 use Rattle.image.specs.Stages.{Stage, refuses, holds, StoredPage}
 use Rattle.image.specs.Whole.{Contents}
 use Rattle.image.specs.declared.HeaderTest.{HeaderTest}

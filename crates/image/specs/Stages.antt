@@ -6,17 +6,17 @@ use mathlib.Core.List.{List, [], _∷_, _++_}
 use lib.ListN.{length}
 use lib.Dec.{eqb, leb}
 use Rattle.basics.specs.Basics.{if_then_else_}
-use Rattle.blocks.specs.Limits.{entriesPerBlock}
-use Rattle.blocks.specs.Tuple.{Tuple}
-use Rattle.blocks.specs.Block.{Block, malformed, header, page, directory}
-use Rattle.blocks.specs.declared.Header.{Header}
-use Rattle.rows.specs.Rows.{Row, rowsOf, rowsOk}
+use Rattle.block_forms.specs.Limits.{entriesPerBlock}
+use Rattle.block_forms.specs.Tuple.{Tuple}
+use Rattle.block_forms.specs.Block.{Block, malformed, header, page, directory}
+use Rattle.block_forms.specs.declared.Header.{Header}
+use Rattle.image_rows.specs.Rows.{Row, rowsOf, rowsOk}
 use Rattle.image.specs.View.{View}
 -- what a header and its directories may count and name
-pub use Rattle.naming.specs.Names.{capacityLimit, numbersOf}
-unfoldable pub use Rattle.naming.specs.Names.{blockOk, isZero, directoriesFor, directoryBlocks, unusedNumbers, headerOk, entriesOk}
+pub use Rattle.image_header.specs.Names.{capacityLimit, numbersOf}
+unfoldable pub use Rattle.image_header.specs.Names.{blockOk, isZero, directoriesFor, directoryBlocks, unusedNumbers, headerOk, entriesOk}
 -- what a page block may be
-unfoldable pub use Rattle.one_page.specs.Page.{pageOk}
+unfoldable pub use Rattle.image_page.specs.Page.{pageOk}
 
 -- a stage's answer: the refusal's number, or what the image holds
 pub data Stage (A : Type 0) : Type 0 where

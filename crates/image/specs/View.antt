@@ -2,8 +2,8 @@
 use Prim.Native.Nat.{ℕ, _*_, _/_}
 use mathlib.Core.List.{List}
 use lib.ListN.{length, take, drop}
-use Rattle.blocks.specs.Block.{Block}
-use Rattle.blocks.specs.Decode.{decodeBlock}
+use Rattle.block_forms.specs.Block.{Block}
+use Rattle.block_forms.specs.Decode.{decodeBlock}
 
 -- the bytes of block i
 unfoldable pub blockAt : List ℕ → ℕ → List ℕ

@@ -3,7 +3,7 @@ use Prim.Native.Nat.{ℕ}
 use mathlib.Core.List.{List}
 use lib.ListN.{length}
 use Rattle.basics.specs.Basics.{if_then_else_}
-use Rattle.blocks.specs.declared.Header.{Header}
+use Rattle.block_forms.specs.declared.Header.{Header}
 use Rattle.image.specs.View.{View, view, blockCount}
 use Rattle.image.specs.Stages.{Stage, refuses, holds, wholeBlocks, headerTest, directoryTest, StoredPage, pageTest}
 

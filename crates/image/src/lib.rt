@@ -6,9 +6,9 @@ ghost use mathlib.Core.List.{[]};
 ghost use Prim.Native.Nat.{_+_, _*_, _≤_, min};
 ghost use lib.ListN.{length, take};
 ghost use Rattle.basics.specs.Basics.{all};
-ghost use Rattle.bits.specs.Bits.{over};
-ghost use Rattle.blocks.specs.Limits.{entriesPerBlock};
-ghost use Rattle.blocks.specs.Decode.{decodeBlock};
+ghost use Rattle.block_bits.specs.Bits.{over};
+ghost use Rattle.block_forms.specs.Limits.{entriesPerBlock};
+ghost use Rattle.block_forms.specs.Decode.{decodeBlock};
 ghost use Rattle.image.specs.View.{view, blockAt, blockCount};
 ghost use Rattle.image.specs.Stages.{refuses, holds, blockOk, addEntries, readDirectories, pageTest};
 ghost use Rattle.image.specs.Whole.{headerStage, pagesStage, readImage};
@@ -16,7 +16,7 @@ ghost use Rattle.image.specs.Answers.{Filled, accepts, noEntries, header
 
 // A header, or the refusal's number.
 pub enum HeaderTest {
-    Passed(blocks::Header),
+    Passed(block_forms::Header),
     Refused(u64),
 }
 
@@ -29,7 +29,7 @@ pub struct PagesTest {
 // The refusal's number, or 0 and what the image holds; all else is 0.
 pub struct ImageTest {
     pub refusal: u64,
-    pub header: blocks::Header,
+    pub header: block_forms::Header,
     pub entries: [u32; 1024],
 }
 
@@ -53,7 +53,7 @@ pub fn block_at(image: &[u8], e: usize) -> [u8; 512]
     ensures { λ r. ⌜ r ≡ blockAt (now (image .entry)) e ⌝ }
 {
     let mut block = [0u8; 512];
-    blocks::copy(&mut block, 0, image, 512 * e, 512);
+    block_forms::copy(&mut block, 0, image, 512 * e, 512);
     block
 }
 
@@ -61,7 +61,7 @@ pub fn block_at(image: &[u8], e: usize) -> [u8; 512]
 fn test_rows(
     image: &[u8],
     entries: &[u32],
-    h: blocks::Header,
+    h: block_forms::Header,
     places: &mut [u64],
     numbers: &mut [u32],
     owners: &mut [u64],
@@ -78,22 +78,22 @@ fn test_rows(
     let mut to: usize = 0;
     while i < entries.len() {
         let block = block_at(image, wide(entries[i]));
-        match one_page::good_page(&block, level, cap - to) {
-            one_page::GoodPage::Good { table, count } => {
-                one_page::add_rows(&block, table, count, places, numbers, owners, marks, to);
+        match image_page::good_page(&block, level, cap - to) {
+            image_page::GoodPage::Good { table, count } => {
+                image_page::add_rows(&block, table, count, places, numbers, owners, marks, to);
                 to = to + wide(count);
             }
-            one_page::GoodPage::Bad => {
+            image_page::GoodPage::Bad => {
                 return false;
             }
         }
         i = i + 1;
     }
-    rows::columns_ok(places, numbers, owners, marks, to, h.next)
+    image_rows::columns_ok(places, numbers, owners, marks, to, h.next)
 }
 
 // The tests of refusal 24.
-fn pages_ok(image: &[u8], entries: &[u32], h: blocks::Header) -> bool
+fn pages_ok(image: &[u8], entries: &[u32], h: block_forms::Header) -> bool
     requires { ⌜ all (blockOk (blockCount (now image))) (now entries) ≡ true ⌝ }
     requires { ⌜ h .capacity ≤ 1024 ⌝ }
     ensures { λ r. ⌜ r ≡ accepts (pageTest (view (now (image .entry))) h (now (entries .entry))) ⌝ }
@@ -117,10 +117,10 @@ fn pages_ok(image: &[u8], entries: &[u32], h: blocks::Header) -> bool
 fn due(left: usize) -> usize
     ensures { λ r. ⌜ r ≡ min entriesPerBlock left ⌝ }
 {
-    if left < blocks::ENTRIES_PER_BLOCK {
+    if left < block_forms::ENTRIES_PER_BLOCK {
         return left;
     }
-    blocks::ENTRIES_PER_BLOCK
+    block_forms::ENTRIES_PER_BLOCK
 }
 
 // The first entries of a directory block over those of out from a place on.
@@ -140,15 +140,15 @@ fn add_entries(block: &[u8; 512], level: u32, left: usize, out: &mut [u32], at: 
     requires { ⌜ at + left ≤ length (now out) ⌝ }
     ensures { λ r. ⌜ Filled (addEntries level left (decodeBlock (now (block .entry))) (some [])) at (now (out .entry)) r (now (out .exit)) ⌝ }
 {
-    match reader::read_block(block) {
-        reader::Reading::IsDirectory { count, level: k } => {
+    match block_reader::read_block(block) {
+        block_reader::Reading::IsDirectory { count, level: k } => {
             if k != level {
                 return false;
             }
             if count != due(left) {
                 return false;
             }
-            let entries = reader::read_entries(block, count);
+            let entries = block_reader::read_entries(block, count);
             put_entries(out, at, &entries, count);
             true
         }
@@ -192,9 +192,9 @@ pub fn test_header(image: &[u8]) -> HeaderTest
         return HeaderTest::Refused(1);
     }
     let block = block_at(image, 0);
-    match reader::read_block(&block) {
-        reader::Reading::IsHeader(h) => {
-            if naming::head_ok(h, n as u32) {
+    match block_reader::read_block(&block) {
+        block_reader::Reading::IsHeader(h) => {
+            if image_header::head_ok(h, n as u32) {
                 return HeaderTest::Passed(h);
             }
             HeaderTest::Refused(22)
@@ -222,7 +222,7 @@ fn refused_pages(n: u64) -> PagesTest
 }
 
 // Tests 23 and 24, below a header that passed.
-pub fn test_pages(image: &[u8], h: blocks::Header) -> PagesTest
+pub fn test_pages(image: &[u8], h: block_forms::Header) -> PagesTest
     requires { ⌜ headerStage (now image) ≡ holds h ⌝ }
     ensures { λ r. ⌜ r ≡ pagesAnswer (pagesStage (view (now (image .entry))) h) ⌝ }
 {
@@ -233,7 +233,7 @@ pub fn test_pages(image: &[u8], h: blocks::Header) -> PagesTest
     if !gather(image, h.level, pages, &directories[..used], &mut entries) {
         return refused_pages(23);
     }
-    if !naming::entries_ok(&entries[..pages], &directories[..used], h.blocks) {
+    if !image_header::entries_ok(&entries[..pages], &directories[..used], h.blocks) {
         return refused_pages(23);
     }
     if !pages_ok(image, &entries[..pages], h) {
@@ -250,7 +250,7 @@ fn refused_image(n: u64) -> ImageTest
     ensures { λ r. ⌜ r ≡ imageAnswer (refuses n) ⌝ }
 {
     let entries = no_entries();
-    let none = blocks::Header {
+    let none = block_forms::Header {
         blocks: 0,
         capacity: 0,
         level: 0,

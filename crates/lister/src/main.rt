@@ -2,5 +2,5 @@
 use libc::STDIN_FILENO;
 
 fn main() {
-    listing::print(STDIN_FILENO);
+    lister_text::print(STDIN_FILENO);
 }

@@ -5,7 +5,7 @@ fn list_file(path: &[u8]) {
         os::fail(path);
         return;
     }
-    listing::print(fd);
+    lister_text::print(fd);
     libc::close(fd);
 }
 

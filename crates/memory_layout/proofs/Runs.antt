@@ -1,7 +1,7 @@
 -- Pages as runs of the rows: as many tuples are held as there are rows.
 use Rattle.basics.proofs.Kit.{_≡_, refl, sym, _∙_, List, [], _∷_, map, length, take, drop, length-append, length-drop, length-map, length-take-le, arith}
 use Rattle.basics.specs.Basics.{sum}
-use Rattle.rows.specs.Rows.{rowsOf}
+use Rattle.image_rows.specs.Rows.{rowsOf}
 use Rattle.image.proofs.Collect.{length-rows}
 use Rattle.model.specs.State.{Held}
 use Rattle.model.specs.Sight.{held}

@@ -5,7 +5,7 @@ use mathlib.Core.Bool.{Bool, false, _||_}
 use mathlib.Core.List.{List, [], _∷_, _++_}
 use lib.ListN.{length, take, drop, getD}
 use lib.Dec.{eqb}
-use Rattle.blocks.specs.Tuple.{committed}
+use Rattle.block_forms.specs.Tuple.{committed}
 use Rattle.model.specs.State.{nothing, Held, Active}
 use Rattle.memory_bytes.specs.Bytes.{le4}
 use Rattle.memory_bytes.specs.Columns.{tab}

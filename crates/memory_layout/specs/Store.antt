@@ -7,8 +7,8 @@ use mathlib.Core.List.{List, [], _∷_, _++_}
 use lib.ListN.{length, take, drop}
 use lib.Dec.{leb, ltb, eqb}
 use Rattle.basics.specs.Basics.{if_then_else_, every, all, sum, from}
-use Rattle.blocks.specs.Limits.{mostNumber}
-use Rattle.rows.specs.Rows.{openLimit}
+use Rattle.block_forms.specs.Limits.{mostNumber}
+use Rattle.image_rows.specs.Rows.{openLimit}
 use Rattle.image.specs.Stages.{capacityLimit}
 use Rattle.model.specs.State.{Held, Page, Checkpoint, idle, running, Store}
 use Rattle.model.specs.Recover.{memoryFor}

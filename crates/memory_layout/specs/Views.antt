@@ -6,8 +6,8 @@ use lib.ListN.{getD}
 use lib.Dec.{eqb, ltb, leb}
 use Rattle.basics.specs.Basics.{if_then_else_, howMany, from}
 use Rattle.memory_bytes.specs.Bytes.{le2, le4, bytes}
-use Rattle.blocks.specs.Limits.{payloadLimit}
-use Rattle.blocks.specs.Decode.{readOwner, readMark}
+use Rattle.block_forms.specs.Limits.{payloadLimit}
+use Rattle.block_forms.specs.Decode.{readOwner, readMark}
 use Rattle.model.specs.State.{Pending, nothing, adding, committing, removing, Held, Active}
 use Rattle.memory_layout.specs.Places.{tablesAt, directoriesAt, opensAt, usedAt, slotsAt, slotSize, keysAt, refsAt, statesAt, startsAt, blocksAt, namedAt}
 use Rattle.memory_layout.specs.declared.Head.{Head}

@@ -5,7 +5,7 @@ use Rattle.memory_bytes.specs.Bytes.{le4, bytes, column4}
 use Rattle.memory_bytes.proofs.Columns.{getD-tab, tab-cong}
 use Rattle.model.specs.State.{Held}
 use Rattle.memory_layout.specs.Places.{keysAt}
-use Rattle.blocks.specs.Decode.{readOwner, readMark}
+use Rattle.block_forms.specs.Decode.{readOwner, readMark}
 use Rattle.memory_layout.specs.Views.{rowCount, rowAt, heldOf, pendingOf, lengthOf, keyOf, refOf, stateOf, slotPlace}
 use Rattle.memory_layout.specs.Flat.{flatOf, rowsOf, capacityOf, rowIn, noRow, Room}
 use Rattle.memory_layout.proofs.Laws.{rows-length, known}

@@ -2,7 +2,7 @@
 use Rattle.basics.proofs.Kit.{_≡_, refl, sym, ap, _∙_, subst, ⊎-elim, false, _||_, List, [], _∷_, _++_, ℕ, suc, _+_, _*_, _≤_, _<_, zero, length, drop, length-append, drop-length}
 use Rattle.basics.proofs.Kit.{take-length, ne-eqb, arith}
 use Rattle.basics.specs.Basics.{any}
-use Rattle.blocks.specs.Bytes.{ownerIs, flagsOf, ownerWord}
+use Rattle.block_forms.specs.Bytes.{ownerIs, flagsOf, ownerWord}
 use Rattle.memory_bytes.specs.Bytes.{bytes4, Wrote}
 use Rattle.memory_bytes.specs.Columns.{tab, equals, insertAt}
 use Rattle.memory_bytes.proofs.Columns.{lt-or-ge}

@@ -1,8 +1,8 @@
 -- One row exchanged by a change of its columns: another state, another pending operation.
 use Rattle.basics.proofs.Kit.{_≡_, refl, sym, ap, _∙_, ⊎-elim, Bool, List, [], _∷_, ℕ, _+_, _*_, _%_, _≤_, _<_, _/_, min, leb, eqb, ltb, length, getD, le-ltb, arith}
 use Rattle.basics.specs.Basics.{if_then_else_}
-use Rattle.blocks.specs.Limits.{payloadLimit}
-use Rattle.blocks.specs.Tuple.{committed, tentative}
+use Rattle.block_forms.specs.Limits.{payloadLimit}
+use Rattle.block_forms.specs.Tuple.{committed, tentative}
 use Rattle.model.specs.State as model
 use Rattle.model.specs.State.{Held}
 use Rattle.model.specs.Rules.{asCommitted, withPending}
@@ -11,7 +11,7 @@ use Rattle.memory_bytes.specs.Columns.{tab}
 use Rattle.memory_bytes.proofs.Bytes.{le2-below, le2-above, le4-below, le2-wrote}
 use Rattle.memory_bytes.proofs.Columns.{lt-or-ge, tab-set}
 use Rattle.memory_layout.specs.Places.{keysAt, refsAt, statesAt, startsAt}
-use Rattle.blocks.specs.Decode.{readOwner, readMark}
+use Rattle.block_forms.specs.Decode.{readOwner, readMark}
 use Rattle.memory_layout.specs.Views.{rowCount, pendingOf, lengthOf, slotOf, slotPlace, keyOf, refOf, stateOf, heldOf, rowAt}
 use Rattle.memory_layout.specs.Flat.{flatOf, capacityOf, rowsOf, rowIn, Room, Becomes}
 use Rattle.memory_layout.proofs.Laws.{rows-length}

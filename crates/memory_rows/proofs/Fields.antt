@@ -1,11 +1,11 @@
 -- Numbers of a row's columns as the model's values.
 use Rattle.basics.proofs.Kit.{_≡_, refl, sym, ap, _∙_, Bool, true, false, _&&_, List, ℕ, _+_, _≤_, _<_, ltb, length, arith}
 use Rattle.basics.specs.Basics.{if_then_else_}
-use Rattle.blocks.specs.Tuple.{Tuple, size, ownerSize}
-use Rattle.rows.specs.Rows.{isBy}
+use Rattle.block_forms.specs.Tuple.{Tuple, size, ownerSize}
+use Rattle.image_rows.specs.Rows.{isBy}
 use Rattle.model.specs.State.{Pending, nothing, adding, committing, removing, Held}
 use Rattle.model.specs.Rules.{heldSize, isRemoving, isCommitting, applied, asCommitted}
-use Rattle.blocks.proofs.ReadTuples.{owner-size}
+use Rattle.block_forms.proofs.ReadTuples.{owner-size}
 use Rattle.memory_bytes.specs.Bytes.{le4}
 use Rattle.memory_bytes.proofs.Bytes.{length-bytes}
 use Rattle.memory_layout.specs.Views.{lengthOf, stateOf, slotPlace}

@@ -2,11 +2,11 @@
 use Rattle.basics.proofs.Kit.{_≡_, refl, sym, ap, _∙_, ap₂, Bool, _||_, List, ℕ, suc, _+_, _*_, _≤_, _<_, zero, _-_, ltb, length, take, drop, getD, arith}
 use Rattle.basics.specs.Basics.{if_then_else_, any}
 use Rattle.basics.proofs.Facts.{by}
-use Rattle.blocks.specs.Tuple.{isTentative}
+use Rattle.block_forms.specs.Tuple.{isTentative}
 use Rattle.memory_bytes.specs.Columns.{tab}
 use Rattle.memory_bytes.proofs.Columns.{take-tab, drop-tab}
 use Rattle.model.proofs.Lists.{any-cons}
-use Rattle.blocks.specs.Decode.{readOwner}
+use Rattle.block_forms.specs.Decode.{readOwner}
 use Rattle.memory_layout.specs.Views.{rowCount, rowAt, heldOf, stateOf}
 use Rattle.memory_layout.specs.Flat.{flatOf, rowsOf, capacityOf}
 use Rattle.memory_rows.specs.Rows.{isOwned}

@@ -2,21 +2,21 @@
 use Rattle.basics.proofs.Kit.{_≡_, sym, ap, _∙_, ⊎-elim, Bool, true, false, List, ℕ, suc, _+_, _*_, _%_, _≤_, _<_, _-_, min, zero-add, min-eq-left, eqb, ltb, length, getD, lt-ltb, eq-eqb}
 use Rattle.basics.proofs.Kit.{arith}
 use Rattle.basics.specs.Basics.{if_then_else_}
-use Rattle.blocks.specs.Limits.{payloadLimit}
-use Rattle.blocks.specs.Tuple.{Owner}
+use Rattle.block_forms.specs.Limits.{payloadLimit}
+use Rattle.block_forms.specs.Tuple.{Owner}
 use Rattle.memory_bytes.specs.Bytes.{le4, bytes, bytes2, bytes4, Wrote}
 use Rattle.memory_bytes.specs.Columns.{tab, equals, insertAt, removeAt}
 use Rattle.memory_bytes.proofs.Bytes.{le2-below, le4-below, le4-wrote}
 use Rattle.memory_bytes.proofs.Columns.{lt-or-ge, length-tab, getD-tab, tab-insert, tab-remove}
 use Rattle.memory_bytes.proofs.Found.{any-none}
 use Rattle.memory_layout.specs.Places.{keysAt, refsAt, statesAt, startsAt}
-use Rattle.blocks.specs.Decode.{readOwner}
+use Rattle.block_forms.specs.Decode.{readOwner}
 use Rattle.memory_layout.specs.Views.{rowCount, lengthOf, slotOf, slotPlace, keyOf, refOf, stateOf, heldOf, rowAt}
 use Rattle.memory_layout.specs.Flat.{capacityOf, rowsOf}
 use Rattle.memory_layout.proofs.Laws.{rows-length}
 use Rattle.memory_layout.proofs.Frame.{Same, same4, same-bytes, within, within4, moved-row, slot-below}
-use Rattle.blocks.specs.Bytes.{ownerIs, flagsOf, ownerWord}
-use Rattle.blocks.proofs.ReadBack.{flags-length, flags-mark, flags-owner}
+use Rattle.block_forms.specs.Bytes.{ownerIs, flagsOf, ownerWord}
+use Rattle.block_forms.proofs.ReadBack.{flags-length, flags-mark, flags-owner}
 use Rattle.memory_rows.specs.Rows.{heldBy, RowFits, RowsOnly}
 use Rattle.memory_rows.specs.Cells.{codeOf, Capacity, slotIn, slotAt, isTaken, SameCells, RowsRaised, RowsLowered, CellsPut, SlotFilled}
 use Rattle.memory_rows.specs.declared.Row.{Row}

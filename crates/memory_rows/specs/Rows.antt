@@ -4,10 +4,10 @@ use mathlib.Core.Path.{_≡_}
 use mathlib.Core.Bool.{Bool, not, _&&_}
 use mathlib.Core.List.{List, _++_}
 use lib.ListN.{length, drop, getD, set}
-use Rattle.blocks.specs.Limits.{payloadLimit}
-use Rattle.blocks.specs.Tuple.{isTentative, OwnerFits}
-use Rattle.blocks.specs.Bytes.{ownerIs}
-use Rattle.rows.specs.Rows.{isBy}
+use Rattle.block_forms.specs.Limits.{payloadLimit}
+use Rattle.block_forms.specs.Tuple.{isTentative, OwnerFits}
+use Rattle.block_forms.specs.Bytes.{ownerIs}
+use Rattle.image_rows.specs.Rows.{isBy}
 use Rattle.model.specs.State as model
 use Rattle.model.specs.State.{Held}
 use Rattle.model.specs.Rules.{isRemoving, applied, asCommitted}

@@ -1,7 +1,7 @@
 // The rows of the working memory, in list order as three columns: key, slot with pending operation, state. Number, owner and payload
 // stand in slots that never move while a row lives. docs/LAYOUT.md says what stands where. Above this crate a row has typed values only.
-use blocks::Owner;
-use blocks::PageLayout;
+use block_forms::Owner;
+use block_forms::PageLayout;
 use memory_bytes::Span;
 ghost use mathlib.Core.Path.{_≡_};
 ghost use mathlib.Core.Bool.{false};
@@ -9,14 +9,14 @@ ghost use mathlib.Core.List.{List, _∷_, [], _++_};
 ghost use Prim.Native.Nat.{ℕ, _+_, _*_, _-_, _≤_, _<_};
 ghost use lib.ListN.{length, take, drop};
 ghost use Rattle.basics.specs.Basics.{any};
-ghost use Rattle.blocks.specs.Limits.{payloadLimit};
-ghost use Rattle.rows.specs.Rows.{isBy};
+ghost use Rattle.block_forms.specs.Limits.{payloadLimit};
+ghost use Rattle.image_rows.specs.Rows.{isBy};
 ghost use Rattle.model.specs.Rules.{heldSize, withPending};
 ghost use Rattle.memory_bytes.specs.Columns.{tab, insertAt, removeAt, firstIndex, lastIndex, equals, upTo, Covers};
 ghost use Rattle.memory_layout.specs.Places.{slotSize, keysAt, refsAt, statesAt};
 ghost use Rattle.memory_layout.specs.Views.{lengthOf, slotOf, slotPlace, refOf, stateOf, pendingOf};
 ghost use Rattle.memory_layout.specs.Flat.{flatOf, capacityOf, rowIn, Room, Becomes};
-ghost use Rattle.blocks.specs.Bytes.{ownerIs};
+ghost use Rattle.block_forms.specs.Bytes.{ownerIs};
 ghost use Rattle.memory_rows.specs.Rows.{pendingIs, heldBy, committedRow, isLiveOwn, isOwned, withRow, keyIn, Holds, Copied, NewRow, RowsOnly};
 ghost use Rattle.memory_rows.specs.Cells.{codeOf, keepsOwner, slotIn, slotAt, isTaken, InOrder, Capacity, ColumnsFit, EightFits, EightOf, EightPut, RowsRaised, RowsLowered, CellsPut, SlotFilled};
 
@@ -184,14 +184,14 @@ pub fn owner_at(m: &[u8], i: usize) -> Owner
     ensures { λ r. ⌜ ownerIs r ≡ rowIn (flatOf (now (m .entry))) i .tuple .owner ⌝ }
 {
     let w = memory_bytes::get4(m, slot_place(m, i) + 4);
-    blocks::owner_of(state_at(m, i), w)
+    block_forms::owner_of(state_at(m, i), w)
 }
 
 pub fn mark_at(m: &[u8], i: usize) -> bool
     requires { ⌜ Room (now m) × (i < length (flatOf (now m) .rows)) ⌝ }
     ensures { λ r. ⌜ r ≡ rowIn (flatOf (now (m .entry))) i .tuple .mark ⌝ }
 {
-    blocks::mark_of(state_at(m, i))
+    block_forms::mark_of(state_at(m, i))
 }
 
 fn pending_of(r: u16) -> Pending
@@ -585,10 +585,10 @@ pub fn insert_row(m: &mut [u8], i: usize, row: Row, payload: &[u8])
     let n = row_count(m);
     let s = free_slot(m);
     let o = row.owner;
-    let state = blocks::flags_of(o, row.mark, payload.len());
+    let state = block_forms::flags_of(o, row.mark, payload.len());
     let p = row.pending;
     let r = s + pending_code(p) * SLOT_LIMIT;
-    fill_slot(m, s as usize, row.number, blocks::word_of(o), payload);
+    fill_slot(m, s as usize, row.number, block_forms::word_of(o), payload);
     raise_rows(m, c, i, n);
     put_cells(m, c, i, row.key, r, state);
     memory_bytes::put4(m, ROWS_AT, (n + 1) as u32);
@@ -602,10 +602,10 @@ pub fn append_row(m: &mut [u8], row: Row, payload: &[u8])
     let c = capacity(m);
     let n = row_count(m);
     let o = row.owner;
-    let state = blocks::flags_of(o, row.mark, payload.len());
+    let state = block_forms::flags_of(o, row.mark, payload.len());
     let p = row.pending;
     let r = n as u16 + pending_code(p) * SLOT_LIMIT;
-    fill_slot(m, n, row.number, blocks::word_of(o), payload);
+    fill_slot(m, n, row.number, block_forms::word_of(o), payload);
     put_cells(m, c, n, row.key, r, state);
     memory_bytes::put4(m, ROWS_AT, (n + 1) as u32);
 }

@@ -3,7 +3,7 @@ use Rattle.basics.proofs.Kit.{_≡_, refl, sym, ap, _∙_, subst, ap₂, Bool, 
 use Rattle.basics.proofs.Kit.{ltb, length, length-append, length-map, arith}
 use Rattle.basics.specs.Basics.{isIn, any, if_then_else_, howMany, sum, distinct, first}
 use Rattle.basics.proofs.Facts.{by, AllOf, lie, by-option}
-use Rattle.blocks.specs.Limits.{mostNumber}
+use Rattle.block_forms.specs.Limits.{mostNumber}
 use Rattle.image.specs.Stages.{isZero, directoriesFor, capacityLimit}
 use Rattle.model.specs.State.{Page, Store, Checkpoint, idle, running, Held, Active}
 use Rattle.model.specs.Rules.{isDirty, fresh, freeze, isFrozen}

@@ -3,7 +3,7 @@
 use Rattle.basics.proofs.Kit.{_≡_, refl, sym, ap, _∙_, Bool, true, false, _&&_, not, none, Option, List, [], _∷_, _++_, map, ℕ, suc, _<_, eqb, length}
 use Rattle.basics.specs.Basics.{if_then_else_, any, keep, isEmpty}
 use Rattle.basics.proofs.Facts.{by}
-use Rattle.rows.specs.Rows.{Row, number, isOwn, isAt}
+use Rattle.image_rows.specs.Rows.{Row, number, isOwn, isAt}
 use Rattle.model.specs.State.{Held, Page}
 use Rattle.model.specs.Rules.{fresh, withTuples, listOf, settle, around, removeNow, pendRemove, commitNow, pendCommit, shown, editAt, pendRemoveAt, removeRowOn, committedAt, commitRowOn}
 use Rattle.model.proofs.Frozen.{takenAt-is}

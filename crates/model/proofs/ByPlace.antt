@@ -2,7 +2,7 @@
 use Rattle.basics.proofs.Kit.{_≡_, refl, sym, ap, _∙_, subst, _≢_, List, [], _∷_, _++_, append-nil, map, ℕ, suc, _+_, _<_, length, getD, length-map, arith}
 use Rattle.basics.specs.Basics.{keep}
 use Rattle.basics.proofs.Facts.{AllOf}
-use Rattle.rows.specs.Rows.{Row, isOwn}
+use Rattle.image_rows.specs.Rows.{Row, isOwn}
 use Rattle.model.specs.State.{Page}
 use Rattle.model.specs.Sight.{held, rows}
 use Rattle.model.specs.Places.{Placed, rowOf, placed, allPlaced, runs, allRuns, liveOf, ownPlaced, removePlaces, planRuns, closePlan, abortPlan, carryOut}

@@ -3,11 +3,11 @@ use Rattle.basics.proofs.Kit.{_≡_, refl, sym, ap, _∙_, subst, fun-ext, true
 use Rattle.basics.proofs.Kit.{length-append, length-take, length-drop, take-append-drop, take-at, drop-drop, take-append-le, drop-append-add, drop-append-le, drop-at, arith}
 use Rattle.basics.specs.Basics.{if_then_else_, basics}
 use Rattle.basics.proofs.Facts.{by, lie, and-true}
-use Rattle.blocks.specs.Block.{Block, malformed, header, page, directory, encodeBlock}
-use Rattle.blocks.specs.Decode.{decodeBlock}
-use Rattle.blocks.specs.declared.Header.{Header}
-use Rattle.blocks.proofs.Laws.{encode-length, decode-encode, decode-in-range}
-use Rattle.rows.specs.Rows.{rowRules}
+use Rattle.block_forms.specs.Block.{Block, malformed, header, page, directory, encodeBlock}
+use Rattle.block_forms.specs.Decode.{decodeBlock}
+use Rattle.block_forms.specs.declared.Header.{Header}
+use Rattle.block_forms.proofs.Laws.{encode-length, decode-encode, decode-in-range}
+use Rattle.image_rows.specs.Rows.{rowRules}
 use Rattle.image.specs.View.{View, view, blockAt, blockCount}
 use Rattle.image.specs.Stages.{Stage, refuses, holds, wholeBlocks, capacityLimit, directoriesFor, directoryBlocks, unusedNumbers, blockOk, isZero, headerOk, headerTest, readDirectories, entriesOk, testedEntries, directoryTest, StoredPage, readPages, rowsOfPages, testedPages, pageTest}
 use Rattle.image.specs.Whole.{headerStage, pagesBelow, pagesStage}

@@ -2,8 +2,8 @@
 use Rattle.basics.proofs.Kit.{_≡_, refl, sym, ap, _∙_, subst, _&&_, some, none, Option, List, [], _∷_, _++_, map, ℕ, suc, zero, min, eqb, ltb, length}
 use Rattle.basics.specs.Basics.{if_then_else_, first}
 use Rattle.basics.proofs.Facts.{AllOf, by}
-use Rattle.blocks.specs.Block.{Block, malformed, header, page, directory}
-use Rattle.rows.specs.Rows.{Row}
+use Rattle.block_forms.specs.Block.{Block, malformed, header, page, directory}
+use Rattle.image_rows.specs.Rows.{Row}
 use Rattle.image.specs.View.{View}
 use Rattle.image.specs.Stages.{holds, directoriesFor}
 use Rattle.model.specs.State.{Page, Checkpoint, idle, running, Store, Write}

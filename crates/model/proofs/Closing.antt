@@ -2,8 +2,8 @@
 use Rattle.basics.proofs.Kit.{_≡_, refl, sym, ap, _∙_, subst, ap₂, Bool, true, false, not, some, none, Option, List, [], _∷_, _++_, ℕ, _+_, eqb}
 use Rattle.basics.specs.Basics.{howMany, keep, if_then_else_, last}
 use Rattle.basics.proofs.Facts.{AllOf, lie, by, and-true, by-option, never}
-use Rattle.blocks.specs.Tuple.{committed, tentative, Owner}
-use Rattle.rows.specs.Rows.{Row, isOwn, isBy, earlierBy, statementIs, markOk, statementOk, number, startsWell, isAt, ownerAfter}
+use Rattle.block_forms.specs.Tuple.{committed, tentative, Owner}
+use Rattle.image_rows.specs.Rows.{Row, isOwn, isBy, earlierBy, statementIs, markOk, statementOk, number, startsWell, isAt, ownerAfter}
 use Rattle.model.specs.Rules.{asCommitted}
 use Rattle.model.specs.Calls.{others}
 use Rattle.model.proofs.Lists.{all-append, all-map, Pairs, pairs-append, many-append, eqb-true, keep-append, keep-all, keep-cons, keep-none, keep-past, Mem, many-none, all-mem, mem-all, and-yes, last-off, last-mem, eqb-self, mem-pairs, some-eq, all-keep, pairs-map, pairs-both, pairs-keep}

@@ -2,8 +2,8 @@
 use Rattle.basics.proofs.Kit.{_≡_, refl, sym, ap, _∙_, subst, Bool, true, false, not, List, [], _∷_, _++_, append-nil, map, ℕ, suc, _≤_, zero, min, eqb, ltb, length}
 use Rattle.basics.specs.Basics.{if_then_else_, first}
 use Rattle.basics.proofs.Facts.{AllOf, by, by-option}
-use Rattle.blocks.specs.Block.{Block}
-use Rattle.blocks.specs.Limits.{mostNumber}
+use Rattle.block_forms.specs.Block.{Block}
+use Rattle.block_forms.specs.Limits.{mostNumber}
 use Rattle.image.specs.Stages.{directoriesFor, holds}
 use Rattle.image.specs.View.{View}
 use Rattle.model.specs.State.{Store, Checkpoint, Page, idle, running, Held, Active, Outcome, Write, count}

@@ -2,7 +2,7 @@
 use Rattle.basics.proofs.Kit.{_≡_, refl, sym, ap, _∙_, subst, ap₂, _≢_, Bool, true, false, _&&_, not, some, none, Option, List, [], _∷_, _++_, append-nil, ℕ, eqb}
 use Rattle.basics.specs.Basics.{if_then_else_, keep, any, last}
 use Rattle.basics.proofs.Facts.{by, AllOf, and-true, lie, by-option}
-use Rattle.rows.specs.Rows.{Row, number, isAt, isOwn}
+use Rattle.image_rows.specs.Rows.{Row, number, isAt, isOwn}
 use Rattle.model.specs.State.{Page}
 use Rattle.model.specs.Rules.{asCommitted}
 use Rattle.model.specs.Sight.{rows, held}

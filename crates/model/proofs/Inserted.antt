@@ -2,8 +2,8 @@
 use Rattle.basics.proofs.Kit.{_≡_, refl, sym, ap, _∙_, Bool, true, false, _&&_, _||_, List, [], _∷_, _++_, ℕ, suc, leb, eqb, ltb, arith}
 use Rattle.basics.specs.Basics.{if_then_else_, howMany}
 use Rattle.basics.proofs.Facts.{by, AllOf}
-use Rattle.blocks.specs.Tuple.{Tuple}
-use Rattle.rows.specs.Rows.{Row}
+use Rattle.block_forms.specs.Tuple.{Tuple}
+use Rattle.image_rows.specs.Rows.{Row}
 use Rattle.model.specs.State.{Page}
 use Rattle.model.specs.Rules.{place}
 use Rattle.model.specs.Sight.{rows, held}

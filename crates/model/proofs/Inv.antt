@@ -2,9 +2,9 @@
 use Rattle.basics.proofs.Kit.{_≡_, refl, Bool, true, false, _&&_, not, List, [], _∷_, _++_, map, ℕ, suc, _≤_, _<_, eqb, ltb, length, arith}
 use Rattle.basics.specs.Basics.{isEmpty, if_then_else_, isIn, any}
 use Rattle.basics.proofs.Facts.{lie, by, AllOf}
-use Rattle.blocks.specs.Block.{page, Block}
-use Rattle.blocks.specs.Limits.{mostNumber}
-use Rattle.rows.specs.Rows.{Row, rowsOf, rowsOk, isOwn}
+use Rattle.block_forms.specs.Block.{page, Block}
+use Rattle.block_forms.specs.Limits.{mostNumber}
+use Rattle.image_rows.specs.Rows.{Row, rowsOf, rowsOk, isOwn}
 use Rattle.image.specs.Stages.{StoredPage, rowsOfPages}
 use Rattle.image.specs.View.{View}
 use Rattle.model.specs.State.{Page, Held, Store, Checkpoint, idle, running}

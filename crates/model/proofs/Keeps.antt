@@ -3,9 +3,9 @@ use Rattle.basics.proofs.Kit.{_≡_, refl, sym, ap, _∙_, subst, Bool, true, f
 use Rattle.basics.proofs.Kit.{length-append, length-map, arith}
 use Rattle.basics.specs.Basics.{keep, if_then_else_, isIn, howMany, any, first, isEmpty, isSome, last}
 use Rattle.basics.proofs.Facts.{AllOf, lie, by, by-option}
-use Rattle.blocks.specs.Limits.{payloadLimit, mostNumber}
-use Rattle.blocks.specs.Tuple.{Owner, committed, tentative, Tuple, size, ownerSize, isTentative}
-use Rattle.rows.specs.Rows.{Row, isOwn, markOk, isAt, openLimit}
+use Rattle.block_forms.specs.Limits.{payloadLimit, mostNumber}
+use Rattle.block_forms.specs.Tuple.{Owner, committed, tentative, Tuple, size, ownerSize, isTentative}
+use Rattle.image_rows.specs.Rows.{Row, isOwn, markOk, isAt, openLimit}
 use Rattle.image.specs.Stages.{directoriesFor}
 use Rattle.model.specs.State.{Store, Page, Held, idle, running, nothing, Checkpoint}
 use Rattle.model.specs.Rules.{place, heldSize, isPending, freeze, isFrozen}

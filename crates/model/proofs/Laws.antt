@@ -3,7 +3,7 @@ use Rattle.basics.proofs.Kit.{_≡_, refl, sym, ap, _∙_, subst, true, false, 
 use Rattle.basics.proofs.Kit.{length-map, arith}
 use Rattle.basics.specs.Basics.{if_then_else_, howMany, first, keep}
 use Rattle.basics.proofs.Facts.{by, lie, AllOf}
-use Rattle.rows.specs.Rows.{Row, isOwn}
+use Rattle.image_rows.specs.Rows.{Row, isOwn}
 use Rattle.image.specs.Stages.{directoriesFor}
 use Rattle.model.specs.State.{Checkpoint, idle, running, Outcome, Store, refused, Page, count}
 use Rattle.model.specs.Rules.{isFrozen, freeze, isDirty, thaw}

@@ -1,9 +1,9 @@
 -- The quoted line: a cut of an image's bytes is a cut of its view, and recovery of the one is recovery of the other.
 use Rattle.basics.proofs.Kit.{_≡_, sym, ap, _∙_, subst, List, _∷_, ℕ, _+_, _*_, _≤_, _<_, length, arith}
 use Rattle.basics.proofs.Facts.{AllOf}
-use Rattle.blocks.specs.Block.{encodeBlock}
-use Rattle.blocks.specs.Decode.{decodeBlock}
-use Rattle.blocks.proofs.Laws.{encode-length, decode-encode}
+use Rattle.block_forms.specs.Block.{encodeBlock}
+use Rattle.block_forms.specs.Decode.{decodeBlock}
+use Rattle.block_forms.proofs.Laws.{encode-length, decode-encode}
 use Rattle.image.specs.View.{view}
 use Rattle.model.specs.State.{Store}
 use Rattle.model.specs.Calls.{Call}

@@ -2,8 +2,8 @@
 use Rattle.basics.proofs.Kit.{_≡_, refl, sym, ap, _∙_, subst, Bool, true, false, not, some, none, Option, List, [], _∷_, _++_, map, ℕ, suc, _≤_, zero, min, eqb, arith}
 use Rattle.basics.specs.Basics.{distinct, isIn, any, keep, if_then_else_}
 use Rattle.basics.proofs.Facts.{AllOf, and-true, by, lie}
-use Rattle.blocks.specs.Tuple.{Owner, OwnerFits, Fits, committed, tentative}
-use Rattle.rows.specs.Rows.{Row, isBy, isOwn, transactions}
+use Rattle.block_forms.specs.Tuple.{Owner, OwnerFits, Fits, committed, tentative}
+use Rattle.image_rows.specs.Rows.{Row, isBy, isOwn, transactions}
 use Rattle.model.specs.State.{Store}
 use Rattle.model.specs.Sight.{seen}
 use Rattle.model.specs.Transactions.{openNumbers, gives, openCall, insertCall, replaceCall, deleteCall, withTuple, commitCall, abortCall, readCall, listCall, changed, readSeen}

@@ -2,15 +2,15 @@
 use Rattle.basics.proofs.Kit.{_≡_, refl, sym, ap, _∙_, true, false, not, List, [], _∷_, _++_, map, ℕ, suc, _≤_, _<_, min, eqb, length, arith}
 use Rattle.basics.specs.Basics.{isIn, if_then_else_, any, distinct, keep, howMany}
 use Rattle.basics.proofs.Facts.{by, lie, AllOf, and-true}
-use Rattle.blocks.specs.Tuple.{tentative}
-use Rattle.rows.specs.Rows.{transactions, Row, isOwn}
+use Rattle.block_forms.specs.Tuple.{tentative}
+use Rattle.image_rows.specs.Rows.{transactions, Row, isOwn}
 use Rattle.model.specs.State.{Active}
 use Rattle.model.specs.Transactions.{openNumbers, withWrite, isFor, without, writtenBy}
 use Rattle.model.specs.Calls.{others}
 use Rattle.model.specs.Recover.{reopened}
 use Rattle.model.proofs.Lists.{eqb-true, in-cons, eqb-sym, in-keep, not-in, not-in-all, not-true, all-two}
-pub use Rattle.rows.proofs.Owners.{in-transactions}
-pub use Rattle.rows.proofs.Counts.{transactions-distinct}
+pub use Rattle.image_rows.proofs.Owners.{in-transactions}
+pub use Rattle.image_rows.proofs.Counts.{transactions-distinct}
 
 -- ---- all open transactions but one
 

@@ -2,7 +2,7 @@
 use Rattle.basics.proofs.Kit.{_≡_, sym, subst, Bool, true, false, some, none, Option, List, [], _∷_, _++_, map, ℕ, _-_, eqb, ltb, length}
 use Rattle.basics.specs.Basics.{if_then_else_, isEmpty, first, any}
 use Rattle.basics.proofs.Facts.{AllOf, by, never, by-option}
-use Rattle.blocks.specs.Tuple.{Tuple}
+use Rattle.block_forms.specs.Tuple.{Tuple}
 use Rattle.model.specs.State.{Page, Held}
 use Rattle.model.specs.Rules.{fresh, grown, withTuples, splitOnce, placeAfter, place, after, entering, placeFront, settle, settleNext, joined, joins, settleFull, listOf, around, thaw, isFrozen, isPending, thawOn, splitAll, withoutPending, live, removeRowOn, committedAt, commitRowOn, atRow, removeRow, commitRow}
 use Rattle.model.specs.Transactions.{PlaceOp, commitPlace, removePlace, carryOut}

@@ -2,8 +2,8 @@
 use Rattle.basics.proofs.Kit.{_≡_, refl, sym, ap, _∙_, subst, false, some, none, List, [], _∷_, _++_, append-assoc, map, ℕ, suc, _≤_, _<_, leb, eqb, ltb, length, arith}
 use Rattle.basics.specs.Basics.{if_then_else_}
 use Rattle.basics.proofs.Facts.{AllOf, lie, never, by, by-option}
-use Rattle.blocks.specs.Tuple.{Tuple}
-use Rattle.rows.specs.Rows.{Row}
+use Rattle.block_forms.specs.Tuple.{Tuple}
+use Rattle.image_rows.specs.Rows.{Row}
 use Rattle.model.specs.State.{Held, Page}
 use Rattle.model.specs.Rules.{after, grown, withTuples, fresh, splitOnce, shown, entering, applied, isRemoving, isCommitting, withoutPending, place, placeAfter, placeFront}
 use Rattle.model.specs.Sight.{rows, held}

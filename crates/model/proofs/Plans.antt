@@ -4,8 +4,8 @@ use Rattle.basics.proofs.Kit.{_≤_, _<_, zero, eqb, length, getD, length-appen
 use Rattle.basics.specs.Basics.{if_then_else_, keep, any, last}
 use Rattle.basics.proofs.Lists.{map-append}
 use Rattle.basics.proofs.Facts.{by, lie, by-option, AllOf}
-use Rattle.blocks.specs.Tuple.{Tuple}
-use Rattle.rows.specs.Rows.{Row, number, isOwn, isAt}
+use Rattle.block_forms.specs.Tuple.{Tuple}
+use Rattle.image_rows.specs.Rows.{Row, number, isOwn, isAt}
 use Rattle.model.specs.Rules.{isRemoving}
 use Rattle.model.specs.Places.{PlaceOp, commitPlace, removePlace, Placed, rowOf, placed, continues, runs, liveOf, ownPlaced, removePlaces, planNewest, planRun, planRuns}
 use Rattle.model.proofs.Lists.{Pairs, all-at, Mem, here, there, mem-all, all-mem, all-map, all-parts, all-keep, any-off, last-off, last-any, last-skip, last-some, last-here, last-mem, eqb-self, eqb-true, and-no, and-yes}

@@ -3,7 +3,7 @@
 use Rattle.basics.proofs.Kit.{_≡_, refl, Bool, true, false, some, none, Option, List, [], _∷_, ℕ, _≤_, ltb, length, arith}
 use Rattle.basics.specs.Basics.{if_then_else_, sum, first}
 use Rattle.basics.proofs.Facts.{by, AllOf, lie, by-option}
-use Rattle.rows.specs.Rows.{Row}
+use Rattle.image_rows.specs.Rows.{Row}
 use Rattle.image.specs.Stages.{directoriesFor}
 use Rattle.model.specs.State.{Store, Write, Outcome, Page, Active, Held, Answer, refused, done, Checkpoint, idle, running}
 use Rattle.model.specs.Rules.{fresh, isFrozen}

@@ -2,9 +2,9 @@
 use Rattle.basics.proofs.Kit.{_≡_, sym, subst, Bool, true, false, some, none, Option, List, [], _∷_, _++_, ℕ, suc, _≤_, _<_, zero, min, ltb, length, length-map, arith}
 use Rattle.basics.specs.Basics.{howMany, if_then_else_, first}
 use Rattle.basics.proofs.Facts.{by, AllOf, by-option}
-use Rattle.blocks.specs.Limits.{payloadLimit, recordSpace}
-use Rattle.blocks.specs.Tuple.{Owner, OwnerFits, Fits, AllBytes, Tuple, AllFit, sizes}
-use Rattle.rows.specs.Rows.{Row, number, isOwn, rowsOf}
+use Rattle.block_forms.specs.Limits.{payloadLimit, recordSpace}
+use Rattle.block_forms.specs.Tuple.{Owner, OwnerFits, Fits, AllBytes, Tuple, AllFit, sizes}
+use Rattle.image_rows.specs.Rows.{Row, number, isOwn, rowsOf}
 use Rattle.image.specs.Stages.{directoriesFor}
 use Rattle.model.specs.State.{Store, Page, Checkpoint, idle, running, Held}
 use Rattle.model.specs.Rules.{isFrozen, shown, isAdding}

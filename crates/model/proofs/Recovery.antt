@@ -2,10 +2,10 @@
 use Rattle.basics.proofs.Kit.{_≡_, refl, sym, ap, _∙_, true, some, List, [], _∷_, _++_, ℕ, _-_, arith}
 use Rattle.basics.specs.Basics.{if_then_else_, isIn}
 use Rattle.basics.proofs.Facts.{by, by-option, AllOf}
-use Rattle.blocks.specs.Block.{page, header, directory, Block, malformed}
-use Rattle.blocks.specs.Limits.{entriesPerBlock}
-use Rattle.blocks.specs.declared.Header.{Header}
-use Rattle.rows.specs.Rows.{rowsOk}
+use Rattle.block_forms.specs.Block.{page, header, directory, Block, malformed}
+use Rattle.block_forms.specs.Limits.{entriesPerBlock}
+use Rattle.block_forms.specs.declared.Header.{Header}
+use Rattle.image_rows.specs.Rows.{rowsOk}
 use Rattle.image.specs.Whole.{pagesStage, pagesBelow}
 use Rattle.image.specs.Stages.{refuses, holds, StoredPage, headerOk, readDirectories, directoryBlocks, entriesOk, readPages, rowsOfPages, headerTest, directoryTest, testedEntries, pageTest, testedPages}
 use Rattle.image.specs.View.{View}

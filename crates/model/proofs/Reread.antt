@@ -2,8 +2,8 @@
 use Rattle.basics.proofs.Kit.{_≡_, sym, ap, _∙_, subst, Bool, true, List, [], _∷_, _++_, map, ℕ, _*_, _≤_, _<_, length}
 use Rattle.basics.specs.Basics.{if_then_else_}
 use Rattle.basics.proofs.Facts.{AllOf}
-use Rattle.blocks.specs.Block.{header, Block}
-use Rattle.blocks.specs.declared.Header.{Header}
+use Rattle.block_forms.specs.Block.{header, Block}
+use Rattle.block_forms.specs.declared.Header.{Header}
 use Rattle.image.specs.Whole.{readImage, afterHeader, withHeader, pagesStage, pagesBelow}
 use Rattle.image.specs.Stages.{holds, headerTest, directoryTest, testedEntries, pageTest, testedPages, StoredPage, directoryBlocks}
 use Rattle.image.specs.View.{view, View}

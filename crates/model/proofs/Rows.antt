@@ -2,8 +2,8 @@
 use Rattle.basics.proofs.Kit.{_≡_, refl, sym, ap, _∙_, subst, _≢_, Bool, true, false, some, none, Option, List, [], _∷_, _++_, append-assoc, append-nil, map, ℕ, _≤_, _<_, eqb, length, arith}
 use Rattle.basics.specs.Basics.{if_then_else_, isEmpty, any}
 use Rattle.basics.proofs.Facts.{by, lie, and-true, AllOf}
-use Rattle.blocks.specs.Tuple.{Owner, committed, Tuple}
-use Rattle.rows.specs.Rows.{Row, rowsOf, number}
+use Rattle.block_forms.specs.Tuple.{Owner, committed, Tuple}
+use Rattle.image_rows.specs.Rows.{Row, rowsOf, number}
 use Rattle.model.specs.State.{Held, Page}
 use Rattle.model.specs.Rules.{isRemoving, applied, live, fresh, joins, joined, settleNext, settle, settleFull, listOf, asCommitted, isCommitting, around, withoutPending, splitAll, thawOn, thaw, isPending, isFrozen, commitNow, removeNow, pendRemove, withPending, isAdding, pendCommit, withTuples, freeze}
 use Rattle.model.specs.Sight.{rows, held}

@@ -3,7 +3,7 @@ use Rattle.basics.proofs.Kit.{_≡_, refl, sym, ap, _∙_, subst, ap₂, Bool, 
 use Rattle.basics.specs.Basics.{if_then_else_, keep}
 use Rattle.basics.proofs.Lists.{map-append}
 use Rattle.basics.proofs.Facts.{by, lie, AllOf}
-use Rattle.rows.specs.Rows.{Row, isAt}
+use Rattle.image_rows.specs.Rows.{Row, isAt}
 use Rattle.model.specs.Rules.{isRemoving, applied}
 use Rattle.model.specs.Places.{Placed, rowOf, placed, continues, runs, liveOf}
 use Rattle.model.proofs.Lists.{Pairs, all-mem, all-map, all-two, all-append, all-parts, pairs-parts, keep-append, keep-all, keep-none}

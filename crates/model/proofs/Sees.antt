@@ -3,8 +3,8 @@ use Rattle.basics.proofs.Kit.{_≡_, refl, sym, ap, _∙_, subst, ap₂, Bool, 
 use Rattle.basics.proofs.Kit.{length, arith}
 use Rattle.basics.specs.Basics.{if_then_else_, keep, last, first, isIn}
 use Rattle.basics.proofs.Facts.{by, lie, AllOf, by-option}
-use Rattle.blocks.specs.Tuple.{isTentative, Owner, committed, tentative}
-use Rattle.rows.specs.Rows.{Row, isAt, isOwn, isBy, number}
+use Rattle.block_forms.specs.Tuple.{isTentative, Owner, committed, tentative}
+use Rattle.image_rows.specs.Rows.{Row, isAt, isOwn, isBy, number}
 use Rattle.model.specs.State.{Store, Outcome, filled, refused}
 use Rattle.model.specs.Rules.{asCommitted}
 use Rattle.model.specs.Sight.{seen, rows, versions, seenOf}

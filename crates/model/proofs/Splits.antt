@@ -3,7 +3,7 @@ use Rattle.basics.proofs.Kit.{_≡_, refl, sym, subst, true, false, some, none,
 use Rattle.basics.proofs.Kit.{drop, length-take, length-drop, take-append-drop, arith}
 use Rattle.basics.specs.Basics.{if_then_else_, sum, isEmpty}
 use Rattle.basics.proofs.Facts.{by, AllOf, never, by-option}
-use Rattle.blocks.specs.Limits.{payloadLimit}
+use Rattle.block_forms.specs.Limits.{payloadLimit}
 use Rattle.model.specs.State.{Held}
 use Rattle.model.specs.Rules.{lead, heldSize, half, fits, splitDeep, splitAll, splitOnce, after}
 use Rattle.model.proofs.Lists.{leb-false, nonempty, all-take, all-drop, all-append, some-eq}

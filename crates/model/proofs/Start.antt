@@ -2,10 +2,10 @@
 use Rattle.basics.proofs.Kit.{_≡_, refl, sym, ap, _∙_, subst, Bool, true, false, _&&_, not, some, List, [], _∷_, _++_, map, ℕ, suc, _≤_, _<_, leb, eqb, ltb, arith}
 use Rattle.basics.specs.Basics.{isEmpty, if_then_else_, all, distinct, isIn, any, howMany}
 use Rattle.basics.proofs.Facts.{AllOf, never, by, by-option, and-true, lie}
-use Rattle.blocks.specs.Block.{page, Block, malformed, header, directory, InRange}
-use Rattle.blocks.specs.Limits.{mostNumber}
-use Rattle.blocks.specs.declared.Header.{Header}
-use Rattle.rows.specs.Rows.{transactions, isOwn}
+use Rattle.block_forms.specs.Block.{page, Block, malformed, header, directory, InRange}
+use Rattle.block_forms.specs.Limits.{mostNumber}
+use Rattle.block_forms.specs.declared.Header.{Header}
+use Rattle.image_rows.specs.Rows.{transactions, isOwn}
 use Rattle.image.specs.Stages.{StoredPage, readPages, addPage, pageOk, blockOk, capacityLimit, directoryBlocks, headerOk, entriesOk, rowsOfPages}
 use Rattle.image.specs.View.{View}
 use Rattle.model.specs.State.{Store, idle}

@@ -2,8 +2,8 @@
 use Rattle.basics.proofs.Kit.{_≡_, refl, sym, subst, true, List, [], _∷_, ℕ, _≤_, _/_, leb, length, arith}
 use Rattle.basics.specs.Basics.{basics}
 use Rattle.basics.proofs.Facts.{lie, AllOf}
-use Rattle.blocks.specs.Tuple.{Fits}
-use Rattle.rows.specs.Rows.{rowRules}
+use Rattle.block_forms.specs.Tuple.{Fits}
+use Rattle.image_rows.specs.Rows.{rowRules}
 use Rattle.image.specs.Stages.{capacityLimit, rowsOfPages}
 use Rattle.image.specs.View.{View, view}
 use Rattle.model.specs.State.{Store}

@@ -3,11 +3,11 @@ use Rattle.basics.proofs.Kit.{_≡_, refl, sym, ap, _∙_, subst, ap₂, Bool, 
 use Rattle.basics.proofs.Kit.{take, drop, getD, length-take, length-map, arith}
 use Rattle.basics.specs.Basics.{if_then_else_, all, first, isIn, any, every}
 use Rattle.basics.proofs.Facts.{AllOf, lie, by}
-use Rattle.blocks.specs.Block.{page, Block, header, InRange, EntriesFit, directory}
-use Rattle.blocks.specs.Limits.{recordSpace}
-use Rattle.blocks.specs.Tuple.{AllFit, sizes, Tuple}
-use Rattle.blocks.specs.declared.Header.{Header}
-use Rattle.rows.specs.Rows.{rowsOk, transactions, isOwn}
+use Rattle.block_forms.specs.Block.{page, Block, header, InRange, EntriesFit, directory}
+use Rattle.block_forms.specs.Limits.{recordSpace}
+use Rattle.block_forms.specs.Tuple.{AllFit, sizes, Tuple}
+use Rattle.block_forms.specs.declared.Header.{Header}
+use Rattle.image_rows.specs.Rows.{rowsOk, transactions, isOwn}
 use Rattle.image.specs.Stages.{directoriesFor, blockOk, directoryBlocks, isZero, unusedNumbers, StoredPage, capacityLimit, headerOk, entriesOk, readDirectories, rowsOfPages, readPages}
 use Rattle.image.specs.View.{View}
 use Rattle.model.specs.State.{Store, Outcome, Write, Page}

@@ -3,7 +3,7 @@ use Rattle.basics.proofs.Kit.{_≡_, refl, _∙_, subst, false, some, List, [],
 use Rattle.basics.proofs.Kit.{take-append-drop, drop-drop, arith}
 use Rattle.basics.specs.Basics.{if_then_else_, isIn, isEmpty}
 use Rattle.basics.proofs.Facts.{by, AllOf}
-use Rattle.blocks.specs.Block.{Block, page, directory}
+use Rattle.block_forms.specs.Block.{Block, page, directory}
 use Rattle.image.specs.Stages.{StoredPage, readPages, addPage, pageOk, readDirectories, addEntries}
 use Rattle.image.specs.View.{View}
 use Rattle.model.specs.Checkpoint.{fill}

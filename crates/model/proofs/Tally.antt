@@ -2,8 +2,8 @@
 use Rattle.basics.proofs.Kit.{_≡_, refl, sym, ap, _∙_, Bool, true, false, not, some, none, Option, List, [], _∷_, _++_, ℕ, suc, _≤_, zero, min, eqb, ltb, length, arith}
 use Rattle.basics.specs.Basics.{if_then_else_, howMany, any, first, isIn}
 use Rattle.basics.proofs.Facts.{lie, by, AllOf, by-option, and-true}
-use Rattle.blocks.specs.Tuple.{tentative, committed, Owner}
-use Rattle.rows.specs.Rows.{isOwn, isBy, Row}
+use Rattle.block_forms.specs.Tuple.{tentative, committed, Owner}
+use Rattle.image_rows.specs.Rows.{isOwn, isBy, Row}
 use Rattle.image.specs.Stages.{directoriesFor}
 use Rattle.model.specs.State.{Answer, Store, Outcome, Page, Checkpoint, idle, running, done, refused, filled, Active}
 use Rattle.model.specs.Rules.{isFrozen}

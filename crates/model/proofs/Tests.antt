@@ -2,8 +2,8 @@
 use Rattle.basics.proofs.Kit.{_≡_, refl, sym, ap, _∙_, ap₂, true, false, not, List, [], _∷_, map, ℕ, suc, eqb, ltb, arith}
 use Rattle.basics.specs.Basics.{if_then_else_, paired, keep, isIn, any, distinct}
 use Rattle.basics.proofs.Facts.{by, and-true, lie, AllOf}
-use Rattle.blocks.specs.Tuple.{Owner, committed, tentative}
-use Rattle.rows.specs.Rows.{Row, isLower, follows, number, ownerAfter, startsWell, isAt}
+use Rattle.block_forms.specs.Tuple.{Owner, committed, tentative}
+use Rattle.image_rows.specs.Rows.{Row, isLower, follows, number, ownerAfter, startsWell, isAt}
 use Rattle.model.proofs.Lists.{leb-true, eqb-true, not-true, all-map, Pairs, keep-cons, keep-past, leb-false, eqb-self, and-both, le-true, keep-none}
 use Rattle.model.proofs.Rows.{Differ}
 use Rattle.model.proofs.Placing.{Before}

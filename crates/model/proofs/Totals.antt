@@ -2,7 +2,7 @@
 use Rattle.basics.proofs.Kit.{_≡_, refl, sym, subst, Bool, true, false, some, none, Option, List, [], _∷_, _++_, map, ℕ, _+_, _≤_, _-_, le-trans, eqb, ltb, length, arith}
 use Rattle.basics.specs.Basics.{if_then_else_, sum, isEmpty, any}
 use Rattle.basics.proofs.Facts.{by, never, by-option}
-use Rattle.blocks.specs.Tuple.{Tuple}
+use Rattle.block_forms.specs.Tuple.{Tuple}
 use Rattle.model.specs.State.{Page, Held}
 use Rattle.model.specs.Rules.{grown, withTuples, listOf, removeNow, pendCommit, commitNow, fresh, splitOnce, placeAfter, place, after, entering, placeFront, withoutPending, settle, settleNext, joined, joins, settleFull, around, thaw, isFrozen, thawOn, isPending, live, splitAll, editAt, pendRemoveAt, removeRowOn, committedAt, commitRowOn, atRow, removeRow, commitRow}
 use Rattle.model.specs.Transactions.{PlaceOp, commitPlace, removePlace, carryOut}

@@ -2,9 +2,9 @@
 use Rattle.basics.proofs.Kit.{_≡_, refl, sym, ap, _∙_, subst, ap₂, true, false, _&&_, not, List, [], _∷_, _++_, append-nil, ℕ, suc, _≤_, _<_, eqb, ltb, length, arith}
 use Rattle.basics.specs.Basics.{isIn, keep, howMany, any, isEmpty}
 use Rattle.basics.proofs.Facts.{AllOf, by, lie}
-use Rattle.blocks.specs.Limits.{mostNumber}
-use Rattle.blocks.specs.Tuple.{Owner, committed, tentative, Tuple, isTentative}
-use Rattle.rows.specs.Rows.{Row, number, ownerAfter, statementOk, markOk, startsWell, isAt, isOwn, isBy, earlierBy, statementIs}
+use Rattle.block_forms.specs.Limits.{mostNumber}
+use Rattle.block_forms.specs.Tuple.{Owner, committed, tentative, Tuple, isTentative}
+use Rattle.image_rows.specs.Rows.{Row, number, ownerAfter, statementOk, markOk, startsWell, isAt, isOwn, isBy, earlierBy, statementIs}
 use Rattle.image.specs.Stages.{capacityLimit}
 use Rattle.model.specs.State.{Store, idle}
 use Rattle.model.specs.Sight.{held, rows, isForeign}

@@ -2,8 +2,8 @@
 use Rattle.basics.proofs.Kit.{_≡_, false, List, [], _∷_, ℕ, _≤_, _<_, eqb}
 use Rattle.basics.specs.Basics.{if_then_else_}
 use Rattle.basics.proofs.Facts.{AllOf}
-use Rattle.blocks.specs.Block.{Block, page, header, malformed, InRange, directory}
-use Rattle.blocks.specs.declared.Header.{Header}
+use Rattle.block_forms.specs.Block.{Block, page, header, malformed, InRange, directory}
+use Rattle.block_forms.specs.declared.Header.{Header}
 use Rattle.image.specs.Whole.{pagesStage}
 use Rattle.image.specs.Stages.{Stage, refuses, holds, headerTest}
 use Rattle.image.specs.View.{View}

@@ -2,8 +2,8 @@
 use Rattle.basics.proofs.Kit.{_≡_, refl, sym, _∙_, subst, Bool, true, false, _||_, List, [], _∷_, map, ℕ, suc, _+_, _≤_, _<_, _-_, leb, eqb, ltb, length, length-map, arith}
 use Rattle.basics.specs.Basics.{all, paired, any, howMany, if_then_else_, sum, every, isIn, distinct, isEmpty}
 use Rattle.basics.proofs.Facts.{by, and-true, AllOf, lie}
-use Rattle.blocks.specs.Tuple.{Fits, AllFit, Tuple, size, Owner, committed, tentative}
-use Rattle.rows.specs.Rows.{Row, isLower, isAt, number, rowsOf, isBelow}
+use Rattle.block_forms.specs.Tuple.{Fits, AllFit, Tuple, size, Owner, committed, tentative}
+use Rattle.image_rows.specs.Rows.{Row, isLower, isAt, number, rowsOf, isBelow}
 use Rattle.image.specs.Stages.{isZero, directoriesFor}
 use Rattle.model.specs.State.{Store, Page, Held, nothing, Checkpoint, idle, running, Pending, adding, committing, removing}
 use Rattle.model.specs.Rules.{fits, heldSize, isFrozen, isDirty, shown, isPending}

@@ -2,11 +2,11 @@
 use Rattle.basics.proofs.Kit.{_≡_, refl, sym, ap, _∙_, subst, true, false, List, [], _∷_, map, ℕ, suc, _+_, _≤_, _<_, leb, length, length-append, length-map, arith}
 use Rattle.basics.specs.Basics.{if_then_else_, all, isEmpty, any, isIn, every, distinct, sum, paired, howMany}
 use Rattle.basics.proofs.Facts.{AllOf, lie, by}
-use Rattle.blocks.specs.Block.{PageFits}
-use Rattle.blocks.specs.Limits.{recordSpace, mostNumber}
-use Rattle.blocks.specs.Tuple.{Tuple, AllFit, size, sizes, Fits, Owner, ownerSize, committed, tentative}
-use Rattle.blocks.specs.declared.Header.{Header}
-use Rattle.rows.specs.Rows.{rowsOf, Row, isOwn, openLimit, rowsOk, transactions, markOk, statementOk, number, isBelow, isBy, follows, startsWell}
+use Rattle.block_forms.specs.Block.{PageFits}
+use Rattle.block_forms.specs.Limits.{recordSpace, mostNumber}
+use Rattle.block_forms.specs.Tuple.{Tuple, AllFit, size, sizes, Fits, Owner, ownerSize, committed, tentative}
+use Rattle.block_forms.specs.declared.Header.{Header}
+use Rattle.image_rows.specs.Rows.{rowsOf, Row, isOwn, openLimit, rowsOk, transactions, markOk, statementOk, number, isBelow, isBy, follows, startsWell}
 use Rattle.image.specs.Stages.{StoredPage, rowsOfPages, capacityLimit}
 use Rattle.image.specs.View.{View}
 use Rattle.image.proofs.Collect.{length-rows}

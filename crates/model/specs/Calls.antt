@@ -4,7 +4,7 @@ use mathlib.Core.Bool.{Bool, true, false, not}
 use mathlib.Core.List.{List, [], _∷_}
 use lib.Dec.{eqb}
 use Rattle.basics.specs.Basics.{if_then_else_, isIn, keep}
-use Rattle.blocks.specs.Tuple.{AllBytes}
+use Rattle.block_forms.specs.Tuple.{AllBytes}
 use Rattle.model.specs.State.{Store, Answer, refused, done, count, filled, Outcome}
 use Rattle.model.specs.Transactions.{openCall, commitCall, abortCall, insertCall, replaceCall, deleteCall, readCall, listCall}
 use Rattle.model.specs.Checkpoint.{beginCall, stepCall, runCall}

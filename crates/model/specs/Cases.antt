@@ -7,14 +7,14 @@ use mathlib.Core.List.{List, [], _∷_, _++_, map}
 use lib.ListN.{length, replicate, take, drop}
 use lib.Dec.{eqb}
 use Rattle.basics.specs.Basics.{all, every, sum, isIn, from, basics}
-use Rattle.bits.specs.Bits.{bitsOf, number as numberOf, bitsIn, field}
-use Rattle.blocks.specs.Limits.{mostNumber}
-use Rattle.blocks.specs.Numbers.{num4, same}
-use Rattle.blocks.specs.Tuple.{Owner, committed, tentative, Tuple, isTentative, ownerSize, size}
-use Rattle.blocks.specs.Spell.{zeros, spell, bytesOf, padded as filledUp, blockOf}
-use Rattle.blocks.specs.Block.{page, committedBit, markBit, ownerFields, payloadFields, recordFields, recordsFields, entryFields, encodeBlock}
-use Rattle.blocks.specs.Decode.{kind, spelledBy, readHeader, headerIn, readOwner, readMark, readTuple, recordLength, isRecord, readTuples, pageTable, pageCount, pageLevel, samplePage as pageOfBytes, pageIn, readEntries, directoryCount, directoryLevel, directoryIn, decodeBlock}
-use Rattle.rows.specs.Rows.{rowRules}
+use Rattle.block_bits.specs.Bits.{bitsOf, number as numberOf, bitsIn, field}
+use Rattle.block_forms.specs.Limits.{mostNumber}
+use Rattle.block_forms.specs.Numbers.{num4, same}
+use Rattle.block_forms.specs.Tuple.{Owner, committed, tentative, Tuple, isTentative, ownerSize, size}
+use Rattle.block_forms.specs.Spell.{zeros, spell, bytesOf, padded as filledUp, blockOf}
+use Rattle.block_forms.specs.Block.{page, committedBit, markBit, ownerFields, payloadFields, recordFields, recordsFields, entryFields, encodeBlock}
+use Rattle.block_forms.specs.Decode.{kind, spelledBy, readHeader, headerIn, readOwner, readMark, readTuple, recordLength, isRecord, readTuples, pageTable, pageCount, pageLevel, samplePage as pageOfBytes, pageIn, readEntries, directoryCount, directoryLevel, directoryIn, decodeBlock}
+use Rattle.image_rows.specs.Rows.{rowRules}
 use Rattle.image.specs.View.{blockAt, blockCount, view}
 use Rattle.image.specs.Stages.{Stage, refuses, holds, wholeBlocks, blockOk, isZero, directoriesFor, directoryBlocks, unusedNumbers, headerOk, headerTest, addEntries, readDirectories, entriesOk, testedEntries, directoryTest, pageOk, addPage, readPages, rowsOfPages, testedPages, pageTest}
 use Rattle.image.specs.Whole.{headerStage, pagesBelow, pagesStage}

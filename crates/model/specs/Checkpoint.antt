@@ -6,10 +6,10 @@ use mathlib.Core.List.{List, [], _∷_, _++_, map}
 use lib.ListN.{length, take, drop, getD}
 use lib.Dec.{leb, ltb, eqb}
 use Rattle.basics.specs.Basics.{if_then_else_, howMany, first, isIn, from}
-use Rattle.blocks.specs.Limits.{recordSpace, entriesPerBlock, mostNumber}
-use Rattle.blocks.specs.Tuple.{Tuple, sizes}
-use Rattle.blocks.specs.Block.{Block, header, page, directory}
-use Rattle.blocks.specs.declared.Header.{Header}
+use Rattle.block_forms.specs.Limits.{recordSpace, entriesPerBlock, mostNumber}
+use Rattle.block_forms.specs.Tuple.{Tuple, sizes}
+use Rattle.block_forms.specs.Block.{Block, header, page, directory}
+use Rattle.block_forms.specs.declared.Header.{Header}
 use Rattle.image.specs.Stages.{directoriesFor}
 use Rattle.model.specs.State.{Page, Checkpoint, idle, running, Store, refused, done, count, Outcome}
 use Rattle.model.specs.Rules.{isDirty, isFrozen, freeze, shown, thaw}

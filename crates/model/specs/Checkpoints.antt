@@ -4,7 +4,7 @@ use mathlib.Core.Path.{_≡_}
 use mathlib.Core.Bool.{Bool, true, false}
 use mathlib.Core.List.{List, [], _∷_, _++_, map}
 use lib.ListN.{length}
-use Rattle.blocks.specs.Tuple.{Tuple, AllBytes}
+use Rattle.block_forms.specs.Tuple.{Tuple, AllBytes}
 use Rattle.image.specs.Stages.{holds, StoredPage}
 use Rattle.image.specs.Whole.{Contents, readImage}
 use Rattle.model.specs.State.{Page, Store}

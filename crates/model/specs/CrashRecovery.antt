@@ -6,7 +6,7 @@ use mathlib.Core.List.{List, [], _∷_, _++_, map}
 use lib.ListN.{length}
 use lib.Dec.{eqb}
 use Rattle.basics.specs.Basics.{if_then_else_, isIn}
-use Rattle.blocks.specs.Tuple.{Tuple, AllBytes}
+use Rattle.block_forms.specs.Tuple.{Tuple, AllBytes}
 use Rattle.image.specs.Stages.{holds}
 use Rattle.model.specs.State.{Page, Store, Write, storedBytes}
 use Rattle.model.specs.Transactions.{openNumbers}

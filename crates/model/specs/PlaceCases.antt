@@ -5,8 +5,8 @@ use mathlib.Core.Bool.{Bool, true, false}
 use mathlib.Core.List.{List, [], _∷_, map}
 use lib.ListN.{length}
 use Rattle.basics.specs.Basics.{basics}
-use Rattle.blocks.specs.Tuple.{Owner, committed, tentative, isTentative, ownerSize, size}
-use Rattle.rows.specs.Rows.{rowRules}
+use Rattle.block_forms.specs.Tuple.{Owner, committed, tentative, isTentative, ownerSize, size}
+use Rattle.image_rows.specs.Rows.{rowRules}
 use Rattle.model.specs.State.{Pending, nothing, adding, removing, Held, Page}
 use Rattle.model.specs.Rules.{fresh, rules}
 use Rattle.model.specs.Sight.{held}

@@ -5,9 +5,9 @@ use mathlib.Core.List.{List, [], _∷_, _++_, map}
 use lib.ListN.{length, take, drop}
 use lib.Dec.{ltb}
 use Rattle.basics.specs.Basics.{if_then_else_, howMany, isIn}
-use Rattle.blocks.specs.Block.{header, encodeBlock}
-use Rattle.blocks.specs.declared.Header.{Header}
-use Rattle.rows.specs.Rows.{Row, isOwn, transactions}
+use Rattle.block_forms.specs.Block.{header, encodeBlock}
+use Rattle.block_forms.specs.declared.Header.{Header}
+use Rattle.image_rows.specs.Rows.{Row, isOwn, transactions}
 use Rattle.image.specs.View.{View, view}
 use Rattle.image.specs.Stages.{Stage, refuses, holds, capacityLimit, wholeBlocks, directoryBlocks, StoredPage, rowsOfPages}
 use Rattle.image.specs.Whole.{headerStage, pagesStage}

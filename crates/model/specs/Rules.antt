@@ -6,8 +6,8 @@ use mathlib.Core.List.{List, [], _∷_, _++_, map}
 use lib.ListN.{length, take, drop}
 use lib.Dec.{leb, ltb, eqb}
 use Rattle.basics.specs.Basics.{if_then_else_, any, isEmpty, sum}
-use Rattle.blocks.specs.Limits.{recordSpace, joinSum}
-use Rattle.blocks.specs.Tuple.{Tuple, committed, size}
+use Rattle.block_forms.specs.Limits.{recordSpace, joinSum}
+use Rattle.block_forms.specs.Tuple.{Tuple, committed, size}
 use Rattle.model.specs.State.{Pending, nothing, adding, committing, removing, Held, Page}
 
 -- ---- sizes

@@ -7,7 +7,7 @@ use mathlib.Core.List.{List, []}
 use lib.ListN.{length}
 use lib.Dec.{eqb}
 use Rattle.basics.specs.Basics.{if_then_else_, last, isIn}
-use Rattle.rows.specs.Rows.{Row, isOwn}
+use Rattle.image_rows.specs.Rows.{Row, isOwn}
 use Rattle.model.specs.State.{Store, refused, filled}
 use Rattle.model.specs.Rules.{asCommitted}
 use Rattle.model.specs.Sight.{rows, versions, seen}

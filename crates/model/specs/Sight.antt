@@ -4,8 +4,8 @@ use mathlib.Core.Bool.{Bool, not, _&&_}
 use mathlib.Core.Option.{Option, none, some}
 use mathlib.Core.List.{List, [], _∷_, _++_, map}
 use Rattle.basics.specs.Basics.{if_then_else_, keep, first, last}
-use Rattle.blocks.specs.Tuple.{isTentative}
-use Rattle.rows.specs.Rows.{Row, rowsOf, isBy, isOwn, isAt}
+use Rattle.block_forms.specs.Tuple.{isTentative}
+use Rattle.image_rows.specs.Rows.{Row, rowsOf, isBy, isOwn, isAt}
 use Rattle.model.specs.State.{Page, Store}
 use Rattle.model.specs.Rules.{live}
 

@@ -6,9 +6,9 @@ use mathlib.Core.List.{List, [], _∷_, _++_, map}
 use lib.ListN.{length}
 use lib.Dec.{leb, ltb, eqb}
 use Rattle.basics.specs.Basics.{if_then_else_, any, keep, last, isEmpty, isSome, isIn}
-use Rattle.blocks.specs.Limits.{payloadLimit, mostNumber}
-use Rattle.blocks.specs.Tuple.{Tuple, tentative}
-use Rattle.rows.specs.Rows.{Row, isOwn, isAt, openLimit}
+use Rattle.block_forms.specs.Limits.{payloadLimit, mostNumber}
+use Rattle.block_forms.specs.Tuple.{Tuple, tentative}
+use Rattle.image_rows.specs.Rows.{Row, isOwn, isAt, openLimit}
 use Rattle.model.specs.State.{Held, Page, Active, Store, Answer, refused, done, filled, Outcome}
 use Rattle.model.specs.Rules.{place, isRemoving, applied, removeRow, commitRow}
 use Rattle.model.specs.Sight.{held, isForeign, versions, seen}

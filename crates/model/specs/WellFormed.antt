@@ -7,9 +7,9 @@ use mathlib.Core.List.{List, [], _∷_, _++_, map}
 use lib.ListN.{length}
 use lib.Dec.{leb, ltb, eqb}
 use Rattle.basics.specs.Basics.{if_then_else_, any, all, every, paired, howMany, isEmpty, isIn, distinct}
-use Rattle.blocks.specs.Limits.{recordSpace, mostNumber}
-use Rattle.blocks.specs.Tuple.{Owner, committed, tentative, AllFit, sizes}
-use Rattle.rows.specs.Rows.{Row, number, isOwn, isAt, isLower, isBelow, rowsOk, openLimit}
+use Rattle.block_forms.specs.Limits.{recordSpace, mostNumber}
+use Rattle.block_forms.specs.Tuple.{Owner, committed, tentative, AllFit, sizes}
+use Rattle.image_rows.specs.Rows.{Row, number, isOwn, isAt, isLower, isBelow, rowsOk, openLimit}
 use Rattle.image.specs.Stages.{holds, capacityLimit, directoriesFor, isZero}
 use Rattle.model.specs.State.{Held, Page, Checkpoint, idle, running, Store, Write, count}
 use Rattle.model.specs.Rules.{fits, isPending, isDirty, isFrozen, shown}

@@ -1,10 +1,10 @@
 // Replays the script on standard input: calls, one a line, on one image and one memory, and prints what each answers. A script may also
 // overwrite a block of the image, as a cut store does, and have blocks and a digest of the image printed.
-use contracts::Answer;
+use call_contracts::Answer;
 use libc::STDIN_FILENO;
-use script::Call;
-use script::Extent;
-use script::Target;
+use replay_script::Call;
+use replay_script::Extent;
+use replay_script::Target;
 ghost use Prim.Native.Nat.{_<_};
 
 // How many bytes of the image and of the memory are lent to a call: those of the last accepted make or recovery.
@@ -41,14 +41,14 @@ fn lend(s: &mut [u8], n: u64) -> &mut [u8] {
 // ---- answers
 
 fn say_line(before: &[u8], n: u64) {
-    script::say(before);
-    script::say_number(n);
-    script::say(b"\n");
+    replay_script::say(before);
+    replay_script::say_number(n);
+    replay_script::say(b"\n");
 }
 
 fn say_answer(a: Answer) {
     match a {
-        Answer::Done => script::say(b"done\n"),
+        Answer::Done => replay_script::say(b"done\n"),
         Answer::Count(n) => say_line(b"", n),
         Answer::Filled(n) => say_line(b"", n as u64),
         Answer::Refused(n) => say_line(b"refused ", n),
@@ -56,10 +56,10 @@ fn say_answer(a: Answer) {
 }
 
 fn say_payload(reply: &[u8], n: usize) {
-    script::say_number(n as u64);
-    script::say(b" ");
-    script::say_bytes(reply, n);
-    script::say(b"\n");
+    replay_script::say_number(n as u64);
+    replay_script::say(b" ");
+    replay_script::say_bytes(reply, n);
+    replay_script::say(b"\n");
 }
 
 fn mark(marks: &mut [u8], high: u8, low: u8) {
@@ -81,8 +81,8 @@ fn mark_all(marks: &mut [u8], reply: &[u8], n: usize) {
 fn say_marked(marks: &[u8]) {
     for t in 0..marks.len() {
         if marks[t] == 1 {
-            script::say(b" ");
-            script::say_number(t as u64);
+            replay_script::say(b" ");
+            replay_script::say_number(t as u64);
         }
     }
 }
@@ -91,9 +91,9 @@ fn say_marked(marks: &[u8]) {
 fn say_listing(reply: &[u8], n: usize) {
     let mut marks = [0u8; 4096];
     mark_all(&mut marks, reply, n);
-    script::say_number(n as u64);
+    replay_script::say_number(n as u64);
     say_marked(&marks);
-    script::say(b"\n");
+    replay_script::say(b"\n");
 }
 
 // ---- blocks of the image
@@ -117,7 +117,7 @@ fn used(s: &[u8]) -> usize {
 
 // No call, or a block that the image has not.
 fn bad_line() {
-    script::say(b"bad line\n");
+    replay_script::say(b"bad line\n");
 }
 
 fn fill(image: &mut [u8], block: u64, byte: u8) {
@@ -127,15 +127,15 @@ fn fill(image: &mut [u8], block: u64, byte: u8) {
     let from = block as usize * 512;
     let to = from + 512;
     set_all(&mut image[from..to], byte);
-    script::say(b"filled\n");
+    replay_script::say(b"filled\n");
 }
 
 fn say_block(block: u64, s: &[u8]) {
-    script::say(b"block ");
-    script::say_number(block);
-    script::say(b" ");
-    script::say_bytes(s, used(s));
-    script::say(b"\n");
+    replay_script::say(b"block ");
+    replay_script::say_number(block);
+    replay_script::say(b" ");
+    replay_script::say_bytes(s, used(s));
+    replay_script::say(b"\n");
 }
 
 fn show(image: &[u8], block: u64) {
@@ -168,7 +168,7 @@ fn digest(s: &[u8]) -> u64 {
 fn clear(image: &mut [u8], memory: &mut [u8]) -> Lent {
     set_all(image, 0);
     set_all(memory, 0);
-    script::say(b"cleared\n");
+    replay_script::say(b"cleared\n");
     both(0, 0)
 }
 
@@ -271,7 +271,7 @@ fn on_image(image: &mut [u8], memory: &mut [u8], lent: Lent, call: Call, payload
 // One line. What is lent to the next call.
 fn replay_line(line: &[u8], image: &mut [u8], memory: &mut [u8], lent: Lent) -> Lent {
     let mut payload = [0u8; 64];
-    let call = script::call_of(line, &mut payload);
+    let call = replay_script::call_of(line, &mut payload);
     match call {
         Call::Make {
             bytes,
@@ -294,7 +294,7 @@ fn replay_all(text: &[u8], image: &mut [u8], memory: &mut [u8]) {
     };
     let mut from = 0;
     while from < text.len() {
-        let to = script::until(text, from, b'\n');
+        let to = replay_script::until(text, from, b'\n');
         lent = replay_line(&text[from..to], image, memory, lent);
         from = to + 1;
     }

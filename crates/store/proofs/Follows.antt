@@ -7,8 +7,8 @@ use Rattle.model.specs.Recover.{imageAfter}
 use Rattle.model.proofs.Lists.{eqb-true}
 use Rattle.model.proofs.Quiet.{isPlain, quiet}
 use Rattle.memory_layout.specs.Store.{storeIn}
-use Rattle.contracts.specs.Shape.{MemoryAfter, Afterwards, Answers, AnswersAt, StoredBy, Stores, StoresAt}
-use Rattle.contracts.specs.declared.Answer.{Answer as Answered}
+use Rattle.call_contracts.specs.Shape.{MemoryAfter, Afterwards, Answers, AnswersAt, StoredBy, Stores, StoresAt}
+use Rattle.call_contracts.specs.declared.Answer.{Answer as Answered}
 use Rattle.store.specs.CrashRecovery.{Executes, opening, inserting, replacing, deleting, committing, aborting, reading, listing, beginning, stepping, running, stepping-elsewhere, running-elsewhere, ExecutesAll, ends, next}
 use Rattle.store.proofs.Refused.{Honest, honest, read-kept, list-kept, begin-none, bad-step, bad-run}
 

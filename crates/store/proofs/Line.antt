@@ -14,9 +14,9 @@ use Rattle.model.proofs.Bytes.{view-sane}
 use Rattle.model.proofs.Claim.{writes-ok}
 use Rattle.model.proofs.Line.{written-long, started, crash-recovery}
 use Rattle.memory_layout.specs.Store.{storeIn, HoldsNow}
-use Rattle.contracts.specs.Shape.{meaning, MadeBy, Made, RecoveredBy, Recovered}
-use Rattle.contracts.specs.declared.Answer.{Answer}
-use Rattle.contracts.specs.declared.Answer.the-variants.{Done, Count, Filled, Refused}
+use Rattle.call_contracts.specs.Shape.{meaning, MadeBy, Made, RecoveredBy, Recovered}
+use Rattle.call_contracts.specs.declared.Answer.{Answer}
+use Rattle.call_contracts.specs.declared.Answer.the-variants.{Done, Count, Filled, Refused}
 use Rattle.store.specs.CrashRecovery.{Started, made, recovered, Starts, ExecutesAll, ends, next, Restored, CrashRecovery}
 use Rattle.store.proofs.Refused.{blocks-kept}
 use Rattle.store.proofs.Follows.{does, all-typed}

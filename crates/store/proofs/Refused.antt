@@ -2,7 +2,7 @@
 use Rattle.basics.proofs.Kit.{_≡_, refl, ap, _∙_, false, some, none, Option, List, [], _∷_, ℕ, suc, _*_, zero, min, eqb, ltb, length, arith}
 use Rattle.basics.specs.Basics.{if_then_else_, first}
 use Rattle.basics.proofs.Facts.{by}
-use Rattle.rows.specs.Rows.{Row}
+use Rattle.image_rows.specs.Rows.{Row}
 use Rattle.image.specs.Stages.{directoriesFor}
 use Rattle.model.specs.State.{Page, Checkpoint, idle, running, Store, Write, Answer, refused, done, count, filled, Outcome}
 use Rattle.model.specs.Rules.{isFrozen}

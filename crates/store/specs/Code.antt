@@ -2,8 +2,8 @@
 use mathlib.Core.Path.{_≡_}
 use Prim.Native.Nat.{ℕ, min}
 use lib.IntN.{ℤ, pos, negℤ}
-use Rattle.contracts.specs.declared.Answer.{Answer}
-use Rattle.contracts.specs.declared.Answer.the-variants.{Done, Count, Filled, Refused}
+use Rattle.call_contracts.specs.declared.Answer.{Answer}
+use Rattle.call_contracts.specs.declared.Answer.the-variants.{Done, Count, Filled, Refused}
 
 -- as far as 64 bits with a sign go; every answer and refusal is far below
 unfoldable pub clamped : ℕ → ℕ

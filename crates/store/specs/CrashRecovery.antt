@@ -4,7 +4,7 @@ use mathlib.Core.Path.{_≡_}
 use mathlib.Core.Option.{some}
 use mathlib.Core.List.{List, [], _∷_, map}
 use lib.ListN.{length}
-use Rattle.blocks.specs.Tuple.{AllBytes}
+use Rattle.block_forms.specs.Tuple.{AllBytes}
 use Rattle.image.specs.Stages.{holds}
 use Rattle.model.specs.State.{Store}
 use Rattle.model.specs.Transactions.{openCall, insertCall, replaceCall, deleteCall, commitCall, abortCall, readCall}
@@ -13,9 +13,9 @@ use Rattle.model.specs.Calls.{Call, opens, inserts, replaces, deletes, commits,
 use Rattle.model.specs.Recover.{memoryFor, imageAfter, make, recover}
 use Rattle.model.specs.CrashRecovery.{log, Cut, Same}
 use Rattle.memory_layout.specs.Store.{storeIn}
-use Rattle.contracts.specs.Shape.{Answers, Replies, Lists, Stores, Made, Recovered}
-use Rattle.contracts.specs.declared.Answer.{Answer}
-use Rattle.contracts.specs.declared.Answer.the-variants.{Done}
+use Rattle.call_contracts.specs.Shape.{Answers, Replies, Lists, Stores, Made, Recovered}
+use Rattle.call_contracts.specs.declared.Answer.{Answer}
+use Rattle.call_contracts.specs.declared.Answer.the-variants.{Done}
 
 -- ---- where a run starts
 

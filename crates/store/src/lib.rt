@@ -1,12 +1,12 @@
 // The booking store: every call, for Rattle and for C. No call asks anything of its caller. What the contracts promise together, for every
 // list of calls and wherever power fails, is the theorem of specs/CrashRecovery, which names the relations that they cite.
-use contracts::Answer;
+use call_contracts::Answer;
 ghost use mathlib.Core.Path.{_≡_};
 ghost use lib.IntN.{pos};
 ghost use lib.ListN.{length};
 ghost use Rattle.model.specs.Transactions.{openCall, insertCall, replaceCall, deleteCall, commitCall, abortCall, readCall};
 ghost use Rattle.model.specs.Checkpoint.{beginCall, stepCall, runCall};
-ghost use Rattle.contracts.specs.Shape.{Answers, Replies, Lists, Stores, Made, Recovered};
+ghost use Rattle.call_contracts.specs.Shape.{Answers, Replies, Lists, Stores, Made, Recovered};
 ghost use Rattle.store.specs.Code.{clamped, code, Coded};
 
 // An empty store, in image and memory.

@@ -1,6 +1,6 @@
 -- `call_checkpoint::store_page` meets its contract.
 use Rattle.basics.proofs.Kit.{ap, _+_, length-take, length-drop, needs, arith}
-use Rattle.allocator.specs.declared.Allocator.{Allocator}
+use Rattle.engine_allocator.specs.declared.Allocator.{Allocator}
 use Rattle.memory_layout.specs.Flat.{flatOf}
 use Rattle.memory_layout.specs.declared.Head.{Head}
 use Rattle.memory_layout.proofs.Laws.{holds-room}

@@ -3,7 +3,7 @@ use Rattle.call_recovery.proofs.Laying.{pages-room, order-none, owners-
 use Rattle.call_recovery.proofs.Tested.{Sure, sure}
 use Rattle.call_recovery.proofs.Naming.{named-more}
 use Rattle.call_recovery.specs.Loading.{pagesAt}
-use Rattle.naming.proofs.Heads.{used}
+use Rattle.image_header.proofs.Heads.{used}
 use Rattle.image.specs.Stages.{numbersOf, directoryBlocks, blockOk}
 use Rattle.image.specs.View.{view}
 use Rattle.basics.specs.Basics.{all}

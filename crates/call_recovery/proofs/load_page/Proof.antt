@@ -3,9 +3,9 @@ use Rattle.call_recovery.proofs.Paging.{Here, here, table-small, none-h
 use Rattle.call_recovery.specs.Loading.{storedPage, pageAt, tuplesIn, RoomFor}
 use Rattle.memory_layout.specs.Flat.{flatOf}
 use Rattle.image.specs.Stages.{StoredPage}
-use Rattle.reader.specs.Answers.{isPage}
-use Rattle.blocks.specs.Decode.{decodeBlock}
-use Rattle.blocks.specs.Block.{Block}
+use Rattle.block_reader.specs.Answers.{isPage}
+use Rattle.block_forms.specs.Decode.{decodeBlock}
+use Rattle.block_forms.specs.Block.{Block}
 use Rattle.basics.proofs.Kit.{sym, ap, _∙_, subst, needs, arith}
 use Rattle.call_recovery.proofs.load_page.Statement.{statement}
 use Rattle.call_recovery.proofs.load_page.Tie as tie

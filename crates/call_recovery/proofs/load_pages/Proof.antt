@@ -4,7 +4,7 @@ use Rattle.call_recovery.specs.Loading.{pagesAt, Loads}
 use Rattle.image.proofs.Collect.{within}
 use Rattle.image.specs.View.{view}
 use Rattle.basics.proofs.Kit.{ap, _∙_, ℕ, _≤_, _<_, _-_, length, take, arith}
-use Rattle.reader.specs.Answers.{isPage}
+use Rattle.block_reader.specs.Answers.{isPage}
 use Rattle.call_recovery.proofs.load_pages.Statement.{statement}
 use Rattle.call_recovery.proofs.load_pages.Tie as tie
 

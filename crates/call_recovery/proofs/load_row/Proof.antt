@@ -1,5 +1,5 @@
 -- `call_recovery::load_row` meets its contract.
-use Rattle.blocks.specs.Bytes.{tupleOf}
+use Rattle.block_forms.specs.Bytes.{tupleOf}
 use Rattle.model.specs.Rules.{withoutPending}
 use Rattle.memory_rows.specs.Rows.{heldBy, RowFits}
 use Rattle.memory_rows.specs.declared.Row.{Row}

@@ -3,11 +3,11 @@ use Rattle.call_recovery.proofs.Adding.{page-walk, fills-none, fills-tu
 use Rattle.call_recovery.specs.Loading.{tuplesIn, Fills}
 use Rattle.model.specs.State.{Held}
 use Rattle.model.specs.Rules.{withoutPending}
-use Rattle.reader.proofs.Walk.{Walk, walk-found, walk-bad}
-use Rattle.reader.proofs.Records.{found-fits}
-use Rattle.blocks.proofs.Spelled.{all-bytes}
-use Rattle.blocks.specs.Tuple.{Tuple}
-use Rattle.blocks.specs.Decode.{decodeBlock}
+use Rattle.block_reader.proofs.Walk.{Walk, walk-found, walk-bad}
+use Rattle.block_reader.proofs.Records.{found-fits}
+use Rattle.block_forms.proofs.Spelled.{all-bytes}
+use Rattle.block_forms.specs.Tuple.{Tuple}
+use Rattle.block_forms.specs.Decode.{decodeBlock}
 use Rattle.basics.proofs.Kit.{refl, sym, _∙_, subst, List, map, _≤_, _<_, _-_, length, take, arith}
 use Rattle.call_recovery.proofs.load_rows.Statement.{statement}
 use Rattle.call_recovery.proofs.load_rows.Tie as tie

@@ -1,9 +1,9 @@
 -- `call_recovery::note` meets its contract.
 use Rattle.call_recovery.proofs.Owning.{noted-by}
 use Rattle.call_recovery.specs.Reopening.{noted}
-use Rattle.blocks.specs.Bytes.{ownerIs}
-use Rattle.blocks.specs.declared.Owner.{Owner}
-use Rattle.blocks.specs.Tuple.{OwnerFits}
+use Rattle.block_forms.specs.Bytes.{ownerIs}
+use Rattle.block_forms.specs.declared.Owner.{Owner}
+use Rattle.block_forms.specs.Tuple.{OwnerFits}
 use Rattle.basics.proofs.Kit.{sym, ap, subst, _<_, needs, arith}
 use Rattle.call_recovery.proofs.note.Statement.{statement}
 use Rattle.call_recovery.proofs.note.Tie as tie

@@ -1,8 +1,8 @@
 -- `call_recovery::reopen_last` meets its contract.
 use Rattle.call_recovery.proofs.Owning.{opened-settled, opened-other, opened-last, opens-none, opens-one}
-use Rattle.blocks.specs.Bytes.{ownerIs}
-use Rattle.blocks.specs.declared.Owner.{Owner}
-use Rattle.blocks.specs.Tuple.{OwnerFits}
+use Rattle.block_forms.specs.Bytes.{ownerIs}
+use Rattle.block_forms.specs.declared.Owner.{Owner}
+use Rattle.block_forms.specs.Tuple.{OwnerFits}
 use Rattle.basics.proofs.Kit.{ap, subst, _<_, length, needs, arith}
 use Rattle.call_recovery.proofs.reopen_last.Statement.{statement}
 use Rattle.call_recovery.proofs.reopen_last.Tie as tie

@@ -3,7 +3,7 @@ use Rattle.basics.proofs.Kit.{_≡_, sym, ap, _∙_, true, List, _++_, ℕ, _*_
 use Rattle.memory_layout.specs.Flat.{Flat, flatOf}
 use Rattle.memory_layout.specs.Store.{holdsStore}
 use Rattle.memory_layout.proofs.Laws.{known, holds-room}
-use Rattle.contracts.proofs.Answering.{replies-4, replies-refused, replies-filled, replies-lists}
+use Rattle.call_contracts.proofs.Answering.{replies-4, replies-refused, replies-filled, replies-lists}
 use Rattle.call_transactions.proofs.Listing.{listed, length-listed, list-21, list-done}
 use Rattle.call_transactions.proofs.list.Statement.{statement}
 use Rattle.call_transactions.proofs.list.Tie as tie

@@ -1,6 +1,6 @@
 -- `call_transactions::next_row` meets its contract.
 use Rattle.basics.proofs.Kit.{refl, ap, needs}
-use Rattle.blocks.specs.Tuple.{tentative}
+use Rattle.block_forms.specs.Tuple.{tentative}
 use Rattle.model.specs.State.{Active}
 use Rattle.memory_layout.specs.declared.Head.{Head}
 use Rattle.call_transactions.proofs.Writing.{read-fits}

@@ -4,7 +4,7 @@ use Rattle.memory_layout.specs.Flat.{Flat, flatOf}
 use Rattle.memory_layout.specs.Opens.{findOpen}
 use Rattle.memory_layout.specs.Store.{holdsStore}
 use Rattle.memory_layout.proofs.Laws.{holds-room}
-use Rattle.contracts.proofs.Answering.{answers-4, answers-refused, answers-done}
+use Rattle.call_contracts.proofs.Answering.{answers-4, answers-refused, answers-done}
 use Rattle.call_transactions.proofs.Opening.{open-6, open-8, open-9, open-done, opens-hold}
 use Rattle.call_transactions.proofs.open.Statement.{statement}
 use Rattle.call_transactions.proofs.open.Tie as tie

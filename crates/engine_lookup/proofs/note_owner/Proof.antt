@@ -1,7 +1,7 @@
 -- `engine_lookup::note_owner` meets its contract.
 use Rattle.basics.proofs.Kit.{sym, ap, _∙_, needs}
-use Rattle.blocks.specs.declared.Owner.{Owner}
-use Rattle.blocks.specs.Bytes.{ownerIs}
+use Rattle.block_forms.specs.declared.Owner.{Owner}
+use Rattle.block_forms.specs.Bytes.{ownerIs}
 use Rattle.engine_lookup.specs.Lookup.{noteOwner}
 use Rattle.engine_lookup.proofs.note_owner.Statement.{statement}
 use Rattle.engine_lookup.proofs.note_owner.Tie as tie

@@ -1,6 +1,6 @@
 -- `engine_lookup::note_row` meets its contract.
 use Rattle.basics.proofs.Kit.{ap, _∙_, needs}
-use Rattle.blocks.specs.Tuple as tuples
+use Rattle.block_forms.specs.Tuple as tuples
 use Rattle.memory_layout.specs.Flat.{flatOf, rowIn}
 use Rattle.engine_lookup.specs.Lookup.{noteOwner}
 use Rattle.engine_lookup.proofs.Notes.{note-removed, note-committing, note-other, row-below}

@@ -2,7 +2,7 @@
 use Rattle.engine_writer.proofs.Headers.{named-few}
 use Rattle.engine_writer.proofs.Numbered.{entries-turn}
 use Rattle.memory_layout.specs.Flat.{flatOf}
-use Rattle.blocks.specs.Limits.{entriesPerBlock}
+use Rattle.block_forms.specs.Limits.{entriesPerBlock}
 use Rattle.basics.proofs.Kit.{_≡_, refl, _≤_, _-_, length, take, drop, length-set, arith}
 use Rattle.engine_writer.proofs.named_from.Statement.{statement}
 use Rattle.engine_writer.proofs.named_from.Tie as tie

@@ -1,7 +1,7 @@
 -- `engine_writer::write_directory` meets its contract.
 use Rattle.basics.proofs.Kit.{_≡_, ap, _∙_, ⊎-elim, List, ℕ, _*_, _-_, take, length-take, needs, arith}
-use Rattle.blocks.specs.Limits.{entriesPerBlock}
-use Rattle.blocks.specs.Block.{directory, encodeBlock}
+use Rattle.block_forms.specs.Limits.{entriesPerBlock}
+use Rattle.block_forms.specs.Block.{directory, encodeBlock}
 use Rattle.memory_layout.specs.Flat.{flatOf}
 use Rattle.engine_writer.proofs.Numbered.{Run, run-full, run-last}
 use Rattle.engine_writer.proofs.Headers.{named-few, count-named}
@@ -9,7 +9,7 @@ use Rattle.engine_writer.proofs.write_directory.Statement.{statement}
 use Rattle.engine_writer.proofs.write_directory.Tie as tie
 use Rattle.engine_writer.proofs.write_directory.Reads as reads
 use Rattle.engine_writer.proofs.write_directory.Lts as lts
-use Rattle.blocks.proofs.write_directory.Reads as write-directory-reads
+use Rattle.block_forms.proofs.write_directory.Reads as write-directory-reads
 use Rattle.engine_writer.proofs.named_from.Reads as named-from-reads
 use Rattle.memory_layout.proofs.get_counts.Reads as get-counts-reads
 

@@ -1,9 +1,9 @@
 -- `engine_writer::write_empty` meets its contract.
 use Rattle.basics.proofs.Kit.{_∙_, [], needs, arith}
 use Rattle.basics.specs.Basics.{sum}
-use Rattle.blocks.specs.Block.{PageFits}
-use Rattle.blocks.proofs.Stores.{over-whole}
-use Rattle.blocks.proofs.Built.{built-start, built-end}
+use Rattle.block_forms.specs.Block.{PageFits}
+use Rattle.block_forms.proofs.Stores.{over-whole}
+use Rattle.block_forms.proofs.Built.{built-start, built-end}
 use Rattle.engine_writer.proofs.write_empty.Statement.{statement}
 use Rattle.engine_writer.proofs.write_empty.Tie as tie
 

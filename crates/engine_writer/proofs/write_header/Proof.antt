@@ -1,8 +1,8 @@
 -- `engine_writer::write_header` meets its contract.
 use Rattle.engine_writer.proofs.Headers.{header-is}
 use Rattle.memory_layout.specs.declared.Head.{Head}
-use Rattle.blocks.specs.declared.Header.{Header}
-use Rattle.blocks.specs.Block.{header, encodeBlock}
+use Rattle.block_forms.specs.declared.Header.{Header}
+use Rattle.block_forms.specs.Block.{header, encodeBlock}
 use Rattle.basics.proofs.Kit.{ap, _∙_, needs, arith}
 use Rattle.engine_writer.proofs.write_header.Statement.{statement}
 use Rattle.engine_writer.proofs.write_header.Tie as tie

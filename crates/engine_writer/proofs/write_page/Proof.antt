@@ -1,8 +1,8 @@
 -- `engine_writer::write_page` meets its contract.
 use Rattle.basics.proofs.Kit.{_≡_, refl, sym, ap, _∙_, ⊎-elim, true, List, _∷_, ℕ, _+_, _≤_, _-_, length, getD, not-true, not-false, arith}
-use Rattle.blocks.specs.Tuple.{Tuple}
-use Rattle.blocks.specs.Block.{page, encodeBlock}
-use Rattle.blocks.proofs.Stores.{over-whole}
+use Rattle.block_forms.specs.Tuple.{Tuple}
+use Rattle.block_forms.specs.Block.{page, encodeBlock}
+use Rattle.block_forms.proofs.Stores.{over-whole}
 use Rattle.model.specs.Rules.{heldSize, shown}
 use Rattle.memory_layout.specs.Flat.{flatOf, noRow}
 use Rattle.engine_writer.proofs.Writing.{Writing, spells-appends, writing-start, writing-same, writing-length, writing-few, writing-turn, writing-over, writing-end}
@@ -12,9 +12,9 @@ use Rattle.engine_writer.proofs.write_page.Statement.{statement}
 use Rattle.engine_writer.proofs.write_page.Tie as tie
 use Rattle.engine_writer.proofs.write_page.Reads as reads
 use Rattle.engine_writer.proofs.write_page.Lts as lts
-use Rattle.blocks.proofs.append.Reads as append-reads
-use Rattle.blocks.proofs.copy.Reads as copy-reads
-use Rattle.blocks.proofs.put_page_head.Reads as put-page-head-reads
+use Rattle.block_forms.proofs.append.Reads as append-reads
+use Rattle.block_forms.proofs.copy.Reads as copy-reads
+use Rattle.block_forms.proofs.put_page_head.Reads as put-page-head-reads
 use Rattle.memory_rows.proofs.size_at.Reads as size-at-reads
 use Rattle.engine_writer.proofs.is_shown.Reads as is-shown-reads
 use Rattle.engine_writer.proofs.record_at.Reads as record-at-reads

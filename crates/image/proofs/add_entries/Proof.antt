@@ -1,6 +1,6 @@
 use Rattle.basics.proofs.Kit.{refl, sym, _∙_, some, [], needs}
 use Rattle.image.proofs.Named.{is-directory, no-directory, other-level, other-count, entries-put, not-put}
-use Rattle.blocks.specs.Decode.{decodeBlock}
+use Rattle.block_forms.specs.Decode.{decodeBlock}
 use Rattle.image.proofs.add_entries.Statement.{statement}
 use Rattle.image.proofs.add_entries.Tie as tie
 

@@ -1,5 +1,5 @@
 use Rattle.basics.proofs.Kit.{refl, _∙_, needs}
-use Rattle.blocks.specs.Spell.{zeros}
+use Rattle.block_forms.specs.Spell.{zeros}
 use Rattle.image.proofs.Collect.{whole-copy}
 use Rattle.image.proofs.block_at.Statement.{statement}
 use Rattle.image.proofs.block_at.Tie as tie

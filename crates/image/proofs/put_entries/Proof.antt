@@ -1,7 +1,7 @@
 use Rattle.basics.proofs.Kit.{_≡_, refl, sym, ap, _∙_, List, ℕ, _+_, _≤_, _-_, length, take, set, length-set, arith}
 use Rattle.image.proofs.Named.{put-turn}
-use Rattle.bits.proofs.Lists.{over-nil}
-use Rattle.bits.specs.Bits.{over}
+use Rattle.block_bits.proofs.Lists.{over-nil}
+use Rattle.block_bits.specs.Bits.{over}
 use Rattle.image.proofs.put_entries.Statement.{statement}
 use Rattle.image.proofs.put_entries.Tie as tie
 

@@ -1,7 +1,7 @@
 use Rattle.basics.proofs.Kit.{sym, ap, _∙_, _/_, length, needs}
 use Rattle.image.proofs.Staged.{not-whole, too-few, too-many, by-block, header-yes, header-no, no-header}
 use Rattle.image.specs.Answers.{headerAnswer}
-use Rattle.blocks.specs.Decode.{decodeBlock}
+use Rattle.block_forms.specs.Decode.{decodeBlock}
 use Rattle.image.proofs.test_header.Statement.{statement}
 use Rattle.image.proofs.test_header.Tie as tie
 

@@ -1,7 +1,7 @@
 use Rattle.basics.proofs.Kit.{_≡_, refl, _∙_, _-_, length, getD, arith}
 use Rattle.image.proofs.Collect.{Collecting, within, Goods, goods, page-here, tuples-here, collecting-start, collecting-turn, collecting-end, collecting-bad}
 use Rattle.image.specs.View.{view}
-use Rattle.rows.specs.Columns.{rowsIn}
+use Rattle.image_rows.specs.Columns.{rowsIn}
 use Rattle.image.proofs.test_rows.Statement.{statement}
 use Rattle.image.proofs.test_rows.Tie as tie
 

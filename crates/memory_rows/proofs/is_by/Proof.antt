@@ -1,6 +1,6 @@
-use Rattle.blocks.specs.declared.Owner.{Owner}
-use Rattle.blocks.specs.Bytes.{ownerIs}
-use Rattle.rows.specs.Rows.{isBy}
+use Rattle.block_forms.specs.declared.Owner.{Owner}
+use Rattle.block_forms.specs.Bytes.{ownerIs}
+use Rattle.image_rows.specs.Rows.{isBy}
 use Rattle.basics.proofs.Kit.{sym, ap, needs}
 use Rattle.memory_rows.proofs.is_by.Statement.{statement}
 use Rattle.memory_rows.proofs.is_by.Tie as tie

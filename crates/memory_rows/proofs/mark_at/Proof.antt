@@ -1,5 +1,5 @@
 use Rattle.memory_rows.proofs.Access.{mark-is}
-use Rattle.blocks.specs.Decode.{readMark}
+use Rattle.block_forms.specs.Decode.{readMark}
 use Rattle.basics.proofs.Kit.{sym, ap, _∙_, needs}
 use Rattle.memory_rows.proofs.mark_at.Statement.{statement}
 use Rattle.memory_rows.proofs.mark_at.Tie as tie

@@ -1,7 +1,7 @@
 use Rattle.memory_rows.proofs.Access.{owner-is}
-use Rattle.blocks.specs.Decode.{readOwner}
-use Rattle.blocks.specs.Bytes.{ownerIs}
-use Rattle.blocks.proofs.ReadTuples.{owner-same}
+use Rattle.block_forms.specs.Decode.{readOwner}
+use Rattle.block_forms.specs.Bytes.{ownerIs}
+use Rattle.block_forms.proofs.ReadTuples.{owner-same}
 use Rattle.memory_bytes.specs.Bytes.{le4}
 use Rattle.basics.proofs.Kit.{sym, ap, _∙_, ℕ, _+_, needs}
 use Rattle.memory_rows.proofs.owner_at.Statement.{statement}

@@ -1,7 +1,7 @@
 use Rattle.memory_rows.proofs.Fields.{live-is}
 use Rattle.memory_rows.specs.Cells.{keepsOwner}
 use Rattle.memory_layout.specs.Flat.{flatOf, rowIn}
-use Rattle.rows.specs.Rows.{isBy}
+use Rattle.image_rows.specs.Rows.{isBy}
 use Rattle.basics.proofs.Kit.{sym, ap, _∙_, Bool, _&&_, needs}
 use Rattle.memory_rows.proofs.owns.Statement.{statement}
 use Rattle.memory_rows.proofs.owns.Tie as tie

@@ -1,0 +1,80 @@
+-- `block_bits::put_fields` meets its contract. The invariant: the fields that are left, put over the block as it is, give the answer. Assumes nothing.
+use Rattle.basics.proofs.Kit.{_≡_, refl, sym, _∙_, _+_, _≤_, _<_, _-_, length, drop, arith}
+use Rattle.block_bits.specs.Bits.{bitsIn}
+use Rattle.block_bits.specs.Fields.{putAll, fieldsOf, sum, Words}
+use Rattle.block_bits.proofs.Rest.{sum-rest, words-rest, put-rest, put-none}
+use Rattle.block_bits.proofs.put_fields.Statement.{statement}
+use Rattle.block_bits.proofs.put_fields.Tie as tie
+
+abbrev Inv-loop : tie.InvT-loop
+Inv-loop block₀ at widths values i₀ pos₀ block i pos =
+    (i ≤ length widths) × (length block ≡ length block₀) × (pos + sum (drop i widths) ≡ at + sum widths) × Words (drop i widths)
+    × (putAll (bitsIn block) pos (fieldsOf (drop i widths) (drop i values)) ≡ putAll (bitsIn block₀) at (fieldsOf widths values))
+
+abbrev μ-loop : tie.MeasureT-loop
+μ-loop block₀ at widths values i₀ pos₀ block i pos = length widths - i
+
+loop-holds : tie.Need-loop-holds Inv-loop μ-loop
+loop-holds c = (omega arith, refl, refl, c .before .before .before .pre .0 .words, refl)
+
+shared-slice-read-size : tie.Need-shared-slice-read-size Inv-loop μ-loop
+shared-slice-read-size c = omega arith
+
+size-requires : tie.Need-size-requires Inv-loop μ-loop
+size-requires c κs = tt
+
+mul-put-bits : tie.Need-mul-put-bits Inv-loop μ-loop
+mul-put-bits c = omega arith
+
+shared-slice-read-put-bits : tie.Need-shared-slice-read-put-bits Inv-loop μ-loop
+shared-slice-read-put-bits c = omega arith
+
+put-bits-requires : tie.Need-put-bits-requires Inv-loop μ-loop
+put-bits-requires c κs =
+    let l = c .before .before .before .before .before .loop in
+    let ws = c .before .before .before .before .before .before .before .before .before .args .widths .now in
+    let h : l .i < length ws = omega arith in
+    omega (arith, sum-rest ws (l .i) h, words-rest ws (l .i) h (l .inv .3) .0)
+
+add-pos : tie.Need-add-pos Inv-loop μ-loop
+add-pos c =
+    let l = c .before .before .before .before .before .before .before .before .loop in
+    let ws = c .before .before .before .before .before .before .before .before .before .before .before .before .args .widths .now in
+    let h : l .i < length ws = omega arith in
+    omega (arith, sum-rest ws (l .i) h)
+
+add-i : tie.Need-add-i Inv-loop μ-loop
+add-i c = omega arith
+
+loop-less : tie.Need-loop-less Inv-loop μ-loop
+loop-less c = omega arith
+
+loop-again : tie.Need-loop-again Inv-loop μ-loop
+loop-again c =
+    let l = c .before .before .before .before .before .before .before .before .loop in
+    let a = c .before .before .before .before .before .before .before .before .before .before .before .before .args in
+    let ws = a .widths .now in
+    let put = c .before .before .put-bits in
+    let size = c .before .before .before .before .before .size in
+    let h : l .i < length ws = omega arith in
+    let k : l .i < length (a .values .now) = omega arith in
+    rw (size .ensures) (
+      omega arith,
+      put .kept .0 ∙ l .inv .1,
+      omega (arith, sum-rest ws (l .i) h),
+      words-rest ws (l .i) h (l .inv .3) .1,
+      rw (put .ensures, size .ensures) (sym (put-rest (bitsIn (l .block)) ws (a .values .now) (l .i) (l .pos) h k)) ∙ l .inv .4,
+    )
+
+same-length : tie.Need-same-length Inv-loop μ-loop
+same-length c = c .before .loop .inv .1
+
+returns : tie.Need-returns Inv-loop μ-loop
+returns c =
+    let l = c .before .loop in
+    let a = c .before .before .before .before .before .args in
+    sym (put-none (bitsIn (l .block)) (a .widths .now) (a .values .now) (l .i) (l .pos) (l .inv .0) (omega arith)) ∙ l .inv .4
+
+pub put-fields-spec : {M : Type 1} → statement M
+put-fields-spec = tie.close (tie.spec Inv-loop μ-loop loop-holds shared-slice-read-size size-requires mul-put-bits shared-slice-read-put-bits put-bits-requires add-pos add-i
+    loop-less loop-again same-length returns)

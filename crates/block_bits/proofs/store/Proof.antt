@@ -1,0 +1,70 @@
+-- `block_bits::store` meets its contract. Assumes nothing.
+use Rattle.basics.proofs.Kit.{_≡_, refl, sym, _∙_, _+_, _*_, _^_, _≤_, _/_, _-_, length, length-set, arith}
+use Rattle.block_bits.specs.Bits.{bitsOf, bitsIn, over}
+use Rattle.block_bits.proofs.Lists.{over-nil}
+use Rattle.block_bits.proofs.Window.{store-turn, store-end}
+use Rattle.block_bits.proofs.store.Statement.{statement}
+use Rattle.block_bits.proofs.store.Tie as tie
+
+abbrev Inv-loop : tie.InvT-loop
+Inv-loop block₀ p n x i₀ block i = (i ≤ n) × (length block ≡ length block₀) × (bitsIn block ≡ over (bitsIn block₀) (8 * p) (bitsOf (8 * i) (x / 2 ^ (8 * n - 8 * i))))
+
+abbrev μ-loop : tie.MeasureT-loop
+μ-loop block₀ p n x i₀ block i = n - i
+
+loop-holds : tie.Need-loop-holds Inv-loop μ-loop
+unfolding bitsOf
+loop-holds c = (omega arith, refl, sym (over-nil (bitsIn (c .before .args .block .now)) (8 * c .before .args .p)))
+
+mul-shr : tie.Need-mul-shr Inv-loop μ-loop
+mul-shr c = omega arith
+
+mul-shr-2 : tie.Need-mul-shr-2 Inv-loop μ-loop
+mul-shr-2 c = omega arith
+
+sub-shr : tie.Need-sub-shr Inv-loop μ-loop
+sub-shr c = omega arith
+
+sub-shr-2 : tie.Need-sub-shr-2 Inv-loop μ-loop
+sub-shr-2 c = omega arith
+
+shr-requires : tie.Need-shr-requires Inv-loop μ-loop
+shr-requires c κs = omega arith
+
+byte-requires : tie.Need-byte-requires Inv-loop μ-loop
+byte-requires c κs = tt
+
+add-block : tie.Need-add-block Inv-loop μ-loop
+add-block c = omega arith
+
+slice-write-block : tie.Need-slice-write-block Inv-loop μ-loop
+slice-write-block c = omega arith
+
+add-i : tie.Need-add-i Inv-loop μ-loop
+add-i c = omega arith
+
+loop-less : tie.Need-loop-less Inv-loop μ-loop
+loop-less c = omega arith
+
+loop-again : tie.Need-loop-again Inv-loop μ-loop
+loop-again c =
+    let l = c .before .before .before .loop in
+    let a = c .before .before .before .before .before .args in (
+      omega arith,
+      length-set (l .block) (a .p + l .i) (c .byte .result) ∙ l .inv .1,
+      store-turn (a .block .now) (l .block) (a .p) (a .n) (l .i) (a .x) (c .byte .result) (omega arith) (omega arith) (l .inv .1) (l .inv .2)
+          (rw (← c .before .shr .ensures) (c .byte .ensures)),
+    )
+
+same-length : tie.Need-same-length Inv-loop μ-loop
+same-length c = c .before .loop .inv .1
+
+returns : tie.Need-returns Inv-loop μ-loop
+returns c =
+    let l = c .before .loop in
+    let a = c .before .before .before .args in
+    l .inv .2 ∙ store-end (bitsIn (a .block .now)) (a .p) (a .n) (l .i) (a .x) (l .inv .0) (c .loop-test .left)
+
+pub store-spec : {M : Type 1} → statement M
+store-spec = tie.close (tie.spec Inv-loop μ-loop loop-holds mul-shr mul-shr-2 sub-shr sub-shr-2 shr-requires byte-requires add-block slice-write-block add-i loop-less
+    loop-again same-length returns)

@@ -1,0 +1,16 @@
+-- `block_forms::PageLayout::record_size` meets its contract.
+use Rattle.basics.specs.Basics.{if_then_else_}
+use Rattle.basics.proofs.Kit.{needs}
+use Rattle.block_forms.proofs.PageLayout.record_size.Statement.{statement}
+use Rattle.block_forms.proofs.PageLayout.record_size.Tie as tie
+
+returns : tie.Need-returns
+unfolding if_then_else_
+returns c = rw (c .if1 .taken)
+
+returns-2 : tie.Need-returns-2
+unfolding if_then_else_
+returns-2 c = rw (c .if1 .left)
+
+pub record-size-spec : {M : Type 1} → statement M
+record-size-spec = tie.close (tie.spec (search needs) returns (search needs) returns-2)

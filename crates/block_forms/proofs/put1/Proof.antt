@@ -1,0 +1,11 @@
+-- `block_forms::put1` meets its contract.
+use Rattle.basics.proofs.Kit.{needs, arith}
+use Rattle.block_forms.proofs.Stores.{set-over}
+use Rattle.block_forms.proofs.put1.Statement.{statement}
+use Rattle.block_forms.proofs.put1.Tie as tie
+
+returns : tie.Need-returns
+returns c = set-over (c .args .block .now) (c .args .at) (c .args .v) (omega arith)
+
+pub put1-spec : {M : Type 1} → statement M
+put1-spec = tie.close (tie.spec (search needs) (search needs) returns)

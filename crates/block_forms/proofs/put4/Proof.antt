@@ -1,0 +1,25 @@
+-- `block_forms::put4` meets its contract.
+use Rattle.basics.proofs.Kit.{length-set, needs, arith}
+use Rattle.block_forms.specs.Numbers.{be4}
+use Rattle.block_forms.proofs.Stores.{put-four}
+use Rattle.block_forms.proofs.put4.Statement.{statement}
+use Rattle.block_forms.proofs.put4.Tie as tie
+
+slice-write-block-2 : tie.Need-slice-write-block-2
+slice-write-block-2 c = simp length-set (omega arith)
+
+slice-write-block-3 : tie.Need-slice-write-block-3
+slice-write-block-3 c = simp length-set (omega arith)
+
+slice-write-block-4 : tie.Need-slice-write-block-4
+slice-write-block-4 c = simp length-set (omega arith)
+
+returns : tie.Need-returns
+unfolding be4
+returns c = let s = c .before .before .before .before .before in
+    rw (c .low4 .ensures, c .before .low3 .ensures, c .before .before .low2 .ensures, c .before .before .before .low .ensures)
+    (put-four (s .args .block .now) (s .args .at) _ _ _ _ (omega arith))
+
+pub put4-spec : {M : Type 1} → statement M
+put4-spec = tie.close (tie.spec (λ c κs. search needs) (search needs) (λ c κs. search needs) (search needs) slice-write-block-2 (λ c κs. search needs) (search needs)
+    slice-write-block-3 (λ c κs. search needs) (search needs) slice-write-block-4 (search needs) returns)

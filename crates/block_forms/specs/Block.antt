@@ -1,0 +1,103 @@
+-- The three kinds of block, their fields in order, and how a block is spelled.
+use Prim.Native.Nat.{ℕ, _<_, _≤_}
+use mathlib.Core.Bool.{Bool, true, false}
+use mathlib.Core.List.{List, [], _∷_, _++_}
+use lib.ListN.{length}
+use Rattle.block_bits.specs.Fields.{Fit}
+use Rattle.block_forms.specs.Limits.{recordSpace, entriesPerBlock}
+use Rattle.block_forms.specs.Tuple.{Owner, committed, tentative, Tuple, sizes, AllFit}
+use Rattle.block_forms.specs.Spell.{blockOf}
+use Rattle.block_forms.specs.declared.Header.{Header}
+
+-- page: table, level of writing, tuples; directory: level, block numbers
+pub data Block : Type 0 where
+  malformed : Block
+  header : Header → Block
+  page : ℕ → ℕ → List Tuple → Block
+  directory : ℕ → List ℕ → Block
+
+-- kind 4 bits, block count 13, N 11, level 32, next number 32, page count 11, directory count 3, four directory block numbers of 12
+abbrev pub headerFields : Header → List (ℕ × ℕ)
+headerFields h =
+    (4, 1) ∷ (13, h .blocks) ∷ (11, h .capacity) ∷ (32, h .level) ∷ (32, h .next) ∷ (11, h .pages) ∷ (3, h .directories)
+    ∷ (12, h .d0) ∷ (12, h .d1) ∷ (12, h .d2) ∷ (12, h .d3) ∷ []
+
+-- the committed bit
+unfoldable pub committedBit : Owner → ℕ
+committedBit committed = 1
+committedBit (tentative t s) = 0
+
+-- the delete mark's bit
+unfoldable pub markBit : Bool → ℕ
+markBit true = 1
+markBit false = 0
+
+-- if tentative transaction 12 and statement 20
+unfoldable pub ownerFields : Owner → List (ℕ × ℕ)
+ownerFields committed = []
+ownerFields (tentative t s) = (12, t) ∷ (20, s) ∷ []
+
+-- a payload's bytes
+unfoldable pub payloadFields : List ℕ → List (ℕ × ℕ)
+payloadFields [] = []
+payloadFields (b ∷ bs) = (8, b) ∷ payloadFields bs
+
+-- key 32, number 32, committed 1, delete mark 1, payload length 6, if tentative transaction 12 and statement 20, payload
+unfoldable pub recordFields : Tuple → List (ℕ × ℕ)
+recordFields x =
+    (32, x .key) ∷ (32, x .number) ∷ (1, committedBit (x .owner)) ∷ (1, markBit (x .mark)) ∷ (6, length (x .payload))
+    ∷ (ownerFields (x .owner) ++ payloadFields (x .payload))
+
+-- records one after another
+unfoldable pub recordsFields : List Tuple → List (ℕ × ℕ)
+recordsFields [] = []
+recordsFields (x ∷ xs) = recordFields x ++ recordsFields xs
+
+-- kind 4, table 3, tuple count 6, record bytes 9, level of writing 32, ten zero bits, then records
+abbrev pub pageFields : ℕ → ℕ → List Tuple → List (ℕ × ℕ)
+pageFields t l ts = (4, 2) ∷ (3, t) ∷ (6, length ts) ∷ (9, sizes ts) ∷ (32, l) ∷ (10, 0) ∷ recordsFields ts
+
+-- a directory's block numbers
+unfoldable pub entryFields : List ℕ → List (ℕ × ℕ)
+entryFields [] = []
+entryFields (e ∷ es) = (12, e) ∷ entryFields es
+
+-- kind 4, entry count 9, level 32, nineteen zero bits, then block numbers of 12 bits
+abbrev pub directoryFields : ℕ → List ℕ → List (ℕ × ℕ)
+directoryFields l es = (4, 3) ∷ (9, length es) ∷ (32, l) ∷ (19, 0) ∷ entryFields es
+
+-- the fields of a block of any kind
+abbrev pub blockFields : Block → List (ℕ × ℕ)
+blockFields malformed = []
+blockFields (header h) = headerFields h
+blockFields (page t l ts) = pageFields t l ts
+blockFields (directory l es) = directoryFields l es
+
+-- the 512 bytes of a block
+unfoldable pub encodeBlock : Block → List ℕ
+encodeBlock b = blockOf (blockFields b)
+
+-- every entry has 12 bits
+abbrev pub EntriesFit : List ℕ → Type 0
+EntriesFit [] = Unit {0}
+EntriesFit (e ∷ es) = (e < 4096) × EntriesFit es
+
+-- every field of a page is in its range, and its records have room
+pub record PageFits (t l : ℕ) (ts : List Tuple) : Type 0 where
+  pub table : t < 8
+  pub level : l < 4294967296
+  pub tuples : AllFit ts
+  pub room : sizes ts ≤ recordSpace
+
+-- every field of a directory is in its range
+pub record DirectoryFits (l : ℕ) (es : List ℕ) : Type 0 where
+  pub level : l < 4294967296
+  pub count : length es ≤ entriesPerBlock
+  pub entries : EntriesFit es
+
+-- every field of the block is in its range
+abbrev pub InRange : Block → Type 0
+InRange malformed = ⊥
+InRange (header h) = Fit (headerFields h)
+InRange (page t l ts) = PageFits t l ts
+InRange (directory l es) = DirectoryFits l es

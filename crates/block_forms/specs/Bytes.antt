@@ -1,0 +1,70 @@
+-- Owners and records as values of the code; records and a page's head byte by byte, as the code writes them: proofs/ show that they are
+-- the fields of Block.antt.
+use Prim.Native.Nat.{ℕ, _+_, _*_, _/_, _%_, _≤_}
+use mathlib.Core.Bool.{Bool}
+use mathlib.Core.List.{List, [], _∷_, _++_}
+use lib.ListN.{length, take, drop}
+use Rattle.block_forms.specs.Limits.{payloadLimit}
+use Rattle.block_forms.specs.Numbers.{be4}
+use Rattle.block_forms.specs.Tuple as tuples
+use Rattle.block_forms.specs.Tuple.{committed, tentative, Tuple, ownerSize, OwnerFits}
+use Rattle.block_forms.specs.Block.{committedBit, markBit}
+use Rattle.block_forms.specs.declared.Owner.{Owner}
+use Rattle.block_forms.specs.declared.Owner.the-variants.{Committed, Tentative}
+use Rattle.block_forms.specs.declared.Record.{Record}
+
+-- ---- values of the code and of the specification
+
+-- the owner that a value of the code is
+abbrev pub ownerIs : Owner → tuples.Owner
+ownerIs Committed = committed
+ownerIs (Tentative t s) = tentative t s
+
+-- an owner as a value of the code
+abbrev pub ownerAs : tuples.Owner → Owner
+ownerAs committed = Committed
+ownerAs (tentative t s) = Tentative t s
+
+-- the payload of a record that stands in xs
+abbrev pub payloadIn : List ℕ → Record → List ℕ
+payloadIn xs r = take (r .len) (drop (r .start) xs)
+
+-- the tuple of a record whose payload is p
+unfoldable pub tupleOf : Record → List ℕ → Tuple
+tupleOf r p = record { key = r .key; number = r .number; owner = ownerIs (r .owner); mark = r .mark; payload = p }
+
+-- how many bytes a record takes
+unfoldable pub sizeOf : Record → ℕ
+sizeOf r = 9 + ownerSize (ownerIs (r .owner)) + r .len
+
+-- the record fits a block at place at, its payload stands in xs, and its owner and payload are in range
+pub record Appendable (at : ℕ) (r : Record) (xs : List ℕ) : Type 0 where
+  pub room : at + sizeOf r ≤ 512
+  pub inside : r .start + r .len ≤ length xs
+  pub limit : r .len ≤ payloadLimit
+  pub owner : OwnerFits (ownerIs (r .owner))
+
+-- ---- bytes
+
+-- a record's ninth byte: committed, delete mark, payload length
+unfoldable pub flagsOf : tuples.Owner → Bool → ℕ → ℕ
+flagsOf o m n = committedBit o * 128 + (markBit m * 64 + n)
+
+-- an owner's four bytes as a number, 0 if committed
+unfoldable pub ownerWord : tuples.Owner → ℕ
+ownerWord committed = 0
+ownerWord (tentative t s) = t * 1048576 + s
+
+-- an owner's four bytes, if tentative
+unfoldable pub ownerBytes : tuples.Owner → List ℕ
+ownerBytes committed = []
+ownerBytes (tentative t s) = be4 (ownerWord (tentative t s))
+
+-- a tuple's record
+unfoldable pub recordBytes : Tuple → List ℕ
+recordBytes x =
+    be4 (x .key) ++ (be4 (x .number) ++ (flagsOf (x .owner) (x .mark) (length (x .payload)) ∷ (ownerBytes (x .owner) ++ x .payload)))
+
+-- the first eight bytes of a page of n tuples with b record bytes
+unfoldable pub pageHead : ℕ → ℕ → ℕ → ℕ → List ℕ
+pageHead t n b l = be4 (536870912 + t * 33554432 + n * 524288 + b * 1024 + l / 4194304) ++ be4 (l % 4194304 * 1024)

@@ -1,0 +1,61 @@
+-- A tuple and its size.
+use Prim.Native.Nat.{ℕ, _+_, _<_, _≤_}
+use mathlib.Core.Bool.{Bool, true, false}
+use mathlib.Core.List.{List, [], _∷_}
+use lib.ListN.{length}
+use Rattle.basics.specs.Basics.{sum}
+use Rattle.block_forms.specs.Limits.{payloadLimit}
+
+-- the committed mark; a tentative tuple has its transaction and statement instead
+pub data Owner : Type 0 where
+  committed : Owner
+  tentative : ℕ → ℕ → Owner
+
+-- key, number, payload, delete mark, and who owns it
+pub record Tuple : Type 0 where
+  pub key : ℕ
+  pub number : ℕ
+  pub owner : Owner
+  pub mark : Bool
+  pub payload : List ℕ
+
+-- not committed
+unfoldable pub isTentative : Owner → Bool
+isTentative committed = false
+isTentative (tentative t s) = true
+
+-- plus 4 if tentative
+unfoldable pub ownerSize : Owner → ℕ
+ownerSize committed = 0
+ownerSize (tentative t s) = 4
+
+-- 9 bytes plus its payload, plus 4 if tentative
+unfoldable pub size : Tuple → ℕ
+size x = 9 + ownerSize (x .owner) + length (x .payload)
+
+-- a page's size is the sum
+abbrev pub sizes : List Tuple → ℕ
+sizes ts = sum size ts
+
+-- a transaction is 0 to 4,095, and a statement has 20 bits
+abbrev pub OwnerFits : Owner → Type 0
+OwnerFits committed = Unit {0}
+OwnerFits (tentative t s) = (t < 4096) × (s < 1048576)
+
+-- every element is a byte
+abbrev pub AllBytes : List ℕ → Type 0
+AllBytes [] = Unit {0}
+AllBytes (b ∷ bs) = (b < 256) × AllBytes bs
+
+-- every field is in its range
+pub record Fits (x : Tuple) : Type 0 where
+  pub key : x .key < 4294967296
+  pub number : x .number < 4294967296
+  pub owner : OwnerFits (x .owner)
+  pub payload : length (x .payload) ≤ payloadLimit
+  pub bytes : AllBytes (x .payload)
+
+-- every tuple's fields are in their ranges
+abbrev pub AllFit : List Tuple → Type 0
+AllFit [] = Unit {0}
+AllFit (x ∷ xs) = Fits x × AllFit xs

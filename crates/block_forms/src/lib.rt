@@ -1,0 +1,273 @@
+// The block forms: header, page and directory, each a value and 512 bytes.
+ghost use mathlib.Core.Path.{_≡_};
+ghost use mathlib.Core.List.{[], _∷_};
+ghost use Prim.Native.Nat.{_+_, _%_, _<_, _≤_};
+ghost use lib.ListN.{length, take, drop};
+ghost use Rattle.basics.specs.Basics.{if_then_else_};
+ghost use Rattle.block_bits.specs.Bits.{over};
+ghost use Rattle.block_forms.specs.Limits.{payloadLimit, entriesPerBlock};
+ghost use Rattle.block_forms.specs.Numbers.{be4};
+ghost use Rattle.block_forms.specs.Tuple.{OwnerFits};
+ghost use Rattle.block_forms.specs.Spell.{zeros};
+ghost use Rattle.block_forms.specs.Block.{header, directory, encodeBlock};
+ghost use Rattle.block_forms.specs.Decode.{readOwner, readMark};
+ghost use Rattle.block_forms.specs.Bytes.{ownerIs, ownerAs, flagsOf, ownerWord, payloadIn, tupleOf, sizeOf, recordBytes, Appendable, pageHead};
+
+// A header block's fields.
+pub struct Header {
+    pub blocks: u32,
+    pub capacity: u32,
+    pub level: u32,
+    pub next: u32,
+    pub pages: u32,
+    pub directories: u32,
+    pub d0: u32,
+    pub d1: u32,
+    pub d2: u32,
+    pub d3: u32,
+}
+
+// Who owns a tuple: the committed mark, or its transaction and statement.
+pub enum Owner {
+    Committed,
+    Tentative { transaction: u32, statement: u32 },
+}
+
+// A tuple whose payload stands in a block or in any other slice, from start on.
+pub struct Record {
+    pub key: u32,
+    pub number: u32,
+    pub owner: Owner,
+    pub mark: bool,
+    pub start: usize,
+    pub len: usize,
+}
+
+// Block numbers in every directory block but the last.
+pub const ENTRIES_PER_BLOCK: usize = 336;
+
+// The layout of a page: its numbers, and what a record takes of it.
+pub struct PageLayout {}
+
+impl PageLayout {
+    // A block has 504 bytes for records.
+    pub const RECORD_SPACE: usize = 504;
+    // Two pages are joined if their sizes sum to at most this.
+    pub const JOIN_SUM: usize = 336;
+    // A payload has at most this many bytes.
+    pub const PAYLOAD_LIMIT: usize = 40;
+
+    // 9 bytes plus the payload, plus 4 if tentative.
+    pub fn record_size(len: usize, tentative: bool) -> usize
+        requires { ⌜ len < 64 ⌝ }
+        ensures { λ r. ⌜ r ≡ 9 + (if tentative then 4 else 0) + len ⌝ }
+    {
+        if tentative {
+            return 13 + len;
+        }
+        9 + len
+    }
+}
+
+fn low(x: u32) -> u8
+    ensures { λ r. ⌜ r ≡ x % 256 ⌝ }
+{
+    (x % 256) as u8
+}
+
+// Four bytes, high byte first.
+pub fn put4(block: &mut [u8], at: usize, v: u32)
+    requires { ⌜ at + 4 ≤ length (now block) ⌝ }
+    ensures { λ _. ⌜ now (block .exit) ≡ over (now (block .entry)) at (be4 v) ⌝ }
+{
+    block[at] = low(v / 16777216);
+    block[at + 1] = low(v / 65536);
+    block[at + 2] = low(v / 256);
+    block[at + 3] = low(v);
+}
+
+// One byte.
+pub fn put1(block: &mut [u8], at: usize, v: u8)
+    requires { ⌜ at < length (now block) ⌝ }
+    ensures { λ _. ⌜ now (block .exit) ≡ over (now (block .entry)) at (v ∷ []) ⌝ }
+{
+    block[at] = v;
+}
+
+// len bytes of from, from start on, over those of block from at on.
+pub fn copy(block: &mut [u8], at: usize, from: &[u8], start: usize, len: usize)
+    requires { ⌜ (at + len ≤ length (now block)) × (start + len ≤ length (now from)) ⌝ }
+    ensures { λ _. ⌜ now (block .exit) ≡ over (now (block .entry)) at (take len (drop start (now (from .entry)))) ⌝ }
+{
+    let mut i: usize = 0;
+    while i < len {
+        block[at + i] = from[start + i];
+        i = i + 1;
+    }
+}
+
+// ---- a record's ninth byte and its owner's word
+
+// A ninth byte: committed from here on; below it, the delete mark and the payload's length.
+const COMMITTED: u8 = 128;
+
+const MARK: u8 = 64;
+
+// How many tuples a transaction may write, and what its number is multiplied by in an owner's word.
+const STATEMENTS: u32 = 1048576;
+
+// A record's ninth byte.
+pub fn flags_of(owner: Owner, mark: bool, len: usize) -> u8
+    requires { ⌜ len ≤ payloadLimit ⌝ }
+    ensures { λ r. ⌜ r ≡ flagsOf (ownerIs owner) mark len ⌝ }
+{
+    let mut flags = len as u8;
+    if mark {
+        flags = MARK + flags;
+    }
+    match owner {
+        Owner::Committed => COMMITTED + flags,
+        Owner::Tentative {
+            transaction: _,
+            statement: _,
+        } => flags,
+    }
+}
+
+// An owner's four bytes as a number, 0 if committed.
+pub fn word_of(owner: Owner) -> u32
+    requires { ⌜ OwnerFits (ownerIs owner) ⌝ }
+    ensures { λ r. ⌜ r ≡ ownerWord (ownerIs owner) ⌝ }
+{
+    match owner {
+        Owner::Committed => 0,
+        Owner::Tentative {
+            transaction: t,
+            statement: s,
+        } => t * STATEMENTS + s,
+    }
+}
+
+// The owner, from a record's ninth byte and the owner's word, which is not looked at if committed.
+pub fn owner_of(flags: u8, word: u32) -> Owner
+    ensures { λ r. ⌜ r ≡ ownerAs (readOwner flags word) ⌝ }
+{
+    if flags < COMMITTED {
+        return Owner::Tentative {
+            transaction: word / STATEMENTS,
+            statement: word % STATEMENTS,
+        };
+    }
+    Owner::Committed
+}
+
+// The delete mark, from a record's ninth byte.
+pub fn mark_of(flags: u8) -> bool
+    ensures { λ r. ⌜ r ≡ readMark flags ⌝ }
+{
+    MARK <= flags % COMMITTED
+}
+
+// One record more: its place is at, and the answer the place after it.
+pub fn append(block: &mut [u8; 512], at: usize, r: Record, from: &[u8]) -> usize
+    requires { ⌜ Appendable at r (now from) ⌝ }
+    ensures { λ n. ⌜ (n ≡ at + sizeOf r) × (now (block .exit) ≡ over (now (block .entry)) at (recordBytes (tupleOf r (payloadIn (now (from .entry)) r)))) ⌝ }
+{
+    let start = r.start;
+    let len = r.len;
+    let owner = r.owner;
+    put4(block, at, r.key);
+    put4(block, at + 4, r.number);
+    put1(block, at + 8, flags_of(owner, r.mark, len));
+    match owner {
+        Owner::Committed => {
+            copy(block, at + 9, from, start, len);
+            at + 9 + len
+        }
+        Owner::Tentative {
+            transaction: _,
+            statement: _,
+        } => {
+            put4(block, at + 9, word_of(owner));
+            copy(block, at + 13, from, start, len);
+            at + 13 + len
+        }
+    }
+}
+
+// The head of a page of count tuples with the given record bytes.
+pub fn put_page_head(block: &mut [u8], table: u32, count: u32, bytes: u32, level: u32)
+    requires { ⌜ (length (now block) ≡ 512) × (table < 8) × (count < 64) × (bytes < 512) ⌝ }
+    ensures { λ _. ⌜ now (block .exit) ≡ over (now (block .entry)) 0 (pageHead table count bytes level) ⌝ }
+{
+    put4(
+        block,
+        0,
+        536870912 + table * 33554432 + count * 524288 + bytes * 1024 + level / 4194304,
+    );
+    put4(block, 4, level % 4194304 * 1024);
+}
+
+fn big(x: u16) -> u64
+    ensures { λ r. ⌜ r ≡ x ⌝ }
+{
+    x as u64
+}
+
+// A directory's block, in a block of zeros, filled from the front.
+pub fn spell_directory(block: &mut [u8], level: u32, entries: &[u16], count: usize)
+    requires { ⌜ (count ≤ entriesPerBlock) × ((count ≤ length (now entries)) × ((length (now block) ≡ 512) × (now block ≡ zeros 512))) ⌝ }
+    ensures { λ _. ⌜ now (block .exit) ≡ encodeBlock (directory level (take count (now (entries .entry)))) ⌝ }
+{
+    block_bits::put_bits(block, 0, 4, 3);
+    block_bits::put_bits(block, 4, 9, count as u64);
+    block_bits::put_bits(block, 13, 32, level as u64);
+    block_bits::put_bits(block, 45, 19, 0);
+    let mut i: usize = 0;
+    while i < count {
+        block_bits::put_bits(block, 64 + 12 * i, 12, big(entries[i]));
+        i = i + 1;
+    }
+}
+
+// A header's block, in a block of zeros, by the table of widths.
+pub fn spell_header(block: &mut [u8], h: Header)
+    requires { ⌜ (length (now block) ≡ 512) × (now block ≡ zeros 512) ⌝ }
+    ensures { λ _. ⌜ now (block .exit) ≡ encodeBlock (header h) ⌝ }
+{
+    let widths = [4u8, 13, 11, 32, 32, 11, 3, 12, 12, 12, 12];
+    let values = [
+        1u64,
+        h.blocks as u64,
+        h.capacity as u64,
+        h.level as u64,
+        h.next as u64,
+        h.pages as u64,
+        h.directories as u64,
+        h.d0 as u64,
+        h.d1 as u64,
+        h.d2 as u64,
+        h.d3 as u64,
+    ];
+    block_bits::put_fields(block, 0, &widths, &values);
+}
+
+// A header's block, built in zeros and copied out whole.
+pub fn write_header(out: &mut [u8], h: Header)
+    requires { ⌜ length (now out) ≡ 512 ⌝ }
+    ensures { λ _. ⌜ now (out .exit) ≡ encodeBlock (header h) ⌝ }
+{
+    let mut block = [0u8; 512];
+    spell_header(&mut block, h);
+    copy(out, 0, &block, 0, 512);
+}
+
+// A directory's block, built in zeros and copied out whole.
+pub fn write_directory(out: &mut [u8], level: u32, entries: &[u16])
+    requires { ⌜ (length (now out) ≡ 512) × (length (now entries) ≤ entriesPerBlock) ⌝ }
+    ensures { λ _. ⌜ now (out .exit) ≡ encodeBlock (directory level (now (entries .entry))) ⌝ }
+{
+    let mut block = [0u8; 512];
+    spell_directory(&mut block, level, entries, entries.len());
+    copy(out, 0, &block, 0, 512);
+}

@@ -1,0 +1,40 @@
+-- `block_reader::same_block` meets its contract.
+use Rattle.basics.proofs.Kit.{_≡_, refl, _&&_, _≤_, _-_, drop, arith}
+use Rattle.block_forms.specs.Numbers.{same}
+use Rattle.block_reader.proofs.Same.{same-turn, same-end}
+use Rattle.block_reader.proofs.same_block.Statement.{statement}
+use Rattle.block_reader.proofs.same_block.Tie as tie
+
+abbrev Inv-loop : tie.InvT-loop
+Inv-loop a b ok₀ i₀ ok i = (i ≤ 512) × (same a b ≡ (ok && same (drop i a) (drop i b)))
+
+abbrev μ-loop : tie.MeasureT-loop
+μ-loop a b ok₀ i₀ ok i = 512 - i
+
+loop-holds : tie.Need-loop-holds Inv-loop μ-loop
+loop-holds c = (omega arith, refl)
+
+shared-slice-read-ok : tie.Need-shared-slice-read-ok Inv-loop μ-loop
+shared-slice-read-ok c = omega arith
+
+shared-slice-read-ok-2 : tie.Need-shared-slice-read-ok-2 Inv-loop μ-loop
+shared-slice-read-ok-2 c = omega arith
+
+add-i : tie.Need-add-i Inv-loop μ-loop
+add-i c = omega arith
+
+loop-less : tie.Need-loop-less Inv-loop μ-loop
+loop-less c = omega arith
+
+loop-again : tie.Need-loop-again Inv-loop μ-loop
+loop-again c = let s = c .before .before .before .before in
+    let p = c .before .before .before .loop in
+    (omega arith, same-turn (s .args .a .now) (s .args .b .now) (p .i) (p .ok) (p .inv .1) (omega arith) (omega arith))
+
+returns : tie.Need-returns Inv-loop μ-loop
+returns c = let s = c .before .before in
+    let p = c .before .loop in
+    same-end (s .args .a .now) (s .args .b .now) (p .i) (p .ok) (p .inv .1) (omega arith) (omega arith)
+
+pub same-block-spec : {M : Type 1} → statement M
+same-block-spec = tie.close (tie.spec Inv-loop μ-loop loop-holds shared-slice-read-ok shared-slice-read-ok-2 add-i loop-less loop-again returns)

@@ -1,0 +1,133 @@
+use Rattle.basics.proofs.Kit.{_≡_, refl, sym, _∙_, some, List, _++_, map, ℕ, _+_, _≤_, _<_, _-_, length, take, drop, arith}
+use Rattle.block_reader.proofs.Walk.{Left, left-start, left-end, left-bad, turn}
+use Rattle.image_page.proofs.Walk.{row-first, row-next, row-last}
+use Rattle.image_rows.specs.Columns.{rowsIn, bare}
+use Rattle.image_rows.specs.Rows.{rowsOf}
+use Rattle.block_forms.proofs.Spelled.{all-bytes}
+use Rattle.block_reader.proofs.Records.{found-is, found-fits, bad-is}
+use Rattle.block_forms.specs.Bytes.{payloadIn}
+use Rattle.block_forms.specs.Decode.{readTuples}
+use Rattle.block_forms.specs.Tuple.{Tuple}
+use Rattle.image_page.proofs.add_rows.Statement.{statement}
+use Rattle.image_page.proofs.add_rows.Tie as tie
+
+abbrev Inv-loop : tie.InvT-loop
+Inv-loop block table count places₀ numbers₀ owners₀ marks₀ k at₀ i₀ to₀ places numbers owners marks at i to = (i ≤ count) ×
+    ((at ≤ 512) × ((to ≡ k + i) × (((length places ≡ length places₀) ×
+    ((length numbers ≡ length numbers₀) × ((length owners ≡ length owners₀) × (length marks ≡ length marks₀))))
+    × ((ts : List Tuple) → readTuples count (drop 8 block) ≡ some ts → Left block count at i ts ×
+    (rowsIn places numbers owners marks to ≡ rowsIn places₀ numbers₀ owners₀ marks₀ k ++ map bare (rowsOf table (take i ts)))))))
+
+abbrev μ-loop : tie.MeasureT-loop
+μ-loop block table count places₀ numbers₀ owners₀ marks₀ k at₀ i₀ to₀ places numbers owners marks at i to = count - i
+
+loop-holds : tie.Need-loop-holds Inv-loop μ-loop
+loop-holds c =
+    let p5 = c .before .before .before .before .before in
+    let a = p5 .args in
+    (omega arith, (omega arith, (omega arith, ((refl, (refl, (refl, refl))), λ ts e. (left-start (a .block .now) (a .count) ts e, row-first (a .table) ts _)))))
+
+next-requires : tie.Need-next-requires Inv-loop μ-loop
+next-requires c κs = omega arith
+
+enum-known-r : tie.Need-enum-known-r Inv-loop μ-loop
+enum-known-r c = omega arith
+
+put-row-requires : tie.Need-put-row-requires Inv-loop μ-loop
+put-row-requires c κs = let p5 = c .before .before .before .before .before in
+    let p8 = p5 .before .before .before in
+    let p9 = p8 .before in
+    let known = p9 .before .before .before .before .before in
+    let s = known .before in
+    let xs : List ℕ = s .args .block .now in
+    let p = p9 .loop in
+    let f = found-is xs (p .at) (omega (arith, s .pre .0, p .inv .1 .0)) (sym (p5 .r .given .1) ∙ p5 .before .before .next .ensures) in (
+      omega (arith, p8 .loop-test .taken, p .inv .1 .1 .0, p .inv .1 .1 .1 .0, s .pre),
+      found-fits xs (p .at) (all-bytes xs (λ j. omega (arith, known .shared-slice-known .given j))) f,
+    )
+
+enum-told : tie.Need-enum-told Inv-loop μ-loop
+enum-told c = omega arith
+
+same-length : tie.Need-same-length Inv-loop μ-loop
+same-length c = c .before .before .before .before .loop .inv .1 .1 .1 .0 .0
+
+same-length-2 : tie.Need-same-length-2 Inv-loop μ-loop
+same-length-2 c = c .before .before .before .before .loop .inv .1 .1 .1 .0 .1 .0
+
+same-length-3 : tie.Need-same-length-3 Inv-loop μ-loop
+same-length-3 c = c .before .before .before .before .loop .inv .1 .1 .1 .0 .1 .1 .0
+
+same-length-4 : tie.Need-same-length-4 Inv-loop μ-loop
+same-length-4 c = c .before .before .before .before .loop .inv .1 .1 .1 .0 .1 .1 .1
+
+returns : tie.Need-returns Inv-loop μ-loop
+returns c =
+    let p2 = c .before .before in let p4 = p2 .before .before in let p10 = p4 .before .before .before .before .before .before in
+    let a = p10 .args in let p = p4 .loop in
+    let w = bad-is (a .block .now) (p .at) (sym (c .enum-told .given .1) ∙ p2 .next .ensures) in
+    λ ts e. left-bad (a .block .now) (a .count) (p .at) (p .i) ts (omega (arith, c .before .before .before .loop-test .taken)) w (p .inv .1 .1 .1 .1 ts e .0)
+
+add-to : tie.Need-add-to Inv-loop μ-loop
+add-to c =
+    let p17 = c .before .before .before .before .before .before .before .before .before .before .before .before .before .before .before .before .before in
+    let p18 = p17 .before in let p24 = p18 .before .before .before .before .before .before in
+    omega (arith, p24 .pre, p24 .good, p18 .loop .inv .1 .1 .0, p17 .loop-test)
+
+add-i : tie.Need-add-i Inv-loop μ-loop
+add-i c = let s = c .before .before .before .before .before .before .before .before .before .before .before .before .before .before .before .before .before .before .before .before .before .before .before .before in
+    omega (arith, c .before .before .before .before .before .before .before .before .before .before .before .before .before .before .before .before .before .loop-test .taken, s .fits)
+
+loop-less : tie.Need-loop-less Inv-loop μ-loop
+loop-less c = omega (arith, c .before .before .before .before .before .before .before .before .before .before .before .before .before .before .before .before .before .loop-test .taken)
+
+loop-again : tie.Need-loop-again Inv-loop μ-loop
+loop-again c =
+    let p8 = c .before .before .before .before .before .before .before .before in let p14 = p8 .before .before .before .before .before .before in
+    let p16 = p14 .before .before in let p17 = p16 .before in let p18 = p17 .before in let p24 = p18 .before .before .before .before .before .before in
+    let a = p24 .args in let p = p18 .loop in let g = p14 .r .given in let l = p .inv .1 .1 .1 .0 in let k = p .inv .1 .1 .1 .1 in let d = p8 .put-row .kept in
+    let room : p .at ≤ length (a .block .now) = omega (arith, p24 .pre .0, p .inv .1 .0) in
+    let f = found-is (a .block .now) (p .at) room (sym (g .1) ∙ p16 .next .ensures) in
+    let h : p .i < a .count = omega (arith, p17 .loop-test) in (
+      omega arith,
+      (
+        omega (arith, f .ends, p24 .pre .0),
+        (
+          omega (arith, p .inv .1 .1 .0),
+          (
+            (d .0 ∙ l .0, (d .1 .0 ∙ l .1 .0, (d .1 .1 .0 ∙ l .1 .1 .0, d .1 .1 .1 .0 ∙ l .1 .1 .1))),
+            λ ts e.
+                let t = turn (a .block .now) (a .count) (p .at) (p .i) ts h (k ts e .0) (g .0 .0) (g .0 .1 .0) f in (
+                  t .left,
+                  row-next (a .table) (p .i) ts (rowsIn (a .places .now) (a .numbers .now) (a .owners .now) (a .marks .now) (a .k)) (rowsIn (p .places) (p .numbers) (p .owners) (p .marks) (p .to))
+                      (k ts e .1) _ (g .0 .0)
+                      (payloadIn (a .block .now) (g .0 .0)) (drop (p .i + 1) ts) (t .first) (p8 .put-row .ensures),
+                ),
+          ),
+        ),
+      ),
+    )
+
+same-length-5 : tie.Need-same-length-5 Inv-loop μ-loop
+same-length-5 c = c .before .loop .inv .1 .1 .1 .0 .0
+
+same-length-6 : tie.Need-same-length-6 Inv-loop μ-loop
+same-length-6 c = c .before .loop .inv .1 .1 .1 .0 .1 .0
+
+same-length-7 : tie.Need-same-length-7 Inv-loop μ-loop
+same-length-7 c = c .before .loop .inv .1 .1 .1 .0 .1 .1 .0
+
+same-length-8 : tie.Need-same-length-8 Inv-loop μ-loop
+same-length-8 c = c .before .loop .inv .1 .1 .1 .0 .1 .1 .1
+
+returns-2 : tie.Need-returns-2 Inv-loop μ-loop
+returns-2 c =
+    let p7 = c .before .before .before .before .before .before .before in
+    let a = p7 .args in let p = c .before .loop in
+    let e : a .k + a .count ≡ p .to = omega (arith, p .inv .1 .1 .0, p .inv .0, c .loop-test) in
+    λ ts h. rw e (row-last (a .table) (p .i) ts (rowsIn (a .places .now) (a .numbers .now) (a .owners .now) (a .marks .now) (a .k)) _ (p .inv .1 .1 .1 .1 ts h .1)
+    (left-end (a .block .now) (a .count) (p .at) (p .i) ts (omega (arith, p .inv .0, c .loop-test)) (p .inv .1 .1 .1 .1 ts h .0)))
+
+pub add-rows-spec : {M : Type 1} → statement M
+add-rows-spec = tie.close (tie.spec Inv-loop μ-loop loop-holds next-requires enum-known-r put-row-requires enum-told same-length same-length-2 same-length-3 same-length-4
+    returns add-to add-i loop-less loop-again same-length-5 same-length-6 same-length-7 same-length-8 returns-2)

@@ -1,0 +1,43 @@
+-- Rows without their payloads: what columns hold of rows, and the tests on them.
+use Rattle.basics.proofs.Kit.{_≡_, refl, Bool, _&&_, List, [], _∷_, map, ℕ, _-_, leb, length}
+use Rattle.basics.specs.Basics.{if_then_else_, all, every, paired, distinct}
+use Rattle.image_rows.specs.Rows.{Row, number, isAt, isLower, follows, startsWell, isBelow, statementOk, transactions, openLimit, markOk, rowsOk}
+use Rattle.image_rows.specs.Columns.{bare, columnsOk}
+use Rattle.basics.proofs.Ands.{and-assoc, and-comm, and-swap}
+use Rattle.image_rows.proofs.Kept.{paired-kept, numbers-kept, below-kept, transactions-kept, statements-kept}
+
+-- ---- tests
+
+starts-bare : (rs : List Row) → startsWell (map bare rs) ≡ startsWell rs
+unfolding startsWell
+starts-bare [] = refl
+starts-bare (r ∷ rs) = refl
+
+follows-bare : (rs : List Row) → paired follows (map bare rs) ≡ paired follows rs
+unfolding follows isAt isLower
+follows-bare rs = paired-kept follows bare (λ r s. refl) rs
+
+-- no test on columns looks at a payload
+pub columns-bare : (next : ℕ) (rs : List Row) → columnsOk next (map bare rs) ≡ columnsOk next rs
+unfolding columnsOk number
+columns-bare next rs =
+    rw (
+      follows-bare rs,
+      starts-bare rs,
+      numbers-kept bare (λ r. refl) rs,
+      below-kept bare (λ r. refl) next rs,
+      transactions-kept bare (λ r. refl) rs,
+      statements-kept bare (λ r. refl) (λ r. refl) rs,
+    )
+
+-- ---- all tests, in the order of the code
+
+order : (p s d b l t m k : Bool) → every (p ∷ s ∷ d ∷ b ∷ l ∷ t ∷ m ∷ k ∷ []) ≡ (every (p ∷ s ∷ d ∷ b ∷ t ∷ k ∷ []) && (l && m))
+unfolding every
+order p s d b l t m k = simp (and-assoc, and-comm, and-swap)
+
+pub rows-tests : (cap next : ℕ) (rs : List Row) → rowsOk cap next rs ≡ (columnsOk next rs && (leb (length rs) cap && all markOk rs))
+unfolding rowsOk columnsOk
+rows-tests cap next rs =
+    order (paired follows rs) (startsWell rs) (distinct (map number rs)) (all (isBelow next) rs) (leb (length rs) cap)
+    (leb (length (transactions rs)) openLimit) (all markOk rs) (all (statementOk rs) rs)

@@ -1,0 +1,35 @@
+-- The transactions of a list of rows: those that have a row.
+use Rattle.basics.proofs.Kit.{_≡_, refl, sym, ap, _∙_, Bool, true, _||_, List, [], _∷_, ℕ, eqb, eqb-true, eq-eqb, ne-eqb, eqb-false}
+use Rattle.basics.specs.Basics.{if_then_else_, any, isIn}
+use Rattle.basics.proofs.Facts.{by}
+use Rattle.block_forms.specs.Tuple.{Owner, committed, tentative}
+use Rattle.image_rows.specs.Rows.{Row, isBy, isOwn, addOwner, transactions}
+use Rattle.image_rows.proofs.Iterations.{any-cons}
+
+pub same-test : (m n : ℕ) → eqb m n ≡ eqb n m
+same-test m n =
+    by (eqb n m)
+    (λ t. rw t (eq-eqb m n (sym (eqb-true n m t))))
+    (λ t. rw t (ne-eqb m n (λ e. eqb-false n m t (sym e))))
+
+in-cons : (t u : ℕ) (ts : List ℕ) → isIn t (u ∷ ts) ≡ (eqb u t || isIn t ts)
+unfolding isIn
+in-cons t u ts = any-cons (eqb t) u ts ∙ ap (λ (b : Bool). b || any (eqb t) ts) (same-test t u)
+
+-- a transaction that is in the list already
+or-in : (t u : ℕ) (ts : List ℕ) → isIn u ts ≡ true → isIn t ts ≡ (eqb u t || isIn t ts)
+or-in t u ts h = by (eqb u t) (λ e. rw (e, ← eqb-true u t e) h) (λ e. rw e)
+
+in-added : (t : ℕ) (o : Owner) (ts : List ℕ) → isIn t (addOwner o ts) ≡ (isBy t o || isIn t ts)
+unfolding addOwner isBy if_then_else_
+in-added t committed ts = refl
+in-added t (tentative u s) ts = by (isIn u ts) (λ h. rw h (or-in t u ts h)) (λ h. rw h (in-cons t u ts))
+
+-- a transaction is listed if it has a row
+pub in-transactions : (t : ℕ) (rs : List Row) → isIn t (transactions rs) ≡ any (isOwn t) rs
+unfolding transactions isIn any isOwn
+in-transactions t [] = refl
+in-transactions t (r ∷ rs) =
+    in-added t (r .1 .owner) (transactions rs)
+    ∙ ap (λ (b : Bool). isBy t (r .1 .owner) || b) (in-transactions t rs)
+    ∙ sym (any-cons (isOwn t) r rs)

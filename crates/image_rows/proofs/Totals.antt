@@ -1,0 +1,125 @@
+-- Sums over the first n indices.
+use Rattle.basics.proofs.Kit.{_≡_, refl, ap, Bool, true, false, _&&_, ℕ, suc, _+_, _≤_, _<_, zero, add-one, eqb, ltb, lt-ltb, le-ltb, eqb-true, eq-eqb, ne-eqb, eqb-false, ltb-true}
+use Rattle.basics.proofs.Kit.{ltb-false, arith}
+use Rattle.basics.specs.Basics.{if_then_else_, howMany}
+use Rattle.basics.proofs.Facts.{by}
+use Rattle.image_rows.specs.Columns.{tab}
+
+-- w 0 + .. + w (n - 1)
+unfoldable pub total : (ℕ → ℕ) → ℕ → ℕ
+total w zero = 0
+total w (suc n) = w n + total w n
+
+unfoldable pub bit : Bool → ℕ
+bit true = 1
+bit false = 0
+
+pub bit-most : (b : Bool) → bit b ≤ 1
+unfolding bit
+bit-most true = omega arith
+bit-most false = omega arith
+
+pub bit-true : (b : Bool) → 1 ≤ bit b → b ≡ true
+unfolding bit
+bit-true true h = refl
+bit-true false h = absurd (omega arith)
+
+pub true-bit : {b : Bool} → b ≡ true → 1 ≤ bit b
+unfolding bit
+true-bit e = rw e (omega arith)
+
+pub compared : {X : Type 0} (a b : ℕ) → (a < b → X) → (a ≡ b → X) → (b < a → X) → X
+compared a b f g h =
+    by (ltb a b) (λ t. f (ltb-true a b t)) (λ t. by (eqb a b) (λ u. g (eqb-true a b u)) (λ u. h (omega (arith, ltb-false a b t, eqb-false a b u))))
+
+-- below m + 1 is below m or m
+pub bit-suc : (b : Bool) (x m : ℕ) → bit (b && ltb x (suc m)) ≡ bit (b && ltb x m) + bit (b && eqb x m)
+unfolding bit
+bit-suc false x m = refl
+bit-suc true x m =
+    compared x m
+    (λ l. rw (lt-ltb x (suc m) (omega arith), lt-ltb x m l, ne-eqb x m (λ e. omega arith)))
+    (λ e. rw (lt-ltb x (suc m) (omega arith), le-ltb x m (omega arith), eq-eqb x m e))
+    (λ l. rw (le-ltb x (suc m) (omega arith), le-ltb x m (omega arith), ne-eqb x m (λ e. omega arith)))
+
+pub bit-none : (b : Bool) (x : ℕ) → bit (b && ltb x 0) ≡ 0
+unfolding bit
+bit-none false x = refl
+bit-none true x = rw (le-ltb x 0 (omega arith))
+
+pub bit-below : (b : Bool) (x m n : ℕ) → m ≤ n → bit (b && ltb x m) ≤ bit (b && ltb x n)
+unfolding bit
+bit-below false x m n h = omega arith
+bit-below true x m n h =
+    by (ltb x m)
+    (λ t. rw (t, lt-ltb x n (omega (arith, ltb-true x m t))) (omega arith))
+    (λ t. rw t (omega arith))
+
+module _ (w u : ℕ → ℕ) where
+  pub total-le : (n : ℕ) → ((k : ℕ) → k < n → w k ≤ u k) → total w n ≤ total u n
+  unfolding total
+  total-le zero h = omega arith
+  total-le (suc n) h = omega (arith, h n (omega arith), total-le n (λ k l. h k (omega arith)))
+
+  pub total-same : (n : ℕ) → ((k : ℕ) → k < n → w k ≡ u k) → total w n ≡ total u n
+  unfolding total
+  total-same zero h = refl
+  total-same (suc n) h = omega (arith, h n (omega arith), total-same n (λ k l. h k (omega arith)))
+
+  pub total-sum : (v : ℕ → ℕ) (n : ℕ) → ((k : ℕ) → k < n → w k ≡ u k + v k) → total w n ≡ total u n + total v n
+  unfolding total
+  total-sum v zero h = refl
+  total-sum v (suc n) h = omega (arith, h n (omega arith), total-sum v n (λ k l. h k (omega arith)))
+
+module _ (w : ℕ → ℕ) where
+  pub total-none : (n : ℕ) → ((k : ℕ) → k < n → w k ≡ 0) → total w n ≡ 0
+  unfolding total
+  total-none zero h = refl
+  total-none (suc n) h = omega (arith, h n (omega arith), total-none n (λ k l. h k (omega arith)))
+
+  pub total-some : (n k : ℕ) → k < n → 1 ≤ w k → 1 ≤ total w n
+  unfolding total
+  total-some zero k l h = absurd (omega arith)
+  total-some (suc n) k l h =
+      by (eqb k n)
+      (λ t. omega (arith, rw (eqb-true k n t) at h))
+      (λ t. omega (arith, total-some n k (omega (arith, eqb-false k n t)) h))
+
+  pub total-find : {X : Type 0} (n : ℕ) → 1 ≤ total w n → ((k : ℕ) → k < n → 1 ≤ w k → X) → X
+  unfolding total
+  total-find zero h f = absurd (omega arith)
+  total-find (suc n) h f =
+      by (ltb 0 (w n))
+      (λ t. f n (omega arith) (omega (arith, ltb-true 0 (w n) t)))
+      (λ t. total-find n (omega (arith, ltb-false 0 (w n) t)) (λ k l. f k (omega arith)))
+
+  pub total-one : (n : ℕ) → ((k : ℕ) → w k ≤ 1) → ((j k : ℕ) → j < k → k < n → 1 ≤ w j → 1 ≤ w k → ⊥) → total w n ≤ 1
+  unfolding total
+  total-one zero b h = omega arith
+  total-one (suc n) b h =
+      by (ltb 0 (w n))
+      (λ t. omega (
+        arith,
+        b n,
+        total-none n (λ k l. by (eqb (w k) 0) (λ u. eqb-true _ _ u)
+            (λ u. absurd (h k n l (omega arith) (omega (arith, eqb-false (w k) 0 u)) (omega (arith, ltb-true 0 (w n) t))))),
+      ))
+      (λ t. omega (arith, ltb-false 0 (w n) t, total-one n b (λ j k l m. h j k l (omega arith))))
+
+-- a count along a list by its index
+module _ {A : Type 0} (f : A → Bool) (g : ℕ → A) where
+  counted : (i n : ℕ) → howMany f (tab g i n) + total (λ k. bit (f (g k))) i ≡ total (λ k. bit (f (g k))) (i + n)
+  unfolding howMany tab if_then_else_ bit
+  counted i zero = let e : i + 0 ≡ i = omega arith in rw e (omega arith)
+  counted i (suc n) =
+      let e : i + suc n ≡ i + 1 + n = omega arith in
+      rw e (by (f (g i))
+      (λ t. rw t (omega (arith, counted (i + 1) n, more i, ap bit t)))
+      (λ t. rw t (omega (arith, counted (i + 1) n, more i, ap bit t))))
+    where
+      more : (i : ℕ) → total (λ k. bit (f (g k))) (i + 1) ≡ bit (f (g i)) + total (λ k. bit (f (g k))) i
+      more i = unfold total in rw (add-one i)
+
+  pub count-total : (n : ℕ) → howMany f (tab g 0 n) ≡ total (λ k. bit (f (g k))) n
+  unfolding total
+  count-total n = let e : 0 + n ≡ n = omega arith in omega (arith, rw e at (counted 0 n))

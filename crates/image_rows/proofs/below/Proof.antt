@@ -1,0 +1,52 @@
+use Rattle.basics.proofs.Kit.{_≡_, sym, ap, _∙_, [], _-_, lt-ltb, le-ltb, arith}
+use Rattle.image_rows.proofs.Iterations.{tab-turn, tab-end, tab-whole, all-yes, all-not, all-end}
+use Rattle.image_rows.specs.Columns.{coded, rowAt, rowsIn, tab}
+use Rattle.image_rows.specs.Rows.{isBelow, number}
+use Rattle.basics.specs.Basics.{all}
+use Rattle.image_rows.proofs.below.Statement.{statement}
+use Rattle.image_rows.proofs.below.Tie as tie
+
+abbrev Inv-loop : tie.InvT-loop
+Inv-loop numbers count next i₀ i = all (isBelow next) (rowsIn [] numbers [] [] count) ≡ all (isBelow next) (tab (rowAt [] numbers [] []) i (count - i))
+
+abbrev μ-loop : tie.MeasureT-loop
+μ-loop numbers count next i₀ i = count - i
+
+loop-holds : tie.Need-loop-holds Inv-loop μ-loop
+unfolding rowsIn
+loop-holds c = ap (all (isBelow (c .args .next))) (sym (tab-whole (rowAt [] (c .args .numbers .now) [] []) (c .args .count)))
+
+mul-if1 : tie.Need-mul-if1 Inv-loop μ-loop
+mul-if1 c = omega arith
+
+shared-slice-read-if1 : tie.Need-shared-slice-read-if1 Inv-loop μ-loop
+shared-slice-read-if1 c = omega arith
+
+returns : tie.Need-returns Inv-loop μ-loop
+unfolding rowAt coded isBelow number
+returns c =
+    let p3 = c .before .before .before in let p4 = p3 .before in
+    let s = p4 in let p = p3 .loop in
+    sym (p .inv ∙ all-not (isBelow (s .args .next)) (tab-turn (rowAt [] (s .args .numbers .now) [] []) (p .i) (s .args .count) (omega arith)) (le-ltb _ _ (c .if1 .taken)))
+
+add-i : tie.Need-add-i Inv-loop μ-loop
+add-i c = omega arith
+
+loop-less : tie.Need-loop-less Inv-loop μ-loop
+loop-less c = omega arith
+
+loop-again : tie.Need-loop-again Inv-loop μ-loop
+unfolding rowAt coded isBelow number
+loop-again c =
+    let p3 = c .before .before .before in let p4 = p3 .before in
+    let s = p4 in let p = p3 .loop in
+    p .inv ∙ all-yes (isBelow (s .args .next)) (tab-turn (rowAt [] (s .args .numbers .now) [] []) (p .i) (s .args .count) (omega arith)) (lt-ltb _ _ (c .if1 .left))
+
+returns-2 : tie.Need-returns-2 Inv-loop μ-loop
+returns-2 c =
+    let p2 = c .before .before in
+    let s = p2 in let p = c .before .loop in
+    sym (p .inv ∙ all-end (isBelow (s .args .next)) (tab-end (rowAt [] (s .args .numbers .now) [] []) (p .i) (s .args .count) (omega arith)))
+
+pub below-spec : {M : Type 1} → statement M
+below-spec = tie.close (tie.spec Inv-loop μ-loop loop-holds mul-if1 shared-slice-read-if1 returns add-i loop-less loop-again returns-2)

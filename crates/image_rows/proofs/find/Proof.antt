@@ -1,0 +1,51 @@
+use Rattle.image_rows.proofs.Chains.{next-less, next-chain, found-here, visibility-on}
+use Rattle.image_rows.specs.Chains.{Chain, lastBy}
+use Rattle.basics.proofs.Kit.{_≡_, refl, sym, _∙_, _-_, eqb, arith}
+use Rattle.image_rows.proofs.find.Statement.{statement}
+use Rattle.image_rows.proofs.find.Tie as tie
+
+abbrev Inv-loop : tie.InvT-loop
+Inv-loop keys links head x j₀ j = Chain keys links j x × (lastBy (eqb x) keys head ≡ lastBy (eqb x) keys j)
+
+abbrev μ-loop : tie.MeasureT-loop
+μ-loop keys links head x j₀ j = j
+
+loop-holds : tie.Need-loop-holds Inv-loop μ-loop
+loop-holds c = (c .pre, refl)
+
+sub-if1 : tie.Need-sub-if1 Inv-loop μ-loop
+sub-if1 c = omega arith
+
+mul-if1 : tie.Need-mul-if1 Inv-loop μ-loop
+mul-if1 c = omega arith
+
+shared-slice-read-if1 : tie.Need-shared-slice-read-if1 Inv-loop μ-loop
+shared-slice-read-if1 c = omega arith
+
+returns : tie.Need-returns Inv-loop μ-loop
+returns c = let p = c .before .before .before .loop in found-here (p .inv .0) (omega arith) (c .if1 .taken) ∙ sym (p .inv .1)
+
+sub-j : tie.Need-sub-j Inv-loop μ-loop
+sub-j c = omega arith
+
+mul-j : tie.Need-mul-j Inv-loop μ-loop
+mul-j c = omega arith
+
+shared-slice-read-j : tie.Need-shared-slice-read-j Inv-loop μ-loop
+shared-slice-read-j c = omega arith
+
+cast-j : tie.Need-cast-j Inv-loop μ-loop
+cast-j c = omega (arith, c .shared-slice-known2 .given (c .before .before .before .before .loop .j - 1))
+
+loop-less : tie.Need-loop-less Inv-loop μ-loop
+loop-less c = let p = c .before .before .before .before .loop in next-less (p .inv .0) (omega arith)
+
+loop-again : tie.Need-loop-again Inv-loop μ-loop
+loop-again c = let p = c .before .before .before .before .loop in (next-chain (p .inv .0) (omega arith), p .inv .1 ∙ visibility-on (p .inv .0) (omega arith) (c .before .if1 .left))
+
+returns-2 : tie.Need-returns-2 Inv-loop μ-loop
+unfolding lastBy
+returns-2 c = let p = c .before .loop in let e : p .j ≡ 0 = omega arith in sym (p .inv .1 ∙ rw e)
+
+pub find-spec : {M : Type 1} → statement M
+find-spec = tie.close (tie.spec Inv-loop μ-loop loop-holds sub-if1 mul-if1 shared-slice-read-if1 returns sub-j mul-j shared-slice-read-j cast-j loop-less loop-again returns-2)

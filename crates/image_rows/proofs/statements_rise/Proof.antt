@@ -1,0 +1,41 @@
+use Rattle.image_rows.proofs.Iterations.{tab-turn, tab-end, tab-whole, all-yes, all-not, all-end}
+use Rattle.image_rows.specs.Chains.{isNext, statementsRise}
+use Rattle.image_rows.specs.Columns.{tab}
+use Rattle.basics.specs.Basics.{all}
+use Rattle.basics.proofs.Kit.{_≡_, sym, ap, _∙_, _-_, not-true, not-false, arith}
+use Rattle.image_rows.proofs.statements_rise.Statement.{statement}
+use Rattle.image_rows.proofs.statements_rise.Tie as tie
+
+abbrev Inv-loop : tie.InvT-loop
+Inv-loop numbers owners heads links count i₀ i = statementsRise numbers owners count ≡ all (isNext numbers owners count) (tab (λ j. j) i (count - i))
+
+abbrev μ-loop : tie.MeasureT-loop
+μ-loop numbers owners heads links count i₀ i = count - i
+
+loop-holds : tie.Need-loop-holds Inv-loop μ-loop
+unfolding statementsRise
+loop-holds c = let a = c .before .before .before .before .args in ap (all (isNext (a .numbers .now) (a .owners .now) (a .count))) (sym (tab-whole (λ j. j) (a .count)))
+
+is-next-requires : tie.Need-is-next-requires Inv-loop μ-loop
+is-next-requires c κs = (omega arith, (omega arith, c .before .before .before .before .before .before .pre .1))
+
+returns : tie.Need-returns Inv-loop μ-loop
+returns c = let p = c .before .before .before .loop in let a = c .before .before .before .before .before .before .before .before .args in
+    sym (p .inv ∙ all-not (isNext (a .numbers .now) (a .owners .now) (a .count)) (tab-turn (λ j. j) (p .i) (a .count) (omega arith)) (sym (c .before .is-next .ensures) ∙ not-true _ (c .if1 .taken)))
+
+add-i : tie.Need-add-i Inv-loop μ-loop
+add-i c = omega arith
+
+loop-less : tie.Need-loop-less Inv-loop μ-loop
+loop-less c = omega arith
+
+loop-again : tie.Need-loop-again Inv-loop μ-loop
+loop-again c = let p = c .before .before .before .loop in let a = c .before .before .before .before .before .before .before .before .args in
+    p .inv ∙ all-yes (isNext (a .numbers .now) (a .owners .now) (a .count)) (tab-turn (λ j. j) (p .i) (a .count) (omega arith)) (sym (c .before .is-next .ensures) ∙ not-false _ (c .if1 .left))
+
+returns-2 : tie.Need-returns-2 Inv-loop μ-loop
+returns-2 c = let p = c .before .loop in let a = c .before .before .before .before .before .before .args in
+    sym (p .inv ∙ all-end (isNext (a .numbers .now) (a .owners .now) (a .count)) (tab-end (λ j. j) (p .i) (a .count) (omega arith)))
+
+pub statements-rise-spec : {M : Type 1} → statement M
+statements-rise-spec = tie.close (tie.spec Inv-loop μ-loop loop-holds is-next-requires returns add-i loop-less loop-again returns-2)

@@ -1,0 +1,38 @@
+-- `arguments` is safe and ends: the count is at most the place.
+use mathlib.Core.Logic.{⊎-elim}
+use lib.ListN.{length}
+use native.Mathlib.Omega.{arith}
+use mathlib.Core.Path.{_≡_}
+use Prim.Native.Nat.{_≤_, _-_}
+use Rattle.replay_script.proofs.arguments.Statement.{statement}
+use Rattle.replay_script.proofs.arguments.Tie as tie
+
+abbrev Inv-loop : tie.InvT-loop
+Inv-loop line n₀ i₀ i-end n i = (i-end ≡ length line) × (i ≤ i-end) × (n ≤ i)
+
+abbrev μ-loop : tie.MeasureT-loop
+μ-loop line n₀ i₀ i-end n i = i-end - i
+
+loop-holds : tie.Need-loop-holds Inv-loop μ-loop
+loop-holds c = omega arith
+
+shared-slice-read-if1 : tie.Need-shared-slice-read-if1 Inv-loop μ-loop
+shared-slice-read-if1 c = omega arith
+
+add-n : tie.Need-add-n Inv-loop μ-loop
+add-n c = omega arith
+
+add-i : tie.Need-add-i Inv-loop μ-loop
+add-i c = omega arith
+
+loop-less : tie.Need-loop-less Inv-loop μ-loop
+loop-less c = omega arith
+
+loop-again : tie.Need-loop-again Inv-loop μ-loop
+loop-again c = ⊎-elim (λ w. omega arith) (λ w. omega arith) (c .if1 .came)
+
+returns : tie.Need-returns Inv-loop μ-loop
+returns c = tt
+
+pub arguments-spec : {M : Type 1} → statement M
+arguments-spec = tie.close (tie.spec Inv-loop μ-loop loop-holds shared-slice-read-if1 add-n add-i loop-less loop-again returns)
