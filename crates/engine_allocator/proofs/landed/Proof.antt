@@ -17,7 +17,7 @@ use ghost.Atoms.{Atoms, sem}
 use contract.Monad.{Fun, fact, fact-use}
 use contract.Running.{givenOf, tables, tablesOf}
 use types.Kit.{Given, ‵, raw, _⊛_, some, given, later, _$_, _∵_, !, qed, by, move, keep, use1, use2, use3, split, join, pick, learn, feqL, check, suffices, frame, await, updating, now as at-once, done}
-use types.Run.{visibility, init, forget, stop, from, load, and-then, no-more, of-opd, addr, assigns, land, returns, enter, alloc1, alloc0, params1, pass1, pass0, free1, free0}
+use types.Run.{look, init, forget, stop, from, load, and-then, no-more, of-opd, addr, assigns, land, returns, enter, alloc1, alloc0, params1, pass1, pass0, free1, free0}
 use sound.WpLaws.{FmC, fmOf, WpFn-mono}
 use denote.RattleType.{owns}
 use denote.Laws.{Is}
@@ -92,18 +92,18 @@ module _ {M : Type 1} (𝓤 : URA M) (H : Heap 𝓤) (A : Atoms 𝓤) (W : Given
         qed W (‵ ftrue ∷ ‵ (owns (T.the-row ∷ []) (h, tt) (mach h ∷ [], tt)) ∷ []) ∵ enter ! C Λ code.function (mach h ∷ []) _ $
         alloc1 ! (λ l₀. alloc1 ! (λ l₁. alloc1 ! (λ l₂. alloc1 ! (λ l₃. alloc1 ! (λ l₄. alloc0 ! $ params1 ! $ pass1 ! (init ! 6 refl (typed 𝓤 H A W l₁ h is)) $ pass0 ! $
         -- [_4; …; _3; …; _2; …; _1; …; room for _0; …; true; what a owns]
-        assigns ! (of-opd ! (load ! (from ! (stop !)) (visibility ! 6 refl))) (from ! (stop !)) (init ! 4 refl (typed 𝓤 H A W l₂ h is)) $
+        assigns ! (of-opd ! (load ! (from ! (stop !)) (look ! 6 refl))) (from ! (stop !)) (init ! 4 refl (typed 𝓤 H A W l₂ h is)) $
         assigns ! (addr ! (from ! (stop !))) (from ! (stop !)) (init ! 0 refl (tt, tt)) $
         move ! (4 ∷ []) $ use1 W (later (some (λ (α : ℕ). some (λ (δ : GName). ‵ (flft (α ∷ []) fullShare) ⊛ (‵ (lentRef l₂ α δ h) ⊛ ‵ (kept l₂ α δ)))))) (lend 𝓤 H A W l₂ h is) $ await ! tt $ pick ! (λ α. pick ! (λ δ. split ! $ move ! (1 ∷ []) $ split ! $ move ! (2 ∷ 0 ∷ []) $
         -- [the token; the reference; what is kept; _4; …; _3; …; … of _2; _1; …; room for _0; …; true; what a owns]
         use2 W (raw (Land 𝓤 H A mem run .pre (to-land l₂ α δ))) (goes l₂ α δ) $
-        calls-at ! fm (Land 𝓤 H A mem run) known (to-land l₂ α δ) (and-then ! (load ! (from ! (stop !)) (visibility ! 2 refl)) (no-more !)) (λ v.
+        calls-at ! fm (Land 𝓤 H A mem run) known (to-land l₂ α δ) (and-then ! (load ! (from ! (stop !)) (look ! 2 refl)) (no-more !)) (λ v.
         use1 W (later (given (v ≡ vunit) (‵ (flft (α ∷ []) fullShare) ⊛ ‵ (last δ (landing h))))) (gives l₂ α δ v) $ await ! tt $ learn ! (λ e. split ! $
         land ! (from ! (stop !)) (init ! 5 refl (subst (λ (y : Val). Holds (hasTy tyUnit y) × WT y) (sym e) (tt, tt))) $
         move ! (0 ∷ 2 ∷ 1 ∷ []) $ use3 W (later (given (IsMach (landing h)) (‵ (fat fullShare T′.mir l₂ 0 (mach (landing h)))))) (back 𝓤 H A W l₂ (landing h) α δ) $ await ! tt $ learn ! (λ is′.
         -- [_2; _4; …; _3; …; … of _2; _1; …; room for _0; …; true; what a owns]
-        assigns ! (of-opd ! (load ! (from ! (stop !)) (visibility ! 0 refl))) (from ! (stop !)) (init ! 8 refl (typed 𝓤 H A W l₀ (landing h) is′)) $
-        returns ! (visibility ! 8 refl) $ forget ! 0 refl $ forget ! 1 refl $ forget ! 3 refl $ forget ! 6 refl $ forget ! 8 refl $
+        assigns ! (of-opd ! (load ! (from ! (stop !)) (look ! 0 refl))) (from ! (stop !)) (init ! 8 refl (typed 𝓤 H A W l₀ (landing h) is′)) $
+        returns ! (look ! 8 refl) $ forget ! 0 refl $ forget ! 1 refl $ forget ! 3 refl $ forget ! 6 refl $ forget ! 8 refl $
         move ! (8 ∷ 9 ∷ []) $ free1 ! $ move ! (6 ∷ 7 ∷ []) $ free1 ! $ move ! (0 ∷ 5 ∷ []) $ free1 ! $ move ! (2 ∷ 3 ∷ []) $ free1 ! $ free1 ! $ free0 ! $ by ! (exits is′)))))))))))
 
 module _ {M : Type 1} (𝓤 : URA M) (H : Heap 𝓤) (A : Atoms 𝓤) (W : Given 𝓤 H A) (mem : Memory → SProp 𝓤) (run : Routine → Fun 𝓤) where
