@@ -41,7 +41,7 @@ afterWrite tx t k bs mark s = changed s (suc (s .next)) (place t (newTuple tx k 
 
 -- one tuple more was withTuple
 unfoldable pub oneMore : Active → Active
-oneMore o = record { transaction = o .transaction; withTuple = min (suc (o .written)) 1048575 }
+oneMore o = record { transaction = o .transaction; written = min (suc (o .written)) 1048575 }
 
 -- open transaction i
 abbrev pub openIn : Flat → ℕ → Active
@@ -52,7 +52,7 @@ pub record WriterAt (m : List ℕ) (i : ℕ) : Type 0 where
   pub room : Room m
   pub inside : i < length (flatOf m .opens)
   pub transaction : openIn (flatOf m) i .transaction < 4096
-  pub withTuple : openIn (flatOf m) i .written < 1048576
+  pub written : openIn (flatOf m) i .written < 1048576
   pub next : flatOf m .head .next ≡ 4294967295 → ⊥
 
 -- the row that open transaction i writes next

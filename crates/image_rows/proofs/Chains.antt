@@ -91,8 +91,8 @@ module _ {xs links : List ℕ} {j x : ℕ} (c : Chain xs links j x) (pos : 0 < j
       let z : j ≡ j - 1 + 1 = omega arith in
       z ∙ sym (last-yes (eqb x) xs (j - 1) (eq-eqb _ _ (sym e))) ∙ ap (lastBy (eqb x) xs) (sym z)
 
-  pub visibility-on : (getD xs (j - 1) 0 ≡ x → ⊥) → lastBy (eqb x) xs j ≡ lastBy (eqb x) xs (getD links (j - 1) 0)
-  visibility-on h =
+  pub chain-on : (getD xs (j - 1) 0 ≡ x → ⊥) → lastBy (eqb x) xs j ≡ lastBy (eqb x) xs (getD links (j - 1) 0)
+  chain-on h =
       let z : j ≡ j - 1 + 1 = omega arith in
       ap (lastBy (eqb x) xs) z
       ∙ last-not (eqb x) xs (j - 1) (ne-eqb _ _ (λ e. h (sym e)))

@@ -44,7 +44,7 @@ phase-changed img s b nx ps os e idle k ph = k ph
 phase-changed img s b nx ps os e (running n₀ es ds) k r =
     record {
       nxt = r .nxt;
-      withProgress = rw e (r .stored);
+      stored = rw e (r .stored);
       dirs = r .dirs;
       base = r .base;
       bcap = r .bcap;

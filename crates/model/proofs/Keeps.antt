@@ -51,9 +51,9 @@ open-valid tx s v =
       pages = v .pages;
       still = v .still;
       has = v .has;
-      sees = subst (λ z. LiveOk z (rows (s .pages))) (sym (numbers-append (s .active) (record { transaction = tx; withTuple = 0 })))
+      sees = subst (λ z. LiveOk z (rows (s .pages))) (sym (numbers-append (s .active) (record { transaction = tx; written = 0 })))
           (live-open tx (openNumbers (s .active)) (rows (s .pages)) (v .sees));
-      opened = let l = leb-false 64 (length (s .active)) (p .1 .1 .0) in let m = length-append (s .active) (record { transaction = tx; withTuple = 0 } ∷ []) in omega arith;
+      opened = let l = leb-false 64 (length (s .active)) (p .1 .1 .0) in let m = length-append (s .active) (record { transaction = tx; written = 0 } ∷ []) in omega arith;
       nx = v .nx;
       cap = v .cap;
     })

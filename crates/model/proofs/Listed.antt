@@ -62,7 +62,7 @@ pub keeps-listed : (c : Call) (s : Store) → Listed s → Listed (call c s .sto
 unfolding call openCall insertCall replaceCall deleteCall withTuple commitCall abortCall readCall listCall beginCall stepCall runCall gives changed withProgress
 keeps-listed (opens tx) s l =
     unless-keeps Listed _ s _ l (λ p.
-    subst Once (sym (numbers-append (s .active) (record { transaction = tx; withTuple = 0 })))
+    subst Once (sym (numbers-append (s .active) (record { transaction = tx; written = 0 })))
     (once-open tx (openNumbers (s .active)) (p .1 .0) (omega (arith, leb-false 4096 tx (p .0))) l))
 keeps-listed (inserts tx t k bs) s l = unless-keeps Listed _ s _ l (λ p. subst Once (sym (numbers-write tx (s .active))) l)
 keeps-listed (replaces tx t k bs) s l = unless-keeps Listed _ s _ l (λ p. subst Once (sym (numbers-write tx (s .active))) l)

@@ -412,7 +412,7 @@ module _ (s : Store) (v : Valid s) (u t k : ℕ) where
   unfolding mayShow call openCall insertCall replaceCall deleteCall abortCall gives
   unmoved (opens tx) h = unless-keeps (Unmoved u t k s) _ s _ (refl, λ i. i) (λ p. unfold changed in (
     seen-rows u t k s _ refl,
-    λ i. ap (isIn u) (numbers-append (s .active) (record { transaction = tx; withTuple = 0 }))
+    λ i. ap (isIn u) (numbers-append (s .active) (record { transaction = tx; written = 0 }))
         ∙ rw (in-append u (openNumbers (s .active)), i),
   ))
   unmoved (inserts tx tb key bs) h = unless-keeps (Unmoved u t k s) _ s _ (refl, λ i. i) (λ p. unmoved-written tx tb key bs false h)

@@ -165,7 +165,7 @@ quiet-tally c s o e r u = by (accepted (o .answer)) (λ h. rw h (ap (howMany (is
 open-tally : (tx : ℕ) (s : Store) → Tallies (opens tx) s (openCall tx s)
 unfolding openCall gives changed noted
 open-tally tx s = unless-tally (opens tx) _ s _
-    (quiet-tally (opens tx) s (gives done (changed s (s .next) (s .pages) (s .active ++ record { transaction = tx; withTuple = 0 } ∷ []))) (λ u n. refl) refl)
+    (quiet-tally (opens tx) s (gives done (changed s (s .next) (s .pages) (s .active ++ record { transaction = tx; written = 0 } ∷ []))) (λ u n. refl) refl)
 
 insert-tally : (tx t k : ℕ) (bs : List ℕ) (s : Store) → Valid s → Tallies (inserts tx t k bs) s (insertCall tx t k bs s)
 unfolding insertCall noted

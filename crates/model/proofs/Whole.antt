@@ -99,7 +99,7 @@ ready s v e =
     let free = all-free (s .pages) (v .still e) in
     let same = rows-free (s .pages) free (v .pages) in
     record {
-      withoutPending = free-withoutPending (s .pages) free (v .pages);
+      thawed = free-withoutPending (s .pages) free (v .pages);
       some = all-mapped (λ c. isEmpty (c .1) ≡ false) content (s .pages) (all-map PageOk _ page-some (s .pages) (v .pages));
       ok = rows-tests (s .capacity) (s .next) (openNumbers (s .active)) (held (s .pages)) (v .has)
           (subst (LiveOk (openNumbers (s .active))) same (v .sees)) (omega (arith, numbers-length (s .active), v .opened));

@@ -53,7 +53,7 @@ writtenBy tx (o ∷ os) = if isFor tx o then o .written else writtenBy tx os
 unfoldable pub withWrite : ℕ → List Active → List Active
 withWrite tx [] = []
 withWrite tx (o ∷ os) =
-    if isFor tx o then record { transaction = o .transaction; withTuple = min (suc (o .written)) 1048575 } ∷ os else o ∷ withWrite tx os
+    if isFor tx o then record { transaction = o .transaction; written = min (suc (o .written)) 1048575 } ∷ os else o ∷ withWrite tx os
 
 -- it is closed
 unfoldable pub without : ℕ → List Active → List Active
@@ -65,7 +65,7 @@ without tx os = keep (λ o. not (isFor tx o)) os
 unfoldable pub openCall : ℕ → Store → Outcome
 openCall tx s =
     unless (6 when ltb 4095 tx ∷ 8 when isIn tx (openNumbers (s .active)) ∷ 9 when leb openLimit (length (s .active)) ∷ []) s
-    (gives done (changed s (s .next) (s .pages) (s .active ++ record { transaction = tx; withTuple = 0 } ∷ [])))
+    (gives done (changed s (s .next) (s .pages) (s .active ++ record { transaction = tx; written = 0 } ∷ [])))
 
 -- ---- insert, replace, delete
 

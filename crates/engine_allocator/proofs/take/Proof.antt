@@ -18,7 +18,7 @@ use contract.Monad.{Fun}
 use contract.Running.{givenOf, tables, tablesOf}
 use types.Kit.{Given, ‵, _⊛_, _$_, _∵_, !, qed, by, move, keep, drop, split, join, fsplit, fsplit3, fjoin, fjoin3, feqI, suffices, frame, done}
 use types.Run.{look, init, forget, stop, hop, fld, from, load, lit, unit-lit, of-opd, bin, assigns, returns, enter, alloc1, alloc0, params1, pass1, pass0, free1, free0}
-use types.Part.{whole, sub, visible-in, store-in}
+use types.Part.{whole, sub, look-in, store-in}
 use types.SemTy.{Body}
 use sound.WpLaws.{WpFn-mono}
 use denote.RattleType.{owns}
@@ -85,7 +85,7 @@ module _ {M : Type 1} (𝓤 : URA M) (H : Heap 𝓤) (A : Atoms 𝓤) (W : Given
         let less-fits : h .left - 1 < 2 ^ 64 = omega (arith, left-fits) in
         -- [the struct's cell; what an Allocator owns; the open borrow; obs; auth; _4; …; _3; …; _2; …; _1; …; room for _0; …]
         assigns ! (of-opd ! (load ! (from ! (stop !)) (look ! 9 refl))) (from ! (hop ! (look ! 11 refl) (fld ! refl (stop !)))) (store-in ! 0 (sub ! 0 refl (whole !)) (tt, record { fits = n-fits })) $
-        assigns ! (of-opd ! (load ! (from ! (hop ! (look ! 11 refl) (fld ! refl (stop !)))) (visible-in ! 0 (sub ! 1 refl (whole !))))) (from ! (stop !)) (init ! 7 refl (tt, record { fits = left-fits })) $
+        assigns ! (of-opd ! (load ! (from ! (hop ! (look ! 11 refl) (fld ! refl (stop !)))) (look-in ! 0 (sub ! 1 refl (whole !))))) (from ! (stop !)) (init ! 7 refl (tt, record { fits = left-fits })) $
         assigns ! (bin ! (load ! (from ! (stop !)) (look ! 7 refl)) (lit ! tt) some-left) (from ! (stop !)) (init ! 5 refl (tt, record { fits = less-fits })) $
         assigns ! (of-opd ! (load ! (from ! (stop !)) (look ! 5 refl))) (from ! (hop ! (look ! 11 refl) (fld ! refl (stop !)))) (store-in ! 0 (sub ! 1 refl (whole !)) (tt, record { fits = less-fits })) $
         assigns ! (of-opd ! (unit-lit !)) (from ! (stop !)) (init ! 13 refl (tt, tt)) $

@@ -1,4 +1,4 @@
-use Rattle.image_rows.proofs.Chains.{next-less, next-chain, found-here, visibility-on}
+use Rattle.image_rows.proofs.Chains.{next-less, next-chain, found-here, chain-on}
 use Rattle.image_rows.specs.Chains.{Chain, lastBy}
 use Rattle.basics.proofs.Kit.{_≡_, refl, sym, _∙_, _-_, eqb, arith}
 use Rattle.image_rows.proofs.find.Statement.{statement}
@@ -41,7 +41,7 @@ loop-less : tie.Need-loop-less Inv-loop μ-loop
 loop-less c = let p = c .before .before .before .before .loop in next-less (p .inv .0) (omega arith)
 
 loop-again : tie.Need-loop-again Inv-loop μ-loop
-loop-again c = let p = c .before .before .before .before .loop in (next-chain (p .inv .0) (omega arith), p .inv .1 ∙ visibility-on (p .inv .0) (omega arith) (c .before .if1 .left))
+loop-again c = let p = c .before .before .before .before .loop in (next-chain (p .inv .0) (omega arith), p .inv .1 ∙ chain-on (p .inv .0) (omega arith) (c .before .if1 .left))
 
 returns-2 : tie.Need-returns-2 Inv-loop μ-loop
 unfolding lastBy
