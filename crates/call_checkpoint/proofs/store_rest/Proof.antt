@@ -16,5 +16,5 @@ store-header-requires c κs = let p = c .before .before .before .before .before 
     (p .0, (p .1 .0, (omega (arith, c .before .before .if1 .left, c .before .before .before .directories-left .ensures .0), p .1 .1)))
 
 pub store-rest-spec : {M : Type 1} → statement M
-store-rest-spec = tie.close (tie.spec directories-left-requires store-directory-requires (search needs) (search needs) (search needs) store-header-requires (search needs)
-    (search needs) (search needs))
+store-rest-spec = tie.close (tie.spec directories-left-requires store-directory-requires (search needs) (search needs) (λ c. search needs) store-header-requires (search needs)
+    (search needs) (λ c. search needs))

@@ -15,4 +15,4 @@ reopen-rows-requires c κs =
     ((pre .0, (pre .1 .0, (p4 .count-rows .ensures, no-counts))), pre .1 .1)
 
 pub reopen-spec : {M : Type 1} → statement M
-reopen-spec = tie.close (tie.spec (search needs) count-rows-requires (search needs) (search needs) reopen-rows-requires (search needs) (search needs))
+reopen-spec = tie.close (tie.spec (search needs) count-rows-requires (search needs) (search needs) reopen-rows-requires (search needs) (λ c. search needs))

@@ -19,4 +19,4 @@ returns-2 c = let st = c .before .before .before in
     record { low = omega arith; most = omega arith; passed = g; found = λ x. absurd (omega arith) }
 
 pub own-in-group-spec : {M : Type 1} → statement M
-own-in-group-spec = tie.close (tie.spec any-tentative-requires add-own-in (λ c κs. search needs) (search needs) add-result returns-2)
+own-in-group-spec = tie.close (tie.spec any-tentative-requires add-own-in (λ c κs. search needs) (λ c. search needs) add-result returns-2)

@@ -7,4 +7,4 @@ returns c = (omega arith, sym (c .before .is-taken .ensures) ∙ not-true _ (c .
 
 pub free-slot-spec : {M : Type 1} → statement M
 free-slot-spec = tie.close (tie.spec (λ c κs. search needs) (λ c κs. search needs) (λ c κs. search needs) (search needs) (search needs) (λ c κs. search needs) (search needs)
-    (λ c κs. search needs) returns (λ c κs. search needs) (search needs))
+    (λ c κs. search needs) returns (λ c κs. search needs) (λ c. search needs))

@@ -17,6 +17,6 @@ returns-2 c =
     (p10 .down4 .ensures) (p6 .down2 .ensures) (p2 .down1 .ensures)
 
 pub lower-rows-spec : {M : Type 1} → statement M
-lower-rows-spec = tie.close (tie.spec (search needs) (λ c κs. search needs) (search needs) (search needs) (λ c κs. search needs) (λ c κs. search needs) (λ c κs. search needs)
+lower-rows-spec = tie.close (tie.spec (search needs) (λ c κs. search needs) (search needs) (λ c. search needs) (λ c κs. search needs) (λ c κs. search needs) (λ c κs. search needs)
     (search needs) (search needs) (search needs) (search needs) (λ c κs. search needs) (search needs) (search needs) (search needs) (search needs) (λ c κs. search needs)
     (search needs) (search needs) (λ c κs. search needs) (search needs) returns-2)

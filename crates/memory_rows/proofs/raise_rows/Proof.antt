@@ -17,6 +17,6 @@ returns-2 c =
     (p10 .up4 .ensures) (p6 .up2 .ensures) (p2 .up1 .ensures)
 
 pub raise-rows-spec : {M : Type 1} → statement M
-raise-rows-spec = tie.close (tie.spec (search needs) (λ c κs. search needs) (search needs) (search needs) (λ c κs. search needs) (λ c κs. search needs) (λ c κs. search needs)
+raise-rows-spec = tie.close (tie.spec (search needs) (λ c κs. search needs) (search needs) (λ c. search needs) (λ c κs. search needs) (λ c κs. search needs) (λ c κs. search needs)
     (search needs) (search needs) (search needs) (search needs) (λ c κs. search needs) (search needs) (search needs) (search needs) (search needs) (λ c κs. search needs)
     (search needs) (search needs) (λ c κs. search needs) (search needs) returns-2)
