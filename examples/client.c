@@ -1,68 +1,139 @@
-/* A mission's client: makes a store, books two windows, checkpoints to a file while booking goes on, loses power, and recovers.
- * Built and run by one command: see README.md. */
+/* A mission's client: makes a store in a file, books windows of a dish, checkpoints to the file while booking goes on, loses power inside a
+ * block store of the next checkpoint, and recovers from the file. What it prints is examples/client.out; how it is built: README.md. */
+#define _POSIX_C_SOURCE 200809L /* pwrite, fdatasync */
+#include <fcntl.h>
 #include <stdio.h>
 #include <stdlib.h>
 #include <string.h>
+#include <unistd.h>
 #include "vodzanu.h"
 
-enum { BLOCKS = 64, BLOCK = 512, CAPACITY = 128, MEMORY = 128 * CAPACITY + 1024, DISH = 3, MISSION = 7 };
+enum { BLOCKS = 64, CAPACITY = 128, DISH = 3, MISSION = 7, OTHER_MISSION = 8 };
 
-static uint8_t image[BLOCKS * BLOCK], memory[MEMORY];
+static uint8_t image[BLOCKS * VODZANU_BLOCK];   /* lent to the calls */
+static uint8_t on_disk[BLOCKS * VODZANU_BLOCK]; /* what the file has, to find the blocks that changed */
+static uint8_t memory[VODZANU_MEMORY(CAPACITY)];
+static int file;
 
-/* The answer, or the end of the program with the refusal's number. */
+/* ---- calls */
+
+/* The answer of a call that must be accepted. */
 static int64_t must(const char *call, int64_t answer) {
     if (answer < 0) {
-        fprintf(stderr, "%s: refused %ld\n", call, (long)-answer);
+        fprintf(stderr, "%s: refused %d\n", call, (int)-answer);
         exit(1);
     }
     return answer;
 }
 
-static void book(uint32_t window, const char *text) {
-    must("insert", vodzanu_insert(memory, sizeof memory, MISSION, DISH, window, (const uint8_t *)text, strlen(text)));
+static void book(unsigned mission, uint32_t window, const char *text) {
+    int64_t answer = vodzanu_insert(memory, sizeof memory, mission, DISH, window, (const uint8_t *)text, strlen(text));
+    if (answer == -VODZANU_CONFLICT || answer == -VODZANU_KEY_EXISTS) {
+        printf("mission %u: window %u is taken\n", mission, (unsigned)window);
+        return;
+    }
+    must("insert", answer);
 }
 
 static void show(uint32_t window) {
-    uint8_t reply[40];
+    uint8_t reply[VODZANU_PAYLOAD_LIMIT];
     int64_t n = vodzanu_read(memory, sizeof memory, MISSION, DISH, window, reply, sizeof reply);
-    if (n < 0) printf("window %u: refused %ld\n", window, (long)-n);
-    else printf("window %u: %.*s\n", window, (int)n, (char *)reply);
+    if (n == -VODZANU_NOT_FOUND) {
+        printf("window %u: not booked\n", (unsigned)window);
+        return;
+    }
+    must("read", n);
+    printf("window %u: %.*s\n", (unsigned)window, (int)n, (const char *)reply);
 }
 
-/* Writes the image to the file, as a disk would hold it. */
-static void save(const char *path) {
-    FILE *f = fopen(path, "wb");
-    if (!f || fwrite(image, 1, sizeof image, f) != sizeof image || fclose(f)) { perror(path); exit(1); }
+static void show_open(void) {
+    uint8_t reply[2 * VODZANU_OPEN_LIMIT];
+    int64_t i, n = must("list", vodzanu_list(memory, sizeof memory, reply, sizeof reply));
+    printf("open:");
+    for (i = 0; i < n; i++) printf(" %d", 256 * reply[2 * i] + reply[2 * i + 1]);
+    printf("\n");
 }
 
-static void load(const char *path) {
-    FILE *f = fopen(path, "rb");
-    if (!f || fread(image, 1, sizeof image, f) != sizeof image || fclose(f)) { perror(path); exit(1); }
+/* ---- the file */
+
+static void must_file(const char *what, int right) {
+    if (right) return;
+    perror(what);
+    exit(1);
 }
+
+/* Brings the first `len` bytes of a block to the file: all of them, or fewer where power fails. */
+static void write_block(size_t block, size_t len) {
+    size_t at = block * VODZANU_BLOCK;
+    must_file("write", pwrite(file, image + at, len, (off_t)at) == (ssize_t)len);
+    memcpy(on_disk + at, image + at, len);
+}
+
+/* Writes the blocks that changed, and no other: a header on disk may name those. */
+static void write_changed(size_t len) {
+    size_t block;
+    for (block = 0; block < BLOCKS; block++) {
+        if (memcmp(image + block * VODZANU_BLOCK, on_disk + block * VODZANU_BLOCK, VODZANU_BLOCK) != 0) write_block(block, len);
+    }
+}
+
+static void sync_file(void) { must_file("fdatasync", fdatasync(file) == 0); }
+
+/* Makes the stores that are left of a checkpoint: the header, which comes last, is written when all others are on disk, and is on disk
+ * before anything else is written. */
+static void finish_checkpoint(int64_t left) {
+    must("run", vodzanu_run(image, sizeof image, memory, sizeof memory, (uint64_t)(left - 1)));
+    write_changed(VODZANU_BLOCK);
+    sync_file();
+    must("step", vodzanu_step(image, sizeof image, memory, sizeof memory));
+    write_changed(VODZANU_BLOCK);
+    sync_file();
+}
+
+/* Makes one more store, of which only the first half reaches the file; image and memory are lost. */
+static void lose_power(void) {
+    must("step", vodzanu_step(image, sizeof image, memory, sizeof memory));
+    write_changed(VODZANU_BLOCK / 2);
+    must_file("close", close(file) == 0);
+    memset(image, 0xAA, sizeof image);
+    memset(memory, 0xAA, sizeof memory);
+}
+
+/* ---- the story */
 
 int main(int argc, char **argv) {
     const char *path = argc > 1 ? argv[1] : "client.img";
+    int64_t left;
+
     must("make", vodzanu_make(image, sizeof image, memory, sizeof memory, CAPACITY));
+    file = open(path, O_RDWR | O_CREAT | O_TRUNC, 0666);
+    must_file(path, file >= 0 && ftruncate(file, sizeof image) == 0);
+    write_changed(VODZANU_BLOCK);
+    must_file("fsync", fsync(file) == 0); /* a client that minds losing the new file syncs its folder too */
+
     must("open", vodzanu_open(memory, sizeof memory, MISSION));
-    book(100, "pass 1, antenna north");
-    printf("checkpoint: %ld block stores\n", (long)must("begin", vodzanu_begin(memory, sizeof memory)));
-    must("step", vodzanu_step(image, sizeof image, memory, sizeof memory));
-    book(101, "pass 2, booked while the checkpoint runs");
-    printf("rest: %ld block stores\n", (long)must("run", vodzanu_run(image, sizeof image, memory, sizeof memory, 1000)));
+    must("open", vodzanu_open(memory, sizeof memory, OTHER_MISSION));
+    book(MISSION, 100, "pass 1, antenna north");
+    book(OTHER_MISSION, 100, "the same pass");
+
+    left = must("begin", vodzanu_begin(memory, sizeof memory));
+    printf("checkpoint: %d block stores\n", (int)left);
+    left = must("step", vodzanu_step(image, sizeof image, memory, sizeof memory));
+    book(MISSION, 101, "pass 2, booked while the checkpoint runs");
+    finish_checkpoint(left);
     show(100);
     show(101);
 
-    /* a second checkpoint is cut after its first block store; the memory is lost */
     must("begin", vodzanu_begin(memory, sizeof memory));
-    must("step", vodzanu_step(image, sizeof image, memory, sizeof memory));
-    save(path);
-    memset(memory, 0xAA, sizeof memory);
-    memset(image, 0, sizeof image);
-    puts("power fails");
+    lose_power();
+    printf("power fails\n");
 
-    load(path);
+    file = open(path, O_RDWR);
+    must_file(path, file >= 0 && fsync(file) == 0 && read(file, image, sizeof image) == (ssize_t)sizeof image);
     must("recover", vodzanu_recover(image, sizeof image, memory, sizeof memory));
-    show(100); /* in the checkpoint that landed, and its transaction is open again */
-    show(101); /* booked after that checkpoint began */
+    show_open(); /* the mission that had written; the other one has to open again */
+    show(100);   /* written before the checkpoint that landed began */
+    show(101);   /* written after it began */
+    must_file("close", close(file) == 0);
     return 0;
 }
