@@ -5,7 +5,7 @@ use lib.IntN.{ℤ, pos, negℤ}
 use Rattle.call_contracts.specs.declared.Answer.{Answer}
 use Rattle.call_contracts.specs.declared.Answer.the-variants.{Done, Count, Filled, Refused}
 
--- as far as 64 bits with a sign go; every answer and refusal is far below
+-- n, or the largest number of 64 bits with a sign if n is larger; every answer and refusal is far below
 unfoldable pub clamped : ℕ → ℕ
 clamped n = min n 9223372036854775807
 

@@ -44,7 +44,7 @@ pub fn replace(m: &mut [u8], transaction: u64, table: u64, key: u32, payload: &[
     call_transactions::replace(m, transaction, table, key, payload)
 }
 
-// A key goes.
+// Adds a delete mark for the key: gone for this transaction now, for all others at its commit.
 pub fn delete(m: &mut [u8], transaction: u64, table: u64, key: u32) -> Answer
     ensures { λ r. ⌜ Answers (deleteCall transaction table key) (now (m .entry)) r (now (m .exit)) ⌝ }
 {
@@ -102,7 +102,7 @@ pub fn run(image: &mut [u8], m: &mut [u8], limit: u64) -> Answer
 
 // ---- for C
 
-// As far as 64 bits with a sign go.
+// n, or the largest i64 if n is larger.
 fn clamped(n: u64) -> i64
     ensures { λ r. ⌜ r ≡ pos (clamped n) ⌝ }
 {
@@ -120,7 +120,7 @@ fn code(a: Answer) -> i64
         Answer::Done => 0,
         Answer::Count(n) => clamped(n),
         Answer::Filled(n) => clamped(n as u64),
-        Answer::Refused(n) => -whole(n),
+        Answer::Refused(n) => -clamped(n),
     }
 }
 

@@ -29,4 +29,4 @@ returns-2 c = let passed = c .before .before .before .before .before .before .be
     step-done (p .image .now) (p .m .now) _ _ _ (ready passed) (d .0) (omega (arith, left-is _ _ (d .1)))
 
 pub step-spec : {M : Type 1} → statement M
-step-spec = tie.close (tie.spec (λ c κs. search needs) (search needs) returns store-next-requires (search needs) (search needs) returns-2)
+step-spec = tie.close (tie.spec (λ c κs. search needs) (λ c. search needs) returns store-next-requires (λ c. search needs) (λ c. search needs) returns-2)
