@@ -3,7 +3,7 @@ use Rattle.basics.proofs.Kit.{_≡_, refl, sym, ap, _∙_, List, [], _∷_, _++
 use Rattle.basics.proofs.Kit.{getD, set, length-append, length-take, length-drop, split-at, set-split, take-at, drop-append-seam, drop-drop, take-add, arith}
 use Rattle.block_bits.specs.Bits.{bitsOf, number, bitsIn, field, over}
 use Rattle.block_bits.proofs.Lists.{over-middle}
-use Rattle.block_bits.proofs.Numbers.{length-bitsOf, bitsOf-mod, number-append, number-bitsOf, Bits, bits-of, bits-append, bits-part, number-lt, bitsOf-number}
+use Rattle.block_bits.proofs.Numbers.{length-bitsOf, bitsOf-mod, number-append, number-bitsOf, Bits, bits-of, bits-append, bits-part, number-lt, bits-field}
 
 pub bitsIn-append : (s t : List ℕ) → bitsIn (s ++ t) ≡ bitsIn s ++ bitsIn t
 unfolding bitsIn
@@ -65,8 +65,4 @@ field-lt s at w =
 
 -- the bits of a field's number are the field
 pub bitsOf-field : (s : List ℕ) (at w : ℕ) → at + w ≤ 8 * length s → bitsOf w (field (bitsIn s) at w) ≡ take w (drop at (bitsIn s))
-unfolding field
-bitsOf-field s at w h =
-    let X : List ℕ = take w (drop at (bitsIn s)) in
-    let l : length X ≡ w = simp (length-take, length-drop, length-bitsIn) (omega arith) in
-    ap (λ (n : ℕ). bitsOf n (number X)) (sym l) ∙ bitsOf-number X (bits-part at w (bitsIn s) (bits-in s))
+bitsOf-field s at w h = bits-field (bitsIn s) at w (bits-in s) (rw (length-bitsIn s) h)

@@ -1,8 +1,8 @@
 -- Laws of `bitsOf` and `number`. Assumes nothing.
 use Rattle.basics.proofs.Kit.{_≡_, refl, sym, ap, _∙_, List, [], _∷_, _++_, append-assoc, ℕ, suc, _+_, _*_, _%_, _^_, _<_, zero, _/_, one-add, mod-eq-of-lt, add-assoc, zero-add, suc-add}
 use Rattle.basics.proofs.Kit.{add-comm, mod-one, mod-lt, pow-suc, mul-add-div-right, mul-add-mod-self-right, digits-lt, pow-pos, pow-add, shr-shr, split, high, mod-pow-add, lit<, length}
-use Rattle.basics.proofs.Kit.{take, drop, length-append, take-at, drop-drop, drop-at, arith}
-use Rattle.block_bits.specs.Bits.{bitsOf, number, over, mixed}
+use Rattle.basics.proofs.Kit.{_≤_, take, drop, length-append, length-take, length-drop, take-at, drop-drop, drop-at, arith}
+use Rattle.block_bits.specs.Bits.{bitsOf, number, field, over, mixed}
 
 -- ---- the bits of a number
 
@@ -104,6 +104,14 @@ bitsOf-number (x ∷ xs) a =
     let h : (x * 2 ^ k + number xs) / 2 ^ k % 2 ≡ x = ap (λ (q : ℕ). q % 2) (high x k (number-lt xs (a .1))) ∙ mod-eq-of-lt (a .0) in
     let t : bitsOf k (x * 2 ^ k + number xs) ≡ xs = bitsOf-skip k x (number xs) ∙ bitsOf-number xs (a .1) in
     λ i. h i ∷ t i
+
+-- the bits of a field's number are the field
+pub bits-field : (s : List ℕ) (at w : ℕ) → Bits s → at + w ≤ length s → bitsOf w (field s at w) ≡ take w (drop at s)
+unfolding field
+bits-field s at w b h =
+    let X : List ℕ = take w (drop at s) in
+    let l : length X ≡ w = simp (length-take, length-drop) (omega arith) in
+    ap (λ (n : ℕ). bitsOf n (number X)) (sym l) ∙ bitsOf-number X (bits-part at w s b)
 
 pub join-lt : (m n h l : ℕ) → h < 2 ^ m → l < 2 ^ n → h * 2 ^ n + l < 2 ^ (m + n)
 join-lt m n h l a b = rw (pow-add 2 m n) (digits-lt a b)

@@ -1,8 +1,7 @@
 -- A turn of a loop over fields: what is left of them from index i on. Assumes nothing.
-use Rattle.basics.proofs.Kit.{_≡_, ap, List, [], _∷_, _++_, append-nil, ℕ, suc, _+_, _≤_, _<_, add-one, length, take, drop, getD, set, drop-cons, drop-length, take-suc-set, take-all}
-use Rattle.basics.proofs.Kit.{append-snoc, arith}
-use Rattle.block_bits.specs.Bits.{bitsOf, field, over}
-use Rattle.block_bits.specs.Fields.{putAll, getAll, fieldsOf, sum, Words}
+use Rattle.basics.proofs.Kit.{_≡_, ap, List, [], _∷_, ℕ, _+_, _≤_, _<_, add-one, length, drop, getD, drop-cons, drop-length, arith}
+use Rattle.block_bits.specs.Bits.{bitsOf, over}
+use Rattle.block_bits.specs.Fields.{putAll, fieldsOf, sum, Words}
 
 -- what is left: the next, and what is left after it
 pub rest : (l : List ℕ) (i : ℕ) → i < length l → drop i l ≡ getD l i 0 ∷ drop (i + 1) l
@@ -25,11 +24,3 @@ put-rest s ws vs i at h k = rw (rest ws i h, rest vs i k)
 
 pub put-none : (s ws vs : List ℕ) (i at : ℕ) → i ≤ length ws → length ws ≤ i → putAll s at (fieldsOf (drop i ws) (drop i vs)) ≡ s
 put-none s ws vs i at h k = rw (none ws i h k)
-
-pub get-rest : (s ws out : List ℕ) (i at x : ℕ) → i < length ws → i < length out → x ≡ field s at (getD ws i 0)
-    → take (i + 1) (set out i x) ++ getAll s (at + getD ws i 0) (drop (i + 1) ws) ≡ take i out ++ getAll s at (drop i ws)
-get-rest s ws out i at x h k e =
-    rw (rest ws i h, ← e, add-one i, take-suc-set out i x k) (append-snoc (take i out) x (getAll s (at + getD ws i 0) (drop (suc i) ws)))
-
-pub get-none : (s ws out : List ℕ) (i at : ℕ) → i ≤ length ws → length ws ≤ i → length out ≤ i → take i out ++ getAll s at (drop i ws) ≡ out
-get-none s ws out i at h k l = rw (none ws i h k, take-all i out l) (append-nil out)

@@ -13,6 +13,10 @@ PutLaw =
     → (field (over s at (bitsOf w v)) at w ≡ v)
     × ((at' w' : ℕ) → Apart at w at' w' → field (over s at (bitsOf w v)) at' w' ≡ field s at' w')
 
+-- for every width and offset: putting what was got leaves the bits, each 0 or 1, as they were
+abbrev pub GetLaw : Type 0
+GetLaw = (s : List ℕ) (at w : ℕ) → ((i : ℕ) → getD s i 0 < 2) → at + w ≤ length s → over s at (bitsOf w (field s at w)) ≡ s
+
 -- fields of any widths that were put one after another are got back
 abbrev pub FieldsLaw : Type 0
 FieldsLaw = (fs : List (ℕ × ℕ)) (s : List ℕ) (at : ℕ) → at + total fs ≤ length s → Fit fs → getAll (putAll s at fs) at (widths fs) ≡ values fs

@@ -4,7 +4,7 @@ ghost use mathlib.Core.Path.{_≡_};
 ghost use Prim.Native.Nat.{_+_, _*_, _/_, _%_, _^_, _<_, _≤_};
 ghost use lib.ListN.{length};
 ghost use Rattle.block_bits.specs.Bits.{bitsOf, bitsIn, field, over, mixed, Inside};
-ghost use Rattle.block_bits.specs.Fields.{putAll, getAll, fieldsOf, AllInside};
+ghost use Rattle.block_bits.specs.Fields.{putAll, fieldsOf, AllInside};
 
 // x * 2^k, where that fits
 fn shl(x: u64, k: usize) -> u64
@@ -117,22 +117,6 @@ pub fn put_fields(block: &mut [u8], at: usize, widths: &[u8], values: &[u64])
     while i < widths.len() {
         let w = size(widths[i]);
         put_bits(block, pos, w, values[i]);
-        pos = pos + w;
-        i = i + 1;
-    }
-}
-
-// Gets the numbers in fields of the widths, one after another from bit `at` on.
-pub fn get_fields(block: &[u8], at: usize, widths: &[u8], out: &mut [u64])
-    requires { ⌜ AllInside (now block) at (now widths) ⌝ }
-    requires { ⌜ length (now out) ≡ length (now widths) ⌝ }
-    ensures { λ _. ⌜ now (out .exit) ≡ getAll (bitsIn (now (block .entry))) at (now (widths .entry)) ⌝ }
-{
-    let mut i: usize = 0;
-    let mut pos = at;
-    while i < widths.len() {
-        let w = size(widths[i]);
-        out[i] = get_bits(block, pos, w);
         pos = pos + w;
         i = i + 1;
     }

@@ -158,9 +158,6 @@ module _ (tx i : ℕ) (h : Held) (l : Visibility) where
 shows-same : (f : Flat) (t tx : ℕ) (vs ws : List Row) (l r : Visibility) → ws ≡ vs → r ≡ l → Shows f t tx vs l → Shows f t tx ws r
 shows-same f t tx vs ws l r e q s = rw (e, q) s
 
-pub shows-as : (f : Flat) (t tx : ℕ) (vs : List Row) (l r : Visibility) → r ≡ l → Shows f t tx vs l → Shows f t tx vs r
-shows-as f t tx vs l r q s = rw q s
-
 version-is : (f : Flat) (t i : ℕ) → version f t i ≡ (t, applied (rowIn f i))
 unfolding version
 version-is f t i = refl

@@ -45,9 +45,6 @@ module _ {m m' : List ℕ} {a n : ℕ} (s : Apart m m' a n) (b : ℕ) where
   pub le4-above : a + n ≤ b → le4 m' b ≡ le4 m b
   le4-above h = le4-cong m m' b b (λ k p. s .above (b + k) (omega arith))
 
-  pub bytes-below : (l : ℕ) → b + l ≤ a → bytes m' b l ≡ bytes m b l
-  bytes-below l h = bytes-cong m m' b b l (λ k p. s .below (b + k) (omega arith))
-
   pub bytes-above : (l : ℕ) → a + n ≤ b → bytes m' b l ≡ bytes m b l
   bytes-above l h = bytes-cong m m' b b l (λ k p. s .above (b + k) (omega arith))
 
@@ -63,9 +60,6 @@ module _ {m m' : List ℕ} {lo hi w : ℕ} (s : Raised m m' lo hi w) (b : ℕ) (
   pub le4-raised : b + 4 ≤ hi → le4 m' (b + w) ≡ le4 m b
   le4-raised f = le4-cong m m' b (b + w) (byte-raised 4 f)
 
-  pub bytes-raised : (n : ℕ) → b + n ≤ hi → bytes m' (b + w) n ≡ bytes m b n
-  bytes-raised n f = bytes-cong m m' b (b + w) n (byte-raised n f)
-
 -- ---- moved down
 
 module _ {m m' : List ℕ} {lo hi w : ℕ} (s : Lowered m m' lo hi w) (b : ℕ) (h : lo ≤ b) where
@@ -77,9 +71,6 @@ module _ {m m' : List ℕ} {lo hi w : ℕ} (s : Lowered m m' lo hi w) (b : ℕ) 
 
   pub le4-lowered : b + w + 4 ≤ hi → le4 m' b ≡ le4 m (b + w)
   le4-lowered f = le4-cong m m' (b + w) b (byte-lowered 4 f)
-
-  pub bytes-lowered : (n : ℕ) → b + w + n ≤ hi → bytes m' b n ≡ bytes m (b + w) n
-  bytes-lowered n f = bytes-cong m m' (b + w) b n (byte-lowered n f)
 
 -- ---- written
 

@@ -4,4 +4,3 @@ pub mod Moves
 pub mod Scans
 pub mod Found
 pub mod Spans
-pub mod Changes

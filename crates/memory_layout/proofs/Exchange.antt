@@ -55,10 +55,6 @@ nest-two d e ws l =
 -- ---- pages by place
 
 module _ (f : Flat) where
-  pub start-zero : startOf f 0 ≡ 0
-  unfolding total sum
-  start-zero = refl
-
   pub start-next : (p : ℕ) → p < length (f .entries) → startOf f (p + 1) ≡ startOf f p + entryIn f p .count
   unfolding total sum
   start-next p h =
@@ -86,9 +82,6 @@ module _ (f : Flat) (full : total (f .entries) ≡ length (f .rows)) where
 
   pub start-in : (p : ℕ) → p < length (f .entries) → startOf f p + entryIn f p .count ≤ length (f .rows)
   start-in p h = omega (arith, start-next f p h, start-le (p + 1))
-
-  pub start-all : startOf f (length (f .entries)) ≡ length (f .rows)
-  start-all = ap total (take-all (length (f .entries)) (f .entries) (omega arith)) ∙ full
 
   pub page-long : (p : ℕ) → p < length (f .entries) → length (pageIn f p .tuples) ≡ entryIn f p .count
   unfolding pageIn pageOf

@@ -88,10 +88,6 @@ module _ {m : List ℕ} (room : Room m) where
       let e : tableAt m p ≡ r .at = table-by is in
       record { most = omega (arith, is .most); low = λ t b. is .low t (omega arith); high = λ t u v. is .high t (omega arith) v }
 
--- an entry's table is one of eight
-pub table-below : {m : List ℕ} → Room m → (p : ℕ) → p < pageCount m → entryIn (flatOf m) p .table < 8
-table-below {m} room p h = omega (arith, entry-table m p h, table-is room p .most)
-
 -- ---- the first page of a table
 
 module _ {m : List ℕ} (room : Room m) where
