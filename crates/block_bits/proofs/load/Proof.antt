@@ -20,12 +20,6 @@ mul-acc c =
     let l = c .before .loop in
     omega (arith, load-fits (l .i) (l .acc) 0 (omega arith) (l .inv .2) (lit< tt))
 
-add-wide : tie.Need-add-wide Inv-loop μ-loop
-add-wide c = omega arith
-
-shared-slice-read-wide : tie.Need-shared-slice-read-wide Inv-loop μ-loop
-shared-slice-read-wide c = omega arith
-
 wide-requires : tie.Need-wide-requires Inv-loop μ-loop
 wide-requires c κs = tt
 
@@ -33,12 +27,6 @@ add-acc : tie.Need-add-acc Inv-loop μ-loop
 add-acc c =
     let l = c .before .before .before .loop in
     omega (arith, load-fits (l .i) (l .acc) (c .wide .result) (omega arith) (l .inv .2) (c .wide .ensures .1))
-
-add-i : tie.Need-add-i Inv-loop μ-loop
-add-i c = omega arith
-
-loop-less : tie.Need-loop-less Inv-loop μ-loop
-loop-less c = omega arith
 
 loop-again : tie.Need-loop-again Inv-loop μ-loop
 loop-again c =
@@ -57,4 +45,5 @@ returns c =
     rw (← e) (c .before .loop .inv .1, c .before .loop .inv .2)
 
 pub load-spec : {M : Type 1} → statement M
-load-spec = tie.close (tie.spec Inv-loop μ-loop loop-holds mul-acc add-wide shared-slice-read-wide wide-requires add-acc add-i loop-less loop-again returns)
+load-spec = tie.close (tie.spec Inv-loop μ-loop loop-holds mul-acc (λ c. omega arith) (λ c. omega arith) wide-requires add-acc (λ c. omega arith) (λ c. omega arith) loop-again
+    returns)

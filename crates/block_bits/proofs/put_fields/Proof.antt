@@ -17,17 +17,8 @@ abbrev μ-loop : tie.MeasureT-loop
 loop-holds : tie.Need-loop-holds Inv-loop μ-loop
 loop-holds c = (omega arith, refl, refl, c .before .before .before .pre .0 .words, refl)
 
-shared-slice-read-size : tie.Need-shared-slice-read-size Inv-loop μ-loop
-shared-slice-read-size c = omega arith
-
 size-requires : tie.Need-size-requires Inv-loop μ-loop
 size-requires c κs = tt
-
-mul-put-bits : tie.Need-mul-put-bits Inv-loop μ-loop
-mul-put-bits c = omega arith
-
-shared-slice-read-put-bits : tie.Need-shared-slice-read-put-bits Inv-loop μ-loop
-shared-slice-read-put-bits c = omega arith
 
 put-bits-requires : tie.Need-put-bits-requires Inv-loop μ-loop
 put-bits-requires c κs =
@@ -42,12 +33,6 @@ add-pos c =
     let ws = c .before .before .before .before .before .before .before .before .before .before .before .before .args .widths .now in
     let h : l .i < length ws = omega arith in
     omega (arith, sum-rest ws (l .i) h)
-
-add-i : tie.Need-add-i Inv-loop μ-loop
-add-i c = omega arith
-
-loop-less : tie.Need-loop-less Inv-loop μ-loop
-loop-less c = omega arith
 
 loop-again : tie.Need-loop-again Inv-loop μ-loop
 loop-again c =
@@ -76,5 +61,5 @@ returns c =
     sym (put-none (bitsIn (l .block)) (a .widths .now) (a .values .now) (l .i) (l .pos) (l .inv .0) (omega arith)) ∙ l .inv .4
 
 pub put-fields-spec : {M : Type 1} → statement M
-put-fields-spec = tie.close (tie.spec Inv-loop μ-loop loop-holds shared-slice-read-size size-requires mul-put-bits shared-slice-read-put-bits put-bits-requires add-pos add-i
-    loop-less loop-again same-length returns)
+put-fields-spec = tie.close (tie.spec Inv-loop μ-loop loop-holds (λ c. omega arith) size-requires (λ c. omega arith) (λ c. omega arith) put-bits-requires add-pos
+    (λ c. omega arith) (λ c. omega arith) loop-again same-length returns)

@@ -16,35 +16,8 @@ loop-holds : tie.Need-loop-holds Inv-loop μ-loop
 unfolding bitsOf
 loop-holds c = (omega arith, refl, sym (over-nil (bitsIn (c .before .args .block .now)) (8 * c .before .args .p)))
 
-mul-shr : tie.Need-mul-shr Inv-loop μ-loop
-mul-shr c = omega arith
-
-mul-shr-2 : tie.Need-mul-shr-2 Inv-loop μ-loop
-mul-shr-2 c = omega arith
-
-sub-shr : tie.Need-sub-shr Inv-loop μ-loop
-sub-shr c = omega arith
-
-sub-shr-2 : tie.Need-sub-shr-2 Inv-loop μ-loop
-sub-shr-2 c = omega arith
-
-shr-requires : tie.Need-shr-requires Inv-loop μ-loop
-shr-requires c κs = omega arith
-
 byte-requires : tie.Need-byte-requires Inv-loop μ-loop
 byte-requires c κs = tt
-
-add-block : tie.Need-add-block Inv-loop μ-loop
-add-block c = omega arith
-
-slice-write-block : tie.Need-slice-write-block Inv-loop μ-loop
-slice-write-block c = omega arith
-
-add-i : tie.Need-add-i Inv-loop μ-loop
-add-i c = omega arith
-
-loop-less : tie.Need-loop-less Inv-loop μ-loop
-loop-less c = omega arith
 
 loop-again : tie.Need-loop-again Inv-loop μ-loop
 loop-again c =
@@ -66,5 +39,5 @@ returns c =
     l .inv .2 ∙ store-end (bitsIn (a .block .now)) (a .p) (a .n) (l .i) (a .x) (l .inv .0) (c .loop-test .left)
 
 pub store-spec : {M : Type 1} → statement M
-store-spec = tie.close (tie.spec Inv-loop μ-loop loop-holds mul-shr mul-shr-2 sub-shr sub-shr-2 shr-requires byte-requires add-block slice-write-block add-i loop-less
-    loop-again same-length returns)
+store-spec = tie.close (tie.spec Inv-loop μ-loop loop-holds (λ c. omega arith) (λ c. omega arith) (λ c. omega arith) (λ c. omega arith) (λ c κs. omega arith) byte-requires
+    (λ c. omega arith) (λ c. omega arith) (λ c. omega arith) (λ c. omega arith) loop-again same-length returns)

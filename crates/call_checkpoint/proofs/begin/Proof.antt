@@ -90,5 +90,5 @@ returns-5 c =
     (c .before .before .start .ensures)
 
 pub begin-spec : {M : Type 1} → statement M
-begin-spec = tie.close (tie.spec (λ c κs. search needs) (λ c. search needs) returns is-running-requires (λ c. search needs) returns-2 get-head-requires (λ c. search needs) returns-3
-    blocks-needed-requires enough-free-requires (λ c. search needs) returns-4 start-requires (λ c. search needs) (λ c. search needs) returns-5)
+begin-spec = tie.close (tie.spec (λ c κs. search needs) (λ c. search needs) returns is-running-requires (λ c. search needs) returns-2 get-head-requires (λ c. search needs)
+    returns-3 blocks-needed-requires enough-free-requires (λ c. search needs) returns-4 start-requires (λ c. search needs) (λ c. search needs) returns-5)

@@ -31,9 +31,6 @@ total f n e = ap (λ (z : ℕ). howMany (λ b. not (f .used b)) (from 1 (z - 1))
 get-head-requires : tie.Need-get-head-requires Inv-loop μ-loop
 get-head-requires c κs = omega (arith, c .before .pre .range .long)
 
-cast-n : tie.Need-cast-n Inv-loop μ-loop
-cast-n c = search needs
-
 loop-holds : tie.Need-loop-holds Inv-loop μ-loop
 loop-holds c =
     let e = ap (λ (h : Head). h .blocks) (c .before .get-head .ensures) in
@@ -52,9 +49,6 @@ is-used-requires c κs =
     let l = c .before .before in
     let r = l .before .before .before .before .pre .range in
     (omega (arith, r .many, l .loop .inv .whole), omega (arith, r .long))
-
-one-if-requires : tie.Need-one-if-requires Inv-loop μ-loop
-one-if-requires c κs = search needs
 
 add-k : tie.Need-add-k Inv-loop μ-loop
 add-k c =
@@ -92,4 +86,5 @@ returns-2 c =
     ap (leb (st .args .need)) e
 
 pub enough-free-spec : {M : Type 1} → statement M
-enough-free-spec = tie.close (tie.spec Inv-loop μ-loop get-head-requires cast-n loop-holds returns is-used-requires one-if-requires add-k add-b loop-less loop-again returns-2)
+enough-free-spec = tie.close (tie.spec Inv-loop μ-loop get-head-requires (search needs) loop-holds returns is-used-requires (λ c κs. search needs) add-k add-b loop-less
+    loop-again returns-2)

@@ -24,12 +24,6 @@ returns c =
     let used = flatOf (l .before .before .args .m .now) .used in
     (sym (l .loop .inv .1 .1 ∙ free-hit used _ _ (c .before .before .loop-test .taken) (sym (c .before .is-used .ensures) ∙ not-true _ (c .if1 .taken))), omega arith)
 
-add-b : tie.Need-add-b Inv-loop μ-loop
-add-b c = omega arith
-
-loop-less : tie.Need-loop-less Inv-loop μ-loop
-loop-less c = omega arith
-
 loop-again : tie.Need-loop-again Inv-loop μ-loop
 loop-again c =
     let l = c .before .before .before in
@@ -40,4 +34,4 @@ returns-2 : tie.Need-returns-2 Inv-loop μ-loop
 returns-2 c = (sym (c .before .loop .inv .1 .1 ∙ free-end (flatOf (c .before .before .before .args .m .now) .used) _ _ (c .loop-test .left)), omega arith)
 
 pub first-free-spec : {M : Type 1} → statement M
-first-free-spec = tie.close (tie.spec Inv-loop μ-loop loop-holds is-used-requires returns add-b loop-less loop-again returns-2)
+first-free-spec = tie.close (tie.spec Inv-loop μ-loop loop-holds is-used-requires returns (λ c. omega arith) (λ c. omega arith) loop-again returns-2)

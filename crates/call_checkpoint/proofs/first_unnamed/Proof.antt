@@ -16,9 +16,6 @@ abbrev μ-loop : tie.MeasureT-loop
 get-counts-requires : tie.Need-get-counts-requires Inv-loop μ-loop
 get-counts-requires c κs = sizes (c .before .pre) .long
 
-cast-n : tie.Need-cast-n Inv-loop μ-loop
-cast-n c = search needs
-
 named-fours-requires : tie.Need-named-fours-requires Inv-loop μ-loop
 named-fours-requires c κs = let st = c .before .before .before in (st .pre, named-read (st .args .m .now) (c .before .get-counts .ensures))
 
@@ -33,12 +30,6 @@ returns c =
     let l = c .before .before .before .loop in
     named-hit (l .inv .1) (omega (arith, l .inv .0, c .before .before .loop-test .taken)) (sym (c .before .get-named .ensures) ∙ c .if1 .taken)
 
-add-i : tie.Need-add-i Inv-loop μ-loop
-add-i c = omega arith
-
-loop-less : tie.Need-loop-less Inv-loop μ-loop
-loop-less c = omega arith
-
 loop-again : tie.Need-loop-again Inv-loop μ-loop
 loop-again c =
     let l = c .before .before .before .loop in
@@ -48,5 +39,5 @@ returns-2 : tie.Need-returns-2 Inv-loop μ-loop
 returns-2 c = let l = c .before .loop in l .inv .0 ∙ named-end (l .inv .1) (omega (arith, l .inv .0, c .loop-test .left))
 
 pub first-unnamed-spec : {M : Type 1} → statement M
-first-unnamed-spec = tie.close (tie.spec Inv-loop μ-loop get-counts-requires cast-n named-fours-requires loop-holds get-named-requires returns add-i loop-less loop-again
-    returns-2)
+first-unnamed-spec = tie.close (tie.spec Inv-loop μ-loop get-counts-requires (search needs) named-fours-requires loop-holds get-named-requires returns (λ c. omega arith)
+    (λ c. omega arith) loop-again returns-2)

@@ -16,15 +16,6 @@ abbrev μ-loop : tie.MeasureT-loop
 get-counts-requires : tie.Need-get-counts-requires Inv-loop μ-loop
 get-counts-requires c κs = omega (arith, c .before .before .pre .range .long)
 
-cast-n : tie.Need-cast-n Inv-loop μ-loop
-cast-n c = search needs
-
-cast-n-2 : tie.Need-cast-n-2 Inv-loop μ-loop
-cast-n-2 c = search needs
-
-add-n : tie.Need-add-n Inv-loop μ-loop
-add-n c = search needs
-
 loop-holds : tie.Need-loop-holds Inv-loop μ-loop
 loop-holds c = let e = c .before .before .get-counts .ensures in
     let m = c .before .before .before .before .before .args .m .now in
@@ -61,5 +52,5 @@ returns : tie.Need-returns Inv-loop μ-loop
 returns c = marking-end (c .before .loop .inv) (c .loop-test .left)
 
 pub mark-named-spec : {M : Type 1} → statement M
-mark-named-spec = tie.close (tie.spec Inv-loop μ-loop get-counts-requires cast-n cast-n-2 add-n loop-holds block-named-requires mark-used-requires add-i loop-less loop-again
-    same-length returns)
+mark-named-spec = tie.close (tie.spec Inv-loop μ-loop get-counts-requires (search needs) (search needs) (search needs) loop-holds block-named-requires mark-used-requires add-i
+    loop-less loop-again same-length returns)

@@ -15,9 +15,6 @@ abbrev μ-loop : tie.MeasureT-loop
 get-counts-requires : tie.Need-get-counts-requires Inv-loop μ-loop
 get-counts-requires c κs = sizes (holds-room _ (c .before .before .pre .0)) .long
 
-cast-n : tie.Need-cast-n Inv-loop μ-loop
-cast-n c = search needs
-
 loop-holds : tie.Need-loop-holds Inv-loop μ-loop
 loop-holds c =
     let st = c .before .before .before .before in
@@ -58,4 +55,5 @@ returns : tie.Need-returns Inv-loop μ-loop
 returns c = naming-end (c .before .loop .inv) (c .loop-test .left)
 
 pub name-pages-spec : {M : Type 1} → statement M
-name-pages-spec = tie.close (tie.spec Inv-loop μ-loop get-counts-requires cast-n loop-holds block-at-requires push-named-requires add-p loop-less loop-again same-length returns)
+name-pages-spec = tie.close (tie.spec Inv-loop μ-loop get-counts-requires (search needs) loop-holds block-at-requires push-named-requires add-p loop-less loop-again same-length
+    returns)

@@ -25,12 +25,6 @@ four-named-requires c κs = (c .before .before .before .pre .0, omega arith)
 returns : tie.Need-returns Inv-loop μ-loop
 returns c = c .before .before .before .loop .inv
 
-add-i : tie.Need-add-i Inv-loop μ-loop
-add-i c = omega arith
-
-loop-less : tie.Need-loop-less Inv-loop μ-loop
-loop-less c = omega arith
-
 loop-again : tie.Need-loop-again Inv-loop μ-loop
 loop-again c = named-four (c .before .before .before .loop .inv) (omega arith) (sym (c .before .four-named .ensures) ∙ not-false _ (c .if1 .left))
 
@@ -38,4 +32,4 @@ returns-2 : tie.Need-returns-2 Inv-loop μ-loop
 returns-2 c = c .before .loop .inv
 
 pub named-fours-spec : {M : Type 1} → statement M
-named-fours-spec = tie.close (tie.spec Inv-loop μ-loop loop-holds add-loop four-named-requires returns add-i loop-less loop-again returns-2)
+named-fours-spec = tie.close (tie.spec Inv-loop μ-loop loop-holds add-loop four-named-requires returns (λ c. omega arith) (λ c. omega arith) loop-again returns-2)

@@ -21,12 +21,6 @@ began c = c .before .before .before .before .before
 ready : (c : tie.Else1 Inv-loop μ-loop) → Ready (began c .args .image .now) (began c .args .m .now)
 ready c = let p = began c .args in passed-ready (p .image .now) (p .m .now) _ (c .before .step-refusal .ensures) (c .if1 .left)
 
-step-refusal-requires : tie.Need-step-refusal-requires Inv-loop μ-loop
-step-refusal-requires c κs = search needs
-
-same-length : tie.Need-same-length Inv-loop μ-loop
-same-length c = search needs
-
 returns : tie.Need-returns Inv-loop μ-loop
 returns c = let p = c .before .before .before .before .before .args in
     let img : List ℕ = p .image .now in
@@ -39,19 +33,10 @@ left-requires : tie.Need-left-requires Inv-loop μ-loop
 left-requires c κs = let passed = c .before .before in
     (ready passed .runs, frozen-all (began passed .args .m .now) (c .count-frozen .ensures))
 
-smaller-requires : tie.Need-smaller-requires Inv-loop μ-loop
-smaller-requires c κs = search needs
-
 loop-holds : tie.Need-loop-holds Inv-loop μ-loop
 loop-holds c = let passed = c .before .before .before .before in
     let p = began passed .args in
     repeats-start (p .image .now) (p .m .now) _ (ready passed) (omega (arith, c .smaller .ensures, c .before .left .ensures))
-
-step-requires : tie.Need-step-requires Inv-loop μ-loop
-step-requires c κs = search needs
-
-sub-n : tie.Need-sub-n Inv-loop μ-loop
-sub-n c = omega arith
 
 loop-less : tie.Need-loop-less Inv-loop μ-loop
 loop-less c = omega (arith, c .before .before .before .before .before .before .before .loop-test .taken)
@@ -73,5 +58,5 @@ returns-2 c = let passed = c .before .before .before .before .before .before in
     repeats-end (c .before .loop .inv) (c .loop-test .left) limit (ready passed) (c .before .before .smaller .ensures ∙ ap (min limit) (c .before .before .before .left .ensures)) _ (omega arith)
 
 pub run-spec : {M : Type 1} → statement M
-run-spec = tie.close (tie.spec Inv-loop μ-loop step-refusal-requires same-length returns count-frozen-requires left-requires smaller-requires loop-holds step-requires sub-n
-    loop-less loop-again same-length-2 same-length-3 returns-2)
+run-spec = tie.close (tie.spec Inv-loop μ-loop (λ c κs. search needs) (search needs) returns count-frozen-requires left-requires (λ c κs. search needs) loop-holds
+    (λ c κs. search needs) (λ c. omega arith) loop-less loop-again same-length-2 same-length-3 returns-2)

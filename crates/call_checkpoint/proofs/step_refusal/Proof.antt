@@ -52,4 +52,5 @@ returns-4 c =
     refusal-none (began h .args .len) (memory h) (has-store h) (long e) (sym (c .before .is-running .ensures) ∙ not-false _ (c .if3 .left))
 
 pub step-refusal-spec : {M : Type 1} → statement M
-step-refusal-spec = tie.close (tie.spec (λ c κs. search needs) returns get-head-requires (λ c. search needs) (λ c. search needs) returns-2 is-running-requires returns-3 returns-4)
+step-refusal-spec = tie.close (tie.spec (λ c κs. search needs) returns get-head-requires (λ c. search needs) (λ c. search needs) returns-2 is-running-requires returns-3
+    returns-4)

@@ -67,5 +67,6 @@ returns c =
     (c .before .before .before .before .before .before .before .write-directory .ensures) (back-is (st .args .image .now) _ (b .result)))
 
 pub store-directory-spec : {M : Type 1} → statement M
-store-directory-spec = tie.close (tie.spec get-head-requires get-counts-requires allocate-requires (λ c. search needs) (λ c. search needs) (λ c. search needs) (λ c. search needs) (λ c. search needs)
-    (λ c. search needs) add-write-directory write-directory-requires cast-taken-by taken-by-requires keep-directory-requires (λ c. search needs) (λ c. search needs) returns)
+store-directory-spec = tie.close (tie.spec get-head-requires get-counts-requires allocate-requires (λ c. search needs) (λ c. search needs) (λ c. search needs)
+    (λ c. search needs) (λ c. search needs) (λ c. search needs) add-write-directory write-directory-requires cast-taken-by taken-by-requires keep-directory-requires
+    (λ c. search needs) (λ c. search needs) returns)

@@ -28,5 +28,5 @@ returns c =
     )
 
 pub store-header-spec : {M : Type 1} → statement M
-store-header-spec = tie.close (tie.spec (λ c. search needs) (λ c. search needs) part-write-header-end write-header-requires (λ c κs. search needs) (λ c κs. search needs) (λ c. search needs)
-    (λ c. search needs) returns)
+store-header-spec = tie.close (tie.spec (λ c. search needs) (λ c. search needs) part-write-header-end write-header-requires (λ c κs. search needs) (λ c κs. search needs)
+    (λ c. search needs) (λ c. search needs) returns)

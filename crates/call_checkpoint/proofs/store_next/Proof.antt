@@ -54,5 +54,5 @@ store-rest-requires : tie.Need-store-rest-requires
 store-rest-requires c κs = let told = c .before .before .before .before in (begun told .pre, (nowhere told, c .before .before .allocator-of2 .ensures))
 
 pub store-next-spec : {M : Type 1} → statement M
-store-next-spec = tie.close (tie.spec first-frozen-requires get-counts-requires (λ c. search needs) count-frozen-requires allocator-of-requires store-page-requires (λ c. search needs)
-    (λ c. search needs) (λ c. search needs) allocator-of-requires-2 store-rest-requires (λ c. search needs) (λ c. search needs) (λ c. search needs))
+store-next-spec = tie.close (tie.spec first-frozen-requires get-counts-requires (λ c. search needs) count-frozen-requires allocator-of-requires store-page-requires
+    (λ c. search needs) (λ c. search needs) (λ c. search needs) allocator-of-requires-2 store-rest-requires (λ c. search needs) (λ c. search needs) (λ c. search needs))

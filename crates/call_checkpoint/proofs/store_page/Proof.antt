@@ -76,5 +76,6 @@ returns c =
     (c .before .before .before .before .before .before .before .write-page .ensures) (back-is (st .args .image .now) _ (b .result)))
 
 pub store-page-spec : {M : Type 1} → statement M
-store-page-spec = tie.close (tie.spec get-head-requires table-of-requires start-of-requires add-start-of start-of-requires-2 allocate-requires (λ c. search needs) (λ c. search needs)
-    (λ c. search needs) (λ c. search needs) (λ c. search needs) add-write-page write-page-requires cast-taken-by taken-by-requires keep-page-requires (λ c. search needs) (λ c. search needs) returns)
+store-page-spec = tie.close (tie.spec get-head-requires table-of-requires start-of-requires add-start-of start-of-requires-2 allocate-requires (λ c. search needs)
+    (λ c. search needs) (λ c. search needs) (λ c. search needs) (λ c. search needs) add-write-page write-page-requires cast-taken-by taken-by-requires keep-page-requires
+    (λ c. search needs) (λ c. search needs) returns)

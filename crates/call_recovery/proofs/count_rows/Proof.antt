@@ -15,9 +15,6 @@ abbrev μ-loop : tie.MeasureT-loop
 get-counts-requires : tie.Need-get-counts-requires Inv-loop μ-loop
 get-counts-requires c κs = omega (arith, c .before .before .pre .0 .range .long)
 
-wide-requires : tie.Need-wide-requires Inv-loop μ-loop
-wide-requires c κs = omega arith
-
 loop-holds : tie.Need-loop-holds Inv-loop μ-loop
 loop-holds c = (row-count _ (c .before .get-counts .ensures) (c .wide .ensures), c .before .before .before .before .pre .1 .1)
 
@@ -37,12 +34,6 @@ note-requires c κs =
     let m = p8 .args .m .now in
     let h : l .i < length (flatOf m .rows) = omega (arith, l .inv .0, p2 .loop-test) in
     (counts-small (flatOf m) (l .i) (rows-few m (p8 .pre .0)) (l .inv .1), owner-fits (flatOf m) (l .i) h (p8 .pre .1 .0) (c .owner-at .ensures))
-
-add-i : tie.Need-add-i Inv-loop μ-loop
-add-i c = omega arith
-
-loop-less : tie.Need-loop-less Inv-loop μ-loop
-loop-less c = omega arith
 
 loop-again : tie.Need-loop-again Inv-loop μ-loop
 loop-again c =
@@ -69,5 +60,5 @@ returns c =
     counts-end (flatOf (p6 .args .m .now)) (p1 .loop .i) (omega (arith, p1 .loop .inv .0, c .loop-test)) (p1 .loop .inv .1)
 
 pub count-rows-spec : {M : Type 1} → statement M
-count-rows-spec = tie.close (tie.spec Inv-loop μ-loop get-counts-requires wide-requires loop-holds owner-at-requires note-requires add-i loop-less loop-again same-length
-    returns)
+count-rows-spec = tie.close (tie.spec Inv-loop μ-loop get-counts-requires (λ c κs. omega arith) loop-holds owner-at-requires note-requires (λ c. omega arith) (λ c. omega arith)
+    loop-again same-length returns)

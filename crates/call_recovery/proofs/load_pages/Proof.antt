@@ -17,15 +17,6 @@ abbrev μ-loop : tie.MeasureT-loop
 loop-holds : tie.Need-loop-holds Inv-loop μ-loop
 loop-holds c = let s = c .before .before .before in (omega arith, loading-start (view (s .args .image .now)) (s .args .m .now) (s .args .entries .now) (s .pre .1 .0) (s .pre .1 .1 .0))
 
-mul-wide : tie.Need-mul-wide Inv-loop μ-loop
-mul-wide c = omega arith
-
-shared-slice-read-wide : tie.Need-shared-slice-read-wide Inv-loop μ-loop
-shared-slice-read-wide c = omega arith
-
-wide-requires : tie.Need-wide-requires Inv-loop μ-loop
-wide-requires c κs = omega arith
-
 load-page-requires : tie.Need-load-page-requires Inv-loop μ-loop
 load-page-requires c κs =
     let p1 = c .before in
@@ -46,12 +37,6 @@ load-page-requires c κs =
       ),
       (l .inv .1 .becomes .room, (l .inv .1 .order, loading-room (view (a .image .now)) (a .entries .now) (l .i) _ h w (a .m .now) (l .m) (l .inv .1) (pre .1 .1 .1))),
     )
-
-add-i : tie.Need-add-i Inv-loop μ-loop
-add-i c = omega arith
-
-loop-less : tie.Need-loop-less Inv-loop μ-loop
-loop-less c = omega arith
 
 loop-again : tie.Need-loop-again Inv-loop μ-loop
 loop-again c =
@@ -77,4 +62,5 @@ returns c =
     loading-end (view (a .image .now)) (a .m .now) (l .m) (a .entries .now) (l .i) (omega (arith, c .loop-test)) (l .inv .1)
 
 pub load-pages-spec : {M : Type 1} → statement M
-load-pages-spec = tie.close (tie.spec Inv-loop μ-loop loop-holds mul-wide shared-slice-read-wide wide-requires load-page-requires add-i loop-less loop-again same-length returns)
+load-pages-spec = tie.close (tie.spec Inv-loop μ-loop loop-holds (λ c. omega arith) (λ c. omega arith) (λ c κs. omega arith) load-page-requires (λ c. omega arith)
+    (λ c. omega arith) loop-again same-length returns)

@@ -28,9 +28,6 @@ loop-holds c =
 next-requires : tie.Need-next-requires Inv-loop μ-loop
 next-requires c κs = c .before .before .before .before .pre .0 .0
 
-enum-known-r : tie.Need-enum-known-r Inv-loop μ-loop
-enum-known-r c = omega arith
-
 load-row-requires : tie.Need-load-row-requires Inv-loop μ-loop
 load-row-requires c κs =
     let p2 = c .before .before in
@@ -46,9 +43,6 @@ load-row-requires c κs =
     let f = walk-found (l .inv .1 .0) (omega (arith, pre .0 .1 .1)) (sym (p2 .r .given .1) ∙ p4 .next .ensures) in
     let fits = found-fits xs (l .at) (all-bytes xs (λ j. omega (arith, p8 .shared-slice-known .given j))) (f .found) in
     ((f .found .limit, (f .found .inside, fits)), row-room _ _ (p9 .args .count) (l .i) _ (pre .0 .1 .1) (l .inv .1 .1) (pre .1 .1 .1 .1) h)
-
-enum-told : tie.Need-enum-told Inv-loop μ-loop
-enum-told c = omega arith
 
 same-length : tie.Need-same-length Inv-loop μ-loop
 same-length c = c .before .before .before .before .loop .inv .1 .1 .becomes .size
@@ -66,9 +60,6 @@ add-i c =
     let p8 = c .before .before .before .before .before .before .before .before in
     let p12 = p8 .before .before .before .before in
     omega (arith, p12 .pre .1 .1 .1 .1, p12 .pre .1 .0 .range .most, p8 .loop-test)
-
-loop-less : tie.Need-loop-less Inv-loop μ-loop
-loop-less c = omega arith
 
 loop-again : tie.Need-loop-again Inv-loop μ-loop
 loop-again c =
@@ -97,5 +88,5 @@ returns-2 c =
     subst (λ (hs : List Held). Fills hs (p4 .args .m .now) (l .m)) (withoutPending-all (l .i) ts (omega (arith, p4 .pre .0 .1 .1, c .loop-test))) (l .inv .1 .1)
 
 pub load-rows-spec : {M : Type 1} → statement M
-load-rows-spec = tie.close (tie.spec Inv-loop μ-loop loop-holds next-requires enum-known-r load-row-requires enum-told same-length returns add-i loop-less loop-again
-    same-length-2 returns-2)
+load-rows-spec = tie.close (tie.spec Inv-loop μ-loop loop-holds next-requires (λ c. omega arith) load-row-requires (λ c. omega arith) same-length returns add-i
+    (λ c. omega arith) loop-again same-length-2 returns-2)

@@ -13,15 +13,6 @@ abbrev μ-loop : tie.MeasureT-loop
 loop-holds : tie.Need-loop-holds Inv-loop μ-loop
 loop-holds c = let s = c .before .before in (omega arith, marking-start (s .args .m .now) (s .args .bs .now) (s .pre .1))
 
-mul-wide : tie.Need-mul-wide Inv-loop μ-loop
-mul-wide c = omega arith
-
-shared-slice-read-wide : tie.Need-shared-slice-read-wide Inv-loop μ-loop
-shared-slice-read-wide c = omega arith
-
-wide-requires : tie.Need-wide-requires Inv-loop μ-loop
-wide-requires c κs = omega arith
-
 mark-used-requires : tie.Need-mark-used-requires Inv-loop μ-loop
 mark-used-requires c κs =
     let p3 = c .before .before .before in
@@ -31,12 +22,6 @@ mark-used-requires c κs =
     let l = p4 .loop in
     let h : l .i < length bs = omega (arith, p3 .loop-test) in
     (l .inv .1 .room, omega (arith, named-below 4096 bs (l .i) (p7 .pre .0) h, c .wide .ensures))
-
-add-i : tie.Need-add-i Inv-loop μ-loop
-add-i c = omega arith
-
-loop-less : tie.Need-loop-less Inv-loop μ-loop
-loop-less c = omega arith
 
 loop-again : tie.Need-loop-again Inv-loop μ-loop
 loop-again c =
@@ -57,5 +42,5 @@ returns : tie.Need-returns Inv-loop μ-loop
 returns c = let s = c .before .before .before .before in let a = s .args in let p = c .before .loop in marking-end (a .m .now) (p .m) (a .bs .now) (p .i) (omega (arith, c .loop-test)) (p .inv .1)
 
 pub mark-blocks-spec : {M : Type 1} → statement M
-mark-blocks-spec = tie.close (tie.spec Inv-loop μ-loop loop-holds mul-wide shared-slice-read-wide wide-requires mark-used-requires add-i loop-less loop-again same-length
-    returns)
+mark-blocks-spec = tie.close (tie.spec Inv-loop μ-loop loop-holds (λ c. omega arith) (λ c. omega arith) (λ c κs. omega arith) mark-used-requires (λ c. omega arith)
+    (λ c. omega arith) loop-again same-length returns)

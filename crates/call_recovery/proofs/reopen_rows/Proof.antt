@@ -16,9 +16,6 @@ abbrev μ-loop : tie.MeasureT-loop
 get-counts-requires : tie.Need-get-counts-requires Inv-loop μ-loop
 get-counts-requires c κs = omega (arith, c .before .before .before .before .pre .0 .0 .range .long)
 
-wide-requires : tie.Need-wide-requires Inv-loop μ-loop
-wide-requires c κs = omega arith
-
 loop-holds : tie.Need-loop-holds Inv-loop μ-loop
 loop-holds c =
     let p1 = c .before in
@@ -66,12 +63,6 @@ reopen-last-requires c κs =
       ),
     )
 
-add-i : tie.Need-add-i Inv-loop μ-loop
-add-i c = omega arith
-
-loop-less : tie.Need-loop-less Inv-loop μ-loop
-loop-less c = omega arith
-
 loop-again : tie.Need-loop-again Inv-loop μ-loop
 loop-again c =
     let p2 = c .before .before in
@@ -101,5 +92,5 @@ returns : tie.Need-returns Inv-loop μ-loop
 returns c = reopened-end (c .before .loop .inv .1 .0) (omega (arith, c .before .loop .inv .0, c .loop-test))
 
 pub reopen-rows-spec : {M : Type 1} → statement M
-reopen-rows-spec = tie.close (tie.spec Inv-loop μ-loop get-counts-requires wide-requires loop-holds owner-at-requires note-requires reopen-last-requires add-i loop-less
-    loop-again same-length same-length-2 returns)
+reopen-rows-spec = tie.close (tie.spec Inv-loop μ-loop get-counts-requires (λ c κs. omega arith) loop-holds owner-at-requires note-requires reopen-last-requires
+    (λ c. omega arith) (λ c. omega arith) loop-again same-length same-length-2 returns)

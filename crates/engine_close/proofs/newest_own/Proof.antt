@@ -11,9 +11,6 @@ Inv-loop m i e transaction r₀ r = (i ≤ r) × ((r < e) × NotLater m transact
 abbrev μ-loop : tie.MeasureT-loop
 μ-loop m i e transaction r₀ r = r
 
-sub-r : tie.Need-sub-r Inv-loop μ-loop
-sub-r c = omega arith
-
 loop-holds : tie.Need-loop-holds Inv-loop μ-loop
 loop-holds c = (omega arith, (omega arith, λ j x y. absurd (omega arith)))
 
@@ -29,12 +26,6 @@ returns c = let p3 = c .before .before .before in let st = p3 .before .before in
       own = own-is m (st .pre .0) (st .args .transaction) (l .r) ∙ sym (c .before .owns .ensures) ∙ c .if1 .taken;
       later = l .inv .1 .1;
     }
-
-sub-r-2 : tie.Need-sub-r-2 Inv-loop μ-loop
-sub-r-2 c = omega arith
-
-loop-less : tie.Need-loop-less Inv-loop μ-loop
-loop-less c = omega arith
 
 loop-again : tie.Need-loop-again Inv-loop μ-loop
 loop-again c = let p3 = c .before .before .before in let st = p3 .before .before in
@@ -52,4 +43,4 @@ returns-2 c = let l = c .before .loop in let st = c .before .before .before in
     }
 
 pub newest-own-spec : {M : Type 1} → statement M
-newest-own-spec = tie.close (tie.spec Inv-loop μ-loop sub-r loop-holds owns-requires returns sub-r-2 loop-less loop-again returns-2)
+newest-own-spec = tie.close (tie.spec Inv-loop μ-loop (λ c. omega arith) loop-holds owns-requires returns (λ c. omega arith) (λ c. omega arith) loop-again returns-2)

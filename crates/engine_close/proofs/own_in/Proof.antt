@@ -26,12 +26,6 @@ returns c = let p3 = c .before .before .before in let st = p3 .before .before in
       found = λ x. own-is m (st .pre .0) (st .args .transaction) (l .r) ∙ sym (c .before .owns .ensures) ∙ c .if1 .taken;
     }
 
-add-r : tie.Need-add-r Inv-loop μ-loop
-add-r c = omega arith
-
-loop-less : tie.Need-loop-less Inv-loop μ-loop
-loop-less c = omega arith
-
 loop-again : tie.Need-loop-again Inv-loop μ-loop
 loop-again c = let p3 = c .before .before .before in let st = p3 .before .before in
     let l = p3 .loop in
@@ -42,4 +36,4 @@ returns-2 c = let l = c .before .loop in
     record { low = l .inv .0; most = l .inv .1 .0; passed = l .inv .1 .1; found = λ x. absurd (omega (arith, c .loop-test .left)) }
 
 pub own-in-spec : {M : Type 1} → statement M
-own-in-spec = tie.close (tie.spec Inv-loop μ-loop loop-holds owns-requires returns add-r loop-less loop-again returns-2)
+own-in-spec = tie.close (tie.spec Inv-loop μ-loop loop-holds owns-requires returns (λ c. omega arith) (λ c. omega arith) loop-again returns-2)

@@ -14,9 +14,6 @@ abbrev μ-loop : tie.MeasureT-loop
 first-row-requires : tie.Need-first-row-requires Inv-loop μ-loop
 first-row-requires c κs = let p = c .before .pre in (p .0 .0, omega (arith, p .1 .1))
 
-later-requires : tie.Need-later-requires Inv-loop μ-loop
-later-requires c κs = search needs
-
 key-at-requires : tie.Need-key-at-requires Inv-loop μ-loop
 key-at-requires c κs = let st = c .before .before .before in let p = st .pre .0 in (p .0, omega (arith, p .1 .1, tagged-length (st .args .m .now) (p .0)))
 
@@ -25,9 +22,6 @@ loop-holds c = let p2 = c .before .before in let st = p2 .before .before in
     let v = c .before .later in let p = st .pre .0 in
     let f = first-low (p .0) (p .1 .1) (st .pre .1) (p2 .first-row .ensures) in
     (⊎-elim (λ x. omega (arith, v .ensures .1 .1 x)) (λ x. omega (arith, p .1 .0)) (lt-or-ge (st .args .from) (v .result)), (omega arith, λ j x y. absurd (omega arith)))
-
-sub-key-at : tie.Need-sub-key-at Inv-loop μ-loop
-sub-key-at c = omega arith
 
 key-at-requires-2 : tie.Need-key-at-requires-2 Inv-loop μ-loop
 key-at-requires-2 c κs = let st = c .before .before .before .before .before .before in let p = st .pre .0 in
@@ -38,12 +32,6 @@ returns c = let p3 = c .before .before .before in let p4 = p3 .before in let p5 
     let st = p6 .before .before in let l = p3 .loop in let p = st .pre .0 in
     back-ends (p .0) (p .1 .1) (st .pre .1) (p6 .first-row .ensures) (l .inv .1 .1) (st .args .from)
     (omega (arith, p5 .later .ensures .0, l .inv .0)) (l .inv .1 .0) (λ q. c .if1 .taken (c .before .key-at2 .ensures ∙ q ∙ sym (p4 .key-at .ensures)))
-
-sub-r : tie.Need-sub-r Inv-loop μ-loop
-sub-r c = omega arith
-
-loop-less : tie.Need-loop-less Inv-loop μ-loop
-loop-less c = omega arith
 
 loop-again : tie.Need-loop-again Inv-loop μ-loop
 loop-again c = let p2 = c .before .before in let p3 = p2 .before in let p4 = p3 .before in let p5 = p4 .before in let p6 = p5 .before in
@@ -63,5 +51,5 @@ returns-2 c = let p3 = c .before .before .before in let p4 = p3 .before in let s
     (omega (arith, v .ensures .0, l .inv .0)) (l .inv .1 .0) (λ x. omega (arith, v .ensures .1 .1 (omega (arith, l .inv .0)), c .loop-test .left, l .inv .0))
 
 pub run-start-spec : {M : Type 1} → statement M
-run-start-spec = tie.close (tie.spec Inv-loop μ-loop first-row-requires later-requires key-at-requires loop-holds sub-key-at key-at-requires-2 returns sub-r loop-less
-    loop-again returns-2)
+run-start-spec = tie.close (tie.spec Inv-loop μ-loop first-row-requires (λ c κs. search needs) key-at-requires loop-holds (λ c. omega arith) key-at-requires-2 returns
+    (λ c. omega arith) (λ c. omega arith) loop-again returns-2)

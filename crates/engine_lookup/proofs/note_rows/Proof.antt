@@ -25,9 +25,6 @@ note-row-requires c κs =
     let st = c .before .before .before .before .before in
     (st .pre .0, omega (arith, st .pre .1, c .before .before .loop-test .taken))
 
-add-i : tie.Need-add-i Inv-loop μ-loop
-add-i c = omega arith
-
 loop-less : tie.Need-loop-less Inv-loop μ-loop
 loop-less c = omega (arith, c .before .before .loop-test .taken)
 
@@ -50,4 +47,4 @@ returns c =
     sym (turn-end (flatOf (a .m .now)) (a .transaction) (a .key) (g .i) (a .to) (g .l) (omega (arith, c .loop-test .left))) ∙ g .inv
 
 pub note-rows-spec : {M : Type 1} → statement M
-note-rows-spec = tie.close (tie.spec Inv-loop μ-loop loop-holds key-at-requires note-row-requires add-i loop-less loop-again returns)
+note-rows-spec = tie.close (tie.spec Inv-loop μ-loop loop-holds key-at-requires note-row-requires (λ c. omega arith) loop-less loop-again returns)

@@ -16,25 +16,10 @@ loop-holds c =
     let p3 = c .before .before .before in
     let a = p3 .args in (gathering-start (view (a .image .now)) (a .level) (a .pages) (a .directories .now) (a .out .now), refl)
 
-mul-wide : tie.Need-mul-wide Inv-loop μ-loop
-mul-wide c = omega arith
-
-shared-slice-read-wide : tie.Need-shared-slice-read-wide Inv-loop μ-loop
-shared-slice-read-wide c = omega arith
-
-wide-requires : tie.Need-wide-requires Inv-loop μ-loop
-wide-requires c κs = omega arith
-
 block-at-requires : tie.Need-block-at-requires Inv-loop μ-loop
 block-at-requires c κs =
     let p3 = c .before .before .before in let p7 = p3 .before .before .before .before in
     let a = p7 .args in let p = p3 .loop in omega (arith, within (a .image .now) (a .directories .now) (p .i) (p7 .pre .0) (omega (arith, c .before .before .loop-test .taken)), c .wide .ensures)
-
-sub-left : tie.Need-sub-left Inv-loop μ-loop
-sub-left c = omega arith
-
-add-entries-requires : tie.Need-add-entries-requires Inv-loop μ-loop
-add-entries-requires c κs = omega arith
 
 same-length : tie.Need-same-length Inv-loop μ-loop
 same-length c = c .before .before .before .add-entries .kept .1 .1 .1 .0 ∙ c .before .before .before .before .before .before .before .before .before .before .loop .inv .1
@@ -48,12 +33,6 @@ returns c =
     let f = filled-there _ _ e (a .level) (a .pages - p .at) (p .at) (p .out) _ _ (p3 .add-entries .ensures) in
     gathering-stop (view (a .image .now)) (a .level) (a .pages) (a .directories .now) (a .out .now) (p .i) (p .at) (p .out) (p .inv .0) _ _ _
     (omega (arith, p9 .loop-test)) (not-true _ (c .if1 .taken)) f
-
-due-requires : tie.Need-due-requires Inv-loop μ-loop
-due-requires c κs = omega arith
-
-add-at : tie.Need-add-at Inv-loop μ-loop
-add-at c = omega arith
 
 add-i : tie.Need-add-i Inv-loop μ-loop
 add-i c = let s = c .before .before .before .before .before .before .before .before .before .before .before .before .before .before .before in
@@ -83,5 +62,5 @@ returns-2 c =
     gathering-end (view (a .image .now)) (a .level) (a .pages) (a .directories .now) (a .out .now) (p .i) (p .at) (p .out) (p .inv .0) (omega (arith, c .loop-test))
 
 pub gather-spec : {M : Type 1} → statement M
-gather-spec = tie.close (tie.spec Inv-loop μ-loop loop-holds mul-wide shared-slice-read-wide wide-requires block-at-requires sub-left add-entries-requires same-length returns
-    due-requires add-at add-i loop-less loop-again same-length-2 returns-2)
+gather-spec = tie.close (tie.spec Inv-loop μ-loop loop-holds (λ c. omega arith) (λ c. omega arith) (λ c κs. omega arith) block-at-requires (λ c. omega arith)
+    (λ c κs. omega arith) same-length returns (λ c κs. omega arith) (λ c. omega arith) add-i loop-less loop-again same-length-2 returns-2)

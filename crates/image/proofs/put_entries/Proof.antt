@@ -16,30 +16,6 @@ loop-holds c =
     let p2 = c .before .before in
     let a = p2 .args in (omega arith, (refl, sym (over-nil (a .out .now) (a .at))))
 
-mul-number : tie.Need-mul-number Inv-loop μ-loop
-mul-number c = omega arith
-
-shared-slice-read-number : tie.Need-shared-slice-read-number Inv-loop μ-loop
-shared-slice-read-number c = omega arith
-
-number-requires : tie.Need-number-requires Inv-loop μ-loop
-number-requires c κs = omega arith
-
-add-out : tie.Need-add-out Inv-loop μ-loop
-add-out c = omega arith
-
-mul-out : tie.Need-mul-out Inv-loop μ-loop
-mul-out c = omega arith
-
-slice-write-out : tie.Need-slice-write-out Inv-loop μ-loop
-slice-write-out c = omega arith
-
-add-i : tie.Need-add-i Inv-loop μ-loop
-add-i c = omega arith
-
-loop-less : tie.Need-loop-less Inv-loop μ-loop
-loop-less c = omega arith
-
 loop-again : tie.Need-loop-again Inv-loop μ-loop
 loop-again c =
     let p3 = c .before .before .before in let p6 = p3 .before .before .before in
@@ -52,9 +28,6 @@ loop-again c =
       ),
     )
 
-same-length : tie.Need-same-length Inv-loop μ-loop
-same-length c = omega arith
-
 returns : tie.Need-returns Inv-loop μ-loop
 returns c =
     let p4 = c .before .before .before .before in
@@ -62,5 +35,5 @@ returns c =
     (λ (k : ℕ). over (a .out .now) (a .at) (take k (a .entries .now))) e
 
 pub put-entries-spec : {M : Type 1} → statement M
-put-entries-spec = tie.close (tie.spec Inv-loop μ-loop loop-holds mul-number shared-slice-read-number number-requires add-out mul-out slice-write-out add-i loop-less loop-again
-    same-length returns)
+put-entries-spec = tie.close (tie.spec Inv-loop μ-loop loop-holds (λ c. omega arith) (λ c. omega arith) (λ c κs. omega arith) (λ c. omega arith) (λ c. omega arith)
+    (λ c. omega arith) (λ c. omega arith) (λ c. omega arith) loop-again (λ c. omega arith) returns)

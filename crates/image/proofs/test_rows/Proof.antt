@@ -27,40 +27,19 @@ found c =
     (p10 .wide .ensures) (p3 .good-page .ensures) in
     goods (a .h .level) (a .h .capacity - p .to) (g .0 .0) (g .0 .1 .0) _ (e ∙ g .1)
 
-wide-requires : tie.Need-wide-requires Inv-loop μ-loop
-wide-requires c κs = omega arith
-
 loop-holds : tie.Need-loop-holds Inv-loop μ-loop
 loop-holds c =
     let p7 = c .before .before .before .before .before .before .before in
     let a = p7 .args in
     (collecting-start (view (a .image .now)) (a .h) (a .entries .now) (a .places .now) (a .numbers .now) (a .owners .now) (a .marks .now), (refl, (refl, (refl, refl))))
 
-mul-wide : tie.Need-mul-wide Inv-loop μ-loop
-mul-wide c = omega arith
-
 shared-slice-read-wide : tie.Need-shared-slice-read-wide Inv-loop μ-loop
 shared-slice-read-wide c = omega (arith, c .before .loop-test .taken)
-
-wide-requires-2 : tie.Need-wide-requires-2 Inv-loop μ-loop
-wide-requires-2 c κs = omega arith
 
 block-at-requires : tie.Need-block-at-requires Inv-loop μ-loop
 block-at-requires c κs =
     let p3 = c .before .before .before in let p11 = p3 .before .before .before .before .before .before .before .before in
     let a = p11 .args in let p = p3 .loop in omega (arith, within (a .image .now) (a .entries .now) (p .i) (p11 .pre .0) (omega arith), c .wide2 .ensures)
-
-sub-good-page : tie.Need-sub-good-page Inv-loop μ-loop
-sub-good-page c = omega arith
-
-good-page-requires : tie.Need-good-page-requires Inv-loop μ-loop
-good-page-requires c κs = omega arith
-
-enum-known-table : tie.Need-enum-known-table Inv-loop μ-loop
-enum-known-table c = omega arith
-
-slice-aggregate-add-rows : tie.Need-slice-aggregate-add-rows Inv-loop μ-loop
-slice-aggregate-add-rows c = omega arith
 
 add-rows-requires : tie.Need-add-rows-requires Inv-loop μ-loop
 add-rows-requires c κs =
@@ -69,18 +48,12 @@ add-rows-requires c κs =
     let g = found p5 in let k = p22 .pre .1 in let p = p14 .loop in let l = p .inv .1 in let r = p .inv .0 .room in let m = g .room-left in
     (omega (arith, p10 .block-at), (omega (arith, k, l, r, m), (omega (arith, k, l, r, m), (omega (arith, k, l, r, m), omega (arith, k, l, r, m)))))
 
-wide-requires-3 : tie.Need-wide-requires-3 Inv-loop μ-loop
-wide-requires-3 c κs = omega arith
-
 add-to : tie.Need-add-to Inv-loop μ-loop
 add-to c =
     let p15 = c .before .before .before .before .before .before .before .before .before .before .before .before .before .before .before in
     let p24 = p15 .before .before .before .before .before .before .before .before .before in
     let p32 = p24 .before .before .before .before .before .before .before .before in
     let g = found p15 in omega (arith, g .room-left, p24 .loop .inv .0 .room, p32 .pre .1, p32 .good, c .wide3 .ensures)
-
-enum-told : tie.Need-enum-told Inv-loop μ-loop
-enum-told c = omega arith
 
 same-length : tie.Need-same-length Inv-loop μ-loop
 same-length c = c .before .before .before .before .before .before .before .before .loop .inv .1 .0
@@ -148,6 +121,6 @@ returns-2 c =
     c .columns-ok .ensures ∙ collecting-end (view (a .image .now)) (a .h) (a .entries .now) (p .i) (p .to) _ (p .inv .0) (omega (arith, c .before .before .before .before .before .loop-test))
 
 pub test-rows-spec : {M : Type 1} → statement M
-test-rows-spec = tie.close (tie.spec Inv-loop μ-loop wide-requires loop-holds mul-wide shared-slice-read-wide wide-requires-2 block-at-requires sub-good-page good-page-requires
-    enum-known-table slice-aggregate-add-rows add-rows-requires wide-requires-3 add-to enum-told same-length same-length-2 same-length-3 same-length-4 returns add-i loop-less
-    loop-again columns-ok-requires same-length-5 same-length-6 same-length-7 same-length-8 returns-2)
+test-rows-spec = tie.close (tie.spec Inv-loop μ-loop (λ c κs. omega arith) loop-holds (λ c. omega arith) shared-slice-read-wide (λ c κs. omega arith) block-at-requires
+    (λ c. omega arith) (λ c κs. omega arith) (λ c. omega arith) (λ c. omega arith) add-rows-requires (λ c κs. omega arith) add-to (λ c. omega arith) same-length same-length-2
+    same-length-3 same-length-4 returns add-i loop-less loop-again columns-ok-requires same-length-5 same-length-6 same-length-7 same-length-8 returns-2)

@@ -13,12 +13,6 @@ abbrev μ-loop : tie.MeasureT-loop
 loop-holds : tie.Need-loop-holds Inv-loop μ-loop
 loop-holds c = refl
 
-mul-is-in : tie.Need-mul-is-in Inv-loop μ-loop
-mul-is-in c = omega arith
-
-shared-slice-read-is-in : tie.Need-shared-slice-read-is-in Inv-loop μ-loop
-shared-slice-read-is-in c = omega arith
-
 is-in-requires : tie.Need-is-in-requires Inv-loop μ-loop
 is-in-requires c κs = tt
 
@@ -27,12 +21,6 @@ returns c =
     let p4 = c .before .before .before .before in let p7 = p4 .before .before .before in
     let s = p7 in let p = p4 .loop in let f : ℕ → Bool = λ e. not (isIn e (s .args .t .now)) in
     sym (p .inv ∙ all-not f (drop-turn (s .args .s .now) (p .i) (omega arith)) (ap not (sym (c .before .is-in .ensures) ∙ c .if1 .taken)))
-
-add-i : tie.Need-add-i Inv-loop μ-loop
-add-i c = omega arith
-
-loop-less : tie.Need-loop-less Inv-loop μ-loop
-loop-less c = omega arith
 
 loop-again : tie.Need-loop-again Inv-loop μ-loop
 loop-again c =
@@ -47,4 +35,5 @@ returns-2 c =
     sym (p .inv ∙ all-end (λ (e : ℕ). not (isIn e (s .args .t .now))) (drop-end (s .args .s .now) (p .i) (omega arith)))
 
 pub apart-spec : {M : Type 1} → statement M
-apart-spec = tie.close (tie.spec Inv-loop μ-loop loop-holds mul-is-in shared-slice-read-is-in is-in-requires returns add-i loop-less loop-again returns-2)
+apart-spec = tie.close (tie.spec Inv-loop μ-loop loop-holds (λ c. omega arith) (λ c. omega arith) is-in-requires returns (λ c. omega arith) (λ c. omega arith) loop-again
+    returns-2)

@@ -14,12 +14,6 @@ abbrev μ-loop : tie.MeasureT-loop
 loop-holds : tie.Need-loop-holds Inv-loop μ-loop
 loop-holds c = refl
 
-mul-block-ok : tie.Need-mul-block-ok Inv-loop μ-loop
-mul-block-ok c = omega arith
-
-shared-slice-read-block-ok : tie.Need-shared-slice-read-block-ok Inv-loop μ-loop
-shared-slice-read-block-ok c = omega arith
-
 block-ok-requires : tie.Need-block-ok-requires Inv-loop μ-loop
 block-ok-requires c κs = tt
 
@@ -28,12 +22,6 @@ returns c =
     let p4 = c .before .before .before .before in let p6 = p4 .before .before in
     let s = p6 in let p = p4 .loop in
     sym (p .inv ∙ all-not (blockOk (s .args .n)) (drop-turn (s .args .s .now) (p .i) (omega arith)) (sym (c .before .block-ok .ensures) ∙ not-true _ (c .if1 .taken)))
-
-add-i : tie.Need-add-i Inv-loop μ-loop
-add-i c = omega arith
-
-loop-less : tie.Need-loop-less Inv-loop μ-loop
-loop-less c = omega arith
 
 loop-again : tie.Need-loop-again Inv-loop μ-loop
 loop-again c =
@@ -47,4 +35,5 @@ returns-2 c =
     let s = p3 in let p = c .before .loop in sym (p .inv ∙ all-end (blockOk (s .args .n)) (drop-end (s .args .s .now) (p .i) (omega arith)))
 
 pub in-blocks-spec : {M : Type 1} → statement M
-in-blocks-spec = tie.close (tie.spec Inv-loop μ-loop loop-holds mul-block-ok shared-slice-read-block-ok block-ok-requires returns add-i loop-less loop-again returns-2)
+in-blocks-spec = tie.close (tie.spec Inv-loop μ-loop loop-holds (λ c. omega arith) (λ c. omega arith) block-ok-requires returns (λ c. omega arith) (λ c. omega arith) loop-again
+    returns-2)

@@ -16,24 +16,12 @@ loop-holds : tie.Need-loop-holds Inv-loop μ-loop
 unfolding rowsIn
 loop-holds c = ap (all (isBelow (c .args .next))) (sym (tab-whole (rowAt [] (c .args .numbers .now) [] []) (c .args .count)))
 
-mul-if1 : tie.Need-mul-if1 Inv-loop μ-loop
-mul-if1 c = omega arith
-
-shared-slice-read-if1 : tie.Need-shared-slice-read-if1 Inv-loop μ-loop
-shared-slice-read-if1 c = omega arith
-
 returns : tie.Need-returns Inv-loop μ-loop
 unfolding rowAt coded isBelow number
 returns c =
     let p3 = c .before .before .before in let p4 = p3 .before in
     let s = p4 in let p = p3 .loop in
     sym (p .inv ∙ all-not (isBelow (s .args .next)) (tab-turn (rowAt [] (s .args .numbers .now) [] []) (p .i) (s .args .count) (omega arith)) (le-ltb _ _ (c .if1 .taken)))
-
-add-i : tie.Need-add-i Inv-loop μ-loop
-add-i c = omega arith
-
-loop-less : tie.Need-loop-less Inv-loop μ-loop
-loop-less c = omega arith
 
 loop-again : tie.Need-loop-again Inv-loop μ-loop
 unfolding rowAt coded isBelow number
@@ -49,4 +37,4 @@ returns-2 c =
     sym (p .inv ∙ all-end (isBelow (s .args .next)) (tab-end (rowAt [] (s .args .numbers .now) [] []) (p .i) (s .args .count) (omega arith)))
 
 pub below-spec : {M : Type 1} → statement M
-below-spec = tie.close (tie.spec Inv-loop μ-loop loop-holds mul-if1 shared-slice-read-if1 returns add-i loop-less loop-again returns-2)
+below-spec = tie.close (tie.spec Inv-loop μ-loop loop-holds (λ c. omega arith) (λ c. omega arith) returns (λ c. omega arith) (λ c. omega arith) loop-again returns-2)

@@ -20,9 +20,6 @@ returns c =
     let p5 = c .before .before .before .before .before in
     let a = p5 .args in sym (rising-none (a .places .now) (a .numbers .now) (a .owners .now) (a .marks .now) (a .count) (c .if1 .taken))
 
-shared-slice-read-if2 : tie.Need-shared-slice-read-if2 Inv-loop μ-loop
-shared-slice-read-if2 c = omega arith
-
 returns-2 : tie.Need-returns-2 Inv-loop μ-loop
 returns-2 c =
     let p7 = c .before .before .before .before .before .before .before in
@@ -33,60 +30,12 @@ loop-holds c =
     let p7 = c .before .before .before .before .before .before .before in
     let a = p7 .args in (omega arith, (omega arith, rising-first (a .places .now) (a .numbers .now) (a .owners .now) (a .marks .now) (a .count) (omega arith) (c .if2 .left)))
 
-sub-j : tie.Need-sub-j Inv-loop μ-loop
-sub-j c = omega arith
-
-mul-follows : tie.Need-mul-follows Inv-loop μ-loop
-mul-follows c = omega arith
-
-shared-slice-read-follows : tie.Need-shared-slice-read-follows Inv-loop μ-loop
-shared-slice-read-follows c = omega arith
-
-mul-follows-2 : tie.Need-mul-follows-2 Inv-loop μ-loop
-mul-follows-2 c = omega arith
-
-shared-slice-read-follows-2 : tie.Need-shared-slice-read-follows-2 Inv-loop μ-loop
-shared-slice-read-follows-2 c = omega arith
-
-mul-follows-3 : tie.Need-mul-follows-3 Inv-loop μ-loop
-mul-follows-3 c = omega arith
-
-shared-slice-read-follows-3 : tie.Need-shared-slice-read-follows-3 Inv-loop μ-loop
-shared-slice-read-follows-3 c = omega arith
-
-mul-follows-4 : tie.Need-mul-follows-4 Inv-loop μ-loop
-mul-follows-4 c = omega arith
-
-shared-slice-read-follows-4 : tie.Need-shared-slice-read-follows-4 Inv-loop μ-loop
-shared-slice-read-follows-4 c = omega arith
-
-mul-follows-5 : tie.Need-mul-follows-5 Inv-loop μ-loop
-mul-follows-5 c = omega arith
-
-shared-slice-read-follows-5 : tie.Need-shared-slice-read-follows-5 Inv-loop μ-loop
-shared-slice-read-follows-5 c = omega arith
-
-mul-follows-6 : tie.Need-mul-follows-6 Inv-loop μ-loop
-mul-follows-6 c = omega arith
-
-shared-slice-read-follows-6 : tie.Need-shared-slice-read-follows-6 Inv-loop μ-loop
-shared-slice-read-follows-6 c = omega arith
-
-shared-slice-read-follows-7 : tie.Need-shared-slice-read-follows-7 Inv-loop μ-loop
-shared-slice-read-follows-7 c = omega arith
-
-follows-requires : tie.Need-follows-requires Inv-loop μ-loop
-follows-requires c κs = omega arith
-
 returns-3 : tie.Need-returns-3 Inv-loop μ-loop
 returns-3 c =
     let p9 = c .before .before .before .before .before .before .before .before .before in let p10 = p9 .before in let p18 = p10 .before .before .before .before .before .before .before .before in
     let a = p18 .args in let p = p10 .loop in
     rising-stop (a .places .now) (a .numbers .now) (a .owners .now) (a .marks .now) (p .i) (a .count) (p .inv .0) (omega (arith, p9 .loop-test)) (p .inv .1 .1)
     (c .before .follows .ensures) (c .if3 .taken)
-
-add-i : tie.Need-add-i Inv-loop μ-loop
-add-i c = omega arith
 
 loop-less : tie.Need-loop-less Inv-loop μ-loop
 loop-less c = omega (arith, c .before .before .before .before .before .before .before .before .before .loop-test)
@@ -106,6 +55,6 @@ returns-4 c =
     sym (p .inv .1 .1 ∙ pair-end follows (rowAt (a .places .now) (a .numbers .now) (a .owners .now) (a .marks .now)) (p .i) (a .count) (p .inv .0) (omega arith))
 
 pub rising-spec : {M : Type 1} → statement M
-rising-spec = tie.close (tie.spec Inv-loop μ-loop returns shared-slice-read-if2 returns-2 loop-holds sub-j mul-follows shared-slice-read-follows mul-follows-2
-    shared-slice-read-follows-2 mul-follows-3 shared-slice-read-follows-3 mul-follows-4 shared-slice-read-follows-4 mul-follows-5 shared-slice-read-follows-5 mul-follows-6
-    shared-slice-read-follows-6 shared-slice-read-follows-7 follows-requires returns-3 add-i loop-less loop-again returns-4)
+rising-spec = tie.close (tie.spec Inv-loop μ-loop returns (λ c. omega arith) returns-2 loop-holds (λ c. omega arith) (λ c. omega arith) (λ c. omega arith) (λ c. omega arith)
+    (λ c. omega arith) (λ c. omega arith) (λ c. omega arith) (λ c. omega arith) (λ c. omega arith) (λ c. omega arith) (λ c. omega arith) (λ c. omega arith) (λ c. omega arith)
+    (λ c. omega arith) (λ c κs. omega arith) returns-3 (λ c. omega arith) loop-less loop-again returns-4)

@@ -16,24 +16,6 @@ loop-holds : tie.Need-loop-holds Inv-loop μ-loop
 unfolding starts
 loop-holds c = let s = c .before in let e = tab-whole (λ j. getD (s .args .owners .now) j 0) (s .args .count) in (omega arith, (omega arith, rw e (omega arith)))
 
-mul-is-start : tie.Need-mul-is-start Inv-loop μ-loop
-mul-is-start c = omega arith
-
-shared-slice-read-is-start : tie.Need-shared-slice-read-is-start Inv-loop μ-loop
-shared-slice-read-is-start c = omega arith
-
-is-start-requires : tie.Need-is-start-requires Inv-loop μ-loop
-is-start-requires c κs = omega arith
-
-add-k : tie.Need-add-k Inv-loop μ-loop
-add-k c = omega arith
-
-add-i : tie.Need-add-i Inv-loop μ-loop
-add-i c = omega arith
-
-loop-less : tie.Need-loop-less Inv-loop μ-loop
-loop-less c = omega arith
-
 loop-again : tie.Need-loop-again Inv-loop μ-loop
 loop-again c = let p = c .before .before .before .before .loop in let s = c .before .before .before .before .before .before in
     let t = tab-turn (λ j. getD (s .args .owners .now) j 0) (p .i) (s .args .count) (omega arith) in
@@ -47,4 +29,5 @@ returns c = let p = c .before .loop in let s = c .before .before .before in
     let h = count-end isStart (tab-end (λ j. getD (s .args .owners .now) j 0) (p .i) (s .args .count) (omega arith)) in omega (arith, p .inv .1 .1)
 
 pub starts-spec : {M : Type 1} → statement M
-starts-spec = tie.close (tie.spec Inv-loop μ-loop loop-holds mul-is-start shared-slice-read-is-start is-start-requires add-k add-i loop-less loop-again returns)
+starts-spec = tie.close (tie.spec Inv-loop μ-loop loop-holds (λ c. omega arith) (λ c. omega arith) (λ c κs. omega arith) (λ c. omega arith) (λ c. omega arith)
+    (λ c. omega arith) loop-again returns)

@@ -23,12 +23,6 @@ returns : tie.Need-returns Inv-loop μ-loop
 returns c = let p = c .before .before .before .loop in let a = c .before .before .before .before .before .before .before .before .args in
     sym (p .inv ∙ all-not (isNext (a .numbers .now) (a .owners .now) (a .count)) (tab-turn (λ j. j) (p .i) (a .count) (omega arith)) (sym (c .before .is-next .ensures) ∙ not-true _ (c .if1 .taken)))
 
-add-i : tie.Need-add-i Inv-loop μ-loop
-add-i c = omega arith
-
-loop-less : tie.Need-loop-less Inv-loop μ-loop
-loop-less c = omega arith
-
 loop-again : tie.Need-loop-again Inv-loop μ-loop
 loop-again c = let p = c .before .before .before .loop in let a = c .before .before .before .before .before .before .before .before .args in
     p .inv ∙ all-yes (isNext (a .numbers .now) (a .owners .now) (a .count)) (tab-turn (λ j. j) (p .i) (a .count) (omega arith)) (sym (c .before .is-next .ensures) ∙ not-false _ (c .if1 .left))
@@ -38,4 +32,4 @@ returns-2 c = let p = c .before .loop in let a = c .before .before .before .befo
     sym (p .inv ∙ all-end (isNext (a .numbers .now) (a .owners .now) (a .count)) (tab-end (λ j. j) (p .i) (a .count) (omega arith)))
 
 pub statements-rise-spec : {M : Type 1} → statement M
-statements-rise-spec = tie.close (tie.spec Inv-loop μ-loop loop-holds is-next-requires returns add-i loop-less loop-again returns-2)
+statements-rise-spec = tie.close (tie.spec Inv-loop μ-loop loop-holds is-next-requires returns (λ c. omega arith) (λ c. omega arith) loop-again returns-2)

@@ -13,26 +13,11 @@ abbrev μ-loop : tie.MeasureT-loop
 loop-holds : tie.Need-loop-holds Inv-loop μ-loop
 loop-holds c = let a = c .before .args in (omega arith, (omega arith, add-start (a .m .now) (a .base) (a .s) (a .d)))
 
-mul-a : tie.Need-mul-a Inv-loop μ-loop
-mul-a c = omega arith
-
-add-a : tie.Need-add-a Inv-loop μ-loop
-add-a c = omega arith
-
 get2-requires : tie.Need-get2-requires Inv-loop μ-loop
 get2-requires c κs = omega (arith, c .before .before .loop .inv .1 .1 .apart .size)
 
-plus2-requires : tie.Need-plus2-requires Inv-loop μ-loop
-plus2-requires c κs = search needs
-
 put2-requires : tie.Need-put2-requires Inv-loop μ-loop
 put2-requires c κs = omega (arith, c .before .before .before .before .before .loop .inv .1 .1 .apart .size)
-
-add-j : tie.Need-add-j Inv-loop μ-loop
-add-j c = omega arith
-
-loop-less : tie.Need-loop-less Inv-loop μ-loop
-loop-less c = omega arith
 
 loop-again : tie.Need-loop-again Inv-loop μ-loop
 loop-again c = let l = c .before .before .before .before .before .before .before .before in
@@ -51,4 +36,5 @@ returns : tie.Need-returns Inv-loop μ-loop
 returns c = let l = c .before in add-end (l .loop .inv .1 .1) (omega arith) refl
 
 pub add-each2-spec : {M : Type 1} → statement M
-add-each2-spec = tie.close (tie.spec Inv-loop μ-loop loop-holds mul-a add-a get2-requires plus2-requires put2-requires add-j loop-less loop-again same-length returns)
+add-each2-spec = tie.close (tie.spec Inv-loop μ-loop loop-holds (λ c. omega arith) (λ c. omega arith) get2-requires (λ c κs. search needs) put2-requires (λ c. omega arith)
+    (λ c. omega arith) loop-again same-length returns)

@@ -15,21 +15,6 @@ abbrev μ-loop : tie.MeasureT-loop
 loop-holds : tie.Need-loop-holds Inv-loop μ-loop
 loop-holds c = (omega arith, refl)
 
-mul-get2 : tie.Need-mul-get2 Inv-loop μ-loop
-mul-get2 c = omega arith
-
-add-get2 : tie.Need-add-get2 Inv-loop μ-loop
-add-get2 c = omega arith
-
-get2-requires : tie.Need-get2-requires Inv-loop μ-loop
-get2-requires c κs = omega arith
-
-add-j : tie.Need-add-j Inv-loop μ-loop
-add-j c = omega arith
-
-loop-less : tie.Need-loop-less Inv-loop μ-loop
-loop-less c = omega arith
-
 loop-again : tie.Need-loop-again Inv-loop μ-loop
 loop-again c = let l = c .before .before in
     let a = l .before .before .args in (
@@ -43,4 +28,5 @@ returns c = let l = c .before in
     any-end (names (a .s)) (column2 (a .m .now) (a .at)) (l .loop .j) 64 (omega arith) (l .loop .hit) (l .loop .inv .1)
 
 pub any-names-spec : {M : Type 1} → statement M
-any-names-spec = tie.close (tie.spec Inv-loop μ-loop loop-holds mul-get2 add-get2 get2-requires add-j loop-less loop-again returns)
+any-names-spec = tie.close (tie.spec Inv-loop μ-loop loop-holds (λ c. omega arith) (λ c. omega arith) (λ c κs. omega arith) (λ c. omega arith) (λ c. omega arith) loop-again
+    returns)

@@ -12,17 +12,8 @@ abbrev μ-loop : tie.MeasureT-loop
 loop-holds : tie.Need-loop-holds Inv-loop μ-loop
 loop-holds c = (omega arith, write-start (c .args .m .now) (c .args .a) (replicate (c .args .n) 0))
 
-add-m : tie.Need-add-m Inv-loop μ-loop
-add-m c = omega arith
-
 slice-write-m : tie.Need-slice-write-m Inv-loop μ-loop
 slice-write-m c = omega (arith, c .before .loop .inv .1 .size)
-
-add-j : tie.Need-add-j Inv-loop μ-loop
-add-j c = omega arith
-
-loop-less : tie.Need-loop-less Inv-loop μ-loop
-loop-less c = omega arith
 
 loop-again : tie.Need-loop-again Inv-loop μ-loop
 loop-again c = let l = c .before in let n = l .before .args .n in
@@ -35,4 +26,4 @@ returns : tie.Need-returns Inv-loop μ-loop
 returns c = let l = c .before in write-end (l .loop .inv .1) (omega (arith, length-replicate {A = ℕ} (l .before .args .n) 0))
 
 pub clear-spec : {M : Type 1} → statement M
-clear-spec = tie.close (tie.spec Inv-loop μ-loop loop-holds add-m slice-write-m add-j loop-less loop-again same-length returns)
+clear-spec = tie.close (tie.spec Inv-loop μ-loop loop-holds (λ c. omega arith) slice-write-m (λ c. omega arith) (λ c. omega arith) loop-again same-length returns)

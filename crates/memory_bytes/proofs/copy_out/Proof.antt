@@ -14,21 +14,6 @@ abbrev μ-loop : tie.MeasureT-loop
 loop-holds : tie.Need-loop-holds Inv-loop μ-loop
 loop-holds c = (omega arith, write-start (c .args .out .now) 0 (bytes (c .args .m .now) (c .args .a) (c .args .n)))
 
-add-out : tie.Need-add-out Inv-loop μ-loop
-add-out c = omega arith
-
-shared-slice-read-out : tie.Need-shared-slice-read-out Inv-loop μ-loop
-shared-slice-read-out c = omega arith
-
-slice-write-out : tie.Need-slice-write-out Inv-loop μ-loop
-slice-write-out c = omega arith
-
-add-j : tie.Need-add-j Inv-loop μ-loop
-add-j c = omega arith
-
-loop-less : tie.Need-loop-less Inv-loop μ-loop
-loop-less c = omega arith
-
 loop-again : tie.Need-loop-again Inv-loop μ-loop
 loop-again c = let l = c .before .before in let a = l .before .args in
     (omega arith, write-front (l .loop .inv .1) (omega arith) (sym (getD-bytes (a .m .now) (a .a) (a .n) (l .loop .j) (omega arith))))
@@ -43,4 +28,5 @@ returns c = let l = c .before in
     front-wrote (write-end (l .loop .inv .1) (omega arith)) (omega arith) ∙ ap (λ (k : ℕ). bytes (a .m .now) (a .a) (a .n) ++ drop k (a .out .now)) e
 
 pub copy-out-spec : {M : Type 1} → statement M
-copy-out-spec = tie.close (tie.spec Inv-loop μ-loop loop-holds add-out shared-slice-read-out slice-write-out add-j loop-less loop-again same-length returns)
+copy-out-spec = tie.close (tie.spec Inv-loop μ-loop loop-holds (λ c. omega arith) (λ c. omega arith) (λ c. omega arith) (λ c. omega arith) (λ c. omega arith) loop-again
+    same-length returns)

@@ -12,29 +12,8 @@ Inv-loop m base s e x k₀ j₀ k j = (s ≤ j) × ((j ≤ e) × ((k ≤ j - s) 
 abbrev μ-loop : tie.MeasureT-loop
 μ-loop m base s e x k₀ j₀ k j = e - j
 
-loop-holds : tie.Need-loop-holds Inv-loop μ-loop
-loop-holds c = omega arith
-
-mul-get2 : tie.Need-mul-get2 Inv-loop μ-loop
-mul-get2 c = omega arith
-
-add-get2 : tie.Need-add-get2 Inv-loop μ-loop
-add-get2 c = omega arith
-
-get2-requires : tie.Need-get2-requires Inv-loop μ-loop
-get2-requires c κs = omega arith
-
-one-if-requires : tie.Need-one-if-requires Inv-loop μ-loop
-one-if-requires c κs = omega arith
-
 add-k : tie.Need-add-k Inv-loop μ-loop
 add-k c = omega (arith, one-most (leb (c .before .get2 .result) (c .before .before .before .before .before .args .x)) (c .one-if .ensures))
-
-add-j : tie.Need-add-j Inv-loop μ-loop
-add-j c = omega arith
-
-loop-less : tie.Need-loop-less Inv-loop μ-loop
-loop-less c = omega arith
 
 loop-again : tie.Need-loop-again Inv-loop μ-loop
 loop-again c = let l = c .before .before .before in
@@ -50,13 +29,11 @@ loop-again c = let l = c .before .before .before in
       ),
     )
 
-cast-result : tie.Need-cast-result Inv-loop μ-loop
-cast-result c = omega arith
-
 returns : tie.Need-returns Inv-loop μ-loop
 returns c = let l = c .before in
     let a = l .before .before .args in
     count-end (upTo (a .x)) (column2 (a .m .now) (a .base)) (l .loop .j) (a .e) (l .loop .k) (l .loop .inv .1 .1 .1) (omega arith)
 
 pub count-up-to2-spec : {M : Type 1} → statement M
-count-up-to2-spec = tie.close (tie.spec Inv-loop μ-loop loop-holds mul-get2 add-get2 get2-requires one-if-requires add-k add-j loop-less loop-again cast-result returns)
+count-up-to2-spec = tie.close (tie.spec Inv-loop μ-loop (λ c. omega arith) (λ c. omega arith) (λ c. omega arith) (λ c κs. omega arith) (λ c κs. omega arith) add-k
+    (λ c. omega arith) (λ c. omega arith) loop-again (λ c. omega arith) returns)

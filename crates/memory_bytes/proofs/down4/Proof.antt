@@ -9,26 +9,14 @@ Inv-loop m₀ lo hi e k₀ m k = (lo ≤ k) × ((k ≤ e) × Lowering m₀ m lo 
 abbrev μ-loop : tie.MeasureT-loop
 μ-loop m₀ lo hi e k₀ m k = e - k
 
-sub-e : tie.Need-sub-e Inv-loop μ-loop
-sub-e c = omega arith
-
 loop-holds : tie.Need-loop-holds Inv-loop μ-loop
 loop-holds c = (omega arith, (omega arith, lower-start (c .args .m .now) (c .args .lo) 4))
-
-add-m : tie.Need-add-m Inv-loop μ-loop
-add-m c = omega arith
 
 slice-read-m : tie.Need-slice-read-m Inv-loop μ-loop
 slice-read-m c = omega (arith, c .before .before .loop .inv .1 .1 .size)
 
 slice-write-m : tie.Need-slice-write-m Inv-loop μ-loop
 slice-write-m c = omega (arith, c .before .before .loop .inv .1 .1 .size)
-
-add-k : tie.Need-add-k Inv-loop μ-loop
-add-k c = omega arith
-
-loop-less : tie.Need-loop-less Inv-loop μ-loop
-loop-less c = omega arith
 
 loop-again : tie.Need-loop-again Inv-loop μ-loop
 loop-again c = let l = c .before .before in (omega arith, (omega arith, lower-turn (l .loop .inv .1 .1) (omega arith) (omega arith)))
@@ -40,4 +28,5 @@ returns : tie.Need-returns Inv-loop μ-loop
 returns c = let l = c .before in lower-end (l .before .args .hi) (l .loop .inv .1 .1) (omega arith) (omega arith) (omega arith)
 
 pub down4-spec : {M : Type 1} → statement M
-down4-spec = tie.close (tie.spec Inv-loop μ-loop sub-e loop-holds add-m slice-read-m slice-write-m add-k loop-less loop-again same-length returns)
+down4-spec = tie.close (tie.spec Inv-loop μ-loop (λ c. omega arith) loop-holds (λ c. omega arith) slice-read-m slice-write-m (λ c. omega arith) (λ c. omega arith) loop-again
+    same-length returns)

@@ -15,30 +15,12 @@ abbrev μ-loop : tie.MeasureT-loop
 loop-holds : tie.Need-loop-holds Inv-loop μ-loop
 loop-holds c = let a = c .before .args in (omega arith, any-start (names (a .s)) (column2 (a .m .now) (a .base)) (a .n))
 
-add-loop : tie.Need-add-loop Inv-loop μ-loop
-add-loop c = omega arith
-
-mul-any-names : tie.Need-mul-any-names Inv-loop μ-loop
-mul-any-names c = omega arith
-
-add-any-names : tie.Need-add-any-names Inv-loop μ-loop
-add-any-names c = omega arith
-
-any-names-requires : tie.Need-any-names-requires Inv-loop μ-loop
-any-names-requires c κs = omega arith
-
 returns : tie.Need-returns Inv-loop μ-loop
 returns c = let l = c .before .before .before in
     let a = l .before .before .args in
     let i = l .loop .i in
     any-hit (names (a .s)) (column2 (a .m .now) (a .base)) i (a .n) 64 (l .loop .inv .1) (omega arith)
     (any-group2 (a .m .now) (a .base) i 64 (names (a .s)) (c .before .any-names .ensures) (c .if1 .taken))
-
-add-i : tie.Need-add-i Inv-loop μ-loop
-add-i c = omega arith
-
-loop-less : tie.Need-loop-less Inv-loop μ-loop
-loop-less c = omega arith
 
 loop-again : tie.Need-loop-again Inv-loop μ-loop
 loop-again c = let l = c .before .before .before in
@@ -49,12 +31,9 @@ loop-again c = let l = c .before .before .before in
           (any-group2 (a .m .now) (a .base) i 64 (names (a .s)) (c .before .any-names .ensures) (c .if1 .left)),
     )
 
-rest-names-requires : tie.Need-rest-names-requires Inv-loop μ-loop
-rest-names-requires c κs = omega arith
-
 returns-2 : tie.Need-returns-2 Inv-loop μ-loop
 returns-2 c = let l = c .before .before in c .rest-names .ensures ∙ sym (l .loop .inv .1)
 
 pub names16-spec : {M : Type 1} → statement M
-names16-spec = tie.close (tie.spec Inv-loop μ-loop loop-holds add-loop mul-any-names add-any-names any-names-requires returns add-i loop-less loop-again rest-names-requires
-    returns-2)
+names16-spec = tie.close (tie.spec Inv-loop μ-loop loop-holds (λ c. omega arith) (λ c. omega arith) (λ c. omega arith) (λ c κs. omega arith) returns (λ c. omega arith)
+    (λ c. omega arith) loop-again (λ c κs. omega arith) returns-2)

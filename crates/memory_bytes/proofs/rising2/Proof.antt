@@ -15,27 +15,6 @@ abbrev μ-loop : tie.MeasureT-loop
 loop-holds : tie.Need-loop-holds Inv-loop μ-loop
 loop-holds c = let a = c .before .args in (omega arith, paired-start ltb (column2 (a .m .now) (a .base)) (a .n))
 
-mul-a : tie.Need-mul-a Inv-loop μ-loop
-mul-a c = omega arith
-
-add-a : tie.Need-add-a Inv-loop μ-loop
-add-a c = omega arith
-
-get2-requires : tie.Need-get2-requires Inv-loop μ-loop
-get2-requires c κs = omega arith
-
-add-get2 : tie.Need-add-get2 Inv-loop μ-loop
-add-get2 c = omega arith
-
-get2-requires-2 : tie.Need-get2-requires-2 Inv-loop μ-loop
-get2-requires-2 c κs = omega arith
-
-add-j : tie.Need-add-j Inv-loop μ-loop
-add-j c = omega arith
-
-loop-less : tie.Need-loop-less Inv-loop μ-loop
-loop-less c = omega arith
-
 loop-again : tie.Need-loop-again Inv-loop μ-loop
 loop-again c = let l = c .before .before .before in
     let a = l .before .before .args in
@@ -50,4 +29,5 @@ returns c = let l = c .before in
     paired-end ltb (column2 (a .m .now) (a .base)) (l .loop .j) (a .n) (l .loop .ok) (l .loop .inv .1) (omega arith)
 
 pub rising2-spec : {M : Type 1} → statement M
-rising2-spec = tie.close (tie.spec Inv-loop μ-loop loop-holds mul-a add-a get2-requires add-get2 get2-requires-2 add-j loop-less loop-again returns)
+rising2-spec = tie.close (tie.spec Inv-loop μ-loop loop-holds (λ c. omega arith) (λ c. omega arith) (λ c κs. omega arith) (λ c. omega arith) (λ c κs. omega arith)
+    (λ c. omega arith) (λ c. omega arith) loop-again returns)

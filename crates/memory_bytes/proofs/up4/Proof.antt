@@ -12,20 +12,11 @@ abbrev μ-loop : tie.MeasureT-loop
 loop-holds : tie.Need-loop-holds Inv-loop μ-loop
 loop-holds c = (omega arith, (omega arith, raise-start (c .args .m .now) (c .args .hi) 4))
 
-sub-k : tie.Need-sub-k Inv-loop μ-loop
-sub-k c = omega arith
-
 slice-read-m : tie.Need-slice-read-m Inv-loop μ-loop
 slice-read-m c = omega (arith, c .before .before .loop .inv .1 .1 .size)
 
-add-m : tie.Need-add-m Inv-loop μ-loop
-add-m c = omega arith
-
 slice-write-m : tie.Need-slice-write-m Inv-loop μ-loop
 slice-write-m c = omega (arith, c .before .before .loop .inv .1 .1 .size)
-
-loop-less : tie.Need-loop-less Inv-loop μ-loop
-loop-less c = omega arith
 
 loop-again : tie.Need-loop-again Inv-loop μ-loop
 loop-again c = let l = c .before .before in (omega arith, (omega arith, raise-turn (l .loop .inv .1 .1) (omega arith) (omega arith) (omega arith)))
@@ -37,4 +28,4 @@ returns : tie.Need-returns Inv-loop μ-loop
 returns c = let l = c .before in raise-end (l .before .args .lo) (l .loop .inv .1 .1) (omega arith) (omega arith) (omega arith)
 
 pub up4-spec : {M : Type 1} → statement M
-up4-spec = tie.close (tie.spec Inv-loop μ-loop loop-holds sub-k slice-read-m add-m slice-write-m loop-less loop-again same-length returns)
+up4-spec = tie.close (tie.spec Inv-loop μ-loop loop-holds (λ c. omega arith) slice-read-m (λ c. omega arith) slice-write-m (λ c. omega arith) loop-again same-length returns)

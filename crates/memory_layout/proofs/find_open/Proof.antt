@@ -18,9 +18,6 @@ abbrev μ-loop : tie.MeasureT-loop
 get4-requires : tie.Need-get4-requires Inv-loop μ-loop
 get4-requires c κs = omega (arith, known _ (c .before .pre))
 
-cast-n : tie.Need-cast-n Inv-loop μ-loop
-cast-n c = omega arith
-
 loop-holds : tie.Need-loop-holds Inv-loop μ-loop
 unfolding opensOf
 loop-holds c = let m : List ℕ = c .before .before .args .m .now in
@@ -37,19 +34,10 @@ add-get4 c = let st = c .before .before .before .before in omega (arith, known _
 get4-requires-2 : tie.Need-get4-requires-2 Inv-loop μ-loop
 get4-requires-2 c κs = let st = c .before .before .before .before in omega (arith, known _ (st .pre))
 
-cast-t : tie.Need-cast-t Inv-loop μ-loop
-cast-t c = omega arith
-
 returns : tie.Need-returns Inv-loop μ-loop
 returns c = let l = c .before .before .before in
     let st = l .before .before .before in
     omega (arith, l .loop .inv .1 .1, find-here (st .args .m .now) (st .args .transaction) (l .loop .i) (l .before .get4 .result) (omega arith) (c .before .get42 .ensures) (omega arith))
-
-add-i : tie.Need-add-i Inv-loop μ-loop
-add-i c = omega arith
-
-loop-less : tie.Need-loop-less Inv-loop μ-loop
-loop-less c = omega arith
 
 loop-again : tie.Need-loop-again Inv-loop μ-loop
 loop-again c = let l = c .before .before .before in
@@ -67,4 +55,5 @@ returns-2 c = let l = c .before in
     omega (arith, l .loop .inv .1 .1, find-end (st .args .m .now) (st .args .transaction) (l .loop .i) (l .before .get4 .result) (omega arith))
 
 pub find-open-spec : {M : Type 1} → statement M
-find-open-spec = tie.close (tie.spec Inv-loop μ-loop get4-requires cast-n loop-holds mul-get4 add-get4 get4-requires-2 cast-t returns add-i loop-less loop-again returns-2)
+find-open-spec = tie.close (tie.spec Inv-loop μ-loop get4-requires (λ c. omega arith) loop-holds mul-get4 add-get4 get4-requires-2 (λ c. omega arith) returns (λ c. omega arith)
+    (λ c. omega arith) loop-again returns-2)

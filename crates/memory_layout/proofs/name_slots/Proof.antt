@@ -13,29 +13,8 @@ abbrev μ-loop : tie.MeasureT-loop
 loop-holds : tie.Need-loop-holds Inv-loop μ-loop
 loop-holds c = (omega arith, names-start (c .before .args .m .now) (1024 + c .before .args .n * 76))
 
-mul-put2 : tie.Need-mul-put2 Inv-loop μ-loop
-mul-put2 c = omega arith
-
-add-put2 : tie.Need-add-put2 Inv-loop μ-loop
-add-put2 c = omega arith
-
-mul-put2-2 : tie.Need-mul-put2-2 Inv-loop μ-loop
-mul-put2-2 c = omega arith
-
-add-put2-2 : tie.Need-add-put2-2 Inv-loop μ-loop
-add-put2-2 c = omega arith
-
-cast-put2 : tie.Need-cast-put2 Inv-loop μ-loop
-cast-put2 c = omega arith
-
 put2-requires : tie.Need-put2-requires Inv-loop μ-loop
 put2-requires c κs = omega (arith, c .before .before .loop .inv .1 .size)
-
-add-i : tie.Need-add-i Inv-loop μ-loop
-add-i c = omega arith
-
-loop-less : tie.Need-loop-less Inv-loop μ-loop
-loop-less c = omega arith
 
 loop-again : tie.Need-loop-again Inv-loop μ-loop
 loop-again c = let w = c .before .before in
@@ -51,4 +30,5 @@ returns c = let l = c .before in
     record { size = s .size; below = s .below; above = λ b h. s .above b (omega arith) }
 
 pub name-slots-spec : {M : Type 1} → statement M
-name-slots-spec = tie.close (tie.spec Inv-loop μ-loop loop-holds mul-put2 add-put2 mul-put2-2 add-put2-2 cast-put2 put2-requires add-i loop-less loop-again same-length returns)
+name-slots-spec = tie.close (tie.spec Inv-loop μ-loop loop-holds (λ c. omega arith) (λ c. omega arith) (λ c. omega arith) (λ c. omega arith) (λ c. omega arith) put2-requires
+    (λ c. omega arith) (λ c. omega arith) loop-again same-length returns)

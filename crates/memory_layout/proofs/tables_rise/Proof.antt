@@ -16,33 +16,6 @@ loop-holds : tie.Need-loop-holds Inv-loop μ-loop
 unfolding tablesRise
 loop-holds c = (omega arith, refl)
 
-mul-get2 : tie.Need-mul-get2 Inv-loop μ-loop
-mul-get2 c = omega arith
-
-add-get2 : tie.Need-add-get2 Inv-loop μ-loop
-add-get2 c = omega arith
-
-get2-requires : tie.Need-get2-requires Inv-loop μ-loop
-get2-requires c κs = omega arith
-
-mul-get2-2 : tie.Need-mul-get2-2 Inv-loop μ-loop
-mul-get2-2 c = omega arith
-
-add-get2-2 : tie.Need-add-get2-2 Inv-loop μ-loop
-add-get2-2 c = omega arith
-
-add-get2-3 : tie.Need-add-get2-3 Inv-loop μ-loop
-add-get2-3 c = omega arith
-
-get2-requires-2 : tie.Need-get2-requires-2 Inv-loop μ-loop
-get2-requires-2 c κs = omega arith
-
-add-t : tie.Need-add-t Inv-loop μ-loop
-add-t c = omega arith
-
-loop-less : tie.Need-loop-less Inv-loop μ-loop
-loop-less c = omega arith
-
 loop-again : tie.Need-loop-again Inv-loop μ-loop
 loop-again c = let l = c .before .before .before in (
   omega arith,
@@ -56,5 +29,5 @@ returns c = let l = c .before in
     sym (l .loop .inv .1 ∙ ap (λ (z : Bool). l .loop .rise && z) (all-end (endRises m) (l .loop .t) 7 (omega arith)) ∙ and-yes (l .loop .rise))
 
 pub tables-rise-spec : {M : Type 1} → statement M
-tables-rise-spec = tie.close (tie.spec Inv-loop μ-loop loop-holds mul-get2 add-get2 get2-requires mul-get2-2 add-get2-2 add-get2-3 get2-requires-2 add-t loop-less loop-again
-    returns)
+tables-rise-spec = tie.close (tie.spec Inv-loop μ-loop loop-holds (λ c. omega arith) (λ c. omega arith) (λ c κs. omega arith) (λ c. omega arith) (λ c. omega arith)
+    (λ c. omega arith) (λ c κs. omega arith) (λ c. omega arith) (λ c. omega arith) loop-again returns)

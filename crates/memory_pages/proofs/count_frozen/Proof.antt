@@ -16,9 +16,6 @@ Inv-loop m from n k₀ p₀ k p = (n ≡ length (flatOf m .entries)) × Counted 
 abbrev μ-loop : tie.MeasureT-loop
 μ-loop m from n k₀ p₀ k p = n - p
 
-page-count-requires : tie.Need-page-count-requires Inv-loop μ-loop
-page-count-requires c κs = search needs
-
 loop-holds : tie.Need-loop-holds Inv-loop μ-loop
 loop-holds c = let st = c .before .before in
     (omega (arith, c .page-count .ensures, entries-length (st .args .m .now)), counted-start frozenEntry (flatOf (st .args .m .now) .entries) (st .args .from) (st .pre .1))
@@ -26,20 +23,11 @@ loop-holds c = let st = c .before .before in
 frozen-at-requires : tie.Need-frozen-at-requires Inv-loop μ-loop
 frozen-at-requires c κs = let l = c .before in (l .before .before .before .pre .0, omega (arith, l .loop .inv .0))
 
-one-if-requires : tie.Need-one-if-requires Inv-loop μ-loop
-one-if-requires c κs = search needs
-
 add-k : tie.Need-add-k Inv-loop μ-loop
 add-k c =
     let l = c .before .before .before in
     let st = l .before .before .before in
     omega (arith, one-most (c .before .frozen-at .result) (c .one-if .ensures), l .loop .inv .0, l .loop .inv .1 .few, ranges (st .pre .0), entries-length (st .args .m .now))
-
-add-p : tie.Need-add-p Inv-loop μ-loop
-add-p c = omega arith
-
-loop-less : tie.Need-loop-less Inv-loop μ-loop
-loop-less c = omega arith
 
 loop-again : tie.Need-loop-again Inv-loop μ-loop
 loop-again c =
@@ -48,13 +36,11 @@ loop-again c =
     let e = c .one-if .ensures ∙ ap (λ (b : Bool). cond b 1 0) (c .before .frozen-at .ensures) in
     (l .loop .inv .0, counted-turn frozenEntry (flatOf (st .args .m .now) .entries) (l .loop .inv .1) noEntry (omega (arith, l .loop .inv .0)) e (one-most (c .before .frozen-at .result) (c .one-if .ensures)))
 
-cast-result : tie.Need-cast-result Inv-loop μ-loop
-cast-result c = search needs
-
 returns : tie.Need-returns Inv-loop μ-loop
 returns c =
     let l = c .before in
     counted-end frozenEntry (flatOf (l .before .before .before .args .m .now) .entries) (l .loop .inv .1) (omega (arith, l .loop .inv .0))
 
 pub count-frozen-spec : {M : Type 1} → statement M
-count-frozen-spec = tie.close (tie.spec Inv-loop μ-loop page-count-requires loop-holds frozen-at-requires one-if-requires add-k add-p loop-less loop-again cast-result returns)
+count-frozen-spec = tie.close (tie.spec Inv-loop μ-loop (λ c κs. search needs) loop-holds frozen-at-requires (λ c κs. search needs) add-k (λ c. omega arith) (λ c. omega arith)
+    loop-again (search needs) returns)

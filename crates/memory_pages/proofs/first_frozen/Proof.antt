@@ -61,12 +61,6 @@ returns c =
     first-hit frozenWord (column2 m (b5 .blocks2 .result)) (l .p) (b6 .page-count .result) (l .inv .rest) (c .before .before .loop-test .taken) (c .before .get2 .ensures) (eq-eqb _ 1 (c .if1 .taken))
     ∙ frozen-entries m (b6 .page-count .ensures) (b5 .blocks2 .ensures)
 
-add-p : tie.Need-add-p Inv-loop μ-loop
-add-p c = omega arith
-
-loop-less : tie.Need-loop-less Inv-loop μ-loop
-loop-less c = omega arith
-
 loop-again : tie.Need-loop-again Inv-loop μ-loop
 loop-again c =
     let b3 = c .before .before .before in
@@ -89,5 +83,5 @@ returns-2 c =
     ∙ frozen-entries m (b4 .page-count .ensures) (b3 .blocks2 .ensures)
 
 pub first-frozen-spec : {M : Type 1} → statement M
-first-frozen-spec = tie.close (tie.spec Inv-loop μ-loop page-count-requires blocks-requires pass-groups-requires loop-holds mul-get2 add-get2 get2-requires returns add-p
-    loop-less loop-again returns-2)
+first-frozen-spec = tie.close (tie.spec Inv-loop μ-loop page-count-requires blocks-requires pass-groups-requires loop-holds mul-get2 add-get2 get2-requires returns
+    (λ c. omega arith) (λ c. omega arith) loop-again returns-2)

@@ -17,26 +17,8 @@ abbrev μ-loop : tie.MeasureT-loop
 loop-holds : tie.Need-loop-holds Inv-loop μ-loop
 loop-holds c = record { most = omega arith; rest = omega arith }
 
-add-loop : tie.Need-add-loop Inv-loop μ-loop
-add-loop c = omega arith
-
-mul-any-frozen : tie.Need-mul-any-frozen Inv-loop μ-loop
-mul-any-frozen c = omega arith
-
-add-any-frozen : tie.Need-add-any-frozen Inv-loop μ-loop
-add-any-frozen c = omega arith
-
-any-frozen-requires : tie.Need-any-frozen-requires Inv-loop μ-loop
-any-frozen-requires c κs = omega arith
-
 returns : tie.Need-returns Inv-loop μ-loop
 returns c = c .before .before .before .loop .inv
-
-add-p : tie.Need-add-p Inv-loop μ-loop
-add-p c = omega arith
-
-loop-less : tie.Need-loop-less Inv-loop μ-loop
-loop-less c = omega arith
 
 loop-again : tie.Need-loop-again Inv-loop μ-loop
 loop-again c = let l = c .before .before .before in
@@ -52,4 +34,5 @@ returns-2 : tie.Need-returns-2 Inv-loop μ-loop
 returns-2 c = c .before .loop .inv
 
 pub pass-groups-spec : {M : Type 1} → statement M
-pass-groups-spec = tie.close (tie.spec Inv-loop μ-loop loop-holds add-loop mul-any-frozen add-any-frozen any-frozen-requires returns add-p loop-less loop-again returns-2)
+pass-groups-spec = tie.close (tie.spec Inv-loop μ-loop loop-holds (λ c. omega arith) (λ c. omega arith) (λ c. omega arith) (λ c κs. omega arith) returns (λ c. omega arith)
+    (λ c. omega arith) loop-again returns-2)

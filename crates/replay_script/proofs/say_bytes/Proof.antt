@@ -12,32 +12,6 @@ Inv-loop s n i₀ i-end i = (i-end ≡ length s) × (i ≤ i-end)
 abbrev μ-loop : tie.MeasureT-loop
 μ-loop s n i₀ i-end i = i-end - i
 
-slice-aggregate-say : tie.Need-slice-aggregate-say Inv-loop μ-loop
-slice-aggregate-say c = omega arith
-
-say-requires : tie.Need-say-requires Inv-loop μ-loop
-say-requires c κs = omega arith
-
-loop-holds : tie.Need-loop-holds Inv-loop μ-loop
-loop-holds c = omega arith
-
-shared-slice-read-say-byte : tie.Need-shared-slice-read-say-byte Inv-loop μ-loop
-shared-slice-read-say-byte c = omega arith
-
-say-byte-requires : tie.Need-say-byte-requires Inv-loop μ-loop
-say-byte-requires c κs = omega arith
-
-add-i : tie.Need-add-i Inv-loop μ-loop
-add-i c = omega arith
-
-loop-less : tie.Need-loop-less Inv-loop μ-loop
-loop-less c = omega arith
-
-loop-again : tie.Need-loop-again Inv-loop μ-loop
-loop-again c = omega arith
-
-returns : tie.Need-returns Inv-loop μ-loop
-returns c = omega arith
-
 pub say-bytes-spec : {M : Type 1} → statement M
-say-bytes-spec = tie.close (tie.spec Inv-loop μ-loop slice-aggregate-say say-requires loop-holds shared-slice-read-say-byte say-byte-requires add-i loop-less loop-again returns)
+say-bytes-spec = tie.close (tie.spec Inv-loop μ-loop (λ c. omega arith) (λ c κs. omega arith) (λ c. omega arith) (λ c. omega arith) (λ c κs. omega arith) (λ c. omega arith)
+    (λ c. omega arith) (λ c. omega arith) (λ c. omega arith))
