@@ -2,67 +2,33 @@
 // answers and leaves, for any image and any memory, by the model's function.
 use call_contracts::Answer;
 use engine_allocator::Allocator;
+
+mod space;
+
+use space::allocate;
+use space::allocator_of;
+use space::blocks_needed;
+use space::directories_left;
+use space::enough_free;
+use space::left;
 ghost use mathlib.Core.Path.{_≡_};
 ghost use mathlib.Core.Bool.{true};
-ghost use mathlib.Core.List.{[], _∷_, _++_, map};
+ghost use mathlib.Core.List.{[], map};
 ghost use Prim.Native.Nat.{_+_, _-_, _≤_, _<_, min};
 ghost use lib.ListN.{length, getD};
-ghost use lib.Dec.{leb};
-ghost use Rattle.basics.specs.Basics.{howMany};
 ghost use Rattle.image.specs.Stages.{directoriesFor};
-ghost use Rattle.model.specs.Rules.{isFrozen};
-ghost use Rattle.model.specs.Checkpoint.{allocate, freeCount, isRunning, blocksNeeded, beginCall, fill, left, stepCall, runCall};
+ghost use Rattle.model.specs.Checkpoint.{allocate, isRunning, beginCall, fill, left, stepCall, runCall};
 ghost use Rattle.memory_layout.specs.Flat.{flatOf, Room, Becomes, withNamed};
 ghost use Rattle.memory_layout.specs.Store.{holdsStore, storeOf, storeIn, HoldsNow};
-ghost use Rattle.engine_pages.specs.Pages.{pagesOf};
 ghost use Rattle.engine_pages.specs.Pending.{FirstFrozen};
 ghost use Rattle.call_contracts.specs.Shape.{Answers, Stores};
-ghost use Rattle.call_checkpoint.specs.Counting.{oneIf, freeFrom, firstZero, NamedBefore, fourNamed, namedIn};
+ghost use Rattle.call_checkpoint.specs.Counting.{firstZero, NamedBefore, fourNamed, namedIn};
 ghost use Rattle.call_checkpoint.specs.Keeping.{allocatorIn, begun, pageKept, directoryKept, headerKept, RunningIn, Ready, NoneFrozen, taking, Marks, Steps, stepRefusal};
 
 // A level, and with it a header's number, is at most this.
 const LAST_LEVEL: u32 = 4294967295;
 
 const BLOCK_SIZE: usize = 512;
-
-// ---- counting
-
-fn one_if(b: bool) -> usize
-    ensures { λ r. ⌜ (r ≡ oneIf b) × (r ≤ 1) ⌝ }
-{
-    if b {
-        return 1;
-    }
-    0
-}
-
-// Whether so many blocks are free: the search ends where that is known.
-fn enough_free(m: &[u8], need: usize) -> bool
-    requires { ⌜ Room (now m) ⌝ }
-    ensures { λ r. ⌜ r ≡ leb need (freeCount (storeOf (flatOf (now (m .entry))))) ⌝ }
-{
-    let h = memory_layout::get_head(m);
-    let n = h.blocks as usize;
-    let mut k: usize = 0;
-    let mut b: usize = 1;
-    while b < n {
-        if need <= k {
-            return true;
-        }
-        k += one_if(!memory_layout::is_used(m, b));
-        b += 1;
-    }
-    need <= k
-}
-
-// How many free blocks a begin needs.
-fn blocks_needed(m: &[u8]) -> usize
-    requires { ⌜ holdsStore (now m) ≡ true ⌝ }
-    ensures { λ r. ⌜ (r ≡ blocksNeeded (pagesOf (now (m .entry)))) × (r ≤ 1028) ⌝ }
-{
-    let c = memory_layout::get_counts(m);
-    memory_pages::count_dirty(m) + image_header::directories_for(c.pages as usize)
-}
 
 // Whether a checkpoint runs: none does at the last level.
 fn is_running(m: &[u8]) -> bool
@@ -74,79 +40,6 @@ fn is_running(m: &[u8]) -> bool
         return false;
     }
     h.level < LAST_LEVEL
-}
-
-// ---- what is left to store
-
-// How many directory blocks are still to be written.
-fn directories_left(m: &[u8]) -> usize
-    requires { ⌜ Room (now m) ⌝ }
-    ensures { λ r. ⌜ (r ≡ directoriesFor (length (flatOf (now (m .entry)) .named)) - length (flatOf (now (m .entry)) .directories)) × (r ≤ 4) ⌝ }
-{
-    let c = memory_layout::get_counts(m);
-    let d = image_header::directories_for(c.named as usize);
-    let w = c.directories as usize;
-    if d < w {
-        return 0;
-    }
-    d - w
-}
-
-// How many stores are left: the frozen pages, the directory blocks, the header.
-fn left(m: &[u8], frozen: usize) -> u64
-    requires { ⌜ RunningIn (now m) × (frozen ≡ howMany isFrozen (pagesOf (now m))) ⌝ }
-    ensures { λ r. ⌜ r ≡ left (storeOf (flatOf (now (m .entry)))) ⌝ }
-{
-    let n = frozen + directories_left(m) + 1;
-    n as u64
-}
-
-// ---- the next block
-
-// The first free block from a up to, not including, e; e, if there is none.
-fn first_free(m: &[u8], a: usize, e: usize) -> usize
-    requires { ⌜ (1024 ≤ length (now m)) × ((a ≤ e) × (e ≤ 4096)) ⌝ }
-    ensures { λ r. ⌜ (r ≡ freeFrom (flatOf (now (m .entry)) .used) a e) × (r ≤ e) ⌝ }
-{
-    let mut b = a;
-    while b < e {
-        if !memory_layout::is_used(m, b) {
-            return b;
-        }
-        b += 1;
-    }
-    e
-}
-
-// The first free block after the one last taken, round to block 1; the last block, if there is none.
-fn allocate(m: &[u8], taken: u32) -> usize
-    requires { ⌜ Room (now m) × (taken ≡ flatOf (now m) .head .taken) ⌝ }
-    ensures { λ r. ⌜ (r ≡ allocate (storeOf (flatOf (now (m .entry))))) × (r < flatOf (now (m .entry)) .head .blocks) ⌝ }
-{
-    let h = memory_layout::get_head(m);
-    let n = h.blocks as usize;
-    let t = taken as usize;
-    let b = first_free(m, t + 1, n);
-    if b < n {
-        return b;
-    }
-    let w = first_free(m, 1, t + 1);
-    if w <= t {
-        return w;
-    }
-    n - 1
-}
-
-// Where the search for a free block goes on, and how many stores the running checkpoint has still to make.
-fn allocator_of(m: &[u8], frozen: usize) -> Allocator
-    requires { ⌜ RunningIn (now m) × (frozen ≡ howMany isFrozen (pagesOf (now m))) ⌝ }
-    ensures { λ r. ⌜ r ≡ allocatorIn (now (m .entry)) ⌝ }
-{
-    let h = memory_layout::get_head(m);
-    Allocator {
-        taken: h.taken,
-        left: left(m, frozen),
-    }
 }
 
 // ---- begin

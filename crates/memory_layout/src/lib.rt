@@ -1,8 +1,13 @@
 // The layout of the working memory: a head of 1,024 bytes, then columns whose places go by the capacity. docs/LAYOUT.md says what
 // stands where. This crate has the test of refusal 4, the head and the lists that stand in it; rows and pages have crates of their own.
 // Each function that changes the memory promises one equation on the flat lists that it holds.
+mod ranges;
+
+use ranges::in_range;
+use ranges::starts_rise;
+use ranges::tables_rise;
 ghost use mathlib.Core.Path.{_≡_};
-ghost use mathlib.Core.Bool.{false, _&&_};
+ghost use mathlib.Core.Bool.{false};
 ghost use mathlib.Core.Option.{some};
 ghost use mathlib.Core.List.{_∷_, [], _++_};
 ghost use Prim.Native.Nat.{_+_, _*_, _/_, _%_, _^_, _≤_, _<_};
@@ -15,7 +20,7 @@ ghost use Rattle.memory_bytes.specs.Columns.{removeAt};
 ghost use Rattle.memory_layout.specs.Views.{headOf, countsOf};
 ghost use Rattle.memory_layout.specs.Flat.{flatOf, Room, Replaces, Becomes, withHead, withOpens, withNamed, withDirectories, withUsed, noOpen, usedAnd};
 ghost use Rattle.memory_layout.specs.Opens.{activeOf, OpenFits, findOpen, oneIf};
-ghost use Rattle.memory_layout.specs.Store.{inRange, tablesRise, startsRise, StartsAt, holdsStore, FreshFits, freshFlat, storeIn};
+ghost use Rattle.memory_layout.specs.Store.{holdsStore, FreshFits, freshFlat, storeIn};
 
 // What a memory that holds a store begins with: V, O, Z and the layout's version.
 const SIGNATURE: u32 = 56250198;
@@ -336,61 +341,6 @@ pub fn clear_used(m: &mut [u8])
 }
 
 // ---- refusal 4
-
-// The ranges of the head's numbers: no branch, since nearly every memory passes.
-fn in_range(size: usize, h: Head, n: Counts) -> bool
-    ensures { λ r. ⌜ r ≡ inRange size h n ⌝ }
-{
-    let need = ROW_SPACE * (h.capacity as usize) + HEAD_SIZE;
-    let pages = n.pages as u64;
-    let most = 2 * (h.capacity as u64);
-    (1 <= h.capacity)
-        & (h.capacity <= CAPACITY_LIMIT)
-        & (need <= size)
-        & (2 <= h.blocks)
-        & (h.blocks <= BLOCK_LIMIT)
-        & (h.taken < h.blocks)
-        & (n.rows <= h.capacity)
-        & (pages <= most)
-        & (n.opens <= OPEN_LIMIT)
-        & (n.named <= h.capacity)
-        & (n.directories <= DIRECTORY_LIMIT)
-}
-
-// No table ends before the one below it.
-fn tables_rise(m: &[u8]) -> bool
-    requires { ⌜ 1024 ≤ length (now m) ⌝ }
-    ensures { λ r. ⌜ r ≡ tablesRise (now (m .entry)) ⌝ }
-{
-    let mut rise = true;
-    let mut t: usize = 0;
-    while t < 7 {
-        let a = memory_bytes::get2(m, TABLES + t * 2);
-        let b = memory_bytes::get2(m, TABLES + t * 2 + 2);
-        rise = rise & (a <= b);
-        t += 1;
-    }
-    rise
-}
-
-// The pages start at row 0, and each has a row: one pass over the first rows, no branch.
-fn starts_rise(m: &[u8], c: usize, pages: usize, rows: u32) -> bool
-    requires { ⌜ StartsAt (now m) c pages rows ⌝ }
-    ensures { λ r. ⌜ r ≡ startsRise (now (m .entry)) ⌝ }
-{
-    if pages == 0 {
-        return rows == 0;
-    }
-    let a = HEAD_SIZE + c * STARTS;
-    let last = pages - 1;
-    if rows <= memory_bytes::get2(m, a + last * 2) as u32 {
-        return false;
-    }
-    if memory_bytes::get2(m, a) != 0 {
-        return false;
-    }
-    memory_bytes::rising2(m, a, last)
-}
 
 // The head, and one pass each over the tables and the pages.
 pub fn holds_store(m: &[u8]) -> bool

@@ -350,7 +350,7 @@ pub fn last_up_to(m: &[u8], s: usize, e: usize, key: u32) -> usize
     requires { ⌜ Room (now m) × ((s ≤ e) × (e ≤ length (flatOf (now m) .rows))) ⌝ }
     ensures { λ r. ⌜ r ≡ s + lastIndex (upTo key) (tab (keyIn (flatOf (now (m .entry)))) s (e - s)) ⌝ }
 {
-    memory_bytes::last_up_to(m, keys_at(capacity(m)), s, e, key)
+    memory_bytes::search::last_up_to(m, keys_at(capacity(m)), s, e, key)
 }
 
 // The first row with the key, or e.
@@ -358,7 +358,7 @@ pub fn find_equal(m: &[u8], s: usize, e: usize, key: u32) -> usize
     requires { ⌜ Room (now m) × ((s ≤ e) × (e ≤ length (flatOf (now m) .rows))) ⌝ }
     ensures { λ r. ⌜ r ≡ s + firstIndex (equals key) (tab (keyIn (flatOf (now (m .entry)))) s (e - s)) ⌝ }
 {
-    memory_bytes::find_equal(m, keys_at(capacity(m)), s, e, key)
+    memory_bytes::search::find_equal(m, keys_at(capacity(m)), s, e, key)
 }
 
 // s, or one behind the last row with the key.
@@ -366,7 +366,7 @@ pub fn last_equal(m: &[u8], s: usize, e: usize, key: u32) -> usize
     requires { ⌜ Room (now m) × ((s ≤ e) × (e ≤ length (flatOf (now m) .rows))) ⌝ }
     ensures { λ r. ⌜ r ≡ s + lastIndex (equals key) (tab (keyIn (flatOf (now (m .entry)))) s (e - s)) ⌝ }
 {
-    memory_bytes::last_equal(m, keys_at(capacity(m)), s, e, key)
+    memory_bytes::search::last_equal(m, keys_at(capacity(m)), s, e, key)
 }
 
 // Rows between which every row with the key stands: from the first to behind the last one, or none.
@@ -374,7 +374,7 @@ pub fn span_equal(m: &[u8], s: usize, e: usize, key: u32) -> Span
     requires { ⌜ Room (now m) × ((s ≤ e) × (e ≤ length (flatOf (now m) .rows))) ⌝ }
     ensures { λ r. ⌜ Covers (keyIn (flatOf (now (m .entry)))) key s e (r .first) (r .last) ⌝ }
 {
-    memory_bytes::span_equal(m, keys_at(capacity(m)), s, e, key)
+    memory_bytes::search::span_equal(m, keys_at(capacity(m)), s, e, key)
 }
 
 // ---- a slot that no row is in

@@ -1,0 +1,122 @@
+// What a checkpoint needs and has: blocks that are free, stores that are left, and the next free block.
+use engine_allocator::Allocator;
+ghost use mathlib.Core.Path.{_≡_};
+ghost use mathlib.Core.Bool.{true};
+ghost use Prim.Native.Nat.{_+_, _-_, _≤_, _<_};
+ghost use lib.ListN.{length};
+ghost use lib.Dec.{leb};
+ghost use Rattle.basics.specs.Basics.{howMany};
+ghost use Rattle.image.specs.Stages.{directoriesFor};
+ghost use Rattle.model.specs.Rules.{isFrozen};
+ghost use Rattle.model.specs.Checkpoint.{allocate, freeCount, blocksNeeded, left};
+ghost use Rattle.memory_layout.specs.Flat.{flatOf, Room};
+ghost use Rattle.memory_layout.specs.Store.{holdsStore, storeOf};
+ghost use Rattle.engine_pages.specs.Pages.{pagesOf};
+ghost use Rattle.call_checkpoint.specs.Counting.{oneIf, freeFrom};
+ghost use Rattle.call_checkpoint.specs.Keeping.{allocatorIn, RunningIn};
+
+pub fn one_if(b: bool) -> usize
+    ensures { λ r. ⌜ (r ≡ oneIf b) × (r ≤ 1) ⌝ }
+{
+    if b {
+        return 1;
+    }
+    0
+}
+
+// Whether so many blocks are free: the search ends where that is known.
+pub fn enough_free(m: &[u8], need: usize) -> bool
+    requires { ⌜ Room (now m) ⌝ }
+    ensures { λ r. ⌜ r ≡ leb need (freeCount (storeOf (flatOf (now (m .entry))))) ⌝ }
+{
+    let h = memory_layout::get_head(m);
+    let n = h.blocks as usize;
+    let mut k: usize = 0;
+    let mut b: usize = 1;
+    while b < n {
+        if need <= k {
+            return true;
+        }
+        k += one_if(!memory_layout::is_used(m, b));
+        b += 1;
+    }
+    need <= k
+}
+
+// How many free blocks a begin needs.
+pub fn blocks_needed(m: &[u8]) -> usize
+    requires { ⌜ holdsStore (now m) ≡ true ⌝ }
+    ensures { λ r. ⌜ (r ≡ blocksNeeded (pagesOf (now (m .entry)))) × (r ≤ 1028) ⌝ }
+{
+    let c = memory_layout::get_counts(m);
+    memory_pages::count_dirty(m) + image_header::directories_for(c.pages as usize)
+}
+
+// How many directory blocks are still to be written.
+pub fn directories_left(m: &[u8]) -> usize
+    requires { ⌜ Room (now m) ⌝ }
+    ensures { λ r. ⌜ (r ≡ directoriesFor (length (flatOf (now (m .entry)) .named)) - length (flatOf (now (m .entry)) .directories)) × (r ≤ 4) ⌝ }
+{
+    let c = memory_layout::get_counts(m);
+    let d = image_header::directories_for(c.named as usize);
+    let w = c.directories as usize;
+    if d < w {
+        return 0;
+    }
+    d - w
+}
+
+// How many stores are left: the frozen pages, the directory blocks, the header.
+pub fn left(m: &[u8], frozen: usize) -> u64
+    requires { ⌜ RunningIn (now m) × (frozen ≡ howMany isFrozen (pagesOf (now m))) ⌝ }
+    ensures { λ r. ⌜ r ≡ left (storeOf (flatOf (now (m .entry)))) ⌝ }
+{
+    let n = frozen + directories_left(m) + 1;
+    n as u64
+}
+
+// The first free block from a up to, not including, e; e, if there is none.
+pub fn first_free(m: &[u8], a: usize, e: usize) -> usize
+    requires { ⌜ (1024 ≤ length (now m)) × ((a ≤ e) × (e ≤ 4096)) ⌝ }
+    ensures { λ r. ⌜ (r ≡ freeFrom (flatOf (now (m .entry)) .used) a e) × (r ≤ e) ⌝ }
+{
+    let mut b = a;
+    while b < e {
+        if !memory_layout::is_used(m, b) {
+            return b;
+        }
+        b += 1;
+    }
+    e
+}
+
+// The first free block after the one last taken, round to block 1; the last block, if there is none.
+pub fn allocate(m: &[u8], taken: u32) -> usize
+    requires { ⌜ Room (now m) × (taken ≡ flatOf (now m) .head .taken) ⌝ }
+    ensures { λ r. ⌜ (r ≡ allocate (storeOf (flatOf (now (m .entry))))) × (r < flatOf (now (m .entry)) .head .blocks) ⌝ }
+{
+    let h = memory_layout::get_head(m);
+    let n = h.blocks as usize;
+    let t = taken as usize;
+    let b = first_free(m, t + 1, n);
+    if b < n {
+        return b;
+    }
+    let w = first_free(m, 1, t + 1);
+    if w <= t {
+        return w;
+    }
+    n - 1
+}
+
+// Where the search for a free block goes on, and how many stores the running checkpoint has still to make.
+pub fn allocator_of(m: &[u8], frozen: usize) -> Allocator
+    requires { ⌜ RunningIn (now m) × (frozen ≡ howMany isFrozen (pagesOf (now m))) ⌝ }
+    ensures { λ r. ⌜ r ≡ allocatorIn (now (m .entry)) ⌝ }
+{
+    let h = memory_layout::get_head(m);
+    Allocator {
+        taken: h.taken,
+        left: left(m, frozen),
+    }
+}
