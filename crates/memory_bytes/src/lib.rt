@@ -316,7 +316,8 @@ pub fn last_equal(m: &[u8], base: usize, s: usize, e: usize, key: u32) -> usize
     s
 }
 
-// ---- the span of a key: every group is passed over, with no branch on what is in it, since a branch that depends on the key is mispredicted
+// ---- the span of a key: every group is passed over, with no branch on what is in it. That a branch which depends on the key is mispredicted
+// was inferred from timings (docs/PROOF_NOTES.md, 'Branches on the data').
 
 // The indices from first up to, not including, last.
 pub struct Span {
@@ -341,7 +342,7 @@ fn first_equal16(m: &[u8], at: usize, key: u32) -> usize
     f as usize
 }
 
-// One behind the last of them that is key, or 0.
+// One behind the last of the 16 numbers of four bytes from byte at on that is key, or 0.
 fn last_equal16(m: &[u8], at: usize, key: u32) -> usize
     requires { ⌜ at + 64 ≤ length (now m) ⌝ }
     ensures { λ r. ⌜ Covers (column4 (now (m .entry)) at) key 0 16 0 r ⌝ }
@@ -465,7 +466,7 @@ fn any_names(m: &[u8], at: usize, s: u16) -> bool
     hit
 }
 
-// The same of those from index i on, below n: fewer than a group.
+// The same of the numbers from index i up to, not including, n: those behind the last whole group.
 fn rest_names(m: &[u8], base: usize, i: usize, n: usize, s: u16) -> bool
     requires { ⌜ (i ≤ n) × (base + n * 2 ≤ length (now m)) ⌝ }
     ensures { λ r. ⌜ r ≡ any (names s) (tab (column2 (now (m .entry)) base) i (n - i)) ⌝ }
@@ -517,7 +518,7 @@ fn add_each2(m: &mut [u8], base: usize, s: usize, e: usize, d: u16)
     }
 }
 
-// What makes a number one more, or one less.
+// What is added, modulo 65,536, to make a number one more, or one less.
 fn step2(up: bool) -> u16
     ensures { λ r. ⌜ r ≡ cond up 1 65535 ⌝ }
 {
@@ -527,7 +528,7 @@ fn step2(up: bool) -> u16
     65535
 }
 
-// The same, one more or one less.
+// Each of the numbers of two bytes from base on, from index s up to, not including, e, is one more, or one less, modulo 65,536.
 pub fn add2(m: &mut [u8], base: usize, s: usize, e: usize, up: bool)
     requires { ⌜ (s ≤ e) × (base + e * 2 ≤ length (now m)) ⌝ }
     ensures { λ _. ⌜ Added (now (m .entry)) (now (m .exit)) base s e (cond up 1 65535) ⌝ }
