@@ -53,7 +53,7 @@ module _ {A : Type 0} where
   isEmpty [] = true
   isEmpty (x ∷ xs) = false
 
-  -- there is one
+  -- it has a value
   unfoldable pub isSome : Option A → Bool
   isSome none = false
   isSome (some a) = true

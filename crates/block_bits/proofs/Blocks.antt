@@ -1,4 +1,4 @@
--- Laws of the bits of a block, and of its fields. Assumes nothing.
+-- Laws of the bits of a block, and of its fields.
 use Rattle.basics.proofs.Kit.{_≡_, refl, sym, ap, _∙_, List, [], _∷_, _++_, append-assoc, ℕ, suc, _+_, _*_, _%_, _^_, _≤_, _<_, lt-of-lt-of-le, mod-eq-of-lt, pow-mono, length, take, drop}
 use Rattle.basics.proofs.Kit.{getD, set, length-append, length-take, length-drop, split-at, set-split, take-at, drop-append-seam, drop-drop, take-add, arith}
 use Rattle.block_bits.specs.Bits.{bitsOf, number, bitsIn, field, over}

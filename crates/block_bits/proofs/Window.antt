@@ -1,4 +1,4 @@
--- A field by way of the whole bytes that it is in: the window. Assumes nothing.
+-- A field by way of the whole bytes that it is in: the window.
 use Rattle.basics.proofs.Kit.{_≡_, sym, ap, _∙_, subst, List, _++_, ℕ, _+_, _*_, _%_, _^_, _≤_, _<_, _/_, _-_, lt-of-lt-of-le, add-assoc, mod-lt, div-one, pow-mono, pow-pos, shr-shr, high}
 use Rattle.basics.proofs.Kit.{low, shr-lt, length, getD, set, arith}
 use Rattle.block_bits.specs.Bits.{bitsOf, bitsIn, field, over, mixed}

@@ -1,4 +1,4 @@
--- Fields one after another: a field is its width and its value. Assumes nothing.
+-- Fields one after another: a field is its width and its value.
 use Prim.Native.Nat.{ℕ, _+_, _*_, _^_, _≤_, _<_}
 use mathlib.Core.List.{List, [], _∷_}
 use lib.ListN.{length}

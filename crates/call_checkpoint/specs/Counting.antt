@@ -9,7 +9,7 @@ use lib.Dec.{eqb}
 use Rattle.basics.specs.Basics.{if_then_else_, all, first, from}
 use Rattle.memory_layout.specs.Flat.{Flat}
 
--- 1 if the test holds
+-- 1 if the test holds, otherwise 0
 unfoldable pub oneIf : Bool → ℕ
 oneIf true = 1
 oneIf false = 0
@@ -37,7 +37,7 @@ pub record NamedBefore (es : List ℕ) (i : ℕ) : Type 0 where
 unfoldable pub isNamed : List ℕ → ℕ → Bool
 isNamed es i = not (eqb (getD es i 0) 0)
 
--- each of the four entries from i on does
+-- each of the four entries from i on names a block
 unfoldable pub fourNamed : List ℕ → ℕ → Bool
 fourNamed es i = all (isNamed es) (i ∷ (i + 1) ∷ (i + 2) ∷ (i + 3) ∷ [])
 

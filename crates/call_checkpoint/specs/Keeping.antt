@@ -28,7 +28,7 @@ allocatorIn m = allocatorOf (storeOf (flatOf m))
 unfoldable pub begun : Store → Store
 begun s = withProgress s (s .level) (map freeze (s .pages)) (s .used) (s .taken) (running (s .next) (map (λ p. p .block) (s .pages)) [])
 
--- the directory will name block b for the page withProgress
+-- the directory will name block b for the page that was stored
 unfoldable pub entryFilled : ℕ → Checkpoint → Checkpoint
 entryFilled b idle = idle
 entryFilled b (running n es ds) = running n (fill b es) ds
@@ -60,7 +60,7 @@ pub record RunningIn (m : List ℕ) : Type 0 where
   pub has-store : holdsStore m ≡ true
   pub on : isRunning (storeOf (flatOf m) .checkpoint) ≡ true
 
--- and the image is exactly the store's blocks long
+-- a checkpoint runs, and the image is exactly the store's blocks long
 pub record Ready (img m : List ℕ) : Type 0 where
   pub runs : RunningIn m
   pub long : length img ≡ 512 * flatOf m .head .blocks
@@ -89,7 +89,7 @@ pub record Effect (o : Outcome) (img m img' m' : List ℕ) : Type 0 where
 abbrev pub Steps : List ℕ → List ℕ → List ℕ → List ℕ → Type 0
 Steps img m img' m' = Effect (stepAt (storeOf (flatOf m) .checkpoint) (storeOf (flatOf m))) img m img' m'
 
--- the number of the first test of a step that holds, 0 if none does: 4; 5 image is not exactly the store's blocks long; 18 none running
+-- the number of the first test of a step that holds, 0 if none does: 4, no store; 5, the image is not exactly the store's blocks long; 18, no checkpoint runs
 unfoldable pub stepRefusal : ℕ → Option Store → ℕ
 stepRefusal len none = 4
 stepRefusal len (some s) = if not (eqb len (512 * s .blocks)) then 5 else if isRunning (s .checkpoint) then 0 else 18

@@ -200,7 +200,7 @@ fn block_named(m: &[u8], i: usize) -> usize
     memory_layout::get_directory(m, i - n) as usize
 }
 
-// All of them are in use.
+// All blocks that the header to come and its directory name are in use too.
 fn mark_named(m: &mut [u8])
     requires { ⌜ Room (now m) ⌝ }
     ensures { λ _. ⌜ Marks (now (m .entry)) (now (m .exit)) (namedIn (flatOf (now (m .entry)))) ⌝ }
@@ -286,7 +286,7 @@ fn store_rest(image: &mut [u8], m: &mut [u8], alloc: Allocator) -> Allocator
     store_header(image, m, alloc)
 }
 
-// The frozen pages in list order, then the directory, then the header: one store. No page before the first frozen one counts.
+// One store: the frozen pages in list order, then the directory, then the header. Frozen pages are counted from the first one on.
 fn store_next(image: &mut [u8], m: &mut [u8]) -> Allocator
     requires { ⌜ Ready (now image) (now m) ⌝ }
     ensures { λ r. ⌜ Steps (now (image .entry)) (now (m .entry)) (now (image .exit)) (now (m .exit)) × (r ≡ allocatorIn (now (m .exit))) ⌝ }
@@ -301,7 +301,7 @@ fn store_next(image: &mut [u8], m: &mut [u8]) -> Allocator
     store_rest(image, m, alloc)
 }
 
-// 4; 5 image, of len bytes, is not exactly the store's blocks long; 18 none running; else 0.
+// The refusal's number: 4, no store; 5, the image, of len bytes, is not exactly the store's blocks long; 18, no checkpoint runs; otherwise 0.
 fn step_refusal(len: usize, m: &[u8]) -> u64
     ensures { λ r. ⌜ r ≡ stepRefusal len (storeIn (now (m .entry))) ⌝ }
 {

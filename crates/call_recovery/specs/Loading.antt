@@ -56,7 +56,7 @@ unfoldable pub heldsOf : List StoredPage → List Held
 heldsOf [] = []
 heldsOf (p ∷ ps) = map withoutPending (p .tuples) ++ heldsOf ps
 
--- recovered pages are clean
+-- the page entry of a stored page: it is clean
 unfoldable pub entryFor : StoredPage → Entry
 entryFor p = clean (p .table) (p .block) (length (p .tuples))
 

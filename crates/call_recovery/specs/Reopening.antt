@@ -16,7 +16,7 @@ abbrev pub AllOwners : List Held → Type 0
 AllOwners [] = Unit {0}
 AllOwners (h ∷ hs) = OwnerFits (h .tuple .owner) × AllOwners hs
 
--- a row of the memory with its tuple; whose it is does not depend on its table
+-- a row of the memory as a row of table 0: which transaction's it is does not depend on the table
 abbrev pub ownRow : Held → Row
 ownRow h = (0, h .tuple)
 

@@ -257,7 +257,7 @@ fn lay_out(image: &[u8], h: Header, entries: &[u32], m: &mut [u8])
     memory_layout::put_head(m, head);
 }
 
-// 1; 22 header; 3 memory; 23 directory; 24 page: all before the memory is touched.
+// The tests in their order, each with its refusal: 1 image's length, 22 header, 3 memory, 23 directory, 24 pages. All come before the memory is changed.
 pub fn recover(image: &[u8], m: &mut [u8]) -> Answer
     ensures { λ r. ⌜ Recovered (now (image .entry)) (now (m .entry)) r (now (m .exit)) ⌝ }
 {

@@ -1,4 +1,4 @@
-// The allocator of a running checkpoint. It is lent to each store, which changes it in place; the two functions that do so are thin,
+// The allocator of a running checkpoint. It is lent to each store, which changes it in place; the two functions that do so are short,
 // since a function over a `&mut` to a struct, and one that makes such a reference, is proved by a walk of its MIR, by hand.
 ghost use mathlib.Core.Path.{_≡_};
 ghost use Prim.Native.Nat.{_≤_};
@@ -10,7 +10,7 @@ pub struct Allocator {
     pub left: u64,
 }
 
-// A page or a directory block went to block b.
+// A page or a directory block was stored in block b.
 pub fn take(a: &mut Allocator, b: u32)
     requires { ⌜ 1 ≤ now a .left ⌝ }
     ensures { λ _. ⌜ now (a .exit) ≡ taking (now (a .entry)) b ⌝ }
@@ -19,7 +19,7 @@ pub fn take(a: &mut Allocator, b: u32)
     a.left = a.left - 1;
 }
 
-// The header went to block 0.
+// The header was stored in block 0.
 pub fn land(a: &mut Allocator)
     ensures { λ _. ⌜ now (a .exit) ≡ landing (now (a .entry)) ⌝ }
 {

@@ -1,4 +1,4 @@
--- Own rows looked for: a row that is not tentative is nobody's.
+-- The search for own rows: a row that is not tentative belongs to no transaction.
 use Rattle.basics.proofs.Kit.{_≡_, refl, sym, ap, _∙_, ⊎-elim, false, not, List, ℕ, _+_, _≤_, _<_, _-_, length, take, drop, getD, length-take, length-drop, getD-drop, getD-take, arith}
 use Rattle.basics.specs.Basics.{if_then_else_, any}
 use Rattle.basics.proofs.Facts.{by}

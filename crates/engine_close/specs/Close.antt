@@ -58,7 +58,7 @@ pub record RunFrom (xs : List (ℕ × Held)) (from i r : ℕ) : Type 0 where
   pub same : (j : ℕ) → r ≤ j → j < i → sameKey (rowFrom xs i) (rowFrom xs j) ≡ true
   pub first : from < r → sameKey (rowFrom xs i) (rowFrom xs (r - 1)) ≡ false
 
--- r is the row behind the last of them
+-- r is the row behind the last of the neighbours of row i that have its table and key
 pub record RunTo (xs : List (ℕ × Held)) (i r : ℕ) : Type 0 where
   pub low : i < r
   pub most : r ≤ length xs
@@ -98,7 +98,7 @@ abortedFrom tx n i ps = carryOut n (removePlaces (keep (ownPlaced tx) (liveOf (p
 
 -- ---- what the functions promise
 
--- r is then the row behind those before row e; what was behind them is as it was
+-- the rows ys from row r on are the rows xs from row e on
 pub record Behind (xs ys : List (ℕ × Held)) (e r : ℕ) : Type 0 where
   pub low : r ≤ e
   pub most : r ≤ length ys

@@ -45,7 +45,7 @@ fn page_of(m: &[u8], i: usize) -> usize
     memory_pages::page_of(m, 0, page_count(m), i)
 }
 
-// The same, looked for on page `near` first: a page that probably has the row. Any number is right.
+// The same; page `near`, which probably has the row, is tried first. Any number may be given for it.
 fn page_near(m: &[u8], near: usize, i: usize) -> usize
     requires { ⌜ Room (now m) × (i < length (taggedOf (now m))) ⌝ }
     ensures { λ r. ⌜ PageOf (flatOf (now (m .entry))) 0 (length (flatOf (now (m .entry)) .entries)) i r ⌝ }
@@ -142,7 +142,7 @@ fn newest_own(m: &[u8], i: usize, e: usize, transaction: u64) -> usize
 
 // ---- runs: neighbours of one table and key
 
-// The larger.
+// The larger of the two.
 fn later(a: usize, b: usize) -> usize
     ensures { λ r. ⌜ (a ≤ r) × ((b ≤ r) × (a < r → r ≡ b)) ⌝ }
 {
@@ -152,7 +152,7 @@ fn later(a: usize, b: usize) -> usize
     a
 }
 
-// The first of the run of row i, which is of table t, not before row `from`.
+// The first row of the run of row i, which is of table t; row `from`, if the run begins before it.
 fn run_start(m: &[u8], from: usize, i: usize, t: usize) -> usize
     requires { ⌜ Room (now m) × ((from ≤ i) × (i < length (taggedOf (now m)))) ⌝ }
     requires { ⌜ (t ≡ rowFrom (taggedOf (now m)) i .0) × (t < 8) ⌝ }
@@ -188,7 +188,7 @@ fn run_end(m: &[u8], i: usize, t: usize) -> usize
     r
 }
 
-// ---- changes. `near` is a page that probably has the row, so that it is not looked for again; any number is right.
+// ---- changes. `near` is a page that probably has the row, so that it is not looked for again; any number may be given.
 
 // Removes row i; the row that is then behind it. On a frozen page it stays, pending removal.
 fn remove_row(m: &mut [u8], i: usize, near: usize) -> usize

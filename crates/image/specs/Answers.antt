@@ -33,11 +33,11 @@ unfoldable pub headerAnswer : Stage Header → HeaderTest
 headerAnswer (refuses n) = Refused n
 headerAnswer (holds h) = Passed h
 
--- the entries of no page
+-- 1,024 zeros: the entries where there is no page
 unfoldable pub noEntries : List ℕ
 noEntries = zeros 1024
 
--- the blocks of the pages, and 0
+-- the blocks of the pages, then zeros
 unfoldable pub entriesIn : List StoredPage → List ℕ
 entriesIn ps = over noEntries 0 (map (λ p. p .block) ps)
 
@@ -46,7 +46,7 @@ unfoldable pub pagesAnswer : Stage (List StoredPage) → PagesTest
 pagesAnswer (refuses n) = record { refusal = n; entries = noEntries }
 pagesAnswer (holds ps) = record { refusal = 0; entries = entriesIn ps }
 
--- in the place of a header
+-- a header of zeros, for an image that is refused
 abbrev pub noHeader : Header
 noHeader = record { blocks = 0; capacity = 0; level = 0; next = 0; pages = 0; directories = 0; d0 = 0; d1 = 0; d2 = 0; d3 = 0 }
 

@@ -25,7 +25,7 @@ pub data Stage (A : Type 0) : Type 0 where
 
 -- ---- 1: image not 2 to 4,096 whole blocks
 
--- an image of n bytes may be one
+-- n bytes are 2 to 4,096 whole blocks
 unfoldable pub wholeBlocks : ℕ → Bool
 wholeBlocks n = eqb (n % 512) 0 && (leb 2 (n / 512) && leb (n / 512) 4096)
 

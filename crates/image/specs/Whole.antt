@@ -16,16 +16,16 @@ pub record Contents : Type 0 where
 unfoldable pub headerStage : List ℕ → Stage Header
 headerStage bytes = if wholeBlocks (length bytes) then headerTest (blockCount bytes) (view bytes 0) else refuses 1
 
--- tests 23 and 24, below a header that passed
+-- test 24, by the answer of test 23
 unfoldable pub pagesBelow : View → Header → Stage (List ℕ) → Stage (List StoredPage)
 pagesBelow v h (refuses n) = refuses n
 pagesBelow v h (holds es) = pageTest v h es
 
--- tests 23 and 24
+-- tests 23 and 24, for a header that passed
 unfoldable pub pagesStage : View → Header → Stage (List StoredPage)
 pagesStage v h = pagesBelow v h (directoryTest v h)
 
--- what a header that passed and the pages below it hold
+-- what the image holds, by a header that passed and the answer of tests 23 and 24
 unfoldable pub withHeader : Header → Stage (List StoredPage) → Stage Contents
 withHeader h (refuses n) = refuses n
 withHeader h (holds ps) = holds (record { header = h; pages = ps })

@@ -203,7 +203,7 @@ pub fn test_header(image: &[u8]) -> HeaderTest
     }
 }
 
-// The entries of no page.
+// 1,024 zeros: the entries where there is no page.
 fn no_entries() -> [u32; 1024]
     ensures { λ r. ⌜ r ≡ noEntries ⌝ }
 {
@@ -221,7 +221,7 @@ fn refused_pages(n: u64) -> PagesTest
     }
 }
 
-// Tests 23 and 24, below a header that passed.
+// Tests 23 and 24, for a header that passed.
 pub fn test_pages(image: &[u8], h: block_forms::Header) -> PagesTest
     requires { ⌜ headerStage (now image) ≡ holds h ⌝ }
     ensures { λ r. ⌜ r ≡ pagesAnswer (pagesStage (view (now (image .entry))) h) ⌝ }

@@ -80,7 +80,7 @@ fn link_all(keys: &[u64], count: usize, heads: &mut [u16], links: &mut [u16]) ->
     true
 }
 
-// Each number as a key, which is not 0.
+// The key of each number: 1 more, since 0 is no key.
 fn to_keys(s: &[u32], keys: &mut [u64])
     requires { ⌜ length (now s) ≤ length (now keys) ⌝ }
     ensures { λ _. ⌜ ((i : ℕ) → i < length (now (s .entry)) → getD (now (keys .exit)) i 0 ≡ getD (now (s .entry)) i 0 + 1) ⌝ }
@@ -260,7 +260,7 @@ fn starts(owners: &[u64], count: usize) -> usize
     k
 }
 
-// The rows in the columns are right together.
+// All tests of `columnsOk`, on the rows in the columns.
 pub fn columns_ok(
     places: &[u64],
     numbers: &[u32],

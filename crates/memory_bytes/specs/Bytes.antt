@@ -1,4 +1,4 @@
--- Numbers in bytes, low byte first, and what a change of some bytes leaves. Bytes are spoken of one by one.
+-- Numbers in bytes, low byte first, and changes of some bytes, each stated byte by byte.
 use Prim.Native.Nat.{ℕ, _+_, _*_, _-_, _/_, _%_, _≤_, _<_}
 use mathlib.Core.Path.{_≡_}
 use mathlib.Core.List.{List, [], _∷_}
@@ -41,7 +41,7 @@ pub record Lowered (m m' : List ℕ) (lo hi w : ℕ) : Type 0 where
   pub apart : Apart m m' lo (hi - lo)
   pub moved : (b : ℕ) → lo ≤ b → b + w < hi → getD m' b 0 ≡ getD m (b + w) 0
 
--- xs stands at a
+-- the bytes from a on are xs, and no other byte differs
 pub record Wrote (m m' : List ℕ) (a : ℕ) (xs : List ℕ) : Type 0 where
   pub apart : Apart m m' a (length xs)
   pub here : (k : ℕ) → k < length xs → getD m' (a + k) 0 ≡ getD xs k 0

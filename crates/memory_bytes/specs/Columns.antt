@@ -50,7 +50,8 @@ pub record Covers (g : ℕ → ℕ) (key s e a b : ℕ) : Type 0 where
   pub before : (j : ℕ) → s ≤ j → j < a → equals key (g j) ≡ false
   pub behind : (j : ℕ) → b ≤ j → j < e → equals key (g j) ≡ false
 
--- the same of groups of 16, the first with the key from a on, the last up to b; b is s if no number is the key
+-- every number that is the key, of those from index s up to, not including, e, stands from a up to, not including, b; b is s if there is none,
+-- otherwise one of the 16 numbers from a on is the key, and b is at least a + 16
 pub record Grouped (g : ℕ → ℕ) (key s e a b : ℕ) : Type 0 where
   pub found : (b ≡ s → ⊥) → (s ≤ a) × ((a + 16 ≤ b) × (any (equals key) (tab g a 16) ≡ true))
   pub high : b ≤ e

@@ -279,7 +279,7 @@ fn any_names(m: &[u8], at: usize, s: u16) -> bool
     hit
 }
 
-// The same of those from index i on, below n: fewer than a group.
+// The same of the numbers from index i up to, not including, n: those behind the last whole group.
 fn rest_names(m: &[u8], base: usize, i: usize, n: usize, s: u16) -> bool
     requires { ⌜ (i ≤ n) × (base + n * 2 ≤ length (now m)) ⌝ }
     ensures { λ r. ⌜ r ≡ any (names s) (tab (column2 (now (m .entry)) base) i (n - i)) ⌝ }
@@ -331,7 +331,7 @@ fn add_each2(m: &mut [u8], base: usize, s: usize, e: usize, d: u16)
     }
 }
 
-// What makes a number one more, or one less.
+// What is added, modulo 65,536, to make a number one more, or one less.
 fn step2(up: bool) -> u16
     ensures { λ r. ⌜ r ≡ cond up 1 65535 ⌝ }
 {
@@ -341,7 +341,7 @@ fn step2(up: bool) -> u16
     65535
 }
 
-// The same, one more or one less.
+// Each of the numbers of two bytes from base on, from index s up to, not including, e, is one more, or one less, modulo 65,536.
 pub fn add2(m: &mut [u8], base: usize, s: usize, e: usize, up: bool)
     requires { ⌜ (s ≤ e) × (base + e * 2 ≤ length (now m)) ⌝ }
     ensures { λ _. ⌜ Added (now (m .entry)) (now (m .exit)) base s e (cond up 1 65535) ⌝ }

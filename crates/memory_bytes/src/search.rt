@@ -104,8 +104,8 @@ pub fn last_equal(m: &[u8], base: usize, s: usize, e: usize, key: u32) -> usize
     s
 }
 
-// ---- the span of a key: every group is passed over, with no branch on what is in it. A branch that depends on the key seems to be
-// mispredicted (inferred from timings: the same keys again and again take half the time).
+// ---- the span of a key: every group is passed over, with no branch on what is in it. That a branch which depends on the key is mispredicted
+// was inferred from timings (docs/PROOF_NOTES.md, 'Branches on the data').
 
 // Which of the 16 numbers of four bytes from byte at on is the first that is key, or 16. Index and answer have 32 bits, like what is read, so
 // that no lane of a vector is wider.
@@ -124,7 +124,7 @@ pub fn first_equal16(m: &[u8], at: usize, key: u32) -> usize
     f as usize
 }
 
-// One behind the last of them that is key, or 0.
+// One behind the last of the 16 numbers of four bytes from byte at on that is key, or 0.
 pub fn last_equal16(m: &[u8], at: usize, key: u32) -> usize
     requires { ⌜ at + 64 ≤ length (now m) ⌝ }
     ensures { λ r. ⌜ Covers (column4 (now (m .entry)) at) key 0 16 0 r ⌝ }

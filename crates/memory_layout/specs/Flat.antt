@@ -126,15 +126,15 @@ withUsed f u = record { head = f .head; opens = f .opens; rows = f .rows; entrie
 
 -- ---- elements
 
--- past the end of the rows stands one of zeros
+-- what is read past the end of the rows: a row of zeros
 abbrev pub noRow : Held
 noRow = record { tuple = record { key = 0; number = 0; owner = committed; mark = false; payload = [] }; pending = nothing }
 
--- past the end of the entries stands one of zeros
+-- what is read past the end of the page entries: an entry of zeros
 abbrev pub noEntry : Entry
 noEntry = record { table = 0; frozen = false; count = 0; block = 0 }
 
--- past the end of the open transactions stands one of zeros
+-- what is read past the end of the open transactions: one of zeros
 abbrev pub noOpen : Active
 noOpen = record { transaction = 0; written = 0 }
 

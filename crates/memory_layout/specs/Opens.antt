@@ -7,7 +7,7 @@ use Rattle.model.specs.State.{Active}
 use Rattle.model.specs.Transactions.{isFor}
 use Rattle.memory_layout.specs.declared.Open.{Open}
 
--- an open transaction
+-- an open transaction, as the model has it
 abbrev pub activeOf : Open → Active
 activeOf o = record { transaction = o .transaction; written = o .written }
 

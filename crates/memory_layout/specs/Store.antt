@@ -26,7 +26,7 @@ use Rattle.memory_layout.specs.declared.Entry.{Entry}
 unfoldable pub pageOf : Entry → List Held → Page
 pageOf e hs = record { table = e .table; block = e .block; frozen = e .frozen; tuples = hs }
 
--- the rows, in list order over all pages, dealt out to the pages
+-- the pages of the entries, in order: each has the next rows, as many as its entry counts
 unfoldable pub nest : List Entry → List Held → List Page
 nest [] hs = []
 nest (e ∷ es) hs = pageOf e (take (e .count) hs) ∷ nest es (drop (e .count) hs)
@@ -35,7 +35,7 @@ nest (e ∷ es) hs = pageOf e (take (e .count) hs) ∷ nest es (drop (e .count) 
 abbrev pub pagesIn : Flat → List Page
 pagesIn f = nest (f .entries) (f .rows)
 
--- none runs at the last level, whatever the memory says: a begin is refused there
+-- the running checkpoint, if one runs: none does at the last level, whatever the memory says, since a begin is refused there
 unfoldable pub checkpointOf : Bool → ℕ → ℕ → List ℕ → List ℕ → Checkpoint
 checkpointOf on l n es ds = if not on || leb mostNumber l then idle else running n es ds
 
@@ -114,7 +114,7 @@ holdsStore m =
     ∷ startsRise m
     ∷ [])
 
--- none: refusal 4
+-- the store that the memory holds; if it holds none, refusal 4
 unfoldable pub storeIn : List ℕ → Option Store
 storeIn m = if holdsStore m then some (storeOf (flatOf m)) else none
 

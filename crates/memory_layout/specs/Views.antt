@@ -1,4 +1,4 @@
--- What the bytes of the memory say: the head's numbers, rows and page entries as typed values. Every byte pattern says something.
+-- What the bytes of the memory mean: the head's numbers, rows and page entries as typed values. Every byte pattern has a meaning.
 use Prim.Native.Nat.{ℕ, suc, _+_, _*_, _-_, _/_, _%_, _^_, min}
 use mathlib.Core.Bool.{Bool, not, _&&_}
 use mathlib.Core.List.{List}
@@ -57,11 +57,11 @@ pageCount m = tableEnd m 7
 unfoldable pub countsOf : List ℕ → Counts
 countsOf m = record { rows = rowCount m; pages = pageCount m; opens = openCount m; named = namedCount m; directories = directoryCount m }
 
--- an open transaction stands above 20 bits of how many tuples it has written
+-- open transaction i: its number is in the high 12 bits, and how many tuples it has written in the low 20
 unfoldable pub openAt : List ℕ → ℕ → Active
 openAt m i = record { transaction = le4 m (opensAt + i * 4) / 1048576; written = le4 m (opensAt + i * 4) % 1048576 }
 
--- the directory block written as number i
+-- number i of the directory blocks written
 unfoldable pub directoryAt : List ℕ → ℕ → ℕ
 directoryAt m i = le4 m (directoriesAt + i * 4) % 4096
 
@@ -103,7 +103,7 @@ stateOf m c i = getD m (statesAt c + i) 0
 abbrev pub slotPlace : ℕ → ℕ
 slotPlace s = slotsAt + s * slotSize
 
--- what a key, a slot's bytes, a state and a pending operation are together, the slot standing at a
+-- the row with the key k, the slot that stands at a, the state s and the pending operation in r
 unfoldable pub heldOf : List ℕ → ℕ → ℕ → ℕ → ℕ → Held
 heldOf m a k s r =
     record {

@@ -70,7 +70,7 @@ const STARTS: usize = 79;
 
 const NAMED: usize = 87;
 
-// Above a transaction's count of tuples written stands its number.
+// An open transaction is stored as its number times this, plus how many tuples it has written.
 const WRITTEN_LIMIT: u32 = 1048576;
 
 // The largest capacity, and how many bytes of memory each row of it takes.
@@ -161,7 +161,7 @@ fn one_if(b: bool) -> u32
     0
 }
 
-// The numbers that are no counts, all of them; the counts stay.
+// Writes every number of the head that is no count; the counts stay as they are.
 pub fn put_head(m: &mut [u8], h: Head)
     requires { ⌜ Room (now m) × Replaces (flatOf (now m) .head) h ⌝ }
     ensures { λ _. ⌜ Becomes (now (m .entry)) (now (m .exit)) (withHead (flatOf (now (m .entry))) h) ⌝ }
@@ -365,7 +365,7 @@ pub fn holds_store(m: &[u8]) -> bool
 
 // ---- an empty store
 
-// The slots that may be free: all, in order, behind no rows.
+// Writes the numbers of all slots, in order, as those that may be free: there is no row yet.
 fn name_slots(m: &mut [u8], n: usize)
     requires { ⌜ (n ≤ 1024) × (128 * n + 1024 ≤ length (now m)) ⌝ }
     ensures { λ _. ⌜ Apart (now (m .entry)) (now (m .exit)) (1024 + n * 76) (n * 2) ⌝ }
@@ -377,7 +377,7 @@ fn name_slots(m: &mut [u8], n: usize)
     }
 }
 
-// Lays it out over any old content.
+// Makes an empty store of so many blocks and of capacity n, over any old content.
 pub fn fresh(m: &mut [u8], blocks: u32, n: u32)
     requires { ⌜ FreshFits (length (now m)) blocks n ⌝ }
     ensures { λ _. ⌜ Becomes (now (m .entry)) (now (m .exit)) (freshFlat blocks n) × (storeIn (now (m .exit)) ≡ some (freshStore blocks n)) ⌝ }

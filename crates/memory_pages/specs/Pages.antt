@@ -50,11 +50,11 @@ clean t b n = record { table = t; frozen = false; count = n; block = b }
 unfoldable pub wordOf : ℕ → Bool → ℕ
 wordOf b z = b + cond z 4096 0
 
--- a page's block, and whether it is frozen
+-- the entry with the block b, and frozen or not
 abbrev pub withBlock : Entry → ℕ → Bool → Entry
 withBlock e b z = record { table = e .table; frozen = z; count = e .count; block = b }
 
--- a page's count of rows
+-- the entry with n rows
 abbrev pub withCount : Entry → ℕ → Entry
 withCount e n = record { table = e .table; frozen = e .frozen; count = n; block = e .block }
 
@@ -82,11 +82,11 @@ fewerRows p es = set es p (withCount (entryOf es p) (entryOf es p .count - 1))
 abbrev pub setBlock : ℕ → ℕ → Bool → List Entry → List Entry
 setBlock p b z es = set es p (withBlock (entryOf es p) b z)
 
--- page p in two: k rows on the first
+-- page p becomes two pages, the first with k rows
 abbrev pub splitEntry : ℕ → ℕ → List Entry → List Entry
 splitEntry p k es = take p es ++ dirty (entryOf es p .table) k ∷ dirty (entryOf es p .table) (entryOf es p .count - k) ∷ drop (p + 1) es
 
--- pages p and p + 1 in one
+-- pages p and p + 1 become one page
 abbrev pub joinEntries : ℕ → List Entry → List Entry
 joinEntries p es = take p es ++ dirty (entryOf es p .table) (entryOf es p .count + entryOf es (p + 1) .count) ∷ drop (p + 2) es
 
@@ -131,11 +131,11 @@ pub record MayAppend (f : Flat) (t b : ℕ) : Type 0 where
 
 -- ---- what the functions promise
 
--- the page entries change so, and nothing else
+-- the page entries become what g makes of them, and nothing else changes
 abbrev pub EntriesBecome : List ℕ → List ℕ → (List Entry → List Entry) → Type 0
 EntriesBecome m m' g = Becomes m m' (withEntries (flatOf m) (g (flatOf m .entries)))
 
--- the rows and the page entries change so, and nothing else
+-- the rows become what h makes of them and the page entries what g makes of them, and nothing else changes
 abbrev pub RowsBecome : List ℕ → List ℕ → (List Held → List Held) → (List Entry → List Entry) → Type 0
 RowsBecome m m' h g = Becomes m m' (withEntries (withRows (flatOf m) (h (flatOf m .rows))) (g (flatOf m .entries)))
 
@@ -152,7 +152,7 @@ pub record Passed (g : ℕ → ℕ) (n r : ℕ) : Type 0 where
 
 -- ---- pages counted
 
--- the page waits to be written
+-- the page is frozen: it is still to be written
 abbrev pub frozenEntry : Entry → Bool
 frozenEntry e = e .frozen
 

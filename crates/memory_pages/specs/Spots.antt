@@ -25,6 +25,6 @@ tableRows f t = take (tableRow f (t + 1) - tableRow f t) (drop (tableRow f t) (f
 abbrev pub keyUpTo : ℕ → Held → Bool
 keyUpTo k h = leb (h .tuple .key) k
 
--- where a new tuple with the key k goes: behind the last row of table t whose key is not above, else before all of them
+-- where a new tuple with the key k goes: behind the last row of table t whose key is not above k; if there is none, where the rows of the table start
 unfoldable pub placeIn : Flat → ℕ → ℕ → ℕ
 placeIn f t k = tableRow f t + lastIndex (keyUpTo k) (tableRows f t)

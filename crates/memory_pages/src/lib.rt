@@ -1,5 +1,5 @@
 // The page entries of the working memory: two columns, first rows and blocks, and the ends of the tables in the head. A page's table and
-// how many rows it has are not stored: the ends and the first rows say them. docs/LAYOUT.md says what stands where.
+// how many rows it has are not stored: they follow from the ends and the first rows. docs/LAYOUT.md says what stands where.
 // Each function that changes the memory promises one equation on the flat lists that it holds.
 use memory_rows::Row;
 ghost use mathlib.Core.Path.{_≡_};
@@ -38,7 +38,7 @@ const TABLES: usize = 8;
 
 const LAST_TABLE: usize = 7;
 
-// What stands above a block's number if its page is frozen.
+// What is added to a block's number if its page is frozen.
 const FROZEN: u16 = 4096;
 
 // ---- places
@@ -96,7 +96,7 @@ fn start_at(m: &[u8], p: usize) -> usize
     }
 }
 
-// The same by the pages' sizes: how many rows the pages before it have.
+// The row with which page p starts: how many rows the pages before it have.
 pub fn start_of(m: &[u8], p: usize) -> usize
     requires { ⌜ Room (now m) × (p ≤ length (flatOf (now m) .entries)) ⌝ }
     ensures { λ r. ⌜ (r ≡ startOf (flatOf (now (m .entry))) p) × (r ≤ length (flatOf (now (m .entry)) .rows)) ⌝ }
@@ -112,7 +112,7 @@ fn block_word(m: &[u8], p: usize) -> u16
     memory_bytes::get2(m, blocks(m) + p * 2)
 }
 
-// Whether page p waits to be written.
+// Whether page p is frozen, that is still to be written.
 pub fn frozen_at(m: &[u8], p: usize) -> bool
     requires { ⌜ Room (now m) × (p < length (flatOf (now m) .entries)) ⌝ }
     ensures { λ r. ⌜ r ≡ entryIn (flatOf (now (m .entry))) p .frozen ⌝ }
@@ -159,7 +159,7 @@ pub fn page_of(m: &[u8], a: usize, b: usize, i: usize) -> usize
 
 // ---- columns
 
-// x goes before number i of the n numbers of two bytes from base on.
+// x is put before number i of the n numbers of two bytes from base on.
 fn insert2(m: &mut [u8], base: usize, i: usize, n: usize, x: u16)
     requires { ⌜ (i ≤ n) × (base + n * 2 + 2 ≤ length (now m)) ⌝ }
     ensures { λ _. ⌜ Inserted2 (now (m .entry)) (now (m .exit)) base i n x ⌝ }
@@ -168,7 +168,7 @@ fn insert2(m: &mut [u8], base: usize, i: usize, n: usize, x: u16)
     memory_bytes::put2(m, base + i * 2, x);
 }
 
-// Number i of the n numbers of two bytes from base on goes.
+// Number i of the n numbers of two bytes from base on is taken out.
 fn remove2(m: &mut [u8], base: usize, i: usize, n: usize)
     requires { ⌜ (i < n) × (base + n * 2 ≤ length (now m)) ⌝ }
     ensures { λ _. ⌜ Removed2 (now (m .entry)) (now (m .exit)) base i n ⌝ }
@@ -176,7 +176,7 @@ fn remove2(m: &mut [u8], base: usize, i: usize, n: usize)
     memory_bytes::down2(m, base + i * 2, base + n * 2);
 }
 
-// A page of the table before page p, that starts at row `start` and has no block.
+// Opens a page of the table before page p: it starts at row `start` and has no block.
 fn open_page(m: &mut [u8], p: usize, table: usize, start: u16)
     requires { ⌜ Room (now m) × MayOpen (now m) p table ⌝ }
     ensures { λ _. ⌜ Opened (now (m .entry)) (now (m .exit)) p table start ⌝ }
@@ -189,7 +189,7 @@ fn open_page(m: &mut [u8], p: usize, table: usize, start: u16)
     memory_bytes::add2(m, TABLE_ENDS, table, TABLES, true);
 }
 
-// Page p, of the table, goes; its rows are then on the page before it.
+// Page p, of the table, is taken out; its rows are then on the page before it.
 fn close_page(m: &mut [u8], p: usize, table: usize)
     requires { ⌜ Room (now m) × MayClose (now m) p table ⌝ }
     ensures { λ _. ⌜ Closed (now (m .entry)) (now (m .exit)) p table ⌝ }
@@ -224,7 +224,7 @@ pub fn set_page(m: &mut [u8], p: usize, block: u16, frozen: bool)
     memory_bytes::put2(m, a, word(block, frozen));
 }
 
-// An empty page of the table, in no block, before page p.
+// Puts an empty page of the table, in no block, before page p.
 pub fn insert_page(m: &mut [u8], p: usize, table: u8)
     requires { ⌜ Room (now m) × MayInsert (flatOf (now m)) p table ⌝ }
     ensures { λ _. ⌜ EntriesBecome (now (m .entry)) (now (m .exit)) (insertAt p (dirty table 0)) ⌝ }
@@ -233,7 +233,7 @@ pub fn insert_page(m: &mut [u8], p: usize, table: u8)
     open_page(m, p, table as usize, start);
 }
 
-// A page of the table, in this block, behind all others: it has no row yet, and no row is moved.
+// Puts a page of the table, in this block, behind all others: it has no row yet, and no row is moved.
 pub fn append_page(m: &mut [u8], table: u8, block: u16)
     requires { ⌜ Room (now m) × (InOrder (now m) × MayAppend (flatOf (now m)) table block) ⌝ }
     ensures { λ _. ⌜ EntriesBecome (now (m .entry)) (now (m .exit)) (behind (clean table block 0)) × InOrder (now (m .exit)) ⌝ }
@@ -245,7 +245,7 @@ pub fn append_page(m: &mut [u8], table: u8, block: u16)
     memory_bytes::put2(m, a, block);
 }
 
-// Page p, which has no row, goes.
+// Page p, which has no row, is taken out.
 pub fn remove_page(m: &mut [u8], p: usize)
     requires { ⌜ Room (now m) × MayRemove (flatOf (now m)) p ⌝ }
     ensures { λ _. ⌜ EntriesBecome (now (m .entry)) (now (m .exit)) (removeAt p) ⌝ }
@@ -254,7 +254,7 @@ pub fn remove_page(m: &mut [u8], p: usize)
     close_page(m, p, table);
 }
 
-// Page p in two: k rows on the first. Both are in no block.
+// Page p becomes two pages, the first with k rows. Both are in no block.
 pub fn split_page(m: &mut [u8], p: usize, k: u16)
     requires { ⌜ Room (now m) × MaySplit (flatOf (now m)) p k ⌝ }
     ensures { λ _. ⌜ EntriesBecome (now (m .entry)) (now (m .exit)) (splitEntry p k) ⌝ }
@@ -265,7 +265,7 @@ pub fn split_page(m: &mut [u8], p: usize, k: u16)
     open_page(m, p + 1, table, start + k);
 }
 
-// Page p and the next one in one, in no block.
+// Page p and the next one become one page, in no block.
 pub fn join_pages(m: &mut [u8], p: usize)
     requires { ⌜ Room (now m) × MayJoin (flatOf (now m)) p ⌝ }
     ensures { λ _. ⌜ EntriesBecome (now (m .entry)) (now (m .exit)) (joinEntries p) ⌝ }

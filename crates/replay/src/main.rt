@@ -115,7 +115,7 @@ fn used(s: &[u8]) -> usize {
     n
 }
 
-// No call, or a block that the image has not.
+// The answer to a line that is no call, or that names a block beyond the image.
 fn bad_line() {
     replay_script::say(b"bad line\n");
 }
@@ -268,7 +268,7 @@ fn on_image(image: &mut [u8], memory: &mut [u8], lent: Lent, call: Call, payload
     }
 }
 
-// One line. What is lent to the next call.
+// Replays one line, and answers what is lent to the next call.
 fn replay_line(line: &[u8], image: &mut [u8], memory: &mut [u8], lent: Lent) -> Lent {
     let mut payload = [0u8; 64];
     let call = replay_script::call_of(line, &mut payload);

@@ -1,4 +1,4 @@
--- `block_bits::get_bits` meets its contract. Assumes nothing.
+-- `block_bits::get_bits` meets its contract: the field is a part of the number in its window (`window-get`).
 use Rattle.basics.proofs.Kit.{ℕ, _+_, _*_, _%_, _/_, _-_, mod-lt, pow-pos, needs, arith}
 use Rattle.block_bits.proofs.Window.{window-get}
 use Rattle.block_bits.proofs.get_bits.Statement.{statement}

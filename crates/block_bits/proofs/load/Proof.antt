@@ -1,4 +1,4 @@
--- `block_bits::load` meets its contract. Assumes nothing.
+-- `block_bits::load` meets its contract. The invariant: acc is the number in the first i of the n bytes.
 use Rattle.basics.proofs.Kit.{_≡_, refl, _+_, _*_, _^_, _≤_, _<_, _-_, lit<, getD, arith}
 use Rattle.block_bits.specs.Bits.{field, number, bitsIn}
 use Rattle.block_bits.proofs.Window.{load-turn, load-lt, load-fits}

@@ -1,4 +1,4 @@
--- `block_bits::low` meets its contract. Assumes nothing.
+-- `block_bits::low` meets its contract: it is the remainder by 1 shifted by k, which is 2 ^ k.
 use Rattle.basics.proofs.Kit.{one-mul, pow-pos, pow-lt, needs, arith}
 use Rattle.block_bits.proofs.low.Statement.{statement}
 use Rattle.block_bits.proofs.low.Tie as tie

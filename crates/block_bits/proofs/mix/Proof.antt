@@ -1,4 +1,4 @@
--- `block_bits::mix` meets its contract. Assumes nothing.
+-- `block_bits::mix` meets its contract: both sums fit 64 bits (`window-fits`).
 use Rattle.basics.proofs.Kit.{needs, arith}
 use Rattle.block_bits.proofs.Window.{window-fits}
 use Rattle.block_bits.proofs.mix.Statement.{statement}

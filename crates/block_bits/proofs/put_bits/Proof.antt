@@ -1,4 +1,4 @@
--- `block_bits::put_bits` meets its contract. Assumes nothing.
+-- `block_bits::put_bits` meets its contract: the window is stored with the field exchanged in it (`window-put`).
 use Rattle.basics.proofs.Kit.{_≡_, subst, ℕ, _+_, _*_, _%_, _^_, _<_, _/_, _-_, needs, arith}
 use Rattle.block_bits.specs.Bits.{bitsIn}
 use Rattle.block_bits.proofs.Window.{window-put}

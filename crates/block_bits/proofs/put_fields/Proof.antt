@@ -1,4 +1,4 @@
--- `block_bits::put_fields` meets its contract. The invariant: the fields that are left, put over the block as it is, give the answer. Assumes nothing.
+-- `block_bits::put_fields` meets its contract. The invariant: the fields that are left, put over the block as it is, give the answer.
 use Rattle.basics.proofs.Kit.{_≡_, refl, sym, _∙_, _+_, _≤_, _<_, _-_, length, drop, arith}
 use Rattle.block_bits.specs.Bits.{bitsIn}
 use Rattle.block_bits.specs.Fields.{putAll, fieldsOf, sum, Words}

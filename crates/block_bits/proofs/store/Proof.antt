@@ -1,4 +1,4 @@
--- `block_bits::store` meets its contract. Assumes nothing.
+-- `block_bits::store` meets its contract. The invariant: the first i of the n bytes of x are put, and no other bit differs.
 use Rattle.basics.proofs.Kit.{_≡_, refl, sym, _∙_, _+_, _*_, _^_, _≤_, _/_, _-_, length, length-set, arith}
 use Rattle.block_bits.specs.Bits.{bitsOf, bitsIn, over}
 use Rattle.block_bits.proofs.Lists.{over-nil}

@@ -15,7 +15,7 @@ use Rattle.call_checkpoint.proofs.begin.Statement.{statement}
 use Rattle.model.specs.State as model
 use Rattle.call_checkpoint.proofs.begin.Tie as tie
 
--- what each test that was passed says: a store is has-store, none runs, the level is not the last one
+-- what each test that was passed says: there is a store, no checkpoint runs, the level is not the last one
 abbrev began : tie.Else1 → tie.Start
 began c = c .before .before .before .before
 

@@ -9,7 +9,7 @@ use Rattle.call_checkpoint.proofs.Stepping.{refusal-4, refusal-5, refus
 use Rattle.call_checkpoint.proofs.step_refusal.Statement.{statement}
 use Rattle.call_checkpoint.proofs.step_refusal.Tie as tie
 
--- what each test that was passed says: a store is has-store, the image is as long as its blocks
+-- what each test that was passed says: there is a store, the image is as long as its blocks
 abbrev began : tie.Else1 → tie.Start
 began c = c .before .before .before
 

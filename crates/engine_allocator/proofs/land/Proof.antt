@@ -1,5 +1,4 @@
 -- `engine_allocator::land` meets its contract: a walk of its MIR, by hand. The borrow is opened, the count of stores is written, and the borrow is closed at the record with 0 for it.
--- Assumes nothing.
 use mathlib.Core.Path.{refl}
 use Prim.Native.Nat.{ℕ}
 use mathlib.Core.List.{[], _∷_, List}

@@ -1,5 +1,4 @@
 -- `engine_allocator::take` meets its contract: a walk of its MIR, by hand. The borrow is opened, the block and the count of stores are written, and the borrow is closed at the record that has them.
--- Assumes nothing.
 use mathlib.Core.Path.{refl}
 use Prim.Native.Nat.{ℕ, _-_, _<_, _≤_, _^_}
 use native.Mathlib.Omega.{arith}

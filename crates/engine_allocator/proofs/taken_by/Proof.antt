@@ -1,5 +1,4 @@
 -- `engine_allocator::taken_by` meets its contract: a walk of its MIR, by hand. The local that holds the allocator is lent to `take`, of which only its contract is known, and is read once it is back.
--- Assumes nothing.
 use mathlib.Core.Path.{_≡_, refl, sym, ap, subst}
 use Prim.Native.Nat.{ℕ, _<_, _≤_, _^_}
 use mathlib.Core.List.{[], _∷_}

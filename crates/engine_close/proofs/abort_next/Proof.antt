@@ -1,3 +1,4 @@
+-- `engine_close::abort_next` meets its contract: without an own row by `none-aborted`, else by `one-aborted` from what `remove_row` promises.
 use Rattle.engine_close.specs.Close.{taggedOf}
 use Rattle.engine_close.proofs.Closing.{own-removed}
 use Rattle.engine_close.proofs.Next.{less-than, none-aborted, one-aborted}

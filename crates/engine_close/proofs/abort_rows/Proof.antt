@@ -1,3 +1,4 @@
+-- `engine_close::abort_rows` meets its contract. The invariant: the abort of the present pages from row i on gives what that of the pages at entry gives.
 use Rattle.engine_pages.proofs.Places.{holds-now}
 use Rattle.engine_close.specs.Close.{taggedOf, abortedFrom}
 use Rattle.engine_close.proofs.Next.{Doing, doing-starts, doing-next, abort-done}

@@ -1,3 +1,4 @@
+-- `engine_close::close_next` meets its contract: without an own row by `none-closed`, else by `one-closed` from the run's bounds and `close_run`.
 use Rattle.engine_close.specs.Close.{taggedOf, rowFrom}
 use Rattle.engine_close.proofs.Memory.{table-is}
 use Rattle.engine_close.proofs.Next.{less-than, none-closed, one-closed}

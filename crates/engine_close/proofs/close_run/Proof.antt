@@ -1,3 +1,4 @@
+-- `engine_close::close_run` meets its contract: a delete mark by `run-marked`; otherwise row k is committed and the others are removed (`run-kept`).
 use Rattle.engine_pages.proofs.Places.{now-held}
 use Rattle.engine_close.proofs.Closing.{live-held, run-marked, kept-length, kept-there, run-kept}
 use Rattle.engine_close.proofs.Memory.{row-is, tagged-length}

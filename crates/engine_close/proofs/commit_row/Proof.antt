@@ -1,3 +1,4 @@
+-- `engine_close::commit_row` meets its contract, by that of `commit_at` for the page that `page_near` finds.
 use Rattle.engine_close.proofs.Closing.{turned}
 use Rattle.engine_pages.specs.Pages.{pagesOf}
 use Rattle.model.specs.Places.{commitRow}

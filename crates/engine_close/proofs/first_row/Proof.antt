@@ -1,3 +1,4 @@
+-- `engine_close::first_row` meets its contract: it is the row with which the first page of the table, or of a later one, starts (`rows-from`).
 use Rattle.engine_close.proofs.Memory.{rows-from}
 use Rattle.basics.proofs.Kit.{needs}
 use Rattle.engine_close.proofs.first_row.Statement.{statement}

@@ -1,3 +1,4 @@
+-- `engine_close::is_live` meets its contract: one case for each pending operation (`live-is`).
 use Rattle.model.specs.Rules.{isRemoving}
 use Rattle.engine_close.proofs.Own.{live-is}
 use Rattle.engine_close.proofs.Memory.{tagged-length}

@@ -1,3 +1,4 @@
+-- `engine_close::newest_own` meets its contract. The invariant: no row behind row r, up to row e, is an own row.
 use Rattle.engine_close.specs.Close.{isOwnRow, taggedOf}
 use Rattle.engine_close.proofs.Own.{NotLater, own-is, not-later-more}
 use Rattle.engine_close.proofs.Memory.{tagged-length}

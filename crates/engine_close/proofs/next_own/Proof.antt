@@ -1,3 +1,4 @@
+-- `engine_close::next_own` meets its contract. The invariant: no row from row i up to row g is an own row.
 use Rattle.engine_close.proofs.Own.{NotOwn, not-own-then}
 use Rattle.engine_close.proofs.Memory.{few-rows}
 use Rattle.basics.proofs.Kit.{_≤_, _-_, arith}

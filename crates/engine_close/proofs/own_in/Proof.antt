@@ -1,3 +1,4 @@
+-- `engine_close::own_in` meets its contract. The invariant: no row from row i up to row r is an own row.
 use Rattle.engine_close.proofs.Own.{NotOwn, own-is, not-own-more}
 use Rattle.engine_close.proofs.Memory.{tagged-length}
 use Rattle.basics.proofs.Kit.{sym, _∙_, _≤_, _-_, arith}

@@ -1,3 +1,4 @@
+-- `engine_close::own_in_group` meets its contract: a group without a tentative row has no own row (`group-not-own`).
 use Rattle.engine_close.proofs.Own.{group-not-own}
 use Rattle.engine_close.proofs.Memory.{tagged-length, few-rows}
 use Rattle.basics.proofs.Kit.{sym, _∙_, needs, arith}

@@ -1,3 +1,4 @@
+-- `engine_close::page_count` meets its contract: the head's count of pages is how many page entries there are (`pages-counted`).
 use Rattle.engine_close.proofs.Memory.{pages-counted}
 use Rattle.basics.proofs.Kit.{needs}
 use Rattle.engine_close.proofs.page_count.Statement.{statement}

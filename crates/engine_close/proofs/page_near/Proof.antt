@@ -1,3 +1,4 @@
+-- `engine_close::page_near` meets its contract: page `near` is answered only if it has row i, otherwise what `page_of` answers.
 use Rattle.basics.proofs.Kit.{subst, _≤_, _<_, leb-true, ltb-true, needs, arith}
 use Rattle.engine_close.proofs.page_near.Statement.{statement}
 use Rattle.engine_close.proofs.page_near.Tie as tie

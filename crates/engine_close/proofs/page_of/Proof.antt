@@ -1,3 +1,4 @@
+-- `engine_close::page_of` meets its contract, by that of `memory_pages::page_of`: every row is on one of all pages (`on-pages`).
 use Rattle.engine_close.proofs.Memory.{on-pages}
 use Rattle.basics.proofs.Kit.{needs}
 use Rattle.engine_close.proofs.page_of.Statement.{statement}

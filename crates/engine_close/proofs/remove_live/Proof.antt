@@ -1,3 +1,4 @@
+-- `engine_close::remove_live` meets its contract: a live row is removed (`live-removed`), one pending removal is passed over (`live-passed`).
 use Rattle.engine_close.proofs.Closing.{live-removed, live-passed}
 use Rattle.engine_close.proofs.Memory.{few-rows}
 use Rattle.memory_layout.proofs.Laws.{holds-room}

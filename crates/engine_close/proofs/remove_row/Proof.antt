@@ -1,3 +1,4 @@
+-- `engine_close::remove_row` meets its contract, by that of `remove_at`; at most one row is gone (`one-removed`), so that the row behind it is i + 1 or i.
 use Rattle.engine_pages.proofs.Places.{now-held}
 use Rattle.model.specs.Places.{removeRow}
 use Rattle.engine_pages.specs.Pages.{pagesOf}

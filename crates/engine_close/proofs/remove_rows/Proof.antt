@@ -1,3 +1,4 @@
+-- `engine_close::remove_rows` meets its contract. The invariant: still to be removed are the live ones of `left` rows from row r on, as the pages are now.
 use Rattle.engine_pages.proofs.Places.{now-held}
 use Rattle.engine_close.proofs.Closing.{LiveLeft, left-starts, left-there, left-next, left-ends}
 use Rattle.basics.proofs.Kit.{arith}

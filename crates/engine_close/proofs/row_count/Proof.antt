@@ -1,3 +1,4 @@
+-- `engine_close::row_count` meets its contract: the head's count of rows is how many tuples the pages hold (`rows-counted`).
 use Rattle.engine_close.proofs.Memory.{rows-counted}
 use Rattle.basics.proofs.Kit.{needs}
 use Rattle.engine_close.proofs.row_count.Statement.{statement}

@@ -1,3 +1,4 @@
+-- `engine_close::run_end` meets its contract. The invariant: the rows behind row i, up to row r, have its table and key.
 use Rattle.engine_close.proofs.RunBounds.{Onward, end-high, onward-more, onward-ends, onward-stops}
 use Rattle.engine_close.proofs.Memory.{tagged-length, few-rows}
 use Rattle.basics.proofs.Kit.{sym, _∙_, _≤_, _<_, _-_, arith}

@@ -1,3 +1,4 @@
+-- `image::add_entries` meets its contract, by cases: a directory of another level, one of another count, one whose entries are put, no directory.
 use Rattle.basics.proofs.Kit.{refl, sym, _∙_, some, [], needs}
 use Rattle.image.proofs.Named.{is-directory, no-directory, other-level, other-count, entries-put, not-put}
 use Rattle.block_forms.specs.Decode.{decodeBlock}

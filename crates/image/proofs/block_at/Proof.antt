@@ -1,3 +1,4 @@
+-- `image::block_at` meets its contract: 512 bytes copied over 512 zeros are the block (`whole-copy`).
 use Rattle.basics.proofs.Kit.{refl, _∙_, needs}
 use Rattle.block_forms.specs.Spell.{zeros}
 use Rattle.image.proofs.Collect.{whole-copy}

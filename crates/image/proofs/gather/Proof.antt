@@ -1,3 +1,4 @@
+-- `image::gather` meets its contract. The invariant: out begins with the entries of the first i directory blocks; those of the others are still to be read.
 use Rattle.basics.proofs.Kit.{_≡_, refl, _∙_, _-_, length, not-true, not-false, arith}
 use Rattle.image.proofs.Named.{Gathering, filled-there, gathering-start, gathering-turn, gathering-stop, gathering-end}
 use Rattle.image.proofs.Collect.{within, seen}

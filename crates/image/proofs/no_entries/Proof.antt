@@ -1,3 +1,4 @@
+-- `image::no_entries` meets its contract: both are 1,024 zeros.
 use Rattle.basics.proofs.Kit.{refl}
 use Rattle.image.specs.Answers.{noEntries}
 use Rattle.image.proofs.no_entries.Statement.{statement}

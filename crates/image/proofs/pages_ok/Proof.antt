@@ -1,3 +1,4 @@
+-- `image::pages_ok` meets its contract, which is that of `test_rows`, with four columns of 1,024 zeros.
 use Rattle.basics.proofs.Kit.{refl}
 use Rattle.image.proofs.pages_ok.Statement.{statement}
 use Rattle.image.proofs.pages_ok.Tie as tie

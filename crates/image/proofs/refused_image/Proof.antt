@@ -1,3 +1,4 @@
+-- `image::refused_image` meets its contract: the entries are those of `no_entries`.
 use Rattle.basics.proofs.Kit.{needs}
 use Rattle.image.specs.Answers.{noHeader, imageAnswer}
 use Rattle.image.proofs.refused_image.Statement.{statement}

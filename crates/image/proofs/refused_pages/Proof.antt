@@ -1,3 +1,4 @@
+-- `image::refused_pages` meets its contract: the entries are those of `no_entries`.
 use Rattle.basics.proofs.Kit.{needs}
 use Rattle.image.specs.Answers.{pagesAnswer}
 use Rattle.image.proofs.refused_pages.Statement.{statement}

@@ -1,3 +1,4 @@
+-- `image::test_header` meets its contract: a wrong length is refused with 1, otherwise block 0 decides (`by-block`).
 use Rattle.basics.proofs.Kit.{sym, ap, _∙_, _/_, length, needs}
 use Rattle.image.proofs.Staged.{not-whole, too-few, too-many, by-block, header-yes, header-no, no-header}
 use Rattle.image.specs.Answers.{headerAnswer}

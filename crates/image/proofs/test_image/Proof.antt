@@ -1,3 +1,4 @@
+-- `image::test_image` meets its contract: the lemmas of Staged join the answers of `test_header` and `test_pages`.
 use Rattle.basics.proofs.Kit.{sym, _∙_, needs}
 use Rattle.image.proofs.Staged.{passed-is, image-refused, image-stopped, image-holds}
 use Rattle.image.proofs.test_image.Statement.{statement}

@@ -1,3 +1,4 @@
+-- `image::test_pages` meets its contract: a lemma of Staged for each return; `begun` has what is known of a header that passed.
 use Rattle.basics.proofs.Kit.{sym, ap, _∙_, length-take, not-true, not-false, needs, arith}
 use Rattle.image.proofs.Staged.{Begun, passing, four, within-none, named, not-read, got, not-ok, in-image, wrong-pages, right-pages}
 use Rattle.image.specs.Answers.{pagesAnswer}

@@ -1,3 +1,4 @@
+-- `image::test_rows` meets its contract. The invariant: the columns have the rows of the first i pages, without payloads, and their delete marks are right.
 use Rattle.basics.proofs.Kit.{_≡_, refl, _∙_, _-_, length, getD, arith}
 use Rattle.image.proofs.Collect.{Collecting, within, Goods, goods, page-here, tuples-here, collecting-start, collecting-turn, collecting-end, collecting-bad}
 use Rattle.image.specs.View.{view}

@@ -1,3 +1,4 @@
+-- `image_header::all_zero` meets its contract. The invariant: all numbers are 0 exactly if all from index i on are.
 use Rattle.basics.proofs.Kit.{_≡_, refl, sym, _∙_, _-_, length, drop, eq-eqb, ne-eqb, arith}
 use Rattle.image_rows.proofs.Iterations.{drop-turn, drop-end, all-yes, all-not, all-end}
 use Rattle.image_header.specs.Names.{isZero}

@@ -1,3 +1,4 @@
+-- `image_header::block_ok` meets its contract, for a number above 0 and for 0.
 use Rattle.basics.proofs.Kit.{lt-ltb, le-ltb}
 use Rattle.image_header.specs.Names.{blockOk}
 use Rattle.image_header.proofs.block_ok.Statement.{statement}

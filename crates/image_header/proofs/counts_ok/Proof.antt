@@ -1,3 +1,4 @@
+-- `image_header::counts_ok` meets its contract: each early return is for a test that fails; at the last one all others passed.
 use Rattle.basics.proofs.Kit.{le-leb, lt-leb, eq-eqb, ne-eqb, needs}
 use Rattle.basics.proofs.Ands.{and-yes, and-no}
 use Rattle.image_header.specs.Names.{countsOk}

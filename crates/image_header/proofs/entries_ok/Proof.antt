@@ -1,3 +1,4 @@
+-- `image_header::entries_ok` meets its contract, by the contracts of `in_blocks`, `apart` and `distinct`.
 use Rattle.basics.proofs.Kit.{sym, _∙_, not-true, not-false, needs}
 use Rattle.basics.proofs.Ands.{and-yes, and-no}
 use Rattle.image_header.specs.Names.{entriesOk}

@@ -1,3 +1,4 @@
+-- `image_header::head_ok` meets its contract: `header-tests` splits the definition into the counts and three tests of the directory numbers.
 use Rattle.basics.proofs.Kit.{sym, _∙_, length-take, not-true, not-false, needs, arith}
 use Rattle.image_header.proofs.Heads.{four-used, header-tests, used, unused}
 use Rattle.basics.proofs.Ands.{and-no}

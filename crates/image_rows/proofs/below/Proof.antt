@@ -1,3 +1,4 @@
+-- `image_rows::below` meets its contract. The invariant: every number is below next exactly if every one from row i on is.
 use Rattle.basics.proofs.Kit.{_≡_, sym, ap, _∙_, [], _-_, lt-ltb, le-ltb, arith}
 use Rattle.image_rows.proofs.Iterations.{tab-turn, tab-end, tab-whole, all-yes, all-not, all-end}
 use Rattle.image_rows.specs.Columns.{coded, rowAt, rowsIn, tab}

@@ -1,3 +1,4 @@
+-- `image_rows::columns_ok` meets its contract: `columns-tests` splits the definition into the tests of the code; `starts` is the count of transactions.
 use Rattle.image_rows.proofs.Counts.{starts-transactions}
 use Rattle.image_rows.proofs.Order.{statements-ordered}
 use Rattle.image_rows.proofs.Kept.{columns-tests}

@@ -1,3 +1,4 @@
+-- `image_rows::distinct` meets its contract: the numbers are distinct exactly if each key is there once (`keys-distinct`), which `link_all` answers.
 use Rattle.image_rows.proofs.Chains.{empty-table}
 use Rattle.image_rows.proofs.Keys.{keys-distinct}
 use Rattle.basics.proofs.Kit.{_∙_, needs, arith}

@@ -1,3 +1,4 @@
+-- `image_rows::find` meets its contract. The invariant: the chain ending at row j - 1 is that of the bucket of x, and the search below row j has the answer.
 use Rattle.image_rows.proofs.Chains.{next-less, next-chain, found-here, chain-on}
 use Rattle.image_rows.specs.Chains.{Chain, lastBy}
 use Rattle.basics.proofs.Kit.{_≡_, refl, sym, _∙_, _-_, eqb, arith}

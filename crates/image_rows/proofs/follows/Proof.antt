@@ -1,3 +1,4 @@
+-- `image_rows::follows` meets its contract, by cases: the place rises, falls or stays; where it stays, by numbers and owners.
 use Rattle.basics.proofs.Kit.{sym, _∙_, lt-ltb, le-ltb, eq-eqb, ne-eqb, needs, arith}
 use Rattle.image_rows.proofs.Places.{follows-rising, follows-falling, follows-there, after-committed}
 use Rattle.image_rows.specs.Columns.{codedOwner}

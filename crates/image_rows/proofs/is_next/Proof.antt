@@ -1,3 +1,4 @@
+-- `image_rows::is_next` meets its contract: `found` says that `find` answers 1 + the last row of the statement before, 0 for none.
 use Rattle.basics.proofs.Kit.{_≡_, _-_, eqb, getD, needs, arith}
 use Rattle.image_rows.specs.Chains.{lastBy}
 use Rattle.image_rows.proofs.Chains.{last-le, table-chain, table-finds, next-first, next-none, next-found}

@@ -1,3 +1,4 @@
+-- `image_rows::is_start` meets its contract, for code 0 and for every other code.
 use Rattle.image_rows.specs.Chains.{isStart}
 use Rattle.basics.proofs.Kit.{eq-eqb, ne-eqb, needs}
 use Rattle.image_rows.proofs.is_start.Statement.{statement}

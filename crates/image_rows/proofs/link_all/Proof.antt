@@ -1,3 +1,4 @@
+-- `image_rows::link_all` meets its contract. The invariant: the table is that of the first i rows, and the answer is whether each key from row i on is new.
 use Rattle.basics.proofs.Kit.{_≡_, refl, _-_, length, length-set, arith}
 use Rattle.basics.proofs.Facts.{lie}
 use Rattle.image_rows.proofs.Chains.{table-chain, Linking, linking-start, linking-end, linking-stop, linking-turn}

@@ -1,3 +1,4 @@
+-- `image_rows::starts` meets its contract. The invariant: the answer is k plus the count from row i on.
 use Rattle.image_rows.proofs.Iterations.{tab-turn, tab-end, tab-whole, count-yes, count-not, count-end}
 use Rattle.basics.specs.Basics.{howMany}
 use Rattle.image_rows.specs.Chains.{isStart, starts}

@@ -1,3 +1,4 @@
+-- `image_rows::statements` meets its contract: where numbers are distinct the two tests are those of the definition (`statements-tests`).
 use Rattle.image_rows.proofs.Order.{statements-tests}
 use Rattle.image_rows.proofs.Chains.{empty-table}
 use Rattle.basics.proofs.Kit.{sym, _∙_, not-true, not-false, needs, arith}

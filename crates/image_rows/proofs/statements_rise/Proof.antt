@@ -1,3 +1,4 @@
+-- `image_rows::statements_rise` meets its contract. The invariant: the answer is whether `isNext` holds of every row from row i on.
 use Rattle.image_rows.proofs.Iterations.{tab-turn, tab-end, tab-whole, all-yes, all-not, all-end}
 use Rattle.image_rows.specs.Chains.{isNext, statementsRise}
 use Rattle.image_rows.specs.Columns.{tab}

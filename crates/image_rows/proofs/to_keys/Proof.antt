@@ -1,3 +1,4 @@
+-- `image_rows::to_keys` meets its contract. The invariant: each of the first i keys is its number plus 1.
 use Rattle.image_rows.proofs.Keys.{one-key}
 use Rattle.basics.proofs.Kit.{_≡_, refl, ℕ, _+_, _≤_, _<_, _-_, length, getD, length-set, arith}
 use Rattle.image_rows.proofs.to_keys.Statement.{statement}

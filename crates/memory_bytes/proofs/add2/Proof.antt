@@ -1,3 +1,4 @@
+-- `memory_bytes::add2` meets its contract, which is that of `add_each2` with the number that `step2` gives.
 use Rattle.memory_bytes.proofs.Moves.{add-end}
 use Rattle.basics.proofs.Kit.{refl, needs}
 use Rattle.memory_bytes.proofs.add2.Statement.{statement}

@@ -1,3 +1,4 @@
+-- `memory_bytes::add_each2` meets its contract. The invariant: the numbers from s up to j are d more, modulo 65,536, and no other byte differs.
 use Rattle.memory_bytes.proofs.Moves.{add-start, add-turn, add-end}
 use Rattle.memory_bytes.specs.Bytes.{Added}
 use Rattle.basics.proofs.Kit.{refl, _≤_, _-_, needs, arith}

@@ -1,3 +1,4 @@
+-- `memory_bytes::clear` meets its contract. The invariant: the first j of the n bytes are zero, and no other byte differs.
 use Rattle.memory_bytes.proofs.Moves.{Writing, write-start, write-turn, write-end}
 use Rattle.basics.proofs.Kit.{sym, ℕ, _≤_, _-_, length-replicate, replicate, getD-replicate, arith}
 use Rattle.memory_bytes.proofs.clear.Statement.{statement}

@@ -1,3 +1,4 @@
+-- `memory_bytes::copy_out` meets its contract. The invariant: the first j bytes of out are those of m from a on, and all others are as at entry.
 use Rattle.memory_bytes.proofs.Moves.{Writing, write-start, write-front, write-end}
 use Rattle.memory_bytes.proofs.Bytes.{length-bytes, getD-bytes, front-wrote}
 use Rattle.memory_bytes.specs.Bytes.{bytes}

@@ -1,3 +1,4 @@
+-- `memory_bytes::down2` meets its contract. The invariant: the bytes from lo up to k are those two further up at entry, and all others are as at entry.
 use Rattle.memory_bytes.proofs.Moves.{Lowering, lower-start, lower-turn, lower-end}
 use Rattle.basics.proofs.Kit.{_≤_, _-_, arith}
 use Rattle.memory_bytes.proofs.down2.Statement.{statement}

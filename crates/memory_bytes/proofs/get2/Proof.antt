@@ -1,3 +1,4 @@
+-- `memory_bytes::get2` meets its contract, by the definition of `le2` and the contract of `join2`.
 use Rattle.memory_bytes.specs.Bytes.{le2}
 use Rattle.basics.proofs.Kit.{needs}
 use Rattle.memory_bytes.proofs.get2.Statement.{statement}

@@ -1,3 +1,4 @@
+-- `memory_bytes::names16` meets its contract. The invariant: the answer is whether one of the numbers from i on is s modulo 1,024.
 use Rattle.memory_bytes.proofs.Scans.{any-start, any-hit, any-pass, any-group2}
 use Rattle.memory_bytes.specs.Columns.{tab, names}
 use Rattle.memory_bytes.specs.Bytes.{column2}

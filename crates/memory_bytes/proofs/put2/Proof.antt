@@ -1,3 +1,4 @@
+-- `memory_bytes::put2` meets its contract: the two bytes are written one after the other (`wrote2`).
 use Rattle.memory_bytes.proofs.Moves.{wrote2}
 use Rattle.basics.proofs.Kit.{length-set, needs, arith}
 use Rattle.memory_bytes.proofs.put2.Statement.{statement}

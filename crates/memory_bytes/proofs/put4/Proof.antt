@@ -1,3 +1,4 @@
+-- `memory_bytes::put4` meets its contract: the four bytes are written one after the other (`wrote4`).
 use Rattle.memory_bytes.proofs.Moves.{wrote4}
 use Rattle.basics.proofs.Kit.{length-set, needs, arith}
 use Rattle.memory_bytes.proofs.put4.Statement.{statement}

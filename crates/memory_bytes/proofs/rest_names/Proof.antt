@@ -1,3 +1,4 @@
+-- `memory_bytes::rest_names` meets its contract. The invariant: the answer is hit, or whether one of the numbers from j on is s modulo 1,024.
 use Rattle.memory_bytes.proofs.Scans.{any-turn, any-end}
 use Rattle.memory_bytes.specs.Columns.{tab, names}
 use Rattle.memory_bytes.specs.Bytes.{column2}

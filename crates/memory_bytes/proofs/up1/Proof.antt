@@ -1,3 +1,4 @@
+-- `memory_bytes::up1` meets its contract. The invariant: the bytes from k up to hi are one further up; those below k + 1 and from hi + 1 on are as at entry.
 use Rattle.memory_bytes.proofs.Moves.{Raising, raise-start, raise-turn, raise-end}
 use Rattle.basics.proofs.Kit.{_≤_, arith}
 use Rattle.memory_bytes.proofs.up1.Statement.{statement}

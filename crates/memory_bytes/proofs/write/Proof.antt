@@ -1,3 +1,4 @@
+-- `memory_bytes::write` meets its contract. The invariant: the first j bytes of src are written from a on, and no other byte differs.
 use Rattle.memory_bytes.proofs.Moves.{Writing, write-start, write-turn, write-end}
 use Rattle.basics.proofs.Kit.{refl, _≤_, _-_, length, arith}
 use Rattle.memory_bytes.proofs.write.Statement.{statement}

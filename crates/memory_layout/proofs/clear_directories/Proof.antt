@@ -1,3 +1,4 @@
+-- `memory_layout::clear_directories` meets its contract: a list whose count is 0 is empty (`directories-clear`).
 use Rattle.memory_layout.proofs.HeadLists.{directories-clear}
 use Rattle.basics.proofs.Kit.{needs}
 use Rattle.memory_layout.proofs.clear_directories.Statement.{statement}

@@ -1,3 +1,4 @@
+-- `memory_layout::clear_named` meets its contract: a list whose count is 0 is empty (`named-clear`).
 use Rattle.memory_layout.proofs.HeadLists.{named-clear}
 use Rattle.basics.proofs.Kit.{needs}
 use Rattle.memory_layout.proofs.clear_named.Statement.{statement}

@@ -1,3 +1,4 @@
+-- `memory_layout::clear_used` meets its contract: where all bits are 0 no block is in use (`clear-becomes`).
 use Rattle.memory_layout.proofs.Marks.{clear-becomes}
 use Rattle.basics.proofs.Kit.{needs}
 use Rattle.memory_layout.proofs.clear_used.Statement.{statement}

@@ -1,3 +1,4 @@
+-- `memory_layout::fresh` meets its contract: `blanked` says what the six writes leave, and `blank-becomes` and `blank-in` that this is the empty store.
 use Rattle.basics.proofs.Kit.{_∙_, needs}
 use Rattle.memory_layout.specs.Store.{freshFlat}
 use Rattle.memory_layout.specs.Flat.{Becomes}

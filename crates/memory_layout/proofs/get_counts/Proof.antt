@@ -1,3 +1,4 @@
+-- `memory_layout::get_counts` meets its contract: each number is read from its own bytes.
 use Rattle.memory_layout.specs.Views.{countsOf}
 use Rattle.basics.proofs.Kit.{needs}
 use Rattle.memory_layout.proofs.get_counts.Statement.{statement}

@@ -1,3 +1,4 @@
+-- `memory_layout::get_directory` meets its contract, by `directory-at` from the four bytes that are read.
 use Rattle.basics.proofs.Kit.{arith}
 use Rattle.memory_layout.proofs.Laws.{known}
 use Rattle.memory_layout.proofs.HeadLists.{directory-at}

@@ -1,3 +1,4 @@
+-- `memory_layout::get_head` meets its contract: each number is read from its own four bytes.
 use Rattle.basics.proofs.Kit.{not, eqb, needs}
 use Rattle.memory_layout.specs.Views.{headOf}
 use Rattle.memory_layout.proofs.get_head.Statement.{statement}

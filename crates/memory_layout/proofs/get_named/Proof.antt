@@ -1,3 +1,4 @@
+-- `memory_layout::get_named` meets its contract, by `named-at` from the two bytes at the place that `named_place` answers.
 use Rattle.basics.proofs.Kit.{ap, _∙_, arith}
 use Rattle.memory_bytes.specs.Bytes.{le2}
 use Rattle.memory_layout.specs.Views.{headOf}

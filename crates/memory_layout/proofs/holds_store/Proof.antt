@@ -1,3 +1,4 @@
+-- `memory_layout::holds_store` meets its contract: a lemma of Refusal for each test that fails, and `last-test` for the last return.
 use Rattle.basics.proofs.Kit.{sym, _∙_, not-true, not-false, needs, arith}
 use Rattle.memory_layout.proofs.Refusal.{too-short, unsigned, out-of-range, tables-fall, last-test, starts-at}
 use Rattle.memory_layout.proofs.holds_store.Statement.{statement}

@@ -1,3 +1,4 @@
+-- `memory_layout::is_used` meets its contract: the block is below 4,096, so that its bit alone decides.
 use Rattle.basics.proofs.Kit.{lt-ltb, needs}
 use Rattle.memory_layout.specs.Views.{isUsed}
 use Rattle.memory_layout.proofs.is_used.Statement.{statement}

@@ -1,3 +1,4 @@
+-- `memory_layout::mark_used` meets its contract: the bit of block b is set, and no other bit changes (`mark-becomes`).
 use Rattle.memory_layout.proofs.Marks.{mark-becomes}
 use Rattle.basics.proofs.Kit.{needs}
 use Rattle.memory_layout.proofs.mark_used.Statement.{statement}

@@ -1,3 +1,4 @@
+-- `memory_layout::name_slots` meets its contract. The invariant: only the bytes of the first i slot numbers may differ from those at entry.
 use Rattle.basics.proofs.Kit.{_+_, _*_, _≤_, _-_, arith}
 use Rattle.memory_bytes.specs.Bytes.{Apart}
 use Rattle.memory_layout.proofs.Blank.{names-start, names-turn}

@@ -1,3 +1,4 @@
+-- `memory_layout::named_place` meets its contract, by arithmetic from the capacity that `get4` answers.
 use Rattle.basics.proofs.Kit.{needs, arith}
 use Rattle.memory_layout.specs.Views.{headOf}
 use Rattle.memory_layout.proofs.named_place.Statement.{statement}

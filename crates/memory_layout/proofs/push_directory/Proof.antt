@@ -1,3 +1,4 @@
+-- `memory_layout::push_directory` meets its contract: the number is written behind the list, then the count (`directory-push`).
 use Rattle.basics.proofs.Kit.{needs, arith}
 use Rattle.memory_layout.proofs.Laws.{known}
 use Rattle.memory_layout.proofs.HeadLists.{directory-push}

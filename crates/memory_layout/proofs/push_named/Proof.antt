@@ -1,3 +1,4 @@
+-- `memory_layout::push_named` meets its contract: the number is written behind the list, then the count (`named-push`).
 use Rattle.basics.proofs.Kit.{needs, arith}
 use Rattle.memory_layout.specs.Views.{headOf}
 use Rattle.memory_layout.proofs.Laws.{known}

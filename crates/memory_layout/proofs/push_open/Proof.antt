@@ -1,3 +1,4 @@
+-- `memory_layout::push_open` meets its contract: the entry is written behind the list, then the count (`open-push`).
 use Rattle.basics.proofs.Kit.{needs, arith}
 use Rattle.memory_layout.proofs.Laws.{known}
 use Rattle.memory_layout.proofs.HeadLists.{open-push}

@@ -1,3 +1,4 @@
+-- `memory_layout::put_head` meets its contract: seven numbers are written one after the other, and no other byte (`head-put`).
 use Rattle.memory_layout.proofs.HeadLists.{head-put}
 use Rattle.basics.proofs.Kit.{needs, arith}
 use Rattle.memory_layout.proofs.put_head.Statement.{statement}

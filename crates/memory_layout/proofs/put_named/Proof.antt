@@ -1,3 +1,4 @@
+-- `memory_layout::put_named` meets its contract: the two bytes of entry i are written, at the place that `named_place` answers (`named-set`).
 use Rattle.basics.proofs.Kit.{needs, arith}
 use Rattle.memory_layout.specs.Views.{headOf}
 use Rattle.memory_layout.proofs.Laws.{known}

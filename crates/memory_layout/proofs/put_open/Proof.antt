@@ -1,3 +1,4 @@
+-- `memory_layout::put_open` meets its contract: the four bytes of entry i are written (`open-set`).
 use Rattle.basics.proofs.Kit.{needs, arith}
 use Rattle.memory_layout.proofs.Laws.{known}
 use Rattle.memory_layout.proofs.HeadLists.{open-set}

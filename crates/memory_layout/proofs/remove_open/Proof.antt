@@ -1,3 +1,4 @@
+-- `memory_layout::remove_open` meets its contract: the entries behind entry i go down by one, then the count is written (`open-remove`).
 use Rattle.basics.proofs.Kit.{needs, arith}
 use Rattle.memory_layout.proofs.Laws.{known}
 use Rattle.memory_layout.proofs.HeadLists.{open-remove}

@@ -1,3 +1,4 @@
+-- `memory_layout::with_bit` meets its contract: 1 shifted by k is 2 ^ k, which is a byte since k is below 8.
 use Rattle.basics.proofs.Kit.{_≡_, ap, _∙_, ℕ, _*_, _%_, _^_, mod-eq-of-lt, one-mul, pow-lt, bitOr, needs}
 use Rattle.memory_layout.proofs.with_bit.Statement.{statement}
 use Rattle.memory_layout.proofs.with_bit.Tie as tie

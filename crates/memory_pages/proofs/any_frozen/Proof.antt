@@ -1,3 +1,4 @@
+-- `memory_pages::any_frozen` meets its contract. The invariant: the answer is hit, or whether one of the numbers from j on is that of a frozen page.
 use Rattle.basics.proofs.Kit.{_≡_, refl, _||_, _≤_, _-_, arith}
 use Rattle.memory_pages.specs.Pages.{frozenWord}
 use Rattle.basics.specs.Basics.{any}

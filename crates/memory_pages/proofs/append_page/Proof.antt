@@ -1,3 +1,4 @@
+-- `memory_pages::append_page` meets its contract: an empty page is opened, then its block is written (`page-appended`); the slots stay in order (`page-order`).
 use Rattle.basics.proofs.Kit.{_≡_, sym, _∙_, _*_, _<_, needs, arith}
 use Rattle.memory_layout.proofs.Laws.{entries-length}
 use Rattle.memory_layout.specs.Views.{pageCount, startAt}

@@ -1,3 +1,4 @@
+-- `memory_pages::append_row` meets its contract: `row-inserted` for the last page, behind which there is no page to start later.
 use Rattle.basics.proofs.Kit.{refl, [], _∷_, length-append, needs, arith}
 use Rattle.memory_layout.proofs.Laws.{entries-length, rows-length}
 use Rattle.memory_rows.specs.Rows.{heldBy}

@@ -1,3 +1,4 @@
+-- `memory_pages::block_at` meets its contract: the page's word modulo 4,096 is its block (`entry-block`).
 use Rattle.basics.proofs.Kit.{sym, ap, _∙_, ℕ, _%_, needs, arith}
 use Rattle.memory_layout.proofs.Laws.{entries-length}
 use Rattle.memory_pages.proofs.Ranges.{entry-block}

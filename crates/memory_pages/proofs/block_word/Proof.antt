@@ -1,3 +1,4 @@
+-- `memory_pages::block_word` meets its contract: the word is read at its place in the column that `blocks` answers.
 use Rattle.memory_bytes.specs.Bytes.{le2}
 use Rattle.memory_layout.proofs.Laws.{entries-length}
 use Rattle.basics.proofs.Kit.{ap, _∙_, ℕ, _+_, _*_, needs, arith}

@@ -1,3 +1,4 @@
+-- `memory_pages::close_page` meets its contract: `closed` joins what the two columns lose and the change of the tables' ends.
 use Rattle.basics.proofs.Kit.{needs, arith}
 use Rattle.memory_pages.proofs.Columns.{closed}
 use Rattle.memory_pages.proofs.Ranges.{ranges}

@@ -1,3 +1,4 @@
+-- `memory_pages::first_frozen` meets its contract. The invariant, which `pass_groups` gives: the search from page p on has the answer of the whole search.
 use Rattle.basics.proofs.Kit.{_∙_, _-_, eq-eqb, ne-eqb, arith}
 use Rattle.memory_pages.proofs.Frozen.{frozen-entries, blocks-inside}
 use Rattle.memory_pages.specs.Pages.{frozenWord, Passed}

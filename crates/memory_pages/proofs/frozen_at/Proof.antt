@@ -1,3 +1,4 @@
+-- `memory_pages::frozen_at` meets its contract: the page's word says whether it is frozen (`entry-frozen`).
 use Rattle.basics.proofs.Kit.{sym, ap, _∙_, ℕ, _%_, _/_, eqb, needs, arith}
 use Rattle.memory_layout.proofs.Laws.{entries-length}
 use Rattle.memory_pages.proofs.Ranges.{entry-frozen}

@@ -1,3 +1,4 @@
+-- `memory_pages::insert2` meets its contract: the numbers from i on go up by one place, then x is written (`inserted2`).
 use Rattle.basics.proofs.Kit.{needs, arith}
 use Rattle.memory_pages.proofs.Columns.{inserted2}
 use Rattle.memory_pages.proofs.insert2.Statement.{statement}

@@ -1,3 +1,4 @@
+-- `memory_pages::insert_page` meets its contract: the new page starts where page p did, so that it has no row (`page-inserted`).
 use Rattle.basics.proofs.Kit.{needs, arith}
 use Rattle.memory_layout.proofs.Laws.{entries-length}
 use Rattle.memory_pages.proofs.Changes.{page-inserted}

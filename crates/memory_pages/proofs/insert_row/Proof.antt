@@ -1,3 +1,4 @@
+-- `memory_pages::insert_row` meets its contract: the row is put in, then the pages behind page p start one row later (`row-inserted`).
 use Rattle.basics.proofs.Kit.{needs, arith}
 use Rattle.memory_rows.specs.Rows.{heldBy}
 use Rattle.memory_layout.specs.Flat.{flatOf}

@@ -1,3 +1,4 @@
+-- `memory_pages::join_pages` meets its contract: page p leaves its block, then page p + 1 is closed (`join-done`).
 use Rattle.basics.proofs.Kit.{needs, arith}
 use Rattle.memory_pages.proofs.Ranges.{ranges}
 use Rattle.memory_layout.proofs.Laws.{entries-length}

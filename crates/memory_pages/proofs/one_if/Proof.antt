@@ -1,3 +1,4 @@
+-- `memory_pages::one_if` meets its contract, for true and for false.
 use Rattle.basics.proofs.Kit.{_≡_, refl, Bool, true, false, cond, needs}
 use mir.Val.{boolByte}
 use Rattle.memory_pages.proofs.one_if.Statement.{statement}

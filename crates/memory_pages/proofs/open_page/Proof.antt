@@ -1,3 +1,4 @@
+-- `memory_pages::open_page` meets its contract: `opened` joins what is put into the two columns and the change of the tables' ends.
 use Rattle.basics.proofs.Kit.{needs, arith}
 use Rattle.memory_pages.proofs.Columns.{opened}
 use Rattle.memory_pages.proofs.Ranges.{ranges}

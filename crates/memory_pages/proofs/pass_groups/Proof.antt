@@ -1,3 +1,4 @@
+-- `memory_pages::pass_groups` meets its contract. The invariant: a search for a frozen page may start at page p.
 use Rattle.basics.proofs.Kit.{_-_, arith}
 use Rattle.memory_pages.specs.Pages.{frozenWord, Passed}
 use Rattle.memory_bytes.specs.Bytes.{column2}

@@ -1,3 +1,4 @@
+-- `memory_pages::remove2` meets its contract: the numbers behind number i go down by one place (`removed2`).
 use Rattle.memory_pages.proofs.Columns.{removed2}
 use Rattle.basics.proofs.Kit.{needs}
 use Rattle.memory_pages.proofs.remove2.Statement.{statement}

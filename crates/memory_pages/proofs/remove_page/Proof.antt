@@ -1,3 +1,4 @@
+-- `memory_pages::remove_page` meets its contract: `close_page` moves no row to the page before, since page p has none (`page-removed`).
 use Rattle.basics.proofs.Kit.{_≡_, sym, _∙_, subst, ℕ, _<_, needs, arith}
 use Rattle.memory_layout.proofs.Laws.{entries-length}
 use Rattle.memory_layout.specs.Views.{pageCount, tableAt}

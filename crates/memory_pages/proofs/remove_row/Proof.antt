@@ -1,3 +1,4 @@
+-- `memory_pages::remove_row` meets its contract: the row is taken out, then the pages behind page p start one row earlier (`row-removed`).
 use Rattle.basics.proofs.Kit.{needs, arith}
 use Rattle.memory_layout.specs.Flat.{flatOf}
 use Rattle.memory_layout.proofs.Laws.{entries-length, rows-length}

@@ -1,3 +1,4 @@
+-- `memory_pages::set_page` meets its contract: the page's word is written, and no other byte (`block-set`).
 use Rattle.basics.proofs.Kit.{needs, arith}
 use Rattle.memory_layout.proofs.Laws.{entries-length}
 use Rattle.memory_pages.proofs.Changes.{block-set}

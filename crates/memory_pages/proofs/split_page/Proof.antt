@@ -1,3 +1,4 @@
+-- `memory_pages::split_page` meets its contract: page p leaves its block, then a page that starts k rows behind its start is opened (`split-done`).
 use Rattle.basics.proofs.Kit.{suc, needs, arith}
 use Rattle.memory_layout.proofs.Laws.{entries-length}
 use Rattle.memory_pages.proofs.Halves.{split-may, split-done}

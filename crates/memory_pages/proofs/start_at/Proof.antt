@@ -1,3 +1,4 @@
+-- `memory_pages::start_at` meets its contract: a page's start is stored (`start-stored`); behind the last page it is the number of rows (`start-behind`).
 use Rattle.memory_layout.specs.Flat.{capacityOf}
 use Rattle.memory_bytes.specs.Bytes.{le2}
 use Rattle.basics.proofs.Kit.{sym, ap, _∙_, ℕ, _+_, _*_, needs, arith}

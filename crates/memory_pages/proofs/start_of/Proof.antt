@@ -1,3 +1,4 @@
+-- `memory_pages::start_of` meets its contract: the start that is stored is how many rows the pages before have (`starts`).
 use Rattle.memory_layout.proofs.Laws.{starts, entries-length, rows-length}
 use Rattle.basics.proofs.Kit.{_∙_, needs, arith}
 use Rattle.memory_pages.proofs.Ranges.{start-most}

@@ -1,3 +1,4 @@
+-- `memory_pages::table_of` meets its contract: a page's table is how many of the first seven tables end at or before it (`table-counted`).
 use Rattle.memory_layout.specs.Views.{tableAt}
 use Rattle.memory_layout.proofs.Laws.{entries-length}
 use Rattle.basics.proofs.Kit.{_≡_, sym, _∙_, needs, arith}

@@ -1,3 +1,4 @@
+-- `memory_pages::table_start` meets its contract: table 0 starts at page 0, and table t where table t - 1 ends (`from-end`).
 use Rattle.basics.proofs.Kit.{_≡_, subst, ℕ, _+_, _-_, needs, arith}
 use Rattle.memory_layout.specs.Flat.{flatOf}
 use Rattle.memory_pages.specs.Pages.{TableFrom}

@@ -1,3 +1,4 @@
+-- `memory_pages::word` meets its contract, for a frozen page and for one that is not.
 use Rattle.basics.proofs.Kit.{sym, ap, _∙_, Bool, cond, _+_, add-zero, needs}
 use Rattle.memory_pages.specs.Pages.{wordOf}
 use Rattle.memory_pages.proofs.word.Statement.{statement}

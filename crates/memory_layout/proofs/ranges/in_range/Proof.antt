@@ -1,3 +1,4 @@
+-- `memory_layout::in_range` meets its contract: `joined` turns the eleven tests into the definition's list of tests.
 use Rattle.basics.proofs.Kit.{_+_, _*_, leb, ltb, needs}
 use Rattle.memory_layout.specs.declared.Head.{Head}
 use Rattle.memory_layout.specs.declared.Counts.{Counts}

@@ -1,3 +1,4 @@
+-- `memory_layout::starts_rise` meets its contract, by its returns: no page, an empty last page, a first page that does not start at row 0, else `rising2`.
 use Rattle.basics.proofs.Kit.{sym, needs, arith}
 use Rattle.memory_layout.proofs.Refusal.{no-pages, last-empty, first-moved, all-rise}
 use Rattle.memory_layout.proofs.ranges.starts_rise.Statement.{statement}

@@ -1,3 +1,4 @@
+-- `memory_layout::tables_rise` meets its contract. The invariant: the answer is whether rise is true and no table from t on ends above the next one.
 use Rattle.basics.proofs.Kit.{_≡_, refl, sym, ap, _∙_, Bool, _&&_, _≤_, _-_, arith}
 use Rattle.basics.proofs.Ands.{and-yes}
 use Rattle.basics.specs.Basics.{all, from}
