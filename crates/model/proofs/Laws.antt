@@ -3,21 +3,22 @@ use Rattle.basics.proofs.Kit.{_≡_, refl, sym, ap, _∙_, subst, true, false, 
 use Rattle.basics.proofs.Kit.{length-map, arith}
 use Rattle.basics.specs.Basics.{if_then_else_, howMany, first, keep}
 use Rattle.basics.proofs.Facts.{by, lie, AllOf}
-use Rattle.image_rows.specs.Rows.{Row, isOwn}
+use Rattle.image_rows.specs.Rows.{isOwn}
 use Rattle.image.specs.Stages.{directoriesFor}
-use Rattle.model.specs.State.{Checkpoint, idle, running, Outcome, Store, refused, Page, count}
+use Rattle.model.specs.State.{Checkpoint, idle, running, Outcome, Store, Page, count}
 use Rattle.model.specs.Rules.{isFrozen, freeze, isDirty, thaw}
-use Rattle.model.specs.Sight.{seen, rows, versions}
-use Rattle.model.specs.Transactions.{rowOf, liveOf, unless, Test, gives, _when_, readSeen, openCall, insertCall, replaceCall, deleteCall, withTuple, commitCall, abortCall, readCall, listCall}
+use Rattle.model.specs.Sight.{rows, versions}
+use Rattle.model.specs.Transactions.{rowOf, liveOf, unless, Test, gives, _when_, withTuple}
 use Rattle.model.specs.Checkpoint.{left, leftOf, allocate, beginCall, withProgress, blocksNeeded, stepOf, storePage, storeDirectory, storeHeader, made, stepCall, stepAt, badImage, inTurn, runCall}
-use Rattle.model.specs.Calls.{accepted, call, steps, afterCalls, opens, inserts, replaces, deletes, commits, aborts, reads, lists, begins, runs}
+use Rattle.model.specs.Calls.{TransactionCall, transact, transacts, begins, steps, runs, call, accepted, afterCalls}
 use Rattle.model.specs.WellFormed.{ListOrder, EnoughBlocks, CheckpointWell, BeginAnswers, OneLess, times, writesOf, RunIsSteps, CountsLow}
 use Rattle.model.specs.Places.{RunIsKey}
-use Rattle.model.specs.Seen.{RefusedKeeps}
+use Rattle.model.specs.Seen.{RefusedKeeps, ReadsOnly}
 use Rattle.model.proofs.Lists.{Pairs, pairs-parts, all-parts, leb-true, leb-false, eqb-self, eqb-true, not-false, many-length}
 use Rattle.model.proofs.Frozen.{images-thaw, images-first, images-none}
 use Rattle.model.proofs.Alloc.{Fresh, allocate-fresh}
-use Rattle.model.proofs.Quiet.{Passed, step-frame}
+use Rattle.model.proofs.Effects.{unless-accepted, Does, refuses, answers, starts, writes, finishes, undoes, does}
+use Rattle.model.proofs.Quiet.{step-frame}
 use Rattle.model.proofs.Books.{length-fill}
 use Rattle.model.proofs.Rows.{sub-length}
 use Rattle.model.proofs.Placing.{Before}
@@ -44,15 +45,6 @@ enough-blocks s w h = go (s .checkpoint) (w .checkpoint) h
         (f .free, f .pos, f .low)
 
 -- ---- how many stores are left
-
--- a property of the outcome of an accepted call: its tests passed
-pub unless-accepted : (P : Outcome → Type 0) (ts : List Test) (s : Store) (o : Outcome) → (Passed ts → accepted (o .answer) ≡ true → P o)
-    → accepted (unless ts s o .answer) ≡ true → P (unless ts s o)
-unfolding unless if_then_else_ gives accepted
-unless-accepted P [] s o f h = f tt h
-unless-accepted P ((n when b) ∷ ts) s o f h =
-    by b (λ k. lie (rw k at h))
-    (λ k. subst (λ z. P (if z then gives (refused n) s else unless ts s o)) (sym k) (unless-accepted P ts s o (λ p. f (k, p)) (rw k at h)))
 
 frozen-dirty : (ps : List Page) → howMany isFrozen (map freeze ps) ≡ howMany isDirty ps
 unfolding howMany isFrozen freeze
@@ -147,40 +139,52 @@ run-is-steps limit len s h k e =
     Ran k o = (o .answer ≡ count k) × (o .store ≡ afterCalls (times k (steps len)) s) × (o .writes ≡ writesOf (times k (steps len)) s)
         × (length (o .writes) ≡ k) × (left s ≡ k + left (o .store))
 
--- ---- refused calls
+-- ---- refused calls, and those that only answer
 
 abbrev Kept : Store → Outcome → Type 0
 Kept s o = (o .store ≡ s) × (o .writes ≡ [])
 
+-- of a call that is not a transaction's: accepted, it may change anything
 kept-unless : (ts : List Test) (s : Store) (o : Outcome) → (accepted (o .answer) ≡ false → Kept s o) → accepted (unless ts s o .answer) ≡ false
     → Kept s (unless ts s o)
 unfolding unless if_then_else_ gives
 kept-unless [] s o f h = f h
 kept-unless ((n when b) ∷ ts) s o f h = by b (λ k. rw k (refl, refl)) (λ k. rw k (kept-unless ts s o f (rw k at h)))
 
-kept-seen : (room : ℕ) (o : Option Row) (s : Store) → accepted (readSeen room o s .answer) ≡ false → Kept s (readSeen room o s)
-unfolding readSeen gives
-kept-seen room none s h = (refl, refl)
-kept-seen room (some r) s h = kept-unless _ s _ (λ k. (refl, refl)) h
-
 kept-step : (c : Checkpoint) (s : Store) → s .checkpoint ≡ c → accepted (stepAt c s .answer) ≡ false → Kept s (stepAt c s)
 unfolding stepAt gives accepted
 kept-step idle s e h = (refl, refl)
 kept-step (running n es ds) s e h = lie (sym h ∙ ap accepted (step-less n es ds s e (first isFrozen (s .pages)) refl .2))
 
+kept-does : (c : TransactionCall) (s : Store) (o : Outcome) → Does c s o → accepted (o .answer) ≡ false → Kept s o
+unfolding gives accepted withTuple
+kept-does c s o (refuses n) h = (refl, refl)
+kept-does c s o (answers a e i) h = (refl, refl)
+kept-does c s o (starts tx e l i f) h = lie (sym h)
+kept-does c s o (writes tx t k bs m e a) h = lie (sym h)
+kept-does c s o (finishes tx e) h = lie (sym h)
+kept-does c s o (undoes tx e) h = lie (sym h)
+
 pub refused-keeps : RefusedKeeps
-unfolding call openCall insertCall replaceCall deleteCall withTuple commitCall abortCall readCall listCall beginCall stepCall runCall gives accepted
-refused-keeps (opens tx) s h = kept-unless _ s _ (λ k. lie (sym k)) h
-refused-keeps (inserts tx t k bs) s h = kept-unless _ s _ (λ k. lie (sym k)) h
-refused-keeps (replaces tx t k bs) s h = kept-unless _ s _ (λ k. lie (sym k)) h
-refused-keeps (deletes tx t k) s h = kept-unless _ s _ (λ k. lie (sym k)) h
-refused-keeps (commits tx) s h = kept-unless _ s _ (λ k. lie (sym k)) h
-refused-keeps (aborts tx) s h = kept-unless _ s _ (λ k. lie (sym k)) h
-refused-keeps (reads tx t k room) s h = kept-unless _ s _ (kept-seen room (seen tx t k s) s) h
-refused-keeps (lists room) s h = kept-unless _ s _ (λ k. lie (sym k)) h
+unfolding call beginCall stepCall runCall gives accepted
+refused-keeps (transacts c) s h = kept-does c s (transact c s) (does c s) h
 refused-keeps begins s h = kept-unless _ s _ (λ k. lie (sym k)) h
 refused-keeps (steps len) s h = kept-unless _ s _ (kept-step (s .checkpoint) s refl) h
 refused-keeps (runs limit len) s h = kept-unless _ s _ (λ k. lie (sym k)) h
+
+pub reads-only : ReadsOnly
+reads-only c s n = go (transact c s) (does c s)
+  where
+    other : {X : Type 0} → _≡_ {A = ℕ} 0 1 → X
+    other z = absurd (omega (arith, z))
+
+    go : (o : Outcome) → Does c s o → Kept s o
+    go o (refuses n) = unfold gives in (refl, refl)
+    go o (answers a e h) = unfold gives in (refl, refl)
+    go o (starts tx e l i f) = other cc
+    go o (writes tx t k bs m e a) = other cc
+    go o (finishes tx e) = other cc
+    go o (undoes tx e) = other cc
 
 -- ---- counts
 
