@@ -1,8 +1,8 @@
 -- The blocks in use, the block last taken, and the books of a running checkpoint: an invariant of the store alone.
-use Rattle.basics.proofs.Kit.{_≡_, refl, sym, ap, _∙_, subst, ap₂, Bool, true, false, some, none, List, [], _∷_, _++_, append-nil, map, tail, ℕ, suc, _+_, _≤_, _<_, _-_, leb, eqb}
+use Rattle.basics.proofs.Kit.{_≡_, refl, sym, ap, _∙_, subst, ap₂, Bool, true, false, not, some, none, List, [], _∷_, _++_, append-nil, map, tail, ℕ, suc, _+_, _≤_, _<_, _-_, leb, eqb}
 use Rattle.basics.proofs.Kit.{ltb, length, length-append, length-map, arith}
 use Rattle.basics.specs.Basics.{isIn, any, if_then_else_, howMany, sum, distinct, first}
-use Rattle.basics.proofs.Facts.{by, AllOf, lie, by-option}
+use Rattle.basics.proofs.Facts.{by, AllOf, lie, by-option, and-true}
 use Rattle.block_forms.specs.Limits.{mostNumber}
 use Rattle.image.specs.Stages.{isZero, directoriesFor, capacityLimit}
 use Rattle.model.specs.State.{Page, Store, Checkpoint, idle, running, Held, Active}
@@ -10,7 +10,7 @@ use Rattle.model.specs.Rules.{isDirty, fresh, freeze, isFrozen}
 use Rattle.model.specs.Transactions.{changed, gives}
 use Rattle.model.specs.Checkpoint.{fill, freeCount, isFree, isRunning, beginCall, withProgress, blocksNeeded, usedToo, storePage, made, allocate, storeDirectory, storeHeader, stepAt, stepOf}
 use Rattle.model.specs.Calls.{TransactionCall, transact, Call, transacts, begins, steps, runs, call}
-use Rattle.model.proofs.Lists.{eqb-true, not-zero, pos-not-zero, in-head, in-weak, leb-false, any-many, leb-true, eqb-self, many-append, all-in, in-all, all-map, eqb-sym, all-append, all-two, in-append}
+use Rattle.model.proofs.Lists.{eqb-true, not-true, in-here, in-cons, not-zero, pos-not-zero, in-head, in-weak, leb-false, any-many, leb-true, eqb-self, many-append, all-in, in-all, all-map, eqb-sym, all-append, all-two, in-append}
 use Rattle.model.proofs.Frozen.{images, images-first, images-thaw, Content, images-none}
 use Rattle.model.proofs.Pages.{stillFrozen, all-thaw}
 use Rattle.model.proofs.Totals.{sum-thaw}
@@ -159,6 +159,16 @@ not-in-many b es h = let l = leb-false 1 (howMany (eqb b) es) (sym (any-many (eq
 in-many : (b : ℕ) (es : List ℕ) → isIn b es ≡ true → 0 < howMany (eqb b) es
 unfolding isIn
 in-many b es h = leb-true 1 (howMany (eqb b) es) (sym (any-many (eqb b) es) ∙ h)
+
+-- in a list without repeats a number stands once or not at all
+pub once-many : (x : ℕ) (xs : List ℕ) → distinct xs ≡ true → howMany (eqb x) xs ≡ (if isIn x xs then 1 else 0)
+unfolding distinct howMany if_then_else_
+once-many x [] d = unfold isIn any in refl
+once-many x (y ∷ ys) d =
+    let q = and-true (not (isIn y ys)) (distinct ys) d in
+    by (eqb x y)
+    (λ e. rw (e, in-here x y ys e) (ap suc (not-in-many x ys (ap (λ z. isIn z ys) (eqb-true x y e) ∙ not-true (isIn y ys) (q .0)))))
+    (λ e. rw (e, in-cons x y ys e) (once-many x ys (q .1)))
 
 -- a block that is named once
 pub once-distinct : (es : List ℕ) → AllOf (λ e. 0 < e) es → ((b : ℕ) → 0 < b → howMany (eqb b) es ≤ 1) → distinct es ≡ true
