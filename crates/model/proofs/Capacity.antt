@@ -18,7 +18,7 @@ use Rattle.model.proofs.Recovery.{found}
 use Rattle.model.proofs.Effects.{unless-out}
 use Rattle.model.proofs.Quiet.{call-leaves}
 
--- of a block that is withTuple
+-- of a block that is written
 abbrev Apt : ℕ → Block → Type 0
 Apt cap malformed = Unit {0}
 Apt cap (header h) = h .capacity ≡ cap

@@ -25,7 +25,7 @@ use Rattle.model.proofs.Inserted.{insertRow, place-rows, many-inserted}
 
 -- ---- the count, from the calls and their answers
 
--- c: how many tuples transaction u had withTuple before the call
+-- c: how many tuples transaction u had written before the call
 unfoldable pub wrote : ℕ → ℕ → ℕ → ℕ
 wrote u tx c = if eqb tx u then suc c else c
 

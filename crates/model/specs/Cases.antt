@@ -207,18 +207,18 @@ bothFrozen =
 
 -- what the runs above give
 pub record Traps : Type 0 where
-  -- the pages at the end are not those listed: the page that was clean at begin is listed isRecord, with the block that it had
+  -- the pages at the end are not those listed: the page that was clean at begin is listed whole, with the block that it had
   pub at-the-end : shape (afterCalls splitMeanwhile (freshStore 16 64)) ≡ (5, 265) ∷ (5, 265) ∷ (1, 13) ∷ []
   pub as-at-begin : shapeOf (recoveredAfter splitMeanwhile) ≡ (9, 477) ∷ (1, 13) ∷ []
   pub listed-blocks : places splitMeanwhile 16 ≡ 1 ∷ 2 ∷ 0 ∷ 3 ∷ 4 ∷ 0 ∷ []
-  -- a pending commit is withTuple as tentative, and takes hold when the page is thawed
+  -- a pending commit is written as tentative, and takes hold when the page is thawed
   pub written-tentative : writes commitMeanwhile (freshStore 16 64) ≡ record { at = 1; what = page 0 1 (committedLate (tentative 5 0) ∷ []) } ∷ []
   pub thawed-committed : held (afterCalls commitMeanwhile (freshStore 16 64) .pages) ≡ (0, committedLate committed) ∷ []
   -- a replaced page's block is free only when the header has landed
   pub not-reused : places (threeTimes 3072) 6 ≡ 1 ∷ 2 ∷ 3 ∷ 0 ∷ 4 ∷ 5 ∷ 0 ∷ 2 ∷ 3 ∷ 0 ∷ []
   pub no-room : answers (threeTimes 2560) (freshStore 5 64)
       ≡ done ∷ done ∷ done ∷ count 4 ∷ count 4 ∷ done ∷ refused 20 ∷ refused 18 ∷ done ∷ refused 20 ∷ refused 18 ∷ []
-  -- the search goes on after the block last recordLength, and wraps to 1
+  -- the search goes on after the block last taken, and wraps to 1
   pub wraps : places (oneAgain 2560) 5 ≡ 1 ∷ 2 ∷ 0 ∷ 3 ∷ 4 ∷ 0 ∷ 1 ∷ 2 ∷ 0 ∷ []
   -- a thawed page of 49 bytes is not joined with its frozen neighbour of 245; when that is thawed too, they are joined
   pub frozen-both : after5 bothFrozen ≡ (5, 245) ∷ (5, 245) ∷ []
@@ -258,7 +258,7 @@ pub record Refusals : Type 0 where
   pub crowded : answers (map opens (from 0 64) ++ (opens 64 ∷ opens 0 ∷ [])) (freshStore 16 2) ≡ replicate 64 done ++ (refused 9 ∷ refused 8 ∷ [])
   -- the last number is not given, and the last level is not left
   pub last-numbers : answers (opens 5 ∷ inserts 5 0 0 [] ∷ begins ∷ []) lastStore ≡ done ∷ refused 16 ∷ refused 19 ∷ []
-  -- an image of 512 bytes, of no isRecord blocks; N 0 and 1,025; memory one byte too short, and just long enough
+  -- an image of 512 bytes, of no whole blocks; N 0 and 1,025; memory one byte too short, and just long enough
   pub makes : map refusalOf (make 512 0 0 ∷ make 8191 0 0 ∷ make 8192 0 0 ∷ make 8192 0 1025 ∷ make 8192 1151 1 ∷ make 8192 1152 1 ∷ []) ≡ 1 ∷ 1 ∷ 2 ∷ 2 ∷ 3 ∷ 0 ∷ []
 
 -- ---- one run cut at every store
