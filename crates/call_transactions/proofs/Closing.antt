@@ -1,9 +1,7 @@
 -- Commit and abort: the transaction's entries are taken out, and the calls.
 use Rattle.basics.proofs.Kit.{_≡_, refl, sym, ap, _∙_, some, List, ℕ, _+_, _≤_, _<_, length, take, drop, length-append, length-drop, length-take-le, arith}
 use Rattle.model.specs.State.{Page, Active, Store, Outcome}
-use Rattle.model.specs.Sight.{held}
-use Rattle.model.specs.Places.{carryOut, closePlan, abortPlan}
-use Rattle.model.specs.Transactions.{gives, unless, changed, notOpen, without, commitCall, abortCall}
+use Rattle.model.specs.Transactions.{unless, changed, notOpen, without, committedPages, abortedPages, closing, commitCall, abortCall}
 use Rattle.memory_bytes.specs.Columns.{removeAt}
 use Rattle.memory_layout.specs.Flat.{Flat, flatOf, Room, Becomes, withOpens}
 use Rattle.memory_layout.specs.Store.{storeOf, storeIn, pagesIn, HoldsNow}
@@ -58,22 +56,11 @@ removed-count {m} {m'} i h b =
 
 -- ---- commit, abort
 
--- the pages after a commit and after an abort
-abbrev pub committedPages : ℕ → List Page → List Page
-committedPages tx ps = carryOut (length (held ps)) (closePlan tx ps) ps
-
-abbrev pub abortedPages : ℕ → List Page → List Page
-abortedPages tx ps = carryOut (length (held ps)) (abortPlan tx ps) ps
-
--- closing the transaction, with other pages
-abbrev closing : (List Page → List Page) → ℕ → Store → Outcome
-closing g tx s = gives model.done (changed s (s .next) (g (s .pages)) (without tx (s .active)))
-
-pub is-commit : (tx : ℕ) (s : Store) → commitCall tx s ≡ unless (notOpen tx s) s (closing (committedPages tx) tx s)
+pub is-commit : (tx : ℕ) (s : Store) → commitCall tx s ≡ unless (notOpen tx s) s (closing tx (committedPages tx (s .pages)) s)
 unfolding commitCall
 is-commit tx s = refl
 
-pub is-abort : (tx : ℕ) (s : Store) → abortCall tx s ≡ unless (notOpen tx s) s (closing (abortedPages tx) tx s)
+pub is-abort : (tx : ℕ) (s : Store) → abortCall tx s ≡ unless (notOpen tx s) s (closing tx (abortedPages tx (s .pages)) s)
 unfolding abortCall
 is-abort tx s = refl
 
@@ -91,9 +78,9 @@ unfolding storeOf
 pages-is f = refl
 
 module _ (m : List ℕ) (tx v : ℕ) (ev : v ≡ verdictIn (storeIn m) (notOpen tx)) (call : Store → Outcome) (g : List Page → List Page)
-    (is : (s : Store) → call s ≡ unless (notOpen tx s) s (closing g tx s)) where
+    (is : (s : Store) → call s ≡ unless (notOpen tx s) s (closing tx (g (s .pages)) s)) where
   pub close-refused : (v ≡ 0 → ⊥) → Answers call m (Refused v) m
-  close-refused nz = answers-stopped m (notOpen tx) v ev call (closing g tx) is nz
+  close-refused nz = answers-stopped m (notOpen tx) v ev call (λ s. closing tx (g (s .pages)) s) is nz
 
   pub close-done : v ≡ 0 → (m1 m2 : List ℕ) → HoldsNow m m1 (withPages (storeOf (flatOf m)) (g (pagesIn (flatOf m))))
       → Becomes m1 m2 (withOpens (flatOf m1) (without tx (flatOf m1 .opens))) → Answers call m Done m2
@@ -104,7 +91,7 @@ module _ (m : List ℕ) (tx v : ℕ) (ev : v ≡ verdictIn (storeIn m) (notOpen 
       let k = opens-hold m1 m2 _ (d .has-store) b in
       let e = closed-store (flatOf m1) tx ∙ ap (λ (x : Store). changed x (x .next) (x .pages) (without tx (x .active))) (d .means) ∙ after-with s ps tx in
       let p : g (s .pages) ≡ ps = ap g (pages-is (flatOf m)) in
-      answers-done call m m2 _ (passed-held m (notOpen tx) v ev z) (call-after m (notOpen tx) v ev call (closing g tx) is (open-numbered tx) z)
+      answers-done call m m2 _ (passed-held m (notOpen tx) v ev z) (call-after m (notOpen tx) v ev call (λ s. closing tx (g (s .pages)) s) is (open-numbered tx) z)
       (record { size = k .size ∙ u .size; store = k .store ∙ ap some (e ∙ ap (λ (x : List Page). changed s (s .next) x (without tx (s .active))) (sym p)) })
 
 -- the rows are closed: the memory holds a store

@@ -4,7 +4,7 @@ use Rattle.basics.proofs.Kit.{arith}
 use Rattle.basics.specs.Basics.{if_then_else_, any, isIn, keep}
 use Rattle.basics.proofs.Facts.{by}
 use Rattle.model.specs.State.{Active}
-use Rattle.model.specs.Transactions.{isFor, openNumbers, writtenBy, withWrite, without}
+use Rattle.model.specs.Transactions.{isFor, openNumbers, writtenBy, oneMore, withWrite, without}
 use Rattle.model.proofs.Lists.{in-here, in-cons, keep-cons, keep-past}
 use Rattle.memory_bytes.specs.Columns.{removeAt, tab}
 use Rattle.memory_bytes.proofs.Columns.{getD-tab}
@@ -13,7 +13,6 @@ use Rattle.memory_layout.specs.Flat.{flatOf, opensOf, noOpen}
 use Rattle.memory_layout.specs.Opens.{findOpen}
 use Rattle.memory_layout.specs.declared.Counts.{Counts}
 use Rattle.memory_layout.proofs.Laws.{opens-length, rows-length}
-use Rattle.call_transactions.specs.Calls.{oneMore}
 
 -- ---- one entry
 

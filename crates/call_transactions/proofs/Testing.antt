@@ -7,7 +7,7 @@ use Rattle.block_forms.specs.Limits.{payloadLimit}
 use Rattle.image_rows.specs.Rows.{Row}
 use Rattle.model.specs.State.{Store}
 use Rattle.model.specs.Sight.{held, versions}
-use Rattle.model.specs.Transactions.{Test, _when_, notOpen, noTable, foreign, present, unseen, full, openNumbers}
+use Rattle.model.specs.Transactions.{Test, _when_, notOpen, noTable, tooLong, foreign, present, unseen, full, argumentTests, tupleTests, openNumbers}
 use Rattle.model.proofs.Lists.{leb-false, not-false}
 use Rattle.memory_bytes.proofs.Columns.{lt-or-ge}
 use Rattle.memory_layout.specs.Flat.{Flat, flatOf}
@@ -21,7 +21,7 @@ use Rattle.engine_lookup.specs.declared.Visibility.{Visibility}
 use Rattle.engine_lookup.specs.declared.Seen.{Seen}
 use Rattle.engine_lookup.specs.declared.Seen.the-variants.{At, Nothing}
 use Rattle.engine_lookup.proofs.Picking.{visibility-sees}
-use Rattle.call_transactions.specs.Refusals.{verdict, verdictIn, callTests, unknown, keyTest, keyTests}
+use Rattle.call_transactions.specs.Refusals.{verdict, verdictIn, unknown, keyTest, keyTests}
 use Rattle.call_transactions.specs.Calls.{AcceptAt}
 use Rattle.call_transactions.proofs.Opens.{not-found-open}
 use Rattle.call_transactions.proofs.Verdicts.{Numbered, stop-here, go-on, verdict-none, verdict-append, verdict-first, verdict-4, verdict-in, passed-held, passed-tests, open-numbered}
@@ -30,42 +30,42 @@ use Rattle.call_transactions.proofs.Verdicts.{Numbered, stop-here, go-o
 
 -- the tests behind those of an open transaction
 abbrev ownTests : ℕ → ℕ → List Test
-ownTests t n = noTable t ∷ 11 when ltb payloadLimit n ∷ []
+ownTests t n = noTable t ∷ tooLong n ∷ []
 
-tests-are : (tx t n : ℕ) (s : Store) → callTests tx t n s ≡ notOpen tx s ++ ownTests t n
-unfolding callTests
+tests-are : (tx t n : ℕ) (s : Store) → argumentTests tx t n s ≡ notOpen tx s ++ ownTests t n
+unfolding argumentTests
 tests-are tx t n s = refl
 
 module _ (tx t n : ℕ) (m : List ℕ) (v : ℕ) (ev : v ≡ verdictIn (storeIn m) (notOpen tx)) where
   abbrev S : Store
   S = storeOf (flatOf m)
 
-  pub call-stopped : (v ≡ 0 → ⊥) → v ≡ verdictIn (storeIn m) (callTests tx t n)
+  pub call-stopped : (v ≡ 0 → ⊥) → v ≡ verdictIn (storeIn m) (argumentTests tx t n)
   call-stopped nz =
       by (holdsStore m)
       (λ h. let e1 : v ≡ verdict (notOpen tx S) = ev ∙ verdict-in m (notOpen tx) h in
-      e1 ∙ sym (verdict-in m (callTests tx t n) h ∙ ap verdict (tests-are tx t n S) ∙ verdict-first (notOpen tx S) (ownTests t n) (λ z. nz (e1 ∙ z))))
-      (λ h. ev ∙ verdict-4 m (notOpen tx) h ∙ sym (verdict-4 m (callTests tx t n) h))
+      e1 ∙ sym (verdict-in m (argumentTests tx t n) h ∙ ap verdict (tests-are tx t n S) ∙ verdict-first (notOpen tx S) (ownTests t n) (λ z. nz (e1 ∙ z))))
+      (λ h. ev ∙ verdict-4 m (notOpen tx) h ∙ sym (verdict-4 m (argumentTests tx t n) h))
 
   module _ (z : v ≡ 0) where
-    rest-is : verdictIn (storeIn m) (callTests tx t n) ≡ verdict (ownTests t n)
+    rest-is : verdictIn (storeIn m) (argumentTests tx t n) ≡ verdict (ownTests t n)
     rest-is =
-        verdict-in m (callTests tx t n) (passed-held m (notOpen tx) v ev z) ∙ ap verdict (tests-are tx t n S)
+        verdict-in m (argumentTests tx t n) (passed-held m (notOpen tx) v ev z) ∙ ap verdict (tests-are tx t n S)
         ∙ verdict-append (notOpen tx S) (ownTests t n) (passed-tests m (notOpen tx) v ev z) (open-numbered tx S)
 
-    pub call-10 : 7 < t → 10 ≡ verdictIn (storeIn m) (callTests tx t n)
+    pub call-10 : 7 < t → 10 ≡ verdictIn (storeIn m) (argumentTests tx t n)
     unfolding noTable
     call-10 h = sym (rest-is ∙ stop-here 10 (ltb 7 t) _ (lt-ltb 7 t h))
 
     module _ (h10 : t ≤ 7) where
-      past-10 : verdictIn (storeIn m) (callTests tx t n) ≡ verdict (11 when ltb payloadLimit n ∷ [])
-      unfolding noTable
+      past-10 : verdictIn (storeIn m) (argumentTests tx t n) ≡ verdict (11 when ltb payloadLimit n ∷ [])
+      unfolding noTable tooLong
       past-10 = rest-is ∙ go-on 10 (ltb 7 t) _ (le-ltb 7 t h10)
 
-      pub call-11 : payloadLimit < n → 11 ≡ verdictIn (storeIn m) (callTests tx t n)
+      pub call-11 : payloadLimit < n → 11 ≡ verdictIn (storeIn m) (argumentTests tx t n)
       call-11 h = sym (past-10 ∙ stop-here 11 (ltb payloadLimit n) _ (lt-ltb payloadLimit n h))
 
-      pub call-passed : n ≤ payloadLimit → 0 ≡ verdictIn (storeIn m) (callTests tx t n)
+      pub call-passed : n ≤ payloadLimit → 0 ≡ verdictIn (storeIn m) (argumentTests tx t n)
       call-passed h = sym (past-10 ∙ go-on 11 (ltb payloadLimit n) _ (le-ltb payloadLimit n h) ∙ verdict-none)
 
 -- ---- 15, 16
@@ -139,10 +139,6 @@ module _ (f : Flat) (l : Visibility) where
 
 -- ---- by the model's words
 
--- the tests of a write that look at the tuples
-unfoldable pub laterTests : Bool → ℕ → ℕ → ℕ → Store → List Test
-laterTests new tx t k s = foreign tx t k s ∷ (if new then present t k s else unseen tx t k s) ∷ full s
-
 unknown-is : (f : Flat) (t : ℕ) (r : Seen) → unknown r ≡ not (isSome (seenAt f t r))
 unfolding unknown seenAt isSome
 unknown-is f t (At i) = refl
@@ -159,17 +155,17 @@ module _ (f : Flat) (t tx k : ℕ) (l : Visibility) (shown : Shows f t tx (versi
   key-test-is false =
       ap (λ (b : Bool). 14 when b) (unknown-is f t (picked f l) ∙ ap (λ (o : Option Row). not (isSome o)) (visibility-sees f t tx k l (picked f l) shown refl .means))
 
-  pub key-tests-are : (new : Bool) → keyTests new f l ≡ laterTests new tx t k (storeOf f)
-  unfolding keyTests laterTests
+  pub key-tests-are : (new : Bool) → keyTests new f l ≡ tupleTests new tx t k (storeOf f)
+  unfolding keyTests tupleTests
   key-tests-are new = λ i. foreign-is i ∷ key-test-is new i ∷ full (storeOf f)
 
-pub later-numbered : (new : Bool) (tx t k : ℕ) (s : Store) → Numbered (laterTests new tx t k s)
-unfolding laterTests foreign present unseen full if_then_else_
+pub later-numbered : (new : Bool) (tx t k : ℕ) (s : Store) → Numbered (tupleTests new tx t k s)
+unfolding tupleTests foreign present unseen full if_then_else_
 later-numbered true tx t k s = (omega arith, (omega arith, (omega arith, (omega arith, tt))))
 later-numbered false tx t k s = (omega arith, (omega arith, (omega arith, (omega arith, tt))))
 
-pub call-numbered : (tx t n : ℕ) (s : Store) → Numbered (callTests tx t n s)
-unfolding callTests notOpen noTable
+pub call-numbered : (tx t n : ℕ) (s : Store) → Numbered (argumentTests tx t n s)
+unfolding argumentTests notOpen noTable tooLong
 call-numbered tx t n s = (omega arith, (omega arith, (omega arith, (omega arith, tt))))
 
 -- ---- none holds
@@ -195,16 +191,16 @@ pub record Called (m : List ℕ) (tx t n : ℕ) : Type 0 where
   pub table : t < 8
   pub short : n ≤ payloadLimit
 
-pub called : {tx t n : ℕ} {m : List ℕ} {v : ℕ} → v ≡ verdictIn (storeIn m) (callTests tx t n) → v ≡ 0 → Called m tx t n
-unfolding callTests notOpen noTable
+pub called : {tx t n : ℕ} {m : List ℕ} {v : ℕ} → v ≡ verdictIn (storeIn m) (argumentTests tx t n) → v ≡ 0 → Called m tx t n
+unfolding argumentTests notOpen noTable tooLong
 called {tx} {t} {n} {m} {v} ev z =
     let s : Store = storeOf (flatOf m) in
-    let p6 = pass-one 6 (ltb 4095 tx) _ (omega arith) (passed-tests m (callTests tx t n) v ev z) in
+    let p6 = pass-one 6 (ltb 4095 tx) _ (omega arith) (passed-tests m (argumentTests tx t n) v ev z) in
     let p7 = pass-one 7 (not (isIn tx (openNumbers (s .active)))) _ (omega arith) (p6 .1) in
     let p10 = pass-one 10 (ltb 7 t) _ (omega arith) (p7 .1) in
     let p11 = pass-one 11 (ltb payloadLimit n) _ (omega arith) (p10 .1) in
     record {
-      there = passed-held m (callTests tx t n) v ev z;
+      there = passed-held m (argumentTests tx t n) v ev z;
       opened = is-open tx (flatOf m) (p7 .0);
       transaction = ltb-false 4095 tx (p6 .0);
       table = omega (arith, ltb-false 7 t (p10 .0));

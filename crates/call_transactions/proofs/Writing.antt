@@ -4,7 +4,7 @@ use Rattle.basics.specs.Basics.{all}
 use Rattle.block_forms.specs.Tuple.{Tuple, tentative}
 use Rattle.model.specs.State.{Page, Active, Store}
 use Rattle.model.specs.Rules.{place}
-use Rattle.model.specs.Transactions.{changed, writtenBy, withWrite, newTuple}
+use Rattle.model.specs.Transactions.{changed, writtenBy, oneMore, withWrite, newTuple, afterWrite}
 use Rattle.memory_layout.specs.Flat.{Flat, flatOf, Room, Replaces, Becomes, withHead, withOpens}
 use Rattle.memory_layout.specs.Store.{storeOf, pagesIn, hasRows, HoldsNow}
 use Rattle.memory_layout.specs.Opens.{activeOf, OpenFits, findOpen}
@@ -16,7 +16,7 @@ use Rattle.memory_rows.specs.declared.Row.{Row}
 use Rattle.memory_pages.specs.Spots.{tablePage, tableRow, tableRows, placeIn}
 use Rattle.engine_pages.specs.Pages.{withPages}
 use Rattle.engine_pages.specs.Spots.{tupleBy, PlaceAt}
-use Rattle.call_transactions.specs.Calls.{oneMore, openIn, WriterAt, NextRow, nextHead, afterCount, AcceptAt, afterWrite}
+use Rattle.call_transactions.specs.Calls.{openIn, WriterAt, NextRow, nextHead, afterCount, AcceptAt}
 use Rattle.call_transactions.proofs.Opens.{found-is, count-is, wrote-is, written-small}
 
 -- ---- one more

@@ -1,16 +1,14 @@
--- Calls that differ in one choice, and what the functions below them need and leave.
+-- What the functions below a write need and leave.
 use mathlib.Core.Path.{_≡_}
-use mathlib.Core.Bool.{Bool, true, false}
-use mathlib.Core.List.{List, _∷_, _++_}
-use Prim.Native.Nat.{ℕ, suc, _+_, _≤_, _<_, min}
+use mathlib.Core.Bool.{Bool, true}
+use mathlib.Core.List.{List}
+use Prim.Native.Nat.{ℕ, _+_, _≤_, _<_}
 use lib.ListN.{length, getD, set}
-use Rattle.basics.specs.Basics.{if_then_else_}
 use Rattle.block_forms.specs.Limits.{payloadLimit}
 use Rattle.block_forms.specs.Tuple.{tentative}
-use Rattle.model.specs.State.{Active, Store, Outcome}
+use Rattle.model.specs.State.{Active}
 use Rattle.model.specs.Rules.{place}
-use Rattle.model.specs.Sight.{held}
-use Rattle.model.specs.Transactions.{unless, changed, notOpen, noTable, tooLong, foreign, present, unseen, full, newTuple, withWrite, withTuple, insertCall, replaceCall}
+use Rattle.model.specs.Transactions.{oneMore}
 use Rattle.memory_layout.specs.Flat.{Flat, flatOf, Room, withHead, withOpens, noOpen}
 use Rattle.memory_layout.specs.Store.{holdsStore}
 use Rattle.memory_layout.specs.Opens.{findOpen}
@@ -20,28 +18,6 @@ use Rattle.memory_rows.specs.Rows.{RowFits}
 use Rattle.memory_rows.specs.declared.Pending.the-variants.{Nothing}
 use Rattle.memory_rows.specs.declared.Row.{Row}
 use Rattle.memory_pages.specs.Spots.{placeIn}
-
--- ---- insert, replace, delete
-
--- a write of a delete mark: the tests of insert or replace, then one tuple more. With no payload it is a delete
-unfoldable pub markCall : Bool → ℕ → ℕ → ℕ → List ℕ → Store → Outcome
-markCall new tx t k bs s =
-    unless (notOpen tx s ++ (noTable t ∷ tooLong bs ∷ foreign tx t k s ∷ (if new then present t k s else unseen tx t k s) ∷ full s)) s
-    (withTuple tx t k bs true s)
-
--- insert, replace and delete, by whether the key is new and by the mark
-abbrev pub writeCall : Bool → Bool → ℕ → ℕ → ℕ → List ℕ → Store → Outcome
-writeCall true false = insertCall
-writeCall false false = replaceCall
-writeCall new true = markCall new
-
--- the store with one tuple more
-unfoldable pub afterWrite : ℕ → ℕ → ℕ → List ℕ → Bool → Store → Store
-afterWrite tx t k bs mark s = changed s (suc (s .next)) (place t (newTuple tx k bs mark s) (s .pages)) (withWrite tx (s .active))
-
--- one tuple more was withTuple
-unfoldable pub oneMore : Active → Active
-oneMore o = record { transaction = o .transaction; written = min (suc (o .written)) 1048575 }
 
 -- open transaction i
 abbrev pub openIn : Flat → ℕ → Active
@@ -68,11 +44,11 @@ pub record NextRow (f : Flat) (i k : ℕ) (mark : Bool) (r : Row) : Type 0 where
 abbrev pub nextHead : Head → Head
 nextHead h = record { capacity = h .capacity; blocks = h .blocks; level = h .level; next = h .next + 1; running = h .running; begun = h .begun; taken = h .taken }
 
--- open transaction i has withTuple one tuple more
+-- open transaction i has written one tuple more
 abbrev pub afterCount : Flat → ℕ → Flat
 afterCount f i = withOpens (withHead f (nextHead (f .head))) (set (f .opens) i (oneMore (openIn f i)))
 
--- what was shown of the memory before a tuple is withTuple, as row `at`
+-- what was shown of the memory before a tuple is written, as row `at`
 pub record AcceptAt (m : List ℕ) (tx t at k : ℕ) (bs : List ℕ) : Type 0 where
   pub has-store : holdsStore m ≡ true
   pub opened : findOpen tx (flatOf m .opens) < length (flatOf m .opens)

@@ -1,14 +1,12 @@
 -- The tests of a call, as the number of the first that holds.
 use mathlib.Core.Bool.{Bool, true, false}
 use mathlib.Core.Option.{Option, none, some}
-use mathlib.Core.List.{List, [], _∷_, _++_}
+use mathlib.Core.List.{List, [], _∷_}
 use Prim.Native.Nat.{ℕ}
-use lib.Dec.{ltb}
 use Rattle.basics.specs.Basics.{if_then_else_}
-use Rattle.block_forms.specs.Limits.{payloadLimit}
 use Rattle.image.specs.Stages.{Stage, refuses, holds}
 use Rattle.model.specs.State.{Store}
-use Rattle.model.specs.Transactions.{Test, _when_, notOpen, noTable, full}
+use Rattle.model.specs.Transactions.{Test, _when_, full}
 use Rattle.memory_layout.specs.Flat.{Flat}
 use Rattle.memory_layout.specs.Store.{storeOf}
 use Rattle.engine_lookup.specs.Lookup.{picked}
@@ -26,10 +24,6 @@ unfoldable pub verdictIn : Option Store → (Store → List Test) → ℕ
 verdictIn none tests = 4
 verdictIn (some s) tests = verdict (tests s)
 
--- the tests of a write that look at no tuple, with a payload of n bytes
-unfoldable pub callTests : ℕ → ℕ → ℕ → Store → List Test
-callTests tx t n s = notOpen tx s ++ (noTable t ∷ 11 when ltb payloadLimit n ∷ [])
-
 -- nothing is seen
 unfoldable pub unknown : Seen → Bool
 unknown (At i) = false
@@ -40,7 +34,7 @@ unfoldable pub keyTest : Bool → Flat → Visibility → Test
 keyTest true f l = 13 when l .any
 keyTest false f l = 14 when unknown (picked f l)
 
--- the other tests of a write, by what there is of its key
+-- the model's `tupleTests`, by what there is of the key
 unfoldable pub keyTests : Bool → Flat → Visibility → List Test
 keyTests new f l = 12 when l .foreign ∷ keyTest new f l ∷ full (storeOf f)
 

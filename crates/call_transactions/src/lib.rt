@@ -14,14 +14,14 @@ ghost use mathlib.Core.Bool.{true};
 ghost use mathlib.Core.List.{_++_};
 ghost use Prim.Native.Nat.{_*_, _≤_, _<_};
 ghost use lib.ListN.{length, drop};
-ghost use Rattle.model.specs.Transactions.{openNumbers, notOpen, full, listing, without, openCall, insertCall, replaceCall, deleteCall, commitCall, abortCall, readCall};
+ghost use Rattle.model.specs.Transactions.{openNumbers, notOpen, full, argumentTests, oneMore, afterWrite, writeCall, listing, without, openCall, insertCall, replaceCall, deleteCall, commitCall, abortCall, readCall};
 ghost use Rattle.model.specs.Recover.{make};
 ghost use Rattle.memory_layout.specs.Flat.{flatOf, Room, Becomes, withOpens};
 ghost use Rattle.memory_layout.specs.Store.{holdsStore, storeIn, storeOf, HoldsNow};
 ghost use Rattle.memory_layout.specs.Opens.{activeOf, OpenFits};
 ghost use Rattle.call_contracts.specs.Shape.{Answers, Replies, Lists, Made};
-ghost use Rattle.call_transactions.specs.Refusals.{verdict, verdictIn, callTests, keyTests, makeVerdict};
-ghost use Rattle.call_transactions.specs.Calls.{writeCall, oneMore, WriterAt, NextRow, afterCount, AcceptAt, afterWrite};
+ghost use Rattle.call_transactions.specs.Refusals.{verdict, verdictIn, keyTests, makeVerdict};
+ghost use Rattle.call_transactions.specs.Calls.{WriterAt, NextRow, afterCount, AcceptAt};
 
 // The most blocks, the largest capacity, and the memory that a store takes: so much a row, and the head.
 const BLOCK_SIZE: usize = 512;
@@ -212,7 +212,7 @@ pub fn list(m: &[u8], reply: &mut [u8]) -> Answer
 
 // 4, 6, 7; 10 table above 7; 11 payload, of len bytes, too long; 0 if none holds.
 fn call_refusal(m: &[u8], transaction: u64, table: u64, len: usize) -> u64
-    ensures { λ r. ⌜ r ≡ verdictIn (storeIn (now (m .entry))) (callTests transaction table len) ⌝ }
+    ensures { λ r. ⌜ r ≡ verdictIn (storeIn (now (m .entry))) (argumentTests transaction table len) ⌝ }
 {
     let v = not_open(m, transaction);
     if v != 0 {

@@ -1,21 +1,22 @@
 -- The blocks in use, the block last taken, and the books of a running checkpoint: an invariant of the store alone.
-use Rattle.basics.proofs.Kit.{_≡_, refl, sym, ap, _∙_, subst, ap₂, Bool, true, false, some, none, List, [], _∷_, _++_, append-nil, map, tail, ℕ, suc, _+_, _≤_, _<_, zero, _-_, min, leb, eqb}
+use Rattle.basics.proofs.Kit.{_≡_, refl, sym, ap, _∙_, subst, ap₂, Bool, true, false, not, some, none, List, [], _∷_, _++_, append-nil, map, tail, ℕ, suc, _+_, _≤_, _<_, _-_, leb, eqb}
 use Rattle.basics.proofs.Kit.{ltb, length, length-append, length-map, arith}
 use Rattle.basics.specs.Basics.{isIn, any, if_then_else_, howMany, sum, distinct, first}
-use Rattle.basics.proofs.Facts.{by, AllOf, lie, by-option}
+use Rattle.basics.proofs.Facts.{by, AllOf, lie, by-option, and-true}
 use Rattle.block_forms.specs.Limits.{mostNumber}
 use Rattle.image.specs.Stages.{isZero, directoriesFor, capacityLimit}
 use Rattle.model.specs.State.{Page, Store, Checkpoint, idle, running, Held, Active}
 use Rattle.model.specs.Rules.{isDirty, fresh, freeze, isFrozen}
 use Rattle.model.specs.Transactions.{changed, gives}
-use Rattle.model.specs.Checkpoint.{fill, freeCount, left, isFree, isRunning, beginCall, withProgress, blocksNeeded, usedToo, storePage, made, allocate, storeDirectory, storeHeader, stepAt, stepOf, inTurn, stepCall, runCall}
-use Rattle.model.specs.Calls.{Call, call, opens, inserts, replaces, deletes, commits, aborts, reads, lists, begins, steps, runs}
-use Rattle.model.proofs.Lists.{eqb-true, not-zero, pos-not-zero, in-head, in-weak, leb-false, any-many, leb-true, eqb-self, many-append, all-in, in-all, all-map, eqb-sym, all-append, all-two, in-append}
+use Rattle.model.specs.Checkpoint.{fill, freeCount, isFree, isRunning, beginCall, withProgress, blocksNeeded, usedToo, storePage, made, allocate, storeDirectory, storeHeader, stepAt, stepOf}
+use Rattle.model.specs.Calls.{TransactionCall, transact, Call, transacts, begins, steps, runs, call}
+use Rattle.model.proofs.Lists.{eqb-true, not-true, in-here, in-cons, not-zero, pos-not-zero, in-head, in-weak, leb-false, any-many, leb-true, eqb-self, many-append, all-in, in-all, all-map, eqb-sym, all-append, all-two, in-append}
 use Rattle.model.proofs.Frozen.{images, images-first, images-thaw, Content, images-none}
 use Rattle.model.proofs.Pages.{stillFrozen, all-thaw}
 use Rattle.model.proofs.Totals.{sum-thaw}
 use Rattle.model.proofs.Alloc.{Fresh, allocate-fresh, count-one, used-new, used-old}
-use Rattle.model.proofs.Quiet.{quiet, isPlain, unless-keeps}
+use Rattle.model.proofs.Effects.{unless-keeps}
+use Rattle.model.proofs.Quiet.{quiet, step-keeps, run-keeps}
 
 -- ---- entries: 0 stands for a page still to be written
 
@@ -159,6 +160,16 @@ in-many : (b : ℕ) (es : List ℕ) → isIn b es ≡ true → 0 < howMany (eqb 
 unfolding isIn
 in-many b es h = leb-true 1 (howMany (eqb b) es) (sym (any-many (eqb b) es) ∙ h)
 
+-- in a list without repeats a number stands once or not at all
+pub once-many : (x : ℕ) (xs : List ℕ) → distinct xs ≡ true → howMany (eqb x) xs ≡ (if isIn x xs then 1 else 0)
+unfolding distinct howMany if_then_else_
+once-many x [] d = unfold isIn any in refl
+once-many x (y ∷ ys) d =
+    let q = and-true (not (isIn y ys)) (distinct ys) d in
+    by (eqb x y)
+    (λ e. rw (e, in-here x y ys e) (ap suc (not-in-many x ys (ap (λ z. isIn z ys) (eqb-true x y e) ∙ not-true (isIn y ys) (q .0)))))
+    (λ e. rw (e, in-cons x y ys e) (once-many x ys (q .1)))
+
 -- a block that is named once
 pub once-distinct : (es : List ℕ) → AllOf (λ e. 0 < e) es → ((b : ℕ) → 0 < b → howMany (eqb b) es ≤ 1) → distinct es ≡ true
 unfolding distinct
@@ -235,10 +246,10 @@ phase-quiet s nx ps os m e (running n es ds) k r =
       room = rw e (r .room);
     }
 
-books-quiet : (c : Call) (s : Store) → isPlain c ≡ true → Books s → Books (call c s .store)
-books-quiet c s h b =
+books-quiet : (c : TransactionCall) (s : Store) → Books s → Books (transact c s .store)
+books-quiet c s b =
     let pool : ℕ → Bool = poolOf (s .checkpoint) s in
-    let k = quiet s c h in
+    let k = quiet s c in
     subst Books (sym (k .eq)) (unfold changed in record {
       blocks = b .blocks;
       cap = b .cap;
@@ -445,25 +456,11 @@ step-books s b = go (s .checkpoint) (b .phase)
         (λ k. rw (k, if_then_else_) (directory-books s b n es ds r e k)) (λ k. rw (k, if_then_else_) (header-books s b n es ds r e))))
         (λ p e. rw (e, stepOf) (page-books s b n es ds r p e))
 
-turn-books : (k : ℕ) (s : Store) → Books s → Books (inTurn k s .store)
-unfolding inTurn gives
-turn-books zero s b = b
-turn-books (suc k) s b = turn-books k (stepAt (s .checkpoint) s .store) (step-books s b)
-
 -- ---- all calls
 
 pub keeps-books : (c : Call) (s : Store) → length (s .pages) ≤ s .capacity → Books s → Books (call c s .store)
-keeps-books c s few b = by (isPlain c) (λ h. books-quiet c s h b) (λ h. other c h)
-  where
-    other : (c : Call) → isPlain c ≡ false → Books (call c s .store)
-    other (opens tx) h = lie (sym (unfold isPlain in h))
-    other (inserts tx t k bs) h = lie (sym (unfold isPlain in h))
-    other (replaces tx t k bs) h = lie (sym (unfold isPlain in h))
-    other (deletes tx t k) h = lie (sym (unfold isPlain in h))
-    other (commits tx) h = lie (sym (unfold isPlain in h))
-    other (aborts tx) h = lie (sym (unfold isPlain in h))
-    other (reads tx t k room) h = lie (sym (unfold isPlain in h))
-    other (lists room) h = lie (sym (unfold isPlain in h))
-    other begins h = unfold call in books-begin s few b
-    other (steps len) h = unfold call stepCall in unless-keeps Books _ s _ b (λ p. step-books s b)
-    other (runs limit len) h = unfold call runCall in unless-keeps Books _ s _ b (λ p. turn-books (min limit (left s)) s b)
+unfolding call
+keeps-books (transacts c) s few b = books-quiet c s b
+keeps-books begins s few b = books-begin s few b
+keeps-books (steps len) s few b = step-keeps Books step-books len s b
+keeps-books (runs limit len) s few b = run-keeps Books step-books limit len s b

@@ -5,7 +5,8 @@ use Rattle.basics.proofs.Facts.{AllOf}
 use Rattle.image_rows.specs.Rows.{Row, isOwn}
 use Rattle.model.specs.State.{Page}
 use Rattle.model.specs.Sight.{held, rows}
-use Rattle.model.specs.Places.{Placed, rowOf, placed, allPlaced, runs, allRuns, liveOf, ownPlaced, removePlaces, planRuns, closePlan, abortPlan, carryOut}
+use Rattle.model.specs.Places.{Placed, rowOf, placed, allPlaced, runs, allRuns, liveOf, ownPlaced, removePlaces, planRuns, closePlan, abortPlan}
+use Rattle.model.specs.Transactions.{committedPages, abortedPages}
 use Rattle.model.proofs.Lists.{Pairs, all-map, all-mem, all-keep}
 use Rattle.model.proofs.ByNumber.{perform, removeAll, planRows}
 use Rattle.model.proofs.Sound.{PageOk}
@@ -34,13 +35,6 @@ risen-placed : (i : ℕ) (es : List Entry) → Pairs (λ a b. Before (asRow a) (
 unfolding placed
 risen-placed i [] p = tt
 risen-placed i (e ∷ es) p = (before-placed (asRow e) (suc i) es (p .0), risen-placed (suc i) es (p .1))
-
--- the pages after a commit and after an abort
-abbrev pub committedPages : ℕ → List Page → List Page
-committedPages tx ps = carryOut (length (held ps)) (closePlan tx ps) ps
-
-abbrev pub abortedPages : ℕ → List Page → List Page
-abortedPages tx ps = carryOut (length (held ps)) (abortPlan tx ps) ps
 
 -- of pages whose tuples rise and have distinct numbers
 module _ (ps : List Page) (rising : Pairs Before (held ps)) (differ : Pairs Differ (held ps)) where

@@ -3,23 +3,22 @@ use Rattle.basics.proofs.Kit.{_≡_, refl, sym, ap, _∙_, subst, _&&_, some, n
 use Rattle.basics.specs.Basics.{if_then_else_, first}
 use Rattle.basics.proofs.Facts.{AllOf, by}
 use Rattle.block_forms.specs.Block.{Block, malformed, header, page, directory}
-use Rattle.image_rows.specs.Rows.{Row}
 use Rattle.image.specs.View.{View}
 use Rattle.image.specs.Stages.{holds, directoriesFor}
 use Rattle.model.specs.State.{Page, Checkpoint, idle, running, Store, Write}
 use Rattle.model.specs.Rules.{isFrozen}
-use Rattle.model.specs.Sight.{seen}
-use Rattle.model.specs.Transactions.{gives, changed, openCall, insertCall, replaceCall, deleteCall, withTuple, readSeen, readCall, listCall, commitCall, abortCall}
-use Rattle.model.specs.Checkpoint.{withProgress, beginCall, left, made, storePage, storeDirectory, headerFor, storeHeader, stepOf, stepAt, stepCall, inTurn, runCall}
-use Rattle.model.specs.Calls.{Call, opens, inserts, replaces, deletes, commits, aborts, reads, lists, begins, steps, runs, call, isBegin, accepted}
+use Rattle.model.specs.Transactions.{gives}
+use Rattle.model.specs.Checkpoint.{withProgress, left, made, storePage, storeDirectory, headerFor, storeHeader, stepOf, stepAt, stepCall, inTurn, runCall}
+use Rattle.model.specs.Calls.{Call, transacts, begins, steps, runs, call, isBegin, accepted, isStep}
 use Rattle.model.specs.Recover.{recoveredStore}
 use Rattle.model.specs.CrashRecovery.{Logged, tag, log, isHeader}
 use Rattle.model.proofs.Views.{put, recoverView, CutV, stop, torn, whole}
 use Rattle.model.proofs.Lists.{all-append, all-mapped}
 use Rattle.model.proofs.Recovery.{found}
-use Rattle.model.proofs.Quiet.{unless-out}
+use Rattle.model.proofs.Effects.{unless-out}
+use Rattle.model.proofs.Quiet.{call-leaves}
 
--- of a block that is withTuple
+-- of a block that is written
 abbrev Apt : ℕ → Block → Type 0
 Apt cap malformed = Unit {0}
 Apt cap (header h) = h .capacity ≡ cap
@@ -49,33 +48,23 @@ capacity-turn cap (suc k) s e =
     let b = capacity-turn cap k (o .store) (a .0) in
     (b .0, all-append _ (o .writes) (inTurn k (o .store) .writes) (a .1) (b .1))
 
-capacity-call : (c : Call) (s : Store) → Capacity (s .capacity) (call c s .store) (call c s .writes)
-unfolding call openCall insertCall replaceCall deleteCall withTuple commitCall abortCall readCall listCall beginCall stepCall runCall gives changed withProgress
-capacity-call (opens tx) s = unless-out (Capacity (s .capacity)) _ s _ (refl, tt) (refl, tt)
-capacity-call (inserts tx t k bs) s = unless-out (Capacity (s .capacity)) _ s _ (refl, tt) (refl, tt)
-capacity-call (replaces tx t k bs) s = unless-out (Capacity (s .capacity)) _ s _ (refl, tt) (refl, tt)
-capacity-call (deletes tx t k) s = unless-out (Capacity (s .capacity)) _ s _ (refl, tt) (refl, tt)
-capacity-call (commits tx) s = unless-out (Capacity (s .capacity)) _ s _ (refl, tt) (refl, tt)
-capacity-call (aborts tx) s = unless-out (Capacity (s .capacity)) _ s _ (refl, tt) (refl, tt)
-capacity-call (reads tx t k room) s = unless-out (Capacity (s .capacity)) _ s _ (refl, tt) (go (seen tx t k s))
-  where
-    go : (o : Option Row) → Capacity (s .capacity) (readSeen room o s .store) (readSeen room o s .writes)
-    go none = unfold readSeen in (refl, tt)
-    go (some r) = unfold readSeen in unless-out (Capacity (s .capacity)) _ s _ (refl, tt) (refl, tt)
-capacity-call (lists room) s = unless-out (Capacity (s .capacity)) _ s _ (refl, tt) (refl, tt)
-capacity-call begins s = unless-out (Capacity (s .capacity)) _ s _ (refl, tt) (refl, tt)
-capacity-call (steps len) s = unless-out (Capacity (s .capacity)) _ s _ (refl, tt) (capacity-at (s .checkpoint) s)
-capacity-call (runs limit len) s = unless-out (Capacity (s .capacity)) _ s _ (refl, tt) (capacity-turn (s .capacity) (min limit (left s)) s refl)
+-- the headers that a call stores
+capacity-call : (c : Call) (s : Store) → AllOf (λ w. Apt (s .capacity) (w .what)) (call c s .writes)
+unfolding call stepCall runCall isStep
+capacity-call (transacts c) s = subst (AllOf (λ w. Apt (s .capacity) (w .what))) (sym (call-leaves (transacts c) s .image refl)) tt
+capacity-call begins s = subst (AllOf (λ w. Apt (s .capacity) (w .what))) (sym (call-leaves begins s .image refl)) tt
+capacity-call (steps len) s = unless-out (λ t. AllOf (λ w. Apt (s .capacity) (w .what))) _ s _ tt (capacity-at (s .checkpoint) s .1)
+capacity-call (runs limit len) s = unless-out (λ t. AllOf (λ w. Apt (s .capacity) (w .what))) _ s _ tt (capacity-turn (s .capacity) (min limit (left s)) s refl .1)
 
 log-apt : (cap : ℕ) (past base : List Call) (s : Store) (cs : List Call) → s .capacity ≡ cap → AllOf (λ w. Apt cap (w .write .what)) (log past base s cs)
 unfolding log tag
 log-apt cap past base s [] e = tt
 log-apt cap past base s (c ∷ cs) e =
     let o = call c s in
-    let k = subst (λ z. Capacity z (o .store) (o .writes)) e (capacity-call c s) in
+    let k = subst (λ z. AllOf (λ w. Apt z (w .what)) (o .writes)) e (capacity-call c s) in
     let base′ = if isBegin c && accepted (o .answer) then past else base in
-    all-append _ (map (tag base′) (o .writes)) (log (past ++ c ∷ []) base′ (o .store) cs) (all-mapped _ (tag base′) (o .writes) (k .1))
-    (log-apt cap (past ++ c ∷ []) base′ (o .store) cs (k .0))
+    all-append _ (map (tag base′) (o .writes)) (log (past ++ c ∷ []) base′ (o .store) cs) (all-mapped _ (tag base′) (o .writes) k)
+    (log-apt cap (past ++ c ∷ []) base′ (o .store) cs (call-leaves c s .capacity ∙ e))
 
 cut-apt : (cap : ℕ) {v : View} {base : List Call} {ws : List Logged} {v′ : View} {base′ : List Call} → CutV v base ws v′ base′ → Apt cap (v 0)
     → AllOf (λ w. Apt cap (w .write .what)) ws → Apt cap (v′ 0)

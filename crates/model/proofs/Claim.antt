@@ -1,18 +1,20 @@
 -- The claims on views, with no assumption left.
-use Rattle.basics.proofs.Kit.{_≡_, refl, _∙_, true, List, [], _∷_, _≤_}
+use Rattle.basics.proofs.Kit.{_≡_, refl, ap, _∙_, true, List, [], _∷_, _≤_}
+use Rattle.basics.specs.Basics.{if_then_else_}
 use Rattle.basics.proofs.Facts.{AllOf}
 use Rattle.image.specs.Stages.{holds}
 use Rattle.image.specs.View.{View}
 use Rattle.model.specs.State.{Store}
+use Rattle.model.specs.Transactions.{openNumbers}
 use Rattle.model.specs.Calls.{afterCalls, Call, AllTyped, Typed}
 use Rattle.model.specs.CrashRecovery.{log, isHeader, Same}
 use Rattle.model.proofs.Views.{AllSane, recoverView, CutV, WriteOk, CrashViews, WritesOk}
-use Rattle.model.proofs.Books.{Books, keeps-books, step-books}
+use Rattle.model.proofs.Books.{once-many, Books, keeps-books, step-books}
 use Rattle.model.proofs.Recovery.{Found, found}
 use Rattle.model.proofs.Inv.{Ready, Inv, Like}
 use Rattle.model.proofs.Steps.{Top}
 use Rattle.model.proofs.Crash.{main}
-use Rattle.model.proofs.Start.{start-idle, start-inv, start-books, start-active}
+use Rattle.model.proofs.Start.{start-idle, start-inv, start-books, start-active, start-distinct}
 use Rattle.model.proofs.Valid.{Valid, Counted}
 use Rattle.model.proofs.Keeps.{keeps, step-valid}
 use Rattle.model.proofs.Whole.{Fitting, starts, ready, few-pages}
@@ -64,7 +66,9 @@ module _ (v : View) (sane : AllSane v) (s : Store) (two : 2 ≤ s .blocks) (most
         record {
           pages = r .2 .pages;
           next = r .2 .next;
-          writers = λ tx. r .2 .active tx ∙ writers-law s (start-valid .0) (start-valid .1) (start-active (s .blocks) v s at-start (start-ready .same)) base tx;
+          writers = λ tx. once-many tx (openNumbers (r .0 .active)) (start-distinct (s .blocks) v′ (r .0) (found (s .blocks) v′ (r .0) (r .1)))
+              ∙ ap (λ b. if b then 1 else 0)
+              (r .2 .active tx ∙ writers-law s (start-valid .0) (start-valid .1) (start-active (s .blocks) v s at-start (start-ready .same)) base tx);
         },
       )
 

@@ -9,13 +9,14 @@ use Rattle.image.specs.View.{View}
 use Rattle.model.specs.State.{Store, Checkpoint, Page, idle, running, Held, Active, Outcome, Write, count}
 use Rattle.model.specs.Rules.{fresh, isFrozen}
 use Rattle.model.specs.Transactions.{changed, unless, gives, _when_}
-use Rattle.model.specs.Checkpoint.{withProgress, beginCall, isRunning, freeCount, blocksNeeded, stepAt, stepOf, inTurn, stepCall, badImage, runCall, left}
-use Rattle.model.specs.Calls.{Call, accepted, afterCalls, call, steps, isBegin, runs, begins, opens, inserts, replaces, deletes, commits, aborts, reads, lists}
+use Rattle.model.specs.Checkpoint.{beginCall, isRunning, freeCount, blocksNeeded, stepAt, stepOf, inTurn, stepCall, badImage, runCall, left}
+use Rattle.model.specs.Calls.{TransactionCall, transact, Call, transacts, begins, steps, runs, call, isBegin, accepted, afterCalls}
 use Rattle.model.specs.CrashRecovery.{landed, Logged, isHeader, tag, log}
 use Rattle.model.proofs.Views.{CutV, recoverView, WriteOk, stop, put, torn, whole}
 use Rattle.model.proofs.Frozen.{images}
 use Rattle.model.proofs.Pages.{stillFrozen}
-use Rattle.model.proofs.Quiet.{quiet, Quiet, unless-out, isPlain}
+use Rattle.model.proofs.Effects.{unless-out}
+use Rattle.model.proofs.Quiet.{quiet, Quiet}
 use Rattle.model.proofs.Books.{idle-of, Books, Ledger}
 use Rattle.model.proofs.Recovery.{recovers}
 use Rattle.model.proofs.Inv.{Tied, tied-fresh, tied-frozen, Phase, Inv, Ready, Like, Good}
@@ -189,14 +190,14 @@ module _ (n : ℕ) (s₀ : Store) (Okay : Call → Type 0) (Valid : Store → Ty
       (record { answer = count k; store = inTurn k s .store; writes = inTurn k s .writes })
       (λ r. r img base₀ inv) (λ r. turn-goes k img s base base₀ _ v inv r) r
 
-  quietly : (c : Call) (img : View) (s : Store) (past base base₀ : List Call) (cs : List Call) → isBegin c ≡ false → isPlain c ≡ true
-      → Now img s base base₀ → Rest (past ++ c ∷ []) base (call c s .store) cs → Goes img base₀ (log past base s (c ∷ cs))
-  unfolding log if_then_else_
-  quietly c img s past base base₀ cs h p inv r =
-      let o = call c s in
-      let q = quiet s c p in
-      rw h (subst (λ ws. Goes img base₀ (map (tag base) ws ++ log (past ++ c ∷ []) base (o .store) cs)) (sym (q .none-written))
-      (r img base₀ (inv-quiet n img s _ _ o q inv)))
+  quietly : (c : TransactionCall) (img : View) (s : Store) (past base base₀ : List Call) (cs : List Call)
+      → Now img s base base₀ → Rest (past ++ transacts c ∷ []) base (transact c s .store) cs → Goes img base₀ (log past base s (transacts c ∷ cs))
+  unfolding log if_then_else_ call isBegin
+  quietly c img s past base base₀ cs inv r =
+      let o = transact c s in
+      let q = quiet s c in
+      subst (λ ws. Goes img base₀ (map (tag base) ws ++ log (past ++ transacts c ∷ []) base (o .store) cs)) (sym (q .none-written))
+      (r img base₀ (inv-quiet n img s _ _ o q inv))
 
   begin-safe : (img : View) (s : Store) (past base base₀ : List Call) (cs : List Call) → s ≡ afterCalls past s₀ → Valid s → Now img s base base₀
       → ((base′ : List Call) → Rest (past ++ begins ∷ []) base′ (beginCall s .store) cs) → Goes img base₀ (log past base s (begins ∷ cs))
@@ -210,15 +211,8 @@ module _ (n : ℕ) (s₀ : Store) (Okay : Call → Type 0) (Valid : Store → Ty
 
   one : (c : Call) (img : View) (s : Store) (past base base₀ : List Call) (cs : List Call) → s ≡ afterCalls past s₀ → Valid s → Now img s base base₀
       → ((base′ : List Call) → Rest (past ++ c ∷ []) base′ (call c s .store) cs) → Goes img base₀ (log past base s (c ∷ cs))
-  unfolding call isBegin isPlain
-  one (opens tx) img s past base base₀ cs e v inv r = quietly (opens tx) img s past base base₀ cs refl refl inv (r base)
-  one (inserts tx t k bs) img s past base base₀ cs e v inv r = quietly (inserts tx t k bs) img s past base base₀ cs refl refl inv (r base)
-  one (replaces tx t k bs) img s past base base₀ cs e v inv r = quietly (replaces tx t k bs) img s past base base₀ cs refl refl inv (r base)
-  one (deletes tx t k) img s past base base₀ cs e v inv r = quietly (deletes tx t k) img s past base base₀ cs refl refl inv (r base)
-  one (commits tx) img s past base base₀ cs e v inv r = quietly (commits tx) img s past base base₀ cs refl refl inv (r base)
-  one (aborts tx) img s past base base₀ cs e v inv r = quietly (aborts tx) img s past base base₀ cs refl refl inv (r base)
-  one (reads tx t k m) img s past base base₀ cs e v inv r = quietly (reads tx t k m) img s past base base₀ cs refl refl inv (r base)
-  one (lists m) img s past base base₀ cs e v inv r = quietly (lists m) img s past base base₀ cs refl refl inv (r base)
+  unfolding call
+  one (transacts c) img s past base base₀ cs e v inv r = quietly c img s past base base₀ cs inv (r base)
   one begins img s past base base₀ cs e v inv r = begin-safe img s past base base₀ cs e v inv r
   one (steps len) img s past base base₀ cs e v inv r = step-log len img s past base base₀ cs v inv (r base)
   one (runs limit len) img s past base base₀ cs e v inv r = run-log limit len img s past base base₀ cs v inv (r base)

@@ -1,24 +1,24 @@
 -- Every call keeps the invariant.
-use Rattle.basics.proofs.Kit.{_≡_, refl, sym, ap, _∙_, subst, Bool, true, false, not, _||_, some, none, Option, List, [], _∷_, _++_, map, ℕ, suc, _≤_, _<_, zero, min, ltb, length}
+use Rattle.basics.proofs.Kit.{_≡_, refl, sym, ap, _∙_, subst, Bool, true, false, none, List, [], _∷_, _++_, map, ℕ, suc, _≤_, _<_, ltb, length}
 use Rattle.basics.proofs.Kit.{length-append, length-map, arith}
-use Rattle.basics.specs.Basics.{keep, if_then_else_, isIn, howMany, any, first, isEmpty, isSome, last}
-use Rattle.basics.proofs.Facts.{AllOf, lie, by, by-option}
-use Rattle.block_forms.specs.Limits.{payloadLimit, mostNumber}
+use Rattle.basics.specs.Basics.{keep, if_then_else_, howMany, any, first, isEmpty}
+use Rattle.basics.proofs.Facts.{AllOf, by, by-option}
 use Rattle.block_forms.specs.Tuple.{Owner, committed, tentative, Tuple, size, ownerSize, isTentative}
 use Rattle.image_rows.specs.Rows.{Row, isOwn, markOk, isAt, openLimit}
 use Rattle.image.specs.Stages.{directoriesFor}
-use Rattle.model.specs.State.{Store, Page, Held, idle, running, nothing, Checkpoint}
+use Rattle.model.specs.State.{Store, Outcome, Page, Held, idle, running, nothing, Checkpoint}
 use Rattle.model.specs.Rules.{place, heldSize, isPending, freeze, isFrozen}
-use Rattle.model.specs.Sight.{rows, held, isForeign, versions, seen, seenOf}
-use Rattle.model.specs.Transactions.{openCall, gives, changed, withTuple, openNumbers, writtenBy, newTuple, withWrite, notOpen, noTable, tooLong, foreign, _when_, full, insertCall, present, replaceCall, unseen, deleteCall, readCall, readSeen, listCall, without, commitCall, abortCall, PlaceOp, carryOut, closePlan, abortPlan}
-use Rattle.model.specs.Checkpoint.{withProgress, beginCall, storePage, made, allocate, storeDirectory, storeHeader, stepAt, stepOf, inTurn, stepCall, runCall, left}
-use Rattle.model.specs.Calls.{Call, others, call, opens, inserts, replaces, deletes, commits, aborts, reads, lists, begins, steps, runs}
-use Rattle.model.proofs.Lists.{in-append, all-map, leb-false, Pairs, not-false}
+use Rattle.model.specs.Sight.{rows, held, isForeign, versions}
+use Rattle.model.specs.Transactions.{gives, changed, openNumbers, withOpen, newTuple, withWrite, afterWrite, withTuple, without, committedPages, abortedPages, closing, PlaceOp, carryOut, closePlan, abortPlan}
+use Rattle.model.specs.Checkpoint.{withProgress, beginCall, storePage, made, allocate, storeDirectory, storeHeader, stepAt, stepOf}
+use Rattle.model.specs.Calls.{TransactionCall, transact, Call, transacts, begins, steps, runs, call, others}
+use Rattle.model.proofs.Lists.{in-append, all-map, Pairs}
 use Rattle.model.proofs.ByNumber.{planRows, removeAll}
 use Rattle.model.proofs.Owners.{numbers-append, numbers-write, numbers-length, others-length, numbers-without}
 use Rattle.model.proofs.Splits.{mostSize}
 use Rattle.model.proofs.Frozen.{images, images-place, shown-withoutPending, images-none, images-carry}
-use Rattle.model.proofs.Quiet.{unless-keeps, Passed}
+use Rattle.model.proofs.Effects.{unless-keeps, Accepts, Does, refuses, answers, starts, writes, finishes, undoes, does}
+use Rattle.model.proofs.Quiet.{step-keeps, run-keeps}
 use Rattle.model.proofs.Books.{below-most, idle-of}
 use Rattle.model.proofs.Sound.{place-ok, PageOk, bare-size, thaw-ok, carry-ok}
 use Rattle.model.proofs.Rows.{Sub, rows-live, held-plain, live-sub, entries, sub-all, Differ, sub-pairs, held-freeze, rows-freeze, thaw-rows}
@@ -44,19 +44,20 @@ live-open tx os rs h = record {
       (λ r k. opened-more tx os (r .1 .owner) k) rs (h .open′);
 }
 
-open-valid : (tx : ℕ) (s : Store) → Valid s → Valid (openCall tx s .store)
-unfolding openCall gives changed
-open-valid tx s v =
-    unless-keeps Valid _ s _ v (λ p. record {
+open-valid : (tx : ℕ) (s : Store) → length (s .active) < openLimit → Valid s → Valid (withOpen tx s)
+unfolding changed
+open-valid tx s l v =
+    let m = length-append (s .active) (record { transaction = tx; written = 0 } ∷ []) in
+    record {
       pages = v .pages;
       still = v .still;
       has = v .has;
       sees = subst (λ z. LiveOk z (rows (s .pages))) (sym (numbers-append (s .active) (record { transaction = tx; written = 0 })))
           (live-open tx (openNumbers (s .active)) (rows (s .pages)) (v .sees));
-      opened = let l = leb-false 64 (length (s .active)) (p .1 .1 .0) in let m = length-append (s .active) (record { transaction = tx; written = 0 } ∷ []) in omega arith;
+      opened = omega arith;
       nx = v .nx;
       cap = v .cap;
-    })
+    }
 
 -- ---- insert, replace, delete
 
@@ -73,101 +74,50 @@ pub rows-rising : (s : Store) → Valid s → Pairs Before (rows (s .pages))
 rows-rising s v = sub-pairs Before before-alike (rows-sub (s .pages)) (v .has .rising)
 
 -- a new tuple is placed
-module _ (s : Store) (v : Valid s) (tx t k : ℕ) (bs : List ℕ) (m : Bool) (i : isIn tx (openNumbers (s .active)) ≡ true)
-    (count : writtenBy tx (s .active) ≡ howMany (isOwn tx) (rows (s .pages))) (lt : t ≤ 7) (lb : length bs ≤ payloadLimit)
-    (nf : any (isForeign tx) (versions t k (s .pages)) ≡ false) (room : length (held (s .pages)) < s .capacity) (more : suc (s .next) ≤ mostNumber)
-    (first : isEmpty (versions t k (s .pages)) ≡ true → m ≡ false) (plain : (not m || isEmpty bs) ≡ true) where
+module _ (c : TransactionCall) (s : Store) (v : Valid s) (n : Counted s) (tx t k : ℕ) (bs : List ℕ) (m : Bool) (a : Accepts c tx t k bs m s) where
   x : Tuple
   x = newTuple tx k bs m s
 
   x-size : size x ≤ mostSize
   unfolding size x newTuple ownerSize
-  x-size = omega arith
+  x-size = omega (arith, a .short)
 
   x-marked : markOk (t, x) ≡ true
   unfolding markOk x newTuple isTentative
-  x-marked = plain
+  x-marked = a .bare
 
-  written-has : (a b : List Row) → Put (t, x) a b → HeldOk (s .capacity) (s .next) b → length b < s .capacity → HeldOk (s .capacity) (suc (s .next)) a
+  written-has : (rs b : List Row) → Put (t, x) rs b → HeldOk (s .capacity) (s .next) b → length b < s .capacity → HeldOk (s .capacity) (suc (s .next)) rs
   unfolding x newTuple
-  written-has a b p h l =
+  written-has rs b p h l =
       subst (HeldOk (s .capacity) (suc (s .next))) (sym (p .now))
-      (held-insert t k (s .next) (p .low) (p .high) (p .below) (p .above) (s .capacity) x refl refl lt
+      (held-insert t k (s .next) (p .low) (p .high) (p .below) (p .above) (s .capacity) x refl refl (a .table)
       (subst (λ z. length z < s .capacity) (p .was) l) (subst (HeldOk (s .capacity) (s .next)) (p .was) h))
 
-  written-sees : (a : List Row) → Put (t, x) a (rows (s .pages)) → LiveOk (openNumbers (s .active)) a
+  written-sees : (rs : List Row) → Put (t, x) rs (rows (s .pages)) → LiveOk (openNumbers (s .active)) rs
   unfolding x newTuple versions
-  written-sees a p =
+  written-sees rs p =
       let old = p .was in
       let nums = subst (AllOf (λ r. r .1 .number < s .next)) old (rows-known s v) in
       subst (LiveOk (openNumbers (s .active))) (sym (p .now))
-      (live-insert t tx x (p .low) (p .high) (p .below) (p .above) nums (ap (tentative tx) count ∙ ap (λ z. tentative tx (howMany (isOwn tx) z)) old)
-      (openNumbers (s .active)) i x-marked
-      (ap (λ z. any (isForeign tx) (keep (isAt t k) z)) (sym old) ∙ nf) (λ e. first (ap (λ z. isEmpty (keep (isAt t k) z)) old ∙ e))
+      (live-insert t tx x (p .low) (p .high) (p .below) (p .above) nums (ap (tentative tx) (n tx (a .opened)) ∙ ap (λ z. tentative tx (howMany (isOwn tx) z)) old)
+      (openNumbers (s .active)) (a .opened) x-marked
+      (ap (λ z. any (isForeign tx) (keep (isAt t k) z)) (sym old) ∙ a .alone) (λ e. a .known (ap (λ z. isEmpty (keep (isAt t k) z)) old ∙ e))
       (subst (LiveOk (openNumbers (s .active))) old (v .sees)))
 
   pub written-valid : Valid (withTuple tx t k bs m s .store)
-  unfolding withTuple gives changed x
+  unfolding withTuple afterWrite gives changed x
   written-valid =
       let put = place-put t x (s .pages) (v .pages) (v .has .rising) in
       record {
         pages = place-ok t x x-size (s .pages) (v .pages);
         still = λ h. images-place t x (s .pages) ∙ v .still h;
-        has = written-has _ _ (put .0) (v .has) room;
+        has = written-has _ _ (put .0) (v .has) (a .room);
         sees = subst (λ z. LiveOk z (rows (place t x (s .pages)))) (sym (numbers-write tx (s .active))) (written-sees _ (put .1));
         opened = subst (λ n. n ≤ openLimit) (sym (numbers-length (s .active)) ∙ ap length (sym (numbers-write tx (s .active)))
             ∙ numbers-length (withWrite tx (s .active))) (v .opened);
-        nx = more;
+        nx = below-most (s .next) (v .nx) (a .number);
         cap = v .cap;
       }
-
--- an insert or replace: n when b is the one test in which they differ
-stored-valid : (tx t k : ℕ) (bs : List ℕ) (s : Store) (n : ℕ) (b : Bool) → Valid s → Counted s
-    → Passed (notOpen tx s ++ (noTable t ∷ tooLong bs ∷ foreign tx t k s ∷ n when b ∷ full s)) → Valid (withTuple tx t k bs false s .store)
-unfolding notOpen noTable tooLong foreign full
-stored-valid tx t k bs s n b v c p =
-    let q = p .1 .1 .1 .1 .1 .1 in
-    let o = not-false _ (p .1 .0) in
-    written-valid s v tx t k bs false o (c tx o) (omega (arith, leb-false 8 t (p .1 .1 .0)))
-    (omega (arith, leb-false (suc payloadLimit) (length bs) (p .1 .1 .1 .0))) (p .1 .1 .1 .1 .0)
-    (leb-false (s .capacity) (length (held (s .pages))) (q .0)) (below-most (s .next) (v .nx) (q .1 .0)) (λ e. refl) refl
-
-insert-valid : (tx t k : ℕ) (bs : List ℕ) (s : Store) → Valid s → Counted s → Valid (insertCall tx t k bs s .store)
-unfolding insertCall present
-insert-valid tx t k bs s v c = unless-keeps Valid _ s _ v (stored-valid tx t k bs s 13 _ v c)
-
-replace-valid : (tx t k : ℕ) (bs : List ℕ) (s : Store) → Valid s → Counted s → Valid (replaceCall tx t k bs s .store)
-unfolding replaceCall unseen
-replace-valid tx t k bs s v c = unless-keeps Valid _ s _ v (stored-valid tx t k bs s 14 _ v c)
-
--- what is seen is a version
-seen-some : (tx : ℕ) (vs : List Row) → isSome (seenOf tx vs) ≡ true → isEmpty vs ≡ true → true ≡ false
-unfolding seenOf isSome isEmpty last first
-seen-some tx [] h e = lie h
-seen-some tx (r ∷ vs) h e = lie e
-
-delete-valid : (tx t k : ℕ) (s : Store) → Valid s → Counted s → Valid (deleteCall tx t k s .store)
-unfolding deleteCall notOpen noTable foreign unseen full seen
-delete-valid tx t k s v c =
-    unless-keeps Valid _ s _ v (λ p.
-    let q = p .1 .1 .1 .1 .1 in
-    written-valid s v tx t k [] true (not-false _ (p .1 .0)) (c tx (not-false _ (p .1 .0))) (omega (arith, leb-false 8 t (p .1 .1 .0))) (omega arith) (p .1 .1 .1 .0)
-    (leb-false (s .capacity) (length (held (s .pages))) (q .0)) (below-most (s .next) (v .nx) (q .1 .0))
-    (seen-some tx (versions t k (s .pages)) (not-false _ (p .1 .1 .1 .1 .0))) (unfold isEmpty in refl))
-
--- ---- read, list
-
-read-valid : (tx t k r : ℕ) (s : Store) → Valid s → Valid (readCall tx t k r s .store)
-unfolding readCall
-read-valid tx t k r s v = unless-keeps Valid _ s _ v (λ p. go (seen tx t k s))
-  where
-    go : (o : Option Row) → Valid (readSeen r o s .store)
-    go none = unfold readSeen gives in v
-    go (some q) = unfold readSeen in unless-keeps Valid _ s _ v (λ p. unfold gives in v)
-
-list-valid : (r : ℕ) (s : Store) → Valid s → Valid (listCall r s .store)
-unfolding listCall gives
-list-valid r s v = unless-keeps Valid _ s _ v (λ p. v)
 
 -- ---- commit, abort
 
@@ -190,25 +140,23 @@ closed-valid tx n os F s v r live =
       cap = v .cap;
     }
 
-commit-valid : (tx : ℕ) (s : Store) → Valid s → Valid (commitCall tx s .store)
-unfolding commitCall gives
+commit-valid : (tx : ℕ) (s : Store) → Valid s → Valid (closing tx (committedPages tx (s .pages)) s .store)
+unfolding gives
 commit-valid tx s v =
     let rs = rows (s .pages) in
     let d = rows-differ s v in
-    unless-keeps Valid _ s _ v
-    (λ p. closed-valid tx (length (held (s .pages))) (closePlan tx (s .pages)) (fate (planRows tx rs rs)) s v
+    closed-valid tx (length (held (s .pages))) (closePlan tx (s .pages)) (fate (planRows tx rs rs)) s v
     (commit-carried (s .pages) (v .has .rising) (v .has .differ) (v .pages) tx)
-    (rw (commit-rows tx rs d) (commit-live tx (openNumbers (s .active)) rs (v .sees) d)))
+    (rw (commit-rows tx rs d) (commit-live tx (openNumbers (s .active)) rs (v .sees) d))
 
-abort-valid : (tx : ℕ) (s : Store) → Valid s → Valid (abortCall tx s .store)
-unfolding abortCall gives
+abort-valid : (tx : ℕ) (s : Store) → Valid s → Valid (closing tx (abortedPages tx (s .pages)) s .store)
+unfolding gives
 abort-valid tx s v =
     let rs = rows (s .pages) in
     let d = rows-differ s v in
-    unless-keeps Valid _ s _ v
-    (λ p. closed-valid tx (length (held (s .pages))) (abortPlan tx (s .pages)) (fate (removeAll (keep (isOwn tx) rs))) s v
+    closed-valid tx (length (held (s .pages))) (abortPlan tx (s .pages)) (fate (removeAll (keep (isOwn tx) rs))) s v
     (abort-carried (s .pages) (v .has .rising) (v .has .differ) (v .pages) tx)
-    (rw (abort-rows tx rs d) (abort-live tx (openNumbers (s .active)) rs (v .sees) d)))
+    (rw (abort-rows tx rs d) (abort-live tx (openNumbers (s .active)) rs (v .sees) d))
 
 -- ---- the checkpoint
 
@@ -301,29 +249,20 @@ step-valid s v = go (s .checkpoint)
         (λ k. rw (k, if_then_else_) (header-valid n es ds s f v))))
         (λ p f. rw (f, stepOf) (page-valid n es ds p s v))
 
-turn-valid : (k : ℕ) (s : Store) → Valid s → Valid (inTurn k s .store)
-unfolding inTurn gives
-turn-valid zero s v = v
-turn-valid (suc k) s v = turn-valid k (stepAt (s .checkpoint) s .store) (step-valid s v)
+-- ---- all calls
 
-stepCall-valid : (len : ℕ) (s : Store) → Valid s → Valid (stepCall len s .store)
-unfolding stepCall
-stepCall-valid len s v = unless-keeps Valid _ s _ v (λ p. step-valid s v)
-
-run-valid : (limit len : ℕ) (s : Store) → Valid s → Valid (runCall limit len s .store)
-unfolding runCall
-run-valid limit len s v = unless-keeps Valid _ s _ v (λ p. turn-valid (min limit (left s)) s v)
+does-valid : (c : TransactionCall) (s : Store) (o : Outcome) → Does c s o → Valid s → Counted s → Valid (o .store)
+unfolding gives
+does-valid c s o (refuses n) v h = v
+does-valid c s o (answers a e i) v h = v
+does-valid c s o (starts tx e l i f) v h = open-valid tx s f v
+does-valid c s o (writes tx t k bs m e a) v h = written-valid c s v h tx t k bs m a
+does-valid c s o (finishes tx e) v h = commit-valid tx s v
+does-valid c s o (undoes tx e) v h = abort-valid tx s v
 
 pub keeps : (c : Call) (s : Store) → Valid s → Counted s → Valid (call c s .store)
 unfolding call
-keeps (opens tx) s v c = open-valid tx s v
-keeps (inserts tx t k bs) s v c = insert-valid tx t k bs s v c
-keeps (replaces tx t k bs) s v c = replace-valid tx t k bs s v c
-keeps (deletes tx t k) s v c = delete-valid tx t k s v c
-keeps (commits tx) s v c = commit-valid tx s v
-keeps (aborts tx) s v c = abort-valid tx s v
-keeps (reads tx t k r) s v c = read-valid tx t k r s v
-keeps (lists r) s v c = list-valid r s v
-keeps begins s v c = begin-valid s v
-keeps (steps len) s v c = stepCall-valid len s v
-keeps (runs limit len) s v c = run-valid limit len s v
+keeps (transacts c) s v h = does-valid c s (transact c s) (does c s) v h
+keeps begins s v h = begin-valid s v
+keeps (steps len) s v h = step-keeps Valid step-valid len s v
+keeps (runs limit len) s v h = run-keeps Valid step-valid limit len s v

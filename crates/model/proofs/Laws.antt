@@ -1,24 +1,29 @@
 -- The order of the rows held, runs as keys, the blocks that a checkpoint takes, the stores that are left, and run as steps.
-use Rattle.basics.proofs.Kit.{_≡_, refl, sym, ap, _∙_, subst, true, false, some, none, Option, List, [], _∷_, _++_, map, ℕ, suc, _+_, _*_, _≤_, _<_, zero, ltb, length, length-append}
+use Rattle.basics.proofs.Kit.{_≡_, refl, sym, ap, _∙_, subst, true, false, some, none, Option, List, [], _∷_, _++_, map, ℕ, suc, _+_, _*_, _≤_, _<_, zero, min, ltb, length, length-append}
 use Rattle.basics.proofs.Kit.{length-map, arith}
-use Rattle.basics.specs.Basics.{if_then_else_, howMany, first, keep}
+use Rattle.basics.specs.Basics.{if_then_else_, all, sum, howMany, first, keep, isEmpty, isIn}
 use Rattle.basics.proofs.Facts.{by, lie, AllOf}
-use Rattle.image_rows.specs.Rows.{Row, isOwn}
+use Rattle.image_rows.specs.Rows.{isOwn}
 use Rattle.image.specs.Stages.{directoriesFor}
-use Rattle.model.specs.State.{Checkpoint, idle, running, Outcome, Store, refused, Page, count}
-use Rattle.model.specs.Rules.{isFrozen, freeze, isDirty, thaw}
-use Rattle.model.specs.Sight.{seen, rows, versions}
-use Rattle.model.specs.Transactions.{rowOf, liveOf, unless, Test, gives, _when_, readSeen, openCall, insertCall, replaceCall, deleteCall, withTuple, commitCall, abortCall, readCall, listCall}
+use Rattle.model.specs.State.{Checkpoint, idle, running, Outcome, Store, Page, count, Held}
+use Rattle.model.specs.Rules.{fits, splitDeep, splitAll, withoutPending, shown, live, isFrozen, freeze, isDirty, thaw}
+use Rattle.model.specs.Sight.{rows, versions}
+use Rattle.model.specs.Transactions.{rowOf, liveOf, unless, Test, gives, _when_, openNumbers, writtenBy, withTuple}
 use Rattle.model.specs.Checkpoint.{left, leftOf, allocate, beginCall, withProgress, blocksNeeded, stepOf, storePage, storeDirectory, storeHeader, made, stepCall, stepAt, badImage, inTurn, runCall}
-use Rattle.model.specs.Calls.{accepted, call, steps, afterCalls, opens, inserts, replaces, deletes, commits, aborts, reads, lists, begins, runs}
-use Rattle.model.specs.WellFormed.{ListOrder, EnoughBlocks, CheckpointWell, BeginAnswers, OneLess, times, writesOf, RunIsSteps, CountsLow}
+use Rattle.model.specs.Calls.{TransactionCall, transact, transacts, begins, steps, runs, call, accepted, afterCalls}
+use Rattle.model.specs.WellFormed.{WellFormed, FrozenIn, NeverFallsBack, ListOrder, CheckpointWell, BeginAnswers, OneLess, times, writesOf, RunIsSteps}
 use Rattle.model.specs.Places.{RunIsKey}
-use Rattle.model.specs.Seen.{RefusedKeeps}
-use Rattle.model.proofs.Lists.{Pairs, pairs-parts, all-parts, leb-true, leb-false, eqb-self, eqb-true, not-false, many-length}
-use Rattle.model.proofs.Frozen.{images-thaw, images-first, images-none}
+use Rattle.model.specs.Seen.{RefusedKeeps, ReadsOnly}
+use Rattle.model.proofs.Lists.{Pairs, pairs-parts, all-parts, all-map, all-true, leb-true, leb-false, eqb-self, eqb-true, not-false, many-length}
+use Rattle.model.proofs.Owners.{count-write}
+use Rattle.model.proofs.Splits.{Small, split-all}
+use Rattle.model.proofs.Frozen.{takenAt-is, images-thaw, images-first, images-none}
 use Rattle.model.proofs.Alloc.{Fresh, allocate-fresh}
-use Rattle.model.proofs.Quiet.{Passed, step-frame}
+use Rattle.model.proofs.Effects.{unless-accepted, Does, refuses, answers, starts, writes, finishes, undoes, does}
+use Rattle.model.proofs.Quiet.{step-frame}
 use Rattle.model.proofs.Books.{length-fill}
+use Rattle.model.proofs.Steps.{storable-is}
+use Rattle.model.proofs.Sound.{PageOk, small, carry-ok, live-withoutPending}
 use Rattle.model.proofs.Rows.{sub-length}
 use Rattle.model.proofs.Placing.{Before}
 use Rattle.model.proofs.Fate.{With}
@@ -33,26 +38,7 @@ list-order s w before between behind r q e =
     let p′ = pairs-parts Before before (r ∷ (between ++ q ∷ behind)) p .1 in
     before-true r q (all-parts (Before r) between (q ∷ behind) (p′ .0) .1 .0)
 
-pub enough-blocks : EnoughBlocks
-unfolding left leftOf
-enough-blocks s w h = go (s .checkpoint) (w .checkpoint) h
-  where
-    go : (c : Checkpoint) → CheckpointWell c s → 1 < leftOf c (s .pages) → (s .used (allocate s) ≡ false) × (1 ≤ allocate s) × (allocate s < s .blocks)
-    go idle k h = absurd (omega arith)
-    go (running n es ds) r h =
-        let f : Fresh (s .blocks) (s .used) (allocate s) = allocate-fresh s (w .taken) (omega (arith, r .room)) in
-        (f .free, f .pos, f .low)
-
 -- ---- how many stores are left
-
--- a property of the outcome of an accepted call: its tests passed
-pub unless-accepted : (P : Outcome → Type 0) (ts : List Test) (s : Store) (o : Outcome) → (Passed ts → accepted (o .answer) ≡ true → P o)
-    → accepted (unless ts s o .answer) ≡ true → P (unless ts s o)
-unfolding unless if_then_else_ gives accepted
-unless-accepted P [] s o f h = f tt h
-unless-accepted P ((n when b) ∷ ts) s o f h =
-    by b (λ k. lie (rw k at h))
-    (λ k. subst (λ z. P (if z then gives (refused n) s else unless ts s o)) (sym k) (unless-accepted P ts s o (λ p. f (k, p)) (rw k at h)))
 
 frozen-dirty : (ps : List Page) → howMany isFrozen (map freeze ps) ≡ howMany isDirty ps
 unfolding howMany isFrozen freeze
@@ -147,47 +133,92 @@ run-is-steps limit len s h k e =
     Ran k o = (o .answer ≡ count k) × (o .store ≡ afterCalls (times k (steps len)) s) × (o .writes ≡ writesOf (times k (steps len)) s)
         × (length (o .writes) ≡ k) × (left s ≡ k + left (o .store))
 
--- ---- refused calls
+-- ---- refused calls, and those that only answer
 
 abbrev Kept : Store → Outcome → Type 0
 Kept s o = (o .store ≡ s) × (o .writes ≡ [])
 
+-- of a call that is not a transaction's: accepted, it may change anything
 kept-unless : (ts : List Test) (s : Store) (o : Outcome) → (accepted (o .answer) ≡ false → Kept s o) → accepted (unless ts s o .answer) ≡ false
     → Kept s (unless ts s o)
 unfolding unless if_then_else_ gives
 kept-unless [] s o f h = f h
 kept-unless ((n when b) ∷ ts) s o f h = by b (λ k. rw k (refl, refl)) (λ k. rw k (kept-unless ts s o f (rw k at h)))
 
-kept-seen : (room : ℕ) (o : Option Row) (s : Store) → accepted (readSeen room o s .answer) ≡ false → Kept s (readSeen room o s)
-unfolding readSeen gives
-kept-seen room none s h = (refl, refl)
-kept-seen room (some r) s h = kept-unless _ s _ (λ k. (refl, refl)) h
-
 kept-step : (c : Checkpoint) (s : Store) → s .checkpoint ≡ c → accepted (stepAt c s .answer) ≡ false → Kept s (stepAt c s)
 unfolding stepAt gives accepted
 kept-step idle s e h = (refl, refl)
 kept-step (running n es ds) s e h = lie (sym h ∙ ap accepted (step-less n es ds s e (first isFrozen (s .pages)) refl .2))
 
+kept-does : (c : TransactionCall) (s : Store) (o : Outcome) → Does c s o → accepted (o .answer) ≡ false → Kept s o
+unfolding gives accepted withTuple
+kept-does c s o (refuses n) h = (refl, refl)
+kept-does c s o (answers a e i) h = (refl, refl)
+kept-does c s o (starts tx e l i f) h = lie (sym h)
+kept-does c s o (writes tx t k bs m e a) h = lie (sym h)
+kept-does c s o (finishes tx e) h = lie (sym h)
+kept-does c s o (undoes tx e) h = lie (sym h)
+
 pub refused-keeps : RefusedKeeps
-unfolding call openCall insertCall replaceCall deleteCall withTuple commitCall abortCall readCall listCall beginCall stepCall runCall gives accepted
-refused-keeps (opens tx) s h = kept-unless _ s _ (λ k. lie (sym k)) h
-refused-keeps (inserts tx t k bs) s h = kept-unless _ s _ (λ k. lie (sym k)) h
-refused-keeps (replaces tx t k bs) s h = kept-unless _ s _ (λ k. lie (sym k)) h
-refused-keeps (deletes tx t k) s h = kept-unless _ s _ (λ k. lie (sym k)) h
-refused-keeps (commits tx) s h = kept-unless _ s _ (λ k. lie (sym k)) h
-refused-keeps (aborts tx) s h = kept-unless _ s _ (λ k. lie (sym k)) h
-refused-keeps (reads tx t k room) s h = kept-unless _ s _ (kept-seen room (seen tx t k s) s) h
-refused-keeps (lists room) s h = kept-unless _ s _ (λ k. lie (sym k)) h
+unfolding call beginCall stepCall runCall gives accepted
+refused-keeps (transacts c) s h = kept-does c s (transact c s) (does c s) h
 refused-keeps begins s h = kept-unless _ s _ (λ k. lie (sym k)) h
 refused-keeps (steps len) s h = kept-unless _ s _ (kept-step (s .checkpoint) s refl) h
 refused-keeps (runs limit len) s h = kept-unless _ s _ (λ k. lie (sym k)) h
 
--- ---- counts
+pub reads-only : ReadsOnly
+reads-only c s n = go (transact c s) (does c s)
+  where
+    other : {X : Type 0} → _≡_ {A = ℕ} 0 1 → X
+    other z = absurd (omega (arith, z))
 
-pub counts-low : CountsLow
-counts-low s w tx h =
-    let v = sound s w .valid in
-    subst (λ n. n ≤ s .capacity) (sym (w .counts tx h)) (omega (arith, many-length (isOwn tx) (rows (s .pages)), sub-length (rows-sub (s .pages)), v .has .few))
+    go : (o : Outcome) → Does c s o → Kept s o
+    go o (refuses n) = unfold gives in (refl, refl)
+    go o (answers a e h) = unfold gives in (refl, refl)
+    go o (starts tx e l i f) = other cc
+    go o (writes tx t k bs m e a) = other cc
+    go o (finishes tx e) = other cc
+    go o (undoes tx e) = other cc
+
+-- ---- choices for totality
+
+ok-in : {ps : List Page} {p : Page} → AllOf PageOk ps → FrozenIn ps p → PageOk p
+ok-in a f = all-parts PageOk (f .before) (_ ∷ f .behind) (subst (AllOf PageOk) (f .is) a) .1 .0
+
+parts-fit : (hs : List Held) → AllOf Small hs → all fits (splitAll hs) ≡ true
+parts-fit [] a = unfold splitAll splitDeep fits all sum in refl
+parts-fit (h ∷ hs) a =
+    let parts = splitAll (h ∷ hs) in
+    all-true fits parts (all-map (λ us. (fits us ≡ true) × (isEmpty us ≡ false)) (λ us. fits us ≡ true) (λ us q. q .0) parts (split-all (h ∷ hs) (omega arith) a .0))
+
+module _ (s : Store) (w : WellFormed s) where
+  enough : (c : Checkpoint) → CheckpointWell c s → 1 < leftOf c (s .pages) → (s .used (allocate s) ≡ false) × (1 ≤ allocate s) × (allocate s < s .blocks)
+  unfolding leftOf
+  enough idle k h = absurd (omega arith)
+  enough (running n es ds) r h =
+      let f : Fresh (s .blocks) (s .used) (allocate s) = allocate-fresh s (w .taken) (omega (arith, r .room)) in
+      (f .free, f .pos, f .low)
+
+  counts-low : (tx : ℕ) → isIn tx (openNumbers (s .active)) ≡ true → writtenBy tx (s .active) ≤ s .capacity
+  counts-low tx h =
+      let v = sound s w .valid in
+      subst (λ n. n ≤ s .capacity) (sym (w .counts tx h)) (omega (arith, many-length (isOwn tx) (rows (s .pages)), sub-length (rows-sub (s .pages)), v .has .few))
+
+min-below : {n cap : ℕ} → n ≤ cap → cap ≤ 1024 → min (suc n) 1048575 ≡ suc n
+min-below h k = omega (arith, h, k)
+
+pub never-falls-back : NeverFallsBack
+unfolding left
+never-falls-back s w =
+    let ok = sound s w .valid .pages in
+    record {
+      removal = λ n os p f j. takenAt-is j (p .tuples) (ok-in (carry-ok n os (s .pages) ok) f .2 (f .frozen) .1);
+      whole = λ p f. storable-is (shown (p .tuples)) (ok-in ok f .2 (f .frozen) .0);
+      parts = λ p f. let hs = map withoutPending (live (p .tuples)) in parts-fit hs (small hs (live-withoutPending (p .tuples) (ok-in ok f .0)));
+      block = λ h. enough s w (s .checkpoint) (w .checkpoint) h;
+      low = counts-low s w;
+      counted = λ tx h. count-write tx (s .active) h ∙ min-below (counts-low s w tx h) (w .capacity .1);
+    }
 
 -- ---- runs
 

@@ -7,6 +7,7 @@ pub mod ByNumber
 pub mod Pages
 pub mod Totals
 pub mod Alloc
+pub mod Effects
 pub mod Quiet
 pub mod Books
 pub mod Recovery

@@ -1,19 +1,17 @@
 -- The open transactions are listed each once, and each is 0 to 4,095.
-use Rattle.basics.proofs.Kit.{_≡_, refl, sym, ap, _∙_, subst, Bool, true, false, not, some, none, Option, List, [], _∷_, _++_, map, ℕ, suc, _≤_, zero, min, eqb, arith}
+use Rattle.basics.proofs.Kit.{_≡_, refl, sym, ap, _∙_, subst, Bool, true, false, not, List, [], _∷_, _++_, map, ℕ, _≤_, eqb, arith}
 use Rattle.basics.specs.Basics.{distinct, isIn, any, keep, if_then_else_}
 use Rattle.basics.proofs.Facts.{AllOf, and-true, by, lie}
 use Rattle.block_forms.specs.Tuple.{Owner, OwnerFits, Fits, committed, tentative}
 use Rattle.image_rows.specs.Rows.{Row, isBy, isOwn, transactions}
-use Rattle.model.specs.State.{Store}
-use Rattle.model.specs.Sight.{seen}
-use Rattle.model.specs.Transactions.{openNumbers, gives, openCall, insertCall, replaceCall, deleteCall, withTuple, commitCall, abortCall, readCall, listCall, changed, readSeen}
-use Rattle.model.specs.Checkpoint.{stepAt, inTurn, beginCall, stepCall, runCall, withProgress, left}
-use Rattle.model.specs.Calls.{others, Call, call, opens, inserts, replaces, deletes, commits, aborts, reads, lists, begins, steps, runs}
+use Rattle.model.specs.State.{Store, Outcome}
+use Rattle.model.specs.Transactions.{gives, changed, openNumbers, afterWrite, withTuple}
+use Rattle.model.specs.Calls.{TransactionCall, transact, Call, transacts, begins, steps, runs, call, isTransaction, others}
 use Rattle.model.specs.Recover.{reopened}
-use Rattle.model.proofs.Lists.{not-in, in-append, not-true, in-one, eqb-sym, in-keep, all-append, all-map, all-keep, leb-false, eqb-true, all-in}
+use Rattle.model.proofs.Lists.{not-in, in-append, not-true, in-one, eqb-sym, in-keep, all-append, all-map, all-keep, eqb-true, all-in}
 use Rattle.model.proofs.Owners.{numbers-append, numbers-write, numbers-without, numbers-reopened, transactions-distinct, in-transactions}
-use Rattle.model.proofs.Quiet.{unless-keeps}
-use Rattle.model.proofs.Tally.{step-active}
+use Rattle.model.proofs.Effects.{Does, refuses, answers, starts, writes, finishes, undoes, does}
+use Rattle.model.proofs.Quiet.{call-leaves}
 
 abbrev pub Listed : Store → Type 0
 Listed s = (distinct (openNumbers (s .active)) ≡ true) × AllOf (λ tx. tx ≤ 4095) (openNumbers (s .active))
@@ -50,34 +48,22 @@ once-others tx os o = (
 listed-same : (s z : Store) → openNumbers (z .active) ≡ openNumbers (s .active) → Listed s → Listed z
 listed-same s z e l = subst Once (sym e) l
 
-step-listed : (s : Store) → Listed s → Listed (stepAt (s .checkpoint) s .store)
-step-listed s l = listed-same s (stepAt (s .checkpoint) s .store) (ap openNumbers (step-active s)) l
-
-turn-listed : (k : ℕ) (s : Store) → Listed s → Listed (inTurn k s .store)
-unfolding inTurn gives
-turn-listed zero s l = l
-turn-listed (suc k) s l = turn-listed k (stepAt (s .checkpoint) s .store) (step-listed s l)
+does-listed : (c : TransactionCall) (s : Store) (o : Outcome) → Does c s o → Listed s → Listed (o .store)
+unfolding gives changed withTuple afterWrite
+does-listed c s o (refuses n) l = l
+does-listed c s o (answers a e h) l = l
+does-listed c s o (starts tx e low i f) l =
+    subst Once (sym (numbers-append (s .active) (record { transaction = tx; written = 0 }))) (once-open tx (openNumbers (s .active)) i low l)
+does-listed c s o (writes tx t k bs m e a) l = subst Once (sym (numbers-write tx (s .active))) l
+does-listed c s o (finishes tx e) l = subst Once (sym (numbers-without tx (s .active))) (once-others tx (openNumbers (s .active)) l)
+does-listed c s o (undoes tx e) l = subst Once (sym (numbers-without tx (s .active))) (once-others tx (openNumbers (s .active)) l)
 
 pub keeps-listed : (c : Call) (s : Store) → Listed s → Listed (call c s .store)
-unfolding call openCall insertCall replaceCall deleteCall withTuple commitCall abortCall readCall listCall beginCall stepCall runCall gives changed withProgress
-keeps-listed (opens tx) s l =
-    unless-keeps Listed _ s _ l (λ p.
-    subst Once (sym (numbers-append (s .active) (record { transaction = tx; written = 0 })))
-    (once-open tx (openNumbers (s .active)) (p .1 .0) (omega (arith, leb-false 4096 tx (p .0))) l))
-keeps-listed (inserts tx t k bs) s l = unless-keeps Listed _ s _ l (λ p. subst Once (sym (numbers-write tx (s .active))) l)
-keeps-listed (replaces tx t k bs) s l = unless-keeps Listed _ s _ l (λ p. subst Once (sym (numbers-write tx (s .active))) l)
-keeps-listed (deletes tx t k) s l = unless-keeps Listed _ s _ l (λ p. subst Once (sym (numbers-write tx (s .active))) l)
-keeps-listed (commits tx) s l = unless-keeps Listed _ s _ l (λ p. subst Once (sym (numbers-without tx (s .active))) (once-others tx (openNumbers (s .active)) l))
-keeps-listed (aborts tx) s l = unless-keeps Listed _ s _ l (λ p. subst Once (sym (numbers-without tx (s .active))) (once-others tx (openNumbers (s .active)) l))
-keeps-listed (reads tx t k r) s l = unless-keeps Listed _ s _ l (λ p. go (seen tx t k s))
-  where
-    go : (o : Option Row) → Listed (readSeen r o s .store)
-    go none = unfold readSeen in l
-    go (some q) = unfold readSeen in unless-keeps Listed _ s _ l (λ p. l)
-keeps-listed (lists r) s l = unless-keeps Listed _ s _ l (λ p. l)
-keeps-listed begins s l = unless-keeps Listed _ s _ l (λ p. l)
-keeps-listed (steps len) s l = unless-keeps Listed _ s _ l (λ p. step-listed s l)
-keeps-listed (runs limit len) s l = unless-keeps Listed _ s _ l (λ p. turn-listed (min limit (left s)) s l)
+unfolding call isTransaction
+keeps-listed (transacts c) s l = does-listed c s (transact c s) (does c s) l
+keeps-listed begins s l = listed-same s (call begins s .store) (ap openNumbers (call-leaves begins s .active refl)) l
+keeps-listed (steps len) s l = listed-same s (call (steps len) s .store) (ap openNumbers (call-leaves (steps len) s .active refl)) l
+keeps-listed (runs limit len) s l = listed-same s (call (runs limit len) s .store) (ap openNumbers (call-leaves (runs limit len) s .active refl)) l
 
 -- ---- recovered
 

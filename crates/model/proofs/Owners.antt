@@ -2,10 +2,9 @@
 use Rattle.basics.proofs.Kit.{_≡_, refl, sym, ap, _∙_, true, false, not, List, [], _∷_, _++_, map, ℕ, suc, _≤_, _<_, min, eqb, length, arith}
 use Rattle.basics.specs.Basics.{isIn, if_then_else_, any, distinct, keep, howMany}
 use Rattle.basics.proofs.Facts.{by, lie, AllOf, and-true}
-use Rattle.block_forms.specs.Tuple.{tentative}
-use Rattle.image_rows.specs.Rows.{transactions, Row, isOwn}
+use Rattle.image_rows.specs.Rows.{Row, isOwn}
 use Rattle.model.specs.State.{Active}
-use Rattle.model.specs.Transactions.{openNumbers, withWrite, isFor, without, writtenBy}
+use Rattle.model.specs.Transactions.{openNumbers, oneMore, withWrite, isFor, without, writtenBy}
 use Rattle.model.specs.Calls.{others}
 use Rattle.model.specs.Recover.{reopened}
 use Rattle.model.proofs.Lists.{eqb-true, in-cons, eqb-sym, in-keep, not-in, not-in-all, not-true, all-two}
@@ -53,7 +52,7 @@ numbers-append [] o = refl
 numbers-append (p ∷ os) o = ap (λ z. p .transaction ∷ z) (numbers-append os o)
 
 pub numbers-write : (tx : ℕ) (os : List Active) → openNumbers (withWrite tx os) ≡ openNumbers os
-unfolding openNumbers withWrite if_then_else_
+unfolding openNumbers withWrite oneMore if_then_else_
 numbers-write tx [] = refl
 numbers-write tx (o ∷ os) = by (isFor tx o) (λ h. rw h) (λ h. rw h (ap (λ z. o .transaction ∷ z) (numbers-write tx os)))
 
@@ -88,14 +87,14 @@ count-new tx u (o ∷ os) h =
     rw (eqb-sym tx (o .transaction) (n .0)) (count-new tx u os (n .1))
 
 pub count-write : (tx : ℕ) (os : List Active) → isIn tx (openNumbers os) ≡ true → writtenBy tx (withWrite tx os) ≡ min (suc (writtenBy tx os)) 1048575
-unfolding openNumbers writtenBy withWrite isFor if_then_else_
+unfolding openNumbers writtenBy withWrite oneMore isFor if_then_else_
 count-write tx [] h = lie (unfold isIn any in h)
 count-write tx (o ∷ os) h =
     by (eqb (o .transaction) tx) (λ k. rw (k, k))
     (λ k. rw (k, k) (count-write tx os (sym (in-cons tx (o .transaction) (openNumbers os) (eqb-sym (o .transaction) tx k)) ∙ h)))
 
 pub count-other : (tx u : ℕ) (os : List Active) → eqb tx u ≡ false → writtenBy u (withWrite tx os) ≡ writtenBy u os
-unfolding writtenBy withWrite isFor if_then_else_
+unfolding writtenBy withWrite oneMore isFor if_then_else_
 count-other tx u [] d = refl
 count-other tx u (o ∷ os) d =
     by (eqb (o .transaction) tx)

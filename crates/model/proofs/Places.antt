@@ -177,7 +177,7 @@ module _ (E : ℕ → Page → List Held) where
       (λ h. rw (h, entriesAt) (numbers-page (p .table) (p .tuples) (entriesAt E (i - length (p .tuples)) ps)
       ∙ ap (λ z. numbersOn (p .tuples) ++ z) (numbers-same k (i - length (p .tuples)) ps) ∙ sym (numbers-cons p ps)))
 
-  -- the one at that place is removeNow, or none
+  -- the one at that place is removed, or none
   numbers-less : ((j : ℕ) (p : Page) → Less j (numbersOn (E j p)) (numbersOn (p .tuples))) → (i : ℕ) (ps : List Page)
       → Less i (map numberOf (entriesAt E i ps)) (numbers ps)
   unfolding entriesAt

@@ -1,51 +1,20 @@
 -- Calls that make no store and touch no checkpoint: they change the next number, the pages and the open transactions only, and
--- not what the frozen pages show.
-use Rattle.basics.proofs.Kit.{_≡_, refl, Bool, true, false, some, none, Option, List, [], _∷_, ℕ, _≤_, ltb, length, arith}
+-- not what the frozen pages show. And what every call leaves.
+use Rattle.basics.proofs.Kit.{_≡_, refl, sym, ap, _∙_, Bool, true, false, List, [], ℕ, suc, _≤_, zero, min, ltb, length, arith}
 use Rattle.basics.specs.Basics.{if_then_else_, sum, first}
 use Rattle.basics.proofs.Facts.{by, AllOf, lie, by-option}
-use Rattle.image_rows.specs.Rows.{Row}
 use Rattle.image.specs.Stages.{directoriesFor}
-use Rattle.model.specs.State.{Store, Write, Outcome, Page, Active, Held, Answer, refused, done, Checkpoint, idle, running}
+use Rattle.model.specs.State.{Store, Outcome, Page, Active, Held, Answer, refused, done, Checkpoint, idle, running}
 use Rattle.model.specs.Rules.{fresh, isFrozen}
-use Rattle.model.specs.Sight.{seen}
-use Rattle.model.specs.Transactions.{unless, Test, gives, _when_, withTuple, changed, readSeen, openCall, insertCall, replaceCall, deleteCall, commitCall, abortCall, readCall, listCall, PlaceOp, carryOut}
-use Rattle.model.specs.Checkpoint.{withProgress, stepAt, stepOf, storePage, storeDirectory, storeHeader, made}
-use Rattle.model.specs.Calls.{Call, opens, inserts, replaces, deletes, commits, aborts, reads, lists, begins, steps, runs, call}
+use Rattle.model.specs.Transactions.{gives, afterWrite, withTuple, changed, closing, PlaceOp, carryOut}
+use Rattle.model.specs.Checkpoint.{withProgress, beginCall, stepAt, stepOf, storePage, storeDirectory, storeHeader, made, stepCall, inTurn, left, runCall}
+use Rattle.model.specs.Calls.{TransactionCall, transact, Call, transacts, begins, steps, runs, call, isTransaction, isStep, Leaves, CallLeaves}
+use Rattle.model.proofs.Effects.{unless-out, unless-keeps, Does, refuses, answers, starts, writes, finishes, undoes, does}
 use Rattle.model.proofs.Frozen.{images, images-place, images-carry}
 use Rattle.model.proofs.Pages.{stillFrozen, all-place, all-carry}
 use Rattle.model.proofs.Totals.{sum-place, sum-carry}
 
--- a property of the store after a call and the blocks withTuple: none if it is refused
-pub unless-out : (P : Store → List Write → Type 0) (ts : List Test) (s : Store) (o : Outcome) → P s [] → P (o .store) (o .writes)
-    → P (unless ts s o .store) (unless ts s o .writes)
-unfolding unless if_then_else_ gives
-unless-out P [] s o p q = q
-unless-out P ((n when b) ∷ ts) s o p q = by b (λ h. rw h p) (λ h. rw h (unless-out P ts s o p q))
-
-abbrev pub Passed : List Test → Type 0
-Passed [] = Unit {0}
-Passed ((n when b) ∷ ts) = (b ≡ false) × Passed ts
-
--- a property of the store that an accepted call keeps: the tests passed
-pub unless-keeps : (P : Store → Type 0) (ts : List Test) (s : Store) (o : Outcome) → P s → (Passed ts → P (o .store)) → P (unless ts s o .store)
-unfolding unless if_then_else_ gives
-unless-keeps P [] s o v f = f tt
-unless-keeps P ((n when b) ∷ ts) s o v f = by b (λ h. rw h v) (λ h. rw h (unless-keeps P ts s o v (λ p. f (h, p))))
-
--- no begin, step or run
-unfoldable pub isPlain : Call → Bool
-isPlain (opens tx) = true
-isPlain (inserts tx t k bs) = true
-isPlain (replaces tx t k bs) = true
-isPlain (deletes tx t k) = true
-isPlain (commits tx) = true
-isPlain (aborts tx) = true
-isPlain (reads tx t k room) = true
-isPlain (lists room) = true
-isPlain begins = false
-isPlain (steps len) = false
-isPlain (runs limit len) = false
-
+-- what such a call gives
 pub record Quiet (s : Store) (o : Outcome) : Type 1 where
   pub none-written : o .writes ≡ []
   pub next : ℕ
@@ -70,13 +39,8 @@ module _ (s : Store) where
   unfolding gives changed
   quiet-same a = quiet-opened a (s .active)
 
-  quiet-unless : (ts : List Test) (o : Outcome) → Quiet s o → Quiet s (unless ts s o)
-  unfolding unless if_then_else_
-  quiet-unless [] o q = q
-  quiet-unless ((n when b) ∷ ts) o q = by b (λ h. rw h (quiet-same (refused n))) (λ h. rw h (quiet-unless ts o q))
-
   quiet-written : (tx t k : ℕ) (bs : List ℕ) (m : Bool) → Quiet s (withTuple tx t k bs m s)
-  unfolding withTuple gives
+  unfolding withTuple afterWrite gives
   quiet-written tx t k bs m =
       record {
         none-written = refl;
@@ -90,9 +54,9 @@ module _ (s : Store) where
         less = λ w f g. sum-place w f g t _ (s .pages);
       }
 
-  quiet-carried : (n : ℕ) (ops : List PlaceOp) (os : List Active) → Quiet s (gives done (changed s (s .next) (carryOut n ops (s .pages)) os))
+  quiet-carried : (n : ℕ) (ops : List PlaceOp) (tx : ℕ) → Quiet s (closing tx (carryOut n ops (s .pages)) s)
   unfolding gives
-  quiet-carried n ops os =
+  quiet-carried n ops tx =
       record {
         none-written = refl;
         next = _;
@@ -105,24 +69,16 @@ module _ (s : Store) where
         less = λ w f g. sum-carry w f g n ops (s .pages);
       }
 
-  quiet-seen : (r : ℕ) (o : Option Row) → Quiet s (readSeen r o s)
-  unfolding readSeen
-  quiet-seen r none = quiet-same (refused 14)
-  quiet-seen r (some x) = quiet-unless _ _ (quiet-same _)
-
-  pub quiet : (c : Call) → isPlain c ≡ true → Quiet s (call c s)
-  unfolding isPlain call openCall insertCall replaceCall deleteCall commitCall abortCall readCall listCall
-  quiet (opens tx) h = quiet-unless _ _ (quiet-opened done _)
-  quiet (inserts tx t k bs) h = quiet-unless _ _ (quiet-written tx t k bs false)
-  quiet (replaces tx t k bs) h = quiet-unless _ _ (quiet-written tx t k bs false)
-  quiet (deletes tx t k) h = quiet-unless _ _ (quiet-written tx t k [] true)
-  quiet (commits tx) h = quiet-unless _ _ (quiet-carried _ _ _)
-  quiet (aborts tx) h = quiet-unless _ _ (quiet-carried _ _ _)
-  quiet (reads tx t k room) h = quiet-unless _ _ (quiet-seen room (seen tx t k s))
-  quiet (lists room) h = quiet-unless _ _ (quiet-same _)
-  quiet begins h = lie h
-  quiet (steps len) h = lie h
-  quiet (runs limit len) h = lie h
+  pub quiet : (c : TransactionCall) → Quiet s (transact c s)
+  quiet c = go (transact c s) (does c s)
+    where
+      go : (o : Outcome) → Does c s o → Quiet s o
+      go o (refuses n) = quiet-same (refused n)
+      go o (answers a e h) = quiet-same a
+      go o (starts tx e l i f) = quiet-opened done _
+      go o (writes tx t k bs m e a) = quiet-written tx t k bs m
+      go o (finishes tx e) = quiet-carried _ _ tx
+      go o (undoes tx e) = quiet-carried _ _ tx
 
 -- ---- a step changes the level, the pages, the blocks in use, the block last taken and the checkpoint only
 
@@ -137,3 +93,77 @@ step-frame P s p f = go (s .checkpoint)
         by-option (first isFrozen (s .pages))
         (λ e. rw (e, stepOf) (by (ltb (length ds) (directoriesFor (length es))) (λ k. rw (k, if_then_else_) (f _ _ _ _ _)) (λ k. rw (k, if_then_else_) (f _ _ _ _ _))))
         (λ q e. rw (e, stepOf) (f _ _ _ _ _))
+
+-- what every step keeps is kept by step and run
+module _ (P : Store → Type 0) (keeps : (s : Store) → P s → P (stepAt (s .checkpoint) s .store)) where
+  turn-keeps : (k : ℕ) (s : Store) → P s → P (inTurn k s .store)
+  unfolding inTurn gives
+  turn-keeps zero s p = p
+  turn-keeps (suc k) s p = turn-keeps k (stepAt (s .checkpoint) s .store) (keeps s p)
+
+  pub step-keeps : (len : ℕ) (s : Store) → P s → P (stepCall len s .store)
+  unfolding stepCall
+  step-keeps len s p = unless-keeps P _ s _ p (λ q. keeps s p)
+
+  pub run-keeps : (limit len : ℕ) (s : Store) → P s → P (runCall limit len s .store)
+  unfolding runCall
+  run-keeps limit len s p = unless-keeps P _ s _ p (λ q. turn-keeps (min limit (left s)) s p)
+
+-- ---- what a call leaves
+
+-- what begin, step and run leave of s
+record Stands (s t : Store) : Type 0 where
+  blocks : t .blocks ≡ s .blocks
+  capacity : t .capacity ≡ s .capacity
+  next : t .next ≡ s .next
+  active : t .active ≡ s .active
+
+unmoved : (s : Store) → Stands s s
+unmoved s = record { blocks = refl; capacity = refl; next = refl; active = refl }
+
+stands-moved : (s t : Store) (l : ℕ) (ps : List Page) (u : ℕ → Bool) (b : ℕ) (c : Checkpoint) → Stands s t → Stands s (withProgress t l ps u b c)
+unfolding withProgress
+stands-moved s t l ps u b c h = record { blocks = h .blocks; capacity = h .capacity; next = h .next; active = h .active }
+
+step-stands : (s t : Store) → Stands s t → Stands s (stepAt (t .checkpoint) t .store)
+step-stands s t h = step-frame (Stands s) t h (λ l ps u b c. stands-moved s t l ps u b c h)
+
+begin-stands : (s : Store) → Stands s (beginCall s .store) × (beginCall s .writes ≡ [])
+unfolding beginCall gives
+begin-stands s = unless-out (λ t ws. Stands s t × (ws ≡ [])) _ s _ (unmoved s, refl) (stands-moved s s _ _ _ _ _ (unmoved s), refl)
+
+stands-leaves : (c : Call) (s : Store) (o : Outcome) → isTransaction c ≡ false → Stands s (o .store) → (isStep c ≡ false → o .writes ≡ []) → Leaves c s o
+stands-leaves c s o h k i =
+    record {
+      blocks = k .blocks;
+      capacity = k .capacity;
+      level = λ e. lie (sym h ∙ e);
+      used = λ e. lie (sym h ∙ e);
+      taken = λ e. lie (sym h ∙ e);
+      checkpoint = λ e. lie (sym h ∙ e);
+      next = λ e. k .next;
+      active = λ e. k .active;
+      image = i;
+    }
+
+quiet-leaves : (c : Call) (s : Store) (o : Outcome) → isTransaction c ≡ true → Quiet s o → Leaves c s o
+unfolding changed
+quiet-leaves c s o h q =
+    record {
+      blocks = ap (λ t. t .blocks) (q .eq);
+      capacity = ap (λ t. t .capacity) (q .eq);
+      level = λ e. ap (λ t. t .level) (q .eq);
+      used = λ e. ap (λ t. t .used) (q .eq);
+      taken = λ e. ap (λ t. t .taken) (q .eq);
+      checkpoint = λ e. ap (λ t. t .checkpoint) (q .eq);
+      next = λ e. lie (sym e ∙ h);
+      active = λ e. lie (sym e ∙ h);
+      image = λ e. q .none-written;
+    }
+
+pub call-leaves : CallLeaves
+unfolding call isTransaction isStep
+call-leaves (transacts c) s = quiet-leaves (transacts c) s (transact c s) refl (quiet s c)
+call-leaves begins s = stands-leaves begins s (beginCall s) refl (begin-stands s .0) (λ e. begin-stands s .1)
+call-leaves (steps len) s = stands-leaves (steps len) s (stepCall len s) refl (step-keeps (Stands s) (step-stands s) len s (unmoved s)) (λ e. lie (sym e))
+call-leaves (runs limit len) s = stands-leaves (runs limit len) s (runCall limit len s) refl (run-keeps (Stands s) (step-stands s) limit len s (unmoved s)) (λ e. lie (sym e))

@@ -1,20 +1,21 @@
 -- Calls with keys of 32 bits and payloads of bytes keep the fields of every tuple held in range.
-use Rattle.basics.proofs.Kit.{_≡_, sym, subst, Bool, true, false, some, none, Option, List, [], _∷_, _++_, ℕ, suc, _≤_, _<_, zero, min, ltb, length, length-map, arith}
-use Rattle.basics.specs.Basics.{howMany, if_then_else_, first}
+use Rattle.basics.proofs.Kit.{_≡_, sym, subst, Bool, true, List, [], _∷_, _++_, ℕ, _≤_, _<_, ltb, length, length-map, arith}
+use Rattle.basics.specs.Basics.{if_then_else_, first}
 use Rattle.basics.proofs.Facts.{by, AllOf, by-option}
 use Rattle.block_forms.specs.Limits.{payloadLimit, recordSpace}
 use Rattle.block_forms.specs.Tuple.{Owner, OwnerFits, Fits, AllBytes, Tuple, AllFit, sizes}
 use Rattle.image_rows.specs.Rows.{Row, number, isOwn, rowsOf}
 use Rattle.image.specs.Stages.{directoriesFor}
-use Rattle.model.specs.State.{Store, Page, Checkpoint, idle, running, Held}
+use Rattle.model.specs.State.{Store, Outcome, Page, Checkpoint, idle, running, Held}
 use Rattle.model.specs.Rules.{isFrozen, shown, isAdding}
-use Rattle.model.specs.Sight.{rows, held, seen}
-use Rattle.model.specs.Transactions.{writtenBy, withTuple, newTuple, gives, changed, openCall, insertCall, replaceCall, deleteCall, commitCall, abortCall, readCall, readSeen, listCall, notOpen, noTable, tooLong}
-use Rattle.model.specs.Checkpoint.{stepAt, stepOf, storePage, storeDirectory, storeHeader, made, withProgress, allocate, inTurn, beginCall, stepCall, runCall, left}
-use Rattle.model.specs.Calls.{Call, Typed, call, opens, inserts, replaces, deletes, commits, aborts, reads, lists, begins, steps, runs}
-use Rattle.model.proofs.Lists.{many-length, all-insert, leb-false, not-false, all-map, all-two}
+use Rattle.model.specs.Sight.{rows, held}
+use Rattle.model.specs.Transactions.{gives, changed, newTuple, afterWrite, withTuple}
+use Rattle.model.specs.Checkpoint.{stepAt, stepOf, storePage, storeDirectory, storeHeader, made, withProgress, allocate, beginCall}
+use Rattle.model.specs.Calls.{TransactionCall, transact, TypedTuple, TypedCall, Call, transacts, begins, steps, runs, call, Typed}
+use Rattle.model.proofs.Lists.{many-length, all-insert, all-map, all-two}
 use Rattle.model.proofs.Frozen.{bare}
-use Rattle.model.proofs.Quiet.{unless-keeps}
+use Rattle.model.proofs.Effects.{unless-keeps, Accepts, Does, refuses, answers, starts, writes, finishes, undoes, does}
+use Rattle.model.proofs.Quiet.{step-keeps, run-keeps}
 use Rattle.model.proofs.Steps.{FrozenFit, FrozenSmall}
 use Rattle.model.proofs.Sound.{PageOk}
 use Rattle.model.proofs.Rows.{Since, still, settled, Alike, Sub, sub-all, sub-length, thaw-rows, held-freeze}
@@ -42,28 +43,24 @@ sub-fits s h = sub-all _ _ alike-fits s h
 
 -- ---- insert, replace, delete
 
-new-fits : (s : Store) → Valid s → (tx k : ℕ) (bs : List ℕ) (m : Bool) → writtenBy tx (s .active) ≡ howMany (isOwn tx) (rows (s .pages)) → tx ≤ 4095
-    → k < 4294967296 → length bs ≤ payloadLimit → AllBytes bs
-    → Fits (newTuple tx k bs m s)
-unfolding newTuple
-new-fits s v tx k bs m told lt lk lb ab = record {
-  key = lk;
-  number = omega (arith, v .nx);
-  owner = (omega arith, omega (arith, many-length (isOwn tx) (rows (s .pages)), sub-length (rows-sub (s .pages)), v .has .few, v .cap));
-  payload = lb;
-  bytes = ab;
-}
+module _ (c : TransactionCall) (s : Store) (v : Valid s) (n : Counted s) (f : Fitting s) (tx t k : ℕ) (bs : List ℕ) (m : Bool) (a : Accepts c tx t k bs m s)
+    (typed : TypedTuple k bs) where
+  new-fits : Fits (newTuple tx k bs m s)
+  unfolding newTuple
+  new-fits = record {
+    key = typed .0;
+    number = omega (arith, v .nx);
+    owner = (omega (arith, a .low), omega (arith, n tx (a .opened), many-length (isOwn tx) (rows (s .pages)), sub-length (rows-sub (s .pages)), v .has .few, v .cap));
+    payload = a .short;
+    bytes = typed .1;
+  }
 
-written-fits : (s : Store) → Valid s → Fitting s → (tx t k : ℕ) (bs : List ℕ) (m : Bool)
-    → writtenBy tx (s .active) ≡ howMany (isOwn tx) (rows (s .pages)) → ltb 4095 tx ≡ false → k < 4294967296
-    → length bs ≤ payloadLimit → AllBytes bs
-    → Fitting (withTuple tx t k bs m s .store)
-unfolding withTuple gives changed
-written-fits s v f tx t k bs m told lt lk lb ab =
-    let p = place-put t (newTuple tx k bs m s) (s .pages) (v .pages) (v .has .rising) .0 in
-    subst (AllOf (λ r. Fits (r .1))) (sym (p .now))
-    (all-insert (λ r. Fits (r .1)) (p .low) _ (p .high) (subst (AllOf (λ r. Fits (r .1))) (p .was) f)
-    (new-fits s v tx k bs m told (omega (arith, leb-false 4096 tx lt)) lk lb ab))
+  written-fits : Fitting (withTuple tx t k bs m s .store)
+  unfolding withTuple afterWrite gives changed
+  written-fits =
+      let p = place-put t (newTuple tx k bs m s) (s .pages) (v .pages) (v .has .rising) .0 in
+      subst (AllOf (λ r. Fits (r .1))) (sym (p .now))
+      (all-insert (λ r. Fits (r .1)) (p .low) _ (p .high) (subst (AllOf (λ r. Fits (r .1))) (p .was) f) new-fits)
 
 -- ---- the checkpoint
 
@@ -78,38 +75,28 @@ step-fits s v f = go (s .checkpoint)
         (λ e. rw (e, stepOf) (by (ltb (length ds) (directoriesFor (length es))) (λ k. rw (k, if_then_else_) f) (λ k. rw (k, if_then_else_) f)))
         (λ p e. rw (e, stepOf) (sub-fits (thaw-rows (allocate s) (s .pages) (v .pages) .0) f))
 
-turn-fits : (k : ℕ) (s : Store) → Valid s → Fitting s → Fitting (inTurn k s .store)
-unfolding inTurn gives
-turn-fits zero s v f = f
-turn-fits (suc k) s v f = turn-fits k (stepAt (s .checkpoint) s .store) (step-valid s v) (step-fits s v f)
+both-step : (s : Store) → Valid s × Fitting s → Valid (stepAt (s .checkpoint) s .store) × Fitting (stepAt (s .checkpoint) s .store)
+both-step s p = (step-valid s (p .0), step-fits s (p .0) (p .1))
 
 -- ---- all calls
 
-pub keeps-fits : (c : Call) (s : Store) → Typed c → Valid s → Counted s → Fitting s → Fitting (call c s .store)
-unfolding call openCall insertCall replaceCall deleteCall commitCall abortCall readCall readSeen listCall beginCall stepCall runCall notOpen noTable tooLong gives changed withProgress
-keeps-fits (opens tx) s t v c f = unless-keeps Fitting _ s _ f (λ p. f)
-keeps-fits (inserts tx tb k bs) s t v c f =
-    unless-keeps Fitting _ s _ f (λ p. written-fits s v f tx tb k bs false (c tx (not-false _ (p .1 .0))) (p .0) (t .0)
-    (omega (arith, leb-false (suc payloadLimit) (length bs) (p .1 .1 .1 .0))) (t .1))
-keeps-fits (replaces tx tb k bs) s t v c f =
-    unless-keeps Fitting _ s _ f (λ p. written-fits s v f tx tb k bs false (c tx (not-false _ (p .1 .0))) (p .0) (t .0)
-    (omega (arith, leb-false (suc payloadLimit) (length bs) (p .1 .1 .1 .0))) (t .1))
-keeps-fits (deletes tx tb k) s t v c f = unless-keeps Fitting _ s _ f (λ p. written-fits s v f tx tb k [] true (c tx (not-false _ (p .1 .0))) (p .0) t (omega arith) tt)
-keeps-fits (commits tx) s t v c f =
-    unless-keeps Fitting _ s _ f (λ p. sub-fits (commit-carried (s .pages) (v .has .rising) (v .has .differ) (v .pages) tx .0) f)
-keeps-fits (aborts tx) s t v c f =
-    unless-keeps Fitting _ s _ f (λ p. sub-fits (abort-carried (s .pages) (v .has .rising) (v .has .differ) (v .pages) tx .0) f)
-keeps-fits (reads tx tb k r) s t v c f = unless-keeps Fitting _ s _ f (λ p. seen-fits (seen tx tb k s))
-  where
-    seen-fits : (o : Option Row) → Fitting (readSeen r o s .store)
-    seen-fits none = f
-    seen-fits (some x) = unless-keeps Fitting _ s _ f (λ p. f)
-keeps-fits (lists r) s t v c f = unless-keeps Fitting _ s _ f (λ p. f)
-keeps-fits begins s t v c f = unless-keeps Fitting _ s _ f (λ p. rw (held-freeze (s .pages)) f)
-keeps-fits (steps len) s t v c f = unless-keeps Fitting _ s _ f (λ p. step-fits s v f)
-keeps-fits (runs limit len) s t v c f = unless-keeps Fitting _ s _ f (λ p. turn-fits (min limit (left s)) s v f)
+does-fit : (c : TransactionCall) (s : Store) (o : Outcome) → Does c s o → TypedCall c → Valid s → Counted s → Fitting s → Fitting (o .store)
+unfolding gives changed
+does-fit c s o (refuses n) t v h f = f
+does-fit c s o (answers a e i) t v h f = f
+does-fit c s o (starts tx e l i r) t v h f = f
+does-fit c s o (writes tx tb k bs m e a) t v h f = written-fits c s v h f tx tb k bs m a (a .typed t)
+does-fit c s o (finishes tx e) t v h f = sub-fits (commit-carried (s .pages) (v .has .rising) (v .has .differ) (v .pages) tx .0) f
+does-fit c s o (undoes tx e) t v h f = sub-fits (abort-carried (s .pages) (v .has .rising) (v .has .differ) (v .pages) tx .0) f
 
--- ---- what the frozen pages show can be withTuple
+pub keeps-fits : (c : Call) (s : Store) → Typed c → Valid s → Counted s → Fitting s → Fitting (call c s .store)
+unfolding call beginCall gives withProgress
+keeps-fits (transacts c) s t v h f = does-fit c s (transact c s) (does c s) t v h f
+keeps-fits begins s t v h f = unless-keeps Fitting _ s _ f (λ p. rw (held-freeze (s .pages)) f)
+keeps-fits (steps len) s t v h f = step-keeps (λ z. Valid z × Fitting z) both-step len s (v, f) .1
+keeps-fits (runs limit len) s t v h f = run-keeps (λ z. Valid z × Fitting z) both-step limit len s (v, f) .1
+
+-- ---- what the frozen pages show can be written
 
 shown-fits : (hs : List Held) → AllOf Fits (bare hs) → AllFit (shown hs)
 unfolding shown if_then_else_

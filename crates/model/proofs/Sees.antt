@@ -1,5 +1,5 @@
 -- What a transaction sees after each call.
-use Rattle.basics.proofs.Kit.{_≡_, refl, sym, ap, _∙_, subst, ap₂, Bool, true, false, _&&_, not, some, none, Option, List, [], _∷_, _++_, append-nil, ℕ, suc, _≤_, zero, min, eqb, ltb}
+use Rattle.basics.proofs.Kit.{_≡_, refl, sym, ap, _∙_, ap₂, Bool, true, false, _&&_, not, some, none, Option, List, [], _∷_, _++_, append-nil, ℕ, suc, _≤_, eqb, ltb}
 use Rattle.basics.proofs.Kit.{length, arith}
 use Rattle.basics.specs.Basics.{if_then_else_, keep, last, first, isIn}
 use Rattle.basics.proofs.Facts.{by, lie, AllOf, by-option}
@@ -8,25 +8,24 @@ use Rattle.image_rows.specs.Rows.{Row, isAt, isOwn, isBy, number}
 use Rattle.model.specs.State.{Store, Outcome, filled, refused}
 use Rattle.model.specs.Rules.{asCommitted}
 use Rattle.model.specs.Sight.{seen, rows, versions, seenOf}
-use Rattle.model.specs.Transactions.{newTuple, withTuple, openNumbers, unless, Test, gives, _when_, readSeen, readCall, notOpen, noTable, withWrite, changed, insertCall, replaceCall, deleteCall, listCall, commitCall, without, openCall, abortCall}
-use Rattle.model.specs.Checkpoint.{left, stepCall, beginCall, withProgress, inTurn, stepAt, runCall}
-use Rattle.model.specs.Calls.{Call, reads, call, opens, inserts, replaces, deletes, commits, aborts, lists, begins, steps, runs}
-use Rattle.model.specs.Seen.{remains, WriterReads, WriterMisses, ReadsOnly, RowsStay, SeenAfterCommit, mayShow, SeenAsBefore}
+use Rattle.model.specs.Transactions.{unless, Test, gives, _when_, changed, openNumbers, withOpen, notOpen, noTable, tooLong, argumentTests, writeTests, newTuple, withWrite, afterWrite, withTuple, writeCall, readSeen, readCall, without, abortedPages, commitCall}
+use Rattle.model.specs.Checkpoint.{beginCall, stepCall, runCall}
+use Rattle.model.specs.Calls.{TransactionCall, transact, effect, Call, transacts, begins, steps, runs, call, effectOf, isTransaction}
+use Rattle.model.specs.Seen.{remains, WriterReads, WriterMisses, RowsStay, SeenAfterCommit, mayShow, SeenAsBefore}
 use Rattle.model.proofs.Lists.{leb-false, eqb-self, here, Pairs, keep-cons, keep-past, all-map, keep-none, and-yes, and-no, eqb-true, all-mem, not-false, Mem, there, mem-all, last-mem, pairs-keep, lt-false, eqb-sym, in-append}
 use Rattle.model.proofs.ByNumber.{isRow, ownAt}
 use Rattle.model.proofs.Owners.{numbers-write, numbers-without, in-others, numbers-append}
-use Rattle.model.proofs.Quiet.{unless-out, unless-keeps}
+use Rattle.model.proofs.Effects.{unless-accepted, Does, refuses, answers, starts, writes, finishes, undoes, does}
+use Rattle.model.proofs.Quiet.{call-leaves}
 use Rattle.model.proofs.Rows.{kept-row, Differ}
 use Rattle.model.proofs.Placing.{Above, Before}
 use Rattle.model.proofs.Fate.{at-join, at-split, gather, afterAbort, verdict, row-self, row-false, afterCommit}
 use Rattle.model.proofs.Valid.{above-off, Valid}
 use Rattle.model.proofs.Closing.{abort-at, gather-cons, gather-none, commit-at, verdict-stays}
-use Rattle.model.proofs.ByPlace.{abortedPages}
 use Rattle.model.proofs.Keeps.{rows-rising, rows-differ}
 use Rattle.model.proofs.Inserted.{notAbove, insertRow}
-use Rattle.model.proofs.Tally.{written-rows, begin-rows, stepCall-rows, run-rows, committed-rows, step-active, aborted-rows}
+use Rattle.model.proofs.Tally.{written-rows, begin-rows, stepCall-rows, run-rows, committed-rows, aborted-rows}
 use Rattle.model.proofs.Well.{sound}
-use Rattle.model.proofs.Laws.{unless-accepted}
 
 -- ---- a new row among the versions of its key
 
@@ -318,17 +317,17 @@ still-listed tx u s h = ap (isIn u) (numbers-write tx (s .active)) ∙ h
 
 module _ (s : Store) (v : Valid s) (tx t k room : ℕ) (few : ltb 4095 tx ≡ false) (o : not (isIn tx (openNumbers (s .active))) ≡ false) (tb : ltb 7 t ≡ false) where
   wrote-reads : (bs : List ℕ) → length bs ≤ room → readCall tx t k room (withTuple tx t k bs false s .store) .answer ≡ filled (length bs) bs
-  unfolding withTuple gives changed newTuple if_then_else_
+  unfolding withTuple afterWrite gives changed newTuple if_then_else_
   wrote-reads bs l =
       reads-some tx t k room (withTuple tx t k bs false s .store) few (still-listed tx tx s (not-false _ o)) tb (t, newTuple tx k bs false s)
       (sees-own s v tx t k bs false) l
 
   wrote-mark : readCall tx t k room (withTuple tx t k [] true s .store) .answer ≡ refused 14
-  unfolding withTuple gives changed if_then_else_
+  unfolding withTuple afterWrite gives changed if_then_else_
   wrote-mark = reads-none tx t k room (withTuple tx t k [] true s .store) few (still-listed tx tx s (not-false _ o)) tb (sees-own s v tx t k [] true)
 
 pub writer-reads : WriterReads
-unfolding insertCall replaceCall notOpen noTable
+unfolding writeCall writeTests argumentTests notOpen noTable tooLong
 writer-reads s w tx t k bs room l =
     let v = sound s w .valid in
     let P : Outcome → Type 0 = λ o. readCall tx t k room (o .store) .answer ≡ filled (length bs) bs in (
@@ -338,20 +337,9 @@ writer-reads s w tx t k bs room l =
     )
 
 pub writer-misses : WriterMisses
-unfolding deleteCall notOpen noTable
+unfolding writeCall writeTests argumentTests notOpen noTable tooLong
 writer-misses s w tx t k room h =
     unless-accepted (λ o. readCall tx t k room (o .store) .answer ≡ refused 14) _ s _ (λ p q. wrote-mark s (sound s w .valid) tx t k room (p .0) (p .1 .0) (p .1 .1 .0)) h
-
-pub reads-only : ReadsOnly
-unfolding call readCall listCall gives
-reads-only s = (
-  λ tx t k room. unless-out (λ z ws. (z ≡ s) × (ws ≡ [])) _ s _ (refl, refl) (go room (seen tx t k s)),
-  λ room. unless-out (λ z ws. (z ≡ s) × (ws ≡ [])) _ s _ (refl, refl) (refl, refl),
-)
-  where
-    go : (room : ℕ) (o : Option Row) → (readSeen room o s .store ≡ s) × (readSeen room o s .writes ≡ [])
-    go room none = unfold readSeen in (refl, refl)
-    go room (some r) = unfold readSeen in unless-out (λ z ws. (z ≡ s) × (ws ≡ [])) _ s _ (refl, refl) (refl, refl)
 
 pub rows-stay : RowsStay
 unfolding call
@@ -367,34 +355,13 @@ seen-after-commit s w tx h u t k =
 
 -- ---- all calls that show nothing
 
--- a checkpoint leaves the open transactions
-active-unless : (ts : List Test) (s : Store) (o : Outcome) → o .store .active ≡ s .active → unless ts s o .store .active ≡ s .active
-active-unless ts s o e = unless-keeps (λ z. z .active ≡ s .active) ts s o refl (λ p. e)
-
-begin-active : (s : Store) → beginCall s .store .active ≡ s .active
-unfolding beginCall gives withProgress
-begin-active s = active-unless _ s _ refl
-
-stepCall-active : (len : ℕ) (s : Store) → stepCall len s .store .active ≡ s .active
-unfolding stepCall
-stepCall-active len s = active-unless _ s _ (step-active s)
-
-turn-active : (k : ℕ) (s : Store) → inTurn k s .store .active ≡ s .active
-unfolding inTurn gives
-turn-active zero s = refl
-turn-active (suc k) s = turn-active k (stepAt (s .checkpoint) s .store) ∙ step-active s
-
-run-active : (limit len : ℕ) (s : Store) → runCall limit len s .store .active ≡ s .active
-unfolding runCall
-run-active limit len s = active-unless _ s _ (turn-active (min limit (left s)) s)
-
 -- u sees what it saw in s, and is open if it was
 abbrev Unmoved : ℕ → ℕ → ℕ → Store → Store → Type 0
 Unmoved u t k s z = (seen u t k z ≡ seen u t k s) × (isIn u (openNumbers (s .active)) ≡ true → isIn u (openNumbers (z .active)) ≡ true)
 
 module _ (s : Store) (v : Valid s) (u t k : ℕ) where
   unmoved-written : (tx tb key : ℕ) (bs : List ℕ) (m : Bool) → eqb tx u ≡ false → Unmoved u t k s (withTuple tx tb key bs m s .store)
-  unfolding withTuple gives changed
+  unfolding withTuple afterWrite gives changed
   unmoved-written tx tb key bs m d = (sees-others s v tx tb key bs m u d t k, still-listed tx u s)
 
   unmoved-aborted : (tx : ℕ) → eqb tx u ≡ false
@@ -408,23 +375,28 @@ module _ (s : Store) (v : Valid s) (u t k : ℕ) where
   unmoved-stepped : (z : Store) → rows (z .pages) ≡ rows (s .pages) → z .active ≡ s .active → Unmoved u t k s z
   unmoved-stepped z e a = (seen-rows u t k s z e, λ h. ap (λ os. isIn u (openNumbers os)) a ∙ h)
 
-  unmoved : (c : Call) → mayShow u c ≡ false → Unmoved u t k s (call c s .store)
-  unfolding mayShow call openCall insertCall replaceCall deleteCall abortCall gives
-  unmoved (opens tx) h = unless-keeps (Unmoved u t k s) _ s _ (refl, λ i. i) (λ p. unfold changed in (
+  unmoved-opened : (tx : ℕ) → Unmoved u t k s (withOpen tx s)
+  unfolding changed
+  unmoved-opened tx = (
     seen-rows u t k s _ refl,
-    λ i. ap (isIn u) (numbers-append (s .active) (record { transaction = tx; written = 0 }))
-        ∙ rw (in-append u (openNumbers (s .active)), i),
-  ))
-  unmoved (inserts tx tb key bs) h = unless-keeps (Unmoved u t k s) _ s _ (refl, λ i. i) (λ p. unmoved-written tx tb key bs false h)
-  unmoved (replaces tx tb key bs) h = unless-keeps (Unmoved u t k s) _ s _ (refl, λ i. i) (λ p. unmoved-written tx tb key bs false h)
-  unmoved (deletes tx tb key) h = unless-keeps (Unmoved u t k s) _ s _ (refl, λ i. i) (λ p. unmoved-written tx tb key [] true h)
-  unmoved (commits tx) h = lie (sym h)
-  unmoved (aborts tx) h = unless-keeps (Unmoved u t k s) _ s _ (refl, λ i. i) (λ p. unmoved-aborted tx h)
-  unmoved (reads tx tb key room) h = subst (Unmoved u t k s) (sym (reads-only s .0 tx tb key room .0)) (refl, λ i. i)
-  unmoved (lists room) h = subst (Unmoved u t k s) (sym (reads-only s .1 room .0)) (refl, λ i. i)
-  unmoved begins h = unmoved-stepped (beginCall s .store) (begin-rows s) (begin-active s)
-  unmoved (steps len) h = unmoved-stepped (stepCall len s .store) (stepCall-rows len s v) (stepCall-active len s)
-  unmoved (runs limit len) h = unmoved-stepped (runCall limit len s .store) (run-rows limit len s v) (run-active limit len s)
+    λ i. ap (isIn u) (numbers-append (s .active) (record { transaction = tx; written = 0 })) ∙ rw (in-append u (openNumbers (s .active)), i),
+  )
+
+  unmoved-does : (c : TransactionCall) (o : Outcome) → Does c s o → mayShow u (effect c) ≡ false → Unmoved u t k s (o .store)
+  unfolding mayShow gives
+  unmoved-does c o (refuses n) h = (refl, λ i. i)
+  unmoved-does c o (answers a e i) h = (refl, λ i. i)
+  unmoved-does c o (starts tx e l i f) h = unmoved-opened tx
+  unmoved-does c o (writes tx tb key bs m e a) h = unmoved-written tx tb key bs m (sym (ap (mayShow u) e) ∙ h)
+  unmoved-does c o (finishes tx e) h = lie (sym (sym (ap (mayShow u) e) ∙ h))
+  unmoved-does c o (undoes tx e) h = unmoved-aborted tx (sym (ap (mayShow u) e) ∙ h)
+
+  unmoved : (c : Call) → mayShow u (effectOf c) ≡ false → Unmoved u t k s (call c s .store)
+  unfolding call effectOf isTransaction
+  unmoved (transacts c) h = unmoved-does c (transact c s) (does c s) h
+  unmoved begins h = unmoved-stepped (beginCall s .store) (begin-rows s) (call-leaves begins s .active refl)
+  unmoved (steps len) h = unmoved-stepped (stepCall len s .store) (stepCall-rows len s v) (call-leaves (steps len) s .active refl)
+  unmoved (runs limit len) h = unmoved-stepped (runCall limit len s .store) (run-rows limit len s v) (call-leaves (runs limit len) s .active refl)
 
 pub seen-as-before : SeenAsBefore
 seen-as-before c s w u h t k =

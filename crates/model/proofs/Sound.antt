@@ -329,7 +329,7 @@ split-fine ts c l =
         let q = all-parts NothingPending ts (together tss) b in
         ((q .0, leb-true (sum heldSize ts) 504 (a .0 .0), has-some ts (a .0 .1)), go tss (a .1) (q .1))
 
--- nothing pending: small tuples are withoutPending
+-- small tuples without a pending operation
 withoutPending-of : (ts : List Held) → any (λ x. isPending (x .pending)) ts ≡ false → AllOf Small ts → AllOf NothingPending ts
 unfolding any isPending
 withoutPending-of [] e a = tt

@@ -15,7 +15,7 @@ use Rattle.model.specs.Transactions.{openNumbers}
 use Rattle.model.specs.Recover.{loaded, recoveredStore}
 use Rattle.model.proofs.Views.{AllSane, Sane}
 use Rattle.model.proofs.Lists.{some-eq, leb-true, not-true, all-map, all-split, every-all, eqb-true, all-mapped, in-all, all-append, all-in, in-append}
-use Rattle.model.proofs.Owners.{numbers-reopened, in-transactions}
+use Rattle.model.proofs.Owners.{numbers-reopened, in-transactions, transactions-distinct}
 use Rattle.model.proofs.Books.{not-in-many, Booked, Books, inBlock-many}
 use Rattle.model.proofs.Recovery.{Found, read-blocks}
 use Rattle.model.proofs.Inv.{listed, listed-held, listed-read, Tied, Ready, Inv, named-self}
@@ -162,6 +162,13 @@ start-active n v s f e u = subst (λ z. rows (z .pages) ≡ held (z .pages) → 
         → isIn u (openNumbers (recoveredStore (f .head) (f .pages) .active)) ≡ any (isOwn u) (rows (recoveredStore (f .head) (f .pages) .pages))
     loaded-active = unfold recoveredStore in λ e. ap (isIn u) (numbers-reopened (rowsOfPages (f .pages)) (transactions (rowsOfPages (f .pages))))
         ∙ in-transactions u (rowsOfPages (f .pages)) ∙ ap (any (isOwn u)) (sym (e ∙ loaded-held (f .pages)))
+
+-- each open transaction is listed once
+pub start-distinct : (n : ℕ) (v : View) (s : Store) → Found n v s → distinct (openNumbers (s .active)) ≡ true
+unfolding recoveredStore
+start-distinct n v s f =
+    let rs = rowsOfPages (f .pages) in
+    ap (λ z. distinct (openNumbers (z .active))) (sym (f .store)) ∙ ap distinct (numbers-reopened rs (transactions rs)) ∙ transactions-distinct rs
 
 pub start-idle : (n : ℕ) (v : View) (s : Store) → Found n v s → s .checkpoint ≡ idle
 unfolding recoveredStore

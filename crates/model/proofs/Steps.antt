@@ -36,7 +36,7 @@ FrozenFit s = AllOf (λ p. p .frozen ≡ true → (p .table < 8) × AllFit (show
 abbrev pub FrozenSmall : Store → Type 0
 FrozenSmall s = AllOf (λ p. p .frozen ≡ true → sizes (shown (p .tuples)) ≤ recordSpace) (s .pages)
 
-storable-is : (ts : List Tuple) → sizes ts ≤ recordSpace → storable ts ≡ ts
+pub storable-is : (ts : List Tuple) → sizes ts ≤ recordSpace → storable ts ≡ ts
 unfolding storable if_then_else_
 storable-is ts h = rw (le-true (sizes ts) recordSpace h)
 

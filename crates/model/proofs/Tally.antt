@@ -1,65 +1,53 @@
 -- A transaction's live rows are as many as the writes accepted since it opened: the count is kept from the calls and answers alone.
-use Rattle.basics.proofs.Kit.{_≡_, refl, sym, ap, _∙_, Bool, true, false, not, some, none, Option, List, [], _∷_, _++_, ℕ, suc, _≤_, zero, min, eqb, ltb, length, arith}
+use Rattle.basics.proofs.Kit.{_≡_, refl, sym, ap, _∙_, Bool, true, false, not, List, [], _∷_, ℕ, suc, _≤_, min, eqb, ltb, length, arith}
 use Rattle.basics.specs.Basics.{if_then_else_, howMany, any, first, isIn}
 use Rattle.basics.proofs.Facts.{lie, by, AllOf, by-option, and-true}
 use Rattle.block_forms.specs.Tuple.{tentative, committed, Owner}
 use Rattle.image_rows.specs.Rows.{isOwn, isBy, Row}
 use Rattle.image.specs.Stages.{directoriesFor}
-use Rattle.model.specs.State.{Answer, Store, Outcome, Page, Checkpoint, idle, running, done, refused, filled, Active}
+use Rattle.model.specs.State.{Answer, Store, Outcome, Page, Checkpoint, idle, running, Active}
 use Rattle.model.specs.Rules.{isFrozen}
-use Rattle.model.specs.Sight.{rows, seen}
-use Rattle.model.specs.Transactions.{unless, Test, gives, _when_, newTuple, withTuple, changed, openCall, insertCall, replaceCall, deleteCall, openNumbers, commitCall, abortCall, readCall, readSeen, listCall, listing, writtenBy, withWrite, without}
-use Rattle.model.specs.Checkpoint.{beginCall, withProgress, storePage, made, allocate, stepAt, stepOf, storeDirectory, storeHeader, inTurn, stepCall, runCall, left}
-use Rattle.model.specs.Calls.{Call, opens, commits, aborts, inserts, replaces, deletes, reads, lists, begins, steps, runs, accepted, call, others, withWriter, writers, afterCalls, hadWritten}
+use Rattle.model.specs.Sight.{rows}
+use Rattle.model.specs.Transactions.{gives, changed, openNumbers, withOpen, newTuple, writtenBy, withWrite, afterWrite, withTuple, without, committedPages, abortedPages}
+use Rattle.model.specs.Checkpoint.{beginCall, withProgress, storePage, made, allocate, stepAt, stepOf, storeDirectory, storeHeader, stepCall, runCall}
+use Rattle.model.specs.Calls.{TransactionCall, transact, Effect, noEffect, startOf, writeOf, commitOf, abortOf, effect, Call, transacts, begins, steps, runs, call, effectOf, accepted, isTransaction, others, withWriter, writers, afterCalls, hadWritten}
 use Rattle.model.proofs.Lists.{Mem, many-none, all-map, eqb-true, all-mem, eqb-sym, many-length, in-keep, not-true, le-true, in-here, eqb-self, in-cons, and-no, and-yes, any-many}
 use Rattle.model.proofs.Owners.{count-append, count-new, numbers-write, count-write, count-other, numbers-without, count-without}
-use Rattle.model.proofs.Quiet.{unless-out, unless-keeps, step-frame}
+use Rattle.model.proofs.Effects.{unless-keeps, Does, refuses, answers, starts, writes, finishes, undoes, does}
+use Rattle.model.proofs.Quiet.{step-frame, step-keeps, run-keeps, call-leaves}
 use Rattle.model.proofs.Rows.{rows-freeze, thaw-rows, sub-length}
 use Rattle.model.proofs.Fate.{gather, afterCommit, commit-rows, afterAbort, abort-rows}
 use Rattle.model.proofs.Valid.{Valid, Counted, Opened}
 use Rattle.model.proofs.Closing.{Comes, as-is, final, not-own, own-owner, gather-all, many-gather, commit-comes, commit-stays, abort-comes, abort-stays}
-use Rattle.model.proofs.ByPlace.{committedPages, abortedPages, commit-carried, abort-carried}
+use Rattle.model.proofs.ByPlace.{commit-carried, abort-carried}
 use Rattle.model.proofs.Keeps.{rows-differ, step-valid, keeps, rows-sub}
 use Rattle.model.proofs.Inserted.{insertRow, place-rows, many-inserted}
 
 -- ---- the count, from the calls and their answers
 
--- c: how many tuples transaction u had withTuple before the call
+-- c: how many tuples transaction u had written before the call
 unfoldable pub wrote : ℕ → ℕ → ℕ → ℕ
 wrote u tx c = if eqb tx u then suc c else c
 
 unfoldable pub closed : ℕ → ℕ → ℕ → ℕ
 closed u tx c = if eqb tx u then 0 else c
 
-unfoldable pub noted : Call → ℕ → ℕ → ℕ
-noted (opens tx) u c = c
-noted (commits tx) u c = closed u tx c
-noted (aborts tx) u c = closed u tx c
-noted (inserts tx t k bs) u c = wrote u tx c
-noted (replaces tx t k bs) u c = wrote u tx c
-noted (deletes tx t k) u c = wrote u tx c
-noted (reads tx t k r) u c = c
-noted (lists r) u c = c
-noted begins u c = c
-noted (steps len) u c = c
-noted (runs limit len) u c = c
+unfoldable pub noted : Effect → ℕ → ℕ → ℕ
+noted noEffect u c = c
+noted (startOf tx) u c = c
+noted (writeOf tx) u c = wrote u tx c
+noted (commitOf tx) u c = closed u tx c
+noted (abortOf tx) u c = closed u tx c
 
-unfoldable pub tally : Call → Answer → ℕ → ℕ → ℕ
+unfoldable pub tally : Effect → Answer → ℕ → ℕ → ℕ
 tally c a u n = if accepted a then noted c u n else n
 
 -- a transaction's live rows
 unfoldable pub own : ℕ → Store → ℕ
 own u s = howMany (isOwn u) (rows (s .pages))
 
--- ---- refused or not
-
-abbrev Tallies : Call → Store → Outcome → Type 0
+abbrev Tallies : Effect → Store → Outcome → Type 0
 Tallies c s o = (u : ℕ) → own u (o .store) ≡ tally c (o .answer) u (own u s)
-
-unless-tally : (c : Call) (ts : List Test) (s : Store) (o : Outcome) → Tallies c s o → Tallies c s (unless ts s o)
-unfolding unless if_then_else_ gives tally accepted
-unless-tally c [] s o f u = f u
-unless-tally c ((n when b) ∷ ts) s o f u = by b (λ h. rw h) (λ h. rw h (unless-tally c ts s o f u))
 
 -- ---- writing
 
@@ -69,7 +57,7 @@ own-new u tx k bs m t s = refl
 
 pub written-rows : (s : Store) → Valid s → (tx t k : ℕ) (bs : List ℕ) (m : Bool)
     → rows (withTuple tx t k bs m s .store .pages) ≡ insertRow (t, newTuple tx k bs m s) (rows (s .pages))
-unfolding withTuple gives changed newTuple
+unfolding withTuple afterWrite gives changed newTuple
 written-rows s v tx t k bs m = place-rows t (newTuple tx k bs m s) (s .pages) (v .pages) (v .has .rising)
 
 written-own : (s : Store) → Valid s → (tx t k : ℕ) (bs : List ℕ) (m : Bool) (u : ℕ) → own u (withTuple tx t k bs m s .store) ≡ wrote u tx (own u s)
@@ -77,11 +65,6 @@ unfolding own wrote
 written-own s v tx t k bs m u =
     ap (howMany (isOwn u)) (written-rows s v tx t k bs m) ∙ many-inserted (isOwn u) (t, newTuple tx k bs m s) (rows (s .pages))
     ∙ ap (λ b. if b then suc (howMany (isOwn u) (rows (s .pages))) else howMany (isOwn u) (rows (s .pages))) (own-new u tx k bs m t s)
-
-written-tally : (c : Call) (s : Store) → Valid s → (tx t k : ℕ) (bs : List ℕ) (m : Bool) → ((u n : ℕ) → noted c u n ≡ wrote u tx n)
-    → Tallies c s (withTuple tx t k bs m s)
-unfolding tally accepted if_then_else_ withTuple gives
-written-tally c s v tx t k bs m e u = written-own s v tx t k bs m u ∙ sym (e u (own u s))
 
 -- ---- closing
 
@@ -120,13 +103,9 @@ aborted-rows tx s v = abort-carried (s .pages) (v .has .rising) (v .has .differ)
 
 -- ---- the checkpoint leaves the rows
 
-rows-unless : (ts : List Test) (s : Store) (o : Outcome) → rows (o .store .pages) ≡ rows (s .pages)
-    → rows (unless ts s o .store .pages) ≡ rows (s .pages)
-rows-unless ts s o e = unless-out (λ t ws. rows (t .pages) ≡ rows (s .pages)) ts s o refl e
-
 pub begin-rows : (s : Store) → rows (beginCall s .store .pages) ≡ rows (s .pages)
 unfolding beginCall gives withProgress
-begin-rows s = rows-unless _ s _ (rows-freeze (s .pages))
+begin-rows s = unless-keeps (λ t. rows (t .pages) ≡ rows (s .pages)) _ s _ refl (λ p. rows-freeze (s .pages))
 
 page-rows : (n : ℕ) (es ds : List ℕ) (p : Page) (s : Store) → Valid s → rows (storePage n es ds p s .store .pages) ≡ rows (s .pages)
 unfolding storePage made withProgress
@@ -143,41 +122,16 @@ step-rows s v = go (s .checkpoint)
         (λ f. rw (f, stepOf) (by (ltb (length ds) (directoriesFor (length es))) (λ k. rw (k, if_then_else_)) (λ k. rw (k, if_then_else_))))
         (λ p f. rw (f, stepOf) (page-rows n es ds p s v))
 
-turn-rows : (k : ℕ) (s : Store) → Valid s → rows (inTurn k s .store .pages) ≡ rows (s .pages)
-unfolding inTurn gives
-turn-rows zero s v = refl
-turn-rows (suc k) s v = turn-rows k (stepAt (s .checkpoint) s .store) (step-valid s v) ∙ step-rows s v
+-- the rows of s, step by step
+steps-rows : (s t : Store) → Valid t × (rows (t .pages) ≡ rows (s .pages))
+    → Valid (stepAt (t .checkpoint) t .store) × (rows (stepAt (t .checkpoint) t .store .pages) ≡ rows (s .pages))
+steps-rows s t p = (step-valid t (p .0), step-rows t (p .0) ∙ p .1)
 
 pub stepCall-rows : (len : ℕ) (s : Store) → Valid s → rows (stepCall len s .store .pages) ≡ rows (s .pages)
-unfolding stepCall
-stepCall-rows len s v = rows-unless _ s _ (step-rows s v)
+stepCall-rows len s v = step-keeps (λ t. Valid t × (rows (t .pages) ≡ rows (s .pages))) (steps-rows s) len s (v, refl) .1
 
 pub run-rows : (limit len : ℕ) (s : Store) → Valid s → rows (runCall limit len s .store .pages) ≡ rows (s .pages)
-unfolding runCall
-run-rows limit len s v = rows-unless _ s _ (turn-rows (min limit (left s)) s v)
-
--- a call that leaves the rows and counts nothing
-quiet-tally : (c : Call) (s : Store) (o : Outcome) → ((u n : ℕ) → noted c u n ≡ n) → rows (o .store .pages) ≡ rows (s .pages) → Tallies c s o
-unfolding tally if_then_else_ own
-quiet-tally c s o e r u = by (accepted (o .answer)) (λ h. rw h (ap (howMany (isOwn u)) r ∙ sym (e u (howMany (isOwn u) (rows (s .pages))))))
-    (λ h. rw h (ap (howMany (isOwn u)) r))
-
-open-tally : (tx : ℕ) (s : Store) → Tallies (opens tx) s (openCall tx s)
-unfolding openCall gives changed noted
-open-tally tx s = unless-tally (opens tx) _ s _
-    (quiet-tally (opens tx) s (gives done (changed s (s .next) (s .pages) (s .active ++ record { transaction = tx; written = 0 } ∷ []))) (λ u n. refl) refl)
-
-insert-tally : (tx t k : ℕ) (bs : List ℕ) (s : Store) → Valid s → Tallies (inserts tx t k bs) s (insertCall tx t k bs s)
-unfolding insertCall noted
-insert-tally tx t k bs s v = unless-tally (inserts tx t k bs) _ s _ (written-tally (inserts tx t k bs) s v tx t k bs false (λ u n. refl))
-
-replace-tally : (tx t k : ℕ) (bs : List ℕ) (s : Store) → Valid s → Tallies (replaces tx t k bs) s (replaceCall tx t k bs s)
-unfolding replaceCall noted
-replace-tally tx t k bs s v = unless-tally (replaces tx t k bs) _ s _ (written-tally (replaces tx t k bs) s v tx t k bs false (λ u n. refl))
-
-delete-tally : (tx t k : ℕ) (s : Store) → Valid s → Tallies (deletes tx t k) s (deleteCall tx t k s)
-unfolding deleteCall noted
-delete-tally tx t k s v = unless-tally (deletes tx t k) _ s _ (written-tally (deletes tx t k) s v tx t k [] true (λ u n. refl))
+run-rows limit len s v = run-keeps (λ t. Valid t × (rows (t .pages) ≡ rows (s .pages))) (steps-rows s) limit len s (v, refl) .1
 
 committed-own : (tx : ℕ) (s : Store) → Valid s → (u : ℕ) → howMany (isOwn u) (rows (committedPages tx (s .pages))) ≡ closed u tx (own u s)
 unfolding own
@@ -196,41 +150,27 @@ aborted-own tx s v u =
     let d = rows-differ s v in
     ap (howMany (isOwn u)) (aborted-rows tx s v) ∙ closed-own tx rs (afterAbort tx) (abort-comes tx os rs (v .sees) d) (abort-stays tx os rs (v .sees) d) u
 
-commit-tally : (tx : ℕ) (s : Store) → Valid s → Tallies (commits tx) s (commitCall tx s)
-unfolding commitCall gives changed
-commit-tally tx s v = unless-tally (commits tx) _ s _ (λ u. unfold tally accepted noted if_then_else_ own in committed-own tx s v u)
+does-tally : (c : TransactionCall) (s : Store) (o : Outcome) → Does c s o → Valid s → Tallies (effect c) s o
+unfolding tally noted accepted if_then_else_ gives changed own withTuple
+does-tally c s o (refuses n) v u = refl
+does-tally c s o (answers a e h) v u = rw (h, e)
+does-tally c s o (starts tx e l i f) v u = rw e
+does-tally c s o (writes tx t k bs m e a) v u = rw e (written-own s v tx t k bs m u)
+does-tally c s o (finishes tx e) v u = rw e (committed-own tx s v u)
+does-tally c s o (undoes tx e) v u = rw e (aborted-own tx s v u)
 
-abort-tally : (tx : ℕ) (s : Store) → Valid s → Tallies (aborts tx) s (abortCall tx s)
-unfolding abortCall gives changed
-abort-tally tx s v = unless-tally (aborts tx) _ s _ (λ u. unfold tally accepted noted if_then_else_ own in aborted-own tx s v u)
-
-read-tally : (tx t k r : ℕ) (s : Store) → Tallies (reads tx t k r) s (readCall tx t k r s)
-unfolding readCall noted
-read-tally tx t k r s = unless-tally (reads tx t k r) _ s _ (go (seen tx t k s))
-  where
-    go : (o : Option Row) → Tallies (reads tx t k r) s (readSeen r o s)
-    go none = unfold readSeen in quiet-tally (reads tx t k r) s (gives (refused 14) s) (λ u n. unfold noted in refl) (unfold gives in refl)
-    go (some q) = unfold readSeen in unless-tally (reads tx t k r) _ s _
-        (quiet-tally (reads tx t k r) s (gives (filled (length (q .1 .payload)) (q .1 .payload)) s) (λ u n. unfold noted in refl) (unfold gives in refl))
-
-list-tally : (r : ℕ) (s : Store) → Tallies (lists r) s (listCall r s)
-unfolding listCall gives noted
-list-tally r s = unless-tally (lists r) _ s _ (quiet-tally (lists r) s (gives (filled (length (s .active)) (listing (openNumbers (s .active)))) s) (λ u n. refl) refl)
+-- a checkpoint leaves the rows and counts nothing
+stays-tally : (s : Store) (o : Outcome) → rows (o .store .pages) ≡ rows (s .pages) → Tallies noEffect s o
+unfolding tally noted if_then_else_ own
+stays-tally s o r u = by (accepted (o .answer)) (λ h. rw h (ap (howMany (isOwn u)) r)) (λ h. rw h (ap (howMany (isOwn u)) r))
 
 -- every call counts as it answers
-pub tallies : (c : Call) (s : Store) → Valid s → Tallies c s (call c s)
-unfolding call noted
-tallies (opens tx) s v = open-tally tx s
-tallies (commits tx) s v = commit-tally tx s v
-tallies (aborts tx) s v = abort-tally tx s v
-tallies (inserts tx t k bs) s v = insert-tally tx t k bs s v
-tallies (replaces tx t k bs) s v = replace-tally tx t k bs s v
-tallies (deletes tx t k) s v = delete-tally tx t k s v
-tallies (reads tx t k r) s v = read-tally tx t k r s
-tallies (lists r) s v = list-tally r s
-tallies begins s v = quiet-tally begins s (beginCall s) (λ u n. refl) (begin-rows s)
-tallies (steps len) s v = quiet-tally (steps len) s (stepCall len s) (λ u n. refl) (stepCall-rows len s v)
-tallies (runs limit len) s v = quiet-tally (runs limit len) s (runCall limit len s) (λ u n. refl) (run-rows limit len s v)
+pub tallies : (c : Call) (s : Store) → Valid s → Tallies (effectOf c) s (call c s)
+unfolding call effectOf
+tallies (transacts c) s v = does-tally c s (transact c s) (does c s) v
+tallies begins s v = stays-tally s (beginCall s) (begin-rows s)
+tallies (steps len) s v = stays-tally s (stepCall len s) (stepCall-rows len s v)
+tallies (runs limit len) s v = stays-tally s (runCall limit len s) (run-rows limit len s v)
 
 -- ---- the counts of the open transactions
 
@@ -252,16 +192,15 @@ own-count : (s : Store) → Counted s → (u : ℕ) → isIn u (openNumbers (s .
 unfolding own
 own-count s c u i = c u i
 
-counted-open : (tx : ℕ) (s : Store) → Valid s → Counted s → Counted (openCall tx s .store)
-unfolding openCall gives changed
-counted-open tx s v c =
-    unless-keeps Counted _ s _ c (λ p u i.
+counted-open : (tx : ℕ) (s : Store) → Valid s → Counted s → Counted (withOpen tx s)
+unfolding changed
+counted-open tx s v c u i =
     by (isIn u (openNumbers (s .active)))
     (λ h. count-append u tx (s .active) h ∙ c u h)
     (λ h. count-new u tx (s .active) h
     ∙ sym (many-none (isOwn u) (rows (s .pages))
     (all-map (λ r. Opened (openNumbers (s .active)) (r .1 .owner)) (λ r. isOwn u r ≡ false)
-    (λ r k. not-own-open u (openNumbers (s .active)) r h k) (rows (s .pages)) (v .sees .open′)))))
+    (λ r k. not-own-open u (openNumbers (s .active)) r h k) (rows (s .pages)) (v .sees .open′))))
 
 more-rows : (s : Store) → Valid s → (u : ℕ) → suc (own u s) ≤ 1048575
 unfolding own
@@ -271,7 +210,7 @@ min-under : (n m : ℕ) → n ≤ m → min n m ≡ n
 min-under n m h = omega arith
 
 counted-written : (s : Store) → Valid s → Counted s → (tx t k : ℕ) (bs : List ℕ) (m : Bool) → Counted (withTuple tx t k bs m s .store)
-unfolding withTuple gives changed own
+unfolding withTuple afterWrite gives changed own
 counted-written s v c tx t k bs m u i =
     let j : isIn u (openNumbers (s .active)) ≡ true = ap (isIn u) (sym (numbers-write tx (s .active))) ∙ i in
     let o = written-own s v tx t k bs m u in
@@ -305,35 +244,27 @@ counted-closed tx s ps own-after c u i =
     closed-other : (u tx n : ℕ) → eqb tx u ≡ false → closed u tx n ≡ n
     closed-other u tx n e = unfold closed if_then_else_ in rw e
 
-pub step-active : (s : Store) → stepAt (s .checkpoint) s .store .active ≡ s .active
-unfolding withProgress
-step-active s = step-frame (λ z. z .active ≡ s .active) s refl (λ l ps u b c. refl)
-
 pub counted-step : (s : Store) → Valid s → Counted s → Counted (stepAt (s .checkpoint) s .store)
 counted-step s v c = counted-rows s (stepAt (s .checkpoint) s .store) (step-active s) (step-rows s v) c
+  where
+    step-active : (s : Store) → stepAt (s .checkpoint) s .store .active ≡ s .active
+    step-active s = step-frame (λ z. z .active ≡ s .active) s refl (λ l ps u b c. unfold withProgress in refl)
 
-counted-turn : (k : ℕ) (s : Store) → Valid s → Counted s → Counted (inTurn k s .store)
-unfolding inTurn gives
-counted-turn zero s v c = c
-counted-turn (suc k) s v c = counted-turn k (stepAt (s .checkpoint) s .store) (step-valid s v) (counted-step s v c)
+does-count : (c : TransactionCall) (s : Store) (o : Outcome) → Does c s o → Valid s → Counted s → Counted (o .store)
+unfolding gives
+does-count c s o (refuses n) v h = h
+does-count c s o (answers a e i) v h = h
+does-count c s o (starts tx e l i f) v h = counted-open tx s v h
+does-count c s o (writes tx t k bs m e a) v h = counted-written s v h tx t k bs m
+does-count c s o (finishes tx e) v h = counted-closed tx s _ (committed-own tx s v) h
+does-count c s o (undoes tx e) v h = counted-closed tx s _ (aborted-own tx s v) h
 
 pub keeps-count : (c : Call) (s : Store) → Valid s → Counted s → Counted (call c s .store)
-unfolding call insertCall replaceCall deleteCall commitCall abortCall readCall listCall beginCall stepCall runCall gives withProgress
-keeps-count (opens tx) s v c = counted-open tx s v c
-keeps-count (inserts tx t k bs) s v c = unless-keeps Counted _ s _ c (λ p. counted-written s v c tx t k bs false)
-keeps-count (replaces tx t k bs) s v c = unless-keeps Counted _ s _ c (λ p. counted-written s v c tx t k bs false)
-keeps-count (deletes tx t k) s v c = unless-keeps Counted _ s _ c (λ p. counted-written s v c tx t k [] true)
-keeps-count (commits tx) s v c = unless-keeps Counted _ s _ c (λ p. counted-closed tx s _ (committed-own tx s v) c)
-keeps-count (aborts tx) s v c = unless-keeps Counted _ s _ c (λ p. counted-closed tx s _ (aborted-own tx s v) c)
-keeps-count (reads tx t k r) s v c = unless-keeps Counted _ s _ c (λ p. go (seen tx t k s))
-  where
-    go : (o : Option Row) → Counted (readSeen r o s .store)
-    go none = unfold readSeen in c
-    go (some q) = unfold readSeen in unless-keeps Counted _ s _ c (λ p. c)
-keeps-count (lists r) s v c = unless-keeps Counted _ s _ c (λ p. c)
-keeps-count begins s v c = unless-keeps Counted _ s _ c (λ p u i. c u i ∙ ap (howMany (isOwn u)) (sym (rows-freeze (s .pages))))
-keeps-count (steps len) s v c = unless-keeps Counted _ s _ c (λ p. counted-step s v c)
-keeps-count (runs limit len) s v c = unless-keeps Counted _ s _ c (λ p. counted-turn (min limit (left s)) s v c)
+unfolding call isTransaction
+keeps-count (transacts c) s v h = does-count c s (transact c s) (does c s) v h
+keeps-count begins s v h = counted-rows s (beginCall s .store) (call-leaves begins s .active refl) (begin-rows s) h
+keeps-count (steps len) s v h = counted-rows s (stepCall len s .store) (call-leaves (steps len) s .active refl) (stepCall-rows len s v) h
+keeps-count (runs limit len) s v h = counted-rows s (runCall limit len s .store) (call-leaves (runs limit len) s .active refl) (run-rows limit len s v) h
 
 -- ---- a run
 
@@ -357,47 +288,41 @@ right-closed tx n w r u =
     by (eqb tx u) (λ e. let q : eqb u tx ≡ true = ap (λ z. eqb z tx) (sym (eqb-true tx u e)) ∙ eqb-self tx in rw e (k ∙ rw q (and-no (isIn u w))))
     (λ e. rw e (k ∙ rw (eqb-sym tx u e) (and-yes (isIn u w) ∙ r u)))
 
-right-noted : (c : Call) (n : ℕ → ℕ) (w : List ℕ) → Right n w → Right (λ u. noted c u (n u)) (writers c w)
+right-noted : (c : Effect) (n : ℕ → ℕ) (w : List ℕ) → Right n w → Right (λ u. noted c u (n u)) (writers c w)
 unfolding noted writers
-right-noted (opens tx) n w r = r
-right-noted (commits tx) n w r = right-closed tx n w r
-right-noted (aborts tx) n w r = right-closed tx n w r
-right-noted (inserts tx t k bs) n w r = right-wrote tx n w r
-right-noted (replaces tx t k bs) n w r = right-wrote tx n w r
-right-noted (deletes tx t k) n w r = right-wrote tx n w r
-right-noted (reads tx t k q) n w r = r
-right-noted (lists q) n w r = r
-right-noted begins n w r = r
-right-noted (steps len) n w r = r
-right-noted (runs limit len) n w r = r
+right-noted noEffect n w r = r
+right-noted (startOf tx) n w r = r
+right-noted (writeOf tx) n w r = right-wrote tx n w r
+right-noted (commitOf tx) n w r = right-closed tx n w r
+right-noted (abortOf tx) n w r = right-closed tx n w r
 
-tally-yes : (c : Call) (a : Answer) (u n : ℕ) → accepted a ≡ true → tally c a u n ≡ noted c u n
+tally-yes : (c : Effect) (a : Answer) (u n : ℕ) → accepted a ≡ true → tally c a u n ≡ noted c u n
 unfolding tally if_then_else_
 tally-yes c a u n h = rw h
 
-tally-no : (c : Call) (a : Answer) (u n : ℕ) → accepted a ≡ false → tally c a u n ≡ n
+tally-no : (c : Effect) (a : Answer) (u n : ℕ) → accepted a ≡ false → tally c a u n ≡ n
 unfolding tally if_then_else_
 tally-no c a u n h = rw h
 
 right-step : (c : Call) (s : Store) → Valid s → (w : List ℕ) → Right (λ u. own u s) w
-    → Right (λ u. own u (call c s .store)) (if accepted (call c s .answer) then writers c w else w)
+    → Right (λ u. own u (call c s .store)) (if accepted (call c s .answer) then writers (effectOf c) w else w)
 unfolding if_then_else_
 right-step c s v w r u =
     by (accepted (call c s .answer))
-    (λ h. rw h (right-noted c (λ u. own u s) w r u ∙ ap (ltb 0) (sym (tallies c s v u ∙ tally-yes c (call c s .answer) u (own u s) h))))
-    (λ h. rw h (r u ∙ ap (ltb 0) (sym (tallies c s v u ∙ tally-no c (call c s .answer) u (own u s) h))))
+    (λ h. rw h (right-noted (effectOf c) (λ u. own u s) w r u ∙ ap (ltb 0) (sym (tallies c s v u ∙ tally-yes (effectOf c) (call c s .answer) u (own u s) h))))
+    (λ h. rw h (r u ∙ ap (ltb 0) (sym (tallies c s v u ∙ tally-no (effectOf c) (call c s .answer) u (own u s) h))))
 
 right-run : (cs : List Call) (s : Store) → Valid s → Counted s → (w : List ℕ) → Right (λ u. own u s) w → Right (λ u. own u (afterCalls cs s)) (hadWritten cs s w)
 unfolding afterCalls hadWritten
 right-run [] s v c₀ w r = r
 right-run (c ∷ cs) s v c₀ w r = right-run cs (call c s .store) (keeps c s v c₀) (keeps-count c s v c₀)
-    (if accepted (call c s .answer) then writers c w else w) (right-step c s v w r)
+    (if accepted (call c s .answer) then writers (effectOf c) w else w) (right-step c s v w r)
 
 own-any : (u : ℕ) (s : Store) → any (isOwn u) (rows (s .pages)) ≡ ltb 0 (own u s)
 unfolding own
 own-any u s = any-many (isOwn u) (rows (s .pages))
 
--- the transactions of the live rows are those that had withTuple by the calls and their answers
+-- the transactions of the live rows are those that had written by the calls and their answers
 pub writers-law : (s : Store) → Valid s → Counted s → ((u : ℕ) → isIn u (openNumbers (s .active)) ≡ any (isOwn u) (rows (s .pages))) → (cs : List Call) (tx : ℕ)
     → any (isOwn tx) (rows (afterCalls cs s .pages)) ≡ isIn tx (hadWritten cs s (openNumbers (s .active)))
 writers-law s v c a cs tx = own-any tx (afterCalls cs s) ∙ sym (right-run cs s v c (openNumbers (s .active)) (λ u. a u ∙ own-any u s) tx)

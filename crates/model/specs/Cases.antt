@@ -21,13 +21,46 @@ use Rattle.image.specs.Whole.{headerStage, pagesBelow, pagesStage}
 use Rattle.model.specs.State.{Held, Page, idle, Store, Write, storedBytes, Answer, refused, done, count, filled}
 use Rattle.model.specs.Rules.{heldSize, fresh, withoutPending, joins, rules}
 use Rattle.model.specs.Sight.{held, rows, isForeign, versions, seenOf, seen}
-use Rattle.model.specs.Transactions.{gives, unless, changed, openCall, notOpen, noTable, tooLong, foreign, present, unseen, full, newTuple, withTuple, insertCall, replaceCall, deleteCall, readSeen, readCall, listing, listCall, openNumbers, isFor, writtenBy, withWrite, without, commitCall, abortCall, placeRules}
+use Rattle.model.specs.Transactions.{gives, unless, changed, openCall, readSeen, readCall, listing, listCall, openNumbers, isFor, writtenBy, without, commitCall, abortCall, writeRules, placeRules}
 use Rattle.model.specs.Checkpoint.{withProgress as storedStore, isFree, allocate, freeCount, usedToo, isRunning, blocksNeeded, beginCall, leftOf, left, made, fill, storable, storePage, storeDirectory, headerFor, storeHeader, stepOf, stepAt, badImage, stepCall, inTurn, runCall}
-use Rattle.model.specs.Calls.{Call, opens, inserts, replaces, deletes, commits, aborts, reads, lists, begins, steps, runs, call, isBegin, others, withWriter, writers, accepted, afterCalls, hadWritten}
+use Rattle.model.specs.Calls.{transact, effect, Call, transacts, begins, steps, runs, call, isBegin, effectOf, others, withWriter, writers, accepted, afterCalls, hadWritten}
 use Rattle.model.specs.Recover.{memoryFor, putBlock, imageAfter, freshStore, make, madeImage, loaded, reopened, recoveredStore, recoverPages, recoverBelow, recover}
+use Rattle.model.specs.Calls as calls
 use Rattle.model.specs.CrashRecovery.{Logged, tag, log, isHeader, landed, imageWith, content}
 
 -- ---- runs of calls
+
+-- a transaction opens
+abbrev pub opens : ℕ → Call
+opens tx = transacts (calls.opens tx)
+
+-- it inserts, with table, key and payload
+abbrev pub inserts : ℕ → ℕ → ℕ → List ℕ → Call
+inserts tx t k bs = transacts (calls.inserts tx t k bs)
+
+-- it replaces
+abbrev pub replaces : ℕ → ℕ → ℕ → List ℕ → Call
+replaces tx t k bs = transacts (calls.replaces tx t k bs)
+
+-- it deletes
+abbrev pub deletes : ℕ → ℕ → ℕ → Call
+deletes tx t k = transacts (calls.deletes tx t k)
+
+-- it commits
+abbrev pub commits : ℕ → Call
+commits tx = transacts (calls.commits tx)
+
+-- it aborts
+abbrev pub aborts : ℕ → Call
+aborts tx = transacts (calls.aborts tx)
+
+-- it reads, with a reply of that length
+abbrev pub reads : ℕ → ℕ → ℕ → ℕ → Call
+reads tx t k room = transacts (calls.reads tx t k room)
+
+-- the open transactions are listed
+abbrev pub lists : ℕ → Call
+lists room = transacts (calls.lists room)
 
 -- the answers of a list of calls
 unfoldable pub answers : List Call → Store → List Answer
@@ -174,18 +207,18 @@ bothFrozen =
 
 -- what the runs above give
 pub record Traps : Type 0 where
-  -- the pages at the end are not those listed: the page that was clean at begin is listed isRecord, with the block that it had
+  -- the pages at the end are not those listed: the page that was clean at begin is listed whole, with the block that it had
   pub at-the-end : shape (afterCalls splitMeanwhile (freshStore 16 64)) ≡ (5, 265) ∷ (5, 265) ∷ (1, 13) ∷ []
   pub as-at-begin : shapeOf (recoveredAfter splitMeanwhile) ≡ (9, 477) ∷ (1, 13) ∷ []
   pub listed-blocks : places splitMeanwhile 16 ≡ 1 ∷ 2 ∷ 0 ∷ 3 ∷ 4 ∷ 0 ∷ []
-  -- a pending commit is withTuple as tentative, and takes hold when the page is thawed
+  -- a pending commit is written as tentative, and takes hold when the page is thawed
   pub written-tentative : writes commitMeanwhile (freshStore 16 64) ≡ record { at = 1; what = page 0 1 (committedLate (tentative 5 0) ∷ []) } ∷ []
   pub thawed-committed : held (afterCalls commitMeanwhile (freshStore 16 64) .pages) ≡ (0, committedLate committed) ∷ []
   -- a replaced page's block is free only when the header has landed
   pub not-reused : places (threeTimes 3072) 6 ≡ 1 ∷ 2 ∷ 3 ∷ 0 ∷ 4 ∷ 5 ∷ 0 ∷ 2 ∷ 3 ∷ 0 ∷ []
   pub no-room : answers (threeTimes 2560) (freshStore 5 64)
       ≡ done ∷ done ∷ done ∷ count 4 ∷ count 4 ∷ done ∷ refused 20 ∷ refused 18 ∷ done ∷ refused 20 ∷ refused 18 ∷ []
-  -- the search goes on after the block last recordLength, and wraps to 1
+  -- the search goes on after the block last taken, and wraps to 1
   pub wraps : places (oneAgain 2560) 5 ≡ 1 ∷ 2 ∷ 0 ∷ 3 ∷ 4 ∷ 0 ∷ 1 ∷ 2 ∷ 0 ∷ []
   -- a thawed page of 49 bytes is not joined with its frozen neighbour of 245; when that is thawed too, they are joined
   pub frozen-both : after5 bothFrozen ≡ (5, 245) ∷ (5, 245) ∷ []
@@ -225,7 +258,7 @@ pub record Refusals : Type 0 where
   pub crowded : answers (map opens (from 0 64) ++ (opens 64 ∷ opens 0 ∷ [])) (freshStore 16 2) ≡ replicate 64 done ++ (refused 9 ∷ refused 8 ∷ [])
   -- the last number is not given, and the last level is not left
   pub last-numbers : answers (opens 5 ∷ inserts 5 0 0 [] ∷ begins ∷ []) lastStore ≡ done ∷ refused 16 ∷ refused 19 ∷ []
-  -- an image of 512 bytes, of no isRecord blocks; N 0 and 1,025; memory one byte too short, and just long enough
+  -- an image of 512 bytes, of no whole blocks; N 0 and 1,025; memory one byte too short, and just long enough
   pub makes : map refusalOf (make 512 0 0 ∷ make 8191 0 0 ∷ make 8192 0 0 ∷ make 8192 0 1025 ∷ make 8192 1151 1 ∷ make 8192 1152 1 ∷ []) ≡ 1 ∷ 1 ∷ 2 ∷ 2 ∷ 3 ∷ 0 ∷ []
 
 -- ---- one run cut at every store
@@ -297,5 +330,5 @@ pub record Cuts : Type 0 where
 
 -- opens all that the cases compute with: `unfolding cases`
 unfoldable pub cases : ℕ
-unfolding basics bitsOf numberOf bitsIn field num4 same isTentative ownerSize size spell bytesOf filledUp blockOf committedBit markBit ownerFields payloadFields recordFields recordsFields entryFields encodeBlock kind spelledBy readHeader headerIn readOwner readMark readTuple recordLength isRecord readTuples pageTable pageCount pageLevel pageSpelled pageIn readEntries directoryCount directoryLevel directoryIn decodeBlock rowRules blockAt blockCount view wholeBlocks blockOk isZero directoriesFor directoryBlocks unusedNumbers headerOk headerTest addEntries readDirectories entriesOk testedEntries directoryTest pageOk addPage readPages rowsOfPages testedPages pageTest headerStage pagesBelow pagesStage rules held rows isForeign versions seenOf seen gives unless changed openCall notOpen noTable tooLong foreign present unseen full newTuple withTuple insertCall replaceCall deleteCall readSeen readCall listing listCall placeRules openNumbers isFor writtenBy withWrite without others commitCall abortCall storedStore isFree allocate freeCount usedToo isRunning blocksNeeded beginCall leftOf left made fill storable storePage storeDirectory headerFor storeHeader stepOf stepAt badImage stepCall inTurn runCall call isBegin withWriter writers accepted afterCalls hadWritten memoryFor putBlock freshStore make madeImage loaded reopened recoveredStore recoverPages recoverBelow recover tag log isHeader landed imageWith content answers writes shape many after5 tuple samplePage clean booking committedPages reading spells firstOf imageAfter shapeOf recoveredAfter places splitMeanwhile commitMeanwhile committedLate threeTimes oneAgain bothFrozen refusedCalls lastStore refusalOf ownerNumbers tupleNumbers heldNumbers pageNumbers agrees recoversTo tears cutHere cutEverywhere script scriptLog
+unfolding basics bitsOf numberOf bitsIn field num4 same isTentative ownerSize size spell bytesOf filledUp blockOf committedBit markBit ownerFields payloadFields recordFields recordsFields entryFields encodeBlock kind spelledBy readHeader headerIn readOwner readMark readTuple recordLength isRecord readTuples pageTable pageCount pageLevel pageSpelled pageIn readEntries directoryCount directoryLevel directoryIn decodeBlock rowRules blockAt blockCount view wholeBlocks blockOk isZero directoriesFor directoryBlocks unusedNumbers headerOk headerTest addEntries readDirectories entriesOk testedEntries directoryTest pageOk addPage readPages rowsOfPages testedPages pageTest headerStage pagesBelow pagesStage rules held rows isForeign versions seenOf seen gives unless changed openCall readSeen readCall listing listCall writeRules placeRules openNumbers isFor writtenBy without others commitCall abortCall storedStore isFree allocate freeCount usedToo isRunning blocksNeeded beginCall leftOf left made fill storable storePage storeDirectory headerFor storeHeader stepOf stepAt badImage stepCall inTurn runCall transact effect call isBegin effectOf withWriter writers accepted afterCalls hadWritten memoryFor putBlock freshStore make madeImage loaded reopened recoveredStore recoverPages recoverBelow recover tag log isHeader landed imageWith content answers writes shape many after5 tuple samplePage clean booking committedPages reading spells firstOf imageAfter shapeOf recoveredAfter places splitMeanwhile commitMeanwhile committedLate threeTimes oneAgain bothFrozen refusedCalls lastStore refusalOf ownerNumbers tupleNumbers heldNumbers pageNumbers agrees recoversTo tears cutHere cutEverywhere script scriptLog
 cases = 0

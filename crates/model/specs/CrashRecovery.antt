@@ -5,7 +5,7 @@ use mathlib.Core.Bool.{Bool, false, _&&_}
 use mathlib.Core.List.{List, [], _∷_, _++_, map}
 use lib.ListN.{length}
 use lib.Dec.{eqb}
-use Rattle.basics.specs.Basics.{if_then_else_, isIn}
+use Rattle.basics.specs.Basics.{if_then_else_, howMany, isIn}
 use Rattle.block_forms.specs.Tuple.{Tuple, AllBytes}
 use Rattle.image.specs.Stages.{holds}
 use Rattle.model.specs.State.{Page, Store, Write, storedBytes}
@@ -71,11 +71,11 @@ pub data Cut : List ℕ → List Call → List Logged → List ℕ → List Call
 unfoldable pub content : Page → ℕ × List Tuple
 content p = (p .table, map (λ h. h .tuple) (p .tuples))
 
--- r is what the run of the calls from s had: the same pages in order, next number, and open transactions that had written
+-- r is what the run of the calls from s had: the same pages in order, next number, and open transactions that had written, each listed once
 pub record Same (r s : Store) (calls : List Call) : Type 0 where
   pub pages : map content (r .pages) ≡ map content (afterCalls calls s .pages)
   pub next : r .next ≡ afterCalls calls s .next
-  pub writers : (tx : ℕ) → isIn tx (openNumbers (r .active)) ≡ isIn tx (hadWritten calls s (openNumbers (s .active)))
+  pub writers : (tx : ℕ) → howMany (eqb tx) (openNumbers (r .active)) ≡ (if isIn tx (hadWritten calls s (openNumbers (s .active))) then 1 else 0)
 
 -- From any start, for every list of calls and every cut of its stores, recovery with memory enough is accepted and gives what the
 -- run of the calls before the begin of the last landed checkpoint had.

@@ -58,7 +58,7 @@ LastStays =
     (ps : List Page) (i k j : ℕ) (p : Page) (d : Held) → RowOn ps i k j p → p .frozen ≡ true → isAdding (getD (p .tuples) j d .pending) ≡ true
     → length (p .tuples) ≡ 1 → removeRow i ps ≡ ps
 
--- the tuple after its commit: on a frozen page as keptLater says, else committed
+-- the tuple after its commit: on a frozen page as `pendCommit` says, else committed
 unfoldable pub committedTuple : Bool → Held → Held
 committedTuple frozen h =
     if not frozen || isAdding (h .pending) then record { tuple = asCommitted (h .tuple); pending = h .pending }

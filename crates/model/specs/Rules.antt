@@ -248,7 +248,7 @@ shown (h ∷ hs) = if isAdding (h .pending) then shown hs else h .tuple ∷ show
 unfoldable pub applied : Held → Tuple
 applied h = if isCommitting (h .pending) then asCommitted (h .tuple) else h .tuple
 
--- the tuples with pending operations taken as done: those pending removal are removeNow
+-- the tuples with pending operations taken as done: those pending removal are gone
 unfoldable pub live : List Held → List Tuple
 live [] = []
 live (h ∷ hs) = if isRemoving (h .pending) then live hs else applied h ∷ live hs

@@ -12,7 +12,7 @@ use Rattle.model.specs.State.{Store, refused, filled}
 use Rattle.model.specs.Rules.{asCommitted}
 use Rattle.model.specs.Sight.{rows, versions, seen}
 use Rattle.model.specs.Transactions.{openNumbers, insertCall, replaceCall, deleteCall, commitCall, readCall}
-use Rattle.model.specs.Calls.{Call, opens, inserts, replaces, deletes, commits, aborts, reads, lists, begins, steps, runs, call, accepted}
+use Rattle.model.specs.Calls.{TransactionCall, transact, Effect, noEffect, startOf, writeOf, commitOf, abortOf, effect, Call, begins, steps, runs, call, effectOf, accepted}
 use Rattle.model.specs.WellFormed.{WellFormed}
 
 -- ---- the writer
@@ -32,24 +32,18 @@ WriterMisses =
 
 -- ---- the others
 
--- the calls after which transaction u may see something else: its own insert, replace, delete and abort, and every commit
-unfoldable pub mayShow : ℕ → Call → Bool
-mayShow u (opens tx) = false
-mayShow u (inserts tx t k bs) = eqb tx u
-mayShow u (replaces tx t k bs) = eqb tx u
-mayShow u (deletes tx t k) = eqb tx u
-mayShow u (commits tx) = true
-mayShow u (aborts tx) = eqb tx u
-mayShow u (reads tx t k room) = false
-mayShow u (lists room) = false
-mayShow u begins = false
-mayShow u (steps len) = false
-mayShow u (runs limit len) = false
+-- the effects after which transaction u may see something else: its own write and abort, and every commit
+unfoldable pub mayShow : ℕ → Effect → Bool
+mayShow u noEffect = false
+mayShow u (startOf tx) = false
+mayShow u (writeOf tx) = eqb tx u
+mayShow u (commitOf tx) = true
+mayShow u (abortOf tx) = eqb tx u
 
 -- after every other call a transaction sees what it saw before, and if it is open it reads what it read
 abbrev pub SeenAsBefore : Type 0
 SeenAsBefore =
-    (c : Call) (s : Store) → WellFormed s → (u : ℕ) → mayShow u c ≡ false → (t k : ℕ)
+    (c : Call) (s : Store) → WellFormed s → (u : ℕ) → mayShow u (effectOf c) ≡ false → (t k : ℕ)
     → (seen u t k (call c s .store) ≡ seen u t k s)
     × (isIn u (openNumbers (s .active)) ≡ true → (room : ℕ) → readCall u t k room (call c s .store) .answer ≡ readCall u t k room s .answer)
 
@@ -72,12 +66,9 @@ SeenAfterCommit =
 abbrev pub RefusedKeeps : Type 0
 RefusedKeeps = (c : Call) (s : Store) → accepted (call c s .answer) ≡ false → (call c s .store ≡ s) × (call c s .writes ≡ [])
 
--- read and list change nothing and store nothing
+-- read and list, which have no effect, change nothing and store nothing
 abbrev pub ReadsOnly : Type 0
-ReadsOnly =
-    (s : Store)
-    → ((tx t k room : ℕ) → (call (reads tx t k room) s .store ≡ s) × (call (reads tx t k room) s .writes ≡ []))
-    × ((room : ℕ) → (call (lists room) s .store ≡ s) × (call (lists room) s .writes ≡ []))
+ReadsOnly = (c : TransactionCall) (s : Store) → effect c ≡ noEffect → (transact c s .store ≡ s) × (transact c s .writes ≡ [])
 
 -- begin, step and run leave every live row
 abbrev pub RowsStay : Type 0

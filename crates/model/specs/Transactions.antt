@@ -44,16 +44,19 @@ openNumbers os = map (λ o. o .transaction) os
 unfoldable pub isFor : ℕ → Active → Bool
 isFor tx o = eqb (o .transaction) tx
 
--- how many tuples a transaction has withTuple
+-- how many tuples a transaction has written
 unfoldable pub writtenBy : ℕ → List Active → ℕ
 writtenBy tx [] = 0
 writtenBy tx (o ∷ os) = if isFor tx o then o .written else writtenBy tx os
 
--- it has withTuple one more. (A count has 20 bits; no transaction has more tuples than a store holds.)
+-- an open transaction that has written one tuple more. (A count has 20 bits; no transaction has more tuples than a store holds.)
+unfoldable pub oneMore : Active → Active
+oneMore o = record { transaction = o .transaction; written = min (suc (o .written)) 1048575 }
+
+-- transaction tx has written one tuple more
 unfoldable pub withWrite : ℕ → List Active → List Active
 withWrite tx [] = []
-withWrite tx (o ∷ os) =
-    if isFor tx o then record { transaction = o .transaction; written = min (suc (o .written)) 1048575 } ∷ os else o ∷ withWrite tx os
+withWrite tx (o ∷ os) = if isFor tx o then oneMore o ∷ os else o ∷ withWrite tx os
 
 -- it is closed
 unfoldable pub without : ℕ → List Active → List Active
@@ -61,11 +64,15 @@ without tx os = keep (λ o. not (isFor tx o)) os
 
 -- ---- open
 
+-- one open transaction more, which has written nothing
+abbrev pub withOpen : ℕ → Store → Store
+withOpen tx s = changed s (s .next) (s .pages) (s .active ++ record { transaction = tx; written = 0 } ∷ [])
+
 -- 6 transaction above 4,095; 8 already open; 9 when 64 are open
 unfoldable pub openCall : ℕ → Store → Outcome
 openCall tx s =
     unless (6 when ltb 4095 tx ∷ 8 when isIn tx (openNumbers (s .active)) ∷ 9 when leb openLimit (length (s .active)) ∷ []) s
-    (gives done (changed s (s .next) (s .pages) (s .active ++ record { transaction = tx; written = 0 } ∷ [])))
+    (gives done (withOpen tx s))
 
 -- ---- insert, replace, delete
 
@@ -77,9 +84,9 @@ notOpen tx s = 6 when ltb 4095 tx ∷ 7 when not (isIn tx (openNumbers (s .activ
 unfoldable pub noTable : ℕ → Test
 noTable t = 10 when ltb 7 t
 
--- 11 payload above 40
-unfoldable pub tooLong : List ℕ → Test
-tooLong bs = 11 when ltb payloadLimit (length bs)
+-- 11 payload, of n bytes, above 40
+unfoldable pub tooLong : ℕ → Test
+tooLong n = 11 when ltb payloadLimit n
 
 -- 12 another open transaction has a tentative tuple of this key
 unfoldable pub foreign : ℕ → ℕ → ℕ → Store → Test
@@ -97,29 +104,46 @@ unseen tx t k s = 14 when not (isSome (seen tx t k s))
 unfoldable pub full : Store → List Test
 full s = 15 when leb (s .capacity) (length (held (s .pages))) ∷ 16 when eqb (s .next) mostNumber ∷ []
 
--- a tentative tuple; its statement is how many tuples the transaction had withTuple before
+-- the tests of a write that look at no tuple, with a payload of n bytes
+unfoldable pub argumentTests : ℕ → ℕ → ℕ → Store → List Test
+argumentTests tx t n s = notOpen tx s ++ (noTable t ∷ tooLong n ∷ [])
+
+-- those that look at the tuples: 13 is for a key that is to be new, 14 for another
+unfoldable pub tupleTests : Bool → ℕ → ℕ → ℕ → Store → List Test
+tupleTests new tx t k s = foreign tx t k s ∷ (if new then present t k s else unseen tx t k s) ∷ full s
+
+-- the tests of insert, replace and delete. (A delete has a payload of 0 bytes, for which 11 never holds.)
+unfoldable pub writeTests : Bool → ℕ → ℕ → ℕ → ℕ → Store → List Test
+writeTests new tx t k n s = argumentTests tx t n s ++ tupleTests new tx t k s
+
+-- a tentative tuple; its statement is how many tuples the transaction had written before
 unfoldable pub newTuple : ℕ → ℕ → List ℕ → Bool → Store → Tuple
 newTuple tx k bs m s =
     record { key = k; number = s .next; owner = tentative tx (writtenBy tx (s .active)); mark = m; payload = bs }
 
+-- the store with one tentative tuple more
+unfoldable pub afterWrite : ℕ → ℕ → ℕ → List ℕ → Bool → Store → Store
+afterWrite tx t k bs m s = changed s (suc (s .next)) (place t (newTuple tx k bs m s) (s .pages)) (withWrite tx (s .active))
+
 -- one tentative tuple more
 unfoldable pub withTuple : ℕ → ℕ → ℕ → List ℕ → Bool → Store → Outcome
-withTuple tx t k bs m s = gives done (changed s (suc (s .next)) (place t (newTuple tx k bs m s) (s .pages)) (withWrite tx (s .active)))
+withTuple tx t k bs m s = gives done (afterWrite tx t k bs m s)
+
+-- a write: of a key that is to be new or not, of a delete mark or not
+unfoldable pub writeCall : Bool → Bool → ℕ → ℕ → ℕ → List ℕ → Store → Outcome
+writeCall new m tx t k bs s = unless (writeTests new tx t k (length bs) s) s (withTuple tx t k bs m s)
 
 -- insert: a tuple of a key of which there is none
-unfoldable pub insertCall : ℕ → ℕ → ℕ → List ℕ → Store → Outcome
-insertCall tx t k bs s =
-    unless (notOpen tx s ++ (noTable t ∷ tooLong bs ∷ foreign tx t k s ∷ present t k s ∷ full s)) s (withTuple tx t k bs false s)
+abbrev pub insertCall : ℕ → ℕ → ℕ → List ℕ → Store → Outcome
+insertCall tx t k bs = writeCall true false tx t k bs
 
 -- replace: a newer version of a key that is seen
-unfoldable pub replaceCall : ℕ → ℕ → ℕ → List ℕ → Store → Outcome
-replaceCall tx t k bs s =
-    unless (notOpen tx s ++ (noTable t ∷ tooLong bs ∷ foreign tx t k s ∷ unseen tx t k s ∷ full s)) s (withTuple tx t k bs false s)
+abbrev pub replaceCall : ℕ → ℕ → ℕ → List ℕ → Store → Outcome
+replaceCall tx t k bs = writeCall false false tx t k bs
 
--- delete adds a mark with empty payload
-unfoldable pub deleteCall : ℕ → ℕ → ℕ → Store → Outcome
-deleteCall tx t k s =
-    unless (notOpen tx s ++ (noTable t ∷ foreign tx t k s ∷ unseen tx t k s ∷ full s)) s (withTuple tx t k [] true s)
+-- delete: a mark with empty payload on a key that is seen
+abbrev pub deleteCall : ℕ → ℕ → ℕ → Store → Outcome
+deleteCall tx t k = writeCall false true tx t k []
 
 -- ---- read, list
 
@@ -234,17 +258,30 @@ carryOut n [] ps = ps
 carryOut n (commitPlace i ∷ os) ps = carryOut n os (commitRow (i - (n - length (held ps))) ps)
 carryOut n (removePlace i ∷ os) ps = carryOut n os (removeRow (i - (n - length (held ps))) ps)
 
--- commit carries out its plan and closes the transaction
-unfoldable pub commitCall : ℕ → Store → Outcome
-commitCall tx s =
-    unless (notOpen tx s) s
-    (gives done (changed s (s .next) (carryOut (length (held (s .pages))) (closePlan tx (s .pages)) (s .pages)) (without tx (s .active))))
+-- the pages after a commit: its plan is carried out
+abbrev pub committedPages : ℕ → List Page → List Page
+committedPages tx ps = carryOut (length (held ps)) (closePlan tx ps) ps
 
--- so does abort
+-- the pages after an abort
+abbrev pub abortedPages : ℕ → List Page → List Page
+abortedPages tx ps = carryOut (length (held ps)) (abortPlan tx ps) ps
+
+-- the transaction is closed, with other pages
+abbrev pub closing : ℕ → List Page → Store → Outcome
+closing tx ps s = gives done (changed s (s .next) ps (without tx (s .active)))
+
+-- commit
+unfoldable pub commitCall : ℕ → Store → Outcome
+commitCall tx s = unless (notOpen tx s) s (closing tx (committedPages tx (s .pages)) s)
+
+-- abort
 unfoldable pub abortCall : ℕ → Store → Outcome
-abortCall tx s =
-    unless (notOpen tx s) s
-    (gives done (changed s (s .next) (carryOut (length (held (s .pages))) (abortPlan tx (s .pages)) (s .pages)) (without tx (s .active))))
+abortCall tx s = unless (notOpen tx s) s (closing tx (abortedPages tx (s .pages)) s)
+
+-- opens the writes: `unfolding writeRules`
+unfoldable pub writeRules : ℕ
+unfolding oneMore withWrite notOpen noTable tooLong foreign present unseen full argumentTests tupleTests writeTests newTuple afterWrite withTuple writeCall
+writeRules = 0
 
 -- opens what commit and abort plan and carry out: `unfolding placeRules`
 unfoldable pub placeRules : ℕ

@@ -12,10 +12,10 @@ use Rattle.block_forms.specs.Tuple.{Owner, committed, tentative, AllFit, sizes}
 use Rattle.image_rows.specs.Rows.{Row, number, isOwn, isAt, isLower, isBelow, rowsOk, openLimit}
 use Rattle.image.specs.Stages.{holds, capacityLimit, directoriesFor, isZero}
 use Rattle.model.specs.State.{Held, Page, Checkpoint, idle, running, Store, Write, count}
-use Rattle.model.specs.Rules.{fits, isPending, isDirty, isFrozen, shown}
+use Rattle.model.specs.Rules.{fits, splitAll, withoutPending, isPending, pendRemove, editAt, pendRemoveAt, isDirty, shown, live, isFrozen}
 use Rattle.model.specs.Sight.{held, rows}
-use Rattle.model.specs.Transactions.{openNumbers, writtenBy}
-use Rattle.model.specs.Checkpoint.{allocate, freeCount, left, beginCall, stepCall, runCall}
+use Rattle.model.specs.Transactions.{openNumbers, writtenBy, withWrite, PlaceOp, carryOut}
+use Rattle.model.specs.Checkpoint.{allocate, freeCount, left, storable, beginCall, stepCall, runCall}
 use Rattle.model.specs.Calls.{Call, steps, call, Typed, AllTyped, accepted, afterCalls}
 use Rattle.model.specs.Recover.{make, recover}
 use Rattle.model.specs.CrashRecovery.{Start}
@@ -128,19 +128,37 @@ AlwaysWell = (img : List ℕ) (s : Store) → Start img s → (calls : List Call
 
 -- ---- laws
 
--- no open transaction's count is above N: the limit of 20 bits is not met
-abbrev pub CountsLow : Type 0
-CountsLow = (s : Store) → WellFormed s → (tx : ℕ) → isIn tx (openNumbers (s .active)) ≡ true → writtenBy tx (s .active) ≤ s .capacity
+-- p is one of the pages ps, and frozen
+pub record FrozenIn (ps : List Page) (p : Page) : Type 0 where
+  pub before : List Page
+  pub behind : List Page
+  pub is : ps ≡ before ++ p ∷ behind
+  pub frozen : p .frozen ≡ true
+
+-- The rules are total: for cases that cannot occur they choose something. None of these choices is ever met.
+pub record NoFallback (s : Store) : Type 0 where
+  -- a frozen page keeps a tuple whatever is removed from it, also within a commit or abort, after the operations os: `pendRemoveAt` keeps none back
+  pub removal : (n : ℕ) (os : List PlaceOp) (p : Page) → FrozenIn (carryOut n os (s .pages)) p
+      → (j : ℕ) → pendRemoveAt j (p .tuples) ≡ editAt pendRemove j (p .tuples)
+  -- what a frozen page shows fits its block: `storable` leaves none of it out
+  pub whole : (p : Page) → FrozenIn (s .pages) p → storable (shown (p .tuples)) ≡ shown (p .tuples)
+  -- at the thaw of a frozen page every part fits: `splitDeep` does not end at its bound before
+  pub parts : (p : Page) → FrozenIn (s .pages) p → all fits (splitAll (map withoutPending (live (p .tuples)))) ≡ true
+  -- while more than the header is left, the block that a step takes is a free one of the image: `allocate` finds one
+  pub block : 1 < left s → (s .used (allocate s) ≡ false) × (1 ≤ allocate s) × (allocate s < s .blocks)
+  -- no open transaction's count is above N, far below 20 bits, and a write adds one to it: `oneMore` meets no limit
+  pub low : (tx : ℕ) → isIn tx (openNumbers (s .active)) ≡ true → writtenBy tx (s .active) ≤ s .capacity
+  pub counted : (tx : ℕ) → isIn tx (openNumbers (s .active)) ≡ true → writtenBy tx (withWrite tx (s .active)) ≡ suc (writtenBy tx (s .active))
+
+-- on every well-formed store
+abbrev pub NeverFallsBack : Type 0
+NeverFallsBack = (s : Store) → WellFormed s → NoFallback s
 
 -- all rows held are in order of table, then key, then number
 abbrev pub ListOrder : Type 0
 ListOrder =
     (s : Store) → WellFormed s → (before between behind : List Row) (r q : Row)
     → held (s .pages) ≡ before ++ r ∷ (between ++ q ∷ behind) → isBefore r q ≡ true
-
--- while more than the header is left, the block that a step takes is a free one of the image
-abbrev pub EnoughBlocks : Type 0
-EnoughBlocks = (s : Store) → WellFormed s → 1 < left s → (s .used (allocate s) ≡ false) × (1 ≤ allocate s) × (allocate s < s .blocks)
 
 -- begin answers F + ⌈P/336⌉ + 1, with F the pages that it has frozen, and so many stores are left
 abbrev pub BeginAnswers : Type 0

@@ -1,4 +1,3 @@
-pub mod Refused
 pub mod Follows
 pub mod Line
 pub mod Signed

@@ -11,6 +11,7 @@ use Rattle.model.specs.CrashRecovery.{Start, fresh, Logged, tag, log, imageWith
 use Rattle.model.proofs.Views.{WriteOk}
 use Rattle.model.proofs.Lists.{all-parts}
 use Rattle.model.proofs.Bytes.{view-sane}
+use Rattle.model.proofs.Quiet.{call-leaves}
 use Rattle.model.proofs.Claim.{writes-ok}
 use Rattle.model.proofs.Line.{written-long, started, crash-recovery}
 use Rattle.memory_layout.specs.Store.{storeIn, HoldsNow}
@@ -18,7 +19,6 @@ use Rattle.call_contracts.specs.Shape.{meaning, MadeBy, Made, RecoveredBy, Reco
 use Rattle.call_contracts.specs.declared.Answer.{Answer}
 use Rattle.call_contracts.specs.declared.Answer.the-variants.{Done, Count, Filled, Refused}
 use Rattle.store.specs.CrashRecovery.{Started, made, recovered, Starts, ExecutesAll, ends, next, Restored, CrashRecovery}
-use Rattle.store.proofs.Refused.{blocks-kept}
 use Rattle.store.proofs.Follows.{does, all-typed}
 use Rattle.model.specs.CrashRecovery as model
 use Rattle.model.specs.State as answer
@@ -54,7 +54,7 @@ follows n past base s (c ∷ cs) img m img′ m′ (next {img₁ = img₁} {m₁
     let k = does s img m e c img₁ m₁ (l ∙ ap (λ (z : ℕ). 512 * z) (sym b)) d in
     let parts = all-parts (WriteOk n) (map (tag base′) (o .writes)) rest ok in
     let l₁ : length img₁ ≡ 512 * n = ap length (k .1) ∙ long-after n base′ (o .writes) img l (parts .0) in
-    let t = follows n (past ++ c ∷ []) base′ (o .store) cs img₁ m₁ img′ m′ rs (k .0) (blocks-kept c s ∙ b) l₁ (parts .1) in
+    let t = follows n (past ++ c ∷ []) base′ (o .store) cs img₁ m₁ img′ m′ rs (k .0) (call-leaves c s .blocks ∙ b) l₁ (parts .1) in
     (t .0, t .1 ∙ ap (imageAfter (written rest)) (k .1) ∙ sym (after-append base′ (o .writes) rest img))
 
 -- ---- the start

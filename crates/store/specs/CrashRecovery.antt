@@ -1,5 +1,5 @@
 -- Crash recovery (document 01: the quoted line), whole: about every program that makes the calls, each of which does what its contract says, and about every cut.
-use Prim.Native.Nat.{ℕ, _≤_, _<_}
+use Prim.Native.Nat.{ℕ, _≤_}
 use mathlib.Core.Path.{_≡_}
 use mathlib.Core.Option.{some}
 use mathlib.Core.List.{List, [], _∷_, map}
@@ -7,9 +7,9 @@ use lib.ListN.{length}
 use Rattle.block_forms.specs.Tuple.{AllBytes}
 use Rattle.image.specs.Stages.{holds}
 use Rattle.model.specs.State.{Store}
-use Rattle.model.specs.Transactions.{openCall, insertCall, replaceCall, deleteCall, commitCall, abortCall, readCall}
+use Rattle.model.specs.Transactions.{readCall}
 use Rattle.model.specs.Checkpoint.{beginCall, stepCall, runCall}
-use Rattle.model.specs.Calls.{Call, opens, inserts, replaces, deletes, commits, aborts, reads, lists, begins, steps, runs, afterCalls}
+use Rattle.model.specs.Calls.{TransactionCall, reads, lists, transact, noEffect, effect, TypedCall, Call, transacts, begins, steps, runs, afterCalls}
 use Rattle.model.specs.Recover.{memoryFor, imageAfter, make, recover}
 use Rattle.model.specs.CrashRecovery.{log, Cut, Same}
 use Rattle.memory_layout.specs.Store.{storeIn}
@@ -33,16 +33,12 @@ pub record Starts : Type 0 where
 
 -- `Executes c img m img′ m′`: the call c, with the image img and the memory m, leaves img′ and m′, as the contract of its function says
 pub data Executes : Call → List ℕ → List ℕ → List ℕ → List ℕ → Type 0 where
-  opening : {tx : ℕ} {img m m′ : List ℕ} (r : Answer) → Answers (openCall tx) m r m′ → Executes (opens tx) img m img m′
-  inserting : {tx t k : ℕ} {bs img m m′ : List ℕ} (r : Answer) → k < 4294967296 → AllBytes bs → Answers (insertCall tx t k bs) m r m′
-      → Executes (inserts tx t k bs) img m img m′
-  replacing : {tx t k : ℕ} {bs img m m′ : List ℕ} (r : Answer) → k < 4294967296 → AllBytes bs → Answers (replaceCall tx t k bs) m r m′
-      → Executes (replaces tx t k bs) img m img m′
-  deleting : {tx t k : ℕ} {img m m′ : List ℕ} (r : Answer) → k < 4294967296 → Answers (deleteCall tx t k) m r m′ → Executes (deletes tx t k) img m img m′
-  committing : {tx : ℕ} {img m m′ : List ℕ} (r : Answer) → Answers (commitCall tx) m r m′ → Executes (commits tx) img m img m′
-  aborting : {tx : ℕ} {img m m′ : List ℕ} (r : Answer) → Answers (abortCall tx) m r m′ → Executes (aborts tx) img m img m′
-  reading : {tx t k : ℕ} {img m : List ℕ} (p p′ : List ℕ) (r : Answer) → Replies (readCall tx t k (length p)) m r p p′ → Executes (reads tx t k (length p)) img m img m
-  listing : {img m : List ℕ} (p p′ : List ℕ) (r : Answer) → Lists m r p p′ → Executes (lists (length p)) img m img m
+  -- open, insert, replace, delete, commit, abort: all calls of transactions but those that only answer
+  transacting : {c : TransactionCall} {img m m′ : List ℕ} (r : Answer) → (effect c ≡ noEffect → ⊥) → TypedCall c → Answers (transact c) m r m′
+      → Executes (transacts c) img m img m′
+  reading : {tx t k : ℕ} {img m : List ℕ} (p p′ : List ℕ) (r : Answer) → Replies (readCall tx t k (length p)) m r p p′
+      → Executes (transacts (reads tx t k (length p))) img m img m
+  listing : {img m : List ℕ} (p p′ : List ℕ) (r : Answer) → Lists m r p p′ → Executes (transacts (lists (length p))) img m img m
   beginning : {img m m′ : List ℕ} (r : Answer) → Answers beginCall m r m′ → Executes begins img m img m′
   stepping : {img m img′ m′ : List ℕ} (r : Answer) → Stores (stepCall (length img)) img m r img′ m′ → Executes (steps (length img)) img m img′ m′
   running : {limit : ℕ} {img m img′ m′ : List ℕ} (r : Answer) → Stores (runCall limit (length img)) img m r img′ m′ → Executes (runs limit (length img)) img m img′ m′

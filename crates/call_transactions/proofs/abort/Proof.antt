@@ -1,8 +1,8 @@
 -- `call_transactions::abort` meets its contract.
 use Rattle.basics.proofs.Kit.{ℕ, needs}
 use Rattle.model.specs.Transactions.{notOpen}
-use Rattle.model.specs.Transactions.{abortCall}
-use Rattle.call_transactions.proofs.Closing.{abortedPages, is-abort, close-refused, close-done, closed-room}
+use Rattle.model.specs.Transactions.{abortedPages, abortCall}
+use Rattle.call_transactions.proofs.Closing.{is-abort, close-refused, close-done, closed-room}
 use Rattle.call_transactions.proofs.Verdicts.{passed-held}
 use Rattle.call_transactions.proofs.abort.Statement.{statement}
 use Rattle.call_transactions.proofs.abort.Tie as tie

@@ -1,8 +1,8 @@
 -- `call_transactions::commit` meets its contract.
 use Rattle.basics.proofs.Kit.{ℕ, needs}
 use Rattle.model.specs.Transactions.{notOpen}
-use Rattle.model.specs.Transactions.{commitCall}
-use Rattle.call_transactions.proofs.Closing.{committedPages, is-commit, close-refused, close-done, closed-room}
+use Rattle.model.specs.Transactions.{committedPages, commitCall}
+use Rattle.call_transactions.proofs.Closing.{is-commit, close-refused, close-done, closed-room}
 use Rattle.call_transactions.proofs.Verdicts.{passed-held}
 use Rattle.call_transactions.proofs.commit.Statement.{statement}
 use Rattle.call_transactions.proofs.commit.Tie as tie

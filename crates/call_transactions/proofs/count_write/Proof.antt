@@ -1,7 +1,7 @@
 -- `call_transactions::count_write` meets its contract.
 use Rattle.basics.proofs.Kit.{_≡_, sym, ap, _∙_, needs, arith}
 use Rattle.memory_layout.specs.declared.Head.{Head}
-use Rattle.call_transactions.specs.Calls.{oneMore}
+use Rattle.model.specs.Transactions.{oneMore}
 use Rattle.call_transactions.proofs.Writing.{read-fits, next-replaces, same-opens, counted}
 use Rattle.call_transactions.proofs.count_write.Statement.{statement}
 use Rattle.call_transactions.proofs.count_write.Tie as tie
