@@ -2,25 +2,28 @@
 // any memory and any arguments, by the model's function.
 use block_forms::Header;
 use block_forms::Owner;
-use block_forms::PageLayout;
 use call_contracts::Answer;
 use engine_lookup::Seen;
-use engine_lookup::Visibility;
 use memory_layout::Open;
 use memory_rows::Pending;
 use memory_rows::Row;
+
+mod refusals;
+
+use refusals::call_refusal;
+use refusals::key_refusal;
 ghost use mathlib.Core.Path.{_≡_};
 ghost use mathlib.Core.Bool.{true};
 ghost use mathlib.Core.List.{_++_};
 ghost use Prim.Native.Nat.{_*_, _≤_, _<_};
 ghost use lib.ListN.{length, drop};
-ghost use Rattle.model.specs.Transactions.{openNumbers, notOpen, full, argumentTests, oneMore, afterWrite, writeCall, listing, without, openCall, insertCall, replaceCall, deleteCall, commitCall, abortCall, readCall};
+ghost use Rattle.model.specs.Transactions.{openNumbers, notOpen, oneMore, afterWrite, writeCall, listing, without, openCall, insertCall, replaceCall, deleteCall, commitCall, abortCall, readCall};
 ghost use Rattle.model.specs.Recover.{make};
 ghost use Rattle.memory_layout.specs.Flat.{flatOf, Room, Becomes, withOpens};
-ghost use Rattle.memory_layout.specs.Store.{holdsStore, storeIn, storeOf, HoldsNow};
+ghost use Rattle.memory_layout.specs.Store.{storeIn, storeOf, HoldsNow};
 ghost use Rattle.memory_layout.specs.Opens.{activeOf, OpenFits};
 ghost use Rattle.call_contracts.specs.Shape.{Answers, Replies, Lists, Made};
-ghost use Rattle.call_transactions.specs.Refusals.{verdict, verdictIn, keyTests, makeVerdict};
+ghost use Rattle.call_transactions.specs.Refusals.{verdictIn, makeVerdict};
 ghost use Rattle.call_transactions.specs.Calls.{WriterAt, NextRow, afterCount, AcceptAt};
 
 // The most blocks, the largest capacity, and the memory that a store takes: so much a row, and the head.
@@ -208,62 +211,7 @@ pub fn list(m: &[u8], reply: &mut [u8]) -> Answer
     Answer::Filled(n)
 }
 
-// ---- insert, replace, delete: the tests
-
-// 4, 6, 7; 10 table above 7; 11 payload, of len bytes, too long; 0 if none holds.
-fn call_refusal(m: &[u8], transaction: u64, table: u64, len: usize) -> u64
-    ensures { λ r. ⌜ r ≡ verdictIn (storeIn (now (m .entry))) (argumentTests transaction table len) ⌝ }
-{
-    let v = not_open(m, transaction);
-    if v != 0 {
-        return v;
-    }
-    if TABLE_LIMIT < table {
-        return 10;
-    }
-    if PageLayout::PAYLOAD_LIMIT < len {
-        return 11;
-    }
-    0
-}
-
-// 15 N tuples held; 16 next number is 4,294,967,295; else 0.
-fn full_refusal(m: &[u8]) -> u64
-    requires { ⌜ holdsStore (now m) ≡ true ⌝ }
-    ensures { λ r. ⌜ r ≡ verdict (full (storeOf (flatOf (now (m .entry))))) ⌝ }
-{
-    let h = memory_layout::get_head(m);
-    let c = memory_layout::get_counts(m);
-    if h.capacity <= c.rows {
-        return 15;
-    }
-    if h.next == LAST_NUMBER {
-        return 16;
-    }
-    0
-}
-
-// By what there is of the key: 12 foreign; 13 there already, if it is to be new, else 14 not seen; 15, 16; 0 if none holds.
-fn key_refusal(m: &[u8], new: bool, visibility: Visibility) -> u64
-    requires { ⌜ (holdsStore (now m) ≡ true) × (visibility .own ≤ length (flatOf (now m) .rows)) ⌝ }
-    ensures { λ r. ⌜ r ≡ verdict (keyTests new (flatOf (now (m .entry))) visibility) ⌝ }
-{
-    if visibility.foreign {
-        return 12;
-    }
-    if new {
-        if visibility.any {
-            return 13;
-        }
-        return full_refusal(m);
-    }
-    let Seen::At(_) = engine_lookup::pick(m, visibility) else {
-        return 14;
-    };
-    full_refusal(m)
-}
-
-// ---- insert, replace, delete: what is written
+// ---- insert, replace, delete
 
 // One tuple more was written. The count stays in its 20 bits.
 fn one_more(o: Open) -> Open

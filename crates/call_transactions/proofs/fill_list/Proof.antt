@@ -18,17 +18,11 @@ loop-holds c = let st = c .before .before in (omega arith, (refl, list-none (fla
 get-open-requires : tie.Need-get-open-requires Inv-loop μ-loop
 get-open-requires c κs = let st = c .before .before .before .before in (st .pre .0, omega (arith, st .pre .1 .0, c .loop-test .taken))
 
-cast-reply : tie.Need-cast-reply Inv-loop μ-loop
-cast-reply c = omega arith
-
 mul-reply : tie.Need-mul-reply Inv-loop μ-loop
 mul-reply c = let st = c .before .before .before .before .before in omega (arith, st .pre .1 .1, c .before .loop-test .taken)
 
 slice-write-reply : tie.Need-slice-write-reply Inv-loop μ-loop
 slice-write-reply c = let st = c .before .before .before .before .before in omega (arith, st .pre .1 .1, c .before .loop-test .taken, c .before .before .loop .inv .1 .0)
-
-cast-reply-2 : tie.Need-cast-reply-2 Inv-loop μ-loop
-cast-reply-2 c = omega arith
 
 mul-reply-2 : tie.Need-mul-reply-2 Inv-loop μ-loop
 mul-reply-2 c = let st = c .before .before .before .before .before in omega (arith, st .pre .1 .1, c .before .loop-test .taken)
@@ -64,5 +58,5 @@ returns c = let l = c .before in
     list-end (flatOf (st .args .m .now) .opens) (st .args .reply .now) (st .args .n) (l .loop .i) (st .pre .1 .0) (c .loop-test .left) (l .loop .inv .0) _ (l .loop .inv .1 .1)
 
 pub fill-list-spec : {M : Type 1} → statement M
-fill-list-spec = tie.close (tie.spec Inv-loop μ-loop loop-holds get-open-requires cast-reply mul-reply slice-write-reply cast-reply-2 mul-reply-2 add-reply slice-write-reply-2
-    add-i loop-less loop-again same-length returns)
+fill-list-spec = tie.close (tie.spec Inv-loop μ-loop loop-holds get-open-requires (λ c. omega arith) mul-reply slice-write-reply (λ c. omega arith) mul-reply-2 add-reply
+    slice-write-reply-2 add-i loop-less loop-again same-length returns)

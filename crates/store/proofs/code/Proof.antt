@@ -61,5 +61,5 @@ unfolding code
 returns-4 c = minus-back (c .clamped3 .result) _ (c .clamped3 .ensures) ∙ ap code (sym (c .before .before .a3 .given .1))
 
 pub code-spec : {M : Type 1} → statement M
-code-spec = tie.close (tie.spec enum-told enum-known-a clamped-requires enum-known-a-2 clamped-requires-2 enum-known-a-3 clamped-requires-3 sub-result returns returns-2 returns-3
-    returns-4)
+code-spec = tie.close (tie.spec enum-told enum-known-a clamped-requires enum-known-a-2 clamped-requires-2 enum-known-a-3 clamped-requires-3 sub-result returns returns-2
+    returns-3 returns-4)

@@ -1,11 +1,11 @@
--- `call_transactions::full_refusal` meets its contract.
+-- `call_transactions::refusals::full_refusal` meets its contract.
 use Rattle.basics.proofs.Kit.{sym, ap, _∙_, List, ℕ, arith}
 use Rattle.memory_layout.specs.declared.Head.{Head}
 use Rattle.memory_layout.proofs.Laws.{known, holds-room}
 use Rattle.call_transactions.proofs.Opens.{rows-count}
 use Rattle.call_transactions.proofs.Testing.{full-15, full-16, full-none}
-use Rattle.call_transactions.proofs.full_refusal.Statement.{statement}
-use Rattle.call_transactions.proofs.full_refusal.Tie as tie
+use Rattle.call_transactions.proofs.refusals.full_refusal.Statement.{statement}
+use Rattle.call_transactions.proofs.refusals.full_refusal.Tie as tie
 
 get-head-requires : tie.Need-get-head-requires
 get-head-requires c κs = omega (arith, known _ (holds-room _ (c .before .pre)))

@@ -1,10 +1,10 @@
--- `call_transactions::key_refusal` meets its contract.
+-- `call_transactions::refusals::key_refusal` meets its contract.
 use Rattle.basics.proofs.Kit.{_∙_, needs}
 use Rattle.memory_layout.specs.Flat.{flatOf}
 use Rattle.memory_layout.proofs.Laws.{holds-room}
 use Rattle.call_transactions.proofs.Testing.{key-12, key-13, key-new, key-14, key-seen}
-use Rattle.call_transactions.proofs.key_refusal.Statement.{statement}
-use Rattle.call_transactions.proofs.key_refusal.Tie as tie
+use Rattle.call_transactions.proofs.refusals.key_refusal.Statement.{statement}
+use Rattle.call_transactions.proofs.refusals.key_refusal.Tie as tie
 
 returns : tie.Need-returns
 returns c = let a = c .before .before .args in

@@ -1,8 +1,8 @@
--- `call_transactions::call_refusal` meets its contract.
+-- `call_transactions::refusals::call_refusal` meets its contract.
 use Rattle.basics.proofs.Kit.{needs}
 use Rattle.call_transactions.proofs.Testing.{call-stopped, call-10, call-11, call-passed}
-use Rattle.call_transactions.proofs.call_refusal.Statement.{statement}
-use Rattle.call_transactions.proofs.call_refusal.Tie as tie
+use Rattle.call_transactions.proofs.refusals.call_refusal.Statement.{statement}
+use Rattle.call_transactions.proofs.refusals.call_refusal.Tie as tie
 
 returns : tie.Need-returns
 returns c = let a = c .before .before .before .args in
