@@ -36,11 +36,6 @@ ghost use Rattle.call_recovery.specs.Reopening.{AllOwners, ownRows, Coun
 // How many transactions there may be.
 const TRANSACTIONS: usize = 4096;
 
-// The memory that a store needs: so much a tuple, and the head.
-const ROW_ROOM: usize = 128;
-
-const HEAD_SIZE: usize = 1024;
-
 // The same number, as a size.
 fn wide(x: u32) -> usize
     ensures { λ r. ⌜ r ≡ x ⌝ }
@@ -263,7 +258,7 @@ pub fn recover(image: &[u8], m: &mut [u8]) -> Answer
 {
     match image::test_header(image) {
         image::HeaderTest::Passed(h) => {
-            if m.len() < ROW_ROOM * wide(h.capacity) + HEAD_SIZE {
+            if m.len() < memory_layout::ROW_SPACE * wide(h.capacity) + memory_layout::HEAD_SIZE {
                 return Answer::Refused(3);
             }
             let t = image::test_pages(image, h);

@@ -26,26 +26,22 @@ ghost use Rattle.call_contracts.specs.Shape.{Answers, Replies, Lists, Made};
 ghost use Rattle.call_transactions.specs.Refusals.{verdictIn, makeVerdict};
 ghost use Rattle.call_transactions.specs.Calls.{WriterAt, NextRow, afterCount, AcceptAt};
 
-// The most blocks, the largest capacity, and the memory that a store takes: so much a row, and the head.
 const BLOCK_SIZE: usize = 512;
 
-const BLOCK_LIMIT: usize = 4096;
+// The most blocks and the largest capacity, in the types of what is tested.
+const BLOCK_LIMIT: usize = memory_layout::BLOCK_LIMIT as usize;
 
-const CAPACITY_LIMIT: u64 = 1024;
-
-const ROW_SPACE: usize = 128;
-
-const HEAD_SIZE: usize = 1024;
+const CAPACITY_LIMIT: u64 = memory_layout::CAPACITY_LIMIT as u64;
 
 // The largest number of a transaction and of a table, and how many transactions may be open.
 const TRANSACTION_LIMIT: u64 = 4095;
 
 const TABLE_LIMIT: u64 = 7;
 
-const OPEN_LIMIT: usize = 64;
+const OPEN_LIMIT: usize = memory_layout::OPEN_LIMIT as usize;
 
 // The most that a transaction's count of tuples goes to, and the number that no tuple gets.
-const WRITTEN_LIMIT: u32 = 1048575;
+const WRITTEN_LIMIT: u32 = memory_layout::WRITTEN_LIMIT - 1;
 
 const LAST_NUMBER: u32 = 4294967295;
 
@@ -72,7 +68,7 @@ fn make_refusal(len: usize, room: usize, capacity: u64) -> u64
         return 2;
     }
     let n = capacity as usize;
-    if room < ROW_SPACE * n + HEAD_SIZE {
+    if room < memory_layout::ROW_SPACE * n + memory_layout::HEAD_SIZE {
         return 3;
     }
     0

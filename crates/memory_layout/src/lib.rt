@@ -26,7 +26,7 @@ ghost use Rattle.memory_layout.specs.Store.{holdsStore, FreshFits, fresh
 const SIGNATURE: u32 = 56250198;
 
 // Where the head's numbers stand, four bytes each.
-const CAPACITY: usize = 4;
+pub const CAPACITY: usize = 4;
 
 const BLOCKS: usize = 8;
 
@@ -40,7 +40,7 @@ const BEGUN: usize = 24;
 
 const TAKEN: usize = 28;
 
-const ROWS: usize = 32;
+pub const ROW_COUNT: usize = 32;
 
 const OPEN_COUNT: usize = 36;
 
@@ -49,9 +49,9 @@ const NAMED_COUNT: usize = 40;
 const DIRECTORY_COUNT: usize = 44;
 
 // Where the head's lists stand, and how long the head is.
-const TABLES: usize = 64;
+pub const TABLE_ENDS: usize = 64;
 
-const PAGES: usize = 78;
+pub const PAGE_COUNT: usize = 78;
 
 const DIRECTORIES: usize = 96;
 
@@ -61,27 +61,27 @@ const USED: usize = 512;
 
 const USED_SIZE: usize = 512;
 
-const HEAD_SIZE: usize = 1024;
+pub const HEAD_SIZE: usize = 1024;
 
 // Bytes a row before the slots of the rows, the first rows of the pages and the directory entries.
 const REFS: usize = 76;
 
-const STARTS: usize = 79;
+pub const STARTS: usize = 79;
 
 const NAMED: usize = 87;
 
 // An open transaction is stored as its number times this, plus how many tuples it has written.
-const WRITTEN_LIMIT: u32 = 1048576;
+pub const WRITTEN_LIMIT: u32 = 1048576;
 
 // The largest capacity, and how many bytes of memory each row of it takes.
-const CAPACITY_LIMIT: u32 = 1024;
+pub const CAPACITY_LIMIT: u32 = 1024;
 
-const ROW_SPACE: usize = 128;
+pub const ROW_SPACE: usize = 128;
 
 // At most so many blocks, open transactions and directory blocks.
-const BLOCK_LIMIT: u32 = 4096;
+pub const BLOCK_LIMIT: u32 = 4096;
 
-const OPEN_LIMIT: u32 = 64;
+pub const OPEN_LIMIT: u32 = 64;
 
 const DIRECTORY_LIMIT: u32 = 4;
 
@@ -144,8 +144,8 @@ pub fn get_counts(m: &[u8]) -> Counts
     ensures { λ r. ⌜ r ≡ countsOf (now (m .entry)) ⌝ }
 {
     Counts {
-        rows: memory_bytes::get4(m, ROWS),
-        pages: memory_bytes::get2(m, PAGES),
+        rows: memory_bytes::get4(m, ROW_COUNT),
+        pages: memory_bytes::get2(m, PAGE_COUNT),
         opens: memory_bytes::get4(m, OPEN_COUNT),
         named: memory_bytes::get4(m, NAMED_COUNT),
         directories: memory_bytes::get4(m, DIRECTORY_COUNT),

@@ -8,7 +8,7 @@ use super::Head;
 use super::OPEN_LIMIT;
 use super::ROW_SPACE;
 use super::STARTS;
-use super::TABLES;
+use super::TABLE_ENDS;
 ghost use mathlib.Core.Path.{_≡_};
 ghost use mathlib.Core.Bool.{false};
 ghost use Prim.Native.Nat.{_+_, _*_, _/_, _≤_, _<_};
@@ -43,8 +43,8 @@ pub fn tables_rise(m: &[u8]) -> bool
     let mut rise = true;
     let mut t: usize = 0;
     while t < 7 {
-        let a = memory_bytes::get2(m, TABLES + t * 2);
-        let b = memory_bytes::get2(m, TABLES + t * 2 + 2);
+        let a = memory_bytes::get2(m, TABLE_ENDS + t * 2);
+        let b = memory_bytes::get2(m, TABLE_ENDS + t * 2 + 2);
         rise = rise & (a <= b);
         t += 1;
     }

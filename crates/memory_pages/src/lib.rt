@@ -1,6 +1,12 @@
 // The page entries of the working memory: two columns, first rows and blocks, and the ends of the tables in the head. A page's table and
 // how many rows it has are not stored: they follow from the ends and the first rows. docs/LAYOUT.md says what stands where.
 // Each function that changes the memory promises one equation on the flat lists that it holds.
+use memory_layout::CAPACITY;
+use memory_layout::HEAD_SIZE;
+use memory_layout::PAGE_COUNT;
+use memory_layout::ROW_COUNT;
+use memory_layout::STARTS;
+use memory_layout::TABLE_ENDS;
 use memory_rows::Row;
 ghost use mathlib.Core.Path.{_≡_};
 ghost use Prim.Native.Nat.{_+_, _*_, _≤_, _<_};
@@ -18,20 +24,7 @@ ghost use Rattle.memory_rows.specs.Cells.{InOrder};
 ghost use Rattle.memory_pages.specs.Columns.{Inserted2, Removed2, Opened, Closed, MayOpen, MayClose};
 ghost use Rattle.memory_pages.specs.Pages.{TableFrom, OnPages, PageOf, MaySplit, MayJoin, MayLose, MaySet, MayInsert, MayRemove, wordOf, dirty, setBlock, splitEntry, joinEntries, moreRows, fewerRows, EntriesBecome, RowsBecome, frozenWord, Passed, frozenEntry, dirtyEntry, MayAppend, clean, behind, moreLast};
 
-// Numbers of the head.
-const CAPACITY: usize = 4;
-
-const ROW_COUNT: usize = 32;
-
-const TABLE_ENDS: usize = 64;
-
-const PAGE_COUNT: usize = 78;
-
-// The columns stand behind the head, each behind so many bytes a row.
-const HEAD_SIZE: usize = 1024;
-
-const STARTS: usize = 79;
-
+// Bytes a row before the blocks of the pages.
 const BLOCKS: usize = 83;
 
 const TABLES: usize = 8;
