@@ -4,7 +4,7 @@ use Prim.Native.Nat.{ℕ, _+_, _*_, _/_, _%_, _≤_}
 use mathlib.Core.Bool.{Bool}
 use mathlib.Core.List.{List, [], _∷_, _++_}
 use lib.ListN.{length, take, drop}
-use Rattle.block_forms.specs.Limits.{payloadLimit}
+use Rattle.block_forms.specs.Limits.{payloadLimit, recordHead, markValue, committedValue, statementLimit}
 use Rattle.block_forms.specs.Numbers.{be4}
 use Rattle.block_forms.specs.Tuple as tuples
 use Rattle.block_forms.specs.Tuple.{committed, tentative, Tuple, ownerSize, OwnerFits}
@@ -35,7 +35,7 @@ tupleOf r p = record { key = r .key; number = r .number; owner = ownerIs (r .own
 
 -- how many bytes a record takes
 unfoldable pub sizeOf : Record → ℕ
-sizeOf r = 9 + ownerSize (ownerIs (r .owner)) + r .len
+sizeOf r = recordHead + ownerSize (ownerIs (r .owner)) + r .len
 
 -- the record fits a block at place at, its payload stands in xs, and its owner and payload are in range
 pub record Appendable (at : ℕ) (r : Record) (xs : List ℕ) : Type 0 where
@@ -48,12 +48,12 @@ pub record Appendable (at : ℕ) (r : Record) (xs : List ℕ) : Type 0 where
 
 -- a record's ninth byte: committed, delete mark, payload length
 unfoldable pub flagsOf : tuples.Owner → Bool → ℕ → ℕ
-flagsOf o m n = committedBit o * 128 + (markBit m * 64 + n)
+flagsOf o m n = committedBit o * committedValue + (markBit m * markValue + n)
 
 -- an owner's four bytes as a number, 0 if committed
 unfoldable pub ownerWord : tuples.Owner → ℕ
 ownerWord committed = 0
-ownerWord (tentative t s) = t * 1048576 + s
+ownerWord (tentative t s) = t * statementLimit + s
 
 -- an owner's four bytes, if tentative
 unfoldable pub ownerBytes : tuples.Owner → List ℕ

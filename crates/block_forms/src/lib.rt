@@ -3,11 +3,11 @@ ghost use mathlib.Core.Path.{_≡_};
 ghost use mathlib.Core.List.{[], _∷_};
 ghost use Prim.Native.Nat.{_+_, _%_, _<_, _≤_};
 ghost use lib.ListN.{length, take, drop};
-ghost use Rattle.basics.specs.Basics.{if_then_else_};
+ghost use lib.Dec.{leb};
 ghost use Rattle.block_bits.specs.Bits.{over};
-ghost use Rattle.block_forms.specs.Limits.{payloadLimit, entriesPerBlock};
+ghost use Rattle.block_forms.specs.Limits.{payloadLimit, recordSpace, joinSum, markValue, entriesPerBlock, mostNumber};
 ghost use Rattle.block_forms.specs.Numbers.{be4};
-ghost use Rattle.block_forms.specs.Tuple.{OwnerFits};
+ghost use Rattle.block_forms.specs.Tuple.{recordSize, OwnerFits};
 ghost use Rattle.block_forms.specs.Spell.{zeros};
 ghost use Rattle.block_forms.specs.Block.{header, directory, encodeBlock};
 ghost use Rattle.block_forms.specs.Decode.{readOwner, readMark};
@@ -57,15 +57,37 @@ impl PageLayout {
     // A payload has at most this many bytes.
     pub const PAYLOAD_LIMIT: usize = 40;
 
+    // A page's fields before its records.
+    pub const HEAD_SIZE: usize = 8;
+    // A record's key, number and ninth byte.
+    pub const RECORD_HEAD: usize = 9;
+    // The same and the owner's word.
+    const TENTATIVE_HEAD: usize = PageLayout::RECORD_HEAD + 4;
+
     // 9 bytes plus the payload, plus 4 if tentative.
     pub fn record_size(len: usize, tentative: bool) -> usize
-        requires { ⌜ len < 64 ⌝ }
-        ensures { λ r. ⌜ r ≡ 9 + (if tentative then 4 else 0) + len ⌝ }
+        requires { ⌜ len < markValue ⌝ }
+        ensures { λ r. ⌜ r ≡ recordSize tentative len ⌝ }
     {
         if tentative {
-            return 13 + len;
+            return PageLayout::TENTATIVE_HEAD + len;
         }
-        9 + len
+        PageLayout::RECORD_HEAD + len
+    }
+
+    // Records of this size have room in a block.
+    pub fn fits(size: usize) -> bool
+        ensures { λ r. ⌜ r ≡ leb size recordSpace ⌝ }
+    {
+        size <= PageLayout::RECORD_SPACE
+    }
+
+    // Pages of these sizes may be joined.
+    pub fn joins(a: usize, b: usize) -> bool
+        requires { ⌜ a + b ≤ mostNumber ⌝ }
+        ensures { λ r. ⌜ r ≡ leb (a + b) joinSum ⌝ }
+    {
+        a + b <= PageLayout::JOIN_SUM
     }
 }
 
@@ -109,9 +131,9 @@ pub fn copy(block: &mut [u8], at: usize, from: &[u8], start: usize, len: usize)
 // ---- a record's ninth byte and its owner's word
 
 // A ninth byte: committed from here on; below it, the delete mark and the payload's length.
-const COMMITTED: u8 = 128;
+pub const COMMITTED: u8 = 128;
 
-const MARK: u8 = 64;
+pub const MARK: u8 = 64;
 
 // How many tuples a transaction may write, and what its number is multiplied by in an owner's word.
 const STATEMENTS: u32 = 1048576;
@@ -181,16 +203,18 @@ pub fn append(block: &mut [u8; 512], at: usize, r: Record, from: &[u8]) -> usize
     put1(block, at + 8, flags_of(owner, r.mark, len));
     match owner {
         Owner::Committed => {
-            copy(block, at + 9, from, start, len);
-            at + 9 + len
+            let end = at + PageLayout::record_size(len, false);
+            copy(block, end - len, from, start, len);
+            end
         }
         Owner::Tentative {
             transaction: _,
             statement: _,
         } => {
-            put4(block, at + 9, word_of(owner));
-            copy(block, at + 13, from, start, len);
-            at + 13 + len
+            put4(block, at + PageLayout::RECORD_HEAD, word_of(owner));
+            let end = at + PageLayout::record_size(len, true);
+            copy(block, end - len, from, start, len);
+            end
         }
     }
 }

@@ -2,6 +2,7 @@
 use Rattle.basics.proofs.Kit.{_≡_, refl, sym, ap, _∙_, false, some, none, Option, Option·map, List, [], _∷_, _++_, append-assoc, append-nil, ℕ, suc, _+_, _≤_, _<_, _-_, length, drop}
 use Rattle.basics.proofs.Kit.{length-append, length-drop, drop-drop, arith}
 use Rattle.basics.specs.Basics.{if_then_else_}
+use Rattle.block_forms.specs.Limits.{pageHeadSize, recordSpace}
 use Rattle.block_bits.specs.Bits.{over, bitsIn, field}
 use Rattle.block_bits.proofs.Blocks.{field-lt}
 use Rattle.block_forms.specs.Tuple.{Tuple, AllBytes}
@@ -30,15 +31,15 @@ pub record Again (xs copy : List ℕ) (n at i : ℕ) : Type 0 where
   pub turn : i ≤ n
   pub count : length done ≡ i
   pub built : Built copy at done
-  pub rest : readTuples n (drop 8 xs) ≡ Option·map (λ ts. done ++ ts) (readTuples (n - i) (drop at xs))
+  pub rest : readTuples n (drop pageHeadSize xs) ≡ Option·map (λ ts. done ++ ts) (readTuples (n - i) (drop at xs))
 
 pub again-start : (xs : List ℕ) (n : ℕ) → Again xs (zeros 512) n 8 0
 again-start xs n =
     let z : n - 0 ≡ n = omega arith in
-    record { done = []; turn = omega arith; count = refl; built = built-start; rest = rw z (sym (map-same (readTuples n (drop 8 xs)))) }
+    record { done = []; turn = omega arith; count = refl; built = built-start; rest = rw z (sym (map-same (readTuples n (drop pageHeadSize xs)))) }
 
 module _ {xs copy : List ℕ} {n at i : ℕ} (a : Again xs copy n at i) where
-  pub again-bad : i < n → isRecord (drop at xs) ≡ false → readTuples n (drop 8 xs) ≡ none
+  pub again-bad : i < n → isRecord (drop at xs) ≡ false → readTuples n (drop pageHeadSize xs) ≡ none
   unfolding readTuples if_then_else_
   again-bad h w =
       let e : n - i ≡ suc (n - (i + 1)) = omega arith in
@@ -51,7 +52,7 @@ module _ {xs copy : List ℕ} {n at i : ℕ} (a : Again xs copy n at i) where
       let x = readTuple (drop at xs) in
       let e : n - i ≡ suc (n - (i + 1)) = omega arith in
       let room : at + sizeOf r ≤ 512 = omega (arith, g .next, g .ends, g .takes) in
-      let next : readTuples n (drop 8 xs) ≡ Option·map (λ ts. (a .done ++ (readTuple (drop at xs) ∷ [])) ++ ts) (readTuples (n - (i + 1)) (drop (at + recordLength (drop at xs)) xs)) =
+      let next : readTuples n (drop pageHeadSize xs) ≡ Option·map (λ ts. (a .done ++ (readTuple (drop at xs) ∷ [])) ++ ts) (readTuples (n - (i + 1)) (drop (at + recordLength (drop at xs)) xs)) =
       a .rest ∙ rw (e, g .is-whole, map-more (a .done) x (readTuples (n - (i + 1)) (drop (recordLength (drop at xs)) (drop at xs))), drop-drop (recordLength (drop at xs)) at xs) in
       record {
         done = a .done ++ (tupleOf r (payloadIn xs r) ∷ []);
@@ -61,7 +62,7 @@ module _ {xs copy : List ℕ} {n at i : ℕ} (a : Again xs copy n at i) where
         rest = rw (g .tuple, g .takes) next;
       }
 
-  pub again-end : n ≤ i → readTuples n (drop 8 xs) ≡ some (a .done)
+  pub again-end : n ≤ i → readTuples n (drop pageHeadSize xs) ≡ some (a .done)
   unfolding readTuples
   again-end h =
       let t = a .turn in
@@ -75,13 +76,13 @@ module _ {xs copy : List ℕ} {n at i : ℕ} (a : Again xs copy n at i) where
       let u = a .turn in
       let e = again-end h in
       let c : n ≡ length (a .done) = omega (arith, a .count) in
-      let d : length (drop 8 xs) ≡ 504 = rw (length-drop 8 xs, k) in
+      let d : length (drop pageHeadSize xs) ≡ recordSpace = rw (length-drop pageHeadSize xs, k) in
       let ht : field (bitsIn xs) 4 3 < 8 = field-lt xs 4 3 in
       let hl : field (bitsIn xs) 22 32 < 4294967296 = field-lt xs 22 32 in
       let fit : PageFits t l (a .done) = record {
         table = omega arith;
         level = omega arith;
-        tuples = read-all-fit n (drop 8 xs) (a .done) (bytes-drop 8 xs b) e;
-        room = omega (arith, read-room n (drop 8 xs) (a .done) e);
+        tuples = read-all-fit n (drop pageHeadSize xs) (a .done) (bytes-drop pageHeadSize xs b) e;
+        room = omega (arith, read-room n (drop pageHeadSize xs) (a .done) e);
       } in
       rw c (built-end (a .built) t l fit)

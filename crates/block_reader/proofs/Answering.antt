@@ -4,6 +4,7 @@ use types.Run.{OneOf}
 use denote.Enum.Declared.{tagOf}
 use Rattle.basics.specs.Basics.{if_then_else_}
 use Rattle.basics.proofs.Facts.{clash}
+use Rattle.block_forms.specs.Limits.{pageHeadSize, entriesPerBlock}
 use Rattle.block_bits.specs.Bits.{bitsIn, field}
 use Rattle.block_forms.specs.Numbers.{same}
 use Rattle.block_forms.specs.Tuple.{Tuple}
@@ -30,14 +31,14 @@ module _ (xs : List ℕ) {h : Header} (e : h ≡ readHeader xs) where
 -- ---- directory
 
 module _ (xs : List ℕ) {n : ℕ} (en : n ≡ field (bitsIn xs) 4 9) where
-  pub directory-many : 336 < n → reading (directoryIn xs) ≡ Malformed
+  pub directory-many : entriesPerBlock < n → reading (directoryIn xs) ≡ Malformed
   unfolding directoryIn directoryCount reading if_then_else_
-  directory-many h = rw (← en, lt-leb n 336 h)
+  directory-many h = rw (← en, lt-leb n entriesPerBlock h)
 
-  module _ {l : ℕ} (el : l ≡ field (bitsIn xs) 13 32) (es : List ℕ) (h : n ≤ 336) (e : take n es ≡ readEntries xs 64 n) where
+  module _ {l : ℕ} (el : l ≡ field (bitsIn xs) 13 32) (es : List ℕ) (h : n ≤ entriesPerBlock) (e : take n es ≡ readEntries xs 64 n) where
     here : directoryIn xs ≡ spelledBy xs (directory l (take n es))
     unfolding directoryIn directoryCount directoryLevel if_then_else_
-    here = rw (← en, ← el, le-leb n 336 h, e)
+    here = rw (← en, ← el, le-leb n entriesPerBlock h, e)
 
     pub directory-yes : length (take n es) ≡ n → same (encodeBlock (directory l (take n es))) xs ≡ true → reading (directoryIn xs) ≡ IsDirectory n l
     unfolding reading
@@ -50,11 +51,11 @@ module _ (xs : List ℕ) {n : ℕ} (en : n ≡ field (bitsIn xs) 4 9) where
 -- ---- page
 
 module _ (xs : List ℕ) {t n l : ℕ} (et : t ≡ field (bitsIn xs) 4 3) (en : n ≡ field (bitsIn xs) 7 6) (el : l ≡ field (bitsIn xs) 22 32) where
-  pub page-none : readTuples n (drop 8 xs) ≡ none → reading (pageIn xs) ≡ Malformed
+  pub page-none : readTuples n (drop pageHeadSize xs) ≡ none → reading (pageIn xs) ≡ Malformed
   unfolding pageIn pageSpelled pageCount reading
   page-none h = rw (← en, h)
 
-  module _ {ts : List Tuple} (g : readTuples n (drop 8 xs) ≡ some ts) where
+  module _ {ts : List Tuple} (g : readTuples n (drop pageHeadSize xs) ≡ some ts) where
     there : pageIn xs ≡ spelledBy xs (page t l ts)
     unfolding pageIn pageSpelled pageCount pageTable pageLevel
     there = rw (← en, g, ← et, ← el)

@@ -2,6 +2,7 @@
 use Rattle.basics.proofs.Kit.{_≡_, sym, ap, _∙_, false, some, none, List, [], _∷_, _++_, ℕ, suc, _+_, _≤_, _<_, _-_, length, take, drop, drop-drop, take-add, arith}
 use Rattle.basics.specs.Basics.{if_then_else_}
 use Rattle.basics.proofs.Facts.{never}
+use Rattle.block_forms.specs.Limits.{pageHeadSize}
 use Rattle.block_forms.specs.Tuple.{Tuple}
 use Rattle.block_forms.specs.Block.{page}
 use Rattle.block_forms.specs.Decode.{readTuple, recordLength, isRecord, readTuples, decodeBlock}
@@ -18,7 +19,7 @@ use Rattle.block_reader.proofs.Records.{Found-is, found-is, bad-is}
 abbrev pub Left : List ℕ → ℕ → ℕ → ℕ → List Tuple → Type 0
 Left xs n at i ts = readTuples (n - i) (drop at xs) ≡ some (drop i ts)
 
-pub left-start : (xs : List ℕ) (n : ℕ) (ts : List Tuple) → readTuples n (drop 8 xs) ≡ some ts → Left xs n 8 0 ts
+pub left-start : (xs : List ℕ) (n : ℕ) (ts : List Tuple) → readTuples n (drop pageHeadSize xs) ≡ some ts → Left xs n 8 0 ts
 left-start xs n ts e = let z : n - 0 ≡ n = omega arith in rw z e
 
 pub left-end : (xs : List ℕ) (n at i : ℕ) (ts : List Tuple) → n ≤ i → Left xs n at i ts → drop i ts ≡ []
