@@ -8,9 +8,9 @@ use Rattle.block_forms.specs.Numbers.{be4}
 use Rattle.block_forms.specs.Tuple.{Owner, committed, tentative, Tuple, sizes, AllBytes, OwnerFits, Fits, AllFit}
 use Rattle.block_forms.specs.Spell.{zeros, spell, padded}
 use Rattle.block_forms.specs.Block.{page, committedBit, markBit, ownerFields, payloadFields, recordFields, recordsFields, pageFields, encodeBlock, PageFits}
-use Rattle.block_forms.specs.Bytes.{flagsOf, ownerWord, ownerBytes, recordBytes, pageHead}
+use Rattle.block_forms.specs.Bytes.{flagsOf, ownerWord, ownerBytes, recordBytes, records, pageHead}
 use Rattle.block_forms.proofs.Spelled.{spell-append, zero-bits-in, length-zeros, bytes-append, bytes-zeros, block-is}
-use Rattle.block_forms.proofs.Tuples.{records, length-records, count-sizes, be4-bytes, records-bytes}
+use Rattle.block_forms.proofs.Tuples.{length-records, count-sizes, be4-bytes, records-bytes}
 
 -- a number's four bytes are its 32 bits
 pub be4-bits : (v : ℕ) → bitsIn (be4 v) ≡ bitsOf 32 v

@@ -11,7 +11,7 @@ use Rattle.block_forms.specs.Numbers.{same}
 use Rattle.block_forms.specs.Tuple.{Tuple, sizes, AllBytes}
 use Rattle.block_forms.specs.Spell.{spell}
 use Rattle.block_forms.specs.Block.{Block, malformed, header, page, directory, headerFields, entryFields, directoryFields, blockFields, encodeBlock, EntriesFit, PageFits, DirectoryFits, InRange}
-use Rattle.block_forms.specs.Decode.{kind, spelledBy, readHeader, headerIn, readTuples, pageTable, pageCount, pageLevel, pageSpelled, pageIn, readEntries, directoryCount, directoryLevel, directoryIn, decodeBlock}
+use Rattle.block_forms.specs.Decode.{kind, spelledBy, readHeader, headerIn, readTuples, pageTable, pageCount, pageBytes, pageLevel, pageSpelled, pageIn, readEntries, directoryCount, directoryLevel, directoryIn, decodeBlock}
 use Rattle.block_forms.specs.Laws.{DecodeOfEncode, EncodeOfDecode}
 use Rattle.block_forms.specs.Bytes.{pageHead}
 use Rattle.block_forms.specs.declared.Header.{Header}
@@ -151,6 +151,10 @@ module _ (t l : ℕ) (ts : List Tuple) (fit : PageFits t l ts) where
   page-level : pageLevel (encodeBlock (page t l ts)) ≡ l
   unfolding pageLevel
   page-level = let e = page-all in cc
+
+  pub page-sizes : pageBytes (encodeBlock (page t l ts)) ≡ sizes ts
+  unfolding pageBytes
+  page-sizes = let e = page-all in cc
 
   pub page-tuples : readTuples (length ts) (drop pageHeadSize (encodeBlock (page t l ts))) ≡ some ts
   page-tuples =

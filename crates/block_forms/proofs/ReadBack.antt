@@ -7,8 +7,8 @@ use Rattle.block_forms.specs.Numbers.{be4, num4}
 use Rattle.block_forms.specs.Tuple.{Owner, committed, tentative, Tuple, ownerSize, size, OwnerFits, Fits, AllFit}
 use Rattle.block_forms.specs.Block.{committedBit, markBit}
 use Rattle.block_forms.specs.Decode.{readOwner, readMark, readTuple, recordLength, isRecord, readTuples}
-use Rattle.block_forms.specs.Bytes.{flagsOf, ownerWord, ownerBytes, recordBytes}
-use Rattle.block_forms.proofs.Tuples.{records, length-record}
+use Rattle.block_forms.specs.Bytes.{flagsOf, ownerWord, ownerBytes, recordBytes, records}
+use Rattle.block_forms.proofs.Tuples.{length-record}
 
 four : (v : ℕ) → v < 4294967296 → v / 16777216 % 256 * 16777216 + v / 65536 % 256 * 65536 + v / 256 % 256 * 256 + v % 256 ≡ v
 four v h =

@@ -38,14 +38,14 @@ copy-turn m s at start i h k =
     rw (← getD-drop start s i 0, set-next m (take i (drop start s)) at i (getD (drop start s) i 0) (sym l) (omega arith), add-one i)
     (ap (over m at) (sym (take-suc (drop start s) i 0 d)))
 
--- a list over the whole of another is that list
-pub over-whole : (m s : List ℕ) (n : ℕ) → length m ≡ n → length s ≡ n → over m 0 (take n (drop 0 s)) ≡ s
+-- a list copied over the whole of another is that list
+pub copied-whole : (m s : List ℕ) (n : ℕ) {m' : List ℕ} → m' ≡ over m 0 (take n (drop 0 s)) → n ≡ length m → n ≡ length s → m' ≡ s
 unfolding over
-over-whole m s n hm hs =
+copied-whole m s n e hm hs =
     let t : take n s ≡ s = take-all n s (omega arith) in
-    let e : length m ≤ 0 + length s = omega arith in
-    let d : drop (0 + length s) m ≡ [] = drop-of-length-le m e in
-    rw (t, d) (append-nil s)
+    let k : length m ≤ 0 + length s = omega arith in
+    let d : drop (0 + length s) m ≡ [] = drop-of-length-le m k in
+    e ∙ rw (t, d) (append-nil s)
 
 pub over-then : (m xs ys : List ℕ) (at n : ℕ) → n ≡ length xs → at + length xs ≤ length m → over (over m at xs) (at + n) ys ≡ over m at (xs ++ ys)
 over-then m xs ys at n e h = rw e (over-over m xs ys at h)

@@ -5,14 +5,9 @@ use Rattle.block_forms.specs.Limits.{recordHead, markValue}
 use Rattle.block_forms.specs.Numbers.{be4}
 use Rattle.block_forms.specs.Tuple.{Owner, committed, tentative, Tuple, ownerSize, size, sizes, AllBytes, Fits, AllFit}
 use Rattle.block_forms.specs.Block.{committedBit, markBit}
-use Rattle.block_forms.specs.Bytes.{sizeOf, tupleOf, flagsOf, ownerWord, ownerBytes, recordBytes}
+use Rattle.block_forms.specs.Bytes.{sizeOf, tupleOf, flagsOf, ownerWord, ownerBytes, recordBytes, records}
 use Rattle.block_forms.specs.declared.Record.{Record}
 use Rattle.block_forms.proofs.Spelled.{bytes-append}
-
--- records one after another
-unfoldable pub records : List Tuple → List ℕ
-records [] = []
-records (x ∷ xs) = recordBytes x ++ records xs
 
 -- ---- lengths
 

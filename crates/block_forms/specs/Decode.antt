@@ -81,6 +81,10 @@ pageTable xs = field (bitsIn xs) 4 3
 unfoldable pub pageCount : List ℕ → ℕ
 pageCount xs = field (bitsIn xs) 7 6
 
+-- a page's record bytes
+unfoldable pub pageBytes : List ℕ → ℕ
+pageBytes xs = field (bitsIn xs) 13 9
+
 -- a page's level of writing
 unfoldable pub pageLevel : List ℕ → ℕ
 pageLevel xs = field (bitsIn xs) 22 32

@@ -11,7 +11,7 @@ ghost use Rattle.block_forms.specs.Tuple.{recordSize, OwnerFits};
 ghost use Rattle.block_forms.specs.Spell.{zeros};
 ghost use Rattle.block_forms.specs.Block.{header, directory, encodeBlock};
 ghost use Rattle.block_forms.specs.Decode.{readOwner, readMark};
-ghost use Rattle.block_forms.specs.Bytes.{ownerIs, ownerAs, flagsOf, ownerWord, payloadIn, tupleOf, sizeOf, recordBytes, Appendable, pageHead};
+ghost use Rattle.block_forms.specs.Bytes.{ownerIs, ownerAs, flagsOf, ownerWord, Appendable, Appended, partPage};
 
 // A header block's fields.
 pub struct Header {
@@ -98,7 +98,7 @@ fn low(x: u32) -> u8
 }
 
 // Four bytes, high byte first.
-pub fn put4(block: &mut [u8], at: usize, v: u32)
+fn put4(block: &mut [u8], at: usize, v: u32)
     requires { ⌜ at + 4 ≤ length (now block) ⌝ }
     ensures { λ _. ⌜ now (block .exit) ≡ over (now (block .entry)) at (be4 v) ⌝ }
 {
@@ -109,7 +109,7 @@ pub fn put4(block: &mut [u8], at: usize, v: u32)
 }
 
 // One byte.
-pub fn put1(block: &mut [u8], at: usize, v: u8)
+fn put1(block: &mut [u8], at: usize, v: u8)
     requires { ⌜ at < length (now block) ⌝ }
     ensures { λ _. ⌜ now (block .exit) ≡ over (now (block .entry)) at (v ∷ []) ⌝ }
 {
@@ -190,10 +190,25 @@ pub fn mark_of(flags: u8) -> bool
     MARK <= flags % COMMITTED
 }
 
-// One record more: its place is at, and the answer the place after it.
+// ---- a page, filled from the front
+
+// The head of a page that will have count tuples with the given record bytes, in a block of zeros.
+pub fn begin_page(block: &mut [u8; 512], table: u32, count: u32, bytes: u32, level: u32)
+    requires { ⌜ (now block ≡ zeros 512) × ((table < 8) × ((count < 64) × (bytes < 512))) ⌝ }
+    ensures { λ _. ⌜ now (block .exit) ≡ partPage table level count bytes [] ⌝ }
+{
+    put4(
+        block,
+        0,
+        536870912 + table * 33554432 + count * 524288 + bytes * 1024 + level / 4194304,
+    );
+    put4(block, 4, level % 4194304 * 1024);
+}
+
+// One record more of a page under construction: its place is at, and the answer the place behind it.
 pub fn append(block: &mut [u8; 512], at: usize, r: Record, from: &[u8]) -> usize
     requires { ⌜ Appendable at r (now from) ⌝ }
-    ensures { λ n. ⌜ (n ≡ at + sizeOf r) × (now (block .exit) ≡ over (now (block .entry)) at (recordBytes (tupleOf r (payloadIn (now (from .entry)) r)))) ⌝ }
+    ensures { λ n. ⌜ Appended (now (block .entry)) (now (block .exit)) at r (now (from .entry)) n ⌝ }
 {
     let start = r.start;
     let len = r.len;
@@ -219,17 +234,12 @@ pub fn append(block: &mut [u8; 512], at: usize, r: Record, from: &[u8]) -> usize
     }
 }
 
-// The head of a page of count tuples with the given record bytes.
-pub fn put_page_head(block: &mut [u8], table: u32, count: u32, bytes: u32, level: u32)
-    requires { ⌜ (length (now block) ≡ 512) × (table < 8) × (count < 64) × (bytes < 512) ⌝ }
-    ensures { λ _. ⌜ now (block .exit) ≡ over (now (block .entry)) 0 (pageHead table count bytes level) ⌝ }
+// A block that is built is copied out whole.
+pub fn copy_out(out: &mut [u8], block: &[u8])
+    requires { ⌜ (length (now out) ≡ 512) × (length (now block) ≡ 512) ⌝ }
+    ensures { λ _. ⌜ now (out .exit) ≡ now (block .entry) ⌝ }
 {
-    put4(
-        block,
-        0,
-        536870912 + table * 33554432 + count * 524288 + bytes * 1024 + level / 4194304,
-    );
-    put4(block, 4, level % 4194304 * 1024);
+    copy(out, 0, block, 0, 512);
 }
 
 fn big(x: u16) -> u64
@@ -283,7 +293,7 @@ pub fn write_header(out: &mut [u8], h: Header)
 {
     let mut block = [0u8; 512];
     spell_header(&mut block, h);
-    copy(out, 0, &block, 0, 512);
+    copy_out(out, &block);
 }
 
 // A directory's block, built in zeros and copied out whole.
@@ -293,5 +303,5 @@ pub fn write_directory(out: &mut [u8], level: u32, entries: &[u16])
 {
     let mut block = [0u8; 512];
     spell_directory(&mut block, level, entries, entries.len());
-    copy(out, 0, &block, 0, 512);
+    copy_out(out, &block);
 }

@@ -118,15 +118,17 @@ fn get32(block: &[u8; 512], at: usize, width: usize) -> u32
     block_bits::get_bits(block, at, width) as u32
 }
 
-// A page is what it spells: its records are copied one by one into an empty block, then its head, and the two are compared.
+// A page is what it spells: its head and then its records, one by one, are copied into an empty block, and the two are compared.
 fn read_page(block: &[u8]) -> Reading
     requires { ⌜ length (now block) ≡ 512 ⌝ }
     ensures { λ r. ⌜ r ≡ reading (pageIn (now (block .entry))) ⌝ }
 {
     let table = block_bits::get_bits(block, 4, 3) as u32;
     let count = block_bits::get_bits(block, 7, 6) as u32;
+    let bytes = block_bits::get_bits(block, 13, 9) as u32;
     let level = block_bits::get_bits(block, 22, 32) as u32;
     let mut copy = [0u8; 512];
+    block_forms::begin_page(&mut copy, table, count, bytes, level);
     let mut at: usize = PageLayout::HEAD_SIZE;
     let mut i: u32 = 0;
     while i < count {
@@ -140,7 +142,9 @@ fn read_page(block: &[u8]) -> Reading
         }
         i = i + 1;
     }
-    block_forms::put_page_head(&mut copy, table, count, at as u32 - 8, level);
+    if at != PageLayout::HEAD_SIZE + bytes as usize {
+        return Reading::Malformed;
+    }
     if same_block(&copy, block) {
         return Reading::IsPage {
             table: table,

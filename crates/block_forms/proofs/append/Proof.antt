@@ -3,6 +3,7 @@ use Rattle.basics.proofs.Kit.{_≡_, List, ℕ, length, needs, arith}
 use Rattle.basics.specs.Basics.{if_then_else_}
 use Rattle.block_forms.specs.Bytes.{payloadIn}
 use Rattle.block_forms.proofs.Stores.{appended-tentative, appended-committed, size-tentative, size-committed, size-nine, length-part}
+use Rattle.block_forms.proofs.Built.{appends}
 use Rattle.block_forms.proofs.append.Statement.{statement}
 use Rattle.block_forms.proofs.append.Tie as tie
 
@@ -53,10 +54,9 @@ returns c = let z = c .before .before .record-size .ensures in
     let P : List ℕ = payloadIn (s .args .from .now) r in
     let l : length P ≡ r .len = length-part (r .len) (r .start) (s .args .from .now) (s .pre .inside) in
     let k : length (s .args .block .now) ≡ 512 = omega (arith, p10 .before .put4-arg) in
-    let number = p5 .before .before .before .put42 .ensures in (
-      omega arith,
-      appended-committed (s .args .block .now) P (s .args .at) r l (p10 .put4 .ensures) number (p5 .before .flags-of .ensures) (p5 .put1 .ensures) o (omega arith) (c .copy .ensures) (omega arith),
-    )
+    let number = p5 .before .before .before .put42 .ensures in
+    appends (s .pre) (omega arith)
+    (appended-committed (s .args .block .now) P (s .args .at) r l (p10 .put4 .ensures) number (p5 .before .flags-of .ensures) (p5 .put1 .ensures) o (omega arith) (c .copy .ensures) (omega arith))
 
 returns-2 : tie.Need-returns-2
 unfolding if_then_else_
@@ -72,11 +72,10 @@ returns-2 c = let z = c .before .before .record-size2 .ensures in
     let P : List ℕ = payloadIn (s .args .from .now) r in
     let l : length P ≡ r .len = length-part (r .len) (r .start) (s .args .from .now) (s .pre .inside) in
     let k : length (s .args .block .now) ≡ 512 = omega (arith, p13 .before .put4-arg) in
-    let number = p8 .before .before .before .put42 .ensures in (
-      omega arith,
-      appended-tentative (s .args .block .now) P (s .args .at) r l (p13 .put4 .ensures) number (p8 .before .flags-of .ensures) (p8 .put1 .ensures)
-          o (p4 .word-of .ensures) (c .before .before .before .put43 .ensures) (omega arith) (c .copy2 .ensures) (omega arith),
-    )
+    let number = p8 .before .before .before .put42 .ensures in
+    appends (s .pre) (omega arith)
+    (appended-tentative (s .args .block .now) P (s .args .at) r l (p13 .put4 .ensures) number (p8 .before .flags-of .ensures) (p8 .put1 .ensures)
+    o (p4 .word-of .ensures) (c .before .before .before .put43 .ensures) (omega arith) (c .copy2 .ensures) (omega arith))
 
 pub append-spec : {M : Type 1} → statement M
 append-spec = tie.close (tie.spec put4-requires (search needs) put4-requires-2 (search needs) (λ c κs. search needs) put1-requires (search needs) (λ c κs. search needs) add-end
