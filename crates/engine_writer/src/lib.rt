@@ -126,9 +126,10 @@ fn measure(m: &[u8], s: usize, e: usize) -> Shown
     let mut bytes: usize = 0;
     let mut i = s;
     while i < e {
+        let size = memory_rows::size_at(m, i);
         if is_shown(m, i) {
             count += 1;
-            bytes += memory_rows::size_at(m, i);
+            bytes += size;
         }
         i += 1;
     }

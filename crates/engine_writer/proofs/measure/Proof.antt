@@ -17,9 +17,6 @@ abbrev μ-loop : tie.MeasureT-loop
 loop-holds : tie.Need-loop-holds Inv-loop μ-loop
 loop-holds c = let s = c .before in (omega arith, (s .pre .order, measured-none (shown-none (flatOf (s .args .m .now) .rows) (s .args .s))))
 
-is-shown-requires : tie.Need-is-shown-requires Inv-loop μ-loop
-is-shown-requires c κs = let s = c .before .before .before in (s .pre .room, omega (arith, s .pre .inside, c .loop-test .taken))
-
 -- a row is passed, and there are few
 row : (c : tie.In-loop Inv-loop μ-loop) → let l = c .before .loop in let a = c .before .before .before .args in (l .i < length (flatOf (a .m .now) .rows)) × (l .i < 1024)
 row c =
@@ -27,25 +24,29 @@ row c =
     let k : Known (s .args .m .now) = known (s .args .m .now) (s .pre .room) in
     (omega (arith, s .pre .inside, c .loop-test .taken), omega (arith, s .pre .inside, c .loop-test .taken))
 
-add-count : tie.Need-add-count Inv-loop μ-loop
-add-count c = let p = c .before .before in omega (arith, row p .1, p .before .loop .inv .1 .1 .few)
-
 size-at-requires : tie.Need-size-at-requires Inv-loop μ-loop
-size-at-requires c κs = let p = c .before .before in (p .before .before .before .pre .room, row p .0)
+size-at-requires c κs = (c .before .before .before .pre .room, row c .0)
+
+is-shown-requires : tie.Need-is-shown-requires Inv-loop μ-loop
+is-shown-requires c κs = let p = c .before in (p .before .before .before .pre .room, row p .0)
+
+add-count : tie.Need-add-count Inv-loop μ-loop
+add-count c = let p = c .before .before .before in omega (arith, row p .1, p .before .loop .inv .1 .1 .few)
 
 add-bytes : tie.Need-add-bytes Inv-loop μ-loop
-add-bytes c = let p = c .before .before .before in omega (arith, row p .1, p .before .loop .inv .1 .1 .light, c .size-at .ensures .1)
+add-bytes c = let p = c .before .before .before in omega (arith, row p .1, p .before .loop .inv .1 .1 .light, c .before .before .size-at .ensures .1)
 
 add-i : tie.Need-add-i Inv-loop μ-loop
-add-i c = omega (arith, row (c .before .before) .1)
+add-i c = omega (arith, row (c .before .before .before) .1)
 
 loop-less : tie.Need-loop-less Inv-loop μ-loop
-loop-less c = omega (arith, c .before .before .loop-test .taken)
+loop-less c = omega (arith, c .before .before .before .loop-test .taken)
 
 loop-again : tie.Need-loop-again Inv-loop μ-loop
 unfolding heldSize
 loop-again c =
-    let p = c .before .before in
+    let z = c .before .before in
+    let p = z .before in
     let l = p .before .loop in
     let s = p .before .before .before in
     let hs = flatOf (s .args .m .now) .rows in
@@ -55,7 +56,7 @@ loop-again c =
     let o = l .inv .0 in
     let next : Measured (l .i + 1 - s .args .s) (shown (run hs (s .args .s) (l .i + 1))) (c .if1 .count) (c .if1 .bytes) =
     ⊎-elim
-    (λ a. measured-more d _ (shown-more hs (s .args .s) (l .i) o h (not-true _ (sym q ∙ a .0 .taken))) (a .2) (a .1 .ensures .0) (a .1 .ensures .1) (omega (arith, a .3)) (omega arith))
+    (λ a. measured-more d _ (shown-more hs (s .args .s) (l .i) o h (not-true _ (sym q ∙ a .0 .taken))) (a .1) (z .size-at .ensures .0) (z .size-at .ensures .1) (omega (arith, a .2)) (omega arith))
     (λ a. measured-same d (shown-same hs (s .args .s) (l .i) o h (not-false _ (sym q ∙ a .0 .left))) (a .1) (a .2) (omega arith))
     (c .if1 .came) in
     (omega arith, (omega (arith, p .loop-test .taken), next))
@@ -69,4 +70,4 @@ returns c =
     record { count = d .length-is; bytes = d .size-is }
 
 pub measure-spec : {M : Type 1} → statement M
-measure-spec = tie.close (tie.spec Inv-loop μ-loop loop-holds is-shown-requires add-count size-at-requires add-bytes add-i loop-less loop-again returns)
+measure-spec = tie.close (tie.spec Inv-loop μ-loop loop-holds size-at-requires is-shown-requires add-count add-bytes add-i loop-less loop-again returns)
