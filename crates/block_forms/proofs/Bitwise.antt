@@ -155,5 +155,6 @@ module _ (t l : ℕ) (ts : List Tuple) (fit : PageFits t l ts) where
       let H = pageHead t (length ts) (sizes ts) l in
       let k : length (pageHead t (length ts) (sizes ts) l ++ body ts) ≡ 512 = rw (length-append H (body ts), length-head t (length ts) (sizes ts) l, length-body ts (fit .room)) in
       let b : AllBytes (pageHead t (length ts) (sizes ts) l ++ body ts) =
-      bytes-append H (body ts) (head-bytes t (length ts) (sizes ts) l) (bytes-append (records ts) (zeros (recordSpace - sizes ts)) (records-bytes ts (fit .tuples)) (bytes-zeros (recordSpace - sizes ts))) in
+      bytes-append H (body ts) (head-bytes t (length ts) (sizes ts) l)
+      (bytes-append (records ts) (zeros (recordSpace - sizes ts)) (records-bytes ts (fit .tuples)) (bytes-zeros (recordSpace - sizes ts))) in
       sym (block-is (pageFields t l ts) (H ++ body ts) k b page-bits)

@@ -11,7 +11,8 @@ use Rattle.block_forms.specs.Numbers.{same}
 use Rattle.block_forms.specs.Tuple.{Tuple, sizes, AllBytes}
 use Rattle.block_forms.specs.Spell.{spell}
 use Rattle.block_forms.specs.Block.{Block, malformed, header, page, directory, headerFields, entryFields, directoryFields, blockFields, encodeBlock, EntriesFit, PageFits, DirectoryFits, InRange}
-use Rattle.block_forms.specs.Decode.{kind, spelledBy, readHeader, headerIn, readTuples, pageTable, pageCount, pageBytes, pageLevel, pageSpelled, pageIn, readEntries, directoryCount, directoryLevel, directoryIn, decodeBlock}
+use Rattle.block_forms.specs.Decode.{kind, spelledBy, readHeader, headerIn, pageTuples, pageTable, pageCount, pageBytes, pageLevel, pageSpelled, pageIn}
+use Rattle.block_forms.specs.Decode.{readEntries, directoryCount, directoryLevel, directoryIn, decodeBlock}
 use Rattle.block_forms.specs.Laws.{DecodeOfEncode, EncodeOfDecode}
 use Rattle.block_forms.specs.Bytes.{pageHead}
 use Rattle.block_forms.specs.declared.Header.{Header}
@@ -156,7 +157,7 @@ module _ (t l : ℕ) (ts : List Tuple) (fit : PageFits t l ts) where
   unfolding pageBytes
   page-sizes = let e = page-all in cc
 
-  pub page-tuples : readTuples (length ts) (drop pageHeadSize (encodeBlock (page t l ts))) ≡ some ts
+  pub page-tuples : pageTuples (length ts) (encodeBlock (page t l ts)) ≡ some ts
   page-tuples =
       let H = pageHead t (length ts) (sizes ts) l in
       rw (page-bytes t l ts fit, drop-at H (body ts) 8 (length-head t (length ts) (sizes ts) l)) (read-records ts _ (fit .tuples))
@@ -227,7 +228,7 @@ read-header xs = read-spelled xs (header (readHeader xs)) (λ q. (
 read-page : (xs : List ℕ) → Reads xs (pageIn xs)
 unfolding pageIn pageSpelled pageTable pageLevel
 read-page xs g =
-    by-option (readTuples (pageCount xs) (drop pageHeadSize xs))
+    by-option (pageTuples (pageCount xs) xs)
     (λ h. absurd (g (rw h)))
     (λ ts h.
     let b = page (pageTable xs) (pageLevel xs) ts in

@@ -30,7 +30,10 @@ module _ (o : Owner) (m : Bool) (n : ℕ) (h : n ≤ payloadLimit) where
   pub flags-mark : readMark (flagsOf o m n) ≡ m
   unfolding readMark flagsOf committedBit markBit
   flags-mark = elim o [
-    | committed ↦ elim m [ true ↦ le-leb markValue ((committedValue + (markValue + n)) % committedValue) (omega arith) | false ↦ lt-leb markValue ((committedValue + (0 + n)) % committedValue) (omega arith) ]
+    | committed ↦ elim m [
+      | true ↦ le-leb markValue ((committedValue + (markValue + n)) % committedValue) (omega arith)
+      | false ↦ lt-leb markValue ((committedValue + (0 + n)) % committedValue) (omega arith)
+    ]
     | tentative t s ↦ elim m [ true ↦ le-leb markValue ((0 + (markValue + n)) % committedValue) (omega arith) | false ↦ lt-leb markValue ((0 + (0 + n)) % committedValue) (omega arith) ]
   ]
 

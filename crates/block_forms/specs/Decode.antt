@@ -1,6 +1,6 @@
 -- What 512 bytes are as a block. A block is what it spells: its fields are read, and the value is accepted only if these very
 -- bytes spell it, so that counts, sums and stray bits are all tested by one comparison.
-use Prim.Native.Nat.{ℕ, zero, suc, _+_, _*_, _/_, _%_}
+use Prim.Native.Nat.{ℕ, zero, suc, _+_, _/_, _%_}
 use mathlib.Core.Bool.{Bool, _&&_}
 use mathlib.Core.Option.{Option, none, some, Option·map}
 use mathlib.Core.List.{List, [], _∷_}
@@ -73,6 +73,10 @@ unfoldable pub readTuples : ℕ → List ℕ → Option (List Tuple)
 readTuples zero xs = some []
 readTuples (suc n) xs = if isRecord xs then Option·map (λ ts. readTuple xs ∷ ts) (readTuples n (drop (recordLength xs) xs)) else none
 
+-- the first n tuples of a page's block
+abbrev pub pageTuples : ℕ → List ℕ → Option (List Tuple)
+pageTuples n xs = readTuples n (drop pageHeadSize xs)
+
 -- a page's table
 unfoldable pub pageTable : List ℕ → ℕ
 pageTable xs = field (bitsIn xs) 4 3
@@ -96,7 +100,7 @@ pageSpelled xs (some ts) = spelledBy xs (page (pageTable xs) (pageLevel xs) ts)
 
 -- the page that these bytes spell
 unfoldable pub pageIn : List ℕ → Block
-pageIn xs = pageSpelled xs (readTuples (pageCount xs) (drop pageHeadSize xs))
+pageIn xs = pageSpelled xs (pageTuples (pageCount xs) xs)
 
 -- ---- directory
 

@@ -1,5 +1,5 @@
 -- The record that the cursor finds is the tuple that is read there.
-use Rattle.basics.proofs.Kit.{_≡_, refl, true, false, List, ℕ, _+_, _%_, _≤_, add-zero, add-assoc, ltb, length, drop, length-take, length-drop, drop-drop, getD-drop, arith}
+use Rattle.basics.proofs.Kit.{_≡_, refl, true, false, List, ℕ, _+_, _%_, _≤_, add-zero, add-assoc, length, drop, length-take, length-drop, drop-drop, getD-drop, arith}
 use Rattle.basics.specs.Basics.{if_then_else_}
 use Rattle.basics.proofs.Facts.{by}
 use Rattle.block_forms.specs.Limits.{payloadLimit, recordHead, markValue}
@@ -9,7 +9,7 @@ use Rattle.block_forms.specs.Decode.{readOwner, readTuple, recordLength, isReco
 use Rattle.block_forms.specs.Bytes.{ownerIs, sizeOf, payloadIn, tupleOf, Appendable}
 use Rattle.block_forms.specs.declared.Record.{Record}
 use Rattle.block_forms.proofs.Spelled.{bytes-drop}
-use Rattle.block_forms.proofs.ReadTuples.{ownerPart, whole-parts, owner-size, owner-same, read-fits}
+use Rattle.block_forms.proofs.ReadTuples.{whole-parts, owner-size, owner-same, read-fits}
 use Rattle.block_reader.specs.Answers.{recordAt, nextAt}
 use Rattle.block_reader.specs.declared.Cursor.{Cursor}
 use Rattle.block_reader.specs.declared.Next.the-variants.{Found, Bad}

@@ -2,7 +2,7 @@
 use Rattle.basics.proofs.Kit.{_≡_, refl, sym, ap, _∙_, subst, true, false, List, [], _∷_, _++_, ℕ, _+_, _*_, _≤_, _<_, leb, length, length-append, arith}
 use Rattle.basics.specs.Basics.{if_then_else_, sum}
 use Rattle.block_forms.specs.Limits.{pageHeadSize, recordSpace, mostRecord}
-use Rattle.block_forms.specs.Tuple.{Tuple, size, sizes, OwnerFits, Fits, AllFit}
+use Rattle.block_forms.specs.Tuple.{Tuple, size, sizes, OwnerFits, Fits}
 use Rattle.block_forms.specs.Block.{page, encodeBlock, PageFits}
 use Rattle.block_forms.specs.Bytes.{payloadIn, tupleOf, sizeOf, Appendable, partPage, behind, Appended}
 use Rattle.block_forms.specs.declared.Record.{Record}

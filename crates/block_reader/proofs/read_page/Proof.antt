@@ -4,8 +4,9 @@ use Rattle.block_forms.specs.Block.{Block, page, encodeBlock}
 use Rattle.block_forms.specs.Tuple.{AllBytes}
 use Rattle.block_forms.specs.Numbers.{same}
 use Rattle.block_reader.proofs.Answering.{page-none, page-yes, page-no}
-use Rattle.block_reader.proofs.Again.{Again, again-start, again-length, again-bad, again-turn, again-end, again-count, again-spells, again-other}
-use Rattle.block_reader.proofs.Records.{Found-is, found-is, found-appends, bad-is}
+use Rattle.block_reader.proofs.Again.{Again, again-start, again-length, again-turn, again-spells, again-other}
+use Rattle.block_reader.proofs.Walk.{passed-bad, passed-end}
+use Rattle.block_reader.proofs.Records.{Found-is, found-is, found-appends}
 use Rattle.block_forms.proofs.Spelled.{all-bytes}
 use Rattle.block_reader.proofs.read_page.Statement.{statement}
 use Rattle.block_reader.proofs.read_page.Tie as tie
@@ -32,7 +33,7 @@ bytes p = all-bytes (block p) (λ j. omega (arith, p .before .before .before .be
 found : (c : tie.After-r Inv-loop μ-loop) → let p = c .before .before .before .before in Found-is (block p) (p .loop .at) (c .r .given .0 .0) (c .r .given .0 .1 .0)
 found c =
     let p = c .before .before .before .before in
-    found-is (block p) (p .loop .at) (omega (arith, whole p, p .loop .inv .1 .room)) (sym (c .r .given .1) ∙ c .before .before .next .ensures)
+    found-is (block p) (p .loop .at) (omega (arith, whole p, p .loop .inv .1 .passed .room)) (sym (c .r .given .1) ∙ c .before .before .next .ensures)
 
 -- the page that was read
 abbrev again : tie.At-loop Inv-loop μ-loop → Block
@@ -46,7 +47,7 @@ spells c =
     let t = p .before .before .before .before .before .before .get-bits .ensures .0 in
     let l = p .before .before .before .get-bits4 .ensures .0 in
     c .same-block .ensures
-    ∙ ap (λ (k : List ℕ). same k (block p)) (again-spells (p .loop .inv .1) (omega (arith, e .before .loop-test)) (whole p) (bytes p) t l (omega (arith, e .if1 .left)))
+    ∙ ap (λ (k : List ℕ). same k (block p)) (again-spells (whole p) (p .loop .inv .1) (omega (arith, e .before .loop-test)) (bytes p) t l (omega (arith, e .if1 .left)))
 
 -- ---- the needs
 
@@ -60,8 +61,9 @@ loop-holds c =
     let l = c .before .before in
     let b = l .before in
     let t = b .before .before in
-    let a = again-start (t .before .before .args .block .now) (t .get-bits .result) (l .get-bits4 .result) (b .before .get-bits2 .result) (b .get-bits3 .result) (c .begin-page .ensures) in
-    (again-length a, a)
+    let a = again-start (t .before .before .args .block .now) (t .get-bits .result) (l .get-bits4 .result) (b .before .get-bits2 .result) (b .get-bits3 .result)
+    (t .before .before .pre) (c .begin-page .ensures) in
+    (again-length (t .before .before .pre) a, a)
 
 append-requires : tie.Need-append-requires Inv-loop μ-loop
 append-requires c κs =
@@ -72,18 +74,17 @@ append-requires c κs =
 returns : tie.Need-returns Inv-loop μ-loop
 returns c =
     let p = c .before .before .before .before in
-    let w = bad-is (block p) (p .loop .at) (sym (c .enum-told .given .1) ∙ c .before .before .next .ensures) in
     let t = p .before .before .before .before .before .before .get-bits .ensures .0 in
     let n = p .before .before .before .before .before .get-bits2 .ensures .0 in
     let l = p .before .before .before .get-bits4 .ensures .0 in
-    sym (page-none (block p) t n l (again-bad (p .loop .inv .1) (omega (arith, c .before .before .before .loop-test)) w))
+    sym (page-none (block p) t n l (passed-bad (p .loop .inv .1 .passed) (omega (arith, c .before .before .before .loop-test)) (sym (c .enum-told .given .1) ∙ c .before .before .next .ensures)))
 
 loop-again : tie.Need-loop-again Inv-loop μ-loop
 loop-again c =
     let f = c .before .before .before in
     let p = f .before .before .before .before in
-    let more = again-turn (p .loop .inv .1) (omega (arith, f .before .before .before .loop-test)) (whole p) (found f) (c .append .ensures) in
-    (again-length more, more)
+    let more = again-turn (whole p) (p .loop .inv .1) (omega (arith, f .before .before .before .loop-test)) (found f) (c .append .ensures) in
+    (again-length (whole p) more, more)
 
 returns-2 : tie.Need-returns-2 Inv-loop μ-loop
 returns-2 c =
@@ -94,7 +95,7 @@ returns-2 c =
     let b = p .before .before .before .before .get-bits3 .ensures .0 in
     let l = p .before .before .before .get-bits4 .ensures .0 in
     let e = c .before .loop-test in
-    sym (page-no (block p) t n l (again-end a (omega (arith, e))) (again-other a (omega (arith, e)) (whole p) (bytes p) t l b (c .if1 .taken)))
+    sym (page-no (block p) t n l (passed-end (a .passed) (omega (arith, e))) (again-other (whole p) a (omega (arith, e)) (bytes p) t l b (c .if1 .taken)))
 
 returns-3 : tie.Need-returns-3 Inv-loop μ-loop
 returns-3 c =
@@ -104,7 +105,7 @@ returns-3 c =
     let n = p .before .before .before .before .before .get-bits2 .ensures .0 in
     let l = p .before .before .before .get-bits4 .ensures .0 in
     let e = c .before .before .before .before .loop-test in
-    sym (page-yes (block p) t n l (again-end a (omega (arith, e))) (again-count a (omega (arith, e))) (sym (spells (c .before)) ∙ c .if2 .taken))
+    sym (page-yes (block p) t n l (passed-end (a .passed) (omega (arith, e))) (omega (arith, e, a .passed .count, a .passed .turn)) (sym (spells (c .before)) ∙ c .if2 .taken))
 
 returns-4 : tie.Need-returns-4 Inv-loop μ-loop
 returns-4 c =
@@ -113,7 +114,7 @@ returns-4 c =
     let n = p .before .before .before .before .before .get-bits2 .ensures .0 in
     let l = p .before .before .before .get-bits4 .ensures .0 in
     let e = c .before .before .before .before .loop-test in
-    sym (page-no (block p) t n l (again-end (p .loop .inv .1) (omega (arith, e))) (sym (spells (c .before)) ∙ c .if2 .left))
+    sym (page-no (block p) t n l (passed-end (p .loop .inv .1 .passed) (omega (arith, e))) (sym (spells (c .before)) ∙ c .if2 .left))
 
 pub read-page-spec : {M : Type 1} → statement M
 read-page-spec = tie.close (tie.spec Inv-loop μ-loop (λ c κs. omega arith) (λ c. omega arith) (λ c κs. omega arith) (λ c. omega arith) (λ c κs. omega arith) (λ c. omega arith)

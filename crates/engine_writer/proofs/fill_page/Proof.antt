@@ -1,9 +1,7 @@
 -- `engine_writer::fill_page` meets its contract.
-use Rattle.basics.proofs.Kit.{_≡_, refl, sym, ap, _∙_, ⊎-elim, List, [], _∷_, _++_, getD, ℕ, _+_, _≤_, _<_, _-_, length, not-true, not-false, arith}
+use Rattle.basics.proofs.Kit.{_≡_, refl, sym, ap, _∙_, ⊎-elim, List, [], _∷_, _++_, getD, ℕ, _+_, _≤_, _-_, length, not-true, not-false, arith}
 use Rattle.block_forms.specs.Limits.{recordSpace}
-use Rattle.block_forms.specs.Tuple.{Tuple, sizes}
-use Rattle.block_forms.specs.Block.{page, encodeBlock}
-use Rattle.block_forms.specs.Bytes.{partPage}
+use Rattle.block_forms.specs.Tuple.{sizes}
 use Rattle.block_forms.proofs.Tuples.{sizes-more}
 use Rattle.model.specs.Rules.{shown}
 use Rattle.model.specs.State.{Held}
