@@ -1,5 +1,6 @@
 -- The byte forms of a record and of a page's head are their fields, most significant bit first; so a page's block is known byte by byte.
 use Rattle.basics.proofs.Kit.{_≡_, refl, sym, ap, _∙_, Bool, true, false, List, [], _∷_, _++_, append-assoc, append-nil, ℕ, _+_, _*_, _%_, _≤_, _<_, _/_, _-_, length, length-append, arith}
+use Rattle.block_forms.specs.Limits.{recordSpace, markValue, committedValue, statementLimit}
 use Rattle.block_bits.specs.Bits.{bitsOf, bitsIn}
 use Rattle.block_bits.proofs.Numbers.{bitsOf-add, bitsOf-mod, bitsOf-digits}
 use Rattle.block_bits.proofs.Blocks.{bitsIn-append, length-bitsIn}
@@ -7,9 +8,9 @@ use Rattle.block_forms.specs.Numbers.{be4}
 use Rattle.block_forms.specs.Tuple.{Owner, committed, tentative, Tuple, sizes, AllBytes, OwnerFits, Fits, AllFit}
 use Rattle.block_forms.specs.Spell.{zeros, spell, padded}
 use Rattle.block_forms.specs.Block.{page, committedBit, markBit, ownerFields, payloadFields, recordFields, recordsFields, pageFields, encodeBlock, PageFits}
-use Rattle.block_forms.specs.Bytes.{flagsOf, ownerWord, ownerBytes, recordBytes, pageHead}
+use Rattle.block_forms.specs.Bytes.{flagsOf, ownerWord, ownerBytes, recordBytes, records, pageHead}
 use Rattle.block_forms.proofs.Spelled.{spell-append, zero-bits-in, length-zeros, bytes-append, bytes-zeros, block-is}
-use Rattle.block_forms.proofs.Tuples.{records, length-records, count-sizes, be4-bytes, records-bytes}
+use Rattle.block_forms.proofs.Tuples.{length-records, count-sizes, be4-bytes, records-bytes}
 
 -- a number's four bytes are its 32 bits
 pub be4-bits : (v : ℕ) → bitsIn (be4 v) ≡ bitsOf 32 v
@@ -26,20 +27,20 @@ be4-bits v =
 
 -- ---- a record
 
-mark-low : (m : Bool) (n : ℕ) → n < 64 → markBit m * 64 + n < 128
+mark-low : (m : Bool) (n : ℕ) → n < markValue → markBit m * markValue + n < committedValue
 unfolding markBit
 mark-low true n h = omega arith
 mark-low false n h = omega arith
 
-flag-bits : (o : Owner) (m : Bool) (n : ℕ) → n < 64 → bitsOf 8 (flagsOf o m n) ≡ bitsOf 1 (committedBit o) ++ (bitsOf 1 (markBit m) ++ bitsOf 6 n)
+flag-bits : (o : Owner) (m : Bool) (n : ℕ) → n < markValue → bitsOf 8 (flagsOf o m n) ≡ bitsOf 1 (committedBit o) ++ (bitsOf 1 (markBit m) ++ bitsOf 6 n)
 unfolding flagsOf
 flag-bits o m n h =
-    bitsOf-digits 1 7 (committedBit o) (markBit m * 64 + n) (mark-low m n h) ∙ ap (λ (l : List ℕ). bitsOf 1 (committedBit o) ++ l) (bitsOf-digits 1 6 (markBit m) n h)
+    bitsOf-digits 1 7 (committedBit o) (markBit m * markValue + n) (mark-low m n h) ∙ ap (λ (l : List ℕ). bitsOf 1 (committedBit o) ++ l) (bitsOf-digits 1 6 (markBit m) n h)
 
 owner-bits : (o : Owner) → OwnerFits o → bitsIn (ownerBytes o) ≡ spell (ownerFields o)
 unfolding ownerBytes ownerWord ownerFields spell bitsIn
 owner-bits committed f = refl
-owner-bits (tentative t s) f = be4-bits (t * 1048576 + s) ∙ bitsOf-digits 12 20 t s (f .1) ∙ rw (append-nil (bitsOf 20 s))
+owner-bits (tentative t s) f = be4-bits (t * statementLimit + s) ∙ bitsOf-digits 12 20 t s (f .1) ∙ rw (append-nil (bitsOf 20 s))
 
 payload-bits : (p : List ℕ) → bitsIn p ≡ spell (payloadFields p)
 unfolding payloadFields spell bitsIn
@@ -54,7 +55,7 @@ byte-then b s = refl
 pub record-bits : (x : Tuple) → Fits x → bitsIn (recordBytes x) ≡ spell (recordFields x)
 unfolding recordBytes recordFields spell
 record-bits x f =
-    let h : length (x .payload) < 64 = omega (arith, f .payload) in
+    let h : length (x .payload) < markValue = omega (arith, f .payload) in
     let O = ownerBytes (x .owner) in
     let F = flagsOf (x .owner) (x .mark) (length (x .payload)) in
     rw (
@@ -116,24 +117,24 @@ head-bytes t n b l =
 
 -- the records of a page and the zeros after them
 abbrev pub body : List Tuple → List ℕ
-body ts = records ts ++ zeros (504 - sizes ts)
+body ts = records ts ++ zeros (recordSpace - sizes ts)
 
-pub length-body : (ts : List Tuple) → sizes ts ≤ 504 → length (body ts) ≡ 504
-length-body ts h = rw (length-append (records ts) (zeros (504 - sizes ts)), length-records ts, length-zeros (504 - sizes ts)) (omega arith)
+pub length-body : (ts : List Tuple) → sizes ts ≤ recordSpace → length (body ts) ≡ recordSpace
+length-body ts h = rw (length-append (records ts) (zeros (recordSpace - sizes ts)), length-records ts, length-zeros (recordSpace - sizes ts)) (omega arith)
 
 module _ (t l : ℕ) (ts : List Tuple) (fit : PageFits t l ts) where
   page-bits : bitsIn (pageHead t (length ts) (sizes ts) l ++ body ts) ≡ padded (spell (pageFields t l ts))
   unfolding padded
   page-bits =
       let H = pageHead t (length ts) (sizes ts) l in
-      let k = 504 - sizes ts in
+      let k = recordSpace - sizes ts in
       let hr = fit .room in
       let hn : length ts < 64 = omega (arith, count-sizes ts, fit .room) in
       let hb : sizes ts < 512 = omega (arith, fit .room) in
       let R = spell (recordsFields ts) in
       let lR : length (spell (recordsFields ts)) ≡ 8 * sizes ts = ap length (sym (records-bits ts (fit .tuples))) ∙ length-bitsIn (records ts) ∙ ap (λ (m : ℕ). 8 * m) (length-records ts) in
       let lH : length (bitsIn (pageHead t (length ts) (sizes ts) l)) ≡ 64 = length-bitsIn H ∙ ap (λ (m : ℕ). 8 * m) (length-head t (length ts) (sizes ts) l) in
-      let z : 8 * (504 - sizes ts) ≡ 4096 - (64 + 8 * sizes ts) = omega arith in
+      let z : 8 * (recordSpace - sizes ts) ≡ 4096 - (64 + 8 * sizes ts) = omega arith in
       rw (
         bitsIn-append H (records ts ++ zeros k),
         bitsIn-append (records ts) (zeros k),
@@ -154,5 +155,6 @@ module _ (t l : ℕ) (ts : List Tuple) (fit : PageFits t l ts) where
       let H = pageHead t (length ts) (sizes ts) l in
       let k : length (pageHead t (length ts) (sizes ts) l ++ body ts) ≡ 512 = rw (length-append H (body ts), length-head t (length ts) (sizes ts) l, length-body ts (fit .room)) in
       let b : AllBytes (pageHead t (length ts) (sizes ts) l ++ body ts) =
-      bytes-append H (body ts) (head-bytes t (length ts) (sizes ts) l) (bytes-append (records ts) (zeros (504 - sizes ts)) (records-bytes ts (fit .tuples)) (bytes-zeros (504 - sizes ts))) in
+      bytes-append H (body ts) (head-bytes t (length ts) (sizes ts) l)
+      (bytes-append (records ts) (zeros (recordSpace - sizes ts)) (records-bytes ts (fit .tuples)) (bytes-zeros (recordSpace - sizes ts))) in
       sym (block-is (pageFields t l ts) (H ++ body ts) k b page-bits)

@@ -1,6 +1,7 @@
 -- A directory is padded from the front.
 use Rattle.basics.proofs.Kit.{_≡_, refl, sym, ap, _∙_, List, [], _∷_, _++_, append-assoc, append-nil, ℕ, _+_, _*_, _≤_, _<_, add-one, length, take, getD, length-append, length-take}
 use Rattle.basics.proofs.Kit.{take-suc, arith}
+use Rattle.block_forms.specs.Limits.{entriesPerBlock}
 use Rattle.block_bits.specs.Bits.{bitsOf, bitsIn, over}
 use Rattle.block_bits.proofs.Numbers.{length-bitsOf}
 use Rattle.block_forms.specs.Spell.{zeros, spell, padded}
@@ -50,7 +51,7 @@ unfolding dirBits
 dir-snoc l n es e = rw (spell-entries-snoc es e) (append-assoc (spell (headFields l n)) (spell (entryFields es)) (bitsOf 12 e))
 
 -- an entry more
-entry-put : (l n : ℕ) (es : List ℕ) (i : ℕ) → i < length es → i < 336
+entry-put : (l n : ℕ) (es : List ℕ) (i : ℕ) → i < length es → i < entriesPerBlock
     → over (padded (dirBits l n (take i es))) (64 + 12 * i) (bitsOf 12 (getD es i 0)) ≡ padded (dirBits l n (take (i + 1) es))
 entry-put l n es i h k =
     let t : length (take i es) ≡ i = simp length-take (omega arith) in
@@ -60,7 +61,7 @@ entry-put l n es i h k =
     put-next (dirBits l n (take i es)) (bitsOf 12 (getD es i 0)) (omega arith) in
     rw (← d, p, add-one i, take-suc es i 0 h) (ap padded (dir-snoc l n (take i es) (getD es i 0)))
 
-pub entry-filled : (l n : ℕ) (es : List ℕ) (i : ℕ) {b b₁ : List ℕ} {v : ℕ} → i < length es → i < 336 → b ≡ padded (dirBits l n (take i es)) → v ≡ getD es i 0
+pub entry-filled : (l n : ℕ) (es : List ℕ) (i : ℕ) {b b₁ : List ℕ} {v : ℕ} → i < length es → i < entriesPerBlock → b ≡ padded (dirBits l n (take i es)) → v ≡ getD es i 0
     → b₁ ≡ over b (64 + 12 * i) (bitsOf 12 v) → b₁ ≡ padded (dirBits l n (take (i + 1) es))
 entry-filled l n es i h k front entry put = put ∙ rw (front, entry) (entry-put l n es i h k)
 

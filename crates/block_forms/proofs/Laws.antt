@@ -3,6 +3,7 @@ use Rattle.basics.proofs.Kit.{_≡_, refl, sym, ap, _∙_, true, false, some, L
 use Rattle.basics.proofs.Kit.{le-leb, leb-true, arith}
 use Rattle.basics.specs.Basics.{if_then_else_}
 use Rattle.basics.proofs.Facts.{by, by-option}
+use Rattle.block_forms.specs.Limits.{pageHeadSize, recordSpace, entriesPerBlock}
 use Rattle.block_bits.specs.Bits.{bitsIn, field}
 use Rattle.block_bits.specs.Fields.{getAll, widths, values, total, Fit}
 use Rattle.block_bits.proofs.Blocks.{bitsIn-append, field-lt}
@@ -10,7 +11,8 @@ use Rattle.block_forms.specs.Numbers.{same}
 use Rattle.block_forms.specs.Tuple.{Tuple, sizes, AllBytes}
 use Rattle.block_forms.specs.Spell.{spell}
 use Rattle.block_forms.specs.Block.{Block, malformed, header, page, directory, headerFields, entryFields, directoryFields, blockFields, encodeBlock, EntriesFit, PageFits, DirectoryFits, InRange}
-use Rattle.block_forms.specs.Decode.{kind, spelledBy, readHeader, headerIn, readTuples, pageTable, pageCount, pageLevel, pageSpelled, pageIn, readEntries, directoryCount, directoryLevel, directoryIn, decodeBlock}
+use Rattle.block_forms.specs.Decode.{kind, spelledBy, readHeader, headerIn, pageTuples, pageTable, pageCount, pageBytes, pageLevel, pageSpelled, pageIn}
+use Rattle.block_forms.specs.Decode.{readEntries, directoryCount, directoryLevel, directoryIn, decodeBlock}
 use Rattle.block_forms.specs.Laws.{DecodeOfEncode, EncodeOfDecode}
 use Rattle.block_forms.specs.Bytes.{pageHead}
 use Rattle.block_forms.specs.declared.Header.{Header}
@@ -151,7 +153,11 @@ module _ (t l : ℕ) (ts : List Tuple) (fit : PageFits t l ts) where
   unfolding pageLevel
   page-level = let e = page-all in cc
 
-  pub page-tuples : readTuples (length ts) (drop 8 (encodeBlock (page t l ts))) ≡ some ts
+  pub page-sizes : pageBytes (encodeBlock (page t l ts)) ≡ sizes ts
+  unfolding pageBytes
+  page-sizes = let e = page-all in cc
+
+  pub page-tuples : pageTuples (length ts) (encodeBlock (page t l ts)) ≡ some ts
   page-tuples =
       let H = pageHead t (length ts) (sizes ts) l in
       rw (page-bytes t l ts fit, drop-at H (body ts) 8 (length-head t (length ts) (sizes ts) l)) (read-records ts _ (fit .tuples))
@@ -165,7 +171,7 @@ decode-encode (header h) r = rw (header-kind h r, header-back h r) (spells-itsel
 decode-encode (page t l ts) r =
     rw (page-kind t l ts r, page-count t l ts r, page-tuples t l ts r, page-table t l ts r, page-level t l ts r) (spells-itself (page t l ts))
 decode-encode (directory l es) r =
-    rw (dir-kind l es r, dir-count l es r, dir-level l es r, dir-entries l es r, le-leb (length es) 336 (r .count)) (spells-itself (directory l es))
+    rw (dir-kind l es r, dir-count l es r, dir-level l es r, dir-entries l es r, le-leb (length es) entriesPerBlock (r .count)) (spells-itself (directory l es))
 
 -- ---- one spelling, and what is read is in range
 
@@ -222,19 +228,19 @@ read-header xs = read-spelled xs (header (readHeader xs)) (λ q. (
 read-page : (xs : List ℕ) → Reads xs (pageIn xs)
 unfolding pageIn pageSpelled pageTable pageLevel
 read-page xs g =
-    by-option (readTuples (pageCount xs) (drop 8 xs))
+    by-option (pageTuples (pageCount xs) xs)
     (λ h. absurd (g (rw h)))
     (λ ts h.
     let b = page (pageTable xs) (pageLevel xs) ts in
     let fits : encodeBlock b ≡ xs → PageFits (pageTable xs) (pageLevel xs) ts = λ q.
     let bytes : AllBytes xs = rw q at (encode-bytes b) in
     let k : length xs ≡ 512 = rw q at (encode-length b) in
-    let d : length (drop 8 xs) ≡ 504 = rw (length-drop 8 xs, k) in
+    let d : length (drop pageHeadSize xs) ≡ recordSpace = rw (length-drop pageHeadSize xs, k) in
     record {
       table = field-lt xs 4 3;
       level = field-lt xs 22 32;
-      tuples = read-all-fit (pageCount xs) (drop 8 xs) ts (bytes-drop 8 xs bytes) h;
-      room = omega (arith, read-room (pageCount xs) (drop 8 xs) ts h);
+      tuples = read-all-fit (pageCount xs) (drop pageHeadSize xs) ts (bytes-drop pageHeadSize xs bytes) h;
+      room = omega (arith, read-room (pageCount xs) (drop pageHeadSize xs) ts h);
     } in
     rw h (read-spelled xs b fits (rw h at g)))
 
@@ -243,9 +249,9 @@ unfolding directoryIn directoryLevel if_then_else_
 read-directory xs g =
     let n = directoryCount xs in
     let es = readEntries xs 64 n in
-    by (leb n 336)
+    by (leb n entriesPerBlock)
     (λ h.
-    let le : n ≤ 336 = leb-true n 336 h in
+    let le : n ≤ entriesPerBlock = leb-true n entriesPerBlock h in
     let fits : DirectoryFits (directoryLevel xs) es =
     record { level = field-lt xs 13 32; count = omega (arith, entries-count xs 64 n); entries = entries-fit xs 64 n } in
     rw h (read-spelled xs (directory (directoryLevel xs) es) (λ q. fits) (rw h at g)))

@@ -2,6 +2,7 @@
 use Rattle.basics.proofs.Kit.{_≡_, refl, true, _&&_, some, none, List, [], _∷_, ℕ, suc, _+_, _%_, _≤_, _<_, zero, leb, ltb, length, drop, getD, length-take, length-drop, leb-true, arith}
 use Rattle.basics.specs.Basics.{if_then_else_, sum}
 use Rattle.basics.proofs.Facts.{by, by-option, never, and-true}
+use Rattle.block_forms.specs.Limits.{payloadLimit, recordHead, ownerWidth, markValue, committedValue}
 use Rattle.block_forms.specs.Numbers.{num4}
 use Rattle.block_forms.specs.Tuple.{Owner, committed, tentative, Tuple, ownerSize, size, sizes, OwnerFits, AllBytes, Fits, AllFit}
 use Rattle.block_forms.specs.Decode.{readOwner, readTuple, recordLength, isRecord, readTuples}
@@ -10,41 +11,41 @@ use Rattle.block_forms.proofs.Spelled.{bytes-at, bytes-take, bytes-drop
 
 -- four bytes more if tentative
 abbrev pub ownerPart : ℕ → ℕ
-ownerPart f = if ltb f 128 then 4 else 0
+ownerPart f = if ltb f committedValue then ownerWidth else 0
 
-pub whole-parts : (ys : List ℕ) → isRecord ys ≡ true → (9 ≤ length ys) × ((getD ys 8 0 % 64 ≤ 40) × (recordLength ys ≤ length ys))
+pub whole-parts : (ys : List ℕ) → isRecord ys ≡ true → (recordHead ≤ length ys) × ((getD ys 8 0 % markValue ≤ payloadLimit) × (recordLength ys ≤ length ys))
 unfolding isRecord
 whole-parts ys e =
-    let n = getD ys 8 0 % 64 in
-    let h = and-true (leb 9 (length ys)) (leb n 40 && leb (recordLength ys) (length ys)) e in
-    let g = and-true (leb n 40) (leb (recordLength ys) (length ys)) (h .1) in
-    (leb-true 9 (length ys) (h .0), (leb-true (getD ys 8 0 % 64) 40 (g .0), leb-true (recordLength ys) (length ys) (g .1)))
+    let n = getD ys 8 0 % markValue in
+    let h = and-true (leb recordHead (length ys)) (leb n payloadLimit && leb (recordLength ys) (length ys)) e in
+    let g = and-true (leb n payloadLimit) (leb (recordLength ys) (length ys)) (h .1) in
+    (leb-true recordHead (length ys) (h .0), (leb-true (getD ys 8 0 % markValue) payloadLimit (g .0), leb-true (recordLength ys) (length ys) (g .1)))
 
 -- ---- one tuple
 
 pub owner-size : (f w : ℕ) → ownerSize (readOwner f w) ≡ ownerPart f
 unfolding ownerSize readOwner if_then_else_
-owner-size f w = by (ltb f 128) (λ h. rw h) (λ h. rw h)
+owner-size f w = by (ltb f committedValue) (λ h. rw h) (λ h. rw h)
 
 pub owner-fits : (f v : ℕ) → v < 4294967296 → OwnerFits (readOwner f v)
 unfolding readOwner if_then_else_
-owner-fits f v h = by (ltb f 128) (λ e. rw e (omega arith, omega arith)) (λ e. rw e tt)
+owner-fits f v h = by (ltb f committedValue) (λ e. rw e (omega arith, omega arith)) (λ e. rw e tt)
 
 pub owner-same : (o : Owner) → ownerIs (ownerAs o) ≡ o
 owner-same committed = refl
 owner-same (tentative t s) = refl
 
 module _ (ys : List ℕ) (w : isRecord ys ≡ true) where
-  payload-length : length (readTuple ys .payload) ≡ getD ys 8 0 % 64
+  payload-length : length (readTuple ys .payload) ≡ getD ys 8 0 % markValue
   unfolding readTuple recordLength
   payload-length =
       let h = whole-parts ys w in
-      let o = owner-size (getD ys 8 0) (num4 ys 9) in
+      let o = owner-size (getD ys 8 0) (num4 ys recordHead) in
       simp (length-take, length-drop) (omega arith)
 
   pub read-size : size (readTuple ys) ≡ recordLength ys
   unfolding size readTuple recordLength
-  read-size = rw (payload-length, owner-size (getD ys 8 0) (num4 ys 9))
+  read-size = rw (payload-length, owner-size (getD ys 8 0) (num4 ys recordHead))
 
   num4-small : (at : ℕ) → AllBytes ys → num4 ys at < 4294967296
   unfolding num4
@@ -55,13 +56,13 @@ module _ (ys : List ℕ) (w : isRecord ys ≡ true) where
   read-fits b =
       let h = whole-parts ys w in
       let f = getD ys 8 0 in
-      let k = 9 + ownerSize (readOwner (getD ys 8 0) (num4 ys 9)) in
+      let k = recordHead + ownerSize (readOwner (getD ys 8 0) (num4 ys recordHead)) in
       record {
         key = num4-small 0 b;
         number = num4-small 4 b;
-        owner = owner-fits f (num4 ys 9) (num4-small 9 b);
+        owner = owner-fits f (num4 ys recordHead) (num4-small recordHead b);
         payload = omega (arith, payload-length);
-        bytes = bytes-take (f % 64) (drop k ys) (bytes-drop k ys b);
+        bytes = bytes-take (f % markValue) (drop k ys) (bytes-drop k ys b);
       }
 
 -- ---- a list of tuples

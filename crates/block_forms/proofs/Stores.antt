@@ -1,6 +1,7 @@
 -- Runs of stores: a number's bytes, a part copied, a record appended, a page's head.
 use Rattle.basics.proofs.Kit.{_≡_, refl, sym, ap, _∙_, List, [], _∷_, _++_, append-nil, ℕ, _+_, _*_, _%_, _≤_, _<_, _/_, add-one, length, take, drop, getD, set, length-take, length-drop}
 use Rattle.basics.proofs.Kit.{drop-of-length-le, set-split, take-all, take-suc, getD-drop, arith}
+use Rattle.block_forms.specs.Limits.{recordHead, ownerWidth}
 use Rattle.block_bits.specs.Bits.{over}
 use Rattle.block_bits.proofs.Lists.{over-over, length-over}
 use Rattle.block_forms.specs.Numbers.{be4}
@@ -37,14 +38,14 @@ copy-turn m s at start i h k =
     rw (← getD-drop start s i 0, set-next m (take i (drop start s)) at i (getD (drop start s) i 0) (sym l) (omega arith), add-one i)
     (ap (over m at) (sym (take-suc (drop start s) i 0 d)))
 
--- a list over the whole of another is that list
-pub over-whole : (m s : List ℕ) (n : ℕ) → length m ≡ n → length s ≡ n → over m 0 (take n (drop 0 s)) ≡ s
+-- a list copied over the whole of another is that list
+pub copied-whole : (m s : List ℕ) (n : ℕ) {m' : List ℕ} → m' ≡ over m 0 (take n (drop 0 s)) → n ≡ length m → n ≡ length s → m' ≡ s
 unfolding over
-over-whole m s n hm hs =
+copied-whole m s n e hm hs =
     let t : take n s ≡ s = take-all n s (omega arith) in
-    let e : length m ≤ 0 + length s = omega arith in
-    let d : drop (0 + length s) m ≡ [] = drop-of-length-le m e in
-    rw (t, d) (append-nil s)
+    let k : length m ≤ 0 + length s = omega arith in
+    let d : drop (0 + length s) m ≡ [] = drop-of-length-le m k in
+    e ∙ rw (t, d) (append-nil s)
 
 pub over-then : (m xs ys : List ℕ) (at n : ℕ) → n ≡ length xs → at + length xs ≤ length m → over (over m at xs) (at + n) ys ≡ over m at (xs ++ ys)
 over-then m xs ys at n e h = rw e (over-over m xs ys at h)
@@ -63,33 +64,35 @@ module _ (m p : List ℕ) (at : ℕ) (r : Record) (l : length p ≡ r .len) wher
   -- the stores one after the other
   module _ {m₁ m₂ m₃ : List ℕ} {f : ℕ} (key : m₁ ≡ over m at (be4 (r .key))) (number : m₂ ≡ over m₁ (at + 4) (be4 (r .number)))
       (ef : f ≡ flagsOf (ownerIs (r .owner)) (r .mark) (r .len)) (flags : m₃ ≡ over m₂ (at + 8) (f ∷ [])) where
-    first-nine : at + 9 ≤ length m → m₃ ≡ over m at nine
+    first-nine : at + recordHead ≤ length m → m₃ ≡ over m at nine
     unfolding be4
     first-nine h =
         let k = be4 (r .key) in
         let n = be4 (r .number) in
         flags ∙ rw (ef, number, key, over-then m k n at 4 refl (omega arith), over-then m (k ++ n) (flagsOf (ownerIs (r .owner)) (r .mark) (r .len) ∷ []) at 8 refl (omega arith))
 
-    pub appended-tentative : {m₄ m₅ : List ℕ} {w t s : ℕ} → r .owner ≡ Tentative t s → w ≡ ownerWord (ownerIs (r .owner)) → m₄ ≡ over m₃ (at + 9) (be4 w)
-        → m₅ ≡ over m₄ (at + 13) p → at + (13 + length p) ≤ length m → m₅ ≡ over m at (recordBytes (tupleOf r p))
+    pub appended-tentative : {m₄ m₅ : List ℕ} {w t s e : ℕ} → r .owner ≡ Tentative t s → w ≡ ownerWord (ownerIs (r .owner)) → m₄ ≡ over m₃ (at + recordHead) (be4 w)
+        → e ≡ at + (recordHead + ownerWidth) → m₅ ≡ over m₄ e p → at + (recordHead + ownerWidth + length p) ≤ length m → m₅ ≡ over m at (recordBytes (tupleOf r p))
     unfolding be4 ownerBytes
-    appended-tentative {w = w} o ew owner last h =
-        last ∙ rw (owner, first-nine (omega arith), over-then m nine (be4 w) at 9 refl (omega arith), over-then m (nine ++ be4 w) p at 13 refl (omega arith), bytes-are, ew, o)
+    appended-tentative {w = w} o ew owner ee last h =
+        last
+        ∙ rw (ee, owner, first-nine (omega arith), over-then m nine (be4 w) at recordHead refl (omega arith), over-then m (nine ++ be4 w) p at (recordHead + ownerWidth) refl (omega arith), bytes-are, ew, o)
 
-    pub appended-committed : {m₄ : List ℕ} → r .owner ≡ Committed → m₄ ≡ over m₃ (at + 9) p → at + (9 + length p) ≤ length m → m₄ ≡ over m at (recordBytes (tupleOf r p))
+    pub appended-committed : {m₄ : List ℕ} {e : ℕ} → r .owner ≡ Committed → e ≡ at + recordHead → m₄ ≡ over m₃ e p
+        → at + (recordHead + length p) ≤ length m → m₄ ≡ over m at (recordBytes (tupleOf r p))
     unfolding be4 ownerBytes
-    appended-committed o last h = last ∙ rw (first-nine (omega arith), over-then m nine p at 9 refl (omega arith), bytes-are, o)
+    appended-committed o ee last h = last ∙ rw (ee, first-nine (omega arith), over-then m nine p at recordHead refl (omega arith), bytes-are, o)
 
 module _ (r : Record) where
-  pub size-tentative : {t s : ℕ} → r .owner ≡ Tentative t s → sizeOf r ≡ 13 + r .len
+  pub size-tentative : {t s : ℕ} → r .owner ≡ Tentative t s → sizeOf r ≡ recordHead + ownerWidth + r .len
   unfolding sizeOf ownerSize
-  size-tentative e = ap (λ (o : Owner). 9 + ownerSize (ownerIs o) + r .len) e
+  size-tentative e = ap (λ (o : Owner). recordHead + ownerSize (ownerIs o) + r .len) e
 
-  pub size-committed : r .owner ≡ Committed → sizeOf r ≡ 9 + r .len
+  pub size-committed : r .owner ≡ Committed → sizeOf r ≡ recordHead + r .len
   unfolding sizeOf ownerSize
-  size-committed e = ap (λ (o : Owner). 9 + ownerSize (ownerIs o) + r .len) e
+  size-committed e = ap (λ (o : Owner). recordHead + ownerSize (ownerIs o) + r .len) e
 
-  pub size-nine : 9 + r .len ≤ sizeOf r
+  pub size-nine : recordHead + r .len ≤ sizeOf r
   unfolding sizeOf
   size-nine = omega arith
 

@@ -1,17 +1,13 @@
 -- A tuple's record and a page's records byte by byte, their sizes and bounds.
 use Rattle.basics.proofs.Kit.{_≡_, refl, sym, Bool, true, false, List, [], _∷_, _++_, append-assoc, append-nil, ℕ, _+_, _*_, _≤_, _<_, length, length-append, arith}
 use Rattle.basics.specs.Basics.{sum}
+use Rattle.block_forms.specs.Limits.{recordHead, markValue}
 use Rattle.block_forms.specs.Numbers.{be4}
 use Rattle.block_forms.specs.Tuple.{Owner, committed, tentative, Tuple, ownerSize, size, sizes, AllBytes, Fits, AllFit}
 use Rattle.block_forms.specs.Block.{committedBit, markBit}
-use Rattle.block_forms.specs.Bytes.{sizeOf, tupleOf, flagsOf, ownerWord, ownerBytes, recordBytes}
+use Rattle.block_forms.specs.Bytes.{sizeOf, tupleOf, flagsOf, ownerWord, ownerBytes, recordBytes, records}
 use Rattle.block_forms.specs.declared.Record.{Record}
 use Rattle.block_forms.proofs.Spelled.{bytes-append}
-
--- records one after another
-unfoldable pub records : List Tuple → List ℕ
-records [] = []
-records (x ∷ xs) = recordBytes x ++ records xs
 
 -- ---- lengths
 
@@ -29,7 +25,7 @@ unfolding records sum
 length-records [] = refl
 length-records (x ∷ ts) = rw (length-append (recordBytes x) (records ts), length-record x, length-records ts)
 
-pub count-sizes : (ts : List Tuple) → 9 * length ts ≤ sizes ts
+pub count-sizes : (ts : List Tuple) → recordHead * length ts ≤ sizes ts
 unfolding sum size
 count-sizes [] = omega arith
 count-sizes (x ∷ ts) = omega (arith, count-sizes ts)
@@ -53,7 +49,7 @@ bit-small committed false = (omega arith, omega arith)
 bit-small (tentative t s) true = (omega arith, omega arith)
 bit-small (tentative t s) false = (omega arith, omega arith)
 
-flags-small : (o : Owner) (m : Bool) (n : ℕ) → n < 64 → flagsOf o m n < 256
+flags-small : (o : Owner) (m : Bool) (n : ℕ) → n < markValue → flagsOf o m n < 256
 unfolding flagsOf
 flags-small o m n h = omega (arith, bit-small o m)
 
@@ -69,7 +65,7 @@ owner-bytes (tentative t s) = be4-bytes (ownerWord (tentative t s))
 record-bytes : (x : Tuple) → Fits x → AllBytes (recordBytes x)
 unfolding recordBytes
 record-bytes x f =
-    let h : length (x .payload) < 64 = omega (arith, f .payload) in
+    let h : length (x .payload) < markValue = omega (arith, f .payload) in
     let rest : AllBytes (ownerBytes (x .owner) ++ x .payload) = bytes-append (ownerBytes (x .owner)) (x .payload) (owner-bytes (x .owner)) (f .bytes) in
     let flags : ℕ = flagsOf (x .owner) (x .mark) (length (x .payload)) in
     bytes-append (be4 (x .key)) (be4 (x .number) ++ (flags ∷ (ownerBytes (x .owner) ++ x .payload))) (be4-bytes (x .key))

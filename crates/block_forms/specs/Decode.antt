@@ -1,6 +1,6 @@
 -- What 512 bytes are as a block. A block is what it spells: its fields are read, and the value is accepted only if these very
 -- bytes spell it, so that counts, sums and stray bits are all tested by one comparison.
-use Prim.Native.Nat.{ℕ, zero, suc, _+_, _*_, _/_, _%_}
+use Prim.Native.Nat.{ℕ, zero, suc, _+_, _/_, _%_}
 use mathlib.Core.Bool.{Bool, _&&_}
 use mathlib.Core.Option.{Option, none, some, Option·map}
 use mathlib.Core.List.{List, [], _∷_}
@@ -8,9 +8,9 @@ use lib.ListN.{length, getD, take, drop}
 use lib.Dec.{ltb, leb, eqb}
 use Rattle.basics.specs.Basics.{if_then_else_}
 use Rattle.block_bits.specs.Bits.{bitsIn, field}
-use Rattle.block_forms.specs.Limits.{payloadLimit, entriesPerBlock}
+use Rattle.block_forms.specs.Limits.{payloadLimit, pageHeadSize, recordHead, markValue, committedValue, statementLimit, entriesPerBlock}
 use Rattle.block_forms.specs.Numbers.{num4, same}
-use Rattle.block_forms.specs.Tuple.{Owner, committed, tentative, Tuple, ownerSize}
+use Rattle.block_forms.specs.Tuple.{Owner, committed, tentative, Tuple, ownerSize, recordSize}
 use Rattle.block_forms.specs.Block.{Block, malformed, header, page, directory, encodeBlock}
 use Rattle.block_forms.specs.declared.Header.{Header}
 
@@ -47,31 +47,35 @@ headerIn xs = spelledBy xs (header (readHeader xs))
 
 -- the owner of a record whose ninth byte is f, and whose next four bytes are the number w
 unfoldable pub readOwner : ℕ → ℕ → Owner
-readOwner f w = if ltb f 128 then tentative (w / 1048576) (w % 1048576) else committed
+readOwner f w = if ltb f committedValue then tentative (w / statementLimit) (w % statementLimit) else committed
 
 -- the delete mark of a record whose ninth byte is f
 unfoldable pub readMark : ℕ → Bool
-readMark f = leb 64 (f % 128)
+readMark f = leb markValue (f % committedValue)
 
 -- the record at the front of xs: a record starts at a byte, and so do all its fields but those of its ninth byte and its owner
 unfoldable pub readTuple : List ℕ → Tuple
 readTuple xs =
     let f = getD xs 8 0 in
-    let o = readOwner f (num4 xs 9) in
-    record { key = num4 xs 0; number = num4 xs 4; owner = o; mark = readMark f; payload = take (f % 64) (drop (9 + ownerSize o) xs) }
+    let o = readOwner f (num4 xs recordHead) in
+    record { key = num4 xs 0; number = num4 xs 4; owner = o; mark = readMark f; payload = take (f % markValue) (drop (recordHead + ownerSize o) xs) }
 
 -- how many bytes the record at the front of xs takes
 unfoldable pub recordLength : List ℕ → ℕ
-recordLength xs = 9 + (if ltb (getD xs 8 0) 128 then 4 else 0) + getD xs 8 0 % 64
+recordLength xs = recordSize (ltb (getD xs 8 0) committedValue) (getD xs 8 0 % markValue)
 
--- a isRecord record is there, with a payload within the limit
+-- a whole record is there, with a payload within the limit
 unfoldable pub isRecord : List ℕ → Bool
-isRecord xs = leb 9 (length xs) && (leb (getD xs 8 0 % 64) payloadLimit && leb (recordLength xs) (length xs))
+isRecord xs = leb recordHead (length xs) && (leb (getD xs 8 0 % markValue) payloadLimit && leb (recordLength xs) (length xs))
 
--- n records from the front on, each isRecord
+-- n records from the front on, each a whole record
 unfoldable pub readTuples : ℕ → List ℕ → Option (List Tuple)
 readTuples zero xs = some []
 readTuples (suc n) xs = if isRecord xs then Option·map (λ ts. readTuple xs ∷ ts) (readTuples n (drop (recordLength xs) xs)) else none
+
+-- the first n tuples of a page's block
+abbrev pub pageTuples : ℕ → List ℕ → Option (List Tuple)
+pageTuples n xs = readTuples n (drop pageHeadSize xs)
 
 -- a page's table
 unfoldable pub pageTable : List ℕ → ℕ
@@ -80,6 +84,10 @@ pageTable xs = field (bitsIn xs) 4 3
 -- a page's tuple count
 unfoldable pub pageCount : List ℕ → ℕ
 pageCount xs = field (bitsIn xs) 7 6
+
+-- a page's record bytes
+unfoldable pub pageBytes : List ℕ → ℕ
+pageBytes xs = field (bitsIn xs) 13 9
 
 -- a page's level of writing
 unfoldable pub pageLevel : List ℕ → ℕ
@@ -92,7 +100,7 @@ pageSpelled xs (some ts) = spelledBy xs (page (pageTable xs) (pageLevel xs) ts)
 
 -- the page that these bytes spell
 unfoldable pub pageIn : List ℕ → Block
-pageIn xs = pageSpelled xs (readTuples (pageCount xs) (drop 8 xs))
+pageIn xs = pageSpelled xs (pageTuples (pageCount xs) xs)
 
 -- ---- directory
 
@@ -109,7 +117,7 @@ directoryCount xs = field (bitsIn xs) 4 9
 unfoldable pub directoryLevel : List ℕ → ℕ
 directoryLevel xs = field (bitsIn xs) 13 32
 
--- the directory that these bytes spell; more than 336 entries would not be in the block
+-- the directory that these bytes spell; more entries would not be in the block
 unfoldable pub directoryIn : List ℕ → Block
 directoryIn xs =
     if leb (directoryCount xs) entriesPerBlock

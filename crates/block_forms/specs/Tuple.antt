@@ -3,8 +3,8 @@ use Prim.Native.Nat.{ℕ, _+_, _<_, _≤_}
 use mathlib.Core.Bool.{Bool, true, false}
 use mathlib.Core.List.{List, [], _∷_}
 use lib.ListN.{length}
-use Rattle.basics.specs.Basics.{sum}
-use Rattle.block_forms.specs.Limits.{payloadLimit}
+use Rattle.basics.specs.Basics.{if_then_else_, sum}
+use Rattle.block_forms.specs.Limits.{payloadLimit, recordHead, ownerWidth, transactionLimit, statementLimit}
 
 -- the committed mark; a tentative tuple has its transaction and statement instead
 pub data Owner : Type 0 where
@@ -27,11 +27,15 @@ isTentative (tentative t s) = true
 -- plus 4 if tentative
 unfoldable pub ownerSize : Owner → ℕ
 ownerSize committed = 0
-ownerSize (tentative t s) = 4
+ownerSize (tentative t s) = ownerWidth
 
--- 9 bytes plus its payload, plus 4 if tentative
+-- the size of a record with a payload of n bytes: 9 bytes plus the payload, plus 4 if tentative
+abbrev pub recordSize : Bool → ℕ → ℕ
+recordSize t n = recordHead + (if t then ownerWidth else 0) + n
+
+-- a tuple's size is that of its record
 unfoldable pub size : Tuple → ℕ
-size x = 9 + ownerSize (x .owner) + length (x .payload)
+size x = recordHead + ownerSize (x .owner) + length (x .payload)
 
 -- a page's size is the sum
 abbrev pub sizes : List Tuple → ℕ
@@ -40,7 +44,7 @@ sizes ts = sum size ts
 -- a transaction is 0 to 4,095, and a statement has 20 bits
 abbrev pub OwnerFits : Owner → Type 0
 OwnerFits committed = Unit {0}
-OwnerFits (tentative t s) = (t < 4096) × (s < 1048576)
+OwnerFits (tentative t s) = (t < transactionLimit) × (s < statementLimit)
 
 -- every element is a byte
 abbrev pub AllBytes : List ℕ → Type 0

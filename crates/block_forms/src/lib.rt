@@ -3,15 +3,15 @@ ghost use mathlib.Core.Path.{_≡_};
 ghost use mathlib.Core.List.{[], _∷_};
 ghost use Prim.Native.Nat.{_+_, _%_, _<_, _≤_};
 ghost use lib.ListN.{length, take, drop};
-ghost use Rattle.basics.specs.Basics.{if_then_else_};
+ghost use lib.Dec.{leb};
 ghost use Rattle.block_bits.specs.Bits.{over};
-ghost use Rattle.block_forms.specs.Limits.{payloadLimit, entriesPerBlock};
+ghost use Rattle.block_forms.specs.Limits.{payloadLimit, recordSpace, joinSum, markValue, entriesPerBlock, mostNumber};
 ghost use Rattle.block_forms.specs.Numbers.{be4};
-ghost use Rattle.block_forms.specs.Tuple.{OwnerFits};
+ghost use Rattle.block_forms.specs.Tuple.{recordSize, OwnerFits};
 ghost use Rattle.block_forms.specs.Spell.{zeros};
 ghost use Rattle.block_forms.specs.Block.{header, directory, encodeBlock};
 ghost use Rattle.block_forms.specs.Decode.{readOwner, readMark};
-ghost use Rattle.block_forms.specs.Bytes.{ownerIs, ownerAs, flagsOf, ownerWord, payloadIn, tupleOf, sizeOf, recordBytes, Appendable, pageHead};
+ghost use Rattle.block_forms.specs.Bytes.{ownerIs, ownerAs, flagsOf, ownerWord, Appendable, Appended, partPage};
 
 // A header block's fields.
 pub struct Header {
@@ -57,15 +57,37 @@ impl PageLayout {
     // A payload has at most this many bytes.
     pub const PAYLOAD_LIMIT: usize = 40;
 
+    // A page's fields before its records.
+    pub const HEAD_SIZE: usize = 8;
+    // A record's key, number and ninth byte.
+    pub const RECORD_HEAD: usize = 9;
+    // The same and the owner's word.
+    const TENTATIVE_HEAD: usize = PageLayout::RECORD_HEAD + 4;
+
     // 9 bytes plus the payload, plus 4 if tentative.
     pub fn record_size(len: usize, tentative: bool) -> usize
-        requires { ⌜ len < 64 ⌝ }
-        ensures { λ r. ⌜ r ≡ 9 + (if tentative then 4 else 0) + len ⌝ }
+        requires { ⌜ len < markValue ⌝ }
+        ensures { λ r. ⌜ r ≡ recordSize tentative len ⌝ }
     {
         if tentative {
-            return 13 + len;
+            return PageLayout::TENTATIVE_HEAD + len;
         }
-        9 + len
+        PageLayout::RECORD_HEAD + len
+    }
+
+    // Records of this size have room in a block.
+    pub fn fits(size: usize) -> bool
+        ensures { λ r. ⌜ r ≡ leb size recordSpace ⌝ }
+    {
+        size <= PageLayout::RECORD_SPACE
+    }
+
+    // Pages of these sizes may be joined.
+    pub fn joins(a: usize, b: usize) -> bool
+        requires { ⌜ a + b ≤ mostNumber ⌝ }
+        ensures { λ r. ⌜ r ≡ leb (a + b) joinSum ⌝ }
+    {
+        a + b <= PageLayout::JOIN_SUM
     }
 }
 
@@ -76,7 +98,7 @@ fn low(x: u32) -> u8
 }
 
 // Four bytes, high byte first.
-pub fn put4(block: &mut [u8], at: usize, v: u32)
+fn put4(block: &mut [u8], at: usize, v: u32)
     requires { ⌜ at + 4 ≤ length (now block) ⌝ }
     ensures { λ _. ⌜ now (block .exit) ≡ over (now (block .entry)) at (be4 v) ⌝ }
 {
@@ -87,7 +109,7 @@ pub fn put4(block: &mut [u8], at: usize, v: u32)
 }
 
 // One byte.
-pub fn put1(block: &mut [u8], at: usize, v: u8)
+fn put1(block: &mut [u8], at: usize, v: u8)
     requires { ⌜ at < length (now block) ⌝ }
     ensures { λ _. ⌜ now (block .exit) ≡ over (now (block .entry)) at (v ∷ []) ⌝ }
 {
@@ -109,9 +131,9 @@ pub fn copy(block: &mut [u8], at: usize, from: &[u8], start: usize, len: usize)
 // ---- a record's ninth byte and its owner's word
 
 // A ninth byte: committed from here on; below it, the delete mark and the payload's length.
-const COMMITTED: u8 = 128;
+pub const COMMITTED: u8 = 128;
 
-const MARK: u8 = 64;
+pub const MARK: u8 = 64;
 
 // How many tuples a transaction may write, and what its number is multiplied by in an owner's word.
 const STATEMENTS: u32 = 1048576;
@@ -168,10 +190,25 @@ pub fn mark_of(flags: u8) -> bool
     MARK <= flags % COMMITTED
 }
 
-// One record more: its place is at, and the answer the place after it.
+// ---- a page, filled from the front
+
+// The head of a page that will have count tuples with the given record bytes, in a block of zeros.
+pub fn begin_page(block: &mut [u8; 512], table: u32, count: u32, bytes: u32, level: u32)
+    requires { ⌜ (now block ≡ zeros 512) × ((table < 8) × ((count < 64) × (bytes < 512))) ⌝ }
+    ensures { λ _. ⌜ now (block .exit) ≡ partPage table level count bytes [] ⌝ }
+{
+    put4(
+        block,
+        0,
+        536870912 + table * 33554432 + count * 524288 + bytes * 1024 + level / 4194304,
+    );
+    put4(block, 4, level % 4194304 * 1024);
+}
+
+// One record more of a page under construction: its place is at, and the answer the place behind it.
 pub fn append(block: &mut [u8; 512], at: usize, r: Record, from: &[u8]) -> usize
     requires { ⌜ Appendable at r (now from) ⌝ }
-    ensures { λ n. ⌜ (n ≡ at + sizeOf r) × (now (block .exit) ≡ over (now (block .entry)) at (recordBytes (tupleOf r (payloadIn (now (from .entry)) r)))) ⌝ }
+    ensures { λ n. ⌜ Appended (now (block .entry)) (now (block .exit)) at r (now (from .entry)) n ⌝ }
 {
     let start = r.start;
     let len = r.len;
@@ -181,31 +218,28 @@ pub fn append(block: &mut [u8; 512], at: usize, r: Record, from: &[u8]) -> usize
     put1(block, at + 8, flags_of(owner, r.mark, len));
     match owner {
         Owner::Committed => {
-            copy(block, at + 9, from, start, len);
-            at + 9 + len
+            let end = at + PageLayout::record_size(len, false);
+            copy(block, end - len, from, start, len);
+            end
         }
         Owner::Tentative {
             transaction: _,
             statement: _,
         } => {
-            put4(block, at + 9, word_of(owner));
-            copy(block, at + 13, from, start, len);
-            at + 13 + len
+            put4(block, at + PageLayout::RECORD_HEAD, word_of(owner));
+            let end = at + PageLayout::record_size(len, true);
+            copy(block, end - len, from, start, len);
+            end
         }
     }
 }
 
-// The head of a page of count tuples with the given record bytes.
-pub fn put_page_head(block: &mut [u8], table: u32, count: u32, bytes: u32, level: u32)
-    requires { ⌜ (length (now block) ≡ 512) × (table < 8) × (count < 64) × (bytes < 512) ⌝ }
-    ensures { λ _. ⌜ now (block .exit) ≡ over (now (block .entry)) 0 (pageHead table count bytes level) ⌝ }
+// A block that is built is copied out whole.
+pub fn copy_out(out: &mut [u8], block: &[u8])
+    requires { ⌜ (length (now out) ≡ 512) × (length (now block) ≡ 512) ⌝ }
+    ensures { λ _. ⌜ now (out .exit) ≡ now (block .entry) ⌝ }
 {
-    put4(
-        block,
-        0,
-        536870912 + table * 33554432 + count * 524288 + bytes * 1024 + level / 4194304,
-    );
-    put4(block, 4, level % 4194304 * 1024);
+    copy(out, 0, block, 0, 512);
 }
 
 fn big(x: u16) -> u64
@@ -259,7 +293,7 @@ pub fn write_header(out: &mut [u8], h: Header)
 {
     let mut block = [0u8; 512];
     spell_header(&mut block, h);
-    copy(out, 0, &block, 0, 512);
+    copy_out(out, &block);
 }
 
 // A directory's block, built in zeros and copied out whole.
@@ -269,5 +303,5 @@ pub fn write_directory(out: &mut [u8], level: u32, entries: &[u16])
 {
     let mut block = [0u8; 512];
     spell_directory(&mut block, level, entries, entries.len());
-    copy(out, 0, &block, 0, 512);
+    copy_out(out, &block);
 }

@@ -1,87 +1,85 @@
 -- A page is spelled again, record by record, as it is read.
-use Rattle.basics.proofs.Kit.{_≡_, refl, sym, ap, _∙_, false, some, none, Option, Option·map, List, [], _∷_, _++_, append-assoc, append-nil, ℕ, suc, _+_, _≤_, _<_, _-_, length, drop}
-use Rattle.basics.proofs.Kit.{length-append, length-drop, drop-drop, arith}
-use Rattle.basics.specs.Basics.{if_then_else_}
-use Rattle.block_bits.specs.Bits.{over, bitsIn, field}
+use Rattle.basics.proofs.Kit.{_≡_, refl, sym, ap, _∙_, false, some, List, [], _∷_, _++_, ℕ, _+_, _≤_, _<_, length, drop, length-drop, arith}
+use Rattle.basics.specs.Basics.{sum}
+use Rattle.basics.proofs.Facts.{by}
+use Rattle.block_bits.specs.Bits.{bitsIn, field}
 use Rattle.block_bits.proofs.Blocks.{field-lt}
-use Rattle.block_forms.specs.Tuple.{Tuple, AllBytes}
+use Rattle.block_forms.specs.Limits.{pageHeadSize, recordSpace}
+use Rattle.block_forms.specs.Numbers.{same}
+use Rattle.block_forms.specs.Tuple.{Tuple, sizes, AllBytes}
 use Rattle.block_forms.specs.Block.{page, encodeBlock, PageFits}
-use Rattle.block_forms.specs.Decode.{readTuple, recordLength, isRecord, readTuples}
-use Rattle.block_forms.specs.Spell.{zeros}
-use Rattle.block_forms.specs.Bytes.{sizeOf, recordBytes, payloadIn, tupleOf, pageHead}
+use Rattle.block_forms.specs.Decode.{pageTuples, pageBytes}
+use Rattle.block_forms.specs.Bytes.{payloadIn, tupleOf, partPage, behind, Appended}
 use Rattle.block_forms.specs.declared.Record.{Record}
-use Rattle.block_reader.specs.declared.Cursor.{Cursor}
+use Rattle.block_forms.proofs.Same.{same-eq}
 use Rattle.block_forms.proofs.Spelled.{bytes-drop}
 use Rattle.block_forms.proofs.ReadTuples.{read-all-fit, read-room}
+use Rattle.block_forms.proofs.Built.{behind-more, part-length, whole-page}
+use Rattle.block_forms.proofs.Laws.{page-sizes}
+use Rattle.block_reader.specs.declared.Cursor.{Cursor}
 use Rattle.block_reader.proofs.Records.{Found-is}
-use Rattle.block_forms.proofs.Built.{Built, built-start, built-turn, built-end}
+use Rattle.block_reader.proofs.Walk.{Passed, passed-start, passed-more, passed-end}
 
-map-same : (o : Option (List Tuple)) → Option·map (λ ts. [] ++ ts) o ≡ o
-map-same none = refl
-map-same (some ts) = refl
-
-map-more : (d : List Tuple) (x : Tuple) (o : Option (List Tuple)) → Option·map (λ ts. d ++ ts) (Option·map (λ ts. x ∷ ts) o) ≡ Option·map (λ ts. (d ++ (x ∷ [])) ++ ts) o
-map-more d x none = refl
-map-more d x (some ts) = ap some (sym (append-assoc d (x ∷ []) ts))
-
--- i of n records are read and built
-pub record Again (xs copy : List ℕ) (n at i : ℕ) : Type 0 where
+-- i of n records are read and stand in the copy, a page that will have n tuples with b record bytes
+pub record Again (xs copy : List ℕ) (t l n b at i : ℕ) : Type 0 where
   pub done : List Tuple
-  pub turn : i ≤ n
-  pub count : length done ≡ i
-  pub built : Built copy at done
-  pub rest : readTuples n (drop 8 xs) ≡ Option·map (λ ts. done ++ ts) (readTuples (n - i) (drop at xs))
+  pub passed : Passed xs n at i done
+  pub place : at ≡ behind done
+  pub made : copy ≡ partPage t l n b done
 
-pub again-start : (xs : List ℕ) (n : ℕ) → Again xs (zeros 512) n 8 0
-again-start xs n =
-    let z : n - 0 ≡ n = omega arith in
-    record { done = []; turn = omega arith; count = refl; built = built-start; rest = rw z (sym (map-same (readTuples n (drop 8 xs)))) }
+pub again-start : (xs : List ℕ) {copy : List ℕ} (t l n b : ℕ) → length xs ≡ 512 → copy ≡ partPage t l n b [] → Again xs copy t l n b pageHeadSize 0
+unfolding sum
+again-start xs t l n b k made = record { done = []; passed = passed-start xs n k; place = refl; made = made }
 
-module _ {xs copy : List ℕ} {n at i : ℕ} (a : Again xs copy n at i) where
-  pub again-bad : i < n → isRecord (drop at xs) ≡ false → readTuples n (drop 8 xs) ≡ none
-  unfolding readTuples if_then_else_
-  again-bad h w =
-      let e : n - i ≡ suc (n - (i + 1)) = omega arith in
-      a .rest ∙ rw (e, w)
+module _ {xs copy : List ℕ} {t l n b at i : ℕ} (k : length xs ≡ 512) (a : Again xs copy t l n b at i) where
+  pub again-length : length copy ≡ 512
+  again-length = ap length (a .made) ∙ part-length t l n b (a .done) (omega (arith, a .place, a .passed .room))
 
-  pub again-turn : i < n → length xs ≡ 512 → {r : Record} {c : Cursor} → Found-is xs at r c
-      → Again xs (over copy at (recordBytes (tupleOf r (payloadIn xs r)))) n (at + sizeOf r) (i + 1)
-  unfolding readTuples if_then_else_
-  again-turn h l {r} g =
-      let x = readTuple (drop at xs) in
-      let e : n - i ≡ suc (n - (i + 1)) = omega arith in
-      let room : at + sizeOf r ≤ 512 = omega (arith, g .next, g .ends, g .takes) in
-      let next : readTuples n (drop 8 xs) ≡ Option·map (λ ts. (a .done ++ (readTuple (drop at xs) ∷ [])) ++ ts) (readTuples (n - (i + 1)) (drop (at + recordLength (drop at xs)) xs)) =
-      a .rest ∙ rw (e, g .is-whole, map-more (a .done) x (readTuples (n - (i + 1)) (drop (recordLength (drop at xs)) (drop at xs))), drop-drop (recordLength (drop at xs)) at xs) in
+  pub again-turn : i < n → {r : Record} {c : Cursor} → Found-is xs at r c → {copy′ : List ℕ} {at′ : ℕ} → Appended copy copy′ at r xs at′ → Again xs copy′ t l n b at′ (i + 1)
+  again-turn h {r} {c} g {at′ = at′} put =
+      let q : at′ ≡ c .at = omega (arith, put .place, g .takes, g .next) in
       record {
         done = a .done ++ (tupleOf r (payloadIn xs r) ∷ []);
-        turn = omega arith;
-        count = length-append (a .done) (tupleOf r (payloadIn xs r) ∷ []) ∙ omega (arith, a .count);
-        built = built-turn (a .built) r (payloadIn xs r) (g .payload) room;
-        rest = rw (g .tuple, g .takes) next;
+        passed = rw q (passed-more (a .passed) h g);
+        place = behind-more (g .inside) put (a .done) (a .place);
+        made = put .page t l n b (a .done) (a .made) (a .place);
       }
 
-  pub again-end : n ≤ i → readTuples n (drop 8 xs) ≡ some (a .done)
-  unfolding readTuples
-  again-end h =
-      let t = a .turn in
-      let e : n - i ≡ 0 = omega arith in
-      a .rest ∙ rw e (ap some (append-nil (a .done)))
+  module _ (h : n ≤ i) where
+    again-end : pageTuples n xs ≡ some (a .done)
+    again-end = passed-end (a .passed) h
 
-  -- the copy with its head is what the tuples spell
-  pub again-spells : n ≤ i → length xs ≡ 512 → AllBytes xs → {t l : ℕ} → t ≡ field (bitsIn xs) 4 3 → l ≡ field (bitsIn xs) 22 32
-      → over copy 0 (pageHead t n (at - 8) l) ≡ encodeBlock (page t l (a .done))
-  again-spells h k b {t} {l} et el =
-      let u = a .turn in
-      let e = again-end h in
-      let c : n ≡ length (a .done) = omega (arith, a .count) in
-      let d : length (drop 8 xs) ≡ 504 = rw (length-drop 8 xs, k) in
-      let ht : field (bitsIn xs) 4 3 < 8 = field-lt xs 4 3 in
-      let hl : field (bitsIn xs) 22 32 < 4294967296 = field-lt xs 22 32 in
-      let fit : PageFits t l (a .done) = record {
-        table = omega arith;
-        level = omega arith;
-        tuples = read-all-fit n (drop 8 xs) (a .done) (bytes-drop 8 xs b) e;
-        room = omega (arith, read-room n (drop 8 xs) (a .done) e);
-      } in
-      rw c (built-end (a .built) t l fit)
+    again-count : length (a .done) ≡ n
+    again-count = omega (arith, a .passed .count, a .passed .turn)
+
+    module _ (bytes : AllBytes xs) (et : t ≡ field (bitsIn xs) 4 3) (el : l ≡ field (bitsIn xs) 22 32) where
+      fit : PageFits t l (a .done)
+      fit =
+          let d : length (drop pageHeadSize xs) ≡ recordSpace = rw (length-drop pageHeadSize xs, k) in
+          let ht : field (bitsIn xs) 4 3 < 8 = field-lt xs 4 3 in
+          let hl : field (bitsIn xs) 22 32 < 4294967296 = field-lt xs 22 32 in
+          record {
+            table = omega arith;
+            level = omega arith;
+            tuples = read-all-fit n (drop pageHeadSize xs) (a .done) (bytes-drop pageHeadSize xs bytes) again-end;
+            room = omega (arith, read-room n (drop pageHeadSize xs) (a .done) again-end);
+          }
+
+      -- the copy is what the tuples spell, if their sizes are the record bytes
+      pub again-spells : at ≡ pageHeadSize + b → copy ≡ encodeBlock (page t l (a .done))
+      again-spells e =
+          let p = a .place in
+          let s : b ≡ sizes (a .done) = omega arith in
+          let c : n ≡ length (a .done) = sym again-count in
+          a .made ∙ rw (s, c) (whole-page t l (a .done) fit)
+
+      -- else these bytes do not spell the tuples
+      pub again-other : b ≡ field (bitsIn xs) 13 9 → (at ≡ pageHeadSize + b → ⊥) → same (encodeBlock (page t l (a .done))) xs ≡ false
+      unfolding pageBytes
+      again-other eb ne =
+          by (same (encodeBlock (page t l (a .done))) xs)
+          (λ s. let q = same-eq (encodeBlock (page t l (a .done))) xs s in
+          let p = a .place in
+          let z : field (bitsIn xs) 13 9 ≡ sizes (a .done) = ap (λ (ys : List ℕ). field (bitsIn ys) 13 9) (sym q) ∙ page-sizes t l (a .done) fit in
+          absurd (ne (omega arith)))
+          (λ s. s)

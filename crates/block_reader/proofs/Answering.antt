@@ -1,14 +1,16 @@
 -- What reading a block answers, once its fields are read and spelled again.
-use Rattle.basics.proofs.Kit.{_≡_, true, false, some, none, List, ℕ, _≤_, _<_, length, take, drop, le-leb, lt-leb, ne-eqb}
+use Rattle.basics.proofs.Kit.{_≡_, true, false, some, none, List, ℕ, _≤_, _<_, length, take, le-leb, lt-leb, ne-eqb}
 use types.Run.{OneOf}
 use denote.Enum.Declared.{tagOf}
 use Rattle.basics.specs.Basics.{if_then_else_}
 use Rattle.basics.proofs.Facts.{clash}
+use Rattle.block_forms.specs.Limits.{entriesPerBlock}
 use Rattle.block_bits.specs.Bits.{bitsIn, field}
 use Rattle.block_forms.specs.Numbers.{same}
 use Rattle.block_forms.specs.Tuple.{Tuple}
 use Rattle.block_forms.specs.Block.{Block, malformed, header, page, directory, encodeBlock}
-use Rattle.block_forms.specs.Decode.{spelledBy, readHeader, headerIn, readTuples, pageTable, pageCount, pageLevel, pageSpelled, pageIn, readEntries, directoryCount, directoryLevel, directoryIn, kind, decodeBlock}
+use Rattle.block_forms.specs.Decode.{spelledBy, readHeader, headerIn, pageTuples, pageTable, pageCount, pageLevel, pageSpelled, pageIn}
+use Rattle.block_forms.specs.Decode.{readEntries, directoryCount, directoryLevel, directoryIn, kind, decodeBlock}
 use Rattle.block_forms.specs.declared.Header.{Header}
 use Rattle.block_forms.proofs.Laws.{spelled-yes, spelled-no}
 use Rattle.block_reader.specs.Answers.{reading}
@@ -30,14 +32,14 @@ module _ (xs : List ℕ) {h : Header} (e : h ≡ readHeader xs) where
 -- ---- directory
 
 module _ (xs : List ℕ) {n : ℕ} (en : n ≡ field (bitsIn xs) 4 9) where
-  pub directory-many : 336 < n → reading (directoryIn xs) ≡ Malformed
+  pub directory-many : entriesPerBlock < n → reading (directoryIn xs) ≡ Malformed
   unfolding directoryIn directoryCount reading if_then_else_
-  directory-many h = rw (← en, lt-leb n 336 h)
+  directory-many h = rw (← en, lt-leb n entriesPerBlock h)
 
-  module _ {l : ℕ} (el : l ≡ field (bitsIn xs) 13 32) (es : List ℕ) (h : n ≤ 336) (e : take n es ≡ readEntries xs 64 n) where
+  module _ {l : ℕ} (el : l ≡ field (bitsIn xs) 13 32) (es : List ℕ) (h : n ≤ entriesPerBlock) (e : take n es ≡ readEntries xs 64 n) where
     here : directoryIn xs ≡ spelledBy xs (directory l (take n es))
     unfolding directoryIn directoryCount directoryLevel if_then_else_
-    here = rw (← en, ← el, le-leb n 336 h, e)
+    here = rw (← en, ← el, le-leb n entriesPerBlock h, e)
 
     pub directory-yes : length (take n es) ≡ n → same (encodeBlock (directory l (take n es))) xs ≡ true → reading (directoryIn xs) ≡ IsDirectory n l
     unfolding reading
@@ -50,11 +52,11 @@ module _ (xs : List ℕ) {n : ℕ} (en : n ≡ field (bitsIn xs) 4 9) where
 -- ---- page
 
 module _ (xs : List ℕ) {t n l : ℕ} (et : t ≡ field (bitsIn xs) 4 3) (en : n ≡ field (bitsIn xs) 7 6) (el : l ≡ field (bitsIn xs) 22 32) where
-  pub page-none : readTuples n (drop 8 xs) ≡ none → reading (pageIn xs) ≡ Malformed
+  pub page-none : pageTuples n xs ≡ none → reading (pageIn xs) ≡ Malformed
   unfolding pageIn pageSpelled pageCount reading
   page-none h = rw (← en, h)
 
-  module _ {ts : List Tuple} (g : readTuples n (drop 8 xs) ≡ some ts) where
+  module _ {ts : List Tuple} (g : pageTuples n xs ≡ some ts) where
     there : pageIn xs ≡ spelledBy xs (page t l ts)
     unfolding pageIn pageSpelled pageCount pageTable pageLevel
     there = rw (← en, g, ← et, ← el)

@@ -1,22 +1,17 @@
 -- A block that is known to be a page: its fields are those of its head.
-use Rattle.basics.proofs.Kit.{_≡_, refl, sym, ap, _∙_, true, false, some, none, Option, List, ℕ, suc, zero, leb, eqb, length, drop}
+use Rattle.basics.proofs.Kit.{_≡_, refl, sym, ap, _∙_, true, false, some, none, Option, List, ℕ, leb, eqb, drop}
 use Rattle.basics.specs.Basics.{if_then_else_}
 use Rattle.basics.proofs.Facts.{by, lie}
-use Rattle.block_forms.specs.Limits.{entriesPerBlock}
+use Rattle.block_forms.specs.Limits.{pageHeadSize, entriesPerBlock}
 use Rattle.block_forms.specs.Numbers.{same}
 use Rattle.block_forms.specs.Tuple.{Tuple}
 use Rattle.block_forms.specs.Block.{Block, header, page, directory, encodeBlock}
-use Rattle.block_forms.specs.Decode.{spelledBy, readHeader, headerIn, recordLength, readTuples, pageTable, pageCount, pageLevel, pageSpelled, pageIn}
+use Rattle.block_forms.specs.Decode.{spelledBy, readHeader, headerIn, pageTuples, pageTable, pageCount, pageLevel, pageSpelled, pageIn}
 use Rattle.block_forms.specs.Decode.{readEntries, directoryCount, directoryLevel, directoryIn, kind, decodeBlock}
 use Rattle.block_forms.proofs.Laws.{spelled-yes, spelled-no}
-use Rattle.block_forms.proofs.ReadTuples.{split, none-is}
+use Rattle.block_reader.proofs.Walk.{read-count}
 use Rattle.block_reader.specs.Answers.{isPage, reading}
 use Rattle.block_reader.specs.declared.Reading.the-variants.{IsPage}
-
--- as many tuples are read as are asked for
-read-count : (n : ℕ) (xs : List ℕ) (ts : List Tuple) → readTuples n xs ≡ some ts → length ts ≡ n
-read-count zero xs ts e = ap length (none-is xs ts e)
-read-count (suc n) xs ts e = let s = split n xs ts e in ap length (s .is) ∙ ap suc (read-count n (drop (recordLength xs) xs) (s .others) (s .read))
 
 module _ (xs : List ℕ) where
   -- what is not spelled is no page
@@ -24,12 +19,12 @@ module _ (xs : List ℕ) where
   unfolding isPage
   spelled-page b h = by (same (encodeBlock b) xs) (λ s. spelled-yes xs b s) (λ s. lie (sym (ap isPage (spelled-no xs b s)) ∙ h))
 
-  known-of : (o : Option (List Tuple)) → readTuples (pageCount xs) (drop 8 xs) ≡ o → isPage (pageSpelled xs o) ≡ true
+  known-of : (o : Option (List Tuple)) → pageTuples (pageCount xs) xs ≡ o → isPage (pageSpelled xs o) ≡ true
       → reading (pageSpelled xs o) ≡ IsPage (pageTable xs) (pageCount xs) (pageLevel xs)
   unfolding isPage pageSpelled reading
   known-of none e h = lie h
   known-of (some ts) e h = ap reading (spelled-page (page (pageTable xs) (pageLevel xs) ts) h)
-      ∙ ap (λ (n : ℕ). IsPage (pageTable xs) n (pageLevel xs)) (read-count (pageCount xs) (drop 8 xs) ts e)
+      ∙ ap (λ (n : ℕ). IsPage (pageTable xs) n (pageLevel xs)) (read-count (pageCount xs) (drop pageHeadSize xs) ts e)
 
   other-block : (b : Block) → isPage b ≡ false → isPage (spelledBy xs b) ≡ true → false ≡ true
   other-block b n h = sym n ∙ ap isPage (sym (spelled-page b h)) ∙ h
@@ -55,7 +50,7 @@ module _ (xs : List ℕ) where
 
     paged : eqb (kind xs) 2 ≡ true → isPage (decodeBlock xs) ≡ true → reading (decodeBlock xs) ≡ IsPage (pageTable xs) (pageCount xs) (pageLevel xs)
     unfolding decodeBlock if_then_else_ pageIn
-    paged b h = let q : isPage (pageSpelled xs (readTuples (pageCount xs) (drop 8 xs))) ≡ true = rw (a, b) at h in rw (a, b) (known-of _ refl q)
+    paged b h = let q : isPage (pageSpelled xs (pageTuples (pageCount xs) xs)) ≡ true = rw (a, b) at h in rw (a, b) (known-of _ refl q)
 
   headed : eqb (kind xs) 1 ≡ true → isPage (decodeBlock xs) ≡ true → false ≡ true
   unfolding decodeBlock if_then_else_

@@ -1,14 +1,15 @@
 -- The record that the cursor finds is the tuple that is read there.
-use Rattle.basics.proofs.Kit.{_≡_, refl, true, false, List, ℕ, _+_, _%_, _≤_, add-zero, add-assoc, ltb, length, drop, length-take, length-drop, drop-drop, getD-drop, arith}
+use Rattle.basics.proofs.Kit.{_≡_, refl, true, false, List, ℕ, _+_, _%_, _≤_, add-zero, add-assoc, length, drop, length-take, length-drop, drop-drop, getD-drop, arith}
 use Rattle.basics.specs.Basics.{if_then_else_}
 use Rattle.basics.proofs.Facts.{by}
+use Rattle.block_forms.specs.Limits.{payloadLimit, recordHead, markValue}
 use Rattle.block_forms.specs.Numbers.{num4}
-use Rattle.block_forms.specs.Tuple.{AllBytes, OwnerFits, Fits}
+use Rattle.block_forms.specs.Tuple.{ownerSize, AllBytes, OwnerFits, Fits}
 use Rattle.block_forms.specs.Decode.{readOwner, readTuple, recordLength, isRecord}
 use Rattle.block_forms.specs.Bytes.{ownerIs, sizeOf, payloadIn, tupleOf, Appendable}
 use Rattle.block_forms.specs.declared.Record.{Record}
 use Rattle.block_forms.proofs.Spelled.{bytes-drop}
-use Rattle.block_forms.proofs.ReadTuples.{ownerPart, whole-parts, owner-size, owner-same, read-fits}
+use Rattle.block_forms.proofs.ReadTuples.{whole-parts, owner-size, owner-same, read-fits}
 use Rattle.block_reader.specs.Answers.{recordAt, nextAt}
 use Rattle.block_reader.specs.declared.Cursor.{Cursor}
 use Rattle.block_reader.specs.declared.Next.the-variants.{Found, Bad}
@@ -20,45 +21,39 @@ num4-drop xs at n =
     rw (getD-drop at xs n 0, getD-drop at xs (n + 1) 0, getD-drop at xs (n + 2) 0, getD-drop at xs (n + 3) 0, add-assoc at n 1, add-assoc at n 2, add-assoc at n 3)
 
 module _ (xs : List ℕ) (at : ℕ) where
-  start-read : (f : ℕ) → (if ltb f 128 then at + 13 else at + 9) ≡ at + (9 + ownerPart f)
-  unfolding if_then_else_
-  start-read f = by (ltb f 128) (λ h. rw h) (λ h. rw h)
-
   -- the record at a place is the tuple that is read there
   pub record-tuple : tupleOf (recordAt xs at) (payloadIn xs (recordAt xs at)) ≡ readTuple (drop at xs)
   unfolding tupleOf recordAt readTuple
   record-tuple =
-      let f = flagsAt xs at in
+      let o = readOwner (flagsAt xs at) (num4 xs (at + recordHead)) in
       rw (
         num4-drop xs at 0,
         num4-drop xs at 4,
         num4-drop xs at 9,
         getD-drop at xs 8 0,
         add-zero at,
-        owner-same (readOwner f (num4 xs (at + 9))),
-        owner-size f (num4 xs (at + 9)),
-        start-read f,
-        drop-drop (9 + ownerPart f) at xs,
+        owner-same o,
+        drop-drop (recordHead + ownerSize o) at xs,
       )
 
   pub record-taken : sizeOf (recordAt xs at) ≡ recordLength (drop at xs)
   unfolding sizeOf recordAt
   record-taken =
-      let o = readOwner (flagsAt xs at) (num4 xs (at + 9)) in
-      rw (taken-at xs at, owner-same o, owner-size (flagsAt xs at) (num4 xs (at + 9)))
+      let o = readOwner (flagsAt xs at) (num4 xs (at + recordHead)) in
+      rw (taken-at xs at, owner-same o, owner-size (flagsAt xs at) (num4 xs (at + recordHead)))
 
   record-ends : recordAt xs at .start + recordAt xs at .len ≡ at + recordLength (drop at xs)
   unfolding recordAt
-  record-ends = rw (taken-at xs at, start-read (flagsAt xs at)) (omega arith)
+  record-ends = rw (taken-at xs at, owner-size (flagsAt xs at) (num4 xs (at + recordHead))) (omega arith)
 
-  record-length : recordAt xs at .len ≡ flagsAt xs at % 64
+  record-length : recordAt xs at .len ≡ flagsAt xs at % markValue
   unfolding recordAt
   record-length = refl
 
   -- what a record that the cursor found is
   pub record Found-is (r : Record) (c : Cursor) : Type 0 where
     pub is-whole : isRecord (drop at xs) ≡ true
-    pub limit : r .len ≤ 40
+    pub limit : r .len ≤ payloadLimit
     pub payload : length (payloadIn xs r) ≡ r .len
     pub inside : r .start + r .len ≤ length xs
     pub tuple : tupleOf r (payloadIn xs r) ≡ readTuple (drop at xs)

@@ -1,10 +1,12 @@
 -- The cursor goes through a page: at each of its places it finds the record of the next tuple.
-use Rattle.basics.proofs.Kit.{_≡_, sym, ap, _∙_, false, some, none, List, [], _∷_, _++_, ℕ, suc, _+_, _≤_, _<_, _-_, length, take, drop, drop-drop, take-add, arith}
+use Rattle.basics.proofs.Kit.{_≡_, refl, sym, ap, _∙_, some, none, Option, Option·map, List, [], _∷_, _++_, append-assoc, append-nil, ℕ, suc, _+_, _≤_, _<_, zero, _-_, length, take, drop}
+use Rattle.basics.proofs.Kit.{length-append, drop-drop, take-at, drop-at, drop-of-length-le, arith}
 use Rattle.basics.specs.Basics.{if_then_else_}
-use Rattle.basics.proofs.Facts.{never}
+use Rattle.basics.proofs.Facts.{by-option, never}
+use Rattle.block_forms.specs.Limits.{pageHeadSize}
 use Rattle.block_forms.specs.Tuple.{Tuple}
 use Rattle.block_forms.specs.Block.{page}
-use Rattle.block_forms.specs.Decode.{readTuple, recordLength, isRecord, readTuples, decodeBlock}
+use Rattle.block_forms.specs.Decode.{readTuple, recordLength, readTuples, pageTuples, decodeBlock}
 use Rattle.block_forms.specs.Bytes.{payloadIn, tupleOf}
 use Rattle.block_forms.specs.declared.Record.{Record}
 use Rattle.block_forms.proofs.ReadTuples.{split, none-is}
@@ -14,58 +16,89 @@ use Rattle.block_reader.specs.declared.Cursor.{Cursor}
 use Rattle.block_reader.specs.declared.Next.the-variants.{Found, Bad}
 use Rattle.block_reader.proofs.Records.{Found-is, found-is, bad-is}
 
--- of the tuples ts, n in number, those from i on are still to be read, from place at on
-abbrev pub Left : List ℕ → ℕ → ℕ → ℕ → List Tuple → Type 0
-Left xs n at i ts = readTuples (n - i) (drop at xs) ≡ some (drop i ts)
+-- as many tuples are read as are asked for
+pub read-count : (n : ℕ) (xs : List ℕ) (ts : List Tuple) → readTuples n xs ≡ some ts → length ts ≡ n
+read-count zero xs ts e = ap length (none-is xs ts e)
+read-count (suc n) xs ts e = let s = split n xs ts e in ap length (s .is) ∙ ap suc (read-count n (drop (recordLength xs) xs) (s .others) (s .read))
 
-pub left-start : (xs : List ℕ) (n : ℕ) (ts : List Tuple) → readTuples n (drop 8 xs) ≡ some ts → Left xs n 8 0 ts
-left-start xs n ts e = let z : n - 0 ≡ n = omega arith in rw z e
+-- ---- any block
 
-pub left-end : (xs : List ℕ) (n at i : ℕ) (ts : List Tuple) → n ≤ i → Left xs n at i ts → drop i ts ≡ []
-left-end xs n at i ts h e =
-    let z : n - i ≡ 0 = omega arith in none-is (drop at xs) (drop i ts) (rw z at e)
+map-same : (o : Option (List Tuple)) → Option·map (λ ts. [] ++ ts) o ≡ o
+map-same none = refl
+map-same (some ts) = refl
 
-pub left-bad {ℓ} : {X : Type ℓ} (xs : List ℕ) (n at i : ℕ) (ts : List Tuple) → i < n → isRecord (drop at xs) ≡ false → Left xs n at i ts → X
-unfolding readTuples if_then_else_
-left-bad xs n at i ts h w e =
-    let z : n - i ≡ suc (n - (i + 1)) = omega arith in
-    let k : none ≡ some (drop i ts) = rw (z, w) at e in
-    never k
+map-more : (d : List Tuple) (x : Tuple) (o : Option (List Tuple)) → Option·map (λ ts. d ++ ts) (Option·map (λ ts. x ∷ ts) o) ≡ Option·map (λ ts. (d ++ (x ∷ [])) ++ ts) o
+map-more d x none = refl
+map-more d x (some ts) = ap some (sym (append-assoc d (x ∷ []) ts))
 
-drop-next : {A : Type 0} (i : ℕ) (l : List A) (x : A) (xs : List A) → drop i l ≡ x ∷ xs → drop (i + 1) l ≡ xs
-drop-next i l x xs e = sym (drop-drop 1 i l) ∙ ap (drop 1) e
+-- i of n tuples are read, those of done, and the cursor is at at
+pub record Passed (xs : List ℕ) (n at i : ℕ) (done : List Tuple) : Type 0 where
+  pub turn : i ≤ n
+  pub room : at ≤ length xs
+  pub count : length done ≡ i
+  pub rest : pageTuples n xs ≡ Option·map (λ ts. done ++ ts) (readTuples (n - i) (drop at xs))
 
-pub take-next : {A : Type 0} (i : ℕ) (l : List A) (x : A) (xs : List A) → drop i l ≡ x ∷ xs → take (i + 1) l ≡ take i l ++ (x ∷ [])
-take-next i l x xs e = take-add i 1 l ∙ ap (λ (r : List _). take i l ++ take 1 r) e
+pub passed-start : (xs : List ℕ) (n : ℕ) → length xs ≡ 512 → Passed xs n pageHeadSize 0 []
+passed-start xs n k =
+    let z : n - 0 ≡ n = omega arith in
+    record { turn = omega arith; room = omega arith; count = refl; rest = rw z (sym (map-same (pageTuples n xs))) }
 
--- one turn: the record r, found at at, is that of tuple i
-module _ (xs : List ℕ) (n at i : ℕ) (ts : List Tuple) (h : i < n) (e : Left xs n at i ts) (r : Record) (c : Cursor) (f : Found-is xs at r c) where
-  pub record Turn : Type 0 where
-    pub first : drop i ts ≡ tupleOf r (payloadIn xs r) ∷ drop (i + 1) ts
-    pub left : Left xs n (c .at) (i + 1) ts
+module _ {xs : List ℕ} {n at i : ℕ} {done : List Tuple} (p : Passed xs n at i done) where
+  -- a record is missing
+  pub passed-bad : i < n → Bad ≡ nextAt xs at → pageTuples n xs ≡ none
+  unfolding readTuples if_then_else_
+  passed-bad h b =
+      let e : n - i ≡ suc (n - (i + 1)) = omega arith in
+      p .rest ∙ rw (e, bad-is xs at b)
 
-  pub turn : Turn
-  turn =
-      let z : n - i ≡ suc (n - (i + 1)) = omega arith in
-      let s = split (n - (i + 1)) (drop at xs) (drop i ts) (rw z at e) in
-      let d = drop-next i ts (readTuple (drop at xs)) (s .others) (s .is) in
+  -- one record more
+  pub passed-more : i < n → {r : Record} {c : Cursor} → Found-is xs at r c → Passed xs n (c .at) (i + 1) (done ++ (tupleOf r (payloadIn xs r) ∷ []))
+  unfolding readTuples if_then_else_
+  passed-more h {r} f =
+      let x = readTuple (drop at xs) in
+      let e : n - i ≡ suc (n - (i + 1)) = omega arith in
+      let next : pageTuples n xs ≡ Option·map (λ ts. (done ++ (readTuple (drop at xs) ∷ [])) ++ ts) (readTuples (n - (i + 1)) (drop (at + recordLength (drop at xs)) xs)) =
+      p .rest ∙ rw (e, f .is-whole, map-more done x (readTuples (n - (i + 1)) (drop (recordLength (drop at xs)) (drop at xs))), drop-drop (recordLength (drop at xs)) at xs) in
       record {
-        first = rw (d, f .tuple) (s .is);
-        left = rw (d, f .next, ← drop-drop (recordLength (drop at xs)) at xs) (s .read);
+        turn = omega arith;
+        room = f .ends;
+        count = length-append done (tupleOf r (payloadIn xs r) ∷ []) ∙ omega (arith, p .count);
+        rest = rw (f .tuple, f .next) next;
       }
 
--- i of the tuples ts are passed, and the cursor is at at
+  pub passed-end : n ≤ i → pageTuples n xs ≡ some done
+  unfolding readTuples
+  passed-end h =
+      let u = p .turn in
+      let e : n - i ≡ 0 = omega arith in
+      p .rest ∙ rw e (ap some (append-nil done))
+
+  -- if all can be read, they are those that are read and those to come
+  passed-known : {ts : List Tuple} → pageTuples n xs ≡ some ts → ts ≡ done ++ drop i ts
+  passed-known {ts} e =
+      by-option (readTuples (n - i) (drop at xs))
+      (λ h. let k : none ≡ some ts = rw h at (sym (p .rest) ∙ e) in never k)
+      (λ us h. let k : some (done ++ us) ≡ some ts = rw h at (sym (p .rest) ∙ e) in
+      let q : ts ≡ done ++ us = cc in
+      q ∙ ap (λ (l : List Tuple). done ++ l) (sym (ap (drop i) q ∙ drop-at done us i (p .count))))
+
+-- ---- a page
+
+-- i of the tuples ts of a page are passed, and the cursor is at at
 pub record Walk (xs : List ℕ) (ts : List Tuple) (at i : ℕ) : Type 0 where
-  pub turn : i ≤ length ts
-  pub room : at ≤ length xs
-  pub rest : Left xs (length ts) at i ts
+  pub read : pageTuples (length ts) xs ≡ some ts
+  pub passed : Passed xs (length ts) at i (take i ts)
 
 -- before the first record
-pub walk-start : (xs : List ℕ) (t l : ℕ) (ts : List Tuple) → decodeBlock xs ≡ page t l ts → Walk xs ts 8 0
+pub walk-read : (n : ℕ) {xs : List ℕ} {ts : List Tuple} → length xs ≡ 512 → pageTuples n xs ≡ some ts → Walk xs ts pageHeadSize 0
+walk-read n {xs} {ts} k e =
+    let c : length ts ≡ n = read-count n (drop pageHeadSize xs) ts e in
+    record { read = rw c e; passed = passed-start xs (length ts) k }
+
+pub walk-start : (xs : List ℕ) (t l : ℕ) (ts : List Tuple) → decodeBlock xs ≡ page t l ts → Walk xs ts pageHeadSize 0
 walk-start xs t l ts e =
     let r = decode-is xs (page t l ts) e (λ m. let z : _≡_ {A = ℕ} 0 1 = cc in omega arith) in
-    let k : length xs ≡ 512 = rw (r .spelling) at (encode-length (page t l ts)) in
-    record { turn = omega arith; room = omega arith; rest = left-start xs (length ts) ts (rw (← r .spelling) (page-tuples t l ts (r .range))) }
+    walk-read (length ts) (rw (r .spelling) at (encode-length (page t l ts))) (rw (← r .spelling) (page-tuples t l ts (r .range)))
 
 -- the record r, found at at, is that of tuple i, and the cursor goes on at next
 pub record Handed (xs : List ℕ) (ts : List Tuple) (at i : ℕ) (r : Record) (next : ℕ) : Type 0 where
@@ -74,18 +107,25 @@ pub record Handed (xs : List ℕ) (ts : List Tuple) (at i : ℕ) (r : Record) (n
   pub done : take (i + 1) ts ≡ take i ts ++ (tupleOf r (payloadIn xs r) ∷ [])
   pub walk : Walk xs ts next (i + 1)
 
-module _ {xs : List ℕ} {ts : List Tuple} {at i : ℕ} (w : Walk xs ts at i) (h : i < length ts) where
-  -- a page never ends too early
-  pub walk-bad : Bad ≡ nextAt xs at → ⊥
-  walk-bad e = left-bad xs (length ts) at i ts h (bad-is xs at e) (w .rest)
+module _ {xs : List ℕ} {ts : List Tuple} {at i : ℕ} (w : Walk xs ts at i) where
+  pub walk-end : length ts ≤ i → drop i ts ≡ []
+  walk-end h = drop-of-length-le ts h
 
-  pub walk-found : {r : Record} {c : Cursor} → Found r c ≡ nextAt xs at → Handed xs ts at i r (c .at)
-  walk-found {r} {c} e =
-      let f = found-is xs at (w .room) e in
-      let t = turn xs (length ts) at i ts h (w .rest) r c f in
-      record {
-        found = f;
-        left = t .first;
-        done = take-next i ts (tupleOf r (payloadIn xs r)) (drop (i + 1) ts) (t .first);
-        walk = record { turn = omega arith; room = f .ends; rest = t .left };
-      }
+  module _ (h : i < length ts) where
+    -- a page never ends too early
+    pub walk-bad : Bad ≡ nextAt xs at → ⊥
+    walk-bad e = let k : none ≡ some ts = sym (passed-bad (w .passed) h e) ∙ w .read in never k
+
+    pub walk-found : {r : Record} {c : Cursor} → Found r c ≡ nextAt xs at → Handed xs ts at i r (c .at)
+    walk-found {r} {c} e =
+        let f = found-is xs at (w .passed .room) e in
+        let x = tupleOf r (payloadIn xs r) in
+        let q = passed-more (w .passed) h f in
+        let k : ts ≡ (take i ts ++ (x ∷ [])) ++ drop (i + 1) ts = passed-known q (w .read) in
+        let d : take (i + 1) ts ≡ take i ts ++ (x ∷ []) = ap (take (i + 1)) k ∙ take-at (take i ts ++ (x ∷ [])) (drop (i + 1) ts) (i + 1) (q .count) in
+        record {
+          found = f;
+          left = ap (drop i) (k ∙ append-assoc (take i ts) (x ∷ []) (drop (i + 1) ts)) ∙ drop-at (take i ts) (x ∷ drop (i + 1) ts) i (w .passed .count);
+          done = d;
+          walk = record { read = w .read; passed = rw d q };
+        }

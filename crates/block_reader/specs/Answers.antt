@@ -3,9 +3,10 @@ use Prim.Native.Nat.{ℕ, _+_, _%_}
 use mathlib.Core.Bool.{Bool, true, false}
 use mathlib.Core.List.{List}
 use lib.ListN.{length, getD, drop}
-use lib.Dec.{ltb}
 use Rattle.basics.specs.Basics.{if_then_else_}
+use Rattle.block_forms.specs.Limits.{recordHead, markValue}
 use Rattle.block_forms.specs.Numbers.{num4}
+use Rattle.block_forms.specs.Tuple.{ownerSize}
 use Rattle.block_forms.specs.Block.{Block, malformed, header, page, directory}
 use Rattle.block_forms.specs.Decode.{readOwner, readMark, recordLength, isRecord}
 use Rattle.block_forms.specs.Bytes.{ownerAs}
@@ -19,13 +20,14 @@ use Rattle.block_reader.specs.declared.Reading.the-variants.{IsHeader, I
 unfoldable pub recordAt : List ℕ → ℕ → Record
 recordAt xs at =
     let f = getD xs (at + 8) 0 in
+    let o = readOwner f (num4 xs (at + recordHead)) in
     record {
       key = num4 xs at;
       number = num4 xs (at + 4);
-      owner = ownerAs (readOwner f (num4 xs (at + 9)));
+      owner = ownerAs o;
       mark = readMark f;
-      start = if ltb f 128 then at + 13 else at + 9;
-      len = f % 64;
+      start = at + (recordHead + ownerSize o);
+      len = f % markValue;
     }
 
 -- the record at a cursor's place, with the cursor behind it

@@ -7,10 +7,13 @@ ghost use mathlib.Core.Bool.{true};
 ghost use Prim.Native.Nat.{_+_, _<_, _≤_};
 ghost use lib.ListN.{length, take};
 ghost use Rattle.block_bits.specs.Bits.{bitsIn, field};
-ghost use Rattle.block_forms.specs.Limits.{entriesPerBlock};
+ghost use Rattle.block_forms.specs.Limits.{pageHeadSize, entriesPerBlock};
 ghost use Rattle.block_forms.specs.Numbers.{num4, same};
 ghost use Rattle.block_forms.specs.Decode.{readHeader, readEntries, headerIn, pageIn, directoryIn, decodeBlock};
 ghost use Rattle.block_reader.specs.Answers.{nextAt, isPage, reading};
+
+// A record that starts behind this place has no room for its ninth byte.
+const LAST_RECORD: usize = 512 - PageLayout::RECORD_HEAD;
 
 // A place in a page's block, before a record.
 pub struct Cursor {
@@ -51,9 +54,11 @@ fn get4(block: &[u8], at: usize) -> u32
 impl Cursor {
     // Before a page's first record.
     pub fn first() -> Self
-        ensures { λ r. ⌜ r .at ≡ 8 ⌝ }
+        ensures { λ r. ⌜ r .at ≡ pageHeadSize ⌝ }
     {
-        Self { at: 8 }
+        Self {
+            at: PageLayout::HEAD_SIZE,
+        }
     }
 
     // The record at the cursor, if a whole one is there.
@@ -62,22 +67,22 @@ impl Cursor {
         ensures { λ r. ⌜ r ≡ nextAt (now (block .entry)) (self .at) ⌝ }
     {
         let at = self.at;
-        if 503 < at {
+        if LAST_RECORD < at {
             return Next::Bad;
         }
         let flags = block[at + 8];
-        let len = (flags % 64) as usize;
+        let len = (flags % block_forms::MARK) as usize;
         if PageLayout::PAYLOAD_LIMIT < len {
             return Next::Bad;
         }
-        let tentative = flags < 128;
+        let tentative = flags < block_forms::COMMITTED;
         let end = at + PageLayout::record_size(len, tentative);
         if 512 < end {
             return Next::Bad;
         }
         let mut word: u32 = 0;
         if tentative {
-            word = get4(block, at + 9);
+            word = get4(block, at + PageLayout::RECORD_HEAD);
         }
         let found = Record {
             key: get4(block, at),
@@ -113,16 +118,18 @@ fn get32(block: &[u8; 512], at: usize, width: usize) -> u32
     block_bits::get_bits(block, at, width) as u32
 }
 
-// A page is what it spells: its records are copied one by one into an empty block, then its head, and the two are compared.
+// A page is what it spells: its head and then its records, one by one, are copied into an empty block, and the two are compared.
 fn read_page(block: &[u8]) -> Reading
     requires { ⌜ length (now block) ≡ 512 ⌝ }
     ensures { λ r. ⌜ r ≡ reading (pageIn (now (block .entry))) ⌝ }
 {
     let table = block_bits::get_bits(block, 4, 3) as u32;
     let count = block_bits::get_bits(block, 7, 6) as u32;
+    let bytes = block_bits::get_bits(block, 13, 9) as u32;
     let level = block_bits::get_bits(block, 22, 32) as u32;
     let mut copy = [0u8; 512];
-    let mut at: usize = 8;
+    block_forms::begin_page(&mut copy, table, count, bytes, level);
+    let mut at: usize = PageLayout::HEAD_SIZE;
     let mut i: u32 = 0;
     while i < count {
         match (Cursor { at: at }).next(block) {
@@ -135,7 +142,9 @@ fn read_page(block: &[u8]) -> Reading
         }
         i = i + 1;
     }
-    block_forms::put_page_head(&mut copy, table, count, at as u32 - 8, level);
+    if at != PageLayout::HEAD_SIZE + bytes as usize {
+        return Reading::Malformed;
+    }
     if same_block(&copy, block) {
         return Reading::IsPage {
             table: table,

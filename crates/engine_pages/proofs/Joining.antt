@@ -93,10 +93,10 @@ module _ {m : List ℕ} {p : ℕ} (a : There m p) (lt : p + 1 < length (flatOf m
             sym (joins-other (pageAt m p) (pageAt m (p + 1)) (page-frozen a ∙ sym ed ∙ hd) (page-frozen next-at ∙ sym ee ∙ he)
             (λ z. h (et ∙ sym (page-table a) ∙ z ∙ page-table next-at ∙ sym eu)))
 
-        pub by-sizes : t ≡ u → {s z : ℕ} → s ≡ firstRow m p → z ≡ firstRow m (p + 2) → (w : ℕ) → leb w joinSum ≡ leb (sum heldSize (rowsFrom m s z)) joinSum
-            → leb w joinSum ≡ joins (pageAt m p) (pageAt m (p + 1))
-        by-sizes h es ez w ew =
-            ew ∙ ap (λ (k : ℕ). leb k joinSum) (both-sizes es ez)
+        pub by-sizes : t ≡ u → {s z : ℕ} → s ≡ firstRow m p → z ≡ firstRow m (p + 2) → {r : Bool} → r ≡ leb (sum heldSize (rowsFrom m s z)) joinSum
+            → r ≡ joins (pageAt m p) (pageAt m (p + 1))
+        by-sizes h es ez er =
+            er ∙ ap (λ (k : ℕ). leb k joinSum) (both-sizes es ez)
             ∙ sym (joins-sizes (pageAt m p) (pageAt m (p + 1)) (page-frozen a ∙ sym ed ∙ hd) (page-frozen next-at ∙ sym ee ∙ he)
             (page-table a ∙ sym et ∙ h ∙ eu ∙ sym (page-table next-at)))
 

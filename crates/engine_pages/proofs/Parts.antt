@@ -4,6 +4,7 @@ use Rattle.basics.proofs.Kit.{arith}
 use Rattle.basics.specs.Basics.{sum}
 use Rattle.basics.proofs.Facts.{AllOf, by}
 use Rattle.basics.proofs.Lists.{map-append}
+use Rattle.block_forms.specs.Limits.{recordSpace}
 use Rattle.model.specs.State.{Held, Page}
 use Rattle.model.specs.Rules.{heldSize, fits, half, splitDeep, splitAll, fresh}
 use Rattle.model.proofs.Splits.{Small, half-between}
@@ -24,11 +25,11 @@ deep-parts : (d : ℕ) (hs : List Held) → fits hs ≡ false → splitDeep (suc
 unfolding splitDeep
 deep-parts d hs e = rw (e, splitDeep) refl
 
-big : (hs : List Held) → fits hs ≡ false → 504 < sum heldSize hs
+big : (hs : List Held) → fits hs ≡ false → recordSpace < sum heldSize hs
 unfolding fits
-big hs e = leb-false (sum heldSize hs) 504 e
+big hs e = leb-false (sum heldSize hs) recordSpace e
 
-big-some : (hs : List Held) → 504 < sum heldSize hs → 0 < length hs
+big-some : (hs : List Held) → recordSpace < sum heldSize hs → 0 < length hs
 unfolding sum
 big-some [] l = absurd (omega arith)
 big-some (h ∷ hs) l = omega arith

@@ -3,7 +3,7 @@ use Rattle.basics.proofs.Kit.{_≡_, refl, sym, ap, _∙_, Bool, true, false, _
 use Rattle.basics.proofs.Kit.{le-leb, lt-leb, arith}
 use Rattle.basics.specs.Basics.{if_then_else_, sum, any}
 use Rattle.basics.proofs.Facts.{AllOf}
-use Rattle.block_forms.specs.Limits.{payloadLimit}
+use Rattle.block_forms.specs.Limits.{payloadLimit, ownerWidth, mostRecord, committedValue}
 use Rattle.model.specs.State.{Held}
 use Rattle.model.specs.Rules.{heldSize, lead}
 use Rattle.model.proofs.Splits.{Small}
@@ -21,15 +21,15 @@ length-most : (s : ℕ) → lengthOf s ≤ payloadLimit
 unfolding lengthOf
 length-most s = omega arith
 
-owner-most : (b : Bool) → (if b then 4 else 0) ≤ 4
+owner-most : (b : Bool) → (if b then ownerWidth else 0) ≤ ownerWidth
 unfolding if_then_else_
 owner-most true = omega arith
 owner-most false = omega arith
 
-pub row-small : (m : List ℕ) (i : ℕ) → i < length (flatOf m .rows) → heldSize (rowIn (flatOf m) i) ≤ 13 + payloadLimit
+pub row-small : (m : List ℕ) (i : ℕ) → i < length (flatOf m .rows) → heldSize (rowIn (flatOf m) i) ≤ mostRecord
 row-small m i h =
     let s : ℕ = stateOf m (capacityOf m) i in
-    omega (arith, size-is m i h s refl, length-most s, owner-most (ltb s 128))
+    omega (arith, size-is m i h s refl, length-most s, owner-most (ltb s committedValue))
 
 -- every element by its index
 all-by : {A : Type 0} (P : A → Type 0) (xs : List A) (d : A) → ((i : ℕ) → i < length xs → P (getD xs i d)) → AllOf P xs
@@ -92,10 +92,10 @@ pub record Turn (m : List ℕ) (s e i all w : ℕ) : Type 0 where
   pub inside : i < e
   pub most : e ≤ length (flatOf m .rows)
   pub few : e ≤ 1024
-  pub light : all ≤ 53 * (i - s)
-  pub small : w ≤ 53
+  pub light : all ≤ mostRecord * (i - s)
+  pub small : w ≤ mostRecord
   pub size : w ≡ heldSize (rowIn (flatOf m) i)
 
-pub turn : {m : List ℕ} {s e i all w : ℕ} → Span m s e → s ≤ i → i < e → all ≤ 53 * (i - s) → (w ≡ heldSize (rowIn (flatOf m) i)) × (w ≤ 13 + payloadLimit) → Turn m s e i all w
+pub turn : {m : List ℕ} {s e i all w : ℕ} → Span m s e → s ≤ i → i < e → all ≤ mostRecord * (i - s) → (w ≡ heldSize (rowIn (flatOf m) i)) × (w ≤ mostRecord) → Turn m s e i all w
 turn g least inside light es =
     record { least = least; inside = inside; most = g .inside; few = omega (arith, g .inside, few-rows (g .room)); light = light; small = es .1; size = es .0 }

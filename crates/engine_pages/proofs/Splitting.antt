@@ -43,7 +43,7 @@ module _ {m : List ℕ} {p : ℕ} (a : There m p) {s e w : ℕ} (es : s ≡ firs
   pub halved-whole : Dirty (pageAt m p) → w ≤ recordSpace → Halved m m p 0
   unfolding fits
   halved-whole d h =
-      let f : fits (tuplesAt m p) ≡ true = le-leb (sum heldSize (tuplesAt m p)) 504 (omega (arith, size-is)) in
+      let f : fits (tuplesAt m p) ≡ true = le-leb (sum heldSize (tuplesAt m p)) recordSpace (omega (arith, size-is)) in
       record {
         pages = now-to (now-stay m (a .has-store))
             (sym (ap (λ (z : List Page). swapped p z (pagesOf m)) (once-whole (pageAt m p .table) (tuplesAt m p) f ∙ ap (λ (z : Page). z ∷ []) (sym d)) ∙ swap-same a));
@@ -67,7 +67,7 @@ module _ {m : List ℕ} {p : ℕ} (a : There m p) {s e w : ℕ} (es : s ≡ firs
     pub halved-parts : {m' : List ℕ} → Becomes m m' (withEntries (flatOf m) (splitEntry p k (flatOf m .entries))) → Halved m m' p k
     unfolding fits swapped pageOf fresh
     halved-parts b =
-        let f : fits (tuplesAt m p) ≡ false = lt-leb (sum heldSize (tuplesAt m p)) 504 (omega (arith, size-is)) in
+        let f : fits (tuplesAt m p) ≡ false = lt-leb (sum heldSize (tuplesAt m p)) recordSpace (omega (arith, size-is)) in
         let t : ℕ = entryOf m p .table in
         let c : ℕ = entryOf m p .count in
         let l = between .0 in

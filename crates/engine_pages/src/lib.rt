@@ -55,21 +55,22 @@ fn half(m: &[u8], s: usize, e: usize, whole: usize) -> usize
     e - s
 }
 
-// The size of the rows from s up to e, but no further than where it is above the limit of a join.
-fn size_up_to(m: &[u8], s: usize, e: usize) -> usize
+// The rows from s up to e, those of two pages, are small enough for one. The sum goes no further than where it is too large.
+fn small_enough(m: &[u8], s: usize, e: usize) -> bool
     requires { ⌜ Span (now m) s e ⌝ }
-    ensures { λ r. ⌜ leb r joinSum ≡ leb (sum heldSize (rowsFrom (now (m .entry)) s e)) joinSum ⌝ }
+    ensures { λ r. ⌜ r ≡ leb (sum heldSize (rowsFrom (now (m .entry)) s e)) joinSum ⌝ }
 {
     let mut all: usize = 0;
     let mut i = s;
     while i < e {
-        if PageLayout::JOIN_SUM < all {
-            return all;
+        let w = memory_rows::size_at(m, i);
+        if !PageLayout::joins(all, w) {
+            return false;
         }
-        all += memory_rows::size_at(m, i);
+        all += w;
         i += 1;
     }
-    all
+    true
 }
 
 // ---- pending operations
@@ -157,7 +158,7 @@ fn joinable(m: &[u8], p: usize) -> bool
     }
     let s = memory_pages::start_of(m, p);
     let e = memory_pages::start_of(m, p + 2);
-    size_up_to(m, s, e) <= PageLayout::JOIN_SUM
+    small_enough(m, s, e)
 }
 
 // Page p joins its predecessor, if it may; whether it did.
@@ -205,7 +206,7 @@ fn join(m: &mut [u8], p: usize) -> bool
 
 // ---- splitting
 
-// Page p is split if it is above 504 bytes; after how many rows, 0 if it is not.
+// Page p is split if its rows have no room in a block; after how many rows, 0 if it is not.
 fn halve(m: &mut [u8], p: usize) -> usize
     requires { ⌜ There (now m) p × Dirty (pageAt (now m) p) ⌝ }
     ensures { λ r. ⌜ Halved (now (m .entry)) (now (m .exit)) p r ⌝ }
@@ -213,7 +214,7 @@ fn halve(m: &mut [u8], p: usize) -> usize
     let s = memory_pages::start_of(m, p);
     let e = memory_pages::start_of(m, p + 1);
     let w = rows_size(m, s, e);
-    if w <= PageLayout::RECORD_SPACE {
+    if PageLayout::fits(w) {
         return 0;
     }
     let k = half(m, s, e, w);
@@ -221,7 +222,7 @@ fn halve(m: &mut [u8], p: usize) -> usize
     k
 }
 
-// Page p is split while a part is above 504 bytes: the later part first.
+// Page p is split while a part has no room in a block: the later part first.
 fn split(m: &mut [u8], p: usize)
     requires { ⌜ There (now m) p × Dirty (pageAt (now m) p) ⌝ }
     ensures { λ _. ⌜ PagesNow (now (m .entry)) (now (m .exit)) (swapped p (map (fresh (pageAt (now (m .entry)) p .table)) (splitAll (tuplesAt (now (m .entry)) p))) (pagesOf (now (m .entry)))) ⌝ }

@@ -1,95 +1,111 @@
--- A page's block while its rows are written: what it holds already, and what is still to come.
-use Rattle.basics.proofs.Kit.{_≡_, refl, sym, ap, _∙_, subst, List, [], _∷_, _++_, append-assoc, append-nil, ℕ, _+_, _≤_, _<_, _-_, length, length-append, arith}
-use Rattle.basics.specs.Basics.{sum}
-use Rattle.block_bits.specs.Bits.{over}
-use Rattle.block_forms.specs.Tuple.{Tuple, size, sizes, OwnerFits, Fits, AllFit}
-use Rattle.block_forms.specs.Spell.{zeros}
+-- A row's record on a page: its size, and that it can be appended; a page while its rows are measured and written.
+use Rattle.basics.proofs.Kit.{_≡_, refl, sym, ap, _∙_, subst, true, false, List, [], _∷_, _++_, ℕ, _+_, _*_, _≤_, _<_, leb, length, length-append, arith}
+use Rattle.basics.specs.Basics.{if_then_else_, sum}
+use Rattle.block_forms.specs.Limits.{pageHeadSize, recordSpace, mostRecord}
+use Rattle.block_forms.specs.Tuple.{Tuple, size, sizes, OwnerFits, Fits}
 use Rattle.block_forms.specs.Block.{page, encodeBlock, PageFits}
-use Rattle.block_forms.specs.Bytes.{payloadIn, tupleOf, sizeOf, recordBytes, Appendable, pageHead}
+use Rattle.block_forms.specs.Bytes.{payloadIn, tupleOf, sizeOf, Appendable, partPage, behind, Appended}
 use Rattle.block_forms.specs.declared.Record.{Record}
 use Rattle.block_forms.proofs.Stores.{length-part}
-use Rattle.block_forms.proofs.Tuples.{count-sizes, record-size}
-use Rattle.block_forms.proofs.Built.{Built, built-start, built-turn, built-length, built-end}
+use Rattle.block_forms.proofs.Tuples.{count-sizes, record-size, sizes-more}
+use Rattle.block_forms.proofs.Built.{behind-more, part-length, whole-page}
 use Rattle.model.specs.Checkpoint.{storable}
-use Rattle.engine_writer.specs.Written.{Spells}
-use Rattle.engine_writer.proofs.Showing.{storable-all, storable-none}
+use Rattle.engine_writer.specs.Written.{Spells, Measures}
+use Rattle.engine_writer.specs.declared.Shown.{Shown}
 
-sizes-append : (xs ys : List Tuple) → sizes (xs ++ ys) ≡ sizes xs + sizes ys
+-- ---- a row's record
+
+module _ {m : List ℕ} {r : Record} {x : Tuple} (s : Spells m r x) where
+  -- the record takes as much room as the tuple
+  spells-size : sizeOf r ≡ size x
+  spells-size = record-size r (payloadIn m r) (length-part (r .len) (r .start) m (s .inside)) ∙ ap size (s .tuple)
+
+  -- the record of a tuple in range can be appended
+  pub spells-appends : {at : ℕ} → Fits x → at + size x ≤ 512 → Appendable at r m
+  unfolding tupleOf
+  spells-appends fit h =
+      let l : length (payloadIn m r) ≡ r .len = length-part (r .len) (r .start) m (s .inside) in
+      record {
+        room = omega (arith, spells-size);
+        inside = s .inside;
+        limit = omega (arith, ap (λ (z : Tuple). length (z .payload)) (s .tuple), fit .payload);
+        owner = subst (λ (z : Tuple). OwnerFits (z .owner)) (sym (s .tuple)) (fit .owner);
+      }
+
+-- ---- the rows are measured
+
+-- n rows were passed, which show ts
+pub record Measured (n : ℕ) (ts : List Tuple) (count bytes : ℕ) : Type 0 where
+  pub length-is : count ≡ length ts
+  pub size-is : bytes ≡ sizes ts
+  pub few : count ≤ n
+  pub light : bytes ≤ mostRecord * n
+
+pub measured-none : {n : ℕ} {ts : List Tuple} → ts ≡ [] → Measured n ts 0 0
 unfolding sum
-sizes-append [] ys = omega arith
-sizes-append (x ∷ xs) ys = omega (arith, sizes-append xs ys)
+measured-none e = rw e (record { length-is = refl; size-is = refl; few = omega arith; light = omega arith })
 
--- n tuples are in the block, and rest is what is left of all
-pub record Writing (all : List Tuple) (block : List ℕ) (at n : ℕ) (rest : List Tuple) : Type 0 where
-  pub done : List Tuple
-  pub count : length done ≡ n
-  pub built : Built block at done
-  pub split : all ≡ done ++ rest
+module _ {n : ℕ} {ts : List Tuple} {count bytes : ℕ} (d : Measured n ts count bytes) where
+  pub measured-same : {us : List Tuple} {count′ bytes′ n′ : ℕ} → us ≡ ts → count′ ≡ count → bytes′ ≡ bytes → n < n′ → Measured n′ us count′ bytes′
+  measured-same eu ec eb l = rw (eu, ec, eb) (record { length-is = d .length-is; size-is = d .size-is; few = omega (arith, d .few); light = omega (arith, d .light) })
 
--- the record takes as much room as the tuple
-pub spells-size : {m : List ℕ} {r : Record} {x : Tuple} → Spells m r x → sizeOf r ≡ size x
-spells-size {m} {r} s = record-size r (payloadIn m r) (length-part (r .len) (r .start) m (s .inside)) ∙ ap size (s .tuple)
+  pub measured-more : {us : List Tuple} (x : Tuple) {count′ bytes′ w n′ : ℕ} → us ≡ ts ++ (x ∷ []) → count′ ≡ count + 1 → w ≡ size x → w ≤ mostRecord → bytes′ ≡ bytes + w → n < n′
+      → Measured n′ us count′ bytes′
+  measured-more x eu ec ew small eb l =
+      rw eu (record {
+        length-is = omega (arith, d .length-is, length-append ts (x ∷ []));
+        size-is = omega (arith, d .size-is, sizes-more ts x);
+        few = omega (arith, d .few);
+        light = omega (arith, d .light);
+      })
 
--- the record of a tuple in range can be appended
-pub spells-appends : {m : List ℕ} {r : Record} {x : Tuple} {at : ℕ} → Spells m r x → Fits x → at + size x ≤ 512 → Appendable at r m
-unfolding tupleOf
-spells-appends {m} {r} s fit h =
-    let l : length (payloadIn m r) ≡ r .len = length-part (r .len) (r .start) m (s .inside) in
-    record {
-      room = omega (arith, spells-size s);
-      inside = s .inside;
-      limit = omega (arith, ap (λ (z : Tuple). length (z .payload)) (s .tuple), fit .payload);
-      owner = subst (λ (z : Tuple). OwnerFits (z .owner)) (sym (s .tuple)) (fit .owner);
-    }
+-- ---- the rows are written
 
-pub writing-start : {all rest : List Tuple} → rest ≡ all → Writing all (zeros 512) 8 0 rest
-writing-start e = record { done = []; count = refl; built = built-start; split = sym e }
+-- a page under construction that has the records of ts, up to place at
+pub record Filling (block : List ℕ) (t l n b : ℕ) (ts : List Tuple) (at : ℕ) : Type 0 where
+  pub made : block ≡ partPage t l n b ts
+  pub place : at ≡ behind ts
+  pub room : at ≤ 512
 
-module _ {all rest : List Tuple} {block : List ℕ} {at n : ℕ} (w : Writing all block at n rest) where
-  -- the same by other names
-  pub writing-same : {rest' : List Tuple} {block' : List ℕ} {at' n' : ℕ} → block' ≡ block → at' ≡ at → n' ≡ n → rest' ≡ rest → Writing all block' at' n' rest'
-  writing-same eb ea en er = rw (eb, ea, en, er) w
+pub filling-start : {block : List ℕ} {t l : ℕ} {w : Shown} {all ts : List Tuple} → block ≡ partPage t l (w .count) (w .bytes) [] → Measures w all → ts ≡ []
+    → Filling block t l (length all) (sizes all) ts pageHeadSize
+unfolding sum
+filling-start {t = t} {l} e w et = rw et (record { made = e ∙ (λ i. partPage t l (w .count i) (w .bytes i) []); place = refl; room = omega arith })
 
-  pub writing-length : length block ≡ 512
-  writing-length = built-length (w .built)
+module _ {block : List ℕ} {t l n b : ℕ} {ts : List Tuple} {at : ℕ} (f : Filling block t l n b ts at) where
+  pub filling-same : {block′ : List ℕ} {us : List Tuple} {at′ : ℕ} → block′ ≡ block → at′ ≡ at → us ≡ ts → Filling block′ t l n b us at′
+  filling-same eb ea eu = rw (eb, ea, eu) f
 
-  -- the numbers of the page's head are within their widths
-  pub writing-few : (n < 64) × ((8 ≤ at) × (at ≤ 512))
-  writing-few =
-      let c = w .count in
-      let p = w .built .place in
-      let r = w .built .room in
-      (omega (arith, count-sizes (w .done)), (omega arith, omega arith))
+  pub filling-more : {m block′ : List ℕ} {r : Record} {x : Tuple} {us : List Tuple} {at′ : ℕ} → Spells m r x → Appended block block′ at r m at′ → us ≡ ts ++ (x ∷ []) → sizes us ≤ recordSpace
+      → Filling block′ t l n b us at′
+  filling-more {m} {r = r} s put eu fits =
+      let e : ts ++ (tupleOf r (payloadIn m r) ∷ []) ≡ _ = ap (λ (z : Tuple). ts ++ (z ∷ [])) (s .tuple) ∙ sym eu in
+      let p = behind-more (s .inside) put ts (f .place) ∙ ap behind e in
+      record { made = put .page t l n b ts (f .made) (f .place) ∙ ap (partPage t l n b) e; place = p; room = omega (arith, p) }
 
-  -- nothing is left: all had room
-  pub writing-end : rest ≡ [] → AllFit all → (t l : ℕ) → t < 8 → l < 4294967296 → over block 0 (pageHead t n (at - 8) l) ≡ encodeBlock (page t l (storable all))
-  writing-end e fits t l ht hl =
-      let d : all ≡ w .done = w .split ∙ ap (λ (z : List Tuple). w .done ++ z) e ∙ append-nil (w .done) in
-      let p = w .built .place in
-      let r = w .built .room in
-      let f : PageFits t l (w .done) = record { table = ht; level = hl; tuples = rw d at fits; room = omega arith } in
-      ap (λ (z : ℕ). over block 0 (pageHead t z (at - 8) l)) (sym (w .count))
-      ∙ built-end (w .built) t l f
-      ∙ ap (λ (z : List Tuple). encodeBlock (page t l z)) (sym (storable-all all (omega (arith, ap sizes d)) ∙ d))
+  pub filling-length : length block ≡ 512
+  filling-length = ap length (f .made) ∙ part-length t l n b ts (omega (arith, f .place, f .room))
 
-  module _ {x : Tuple} {more : List Tuple} (next : rest ≡ x ∷ more) where
-    -- there is no room for the next, so none for all
-    pub writing-over : 512 < at + size x → storable all ≡ []
-    unfolding sum
-    writing-over h =
-        let p = w .built .place in
-        storable-none all (omega (arith, ap sizes (w .split), sizes-append (w .done) rest, ap sizes next))
+-- with all its tuples it is the page
+pub filling-end : {block : List ℕ} {t l at : ℕ} {ts us : List Tuple} → Filling block t l (length ts) (sizes ts) us at → us ≡ ts → PageFits t l ts → block ≡ encodeBlock (page t l ts)
+filling-end {t = t} {l} {ts = ts} f e fit = f .made ∙ ap (partPage t l (length ts) (sizes ts)) e ∙ whole-page t l ts fit
 
-    -- one tuple more
-    pub writing-turn : {m : List ℕ} {r : Record} → Spells m r x → at + size x ≤ 512 → Writing all (over block at (recordBytes (tupleOf r (payloadIn m r)))) (at + sizeOf r) (n + 1) more
-    writing-turn {m} {r} s h =
-        let p : List ℕ = payloadIn m r in
-        let y = tupleOf r p in
-        record {
-          done = w .done ++ (y ∷ []);
-          count = length-append (w .done) (y ∷ []) ∙ omega (arith, w .count);
-          built = built-turn (w .built) r p (length-part (r .len) (r .start) m (s .inside)) (omega (arith, spells-size s));
-          split = w .split
-              ∙ ap (λ (z : List Tuple). w .done ++ z) (next ∙ ap (λ (z : Tuple). z ∷ more) (sym (s .tuple)))
-              ∙ sym (append-assoc (w .done) (y ∷ []) more);
-        }
+-- few tuples have room in a block
+pub few-fit : {w : Shown} {ts : List Tuple} → Measures w ts → w .bytes ≤ recordSpace → w .count < 64
+few-fit {ts = ts} w h = omega (arith, w .count, w .bytes, count-sizes ts)
+
+-- ---- what is stored
+
+-- the head alone is the page without tuples
+pub empty-page : {t l : ℕ} → t < 8 → l < 4294967296 → partPage t l 0 0 [] ≡ encodeBlock (page t l [])
+unfolding sum
+empty-page {t} {l} ht hl = whole-page t l [] (record { table = ht; level = hl; tuples = tt; room = omega arith })
+
+module _ {w : Shown} {ts : List Tuple} (d : Measures w ts) where
+  pub storable-all : leb (w .bytes) recordSpace ≡ true → storable ts ≡ ts
+  unfolding storable if_then_else_
+  storable-all h = rw (ap (λ (z : ℕ). leb z recordSpace) (sym (d .bytes)) ∙ h)
+
+  pub storable-none : leb (w .bytes) recordSpace ≡ false → storable ts ≡ []
+  unfolding storable if_then_else_
+  storable-none h = rw (ap (λ (z : ℕ). leb z recordSpace) (sym (d .bytes)) ∙ h)

@@ -1,15 +1,20 @@
--- A row as a record of a page, and the header to come.
-use Prim.Native.Nat.{ℕ, suc, _+_, _≤_}
+-- The header to come; a row as a record; the rows of a page, and what they show.
+use Prim.Native.Nat.{ℕ, suc, _+_, _-_, _≤_, _<_}
 use mathlib.Core.Path.{_≡_}
 use mathlib.Core.List.{List}
-use lib.ListN.{length}
-use Rattle.block_forms.specs.Tuple.{Tuple}
+use lib.ListN.{length, take, drop}
+use Rattle.block_forms.specs.Limits.{recordSpace}
+use Rattle.block_forms.specs.Tuple.{Tuple, sizes}
+use Rattle.block_forms.specs.Spell.{zeros}
 use Rattle.block_forms.specs.Bytes.{payloadIn, tupleOf}
 use Rattle.block_forms.specs.declared.Header.{Header}
 use Rattle.block_forms.specs.declared.Record.{Record}
+use Rattle.model.specs.State.{Held}
+use Rattle.model.specs.Rules.{shown}
 use Rattle.model.specs.Checkpoint.{headerFor}
-use Rattle.memory_layout.specs.Flat.{Flat}
+use Rattle.memory_layout.specs.Flat.{Flat, flatOf, Room}
 use Rattle.memory_layout.specs.Store.{storeOf}
+use Rattle.engine_writer.specs.declared.Shown.{Shown}
 
 -- the header with which the running checkpoint ends
 abbrev pub nextHeader : Flat → Header
@@ -19,3 +24,28 @@ nextHeader f = headerFor (storeOf f) (suc (f .head .level)) (f .head .begun) (le
 pub record Spells (m : List ℕ) (r : Record) (x : Tuple) : Type 0 where
   pub inside : r .start + r .len ≤ length m
   pub tuple : tupleOf r (payloadIn m r) ≡ x
+
+-- ---- the rows of a page
+
+-- the rows from row s up to, not including, row e
+abbrev pub rowsIn : List ℕ → ℕ → ℕ → List Held
+rowsIn m s e = take (e - s) (drop s (flatOf m .rows))
+
+-- there are such rows
+pub record Rows (m : List ℕ) (s e : ℕ) : Type 0 where
+  pub room : Room m
+  pub order : s ≤ e
+  pub inside : e ≤ length (flatOf m .rows)
+
+-- the tuples are as many, and their records take as many bytes
+pub record Measures (w : Shown) (ts : List Tuple) : Type 0 where
+  pub count : w .count ≡ length ts
+  pub bytes : w .bytes ≡ sizes ts
+
+-- an empty block, a table, and rows that were measured and have room
+pub record Fillable (block m : List ℕ) (t s e : ℕ) (w : Shown) : Type 0 where
+  pub zero : block ≡ zeros 512
+  pub table : t < 8
+  pub rows : Rows m s e
+  pub measured : Measures w (shown (rowsIn m s e))
+  pub fits : w .bytes ≤ recordSpace

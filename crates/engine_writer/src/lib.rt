@@ -1,7 +1,6 @@
 // The blocks that a checkpoint stores, from the working memory: each is built in zeros and copied out whole.
 ghost use mathlib.Core.Path.{_≡_};
 ghost use mathlib.Core.Bool.{not};
-ghost use mathlib.Core.List.{[]};
 ghost use Prim.Native.Nat.{_+_, _*_, _-_, _≤_, _<_};
 ghost use lib.ListN.{length, take, drop, getD};
 ghost use Rattle.block_forms.specs.Limits.{entriesPerBlock};
@@ -9,7 +8,7 @@ ghost use Rattle.block_forms.specs.Block.{header, page, directory, encodeBlock}
 ghost use Rattle.model.specs.Rules.{isAdding, shown};
 ghost use Rattle.model.specs.Checkpoint.{storable};
 ghost use Rattle.memory_layout.specs.Flat.{flatOf, rowIn, Room};
-ghost use Rattle.engine_writer.specs.Written.{nextHeader, Spells};
+ghost use Rattle.engine_writer.specs.Written.{nextHeader, Spells, rowsIn, Rows, Measures, Fillable};
 use memory_rows::Pending;
 
 // ---- the header
@@ -112,14 +111,49 @@ fn record_at(m: &[u8], i: usize) -> block_forms::Record
     }
 }
 
-// The block of a page that shows nothing, or more than a block has room for.
-fn write_empty(out: &mut [u8], table: u8, level: u32)
-    requires { ⌜ (table < 8) × (length (now out) ≡ 512) ⌝ }
-    ensures { λ _. ⌜ now (out .exit) ≡ encodeBlock (page table level []) ⌝ }
+// What a page shows: how many tuples, and how many bytes their records take.
+struct Shown {
+    count: u32,
+    bytes: usize,
+}
+
+// What the rows from row s up to, not including, row e show.
+fn measure(m: &[u8], s: usize, e: usize) -> Shown
+    requires { ⌜ Rows (now m) s e ⌝ }
+    ensures { λ r. ⌜ Measures r (shown (rowsIn (now (m .entry)) s e)) ⌝ }
 {
-    let mut block = [0u8; 512];
-    block_forms::put_page_head(&mut block, table as u32, 0, 0, level);
-    block_forms::copy(out, 0, &block, 0, 512);
+    let mut count: u32 = 0;
+    let mut bytes: usize = 0;
+    let mut i = s;
+    while i < e {
+        let size = memory_rows::size_at(m, i);
+        if is_shown(m, i) {
+            count += 1;
+            bytes += size;
+        }
+        i += 1;
+    }
+    Shown {
+        count: count,
+        bytes: bytes,
+    }
+}
+
+// The page of what these rows show, in a block of zeros: its head, then record after record.
+fn fill_page(block: &mut [u8; 512], m: &[u8], table: u8, s: usize, e: usize, level: u32, w: Shown)
+    requires { ⌜ Fillable (now block) (now m) table s e w ⌝ }
+    ensures { λ _. ⌜ now (block .exit) ≡ encodeBlock (page table level (shown (rowsIn (now (m .entry)) s e))) ⌝ }
+{
+    block_forms::begin_page(block, table as u32, w.count, w.bytes as u32, level);
+    let mut at: usize = block_forms::PageLayout::HEAD_SIZE;
+    let mut i = s;
+    while i < e {
+        if is_shown(m, i) {
+            let r = record_at(m, i);
+            at = block_forms::append(block, at, r, m);
+        }
+        i += 1;
+    }
 }
 
 // The block of a page whose rows go from row s up to, not including, row e: what it showed when it was frozen, and nothing if that is
@@ -128,22 +162,12 @@ pub fn write_page(out: &mut [u8], m: &[u8], table: u8, s: usize, e: usize, level
     requires { ⌜ Room (now m) × (((s ≤ e) × (e ≤ length (flatOf (now m) .rows))) × ((table < 8) × (length (now out) ≡ 512))) ⌝ }
     ensures { λ _. ⌜ now (out .exit) ≡ encodeBlock (page table level (storable (shown (take (e - s) (drop s (flatOf (now (m .entry)) .rows)))))) ⌝ }
 {
+    let w = measure(m, s, e);
     let mut block = [0u8; 512];
-    let mut at: usize = 8;
-    let mut count: u32 = 0;
-    let mut i = s;
-    while i < e {
-        if is_shown(m, i) {
-            if 8 + block_forms::PageLayout::RECORD_SPACE < at + memory_rows::size_at(m, i) {
-                write_empty(out, table, level);
-                return;
-            }
-            let r = record_at(m, i);
-            at = block_forms::append(&mut block, at, r, m);
-            count += 1;
-        }
-        i += 1;
+    if block_forms::PageLayout::fits(w.bytes) {
+        fill_page(&mut block, m, table, s, e, level, w);
+    } else {
+        block_forms::begin_page(&mut block, table as u32, 0, 0, level);
     }
-    block_forms::put_page_head(&mut block, table as u32, count, at as u32 - 8, level);
-    block_forms::copy(out, 0, &block, 0, 512);
+    block_forms::copy_out(out, &block);
 }

@@ -8,7 +8,7 @@ use Rattle.basics.proofs.Lists.{map-append}
 use Rattle.block_bits.specs.Bits.{over}
 use Rattle.block_forms.specs.Tuple.{Tuple}
 use Rattle.block_forms.specs.Block.{Block, malformed, header, page, directory}
-use Rattle.block_forms.specs.Decode.{readTuples, decodeBlock}
+use Rattle.block_forms.specs.Decode.{pageTuples, decodeBlock}
 use Rattle.block_forms.specs.declared.Header.{Header}
 use Rattle.image_rows.specs.Rows.{Row, rowsOf, markOk, rowsOk}
 use Rattle.image_rows.specs.Columns.{bare, tab, rowsIn, columnsOk}
@@ -257,5 +257,5 @@ module _ (xs es : List ℕ) (i x : ℕ) (bs : List ℕ) (b : bs ≡ blockAt xs x
   pub page-here : (l cap w to : ℕ) (r : GoodPage) → w ≡ cap → r ≡ goodPage l (w - to) (decodeBlock bs) → goodPage l (cap - to) (view xs (getD es i 0)) ≡ r
   page-here l cap w to r c q = rw (← seen, ← c) (sym q)
 
-  pub tuples-here : (l room t n : ℕ) (g : Goods l room t n (view xs (getD es i 0))) → readTuples n (drop 8 bs) ≡ some (g .tuples)
+  pub tuples-here : (l room t n : ℕ) (g : Goods l room t n (view xs (getD es i 0))) → pageTuples n bs ≡ some (g .tuples)
   tuples-here l room t n g = rw (← g .count) (page-tuples bs t (g .level) (g .tuples) (seen ∙ g .block))

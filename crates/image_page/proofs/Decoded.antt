@@ -1,9 +1,9 @@
 -- What a page that was read says of its bytes, and what its tests make of it.
-use Rattle.basics.proofs.Kit.{_≡_, refl, sym, _∙_, subst, ⊎-elim, true, false, not, some, List, [], _∷_, ℕ, suc, _-_, leb, length, drop, le-leb, arith}
+use Rattle.basics.proofs.Kit.{_≡_, refl, sym, _∙_, subst, ⊎-elim, true, false, not, some, List, [], _∷_, ℕ, suc, leb, length, le-leb, arith}
 use Rattle.basics.specs.Basics.{if_then_else_, all, every, isEmpty}
 use Rattle.block_forms.specs.Tuple.{Tuple}
 use Rattle.block_forms.specs.Block.{Block, malformed, header, page, directory}
-use Rattle.block_forms.specs.Decode.{readTuples, decodeBlock}
+use Rattle.block_forms.specs.Decode.{pageTuples, decodeBlock}
 use Rattle.block_reader.specs.Answers.{reading}
 use Rattle.block_reader.specs.declared.Reading.{Reading}
 use Rattle.block_reader.specs.declared.Reading.the-variants.{IsPage}
@@ -15,8 +15,8 @@ use Rattle.image_page.specs.Page.{pageOk, goodPage}
 use Rattle.image_page.specs.declared.GoodPage.the-variants.{Good, Bad}
 
 -- the tuples of a page are those that are read from its block
-pub page-tuples : (xs : List ℕ) (t k : ℕ) (ts : List Tuple) → decodeBlock xs ≡ page t k ts → readTuples (length ts) (drop 8 xs) ≡ some ts
-page-tuples xs t k ts e = let z : length ts - 0 ≡ length ts = omega arith in rw z at (walk-start xs t k ts e .rest)
+pub page-tuples : (xs : List ℕ) (t k : ℕ) (ts : List Tuple) → decodeBlock xs ≡ page t k ts → pageTuples (length ts) xs ≡ some ts
+page-tuples xs t k ts e = walk-start xs t k ts e .read
 
 -- ---- a good page
 
@@ -26,14 +26,14 @@ module _ (t n k : ℕ) where
     pub tuples : List Tuple
     pub block : b ≡ page t k tuples
     pub count : length tuples ≡ n
-    pub read : readTuples n (drop 8 xs) ≡ some tuples
+    pub read : pageTuples n xs ≡ some tuples
 
   -- a page that was read
   pub is-page : (xs : List ℕ) (b : Block) → decodeBlock xs ≡ b → IsPage t n k ≡ reading b → Passed xs b
   is-page xs b q e =
       let p = answer-page b t n k (sym e) in
       let read = page-tuples xs t k (p .tuples) (q ∙ p .is) in
-      record { tuples = p .tuples; block = p .is; count = p .count; read = subst (λ m. readTuples m (drop 8 xs) ≡ some (p .tuples)) (p .count) read }
+      record { tuples = p .tuples; block = p .is; count = p .count; read = subst (λ m. pageTuples m xs ≡ some (p .tuples)) (p .count) read }
 
 pub no-page : (l room : ℕ) (x : Reading) (b : Block) → x ≡ reading b → OneOfThese (0 ∷ 2 ∷ 3 ∷ []) x → Bad ≡ goodPage l room b
 unfolding goodPage reading

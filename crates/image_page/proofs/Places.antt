@@ -3,6 +3,7 @@ use Rattle.basics.proofs.Kit.{_≡_, refl, sym, ap, _∙_, Bool, true, false, n
 use Rattle.basics.proofs.Kit.{getD-set-other, ne-eqb, arith}
 use mir.Val.{boolByte}
 use Rattle.basics.specs.Basics.{if_then_else_, isEmpty}
+use Rattle.block_forms.specs.Limits.{statementLimit}
 use Rattle.block_forms.specs.Tuple.{tentative, isTentative}
 use Rattle.block_forms.specs.Bytes.{ownerIs, tupleOf}
 use Rattle.block_forms.specs.declared.Owner.the-variants.{Committed, Tentative}
@@ -12,11 +13,11 @@ use Rattle.image_rows.specs.Columns.{codedOwner, coded, rowAt, tab, rowsIn}
 
 -- ---- the row of a record
 
-pub owner-coded : {t s o : ℕ} → o ≡ 1 + t * 1048576 + s → s < 1048576 → codedOwner o ≡ tentative t s
+pub owner-coded : {t s o : ℕ} → o ≡ 1 + t * statementLimit + s → s < statementLimit → codedOwner o ≡ tentative t s
 unfolding codedOwner if_then_else_
 owner-coded {t} {s} {o} e h =
-    let a : (o - 1) / 1048576 ≡ t = omega arith in
-    let b : (o - 1) % 1048576 ≡ s = omega arith in
+    let a : (o - 1) / statementLimit ≡ t = omega arith in
+    let b : (o - 1) % statementLimit ≡ s = omega arith in
     rw (ne-eqb o 0 (λ z. omega arith), a, b)
 
 mark-coded : (m : Bool) → leb 1 (boolByte m) ≡ m

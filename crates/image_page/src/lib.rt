@@ -1,5 +1,6 @@
 // One page of an image: its tests by itself, and its tuples as rows in columns.
 use block_forms::Owner;
+use block_forms::PageLayout;
 use block_forms::Record;
 use block_reader::Cursor;
 use block_reader::Next;
@@ -8,10 +9,10 @@ ghost use mathlib.Core.Path.{_≡_};
 ghost use mathlib.Core.Option.{some};
 ghost use mathlib.Core.List.{List, [], _∷_, _++_, map};
 ghost use Prim.Native.Nat.{ℕ, _+_, _*_, _<_, _≤_};
-ghost use lib.ListN.{length, drop};
+ghost use lib.ListN.{length};
 ghost use Rattle.basics.specs.Basics.{all};
 ghost use Rattle.block_forms.specs.Tuple.{Tuple, OwnerFits};
-ghost use Rattle.block_forms.specs.Decode.{readTuples, decodeBlock};
+ghost use Rattle.block_forms.specs.Decode.{pageTuples, decodeBlock};
 ghost use Rattle.block_forms.specs.Bytes.{ownerIs, tupleOf};
 ghost use Rattle.image_rows.specs.Rows.{rowsOf, markOk};
 ghost use Rattle.image_rows.specs.Columns.{codedOwner, rowsIn, bare};
@@ -50,9 +51,9 @@ fn mark_ok(r: Record) -> bool
 // The delete marks of a page's block.
 fn marks_ok(block: &[u8], count: u32) -> bool
     requires { ⌜ length (now block) ≡ 512 ⌝ }
-    ensures { λ r. ⌜ ((t : ℕ) (ts : List Tuple) → readTuples count (drop 8 (now (block .entry))) ≡ some ts → r ≡ all markOk (rowsOf t ts)) ⌝ }
+    ensures { λ r. ⌜ ((t : ℕ) (ts : List Tuple) → pageTuples count (now (block .entry)) ≡ some ts → r ≡ all markOk (rowsOf t ts)) ⌝ }
 {
-    let mut at: usize = 8;
+    let mut at: usize = PageLayout::HEAD_SIZE;
     let mut i: u32 = 0;
     while i < count {
         match (Cursor { at: at }).next(block) {
@@ -127,11 +128,11 @@ pub fn add_rows(
 )
     requires { ⌜ length (now block) ≡ 512 ⌝ }
     requires { ⌜ (k + count ≤ length (now places)) × ((k + count ≤ length (now numbers)) × ((k + count ≤ length (now owners)) × (k + count ≤ length (now marks)))) ⌝ }
-    ensures { λ _. ⌜ ((ts : List Tuple) → readTuples count (drop 8 (now (block .entry))) ≡ some ts
+    ensures { λ _. ⌜ ((ts : List Tuple) → pageTuples count (now (block .entry)) ≡ some ts
         → rowsIn (now (places .exit)) (now (numbers .exit)) (now (owners .exit)) (now (marks .exit)) (k + count)
         ≡ rowsIn (now (places .entry)) (now (numbers .entry)) (now (owners .entry)) (now (marks .entry)) k ++ map bare (rowsOf table ts)) ⌝ }
 {
-    let mut at: usize = 8;
+    let mut at: usize = PageLayout::HEAD_SIZE;
     let mut i: u32 = 0;
     let mut to = k;
     while i < count {

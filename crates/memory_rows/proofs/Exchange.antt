@@ -1,7 +1,7 @@
 -- One row exchanged by a change of its columns: another state, another pending operation.
 use Rattle.basics.proofs.Kit.{_≡_, refl, sym, ap, _∙_, ⊎-elim, Bool, List, [], _∷_, ℕ, _+_, _*_, _%_, _≤_, _<_, _/_, min, leb, eqb, ltb, length, getD, le-ltb, arith}
 use Rattle.basics.specs.Basics.{if_then_else_}
-use Rattle.block_forms.specs.Limits.{payloadLimit}
+use Rattle.block_forms.specs.Limits.{payloadLimit, committedValue, statementLimit}
 use Rattle.block_forms.specs.Tuple.{committed, tentative}
 use Rattle.model.specs.State as model
 use Rattle.model.specs.State.{Held}
@@ -58,7 +58,7 @@ module _ {m m' : List ℕ} (room : Room m) (i : ℕ) (h : i < length (rowsOf m))
 
 owner-committed : (s w : ℕ) → 128 ≤ s → readOwner s w ≡ committed
 unfolding readOwner if_then_else_
-owner-committed s w h = ap (λ (t : Bool). if t then tentative (w / 1048576) (w % 1048576) else committed) (le-ltb s 128 h)
+owner-committed s w h = ap (λ (t : Bool). if t then tentative (w / statementLimit) (w % statementLimit) else committed) (le-ltb s committedValue h)
 
 pub length-by : (s t : ℕ) → s % 64 ≡ t % 64 → lengthOf s ≡ lengthOf t
 unfolding lengthOf

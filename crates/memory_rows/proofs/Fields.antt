@@ -1,7 +1,8 @@
 -- Numbers of a row's columns as the model's values.
 use Rattle.basics.proofs.Kit.{_≡_, refl, sym, ap, _∙_, Bool, true, false, _&&_, List, ℕ, _+_, _≤_, _<_, ltb, length, arith}
 use Rattle.basics.specs.Basics.{if_then_else_}
-use Rattle.block_forms.specs.Tuple.{Tuple, size, ownerSize}
+use Rattle.block_forms.specs.Limits.{recordHead, ownerWidth, committedValue}
+use Rattle.block_forms.specs.Tuple.{Tuple, size, ownerSize, recordSize}
 use Rattle.image_rows.specs.Rows.{isBy}
 use Rattle.model.specs.State.{Pending, nothing, adding, committing, removing, Held}
 use Rattle.model.specs.Rules.{heldSize, isRemoving, isCommitting, applied, asCommitted}
@@ -18,15 +19,15 @@ use Rattle.memory_rows.proofs.Access.{owner-is, payload-is}
 
 -- the size goes by the state alone
 pub size-is : (m : List ℕ) (i : ℕ) → i < length (rowsOf m) → (s : ℕ) → s ≡ stateOf m (capacityOf m) i
-    → heldSize (rowIn (flatOf m) i) ≡ 9 + (if ltb s 128 then 4 else 0) + lengthOf s
+    → heldSize (rowIn (flatOf m) i) ≡ recordSize (ltb s committedValue) (lengthOf s)
 unfolding heldSize size
 size-is m i h s e =
-    let o : ownerSize (rowIn (flatOf m) i .tuple .owner) ≡ (if ltb s 128 then 4 else 0) =
+    let o : ownerSize (rowIn (flatOf m) i .tuple .owner) ≡ (if ltb s committedValue then ownerWidth else 0) =
     ap ownerSize (owner-is m i h) ∙ owner-size (stateOf m (capacityOf m) i) (le4 m (slotPlace (slotAt m i) + 4))
-    ∙ ap (λ (z : ℕ). if ltb z 128 then 4 else 0) (sym e) in
+    ∙ ap (λ (z : ℕ). if ltb z committedValue then ownerWidth else 0) (sym e) in
     let p : length (rowIn (flatOf m) i .tuple .payload) ≡ lengthOf s =
     ap length (payload-is m i h) ∙ length-bytes m (slotPlace (slotAt m i) + 8) (lengthOf (stateOf m (capacityOf m) i)) ∙ ap lengthOf (sym e) in
-    λ j. 9 + o j + p j
+    λ j. recordHead + o j + p j
 
 -- ---- owners
 
@@ -41,7 +42,7 @@ live-is tx h = by-pending (h .tuple) (h .pending)
     by-pending x committing = refl
     by-pending x removing = refl
 
-pub at-most : (t : Bool) → (if t then 4 else 0) ≤ 4
+pub at-most : (t : Bool) → (if t then ownerWidth else 0) ≤ ownerWidth
 unfolding if_then_else_
 at-most true = omega arith
 at-most false = omega arith

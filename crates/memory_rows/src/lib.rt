@@ -9,7 +9,7 @@ ghost use mathlib.Core.List.{List, _∷_, [], _++_};
 ghost use Prim.Native.Nat.{ℕ, _+_, _*_, _-_, _≤_, _<_};
 ghost use lib.ListN.{length, take, drop};
 ghost use Rattle.basics.specs.Basics.{any};
-ghost use Rattle.block_forms.specs.Limits.{payloadLimit};
+ghost use Rattle.block_forms.specs.Limits.{payloadLimit, mostRecord};
 ghost use Rattle.image_rows.specs.Rows.{isBy};
 ghost use Rattle.model.specs.Rules.{heldSize, withPending};
 ghost use Rattle.memory_bytes.specs.Columns.{tab, insertAt, removeAt, firstIndex, lastIndex, equals, upTo, Covers};
@@ -35,7 +35,7 @@ const SLOT_SIZE: usize = 72;
 const SLOT_LIMIT: u16 = 1024;
 
 // A row's state is the ninth byte of its record: committed from here on.
-const COMMITTED: u8 = 128;
+const COMMITTED: u8 = block_forms::COMMITTED;
 
 // What a checkpoint will do to a row of a frozen page.
 pub enum Pending {
@@ -221,7 +221,7 @@ pub fn pending_at(m: &[u8], i: usize) -> Pending
 fn length_of(state: u8) -> usize
     ensures { λ r. ⌜ (r ≡ lengthOf state) × (r ≤ payloadLimit) ⌝ }
 {
-    let n = (state % 64) as usize;
+    let n = (state % block_forms::MARK) as usize;
     if n < PageLayout::PAYLOAD_LIMIT {
         return n;
     }
@@ -231,7 +231,7 @@ fn length_of(state: u8) -> usize
 // What the row takes of a block.
 pub fn size_at(m: &[u8], i: usize) -> usize
     requires { ⌜ Room (now m) × (i < length (flatOf (now m) .rows)) ⌝ }
-    ensures { λ r. ⌜ (r ≡ heldSize (rowIn (flatOf (now (m .entry))) i)) × (r ≤ 13 + payloadLimit) ⌝ }
+    ensures { λ r. ⌜ (r ≡ heldSize (rowIn (flatOf (now (m .entry))) i)) × (r ≤ mostRecord) ⌝ }
 {
     let s = state_at(m, i);
     PageLayout::record_size(length_of(s), s < COMMITTED)

@@ -1,5 +1,6 @@
 -- `block_forms::flags_of` meets its contract.
 use Rattle.basics.proofs.Kit.{_≡_, ap, ⊎-elim, _+_, _*_, needs, arith}
+use Rattle.block_forms.specs.Limits.{markValue}
 use Rattle.block_forms.specs.Block.{committedBit, markBit}
 use Rattle.block_forms.specs.Bytes.{ownerIs, flagsOf}
 use Rattle.block_forms.specs.declared.Owner.{Owner}
@@ -9,7 +10,7 @@ use Rattle.block_forms.proofs.flags_of.Reads as reads
 use Rattle.block_forms.proofs.flags_of.Lts as lts
 
 -- the delete mark and the length
-low-flags : (c : lts.Joined1 reads.Pre reads.Post) → c .if1 .flags ≡ markBit (c .before .args .mark) * 64 + c .before .args .len
+low-flags : (c : lts.Joined1 reads.Pre reads.Post) → c .if1 .flags ≡ markBit (c .before .args .mark) * markValue + c .before .args .len
 unfolding markBit
 low-flags c = ⊎-elim (λ w. omega (arith, ap markBit (w .0 .taken))) (λ w. omega (arith, ap markBit (w .0 .left))) (c .if1 .came)
 

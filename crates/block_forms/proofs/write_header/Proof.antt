@@ -1,13 +1,11 @@
 -- `block_forms::write_header` meets its contract.
-use Rattle.basics.proofs.Kit.{_∙_, needs, arith}
-use Rattle.block_forms.proofs.Stores.{over-whole}
+use Rattle.basics.proofs.Kit.{_∙_, needs}
 use Rattle.block_forms.proofs.write_header.Statement.{statement}
 use Rattle.block_forms.proofs.write_header.Tie as tie
 
 returns : tie.Need-returns
-returns c = let s = c .before .before .before .before .before .before .before .before .before in
-    let p = c .before .before .before .before .before .before .spell-header in
-    c .before .before .copy .ensures ∙ over-whole (s .args .out .now) (p .last .0) 512 (s .pre) (omega arith) ∙ p .ensures
+returns c = let p2 = c .before .before in
+    p2 .copy-out .ensures ∙ p2 .before .before .before .before .spell-header .ensures
 
 pub write-header-spec : {M : Type 1} → statement M
 write-header-spec = tie.close (tie.spec (search needs) (λ c κs. search needs) (search needs) (λ c κs. search needs) (search needs) returns)

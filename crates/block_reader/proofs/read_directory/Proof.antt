@@ -1,5 +1,6 @@
 -- `block_reader::read_directory` meets its contract.
 use Rattle.basics.proofs.Kit.{_≡_, refl, sym, _∙_, List, ℕ, length, take, length-take, needs, arith}
+use Rattle.block_forms.specs.Limits.{entriesPerBlock}
 use Rattle.block_reader.proofs.Answering.{directory-many, directory-yes, directory-no}
 use Rattle.block_reader.proofs.read_directory.Statement.{statement}
 use Rattle.block_reader.proofs.read_directory.Tie as tie
@@ -18,7 +19,7 @@ returns-2 c = let xs : List ℕ = c .before .before .before .before .before .bef
     let l = c .before .before .before .before .before .before .before .before .before .get32 .ensures in
     let r = c .before .before .before .before .before .before .before .before .read-entries in
     let es : List ℕ = r .result in
-    let k : length es ≡ 336 = omega (arith, c .before .before .before .before .before .before .before .before) in
+    let k : length es ≡ entriesPerBlock = omega (arith, c .before .before .before .before .before .before .before .before) in
     let t : length (take (n .result) es) ≡ n .result = simp length-take (omega arith) in
     let s = sym (c .before .same-block .ensures) ∙ c .if2 .taken in
     sym (directory-yes xs (n .ensures .0) l es (omega arith) (r .ensures) t (rw (← c .before .before .before .before .before .spell-directory .ensures) s))

@@ -1,12 +1,13 @@
 -- `block_reader::read_entries` meets its contract.
 use Rattle.basics.proofs.Kit.{_≡_, refl, _≤_, _-_, length, take, length-set, arith}
+use Rattle.block_forms.specs.Limits.{entriesPerBlock}
 use Rattle.block_forms.specs.Decode.{readEntries}
 use Rattle.block_reader.proofs.Entries.{entries-turn}
 use Rattle.block_reader.proofs.read_entries.Statement.{statement}
 use Rattle.block_reader.proofs.read_entries.Tie as tie
 
 abbrev Inv-loop : tie.InvT-loop
-Inv-loop block count out₀ i₀ out i = (i ≤ count) × ((length out ≡ 336) × (take i out ≡ readEntries block 64 i))
+Inv-loop block count out₀ i₀ out i = (i ≤ count) × ((length out ≡ entriesPerBlock) × (take i out ≡ readEntries block 64 i))
 
 abbrev μ-loop : tie.MeasureT-loop
 μ-loop block count out₀ i₀ out i = count - i

@@ -1,161 +1,122 @@
 -- `block_reader::read_page` meets its contract.
-use Rattle.basics.proofs.Kit.{_≡_, refl, sym, ap, _∙_, List, ℕ, _+_, _-_, length, arith}
+use Rattle.basics.proofs.Kit.{_≡_, refl, sym, ap, _∙_, List, ℕ, _-_, length, arith}
 use Rattle.block_forms.specs.Block.{Block, page, encodeBlock}
 use Rattle.block_forms.specs.Tuple.{AllBytes}
 use Rattle.block_forms.specs.Numbers.{same}
 use Rattle.block_reader.proofs.Answering.{page-none, page-yes, page-no}
-use Rattle.block_reader.proofs.Again.{Again, again-start, again-bad, again-turn, again-end, again-spells}
-use Rattle.block_forms.proofs.Built.{built-length}
-use Rattle.block_reader.proofs.Records.{found-is, found-appends, bad-is}
+use Rattle.block_reader.proofs.Again.{Again, again-start, again-length, again-turn, again-spells, again-other}
+use Rattle.block_reader.proofs.Walk.{passed-bad, passed-end}
+use Rattle.block_reader.proofs.Records.{Found-is, found-is, found-appends}
 use Rattle.block_forms.proofs.Spelled.{all-bytes}
 use Rattle.block_reader.proofs.read_page.Statement.{statement}
 use Rattle.block_reader.proofs.read_page.Tie as tie
-use Rattle.block_reader.proofs.read_page.Reads as reads
-use Rattle.block_reader.proofs.read_page.Lts as lts
-use Rattle.block_bits.proofs.get_bits.Reads as get-bits-reads
-use Rattle.block_reader.proofs.Cursor.next.Reads as next-reads
-use Rattle.block_forms.proofs.append.Reads as append-reads
-use Rattle.block_forms.proofs.put_page_head.Reads as put-page-head-reads
-use Rattle.block_reader.proofs.same_block.Reads as same-block-reads
 
 abbrev Inv-loop : tie.InvT-loop
-Inv-loop block table count level copy₀ at₀ i₀ copy at i = (length copy ≡ 512) × Again block copy count at i
+Inv-loop block table count bytes level copy₀ at₀ i₀ copy at i = (length copy ≡ 512) × Again block copy table level count bytes at i
 
 abbrev μ-loop : tie.MeasureT-loop
-μ-loop block table count level copy₀ at₀ i₀ copy at i = count - i
+μ-loop block table count bytes level copy₀ at₀ i₀ copy at i = count - i
 
-get-bits-requires : tie.Need-get-bits-requires Inv-loop μ-loop
-get-bits-requires c κs = omega arith
+-- ---- what is known in the loop and behind it
 
-cast-table : tie.Need-cast-table Inv-loop μ-loop
-cast-table c = omega arith
+-- the block
+abbrev block : tie.At-loop Inv-loop μ-loop → List ℕ
+block p = p .before .before .before .before .before .before .before .before .args .block .now
 
-get-bits-requires-2 : tie.Need-get-bits-requires-2 Inv-loop μ-loop
-get-bits-requires-2 c κs = omega arith
+whole : (p : tie.At-loop Inv-loop μ-loop) → length (block p) ≡ 512
+whole p = p .before .before .before .before .before .before .before .before .pre
 
-cast-count : tie.Need-cast-count Inv-loop μ-loop
-cast-count c = omega arith
+bytes : (p : tie.At-loop Inv-loop μ-loop) → AllBytes (block p)
+bytes p = all-bytes (block p) (λ j. omega (arith, p .before .before .before .before .before .before .before .shared-slice-known .given j))
 
-get-bits-requires-3 : tie.Need-get-bits-requires-3 Inv-loop μ-loop
-get-bits-requires-3 c κs = omega arith
-
-cast-level : tie.Need-cast-level Inv-loop μ-loop
-cast-level c = omega arith
-
-loop-holds : tie.Need-loop-holds Inv-loop μ-loop
-loop-holds c = (refl, again-start (c .before .before .before .before .args .block .now) (c .before .get-bits2 .result))
-
-next-requires : tie.Need-next-requires Inv-loop μ-loop
-next-requires c κs = omega arith
-
-enum-known-r : tie.Need-enum-known-r Inv-loop μ-loop
-enum-known-r c = omega arith
-
-append-requires : tie.Need-append-requires Inv-loop μ-loop
-append-requires c κs = let p6 = c .before .before .before .before .before .before in
-    let known = p6 .before .before .before .before in
-    let s = known .before in
-    let xs : List ℕ = s .args .block .now in
-    let g = found-is xs (p6 .loop .at) (omega (arith, s .pre, p6 .loop .inv .1 .built .room)) (sym (c .before .before .r .given .1) ∙ c .before .before .before .before .next .ensures) in
-    found-appends xs (p6 .loop .at) (s .pre) (all-bytes xs (λ j. omega (arith, known .shared-slice-known .given j))) g
-
-enum-told : tie.Need-enum-told Inv-loop μ-loop
-enum-told c = omega arith
-
-returns : tie.Need-returns Inv-loop μ-loop
-returns c = let xs : List ℕ = c .before .before .before .before .before .before .before .before .before .args .block .now in
-    let p = c .before .before .before .before .loop in
-    let w = bad-is xs (p .at) (sym (c .enum-told .given .1) ∙ c .before .before .next .ensures) in
-    let t = c .before .before .before .before .before .before .before .get-bits .ensures .0 in
-    let n = c .before .before .before .before .before .before .get-bits2 .ensures .0 in
-    let l = c .before .before .before .before .before .get-bits3 .ensures .0 in
-    sym (page-none xs t n l (again-bad (p .inv .1) (omega arith) w))
-
-add-i : tie.Need-add-i Inv-loop μ-loop
-add-i c = omega arith
-
-loop-less : tie.Need-loop-less Inv-loop μ-loop
-loop-less c = omega arith
-
-loop-again : tie.Need-loop-again Inv-loop μ-loop
-loop-again c = let s = c .before .before .before .before .before .before .before .before .before .before .before .before in
-    let xs : List ℕ = s .args .block .now in
-    let p = c .before .before .before .before .before .before .before .loop in
-    let r = c .before .before .before .r .given in
-    let n = c .before .before .before .before .before .before .before .before .before .get-bits2 .result in
-    let g = found-is xs (p .at) (omega (arith, s .pre, p .inv .1 .built .room)) (sym (r .1) ∙ c .before .before .before .before .before .next .ensures) in
-    let more : Again xs (c .append .last .0) n (c .append .result) (p .i + 1) =
-    rw (c .append .ensures .1, c .append .ensures .0) (again-turn (p .inv .1) (omega arith) (s .pre) g) in
-    (built-length (more .built), more)
-
-slice-aggregate-put-page-head : tie.Need-slice-aggregate-put-page-head Inv-loop μ-loop
-slice-aggregate-put-page-head c = omega arith
-
-cast-put-page-head : tie.Need-cast-put-page-head Inv-loop μ-loop
-cast-put-page-head c = omega arith
-
-sub-put-page-head : tie.Need-sub-put-page-head Inv-loop μ-loop
-sub-put-page-head c = omega arith
-
-put-page-head-requires : tie.Need-put-page-head-requires Inv-loop μ-loop
-put-page-head-requires c κs = omega arith
-
-slice-aggregate-same-block : tie.Need-slice-aggregate-same-block Inv-loop μ-loop
-slice-aggregate-same-block c = omega arith
-
-same-block-requires : tie.Need-same-block-requires Inv-loop μ-loop
-same-block-requires c κs = omega arith
-
-abbrev Compared : Type 0
-Compared =
-    lts.After-same-block (
-      get-bits-reads.Asked,
-      get-bits-reads.Learnt,
-      next-reads.Asked,
-      next-reads.Learnt,
-      append-reads.Asked,
-      append-reads.Learnt,
-      put-page-head-reads.Asked,
-      put-page-head-reads.Learnt,
-      same-block-reads.Asked,
-      same-block-reads.Learnt,
-    )
-    reads.Pre reads.Post Inv-loop μ-loop
+-- the record that is found
+found : (c : tie.After-r Inv-loop μ-loop) → let p = c .before .before .before .before in Found-is (block p) (p .loop .at) (c .r .given .0 .0) (c .r .given .0 .1 .0)
+found c =
+    let p = c .before .before .before .before in
+    found-is (block p) (p .loop .at) (omega (arith, whole p, p .loop .inv .1 .passed .room)) (sym (c .r .given .1) ∙ c .before .before .next .ensures)
 
 -- the page that was read
-abbrev again : Compared → Block
-again c =
-    let s = c .before .before .before .before .before .before in
-    page (s .before .before .before .get-bits .result) (s .before .get-bits3 .result) (s .loop .inv .1 .done)
+abbrev again : tie.At-loop Inv-loop μ-loop → Block
+again p = page (p .before .before .before .before .before .before .get-bits .result) (p .before .before .before .get-bits4 .result) (p .loop .inv .1 .done)
 
 -- what was compared is its spelling
-spells : (c : Compared) → c .same-block .result ≡ same (encodeBlock (again c)) (c .before .before .before .before .before .before .before .before .before .before .before .args .block .now)
+spells : (c : tie.After-same-block Inv-loop μ-loop) → let p = c .before .before .before .before in c .same-block .result ≡ same (encodeBlock (again p)) (block p)
 spells c =
-    let s = c .before .before .before .before .before .before .before .before .before .before .before in
-    let xs : List ℕ = s .args .block .now in
-    let bytes : AllBytes xs = all-bytes xs (λ j. omega (arith, c .before .before .before .before .before .before .before .before .before .before .shared-slice-known .given j)) in
-    let t = c .before .before .before .before .before .before .before .before .before .get-bits .ensures .0 in
-    let l = c .before .before .before .before .before .before .before .get-bits3 .ensures .0 in
-    let e = again-spells (c .before .before .before .before .before .before .loop .inv .1) (omega arith) (s .pre) bytes t l in
-    c .same-block .ensures ∙ ap (λ (k : List ℕ). same k xs) (c .before .before .before .put-page-head .ensures ∙ e)
+    let e = c .before .before in
+    let p = e .before .before in
+    let t = p .before .before .before .before .before .before .get-bits .ensures .0 in
+    let l = p .before .before .before .get-bits4 .ensures .0 in
+    c .same-block .ensures
+    ∙ ap (λ (k : List ℕ). same k (block p)) (again-spells (whole p) (p .loop .inv .1) (omega (arith, e .before .loop-test)) (bytes p) t l (omega (arith, e .if1 .left)))
+
+-- ---- the needs
+
+begin-page-requires : tie.Need-begin-page-requires Inv-loop μ-loop
+begin-page-requires c κs =
+    let l = c .before in
+    (refl, (omega (arith, l .before .before .before .get-bits .ensures .1), (omega (arith, l .before .before .get-bits2 .ensures .1), omega (arith, l .before .get-bits3 .ensures .1))))
+
+loop-holds : tie.Need-loop-holds Inv-loop μ-loop
+loop-holds c =
+    let l = c .before .before in
+    let b = l .before in
+    let t = b .before .before in
+    let a = again-start (t .before .before .args .block .now) (t .get-bits .result) (l .get-bits4 .result) (b .before .get-bits2 .result) (b .get-bits3 .result)
+    (t .before .before .pre) (c .begin-page .ensures) in
+    (again-length (t .before .before .pre) a, a)
+
+append-requires : tie.Need-append-requires Inv-loop μ-loop
+append-requires c κs =
+    let f = c .before .before in
+    let p = f .before .before .before .before in
+    found-appends (block p) (p .loop .at) (whole p) (bytes p) (found f)
+
+returns : tie.Need-returns Inv-loop μ-loop
+returns c =
+    let p = c .before .before .before .before in
+    let t = p .before .before .before .before .before .before .get-bits .ensures .0 in
+    let n = p .before .before .before .before .before .get-bits2 .ensures .0 in
+    let l = p .before .before .before .get-bits4 .ensures .0 in
+    sym (page-none (block p) t n l (passed-bad (p .loop .inv .1 .passed) (omega (arith, c .before .before .before .loop-test)) (sym (c .enum-told .given .1) ∙ c .before .before .next .ensures)))
+
+loop-again : tie.Need-loop-again Inv-loop μ-loop
+loop-again c =
+    let f = c .before .before .before in
+    let p = f .before .before .before .before in
+    let more = again-turn (whole p) (p .loop .inv .1) (omega (arith, f .before .before .before .loop-test)) (found f) (c .append .ensures) in
+    (again-length (whole p) more, more)
 
 returns-2 : tie.Need-returns-2 Inv-loop μ-loop
-returns-2 c = let xs : List ℕ = c .before .before .before .before .before .before .before .before .before .before .before .before .args .block .now in
-    let a = c .before .before .before .before .before .before .before .loop .inv .1 in
-    let t = c .before .before .before .before .before .before .before .before .before .before .get-bits .ensures .0 in
-    let n = c .before .before .before .before .before .before .before .before .before .get-bits2 .ensures .0 in
-    let l = c .before .before .before .before .before .before .before .before .get-bits3 .ensures .0 in
-    sym (page-yes xs t n l (again-end a (omega arith)) (omega (arith, a .count)) (sym (spells (c .before)) ∙ c .if1 .taken))
+returns-2 c =
+    let p = c .before .before in
+    let a = p .loop .inv .1 in
+    let t = p .before .before .before .before .before .before .get-bits .ensures .0 in
+    let n = p .before .before .before .before .before .get-bits2 .ensures .0 in
+    let b = p .before .before .before .before .get-bits3 .ensures .0 in
+    let l = p .before .before .before .get-bits4 .ensures .0 in
+    let e = c .before .loop-test in
+    sym (page-no (block p) t n l (passed-end (a .passed) (omega (arith, e))) (again-other (whole p) a (omega (arith, e)) (bytes p) t l b (c .if1 .taken)))
 
 returns-3 : tie.Need-returns-3 Inv-loop μ-loop
-returns-3 c = let xs : List ℕ = c .before .before .before .before .before .before .before .before .before .before .before .before .args .block .now in
-    let a = c .before .before .before .before .before .before .before .loop .inv .1 in
-    let t = c .before .before .before .before .before .before .before .before .before .before .get-bits .ensures .0 in
-    let n = c .before .before .before .before .before .before .before .before .before .get-bits2 .ensures .0 in
-    let l = c .before .before .before .before .before .before .before .before .get-bits3 .ensures .0 in
-    sym (page-no xs t n l (again-end a (omega arith)) (sym (spells (c .before)) ∙ c .if1 .left))
+returns-3 c =
+    let p = c .before .before .before .before .before in
+    let a = p .loop .inv .1 in
+    let t = p .before .before .before .before .before .before .get-bits .ensures .0 in
+    let n = p .before .before .before .before .before .get-bits2 .ensures .0 in
+    let l = p .before .before .before .get-bits4 .ensures .0 in
+    let e = c .before .before .before .before .loop-test in
+    sym (page-yes (block p) t n l (passed-end (a .passed) (omega (arith, e))) (omega (arith, e, a .passed .count, a .passed .turn)) (sym (spells (c .before)) ∙ c .if2 .taken))
+
+returns-4 : tie.Need-returns-4 Inv-loop μ-loop
+returns-4 c =
+    let p = c .before .before .before .before .before in
+    let t = p .before .before .before .before .before .before .get-bits .ensures .0 in
+    let n = p .before .before .before .before .before .get-bits2 .ensures .0 in
+    let l = p .before .before .before .get-bits4 .ensures .0 in
+    let e = c .before .before .before .before .loop-test in
+    sym (page-no (block p) t n l (passed-end (p .loop .inv .1 .passed) (omega (arith, e))) (sym (spells (c .before)) ∙ c .if2 .left))
 
 pub read-page-spec : {M : Type 1} → statement M
-read-page-spec = tie.close (tie.spec Inv-loop μ-loop get-bits-requires cast-table get-bits-requires-2 cast-count get-bits-requires-3 cast-level loop-holds next-requires
-    enum-known-r append-requires enum-told returns add-i loop-less loop-again slice-aggregate-put-page-head cast-put-page-head sub-put-page-head put-page-head-requires
-    slice-aggregate-same-block same-block-requires returns-2 returns-3)
+read-page-spec = tie.close (tie.spec Inv-loop μ-loop (λ c κs. omega arith) (λ c. omega arith) (λ c κs. omega arith) (λ c. omega arith) (λ c κs. omega arith) (λ c. omega arith)
+    (λ c κs. omega arith) (λ c. omega arith) begin-page-requires loop-holds (λ c κs. omega arith) (λ c. omega arith) append-requires (λ c. omega arith) returns (λ c. omega arith)
+    (λ c. omega arith) loop-again (λ c. omega arith) (λ c. omega arith) returns-2 (λ c. omega arith) (λ c κs. omega arith) returns-3 returns-4)

@@ -1,4 +1,5 @@
 use Rattle.basics.proofs.Kit.{_≡_, sym, ap, ℕ, _+_, _*_, _≤_, _-_, arith}
+use Rattle.block_forms.specs.Limits.{mostRecord}
 use Rattle.engine_pages.proofs.Sizes.{Turn, turn, lead-stop, lead-go, lead-end}
 use Rattle.engine_pages.specs.Pages.{rowsFrom}
 use Rattle.model.specs.Rules.{lead}
@@ -7,7 +8,7 @@ use Rattle.engine_pages.proofs.half.Statement.{statement}
 use Rattle.engine_pages.proofs.half.Tie as tie
 
 abbrev Inv-loop : tie.InvT-loop
-Inv-loop m s e whole all₀ i₀ all i = (s ≤ i) × ((i ≤ e) × ((all ≤ 53 * (i - s)) × (lead whole 0 (rowsFrom m s e) ≡ i - s + lead whole all (rowsFrom m i e))))
+Inv-loop m s e whole all₀ i₀ all i = (s ≤ i) × ((i ≤ e) × ((all ≤ mostRecord * (i - s)) × (lead whole 0 (rowsFrom m s e) ≡ i - s + lead whole all (rowsFrom m i e))))
 
 abbrev μ-loop : tie.MeasureT-loop
 μ-loop m s e whole all₀ i₀ all i = e - i

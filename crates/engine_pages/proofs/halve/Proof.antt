@@ -1,4 +1,5 @@
-use Rattle.basics.proofs.Kit.{_≤_, _<_, needs, arith}
+use Rattle.basics.proofs.Kit.{sym, _∙_, _≤_, _<_, leb-true, leb-false, needs, arith}
+use Rattle.block_forms.specs.Limits.{recordSpace}
 use Rattle.engine_pages.specs.Pages.{entryOf}
 use Rattle.engine_pages.proofs.Places.{start-there, next-there, few-pages, few-rows, room, page-span, page-end, few, spacious}
 use Rattle.engine_pages.proofs.Splitting.{halved-whole, between, halved-parts}
@@ -6,12 +7,15 @@ use Rattle.engine_pages.proofs.halve.Statement.{statement}
 use Rattle.engine_pages.proofs.halve.Tie as tie
 
 -- both parts have a row
-cuts : (c : tie.After-half) → (1 ≤ c .half .result) × (c .half .result < entryOf ((c .before .before .before .before .before .before .before .before .before .before) .args .m .now)
-    ((c .before .before .before .before .before .before .before .before .before .before) .args .p) .count)
+cuts : (c : tie.After-half) → let s = c .before .before .before .before .before .before .before .before .before .before .before in
+    (1 ≤ c .half .result) × (c .half .result < entryOf (s .args .m .now) (s .args .p) .count)
 cuts c =
-    between ((c .before .before .before .before .before .before .before .before .before .before) .pre .0) ((c .before .before .before .before .before .before .before) .start-of .ensures .0)
-    ((c .before .before .before .before .before) .start-of2 .ensures .0) ((c .before .before .before) .rows-size .ensures)
-    ((c .before .before) .if1 .left) (c .half .ensures)
+    let f = c .before .before .before in
+    let w = f .before in
+    let e = w .before .before in
+    let b = e .before .before in
+    between (b .before .before .before .pre .0) (b .start-of .ensures .0) (e .start-of2 .ensures .0) (w .rows-size .ensures)
+    (leb-false _ recordSpace (sym (f .fits2 .ensures) ∙ c .before .before .if1 .left)) (c .half .ensures)
 
 start-of-requires : tie.Need-start-of-requires
 start-of-requires c κs = let b2 = c .before .before in start-there (b2 .pre .0)
@@ -32,14 +36,16 @@ rows-size-requires c κs =
 returns : tie.Need-returns
 returns c =
     let b1 = c .before in
-    let b3 = b1 .before .before in
-    let b5 = b3 .before .before in
-    let b8 = b5 .before .before .before in
-    halved-whole (b8 .pre .0) (b5 .start-of .ensures .0) (b3 .start-of2 .ensures .0) (b1 .rows-size .ensures) (b8 .pre .1) (c .if1 .taken)
+    let b2 = b1 .before in
+    let b4 = b2 .before .before in
+    let b6 = b4 .before .before in
+    let b9 = b6 .before .before .before in
+    halved-whole (b9 .pre .0) (b6 .start-of .ensures .0) (b4 .start-of2 .ensures .0) (b2 .rows-size .ensures) (b9 .pre .1)
+    (leb-true _ recordSpace (sym (b1 .fits2 .ensures) ∙ c .if1 .taken))
 
 half-requires : tie.Need-half-requires
 half-requires c κs =
-    let b4 = c .before .before .before .before in
+    let b4 = c .before .before .before .before .before in
     let b6 = b4 .before .before in
     let b9 = b6 .before .before .before in
     page-span (b9 .pre .0) (b6 .start-of .ensures .0) (b4 .start-of2 .ensures .0)
@@ -47,13 +53,13 @@ half-requires c κs =
 cast-split-page : tie.Need-cast-split-page
 cast-split-page c =
     let b1 = c .before in
-    let b11 = b1 .before .before .before .before .before .before .before .before .before .before in
+    let b11 = b1 .before .before .before .before .before .before .before .before .before .before .before in
     let a = b11 .pre .0 in omega (arith, cuts b1 .1, page-end a, few-rows (room a))
 
 split-page-requires : tie.Need-split-page-requires
 split-page-requires c κs =
     let b1 = c .before in
-    let b11 = b1 .before .before .before .before .before .before .before .before .before .before in
+    let b11 = b1 .before .before .before .before .before .before .before .before .before .before .before in
     let a = b11 .pre .0 in
     let k0 = cuts b1 .0 in
     let k1 = cuts b1 .1 in
@@ -64,12 +70,14 @@ returns-2 c =
     let b2 = c .before .before in
     let b4 = b2 .before .before in
     let b6 = b4 .before .before in
-    let b7 = b6 .before in
+    let f = b6 .before in
+    let b7 = f .before in
     let b9 = b7 .before .before in
     let b11 = b9 .before .before in
     let b14 = b11 .before .before .before in
-    halved-parts (b14 .pre .0) (b11 .start-of .ensures .0) (b9 .start-of2 .ensures .0) (b7 .rows-size .ensures) (b6 .if1 .left) (b4 .half .ensures) (b2 .split-page .ensures)
+    halved-parts (b14 .pre .0) (b11 .start-of .ensures .0) (b9 .start-of2 .ensures .0) (b7 .rows-size .ensures)
+    (leb-false _ recordSpace (sym (f .fits2 .ensures) ∙ b6 .if1 .left)) (b4 .half .ensures) (b2 .split-page .ensures)
 
 pub halve-spec : {M : Type 1} → statement M
-halve-spec = tie.close (tie.spec start-of-requires add-start-of start-of-requires-2 rows-size-requires (search needs) returns half-requires cast-split-page split-page-requires
+halve-spec = tie.close (tie.spec start-of-requires add-start-of start-of-requires-2 rows-size-requires (λ c κs. search needs) (search needs) returns half-requires cast-split-page split-page-requires
     (search needs) returns-2)

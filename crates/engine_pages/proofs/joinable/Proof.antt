@@ -60,8 +60,8 @@ start-of-requires-2 c κs =
     let b9 = c .before .before .before .before .before .before .before .before .before in
     let g = b9 .pre in (room (g .0), omega (arith, g .1))
 
-size-up-to-requires : tie.Need-size-up-to-requires
-size-up-to-requires c κs =
+small-enough-requires : tie.Need-small-enough-requires
+small-enough-requires c κs =
     let b1 = c .before in
     let b10 = b1 .before .before .before .before .before .before .before .before .before in
     both-span (b10 .pre .0) (b10 .pre .1) (b1 .start-of .ensures .0) (c .start-of2 .ensures .0)
@@ -79,8 +79,8 @@ returns-4 c =
     let b9 = b8 .before in
     let b11 = b9 .before .before in
     by-sizes (b11 .pre .0) (b11 .pre .1) (b9 .frozen-at .ensures) (b8 .if1 .left) (b7 .frozen-at2 .ensures) (b6 .if2 .left) (b5 .table-of .ensures .0) (b4 .table-of2 .ensures .0)
-    (b3 .if3 .left) (b2 .start-of .ensures .0) (b1 .start-of2 .ensures .0) (c .size-up-to .result) (c .size-up-to .ensures)
+    (b3 .if3 .left) (b2 .start-of .ensures .0) (b1 .start-of2 .ensures .0) (c .small-enough .ensures)
 
 pub joinable-spec : {M : Type 1} → statement M
 joinable-spec = tie.close (tie.spec frozen-at-requires returns add-frozen-at frozen-at-requires-2 returns-2 table-of-requires add-table-of table-of-requires-2 returns-3
-    start-of-requires add-start-of start-of-requires-2 size-up-to-requires returns-4)
+    start-of-requires add-start-of start-of-requires-2 small-enough-requires returns-4)

@@ -3,12 +3,13 @@ use Rattle.engine_pages.proofs.Sizes.{Turn, turn, sum-next, sum-none}
 use Rattle.engine_pages.specs.Pages.{rowsFrom}
 use Rattle.model.specs.Rules.{heldSize}
 use Rattle.basics.specs.Basics.{sum}
+use Rattle.block_forms.specs.Limits.{mostRecord}
 use Rattle.memory_layout.specs.Flat.{flatOf}
 use Rattle.engine_pages.proofs.rows_size.Statement.{statement}
 use Rattle.engine_pages.proofs.rows_size.Tie as tie
 
 abbrev Inv-loop : tie.InvT-loop
-Inv-loop m s e all₀ i₀ all i = (s ≤ i) × ((i ≤ e) × ((all ≤ 53 * (i - s)) × (sum heldSize (rowsFrom m s e) ≡ all + sum heldSize (rowsFrom m i e))))
+Inv-loop m s e all₀ i₀ all i = (s ≤ i) × ((i ≤ e) × ((all ≤ mostRecord * (i - s)) × (sum heldSize (rowsFrom m s e) ≡ all + sum heldSize (rowsFrom m i e))))
 
 abbrev μ-loop : tie.MeasureT-loop
 μ-loop m s e all₀ i₀ all i = e - i

@@ -1,12 +1,13 @@
 use Rattle.basics.proofs.Kit.{_≡_, refl, sym, _∙_, some, List, _++_, map, ℕ, _+_, _≤_, _<_, _-_, length, take, drop, arith}
-use Rattle.block_reader.proofs.Walk.{Left, left-start, left-end, left-bad, turn}
+use Rattle.block_forms.specs.Limits.{pageHeadSize}
+use Rattle.block_reader.proofs.Walk.{Walk, read-count, walk-read, walk-found, walk-bad, walk-end}
 use Rattle.image_page.proofs.Walk.{row-first, row-next, row-last}
 use Rattle.image_rows.specs.Columns.{rowsIn, bare}
 use Rattle.image_rows.specs.Rows.{rowsOf}
 use Rattle.block_forms.proofs.Spelled.{all-bytes}
-use Rattle.block_reader.proofs.Records.{found-is, found-fits, bad-is}
+use Rattle.block_reader.proofs.Records.{found-is, found-fits}
 use Rattle.block_forms.specs.Bytes.{payloadIn}
-use Rattle.block_forms.specs.Decode.{readTuples}
+use Rattle.block_forms.specs.Decode.{pageTuples}
 use Rattle.block_forms.specs.Tuple.{Tuple}
 use Rattle.image_page.proofs.add_rows.Statement.{statement}
 use Rattle.image_page.proofs.add_rows.Tie as tie
@@ -15,7 +16,7 @@ abbrev Inv-loop : tie.InvT-loop
 Inv-loop block table count places₀ numbers₀ owners₀ marks₀ k at₀ i₀ to₀ places numbers owners marks at i to = (i ≤ count) ×
     ((at ≤ 512) × ((to ≡ k + i) × (((length places ≡ length places₀) ×
     ((length numbers ≡ length numbers₀) × ((length owners ≡ length owners₀) × (length marks ≡ length marks₀))))
-    × ((ts : List Tuple) → readTuples count (drop 8 block) ≡ some ts → Left block count at i ts ×
+    × ((ts : List Tuple) → pageTuples count block ≡ some ts → Walk block ts at i ×
     (rowsIn places numbers owners marks to ≡ rowsIn places₀ numbers₀ owners₀ marks₀ k ++ map bare (rowsOf table (take i ts)))))))
 
 abbrev μ-loop : tie.MeasureT-loop
@@ -25,7 +26,7 @@ loop-holds : tie.Need-loop-holds Inv-loop μ-loop
 loop-holds c =
     let p5 = c .before .before .before .before .before in
     let a = p5 .args in
-    (omega arith, (omega arith, (omega arith, ((refl, (refl, (refl, refl))), λ ts e. (left-start (a .block .now) (a .count) ts e, row-first (a .table) ts _)))))
+    (omega arith, (omega arith, (omega arith, ((refl, (refl, (refl, refl))), λ ts e. (walk-read (a .count) (p5 .pre .0) e, row-first (a .table) ts _)))))
 
 next-requires : tie.Need-next-requires Inv-loop μ-loop
 next-requires c κs = omega arith
@@ -65,8 +66,8 @@ returns : tie.Need-returns Inv-loop μ-loop
 returns c =
     let p2 = c .before .before in let p4 = p2 .before .before in let p10 = p4 .before .before .before .before .before .before in
     let a = p10 .args in let p = p4 .loop in
-    let w = bad-is (a .block .now) (p .at) (sym (c .enum-told .given .1) ∙ p2 .next .ensures) in
-    λ ts e. left-bad (a .block .now) (a .count) (p .at) (p .i) ts (omega (arith, c .before .before .before .loop-test .taken)) w (p .inv .1 .1 .1 .1 ts e .0)
+    λ ts e. let n = read-count (a .count) (drop pageHeadSize (a .block .now)) ts e in
+    absurd (walk-bad (p .inv .1 .1 .1 .1 ts e .0) (omega (arith, p2 .before .loop-test .taken)) (sym (c .enum-told .given .1) ∙ p2 .next .ensures))
 
 add-to : tie.Need-add-to Inv-loop μ-loop
 add-to c =
@@ -75,8 +76,9 @@ add-to c =
     omega (arith, p24 .pre, p24 .good, p18 .loop .inv .1 .1 .0, p17 .loop-test)
 
 add-i : tie.Need-add-i Inv-loop μ-loop
-add-i c = let s = c .before .before .before .before .before .before .before .before .before .before .before .before .before .before .before .before .before .before .before .before .before .before .before .before in
-    omega (arith, c .before .before .before .before .before .before .before .before .before .before .before .before .before .before .before .before .before .loop-test .taken, s .fits)
+add-i c =
+    let p17 = c .before .before .before .before .before .before .before .before .before .before .before .before .before .before .before .before .before in
+    omega (arith, p17 .loop-test .taken, p17 .before .before .before .before .before .before .before .fits)
 
 loop-less : tie.Need-loop-less Inv-loop μ-loop
 loop-less c = omega (arith, c .before .before .before .before .before .before .before .before .before .before .before .before .before .before .before .before .before .loop-test .taken)
@@ -97,11 +99,12 @@ loop-again c =
           (
             (d .0 ∙ l .0, (d .1 .0 ∙ l .1 .0, (d .1 .1 .0 ∙ l .1 .1 .0, d .1 .1 .1 .0 ∙ l .1 .1 .1))),
             λ ts e.
-                let t = turn (a .block .now) (a .count) (p .at) (p .i) ts h (k ts e .0) (g .0 .0) (g .0 .1 .0) f in (
-                  t .left,
+                let n = read-count (a .count) (drop pageHeadSize (a .block .now)) ts e in
+                let t = walk-found (k ts e .0) (omega (arith, h)) (sym (g .1) ∙ p16 .next .ensures) in (
+                  t .walk,
                   row-next (a .table) (p .i) ts (rowsIn (a .places .now) (a .numbers .now) (a .owners .now) (a .marks .now) (a .k)) (rowsIn (p .places) (p .numbers) (p .owners) (p .marks) (p .to))
                       (k ts e .1) _ (g .0 .0)
-                      (payloadIn (a .block .now) (g .0 .0)) (drop (p .i + 1) ts) (t .first) (p8 .put-row .ensures),
+                      (payloadIn (a .block .now) (g .0 .0)) (t .done) (p8 .put-row .ensures),
                 ),
           ),
         ),
@@ -125,8 +128,9 @@ returns-2 c =
     let p7 = c .before .before .before .before .before .before .before in
     let a = p7 .args in let p = c .before .loop in
     let e : a .k + a .count ≡ p .to = omega (arith, p .inv .1 .1 .0, p .inv .0, c .loop-test) in
-    λ ts h. rw e (row-last (a .table) (p .i) ts (rowsIn (a .places .now) (a .numbers .now) (a .owners .now) (a .marks .now) (a .k)) _ (p .inv .1 .1 .1 .1 ts h .1)
-    (left-end (a .block .now) (a .count) (p .at) (p .i) ts (omega (arith, p .inv .0, c .loop-test)) (p .inv .1 .1 .1 .1 ts h .0)))
+    λ ts h. let n = read-count (a .count) (drop pageHeadSize (a .block .now)) ts h in
+    rw e (row-last (a .table) (p .i) ts (rowsIn (a .places .now) (a .numbers .now) (a .owners .now) (a .marks .now) (a .k)) _ (p .inv .1 .1 .1 .1 ts h .1)
+    (walk-end (p .inv .1 .1 .1 .1 ts h .0) (omega (arith, c .loop-test))))
 
 pub add-rows-spec : {M : Type 1} → statement M
 add-rows-spec = tie.close (tie.spec Inv-loop μ-loop loop-holds next-requires enum-known-r put-row-requires enum-told same-length same-length-2 same-length-3 same-length-4

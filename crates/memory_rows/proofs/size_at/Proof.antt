@@ -1,6 +1,7 @@
 use Rattle.memory_rows.proofs.Fields.{size-is, at-most}
-use Rattle.basics.proofs.Kit.{sym, ap, _∙_, ℕ, _+_, ltb, needs, arith}
-use Rattle.basics.specs.Basics.{if_then_else_}
+use Rattle.basics.proofs.Kit.{sym, _∙_, ap, ltb, needs, arith}
+use Rattle.block_forms.specs.Limits.{committedValue}
+use Rattle.block_forms.specs.Tuple.{recordSize}
 use Rattle.memory_rows.proofs.size_at.Statement.{statement}
 use Rattle.memory_rows.proofs.size_at.Tie as tie
 
@@ -11,8 +12,8 @@ returns c =
     let st = p2 .before .before in
     let s = p2 .state-at .result in
     let n = p1 .length-of in
-    let e = c .record-size .ensures ∙ ap (λ (z : ℕ). 9 + (if ltb s 128 then 4 else 0) + z) (n .ensures .0) in
-    (e ∙ sym (size-is (st .args .m .now) (st .args .i) (st .pre .1) s (p2 .state-at .ensures)), omega (arith, c .record-size .ensures, at-most (ltb s 128)))
+    let e = c .record-size .ensures ∙ ap (recordSize (ltb s committedValue)) (n .ensures .0) in
+    (e ∙ sym (size-is (st .args .m .now) (st .args .i) (st .pre .1) s (p2 .state-at .ensures)), omega (arith, c .record-size .ensures, at-most (ltb s committedValue)))
 
 pub size-at-spec : {M : Type 1} → statement M
 size-at-spec = tie.close (tie.spec (λ c κs. search needs) (λ c κs. search needs) (λ c κs. search needs) returns)

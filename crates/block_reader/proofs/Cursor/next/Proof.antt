@@ -1,6 +1,7 @@
 -- `block_reader::Cursor::next` meets its contract.
 use Rattle.basics.proofs.Kit.{_≡_, sym, _∙_, ⊎-elim, List, ℕ, _+_, _%_, ltb, needs, arith}
 use Rattle.basics.specs.Basics.{if_then_else_}
+use Rattle.block_forms.specs.Limits.{recordHead, markValue, committedValue}
 use Rattle.block_forms.specs.Numbers.{num4}
 use Rattle.block_forms.proofs.ReadTuples.{ownerPart}
 use Rattle.block_reader.proofs.Cursors.{word-tentative, word-committed, flagsAt, part-small, part-tentative, none-far, none-long, none-short, found-as}
@@ -18,7 +19,7 @@ returns-2 c = let s = c .before .before .before .before in
 add-end : tie.Need-add-end
 add-end c = let s = c .before .before .before .before .before in
     let f : ℕ = flagsAt (s .args .block .now) (s .args .self .at) in
-    let e : c .record-size .result ≡ 9 + ownerPart f + f % 64 = c .record-size .ensures in
+    let e : c .record-size .result ≡ recordHead + ownerPart f + f % markValue = c .record-size .ensures in
     omega (arith, part-small f)
 
 returns-3 : tie.Need-returns-3
@@ -33,7 +34,7 @@ add-get4 c = omega (arith, c .before .before .before .before .before .if1 .left)
 get4-requires : tie.Need-get4-requires
 get4-requires c κs = let s = c .before .before .before .before .before .before .before in
     let f : ℕ = flagsAt (s .args .block .now) (s .args .self .at) in
-    let e : c .before .before .record-size .result ≡ 9 + ownerPart f + f % 64 = c .before .before .record-size .ensures in
+    let e : c .before .before .record-size .result ≡ recordHead + ownerPart f + f % markValue = c .before .before .record-size .ensures in
     omega (arith, part-tentative f (c .if4 .taken), c .before .if3 .left, s .pre)
 
 get4-requires-2 : tie.Need-get4-requires-2
@@ -58,9 +59,9 @@ returns-4 c = let p1 = c .before in
     let xs : List ℕ = s .args .block .now in
     let at : ℕ = s .args .self .at in
     let f : ℕ = flagsAt xs at in
-    let w : ℕ = num4 xs (at + 9) in
+    let w : ℕ = num4 xs (at + recordHead) in
     let z = p6 .record-size in
-    let word : p4 .if4 .word ≡ (if ltb f 128 then w else 0) =
+    let word : p4 .if4 .word ≡ (if ltb f committedValue then w else 0) =
     ⊎-elim (λ h. h .2 ∙ h .1 .ensures ∙ word-tentative f w (h .0 .taken)) (λ h. h .1 ∙ word-committed f w (h .0 .left)) (p4 .if4 .came) in
     found-as xs at (s .pre) (omega (arith, p9 .if1 .left)) (omega (arith, p6 .before .if2 .left)) (z .result) (z .ensures) (p1 .before .before .get42 .ensures)
     (p1 .before .get43 .ensures) word (p1 .owner-of .ensures) (c .mark-of .ensures) (omega (arith, p4 .before .if3 .left))
