@@ -20,7 +20,7 @@ ghost use Rattle.memory_layout.specs.Flat.{flatOf, Room, Becomes, withOpens};
 ghost use Rattle.memory_layout.specs.Store.{holdsStore, storeIn, storeOf, HoldsNow};
 ghost use Rattle.memory_layout.specs.Opens.{activeOf, OpenFits};
 ghost use Rattle.call_contracts.specs.Shape.{Answers, Replies, Lists, Made};
-ghost use Rattle.call_transactions.specs.Refusals.{verdict, verdictIn, keyTests, makeVerdict};
+ghost use Rattle.call_transactions.specs.Refusals.{verdict, verdictIn, foundTests, makeVerdict};
 ghost use Rattle.call_transactions.specs.Calls.{WriterAt, NextRow, afterCount, AcceptAt};
 
 // The most blocks, the largest capacity, and the memory that a store takes: so much a row, and the head.
@@ -246,7 +246,7 @@ fn full_refusal(m: &[u8]) -> u64
 // By what there is of the key: 12 foreign; 13 there already, if it is to be new, else 14 not seen; 15, 16; 0 if none holds.
 fn key_refusal(m: &[u8], new: bool, visibility: Visibility) -> u64
     requires { ⌜ (holdsStore (now m) ≡ true) × (visibility .own ≤ length (flatOf (now m) .rows)) ⌝ }
-    ensures { λ r. ⌜ r ≡ verdict (keyTests new (flatOf (now (m .entry))) visibility) ⌝ }
+    ensures { λ r. ⌜ r ≡ verdict (foundTests new (flatOf (now (m .entry))) visibility) ⌝ }
 {
     if visibility.foreign {
         return 12;
