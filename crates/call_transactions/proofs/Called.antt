@@ -11,7 +11,7 @@ use Rattle.call_contracts.specs.declared.Answer.the-variants.{Done, Refused}
 use Rattle.call_contracts.proofs.Answering.{answers-refused, answers-done}
 use Rattle.engine_lookup.specs.Lookup.{Shows}
 use Rattle.engine_lookup.specs.declared.Visibility.{Visibility}
-use Rattle.call_transactions.specs.Refusals.{verdict, verdictIn, keyTests}
+use Rattle.call_transactions.specs.Refusals.{verdict, verdictIn, foundTests}
 use Rattle.call_transactions.proofs.Verdicts.{unless-append, unless-stop, unless-pass, passed-held, call-after, answers-stopped}
 use Rattle.call_transactions.proofs.Testing.{key-tests-are, later-numbered, call-numbered}
 use Rattle.model.specs.State as model
@@ -46,11 +46,11 @@ module _ (new mark : Bool) (tx t k : ℕ) (bs m : List ℕ) (v : ℕ) (ev : v �
   pub call-refused : (v ≡ 0 → ⊥) → Answers (writeCall new mark tx t k bs) m (Refused v) m
   call-refused nz = answers-stopped m (argumentTests tx t (length bs)) v ev call (wrote new mark tx t k bs) (is-write new mark tx t k bs) nz
 
-  module _ (z : v ≡ 0) (l : Visibility) (shown : Shows (flatOf m) t tx (versions t k (pagesIn (flatOf m))) l) (w : ℕ) (ew : w ≡ verdict (keyTests new (flatOf m) l)) where
+  module _ (z : v ≡ 0) (l : Visibility) (shown : Shows (flatOf m) t tx (versions t k (pagesIn (flatOf m))) l) (w : ℕ) (ew : w ≡ verdict (foundTests new (flatOf m) l)) where
     there : holdsStore m ≡ true
     there = passed-held m (argumentTests tx t (length bs)) v ev z
 
-    tests-are : keyTests new (flatOf m) l ≡ tupleTests new tx t k S
+    tests-are : foundTests new (flatOf m) l ≡ tupleTests new tx t k S
     tests-are = key-tests-are (flatOf m) t tx k l shown new
 
     call-is : call S ≡ unless (tupleTests new tx t k S) S (gives model.done (afterWrite tx t k bs mark S))

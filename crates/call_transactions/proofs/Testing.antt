@@ -1,13 +1,12 @@
 -- The tests of insert, replace and delete: those that look at no tuple, and those by what there is of the key; what is known once none holds.
-use Rattle.basics.proofs.Kit.{_≡_, refl, sym, ap, _∙_, ⊎-elim, Bool, true, false, not, Option, List, [], _∷_, _++_, ℕ, _≤_, _<_, leb, eqb, ltb, length, le-leb, lt-ltb, le-ltb, lt-leb}
+use Rattle.basics.proofs.Kit.{_≡_, refl, sym, ap, _∙_, ⊎-elim, Bool, true, false, not, List, [], _∷_, _++_, ℕ, _≤_, _<_, leb, eqb, ltb, length, le-leb, lt-ltb, le-ltb, lt-leb}
 use Rattle.basics.proofs.Kit.{eq-eqb, ne-eqb, eqb-false, ltb-false, arith}
-use Rattle.basics.specs.Basics.{if_then_else_, any, isSome, isIn}
+use Rattle.basics.specs.Basics.{any, isSome, isIn}
 use Rattle.basics.proofs.Facts.{by, lie}
 use Rattle.block_forms.specs.Limits.{payloadLimit}
-use Rattle.image_rows.specs.Rows.{Row}
 use Rattle.model.specs.State.{Store}
 use Rattle.model.specs.Sight.{held, versions}
-use Rattle.model.specs.Transactions.{Test, _when_, notOpen, noTable, tooLong, foreign, present, unseen, full, argumentTests, tupleTests, openNumbers}
+use Rattle.model.specs.Transactions.{Test, _when_, notOpen, noTable, tooLong, full, argumentTests, keyTest, keyTests, tupleTests, openNumbers}
 use Rattle.model.proofs.Lists.{leb-false, not-false}
 use Rattle.memory_bytes.proofs.Columns.{lt-or-ge}
 use Rattle.memory_layout.specs.Flat.{Flat, flatOf}
@@ -21,7 +20,7 @@ use Rattle.engine_lookup.specs.declared.Visibility.{Visibility}
 use Rattle.engine_lookup.specs.declared.Seen.{Seen}
 use Rattle.engine_lookup.specs.declared.Seen.the-variants.{At, Nothing}
 use Rattle.engine_lookup.proofs.Picking.{visibility-sees}
-use Rattle.call_transactions.specs.Refusals.{verdict, verdictIn, unknown, keyTest, keyTests}
+use Rattle.call_transactions.specs.Refusals.{verdict, verdictIn, known, foundTests}
 use Rattle.call_transactions.specs.Calls.{AcceptAt}
 use Rattle.call_transactions.proofs.Opens.{not-found-open}
 use Rattle.call_transactions.proofs.Verdicts.{Numbered, stop-here, go-on, verdict-none, verdict-append, verdict-first, verdict-4, verdict-in, passed-held, passed-tests, open-numbered}
@@ -105,62 +104,58 @@ module _ (m : List ℕ) (there : holdsStore m ≡ true) where
 -- ---- 12, 13, 14
 
 module _ (f : Flat) (l : Visibility) where
-  pub key-12 : (new : Bool) → l .foreign ≡ true → 12 ≡ verdict (keyTests new f l)
-  unfolding keyTests
+  pub key-12 : (new : Bool) → l .foreign ≡ true → 12 ≡ verdict (foundTests new f l)
+  unfolding foundTests keyTests
   key-12 new e = sym (stop-here 12 _ _ e)
 
+  -- behind 12, where the key is to be new or not
+  abbrev behind : Bool → List Test
+  behind new = keyTest new (l .any) (known (picked f l)) ∷ full (storeOf f)
+
   module _ (e12 : l .foreign ≡ false) where
-    past-12 : (new : Bool) → verdict (keyTests new f l) ≡ verdict (keyTest new f l ∷ full (storeOf f))
-    unfolding keyTests
+    past-12 : (new : Bool) → verdict (foundTests new f l) ≡ verdict (behind new)
+    unfolding foundTests keyTests
     past-12 new = go-on 12 _ _ e12
 
-    pub key-13 : (new : Bool) → new ≡ true → l .any ≡ true → 13 ≡ verdict (keyTests new f l)
+    pub key-13 : (new : Bool) → new ≡ true → l .any ≡ true → 13 ≡ verdict (foundTests new f l)
     unfolding keyTest
-    key-13 new en e = sym (past-12 new ∙ ap (λ (b : Bool). verdict (keyTest b f l ∷ full (storeOf f))) en ∙ stop-here 13 _ _ e)
+    key-13 new en e = sym (past-12 new ∙ ap (λ (b : Bool). verdict (behind b)) en ∙ stop-here 13 _ _ e)
 
-    pub key-new : (new : Bool) → new ≡ true → l .any ≡ false → verdict (full (storeOf f)) ≡ verdict (keyTests new f l)
+    pub key-new : (new : Bool) → new ≡ true → l .any ≡ false → verdict (full (storeOf f)) ≡ verdict (foundTests new f l)
     unfolding keyTest
-    key-new new en e = sym (past-12 new ∙ ap (λ (b : Bool). verdict (keyTest b f l ∷ full (storeOf f))) en ∙ go-on 13 _ _ e)
+    key-new new en e = sym (past-12 new ∙ ap (λ (b : Bool). verdict (behind b)) en ∙ go-on 13 _ _ e)
 
     module _ (new : Bool) (en : new ≡ false) (r : Seen) (er : r ≡ picked f l) where
-      by-sight : verdict (keyTests new f l) ≡ verdict (14 when unknown r ∷ full (storeOf f))
+      by-sight : verdict (foundTests new f l) ≡ verdict (14 when not (known r) ∷ full (storeOf f))
       unfolding keyTest
       by-sight =
-          past-12 new ∙ ap (λ (b : Bool). verdict (keyTest b f l ∷ full (storeOf f))) en
-          ∙ ap (λ (z : Seen). verdict (14 when unknown z ∷ full (storeOf f))) (sym er)
+          past-12 new ∙ ap (λ (b : Bool). verdict (behind b)) en
+          ∙ ap (λ (z : Seen). verdict (14 when not (known z) ∷ full (storeOf f))) (sym er)
 
-      pub key-14 : r ≡ Nothing → 14 ≡ verdict (keyTests new f l)
-      unfolding unknown
-      key-14 q = sym (by-sight ∙ stop-here 14 (unknown r) _ (ap unknown q))
+      pub key-14 : r ≡ Nothing → 14 ≡ verdict (foundTests new f l)
+      unfolding known
+      key-14 q = sym (by-sight ∙ stop-here 14 (not (known r)) _ (ap (λ (z : Seen). not (known z)) q))
 
-      pub key-seen : (i : ℕ) → r ≡ At i → verdict (full (storeOf f)) ≡ verdict (keyTests new f l)
-      unfolding unknown
-      key-seen i q = sym (by-sight ∙ go-on 14 (unknown r) _ (ap unknown q))
+      pub key-seen : (i : ℕ) → r ≡ At i → verdict (full (storeOf f)) ≡ verdict (foundTests new f l)
+      unfolding known
+      key-seen i q = sym (by-sight ∙ go-on 14 (not (known r)) _ (ap (λ (z : Seen). not (known z)) q))
 
 -- ---- by the model's words
 
-unknown-is : (f : Flat) (t : ℕ) (r : Seen) → unknown r ≡ not (isSome (seenAt f t r))
-unfolding unknown seenAt isSome
-unknown-is f t (At i) = refl
-unknown-is f t Nothing = refl
+known-is : (f : Flat) (t : ℕ) (r : Seen) → known r ≡ isSome (seenAt f t r)
+unfolding known seenAt isSome
+known-is f t (At i) = refl
+known-is f t Nothing = refl
 
 module _ (f : Flat) (t tx k : ℕ) (l : Visibility) (shown : Shows f t tx (versions t k (pagesIn f)) l) where
-  foreign-is : 12 when l .foreign ≡ foreign tx t k (storeOf f)
-  unfolding foreign storeOf
-  foreign-is = ap (λ (b : Bool). 12 when b) (shown .others)
-
-  key-test-is : (new : Bool) → keyTest new f l ≡ (if new then present t k (storeOf f) else unseen tx t k (storeOf f))
-  unfolding keyTest present unseen storeOf if_then_else_
-  key-test-is true = ap (λ (b : Bool). 13 when b) (shown .there)
-  key-test-is false =
-      ap (λ (b : Bool). 14 when b) (unknown-is f t (picked f l) ∙ ap (λ (o : Option Row). not (isSome o)) (visibility-sees f t tx k l (picked f l) shown refl .means))
-
-  pub key-tests-are : (new : Bool) → keyTests new f l ≡ tupleTests new tx t k (storeOf f)
-  unfolding keyTests tupleTests
-  key-tests-are new = λ i. foreign-is i ∷ key-test-is new i ∷ full (storeOf f)
+  pub key-tests-are : (new : Bool) → foundTests new f l ≡ tupleTests new tx t k (storeOf f)
+  unfolding foundTests tupleTests storeOf
+  key-tests-are new =
+      let sees = known-is f t (picked f l) ∙ ap isSome (visibility-sees f t tx k l (picked f l) shown refl .means) in
+      λ i. keyTests new (shown .others i) (shown .there i) (sees i) (storeOf f)
 
 pub later-numbered : (new : Bool) (tx t k : ℕ) (s : Store) → Numbered (tupleTests new tx t k s)
-unfolding tupleTests foreign present unseen full if_then_else_
+unfolding tupleTests keyTests keyTest full
 later-numbered true tx t k s = (omega arith, (omega arith, (omega arith, (omega arith, tt))))
 later-numbered false tx t k s = (omega arith, (omega arith, (omega arith, (omega arith, tt))))
 
@@ -173,8 +168,8 @@ call-numbered tx t n s = (omega arith, (omega arith, (omega arith, (omega arith,
 pass-one : (n : ℕ) (b : Bool) (ts : List Test) → 0 < n → verdict (n when b ∷ ts) ≡ 0 → (b ≡ false) × (verdict ts ≡ 0)
 pass-one n b ts p e = by b (λ h. absurd (omega (arith, p, e, stop-here n b ts h))) (λ h. (h, sym (go-on n b ts h) ∙ e))
 
-pass-key : (new : Bool) (f : Flat) (l : Visibility) → verdict (keyTests new f l) ≡ 0 → verdict (full (storeOf f)) ≡ 0
-unfolding keyTests keyTest
+pass-key : (new : Bool) (f : Flat) (l : Visibility) → verdict (foundTests new f l) ≡ 0 → verdict (full (storeOf f)) ≡ 0
+unfolding foundTests keyTests keyTest
 pass-key true f l e = pass-one 13 _ _ (omega arith) (pass-one 12 _ _ (omega arith) e .1) .1
 pass-key false f l e = pass-one 14 _ _ (omega arith) (pass-one 12 _ _ (omega arith) e .1) .1
 
@@ -208,7 +203,7 @@ called {tx} {t} {n} {m} {v} ev z =
     }
 
 -- and the others
-pub accepts : {m : List ℕ} {tx t at k : ℕ} {bs : List ℕ} (new : Bool) (l : Visibility) → Called m tx t (length bs) → verdict (keyTests new (flatOf m) l) ≡ 0
+pub accepts : {m : List ℕ} {tx t at k : ℕ} {bs : List ℕ} (new : Bool) (l : Visibility) → Called m tx t (length bs) → verdict (foundTests new (flatOf m) l) ≡ 0
     → at ≡ placeIn (flatOf m) t k → AcceptAt m tx t at k bs
 unfolding full
 accepts {m} new l c e p =

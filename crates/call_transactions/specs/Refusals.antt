@@ -6,7 +6,7 @@ use Prim.Native.Nat.{ℕ}
 use Rattle.basics.specs.Basics.{if_then_else_}
 use Rattle.image.specs.Stages.{Stage, refuses, holds}
 use Rattle.model.specs.State.{Store}
-use Rattle.model.specs.Transactions.{Test, _when_, full}
+use Rattle.model.specs.Transactions.{Test, _when_, keyTests}
 use Rattle.memory_layout.specs.Flat.{Flat}
 use Rattle.memory_layout.specs.Store.{storeOf}
 use Rattle.engine_lookup.specs.Lookup.{picked}
@@ -24,19 +24,14 @@ unfoldable pub verdictIn : Option Store → (Store → List Test) → ℕ
 verdictIn none tests = 4
 verdictIn (some s) tests = verdict (tests s)
 
--- nothing is seen
-unfoldable pub unknown : Seen → Bool
-unknown (At i) = false
-unknown Nothing = true
+-- something is seen
+unfoldable pub known : Seen → Bool
+known (At i) = true
+known Nothing = false
 
--- 13 for a key that is to be new, 14 for another, by what there is of it
-unfoldable pub keyTest : Bool → Flat → Visibility → Test
-keyTest true f l = 13 when l .any
-keyTest false f l = 14 when unknown (picked f l)
-
--- the model's `tupleTests`, by what there is of the key
-unfoldable pub keyTests : Bool → Flat → Visibility → List Test
-keyTests new f l = 12 when l .foreign ∷ keyTest new f l ∷ full (storeOf f)
+-- the model's tests of a write by what the search has found of its key
+unfoldable pub foundTests : Bool → Flat → Visibility → List Test
+foundTests new f l = keyTests new (l .foreign) (l .any) (known (picked f l)) (storeOf f)
 
 -- the number of a refused make, 0 if it is accepted
 unfoldable pub makeVerdict : Stage Store → ℕ

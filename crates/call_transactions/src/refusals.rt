@@ -12,7 +12,7 @@ ghost use lib.ListN.{length};
 ghost use Rattle.model.specs.Transactions.{full, argumentTests};
 ghost use Rattle.memory_layout.specs.Flat.{flatOf};
 ghost use Rattle.memory_layout.specs.Store.{holdsStore, storeIn, storeOf};
-ghost use Rattle.call_transactions.specs.Refusals.{verdict, verdictIn, keyTests};
+ghost use Rattle.call_transactions.specs.Refusals.{verdict, verdictIn, foundTests};
 
 // 4, 6, 7; 10 table above 7; 11 payload, of len bytes, too long; 0 if none holds.
 pub fn call_refusal(m: &[u8], transaction: u64, table: u64, len: usize) -> u64
@@ -50,7 +50,7 @@ pub fn full_refusal(m: &[u8]) -> u64
 // By what there is of the key: 12 foreign; 13 there already, if it is to be new, else 14 not seen; 15, 16; 0 if none holds.
 pub fn key_refusal(m: &[u8], new: bool, visibility: Visibility) -> u64
     requires { ⌜ (holdsStore (now m) ≡ true) × (visibility .own ≤ length (flatOf (now m) .rows)) ⌝ }
-    ensures { λ r. ⌜ r ≡ verdict (keyTests new (flatOf (now (m .entry))) visibility) ⌝ }
+    ensures { λ r. ⌜ r ≡ verdict (foundTests new (flatOf (now (m .entry))) visibility) ⌝ }
 {
     if visibility.foreign {
         return 12;

@@ -12,7 +12,7 @@ from-append a zero k = let z : 0 + k ≡ k = omega arith in let y : a + 0 ≡ a 
 from-append a (suc j) k =
     let z : suc j + k ≡ suc (j + k) = omega arith in let y : a + suc j ≡ suc a + j = omega arith in rw (z, y, from-append (suc a) j k)
 
-all-from : (a k : ℕ) → AllOf (λ b. (a ≤ b) × (b < a + k)) (from a k)
+pub all-from : (a k : ℕ) → AllOf (λ b. (a ≤ b) × (b < a + k)) (from a k)
 unfolding from
 all-from a zero = tt
 all-from a (suc k) = ((omega arith, omega arith), all-map _ _ (λ b h. (omega arith, omega arith)) (from (suc a) k) (all-from (suc a) k))

@@ -6,7 +6,7 @@ use Rattle.block_forms.specs.Limits.{payloadLimit, mostNumber}
 use Rattle.image_rows.specs.Rows.{Row, openLimit}
 use Rattle.model.specs.State.{Store, Write, Outcome, Answer, refused, done}
 use Rattle.model.specs.Sight.{held, isForeign, versions, seenOf, seen}
-use Rattle.model.specs.Transactions.{unless, Test, gives, _when_, openNumbers, withOpen, openCall, notOpen, noTable, tooLong, foreign, present, unseen, full, argumentTests, tupleTests, writeTests, withTuple, writeCall, readSeen, readCall, listCall, committedPages, abortedPages, closing, commitCall, abortCall}
+use Rattle.model.specs.Transactions.{unless, Test, gives, _when_, openNumbers, withOpen, openCall, notOpen, noTable, tooLong, full, argumentTests, keyTest, keyTests, tupleTests, writeTests, withTuple, writeCall, readSeen, readCall, listCall, committedPages, abortedPages, closing, commitCall, abortCall}
 use Rattle.model.specs.Calls.{TransactionCall, opens, inserts, replaces, deletes, commits, aborts, reads, lists, transact, noEffect, startOf, writeOf, commitOf, abortOf, effect, TypedTuple, TypedCall, accepted}
 use Rattle.model.proofs.Lists.{leb-false, not-false}
 
@@ -83,13 +83,13 @@ Marks new false bs = Unit {0}
 
 module _ (c : TransactionCall) (s : Store) (tx t k : ℕ) (bs : List ℕ) (typed : TypedCall c → TypedTuple k bs) where
   marked : (new m : Bool) → Marks new m bs → Passed (tupleTests new tx t k s) → (isEmpty (versions t k (s .pages)) ≡ true → m ≡ false) × ((not m || isEmpty bs) ≡ true)
-  unfolding tupleTests foreign unseen seen if_then_else_
+  unfolding tupleTests keyTests keyTest seen
   marked new false q p = (λ e. refl, refl)
   marked true true q p = lie (sym (q .0))
   marked false true q p = (seen-some tx (versions t k (s .pages)) (not-false _ (p .1 .0)), q .1)
 
   key-passed : (new : Bool) → Passed (tupleTests new tx t k s) → (any (isForeign tx) (versions t k (s .pages)) ≡ false) × Passed (full s)
-  unfolding tupleTests foreign present unseen if_then_else_
+  unfolding tupleTests keyTests keyTest
   key-passed true p = (p .0, p .1 .1)
   key-passed false p = (p .0, p .1 .1)
 

@@ -16,4 +16,6 @@ traps-avoided = record {
   frozen-both = refl;
   not-joined = refl;
   joined-later = refl;
+  commit-alone = refl;
+  reading-answers = refl;
 }

@@ -1,4 +1,4 @@
--- The starred cases of the specification that are about the rules, as one table; worked runs of the four places where builds go
+-- The starred cases of the specification as one table; worked runs of the four places where builds go
 -- astray; runs that meet the refusals of make and of the calls; and one run cut at every store. All are proved in proofs/ by computation.
 use Prim.Native.Nat.{ℕ, zero, suc, _+_}
 use mathlib.Core.Path.{_≡_}
@@ -12,7 +12,7 @@ use Rattle.block_forms.specs.Limits.{mostNumber}
 use Rattle.block_forms.specs.Numbers.{num4, same}
 use Rattle.block_forms.specs.Tuple.{Owner, committed, tentative, Tuple, isTentative, ownerSize, size}
 use Rattle.block_forms.specs.Spell.{zeros, spell, bytesOf, padded as filledUp, blockOf}
-use Rattle.block_forms.specs.Block.{page, committedBit, markBit, ownerFields, payloadFields, recordFields, recordsFields, entryFields, encodeBlock}
+use Rattle.block_forms.specs.Block.{Block, header, page, committedBit, markBit, ownerFields, payloadFields, recordFields, recordsFields, entryFields, encodeBlock}
 use Rattle.block_forms.specs.Decode.{kind, spelledBy, readHeader, headerIn, readOwner, readMark, readTuple, recordLength, isRecord, readTuples, pageTable, pageCount, pageLevel, pageSpelled, pageIn, readEntries, directoryCount, directoryLevel, directoryIn, decodeBlock}
 use Rattle.image_rows.specs.Rows.{rowRules}
 use Rattle.image.specs.View.{blockAt, blockCount, view}
@@ -27,6 +27,7 @@ use Rattle.model.specs.Calls.{transact, effect, Call, transacts, begins,
 use Rattle.model.specs.Recover.{memoryFor, putBlock, imageAfter, freshStore, make, madeImage, loaded, reopened, recoveredStore, recoverPages, recoverBelow, recover}
 use Rattle.model.specs.Calls as calls
 use Rattle.model.specs.CrashRecovery.{Logged, tag, log, isHeader, landed, imageWith, content}
+use Rattle.model.specs.WellFormed.{WellFormed}
 
 -- ---- runs of calls
 
@@ -95,15 +96,27 @@ tuple n = record { key = 0; number = 0; owner = committed; mark = false; payload
 unfoldable pub samplePage : ℕ → ℕ → Page
 samplePage k n = fresh 0 (map withoutPending (replicate k (tuple 33) ++ tuple (33 + n) ∷ []))
 
--- a store of 512 blocks with p clean pages of one tuple each
+-- ten tuples of 53 bytes are split 5 and 5; one of 13 + n more on the second page, from which transaction 6 takes its four again
+unfoldable pub joining : ℕ → List Call
+joining n =
+    many 0 6 40 ++ (opens 6 ∷ inserts 6 0 6 (replicate 40 66) ∷ inserts 6 0 7 (replicate 40 66) ∷ inserts 6 0 8 (replicate 40 66)
+    ∷ inserts 6 0 9 (replicate 40 66) ∷ many 10 1 n ++ (aborts 6 ∷ []))
+
+-- a clean page of one tuple in block b
+unfoldable pub cleanPage : ℕ → Page
+cleanPage b =
+    record { table = 0; block = b; frozen = false; tuples = withoutPending (record { key = b; number = b; owner = committed; mark = false; payload = [] }) ∷ [] }
+
+-- A store of 512 blocks with p clean pages of one tuple each. (It is written down and shown to be well formed, since a run that comes to
+-- so many pages is too long for the prover to compute.)
 unfoldable pub clean : ℕ → Store
 clean p =
     record {
       blocks = 512;
       capacity = 1024;
       level = 1;
-      next = p;
-      pages = map (λ b. record { table = 0; block = b; frozen = false; tuples = withoutPending (tuple 0) ∷ [] }) (from 1 p);
+      next = suc p;
+      pages = map cleanPage (from 1 p);
       active = [];
       used = λ b. isIn b (from 1 p);
       taken = p;
@@ -114,26 +127,25 @@ clean p =
 unfoldable pub booking : List Call
 booking = opens 5 ∷ inserts 5 0 7 (0x41 ∷ 0x42 ∷ []) ∷ begins ∷ runs 9 8192 ∷ []
 
--- 39 tuples of 13 bytes; two of the first page are removed, and then the others are committed: two pages of 9 bytes a tuple
-unfoldable pub committedPages : List Call
-committedPages = opens 6 ∷ inserts 6 0 0 [] ∷ inserts 6 0 1 [] ∷ (many 2 37 0 ++ (aborts 6 ∷ commits 5 ∷ []))
+-- the bytes that its page block starts with: the page's head and its record
+unfoldable pub bookingBytes : List ℕ
+bookingBytes =
+    0x20 ∷ 0x08 ∷ 0x3C ∷ 0x00 ∷ 0x00 ∷ 0x00 ∷ 0x04 ∷ 0x00
+    ∷ 0x00 ∷ 0x00 ∷ 0x00 ∷ 0x07 ∷ 0x00 ∷ 0x00 ∷ 0x00 ∷ 0x00 ∷ 0x02 ∷ 0x00 ∷ 0x50 ∷ 0x00 ∷ 0x00 ∷ 0x41 ∷ 0x42 ∷ []
 
--- open 5, insert table 0, key 7, payload 41 42; read it; list
-unfoldable pub reading : List Call
-reading = opens 5 ∷ inserts 5 0 7 (0x41 ∷ 0x42 ∷ []) ∷ reads 5 0 7 9 ∷ lists 9 ∷ []
+-- the block is spelled by these bytes and then k zeros
+unfoldable pub spelled : Block → List ℕ → ℕ → Bool
+spelled x xs k = same (encodeBlock x) (xs ++ zeros k)
 
--- this block store spells these bytes and then zeros
-unfoldable pub spells : Write → ℕ → List ℕ → ℕ → Bool
-spells w at xs k = eqb (w .at) at && same (storedBytes w) (xs ++ zeros k)
+-- the first block store goes to that block and spells these bytes and then zeros
+unfoldable pub firstSpells : List Write → ℕ → List ℕ → ℕ → Bool
+firstSpells [] at xs k = false
+firstSpells (w ∷ ws) at xs k = eqb (w .at) at && spelled (w .what) xs k
 
--- the first block store
-unfoldable pub firstOf : List Write → (Write → Bool) → Bool
-firstOf [] f = false
-firstOf (w ∷ ws) f = f w
-
--- what the rules give, and what the specification says
+-- what the rules and the block forms give, and what the specification says, in its order
 pub record Cases : Type 0 where
-  -- empty store, 16 blocks, N 8: header 10 08 00 80, then zeros
+  -- empty store, 16 blocks, N 8: header 10 08 00 80, then zeros. As a block, and as make writes it
+  pub empty-block : spelled (header (headerFor (freshStore 16 8) 0 0 0 [])) (0x10 ∷ 0x08 ∷ 0x00 ∷ 0x80 ∷ []) 508 ≡ true
   pub empty-header : same (madeImage (replicate 8192 0xFF) 8) (0x10 ∷ 0x08 ∷ 0x00 ∷ 0x80 ∷ zeros 508 ++ replicate 7680 0xFF) ≡ true
   -- ten tentative payloads of 40: 530 bytes, split 5 and 5; nine: 477, no split
   pub ten : after5 (many 0 10 40) ≡ (5, 265) ∷ (5, 265) ∷ []
@@ -141,27 +153,35 @@ pub record Cases : Type 0 where
   -- 504 stays, 505 splits
   pub stays : after5 (many 0 9 40 ++ many 9 1 14) ≡ (10, 504) ∷ []
   pub splits : after5 (many 0 9 40 ++ many 9 1 15) ≡ (5, 265) ∷ (5, 240) ∷ []
-  -- sum 336 joins, 337 does not
+  -- sum 336 joins, 337 does not. As the rule says of two pages, and after the removals of an abort
   pub joins-336 : joins (samplePage 3 0) (samplePage 3 0) ≡ true
   pub joins-337 : joins (samplePage 3 0) (samplePage 3 1) ≡ false
-  -- direct commit never joins, though the sum is 333 then
-  pub commit-alone : after5 committedPages ≡ (18, 162) ∷ (19, 171) ∷ []
+  pub joined-336 : after5 (joining 5) ≡ (7, 336) ∷ []
+  pub apart-337 : after5 (joining 6) ≡ (5, 265) ∷ (2, 72) ∷ []
   -- frozen nine, ten more pending: 1,007 at thaw, pages of 5, 5, 9
   pub frozen-nineteen : after5 (many 10 9 40 ++ (begins ∷ many 20 10 40)) ≡ (19, 1007) ∷ []
   pub thawed : after5 (many 10 9 40 ++ (begins ∷ many 20 10 40 ++ (steps 8192 ∷ []))) ≡ (5, 265) ∷ (5, 265) ∷ (9, 477) ∷ []
-  -- 336 pages, none frozen: 2 stores; 337: 3; empty: 1
-  pub stores-336 : answers (begins ∷ []) (clean 336) ≡ count 2 ∷ []
-  pub stores-337 : answers (begins ∷ []) (clean 337) ≡ count 3 ∷ []
-  pub stores-empty : answers (begins ∷ []) (freshStore 16 8) ≡ count 1 ∷ []
-  -- a read answers the length and fills in the payload; a list answers how many, and two bytes for each, high byte first
-  pub reading-answers : answers reading (freshStore 16 8) ≡ done ∷ done ∷ filled 2 (0x41 ∷ 0x42 ∷ []) ∷ filled 1 (0 ∷ 5 ∷ []) ∷ []
-  -- the booking in the 16-block store: its answers and the bytes of page block 1
+  -- 336 pages, none frozen: 2 stores; 337: 3; empty: 1. As begin answers, and then a run that makes them all
+  pub well-336 : WellFormed (clean 336)
+  pub stores-336 : answers (begins ∷ runs 9 262144 ∷ []) (clean 336) ≡ count 2 ∷ count 2 ∷ []
+  pub well-337 : WellFormed (clean 337)
+  pub stores-337 : answers (begins ∷ runs 9 262144 ∷ []) (clean 337) ≡ count 3 ∷ count 3 ∷ []
+  pub stores-empty : answers (begins ∷ runs 9 8192 ∷ []) (freshStore 16 8) ≡ count 1 ∷ count 1 ∷ []
+  -- open 5, insert table 0, key 7, payload 41 42 into the 16-block store; checkpoint: page block 1 starts 20 08 3C 00 00 00 04 00 and
+  -- its record is 00 00 00 07 00 00 00 00 02 00 50 00 00 41 42. As a block, and as the step writes it
+  pub booking-block : spelled (page 0 1 (record { key = 7; number = 0; owner = tentative 5 0; mark = false; payload = 0x41 ∷ 0x42 ∷ [] } ∷ [])) bookingBytes 489 ≡ true
   pub booking-answers : answers booking (freshStore 16 8) ≡ done ∷ done ∷ count 3 ∷ count 3 ∷ []
-  pub booking-bytes : firstOf (writes booking (freshStore 16 8)) (λ w. spells w 1 (
-      0x20 ∷ 0x08 ∷ 0x3C ∷ 0x00 ∷ 0x00 ∷ 0x00 ∷ 0x04 ∷ 0x00
-      ∷ 0x00 ∷ 0x00 ∷ 0x00 ∷ 0x07 ∷ 0x00 ∷ 0x00 ∷ 0x00 ∷ 0x00 ∷ 0x02 ∷ 0x00 ∷ 0x50 ∷ 0x00 ∷ 0x00 ∷ 0x41 ∷ 0x42 ∷ []) 489) ≡ true
+  pub booking-bytes : firstSpells (writes booking (freshStore 16 8)) 1 bookingBytes 489 ≡ true
 
--- ---- where builds go astray: one worked run each
+-- ---- where builds go astray, one worked run each; a direct commit, a read and a list
+
+-- 39 tuples of 13 bytes; two of the first page are removed, and then the others are committed: two pages of 9 bytes a tuple
+unfoldable pub committedAll : List Call
+committedAll = opens 6 ∷ inserts 6 0 0 [] ∷ inserts 6 0 1 [] ∷ (many 2 37 0 ++ (aborts 6 ∷ commits 5 ∷ []))
+
+-- open 5, insert table 0, key 7, payload 41 42; read it; list
+unfoldable pub reading : List Call
+reading = opens 5 ∷ inserts 5 0 7 (0x41 ∷ 0x42 ∷ []) ∷ reads 5 0 7 9 ∷ lists 9 ∷ []
 
 -- the pages of what recovery gives
 unfoldable pub shapeOf : Stage Store → List (ℕ × ℕ)
@@ -224,6 +244,10 @@ pub record Traps : Type 0 where
   pub frozen-both : after5 bothFrozen ≡ (5, 245) ∷ (5, 245) ∷ []
   pub not-joined : after5 (bothFrozen ++ (steps 8192 ∷ [])) ≡ (1, 49) ∷ (5, 245) ∷ []
   pub joined-later : after5 (bothFrozen ++ (steps 8192 ∷ steps 8192 ∷ [])) ≡ (5, 245) ∷ []
+  -- direct commit never joins, though the sum is 333 then
+  pub commit-alone : after5 committedAll ≡ (18, 162) ∷ (19, 171) ∷ []
+  -- a read answers the length and fills in the payload; a list answers how many, and two bytes for each, high byte first
+  pub reading-answers : answers reading (freshStore 16 8) ≡ done ∷ done ∷ filled 2 (0x41 ∷ 0x42 ∷ []) ∷ filled 1 (0 ∷ 5 ∷ []) ∷ []
 
 -- ---- refusals: runs that meet those of make and of the calls (20 is met above), and where two tests hold, the one that comes first
 
@@ -330,5 +354,5 @@ pub record Cuts : Type 0 where
 
 -- opens all that the cases compute with: `unfolding cases`
 unfoldable pub cases : ℕ
-unfolding basics bitsOf numberOf bitsIn field num4 same isTentative ownerSize size spell bytesOf filledUp blockOf committedBit markBit ownerFields payloadFields recordFields recordsFields entryFields encodeBlock kind spelledBy readHeader headerIn readOwner readMark readTuple recordLength isRecord readTuples pageTable pageCount pageLevel pageSpelled pageIn readEntries directoryCount directoryLevel directoryIn decodeBlock rowRules blockAt blockCount view wholeBlocks blockOk isZero directoriesFor directoryBlocks unusedNumbers headerOk headerTest addEntries readDirectories entriesOk testedEntries directoryTest pageOk addPage readPages rowsOfPages testedPages pageTest headerStage pagesBelow pagesStage rules held rows isForeign versions seenOf seen gives unless changed openCall readSeen readCall listing listCall writeRules placeRules openNumbers isFor writtenBy without others commitCall abortCall storedStore isFree allocate freeCount usedToo isRunning blocksNeeded beginCall leftOf left made fill storable storePage storeDirectory headerFor storeHeader stepOf stepAt badImage stepCall inTurn runCall transact effect call isBegin effectOf withWriter writers accepted afterCalls hadWritten memoryFor putBlock freshStore make madeImage loaded reopened recoveredStore recoverPages recoverBelow recover tag log isHeader landed imageWith content answers writes shape many after5 tuple samplePage clean booking committedPages reading spells firstOf imageAfter shapeOf recoveredAfter places splitMeanwhile commitMeanwhile committedLate threeTimes oneAgain bothFrozen refusedCalls lastStore refusalOf ownerNumbers tupleNumbers heldNumbers pageNumbers agrees recoversTo tears cutHere cutEverywhere script scriptLog
+unfolding basics bitsOf numberOf bitsIn field num4 same isTentative ownerSize size spell bytesOf filledUp blockOf committedBit markBit ownerFields payloadFields recordFields recordsFields entryFields encodeBlock kind spelledBy readHeader headerIn readOwner readMark readTuple recordLength isRecord readTuples pageTable pageCount pageLevel pageSpelled pageIn readEntries directoryCount directoryLevel directoryIn decodeBlock rowRules blockAt blockCount view wholeBlocks blockOk isZero directoriesFor directoryBlocks unusedNumbers headerOk headerTest addEntries readDirectories entriesOk testedEntries directoryTest pageOk addPage readPages rowsOfPages testedPages pageTest headerStage pagesBelow pagesStage rules held rows isForeign versions seenOf seen gives unless changed openCall readSeen readCall listing listCall writeRules placeRules openNumbers isFor writtenBy without others commitCall abortCall storedStore isFree allocate freeCount usedToo isRunning blocksNeeded beginCall leftOf left made fill storable storePage storeDirectory headerFor storeHeader stepOf stepAt badImage stepCall inTurn runCall transact effect call isBegin effectOf withWriter writers accepted afterCalls hadWritten memoryFor putBlock freshStore make madeImage loaded reopened recoveredStore recoverPages recoverBelow recover tag log isHeader landed imageWith content answers writes shape many after5 tuple samplePage joining cleanPage clean booking bookingBytes spelled firstSpells committedAll reading imageAfter shapeOf recoveredAfter places splitMeanwhile commitMeanwhile committedLate threeTimes oneAgain bothFrozen refusedCalls lastStore refusalOf ownerNumbers tupleNumbers heldNumbers pageNumbers agrees recoversTo tears cutHere cutEverywhere script scriptLog
 cases = 0

@@ -88,18 +88,6 @@ noTable t = 10 when ltb 7 t
 unfoldable pub tooLong : ℕ → Test
 tooLong n = 11 when ltb payloadLimit n
 
--- 12 another open transaction has a tentative tuple of this key
-unfoldable pub foreign : ℕ → ℕ → ℕ → Store → Test
-foreign tx t k s = 12 when any (isForeign tx) (versions t k (s .pages))
-
--- 13 a tuple of this key not removed exists, own delete marks included
-unfoldable pub present : ℕ → ℕ → Store → Test
-present t k s = 13 when not (isEmpty (versions t k (s .pages)))
-
--- 14 key not seen
-unfoldable pub unseen : ℕ → ℕ → ℕ → Store → Test
-unseen tx t k s = 14 when not (isSome (seen tx t k s))
-
 -- 15 N tuples held; 16 next number is 4,294,967,295
 unfoldable pub full : Store → List Test
 full s = 15 when leb (s .capacity) (length (held (s .pages))) ∷ 16 when eqb (s .next) mostNumber ∷ []
@@ -108,9 +96,19 @@ full s = 15 when leb (s .capacity) (length (held (s .pages))) ∷ 16 when eqb (s
 unfoldable pub argumentTests : ℕ → ℕ → ℕ → Store → List Test
 argumentTests tx t n s = notOpen tx s ++ (noTable t ∷ tooLong n ∷ [])
 
--- those that look at the tuples: 13 is for a key that is to be new, 14 for another
+-- 13 for a key that is to be new: a tuple of it not removed exists, own delete marks included; 14 for another: it is not seen
+unfoldable pub keyTest : Bool → Bool → Bool → Test
+keyTest true there sees = 13 when there
+keyTest false there sees = 14 when not sees
+
+-- the tests by what there is of a key: 12 another open transaction has a tentative tuple of it; 13 or 14; 15; 16
+unfoldable pub keyTests : Bool → Bool → Bool → Bool → Store → List Test
+keyTests new foreign there sees s = 12 when foreign ∷ keyTest new there sees ∷ full s
+
+-- those of a write that look at the tuples
 unfoldable pub tupleTests : Bool → ℕ → ℕ → ℕ → Store → List Test
-tupleTests new tx t k s = foreign tx t k s ∷ (if new then present t k s else unseen tx t k s) ∷ full s
+tupleTests new tx t k s =
+    let vs = versions t k (s .pages) in keyTests new (any (isForeign tx) vs) (not (isEmpty vs)) (isSome (seen tx t k s)) s
 
 -- the tests of insert, replace and delete. (A delete has a payload of 0 bytes, for which 11 never holds.)
 unfoldable pub writeTests : Bool → ℕ → ℕ → ℕ → ℕ → Store → List Test
@@ -280,7 +278,7 @@ abortCall tx s = unless (notOpen tx s) s (closing tx (abortedPages tx (s .pages)
 
 -- opens the writes: `unfolding writeRules`
 unfoldable pub writeRules : ℕ
-unfolding oneMore withWrite notOpen noTable tooLong foreign present unseen full argumentTests tupleTests writeTests newTuple afterWrite withTuple writeCall
+unfolding oneMore withWrite notOpen noTable tooLong full argumentTests keyTest keyTests tupleTests writeTests newTuple afterWrite withTuple writeCall
 writeRules = 0
 
 -- opens what commit and abort plan and carry out: `unfolding placeRules`
