@@ -1,4 +1,4 @@
--- A directory is padded from the front.
+-- A directory is filled from the front.
 use Rattle.basics.proofs.Kit.{_≡_, refl, sym, ap, _∙_, List, [], _∷_, _++_, append-assoc, append-nil, ℕ, _+_, _*_, _≤_, _<_, add-one, length, take, getD, length-append, length-take}
 use Rattle.basics.proofs.Kit.{take-suc, arith}
 use Rattle.block_forms.specs.Limits.{entriesPerBlock}

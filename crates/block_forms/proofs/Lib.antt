@@ -8,4 +8,3 @@ pub mod ReadTuples
 pub mod Built
 pub mod ReadBack
 pub mod Laws
-pub mod Cases

@@ -172,7 +172,7 @@ spell-one : (f : ℕ × ℕ) → spell (f ∷ []) ≡ bitsOf (f .0) (f .1)
 unfolding spell
 spell-one f = append-nil (bitsOf (f .0) (f .1))
 
--- fields put one after another into a block that is padded from the front
+-- fields put one after another into a block that is filled from the front
 pub put-fields : (fs done : List (ℕ × ℕ)) (at : ℕ) → at ≡ length (spell done) → at + total fs ≤ 4096 → putAll (padded (spell done)) at fs ≡ padded (spell (done ++ fs))
 put-fields [] done at e h = ap (λ (l : List (ℕ × ℕ)). padded (spell l)) (sym (append-nil done))
 put-fields (f ∷ fs) done at e h =

@@ -6,4 +6,3 @@ pub mod Block
 pub mod Decode
 pub mod Bytes
 pub mod Laws
-pub mod Cases

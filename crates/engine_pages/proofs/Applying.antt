@@ -1,4 +1,4 @@
--- Pending operations applyPending: to one row, to the rows of a page, and the page that they leave.
+-- Pending operations applied: to one row, to the rows of a page, and the page that they leave.
 use Rattle.basics.proofs.Kit.{_≡_, refl, sym, ap, _∙_, subst, true, false, List, [], _∷_, _++_, append-assoc, append-nil, map, ℕ, suc, _+_, _≤_, _<_, _-_, add-one, length, take, drop, getD}
 use Rattle.basics.proofs.Kit.{set, length-append, length-drop, take-append-drop, length-set, set-split, take-at, drop-at, drop-cons, take-suc, getD-drop, length-take-le, getD-set-same}
 use Rattle.basics.proofs.Kit.{set-getD, set-set, arith}

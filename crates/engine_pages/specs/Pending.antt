@@ -1,4 +1,4 @@
--- Pending operations that are applyPending.
+-- Pending operations that are applied.
 use Prim.Native.Nat.{ℕ, _+_, _-_}
 use mathlib.Core.Path.{_≡_}
 use mathlib.Core.Bool.{Bool}
@@ -25,20 +25,20 @@ unfoldable pub appliedAll : List Held → List Held
 appliedAll [] = []
 appliedAll (h ∷ hs) = applyPending h ++ appliedAll hs
 
--- row i, on page p, is applyPending, and r rows are left of it
+-- row i, on page p, is applied, and r rows are left of it
 pub record AppliesOne (m m' : List ℕ) (p i r : ℕ) : Type 0 where
   pub count : r ≡ length (applyPending (rowIn (flatOf m) i))
   pub becomes : Becomes m m' (withEntries (withRows (flatOf m) (take i (flatOf m .rows) ++ (applyPending (rowIn (flatOf m) i) ++ drop (i + 1) (flatOf m .rows))))
       (set (flatOf m .entries) p (withCount (entryOf m p) (entryOf m p .count - 1 + r))))
 
--- the rows of page p are applyPending, and r are left, perhaps none
+-- the rows of page p are applied, and r are left, perhaps none
 pub record Applies (m m' : List ℕ) (p r : ℕ) : Type 0 where
   pub count : r ≡ length (appliedAll (tuplesAt m p))
   pub becomes : Becomes m m' (withEntries (withRows (flatOf m)
       (take (firstRow m p) (flatOf m .rows) ++ (appliedAll (tuplesAt m p) ++ drop (firstRow m p + entryOf m p .count) (flatOf m .rows))))
       (set (flatOf m .entries) p (withCount (entryOf m p) r)))
 
--- the pending operations of page p are applyPending, and r tuples are left; an empty page is dropped
+-- the pending operations of page p are applied, and r tuples are left; an empty page is dropped
 pub record Applied (m m' : List ℕ) (p r : ℕ) : Type 0 where
   pub count : r ≡ length (appliedAll (tuplesAt m p))
   pub none-left : r ≡ 0 → PagesNow m m' (swapped p [] (pagesOf m))

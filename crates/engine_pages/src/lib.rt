@@ -3,140 +3,32 @@
 use block_forms::PageLayout;
 use memory_rows::Pending;
 use memory_rows::Row;
+
+mod measures;
+
+use measures::half;
+use measures::has_pending;
+use measures::is_adding;
+use measures::is_committing;
+use measures::is_removing;
+use measures::rows_size;
+use measures::small_enough;
 ghost use mathlib.Core.Path.{_≡_};
 ghost use mathlib.Core.Bool.{true, false};
 ghost use mathlib.Core.List.{_∷_, [], _++_, map};
-ghost use Prim.Native.Nat.{_+_, _-_, _≤_, _<_};
+ghost use Prim.Native.Nat.{_+_, _-_, _<_};
 ghost use lib.ListN.{length, take, drop};
-ghost use lib.Dec.{leb};
-ghost use Rattle.basics.specs.Basics.{sum, any};
-ghost use Rattle.block_forms.specs.Limits.{joinSum};
-ghost use Rattle.model.specs.Rules.{heldSize, lead, fresh, withTuples, joins, isAdding, isCommitting, isRemoving, splitAll, freeze, withoutPending, applied, thaw, place};
+ghost use Rattle.basics.specs.Basics.{any};
+ghost use Rattle.model.specs.Rules.{fresh, withTuples, joins, splitAll, freeze, withoutPending, applied, thaw, place};
 ghost use Rattle.model.specs.Places.{pendRemoveAt, removeRow, committedAt, commitRow};
 ghost use Rattle.memory_layout.specs.Flat.{flatOf, rowIn, Room, Becomes};
 ghost use Rattle.memory_rows.specs.Rows.{withRow};
 ghost use Rattle.memory_pages.specs.Pages.{MayLose};
 ghost use Rattle.memory_layout.specs.Store.{holdsStore, storeOf, HoldsNow};
-ghost use Rattle.engine_pages.specs.Pages.{withPages, PagesNow, pagesOf, pageAt, tuplesAt, entryOf, firstRow, rowsFrom, Span, There, RowOn, swapped};
+ghost use Rattle.engine_pages.specs.Pages.{withPages, PagesNow, pagesOf, pageAt, tuplesAt, entryOf, firstRow, There, RowOn, swapped};
 ghost use Rattle.engine_pages.specs.Changes.{Dirty, Halved, Tries, settledAt, settledNext, settledBy, lessOne};
-ghost use Rattle.engine_pages.specs.Pending.{waits, AppliesOne, Applies, Applied, FirstFrozen};
+ghost use Rattle.engine_pages.specs.Pending.{AppliesOne, Applies, Applied, FirstFrozen};
 ghost use Rattle.engine_pages.specs.Spots.{tupleBy, placedOn, GrowAt, AddAt, PlaceAt};
-
-// ---- sizes
-
-// The size of the rows from s up to e.
-fn rows_size(m: &[u8], s: usize, e: usize) -> usize
-    requires { ⌜ Span (now m) s e ⌝ }
-    ensures { λ r. ⌜ r ≡ sum heldSize (rowsFrom (now (m .entry)) s e) ⌝ }
-{
-    let mut all: usize = 0;
-    let mut i = s;
-    while i < e {
-        all += memory_rows::size_at(m, i);
-        i += 1;
-    }
-    all
-}
-
-// How many of the rows from s up to e: the shortest run whose doubled size reaches the whole.
-fn half(m: &[u8], s: usize, e: usize, whole: usize) -> usize
-    requires { ⌜ Span (now m) s e ⌝ }
-    ensures { λ r. ⌜ r ≡ lead whole 0 (rowsFrom (now (m .entry)) s e) ⌝ }
-{
-    let mut all: usize = 0;
-    let mut i = s;
-    while i < e {
-        all += memory_rows::size_at(m, i);
-        if whole <= 2 * all {
-            return i + 1 - s;
-        }
-        i += 1;
-    }
-    e - s
-}
-
-// The rows from s up to e, those of two pages, are small enough for one. The sum goes no further than where it is too large.
-fn small_enough(m: &[u8], s: usize, e: usize) -> bool
-    requires { ⌜ Span (now m) s e ⌝ }
-    ensures { λ r. ⌜ r ≡ leb (sum heldSize (rowsFrom (now (m .entry)) s e)) joinSum ⌝ }
-{
-    let mut all: usize = 0;
-    let mut i = s;
-    while i < e {
-        let w = memory_rows::size_at(m, i);
-        if !PageLayout::joins(all, w) {
-            return false;
-        }
-        all += w;
-        i += 1;
-    }
-    true
-}
-
-// ---- pending operations
-
-fn is_adding(m: &[u8], i: usize) -> bool
-    requires { ⌜ Room (now m) × (i < length (flatOf (now m) .rows)) ⌝ }
-    ensures { λ r. ⌜ r ≡ isAdding (rowIn (flatOf (now (m .entry))) i .pending) ⌝ }
-{
-    match memory_rows::pending_at(m, i) {
-        Pending::Nothing => false,
-        Pending::Adding => true,
-        Pending::Committing => false,
-        Pending::Removing => false,
-    }
-}
-
-fn is_committing(m: &[u8], i: usize) -> bool
-    requires { ⌜ Room (now m) × (i < length (flatOf (now m) .rows)) ⌝ }
-    ensures { λ r. ⌜ r ≡ isCommitting (rowIn (flatOf (now (m .entry))) i .pending) ⌝ }
-{
-    match memory_rows::pending_at(m, i) {
-        Pending::Nothing => false,
-        Pending::Adding => false,
-        Pending::Committing => true,
-        Pending::Removing => false,
-    }
-}
-
-fn is_removing(m: &[u8], i: usize) -> bool
-    requires { ⌜ Room (now m) × (i < length (flatOf (now m) .rows)) ⌝ }
-    ensures { λ r. ⌜ r ≡ isRemoving (rowIn (flatOf (now (m .entry))) i .pending) ⌝ }
-{
-    match memory_rows::pending_at(m, i) {
-        Pending::Nothing => false,
-        Pending::Adding => false,
-        Pending::Committing => false,
-        Pending::Removing => true,
-    }
-}
-
-fn is_pending(m: &[u8], i: usize) -> bool
-    requires { ⌜ Room (now m) × (i < length (flatOf (now m) .rows)) ⌝ }
-    ensures { λ r. ⌜ r ≡ waits (rowIn (flatOf (now (m .entry))) i) ⌝ }
-{
-    match memory_rows::pending_at(m, i) {
-        Pending::Nothing => false,
-        Pending::Adding => true,
-        Pending::Committing => true,
-        Pending::Removing => true,
-    }
-}
-
-// Whether a row of page p has a pending operation: no branch, since nearly no row has one.
-fn has_pending(m: &[u8], p: usize) -> bool
-    requires { ⌜ There (now m) p ⌝ }
-    ensures { λ r. ⌜ r ≡ any waits (tuplesAt (now (m .entry)) p) ⌝ }
-{
-    let e = memory_pages::start_of(m, p + 1);
-    let mut hit = false;
-    let mut i = memory_pages::start_of(m, p);
-    while i < e {
-        hit = hit | is_pending(m, i);
-        i += 1;
-    }
-    hit
-}
 
 // ---- joining
 

@@ -1,32 +1,43 @@
 // The rows of the working memory, in list order as three columns: key, slot with pending operation, state. Number, owner and payload
 // stand in slots that never move while a row lives. docs/LAYOUT.md says what stands where. Above this crate a row has typed values only.
+mod places;
+mod shifts;
+mod slots;
+
 use block_forms::Owner;
 use block_forms::PageLayout;
 use memory_bytes::Span;
+use places::capacity;
+use places::key_place;
+use places::keys_at;
+use places::ref_at;
+use places::ref_place;
+use places::refs_at;
+use places::row_count;
+use places::slot_at;
+use places::slot_place;
+use places::state_at;
+use places::state_place;
+use places::states_at;
+use shifts::lower_rows;
+use shifts::raise_rows;
+use slots::free_slot;
 ghost use mathlib.Core.Path.{_≡_};
 ghost use mathlib.Core.Bool.{false};
-ghost use mathlib.Core.List.{List, _∷_, [], _++_};
-ghost use Prim.Native.Nat.{ℕ, _+_, _*_, _-_, _≤_, _<_};
+ghost use mathlib.Core.List.{_∷_, [], _++_};
+ghost use Prim.Native.Nat.{_+_, _*_, _-_, _≤_, _<_};
 ghost use lib.ListN.{length, take, drop};
 ghost use Rattle.basics.specs.Basics.{any};
 ghost use Rattle.block_forms.specs.Limits.{payloadLimit, mostRecord};
 ghost use Rattle.image_rows.specs.Rows.{isBy};
 ghost use Rattle.model.specs.Rules.{heldSize, withPending};
 ghost use Rattle.memory_bytes.specs.Columns.{tab, insertAt, removeAt, firstIndex, lastIndex, equals, upTo, Covers};
-ghost use Rattle.memory_layout.specs.Places.{slotSize, keysAt, refsAt, statesAt};
-ghost use Rattle.memory_layout.specs.Views.{lengthOf, slotOf, slotPlace, refOf, stateOf, pendingOf};
-ghost use Rattle.memory_layout.specs.Flat.{flatOf, capacityOf, rowIn, Room, Becomes};
+ghost use Rattle.memory_layout.specs.Places.{slotSize};
+ghost use Rattle.memory_layout.specs.Views.{lengthOf, slotPlace, pendingOf};
+ghost use Rattle.memory_layout.specs.Flat.{flatOf, rowIn, Room, Becomes};
 ghost use Rattle.block_forms.specs.Bytes.{ownerIs};
 ghost use Rattle.memory_rows.specs.Rows.{pendingIs, heldBy, committedRow, isLiveOwn, isOwned, withRow, keyIn, Holds, Copied, NewRow, RowsOnly};
-ghost use Rattle.memory_rows.specs.Cells.{codeOf, keepsOwner, slotIn, slotAt, isTaken, InOrder, Capacity, ColumnsFit, EightFits, EightOf, EightPut, RowsRaised, RowsLowered, CellsPut, SlotFilled};
-
-// Where the head has the capacity, and how many rows there are.
-const CAPACITY_AT: usize = 4;
-
-const ROWS_AT: usize = 32;
-
-// The columns stand behind the head.
-const HEAD_SIZE: usize = 1024;
+ghost use Rattle.memory_rows.specs.Cells.{codeOf, keepsOwner, InOrder, ColumnsFit, CellsPut, SlotFilled};
 
 // Number, owner and payload of a row.
 const SLOT_SIZE: usize = 72;
@@ -58,109 +69,6 @@ pub struct Row {
 pub struct Part {
     pub start: usize,
     pub len: usize,
-}
-
-// ---- places
-
-fn capacity(m: &[u8]) -> usize
-    requires { ⌜ Room (now m) ⌝ }
-    ensures { λ r. ⌜ Capacity (now (m .entry)) r ⌝ }
-{
-    memory_bytes::get4(m, CAPACITY_AT) as usize
-}
-
-fn row_count(m: &[u8]) -> usize
-    requires { ⌜ Room (now m) ⌝ }
-    ensures { λ r. ⌜ r ≡ length (flatOf (now (m .entry)) .rows) ⌝ }
-{
-    memory_bytes::get4(m, ROWS_AT) as usize
-}
-
-fn keys_at(c: usize) -> usize
-    requires { ⌜ c ≤ 1024 ⌝ }
-    ensures { λ r. ⌜ r ≡ keysAt c ⌝ }
-{
-    HEAD_SIZE + c * 72
-}
-
-fn refs_at(c: usize) -> usize
-    requires { ⌜ c ≤ 1024 ⌝ }
-    ensures { λ r. ⌜ r ≡ refsAt c ⌝ }
-{
-    HEAD_SIZE + c * 76
-}
-
-fn states_at(c: usize) -> usize
-    requires { ⌜ c ≤ 1024 ⌝ }
-    ensures { λ r. ⌜ r ≡ statesAt c ⌝ }
-{
-    HEAD_SIZE + c * 78
-}
-
-// Where slot s stands.
-fn slot_at(s: usize) -> usize
-    requires { ⌜ s < 1024 ⌝ }
-    ensures { λ r. ⌜ r ≡ slotPlace s ⌝ }
-{
-    HEAD_SIZE + s * SLOT_SIZE
-}
-
-// The slot that a number of two bytes names: slot 0 for one that is not there.
-fn slot_of(c: usize, r: u16) -> usize
-    requires { ⌜ 1 ≤ c ⌝ }
-    ensures { λ s. ⌜ (s ≡ slotOf c r) × (s < c) ⌝ }
-{
-    let s = (r % SLOT_LIMIT) as usize;
-    if s < c {
-        return s;
-    }
-    0
-}
-
-// Where the key of row i stands.
-fn key_place(m: &[u8], i: usize) -> usize
-    requires { ⌜ Room (now m) × (i < length (flatOf (now m) .rows)) ⌝ }
-    ensures { λ r. ⌜ (r ≡ keysAt (capacityOf (now (m .entry))) + i * 4) × (r + 4 ≤ length (now (m .entry))) ⌝ }
-{
-    keys_at(capacity(m)) + i * 4
-}
-
-// Where the two bytes of row i stand that name its slot and its pending operation.
-fn ref_place(m: &[u8], i: usize) -> usize
-    requires { ⌜ Room (now m) × (i < length (flatOf (now m) .rows)) ⌝ }
-    ensures { λ r. ⌜ (r ≡ refsAt (capacityOf (now (m .entry))) + i * 2) × (r + 2 ≤ length (now (m .entry))) ⌝ }
-{
-    refs_at(capacity(m)) + i * 2
-}
-
-// Where the state of row i stands: committed, delete mark and the payload's length.
-fn state_place(m: &[u8], i: usize) -> usize
-    requires { ⌜ Room (now m) × (i < length (flatOf (now m) .rows)) ⌝ }
-    ensures { λ r. ⌜ (r ≡ statesAt (capacityOf (now (m .entry))) + i) × (r < length (now (m .entry))) ⌝ }
-{
-    states_at(capacity(m)) + i
-}
-
-fn ref_at(m: &[u8], i: usize) -> u16
-    requires { ⌜ Room (now m) × (i < length (flatOf (now m) .rows)) ⌝ }
-    ensures { λ r. ⌜ r ≡ refOf (now (m .entry)) (capacityOf (now (m .entry))) i ⌝ }
-{
-    memory_bytes::get2(m, ref_place(m, i))
-}
-
-fn state_at(m: &[u8], i: usize) -> u8
-    requires { ⌜ Room (now m) × (i < length (flatOf (now m) .rows)) ⌝ }
-    ensures { λ r. ⌜ r ≡ stateOf (now (m .entry)) (capacityOf (now (m .entry))) i ⌝ }
-{
-    m[state_place(m, i)]
-}
-
-// Where the slot of row i stands.
-fn slot_place(m: &[u8], i: usize) -> usize
-    requires { ⌜ Room (now m) × (i < length (flatOf (now m) .rows)) ⌝ }
-    ensures { λ r. ⌜ (r ≡ slotPlace (slotAt (now (m .entry)) i)) × (r + slotSize ≤ length (now (m .entry))) ⌝ }
-{
-    slot_at(slot_of(capacity(m), ref_at(m, i)))
 }
 
 // ---- reads
@@ -377,63 +285,6 @@ pub fn span_equal(m: &[u8], s: usize, e: usize, key: u32) -> Span
     memory_bytes::search::span_equal(m, keys_at(capacity(m)), s, e, key)
 }
 
-// ---- a slot that no row is in
-
-// Whether one of the n rows is in slot 0: also one whose number is not below the capacity.
-fn zero_taken(m: &[u8], c: usize, n: usize) -> bool
-    requires { ⌜ (1 ≤ c) × ((c ≤ 1024) × (refsAt c + n * 2 ≤ length (now m))) ⌝ }
-    ensures { λ r. ⌜ r ≡ any (equals 0) (tab (slotIn (now (m .entry)) c) 0 n) ⌝ }
-{
-    let a = refs_at(c);
-    let mut hit = false;
-    let mut i: usize = 0;
-    while i < n {
-        hit = hit | (slot_of(c, memory_bytes::get2(m, a + i * 2)) == 0);
-        i += 1;
-    }
-    hit
-}
-
-// Whether a row is in slot s.
-fn is_taken(m: &[u8], s: u16) -> bool
-    requires { ⌜ Room (now m) × (s < capacityOf (now m)) ⌝ }
-    ensures { λ r. ⌜ r ≡ isTaken (now (m .entry)) s ⌝ }
-{
-    let c = capacity(m);
-    let n = row_count(m);
-    if s == 0 {
-        return zero_taken(m, c, n);
-    }
-    memory_bytes::names16(m, refs_at(c), n, s)
-}
-
-// The first slot that no row is in: there is one, since there are fewer rows than slots.
-fn search_slot(m: &[u8]) -> u16
-    requires { ⌜ Room (now m) × (length (flatOf (now m) .rows) < capacityOf (now m)) ⌝ }
-    ensures { λ r. ⌜ (r < capacityOf (now (m .entry))) × (isTaken (now (m .entry)) r ≡ false) ⌝ }
-{
-    let mut s: u16 = 0;
-    while is_taken(m, s) {
-        s += 1;
-    }
-    s
-}
-
-// A slot that no row is in: the one noted behind the rows, if it is one.
-fn free_slot(m: &[u8]) -> u16
-    requires { ⌜ Room (now m) × (length (flatOf (now m) .rows) < capacityOf (now m)) ⌝ }
-    ensures { λ r. ⌜ (r < capacityOf (now (m .entry))) × (isTaken (now (m .entry)) r ≡ false) ⌝ }
-{
-    let c = capacity(m);
-    let s = memory_bytes::get2(m, refs_at(c) + row_count(m) * 2) % SLOT_LIMIT;
-    if (s as usize) < c {
-        if !is_taken(m, s) {
-            return s;
-        }
-    }
-    search_slot(m)
-}
-
 // ---- changes of the number of rows
 
 // The cells of eight rows that stand behind each other.
@@ -441,117 +292,6 @@ struct Eight {
     keys: [u8; 32],
     refs: [u8; 16],
     states: [u8; 8],
-}
-
-// Those of the rows from row i on.
-fn take_eight(m: &[u8], c: usize, i: usize) -> Eight
-    requires { ⌜ ColumnsFit (now m) c × (i + 8 ≤ c) ⌝ }
-    ensures { λ r. ⌜ EightOf (now (m .entry)) c i r ⌝ }
-{
-    let mut keys = [0u8; 32];
-    let mut refs = [0u8; 16];
-    let mut states = [0u8; 8];
-    memory_bytes::copy_out(m, keys_at(c) + i * 4, 32, &mut keys);
-    memory_bytes::copy_out(m, refs_at(c) + i * 2, 16, &mut refs);
-    memory_bytes::copy_out(m, states_at(c) + i, 8, &mut states);
-    Eight {
-        keys: keys,
-        refs: refs,
-        states: states,
-    }
-}
-
-// They become the cells of the rows from row k on.
-fn give_eight(m: &mut [u8], c: usize, k: usize, rows: Eight)
-    requires { ⌜ ColumnsFit (now m) c × ((k + 8 ≤ c) × EightFits rows) ⌝ }
-    ensures { λ _. ⌜ ((m₀ : List ℕ) (i : ℕ) → EightOf m₀ c i rows → EightPut m₀ (now (m .entry)) (now (m .exit)) c i k) ⌝ }
-{
-    let keys = rows.keys;
-    let refs = rows.refs;
-    let states = rows.states;
-    memory_bytes::write(m, keys_at(c) + k * 4, &keys);
-    memory_bytes::write(m, refs_at(c) + k * 2, &refs);
-    memory_bytes::write(m, states_at(c) + k, &states);
-}
-
-// The rows from row k on get the cells of the eight from row i on, as they were.
-fn copy_eight(m: &mut [u8], c: usize, i: usize, k: usize)
-    requires { ⌜ ColumnsFit (now m) c × ((i + 8 ≤ c) × (k + 8 ≤ c)) ⌝ }
-    ensures { λ _. ⌜ EightPut (now (m .entry)) (now (m .entry)) (now (m .exit)) c i k ⌝ }
-{
-    let keys = keys_at(c);
-    let refs = refs_at(c);
-    let states = states_at(c);
-    memory_bytes::copy32(m, keys + i * 4, keys + k * 4);
-    memory_bytes::copy16(m, refs + i * 2, refs + k * 2);
-    memory_bytes::copy8(m, states + i, states + k);
-}
-
-// Of n rows, those from row i on, eight or more, go one up: by blocks whose new place is a multiple of eight, from the last one down. The
-// first and the last eight are read before and written after them, so that the blocks need not meet the ends.
-fn raise_eights(m: &mut [u8], c: usize, i: usize, n: usize)
-    requires { ⌜ ColumnsFit (now m) c × ((i + 8 ≤ n) × (n < c)) ⌝ }
-    ensures { λ _. ⌜ RowsRaised (now (m .entry)) (now (m .exit)) c i n ⌝ }
-{
-    let first = take_eight(m, c, i);
-    let last = take_eight(m, c, n - 8);
-    let mut k = (n + 1) / 8 * 8 - 1;
-    while i + 8 < k {
-        k -= 8;
-        copy_eight(m, c, k, k + 1);
-    }
-    give_eight(m, c, i + 1, first);
-    give_eight(m, c, n - 7, last);
-}
-
-// Of n rows, those behind row i, eight or more, go one down: by blocks whose new place is a multiple of eight, from the first one up.
-fn lower_eights(m: &mut [u8], c: usize, i: usize, n: usize)
-    requires { ⌜ ColumnsFit (now m) c × ((i + 9 ≤ n) × (n ≤ c)) ⌝ }
-    ensures { λ _. ⌜ RowsLowered (now (m .entry)) (now (m .exit)) c i n ⌝ }
-{
-    let first = take_eight(m, c, i + 1);
-    let last = take_eight(m, c, n - 8);
-    let mut k = (i + 7) / 8 * 8;
-    while k + 9 < n {
-        copy_eight(m, c, k + 1, k);
-        k += 8;
-    }
-    give_eight(m, c, i, first);
-    give_eight(m, c, n - 9, last);
-}
-
-// Of n rows, those from row i on go one up.
-fn raise_rows(m: &mut [u8], c: usize, i: usize, n: usize)
-    requires { ⌜ ColumnsFit (now m) c × ((i ≤ n) × (n < c)) ⌝ }
-    ensures { λ _. ⌜ RowsRaised (now (m .entry)) (now (m .exit)) c i n ⌝ }
-{
-    if i + 8 <= n {
-        raise_eights(m, c, i, n);
-        return;
-    }
-    let k = keys_at(c);
-    let r = refs_at(c);
-    let s = states_at(c);
-    memory_bytes::up4(m, k + i * 4, k + n * 4);
-    memory_bytes::up2(m, r + i * 2, r + n * 2);
-    memory_bytes::up1(m, s + i, s + n);
-}
-
-// Of n rows, those behind row i go one down.
-fn lower_rows(m: &mut [u8], c: usize, i: usize, n: usize)
-    requires { ⌜ ColumnsFit (now m) c × ((i < n) × (n ≤ c)) ⌝ }
-    ensures { λ _. ⌜ RowsLowered (now (m .entry)) (now (m .exit)) c i n ⌝ }
-{
-    if i + 9 <= n {
-        lower_eights(m, c, i, n);
-        return;
-    }
-    let k = keys_at(c);
-    let r = refs_at(c);
-    let s = states_at(c);
-    memory_bytes::down4(m, k + i * 4, k + n * 4);
-    memory_bytes::down2(m, r + i * 2, r + n * 2);
-    memory_bytes::down1(m, s + i, s + n);
 }
 
 // The cells of row i.

@@ -1,4 +1,4 @@
--- Commit and abort on the liveRows rows, in closed form: what becomes of each row.
+-- Commit and abort on the live rows, in closed form: what becomes of each row.
 use Rattle.basics.proofs.Kit.{_≡_, refl, sym, ap, _∙_, subst, ap₂, _≢_, Bool, true, false, _&&_, not, some, none, Option, List, [], _∷_, _++_, append-nil, ℕ, eqb}
 use Rattle.basics.specs.Basics.{if_then_else_, keep, any, last}
 use Rattle.basics.proofs.Facts.{by, AllOf, and-true, lie, by-option}
@@ -295,7 +295,7 @@ unfolding gather
 gather-ext F G [] h = refl
 gather-ext F G (r ∷ rs) h = rw (h .0, gather-ext F G rs (h .1))
 
--- commit and abort, on the liveRows rows
+-- commit and abort, on the live rows
 unfoldable pub afterCommit : ℕ → List Row → Row → List Row
 afterCommit tx all r = verdict (last (ownAt tx (r .0) (r .1 .key)) all) r
 

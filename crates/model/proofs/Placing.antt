@@ -313,7 +313,7 @@ module _ (t : ℕ) (x : Tuple) where
       (λ n. rw (n, place) (placeFront-put ps (placeAfter-clear t x ps n) o s))
       (λ qs n. let r = placeAfter-put ps qs n o s in rw (n, place) (r .0, r .1, r .2 .put))
 
--- ---- what is held, and what is liveRows
+-- ---- what is held, and what is live
 
 low-live : (t k : ℕ) (es : List Entry) → AllOf (NotAbove t k) (plain es) → AllOf (NotAbove t k) (liveRows es)
 low-live t k es a =

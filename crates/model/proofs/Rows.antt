@@ -1,4 +1,4 @@
--- The rows of the pages, held and liveRows, as two images of one list of entries; and what each rule on pages does to them.
+-- The rows of the pages, held and live, as two images of one list of entries; and what each rule on pages does to them.
 use Rattle.basics.proofs.Kit.{_≡_, refl, sym, ap, _∙_, subst, _≢_, Bool, true, false, some, none, Option, List, [], _∷_, _++_, append-assoc, append-nil, map, ℕ, _≤_, _<_, eqb, length, arith}
 use Rattle.basics.specs.Basics.{if_then_else_, isEmpty, any}
 use Rattle.basics.proofs.Facts.{by, lie, and-true, AllOf}
@@ -32,7 +32,7 @@ asRow e = (e .0, e .1 .tuple)
 abbrev pub plain : List Entry → List Row
 plain es = map asRow es
 
--- liveRows: pending operations taken as done
+-- live: pending operations taken as done
 unfoldable pub liveRows : List Entry → List Row
 liveRows [] = []
 liveRows (e ∷ es) = if isRemoving (e .1 .pending) then liveRows es else (e .0, applied (e .1)) ∷ liveRows es
@@ -172,7 +172,7 @@ sub-pairs R f (skip s) h = sub-pairs R f s (h .1)
 sub-pairs R f (take {a} {b} e s) h =
     (sub-all (R b) (R a) (λ c d g r. f a b c d e g r) s (h .0), sub-pairs R f s (h .1))
 
--- the liveRows rows among those held
+-- the live rows among those held
 pub live-sub : (es : List Entry) → Sub (liveRows es) (plain es)
 unfolding liveRows if_then_else_ applied asCommitted
 live-sub [] = empty
@@ -205,14 +205,14 @@ module _ (P : List Entry → List Entry → Type 0) (hit : Page → Bool) (f : O
       by (hit p) (λ e. rw (e, around) (here o p ps h e k))
       (λ e. rw (e, around, entries-append (listOf o), entries-append (listOf o)) (past-list (listOf o) h _ _ (around-held (some p) ps (e, tt) (k .1))))
 
--- ---- thawing: the liveRows rows stay
+-- ---- thawing: the live rows stay
 
 withoutPending-plain : (t : ℕ) (xs : List Tuple) → (plain (withTable t (map withoutPending xs)) ≡ rowsOf t xs) × (liveRows (withTable t (map withoutPending xs)) ≡ rowsOf t xs)
 unfolding liveRows withTable rowsOf withoutPending if_then_else_ applied isRemoving isCommitting
 withoutPending-plain t [] = (refl, refl)
 withoutPending-plain t (x ∷ xs) = let r = withoutPending-plain t xs in (rw (r .0), rw (r .1))
 
--- b became a: among b's rows, and the same liveRows ones
+-- b became a: among b's rows, and the same live ones
 abbrev Still : List Entry → List Entry → Type 0
 Still a b = Sub (plain a) (plain b) × (liveRows a ≡ liveRows b)
 
@@ -268,7 +268,7 @@ unfolding thaw listOf liveRows entries
 still-thaw b ps a = around-held Still isFrozen (thawOn b) (empty, refl)
     (λ p h a b s. let c = withTable (p .table) (p .tuples) in still-append c c a b (still-refl c) s) (λ o p ps h k ok. still-thawOn b o p ps (ok .0)) none ps tt a
 
--- ---- removing and committing: the liveRows row of that number is taken away, or committed
+-- ---- removing and committing: the live row of that number is taken away, or committed
 
 unfoldable pub amend : (Row → List Row) → ℕ → List Row → List Row
 amend G n [] = []
@@ -287,7 +287,7 @@ Differ a b = a .1 .number ≢ b .1 .number
 abbrev pub Apart : Entry → Entry → Type 0
 Apart a b = Differ (asRow a) (asRow b)
 
--- a liveRows row is its tuple but for the owner
+-- a live row is its tuple but for the owner
 pub applied-is : (h : Held) → applied h ≡ record { key = h .tuple .key; number = h .tuple .number; owner = applied h .owner; mark = h .tuple .mark; payload = h .tuple .payload }
 unfolding applied asCommitted if_then_else_
 applied-is h = by (isCommitting (h .pending)) (λ k. rw k) (λ k. rw k)
@@ -308,7 +308,7 @@ differ-off : (n : ℕ) (r : Entry) (rs : List Entry) → isNumber n (r .1) ≡ t
 unfolding isNumber
 differ-off n r rs h a = all-map _ _ (λ s d. by (eqb (s .1 .tuple .number) n) (λ k. absurd (d (eqb-true _ n h ∙ sym (eqb-true _ n k)))) (λ k. k)) rs a
 
--- what is done to a tuple on its page, g, and what that does to its liveRows row, G
+-- what is done to a tuple on its page, g, and what that does to its live row, G
 record Edits (g : Held → List Held) (G : Row → List Row) : Type 0 where
   dead : (t : ℕ) (x : Held) → isRemoving (x .pending) ≡ true → liveRows (withTable t (g x)) ≡ []
   alive : (t : ℕ) (x : Held) → isRemoving (x .pending) ≡ false → liveRows (withTable t (g x)) ≡ G (t, applied x)

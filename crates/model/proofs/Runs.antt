@@ -1,4 +1,4 @@
--- Runs of neighbours of one key: on rising tuples a run has all liveRows rows of its key.
+-- Runs of neighbours of one key: on rising tuples a run has all live rows of its key.
 use Rattle.basics.proofs.Kit.{_≡_, refl, sym, ap, _∙_, subst, ap₂, Bool, true, false, List, [], _∷_, _++_, append-assoc, append-nil, map, ℕ, suc, _+_, arith}
 use Rattle.basics.specs.Basics.{if_then_else_, keep}
 use Rattle.basics.proofs.Lists.{map-append}
@@ -11,9 +11,9 @@ use Rattle.model.proofs.Rows.{Entry, liveRows, applied-is}
 use Rattle.model.proofs.Placing.{Before}
 use Rattle.model.proofs.Fate.{With, with-self, with-as, with-sym, at-split, at-join}
 
--- ---- the liveRows rows of placed tuples
+-- ---- the live rows of placed tuples
 
--- their liveRows rows, in order
+-- their live rows, in order
 abbrev pub rowsIn : List Placed → List Row
 rowsIn xs = map (λ y. y .1) (liveOf xs)
 
@@ -31,7 +31,7 @@ rows-placed i [] = refl
 rows-placed i (e ∷ es) =
     by (isRemoving (e .1 .pending)) (λ h. rw h (rows-placed (suc i) es)) (λ h. rw h (ap (λ z. (e .0, applied (e .1)) ∷ z) (rows-placed (suc i) es)))
 
--- the key of a liveRows row is its tuple's
+-- the key of a live row is its tuple's
 rows-at : (t k : ℕ) (b : Bool) (xs : List Placed) → AllOf (λ x. isAt t k (rowOf x) ≡ b) xs → AllOf (λ r. isAt t k r ≡ b) (rowsIn xs)
 unfolding liveOf isAt if_then_else_
 rows-at t k b [] a = tt

@@ -79,4 +79,5 @@ returns-2 c = let z = c .before .before .record-size2 .ensures in
 
 pub append-spec : {M : Type 1} → statement M
 append-spec = tie.close (tie.spec put4-requires (search needs) put4-requires-2 (search needs) (λ c κs. search needs) put1-requires (search needs) (λ c κs. search needs) add-end
-    (search needs) copy-requires (search needs) (search needs) (λ c κs. search needs) put4-requires-3 (λ c κs. search needs) add-end-2 (search needs) copy-requires-2 returns returns-2)
+    (search needs) copy-requires (search needs) (search needs) (λ c κs. search needs) put4-requires-3 (λ c κs. search needs) add-end-2 (search needs) copy-requires-2 returns
+    returns-2)

@@ -17,5 +17,5 @@ returns c = let p2 = c .before .before in
     ∙ part-start (a .table) (a .level) (a .count) (a .bytes))
 
 pub begin-page-spec : {M : Type 1} → statement M
-begin-page-spec = tie.close (tie.spec (search needs) (search needs) (search needs) (search needs) (search needs) (search needs) (search needs) (λ c κs. search needs) (search needs)
-    (λ c κs. search needs) returns)
+begin-page-spec = tie.close (tie.spec (search needs) (search needs) (search needs) (search needs) (search needs) (search needs) (search needs) (λ c κs. search needs)
+    (search needs) (λ c κs. search needs) returns)

@@ -15,31 +15,10 @@ abbrev μ-loop : tie.MeasureT-loop
 loop-holds : tie.Need-loop-holds Inv-loop μ-loop
 loop-holds c = (omega arith, (refl, sym (over-nil (c .args .block .now) (c .args .at))))
 
-add-block : tie.Need-add-block Inv-loop μ-loop
-add-block c = omega arith
-
-shared-slice-read-block : tie.Need-shared-slice-read-block Inv-loop μ-loop
-shared-slice-read-block c = omega arith
-
-add-block-2 : tie.Need-add-block-2 Inv-loop μ-loop
-add-block-2 c = omega arith
-
-slice-write-block : tie.Need-slice-write-block Inv-loop μ-loop
-slice-write-block c = omega arith
-
-add-i : tie.Need-add-i Inv-loop μ-loop
-add-i c = omega arith
-
-loop-less : tie.Need-loop-less Inv-loop μ-loop
-loop-less c = omega arith
-
 loop-again : tie.Need-loop-again Inv-loop μ-loop
 loop-again c = let s = c .before .before .before in
     let p = c .before .before .loop in
     (omega arith, (simp length-set (omega arith), rw (p .inv .1 .1) (copy-turn (s .args .block .now) (s .args .from .now) (s .args .at) (s .args .start) (p .i) (omega arith) (omega arith))))
-
-same-length : tie.Need-same-length Inv-loop μ-loop
-same-length c = omega arith
 
 returns : tie.Need-returns Inv-loop μ-loop
 returns c = let p = c .before .loop in
@@ -47,4 +26,5 @@ returns c = let p = c .before .loop in
     p .inv .1 .1 ∙ rw e
 
 pub copy-spec : {M : Type 1} → statement M
-copy-spec = tie.close (tie.spec Inv-loop μ-loop loop-holds add-block shared-slice-read-block add-block-2 slice-write-block add-i loop-less loop-again same-length returns)
+copy-spec = tie.close (tie.spec Inv-loop μ-loop loop-holds (λ c. omega arith) (λ c. omega arith) (λ c. omega arith) (λ c. omega arith) (λ c. omega arith) (λ c. omega arith)
+    loop-again (λ c. omega arith) returns)

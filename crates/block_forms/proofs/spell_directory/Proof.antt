@@ -12,18 +12,6 @@ Inv-loop block₀ level entries count i₀ block i = (i ≤ count) × ((length b
 abbrev μ-loop : tie.MeasureT-loop
 μ-loop block₀ level entries count i₀ block i = count - i
 
-put-bits-requires : tie.Need-put-bits-requires Inv-loop μ-loop
-put-bits-requires c κs = omega arith
-
-put-bits-requires-2 : tie.Need-put-bits-requires-2 Inv-loop μ-loop
-put-bits-requires-2 c κs = omega arith
-
-put-bits-requires-3 : tie.Need-put-bits-requires-3 Inv-loop μ-loop
-put-bits-requires-3 c κs = omega arith
-
-put-bits-requires-4 : tie.Need-put-bits-requires-4 Inv-loop μ-loop
-put-bits-requires-4 c κs = omega arith
-
 loop-holds : tie.Need-loop-holds Inv-loop μ-loop
 loop-holds c =
     let p4 = c .before .before in let p3 = p4 .before .before .before .before in let p2 = p3 .before .before .before .before in let p1 = p2 .before .before .before .before in let s = p1 .before .before .before .before in
@@ -51,9 +39,6 @@ mul-big c = let s = c .before .before .before .before .before .before .before .b
 shared-slice-read-big : tie.Need-shared-slice-read-big Inv-loop μ-loop
 shared-slice-read-big c = let s = c .before .before .before .before .before .before .before .before .before .before .before .before .before .before .before .before .before .before .before .before .before .before in
     omega (arith, c .before .before .loop-test .taken, s .pre .1 .0)
-
-big-requires : tie.Need-big-requires Inv-loop μ-loop
-big-requires c κs = omega arith
 
 put-bits-requires-5 : tie.Need-put-bits-requires-5 Inv-loop μ-loop
 put-bits-requires-5 c κs = let s = c .before .before .before .before .before .before .before .before .before .before .before .before .before .before .before .before .before .before .before .before .before .before .before in
@@ -85,5 +70,5 @@ returns c = let s = c .before .before .before .before .before .before .before .b
     dir-done (s .args .level) (s .args .count) (s .args .entries .now) (p .block) (s .pre .1 .0) (p .inv .1 .0) (p .inv .1 .1 .0) (rw e at (p .inv .1 .1 .1))
 
 pub spell-directory-spec : {M : Type 1} → statement M
-spell-directory-spec = tie.close (tie.spec Inv-loop μ-loop put-bits-requires put-bits-requires-2 put-bits-requires-3 put-bits-requires-4 loop-holds mul-put-bits add-put-bits
-    mul-big shared-slice-read-big big-requires put-bits-requires-5 add-i loop-less loop-again same-length returns)
+spell-directory-spec = tie.close (tie.spec Inv-loop μ-loop (λ c κs. omega arith) (λ c κs. omega arith) (λ c κs. omega arith) (λ c κs. omega arith) loop-holds mul-put-bits
+    add-put-bits mul-big shared-slice-read-big (λ c κs. omega arith) put-bits-requires-5 add-i loop-less loop-again same-length returns)

@@ -16,30 +16,6 @@ loop-holds : tie.Need-loop-holds Inv-loop μ-loop
 unfolding readEntries
 loop-holds c = (omega arith, (refl, refl))
 
-mul-get-bits : tie.Need-mul-get-bits Inv-loop μ-loop
-mul-get-bits c = omega arith
-
-add-get-bits : tie.Need-add-get-bits Inv-loop μ-loop
-add-get-bits c = omega arith
-
-get-bits-requires : tie.Need-get-bits-requires Inv-loop μ-loop
-get-bits-requires c κs = omega arith
-
-cast-out : tie.Need-cast-out Inv-loop μ-loop
-cast-out c = omega arith
-
-mul-out : tie.Need-mul-out Inv-loop μ-loop
-mul-out c = omega arith
-
-array-write-out : tie.Need-array-write-out Inv-loop μ-loop
-array-write-out c = omega arith
-
-add-i : tie.Need-add-i Inv-loop μ-loop
-add-i c = omega arith
-
-loop-less : tie.Need-loop-less Inv-loop μ-loop
-loop-less c = omega arith
-
 loop-again : tie.Need-loop-again Inv-loop μ-loop
 loop-again c = let s = c .before .before .before .before in
     let p = c .before .before .before .loop in
@@ -51,5 +27,5 @@ returns c = let p = c .before .loop in
     rw e at (p .inv .1 .1)
 
 pub read-entries-spec : {M : Type 1} → statement M
-read-entries-spec = tie.close (tie.spec Inv-loop μ-loop loop-holds mul-get-bits add-get-bits get-bits-requires cast-out mul-out array-write-out add-i loop-less loop-again
-    returns)
+read-entries-spec = tie.close (tie.spec Inv-loop μ-loop loop-holds (λ c. omega arith) (λ c. omega arith) (λ c κs. omega arith) (λ c. omega arith) (λ c. omega arith)
+    (λ c. omega arith) (λ c. omega arith) (λ c. omega arith) loop-again returns)

@@ -118,5 +118,5 @@ returns-4 c =
 
 pub read-page-spec : {M : Type 1} → statement M
 read-page-spec = tie.close (tie.spec Inv-loop μ-loop (λ c κs. omega arith) (λ c. omega arith) (λ c κs. omega arith) (λ c. omega arith) (λ c κs. omega arith) (λ c. omega arith)
-    (λ c κs. omega arith) (λ c. omega arith) begin-page-requires loop-holds (λ c κs. omega arith) (λ c. omega arith) append-requires (λ c. omega arith) returns (λ c. omega arith)
-    (λ c. omega arith) loop-again (λ c. omega arith) (λ c. omega arith) returns-2 (λ c. omega arith) (λ c κs. omega arith) returns-3 returns-4)
+    (λ c κs. omega arith) (λ c. omega arith) begin-page-requires loop-holds (λ c κs. omega arith) (λ c. omega arith) append-requires (λ c. omega arith) returns
+    (λ c. omega arith) (λ c. omega arith) loop-again (λ c. omega arith) (λ c. omega arith) returns-2 (λ c. omega arith) (λ c κs. omega arith) returns-3 returns-4)

@@ -14,18 +14,6 @@ abbrev μ-loop : tie.MeasureT-loop
 loop-holds : tie.Need-loop-holds Inv-loop μ-loop
 loop-holds c = (omega arith, refl)
 
-shared-slice-read-ok : tie.Need-shared-slice-read-ok Inv-loop μ-loop
-shared-slice-read-ok c = omega arith
-
-shared-slice-read-ok-2 : tie.Need-shared-slice-read-ok-2 Inv-loop μ-loop
-shared-slice-read-ok-2 c = omega arith
-
-add-i : tie.Need-add-i Inv-loop μ-loop
-add-i c = omega arith
-
-loop-less : tie.Need-loop-less Inv-loop μ-loop
-loop-less c = omega arith
-
 loop-again : tie.Need-loop-again Inv-loop μ-loop
 loop-again c = let s = c .before .before .before .before in
     let p = c .before .before .before .loop in
@@ -37,4 +25,4 @@ returns c = let s = c .before .before in
     same-end (s .args .a .now) (s .args .b .now) (p .i) (p .ok) (p .inv .1) (omega arith) (omega arith)
 
 pub same-block-spec : {M : Type 1} → statement M
-same-block-spec = tie.close (tie.spec Inv-loop μ-loop loop-holds shared-slice-read-ok shared-slice-read-ok-2 add-i loop-less loop-again returns)
+same-block-spec = tie.close (tie.spec Inv-loop μ-loop loop-holds (λ c. omega arith) (λ c. omega arith) (λ c. omega arith) (λ c. omega arith) loop-again returns)

@@ -19,9 +19,6 @@ inside c = omega (arith, pages-are ((c .before .before .before .before .before .
 get-counts-requires : tie.Need-get-counts-requires Inv-loop μ-loop
 get-counts-requires c κs = let b2 = c .before .before in long (holds-room _ (b2 .pre))
 
-cast-n : tie.Need-cast-n Inv-loop μ-loop
-cast-n c = search needs
-
 loop-holds : tie.Need-loop-holds Inv-loop μ-loop
 loop-holds c = let b4 = c .before .before .before .before in freeze-start (b4 .args .m .now) (b4 .pre)
 
@@ -60,4 +57,4 @@ returns c =
     holds-now (freeze-end (b1 .loop .p) (b1 .loop .inv) (omega (arith, pages-are (b6 .args .m .now) (b3 .get-counts .ensures), c .loop-test .left)))
 
 pub freeze-spec : {M : Type 1} → statement M
-freeze-spec = tie.close (tie.spec Inv-loop μ-loop get-counts-requires cast-n loop-holds freeze-page-requires add-p loop-less loop-again same-length returns)
+freeze-spec = tie.close (tie.spec Inv-loop μ-loop get-counts-requires (search needs) loop-holds freeze-page-requires add-p loop-less loop-again same-length returns)

@@ -79,5 +79,5 @@ returns-2 c =
     (leb-false _ recordSpace (sym (f .fits2 .ensures) ∙ b6 .if1 .left)) (b4 .half .ensures) (b2 .split-page .ensures)
 
 pub halve-spec : {M : Type 1} → statement M
-halve-spec = tie.close (tie.spec start-of-requires add-start-of start-of-requires-2 rows-size-requires (λ c κs. search needs) (search needs) returns half-requires cast-split-page split-page-requires
-    (search needs) returns-2)
+halve-spec = tie.close (tie.spec start-of-requires add-start-of start-of-requires-2 rows-size-requires (λ c κs. search needs) (search needs) returns half-requires
+    cast-split-page split-page-requires (search needs) returns-2)

@@ -115,5 +115,5 @@ returns c =
     (record { table = s .pre .table; level = omega (arith, s .fits); tuples = fits; room = omega (arith, s .pre .measured .bytes, s .pre .fits) })
 
 pub fill-page-spec : {M : Type 1} → statement M
-fill-page-spec = tie.close (tie.spec Inv-loop μ-loop cast-begin-page begin-page-requires loop-holds is-shown-requires record-at-requires append-requires add-i loop-less loop-again
-    returns)
+fill-page-spec = tie.close (tie.spec Inv-loop μ-loop cast-begin-page begin-page-requires loop-holds is-shown-requires record-at-requires append-requires add-i loop-less
+    loop-again returns)

@@ -22,18 +22,6 @@ add-get-named c = let s = c .before .before .before in omega (arith, named-few (
 get-named-requires : tie.Need-get-named-requires Inv-loop μ-loop
 get-named-requires c κs = let s = c .before .before .before in (s .pre .0, omega arith)
 
-mul-entries : tie.Need-mul-entries Inv-loop μ-loop
-mul-entries c = omega arith
-
-array-write-entries : tie.Need-array-write-entries Inv-loop μ-loop
-array-write-entries c = omega arith
-
-add-i : tie.Need-add-i Inv-loop μ-loop
-add-i c = omega arith
-
-loop-less : tie.Need-loop-less Inv-loop μ-loop
-loop-less c = omega arith
-
 loop-again : tie.Need-loop-again Inv-loop μ-loop
 loop-again c = let s = c .before .before .before .before in
     let p = c .before .before .loop in
@@ -46,4 +34,5 @@ returns c = let p = c .before .loop in
     rw e at (p .inv .1 .1)
 
 pub named-from-spec : {M : Type 1} → statement M
-named-from-spec = tie.close (tie.spec Inv-loop μ-loop loop-holds add-get-named get-named-requires mul-entries array-write-entries add-i loop-less loop-again returns)
+named-from-spec = tie.close (tie.spec Inv-loop μ-loop loop-holds add-get-named get-named-requires (λ c. omega arith) (λ c. omega arith) (λ c. omega arith) (λ c. omega arith)
+    loop-again returns)

@@ -50,5 +50,5 @@ returns : tie.Need-returns
 returns c = c .before .before .copy-out .ensures ∙ made (c .before .before .before .before .before)
 
 pub write-page-spec : {M : Type 1} → statement M
-write-page-spec = tie.close (tie.spec (λ c κs. search needs) (λ c κs. search needs) fill-page-requires (λ c κs. search needs) slice-aggregate-copy-out copy-out-requires (search needs)
-    returns)
+write-page-spec = tie.close (tie.spec (λ c κs. search needs) (λ c κs. search needs) fill-page-requires (λ c κs. search needs) slice-aggregate-copy-out copy-out-requires
+    (search needs) returns)

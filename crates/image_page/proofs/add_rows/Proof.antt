@@ -28,12 +28,6 @@ loop-holds c =
     let a = p5 .args in
     (omega arith, (omega arith, (omega arith, ((refl, (refl, (refl, refl))), λ ts e. (walk-read (a .count) (p5 .pre .0) e, row-first (a .table) ts _)))))
 
-next-requires : tie.Need-next-requires Inv-loop μ-loop
-next-requires c κs = omega arith
-
-enum-known-r : tie.Need-enum-known-r Inv-loop μ-loop
-enum-known-r c = omega arith
-
 put-row-requires : tie.Need-put-row-requires Inv-loop μ-loop
 put-row-requires c κs = let p5 = c .before .before .before .before .before in
     let p8 = p5 .before .before .before in
@@ -46,9 +40,6 @@ put-row-requires c κs = let p5 = c .before .before .before .before .before in
       omega (arith, p8 .loop-test .taken, p .inv .1 .1 .0, p .inv .1 .1 .1 .0, s .pre),
       found-fits xs (p .at) (all-bytes xs (λ j. omega (arith, known .shared-slice-known .given j))) f,
     )
-
-enum-told : tie.Need-enum-told Inv-loop μ-loop
-enum-told c = omega arith
 
 same-length : tie.Need-same-length Inv-loop μ-loop
 same-length c = c .before .before .before .before .loop .inv .1 .1 .1 .0 .0
@@ -133,5 +124,5 @@ returns-2 c =
     (walk-end (p .inv .1 .1 .1 .1 ts h .0) (omega (arith, c .loop-test))))
 
 pub add-rows-spec : {M : Type 1} → statement M
-add-rows-spec = tie.close (tie.spec Inv-loop μ-loop loop-holds next-requires enum-known-r put-row-requires enum-told same-length same-length-2 same-length-3 same-length-4
-    returns add-to add-i loop-less loop-again same-length-5 same-length-6 same-length-7 same-length-8 returns-2)
+add-rows-spec = tie.close (tie.spec Inv-loop μ-loop loop-holds (λ c κs. omega arith) (λ c. omega arith) put-row-requires (λ c. omega arith) same-length same-length-2
+    same-length-3 same-length-4 returns add-to add-i loop-less loop-again same-length-5 same-length-6 same-length-7 same-length-8 returns-2)

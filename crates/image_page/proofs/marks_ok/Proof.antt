@@ -20,12 +20,6 @@ abbrev μ-loop : tie.MeasureT-loop
 loop-holds : tie.Need-loop-holds Inv-loop μ-loop
 loop-holds c = let s = c .before in (omega arith, (omega arith, λ t ts e. (walk-read (s .args .count) (s .pre) e, refl)))
 
-next-requires : tie.Need-next-requires Inv-loop μ-loop
-next-requires c κs = omega arith
-
-enum-known-r : tie.Need-enum-known-r Inv-loop μ-loop
-enum-known-r c = omega arith
-
 -- the record that is found is that of the next tuple
 handed : (c : tie.After-r Inv-loop μ-loop) → let p = c .before .before .before .before in let a = p .before .before .args in
     (t : ℕ) (ts : List Tuple) → pageTuples (a .count) (a .block .now) ≡ some ts → Handed (a .block .now) ts (p .loop .at) (p .loop .i) (c .r .given .0 .0) (c .r .given .0 .1 .0 .at)
@@ -35,17 +29,11 @@ handed c t ts e =
     let n = read-count (a .count) (drop pageHeadSize (a .block .now)) ts e in
     walk-found (p .loop .inv .1 .1 t ts e .0) (omega (arith, c .before .before .before .loop-test .taken)) (sym (c .r .given .1) ∙ c .before .before .next .ensures)
 
-mark-ok-requires : tie.Need-mark-ok-requires Inv-loop μ-loop
-mark-ok-requires c κs = omega arith
-
 returns : tie.Need-returns Inv-loop μ-loop
 returns c =
     let p3 = c .before .before .before in let p5 = p3 .before .before in let p7 = p5 .before .before in
     let k = p7 .loop .inv .1 .1 in
     λ t ts e. sym (k t ts e .1 ∙ mark-wrong (handed p3 t ts e) t (c .before .mark-ok .ensures) (not-true _ (c .if1 .taken)))
-
-enum-told : tie.Need-enum-told Inv-loop μ-loop
-enum-told c = omega arith
 
 returns-2 : tie.Need-returns-2 Inv-loop μ-loop
 returns-2 c =
@@ -53,12 +41,6 @@ returns-2 c =
     let a = p4 .before .before .args in
     λ t ts e. let n = read-count (a .count) (drop pageHeadSize (a .block .now)) ts e in
     absurd (walk-bad (p4 .loop .inv .1 .1 t ts e .0) (omega (arith, p2 .before .loop-test .taken)) (sym (c .enum-told .given .1) ∙ p2 .next .ensures))
-
-add-i : tie.Need-add-i Inv-loop μ-loop
-add-i c = omega arith
-
-loop-less : tie.Need-loop-less Inv-loop μ-loop
-loop-less c = omega arith
 
 loop-again : tie.Need-loop-again Inv-loop μ-loop
 loop-again c =
@@ -79,4 +61,5 @@ returns-3 c =
     sym (p .inv .1 .1 t ts e .1 ∙ marks-end t (drop (p .i) ts) (walk-end (p .inv .1 .1 t ts e .0) (omega (arith, c .loop-test .left))))
 
 pub marks-ok-spec : {M : Type 1} → statement M
-marks-ok-spec = tie.close (tie.spec Inv-loop μ-loop loop-holds next-requires enum-known-r mark-ok-requires returns enum-told returns-2 add-i loop-less loop-again returns-3)
+marks-ok-spec = tie.close (tie.spec Inv-loop μ-loop loop-holds (λ c κs. omega arith) (λ c. omega arith) (λ c κs. omega arith) returns (λ c. omega arith) returns-2
+    (λ c. omega arith) (λ c. omega arith) loop-again returns-3)

@@ -8,7 +8,7 @@ use Rattle.memory_rows.proofs.any_tentative.Statement.{statement}
 use Rattle.memory_rows.proofs.any_tentative.Tie as tie
 use Rattle.memory_rows.proofs.any_tentative.Reads as reads
 use Rattle.memory_rows.proofs.any_tentative.Lts as lts
-use Rattle.memory_rows.proofs.state_place.Reads as state-place-reads
+use Rattle.memory_rows.proofs.places.state_place.Reads as state-place-reads
 
 abbrev Inv-loop : tie.InvT-loop
 Inv-loop m i a hit₀ j₀ hit j =
@@ -31,12 +31,6 @@ shared-slice-read-hit : tie.Need-shared-slice-read-hit Inv-loop μ-loop
 shared-slice-read-hit c = let st = c .before .before .before .before .before in let z = sized (st .args .m .now) (st .pre .0) in
     omega (arith, z .long, z .rows, c .before .before .before .state-place .ensures .0, st .pre .1)
 
-add-j : tie.Need-add-j Inv-loop μ-loop
-add-j c = omega arith
-
-loop-less : tie.Need-loop-less Inv-loop μ-loop
-loop-less c = omega arith
-
 loop-again : tie.Need-loop-again Inv-loop μ-loop
 loop-again c = let l = c .before .before in
     let a = l .before .state-place .result in (
@@ -52,4 +46,4 @@ returns c = let l = c .before in
     ∙ sym (group-is (st .args .m .now) (st .args .i) (a .result) (st .pre .1) (a .ensures .0))
 
 pub any-tentative-spec : {M : Type 1} → statement M
-any-tentative-spec = tie.close (tie.spec Inv-loop μ-loop state-place-requires loop-holds add-hit shared-slice-read-hit add-j loop-less loop-again returns)
+any-tentative-spec = tie.close (tie.spec Inv-loop μ-loop state-place-requires loop-holds add-hit shared-slice-read-hit (λ c. omega arith) (λ c. omega arith) loop-again returns)

@@ -1,0 +1,126 @@
+// What a page measures: sizes of its rows, where it is divided, and its pending operations.
+use block_forms::PageLayout;
+use memory_rows::Pending;
+ghost use mathlib.Core.Path.{_≡_};
+ghost use mathlib.Core.Bool.{true, false};
+ghost use Prim.Native.Nat.{_+_, _-_, _<_};
+ghost use lib.ListN.{length};
+ghost use lib.Dec.{leb};
+ghost use Rattle.basics.specs.Basics.{sum, any};
+ghost use Rattle.block_forms.specs.Limits.{joinSum};
+ghost use Rattle.model.specs.Rules.{heldSize, lead, joins, isAdding, isCommitting, isRemoving};
+ghost use Rattle.memory_layout.specs.Flat.{flatOf, rowIn, Room};
+ghost use Rattle.engine_pages.specs.Pages.{tuplesAt, rowsFrom, Span, There};
+ghost use Rattle.engine_pages.specs.Pending.{waits};
+
+// The size of the rows from s up to e.
+pub fn rows_size(m: &[u8], s: usize, e: usize) -> usize
+    requires { ⌜ Span (now m) s e ⌝ }
+    ensures { λ r. ⌜ r ≡ sum heldSize (rowsFrom (now (m .entry)) s e) ⌝ }
+{
+    let mut all: usize = 0;
+    let mut i = s;
+    while i < e {
+        all += memory_rows::size_at(m, i);
+        i += 1;
+    }
+    all
+}
+
+// How many of the rows from s up to e: the shortest run whose doubled size reaches the whole.
+pub fn half(m: &[u8], s: usize, e: usize, whole: usize) -> usize
+    requires { ⌜ Span (now m) s e ⌝ }
+    ensures { λ r. ⌜ r ≡ lead whole 0 (rowsFrom (now (m .entry)) s e) ⌝ }
+{
+    let mut all: usize = 0;
+    let mut i = s;
+    while i < e {
+        all += memory_rows::size_at(m, i);
+        if whole <= 2 * all {
+            return i + 1 - s;
+        }
+        i += 1;
+    }
+    e - s
+}
+
+// The rows from s up to e, those of two pages, are small enough for one. The sum goes no further than where it is too large.
+pub fn small_enough(m: &[u8], s: usize, e: usize) -> bool
+    requires { ⌜ Span (now m) s e ⌝ }
+    ensures { λ r. ⌜ r ≡ leb (sum heldSize (rowsFrom (now (m .entry)) s e)) joinSum ⌝ }
+{
+    let mut all: usize = 0;
+    let mut i = s;
+    while i < e {
+        let w = memory_rows::size_at(m, i);
+        if !PageLayout::joins(all, w) {
+            return false;
+        }
+        all += w;
+        i += 1;
+    }
+    true
+}
+
+pub fn is_adding(m: &[u8], i: usize) -> bool
+    requires { ⌜ Room (now m) × (i < length (flatOf (now m) .rows)) ⌝ }
+    ensures { λ r. ⌜ r ≡ isAdding (rowIn (flatOf (now (m .entry))) i .pending) ⌝ }
+{
+    match memory_rows::pending_at(m, i) {
+        Pending::Nothing => false,
+        Pending::Adding => true,
+        Pending::Committing => false,
+        Pending::Removing => false,
+    }
+}
+
+pub fn is_committing(m: &[u8], i: usize) -> bool
+    requires { ⌜ Room (now m) × (i < length (flatOf (now m) .rows)) ⌝ }
+    ensures { λ r. ⌜ r ≡ isCommitting (rowIn (flatOf (now (m .entry))) i .pending) ⌝ }
+{
+    match memory_rows::pending_at(m, i) {
+        Pending::Nothing => false,
+        Pending::Adding => false,
+        Pending::Committing => true,
+        Pending::Removing => false,
+    }
+}
+
+pub fn is_removing(m: &[u8], i: usize) -> bool
+    requires { ⌜ Room (now m) × (i < length (flatOf (now m) .rows)) ⌝ }
+    ensures { λ r. ⌜ r ≡ isRemoving (rowIn (flatOf (now (m .entry))) i .pending) ⌝ }
+{
+    match memory_rows::pending_at(m, i) {
+        Pending::Nothing => false,
+        Pending::Adding => false,
+        Pending::Committing => false,
+        Pending::Removing => true,
+    }
+}
+
+pub fn is_pending(m: &[u8], i: usize) -> bool
+    requires { ⌜ Room (now m) × (i < length (flatOf (now m) .rows)) ⌝ }
+    ensures { λ r. ⌜ r ≡ waits (rowIn (flatOf (now (m .entry))) i) ⌝ }
+{
+    match memory_rows::pending_at(m, i) {
+        Pending::Nothing => false,
+        Pending::Adding => true,
+        Pending::Committing => true,
+        Pending::Removing => true,
+    }
+}
+
+// Whether a row of page p has a pending operation: no branch, since nearly no row has one.
+pub fn has_pending(m: &[u8], p: usize) -> bool
+    requires { ⌜ There (now m) p ⌝ }
+    ensures { λ r. ⌜ r ≡ any waits (tuplesAt (now (m .entry)) p) ⌝ }
+{
+    let e = memory_pages::start_of(m, p + 1);
+    let mut hit = false;
+    let mut i = memory_pages::start_of(m, p);
+    while i < e {
+        hit = hit | is_pending(m, i);
+        i += 1;
+    }
+    hit
+}
