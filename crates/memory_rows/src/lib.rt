@@ -331,7 +331,7 @@ pub fn insert_row(m: &mut [u8], i: usize, row: Row, payload: &[u8])
     fill_slot(m, s as usize, row.number, block_forms::word_of(o), payload);
     raise_rows(m, c, i, n);
     put_cells(m, c, i, row.key, r, state);
-    memory_bytes::put4(m, ROWS_AT, (n + 1) as u32);
+    memory_bytes::put4(m, memory_layout::ROW_COUNT, (n + 1) as u32);
 }
 
 // The row, with its payload, behind all others: in the slot of its own index, which is free while every row is in that of its own.
@@ -347,7 +347,7 @@ pub fn append_row(m: &mut [u8], row: Row, payload: &[u8])
     let r = n as u16 + pending_code(p) * SLOT_LIMIT;
     fill_slot(m, n, row.number, block_forms::word_of(o), payload);
     put_cells(m, c, n, row.key, r, state);
-    memory_bytes::put4(m, ROWS_AT, (n + 1) as u32);
+    memory_bytes::put4(m, memory_layout::ROW_COUNT, (n + 1) as u32);
 }
 
 // Row i is taken out; its slot is noted behind the rows as one that may be free.
@@ -360,5 +360,5 @@ pub fn remove_row(m: &mut [u8], i: usize)
     let s = ref_at(m, i) % SLOT_LIMIT;
     lower_rows(m, c, i, n);
     memory_bytes::put2(m, refs_at(c) + (n - 1) * 2, s);
-    memory_bytes::put4(m, ROWS_AT, (n - 1) as u32);
+    memory_bytes::put4(m, memory_layout::ROW_COUNT, (n - 1) as u32);
 }
