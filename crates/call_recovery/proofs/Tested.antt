@@ -8,7 +8,8 @@ use Rattle.block_forms.specs.Block.{Block, malformed, header, page, directory}
 use Rattle.block_forms.specs.declared.Header.{Header}
 use Rattle.image_rows.specs.Rows.{Row, number, rowsOk, transactions, follows, startsWell, isBelow}
 use Rattle.image.specs.View.{View, view, blockCount}
-use Rattle.image.specs.Stages.{holds, wholeBlocks, blockOk, directoryBlocks, readDirectories, entriesOk, testedEntries, directoryTest, StoredPage, pageOk, addPage, readPages, rowsOfPages, testedPages, pageTest}
+use Rattle.image.specs.Stages.{holds, wholeBlocks, blockOk, directoryBlocks, readDirectories, entriesOk, testedEntries, directoryTest, StoredPage, pageOk, addPage, readPages, rowsOfPages}
+use Rattle.image.specs.Stages.{testedPages, pageTest}
 use Rattle.image.specs.Whole.{headerStage, pagesBelow, pagesStage}
 use Rattle.image_header.proofs.Heads.{Counts}
 use Rattle.image.proofs.Staged.{Passing, passing, entries-count}

@@ -14,7 +14,8 @@ use Rattle.block_reader.proofs.Answering.{OneOfThese}
 use Rattle.image_rows.specs.Rows.{rowsOk}
 use Rattle.basics.proofs.Ands.{and-no}
 use Rattle.image.specs.View.{View, view, blockAt, blockCount}
-use Rattle.image.specs.Stages.{Stage, refuses, holds, wholeBlocks, blockOk, numbersOf, directoryBlocks, headerOk, headerTest, addEntries, readDirectories, entriesOk, testedEntries, directoryTest, StoredPage, addPage, pageOk, readPages, rowsOfPages, testedPages, pageTest}
+use Rattle.image.specs.Stages.{Stage, refuses, holds, wholeBlocks, blockOk, numbersOf, directoryBlocks, headerOk, headerTest, addEntries, readDirectories, entriesOk, testedEntries}
+use Rattle.image.specs.Stages.{directoryTest, StoredPage, addPage, pageOk, readPages, rowsOfPages, testedPages, pageTest}
 use Rattle.image.specs.Whole.{headerStage, pagesBelow, pagesStage, withHeader, afterHeader, readImage}
 use Rattle.image.specs.Answers.{Filled, accepts, headerAnswer, noEntries, entriesIn, pagesAnswer, imageAnswer}
 use Rattle.image.specs.declared.HeaderTest.the-variants.{Passed, Refused}

@@ -3,7 +3,8 @@
 use Rattle.basics.proofs.Kit.{_≡_, refl, sym, ap, _∙_, Bool, true, _&&_, not, List, ℕ, suc, _+_, _%_, _≤_, _<_, zero, _/_, _-_, eqb, ltb, getD, lt-ltb, le-ltb, eqb-true, eq-eqb, ne-eqb}
 use Rattle.basics.proofs.Kit.{eqb-false, not-true, arith}
 use Rattle.basics.proofs.Facts.{by, and-true}
-use Rattle.image_rows.proofs.Totals.{total, bit, bit-most, bit-true, true-bit, bit-suc, bit-none, bit-below, compared, total-le, total-same, total-sum, total-none, total-some, total-find, total-one}
+use Rattle.image_rows.proofs.Totals.{total, bit, bit-most, bit-true, true-bit, bit-suc, bit-none, bit-below, compared, total-le, total-same, total-sum, total-none, total-some}
+use Rattle.image_rows.proofs.Totals.{total-find, total-one}
 
 -- transaction and statement of a code
 abbrev pub txOf : ℕ → ℕ

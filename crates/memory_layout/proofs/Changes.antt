@@ -4,7 +4,8 @@ use Rattle.memory_bytes.specs.Bytes.{le4, Apart}
 use Rattle.memory_bytes.specs.Columns.{tab}
 use Rattle.model.specs.State.{Active}
 use Rattle.memory_layout.specs.Views.{headOf, countsOf, tableEnd, pageCount, isUsed, rowAt, startAt, entryAt, namedBlock}
-use Rattle.memory_layout.specs.Flat.{flatOf, capacityOf, opensOf, rowsOf, entriesOf, namedOf, directoriesOf, Room, InRange, Replaces, Becomes, withHead, withOpens, withNamed, withDirectories, withUsed}
+use Rattle.memory_layout.specs.Flat.{flatOf, capacityOf, opensOf, rowsOf, entriesOf, namedOf, directoriesOf, Room, InRange, Replaces, Becomes, withHead, withOpens, withNamed}
+use Rattle.memory_layout.specs.Flat.{withDirectories, withUsed}
 use Rattle.memory_layout.specs.declared.Head.{Head}
 use Rattle.memory_layout.proofs.Frame.{Same, same4, within, within2, within4, same-head, same-opens, same-named, same-directories, same-used, same-rows, same-start, same-entries}
 

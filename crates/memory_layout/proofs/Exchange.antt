@@ -7,7 +7,8 @@ use Rattle.memory_bytes.specs.Columns.{insertAt, removeAt}
 use Rattle.memory_layout.specs.Flat.{Flat, entryIn, noEntry, noRow, rowIn}
 use Rattle.memory_layout.specs.Store.{pageOf, nest, pagesIn, pageIn, total, startOf}
 use Rattle.memory_layout.specs.declared.Entry.{Entry}
-use Rattle.memory_layout.proofs.Nest.{Counted, counted-length, total-append, total-split, counted-at, counted-append, counted-take, counted-drop, nest-at, length-nest, nest-replace, insert-within, remove-within, set-within}
+use Rattle.memory_layout.proofs.Nest.{Counted, counted-length, total-append, total-split, counted-at, counted-append, counted-take, counted-drop, nest-at, length-nest, nest-replace}
+use Rattle.memory_layout.proofs.Nest.{insert-within, remove-within, set-within}
 
 -- ---- lengths
 

@@ -8,7 +8,8 @@ use Rattle.memory_bytes.specs.Columns.{tab}
 use Rattle.memory_bytes.proofs.Bytes.{le2-cong, le4-cong, bytes-cong}
 use Rattle.memory_layout.specs.Places.{startsAt}
 use Rattle.block_forms.specs.Decode.{readOwner, readMark}
-use Rattle.memory_layout.specs.Views.{headOf, rowCount, pageCount, tableEnd, openAt, directoryAt, isUsed, slotOf, slotPlace, heldOf, rowAt, keyOf, refOf, stateOf, startAt, tableAt, entryAt, blockWord, namedBlock, lengthOf, pendingOf}
+use Rattle.memory_layout.specs.Views.{headOf, rowCount, pageCount, tableEnd, openAt, directoryAt, isUsed, slotOf, slotPlace, heldOf, rowAt, keyOf, refOf, stateOf, startAt, tableAt}
+use Rattle.memory_layout.specs.Views.{entryAt, blockWord, namedBlock, lengthOf, pendingOf}
 use Rattle.memory_layout.specs.Flat.{opensOf, directoriesOf}
 
 -- the n bytes from a on are the same in both

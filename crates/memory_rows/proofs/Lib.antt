@@ -2,7 +2,7 @@ pub mod Access
 pub mod Fields
 pub mod Kept
 pub mod Exchange
-pub mod Slots
+pub mod FreeSlots
 pub mod Moving
 pub mod Eights
 pub mod Inserting

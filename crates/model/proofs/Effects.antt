@@ -6,8 +6,10 @@ use Rattle.block_forms.specs.Limits.{payloadLimit, mostNumber}
 use Rattle.image_rows.specs.Rows.{Row, openLimit}
 use Rattle.model.specs.State.{Store, Write, Outcome, Answer, refused, done}
 use Rattle.model.specs.Sight.{held, isForeign, versions, seenOf, seen}
-use Rattle.model.specs.Transactions.{unless, Test, gives, _when_, openNumbers, withOpen, openCall, notOpen, noTable, tooLong, full, argumentTests, keyTest, keyTests, tupleTests, writeTests, withTuple, writeCall, readSeen, readCall, listCall, committedPages, abortedPages, closing, commitCall, abortCall}
-use Rattle.model.specs.Calls.{TransactionCall, opens, inserts, replaces, deletes, commits, aborts, reads, lists, transact, noEffect, startOf, writeOf, commitOf, abortOf, effect, TypedTuple, TypedCall, accepted}
+use Rattle.model.specs.Transactions.{unless, Test, gives, _when_, openNumbers, withOpen, openCall, notOpen, noTable, tooLong, full, argumentTests, keyTest, keyTests, tupleTests}
+use Rattle.model.specs.Transactions.{writeTests, withTuple, writeCall, readSeen, readCall, listCall, committedPages, abortedPages, closing, commitCall, abortCall}
+use Rattle.model.specs.Calls.{TransactionCall, opens, inserts, replaces, deletes, commits, aborts, reads, lists, transact, noEffect, startOf, writeOf, commitOf, abortOf, effect}
+use Rattle.model.specs.Calls.{TypedTuple, TypedCall, accepted}
 use Rattle.model.proofs.Lists.{leb-false, not-false}
 
 -- ---- refused or not

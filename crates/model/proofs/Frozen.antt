@@ -5,7 +5,9 @@ use Rattle.basics.specs.Basics.{if_then_else_, isEmpty, any, first}
 use Rattle.basics.proofs.Facts.{by, never, by-option, lie}
 use Rattle.block_forms.specs.Tuple.{Tuple}
 use Rattle.model.specs.State.{Held, Page, adding, Pending, nothing, committing, removing}
-use Rattle.model.specs.Rules.{shown, fresh, after, isAdding, grown, withTuples, entering, placeAfter, place, placeFront, joins, settleNext, settle, joined, settleFull, listOf, pendRemove, withPending, commitNow, pendCommit, asCommitted, isRemoving, thaw, thawOn, isPending, splitAll, withoutPending, live, isFrozen, around, editAt, pendRemoveAt, removeRowOn, committedAt, commitRowOn, atRow, removeRow, commitRow}
+use Rattle.model.specs.Rules.{shown, fresh, after, isAdding, grown, withTuples, entering, placeAfter, place, placeFront, joins, settleNext, settle, joined, settleFull, listOf}
+use Rattle.model.specs.Rules.{pendRemove, withPending, commitNow, pendCommit, asCommitted, isRemoving, thaw, thawOn, isPending, splitAll, withoutPending, live, isFrozen, around}
+use Rattle.model.specs.Rules.{editAt, pendRemoveAt, removeRowOn, committedAt, commitRowOn, atRow, removeRow, commitRow}
 use Rattle.model.specs.Transactions.{PlaceOp, commitPlace, removePlace, carryOut}
 use Rattle.model.proofs.Lists.{some-eq}
 

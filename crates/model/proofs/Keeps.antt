@@ -9,7 +9,8 @@ use Rattle.image.specs.Stages.{directoriesFor}
 use Rattle.model.specs.State.{Store, Outcome, Page, Held, idle, running, nothing, Checkpoint}
 use Rattle.model.specs.Rules.{place, heldSize, isPending, freeze, isFrozen}
 use Rattle.model.specs.Sight.{rows, held, isForeign, versions}
-use Rattle.model.specs.Transactions.{gives, changed, openNumbers, withOpen, newTuple, withWrite, afterWrite, withTuple, without, committedPages, abortedPages, closing, PlaceOp, carryOut, closePlan, abortPlan}
+use Rattle.model.specs.Transactions.{gives, changed, openNumbers, withOpen, newTuple, withWrite, afterWrite, withTuple, without, committedPages, abortedPages, closing, PlaceOp}
+use Rattle.model.specs.Transactions.{carryOut, closePlan, abortPlan}
 use Rattle.model.specs.Checkpoint.{withProgress, beginCall, storePage, made, allocate, storeDirectory, storeHeader, stepAt, stepOf}
 use Rattle.model.specs.Calls.{TransactionCall, transact, Call, transacts, begins, steps, runs, call, others}
 use Rattle.model.proofs.Lists.{in-append, all-map, Pairs}

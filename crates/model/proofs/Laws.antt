@@ -9,7 +9,8 @@ use Rattle.model.specs.State.{Checkpoint, idle, running, Outcome, Store,
 use Rattle.model.specs.Rules.{fits, splitDeep, splitAll, withoutPending, shown, live, isFrozen, freeze, isDirty, thaw}
 use Rattle.model.specs.Sight.{rows, versions}
 use Rattle.model.specs.Transactions.{rowOf, liveOf, unless, Test, gives, _when_, openNumbers, writtenBy, withTuple}
-use Rattle.model.specs.Checkpoint.{left, leftOf, allocate, beginCall, withProgress, blocksNeeded, stepOf, storePage, storeDirectory, storeHeader, made, stepCall, stepAt, badImage, inTurn, runCall}
+use Rattle.model.specs.Checkpoint.{left, leftOf, allocate, beginCall, withProgress, blocksNeeded, stepOf, storePage, storeDirectory, storeHeader, made, stepCall, stepAt, badImage}
+use Rattle.model.specs.Checkpoint.{inTurn, runCall}
 use Rattle.model.specs.Calls.{TransactionCall, transact, transacts, begins, steps, runs, call, accepted, afterCalls}
 use Rattle.model.specs.WellFormed.{WellFormed, FrozenIn, NeverFallsBack, ListOrder, CheckpointWell, BeginAnswers, OneLess, times, writesOf, RunIsSteps}
 use Rattle.model.specs.Places.{RunIsKey}

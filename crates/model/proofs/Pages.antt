@@ -4,7 +4,8 @@ use Rattle.basics.specs.Basics.{if_then_else_, isEmpty, first, any}
 use Rattle.basics.proofs.Facts.{AllOf, by, never, by-option}
 use Rattle.block_forms.specs.Tuple.{Tuple}
 use Rattle.model.specs.State.{Page, Held}
-use Rattle.model.specs.Rules.{fresh, grown, withTuples, splitOnce, placeAfter, place, after, entering, placeFront, settle, settleNext, joined, joins, settleFull, listOf, around, thaw, isFrozen, isPending, thawOn, splitAll, withoutPending, live, removeRowOn, committedAt, commitRowOn, atRow, removeRow, commitRow}
+use Rattle.model.specs.Rules.{fresh, grown, withTuples, splitOnce, placeAfter, place, after, entering, placeFront, settle, settleNext, joined, joins, settleFull, listOf, around, thaw}
+use Rattle.model.specs.Rules.{isFrozen, isPending, thawOn, splitAll, withoutPending, live, removeRowOn, committedAt, commitRowOn, atRow, removeRow, commitRow}
 use Rattle.model.specs.Transactions.{PlaceOp, commitPlace, removePlace, carryOut}
 use Rattle.model.proofs.Lists.{all-append, some-eq}
 

@@ -10,7 +10,8 @@ use Rattle.model.specs.Sight.{rows, held}
 use Rattle.model.proofs.Lists.{Pairs, some-eq, leb-true, all-append, all-map, eqb-self, all-two, pairs-parts, all-parts, eqb-true, leb-false, all-mapped}
 use Rattle.model.proofs.Splits.{after-none, once-together}
 use Rattle.model.proofs.Sound.{PageOk}
-use Rattle.model.proofs.Rows.{Entry, asRow, withTable, all-table, entries, entries-append, entries-fresh, liveRows, plain, sub-all, live-sub, plain-append, live-append, pairs-plain, held-plain, rows-live}
+use Rattle.model.proofs.Rows.{Entry, asRow, withTable, all-table, entries, entries-append, entries-fresh, liveRows, plain, sub-all, live-sub, plain-append, live-append, pairs-plain}
+use Rattle.model.proofs.Rows.{held-plain, rows-live}
 
 -- a stands before b: by table, key, number
 abbrev pub Before : Row → Row → Type 0

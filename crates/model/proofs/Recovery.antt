@@ -7,7 +7,8 @@ use Rattle.block_forms.specs.Limits.{entriesPerBlock}
 use Rattle.block_forms.specs.declared.Header.{Header}
 use Rattle.image_rows.specs.Rows.{rowsOk}
 use Rattle.image.specs.Whole.{pagesStage, pagesBelow}
-use Rattle.image.specs.Stages.{refuses, holds, StoredPage, headerOk, readDirectories, directoryBlocks, entriesOk, readPages, rowsOfPages, headerTest, directoryTest, testedEntries, pageTest, testedPages}
+use Rattle.image.specs.Stages.{refuses, holds, StoredPage, headerOk, readDirectories, directoryBlocks, entriesOk, readPages, rowsOfPages, headerTest, directoryTest, testedEntries, pageTest}
+use Rattle.image.specs.Stages.{testedPages}
 use Rattle.image.specs.View.{View}
 pub use Rattle.image.proofs.Staged.{read-blocks}
 use Rattle.model.specs.State.{Store}

@@ -5,7 +5,8 @@ use Rattle.basics.proofs.Facts.{by, lie, and-true, AllOf}
 use Rattle.block_forms.specs.Tuple.{Owner, committed, Tuple}
 use Rattle.image_rows.specs.Rows.{Row, rowsOf, number}
 use Rattle.model.specs.State.{Held, Page}
-use Rattle.model.specs.Rules.{isRemoving, applied, live, fresh, joins, joined, settleNext, settle, settleFull, listOf, asCommitted, isCommitting, around, withoutPending, splitAll, thawOn, thaw, isPending, isFrozen, commitNow, removeNow, pendRemove, withPending, isAdding, pendCommit, withTuples, freeze}
+use Rattle.model.specs.Rules.{isRemoving, applied, live, fresh, joins, joined, settleNext, settle, settleFull, listOf, asCommitted, isCommitting, around, withoutPending, splitAll}
+use Rattle.model.specs.Rules.{thawOn, thaw, isPending, isFrozen, commitNow, removeNow, pendRemove, withPending, isAdding, pendCommit, withTuples, freeze}
 use Rattle.model.specs.Sight.{rows, held}
 use Rattle.model.proofs.Lists.{eqb-true, nothing-left, has-some, here, Pairs, all-map, off-any, pairs-parts}
 use Rattle.model.proofs.Splits.{together, Small, split-all}

@@ -8,11 +8,13 @@ use Rattle.image_rows.specs.Rows.{Row, isAt, isOwn, isBy, number}
 use Rattle.model.specs.State.{Store, Outcome, filled, refused}
 use Rattle.model.specs.Rules.{asCommitted}
 use Rattle.model.specs.Sight.{seen, rows, versions, seenOf}
-use Rattle.model.specs.Transactions.{unless, Test, gives, _when_, changed, openNumbers, withOpen, notOpen, noTable, tooLong, argumentTests, writeTests, newTuple, withWrite, afterWrite, withTuple, writeCall, readSeen, readCall, without, abortedPages, commitCall}
+use Rattle.model.specs.Transactions.{unless, Test, gives, _when_, changed, openNumbers, withOpen, notOpen, noTable, tooLong, argumentTests, writeTests, newTuple, withWrite, afterWrite}
+use Rattle.model.specs.Transactions.{withTuple, writeCall, readSeen, readCall, without, abortedPages, commitCall}
 use Rattle.model.specs.Checkpoint.{beginCall, stepCall, runCall}
 use Rattle.model.specs.Calls.{TransactionCall, transact, effect, Call, transacts, begins, steps, runs, call, effectOf, isTransaction}
 use Rattle.model.specs.Seen.{remains, WriterReads, WriterMisses, RowsStay, SeenAfterCommit, mayShow, SeenAsBefore}
-use Rattle.model.proofs.Lists.{leb-false, eqb-self, here, Pairs, keep-cons, keep-past, all-map, keep-none, and-yes, and-no, eqb-true, all-mem, not-false, Mem, there, mem-all, last-mem, pairs-keep, lt-false, eqb-sym, in-append}
+use Rattle.model.proofs.Lists.{leb-false, eqb-self, here, Pairs, keep-cons, keep-past, all-map, keep-none, and-yes, and-no, eqb-true, all-mem, not-false, Mem, there, mem-all}
+use Rattle.model.proofs.Lists.{last-mem, pairs-keep, lt-false, eqb-sym, in-append}
 use Rattle.model.proofs.ByNumber.{isRow, ownAt}
 use Rattle.model.proofs.Owners.{numbers-write, numbers-without, in-others, numbers-append}
 use Rattle.model.proofs.Effects.{unless-accepted, Does, refuses, answers, starts, writes, finishes, undoes, does}

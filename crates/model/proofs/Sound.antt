@@ -5,7 +5,9 @@ use Rattle.basics.specs.Basics.{sum, if_then_else_, isEmpty, any}
 use Rattle.basics.proofs.Facts.{AllOf, lie, by, never, by-option, and-true}
 use Rattle.block_forms.specs.Tuple.{Tuple, size, ownerSize}
 use Rattle.model.specs.State.{Held, nothing, Page, adding, Pending, removing, committing}
-use Rattle.model.specs.Rules.{heldSize, shown, fresh, withTuples, lead, splitOnce, fits, half, after, entering, withoutPending, grown, place, placeAfter, placeFront, joins, joined, settle, settleNext, settleFull, listOf, asCommitted, withPending, commitNow, removeNow, pendRemove, isAdding, pendCommit, isRemoving, around, applied, isCommitting, live, splitAll, isPending, thawOn, thaw, isFrozen, editAt, pendRemoveAt, removeRowOn, committedAt, commitRowOn, atRow, removeRow, commitRow}
+use Rattle.model.specs.Rules.{heldSize, shown, fresh, withTuples, lead, splitOnce, fits, half, after, entering, withoutPending, grown, place, placeAfter, placeFront, joins, joined}
+use Rattle.model.specs.Rules.{settle, settleNext, settleFull, listOf, asCommitted, withPending, commitNow, removeNow, pendRemove, isAdding, pendCommit, isRemoving, around, applied}
+use Rattle.model.specs.Rules.{isCommitting, live, splitAll, isPending, thawOn, thaw, isFrozen, editAt, pendRemoveAt, removeRowOn, committedAt, commitRowOn, atRow, removeRow, commitRow}
 use Rattle.model.specs.Transactions.{PlaceOp, commitPlace, removePlace, carryOut}
 use Rattle.model.proofs.Lists.{all-map, leb-true, leb-false, all-take, all-drop, some-eq, all-append, not-true, has-some, all-parts}
 use Rattle.model.proofs.Splits.{mostSize, Small, half-between, after-all, together, split-all}

@@ -4,7 +4,9 @@ use Rattle.basics.specs.Basics.{if_then_else_, sum, isEmpty, any}
 use Rattle.basics.proofs.Facts.{by, never, by-option}
 use Rattle.block_forms.specs.Tuple.{Tuple}
 use Rattle.model.specs.State.{Page, Held}
-use Rattle.model.specs.Rules.{grown, withTuples, listOf, removeNow, pendCommit, commitNow, fresh, splitOnce, placeAfter, place, after, entering, placeFront, withoutPending, settle, settleNext, joined, joins, settleFull, around, thaw, isFrozen, thawOn, isPending, live, splitAll, editAt, pendRemoveAt, removeRowOn, committedAt, commitRowOn, atRow, removeRow, commitRow}
+use Rattle.model.specs.Rules.{grown, withTuples, listOf, removeNow, pendCommit, commitNow, fresh, splitOnce, placeAfter, place, after, entering, placeFront, withoutPending, settle}
+use Rattle.model.specs.Rules.{settleNext, joined, joins, settleFull, around, thaw, isFrozen, thawOn, isPending, live, splitAll, editAt, pendRemoveAt, removeRowOn, committedAt}
+use Rattle.model.specs.Rules.{commitRowOn, atRow, removeRow, commitRow}
 use Rattle.model.specs.Transactions.{PlaceOp, commitPlace, removePlace, carryOut}
 use Rattle.model.proofs.Lists.{some-eq}
 use Rattle.model.proofs.Pages.{stillFrozen}

@@ -17,7 +17,7 @@ add-frozen-at : tie.Need-add-frozen-at
 add-frozen-at c = let b3 = c .before .before .before in let g = b3 .pre in omega (arith, g .1, few-pages (room (g .0)))
 
 frozen-at-requires-2 : tie.Need-frozen-at-requires-2
-frozen-at-requires-2 c κs = let b3 = c .before .before .before in let g = b3 .pre in page-in (next-at (g .0) (g .1))
+frozen-at-requires-2 c κs = let g = c .before .before .before .pre in (room (g .0), omega (arith, g .1))
 
 returns-2 : tie.Need-returns-2
 returns-2 c =

@@ -1,4 +1,4 @@
-use Rattle.memory_rows.proofs.Slots.{named-taken}
+use Rattle.memory_rows.proofs.FreeSlots.{named-taken}
 use Rattle.memory_rows.specs.Cells.{slotIn}
 use Rattle.memory_bytes.specs.Columns.{tab, equals, names}
 use Rattle.memory_bytes.specs.Bytes.{column2}

@@ -1,4 +1,4 @@
-use Rattle.memory_rows.proofs.Slots.{fewer}
+use Rattle.memory_rows.proofs.FreeSlots.{fewer}
 use Rattle.memory_rows.proofs.Access.{sized}
 use Rattle.memory_rows.specs.Cells.{isTaken}
 use Rattle.memory_layout.specs.Flat.{capacityOf}
