@@ -1,3 +1,4 @@
+-- `engine_pages::measures::half` meets its contract. The invariant: the answer is i - s plus that for the rows from i on, with the size `all` before them.
 use Rattle.basics.proofs.Kit.{_≡_, sym, ap, ℕ, _+_, _*_, _≤_, _-_, arith}
 use Rattle.block_forms.specs.Limits.{mostRecord}
 use Rattle.engine_pages.proofs.Sizes.{Turn, turn, lead-stop, lead-go, lead-end}

@@ -1,3 +1,4 @@
+-- `engine_pages::measures::is_adding` meets its contract: one case for each pending operation.
 use Rattle.engine_pages.proofs.Pending.{told}
 use Rattle.model.specs.Rules.{isAdding}
 use Rattle.basics.proofs.Kit.{needs}
