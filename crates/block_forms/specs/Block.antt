@@ -32,7 +32,7 @@ unfoldable pub markBit : Bool → ℕ
 markBit true = 1
 markBit false = 0
 
--- if tentative transaction 12 and statement 20
+-- an owner's fields: transaction 12 and statement 20 if tentative, else none
 unfoldable pub ownerFields : Owner → List (ℕ × ℕ)
 ownerFields committed = []
 ownerFields (tentative t s) = (12, t) ∷ (20, s) ∷ []

@@ -24,7 +24,7 @@ unfoldable pub isTentative : Owner → Bool
 isTentative committed = false
 isTentative (tentative t s) = true
 
--- plus 4 if tentative
+-- what an owner adds to the size of a record: 4 if tentative
 unfoldable pub ownerSize : Owner → ℕ
 ownerSize committed = 0
 ownerSize (tentative t s) = ownerWidth
@@ -37,7 +37,7 @@ recordSize t n = recordHead + (if t then ownerWidth else 0) + n
 unfoldable pub size : Tuple → ℕ
 size x = recordHead + ownerSize (x .owner) + length (x .payload)
 
--- a page's size is the sum
+-- the size of a page: the sum of the sizes of its tuples
 abbrev pub sizes : List Tuple → ℕ
 sizes ts = sum size ts
 

@@ -116,7 +116,7 @@ fn put1(block: &mut [u8], at: usize, v: u8)
     block[at] = v;
 }
 
-// len bytes of from, from start on, over those of block from at on.
+// Copies len bytes of `from`, from start on, over those of `block` from `at` on.
 pub fn copy(block: &mut [u8], at: usize, from: &[u8], start: usize, len: usize)
     requires { ⌜ (at + len ≤ length (now block)) × (start + len ≤ length (now from)) ⌝ }
     ensures { λ _. ⌜ now (block .exit) ≡ over (now (block .entry)) at (take len (drop start (now (from .entry)))) ⌝ }
@@ -130,7 +130,7 @@ pub fn copy(block: &mut [u8], at: usize, from: &[u8], start: usize, len: usize)
 
 // ---- a record's ninth byte and its owner's word
 
-// A ninth byte: committed from here on; below it, the delete mark and the payload's length.
+// A ninth byte means committed from this number on; the lower bits are the delete mark and the payload's length.
 pub const COMMITTED: u8 = 128;
 
 pub const MARK: u8 = 64;
@@ -205,7 +205,7 @@ pub fn begin_page(block: &mut [u8; 512], table: u32, count: u32, bytes: u32, lev
     put4(block, 4, level % 4194304 * 1024);
 }
 
-// One record more of a page under construction: its place is at, and the answer the place behind it.
+// Writes one more record of a page under construction, at the place `at`; the answer is the place behind it.
 pub fn append(block: &mut [u8; 512], at: usize, r: Record, from: &[u8]) -> usize
     requires { ⌜ Appendable at r (now from) ⌝ }
     ensures { λ n. ⌜ Appended (now (block .entry)) (now (block .exit)) at r (now (from .entry)) n ⌝ }
@@ -234,7 +234,7 @@ pub fn append(block: &mut [u8; 512], at: usize, r: Record, from: &[u8]) -> usize
     }
 }
 
-// A block that is built is copied out whole.
+// Copies a whole block out.
 pub fn copy_out(out: &mut [u8], block: &[u8])
     requires { ⌜ (length (now out) ≡ 512) × (length (now block) ≡ 512) ⌝ }
     ensures { λ _. ⌜ now (out .exit) ≡ now (block .entry) ⌝ }

@@ -96,7 +96,7 @@ impl Cursor {
     }
 }
 
-// The two blocks are the same: no branch, since nearly every block that is read is well formed.
+// Whether the two blocks are the same. All bytes are compared, without a branch, since nearly every block that is read is well formed.
 fn same_block(a: &[u8], b: &[u8]) -> bool
     requires { ⌜ (length (now a) ≡ 512) × (length (now b) ≡ 512) ⌝ }
     ensures { λ r. ⌜ r ≡ same (now (a .entry)) (now (b .entry)) ⌝ }
@@ -118,7 +118,7 @@ fn get32(block: &[u8; 512], at: usize, width: usize) -> u32
     block_bits::get_bits(block, at, width) as u32
 }
 
-// A page is what it spells: its head and then its records, one by one, are copied into an empty block, and the two are compared.
+// The page that a block spells: its head and then its records, one by one, are copied into an empty block, and the two are compared.
 fn read_page(block: &[u8]) -> Reading
     requires { ⌜ length (now block) ≡ 512 ⌝ }
     ensures { λ r. ⌜ r ≡ reading (pageIn (now (block .entry))) ⌝ }
@@ -169,7 +169,7 @@ pub fn read_entries(block: &[u8; 512], count: usize) -> [u16; block_forms::ENTRI
     out
 }
 
-// A directory is what it spells.
+// The directory that a block spells: its fields are read and spelled again, and the two blocks are compared.
 fn read_directory(block: &[u8; 512]) -> Reading
     ensures { λ r. ⌜ r ≡ reading (directoryIn (now (block .entry))) ⌝ }
 {
@@ -208,7 +208,7 @@ fn get_header(block: &[u8; 512]) -> Header
     }
 }
 
-// A header is what it spells.
+// The header that a block spells: its fields are read and spelled again, and the two blocks are compared.
 fn read_header(block: &[u8; 512]) -> Reading
     ensures { λ r. ⌜ r ≡ reading (headerIn (now (block .entry))) ⌝ }
 {

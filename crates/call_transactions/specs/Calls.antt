@@ -40,15 +40,15 @@ pub record NextRow (f : Flat) (i k : ℕ) (mark : Bool) (r : Row) : Type 0 where
   pub pending : r .pending ≡ Nothing
   pub fits : RowFits r
 
--- the head with the next number
+-- the head with the next number one higher
 abbrev pub nextHead : Head → Head
 nextHead h = record { capacity = h .capacity; blocks = h .blocks; level = h .level; next = h .next + 1; running = h .running; begun = h .begun; taken = h .taken }
 
--- open transaction i has written one tuple more
+-- the next number is one higher, and open transaction i has written one tuple more
 abbrev pub afterCount : Flat → ℕ → Flat
 afterCount f i = withOpens (withHead f (nextHead (f .head))) (set (f .opens) i (oneMore (openIn f i)))
 
--- what was shown of the memory before a tuple is written, as row `at`
+-- what the tests have shown of the memory before a tuple is written as row `at`
 pub record AcceptAt (m : List ℕ) (tx t at k : ℕ) (bs : List ℕ) : Type 0 where
   pub has-store : holdsStore m ≡ true
   pub opened : findOpen tx (flatOf m .opens) < length (flatOf m .opens)

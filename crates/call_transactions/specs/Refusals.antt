@@ -19,12 +19,12 @@ unfoldable pub verdict : List Test → ℕ
 verdict [] = 0
 verdict ((n when b) ∷ ts) = if b then n else verdict ts
 
--- 4 without a store
+-- the same for the tests on a store; 4 if there is no store
 unfoldable pub verdictIn : Option Store → (Store → List Test) → ℕ
 verdictIn none tests = 4
 verdictIn (some s) tests = verdict (tests s)
 
--- something is seen
+-- a version of the key is seen
 unfoldable pub known : Seen → Bool
 known (At i) = true
 known Nothing = false

@@ -320,7 +320,7 @@ pub fn delete(m: &mut [u8], transaction: u64, table: u64, key: u32) -> Answer
 
 // ---- commit, abort
 
-// Every entry of the transaction goes.
+// Takes every entry of the transaction off the list of open transactions.
 fn close(m: &mut [u8], transaction: u64)
     requires { ⌜ Room (now m) ⌝ }
     ensures { λ _. ⌜ Becomes (now (m .entry)) (now (m .exit)) (withOpens (flatOf (now (m .entry))) (without transaction (flatOf (now (m .entry)) .opens))) ⌝ }

@@ -47,7 +47,7 @@ pub fn full_refusal(m: &[u8]) -> u64
     0
 }
 
-// By what there is of the key: 12 foreign; 13 there already, if it is to be new, else 14 not seen; 15, 16; 0 if none holds.
+// By what there is of the key: 12 a tentative tuple of another transaction; 13 a tuple, if the key is to be new, else 14 none is seen; 15, 16; else 0.
 pub fn key_refusal(m: &[u8], new: bool, visibility: Visibility) -> u64
     requires { ⌜ (holdsStore (now m) ≡ true) × (visibility .own ≤ length (flatOf (now m) .rows)) ⌝ }
     ensures { λ r. ⌜ r ≡ verdict (foundTests new (flatOf (now (m .entry))) visibility) ⌝ }

@@ -21,19 +21,19 @@ pub record Halved (m m' : List ℕ) (p r : ℕ) : Type 0 where
   pub whole : r ≡ 0 → fits (tuplesAt m p) ≡ true
   pub parts : (r ≡ 0 → ⊥) → (fits (tuplesAt m p) ≡ false) × ((r ≡ half (tuplesAt m p)) × (r < length (tuplesAt m p)))
 
--- page p joined as it may be, or replaced by the pages of rest
+-- the pages after page p is joined with its predecessor, else with its successor, if it may be, or else replaced by the pages of rest
 unfoldable pub settledAt : ℕ → List Page → List Page → List Page
 settledAt p ps rest = onPage (settleFull rest) p none ps
 
--- the same without its predecessor
+-- the same if page p is not joined with its predecessor
 unfoldable pub settledNext : ℕ → List Page → List Page → List Page
 settledNext p ps rest = onPage (λ prev q qs. listOf prev ++ settleNext rest q qs) p none ps
 
--- page p has become q: it is dropped, joined as it may be, or replaced by the pages of rest
+-- page p has become q: it is dropped if it is empty, else joined as above, or else replaced by the pages of rest
 unfoldable pub settledBy : ℕ → List Page → Page → List Page → List Page
 settledBy p rest q ps = onPage (λ o r qs. settle rest o q qs) p none ps
 
--- the answer true: F is done, whatever the rest; false: nothing is, and F is G
+-- if the answer is true, the pages are what F gives, for every rest; if it is false, nothing has changed, and F is G
 pub record Tries (m m' : List ℕ) (r : Bool) (F G : List Page → List Page) : Type 0 where
   pub done : r ≡ true → (rest : List Page) → PagesNow m m' (F rest)
   pub not-done : r ≡ false → (m' ≡ m) × ((rest : List Page) → F rest ≡ G rest)

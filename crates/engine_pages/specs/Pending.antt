@@ -16,7 +16,7 @@ use Rattle.engine_pages.specs.Pages.{PagesNow, pagesOf, pageAt, tuplesAt
 abbrev pub waits : Held → Bool
 waits h = isPending (h .pending)
 
--- what becomes of a tuple: one pending removal goes, another stays with its operation done
+-- what becomes of a tuple: one pending removal is gone, any other stays with its operation done
 unfoldable pub applyPending : Held → List Held
 applyPending h = if isRemoving (h .pending) then [] else withoutPending (applied h) ∷ []
 
@@ -25,13 +25,13 @@ unfoldable pub appliedAll : List Held → List Held
 appliedAll [] = []
 appliedAll (h ∷ hs) = applyPending h ++ appliedAll hs
 
--- row i, on page p, is applied, and r rows are left of it
+-- the pending operation of row i, on page p, is applied, and r rows are left of it
 pub record AppliesOne (m m' : List ℕ) (p i r : ℕ) : Type 0 where
   pub count : r ≡ length (applyPending (rowIn (flatOf m) i))
   pub becomes : Becomes m m' (withEntries (withRows (flatOf m) (take i (flatOf m .rows) ++ (applyPending (rowIn (flatOf m) i) ++ drop (i + 1) (flatOf m .rows))))
       (set (flatOf m .entries) p (withCount (entryOf m p) (entryOf m p .count - 1 + r))))
 
--- the rows of page p are applied, and r are left, perhaps none
+-- the pending operations of the rows of page p are applied, and r rows are left, perhaps none
 pub record Applies (m m' : List ℕ) (p r : ℕ) : Type 0 where
   pub count : r ≡ length (appliedAll (tuplesAt m p))
   pub becomes : Becomes m m' (withEntries (withRows (flatOf m)

@@ -22,11 +22,11 @@ use Rattle.engine_pages.specs.Pages.{entryOf, firstRow}
 abbrev pub tupleBy : Row → List ℕ → Tuple
 tupleBy r xs = heldBy r xs .tuple
 
--- x on page q, as its tuple j
+-- what page q becomes with x as its tuple j
 unfoldable pub placedOn : Tuple → ℕ → Page → List Page
 placedOn x j q = grown q (insertAt j (entering q x) (q .tuples))
 
--- the memory holds a store and has room for the row, of which nothing is pending
+-- the memory holds a store and has room for the row, which has no pending operation
 pub record NewTuple (m : List ℕ) (r : Row) (xs : List ℕ) : Type 0 where
   pub has-store : holdsStore m ≡ true
   pub more : length (flatOf m .rows) < flatOf m .head .capacity

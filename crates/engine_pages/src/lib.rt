@@ -68,7 +68,7 @@ fn join_before(m: &mut [u8], p: usize) -> bool
     true
 }
 
-// The same with its successor.
+// Page p joins its successor, if it may; whether it did.
 fn join_after(m: &mut [u8], p: usize) -> bool
     requires { ⌜ There (now m) p ⌝ }
     ensures { λ r. ⌜ Tries (now (m .entry)) (now (m .exit)) r (settledNext p (pagesOf (now (m .entry)))) (λ rest. swapped p rest (pagesOf (now (m .entry)))) ⌝ }
@@ -98,7 +98,7 @@ fn join(m: &mut [u8], p: usize) -> bool
 
 // ---- splitting
 
-// Page p is split if its rows have no room in a block; after how many rows, 0 if it is not.
+// Page p is split if its rows have no room in a block; the answer is after how many rows, 0 if it is not split.
 fn halve(m: &mut [u8], p: usize) -> usize
     requires { ⌜ There (now m) p × Dirty (pageAt (now m) p) ⌝ }
     ensures { λ r. ⌜ Halved (now (m .entry)) (now (m .exit)) p r ⌝ }
@@ -114,7 +114,7 @@ fn halve(m: &mut [u8], p: usize) -> usize
     k
 }
 
-// Page p is split while a part has no room in a block: the later part first.
+// Page p is split until every part has room in a block; of two parts the later one is split first.
 fn split(m: &mut [u8], p: usize)
     requires { ⌜ There (now m) p × Dirty (pageAt (now m) p) ⌝ }
     ensures { λ _. ⌜ PagesNow (now (m .entry)) (now (m .exit)) (swapped p (map (fresh (pageAt (now (m .entry)) p .table)) (splitAll (tuplesAt (now (m .entry)) p))) (pagesOf (now (m .entry)))) ⌝ }
@@ -131,7 +131,7 @@ fn split(m: &mut [u8], p: usize)
 
 // ---- committing
 
-// On a frozen page: a pending add is committed, another becomes a pending commit; one pending removal is left alone.
+// On a frozen page: a pending add is committed, a row pending removal is left alone, and any other row becomes a pending commit.
 fn commit_later(m: &mut [u8], p: usize, i: usize)
     requires { ⌜ RowOn (now m) p i × (pageAt (now m) p .frozen ≡ true) ⌝ }
     ensures { λ _. ⌜ PagesNow (now (m .entry)) (now (m .exit)) (swapped p (committedAt (i - firstRow (now (m .entry)) p) (pageAt (now (m .entry)) p) ∷ []) (pagesOf (now (m .entry)))) ⌝ }
@@ -171,7 +171,7 @@ fn count_at(m: &[u8], p: usize) -> usize
     e - s
 }
 
-// On a frozen page: a pending add is taken away unless it is the last tuple, another becomes a pending remove.
+// On a frozen page: a pending add is taken out unless it is the page's only row; any other row becomes a pending removal.
 fn remove_later(m: &mut [u8], p: usize, i: usize)
     requires { ⌜ RowOn (now m) p i ⌝ }
     ensures { λ _. ⌜ PagesNow (now (m .entry)) (now (m .exit)) (swapped p (withTuples (pageAt (now (m .entry)) p) (pendRemoveAt (i - firstRow (now (m .entry)) p) (tuplesAt (now (m .entry)) p)) ∷ []) (pagesOf (now (m .entry)))) ⌝ }
@@ -187,7 +187,7 @@ fn remove_later(m: &mut [u8], p: usize, i: usize)
     memory_pages::remove_row(m, p, i);
 }
 
-// On another page the row goes; the page is dropped if it is empty, else joined as it may be.
+// On a page that is not frozen: the row is taken out, and the page is dropped if it is empty, else joined with a neighbour if it may be.
 fn remove_now(m: &mut [u8], p: usize, i: usize)
     requires { ⌜ RowOn (now m) p i ⌝ }
     ensures { λ _. ⌜ PagesNow (now (m .entry)) (now (m .exit)) (settledBy p (lessOne (now (m .entry)) p i ∷ []) (lessOne (now (m .entry)) p i) (pagesOf (now (m .entry)))) ⌝ }
@@ -267,7 +267,7 @@ fn apply_pending_row(m: &mut [u8], p: usize, i: usize) -> usize
     1
 }
 
-// The same for all rows of page p.
+// The pending operations of all rows of page p are applied; how many rows they leave.
 fn apply_pending_rows(m: &mut [u8], p: usize) -> usize
     requires { ⌜ There (now m) p ⌝ }
     ensures { λ r. ⌜ Applies (now (m .entry)) (now (m .exit)) p r ⌝ }

@@ -1,4 +1,4 @@
-// What a page measures: sizes of its rows, where it is divided, and its pending operations.
+// What is read of a page: the sizes of its rows, where it is split, and its pending operations.
 use block_forms::PageLayout;
 use memory_rows::Pending;
 ghost use mathlib.Core.Path.{_≡_};
@@ -27,7 +27,7 @@ pub fn rows_size(m: &[u8], s: usize, e: usize) -> usize
     all
 }
 
-// How many of the rows from s up to e: the shortest run whose doubled size reaches the whole.
+// How many of the rows from s up to e the first part of a split gets: the fewest whose doubled size is at least the whole.
 pub fn half(m: &[u8], s: usize, e: usize, whole: usize) -> usize
     requires { ⌜ Span (now m) s e ⌝ }
     ensures { λ r. ⌜ r ≡ lead whole 0 (rowsFrom (now (m .entry)) s e) ⌝ }
@@ -44,7 +44,7 @@ pub fn half(m: &[u8], s: usize, e: usize, whole: usize) -> usize
     e - s
 }
 
-// The rows from s up to e, those of two pages, are small enough for one. The sum goes no further than where it is too large.
+// Whether the rows from s up to e, those of two pages, are small enough for one page. Adding stops as soon as the sum is too large.
 pub fn small_enough(m: &[u8], s: usize, e: usize) -> bool
     requires { ⌜ Span (now m) s e ⌝ }
     ensures { λ r. ⌜ r ≡ leb (sum heldSize (rowsFrom (now (m .entry)) s e)) joinSum ⌝ }
@@ -110,7 +110,7 @@ pub fn is_pending(m: &[u8], i: usize) -> bool
     }
 }
 
-// Whether a row of page p has a pending operation: no branch, since nearly no row has one.
+// Whether a row of page p has a pending operation. All rows are looked at, without a branch, since nearly no row has one.
 pub fn has_pending(m: &[u8], p: usize) -> bool
     requires { ⌜ There (now m) p ⌝ }
     ensures { λ r. ⌜ r ≡ any waits (tuplesAt (now (m .entry)) p) ⌝ }

@@ -31,18 +31,18 @@ pub record Spells (m : List ℕ) (r : Record) (x : Tuple) : Type 0 where
 abbrev pub rowsIn : List ℕ → ℕ → ℕ → List Held
 rowsIn m s e = take (e - s) (drop s (flatOf m .rows))
 
--- there are such rows
+-- the memory has room, and the rows from s up to e are there
 pub record Rows (m : List ℕ) (s e : ℕ) : Type 0 where
   pub room : Room m
   pub order : s ≤ e
   pub inside : e ≤ length (flatOf m .rows)
 
--- the tuples are as many, and their records take as many bytes
+-- w counts the tuples ts and the bytes that their records take
 pub record Measures (w : Shown) (ts : List Tuple) : Type 0 where
   pub count : w .count ≡ length ts
   pub bytes : w .bytes ≡ sizes ts
 
--- an empty block, a table, and rows that were measured and have room
+-- the block is empty, the table is one of the eight, and what the rows show was measured and has room in a block
 pub record Fillable (block m : List ℕ) (t s e : ℕ) (w : Shown) : Type 0 where
   pub zero : block ≡ zeros 512
   pub table : t < 8

@@ -50,7 +50,7 @@ pub fn write_header(out: &mut [u8], m: &[u8])
 
 // ---- the directory
 
-// count entries of the list of pages at begin, from the entry first on.
+// As many entries as `count` says of the list of pages at begin, from the entry `first` on.
 fn named_from(m: &[u8], first: usize, count: usize) -> [u16; block_forms::ENTRIES_PER_BLOCK]
     requires { ⌜ Room (now m) × ((count ≤ entriesPerBlock) × (first + count ≤ length (flatOf (now m) .named))) ⌝ }
     ensures { λ r. ⌜ take count r ≡ take count (drop first (flatOf (now (m .entry)) .named)) ⌝ }

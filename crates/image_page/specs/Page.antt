@@ -11,11 +11,11 @@ use Rattle.image_rows.specs.Rows.{rowsOf, markOk}
 use Rattle.image_page.specs.declared.GoodPage.{GoodPage}
 use Rattle.image_page.specs.declared.GoodPage.the-variants.{Good, Bad}
 
--- a page block below a header of level l: not empty, and written at a level from 1 to l
+-- a page block of an image whose header has level l: not empty, and written at a level from 1 to l
 unfoldable pub pageOk : ℕ → ℕ → List Tuple → Bool
 pageOk l k ts = not (isEmpty ts) && (leb 1 k && leb k l)
 
--- a page with room for its tuples, its delete marks right
+-- a block that is such a page, with at most `room` tuples, and whose delete marks are tentative and have no payload
 unfoldable pub goodPage : ℕ → ℕ → Block → GoodPage
 goodPage l room malformed = Bad
 goodPage l room (header h) = Bad

@@ -31,7 +31,7 @@ fn wide(x: u32) -> usize
     x as usize
 }
 
-// A delete mark is tentative and has no payload.
+// Whether the record, if it is a delete mark, is tentative and has no payload.
 fn mark_ok(r: Record) -> bool
     ensures { λ b. ⌜ ((t : ℕ) (p : List ℕ) → length p ≡ r .len → b ≡ markOk (t, tupleOf r p)) ⌝ }
 {
@@ -48,7 +48,7 @@ fn mark_ok(r: Record) -> bool
     }
 }
 
-// The delete marks of a page's block.
+// Whether every delete mark of a page's block is tentative and has no payload.
 fn marks_ok(block: &[u8], count: u32) -> bool
     requires { ⌜ length (now block) ≡ 512 ⌝ }
     ensures { λ r. ⌜ ((t : ℕ) (ts : List Tuple) → pageTuples count (now (block .entry)) ≡ some ts → r ≡ all markOk (rowsOf t ts)) ⌝ }
@@ -150,7 +150,7 @@ pub fn add_rows(
     }
 }
 
-// A page of an image below a header of this level, with at most `room` tuples.
+// Whether the block is a page that may stand in an image whose header has this level, with at most `room` tuples; its table and count.
 pub fn good_page(block: &[u8; 512], level: u32, room: usize) -> GoodPage
     ensures { λ r. ⌜ r ≡ goodPage level room (decodeBlock (now (block .entry))) ⌝ }
 {

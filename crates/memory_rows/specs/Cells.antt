@@ -17,7 +17,7 @@ use Rattle.memory_rows.specs.declared.Pending.the-variants.{Nothing, Add
 
 -- ---- numbers that are stored
 
--- what stands above a slot's number for a pending operation
+-- the number of a pending operation, as it stands above a slot's number
 abbrev pub codeOf : Pending → ℕ
 codeOf Nothing = 0
 codeOf Adding = 1
@@ -69,7 +69,7 @@ pub record SameCells (m m' : List ℕ) (c j k : ℕ) : Type 0 where
   pub ref : refOf m' c k ≡ refOf m c j
   pub state : stateOf m' c k ≡ stateOf m c j
 
--- bytes of the three columns may differ, and no other
+-- only bytes of the three columns may differ
 pub record ColumnsOnly (m m' : List ℕ) (c : ℕ) : Type 0 where
   pub size : length m' ≡ length m
   pub below : (b : ℕ) → b < keysAt c → getD m' b 0 ≡ getD m b 0
@@ -111,7 +111,7 @@ pub record EightPut (m₀ m m' : List ℕ) (c i k : ℕ) : Type 0 where
   pub before : (j : ℕ) → j < k → SameCells m m' c j j
   pub behind : (j : ℕ) → k + 8 ≤ j → j < c → SameCells m m' c j j
 
--- row i has these cells, and the others theirs
+-- row i of m' has these cells, and every other row those that it has in m
 pub record CellsPut (m m' : List ℕ) (c i k r s : ℕ) : Type 0 where
   pub only : ColumnsOnly m m' c
   pub others : (j : ℕ) → j < c → (j ≡ i → ⊥) → SameCells m m' c j j

@@ -48,7 +48,7 @@ committedRow h = record { tuple = asCommitted (h .tuple); pending = h .pending }
 unfoldable pub isLiveOwn : ℕ → Held → Bool
 isLiveOwn tx h = not (isRemoving (h .pending)) && isBy tx (applied h .owner)
 
--- tentative, its pending operation left aside
+-- tentative, whatever its pending operation
 unfoldable pub isOwned : Held → Bool
 isOwned h = isTentative (h .tuple .owner)
 
@@ -60,7 +60,7 @@ pub record Holds (m : List ℕ) (p : Part) (bs : List ℕ) : Type 0 where
   pub count : p .len ≡ length bs
   pub here : bytes m (p .start) (p .len) ≡ bs
 
--- the bytes, n of them, over the first of xs
+-- ys is xs with the n bytes bs over its first bytes
 pub record Copied (xs ys bs : List ℕ) (n : ℕ) : Type 0 where
   pub count : n ≡ length bs
   pub first : ys ≡ bs ++ drop n xs
@@ -73,7 +73,7 @@ keyIn f i = rowIn f i .tuple .key
 
 -- ---- one row exchanged
 
--- another row i
+-- row i exchanged for h
 abbrev pub withRow : Flat → ℕ → Held → Flat
 withRow f i h = withRows f (set (f .rows) i h)
 

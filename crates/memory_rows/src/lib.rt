@@ -42,10 +42,10 @@ ghost use Rattle.memory_rows.specs.Cells.{codeOf, keepsOwner, InOrder, C
 // Number, owner and payload of a row.
 const SLOT_SIZE: usize = 72;
 
-// A slot's number has ten bits, and a pending operation stands above it.
+// A slot's number has ten bits; the bits above them are the pending operation.
 const SLOT_LIMIT: u16 = 1024;
 
-// A row's state is the ninth byte of its record: committed from here on.
+// A row's state is the ninth byte of its record; from this number on it means committed.
 const COMMITTED: u8 = block_forms::COMMITTED;
 
 // What a checkpoint will do to a row of a frozen page.
@@ -157,7 +157,7 @@ pub fn payload_at(m: &[u8], i: usize) -> Part
     }
 }
 
-// The payload, over the first bytes of out; how many they are.
+// Copies the payload over the first bytes of out; the answer is how many they are.
 pub fn copy_payload(m: &[u8], i: usize, out: &mut [u8]) -> usize
     requires { ⌜ Room (now m) × ((i < length (flatOf (now m) .rows)) × (length (rowIn (flatOf (now m)) i .tuple .payload) ≤ length (now out))) ⌝ }
     ensures { λ r. ⌜ Copied (now (out .entry)) (now (out .exit)) (rowIn (flatOf (now (m .entry))) i .tuple .payload) r ⌝ }
@@ -203,7 +203,7 @@ pub fn owns(m: &[u8], i: usize, transaction: u64) -> bool
     false
 }
 
-// Whether one of the 16 rows from i on is tentative, its pending operation left aside: without a branch, so that it becomes vector code.
+// Whether one of the 16 rows from i on is tentative, whatever its pending operation. The loop has no branch, so that it becomes vector code.
 pub fn any_tentative(m: &[u8], i: usize) -> bool
     requires { ⌜ Room (now m) × (i + 16 ≤ length (flatOf (now m) .rows)) ⌝ }
     ensures { λ r. ⌜ r ≡ any isOwned (take 16 (drop i (flatOf (now (m .entry)) .rows))) ⌝ }
@@ -218,7 +218,7 @@ pub fn any_tentative(m: &[u8], i: usize) -> bool
     hit
 }
 
-// ---- changes that leave the number of rows: of the columns alone, so that no other row changes, whoever shares a slot
+// ---- changes that keep the number of rows: only the columns are written, so that no other row changes, not even one in the same slot
 
 // The row is committed; what is pending stays.
 pub fn commit_row(m: &mut [u8], i: usize)
@@ -229,7 +229,7 @@ pub fn commit_row(m: &mut [u8], i: usize)
     m[a] = m[a] % COMMITTED + COMMITTED;
 }
 
-// What stands above a slot's number.
+// The number of a pending operation, as it stands above a slot's number.
 fn pending_code(p: Pending) -> u16
     ensures { λ r. ⌜ (r ≡ codeOf p) × (r < 4) ⌝ }
 {
@@ -253,7 +253,7 @@ pub fn set_pending(m: &mut [u8], i: usize, p: Pending)
 
 // ---- searches by key, among the rows from s up to, not including, e
 
-// s, or one behind the last row whose key is not above.
+// The row behind the last one whose key is not above this key, or s if there is none.
 pub fn last_up_to(m: &[u8], s: usize, e: usize, key: u32) -> usize
     requires { ⌜ Room (now m) × ((s ≤ e) × (e ≤ length (flatOf (now m) .rows))) ⌝ }
     ensures { λ r. ⌜ r ≡ s + lastIndex (upTo key) (tab (keyIn (flatOf (now (m .entry)))) s (e - s)) ⌝ }
@@ -261,7 +261,7 @@ pub fn last_up_to(m: &[u8], s: usize, e: usize, key: u32) -> usize
     memory_bytes::search::last_up_to(m, keys_at(capacity(m)), s, e, key)
 }
 
-// The first row with the key, or e.
+// The first row with the key, or e if there is none.
 pub fn find_equal(m: &[u8], s: usize, e: usize, key: u32) -> usize
     requires { ⌜ Room (now m) × ((s ≤ e) × (e ≤ length (flatOf (now m) .rows))) ⌝ }
     ensures { λ r. ⌜ r ≡ s + firstIndex (equals key) (tab (keyIn (flatOf (now (m .entry)))) s (e - s)) ⌝ }
@@ -269,7 +269,7 @@ pub fn find_equal(m: &[u8], s: usize, e: usize, key: u32) -> usize
     memory_bytes::search::find_equal(m, keys_at(capacity(m)), s, e, key)
 }
 
-// s, or one behind the last row with the key.
+// The row behind the last one with the key, or s if there is none.
 pub fn last_equal(m: &[u8], s: usize, e: usize, key: u32) -> usize
     requires { ⌜ Room (now m) × ((s ≤ e) × (e ≤ length (flatOf (now m) .rows))) ⌝ }
     ensures { λ r. ⌜ r ≡ s + lastIndex (equals key) (tab (keyIn (flatOf (now (m .entry)))) s (e - s)) ⌝ }
@@ -287,14 +287,14 @@ pub fn span_equal(m: &[u8], s: usize, e: usize, key: u32) -> Span
 
 // ---- changes of the number of rows
 
-// The cells of eight rows that stand behind each other.
+// The cells of eight neighbouring rows, column by column.
 struct Eight {
     keys: [u8; 32],
     refs: [u8; 16],
     states: [u8; 8],
 }
 
-// The cells of row i.
+// Writes the cells of row i.
 fn put_cells(m: &mut [u8], c: usize, i: usize, key: u32, r: u16, state: u8)
     requires { ⌜ ColumnsFit (now m) c × (i < c) ⌝ }
     ensures { λ _. ⌜ CellsPut (now (m .entry)) (now (m .exit)) c i key r state ⌝ }
@@ -305,7 +305,7 @@ fn put_cells(m: &mut [u8], c: usize, i: usize, key: u32, r: u16, state: u8)
     m[s] = state;
 }
 
-// What stands in slot s.
+// Writes number, owner and payload into slot s.
 fn fill_slot(m: &mut [u8], s: usize, number: u32, owner: u32, payload: &[u8])
     requires { ⌜ (s < 1024) × ((slotPlace s + slotSize ≤ length (now m)) × (length (now payload) ≤ payloadLimit)) ⌝ }
     ensures { λ _. ⌜ SlotFilled (now (m .entry)) (now (m .exit)) s number owner (now (payload .entry)) ⌝ }
@@ -316,7 +316,7 @@ fn fill_slot(m: &mut [u8], s: usize, number: u32, owner: u32, payload: &[u8])
     memory_bytes::write(m, a + 8, payload);
 }
 
-// The row, with its payload, becomes row i, in a slot that no row is in: all other rows are as they were.
+// The row, with its payload, becomes row i, in a slot that no row is in, so that all other rows are as they were.
 pub fn insert_row(m: &mut [u8], i: usize, row: Row, payload: &[u8])
     requires { ⌜ NewRow (now m) i row (now payload) ⌝ }
     ensures { λ _. ⌜ RowsOnly (now (m .entry)) (now (m .exit)) (insertAt i (heldBy row (now (payload .entry))) (flatOf (now (m .entry)) .rows)) ⌝ }
@@ -334,7 +334,7 @@ pub fn insert_row(m: &mut [u8], i: usize, row: Row, payload: &[u8])
     memory_bytes::put4(m, memory_layout::ROW_COUNT, (n + 1) as u32);
 }
 
-// The row, with its payload, behind all others: in the slot of its own index, which is free while every row is in that of its own.
+// The row, with its payload, becomes the last one, in the slot of its own index, which is free since every other row is in that of its own index.
 pub fn append_row(m: &mut [u8], row: Row, payload: &[u8])
     requires { ⌜ NewRow (now m) (length (flatOf (now m) .rows)) row (now payload) × InOrder (now m) ⌝ }
     ensures { λ _. ⌜ RowsOnly (now (m .entry)) (now (m .exit)) (flatOf (now (m .entry)) .rows ++ heldBy row (now (payload .entry)) ∷ []) × InOrder (now (m .exit)) ⌝ }

@@ -55,7 +55,7 @@ pub fn slot_at(s: usize) -> usize
     HEAD_SIZE + s * SLOT_SIZE
 }
 
-// The slot that a number of two bytes names: slot 0 for one that is not there.
+// The slot that a row's two bytes name; slot 0 if the number is not below the capacity c.
 pub fn slot_of(c: usize, r: u16) -> usize
     requires { ⌜ 1 ≤ c ⌝ }
     ensures { λ s. ⌜ (s ≡ slotOf c r) × (s < c) ⌝ }

@@ -25,7 +25,7 @@ pub fn take_eight(m: &[u8], c: usize, i: usize) -> Eight
     }
 }
 
-// They become the cells of the rows from row k on.
+// The eight rows from row k on get these cells.
 pub fn give_eight(m: &mut [u8], c: usize, k: usize, rows: Eight)
     requires { ⌜ ColumnsFit (now m) c × ((k + 8 ≤ c) × EightFits rows) ⌝ }
     ensures { λ _. ⌜ ((m₀ : List ℕ) (i : ℕ) → EightOf m₀ c i rows → EightPut m₀ (now (m .entry)) (now (m .exit)) c i k) ⌝ }
@@ -38,7 +38,7 @@ pub fn give_eight(m: &mut [u8], c: usize, k: usize, rows: Eight)
     memory_bytes::write(m, states_at(c) + k, &states);
 }
 
-// The rows from row k on get the cells of the eight from row i on, as they were.
+// The eight rows from row k on get the cells that the eight from row i on had.
 pub fn copy_eight(m: &mut [u8], c: usize, i: usize, k: usize)
     requires { ⌜ ColumnsFit (now m) c × ((i + 8 ≤ c) × (k + 8 ≤ c)) ⌝ }
     ensures { λ _. ⌜ EightPut (now (m .entry)) (now (m .entry)) (now (m .exit)) c i k ⌝ }
@@ -52,7 +52,7 @@ pub fn copy_eight(m: &mut [u8], c: usize, i: usize, k: usize)
 }
 
 // Of n rows, those from row i on, eight or more, go one up: by blocks whose new place is a multiple of eight, from the last one down. The
-// first and the last eight are read before and written after them, so that the blocks need not meet the ends.
+// first and the last eight are read before and written after them, so that the blocks need not reach the first and the last row.
 pub fn raise_eights(m: &mut [u8], c: usize, i: usize, n: usize)
     requires { ⌜ ColumnsFit (now m) c × ((i + 8 ≤ n) × (n < c)) ⌝ }
     ensures { λ _. ⌜ RowsRaised (now (m .entry)) (now (m .exit)) c i n ⌝ }

@@ -14,7 +14,7 @@ ghost use Rattle.memory_layout.specs.Places.{refsAt};
 ghost use Rattle.memory_layout.specs.Flat.{flatOf, capacityOf, Room};
 ghost use Rattle.memory_rows.specs.Cells.{slotIn, isTaken};
 
-// Whether one of the n rows is in slot 0: also one whose number is not below the capacity.
+// Whether one of the n rows is in slot 0; a row whose slot number is not below the capacity is in slot 0 too.
 pub fn zero_taken(m: &[u8], c: usize, n: usize) -> bool
     requires { ⌜ (1 ≤ c) × ((c ≤ 1024) × (refsAt c + n * 2 ≤ length (now m))) ⌝ }
     ensures { λ r. ⌜ r ≡ any (equals 0) (tab (slotIn (now (m .entry)) c) 0 n) ⌝ }
@@ -54,7 +54,7 @@ pub fn search_slot(m: &[u8]) -> u16
     s
 }
 
-// A slot that no row is in: the one noted behind the rows, if it is one.
+// A slot that no row is in: the one noted behind the rows if no row is in it, else the first such slot.
 pub fn free_slot(m: &[u8]) -> u16
     requires { ⌜ Room (now m) × (length (flatOf (now m) .rows) < capacityOf (now m)) ⌝ }
     ensures { λ r. ⌜ (r < capacityOf (now (m .entry))) × (isTaken (now (m .entry)) r ≡ false) ⌝ }

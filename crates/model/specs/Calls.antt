@@ -54,7 +54,7 @@ effect (lists room) = noEffect
 abbrev pub TypedTuple : ℕ → List ℕ → Type 0
 TypedTuple k bs = (k < 4294967296) × AllBytes bs
 
--- so are the arguments of a write
+-- the key and payload of a write are of these types
 abbrev pub TypedCall : TransactionCall → Type 0
 TypedCall (opens tx) = Unit {0}
 TypedCall (inserts tx t k bs) = TypedTuple k bs
@@ -81,14 +81,14 @@ call begins s = beginCall s
 call (steps len) s = stepCall len s
 call (runs limit len) s = runCall limit len s
 
--- its arguments are of their types
+-- the arguments of a call are of their types
 abbrev pub Typed : Call → Type 0
 Typed (transacts c) = TypedCall c
 Typed begins = Unit {0}
 Typed (steps len) = Unit {0}
 Typed (runs limit len) = Unit {0}
 
--- each call of a list is
+-- so are those of every call of a list
 abbrev pub AllTyped : List Call → Type 0
 AllTyped [] = Unit {0}
 AllTyped (c ∷ cs) = Typed c × AllTyped cs
@@ -121,11 +121,11 @@ afterCalls (c ∷ cs) s = afterCalls cs (call c s .store)
 
 -- ---- who had written
 
--- without transaction tx
+-- the transactions ws without transaction tx
 unfoldable pub others : ℕ → List ℕ → List ℕ
 others tx ws = keep (λ w. not (eqb w tx)) ws
 
--- transaction tx too
+-- the transactions ws and transaction tx
 unfoldable pub withWriter : ℕ → List ℕ → List ℕ
 withWriter tx ws = if isIn tx ws then ws else tx ∷ ws
 
@@ -160,10 +160,10 @@ isStep (runs limit len) = true
 
 -- what call c, which gives o, leaves of the store s
 pub record Leaves (c : Call) (s : Store) (o : Outcome) : Type 0 where
-  -- every call
+  -- every call leaves these two
   pub blocks : o .store .blocks ≡ s .blocks
   pub capacity : o .store .capacity ≡ s .capacity
-  -- one of a transaction leaves the checkpoint
+  -- a call of a transaction leaves the checkpoint
   pub level : isTransaction c ≡ true → o .store .level ≡ s .level
   pub used : isTransaction c ≡ true → o .store .used ≡ s .used
   pub taken : isTransaction c ≡ true → o .store .taken ≡ s .taken
@@ -174,6 +174,6 @@ pub record Leaves (c : Call) (s : Store) (o : Outcome) : Type 0 where
   -- only step and run store blocks
   pub image : isStep c ≡ false → o .writes ≡ []
 
--- whatever it answers
+-- it is so for every call on every store
 abbrev pub CallLeaves : Type 0
 CallLeaves = (c : Call) (s : Store) → Leaves c s (call c s)

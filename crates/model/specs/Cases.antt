@@ -231,7 +231,7 @@ pub record Traps : Type 0 where
   pub at-the-end : shape (afterCalls splitMeanwhile (freshStore 16 64)) ≡ (5, 265) ∷ (5, 265) ∷ (1, 13) ∷ []
   pub as-at-begin : shapeOf (recoveredAfter splitMeanwhile) ≡ (9, 477) ∷ (1, 13) ∷ []
   pub listed-blocks : places splitMeanwhile 16 ≡ 1 ∷ 2 ∷ 0 ∷ 3 ∷ 4 ∷ 0 ∷ []
-  -- a pending commit is written as tentative, and takes hold when the page is thawed
+  -- a pending commit is written as tentative, and is applied when the page is thawed
   pub written-tentative : writes commitMeanwhile (freshStore 16 64) ≡ record { at = 1; what = page 0 1 (committedLate (tentative 5 0) ∷ []) } ∷ []
   pub thawed-committed : held (afterCalls commitMeanwhile (freshStore 16 64) .pages) ≡ (0, committedLate committed) ∷ []
   -- a replaced page's block is free only when the header has landed
@@ -352,7 +352,7 @@ pub record Cuts : Type 0 where
   pub stores : length scriptLog ≡ 11
   pub everywhere : cutEverywhere (freshStore 16 64) (madeImage (replicate 8192 0xFF) 64) [] scriptLog ≡ true
 
--- opens all that the cases compute with: `unfolding cases`
+-- unfolds all definitions that the cases compute with: `unfolding cases`
 unfoldable pub cases : ℕ
 unfolding basics bitsOf numberOf bitsIn field num4 same isTentative ownerSize size spell bytesOf filledUp blockOf committedBit markBit ownerFields payloadFields recordFields recordsFields entryFields encodeBlock kind spelledBy readHeader headerIn readOwner readMark readTuple recordLength isRecord readTuples pageTable pageCount pageLevel pageSpelled pageIn readEntries directoryCount directoryLevel directoryIn decodeBlock rowRules blockAt blockCount view wholeBlocks blockOk isZero directoriesFor directoryBlocks unusedNumbers headerOk headerTest addEntries readDirectories entriesOk testedEntries directoryTest pageOk addPage readPages rowsOfPages testedPages pageTest headerStage pagesBelow pagesStage rules held rows isForeign versions seenOf seen gives unless changed openCall readSeen readCall listing listCall writeRules placeRules openNumbers isFor writtenBy without others commitCall abortCall storedStore isFree allocate freeCount usedToo isRunning blocksNeeded beginCall leftOf left made fill storable storePage storeDirectory headerFor storeHeader stepOf stepAt badImage stepCall inTurn runCall transact effect call isBegin effectOf withWriter writers accepted afterCalls hadWritten memoryFor putBlock freshStore make madeImage loaded reopened recoveredStore recoverPages recoverBelow recover tag log isHeader landed imageWith content answers writes shape many after5 tuple samplePage joining cleanPage clean booking bookingBytes spelled firstSpells committedAll reading imageAfter shapeOf recoveredAfter places splitMeanwhile commitMeanwhile committedLate threeTimes oneAgain bothFrozen refusedCalls lastStore refusalOf ownerNumbers tupleNumbers heldNumbers pageNumbers agrees recoversTo tears cutHere cutEverywhere script scriptLog
 cases = 0

@@ -48,7 +48,7 @@ unfoldable pub isRunning : Checkpoint → Bool
 isRunning idle = false
 isRunning (running n es ds) = true
 
--- F + ⌈P/336⌉
+-- F + ⌈P/336⌉: one block for each of the F dirty pages, and the directory blocks of all P pages
 unfoldable pub blocksNeeded : List Page → ℕ
 blocksNeeded ps = howMany isDirty ps + directoriesFor (length ps)
 

@@ -45,11 +45,11 @@ log past base s (c ∷ cs) =
 unfoldable pub isHeader : Logged → Bool
 isHeader w = eqb (w .write .at) 0
 
--- a header that lands brings the calls before its checkpoint's begin
+-- the calls before the begin of the checkpoint whose header landed last: those of w if it stores a header, else base
 unfoldable pub landed : Logged → List Call → List Call
 landed w base = if isHeader w then w .before else base
 
--- the image with that block exchanged
+-- the image with the block that w stores
 unfoldable pub imageWith : List ℕ → Logged → List ℕ
 imageWith img w = putBlock img (w .write .at) (storedBytes (w .write))
 

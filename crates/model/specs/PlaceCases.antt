@@ -71,7 +71,7 @@ pub record PlaceCases : Type 0 where
   -- the newest is committed before the others go; a delete mark goes with all others; the pages are joined, and later places still hold
   pub close : closePlan 5 replaced ≡ commitPlace 2 ∷ removePlace 1 ∷ removePlace 3 ∷ removePlace 4 ∷ commitPlace 6 ∷ removePlace 5 ∷ []
   pub closed : afterPlan (closePlan 5 replaced) replaced ≡ ((0, (false, nothing)) ∷ (4, (false, nothing)) ∷ (6, (false, nothing)) ∷ []) ∷ []
-  -- abort takes the own ones
+  -- abort removes the transaction's own tuples
   pub abort : abortPlan 5 replaced ≡ removePlace 2 ∷ removePlace 4 ∷ removePlace 6 ∷ []
   pub aborted : afterPlan (abortPlan 5 replaced) replaced
       ≡ ((0, (false, nothing)) ∷ (1, (false, nothing)) ∷ (2, (false, nothing)) ∷ (3, (false, nothing)) ∷ []) ∷ []
@@ -84,10 +84,10 @@ pub record PlaceCases : Type 0 where
       ≡ ((0, (false, nothing)) ∷ (1, (true, removing)) ∷ []) ∷ ((2, (false, nothing)) ∷ []) ∷ []
   pub removed-before : closePlan 5 removedBefore ≡ commitPlace 1 ∷ []
   pub two-tables : closePlan 5 twoTables ≡ commitPlace 1 ∷ []
-  -- each neighbourhood is a run of its own
+  -- versions of a key that are no neighbours are in different runs
   pub scattered-runs : closePlan 5 scattered ≡ commitPlace 0 ∷ commitPlace 2 ∷ []
 
--- opens all that these cases compute with: `unfolding placeCases`
+-- unfolds all definitions that these cases compute with: `unfolding placeCases`
 unfoldable pub placeCases : ℕ
 unfolding basics isTentative ownerSize size rowRules rules placeRules held tupleOf old own ownMark frozenPage digest afterPlan replaced replacedFrozen removedBefore twoTables scattered
 placeCases = 0

@@ -41,7 +41,7 @@ lead w a (h ∷ hs) = if leb w (2 * (a + heldSize h)) then 1 else suc (lead w (a
 unfoldable pub half : List Held → ℕ
 half hs = lead (sum heldSize hs) 0 hs
 
--- above 504 bytes it is split
+-- tuples of more than 504 bytes are split in two
 unfoldable pub splitOnce : List Held → List (List Held)
 splitOnce hs = if fits hs then hs ∷ [] else take (half hs) hs ∷ drop (half hs) hs ∷ []
 
@@ -97,7 +97,7 @@ place t x ps = elim (placeAfter t x ps) [ some qs ↦ qs | none ↦ placeFront t
 
 -- ---- joining and dropping
 
--- of the same table, both unfrozen, and their sizes sum to at most 336
+-- two pages may be joined: of the same table, neither frozen, and their sizes sum to at most 336
 unfoldable pub joins : Page → Page → Bool
 joins p q =
     not (p .frozen) && (not (q .frozen) && (eqb (p .table) (q .table) && leb (sum heldSize (p .tuples) + sum heldSize (q .tuples)) joinSum))
@@ -169,7 +169,7 @@ withPending o h = record { tuple = h .tuple; pending = o }
 unfoldable pub asCommitted : Tuple → Tuple
 asCommitted x = record { key = x .key; number = x .number; owner = committed; mark = x .mark; payload = x .payload }
 
--- removed
+-- a tuple that is removed: nothing is left of it
 unfoldable pub removeNow : Held → List Held
 removeNow h = []
 
@@ -177,7 +177,7 @@ removeNow h = []
 unfoldable pub pendRemove : Held → List Held
 pendRemove h = if isAdding (h .pending) then [] else withPending removing h ∷ []
 
--- committed, whatever is pending
+-- a tuple that is committed, whatever is pending
 unfoldable pub commitNow : Held → List Held
 commitNow h = record { tuple = asCommitted (h .tuple); pending = h .pending } ∷ []
 
@@ -188,7 +188,7 @@ pendCommit h =
     else if isRemoving (h .pending) then h ∷ []
     else withPending committing h ∷ []
 
--- g on tuple j: it gives none or one
+-- the tuples with what g gives, none or one, in the place of tuple j
 unfoldable pub editAt : (Held → List Held) → ℕ → List Held → List Held
 editAt g j [] = []
 editAt g zero (h ∷ hs) = g h ++ hs
@@ -231,7 +231,7 @@ commitRow i ps = atRow commitRowOn i none ps
 
 -- ---- freezing and thawing
 
--- it has no block yet
+-- a dirty page: it has no block yet
 unfoldable pub isDirty : Page → Bool
 isDirty p = eqb (p .block) 0
 
@@ -253,11 +253,11 @@ unfoldable pub live : List Held → List Tuple
 live [] = []
 live (h ∷ hs) = if isRemoving (h .pending) then live hs else applied h ∷ live hs
 
--- frozen by begin and not stored yet
+-- a frozen page: begin has frozen it, and it is not stored yet
 unfoldable pub isFrozen : Page → Bool
 isFrozen p = p .frozen
 
--- the page, stored as block b, is thawed: pending operations take hold, and if there were none, it is clean
+-- the page, stored as block b, is thawed: its pending operations are applied, and if there were none, it is clean
 unfoldable pub thawOn : ℕ → Option Page → Page → List Page → List Page
 thawOn b prev p ps =
     if any (λ h. isPending (h .pending)) (p .tuples)
@@ -268,7 +268,7 @@ thawOn b prev p ps =
 unfoldable pub thaw : ℕ → List Page → List Page
 thaw b ps = around isFrozen (thawOn b) none ps
 
--- opens all of this module: `unfolding rules`
+-- unfolds all definitions of this module: `unfolding rules`
 unfoldable pub rules : ℕ
 unfolding heldSize fits fresh withTuples lead half splitOnce splitDeep splitAll after grown entering withoutPending placeAfter placeFront place joins joined listOf settleNext settleFull settle around isAdding isRemoving isCommitting isPending withPending asCommitted removeNow pendRemove commitNow pendCommit editAt pendRemoveAt removeRowOn committedAt commitRowOn atRow removeRow commitRow isDirty freeze shown applied live isFrozen thawOn thaw
 rules = 0

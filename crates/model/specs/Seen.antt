@@ -60,7 +60,7 @@ SeenAfterCommit =
     → ((r : Row) → last (isOwn tx) (versions t k (s .pages)) ≡ some r → seen u t k (commitCall tx s .store) ≡ remains r)
     × (last (isOwn tx) (versions t k (s .pages)) ≡ none → seen u t k (commitCall tx s .store) ≡ seen u t k s)
 
--- ---- calls that show nothing
+-- ---- calls that change nothing that is seen
 
 -- a refused call changes nothing and stores nothing
 abbrev pub RefusedKeeps : Type 0

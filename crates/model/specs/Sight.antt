@@ -27,7 +27,7 @@ isForeign tx r = isTentative (r .1 .owner) && not (isBy tx (r .1 .owner))
 unfoldable pub versions : ℕ → ℕ → List Page → List Row
 versions t k ps = keep (isAt t k) (rows ps)
 
--- its own newest version of a key (a delete mark means absent), else the committed one
+-- of the versions of a key, the one that transaction tx sees: its own newest (a delete mark means absent), else the committed one
 unfoldable pub seenOf : ℕ → List Row → Option Row
 seenOf tx vs = elim (last (isOwn tx) vs) [ some r ↦ if r .1 .mark then none else some r | none ↦ first (λ r. not (isTentative (r .1 .owner))) vs ]
 

@@ -58,7 +58,7 @@ unfoldable pub withWrite : ℕ → List Active → List Active
 withWrite tx [] = []
 withWrite tx (o ∷ os) = if isFor tx o then oneMore o ∷ os else o ∷ withWrite tx os
 
--- it is closed
+-- the open transactions without transaction tx
 unfoldable pub without : ℕ → List Active → List Active
 without tx os = keep (λ o. not (isFor tx o)) os
 
@@ -105,7 +105,7 @@ keyTest false there sees = 14 when not sees
 unfoldable pub keyTests : Bool → Bool → Bool → Bool → Store → List Test
 keyTests new foreign there sees s = 12 when foreign ∷ keyTest new there sees ∷ full s
 
--- those of a write that look at the tuples
+-- the tests of a write that look at the tuples
 unfoldable pub tupleTests : Bool → ℕ → ℕ → ℕ → Store → List Test
 tupleTests new tx t k s =
     let vs = versions t k (s .pages) in keyTests new (any (isForeign tx) vs) (not (isEmpty vs)) (isSome (seen tx t k s)) s
@@ -123,7 +123,7 @@ newTuple tx k bs m s =
 unfoldable pub afterWrite : ℕ → ℕ → ℕ → List ℕ → Bool → Store → Store
 afterWrite tx t k bs m s = changed s (suc (s .next)) (place t (newTuple tx k bs m s) (s .pages)) (withWrite tx (s .active))
 
--- one tentative tuple more
+-- the outcome of a write that no test refuses
 unfoldable pub withTuple : ℕ → ℕ → ℕ → List ℕ → Bool → Store → Outcome
 withTuple tx t k bs m s = gives done (afterWrite tx t k bs m s)
 
@@ -276,12 +276,12 @@ commitCall tx s = unless (notOpen tx s) s (closing tx (committedPages tx (s .pag
 unfoldable pub abortCall : ℕ → Store → Outcome
 abortCall tx s = unless (notOpen tx s) s (closing tx (abortedPages tx (s .pages)) s)
 
--- opens the writes: `unfolding writeRules`
+-- unfolds the definitions of the writes: `unfolding writeRules`
 unfoldable pub writeRules : ℕ
 unfolding oneMore withWrite notOpen noTable tooLong full argumentTests keyTest keyTests tupleTests writeTests newTuple afterWrite withTuple writeCall
 writeRules = 0
 
--- opens what commit and abort plan and carry out: `unfolding placeRules`
+-- unfolds what commit and abort plan and carry out: `unfolding placeRules`
 unfoldable pub placeRules : ℕ
 unfolding tagged placed allPlaced continues runs allRuns liveOf ownPlaced removePlaces planNewest planRun planRuns closePlan abortPlan carryOut
 placeRules = 0

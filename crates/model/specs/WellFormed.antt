@@ -22,11 +22,11 @@ use Rattle.model.specs.CrashRecovery.{Start}
 
 -- ---- tuples
 
--- by table, then key, then number
+-- the order of rows: by table, then key, then number
 unfoldable pub isBefore : Row → Row → Bool
 isBefore r q = isLower r q || (isAt (q .0) (q .1 .key) r && ltb (number r) (number q))
 
--- all tuples held, those pending add or removal too: they rise; no number stands twice, and all are below next; at most cap
+-- all tuples held, those pending add or removal too: they are in order; no number stands twice, all are below next; at most cap
 unfoldable pub heldOk : ℕ → ℕ → List Row → Bool
 heldOk cap next rs = every (paired isBefore rs ∷ distinct (map number rs) ∷ all (isBelow next) rs ∷ leb (length rs) cap ∷ [])
 

@@ -1,3 +1,4 @@
+-- `engine_pages::add_page` meets its contract: a page entry is inserted before page p, and then the row on it (`added`).
 use Rattle.memory_layout.proofs.Laws.{holds-room}
 use Rattle.engine_pages.proofs.Growing.{add-space, added-there, added-new, added}
 use Rattle.basics.proofs.Kit.{needs}

@@ -1,3 +1,4 @@
+-- `engine_pages::apply_pending` meets its contract: without a row left the page is dropped (`left-none`), else it is dirty (`left-some`).
 use Rattle.engine_pages.proofs.Applying.{left-there, left-empty, left-none, left-some}
 use Rattle.basics.proofs.Kit.{needs, arith}
 use Rattle.engine_pages.proofs.apply_pending.Statement.{statement}

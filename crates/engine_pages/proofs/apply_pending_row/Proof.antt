@@ -1,3 +1,4 @@
+-- `engine_pages::apply_pending_row` meets its contract: a pending removal by `row-removed`, any other row by `row-kept`.
 use Rattle.basics.proofs.Kit.{sym, _∙_, needs}
 use Rattle.engine_pages.proofs.Applying.{row-removed, row-kept}
 use Rattle.engine_pages.proofs.apply_pending_row.Statement.{statement}

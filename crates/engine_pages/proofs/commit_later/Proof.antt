@@ -1,3 +1,4 @@
+-- `engine_pages::commit_later` meets its contract: a pending add by `commit-adding`, a pending removal by `commit-left`, any other row by `commit-noted`.
 use Rattle.basics.proofs.Kit.{sym, _∙_, needs}
 use Rattle.engine_pages.proofs.Places.{row-in}
 use Rattle.engine_pages.proofs.Committing.{commit-left, commit-adding, commit-noted}

@@ -1,3 +1,4 @@
+-- `engine_pages::freeze` meets its contract. The invariant: the first p pages are frozen where they were dirty, and the others are as at entry.
 use Rattle.memory_layout.specs.Flat.{flatOf}
 use Rattle.memory_layout.proofs.Laws.{holds-room}
 use Rattle.basics.proofs.Kit.{_<_, _-_, length, needs, arith}

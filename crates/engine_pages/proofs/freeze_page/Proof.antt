@@ -1,3 +1,4 @@
+-- `engine_pages::freeze_page` meets its contract: a page is dirty exactly if its block is 0 (`frozen-now`).
 use Rattle.basics.proofs.Kit.{needs, arith}
 use Rattle.engine_pages.proofs.Places.{page-in, room, block-small}
 use Rattle.engine_pages.proofs.Freezing.{frozen-now}

@@ -1,3 +1,4 @@
+-- `engine_pages::grow` meets its contract: on a frozen page the row is a pending add (`grew-frozen`), another page is dirty and split if too large (`grew`).
 use Rattle.basics.proofs.Kit.{sym, _∙_, needs, arith}
 use Rattle.engine_pages.proofs.Places.{page-in, page-frozen}
 use Rattle.engine_pages.proofs.Growing.{grow-there, grow-new, more-there, more-rows, grew-frozen, grew-there, grew-dirty, grew}

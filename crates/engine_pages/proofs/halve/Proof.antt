@@ -1,3 +1,4 @@
+-- `engine_pages::halve` meets its contract: the page fits a block (`halved-whole`), or is split so that both parts have a row (`halved-parts`).
 use Rattle.basics.proofs.Kit.{sym, _∙_, _≤_, _<_, leb-true, leb-false, needs, arith}
 use Rattle.block_forms.specs.Limits.{recordSpace}
 use Rattle.engine_pages.specs.Pages.{entryOf}

@@ -1,3 +1,4 @@
+-- `engine_pages::join` meets its contract, by those of `join_before` and `join_after`, one after the other (`tried-both`).
 use Rattle.engine_pages.specs.Pages.{There}
 use Rattle.basics.proofs.Kit.{sym, subst, List, ℕ, needs}
 use Rattle.engine_pages.proofs.Joining.{tried, tried-both}

@@ -1,3 +1,4 @@
+-- `engine_pages::join_after` meets its contract: nothing changes without a successor or if the two may not join; else they are joined (`next-joins`).
 use Rattle.basics.proofs.Kit.{sym, _∙_, _+_, _<_, length, not-true, not-false, needs, arith}
 use Rattle.memory_layout.specs.Flat.{flatOf}
 use Rattle.engine_pages.proofs.Places.{now-to, few-pages, room, long, pages-are}

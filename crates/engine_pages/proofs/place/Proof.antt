@@ -1,3 +1,4 @@
+-- `engine_pages::place` meets its contract: on a new page by `placed-new`, before all rows of the table by `placed-first`, else by `placed-later`.
 use Rattle.memory_layout.proofs.Laws.{holds-room}
 use Rattle.engine_pages.proofs.Places.{now-to, holds-now}
 use Rattle.engine_pages.proofs.Spots.{may-add, placed-new, first-in, may-grow-first, placed-first, behind-first, place-on-pages, may-grow-later, placed-later}

@@ -1,3 +1,4 @@
+-- `engine_pages::remove_at` meets its contract: on a frozen page by that of `remove_later`, on another by that of `remove_now`.
 use Rattle.basics.proofs.Kit.{sym, _∙_, needs}
 use Rattle.engine_pages.proofs.Places.{page-in, page-frozen, now-to, holds-now}
 use Rattle.engine_pages.proofs.Removing.{removed-later, removed-now}

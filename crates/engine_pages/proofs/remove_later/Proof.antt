@@ -1,3 +1,4 @@
+-- `engine_pages::remove_later` meets its contract: a removal is noted by `later-noted`; an added row stays if it is the only one, else it goes (`later-away`).
 use Rattle.basics.proofs.Kit.{not-true, not-false, needs}
 use Rattle.engine_pages.proofs.Places.{row-in}
 use Rattle.engine_pages.proofs.Removing.{may-lose, later-noted, later-last, later-away}

@@ -1,3 +1,4 @@
+-- `engine_pages::thaw` meets its contract, in its four cases: `thawed-clean`, `thawed-none`, `thawed-joined`, `thawed-split`.
 use Rattle.basics.proofs.Kit.{sym, _∙_, not-true, not-false, needs}
 use Rattle.engine_pages.proofs.Places.{room, holds-now}
 use Rattle.engine_pages.proofs.Thawing.{thawed-clean, thawed-none, left-at, thawed-joined, apart-at, apart-dirty, thawed-split}

@@ -1,3 +1,4 @@
+-- `image_page::add_rows` meets its contract. The invariant: `at` is behind the first i tuples, and their rows are in the columns from place k on.
 use Rattle.basics.proofs.Kit.{_≡_, refl, sym, _∙_, some, List, _++_, map, ℕ, _+_, _≤_, _<_, _-_, length, take, drop, arith}
 use Rattle.block_forms.specs.Limits.{pageHeadSize}
 use Rattle.block_reader.proofs.Walk.{Walk, read-count, walk-read, walk-found, walk-bad, walk-end}

@@ -1,3 +1,4 @@
+-- `image_page::good_page` meets its contract: for no page by `no-page`, where a test fails by `good-not`, where all pass by `good-yes`.
 use Rattle.basics.proofs.Kit.{refl, sym, _∙_, le-leb, lt-leb, not-true, not-false, needs, arith}
 use Rattle.image_page.proofs.Decoded.{is-page, good-not, good-yes, no-page}
 use Rattle.basics.proofs.Ands.{and-no}

@@ -1,3 +1,4 @@
+-- `image_page::marks_ok` meets its contract. The invariant: `at` is behind the first i tuples; the answer is whether the marks from tuple i on are right.
 use Rattle.basics.proofs.Kit.{_≡_, refl, sym, _∙_, some, List, ℕ, _≤_, _-_, drop, not-true, not-false, arith}
 use Rattle.block_reader.proofs.Walk.{Walk, Handed, read-count, walk-read, walk-found, walk-bad, walk-end}
 use Rattle.image_page.proofs.Walk.{mark-right, mark-wrong, marks-end}

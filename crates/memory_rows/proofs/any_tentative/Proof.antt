@@ -1,3 +1,4 @@
+-- `memory_rows::any_tentative` meets its contract. The invariant: the answer is hit, or whether one of the states from j on is below 128.
 use Rattle.memory_rows.proofs.Groups.{unset, group-is}
 use Rattle.memory_rows.proofs.Access.{sized}
 use Rattle.memory_bytes.proofs.Scans.{any-turn, any-end}

@@ -1,3 +1,4 @@
+-- `memory_rows::append_row` meets its contract: the row is inserted behind all others (`appended`), and each is in the slot of its own index (`in-order`).
 use Rattle.memory_rows.proofs.Appending.{appended, in-order}
 use Rattle.memory_layout.specs.Views.{headOf}
 use Rattle.basics.proofs.Kit.{ap, ℕ, _+_, _*_, _<_, needs, arith}

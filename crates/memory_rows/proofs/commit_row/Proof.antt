@@ -1,3 +1,4 @@
+-- `memory_rows::commit_row` meets its contract: the one byte that is written is the row's state (`commits`).
 use Rattle.memory_rows.proofs.Exchange.{commits}
 use Rattle.memory_bytes.proofs.Moves.{write-first, write-end}
 use Rattle.basics.proofs.Kit.{refl, [], needs}

@@ -1,3 +1,4 @@
+-- `memory_rows::copy_payload` meets its contract, by those of `payload_at` and `copy_out`.
 use Rattle.basics.proofs.Kit.{ap, _∙_, List, _++_, ℕ, _+_, drop, needs}
 use Rattle.memory_rows.proofs.copy_payload.Statement.{statement}
 use Rattle.memory_rows.proofs.copy_payload.Tie as tie

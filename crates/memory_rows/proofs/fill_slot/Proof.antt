@@ -1,3 +1,4 @@
+-- `memory_rows::fill_slot` meets its contract: number, owner and payload are written one after the other (`slot-filled`).
 use Rattle.memory_rows.proofs.Moving.{slot-filled}
 use Rattle.basics.proofs.Kit.{needs, arith}
 use Rattle.memory_rows.proofs.fill_slot.Statement.{statement}

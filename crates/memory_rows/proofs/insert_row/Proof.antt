@@ -1,3 +1,4 @@
+-- `memory_rows::insert_row` meets its contract: the slot is filled, the rows from row i on go one up, the cells and the count are written (`inserted`).
 use Rattle.memory_rows.proofs.Inserting.{inserted}
 use Rattle.memory_layout.specs.Views.{headOf}
 use Rattle.basics.proofs.Kit.{ap, ℕ, _+_, _*_, needs, arith}

@@ -1,3 +1,4 @@
+-- `memory_rows::is_by` meets its contract, for a committed and for a tentative owner.
 use Rattle.block_forms.specs.declared.Owner.{Owner}
 use Rattle.block_forms.specs.Bytes.{ownerIs}
 use Rattle.image_rows.specs.Rows.{isBy}

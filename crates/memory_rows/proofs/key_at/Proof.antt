@@ -1,3 +1,4 @@
+-- `memory_rows::key_at` meets its contract: the key is read from its place in the column of keys (`key-is`).
 use Rattle.memory_rows.proofs.Access.{key-is}
 use Rattle.memory_bytes.specs.Bytes.{le4}
 use Rattle.basics.proofs.Kit.{sym, ap, _∙_, needs}

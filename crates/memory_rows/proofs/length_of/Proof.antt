@@ -1,3 +1,4 @@
+-- `memory_rows::length_of` meets its contract: it answers the smaller of the low six bits and the limit.
 use Rattle.memory_layout.specs.Views.{lengthOf}
 use Rattle.basics.proofs.Kit.{sym, min-eq-left, min-eq-right, needs, arith}
 use Rattle.memory_rows.proofs.length_of.Statement.{statement}

@@ -1,3 +1,4 @@
+-- `memory_rows::mark_at` meets its contract: the mark is read from the row's state (`mark-is`).
 use Rattle.memory_rows.proofs.Access.{mark-is}
 use Rattle.block_forms.specs.Decode.{readMark}
 use Rattle.basics.proofs.Kit.{sym, ap, _∙_, needs}

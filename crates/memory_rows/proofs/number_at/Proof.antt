@@ -1,3 +1,4 @@
+-- `memory_rows::number_at` meets its contract: the number is read from the start of the row's slot (`number-is`).
 use Rattle.memory_rows.proofs.Access.{number-is}
 use Rattle.memory_bytes.specs.Bytes.{le4}
 use Rattle.basics.proofs.Kit.{sym, ap, _∙_, needs}

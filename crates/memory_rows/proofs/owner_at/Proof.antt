@@ -1,3 +1,4 @@
+-- `memory_rows::owner_at` meets its contract: the owner is read from the row's state and from its slot (`owner-is`).
 use Rattle.memory_rows.proofs.Access.{owner-is}
 use Rattle.block_forms.specs.Decode.{readOwner}
 use Rattle.block_forms.specs.Bytes.{ownerIs}

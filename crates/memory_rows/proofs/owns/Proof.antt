@@ -1,3 +1,4 @@
+-- `memory_rows::owns` meets its contract: whether the pending operation leaves the owner, and the owner is the transaction (`live-is`).
 use Rattle.memory_rows.proofs.Fields.{live-is}
 use Rattle.memory_rows.specs.Cells.{keepsOwner}
 use Rattle.memory_layout.specs.Flat.{flatOf, rowIn}

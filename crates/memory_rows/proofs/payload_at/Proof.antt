@@ -1,3 +1,4 @@
+-- `memory_rows::payload_at` meets its contract: the payload stands in the row's slot from byte 8 on, as long as the state says (`payload-is`).
 use Rattle.memory_rows.proofs.Access.{payload-is}
 use Rattle.memory_layout.specs.Views.{lengthOf}
 use Rattle.memory_bytes.proofs.Bytes.{length-bytes}

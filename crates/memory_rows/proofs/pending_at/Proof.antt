@@ -1,3 +1,4 @@
+-- `memory_rows::pending_at` meets its contract: the operation is read from the row's two bytes (`pending-is`), by the contract of `pending_of`.
 use Rattle.memory_rows.proofs.Access.{pending-is}
 use Rattle.memory_layout.specs.Views.{pendingOf}
 use Rattle.basics.proofs.Kit.{sym, ap, _∙_, needs}

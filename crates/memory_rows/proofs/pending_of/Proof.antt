@@ -1,3 +1,4 @@
+-- `memory_rows::pending_of` meets its contract: one case for each pending operation.
 use Rattle.memory_layout.specs.Views.{pendingOf}
 use Rattle.basics.proofs.Kit.{ℕ, _%_, _/_, eq-eqb, ne-eqb}
 use Rattle.basics.specs.Basics.{if_then_else_}

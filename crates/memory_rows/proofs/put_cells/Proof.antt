@@ -1,3 +1,4 @@
+-- `memory_rows::put_cells` meets its contract: key, reference and state are written, each in its column (`cells-put`).
 use Rattle.memory_rows.proofs.Moving.{cells-put}
 use Rattle.memory_bytes.proofs.Moves.{write-first, write-end}
 use Rattle.basics.proofs.Kit.{refl, _∙_, [], length-set, needs, arith}

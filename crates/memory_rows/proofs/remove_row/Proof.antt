@@ -1,3 +1,4 @@
+-- `memory_rows::remove_row` meets its contract: the rows behind row i go one down, then its slot is noted and the count is written (`removed`).
 use Rattle.basics.proofs.Kit.{needs, arith}
 use Rattle.memory_rows.proofs.Inserting.{removed}
 use Rattle.memory_rows.proofs.remove_row.Statement.{statement}

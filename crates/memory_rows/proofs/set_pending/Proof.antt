@@ -1,3 +1,4 @@
+-- `memory_rows::set_pending` meets its contract: the two bytes that are written are the row's slot and pending operation (`pends`).
 use Rattle.memory_rows.proofs.Exchange.{pends}
 use Rattle.basics.proofs.Kit.{_+_, _*_, _%_, needs, arith}
 use Rattle.memory_rows.proofs.set_pending.Statement.{statement}

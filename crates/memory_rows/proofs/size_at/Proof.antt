@@ -1,3 +1,4 @@
+-- `memory_rows::size_at` meets its contract: the size depends on the state alone (`size-is`).
 use Rattle.memory_rows.proofs.Fields.{size-is, at-most}
 use Rattle.basics.proofs.Kit.{sym, _∙_, ap, ltb, needs, arith}
 use Rattle.block_forms.specs.Limits.{committedValue}

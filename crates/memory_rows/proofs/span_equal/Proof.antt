@@ -1,3 +1,4 @@
+-- `memory_rows::span_equal` meets its contract, by that of the search in the column of keys, which are the keys of the rows (`covers-keys`).
 use Rattle.memory_rows.proofs.Access.{covers-keys}
 use Rattle.memory_layout.specs.Places.{keysAt}
 use Rattle.basics.proofs.Kit.{ap, _∙_, needs}

@@ -6,17 +6,11 @@ use Rattle.store.proofs.clamped.Tie as tie
 use Rattle.store.proofs.clamped.Reads as reads
 use Rattle.store.proofs.clamped.Lts as lts
 
--- src/lib.rt:12:16
-cast-result : tie.Need-cast-result
-cast-result c = search needs
-
--- src/lib.rt:12:9
 returns : tie.Need-returns
 returns c = clamped-low (c .before .args .n) (c .if1 .taken)
 
--- src/lib.rt:8:1
 returns-2 : tie.Need-returns-2
 returns-2 c = clamped-high (c .before .args .n) (c .if1 .left)
 
 pub clamped-spec : {M : Type 1} → statement M
-clamped-spec = tie.close (tie.spec cast-result returns returns-2)
+clamped-spec = tie.close (tie.spec (search needs) returns returns-2)

@@ -1,3 +1,4 @@
+-- `engine_pages::measures::half` meets its contract. The invariant: the answer is i - s plus that for the rows from i on, with the size `all` before them.
 use Rattle.basics.proofs.Kit.{_≡_, sym, ap, ℕ, _+_, _*_, _≤_, _-_, arith}
 use Rattle.block_forms.specs.Limits.{mostRecord}
 use Rattle.engine_pages.proofs.Sizes.{Turn, turn, lead-stop, lead-go, lead-end}
@@ -18,46 +19,36 @@ turned : (c : tie.After-size-at Inv-loop μ-loop) → let a = c .before .before 
     (c .size-at .result)
 turned c = let l = c .before .before .loop in turn (c .before .before .before .before .pre) (l .inv .0) (c .before .loop-test .taken) (l .inv .1 .1 .0) (c .size-at .ensures)
 
--- src/lib.rt:42:5
 loop-holds : tie.Need-loop-holds Inv-loop μ-loop
 loop-holds c = let g = c .before .pre in (omega arith, (omega (arith, g .order), (omega arith, omega arith)))
 
--- src/lib.rt:43:16
 size-at-requires : tie.Need-size-at-requires Inv-loop μ-loop
 size-at-requires c κs = let g = c .before .before .before .pre in (g .room, omega (arith, g .inside, c .loop-test .taken))
 
--- src/lib.rt:43:9
 add-all : tie.Need-add-all Inv-loop μ-loop
 add-all c = let t = turned c in omega arith
 
--- src/lib.rt:44:21
 mul-if1 : tie.Need-mul-if1 Inv-loop μ-loop
 mul-if1 c = let t = turned c in omega arith
 
--- src/lib.rt:45:20
 add-result : tie.Need-add-result Inv-loop μ-loop
 add-result c = let t = turned (c .before) in omega arith
 
--- src/lib.rt:45:20
 sub-result : tie.Need-sub-result Inv-loop μ-loop
 sub-result c = let t = turned (c .before) in omega arith
 
--- src/lib.rt:45:13
 returns : tie.Need-returns Inv-loop μ-loop
 returns c = let t = turned (c .before) in
     let l = c .before .before .before .loop in
     let a = c .before .before .before .before .before .args in
     omega (arith, l .inv .1 .1 .1, lead-stop (a .m .now) (l .i) (a .e) (a .whole) (l .all) (t .inside) (t .most) (omega (arith, t .size, c .if1 .taken)))
 
--- src/lib.rt:47:9
 add-i : tie.Need-add-i Inv-loop μ-loop
 add-i c = let t = turned (c .before) in omega arith
 
--- src/lib.rt:42:5
 loop-less : tie.Need-loop-less Inv-loop μ-loop
 loop-less c = let t = turned (c .before) in omega arith
 
--- src/lib.rt:42:5
 loop-again : tie.Need-loop-again Inv-loop μ-loop
 loop-again c = let t = turned (c .before) in
     let l = c .before .before .before .loop in
@@ -65,11 +56,9 @@ loop-again c = let t = turned (c .before) in
     let q = ap (λ (z : ℕ). lead (a .whole) (l .all + z) (rowsFrom (a .m .now) (l .i + 1) (a .e))) (sym (t .size)) in
     (omega arith, (omega arith, (omega arith, omega (arith, q, l .inv .1 .1 .1, lead-go (a .m .now) (l .i) (a .e) (a .whole) (l .all) (t .inside) (t .most) (omega (arith, t .size, c .if1 .left))))))
 
--- src/lib.rt:49:5
 sub-result-2 : tie.Need-sub-result-2 Inv-loop μ-loop
 sub-result-2 c = omega (arith, c .before .before .before .pre .order)
 
--- src/lib.rt:36:1
 returns-2 : tie.Need-returns-2 Inv-loop μ-loop
 returns-2 c = let l = c .before .loop in
     let a = c .before .before .before .args in

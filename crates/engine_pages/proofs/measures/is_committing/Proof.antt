@@ -1,48 +1,25 @@
+-- `engine_pages::measures::is_committing` meets its contract: one case for each pending operation.
 use Rattle.engine_pages.proofs.Pending.{told}
 use Rattle.model.specs.Rules.{isCommitting}
 use Rattle.basics.proofs.Kit.{needs}
 use Rattle.engine_pages.proofs.measures.is_committing.Statement.{statement}
 use Rattle.engine_pages.proofs.measures.is_committing.Tie as tie
 
--- src/lib.rt:87:11
-pending-at-requires : tie.Need-pending-at-requires
-pending-at-requires c κs = search needs
-
--- src/lib.rt:88:29
-enum-told : tie.Need-enum-told
-enum-told c = search needs
-
--- src/lib.rt:89:28
-enum-told-2 : tie.Need-enum-told-2
-enum-told-2 c = search needs
-
--- src/lib.rt:90:32
-enum-told-3 : tie.Need-enum-told-3
-enum-told-3 c = search needs
-
--- src/lib.rt:91:30
-enum-told-4 : tie.Need-enum-told-4
-enum-told-4 c = search needs
-
--- src/lib.rt:83:1
 returns : tie.Need-returns
 unfolding isCommitting
 returns c = told isCommitting (c .enum-told .given .1) (c .before .before .pending-at .ensures)
 
--- src/lib.rt:83:1
 returns-2 : tie.Need-returns-2
 unfolding isCommitting
 returns-2 c = told isCommitting (c .enum-told2 .given .1) (c .before .before .pending-at .ensures)
 
--- src/lib.rt:83:1
 returns-3 : tie.Need-returns-3
 unfolding isCommitting
 returns-3 c = told isCommitting (c .enum-told3 .given .1) (c .before .before .pending-at .ensures)
 
--- src/lib.rt:83:1
 returns-4 : tie.Need-returns-4
 unfolding isCommitting
 returns-4 c = told isCommitting (c .enum-told4 .given .1) (c .before .before .pending-at .ensures)
 
 pub is-committing-spec : {M : Type 1} → statement M
-is-committing-spec = tie.close (tie.spec pending-at-requires enum-told enum-told-2 enum-told-3 enum-told-4 returns returns-2 returns-3 returns-4)
+is-committing-spec = tie.close (tie.spec (λ c κs. search needs) (search needs) (search needs) (search needs) (search needs) returns returns-2 returns-3 returns-4)

@@ -1,3 +1,4 @@
+-- `engine_pages::measures::rows_size` meets its contract. The invariant: the sum is `all` plus the sizes of the rows from i on.
 use Rattle.basics.proofs.Kit.{_≡_, _+_, _*_, _≤_, _-_, arith}
 use Rattle.engine_pages.proofs.Sizes.{Turn, turn, sum-next, sum-none}
 use Rattle.engine_pages.specs.Pages.{rowsFrom}
@@ -19,27 +20,21 @@ turned : (c : tie.After-size-at Inv-loop μ-loop) → let a = c .before .before 
     (c .size-at .result)
 turned c = let l = c .before .before .loop in turn (c .before .before .before .before .pre) (l .inv .0) (c .before .loop-test .taken) (l .inv .1 .1 .0) (c .size-at .ensures)
 
--- src/lib.rt:28:5
 loop-holds : tie.Need-loop-holds Inv-loop μ-loop
 loop-holds c = let g = c .before .pre in (omega arith, (omega (arith, g .order), (omega arith, omega arith)))
 
--- src/lib.rt:29:16
 size-at-requires : tie.Need-size-at-requires Inv-loop μ-loop
 size-at-requires c κs = let g = c .before .before .before .pre in (g .room, omega (arith, g .inside, c .loop-test .taken))
 
--- src/lib.rt:29:9
 add-all : tie.Need-add-all Inv-loop μ-loop
 add-all c = let t = turned c in omega arith
 
--- src/lib.rt:30:9
 add-i : tie.Need-add-i Inv-loop μ-loop
 add-i c = let t = turned c in omega arith
 
--- src/lib.rt:28:5
 loop-less : tie.Need-loop-less Inv-loop μ-loop
 loop-less c = let t = turned c in omega arith
 
--- src/lib.rt:28:5
 loop-again : tie.Need-loop-again Inv-loop μ-loop
 loop-again c = let t = turned c in
     let l = c .before .before .loop in (
@@ -58,7 +53,6 @@ loop-again c = let t = turned c in
       ),
     )
 
--- src/lib.rt:22:1
 returns : tie.Need-returns Inv-loop μ-loop
 returns c = let l = c .before .loop in omega (arith, l .inv .1 .1 .1, sum-none (c .before .before .before .args .m .now) (l .i) (c .before .before .before .args .e) (c .loop-test .left))
 

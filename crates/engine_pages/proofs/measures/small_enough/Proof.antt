@@ -1,3 +1,4 @@
+-- `engine_pages::measures::small_enough` meets its contract. The invariant: the sum is `all` plus the sizes of the rows from i on; `all` is not too large.
 use Rattle.basics.proofs.Kit.{_≡_, sym, _∙_, _+_, _≤_, _-_, not-true, not-false, le-leb, lt-leb, leb-true, leb-false, arith}
 use Rattle.basics.specs.Basics.{sum}
 use Rattle.block_forms.specs.Limits.{joinSum}

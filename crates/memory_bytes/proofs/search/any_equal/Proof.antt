@@ -1,4 +1,4 @@
--- `memory_bytes::any_equal` meets its contract. The invariant: the answer is hit, or whether one of the numbers from j on is the key.
+-- `memory_bytes::search::any_equal` meets its contract. The invariant: the answer is hit, or whether one of the numbers from j on is the key.
 use Rattle.memory_bytes.proofs.Scans.{any-turn, any-end}
 use Rattle.memory_bytes.specs.Columns.{tab, equals}
 use Rattle.memory_bytes.specs.Bytes.{column4}

@@ -1,4 +1,4 @@
--- `memory_bytes::find_equal` meets its contract. The invariant of both loops: the search from index k on has the answer of the search from i on.
+-- `memory_bytes::search::find_equal` meets its contract. The invariant of both loops: the search from index k on has the answer of the search from i on.
 use Rattle.memory_bytes.proofs.Scans.{first-skip, first-pass, first-hit, first-end, any-group4}
 use Rattle.memory_bytes.specs.Columns.{tab, equals, firstIndex}
 use Rattle.memory_bytes.specs.Bytes.{column4}

@@ -1,4 +1,4 @@
--- `memory_bytes::first_equal16` meets its contract. The invariant: f is from j to 16, and no number from j up to f is the key.
+-- `memory_bytes::search::first_equal16` meets its contract. The invariant: f is from j to 16, and no number from j up to f is the key.
 use Rattle.basics.proofs.Kit.{refl, _∙_, _≤_, arith}
 use Rattle.memory_bytes.proofs.Spans.{covers-none, covers-is, down-here, down-past}
 use Rattle.memory_bytes.specs.Bytes.{column4}

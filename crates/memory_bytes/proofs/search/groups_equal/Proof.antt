@@ -1,4 +1,4 @@
--- `memory_bytes::groups_equal` meets its contract. The invariant is the contract with k in the place of e; the last group, which ends at e, is one more turn.
+-- `memory_bytes::search::groups_equal` meets its contract. The invariant is the contract with k in the place of e; the last group, which ends at e, is one more turn.
 use Rattle.basics.proofs.Kit.{refl, sym, _≤_, _-_, arith}
 use Rattle.memory_bytes.proofs.Scans.{any-group4}
 use Rattle.memory_bytes.proofs.Spans.{grouped-none, grouped-turn}

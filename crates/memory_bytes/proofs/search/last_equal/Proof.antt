@@ -1,4 +1,4 @@
--- `memory_bytes::last_equal` meets its contract. The invariant of both loops: the search below index k has the answer of the search below e.
+-- `memory_bytes::search::last_equal` meets its contract. The invariant of both loops: the search below index k has the answer of the search below e.
 use Rattle.memory_bytes.proofs.Scans.{LastBelow, last-skip, last-pass, last-hit, last-end, any-group4}
 use Rattle.memory_bytes.specs.Columns.{equals}
 use Rattle.memory_bytes.specs.Bytes.{column4}

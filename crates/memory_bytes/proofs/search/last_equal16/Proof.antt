@@ -1,4 +1,4 @@
--- `memory_bytes::last_equal16` meets its contract. The invariant: f is at most j, and no number from f up to j is the key.
+-- `memory_bytes::search::last_equal16` meets its contract. The invariant: f is at most j, and no number from f up to j is the key.
 use Rattle.basics.proofs.Kit.{refl, _∙_, ⊎-elim, _≤_, _-_, arith}
 use Rattle.memory_bytes.proofs.Spans.{covers-none, covers-is, up-here, up-past}
 use Rattle.memory_bytes.specs.Bytes.{column4}

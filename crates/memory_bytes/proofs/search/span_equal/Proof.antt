@@ -1,4 +1,4 @@
--- `memory_bytes::span_equal` meets its contract: fewer than 16 numbers by `found-covers`, 16 or more by `grouped-empty` or `grouped-covers`.
+-- `memory_bytes::search::span_equal` meets its contract: fewer than 16 numbers by `found-covers`, 16 or more by `grouped-empty` or `grouped-covers`.
 use Rattle.basics.proofs.Kit.{needs, arith}
 use Rattle.memory_bytes.specs.Bytes.{column4}
 use Rattle.memory_bytes.proofs.Spans.{first-in, found-covers, grouped-empty, grouped-covers}

@@ -1,3 +1,4 @@
+-- `memory_rows::places::capacity` meets its contract: the number is read from the head, and a memory with room has its bounds (`sized`).
 use Rattle.memory_rows.proofs.Access.{sized}
 use Rattle.memory_rows.specs.Cells.{Capacity}
 use Rattle.basics.proofs.Kit.{sym, subst, ℕ, needs}

@@ -1,3 +1,4 @@
+-- `memory_rows::places::ref_at` meets its contract, by those of `ref_place` and `get2`.
 use Rattle.memory_bytes.specs.Bytes.{le2}
 use Rattle.basics.proofs.Kit.{ap, _∙_, needs}
 use Rattle.memory_rows.proofs.places.ref_at.Statement.{statement}

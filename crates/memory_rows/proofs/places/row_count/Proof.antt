@@ -1,3 +1,4 @@
+-- `memory_rows::places::row_count` meets its contract: the head's count of rows is how many rows there are (`rows-length`).
 use Rattle.memory_layout.proofs.Laws.{rows-length}
 use Rattle.basics.proofs.Kit.{sym, _∙_, needs}
 use Rattle.memory_rows.proofs.places.row_count.Statement.{statement}

@@ -1,3 +1,4 @@
+-- `memory_rows::places::slot_of` meets its contract: a slot number below the capacity is answered as it is, any other as slot 0.
 use Rattle.memory_layout.specs.Views.{slotOf}
 use Rattle.basics.proofs.Kit.{lt-ltb, le-ltb, needs}
 use Rattle.basics.specs.Basics.{if_then_else_}

@@ -1,3 +1,4 @@
+-- `memory_rows::places::slot_place` meets its contract, by those of `capacity`, `ref_at`, `slot_of` and `slot_at`.
 use Rattle.memory_rows.specs.Cells.{slotIn, slotAt}
 use Rattle.memory_layout.specs.Views.{slotOf, slotPlace}
 use Rattle.basics.proofs.Kit.{_≡_, ap, _∙_, needs, arith}

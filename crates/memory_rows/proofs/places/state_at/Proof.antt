@@ -1,3 +1,4 @@
+-- `memory_rows::places::state_at` meets its contract, by that of `state_place`.
 use Rattle.basics.proofs.Kit.{ap, ℕ, getD, needs}
 use Rattle.memory_rows.proofs.places.state_at.Statement.{statement}
 use Rattle.memory_rows.proofs.places.state_at.Tie as tie

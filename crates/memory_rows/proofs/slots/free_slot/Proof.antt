@@ -1,3 +1,4 @@
+-- `memory_rows::slots::free_slot` meets its contract: the noted slot is answered only if `is_taken` is false for it, otherwise what `search_slot` answers.
 use Rattle.basics.proofs.Kit.{sym, _∙_, not-true, needs, arith}
 use Rattle.memory_rows.proofs.slots.free_slot.Statement.{statement}
 use Rattle.memory_rows.proofs.slots.free_slot.Tie as tie

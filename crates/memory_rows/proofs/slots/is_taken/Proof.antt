@@ -1,3 +1,4 @@
+-- `memory_rows::slots::is_taken` meets its contract: slot 0 by that of `zero_taken`, any other by that of `names16` (`named-taken`).
 use Rattle.memory_rows.proofs.FreeSlots.{named-taken}
 use Rattle.memory_rows.specs.Cells.{slotIn}
 use Rattle.memory_bytes.specs.Columns.{tab, equals, names}

@@ -1,3 +1,4 @@
+-- `memory_rows::slots::search_slot` meets its contract. The invariant: all slots below s are taken, so that s is at most the number of rows (`fewer`).
 use Rattle.memory_rows.proofs.FreeSlots.{fewer}
 use Rattle.memory_rows.proofs.Access.{sized}
 use Rattle.memory_rows.specs.Cells.{isTaken}

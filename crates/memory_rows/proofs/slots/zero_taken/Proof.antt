@@ -1,3 +1,4 @@
+-- `memory_rows::slots::zero_taken` meets its contract. The invariant: the answer is hit, or whether one of the rows from i on is in slot 0.
 use Rattle.memory_rows.specs.Cells.{slotIn}
 use Rattle.memory_layout.specs.Views.{slotOf}
 use Rattle.memory_bytes.proofs.Scans.{any-start, any-turn, any-end}
