@@ -27,9 +27,6 @@ unfolding firstIndex nest pageOf isFrozen
 frozen-nest [] hs = refl
 frozen-nest (e ∷ es) hs = ap (λ (z : ℕ). cond (e .frozen) 0 (suc z)) (frozen-nest es (drop (e .count) hs))
 
-pub frozen-page : (m : List ℕ) → firstIndex frozenEntry (flatOf m .entries) ≡ firstIndex isFrozen (pagesOf m)
-frozen-page m = frozen-nest (flatOf m .entries) (flatOf m .rows)
-
 -- ---- what the rule does to a page with nothing pending, and to another
 
 thaw-clean : (b : ℕ) (prev : Option Page) (q : Page) (qs : List Page) → any waits (q .tuples) ≡ false

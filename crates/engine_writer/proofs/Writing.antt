@@ -83,9 +83,6 @@ module _ {block : List ℕ} {t l n b : ℕ} {ts : List Tuple} {at : ℕ} (f : Fi
       let p = behind-more (s .inside) put ts (f .place) ∙ ap behind e in
       record { made = put .page t l n b ts (f .made) (f .place) ∙ ap (partPage t l n b) e; place = p; room = omega (arith, p) }
 
-  pub filling-length : length block ≡ 512
-  filling-length = ap length (f .made) ∙ part-length t l n b ts (omega (arith, f .place, f .room))
-
 -- with all its tuples it is the page
 pub filling-end : {block : List ℕ} {t l at : ℕ} {ts us : List Tuple} → Filling block t l (length ts) (sizes ts) us at → us ≡ ts → PageFits t l ts → block ≡ encodeBlock (page t l ts)
 filling-end {t = t} {l} {ts = ts} f e fit = f .made ∙ ap (partPage t l (length ts) (sizes ts)) e ∙ whole-page t l ts fit
