@@ -1,1 +1,2 @@
 pub mod Basics
+pub mod Lists

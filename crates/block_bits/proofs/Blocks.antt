@@ -1,8 +1,9 @@
 -- Laws of the bits of a block, and of its fields.
 use Rattle.basics.proofs.Kit.{_≡_, refl, sym, ap, _∙_, List, [], _∷_, _++_, append-assoc, ℕ, suc, _+_, _*_, _%_, _^_, _≤_, _<_, lt-of-lt-of-le, mod-eq-of-lt, pow-mono, length, take, drop}
 use Rattle.basics.proofs.Kit.{getD, set, length-append, length-take, length-drop, split-at, set-split, take-at, drop-append-seam, drop-drop, take-add, arith}
-use Rattle.block_bits.specs.Bits.{bitsOf, number, bitsIn, field, over}
-use Rattle.block_bits.proofs.Lists.{over-middle}
+use Rattle.block_bits.specs.Bits.{bitsOf, number, bitsIn, field}
+use Rattle.basics.specs.Lists.{over}
+use Rattle.basics.proofs.Overs.{over-middle}
 use Rattle.block_bits.proofs.Numbers.{length-bitsOf, bitsOf-mod, number-append, number-bitsOf, Bits, bits-of, bits-append, bits-part, number-lt, bits-field}
 
 pub bitsIn-append : (s t : List ℕ) → bitsIn (s ++ t) ≡ bitsIn s ++ bitsIn t

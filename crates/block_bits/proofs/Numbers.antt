@@ -2,7 +2,8 @@
 use Rattle.basics.proofs.Kit.{_≡_, refl, sym, ap, _∙_, List, [], _∷_, _++_, append-assoc, ℕ, suc, _+_, _*_, _%_, _^_, _<_, zero, _/_, one-add, mod-eq-of-lt, add-assoc, zero-add, suc-add}
 use Rattle.basics.proofs.Kit.{add-comm, mod-one, mod-lt, pow-suc, mul-add-div-right, mul-add-mod-self-right, digits-lt, pow-pos, pow-add, shr-shr, split, high, mod-pow-add, lit<, length}
 use Rattle.basics.proofs.Kit.{_≤_, take, drop, length-append, length-take, length-drop, take-at, drop-drop, drop-at, arith}
-use Rattle.block_bits.specs.Bits.{bitsOf, number, field, over, mixed}
+use Rattle.block_bits.specs.Bits.{bitsOf, number, field, mixed}
+use Rattle.basics.specs.Lists.{over}
 
 -- ---- the bits of a number
 

@@ -1,6 +1,7 @@
 -- A turn of a loop over fields: what is left of them from index i on.
 use Rattle.basics.proofs.Kit.{_≡_, ap, List, [], _∷_, ℕ, _+_, _≤_, _<_, add-one, length, drop, getD, drop-cons, drop-length, arith}
-use Rattle.block_bits.specs.Bits.{bitsOf, over}
+use Rattle.block_bits.specs.Bits.{bitsOf}
+use Rattle.basics.specs.Lists.{over}
 use Rattle.block_bits.specs.Fields.{putAll, fieldsOf, sum, Words}
 
 -- what is left: the next, and what is left after it

@@ -1,8 +1,9 @@
 -- A field by way of the whole bytes that it is in: the window.
 use Rattle.basics.proofs.Kit.{_≡_, sym, ap, _∙_, subst, List, _++_, ℕ, _+_, _*_, _%_, _^_, _≤_, _<_, _/_, _-_, lt-of-lt-of-le, add-assoc, mod-lt, div-one, pow-mono, pow-pos, shr-shr, high}
 use Rattle.basics.proofs.Kit.{low, shr-lt, length, getD, set, arith}
-use Rattle.block_bits.specs.Bits.{bitsOf, bitsIn, field, over, mixed}
-use Rattle.block_bits.proofs.Lists.{over-over, over-part}
+use Rattle.block_bits.specs.Bits.{bitsOf, bitsIn, field, mixed}
+use Rattle.basics.specs.Lists.{over}
+use Rattle.basics.proofs.Overs.{over-over, over-part}
 use Rattle.block_bits.proofs.Numbers.{length-bitsOf, bitsOf-add, bitsOf-mixed, join-lt}
 use Rattle.block_bits.proofs.Blocks.{length-bitsIn, byte-field, byte-over, field-add, field-lt, bitsOf-field}
 

@@ -3,7 +3,8 @@ use Prim.Native.Nat.{ℕ, _+_, _*_, _^_, _≤_, _<_}
 use mathlib.Core.List.{List, [], _∷_}
 use lib.ListN.{length}
 use mathlib.Core.Logic.{_⊎_}
-use Rattle.block_bits.specs.Bits.{bitsOf, field, over}
+use Rattle.block_bits.specs.Bits.{bitsOf, field}
+use Rattle.basics.specs.Lists.{over}
 
 -- bits, with the fields fs put one after another from bit at on
 abbrev pub putAll : List ℕ → ℕ → List (ℕ × ℕ) → List ℕ

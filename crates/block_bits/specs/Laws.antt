@@ -3,7 +3,8 @@ use Prim.Native.Nat.{ℕ, _+_, _*_, _^_, _≤_, _<_}
 use mathlib.Core.Path.{_≡_}
 use mathlib.Core.List.{List}
 use lib.ListN.{length, getD}
-use Rattle.block_bits.specs.Bits.{bitsOf, bitsIn, field, over}
+use Rattle.block_bits.specs.Bits.{bitsOf, bitsIn, field}
+use Rattle.basics.specs.Lists.{over}
 use Rattle.block_bits.specs.Fields.{putAll, getAll, widths, values, total, Fit, Apart}
 
 -- for every width and offset: a value that was put is got back, and every field apart from it is what it was

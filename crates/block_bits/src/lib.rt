@@ -3,7 +3,8 @@
 ghost use mathlib.Core.Path.{_≡_};
 ghost use Prim.Native.Nat.{_+_, _*_, _/_, _%_, _^_, _<_, _≤_};
 ghost use lib.ListN.{length};
-ghost use Rattle.block_bits.specs.Bits.{bitsOf, bitsIn, field, over, mixed, Inside};
+ghost use Rattle.block_bits.specs.Bits.{bitsOf, bitsIn, field, mixed, Inside};
+ghost use Rattle.basics.specs.Lists.{over};
 ghost use Rattle.block_bits.specs.Fields.{putAll, fieldsOf, AllInside};
 
 // x * 2^k, where that fits

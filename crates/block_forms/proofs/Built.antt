@@ -1,8 +1,8 @@
 -- A page's block is filled from the front: its head, then its records one by one.
 use Rattle.basics.proofs.Kit.{_≡_, sym, ap, _∙_, List, [], _∷_, _++_, append-assoc, ℕ, _+_, _≤_, _-_, length, length-append, arith}
 use Rattle.basics.specs.Basics.{sum}
-use Rattle.block_bits.specs.Bits.{over}
-use Rattle.block_bits.proofs.Lists.{over-middle}
+use Rattle.basics.specs.Lists.{over}
+use Rattle.basics.proofs.Overs.{over-middle}
 use Rattle.block_forms.specs.Limits.{recordSpace}
 use Rattle.block_forms.specs.Tuple.{Tuple, size, sizes}
 use Rattle.block_forms.specs.Spell.{zeros}

@@ -2,7 +2,8 @@
 use Rattle.basics.proofs.Kit.{_≡_, refl, sym, ap, _∙_, List, [], _∷_, _++_, append-assoc, append-nil, ℕ, _+_, _*_, _≤_, _<_, add-one, length, take, getD, length-append, length-take}
 use Rattle.basics.proofs.Kit.{take-suc, arith}
 use Rattle.block_forms.specs.Limits.{entriesPerBlock}
-use Rattle.block_bits.specs.Bits.{bitsOf, bitsIn, over}
+use Rattle.block_bits.specs.Bits.{bitsOf, bitsIn}
+use Rattle.basics.specs.Lists.{over}
 use Rattle.block_bits.proofs.Numbers.{length-bitsOf}
 use Rattle.block_forms.specs.Spell.{zeros, spell, padded}
 use Rattle.block_forms.specs.Block.{directory, entryFields, directoryFields, encodeBlock}

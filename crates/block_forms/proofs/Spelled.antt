@@ -2,10 +2,11 @@
 use Rattle.basics.proofs.Kit.{_≡_, refl, sym, ap, _∙_, List, [], _∷_, _++_, append-assoc, append-nil, ℕ, suc, _+_, _*_, _%_, _^_, _≤_, _<_, zero, _-_, lt-of-lt-of-le, mod-eq-of-lt, pow-mono}
 use Rattle.basics.proofs.Kit.{lit<, length, take, drop, getD, length-append, length-take, length-drop, take-append-drop, length-replicate, replicate-append-replicate, take-at}
 use Rattle.basics.proofs.Kit.{drop-append-seam, drop-at, arith}
-use Rattle.block_bits.specs.Bits.{bitsOf, bitsIn, number, field, over}
+use Rattle.block_bits.specs.Bits.{bitsOf, bitsIn, number, field}
+use Rattle.basics.specs.Lists.{over}
 use Rattle.block_bits.specs.Fields.{putAll, getAll, widths, values, total, Fit}
 use Rattle.block_bits.proofs.Numbers.{length-bitsOf, number-bitsOf, Bits, bits-of, bits-append, number-lt, bitsOf-number}
-use Rattle.block_bits.proofs.Lists.{over-middle}
+use Rattle.basics.proofs.Overs.{over-middle}
 use Rattle.block_forms.specs.Tuple.{AllBytes}
 use Rattle.block_forms.specs.Spell.{zeros, spell, bytesOf, padded, blockOf}
 

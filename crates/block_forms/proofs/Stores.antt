@@ -2,8 +2,8 @@
 use Rattle.basics.proofs.Kit.{_≡_, refl, sym, ap, _∙_, List, [], _∷_, _++_, append-nil, ℕ, _+_, _*_, _%_, _≤_, _<_, _/_, add-one, length, take, drop, getD, set, length-take, length-drop}
 use Rattle.basics.proofs.Kit.{drop-of-length-le, set-split, take-all, take-suc, getD-drop, arith}
 use Rattle.block_forms.specs.Limits.{recordHead, ownerWidth}
-use Rattle.block_bits.specs.Bits.{over}
-use Rattle.block_bits.proofs.Lists.{over-over, length-over}
+use Rattle.basics.specs.Lists.{over}
+use Rattle.basics.proofs.Overs.{over-over, length-over}
 use Rattle.block_forms.specs.Numbers.{be4}
 use Rattle.block_forms.specs.Tuple.{ownerSize}
 use Rattle.block_forms.specs.Bytes.{ownerIs, tupleOf, sizeOf, flagsOf, ownerWord, ownerBytes, recordBytes, pageHead}

@@ -4,7 +4,7 @@ ghost use mathlib.Core.List.{[], _∷_};
 ghost use Prim.Native.Nat.{_+_, _%_, _<_, _≤_};
 ghost use lib.ListN.{length, take, drop};
 ghost use lib.Dec.{leb};
-ghost use Rattle.block_bits.specs.Bits.{over};
+ghost use Rattle.basics.specs.Lists.{over};
 ghost use Rattle.block_forms.specs.Limits.{payloadLimit, recordSpace, joinSum, markValue, entriesPerBlock, mostNumber};
 ghost use Rattle.block_forms.specs.Numbers.{be4};
 ghost use Rattle.block_forms.specs.Tuple.{recordSize, OwnerFits};

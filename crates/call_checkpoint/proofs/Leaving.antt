@@ -8,8 +8,8 @@ use Rattle.model.specs.State.{Page, Checkpoint, idle, running, Store}
 use Rattle.model.specs.Rules.{isFrozen, thaw}
 use Rattle.model.specs.Transactions.{changed}
 use Rattle.model.specs.Checkpoint.{withProgress, isRunning, usedToo, fill}
-use Rattle.model.proofs.Lists.{any-cons, all-split}
-use Rattle.memory_bytes.specs.Columns.{firstIndex}
+use Rattle.basics.proofs.Elements.{any-cons, all-split}
+use Rattle.basics.specs.Lists.{firstIndex}
 use Rattle.memory_layout.specs.Flat.{Flat, flatOf, usedAnd, Room, Becomes, withHead, withNamed, withDirectories, withUsed}
 use Rattle.memory_layout.specs.Store.{pagesIn, checkpointOf, storeOf, HoldsNow}
 use Rattle.memory_layout.specs.declared.Head.{Head}

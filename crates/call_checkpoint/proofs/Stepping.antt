@@ -10,8 +10,8 @@ use Rattle.model.specs.Rules.{isFrozen, shown, thaw}
 use Rattle.model.specs.Transactions.{gives, unless}
 use Rattle.model.specs.Checkpoint.{withProgress, allocate, usedToo, isRunning, left, made, storable, storePage, storeDirectory, headerFor, storeHeader, stepOf, stepAt, badImage, stepCall}
 use Rattle.model.specs.Recover.{putBlock, imageAfter}
-use Rattle.model.proofs.Lists.{first-none as none-many}
-use Rattle.memory_bytes.specs.Columns.{firstIndex}
+use Rattle.basics.proofs.Elements.{first-none as none-many}
+use Rattle.basics.specs.Lists.{firstIndex}
 use Rattle.memory_layout.specs.Flat.{Flat, flatOf}
 use Rattle.memory_layout.specs.Store.{pageOf, nest, pagesIn, holdsStore, storeOf, storeIn, HoldsNow}
 use Rattle.memory_layout.specs.declared.Entry.{Entry}

@@ -7,8 +7,8 @@ use Rattle.image.specs.Stages.{directoriesFor}
 use Rattle.model.specs.State.{Held, Page, Checkpoint, idle, running}
 use Rattle.model.specs.Rules.{isDirty, isFrozen}
 use Rattle.model.specs.Checkpoint.{allocate, isFree, freeCount, isRunning, blocksNeeded, leftOf, left}
-use Rattle.model.proofs.Lists.{many-length}
-use Rattle.memory_bytes.proofs.Columns.{lt-or-ge, getD-tab}
+use Rattle.basics.proofs.Elements.{many-length}
+use Rattle.basics.proofs.Tabs.{lt-or-ge, getD-tab}
 use Rattle.memory_layout.specs.Views.{headOf, namedCount, directoryCount, countsOf, namedBlock, directoryAt}
 use Rattle.memory_layout.specs.Flat.{Flat, flatOf, capacityOf, namedOf, directoriesOf, Room}
 use Rattle.memory_layout.specs.Store.{pageOf, nest, pagesIn, checkpointOf, holdsStore, storeOf}

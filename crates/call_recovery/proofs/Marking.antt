@@ -3,7 +3,7 @@ use Rattle.basics.proofs.Kit.{_≡_, refl, sym, ap, _∙_, Bool, true, false, _
 use Rattle.basics.specs.Basics.{any, isIn}
 use Rattle.image_rows.proofs.Owners.{same-test}
 use Rattle.image_rows.proofs.Iterations.{any-cons}
-use Rattle.model.proofs.Lists.{in-append}
+use Rattle.basics.proofs.Elements.{in-append}
 use Rattle.memory_layout.specs.Flat.{usedAnd}
 use Rattle.call_recovery.specs.Loading.{usedBy}
 

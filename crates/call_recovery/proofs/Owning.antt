@@ -9,7 +9,7 @@ use Rattle.image_rows.specs.Rows.{Row, isBy, isOwn, addOwner, transactions}
 use Rattle.image_rows.proofs.Owners.{in-transactions}
 use Rattle.model.specs.State.{Held, Active}
 use Rattle.model.specs.Recover.{reopened}
-use Rattle.model.proofs.Lists.{many-append, many-length, any-many}
+use Rattle.basics.proofs.Elements.{many-append, many-length, any-many}
 use Rattle.memory_layout.specs.Flat.{Flat, flatOf, noRow, rowIn, Room, Becomes, withOpens}
 use Rattle.memory_layout.specs.Views.{countsOf}
 use Rattle.memory_layout.specs.declared.Counts as layout

@@ -2,7 +2,7 @@
 use Rattle.basics.proofs.Kit.{_≡_, refl, sym, ap, _∙_, some, List, ℕ, _+_, _≤_, _<_, length, take, drop, length-append, length-drop, length-take-le, arith}
 use Rattle.model.specs.State.{Page, Active, Store, Outcome}
 use Rattle.model.specs.Transactions.{unless, changed, notOpen, without, committedPages, abortedPages, closing, commitCall, abortCall}
-use Rattle.memory_bytes.specs.Columns.{removeAt}
+use Rattle.basics.specs.Lists.{removeAt}
 use Rattle.memory_layout.specs.Flat.{Flat, flatOf, Room, Becomes, withOpens}
 use Rattle.memory_layout.specs.Store.{storeOf, storeIn, pagesIn, HoldsNow}
 use Rattle.memory_layout.specs.Opens.{findOpen}

@@ -9,9 +9,9 @@ use Rattle.image.specs.Stages.{Stage, refuses, holds, wholeBlocks}
 use Rattle.model.specs.State.{Store}
 use Rattle.model.specs.Checkpoint.{headerFor}
 use Rattle.model.specs.Recover.{memoryFor, putBlock, freshStore, make, madeImage}
-use Rattle.model.proofs.Lists.{and-no, or-right}
+use Rattle.basics.proofs.Elements.{and-no, or-right}
 use Rattle.memory_layout.specs.Store.{FreshFits, HoldsNow}
-use Rattle.memory_bytes.proofs.Columns.{lt-or-ge}
+use Rattle.basics.proofs.Tabs.{lt-or-ge}
 use Rattle.call_contracts.specs.Shape.{MadeBy, Made}
 use Rattle.call_contracts.specs.declared.Answer.the-variants.{Done, Refused}
 use Rattle.call_transactions.specs.Refusals.{makeVerdict}

@@ -5,9 +5,9 @@ use Rattle.basics.specs.Basics.{if_then_else_, any, isIn, keep}
 use Rattle.basics.proofs.Facts.{by}
 use Rattle.model.specs.State.{Active}
 use Rattle.model.specs.Transactions.{isFor, openNumbers, writtenBy, oneMore, withWrite, without}
-use Rattle.model.proofs.Lists.{in-here, in-cons, keep-cons, keep-past}
-use Rattle.memory_bytes.specs.Columns.{removeAt, tab}
-use Rattle.memory_bytes.proofs.Columns.{getD-tab}
+use Rattle.basics.proofs.Elements.{in-here, in-cons, keep-cons, keep-past}
+use Rattle.basics.specs.Lists.{removeAt, tab}
+use Rattle.basics.proofs.Tabs.{getD-tab}
 use Rattle.memory_layout.specs.Views.{countsOf, openAt, openCount}
 use Rattle.memory_layout.specs.Flat.{flatOf, opensOf, noOpen}
 use Rattle.memory_layout.specs.Opens.{findOpen}

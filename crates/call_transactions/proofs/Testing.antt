@@ -7,8 +7,8 @@ use Rattle.block_forms.specs.Limits.{payloadLimit}
 use Rattle.model.specs.State.{Store}
 use Rattle.model.specs.Sight.{held, versions}
 use Rattle.model.specs.Transactions.{Test, _when_, notOpen, noTable, tooLong, full, argumentTests, keyTest, keyTests, tupleTests, openNumbers}
-use Rattle.model.proofs.Lists.{leb-false, not-false}
-use Rattle.memory_bytes.proofs.Columns.{lt-or-ge}
+use Rattle.basics.proofs.Elements.{leb-false, not-false}
+use Rattle.basics.proofs.Tabs.{lt-or-ge}
 use Rattle.memory_layout.specs.Flat.{Flat, flatOf}
 use Rattle.memory_layout.specs.Store.{holdsStore, storeOf, storeIn, pagesIn}
 use Rattle.memory_layout.specs.Opens.{findOpen}

@@ -6,7 +6,7 @@ use Rattle.basics.proofs.Lists.{map-append}
 use Rattle.basics.proofs.Facts.{by}
 use Rattle.model.specs.State.{Held}
 use Rattle.model.specs.Places.{tagged}
-use Rattle.model.proofs.Lists.{leb-true, leb-false}
+use Rattle.basics.proofs.Elements.{leb-true, leb-false}
 use Rattle.memory_layout.specs.Flat.{Flat, flatOf, noRow, noEntry, rowIn, entryIn, Room}
 use Rattle.memory_layout.specs.Store.{pageOf, nest, total, startOf, holdsStore}
 use Rattle.memory_layout.specs.declared.Entry.{Entry}
@@ -14,7 +14,7 @@ use Rattle.memory_layout.specs.Views.{countsOf}
 use Rattle.memory_layout.specs.declared.Counts.{Counts}
 use Rattle.memory_layout.proofs.Laws.{filled, rows-length, entries-length, known}
 use Rattle.memory_layout.proofs.Nest.{total-append}
-use Rattle.memory_bytes.proofs.Columns.{lt-or-ge}
+use Rattle.basics.proofs.Tabs.{lt-or-ge}
 use Rattle.memory_pages.specs.Pages.{TableFrom, OnPages, PageOf}
 use Rattle.engine_pages.specs.Pages.{RowOn}
 use Rattle.engine_close.specs.Close.{taggedOf, rowFrom, RowsFrom}

@@ -7,7 +7,7 @@ use Rattle.model.specs.State.{Held, Page}
 use Rattle.model.specs.Sight.{held}
 use Rattle.model.specs.Rules.{applied}
 use Rattle.model.specs.Places.{tagged, placed, carryOut, runs, liveOf, planNewest, planRun, planRuns, allPlaced, allRuns, closePlan, abortPlan, ownPlaced, Placed}
-use Rattle.memory_bytes.proofs.Columns.{lt-or-ge}
+use Rattle.basics.proofs.Tabs.{lt-or-ge}
 use Rattle.memory_layout.specs.Flat.{noRow}
 use Rattle.memory_layout.specs.Store.{holdsStore}
 use Rattle.memory_rows.specs.Rows.{isLiveOwn}

@@ -6,8 +6,8 @@ use Rattle.block_forms.specs.Tuple.{Owner, committed, tentative, isTentative}
 use Rattle.image_rows.specs.Rows.{isBy}
 use Rattle.model.specs.State.{Held}
 use Rattle.model.specs.Rules.{isRemoving, isCommitting, applied, asCommitted}
-use Rattle.model.proofs.Lists.{off-any, and-no, all-at}
-use Rattle.memory_bytes.proofs.Columns.{lt-or-ge}
+use Rattle.basics.proofs.Elements.{off-any, and-no, all-at}
+use Rattle.basics.proofs.Tabs.{lt-or-ge}
 use Rattle.memory_layout.specs.Flat.{flatOf, noRow, rowIn, Room}
 use Rattle.memory_rows.specs.Rows.{isLiveOwn, isOwned, pendingIs}
 use Rattle.memory_rows.specs.declared.Pending.{Pending}

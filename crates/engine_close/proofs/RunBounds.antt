@@ -3,7 +3,7 @@ use Rattle.basics.proofs.Kit.{_≡_, refl, sym, ap, _∙_, ⊎-elim, true, fals
 use Rattle.basics.proofs.Facts.{by}
 use Rattle.model.specs.State.{Held}
 use Rattle.model.proofs.Fate.{at-split, at-join}
-use Rattle.memory_bytes.proofs.Columns.{lt-or-ge}
+use Rattle.basics.proofs.Tabs.{lt-or-ge}
 use Rattle.memory_layout.specs.Views.{tableEnd}
 use Rattle.memory_layout.specs.Flat.{flatOf, rowIn, Room}
 use Rattle.memory_layout.specs.Store.{startOf}

@@ -2,8 +2,9 @@
 use Rattle.basics.proofs.Kit.{_≡_, refl, sym, ap, _∙_, true, false, List, _∷_, ℕ, suc, _+_, _≤_, _<_, zero, _-_, add-one, eqb, eq-eqb, ne-eqb, arith}
 use Rattle.basics.specs.Basics.{if_then_else_}
 use Rattle.model.specs.State.{Held}
-use Rattle.memory_bytes.specs.Columns.{tab, Covers}
-use Rattle.memory_bytes.proofs.Scans.{tab-next, tab-none}
+use Rattle.memory_bytes.specs.Columns.{Covers}
+use Rattle.basics.specs.Lists.{tab}
+use Rattle.basics.proofs.Searches.{tab-next, tab-none}
 use Rattle.memory_layout.specs.Flat.{Flat, rowIn}
 use Rattle.memory_rows.specs.Rows.{keyIn}
 use Rattle.engine_lookup.specs.Lookup.{note, notes, blank}

@@ -1,7 +1,8 @@
 -- What the searches by key find of the rows with a key.
 use Rattle.basics.proofs.Kit.{_≡_, refl, sym, ap, _∙_, Bool, false, cond, ℕ, suc, _+_, _≤_, zero, _-_, leb, length, ne-eqb, leb-false, arith}
-use Rattle.memory_bytes.specs.Columns.{tab, lastIndex, upTo, Covers}
-use Rattle.memory_bytes.proofs.Columns.{length-tab}
+use Rattle.memory_bytes.specs.Columns.{upTo, Covers}
+use Rattle.basics.specs.Lists.{tab, lastIndex}
+use Rattle.basics.proofs.Tabs.{length-tab}
 use Rattle.memory_bytes.proofs.Found.{last-most, last-behind}
 use Rattle.memory_bytes.proofs.Spans.{test-at}
 use Rattle.memory_layout.specs.Flat.{Flat, rowIn}

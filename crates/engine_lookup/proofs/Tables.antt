@@ -8,9 +8,10 @@ use Rattle.image_rows.specs.Rows.{Row, rowsOf, isAt}
 use Rattle.model.specs.State.{Held, Page}
 use Rattle.model.specs.Rules.{isRemoving, live}
 use Rattle.model.specs.Sight.{rows, versions}
-use Rattle.model.proofs.Lists.{keep-append}
-use Rattle.memory_bytes.specs.Columns.{tab, lastIndex, upTo}
-use Rattle.memory_bytes.proofs.Columns.{length-tab, getD-tab}
+use Rattle.basics.proofs.Elements.{keep-append}
+use Rattle.memory_bytes.specs.Columns.{upTo}
+use Rattle.basics.specs.Lists.{tab, lastIndex}
+use Rattle.basics.proofs.Tabs.{length-tab, getD-tab}
 use Rattle.memory_layout.specs.Flat.{Flat, flatOf, rowIn, noRow, noEntry, Room}
 use Rattle.memory_layout.specs.Store.{pageOf, nest, pagesIn, total, startOf}
 use Rattle.memory_layout.specs.Views.{pageCount}

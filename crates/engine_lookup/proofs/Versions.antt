@@ -9,8 +9,8 @@ use Rattle.model.specs.State.{Held}
 use Rattle.model.specs.Rules.{isRemoving, applied, live}
 use Rattle.model.specs.Sight.{isForeign}
 use Rattle.model.proofs.Rows.{applied-is}
-use Rattle.model.proofs.Lists.{keep-cons, keep-past}
-use Rattle.memory_bytes.specs.Columns.{tab}
+use Rattle.basics.proofs.Elements.{keep-cons, keep-past}
+use Rattle.basics.specs.Lists.{tab}
 use Rattle.memory_layout.specs.Flat.{Flat, rowIn}
 use Rattle.engine_lookup.specs.Lookup.{isCommitted, version, versionAt, Shows, blank, noteCommitted, noteTentative, noteOwner, note, notes}
 use Rattle.engine_lookup.specs.declared.Visibility.{Visibility}

@@ -7,7 +7,7 @@ ghost use mathlib.Core.Bool.{true};
 ghost use Prim.Native.Nat.{_-_, _≤_, _<_};
 ghost use lib.ListN.{length};
 ghost use Rattle.model.specs.Sight.{versions, seen};
-ghost use Rattle.memory_bytes.specs.Columns.{tab};
+ghost use Rattle.basics.specs.Lists.{tab};
 ghost use Rattle.memory_layout.specs.Flat.{flatOf, rowIn, Room};
 ghost use Rattle.memory_layout.specs.Store.{holdsStore, pagesIn, storeOf};
 ghost use Rattle.block_forms.specs.Bytes.{ownerIs};

@@ -6,7 +6,7 @@ use Rattle.basics.specs.Basics.{if_then_else_, sum}
 use Rattle.basics.proofs.Facts.{by}
 use Rattle.model.specs.State.{nothing, Held, Page}
 use Rattle.model.specs.Rules.{isRemoving, isCommitting, withPending, withoutPending, applied, live, asCommitted, fresh}
-use Rattle.memory_bytes.specs.Columns.{removeAt}
+use Rattle.basics.specs.Lists.{removeAt}
 use Rattle.memory_layout.specs.Flat.{Flat, flatOf, entryIn, rowIn, noRow, noEntry, Room, Becomes, withRows, withEntries}
 use Rattle.memory_layout.specs.Store.{nest, total, pageOf, pageIn, startOf}
 use Rattle.memory_layout.specs.declared.Entry.{Entry}

@@ -3,7 +3,7 @@ use Rattle.basics.proofs.Kit.{_≡_, refl, sym, ap, _∙_, subst, Bool, true, f
 use Rattle.basics.proofs.Kit.{take, drop, drop-of-length-le, arith}
 use Rattle.basics.specs.Basics.{if_then_else_, isEmpty}
 use Rattle.basics.proofs.Facts.{by}
-use Rattle.memory_bytes.specs.Columns.{firstIndex}
+use Rattle.basics.specs.Lists.{firstIndex}
 use Rattle.model.specs.State.{Page}
 use Rattle.model.specs.Rules.{around, listOf, joins, joined, settleNext, settleFull, settle}
 use Rattle.memory_layout.specs.Flat.{flatOf}

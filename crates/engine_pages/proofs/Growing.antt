@@ -5,7 +5,7 @@ use Rattle.basics.specs.Basics.{if_then_else_}
 use Rattle.block_forms.specs.Tuple.{Tuple}
 use Rattle.model.specs.State.{adding, Held, Page}
 use Rattle.model.specs.Rules.{splitOnce, fresh, withoutPending, grown, entering, withPending, withTuples}
-use Rattle.memory_bytes.specs.Columns.{insertAt}
+use Rattle.basics.specs.Lists.{insertAt}
 use Rattle.memory_layout.specs.Flat.{Flat, flatOf, entryIn, rowIn, noRow, noEntry, Room, Becomes, withRows, withEntries}
 use Rattle.memory_layout.specs.Views.{headOf}
 use Rattle.memory_layout.specs.Store.{nest, pageOf, pageIn, total, startOf}

@@ -7,7 +7,7 @@ use Rattle.block_forms.specs.Limits.{joinSum}
 use Rattle.model.specs.State.{Held, Page}
 use Rattle.model.specs.Rules.{heldSize, joins, joined, fresh, settle, settleFull}
 use Rattle.model.specs.Places.{onPage}
-use Rattle.model.proofs.Lists.{nonempty}
+use Rattle.basics.proofs.Elements.{nonempty}
 use Rattle.model.proofs.Rows.{joins-table}
 use Rattle.memory_layout.specs.Flat.{flatOf, Room, Becomes, withEntries}
 use Rattle.memory_layout.proofs.Exchange.{sum-append, counted-exchange, pages-joined}

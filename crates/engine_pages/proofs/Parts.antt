@@ -8,7 +8,7 @@ use Rattle.block_forms.specs.Limits.{recordSpace}
 use Rattle.model.specs.State.{Held, Page}
 use Rattle.model.specs.Rules.{heldSize, fits, half, splitDeep, splitAll, fresh}
 use Rattle.model.proofs.Splits.{Small, half-between}
-use Rattle.model.proofs.Lists.{all-take, all-drop}
+use Rattle.basics.proofs.Elements.{all-take, all-drop}
 use Rattle.engine_pages.specs.Pages.{PagesNow, pagesOf, pageAt, tuplesAt, entryOf, There, swapped}
 use Rattle.engine_pages.specs.Changes.{Dirty, Halved}
 use Rattle.engine_pages.proofs.Places.{now-to, now-then, now-pages, swap-first, swap-second, first-there, first-page, second-there, second-page, many, pos-of}

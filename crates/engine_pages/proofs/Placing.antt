@@ -5,7 +5,7 @@ use Rattle.basics.specs.Basics.{if_then_else_}
 use Rattle.block_forms.specs.Tuple.{Tuple}
 use Rattle.model.specs.State.{Held, Page}
 use Rattle.model.specs.Rules.{after, grown, entering, fresh, withoutPending, placeAfter, placeFront, place}
-use Rattle.memory_bytes.specs.Columns.{insertAt, lastIndex}
+use Rattle.basics.specs.Lists.{insertAt, lastIndex}
 use Rattle.memory_pages.specs.Spots.{keyUpTo}
 use Rattle.engine_pages.specs.Pages.{swapped}
 use Rattle.engine_pages.specs.Spots.{placedOn}

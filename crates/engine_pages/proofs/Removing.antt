@@ -6,7 +6,7 @@ use Rattle.model.specs.State.{removing, Held, Page}
 use Rattle.model.specs.Rules.{isAdding, removeNow, pendRemove, withPending, withTuples, fresh, settle}
 use Rattle.model.specs.Places.{editAt, pendRemoveAt, removeRowOn, removeRow}
 use Rattle.model.proofs.Flat.{edit-none, edit-one, taken-is}
-use Rattle.memory_bytes.specs.Columns.{removeAt}
+use Rattle.basics.specs.Lists.{removeAt}
 use Rattle.memory_layout.specs.Flat.{Flat, flatOf, entryIn, rowIn, noRow, noEntry, Room, Becomes, withRows, withEntries}
 use Rattle.memory_layout.specs.Store.{nest, pageOf, pageIn}
 use Rattle.memory_layout.specs.declared.Entry.{Entry}

@@ -7,8 +7,8 @@ use Rattle.block_forms.specs.Limits.{payloadLimit, ownerWidth, mostRecord, comm
 use Rattle.model.specs.State.{Held}
 use Rattle.model.specs.Rules.{heldSize, lead}
 use Rattle.model.proofs.Splits.{Small}
-use Rattle.model.proofs.Lists.{any-cons, all-take, all-drop}
-use Rattle.memory_bytes.proofs.Scans.{or-none}
+use Rattle.basics.proofs.Elements.{any-cons, all-take, all-drop}
+use Rattle.basics.proofs.Searches.{or-none}
 use Rattle.memory_layout.specs.Flat.{flatOf, capacityOf, rowIn, noRow, Room}
 use Rattle.memory_layout.specs.Views.{lengthOf, stateOf}
 use Rattle.memory_rows.proofs.Fields.{size-is}

@@ -5,8 +5,8 @@ use Rattle.basics.proofs.Facts.{by, lie}
 use Rattle.block_forms.specs.Tuple.{Tuple}
 use Rattle.model.specs.State.{Held, Page}
 use Rattle.model.specs.Rules.{placeAfter, placeFront, place, fresh, withoutPending}
-use Rattle.memory_bytes.specs.Columns.{lastIndex}
-use Rattle.memory_bytes.proofs.Columns.{lt-or-ge}
+use Rattle.basics.specs.Lists.{lastIndex}
+use Rattle.basics.proofs.Tabs.{lt-or-ge}
 use Rattle.memory_bytes.proofs.Found.{last-most, last-at, last-behind}
 use Rattle.memory_layout.specs.Flat.{Flat, flatOf, entryIn, rowIn, noRow}
 use Rattle.memory_layout.specs.Store.{total, startOf, pageIn, pagesIn, pageOf}

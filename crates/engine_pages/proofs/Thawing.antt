@@ -8,7 +8,7 @@ use Rattle.memory_layout.specs.Flat.{flatOf, Becomes, withEntries}
 use Rattle.memory_layout.specs.Store.{pageOf, pageIn, nest}
 use Rattle.memory_layout.proofs.Exchange.{pages-count}
 use Rattle.memory_pages.specs.Pages.{withBlock, frozenEntry}
-use Rattle.memory_bytes.specs.Columns.{firstIndex}
+use Rattle.basics.specs.Lists.{firstIndex}
 use Rattle.memory_layout.specs.declared.Entry.{Entry}
 use Rattle.engine_pages.specs.Pages.{PagesNow, pagesOf, pageAt, tuplesAt, entryOf, There, swapped}
 use Rattle.engine_pages.specs.Changes.{Dirty, Tries, settledAt, settledBy}

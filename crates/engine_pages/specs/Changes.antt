@@ -8,7 +8,7 @@ use lib.ListN.{length}
 use Rattle.model.specs.State.{Page}
 use Rattle.model.specs.Rules.{fresh, listOf, fits, half, splitOnce, settleFull, settleNext, settle}
 use Rattle.model.specs.Places.{onPage}
-use Rattle.memory_bytes.specs.Columns.{removeAt}
+use Rattle.basics.specs.Lists.{removeAt}
 use Rattle.engine_pages.specs.Pages.{PagesNow, pagesOf, pageAt, tuplesAt, firstRow, swapped}
 
 -- made or changed: dirty and not frozen

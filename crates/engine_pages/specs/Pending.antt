@@ -7,7 +7,7 @@ use lib.ListN.{length, take, drop, set}
 use Rattle.basics.specs.Basics.{if_then_else_}
 use Rattle.model.specs.State.{Held}
 use Rattle.model.specs.Rules.{isPending, isRemoving, withoutPending, applied, fresh, isFrozen}
-use Rattle.memory_bytes.specs.Columns.{firstIndex}
+use Rattle.basics.specs.Lists.{firstIndex}
 use Rattle.memory_layout.specs.Flat.{flatOf, rowIn, Becomes, withRows, withEntries}
 use Rattle.memory_pages.specs.Pages.{withCount}
 use Rattle.engine_pages.specs.Pages.{PagesNow, pagesOf, pageAt, tuplesAt, entryOf, firstRow, There, swapped}

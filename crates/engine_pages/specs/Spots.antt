@@ -8,7 +8,7 @@ use Rattle.block_forms.specs.Limits.{payloadLimit}
 use Rattle.block_forms.specs.Tuple.{Tuple}
 use Rattle.model.specs.State.{Page}
 use Rattle.model.specs.Rules.{grown, entering}
-use Rattle.memory_bytes.specs.Columns.{insertAt}
+use Rattle.basics.specs.Lists.{insertAt}
 use Rattle.memory_layout.specs.Flat.{flatOf}
 use Rattle.memory_layout.specs.Store.{holdsStore}
 use Rattle.memory_rows.specs.Rows.{heldBy, RowFits}

@@ -5,7 +5,7 @@ use Rattle.basics.proofs.Kit.{ltb-true, arith}
 use Rattle.basics.specs.Basics.{if_then_else_, all, every}
 use Rattle.basics.proofs.Facts.{by, by-option, never, and-true}
 use Rattle.basics.proofs.Lists.{map-append}
-use Rattle.block_bits.specs.Bits.{over}
+use Rattle.basics.specs.Lists.{over}
 use Rattle.block_forms.specs.Tuple.{Tuple}
 use Rattle.block_forms.specs.Block.{Block, malformed, header, page, directory}
 use Rattle.block_forms.specs.Decode.{pageTuples, decodeBlock}

@@ -3,8 +3,8 @@ use Rattle.basics.proofs.Kit.{_≡_, refl, sym, ap, _∙_, subst, ⊎-elim, Boo
 use Rattle.basics.proofs.Kit.{_<_, _-_, min, add-one, eqb, length, take, drop, getD, set, length-append, length-take, take-suc, eqb-true, eq-eqb, ne-eqb, arith}
 use Rattle.basics.specs.Basics.{if_then_else_}
 use Rattle.basics.proofs.Facts.{by, never, lie, and-true, clash}
-use Rattle.block_bits.specs.Bits.{over}
-use Rattle.block_bits.proofs.Lists.{over-nil}
+use Rattle.basics.specs.Lists.{over}
+use Rattle.basics.proofs.Overs.{over-nil}
 use Rattle.block_forms.specs.Block.{Block, malformed, header, page, directory}
 use Rattle.block_forms.specs.Decode.{readEntries, decodeBlock}
 use Rattle.block_reader.specs.Answers.{reading}

@@ -3,7 +3,7 @@ use Rattle.basics.proofs.Kit.{_≡_, refl, sym, ap, _∙_, subst, ⊎-elim, Boo
 use Rattle.basics.proofs.Kit.{length, take, drop, length-append, length-take, length-replicate, take-at, le-leb, lt-leb, eqb-true, eq-eqb, ne-eqb, arith}
 use Rattle.basics.specs.Basics.{if_then_else_, all, every}
 use Rattle.basics.proofs.Facts.{by, never, lie, and-true, clash}
-use Rattle.block_bits.specs.Bits.{over}
+use Rattle.basics.specs.Lists.{over}
 use Rattle.block_forms.specs.Block.{Block, malformed, header, page, directory}
 use Rattle.block_forms.specs.Decode.{decodeBlock}
 use Rattle.block_reader.specs.Answers.{reading}

@@ -4,7 +4,7 @@ use mathlib.Core.Path.{_≡_}
 use mathlib.Core.Bool.{Bool, true, false}
 use mathlib.Core.Option.{Option, none, some}
 use mathlib.Core.List.{List, map}
-use Rattle.block_bits.specs.Bits.{over}
+use Rattle.basics.specs.Lists.{over}
 use Rattle.block_forms.specs.Spell.{zeros}
 use Rattle.block_forms.specs.declared.Header.{Header}
 use Rattle.image.specs.Stages.{Stage, refuses, holds, StoredPage}

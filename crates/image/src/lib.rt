@@ -6,7 +6,7 @@ ghost use mathlib.Core.List.{[]};
 ghost use Prim.Native.Nat.{_+_, _*_, _≤_, min};
 ghost use lib.ListN.{length, take};
 ghost use Rattle.basics.specs.Basics.{all};
-ghost use Rattle.block_bits.specs.Bits.{over};
+ghost use Rattle.basics.specs.Lists.{over};
 ghost use Rattle.block_forms.specs.Limits.{entriesPerBlock};
 ghost use Rattle.block_forms.specs.Decode.{decodeBlock};
 ghost use Rattle.image.specs.View.{view, blockAt, blockCount};

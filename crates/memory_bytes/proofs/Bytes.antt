@@ -2,7 +2,7 @@
 use Rattle.basics.proofs.Kit.{_≡_, sym, ap, _∙_, ⊎-elim, List, _∷_, _++_, append-nil, ℕ, _+_, _%_, _≤_, _<_, _/_, _-_, add-zero, zero-add, length, drop, getD, length-append, length-drop}
 use Rattle.basics.proofs.Kit.{drop-of-length-le, List·getD-append, getD-drop, getD-append-add, ext-getD, arith}
 use Rattle.memory_bytes.specs.Bytes.{le2, le4, bytes, bytes2, bytes4, Apart, Raised, Lowered, Wrote}
-use Rattle.memory_bytes.proofs.Columns.{lt-or-ge, tab-cong, tab-self, length-tab, getD-tab}
+use Rattle.basics.proofs.Tabs.{lt-or-ge, tab-cong, tab-self, length-tab, getD-tab}
 
 pub length-bytes : (m : List ℕ) (a n : ℕ) → length (bytes m a n) ≡ n
 unfolding bytes

@@ -2,8 +2,8 @@
 use Rattle.basics.proofs.Kit.{_≡_, sym, ap, _∙_, Bool, true, false, cond, List, [], _∷_, ℕ, suc, _≤_, _<_, zero, zero-le, suc-le-suc, le-of-suc-le-suc, not-suc-le-zero, length, getD, arith}
 use Rattle.basics.specs.Basics.{any}
 use Rattle.basics.proofs.Facts.{by}
-use Rattle.memory_bytes.specs.Columns.{firstIndex, lastIndex}
-use Rattle.memory_bytes.proofs.Scans.{any-cons, or-split}
+use Rattle.basics.specs.Lists.{firstIndex, lastIndex}
+use Rattle.basics.proofs.Searches.{any-cons, or-split}
 
 module _ {A : Type 0} (f : A → Bool) (d : A) where
   -- where none passes, element k does not

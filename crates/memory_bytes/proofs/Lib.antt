@@ -1,4 +1,3 @@
-pub mod Columns
 pub mod Bytes
 pub mod Moves
 pub mod Scans

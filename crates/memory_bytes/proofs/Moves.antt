@@ -2,7 +2,7 @@
 use Rattle.basics.proofs.Kit.{_≡_, refl, sym, ap, _∙_, subst, ⊎-elim, List, [], _∷_, ℕ, _+_, _*_, _%_, _≤_, _<_, _-_, add-zero, zero-add, length, getD, set, length-set, getD-set-same}
 use Rattle.basics.proofs.Kit.{getD-set-other, arith}
 use Rattle.memory_bytes.specs.Bytes.{le2, bytes2, Raised, Lowered, Wrote, Added}
-use Rattle.memory_bytes.proofs.Columns.{lt-or-ge}
+use Rattle.basics.proofs.Tabs.{lt-or-ge}
 use Rattle.memory_bytes.proofs.Bytes.{le2-below, le2-above, le2-wrote}
 
 -- ---- bytes go up by w: those from k on have

@@ -1,10 +1,11 @@
 -- Where the numbers that are a key stand: what the searches find of them, and one turn of each loop that looks for the span of them.
 use Rattle.basics.proofs.Kit.{_≡_, refl, sym, ap, _∙_, ⊎-elim, Bool, true, false, _&&_, cond, List, ℕ, suc, _+_, _*_, _≤_, _<_, zero, _-_, eqb, getD, eqb-true, ne-eqb, eqb-false, arith}
 use Rattle.basics.specs.Basics.{any}
-use Rattle.memory_bytes.specs.Columns.{tab, firstIndex, lastIndex, equals, Covers, Grouped}
+use Rattle.memory_bytes.specs.Columns.{equals, Covers, Grouped}
+use Rattle.basics.specs.Lists.{tab, firstIndex, lastIndex}
 use Rattle.memory_bytes.specs.Bytes.{le4, column4}
-use Rattle.memory_bytes.proofs.Columns.{lt-or-ge, length-tab, getD-tab}
-use Rattle.memory_bytes.proofs.Scans.{any-cons}
+use Rattle.basics.proofs.Tabs.{lt-or-ge, length-tab, getD-tab}
+use Rattle.basics.proofs.Searches.{any-cons}
 use Rattle.memory_bytes.proofs.Found.{any-none, first-most, first-before, last-most, last-behind}
 
 -- ---- a test of the numbers of a column, by index

@@ -3,7 +3,7 @@ use Prim.Native.Nat.{ℕ, _+_, _*_, _-_, _/_, _%_, _≤_, _<_}
 use mathlib.Core.Path.{_≡_}
 use mathlib.Core.List.{List, [], _∷_}
 use lib.ListN.{getD, length}
-use Rattle.memory_bytes.specs.Columns.{tab}
+use Rattle.basics.specs.Lists.{tab}
 
 -- the number in the two bytes from a on
 unfoldable pub le2 : List ℕ → ℕ → ℕ

@@ -5,7 +5,8 @@ ghost use mathlib.Core.Path.{_≡_};
 ghost use Prim.Native.Nat.{_+_, _*_, _-_, _≤_};
 ghost use lib.ListN.{length};
 ghost use Rattle.memory_bytes.specs.Bytes.{bytes, column4};
-ghost use Rattle.memory_bytes.specs.Columns.{tab, firstIndex, lastIndex, equals, upTo, Covers, Grouped};
+ghost use Rattle.memory_bytes.specs.Columns.{equals, upTo, Covers, Grouped};
+ghost use Rattle.basics.specs.Lists.{tab, firstIndex, lastIndex};
 ghost use Rattle.basics.specs.Basics.{any};
 ghost use mathlib.Core.Bool.{cond};
 

@@ -3,7 +3,7 @@ use Rattle.basics.proofs.Kit.{_≡_, refl, ap, _∙_, true, not, some, List, �
 use Rattle.basics.specs.Basics.{if_then_else_, all}
 use Rattle.model.specs.Recover.{freshStore}
 use Rattle.memory_bytes.specs.Bytes.{le2, le4, bytes4, Apart, Wrote}
-use Rattle.memory_bytes.specs.Columns.{tab}
+use Rattle.basics.specs.Lists.{tab}
 use Rattle.memory_bytes.proofs.Bytes.{le4-below, le4-wrote}
 use Rattle.memory_layout.specs.Places.{signature}
 use Rattle.memory_layout.specs.Views.{headOf, countsOf, tableEnd, pageCount, openAt, rowAt, entryAt, namedBlock, directoryAt, startAt}

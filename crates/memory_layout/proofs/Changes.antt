@@ -1,7 +1,7 @@
 -- From the bytes that a function leaves to one equation on the flat lists: everything but one part is as it was.
 use Rattle.basics.proofs.Kit.{_≡_, refl, ap, _∙_, Bool, List, ℕ, _+_, _*_, _≤_, _<_, _-_, length, arith}
 use Rattle.memory_bytes.specs.Bytes.{le4, Apart}
-use Rattle.memory_bytes.specs.Columns.{tab}
+use Rattle.basics.specs.Lists.{tab}
 use Rattle.model.specs.State.{Active}
 use Rattle.memory_layout.specs.Views.{headOf, countsOf, tableEnd, pageCount, isUsed, rowAt, startAt, entryAt, namedBlock}
 use Rattle.memory_layout.specs.Flat.{flatOf, capacityOf, opensOf, rowsOf, entriesOf, namedOf, directoriesOf, Room, InRange, Replaces, Becomes, withHead, withOpens, withNamed}

@@ -3,7 +3,7 @@ use Rattle.basics.proofs.Kit.{_≡_, refl, sym, ap, _∙_, List, [], _∷_, _++
 use Rattle.basics.proofs.Kit.{take-append-drop, length-set, drop-of-length-le, set-split, drop-drop, take-add, take-all, take-suc, getD-drop, length-take-le, getD-take, arith}
 use Rattle.basics.specs.Basics.{sum}
 use Rattle.model.specs.State.{Held, Page}
-use Rattle.memory_bytes.specs.Columns.{insertAt, removeAt}
+use Rattle.basics.specs.Lists.{insertAt, removeAt}
 use Rattle.memory_layout.specs.Flat.{Flat, entryIn, noEntry, noRow, rowIn}
 use Rattle.memory_layout.specs.Store.{pageOf, nest, pagesIn, pageIn, total, startOf}
 use Rattle.memory_layout.specs.declared.Entry.{Entry}

@@ -4,7 +4,7 @@ use Rattle.basics.proofs.Kit.{ltb-true, arith}
 use Rattle.basics.specs.Basics.{if_then_else_}
 use Rattle.basics.specs.Basics.{howMany, from}
 use Rattle.memory_bytes.specs.Bytes.{le2, le4, bytes}
-use Rattle.memory_bytes.specs.Columns.{tab}
+use Rattle.basics.specs.Lists.{tab}
 use Rattle.memory_bytes.proofs.Bytes.{le2-cong, le4-cong, bytes-cong}
 use Rattle.memory_layout.specs.Places.{startsAt}
 use Rattle.block_forms.specs.Decode.{readOwner, readMark}

@@ -3,8 +3,8 @@ use Rattle.basics.proofs.Kit.{_≡_, refl, sym, ap, _∙_, Bool, true, false, n
 use Rattle.basics.proofs.Kit.{ne-eqb, arith}
 use Rattle.basics.specs.Basics.{if_then_else_}
 use Rattle.memory_bytes.specs.Bytes.{le2, le4, bytes2, bytes4, Apart, Wrote, Lowered}
-use Rattle.memory_bytes.specs.Columns.{tab, removeAt}
-use Rattle.memory_bytes.proofs.Columns.{getD-tab, tab-add, tab-set, tab-remove}
+use Rattle.basics.specs.Lists.{tab, removeAt}
+use Rattle.basics.proofs.Tabs.{getD-tab, tab-add, tab-set, tab-remove}
 use Rattle.memory_bytes.proofs.Bytes.{le2-below, le2-above, le4-below, le4-above, le2-wrote, le4-wrote, le4-lowered}
 use Rattle.model.specs.Transactions.{isFor}
 use Rattle.memory_layout.specs.Views.{headOf, openAt, directoryAt, namedBlock}

@@ -6,8 +6,8 @@ use Rattle.basics.specs.Basics.{if_then_else_, all, from, sum}
 use Rattle.basics.proofs.Facts.{by, never, and-true}
 use Rattle.model.specs.State.{Store}
 use Rattle.memory_bytes.specs.Bytes.{le4}
-use Rattle.memory_bytes.specs.Columns.{tab}
-use Rattle.memory_bytes.proofs.Columns.{length-tab, take-tab}
+use Rattle.basics.specs.Lists.{tab}
+use Rattle.basics.proofs.Tabs.{length-tab, take-tab}
 use Rattle.memory_layout.specs.Places.{signature}
 use Rattle.memory_layout.specs.Views.{headOf, countsOf, rowCount, openCount, namedCount, directoryCount, pageCount, openAt, directoryAt, rowAt, startAt, entryAt, namedBlock}
 use Rattle.memory_layout.specs.Flat.{Flat, flatOf, capacityOf, opensOf, rowsOf, entriesOf, namedOf, directoriesOf, Room, InRange, Becomes}

@@ -4,7 +4,7 @@ use Rattle.basics.proofs.Kit.{zero-div, mul-mod-left, pow-pos, pow-add, pow-lt,
 use Rattle.basics.proofs.Kit.{getD-replicate, getD-set-same, getD-set-other, eq-eqb, ne-eqb, ltb-true, ltb-false, arith}
 use Rattle.basics.proofs.Facts.{by}
 use Rattle.memory_bytes.specs.Bytes.{Wrote}
-use Rattle.memory_bytes.proofs.Columns.{lt-or-ge}
+use Rattle.basics.proofs.Tabs.{lt-or-ge}
 use Rattle.memory_layout.specs.Views.{isUsed}
 use Rattle.memory_layout.specs.Flat.{flatOf, Room, Becomes, withUsed, usedAnd}
 use Rattle.memory_layout.proofs.Laws.{Known, known}

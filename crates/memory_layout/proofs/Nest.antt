@@ -5,7 +5,7 @@ use Rattle.basics.proofs.Kit.{arith}
 use Rattle.basics.specs.Basics.{all, sum}
 use Rattle.basics.proofs.Facts.{AllOf, and-true}
 use Rattle.model.specs.State.{Held, Page}
-use Rattle.memory_bytes.specs.Columns.{insertAt, removeAt}
+use Rattle.basics.specs.Lists.{insertAt, removeAt}
 use Rattle.memory_layout.specs.Store.{pageOf, nest, total, hasRows}
 use Rattle.memory_layout.specs.declared.Entry.{Entry}
 

@@ -6,8 +6,8 @@ use Rattle.basics.proofs.Facts.{and-true}
 use Rattle.basics.proofs.Ands.{and-yes, and-no, and-assoc}
 use Rattle.model.specs.Recover.{memoryFor}
 use Rattle.memory_bytes.specs.Bytes.{le2, le4, column2}
-use Rattle.memory_bytes.specs.Columns.{tab}
-use Rattle.memory_bytes.proofs.Columns.{lt-or-ge}
+use Rattle.basics.specs.Lists.{tab}
+use Rattle.basics.proofs.Tabs.{lt-or-ge}
 use Rattle.memory_layout.specs.Places.{signature}
 use Rattle.memory_layout.specs.Views.{headOf, countsOf, tableEnd, pageCount, startAt}
 use Rattle.memory_layout.specs.Flat.{InRange, capacityOf}

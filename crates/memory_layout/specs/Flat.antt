@@ -8,7 +8,7 @@ use lib.Dec.{eqb}
 use Rattle.block_forms.specs.Tuple.{committed}
 use Rattle.model.specs.State.{nothing, Held, Active}
 use Rattle.memory_bytes.specs.Bytes.{le4}
-use Rattle.memory_bytes.specs.Columns.{tab}
+use Rattle.basics.specs.Lists.{tab}
 use Rattle.memory_layout.specs.Places.{signature}
 use Rattle.memory_layout.specs.Views.{headOf, rowCount, openCount, namedCount, directoryCount, tableEnd, pageCount, countsOf, openAt, directoryAt, isUsed, rowAt, startAt, entryAt, namedBlock}
 use Rattle.memory_layout.specs.declared.Head.{Head}

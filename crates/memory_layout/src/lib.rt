@@ -16,7 +16,7 @@ ghost use lib.Bits.{bitOr};
 ghost use lib.ListN.{length, getD, set};
 ghost use Rattle.model.specs.Recover.{freshStore};
 ghost use Rattle.memory_bytes.specs.Bytes.{Apart};
-ghost use Rattle.memory_bytes.specs.Columns.{removeAt};
+ghost use Rattle.basics.specs.Lists.{removeAt};
 ghost use Rattle.memory_layout.specs.Views.{headOf, countsOf};
 ghost use Rattle.memory_layout.specs.Flat.{flatOf, Room, Replaces, Becomes, withHead, withOpens, withNamed, withDirectories, withUsed, noOpen, usedAnd};
 ghost use Rattle.memory_layout.specs.Opens.{activeOf, OpenFits, findOpen, oneIf};

@@ -1,7 +1,7 @@
 -- A page and a row behind all others: no row and no other page is moved.
 use Rattle.basics.proofs.Kit.{_≡_, refl, sym, ap, _∙_, false, List, [], _∷_, _++_, ℕ, _+_, _*_, _≤_, _<_, _-_, add-zero, length, getD, set, arith}
 use Rattle.memory_bytes.specs.Bytes.{bytes2, Wrote}
-use Rattle.memory_bytes.specs.Columns.{insertAt}
+use Rattle.basics.specs.Lists.{insertAt}
 use Rattle.memory_bytes.proofs.Bytes.{le2-cong, le4-cong}
 use Rattle.memory_layout.specs.Places.{refsAt, startsAt, blocksAt}
 use Rattle.memory_layout.specs.Views.{pageCount, startAt, slotOf}

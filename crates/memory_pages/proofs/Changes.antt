@@ -2,9 +2,9 @@
 use Rattle.basics.proofs.Kit.{_≡_, sym, ap, _∙_, subst, ⊎-elim, Bool, true, false, List, _∷_, _++_, ℕ, suc, _+_, _*_, _%_, _≤_, _<_, _/_, _-_, add-one, eqb, length, take, drop, set}
 use Rattle.basics.proofs.Kit.{set-split, eq-eqb, ne-eqb, arith}
 use Rattle.memory_bytes.specs.Bytes.{le2, bytes2, Wrote}
-use Rattle.memory_bytes.specs.Columns.{tab, insertAt, removeAt}
+use Rattle.basics.specs.Lists.{tab, insertAt, removeAt}
 use Rattle.memory_bytes.proofs.Bytes.{le2-below, le2-above, le2-wrote}
-use Rattle.memory_bytes.proofs.Columns.{lt-or-ge}
+use Rattle.basics.proofs.Tabs.{lt-or-ge}
 use Rattle.memory_layout.specs.Places.{startsAt, blocksAt}
 use Rattle.memory_layout.specs.Views.{pageCount, tableEnd, tableAt, startAt, blockWord, entryAt}
 use Rattle.memory_layout.specs.Flat.{flatOf, capacityOf, entriesOf, entryIn, Room, Becomes, withEntries}

@@ -2,7 +2,7 @@
 use Rattle.basics.proofs.Kit.{_≡_, sym, ap, _∙_, ⊎-elim, List, ℕ, suc, _+_, _*_, _≤_, _<_, arith}
 use Rattle.memory_bytes.specs.Bytes.{le2, bytes2, column2, Apart, Raised, Lowered, Wrote, Added}
 use Rattle.memory_bytes.proofs.Bytes.{le2-below, le2-above, le2-raised, le2-lowered, le2-wrote, le4-cong}
-use Rattle.memory_bytes.proofs.Columns.{lt-or-ge}
+use Rattle.basics.proofs.Tabs.{lt-or-ge}
 use Rattle.memory_layout.specs.Places.{startsAt, blocksAt}
 use Rattle.memory_layout.specs.Views.{rowCount, pageCount, tableEnd}
 use Rattle.memory_layout.specs.Flat.{capacityOf, Room}

@@ -1,6 +1,6 @@
 -- Tables and entries after a page was opened or closed.
 use Rattle.basics.proofs.Kit.{_≡_, sym, ap, _∙_, ⊎-elim, List, ℕ, suc, _+_, _%_, _≤_, _<_, _/_, _-_, eqb, length, arith}
-use Rattle.memory_bytes.proofs.Columns.{lt-or-ge}
+use Rattle.basics.proofs.Tabs.{lt-or-ge}
 use Rattle.memory_layout.specs.Views.{pageCount, tableEnd, tableAt, startAt, blockWord, entryAt}
 use Rattle.memory_layout.specs.Flat.{flatOf, capacityOf, entryIn, Room}
 use Rattle.memory_layout.proofs.Laws.{entries-length}

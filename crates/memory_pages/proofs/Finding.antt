@@ -2,8 +2,9 @@
 use Rattle.basics.proofs.Kit.{_≡_, sym, ap, _∙_, ⊎-elim, List, ℕ, _+_, _≤_, _<_, _-_, arith}
 use Rattle.basics.specs.Basics.{howMany}
 use Rattle.memory_bytes.specs.Bytes.{column2}
-use Rattle.memory_bytes.specs.Columns.{tab, upTo}
-use Rattle.memory_bytes.proofs.Columns.{lt-or-ge}
+use Rattle.memory_bytes.specs.Columns.{upTo}
+use Rattle.basics.specs.Lists.{tab}
+use Rattle.basics.proofs.Tabs.{lt-or-ge}
 use Rattle.memory_layout.specs.Places.{startsAt}
 use Rattle.memory_layout.specs.Views.{pageCount}
 use Rattle.memory_layout.specs.Flat.{flatOf, capacityOf, Room}

@@ -1,7 +1,7 @@
 -- The first frozen page, by the numbers of two bytes that name the pages' blocks.
 use Rattle.basics.proofs.Kit.{_≡_, refl, ap, _∙_, cond, List, ℕ, suc, _+_, _*_, _≤_, zero, _-_, length, arith}
 use Rattle.memory_bytes.specs.Bytes.{column2}
-use Rattle.memory_bytes.specs.Columns.{tab, firstIndex}
+use Rattle.basics.specs.Lists.{tab, firstIndex}
 use Rattle.memory_layout.specs.Places.{blocksAt}
 use Rattle.memory_layout.specs.Views.{pageCount, entryAt}
 use Rattle.memory_layout.specs.Flat.{flatOf, capacityOf, entriesOf, Room}

@@ -2,9 +2,9 @@
 use Rattle.basics.proofs.Kit.{_≡_, sym, ap, _∙_, ⊎-elim, List, _∷_, _++_, ℕ, suc, _+_, _*_, _%_, _≤_, _<_, _-_, add-one, length, take, drop, set, length-append, length-drop, set-split}
 use Rattle.basics.proofs.Kit.{length-take-le, arith}
 use Rattle.memory_bytes.specs.Bytes.{le2, Added}
-use Rattle.memory_bytes.specs.Columns.{tab, removeAt}
+use Rattle.basics.specs.Lists.{tab, removeAt}
 use Rattle.memory_bytes.proofs.Bytes.{le2-cong, le4-cong, le2-below, le2-above, le4-below}
-use Rattle.memory_bytes.proofs.Columns.{lt-or-ge}
+use Rattle.basics.proofs.Tabs.{lt-or-ge}
 use Rattle.model.specs.State.{Held}
 use Rattle.memory_layout.specs.Places.{startsAt, blocksAt}
 use Rattle.memory_layout.specs.Views.{rowCount, pageCount, tableEnd, startAt, blockWord, rowAt, entryAt}

@@ -1,8 +1,8 @@
 -- From bytes to what the memory holds: a change of rows and pages that leaves the rest.
 use Rattle.basics.proofs.Kit.{_≡_, sym, ap, _∙_, List, _++_, ℕ, _+_, _*_, _≤_, _<_, _-_, zero-add, length, take, drop, getD, arith}
 use Rattle.memory_bytes.specs.Bytes.{le4}
-use Rattle.memory_bytes.specs.Columns.{tab}
-use Rattle.memory_bytes.proofs.Columns.{tab-add, tab-cong, take-tab, drop-tab}
+use Rattle.basics.specs.Lists.{tab}
+use Rattle.basics.proofs.Tabs.{tab-add, tab-cong, take-tab, drop-tab}
 use Rattle.model.specs.State.{Held}
 use Rattle.memory_layout.specs.Views.{headOf, countsOf, rowCount, pageCount, tableEnd, startAt, rowAt, entryAt, namedBlock}
 use Rattle.memory_layout.specs.Flat.{flatOf, capacityOf, rowsOf, entriesOf, namedOf, Room, InRange, Becomes, withRows, withEntries}

@@ -2,7 +2,7 @@
 use Rattle.basics.proofs.Kit.{_≡_, refl, ap, _∙_, ⊎-elim, List, ℕ, suc, _+_, _*_, _%_, _≤_, _<_, zero, _/_, _-_, add-zero, zero-add, eqb, length, lt-ltb, le-ltb, arith}
 use Rattle.basics.specs.Basics.{if_then_else_}
 use Rattle.memory_bytes.specs.Bytes.{le2}
-use Rattle.memory_bytes.proofs.Columns.{lt-or-ge, getD-tab}
+use Rattle.basics.proofs.Tabs.{lt-or-ge, getD-tab}
 use Rattle.memory_layout.specs.Places.{startsAt}
 use Rattle.memory_layout.specs.Views.{headOf, countsOf, rowCount, pageCount, tableAt, startAt, blockWord, entryAt}
 use Rattle.memory_layout.specs.Flat.{flatOf, capacityOf, entriesOf, entryIn, noEntry, Room}

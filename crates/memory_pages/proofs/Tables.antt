@@ -1,8 +1,9 @@
 -- A page's table by the ends of the tables.
 use Rattle.basics.proofs.Kit.{_≡_, refl, sym, ap, _∙_, ⊎-elim, true, false, List, ℕ, suc, _+_, _≤_, _<_, zero, _-_, leb, length, le-leb, lt-leb, arith}
 use Rattle.basics.specs.Basics.{if_then_else_, howMany, from}
-use Rattle.memory_bytes.specs.Columns.{tab, upTo}
-use Rattle.memory_bytes.proofs.Columns.{lt-or-ge}
+use Rattle.memory_bytes.specs.Columns.{upTo}
+use Rattle.basics.specs.Lists.{tab}
+use Rattle.basics.proofs.Tabs.{lt-or-ge}
 use Rattle.memory_layout.specs.Views.{pageCount, tableEnd, tableAt}
 use Rattle.memory_layout.specs.Flat.{Flat, flatOf, entryIn, Room}
 use Rattle.memory_layout.proofs.Laws.{entries-length}

@@ -6,7 +6,7 @@ use mathlib.Core.List.{List, [], _∷_, _++_}
 use lib.ListN.{length, take, drop, getD, set}
 use lib.Dec.{eqb}
 use Rattle.model.specs.State.{Held}
-use Rattle.memory_bytes.specs.Columns.{tab, firstIndex}
+use Rattle.basics.specs.Lists.{tab, firstIndex}
 use Rattle.memory_layout.specs.Flat.{Flat, flatOf, entryIn, noEntry, Becomes, withRows, withEntries}
 use Rattle.memory_layout.specs.Store.{startOf}
 use Rattle.memory_layout.specs.declared.Entry.{Entry}

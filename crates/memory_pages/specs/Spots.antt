@@ -5,7 +5,7 @@ use mathlib.Core.List.{List}
 use lib.ListN.{take, drop}
 use lib.Dec.{leb}
 use Rattle.model.specs.State.{Held}
-use Rattle.memory_bytes.specs.Columns.{firstIndex, lastIndex}
+use Rattle.basics.specs.Lists.{firstIndex, lastIndex}
 use Rattle.memory_layout.specs.Flat.{Flat}
 use Rattle.memory_layout.specs.Store.{startOf}
 

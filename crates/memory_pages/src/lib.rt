@@ -14,7 +14,7 @@ ghost use mathlib.Core.Bool.{cond};
 ghost use lib.ListN.{length, drop};
 ghost use Rattle.basics.specs.Basics.{any, howMany};
 ghost use Rattle.memory_bytes.specs.Bytes.{column2};
-ghost use Rattle.memory_bytes.specs.Columns.{tab, firstIndex, insertAt, removeAt};
+ghost use Rattle.basics.specs.Lists.{tab, firstIndex, insertAt, removeAt};
 ghost use Rattle.memory_layout.specs.Places.{startsAt, blocksAt};
 ghost use Rattle.memory_layout.specs.Views.{rowCount, pageCount, startAt, blockWord};
 ghost use Rattle.memory_layout.specs.Flat.{flatOf, capacityOf, Room, entryIn};

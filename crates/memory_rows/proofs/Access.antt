@@ -1,8 +1,9 @@
 -- What the head's numbers give, and a row by its bytes.
 use Rattle.basics.proofs.Kit.{_≡_, refl, sym, ap, _∙_, List, ℕ, _+_, _*_, _≤_, _<_, _-_, zero-add, length, arith}
-use Rattle.memory_bytes.specs.Columns.{tab, equals, Covers}
+use Rattle.memory_bytes.specs.Columns.{equals, Covers}
+use Rattle.basics.specs.Lists.{tab}
 use Rattle.memory_bytes.specs.Bytes.{le4, bytes, column4}
-use Rattle.memory_bytes.proofs.Columns.{getD-tab, tab-cong}
+use Rattle.basics.proofs.Tabs.{getD-tab, tab-cong}
 use Rattle.model.specs.State.{Held}
 use Rattle.memory_layout.specs.Places.{keysAt}
 use Rattle.block_forms.specs.Decode.{readOwner, readMark}

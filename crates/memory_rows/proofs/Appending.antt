@@ -4,9 +4,10 @@ use Rattle.basics.proofs.Kit.{take-length, ne-eqb, arith}
 use Rattle.basics.specs.Basics.{any}
 use Rattle.block_forms.specs.Bytes.{ownerIs, flagsOf, ownerWord}
 use Rattle.memory_bytes.specs.Bytes.{bytes4, Wrote}
-use Rattle.memory_bytes.specs.Columns.{tab, equals, insertAt}
-use Rattle.memory_bytes.proofs.Columns.{lt-or-ge}
-use Rattle.memory_bytes.proofs.Scans.{any-cons}
+use Rattle.memory_bytes.specs.Columns.{equals}
+use Rattle.basics.specs.Lists.{tab, insertAt}
+use Rattle.basics.proofs.Tabs.{lt-or-ge}
+use Rattle.basics.proofs.Searches.{any-cons}
 use Rattle.memory_layout.specs.Views.{slotOf, refOf}
 use Rattle.memory_layout.specs.Flat.{capacityOf, rowsOf}
 use Rattle.memory_layout.proofs.Frame.{same4}

@@ -2,7 +2,7 @@
 use Rattle.basics.proofs.Kit.{_≡_, refl, ap, _∙_, subst, ⊎-elim, List, ℕ, _+_, _*_, _≤_, _<_, _-_, length, getD, arith}
 use Rattle.memory_bytes.specs.Bytes.{le2, le4, bytes, Apart, Wrote}
 use Rattle.memory_bytes.proofs.Bytes.{length-bytes, getD-bytes, le2-cong, le4-cong, le2-below, le2-above, le4-below, le4-above, bytes-above}
-use Rattle.memory_bytes.proofs.Columns.{lt-or-ge}
+use Rattle.basics.proofs.Tabs.{lt-or-ge}
 use Rattle.memory_layout.specs.Places.{keysAt, refsAt, statesAt, startsAt}
 use Rattle.memory_rows.specs.Cells.{SameCells, ColumnsOnly, ColumnsFit, EightFits, EightOf, EightPut, RowsRaised, RowsLowered}
 use Rattle.memory_rows.specs.declared.Eight.{Eight}

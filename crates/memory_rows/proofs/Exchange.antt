@@ -7,9 +7,9 @@ use Rattle.model.specs.State as model
 use Rattle.model.specs.State.{Held}
 use Rattle.model.specs.Rules.{asCommitted, withPending}
 use Rattle.memory_bytes.specs.Bytes.{le2, le4, bytes, bytes2, Apart, Wrote}
-use Rattle.memory_bytes.specs.Columns.{tab}
+use Rattle.basics.specs.Lists.{tab}
 use Rattle.memory_bytes.proofs.Bytes.{le2-below, le2-above, le4-below, le2-wrote}
-use Rattle.memory_bytes.proofs.Columns.{lt-or-ge, tab-set}
+use Rattle.basics.proofs.Tabs.{lt-or-ge, tab-set}
 use Rattle.memory_layout.specs.Places.{keysAt, refsAt, statesAt, startsAt}
 use Rattle.block_forms.specs.Decode.{readOwner, readMark}
 use Rattle.memory_layout.specs.Views.{rowCount, pendingOf, lengthOf, slotOf, slotPlace, keyOf, refOf, stateOf, heldOf, rowAt}

@@ -3,9 +3,10 @@ use Rattle.basics.proofs.Kit.{_≡_, refl, sym, ap, _∙_, Bool, true, false, _
 use Rattle.basics.proofs.Kit.{arith}
 use Rattle.basics.specs.Basics.{if_then_else_, any}
 use Rattle.memory_bytes.specs.Bytes.{column2}
-use Rattle.memory_bytes.specs.Columns.{tab, equals, names}
-use Rattle.memory_bytes.proofs.Columns.{length-tab}
-use Rattle.memory_bytes.proofs.Scans.{any-cons}
+use Rattle.memory_bytes.specs.Columns.{equals, names}
+use Rattle.basics.specs.Lists.{tab}
+use Rattle.basics.proofs.Tabs.{length-tab}
+use Rattle.basics.proofs.Searches.{any-cons}
 use Rattle.memory_layout.specs.Places.{refsAt}
 use Rattle.memory_layout.specs.Views.{slotOf, refOf}
 use Rattle.memory_layout.specs.Flat.{rowsOf}

@@ -3,9 +3,9 @@ use Rattle.basics.proofs.Kit.{_≡_, refl, sym, ap, _∙_, ap₂, Bool, _||_, L
 use Rattle.basics.specs.Basics.{if_then_else_, any}
 use Rattle.basics.proofs.Facts.{by}
 use Rattle.block_forms.specs.Tuple.{isTentative}
-use Rattle.memory_bytes.specs.Columns.{tab}
-use Rattle.memory_bytes.proofs.Columns.{take-tab, drop-tab}
-use Rattle.model.proofs.Lists.{any-cons}
+use Rattle.basics.specs.Lists.{tab}
+use Rattle.basics.proofs.Tabs.{take-tab, drop-tab}
+use Rattle.basics.proofs.Elements.{any-cons}
 use Rattle.block_forms.specs.Decode.{readOwner}
 use Rattle.memory_layout.specs.Views.{rowCount, rowAt, heldOf, stateOf}
 use Rattle.memory_layout.specs.Flat.{flatOf, rowsOf, capacityOf}

@@ -5,9 +5,10 @@ use Rattle.basics.specs.Basics.{if_then_else_}
 use Rattle.block_forms.specs.Limits.{payloadLimit}
 use Rattle.block_forms.specs.Tuple.{Owner}
 use Rattle.memory_bytes.specs.Bytes.{le4, bytes, bytes2, bytes4, Wrote}
-use Rattle.memory_bytes.specs.Columns.{tab, equals, insertAt, removeAt}
+use Rattle.memory_bytes.specs.Columns.{equals}
+use Rattle.basics.specs.Lists.{tab, insertAt, removeAt}
 use Rattle.memory_bytes.proofs.Bytes.{le2-below, le4-below, le4-wrote}
-use Rattle.memory_bytes.proofs.Columns.{lt-or-ge, length-tab, getD-tab, tab-insert, tab-remove}
+use Rattle.basics.proofs.Tabs.{lt-or-ge, length-tab, getD-tab, tab-insert, tab-remove}
 use Rattle.memory_bytes.proofs.Found.{any-none}
 use Rattle.memory_layout.specs.Places.{keysAt, refsAt, statesAt, startsAt}
 use Rattle.block_forms.specs.Decode.{readOwner}

@@ -2,7 +2,7 @@
 use Rattle.basics.proofs.Kit.{_≡_, ap, _∙_, List, ℕ, _+_, _*_, _≤_, _<_, length, getD, arith}
 use Rattle.model.specs.State.{Held}
 use Rattle.memory_bytes.specs.Bytes.{le4}
-use Rattle.memory_bytes.specs.Columns.{tab}
+use Rattle.basics.specs.Lists.{tab}
 use Rattle.memory_layout.specs.Places.{startsAt}
 use Rattle.memory_layout.specs.Views.{headOf, countsOf, tableEnd, pageCount, startAt, entryAt, namedBlock}
 use Rattle.memory_layout.specs.Flat.{flatOf, capacityOf, rowsOf, entriesOf, namedOf, Room, InRange, Becomes, withRows}

@@ -2,7 +2,7 @@
 use Rattle.basics.proofs.Kit.{_≡_, sym, ap, _∙_, ⊎-elim, List, [], _∷_, ℕ, _+_, _*_, _≤_, _<_, _-_, length, getD, arith}
 use Rattle.memory_bytes.specs.Bytes.{le2, le4, bytes, bytes2, bytes4, Apart, Raised, Lowered, Wrote}
 use Rattle.memory_bytes.proofs.Bytes.{le2-below, le2-above, le4-below, le4-above, le2-raised, le4-raised, le2-lowered, le4-lowered, le2-wrote, le4-wrote, bytes-wrote}
-use Rattle.memory_bytes.proofs.Columns.{lt-or-ge}
+use Rattle.basics.proofs.Tabs.{lt-or-ge}
 use Rattle.memory_layout.specs.Places.{keysAt, refsAt, statesAt, startsAt}
 use Rattle.memory_layout.specs.Views.{keyOf, refOf, stateOf, slotPlace}
 use Rattle.memory_rows.specs.Cells.{SameCells, ColumnsOnly, RowsRaised, RowsLowered, CellsPut, SlotFilled}

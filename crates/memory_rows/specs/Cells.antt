@@ -9,7 +9,8 @@ use Rattle.memory_layout.specs.Places.{slotSize, keysAt, refsAt, statesAt, star
 use Rattle.memory_layout.specs.Views.{slotOf, keyOf, refOf, stateOf, slotPlace}
 use Rattle.basics.specs.Basics.{any}
 use Rattle.model.specs.State as model
-use Rattle.memory_bytes.specs.Columns.{tab, equals}
+use Rattle.memory_bytes.specs.Columns.{equals}
+use Rattle.basics.specs.Lists.{tab}
 use Rattle.memory_layout.specs.Flat.{capacityOf, rowsOf}
 use Rattle.memory_rows.specs.declared.Eight.{Eight}
 use Rattle.memory_rows.specs.declared.Pending.{Pending}

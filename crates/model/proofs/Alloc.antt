@@ -4,7 +4,7 @@ use Rattle.basics.specs.Basics.{from, first, howMany, if_then_else_}
 use Rattle.basics.proofs.Facts.{AllOf, by, by-option}
 use Rattle.model.specs.State.{Store}
 use Rattle.model.specs.Checkpoint.{allocate, freeCount, isFree, usedToo}
-use Rattle.model.proofs.Lists.{all-map, first-none, many-append, first-all, all-append, not-true, first-passes, eqb-self, or-right, eqb-true}
+use Rattle.basics.proofs.Elements.{all-map, first-none, many-append, first-all, all-append, not-true, first-passes, eqb-self, or-right, eqb-true}
 
 from-append : (a j k : ℕ) → from a (j + k) ≡ from a j ++ from (a + j) k
 unfolding from

@@ -7,7 +7,7 @@ use Rattle.model.specs.State.{Page, Store, idle, running}
 use Rattle.model.specs.Rules.{shown, freeze, isDirty}
 use Rattle.model.specs.Checkpoint.{withProgress}
 use Rattle.model.specs.CrashRecovery.{content}
-use Rattle.model.proofs.Lists.{eqb-true, not-zero, le-true}
+use Rattle.basics.proofs.Elements.{eqb-true, not-zero, le-true}
 use Rattle.model.proofs.Frozen.{bare, images}
 use Rattle.model.proofs.Stored.{Stored, end, todo, stands}
 use Rattle.model.proofs.Inv.{Tied, isClean, Inv, Ready, Phase, named-self}

@@ -10,8 +10,8 @@ use Rattle.model.specs.Rules.{isDirty, fresh, freeze, isFrozen}
 use Rattle.model.specs.Transactions.{changed, gives}
 use Rattle.model.specs.Checkpoint.{fill, freeCount, isFree, isRunning, beginCall, withProgress, blocksNeeded, usedToo, storePage, made, allocate, storeDirectory, storeHeader, stepAt, stepOf}
 use Rattle.model.specs.Calls.{TransactionCall, transact, Call, transacts, begins, steps, runs, call}
-use Rattle.model.proofs.Lists.{eqb-true, not-true, in-here, in-cons, not-zero, pos-not-zero, in-head, in-weak, leb-false, any-many, leb-true, eqb-self, many-append, all-in, in-all}
-use Rattle.model.proofs.Lists.{all-map, eqb-sym, all-append, all-two, in-append}
+use Rattle.basics.proofs.Elements.{eqb-true, not-true, in-here, in-cons, not-zero, pos-not-zero, in-head, in-weak, leb-false, any-many, leb-true, eqb-self, many-append, all-in, in-all}
+use Rattle.basics.proofs.Elements.{all-map, eqb-sym, all-append, all-two, in-append}
 use Rattle.model.proofs.Frozen.{images, images-first, images-thaw, Content, images-none}
 use Rattle.model.proofs.Pages.{stillFrozen, all-thaw}
 use Rattle.model.proofs.Totals.{sum-thaw}

@@ -7,7 +7,7 @@ use Rattle.model.specs.State.{Page}
 use Rattle.model.specs.Sight.{held, rows}
 use Rattle.model.specs.Places.{Placed, rowOf, placed, allPlaced, runs, allRuns, liveOf, ownPlaced, removePlaces, planRuns, closePlan, abortPlan}
 use Rattle.model.specs.Transactions.{committedPages, abortedPages}
-use Rattle.model.proofs.Lists.{Pairs, all-map, all-mem, all-keep}
+use Rattle.basics.proofs.Elements.{Pairs, all-map, all-mem, all-keep}
 use Rattle.model.proofs.ByNumber.{perform, removeAll, planRows}
 use Rattle.model.proofs.Sound.{PageOk}
 use Rattle.model.proofs.Rows.{Entry, Sub, entries, asRow, held-plain, rows-live, pairs-plain, Differ}

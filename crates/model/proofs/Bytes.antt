@@ -18,7 +18,7 @@ use Rattle.model.specs.Recover.{memoryFor, putBlock, freshStore, make, m
 use Rattle.model.proofs.Views.{put, recoverFrom, recoverView, Sane, AllSane}
 use Rattle.model.proofs.Recovery.{found, refuses-holds, holds-eq}
 use Rattle.model.proofs.Start.{headed}
-use Rattle.model.proofs.Lists.{eqb-self, eqb-true, le-true, leb-true, leb-false, lt-false, not-false}
+use Rattle.basics.proofs.Elements.{eqb-self, eqb-true, le-true, leb-true, leb-false, lt-false, not-false}
 
 -- ---- a block of an image exchanged
 

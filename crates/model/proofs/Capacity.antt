@@ -13,7 +13,7 @@ use Rattle.model.specs.Calls.{Call, transacts, begins, steps, runs, call
 use Rattle.model.specs.Recover.{recoveredStore}
 use Rattle.model.specs.CrashRecovery.{Logged, tag, log, isHeader}
 use Rattle.model.proofs.Views.{put, recoverView, CutV, stop, torn, whole}
-use Rattle.model.proofs.Lists.{all-append, all-mapped}
+use Rattle.basics.proofs.Elements.{all-append, all-mapped}
 use Rattle.model.proofs.Recovery.{found}
 use Rattle.model.proofs.Effects.{unless-out}
 use Rattle.model.proofs.Quiet.{call-leaves}

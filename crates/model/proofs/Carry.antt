@@ -6,7 +6,7 @@ use Rattle.basics.proofs.Facts.{by, AllOf}
 use Rattle.model.specs.State.{Page}
 use Rattle.model.specs.Sight.{held}
 use Rattle.model.specs.Places.{PlaceOp, commitPlace, removePlace, carryOut, removeRow, commitRow}
-use Rattle.model.proofs.Lists.{Pairs, pairs-parts, pairs-append, all-map, eqb-self, eqb-true}
+use Rattle.basics.proofs.Elements.{Pairs, pairs-parts, pairs-append, all-map, eqb-self, eqb-true}
 use Rattle.model.proofs.ByNumber.{remove, commit, Op, toCommit, toRemove, perform, placeIn}
 use Rattle.model.proofs.Rows.{entries, held-plain, asRow}
 use Rattle.model.proofs.Places.{numberOf, numbers, remove-place, commit-place, Less, removeAt-seam, remove-numbers, commit-numbers}

@@ -6,8 +6,8 @@ use Rattle.block_forms.specs.Tuple.{committed, tentative, Owner}
 use Rattle.image_rows.specs.Rows.{Row, isOwn, isBy, earlierBy, statementIs, markOk, statementOk, number, startsWell, isAt, ownerAfter}
 use Rattle.model.specs.Rules.{asCommitted}
 use Rattle.model.specs.Calls.{others}
-use Rattle.model.proofs.Lists.{all-append, all-map, Pairs, pairs-append, many-append, eqb-true, keep-append, keep-all, keep-cons, keep-none, keep-past, Mem, many-none, all-mem}
-use Rattle.model.proofs.Lists.{mem-all, and-yes, last-off, last-mem, eqb-self, mem-pairs, some-eq, all-keep, pairs-map, pairs-both, pairs-keep}
+use Rattle.basics.proofs.Elements.{all-append, all-map, Pairs, pairs-append, many-append, eqb-true, keep-append, keep-all, keep-cons, keep-none, keep-past, Mem, many-none, all-mem}
+use Rattle.basics.proofs.Elements.{mem-all, and-yes, last-off, last-mem, eqb-self, mem-pairs, some-eq, all-keep, pairs-map, pairs-both, pairs-keep}
 use Rattle.model.proofs.ByNumber.{isRow, ownAt}
 use Rattle.model.proofs.Owners.{in-others}
 use Rattle.model.proofs.Rows.{kept-row, Differ}

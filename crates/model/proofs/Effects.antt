@@ -10,7 +10,7 @@ use Rattle.model.specs.Transactions.{unless, Test, gives, _when_, openNu
 use Rattle.model.specs.Transactions.{writeTests, withTuple, writeCall, readSeen, readCall, listCall, committedPages, abortedPages, closing, commitCall, abortCall}
 use Rattle.model.specs.Calls.{TransactionCall, opens, inserts, replaces, deletes, commits, aborts, reads, lists, transact, noEffect, startOf, writeOf, commitOf, abortOf, effect}
 use Rattle.model.specs.Calls.{TypedTuple, TypedCall, accepted}
-use Rattle.model.proofs.Lists.{leb-false, not-false}
+use Rattle.basics.proofs.Elements.{leb-false, not-false}
 
 -- ---- refused or not
 

@@ -6,8 +6,8 @@ use Rattle.image_rows.specs.Rows.{Row, number, isAt, isOwn}
 use Rattle.model.specs.State.{Page}
 use Rattle.model.specs.Rules.{asCommitted}
 use Rattle.model.specs.Sight.{rows, held}
-use Rattle.model.proofs.Lists.{Pairs, Mem, here, all-map, there, mem-all, eqb-self, eqb-true, all-keep, all-mem, all-append, mem-keep, any-off, last-off, last-any, last-skip}
-use Rattle.model.proofs.Lists.{last-some, last-here}
+use Rattle.basics.proofs.Elements.{Pairs, Mem, here, all-map, there, mem-all, eqb-self, eqb-true, all-keep, all-mem, all-append, mem-keep, any-off, last-off, last-any, last-skip}
+use Rattle.basics.proofs.Elements.{last-some, last-here}
 use Rattle.model.proofs.ByNumber.{remove, commit, Op, toCommit, isRow, toRemove, perform, removeAll, planKey, ownAt, planRows, placeIn, plan-skip, plan-take}
 use Rattle.model.proofs.Sound.{PageOk, removeRow-ok, commitRow-ok}
 use Rattle.model.proofs.Rows.{amend, away, kept-row, Alike, Differ, Entry, Sub, plain, liveRows, entries, sub-refl, amends-commit, sub-pairs, sub-trans, pairs-plain, amends-remove}

@@ -5,9 +5,10 @@ use Rattle.basics.specs.Basics.{if_then_else_, isEmpty}
 use Rattle.basics.proofs.Facts.{by, lie}
 use Rattle.model.specs.State.{Pending, nothing, adding, committing, removing, Held, Page}
 use Rattle.model.specs.Rules.{listOf, fresh, withTuples, settle, removeNow, pendRemove, commitNow, pendCommit, isAdding, isRemoving, withPending}
-use Rattle.model.specs.Places.{editAt, pendRemoveAt, removeRowOn, committedAt, commitRowOn, removeRow, commitRow, onPage, tagged, removeAt, RowOn, RowByPage, RemovedNow, RemovedLater}
+use Rattle.model.specs.Places.{editAt, pendRemoveAt, removeRowOn, committedAt, commitRowOn, removeRow, commitRow, onPage, tagged, RowOn, RowByPage, RemovedNow, RemovedLater}
+use Rattle.basics.specs.Lists.{removeAt}
 use Rattle.model.specs.Places.{LastStays, RemovedStays, committedTuple, CommittedRow}
-use Rattle.model.proofs.Lists.{nonempty, le-true, lt-false}
+use Rattle.basics.proofs.Elements.{nonempty, le-true, lt-false}
 use Rattle.model.proofs.Rows.{withTable, entries, entries-append}
 use Rattle.model.proofs.Places.{tagged-page, tagged-entries, row-here, row-past, removeAt-suc, removeAt-left, removeAt-right, entriesAt, removedOn, committedOn, entries-removeRow}
 use Rattle.model.proofs.Places.{entries-commitRow}

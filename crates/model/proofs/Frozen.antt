@@ -9,7 +9,7 @@ use Rattle.model.specs.Rules.{shown, fresh, after, isAdding, grown, with
 use Rattle.model.specs.Rules.{pendRemove, withPending, commitNow, pendCommit, asCommitted, isRemoving, thaw, thawOn, isPending, splitAll, withoutPending, live, isFrozen, around}
 use Rattle.model.specs.Rules.{editAt, pendRemoveAt, removeRowOn, committedAt, commitRowOn, atRow, removeRow, commitRow}
 use Rattle.model.specs.Transactions.{PlaceOp, commitPlace, removePlace, carryOut}
-use Rattle.model.proofs.Lists.{some-eq}
+use Rattle.basics.proofs.Elements.{some-eq}
 
 -- a page's table and tuples, as an image has them
 abbrev pub Content : Type 0

@@ -7,7 +7,7 @@ use Rattle.image_rows.specs.Rows.{Row}
 use Rattle.model.specs.State.{Page}
 use Rattle.model.specs.Rules.{place}
 use Rattle.model.specs.Sight.{rows, held}
-use Rattle.model.proofs.Lists.{leb-false, eqb-self, le-true, leb-true, eqb-true, Pairs}
+use Rattle.basics.proofs.Elements.{leb-false, eqb-self, le-true, leb-true, eqb-true, Pairs}
 use Rattle.model.proofs.Sound.{PageOk}
 use Rattle.model.proofs.Placing.{Above, NotAbove, Before, place-put}
 

@@ -15,7 +15,7 @@ use Rattle.model.specs.Checkpoint.{fill}
 use Rattle.model.specs.CrashRecovery.{content}
 use Rattle.model.specs.Checkpoints.{contentOf}
 use Rattle.model.proofs.Views.{put}
-use Rattle.model.proofs.Lists.{leb-true, eqb-true, pos-not-zero}
+use Rattle.basics.proofs.Elements.{leb-true, eqb-true, pos-not-zero}
 use Rattle.model.proofs.Frozen.{bare, Content, images}
 use Rattle.model.proofs.Pages.{stillFrozen}
 use Rattle.model.proofs.Books.{test-other}

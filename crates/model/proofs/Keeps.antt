@@ -13,7 +13,7 @@ use Rattle.model.specs.Transactions.{gives, changed, openNumbers, withOp
 use Rattle.model.specs.Transactions.{carryOut, closePlan, abortPlan}
 use Rattle.model.specs.Checkpoint.{withProgress, beginCall, storePage, made, allocate, storeDirectory, storeHeader, stepAt, stepOf}
 use Rattle.model.specs.Calls.{TransactionCall, transact, Call, transacts, begins, steps, runs, call, others}
-use Rattle.model.proofs.Lists.{in-append, all-map, Pairs}
+use Rattle.basics.proofs.Elements.{in-append, all-map, Pairs}
 use Rattle.model.proofs.ByNumber.{planRows, removeAll}
 use Rattle.model.proofs.Owners.{numbers-append, numbers-write, numbers-length, others-length, numbers-without}
 use Rattle.model.proofs.Splits.{mostSize}

@@ -15,7 +15,7 @@ use Rattle.model.specs.Calls.{TransactionCall, transact, transacts, begi
 use Rattle.model.specs.WellFormed.{WellFormed, FrozenIn, NeverFallsBack, ListOrder, CheckpointWell, BeginAnswers, OneLess, times, writesOf, RunIsSteps}
 use Rattle.model.specs.Places.{RunIsKey}
 use Rattle.model.specs.Seen.{RefusedKeeps, ReadsOnly}
-use Rattle.model.proofs.Lists.{Pairs, pairs-parts, all-parts, all-map, all-true, leb-true, leb-false, eqb-self, eqb-true, not-false, many-length}
+use Rattle.basics.proofs.Elements.{Pairs, pairs-parts, all-parts, all-map, all-true, leb-true, leb-false, eqb-self, eqb-true, not-false, many-length}
 use Rattle.model.proofs.Owners.{count-write}
 use Rattle.model.proofs.Splits.{Small, split-all}
 use Rattle.model.proofs.Frozen.{takenAt-is, images-thaw, images-first, images-none}

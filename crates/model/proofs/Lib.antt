@@ -1,5 +1,4 @@
 pub mod Views
-pub mod Lists
 pub mod Owners
 pub mod Splits
 pub mod Frozen

@@ -8,7 +8,7 @@ use Rattle.model.specs.State.{Store, Outcome}
 use Rattle.model.specs.Transactions.{gives, changed, openNumbers, afterWrite, withTuple}
 use Rattle.model.specs.Calls.{TransactionCall, transact, Call, transacts, begins, steps, runs, call, isTransaction, others}
 use Rattle.model.specs.Recover.{reopened}
-use Rattle.model.proofs.Lists.{not-in, in-append, not-true, in-one, eqb-sym, in-keep, all-append, all-map, all-keep, eqb-true, all-in}
+use Rattle.basics.proofs.Elements.{not-in, in-append, not-true, in-one, eqb-sym, in-keep, all-append, all-map, all-keep, eqb-true, all-in}
 use Rattle.model.proofs.Owners.{numbers-append, numbers-write, numbers-without, numbers-reopened, transactions-distinct, in-transactions}
 use Rattle.model.proofs.Effects.{Does, refuses, answers, starts, writes, finishes, undoes, does}
 use Rattle.model.proofs.Quiet.{call-leaves}

@@ -6,7 +6,7 @@ use Rattle.basics.proofs.Facts.{by}
 use Rattle.model.specs.State.{Held, Page}
 use Rattle.model.specs.Rules.{removeNow, pendRemove, commitNow, pendCommit, isAdding, isRemoving}
 use Rattle.model.specs.Places.{editAt, pendRemoveAt, removeRow, commitRow, OnlyRow, OthersStay}
-use Rattle.model.proofs.Lists.{leb-true, leb-false}
+use Rattle.basics.proofs.Elements.{leb-true, leb-false}
 use Rattle.model.proofs.Rows.{Entry, withTable, entries, table-append}
 use Rattle.model.proofs.Places.{tagged-entries, entriesAt, removedOn, committedOn, entries-removeRow, entries-commitRow, numberOf, commit-numbers}
 

@@ -7,7 +7,7 @@ use Rattle.model.specs.State.{Active}
 use Rattle.model.specs.Transactions.{openNumbers, oneMore, withWrite, isFor, without, writtenBy}
 use Rattle.model.specs.Calls.{others}
 use Rattle.model.specs.Recover.{reopened}
-use Rattle.model.proofs.Lists.{eqb-true, in-cons, eqb-sym, in-keep, not-in, not-in-all, not-true, all-two}
+use Rattle.basics.proofs.Elements.{eqb-true, in-cons, eqb-sym, in-keep, not-in, not-in-all, not-true, all-two}
 pub use Rattle.image_rows.proofs.Owners.{in-transactions}
 pub use Rattle.image_rows.proofs.Counts.{transactions-distinct}
 

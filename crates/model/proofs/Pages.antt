@@ -7,7 +7,7 @@ use Rattle.model.specs.State.{Page, Held}
 use Rattle.model.specs.Rules.{fresh, grown, withTuples, splitOnce, placeAfter, place, after, entering, placeFront, settle, settleNext, joined, joins, settleFull, listOf, around, thaw}
 use Rattle.model.specs.Rules.{isFrozen, isPending, thawOn, splitAll, withoutPending, live, removeRowOn, committedAt, commitRowOn, atRow, removeRow, commitRow}
 use Rattle.model.specs.Transactions.{PlaceOp, commitPlace, removePlace, carryOut}
-use Rattle.model.proofs.Lists.{all-append, some-eq}
+use Rattle.basics.proofs.Elements.{all-append, some-eq}
 
 -- a page that is frozen, with other tuples
 unfoldable pub stillFrozen : Page → List Held → Page

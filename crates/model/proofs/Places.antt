@@ -6,8 +6,9 @@ use Rattle.basics.proofs.Lists.{map-append}
 use Rattle.basics.proofs.Facts.{by, lie}
 use Rattle.model.specs.State.{Held, Page}
 use Rattle.model.specs.Rules.{fresh, listOf, withTuples, around, removeNow, pendRemove, commitNow, pendCommit, isAdding, isRemoving, withPending, asCommitted}
-use Rattle.model.specs.Places.{tagged, atRow, editAt, pendRemoveAt, removeRowOn, committedAt, commitRowOn, removeRow, commitRow, removeAt}
-use Rattle.model.proofs.Lists.{le-true, lt-false, leb-true, leb-false}
+use Rattle.model.specs.Places.{tagged, atRow, editAt, pendRemoveAt, removeRowOn, committedAt, commitRowOn, removeRow, commitRow}
+use Rattle.basics.specs.Lists.{removeAt}
+use Rattle.basics.proofs.Elements.{le-true, lt-false, leb-true, leb-false}
 use Rattle.model.proofs.ByNumber.{isNumber, hasNumber, remove, commit, removeOn, commitOn, placeIn, numbersOn, removeOn-place, commitOn-place}
 use Rattle.model.proofs.Rows.{Entry, withTable, entries, entries-append, entries-settle, entries-page}
 

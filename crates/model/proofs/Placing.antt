@@ -7,7 +7,7 @@ use Rattle.image_rows.specs.Rows.{Row}
 use Rattle.model.specs.State.{Held, Page}
 use Rattle.model.specs.Rules.{after, grown, withTuples, fresh, splitOnce, shown, entering, applied, isRemoving, isCommitting, withoutPending, place, placeAfter, placeFront}
 use Rattle.model.specs.Sight.{rows, held}
-use Rattle.model.proofs.Lists.{Pairs, some-eq, leb-true, all-append, all-map, eqb-self, all-two, pairs-parts, all-parts, eqb-true, leb-false, all-mapped}
+use Rattle.basics.proofs.Elements.{Pairs, some-eq, leb-true, all-append, all-map, eqb-self, all-two, pairs-parts, all-parts, eqb-true, leb-false, all-mapped}
 use Rattle.model.proofs.Splits.{after-none, once-together}
 use Rattle.model.proofs.Sound.{PageOk}
 use Rattle.model.proofs.Rows.{Entry, asRow, withTable, all-table, entries, entries-append, entries-fresh, liveRows, plain, sub-all, live-sub, plain-append, live-append, pairs-plain}

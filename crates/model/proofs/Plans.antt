@@ -8,8 +8,8 @@ use Rattle.block_forms.specs.Tuple.{Tuple}
 use Rattle.image_rows.specs.Rows.{Row, number, isOwn, isAt}
 use Rattle.model.specs.Rules.{isRemoving}
 use Rattle.model.specs.Places.{PlaceOp, commitPlace, removePlace, Placed, rowOf, placed, continues, runs, liveOf, ownPlaced, removePlaces, planNewest, planRun, planRuns}
-use Rattle.model.proofs.Lists.{Pairs, all-at, Mem, here, there, mem-all, all-mem, all-map, all-parts, all-keep, any-off, last-off, last-any, last-skip, last-some, last-here, last-mem}
-use Rattle.model.proofs.Lists.{eqb-self, eqb-true, and-no, and-yes}
+use Rattle.basics.proofs.Elements.{Pairs, all-at, Mem, here, there, mem-all, all-mem, all-map, all-parts, all-keep, any-off, last-off, last-any, last-skip, last-some, last-here, last-mem}
+use Rattle.basics.proofs.Elements.{eqb-self, eqb-true, and-no, and-yes}
 use Rattle.model.proofs.ByNumber.{Op, toCommit, toRemove, removeAll, isRow, planKey, ownAt, planRows, plan-skip, plan-take}
 use Rattle.model.proofs.Rows.{Entry, applied-is}
 use Rattle.model.proofs.Fate.{With}

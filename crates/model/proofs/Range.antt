@@ -12,7 +12,7 @@ use Rattle.model.specs.Sight.{rows, held}
 use Rattle.model.specs.Transactions.{gives, changed, newTuple, afterWrite, withTuple}
 use Rattle.model.specs.Checkpoint.{stepAt, stepOf, storePage, storeDirectory, storeHeader, made, withProgress, allocate, beginCall}
 use Rattle.model.specs.Calls.{TransactionCall, transact, TypedTuple, TypedCall, Call, transacts, begins, steps, runs, call, Typed}
-use Rattle.model.proofs.Lists.{many-length, all-insert, all-map, all-two}
+use Rattle.basics.proofs.Elements.{many-length, all-insert, all-map, all-two}
 use Rattle.model.proofs.Frozen.{bare}
 use Rattle.model.proofs.Effects.{unless-keeps, Accepts, Does, refuses, answers, starts, writes, finishes, undoes, does}
 use Rattle.model.proofs.Quiet.{step-keeps, run-keeps}

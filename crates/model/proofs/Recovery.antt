@@ -14,7 +14,7 @@ pub use Rattle.image.proofs.Staged.{read-blocks}
 use Rattle.model.specs.State.{Store}
 use Rattle.model.specs.Recover.{recoveredStore, recoverPages}
 use Rattle.model.proofs.Views.{recoverView, recoverFrom}
-use Rattle.model.proofs.Lists.{all-parts, all-in}
+use Rattle.basics.proofs.Elements.{all-parts, all-in}
 
 pub refuses-holds {ℓ} : {A : Type 0} {X : Type ℓ} {n : ℕ} {a : A} → refuses n ≡ holds a → X
 refuses-holds e = let z : _≡_ {A = ℕ} 0 1 = cc in absurd (omega arith)

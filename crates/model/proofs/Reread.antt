@@ -14,7 +14,7 @@ use Rattle.model.specs.Recover.{recoveredStore}
 use Rattle.model.specs.CrashRecovery.{Logged, isHeader, landed, Cut, imageWith, content}
 use Rattle.model.specs.Checkpoints.{afterStores, contentOf, Placed, Checkpointed, Checkpoints}
 use Rattle.model.proofs.Views.{WriteOk, put, CutV}
-use Rattle.model.proofs.Lists.{eqb-true, not-zero, all-map, all-parts, all-append}
+use Rattle.basics.proofs.Elements.{eqb-true, not-zero, all-map, all-parts, all-append}
 use Rattle.model.proofs.Recovery.{found, Found, read-blocks}
 use Rattle.model.proofs.Stored.{put-same}
 use Rattle.model.proofs.Inv.{Named, Like}

@@ -8,7 +8,7 @@ use Rattle.model.specs.State.{Held, Page}
 use Rattle.model.specs.Rules.{isRemoving, applied, live, fresh, joins, joined, settleNext, settle, settleFull, listOf, asCommitted, isCommitting, around, withoutPending, splitAll}
 use Rattle.model.specs.Rules.{thawOn, thaw, isPending, isFrozen, commitNow, removeNow, pendRemove, withPending, isAdding, pendCommit, withTuples, freeze}
 use Rattle.model.specs.Sight.{rows, held}
-use Rattle.model.proofs.Lists.{eqb-true, nothing-left, has-some, here, Pairs, all-map, off-any, pairs-parts}
+use Rattle.basics.proofs.Elements.{eqb-true, nothing-left, has-some, here, Pairs, all-map, off-any, pairs-parts}
 use Rattle.model.proofs.Splits.{together, Small, split-all}
 use Rattle.model.proofs.Frozen.{bare}
 use Rattle.model.proofs.ByNumber.{commit, isNumber, edit, hasNumber, remove, removeOn, commitOn, isRow, takenLater-is}

@@ -6,7 +6,7 @@ use Rattle.basics.proofs.Facts.{by, lie, AllOf}
 use Rattle.image_rows.specs.Rows.{Row, isAt}
 use Rattle.model.specs.Rules.{isRemoving, applied}
 use Rattle.model.specs.Places.{Placed, rowOf, placed, continues, runs, liveOf}
-use Rattle.model.proofs.Lists.{Pairs, all-mem, all-map, all-two, all-append, all-parts, pairs-parts, keep-append, keep-all, keep-none}
+use Rattle.basics.proofs.Elements.{Pairs, all-mem, all-map, all-two, all-append, all-parts, pairs-parts, keep-append, keep-all, keep-none}
 use Rattle.model.proofs.Rows.{Entry, liveRows, applied-is}
 use Rattle.model.proofs.Placing.{Before}
 use Rattle.model.proofs.Fate.{With, with-self, with-as, with-sym, at-split, at-join}

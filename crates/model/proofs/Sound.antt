@@ -9,7 +9,7 @@ use Rattle.model.specs.Rules.{heldSize, shown, fresh, withTuples, lead, 
 use Rattle.model.specs.Rules.{settle, settleNext, settleFull, listOf, asCommitted, withPending, commitNow, removeNow, pendRemove, isAdding, pendCommit, isRemoving, around, applied}
 use Rattle.model.specs.Rules.{isCommitting, live, splitAll, isPending, thawOn, thaw, isFrozen, editAt, pendRemoveAt, removeRowOn, committedAt, commitRowOn, atRow, removeRow, commitRow}
 use Rattle.model.specs.Transactions.{PlaceOp, commitPlace, removePlace, carryOut}
-use Rattle.model.proofs.Lists.{all-map, leb-true, leb-false, all-take, all-drop, some-eq, all-append, not-true, has-some, all-parts}
+use Rattle.basics.proofs.Elements.{all-map, leb-true, leb-false, all-take, all-drop, some-eq, all-append, not-true, has-some, all-parts}
 use Rattle.model.proofs.Splits.{mostSize, Small, half-between, after-all, together, split-all}
 use Rattle.model.proofs.Frozen.{after-shown, entering-adding, shown-takenAt, shown-pendCommit, bare, shown-withoutPending}
 

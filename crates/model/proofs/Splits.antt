@@ -6,7 +6,7 @@ use Rattle.basics.proofs.Facts.{by, AllOf, never, by-option}
 use Rattle.block_forms.specs.Limits.{payloadLimit}
 use Rattle.model.specs.State.{Held}
 use Rattle.model.specs.Rules.{lead, heldSize, half, fits, splitDeep, splitAll, splitOnce, after}
-use Rattle.model.proofs.Lists.{leb-false, nonempty, all-take, all-drop, all-append, some-eq}
+use Rattle.basics.proofs.Elements.{leb-false, nonempty, all-take, all-drop, all-append, some-eq}
 
 -- ---- one split
 

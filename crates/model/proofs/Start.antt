@@ -14,7 +14,7 @@ use Rattle.model.specs.Sight.{held, rows}
 use Rattle.model.specs.Transactions.{openNumbers}
 use Rattle.model.specs.Recover.{loaded, recoveredStore}
 use Rattle.model.proofs.Views.{AllSane, Sane}
-use Rattle.model.proofs.Lists.{some-eq, leb-true, not-true, all-map, all-split, every-all, eqb-true, all-mapped, in-all, all-append, all-in, in-append}
+use Rattle.basics.proofs.Elements.{some-eq, leb-true, not-true, all-map, all-split, every-all, eqb-true, all-mapped, in-all, all-append, all-in, in-append}
 use Rattle.model.proofs.Owners.{numbers-reopened, in-transactions, transactions-distinct}
 use Rattle.model.proofs.Books.{not-in-many, Booked, Books, inBlock-many}
 use Rattle.model.proofs.Recovery.{Found, read-blocks}

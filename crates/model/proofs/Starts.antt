@@ -13,7 +13,7 @@ use Rattle.model.specs.Calls.{call, Call, AllTyped, afterCalls}
 use Rattle.model.specs.Recover.{freshStore, recoveredStore}
 use Rattle.model.specs.CrashRecovery.{Start}
 use Rattle.model.specs.WellFormed.{KeptWell, WellFormed, heldOk, openOk, MadeWell, RecoveredWell, AlwaysWell}
-use Rattle.model.proofs.Lists.{le-true}
+use Rattle.basics.proofs.Elements.{le-true}
 use Rattle.model.proofs.Recovery.{found, Found}
 use Rattle.model.proofs.Start.{loaded-held, start-books}
 use Rattle.model.proofs.Whole.{Fitting, starts}

@@ -18,7 +18,7 @@ use Rattle.model.specs.Recover.{loaded, recoveredStore}
 use Rattle.model.specs.CrashRecovery.{content}
 use Rattle.model.specs.Checkpoints.{contentOf}
 use Rattle.model.proofs.Views.{put}
-use Rattle.model.proofs.Lists.{all-two, pos-not-zero, not-zero, first-all, first-passes, all-map, eqb-true, leb-true, all-take, all-drop, all-true, le-true, eqb-self, leb-false, eqb-sym}
+use Rattle.basics.proofs.Elements.{all-two, pos-not-zero, not-zero, first-all, first-passes, all-map, eqb-true, leb-true, all-take, all-drop, all-true, le-true, eqb-self, leb-false, eqb-sym}
 use Rattle.model.proofs.Owners.{numbers-reopened, in-transactions}
 use Rattle.model.proofs.Frozen.{Content, images, images-first, images-thaw, shown-withoutPending, bare, images-none}
 use Rattle.model.proofs.Pages.{all-thaw}

@@ -9,7 +9,7 @@ use Rattle.image.specs.View.{View}
 use Rattle.model.specs.Checkpoint.{fill}
 use Rattle.model.specs.Checkpoints.{contentOf}
 use Rattle.model.proofs.Views.{put}
-use Rattle.model.proofs.Lists.{eqb-self, not-in, eqb-true, le-true}
+use Rattle.basics.proofs.Elements.{eqb-self, not-in, eqb-true, le-true}
 use Rattle.model.proofs.Frozen.{Content}
 
 pub put-same : (img : View) (b : ℕ) (x : Block) → put img b x b ≡ x

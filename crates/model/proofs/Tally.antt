@@ -12,7 +12,7 @@ use Rattle.model.specs.Transactions.{gives, changed, openNumbers, withOp
 use Rattle.model.specs.Checkpoint.{beginCall, withProgress, storePage, made, allocate, stepAt, stepOf, storeDirectory, storeHeader, stepCall, runCall}
 use Rattle.model.specs.Calls.{TransactionCall, transact, Effect, noEffect, startOf, writeOf, commitOf, abortOf, effect, Call, transacts, begins, steps, runs, call, effectOf, accepted}
 use Rattle.model.specs.Calls.{isTransaction, others, withWriter, writers, afterCalls, hadWritten}
-use Rattle.model.proofs.Lists.{Mem, many-none, all-map, eqb-true, all-mem, eqb-sym, many-length, in-keep, not-true, le-true, in-here, eqb-self, in-cons, and-no, and-yes, any-many}
+use Rattle.basics.proofs.Elements.{Mem, many-none, all-map, eqb-true, all-mem, eqb-sym, many-length, in-keep, not-true, le-true, in-here, eqb-self, in-cons, and-no, and-yes, any-many}
 use Rattle.model.proofs.Owners.{count-append, count-new, numbers-write, count-write, count-other, numbers-without, count-without}
 use Rattle.model.proofs.Effects.{unless-keeps, Does, refuses, answers, starts, writes, finishes, undoes, does}
 use Rattle.model.proofs.Quiet.{step-frame, step-keeps, run-keeps, call-leaves}

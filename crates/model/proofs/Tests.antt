@@ -4,7 +4,7 @@ use Rattle.basics.specs.Basics.{if_then_else_, paired, keep, isIn, any, distinc
 use Rattle.basics.proofs.Facts.{by, and-true, lie, AllOf}
 use Rattle.block_forms.specs.Tuple.{Owner, committed, tentative}
 use Rattle.image_rows.specs.Rows.{Row, isLower, follows, number, ownerAfter, startsWell, isAt}
-use Rattle.model.proofs.Lists.{leb-true, eqb-true, not-true, all-map, Pairs, keep-cons, keep-past, leb-false, eqb-self, and-both, le-true, keep-none}
+use Rattle.basics.proofs.Elements.{leb-true, eqb-true, not-true, all-map, Pairs, keep-cons, keep-past, leb-false, eqb-self, and-both, le-true, keep-none}
 use Rattle.model.proofs.Rows.{Differ}
 use Rattle.model.proofs.Placing.{Before}
 use Rattle.model.proofs.Fate.{With, at-split, at-join}

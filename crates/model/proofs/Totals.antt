@@ -8,7 +8,7 @@ use Rattle.model.specs.Rules.{grown, withTuples, listOf, removeNow, pend
 use Rattle.model.specs.Rules.{settleNext, joined, joins, settleFull, around, thaw, isFrozen, thawOn, isPending, live, splitAll, editAt, pendRemoveAt, removeRowOn, committedAt}
 use Rattle.model.specs.Rules.{commitRowOn, atRow, removeRow, commitRow}
 use Rattle.model.specs.Transactions.{PlaceOp, commitPlace, removePlace, carryOut}
-use Rattle.model.proofs.Lists.{some-eq}
+use Rattle.basics.proofs.Elements.{some-eq}
 use Rattle.model.proofs.Pages.{stillFrozen}
 
 grown-frozen : (p : Page) (ts : List Held) → p .frozen ≡ true → grown p ts ≡ stillFrozen p ts ∷ []

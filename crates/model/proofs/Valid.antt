@@ -9,8 +9,8 @@ use Rattle.image.specs.Stages.{capacityLimit}
 use Rattle.model.specs.State.{Store, idle}
 use Rattle.model.specs.Sight.{held, rows, isForeign}
 use Rattle.model.specs.Transactions.{openNumbers, writtenBy}
-use Rattle.model.proofs.Lists.{Pairs, all-parts, pairs-insert, all-two, all-map, all-insert, length-insert, lt-false, and-no, many-ext, le-true, and-yes, many-insert, eqb-self}
-use Rattle.model.proofs.Lists.{keep-append, keep-cons, keep-none, keep-past, any-keep}
+use Rattle.basics.proofs.Elements.{Pairs, all-parts, pairs-insert, all-two, all-map, all-insert, length-insert, lt-false, and-no, many-ext, le-true, and-yes, many-insert, eqb-self}
+use Rattle.basics.proofs.Elements.{keep-append, keep-cons, keep-none, keep-past, any-keep}
 use Rattle.model.proofs.Frozen.{images}
 use Rattle.model.proofs.Sound.{PageOk}
 use Rattle.model.proofs.Rows.{Differ, Alike, Sub, sub-pairs, sub-all, sub-length}

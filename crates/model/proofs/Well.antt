@@ -12,8 +12,8 @@ use Rattle.model.specs.Transactions.{openNumbers}
 use Rattle.model.specs.Checkpoint.{freeCount}
 use Rattle.model.specs.Calls.{Call, Typed, call}
 use Rattle.model.specs.WellFormed.{isBefore, settledOk, frozenOk, pageWell, dirtyOr, ownerIn, CheckpointWell, heldOk, openOk, WellFormed}
-use Rattle.model.proofs.Lists.{leb-false, eqb-self, le-true, leb-true, Pairs, all-map, all-two, all-append, any-off, nonempty, and-both, in-all, not-zero, all-true, every-all}
-use Rattle.model.proofs.Lists.{off-any, not-true, has-some, all-split, pos-not-zero}
+use Rattle.basics.proofs.Elements.{leb-false, eqb-self, le-true, leb-true, Pairs, all-map, all-two, all-append, any-off, nonempty, and-both, in-all, not-zero, all-true, every-all}
+use Rattle.basics.proofs.Elements.{off-any, not-true, has-some, all-split, pos-not-zero}
 use Rattle.model.proofs.Owners.{numbers-length}
 use Rattle.model.proofs.Splits.{Small}
 use Rattle.model.proofs.Frozen.{bare, images}

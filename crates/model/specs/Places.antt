@@ -10,6 +10,7 @@ use Rattle.model.specs.State.{removing, committing, Held, Page, Store}
 use Rattle.model.specs.Rules.{listOf, isAdding, isRemoving, withPending, asCommitted}
 use Rattle.model.specs.Sight.{versions}
 use Rattle.model.specs.WellFormed.{WellFormed}
+use Rattle.basics.specs.Lists.{removeAt}
 -- the definitions by place, passed on for crates that name them here
 unfoldable pub use Rattle.model.specs.Rules.{editAt, pendRemoveAt, removeRowOn, committedAt, commitRowOn, atRow, removeRow, commitRow}
 pub use Rattle.model.specs.Transactions.{Placed, rowOf, PlaceOp, commitPlace, removePlace}
@@ -34,10 +35,6 @@ abbrev pub RowByPage : Type 0
 RowByPage =
     (f : ℕ → Option Page → Page → List Page → List Page) (ps : List Page) (i k j : ℕ) (p : Page) → RowOn ps i k j p
     → (prev : Option Page) → atRow f i prev ps ≡ onPage (f j) k prev ps
-
--- the list without element i
-abbrev pub removeAt : {A : Type 0} → ℕ → List A → List A
-removeAt i xs = take i xs ++ drop (i + 1) xs
 
 -- a tuple removed from a page that is not frozen, or a pending add that is not the last of its page, is gone
 abbrev pub RemovedNow : Type 0

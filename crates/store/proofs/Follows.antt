@@ -7,7 +7,7 @@ use Rattle.model.specs.Calls.{reads, lists, effect, Call, transacts, begins, st
 use Rattle.model.specs.Transactions.{gives, unless}
 use Rattle.model.specs.Checkpoint.{badImage, stepCall, runCall}
 use Rattle.model.specs.Recover.{imageAfter}
-use Rattle.model.proofs.Lists.{eqb-true}
+use Rattle.basics.proofs.Elements.{eqb-true}
 use Rattle.model.proofs.Quiet.{call-leaves}
 use Rattle.model.proofs.Laws.{refused-keeps, reads-only}
 use Rattle.memory_layout.specs.Store.{storeIn}

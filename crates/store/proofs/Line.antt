@@ -9,7 +9,7 @@ use Rattle.model.specs.Calls.{Call, call, isBegin, accepted, afterCalls}
 use Rattle.model.specs.Recover.{imageAfter, make, madeImage, recover}
 use Rattle.model.specs.CrashRecovery.{Start, fresh, Logged, tag, log, imageWith, Same}
 use Rattle.model.proofs.Views.{WriteOk}
-use Rattle.model.proofs.Lists.{all-parts}
+use Rattle.basics.proofs.Elements.{all-parts}
 use Rattle.model.proofs.Bytes.{view-sane}
 use Rattle.model.proofs.Quiet.{call-leaves}
 use Rattle.model.proofs.Claim.{writes-ok}

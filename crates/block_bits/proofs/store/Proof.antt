@@ -1,7 +1,8 @@
 -- `block_bits::store` meets its contract. The invariant: the first i of the n bytes of x are put, and no other bit differs.
 use Rattle.basics.proofs.Kit.{_≡_, refl, sym, _∙_, _+_, _*_, _^_, _≤_, _/_, _-_, length, length-set, arith}
-use Rattle.block_bits.specs.Bits.{bitsOf, bitsIn, over}
-use Rattle.block_bits.proofs.Lists.{over-nil}
+use Rattle.block_bits.specs.Bits.{bitsOf, bitsIn}
+use Rattle.basics.specs.Lists.{over}
+use Rattle.basics.proofs.Overs.{over-nil}
 use Rattle.block_bits.proofs.Window.{store-turn, store-end}
 use Rattle.block_bits.proofs.store.Statement.{statement}
 use Rattle.block_bits.proofs.store.Tie as tie

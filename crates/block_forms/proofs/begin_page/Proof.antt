@@ -1,6 +1,6 @@
 -- `block_forms::begin_page` meets its contract.
 use Rattle.basics.proofs.Kit.{_∙_, ap, List, ℕ, needs, arith}
-use Rattle.block_bits.specs.Bits.{over}
+use Rattle.basics.specs.Lists.{over}
 use Rattle.block_forms.specs.Bytes.{pageHead}
 use Rattle.block_forms.proofs.Stores.{put-head}
 use Rattle.block_forms.proofs.Built.{part-start}

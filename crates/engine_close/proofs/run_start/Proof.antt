@@ -2,7 +2,7 @@
 use Rattle.engine_close.proofs.RunBounds.{Back, first-low, back-more, back-ends, back-stops}
 use Rattle.engine_close.proofs.Memory.{tagged-length}
 use Rattle.basics.proofs.Kit.{sym, _∙_, ⊎-elim, _≤_, _-_, needs, arith}
-use Rattle.memory_bytes.proofs.Columns.{lt-or-ge}
+use Rattle.basics.proofs.Tabs.{lt-or-ge}
 use Rattle.engine_close.proofs.run_start.Statement.{statement}
 use Rattle.engine_close.proofs.run_start.Tie as tie
 

@@ -1,7 +1,7 @@
 -- `engine_lookup::note_rows` meets its contract.
 use Rattle.basics.proofs.Kit.{_≡_, refl, sym, ap, _∙_, ⊎-elim, _+_, _<_, _-_, arith}
 use Rattle.memory_layout.specs.Flat.{Flat, flatOf, rowIn}
-use Rattle.memory_bytes.specs.Columns.{tab}
+use Rattle.basics.specs.Lists.{tab}
 use Rattle.engine_lookup.specs.Lookup.{notes}
 use Rattle.engine_lookup.proofs.Iterations.{turn-here, turn-on, turn-end}
 use Rattle.engine_lookup.proofs.note_rows.Statement.{statement}

@@ -1,8 +1,8 @@
 -- `image::put_entries` meets its contract. The invariant: out is as at entry but for the first i entries, which are put from the place on.
 use Rattle.basics.proofs.Kit.{_≡_, refl, sym, ap, _∙_, List, ℕ, _+_, _≤_, _-_, length, take, set, length-set, arith}
 use Rattle.image.proofs.Named.{put-turn}
-use Rattle.block_bits.proofs.Lists.{over-nil}
-use Rattle.block_bits.specs.Bits.{over}
+use Rattle.basics.proofs.Overs.{over-nil}
+use Rattle.basics.specs.Lists.{over}
 use Rattle.image.proofs.put_entries.Statement.{statement}
 use Rattle.image.proofs.put_entries.Tie as tie
 

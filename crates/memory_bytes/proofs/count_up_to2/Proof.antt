@@ -1,6 +1,7 @@
 -- `memory_bytes::count_up_to2` meets its contract. The invariant: the answer is k plus the count from j on, and k is at most j - s, so it fits 16 bits.
-use Rattle.memory_bytes.proofs.Scans.{count-turn, count-end, one-most}
-use Rattle.memory_bytes.specs.Columns.{tab, upTo}
+use Rattle.basics.proofs.Searches.{count-turn, count-end, one-most}
+use Rattle.memory_bytes.specs.Columns.{upTo}
+use Rattle.basics.specs.Lists.{tab}
 use Rattle.memory_bytes.specs.Bytes.{column2}
 use Rattle.basics.specs.Basics.{howMany}
 use Rattle.basics.proofs.Kit.{_≡_, _+_, _≤_, _-_, leb, arith}

@@ -1,6 +1,8 @@
 -- `memory_bytes::names16` meets its contract. The invariant: the answer is whether one of the numbers from i on is s modulo 1,024.
-use Rattle.memory_bytes.proofs.Scans.{any-start, any-hit, any-pass, any-group2}
-use Rattle.memory_bytes.specs.Columns.{tab, names}
+use Rattle.memory_bytes.proofs.Scans.{any-group2}
+use Rattle.basics.proofs.Searches.{any-start, any-hit, any-pass}
+use Rattle.memory_bytes.specs.Columns.{names}
+use Rattle.basics.specs.Lists.{tab}
 use Rattle.memory_bytes.specs.Bytes.{column2}
 use Rattle.basics.specs.Basics.{any}
 use Rattle.basics.proofs.Kit.{_≡_, sym, _∙_, _≤_, _-_, arith}

@@ -1,6 +1,6 @@
 -- `memory_bytes::rising2` meets its contract. The invariant: the answer is whether ok is true and each number from j on is below the next one.
-use Rattle.memory_bytes.proofs.Scans.{paired-start, paired-turn, paired-end}
-use Rattle.memory_bytes.specs.Columns.{tab}
+use Rattle.basics.proofs.Searches.{paired-start, paired-turn, paired-end}
+use Rattle.basics.specs.Lists.{tab}
 use Rattle.memory_bytes.specs.Bytes.{column2, le2}
 use Rattle.basics.specs.Basics.{paired}
 use Rattle.basics.proofs.Kit.{_≡_, ap, _∙_, _&&_, _+_, _≤_, _-_, ltb, arith}

@@ -1,7 +1,7 @@
 -- `memory_layout::find_open` meets its contract. The invariant: the answer is i plus the place of the transaction among the entries from i on.
 use Rattle.basics.proofs.Kit.{_≡_, sym, ap, _∙_, List, ℕ, _+_, _≤_, _-_, zero-add, arith}
 use Rattle.memory_bytes.specs.Bytes.{le4}
-use Rattle.memory_bytes.specs.Columns.{tab}
+use Rattle.basics.specs.Lists.{tab}
 use Rattle.memory_layout.specs.Views.{openAt}
 use Rattle.memory_layout.specs.Flat.{opensOf}
 use Rattle.memory_layout.specs.Opens.{findOpen}

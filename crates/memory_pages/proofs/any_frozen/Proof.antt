@@ -3,8 +3,8 @@ use Rattle.basics.proofs.Kit.{_≡_, refl, _||_, _≤_, _-_, arith}
 use Rattle.memory_pages.specs.Pages.{frozenWord}
 use Rattle.basics.specs.Basics.{any}
 use Rattle.memory_bytes.specs.Bytes.{column2}
-use Rattle.memory_bytes.specs.Columns.{tab}
-use Rattle.memory_bytes.proofs.Scans.{any-turn, any-end}
+use Rattle.basics.specs.Lists.{tab}
+use Rattle.basics.proofs.Searches.{any-turn, any-end}
 use Rattle.memory_pages.proofs.any_frozen.Statement.{statement}
 use Rattle.memory_pages.proofs.any_frozen.Tie as tie
 use Rattle.memory_pages.proofs.any_frozen.Reads as reads

@@ -1,7 +1,7 @@
 -- `memory_pages::count_frozen` meets its contract.
 use Rattle.basics.proofs.Kit.{_≡_, ap, _∙_, Bool, cond, _-_, length, drop, needs, arith}
 use Rattle.basics.specs.Basics.{howMany}
-use Rattle.memory_bytes.proofs.Scans.{one-most}
+use Rattle.basics.proofs.Searches.{one-most}
 use Rattle.memory_layout.specs.Flat.{flatOf, noEntry}
 use Rattle.memory_layout.proofs.Laws.{entries-length}
 use Rattle.memory_pages.specs.Pages.{frozenEntry}

@@ -3,7 +3,7 @@ use Rattle.basics.proofs.Kit.{_∙_, _-_, eq-eqb, ne-eqb, arith}
 use Rattle.memory_pages.proofs.Frozen.{frozen-entries, blocks-inside}
 use Rattle.memory_pages.specs.Pages.{frozenWord, Passed}
 use Rattle.memory_bytes.specs.Bytes.{column2}
-use Rattle.memory_bytes.proofs.Scans.{first-pass, first-hit, first-end}
+use Rattle.basics.proofs.Searches.{first-pass, first-hit, first-end}
 use Rattle.memory_pages.proofs.first_frozen.Statement.{statement}
 use Rattle.memory_pages.proofs.first_frozen.Tie as tie
 use Rattle.memory_pages.proofs.first_frozen.Reads as reads

@@ -1,6 +1,7 @@
 -- `memory_pages::page_of` meets its contract: the page follows from how many pages from a on start at or before row i (`found`).
 use Rattle.memory_layout.proofs.Laws.{starts, entries-length}
-use Rattle.memory_bytes.specs.Columns.{tab, upTo}
+use Rattle.memory_bytes.specs.Columns.{upTo}
+use Rattle.basics.specs.Lists.{tab}
 use Rattle.memory_bytes.specs.Bytes.{column2}
 use Rattle.basics.specs.Basics.{howMany}
 use Rattle.basics.proofs.Kit.{ap, _∙_, ℕ, _-_, needs, arith}

@@ -2,7 +2,8 @@
 use Rattle.basics.proofs.Kit.{_-_, arith}
 use Rattle.memory_pages.specs.Pages.{frozenWord, Passed}
 use Rattle.memory_bytes.specs.Bytes.{column2}
-use Rattle.memory_bytes.proofs.Scans.{first-skip, any-group2}
+use Rattle.memory_bytes.proofs.Scans.{any-group2}
+use Rattle.basics.proofs.Searches.{first-skip}
 use Rattle.memory_pages.proofs.pass_groups.Statement.{statement}
 use Rattle.memory_pages.proofs.pass_groups.Tie as tie
 use Rattle.memory_pages.proofs.pass_groups.Reads as reads

@@ -1,8 +1,8 @@
 -- `memory_rows::any_tentative` meets its contract. The invariant: the answer is hit, or whether one of the states from j on is below 128.
 use Rattle.memory_rows.proofs.Groups.{unset, group-is}
 use Rattle.memory_rows.proofs.Access.{sized}
-use Rattle.memory_bytes.proofs.Scans.{any-turn, any-end}
-use Rattle.memory_bytes.specs.Columns.{tab}
+use Rattle.basics.proofs.Searches.{any-turn, any-end}
+use Rattle.basics.specs.Lists.{tab}
 use Rattle.basics.specs.Basics.{any}
 use Rattle.basics.proofs.Kit.{_≡_, refl, sym, _∙_, _||_, _+_, _≤_, _-_, getD, arith}
 use Rattle.memory_rows.proofs.any_tentative.Statement.{statement}

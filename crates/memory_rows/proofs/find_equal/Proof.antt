@@ -1,6 +1,7 @@
 -- `memory_rows::find_equal` meets its contract, by that of the search in the column of keys, which are the keys of the rows (`over-keys`).
 use Rattle.memory_rows.proofs.Access.{over-keys}
-use Rattle.memory_bytes.specs.Columns.{firstIndex, equals}
+use Rattle.memory_bytes.specs.Columns.{equals}
+use Rattle.basics.specs.Lists.{firstIndex}
 use Rattle.memory_layout.specs.Places.{keysAt}
 use Rattle.basics.proofs.Kit.{ap, _∙_, needs}
 use Rattle.memory_rows.proofs.find_equal.Statement.{statement}

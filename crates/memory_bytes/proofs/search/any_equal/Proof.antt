@@ -1,6 +1,7 @@
 -- `memory_bytes::search::any_equal` meets its contract. The invariant: the answer is hit, or whether one of the numbers from j on is the key.
-use Rattle.memory_bytes.proofs.Scans.{any-turn, any-end}
-use Rattle.memory_bytes.specs.Columns.{tab, equals}
+use Rattle.basics.proofs.Searches.{any-turn, any-end}
+use Rattle.memory_bytes.specs.Columns.{equals}
+use Rattle.basics.specs.Lists.{tab}
 use Rattle.memory_bytes.specs.Bytes.{column4}
 use Rattle.basics.specs.Basics.{any}
 use Rattle.basics.proofs.Kit.{_≡_, refl, _||_, _≤_, _-_, arith}

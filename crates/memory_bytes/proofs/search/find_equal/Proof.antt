@@ -1,6 +1,8 @@
 -- `memory_bytes::search::find_equal` meets its contract. The invariant of both loops: the search from index k on has the answer of the search from i on.
-use Rattle.memory_bytes.proofs.Scans.{first-skip, first-pass, first-hit, first-end, any-group4}
-use Rattle.memory_bytes.specs.Columns.{tab, equals, firstIndex}
+use Rattle.memory_bytes.proofs.Scans.{any-group4}
+use Rattle.basics.proofs.Searches.{first-skip, first-pass, first-hit, first-end}
+use Rattle.memory_bytes.specs.Columns.{equals}
+use Rattle.basics.specs.Lists.{tab, firstIndex}
 use Rattle.memory_bytes.specs.Bytes.{column4}
 use Rattle.basics.proofs.Kit.{_≡_, refl, _+_, _≤_, _-_, eq-eqb, ne-eqb, arith}
 use Rattle.memory_bytes.proofs.search.find_equal.Statement.{statement}

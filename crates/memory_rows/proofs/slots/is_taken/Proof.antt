@@ -1,7 +1,8 @@
 -- `memory_rows::slots::is_taken` meets its contract: slot 0 by that of `zero_taken`, any other by that of `names16` (`named-taken`).
 use Rattle.memory_rows.proofs.FreeSlots.{named-taken}
 use Rattle.memory_rows.specs.Cells.{slotIn}
-use Rattle.memory_bytes.specs.Columns.{tab, equals, names}
+use Rattle.memory_bytes.specs.Columns.{equals, names}
+use Rattle.basics.specs.Lists.{tab}
 use Rattle.memory_bytes.specs.Bytes.{column2}
 use Rattle.basics.specs.Basics.{any}
 use Rattle.basics.proofs.Kit.{sym, _∙_, needs, arith}

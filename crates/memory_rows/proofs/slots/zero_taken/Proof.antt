@@ -1,8 +1,9 @@
 -- `memory_rows::slots::zero_taken` meets its contract. The invariant: the answer is hit, or whether one of the rows from i on is in slot 0.
 use Rattle.memory_rows.specs.Cells.{slotIn}
 use Rattle.memory_layout.specs.Views.{slotOf}
-use Rattle.memory_bytes.proofs.Scans.{any-start, any-turn, any-end}
-use Rattle.memory_bytes.specs.Columns.{tab, equals}
+use Rattle.basics.proofs.Searches.{any-start, any-turn, any-end}
+use Rattle.memory_bytes.specs.Columns.{equals}
+use Rattle.basics.specs.Lists.{tab}
 use Rattle.basics.specs.Basics.{any}
 use Rattle.basics.proofs.Kit.{_≡_, ap, _∙_, _||_, ℕ, _+_, _*_, _≤_, _-_, arith}
 use Rattle.memory_bytes.specs.Bytes.{le2}

@@ -1,7 +1,7 @@
 -- Laws of `over`, at lists of any length.
 use Rattle.basics.proofs.Kit.{_≡_, refl, sym, _∙_, List, [], _++_, append-assoc, ℕ, _+_, _≤_, add-zero, add-assoc, length, take, drop, length-append, length-take, length-drop}
 use Rattle.basics.proofs.Kit.{take-append-drop, take-at, drop-append-seam, drop-drop, take-append-add, take-append-le, take-append-seam, drop-append-add, drop-append-le, drop-at, arith}
-use Rattle.block_bits.specs.Bits.{over}
+use Rattle.basics.specs.Lists.{over}
 
 over-def : (s : List ℕ) (at : ℕ) (xs : List ℕ) → over s at xs ≡ take at s ++ (xs ++ drop (at + length xs) s)
 unfolding over

@@ -1,7 +1,7 @@
--- Lists by index.
+-- Laws of lists by index (`tab`): length, parts, elements, one element more, less or changed.
 use Rattle.basics.proofs.Kit.{_≡_, refl, ap, _∙_, ⊎-elim, _⊎_, inl, inr, List, _∷_, _++_, ℕ, suc, _+_, _≤_, _<_, zero, _-_, zero-le, suc-le-suc, add-zero, zero-add, suc-add}
 use Rattle.basics.proofs.Kit.{le-of-suc-le-suc, not-suc-le-zero, zero-lt-suc, length, take, drop, getD, set, set-split, ext-getD, arith}
-use Rattle.memory_bytes.specs.Columns.{tab, insertAt, removeAt}
+use Rattle.basics.specs.Lists.{tab, insertAt, removeAt}
 
 -- either way round
 pub lt-or-ge : (a b : ℕ) → (a < b) ⊎ (b ≤ a)
