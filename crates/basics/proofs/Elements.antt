@@ -6,6 +6,7 @@ use Rattle.basics.proofs.Facts.{by, lie, AllOf, and-true, never, by-opt
 -- ---- tests
 
 pub use borrow.Author.Tests.{eqb-true, leb-true, leb-false}
+pub use Rattle.basics.proofs.Ands.{and-no, and-yes}
 
 T-true : (b : Bool) → T b → b ≡ true
 T-true true t = refl
@@ -16,6 +17,9 @@ eqb-self n = T-true _ (eqb-refl n)
 
 pub eqb-sym : (a b : ℕ) → eqb a b ≡ false → eqb b a ≡ false
 eqb-sym a b e = by (eqb b a) (λ h. lie (sym e ∙ ap (λ c. eqb c b) (sym (eqb-true b a h)) ∙ eqb-self b)) (λ h. h)
+
+pub eqb-swap : (a b : ℕ) → eqb a b ≡ eqb b a
+eqb-swap a b = by (eqb b a) (λ e. rw e (rw (eqb-true b a e) (eqb-self a))) (λ e. eqb-sym b a e ∙ sym e)
 
 pub le-true : (m n : ℕ) → m ≤ n → leb m n ≡ true
 le-true m n h = T-true _ (le→leb m n h)
@@ -32,14 +36,6 @@ not-zero (suc b) h = omega arith
 
 pub and-both : {a b : Bool} → a ≡ true → b ≡ true → (a && b) ≡ true
 and-both p q = rw (p, q)
-
-pub and-no : (b : Bool) → (b && false) ≡ false
-and-no true = refl
-and-no false = refl
-
-pub and-yes : (b : Bool) → (b && true) ≡ b
-and-yes true = refl
-and-yes false = refl
 
 pub or-right : (a b : Bool) → b ≡ true → (a || b) ≡ true
 or-right true b h = refl

@@ -6,3 +6,4 @@ pub mod Tabs
 pub mod Elements
 pub mod Overs
 pub mod Searches
+pub mod Iterations

@@ -1,9 +1,12 @@
 -- Searches in lists by index, and one turn of each loop that searches a list.
-use Rattle.basics.proofs.Kit.{_≡_, refl, sym, ap, _∙_, Bool, true, false, _&&_, _||_, cond, or-assoc, List, [], _∷_, _++_, ℕ, suc, _+_, _*_, _≤_, _<_, zero, _-_, zero-add, suc-add, length, arith}
-use Rattle.basics.specs.Basics.{any, howMany, paired, if_then_else_}
+use Rattle.basics.proofs.Kit.{_≡_, refl, sym, ap, _∙_, ⊎-elim, Bool, true, false, _&&_, _||_, cond, or-assoc, List, [], _∷_, _++_, ℕ, suc, _+_, _*_, _≤_, _<_, zero, _-_, zero-add, suc-add, length, arith}
+use Rattle.basics.specs.Basics.{any, all, howMany, paired, if_then_else_}
 use Rattle.basics.specs.Lists.{tab, firstIndex, lastIndex}
 use Rattle.basics.proofs.Ands.{and-yes, and-assoc}
-use Rattle.basics.proofs.Tabs.{tab-add, tab-cong, length-tab}
+use Rattle.basics.proofs.Tabs.{tab-add, tab-cong, length-tab, lt-or-ge}
+use Rattle.basics.proofs.Facts.{by, lie, and-true}
+use Rattle.basics.proofs.Elements.{or-right}
+pub use Rattle.basics.proofs.Elements.{any-cons}
 
 -- ---- parts of a list by index
 
@@ -36,33 +39,25 @@ pub or-none : (b : Bool) → (b || false) ≡ b
 or-none true = refl
 or-none false = refl
 
-either : (b c : Bool) → elim b [ true ↦ true | false ↦ c ] ≡ (b || c)
-either true c = refl
-either false c = refl
-
 module _ {A : Type 0} (f : A → Bool) where
-  pub any-cons : (x : A) (xs : List A) → any f (x ∷ xs) ≡ (f x || any f xs)
-  unfolding any
-  any-cons x xs = either (f x) (any f xs)
-
   pub any-one : (x : A) → any f (x ∷ []) ≡ f x
   unfolding any
-  any-one x = any-cons x [] ∙ or-none (f x)
+  any-one x = any-cons f x [] ∙ or-none (f x)
 
   pub any-append : (xs ys : List A) → any f (xs ++ ys) ≡ (any f xs || any f ys)
   unfolding any
   any-append [] ys = refl
   any-append (x ∷ xs) ys =
-      any-cons x (xs ++ ys)
+      any-cons f x (xs ++ ys)
       ∙ ap (λ (b : Bool). f x || b) (any-append xs ys)
       ∙ sym (or-assoc (f x) (any f xs) (any f ys))
-      ∙ ap (λ (b : Bool). b || any f ys) (sym (any-cons x xs))
+      ∙ ap (λ (b : Bool). b || any f ys) (sym (any-cons f x xs))
 
   pub first-append : (xs ys : List A) → any f xs ≡ false → firstIndex f (xs ++ ys) ≡ length xs + firstIndex f ys
   unfolding firstIndex
   first-append [] ys h = sym (zero-add (firstIndex f ys))
   first-append (x ∷ xs) ys h =
-      let p = or-split (f x) (any f xs) (sym (any-cons x xs) ∙ h) in
+      let p = or-split (f x) (any f xs) (sym (any-cons f x xs) ∙ h) in
       ap (λ (b : Bool). cond b 0 (suc (firstIndex f (xs ++ ys)))) (p .0)
       ∙ ap suc (first-append xs ys (p .1))
       ∙ sym (suc-add (length xs) (firstIndex f ys))
@@ -71,7 +66,7 @@ module _ {A : Type 0} (f : A → Bool) where
   unfolding lastIndex
   last-none [] h = refl
   last-none (x ∷ xs) h =
-      let p = or-split (f x) (any f xs) (sym (any-cons x xs) ∙ h) in
+      let p = or-split (f x) (any f xs) (sym (any-cons f x xs) ∙ h) in
       ap (λ (k : ℕ). elim k [ zero ↦ cond (f x) 1 0 | suc j ↦ suc (suc j) ]) (last-none xs (p .1))
       ∙ ap (λ (b : Bool). cond b 1 0) (p .0)
 
@@ -217,3 +212,35 @@ module _ {A : Type 0} (f : A → A → Bool) (g : ℕ → A) (i n : ℕ) (ok : B
 
 pub paired-start : {A : Type 0} (f : A → A → Bool) (g : ℕ → A) (n : ℕ) → paired f (tab g 0 (n + 1)) ≡ paired f (tab g 0 (n - 0 + 1))
 paired-start f g n = let e : n + 1 ≡ n - 0 + 1 = omega arith in ap (λ (z : ℕ). paired f (tab g 0 z)) e
+
+-- ---- tests by index
+
+module _ {A : Type 0} (f : A → Bool) (g : ℕ → A) where
+  pub all-tab : (a n : ℕ) → ((k : ℕ) → a ≤ k → k < a + n → f (g k) ≡ true) → all f (tab g a n) ≡ true
+  unfolding all
+  all-tab a zero h = refl
+  all-tab a (suc n) h = rw (h a (omega arith) (omega arith), all-tab (suc a) n (λ k p q. h k (omega arith) (omega arith)))
+
+  pub tab-all : (a n : ℕ) → all f (tab g a n) ≡ true → (k : ℕ) → a ≤ k → k < a + n → f (g k) ≡ true
+  unfolding all
+  tab-all a zero h k p q = absurd (omega arith)
+  tab-all a (suc n) h k p q =
+      let t = and-true (f (g a)) (all f (tab g (suc a) n)) h in
+      ⊎-elim (λ (l : a < k). tab-all (suc a) n (t .1) k (omega arith) (omega arith)) (λ (l : k ≤ a). let e : k ≡ a = omega arith in ap (λ (z : ℕ). f (g z)) e ∙ t .0)
+      (lt-or-ge a k)
+
+  pub any-tab : (a n k : ℕ) → a ≤ k → k < a + n → f (g k) ≡ true → any f (tab g a n) ≡ true
+  any-tab a zero k p q t = absurd (omega arith)
+  any-tab a (suc n) k p q t =
+      any-cons f (g a) (tab g (suc a) n)
+      ∙ ⊎-elim (λ (l : a < k). rw (any-tab (suc a) n k (omega arith) (omega arith) t) (or-right (f (g a)) true refl))
+      (λ (l : k ≤ a). let e : k ≡ a = omega arith in rw (ap (λ (z : ℕ). f (g z)) (sym e) ∙ t)) (lt-or-ge a k)
+
+  pub tab-any : {X : Type 0} (a n : ℕ) → any f (tab g a n) ≡ true → ((k : ℕ) → k < a + n → f (g k) ≡ true → X) → X
+  unfolding any
+  tab-any a zero e w = lie e
+  tab-any a (suc n) e w =
+      let z = sym (any-cons f (g a) (tab g (suc a) n)) ∙ e in
+      by (f (g a))
+      (λ u. w a (omega arith) u)
+      (λ u. tab-any (suc a) n (rw u at z) (λ k l. w k (omega arith)))

@@ -3,12 +3,12 @@ use Rattle.basics.proofs.Kit.{_≡_, refl, sym, ap, _∙_, subst, fun-ext, Bool
 use Rattle.basics.proofs.Kit.{getD, set, length-append, drop-of-length-le, List·getD-append, getD-append-add, eqb-true, eq-eqb, ne-eqb, eqb-false, not-true, arith}
 use Rattle.basics.specs.Basics.{if_then_else_, any, isIn}
 use Rattle.basics.proofs.Facts.{by}
-use Rattle.image_rows.proofs.Iterations.{drop-turn}
+use Rattle.basics.proofs.Iterations.{drop-turn}
 use Rattle.model.specs.State.{Page, Checkpoint, idle, running, Store}
 use Rattle.model.specs.Rules.{isFrozen, thaw}
 use Rattle.model.specs.Transactions.{changed}
 use Rattle.model.specs.Checkpoint.{withProgress, isRunning, usedToo, fill}
-use Rattle.basics.proofs.Elements.{any-cons, all-split}
+use Rattle.basics.proofs.Elements.{any-cons, all-split, eqb-swap}
 use Rattle.basics.specs.Lists.{firstIndex}
 use Rattle.memory_layout.specs.Flat.{Flat, flatOf, usedAnd, Room, Becomes, withHead, withNamed, withDirectories, withUsed}
 use Rattle.memory_layout.specs.Store.{pagesIn, checkpointOf, storeOf, HoldsNow}
@@ -20,6 +20,7 @@ use Rattle.call_checkpoint.specs.Counting.{firstZero, NamedBefore, isNam
 use Rattle.call_checkpoint.specs.Keeping.{entryFilled, directoryAdded, namedBy, pageKept, directoryKept, headerKept, RunningIn, taking, Marks}
 use Rattle.call_checkpoint.proofs.Tallies.{running-is}
 use Rattle.call_checkpoint.proofs.Beginning.{held-still}
+use Rattle.basics.proofs.Searches.{or-none}
 
 -- ---- a block is taken
 
@@ -211,9 +212,6 @@ or-move true true u = refl
 or-move true false u = refl
 or-move false q u = refl
 
-eqb-swap : (a b : ℕ) → eqb a b ≡ eqb b a
-eqb-swap a b = by (eqb b a) (λ e. eq-eqb a b (sym (eqb-true b a e)) ∙ sym e) (λ e. ne-eqb a b (λ q. eqb-false b a e (sym q)) ∙ sym e)
-
 marked-next : (c b : ℕ) (bs : List ℕ) (u : ℕ → Bool) → (isIn c bs || usedAnd b u c) ≡ (isIn c (b ∷ bs) || u c)
 unfolding isIn
 marked-next c b bs u =
@@ -286,10 +284,6 @@ landedHead h =
 store-is-header : (f : Flat) (u : ℕ → Bool) → storeOf (withHead (withUsed f u) (landedHead (f .head))) ≡ withProgress (storeOf f) (storeOf f .level + 1) (storeOf f .pages) u (storeOf f .taken) idle
 unfolding withProgress storeOf checkpointOf if_then_else_
 store-is-header f u = refl
-
-or-none : (b : Bool) → (b || false) ≡ b
-or-none true = refl
-or-none false = refl
 
 kept-is-header : (s : Store) (n : ℕ) (es ds : List ℕ) → s .checkpoint ≡ running n es ds
     → withProgress s (suc (s .level)) (s .pages) (λ b. isIn b (es ++ ds)) (s .taken) idle ≡ headerKept s

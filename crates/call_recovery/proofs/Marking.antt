@@ -1,9 +1,8 @@
 -- Blocks that are in use too: none, one, and one list after another.
 use Rattle.basics.proofs.Kit.{_≡_, refl, sym, ap, _∙_, Bool, true, false, _||_, List, [], _∷_, _++_, ℕ, eqb}
 use Rattle.basics.specs.Basics.{any, isIn}
-use Rattle.image_rows.proofs.Owners.{same-test}
-use Rattle.image_rows.proofs.Iterations.{any-cons}
-use Rattle.basics.proofs.Elements.{in-append}
+use Rattle.basics.proofs.Searches.{any-cons, or-none}
+use Rattle.basics.proofs.Elements.{in-append, eqb-swap}
 use Rattle.memory_layout.specs.Flat.{usedAnd}
 use Rattle.call_recovery.specs.Loading.{usedBy}
 
@@ -16,13 +15,9 @@ pub used-none : (u : ℕ → Bool) → usedBy [] u ≡ u
 unfolding usedBy isIn any
 used-none u = refl
 
-or-end : (b : Bool) → (b || false) ≡ b
-or-end true = refl
-or-end false = refl
-
 pub used-one : (b : ℕ) (u : ℕ → Bool) → usedAnd b u ≡ usedBy (b ∷ []) u
 unfolding usedBy isIn any
-used-one b u = λ i c. ((same-test b c ∙ sym (or-end (eqb c b)) ∙ sym (any-cons (eqb c) b [])) i) || u c
+used-one b u = λ i c. ((eqb-swap b c ∙ sym (or-none (eqb c b)) ∙ sym (any-cons (eqb c) b [])) i) || u c
 
 pub used-then : (xs ys : List ℕ) (u : ℕ → Bool) → usedBy ys (usedBy xs u) ≡ usedBy (xs ++ ys) u
 unfolding usedBy
@@ -31,4 +26,4 @@ used-then xs ys u = λ i c. (or-swap (isIn c xs) (isIn c ys) (u c) ∙ ap (λ (b
 -- where no block was in use
 pub used-first : (xs : List ℕ) → usedBy xs (λ c. false) ≡ (λ c. isIn c xs)
 unfolding usedBy
-used-first xs = λ i c. or-end (isIn c xs) i
+used-first xs = λ i c. or-none (isIn c xs) i

@@ -3,7 +3,7 @@ use Rattle.basics.proofs.Kit.{_≡_, refl, sym, ap, _∙_, subst, Bool, true, L
 use Rattle.basics.proofs.Kit.{getD, length-append, take-append-drop, length-map, take-all, take-suc, lt-ltb, ltb-true, arith}
 use Rattle.basics.specs.Basics.{all}
 use Rattle.basics.proofs.Facts.{and-true}
-use Rattle.image_rows.proofs.Iterations.{drop-turn}
+use Rattle.basics.proofs.Iterations.{drop-turn}
 use Rattle.block_forms.specs.Block.{Block, malformed, header, page, directory}
 use Rattle.block_reader.specs.Answers.{isPage}
 use Rattle.image.specs.View.{View}

@@ -28,6 +28,7 @@ use Rattle.engine_lookup.specs.declared.Range.{Range}
 use Rattle.engine_lookup.proofs.Iterations.{notes-covered}
 use Rattle.engine_lookup.proofs.Versions.{versionsOn, shows-rows}
 use Rattle.engine_lookup.proofs.Searches.{place-covers, last-keys}
+use Rattle.image_page.proofs.Walk.{rows-append}
 
 -- ---- in parts
 
@@ -36,15 +37,10 @@ unfolding live if_then_else_
 live-append [] ys = refl
 live-append (x ∷ xs) ys = by (isRemoving (x .pending)) (λ e. rw e (live-append xs ys)) (λ e. rw (e, live-append xs ys))
 
-rowsOf-append : (t : ℕ) (xs ys : List Tuple) → rowsOf t (xs ++ ys) ≡ rowsOf t xs ++ rowsOf t ys
-unfolding rowsOf
-rowsOf-append t [] ys = refl
-rowsOf-append t (x ∷ xs) ys = ap (λ (z : List Row). (t, x) ∷ z) (rowsOf-append t xs ys)
-
 versions-append : (t k : ℕ) (xs ys : List Held) → versionsOn t k (xs ++ ys) ≡ versionsOn t k xs ++ versionsOn t k ys
 versions-append t k xs ys =
     ap (λ (z : List Tuple). keep (isAt t k) (rowsOf t z)) (live-append xs ys)
-    ∙ ap (keep (isAt t k)) (rowsOf-append t (live xs) (live ys))
+    ∙ ap (keep (isAt t k)) (rows-append t (live xs) (live ys))
     ∙ keep-append (isAt t k) (rowsOf t (live xs)) (rowsOf t (live ys))
 
 -- ---- page by page

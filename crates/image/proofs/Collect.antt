@@ -11,9 +11,10 @@ use Rattle.block_forms.specs.Block.{Block, malformed, header, page, directory}
 use Rattle.block_forms.specs.Decode.{pageTuples, decodeBlock}
 use Rattle.block_forms.specs.declared.Header.{Header}
 use Rattle.image_rows.specs.Rows.{Row, rowsOf, markOk, rowsOk}
-use Rattle.image_rows.specs.Columns.{bare, tab, rowsIn, columnsOk}
+use Rattle.image_rows.specs.Columns.{bare, rowsIn, columnsOk}
+use Rattle.basics.specs.Lists.{tab}
 use Rattle.basics.proofs.Ands.{and-yes, and-no, and-assoc}
-use Rattle.image_rows.proofs.Iterations.{drop-turn, drop-end}
+use Rattle.basics.proofs.Iterations.{drop-turn, drop-end}
 use Rattle.image_rows.proofs.Bare.{columns-bare, rows-tests}
 use Rattle.image_page.specs.Page.{goodPage}
 use Rattle.image_page.specs.declared.GoodPage.{GoodPage}
@@ -180,7 +181,7 @@ module _ (v : View) (h : Header) (es : List ℕ) where
   map-same (some ps) = refl
 
   pub collecting-start : (ps ns os ms : List ℕ) → Collecting 0 0 (rowsIn ps ns os ms 0)
-  unfolding rowsIn tab rowsOfPages all
+  unfolding rowsIn rowsOfPages all
   collecting-start ps ns os ms =
       record { done = []; room = omega arith; count = refl; rows = refl; marks = refl; rest = map-same (readPages v (h .level) es) }
 

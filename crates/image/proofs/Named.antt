@@ -14,7 +14,7 @@ use Rattle.block_reader.proofs.Answering.{OneOfThese}
 use Rattle.block_forms.proofs.Laws.{decode-in-range, decode-entries}
 use Rattle.block_forms.proofs.Stores.{set-next, over-then}
 use Rattle.basics.proofs.Ands.{and-no}
-use Rattle.image_rows.proofs.Iterations.{drop-turn, drop-end}
+use Rattle.basics.proofs.Iterations.{drop-turn, drop-end}
 use Rattle.image.specs.View.{View}
 use Rattle.image.specs.Stages.{addEntries, readDirectories}
 use Rattle.image.specs.Answers.{Filled}

@@ -9,7 +9,9 @@ use Rattle.block_forms.specs.Bytes.{ownerIs, tupleOf}
 use Rattle.block_forms.specs.declared.Owner.the-variants.{Committed, Tentative}
 use Rattle.block_forms.specs.declared.Record.{Record}
 use Rattle.image_rows.specs.Rows.{markOk}
-use Rattle.image_rows.specs.Columns.{codedOwner, coded, rowAt, tab, rowsIn}
+use Rattle.image_rows.specs.Columns.{codedOwner, coded, rowAt, rowsIn}
+use Rattle.basics.specs.Lists.{tab}
+use Rattle.basics.proofs.Tabs.{tab-cong, tab-add}
 
 -- ---- the row of a record
 
@@ -35,22 +37,6 @@ record-row t p o r e h w =
 
 -- ---- one row more
 
-tab-same : {A : Type 0} (f g : ℕ → A) (i n : ℕ) → ((j : ℕ) → j < i + n → f j ≡ g j) → tab f i n ≡ tab g i n
-unfolding tab
-tab-same f g i zero e = refl
-tab-same f g i (suc n) e =
-    let r = tab-same f g (i + 1) n (λ j h. e j (omega arith)) in
-    let a : f i ≡ g i = e i (omega arith) in
-    λ k. a k ∷ r k
-
-tab-more : {A : Type 0} (f : ℕ → A) (i n : ℕ) → tab f i (n + 1) ≡ tab f i n ++ (f (i + n) ∷ [])
-unfolding tab
-tab-more f i zero = let e : i + 0 ≡ i = omega arith in rw e
-tab-more f i (suc n) =
-    let e : i + suc n ≡ i + 1 + n = omega arith in
-    let s : suc n + 1 ≡ suc (n + 1) = omega arith in
-    rw (s, e) (ap (λ (l : List _). f i ∷ l) (tab-more f (i + 1) n))
-
 module _ (ps ns os ms : List ℕ) (k p n o m : ℕ) where
   same-below : (j : ℕ) → j < k → rowAt (set ps k p) (set ns k n) (set os k o) (set ms k m) j ≡ rowAt ps ns os ms j
   unfolding rowAt
@@ -67,9 +53,9 @@ module _ (ps ns os ms : List ℕ) (k p n o m : ℕ) where
   unfolding rowsIn
   row-put h =
       let u = rowAt (set ps k p) (set ns k n) (set os k o) (set ms k m) in
-      let e = tab-same u (rowAt ps ns os ms) 0 k (λ j l. same-below j (omega arith)) in
+      let e = tab-cong u (rowAt ps ns os ms) 0 0 k (λ j l. same-below (0 + j) (omega arith)) in
       let z : 0 + k ≡ k = omega arith in
-      tab-more u 0 k ∙ rw (z, e, here h)
+      tab-add u 0 k 1 ∙ rw (z, e, here h)
 
 -- ---- a record's delete mark
 

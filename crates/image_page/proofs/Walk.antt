@@ -8,7 +8,7 @@ use Rattle.block_forms.specs.declared.Record.{Record}
 use Rattle.block_reader.proofs.Walk.{Handed}
 use Rattle.image_rows.specs.Rows.{Row, rowsOf, markOk}
 use Rattle.image_rows.specs.Columns.{bare}
-use Rattle.image_rows.proofs.Iterations.{all-yes, all-not}
+use Rattle.basics.proofs.Iterations.{all-yes, all-not}
 
 -- ---- one turn
 

@@ -3,9 +3,10 @@ use Rattle.basics.proofs.Kit.{_≡_, refl, sym, ap, _∙_, Bool, true, false, _
 use Rattle.basics.proofs.Kit.{length-replicate, replicate, getD-replicate, getD-set-same, getD-set-other, lt-ltb, eqb-true, eq-eqb, ne-eqb, eqb-false, ltb-true, arith}
 use Rattle.basics.specs.Basics.{if_then_else_, all}
 use Rattle.basics.proofs.Facts.{by, lie, and-true}
-use Rattle.image_rows.specs.Columns.{tab}
+use Rattle.basics.specs.Lists.{tab}
 use Rattle.image_rows.specs.Chains.{bucketCount, lastBy, bucketOf, inBucket, Chained, Table, Chain, isNew, keysOnce, isThereBelow, isNext}
-use Rattle.image_rows.proofs.Iterations.{tab-turn, tab-end, tab-whole, all-yes, all-not, all-end}
+use Rattle.basics.proofs.Iterations.{tab-whole, all-yes, all-not, all-end}
+use Rattle.basics.proofs.Searches.{tab-next, tab-none}
 
 -- ---- the last that passes
 
@@ -194,20 +195,20 @@ module _ (xs : List ℕ) (n : ℕ) {heads links : List ℕ} where
 
   pub linking-end : {i : ℕ} → Linking xs n heads links i → n ≤ i → (true ≡ keysOnce xs n) × (true ≡ true → Table xs heads links n)
   linking-end {i} w h =
-      let e : i ≡ n = omega (arith, w .far) in (sym (w .left ∙ all-end (isNew xs) (tab-end (λ j. j) i n h)), λ q. rw e at (w .table))
+      let e : i ≡ n = omega (arith, w .far) in (sym (w .left ∙ all-end (isNew xs) (tab-none (λ j. j) i n h)), λ q. rw e at (w .table))
 
   module _ {i : ℕ} (w : Linking xs n heads links i) (h : i < n) {b r : ℕ} (e : b ≡ bucketOf (getD xs i 0))
       (f : r ≡ lastBy (eqb (getD xs i 0)) xs (getD heads b 0)) where
     pub linking-stop : (ltb 0 (getD xs i 0) && ltb 0 r) ≡ true → false ≡ keysOnce xs n
     linking-stop t =
-        sym (w .left ∙ all-not (isNew xs) (tab-turn (λ j. j) i n h) (new-not xs i refl (table-finds (w .table) (getD xs i 0) e f) t))
+        sym (w .left ∙ all-not (isNew xs) (tab-next (λ j. j) i n h) (new-not xs i refl (table-finds (w .table) (getD xs i 0) e f) t))
 
     pub linking-turn : (ltb 0 (getD xs i 0) && ltb 0 r) ≡ false → i < length xs → i < length links
         → Linking xs n (set heads b (i + 1)) (set links i (getD heads b 0)) (i + 1)
     linking-turn t room spare = record {
       table = table-turn (w .table) (getD xs i 0) e refl room spare;
       far = omega arith;
-      left = w .left ∙ all-yes (isNew xs) (tab-turn (λ j. j) i n h) (new-yes xs i refl (table-finds (w .table) (getD xs i 0) e f) t);
+      left = w .left ∙ all-yes (isNew xs) (tab-next (λ j. j) i n h) (new-yes xs i refl (table-finds (w .table) (getD xs i 0) e f) t);
     }
 
 -- ---- row i after the statement before it

@@ -5,34 +5,17 @@ use Rattle.basics.specs.Basics.{if_then_else_, any, isIn, distinct}
 use Rattle.basics.proofs.Facts.{by, lie, and-true}
 use Rattle.block_forms.specs.Tuple.{Owner, committed, tentative}
 use Rattle.image_rows.specs.Rows.{Row, isOwn, addOwner, transactions}
-use Rattle.image_rows.specs.Columns.{rowAt, tab, rowsIn}
+use Rattle.image_rows.specs.Columns.{rowAt, rowsIn}
+use Rattle.basics.specs.Lists.{tab}
 use Rattle.image_rows.specs.Chains.{isStart, starts}
 use Rattle.basics.proofs.Ands.{and-no}
-use Rattle.image_rows.proofs.Iterations.{any-yes, any-not, any-cons}
+use Rattle.basics.proofs.Iterations.{any-yes, any-not}
+use Rattle.basics.proofs.Searches.{any-cons, any-tab, tab-any}
 use Rattle.image_rows.proofs.Owners.{in-transactions}
 use Rattle.image_rows.proofs.Totals.{total, bit, total-same, total-sum, total-none, count-total}
 use Rattle.image_rows.proofs.Ranks.{txOf, stOf, own, own-in, own-out, placed, Ordered, placed-one}
 use Rattle.image_rows.proofs.Order.{own-row}
-
-module _ {A : Type 0} (f : A → Bool) (g : ℕ → A) where
-  any-tab : (i n k : ℕ) → i ≤ k → k < i + n → f (g k) ≡ true → any f (tab g i n) ≡ true
-  unfolding tab
-  any-tab i zero k a b t = absurd (omega arith)
-  any-tab i (suc n) k a b t =
-      by (f (g i))
-      (λ u. any-yes f refl u)
-      (λ u. any-not f refl u ∙ by (eqb k i)
-      (λ e. lie (sym u ∙ ap (λ z. f (g z)) (sym (eqb-true k i e)) ∙ t))
-      (λ e. let z = eqb-false k i e in any-tab (i + 1) n k (omega arith) (omega arith) t))
-
-  tab-any : {X : Type 0} (i n : ℕ) → any f (tab g i n) ≡ true → ((k : ℕ) → k < i + n → f (g k) ≡ true → X) → X
-  unfolding tab any
-  tab-any i zero e w = lie e
-  tab-any i (suc n) e w =
-      let z = sym (any-cons f (g i) (tab g (i + 1) n)) ∙ e in
-      by (f (g i))
-      (λ u. w i (omega arith) u)
-      (λ u. tab-any (i + 1) n (rw u at z) (λ k l. w k (omega arith)))
+use Rattle.basics.proofs.Elements.{in-head, in-weak}
 
 -- ---- the list of transactions
 
@@ -61,14 +44,6 @@ begun : (o : ℕ) → isStart o ≡ true → own (txOf o) o ≡ true
 unfolding isStart
 begun o e = own-in (txOf o) o (eqb-false o 0 (not-true _ (and-true (not (eqb o 0)) (eqb (stOf o) 0) e .0))) refl
 
-here : (t : ℕ) (ts : List ℕ) → isIn t (t ∷ ts) ≡ true
-unfolding isIn
-here t ts = any-yes (eqb t) refl (eq-eqb t t refl)
-
-later : (u t : ℕ) (ts : List ℕ) → isIn u ts ≡ true → isIn u (t ∷ ts) ≡ true
-unfolding isIn
-later u t ts e = any-cons (eqb u) t ts ∙ by (eqb u t) (λ c. rw c) (λ c. rw c e)
-
 module _ (os ns : List ℕ) (n : ℕ) (w : Ordered os ns n) where
   abbrev rows : List Row
   rows = rowsIn [] [] os [] n
@@ -80,7 +55,7 @@ module _ (os ns : List ℕ) (n : ℕ) (w : Ordered os ns n) where
   listed (t ∷ ts) d h =
       let v = and-true (not (isIn t ts)) (distinct ts) d in
       total-sum _ _ _ n (λ k l. start-or t (getD os k 0) ts (not-true _ (v .0)))
-      ∙ omega (arith, h t (here t ts), listed ts (v .1) (λ u i. h u (later u t ts i)))
+      ∙ omega (arith, h t (in-head t ts), listed ts (v .1) (λ u i. h u (in-weak u t ts i)))
 
   row-listed : (t k : ℕ) → k < n → own t (getD os k 0) ≡ true → isIn t (transactions rows) ≡ true
   unfolding rowsIn

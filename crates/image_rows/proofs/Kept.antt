@@ -4,7 +4,8 @@ use Rattle.basics.proofs.Kit.{_≡_, refl, sym, ap, _∙_, Bool, false, _&&_, L
 use Rattle.basics.specs.Basics.{if_then_else_, all, every, paired, howMany, distinct}
 use Rattle.block_forms.specs.Tuple.{Owner, committed, tentative}
 use Rattle.image_rows.specs.Rows.{Row, number, isBy, isOwn, follows, startsWell, isBelow, earlierBy, statementIs, statementOk, transactions, openLimit}
-use Rattle.image_rows.specs.Columns.{codedOwner, coded, rowAt, tab, rowsIn, columnsOk}
+use Rattle.image_rows.specs.Columns.{codedOwner, coded, rowAt, rowsIn, columnsOk}
+use Rattle.basics.specs.Lists.{tab}
 use Rattle.basics.proofs.Ands.{and-yes, and-assoc}
 
 module _ {A : Type 0} (f g : A → Bool) (h : A → A) (e : (x : A) → f (h x) ≡ g x) where
@@ -59,9 +60,8 @@ module _ (h : Row → Row) (o : (r : Row) → h r .1 .owner ≡ r .1 .owner) (n 
 -- ---- columns that are missing
 
 map-tab : {A B : Type 0} (f : A → B) (u : ℕ → A) (i n : ℕ) → tab (λ k. f (u k)) i n ≡ map f (tab u i n)
-unfolding tab
 map-tab f u i zero = refl
-map-tab f u i (suc n) = ap (λ (l : List _). f (u i) ∷ l) (map-tab f u (i + 1) n)
+map-tab f u i (suc n) = ap (λ (l : List _). f (u i) ∷ l) (map-tab f u (suc i) n)
 
 -- only number and owner of a row
 abbrev thin : Row → Row
@@ -97,18 +97,16 @@ module _ (ps ns os ms : List ℕ) (n : ℕ) where
   unfolding number
   statements-columns = rw thin-rows (statements-kept thin (λ r. refl) (λ r. refl) (rowsIn ps ns os ms n))
 
-tab-next : {A : Type 0} (u v : ℕ → A) (i n : ℕ) → ((k : ℕ) → u (k + 1) ≡ v k) → tab u (i + 1) n ≡ tab v i n
-unfolding tab
-tab-next u v i zero e = refl
-tab-next u v i (suc n) e = rw (e i, tab-next u v (i + 1) n e)
+tab-shift : {A : Type 0} (u v : ℕ → A) (i n : ℕ) → ((k : ℕ) → u (suc k) ≡ v k) → tab u (suc i) n ≡ tab v i n
+tab-shift u v i zero e = refl
+tab-shift u v i (suc n) e = rw (e i, tab-shift u v (suc i) n e)
 
 take-tab : (n : ℕ) (ns : List ℕ) → n ≤ length ns → tab (λ i. getD ns i 0) 0 n ≡ take n ns
-unfolding tab
 take-tab zero ns h = refl
 take-tab (suc n) [] h = absurd (omega arith)
 take-tab (suc n) (x ∷ ns) h =
     ap (λ (l : List ℕ). x ∷ l)
-    (tab-next (λ i. getD (x ∷ ns) i 0) (λ i. getD ns i 0) 0 n (λ k. rw (add-one k)) ∙ take-tab n ns (omega arith))
+    (tab-shift (λ i. getD (x ∷ ns) i 0) (λ i. getD ns i 0) 0 n (λ k. refl) ∙ take-tab n ns (omega arith))
 
 module _ (ps ns os ms : List ℕ) (n : ℕ) (h : n ≤ length ns) where
   numbers-columns : map number (rowsIn ps ns os ms n) ≡ take n ns

@@ -3,27 +3,11 @@ use Rattle.basics.proofs.Kit.{_≡_, refl, sym, ap, _∙_, Bool, true, false, n
 use Rattle.basics.proofs.Kit.{eqb-true, eq-eqb, ne-eqb, eqb-false, not-true, arith}
 use Rattle.basics.specs.Basics.{all, isIn, distinct}
 use Rattle.basics.proofs.Facts.{by, lie, and-true}
-use Rattle.image_rows.specs.Columns.{tab}
+use Rattle.basics.specs.Lists.{tab}
 use Rattle.image_rows.specs.Chains.{lastBy, isNew, keysOnce}
-use Rattle.image_rows.proofs.Iterations.{any-yes, any-not, any-end}
+use Rattle.basics.proofs.Iterations.{any-yes, any-not, any-end}
 use Rattle.image_rows.proofs.Chains.{last-le, last-passes, last-there}
-
--- ---- tests by index
-
-module _ {A : Type 0} (f : A → Bool) (g : ℕ → A) where
-  pub all-tab : (i n : ℕ) → ((k : ℕ) → i ≤ k → k < i + n → f (g k) ≡ true) → all f (tab g i n) ≡ true
-  unfolding all tab
-  all-tab i zero w = refl
-  all-tab i (suc n) w = rw (w i (omega arith) (omega arith)) (all-tab (i + 1) n (λ k a b. w k (omega arith) (omega arith)))
-
-  pub tab-all : (i n : ℕ) → all f (tab g i n) ≡ true → (k : ℕ) → i ≤ k → k < i + n → f (g k) ≡ true
-  unfolding all tab
-  tab-all i zero e k a b = absurd (omega arith)
-  tab-all i (suc n) e k a b =
-      let w = and-true (f (g i)) (all f (tab g (i + 1) n)) e in
-      by (eqb k i)
-      (λ t. rw (eqb-true k i t) (w .0))
-      (λ t. let z = eqb-false k i t in tab-all (i + 1) n (w .1) k (omega arith) (omega arith))
+use Rattle.basics.proofs.Searches.{all-tab, tab-all}
 
 -- ---- distinct numbers, by index
 

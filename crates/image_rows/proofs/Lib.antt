@@ -1,4 +1,3 @@
-pub mod Iterations
 pub mod Owners
 pub mod Chains
 pub mod Keys

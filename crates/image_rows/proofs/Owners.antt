@@ -4,17 +4,12 @@ use Rattle.basics.specs.Basics.{if_then_else_, any, isIn}
 use Rattle.basics.proofs.Facts.{by}
 use Rattle.block_forms.specs.Tuple.{Owner, committed, tentative}
 use Rattle.image_rows.specs.Rows.{Row, isBy, isOwn, addOwner, transactions}
-use Rattle.image_rows.proofs.Iterations.{any-cons}
-
-pub same-test : (m n : ℕ) → eqb m n ≡ eqb n m
-same-test m n =
-    by (eqb n m)
-    (λ t. rw t (eq-eqb m n (sym (eqb-true n m t))))
-    (λ t. rw t (ne-eqb m n (λ e. eqb-false n m t (sym e))))
+use Rattle.basics.proofs.Searches.{any-cons}
+use Rattle.basics.proofs.Elements.{eqb-swap}
 
 in-cons : (t u : ℕ) (ts : List ℕ) → isIn t (u ∷ ts) ≡ (eqb u t || isIn t ts)
 unfolding isIn
-in-cons t u ts = any-cons (eqb t) u ts ∙ ap (λ (b : Bool). b || any (eqb t) ts) (same-test t u)
+in-cons t u ts = any-cons (eqb t) u ts ∙ ap (λ (b : Bool). b || any (eqb t) ts) (eqb-swap t u)
 
 -- a transaction that is in the list already
 or-in : (t u : ℕ) (ts : List ℕ) → isIn u ts ≡ true → isIn t ts ≡ (eqb u t || isIn t ts)

@@ -5,9 +5,10 @@ use Rattle.basics.specs.Basics.{if_then_else_, paired}
 use Rattle.basics.proofs.Facts.{by}
 use Rattle.block_forms.specs.Tuple.{committed}
 use Rattle.image_rows.specs.Rows.{isAt, isLower, ownerAfter, follows, startsWell}
-use Rattle.image_rows.specs.Columns.{coded, codedOwner, rowAt, tab, rowsIn}
+use Rattle.image_rows.specs.Columns.{coded, codedOwner, rowAt, rowsIn}
+use Rattle.basics.specs.Lists.{tab}
 use Rattle.basics.proofs.Ands.{and-yes, and-no}
-use Rattle.image_rows.proofs.Iterations.{tab-whole, pair-turn, pair-stop}
+use Rattle.basics.proofs.Iterations.{tab-whole, pair-turn, pair-stop}
 
 abbrev B : ℕ
 B = 4294967296
@@ -77,11 +78,11 @@ module _ (p n o p′ n′ o′ m : ℕ) where
 
 module _ (ps ns os ms : List ℕ) (n : ℕ) where
   pub rising-none : n ≡ 0 → (paired follows (rowsIn ps ns os ms n) && startsWell (rowsIn ps ns os ms n)) ≡ true
-  unfolding rowsIn tab paired startsWell
+  unfolding rowsIn paired startsWell
   rising-none e = rw e
 
   well : 0 < n → startsWell (rowsIn ps ns os ms n) ≡ eqb (getD ms 0 0) 0
-  unfolding rowsIn tab startsWell rowAt coded
+  unfolding rowsIn startsWell rowAt coded
   well h = let e : n ≡ suc (n - 1) = omega arith in rw (e, unmarked (getD ms 0 0))
 
   pub rising-marked : 0 < n → (getD ms 0 0 ≡ 0 → ⊥) → (paired follows (rowsIn ps ns os ms n) && startsWell (rowsIn ps ns os ms n)) ≡ false

@@ -3,7 +3,7 @@ use Rattle.basics.proofs.Kit.{_≡_, refl, ap, Bool, true, false, _&&_, ℕ, su
 use Rattle.basics.proofs.Kit.{ltb-false, arith}
 use Rattle.basics.specs.Basics.{if_then_else_, howMany}
 use Rattle.basics.proofs.Facts.{by}
-use Rattle.image_rows.specs.Columns.{tab}
+use Rattle.basics.specs.Lists.{tab}
 
 -- w 0 + .. + w (n - 1)
 unfoldable pub total : (ℕ → ℕ) → ℕ → ℕ
@@ -109,16 +109,16 @@ module _ (w : ℕ → ℕ) where
 -- a count along a list by its index
 module _ {A : Type 0} (f : A → Bool) (g : ℕ → A) where
   counted : (i n : ℕ) → howMany f (tab g i n) + total (λ k. bit (f (g k))) i ≡ total (λ k. bit (f (g k))) (i + n)
-  unfolding howMany tab if_then_else_ bit
+  unfolding howMany if_then_else_ bit
   counted i zero = let e : i + 0 ≡ i = omega arith in rw e (omega arith)
   counted i (suc n) =
-      let e : i + suc n ≡ i + 1 + n = omega arith in
+      let e : i + suc n ≡ suc i + n = omega arith in
       rw e (by (f (g i))
-      (λ t. rw t (omega (arith, counted (i + 1) n, more i, ap bit t)))
-      (λ t. rw t (omega (arith, counted (i + 1) n, more i, ap bit t))))
+      (λ t. rw t (omega (arith, counted (suc i) n, more i, ap bit t)))
+      (λ t. rw t (omega (arith, counted (suc i) n, more i, ap bit t))))
     where
-      more : (i : ℕ) → total (λ k. bit (f (g k))) (i + 1) ≡ bit (f (g i)) + total (λ k. bit (f (g k))) i
-      more i = unfold total in rw (add-one i)
+      more : (i : ℕ) → total (λ k. bit (f (g k))) (suc i) ≡ bit (f (g i)) + total (λ k. bit (f (g k))) i
+      more i = unfold total in refl
 
   pub count-total : (n : ℕ) → howMany f (tab g 0 n) ≡ total (λ k. bit (f (g k))) n
   unfolding total

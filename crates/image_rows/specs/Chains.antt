@@ -6,7 +6,7 @@ use mathlib.Core.List.{List}
 use lib.ListN.{length, getD}
 use lib.Dec.{eqb, ltb}
 use Rattle.basics.specs.Basics.{if_then_else_, all, howMany}
-use Rattle.image_rows.specs.Columns.{tab}
+use Rattle.basics.specs.Lists.{tab}
 
 -- the rows of an image, at most
 abbrev pub rowLimit : ℕ

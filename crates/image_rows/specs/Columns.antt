@@ -5,6 +5,7 @@ use mathlib.Core.List.{List, [], _∷_, map}
 use lib.ListN.{length, getD}
 use lib.Dec.{eqb, leb}
 use Rattle.basics.specs.Basics.{if_then_else_, all, every, paired, distinct}
+use Rattle.basics.specs.Lists.{tab}
 use Rattle.block_forms.specs.Tuple.{Owner, committed, tentative}
 use Rattle.image_rows.specs.Rows.{Row, number, follows, startsWell, isBelow, transactions, openLimit, statementOk}
 
@@ -19,12 +20,6 @@ coded p n o m = (p / 4294967296, record { key = p % 4294967296; number = n; owne
 -- the row at index i of four columns
 unfoldable pub rowAt : List ℕ → List ℕ → List ℕ → List ℕ → ℕ → Row
 rowAt ps ns os ms i = coded (getD ps i 0) (getD ns i 0) (getD os i 0) (getD ms i 0)
-
-module _ {A : Type 0} where
-  -- f i, f (i + 1), .., n of them
-  unfoldable pub tab : (ℕ → A) → ℕ → ℕ → List A
-  tab f i zero = []
-  tab f i (suc n) = f i ∷ tab f (i + 1) n
 
 -- the first n rows of four columns
 unfoldable pub rowsIn : List ℕ → List ℕ → List ℕ → List ℕ → ℕ → List Row

@@ -12,7 +12,8 @@ use Rattle.memory_layout.specs.Places.{signature}
 use Rattle.memory_layout.specs.Views.{headOf, countsOf, rowCount, openCount, namedCount, directoryCount, pageCount, openAt, directoryAt, rowAt, startAt, entryAt, namedBlock}
 use Rattle.memory_layout.specs.Flat.{Flat, flatOf, capacityOf, opensOf, rowsOf, entriesOf, namedOf, directoriesOf, Room, InRange, Becomes}
 use Rattle.memory_layout.specs.Store.{total, startOf, tablesRise, startsRise, holdsStore, hasRows, storeOf, storeIn}
-use Rattle.memory_layout.proofs.Refusal.{every-true, every-cons, every-one, all-from, from-all, all-tab, tab-all, range-in, in-range, endRises, startRises}
+use Rattle.memory_layout.proofs.Refusal.{every-true, every-cons, every-one, all-from, from-all, range-in, in-range, endRises, startRises}
+use Rattle.basics.proofs.Searches.{all-tab, tab-all}
 
 -- ---- how long each list is
 

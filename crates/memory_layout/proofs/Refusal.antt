@@ -59,20 +59,6 @@ module _ (f : ℕ → Bool) where
   unfolding all from
   all-end t n h = let e : n - t ≡ 0 = omega arith in ap (λ (z : ℕ). all f (from t z)) e
 
-module _ {A : Type 0} (f : A → Bool) (g : ℕ → A) where
-  pub all-tab : (a n : ℕ) → ((k : ℕ) → a ≤ k → k < a + n → f (g k) ≡ true) → all f (tab g a n) ≡ true
-  unfolding all
-  all-tab a zero h = refl
-  all-tab a (suc n) h = rw (h a (omega arith) (omega arith), all-tab (suc a) n (λ k p q. h k (omega arith) (omega arith)))
-
-  pub tab-all : (a n : ℕ) → all f (tab g a n) ≡ true → (k : ℕ) → a ≤ k → k < a + n → f (g k) ≡ true
-  unfolding all
-  tab-all a zero h k p q = absurd (omega arith)
-  tab-all a (suc n) h k p q =
-      let t = and-true (f (g a)) (all f (tab g (suc a) n)) h in
-      ⊎-elim (λ (l : a < k). tab-all (suc a) n (t .1) k (omega arith) (omega arith)) (λ (l : k ≤ a). let e : k ≡ a = omega arith in ap (λ (z : ℕ). f (g z)) e ∙ t .0)
-      (lt-or-ge a k)
-
 -- ---- the head's numbers
 
 pub range-in : (size : ℕ) (h : Head) (n : Counts) → inRange size h n ≡ true → InRange size h n

@@ -1,6 +1,6 @@
 -- `image_header::all_zero` meets its contract. The invariant: all numbers are 0 exactly if all from index i on are.
 use Rattle.basics.proofs.Kit.{_≡_, refl, sym, _∙_, _-_, length, drop, eq-eqb, ne-eqb, arith}
-use Rattle.image_rows.proofs.Iterations.{drop-turn, drop-end, all-yes, all-not, all-end}
+use Rattle.basics.proofs.Iterations.{drop-turn, drop-end, all-yes, all-not, all-end}
 use Rattle.image_header.specs.Names.{isZero}
 use Rattle.basics.specs.Basics.{all}
 use Rattle.image_header.proofs.all_zero.Statement.{statement}

@@ -1,6 +1,6 @@
 -- `image_header::apart` meets its contract. The invariant: no number of s is in t exactly if none from index i on is.
 use Rattle.basics.proofs.Kit.{_≡_, refl, sym, ap, _∙_, Bool, not, ℕ, _-_, length, drop, arith}
-use Rattle.image_rows.proofs.Iterations.{drop-turn, drop-end, all-yes, all-not, all-end}
+use Rattle.basics.proofs.Iterations.{drop-turn, drop-end, all-yes, all-not, all-end}
 use Rattle.basics.specs.Basics.{all, isIn}
 use Rattle.image_header.proofs.apart.Statement.{statement}
 use Rattle.image_header.proofs.apart.Tie as tie

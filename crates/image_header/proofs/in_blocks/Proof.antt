@@ -1,6 +1,6 @@
 -- `image_header::in_blocks` meets its contract. The invariant: every number may be named exactly if every one from index i on may.
 use Rattle.basics.proofs.Kit.{_≡_, refl, sym, _∙_, _-_, length, drop, not-true, not-false, arith}
-use Rattle.image_rows.proofs.Iterations.{drop-turn, drop-end, all-yes, all-not, all-end}
+use Rattle.basics.proofs.Iterations.{drop-turn, drop-end, all-yes, all-not, all-end}
 use Rattle.image_header.specs.Names.{blockOk}
 use Rattle.basics.specs.Basics.{all}
 use Rattle.image_header.proofs.in_blocks.Statement.{statement}

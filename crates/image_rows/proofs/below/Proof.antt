@@ -1,7 +1,9 @@
 -- `image_rows::below` meets its contract. The invariant: every number is below next exactly if every one from row i on is.
 use Rattle.basics.proofs.Kit.{_≡_, sym, ap, _∙_, [], _-_, lt-ltb, le-ltb, arith}
-use Rattle.image_rows.proofs.Iterations.{tab-turn, tab-end, tab-whole, all-yes, all-not, all-end}
-use Rattle.image_rows.specs.Columns.{coded, rowAt, rowsIn, tab}
+use Rattle.basics.proofs.Iterations.{tab-whole, all-yes, all-not, all-end}
+use Rattle.basics.proofs.Searches.{tab-next, tab-none}
+use Rattle.image_rows.specs.Columns.{coded, rowAt, rowsIn}
+use Rattle.basics.specs.Lists.{tab}
 use Rattle.image_rows.specs.Rows.{isBelow, number}
 use Rattle.basics.specs.Basics.{all}
 use Rattle.image_rows.proofs.below.Statement.{statement}
@@ -22,20 +24,20 @@ unfolding rowAt coded isBelow number
 returns c =
     let p3 = c .before .before .before in let p4 = p3 .before in
     let s = p4 in let p = p3 .loop in
-    sym (p .inv ∙ all-not (isBelow (s .args .next)) (tab-turn (rowAt [] (s .args .numbers .now) [] []) (p .i) (s .args .count) (omega arith)) (le-ltb _ _ (c .if1 .taken)))
+    sym (p .inv ∙ all-not (isBelow (s .args .next)) (tab-next (rowAt [] (s .args .numbers .now) [] []) (p .i) (s .args .count) (omega arith)) (le-ltb _ _ (c .if1 .taken)))
 
 loop-again : tie.Need-loop-again Inv-loop μ-loop
 unfolding rowAt coded isBelow number
 loop-again c =
     let p3 = c .before .before .before in let p4 = p3 .before in
     let s = p4 in let p = p3 .loop in
-    p .inv ∙ all-yes (isBelow (s .args .next)) (tab-turn (rowAt [] (s .args .numbers .now) [] []) (p .i) (s .args .count) (omega arith)) (lt-ltb _ _ (c .if1 .left))
+    p .inv ∙ all-yes (isBelow (s .args .next)) (tab-next (rowAt [] (s .args .numbers .now) [] []) (p .i) (s .args .count) (omega arith)) (lt-ltb _ _ (c .if1 .left))
 
 returns-2 : tie.Need-returns-2 Inv-loop μ-loop
 returns-2 c =
     let p2 = c .before .before in
     let s = p2 in let p = c .before .loop in
-    sym (p .inv ∙ all-end (isBelow (s .args .next)) (tab-end (rowAt [] (s .args .numbers .now) [] []) (p .i) (s .args .count) (omega arith)))
+    sym (p .inv ∙ all-end (isBelow (s .args .next)) (tab-none (rowAt [] (s .args .numbers .now) [] []) (p .i) (s .args .count) (omega arith)))
 
 pub below-spec : {M : Type 1} → statement M
 below-spec = tie.close (tie.spec Inv-loop μ-loop loop-holds (λ c. omega arith) (λ c. omega arith) returns (λ c. omega arith) (λ c. omega arith) loop-again returns-2)

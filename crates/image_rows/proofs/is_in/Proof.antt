@@ -1,6 +1,6 @@
 -- `image_rows::is_in` meets its contract. The invariant: x stands in s from the place `from` on exactly if it stands there from index i on.
 use Rattle.basics.proofs.Kit.{_≡_, refl, sym, _∙_, _-_, eqb, length, drop, eq-eqb, ne-eqb, arith}
-use Rattle.image_rows.proofs.Iterations.{drop-turn, drop-end, any-yes, any-not, any-end}
+use Rattle.basics.proofs.Iterations.{drop-turn, drop-end, any-yes, any-not, any-end}
 use Rattle.basics.specs.Basics.{isIn}
 use Rattle.image_rows.proofs.is_in.Statement.{statement}
 use Rattle.image_rows.proofs.is_in.Tie as tie

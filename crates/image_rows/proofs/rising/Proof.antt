@@ -1,8 +1,9 @@
 -- `image_rows::rising` meets its contract. The invariant: the answer is whether, from row i - 1 on, each row may be followed by the next one.
 use Rattle.basics.proofs.Kit.{_≡_, sym, _∙_, _&&_, _≤_, _-_, arith}
 use Rattle.image_rows.proofs.Places.{rising-none, rising-first, rising-marked, rising-stop, rising-turn}
-use Rattle.image_rows.proofs.Iterations.{pair-end}
-use Rattle.image_rows.specs.Columns.{rowAt, rowsIn, tab}
+use Rattle.basics.proofs.Iterations.{pair-end}
+use Rattle.image_rows.specs.Columns.{rowAt, rowsIn}
+use Rattle.basics.specs.Lists.{tab}
 use Rattle.image_rows.specs.Rows.{follows, startsWell}
 use Rattle.basics.specs.Basics.{paired}
 use Rattle.image_rows.proofs.rising.Statement.{statement}

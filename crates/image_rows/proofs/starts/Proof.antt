@@ -1,8 +1,9 @@
 -- `image_rows::starts` meets its contract. The invariant: the answer is k plus the count from row i on.
-use Rattle.image_rows.proofs.Iterations.{tab-turn, tab-end, tab-whole, count-yes, count-not, count-end}
+use Rattle.basics.proofs.Iterations.{tab-whole, count-yes, count-not, count-end}
+use Rattle.basics.proofs.Searches.{tab-next, tab-none}
 use Rattle.basics.specs.Basics.{howMany}
 use Rattle.image_rows.specs.Chains.{isStart, starts}
-use Rattle.image_rows.specs.Columns.{tab}
+use Rattle.basics.specs.Lists.{tab}
 use Rattle.basics.proofs.Kit.{_≡_, sym, _∙_, ⊎-elim, _+_, _≤_, _-_, getD, arith}
 use Rattle.image_rows.proofs.starts.Statement.{statement}
 use Rattle.image_rows.proofs.starts.Tie as tie
@@ -19,7 +20,7 @@ loop-holds c = let s = c .before in let e = tab-whole (λ j. getD (s .args .owne
 
 loop-again : tie.Need-loop-again Inv-loop μ-loop
 loop-again c = let p = c .before .before .before .before .loop in let s = c .before .before .before .before .before .before in
-    let t = tab-turn (λ j. getD (s .args .owners .now) j 0) (p .i) (s .args .count) (omega arith) in
+    let t = tab-next (λ j. getD (s .args .owners .now) j 0) (p .i) (s .args .count) (omega arith) in
     ⊎-elim
     (λ w. let h = count-yes isStart t (sym (c .before .is-start .ensures) ∙ w .0 .taken) in (omega arith, (omega arith, omega (arith, p .inv .1 .1))))
     (λ w. let h = count-not isStart t (sym (c .before .is-start .ensures) ∙ w .0 .left) in (omega arith, (omega arith, omega (arith, p .inv .1 .1))))
@@ -27,7 +28,7 @@ loop-again c = let p = c .before .before .before .before .loop in let s = c .bef
 
 returns : tie.Need-returns Inv-loop μ-loop
 returns c = let p = c .before .loop in let s = c .before .before .before in
-    let h = count-end isStart (tab-end (λ j. getD (s .args .owners .now) j 0) (p .i) (s .args .count) (omega arith)) in omega (arith, p .inv .1 .1)
+    let h = count-end isStart (tab-none (λ j. getD (s .args .owners .now) j 0) (p .i) (s .args .count) (omega arith)) in omega (arith, p .inv .1 .1)
 
 pub starts-spec : {M : Type 1} → statement M
 starts-spec = tie.close (tie.spec Inv-loop μ-loop loop-holds (λ c. omega arith) (λ c. omega arith) (λ c κs. omega arith) (λ c. omega arith) (λ c. omega arith)

@@ -1,7 +1,8 @@
 -- `image_rows::statements_rise` meets its contract. The invariant: the answer is whether `isNext` holds of every row from row i on.
-use Rattle.image_rows.proofs.Iterations.{tab-turn, tab-end, tab-whole, all-yes, all-not, all-end}
+use Rattle.basics.proofs.Iterations.{tab-whole, all-yes, all-not, all-end}
+use Rattle.basics.proofs.Searches.{tab-next, tab-none}
 use Rattle.image_rows.specs.Chains.{isNext, statementsRise}
-use Rattle.image_rows.specs.Columns.{tab}
+use Rattle.basics.specs.Lists.{tab}
 use Rattle.basics.specs.Basics.{all}
 use Rattle.basics.proofs.Kit.{_≡_, sym, ap, _∙_, _-_, not-true, not-false, arith}
 use Rattle.image_rows.proofs.statements_rise.Statement.{statement}
@@ -22,15 +23,15 @@ is-next-requires c κs = (omega arith, (omega arith, c .before .before .before .
 
 returns : tie.Need-returns Inv-loop μ-loop
 returns c = let p = c .before .before .before .loop in let a = c .before .before .before .before .before .before .before .before .args in
-    sym (p .inv ∙ all-not (isNext (a .numbers .now) (a .owners .now) (a .count)) (tab-turn (λ j. j) (p .i) (a .count) (omega arith)) (sym (c .before .is-next .ensures) ∙ not-true _ (c .if1 .taken)))
+    sym (p .inv ∙ all-not (isNext (a .numbers .now) (a .owners .now) (a .count)) (tab-next (λ j. j) (p .i) (a .count) (omega arith)) (sym (c .before .is-next .ensures) ∙ not-true _ (c .if1 .taken)))
 
 loop-again : tie.Need-loop-again Inv-loop μ-loop
 loop-again c = let p = c .before .before .before .loop in let a = c .before .before .before .before .before .before .before .before .args in
-    p .inv ∙ all-yes (isNext (a .numbers .now) (a .owners .now) (a .count)) (tab-turn (λ j. j) (p .i) (a .count) (omega arith)) (sym (c .before .is-next .ensures) ∙ not-false _ (c .if1 .left))
+    p .inv ∙ all-yes (isNext (a .numbers .now) (a .owners .now) (a .count)) (tab-next (λ j. j) (p .i) (a .count) (omega arith)) (sym (c .before .is-next .ensures) ∙ not-false _ (c .if1 .left))
 
 returns-2 : tie.Need-returns-2 Inv-loop μ-loop
 returns-2 c = let p = c .before .loop in let a = c .before .before .before .before .before .before .args in
-    sym (p .inv ∙ all-end (isNext (a .numbers .now) (a .owners .now) (a .count)) (tab-end (λ j. j) (p .i) (a .count) (omega arith)))
+    sym (p .inv ∙ all-end (isNext (a .numbers .now) (a .owners .now) (a .count)) (tab-none (λ j. j) (p .i) (a .count) (omega arith)))
 
 pub statements-rise-spec : {M : Type 1} → statement M
 statements-rise-spec = tie.close (tie.spec Inv-loop μ-loop loop-holds is-next-requires returns (λ c. omega arith) (λ c. omega arith) loop-again returns-2)

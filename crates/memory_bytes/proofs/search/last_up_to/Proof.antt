@@ -1,5 +1,6 @@
 -- `memory_bytes::search::last_up_to` meets its contract. The invariant of both loops: the search below index k has the answer of the search below e.
-use Rattle.memory_bytes.proofs.Scans.{LastBelow, any-group4}
+use Rattle.basics.proofs.Searches.{LastBelow}
+use Rattle.memory_bytes.proofs.Scans.{any-group4}
 use Rattle.basics.proofs.Searches.{last-skip, last-pass, last-hit, last-end}
 use Rattle.memory_bytes.specs.Columns.{upTo}
 use Rattle.memory_bytes.specs.Bytes.{column4}

@@ -1,8 +1,9 @@
 -- One turn of each search and test along a list, whose head is known; and the lists' heads: what is left of a list, and a list by its index.
 use Rattle.basics.proofs.Kit.{_≡_, refl, sym, ap, _∙_, Bool, true, false, _||_, List, [], _∷_, ℕ, suc, _+_, _≤_, _<_, _-_, add-one, length, drop, getD, drop-of-length-le, drop-cons, arith}
 use Rattle.basics.specs.Basics.{if_then_else_, any, all, paired, howMany}
 use Rattle.basics.proofs.Facts.{by}
-use Rattle.image_rows.specs.Columns.{tab}
+use Rattle.basics.specs.Lists.{tab}
+use Rattle.basics.proofs.Searches.{tab-next}
 
 -- ---- heads
 
@@ -11,15 +12,6 @@ drop-turn s i h = rw (add-one i) (drop-cons s i 0 h)
 
 pub drop-end : (s : List ℕ) (i : ℕ) → length s ≤ i → drop i s ≡ []
 drop-end s i h = drop-of-length-le s h
-
-module _ {A : Type 0} (g : ℕ → A) (i n : ℕ) where
-  pub tab-turn : i < n → tab g i (n - i) ≡ g i ∷ tab g (i + 1) (n - (i + 1))
-  unfolding tab
-  tab-turn h = let e : n - i ≡ suc (n - (i + 1)) = omega arith in rw e
-
-  pub tab-end : n ≤ i → tab g i (n - i) ≡ []
-  unfolding tab
-  tab-end h = let e : n - i ≡ 0 = omega arith in rw e
 
 -- all of a list by its index
 pub tab-whole : {A : Type 0} (g : ℕ → A) (n : ℕ) → tab g 0 (n - 0) ≡ tab g 0 n
@@ -76,22 +68,19 @@ module _ {A : Type 0} (f : A → Bool) {l : List A} (e : l ≡ []) where
   unfolding howMany
   count-end = ap (howMany f) e
 
-pub any-cons : {A : Type 0} (f : A → Bool) (x : A) (xs : List A) → any f (x ∷ xs) ≡ (f x || any f xs)
-any-cons f x xs = by (f x) (λ t. rw t (any-yes f refl t)) (λ t. rw t (any-not f refl t))
-
 -- each pair of neighbours, by the index of the second
 module _ {A : Type 0} (f : A → A → Bool) (g : ℕ → A) (i n : ℕ) (low : 1 ≤ i) where
   two : i < n → tab g (i - 1) (n - (i - 1)) ≡ g (i - 1) ∷ g i ∷ tab g (i + 1) (n - (i + 1))
   two h =
       let e : i - 1 + 1 ≡ i = omega arith in
-      tab-turn g (i - 1) n (omega arith) ∙ rw e (ap (λ (l : List A). g (i - 1) ∷ l) (tab-turn g i n h))
+      tab-next g (i - 1) n (omega arith) ∙ rw e (ap (λ (l : List A). g (i - 1) ∷ l) (tab-next g i n h))
 
   pub pair-turn : i < n → f (g (i - 1)) (g i) ≡ true → paired f (tab g (i - 1) (n - (i - 1))) ≡ paired f (tab g i (n - i))
-  pair-turn h t = pair-yes f (two h) t ∙ ap (paired f) (sym (tab-turn g i n h))
+  pair-turn h t = pair-yes f (two h) t ∙ ap (paired f) (sym (tab-next g i n h))
 
   pub pair-stop : i < n → f (g (i - 1)) (g i) ≡ false → paired f (tab g (i - 1) (n - (i - 1))) ≡ false
   pair-stop h t = pair-not f (two h) t
 
   pub pair-end : n ≡ i → paired f (tab g (i - 1) (n - (i - 1))) ≡ true
-  unfolding paired tab
+  unfolding paired
   pair-end e = let m : n - (i - 1) ≡ 1 = omega arith in rw m
