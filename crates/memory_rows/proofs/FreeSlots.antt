@@ -11,7 +11,6 @@ use Rattle.memory_layout.specs.Places.{refsAt}
 use Rattle.memory_layout.specs.Views.{slotOf, refOf}
 use Rattle.memory_layout.specs.Flat.{rowsOf}
 use Rattle.memory_rows.specs.Cells.{slotIn, slotAt, isTaken}
-use Rattle.basics.proofs.Elements.{eqb-swap}
 
 -- ---- two tests that agree
 
@@ -24,9 +23,9 @@ any-cong f f' g g' i (suc n) h =
     ∙ sym (any-cons f' (g' i) (tab g' (suc i) n))
 
 -- a slot that is not 0 is named by its own number only
-eqb-swap : (c r s : ℕ) → 0 < s → s < c → eqb (r % 1024) s ≡ eqb (slotOf c r) s
+same-slot : (c r s : ℕ) → 0 < s → s < c → eqb (r % 1024) s ≡ eqb (slotOf c r) s
 unfolding slotOf if_then_else_
-eqb-swap c r s h k = by-test (ltb (r % 1024) c) refl
+same-slot c r s h k = by-test (ltb (r % 1024) c) refl
   where
     by-test : (t : Bool) → ltb (r % 1024) c ≡ t → eqb (r % 1024) s ≡ eqb (if t then r % 1024 else 0) s
     by-test true e = refl
@@ -35,7 +34,7 @@ eqb-swap c r s h k = by-test (ltb (r % 1024) c) refl
 pub named-taken : (m : List ℕ) (c n s : ℕ) → 0 < s → s < c → any (names s) (tab (column2 m (refsAt c)) 0 n) ≡ any (equals s) (tab (slotIn m c) 0 n)
 unfolding slotIn
 named-taken m c n s h k =
-    any-cong (names s) (equals s) (column2 m (refsAt c)) (slotIn m c) 0 n (λ j. eqb-swap c (refOf m c j) s h k)
+    any-cong (names s) (equals s) (column2 m (refsAt c)) (slotIn m c) 0 n (λ j. same-slot c (refOf m c j) s h k)
 
 -- ---- more numbers than elements
 
