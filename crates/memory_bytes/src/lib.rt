@@ -153,77 +153,27 @@ pub fn copy32(m: &mut [u8], from: usize, to: usize)
 
 // ---- bytes moved by the width of a column: from the end that is left free, so that each byte is read before it is written over
 
-// The bytes from lo up to, not including, hi go up by one.
-pub fn up1(m: &mut [u8], lo: usize, hi: usize)
-    requires { ⌜ (lo ≤ hi) × (hi + 1 ≤ length (now m)) ⌝ }
-    ensures { λ _. ⌜ Raised (now (m .entry)) (now (m .exit)) lo hi 1 ⌝ }
+// The bytes from lo up to, not including, hi go up by w.
+pub fn raise(m: &mut [u8], lo: usize, hi: usize, w: usize)
+    requires { ⌜ (lo ≤ hi) × (hi + w ≤ length (now m)) ⌝ }
+    ensures { λ _. ⌜ Raised (now (m .entry)) (now (m .exit)) lo hi w ⌝ }
 {
     let mut k = hi;
     while lo < k {
         k -= 1;
-        m[k + 1] = m[k];
+        m[k + w] = m[k];
     }
 }
 
-// The bytes from lo up to, not including, hi go up by two.
-pub fn up2(m: &mut [u8], lo: usize, hi: usize)
-    requires { ⌜ (lo ≤ hi) × (hi + 2 ≤ length (now m)) ⌝ }
-    ensures { λ _. ⌜ Raised (now (m .entry)) (now (m .exit)) lo hi 2 ⌝ }
+// The bytes from lo + w up to, not including, hi go down by w.
+pub fn lower(m: &mut [u8], lo: usize, hi: usize, w: usize)
+    requires { ⌜ (lo + w ≤ hi) × (hi ≤ length (now m)) ⌝ }
+    ensures { λ _. ⌜ Lowered (now (m .entry)) (now (m .exit)) lo hi w ⌝ }
 {
-    let mut k = hi;
-    while lo < k {
-        k -= 1;
-        m[k + 2] = m[k];
-    }
-}
-
-// The bytes from lo up to, not including, hi go up by four.
-pub fn up4(m: &mut [u8], lo: usize, hi: usize)
-    requires { ⌜ (lo ≤ hi) × (hi + 4 ≤ length (now m)) ⌝ }
-    ensures { λ _. ⌜ Raised (now (m .entry)) (now (m .exit)) lo hi 4 ⌝ }
-{
-    let mut k = hi;
-    while lo < k {
-        k -= 1;
-        m[k + 4] = m[k];
-    }
-}
-
-// The bytes from lo + 1 up to, not including, hi go down by one.
-pub fn down1(m: &mut [u8], lo: usize, hi: usize)
-    requires { ⌜ (lo + 1 ≤ hi) × (hi ≤ length (now m)) ⌝ }
-    ensures { λ _. ⌜ Lowered (now (m .entry)) (now (m .exit)) lo hi 1 ⌝ }
-{
-    let e = hi - 1;
+    let e = hi - w;
     let mut k = lo;
     while k < e {
-        m[k] = m[k + 1];
-        k += 1;
-    }
-}
-
-// The bytes from lo + 2 up to, not including, hi go down by two.
-pub fn down2(m: &mut [u8], lo: usize, hi: usize)
-    requires { ⌜ (lo + 2 ≤ hi) × (hi ≤ length (now m)) ⌝ }
-    ensures { λ _. ⌜ Lowered (now (m .entry)) (now (m .exit)) lo hi 2 ⌝ }
-{
-    let e = hi - 2;
-    let mut k = lo;
-    while k < e {
-        m[k] = m[k + 2];
-        k += 1;
-    }
-}
-
-// The bytes from lo + 4 up to, not including, hi go down by four.
-pub fn down4(m: &mut [u8], lo: usize, hi: usize)
-    requires { ⌜ (lo + 4 ≤ hi) × (hi ≤ length (now m)) ⌝ }
-    ensures { λ _. ⌜ Lowered (now (m .entry)) (now (m .exit)) lo hi 4 ⌝ }
-{
-    let e = hi - 4;
-    let mut k = lo;
-    while k < e {
-        m[k] = m[k + 4];
+        m[k] = m[k + w];
         k += 1;
     }
 }

@@ -228,7 +228,7 @@ pub fn remove_open(m: &mut [u8], i: usize)
 {
     let n = memory_bytes::get4(m, OPEN_COUNT);
     let e = n as usize;
-    memory_bytes::down4(m, OPENS + i * 4, OPENS + e * 4);
+    memory_bytes::lower(m, OPENS + i * 4, OPENS + e * 4, 4);
     memory_bytes::put4(m, OPEN_COUNT, n - 1);
 }
 

@@ -157,7 +157,7 @@ fn insert2(m: &mut [u8], base: usize, i: usize, n: usize, x: u16)
     requires { ⌜ (i ≤ n) × (base + n * 2 + 2 ≤ length (now m)) ⌝ }
     ensures { λ _. ⌜ Inserted2 (now (m .entry)) (now (m .exit)) base i n x ⌝ }
 {
-    memory_bytes::up2(m, base + i * 2, base + n * 2);
+    memory_bytes::raise(m, base + i * 2, base + n * 2, 2);
     memory_bytes::put2(m, base + i * 2, x);
 }
 
@@ -166,7 +166,7 @@ fn remove2(m: &mut [u8], base: usize, i: usize, n: usize)
     requires { ⌜ (i < n) × (base + n * 2 ≤ length (now m)) ⌝ }
     ensures { λ _. ⌜ Removed2 (now (m .entry)) (now (m .exit)) base i n ⌝ }
 {
-    memory_bytes::down2(m, base + i * 2, base + n * 2);
+    memory_bytes::lower(m, base + i * 2, base + n * 2, 2);
 }
 
 // Opens a page of the table before page p: it starts at row `start` and has no block.

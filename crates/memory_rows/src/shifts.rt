@@ -96,9 +96,9 @@ pub fn raise_rows(m: &mut [u8], c: usize, i: usize, n: usize)
     let k = keys_at(c);
     let r = refs_at(c);
     let s = states_at(c);
-    memory_bytes::up4(m, k + i * 4, k + n * 4);
-    memory_bytes::up2(m, r + i * 2, r + n * 2);
-    memory_bytes::up1(m, s + i, s + n);
+    memory_bytes::raise(m, k + i * 4, k + n * 4, 4);
+    memory_bytes::raise(m, r + i * 2, r + n * 2, 2);
+    memory_bytes::raise(m, s + i, s + n, 1);
 }
 
 // Of n rows, those behind row i go one down.
@@ -113,7 +113,7 @@ pub fn lower_rows(m: &mut [u8], c: usize, i: usize, n: usize)
     let k = keys_at(c);
     let r = refs_at(c);
     let s = states_at(c);
-    memory_bytes::down4(m, k + i * 4, k + n * 4);
-    memory_bytes::down2(m, r + i * 2, r + n * 2);
-    memory_bytes::down1(m, s + i, s + n);
+    memory_bytes::lower(m, k + i * 4, k + n * 4, 4);
+    memory_bytes::lower(m, r + i * 2, r + n * 2, 2);
+    memory_bytes::lower(m, s + i, s + n, 1);
 }

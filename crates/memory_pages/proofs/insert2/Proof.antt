@@ -9,7 +9,7 @@ returns c =
     let c2 = c .before .before in
     let c6 = c2 .before .before .before .before in
     let st = c6 .before .before .before in
-    inserted2 (st .pre .0) (omega arith) (c6 .up2 .ensures) (c2 .put2 .ensures)
+    inserted2 (st .pre .0) (omega arith) (c6 .raise .ensures) (c2 .put2 .ensures)
 
 pub insert2-spec : {M : Type 1} → statement M
 insert2-spec = tie.close (tie.spec (search needs) (search needs) (search needs) (search needs) (λ c κs. search needs) (search needs) (search needs) (λ c κs. search needs)

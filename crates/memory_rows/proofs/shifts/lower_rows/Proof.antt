@@ -14,7 +14,7 @@ returns-2 c =
     let p14 = p13 .before in
     let st = p14 .before .before .before in
     lowered-rows (p14 .keys-at .ensures) (p13 .refs-at .ensures) (p12 .states-at .ensures) (st .pre .1 .0) (st .pre .1 .1)
-    (p10 .down4 .ensures) (p6 .down2 .ensures) (p2 .down1 .ensures)
+    (p10 .lower .ensures) (p6 .lower2 .ensures) (p2 .lower3 .ensures)
 
 pub lower-rows-spec : {M : Type 1} → statement M
 lower-rows-spec = tie.close (tie.spec (search needs) (λ c κs. search needs) (search needs) (λ c. search needs) (λ c κs. search needs) (λ c κs. search needs)

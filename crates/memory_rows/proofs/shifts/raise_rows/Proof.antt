@@ -14,7 +14,7 @@ returns-2 c =
     let p14 = p13 .before in
     let st = p14 .before .before .before in
     raised-rows (p14 .keys-at .ensures) (p13 .refs-at .ensures) (p12 .states-at .ensures) (st .pre .1 .0) (st .pre .1 .1)
-    (p10 .up4 .ensures) (p6 .up2 .ensures) (p2 .up1 .ensures)
+    (p10 .raise .ensures) (p6 .raise2 .ensures) (p2 .raise3 .ensures)
 
 pub raise-rows-spec : {M : Type 1} → statement M
 raise-rows-spec = tie.close (tie.spec (search needs) (λ c κs. search needs) (search needs) (λ c. search needs) (λ c κs. search needs) (λ c κs. search needs)
