@@ -18,7 +18,8 @@ use Rattle.memory_layout.specs.declared.Entry.{Entry}
 use Rattle.memory_layout.proofs.Laws.{in-none, in-some, in-sound}
 use Rattle.memory_layout.proofs.Exchange.{pages-count}
 use Rattle.memory_pages.specs.Pages.{frozenEntry}
-use Rattle.engine_pages.specs.Pages.{pagesOf, pageAt, entryOf, firstRow, rowsFrom}
+use Rattle.engine_pages.specs.Pages.{pagesOf, pageAt, entryOf, firstRow}
+use Rattle.memory_layout.specs.Elements.{rowsFrom}
 use Rattle.engine_pages.specs.Pending.{FirstFrozen}
 use Rattle.engine_pages.proofs.Around.{index-hit, index-pass}
 use Rattle.engine_pages.proofs.Places.{from-page, page-table, tuples-are}

@@ -9,6 +9,7 @@ ghost use lib.ListN.{length};
 ghost use Rattle.model.specs.Sight.{versions, seen};
 ghost use Rattle.basics.specs.Lists.{tab};
 ghost use Rattle.memory_layout.specs.Flat.{flatOf, rowIn, Room};
+ghost use Rattle.memory_layout.specs.Elements.{RowRange};
 ghost use Rattle.memory_layout.specs.Store.{holdsStore, pagesIn, storeOf};
 ghost use Rattle.block_forms.specs.Bytes.{ownerIs};
 ghost use Rattle.engine_lookup.specs.Lookup.{Shows, blank, noteCommitted, noteTentative, noteOwner, note, notes, picked, Sees, TableRange, Spots};
@@ -134,7 +135,7 @@ fn no_version() -> Visibility
 // The rows from s up to, not including, e: only those between the first and the last one with the key are looked at. The two searches end where
 // they find it: for the rows before the place of a new one, where a pass over all keys is no faster.
 fn search_range(m: &[u8], s: usize, e: usize, transaction: u64, key: u32) -> Visibility
-    requires { ⌜ Room (now m) × ((s ≤ e) × (e ≤ length (flatOf (now m) .rows))) ⌝ }
+    requires { ⌜ RowRange (now m) s e ⌝ }
     ensures { λ r. ⌜ r ≡ notes transaction key s (tab (rowIn (flatOf (now (m .entry)))) s (e - s)) blank ⌝ }
 {
     let first = memory_rows::find_equal(m, s, e, key);
@@ -145,7 +146,7 @@ fn search_range(m: &[u8], s: usize, e: usize, transaction: u64, key: u32) -> Vis
 
 // The same by one pass over the keys of all the rows, in a loop that does not depend on where the key is: for a read, whose key may be anywhere.
 fn search_span(m: &[u8], s: usize, e: usize, transaction: u64, key: u32) -> Visibility
-    requires { ⌜ Room (now m) × ((s ≤ e) × (e ≤ length (flatOf (now m) .rows))) ⌝ }
+    requires { ⌜ RowRange (now m) s e ⌝ }
     ensures { λ r. ⌜ r ≡ notes transaction key s (tab (rowIn (flatOf (now (m .entry)))) s (e - s)) blank ⌝ }
 {
     let span = memory_rows::span_equal(m, s, e, key);

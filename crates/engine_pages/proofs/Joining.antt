@@ -12,7 +12,8 @@ use Rattle.model.proofs.Rows.{joins-table}
 use Rattle.memory_layout.specs.Flat.{flatOf, Room, Becomes, withEntries}
 use Rattle.memory_layout.proofs.Exchange.{sum-append, counted-exchange, pages-joined}
 use Rattle.memory_pages.specs.Pages.{dirty, joinEntries, MayJoin}
-use Rattle.engine_pages.specs.Pages.{PagesNow, pagesOf, pageAt, tuplesAt, entryOf, firstRow, rowsFrom, Span, There, swapped}
+use Rattle.engine_pages.specs.Pages.{PagesNow, pagesOf, pageAt, tuplesAt, entryOf, firstRow, There, swapped}
+use Rattle.memory_layout.specs.Elements.{rowsFrom, RowRange}
 use Rattle.engine_pages.specs.Changes.{Tries, settledAt, settledNext, settledBy}
 use Rattle.engine_pages.proofs.Places.{now-becomes, counted, full, has-row, now-to, now-stay, now-pages, swap-same}
 use Rattle.engine_pages.proofs.Places.{from-page, ends-at, page-end, room, pos-of, tuples-are, page-table, page-frozen}
@@ -51,7 +52,7 @@ module _ {m : List ℕ} {p : ℕ} (a : There m p) (lt : p + 1 < length (flatOf m
   z2 = omega arith
 
   -- both pages are one run of rows
-  pub both-span : {s e : ℕ} → s ≡ firstRow m p → e ≡ firstRow m (p + 2) → Span m s e
+  pub both-span : {s e : ℕ} → s ≡ firstRow m p → e ≡ firstRow m (p + 2) → RowRange m s e
   both-span es ee =
       let k = ap (firstRow m) z2 in
       record { room = room a; order = omega (arith, ends-at a, ends-at next-at); inside = omega (arith, ends-at next-at, page-end next-at) }

@@ -12,7 +12,8 @@ use Rattle.memory_pages.proofs.Ranges.{entry-block}
 use Rattle.memory_layout.proofs.Laws.{Known, known, entries-length, filled, Sound, in-some, in-sound, holds-room, holds-counted, becomes-store}
 use Rattle.memory_layout.proofs.Nest.{Counted, all-counted, counted-all, counted-at, counted-length}
 use Rattle.memory_layout.proofs.Exchange.{pages-count, page-at, page-long, start-next, start-in, start-le, tuple-at, counted-more}
-use Rattle.engine_pages.specs.Pages.{withPages, PagesNow, pagesOf, pageAt, tuplesAt, entryOf, firstRow, rowsFrom, Span, There, RowOn, swapped}
+use Rattle.engine_pages.specs.Pages.{withPages, PagesNow, pagesOf, pageAt, tuplesAt, entryOf, firstRow, There, RowOn, swapped}
+use Rattle.memory_layout.specs.Elements.{rowsFrom, RowRange}
 
 -- ---- one change after another
 
@@ -113,7 +114,7 @@ module _ {m : List ℕ} {p : ℕ} (a : There m p) where
       let n : e - s ≡ entryOf m p .count = omega (arith, ends-at) in
       ap (λ (z : ℕ). take z (drop s (flatOf m .rows))) n ∙ ap (λ (z : ℕ). take (entryOf m p .count) (drop z (flatOf m .rows))) es
 
-  pub page-span : {s e : ℕ} → s ≡ firstRow m p → e ≡ firstRow m (p + 1) → Span m s e
+  pub page-span : {s e : ℕ} → s ≡ firstRow m p → e ≡ firstRow m (p + 1) → RowRange m s e
   page-span es ee = record { room = room; order = omega (arith, ends-at); inside = omega (arith, ends-at, page-end) }
 
   -- a page with two rows leaves room for one page more

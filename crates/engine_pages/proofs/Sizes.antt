@@ -12,7 +12,7 @@ use Rattle.basics.proofs.Searches.{or-none}
 use Rattle.memory_layout.specs.Flat.{flatOf, capacityOf, rowIn, noRow, Room}
 use Rattle.memory_layout.specs.Views.{lengthOf, stateOf}
 use Rattle.memory_rows.proofs.Fields.{size-is}
-use Rattle.engine_pages.specs.Pages.{rowsFrom, Span}
+use Rattle.memory_layout.specs.Elements.{rowsFrom, RowRange}
 use Rattle.engine_pages.proofs.Places.{few-rows}
 
 -- ---- no row is large
@@ -96,6 +96,6 @@ pub record Turn (m : List ℕ) (s e i all w : ℕ) : Type 0 where
   pub small : w ≤ mostRecord
   pub size : w ≡ heldSize (rowIn (flatOf m) i)
 
-pub turn : {m : List ℕ} {s e i all w : ℕ} → Span m s e → s ≤ i → i < e → all ≤ mostRecord * (i - s) → (w ≡ heldSize (rowIn (flatOf m) i)) × (w ≤ mostRecord) → Turn m s e i all w
+pub turn : {m : List ℕ} {s e i all w : ℕ} → RowRange m s e → s ≤ i → i < e → all ≤ mostRecord * (i - s) → (w ≡ heldSize (rowIn (flatOf m) i)) × (w ≤ mostRecord) → Turn m s e i all w
 turn g least inside light es =
     record { least = least; inside = inside; most = g .inside; few = omega (arith, g .inside, few-rows (g .room)); light = light; small = es .1; size = es .0 }

@@ -10,7 +10,8 @@ use Rattle.memory_layout.specs.Flat.{flatOf, Becomes, withEntries}
 use Rattle.memory_layout.specs.Store.{pageOf, pageIn}
 use Rattle.memory_layout.proofs.Exchange.{page-split, counted-exchange}
 use Rattle.memory_pages.specs.Pages.{dirty, splitEntry}
-use Rattle.engine_pages.specs.Pages.{PagesNow, pagesOf, pageAt, tuplesAt, entryOf, firstRow, rowsFrom, There, swapped}
+use Rattle.engine_pages.specs.Pages.{PagesNow, pagesOf, pageAt, tuplesAt, entryOf, firstRow, There, swapped}
+use Rattle.memory_layout.specs.Elements.{rowsFrom}
 use Rattle.engine_pages.specs.Changes.{Dirty, Halved}
 use Rattle.engine_pages.proofs.Places.{now-to, now-stay, now-becomes, counted, full, swap-same, many, tuples-are, page-table}
 use Rattle.engine_pages.proofs.Sizes.{rows-small}

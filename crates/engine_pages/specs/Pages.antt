@@ -40,16 +40,6 @@ entryOf m p = entryIn (flatOf m) p
 abbrev pub firstRow : List ℕ → ℕ → ℕ
 firstRow m p = startOf (flatOf m) p
 
--- the rows from row s up to, not including, row e
-abbrev pub rowsFrom : List ℕ → ℕ → ℕ → List Held
-rowsFrom m s e = take (e - s) (drop s (flatOf m .rows))
-
--- the memory has room, and the rows from s up to e are there
-pub record Span (m : List ℕ) (s e : ℕ) : Type 0 where
-  pub room : Room m
-  pub order : s ≤ e
-  pub inside : e ≤ length (flatOf m .rows)
-
 -- the memory holds a store, and page p is there
 pub record There (m : List ℕ) (p : ℕ) : Type 0 where
   pub has-store : holdsStore m ≡ true

@@ -10,12 +10,13 @@ ghost use Rattle.basics.specs.Basics.{sum, any};
 ghost use Rattle.block_forms.specs.Limits.{joinSum};
 ghost use Rattle.model.specs.Rules.{heldSize, lead, joins, isAdding, isCommitting, isRemoving};
 ghost use Rattle.memory_layout.specs.Flat.{flatOf, rowIn, Room};
-ghost use Rattle.engine_pages.specs.Pages.{tuplesAt, rowsFrom, Span, There};
+ghost use Rattle.engine_pages.specs.Pages.{tuplesAt, There};
+ghost use Rattle.memory_layout.specs.Elements.{rowsFrom, RowRange};
 ghost use Rattle.engine_pages.specs.Pending.{waits};
 
 // The size of the rows from s up to e.
 pub fn rows_size(m: &[u8], s: usize, e: usize) -> usize
-    requires { ⌜ Span (now m) s e ⌝ }
+    requires { ⌜ RowRange (now m) s e ⌝ }
     ensures { λ r. ⌜ r ≡ sum heldSize (rowsFrom (now (m .entry)) s e) ⌝ }
 {
     let mut all: usize = 0;
@@ -29,7 +30,7 @@ pub fn rows_size(m: &[u8], s: usize, e: usize) -> usize
 
 // How many of the rows from s up to e the first part of a split gets: the fewest whose doubled size is at least the whole.
 pub fn half(m: &[u8], s: usize, e: usize, whole: usize) -> usize
-    requires { ⌜ Span (now m) s e ⌝ }
+    requires { ⌜ RowRange (now m) s e ⌝ }
     ensures { λ r. ⌜ r ≡ lead whole 0 (rowsFrom (now (m .entry)) s e) ⌝ }
 {
     let mut all: usize = 0;
@@ -46,7 +47,7 @@ pub fn half(m: &[u8], s: usize, e: usize, whole: usize) -> usize
 
 // Whether the rows from s up to e, those of two pages, are small enough for one page. Adding stops as soon as the sum is too large.
 pub fn small_enough(m: &[u8], s: usize, e: usize) -> bool
-    requires { ⌜ Span (now m) s e ⌝ }
+    requires { ⌜ RowRange (now m) s e ⌝ }
     ensures { λ r. ⌜ r ≡ leb (sum heldSize (rowsFrom (now (m .entry)) s e)) joinSum ⌝ }
 {
     let mut all: usize = 0;

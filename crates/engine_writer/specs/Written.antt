@@ -1,18 +1,18 @@
 -- The header to come; a row as a record; the rows of a page, and what they show.
-use Prim.Native.Nat.{ℕ, suc, _+_, _-_, _≤_, _<_}
+use Prim.Native.Nat.{ℕ, suc, _+_, _≤_, _<_}
 use mathlib.Core.Path.{_≡_}
 use mathlib.Core.List.{List}
-use lib.ListN.{length, take, drop}
+use lib.ListN.{length}
 use Rattle.block_forms.specs.Limits.{recordSpace}
 use Rattle.block_forms.specs.Tuple.{Tuple, sizes}
 use Rattle.block_forms.specs.Spell.{zeros}
 use Rattle.block_forms.specs.Bytes.{payloadIn, tupleOf}
 use Rattle.block_forms.specs.declared.Header.{Header}
 use Rattle.block_forms.specs.declared.Record.{Record}
-use Rattle.model.specs.State.{Held}
 use Rattle.model.specs.Rules.{shown}
 use Rattle.model.specs.Checkpoint.{headerFor}
-use Rattle.memory_layout.specs.Flat.{Flat, flatOf, Room}
+use Rattle.memory_layout.specs.Flat.{Flat}
+use Rattle.memory_layout.specs.Elements.{rowsFrom, RowRange}
 use Rattle.memory_layout.specs.Store.{storeOf}
 use Rattle.engine_writer.specs.declared.Shown.{Shown}
 
@@ -27,25 +27,21 @@ pub record Spells (m : List ℕ) (r : Record) (x : Tuple) : Type 0 where
 
 -- ---- the rows of a page
 
--- the rows from row s up to, not including, row e
-abbrev pub rowsIn : List ℕ → ℕ → ℕ → List Held
-rowsIn m s e = take (e - s) (drop s (flatOf m .rows))
-
--- the memory has room, and the rows from s up to e are there
-pub record Rows (m : List ℕ) (s e : ℕ) : Type 0 where
-  pub room : Room m
-  pub order : s ≤ e
-  pub inside : e ≤ length (flatOf m .rows)
-
 -- w counts the tuples ts and the bytes that their records take
 pub record Measures (w : Shown) (ts : List Tuple) : Type 0 where
   pub count : w .count ≡ length ts
   pub bytes : w .bytes ≡ sizes ts
 
+-- the rows are there, the table is one of the eight, and what is lent is a block long
+pub record PageInto (out m : List ℕ) (t s e : ℕ) : Type 0 where
+  pub rows : RowRange m s e
+  pub table : t < 8
+  pub size : length out ≡ 512
+
 -- the block is empty, the table is one of the eight, and what the rows show was measured and has room in a block
 pub record Fillable (block m : List ℕ) (t s e : ℕ) (w : Shown) : Type 0 where
   pub zero : block ≡ zeros 512
   pub table : t < 8
-  pub rows : Rows m s e
-  pub measured : Measures w (shown (rowsIn m s e))
+  pub rows : RowRange m s e
+  pub measured : Measures w (shown (rowsFrom m s e))
   pub fits : w .bytes ≤ recordSpace

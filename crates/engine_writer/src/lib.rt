@@ -8,7 +8,8 @@ ghost use Rattle.block_forms.specs.Block.{header, page, directory, encodeBlock}
 ghost use Rattle.model.specs.Rules.{isAdding, shown};
 ghost use Rattle.model.specs.Checkpoint.{storable};
 ghost use Rattle.memory_layout.specs.Flat.{flatOf, rowIn, Room};
-ghost use Rattle.engine_writer.specs.Written.{nextHeader, Spells, rowsIn, Rows, Measures, Fillable};
+ghost use Rattle.engine_writer.specs.Written.{nextHeader, Spells, Measures, PageInto, Fillable};
+ghost use Rattle.memory_layout.specs.Elements.{rowsFrom, RowRange};
 use memory_rows::Pending;
 
 // ---- the header
@@ -119,8 +120,8 @@ struct Shown {
 
 // What the rows from row s up to, not including, row e show.
 fn measure(m: &[u8], s: usize, e: usize) -> Shown
-    requires { ⌜ Rows (now m) s e ⌝ }
-    ensures { λ r. ⌜ Measures r (shown (rowsIn (now (m .entry)) s e)) ⌝ }
+    requires { ⌜ RowRange (now m) s e ⌝ }
+    ensures { λ r. ⌜ Measures r (shown (rowsFrom (now (m .entry)) s e)) ⌝ }
 {
     let mut count: u32 = 0;
     let mut bytes: usize = 0;
@@ -142,7 +143,7 @@ fn measure(m: &[u8], s: usize, e: usize) -> Shown
 // The page of what these rows show, in a block of zeros: its head, then record after record.
 fn fill_page(block: &mut [u8; 512], m: &[u8], table: u8, s: usize, e: usize, level: u32, w: Shown)
     requires { ⌜ Fillable (now block) (now m) table s e w ⌝ }
-    ensures { λ _. ⌜ now (block .exit) ≡ encodeBlock (page table level (shown (rowsIn (now (m .entry)) s e))) ⌝ }
+    ensures { λ _. ⌜ now (block .exit) ≡ encodeBlock (page table level (shown (rowsFrom (now (m .entry)) s e))) ⌝ }
 {
     block_forms::begin_page(block, table as u32, w.count, w.bytes as u32, level);
     let mut at: usize = block_forms::PageLayout::HEAD_SIZE;
@@ -159,8 +160,8 @@ fn fill_page(block: &mut [u8; 512], m: &[u8], table: u8, s: usize, e: usize, lev
 // The block of a page whose rows go from row s up to, not including, row e: what it showed when it was frozen, and nothing if that is
 // more than a block has room for.
 pub fn write_page(out: &mut [u8], m: &[u8], table: u8, s: usize, e: usize, level: u32)
-    requires { ⌜ Room (now m) × (((s ≤ e) × (e ≤ length (flatOf (now m) .rows))) × ((table < 8) × (length (now out) ≡ 512))) ⌝ }
-    ensures { λ _. ⌜ now (out .exit) ≡ encodeBlock (page table level (storable (shown (take (e - s) (drop s (flatOf (now (m .entry)) .rows)))))) ⌝ }
+    requires { ⌜ PageInto (now out) (now m) table s e ⌝ }
+    ensures { λ _. ⌜ now (out .exit) ≡ encodeBlock (page table level (storable (shown (rowsFrom (now (m .entry)) s e)))) ⌝ }
 {
     let w = measure(m, s, e);
     let mut block = [0u8; 512];

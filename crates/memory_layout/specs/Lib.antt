@@ -2,4 +2,5 @@ pub mod Places
 pub mod Views
 pub mod Opens
 pub mod Flat
+pub mod Elements
 pub mod Store

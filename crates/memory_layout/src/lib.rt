@@ -19,7 +19,8 @@ ghost use Rattle.memory_bytes.specs.Bytes.{Apart};
 ghost use Rattle.basics.specs.Lists.{removeAt};
 ghost use Rattle.memory_layout.specs.Views.{headOf, countsOf};
 ghost use Rattle.memory_layout.specs.Flat.{flatOf, Room, Replaces, Becomes, withHead, withOpens, withNamed, withDirectories, withUsed, noOpen, usedAnd};
-ghost use Rattle.memory_layout.specs.Opens.{activeOf, OpenFits, findOpen, oneIf};
+ghost use Rattle.memory_layout.specs.Opens.{activeOf, findOpen, oneIf};
+ghost use Rattle.memory_layout.specs.Elements.{OpenAt, OpenMore, NamedAt, NamedMore, DirectoryMore};
 ghost use Rattle.memory_layout.specs.Store.{holdsStore, FreshFits, freshFlat, storeIn};
 
 // What a memory that holds a store begins with: V, O, Z and the layout's version.
@@ -206,14 +207,14 @@ pub fn find_open(m: &[u8], transaction: u64) -> usize
 }
 
 pub fn put_open(m: &mut [u8], i: usize, o: Open)
-    requires { ⌜ Room (now m) × ((i < length (flatOf (now m) .opens)) × OpenFits o) ⌝ }
+    requires { ⌜ Room (now m) × OpenAt (flatOf (now m)) i o ⌝ }
     ensures { λ _. ⌜ Becomes (now (m .entry)) (now (m .exit)) (withOpens (flatOf (now (m .entry))) (set (flatOf (now (m .entry)) .opens) i (activeOf o))) ⌝ }
 {
     memory_bytes::put4(m, OPENS + i * 4, o.transaction * WRITTEN_LIMIT + o.written);
 }
 
 pub fn push_open(m: &mut [u8], o: Open)
-    requires { ⌜ Room (now m) × ((length (flatOf (now m) .opens) < 64) × OpenFits o) ⌝ }
+    requires { ⌜ Room (now m) × OpenMore (flatOf (now m)) o ⌝ }
     ensures { λ _. ⌜ Becomes (now (m .entry)) (now (m .exit)) (withOpens (flatOf (now (m .entry))) (flatOf (now (m .entry)) .opens ++ activeOf o ∷ [])) ⌝ }
 {
     let n = memory_bytes::get4(m, OPEN_COUNT);
@@ -250,7 +251,7 @@ pub fn get_named(m: &[u8], i: usize) -> u16
 }
 
 pub fn put_named(m: &mut [u8], i: usize, b: u16)
-    requires { ⌜ Room (now m) × ((i < length (flatOf (now m) .named)) × (b < 4096)) ⌝ }
+    requires { ⌜ Room (now m) × NamedAt (flatOf (now m)) i b ⌝ }
     ensures { λ _. ⌜ Becomes (now (m .entry)) (now (m .exit)) (withNamed (flatOf (now (m .entry))) (set (flatOf (now (m .entry)) .named) i b)) ⌝ }
 {
     let a = named_place(m, i);
@@ -258,7 +259,7 @@ pub fn put_named(m: &mut [u8], i: usize, b: u16)
 }
 
 pub fn push_named(m: &mut [u8], b: u16)
-    requires { ⌜ Room (now m) × ((length (flatOf (now m) .named) < flatOf (now m) .head .capacity) × (b < 4096)) ⌝ }
+    requires { ⌜ Room (now m) × NamedMore (flatOf (now m)) b ⌝ }
     ensures { λ _. ⌜ Becomes (now (m .entry)) (now (m .exit)) (withNamed (flatOf (now (m .entry))) (flatOf (now (m .entry)) .named ++ b ∷ [])) ⌝ }
 {
     let n = memory_bytes::get4(m, NAMED_COUNT);
@@ -284,7 +285,7 @@ pub fn get_directory(m: &[u8], i: usize) -> u32
 }
 
 pub fn push_directory(m: &mut [u8], b: u32)
-    requires { ⌜ Room (now m) × ((length (flatOf (now m) .directories) < 4) × (b < 4096)) ⌝ }
+    requires { ⌜ Room (now m) × DirectoryMore (flatOf (now m)) b ⌝ }
     ensures { λ _. ⌜ Becomes (now (m .entry)) (now (m .exit)) (withDirectories (flatOf (now (m .entry))) (flatOf (now (m .entry)) .directories ++ b ∷ [])) ⌝ }
 {
     let n = memory_bytes::get4(m, DIRECTORY_COUNT);

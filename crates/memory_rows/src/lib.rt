@@ -36,6 +36,7 @@ ghost use Rattle.basics.specs.Lists.{tab, insertAt, removeAt, firstIndex, lastI
 ghost use Rattle.memory_layout.specs.Places.{slotSize};
 ghost use Rattle.memory_layout.specs.Views.{lengthOf, slotPlace, pendingOf};
 ghost use Rattle.memory_layout.specs.Flat.{flatOf, rowIn, Room, Becomes};
+ghost use Rattle.memory_layout.specs.Elements.{RowRange};
 ghost use Rattle.block_forms.specs.Bytes.{ownerIs};
 ghost use Rattle.memory_rows.specs.Rows.{pendingIs, heldBy, committedRow, isLiveOwn, isOwned, withRow, keyIn, Holds, Copied, NewRow, RowsOnly};
 ghost use Rattle.memory_rows.specs.Cells.{codeOf, keepsOwner, InOrder, ColumnsFit, CellsPut, SlotFilled};
@@ -256,7 +257,7 @@ pub fn set_pending(m: &mut [u8], i: usize, p: Pending)
 
 // The row behind the last one whose key is not above this key, or s if there is none.
 pub fn last_up_to(m: &[u8], s: usize, e: usize, key: u32) -> usize
-    requires { ⌜ Room (now m) × ((s ≤ e) × (e ≤ length (flatOf (now m) .rows))) ⌝ }
+    requires { ⌜ RowRange (now m) s e ⌝ }
     ensures { λ r. ⌜ r ≡ s + lastIndex (upTo key) (tab (keyIn (flatOf (now (m .entry)))) s (e - s)) ⌝ }
 {
     memory_bytes::search::last_up_to(m, keys_at(capacity(m)), s, e, key)
@@ -264,7 +265,7 @@ pub fn last_up_to(m: &[u8], s: usize, e: usize, key: u32) -> usize
 
 // The first row with the key, or e if there is none.
 pub fn find_equal(m: &[u8], s: usize, e: usize, key: u32) -> usize
-    requires { ⌜ Room (now m) × ((s ≤ e) × (e ≤ length (flatOf (now m) .rows))) ⌝ }
+    requires { ⌜ RowRange (now m) s e ⌝ }
     ensures { λ r. ⌜ r ≡ s + firstIndex (equals key) (tab (keyIn (flatOf (now (m .entry)))) s (e - s)) ⌝ }
 {
     memory_bytes::search::find_equal(m, keys_at(capacity(m)), s, e, key)
@@ -272,7 +273,7 @@ pub fn find_equal(m: &[u8], s: usize, e: usize, key: u32) -> usize
 
 // The row behind the last one with the key, or s if there is none.
 pub fn last_equal(m: &[u8], s: usize, e: usize, key: u32) -> usize
-    requires { ⌜ Room (now m) × ((s ≤ e) × (e ≤ length (flatOf (now m) .rows))) ⌝ }
+    requires { ⌜ RowRange (now m) s e ⌝ }
     ensures { λ r. ⌜ r ≡ s + lastIndex (equals key) (tab (keyIn (flatOf (now (m .entry)))) s (e - s)) ⌝ }
 {
     memory_bytes::search::last_equal(m, keys_at(capacity(m)), s, e, key)
@@ -280,7 +281,7 @@ pub fn last_equal(m: &[u8], s: usize, e: usize, key: u32) -> usize
 
 // Rows between which every row with the key stands: from the first to behind the last one, or none.
 pub fn span_equal(m: &[u8], s: usize, e: usize, key: u32) -> Span
-    requires { ⌜ Room (now m) × ((s ≤ e) × (e ≤ length (flatOf (now m) .rows))) ⌝ }
+    requires { ⌜ RowRange (now m) s e ⌝ }
     ensures { λ r. ⌜ Covers (keyIn (flatOf (now (m .entry)))) key s e (r .first) (r .last) ⌝ }
 {
     memory_bytes::search::span_equal(m, keys_at(capacity(m)), s, e, key)

@@ -12,14 +12,17 @@ table-rows-requires : tie.Need-table-rows-requires
 table-rows-requires c κs = let st = c .before in (holds-room (st .args .m .now) (st .pre .0), st .pre .1)
 
 last-up-to-requires : tie.Need-last-up-to-requires
-last-up-to-requires c κs = let st = c .before .before in (holds-room (st .args .m .now) (st .pre .0), (c .table-rows .ensures .order, c .table-rows .ensures .inside))
+last-up-to-requires c κs =
+    let st = c .before .before in
+    let g = c .table-rows .ensures in
+    record { room = holds-room (st .args .m .now) (st .pre .0); order = g .order; inside = g .inside }
 
 search-range-requires : tie.Need-search-range-requires
 search-range-requires c κs =
     let st = c .before .before .before in
     let g = c .before .table-rows in
     let j = last-in (flatOf (st .args .m .now)) (st .args .key) (g .result .start) (g .result .end) (g .ensures .order) (upTo (st .args .key)) (c .last-up-to .ensures) in
-    (holds-room (st .args .m .now) (st .pre .0), (j .0, omega (arith, j .1, g .ensures .inside)))
+    record { room = holds-room (st .args .m .now) (st .pre .0); order = j .0; inside = omega (arith, j .1, g .ensures .inside) }
 
 returns : tie.Need-returns
 returns c =

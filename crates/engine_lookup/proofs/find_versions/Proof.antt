@@ -8,7 +8,10 @@ table-rows-requires : tie.Need-table-rows-requires
 table-rows-requires c κs = let st = c .before in (holds-room (st .args .m .now) (st .pre .0), st .pre .1)
 
 search-span-requires : tie.Need-search-span-requires
-search-span-requires c κs = let st = c .before .before in (holds-room (st .args .m .now) (st .pre .0), (c .table-rows .ensures .order, c .table-rows .ensures .inside))
+search-span-requires c κs =
+    let st = c .before .before in
+    let g = c .table-rows .ensures in
+    record { room = holds-room (st .args .m .now) (st .pre .0); order = g .order; inside = g .inside }
 
 returns : tie.Need-returns
 returns c =

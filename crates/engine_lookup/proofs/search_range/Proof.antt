@@ -13,16 +13,20 @@ last-equal-requires : tie.Need-last-equal-requires
 last-equal-requires c κs =
     let st = c .before .before in
     let a = st .args in
-    (st .pre .0, (first-in (keyIn (flatOf (a .m .now))) (a .key) (a .s) (a .e) (st .pre .1 .0) (c .find-equal .ensures), st .pre .1 .1))
+    record {
+      room = st .pre .room;
+      order = first-in (keyIn (flatOf (a .m .now))) (a .key) (a .s) (a .e) (st .pre .order) (c .find-equal .ensures);
+      inside = st .pre .inside;
+    }
 
 note-rows-requires : tie.Need-note-rows-requires
 note-rows-requires c κs =
     let p2 = c .before .before in
     let st = p2 .before .before in
     let a = st .args in
-    let i = first-in (keyIn (flatOf (a .m .now))) (a .key) (a .s) (a .e) (st .pre .1 .0) (p2 .find-equal .ensures) in
+    let i = first-in (keyIn (flatOf (a .m .now))) (a .key) (a .s) (a .e) (st .pre .order) (p2 .find-equal .ensures) in
     let j = last-in (flatOf (a .m .now)) (a .key) (p2 .find-equal .result) (a .e) i (equals (a .key)) (c .before .last-equal .ensures) in
-    (st .pre .0, omega (arith, j .1, st .pre .1 .1))
+    (st .pre .room, omega (arith, j .1, st .pre .inside))
 
 returns : tie.Need-returns
 returns c =
@@ -30,7 +34,7 @@ returns c =
     let st = p2 .before .before .before in
     let a = st .args in
     range-noted (flatOf (a .m .now)) (a .transaction) (c .note-rows .ensures) (c .before .no-version .ensures)
-    (found-covers (keyIn (flatOf (a .m .now))) (a .key) (a .s) (a .e) _ _ (st .pre .1 .0) (omega (arith, p2 .before .find-equal .ensures)) (omega (arith, p2 .last-equal .ensures)))
+    (found-covers (keyIn (flatOf (a .m .now))) (a .key) (a .s) (a .e) _ _ (st .pre .order) (omega (arith, p2 .before .find-equal .ensures)) (omega (arith, p2 .last-equal .ensures)))
 
 pub search-range-spec : {M : Type 1} → statement M
 search-range-spec = tie.close (tie.spec (λ c κs. search needs) last-equal-requires (λ c κs. search needs) note-rows-requires returns)

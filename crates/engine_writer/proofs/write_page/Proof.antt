@@ -6,7 +6,7 @@ use Rattle.block_forms.specs.Block.{page, encodeBlock}
 use Rattle.block_forms.proofs.Laws.{encode-length}
 use Rattle.model.specs.Rules.{shown}
 use Rattle.model.specs.Checkpoint.{storable}
-use Rattle.engine_writer.specs.Written.{rowsIn}
+use Rattle.memory_layout.specs.Elements.{rowsFrom}
 use Rattle.engine_writer.proofs.Writing.{empty-page, storable-all, storable-none}
 use Rattle.engine_writer.proofs.write_page.Statement.{statement}
 use Rattle.engine_writer.proofs.write_page.Tie as tie
@@ -18,15 +18,15 @@ fill-page-requires c κs =
     let s = g .before .before .before in
     record {
       zero = refl;
-      table = s .pre .1 .1 .0;
-      rows = record { room = s .pre .0; order = s .pre .1 .0 .0; inside = s .pre .1 .0 .1 };
+      table = s .pre .table;
+      rows = s .pre .rows;
       measured = g .measure .ensures;
       fits = leb-true _ recordSpace (sym (f .fits2 .ensures) ∙ c .before .if1 .taken);
     }
 
 -- the block that is built
 made : (c : tie.Joined1) → let a = c .before .before .before .before .before .args in
-    c .if1 .block ≡ encodeBlock (page (a .table) (a .level) (storable (shown (rowsIn (a .m .now) (a .s) (a .e)))))
+    c .if1 .block ≡ encodeBlock (page (a .table) (a .level) (storable (shown (rowsFrom (a .m .now) (a .s) (a .e)))))
 made c =
     let f = c .before in
     let g = f .before in
@@ -34,7 +34,7 @@ made c =
     let store : List Tuple → List ℕ = λ ts. encodeBlock (page (s .args .table) (s .args .level) ts) in
     ⊎-elim
     (λ a. a .3 ∙ a .2 .ensures ∙ ap store (sym (storable-all (g .measure .ensures) (sym (f .fits2 .ensures) ∙ a .0 .taken))))
-    (λ a. a .3 ∙ a .2 .ensures ∙ empty-page (s .pre .1 .1 .0) (omega (arith, s .fits)) ∙ ap store (sym (storable-none (g .measure .ensures) (sym (f .fits2 .ensures) ∙ a .0 .left))))
+    (λ a. a .3 ∙ a .2 .ensures ∙ empty-page (s .pre .table) (omega (arith, s .fits)) ∙ ap store (sym (storable-none (g .measure .ensures) (sym (f .fits2 .ensures) ∙ a .0 .left))))
     (c .if1 .came)
 
 whole : (c : tie.Joined1) → length (c .if1 .block) ≡ 512
@@ -44,7 +44,7 @@ slice-aggregate-copy-out : tie.Need-slice-aggregate-copy-out
 slice-aggregate-copy-out c = omega (arith, whole (c .before .before))
 
 copy-out-requires : tie.Need-copy-out-requires
-copy-out-requires c κs = let j = c .before .before in (j .before .before .before .before .before .pre .1 .1 .1, whole j)
+copy-out-requires c κs = let j = c .before .before in (j .before .before .before .before .before .pre .size, whole j)
 
 returns : tie.Need-returns
 returns c = c .before .before .copy-out .ensures ∙ made (c .before .before .before .before .before)

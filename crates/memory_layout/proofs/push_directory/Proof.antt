@@ -16,7 +16,7 @@ returns c = let v = c .before .before in
     let w = v .before .before .before .before in
     let n = w .before .before in
     let st = n .before .before .before in
-    directory-push (st .args .b) (st .pre .0) (n .get4 .ensures) (st .pre .1 .0) (st .pre .1 .1) (w .put4 .ensures) (v .put42 .ensures)
+    directory-push (st .args .b) (st .pre .0) (n .get4 .ensures) (st .pre .1 .few) (st .pre .1 .fits) (w .put4 .ensures) (v .put42 .ensures)
 
 pub push-directory-spec : {M : Type 1} → statement M
 push-directory-spec = tie.close (tie.spec (λ c κs. search needs) (search needs) (search needs) (search needs) put4-requires add-put4-2 (λ c κs. search needs) (search needs)

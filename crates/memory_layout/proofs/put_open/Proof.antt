@@ -17,7 +17,7 @@ put4-requires c κs = omega (arith, known _ (c .before .before .before .before .
 returns : tie.Need-returns
 returns c = let w = c .before .before in
     let st = w .before .before .before .before .before in
-    open-set (st .pre .0) (st .args .i) (st .args .o) (st .pre .1 .0) (st .pre .1 .1) (w .put4 .ensures)
+    open-set (st .pre .0) (st .args .i) (st .args .o) (st .pre .1 .inside) (st .pre .1 .fits) (w .put4 .ensures)
 
 pub put-open-spec : {M : Type 1} → statement M
 put-open-spec = tie.close (tie.spec mul-put4 add-put4 (search needs) (search needs) put4-requires (search needs) returns)

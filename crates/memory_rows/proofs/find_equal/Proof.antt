@@ -12,7 +12,7 @@ returns c =
     let p2 = c .before .before in
     let st = p2 .before .before in
     let a = st .args in
-    over-keys (a .m .now) (firstIndex (equals (a .key))) (a .s) (a .e) (st .pre .1 .1) (c .before .keys-at .ensures ∙ ap keysAt (p2 .capacity .ensures .is)) (c .find-equal .ensures)
+    over-keys (a .m .now) (firstIndex (equals (a .key))) (a .s) (a .e) (st .pre .inside) (c .before .keys-at .ensures ∙ ap keysAt (p2 .capacity .ensures .is)) (c .find-equal .ensures)
 
 pub find-equal-spec : {M : Type 1} → statement M
 find-equal-spec = tie.close (tie.spec (λ c κs. search needs) (λ c κs. search needs) (λ c κs. search needs) returns)

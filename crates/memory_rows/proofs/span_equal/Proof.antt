@@ -10,7 +10,7 @@ returns c =
     let p2 = c .before .before in
     let st = p2 .before .before in
     let a = st .args in
-    covers-keys (a .m .now) (st .pre .1 .1) (c .before .keys-at .ensures ∙ ap keysAt (p2 .capacity .ensures .is)) (c .span-equal .ensures)
+    covers-keys (a .m .now) (st .pre .inside) (c .before .keys-at .ensures ∙ ap keysAt (p2 .capacity .ensures .is)) (c .span-equal .ensures)
 
 pub span-equal-spec : {M : Type 1} → statement M
 span-equal-spec = tie.close (tie.spec (λ c κs. search needs) (λ c κs. search needs) (λ c κs. search needs) returns)

@@ -2,7 +2,7 @@
 use Rattle.basics.proofs.Kit.{_≡_, sym, ap, ℕ, _+_, _*_, _≤_, _-_, arith}
 use Rattle.block_forms.specs.Limits.{mostRecord}
 use Rattle.engine_pages.proofs.Sizes.{Turn, turn, lead-stop, lead-go, lead-end}
-use Rattle.engine_pages.specs.Pages.{rowsFrom}
+use Rattle.memory_layout.specs.Elements.{rowsFrom}
 use Rattle.model.specs.Rules.{lead}
 use Rattle.memory_layout.specs.Flat.{flatOf}
 use Rattle.engine_pages.proofs.measures.half.Statement.{statement}

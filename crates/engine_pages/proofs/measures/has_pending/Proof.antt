@@ -3,7 +3,8 @@ use Rattle.basics.proofs.Kit.{_≡_, refl, sym, ap, _∙_, _||_, _≤_, _-_, ar
 use Rattle.engine_pages.proofs.Sizes.{any-turn, any-end}
 use Rattle.engine_pages.proofs.Places.{few-pages, few-rows, room, start-there, next-there, page-span, tuples-are}
 use Rattle.engine_pages.specs.Pending.{waits}
-use Rattle.engine_pages.specs.Pages.{tuplesAt, rowsFrom, Span}
+use Rattle.engine_pages.specs.Pages.{tuplesAt}
+use Rattle.memory_layout.specs.Elements.{rowsFrom, RowRange}
 use Rattle.basics.specs.Basics.{any}
 use Rattle.engine_pages.proofs.measures.has_pending.Statement.{statement}
 use Rattle.engine_pages.proofs.measures.has_pending.Tie as tie
@@ -24,7 +25,7 @@ start-of-requires-2 : tie.Need-start-of-requires-2 Inv-loop μ-loop
 start-of-requires-2 c κs = start-there (c .before .before .pre)
 
 -- the rows of the page
-spanned : (c : tie.After-start-of2 Inv-loop μ-loop) → Span (c .before .before .before .args .m .now) (c .start-of2 .result) (c .before .start-of .result)
+spanned : (c : tie.After-start-of2 Inv-loop μ-loop) → RowRange (c .before .before .before .args .m .now) (c .start-of2 .result) (c .before .start-of .result)
 spanned c = page-span (c .before .before .before .pre) (c .start-of2 .ensures .0) (c .before .start-of .ensures .0)
 
 tuples : (c : tie.After-start-of2 Inv-loop μ-loop) → let a = c .before .before .before .args in

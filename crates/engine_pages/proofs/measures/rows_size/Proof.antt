@@ -1,7 +1,7 @@
 -- `engine_pages::measures::rows_size` meets its contract. The invariant: the sum is `all` plus the sizes of the rows from i on.
 use Rattle.basics.proofs.Kit.{_≡_, _+_, _*_, _≤_, _-_, arith}
 use Rattle.engine_pages.proofs.Sizes.{Turn, turn, sum-next, sum-none}
-use Rattle.engine_pages.specs.Pages.{rowsFrom}
+use Rattle.memory_layout.specs.Elements.{rowsFrom}
 use Rattle.model.specs.Rules.{heldSize}
 use Rattle.basics.specs.Basics.{sum}
 use Rattle.block_forms.specs.Limits.{mostRecord}

@@ -3,7 +3,7 @@ use Rattle.basics.proofs.Kit.{_≡_, sym, _∙_, _+_, _≤_, _-_, not-true, not
 use Rattle.basics.specs.Basics.{sum}
 use Rattle.block_forms.specs.Limits.{joinSum}
 use Rattle.model.specs.Rules.{heldSize}
-use Rattle.engine_pages.specs.Pages.{rowsFrom}
+use Rattle.memory_layout.specs.Elements.{rowsFrom}
 use Rattle.engine_pages.proofs.Sizes.{sum-next, sum-none}
 use Rattle.engine_pages.proofs.measures.small_enough.Statement.{statement}
 use Rattle.engine_pages.proofs.measures.small_enough.Tie as tie
