@@ -38,6 +38,28 @@ sameKey y x = isAt (y .0) (y .1 .tuple .key) (x .0, x .1 .tuple)
 unfoldable pub isOwnRow : ℕ → List (ℕ × Held) → ℕ → Bool
 isOwnRow tx xs i = isLiveOwn tx (rowFrom xs i .1)
 
+-- there are rows from row i up to, not including, row e
+pub record Part (xs : List (ℕ × Held)) (i e : ℕ) : Type 0 where
+  pub order : i ≤ e
+  pub inside : e ≤ length xs
+
+-- the same, and row i is own
+pub record OwnPart (xs : List (ℕ × Held)) (tx i e : ℕ) : Type 0 where
+  pub order : i < e
+  pub inside : e ≤ length xs
+  pub own : isOwnRow tx xs i ≡ true
+
+-- row i is there, and row `from` does not come after it
+pub record RowSince (xs : List (ℕ × Held)) (from i : ℕ) : Type 0 where
+  pub order : from ≤ i
+  pub inside : i < length xs
+
+-- r is the larger of a and b
+pub record Larger (a b r : ℕ) : Type 0 where
+  pub first : a ≤ r
+  pub second : b ≤ r
+  pub which : a < r → r ≡ b
+
 -- r is the first own row from row i up to, not including, row e; e if there is none
 pub record NextOwn (xs : List (ℕ × Held)) (tx i e r : ℕ) : Type 0 where
   pub low : i ≤ r

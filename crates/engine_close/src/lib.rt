@@ -11,7 +11,7 @@ ghost use Rattle.memory_layout.specs.Flat.{flatOf, Room};
 ghost use Rattle.memory_layout.specs.Store.{storeOf, holdsStore, HoldsNow};
 ghost use Rattle.memory_pages.specs.Pages.{PageOf};
 ghost use Rattle.engine_pages.specs.Pages.{withPages, PagesNow, pagesOf};
-ghost use Rattle.engine_close.specs.Close.{taggedOf, rowFrom, isLive, isOwnRow, NextOwn, RowsFrom, RunFrom, RunTo, NewestOwn};
+ghost use Rattle.engine_close.specs.Close.{taggedOf, rowFrom, isLive, Part, OwnPart, RowSince, Larger, NextOwn, RowsFrom, RunFrom, RunTo, NewestOwn};
 ghost use Rattle.engine_close.specs.Close.{closedFrom, abortedFrom, RowRemoved, LiveRemoved, Within, RunClosed, NextDone};
 
 // Rows that are looked at together.
@@ -84,7 +84,7 @@ fn is_live(m: &[u8], i: usize) -> bool
 
 // The first own row from row i up to, not including, row e; e if there is none.
 fn own_in(m: &[u8], i: usize, e: usize, transaction: u64) -> usize
-    requires { ⌜ Room (now m) × ((i ≤ e) × (e ≤ length (taggedOf (now m)))) ⌝ }
+    requires { ⌜ Room (now m) × Part (taggedOf (now m)) i e ⌝ }
     ensures { λ r. ⌜ NextOwn (taggedOf (now (m .entry))) transaction i e r ⌝ }
 {
     let mut r = i;
@@ -127,7 +127,7 @@ fn next_own(m: &[u8], i: usize, transaction: u64) -> usize
 
 // The last own row from row i, which is one, up to, not including, row e.
 fn newest_own(m: &[u8], i: usize, e: usize, transaction: u64) -> usize
-    requires { ⌜ Room (now m) × ((i < e) × ((e ≤ length (taggedOf (now m))) × (isOwnRow transaction (taggedOf (now m)) i ≡ true))) ⌝ }
+    requires { ⌜ Room (now m) × OwnPart (taggedOf (now m)) transaction i e ⌝ }
     ensures { λ r. ⌜ NewestOwn (taggedOf (now (m .entry))) transaction i e r ⌝ }
 {
     let mut r = e - 1;
@@ -144,7 +144,7 @@ fn newest_own(m: &[u8], i: usize, e: usize, transaction: u64) -> usize
 
 // The larger of the two.
 fn later(a: usize, b: usize) -> usize
-    ensures { λ r. ⌜ (a ≤ r) × ((b ≤ r) × (a < r → r ≡ b)) ⌝ }
+    ensures { λ r. ⌜ Larger a b r ⌝ }
 {
     if a < b {
         return b;
@@ -154,7 +154,7 @@ fn later(a: usize, b: usize) -> usize
 
 // The first row of the run of row i, which is of table t; row `from`, if the run begins before it.
 fn run_start(m: &[u8], from: usize, i: usize, t: usize) -> usize
-    requires { ⌜ Room (now m) × ((from ≤ i) × (i < length (taggedOf (now m)))) ⌝ }
+    requires { ⌜ Room (now m) × RowSince (taggedOf (now m)) from i ⌝ }
     requires { ⌜ (t ≡ rowFrom (taggedOf (now m)) i .0) × (t < 8) ⌝ }
     ensures { λ r. ⌜ RunFrom (taggedOf (now (m .entry))) from i r ⌝ }
 {

@@ -39,7 +39,7 @@ table-there c = let p2 = c .before .before in
 
 run-start-requires : tie.Need-run-start-requires
 run-start-requires c κs = let p5 = c .before .before .before .before .before in let h = row-there p5 in
-    ((h .0, (p5 .before .before .before .next-own .ensures .low, h .1)), table-there (c .before))
+    ((h .0, record { order = p5 .before .before .before .next-own .ensures .low; inside = h .1 }), table-there (c .before))
 
 run-end-requires : tie.Need-run-end-requires
 run-end-requires c κs = let p3 = c .before .before .before in (row-there (p3 .before .before .before .before), table-there p3)
@@ -47,7 +47,7 @@ run-end-requires c κs = let p3 = c .before .before .before in (row-there (p3 .b
 newest-own-requires : tie.Need-newest-own-requires
 newest-own-requires c κs = let p9 = c .before .before .before .before .before .before .before .before .before in
     let h = row-there p9 in let t = c .before .run-end .ensures in
-    (h .0, (t .low, (t .most, p9 .before .before .before .next-own .ensures .found (h .1))))
+    (h .0, record { order = t .low; inside = t .most; own = p9 .before .before .before .next-own .ensures .found (h .1) })
 
 returns-2 : tie.Need-returns-2
 returns-2 c = let p2 = c .before .before in let p4 = p2 .before .before in let p6 = p4 .before .before in let p8 = p6 .before .before in

@@ -16,7 +16,7 @@ loop-holds : tie.Need-loop-holds Inv-loop μ-loop
 loop-holds c = (omega arith, (omega arith, λ j x y. absurd (omega arith)))
 
 owns-requires : tie.Need-owns-requires Inv-loop μ-loop
-owns-requires c κs = let st = c .before .before .before in (st .pre .0, omega (arith, st .pre .1 .1 .0, tagged-length (st .args .m .now) (st .pre .0)))
+owns-requires c κs = let st = c .before .before .before in (st .pre .0, omega (arith, st .pre .1 .inside, tagged-length (st .args .m .now) (st .pre .0)))
 
 returns : tie.Need-returns Inv-loop μ-loop
 returns c = let p3 = c .before .before .before in let st = p3 .before .before in
@@ -39,7 +39,7 @@ returns-2 c = let l = c .before .loop in let st = c .before .before .before in
     record {
       low = l .inv .0;
       high = l .inv .1 .0;
-      own = ap (isOwnRow (st .args .transaction) (taggedOf (st .args .m .now))) q ∙ st .pre .1 .1 .1;
+      own = ap (isOwnRow (st .args .transaction) (taggedOf (st .args .m .now))) q ∙ st .pre .1 .own;
       later = l .inv .1 .1;
     }
 

@@ -50,7 +50,7 @@ loop-again c = let p2 = c .before .before in let p3 = p2 .before in let st = p3 
 
 own-in-requires : tie.Need-own-in-requires Inv-loop μ-loop
 own-in-requires c κs = let p2 = c .before .before in let p4 = p2 .before .before in
-    (p4 .pre .0, (c .before .loop .inv .1 .0, omega (arith, p2 .row-count .ensures)))
+    (p4 .pre .0, record { order = c .before .loop .inv .1 .0; inside = omega (arith, p2 .row-count .ensures) })
 
 returns-2 : tie.Need-returns-2 Inv-loop μ-loop
 returns-2 c = let p2 = c .before .before in let p3 = p2 .before in let st = p3 .before .before in

@@ -12,10 +12,10 @@ abbrev μ-loop : tie.MeasureT-loop
 μ-loop m i e transaction r₀ r = e - r
 
 loop-holds : tie.Need-loop-holds Inv-loop μ-loop
-loop-holds c = (omega arith, (omega arith, λ j x y. absurd (omega arith)))
+loop-holds c = (omega arith, (omega (arith, c .before .pre .1 .order), λ j x y. absurd (omega arith)))
 
 owns-requires : tie.Need-owns-requires Inv-loop μ-loop
-owns-requires c κs = let st = c .before .before .before in (st .pre .0, omega (arith, st .pre .1 .1, tagged-length (st .args .m .now) (st .pre .0)))
+owns-requires c κs = let st = c .before .before .before in (st .pre .0, omega (arith, st .pre .1 .inside, tagged-length (st .args .m .now) (st .pre .0)))
 
 returns : tie.Need-returns Inv-loop μ-loop
 returns c = let p3 = c .before .before .before in let st = p3 .before .before in
