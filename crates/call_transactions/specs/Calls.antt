@@ -2,7 +2,7 @@
 use mathlib.Core.Path.{_≡_}
 use mathlib.Core.Bool.{Bool, true}
 use mathlib.Core.List.{List}
-use Prim.Native.Nat.{ℕ, _+_, _≤_, _<_}
+use Prim.Native.Nat.{ℕ, _+_, _*_, _≤_, _<_}
 use lib.ListN.{length, getD, set}
 use Rattle.block_forms.specs.Limits.{payloadLimit}
 use Rattle.block_forms.specs.Tuple.{tentative}
@@ -22,6 +22,12 @@ use Rattle.memory_pages.specs.Spots.{placeIn}
 -- open transaction i
 abbrev pub openIn : Flat → ℕ → Active
 openIn f i = getD (f .opens) i noOpen
+
+-- there are n open transactions, and the reply is long enough for their numbers
+pub record ListInto (m : List ℕ) (n : ℕ) (reply : List ℕ) : Type 0 where
+  pub room : Room m
+  pub count : n ≡ length (flatOf m .opens)
+  pub long : 2 * n ≤ length reply
 
 -- open transaction i may write: there is a number left
 pub record WriterAt (m : List ℕ) (i : ℕ) : Type 0 where

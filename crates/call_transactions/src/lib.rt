@@ -24,7 +24,7 @@ ghost use Rattle.memory_layout.specs.Store.{storeIn, storeOf, HoldsNow};
 ghost use Rattle.memory_layout.specs.Opens.{activeOf, OpenFits};
 ghost use Rattle.call_contracts.specs.Shape.{Answers, Replies, Lists, Made};
 ghost use Rattle.call_transactions.specs.Refusals.{verdictIn, makeVerdict};
-ghost use Rattle.call_transactions.specs.Calls.{WriterAt, NextRow, afterCount, AcceptAt};
+ghost use Rattle.call_transactions.specs.Calls.{ListInto, WriterAt, NextRow, afterCount, AcceptAt};
 
 const BLOCK_SIZE: usize = 512;
 
@@ -180,7 +180,7 @@ pub fn read(m: &[u8], transaction: u64, table: u64, key: u32, reply: &mut [u8]) 
 
 // The numbers of the open transactions, over the first bytes of the reply, high byte first.
 fn fill_list(m: &[u8], n: usize, reply: &mut [u8])
-    requires { ⌜ Room (now m) × ((n ≡ length (flatOf (now m) .opens)) × (2 * n ≤ length (now reply))) ⌝ }
+    requires { ⌜ ListInto (now m) n (now reply) ⌝ }
     ensures { λ _. ⌜ now (reply .exit) ≡ listing (openNumbers (flatOf (now (m .entry)) .opens)) ++ drop (2 * n) (now (reply .entry)) ⌝ }
 {
     let mut i: usize = 0;

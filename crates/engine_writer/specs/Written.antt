@@ -1,9 +1,9 @@
 -- The header to come; a row as a record; the rows of a page, and what they show.
-use Prim.Native.Nat.{ℕ, suc, _+_, _≤_, _<_}
+use Prim.Native.Nat.{ℕ, suc, _+_, _*_, _≤_, _<_}
 use mathlib.Core.Path.{_≡_}
 use mathlib.Core.List.{List}
 use lib.ListN.{length}
-use Rattle.block_forms.specs.Limits.{recordSpace}
+use Rattle.block_forms.specs.Limits.{recordSpace, entriesPerBlock, mostNumber}
 use Rattle.block_forms.specs.Tuple.{Tuple, sizes}
 use Rattle.block_forms.specs.Spell.{zeros}
 use Rattle.block_forms.specs.Bytes.{payloadIn, tupleOf}
@@ -19,6 +19,21 @@ use Rattle.engine_writer.specs.declared.Shown.{Shown}
 -- the header with which the running checkpoint ends
 abbrev pub nextHeader : Flat → Header
 nextHeader f = headerFor (storeOf f) (suc (f .head .level)) (f .head .begun) (length (f .named)) (f .directories)
+
+-- there is a level for the header to come, and what is lent is a block long
+pub record HeaderInto (out : List ℕ) (f : Flat) : Type 0 where
+  pub level : f .head .level < mostNumber
+  pub size : length out ≡ 512
+
+-- the list of pages has these entries, and they have room in a directory block
+pub record EntriesFrom (f : Flat) (first count : ℕ) : Type 0 where
+  pub few : count ≤ entriesPerBlock
+  pub inside : first + count ≤ length (f .named)
+
+-- the list of pages goes as far as directory block k, and what is lent is a block long
+pub record DirectoryInto (out : List ℕ) (f : Flat) (k : ℕ) : Type 0 where
+  pub start : entriesPerBlock * k ≤ length (f .named)
+  pub size : length out ≡ 512
 
 -- the record r, with its payload in m, is the tuple x
 pub record Spells (m : List ℕ) (r : Record) (x : Tuple) : Type 0 where

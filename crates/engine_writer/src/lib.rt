@@ -8,7 +8,7 @@ ghost use Rattle.block_forms.specs.Block.{header, page, directory, encodeBlock}
 ghost use Rattle.model.specs.Rules.{isAdding, shown};
 ghost use Rattle.model.specs.Checkpoint.{storable};
 ghost use Rattle.memory_layout.specs.Flat.{flatOf, rowIn, Room};
-ghost use Rattle.engine_writer.specs.Written.{nextHeader, Spells, Measures, PageInto, Fillable};
+ghost use Rattle.engine_writer.specs.Written.{nextHeader, HeaderInto, EntriesFrom, DirectoryInto, Spells, Measures, PageInto, Fillable};
 ghost use Rattle.memory_layout.specs.Elements.{rowsFrom, RowRange};
 use memory_rows::Pending;
 
@@ -29,7 +29,7 @@ fn directory_number(m: &[u8], i: usize) -> u32
 
 // The header to come, as the memory has it.
 pub fn write_header(out: &mut [u8], m: &[u8])
-    requires { ⌜ Room (now m) × ((flatOf (now m) .head .level < 4294967295) × (length (now out) ≡ 512)) ⌝ }
+    requires { ⌜ Room (now m) × HeaderInto (now out) (flatOf (now m)) ⌝ }
     ensures { λ _. ⌜ now (out .exit) ≡ encodeBlock (header (nextHeader (flatOf (now (m .entry))))) ⌝ }
 {
     let h = memory_layout::get_head(m);
@@ -53,7 +53,7 @@ pub fn write_header(out: &mut [u8], m: &[u8])
 
 // As many entries as `count` says of the list of pages at begin, from the entry `first` on.
 fn named_from(m: &[u8], first: usize, count: usize) -> [u16; block_forms::ENTRIES_PER_BLOCK]
-    requires { ⌜ Room (now m) × ((count ≤ entriesPerBlock) × (first + count ≤ length (flatOf (now m) .named))) ⌝ }
+    requires { ⌜ Room (now m) × EntriesFrom (flatOf (now m)) first count ⌝ }
     ensures { λ r. ⌜ take count r ≡ take count (drop first (flatOf (now (m .entry)) .named)) ⌝ }
 {
     let mut entries = [0u16; block_forms::ENTRIES_PER_BLOCK];
@@ -67,7 +67,7 @@ fn named_from(m: &[u8], first: usize, count: usize) -> [u16; block_forms::ENTRIE
 
 // Directory block k of the list of pages at begin.
 pub fn write_directory(out: &mut [u8], m: &[u8], k: usize, level: u32)
-    requires { ⌜ Room (now m) × ((entriesPerBlock * k ≤ length (flatOf (now m) .named)) × (length (now out) ≡ 512)) ⌝ }
+    requires { ⌜ Room (now m) × DirectoryInto (now out) (flatOf (now m)) k ⌝ }
     ensures { λ _. ⌜ now (out .exit) ≡ encodeBlock (directory level (take entriesPerBlock (drop (entriesPerBlock * k) (flatOf (now (m .entry)) .named)))) ⌝ }
 {
     let c = memory_layout::get_counts(m);

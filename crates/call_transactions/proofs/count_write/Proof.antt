@@ -25,7 +25,7 @@ put-open-requires : tie.Need-put-open-requires
 put-open-requires c κs =
     let h = c .before .before .before in
     let st = h .before .before .before .before .before .before .before .before .before in
-    (h .put-head .ensures .room, (omega (arith, st .pre .inside, same-opens (h .put-head .ensures)), h .before .before .one-more .ensures .1))
+    (h .put-head .ensures .room, record { inside = omega (arith, st .pre .inside, same-opens (h .put-head .ensures)); fits = h .before .before .one-more .ensures .1 })
 
 returns : tie.Need-returns
 returns c =

@@ -16,25 +16,25 @@ loop-holds : tie.Need-loop-holds Inv-loop μ-loop
 loop-holds c = let st = c .before .before in (omega arith, (refl, list-none (flatOf (st .args .m .now) .opens) (st .args .reply .now)))
 
 get-open-requires : tie.Need-get-open-requires Inv-loop μ-loop
-get-open-requires c κs = let st = c .before .before .before .before in (st .pre .0, omega (arith, st .pre .1 .0, c .loop-test .taken))
+get-open-requires c κs = let st = c .before .before .before .before in (st .pre .room, omega (arith, st .pre .count, c .loop-test .taken))
 
 mul-reply : tie.Need-mul-reply Inv-loop μ-loop
-mul-reply c = let st = c .before .before .before .before .before in omega (arith, st .pre .1 .1, c .before .loop-test .taken)
+mul-reply c = let st = c .before .before .before .before .before in omega (arith, st .pre .long, c .before .loop-test .taken)
 
 slice-write-reply : tie.Need-slice-write-reply Inv-loop μ-loop
-slice-write-reply c = let st = c .before .before .before .before .before in omega (arith, st .pre .1 .1, c .before .loop-test .taken, c .before .before .loop .inv .1 .0)
+slice-write-reply c = let st = c .before .before .before .before .before in omega (arith, st .pre .long, c .before .loop-test .taken, c .before .before .loop .inv .1 .0)
 
 mul-reply-2 : tie.Need-mul-reply-2 Inv-loop μ-loop
-mul-reply-2 c = let st = c .before .before .before .before .before in omega (arith, st .pre .1 .1, c .before .loop-test .taken)
+mul-reply-2 c = let st = c .before .before .before .before .before in omega (arith, st .pre .long, c .before .loop-test .taken)
 
 add-reply : tie.Need-add-reply Inv-loop μ-loop
-add-reply c = let st = c .before .before .before .before .before in omega (arith, st .pre .1 .1, c .before .loop-test .taken)
+add-reply c = let st = c .before .before .before .before .before in omega (arith, st .pre .long, c .before .loop-test .taken)
 
 slice-write-reply-2 : tie.Need-slice-write-reply-2 Inv-loop μ-loop
-slice-write-reply-2 c = let st = c .before .before .before .before .before in simp length-set (omega (arith, st .pre .1 .1, c .before .loop-test .taken, c .before .before .loop .inv .1 .0))
+slice-write-reply-2 c = let st = c .before .before .before .before .before in simp length-set (omega (arith, st .pre .long, c .before .loop-test .taken, c .before .before .loop .inv .1 .0))
 
 add-i : tie.Need-add-i Inv-loop μ-loop
-add-i c = let st = c .before .before .before .before .before in omega (arith, st .pre .1 .1, c .before .loop-test .taken)
+add-i c = let st = c .before .before .before .before .before in omega (arith, st .pre .long, c .before .loop-test .taken)
 
 loop-less : tie.Need-loop-less Inv-loop μ-loop
 loop-less c = omega (arith, c .before .loop-test .taken)
@@ -45,8 +45,8 @@ loop-again c = let l = c .before .before in
     let os : List Active = flatOf (st .args .m .now) .opens in
     let t = ap (λ (x : Active). x .transaction) (c .get-open .ensures) in
     let p : List ℕ = st .args .reply .now in
-    let lt : l .loop .i < length os = omega (arith, st .pre .1 .0, c .before .loop-test .taken) in
-    let fits : 2 * length os ≤ length p = omega (arith, st .pre .1 .0, st .pre .1 .1) in
+    let lt : l .loop .i < length os = omega (arith, st .pre .count, c .before .loop-test .taken) in
+    let fits : 2 * length os ≤ length p = omega (arith, st .pre .count, st .pre .long) in
     (omega (arith, c .before .loop-test .taken), (simp length-set (l .loop .inv .1 .0), list-turn os p (l .loop .i) lt fits (l .loop .reply) _ t (l .loop .inv .1 .1)))
 
 same-length : tie.Need-same-length Inv-loop μ-loop
@@ -55,7 +55,7 @@ same-length c = c .before .loop .inv .1 .0
 returns : tie.Need-returns Inv-loop μ-loop
 returns c = let l = c .before in
     let st = l .before .before .before in
-    list-end (flatOf (st .args .m .now) .opens) (st .args .reply .now) (st .args .n) (l .loop .i) (st .pre .1 .0) (c .loop-test .left) (l .loop .inv .0) _ (l .loop .inv .1 .1)
+    list-end (flatOf (st .args .m .now) .opens) (st .args .reply .now) (st .args .n) (l .loop .i) (st .pre .count) (c .loop-test .left) (l .loop .inv .0) _ (l .loop .inv .1 .1)
 
 pub fill-list-spec : {M : Type 1} → statement M
 fill-list-spec = tie.close (tie.spec Inv-loop μ-loop loop-holds get-open-requires (λ c. omega arith) mul-reply slice-write-reply (λ c. omega arith) mul-reply-2 add-reply

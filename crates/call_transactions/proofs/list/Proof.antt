@@ -32,7 +32,9 @@ returns-2 c = let e1 = c .before .before in
     (list-21 (length (a .reply .now)) (flatOf (a .m .now)) (omega (arith, c .before .open-count .ensures, c .if2 .taken))))
 
 fill-list-requires : tie.Need-fill-list-requires
-fill-list-requires c κs = (holds-room _ (has-store (c .before .before .before)), (c .before .before .open-count .ensures, omega (arith, c .before .if2 .left)))
+fill-list-requires c κs =
+    let e = c .before .before in
+    record { room = holds-room _ (has-store (e .before)); count = e .open-count .ensures; long = omega (arith, c .before .if2 .left) }
 
 returns-3 : tie.Need-returns-3
 returns-3 c = let e1 = c .before .before .before .before .before .before in

@@ -46,10 +46,10 @@ returns-4 c = let e2 = c .before .before .before .before .before .before in
 push-open-requires : tie.Need-push-open-requires
 push-open-requires c κs = let e2 = c .before .before .before .before .before .before .before in (
   holds-room _ (has-store (e2 .before)),
-  (
-    omega (arith, c .before .before .before .before .before .open-count .ensures, c .before .if4 .left),
-    record { transaction = omega (arith, e2 .if2 .left); written = omega arith },
-  ),
+  record {
+    few = omega (arith, c .before .before .before .before .before .open-count .ensures, c .before .if4 .left);
+    fits = record { transaction = omega (arith, e2 .if2 .left); written = omega arith };
+  },
 )
 
 returns-5 : tie.Need-returns-5

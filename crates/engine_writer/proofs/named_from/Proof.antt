@@ -17,10 +17,10 @@ loop-holds : tie.Need-loop-holds Inv-loop μ-loop
 loop-holds c = (refl, (omega arith, refl))
 
 add-get-named : tie.Need-add-get-named Inv-loop μ-loop
-add-get-named c = let s = c .before .before .before in omega (arith, named-few (s .args .m .now) (s .pre .0))
+add-get-named c = let s = c .before .before .before in omega (arith, s .pre .1 .inside, named-few (s .args .m .now) (s .pre .0))
 
 get-named-requires : tie.Need-get-named-requires Inv-loop μ-loop
-get-named-requires c κs = let s = c .before .before .before in (s .pre .0, omega arith)
+get-named-requires c κs = let s = c .before .before .before in (s .pre .0, omega (arith, s .pre .1 .inside))
 
 loop-again : tie.Need-loop-again Inv-loop μ-loop
 loop-again c = let s = c .before .before .before .before in

@@ -14,10 +14,10 @@ use Rattle.engine_writer.proofs.named_from.Reads as named-from-reads
 use Rattle.memory_layout.proofs.get_counts.Reads as get-counts-reads
 
 mul-first : tie.Need-mul-first
-mul-first c = let s = c .before .before .before in omega (arith, s .pre .1 .0, named-few (s .args .m .now) (s .pre .0))
+mul-first c = let s = c .before .before .before in omega (arith, s .pre .1 .start, named-few (s .args .m .now) (s .pre .0))
 
 sub-count : tie.Need-sub-count
-sub-count c = let s = c .before .before .before .before in omega (arith, s .pre .1 .0, count-named (s .args .m .now) (c .before .get-counts .ensures))
+sub-count c = let s = c .before .before .before .before in omega (arith, s .pre .1 .start, count-named (s .args .m .now) (c .before .get-counts .ensures))
 
 abbrev Joined : Type 0
 Joined =
@@ -30,11 +30,11 @@ run : (c : Joined) → let s = c .before .before .before .before .before in
 run c =
     let s = c .before .before .before .before .before in
     let n = count-named (s .args .m .now) (c .before .before .get-counts .ensures) in
-    let h = s .pre .1 .0 in
+    let h = s .pre .1 .start in
     ⊎-elim (λ w. run-full (omega (arith, w .0 .taken)) (omega (arith, w .1))) (λ w. run-last (omega (arith, w .1)) (omega (arith, w .0 .left, w .1))) (c .if1 .came)
 
 named-from-requires : tie.Need-named-from-requires
-named-from-requires c κs = (c .before .before .before .before .before .pre .0, (run c .few, run c .inside))
+named-from-requires c κs = (c .before .before .before .before .before .pre .0, record { few = run c .few; inside = run c .inside })
 
 part-write-directory-end : tie.Need-part-write-directory-end
 part-write-directory-end c = omega (arith, run (c .before .before .before .before) .few)

@@ -8,7 +8,7 @@ use Rattle.engine_writer.proofs.write_header.Statement.{statement}
 use Rattle.engine_writer.proofs.write_header.Tie as tie
 
 add-t6 : tie.Need-add-t6
-add-t6 c = omega (arith, c .before .before .before .before .before .pre .1 .0, ap (λ (x : Head). x .level) (c .before .before .get-head .ensures))
+add-t6 c = omega (arith, c .before .before .before .before .before .pre .1 .level, ap (λ (x : Head). x .level) (c .before .before .get-head .ensures))
 
 returns : tie.Need-returns
 returns c = let d3 = c .before .before .before .before in
