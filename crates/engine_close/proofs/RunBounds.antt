@@ -2,7 +2,7 @@
 use Rattle.basics.proofs.Kit.{_≡_, refl, sym, ap, _∙_, ⊎-elim, true, false, List, ℕ, _+_, _≤_, _<_, _-_, length, arith}
 use Rattle.basics.proofs.Facts.{by}
 use Rattle.model.specs.State.{Held}
-use Rattle.model.proofs.Fate.{at-split, at-join}
+use Rattle.model.proofs.RowAfter.{at-split, at-join}
 use Rattle.basics.proofs.Tabs.{lt-or-ge}
 use Rattle.memory_layout.specs.Views.{tableEnd}
 use Rattle.memory_layout.specs.Flat.{flatOf, rowIn, Room}

@@ -8,7 +8,7 @@ use Rattle.model.specs.State.{Held}
 use Rattle.model.specs.Rules.{isRemoving, applied}
 use Rattle.model.specs.Places.{removePlace, Placed, placed, continues, runs, liveOf, ownPlaced, removePlaces, planNewest, planRun, planRuns}
 use Rattle.basics.proofs.Elements.{all-append}
-use Rattle.model.proofs.Fate.{with-self, with-as, with-sym}
+use Rattle.model.proofs.RowAfter.{with-self, with-as, with-sym}
 use Rattle.model.proofs.Rows.{asRow}
 use Rattle.memory_rows.specs.Rows.{isLiveOwn}
 use Rattle.engine_close.specs.Close.{isLive, sameKey}

@@ -1,4 +1,4 @@
--- Commit and abort by number, a form between the rules, which go by place, and what becomes of the rows (Fate): a plan of operations on tuples by
+-- Commit and abort by number, a form between the rules, which go by place, and what becomes of the rows (RowAfter): a plan of operations on tuples by
 -- number, made from the live rows. ByPlace shows that on tuples that rise and have distinct numbers it is the same.
 use Rattle.basics.proofs.Kit.{_≡_, refl, sym, ap, _∙_, Bool, true, false, _&&_, not, none, Option, List, [], _∷_, _++_, map, ℕ, suc, _<_, eqb, length}
 use Rattle.basics.specs.Basics.{if_then_else_, any, keep, isEmpty}

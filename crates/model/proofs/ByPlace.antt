@@ -12,7 +12,7 @@ use Rattle.model.proofs.ByNumber.{perform, removeAll, planRows}
 use Rattle.model.proofs.Sound.{PageOk}
 use Rattle.model.proofs.Rows.{Entry, Sub, entries, asRow, held-plain, rows-live, pairs-plain, Differ}
 use Rattle.model.proofs.Placing.{Before}
-use Rattle.model.proofs.Fate.{With, gather, fate, perform-rows}
+use Rattle.model.proofs.RowAfter.{With, gather, rowAfter, perform-rows}
 use Rattle.model.proofs.Places.{tagged-entries, numberOf, numbers}
 use Rattle.model.proofs.Carry.{numbered, Rising, carry-out}
 use Rattle.model.proofs.Runs.{rowsIn, rows-placed, flat, Grouped, Risen, group-all}
@@ -97,11 +97,11 @@ module _ (ps : List Page) (rising : Pairs Before (held ps)) (differ : Pairs Diff
 
   -- so they do this to the rows
   pub commit-carried : AllOf PageOk ps → (tx : ℕ)
-      → Sub (held (committedPages tx ps)) (held ps) × (rows (committedPages tx ps) ≡ gather (fate (planRows tx (rows ps) (rows ps))) (rows ps))
+      → Sub (held (committedPages tx ps)) (held ps) × (rows (committedPages tx ps) ≡ gather (rowAfter (planRows tx (rows ps) (rows ps))) (rows ps))
   commit-carried ok tx = rw (commit-by-place tx) (perform-rows (planRows tx (rows ps) (rows ps)) ps ok differ)
 
   pub abort-carried : AllOf PageOk ps → (tx : ℕ)
-      → Sub (held (abortedPages tx ps)) (held ps) × (rows (abortedPages tx ps) ≡ gather (fate (removeAll (keep (isOwn tx) (rows ps)))) (rows ps))
+      → Sub (held (abortedPages tx ps)) (held ps) × (rows (abortedPages tx ps) ≡ gather (rowAfter (removeAll (keep (isOwn tx) (rows ps)))) (rows ps))
   abort-carried ok tx = rw (abort-by-place tx) (perform-rows (removeAll (keep (isOwn tx) (rows ps))) ps ok differ)
 
 -- a run among those that are grouped

@@ -16,7 +16,7 @@ use Rattle.model.proofs.Views.{put, recoverView, CutV, stop, torn, whol
 use Rattle.basics.proofs.Elements.{all-append, all-mapped}
 use Rattle.model.proofs.Recovery.{found}
 use Rattle.model.proofs.Effects.{unless-out}
-use Rattle.model.proofs.Quiet.{call-leaves}
+use Rattle.model.proofs.NoStores.{call-leaves}
 
 -- of a block that is written
 abbrev Apt : ℕ → Block → Type 0

@@ -9,7 +9,7 @@ use Rattle.model.specs.Transactions.{openNumbers}
 use Rattle.model.specs.Calls.{afterCalls, Call, AllTyped, Typed}
 use Rattle.model.specs.CrashRecovery.{log, isHeader, Same}
 use Rattle.model.proofs.Views.{AllSane, recoverView, CutV, WriteOk, CrashViews, WritesOk}
-use Rattle.model.proofs.Books.{once-many, Books, keeps-books, step-books}
+use Rattle.model.proofs.BlockUse.{once-many, BlockUse, keeps-books, step-books}
 use Rattle.model.proofs.Recovery.{Found, found}
 use Rattle.model.proofs.Inv.{Ready, Inv, Like}
 use Rattle.model.proofs.Steps.{Top}
@@ -18,7 +18,7 @@ use Rattle.model.proofs.Start.{start-idle, start-inv, start-books, star
 use Rattle.model.proofs.Valid.{Valid, Counted}
 use Rattle.model.proofs.Keeps.{keeps, step-valid}
 use Rattle.model.proofs.Whole.{Fitting, starts, ready, few-pages}
-use Rattle.model.proofs.Tally.{keeps-count, counted-step, writers-law}
+use Rattle.model.proofs.WriteCounts.{keeps-count, counted-step, writers-law}
 use Rattle.model.proofs.Range.{frozen-small, keeps-fits, step-fits, frozen-fit}
 
 module _ (v : View) (sane : AllSane v) (s : Store) (two : 2 ≤ s .blocks) (most : s .blocks ≤ 4096) (e : recoverView (s .blocks) v ≡ holds s) where
@@ -35,7 +35,7 @@ module _ (v : View) (sane : AllSane v) (s : Store) (two : 2 ≤ s .blocks) (most
   unfolding afterCalls
   start-now = start-inv (s .blocks) v s at-start start-ready
 
-  start-books′ : Books s
+  start-books′ : BlockUse s
   start-books′ = start-books (s .blocks) v s two most sane at-start
 
   all-calls : (calls : List Call) → AllOf (λ c. Unit {0}) calls
@@ -51,7 +51,7 @@ module _ (v : View) (sane : AllSane v) (s : Store) (two : 2 ≤ s .blocks) (most
       → ((v′ : View) (base : List Call) → CutV v [] (log [] [] s calls) v′ base → (r : Store) × (recoverView (s .blocks) v′ ≡ holds r) × Like r (afterCalls base s))
       × AllOf (λ w. isHeader w ≡ true → Top (w .write .what) (afterCalls (w .before) s)) (log [] [] s calls)
   claims calls =
-      let g = main (s .blocks) s (λ c. Unit {0}) (λ t. Valid t × Counted t × Books t)
+      let g = main (s .blocks) s (λ c. Unit {0}) (λ t. Valid t × Counted t × BlockUse t)
       (λ c t o k. (keeps c t (k .0) (k .1), keeps-count c t (k .0) (k .1), keeps-books c t (few-pages t (k .0)) (k .2)))
       (λ t k. (step-valid t (k .0), counted-step t (k .0) (k .1), step-books t (k .2))) (λ t k. ready t (k .0)) (λ t k. k .2) (λ t k. frozen-small t (k .0))
       calls [] [] [] v s start-after (all-calls calls) (start-valid .0, start-valid .1, start-books′) start-now in
@@ -78,7 +78,7 @@ module _ (v : View) (sane : AllSane v) (s : Store) (two : 2 ≤ s .blocks) (most
 
   writes-range : (calls : List Call) → AllTyped calls → AllOf (WriteOk (s .blocks)) (log [] [] s calls)
   writes-range calls a =
-      main (s .blocks) s Typed (λ t. Valid t × Counted t × Books t × Fitting t)
+      main (s .blocks) s Typed (λ t. Valid t × Counted t × BlockUse t × Fitting t)
       (λ c t o k. (keeps c t (k .0) (k .1), keeps-count c t (k .0) (k .1), keeps-books c t (few-pages t (k .0)) (k .2), keeps-fits c t o (k .0) (k .1) (k .3)))
       (λ t k. (step-valid t (k .0), counted-step t (k .0) (k .1), step-books t (k .2), step-fits t (k .0) (k .3)))
       (λ t k. ready t (k .0)) (λ t k. k .2) (λ t k. frozen-small t (k .0))

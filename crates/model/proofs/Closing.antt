@@ -11,7 +11,7 @@ use Rattle.basics.proofs.Elements.{mem-all, and-yes, last-off, last-mem, eqb-se
 use Rattle.model.proofs.ByNumber.{isRow, ownAt}
 use Rattle.model.proofs.Owners.{in-others}
 use Rattle.model.proofs.Rows.{kept-row, Differ}
-use Rattle.model.proofs.Fate.{gather, With, verdict, at-join, afterCommit, at-split, row-number, gather-ext, afterAbort}
+use Rattle.model.proofs.RowAfter.{gather, With, byNewest, at-join, afterCommit, at-split, row-number, gather-ext, afterAbort}
 use Rattle.model.proofs.Valid.{LiveOk, Opened, Chain}
 
 -- ---- what comes of a row r
@@ -175,21 +175,21 @@ gather-none F (r ∷ rs) h = rw (h .0) (gather-none F rs (h .1))
 
 -- ---- commit
 
-verdict-all : (P : Row → Type 0) (o : Option Row) (r : Row) → (o ≡ none → P r)
-    → ((x : Row) → o ≡ some x → x .1 .mark ≡ false → isRow (number x) r ≡ true → P (x .0, asCommitted (x .1))) → AllOf P (verdict o r)
-unfolding verdict
-verdict-all P none r f g = (f refl, tt)
-verdict-all P (some x) r f g = go (x .1 .mark) refl (isRow (number x) r) refl
+newest-all : (P : Row → Type 0) (o : Option Row) (r : Row) → (o ≡ none → P r)
+    → ((x : Row) → o ≡ some x → x .1 .mark ≡ false → isRow (number x) r ≡ true → P (x .0, asCommitted (x .1))) → AllOf P (byNewest o r)
+unfolding byNewest
+newest-all P none r f g = (f refl, tt)
+newest-all P (some x) r f g = go (x .1 .mark) refl (isRow (number x) r) refl
   where
     go : (m : Bool) → x .1 .mark ≡ m → (b : Bool) → isRow (number x) r ≡ b → AllOf P (if m then [] else if b then kept-row x else [])
     go true m b k = unfold if_then_else_ in tt
     go false m true k = unfold if_then_else_ kept-row in (g x refl m k, tt)
     go false m false k = unfold if_then_else_ in tt
 
-verdict-one : (R : Row → Row → Type 0) (o : Option Row) (r : Row) → Pairs R (verdict o r)
-unfolding verdict
-verdict-one R none r = (tt, tt)
-verdict-one R (some x) r = go (x .1 .mark) (isRow (number x) r)
+newest-one : (R : Row → Row → Type 0) (o : Option Row) (r : Row) → Pairs R (byNewest o r)
+unfolding byNewest
+newest-one R none r = (tt, tt)
+newest-one R (some x) r = go (x .1 .mark) (isRow (number x) r)
   where
     go : (m b : Bool) → Pairs R (if m then [] else if b then kept-row x else [])
     go true b = unfold if_then_else_ in tt
@@ -211,7 +211,7 @@ module _ (tx : ℕ) (os : List ℕ) (rs : List Row) (L : LiveOk os rs) (D : Pair
   pub commit-comes : (r : Row) → Mem r rs → AllOf (Comes tx r) (afterCommit tx rs r)
   unfolding afterCommit
   commit-comes r m =
-      verdict-all (Comes tx r) (newest r) r
+      newest-all (Comes tx r) (newest r) r
       (λ n. as-is (sym (own-self tx r) ∙ mem-all (λ y. ownAt tx (r .0) (r .1 .key) y ≡ false) m (last-off (ownAt tx (r .0) (r .1 .key)) rs n)))
       (λ x n u k. let q = last-mem (ownAt tx (r .0) (r .1 .key)) rs x n in let s = at-split (r .0) (r .1 .key) x (own-both tx (r .0) (r .1 .key) x (q .1) .1) in
       came x r (s .0) (s .1) u)
@@ -231,7 +231,7 @@ module _ (tx : ℕ) (os : List ℕ) (rs : List Row) (L : LiveOk os rs) (D : Pair
   pub commit-stays : (r : Row) (u s : ℕ) → Mem r rs → r .1 .owner ≡ tentative u s → eqb u tx ≡ false → afterCommit tx rs r ≡ r ∷ []
   unfolding afterCommit
   commit-stays r u s m e n =
-      by-option (newest r) (λ o. ap (λ z. verdict z r) o ∙ (unfold verdict in refl))
+      by-option (newest r) (λ o. ap (λ z. byNewest z r) o ∙ (unfold byNewest in refl))
       (λ x o. let q = last-mem (ownAt tx (r .0) (r .1 .key)) rs x o in
       let b = own-both tx (r .0) (r .1 .key) x (q .1) in
       let w = own-owner tx x (b .0) in
@@ -251,9 +251,9 @@ module _ (tx : ℕ) (os : List ℕ) (rs : List Row) (L : LiveOk os rs) (D : Pair
       by (With q r)
       (λ w. let s = at-split (q .0) (q .1 .key) r w in
       let e : newest q ≡ newest r = ap₂ (λ a b. last (ownAt tx a b) rs) (sym (s .0)) (sym (s .1)) in
-      verdict-all (λ a. AllOf (Chain a) (verdict (newest q) q)) (newest r) r
-      (λ n. verdict-all (Chain r) (newest q) q (λ n′. h .0) (λ x n′ u k. never (sym n ∙ sym e ∙ n′)))
-      (λ x n u k. verdict-all (Chain (x .0, asCommitted (x .1))) (newest q) q (λ n′. never (sym n′ ∙ e ∙ n))
+      newest-all (λ a. AllOf (Chain a) (byNewest (newest q) q)) (newest r) r
+      (λ n. newest-all (Chain r) (newest q) q (λ n′. h .0) (λ x n′ u k. never (sym n ∙ sym e ∙ n′)))
+      (λ x n u k. newest-all (Chain (x .0, asCommitted (x .1))) (newest q) q (λ n′. never (sym n′ ∙ e ∙ n))
       (λ y n′ u′ k′. let z : x ≡ y = some-eq (sym n ∙ sym e ∙ n′) in absurd
       (h .1 (row-number (x .1 .number) r k ∙ sym (row-number (x .1 .number) q (ap (λ w. isRow (number w) q) z ∙ k′)))))))
       (λ w. all-map (Comes tx r) (λ a. AllOf (Chain a) (afterCommit tx rs q))
@@ -265,16 +265,16 @@ module _ (tx : ℕ) (os : List ℕ) (rs : List Row) (L : LiveOk os rs) (D : Pair
       (all-keep (λ r. Mem r rs) (isAt t k) rs (all-mem _ rs (λ r m. m)))
 
   -- the rows at a key, by the newest own one
-  pub commit-at : (t k : ℕ) → keep (isAt t k) (gather (afterCommit tx rs) rs) ≡ gather (verdict (last (ownAt tx t k) rs)) (keep (isAt t k) rs)
+  pub commit-at : (t k : ℕ) → keep (isAt t k) (gather (afterCommit tx rs) rs) ≡ gather (byNewest (last (ownAt tx t k) rs)) (keep (isAt t k) rs)
   commit-at t k =
       keep-came tx os rs L (afterCommit tx rs) commit-comes commit-stays t k
-      ∙ gather-ext (afterCommit tx rs) (verdict (last (ownAt tx t k) rs)) (keep (isAt t k) rs)
-      (all-map (λ r. isAt t k r ≡ true) (λ r. afterCommit tx rs r ≡ verdict (last (ownAt tx t k) rs) r)
-      (λ r h. let s = at-split t k r h in (unfold afterCommit in ap₂ (λ a b. verdict (last (ownAt tx a b) rs) r) (s .0) (s .1))) (keep (isAt t k) rs) (at-key t k))
+      ∙ gather-ext (afterCommit tx rs) (byNewest (last (ownAt tx t k) rs)) (keep (isAt t k) rs)
+      (all-map (λ r. isAt t k r ≡ true) (λ r. afterCommit tx rs r ≡ byNewest (last (ownAt tx t k) rs) r)
+      (λ r h. let s = at-split t k r h in (unfold afterCommit in ap₂ (λ a b. byNewest (last (ownAt tx a b) rs) r) (s .0) (s .1))) (keep (isAt t k) rs) (at-key t k))
 
   -- none of them: they stay
-  pub verdict-stays : (K : List Row) → gather (verdict none) K ≡ K
-  verdict-stays K = gather-self (verdict none) K (all-mem _ K (λ r i. unfold verdict in refl))
+  pub newest-stays : (K : List Row) → gather (byNewest none) K ≡ K
+  newest-stays K = gather-self (byNewest none) K (all-mem _ K (λ r i. unfold byNewest in refl))
 
   commit-heads : (t k : ℕ) → startsWell (keep (isAt t k) (gather (afterCommit tx rs) rs)) ≡ true
   commit-heads t k =
@@ -282,14 +282,14 @@ module _ (tx : ℕ) (os : List ℕ) (rs : List Row) (L : LiveOk os rs) (D : Pair
       let K = keep (isAt t k) rs in
       subst (λ z. startsWell z ≡ true) (sym (commit-at t k))
       (by-option m
-      (λ n. subst (λ z. startsWell z ≡ true) (sym (ap (λ z. gather (verdict z) K) n ∙ verdict-stays K)) (L .heads t k))
-      (λ x n. starts-unmarked (gather (verdict m) K)
-      (gather-all (λ a. a .1 .mark ≡ false) (verdict m) K
-      (all-mem _ K (λ r i. verdict-all (λ a. a .1 .mark ≡ false) m r (λ n′. never (sym n′ ∙ n)) (λ y n′ u j. (unfold asCommitted in u)))))))
+      (λ n. subst (λ z. startsWell z ≡ true) (sym (ap (λ z. gather (byNewest z) K) n ∙ newest-stays K)) (L .heads t k))
+      (λ x n. starts-unmarked (gather (byNewest m) K)
+      (gather-all (λ a. a .1 .mark ≡ false) (byNewest m) K
+      (all-mem _ K (λ r i. newest-all (λ a. a .1 .mark ≡ false) m r (λ n′. never (sym n′ ∙ n)) (λ y n′ u j. (unfold asCommitted in u)))))))
 
   pub commit-live : LiveOk (others tx os) (gather (afterCommit tx rs) rs)
   commit-live = closing tx os rs L (afterCommit tx rs) commit-comes commit-stays
-      (all-mem _ rs (λ r m. unfold afterCommit in verdict-one Chain (newest r) r))
+      (all-mem _ rs (λ r m. unfold afterCommit in newest-one Chain (newest r) r))
       (pairs-map (λ r q. Chain r q × Differ r q) _ rs commit-apart (pairs-both Chain Differ rs (L .chain) D))
       commit-heads
 

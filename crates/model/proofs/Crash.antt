@@ -16,8 +16,8 @@ use Rattle.model.proofs.Views.{CutV, recoverView, WriteOk, stop, put, t
 use Rattle.model.proofs.Frozen.{images}
 use Rattle.model.proofs.Pages.{stillFrozen}
 use Rattle.model.proofs.Effects.{unless-out}
-use Rattle.model.proofs.Quiet.{quiet, Quiet}
-use Rattle.model.proofs.Books.{idle-of, Books, Ledger}
+use Rattle.model.proofs.NoStores.{quiet, NoStores}
+use Rattle.model.proofs.BlockUse.{idle-of, BlockUse, Ledger}
 use Rattle.model.proofs.Recovery.{recovers}
 use Rattle.model.proofs.Inv.{Tied, tied-fresh, tied-frozen, Phase, Inv, Ready, Like, Good}
 use Rattle.model.proofs.Steps.{still, FrozenSmall, Stepped, directory-step, header-step, page-step, Top, FrozenFit, wrote}
@@ -56,7 +56,7 @@ phase-changed img s b nx ps os e (running n₀ es ds) k r =
       tied = k (r .tied);
     }
 
-inv-quiet : (n : ℕ) (img : View) (s b b₀ : Store) (o : Outcome) → Quiet s o → Inv n img s b b₀ → Inv n img (o .store) b b₀
+inv-quiet : (n : ℕ) (img : View) (s b b₀ : Store) (o : Outcome) → NoStores s o → Inv n img s b b₀ → Inv n img (o .store) b b₀
 inv-quiet n img s b b₀ o q inv =
     let T = Tie img s (s .checkpoint) in
     subst (λ t. Inv n img t b b₀) (sym (q .eq))
@@ -78,7 +78,7 @@ begin-out n img s b b₀ rd inv =
     (λ k. by (ltb (freeCount s) (blocksNeeded (s .pages))) (λ m. rw (h, k, m) (refl, inv))
     (λ m. let i = idle-of (s .checkpoint) h in rw (h, k, m) (refl, begin-inv n img s b b₀ inv i (rd i)))))
 
-step-inv : (n : ℕ) (img : View) (s b b₀ : Store) → Books s → FrozenSmall s → Inv n img s b b₀ → Stepped n img s b b₀ (stepAt (s .checkpoint) s)
+step-inv : (n : ℕ) (img : View) (s b b₀ : Store) → BlockUse s → FrozenSmall s → Inv n img s b b₀ → Stepped n img s b b₀ (stepAt (s .checkpoint) s)
 unfolding stepAt gives if_then_else_ stepOf
 step-inv n img s b b₀ bk sm inv = go (s .checkpoint) (bk .phase) (inv .phase)
   where
@@ -107,7 +107,7 @@ after-snoc (d ∷ pre) c s = after-snoc pre c (call d s .store)
 -- n: the blocks; s₀: the store at the start; Okay: the calls allowed
 module _ (n : ℕ) (s₀ : Store) (Okay : Call → Type 0) (Valid : Store → Type 0)
     (keeps : (c : Call) (s : Store) → Okay c → Valid s → Valid (call c s .store)) (steps-keep : (s : Store) → Valid s → Valid (stepAt (s .checkpoint) s .store))
-    (ready : (s : Store) → Valid s → s .checkpoint ≡ idle → Ready s) (books : (s : Store) → Valid s → Books s)
+    (ready : (s : Store) → Valid s → s .checkpoint ≡ idle → Ready s) (books : (s : Store) → Valid s → BlockUse s)
     (small : (s : Store) → Valid s → FrozenSmall s) where
   pub record Goes (img : View) (base₀ : List Call) (ws : List Logged) : Type 0 where
     pub safe : (img′ : View) (base′ : List Call) → CutV img base₀ ws img′ base′

@@ -19,12 +19,12 @@ use Rattle.model.proofs.Owners.{numbers-append, numbers-write, numbers-
 use Rattle.model.proofs.Splits.{mostSize}
 use Rattle.model.proofs.Frozen.{images, images-place, shown-withoutPending, images-none, images-carry}
 use Rattle.model.proofs.Effects.{unless-keeps, Accepts, Does, refuses, answers, starts, writes, finishes, undoes, does}
-use Rattle.model.proofs.Quiet.{step-keeps, run-keeps}
-use Rattle.model.proofs.Books.{below-most, idle-of}
+use Rattle.model.proofs.NoStores.{step-keeps, run-keeps}
+use Rattle.model.proofs.BlockUse.{below-most, idle-of}
 use Rattle.model.proofs.Sound.{place-ok, PageOk, bare-size, thaw-ok, carry-ok}
 use Rattle.model.proofs.Rows.{Sub, rows-live, held-plain, live-sub, entries, sub-all, Differ, sub-pairs, held-freeze, rows-freeze, thaw-rows}
 use Rattle.model.proofs.Placing.{Before, Put, place-put}
-use Rattle.model.proofs.Fate.{differ-alike, gather, fate, commit-rows, abort-rows}
+use Rattle.model.proofs.RowAfter.{differ-alike, gather, rowAfter, commit-rows, abort-rows}
 use Rattle.model.proofs.Valid.{Opened, LiveOk, Valid, before-alike, HeldOk, held-insert, live-insert, Counted, held-sub}
 use Rattle.model.proofs.Closing.{commit-live, abort-live}
 use Rattle.model.proofs.ByPlace.{commit-carried, abort-carried}
@@ -146,7 +146,7 @@ unfolding gives
 commit-valid tx s v =
     let rs = rows (s .pages) in
     let d = rows-differ s v in
-    closed-valid tx (length (held (s .pages))) (closePlan tx (s .pages)) (fate (planRows tx rs rs)) s v
+    closed-valid tx (length (held (s .pages))) (closePlan tx (s .pages)) (rowAfter (planRows tx rs rs)) s v
     (commit-carried (s .pages) (v .has .rising) (v .has .differ) (v .pages) tx)
     (rw (commit-rows tx rs d) (commit-live tx (openNumbers (s .active)) rs (v .sees) d))
 
@@ -155,7 +155,7 @@ unfolding gives
 abort-valid tx s v =
     let rs = rows (s .pages) in
     let d = rows-differ s v in
-    closed-valid tx (length (held (s .pages))) (abortPlan tx (s .pages)) (fate (removeAll (keep (isOwn tx) rs))) s v
+    closed-valid tx (length (held (s .pages))) (abortPlan tx (s .pages)) (rowAfter (removeAll (keep (isOwn tx) rs))) s v
     (abort-carried (s .pages) (v .has .rising) (v .has .differ) (v .pages) tx)
     (rw (abort-rows tx rs d) (abort-live tx (openNumbers (s .active)) rs (v .sees) d))
 

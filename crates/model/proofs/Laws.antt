@@ -21,13 +21,13 @@ use Rattle.model.proofs.Splits.{Small, split-all}
 use Rattle.model.proofs.Frozen.{takenAt-is, images-thaw, images-first, images-none}
 use Rattle.model.proofs.Alloc.{Fresh, allocate-fresh}
 use Rattle.model.proofs.Effects.{unless-accepted, Does, refuses, answers, starts, writes, finishes, undoes, does}
-use Rattle.model.proofs.Quiet.{step-frame}
-use Rattle.model.proofs.Books.{length-fill}
+use Rattle.model.proofs.NoStores.{step-frame}
+use Rattle.model.proofs.BlockUse.{length-fill}
 use Rattle.model.proofs.Steps.{storable-is}
 use Rattle.model.proofs.Sound.{PageOk, small, carry-ok, live-withoutPending}
 use Rattle.model.proofs.Rows.{sub-length}
 use Rattle.model.proofs.Placing.{Before}
-use Rattle.model.proofs.Fate.{With}
+use Rattle.model.proofs.RowAfter.{With}
 use Rattle.model.proofs.Runs.{Grouped}
 use Rattle.model.proofs.ByPlace.{all-grouped, grouped-run}
 use Rattle.model.proofs.Keeps.{rows-sub}

@@ -7,8 +7,8 @@ pub mod Pages
 pub mod Totals
 pub mod Alloc
 pub mod Effects
-pub mod Quiet
-pub mod Books
+pub mod NoStores
+pub mod BlockUse
 pub mod Recovery
 pub mod Stored
 pub mod Inv
@@ -20,7 +20,7 @@ pub mod Sound
 pub mod Rows
 pub mod Placing
 pub mod Places
-pub mod Fate
+pub mod RowAfter
 pub mod Carry
 pub mod Runs
 pub mod Plans
@@ -31,7 +31,7 @@ pub mod Keeps
 pub mod Tests
 pub mod Whole
 pub mod Inserted
-pub mod Tally
+pub mod WriteCounts
 pub mod Listed
 pub mod Range
 pub mod Claim

@@ -11,7 +11,7 @@ use Rattle.model.specs.Recover.{reopened}
 use Rattle.basics.proofs.Elements.{not-in, in-append, not-true, in-one, eqb-sym, in-keep, all-append, all-map, all-keep, eqb-true, all-in}
 use Rattle.model.proofs.Owners.{numbers-append, numbers-write, numbers-without, numbers-reopened, transactions-distinct, in-transactions}
 use Rattle.model.proofs.Effects.{Does, refuses, answers, starts, writes, finishes, undoes, does}
-use Rattle.model.proofs.Quiet.{call-leaves}
+use Rattle.model.proofs.NoStores.{call-leaves}
 
 abbrev pub Listed : Store → Type 0
 Listed s = (distinct (openNumbers (s .active)) ≡ true) × AllOf (λ tx. tx ≤ 4095) (openNumbers (s .active))

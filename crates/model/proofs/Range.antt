@@ -15,7 +15,7 @@ use Rattle.model.specs.Calls.{TransactionCall, transact, TypedTuple, Typ
 use Rattle.basics.proofs.Elements.{many-length, all-insert, all-map, all-two}
 use Rattle.model.proofs.Frozen.{bare}
 use Rattle.model.proofs.Effects.{unless-keeps, Accepts, Does, refuses, answers, starts, writes, finishes, undoes, does}
-use Rattle.model.proofs.Quiet.{step-keeps, run-keeps}
+use Rattle.model.proofs.NoStores.{step-keeps, run-keeps}
 use Rattle.model.proofs.Steps.{FrozenFit, FrozenSmall}
 use Rattle.model.proofs.Sound.{PageOk}
 use Rattle.model.proofs.Rows.{Since, still, settled, Alike, Sub, sub-all, sub-length, thaw-rows, held-freeze}

@@ -9,7 +9,7 @@ use Rattle.model.specs.Places.{Placed, rowOf, placed, continues, runs, l
 use Rattle.basics.proofs.Elements.{Pairs, all-mem, all-map, all-two, all-append, all-parts, pairs-parts, keep-append, keep-all, keep-none}
 use Rattle.model.proofs.Rows.{Entry, liveRows, applied-is}
 use Rattle.model.proofs.Placing.{Before}
-use Rattle.model.proofs.Fate.{With, with-self, with-as, with-sym, at-split, at-join}
+use Rattle.model.proofs.RowAfter.{With, with-self, with-as, with-sym, at-split, at-join}
 
 -- ---- the live rows of placed tuples
 

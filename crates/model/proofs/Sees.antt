@@ -18,15 +18,15 @@ use Rattle.basics.proofs.Elements.{last-mem, pairs-keep, lt-false, eqb-sym, in-
 use Rattle.model.proofs.ByNumber.{isRow, ownAt}
 use Rattle.model.proofs.Owners.{numbers-write, numbers-without, in-others, numbers-append}
 use Rattle.model.proofs.Effects.{unless-accepted, Does, refuses, answers, starts, writes, finishes, undoes, does}
-use Rattle.model.proofs.Quiet.{call-leaves}
+use Rattle.model.proofs.NoStores.{call-leaves}
 use Rattle.model.proofs.Rows.{kept-row, Differ}
 use Rattle.model.proofs.Placing.{Above, Before}
-use Rattle.model.proofs.Fate.{at-join, at-split, gather, afterAbort, verdict, row-self, row-false, afterCommit}
+use Rattle.model.proofs.RowAfter.{at-join, at-split, gather, afterAbort, byNewest, row-self, row-false, afterCommit}
 use Rattle.model.proofs.Valid.{above-off, Valid}
-use Rattle.model.proofs.Closing.{abort-at, gather-cons, gather-none, commit-at, verdict-stays}
+use Rattle.model.proofs.Closing.{abort-at, gather-cons, gather-none, commit-at, newest-stays}
 use Rattle.model.proofs.Keeps.{rows-rising, rows-differ}
 use Rattle.model.proofs.Inserted.{notAbove, insertRow}
-use Rattle.model.proofs.Tally.{written-rows, begin-rows, stepCall-rows, run-rows, committed-rows, aborted-rows}
+use Rattle.model.proofs.WriteCounts.{written-rows, begin-rows, stepCall-rows, run-rows, committed-rows, aborted-rows}
 use Rattle.model.proofs.Well.{sound}
 
 -- ---- a new row among the versions of its key
@@ -228,26 +228,26 @@ chosen true b K h k = lie (sym h)
 chosen false true K h k = refl
 chosen false false K h k = lie k
 
-verdict-own : (x : Row) → x .1 .mark ≡ false → verdict (some x) x ≡ kept-row x
-unfolding verdict
-verdict-own x u = chosen (x .1 .mark) (isRow (number x) x) (kept-row x) u (row-self x)
+newest-own : (x : Row) → x .1 .mark ≡ false → byNewest (some x) x ≡ kept-row x
+unfolding byNewest
+newest-own x u = chosen (x .1 .mark) (isRow (number x) x) (kept-row x) u (row-self x)
 
-verdict-other : (x r : Row) → Differ r x → verdict (some x) r ≡ []
-unfolding verdict if_then_else_ number
-verdict-other x r d = by (x .1 .mark) (λ u. rw u) (λ u. rw (u, row-false (x .1 .number) r d))
+newest-other : (x r : Row) → Differ r x → byNewest (some x) r ≡ []
+unfolding byNewest if_then_else_ number
+newest-other x r d = by (x .1 .mark) (λ u. rw u) (λ u. rw (u, row-false (x .1 .number) r d))
 
-verdict-mark : (x r : Row) → x .1 .mark ≡ true → verdict (some x) r ≡ []
-unfolding verdict if_then_else_
-verdict-mark x r u = rw u
+newest-mark : (x r : Row) → x .1 .mark ≡ true → byNewest (some x) r ≡ []
+unfolding byNewest if_then_else_
+newest-mark x r u = rw u
 
 -- the newest own version alone is left
-one-left : {x : Row} {vs : List Row} → Mem x vs → Pairs Differ vs → x .1 .mark ≡ false → gather (verdict (some x)) vs ≡ kept-row x
+one-left : {x : Row} {vs : List Row} → Mem x vs → Pairs Differ vs → x .1 .mark ≡ false → gather (byNewest (some x)) vs ≡ kept-row x
 one-left {x} (here {rs}) d u =
-    gather-cons (verdict (some x)) x rs ∙ ap₂ (λ a b. a ++ b) (verdict-own x u)
-    (gather-none (verdict (some x)) rs (all-map (Differ x) _ (λ r h. verdict-other x r (λ e. h (sym e))) rs (d .0)))
+    gather-cons (byNewest (some x)) x rs ∙ ap₂ (λ a b. a ++ b) (newest-own x u)
+    (gather-none (byNewest (some x)) rs (all-map (Differ x) _ (λ r h. newest-other x r (λ e. h (sym e))) rs (d .0)))
     ∙ append-nil (kept-row x)
 one-left {x} (there {y} {rs} m) d u =
-    gather-cons (verdict (some x)) y rs ∙ ap (λ a. a ++ gather (verdict (some x)) rs) (verdict-other x y (mem-all (Differ y) m (d .0))) ∙ one-left m (d .1) u
+    gather-cons (byNewest (some x)) y rs ∙ ap (λ a. a ++ gather (byNewest (some x)) rs) (newest-other x y (mem-all (Differ y) m (d .0))) ∙ one-left m (d .1) u
 
 -- a committed version alone is seen by all
 seen-kept : (u : ℕ) (r : Row) → seenOf u (kept-row r) ≡ some (r .0, asCommitted (r .1))
@@ -260,26 +260,26 @@ seen-none u = refl
 
 module _ (tx : ℕ) (s z : Store) (v : Valid s) (e : rows (z .pages) ≡ gather (afterCommit tx (rows (s .pages))) (rows (s .pages))) (u t k : ℕ) where
   -- the versions after the commit
-  at-committed : versions t k (z .pages) ≡ gather (verdict (last (isOwn tx) (versions t k (s .pages)))) (versions t k (s .pages))
+  at-committed : versions t k (z .pages) ≡ gather (byNewest (last (isOwn tx) (versions t k (s .pages)))) (versions t k (s .pages))
   unfolding versions ownAt
   at-committed =
       let rs = rows (s .pages) in
       ap (keep (isAt t k)) e ∙ commit-at tx (openNumbers (s .active)) rs (v .sees) (rows-differ s v) t k
-      ∙ ap (λ o. gather (verdict o) (keep (isAt t k) rs)) (last-both (isOwn tx) (isAt t k) rs)
+      ∙ ap (λ o. gather (byNewest o) (keep (isAt t k) rs)) (last-both (isOwn tx) (isAt t k) rs)
 
   committed-other : last (isOwn tx) (versions t k (s .pages)) ≡ none → seen u t k z ≡ seen u t k s
   unfolding seen
   committed-other n =
       let vs = versions t k (s .pages) in
-      ap (seenOf u) (at-committed ∙ ap (λ o. gather (verdict o) vs) n ∙ verdict-stays tx (openNumbers (s .active)) (rows (s .pages)) (v .sees) (rows-differ s v) vs)
+      ap (seenOf u) (at-committed ∙ ap (λ o. gather (byNewest o) vs) n ∙ newest-stays tx (openNumbers (s .active)) (rows (s .pages)) (v .sees) (rows-differ s v) vs)
 
   committed-key : (r : Row) → last (isOwn tx) (versions t k (s .pages)) ≡ some r → seen u t k z ≡ remains r
   unfolding seen remains if_then_else_
   committed-key r n =
       let vs = versions t k (s .pages) in
-      let q = at-committed ∙ ap (λ o. gather (verdict o) vs) n in
+      let q = at-committed ∙ ap (λ o. gather (byNewest o) vs) n in
       by (r .1 .mark)
-      (λ h. ap (seenOf u) (q ∙ gather-none (verdict (some r)) vs (all-mem _ vs (λ y i. verdict-mark r y h))) ∙ seen-none u ∙ (rw h))
+      (λ h. ap (seenOf u) (q ∙ gather-none (byNewest (some r)) vs (all-mem _ vs (λ y i. newest-mark r y h))) ∙ seen-none u ∙ (rw h))
       (λ h. ap (seenOf u) (q ∙ one-left (last-mem (isOwn tx) vs r n .0)
       (unfold versions in pairs-keep Differ (isAt t k) (rows (s .pages)) (rows-differ s v)) h) ∙ seen-kept u r ∙ (rw h))
 

@@ -16,7 +16,7 @@ use Rattle.model.specs.Recover.{loaded, recoveredStore}
 use Rattle.model.proofs.Views.{AllSane, Sane}
 use Rattle.basics.proofs.Elements.{some-eq, leb-true, not-true, all-map, all-split, every-all, eqb-true, all-mapped, in-all, all-append, all-in, in-append}
 use Rattle.model.proofs.Owners.{numbers-reopened, in-transactions, transactions-distinct}
-use Rattle.model.proofs.Books.{not-in-many, Booked, Books, inBlock-many}
+use Rattle.model.proofs.BlockUse.{not-in-many, Booked, BlockUse, inBlock-many}
 use Rattle.model.proofs.Recovery.{Found, read-blocks}
 use Rattle.model.proofs.Inv.{listed, listed-held, listed-read, Tied, Ready, Inv, named-self}
 use Rattle.model.proofs.Steps.{loaded-content, bare-withoutPending, loaded-blocks}
@@ -130,7 +130,7 @@ booked-loaded used [] a = tt
 booked-loaded used (p ∷ ps) a = ((λ h. lie h, λ h. a .0), booked-loaded used ps (a .1))
 
 read-books : (n : ℕ) (v : View) (h : Header) (es : List ℕ) (ps : List StoredPage) → 2 ≤ n → n ≤ 4096 → h .level ≤ mostNumber → Headed n h → map (λ p. p .block) ps ≡ es
-    → entriesOk (h .blocks) (directoryBlocks h) es ≡ true → Books (recoveredStore h ps)
+    → entriesOk (h .blocks) (directoryBlocks h) es ≡ true → BlockUse (recoveredStore h ps)
 unfolding recoveredStore
 read-books n v h es ps two most lvl g bs ok =
     let ds = directoryBlocks h in
@@ -147,10 +147,10 @@ read-books n v h es ps two most lvl g bs ok =
       phase = booked-loaded _ ps (all-in _ (map (λ p. p .block) ps) (λ b i. rw (in-append b (map (λ p. p .block) ps), i)));
     }
 
-pub start-books : (n : ℕ) (v : View) (s : Store) → 2 ≤ n → n ≤ 4096 → AllSane v → Found n v s → Books s
+pub start-books : (n : ℕ) (v : View) (s : Store) → 2 ≤ n → n ≤ 4096 → AllSane v → Found n v s → BlockUse s
 start-books n v s two most sane f =
     let h = f .head in
-    subst Books (f .store) (read-books n v h (f .entries) (f .pages) two most (head-range v h sane (f .top) .0) (headed n h (f .head-ok))
+    subst BlockUse (f .store) (read-books n v h (f .entries) (f .pages) two most (head-range v h sane (f .top) .0) (headed n h (f .head-ok))
     (read-blocks v (h .level) (f .entries) (f .pages) (f .read)) (f .entries-ok))
 
 -- the transactions of its rows are open, and nothing runs

@@ -23,7 +23,7 @@ use Rattle.model.proofs.Owners.{numbers-reopened, in-transactions}
 use Rattle.model.proofs.Frozen.{Content, images, images-first, images-thaw, shown-withoutPending, bare, images-none}
 use Rattle.model.proofs.Pages.{all-thaw}
 use Rattle.model.proofs.Alloc.{Fresh, allocate-fresh, used-old}
-use Rattle.model.proofs.Books.{Booked, test-other, Books, Running, off-used, once-distinct, once-right, once-off, once-left}
+use Rattle.model.proofs.BlockUse.{Booked, test-other, BlockUse, Running, off-used, once-distinct, once-right, once-off, once-left}
 use Rattle.model.proofs.Recovery.{Found, read-blocks}
 use Rattle.model.proofs.Stored.{Dirs, put-other, Stored, stored-fill, put-same, stored-put, dirs-snoc, dirs-put, end, todo, stands, stored-read, dirs-read, stored-written}
 use Rattle.model.proofs.Inv.{Inv, Good, Tied, clean-pos, Run, good-put, good-more, named-fill, tied-fresh, tied-frozen, listed, listed-read, listed-held, Named}
@@ -76,7 +76,7 @@ tied-off img l b x pool ps h =
     all-two (Booked pool) (Tied img l) (Tied (put img b x) l)
     (λ p q t. tied-put img l b x p (λ c. test-other pool (p .block) b (q .1 (pos-not-zero (p .block) c)) h) t) ps
 
-pub page-step : (n : ℕ) (img : View) (s b b₀ : Store) (n₀ : ℕ) (es ds : List ℕ) (p : Page) → Books s → Running n₀ es ds s → Inv n img s b b₀ → Run img s b n₀ es ds
+pub page-step : (n : ℕ) (img : View) (s b b₀ : Store) (n₀ : ℕ) (es ds : List ℕ) (p : Page) → BlockUse s → Running n₀ es ds s → Inv n img s b b₀ → Run img s b n₀ es ds
     → FrozenSmall s → first isFrozen (s .pages) ≡ some p → Stepped n img s b b₀ (storePage n₀ es ds p s)
 unfolding storePage made withProgress if_then_else_ isFrozen
 page-step n img s b b₀ n₀ es ds p bk r inv run small₀ e =
@@ -132,7 +132,7 @@ entries-low : (s : Store) (es : List ℕ) → 0 < s .blocks → ((c : ℕ) → s
     → AllOf (λ e. e < s .blocks) es
 entries-low s es z f a = all-map _ _ (λ e h. by (eqb e 0) (λ k. let q = eqb-true e 0 k in omega arith) (λ k. f e (h (not-zero e k)) .1)) es a
 
-pub directory-step : (n : ℕ) (img : View) (s b b₀ : Store) (n₀ : ℕ) (es ds : List ℕ) → Books s → Running n₀ es ds s → Inv n img s b b₀ → Run img s b n₀ es ds
+pub directory-step : (n : ℕ) (img : View) (s b b₀ : Store) (n₀ : ℕ) (es ds : List ℕ) → BlockUse s → Running n₀ es ds s → Inv n img s b b₀ → Run img s b n₀ es ds
     → first isFrozen (s .pages) ≡ none → ltb (length ds) (directoriesFor (length es)) ≡ true → Stepped n img s b b₀ (storeDirectory n₀ es ds s)
 unfolding storeDirectory made withProgress if_then_else_
 directory-step n img s b b₀ n₀ es ds bk r inv run e lt =
@@ -347,7 +347,7 @@ module _ (n : ℕ) (img : View) (s b : Store) (n₀ : ℕ) (es ds : List ℕ) (b
       low-at zero (d ∷ ds) a = a .0
       low-at (suc i) (d ∷ ds) a = low-at i ds (a .1)
 
-pub header-step : (n : ℕ) (img : View) (s b b₀ : Store) (n₀ : ℕ) (es ds : List ℕ) → Books s → Running n₀ es ds s → Inv n img s b b₀ → Run img s b n₀ es ds
+pub header-step : (n : ℕ) (img : View) (s b b₀ : Store) (n₀ : ℕ) (es ds : List ℕ) → BlockUse s → Running n₀ es ds s → Inv n img s b b₀ → Run img s b n₀ es ds
     → first isFrozen (s .pages) ≡ none → ltb (length ds) (directoriesFor (length es)) ≡ false → Stepped n img s b b₀ (storeHeader n₀ es ds s)
 unfolding storeHeader made withProgress if_then_else_
 header-step n img s b b₀ n₀ es ds bk r inv run e lt =

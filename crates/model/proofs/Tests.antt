@@ -7,7 +7,7 @@ use Rattle.image_rows.specs.Rows.{Row, isLower, follows, number, ownerAfter, st
 use Rattle.basics.proofs.Elements.{leb-true, eqb-true, not-true, all-map, Pairs, keep-cons, keep-past, leb-false, eqb-self, and-both, le-true, keep-none}
 use Rattle.model.proofs.Rows.{Differ}
 use Rattle.model.proofs.Placing.{Before}
-use Rattle.model.proofs.Fate.{With, at-split, at-join}
+use Rattle.model.proofs.RowAfter.{With, at-split, at-join}
 use Rattle.model.proofs.Valid.{Chain}
 
 -- ---- the order: neighbours, and all pairs

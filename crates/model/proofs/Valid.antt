@@ -15,7 +15,7 @@ use Rattle.model.proofs.Frozen.{images}
 use Rattle.model.proofs.Sound.{PageOk}
 use Rattle.model.proofs.Rows.{Differ, Alike, Sub, sub-pairs, sub-all, sub-length}
 use Rattle.model.proofs.Placing.{Before, NotAbove, Above}
-use Rattle.model.proofs.Fate.{With, differ-alike, at-split}
+use Rattle.model.proofs.RowAfter.{With, differ-alike, at-split}
 
 -- ---- the invariant
 

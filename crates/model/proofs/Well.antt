@@ -17,15 +17,15 @@ use Rattle.basics.proofs.Elements.{off-any, not-true, has-some, all-split, pos-
 use Rattle.model.proofs.Owners.{numbers-length}
 use Rattle.model.proofs.Splits.{Small}
 use Rattle.model.proofs.Frozen.{bare, images}
-use Rattle.model.proofs.Books.{Books, keeps-books, inBlock, Booked, Ledger, booked-more}
+use Rattle.model.proofs.BlockUse.{BlockUse, keeps-books, inBlock, Booked, Ledger, booked-more}
 use Rattle.model.proofs.Sound.{PageOk, NothingPending}
 use Rattle.model.proofs.Placing.{Before, page-full}
-use Rattle.model.proofs.Fate.{at-split}
+use Rattle.model.proofs.RowAfter.{at-split}
 use Rattle.model.proofs.Valid.{Valid, Counted, Opened, HeldOk, held-sub, LiveOk}
 use Rattle.model.proofs.Keeps.{keeps, all-free, nothing-pending, rows-sub}
 use Rattle.model.proofs.Tests.{lower-before, before-trans, differ-distinct, distinct-differ}
 use Rattle.model.proofs.Whole.{Fitting, few-pages, owner-size, rows-tests, tested-live}
-use Rattle.model.proofs.Tally.{keeps-count}
+use Rattle.model.proofs.WriteCounts.{keeps-count}
 use Rattle.model.proofs.Listed.{Listed, keeps-listed}
 use Rattle.model.proofs.Range.{keeps-fits, page-rows, some-one}
 
@@ -33,7 +33,7 @@ pub record Sound (s : Store) : Type 0 where
   pub valid : Valid s
   pub counted : Counted s
   pub fitting : Fitting s
-  pub books : Books s
+  pub books : BlockUse s
   pub listed : Listed s
 
 -- ---- every call keeps the invariants
@@ -170,7 +170,7 @@ unfolding ownerIn
 owner-true os committed h = refl
 owner-true os (tentative t s) h = h
 
-booked-used : (s : Store) → Books s → AllOf (Booked (s .used)) (s .pages)
+booked-used : (s : Store) → BlockUse s → AllOf (Booked (s .used)) (s .pages)
 booked-used s b = go (s .checkpoint) (b .phase)
   where
     go : (c : Checkpoint) → Ledger c s → AllOf (Booked (s .used)) (s .pages)
@@ -182,7 +182,7 @@ named-true : (used : ℕ → Bool) (e : ℕ) → (0 < e → used e ≡ true) →
 unfolding isZero
 named-true used e h = by (eqb e 0) (λ k. rw k) (λ k. rw k (h (not-zero e k)))
 
-checkpoint-well : (s : Store) → Valid s → Books s → CheckpointWell (s .checkpoint) s
+checkpoint-well : (s : Store) → Valid s → BlockUse s → CheckpointWell (s .checkpoint) s
 checkpoint-well s v b = go (s .checkpoint) refl (b .phase)
   where
     go : (c : Checkpoint) → s .checkpoint ≡ c → Ledger c s → CheckpointWell c s

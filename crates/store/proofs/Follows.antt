@@ -8,7 +8,7 @@ use Rattle.model.specs.Transactions.{gives, unless}
 use Rattle.model.specs.Checkpoint.{badImage, stepCall, runCall}
 use Rattle.model.specs.Recover.{imageAfter}
 use Rattle.basics.proofs.Elements.{eqb-true}
-use Rattle.model.proofs.Quiet.{call-leaves}
+use Rattle.model.proofs.NoStores.{call-leaves}
 use Rattle.model.proofs.Laws.{refused-keeps, reads-only}
 use Rattle.memory_layout.specs.Store.{storeIn}
 use Rattle.call_contracts.specs.Shape.{MemoryAfter, Afterwards, Answers, AnswersAt, StoredBy, Stores, StoresAt}

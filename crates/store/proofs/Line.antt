@@ -11,7 +11,7 @@ use Rattle.model.specs.CrashRecovery.{Start, fresh, Logged, tag, log, imageWith
 use Rattle.model.proofs.Views.{WriteOk}
 use Rattle.basics.proofs.Elements.{all-parts}
 use Rattle.model.proofs.Bytes.{view-sane}
-use Rattle.model.proofs.Quiet.{call-leaves}
+use Rattle.model.proofs.NoStores.{call-leaves}
 use Rattle.model.proofs.Claim.{writes-ok}
 use Rattle.model.proofs.Line.{written-long, started, crash-recovery}
 use Rattle.memory_layout.specs.Store.{storeIn, HoldsNow}

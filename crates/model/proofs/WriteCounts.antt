@@ -15,9 +15,9 @@ use Rattle.model.specs.Calls.{isTransaction, others, withWriter, writers
 use Rattle.basics.proofs.Elements.{Mem, many-none, all-map, eqb-true, all-mem, eqb-sym, many-length, in-keep, not-true, le-true, in-here, eqb-self, in-cons, and-no, and-yes, any-many}
 use Rattle.model.proofs.Owners.{count-append, count-new, numbers-write, count-write, count-other, numbers-without, count-without}
 use Rattle.model.proofs.Effects.{unless-keeps, Does, refuses, answers, starts, writes, finishes, undoes, does}
-use Rattle.model.proofs.Quiet.{step-frame, step-keeps, run-keeps, call-leaves}
+use Rattle.model.proofs.NoStores.{step-frame, step-keeps, run-keeps, call-leaves}
 use Rattle.model.proofs.Rows.{rows-freeze, thaw-rows, sub-length}
-use Rattle.model.proofs.Fate.{gather, afterCommit, commit-rows, afterAbort, abort-rows}
+use Rattle.model.proofs.RowAfter.{gather, afterCommit, commit-rows, afterAbort, abort-rows}
 use Rattle.model.proofs.Valid.{Valid, Counted, Opened}
 use Rattle.model.proofs.Closing.{Comes, as-is, final, not-own, own-owner, gather-all, many-gather, commit-comes, commit-stays, abort-comes, abort-stays}
 use Rattle.model.proofs.ByPlace.{commit-carried, abort-carried}

@@ -15,7 +15,7 @@ use Rattle.model.proofs.Pages.{stillFrozen, all-place, all-carry}
 use Rattle.model.proofs.Totals.{sum-place, sum-carry}
 
 -- what such a call gives
-pub record Quiet (s : Store) (o : Outcome) : Type 1 where
+pub record NoStores (s : Store) (o : Outcome) : Type 1 where
   pub none-written : o .writes ≡ []
   pub next : ℕ
   pub pages : List Page
@@ -30,16 +30,16 @@ pub record Quiet (s : Store) (o : Outcome) : Type 1 where
       → ((p : Page) (ts : List Held) → p .frozen ≡ true → w (stillFrozen p ts) ≡ w p) → sum w pages ≤ sum w (s .pages)
 
 module _ (s : Store) where
-  quiet-opened : (a : Answer) (os : List Active) → Quiet s (gives a (changed s (s .next) (s .pages) os))
+  quiet-opened : (a : Answer) (os : List Active) → NoStores s (gives a (changed s (s .next) (s .pages) os))
   unfolding gives
   quiet-opened a os =
       record { none-written = refl; next = _; pages = _; active = _; eq = refl; more = omega arith; same = refl; kept = λ Q f g h. h; less = λ w f g. omega arith }
 
-  quiet-same : (a : Answer) → Quiet s (gives a s)
+  quiet-same : (a : Answer) → NoStores s (gives a s)
   unfolding gives changed
   quiet-same a = quiet-opened a (s .active)
 
-  quiet-written : (tx t k : ℕ) (bs : List ℕ) (m : Bool) → Quiet s (withTuple tx t k bs m s)
+  quiet-written : (tx t k : ℕ) (bs : List ℕ) (m : Bool) → NoStores s (withTuple tx t k bs m s)
   unfolding withTuple afterWrite gives
   quiet-written tx t k bs m =
       record {
@@ -54,7 +54,7 @@ module _ (s : Store) where
         less = λ w f g. sum-place w f g t _ (s .pages);
       }
 
-  quiet-carried : (n : ℕ) (ops : List PlaceOp) (tx : ℕ) → Quiet s (closing tx (carryOut n ops (s .pages)) s)
+  quiet-carried : (n : ℕ) (ops : List PlaceOp) (tx : ℕ) → NoStores s (closing tx (carryOut n ops (s .pages)) s)
   unfolding gives
   quiet-carried n ops tx =
       record {
@@ -69,10 +69,10 @@ module _ (s : Store) where
         less = λ w f g. sum-carry w f g n ops (s .pages);
       }
 
-  pub quiet : (c : TransactionCall) → Quiet s (transact c s)
+  pub quiet : (c : TransactionCall) → NoStores s (transact c s)
   quiet c = go (transact c s) (does c s)
     where
-      go : (o : Outcome) → Does c s o → Quiet s o
+      go : (o : Outcome) → Does c s o → NoStores s o
       go o (refuses n) = quiet-same (refused n)
       go o (answers a e h) = quiet-same a
       go o (starts tx e l i f) = quiet-opened done _
@@ -146,7 +146,7 @@ stands-leaves c s o h k i =
       image = i;
     }
 
-quiet-leaves : (c : Call) (s : Store) (o : Outcome) → isTransaction c ≡ true → Quiet s o → Leaves c s o
+quiet-leaves : (c : Call) (s : Store) (o : Outcome) → isTransaction c ≡ true → NoStores s o → Leaves c s o
 unfolding changed
 quiet-leaves c s o h q =
     record {

@@ -21,23 +21,23 @@ gather F [] = []
 gather F (r ∷ rs) = F r ++ gather F rs
 
 -- what becomes of a row
-unfoldable pub fate : List Op → Row → List Row
-fate [] r = r ∷ []
-fate (toCommit n ∷ os) r = if isRow n r then fate os (r .0, asCommitted (r .1)) else fate os r
-fate (toRemove n ∷ os) r = if isRow n r then [] else fate os r
+unfoldable pub rowAfter : List Op → Row → List Row
+rowAfter [] r = r ∷ []
+rowAfter (toCommit n ∷ os) r = if isRow n r then rowAfter os (r .0, asCommitted (r .1)) else rowAfter os r
+rowAfter (toRemove n ∷ os) r = if isRow n r then [] else rowAfter os r
 
-gather-nil : (rs : List Row) → gather (fate []) rs ≡ rs
-unfolding gather fate
+gather-nil : (rs : List Row) → gather (rowAfter []) rs ≡ rs
+unfolding gather rowAfter
 gather-nil [] = refl
 gather-nil (r ∷ rs) = ap (λ z. r ∷ z) (gather-nil rs)
 
-gather-removes : (n : ℕ) (os : List Op) (rs : List Row) → gather (fate os) (amend away n rs) ≡ gather (fate (toRemove n ∷ os)) rs
-unfolding gather fate amend away if_then_else_
+gather-removes : (n : ℕ) (os : List Op) (rs : List Row) → gather (rowAfter os) (amend away n rs) ≡ gather (rowAfter (toRemove n ∷ os)) rs
+unfolding gather rowAfter amend away if_then_else_
 gather-removes n os [] = refl
 gather-removes n os (r ∷ rs) = by (isRow n r) (λ h. rw (h, gather-removes n os rs)) (λ h. rw (h, gather-removes n os rs))
 
-gather-commits : (n : ℕ) (os : List Op) (rs : List Row) → gather (fate os) (amend kept-row n rs) ≡ gather (fate (toCommit n ∷ os)) rs
-unfolding gather fate amend kept-row if_then_else_
+gather-commits : (n : ℕ) (os : List Op) (rs : List Row) → gather (rowAfter os) (amend kept-row n rs) ≡ gather (rowAfter (toCommit n ∷ os)) rs
+unfolding gather rowAfter amend kept-row if_then_else_
 gather-commits n os [] = refl
 gather-commits n os (r ∷ rs) = by (isRow n r) (λ h. rw (h, gather-commits n os rs)) (λ h. rw (h, gather-commits n os rs))
 
@@ -46,7 +46,7 @@ differ-alike a b c d e f h k = h (sym (e .2) ∙ k ∙ f .2)
 
 -- the operations os on the entries b give a
 abbrev Performed : List Op → List Entry → List Entry → Type 0
-Performed os a b = Sub (plain a) (plain b) × (liveRows a ≡ gather (fate os) (liveRows b))
+Performed os a b = Sub (plain a) (plain b) × (liveRows a ≡ gather (rowAfter os) (liveRows b))
 
 perform-entries : (os : List Op) (ps : List Page) → AllOf PageOk ps → Pairs Differ (plain (entries ps))
     → Performed os (entries (perform os ps)) (entries ps)
@@ -55,17 +55,17 @@ perform-entries [] ps a d = (sub-refl (plain (entries ps)), sym (gather-nil (liv
 perform-entries (toCommit n ∷ os) ps a d =
     let m = amends-commit n ps a in
     let r = perform-entries os (commit n ps) (subst (AllOf PageOk) (sym (commit-place n ps)) (commitRow-ok (placeIn n (numbers ps)) ps a)) (sub-pairs Differ differ-alike (m .0) d) in
-    (sub-trans (r .0) (m .0), r .1 ∙ ap (gather (fate os)) (m .1 (pairs-plain Differ (entries ps) d)) ∙ gather-commits n os (liveRows (entries ps)))
+    (sub-trans (r .0) (m .0), r .1 ∙ ap (gather (rowAfter os)) (m .1 (pairs-plain Differ (entries ps) d)) ∙ gather-commits n os (liveRows (entries ps)))
 perform-entries (toRemove n ∷ os) ps a d =
     let m = amends-remove n ps a in
     let r = perform-entries os (remove n ps) (subst (AllOf PageOk) (sym (remove-place n ps)) (removeRow-ok (placeIn n (numbers ps)) ps a)) (sub-pairs Differ differ-alike (m .0) d) in
-    (sub-trans (r .0) (m .0), r .1 ∙ ap (gather (fate os)) (m .1 (pairs-plain Differ (entries ps) d)) ∙ gather-removes n os (liveRows (entries ps)))
+    (sub-trans (r .0) (m .0), r .1 ∙ ap (gather (rowAfter os)) (m .1 (pairs-plain Differ (entries ps) d)) ∙ gather-removes n os (liveRows (entries ps)))
 
 pub perform-rows : (os : List Op) (ps : List Page) → AllOf PageOk ps → Pairs Differ (held ps)
-    → Sub (held (perform os ps)) (held ps) × (rows (perform os ps) ≡ gather (fate os) (rows ps))
+    → Sub (held (perform os ps)) (held ps) × (rows (perform os ps) ≡ gather (rowAfter os) (rows ps))
 perform-rows os ps a d =
     let r = perform-entries os ps a (subst (Pairs Differ) (held-plain ps) d) in
-    (rw (held-plain ps, held-plain (perform os ps)) (r .0), rows-live (perform os ps) ∙ r .1 ∙ ap (gather (fate os)) (sym (rows-live ps)))
+    (rw (held-plain ps, held-plain (perform os ps)) (r .0), rows-live (perform os ps) ∙ r .1 ∙ ap (gather (rowAfter os)) (sym (rows-live ps)))
 
 -- r is the only row of its number
 abbrev Only : Row → List Row → Type 0
@@ -84,15 +84,15 @@ opNumber (toRemove n) = n
 abbrev Off : Row → Op → Type 0
 Off r o = isRow (opNumber o) r ≡ false
 
-off-append : (a b : List Op) (r : Row) → AllOf (Off r) a → fate (a ++ b) r ≡ fate b r
-unfolding fate opNumber if_then_else_
+off-append : (a b : List Op) (r : Row) → AllOf (Off r) a → rowAfter (a ++ b) r ≡ rowAfter b r
+unfolding rowAfter opNumber if_then_else_
 off-append [] b r h = refl
 off-append (toCommit n ∷ os) b r h = rw (h .0) (off-append os b r (h .1))
 off-append (toRemove n ∷ os) b r h = rw (h .0) (off-append os b r (h .1))
 
-off-fate : (a : List Op) (r : Row) → AllOf (Off r) a → fate a r ≡ r ∷ []
-unfolding fate
-off-fate a r h = ap (λ z. fate z r) (sym (append-nil a)) ∙ off-append a [] r h
+off-after : (a : List Op) (r : Row) → AllOf (Off r) a → rowAfter a r ≡ r ∷ []
+unfolding rowAfter
+off-after a r h = ap (λ z. rowAfter z r) (sym (append-nil a)) ∙ off-append a [] r h
 
 off-removeAll : (r : Row) (ys : List Row) → AllOf (λ y. isRow (number y) r ≡ false) ys → AllOf (Off r) (removeAll ys)
 unfolding removeAll opNumber
@@ -103,8 +103,8 @@ pub row-self : (r : Row) → isRow (number r) r ≡ true
 unfolding isRow number
 row-self r = eqb-self (r .1 .number)
 
-hit-removeAll : {r : Row} {ys : List Row} (os : List Op) → Mem r ys → fate (removeAll ys ++ os) r ≡ []
-unfolding fate removeAll if_then_else_
+hit-removeAll : {r : Row} {ys : List Row} (os : List Op) → Mem r ys → rowAfter (removeAll ys ++ os) r ≡ []
+unfolding rowAfter removeAll if_then_else_
 hit-removeAll {r} os here = rw (row-self r)
 hit-removeAll {r} os (there {y} m) = by (isRow (number y) r) (λ h. rw h) (λ h. rw h (hit-removeAll os m))
 
@@ -142,9 +142,9 @@ row-false n r h = by (isRow n r) (λ k. absurd (h (row-number n r k))) (λ k. k)
 -- ---- the plan
 
 -- of the rows at one key: the newest own one, if there is one, and a row
-unfoldable pub verdict : Option Row → Row → List Row
-verdict none r = r ∷ []
-verdict (some x) r = if x .1 .mark then [] else if isRow (number x) r then kept-row x else []
+unfoldable pub byNewest : Option Row → Row → List Row
+byNewest none r = r ∷ []
+byNewest (some x) r = if x .1 .mark then [] else if isRow (number x) r then kept-row x else []
 
 module _ (tx : ℕ) (all : List Row) (d : Pairs Differ all) where
   -- of x, what is planned for its key does not touch rows of other keys
@@ -179,13 +179,13 @@ module _ (tx : ℕ) (all : List Row) (d : Pairs Differ all) where
 
   -- a row at the key of x, the newest own one
   hit-mark : (x r : Row) (os : List Op) → Mem r all → With x r ≡ true → x .1 .mark ≡ true
-      → fate (planKey x (keep (With x) all) ++ os) r ≡ verdict (some x) r
-  unfolding planKey if_then_else_ verdict
+      → rowAfter (planKey x (keep (With x) all) ++ os) r ≡ byNewest (some x) r
+  unfolding planKey if_then_else_ byNewest
   hit-mark x r os mr h m = rw m (hit-removeAll os (mem-keep (With x) mr h))
 
   hit-other : (x r : Row) (os : List Op) → Mem r all → With x r ≡ true → x .1 .mark ≡ false → isRow (number x) r ≡ false
-      → fate (planKey x (keep (With x) all) ++ os) r ≡ verdict (some x) r
-  unfolding planKey if_then_else_ verdict fate number
+      → rowAfter (planKey x (keep (With x) all) ++ os) r ≡ byNewest (some x) r
+  unfolding planKey if_then_else_ byNewest rowAfter number
   hit-other x r os mr h m k = rw (m, k) (hit-removeAll os (mem-keep (λ y. not (isRow (number x) y)) (mem-keep (With x) mr h) (ap not k)))
 
   others-miss : (x : Row) (vs : List Row) → AllOf (λ y. isRow (number y) (x .0, asCommitted (x .1)) ≡ false) (keep (λ y. not (isRow (number x) y)) vs)
@@ -205,40 +205,40 @@ module _ (tx : ℕ) (all : List Row) (d : Pairs Differ all) where
   unfolding planKey if_then_else_
   planKey-live x vs m = rw m
 
-  commits-self : (x : Row) (os : List Op) → isRow (number x) x ≡ true → fate (toCommit (number x) ∷ os) x ≡ fate os (x .0, asCommitted (x .1))
-  unfolding fate if_then_else_
+  commits-self : (x : Row) (os : List Op) → isRow (number x) x ≡ true → rowAfter (toCommit (number x) ∷ os) x ≡ rowAfter os (x .0, asCommitted (x .1))
+  unfolding rowAfter if_then_else_
   commits-self x os k = rw k
 
-  verdict-live : (x r : Row) → x .1 .mark ≡ false → isRow (number x) r ≡ true → verdict (some x) r ≡ (x .0, asCommitted (x .1)) ∷ []
-  unfolding verdict if_then_else_ kept-row number
-  verdict-live x r m k = rw (m, k)
+  newest-live : (x r : Row) → x .1 .mark ≡ false → isRow (number x) r ≡ true → byNewest (some x) r ≡ (x .0, asCommitted (x .1)) ∷ []
+  unfolding byNewest if_then_else_ kept-row number
+  newest-live x r m k = rw (m, k)
 
   hit-step : (x : Row) (os : List Op) → x .1 .mark ≡ false → isRow (number x) x ≡ true
-      → fate (removeAll (keep (λ y. not (isRow (number x) y)) (keep (With x) all)) ++ os) (x .0, asCommitted (x .1)) ≡ (x .0, asCommitted (x .1)) ∷ []
-      → fate (planKey x (keep (With x) all) ++ os) x ≡ verdict (some x) x
+      → rowAfter (removeAll (keep (λ y. not (isRow (number x) y)) (keep (With x) all)) ++ os) (x .0, asCommitted (x .1)) ≡ (x .0, asCommitted (x .1)) ∷ []
+      → rowAfter (planKey x (keep (With x) all) ++ os) x ≡ byNewest (some x) x
   hit-step x os m k e =
-      ap (λ z. fate (z ++ os) x) (planKey-live x (keep (With x) all) m)
+      ap (λ z. rowAfter (z ++ os) x) (planKey-live x (keep (With x) all) m)
       ∙ commits-self x (removeAll (keep (λ y. not (isRow (number x) y)) (keep (With x) all)) ++ os) k ∙ e
-      ∙ sym (verdict-live x x m k)
+      ∙ sym (newest-live x x m k)
 
-  hit-self : (x : Row) (os : List Op) → x .1 .mark ≡ false → AllOf (Off x) os → fate (planKey x (keep (With x) all) ++ os) x ≡ verdict (some x) x
-  unfolding planKey if_then_else_ verdict fate kept-row
+  hit-self : (x : Row) (os : List Op) → x .1 .mark ≡ false → AllOf (Off x) os → rowAfter (planKey x (keep (With x) all) ++ os) x ≡ byNewest (some x) x
+  unfolding planKey if_then_else_ byNewest rowAfter kept-row
   hit-self x os m off =
       let y : Row = (x .0, asCommitted (x .1)) in
       let vs = keep (With x) all in
       let k = row-self x in
       let e = off-append (removeAll (keep (λ y. not (isRow (number x) y)) vs)) os y
-      (off-removeAll y (keep (λ y. not (isRow (number x) y)) vs) (others-miss x vs)) ∙ off-fate os y (off-settled x os off) in
+      (off-removeAll y (keep (λ y. not (isRow (number x) y)) vs) (others-miss x vs)) ∙ off-after os y (off-settled x os off) in
       hit-step x os m k e
 
   planKey-hit : (x r : Row) (os : List Op) → Mem x all → Mem r all → With x r ≡ true → AllOf (Off r) os
-      → fate (planKey x (keep (With x) all) ++ os) r ≡ verdict (some x) r
+      → rowAfter (planKey x (keep (With x) all) ++ os) r ≡ byNewest (some x) r
   unfolding number
   planKey-hit x r os mx mr h off =
       by (x .1 .mark) (λ m. hit-mark x r os mr h m)
       (λ m. by (isRow (number x) r)
       (λ k. let e : x ≡ r = mem-all (λ y. y .1 .number ≡ r .1 .number → y ≡ r) mx (mem-only mr d) (sym (row-number (x .1 .number) r k)) in
-      subst (λ z. fate (planKey x (keep (With x) all) ++ os) z ≡ verdict (some x) z) e (hit-self x os m (subst (λ z. AllOf (Off z) os) (sym e) off)))
+      subst (λ z. rowAfter (planKey x (keep (With x) all) ++ os) z ≡ byNewest (some x) z) e (hit-self x os m (subst (λ z. AllOf (Off z) os) (sym e) off)))
       (λ k. hit-other x r os mr h m k))
 
   abbrev Own : Row → Row → Bool
@@ -259,35 +259,35 @@ module _ (tx : ℕ) (all : List Row) (d : Pairs Differ all) where
   with-true : (x r : Row) → With r x ≡ true → With x r ≡ true
   with-true x r h = let s = at-split (r .0) (r .1 .key) x h in at-join (x .0) (x .1 .key) r (sym (s .0)) (sym (s .1))
 
-  plan-step : (r x : Row) (xs : List Row) → Mem r all → Mem x all → Within xs → fate (planRows tx all xs) r ≡ verdict (last (Own r) xs) r
-      → fate (planRows tx all (x ∷ xs)) r ≡ verdict (last (Own r) (x ∷ xs)) r
+  plan-step : (r x : Row) (xs : List Row) → Mem r all → Mem x all → Within xs → rowAfter (planRows tx all xs) r ≡ byNewest (last (Own r) xs) r
+      → rowAfter (planRows tx all (x ∷ xs)) r ≡ byNewest (last (Own r) (x ∷ xs)) r
   plan-step r x xs mr mx w ih =
       by (Own r x)
       (λ k. let o = own-parts r x k in
       by-option (last (Own r) xs)
       (λ n. let q : any (Own r) xs ≡ false = any-off (Own r) xs (last-off (Own r) xs n) in
       let e : (isOwn tx x && not (any (Own x) xs)) ≡ true = rw (o .0, own-same x r (o .1) xs, q) in
-      ap (λ z. fate z r) (plan-take tx all x xs e) ∙ planKey-hit x r (planRows tx all xs) mx mr (with-true x r (o .1)) (plan-off r mr xs w q)
-      ∙ ap (λ z. verdict z r) (sym (last-here (Own r) x xs n k)))
+      ap (λ z. rowAfter z r) (plan-take tx all x xs e) ∙ planKey-hit x r (planRows tx all xs) mx mr (with-true x r (o .1)) (plan-off r mr xs w q)
+      ∙ ap (λ z. byNewest z r) (sym (last-here (Own r) x xs n k)))
       (λ y n. let e : (isOwn tx x && not (any (Own x) xs)) ≡ false = rw (o .0, own-same x r (o .1) xs, last-any (Own r) xs y n) in
-      ap (λ z. fate z r) (plan-skip tx all x xs e) ∙ ih ∙ ap (λ z. verdict z r) (n ∙ sym (last-some (Own r) x xs y n))))
-      (λ k. let rest : fate (planRows tx all xs) r ≡ verdict (last (Own r) (x ∷ xs)) r = ih ∙ ap (λ z. verdict z r) (sym (last-skip (Own r) x xs k)) in
+      ap (λ z. rowAfter z r) (plan-skip tx all x xs e) ∙ ih ∙ ap (λ z. byNewest z r) (n ∙ sym (last-some (Own r) x xs y n))))
+      (λ k. let rest : rowAfter (planRows tx all xs) r ≡ byNewest (last (Own r) (x ∷ xs)) r = ih ∙ ap (λ z. byNewest z r) (sym (last-skip (Own r) x xs k)) in
       by (isOwn tx x && not (any (Own x) xs))
       (λ e. let o = and-true (isOwn tx x) (not (any (Own x) xs)) e in
-      ap (λ z. fate z r) (plan-take tx all x xs e) ∙ off-append (planKey x (keep (With x) all)) (planRows tx all xs) r
+      ap (λ z. rowAfter z r) (plan-take tx all x xs e) ∙ off-append (planKey x (keep (With x) all)) (planRows tx all xs) r
       (planKey-off x r mx mr (with-sym r x (own-not r x k (o .0)))) ∙ rest)
-      (λ e. ap (λ z. fate z r) (plan-skip tx all x xs e) ∙ rest))
+      (λ e. ap (λ z. rowAfter z r) (plan-skip tx all x xs e) ∙ rest))
 
-  plan-fate : (r : Row) → Mem r all → (xs : List Row) → Within xs → fate (planRows tx all xs) r ≡ verdict (last (Own r) xs) r
-  plan-fate r mr [] w = unfold planRows fate verdict last in refl
-  plan-fate r mr (x ∷ xs) w = plan-step r x xs mr (w .0) (w .1) (plan-fate r mr xs (w .1))
+  plan-after : (r : Row) → Mem r all → (xs : List Row) → Within xs → rowAfter (planRows tx all xs) r ≡ byNewest (last (Own r) xs) r
+  plan-after r mr [] w = unfold planRows rowAfter byNewest last in refl
+  plan-after r mr (x ∷ xs) w = plan-step r x xs mr (w .0) (w .1) (plan-after r mr xs (w .1))
 
-  abort-fate : (r : Row) → Mem r all → fate (removeAll (keep (isOwn tx) all)) r ≡ (if isOwn tx r then [] else r ∷ [])
+  abort-after : (r : Row) → Mem r all → rowAfter (removeAll (keep (isOwn tx) all)) r ≡ (if isOwn tx r then [] else r ∷ [])
   unfolding number
-  abort-fate r mr =
+  abort-after r mr =
       by (isOwn tx r)
-      (λ o. ap (λ z. fate z r) (sym (append-nil (removeAll (keep (isOwn tx) all)))) ∙ hit-removeAll [] (mem-keep (isOwn tx) mr o) ∙ (unfold if_then_else_ in rw o))
-      (λ o. off-fate (removeAll (keep (isOwn tx) all)) r
+      (λ o. ap (λ z. rowAfter z r) (sym (append-nil (removeAll (keep (isOwn tx) all)))) ∙ hit-removeAll [] (mem-keep (isOwn tx) mr o) ∙ (unfold if_then_else_ in rw o))
+      (λ o. off-after (removeAll (keep (isOwn tx) all)) r
       (off-removeAll r (keep (isOwn tx) all) (all-map (λ y. (isOwn tx y ≡ true) × Mem y all) (λ y. isRow (number y) r ≡ false)
       (λ y q. row-false (number y) r (λ e. lie (sym o ∙ ap (isOwn tx) (sym (mem-all (λ y. y .1 .number ≡ r .1 .number → y ≡ r) (q .1) (mem-only mr d) (sym e))) ∙ q .0)))
       (keep (isOwn tx) all) (all-keep (λ y. Mem y all) (isOwn tx) all (all-mem _ all (λ y m. m))))) ∙ (unfold if_then_else_ in rw o))
@@ -299,15 +299,15 @@ gather-ext F G (r ∷ rs) h = rw (h .0, gather-ext F G rs (h .1))
 
 -- commit and abort, on the live rows
 unfoldable pub afterCommit : ℕ → List Row → Row → List Row
-afterCommit tx all r = verdict (last (ownAt tx (r .0) (r .1 .key)) all) r
+afterCommit tx all r = byNewest (last (ownAt tx (r .0) (r .1 .key)) all) r
 
 unfoldable pub afterAbort : ℕ → Row → List Row
 afterAbort tx r = if isOwn tx r then [] else r ∷ []
 
-pub commit-rows : (tx : ℕ) (all : List Row) → Pairs Differ all → gather (fate (planRows tx all all)) all ≡ gather (afterCommit tx all) all
+pub commit-rows : (tx : ℕ) (all : List Row) → Pairs Differ all → gather (rowAfter (planRows tx all all)) all ≡ gather (afterCommit tx all) all
 unfolding afterCommit
-commit-rows tx all d = gather-ext _ _ all (all-mem _ all (λ r m. plan-fate tx all d r m all (all-mem _ all (λ y k. k))))
+commit-rows tx all d = gather-ext _ _ all (all-mem _ all (λ r m. plan-after tx all d r m all (all-mem _ all (λ y k. k))))
 
-pub abort-rows : (tx : ℕ) (all : List Row) → Pairs Differ all → gather (fate (removeAll (keep (isOwn tx) all))) all ≡ gather (afterAbort tx) all
+pub abort-rows : (tx : ℕ) (all : List Row) → Pairs Differ all → gather (rowAfter (removeAll (keep (isOwn tx) all))) all ≡ gather (afterAbort tx) all
 unfolding afterAbort
-abort-rows tx all d = gather-ext _ _ all (all-mem _ all (λ r m. abort-fate tx all d r m))
+abort-rows tx all d = gather-ext _ _ all (all-mem _ all (λ r m. abort-after tx all d r m))

@@ -17,7 +17,7 @@ use Rattle.model.proofs.Pages.{stillFrozen, all-thaw}
 use Rattle.model.proofs.Totals.{sum-thaw}
 use Rattle.model.proofs.Alloc.{Fresh, allocate-fresh, count-one, used-new, used-old}
 use Rattle.model.proofs.Effects.{unless-keeps}
-use Rattle.model.proofs.Quiet.{quiet, step-keeps, run-keeps}
+use Rattle.model.proofs.NoStores.{quiet, step-keeps, run-keeps}
 
 -- ---- entries: 0 stands for a page still to be written
 
@@ -82,7 +82,7 @@ abbrev pub Ledger : Checkpoint → Store → Type 0
 Ledger idle s = AllOf (Booked (s .used)) (s .pages)
 Ledger (running n es ds) s = Running n es ds s
 
-pub record Books (s : Store) : Type 0 where
+pub record BlockUse (s : Store) : Type 0 where
   pub blocks : (2 ≤ s .blocks) × (s .blocks ≤ 4096)
   pub cap : (1 ≤ s .capacity) × (s .capacity ≤ capacityLimit)
   pub level : s .level ≤ mostNumber
@@ -247,11 +247,11 @@ phase-quiet s nx ps os m e (running n es ds) k r =
       room = rw e (r .room);
     }
 
-books-quiet : (c : TransactionCall) (s : Store) → Books s → Books (transact c s .store)
+books-quiet : (c : TransactionCall) (s : Store) → BlockUse s → BlockUse (transact c s .store)
 books-quiet c s b =
     let pool : ℕ → Bool = poolOf (s .checkpoint) s in
     let k = quiet s c in
-    subst Books (sym (k .eq)) (unfold changed in record {
+    subst BlockUse (sym (k .eq)) (unfold changed in record {
       blocks = b .blocks;
       cap = b .cap;
       level = b .level;
@@ -303,10 +303,10 @@ unfolding sum inBlock freeze
 same-blocks b [] = refl
 same-blocks b (p ∷ ps) = rw (same-blocks b ps)
 
-books-begin : (s : Store) → length (s .pages) ≤ s .capacity → Books s → Books (beginCall s .store)
+books-begin : (s : Store) → length (s .pages) ≤ s .capacity → BlockUse s → BlockUse (beginCall s .store)
 unfolding beginCall gives withProgress freeCount isFree blocksNeeded
 books-begin s few b =
-    unless-keeps Books _ s _ b (λ p.
+    unless-keeps BlockUse _ s _ b (λ p.
     let i = idle-of (s .checkpoint) (p .0) in
     let ph : AllOf (Booked (s .used)) (s .pages) = subst (λ c. Ledger c s) i (b .phase) in
     let enough = leb-false (suc (freeCount s)) (blocksNeeded (s .pages)) (p .1 .1 .0) in
@@ -347,8 +347,8 @@ unfolding if_then_else_
 taken-once c i old {now} l z h =
     by (eqb c i) (λ k. let e = z (eqb-true c i k) in let g : now ≤ old + 1 = (rw k at h) in omega arith) (λ k. let g : now ≤ old + 0 = (rw k at h) in omega arith)
 
-module _ (s : Store) (b : Books s) (n : ℕ) (es ds : List ℕ) (r : Running n es ds s) where
-  page-books : (p : Page) → first isFrozen (s .pages) ≡ some p → Books (storePage n es ds p s .store)
+module _ (s : Store) (b : BlockUse s) (n : ℕ) (es ds : List ℕ) (r : Running n es ds s) where
+  page-books : (p : Page) → first isFrozen (s .pages) ≡ some p → BlockUse (storePage n es ds p s .store)
   unfolding storePage made withProgress freeCount isFree
   page-books p e =
       let ims = images-first (s .pages) p e in
@@ -394,7 +394,7 @@ module _ (s : Store) (b : Books s) (n : ℕ) (es ds : List ℕ) (r : Running n e
       later : {c : Content} {is : List Content} → 0 < length ds → images (s .pages) ≡ c ∷ is → ⊥
       later h e = let q = r .late h in let z : _≡_ {A = ℕ} 0 1 = cc in omega arith
 
-  directory-books : first isFrozen (s .pages) ≡ none → ltb (length ds) (directoriesFor (length es)) ≡ true → Books (storeDirectory n es ds s .store)
+  directory-books : first isFrozen (s .pages) ≡ none → ltb (length ds) (directoriesFor (length es)) ≡ true → BlockUse (storeDirectory n es ds s .store)
   unfolding storeDirectory made withProgress freeCount isFree
   directory-books e lt =
       let few : length ds < directoriesFor (length es) = leb-true (suc (length ds)) (directoriesFor (length es)) lt in
@@ -428,7 +428,7 @@ module _ (s : Store) (b : Books s) (n : ℕ) (es ds : List ℕ) (r : Running n e
         };
       }
 
-  header-books : first isFrozen (s .pages) ≡ none → Books (storeHeader n es ds s .store)
+  header-books : first isFrozen (s .pages) ≡ none → BlockUse (storeHeader n es ds s .store)
   unfolding storeHeader made withProgress
   header-books e =
       let ims = ap length (images-none (s .pages) e) in
@@ -445,11 +445,11 @@ module _ (s : Store) (b : Books s) (n : ℕ) (es ds : List ℕ) (r : Running n e
         phase = all-map _ _ (λ q t. booked-more (λ c. isIn c es) (λ c. isIn c (es ++ ds)) q (λ c p h. rw (in-append c es, h)) t) (s .pages) (r .booked);
       }
 
-pub step-books : (s : Store) → Books s → Books (stepAt (s .checkpoint) s .store)
+pub step-books : (s : Store) → BlockUse s → BlockUse (stepAt (s .checkpoint) s .store)
 unfolding stepAt stepOf gives if_then_else_
 step-books s b = go (s .checkpoint) (b .phase)
   where
-    go : (c : Checkpoint) → Ledger c s → Books (stepAt c s .store)
+    go : (c : Checkpoint) → Ledger c s → BlockUse (stepAt c s .store)
     go idle ph = b
     go (running n es ds) r =
         by-option (first isFrozen (s .pages))
@@ -459,9 +459,9 @@ step-books s b = go (s .checkpoint) (b .phase)
 
 -- ---- all calls
 
-pub keeps-books : (c : Call) (s : Store) → length (s .pages) ≤ s .capacity → Books s → Books (call c s .store)
+pub keeps-books : (c : Call) (s : Store) → length (s .pages) ≤ s .capacity → BlockUse s → BlockUse (call c s .store)
 unfolding call
 keeps-books (transacts c) s few b = books-quiet c s b
 keeps-books begins s few b = books-begin s few b
-keeps-books (steps len) s few b = step-keeps Books step-books len s b
-keeps-books (runs limit len) s few b = run-keeps Books step-books limit len s b
+keeps-books (steps len) s few b = step-keeps BlockUse step-books len s b
+keeps-books (runs limit len) s few b = run-keeps BlockUse step-books limit len s b
