@@ -1,4 +1,4 @@
--- The blocks in use, the block last taken, and the books of a running checkpoint: an invariant of the store alone.
+-- The blocks in use, the block last taken, and the entries and directory blocks of a running checkpoint: an invariant of the store alone.
 use Rattle.basics.proofs.Kit.{_≡_, refl, sym, ap, _∙_, subst, ap₂, Bool, true, false, not, some, none, List, [], _∷_, _++_, append-nil, map, tail, ℕ, suc, _+_, _≤_, _<_, _-_, leb, eqb}
 use Rattle.basics.proofs.Kit.{ltb, length, length-append, length-map, arith}
 use Rattle.basics.specs.Basics.{isIn, any, if_then_else_, howMany, sum, distinct, first}
@@ -17,7 +17,7 @@ use Rattle.model.proofs.Pages.{stillFrozen, all-thaw}
 use Rattle.model.proofs.Totals.{sum-thaw}
 use Rattle.model.proofs.Alloc.{Fresh, allocate-fresh, count-one, used-new, used-old}
 use Rattle.model.proofs.Effects.{unless-keeps}
-use Rattle.model.proofs.NoStores.{quiet, step-keeps, run-keeps}
+use Rattle.model.proofs.NoStores.{no-stores, step-keeps, run-keeps}
 
 -- ---- entries: 0 stands for a page still to be written
 
@@ -226,13 +226,13 @@ inBlock-clean : (b i : ℕ) (p : Page) → inBlock b (record { table = p .table;
 unfolding inBlock
 inBlock-clean b i p = omega arith
 
--- ---- quiet calls
+-- ---- calls that make no store
 
-phase-quiet : (s : Store) (nx : ℕ) (ps : List Page) (os : List Active) → s .next ≤ nx → images ps ≡ images (s .pages) → (c : Checkpoint)
+phase-kept : (s : Store) (nx : ℕ) (ps : List Page) (os : List Active) → s .next ≤ nx → images ps ≡ images (s .pages) → (c : Checkpoint)
     → (AllOf (Booked (poolOf c s)) (s .pages) → AllOf (Booked (poolOf c s)) ps) → Ledger c s → Ledger c (changed s nx ps os)
 unfolding changed freeCount isFree
-phase-quiet s nx ps os m e idle k ph = k ph
-phase-quiet s nx ps os m e (running n es ds) k r =
+phase-kept s nx ps os m e idle k ph = k ph
+phase-kept s nx ps os m e (running n es ds) k r =
     record {
       level = r .level;
       number = omega (arith, r .number);
@@ -247,10 +247,10 @@ phase-quiet s nx ps os m e (running n es ds) k r =
       room = rw e (r .room);
     }
 
-books-quiet : (c : TransactionCall) (s : Store) → BlockUse s → BlockUse (transact c s .store)
-books-quiet c s b =
+call-use : (c : TransactionCall) (s : Store) → BlockUse s → BlockUse (transact c s .store)
+call-use c s b =
     let pool : ℕ → Bool = poolOf (s .checkpoint) s in
-    let k = quiet s c in
+    let k = no-stores s c in
     subst BlockUse (sym (k .eq)) (unfold changed in record {
       blocks = b .blocks;
       cap = b .cap;
@@ -258,7 +258,7 @@ books-quiet c s b =
       taken = b .taken;
       within = b .within;
       apart = λ c l. let m = k .less (inBlock c) (inBlock-fresh c l) (inBlock-frozen c) in omega (arith, b .apart c l);
-      phase = phase-quiet s (k .next) (k .pages) (k .active) (k .more) (k .same) (s .checkpoint)
+      phase = phase-kept s (k .next) (k .pages) (k .active) (k .more) (k .same) (s .checkpoint)
           (k .kept (Booked pool) (booked-fresh pool) (booked-frozen pool)) (b .phase);
     })
 
@@ -303,9 +303,9 @@ unfolding sum inBlock freeze
 same-blocks b [] = refl
 same-blocks b (p ∷ ps) = rw (same-blocks b ps)
 
-books-begin : (s : Store) → length (s .pages) ≤ s .capacity → BlockUse s → BlockUse (beginCall s .store)
+begin-use : (s : Store) → length (s .pages) ≤ s .capacity → BlockUse s → BlockUse (beginCall s .store)
 unfolding beginCall gives withProgress freeCount isFree blocksNeeded
-books-begin s few b =
+begin-use s few b =
     unless-keeps BlockUse _ s _ b (λ p.
     let i = idle-of (s .checkpoint) (p .0) in
     let ph : AllOf (Booked (s .used)) (s .pages) = subst (λ c. Ledger c s) i (b .phase) in
@@ -348,9 +348,9 @@ taken-once c i old {now} l z h =
     by (eqb c i) (λ k. let e = z (eqb-true c i k) in let g : now ≤ old + 1 = (rw k at h) in omega arith) (λ k. let g : now ≤ old + 0 = (rw k at h) in omega arith)
 
 module _ (s : Store) (b : BlockUse s) (n : ℕ) (es ds : List ℕ) (r : Running n es ds s) where
-  page-books : (p : Page) → first isFrozen (s .pages) ≡ some p → BlockUse (storePage n es ds p s .store)
+  page-use : (p : Page) → first isFrozen (s .pages) ≡ some p → BlockUse (storePage n es ds p s .store)
   unfolding storePage made withProgress freeCount isFree
-  page-books p e =
+  page-use p e =
       let ims = images-first (s .pages) p e in
       let is = tail (images (s .pages)) in
       let one : length (images (s .pages)) ≡ suc (length is) = ap length ims in
@@ -394,9 +394,9 @@ module _ (s : Store) (b : BlockUse s) (n : ℕ) (es ds : List ℕ) (r : Running 
       later : {c : Content} {is : List Content} → 0 < length ds → images (s .pages) ≡ c ∷ is → ⊥
       later h e = let q = r .late h in let z : _≡_ {A = ℕ} 0 1 = cc in omega arith
 
-  directory-books : first isFrozen (s .pages) ≡ none → ltb (length ds) (directoriesFor (length es)) ≡ true → BlockUse (storeDirectory n es ds s .store)
+  directory-use : first isFrozen (s .pages) ≡ none → ltb (length ds) (directoriesFor (length es)) ≡ true → BlockUse (storeDirectory n es ds s .store)
   unfolding storeDirectory made withProgress freeCount isFree
-  directory-books e lt =
+  directory-use e lt =
       let few : length ds < directoriesFor (length es) = leb-true (suc (length ds)) (directoriesFor (length es)) lt in
       let i = allocate s in
       let fr : Fresh (s .blocks) (s .used) i = allocate-fresh s (b .taken) (omega (arith, r .room)) in
@@ -428,9 +428,9 @@ module _ (s : Store) (b : BlockUse s) (n : ℕ) (es ds : List ℕ) (r : Running 
         };
       }
 
-  header-books : first isFrozen (s .pages) ≡ none → BlockUse (storeHeader n es ds s .store)
+  header-use : first isFrozen (s .pages) ≡ none → BlockUse (storeHeader n es ds s .store)
   unfolding storeHeader made withProgress
-  header-books e =
+  header-use e =
       let ims = ap length (images-none (s .pages) e) in
       let pos = none-waiting es (r .waiting ∙ ims) in
       let eok : AllOf (λ e. (0 < e) × (e < s .blocks)) es = all-two (λ e. 0 < e) (λ e. 0 < e → s .used e ≡ true) _ (λ e p u. b .within e (u p)) es pos (r .named) in
@@ -445,23 +445,23 @@ module _ (s : Store) (b : BlockUse s) (n : ℕ) (es ds : List ℕ) (r : Running 
         phase = all-map _ _ (λ q t. booked-more (λ c. isIn c es) (λ c. isIn c (es ++ ds)) q (λ c p h. rw (in-append c es, h)) t) (s .pages) (r .booked);
       }
 
-pub step-books : (s : Store) → BlockUse s → BlockUse (stepAt (s .checkpoint) s .store)
+pub step-use : (s : Store) → BlockUse s → BlockUse (stepAt (s .checkpoint) s .store)
 unfolding stepAt stepOf gives if_then_else_
-step-books s b = go (s .checkpoint) (b .phase)
+step-use s b = go (s .checkpoint) (b .phase)
   where
     go : (c : Checkpoint) → Ledger c s → BlockUse (stepAt c s .store)
     go idle ph = b
     go (running n es ds) r =
         by-option (first isFrozen (s .pages))
         (λ e. rw (e, stepOf) (by (ltb (length ds) (directoriesFor (length es)))
-        (λ k. rw (k, if_then_else_) (directory-books s b n es ds r e k)) (λ k. rw (k, if_then_else_) (header-books s b n es ds r e))))
-        (λ p e. rw (e, stepOf) (page-books s b n es ds r p e))
+        (λ k. rw (k, if_then_else_) (directory-use s b n es ds r e k)) (λ k. rw (k, if_then_else_) (header-use s b n es ds r e))))
+        (λ p e. rw (e, stepOf) (page-use s b n es ds r p e))
 
 -- ---- all calls
 
-pub keeps-books : (c : Call) (s : Store) → length (s .pages) ≤ s .capacity → BlockUse s → BlockUse (call c s .store)
+pub keeps-use : (c : Call) (s : Store) → length (s .pages) ≤ s .capacity → BlockUse s → BlockUse (call c s .store)
 unfolding call
-keeps-books (transacts c) s few b = books-quiet c s b
-keeps-books begins s few b = books-begin s few b
-keeps-books (steps len) s few b = step-keeps BlockUse step-books len s b
-keeps-books (runs limit len) s few b = run-keeps BlockUse step-books limit len s b
+keeps-use (transacts c) s few b = call-use c s b
+keeps-use begins s few b = begin-use s few b
+keeps-use (steps len) s few b = step-keeps BlockUse step-use len s b
+keeps-use (runs limit len) s few b = run-keeps BlockUse step-use limit len s b

@@ -9,12 +9,12 @@ use Rattle.model.specs.Transactions.{openNumbers}
 use Rattle.model.specs.Calls.{afterCalls, Call, AllTyped, Typed}
 use Rattle.model.specs.CrashRecovery.{log, isHeader, Same}
 use Rattle.model.proofs.Views.{AllSane, recoverView, CutV, WriteOk, CrashViews, WritesOk}
-use Rattle.model.proofs.BlockUse.{once-many, BlockUse, keeps-books, step-books}
+use Rattle.model.proofs.BlockUse.{once-many, BlockUse, keeps-use, step-use}
 use Rattle.model.proofs.Recovery.{Found, found}
 use Rattle.model.proofs.Inv.{Ready, Inv, Like}
 use Rattle.model.proofs.Steps.{Top}
 use Rattle.model.proofs.Crash.{main}
-use Rattle.model.proofs.Start.{start-idle, start-inv, start-books, start-active, start-distinct}
+use Rattle.model.proofs.Start.{start-idle, start-inv, start-use, start-active, start-distinct}
 use Rattle.model.proofs.Valid.{Valid, Counted}
 use Rattle.model.proofs.Keeps.{keeps, step-valid}
 use Rattle.model.proofs.Whole.{Fitting, starts, ready, few-pages}
@@ -35,8 +35,8 @@ module _ (v : View) (sane : AllSane v) (s : Store) (two : 2 ≤ s .blocks) (most
   unfolding afterCalls
   start-now = start-inv (s .blocks) v s at-start start-ready
 
-  start-books′ : BlockUse s
-  start-books′ = start-books (s .blocks) v s two most sane at-start
+  start-use′ : BlockUse s
+  start-use′ = start-use (s .blocks) v s two most sane at-start
 
   all-calls : (calls : List Call) → AllOf (λ c. Unit {0}) calls
   all-calls [] = tt
@@ -52,9 +52,9 @@ module _ (v : View) (sane : AllSane v) (s : Store) (two : 2 ≤ s .blocks) (most
       × AllOf (λ w. isHeader w ≡ true → Top (w .write .what) (afterCalls (w .before) s)) (log [] [] s calls)
   claims calls =
       let g = main (s .blocks) s (λ c. Unit {0}) (λ t. Valid t × Counted t × BlockUse t)
-      (λ c t o k. (keeps c t (k .0) (k .1), keeps-count c t (k .0) (k .1), keeps-books c t (few-pages t (k .0)) (k .2)))
-      (λ t k. (step-valid t (k .0), counted-step t (k .0) (k .1), step-books t (k .2))) (λ t k. ready t (k .0)) (λ t k. k .2) (λ t k. frozen-small t (k .0))
-      calls [] [] [] v s start-after (all-calls calls) (start-valid .0, start-valid .1, start-books′) start-now in
+      (λ c t o k. (keeps c t (k .0) (k .1), keeps-count c t (k .0) (k .1), keeps-use c t (few-pages t (k .0)) (k .2)))
+      (λ t k. (step-valid t (k .0), counted-step t (k .0) (k .1), step-use t (k .2))) (λ t k. ready t (k .0)) (λ t k. k .2) (λ t k. frozen-small t (k .0))
+      calls [] [] [] v s start-after (all-calls calls) (start-valid .0, start-valid .1, start-use′) start-now in
       (g .safe, g .tops)
 
   recovers-cut : (calls : List Call) (v′ : View) (base : List Call) → CutV v [] (log [] [] s calls) v′ base
@@ -79,10 +79,10 @@ module _ (v : View) (sane : AllSane v) (s : Store) (two : 2 ≤ s .blocks) (most
   writes-range : (calls : List Call) → AllTyped calls → AllOf (WriteOk (s .blocks)) (log [] [] s calls)
   writes-range calls a =
       main (s .blocks) s Typed (λ t. Valid t × Counted t × BlockUse t × Fitting t)
-      (λ c t o k. (keeps c t (k .0) (k .1), keeps-count c t (k .0) (k .1), keeps-books c t (few-pages t (k .0)) (k .2), keeps-fits c t o (k .0) (k .1) (k .3)))
-      (λ t k. (step-valid t (k .0), counted-step t (k .0) (k .1), step-books t (k .2), step-fits t (k .0) (k .3)))
+      (λ c t o k. (keeps c t (k .0) (k .1), keeps-count c t (k .0) (k .1), keeps-use c t (few-pages t (k .0)) (k .2), keeps-fits c t o (k .0) (k .1) (k .3)))
+      (λ t k. (step-valid t (k .0), counted-step t (k .0) (k .1), step-use t (k .2), step-fits t (k .0) (k .3)))
       (λ t k. ready t (k .0)) (λ t k. k .2) (λ t k. frozen-small t (k .0))
-      calls [] [] [] v s start-after (typed-calls calls a) (start-valid .0, start-valid .1, start-books′, start-valid .2) start-now .ranged most
+      calls [] [] [] v s start-after (typed-calls calls a) (start-valid .0, start-valid .1, start-use′, start-valid .2) start-now .ranged most
       (λ t k. frozen-fit t (k .0) (k .3))
 
 pub crash-views : CrashViews

@@ -16,7 +16,7 @@ use Rattle.model.proofs.Views.{CutV, recoverView, WriteOk, stop, put, t
 use Rattle.model.proofs.Frozen.{images}
 use Rattle.model.proofs.Pages.{stillFrozen}
 use Rattle.model.proofs.Effects.{unless-out}
-use Rattle.model.proofs.NoStores.{quiet, NoStores}
+use Rattle.model.proofs.NoStores.{no-stores, NoStores}
 use Rattle.model.proofs.BlockUse.{idle-of, BlockUse, Ledger}
 use Rattle.model.proofs.Recovery.{recovers}
 use Rattle.model.proofs.Inv.{Tied, tied-fresh, tied-frozen, Phase, Inv, Ready, Like, Good}
@@ -56,8 +56,8 @@ phase-changed img s b nx ps os e (running n₀ es ds) k r =
       tied = k (r .tied);
     }
 
-inv-quiet : (n : ℕ) (img : View) (s b b₀ : Store) (o : Outcome) → NoStores s o → Inv n img s b b₀ → Inv n img (o .store) b b₀
-inv-quiet n img s b b₀ o q inv =
+inv-kept : (n : ℕ) (img : View) (s b b₀ : Store) (o : Outcome) → NoStores s o → Inv n img s b b₀ → Inv n img (o .store) b b₀
+inv-kept n img s b b₀ o q inv =
     let T = Tie img s (s .checkpoint) in
     subst (λ t. Inv n img t b b₀) (sym (q .eq))
     (unfold changed in record {
@@ -107,7 +107,7 @@ after-snoc (d ∷ pre) c s = after-snoc pre c (call d s .store)
 -- n: the blocks; s₀: the store at the start; Okay: the calls allowed
 module _ (n : ℕ) (s₀ : Store) (Okay : Call → Type 0) (Valid : Store → Type 0)
     (keeps : (c : Call) (s : Store) → Okay c → Valid s → Valid (call c s .store)) (steps-keep : (s : Store) → Valid s → Valid (stepAt (s .checkpoint) s .store))
-    (ready : (s : Store) → Valid s → s .checkpoint ≡ idle → Ready s) (books : (s : Store) → Valid s → BlockUse s)
+    (ready : (s : Store) → Valid s → s .checkpoint ≡ idle → Ready s) (block-use : (s : Store) → Valid s → BlockUse s)
     (small : (s : Store) → Valid s → FrozenSmall s) where
   pub record Goes (img : View) (base₀ : List Call) (ws : List Logged) : Type 0 where
     pub safe : (img′ : View) (base′ : List Call) → CutV img base₀ ws img′ base′
@@ -161,7 +161,7 @@ module _ (n : ℕ) (s₀ : Store) (Okay : Call → Type 0) (Valid : Store → Ty
   turn-goes zero img s base base₀ rest v inv r = r img base₀ inv
   turn-goes (suc k) img s base base₀ rest v inv r =
       let o = stepAt (s .checkpoint) s in
-      step-goes img s base base₀ o (inTurn k (o .store) .writes) rest v inv (step-inv n img s (afterCalls base s₀) (afterCalls base₀ s₀) (books s v) (small s v) inv)
+      step-goes img s base base₀ o (inTurn k (o .store) .writes) rest v inv (step-inv n img s (afterCalls base s₀) (afterCalls base₀ s₀) (block-use s v) (small s v) inv)
       (λ img′ base₀′ i. turn-goes k img′ (o .store) base base₀′ rest (steps-keep s v) i r)
 
   -- what comes after a call: the store t, from which the rest of the calls is made
@@ -177,7 +177,7 @@ module _ (n : ℕ) (s₀ : Store) (Okay : Call → Type 0) (Valid : Store → Ty
       unless-out (λ t ws. Rest past′ base t cs → Goes img base₀ (map (tag base) ws ++ log past′ base t cs)) (badImage len s ∷ []) s o
       (λ r. r img base₀ inv)
       (λ r. subst (λ ws. Goes img base₀ (map (tag base) ws ++ log past′ base (o .store) cs)) (append-nil (o .writes))
-      (step-goes img s base base₀ o [] _ v inv (step-inv n img s (afterCalls base s₀) (afterCalls base₀ s₀) (books s v) (small s v) inv) r)) r
+      (step-goes img s base base₀ o [] _ v inv (step-inv n img s (afterCalls base s₀) (afterCalls base₀ s₀) (block-use s v) (small s v) inv) r)) r
 
   run-log : (limit len : ℕ) (img : View) (s : Store) (past base base₀ : List Call) (cs : List Call) → Valid s → Now img s base base₀
       → Rest (past ++ runs limit len ∷ []) base (runCall limit len s .store) cs → Goes img base₀ (log past base s (runs limit len ∷ cs))
@@ -190,14 +190,14 @@ module _ (n : ℕ) (s₀ : Store) (Okay : Call → Type 0) (Valid : Store → Ty
       (record { answer = count k; store = inTurn k s .store; writes = inTurn k s .writes })
       (λ r. r img base₀ inv) (λ r. turn-goes k img s base base₀ _ v inv r) r
 
-  quietly : (c : TransactionCall) (img : View) (s : Store) (past base base₀ : List Call) (cs : List Call)
+  without-stores : (c : TransactionCall) (img : View) (s : Store) (past base base₀ : List Call) (cs : List Call)
       → Now img s base base₀ → Rest (past ++ transacts c ∷ []) base (transact c s .store) cs → Goes img base₀ (log past base s (transacts c ∷ cs))
   unfolding log if_then_else_ call isBegin
-  quietly c img s past base base₀ cs inv r =
+  without-stores c img s past base base₀ cs inv r =
       let o = transact c s in
-      let q = quiet s c in
+      let q = no-stores s c in
       subst (λ ws. Goes img base₀ (map (tag base) ws ++ log (past ++ transacts c ∷ []) base (o .store) cs)) (sym (q .none-written))
-      (r img base₀ (inv-quiet n img s _ _ o q inv))
+      (r img base₀ (inv-kept n img s _ _ o q inv))
 
   begin-safe : (img : View) (s : Store) (past base base₀ : List Call) (cs : List Call) → s ≡ afterCalls past s₀ → Valid s → Now img s base base₀
       → ((base′ : List Call) → Rest (past ++ begins ∷ []) base′ (beginCall s .store) cs) → Goes img base₀ (log past base s (begins ∷ cs))
@@ -212,7 +212,7 @@ module _ (n : ℕ) (s₀ : Store) (Okay : Call → Type 0) (Valid : Store → Ty
   one : (c : Call) (img : View) (s : Store) (past base base₀ : List Call) (cs : List Call) → s ≡ afterCalls past s₀ → Valid s → Now img s base base₀
       → ((base′ : List Call) → Rest (past ++ c ∷ []) base′ (call c s .store) cs) → Goes img base₀ (log past base s (c ∷ cs))
   unfolding call
-  one (transacts c) img s past base base₀ cs e v inv r = quietly c img s past base base₀ cs inv (r base)
+  one (transacts c) img s past base base₀ cs e v inv r = without-stores c img s past base base₀ cs inv (r base)
   one begins img s past base base₀ cs e v inv r = begin-safe img s past base base₀ cs e v inv r
   one (steps len) img s past base base₀ cs e v inv r = step-log len img s past base base₀ cs v inv (r base)
   one (runs limit len) img s past base base₀ cs e v inv r = run-log limit len img s past base base₀ cs v inv (r base)

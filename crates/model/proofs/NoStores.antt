@@ -30,18 +30,18 @@ pub record NoStores (s : Store) (o : Outcome) : Type 1 where
       → ((p : Page) (ts : List Held) → p .frozen ≡ true → w (stillFrozen p ts) ≡ w p) → sum w pages ≤ sum w (s .pages)
 
 module _ (s : Store) where
-  quiet-opened : (a : Answer) (os : List Active) → NoStores s (gives a (changed s (s .next) (s .pages) os))
+  no-stores-opened : (a : Answer) (os : List Active) → NoStores s (gives a (changed s (s .next) (s .pages) os))
   unfolding gives
-  quiet-opened a os =
+  no-stores-opened a os =
       record { none-written = refl; next = _; pages = _; active = _; eq = refl; more = omega arith; same = refl; kept = λ Q f g h. h; less = λ w f g. omega arith }
 
-  quiet-same : (a : Answer) → NoStores s (gives a s)
+  no-stores-same : (a : Answer) → NoStores s (gives a s)
   unfolding gives changed
-  quiet-same a = quiet-opened a (s .active)
+  no-stores-same a = no-stores-opened a (s .active)
 
-  quiet-written : (tx t k : ℕ) (bs : List ℕ) (m : Bool) → NoStores s (withTuple tx t k bs m s)
+  no-stores-written : (tx t k : ℕ) (bs : List ℕ) (m : Bool) → NoStores s (withTuple tx t k bs m s)
   unfolding withTuple afterWrite gives
-  quiet-written tx t k bs m =
+  no-stores-written tx t k bs m =
       record {
         none-written = refl;
         next = _;
@@ -54,9 +54,9 @@ module _ (s : Store) where
         less = λ w f g. sum-place w f g t _ (s .pages);
       }
 
-  quiet-carried : (n : ℕ) (ops : List PlaceOp) (tx : ℕ) → NoStores s (closing tx (carryOut n ops (s .pages)) s)
+  no-stores-carried : (n : ℕ) (ops : List PlaceOp) (tx : ℕ) → NoStores s (closing tx (carryOut n ops (s .pages)) s)
   unfolding gives
-  quiet-carried n ops tx =
+  no-stores-carried n ops tx =
       record {
         none-written = refl;
         next = _;
@@ -69,16 +69,16 @@ module _ (s : Store) where
         less = λ w f g. sum-carry w f g n ops (s .pages);
       }
 
-  pub quiet : (c : TransactionCall) → NoStores s (transact c s)
-  quiet c = go (transact c s) (does c s)
+  pub no-stores : (c : TransactionCall) → NoStores s (transact c s)
+  no-stores c = go (transact c s) (does c s)
     where
       go : (o : Outcome) → Does c s o → NoStores s o
-      go o (refuses n) = quiet-same (refused n)
-      go o (answers a e h) = quiet-same a
-      go o (starts tx e l i f) = quiet-opened done _
-      go o (writes tx t k bs m e a) = quiet-written tx t k bs m
-      go o (finishes tx e) = quiet-carried _ _ tx
-      go o (undoes tx e) = quiet-carried _ _ tx
+      go o (refuses n) = no-stores-same (refused n)
+      go o (answers a e h) = no-stores-same a
+      go o (starts tx e l i f) = no-stores-opened done _
+      go o (writes tx t k bs m e a) = no-stores-written tx t k bs m
+      go o (finishes tx e) = no-stores-carried _ _ tx
+      go o (undoes tx e) = no-stores-carried _ _ tx
 
 -- ---- a step changes the level, the pages, the blocks in use, the block last taken and the checkpoint only
 
@@ -146,9 +146,9 @@ stands-leaves c s o h k i =
       image = i;
     }
 
-quiet-leaves : (c : Call) (s : Store) (o : Outcome) → isTransaction c ≡ true → NoStores s o → Leaves c s o
+no-stores-leaves : (c : Call) (s : Store) (o : Outcome) → isTransaction c ≡ true → NoStores s o → Leaves c s o
 unfolding changed
-quiet-leaves c s o h q =
+no-stores-leaves c s o h q =
     record {
       blocks = ap (λ t. t .blocks) (q .eq);
       capacity = ap (λ t. t .capacity) (q .eq);
@@ -163,7 +163,7 @@ quiet-leaves c s o h q =
 
 pub call-leaves : CallLeaves
 unfolding call isTransaction isStep
-call-leaves (transacts c) s = quiet-leaves (transacts c) s (transact c s) refl (quiet s c)
+call-leaves (transacts c) s = no-stores-leaves (transacts c) s (transact c s) refl (no-stores s c)
 call-leaves begins s = stands-leaves begins s (beginCall s) refl (begin-stands s .0) (λ e. begin-stands s .1)
 call-leaves (steps len) s = stands-leaves (steps len) s (stepCall len s) refl (step-keeps (Stands s) (step-stands s) len s (unmoved s)) (λ e. lie (sym e))
 call-leaves (runs limit len) s = stands-leaves (runs limit len) s (runCall limit len s) refl (run-keeps (Stands s) (step-stands s) limit len s (unmoved s)) (λ e. lie (sym e))

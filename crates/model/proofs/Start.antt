@@ -113,7 +113,7 @@ start-store n v s f rd =
 pub start-inv : (n : ℕ) (v : View) (s : Store) → Found n v s → Ready s → Inv n v s s s
 start-inv n v s f rd = subst (λ z. Inv n v z z z) (f .store) (start-store n v s f (subst Ready (sym (f .store)) rd))
 
--- ---- the books of a recovered store
+-- ---- the blocks that a recovered store uses
 
 many-distinct : (b : ℕ) (es : List ℕ) → distinct es ≡ true → howMany (eqb b) es ≤ 1
 unfolding distinct howMany if_then_else_
@@ -129,10 +129,10 @@ unfolding loaded isDirty
 booked-loaded used [] a = tt
 booked-loaded used (p ∷ ps) a = ((λ h. lie h, λ h. a .0), booked-loaded used ps (a .1))
 
-read-books : (n : ℕ) (v : View) (h : Header) (es : List ℕ) (ps : List StoredPage) → 2 ≤ n → n ≤ 4096 → h .level ≤ mostNumber → Headed n h → map (λ p. p .block) ps ≡ es
+read-use : (n : ℕ) (v : View) (h : Header) (es : List ℕ) (ps : List StoredPage) → 2 ≤ n → n ≤ 4096 → h .level ≤ mostNumber → Headed n h → map (λ p. p .block) ps ≡ es
     → entriesOk (h .blocks) (directoryBlocks h) es ≡ true → BlockUse (recoveredStore h ps)
 unfolding recoveredStore
-read-books n v h es ps two most lvl g bs ok =
+read-use n v h es ps two most lvl g bs ok =
     let ds = directoryBlocks h in
     let eok = subst (AllOf (λ d. (0 < d) × (d < h .blocks))) (sym bs) (entries-in (h .blocks) ds es ok) in
     let dok = subst (λ m. AllOf (λ d. (0 < d) × (d < m)) ds) (sym (g .blocks)) (g .dirs) in
@@ -147,10 +147,10 @@ read-books n v h es ps two most lvl g bs ok =
       phase = booked-loaded _ ps (all-in _ (map (λ p. p .block) ps) (λ b i. rw (in-append b (map (λ p. p .block) ps), i)));
     }
 
-pub start-books : (n : ℕ) (v : View) (s : Store) → 2 ≤ n → n ≤ 4096 → AllSane v → Found n v s → BlockUse s
-start-books n v s two most sane f =
+pub start-use : (n : ℕ) (v : View) (s : Store) → 2 ≤ n → n ≤ 4096 → AllSane v → Found n v s → BlockUse s
+start-use n v s two most sane f =
     let h = f .head in
-    subst BlockUse (f .store) (read-books n v h (f .entries) (f .pages) two most (head-range v h sane (f .top) .0) (headed n h (f .head-ok))
+    subst BlockUse (f .store) (read-use n v h (f .entries) (f .pages) two most (head-range v h sane (f .top) .0) (headed n h (f .head-ok))
     (read-blocks v (h .level) (f .entries) (f .pages) (f .read)) (f .entries-ok))
 
 -- the transactions of its rows are open, and nothing runs

@@ -15,7 +15,7 @@ use Rattle.model.specs.CrashRecovery.{Start}
 use Rattle.model.specs.WellFormed.{KeptWell, WellFormed, heldOk, openOk, MadeWell, RecoveredWell, AlwaysWell}
 use Rattle.basics.proofs.Elements.{le-true}
 use Rattle.model.proofs.Recovery.{found, Found}
-use Rattle.model.proofs.Start.{loaded-held, start-books}
+use Rattle.model.proofs.Start.{loaded-held, start-use}
 use Rattle.model.proofs.Whole.{Fitting, starts}
 use Rattle.model.proofs.Listed.{Listed, reopened-once}
 use Rattle.model.proofs.Well.{well, keeps-sound, sound, Sound}
@@ -72,7 +72,7 @@ recovered-sound img s a =
       valid = k .0;
       counted = k .1;
       fitting = k .2;
-      books = start-books (s .blocks) v s (a .least) (a .most) (view-sane img) f;
+      block-use = start-use (s .blocks) v s (a .least) (a .most) (view-sane img) f;
       listed = listed-found (s .blocks) v s f (k .2);
     }
 

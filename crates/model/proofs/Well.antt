@@ -17,7 +17,7 @@ use Rattle.basics.proofs.Elements.{off-any, not-true, has-some, all-split, pos-
 use Rattle.model.proofs.Owners.{numbers-length}
 use Rattle.model.proofs.Splits.{Small}
 use Rattle.model.proofs.Frozen.{bare, images}
-use Rattle.model.proofs.BlockUse.{BlockUse, keeps-books, inBlock, Booked, Ledger, booked-more}
+use Rattle.model.proofs.BlockUse.{BlockUse, keeps-use, inBlock, Booked, Ledger, booked-more}
 use Rattle.model.proofs.Sound.{PageOk, NothingPending}
 use Rattle.model.proofs.Placing.{Before, page-full}
 use Rattle.model.proofs.RowAfter.{at-split}
@@ -33,7 +33,7 @@ pub record Sound (s : Store) : Type 0 where
   pub valid : Valid s
   pub counted : Counted s
   pub fitting : Fitting s
-  pub books : BlockUse s
+  pub block-use : BlockUse s
   pub listed : Listed s
 
 -- ---- every call keeps the invariants
@@ -44,7 +44,7 @@ keeps-sound c s t w =
       valid = keeps c s (w .valid) (w .counted);
       counted = keeps-count c s (w .valid) (w .counted);
       fitting = keeps-fits c s t (w .valid) (w .counted) (w .fitting);
-      books = keeps-books c s (few-pages s (w .valid)) (w .books);
+      block-use = keeps-use c s (few-pages s (w .valid)) (w .block-use);
       listed = keeps-listed c s (w .listed);
     }
 
@@ -219,7 +219,7 @@ opened-true os l o = rw (le-true (length os) 64 l, o .0, all-true (λ tx. leb tx
 pub well : (s : Store) → Sound s → WellFormed s
 well s w =
     let v = w .valid in
-    let b = w .books in
+    let b = w .block-use in
     let os = openNumbers (s .active) in
     let few : length os ≤ 64 = omega (arith, numbers-length (s .active), v .opened) in
     let booked = booked-used s b in
@@ -385,7 +385,7 @@ module _ (s : Store) (w : WellFormed s) where
     valid = valid;
     counted = w .counts;
     fitting = fitting;
-    books = record {
+    block-use = record {
       blocks = w .blocks;
       cap = w .capacity;
       level = w .level;

@@ -56,18 +56,18 @@ module _ (len : ℕ) (img : List ℕ) (s : Store) (e : length img ≡ 512 * s .b
 
 module _ (s : Store) (img m : List ℕ) (e : storeIn m ≡ some s) where
   -- a call that stores no block
-  quietly : (c : Call) (m′ : List ℕ) → isStep c ≡ false → storeIn m′ ≡ some (call c s .store)
+  without-stores : (c : Call) (m′ : List ℕ) → isStep c ≡ false → storeIn m′ ≡ some (call c s .store)
       → (storeIn m′ ≡ some (call c s .store)) × (img ≡ imageAfter (call c s .writes) img)
-  quietly c m′ h k = (k, still (call c s .writes) img (call-leaves c s .image h))
+  without-stores c m′ h k = (k, still (call c s .writes) img (call-leaves c s .image h))
 
   pub does : (c : Call) (img′ m′ : List ℕ) → length img ≡ 512 * s .blocks → Executes c img m img′ m′
       → (storeIn m′ ≡ some (call c s .store)) × (img′ ≡ imageAfter (call c s .writes) img)
   unfolding call isStep effect
-  does c img′ m′ l (transacting {c = d} r h ty a) = quietly (transacts d) m′ refl (answered (transacts d) s m e r m′ a)
+  does c img′ m′ l (transacting {c = d} r h ty a) = without-stores (transacts d) m′ refl (answered (transacts d) s m e r m′ a)
   does c img′ m′ l (reading {tx = tx} {t = t} {k = k} p p′ r a) =
-      let d = reads tx t k (length p) in quietly (transacts d) m refl (e ∙ ap some (sym (reads-only d s refl .0)))
-  does c img′ m′ l (listing p p′ r a) = let d = lists (length p) in quietly (transacts d) m refl (e ∙ ap some (sym (reads-only d s refl .0)))
-  does c img′ m′ l (beginning r a) = quietly begins m′ refl (answered begins s m e r m′ a)
+      let d = reads tx t k (length p) in without-stores (transacts d) m refl (e ∙ ap some (sym (reads-only d s refl .0)))
+  does c img′ m′ l (listing p p′ r a) = let d = lists (length p) in without-stores (transacts d) m refl (e ∙ ap some (sym (reads-only d s refl .0)))
+  does c img′ m′ l (beginning r a) = without-stores begins m′ refl (answered begins s m e r m′ a)
   does c img′ m′ l (stepping r a) = stored (steps (length img)) s m e img r img′ m′ a
   does c img′ m′ l (running {limit = limit} r a) = stored (runs limit (length img)) s m e img r img′ m′ a
   does c img′ m′ l (stepping-elsewhere p p′ r h a) = (stored (steps (length p)) s m e p r p′ m′ a .0, still _ img (bad-step (length p) img s l h))
