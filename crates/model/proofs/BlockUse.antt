@@ -64,7 +64,7 @@ pub record Running (n : ℕ) (es ds : List ℕ) (s : Store) : Type 0 where
   pub late : 0 < length ds → images (s .pages) ≡ []
   pub directories : length ds ≤ directoriesFor (length es)
   pub named : AllOf (λ e. 0 < e → s .used e ≡ true) es
-  pub written : AllOf (λ d. s .used d ≡ true) ds
+  pub directories-used : AllOf (λ d. s .used d ≡ true) ds
   pub once : (b : ℕ) → 0 < b → howMany (eqb b) (es ++ ds) ≤ 1
   pub booked : AllOf (Booked (λ b. isIn b es)) (s .pages)
   pub room : length (images (s .pages)) + (directoriesFor (length es) - length ds) ≤ freeCount s
@@ -241,7 +241,7 @@ phase-kept s nx ps os m e (running n es ds) k r =
       late = λ h. e ∙ r .late h;
       directories = r .directories;
       named = r .named;
-      written = r .written;
+      directories-used = r .directories-used;
       once = r .once;
       booked = k (r .booked);
       room = rw e (r .room);
@@ -325,7 +325,7 @@ begin-use s few b =
         late = λ h. absurd (omega arith);
         directories = omega arith;
         named = named-begin (s .used) (s .pages) ph;
-        written = tt;
+        directories-used = tt;
         once = λ c l. rw (append-nil (map (λ p. p .block) (s .pages)), inBlock-many c (s .pages)) (b .apart c l);
         booked = booked-begin (s .used) (map (λ p. p .block) (s .pages)) (s .pages) (in-own (s .pages));
         room = rw (← dirty-count (s .pages), length-map (s .pages)) (omega arith);
@@ -357,7 +357,7 @@ module _ (s : Store) (b : BlockUse s) (n : ℕ) (es ds : List ℕ) (r : Running 
       let i = allocate s in
       let fr : Fresh (s .blocks) (s .used) i = allocate-fresh s (b .taken) (omega (arith, r .room)) in
       let off = off-used (s .used) i es (fr .pos) (fr .free) (r .named) in
-      let off′ = off-used (s .used) i ds (fr .pos) (fr .free) (all-map _ _ (λ d h q. h) ds (r .written)) in
+      let off′ = off-used (s .used) i ds (fr .pos) (fr .free) (all-map _ _ (λ d h q. h) ds (r .directories-used)) in
       let some-left : 0 < howMany isZero es = omega (arith, r .waiting) in
       let cnt = count-one s i 1 (s .blocks - 1) in
       let z = zeros-fill i es (fr .pos) some-left in
@@ -379,7 +379,7 @@ module _ (s : Store) (b : BlockUse s) (n : ℕ) (es ds : List ℕ) (r : Running 
           late = λ h. absurd (later h ims);
           directories = rw (length-fill i es) (r .directories);
           named = all-fill _ i es (λ q. used-new s i) (all-map _ _ (λ e h q. used-old s i e (h q)) es (r .named));
-          written = all-map _ _ (λ d h. used-old s i d h) ds (r .written);
+          directories-used = all-map _ _ (λ d h. used-old s i d h) ds (r .directories-used);
           once = λ c l. taken-once c i (howMany (eqb c) (es ++ ds)) (r .once c l)
               (λ e. subst (λ z. howMany (eqb z) (es ++ ds) ≡ 0) (sym e) (many-append (eqb i) es ds ∙ ap₂ (λ a b. a + b) (not-in-many i es off) (not-in-many i ds off′)))
               (let m = many-filled c i es in omega (arith, many-append (eqb c) (fill i es) ds, many-append (eqb c) es ds));
@@ -402,7 +402,7 @@ module _ (s : Store) (b : BlockUse s) (n : ℕ) (es ds : List ℕ) (r : Running 
       let fr : Fresh (s .blocks) (s .used) i = allocate-fresh s (b .taken) (omega (arith, r .room)) in
       let len : length (ds ++ i ∷ []) ≡ length ds + 1 = length-append ds (i ∷ []) in
       let off = off-used (s .used) i es (fr .pos) (fr .free) (r .named) in
-      let off′ = off-used (s .used) i ds (fr .pos) (fr .free) (all-map _ _ (λ d h q. h) ds (r .written)) in
+      let off′ = off-used (s .used) i ds (fr .pos) (fr .free) (all-map _ _ (λ d h q. h) ds (r .directories-used)) in
       let cnt = count-one s i 1 (s .blocks - 1) in
       record {
         blocks = b .blocks;
@@ -419,7 +419,7 @@ module _ (s : Store) (b : BlockUse s) (n : ℕ) (es ds : List ℕ) (r : Running 
           late = λ h. images-none (s .pages) e;
           directories = rw len (omega arith);
           named = all-map _ _ (λ e h q. used-old s i e (h q)) es (r .named);
-          written = all-append _ ds (i ∷ []) (all-map _ _ (λ d h. used-old s i d h) ds (r .written)) (used-new s i, tt);
+          directories-used = all-append _ ds (i ∷ []) (all-map _ _ (λ d h. used-old s i d h) ds (r .directories-used)) (used-new s i, tt);
           once = λ c l. taken-once c i (howMany (eqb c) (es ++ ds)) (r .once c l)
               (λ e. subst (λ z. howMany (eqb z) (es ++ ds) ≡ 0) (sym e) (many-append (eqb i) es ds ∙ ap₂ (λ a b. a + b) (not-in-many i es off) (not-in-many i ds off′)))
               (omega (arith, many-append (eqb c) es (ds ++ i ∷ []), many-append (eqb c) ds (i ∷ []), many-append (eqb c) es ds, one-many c i));
@@ -434,7 +434,7 @@ module _ (s : Store) (b : BlockUse s) (n : ℕ) (es ds : List ℕ) (r : Running 
       let ims = ap length (images-none (s .pages) e) in
       let pos = none-waiting es (r .waiting ∙ ims) in
       let eok : AllOf (λ e. (0 < e) × (e < s .blocks)) es = all-two (λ e. 0 < e) (λ e. 0 < e → s .used e ≡ true) _ (λ e p u. b .within e (u p)) es pos (r .named) in
-      let dok : AllOf (λ d. (0 < d) × (d < s .blocks)) ds = all-map _ _ (λ d u. b .within d u) ds (r .written) in
+      let dok : AllOf (λ d. (0 < d) × (d < s .blocks)) ds = all-map _ _ (λ d u. b .within d u) ds (r .directories-used) in
       record {
         blocks = b .blocks;
         cap = b .cap;

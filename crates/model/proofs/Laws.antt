@@ -214,7 +214,7 @@ never-falls-back s w =
     let ok = sound s w .valid .pages in
     record {
       removal = λ n os p f j. takenAt-is j (p .tuples) (ok-in (carry-ok n os (s .pages) ok) f .2 (f .frozen) .1);
-      whole = λ p f. storable-is (shown (p .tuples)) (ok-in ok f .2 (f .frozen) .0);
+      shown-fits = λ p f. storable-is (shown (p .tuples)) (ok-in ok f .2 (f .frozen) .0);
       parts = λ p f. let hs = map withoutPending (live (p .tuples)) in parts-fit hs (small hs (live-withoutPending (p .tuples) (ok-in ok f .0)));
       block = λ h. enough s w (s .checkpoint) (w .checkpoint) h;
       low = counts-low s w;

@@ -19,15 +19,15 @@ use Rattle.model.proofs.Capacity.{same-capacity}
 room : (n at len : ℕ) → at < n → len ≡ 512 * n → 512 * at + 512 ≤ len
 room n at len h e = omega arith
 
-pub written : (n : ℕ) (img : List ℕ) (w : Logged) → length img ≡ 512 * n → WriteOk n w → view (imageWith img w) ≡ put (view img) (w .write .at) (w .write .what)
+pub view-after : (n : ℕ) (img : List ℕ) (w : Logged) → length img ≡ 512 * n → WriteOk n w → view (imageWith img w) ≡ put (view img) (w .write .at) (w .write .what)
 unfolding imageWith
-written n img w e k =
+view-after n img w e k =
     view-put img (encodeBlock (w .write .what)) (w .write .at) (room n (w .write .at) (length img) (k .0) e) (encode-length (w .write .what))
     ∙ ap (put (view img) (w .write .at)) (decode-encode (w .write .what) (k .1))
 
-pub written-long : (n : ℕ) (img : List ℕ) (w : Logged) → length img ≡ 512 * n → WriteOk n w → length (imageWith img w) ≡ 512 * n
+pub length-after : (n : ℕ) (img : List ℕ) (w : Logged) → length img ≡ 512 * n → WriteOk n w → length (imageWith img w) ≡ 512 * n
 unfolding imageWith
-written-long n img w e k =
+length-after n img w e k =
     length-put img (encodeBlock (w .write .what)) (w .write .at) (room n (w .write .at) (length img) (k .0) e) (encode-length (w .write .what)) ∙ e
 
 pub cut-view : (n : ℕ) {img : List ℕ} {base : List Call} {ws : List Logged} {img′ : List ℕ} {base′ : List Call} → Cut img base ws img′ base′
@@ -39,8 +39,8 @@ cut-view n {img} {base} (torn {w = w} {ws = ws} h xs l a) e ok =
       length-put img xs (w .write .at) r l ∙ e,
     )
 cut-view n {img} {img′ = img′} {base′ = base′} (whole {base = base} {w = w} {ws = ws} c) e ok =
-    let r = cut-view n c (written-long n img w e (ok .0)) (ok .1) in
-    (CutV.whole (subst (λ z. CutV z (landed w base) ws (view img′) base′) (written n img w e (ok .0)) (r .0)), r .1)
+    let r = cut-view n c (length-after n img w e (ok .0)) (ok .1) in
+    (CutV.whole (subst (λ z. CutV z (landed w base) ws (view img′) base′) (view-after n img w e (ok .0)) (r .0)), r .1)
 
 -- ---- the claim
 

@@ -22,7 +22,7 @@ use Rattle.model.proofs.Steps.{loaded-content, loaded-blocks, Top}
 use Rattle.model.proofs.Start.{entries-in}
 use Rattle.model.proofs.Claim.{claims-ok, writes-ok}
 use Rattle.model.proofs.Bytes.{stage-is, view-sane}
-use Rattle.model.proofs.Line.{written, written-long, started, cut-view}
+use Rattle.model.proofs.Line.{view-after, length-after, started, cut-view}
 
 -- ---- the first stores whole, the last of them a header's
 
@@ -41,9 +41,9 @@ top-block : (n : ℕ) (img : List ℕ) (ws : List Logged) (w : Logged) → lengt
 unfolding afterStores isHeader
 top-block n img [] w e ok h =
     let z = eqb-true (w .write .at) 0 h in
-    ap (λ v. v 0) (written n img w e (ok .0))
+    ap (λ v. v 0) (view-after n img w e (ok .0))
     ∙ subst (λ b. put (view img) (w .write .at) (w .write .what) b ≡ w .write .what) z (put-same (view img) (w .write .at) (w .write .what))
-top-block n img (v ∷ ws) w e ok h = top-block n (imageWith img v) ws w (written-long n img v e (ok .0)) (ok .1) h
+top-block n img (v ∷ ws) w e ok h = top-block n (imageWith img v) ws w (length-after n img v e (ok .0)) (ok .1) h
 
 -- ---- reading
 

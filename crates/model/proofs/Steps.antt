@@ -140,7 +140,7 @@ directory-step n img s b b₀ n₀ es ds bk r inv run e lt =
     let i = allocate s in
     let fr : Fresh (s .blocks) (s .used) i = allocate-fresh s (bk .taken) (omega (arith, r .room)) in
     let off = off-used (s .used) i es (fr .pos) (fr .free) (r .named) in
-    let off′ = off-used (s .used) i ds (fr .pos) (fr .free) (all-map _ _ (λ d h q. h) ds (r .written)) in
+    let off′ = off-used (s .used) i ds (fr .pos) (fr .free) (all-map _ _ (λ d h q. h) ds (r .directories-used)) in
     let L = suc (s .level) in
     let part = take 336 (drop (336 * length ds) es) in
     let x : Block = directory L part in
@@ -356,7 +356,7 @@ header-step n img s b b₀ n₀ es ds bk r inv run e lt =
     let full : directoriesFor (length es) ≤ length ds = omega (arith, leb-false (suc (length ds)) (directoriesFor (length es)) lt) in
     let epos = stored-written ims (run .stored) in
     let eok : AllOf (λ e. (0 < e) × (e < s .blocks)) es = all-two (λ e. 0 < e) (λ e. 0 < e → s .used e ≡ true) _ (λ e p u. bk .within e (u p)) es epos (r .named) in
-    let dok : AllOf (λ d. (0 < d) × (d < s .blocks)) ds = all-map _ _ (λ d u. bk .within d u) ds (r .written) in
+    let dok : AllOf (λ d. (0 < d) × (d < s .blocks)) ds = all-map _ _ (λ d u. bk .within d u) ds (r .directories-used) in
     let x = header (headerFor s L n₀ (length es) ds) in
     wrote (record { at = 0; what = x }) refl (omega (arith, bk .taken, inv .blocks))
     (λ small fit. header-fits n img s b n₀ es ds (inv .blocks) (bk .cap) r run ims full eok dok (omega (arith, inv .blocks)))

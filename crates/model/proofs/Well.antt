@@ -196,7 +196,7 @@ checkpoint-well s v b = go (s .checkpoint) refl (b .phase)
           late = λ h. none-frozen (s .pages) (r .late (leb-true 1 (length ds) h));
           directories = r .directories;
           named = all-true _ es (all-map _ _ (named-true (s .used)) es (r .named));
-          written = all-true _ ds (r .written);
+          directories-used = all-true _ ds (r .directories-used);
           once = r .once;
           kept = all-true _ (s .pages) (all-map _ _ (λ p q. dirtyOr-true (λ b. isIn b es) p (q .1)) (s .pages) (r .booked));
           room = rw (many-frozen (s .pages)) (r .room);
@@ -374,7 +374,7 @@ module _ (s : Store) (w : WellFormed s) where
     late = λ h. no-images (s .pages) (r .late (le-true 1 (length ds) h));
     directories = r .directories;
     named = all-map _ _ (λ e h l. or-else (isZero e) (s .used e) h (unfold isZero in pos-not-zero e l)) es (all-split _ es (r .named));
-    written = all-split _ ds (r .written);
+    directories-used = all-split _ ds (r .directories-used);
     once = r .once;
     booked = booked (λ b. isIn b es) (r .kept);
     room = subst (λ z. z + (directoriesFor (length es) - length ds) ≤ freeCount s) (many-frozen (s .pages)) (r .room);

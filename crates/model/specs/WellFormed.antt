@@ -74,7 +74,7 @@ pub record RunningWell (n : ℕ) (es ds : List ℕ) (s : Store) : Type 0 where
   pub directories : length ds ≤ directoriesFor (length es)
   -- what the new header will name is in use and named once, and the block of every clean page is among it
   pub named : all (λ e. isZero e || s .used e) es ≡ true
-  pub written : all (s .used) ds ≡ true
+  pub directories-used : all (s .used) ds ≡ true
   pub kept : all (dirtyOr (λ b. isIn b es)) (s .pages) ≡ true
   pub once : (b : ℕ) → 1 ≤ b → howMany (eqb b) (es ++ ds) ≤ 1
   -- free blocks suffice for the frozen pages and the directory blocks still to write
@@ -141,7 +141,7 @@ pub record NoFallback (s : Store) : Type 0 where
   pub removal : (n : ℕ) (os : List PlaceOp) (p : Page) → FrozenIn (carryOut n os (s .pages)) p
       → (j : ℕ) → pendRemoveAt j (p .tuples) ≡ editAt pendRemove j (p .tuples)
   -- what a frozen page shows fits its block: `storable` leaves none of it out
-  pub whole : (p : Page) → FrozenIn (s .pages) p → storable (shown (p .tuples)) ≡ shown (p .tuples)
+  pub shown-fits : (p : Page) → FrozenIn (s .pages) p → storable (shown (p .tuples)) ≡ shown (p .tuples)
   -- at the thaw of a frozen page every part fits: `splitDeep` does not end at its bound before
   pub parts : (p : Page) → FrozenIn (s .pages) p → all fits (splitAll (map withoutPending (live (p .tuples)))) ≡ true
   -- while more than the header is left, the block that a step takes is a free one of the image: `allocate` finds one

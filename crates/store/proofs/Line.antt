@@ -13,7 +13,7 @@ use Rattle.basics.proofs.Elements.{all-parts}
 use Rattle.model.proofs.Bytes.{view-sane}
 use Rattle.model.proofs.NoStores.{call-leaves}
 use Rattle.model.proofs.Claim.{writes-ok}
-use Rattle.model.proofs.Line.{written-long, started, crash-recovery}
+use Rattle.model.proofs.Line.{length-after, started, crash-recovery}
 use Rattle.memory_layout.specs.Store.{storeIn, HoldsNow}
 use Rattle.call_contracts.specs.Shape.{meaning, MadeBy, Made, RecoveredBy, Recovered}
 use Rattle.call_contracts.specs.declared.Answer.{Answer}
@@ -23,13 +23,13 @@ use Rattle.store.proofs.Follows.{does, all-typed}
 use Rattle.model.specs.CrashRecovery as model
 use Rattle.model.specs.State as answer
 
-abbrev written : List Logged → List Write
-written ws = map (λ w. w .write) ws
+abbrev writesIn : List Logged → List Write
+writesIn ws = map (λ w. w .write) ws
 
 -- ---- images after block stores
 
 after-append : (b : List Call) (ws : List Write) (ls : List Logged) (img : List ℕ)
-    → imageAfter (written (map (tag b) ws ++ ls)) img ≡ imageAfter (written ls) (imageAfter ws img)
+    → imageAfter (writesIn (map (tag b) ws ++ ls)) img ≡ imageAfter (writesIn ls) (imageAfter ws img)
 unfolding imageAfter tag
 after-append b [] ls img = refl
 after-append b (w ∷ ws) ls img = after-append b ws ls _
@@ -38,13 +38,13 @@ long-after : (n : ℕ) (b : List Call) (ws : List Write) (img : List ℕ) → le
     → length (imageAfter ws img) ≡ 512 * n
 unfolding imageAfter tag imageWith
 long-after n b [] img e ok = e
-long-after n b (w ∷ ws) img e ok = long-after n b ws _ (written-long n img (tag b w) e (ok .0)) (ok .1)
+long-after n b (w ∷ ws) img e ok = long-after n b ws _ (length-after n img (tag b w) e (ok .0)) (ok .1)
 
 -- ---- a run
 
 follows : (n : ℕ) (past base : List Call) (s : Store) (cs : List Call) (img m img′ m′ : List ℕ) → ExecutesAll cs img m img′ m′ → storeIn m ≡ some s
     → s .blocks ≡ n → length img ≡ 512 * n → AllOf (WriteOk n) (log past base s cs)
-    → (storeIn m′ ≡ some (afterCalls cs s)) × (img′ ≡ imageAfter (written (log past base s cs)) img)
+    → (storeIn m′ ≡ some (afterCalls cs s)) × (img′ ≡ imageAfter (writesIn (log past base s cs)) img)
 unfolding afterCalls log imageAfter
 follows n past base s [] img m img′ m′ ends e b l ok = (e, refl)
 follows n past base s (c ∷ cs) img m img′ m′ (next {img₁ = img₁} {m₁ = m₁} d rs) e b l ok =
@@ -55,7 +55,7 @@ follows n past base s (c ∷ cs) img m img′ m′ (next {img₁ = img₁} {m₁
     let parts = all-parts (WriteOk n) (map (tag base′) (o .writes)) rest ok in
     let l₁ : length img₁ ≡ 512 * n = ap length (k .1) ∙ long-after n base′ (o .writes) img l (parts .0) in
     let t = follows n (past ++ c ∷ []) base′ (o .store) cs img₁ m₁ img′ m′ rs (k .0) (call-leaves c s .blocks ∙ b) l₁ (parts .1) in
-    (t .0, t .1 ∙ ap (imageAfter (written rest)) (k .1) ∙ sym (after-append base′ (o .writes) rest img))
+    (t .0, t .1 ∙ ap (imageAfter (writesIn rest)) (k .1) ∙ sym (after-append base′ (o .writes) rest img))
 
 -- ---- the start
 
