@@ -21,7 +21,7 @@ known c =
 
 -- the directory blocks in use
 in-directory : (c : tie.After-wide) → let h = c .before .before .before .before .args .h in take (c .wide .result) (numbersOf h) ≡ directoryBlocks h
-in-directory c = used 0 (c .wide .result) (c .before .before .before .before .args .h) (c .wide .ensures) (λ (l : List ℕ). l)
+in-directory c = used (c .before .before .before .before .args .h) (c .wide .ensures) (λ (l : List ℕ). l)
 
 fresh-requires : tie.Need-fresh-requires
 fresh-requires c κs =
