@@ -78,7 +78,7 @@ fn load_rows(block: &[u8], count: u32, m: &mut [u8])
     requires { ⌜ Room (now m) × (InOrder (now m) × ((1 ≤ length (flatOf (now m) .entries)) × (length (flatOf (now m) .rows) + count ≤ flatOf (now m) .head .capacity))) ⌝ }
     ensures { λ _. ⌜ Fills (map withoutPending (tuplesIn (asPage (decodeBlock (now (block .entry)))))) (now (m .entry)) (now (m .exit)) ⌝ }
 {
-    let mut at: usize = 8;
+    let mut at: usize = block_forms::PageLayout::HEAD_SIZE;
     let mut i: u32 = 0;
     while i < count {
         match (block_reader::Cursor { at: at }).next(block) {
