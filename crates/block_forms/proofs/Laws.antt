@@ -1,8 +1,10 @@
--- One reading and one spelling of a block (`decode-encode`, `encode-decode`); a block's length and bytes; what is read is in range.
+-- One reading and one spelling of a block (`decode-encode`, `encode-decode`); a block's length and bytes; what is read is in range, and
+-- what a block holds that is read as a page or a directory (`page-read`, `directory-read`).
 use Rattle.basics.proofs.Kit.{_≡_, refl, sym, ap, _∙_, true, false, some, List, [], _∷_, _++_, append-nil, ℕ, suc, _+_, _*_, _≤_, _<_, zero, leb, eqb, length, drop, length-drop, drop-at}
 use Rattle.basics.proofs.Kit.{le-leb, leb-true, arith}
 use Rattle.basics.specs.Basics.{if_then_else_}
-use Rattle.basics.proofs.Facts.{by, by-option}
+use Rattle.basics.proofs.Facts.{by, by-option, never, clash}
+use Rattle.basics.proofs.Elements.{some-eq}
 use Rattle.block_forms.specs.Limits.{pageHeadSize, recordSpace, entriesPerBlock}
 use Rattle.block_bits.specs.Bits.{bitsIn, field}
 use Rattle.block_bits.specs.Fields.{getAll, widths, values, total, Fit}
@@ -10,7 +12,8 @@ use Rattle.block_bits.proofs.Blocks.{bitsIn-append, field-lt}
 use Rattle.block_forms.specs.Numbers.{same}
 use Rattle.block_forms.specs.Tuple.{Tuple, sizes, AllBytes}
 use Rattle.block_forms.specs.Spell.{spell}
-use Rattle.block_forms.specs.Block.{Block, malformed, header, page, directory, headerFields, entryFields, directoryFields, blockFields, encodeBlock, EntriesFit, PageFits, DirectoryFits, InRange}
+use Rattle.block_forms.specs.Block.{Block, malformed, header, page, directory, PageBlock, DirectoryBlock, asHeader, asPage, asDirectory, headerFields, entryFields, directoryFields, blockFields}
+use Rattle.block_forms.specs.Block.{encodeBlock, EntriesFit, PageFits, DirectoryFits, InRange}
 use Rattle.block_forms.specs.Decode.{kind, spelledBy, readHeader, headerIn, pageTuples, pageTable, pageCount, pageBytes, pageLevel, pageSpelled, pageIn}
 use Rattle.block_forms.specs.Decode.{readEntries, directoryCount, directoryLevel, directoryIn, decodeBlock}
 use Rattle.block_forms.specs.Laws.{DecodeOfEncode, EncodeOfDecode}
@@ -141,15 +144,15 @@ module _ (t l : ℕ) (ts : List Tuple) (fit : PageFits t l ts) where
   unfolding kind
   page-kind = let e = page-all in cc
 
-  page-table : pageTable (encodeBlock (page t l ts)) ≡ t
+  pub page-table : pageTable (encodeBlock (page t l ts)) ≡ t
   unfolding pageTable
   page-table = let e = page-all in cc
 
-  page-count : pageCount (encodeBlock (page t l ts)) ≡ length ts
+  pub page-count : pageCount (encodeBlock (page t l ts)) ≡ length ts
   unfolding pageCount
   page-count = let e = page-all in cc
 
-  page-level : pageLevel (encodeBlock (page t l ts)) ≡ l
+  pub page-level : pageLevel (encodeBlock (page t l ts)) ≡ l
   unfolding pageLevel
   page-level = let e = page-all in cc
 
@@ -268,14 +271,38 @@ decode-read xs g =
 pub encode-decode : EncodeOfDecode
 encode-decode xs g = decode-read xs g .spelling
 
-pub decode-is : (xs : List ℕ) (b : Block) → decodeBlock xs ≡ b → (b ≡ malformed → ⊥) → Read xs b
+pub decode-in-range : (xs : List ℕ) → (decodeBlock xs ≡ malformed → ⊥) → InRange (decodeBlock xs)
+decode-in-range xs g = decode-read xs g .range
+
+-- ---- a block of one kind
+
+pub header-is : (b : Block) {h : Header} → asHeader b ≡ some h → b ≡ header h
+header-is malformed e = never e
+header-is (header g) e = cc
+header-is (page t l ts) e = never e
+header-is (directory l es) e = never e
+
+pub page-is : (b : Block) {p : PageBlock} → asPage b ≡ some p → b ≡ page (p .table) (p .level) (p .tuples)
+page-is malformed e = never e
+page-is (header h) e = never e
+page-is (page t l ts) e = ap (λ (q : PageBlock). page (q .table) (q .level) (q .tuples)) (some-eq e)
+page-is (directory l es) e = never e
+
+pub directory-is : (b : Block) {d : DirectoryBlock} → asDirectory b ≡ some d → b ≡ directory (d .level) (d .entries)
+directory-is malformed e = never e
+directory-is (header h) e = never e
+directory-is (page t l ts) e = never e
+directory-is (directory l es) e = ap (λ (q : DirectoryBlock). directory (q .level) (q .entries)) (some-eq e)
+
+decode-is : (xs : List ℕ) (b : Block) → decodeBlock xs ≡ b → (b ≡ malformed → ⊥) → Read xs b
 decode-is xs b e g = rw e at (decode-read xs (λ m. g (sym e ∙ m)))
 
-pub decode-in-range : (xs : List ℕ) (b : Block) → decodeBlock xs ≡ b → (b ≡ malformed → ⊥) → InRange b
-decode-in-range xs b e g = decode-is xs b e g .range
+pub page-read : (xs : List ℕ) {p : PageBlock} → asPage (decodeBlock xs) ≡ some p → Read xs (page (p .table) (p .level) (p .tuples))
+page-read xs e = decode-is xs _ (page-is (decodeBlock xs) e) (λ m. clash cc)
+
+pub directory-read : (xs : List ℕ) {d : DirectoryBlock} → asDirectory (decodeBlock xs) ≡ some d → Read xs (directory (d .level) (d .entries))
+directory-read xs e = decode-is xs _ (directory-is (decodeBlock xs) e) (λ m. clash cc)
 
 -- the entries of a directory's block are those that are read from it
-pub decode-entries : (xs : List ℕ) (l : ℕ) (es : List ℕ) → decodeBlock xs ≡ directory l es → readEntries xs 64 (length es) ≡ es
-decode-entries xs l es e =
-    let r = decode-is xs (directory l es) e (λ m. let z : _≡_ {A = ℕ} 0 1 = cc in omega arith) in
-    rw (← r .spelling) (dir-entries l es (r .range))
+pub decode-entries : (xs : List ℕ) {d : DirectoryBlock} → asDirectory (decodeBlock xs) ≡ some d → readEntries xs 64 (length (d .entries)) ≡ d .entries
+decode-entries xs {d} e = let r = directory-read xs e in rw (← r .spelling) (dir-entries (d .level) (d .entries) (r .range))

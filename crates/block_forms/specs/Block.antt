@@ -1,6 +1,7 @@
--- The three kinds of block, their fields in order, and how a block is spelled.
+-- The three kinds of block, what a block of each holds, its fields in order, and how a block is spelled.
 use Prim.Native.Nat.{ℕ, _<_, _≤_}
 use mathlib.Core.Bool.{Bool, true, false}
+use mathlib.Core.Option.{Option, none, some}
 use mathlib.Core.List.{List, [], _∷_, _++_}
 use lib.ListN.{length}
 use Rattle.block_bits.specs.Fields.{Fit}
@@ -15,6 +16,42 @@ pub data Block : Type 0 where
   header : Header → Block
   page : ℕ → ℕ → List Tuple → Block
   directory : ℕ → List ℕ → Block
+
+-- what a page's block holds
+pub record PageBlock : Type 0 where
+  pub table : ℕ
+  pub level : ℕ
+  pub tuples : List Tuple
+
+-- what a directory's block holds
+pub record DirectoryBlock : Type 0 where
+  pub level : ℕ
+  pub entries : List ℕ
+
+-- ---- what a block holds, if it is of one kind
+
+-- a header's fields
+abbrev pub asHeader : Block → Option Header
+asHeader malformed = none
+asHeader (header h) = some h
+asHeader (page t l ts) = none
+asHeader (directory l es) = none
+
+-- a page's table, level and tuples
+abbrev pub asPage : Block → Option PageBlock
+asPage malformed = none
+asPage (header h) = none
+asPage (page t l ts) = some (record { table = t; level = l; tuples = ts })
+asPage (directory l es) = none
+
+-- a directory's level and entries
+abbrev pub asDirectory : Block → Option DirectoryBlock
+asDirectory malformed = none
+asDirectory (header h) = none
+asDirectory (page t l ts) = none
+asDirectory (directory l es) = some (record { level = l; entries = es })
+
+-- ---- fields
 
 -- kind 4 bits, block count 13, N 11, level 32, next number 32, page count 11, directory count 3, four directory block numbers of 12
 abbrev pub headerFields : Header → List (ℕ × ℕ)

@@ -1,18 +1,18 @@
 -- What reading a block answers, once its fields are read and spelled again.
-use Rattle.basics.proofs.Kit.{_≡_, true, false, some, none, List, ℕ, _≤_, _<_, length, take, le-leb, lt-leb, ne-eqb}
+use Rattle.basics.proofs.Kit.{_≡_, ap, _∙_, subst, ⊎-elim, true, false, some, none, List, [], _∷_, ℕ, _≤_, _<_, length, take, le-leb, lt-leb, ne-eqb, arith}
 use types.Run.{OneOf}
 use denote.Enum.Declared.{tagOf}
 use Rattle.basics.specs.Basics.{if_then_else_}
-use Rattle.basics.proofs.Facts.{clash}
+use Rattle.basics.proofs.Facts.{by-option, clash}
 use Rattle.block_forms.specs.Limits.{entriesPerBlock}
 use Rattle.block_bits.specs.Bits.{bitsIn, field}
 use Rattle.block_forms.specs.Numbers.{same}
 use Rattle.block_forms.specs.Tuple.{Tuple}
-use Rattle.block_forms.specs.Block.{Block, malformed, header, page, directory, encodeBlock}
+use Rattle.block_forms.specs.Block.{Block, malformed, header, page, directory, asHeader, asPage, asDirectory, encodeBlock}
 use Rattle.block_forms.specs.Decode.{spelledBy, readHeader, headerIn, pageTuples, pageTable, pageCount, pageLevel, pageSpelled, pageIn}
 use Rattle.block_forms.specs.Decode.{readEntries, directoryCount, directoryLevel, directoryIn, kind, decodeBlock}
 use Rattle.block_forms.specs.declared.Header.{Header}
-use Rattle.block_forms.proofs.Laws.{spelled-yes, spelled-no}
+use Rattle.block_forms.proofs.Laws.{spelled-yes, spelled-no, header-is, page-is, directory-is}
 use Rattle.block_reader.specs.Answers.{reading}
 use Rattle.block_reader.specs.declared.Reading.{Reading}
 use Rattle.block_reader.specs.declared.Reading.the-variants.{IsHeader, IsPage, IsDirectory, Malformed}
@@ -94,19 +94,56 @@ module _ (xs : List ℕ) {k : ℕ} (e : k ≡ field (bitsIn xs) 0 4) where
 
 -- ---- what an answer says of the block
 
+pub is-header : (b : Block) {h : Header} → IsHeader h ≡ reading b → asHeader b ≡ some h
+unfolding reading
+is-header malformed e = clash cc
+is-header (header g) e = cc
+is-header (page t l ts) e = clash cc
+is-header (directory l es) e = clash cc
+
 -- b is a page of n tuples
 pub record PageIs (b : Block) (t n l : ℕ) : Type 0 where
   pub tuples : List Tuple
-  pub is : b ≡ page t l tuples
+  pub is : asPage b ≡ some (record { table = t; level = l; tuples = tuples })
   pub count : length tuples ≡ n
 
-pub answer-page : (b : Block) (t n l : ℕ) → reading b ≡ IsPage t n l → PageIs b t n l
+pub is-page : (b : Block) {t n l : ℕ} → IsPage t n l ≡ reading b → PageIs b t n l
 unfolding reading
-answer-page malformed t n l e = clash cc
-answer-page (header k) t n l e = clash cc
-answer-page (page t′ l′ ts) t n l e = record { tuples = ts; is = cc; count = cc }
-answer-page (directory l′ es) t n l e = clash cc
+is-page malformed e = clash cc
+is-page (header k) e = clash cc
+is-page (page t l ts) e = record { tuples = ts; is = cc; count = cc }
+is-page (directory l es) e = clash cc
+
+-- b is a directory of n entries
+pub record DirectoryIs (b : Block) (n l : ℕ) : Type 0 where
+  pub entries : List ℕ
+  pub is : asDirectory b ≡ some (record { level = l; entries = entries })
+  pub count : length entries ≡ n
+
+pub is-directory : (b : Block) {n l : ℕ} → IsDirectory n l ≡ reading b → DirectoryIs b n l
+unfolding reading
+is-directory malformed e = clash cc
+is-directory (header h) e = clash cc
+is-directory (page t l ts) e = clash cc
+is-directory (directory l es) e = record { entries = es; is = cc; count = cc }
 
 -- the reading is one of some variants, by their numbers
 abbrev pub OneOfThese : List ℕ → Reading → Type 0
 OneOfThese ks y = OneOf ks (tagOf the-type y)
+
+-- it is of another variant than a block of the kind has
+module _ {x : Reading} (b : Block) (e : x ≡ reading b) where
+  pub no-header : OneOfThese (1 ∷ 2 ∷ 3 ∷ []) x → asHeader b ≡ none
+  unfolding reading
+  no-header k = by-option (asHeader b) (λ h. h) (λ a h. let z = subst (OneOfThese (1 ∷ 2 ∷ 3 ∷ [])) (e ∙ ap reading (header-is b h)) k in
+      ⊎-elim (λ y. absurd (omega arith)) (⊎-elim (λ y. absurd (omega arith)) (λ y. absurd (omega arith))) z)
+
+  pub no-page : OneOfThese (0 ∷ 2 ∷ 3 ∷ []) x → asPage b ≡ none
+  unfolding reading
+  no-page k = by-option (asPage b) (λ h. h) (λ a h. let z = subst (OneOfThese (0 ∷ 2 ∷ 3 ∷ [])) (e ∙ ap reading (page-is b h)) k in
+      ⊎-elim (λ y. absurd (omega arith)) (⊎-elim (λ y. absurd (omega arith)) (λ y. absurd (omega arith))) z)
+
+  pub no-directory : OneOfThese (0 ∷ 1 ∷ 3 ∷ []) x → asDirectory b ≡ none
+  unfolding reading
+  no-directory k = by-option (asDirectory b) (λ h. h) (λ a h. let z = subst (OneOfThese (0 ∷ 1 ∷ 3 ∷ [])) (e ∙ ap reading (directory-is b h)) k in
+      ⊎-elim (λ y. absurd (omega arith)) (⊎-elim (λ y. absurd (omega arith)) (λ y. absurd (omega arith))) z)

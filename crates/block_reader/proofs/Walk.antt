@@ -5,12 +5,12 @@ use Rattle.basics.specs.Basics.{if_then_else_}
 use Rattle.basics.proofs.Facts.{by-option, never}
 use Rattle.block_forms.specs.Limits.{pageHeadSize}
 use Rattle.block_forms.specs.Tuple.{Tuple}
-use Rattle.block_forms.specs.Block.{page}
+use Rattle.block_forms.specs.Block.{page, PageBlock, asPage}
 use Rattle.block_forms.specs.Decode.{readTuple, recordLength, readTuples, pageTuples, decodeBlock}
 use Rattle.block_forms.specs.Bytes.{payloadIn, tupleOf}
 use Rattle.block_forms.specs.declared.Record.{Record}
 use Rattle.block_forms.proofs.ReadTuples.{split, none-is}
-use Rattle.block_forms.proofs.Laws.{encode-length, page-tuples, decode-is}
+use Rattle.block_forms.proofs.Laws.{encode-length, page-tuples, page-read}
 use Rattle.block_reader.specs.Answers.{nextAt}
 use Rattle.block_reader.specs.declared.Cursor.{Cursor}
 use Rattle.block_reader.specs.declared.Next.the-variants.{Found, Bad}
@@ -95,10 +95,11 @@ walk-read n {xs} {ts} k e =
     let c : length ts ≡ n = read-count n (drop pageHeadSize xs) ts e in
     record { read = rw c e; passed = passed-start xs (length ts) k }
 
-pub walk-start : (xs : List ℕ) (t l : ℕ) (ts : List Tuple) → decodeBlock xs ≡ page t l ts → Walk xs ts pageHeadSize 0
-walk-start xs t l ts e =
-    let r = decode-is xs (page t l ts) e (λ m. let z : _≡_ {A = ℕ} 0 1 = cc in omega arith) in
-    walk-read (length ts) (rw (r .spelling) at (encode-length (page t l ts))) (rw (← r .spelling) (page-tuples t l ts (r .range)))
+pub walk-start : (xs : List ℕ) {p : PageBlock} → asPage (decodeBlock xs) ≡ some p → Walk xs (p .tuples) pageHeadSize 0
+walk-start xs {p} e =
+    let r = page-read xs e in
+    walk-read (length (p .tuples)) (rw (r .spelling) at (encode-length (page (p .table) (p .level) (p .tuples))))
+    (rw (← r .spelling) (page-tuples (p .table) (p .level) (p .tuples) (r .range)))
 
 -- the record r, found at at, is that of tuple i, and the cursor goes on at next
 pub record Handed (xs : List ℕ) (ts : List Tuple) (at i : ℕ) (r : Record) (next : ℕ) : Type 0 where

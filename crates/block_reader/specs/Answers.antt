@@ -1,13 +1,13 @@
 -- What reading a block answers, and what the cursor finds in a page.
 use Prim.Native.Nat.{ℕ, _+_, _%_}
-use mathlib.Core.Bool.{Bool, true, false}
+use mathlib.Core.Bool.{Bool}
 use mathlib.Core.List.{List}
 use lib.ListN.{length, getD, drop}
-use Rattle.basics.specs.Basics.{if_then_else_}
+use Rattle.basics.specs.Basics.{if_then_else_, isSome}
 use Rattle.block_forms.specs.Limits.{recordHead, markValue}
 use Rattle.block_forms.specs.Numbers.{num4}
 use Rattle.block_forms.specs.Tuple.{ownerSize}
-use Rattle.block_forms.specs.Block.{Block, malformed, header, page, directory}
+use Rattle.block_forms.specs.Block.{Block, malformed, header, page, directory, asPage}
 use Rattle.block_forms.specs.Decode.{readOwner, readMark, recordLength, isRecord}
 use Rattle.block_forms.specs.Bytes.{ownerAs}
 use Rattle.block_forms.specs.declared.Record.{Record}
@@ -35,11 +35,8 @@ unfoldable pub nextAt : List ℕ → ℕ → Next
 nextAt xs at = if isRecord (drop at xs) then Found (recordAt xs at) (record { at = at + recordLength (drop at xs) }) else Bad
 
 -- a page block
-unfoldable pub isPage : Block → Bool
-isPage malformed = false
-isPage (header h) = false
-isPage (page t l ts) = true
-isPage (directory l es) = false
+abbrev pub isPage : Block → Bool
+isPage b = isSome (asPage b)
 
 -- a page's tuples and a directory's entries are left in the block
 unfoldable pub reading : Block → Reading

@@ -1,10 +1,12 @@
 -- Rows behind those that are there, on the last page.
-use Rattle.basics.proofs.Kit.{_≡_, refl, sym, ap, _∙_, subst, true, List, [], _∷_, _++_, append-assoc, append-nil, map, ℕ, _+_, _≤_, _<_, _-_, add-zero, length, take, set, length-append}
+use Rattle.basics.proofs.Kit.{_≡_, refl, sym, ap, _∙_, subst, true, some, none, Option, List, [], _∷_, _++_, append-assoc, append-nil, map, ℕ, _+_, _≤_, _<_, _-_, add-zero, length, take, set, length-append}
 use Rattle.basics.proofs.Kit.{length-map, take-at, take-all, length-take-le, arith}
+use Rattle.basics.specs.Basics.{isSome}
 use Rattle.basics.proofs.Facts.{lie}
 use Rattle.basics.proofs.Lists.{map-append}
 use Rattle.block_forms.specs.Tuple.{Tuple}
-use Rattle.block_forms.specs.Block.{Block, malformed, header, page, directory}
+use Rattle.block_forms.specs.Limits.{pageHeadSize}
+use Rattle.block_forms.specs.Block.{PageBlock, asPage}
 use Rattle.block_forms.specs.Decode.{decodeBlock}
 use Rattle.block_reader.proofs.Walk.{Walk, walk-start}
 use Rattle.model.specs.State.{Held}
@@ -15,7 +17,6 @@ use Rattle.memory_layout.proofs.Laws.{becomes-none, becomes-then}
 use Rattle.memory_rows.specs.Cells.{InOrder}
 use Rattle.memory_pages.specs.Pages.{withCount, entryOf, moreRows, moreLast, behind, RowsBecome}
 use Rattle.memory_pages.proofs.Appending.{last-got, last-set}
-use Rattle.block_reader.specs.Answers.{isPage}
 use Rattle.call_recovery.specs.Loading.{tuplesIn, lastMore, Fills}
 
 -- the same lists, said otherwise
@@ -24,12 +25,10 @@ becomes-as m m' f g e b = record { size = b .size; room = b .room; flat = b .fla
 
 -- ---- the tuples of a page
 
-pub page-walk : (xs : List ℕ) (b : Block) → decodeBlock xs ≡ b → isPage b ≡ true → Walk xs (tuplesIn b) 8 0
-unfolding isPage tuplesIn
-page-walk xs malformed e h = lie h
-page-walk xs (header k) e h = lie h
-page-walk xs (page t l ts) e h = walk-start xs t l ts e
-page-walk xs (directory l es) e h = lie h
+pub page-walk : (xs : List ℕ) (o : Option PageBlock) → asPage (decodeBlock xs) ≡ o → isSome o ≡ true → Walk xs (tuplesIn o) pageHeadSize 0
+unfolding isSome tuplesIn
+page-walk xs none e h = lie h
+page-walk xs (some p) e h = walk-start xs e
 
 -- ---- the last page
 

@@ -1,10 +1,10 @@
 -- The blocks that the directory and the header name, one after the other.
-use Rattle.basics.proofs.Kit.{_≡_, refl, sym, ap, _∙_, subst, Bool, true, List, [], _∷_, _++_, append-assoc, append-nil, map, ℕ, suc, _+_, _≤_, _<_, zero, add-one, ltb, length, take, drop}
+use Rattle.basics.proofs.Kit.{_≡_, refl, sym, ap, _∙_, subst, Bool, true, some, none, Option, List, [], _∷_, _++_, append-assoc, append-nil, map, ℕ, suc, _+_, _≤_, _<_, zero, add-one, ltb, length, take, drop}
 use Rattle.basics.proofs.Kit.{getD, length-append, take-append-drop, length-map, take-all, take-suc, lt-ltb, ltb-true, arith}
-use Rattle.basics.specs.Basics.{all}
+use Rattle.basics.specs.Basics.{all, isSome}
 use Rattle.basics.proofs.Facts.{and-true}
 use Rattle.basics.proofs.Iterations.{drop-turn}
-use Rattle.block_forms.specs.Block.{Block, malformed, header, page, directory}
+use Rattle.block_forms.specs.Block.{PageBlock, asPage}
 use Rattle.block_reader.specs.Answers.{isPage}
 use Rattle.image.specs.View.{View}
 use Rattle.image.specs.Stages.{blockOk, StoredPage}
@@ -37,50 +37,46 @@ named-more n k (x ∷ s) h e =
 -- ---- pages
 
 -- a block adds a page at most
-one-few : (e : ℕ) (b : Block) (ps : List StoredPage) → length (blocksIn (pageAt e b ++ ps)) ≤ suc (length (blocksIn ps))
+one-few : (e : ℕ) (o : Option PageBlock) (ps : List StoredPage) → length (blocksIn (pageAt e o ++ ps)) ≤ suc (length (blocksIn ps))
 unfolding pageAt blocksIn
-one-few e malformed ps = omega arith
-one-few e (header h) ps = omega arith
-one-few e (page t l ts) ps = omega arith
-one-few e (directory l es) ps = omega arith
+one-few e none ps = omega arith
+one-few e (some p) ps = omega arith
 
 -- the first of as many blocks as there are pages is a page
-first-page : (e : ℕ) (b : Block) (ps : List StoredPage) (es : List ℕ) → length (blocksIn ps) ≤ length es → blocksIn (pageAt e b ++ ps) ≡ e ∷ es
-    → (isPage b ≡ true) × (blocksIn ps ≡ es)
-unfolding pageAt blocksIn isPage
-first-page e malformed ps es h q = absurd (omega (arith, ap length q))
-first-page e (header k) ps es h q = absurd (omega (arith, ap length q))
-first-page e (page t l ts) ps es h q = (refl, cc)
-first-page e (directory l ds) ps es h q = absurd (omega (arith, ap length q))
+first-page : (e : ℕ) (o : Option PageBlock) (ps : List StoredPage) (es : List ℕ) → length (blocksIn ps) ≤ length es → blocksIn (pageAt e o ++ ps) ≡ e ∷ es
+    → (isSome o ≡ true) × (blocksIn ps ≡ es)
+unfolding pageAt blocksIn isSome
+first-page e none ps es h q = absurd (omega (arith, ap length q))
+first-page e (some p) ps es h q = (refl, cc)
 
 module _ (v : View) where
   pages-few : (es : List ℕ) → length (blocksIn (pagesAt v es)) ≤ length es
   unfolding pagesAt blocksIn
   pages-few [] = omega arith
-  pages-few (e ∷ es) = let a = one-few e (v e) (pagesAt v es) in let b = pages-few es in omega arith
+  pages-few (e ∷ es) = let a = one-few e (asPage (v e)) (pagesAt v es) in let b = pages-few es in omega arith
 
   -- where there are as many pages as blocks, each block is a page
   pub all-pages : (es : List ℕ) (i : ℕ) → blocksIn (pagesAt v es) ≡ es → i < length es → isPage (v (getD es i 0)) ≡ true
   unfolding pagesAt
   all-pages [] i q h = absurd (omega arith)
-  all-pages (e ∷ es) zero q h = first-page e (v e) (pagesAt v es) es (pages-few es) q .0
-  all-pages (e ∷ es) (suc i) q h = all-pages es i (first-page e (v e) (pagesAt v es) es (pages-few es) q .1) (omega arith)
+  all-pages (e ∷ es) zero q h = first-page e (asPage (v e)) (pagesAt v es) es (pages-few es) q .0
+  all-pages (e ∷ es) (suc i) q h = all-pages es i (first-page e (asPage (v e)) (pagesAt v es) es (pages-few es) q .1) (omega arith)
 
   pages-append : (xs ys : List ℕ) → pagesAt v (xs ++ ys) ≡ pagesAt v xs ++ pagesAt v ys
   unfolding pagesAt
   pages-append [] ys = refl
-  pages-append (x ∷ xs) ys = ap (λ (z : List StoredPage). pageAt x (v x) ++ z) (pages-append xs ys) ∙ sym (append-assoc (pageAt x (v x)) (pagesAt v xs) (pagesAt v ys))
+  pages-append (x ∷ xs) ys = ap (λ (z : List StoredPage). pageAt x (asPage (v x)) ++ z) (pages-append xs ys) ∙ sym (append-assoc (pageAt x (asPage (v x))) (pagesAt v xs) (pagesAt v ys))
 
   module _ (es : List ℕ) (i e : ℕ) (h : i < length es) (q : e ≡ getD es i 0) where
-    pages-next : pagesAt v (take i es) ++ pageAt e (v e) ≡ pagesAt v (take (i + 1) es)
+    pages-next : pagesAt v (take i es) ++ pageAt e (asPage (v e)) ≡ pagesAt v (take (i + 1) es)
     unfolding pagesAt
     pages-next =
         sym (ap (λ (k : ℕ). pagesAt v (take k es)) (add-one i)
         ∙ ap (pagesAt v) (take-suc es i 0 h ∙ ap (λ (k : ℕ). take i es ++ k ∷ []) (sym q))
         ∙ pages-append (take i es) (e ∷ [])
-        ∙ ap (λ (z : List StoredPage). pagesAt v (take i es) ++ z) (append-nil (pageAt e (v e))))
+        ∙ ap (λ (z : List StoredPage). pagesAt v (take i es) ++ z) (append-nil (pageAt e (asPage (v e)))))
 
-    pages-split : pagesAt v es ≡ pagesAt v (take i es) ++ (pageAt e (v e) ++ pagesAt v (drop (i + 1) es))
+    pages-split : pagesAt v es ≡ pagesAt v (take i es) ++ (pageAt e (asPage (v e)) ++ pagesAt v (drop (i + 1) es))
     unfolding pagesAt
     pages-split =
         ap (pagesAt v) (sym (take-append-drop i es))
@@ -88,15 +84,15 @@ module _ (v : View) where
         ∙ ap (λ (z : List ℕ). pagesAt v (take i es) ++ pagesAt v z) (drop-turn es i h ∙ ap (λ (k : ℕ). k ∷ drop (i + 1) es) (sym q))
 
     -- one page more
-    pub loading-turn : (m m1 m2 : List ℕ) → Loads (pagesAt v (take i es)) m m1 → Loads (pageAt e (v e)) m1 m2 → Loads (pagesAt v (take (i + 1) es)) m m2
+    pub loading-turn : (m m1 m2 : List ℕ) → Loads (pagesAt v (take i es)) m m1 → Loads (pageAt e (asPage (v e))) m1 m2 → Loads (pagesAt v (take (i + 1) es)) m m2
     loading-turn m m1 m2 a b =
-        subst (λ (ps : List StoredPage). Loads ps m m2) pages-next (loads-then m m1 m2 (pagesAt v (take i es)) (pageAt e (v e)) a b)
+        subst (λ (ps : List StoredPage). Loads ps m m2) pages-next (loads-then m m1 m2 (pagesAt v (take i es)) (pageAt e (asPage (v e))) a b)
 
     -- and room for it
-    pub loading-room : (m m1 : List ℕ) → Loads (pagesAt v (take i es)) m m1 → RoomFor (pagesAt v es) (flatOf m) → RoomFor (pageAt e (v e)) (flatOf m1)
+    pub loading-room : (m m1 : List ℕ) → Loads (pagesAt v (take i es)) m m1 → RoomFor (pagesAt v es) (flatOf m) → RoomFor (pageAt e (asPage (v e))) (flatOf m1)
     loading-room m m1 a r =
         let ps : List StoredPage = pagesAt v (take i es) in
-        let p : List StoredPage = pageAt e (v e) in
+        let p : List StoredPage = pageAt e (asPage (v e)) in
         let qs : List StoredPage = pagesAt v (drop (i + 1) es) in
         let s : pagesAt v es ≡ ps ++ (p ++ qs) = pages-split in
         let n1 : length (pagesAt v es) ≡ length ps + length (p ++ qs) = ap length s ∙ length-append ps (p ++ qs) in

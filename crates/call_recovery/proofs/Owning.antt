@@ -1,6 +1,6 @@
 -- Counts by transaction, and the transactions that are opened at their last rows.
 use Rattle.basics.proofs.Kit.{_≡_, refl, sym, ap, _∙_, subst, Bool, true, false, cond, List, [], _∷_, _++_, append-assoc, append-nil, map, ℕ, suc, _+_, _≤_, _<_, zero, add-one, eqb, length}
-use Rattle.basics.proofs.Kit.{take, drop, getD, set, length-append, take-append-drop, length-set, length-replicate, drop-of-length-le, length-map, replicate, getD-replicate, List·getD-map}
+use Rattle.basics.proofs.Kit.{take, drop, getD, set, length-append, length-take, take-append-drop, length-set, length-replicate, drop-of-length-le, length-map, replicate, getD-replicate, List·getD-map}
 use Rattle.basics.proofs.Kit.{drop-cons, take-all, take-suc, getD-set-same, getD-set-other, eqb-true, eq-eqb, ne-eqb, eqb-false, ltb-true, ltb-false, arith}
 use Rattle.basics.specs.Basics.{if_then_else_, any, howMany}
 use Rattle.basics.proofs.Facts.{by}
@@ -113,12 +113,7 @@ module _ (f : Flat) where
 
   -- counts of the first i rows are small
   pub counts-small : (i : ℕ) {xs : List ℕ} → length (f .rows) ≤ 1024 → Counts (take i (ownRows f)) xs → Sized xs
-  counts-small i {xs} h k = counts-sized k (omega (arith, length-take-most i (ownRows f), own-length))
-    where
-      length-take-most : (i : ℕ) (rs : List Row) → length (take i rs) ≤ length rs
-      length-take-most zero rs = omega arith
-      length-take-most (suc i) [] = omega arith
-      length-take-most (suc i) (r ∷ rs) = omega (arith, length-take-most i rs)
+  counts-small i {xs} h k = counts-sized k (omega (arith, length-take i (ownRows f), own-length))
 
 -- ---- what is opened at a row
 

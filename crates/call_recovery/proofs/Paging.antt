@@ -1,17 +1,16 @@
 -- Pages, one behind the other: what a block that was read says, and what it comes to in the memory.
-use Rattle.basics.proofs.Kit.{_≡_, refl, sym, ap, _∙_, subst, ⊎-elim, Bool, true, List, [], _∷_, _++_, append-assoc, append-nil, map, ℕ, suc, _+_, _≤_, _<_, zero, zero-add, leb, length}
+use Rattle.basics.proofs.Kit.{_≡_, refl, sym, ap, _∙_, subst, Bool, true, Option, List, [], _∷_, _++_, append-assoc, append-nil, map, ℕ, suc, _+_, _≤_, _<_, zero, zero-add, leb, length}
 use Rattle.basics.proofs.Kit.{getD, length-append, length-map, leb-true, arith}
-use Rattle.basics.specs.Basics.{all}
+use Rattle.basics.specs.Basics.{all, isSome}
 use Rattle.basics.proofs.Lists.{map-append}
-use Rattle.basics.proofs.Facts.{clash, and-true}
+use Rattle.basics.proofs.Facts.{and-true}
 use Rattle.block_forms.specs.Tuple.{Tuple}
-use Rattle.block_forms.specs.Block.{Block, malformed, header, page, directory}
+use Rattle.block_forms.specs.Block.{Block, PageBlock, asPage}
 use Rattle.block_forms.specs.Decode.{decodeBlock}
-use Rattle.block_reader.specs.Answers.{isPage, reading}
-use Rattle.block_reader.specs.declared.Reading.{Reading}
+use Rattle.block_reader.specs.Answers.{reading}
 use Rattle.block_reader.specs.declared.Reading.the-variants.{IsPage}
-use Rattle.block_reader.proofs.Answering.{answer-page, OneOfThese}
-use Rattle.block_forms.proofs.Laws.{decode-in-range}
+use Rattle.block_reader.proofs.Answering.{is-page}
+use Rattle.block_forms.proofs.Laws.{page-read}
 use Rattle.image.specs.View.{view, blockAt}
 use Rattle.image.specs.Stages.{StoredPage}
 use Rattle.model.specs.State.{Held}
@@ -21,38 +20,23 @@ use Rattle.memory_layout.specs.declared.Entry.{Entry}
 use Rattle.memory_layout.proofs.Laws.{becomes-none, becomes-then}
 use Rattle.memory_rows.specs.Cells.{InOrder}
 use Rattle.memory_pages.specs.Pages.{MayAppend, clean, behind, EntriesBecome}
-use Rattle.call_recovery.specs.Loading.{storedPage, pageAt, tuplesIn, heldsOf, entryFor, lastMore, withPages, TablesRise, Fills, Loads, RoomFor}
+use Rattle.call_recovery.specs.Loading.{pageAt, tuplesIn, heldsOf, entryFor, lastMore, withPages, TablesRise, Fills, Loads, RoomFor}
 use Rattle.call_recovery.proofs.Adding.{becomes-as, last-more}
 
 -- ---- a block that was read
 
--- block e, which is b, is a page of table t with n tuples
-pub record Here (e t n : ℕ) (b : Block) : Type 0 where
-  pub is : isPage b ≡ true
-  pub count : length (tuplesIn b) ≡ n
-  pub stored : pageAt e b ≡ storedPage e t (tuplesIn b) ∷ []
+-- block e holds a page of table t with n tuples
+pub record Here (e t n : ℕ) (o : Option PageBlock) : Type 0 where
+  pub is : isSome o ≡ true
+  pub count : length (tuplesIn o) ≡ n
+  pub stored : pageAt e o ≡ record { block = e; table = t; tuples = tuplesIn o } ∷ []
 
-here-page : (e t n k : ℕ) (ts : List Tuple) → length ts ≡ n → Here e t n (page t k ts)
-unfolding isPage tuplesIn pageAt
-here-page e t n k ts l = record { is = refl; count = l; stored = refl }
+pub here : (e : ℕ) {t n l : ℕ} (b : Block) → IsPage t n l ≡ reading b → Here e t n (asPage b)
+unfolding isSome tuplesIn pageAt
+here e b q = let p = is-page b q in rw (p .is) (record { is = refl; count = p .count; stored = refl })
 
-pub here : (e t n l : ℕ) (b : Block) → IsPage t n l ≡ reading b → Here e t n b
-here e t n l b q = let p = answer-page b t n l (sym q) in rw (p .is) (here-page e t n l (p .tuples) (p .count))
-
-pub table-small : (xs : List ℕ) (t n l : ℕ) → IsPage t n l ≡ reading (decodeBlock xs) → t < 8
-table-small xs t n l q =
-    let p = answer-page (decodeBlock xs) t n l (sym q) in
-    decode-in-range xs (page t l (p .tuples)) (p .is) (λ m. clash cc) .table
-
--- a block of another kind
-pub none-here : (e : ℕ) (x : Reading) (b : Block) → x ≡ reading b → OneOfThese (0 ∷ 2 ∷ 3 ∷ []) x → pageAt e b ≡ []
-unfolding pageAt reading
-none-here e x malformed q k = refl
-none-here e x (header h) q k = refl
-none-here e x (page t j ts) q k =
-    let n = subst (OneOfThese (0 ∷ 2 ∷ 3 ∷ [])) q k in
-    ⊎-elim (λ z. absurd (omega arith)) (⊎-elim (λ z. absurd (omega arith)) (λ z. absurd (omega arith))) n
-none-here e x (directory j es) q k = refl
+pub table-small : (xs : List ℕ) {t n l : ℕ} → IsPage t n l ≡ reading (decodeBlock xs) → t < 8
+table-small xs q = page-read xs (is-page (decodeBlock xs) q .is) .range .table
 
 pub seen-here : (img bs : List ℕ) (e : ℕ) → bs ≡ blockAt img e → decodeBlock bs ≡ view img e
 unfolding view
@@ -71,11 +55,11 @@ pub record OneFits (e t n : ℕ) (f : Flat) : Type 0 where
   pub may : MayAppend f t e
   pub rows : length (f .rows) + n ≤ f .head .capacity
 
-pub one-fits : (e t n : ℕ) (b : Block) (f : Flat) → e < 4096 → t < 8 → 1 ≤ f .head .capacity → Here e t n b → RoomFor (pageAt e b) f → OneFits e t n f
+pub one-fits : (e t n : ℕ) (o : Option PageBlock) (f : Flat) → e < 4096 → t < 8 → 1 ≤ f .head .capacity → Here e t n o → RoomFor (pageAt e o) f → OneFits e t n f
 unfolding heldsOf TablesRise
-one-fits e t n b f he ht hc h r =
-    let ts : List Tuple = tuplesIn b in
-    let q : RoomFor (storedPage e t ts ∷ []) f = subst (λ (ps : List StoredPage). RoomFor ps f) (h .stored) r in
+one-fits e t n o f he ht hc h r =
+    let ts : List Tuple = tuplesIn o in
+    let q : RoomFor (record { block = e; table = t; tuples = ts } ∷ []) f = subst (λ (ps : List StoredPage). RoomFor ps f) (h .stored) r in
     let k : length (map withoutPending ts ++ []) ≡ n = ap length (append-nil (map withoutPending ts)) ∙ length-map ts withoutPending ∙ h .count in
     record {
       may = record {

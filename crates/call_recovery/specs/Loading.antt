@@ -1,16 +1,17 @@
 -- What recovery puts into the memory: rows and page entries of the pages, and blocks in use.
 use Prim.Native.Nat.{ℕ, _+_, _-_, _≤_}
 use mathlib.Core.Path.{_≡_}
-use mathlib.Core.Bool.{Bool, true, false, _||_}
+use mathlib.Core.Bool.{Bool, true, _||_}
+use mathlib.Core.Option.{Option, none, some}
 use mathlib.Core.List.{List, [], _∷_, _++_, map}
 use lib.ListN.{length, take}
 use lib.Dec.{leb}
 use Rattle.basics.specs.Basics.{all, isIn}
 use Rattle.block_forms.specs.Tuple.{Tuple}
-use Rattle.block_forms.specs.Block.{Block, malformed, header, page, directory}
+use Rattle.block_forms.specs.Block.{PageBlock, asPage}
 use Rattle.block_forms.specs.declared.Record.{Record}
 use Rattle.image.specs.View.{View}
-use Rattle.image.specs.Stages.{StoredPage}
+use Rattle.image.specs.Stages.{StoredPage, storedPage}
 use Rattle.model.specs.State.{Held}
 use Rattle.model.specs.Rules.{withoutPending}
 use Rattle.memory_layout.specs.Flat.{Flat, flatOf, Becomes, withRows, withEntries}
@@ -23,27 +24,19 @@ use Rattle.memory_pages.specs.Pages.{clean, withCount, entryOf}
 -- ---- pages
 
 -- the tuples of a page; a block of another kind has none
-unfoldable pub tuplesIn : Block → List Tuple
-tuplesIn malformed = []
-tuplesIn (header h) = []
-tuplesIn (page t l ts) = ts
-tuplesIn (directory l es) = []
-
--- the page of table t in block e
-abbrev pub storedPage : ℕ → ℕ → List Tuple → StoredPage
-storedPage e t ts = record { block = e; table = t; tuples = ts }
+unfoldable pub tuplesIn : Option PageBlock → List Tuple
+tuplesIn none = []
+tuplesIn (some p) = p .tuples
 
 -- the page in block e: none, if the block is no page
-unfoldable pub pageAt : ℕ → Block → List StoredPage
-pageAt e malformed = []
-pageAt e (header h) = []
-pageAt e (page t l ts) = storedPage e t ts ∷ []
-pageAt e (directory l es) = []
+unfoldable pub pageAt : ℕ → Option PageBlock → List StoredPage
+pageAt e none = []
+pageAt e (some p) = storedPage e p ∷ []
 
 -- the pages in the blocks es
 unfoldable pub pagesAt : View → List ℕ → List StoredPage
 pagesAt v [] = []
-pagesAt v (e ∷ es) = pageAt e (v e) ++ pagesAt v es
+pagesAt v (e ∷ es) = pageAt e (asPage (v e)) ++ pagesAt v es
 
 -- ---- what they are in the memory
 

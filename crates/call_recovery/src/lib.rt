@@ -16,6 +16,7 @@ ghost use lib.ListN.{length};
 ghost use Rattle.basics.specs.Basics.{all};
 ghost use Rattle.block_forms.specs.Limits.{payloadLimit};
 ghost use Rattle.block_forms.specs.Tuple.{OwnerFits};
+ghost use Rattle.block_forms.specs.Block.{asPage};
 ghost use Rattle.block_forms.specs.Decode.{decodeBlock};
 ghost use Rattle.block_forms.specs.Bytes.{tupleOf, payloadIn, ownerIs};
 ghost use Rattle.block_reader.specs.Answers.{isPage};
@@ -73,11 +74,11 @@ fn load_row(block: &[u8], r: Record, m: &mut [u8])
 
 // The rows of a page's tuples, behind those that are there, on the last page.
 fn load_rows(block: &[u8], count: u32, m: &mut [u8])
-    requires { ⌜ (length (now block) ≡ 512) × ((isPage (decodeBlock (now block)) ≡ true) × (length (tuplesIn (decodeBlock (now block))) ≡ count)) ⌝ }
+    requires { ⌜ (length (now block) ≡ 512) × ((isPage (decodeBlock (now block)) ≡ true) × (length (tuplesIn (asPage (decodeBlock (now block)))) ≡ count)) ⌝ }
     requires { ⌜ Room (now m) × (InOrder (now m) × ((1 ≤ length (flatOf (now m) .entries)) × (length (flatOf (now m) .rows) + count ≤ flatOf (now m) .head .capacity))) ⌝ }
-    ensures { λ _. ⌜ Fills (map withoutPending (tuplesIn (decodeBlock (now (block .entry))))) (now (m .entry)) (now (m .exit)) ⌝ }
+    ensures { λ _. ⌜ Fills (map withoutPending (tuplesIn (asPage (decodeBlock (now (block .entry)))))) (now (m .entry)) (now (m .exit)) ⌝ }
 {
-    let mut at: usize = 8;
+    let mut at: usize = block_forms::PageLayout::HEAD_SIZE;
     let mut i: u32 = 0;
     while i < count {
         match (block_reader::Cursor { at: at }).next(block) {
@@ -98,8 +99,8 @@ fn load_rows(block: &[u8], count: u32, m: &mut [u8])
 // The page in block e, behind those that are there.
 fn load_page(image: &[u8], e: usize, m: &mut [u8])
     requires { ⌜ (512 * e + 512 ≤ length (now image)) × ((e < 4096) × (isPage (view (now image) e) ≡ true)) ⌝ }
-    requires { ⌜ Room (now m) × (InOrder (now m) × RoomFor (pageAt e (view (now image) e)) (flatOf (now m))) ⌝ }
-    ensures { λ _. ⌜ Loads (pageAt e (view (now (image .entry)) e)) (now (m .entry)) (now (m .exit)) ⌝ }
+    requires { ⌜ Room (now m) × (InOrder (now m) × RoomFor (pageAt e (asPage (view (now image) e))) (flatOf (now m))) ⌝ }
+    ensures { λ _. ⌜ Loads (pageAt e (asPage (view (now (image .entry)) e))) (now (m .entry)) (now (m .exit)) ⌝ }
 {
     let block = image::block_at(image, e);
     match block_reader::known_page(&block) {

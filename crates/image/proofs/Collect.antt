@@ -3,13 +3,15 @@ use Rattle.basics.proofs.Kit.{_≡_, refl, sym, ap, _∙_, Bool, true, false, _
 use Rattle.basics.proofs.Kit.{_<_, zero, _/_, _-_, leb, ltb, length, take, drop, getD, length-append, length-take, length-drop, drop-of-length-le, le-leb, leb-true, lt-leb, leb-false}
 use Rattle.basics.proofs.Kit.{ltb-true, arith}
 use Rattle.basics.specs.Basics.{if_then_else_, all, every}
-use Rattle.basics.proofs.Facts.{by, by-option, never, and-true}
+use Rattle.basics.proofs.Facts.{by, by-option, never, and-true, clash}
+use Rattle.basics.proofs.Elements.{some-eq}
 use Rattle.basics.proofs.Lists.{map-append}
 use Rattle.basics.specs.Lists.{over}
 use Rattle.block_forms.specs.Tuple.{Tuple}
-use Rattle.block_forms.specs.Block.{Block, malformed, header, page, directory}
+use Rattle.block_forms.specs.Block.{PageBlock, asPage}
 use Rattle.block_forms.specs.Decode.{pageTuples, decodeBlock}
 use Rattle.block_forms.specs.declared.Header.{Header}
+use Rattle.block_reader.proofs.Walk.{walk-start}
 use Rattle.image_rows.specs.Rows.{Row, rowsOf, markOk, rowsOk}
 use Rattle.image_rows.specs.Columns.{bare, rowsIn, columnsOk}
 use Rattle.basics.specs.Lists.{tab}
@@ -19,9 +21,8 @@ use Rattle.image_rows.proofs.Bare.{columns-bare, rows-tests}
 use Rattle.image_page.specs.Page.{goodPage}
 use Rattle.image_page.specs.declared.GoodPage.{GoodPage}
 use Rattle.image_page.specs.declared.GoodPage.the-variants.{Good, Bad}
-use Rattle.image_page.proofs.Decoded.{page-tuples}
 use Rattle.image.specs.View.{View, view, blockAt, blockCount}
-use Rattle.image.specs.Stages.{refuses, holds, blockOk, StoredPage, pageOk, addPage, readPages, rowsOfPages, testedPages, pageTest}
+use Rattle.image.specs.Stages.{refuses, holds, blockOk, StoredPage, storedPage, pageOk, addPage, readPages, rowsOfPages, testedPages, pageTest}
 use Rattle.image.specs.Answers.{accepts}
 
 -- ---- lists
@@ -51,53 +52,64 @@ within xs es i e h =
 
 -- ---- a good page
 
-pub record Goods (l room t n : ℕ) (b : Block) : Type 0 where
+pub record Goods (l room t n : ℕ) (o : Option PageBlock) : Type 0 where
   pub level : ℕ
   pub tuples : List Tuple
-  pub block : b ≡ page t level tuples
-  pub right : pageOk l level tuples ≡ true
+  pub is : o ≡ some (record { table = t; level = level; tuples = tuples })
+  pub right : pageOk l (record { table = t; level = level; tuples = tuples }) ≡ true
   pub count : length tuples ≡ n
   pub room-left : n ≤ room
   pub marks : all markOk (rowsOf t tuples) ≡ true
 
 no-good {ℓ} : {X : Type ℓ} {t n : ℕ} → Bad ≡ Good t n → X
-no-good e = let z : _≡_ {A = ℕ} 0 1 = cc in absurd (omega arith)
+no-good e = clash cc
 
-good-page : (l room t n u k : ℕ) (ts : List Tuple)
-    → (if every (pageOk l k ts ∷ leb (length ts) room ∷ all markOk (rowsOf u ts) ∷ []) then Good u (length ts) else Bad) ≡ Good t n → Goods l room t n (page u k ts)
-unfolding if_then_else_ every
-good-page l room t n u k ts e =
-    by (pageOk l k ts && (leb (length ts) room && (all markOk (rowsOf u ts) && true)))
+pub goods : (l room t n : ℕ) (o : Option PageBlock) → goodPage l room o ≡ Good t n → Goods l room t n o
+unfolding goodPage if_then_else_ every
+goods l room t n none e = no-good e
+goods l room t n (some p) e =
+    by (pageOk l p && (leb (length (p .tuples)) room && (all markOk (rowsOf (p .table) (p .tuples)) && true)))
     (λ h.
-    let g : Good u (length ts) ≡ Good t n = rw h at e in
-    let eu : u ≡ t = cc in
-    let en : length ts ≡ n = cc in
-    let a = and-true (pageOk l k ts) _ h in
-    let b = and-true (leb (length ts) room) _ (a .1) in
-    let m = and-true (all markOk (rowsOf u ts)) true (b .1) in
+    let g : Good (p .table) (length (p .tuples)) ≡ Good t n = rw h at e in
+    let et : p .table ≡ t = cc in
+    let en : length (p .tuples) ≡ n = cc in
+    let a = and-true (pageOk l p) _ h in
+    let b = and-true (leb (length (p .tuples)) room) _ (a .1) in
+    let m = and-true (all markOk (rowsOf (p .table) (p .tuples))) true (b .1) in
     record {
-      level = k;
-      tuples = ts;
-      block = rw eu;
-      right = a .0;
+      level = p .level;
+      tuples = p .tuples;
+      is = λ i. some (record { table = et i; level = p .level; tuples = p .tuples });
+      right = rw (← et) (a .0);
       count = en;
-      room-left = rw (← en) (leb-true (length ts) room (b .0));
-      marks = rw (← eu) (m .0);
+      room-left = rw (← en) (leb-true (length (p .tuples)) room (b .0));
+      marks = rw (← et) (m .0);
     })
     (λ h. no-good (rw h at e))
 
-pub goods : (l room t n : ℕ) (b : Block) → goodPage l room b ≡ Good t n → Goods l room t n b
-unfolding goodPage
-goods l room t n malformed e = no-good e
-goods l room t n (header h) e = no-good e
-goods l room t n (page u k ts) e = good-page l room t n u k ts e
-goods l room t n (directory k es) e = no-good e
-
 -- a good page is one more
-page-added : (l room t n e : ℕ) (b : Block) (g : Goods l room t n b) (o : Option (List StoredPage))
-    → addPage l e b o ≡ Option·map (λ ps. record { block = e; table = t; tuples = g .tuples } ∷ ps) o
+page-added : (l room t n e : ℕ) (o : Option PageBlock) (g : Goods l room t n o) (more : Option (List StoredPage))
+    → addPage l e o more ≡ Option·map (λ ps. record { block = e; table = t; tuples = g .tuples } ∷ ps) more
 unfolding addPage if_then_else_
-page-added l room t n e b g o = rw (g .block, g .right)
+page-added l room t n e o g more = rw (g .is, g .right)
+
+-- the first of some pages, and those after it
+pub record First (l e : ℕ) (o : Option PageBlock) (more : Option (List StoredPage)) (ps : List StoredPage) : Type 0 where
+  pub page : PageBlock
+  pub is : o ≡ some page
+  pub right : pageOk l page ≡ true
+  pub others : List StoredPage
+  pub rest : more ≡ some others
+  pub are : ps ≡ storedPage e page ∷ others
+
+pub first-page : (l e : ℕ) (o : Option PageBlock) (more : Option (List StoredPage)) {ps : List StoredPage} → addPage l e o more ≡ some ps → First l e o more ps
+unfolding addPage if_then_else_
+first-page l e none more q = never q
+first-page l e (some p) none q = by (pageOk l p) (λ r. never (rw r at q)) (λ r. never (rw r at q))
+first-page l e (some p) (some qs) q =
+    by (pageOk l p)
+    (λ r. record { page = p; is = refl; right = r; others = qs; rest = refl; are = sym (some-eq (rw r at q)) })
+    (λ r. never (rw r at q))
 
 pub length-rows : (t : ℕ) (ts : List Tuple) → length (rowsOf t ts) ≡ length ts
 unfolding rowsOf
@@ -117,47 +129,36 @@ too-many cap next rs h = rows-tests cap next rs ∙ rw (lt-leb (length rs) cap h
 mark-wrong : (cap next : ℕ) (rs : List Row) → all markOk rs ≡ false → rowsOk cap next rs ≡ false
 mark-wrong cap next rs e = rows-tests cap next rs ∙ rw (e, and-no, and-no)
 
-module _ (l room cap next e : ℕ) (done ps : List StoredPage) (full : length (rowsOfPages done) + room ≡ cap) where
-  module _ (t k : ℕ) (ts : List Tuple) (bad : goodPage l room (page t k ts) ≡ Bad) (right : pageOk l k ts ≡ true) where
-    -- too many tuples, or a wrong delete mark
-    bad-rows : (qs : List StoredPage) → ps ≡ done ++ (record { block = e; table = t; tuples = ts } ∷ qs) → rowsOk cap next (rowsOfPages ps) ≡ false
-    unfolding rowsOfPages goodPage if_then_else_ every
-    bad-rows qs q =
-        let rs : rowsOfPages ps ≡ rowsOfPages done ++ (rowsOf t ts ++ rowsOfPages qs) =
-        ap rowsOfPages q ∙ rows-pages done (record { block = e; table = t; tuples = ts } ∷ qs) in
-        by (leb (length ts) room)
-        (λ a. by (all markOk (rowsOf t ts))
-        (λ b. let z : Good t (length ts) ≡ Bad = rw (right, a, b) at bad in no-good (sym z))
-        (λ b. mark-wrong cap next (rowsOfPages ps)
-        (ap (all markOk) rs ∙ rw (all-append markOk (rowsOfPages done) (rowsOf t ts ++ rowsOfPages qs), all-append markOk (rowsOf t ts) (rowsOfPages qs), b, and-no))))
-        (λ a.
-        let m = leb-false (length ts) room a in
-        let n = ap length rs ∙ length-append (rowsOfPages done) (rowsOf t ts ++ rowsOfPages qs) in
-        let o = length-append (rowsOf t ts) (rowsOfPages qs) in
-        let p = length-rows t ts in
-        too-many cap next (rowsOfPages ps) (omega arith))
+-- no list of pages that goes on with it passes: it has too many tuples, or a wrong delete mark
+module _ (l room cap next e : ℕ) (done : List StoredPage) (full : length (rowsOfPages done) + room ≡ cap) where
+  bad-rows : (p : PageBlock) → goodPage l room (some p) ≡ Bad → pageOk l p ≡ true → (qs : List StoredPage) → rowsOk cap next (rowsOfPages (done ++ (storedPage e p ∷ qs))) ≡ false
+  unfolding rowsOfPages goodPage if_then_else_ every
+  bad-rows p bad right qs =
+      let own : List Row = rowsOf (p .table) (p .tuples) in
+      let ps : List StoredPage = done ++ (storedPage e p ∷ qs) in
+      let rs : rowsOfPages ps ≡ rowsOfPages done ++ (own ++ rowsOfPages qs) = rows-pages done (storedPage e p ∷ qs) in
+      by (leb (length (p .tuples)) room)
+      (λ a. by (all markOk own)
+      (λ b. let z : Good (p .table) (length (p .tuples)) ≡ Bad = rw (right, a, b) at bad in no-good (sym z))
+      (λ b. mark-wrong cap next (rowsOfPages ps)
+      (ap (all markOk) rs ∙ rw (all-append markOk (rowsOfPages done) (own ++ rowsOfPages qs), all-append markOk own (rowsOfPages qs), b, and-no))))
+      (λ a.
+      let m = leb-false (length (p .tuples)) room a in
+      let n = ap length rs ∙ length-append (rowsOfPages done) (own ++ rowsOfPages qs) in
+      let o = length-append own (rowsOfPages qs) in
+      let k = length-rows (p .table) (p .tuples) in
+      too-many cap next (rowsOfPages ps) (omega arith))
 
-  bad-list : (t k : ℕ) (ts : List Tuple) → goodPage l room (page t k ts) ≡ Bad → (o : Option (List StoredPage))
-      → Option·map (λ qs. done ++ qs) (addPage l e (page t k ts) o) ≡ some ps → rowsOk cap next (rowsOfPages ps) ≡ false
-  unfolding addPage if_then_else_
-  bad-list t k ts bad none q =
-      by (pageOk l k ts) (λ r. never (rw r at q)) (λ r. never (rw r at q))
-  bad-list t k ts bad (some qs) q =
-      by (pageOk l k ts)
-      (λ r.
-      let z : some (done ++ (record { block = e; table = t; tuples = ts } ∷ qs)) ≡ some ps = rw r at q in
-      let y : ps ≡ done ++ (record { block = e; table = t; tuples = ts } ∷ qs) = cc in
-      bad-rows t k ts bad r qs y)
-      (λ r. never (rw r at q))
-
-  -- no list of pages that goes on with it passes
-  pub bad-page : (b : Block) → goodPage l room b ≡ Bad → (o : Option (List StoredPage)) → Option·map (λ qs. done ++ qs) (addPage l e b o) ≡ some ps
-      → rowsOk cap next (rowsOfPages ps) ≡ false
-  unfolding addPage
-  bad-page malformed bad o q = never q
-  bad-page (header h) bad o q = never q
-  bad-page (page t k ts) bad o q = bad-list t k ts bad o q
-  bad-page (directory k es) bad o q = never q
+  bad-page : (o : Option PageBlock) → goodPage l room o ≡ Bad → (more : Option (List StoredPage)) (ps : List StoredPage)
+      → Option·map (λ qs. done ++ qs) (addPage l e o more) ≡ some ps → rowsOk cap next (rowsOfPages ps) ≡ false
+  bad-page o bad more ps q =
+      by-option (addPage l e o more)
+      (λ z. never (rw z at q))
+      (λ us z.
+      let f = first-page l e o more z in
+      let y : done ++ us ≡ ps = some-eq (rw z at q) in
+      ap (λ (x : List StoredPage). rowsOk cap next (rowsOfPages x)) (sym y ∙ ap (λ (x : List StoredPage). done ++ x) (f .are))
+      ∙ bad-rows (f .page) (sym (ap (goodPage l room) (f .is)) ∙ bad) (f .right) (f .others))
 
 -- ---- the turns
 
@@ -191,11 +192,11 @@ module _ (v : View) (h : Header) (es : List ℕ) where
   map-twice d p (some ps) = ap some (sym (append-assoc d (p ∷ []) ps))
 
   module _ (i to : ℕ) (columns : List Row) (a : Collecting i to columns) where
-    next : i < length es → readPages v (h .level) (drop i es) ≡ addPage (h .level) (getD es i 0) (v (getD es i 0)) (readPages v (h .level) (drop (i + 1) es))
+    next : i < length es → readPages v (h .level) (drop i es) ≡ addPage (h .level) (getD es i 0) (asPage (v (getD es i 0))) (readPages v (h .level) (drop (i + 1) es))
     unfolding readPages
     next l = ap (readPages v (h .level)) (drop-turn es i l)
 
-    pub collecting-turn : (t n : ℕ) (more : List Row) → i < length es → (g : Goods (h .level) (h .capacity - to) t n (v (getD es i 0)))
+    pub collecting-turn : (t n : ℕ) (more : List Row) → i < length es → (g : Goods (h .level) (h .capacity - to) t n (asPage (v (getD es i 0))))
         → more ≡ columns ++ map bare (rowsOf t (g .tuples)) → Collecting (i + 1) (to + n) more
     collecting-turn t n more l g m =
         let e = getD es i 0 in
@@ -203,7 +204,7 @@ module _ (v : View) (h : Header) (es : List ℕ) where
         let d : List StoredPage = a .done ++ (p ∷ []) in
         let rs : rowsOfPages d ≡ rowsOfPages (a .done) ++ rowsOf t (g .tuples) = one-more (a .done) p in
         let o = readPages v (h .level) (drop (i + 1) es) in
-        let q = next l ∙ page-added (h .level) (h .capacity - to) t n e (v e) g o in
+        let q = next l ∙ page-added (h .level) (h .capacity - to) t n e (asPage (v e)) g o in
         let len : length (rowsOfPages d) ≡ to + n =
         ap length rs ∙ length-append (rowsOfPages (a .done)) (rowsOf t (g .tuples)) ∙ omega (arith, a .count, length-rows t (g .tuples), g .count) in
         record {
@@ -232,13 +233,13 @@ module _ (v : View) (h : Header) (es : List ℕ) where
   refused f = by-option (readPages v (h .level) es) (λ q. rw q) (λ ps q. rw (q, f ps q))
 
   pub collecting-bad : (i to : ℕ) (columns : List Row) → Collecting i to columns → i < length es
-      → goodPage (h .level) (h .capacity - to) (v (getD es i 0)) ≡ Bad → false ≡ accepts (pageTest v h es)
+      → goodPage (h .level) (h .capacity - to) (asPage (v (getD es i 0))) ≡ Bad → false ≡ accepts (pageTest v h es)
   collecting-bad i to columns a l bad =
       let e = getD es i 0 in
       let o = readPages v (h .level) (drop (i + 1) es) in
       let f : length (rowsOfPages (a .done)) + (h .capacity - to) ≡ h .capacity = omega (arith, a .count, a .room) in
       refused (λ ps q.
-      bad-page (h .level) (h .capacity - to) (h .capacity) (h .next) e (a .done) ps f (v e) bad o
+      bad-page (h .level) (h .capacity - to) (h .capacity) (h .next) e (a .done) f (asPage (v e)) bad o ps
       (ap (Option·map (λ qs. a .done ++ qs)) (sym (next i to columns a l)) ∙ sym (a .rest) ∙ q))
 
 -- ---- the block that the code holds
@@ -255,8 +256,8 @@ module _ (xs es : List ℕ) (i x : ℕ) (bs : List ℕ) (b : bs ≡ blockAt xs x
   unfolding view
   seen = rw (b, e)
 
-  pub page-here : (l cap w to : ℕ) (r : GoodPage) → w ≡ cap → r ≡ goodPage l (w - to) (decodeBlock bs) → goodPage l (cap - to) (view xs (getD es i 0)) ≡ r
+  pub page-here : (l cap w to : ℕ) (r : GoodPage) → w ≡ cap → r ≡ goodPage l (w - to) (asPage (decodeBlock bs)) → goodPage l (cap - to) (asPage (view xs (getD es i 0))) ≡ r
   page-here l cap w to r c q = rw (← seen, ← c) (sym q)
 
-  pub tuples-here : (l room t n : ℕ) (g : Goods l room t n (view xs (getD es i 0))) → pageTuples n bs ≡ some (g .tuples)
-  tuples-here l room t n g = rw (← g .count) (page-tuples bs t (g .level) (g .tuples) (seen ∙ g .block))
+  pub tuples-here : (l room t n : ℕ) (g : Goods l room t n (asPage (view xs (getD es i 0)))) → pageTuples n bs ≡ some (g .tuples)
+  tuples-here l room t n g = rw (← g .count) (walk-start bs (ap asPage seen ∙ g .is) .read)

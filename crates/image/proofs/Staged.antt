@@ -2,26 +2,27 @@
 use Rattle.basics.proofs.Kit.{_≡_, refl, sym, ap, _∙_, subst, ⊎-elim, Bool, true, false, _&&_, some, none, Option, List, [], _∷_, _++_, map, ℕ, _+_, _*_, _%_, _≤_, _<_, _/_, _-_, min, eqb}
 use Rattle.basics.proofs.Kit.{length, take, drop, length-append, length-take, length-replicate, take-at, le-leb, lt-leb, eqb-true, eq-eqb, ne-eqb, arith}
 use Rattle.basics.specs.Basics.{if_then_else_, all, every}
-use Rattle.basics.proofs.Facts.{by, never, lie, and-true, clash}
+use Rattle.basics.proofs.Facts.{by, by-option, never, lie, and-true, clash}
+use Rattle.basics.proofs.Elements.{some-eq, every-all}
 use Rattle.basics.specs.Lists.{over}
-use Rattle.block_forms.specs.Block.{Block, malformed, header, page, directory}
+use Rattle.block_forms.specs.Block.{Block, asHeader, asPage, asDirectory}
 use Rattle.block_forms.specs.Decode.{decodeBlock}
 use Rattle.block_reader.specs.Answers.{reading}
 use Rattle.block_forms.specs.declared.Header.{Header}
-use Rattle.block_reader.specs.declared.Reading.{Reading}
 use Rattle.block_reader.specs.declared.Reading.the-variants.{IsHeader}
-use Rattle.block_reader.proofs.Answering.{OneOfThese}
+use Rattle.block_reader.proofs.Answering.{is-header}
 use Rattle.image_rows.specs.Rows.{rowsOk}
 use Rattle.basics.proofs.Ands.{and-no}
 use Rattle.image.specs.View.{View, view, blockAt, blockCount}
-use Rattle.image.specs.Stages.{Stage, refuses, holds, wholeBlocks, blockOk, numbersOf, directoryBlocks, headerOk, headerTest, addEntries, readDirectories, entriesOk, testedEntries}
-use Rattle.image.specs.Stages.{directoryTest, StoredPage, addPage, pageOk, readPages, rowsOfPages, testedPages, pageTest}
+use Rattle.image.specs.Stages.{Stage, refuses, holds, wholeBlocks, blockOk, directoriesFor, numbersOf, directoryBlocks, headerOk, headerTest, entriesDue, addEntries, readDirectories, entriesOk, testedEntries}
+use Rattle.image.specs.Stages.{directoryTest, StoredPage, readPages, rowsOfPages, testedPages, pageTest}
 use Rattle.image.specs.Whole.{headerStage, pagesBelow, pagesStage, withHeader, afterHeader, readImage}
 use Rattle.image.specs.Answers.{Filled, accepts, headerAnswer, noEntries, entriesIn, pagesAnswer, imageAnswer}
 use Rattle.image.specs.declared.HeaderTest.the-variants.{Passed, Refused}
 use Rattle.image.specs.declared.PagesTest.{PagesTest}
-use Rattle.image_header.proofs.Heads.{Counts, counts-are, header-tests}
-use Rattle.image.proofs.Named.{filled-yes, filled-not}
+use Rattle.image_header.proofs.Heads.{Counts, counts-are}
+use Rattle.image.proofs.Collect.{first-page}
+use Rattle.image.proofs.Named.{due-count, filled-yes, filled-not}
 
 -- ---- 1 and 22
 
@@ -44,120 +45,81 @@ module _ (xs : List ℕ) where
 
   module _ (w : length xs % 512 ≡ 0) (l : 2 ≤ length xs / 512) (m : length xs / 512 ≤ 4096) (bs : List ℕ) (b : bs ≡ blockAt xs 0) where
     -- the first block decides
-    pub by-block : headerTest (length xs / 512) (decodeBlock bs) ≡ headerStage xs
+    pub by-block : headerTest (length xs / 512) (asHeader (decodeBlock bs)) ≡ headerStage xs
     unfolding headerStage wholeBlocks blockCount view if_then_else_
     by-block = rw (b, eq-eqb (length xs % 512) 0 w, le-leb 2 (length xs / 512) l, le-leb (length xs / 512) 4096 m)
 
 module _ (n : ℕ) where
-  header-if : (b : Block) (h : Header) → IsHeader h ≡ reading b → headerTest n b ≡ (if headerOk n h then holds h else refuses 22)
-  unfolding reading headerTest
-  header-if malformed h e = let c : _≡_ {A = ℕ} 0 1 = cc in clash c
-  header-if (header g) h e = let q : h ≡ g = cc in rw q
-  header-if (page t k ts) h e = let c : _≡_ {A = ℕ} 0 1 = cc in clash c
-  header-if (directory k es) h e = let c : _≡_ {A = ℕ} 0 1 = cc in clash c
+  pub header-yes : (b : Block) {h : Header} → IsHeader h ≡ reading b → headerOk n h ≡ true → Passed h ≡ headerAnswer (headerTest n (asHeader b))
+  unfolding headerAnswer headerTest if_then_else_
+  header-yes b e t = rw (is-header b e, t)
 
-  pub header-yes : (b : Block) (h : Header) → IsHeader h ≡ reading b → headerOk n h ≡ true → Passed h ≡ headerAnswer (headerTest n b)
-  unfolding headerAnswer if_then_else_
-  header-yes b h e t = rw (header-if b h e, t)
+  pub header-no : (b : Block) {h : Header} → IsHeader h ≡ reading b → headerOk n h ≡ false → Refused 22 ≡ headerAnswer (headerTest n (asHeader b))
+  unfolding headerAnswer headerTest if_then_else_
+  header-no b e t = rw (is-header b e, t)
 
-  pub header-no : (b : Block) (h : Header) → IsHeader h ≡ reading b → headerOk n h ≡ false → Refused 22 ≡ headerAnswer (headerTest n b)
-  unfolding headerAnswer if_then_else_
-  header-no b h e t = rw (header-if b h e, t)
-
-  pub no-header : (x : Reading) (b : Block) → x ≡ reading b → OneOfThese (1 ∷ 2 ∷ 3 ∷ []) x → Refused 22 ≡ headerAnswer (headerTest n b)
-  unfolding headerAnswer headerTest reading
-  no-header x malformed e k = refl
-  no-header x (header h) e k =
-      let z = subst (OneOfThese (1 ∷ 2 ∷ 3 ∷ [])) e k in
-      ⊎-elim (λ y. absurd (omega arith)) (⊎-elim (λ y. absurd (omega arith)) (λ y. absurd (omega arith))) z
-  no-header x (page t j ts) e k = refl
-  no-header x (directory j es) e k = refl
+  pub other-header : (b : Block) → asHeader b ≡ none → Refused 22 ≡ headerAnswer (headerTest n (asHeader b))
+  unfolding headerAnswer headerTest
+  other-header b e = rw e
 
 -- what a header that passed says
 pub record Passing (xs : List ℕ) (h : Header) : Type 0 where
   pub counts : Counts (blockCount xs) h
   pub directories : all (blockOk (blockCount xs)) (directoryBlocks h) ≡ true
 
-tested-ok : (n : ℕ) (b : Block) (h : Header) → headerTest n b ≡ holds h → headerOk n h ≡ true
+pub refuses-holds {ℓ} : {A : Type 0} {X : Type ℓ} {n : ℕ} {a : A} → refuses n ≡ holds a → X
+refuses-holds e = clash cc
+
+pub holds-eq : {A : Type 0} {a b : A} → holds a ≡ holds b → a ≡ b
+holds-eq e = cc
+
+tested-ok : (n : ℕ) (o : Option Header) (h : Header) → headerTest n o ≡ holds h → headerOk n h ≡ true
 unfolding headerTest if_then_else_
-tested-ok n malformed h e = let c : _≡_ {A = ℕ} 0 1 = cc in clash c
-tested-ok n (header g) h e =
-    by (headerOk n g)
-    (λ t. let k : holds g ≡ holds h = rw t at e in let q : g ≡ h = cc in rw (← q) t)
-    (λ t. let k : refuses 22 ≡ holds h = rw t at e in let c : _≡_ {A = ℕ} 0 1 = cc in clash c)
-tested-ok n (page t k ts) h e = let c : _≡_ {A = ℕ} 0 1 = cc in clash c
-tested-ok n (directory k es) h e = let c : _≡_ {A = ℕ} 0 1 = cc in clash c
+tested-ok n none h e = refuses-holds e
+tested-ok n (some g) h e =
+    by (headerOk n g) (λ t. let q : g ≡ h = holds-eq (rw t at e) in rw (← q) t) (λ t. refuses-holds (rw t at e))
 
 pub passing : (xs : List ℕ) (h : Header) → headerStage xs ≡ holds h → Passing xs h
-unfolding headerStage if_then_else_
+unfolding headerStage headerOk if_then_else_
 passing xs h e =
     by (wholeBlocks (length xs))
     (λ w.
-    let t = tested-ok (blockCount xs) (view xs 0) h (rw w at e) in
-    let n = blockCount xs in
-    let p = sym (header-tests (blockCount xs) h) ∙ t in
-    let a = and-true _ _ p in
-    let b = and-true (all (blockOk (blockCount xs)) (directoryBlocks h)) _ (a .1) in
-    record { counts = counts-are (blockCount xs) h (a .0); directories = b .0 })
-    (λ w. let k : refuses 1 ≡ holds h = rw w at e in let c : _≡_ {A = ℕ} 0 1 = cc in clash c)
+    let t = tested-ok (blockCount xs) (asHeader (view xs 0)) h (rw w at e) in
+    let a = every-all _ t in
+    record { counts = counts-are (blockCount xs) h (a .0); directories = a .1 .0 })
+    (λ w. refuses-holds (rw w at e))
 
 -- ---- 23: as many entries as pages
 
-record Joined (l p : ℕ) (more : Option (List ℕ)) (es : List ℕ) : Type 0 where
+record Joined (o more : Option (List ℕ)) (es : List ℕ) : Type 0 where
   pub first : List ℕ
   pub others : List ℕ
-  pub more-are : more ≡ some others
+  pub is : o ≡ some first
+  pub rest : more ≡ some others
   pub are : es ≡ first ++ others
-  pub due : length first ≡ min 336 p
 
-joined-directory : (l p k : ℕ) (fs : List ℕ) (more : Option (List ℕ)) (es : List ℕ) → addEntries l p (directory k fs) more ≡ some es → Joined l p more es
-unfolding addEntries if_then_else_
-joined-directory l p k fs none es e =
-    by (eqb k l && eqb (length fs) (min 336 p)) (λ t. never (rw t at e)) (λ t. never (rw t at e))
-joined-directory l p k fs (some gs) es e =
-    by (eqb k l && eqb (length fs) (min 336 p))
-    (λ t.
-    let z : some (fs ++ gs) ≡ some es = rw t at e in
-    let y : es ≡ fs ++ gs = cc in
-    record { first = fs; others = gs; more-are = refl; are = y; due = eqb-true (length fs) (min 336 p) (and-true (eqb k l) _ t .1) })
-    (λ t. never (rw t at e))
-
-joined : (l p : ℕ) (b : Block) (more : Option (List ℕ)) (es : List ℕ) → addEntries l p b more ≡ some es → Joined l p more es
+joined : (o more : Option (List ℕ)) {es : List ℕ} → addEntries o more ≡ some es → Joined o more es
 unfolding addEntries
-joined l p malformed more es e = never e
-joined l p (header h) more es e = never e
-joined l p (page t k ts) more es e = never e
-joined l p (directory k fs) more es e = joined-directory l p k fs more es e
+joined none more e = never e
+joined (some fs) none e = never e
+joined (some fs) (some gs) e = record { first = fs; others = gs; is = refl; rest = refl; are = sym (some-eq e) }
 
 pub entries-count : (v : View) (l : ℕ) (ds : List ℕ) (p : ℕ) (es : List ℕ) → p ≤ 336 * length ds → readDirectories v l p ds ≡ some es → length es ≡ p
 unfolding readDirectories
 entries-count v l [] p es h e = let z : es ≡ [] = cc in ap length z ∙ omega arith
 entries-count v l (d ∷ ds) p es h e =
-    let j = joined l p (v d) (readDirectories v l (p - 336) ds) es e in
-    let n = entries-count v l ds (p - 336) (j .others) (omega arith) (j .more-are) in
-    ap length (j .are) ∙ length-append (j .first) (j .others) ∙ omega (arith, j .due)
+    let j = joined (entriesDue l p (asDirectory (v d))) (readDirectories v l (p - 336) ds) e in
+    let n = entries-count v l ds (p - 336) (j .others) (omega arith) (j .rest) in
+    ap length (j .are) ∙ length-append (j .first) (j .others) ∙ omega (arith, due-count l p (asDirectory (v d)) (j .is))
 
 -- ---- 24: the blocks of the pages are the entries
-
-blocks-page : (l e : ℕ) (b : Block) (es : List ℕ) (o : Option (List StoredPage)) (ps : List StoredPage)
-    → ((qs : List StoredPage) → o ≡ some qs → map (λ p. p .block) qs ≡ es) → addPage l e b o ≡ some ps → map (λ p. p .block) ps ≡ e ∷ es
-unfolding addPage if_then_else_
-blocks-page l e malformed es o ps f q = never q
-blocks-page l e (header h) es o ps f q = never q
-blocks-page l e (page t k ts) es none ps f q = by (pageOk l k ts) (λ r. never (rw r at q)) (λ r. never (rw r at q))
-blocks-page l e (page t k ts) es (some qs) ps f q =
-    by (pageOk l k ts)
-    (λ r.
-    let z : some (record { block = e; table = t; tuples = ts } ∷ qs) ≡ some ps = rw r at q in
-    let y : ps ≡ record { block = e; table = t; tuples = ts } ∷ qs = cc in
-    ap (map (λ p. p .block)) y ∙ ap (λ (m : List ℕ). e ∷ m) (f qs refl))
-    (λ r. never (rw r at q))
-blocks-page l e (directory k fs) es o ps f q = never q
 
 pub read-blocks : (v : View) (l : ℕ) (es : List ℕ) (ps : List StoredPage) → readPages v l es ≡ some ps → map (λ p. p .block) ps ≡ es
 unfolding readPages
 read-blocks v l [] ps e = let z : ps ≡ [] = cc in ap (map (λ p. p .block)) z
-read-blocks v l (x ∷ es) ps e = blocks-page l x (v x) es (readPages v l es) ps (λ qs q. read-blocks v l es qs q) e
+read-blocks v l (x ∷ es) ps e =
+    let f = first-page l x (asPage (v x)) (readPages v l es) e in
+    ap (map (λ p. p .block)) (f .are) ∙ ap (λ (m : List ℕ). x ∷ m) (read-blocks v l es (f .others) (f .rest))
 
 -- ---- 23 and 24 together
 
@@ -204,6 +166,30 @@ module _ (v : View) (h : Header) where
       unfolding pageTest
       all-good q = ap pagesAnswer by-pages ∙ pages-accepted (readPages v (h .level) es) refl q
 
+-- what they showed, where they passed
+pub record Tested (v : View) (h : Header) (ps : List StoredPage) : Type 0 where
+  pub entries : List ℕ
+  pub listed : readDirectories v (h .level) (h .pages) (directoryBlocks h) ≡ some entries
+  pub entries-ok : entriesOk (h .blocks) (directoryBlocks h) entries ≡ true
+  pub read : readPages v (h .level) entries ≡ some ps
+  pub rows-ok : rowsOk (h .capacity) (h .next) (rowsOfPages ps) ≡ true
+
+pub tested : (v : View) (h : Header) (ps : List StoredPage) → pagesStage v h ≡ holds ps → Tested v h ps
+unfolding pagesStage pagesBelow directoryTest testedEntries pageTest testedPages if_then_else_
+tested v h ps e =
+    by-option (readDirectories v (h .level) (h .pages) (directoryBlocks h))
+    (λ b. refuses-holds (rw b at e))
+    (λ es b. by (entriesOk (h .blocks) (directoryBlocks h) es)
+    (λ c. by-option (readPages v (h .level) es)
+    (λ d. refuses-holds (rw (b, c, d) at e))
+    (λ qs d. by (rowsOk (h .capacity) (h .next) (rowsOfPages qs))
+    (λ r.
+    let z : holds qs ≡ holds ps = rw (b, c, d, r) at e in
+    let q : qs ≡ ps = holds-eq z in
+    record { entries = es; listed = b; entries-ok = c; read = d ∙ ap some q; rows-ok = ap (λ (x : List StoredPage). rowsOk (h .capacity) (h .next) (rowsOfPages x)) (sym q) ∙ r })
+    (λ r. refuses-holds (rw (b, c, d, r) at e))))
+    (λ c. refuses-holds (rw (b, c) at e)))
+
 -- ---- the same, as the code has it
 
 none-many : length noEntries ≡ 1024
@@ -237,6 +223,7 @@ module _ (xs : List ℕ) (h : Header) (pages used : ℕ) where
 
     -- each directory block but the last has 336 entries
     enough : pages ≤ 336 * length (take used (numbersOf h))
+    unfolding directoriesFor
     enough = simp length-take (omega (arith, four, b .used-are, b .pages-are, b .passed .counts .directories))
 
     module _ (none out : List ℕ) (e : none ≡ noEntries) (r : Bool)
@@ -300,7 +287,7 @@ module _ (v : View) (h : Header) (n : ℕ) where
   entries-number none e = let z : n ≡ 23 = cc in omega arith
   entries-number (some es) e =
       by (entriesOk (h .blocks) (directoryBlocks h) es)
-      (λ t. let k : holds es ≡ refuses n = rw t at e in let c : _≡_ {A = ℕ} 0 1 = cc in clash c)
+      (λ t. refuses-holds (sym (rw t at e)))
       (λ t. let k : _≡_ {A = Stage (List ℕ)} (refuses 23) (refuses n) = rw t at e in let z : n ≡ 23 = cc in omega arith)
 
   pages-number : (o : Option (List StoredPage)) → testedPages h o ≡ refuses n → 0 < n
@@ -308,7 +295,7 @@ module _ (v : View) (h : Header) (n : ℕ) where
   pages-number none e = let z : n ≡ 24 = cc in omega arith
   pages-number (some ps) e =
       by (rowsOk (h .capacity) (h .next) (rowsOfPages ps))
-      (λ t. let k : holds ps ≡ refuses n = rw t at e in let c : _≡_ {A = ℕ} 0 1 = cc in clash c)
+      (λ t. refuses-holds (sym (rw t at e)))
       (λ t. let k : _≡_ {A = Stage (List StoredPage)} (refuses 24) (refuses n) = rw t at e in let z : n ≡ 24 = cc in omega arith)
 
   below-number : (d : Stage (List ℕ)) → (d ≡ refuses n → 0 < n) → pagesBelow v h d ≡ refuses n → 0 < n
@@ -323,13 +310,13 @@ module _ (v : View) (h : Header) (n : ℕ) where
 -- what the answers of the stages say
 stage-passed : (s : Stage Header) (h : Header) → Passed h ≡ headerAnswer s → s ≡ holds h
 unfolding headerAnswer
-stage-passed (refuses n) h e = let c : _≡_ {A = ℕ} 0 1 = cc in clash c
+stage-passed (refuses n) h e = clash cc
 stage-passed (holds g) h e = let z : h ≡ g = cc in ap holds (sym z)
 
 pub stage-refused : (s : Stage Header) (n : ℕ) → Refused n ≡ headerAnswer s → s ≡ refuses n
 unfolding headerAnswer
 stage-refused (refuses m) n e = let z : n ≡ m = cc in ap refuses (sym z)
-stage-refused (holds g) n e = let c : _≡_ {A = ℕ} 0 1 = cc in clash c
+stage-refused (holds g) n e = clash cc
 
 pub pages-refusal : (s : Stage (List StoredPage)) (t : PagesTest) → t ≡ pagesAnswer s → (t .refusal ≡ 0 → ⊥) → s ≡ refuses (t .refusal)
 unfolding pagesAnswer

@@ -8,13 +8,13 @@ use lib.Dec.{eqb, leb}
 use Rattle.basics.specs.Basics.{if_then_else_}
 use Rattle.block_forms.specs.Limits.{entriesPerBlock}
 use Rattle.block_forms.specs.Tuple.{Tuple}
-use Rattle.block_forms.specs.Block.{Block, malformed, header, page, directory}
+use Rattle.block_forms.specs.Block.{PageBlock, DirectoryBlock, asPage, asDirectory}
 use Rattle.block_forms.specs.declared.Header.{Header}
 use Rattle.image_rows.specs.Rows.{Row, rowsOf, rowsOk}
 use Rattle.image.specs.View.{View}
 -- what a header and its directories may count and name
 pub use Rattle.image_header.specs.Names.{capacityLimit, numbersOf}
-unfoldable pub use Rattle.image_header.specs.Names.{blockOk, isZero, directoriesFor, directoryBlocks, unusedNumbers, headerOk, entriesOk}
+unfoldable pub use Rattle.image_header.specs.Names.{blockOk, isZero, directoriesFor, directoryBlocks, unusedNumbers, countsOk, headerOk, entriesOk}
 -- what a page block may be
 unfoldable pub use Rattle.image_page.specs.Page.{pageOk}
 
@@ -32,26 +32,26 @@ wholeBlocks n = eqb (n % 512) 0 && (leb 2 (n / 512) && leb (n / 512) 4096)
 -- ---- 22: header
 
 -- block 0 of an image of n blocks
-unfoldable pub headerTest : ℕ → Block → Stage Header
-headerTest n malformed = refuses 22
-headerTest n (header h) = if headerOk n h then holds h else refuses 22
-headerTest n (page t l ts) = refuses 22
-headerTest n (directory l es) = refuses 22
+unfoldable pub headerTest : ℕ → Option Header → Stage Header
+headerTest n none = refuses 22
+headerTest n (some h) = if headerOk n h then holds h else refuses 22
 
 -- ---- 23: directory
 
--- the entries of a directory block of level l, where p pages are still to be named, and those of the blocks after it
-unfoldable pub addEntries : ℕ → ℕ → Block → Option (List ℕ) → Option (List ℕ)
-addEntries l p malformed more = none
-addEntries l p (header h) more = none
-addEntries l p (page t k ts) more = none
-addEntries l p (directory k es) more =
-    if eqb k l && eqb (length es) (min entriesPerBlock p) then Option·map (λ fs. es ++ fs) more else none
+-- the entries of a directory block of level l, where p pages are still to be named
+unfoldable pub entriesDue : ℕ → ℕ → Option DirectoryBlock → Option (List ℕ)
+entriesDue l p none = none
+entriesDue l p (some d) = if eqb (d .level) l && eqb (length (d .entries)) (min entriesPerBlock p) then some (d .entries) else none
+
+-- the entries of a block, and those of the blocks after it
+unfoldable pub addEntries : Option (List ℕ) → Option (List ℕ) → Option (List ℕ)
+addEntries none more = none
+addEntries (some es) more = Option·map (λ fs. es ++ fs) more
 
 -- the entries of the directory blocks ds, for p pages
 unfoldable pub readDirectories : View → ℕ → ℕ → List ℕ → Option (List ℕ)
 readDirectories v l p [] = some []
-readDirectories v l p (d ∷ ds) = addEntries l p (v d) (readDirectories v l (p - entriesPerBlock) ds)
+readDirectories v l p (d ∷ ds) = addEntries (entriesDue l p (asDirectory (v d))) (readDirectories v l (p - entriesPerBlock) ds)
 
 -- the entries, if every directory block could be read
 unfoldable pub testedEntries : Header → Option (List ℕ) → Stage (List ℕ)
@@ -70,18 +70,19 @@ pub record StoredPage : Type 0 where
   pub table : ℕ
   pub tuples : List Tuple
 
+-- the page that block e holds
+abbrev pub storedPage : ℕ → PageBlock → StoredPage
+storedPage e p = record { block = e; table = p .table; tuples = p .tuples }
+
 -- the page at block e below a header of level l, and those after it
-unfoldable pub addPage : ℕ → ℕ → Block → Option (List StoredPage) → Option (List StoredPage)
-addPage l e malformed more = none
-addPage l e (header h) more = none
-addPage l e (page t k ts) more =
-    if pageOk l k ts then Option·map (λ ps. record { block = e; table = t; tuples = ts } ∷ ps) more else none
-addPage l e (directory k es) more = none
+unfoldable pub addPage : ℕ → ℕ → Option PageBlock → Option (List StoredPage) → Option (List StoredPage)
+addPage l e none more = none
+addPage l e (some p) more = if pageOk l p then Option·map (λ ps. storedPage e p ∷ ps) more else none
 
 -- the pages at the blocks es
 unfoldable pub readPages : View → ℕ → List ℕ → Option (List StoredPage)
 readPages v l [] = some []
-readPages v l (e ∷ es) = addPage l e (v e) (readPages v l es)
+readPages v l (e ∷ es) = addPage l e (asPage (v e)) (readPages v l es)
 
 -- all tuples of the pages, in order
 unfoldable pub rowsOfPages : List StoredPage → List Row

@@ -3,6 +3,7 @@ use Prim.Native.Nat.{ℕ}
 use mathlib.Core.List.{List}
 use lib.ListN.{length}
 use Rattle.basics.specs.Basics.{if_then_else_}
+use Rattle.block_forms.specs.Block.{asHeader}
 use Rattle.block_forms.specs.declared.Header.{Header}
 use Rattle.image.specs.View.{View, view, blockCount}
 use Rattle.image.specs.Stages.{Stage, refuses, holds, wholeBlocks, headerTest, directoryTest, StoredPage, pageTest}
@@ -14,7 +15,7 @@ pub record Contents : Type 0 where
 
 -- tests 1 and 22
 unfoldable pub headerStage : List ℕ → Stage Header
-headerStage bytes = if wholeBlocks (length bytes) then headerTest (blockCount bytes) (view bytes 0) else refuses 1
+headerStage bytes = if wholeBlocks (length bytes) then headerTest (blockCount bytes) (asHeader (view bytes 0)) else refuses 1
 
 -- test 24, by the answer of test 23
 unfoldable pub pagesBelow : View → Header → Stage (List ℕ) → Stage (List StoredPage)

@@ -1,16 +1,15 @@
 // What any bytes are as an image: recovery's tests but that of the memory.
 ghost use mathlib.Core.Path.{_≡_};
 ghost use mathlib.Core.Bool.{true};
-ghost use mathlib.Core.Option.{some};
-ghost use mathlib.Core.List.{[]};
 ghost use Prim.Native.Nat.{_+_, _*_, _≤_, min};
 ghost use lib.ListN.{length, take};
 ghost use Rattle.basics.specs.Basics.{all};
 ghost use Rattle.basics.specs.Lists.{over};
 ghost use Rattle.block_forms.specs.Limits.{entriesPerBlock};
+ghost use Rattle.block_forms.specs.Block.{asDirectory};
 ghost use Rattle.block_forms.specs.Decode.{decodeBlock};
 ghost use Rattle.image.specs.View.{view, blockAt, blockCount};
-ghost use Rattle.image.specs.Stages.{refuses, holds, blockOk, addEntries, readDirectories, pageTest};
+ghost use Rattle.image.specs.Stages.{refuses, holds, blockOk, entriesDue, readDirectories, pageTest};
 ghost use Rattle.image.specs.Whole.{headerStage, pagesStage, readImage};
 ghost use Rattle.image.specs.Answers.{Filled, accepts, noEntries, headerAnswer, pagesAnswer, imageAnswer};
 
@@ -138,7 +137,7 @@ fn put_entries(out: &mut [u32], at: usize, entries: &[u16], count: usize)
 // The entries of a directory block of this level go into out from a place on, if they are as many as are due.
 fn add_entries(block: &[u8; 512], level: u32, left: usize, out: &mut [u32], at: usize) -> bool
     requires { ⌜ at + left ≤ length (now out) ⌝ }
-    ensures { λ r. ⌜ Filled (addEntries level left (decodeBlock (now (block .entry))) (some [])) at (now (out .entry)) r (now (out .exit)) ⌝ }
+    ensures { λ r. ⌜ Filled (entriesDue level left (asDirectory (decodeBlock (now (block .entry))))) at (now (out .entry)) r (now (out .exit)) ⌝ }
 {
     match block_reader::read_block(block) {
         block_reader::Reading::IsDirectory { count, level: k } => {

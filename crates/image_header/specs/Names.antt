@@ -36,22 +36,7 @@ directoryBlocks h = take (h .directories) (numbersOf h)
 unfoldable pub unusedNumbers : Header → List ℕ
 unusedNumbers h = drop (h .directories) (numbersOf h)
 
--- block count the image's; N 1 to 1,024; pages not above N; directory count ⌈P/336⌉; directory blocks neither zero, beyond the image
--- nor repeated; unused directory numbers zero. (Kind and stray bits are the block's; level and next number take every 32 bits.)
-unfoldable pub headerOk : ℕ → Header → Bool
-headerOk n h =
-    every (
-    eqb (h .blocks) n
-    ∷ leb 1 (h .capacity)
-    ∷ leb (h .capacity) capacityLimit
-    ∷ leb (h .pages) (h .capacity)
-    ∷ eqb (h .directories) (directoriesFor (h .pages))
-    ∷ all (blockOk n) (directoryBlocks h)
-    ∷ distinct (directoryBlocks h)
-    ∷ all isZero (unusedNumbers h)
-    ∷ [])
-
--- those of its tests that look at its counts
+-- block count the image's; N 1 to 1,024; pages not above N; directory count ⌈P/336⌉
 unfoldable pub countsOk : ℕ → Header → Bool
 countsOk n h =
     every (
@@ -61,6 +46,11 @@ countsOk n h =
     ∷ leb (h .pages) (h .capacity)
     ∷ eqb (h .directories) (directoriesFor (h .pages))
     ∷ [])
+
+-- these counts; directory blocks neither zero, beyond the image nor repeated; unused directory numbers zero. (Kind and stray bits are the
+-- block's; level and next number take every 32 bits.)
+unfoldable pub headerOk : ℕ → Header → Bool
+headerOk n h = every (countsOk n h ∷ all (blockOk n) (directoryBlocks h) ∷ distinct (directoryBlocks h) ∷ all isZero (unusedNumbers h) ∷ [])
 
 -- no entry is zero, beyond the image, a directory block or repeated
 unfoldable pub entriesOk : ℕ → List ℕ → List ℕ → Bool

@@ -12,6 +12,7 @@ ghost use Prim.Native.Nat.{ℕ, _+_, _*_, _<_, _≤_};
 ghost use lib.ListN.{length};
 ghost use Rattle.basics.specs.Basics.{all};
 ghost use Rattle.block_forms.specs.Tuple.{Tuple, OwnerFits};
+ghost use Rattle.block_forms.specs.Block.{asPage};
 ghost use Rattle.block_forms.specs.Decode.{pageTuples, decodeBlock};
 ghost use Rattle.block_forms.specs.Bytes.{ownerIs, tupleOf};
 ghost use Rattle.image_rows.specs.Rows.{rowsOf, markOk};
@@ -152,7 +153,7 @@ pub fn add_rows(
 
 // Whether the block is a page that may stand in an image whose header has this level, with at most `room` tuples; its table and count.
 pub fn good_page(block: &[u8; 512], level: u32, room: usize) -> GoodPage
-    ensures { λ r. ⌜ r ≡ goodPage level room (decodeBlock (now (block .entry))) ⌝ }
+    ensures { λ r. ⌜ r ≡ goodPage level room (asPage (decodeBlock (now (block .entry)))) ⌝ }
 {
     match block_reader::read_block(block) {
         Reading::IsPage {

@@ -3,20 +3,20 @@ use Rattle.basics.proofs.Kit.{_≡_, refl, sym, ap, _∙_, subst, fun-ext, true
 use Rattle.basics.proofs.Kit.{length-append, length-take, length-drop, take-append-drop, take-at, drop-drop, take-append-le, drop-append-add, drop-append-le, drop-at, arith}
 use Rattle.basics.specs.Basics.{if_then_else_, basics}
 use Rattle.basics.proofs.Facts.{by, lie, and-true}
-use Rattle.block_forms.specs.Block.{Block, malformed, header, page, directory, encodeBlock}
+use Rattle.block_forms.specs.Block.{header, asHeader, encodeBlock}
 use Rattle.block_forms.specs.Decode.{decodeBlock}
 use Rattle.block_forms.specs.declared.Header.{Header}
 use Rattle.block_forms.proofs.Laws.{encode-length, decode-encode, decode-in-range}
 use Rattle.image_rows.specs.Rows.{rowRules}
 use Rattle.image.specs.View.{View, view, blockAt, blockCount}
-use Rattle.image.specs.Stages.{Stage, refuses, holds, wholeBlocks, capacityLimit, directoriesFor, directoryBlocks, unusedNumbers, blockOk, isZero, headerOk, headerTest, readDirectories}
+use Rattle.image.specs.Stages.{Stage, refuses, holds, wholeBlocks, capacityLimit, directoriesFor, directoryBlocks, unusedNumbers, blockOk, isZero, countsOk, headerOk, headerTest, readDirectories}
 use Rattle.image.specs.Stages.{entriesOk, testedEntries, directoryTest, StoredPage, readPages, rowsOfPages, testedPages, pageTest}
 use Rattle.image.specs.Whole.{headerStage, pagesBelow, pagesStage}
 use Rattle.model.specs.State.{Store}
 use Rattle.model.specs.Checkpoint.{headerFor}
 use Rattle.model.specs.Recover.{memoryFor, putBlock, freshStore, make, madeImage, recoveredStore, recoverPages, recoverBelow, recover}
-use Rattle.model.proofs.Views.{put, recoverFrom, recoverView, Sane, AllSane}
-use Rattle.model.proofs.Recovery.{found, refuses-holds, holds-eq}
+use Rattle.model.proofs.Views.{put, recoverFrom, recoverView, AllSane}
+use Rattle.model.proofs.Recovery.{found, pages-store, refuses-holds, holds-eq}
 use Rattle.model.proofs.Start.{headed}
 use Rattle.basics.proofs.Elements.{eqb-self, eqb-true, le-true, leb-true, leb-false, lt-false, not-false}
 
@@ -72,22 +72,10 @@ module _ (img xs : List ℕ) (b : ℕ) (fits : 512 * b + 512 ≤ length img) (bl
   pub view-put : view (putBlock img b xs) ≡ put (view img) b (decodeBlock xs)
   view-put = fun-ext block-put
 
-abbrev Read : Block → Type 0
-Read malformed = ⊥
-Read (header h) = Unit {0}
-Read (page t l ts) = Unit {0}
-Read (directory l es) = Unit {0}
-
 -- every block of a view is malformed or in range
 pub view-sane : (img : List ℕ) → AllSane (view img)
 unfolding view
-view-sane img i = go (decodeBlock (blockAt img i)) refl
-  where
-    go : (x : Block) → decodeBlock (blockAt img i) ≡ x → Sane x
-    go malformed e = tt
-    go (header h) e = decode-in-range (blockAt img i) (header h) e (λ q. subst Read q tt)
-    go (page t l ts) e = decode-in-range (blockAt img i) (page t l ts) e (λ q. subst Read q tt)
-    go (directory l es) e = decode-in-range (blockAt img i) (directory l es) e (λ q. subst Read q tt)
+view-sane img i = decode-in-range (blockAt img i)
 
 -- ---- recovery of bytes and of the view
 
@@ -107,15 +95,9 @@ blocks-whole len e =
     let z : len % 512 ≡ 0 = eqb-true _ _ (k .0) in
     (omega arith, leb-true 2 (len / 512) (l .0), leb-true (len / 512) 4096 (l .1))
 
-pub stage-is : (img : List ℕ) (n : ℕ) → length img ≡ 512 * n → 2 ≤ n → n ≤ 4096 → headerStage img ≡ headerTest n (view img 0)
+pub stage-is : (img : List ℕ) (n : ℕ) → length img ≡ 512 * n → 2 ≤ n → n ≤ 4096 → headerStage img ≡ headerTest n (asHeader (view img 0))
 unfolding headerStage blockCount if_then_else_
 stage-is img n e l u = let q : length img / 512 ≡ n = omega arith in rw (whole-blocks (length img) n e l u, q)
-
--- what recovery below a header gives has the header's capacity and blocks
-pages-store : (h : Header) (st : Stage (List StoredPage)) (s : Store) → recoverPages h st ≡ holds s → (ps : List StoredPage) × (s ≡ recoveredStore h ps)
-unfolding recoverPages
-pages-store h (refuses n) s e = refuses-holds e
-pages-store h (holds ps) s e = (ps, sym (holds-eq e))
 
 -- with memory enough
 enough : (m : ℕ) (v : View) (st : Stage Header) (s : Store) → recoverFrom v st ≡ holds s → memoryFor (s .capacity) ≤ m → recoverBelow m v st ≡ holds s
@@ -123,7 +105,7 @@ unfolding recoverFrom recoverBelow if_then_else_ recoveredStore
 enough m v (refuses n) s e h = refuses-holds e
 enough m v (holds c) s e h =
     let k = pages-store c (pagesStage v c) s e in
-    let q : s .capacity ≡ c .capacity = ap (λ z. z .capacity) (k .1) in
+    let q : s .capacity ≡ c .capacity = ap (λ z. z .capacity) (sym (k .2)) in
     rw (lt-false m (memoryFor (c .capacity)) (subst (λ z. memoryFor z ≤ m) q h)) e
 
 pub recover-view : (m : ℕ) (img : List ℕ) (s : Store) (n : ℕ) → length img ≡ 512 * n → 2 ≤ n → n ≤ 4096 → recoverView n (view img) ≡ holds s → memoryFor (s .capacity) ≤ m
@@ -188,7 +170,7 @@ make-accepted len m n s e =
 -- the header that make writes passes, and the store below it is empty
 fresh-view : (v : View) (b n : ℕ) → 1 ≤ n → n ≤ capacityLimit → v 0 ≡ header (headerFor (freshStore b n) 0 0 0 [])
     → recoverView b v ≡ holds (freshStore b n)
-unfolding recoverView recoverFrom headerTest headerOk directoriesFor directoryBlocks unusedNumbers blockOk isZero basics headerFor freshStore pagesStage pagesBelow directoryTest readDirectories testedEntries entriesOk pageTest readPages testedPages rowsOfPages rowRules recoverPages recoveredStore
+unfolding recoverView recoverFrom headerTest countsOk headerOk directoriesFor directoryBlocks unusedNumbers blockOk isZero basics headerFor freshStore pagesStage pagesBelow directoryTest readDirectories testedEntries entriesOk pageTest readPages testedPages rowsOfPages rowRules recoverPages recoveredStore
 fresh-view v b n l u e = rw (e, eqb-self b, le-true 1 n l, le-true n capacityLimit u, zero) (rw zero)
   where
     zero : leb 0 n ≡ true

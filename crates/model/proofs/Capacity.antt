@@ -2,7 +2,8 @@
 use Rattle.basics.proofs.Kit.{_≡_, refl, sym, ap, _∙_, subst, _&&_, some, none, Option, List, [], _∷_, _++_, map, ℕ, suc, zero, min, eqb, ltb, length}
 use Rattle.basics.specs.Basics.{if_then_else_, first}
 use Rattle.basics.proofs.Facts.{AllOf, by}
-use Rattle.block_forms.specs.Block.{Block, malformed, header, page, directory}
+use Rattle.block_forms.specs.Block.{Block, asHeader}
+use Rattle.block_forms.specs.declared.Header.{Header}
 use Rattle.image.specs.View.{View}
 use Rattle.image.specs.Stages.{holds, directoriesFor}
 use Rattle.model.specs.State.{Page, Checkpoint, idle, running, Store, Write}
@@ -18,12 +19,14 @@ use Rattle.model.proofs.Recovery.{found}
 use Rattle.model.proofs.Effects.{unless-out}
 use Rattle.model.proofs.NoStores.{call-leaves}
 
+-- a header, if there is one, has this capacity
+abbrev Has : ℕ → Option Header → Type 0
+Has cap none = Unit {0}
+Has cap (some h) = h .capacity ≡ cap
+
 -- of a block that is written
 abbrev Apt : ℕ → Block → Type 0
-Apt cap malformed = Unit {0}
-Apt cap (header h) = h .capacity ≡ cap
-Apt cap (page t l ts) = Unit {0}
-Apt cap (directory l es) = Unit {0}
+Apt cap b = Has cap (asHeader b)
 
 -- the store t and the block stores ws that a call gives
 abbrev Capacity : ℕ → Store → List Write → Type 0

@@ -1,26 +1,22 @@
 -- Recovery taken apart: what it finds in the header, directory and page blocks, and that it looks at no other block.
-use Rattle.basics.proofs.Kit.{_≡_, refl, sym, ap, _∙_, true, some, List, [], _∷_, _++_, ℕ, _-_, arith}
+use Rattle.basics.proofs.Kit.{_≡_, refl, sym, ap, _∙_, true, some, none, Option, List, [], _∷_, _++_, ℕ, _-_, arith}
 use Rattle.basics.specs.Basics.{if_then_else_, isIn}
-use Rattle.basics.proofs.Facts.{by, by-option, AllOf}
-use Rattle.block_forms.specs.Block.{page, header, directory, Block, malformed}
+use Rattle.basics.proofs.Facts.{by, AllOf}
+use Rattle.block_forms.specs.Block.{header, asHeader}
 use Rattle.block_forms.specs.Limits.{entriesPerBlock}
 use Rattle.block_forms.specs.declared.Header.{Header}
 use Rattle.image_rows.specs.Rows.{rowsOk}
 use Rattle.image.specs.Whole.{pagesStage, pagesBelow}
-use Rattle.image.specs.Stages.{refuses, holds, StoredPage, headerOk, readDirectories, directoryBlocks, entriesOk, readPages, rowsOfPages, headerTest, directoryTest, testedEntries, pageTest}
+use Rattle.image.specs.Stages.{Stage, refuses, holds, StoredPage, headerOk, readDirectories, directoryBlocks, entriesOk, readPages, rowsOfPages, headerTest, directoryTest, testedEntries, pageTest}
 use Rattle.image.specs.Stages.{testedPages}
 use Rattle.image.specs.View.{View}
-pub use Rattle.image.proofs.Staged.{read-blocks}
+use Rattle.block_forms.proofs.Laws.{header-is}
+pub use Rattle.image.proofs.Staged.{read-blocks, refuses-holds, holds-eq}
+use Rattle.image.proofs.Staged.{tested}
 use Rattle.model.specs.State.{Store}
 use Rattle.model.specs.Recover.{recoveredStore, recoverPages}
 use Rattle.model.proofs.Views.{recoverView, recoverFrom}
 use Rattle.basics.proofs.Elements.{all-parts, all-in}
-
-pub refuses-holds {ℓ} : {A : Type 0} {X : Type ℓ} {n : ℕ} {a : A} → refuses n ≡ holds a → X
-refuses-holds e = let z : _≡_ {A = ℕ} 0 1 = cc in absurd (omega arith)
-
-pub holds-eq : {A : Type 0} {a b : A} → holds a ≡ holds b → a ≡ b
-holds-eq e = cc
 
 -- what an accepted recovery finds in a view of n blocks
 pub record Found (n : ℕ) (v : View) (s : Store) : Type 0 where
@@ -35,37 +31,35 @@ pub record Found (n : ℕ) (v : View) (s : Store) : Type 0 where
   pub rows-ok : rowsOk (head .capacity) (head .next) (rowsOfPages pages) ≡ true
   pub store : recoveredStore head pages ≡ s
 
+-- what recovery below a header gives is the store of its pages
+pub pages-store : (h : Header) (st : Stage (List StoredPage)) (s : Store) → recoverPages h st ≡ holds s → (ps : List StoredPage) × (st ≡ holds ps) × (recoveredStore h ps ≡ s)
+unfolding recoverPages
+pages-store h (refuses n) s e = refuses-holds e
+pages-store h (holds ps) s e = (ps, refl, holds-eq e)
+
 pub found : (n : ℕ) (v : View) (s : Store) → recoverView n v ≡ holds s → Found n v s
-unfolding recoverView recoverFrom headerTest pagesStage pagesBelow directoryTest testedEntries pageTest testedPages recoverPages if_then_else_
-found n v s e = go (v 0) refl e
+unfolding recoverView recoverFrom headerTest if_then_else_
+found n v s e = go (asHeader (v 0)) refl e
   where
-    go : (x : Block) → v 0 ≡ x → recoverFrom v (headerTest n x) ≡ holds s → Found n v s
-    go malformed q e = refuses-holds e
-    go (page t k ts) q e = refuses-holds e
-    go (directory k es) q e = refuses-holds e
-    go (header h) q e =
+    go : (x : Option Header) → asHeader (v 0) ≡ x → recoverFrom v (headerTest n x) ≡ holds s → Found n v s
+    go none q e = refuses-holds e
+    go (some h) q e =
         by (headerOk n h)
-        (λ a. by-option (readDirectories v (h .level) (h .pages) (directoryBlocks h))
-        (λ b. refuses-holds (rw (a, b) at e))
-        (λ es b. by (entriesOk (h .blocks) (directoryBlocks h) es)
-        (λ c. by-option (readPages v (h .level) es)
-        (λ d. refuses-holds (rw (a, b, c, d) at e))
-        (λ ps d. by (rowsOk (h .capacity) (h .next) (rowsOfPages ps))
-        (λ r. record {
+        (λ a.
+        let k = pages-store h (pagesStage v h) s (rw a at e) in
+        let t = tested v h (k .0) (k .1) in
+        record {
           head = h;
-          entries = es;
-          pages = ps;
-          top = q;
+          entries = t .entries;
+          pages = k .0;
+          top = header-is (v 0) q;
           head-ok = a;
-          listed = b;
-          entries-ok = c;
-          read = d;
-          rows-ok = r;
-          store = holds-eq
-              (rw (a, b, c, d, r) at e);
+          listed = t .listed;
+          entries-ok = t .entries-ok;
+          read = t .read;
+          rows-ok = t .rows-ok;
+          store = k .2;
         })
-        (λ r. refuses-holds (rw (a, b, c, d, r) at e))))
-        (λ c. refuses-holds (rw (a, b, c) at e))))
         (λ a. refuses-holds (rw a at e))
 
 pub recovers : (n : ℕ) (v : View) (s : Store) → Found n v s → recoverView n v ≡ holds s

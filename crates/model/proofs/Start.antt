@@ -1,13 +1,16 @@
 -- A store just recovered.
 use Rattle.basics.proofs.Kit.{_≡_, refl, sym, ap, _∙_, subst, Bool, true, false, _&&_, not, some, List, [], _∷_, _++_, map, ℕ, suc, _≤_, _<_, leb, eqb, ltb, arith}
 use Rattle.basics.specs.Basics.{isEmpty, if_then_else_, all, distinct, isIn, any, howMany}
-use Rattle.basics.proofs.Facts.{AllOf, never, by, by-option, and-true, lie}
-use Rattle.block_forms.specs.Block.{page, Block, malformed, header, directory, InRange}
+use Rattle.basics.proofs.Facts.{AllOf, by, and-true, lie, clash}
+use Rattle.block_forms.specs.Block.{page, header, asPage, InRange}
 use Rattle.block_forms.specs.Limits.{mostNumber}
 use Rattle.block_forms.specs.declared.Header.{Header}
 use Rattle.image_rows.specs.Rows.{transactions, isOwn}
-use Rattle.image.specs.Stages.{StoredPage, readPages, addPage, pageOk, blockOk, capacityLimit, directoryBlocks, headerOk, entriesOk, rowsOfPages}
+use Rattle.image.specs.Stages.{StoredPage, readPages, pageOk, blockOk, capacityLimit, directoryBlocks, headerOk, entriesOk, rowsOfPages}
 use Rattle.image.specs.View.{View}
+use Rattle.block_forms.proofs.Laws.{page-is}
+use Rattle.image_header.proofs.Heads.{counts-are}
+use Rattle.image.proofs.Collect.{first-page}
 use Rattle.model.specs.State.{Store, idle}
 use Rattle.model.specs.Rules.{isDirty}
 use Rattle.model.specs.Sight.{held, rows}
@@ -26,25 +29,14 @@ abbrev pub Read : View → ℕ → StoredPage → Type 0
 Read v l p = (k : ℕ) × (v (p .block) ≡ page (p .table) k (p .tuples)) × (0 < k) × (k ≤ l) × (isEmpty (p .tuples) ≡ false)
 
 pub pages-read : (v : View) (l : ℕ) (es : List ℕ) (ps : List StoredPage) → readPages v l es ≡ some ps → AllOf (Read v l) ps
-unfolding readPages addPage if_then_else_ pageOk
+unfolding readPages pageOk
 pages-read v l [] ps e = subst (AllOf (Read v l)) (some-eq e) tt
-pages-read v l (e ∷ es) ps h = go (v e) refl h (pages-read v l es)
-  where
-    go : (x : Block) → v e ≡ x → addPage l e x (readPages v l es) ≡ some ps
-        → ((qs : List StoredPage) → readPages v l es ≡ some qs → AllOf (Read v l) qs)
-        → AllOf (Read v l) ps
-    go malformed q h r = never h
-    go (header a) q h r = never h
-    go (directory k ds) q h r = never h
-    go (page t k ts) q h r =
-        by (pageOk l k ts)
-        (λ y. by-option (readPages v l es)
-        (λ z. never (rw (y, z) at h))
-        (λ qs z.
-        let a = and-true (not (isEmpty ts)) (leb 1 k && leb k l) y in
-        let b = and-true (leb 1 k) (leb k l) (a .1) in
-        subst (AllOf (Read v l)) (some-eq (rw (y, z) at h)) ((k, q, leb-true 1 k (b .0), leb-true k l (b .1), not-true (isEmpty ts) (a .0)), r qs z)))
-        (λ y. never (rw y at h))
+pages-read v l (e ∷ es) ps h =
+    let f = first-page l e (asPage (v e)) (readPages v l es) h in
+    let k = f .page .level in
+    let a = and-true (not (isEmpty (f .page .tuples))) (leb 1 k && leb k l) (f .right) in
+    let b = and-true (leb 1 k) (leb k l) (a .1) in
+    rw (f .are) ((k, page-is (v e) (f .is), leb-true 1 k (b .0), leb-true k l (b .1), not-true (isEmpty (f .page .tuples)) (a .0)), pages-read v l es (f .others) (f .rest))
 
 blocks-in : (n : ℕ) (ds : List ℕ) → all (blockOk n) ds ≡ true → AllOf (λ d. (0 < d) × (d < n)) ds
 unfolding blockOk
@@ -62,11 +54,8 @@ pub headed : (n : ℕ) (h : Header) → headerOk n h ≡ true → Headed n h
 unfolding headerOk
 headed n h e =
     let a = every-all _ e in
-    record {
-      blocks = eqb-true (h .blocks) n (a .0);
-      cap = (leb-true 1 (h .capacity) (a .1 .0), leb-true (h .capacity) capacityLimit (a .1 .1 .0));
-      dirs = blocks-in n (directoryBlocks h) (a .1 .1 .1 .1 .1 .0);
-    }
+    let c = counts-are n h (a .0) in
+    record { blocks = c .blocks; cap = (c .low, c .high); dirs = blocks-in n (directoryBlocks h) (a .1 .0) }
 
 pub entries-in : (n : ℕ) (ds es : List ℕ) → entriesOk n ds es ≡ true → AllOf (λ d. (0 < d) × (d < n)) es
 unfolding entriesOk
@@ -81,7 +70,7 @@ loaded-held ps = sym (listed-held (map loaded ps)) ∙ ap listed (loaded-content
 
 -- the fields of the header are in range
 pub head-range : (v : View) (h : Header) → AllSane v → v 0 ≡ header h → (h .level ≤ mostNumber) × (h .next ≤ mostNumber)
-head-range v h a e = let f : InRange (header h) = subst Sane e (a 0) in (omega (arith, f .1 .1 .1 .0), omega (arith, f .1 .1 .1 .1 .0))
+head-range v h a e = let f : InRange (header h) = subst Sane e (a 0) (λ m. clash cc) in (omega (arith, f .1 .1 .1 .0), omega (arith, f .1 .1 .1 .1 .0))
 
 start-tied : (v : View) (l : ℕ) (p : StoredPage) → Read v l p → Tied v l (loaded p)
 unfolding loaded

@@ -8,7 +8,7 @@ use Rattle.block_forms.specs.Limits.{recordSpace}
 use Rattle.block_forms.specs.Tuple.{AllFit, sizes, Tuple}
 use Rattle.block_forms.specs.declared.Header.{Header}
 use Rattle.image_rows.specs.Rows.{rowsOk, transactions, isOwn}
-use Rattle.image.specs.Stages.{directoriesFor, blockOk, directoryBlocks, isZero, unusedNumbers, StoredPage, capacityLimit, headerOk, entriesOk, readDirectories, rowsOfPages, readPages}
+use Rattle.image.specs.Stages.{directoriesFor, blockOk, directoryBlocks, isZero, unusedNumbers, StoredPage, capacityLimit, countsOk, headerOk, entriesOk, readDirectories, rowsOfPages, readPages}
 use Rattle.image.specs.View.{View}
 use Rattle.model.specs.State.{Store, Outcome, Write, Page}
 use Rattle.model.specs.Rules.{shown, isDirty, isFrozen, withoutPending}
@@ -233,7 +233,7 @@ module _ (n : ℕ) (img : View) (s b : Store) (n₀ : ℕ) (es ds : List ℕ) (b
   few-dirs = let f = few-pages in let a = all-dirs in omega (arith, lim .1)
 
   top-ok : headerOk n top ≡ true
-  unfolding headerOk every headerFor
+  unfolding countsOk headerOk every headerFor
   top-ok =
       let hn = header-numbers s (suc (s .level)) n₀ (length es) ds few-dirs in
       let h1 : eqb (s .blocks) n ≡ true = rw bl (eqb-self n) in

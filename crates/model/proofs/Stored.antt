@@ -4,7 +4,7 @@ use Rattle.basics.proofs.Kit.{take-append-drop, drop-drop, arith}
 use Rattle.basics.specs.Basics.{if_then_else_, isIn, isEmpty}
 use Rattle.basics.proofs.Facts.{by, AllOf}
 use Rattle.block_forms.specs.Block.{Block, page, directory}
-use Rattle.image.specs.Stages.{StoredPage, readPages, addPage, pageOk, readDirectories, addEntries}
+use Rattle.image.specs.Stages.{StoredPage, readPages, addPage, pageOk, readDirectories, entriesDue, addEntries}
 use Rattle.image.specs.View.{View}
 use Rattle.model.specs.Checkpoint.{fill}
 use Rattle.model.specs.Checkpoints.{contentOf}
@@ -84,7 +84,7 @@ dirs-snoc img l b es (d ∷ ds) h r =
 
 pub dirs-read : (img : View) (l : ℕ) (es ds : List ℕ) → length es ≤ 336 * length ds → Dirs img l es ds
     → readDirectories img l (length es) ds ≡ some es
-unfolding readDirectories addEntries if_then_else_
+unfolding readDirectories entriesDue addEntries if_then_else_
 dirs-read img l [] [] h r = refl
 dirs-read img l (e ∷ es) [] h r = absurd (omega arith)
 dirs-read img l es (d ∷ ds) h r =

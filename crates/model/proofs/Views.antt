@@ -2,7 +2,7 @@
 use Rattle.basics.proofs.Kit.{_≡_, false, List, [], _∷_, ℕ, _≤_, _<_, eqb}
 use Rattle.basics.specs.Basics.{if_then_else_}
 use Rattle.basics.proofs.Facts.{AllOf}
-use Rattle.block_forms.specs.Block.{Block, page, header, malformed, InRange, directory}
+use Rattle.block_forms.specs.Block.{Block, malformed, asHeader, InRange}
 use Rattle.block_forms.specs.declared.Header.{Header}
 use Rattle.image.specs.Whole.{pagesStage}
 use Rattle.image.specs.Stages.{Stage, refuses, holds, headerTest}
@@ -24,7 +24,7 @@ recoverFrom v (holds h) = recoverPages h (pagesStage v h)
 
 -- from a view of n blocks
 unfoldable pub recoverView : ℕ → View → Stage Store
-recoverView n v = recoverFrom v (headerTest n (v 0))
+recoverView n v = recoverFrom v (headerTest n (asHeader (v 0)))
 
 -- ---- the cut: as `Cut`, on views
 
@@ -39,10 +39,7 @@ pub data CutV : View → List Call → List Logged → View → List Call → Ty
 
 -- a block as it is read: malformed, or every field in its range
 abbrev pub Sane : Block → Type 0
-Sane malformed = Unit {0}
-Sane (header h) = InRange (header h)
-Sane (page t l ts) = InRange (page t l ts)
-Sane (directory l es) = InRange (directory l es)
+Sane b = (b ≡ malformed → ⊥) → InRange b
 
 abbrev pub AllSane : View → Type 0
 AllSane v = (i : ℕ) → Sane (v i)

@@ -1,7 +1,7 @@
 -- The invariant makes an idle store ready for a checkpoint, and a recovered store has it.
 use Rattle.basics.proofs.Kit.{_≡_, refl, sym, ap, _∙_, subst, true, false, List, [], _∷_, map, ℕ, suc, _+_, _≤_, _<_, leb, length, length-append, length-map, arith}
 use Rattle.basics.specs.Basics.{if_then_else_, all, isEmpty, any, isIn, every, distinct, sum, paired, howMany}
-use Rattle.basics.proofs.Facts.{AllOf, lie, by}
+use Rattle.basics.proofs.Facts.{AllOf, lie, by, clash}
 use Rattle.block_forms.specs.Block.{PageFits}
 use Rattle.block_forms.specs.Limits.{recordSpace, mostNumber}
 use Rattle.block_forms.specs.Tuple.{Tuple, AllFit, size, sizes, Fits, Owner, ownerSize, committed, tentative}
@@ -114,9 +114,9 @@ ready s v e =
 abbrev pub Tested : StoredPage → Type 0
 Tested p = (p .table < 8) × AllFit (p .tuples) × (sizes (p .tuples) ≤ recordSpace) × (0 < length (p .tuples))
 
-tested : (v : View) (l : ℕ) → AllSane v → (p : StoredPage) → Read v l p → Tested p
+pub tested : (v : View) (l : ℕ) → AllSane v → (p : StoredPage) → Read v l p → Tested p
 tested v l sane p r =
-    let f : PageFits (p .table) (r .0) (p .tuples) = subst Sane (r .1) (sane (p .block)) in
+    let f : PageFits (p .table) (r .0) (p .tuples) = subst Sane (r .1) (sane (p .block)) (λ m. clash cc) in
     (f .table, f .tuples, f .room, has-some (p .tuples) (r .4))
 
 withoutPending-size : (ts : List Tuple) → sum heldSize (map withoutPending ts) ≡ sizes ts

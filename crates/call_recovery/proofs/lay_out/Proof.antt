@@ -1,27 +1,45 @@
 -- `call_recovery::lay_out` meets its contract.
-use Rattle.call_recovery.proofs.Laying.{pages-room, order-none, owners-room, opens-room, head-fits, laid-out}
+use Rattle.call_recovery.proofs.Laying.{pages-room, order-none, marked, owners-room, opens-room, head-fits, laid-out}
 use Rattle.call_recovery.proofs.Tested.{Sure, sure}
 use Rattle.call_recovery.proofs.Naming.{named-more}
 use Rattle.call_recovery.specs.Loading.{pagesAt}
+use Rattle.call_recovery.proofs.Stored.{laidPages}
+use Rattle.memory_layout.specs.Flat.{Becomes}
 use Rattle.image_header.proofs.Heads.{used}
-use Rattle.image.specs.Stages.{numbersOf, directoryBlocks, blockOk}
+use Rattle.image.specs.Stages.{StoredPage, numbersOf, directoryBlocks, blockOk}
 use Rattle.image.specs.View.{view}
 use Rattle.basics.specs.Basics.{all}
 use Rattle.basics.proofs.Kit.{_≡_, sym, ap, _∙_, List, ℕ, take, length-take, needs, arith}
 use Rattle.call_recovery.proofs.lay_out.Statement.{statement}
 use Rattle.call_recovery.proofs.lay_out.Tie as tie
 
--- what the tests showed
-known : (c : tie.After-wide)
-    → let a = c .before .before .before .before .args in Sure (a .image .now) (a .h) (a .entries .now) (pagesAt (view (a .image .now)) (a .entries .now))
-known c =
-    let p4 = c .before .before .before .before in
-    let a = p4 .args in
-    sure (a .image .now) (a .h) (a .entries .now) _ (p4 .pre .0 .0) (p4 .pre .1 .0) (p4 .pre .1 .1)
+-- the pages that are laid out, and the directory blocks in use
+abbrev pages : tie.After-wide → List StoredPage
+pages w = let a = w .before .before .before .before .args in pagesAt (view (a .image .now)) (a .entries .now)
 
--- the directory blocks in use
-in-directory : (c : tie.After-wide) → let h = c .before .before .before .before .args .h in take (c .wide .result) (numbersOf h) ≡ directoryBlocks h
-in-directory c = used 0 (c .wide .result) (c .before .before .before .before .args .h) (c .wide .ensures) (λ (l : List ℕ). l)
+abbrev inUse : tie.After-wide → List ℕ
+inUse w = take (w .wide .result) (numbersOf (w .before .before .before .before .args .h))
+
+-- what the tests showed
+known : (w : tie.After-wide) → let a = w .before .before .before .before .args in Sure (a .image .now) (a .h) (a .entries .now) (pages w)
+known w =
+    let p = w .before .before .before .before in
+    sure (p .args .image .now) (p .args .h) (p .args .entries .now) _ (p .pre .0 .0) (p .pre .1 .0) (p .pre .1 .1)
+
+in-directory : (w : tie.After-wide) → inUse w ≡ directoryBlocks (w .before .before .before .before .args .h)
+in-directory w = used (w .before .before .before .before .args .h) (w .wide .ensures) (λ (l : List ℕ). l)
+
+-- the place behind the first call
+abbrev start : tie.After-mark-blocks2 → tie.After-wide
+start c = c .before .before .before .before .before .before .before .before .before .before .before .before .before .before .before
+
+-- pages and blocks in use, as they are behind the second marking
+laid : (c : tie.After-mark-blocks2) → let w = start c in let a = w .before .before .before .before .args in
+    Becomes (a .m .now) (c .mark-blocks2 .last .1 .0) (laidPages (a .h) (pages w) (a .entries .now) (inUse w))
+laid c =
+    let p5 = c .before .before .before .before .before in let p9 = p5 .before .before .before .before in let p13 = p9 .before .before .before .before in
+    let w = start c in let a = w .before .before .before .before .args in
+    marked (a .h) (pages w) (known w .pages) (p13 .fresh .ensures .0) (a .entries .now) (inUse w) (p9 .load-pages .ensures) (p5 .mark-blocks .ensures) (c .mark-blocks2 .ensures)
 
 fresh-requires : tie.Need-fresh-requires
 fresh-requires c κs =
@@ -68,60 +86,24 @@ mark-blocks-requires-2 c κs =
 
 reopen-requires : tie.Need-reopen-requires
 reopen-requires c κs =
-    let p3 = c .before .before .before in
-    let p8 = p3 .before .before .before .before .before in
-    let p12 = p8 .before .before .before .before in
-    let p16 = p12 .before .before .before .before in
-    let p18 = p16 .before .before in
-    let p22 = p18 .before .before .before .before in
-    let k = known p18 in
-    let a = p22 .args in
-    let ps = pagesAt (view (a .image .now)) (a .entries .now) in
-    let d = take (p18 .wide .result) (numbersOf (a .h)) in
-    let f = p16 .fresh .ensures .0 in (
-      p3 .mark-blocks2 .ensures .room,
-      (
-        owners-room (a .h) ps (k .pages) f (a .entries .now) d (p12 .load-pages .ensures) (p8 .mark-blocks .ensures) (p3 .mark-blocks2 .ensures),
-        opens-room (a .h) ps (k .pages) f (a .entries .now) d (p12 .load-pages .ensures) (p8 .mark-blocks .ensures) (p3 .mark-blocks2 .ensures) (k .opens),
-      ),
+    let p = c .before .before .before in let w = start p in let a = w .before .before .before .before .args in let k = known w in (
+      p .mark-blocks2 .ensures .room,
+      (owners-room (a .h) (pages w) (k .pages) (a .entries .now) (inUse w) (laid p), opens-room (a .h) (pages w) (k .pages) (a .entries .now) (inUse w) (laid p) (k .opens)),
     )
 
 put-head-requires : tie.Need-put-head-requires
 put-head-requires c κs =
-    let p3 = c .before .before .before in
-    let p7 = p3 .before .before .before .before in
-    let p12 = p7 .before .before .before .before .before in
-    let p16 = p12 .before .before .before .before in
-    let p20 = p16 .before .before .before .before in
-    let p22 = p20 .before .before in
-    let p26 = p22 .before .before .before .before in
-    let k = known p22 in
-    let a = p26 .args in
-    let ps = pagesAt (view (a .image .now)) (a .entries .now) in
-    let d = take (p22 .wide .result) (numbersOf (a .h)) in
-    let n = k .whole .passed .counts in
-    let f = p20 .fresh .ensures .0 in (
+    let p3 = c .before .before .before in let p = p3 .before .before .before .before in
+    let w = start p in let a = w .before .before .before .before .args in let k = known w in let n = k .whole .passed .counts in (
       p3 .reopen .ensures .room,
-      head-fits (a .h) ps (k .pages) f (a .entries .now) d (p16 .load-pages .ensures) (p12 .mark-blocks .ensures) (p7 .mark-blocks2 .ensures) (p3 .reopen .ensures)
-          (omega (arith, n .blocks, k .whole .few)) (omega (arith, n .blocks, k .whole .many)),
+      head-fits (a .h) (pages w) (k .pages) (a .entries .now) (inUse w) (laid p) (p3 .reopen .ensures) (omega (arith, n .blocks, k .whole .few)) (omega (arith, n .blocks, k .whole .many)),
     )
 
 returns : tie.Need-returns
 returns c =
-    let p2 = c .before .before in
-    let p6 = p2 .before .before .before .before in
-    let p10 = p6 .before .before .before .before in
-    let p15 = p10 .before .before .before .before .before in
-    let p19 = p15 .before .before .before .before in
-    let p23 = p19 .before .before .before .before in
-    let p25 = p23 .before .before in
-    let p29 = p25 .before .before .before .before in
-    let k = known p25 in
-    let a = p29 .args in
-    let ps = pagesAt (view (a .image .now)) (a .entries .now) in
-    let d = take (p25 .wide .result) (numbersOf (a .h)) in
-    laid-out (a .h) ps (k .pages) (p23 .fresh .ensures .0) (a .entries .now) d (p19 .load-pages .ensures) (p15 .mark-blocks .ensures) (p10 .mark-blocks2 .ensures)
-    (p6 .reopen .ensures) (sym (p29 .pre .1 .1)) (in-directory p25) (p2 .put-head .ensures)
+    let p2 = c .before .before in let p6 = p2 .before .before .before .before in let p = p6 .before .before .before .before in
+    let w = start p in let s = w .before .before .before .before in let a = s .args in
+    laid-out (a .h) (pages w) (known w .pages) (a .entries .now) (inUse w) (laid p) (p6 .reopen .ensures) (sym (s .pre .1 .1)) (in-directory w) (p2 .put-head .ensures)
 
 pub lay-out-spec : {M : Type 1} → statement M
 lay-out-spec = tie.close (tie.spec (λ c κs. search needs) fresh-requires load-pages-requires mark-blocks-requires array-share-prefix-directories slice-aggregate-mark-blocks

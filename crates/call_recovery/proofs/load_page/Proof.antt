@@ -1,11 +1,12 @@
 -- `call_recovery::load_page` meets its contract.
-use Rattle.call_recovery.proofs.Paging.{Here, here, table-small, none-here, seen-here, OneFits, one-fits, page-room, loads-none, loads-one, loads-as}
-use Rattle.call_recovery.specs.Loading.{storedPage, pageAt, tuplesIn, RoomFor}
+use Rattle.call_recovery.proofs.Paging.{Here, here, table-small, seen-here, OneFits, one-fits, page-room, loads-none, loads-one, loads-as}
+use Rattle.call_recovery.specs.Loading.{pageAt, tuplesIn, RoomFor}
 use Rattle.memory_layout.specs.Flat.{flatOf}
 use Rattle.image.specs.Stages.{StoredPage}
 use Rattle.block_reader.specs.Answers.{isPage}
 use Rattle.block_forms.specs.Decode.{decodeBlock}
-use Rattle.block_forms.specs.Block.{Block}
+use Rattle.block_forms.specs.Block.{Block, asPage}
+use Rattle.block_reader.proofs.Answering.{no-page}
 use Rattle.basics.proofs.Kit.{sym, ap, _∙_, subst, needs, arith}
 use Rattle.call_recovery.proofs.load_page.Statement.{statement}
 use Rattle.call_recovery.proofs.load_page.Tie as tie
@@ -13,14 +14,14 @@ use Rattle.call_recovery.proofs.load_page.Tie as tie
 -- the page that was read
 found : (c : tie.After-known-told)
     → let g = c .before .table .given .0 in
-    Here (c .before .before .before .before .before .before .before .before .args .e) (g .0) (g .1 .0) (decodeBlock (c .before .before .before .before .before .block-at .result))
+    Here (c .before .before .before .before .before .before .before .before .args .e) (g .0) (g .1 .0) (asPage (decodeBlock (c .before .before .before .before .before .block-at .result)))
 found c =
     let p1 = c .before in
     let p3 = p1 .before .before in
     let p5 = p3 .before .before in
     let p8 = p5 .before .before .before in
     let g = p1 .table .given in
-    here (p8 .args .e) (g .0 .0) (g .0 .1 .0) (g .0 .1 .1 .0) (decodeBlock (p5 .block-at .result)) (sym (g .1) ∙ p3 .known-page .ensures)
+    here (p8 .args .e) (decodeBlock (p5 .block-at .result)) (sym (g .1) ∙ p3 .known-page .ensures)
 
 -- there is room for it
 fits : (c : tie.After-known-told)
@@ -35,8 +36,8 @@ fits c =
     let a = p8 .args in
     let g = p1 .table .given in
     let q = seen-here (a .image .now) (p5 .block-at .result) (a .e) (p5 .block-at .ensures) in
-    one-fits (a .e) _ _ _ (flatOf (a .m .now)) (p8 .pre .0 .1 .0) (table-small _ (g .0 .0) (g .0 .1 .0) (g .0 .1 .1 .0) (sym (g .1) ∙ p3 .known-page .ensures))
-    (p8 .pre .1 .0 .range .least) (found c) (subst (λ (b : Block). RoomFor (pageAt (a .e) b) (flatOf (a .m .now))) (sym q) (p8 .pre .1 .1 .1))
+    one-fits (a .e) _ _ _ (flatOf (a .m .now)) (p8 .pre .0 .1 .0) (table-small _ (sym (g .1) ∙ p3 .known-page .ensures))
+    (p8 .pre .1 .0 .range .least) (found c) (subst (λ (b : Block). RoomFor (pageAt (a .e) (asPage b)) (flatOf (a .m .now))) (sym q) (p8 .pre .1 .1 .1))
 
 known-page-requires : tie.Need-known-page-requires
 known-page-requires c κs =
@@ -61,13 +62,14 @@ load-rows-requires c κs =
     ((omega arith, (h .is, h .count)), page-room _ _ _ _ _ (p4 .append-page .ensures) (fits p6))
 
 returns : tie.Need-returns
+unfolding pageAt
 returns c =
     let p1 = c .before in
     let p3 = p1 .before .before in
     let p6 = p3 .before .before .before in
     let a = p6 .args in
-    let e = ap (pageAt (a .e)) (sym (seen-here (a .image .now) _ (a .e) (p3 .block-at .ensures))) in
-    loads-none _ _ (p6 .pre .1 .0) (p6 .pre .1 .1 .0) (e ∙ none-here (a .e) _ _ (p1 .known-page .ensures) (c .match .keys2))
+    let e = ap (λ (b : Block). pageAt (a .e) (asPage b)) (sym (seen-here (a .image .now) _ (a .e) (p3 .block-at .ensures))) in
+    loads-none _ _ (p6 .pre .1 .0) (p6 .pre .1 .1 .0) (e ∙ ap (pageAt (a .e)) (no-page _ (p1 .known-page .ensures) (c .match .keys2)))
 
 returns-2 : tie.Need-returns-2
 returns-2 c =
@@ -79,10 +81,10 @@ returns-2 c =
     let p17 = p14 .before .before .before in
     let a = p17 .args in
     let h = found p9 in
-    let b : Block = decodeBlock (p14 .block-at .result) in
-    let p : StoredPage = storedPage (a .e) (p10 .table .given .0 .0) (tuplesIn b) in
+    let ts = tuplesIn (asPage (decodeBlock (p14 .block-at .result))) in
+    let p : StoredPage = record { block = a .e; table = p10 .table .given .0 .0; tuples = ts } in
     let l = loads-one _ _ _ p (p7 .append-page .ensures .0) (p2 .load-rows .ensures) in
-    loads-as (sym (h .stored) ∙ ap (pageAt (a .e)) (seen-here (a .image .now) _ (a .e) (p14 .block-at .ensures))) l
+    loads-as (sym (h .stored) ∙ ap (λ (b : Block). pageAt (a .e) (asPage b)) (seen-here (a .image .now) _ (a .e) (p14 .block-at .ensures))) l
 
 pub load-page-spec : {M : Type 1} → statement M
 load-page-spec = tie.close (tie.spec (λ c κs. search needs) known-page-requires (search needs) cast-append-page (search needs) append-page-requires (search needs)

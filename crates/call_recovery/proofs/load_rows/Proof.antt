@@ -7,13 +7,14 @@ use Rattle.block_reader.proofs.Walk.{Walk, walk-found, walk-bad}
 use Rattle.block_reader.proofs.Records.{found-fits}
 use Rattle.block_forms.proofs.Spelled.{all-bytes}
 use Rattle.block_forms.specs.Tuple.{Tuple}
+use Rattle.block_forms.specs.Block.{asPage}
 use Rattle.block_forms.specs.Decode.{decodeBlock}
 use Rattle.basics.proofs.Kit.{refl, sym, _∙_, subst, List, map, _≤_, _<_, _-_, length, take, arith}
 use Rattle.call_recovery.proofs.load_rows.Statement.{statement}
 use Rattle.call_recovery.proofs.load_rows.Tie as tie
 
 abbrev Inv-loop : tie.InvT-loop
-Inv-loop block count m₀ at₀ i₀ m at i = (i ≤ count) × (Walk block (tuplesIn (decodeBlock block)) at i × Fills (map withoutPending (take i (tuplesIn (decodeBlock block)))) m₀ m)
+Inv-loop block count m₀ at₀ i₀ m at i = (i ≤ count) × (Walk block (tuplesIn (asPage (decodeBlock block))) at i × Fills (map withoutPending (take i (tuplesIn (asPage (decodeBlock block))))) m₀ m)
 
 abbrev μ-loop : tie.MeasureT-loop
 μ-loop block count m₀ at₀ i₀ m at i = count - i
@@ -23,7 +24,7 @@ loop-holds c =
     let p2 = c .before .before in
     let bs = p2 .args .block .now in
     let r = p2 .pre .1 in
-    (omega arith, (page-walk bs (decodeBlock bs) refl (p2 .pre .0 .1 .0), fills-none (p2 .args .m .now) (r .0) (r .1 .0) (r .1 .1 .0)))
+    (omega arith, (page-walk bs (asPage (decodeBlock bs)) refl (p2 .pre .0 .1 .0), fills-none (p2 .args .m .now) (r .0) (r .1 .0) (r .1 .1 .0)))
 
 next-requires : tie.Need-next-requires Inv-loop μ-loop
 next-requires c κs = c .before .before .before .before .pre .0 .0
@@ -71,7 +72,7 @@ loop-again c =
     let p12 = p9 .before .before .before in
     let l = p9 .loop in
     let pre = p12 .pre in
-    let ts : List Tuple = tuplesIn (decodeBlock (p12 .args .block .now)) in
+    let ts : List Tuple = tuplesIn (asPage (decodeBlock (p12 .args .block .now))) in
     let h : l .i < length ts = omega (arith, pre .0 .1 .1, p8 .loop-test) in
     let f = walk-found (l .inv .1 .0) h (sym (p5 .r .given .1) ∙ p7 .next .ensures) in
     (omega (arith, p8 .loop-test), (f .walk, fills-turn (l .i) ts _ (f .done) (l .inv .1 .1) (pre .1 .1 .1 .0) (p2 .load-row .ensures)))
@@ -84,7 +85,7 @@ returns-2 c =
     let p1 = c .before in
     let p4 = p1 .before .before .before in
     let l = p1 .loop in
-    let ts : List Tuple = tuplesIn (decodeBlock (p4 .args .block .now)) in
+    let ts : List Tuple = tuplesIn (asPage (decodeBlock (p4 .args .block .now))) in
     subst (λ (hs : List Held). Fills hs (p4 .args .m .now) (l .m)) (withoutPending-all (l .i) ts (omega (arith, p4 .pre .0 .1 .1, c .loop-test))) (l .inv .1 .1)
 
 pub load-rows-spec : {M : Type 1} → statement M

@@ -1,6 +1,7 @@
 -- `image::test_rows` meets its contract. The invariant: the columns have the rows of the first i pages, without payloads, and their delete marks are right.
 use Rattle.basics.proofs.Kit.{_≡_, refl, _∙_, _-_, length, getD, arith}
 use Rattle.image.proofs.Collect.{Collecting, within, Goods, goods, page-here, tuples-here, collecting-start, collecting-turn, collecting-end, collecting-bad}
+use Rattle.block_forms.specs.Block.{asPage}
 use Rattle.image.specs.View.{view}
 use Rattle.image_rows.specs.Columns.{rowsIn}
 use Rattle.image.proofs.test_rows.Statement.{statement}
@@ -19,7 +20,7 @@ found : (c : tie.After-known-told Inv-loop μ-loop)
     → let k = c .before .before .before .before .before .before .before .before .before .before .before .before .before .before .before .before .before in
     let p = c .before .before .before .before .before .before .before .before .before .loop in
     let g = c .before .table .given .0 in
-    Goods (k .args .h .level) (k .args .h .capacity - p .to) (g .0) (g .1 .0) (view (k .args .image .now) (getD (k .args .entries .now) (p .i) 0))
+    Goods (k .args .h .level) (k .args .h .capacity - p .to) (g .0) (g .1 .0) (asPage (view (k .args .image .now) (getD (k .args .entries .now) (p .i) 0)))
 found c =
     let p3 = c .before .before .before in let p5 = p3 .before .before in let p6 = p5 .before in let p9 = p6 .before .before .before in
     let p10 = p9 .before in let p17 = p10 .before .before .before .before .before .before .before in
