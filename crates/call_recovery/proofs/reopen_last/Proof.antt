@@ -32,7 +32,13 @@ push-open-requires c κs =
     let a = p11 .args in
     let e = opened-last (g .0 .0) (g .0 .1 .0) (p4 .wide .result) (a .counts .now) (a .passed .now) (ap ownerIs (g .1)) w (p1 .if1 .taken) in
     let l = small p4 in
-    (pre .0, (omega (arith, ap length e, pre .1 .1 .1), record { transaction = omega arith; written = omega (arith, pre .1 .0 .0 .most _ l) }))
+    (
+      pre .0,
+      record {
+        few = omega (arith, ap length e, pre .1 .1 .1);
+        fits = record { transaction = omega arith; written = omega (arith, pre .1 .0 .0 .most _ l) };
+      },
+    )
 
 returns : tie.Need-returns
 returns c = let p5 = c .before .before .before .before .before in opens-none _ _ (p5 .pre .0) (opened-settled _ _ (ap ownerIs (c .enum-told .given .1)))
