@@ -1,6 +1,5 @@
 // Commit and abort on the working memory, by row index: one pass over the rows, run by run of neighbours of one table and key, with no
 // list of operations. What they do to the pages is what the model's plans by place do, for rows in any order.
-use memory_rows::Pending;
 ghost use mathlib.Core.Path.{_≡_};
 ghost use mathlib.Core.Bool.{true};
 ghost use Prim.Native.Nat.{_+_, _≤_, _<_};
@@ -71,12 +70,7 @@ fn is_live(m: &[u8], i: usize) -> bool
     requires { ⌜ Room (now m) × (i < length (taggedOf (now m))) ⌝ }
     ensures { λ r. ⌜ r ≡ isLive (rowFrom (taggedOf (now (m .entry))) i .1) ⌝ }
 {
-    match memory_rows::pending_at(m, i) {
-        Pending::Nothing => true,
-        Pending::Adding => true,
-        Pending::Committing => true,
-        Pending::Removing => false,
-    }
+    !memory_rows::is_removing(m, i)
 }
 
 // ---- own rows
