@@ -6,7 +6,7 @@ use Rattle.basics.specs.Lists.{removeAt}
 use Rattle.memory_layout.specs.Flat.{Flat, flatOf, Room, Becomes, withOpens}
 use Rattle.memory_layout.specs.Store.{storeOf, storeIn, pagesIn, HoldsNow}
 use Rattle.memory_layout.specs.Opens.{findOpen}
-use Rattle.memory_layout.proofs.Laws.{Sound, in-sound}
+use Rattle.memory_layout.proofs.Laws.{Sound, in-sound, store-pages}
 use Rattle.call_contracts.specs.Shape.{Answers}
 use Rattle.call_contracts.specs.declared.Answer.the-variants.{Done, Refused}
 use Rattle.call_contracts.proofs.Answering.{answers-done}
@@ -72,10 +72,6 @@ after-with : (s : Store) (ps : List Page) (tx : ℕ) → let z = withPages s ps 
 unfolding withPages changed
 after-with s ps tx = refl
 
-pages-is : (f : Flat) → storeOf f .pages ≡ pagesIn f
-unfolding storeOf
-pages-is f = refl
-
 module _ (m : List ℕ) (tx v : ℕ) (ev : v ≡ verdictIn (storeIn m) (notOpen tx)) (keep : Bool) where
   abbrev ended : Store → Outcome
   ended s = closing tx (closedPages keep tx (s .pages)) s
@@ -91,7 +87,7 @@ module _ (m : List ℕ) (tx v : ℕ) (ev : v ≡ verdictIn (storeIn m) (notOpen 
       let d : Sound m1 (withPages s ps) = in-sound m1 _ (u .store) in
       let k = opens-hold m1 m2 _ (d .has-store) b in
       let e = closed-store (flatOf m1) tx ∙ ap (λ (x : Store). changed x (x .next) (x .pages) (without tx (x .active))) (d .means) ∙ after-with s ps tx in
-      let p : closedPages keep tx (s .pages) ≡ ps = ap (closedPages keep tx) (pages-is (flatOf m)) in
+      let p : closedPages keep tx (s .pages) ≡ ps = ap (closedPages keep tx) (store-pages (flatOf m)) in
       answers-done (endCall keep tx) m m2 _ (passed-held m (notOpen tx) v ev z)
       (call-after m (notOpen tx) v ev (endCall keep tx) ended (is-end keep tx) (open-numbered tx) z)
       (record { size = k .size ∙ u .size; store = k .store ∙ ap some (e ∙ ap (λ (x : List Page). changed s (s .next) x (without tx (s .active))) (sym p)) })

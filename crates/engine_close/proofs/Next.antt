@@ -17,12 +17,9 @@ use Rattle.model.proofs.Carry.{carry-append}
 use Rattle.engine_close.proofs.Removals.{held-length, behind-fewer, behind-place, behind-left, abort-next, abort-one, abort-ends, abort-starts}
 use Rattle.engine_close.proofs.RunPlans.{same-as, same-self, same-not, plan-none, plan-past, Ends, plan-first, newest-is}
 use Rattle.engine_pages.specs.Pages.{PagesNow, pagesOf}
+use Rattle.engine_pages.proofs.Sizes.{all-by}
 use Rattle.engine_pages.proofs.Places.{now-held, now-pages, now-then, now-to, now-stay}
 use Rattle.engine_close.proofs.Closing.{now-self, row-next, row-behind, split-run}
-
-all-index : (P : ℕ × Held → Type 0) (xs : List (ℕ × Held)) → ((j : ℕ) → j < length xs → P (rowFrom xs j)) → AllOf P xs
-all-index P [] h = tt
-all-index P (x ∷ xs) h = (h 0 (omega arith), all-index P xs (λ j l. h (suc j) (omega arith)))
 
 -- what holds of each row from a up to e
 all-between : (P : ℕ × Held → Type 0) (xs : List (ℕ × Held)) (a e : ℕ) → ((j : ℕ) → a ≤ j → j < e → j < length xs → P (rowFrom xs j))
@@ -30,13 +27,13 @@ all-between : (P : ℕ × Held → Type 0) (xs : List (ℕ × Held)) (a e : ℕ)
 all-between P xs a e h =
     let l = length-take (e - a) (drop a xs) in
     let d = length-drop a xs in
-    all-index P (take (e - a) (drop a xs))
+    all-by P (take (e - a) (drop a xs)) (0, noRow)
     (λ j b. subst P (sym (getD-take (e - a) (drop a xs) j (0, noRow) (omega arith) ∙ getD-drop a xs j (0, noRow))) (h (a + j) (omega arith) (omega arith) (omega arith)))
 
 all-behind : (P : ℕ × Held → Type 0) (xs : List (ℕ × Held)) (a : ℕ) → ((j : ℕ) → a ≤ j → j < length xs → P (rowFrom xs j)) → AllOf P (drop a xs)
 all-behind P xs a h =
     let d = length-drop a xs in
-    all-index P (drop a xs) (λ j b. subst P (sym (getD-drop a xs j (0, noRow))) (h (a + j) (omega arith) (omega arith)))
+    all-by P (drop a xs) (0, noRow) (λ j b. subst P (sym (getD-drop a xs j (0, noRow))) (h (a + j) (omega arith) (omega arith)))
 
 -- the rows from a on: those up to e, and the others
 parts : (xs : List (ℕ × Held)) (a e : ℕ) → a ≤ e → drop a xs ≡ take (e - a) (drop a xs) ++ drop e xs
@@ -133,9 +130,6 @@ module _ (tx : ℕ) where
             ∙ newest-is tx (entryPlace n xs a) (entryPlace n xs k) ws (rowFrom xs k) (take (e - suc k) (drop (suc k) xs)) w (all-between _ xs (suc k) e (λ j b g q. v j b g)) z)
 
 -- ---- one step
-
-pub less-than : {a b : ℕ} → a ≤ b → (a ≡ b → ⊥) → a < b
-less-than {a} {b} l n = ⊎-elim (λ x. x) (λ x. absurd (n (omega arith))) (lt-or-ge a b)
 
 -- no own row is left
 pub none-left : (keep : Bool) {m : List ℕ} {tx i r : ℕ} → holdsStore m ≡ true → i < length (taggedOf m) → NextOwn (taggedOf m) tx i (length (taggedOf m)) r

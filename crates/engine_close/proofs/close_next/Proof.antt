@@ -1,7 +1,8 @@
 -- `engine_close::close_next` meets its contract: without an own row by `none-left`; else an abort by `one-aborted` from `remove_row`, a commit by `one-closed` from the run's bounds and `close_run`.
 use Rattle.engine_close.specs.Close.{taggedOf, rowFrom}
 use Rattle.engine_close.proofs.Memory.{table-is}
-use Rattle.engine_close.proofs.Next.{less-than, none-left, one-aborted, one-closed}
+use Rattle.engine_close.proofs.Next.{none-left, one-aborted, one-closed}
+use Rattle.engine_pages.proofs.Places.{less-than}
 use Rattle.memory_layout.specs.Flat.{Room}
 use Rattle.memory_layout.proofs.Laws.{holds-room}
 use Rattle.basics.proofs.Kit.{_≡_, sym, _∙_, _<_, length, not-true, not-false, needs, arith}
