@@ -1,17 +1,19 @@
 -- Commit and abort: the transaction's entries are taken out, and the calls.
-use Rattle.basics.proofs.Kit.{_≡_, refl, sym, ap, _∙_, some, List, ℕ, _+_, _≤_, _<_, length, take, drop, length-append, length-drop, length-take-le, arith}
+use Rattle.basics.proofs.Kit.{_≡_, refl, sym, ap, _∙_, Bool, true, false, some, List, ℕ, _+_, _≤_, _<_, length, take, drop, length-append, length-drop, length-take-le, arith}
 use Rattle.model.specs.State.{Page, Active, Store, Outcome}
-use Rattle.model.specs.Transactions.{unless, changed, notOpen, without, committedPages, abortedPages, closing, commitCall, abortCall}
+use Rattle.model.specs.Transactions.{unless, changed, notOpen, without, closing, commitCall, abortCall}
 use Rattle.basics.specs.Lists.{removeAt}
 use Rattle.memory_layout.specs.Flat.{Flat, flatOf, Room, Becomes, withOpens}
 use Rattle.memory_layout.specs.Store.{storeOf, storeIn, pagesIn, HoldsNow}
 use Rattle.memory_layout.specs.Opens.{findOpen}
-use Rattle.memory_layout.proofs.Laws.{Sound, in-sound}
+use Rattle.memory_layout.proofs.Laws.{Sound, in-sound, store-pages}
 use Rattle.call_contracts.specs.Shape.{Answers}
 use Rattle.call_contracts.specs.declared.Answer.the-variants.{Done, Refused}
 use Rattle.call_contracts.proofs.Answering.{answers-done}
 use Rattle.engine_pages.specs.Pages.{withPages}
+use Rattle.engine_close.specs.Close.{closedPages}
 use Rattle.call_transactions.specs.Refusals.{verdictIn}
+use Rattle.call_transactions.specs.Calls.{endCall}
 use Rattle.call_transactions.proofs.Opens.{without-found, without-none}
 use Rattle.call_transactions.proofs.Verdicts.{passed-held, call-after, answers-stopped, open-numbered}
 use Rattle.call_transactions.proofs.Opening.{opens-hold}
@@ -56,13 +58,10 @@ removed-count {m} {m'} i h b =
 
 -- ---- commit, abort
 
-pub is-commit : (tx : ℕ) (s : Store) → commitCall tx s ≡ unless (notOpen tx s) s (closing tx (committedPages tx (s .pages)) s)
-unfolding commitCall
-is-commit tx s = refl
-
-pub is-abort : (tx : ℕ) (s : Store) → abortCall tx s ≡ unless (notOpen tx s) s (closing tx (abortedPages tx (s .pages)) s)
-unfolding abortCall
-is-abort tx s = refl
+is-end : (keep : Bool) (tx : ℕ) (s : Store) → endCall keep tx s ≡ unless (notOpen tx s) s (closing tx (closedPages keep tx (s .pages)) s)
+unfolding commitCall abortCall
+is-end true tx s = refl
+is-end false tx s = refl
 
 closed-store : (f : Flat) (tx : ℕ) → storeOf (withOpens f (without tx (f .opens))) ≡ changed (storeOf f) (storeOf f .next) (storeOf f .pages) (without tx (storeOf f .active))
 unfolding storeOf changed
@@ -73,25 +72,24 @@ after-with : (s : Store) (ps : List Page) (tx : ℕ) → let z = withPages s ps 
 unfolding withPages changed
 after-with s ps tx = refl
 
-pages-is : (f : Flat) → storeOf f .pages ≡ pagesIn f
-unfolding storeOf
-pages-is f = refl
+module _ (m : List ℕ) (tx v : ℕ) (ev : v ≡ verdictIn (storeIn m) (notOpen tx)) (keep : Bool) where
+  abbrev ended : Store → Outcome
+  ended s = closing tx (closedPages keep tx (s .pages)) s
 
-module _ (m : List ℕ) (tx v : ℕ) (ev : v ≡ verdictIn (storeIn m) (notOpen tx)) (call : Store → Outcome) (g : List Page → List Page)
-    (is : (s : Store) → call s ≡ unless (notOpen tx s) s (closing tx (g (s .pages)) s)) where
-  pub close-refused : (v ≡ 0 → ⊥) → Answers call m (Refused v) m
-  close-refused nz = answers-stopped m (notOpen tx) v ev call (λ s. closing tx (g (s .pages)) s) is nz
+  pub end-refused : (v ≡ 0 → ⊥) → Answers (endCall keep tx) m (Refused v) m
+  end-refused nz = answers-stopped m (notOpen tx) v ev (endCall keep tx) ended (is-end keep tx) nz
 
-  pub close-done : v ≡ 0 → (m1 m2 : List ℕ) → HoldsNow m m1 (withPages (storeOf (flatOf m)) (g (pagesIn (flatOf m))))
-      → Becomes m1 m2 (withOpens (flatOf m1) (without tx (flatOf m1 .opens))) → Answers call m Done m2
-  close-done z m1 m2 u b =
+  pub end-done : v ≡ 0 → (m1 m2 : List ℕ) → HoldsNow m m1 (withPages (storeOf (flatOf m)) (closedPages keep tx (pagesIn (flatOf m))))
+      → Becomes m1 m2 (withOpens (flatOf m1) (without tx (flatOf m1 .opens))) → Answers (endCall keep tx) m Done m2
+  end-done z m1 m2 u b =
       let s : Store = storeOf (flatOf m) in
-      let ps : List Page = g (pagesIn (flatOf m)) in
+      let ps : List Page = closedPages keep tx (pagesIn (flatOf m)) in
       let d : Sound m1 (withPages s ps) = in-sound m1 _ (u .store) in
       let k = opens-hold m1 m2 _ (d .has-store) b in
       let e = closed-store (flatOf m1) tx ∙ ap (λ (x : Store). changed x (x .next) (x .pages) (without tx (x .active))) (d .means) ∙ after-with s ps tx in
-      let p : g (s .pages) ≡ ps = ap g (pages-is (flatOf m)) in
-      answers-done call m m2 _ (passed-held m (notOpen tx) v ev z) (call-after m (notOpen tx) v ev call (λ s. closing tx (g (s .pages)) s) is (open-numbered tx) z)
+      let p : closedPages keep tx (s .pages) ≡ ps = ap (closedPages keep tx) (store-pages (flatOf m)) in
+      answers-done (endCall keep tx) m m2 _ (passed-held m (notOpen tx) v ev z)
+      (call-after m (notOpen tx) v ev (endCall keep tx) ended (is-end keep tx) (open-numbered tx) z)
       (record { size = k .size ∙ u .size; store = k .store ∙ ap some (e ∙ ap (λ (x : List Page). changed s (s .next) x (without tx (s .active))) (sym p)) })
 
 -- the rows are closed: the memory holds a store

@@ -8,11 +8,10 @@ use Rattle.model.specs.Transactions.{isFor, openNumbers, writtenBy, oneMore, wi
 use Rattle.basics.proofs.Elements.{in-here, in-cons, keep-cons, keep-past}
 use Rattle.basics.specs.Lists.{removeAt, tab}
 use Rattle.basics.proofs.Tabs.{getD-tab}
-use Rattle.memory_layout.specs.Views.{countsOf, openAt, openCount}
+use Rattle.memory_layout.specs.Views.{openAt, openCount}
 use Rattle.memory_layout.specs.Flat.{flatOf, opensOf, noOpen}
 use Rattle.memory_layout.specs.Opens.{findOpen}
-use Rattle.memory_layout.specs.declared.Counts.{Counts}
-use Rattle.memory_layout.proofs.Laws.{opens-length, rows-length}
+use Rattle.memory_layout.proofs.Laws.{opens-length}
 
 -- ---- one entry
 
@@ -119,17 +118,6 @@ without-none tx (o ∷ os) h =
     by (isFor tx o)
     (λ e. absurd (omega (arith, find-here tx o os e)))
     (λ e. without-on tx o os e ∙ ap (λ (z : List Active). o ∷ z) (without-none tx os (omega (arith, find-on tx o os e))))
-
--- ---- counts that the code reads
-
-module _ (m : List ℕ) {c : Counts} (e : c ≡ countsOf m) where
-  pub opens-count : c .opens ≡ length (flatOf m .opens)
-  unfolding countsOf
-  opens-count = ap (λ (x : Counts). x .opens) e ∙ sym (opens-length m)
-
-  pub rows-count : c .rows ≡ length (flatOf m .rows)
-  unfolding countsOf
-  rows-count = ap (λ (x : Counts). x .rows) e ∙ sym (rows-length m)
 
 -- a count has 20 bits
 pub written-small : (m : List ℕ) (i : ℕ) → i < length (flatOf m .opens) → getD (flatOf m .opens) i noOpen .written < 1048576

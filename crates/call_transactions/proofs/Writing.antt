@@ -10,7 +10,7 @@ use Rattle.memory_layout.specs.Store.{storeOf, pagesIn, hasRows, HoldsNow}
 use Rattle.memory_layout.specs.Opens.{activeOf, OpenFits, findOpen}
 use Rattle.memory_layout.specs.declared.Head.{Head}
 use Rattle.memory_layout.specs.declared.Open.{Open}
-use Rattle.memory_layout.proofs.Laws.{holds-room, holds-counted, held-again, becomes-then}
+use Rattle.memory_layout.proofs.Laws.{holds-room, holds-counted, held-again, becomes-then, store-pages}
 use Rattle.block_forms.specs.Bytes.{ownerIs}
 use Rattle.memory_rows.specs.declared.Row.{Row}
 use Rattle.memory_pages.specs.Spots.{tablePage, tableRow, tableRows, placeIn}
@@ -89,10 +89,6 @@ with-changed : (s : Store) (n : ℕ) (ps qs : List Page) (os : List Active) → 
 unfolding withPages changed
 with-changed s n ps qs os = refl
 
-pages-is : (f : Flat) → storeOf f .pages ≡ pagesIn f
-unfolding storeOf
-pages-is f = refl
-
 module _ {m : List ℕ} {tx t at k : ℕ} {bs : List ℕ} {mark : Bool} {i : ℕ} {r : Row} (g : AcceptAt m tx t at k bs) (ei : i ≡ findOpen tx (flatOf m .opens))
     (new : NextRow (flatOf m) i k mark r) where
   abbrev f : Flat
@@ -136,7 +132,7 @@ module _ {m : List ℕ} {tx t at k : ℕ} {bs : List ℕ} {mark : Bool} {i : ℕ
     accepted u =
         let e : flatOf m1 ≡ afterCount f i = b .flat in
         let ps : place t (tupleBy r bs) (pagesIn (flatOf m1)) ≡ place t (newTuple tx k bs mark (storeOf f)) (storeOf f .pages) =
-        ap (λ (z : Tuple). place t z (pagesIn (flatOf m1))) tuple-is ∙ ap (place t (newTuple tx k bs mark (storeOf f))) (ap pagesIn e ∙ sym (pages-is f)) in
+        ap (λ (z : Tuple). place t z (pagesIn (flatOf m1))) tuple-is ∙ ap (place t (newTuple tx k bs mark (storeOf f))) (ap pagesIn e ∙ sym (store-pages f)) in
         record {
           size = u .size ∙ b .size;
           store = u .store ∙ ap some (ap (λ (z : Store). withPages z (place t (tupleBy r bs) (pagesIn (flatOf m1)))) (ap storeOf e ∙ counted-store)

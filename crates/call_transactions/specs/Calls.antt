@@ -1,14 +1,14 @@
--- What the functions below a write need and leave.
+-- What the functions below a write need and leave; commit and abort as one call.
 use mathlib.Core.Path.{_≡_}
-use mathlib.Core.Bool.{Bool, true}
+use mathlib.Core.Bool.{Bool, true, false}
 use mathlib.Core.List.{List}
 use Prim.Native.Nat.{ℕ, _+_, _*_, _≤_, _<_}
 use lib.ListN.{length, getD, set}
 use Rattle.block_forms.specs.Limits.{payloadLimit}
 use Rattle.block_forms.specs.Tuple.{tentative}
-use Rattle.model.specs.State.{Active}
+use Rattle.model.specs.State.{Active, Store, Outcome}
 use Rattle.model.specs.Rules.{place}
-use Rattle.model.specs.Transactions.{oneMore}
+use Rattle.model.specs.Transactions.{oneMore, commitCall, abortCall}
 use Rattle.memory_layout.specs.Flat.{Flat, flatOf, Room, withHead, withOpens, noOpen}
 use Rattle.memory_layout.specs.Store.{holdsStore}
 use Rattle.memory_layout.specs.Opens.{findOpen}
@@ -64,3 +64,8 @@ pub record AcceptAt (m : List ℕ) (tx t at k : ℕ) (bs : List ℕ) : Type 0 wh
   pub free : length (flatOf m .rows) < flatOf m .head .capacity
   pub next : flatOf m .head .next ≡ 4294967295 → ⊥
   pub place : at ≡ placeIn (flatOf m) t k
+
+-- commit (keep) or abort
+abbrev pub endCall : Bool → ℕ → Store → Outcome
+endCall true = commitCall
+endCall false = abortCall

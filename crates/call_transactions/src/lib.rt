@@ -24,7 +24,7 @@ ghost use Rattle.memory_layout.specs.Store.{storeIn, storeOf, HoldsNow};
 ghost use Rattle.memory_layout.specs.Opens.{activeOf, OpenFits};
 ghost use Rattle.call_contracts.specs.Shape.{Answers, Replies, Lists, Made};
 ghost use Rattle.call_transactions.specs.Refusals.{verdictIn, makeVerdict};
-ghost use Rattle.call_transactions.specs.Calls.{ListInto, WriterAt, NextRow, afterCount, AcceptAt};
+ghost use Rattle.call_transactions.specs.Calls.{ListInto, WriterAt, NextRow, afterCount, AcceptAt, endCall};
 
 const BLOCK_SIZE: usize = 512;
 
@@ -334,28 +334,29 @@ fn close(m: &mut [u8], transaction: u64)
     }
 }
 
-// Keeps what the transaction wrote, and closes it.
-pub fn commit(m: &mut [u8], transaction: u64) -> Answer
-    ensures { λ r. ⌜ Answers (commitCall transaction) (now (m .entry)) r (now (m .exit)) ⌝ }
+// Keeps what the transaction wrote or takes it back, and closes it.
+fn end(m: &mut [u8], transaction: u64, keep: bool) -> Answer
+    ensures { λ r. ⌜ Answers (endCall keep transaction) (now (m .entry)) r (now (m .exit)) ⌝ }
 {
     let v = not_open(m, transaction);
     if v != 0 {
         return Answer::Refused(v);
     }
-    engine_close::commit_rows(m, transaction);
+    engine_close::close_rows(m, transaction, keep);
     close(m, transaction);
     Answer::Done
+}
+
+// Keeps what the transaction wrote, and closes it.
+pub fn commit(m: &mut [u8], transaction: u64) -> Answer
+    ensures { λ r. ⌜ Answers (commitCall transaction) (now (m .entry)) r (now (m .exit)) ⌝ }
+{
+    end(m, transaction, true)
 }
 
 // Takes back what the transaction wrote, and closes it.
 pub fn abort(m: &mut [u8], transaction: u64) -> Answer
     ensures { λ r. ⌜ Answers (abortCall transaction) (now (m .entry)) r (now (m .exit)) ⌝ }
 {
-    let v = not_open(m, transaction);
-    if v != 0 {
-        return Answer::Refused(v);
-    }
-    engine_close::abort_rows(m, transaction);
-    close(m, transaction);
-    Answer::Done
+    end(m, transaction, false)
 }

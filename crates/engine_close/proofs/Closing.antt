@@ -9,12 +9,12 @@ use Rattle.memory_layout.specs.Flat.{flatOf}
 use Rattle.memory_layout.specs.Store.{storeOf, holdsStore, HoldsNow}
 use Rattle.engine_pages.specs.Pages.{withPages, PagesNow, pagesOf}
 use Rattle.engine_pages.proofs.Places.{now-held, now-pages, now-then, now-to, now-stay}
-use Rattle.engine_close.specs.Close.{taggedOf, isLive, rowFrom, isOwnRow, entryPlace, removedLive, closedRun, abortedFrom, Behind, RowRemoved, LiveRemoved, Within, RunClosed, NextDone}
+use Rattle.engine_close.specs.Close.{taggedOf, isLive, rowFrom, isOwnRow, entryPlace, removedLive, closedRun, Behind, RowRemoved, LiveRemoved, Within, RunClosed}
 use Rattle.model.proofs.Others.{others-stay, only-count, only-front, only-behind}
 use Rattle.model.proofs.Rows.{applied-is}
 use Rattle.model.proofs.Carry.{carry-append}
 use Rattle.engine_close.proofs.Removals.{carry-commit, removed-behind, removed-least, removed-most, behind-fewer, behind-place, behind-left, behind-more}
-use Rattle.engine_close.proofs.Removals.{behind-then, behind-at, picks, removing, none-left, pass-row, hit-row, removing-then, live-removing, abort-one}
+use Rattle.engine_close.proofs.Removals.{behind-then, behind-at, picks, removing, none-left, pass-row, hit-row, removing-then, live-removing}
 use Rattle.engine_close.proofs.RunPlans.{other-picks}
 
 -- ---- pages now
@@ -37,7 +37,7 @@ module _ {m m' : List ℕ} {i : ℕ} (h : i < length (taggedOf m)) (u : PagesNow
   one-removed = rw (now-rows u) (removed-least i (pagesOf m) h, removed-most i (pagesOf m) h)
 
 module _ {m m' : List ℕ} {i r : ℕ} (h : i < length (taggedOf m)) (u : RowRemoved m m' i r) where
-  row-next : r + length (taggedOf m) ≡ suc i + length (tagged (removeRow i (pagesOf m)))
+  pub row-next : r + length (taggedOf m) ≡ suc i + length (tagged (removeRow i (pagesOf m)))
   row-next = u .next ∙ ap (λ z. suc i + length z) (now-rows (u .pages))
 
   pub row-behind : Behind (taggedOf m) (taggedOf m') (suc i) r
@@ -49,18 +49,6 @@ module _ {m m' : List ℕ} {i r : ℕ} (h : i < length (taggedOf m)) (u : RowRem
       record {
         pages = λ n b. now-to (u .pages) (sym (live-removing n i 1 (pagesOf m) ∙ hit-row isLive n i 0 (pagesOf m) h r b row-next l ∙ none-left isLive n r (removeRow i (pagesOf m))));
         behind = behind-at (sym (add-one i)) row-behind;
-      }
-
-  -- it was own
-  pub own-removed : (tx : ℕ) → isOwnRow tx (taggedOf m) i ≡ true → NextDone (abortedFrom tx) m m' i r
-  own-removed tx o =
-      let b = row-behind in
-      record {
-        pages = now-self (u .pages);
-        most = b .most;
-        fewer = behind-fewer b h;
-        further = omega (arith, behind-left b h);
-        same = λ n l. abort-one n tx (pagesOf m) i r l h o row-next ∙ ap (abortedFrom tx n r) (sym (now-pages (u .pages)));
       }
 
 -- it was pending removal

@@ -12,31 +12,15 @@ use Rattle.memory_layout.specs.Store.{pageOf, nest, total, startOf, holdsStore}
 use Rattle.memory_layout.specs.declared.Entry.{Entry}
 use Rattle.memory_layout.specs.Views.{countsOf}
 use Rattle.memory_layout.specs.declared.Counts.{Counts}
-use Rattle.memory_layout.proofs.Laws.{filled, rows-length, entries-length, known}
-use Rattle.memory_layout.proofs.Nest.{total-append}
+use Rattle.memory_layout.proofs.Laws.{filled, rows-read, known}
+use Rattle.memory_layout.proofs.Exchange.{start-next}
 use Rattle.basics.proofs.Tabs.{lt-or-ge}
 use Rattle.memory_pages.specs.Pages.{TableFrom, OnPages, PageOf}
 use Rattle.engine_pages.specs.Pages.{RowOn}
+use Rattle.engine_pages.proofs.Rows.{tag, nest-rows}
 use Rattle.engine_close.specs.Close.{taggedOf, rowFrom, RowsFrom}
 
 -- ---- rows
-
-abbrev tag : ℕ → Held → ℕ × Held
-tag t h = (t, h)
-
-map-page : (t : ℕ) (hs : List Held) → map (λ (x : ℕ × Held). x .1) (map (tag t) hs) ≡ hs
-map-page t [] = refl
-map-page t (h ∷ hs) = ap (λ z. h ∷ z) (map-page t hs)
-
-nest-rows : (es : List Entry) (hs : List Held) → total es ≡ length hs → map (λ (x : ℕ × Held). x .1) (tagged (nest es hs)) ≡ hs
-unfolding tagged nest total sum pageOf
-nest-rows [] [] e = refl
-nest-rows [] (h ∷ hs) e = absurd (omega arith)
-nest-rows (e ∷ es) hs t =
-    let c = e .count in
-    map-append (λ (x : ℕ × Held). x .1) (map (tag (e .table)) (take c hs)) (tagged (nest es (drop c hs)))
-    ∙ ap₂ (λ a b. a ++ b) (map-page (e .table) (take c hs)) (nest-rows es (drop c hs) (omega (arith, length-drop c hs)))
-    ∙ take-append-drop c hs
 
 module _ (m : List ℕ) (room : Room m) where
   pub rows-are : map (λ (x : ℕ × Held). x .1) (taggedOf m) ≡ flatOf m .rows
@@ -49,12 +33,7 @@ module _ (m : List ℕ) (room : Room m) where
   row-is i = sym (List·getD-map (λ (x : ℕ × Held). x .1) (taggedOf m) i (0, noRow)) ∙ ap (λ hs. getD hs i noRow) rows-are
 
   pub rows-counted : {n : Counts} → n ≡ countsOf m → n .rows ≡ length (taggedOf m)
-  unfolding countsOf
-  rows-counted e = ap (λ (z : Counts). z .rows) e ∙ sym (rows-length m) ∙ sym tagged-length
-
-  pub pages-counted : {n : Counts} → n ≡ countsOf m → n .pages ≡ length (flatOf m .entries)
-  unfolding countsOf
-  pages-counted e = ap (λ (z : Counts). z .pages) e ∙ sym (entries-length m)
+  rows-counted e = rows-read m e ∙ sym tagged-length
 
   -- there are few
   pub few-rows : length (taggedOf m) ≤ 1024
@@ -156,17 +135,10 @@ module _ (m : List ℕ) (room : Room m) where
         last = omega arith;
       }
 
-next-start : (f : Flat) (p : ℕ) → p < length (f .entries) → startOf f (suc p) ≡ startOf f p + entryIn f p .count
-unfolding total sum
-next-start f p h =
-    let e = entryIn f p in
-    let z : e .count + 0 ≡ e .count = omega arith in
-    ap total (take-suc (f .entries) p noEntry h) ∙ total-append (take p (f .entries)) (e ∷ []) ∙ ap (λ k. total (take p (f .entries)) + k) z
-
 pub row-on : {m : List ℕ} {i r : ℕ} → holdsStore m ≡ true → PageOf (flatOf m) 0 (length (flatOf m .entries)) i r → RowOn m r i
 row-on {m} {i} {r} h o =
     record {
       there = record { has-store = h; inside = o .high };
       least = o .first;
-      most = omega (arith, next-start (flatOf m) r (o .high), subst (λ z. i < startOf (flatOf m) z) (add-one r) (o .last));
+      most = omega (arith, start-next (flatOf m) r (o .high), o .last);
     }

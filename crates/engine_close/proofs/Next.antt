@@ -1,5 +1,5 @@
 -- A commit and an abort, step by step: what is left to do from a row on.
-use Rattle.basics.proofs.Kit.{_≡_, refl, sym, ap, _∙_, subst, ap₂, ⊎-elim, true, false, some, List, [], _∷_, _++_, ℕ, suc, _+_, _≤_, _<_, _-_, length, take, drop, length-take, length-drop}
+use Rattle.basics.proofs.Kit.{_≡_, refl, sym, ap, _∙_, subst, ap₂, ⊎-elim, Bool, true, false, some, List, [], _∷_, _++_, ℕ, suc, _+_, _≤_, _<_, _-_, length, take, drop, length-take, length-drop}
 use Rattle.basics.proofs.Kit.{take-append-drop, drop-of-length-le, drop-drop, drop-cons, getD-drop, getD-take, arith}
 use Rattle.basics.specs.Basics.{last}
 use Rattle.basics.proofs.Facts.{AllOf}
@@ -11,17 +11,15 @@ use Rattle.basics.proofs.Tabs.{lt-or-ge}
 use Rattle.memory_layout.specs.Flat.{noRow}
 use Rattle.memory_layout.specs.Store.{holdsStore}
 use Rattle.memory_rows.specs.Rows.{isLiveOwn}
-use Rattle.engine_close.specs.Close.{taggedOf, sameKey, rowFrom, isOwnRow, NextOwn, RunFrom, RunTo, NewestOwn, entryPlace, closedRun, closedFrom, abortedFrom, RunClosed, NextDone}
+use Rattle.engine_close.specs.Close.{taggedOf, sameKey, rowFrom, isOwnRow, NextOwn, RunFrom, RunTo, NewestOwn, entryPlace, closedRun, closedFrom, abortedFrom, leftFrom, closedPages}
+use Rattle.engine_close.specs.Close.{RowRemoved, RunClosed, NextDone}
 use Rattle.model.proofs.Carry.{carry-append}
-use Rattle.engine_close.proofs.Removals.{held-length, behind-fewer, behind-place, behind-left, abort-next, abort-ends, abort-starts}
+use Rattle.engine_close.proofs.Removals.{held-length, behind-fewer, behind-place, behind-left, abort-next, abort-one, abort-ends, abort-starts}
 use Rattle.engine_close.proofs.RunPlans.{same-as, same-self, same-not, plan-none, plan-past, Ends, plan-first, newest-is}
 use Rattle.engine_pages.specs.Pages.{PagesNow, pagesOf}
+use Rattle.engine_pages.proofs.Sizes.{all-by}
 use Rattle.engine_pages.proofs.Places.{now-held, now-pages, now-then, now-to, now-stay}
-use Rattle.engine_close.proofs.Closing.{now-self, split-run}
-
-all-index : (P : ℕ × Held → Type 0) (xs : List (ℕ × Held)) → ((j : ℕ) → j < length xs → P (rowFrom xs j)) → AllOf P xs
-all-index P [] h = tt
-all-index P (x ∷ xs) h = (h 0 (omega arith), all-index P xs (λ j l. h (suc j) (omega arith)))
+use Rattle.engine_close.proofs.Closing.{now-self, row-next, row-behind, split-run}
 
 -- what holds of each row from a up to e
 all-between : (P : ℕ × Held → Type 0) (xs : List (ℕ × Held)) (a e : ℕ) → ((j : ℕ) → a ≤ j → j < e → j < length xs → P (rowFrom xs j))
@@ -29,13 +27,13 @@ all-between : (P : ℕ × Held → Type 0) (xs : List (ℕ × Held)) (a e : ℕ)
 all-between P xs a e h =
     let l = length-take (e - a) (drop a xs) in
     let d = length-drop a xs in
-    all-index P (take (e - a) (drop a xs))
+    all-by P (take (e - a) (drop a xs)) (0, noRow)
     (λ j b. subst P (sym (getD-take (e - a) (drop a xs) j (0, noRow) (omega arith) ∙ getD-drop a xs j (0, noRow))) (h (a + j) (omega arith) (omega arith) (omega arith)))
 
 all-behind : (P : ℕ × Held → Type 0) (xs : List (ℕ × Held)) (a : ℕ) → ((j : ℕ) → a ≤ j → j < length xs → P (rowFrom xs j)) → AllOf P (drop a xs)
 all-behind P xs a h =
     let d = length-drop a xs in
-    all-index P (drop a xs) (λ j b. subst P (sym (getD-drop a xs j (0, noRow))) (h (a + j) (omega arith) (omega arith)))
+    all-by P (drop a xs) (0, noRow) (λ j b. subst P (sym (getD-drop a xs j (0, noRow))) (h (a + j) (omega arith) (omega arith)))
 
 -- the rows from a on: those up to e, and the others
 parts : (xs : List (ℕ × Held)) (a e : ℕ) → a ≤ e → drop a xs ≡ take (e - a) (drop a xs) ++ drop e xs
@@ -133,35 +131,27 @@ module _ (tx : ℕ) where
 
 -- ---- one step
 
-pub less-than : {a b : ℕ} → a ≤ b → (a ≡ b → ⊥) → a < b
-less-than {a} {b} l n = ⊎-elim (λ x. x) (λ x. absurd (n (omega arith))) (lt-or-ge a b)
-
 -- no own row is left
-pub none-closed : {m : List ℕ} {tx i r : ℕ} → holdsStore m ≡ true → i < length (taggedOf m) → NextOwn (taggedOf m) tx i (length (taggedOf m)) r → r ≡ length (taggedOf m)
-    → NextDone (closedFrom tx) m m i r
-none-closed {m} {tx} {i} {r} s h o e =
-    record {
-      pages = now-stay m s;
-      most = o .most;
-      fewer = omega arith;
-      further = omega arith;
-      same = λ n l. close-none tx n (pagesOf m) i (λ j x y. o .passed j x (omega arith)) ∙ sym (close-none tx n (pagesOf m) r (λ j x y. absurd (omega arith)));
-    }
-
-pub none-aborted : {m : List ℕ} {tx i r : ℕ} → holdsStore m ≡ true → i < length (taggedOf m) → NextOwn (taggedOf m) tx i (length (taggedOf m)) r → r ≡ length (taggedOf m)
-    → NextDone (abortedFrom tx) m m i r
-none-aborted {m} {tx} {i} {r} s h o e =
-    record { pages = now-stay m s; most = o .most; fewer = omega arith; further = omega arith; same = λ n l. abort-next n tx (pagesOf m) o }
+pub none-left : (keep : Bool) {m : List ℕ} {tx i r : ℕ} → holdsStore m ≡ true → i < length (taggedOf m) → NextOwn (taggedOf m) tx i (length (taggedOf m)) r
+    → r ≡ length (taggedOf m) → NextDone (leftFrom keep tx) m m i r
+none-left keep {m} {tx} {i} {r} s h o e =
+    record { pages = now-stay m s; most = o .most; fewer = omega arith; further = omega arith; same = λ n l. passed n keep }
+  where
+    passed : (n : ℕ) (keep : Bool) → leftFrom keep tx n i (pagesOf m) ≡ leftFrom keep tx n r (pagesOf m)
+    passed n true = close-none tx n (pagesOf m) i (λ j x y. o .passed j x (omega arith)) ∙ sym (close-none tx n (pagesOf m) r (λ j x y. absurd (omega arith)))
+    passed n false = abort-next n tx (pagesOf m) o
 
 -- the next own row is removed
-pub one-aborted : {m m' : List ℕ} {tx i own r : ℕ} → NextOwn (taggedOf m) tx i (length (taggedOf m)) own → NextDone (abortedFrom tx) m m' own r → NextDone (abortedFrom tx) m m' i r
-one-aborted {m} {m'} {tx} o d =
+pub one-aborted : (keep : Bool) {m m' : List ℕ} {tx i own r : ℕ} → keep ≡ false → NextOwn (taggedOf m) tx i (length (taggedOf m)) own → own < length (taggedOf m)
+    → RowRemoved m m' own r → NextDone (leftFrom keep tx) m m' i r
+one-aborted keep {m} {m'} {tx} {i} {own} {r} e o h u =
+    let b = row-behind h u in
     record {
-      pages = d .pages;
-      most = d .most;
-      fewer = d .fewer;
-      further = omega (arith, d .further, o .low);
-      same = λ n l. abort-next n tx (pagesOf m) o ∙ d .same n l;
+      pages = now-self (u .pages);
+      most = b .most;
+      fewer = behind-fewer b h;
+      further = omega (arith, behind-left b h, o .low);
+      same = λ n l. rw e (abort-next n tx (pagesOf m) o ∙ abort-one n tx (pagesOf m) own r l h (o .found h) (row-next h u) ∙ ap (abortedFrom tx n r) (sym (now-pages (u .pages))));
     }
 
 -- the run of the next own row is closed
@@ -188,19 +178,19 @@ module _ {m m' : List ℕ} {tx i own a e k r : ℕ} (o : NextOwn (taggedOf m) tx
       (same-not (row own) (row (a - 1)) (row a) (f .first x) own-first))
       (λ x. let z : i ≡ a = omega (arith, f .low) in ap (λ j. closedFrom tx n j (pagesOf m)) z) (lt-or-ge i a)
 
-  pub one-closed : NextDone (closedFrom tx) m m' i r
-  one-closed =
+  pub one-closed : (keep : Bool) → keep ≡ true → NextDone (leftFrom keep tx) m m' i r
+  one-closed keep q =
       let b = u .behind in
       record {
         pages = now-self (u .pages (length (taggedOf m)) (omega arith));
         most = b .most;
         fewer = behind-fewer b (t .most);
         further = omega (arith, behind-left b (t .most), o .low, t .low);
-        same = λ n l. to-run n ∙ close-first tx n (pagesOf m) a e k (omega (arith, f .high, w .low)) (w .high) (t .most) all-same
+        same = λ n l. rw q (to-run n ∙ close-first tx n (pagesOf m) a e k (omega (arith, f .high, w .low)) (w .high) (t .most) all-same
             (λ x. same-as (row own) (row a) (row e) own-first ∙ t .last x) (w .own) (w .later)
             ∙ ap (carryOut n (planRuns tx (runs [] (placed (entryPlace n (taggedOf m) e) (drop e (taggedOf m)))))) (sym (now-pages (u .pages n l)))
             ∙ ap₂ (λ p y. carryOut n (planRuns tx (runs [] (placed p y))) (pagesOf m')) (sym (behind-place b (t .most) n l)) (sym (b .rows))
-            ∙ sym (closed-is tx n r (pagesOf m'));
+            ∙ sym (closed-is tx n r (pagesOf m')));
       }
 
 -- ---- all steps
@@ -227,19 +217,14 @@ module _ {left : ℕ → ℕ → List Page → List Page} where
         same = d .same ∙ u .same (length (taggedOf m₀)) (d .fewer);
       }
 
-  pub doing-ends : {m₀ m : List ℕ} {i : ℕ} {os : List Page} → Doing left m₀ m i → os ≡ left (length (taggedOf m₀)) 0 (pagesOf m₀)
-      → left (length (taggedOf m₀)) i (pagesOf m) ≡ pagesOf m → PagesNow m₀ m os
-  doing-ends d e f = now-to (d .now) (sym (e ∙ d .same ∙ f))
+-- the commit or the abort is done
+pub all-done : (keep : Bool) (tx : ℕ) {m₀ m : List ℕ} {i : ℕ} → Doing (leftFrom keep tx) m₀ m i → length (taggedOf m) ≤ i → PagesNow m₀ m (closedPages keep tx (pagesOf m₀))
+all-done keep tx {m₀} {m} {i} d h = now-to (d .now) (sym (starts keep ∙ ap (λ n. leftFrom keep tx n 0 (pagesOf m₀)) (held-length (pagesOf m₀)) ∙ d .same ∙ ends keep))
+  where
+    starts : (keep : Bool) → closedPages keep tx (pagesOf m₀) ≡ leftFrom keep tx (length (held (pagesOf m₀))) 0 (pagesOf m₀)
+    starts true = close-starts tx (pagesOf m₀)
+    starts false = abort-starts tx (pagesOf m₀)
 
--- a commit is done
-pub commit-done : (tx : ℕ) {m₀ m : List ℕ} {i : ℕ} → Doing (closedFrom tx) m₀ m i → length (taggedOf m) ≤ i
-    → PagesNow m₀ m (carryOut (length (held (pagesOf m₀))) (closePlan tx (pagesOf m₀)) (pagesOf m₀))
-commit-done tx {m₀} {m} {i} d h =
-    doing-ends d (close-starts tx (pagesOf m₀) ∙ ap (λ n. closedFrom tx n 0 (pagesOf m₀)) (held-length (pagesOf m₀)))
-    (close-none tx (length (taggedOf m₀)) (pagesOf m) i (λ j x y. absurd (omega arith)))
-
--- an abort is done
-pub abort-done : (tx : ℕ) {m₀ m : List ℕ} {i : ℕ} → Doing (abortedFrom tx) m₀ m i → length (taggedOf m) ≤ i
-    → PagesNow m₀ m (carryOut (length (held (pagesOf m₀))) (abortPlan tx (pagesOf m₀)) (pagesOf m₀))
-abort-done tx {m₀} {m} {i} d h =
-    doing-ends d (abort-starts tx (pagesOf m₀) ∙ ap (λ n. abortedFrom tx n 0 (pagesOf m₀)) (held-length (pagesOf m₀))) (abort-ends (length (taggedOf m₀)) tx (pagesOf m) i h)
+    ends : (keep : Bool) → leftFrom keep tx (length (taggedOf m₀)) i (pagesOf m) ≡ pagesOf m
+    ends true = close-none tx (length (taggedOf m₀)) (pagesOf m) i (λ j x y. absurd (omega arith))
+    ends false = abort-ends (length (taggedOf m₀)) tx (pagesOf m) i h

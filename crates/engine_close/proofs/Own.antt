@@ -9,9 +9,8 @@ use Rattle.model.specs.Rules.{isRemoving, isCommitting, applied, asCommitted}
 use Rattle.basics.proofs.Elements.{off-any, and-no, all-at}
 use Rattle.basics.proofs.Tabs.{lt-or-ge}
 use Rattle.memory_layout.specs.Flat.{flatOf, noRow, rowIn, Room}
-use Rattle.memory_rows.specs.Rows.{isLiveOwn, isOwned, pendingIs}
-use Rattle.memory_rows.specs.declared.Pending.{Pending}
-use Rattle.engine_close.specs.Close.{taggedOf, rowFrom, isLive, isOwnRow}
+use Rattle.memory_rows.specs.Rows.{isLiveOwn, isOwned}
+use Rattle.engine_close.specs.Close.{taggedOf, isOwnRow}
 use Rattle.engine_close.proofs.Memory.{row-is, tagged-length}
 
 -- rows i up to r are not own
@@ -57,10 +56,3 @@ module _ (m : List ℕ) (room : Room m) (tx : ℕ) where
 
   pub not-later-more : {r e : ℕ} → NotLater m tx r e → isLiveOwn tx (rowIn (flatOf m) r) ≡ false → NotLater m tx (r - 1) e
   not-later-more {r} n o j x y = ⊎-elim (λ z. n j z y) (λ z. let q : j ≡ r = omega arith in own-is j ∙ ap (λ k. isLiveOwn tx (rowIn (flatOf m) k)) q ∙ o) (lt-or-ge r j)
-
--- whether a row is live, by its pending operation
-pub live-is : (m : List ℕ) → Room m → (i : ℕ) {o p : Pending} → o ≡ p → pendingIs o ≡ rowIn (flatOf m) i .pending
-    → not (isRemoving (pendingIs p)) ≡ isLive (rowFrom (taggedOf m) i .1)
-unfolding isLive
-live-is m room i e k =
-    ap (λ z. not (isRemoving (pendingIs z))) (sym e) ∙ ap (λ z. not (isRemoving z)) k ∙ ap (λ (h : Held). not (isRemoving (h .pending))) (sym (row-is m room i))

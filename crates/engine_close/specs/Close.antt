@@ -11,6 +11,7 @@ use Rattle.image_rows.specs.Rows.{isAt}
 use Rattle.model.specs.State.{Held, Page}
 use Rattle.model.specs.Rules.{isRemoving, applied}
 use Rattle.model.specs.Places.{tagged, placed, runs, liveOf, ownPlaced, removePlaces, planNewest, planRuns, carryOut, removeRow}
+use Rattle.model.specs.Transactions.{committedPages, abortedPages}
 use Rattle.memory_layout.specs.Flat.{noRow}
 use Rattle.memory_layout.specs.Store.{holdsStore}
 use Rattle.memory_rows.specs.Rows.{isLiveOwn}
@@ -117,6 +118,16 @@ closedFrom tx n i ps = carryOut n (planRuns tx (runs [] (placed (entryPlace n (t
 -- abort: the own rows from row i on are removed
 unfoldable pub abortedFrom : ℕ → ℕ → ℕ → List Page → List Page
 abortedFrom tx n i ps = carryOut n (removePlaces (keep (ownPlaced tx) (liveOf (placed (entryPlace n (tagged ps) i) (drop i (tagged ps)))))) ps
+
+-- what is left from row i on of a commit (keep) or of an abort
+abbrev pub leftFrom : Bool → ℕ → ℕ → ℕ → List Page → List Page
+leftFrom true = closedFrom
+leftFrom false = abortedFrom
+
+-- the pages after a commit (keep) or an abort
+abbrev pub closedPages : Bool → ℕ → List Page → List Page
+closedPages true tx ps = committedPages tx ps
+closedPages false tx ps = abortedPages tx ps
 
 -- ---- what the functions promise
 

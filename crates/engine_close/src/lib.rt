@@ -1,18 +1,16 @@
 // Commit and abort on the working memory, by row index: one pass over the rows, run by run of neighbours of one table and key, with no
 // list of operations. What they do to the pages is what the model's plans by place do, for rows in any order.
-use memory_rows::Pending;
 ghost use mathlib.Core.Path.{_≡_};
 ghost use mathlib.Core.Bool.{true};
 ghost use Prim.Native.Nat.{_+_, _≤_, _<_};
 ghost use lib.ListN.{length};
-ghost use Rattle.model.specs.Sight.{held};
-ghost use Rattle.model.specs.Places.{carryOut, closePlan, abortPlan, commitRow};
+ghost use Rattle.model.specs.Places.{commitRow};
 ghost use Rattle.memory_layout.specs.Flat.{flatOf, Room};
 ghost use Rattle.memory_layout.specs.Store.{storeOf, holdsStore, HoldsNow};
 ghost use Rattle.memory_pages.specs.Pages.{PageOf};
 ghost use Rattle.engine_pages.specs.Pages.{withPages, PagesNow, pagesOf};
 ghost use Rattle.engine_close.specs.Close.{taggedOf, rowFrom, isLive, Part, OwnPart, RowSince, Larger, NextOwn, RowsFrom, RunFrom, RunTo, NewestOwn};
-ghost use Rattle.engine_close.specs.Close.{closedFrom, abortedFrom, RowRemoved, LiveRemoved, Within, RunClosed, NextDone};
+ghost use Rattle.engine_close.specs.Close.{leftFrom, closedPages, RowRemoved, LiveRemoved, Within, RunClosed, NextDone};
 
 // Rows that are looked at together.
 const GROUP: usize = 16;
@@ -72,12 +70,7 @@ fn is_live(m: &[u8], i: usize) -> bool
     requires { ⌜ Room (now m) × (i < length (taggedOf (now m))) ⌝ }
     ensures { λ r. ⌜ r ≡ isLive (rowFrom (taggedOf (now (m .entry))) i .1) ⌝ }
 {
-    match memory_rows::pending_at(m, i) {
-        Pending::Nothing => true,
-        Pending::Adding => true,
-        Pending::Committing => true,
-        Pending::Removing => false,
-    }
+    !memory_rows::is_removing(m, i)
 }
 
 // ---- own rows
@@ -249,17 +242,21 @@ fn close_run(m: &mut [u8], a: usize, e: usize, k: usize, near: usize) -> usize
     remove_rows(m, r + 1, e - k - 1, near)
 }
 
-// Closes the first run with an own row from row i on; the row that is then behind it, or how many rows there are. The rows before row i
-// are done: two of them may have become neighbours of one key.
-fn close_next(m: &mut [u8], i: usize, transaction: u64) -> usize
+// One step of a commit: closes the first run with an own row from row i on. The rows before row i are done: two of them may have become
+// neighbours of one key. One step of an abort, if not `keep`: removes the first own row from row i on. The row that is then behind, or
+// how many rows there are.
+fn close_next(m: &mut [u8], i: usize, transaction: u64, keep: bool) -> usize
     requires { ⌜ (holdsStore (now m) ≡ true) × (i < length (taggedOf (now m))) ⌝ }
-    ensures { λ r. ⌜ NextDone (closedFrom transaction) (now (m .entry)) (now (m .exit)) i r ⌝ }
+    ensures { λ r. ⌜ NextDone (leftFrom keep transaction) (now (m .entry)) (now (m .exit)) i r ⌝ }
 {
     let own = next_own(m, i, transaction);
     if own == row_count(m) {
         return own;
     }
     let p = page_of(m, own);
+    if !keep {
+        return remove_row(m, own, p);
+    }
     let t = memory_pages::table_of(m, p) as usize;
     let a = run_start(m, i, own, t);
     let e = run_end(m, own, t);
@@ -267,39 +264,14 @@ fn close_next(m: &mut [u8], i: usize, transaction: u64) -> usize
     close_run(m, a, e, k, p)
 }
 
-// Removes the first own row from row i on; the row that is then behind it, or how many rows there are.
-fn abort_next(m: &mut [u8], i: usize, transaction: u64) -> usize
-    requires { ⌜ (holdsStore (now m) ≡ true) × (i < length (taggedOf (now m))) ⌝ }
-    ensures { λ r. ⌜ NextDone (abortedFrom transaction) (now (m .entry)) (now (m .exit)) i r ⌝ }
-{
-    let own = next_own(m, i, transaction);
-    if own == row_count(m) {
-        return own;
-    }
-    let p = page_of(m, own);
-    remove_row(m, own, p)
-}
-
-// ---- commit, abort
-
-// The transaction's newest version of each key is committed and the key's other versions are removed; a delete mark removes them all.
-pub fn commit_rows(m: &mut [u8], transaction: u64)
+// Commit: the transaction's newest version of each key is committed and the key's other versions are removed; a delete mark removes them
+// all. Abort, if not `keep`: the transaction's live rows are removed.
+pub fn close_rows(m: &mut [u8], transaction: u64, keep: bool)
     requires { ⌜ holdsStore (now m) ≡ true ⌝ }
-    ensures { λ _. ⌜ HoldsNow (now (m .entry)) (now (m .exit)) (withPages (storeOf (flatOf (now (m .entry)))) (carryOut (length (held (pagesOf (now (m .entry))))) (closePlan transaction (pagesOf (now (m .entry)))) (pagesOf (now (m .entry))))) ⌝ }
+    ensures { λ _. ⌜ HoldsNow (now (m .entry)) (now (m .exit)) (withPages (storeOf (flatOf (now (m .entry)))) (closedPages keep transaction (pagesOf (now (m .entry))))) ⌝ }
 {
     let mut i = 0;
     while i < row_count(m) {
-        i = close_next(m, i, transaction);
-    }
-}
-
-// The transaction's live rows are removed.
-pub fn abort_rows(m: &mut [u8], transaction: u64)
-    requires { ⌜ holdsStore (now m) ≡ true ⌝ }
-    ensures { λ _. ⌜ HoldsNow (now (m .entry)) (now (m .exit)) (withPages (storeOf (flatOf (now (m .entry)))) (carryOut (length (held (pagesOf (now (m .entry))))) (abortPlan transaction (pagesOf (now (m .entry)))) (pagesOf (now (m .entry))))) ⌝ }
-{
-    let mut i = 0;
-    while i < row_count(m) {
-        i = abort_next(m, i, transaction);
+        i = close_next(m, i, transaction, keep);
     }
 }

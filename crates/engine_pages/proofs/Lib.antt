@@ -1,6 +1,5 @@
 pub mod Places
 pub mod Sizes
-pub mod Pending
 pub mod Around
 pub mod Rows
 pub mod Splitting

@@ -1,13 +1,13 @@
 -- Pages by place: what stands where after pages were exchanged, and one change after another.
-use Rattle.basics.proofs.Kit.{_≡_, refl, sym, ap, _∙_, true, some, List, [], _∷_, _++_, append-assoc, append-nil, ℕ, suc, _+_, _*_, _≤_, _<_, zero, _-_, length, take, drop, getD}
+use Rattle.basics.proofs.Kit.{_≡_, refl, sym, ap, _∙_, ⊎-elim, true, some, List, [], _∷_, _++_, append-assoc, append-nil, ℕ, suc, _+_, _*_, _≤_, _<_, zero, _-_, length, take, drop, getD}
 use Rattle.basics.proofs.Kit.{length-append, take-append-drop, take-at, drop-at, length-take-le, arith}
+use Rattle.basics.proofs.Tabs.{lt-or-ge}
 use Rattle.model.specs.State.{Held, Page, Store}
 use Rattle.model.specs.Transactions.{changed}
 use Rattle.memory_layout.specs.Flat.{Flat, flatOf, capacityOf, entryIn, rowIn, noRow, Room, Becomes, withRows, withEntries}
 use Rattle.memory_layout.specs.Store.{nest, pageOf, pageIn, total, startOf, holdsStore, storeOf, storeIn, HoldsNow}
 use Rattle.memory_layout.specs.declared.Entry.{Entry}
-use Rattle.memory_layout.specs.Views.{headOf, countsOf}
-use Rattle.memory_layout.specs.declared.Counts.{Counts}
+use Rattle.memory_layout.specs.Views.{headOf}
 use Rattle.memory_pages.proofs.Ranges.{entry-block}
 use Rattle.memory_layout.proofs.Laws.{Known, known, entries-length, filled, Sound, in-some, in-sound, holds-room, holds-counted, becomes-store}
 use Rattle.memory_layout.proofs.Nest.{Counted, all-counted, counted-all, counted-at, counted-length}
@@ -63,11 +63,6 @@ few-pages {m} r = let k : Known m = known m r in omega arith
 
 pub long : {m : List ℕ} → Room m → 1024 ≤ length m
 long {m} r = let k : Known m = known m r in omega arith
-
--- of counts that were read
-pub pages-are : (m : List ℕ) {c : Counts} → c ≡ countsOf m → c .pages ≡ length (flatOf m .entries)
-unfolding countsOf
-pages-are m e = ap (λ (x : Counts). x .pages) e ∙ sym (entries-length m)
 
 -- what stands after a change of rows
 pub still-there : {m m1 : List ℕ} {f : Flat} (p : ℕ) → Becomes m m1 f → p < length (f .entries) → p < length (flatOf m1 .entries)
@@ -153,6 +148,9 @@ module _ {m : List ℕ} {p i : ℕ} (g : RowOn m p i) where
 
 pub cons-head : {A : Type 0} (x y : A) (xs ys : List A) → x ∷ xs ≡ y ∷ ys → x ≡ y
 cons-head x y xs ys e = cc
+
+pub less-than : {a b : ℕ} → a ≤ b → (a ≡ b → ⊥) → a < b
+less-than {a} {b} l n = ⊎-elim (λ x. x) (λ x. absurd (n (omega arith))) (lt-or-ge a b)
 
 pub pos-of : (n : ℕ) → (n ≡ 0 → ⊥) → 0 < n
 pos-of zero h = absurd (h refl)

@@ -1,7 +1,8 @@
 -- A row of a page changed, put in or taken out: what it does to the pages; and the row's place in the model's list of all tuples.
-use Rattle.basics.proofs.Kit.{_≡_, refl, sym, ap, _∙_, Bool, false, none, Option, List, [], _∷_, _++_, map, ℕ, suc, _+_, _-_, length, take, drop, set, length-append, length-drop, length-map}
+use Rattle.basics.proofs.Kit.{_≡_, refl, sym, ap, _∙_, ap₂, Bool, false, none, Option, List, [], _∷_, _++_, map, ℕ, suc, _+_, _-_, length, take, drop, set, take-append-drop, length-drop, length-map}
 use Rattle.basics.proofs.Kit.{length-take-le, set-getD, arith}
 use Rattle.basics.specs.Basics.{sum}
+use Rattle.basics.proofs.Lists.{map-append}
 use Rattle.model.specs.State.{Held, Page}
 use Rattle.model.specs.Rules.{fresh, withTuples}
 use Rattle.model.specs.Places as places
@@ -19,14 +20,26 @@ use Rattle.engine_pages.proofs.Places.{now-becomes, counted, full, has-
 
 -- ---- all tuples, by place
 
+abbrev pub tag : ℕ → Held → ℕ × Held
+tag t h = (t, h)
+
+map-page : (t : ℕ) (hs : List Held) → map (λ (x : ℕ × Held). x .1) (map (tag t) hs) ≡ hs
+map-page t [] = refl
+map-page t (h ∷ hs) = ap (λ z. h ∷ z) (map-page t hs)
+
+-- without their tables, the tuples of pages are the rows
+pub nest-rows : (es : List Entry) (hs : List Held) → total es ≡ length hs → map (λ (x : ℕ × Held). x .1) (tagged (nest es hs)) ≡ hs
+unfolding tagged nest total sum pageOf
+nest-rows [] [] e = refl
+nest-rows [] (h ∷ hs) e = absurd (omega arith)
+nest-rows (e ∷ es) hs t =
+    let c = e .count in
+    map-append (λ (x : ℕ × Held). x .1) (map (tag (e .table)) (take c hs)) (tagged (nest es (drop c hs)))
+    ∙ ap₂ (λ a b. a ++ b) (map-page (e .table) (take c hs)) (nest-rows es (drop c hs) (omega (arith, length-drop c hs)))
+    ∙ take-append-drop c hs
+
 tagged-nest : (es : List Entry) (ts : List Held) → length ts ≡ total es → length (tagged (nest es ts)) ≡ total es
-unfolding nest tagged total sum pageOf
-tagged-nest [] ts h = refl
-tagged-nest (e ∷ es) ts h =
-    let xs : List Held = take (e .count) ts in
-    let l : length xs ≡ e .count = length-take-le (e .count) ts (omega arith) in
-    let b : length (tagged (nest es (drop (e .count) ts))) ≡ total es = tagged-nest es (drop (e .count) ts) (simp length-drop (omega arith)) in
-    length-append (map (λ (h : Held). (e .table, h)) xs) (tagged (nest es (drop (e .count) ts))) ∙ omega (arith, length-map {B = ℕ × Held} xs (λ (h : Held). (e .table, h)))
+tagged-nest es ts h = sym (length-map (tagged (nest es ts)) (λ (x : ℕ × Held). x .1)) ∙ ap length (nest-rows es ts (sym h)) ∙ h
 
 module _ {m : List ℕ} {p i : ℕ} (g : RowOn m p i) where
   tagged-start : length (tagged (take p (pagesOf m))) ≡ firstRow m p

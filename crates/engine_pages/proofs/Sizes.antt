@@ -1,17 +1,17 @@
 -- Rows from s up to e, turn by turn: their sizes, and tests over them.
-use Rattle.basics.proofs.Kit.{_≡_, refl, sym, ap, _∙_, Bool, true, false, _||_, or-assoc, List, [], _∷_, ℕ, suc, _+_, _*_, _≤_, _<_, _-_, add-one, ltb, length, take, drop, getD, drop-cons}
+use Rattle.basics.proofs.Kit.{_≡_, refl, sym, ap, _∙_, List, [], _∷_, ℕ, zero, suc, _+_, _*_, _≤_, _<_, _-_, add-one, ltb, length, take, drop, getD, drop-cons}
 use Rattle.basics.proofs.Kit.{le-leb, lt-leb, arith}
-use Rattle.basics.specs.Basics.{if_then_else_, sum, any}
+use Rattle.basics.specs.Basics.{if_then_else_, sum}
+use Rattle.basics.specs.Lists.{tab}
 use Rattle.basics.proofs.Facts.{AllOf}
-use Rattle.block_forms.specs.Limits.{payloadLimit, ownerWidth, mostRecord, committedValue}
+use Rattle.block_forms.specs.Limits.{payloadLimit, mostRecord, committedValue}
 use Rattle.model.specs.State.{Held}
 use Rattle.model.specs.Rules.{heldSize, lead}
 use Rattle.model.proofs.Splits.{Small}
-use Rattle.basics.proofs.Elements.{any-cons, all-take, all-drop}
-use Rattle.basics.proofs.Searches.{or-none}
+use Rattle.basics.proofs.Elements.{all-take, all-drop}
 use Rattle.memory_layout.specs.Flat.{flatOf, capacityOf, rowIn, noRow, Room}
 use Rattle.memory_layout.specs.Views.{lengthOf, stateOf}
-use Rattle.memory_rows.proofs.Fields.{size-is}
+use Rattle.memory_rows.proofs.Fields.{size-is, owner-most}
 use Rattle.memory_layout.specs.Elements.{rowsFrom, RowRange}
 use Rattle.engine_pages.proofs.Places.{few-rows}
 
@@ -21,18 +21,13 @@ length-most : (s : ℕ) → lengthOf s ≤ payloadLimit
 unfolding lengthOf
 length-most s = omega arith
 
-owner-most : (b : Bool) → (if b then ownerWidth else 0) ≤ ownerWidth
-unfolding if_then_else_
-owner-most true = omega arith
-owner-most false = omega arith
-
 pub row-small : (m : List ℕ) (i : ℕ) → i < length (flatOf m .rows) → heldSize (rowIn (flatOf m) i) ≤ mostRecord
 row-small m i h =
     let s : ℕ = stateOf m (capacityOf m) i in
     omega (arith, size-is m i h s refl, length-most s, owner-most (ltb s committedValue))
 
 -- every element by its index
-all-by : {A : Type 0} (P : A → Type 0) (xs : List A) (d : A) → ((i : ℕ) → i < length xs → P (getD xs i d)) → AllOf P xs
+pub all-by : {A : Type 0} (P : A → Type 0) (xs : List A) (d : A) → ((i : ℕ) → i < length xs → P (getD xs i d)) → AllOf P xs
 all-by P [] d h = tt
 all-by P (x ∷ xs) d h = (h 0 (omega arith), all-by P xs d (λ i l. h (suc i) (omega arith)))
 
@@ -40,6 +35,14 @@ pub rows-small : (m : List ℕ) (s e : ℕ) → AllOf Small (rowsFrom m s e)
 rows-small m s e = all-take Small (e - s) _ (all-drop Small s (flatOf m .rows) (all-by Small (flatOf m .rows) noRow (row-small m)))
 
 -- ---- turn by turn
+
+-- the elements by index
+tab-part : {A : Type 0} (xs : List A) (d : A) (i n : ℕ) → i + n ≤ length xs → tab (λ k. getD xs k d) i n ≡ take n (drop i xs)
+tab-part xs d i zero h = refl
+tab-part xs d i (suc n) h = ap (λ z. getD xs i d ∷ z) (tab-part xs d (suc i) n (omega arith)) ∙ sym (ap (take (suc n)) (drop-cons xs i d (omega arith)))
+
+pub rows-by : {m : List ℕ} {s e : ℕ} → Span m s e → tab (rowIn (flatOf m)) s (e - s) ≡ rowsFrom m s e
+rows-by {m} {s} {e} g = tab-part (flatOf m .rows) noRow s (e - s) (omega (arith, g .order, g .inside))
 
 module _ (m : List ℕ) (i e : ℕ) where
   pub rows-next : i < e → e ≤ length (flatOf m .rows) → rowsFrom m i e ≡ rowIn (flatOf m) i ∷ rowsFrom m (i + 1) e
@@ -73,18 +76,6 @@ module _ (m : List ℕ) (i e : ℕ) where
     pub lead-end : e ≤ i → lead w a (rowsFrom m i e) ≡ 0
     unfolding lead
     lead-end h = ap (lead w a) (rows-none h)
-
-  -- whether a row has a property: w is the answer, hit that of the rows before row i
-  module _ (f : Held → Bool) (hit : Bool) {w : Bool} (p : w ≡ (hit || any f (rowsFrom m i e))) where
-    pub any-turn : i < e → e ≤ length (flatOf m .rows) → {b : Bool} → b ≡ f (rowIn (flatOf m) i) → w ≡ ((hit || b) || any f (rowsFrom m (i + 1) e))
-    any-turn h l {b} eb =
-        let rest : Bool = any f (rowsFrom m (i + 1) e) in
-        p ∙ ap (λ z. hit || any f z) (rows-next h l) ∙ ap (λ z. hit || z) (any-cons f (rowIn (flatOf m) i) (rowsFrom m (i + 1) e))
-        ∙ ap (λ z. hit || (z || rest)) (sym eb) ∙ sym (or-assoc hit b rest)
-
-    pub any-end : e ≤ i → hit ≡ w
-    unfolding any
-    any-end h = sym (p ∙ ap (λ z. hit || any f z) (rows-none h) ∙ or-none hit)
 
 -- a turn of a loop over the rows from s up to e: it is at row i, of size w, and the rows before it have size all
 pub record Turn (m : List ℕ) (s e i all w : ℕ) : Type 0 where

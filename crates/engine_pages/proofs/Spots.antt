@@ -20,6 +20,7 @@ use Rattle.memory_layout.proofs.Laws.{holds-room, filled}
 use Rattle.memory_rows.specs.declared.Row.{Row}
 use Rattle.engine_pages.specs.Pages.{pagesOf, pageAt, firstRow, swapped}
 use Rattle.engine_pages.specs.Spots.{tupleBy, placedOn, GrowAt, AddAt, PlaceAt}
+use Rattle.engine_pages.proofs.Places.{less-than}
 use Rattle.engine_pages.proofs.Placing.{other-table, no-key, place-on, place-front, front-turn, front-on, front-new, front-last}
 
 -- the last that passes is before n: it does, if it is there, and none from n on does
@@ -186,9 +187,6 @@ module _ (f : Flat) (full : total (f .entries) ≡ length (f .rows)) (t k : ℕ)
 
 -- ---- on the memory
 
-not-same : (a b : ℕ) → a ≤ b → (a ≡ b → ⊥) → a < b
-not-same a b l h = ⊎-elim (λ z. z) (λ z. absurd (h (omega arith))) (lt-or-ge a b)
-
 module _ {m : List ℕ} {t at : ℕ} {r : Row} {xs : List ℕ} (g : PlaceAt m t at r xs) {a b : ℕ} (fa : TableFrom (flatOf m) t a) (fb : TableFrom (flatOf m) (t + 1) b) where
   pub place-room : Room m
   place-room = holds-room m (g .tuple .has-store)
@@ -207,7 +205,7 @@ module _ {m : List ℕ} {t at : ℕ} {r : Row} {xs : List ℕ} (g : PlaceAt m t 
 
   module _ (ne : a ≡ b → ⊥) where
     lt : a < b
-    lt = not-same a b (pages-rise fa fb) ne
+    lt = less-than (pages-rise fa fb) ne
 
     pub first-in : Room m × (a ≤ length (flatOf m .entries))
     first-in = (place-room, fa .most)
@@ -226,7 +224,7 @@ module _ {m : List ℕ} {t at : ℕ} {r : Row} {xs : List ℕ} (g : PlaceAt m t 
 
       module _ (nf : at ≡ s → ⊥) where
         pub behind-first : firstRow m a < at
-        behind-first = not-same (firstRow m a) at (at-least (flatOf m) (filled m place-room) t (r .key) x refl fa fb lt (g .place)) (λ z. nf (sym z ∙ sym es))
+        behind-first = less-than (at-least (flatOf m) (filled m place-room) t (r .key) x refl fa fb lt (g .place)) (λ z. nf (sym z ∙ sym es))
 
         pub place-on-pages : OnPages (flatOf m) a b (at - 1)
         place-on-pages = record {

@@ -8,9 +8,6 @@ mod measures;
 
 use measures::half;
 use measures::has_pending;
-use measures::is_adding;
-use measures::is_committing;
-use measures::is_removing;
 use measures::rows_size;
 use measures::small_enough;
 ghost use mathlib.Core.Path.{_≡_};
@@ -136,11 +133,11 @@ fn commit_later(m: &mut [u8], p: usize, i: usize)
     requires { ⌜ RowOn (now m) p i × (pageAt (now m) p .frozen ≡ true) ⌝ }
     ensures { λ _. ⌜ PagesNow (now (m .entry)) (now (m .exit)) (swapped p (committedAt (i - firstRow (now (m .entry)) p) (pageAt (now (m .entry)) p) ∷ []) (pagesOf (now (m .entry)))) ⌝ }
 {
-    if is_adding(m, i) {
+    if memory_rows::is_adding(m, i) {
         memory_rows::commit_row(m, i);
         return;
     }
-    if is_removing(m, i) {
+    if memory_rows::is_removing(m, i) {
         return;
     }
     memory_rows::set_pending(m, i, Pending::Committing);
@@ -176,7 +173,7 @@ fn remove_later(m: &mut [u8], p: usize, i: usize)
     requires { ⌜ RowOn (now m) p i ⌝ }
     ensures { λ _. ⌜ PagesNow (now (m .entry)) (now (m .exit)) (swapped p (withTuples (pageAt (now (m .entry)) p) (pendRemoveAt (i - firstRow (now (m .entry)) p) (tuplesAt (now (m .entry)) p)) ∷ []) (pagesOf (now (m .entry)))) ⌝ }
 {
-    if !is_adding(m, i) {
+    if !memory_rows::is_adding(m, i) {
         memory_rows::set_pending(m, i, Pending::Removing);
         return;
     }
@@ -246,7 +243,7 @@ fn apply_kept(m: &mut [u8], i: usize)
     requires { ⌜ Room (now m) × (i < length (flatOf (now m) .rows)) ⌝ }
     ensures { λ _. ⌜ Becomes (now (m .entry)) (now (m .exit)) (withRow (flatOf (now (m .entry))) i (withoutPending (applied (rowIn (flatOf (now (m .entry))) i)))) ⌝ }
 {
-    if is_committing(m, i) {
+    if memory_rows::is_committing(m, i) {
         memory_rows::commit_row(m, i);
         memory_rows::set_pending(m, i, Pending::Nothing);
         return;
@@ -259,7 +256,7 @@ fn apply_pending_row(m: &mut [u8], p: usize, i: usize) -> usize
     requires { ⌜ Room (now m) × MayLose (flatOf (now m)) p i ⌝ }
     ensures { λ r. ⌜ AppliesOne (now (m .entry)) (now (m .exit)) p i r ⌝ }
 {
-    if is_removing(m, i) {
+    if memory_rows::is_removing(m, i) {
         memory_pages::remove_row(m, p, i);
         return 0;
     }

@@ -1,6 +1,5 @@
-// What is read of a page: the sizes of its rows, where it is split, and its pending operations.
+// What is read of a page: the sizes of its rows, where it is split, and whether an operation is pending.
 use block_forms::PageLayout;
-use memory_rows::Pending;
 ghost use mathlib.Core.Path.{_≡_};
 ghost use mathlib.Core.Bool.{true, false};
 ghost use Prim.Native.Nat.{_+_, _-_, _<_};
@@ -8,7 +7,7 @@ ghost use lib.ListN.{length};
 ghost use lib.Dec.{leb};
 ghost use Rattle.basics.specs.Basics.{sum, any};
 ghost use Rattle.block_forms.specs.Limits.{joinSum};
-ghost use Rattle.model.specs.Rules.{heldSize, lead, joins, isAdding, isCommitting, isRemoving};
+ghost use Rattle.model.specs.Rules.{heldSize, lead};
 ghost use Rattle.memory_layout.specs.Flat.{flatOf, rowIn, Room};
 ghost use Rattle.engine_pages.specs.Pages.{tuplesAt, There};
 ghost use Rattle.memory_layout.specs.Elements.{rowsFrom, RowRange};
@@ -63,54 +62,6 @@ pub fn small_enough(m: &[u8], s: usize, e: usize) -> bool
     true
 }
 
-pub fn is_adding(m: &[u8], i: usize) -> bool
-    requires { ⌜ Room (now m) × (i < length (flatOf (now m) .rows)) ⌝ }
-    ensures { λ r. ⌜ r ≡ isAdding (rowIn (flatOf (now (m .entry))) i .pending) ⌝ }
-{
-    match memory_rows::pending_at(m, i) {
-        Pending::Nothing => false,
-        Pending::Adding => true,
-        Pending::Committing => false,
-        Pending::Removing => false,
-    }
-}
-
-pub fn is_committing(m: &[u8], i: usize) -> bool
-    requires { ⌜ Room (now m) × (i < length (flatOf (now m) .rows)) ⌝ }
-    ensures { λ r. ⌜ r ≡ isCommitting (rowIn (flatOf (now (m .entry))) i .pending) ⌝ }
-{
-    match memory_rows::pending_at(m, i) {
-        Pending::Nothing => false,
-        Pending::Adding => false,
-        Pending::Committing => true,
-        Pending::Removing => false,
-    }
-}
-
-pub fn is_removing(m: &[u8], i: usize) -> bool
-    requires { ⌜ Room (now m) × (i < length (flatOf (now m) .rows)) ⌝ }
-    ensures { λ r. ⌜ r ≡ isRemoving (rowIn (flatOf (now (m .entry))) i .pending) ⌝ }
-{
-    match memory_rows::pending_at(m, i) {
-        Pending::Nothing => false,
-        Pending::Adding => false,
-        Pending::Committing => false,
-        Pending::Removing => true,
-    }
-}
-
-pub fn is_pending(m: &[u8], i: usize) -> bool
-    requires { ⌜ Room (now m) × (i < length (flatOf (now m) .rows)) ⌝ }
-    ensures { λ r. ⌜ r ≡ waits (rowIn (flatOf (now (m .entry))) i) ⌝ }
-{
-    match memory_rows::pending_at(m, i) {
-        Pending::Nothing => false,
-        Pending::Adding => true,
-        Pending::Committing => true,
-        Pending::Removing => true,
-    }
-}
-
 // Whether a row of page p has a pending operation. All rows are looked at, without a branch, since nearly no row has one.
 pub fn has_pending(m: &[u8], p: usize) -> bool
     requires { ⌜ There (now m) p ⌝ }
@@ -120,7 +71,7 @@ pub fn has_pending(m: &[u8], p: usize) -> bool
     let mut hit = false;
     let mut i = memory_pages::start_of(m, p);
     while i < e {
-        hit = hit | is_pending(m, i);
+        hit = hit | memory_rows::is_pending(m, i);
         i += 1;
     }
     hit

@@ -7,7 +7,7 @@ use Rattle.memory_layout.specs.Store.{storeOf}
 use Rattle.memory_layout.specs.declared.Head.{Head}
 use Rattle.memory_layout.specs.declared.Counts.{Counts}
 use Rattle.engine_writer.specs.Written.{nextHeader}
-use Rattle.memory_layout.proofs.Laws.{named-length, directories-length}
+use Rattle.memory_layout.proofs.Laws.{named-length, named-read, directories-read}
 
 -- there are at most as many directory entries as rows
 pub named-few : (m : List ℕ) → Room m → length (flatOf m .named) ≤ 1024
@@ -15,15 +15,6 @@ unfolding countsOf
 named-few m r = omega (arith, named-length m, r .range .named, r .range .most)
 
 module _ (m : List ℕ) {c : Counts} (ec : c ≡ countsOf m) where
-  -- the counts are how long the lists are
-  pub count-named : c .named ≡ length (flatOf m .named)
-  unfolding countsOf
-  count-named = ap (λ (z : Counts). z .named) ec ∙ sym (named-length m)
-
-  pub count-directories : c .directories ≡ length (flatOf m .directories)
-  unfolding countsOf
-  count-directories = ap (λ (z : Counts). z .directories) ec ∙ sym (directories-length m)
-
   -- the header, field by field
   pub header-is : {h : Head} {d0 d1 d2 d3 : ℕ} → h ≡ headOf m
       → d0 ≡ getD (flatOf m .directories) 0 0 → d1 ≡ getD (flatOf m .directories) 1 0
@@ -48,8 +39,8 @@ module _ (m : List ℕ) {c : Counts} (ec : c ≡ countsOf m) where
         capacity = eh i .capacity;
         level = l i;
         next = eh i .begun;
-        pages = count-named i;
-        directories = count-directories i;
+        pages = named-read m ec i;
+        directories = directories-read m ec i;
         d0 = e0 i;
         d1 = e1 i;
         d2 = e2 i;

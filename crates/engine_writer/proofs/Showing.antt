@@ -4,16 +4,9 @@ use Rattle.basics.proofs.Kit.{drop-cons, drop-drop, take-add, arith}
 use Rattle.basics.specs.Basics.{if_then_else_, sum}
 use Rattle.basics.proofs.Facts.{by}
 use Rattle.block_forms.specs.Tuple.{Tuple, sizes}
-use Rattle.model.specs.State as model
 use Rattle.model.specs.State.{Held}
 use Rattle.model.specs.Rules.{isAdding, shown}
 use Rattle.memory_layout.specs.Flat.{noRow}
-use Rattle.memory_rows.specs.Rows.{pendingIs}
-use Rattle.memory_rows.specs.declared.Pending.{Pending}
-
--- a pending operation by its variant
-pub shown-by : {p v : Pending} {q : model.Pending} → p ≡ v → pendingIs p ≡ q → not (isAdding (pendingIs v)) ≡ not (isAdding q)
-shown-by e h = ap (λ z. not (isAdding z)) (sym (ap pendingIs e) ∙ h)
 
 module _ (hs : List Held) where
   -- the rows from row s up to, not including, row e

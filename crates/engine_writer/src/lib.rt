@@ -10,7 +10,6 @@ ghost use Rattle.model.specs.Checkpoint.{storable};
 ghost use Rattle.memory_layout.specs.Flat.{flatOf, rowIn, Room};
 ghost use Rattle.engine_writer.specs.Written.{nextHeader, HeaderInto, EntriesFrom, DirectoryInto, Spells, Measures, PageInto, Fillable};
 ghost use Rattle.memory_layout.specs.Elements.{rowsFrom, RowRange};
-use memory_rows::Pending;
 
 // ---- the header
 
@@ -87,12 +86,7 @@ fn is_shown(m: &[u8], i: usize) -> bool
     requires { ⌜ Room (now m) × (i < length (flatOf (now m) .rows)) ⌝ }
     ensures { λ r. ⌜ r ≡ not (isAdding (rowIn (flatOf (now (m .entry))) i .pending)) ⌝ }
 {
-    match memory_rows::pending_at(m, i) {
-        Pending::Nothing => true,
-        Pending::Adding => false,
-        Pending::Committing => true,
-        Pending::Removing => true,
-    }
+    !memory_rows::is_adding(m, i)
 }
 
 // Row i as a record. A pending commit or removal is not looked at.

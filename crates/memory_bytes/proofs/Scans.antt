@@ -1,9 +1,28 @@
--- The numbers of a group are numbers of the column that it is of.
-use Rattle.basics.proofs.Kit.{_≡_, sym, ap, _∙_, Bool, List, ℕ, _+_, _*_, arith}
+-- Loops that look at every number of a group, and: the numbers of a group are numbers of the column that it is of.
+use Rattle.basics.proofs.Kit.{_≡_, refl, sym, ap, _∙_, Bool, false, _||_, List, ℕ, _+_, _*_, _≤_, _<_, _-_, arith}
 use Rattle.basics.specs.Basics.{any}
 use Rattle.basics.specs.Lists.{tab}
 use Rattle.memory_bytes.specs.Bytes.{le2, le4, column2, column4}
 use Rattle.basics.proofs.Tabs.{tab-cong}
+use Rattle.basics.proofs.Searches.{any-turn, any-end}
+
+-- ---- all numbers from a up to n are tested
+
+-- the answer for all of them is hit, or that for those from j on
+pub record AnyFrom {A : Type 0} (f : A → Bool) (g : ℕ → A) (a n : ℕ) (hit : Bool) (j : ℕ) : Type 0 where
+  pub most : j ≤ n
+  pub same : any f (tab g a (n - a)) ≡ (hit || any f (tab g j (n - j)))
+
+module _ {A : Type 0} {f : A → Bool} {g : ℕ → A} {a n : ℕ} where
+  pub any-starts : a ≤ n → AnyFrom f g a n false a
+  any-starts h = record { most = h; same = refl }
+
+  module _ {hit : Bool} {j : ℕ} (p : AnyFrom f g a n hit j) where
+    pub any-turns : {r : A} → j < n → r ≡ g j → AnyFrom f g a n (hit || f r) (j + 1)
+    any-turns h e = record { most = omega arith; same = any-turn f g j n h hit (p .same) e }
+
+    pub any-ends : n ≤ j → hit ≡ any f (tab g a (n - a))
+    any-ends h = any-end f g j n h hit (p .same)
 
 -- ---- a group's numbers are numbers of the column
 

@@ -5,6 +5,7 @@ use Rattle.basics.specs.Basics.{if_then_else_}
 use Rattle.memory_bytes.specs.Bytes.{le2, le4, bytes2, bytes4, Apart, Wrote, Lowered}
 use Rattle.basics.specs.Lists.{tab, removeAt}
 use Rattle.basics.proofs.Tabs.{getD-tab, tab-add, tab-set, tab-remove}
+use Rattle.basics.proofs.Searches.{tab-next, tab-none}
 use Rattle.memory_bytes.proofs.Bytes.{le2-below, le2-above, le4-below, le4-above, le2-wrote, le4-wrote, le4-lowered}
 use Rattle.model.specs.Transactions.{isFor}
 use Rattle.memory_layout.specs.Views.{headOf, openAt, directoryAt, namedBlock}
@@ -142,24 +143,18 @@ module _ {m m' : List ℕ} (room : Room m) (i : ℕ) where
 
 -- a search from entry i on, turn by turn: x is the number that stands there
 module _ (m : List ℕ) (tx i n : ℕ) where
-  left : i < n → tab (openAt m) i (n - i) ≡ openAt m i ∷ tab (openAt m) (i + 1) (n - (i + 1))
-  left h =
-      let e : n - i ≡ suc (n - (i + 1)) = omega arith in
-      let e2 : suc i ≡ i + 1 = omega arith in
-      ap (tab (openAt m) i) e ∙ ap (λ (z : ℕ). openAt m i ∷ tab (openAt m) z (n - (i + 1))) e2
-
   pub find-here : {x : ℕ} → i < n → x ≡ le4 m (128 + i * 4) → x / 1048576 ≡ tx → findOpen tx (tab (openAt m) i (n - i)) ≡ 0
   unfolding findOpen isFor openAt if_then_else_
-  find-here h e t = ap (findOpen tx) (left h) ∙ rw (eq-eqb (le4 m (128 + i * 4) / 1048576) tx (omega arith))
+  find-here h e t = ap (findOpen tx) (tab-next (openAt m) i n h) ∙ rw (eq-eqb (le4 m (128 + i * 4) / 1048576) tx (omega arith))
 
   pub find-turn : {x : ℕ} → i < n → x ≡ le4 m (128 + i * 4) → (x / 1048576 ≡ tx → ⊥)
       → findOpen tx (tab (openAt m) i (n - i)) ≡ suc (findOpen tx (tab (openAt m) (i + 1) (n - (i + 1))))
   unfolding findOpen isFor openAt if_then_else_
-  find-turn {x} h e t = ap (findOpen tx) (left h) ∙ rw (ne-eqb (le4 m (128 + i * 4) / 1048576) tx (λ z. t (ap (λ (y : ℕ). y / 1048576) e ∙ z)))
+  find-turn {x} h e t = ap (findOpen tx) (tab-next (openAt m) i n h) ∙ rw (ne-eqb (le4 m (128 + i * 4) / 1048576) tx (λ z. t (ap (λ (y : ℕ). y / 1048576) e ∙ z)))
 
   pub find-end : n ≤ i → findOpen tx (tab (openAt m) i (n - i)) ≡ 0
   unfolding findOpen
-  find-end h = let e : n - i ≡ 0 = omega arith in ap (λ (z : ℕ). findOpen tx (tab (openAt m) i z)) e
+  find-end h = ap (findOpen tx) (tab-none (openAt m) i n h)
 
 -- ---- directory entries
 

@@ -10,8 +10,9 @@ use Rattle.basics.specs.Lists.{tab}
 use Rattle.basics.proofs.Tabs.{length-tab, take-tab}
 use Rattle.memory_layout.specs.Places.{signature}
 use Rattle.memory_layout.specs.Views.{headOf, countsOf, rowCount, openCount, namedCount, directoryCount, pageCount, openAt, directoryAt, rowAt, startAt, entryAt, namedBlock}
+use Rattle.memory_layout.specs.declared.Counts.{Counts}
 use Rattle.memory_layout.specs.Flat.{Flat, flatOf, capacityOf, opensOf, rowsOf, entriesOf, namedOf, directoriesOf, Room, InRange, Becomes}
-use Rattle.memory_layout.specs.Store.{total, startOf, tablesRise, startsRise, holdsStore, hasRows, storeOf, storeIn}
+use Rattle.memory_layout.specs.Store.{total, startOf, tablesRise, startsRise, holdsStore, hasRows, pagesIn, storeOf, storeIn}
 use Rattle.memory_layout.proofs.Refusal.{every-true, every-cons, every-one, all-from, from-all, range-in, in-range, endRises, startRises}
 use Rattle.basics.proofs.Searches.{all-tab, tab-all}
 
@@ -37,6 +38,33 @@ module _ (m : List ℕ) where
   pub directories-length : length (flatOf m .directories) ≡ directoryCount m
   unfolding directoriesOf
   directories-length = length-tab (directoryAt m) 0 (directoryCount m)
+
+-- the counts that were read
+module _ (m : List ℕ) {c : Counts} (e : c ≡ countsOf m) where
+  pub rows-read : c .rows ≡ length (flatOf m .rows)
+  unfolding countsOf
+  rows-read = ap (λ (x : Counts). x .rows) e ∙ sym (rows-length m)
+
+  pub pages-read : c .pages ≡ length (flatOf m .entries)
+  unfolding countsOf
+  pages-read = ap (λ (x : Counts). x .pages) e ∙ sym (entries-length m)
+
+  pub opens-read : c .opens ≡ length (flatOf m .opens)
+  unfolding countsOf
+  opens-read = ap (λ (x : Counts). x .opens) e ∙ sym (opens-length m)
+
+  pub named-read : c .named ≡ length (flatOf m .named)
+  unfolding countsOf
+  named-read = ap (λ (x : Counts). x .named) e ∙ sym (named-length m)
+
+  pub directories-read : c .directories ≡ length (flatOf m .directories)
+  unfolding countsOf
+  directories-read = ap (λ (x : Counts). x .directories) e ∙ sym (directories-length m)
+
+-- the pages of the store
+pub store-pages : (f : Flat) → storeOf f .pages ≡ pagesIn f
+unfolding storeOf
+store-pages f = refl
 
 -- ---- where each page starts
 

@@ -18,7 +18,7 @@ use Rattle.memory_pages.proofs.Tables.{TableIs, table-is}
 use Rattle.memory_pages.proofs.Columns.{in-columns, same-row-count}
 use Rattle.memory_pages.proofs.Parts.{splice, entries-become}
 use Rattle.memory_pages.proofs.Entries.{entry-is, entry-same, entry-counted, Stands, stands-behind}
-use Rattle.memory_pages.proofs.Entries.{open-tables, open-before, open-here, open-same, open-rises, open-entry, close-tables, close-before, close-same, close-entry}
+use Rattle.memory_pages.proofs.Entries.{More, opens, closes, more-tables, more-before, more-here, more-same, more-entry, open-rises}
 
 -- one change of the pages after another
 pub then-entries : {m m1 m2 : List ℕ} {es ds : List Entry} → Becomes m m1 (withEntries (flatOf m) es) → Becomes m1 m2 (withEntries (flatOf m1) ds)
@@ -114,18 +114,19 @@ module _ {m m' : List ℕ} {p t x : ℕ} (room : Room m) (s : Stands m p t) (spa
       let n : ℕ = pageCount m in
       let es : List Entry = tab (entryAt m c) 0 n in
       let en : pageCount m' ≡ n + 1 = o .ends-from 7 (omega (arith, s .table)) (omega arith) in
+      let w = opens room s o in
       entries-become room (record {
         only = o .only;
         entries =
             splice (entryAt m c) (entryAt m' c) n (pageCount m') p 1 p (omega arith) top (omega arith)
-            (λ j k. entry-same m m' c j j (open-before room s o j k) (omega (arith, insert-start j (omega arith), insert-start (suc j) k)) (o .words-before j k))
-            (λ j k. let e : p + 1 + j ≡ suc (p + j) = omega arith in ap (entryAt m' c) e ∙ open-entry room s o (p + j) (omega arith) (omega arith))
+            (λ j k. entry-same m m' c j j (more-before w j k) (omega (arith, insert-start j (omega arith), insert-start (suc j) k)) (o .words-before j k))
+            (λ j k. let e : p + 1 + j ≡ suc (p + j) = omega arith in ap (entryAt m' c) e ∙ more-entry w (p + j) (omega arith) (omega arith))
             ∙ ap (λ (e : Entry). take p es ++ e ∷ drop p es)
-            (entry-is m' c p (open-here room s o) (omega (arith, o .starts-from p (omega arith), o .start)) (o .word));
+            (entry-is m' c p (more-here w) (omega (arith, o .starts-from p (omega arith), o .start)) (o .word));
         few = omega arith;
-        tables = open-tables room s o;
+        tables = more-tables w;
         begins = insert-start 0 (omega arith) ∙ room .begins;
-        rises = λ j k. open-rises room s o (λ q l. omega (arith, starts-rise room q p (omega arith))) (omega arith) j;
+        rises = λ j k. open-rises room o (λ q l. omega (arith, starts-rise room q p (omega arith))) (omega arith) j;
       })
 
 -- ---- a page in two: k rows stay
@@ -143,24 +144,25 @@ module _ {m m' : List ℕ} {p t x : ℕ} (k : ℕ) (room : Room m) (h : p < page
       let n : ℕ = pageCount m in
       let es : List Entry = tab (entryAt m c) 0 n in
       let s = split-stands in
+      let w = opens room s o in
       let en : pageCount m' ≡ n + 1 = o .ends-from 7 (omega (arith, s .table)) (omega arith) in
       let count = entry-count m p h in
       let step = starts-rise room p (suc p) (omega arith) in
       let first : entryAt m' c p ≡ withCount (entryIn (flatOf m) p) k =
-      entry-counted m m' p h (open-before room s o p (omega arith)) (omega (arith, o .starts-before p (omega arith), o .start)) (o .words-before p (omega arith)) in
+      entry-counted m m' p h (more-before w p (omega arith)) (omega (arith, o .starts-before p (omega arith), o .start)) (o .words-before p (omega arith)) in
       let second : entryAt m' c (suc p) ≡ dirty t (entryIn (flatOf m) p .count - k) =
-      entry-is m' c (suc p) (open-here room s o) (omega (arith, o .starts-from (suc p) (omega arith), o .start)) (o .word) in
+      entry-is m' c (suc p) (more-here w) (omega (arith, o .starts-from (suc p) (omega arith), o .start)) (o .word) in
       entries-become room (record {
         only = o .only;
         entries =
             splice (entryAt m c) (entryAt m' c) n (pageCount m') p 2 (suc p) (omega arith) (omega arith) (omega arith)
-            (λ j l. open-same room s o j (omega arith))
-            (λ j l. let e : p + 2 + j ≡ suc (suc p + j) = omega arith in ap (entryAt m' c) e ∙ open-entry room s o (suc p + j) (omega arith) (omega arith))
+            (λ j l. more-same w j (omega arith))
+            (λ j l. let e : p + 2 + j ≡ suc (suc p + j) = omega arith in ap (entryAt m' c) e ∙ more-entry w (suc p + j) (omega arith) (omega arith))
             ∙ (λ i. take p es ++ first i ∷ second i ∷ drop (suc p) es);
         few = omega arith;
-        tables = open-tables room s o;
+        tables = more-tables w;
         begins = o .starts-before 0 (omega arith) ∙ room .begins;
-        rises = λ j l. open-rises room s o (λ q b. omega (arith, starts-rise room q p (omega arith))) (omega arith) j;
+        rises = λ j l. open-rises room o (λ q b. omega (arith, starts-rise room q p (omega arith))) (omega arith) j;
       })
 
 -- ---- a page less
@@ -198,19 +200,19 @@ module _ {m m' : List ℕ} {p t : ℕ} (room : Room m) (h : p < pageCount m) (et
     page-removed =
         let c : ℕ = capacityOf m in
         let n : ℕ = pageCount m in
-        let s = close-is in
+        let w = closes room close-is h o in
         let en = close-pages in
         entries-become room (record {
           only = o .only;
           entries =
               splice (entryAt m c) (entryAt m' c) n (pageCount m') p 0 (p + 1) (omega arith) (omega arith) (omega arith)
-              (λ j k. entry-same m m' c j j (close-before room s h o j k) (omega (arith, remove-start j (omega arith), remove-start (suc j) k)) (o .words-before j k))
+              (λ j k. entry-same m m' c j j (sym (more-before w j k)) (omega (arith, remove-start j (omega arith), remove-start (suc j) k)) (o .words-before j k))
               (λ j k.
               let e : p + 0 + j ≡ p + j = omega arith in
               let e2 : suc (p + j) ≡ p + 1 + j = omega arith in
-              ap (entryAt m' c) e ∙ close-entry room s h o (p + j) (omega arith) (omega arith) ∙ ap (entryAt m c) e2);
+              ap (entryAt m' c) e ∙ sym (more-entry w (p + j) (omega arith) (omega arith)) ∙ ap (entryAt m c) e2);
           few = omega (arith, ranges room);
-          tables = close-tables room s h o;
+          tables = w .rise;
           begins = remove-start 0 (omega arith) ∙ room .begins;
           rises = λ j k. close-rises j;
         })
@@ -225,7 +227,7 @@ module _ {m m' : List ℕ} {p t : ℕ} (room : Room m) (h : suc p < pageCount m)
       let c : ℕ = capacityOf m in
       let n : ℕ = pageCount m in
       let es : List Entry = tab (entryAt m c) 0 n in
-      let s = close-is room h et o in
+      let w = closes room (close-is room h et o) h o in
       let en = close-pages room h et o in
       let hp : p < pageCount m = omega arith in
       let count : ℕ = entryIn (flatOf m) p .count + entryIn (flatOf m) (suc p) .count in
@@ -234,19 +236,19 @@ module _ {m m' : List ℕ} {p t : ℕ} (room : Room m) (h : suc p < pageCount m)
       let both : startAt m' c (suc p) - startAt m' c p ≡ count =
       omega (arith, o .starts-before p (omega arith), o .starts-from (suc p) (omega arith), entry-count m p hp, entry-count m (suc p) h) in
       let first : entryAt m' c p ≡ withCount (entryIn (flatOf m) p) count =
-      entry-counted m m' p hp (close-before room s h o p (omega arith)) both (o .words-before p (omega arith)) in
+      entry-counted m m' p hp (sym (more-before w p (omega arith))) both (o .words-before p (omega arith)) in
       entries-become room (record {
         only = o .only;
         entries =
             splice (entryAt m c) (entryAt m' c) n (pageCount m') p 1 (p + 2) (omega arith) (omega arith) (omega arith)
-            (λ j k. close-same room s h o j (omega arith))
+            (λ j k. sym (more-same w j (omega arith)))
             (λ j k.
             let e : p + 1 + j ≡ suc p + j = omega arith in
             let e2 : suc (suc p + j) ≡ p + 2 + j = omega arith in
-            ap (entryAt m' c) e ∙ close-entry room s h o (suc p + j) (omega arith) (omega arith) ∙ ap (entryAt m c) e2)
+            ap (entryAt m' c) e ∙ sym (more-entry w (suc p + j) (omega arith) (omega arith)) ∙ ap (entryAt m c) e2)
             ∙ ap (λ (e : Entry). take p es ++ e ∷ drop (p + 2) es) first;
         few = omega (arith, ranges room);
-        tables = close-tables room s h o;
+        tables = w .rise;
         begins = o .starts-before 0 (omega arith) ∙ room .begins;
         rises = λ j k. close-rises room h et o j;
       })

@@ -7,7 +7,7 @@ use Rattle.memory_layout.proofs.Laws.{entries-length}
 use Rattle.memory_pages.specs.Columns.{Opened, Closed}
 use Rattle.memory_pages.specs.Pages.{Between, withCount}
 use Rattle.memory_pages.proofs.Ranges.{entry-table, entry-frozen, entry-block, start-step}
-use Rattle.memory_pages.proofs.Tables.{TableIs, table-by, table-is, ends-rise}
+use Rattle.memory_pages.proofs.Tables.{TableIs, table-by, Rise, table-by-ends, table-is, ends-rise}
 
 -- an entry by its parts
 pub entry-is : (m : List ℕ) (c k : ℕ) {t n w : ℕ} → tableAt m k ≡ t → startAt m c (suc k) - startAt m c k ≡ n → blockWord m c k ≡ w
@@ -67,26 +67,77 @@ stands-behind {m} room p h =
       high = λ u k l. ⊎-elim (λ v. s .high u k v) (λ v. let e : u ≡ 7 = omega arith in omega (arith, ap (tableEnd m) e)) (lt-or-ge u 7);
     }
 
--- ---- opened
+-- this table and those behind it end behind the page
+pub ends-behind : {m : List ℕ} {p t : ℕ} → TableIs m p t → p < pageCount m → (u : ℕ) → t ≤ u → u < 8 → p < tableEnd m u
+ends-behind {m} s h u k l =
+    ⊎-elim (λ v. s .high u k v) (λ v. let e : u ≡ 7 = omega arith in omega (arith, ap (tableEnd m) e)) (lt-or-ge u 7)
 
-module _ {m m' : List ℕ} {p t x : ℕ} (room : Room m) (s : Stands m p t) (o : Opened m m' p t x) where
-  pub open-tables : (u : ℕ) → u < 7 → tableEnd m' u ≤ tableEnd m' (u + 1)
-  open-tables u h = ⊎-elim
+-- ---- a page more: the memory b has one page more than a, before page p of a and of table t
+
+pub record More (a b : List ℕ) (c p t : ℕ) : Type 0 where
+  pub rise : Rise a
+  pub stands : Stands a p t
+  pub ends-before : (u : ℕ) → u < t → tableEnd b u ≡ tableEnd a u
+  pub ends-from : (u : ℕ) → t ≤ u → u < 8 → tableEnd b u ≡ tableEnd a u + 1
+  pub starts-before : (j : ℕ) → j < p → startAt b c j ≡ startAt a c j
+  pub starts-from : (j : ℕ) → p ≤ j → startAt b c (suc j) ≡ startAt a c j
+  pub words-before : (j : ℕ) → j < p → blockWord b c j ≡ blockWord a c j
+  pub words-from : (j : ℕ) → p ≤ j → j < pageCount a → blockWord b c (suc j) ≡ blockWord a c j
+
+pub opens : {m m' : List ℕ} {p t x : ℕ} → Room m → Stands m p t → Opened m m' p t x → More m m' (capacityOf m) p t
+opens room s o =
+    record {
+      rise = room .tables;
+      stands = s;
+      ends-before = o .ends-before;
+      ends-from = o .ends-from;
+      starts-before = o .starts-before;
+      starts-from = o .starts-from;
+      words-before = o .words-before;
+      words-from = o .words-from;
+    }
+
+pub closes : {m m' : List ℕ} {p t : ℕ} → Room m → TableIs m p t → p < pageCount m → Closed m m' p t → More m' m (capacityOf m) p t
+closes room s h o =
+    record {
+      rise = λ u k. ⊎-elim
+          (λ v. ⊎-elim
+          (λ l. omega (arith, o .ends-before u v, o .ends-before (u + 1) l, room .tables u k))
+          (λ l. omega (arith, o .ends-before u v, o .ends-from (u + 1) l (omega arith), s .low u v, ends-behind s h (u + 1) l (omega arith)))
+          (lt-or-ge (u + 1) _))
+          (λ v. omega (arith, o .ends-from u v (omega arith), o .ends-from (u + 1) (omega arith) (omega arith), room .tables u k))
+          (lt-or-ge u _);
+      stands = record {
+        table = omega (arith, s .most);
+        low = λ u k. omega (arith, o .ends-before u k, s .low u k);
+        high = λ u k l. omega (arith, o .ends-from u k l, ends-behind s h u k l);
+      };
+      ends-before = λ u k. sym (o .ends-before u k);
+      ends-from = λ u k l. sym (o .ends-from u k l);
+      starts-before = λ j k. sym (o .starts-before j k);
+      starts-from = λ j k. sym (o .starts-from j k);
+      words-before = λ j k. sym (o .words-before j k);
+      words-from = λ j k l. sym (o .words-from j k (omega (arith, o .ends-from 7 (omega (arith, s .most)) (omega arith))));
+    }
+
+module _ {a b : List ℕ} {c p t : ℕ} (o : More a b c p t) where
+  pub more-tables : Rise b
+  more-tables u h = ⊎-elim
       (λ k. ⊎-elim
-      (λ l. omega (arith, o .ends-before u k, o .ends-before (u + 1) l, room .tables u h))
-      (λ l. omega (arith, o .ends-before u k, o .ends-from (u + 1) l (omega arith), room .tables u h))
+      (λ l. omega (arith, o .ends-before u k, o .ends-before (u + 1) l, o .rise u h))
+      (λ l. omega (arith, o .ends-before u k, o .ends-from (u + 1) l (omega arith), o .rise u h))
       (lt-or-ge (u + 1) t))
-      (λ k. omega (arith, o .ends-from u k (omega arith), o .ends-from (u + 1) (omega arith) (omega arith), room .tables u h))
+      (λ k. omega (arith, o .ends-from u k (omega arith), o .ends-from (u + 1) (omega arith) (omega arith), o .rise u h))
       (lt-or-ge u t)
 
-  pub open-before : (j : ℕ) → j < p → tableAt m' j ≡ tableAt m j
-  open-before j h =
-      let is = table-is room j in
+  pub more-before : (j : ℕ) → j < p → tableAt b j ≡ tableAt a j
+  more-before j h =
+      let is = table-by-ends (o .rise) j in
       table-by (record {
         most = is .most;
         low = λ u k. ⊎-elim
             (λ v. omega (arith, o .ends-before u v, is .low u k))
-            (λ v. absurd (omega (arith, is .most, is .low u k, s .high u v (omega (arith, is .most)))))
+            (λ v. absurd (omega (arith, is .most, is .low u k, o .stands .high u v (omega (arith, is .most)))))
             (lt-or-ge u t);
         high = λ u k l. ⊎-elim
             (λ v. omega (arith, o .ends-before u v, is .high u k l))
@@ -94,17 +145,18 @@ module _ {m m' : List ℕ} {p t x : ℕ} (room : Room m) (s : Stands m p t) (o :
             (lt-or-ge u t);
       })
 
-  pub open-here : tableAt m' p ≡ t
-  open-here =
+  pub more-here : tableAt b p ≡ t
+  more-here =
+      let s = o .stands in
       table-by (record {
         most = omega (arith, s .table);
         low = λ u k. omega (arith, o .ends-before u k, s .low u k);
         high = λ u k l. omega (arith, o .ends-from u k (omega arith), s .high u k (omega arith));
       })
 
-  pub open-from : (j : ℕ) → p ≤ j → tableAt m' (suc j) ≡ tableAt m j
-  open-from j h =
-      let is = table-is room j in
+  more-from : (j : ℕ) → p ≤ j → tableAt b (suc j) ≡ tableAt a j
+  more-from j h =
+      let is = table-by-ends (o .rise) j in
       table-by (record {
         most = is .most;
         low = λ u k. ⊎-elim
@@ -112,96 +164,36 @@ module _ {m m' : List ℕ} {p t x : ℕ} (room : Room m) (s : Stands m p t) (o :
             (λ v. omega (arith, is .most, is .low u k, o .ends-from u v (omega (arith, is .most))))
             (lt-or-ge u t);
         high = λ u k l. ⊎-elim
-            (λ v. absurd (omega (arith, s .low u v, is .high u k l)))
+            (λ v. absurd (omega (arith, o .stands .low u v, is .high u k l)))
             (λ v. omega (arith, o .ends-from u v (omega arith), is .high u k l))
             (lt-or-ge u t);
       })
 
   -- pages before the one before it
-  pub open-same : (j : ℕ) → suc j < p → entryAt m' (capacityOf m) j ≡ entryAt m (capacityOf m) j
-  open-same j h =
-      entry-same m m' (capacityOf m) j j (open-before j (omega arith)) (omega (arith, o .starts-before j (omega arith), o .starts-before (suc j) h))
-      (o .words-before j (omega arith))
+  pub more-same : (j : ℕ) → suc j < p → entryAt b c j ≡ entryAt a c j
+  more-same j h =
+      entry-same a b c j j (more-before j (omega arith)) (omega (arith, o .starts-before j (omega arith), o .starts-before (suc j) h)) (o .words-before j (omega arith))
 
-  -- starts still rise, if the new one is between its neighbours
-  pub open-rises : ((j : ℕ) → j < p → startAt m (capacityOf m) j ≤ x) → x ≤ startAt m (capacityOf m) p
-      → (j : ℕ) → startAt m' (capacityOf m) j ≤ startAt m' (capacityOf m) (j + 1)
-  open-rises low high j =
-      let c : ℕ = capacityOf m in
-      let e : suc j ≡ j + 1 = omega arith in
-      ⊎-elim
-      (λ h. ⊎-elim
-      (λ k. omega (arith, o .starts-before j h, o .starts-before (j + 1) k, start-step room j))
-      (λ k. let q : j + 1 ≡ p = omega arith in omega (arith, o .starts-before j h, low j h, o .start, ap (startAt m' c) q))
-      (lt-or-ge (j + 1) p))
-      (λ h. ⊎-elim
-      (λ k.
-      let q : suc (j - 1) ≡ j = omega arith in
-      let q2 : j - 1 + 1 ≡ j = omega arith in
-      omega (arith, o .starts-from (j - 1) (omega arith), ap (startAt m' c) q, o .starts-from j h, ap (startAt m' c) e, start-step room (j - 1), ap (startAt m c) q2))
-      (λ k. let q : j ≡ p = omega arith in omega (arith, ap (startAt m' c) q, ap (startAt m c) q, o .start, o .starts-from j h, ap (startAt m' c) e))
-      (lt-or-ge p j))
-      (lt-or-ge j p)
+  -- pages behind it
+  pub more-entry : (j : ℕ) → p ≤ j → j < pageCount a → entryAt b c (suc j) ≡ entryAt a c j
+  more-entry j h k = entry-same a b c j (suc j) (more-from j h) (omega (arith, o .starts-from j h, o .starts-from (suc j) (omega arith))) (o .words-from j h k)
 
-  -- pages behind the new one
-  pub open-entry : (j : ℕ) → p ≤ j → j < pageCount m → entryAt m' (capacityOf m) (suc j) ≡ entryAt m (capacityOf m) j
-  open-entry j h k =
-      entry-same m m' (capacityOf m) j (suc j) (open-from j h) (omega (arith, o .starts-from j h, o .starts-from (suc j) (omega arith))) (o .words-from j h k)
-
--- ---- closed
-
--- this table and those behind it end behind the page
-pub ends-behind : {m : List ℕ} {p t : ℕ} → TableIs m p t → p < pageCount m → (u : ℕ) → t ≤ u → u < 8 → p < tableEnd m u
-ends-behind {m} s h u k l =
-    ⊎-elim (λ v. s .high u k v) (λ v. let e : u ≡ 7 = omega arith in omega (arith, ap (tableEnd m) e)) (lt-or-ge u 7)
-
-module _ {m m' : List ℕ} {p t : ℕ} (room : Room m) (s : TableIs m p t) (h : p < pageCount m) (o : Closed m m' p t) where
-  pub close-tables : (u : ℕ) → u < 7 → tableEnd m' u ≤ tableEnd m' (u + 1)
-  close-tables u k = ⊎-elim
-      (λ v. ⊎-elim
-      (λ l. omega (arith, o .ends-before u v, o .ends-before (u + 1) l, room .tables u k))
-      (λ l. omega (arith, o .ends-before u v, o .ends-from (u + 1) l (omega arith), s .low u v, ends-behind s h (u + 1) l (omega arith)))
-      (lt-or-ge (u + 1) t))
-      (λ v. omega (arith, o .ends-from u v (omega arith), o .ends-from (u + 1) (omega arith) (omega arith), room .tables u k))
-      (lt-or-ge u t)
-
-  pub close-before : (j : ℕ) → j < p → tableAt m' j ≡ tableAt m j
-  close-before j b =
-      let is = table-is room j in
-      table-by (record {
-        most = is .most;
-        low = λ u k. ⊎-elim
-            (λ v. omega (arith, o .ends-before u v, is .low u k))
-            (λ v. absurd (omega (arith, is .most, is .low u k, ends-behind s h u v (omega (arith, is .most)))))
-            (lt-or-ge u t);
-        high = λ u k l. ⊎-elim
-            (λ v. omega (arith, o .ends-before u v, is .high u k l))
-            (λ v. omega (arith, o .ends-from u v (omega arith), ends-behind s h u v (omega arith)))
-            (lt-or-ge u t);
-      })
-
-  pub close-from : (j : ℕ) → p ≤ j → tableAt m' j ≡ tableAt m (suc j)
-  close-from j b =
-      let is = table-is room (suc j) in
-      table-by (record {
-        most = is .most;
-        low = λ u k. ⊎-elim
-            (λ v. omega (arith, o .ends-before u v, s .low u v))
-            (λ v. omega (arith, is .most, is .low u k, o .ends-from u v (omega (arith, is .most))))
-            (lt-or-ge u t);
-        high = λ u k l. ⊎-elim
-            (λ v. absurd (omega (arith, s .low u v, is .high u k l)))
-            (λ v. omega (arith, o .ends-from u v (omega arith), is .high u k l))
-            (lt-or-ge u t);
-      })
-
-  -- pages before the one before it
-  pub close-same : (j : ℕ) → suc j < p → entryAt m' (capacityOf m) j ≡ entryAt m (capacityOf m) j
-  close-same j b =
-      entry-same m m' (capacityOf m) j j (close-before j (omega arith)) (omega (arith, o .starts-before j (omega arith), o .starts-before (suc j) b))
-      (o .words-before j (omega arith))
-
-  -- pages behind the one that is gone
-  pub close-entry : (j : ℕ) → p ≤ j → suc j < pageCount m → entryAt m' (capacityOf m) j ≡ entryAt m (capacityOf m) (suc j)
-  close-entry j b k =
-      entry-same m m' (capacityOf m) (suc j) j (close-from j b) (omega (arith, o .starts-from j b, o .starts-from (suc j) (omega arith))) (o .words-from j b k)
+-- starts still rise, if the new one is between its neighbours
+pub open-rises : {m m' : List ℕ} {p t x : ℕ} → Room m → Opened m m' p t x → ((j : ℕ) → j < p → startAt m (capacityOf m) j ≤ x) → x ≤ startAt m (capacityOf m) p
+    → (j : ℕ) → startAt m' (capacityOf m) j ≤ startAt m' (capacityOf m) (j + 1)
+open-rises {m} {m'} {p} room o low high j =
+    let c : ℕ = capacityOf m in
+    let e : suc j ≡ j + 1 = omega arith in
+    ⊎-elim
+    (λ h. ⊎-elim
+    (λ k. omega (arith, o .starts-before j h, o .starts-before (j + 1) k, start-step room j))
+    (λ k. let q : j + 1 ≡ p = omega arith in omega (arith, o .starts-before j h, low j h, o .start, ap (startAt m' c) q))
+    (lt-or-ge (j + 1) p))
+    (λ h. ⊎-elim
+    (λ k.
+    let q : suc (j - 1) ≡ j = omega arith in
+    let q2 : j - 1 + 1 ≡ j = omega arith in
+    omega (arith, o .starts-from (j - 1) (omega arith), ap (startAt m' c) q, o .starts-from j h, ap (startAt m' c) e, start-step room (j - 1), ap (startAt m c) q2))
+    (λ k. let q : j ≡ p = omega arith in omega (arith, ap (startAt m' c) q, ap (startAt m c) q, o .start, o .starts-from j h, ap (startAt m' c) e))
+    (lt-or-ge p j))
+    (lt-or-ge j p)

@@ -72,6 +72,21 @@ table-by {m} {p} {k} s =
     sym (table-counted m p)
     ∙ count-cut (tableEnd m) p 0 7 k (s .most) (λ t u v. s .low t (omega arith)) (λ t u v. s .high t (omega arith) (omega arith))
 
+-- the ends of the tables do not fall
+abbrev pub Rise : List ℕ → Type 0
+Rise m = (u : ℕ) → u < 7 → tableEnd m u ≤ tableEnd m (u + 1)
+
+pub table-by-ends : {m : List ℕ} → Rise m → (p : ℕ) → TableIs m p (tableAt m p)
+table-by-ends {m} rise p =
+    let r = cut (tableEnd m) p 0 7 (λ t u v. rise t (omega arith)) in
+    let is : TableIs m p (r .at) = record {
+      most = r .most;
+      low = λ t b. r .low t (omega arith) (omega arith);
+      high = λ t u v. r .high t (omega arith) (omega arith);
+    } in
+    let e : tableAt m p ≡ r .at = table-by is in
+    record { most = omega (arith, is .most); low = λ t b. is .low t (omega arith); high = λ t u v. is .high t (omega arith) v }
+
 module _ {m : List ℕ} (room : Room m) where
   pub ends-rise : (s t : ℕ) → s ≤ t → t < 8 → tableEnd m s ≤ tableEnd m t
   ends-rise s t h b =
@@ -79,15 +94,7 @@ module _ {m : List ℕ} (room : Room m) where
       omega (arith, rising (tableEnd m) s (t - s) (λ u x y. room .tables u (omega arith)), ap (tableEnd m) e)
 
   pub table-is : (p : ℕ) → TableIs m p (tableAt m p)
-  table-is p =
-      let r = cut (tableEnd m) p 0 7 (λ t u v. room .tables t (omega arith)) in
-      let is : TableIs m p (r .at) = record {
-        most = r .most;
-        low = λ t b. r .low t (omega arith) (omega arith);
-        high = λ t u v. r .high t (omega arith) (omega arith);
-      } in
-      let e : tableAt m p ≡ r .at = table-by is in
-      record { most = omega (arith, is .most); low = λ t b. is .low t (omega arith); high = λ t u v. is .high t (omega arith) v }
+  table-is = table-by-ends (room .tables)
 
 -- ---- the first page of a table
 

@@ -11,7 +11,8 @@ use Rattle.memory_bytes.specs.Bytes.{le4}
 use Rattle.memory_bytes.proofs.Bytes.{length-bytes}
 use Rattle.memory_layout.specs.Views.{lengthOf, stateOf, slotPlace}
 use Rattle.memory_layout.specs.Flat.{flatOf, rowsOf, capacityOf, rowIn}
-use Rattle.memory_rows.specs.Rows.{isLiveOwn}
+use Rattle.memory_rows.specs.Rows.{isLiveOwn, pendingIs}
+use Rattle.memory_rows.specs.declared.Pending as code
 use Rattle.memory_rows.specs.Cells.{keepsOwner, slotAt}
 use Rattle.memory_rows.proofs.Access.{owner-is, payload-is}
 
@@ -42,7 +43,13 @@ live-is tx h = by-pending (h .tuple) (h .pending)
     by-pending x committing = refl
     by-pending x removing = refl
 
-pub at-most : (t : Bool) → (if t then ownerWidth else 0) ≤ ownerWidth
+pub owner-most : (t : Bool) → (if t then ownerWidth else 0) ≤ ownerWidth
 unfolding if_then_else_
-at-most true = omega arith
-at-most false = omega arith
+owner-most true = omega arith
+owner-most false = omega arith
+
+-- ---- pending operations
+
+-- what a test says of the operation, by the value that was read
+pub told : (f : Pending → Bool) {r c : code.Pending} {q : Pending} → r ≡ c → pendingIs r ≡ q → f (pendingIs c) ≡ f q
+told f e k = ap (λ z. f (pendingIs z)) (sym e) ∙ ap f k

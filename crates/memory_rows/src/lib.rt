@@ -30,7 +30,7 @@ ghost use lib.ListN.{length, take, drop};
 ghost use Rattle.basics.specs.Basics.{any};
 ghost use Rattle.block_forms.specs.Limits.{payloadLimit, mostRecord};
 ghost use Rattle.image_rows.specs.Rows.{isBy};
-ghost use Rattle.model.specs.Rules.{heldSize, withPending};
+ghost use Rattle.model.specs.Rules.{heldSize, withPending, isAdding, isCommitting, isRemoving, isPending};
 ghost use Rattle.memory_bytes.specs.Columns.{equals, upTo, Covers};
 ghost use Rattle.basics.specs.Lists.{tab, insertAt, removeAt, firstIndex, lastIndex};
 ghost use Rattle.memory_layout.specs.Places.{slotSize};
@@ -125,6 +125,54 @@ pub fn pending_at(m: &[u8], i: usize) -> Pending
     ensures { λ r. ⌜ pendingIs r ≡ rowIn (flatOf (now (m .entry))) i .pending ⌝ }
 {
     pending_of(ref_at(m, i))
+}
+
+pub fn is_adding(m: &[u8], i: usize) -> bool
+    requires { ⌜ Room (now m) × (i < length (flatOf (now m) .rows)) ⌝ }
+    ensures { λ r. ⌜ r ≡ isAdding (rowIn (flatOf (now (m .entry))) i .pending) ⌝ }
+{
+    match pending_at(m, i) {
+        Pending::Nothing => false,
+        Pending::Adding => true,
+        Pending::Committing => false,
+        Pending::Removing => false,
+    }
+}
+
+pub fn is_committing(m: &[u8], i: usize) -> bool
+    requires { ⌜ Room (now m) × (i < length (flatOf (now m) .rows)) ⌝ }
+    ensures { λ r. ⌜ r ≡ isCommitting (rowIn (flatOf (now (m .entry))) i .pending) ⌝ }
+{
+    match pending_at(m, i) {
+        Pending::Nothing => false,
+        Pending::Adding => false,
+        Pending::Committing => true,
+        Pending::Removing => false,
+    }
+}
+
+pub fn is_removing(m: &[u8], i: usize) -> bool
+    requires { ⌜ Room (now m) × (i < length (flatOf (now m) .rows)) ⌝ }
+    ensures { λ r. ⌜ r ≡ isRemoving (rowIn (flatOf (now (m .entry))) i .pending) ⌝ }
+{
+    match pending_at(m, i) {
+        Pending::Nothing => false,
+        Pending::Adding => false,
+        Pending::Committing => false,
+        Pending::Removing => true,
+    }
+}
+
+pub fn is_pending(m: &[u8], i: usize) -> bool
+    requires { ⌜ Room (now m) × (i < length (flatOf (now m) .rows)) ⌝ }
+    ensures { λ r. ⌜ r ≡ isPending (rowIn (flatOf (now (m .entry))) i .pending) ⌝ }
+{
+    match pending_at(m, i) {
+        Pending::Nothing => false,
+        Pending::Adding => true,
+        Pending::Committing => true,
+        Pending::Removing => true,
+    }
 }
 
 // The payload's length: the low six bits, and never above the limit.

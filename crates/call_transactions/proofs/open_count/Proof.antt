@@ -1,11 +1,11 @@
 -- `call_transactions::open_count` meets its contract.
 use Rattle.basics.proofs.Kit.{needs}
-use Rattle.call_transactions.proofs.Opens.{opens-count}
+use Rattle.memory_layout.proofs.Laws.{opens-read}
 use Rattle.call_transactions.proofs.open_count.Statement.{statement}
 use Rattle.call_transactions.proofs.open_count.Tie as tie
 
 returns : tie.Need-returns
-returns c = opens-count _ (c .before .get-counts .ensures)
+returns c = opens-read _ (c .before .get-counts .ensures)
 
 pub open-count-spec : {M : Type 1} → statement M
 open-count-spec = tie.close (tie.spec (λ c κs. search needs) (search needs) returns)

@@ -64,10 +64,7 @@ split-split-requires : (t : ℕ) → split-lts.Need-split-requires (
   split.Post,
 ) (split-at t) split.Post
 split-split-requires t c κs =
-    let b4 = c .before .before .before .before in
-    let pre = b4 .before .before .before .pre in
-    let h = b4 .halve .ensures in
-    let ne = c .before .if1 .left in
+    let b4 = c .before .before .before .before in let pre = b4 .before .before .before .pre in let h = b4 .halve .ensures in let ne = c .before .if1 .left in
     (omega (arith, pre .0, second-less (pre .1 .0) h ne), (second-at (pre .1 .0) h ne, second-dirty (pre .1 .0) h ne))
 
 split-split-requires-2 : (t : ℕ) → split-lts.Need-split-requires-2 (
@@ -77,13 +74,8 @@ split-split-requires-2 : (t : ℕ) → split-lts.Need-split-requires-2 (
   split.Post,
 ) (split-at t) split.Post
 split-split-requires-2 t c κs =
-    let b3 = c .before .before .before in
-    let b5 = b3 .before .before in
-    let b8 = b5 .before .before .before in
-    let pre = b8 .before .before .before .pre in
-    let h = b8 .halve .ensures in
-    let ne = b5 .if1 .left in
-    let u = b3 .split .ensures in
+    let b3 = c .before .before .before in let b5 = b3 .before .before in let b8 = b5 .before .before .before in let pre = b8 .before .before .before .pre in
+    let h = b8 .halve .ensures in let ne = b5 .if1 .left in let u = b3 .split .ensures in
     (omega (arith, pre .0, first-less (pre .1 .0) h ne u), (first-at (pre .1 .0) h ne u, first-dirty (pre .1 .0) h ne u))
 
 split-same-length-2 : (t : ℕ) → split-lts.Need-same-length-2 (
@@ -101,9 +93,7 @@ split-returns-2 : (t : ℕ) → split-lts.Need-returns-2 (
   split.Post,
 ) (split-at t) split.Post
 split-returns-2 t c =
-    let b6 = c .before .before .before .before .before .before in
-    let b8 = b6 .before .before in
-    let b11 = b8 .before .before .before in
+    let b6 = c .before .before .before .before .before .before in let b8 = b6 .before .before in let b11 = b8 .before .before .before in
     split-parts (b11 .before .before .before .pre .1 .0) (b11 .halve .ensures) (b8 .if1 .left) (b6 .split .ensures) (c .before .before .split2 .ensures)
 
 pub +split-spec : {M : Type 1} → statement M

@@ -9,22 +9,15 @@ start-of-requires : tie.Need-start-of-requires
 start-of-requires c κs = let b3 = c .before .before .before in let g = b3 .pre in (holds-room _ (g .tuple .has-store), g .between .most)
 
 insert-page-requires : tie.Need-insert-page-requires
-insert-page-requires c κs =
-    let b5 = c .before .before .before .before .before in
+insert-page-requires c κs = let b5 = c .before .before .before .before .before in
     let g = b5 .pre in (holds-room _ (g .tuple .has-store), record { place = g .between; space = add-space g })
 
 insert-row-requires : tie.Need-insert-row-requires
-insert-row-requires c κs =
-    let b3 = c .before .before .before in
-    let b5 = b3 .before .before in
-    let b9 = b5 .before .before .before .before in
+insert-row-requires c κs = let b3 = c .before .before .before in let b5 = b3 .before .before in let b9 = b5 .before .before .before .before in
     let u = b3 .insert-page .ensures in (added-new (b9 .pre) u (b5 .start-of .ensures .0), added-there (b9 .pre) u)
 
 returns : tie.Need-returns
-returns c =
-    let b2 = c .before .before in
-    let b6 = b2 .before .before .before .before in
-    let b8 = b6 .before .before in
+returns c = let b2 = c .before .before in let b6 = b2 .before .before .before .before in let b8 = b6 .before .before in
     let b12 = b8 .before .before .before .before in
     added (b12 .pre) (b6 .insert-page .ensures) (b8 .start-of .ensures .0) (b2 .insert-row .ensures)
 

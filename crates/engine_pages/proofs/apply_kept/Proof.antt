@@ -12,17 +12,11 @@ commit-row-requires : tie.Need-commit-row-requires
 commit-row-requires c κs = let b5 = c .before .before .before .before .before in b5 .pre
 
 set-pending-requires : tie.Need-set-pending-requires
-set-pending-requires c κs =
-    let b3 = c .before .before .before in
-    let b9 = b3 .before .before .before .before .before .before in
+set-pending-requires c κs = let b3 = c .before .before .before in let b9 = b3 .before .before .before .before .before .before in
     let u = b3 .commit-row .ensures in (u .room, still-row (b9 .args .m .now) (b9 .args .i) (b9 .pre .1) u)
 
 returns : tie.Need-returns
-returns c =
-    let b2 = c .before .before in
-    let b6 = b2 .before .before .before .before in
-    let b8 = b6 .before .before in
-    let b9 = b8 .before in
+returns c = let b2 = c .before .before in let b6 = b2 .before .before .before .before in let b8 = b6 .before .before in let b9 = b8 .before in
     let b12 = b9 .before .before .before in
     kept-both (b12 .args .m .now) (b12 .args .i) (b12 .pre .1) (sym (b9 .is-committing .ensures) ∙ b8 .if1 .taken) (b6 .commit-row .ensures) (b2 .set-pending .ensures)
 
@@ -30,11 +24,7 @@ set-pending-requires-2 : tie.Need-set-pending-requires-2
 set-pending-requires-2 c κs = let b5 = c .before .before .before .before .before in b5 .pre
 
 returns-2 : tie.Need-returns-2
-returns-2 c =
-    let b2 = c .before .before in
-    let b4 = b2 .before .before in
-    let b5 = b4 .before in
-    let b8 = b5 .before .before .before in
+returns-2 c = let b2 = c .before .before in let b4 = b2 .before .before in let b5 = b4 .before in let b8 = b5 .before .before .before in
     kept-one (b8 .args .m .now) (b8 .args .i) (sym (b5 .is-committing .ensures) ∙ b4 .if1 .left) (b2 .set-pending2 .ensures)
 
 pub apply-kept-spec : {M : Type 1} → statement M

@@ -11,22 +11,14 @@ remove-row-requires : tie.Need-remove-row-requires
 remove-row-requires c κs = let b5 = c .before .before .before .before .before in b5 .pre
 
 returns : tie.Need-returns
-returns c =
-    let b2 = c .before .before in
-    let b4 = b2 .before .before in
-    let b5 = b4 .before in
-    let b8 = b5 .before .before .before in
+returns c = let b2 = c .before .before in let b4 = b2 .before .before in let b5 = b4 .before in let b8 = b5 .before .before .before in
     row-removed (b8 .pre) (sym (b5 .is-removing .ensures) ∙ b4 .if1 .taken) (b2 .remove-row .ensures)
 
 apply-kept-requires : tie.Need-apply-kept-requires
 apply-kept-requires c κs = let b5 = c .before .before .before .before .before in let g = b5 .pre in (g .0, g .1 .row)
 
 returns-2 : tie.Need-returns-2
-returns-2 c =
-    let b2 = c .before .before in
-    let b4 = b2 .before .before in
-    let b5 = b4 .before in
-    let b8 = b5 .before .before .before in
+returns-2 c = let b2 = c .before .before in let b4 = b2 .before .before in let b5 = b4 .before in let b8 = b5 .before .before .before in
     row-kept (b8 .pre) (sym (b5 .is-removing .ensures) ∙ b4 .if1 .left) (b2 .apply-kept .ensures)
 
 pub apply-pending-row-spec : {M : Type 1} → statement M

@@ -14,15 +14,11 @@ start-of-requires-2 : tie.Need-start-of-requires-2
 start-of-requires-2 c κs = let b2 = c .before .before in next-there (b2 .pre)
 
 sub-result : tie.Need-sub-result
-sub-result c =
-    let b1 = c .before in
-    let b3 = b1 .before .before in
+sub-result c = let b1 = c .before in let b3 = b1 .before .before in
     omega (arith, b1 .start-of .ensures .0, c .start-of2 .ensures .0, ends-at (b3 .pre))
 
 returns : tie.Need-returns
-returns c =
-    let b1 = c .before in
-    let b3 = b1 .before .before in
+returns c = let b1 = c .before in let b3 = b1 .before .before in
     omega (arith, b1 .start-of .ensures .0, c .start-of2 .ensures .0, ends-at (b3 .pre))
 
 pub count-at-spec : {M : Type 1} → statement M

@@ -1,8 +1,8 @@
 -- `engine_pages::freeze` meets its contract. The invariant: the first p pages are frozen where they were dirty, and the others are as at entry.
 use Rattle.memory_layout.specs.Flat.{flatOf}
-use Rattle.memory_layout.proofs.Laws.{holds-room}
+use Rattle.memory_layout.proofs.Laws.{holds-room, pages-read}
 use Rattle.basics.proofs.Kit.{_<_, _-_, length, needs, arith}
-use Rattle.engine_pages.proofs.Places.{few-pages, long, pages-are, holds-now}
+use Rattle.engine_pages.proofs.Places.{few-pages, long, holds-now}
 use Rattle.engine_pages.proofs.Freezing.{FreezeInv, freeze-start, freeze-there, freeze-next, freeze-end}
 use Rattle.engine_pages.proofs.freeze.Statement.{statement}
 use Rattle.engine_pages.proofs.freeze.Tie as tie
@@ -15,47 +15,27 @@ abbrev μ-loop : tie.MeasureT-loop
 
 -- the page of a turn is there
 inside : (c : tie.In-loop Inv-loop μ-loop) → (c .before) .loop .p < length (flatOf ((c .before .before .before .before .before .before) .args .m .now) .entries)
-inside c = omega (arith, pages-are ((c .before .before .before .before .before .before) .args .m .now) ((c .before .before .before) .get-counts .ensures), c .loop-test .taken)
-
-get-counts-requires : tie.Need-get-counts-requires Inv-loop μ-loop
-get-counts-requires c κs = let b2 = c .before .before in long (holds-room _ (b2 .pre))
-
-loop-holds : tie.Need-loop-holds Inv-loop μ-loop
-loop-holds c = let b4 = c .before .before .before .before in freeze-start (b4 .args .m .now) (b4 .pre)
+inside c = omega (arith, pages-read ((c .before .before .before .before .before .before) .args .m .now) ((c .before .before .before) .get-counts .ensures), c .loop-test .taken)
 
 freeze-page-requires : tie.Need-freeze-page-requires Inv-loop μ-loop
 freeze-page-requires c κs =
-    let b1 = c .before in
-    let b2 = b1 .before in
-    let b7 = b2 .before .before .before .before .before in
-    freeze-there (b2 .loop .p) (b7 .pre) (inside b1) (b2 .loop .inv)
+    let b1 = c .before in let b2 = b1 .before in let b7 = b2 .before .before .before .before .before in freeze-there (b2 .loop .p) (b7 .pre) (inside b1) (b2 .loop .inv)
 
 add-p : tie.Need-add-p Inv-loop μ-loop
-add-p c =
-    let b4 = c .before .before .before .before in
-    let b10 = b4 .before .before .before .before .before .before in
+add-p c = let b4 = c .before .before .before .before in let b10 = b4 .before .before .before .before .before .before in
     omega (arith, inside b4, few-pages (holds-room _ (b10 .pre)))
-
-loop-less : tie.Need-loop-less Inv-loop μ-loop
-loop-less c = let b4 = c .before .before .before .before in omega (arith, b4 .loop-test .taken)
 
 loop-again : tie.Need-loop-again Inv-loop μ-loop
 loop-again c =
-    let b2 = c .before .before in
-    let b4 = b2 .before .before in
-    let b5 = b4 .before in
-    let b10 = b5 .before .before .before .before .before in
+    let b2 = c .before .before in let b4 = b2 .before .before in let b5 = b4 .before in let b10 = b5 .before .before .before .before .before in
     freeze-next (b5 .loop .p) (b10 .pre) (inside b4) (b5 .loop .inv) (b2 .freeze-page .ensures)
-
-same-length : tie.Need-same-length Inv-loop μ-loop
-same-length c = let b1 = c .before in b1 .loop .inv .1 .size
 
 returns : tie.Need-returns Inv-loop μ-loop
 returns c =
-    let b1 = c .before in
-    let b3 = b1 .before .before in
-    let b6 = b3 .before .before .before in
-    holds-now (freeze-end (b1 .loop .p) (b1 .loop .inv) (omega (arith, pages-are (b6 .args .m .now) (b3 .get-counts .ensures), c .loop-test .left)))
+    let b1 = c .before in let b3 = b1 .before .before in let b6 = b3 .before .before .before in
+    holds-now (freeze-end (b1 .loop .p) (b1 .loop .inv) (omega (arith, pages-read (b6 .args .m .now) (b3 .get-counts .ensures), c .loop-test .left)))
 
 pub freeze-spec : {M : Type 1} → statement M
-freeze-spec = tie.close (tie.spec Inv-loop μ-loop get-counts-requires (search needs) loop-holds freeze-page-requires add-p loop-less loop-again same-length returns)
+freeze-spec = tie.close (tie.spec Inv-loop μ-loop (λ c κs. long (holds-room _ (c .before .before .pre))) (search needs)
+    (λ c. let b4 = c .before .before .before .before in freeze-start (b4 .args .m .now) (b4 .pre)) freeze-page-requires add-p
+    (λ c. omega (arith, c .before .before .before .before .loop-test .taken)) loop-again (λ c. c .before .loop .inv .1 .size) returns)

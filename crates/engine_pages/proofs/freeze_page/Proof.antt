@@ -9,16 +9,11 @@ block-at-requires : tie.Need-block-at-requires
 block-at-requires c κs = let b2 = c .before .before in page-in (b2 .pre)
 
 set-page-requires : tie.Need-set-page-requires
-set-page-requires c κs =
-    let b1 = c .before in
-    let b4 = b1 .before .before .before in
+set-page-requires c κs = let b1 = c .before in let b4 = b1 .before .before .before in
     let a = b4 .pre in (room a, record { place = a .inside; block = omega (arith, b1 .block-at .ensures, block-small a) })
 
 returns : tie.Need-returns
-returns c =
-    let b2 = c .before .before in
-    let b4 = b2 .before .before in
-    let b7 = b4 .before .before .before in
+returns c = let b2 = c .before .before in let b4 = b2 .before .before in let b7 = b4 .before .before .before in
     frozen-now (b7 .pre) (b4 .block-at .result) (b4 .block-at .ensures) (b2 .set-page .ensures)
 
 pub freeze-page-spec : {M : Type 1} → statement M

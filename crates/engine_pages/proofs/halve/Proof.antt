@@ -10,11 +10,7 @@ use Rattle.engine_pages.proofs.halve.Tie as tie
 -- both parts have a row
 cuts : (c : tie.After-half) → let s = c .before .before .before .before .before .before .before .before .before .before .before in
     (1 ≤ c .half .result) × (c .half .result < entryOf (s .args .m .now) (s .args .p) .count)
-cuts c =
-    let f = c .before .before .before in
-    let w = f .before in
-    let e = w .before .before in
-    let b = e .before .before in
+cuts c = let f = c .before .before .before in let w = f .before in let e = w .before .before in let b = e .before .before in
     between (b .before .before .before .pre .0) (b .start-of .ensures .0) (e .start-of2 .ensures .0) (w .rows-size .ensures)
     (leb-false _ recordSpace (sym (f .fits2 .ensures) ∙ c .before .before .if1 .left)) (c .half .ensures)
 
@@ -28,54 +24,30 @@ start-of-requires-2 : tie.Need-start-of-requires-2
 start-of-requires-2 c κs = let b4 = c .before .before .before .before in next-there (b4 .pre .0)
 
 rows-size-requires : tie.Need-rows-size-requires
-rows-size-requires c κs =
-    let b1 = c .before in
-    let b3 = b1 .before .before in
-    let b6 = b3 .before .before .before in
+rows-size-requires c κs = let b1 = c .before in let b3 = b1 .before .before in let b6 = b3 .before .before .before in
     page-span (b6 .pre .0) (b3 .start-of .ensures .0) (b1 .start-of2 .ensures .0)
 
 returns : tie.Need-returns
-returns c =
-    let b1 = c .before in
-    let b2 = b1 .before in
-    let b4 = b2 .before .before in
-    let b6 = b4 .before .before in
-    let b9 = b6 .before .before .before in
+returns c = let b1 = c .before in let b2 = b1 .before in let b4 = b2 .before .before in let b6 = b4 .before .before in let b9 = b6 .before .before .before in
     halved-whole (b9 .pre .0) (b6 .start-of .ensures .0) (b4 .start-of2 .ensures .0) (b2 .rows-size .ensures) (b9 .pre .1)
     (leb-true _ recordSpace (sym (b1 .fits2 .ensures) ∙ c .if1 .taken))
 
 half-requires : tie.Need-half-requires
-half-requires c κs =
-    let b4 = c .before .before .before .before .before in
-    let b6 = b4 .before .before in
-    let b9 = b6 .before .before .before in
+half-requires c κs = let b4 = c .before .before .before .before .before in let b6 = b4 .before .before in let b9 = b6 .before .before .before in
     page-span (b9 .pre .0) (b6 .start-of .ensures .0) (b4 .start-of2 .ensures .0)
 
 cast-split-page : tie.Need-cast-split-page
-cast-split-page c =
-    let b1 = c .before in
-    let b11 = b1 .before .before .before .before .before .before .before .before .before .before .before in
+cast-split-page c = let b1 = c .before in let b11 = b1 .before .before .before .before .before .before .before .before .before .before .before in
     let a = b11 .pre .0 in omega (arith, cuts b1 .1, page-end a, few-rows (room a))
 
 split-page-requires : tie.Need-split-page-requires
-split-page-requires c κs =
-    let b1 = c .before in
-    let b11 = b1 .before .before .before .before .before .before .before .before .before .before .before in
-    let a = b11 .pre .0 in
-    let k0 = cuts b1 .0 in
-    let k1 = cuts b1 .1 in
+split-page-requires c κs = let b1 = c .before in let b11 = b1 .before .before .before .before .before .before .before .before .before .before .before in
+    let a = b11 .pre .0 in let k0 = cuts b1 .0 in let k1 = cuts b1 .1 in
     (room a, record { place = a .inside; rows = omega arith; space = spacious a (few a (omega arith)) })
 
 returns-2 : tie.Need-returns-2
-returns-2 c =
-    let b2 = c .before .before in
-    let b4 = b2 .before .before in
-    let b6 = b4 .before .before in
-    let f = b6 .before in
-    let b7 = f .before in
-    let b9 = b7 .before .before in
-    let b11 = b9 .before .before in
-    let b14 = b11 .before .before .before in
+returns-2 c = let b2 = c .before .before in let b4 = b2 .before .before in let b6 = b4 .before .before in let f = b6 .before in let b7 = f .before in
+    let b9 = b7 .before .before in let b11 = b9 .before .before in let b14 = b11 .before .before .before in
     halved-parts (b14 .pre .0) (b11 .start-of .ensures .0) (b9 .start-of2 .ensures .0) (b7 .rows-size .ensures)
     (leb-false _ recordSpace (sym (f .fits2 .ensures) ∙ b6 .if1 .left)) (b4 .half .ensures) (b2 .split-page .ensures)
 

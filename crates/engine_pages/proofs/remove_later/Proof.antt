@@ -12,31 +12,18 @@ set-pending-requires : tie.Need-set-pending-requires
 set-pending-requires c κs = let b5 = c .before .before .before .before .before in row-in (b5 .pre)
 
 returns : tie.Need-returns
-returns c =
-    let b2 = c .before .before in
-    let b4 = b2 .before .before in
-    let b5 = b4 .before in
-    let b8 = b5 .before .before .before in
+returns c = let b2 = c .before .before in let b4 = b2 .before .before in let b5 = b4 .before in let b8 = b5 .before .before .before in
     later-noted (b8 .pre) (b5 .is-adding .ensures) (not-true _ (b4 .if1 .taken)) (b2 .set-pending .ensures)
 
 returns-2 : tie.Need-returns-2
-returns-2 c =
-    let b1 = c .before in
-    let b3 = b1 .before .before in
-    let b4 = b3 .before in
-    let b7 = b4 .before .before .before in
+returns-2 c = let b1 = c .before in let b3 = b1 .before .before in let b4 = b3 .before in let b7 = b4 .before .before .before in
     later-last (b7 .pre) (b4 .is-adding .ensures) (not-false _ (b3 .if1 .left)) (b1 .count-at .ensures) (c .if2 .taken)
 
 remove-row-requires : tie.Need-remove-row-requires
 remove-row-requires c κs = let b8 = c .before .before .before .before .before .before .before .before in may-lose (b8 .pre)
 
 returns-3 : tie.Need-returns-3
-returns-3 c =
-    let b2 = c .before .before in
-    let b4 = b2 .before .before in
-    let b5 = b4 .before in
-    let b7 = b5 .before .before in
-    let b8 = b7 .before in
+returns-3 c = let b2 = c .before .before in let b4 = b2 .before .before in let b5 = b4 .before in let b7 = b5 .before .before in let b8 = b7 .before in
     let b11 = b8 .before .before .before in
     later-away (b11 .pre) (b8 .is-adding .ensures) (not-false _ (b7 .if1 .left)) (b5 .count-at .ensures) (b4 .if2 .left) (b2 .remove-row .ensures)
 

@@ -15,44 +15,26 @@ remove-row-requires : tie.Need-remove-row-requires
 remove-row-requires c κs = let b4 = c .before .before .before .before in may-lose (b4 .pre)
 
 remove-page-requires : tie.Need-remove-page-requires
-remove-page-requires c κs =
-    let b1 = c .before in
-    let b4 = b1 .before .before .before in
-    let b6 = b4 .before .before in
-    let b9 = b6 .before .before .before in
-    let g = b9 .pre in
-    let u = b4 .remove-row .ensures in
+remove-page-requires c κs = let b1 = c .before in let b4 = b1 .before .before .before in let b6 = b4 .before .before in let b9 = b6 .before .before .before in
+    let g = b9 .pre in let u = b4 .remove-row .ensures in
     (u .room, record { place = less-there g u; empty = less-empty g u (sym (b6 .count-at .ensures) ∙ b1 .if1 .taken) })
 
 returns : tie.Need-returns
-returns c =
-    let b2 = c .before .before in
-    let b4 = b2 .before .before in
-    let b7 = b4 .before .before .before in
-    let b9 = b7 .before .before in
+returns c = let b2 = c .before .before in let b4 = b2 .before .before in let b7 = b4 .before .before .before in let b9 = b7 .before .before in
     let b12 = b9 .before .before .before in
     now-none (b12 .pre) (b7 .remove-row .ensures) (sym (b9 .count-at .ensures) ∙ b4 .if1 .taken) (b2 .remove-page .ensures)
 
 set-page-requires : tie.Need-set-page-requires
-set-page-requires c κs =
-    let b4 = c .before .before .before .before in
-    let b9 = b4 .before .before .before .before .before in
+set-page-requires c κs = let b4 = c .before .before .before .before in let b9 = b4 .before .before .before .before .before in
     let u = b4 .remove-row .ensures in (u .room, record { place = less-there (b9 .pre) u; block = omega arith })
 
 join-requires : tie.Need-join-requires
-join-requires c κs =
-    let b3 = c .before .before .before in
-    let b5 = b3 .before .before in
-    let b8 = b5 .before .before .before in
+join-requires c κs = let b3 = c .before .before .before in let b5 = b3 .before .before in let b8 = b5 .before .before .before in
     let b13 = b8 .before .before .before .before .before in
     now-there (b13 .pre) (b8 .remove-row .ensures) (two b5) (b3 .set-page .ensures)
 
 returns-2 : tie.Need-returns-2
-returns-2 c =
-    let b2 = c .before .before in
-    let b6 = b2 .before .before .before .before in
-    let b8 = b6 .before .before in
-    let b11 = b8 .before .before .before in
+returns-2 c = let b2 = c .before .before in let b6 = b2 .before .before .before .before in let b8 = b6 .before .before in let b11 = b8 .before .before .before in
     let b16 = b11 .before .before .before .before .before in
     now-joined (b16 .pre) (b11 .remove-row .ensures) (two b8) (b6 .set-page .ensures) (b2 .join .result) (b2 .join .ensures)
 

@@ -9,74 +9,41 @@ has-pending-requires : tie.Need-has-pending-requires
 has-pending-requires c κs = let b2 = c .before .before in b2 .pre .0 .there
 
 set-page-requires : tie.Need-set-page-requires
-set-page-requires c κs =
-    let b5 = c .before .before .before .before .before in
+set-page-requires c κs = let b5 = c .before .before .before .before .before in
     let g = b5 .pre in (room (g .0 .there), record { place = g .0 .there .inside; block = g .1 })
 
 returns : tie.Need-returns
-returns c =
-    let b2 = c .before .before in
-    let b4 = b2 .before .before in
-    let b5 = b4 .before in
-    let b8 = b5 .before .before .before in
+returns c = let b2 = c .before .before in let b4 = b2 .before .before in let b5 = b4 .before in let b8 = b5 .before .before .before in
     holds-now (thawed-clean (b8 .pre .0) (b8 .args .b) (sym (b5 .has-pending .ensures) ∙ not-true _ (b4 .if1 .taken)) (b2 .set-page .ensures))
 
 apply-pending-requires : tie.Need-apply-pending-requires
 apply-pending-requires c κs = let b5 = c .before .before .before .before .before in b5 .pre .0 .there
 
 returns-2 : tie.Need-returns-2
-returns-2 c =
-    let b3 = c .before .before .before in
-    let b5 = b3 .before .before in
-    let b6 = b5 .before in
-    let b9 = b6 .before .before .before in
+returns-2 c = let b3 = c .before .before .before in let b5 = b3 .before .before in let b6 = b5 .before in let b9 = b6 .before .before .before in
     holds-now (thawed-none (b9 .pre .0) (b9 .args .b) (sym (b6 .has-pending .ensures) ∙ not-false _ (b5 .if1 .left)) (b3 .apply-pending .ensures) (c .if2 .taken))
 
 join-requires : tie.Need-join-requires
-join-requires c κs =
-    let b1 = c .before in
-    let b4 = b1 .before .before .before in
-    let b6 = b4 .before .before in
-    let b7 = b6 .before in
+join-requires c κs = let b1 = c .before in let b4 = b1 .before .before .before in let b6 = b4 .before .before in let b7 = b6 .before in
     let b10 = b7 .before .before .before in
     left-at (b10 .pre .0) (b10 .args .b) (sym (b7 .has-pending .ensures) ∙ not-false _ (b6 .if1 .left)) (b4 .apply-pending .ensures) (b1 .if2 .left)
 
 returns-3 : tie.Need-returns-3
-returns-3 c =
-    let b3 = c .before .before .before in
-    let b5 = b3 .before .before in
-    let b8 = b5 .before .before .before in
-    let b10 = b8 .before .before in
-    let b11 = b10 .before in
-    let b14 = b11 .before .before .before in
+returns-3 c = let b3 = c .before .before .before in let b5 = b3 .before .before in let b8 = b5 .before .before .before in let b10 = b8 .before .before in
+    let b11 = b10 .before in let b14 = b11 .before .before .before in
     holds-now (thawed-joined (b14 .pre .0) (b14 .args .b) (sym (b11 .has-pending .ensures) ∙ not-false _ (b10 .if1 .left)) (b8 .apply-pending .ensures) (b5 .if2 .left) (b3 .join .ensures)
     (c .if3 .taken))
 
 split-requires : tie.Need-split-requires
-split-requires c κs =
-    let b1 = c .before in
-    let b4 = b1 .before .before .before in
-    let b6 = b4 .before .before in
-    let b9 = b6 .before .before .before in
-    let b11 = b9 .before .before in
-    let b12 = b11 .before in
-    let b15 = b12 .before .before .before in
-    let g = b15 .pre .0 in
+split-requires c κs = let b1 = c .before in let b4 = b1 .before .before .before in let b6 = b4 .before .before in let b9 = b6 .before .before .before in
+    let b11 = b9 .before .before in let b12 = b11 .before in let b15 = b12 .before .before .before in let g = b15 .pre .0 in
     let w = sym (b12 .has-pending .ensures) ∙ not-false _ (b11 .if1 .left) in
-    let o = b9 .apply-pending .ensures in
-    let nz = b6 .if2 .left in
+    let o = b9 .apply-pending .ensures in let nz = b6 .if2 .left in
     (apart-at g (b15 .args .b) w o nz (b4 .join .ensures) (b1 .if3 .left), apart-dirty g (b15 .args .b) w o nz (b4 .join .ensures) (b1 .if3 .left))
 
 returns-4 : tie.Need-returns-4
-returns-4 c =
-    let b2 = c .before .before in
-    let b4 = b2 .before .before in
-    let b7 = b4 .before .before .before in
-    let b9 = b7 .before .before in
-    let b12 = b9 .before .before .before in
-    let b14 = b12 .before .before in
-    let b15 = b14 .before in
-    let b18 = b15 .before .before .before in
+returns-4 c = let b2 = c .before .before in let b4 = b2 .before .before in let b7 = b4 .before .before .before in let b9 = b7 .before .before in
+    let b12 = b9 .before .before .before in let b14 = b12 .before .before in let b15 = b14 .before in let b18 = b15 .before .before .before in
     holds-now (thawed-split (b18 .pre .0) (b18 .args .b) (sym (b15 .has-pending .ensures) ∙ not-false _ (b14 .if1 .left)) (b12 .apply-pending .ensures) (b9 .if2 .left) (b7 .join .ensures)
     (b4 .if3 .left) (b2 .split .ensures))
 

@@ -4,7 +4,8 @@ use Rattle.block_forms.specs.Limits.{entriesPerBlock}
 use Rattle.block_forms.specs.Block.{directory, encodeBlock}
 use Rattle.memory_layout.specs.Flat.{flatOf}
 use Rattle.engine_writer.proofs.Numbered.{Run, run-full, run-last}
-use Rattle.engine_writer.proofs.Headers.{named-few, count-named}
+use Rattle.engine_writer.proofs.Headers.{named-few}
+use Rattle.memory_layout.proofs.Laws.{named-read}
 use Rattle.engine_writer.proofs.write_directory.Statement.{statement}
 use Rattle.engine_writer.proofs.write_directory.Tie as tie
 use Rattle.engine_writer.proofs.write_directory.Reads as reads
@@ -17,7 +18,7 @@ mul-first : tie.Need-mul-first
 mul-first c = let s = c .before .before .before in omega (arith, s .pre .1 .start, named-few (s .args .m .now) (s .pre .0))
 
 sub-count : tie.Need-sub-count
-sub-count c = let s = c .before .before .before .before in omega (arith, s .pre .1 .start, count-named (s .args .m .now) (c .before .get-counts .ensures))
+sub-count c = let s = c .before .before .before .before in omega (arith, s .pre .1 .start, named-read (s .args .m .now) (c .before .get-counts .ensures))
 
 abbrev Joined : Type 0
 Joined =
@@ -29,7 +30,7 @@ run : (c : Joined) → let s = c .before .before .before .before .before in
     Run (flatOf (s .args .m .now) .named) (entriesPerBlock * s .args .k) (c .if1 .count)
 run c =
     let s = c .before .before .before .before .before in
-    let n = count-named (s .args .m .now) (c .before .before .get-counts .ensures) in
+    let n = named-read (s .args .m .now) (c .before .before .get-counts .ensures) in
     let h = s .pre .1 .start in
     ⊎-elim (λ w. run-full (omega (arith, w .0 .taken)) (omega (arith, w .1))) (λ w. run-last (omega (arith, w .1)) (omega (arith, w .0 .left, w .1))) (c .if1 .came)
 

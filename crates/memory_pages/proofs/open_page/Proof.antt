@@ -24,7 +24,6 @@ returns c =
     let c2 = c .before .before in
     let c6 = c2 .before .before .before .before in
     let c10 = c6 .before .before .before .before in
-    let c10 = c10 in
     let c12 = c10 .before .before in
     let c14 = c12 .before .before in
     let c16 = c14 .before .before in

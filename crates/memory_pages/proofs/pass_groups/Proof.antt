@@ -6,9 +6,6 @@ use Rattle.memory_bytes.proofs.Scans.{any-group2}
 use Rattle.basics.proofs.Searches.{first-skip}
 use Rattle.memory_pages.proofs.pass_groups.Statement.{statement}
 use Rattle.memory_pages.proofs.pass_groups.Tie as tie
-use Rattle.memory_pages.proofs.pass_groups.Reads as reads
-use Rattle.memory_pages.proofs.pass_groups.Lts as lts
-use Rattle.memory_pages.proofs.any_frozen.Reads as any-frozen-reads
 
 abbrev Inv-loop : tie.InvT-loop
 Inv-loop m base n p₀ p = Passed (column2 m base) n p
@@ -16,25 +13,15 @@ Inv-loop m base n p₀ p = Passed (column2 m base) n p
 abbrev μ-loop : tie.MeasureT-loop
 μ-loop m base n p₀ p = n - p
 
-loop-holds : tie.Need-loop-holds Inv-loop μ-loop
-loop-holds c = record { most = omega arith; rest = omega arith }
-
-returns : tie.Need-returns Inv-loop μ-loop
-returns c = c .before .before .before .loop .inv
-
 loop-again : tie.Need-loop-again Inv-loop μ-loop
 loop-again c = let l = c .before .before .before in
     let a = l .before .before .args in
-    let g = column2 (a .m .now) (a .base) in
     record {
       most = omega (arith, c .before .before .loop-test .taken);
-      rest = first-skip frozenWord g (l .loop .p) (a .n) (l .loop .inv .rest) 16 (omega (arith, c .before .before .loop-test .taken))
+      rest = first-skip frozenWord _ (l .loop .p) (a .n) (l .loop .inv .rest) 16 (omega (arith, c .before .before .loop-test .taken))
           (any-group2 (a .m .now) (a .base) (l .loop .p) 16 frozenWord (c .before .any-frozen .ensures) (c .if1 .left));
     }
 
-returns-2 : tie.Need-returns-2 Inv-loop μ-loop
-returns-2 c = c .before .loop .inv
-
 pub pass-groups-spec : {M : Type 1} → statement M
-pass-groups-spec = tie.close (tie.spec Inv-loop μ-loop loop-holds (λ c. omega arith) (λ c. omega arith) (λ c. omega arith) (λ c κs. omega arith) returns (λ c. omega arith)
-    (λ c. omega arith) loop-again returns-2)
+pass-groups-spec = tie.close (tie.spec Inv-loop μ-loop (λ c. record { most = omega arith; rest = omega arith }) (λ c. omega arith) (λ c. omega arith) (λ c. omega arith)
+    (λ c κs. omega arith) (λ c. c .before .before .before .loop .inv) (λ c. omega arith) (λ c. omega arith) loop-again (λ c. c .before .loop .inv))

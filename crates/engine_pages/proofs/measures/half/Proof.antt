@@ -19,50 +19,24 @@ turned : (c : tie.After-size-at Inv-loop μ-loop) → let a = c .before .before 
     (c .size-at .result)
 turned c = let l = c .before .before .loop in turn (c .before .before .before .before .pre) (l .inv .0) (c .before .loop-test .taken) (l .inv .1 .1 .0) (c .size-at .ensures)
 
-loop-holds : tie.Need-loop-holds Inv-loop μ-loop
-loop-holds c = let g = c .before .pre in (omega arith, (omega (arith, g .order), (omega arith, omega arith)))
-
 size-at-requires : tie.Need-size-at-requires Inv-loop μ-loop
 size-at-requires c κs = let g = c .before .before .before .pre in (g .room, omega (arith, g .inside, c .loop-test .taken))
 
-add-all : tie.Need-add-all Inv-loop μ-loop
-add-all c = let t = turned c in omega arith
-
-mul-if1 : tie.Need-mul-if1 Inv-loop μ-loop
-mul-if1 c = let t = turned c in omega arith
-
-add-result : tie.Need-add-result Inv-loop μ-loop
-add-result c = let t = turned (c .before) in omega arith
-
-sub-result : tie.Need-sub-result Inv-loop μ-loop
-sub-result c = let t = turned (c .before) in omega arith
-
 returns : tie.Need-returns Inv-loop μ-loop
-returns c = let t = turned (c .before) in
-    let l = c .before .before .before .loop in
-    let a = c .before .before .before .before .before .args in
+returns c = let t = turned (c .before) in let l = c .before .before .before .loop in let a = c .before .before .before .before .before .args in
     omega (arith, l .inv .1 .1 .1, lead-stop (a .m .now) (l .i) (a .e) (a .whole) (l .all) (t .inside) (t .most) (omega (arith, t .size, c .if1 .taken)))
 
-add-i : tie.Need-add-i Inv-loop μ-loop
-add-i c = let t = turned (c .before) in omega arith
-
-loop-less : tie.Need-loop-less Inv-loop μ-loop
-loop-less c = let t = turned (c .before) in omega arith
-
 loop-again : tie.Need-loop-again Inv-loop μ-loop
-loop-again c = let t = turned (c .before) in
-    let l = c .before .before .before .loop in
-    let a = c .before .before .before .before .before .args in
+loop-again c = let t = turned (c .before) in let l = c .before .before .before .loop in let a = c .before .before .before .before .before .args in
     let q = ap (λ (z : ℕ). lead (a .whole) (l .all + z) (rowsFrom (a .m .now) (l .i + 1) (a .e))) (sym (t .size)) in
     (omega arith, (omega arith, (omega arith, omega (arith, q, l .inv .1 .1 .1, lead-go (a .m .now) (l .i) (a .e) (a .whole) (l .all) (t .inside) (t .most) (omega (arith, t .size, c .if1 .left))))))
 
-sub-result-2 : tie.Need-sub-result-2 Inv-loop μ-loop
-sub-result-2 c = omega (arith, c .before .before .before .pre .order)
-
 returns-2 : tie.Need-returns-2 Inv-loop μ-loop
-returns-2 c = let l = c .before .loop in
-    let a = c .before .before .before .args in
+returns-2 c = let l = c .before .loop in let a = c .before .before .before .args in
     omega (arith, l .inv .0, l .inv .1 .1 .1, l .inv .1 .0, lead-end (a .m .now) (l .i) (a .e) (a .whole) (l .all) (c .loop-test .left))
 
 pub half-spec : {M : Type 1} → statement M
-half-spec = tie.close (tie.spec Inv-loop μ-loop loop-holds size-at-requires add-all mul-if1 add-result sub-result returns add-i loop-less loop-again sub-result-2 returns-2)
+half-spec = tie.close (tie.spec Inv-loop μ-loop (λ c. (omega arith, (omega (arith, c .before .pre .order), (omega arith, omega arith)))) size-at-requires
+    (λ c. let t = turned c in omega arith) (λ c. let t = turned c in omega arith) (λ c. let t = turned (c .before) in omega arith) (λ c. let t = turned (c .before) in omega arith)
+    returns (λ c. let t = turned (c .before) in omega arith) (λ c. let t = turned (c .before) in omega arith) loop-again
+    (λ c. omega (arith, c .before .before .before .pre .order)) returns-2)

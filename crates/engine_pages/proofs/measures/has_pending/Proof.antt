@@ -1,16 +1,17 @@
--- `engine_pages::measures::has_pending` meets its contract.
-use Rattle.basics.proofs.Kit.{_≡_, refl, sym, ap, _∙_, _||_, _≤_, _-_, arith}
-use Rattle.engine_pages.proofs.Sizes.{any-turn, any-end}
+-- `engine_pages::measures::has_pending` meets its contract. The invariant (`AnyFrom`): the answer is hit, or whether one of the page's rows from row i on has a pending operation.
+use Rattle.basics.proofs.Kit.{refl, sym, ap, _∙_, subst, _||_, _+_, _-_, arith}
+use Rattle.memory_bytes.proofs.Scans.{AnyFrom, any-starts, any-turns, any-ends}
+use Rattle.memory_layout.specs.Flat.{flatOf, rowIn}
+use Rattle.engine_pages.proofs.Sizes.{rows-by}
 use Rattle.engine_pages.proofs.Places.{few-pages, few-rows, room, start-there, next-there, page-span, tuples-are}
 use Rattle.engine_pages.specs.Pending.{waits}
-use Rattle.engine_pages.specs.Pages.{tuplesAt}
-use Rattle.memory_layout.specs.Elements.{rowsFrom, RowRange}
+use Rattle.memory_layout.specs.Elements.{RowRange}
 use Rattle.basics.specs.Basics.{any}
 use Rattle.engine_pages.proofs.measures.has_pending.Statement.{statement}
 use Rattle.engine_pages.proofs.measures.has_pending.Tie as tie
 
 abbrev Inv-loop : tie.InvT-loop
-Inv-loop m p e hit₀ i₀ hit i = (i₀ ≤ i) × ((i ≤ e) × (any waits (rowsFrom m i₀ e) ≡ (hit || any waits (rowsFrom m i e))))
+Inv-loop m p e hit₀ i₀ hit i = AnyFrom waits (rowIn (flatOf m)) i₀ e hit i
 
 abbrev μ-loop : tie.MeasureT-loop
 μ-loop m p e hit₀ i₀ hit i = e - i
@@ -18,48 +19,26 @@ abbrev μ-loop : tie.MeasureT-loop
 add-start-of : tie.Need-add-start-of Inv-loop μ-loop
 add-start-of c = let a = c .before .pre in omega (arith, a .inside, few-pages (room a))
 
-start-of-requires : tie.Need-start-of-requires Inv-loop μ-loop
-start-of-requires c κs = next-there (c .before .pre)
-
-start-of-requires-2 : tie.Need-start-of-requires-2 Inv-loop μ-loop
-start-of-requires-2 c κs = start-there (c .before .before .pre)
-
 -- the rows of the page
 spanned : (c : tie.After-start-of2 Inv-loop μ-loop) → RowRange (c .before .before .before .args .m .now) (c .start-of2 .result) (c .before .start-of .result)
 spanned c = page-span (c .before .before .before .pre) (c .start-of2 .ensures .0) (c .before .start-of .ensures .0)
-
-tuples : (c : tie.After-start-of2 Inv-loop μ-loop) → let a = c .before .before .before .args in
-    any waits (tuplesAt (a .m .now) (a .p)) ≡ any waits (rowsFrom (a .m .now) (c .start-of2 .result) (c .before .start-of .result))
-tuples c = ap (any waits) (sym (tuples-are (c .before .before .before .pre) (c .start-of2 .ensures .0) (c .before .start-of .ensures .0)))
-
-loop-holds : tie.Need-loop-holds Inv-loop μ-loop
-loop-holds c = (omega arith, (omega (arith, spanned c .order), refl))
 
 is-pending-requires : tie.Need-is-pending-requires Inv-loop μ-loop
 is-pending-requires c κs = let g = spanned (c .before .before) in (g .room, omega (arith, g .inside, c .loop-test .taken))
 
 add-i : tie.Need-add-i Inv-loop μ-loop
-add-i c = let g = spanned (c .before .before .before) in let k = c .before .loop-test .taken in omega (arith, g .inside, few-rows (g .room))
-
-loop-less : tie.Need-loop-less Inv-loop μ-loop
-loop-less c = let k = c .before .loop-test .taken in omega arith
+add-i c = let g = spanned (c .before .before .before) in omega (arith, c .before .loop-test .taken, g .inside, few-rows (g .room))
 
 loop-again : tie.Need-loop-again Inv-loop μ-loop
-loop-again c =
-    let l = c .before .before .loop in
-    let s = c .before .before .before in
-    let k = c .before .loop-test .taken in (
-      omega (arith, l .inv .0),
-      (
-        omega arith,
-        any-turn (s .before .before .before .args .m .now) (l .i) (s .before .start-of .result) waits (l .hit) (l .inv .1 .1) k (spanned s .inside) (c .is-pending .ensures),
-      ),
-    )
+loop-again c = let l = c .before .before .loop in let s = c .before .before .before in
+    subst (λ z. AnyFrom waits (rowIn (flatOf (s .before .before .before .args .m .now))) (s .start-of2 .result) (s .before .start-of .result) (l .hit || z) (l .i + 1))
+    (sym (c .is-pending .ensures)) (any-turns (l .inv) (c .before .loop-test .taken) refl)
 
 returns : tie.Need-returns Inv-loop μ-loop
-returns c = let l = c .before .loop in
-    let s = c .before .before in
-    any-end (s .before .before .before .args .m .now) (l .i) (s .before .start-of .result) waits (l .hit) (l .inv .1 .1) (c .loop-test .left) ∙ sym (tuples s)
+returns c = let s = c .before .before in
+    any-ends (c .before .loop .inv) (c .loop-test .left)
+    ∙ ap (any waits) (rows-by (spanned s) ∙ tuples-are (s .before .before .before .pre) (s .start-of2 .ensures .0) (s .before .start-of .ensures .0))
 
 pub has-pending-spec : {M : Type 1} → statement M
-has-pending-spec = tie.close (tie.spec Inv-loop μ-loop add-start-of start-of-requires start-of-requires-2 loop-holds is-pending-requires add-i loop-less loop-again returns)
+has-pending-spec = tie.close (tie.spec Inv-loop μ-loop add-start-of (λ c κs. next-there (c .before .pre)) (λ c κs. start-there (c .before .before .pre))
+    (λ c. any-starts (spanned c .order)) is-pending-requires add-i (λ c. omega (arith, c .before .loop-test .taken)) loop-again returns)

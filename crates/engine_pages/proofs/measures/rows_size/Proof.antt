@@ -5,7 +5,6 @@ use Rattle.memory_layout.specs.Elements.{rowsFrom}
 use Rattle.model.specs.Rules.{heldSize}
 use Rattle.basics.specs.Basics.{sum}
 use Rattle.block_forms.specs.Limits.{mostRecord}
-use Rattle.memory_layout.specs.Flat.{flatOf}
 use Rattle.engine_pages.proofs.measures.rows_size.Statement.{statement}
 use Rattle.engine_pages.proofs.measures.rows_size.Tie as tie
 
@@ -20,41 +19,16 @@ turned : (c : tie.After-size-at Inv-loop μ-loop) → let a = c .before .before 
     (c .size-at .result)
 turned c = let l = c .before .before .loop in turn (c .before .before .before .before .pre) (l .inv .0) (c .before .loop-test .taken) (l .inv .1 .1 .0) (c .size-at .ensures)
 
-loop-holds : tie.Need-loop-holds Inv-loop μ-loop
-loop-holds c = let g = c .before .pre in (omega arith, (omega (arith, g .order), (omega arith, omega arith)))
-
 size-at-requires : tie.Need-size-at-requires Inv-loop μ-loop
 size-at-requires c κs = let g = c .before .before .before .pre in (g .room, omega (arith, g .inside, c .loop-test .taken))
 
-add-all : tie.Need-add-all Inv-loop μ-loop
-add-all c = let t = turned c in omega arith
-
-add-i : tie.Need-add-i Inv-loop μ-loop
-add-i c = let t = turned c in omega arith
-
-loop-less : tie.Need-loop-less Inv-loop μ-loop
-loop-less c = let t = turned c in omega arith
-
 loop-again : tie.Need-loop-again Inv-loop μ-loop
-loop-again c = let t = turned c in
-    let l = c .before .before .loop in (
-      omega arith,
-      (
-        omega arith,
-        (
-          omega arith,
-          omega (
-            arith,
-            l .inv .1 .1 .1,
-            sum-next (c .before .before .before .before .args .m .now) (l .i) (c .before .before .before .before .args .e)
-                (t .inside) (t .most),
-          ),
-        ),
-      ),
-    )
+loop-again c = let t = turned c in let l = c .before .before .loop in let a = c .before .before .before .before .args in
+    (omega arith, (omega arith, (omega arith, omega (arith, l .inv .1 .1 .1, sum-next (a .m .now) (l .i) (a .e) (t .inside) (t .most)))))
 
 returns : tie.Need-returns Inv-loop μ-loop
-returns c = let l = c .before .loop in omega (arith, l .inv .1 .1 .1, sum-none (c .before .before .before .args .m .now) (l .i) (c .before .before .before .args .e) (c .loop-test .left))
+returns c = let l = c .before .loop in let a = c .before .before .before .args in omega (arith, l .inv .1 .1 .1, sum-none (a .m .now) (l .i) (a .e) (c .loop-test .left))
 
 pub rows-size-spec : {M : Type 1} → statement M
-rows-size-spec = tie.close (tie.spec Inv-loop μ-loop loop-holds size-at-requires add-all add-i loop-less loop-again returns)
+rows-size-spec = tie.close (tie.spec Inv-loop μ-loop (λ c. (omega arith, (omega (arith, c .before .pre .order), (omega arith, omega arith)))) size-at-requires
+    (λ c. let t = turned c in omega arith) (λ c. let t = turned c in omega arith) (λ c. let t = turned c in omega arith) loop-again returns)

@@ -26,15 +26,11 @@ joins-requires c κs = omega (arith, c .before .before .loop .inv .1 .0, c .size
 -- what is left with the row that was measured
 rest : (c : tie.After-size-at Inv-loop μ-loop) → let a = c .before .before .before .before .args in let l = c .before .before .loop in
     sum heldSize (rowsFrom (a .m .now) (a .s) (a .e)) ≡ l .all + c .size-at .result + sum heldSize (rowsFrom (a .m .now) (l .i + 1) (a .e))
-rest c =
-    let s = c .before .before .before .before in
-    let l = c .before .before .loop in
+rest c = let s = c .before .before .before .before in let l = c .before .before .loop in
     omega (arith, l .inv .1 .1, c .size-at .ensures .0, sum-next (s .args .m .now) (l .i) (s .args .e) (c .before .loop-test .taken) (s .pre .inside))
 
 returns : tie.Need-returns Inv-loop μ-loop
-returns c =
-    let z = c .before .before in
-    let a = z .before .before .before .before .args in
+returns c = let z = c .before .before in let a = z .before .before .before .before .args in
     let f = leb-false (z .before .before .loop .all + z .size-at .result) joinSum (sym (c .before .joins .ensures) ∙ not-true _ (c .if1 .taken)) in
     sym (lt-leb (sum heldSize (rowsFrom (a .m .now) (a .s) (a .e))) joinSum (omega (arith, f, rest z)))
 
@@ -48,14 +44,11 @@ loop-less : tie.Need-loop-less Inv-loop μ-loop
 loop-less c = omega (arith, c .before .before .before .loop-test .taken)
 
 loop-again : tie.Need-loop-again Inv-loop μ-loop
-loop-again c =
-    let z = c .before .before in
+loop-again c = let z = c .before .before in
     (omega (arith, z .before .loop-test .taken), (leb-true _ joinSum (sym (c .before .joins .ensures) ∙ not-false _ (c .if1 .left)), rest z))
 
 returns-2 : tie.Need-returns-2 Inv-loop μ-loop
-returns-2 c =
-    let l = c .before .loop in
-    let a = c .before .before .before .args in
+returns-2 c = let l = c .before .loop in let a = c .before .before .before .args in
     sym (le-leb (sum heldSize (rowsFrom (a .m .now) (a .s) (a .e))) joinSum (omega (arith, l .inv .1, sum-none (a .m .now) (l .i) (a .e) (c .loop-test .left))))
 
 pub small-enough-spec : {M : Type 1} → statement M

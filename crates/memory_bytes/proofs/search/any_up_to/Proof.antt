@@ -1,34 +1,17 @@
--- `memory_bytes::search::any_up_to` meets its contract. The invariant: the answer is hit, or whether one of the numbers from j on is not above the key.
-use Rattle.basics.proofs.Searches.{any-turn, any-end}
+-- `memory_bytes::search::any_up_to` meets its contract. The invariant (`AnyFrom`): the answer is hit, or whether one of the numbers from j on is not above the key.
+use Rattle.memory_bytes.proofs.Scans.{AnyFrom, any-starts, any-turns, any-ends}
 use Rattle.memory_bytes.specs.Columns.{upTo}
-use Rattle.basics.specs.Lists.{tab}
 use Rattle.memory_bytes.specs.Bytes.{column4}
-use Rattle.basics.specs.Basics.{any}
-use Rattle.basics.proofs.Kit.{_≡_, refl, _||_, _≤_, _-_, arith}
+use Rattle.basics.proofs.Kit.{_-_, arith}
 use Rattle.memory_bytes.proofs.search.any_up_to.Statement.{statement}
 use Rattle.memory_bytes.proofs.search.any_up_to.Tie as tie
 
 abbrev Inv-loop : tie.InvT-loop
-Inv-loop m at key hit₀ j₀ hit j = (j ≤ 16) × (any (upTo key) (tab (column4 m at) 0 16) ≡ (hit || any (upTo key) (tab (column4 m at) j (16 - j))))
+Inv-loop m at key hit₀ j₀ hit j = AnyFrom (upTo key) (column4 m at) 0 16 hit j
 
 abbrev μ-loop : tie.MeasureT-loop
 μ-loop m at key hit₀ j₀ hit j = 16 - j
 
-loop-holds : tie.Need-loop-holds Inv-loop μ-loop
-loop-holds c = (omega arith, refl)
-
-loop-again : tie.Need-loop-again Inv-loop μ-loop
-loop-again c = let l = c .before .before in
-    let a = l .before .before .args in (
-      omega arith,
-      any-turn (upTo (a .key)) (column4 (a .m .now) (a .at)) (l .loop .j) 16 (omega arith) (l .loop .hit) (l .loop .inv .1) (c .get4 .ensures),
-    )
-
-returns : tie.Need-returns Inv-loop μ-loop
-returns c = let l = c .before in
-    let a = l .before .before .args in
-    any-end (upTo (a .key)) (column4 (a .m .now) (a .at)) (l .loop .j) 16 (omega arith) (l .loop .hit) (l .loop .inv .1)
-
 pub any-up-to-spec : {M : Type 1} → statement M
-any-up-to-spec = tie.close (tie.spec Inv-loop μ-loop loop-holds (λ c. omega arith) (λ c. omega arith) (λ c κs. omega arith) (λ c. omega arith) (λ c. omega arith) loop-again
-    returns)
+any-up-to-spec = tie.close (tie.spec Inv-loop μ-loop (λ c. any-starts (omega arith)) (λ c. omega arith) (λ c. omega arith) (λ c κs. omega arith) (λ c. omega arith) (λ c. omega arith)
+    (λ c. any-turns (c .before .before .loop .inv) (omega arith) (c .get4 .ensures)) (λ c. any-ends (c .before .loop .inv) (omega arith)))

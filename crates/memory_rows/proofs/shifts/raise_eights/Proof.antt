@@ -1,68 +1,41 @@
--- `memory_rows::shifts::raise_eights` meets its contract.
+-- `memory_rows::shifts::raise_eights` meets its contract. The invariant (`Raising`): the blocks from row k on have moved, the others stand as they were.
 use Rattle.basics.proofs.Kit.{_-_, arith}
 use Rattle.memory_rows.proofs.Eights.{taken-fits, fit-then, Raising, raising-start, raising-turn, raising-end}
 use Rattle.memory_rows.proofs.shifts.raise_eights.Statement.{statement}
 use Rattle.memory_rows.proofs.shifts.raise_eights.Tie as tie
 
-abbrev Inv-loop : tie.InvT-loop
-Inv-loop m₀ c i n first last k₀ m k = Raising m₀ m c i n k₀ k
+abbrev Inv : tie.InvT-loop
+Inv m₀ c i n first last k₀ m k = Raising m₀ m c i n k₀ k
 
-abbrev μ-loop : tie.MeasureT-loop
-μ-loop m₀ c i n first last k₀ m k = k
+abbrev μ : tie.MeasureT-loop
+μ m₀ c i n first last k₀ m k = k
 
-take-eight-requires : tie.Need-take-eight-requires Inv-loop μ-loop
-take-eight-requires c κs = let p = c .before .before .pre in (p .0, omega arith)
-
-take-eight-requires-2 : tie.Need-take-eight-requires-2 Inv-loop μ-loop
-take-eight-requires-2 c κs = let p = c .before .before .before .before .pre in (p .0, omega arith)
-
-loop-holds : tie.Need-loop-holds Inv-loop μ-loop
-loop-holds c = let s = c .before .before .before .before .before in raising-start (s .args .m .now) (s .args .c) (s .args .i) (s .args .n) _ (omega arith) (omega arith) (omega arith)
-
-add-loop : tie.Need-add-loop Inv-loop μ-loop
-add-loop c = let p = c .before .before .before .before .before .before .pre in omega (arith, p .0 .most)
-
-copy-eight-requires : tie.Need-copy-eight-requires Inv-loop μ-loop
-copy-eight-requires c κs = let p = c .before .before .before .before .before .before .before .before .pre in
-    let l = c .before .before .loop in
-    let q = l .inv in
+copy-eight-requires : tie.Need-copy-eight-requires Inv μ
+copy-eight-requires c κs = let q = c .before .before .loop .inv in let p = c .before .before .before .before .before .before .before .before .pre in
     (fit-then (p .0) (q .only), (omega (arith, q .high, q .most), omega (arith, q .high, q .most)))
 
-loop-again : tie.Need-loop-again Inv-loop μ-loop
-loop-again c =
-    let p2 = c .before .before in
-    let p4 = p2 .before .before in
-    let p5 = p4 .before in
-    let s = p5 .before .before .before .before .before .before in
-    raising-turn (p5 .loop .inv) (s .pre .1 .1) (omega (arith, p4 .loop-test .taken)) (p2 .copy-eight .ensures)
+loop-again : tie.Need-loop-again Inv μ
+loop-again c = let p2 = c .before .before in let p4 = p2 .before .before in let p5 = p4 .before in
+    raising-turn (p5 .loop .inv) (p5 .before .before .before .before .before .before .pre .1 .1) (omega (arith, p4 .loop-test .taken)) (p2 .copy-eight .ensures)
 
-give-eight-requires : tie.Need-give-eight-requires Inv-loop μ-loop
-give-eight-requires c κs = let s = c .before .before .before .before .before .before .before .before in
-    let t = c .before .before .before .before .before .take-eight in
-    let l = c .before .before .loop in
-    (fit-then (s .pre .0) (l .inv .only), (omega arith, taken-fits (s .args .m .now) (s .args .c) (s .args .i) (t .ensures)))
+give-eight-requires : tie.Need-give-eight-requires Inv μ
+give-eight-requires c κs = let p2 = c .before .before in let p5 = p2 .before .before .before in let s = p5 .before .before .before in
+    (fit-then (s .pre .0) (p2 .loop .inv .only), (omega arith, taken-fits (s .args .m .now) (s .args .c) (s .args .i) (p5 .take-eight .ensures)))
 
-give-eight-requires-2 : tie.Need-give-eight-requires-2 Inv-loop μ-loop
-give-eight-requires-2 c κs = let s = c .before .before .before .before .before .before .before .before .before .before .before .before in
-    let a = s .args in
-    let g = c .before .before .before .give-eight .ensures (a .m .now) (a .i) (c .before .before .before .before .before .before .before .before .before .take-eight .ensures) in
-    let f = fit-then (fit-then (s .pre .0) (c .before .before .before .before .before .before .loop .inv .only)) (g .only) in
-    (f, (omega arith, taken-fits (a .m .now) (a .c) (a .n - 8) (c .before .before .before .before .before .before .before .take-eight2 .ensures)))
+give-eight-requires-2 : tie.Need-give-eight-requires-2 Inv μ
+give-eight-requires-2 c κs = let p3 = c .before .before .before in let p6 = p3 .before .before .before in let p9 = p6 .before .before .before in
+    let s = p9 .before .before .before in let a = s .args in
+    let g = p3 .give-eight .ensures (a .m .now) (a .i) (p9 .take-eight .ensures) in
+    (fit-then (fit-then (s .pre .0) (p6 .loop .inv .only)) (g .only), (omega arith, taken-fits (a .m .now) (a .c) (a .n - 8) (p6 .before .take-eight2 .ensures)))
 
-returns : tie.Need-returns Inv-loop μ-loop
-returns c =
-    let p2 = c .before .before in
-    let p6 = p2 .before .before .before .before in
-    let p8 = p6 .before .before in
-    let p9 = p8 .before in
-    let p10 = p9 .before in
-    let p12 = p10 .before .before in
-    let s = p12 .before .before .before in
-    let a = s .args in
+returns : tie.Need-returns Inv μ
+returns c = let p2 = c .before .before in let p6 = p2 .before .before .before .before in let p8 = p6 .before .before in let p9 = p8 .before in
+    let p12 = p9 .before .before .before in let s = p12 .before .before .before in let a = s .args in
     raising-end (p9 .loop .inv) (s .pre .1 .0) (s .pre .1 .1) (omega (arith, p8 .loop-test .left))
-    (p6 .give-eight .ensures (a .m .now) (a .i) (p12 .take-eight .ensures)) (p2 .give-eight2 .ensures (a .m .now) (a .n - 8) (p10 .take-eight2 .ensures))
+    (p6 .give-eight .ensures (a .m .now) (a .i) (p12 .take-eight .ensures)) (p2 .give-eight2 .ensures (a .m .now) (a .n - 8) (p9 .before .take-eight2 .ensures))
 
 pub raise-eights-spec : {M : Type 1} → statement M
-raise-eights-spec = tie.close (tie.spec Inv-loop μ-loop take-eight-requires (λ c. omega arith) take-eight-requires-2 (λ c. omega arith) (λ c. omega arith) (λ c. omega arith)
-    loop-holds add-loop (λ c. omega arith) (λ c. omega arith) copy-eight-requires (λ c. omega arith) loop-again (λ c. omega arith) give-eight-requires (λ c. omega arith)
-    give-eight-requires-2 (λ c. omega arith) returns)
+raise-eights-spec = tie.close (tie.spec Inv μ (λ c κs. (c .before .before .pre .0, omega arith)) (λ c. omega arith) (λ c κs. (c .before .before .before .before .pre .0, omega arith))
+    (λ c. omega arith) (λ c. omega arith) (λ c. omega arith) (λ c. raising-start _ _ _ _ _ (omega arith) (omega arith) (omega arith))
+    (λ c. omega (arith, c .before .before .before .before .before .before .pre .0 .most)) (λ c. omega arith) (λ c. omega arith) copy-eight-requires (λ c. omega arith)
+    loop-again (λ c. omega arith) give-eight-requires (λ c. omega arith) give-eight-requires-2 (λ c. omega arith) returns)

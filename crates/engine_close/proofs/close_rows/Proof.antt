@@ -1,17 +1,17 @@
--- `engine_close::commit_rows` meets its contract. The invariant: the commit of the present pages from row i on gives what that of the pages at entry gives.
+-- `engine_close::close_rows` meets its contract. The invariant: what is left to do from row i on gives, on the present pages, what all of it gives on those at entry.
 use Rattle.engine_pages.proofs.Places.{holds-now}
-use Rattle.engine_close.specs.Close.{taggedOf, closedFrom}
-use Rattle.engine_close.proofs.Next.{Doing, doing-starts, doing-next, commit-done}
+use Rattle.engine_close.specs.Close.{taggedOf, leftFrom}
+use Rattle.engine_close.proofs.Next.{Doing, doing-starts, doing-next, all-done}
 use Rattle.basics.proofs.Kit.{_-_, length, arith}
 use Rattle.memory_layout.proofs.Laws.{holds-room}
-use Rattle.engine_close.proofs.commit_rows.Statement.{statement}
-use Rattle.engine_close.proofs.commit_rows.Tie as tie
+use Rattle.engine_close.proofs.close_rows.Statement.{statement}
+use Rattle.engine_close.proofs.close_rows.Tie as tie
 
 abbrev Inv-loop : tie.InvT-loop
-Inv-loop m₀ transaction i₀ m i = Doing (closedFrom transaction) m₀ m i
+Inv-loop m₀ transaction keep i₀ m i = Doing (leftFrom keep transaction) m₀ m i
 
 abbrev μ-loop : tie.MeasureT-loop
-μ-loop m₀ transaction i₀ m i = length (taggedOf m) - i
+μ-loop m₀ transaction keep i₀ m i = length (taggedOf m) - i
 
 loop-holds : tie.Need-loop-holds Inv-loop μ-loop
 loop-holds c = doing-starts (c .before .pre)
@@ -36,7 +36,7 @@ same-length c = c .before .before .before .loop .inv .now .size
 
 returns : tie.Need-returns Inv-loop μ-loop
 returns c = let p3 = c .before .before .before in let p5 = p3 .before .before in
-    holds-now (commit-done (p5 .args .transaction) (p3 .loop .inv) (omega (arith, c .if1 .left, c .before .row-count .ensures)))
+    holds-now (all-done (p5 .args .keep) (p5 .args .transaction) (p3 .loop .inv) (omega (arith, c .if1 .left, c .before .row-count .ensures)))
 
-pub commit-rows-spec : {M : Type 1} → statement M
-commit-rows-spec = tie.close (tie.spec Inv-loop μ-loop loop-holds row-count-requires close-next-requires loop-less loop-again same-length returns)
+pub close-rows-spec : {M : Type 1} → statement M
+close-rows-spec = tie.close (tie.spec Inv-loop μ-loop loop-holds row-count-requires close-next-requires loop-less loop-again same-length returns)
