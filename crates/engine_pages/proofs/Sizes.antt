@@ -41,7 +41,7 @@ tab-part : {A : Type 0} (xs : List A) (d : A) (i n : ℕ) → i + n ≤ length x
 tab-part xs d i zero h = refl
 tab-part xs d i (suc n) h = ap (λ z. getD xs i d ∷ z) (tab-part xs d (suc i) n (omega arith)) ∙ sym (ap (take (suc n)) (drop-cons xs i d (omega arith)))
 
-pub rows-by : {m : List ℕ} {s e : ℕ} → Span m s e → tab (rowIn (flatOf m)) s (e - s) ≡ rowsFrom m s e
+pub rows-by : {m : List ℕ} {s e : ℕ} → RowRange m s e → tab (rowIn (flatOf m)) s (e - s) ≡ rowsFrom m s e
 rows-by {m} {s} {e} g = tab-part (flatOf m .rows) noRow s (e - s) (omega (arith, g .order, g .inside))
 
 module _ (m : List ℕ) (i e : ℕ) where
