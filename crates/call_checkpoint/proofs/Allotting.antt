@@ -6,10 +6,10 @@ use Rattle.model.specs.Calls.{accepted}
 use Rattle.model.proofs.Laws.{one-less}
 use Rattle.memory_layout.specs.Flat.{flatOf}
 use Rattle.memory_layout.specs.Store.{storeOf, HoldsNow}
-use Rattle.memory_layout.proofs.Laws.{in-sound}
+use Rattle.memory_layout.proofs.Laws.{taken-is, in-sound}
 use Rattle.engine_allocator.specs.Blocks.{allocatorIn}
 use Rattle.call_checkpoint.specs.Keeping.{afterStore, RunningIn, Steps}
-use Rattle.call_checkpoint.proofs.Running.{taken-is, left-runs, left-is}
+use Rattle.call_checkpoint.proofs.Running.{left-runs, left-is}
 use Rattle.call_checkpoint.proofs.Stepping.{step-at, answer-of}
 use Rattle.model.specs.State as model
 

@@ -1,21 +1,21 @@
 -- Begin: the list of all pages, the store that it leaves, and its tests.
-use Rattle.basics.proofs.Kit.{_≡_, refl, sym, ap, _∙_, true, false, some, List, [], _∷_, _++_, map, ℕ, _+_, _≤_, _<_, add-one, eqb, ltb, length, take, getD, length-map, take-all, take-suc}
+use Rattle.basics.proofs.Kit.{_≡_, refl, sym, ap, _∙_, true, false, some, List, [], _∷_, _++_, map, ℕ, _+_, _≤_, _<_, add-one, eqb, length, take, getD, length-map, take-all, take-suc}
 use Rattle.basics.proofs.Kit.{length-take-le, lt-ltb, le-ltb, eq-eqb, ne-eqb, arith}
 use Rattle.basics.specs.Basics.{if_then_else_, all}
 use Rattle.basics.proofs.Lists.{map-append}
 use Rattle.model.specs.State.{Held, Page, Checkpoint, running, Store}
 use Rattle.model.specs.Rules.{freeze}
-use Rattle.model.specs.Transactions.{_when_, gives, unless, changed}
+use Rattle.model.specs.Transactions.{gives, unless, changed}
 use Rattle.model.specs.Checkpoint.{withProgress, isRunning, freeCount, blocksNeeded, begun, beginCall}
 use Rattle.memory_layout.specs.Flat.{Flat, flatOf, noEntry, entryIn, Room, Replaces, Becomes, withHead, withNamed, withDirectories}
 use Rattle.memory_layout.specs.Store.{pageOf, nest, pagesIn, hasRows, holdsStore, storeOf, HoldsNow}
 use Rattle.memory_layout.specs.declared.Entry.{Entry}
 use Rattle.memory_layout.specs.declared.Head.{Head}
-use Rattle.memory_layout.proofs.Laws.{holds-room, holds-counted, held-again, becomes-then, entries-length}
+use Rattle.memory_layout.proofs.Laws.{level-is, pages-is, holds-counted, held-again, becomes-then, entries-length}
 use Rattle.memory_pages.proofs.Ranges.{entry-block}
 use Rattle.engine_pages.specs.Pages.{withPages, pagesOf}
 use Rattle.engine_allocator.proofs.Tallies.{pages-few}
-use Rattle.call_checkpoint.proofs.Running.{level-is, pages-is, runs-is}
+use Rattle.call_checkpoint.proofs.Running.{runs-is}
 use Rattle.model.specs.State as model
 
 -- ---- the list of all pages

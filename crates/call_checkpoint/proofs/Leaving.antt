@@ -15,12 +15,12 @@ use Rattle.memory_layout.specs.Views.{namedCount, directoryCount, namedBlock, d
 use Rattle.memory_layout.specs.Flat.{Flat, flatOf, capacityOf, namedOf, directoriesOf, usedAnd, Room, Becomes, withHead, withNamed, withDirectories, withUsed}
 use Rattle.memory_layout.specs.Store.{pagesIn, checkpointOf, storeOf, HoldsNow}
 use Rattle.memory_layout.specs.declared.Head.{Head}
-use Rattle.memory_layout.proofs.Laws.{named-length, directories-length, holds-counted, becomes-store, becomes-then}
+use Rattle.memory_layout.proofs.Laws.{pages-is, named-length, directories-length, holds-counted, becomes-store, becomes-then}
 use Rattle.engine_pages.specs.Pages.{withPages, pagesOf}
 use Rattle.engine_pages.specs.Pending.{FirstFrozen}
 use Rattle.call_checkpoint.specs.Counting.{firstZero, NamedBefore, isNamed, fourNamed, namedIn}
 use Rattle.call_checkpoint.specs.Keeping.{afterStore, RunningIn, taking, Marks}
-use Rattle.call_checkpoint.proofs.Running.{pages-is, running-is}
+use Rattle.call_checkpoint.proofs.Running.{running-is}
 use Rattle.call_checkpoint.proofs.Beginning.{held-still}
 use Rattle.basics.proofs.Searches.{or-none}
 
@@ -273,7 +273,8 @@ abbrev landedHead : Head → Head
 landedHead h =
     record { capacity = h .capacity; blocks = h .blocks; level = h .level + 1; next = h .next; running = false; begun = h .begun; taken = h .taken }
 
-store-is-header : (f : Flat) (u : ℕ → Bool) → storeOf (withHead (withUsed f u) (landedHead (f .head))) ≡ withProgress (storeOf f) (storeOf f .level + 1) (storeOf f .pages) u (storeOf f .taken) idle
+store-is-header : (f : Flat) (u : ℕ → Bool) → storeOf (withHead (withUsed f u) (landedHead (f .head)))
+    ≡ withProgress (storeOf f) (storeOf f .level + 1) (storeOf f .pages) u (storeOf f .taken) idle
 unfolding withProgress storeOf checkpointOf if_then_else_
 store-is-header f u = refl
 

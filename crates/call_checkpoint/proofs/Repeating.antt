@@ -8,13 +8,13 @@ use Rattle.model.specs.Recover.{imageAfter}
 use Rattle.model.proofs.Laws.{step-size}
 use Rattle.memory_layout.specs.Flat.{flatOf}
 use Rattle.memory_layout.specs.Store.{holdsStore, storeOf, HoldsNow}
-use Rattle.memory_layout.proofs.Laws.{Sound, in-some, in-sound}
+use Rattle.memory_layout.proofs.Laws.{Sound, blocks-is, in-some, in-sound}
 use Rattle.call_contracts.specs.Shape.{MemoryAfter, StoredBy, Stores, StoresAt}
 use Rattle.call_contracts.specs.declared.Answer.{Answer}
 use Rattle.call_contracts.specs.declared.Answer.the-variants.{Count}
 use Rattle.call_contracts.proofs.Answering.{stores-count}
 use Rattle.call_checkpoint.specs.Keeping.{Ready}
-use Rattle.call_checkpoint.proofs.Running.{blocks-is, left-runs}
+use Rattle.call_checkpoint.proofs.Running.{left-runs}
 use Rattle.call_checkpoint.proofs.Allotting.{lowers}
 use Rattle.call_checkpoint.proofs.Stepping.{step-at, answer-of}
 use Rattle.model.specs.State as model

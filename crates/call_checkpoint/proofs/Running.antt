@@ -1,5 +1,5 @@
 -- Whether a checkpoint runs, by the flat lists of the memory, and how many stores are left.
-use Rattle.basics.proofs.Kit.{_≡_, refl, sym, ap, _∙_, ⊎-elim, true, false, List, ℕ, _+_, _≤_, _<_, le-leb, lt-leb, arith}
+use Rattle.basics.proofs.Kit.{_≡_, refl, sym, ap, _∙_, ⊎-elim, true, false, List, _+_, _≤_, _<_, le-leb, lt-leb, arith}
 use Rattle.basics.specs.Basics.{if_then_else_}
 use Rattle.basics.proofs.Facts.{by, lie}
 use Rattle.basics.proofs.Tabs.{lt-or-ge}
@@ -7,6 +7,7 @@ use Rattle.model.specs.State.{Page, Checkpoint, idle, running}
 use Rattle.model.specs.Checkpoint.{isRunning, blocksLeft, leftOf, left}
 use Rattle.memory_layout.specs.Flat.{Flat}
 use Rattle.memory_layout.specs.Store.{pagesIn, checkpointOf, storeOf}
+use Rattle.memory_layout.proofs.Laws.{pages-is}
 
 idle-none : (c : Checkpoint) (ps : List Page) → isRunning c ≡ false → leftOf c ps ≡ 0
 unfolding leftOf isRunning
@@ -14,22 +15,6 @@ idle-none idle ps e = refl
 idle-none (running n es ds) ps e = lie (sym e)
 
 module _ (f : Flat) where
-  pub blocks-is : storeOf f .blocks ≡ f .head .blocks
-  unfolding storeOf
-  blocks-is = refl
-
-  pub level-is : storeOf f .level ≡ f .head .level
-  unfolding storeOf
-  level-is = refl
-
-  pub taken-is : storeOf f .taken ≡ f .head .taken
-  unfolding storeOf
-  taken-is = refl
-
-  pub pages-is : storeOf f .pages ≡ pagesIn f
-  unfolding storeOf
-  pages-is = refl
-
   pub not-on : f .head .running ≡ false → false ≡ isRunning (storeOf f .checkpoint)
   unfolding storeOf checkpointOf isRunning if_then_else_
   not-on e = sym (rw e refl)
@@ -63,5 +48,5 @@ module _ (f : Flat) where
   pub left-is : isRunning (storeOf f .checkpoint) ≡ true → blocksLeft (f .named) (f .directories) (pagesIn f) + 1 ≡ left (storeOf f)
   unfolding left leftOf
   left-is h =
-      ap (leftOf (running (f .head .begun) (f .named) (f .directories))) (sym pages-is)
+      ap (leftOf (running (f .head .begun) (f .named) (f .directories))) (sym (pages-is f))
       ∙ ap (λ (c : Checkpoint). leftOf c (storeOf f .pages)) (sym (running-is h .0))

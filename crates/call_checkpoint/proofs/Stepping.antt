@@ -1,5 +1,5 @@
 -- A step: which store it makes, its tests, and what it answers.
-use Rattle.basics.proofs.Kit.{_≡_, refl, sym, ap, _∙_, subst, Bool, true, false, not, some, none, Option, List, [], _∷_, _++_, ℕ, suc, _+_, _*_, _≤_, _<_, zero, _-_, add-one, eqb, ltb}
+use Rattle.basics.proofs.Kit.{_≡_, refl, sym, ap, _∙_, subst, Bool, true, false, some, none, Option, List, [], _∷_, _++_, ℕ, suc, _+_, _*_, _≤_, _<_, zero, _-_, add-one, eqb, ltb}
 use Rattle.basics.proofs.Kit.{length, take, drop, drop-drop, drop-of-length-le, lt-ltb, le-ltb, eqb-true, eq-eqb, ne-eqb, eqb-false, arith}
 use Rattle.basics.specs.Basics.{if_then_else_, howMany, first}
 use Rattle.basics.proofs.Facts.{by, lie}
@@ -8,13 +8,14 @@ use Rattle.image.specs.Stages.{directoriesFor}
 use Rattle.model.specs.State.{Held, Page, Checkpoint, idle, running, Store, Outcome}
 use Rattle.model.specs.Rules.{isFrozen, shown}
 use Rattle.model.specs.Transactions.{gives, unless}
-use Rattle.model.specs.Checkpoint.{allocate, isRunning, left, made, storable, pageStored, storePage, directoryStored, storeDirectory, headerFor, headerStored, storeHeader, stepOf, stepAt, badImage, stepCall}
+use Rattle.model.specs.Checkpoint.{allocate, isRunning, left, made, storable, pageStored, storePage, directoryStored, storeDirectory, headerFor, headerStored, storeHeader}
+use Rattle.model.specs.Checkpoint.{stepOf, stepAt, badImage, stepCall}
 use Rattle.model.specs.Recover.{putBlock, imageAfter}
 use Rattle.basics.specs.Lists.{firstIndex}
-use Rattle.memory_layout.specs.Flat.{Flat, flatOf}
-use Rattle.memory_layout.specs.Store.{pageOf, nest, pagesIn, holdsStore, storeOf, storeIn, HoldsNow}
+use Rattle.memory_layout.specs.Flat.{flatOf}
+use Rattle.memory_layout.specs.Store.{pageOf, nest, holdsStore, storeOf, storeIn, HoldsNow}
 use Rattle.memory_layout.specs.declared.Entry.{Entry}
-use Rattle.memory_layout.proofs.Laws.{in-none, in-some, in-sound}
+use Rattle.memory_layout.proofs.Laws.{blocks-is, level-is, pages-is, in-none, in-some, in-sound}
 use Rattle.memory_layout.proofs.Exchange.{pages-count}
 use Rattle.memory_pages.specs.Pages.{frozenEntry}
 use Rattle.engine_pages.specs.Pages.{pagesOf, pageAt, entryOf, firstRow, rowsFrom}
@@ -24,9 +25,9 @@ use Rattle.engine_pages.proofs.Places.{from-page, page-table, tuples-are}
 use Rattle.call_contracts.specs.Shape.{Stores}
 use Rattle.call_contracts.specs.declared.Answer.the-variants.{Count, Refused}
 use Rattle.call_contracts.proofs.Answering.{stores-4, stores-refused, stores-count}
-use Rattle.call_checkpoint.specs.Keeping.{afterStore, RunningIn, Ready, NoneFrozen, Effect, Steps, stepRefusal}
+use Rattle.call_checkpoint.specs.Keeping.{afterStore, RunningIn, Ready, NoneFrozen, Effect, Steps, refusalOf, stepRefusal}
 use Rattle.engine_allocator.proofs.Tallies.{first-hit, first-past, frozen-many}
-use Rattle.call_checkpoint.proofs.Running.{blocks-is, level-is, pages-is, running-is}
+use Rattle.call_checkpoint.proofs.Running.{running-is}
 use Rattle.model.specs.State as model
 
 -- ---- the first frozen page
@@ -184,30 +185,56 @@ module _ {img m img' m' part : List ℕ} (r : RunningIn m) where
 
 -- ---- the tests
 
+idle-step : (c : Checkpoint) (s : Store) → isRunning c ≡ false → stepAt c s ≡ gives (model.refused 18) s
+unfolding stepAt isRunning
+idle-step idle s e = refl
+idle-step (running n es ds) s e = lie (sym e)
+
+module _ (len : ℕ) (s : Store) where
+  pub step-5 : (len ≡ 512 * s .blocks → ⊥) → stepCall len s ≡ gives (model.refused 5) s
+  unfolding stepCall badImage unless if_then_else_
+  step-5 h = rw (ne-eqb len (512 * s .blocks) h)
+
+  module _ (e : len ≡ 512 * s .blocks) where
+    pub step-at : stepCall len s ≡ stepAt (s .checkpoint) s
+    unfolding stepCall badImage unless if_then_else_
+    step-at = rw (eq-eqb len (512 * s .blocks) e)
+
+    pub step-18 : isRunning (s .checkpoint) ≡ false → stepCall len s ≡ gives (model.refused 18) s
+    step-18 h = step-at ∙ idle-step (s .checkpoint) s h
+
+answer-at : (o : Option Page) (n : ℕ) (es ds : List ℕ) (s : Store) → stepOf o n es ds s .answer ≡ model.count (left (stepOf o n es ds s .store))
+unfolding stepOf storePage storeDirectory storeHeader made if_then_else_
+answer-at (some p) n es ds s = refl
+answer-at none n es ds s = by (ltb (length ds) (directoriesFor (length es))) (λ h. rw h refl) (λ h. rw h refl)
+
+pub answer-of : (c : Checkpoint) (s : Store) → isRunning c ≡ true → stepAt c s .answer ≡ model.count (left (stepAt c s .store))
+unfolding stepAt isRunning
+answer-of idle s e = lie e
+answer-of (running n es ds) s e = answer-at (first isFrozen (s .pages)) n es ds s
+
 module _ (len : ℕ) (m : List ℕ) where
   pub refusal-4 : holdsStore m ≡ false → 4 ≡ stepRefusal len (storeIn m)
   unfolding stepRefusal
   refusal-4 h = sym (ap (stepRefusal len) (in-none m h))
 
   module _ (held : holdsStore m ≡ true) where
-    refusal-is : stepRefusal len (storeIn m) ≡ (if not (eqb len (512 * flatOf m .head .blocks)) then 5 else if isRunning (storeOf (flatOf m) .checkpoint) then 0 else 18)
+    refused-as : {o : Outcome} → stepCall len (storeOf (flatOf m)) ≡ o → refusalOf (o .answer) ≡ stepRefusal len (storeIn m)
     unfolding stepRefusal
-    refusal-is =
-        ap (stepRefusal len) (in-some m held)
-        ∙ ap (λ (b : ℕ). if not (eqb len (512 * b)) then 5 else if isRunning (storeOf (flatOf m) .checkpoint) then 0 else 18) (blocks-is (flatOf m))
+    refused-as q = sym (ap (stepRefusal len) (in-some m held) ∙ ap (λ (o : Outcome). refusalOf (o .answer)) q)
 
     pub refusal-5 : (len ≡ 512 * flatOf m .head .blocks → ⊥) → 5 ≡ stepRefusal len (storeIn m)
-    unfolding if_then_else_
-    refusal-5 h = sym (refusal-is ∙ rw (ne-eqb len (512 * flatOf m .head .blocks) h))
+    unfolding refusalOf gives storeOf
+    refusal-5 h = refused-as (step-5 len (storeOf (flatOf m)) h)
 
     module _ (e : len ≡ 512 * flatOf m .head .blocks) where
       pub refusal-18 : isRunning (storeOf (flatOf m) .checkpoint) ≡ false → 18 ≡ stepRefusal len (storeIn m)
-      unfolding if_then_else_
-      refusal-18 h = sym (refusal-is ∙ rw (eq-eqb len (512 * flatOf m .head .blocks) e, h))
+      unfolding refusalOf gives storeOf
+      refusal-18 h = refused-as (step-18 len (storeOf (flatOf m)) e h)
 
       pub refusal-none : isRunning (storeOf (flatOf m) .checkpoint) ≡ true → 0 ≡ stepRefusal len (storeIn m)
-      unfolding if_then_else_
-      refusal-none h = sym (refusal-is ∙ rw (eq-eqb len (512 * flatOf m .head .blocks) e, h))
+      unfolding refusalOf storeOf
+      refusal-none h = let s : Store = storeOf (flatOf m) in sym (ap refusalOf (answer-of (s .checkpoint) s h)) ∙ refused-as (step-at len s e)
 
   -- a call with these tests: each of them refuses
   module _ (v : ℕ) (ev : v ≡ stepRefusal len (storeIn m)) where
@@ -247,36 +274,6 @@ module _ (len : ℕ) (m : List ℕ) where
 
 pub passed-ready : (img m : List ℕ) (v : ℕ) → v ≡ stepRefusal (length img) (storeIn m) → v ≡ 0 → Ready img m
 passed-ready img m v ev z = record { runs = passed-runs (length img) m v ev z; long = passed-long (length img) m v ev z }
-
-idle-step : (c : Checkpoint) (s : Store) → isRunning c ≡ false → stepAt c s ≡ gives (model.refused 18) s
-unfolding stepAt isRunning
-idle-step idle s e = refl
-idle-step (running n es ds) s e = lie (sym e)
-
-module _ (len : ℕ) (s : Store) where
-  pub step-5 : (len ≡ 512 * s .blocks → ⊥) → stepCall len s ≡ gives (model.refused 5) s
-  unfolding stepCall badImage unless if_then_else_
-  step-5 h = rw (ne-eqb len (512 * s .blocks) h)
-
-  module _ (e : len ≡ 512 * s .blocks) where
-    pub step-at : stepCall len s ≡ stepAt (s .checkpoint) s
-    unfolding stepCall badImage unless if_then_else_
-    step-at = rw (eq-eqb len (512 * s .blocks) e)
-
-    pub step-18 : isRunning (s .checkpoint) ≡ false → stepCall len s ≡ gives (model.refused 18) s
-    step-18 h = step-at ∙ idle-step (s .checkpoint) s h
-
--- ---- the answer
-
-answer-at : (o : Option Page) (n : ℕ) (es ds : List ℕ) (s : Store) → stepOf o n es ds s .answer ≡ model.count (left (stepOf o n es ds s .store))
-unfolding stepOf storePage storeDirectory storeHeader made if_then_else_
-answer-at (some p) n es ds s = refl
-answer-at none n es ds s = by (ltb (length ds) (directoriesFor (length es))) (λ h. rw h refl) (λ h. rw h refl)
-
-pub answer-of : (c : Checkpoint) (s : Store) → isRunning c ≡ true → stepAt c s .answer ≡ model.count (left (stepAt c s .store))
-unfolding stepAt isRunning
-answer-of idle s e = lie e
-answer-of (running n es ds) s e = answer-at (first isFrozen (s .pages)) n es ds s
 
 pub step-done : (img m img' m' : List ℕ) (k : ℕ) → Ready img m → Steps img m img' m' → k ≡ left (storeOf (flatOf m')) → Stores (stepCall (length img)) img m (Count k) img' m'
 step-done img m img' m' k r d e =

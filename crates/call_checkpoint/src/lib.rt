@@ -7,7 +7,6 @@ ghost use mathlib.Core.Bool.{true};
 ghost use mathlib.Core.List.{[], map};
 ghost use Prim.Native.Nat.{_+_, _≤_, _<_, min};
 ghost use lib.ListN.{length, getD};
-ghost use Rattle.image.specs.Stages.{directoriesFor};
 ghost use Rattle.model.specs.Checkpoint.{isRunning, begun, beginCall, fill, left, pageStored, directoryStored, headerStored, stepCall, runCall};
 ghost use Rattle.memory_layout.specs.Flat.{flatOf, Room, Becomes, withNamed};
 ghost use Rattle.memory_layout.specs.Store.{holdsStore, storeOf, storeIn, HoldsNow};
@@ -15,7 +14,7 @@ ghost use Rattle.engine_pages.specs.Pending.{FirstFrozen};
 ghost use Rattle.engine_allocator.specs.Blocks.{allocatorIn};
 ghost use Rattle.call_contracts.specs.Shape.{Answers, Stores};
 ghost use Rattle.call_checkpoint.specs.Counting.{firstZero, NamedBefore, fourNamed, namedIn};
-ghost use Rattle.call_checkpoint.specs.Keeping.{afterStore, RunningIn, Ready, BlockLeft, NoneFrozen, taking, Marks, Steps, stepRefusal};
+ghost use Rattle.call_checkpoint.specs.Keeping.{afterStore, RunningIn, Ready, Takes, BlockLeft, PageNext, DirectoryNext, HeaderNext, taking, Marks, Steps, stepRefusal};
 
 // A level, and with it a header's number, is at most this.
 const LAST_LEVEL: u32 = 4294967295;
@@ -162,7 +161,7 @@ fn fill_entry(m: &mut [u8], b: u16)
 
 // After the store of the first frozen page, p, as block b.
 fn keep_page(m: &mut [u8], p: usize, b: u32)
-    requires { ⌜ RunningIn (now m) × ((b < flatOf (now m) .head .blocks) × FirstFrozen (now m) p) ⌝ }
+    requires { ⌜ Takes (now m) b × FirstFrozen (now m) p ⌝ }
     ensures { λ _. ⌜ HoldsNow (now (m .entry)) (now (m .exit)) (afterStore (pageStored b) (flatOf (now (m .entry)))) ⌝ }
 {
     take_block(m, b);
@@ -172,7 +171,7 @@ fn keep_page(m: &mut [u8], p: usize, b: u32)
 
 // After the store of a directory block as block b.
 fn keep_directory(m: &mut [u8], b: u32)
-    requires { ⌜ RunningIn (now m) × ((b < flatOf (now m) .head .blocks) × (length (flatOf (now m) .directories) < 4)) ⌝ }
+    requires { ⌜ Takes (now m) b × (length (flatOf (now m) .directories) < 4) ⌝ }
     ensures { λ _. ⌜ HoldsNow (now (m .entry)) (now (m .exit)) (afterStore (directoryStored b) (flatOf (now (m .entry)))) ⌝ }
 {
     take_block(m, b);
@@ -224,7 +223,7 @@ fn keep_header(m: &mut [u8])
 
 // Writes the first frozen page, p, into the first free block after the one last taken; answers that block.
 fn store_page(image: &mut [u8], m: &mut [u8], p: usize, taken: u32) -> u32
-    requires { ⌜ Ready (now image) (now m) × (FirstFrozen (now m) p × (taken ≡ allocatorIn (now m) .taken)) ⌝ }
+    requires { ⌜ PageNext (now image) (now m) p × (taken ≡ allocatorIn (now m) .taken) ⌝ }
     ensures { λ b. ⌜ Steps (now (image .entry)) (now (m .entry)) (now (image .exit)) (now (m .exit)) × (b ≡ allocatorIn (now (m .exit)) .taken) ⌝ }
 {
     let h = memory_layout::get_head(m);
@@ -242,7 +241,7 @@ fn store_page(image: &mut [u8], m: &mut [u8], p: usize, taken: u32) -> u32
 
 // Writes the next part of the list of pages into the first free block after the one last taken; answers that block.
 fn store_directory(image: &mut [u8], m: &mut [u8], taken: u32) -> u32
-    requires { ⌜ Ready (now image) (now m) × (NoneFrozen (now m) × ((length (flatOf (now m) .directories) < directoriesFor (length (flatOf (now m) .named))) × (taken ≡ allocatorIn (now m) .taken))) ⌝ }
+    requires { ⌜ DirectoryNext (now image) (now m) × (taken ≡ allocatorIn (now m) .taken) ⌝ }
     ensures { λ b. ⌜ Steps (now (image .entry)) (now (m .entry)) (now (image .exit)) (now (m .exit)) × (b ≡ allocatorIn (now (m .exit)) .taken) ⌝ }
 {
     let h = memory_layout::get_head(m);
@@ -295,7 +294,7 @@ fn lend_allocator(image: &mut [u8], m: &mut [u8], p: usize, taken: u32, left: u6
 
 // The header goes into block 0, and the checkpoint ends.
 fn store_header(image: &mut [u8], m: &mut [u8])
-    requires { ⌜ Ready (now image) (now m) × (NoneFrozen (now m) × (directoriesFor (length (flatOf (now m) .named)) ≤ length (flatOf (now m) .directories))) ⌝ }
+    requires { ⌜ HeaderNext (now image) (now m) ⌝ }
     ensures { λ _. ⌜ Steps (now (image .entry)) (now (m .entry)) (now (image .exit)) (now (m .exit)) × (left (storeOf (flatOf (now (m .exit)))) ≡ 0) ⌝ }
 {
     engine_writer::write_header(&mut image[0..BLOCK_SIZE], m);

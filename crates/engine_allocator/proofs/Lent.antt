@@ -64,11 +64,14 @@ module _ {M : Type 1} (𝓤 : URA M) (H : Heap 𝓤) (A : Atoms 𝓤) (W : Given
       owned ! T.the-row (Is T.the-row) (LL.makes T.the-type T′.the-plain 𝓤 H A) h _ is $ move ! (1 ∷ 0 ∷ []) $ fjoin ! $
       fpack ! (List Val) (λ us. fsep (cellAt fullShare (T.the-row .mir) us l 0) (T.the-row .own h us)) (mach h ∷ []) $
       lft-new ! tt (λ α. move ! (1 ∷ []) $
-      use1 W (later (some (λ (δ : GName). ‵ (lentRef l α δ h) ⊛ ‵ (kept l α δ)))) (lends-ref 𝓤 H A W T.the-row (named 0) (α ∷ []) h l 0) $ await ! tt $ pick ! (λ δ. split ! $ at-once ! $
-      suffices ! (Lent h α δ) (via 𝓤 (ex 𝓤 (λ (δ′ : GName). Lent h α δ′)) (exI 𝓤 (λ (δ′ : GName). Lent h α δ′) δ) (exI 𝓤 (λ (α′ : ℕ). ex 𝓤 (λ (δ′ : GName). Lent h α′ δ′)) α)) $
+      use1 W (later (some (λ (δ : GName). ‵ (lentRef l α δ h) ⊛ ‵ (kept l α δ)))) (lends-ref 𝓤 H A W T.the-row (named 0) (α ∷ []) h l 0) $
+      await ! tt $ pick ! (λ δ. split ! $ at-once ! $
+      suffices ! (Lent h α δ) (via 𝓤 (ex 𝓤 (λ (δ′ : GName). Lent h α δ′)) (exI 𝓤 (λ (δ′ : GName). Lent h α δ′) δ)
+      (exI 𝓤 (λ (α′ : ℕ). ex 𝓤 (λ (δ′ : GName). Lent h α′ δ′)) α)) $
       move ! (2 ∷ 0 ∷ 1 ∷ []) $ done !))
 
-  pub back : (h : Allocator) (α : ℕ) (δ : GName) → ent 𝓤 (sep 𝓤 (sem 𝓤 H A (flft (α ∷ []) fullShare)) (sep 𝓤 (sem 𝓤 H A (kept l α δ)) (sem 𝓤 H A (last δ h)))) (H .⇛ (guard 𝓤 (IsMach h) (sem 𝓤 H A (holds h))))
+  pub back : (h : Allocator) (α : ℕ) (δ : GName)
+      → ent 𝓤 (sep 𝓤 (sem 𝓤 H A (flft (α ∷ []) fullShare)) (sep 𝓤 (sem 𝓤 H A (kept l α δ)) (sem 𝓤 H A (last δ h)))) (H .⇛ (guard 𝓤 (IsMach h) (sem 𝓤 H A (holds h))))
   unfolding partOf
   back h α δ =
       qed W (‵ (flft (α ∷ []) fullShare) ∷ ‵ (kept l α δ) ∷ ‵ (last δ h) ∷ []) ∵ updating ! $ lft-end ! tt $

@@ -1,5 +1,6 @@
 -- Counts and searches of blocks, turn by turn, and what they say of the store.
-use Rattle.basics.proofs.Kit.{_≡_, refl, sym, ap, _∙_, Bool, true, false, not, some, none, Option, List, [], _∷_, _++_, ℕ, suc, _+_, _≤_, _<_, zero, _-_, add-one, length, take, drop, arith}
+use Rattle.basics.proofs.Kit.{_≡_, refl, sym, ap, _∙_, Bool, true, false, not, some, none, Option, List, [], _∷_, _++_, ℕ, suc, _+_, _≤_, _<_, zero, _-_, add-one, length, take, drop}
+use Rattle.basics.proofs.Kit.{arith}
 use Rattle.basics.specs.Basics.{if_then_else_, howMany, first, from}
 use Rattle.basics.proofs.Facts.{by, never}
 use Rattle.image.specs.Stages.{directoriesFor}
@@ -7,13 +8,12 @@ use Rattle.model.specs.State.{Held, Page}
 use Rattle.model.specs.Rules.{isDirty, isFrozen}
 use Rattle.model.specs.Checkpoint.{allocate, isFree, freeCount, blocksNeeded}
 use Rattle.basics.proofs.Elements.{many-length}
-use Rattle.memory_layout.specs.Views.{headOf, countsOf}
+use Rattle.memory_layout.specs.Views.{headOf}
 use Rattle.memory_layout.specs.Flat.{Flat, flatOf, Room}
 use Rattle.memory_layout.specs.Store.{pageOf, nest, pagesIn, holdsStore, storeOf}
-use Rattle.memory_layout.specs.declared.Counts.{Counts}
 use Rattle.memory_layout.specs.declared.Entry.{Entry}
 use Rattle.memory_layout.specs.declared.Head.{Head}
-use Rattle.memory_layout.proofs.Laws.{Known, known, named-length, directories-length, entries-length, filled, holds-room}
+use Rattle.memory_layout.proofs.Laws.{Known, known, filled, holds-room}
 use Rattle.memory_layout.proofs.Nest.{counted-length}
 use Rattle.memory_layout.proofs.Exchange.{pages-count}
 use Rattle.memory_pages.specs.Pages.{frozenEntry, dirtyEntry}
@@ -83,20 +83,6 @@ pages-few m h =
 
 pub pages-most : (m : List ℕ) → holdsStore m ≡ true → length (flatOf m .entries) ≤ 1024
 pages-most m h = omega (arith, pages-few m h, holds-room m h .range .most)
-
--- the counts that were read
-module _ (m : List ℕ) {c : Counts} (e : c ≡ countsOf m) where
-  pub pages-read : c .pages ≡ length (flatOf m .entries)
-  unfolding countsOf
-  pages-read = ap (λ (x : Counts). x .pages) e ∙ sym (entries-length m)
-
-  pub named-read : c .named ≡ length (flatOf m .named)
-  unfolding countsOf
-  named-read = ap (λ (x : Counts). x .named) e ∙ sym (named-length m)
-
-  pub directories-read : c .directories ≡ length (flatOf m .directories)
-  unfolding countsOf
-  directories-read = ap (λ (x : Counts). x .directories) e ∙ sym (directories-length m)
 
 -- ---- pages by their entries
 

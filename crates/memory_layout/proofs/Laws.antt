@@ -11,7 +11,8 @@ use Rattle.basics.proofs.Tabs.{length-tab, take-tab}
 use Rattle.memory_layout.specs.Places.{signature}
 use Rattle.memory_layout.specs.Views.{headOf, countsOf, rowCount, openCount, namedCount, directoryCount, pageCount, openAt, directoryAt, rowAt, startAt, entryAt, namedBlock}
 use Rattle.memory_layout.specs.Flat.{Flat, flatOf, capacityOf, opensOf, rowsOf, entriesOf, namedOf, directoriesOf, Room, InRange, Becomes}
-use Rattle.memory_layout.specs.Store.{total, startOf, tablesRise, startsRise, holdsStore, hasRows, storeOf, storeIn}
+use Rattle.memory_layout.specs.Store.{total, startOf, pagesIn, tablesRise, startsRise, holdsStore, hasRows, storeOf, storeIn}
+use Rattle.memory_layout.specs.declared.Counts.{Counts}
 use Rattle.memory_layout.proofs.Refusal.{every-true, every-cons, every-one, all-from, from-all, range-in, in-range, endRises, startRises}
 use Rattle.basics.proofs.Searches.{all-tab, tab-all}
 
@@ -37,6 +38,20 @@ module _ (m : List ℕ) where
   pub directories-length : length (flatOf m .directories) ≡ directoryCount m
   unfolding directoriesOf
   directories-length = length-tab (directoryAt m) 0 (directoryCount m)
+
+-- the counts that were read
+module _ (m : List ℕ) {c : Counts} (e : c ≡ countsOf m) where
+  pub pages-read : c .pages ≡ length (flatOf m .entries)
+  unfolding countsOf
+  pages-read = ap (λ (x : Counts). x .pages) e ∙ sym (entries-length m)
+
+  pub named-read : c .named ≡ length (flatOf m .named)
+  unfolding countsOf
+  named-read = ap (λ (x : Counts). x .named) e ∙ sym (named-length m)
+
+  pub directories-read : c .directories ≡ length (flatOf m .directories)
+  unfolding countsOf
+  directories-read = ap (λ (x : Counts). x .directories) e ∙ sym (directories-length m)
 
 -- ---- where each page starts
 
@@ -177,6 +192,23 @@ held-again m r h =
     ∙ rw (first, rise)
 
 -- ---- the store that the flat lists mean
+
+module _ (f : Flat) where
+  pub blocks-is : storeOf f .blocks ≡ f .head .blocks
+  unfolding storeOf
+  blocks-is = refl
+
+  pub level-is : storeOf f .level ≡ f .head .level
+  unfolding storeOf
+  level-is = refl
+
+  pub taken-is : storeOf f .taken ≡ f .head .taken
+  unfolding storeOf
+  taken-is = refl
+
+  pub pages-is : storeOf f .pages ≡ pagesIn f
+  unfolding storeOf
+  pages-is = refl
 
 pub in-none : (m : List ℕ) → holdsStore m ≡ false → storeIn m ≡ none
 unfolding storeIn if_then_else_

@@ -1,7 +1,7 @@
 -- `call_checkpoint::block_named` meets its contract.
 use Rattle.basics.proofs.Kit.{ap, _∙_, ℕ, _-_, length, getD, needs, arith}
 use Rattle.memory_layout.specs.Flat.{flatOf}
-use Rattle.engine_allocator.proofs.Tallies.{named-read}
+use Rattle.memory_layout.proofs.Laws.{named-read}
 use Rattle.call_checkpoint.proofs.Leaving.{named-low, directory-low, named-count, page-block, directory-block}
 use Rattle.call_checkpoint.proofs.block_named.Statement.{statement}
 use Rattle.call_checkpoint.proofs.block_named.Tie as tie

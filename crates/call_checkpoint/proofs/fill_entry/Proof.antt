@@ -1,6 +1,6 @@
 -- `call_checkpoint::fill_entry` meets its contract.
 use Rattle.basics.proofs.Kit.{needs, arith}
-use Rattle.engine_allocator.proofs.Tallies.{named-read}
+use Rattle.memory_layout.proofs.Laws.{named-read}
 use Rattle.call_checkpoint.proofs.Leaving.{fills-none, fills-at}
 use Rattle.call_checkpoint.proofs.fill_entry.Statement.{statement}
 use Rattle.call_checkpoint.proofs.fill_entry.Tie as tie

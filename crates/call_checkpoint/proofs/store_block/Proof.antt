@@ -2,7 +2,7 @@
 -- copied, and `write_block` is called while the borrow is open; what that returned and the blocks left are written, and the borrow is closed
 -- at the record that has them. The slices are passed on at their own lifetimes, shares and ghost names: they are given up for good. All that
 -- the walk knows of `write_block` is that it meets its contract.
-use mathlib.Core.Path.{_≡_, refl, sym, ap, subst, _∙_}
+use mathlib.Core.Path.{_≡_, refl, sym, ap, subst}
 use Prim.Native.Nat.{ℕ, _-_, _<_, _≤_, _^_}
 use native.Mathlib.Omega.{arith}
 use mathlib.Core.List.{[], _∷_, List}

@@ -2,52 +2,52 @@
 use Rattle.basics.proofs.Kit.{ap, _+_, length-take, length-drop, needs, arith}
 use Rattle.model.specs.Checkpoint.{withProgress}
 use Rattle.memory_layout.specs.declared.Head.{Head}
-use Rattle.memory_layout.proofs.Laws.{holds-room}
+use Rattle.memory_layout.proofs.Laws.{directories-read, holds-room}
 use Rattle.image.specs.Stages.{directoriesFor}
 use Rattle.call_checkpoint.proofs.Allotting.{taken-now}
 use Rattle.call_checkpoint.proofs.Stepping.{back-is, directory-does}
-use Rattle.engine_allocator.proofs.Tallies.{sizes, directories-read}
+use Rattle.engine_allocator.proofs.Tallies.{sizes}
 use Rattle.call_checkpoint.proofs.Running.{running-is}
 use Rattle.call_checkpoint.proofs.store_directory.Statement.{statement}
 use Rattle.call_checkpoint.proofs.store_directory.Tie as tie
 
 get-head-requires : tie.Need-get-head-requires
-get-head-requires c κs = sizes (holds-room _ (c .before .before .before .pre .0 .runs .has-store)) .long
+get-head-requires c κs = sizes (holds-room _ (c .before .before .before .pre .0 .ready .runs .has-store)) .long
 
 get-counts-requires : tie.Need-get-counts-requires
-get-counts-requires c κs = sizes (holds-room _ (c .before .before .before .before .before .pre .0 .runs .has-store)) .long
+get-counts-requires c κs = sizes (holds-room _ (c .before .before .before .before .before .pre .0 .ready .runs .has-store)) .long
 
 allocate-requires : tie.Need-allocate-requires
-allocate-requires c κs = let p = c .before .before .before .before .before .before .before .pre in (holds-room _ (p .0 .runs .has-store), p .1 .1 .1)
+allocate-requires c κs = let p = c .before .before .before .before .before .before .before .pre in (holds-room _ (p .0 .ready .runs .has-store), p .1)
 
 add-write-directory : tie.Need-add-write-directory
 add-write-directory c =
     let g = c .before .before .before .before .before .before .before .before in
-    record { fits = omega (arith, running-is _ (g .before .before .before .before .pre .0 .runs .on) .1, ap (λ (h : Head). h .level) (g .get-head .ensures)) }
+    record { fits = omega (arith, running-is _ (g .before .before .before .before .pre .0 .ready .runs .on) .1, ap (λ (h : Head). h .level) (g .get-head .ensures)) }
 
 write-directory-requires : tie.Need-write-directory-requires
 unfolding directoriesFor
 write-directory-requires c κs =
     let k = c .before .before .before .before .before .before in
     let p = k .before .before .before .before .before .before .pre in (
-      holds-room _ (p .0 .runs .has-store),
+      holds-room _ (p .0 .ready .runs .has-store),
       (
-        omega (arith, p .1 .1 .0, directories-read _ (k .get-counts .ensures)),
-        simp (length-take, length-drop) (omega (arith, p .0 .long, c .before .before .before .before .allocate .ensures .1)),
+        omega (arith, p .0 .short, directories-read _ (k .get-counts .ensures)),
+        simp (length-take, length-drop) (omega (arith, p .0 .ready .long, c .before .before .before .before .allocate .ensures .1)),
       ),
     )
 
 cast-block : tie.Need-cast-block
 cast-block c =
     let b = c .before .before .before .before .before .before .before in
-    record { fits = omega (arith, b .allocate .ensures .1, sizes (holds-room _ (b .before .before .before .before .before .before .before .before .pre .0 .runs .has-store))) }
+    record { fits = omega (arith, b .allocate .ensures .1, sizes (holds-room _ (b .before .before .before .before .before .before .before .before .pre .0 .ready .runs .has-store))) }
 
 keep-directory-requires : tie.Need-keep-directory-requires
 unfolding directoriesFor
 keep-directory-requires c κs =
     let b = c .before .before .before .before .before .before .before .before in
     let p = b .before .before .before .before .before .before .before .before .pre in
-    (p .0 .runs, (omega (arith, b .allocate .ensures .1), omega (arith, p .1 .1 .0, sizes (holds-room _ (p .0 .runs .has-store)))))
+    (record { runs = p .0 .ready .runs; inside = omega (arith, b .allocate .ensures .1) }, omega (arith, p .0 .short, sizes (holds-room _ (p .0 .ready .runs .has-store))))
 
 returns : tie.Need-returns
 unfolding withProgress
@@ -58,7 +58,7 @@ returns c =
     let g = n .before .before in
     let st = g .before .before .before .before in
     let k = c .before .before .keep-directory .ensures in (
-      directory-does (st .pre .0 .runs) (st .pre .1 .0) _ _ _ (st .pre .1 .1 .0) (b .allocate .ensures .0) (directories-read _ (n .get-counts .ensures))
+      directory-does (st .pre .0 .ready .runs) (st .pre .0 .none-frozen) _ _ _ (st .pre .0 .short) (b .allocate .ensures .0) (directories-read _ (n .get-counts .ensures))
           (ap (λ (x : Head). x .level + 1) (g .get-head .ensures)) (w .write-directory .ensures)
           (back-is (st .args .image .now) _ (b .allocate .result)) k,
       taken-now k,

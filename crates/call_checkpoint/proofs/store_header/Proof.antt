@@ -9,12 +9,12 @@ use Rattle.call_checkpoint.proofs.store_header.Statement.{statement}
 use Rattle.call_checkpoint.proofs.store_header.Tie as tie
 
 part-write-header-end : tie.Need-part-write-header-end
-part-write-header-end c = let p = c .before .before .pre .0 in omega (arith, p .long, sizes (holds-room _ (p .runs .has-store)))
+part-write-header-end c = let p = c .before .before .pre .ready in omega (arith, p .long, sizes (holds-room _ (p .runs .has-store)))
 
 write-header-requires : tie.Need-write-header-requires
 write-header-requires c κs =
     let st = c .before .before .before .before in
-    let p = st .pre .0 in
+    let p = st .pre .ready in
     let r = holds-room _ (p .runs .has-store) in
     (r, (running-is _ (p .runs .on) .1, omega (arith, p .long, sizes r, length-take 512 (st .args .image .now))))
 
@@ -23,7 +23,7 @@ returns c =
     let w = c .before .before .before .before .before .before in
     let st = w .before .before .before .before .before in
     let k = c .before .before .keep-header .ensures in
-    (header-does (st .pre .0 .runs) (st .pre .1 .0) (st .pre .1 .1) (w .write-header .ensures) (front-is (st .args .image .now) _) k, none-left k)
+    (header-does (st .pre .ready .runs) (st .pre .none-frozen) (st .pre .complete) (w .write-header .ensures) (front-is (st .args .image .now) _) k, none-left k)
 
 pub store-header-spec : {M : Type 1} → statement M
 store-header-spec = tie.close (tie.spec (λ c. search needs) (λ c. search needs) part-write-header-end write-header-requires (λ c κs. search needs)

@@ -34,7 +34,7 @@ store-header-requires c κs =
     let n = none .before in
     let p = n .before .before .before .before .before .before .before .pre in
     let e = n .blocks-left .ensures .0 in
-    (p, (omega (arith, none .if1 .taken, e), omega (arith, none .if1 .taken, e)))
+    record { ready = p; none-frozen = omega (arith, none .if1 .taken, e); complete = omega (arith, none .if1 .taken, e) }
 
 returns : tie.Need-returns
 returns c = let d = c .before .before .before .before .store-header .ensures in (d .0, sym (d .1))

@@ -1,7 +1,8 @@
 -- `engine_allocator::directories_left` meets its contract.
 use Rattle.basics.proofs.Kit.{ap, needs, arith}
 use Rattle.image.specs.Stages.{directoriesFor}
-use Rattle.engine_allocator.proofs.Tallies.{sizes, named-read, directories-read}
+use Rattle.memory_layout.proofs.Laws.{named-read, directories-read}
+use Rattle.engine_allocator.proofs.Tallies.{sizes}
 use Rattle.engine_allocator.proofs.directories_left.Statement.{statement}
 use Rattle.engine_allocator.proofs.directories_left.Tie as tie
 
