@@ -1,21 +1,21 @@
 -- Begin: the list of all pages, the store that it leaves, and its tests.
-use Rattle.basics.proofs.Kit.{_≡_, refl, sym, ap, _∙_, true, false, some, List, [], _∷_, _++_, map, ℕ, _+_, _≤_, _<_, add-one, eqb, ltb, length, take, getD, length-map, take-all, take-suc}
+use Rattle.basics.proofs.Kit.{_≡_, refl, sym, ap, _∙_, true, false, some, List, [], _∷_, _++_, map, ℕ, _+_, _≤_, _<_, add-one, eqb, length, take, getD, length-map, take-all, take-suc}
 use Rattle.basics.proofs.Kit.{length-take-le, lt-ltb, le-ltb, eq-eqb, ne-eqb, arith}
 use Rattle.basics.specs.Basics.{if_then_else_, all}
 use Rattle.basics.proofs.Lists.{map-append}
 use Rattle.model.specs.State.{Held, Page, Checkpoint, running, Store}
 use Rattle.model.specs.Rules.{freeze}
-use Rattle.model.specs.Transactions.{_when_, gives, unless, changed}
-use Rattle.model.specs.Checkpoint.{withProgress, isRunning, freeCount, blocksNeeded, beginCall}
+use Rattle.model.specs.Transactions.{gives, unless, changed}
+use Rattle.model.specs.Checkpoint.{withProgress, isRunning, freeCount, blocksNeeded, begun, beginCall}
 use Rattle.memory_layout.specs.Flat.{Flat, flatOf, noEntry, entryIn, Room, Replaces, Becomes, withHead, withNamed, withDirectories}
 use Rattle.memory_layout.specs.Store.{pageOf, nest, pagesIn, hasRows, holdsStore, storeOf, HoldsNow}
 use Rattle.memory_layout.specs.declared.Entry.{Entry}
 use Rattle.memory_layout.specs.declared.Head.{Head}
-use Rattle.memory_layout.proofs.Laws.{holds-room, holds-counted, held-again, becomes-then, entries-length}
+use Rattle.memory_layout.proofs.Laws.{level-is, store-pages, holds-counted, held-again, becomes-then, entries-length}
 use Rattle.memory_pages.proofs.Ranges.{entry-block}
 use Rattle.engine_pages.specs.Pages.{withPages, pagesOf}
-use Rattle.call_checkpoint.specs.Keeping.{begun}
-use Rattle.call_checkpoint.proofs.Tallies.{pages-few, runs-is}
+use Rattle.engine_allocator.proofs.Tallies.{pages-few}
+use Rattle.call_checkpoint.proofs.Running.{runs-is}
 use Rattle.model.specs.State as model
 
 -- ---- the list of all pages
@@ -120,19 +120,14 @@ frozen-store : (f : Flat) → withPages (storeOf (listed f)) (map freeze (pagesI
 unfolding withPages changed withProgress storeOf
 frozen-store f = refl
 
-begun-at : (f : Flat) → withProgress (storeOf f) (storeOf f .level) (map freeze (pagesIn f)) (storeOf f .used) (storeOf f .taken)
-    (running (f .head .next) (map (λ p. p .block) (pagesIn f)) []) ≡ begun (storeOf f)
-unfolding begun storeOf
-begun-at f = refl
-
 begun-is : (f : Flat) → f .head .level < 4294967295 → withPages (storeOf (listed f)) (map freeze (pagesIn (listed f))) ≡ begun (storeOf f)
+unfolding storeOf
 begun-is f h =
     let s : Store = storeOf f in
     let ps : List Page = map freeze (pagesIn f) in
     frozen-store f
     ∙ ap (λ (c : Checkpoint). withProgress s (s .level) ps (s .used) (s .taken) c) (runs-is (listed f) refl h)
     ∙ ap (λ (es : List ℕ). withProgress s (s .level) ps (s .used) (s .taken) (running (f .head .next) es [])) (names-are (f .entries) _)
-    ∙ begun-at f
 
 module _ {m m1 m2 m3 m4 : List ℕ} (held : holdsStore m ≡ true)
     (a : Becomes m m1 (withNamed (flatOf m) []))
@@ -170,41 +165,26 @@ module _ (f : Flat) where
   abbrev S : Store
   S = storeOf f
 
-  begin-tests : beginCall S
-      ≡ unless (17 when isRunning (S .checkpoint) ∷ 19 when eqb (S .level) 4294967295 ∷ 20 when ltb (freeCount S) (blocksNeeded (S .pages)) ∷ []) S
-      (gives (model.count (blocksNeeded (S .pages) + 1)) (begun S))
-  unfolding beginCall begun
-  begin-tests = refl
-
-  level-is : S .level ≡ f .head .level
-  unfolding storeOf
-  level-is = refl
-
-  pages-are : S .pages ≡ pagesIn f
-  unfolding storeOf
-  pages-are = refl
-
   pub begin-17 : isRunning (storeOf f .checkpoint) ≡ true → beginCall (storeOf f) ≡ gives (model.refused 17) (storeOf f)
-  unfolding unless if_then_else_
-  begin-17 e = begin-tests ∙ rw e
+  unfolding beginCall unless if_then_else_
+  begin-17 e = rw e
 
   module _ (h17 : isRunning (storeOf f .checkpoint) ≡ false) where
     pub begin-19 : f .head .level ≡ 4294967295 → beginCall (storeOf f) ≡ gives (model.refused 19) (storeOf f)
-    unfolding unless if_then_else_
-    begin-19 e = begin-tests ∙ rw (h17, eq-eqb (S .level) 4294967295 (level-is ∙ e))
+    unfolding beginCall unless if_then_else_
+    begin-19 e = rw (h17, eq-eqb (S .level) 4294967295 (level-is f ∙ e))
 
     module _ (h19 : f .head .level ≡ 4294967295 → ⊥) where
       level-low : eqb (S .level) 4294967295 ≡ false
-      level-low = ne-eqb (S .level) 4294967295 (λ q. h19 (sym level-is ∙ q))
+      level-low = ne-eqb (S .level) 4294967295 (λ q. h19 (sym (level-is f) ∙ q))
 
       pub begin-20 : freeCount (storeOf f) < blocksNeeded (pagesIn f) → beginCall (storeOf f) ≡ gives (model.refused 20) (storeOf f)
-      unfolding unless if_then_else_
-      begin-20 l =
-          begin-tests ∙ rw (h17, level-low, lt-ltb (freeCount S) (blocksNeeded (S .pages)) (omega (arith, l, ap blocksNeeded pages-are)))
+      unfolding beginCall unless if_then_else_
+      begin-20 l = rw (h17, level-low, lt-ltb (freeCount S) (blocksNeeded (S .pages)) (omega (arith, l, ap blocksNeeded (store-pages f))))
 
       pub begin-done : blocksNeeded (pagesIn f) ≤ freeCount (storeOf f)
           → beginCall (storeOf f) ≡ gives (model.count (blocksNeeded (pagesIn f) + 1)) (begun (storeOf f))
-      unfolding unless if_then_else_
+      unfolding beginCall unless if_then_else_
       begin-done l =
-          begin-tests ∙ rw (h17, level-low, le-ltb (freeCount S) (blocksNeeded (S .pages)) (omega (arith, l, ap blocksNeeded pages-are)))
-          (ap (λ (ps : List Page). gives (model.count (blocksNeeded ps + 1)) (begun S)) pages-are)
+          rw (h17, level-low, le-ltb (freeCount S) (blocksNeeded (S .pages)) (omega (arith, l, ap blocksNeeded (store-pages f))))
+          (ap (λ (ps : List Page). gives (model.count (blocksNeeded ps + 1)) (begun S)) (store-pages f))

@@ -4,21 +4,23 @@ use Rattle.basics.proofs.Kit.{getD, set, length-append, drop-of-length-le, List
 use Rattle.basics.specs.Basics.{if_then_else_, any, isIn}
 use Rattle.basics.proofs.Facts.{by}
 use Rattle.basics.proofs.Iterations.{drop-turn}
-use Rattle.model.specs.State.{Page, Checkpoint, idle, running, Store}
+use Rattle.model.specs.State.{Page, idle, running, Store}
 use Rattle.model.specs.Rules.{isFrozen, thaw}
 use Rattle.model.specs.Transactions.{changed}
-use Rattle.model.specs.Checkpoint.{withProgress, isRunning, usedToo, fill}
+use Rattle.model.specs.Checkpoint.{withProgress, isRunning, usedToo, fill, pageStored, directoryStored, headerStored}
 use Rattle.basics.proofs.Elements.{any-cons, all-split, eqb-swap}
+use Rattle.basics.proofs.Tabs.{getD-tab}
 use Rattle.basics.specs.Lists.{firstIndex}
-use Rattle.memory_layout.specs.Flat.{Flat, flatOf, usedAnd, Room, Becomes, withHead, withNamed, withDirectories, withUsed}
+use Rattle.memory_layout.specs.Views.{namedCount, directoryCount, namedBlock, directoryAt}
+use Rattle.memory_layout.specs.Flat.{Flat, flatOf, capacityOf, namedOf, directoriesOf, usedAnd, Room, Becomes, withHead, withNamed, withDirectories, withUsed}
 use Rattle.memory_layout.specs.Store.{pagesIn, checkpointOf, storeOf, HoldsNow}
 use Rattle.memory_layout.specs.declared.Head.{Head}
-use Rattle.memory_layout.proofs.Laws.{holds-counted, becomes-store, becomes-then}
+use Rattle.memory_layout.proofs.Laws.{store-pages, named-length, directories-length, holds-counted, becomes-store, becomes-then}
 use Rattle.engine_pages.specs.Pages.{withPages, pagesOf}
 use Rattle.engine_pages.specs.Pending.{FirstFrozen}
 use Rattle.call_checkpoint.specs.Counting.{firstZero, NamedBefore, isNamed, fourNamed, namedIn}
-use Rattle.call_checkpoint.specs.Keeping.{entryFilled, directoryAdded, namedBy, pageKept, directoryKept, headerKept, RunningIn, taking, Marks}
-use Rattle.call_checkpoint.proofs.Tallies.{running-is}
+use Rattle.call_checkpoint.specs.Keeping.{afterStore, RunningIn, taking, Marks}
+use Rattle.call_checkpoint.proofs.Running.{running-is}
 use Rattle.call_checkpoint.proofs.Beginning.{held-still}
 use Rattle.basics.proofs.Searches.{or-none}
 
@@ -128,26 +130,17 @@ page-store : (f : Flat) (b : ℕ) (ns : List ℕ) (ps : List Page) → withPages
 unfolding withPages changed withProgress storeOf usedToo
 page-store f b ns ps = refl
 
-filled-is : (b n : ℕ) (es ds : List ℕ) → running n (fill b es) ds ≡ entryFilled b (running n es ds)
-unfolding entryFilled
-filled-is b n es ds = refl
-
-kept-is-page : (f : Flat) (b : ℕ) → withProgress (storeOf f) (storeOf f .level) (thaw b (pagesIn f)) (usedToo (storeOf f) b) b (entryFilled b (storeOf f .checkpoint)) ≡ pageKept b (storeOf f)
-unfolding pageKept storeOf
-kept-is-page f b = refl
-
 -- the flat lists before the page is thawed
 abbrev placed : ℕ → Flat → Flat
 placed b f = withNamed (taking b f) (fill b (f .named))
 
 page-kept : (f : Flat) (b : ℕ) → isRunning (storeOf f .checkpoint) ≡ true
-    → withPages (storeOf (placed b f)) (thaw b (pagesIn (placed b f))) ≡ pageKept b (storeOf f)
+    → withPages (storeOf (placed b f)) (thaw b (pagesIn (placed b f))) ≡ afterStore (pageStored b) f
 page-kept f b on =
     let s : Store = storeOf f in
     page-store f b (fill b (f .named)) (thaw b (pagesIn f))
-    ∙ ap (λ (c : Checkpoint). withProgress s (s .level) (thaw b (pagesIn f)) (usedToo s b) b c)
-    (still-runs f (placed b f) on refl refl ∙ filled-is b (f .head .begun) (f .named) (f .directories) ∙ ap (entryFilled b) (sym (running-is f on .0)))
-    ∙ kept-is-page f b
+    ∙ ap (λ (ps : List Page). withProgress s (s .level) (thaw b ps) (usedToo s b) b (storeOf (placed b f) .checkpoint)) (sym (store-pages f))
+    ∙ ap (withProgress s (s .level) (thaw b (s .pages)) (usedToo s b) b) (still-runs f (placed b f) on refl refl)
 
 module _ {m m1 m2 : List ℕ} (b : ℕ) (r : RunningIn m) (x : Becomes m m1 (taking b (flatOf m))) (y : Fills m1 m2 b) where
   page-flat : Becomes m m2 (placed b (flatOf m))
@@ -165,7 +158,7 @@ module _ {m m1 m2 : List ℕ} (b : ℕ) (r : RunningIn m) (x : Becomes m m1 (tak
         first = subst (λ (f : Flat). p ≡ firstIndex isFrozen (pagesIn f)) e (o .first);
       }
 
-  pub page-leads : {m3 : List ℕ} → HoldsNow m2 m3 (withPages (storeOf (flatOf m2)) (thaw b (pagesOf m2))) → HoldsNow m m3 (pageKept b (storeOf (flatOf m)))
+  pub page-leads : {m3 : List ℕ} → HoldsNow m2 m3 (withPages (storeOf (flatOf m2)) (thaw b (pagesOf m2))) → HoldsNow m m3 (afterStore (pageStored b) (flatOf m))
   page-leads t =
       record {
         size = t .size ∙ page-flat .size;
@@ -181,26 +174,15 @@ store-is-directory : (f : Flat) (b : ℕ) → storeOf (withDirectories (taking b
 unfolding withProgress storeOf usedToo
 store-is-directory f b = refl
 
-written-is : (b n : ℕ) (es ds : List ℕ) → running n es (ds ++ b ∷ []) ≡ directoryAdded b (running n es ds)
-unfolding directoryAdded
-written-is b n es ds = refl
-
-kept-is-directory : (s : Store) (b : ℕ) → withProgress s (s .level) (s .pages) (usedToo s b) b (directoryAdded b (s .checkpoint)) ≡ directoryKept b s
-unfolding directoryKept
-kept-is-directory s b = refl
-
 directory-kept : (f : Flat) (b : ℕ) → isRunning (storeOf f .checkpoint) ≡ true
-    → storeOf (withDirectories (taking b f) (f .directories ++ b ∷ [])) ≡ directoryKept b (storeOf f)
+    → storeOf (withDirectories (taking b f) (f .directories ++ b ∷ [])) ≡ afterStore (directoryStored b) f
 directory-kept f b on =
     let s : Store = storeOf f in
     let g : Flat = withDirectories (taking b f) (f .directories ++ b ∷ []) in
-    store-is-directory f b
-    ∙ ap (λ (c : Checkpoint). withProgress s (s .level) (s .pages) (usedToo s b) b c)
-    (still-runs f g on refl refl ∙ written-is b (f .head .begun) (f .named) (f .directories) ∙ ap (directoryAdded b) (sym (running-is f on .0)))
-    ∙ kept-is-directory s b
+    store-is-directory f b ∙ ap (withProgress s (s .level) (s .pages) (usedToo s b) b) (still-runs f g on refl refl)
 
 pub directory-leads : {m m1 m2 : List ℕ} (b : ℕ) → RunningIn m → Becomes m m1 (taking b (flatOf m))
-    → Becomes m1 m2 (withDirectories (flatOf m1) (flatOf m1 .directories ++ b ∷ [])) → HoldsNow m m2 (directoryKept b (storeOf (flatOf m)))
+    → Becomes m1 m2 (withDirectories (flatOf m1) (flatOf m1 .directories ++ b ∷ [])) → HoldsNow m m2 (afterStore (directoryStored b) (flatOf m))
 directory-leads {m} {m1} {m2} b r x y =
     let z = becomes-then m m1 m2 _ (λ f. withDirectories f (f .directories ++ b ∷ [])) x y in
     record { size = z .size; store = becomes-store z (holds-counted m (r .has-store)) ∙ ap some (directory-kept (flatOf m) b (r .on)) }
@@ -257,6 +239,16 @@ module _ {m m' : List ℕ} {bs : List ℕ} {n i : ℕ} (k : Marking m m' bs n i)
   marking-end h =
       record { becomes = k .becomes; used = λ c. ap (λ (z : List ℕ). isIn c z || flatOf m' .used c) (sym (drop-of-length-le bs {i = i} (omega (arith, k .whole)))) ∙ k .used c }
 
+-- a block's number has twelve bits
+module _ (m : List ℕ) (i : ℕ) where
+  pub named-low : i < length (flatOf m .named) → getD (flatOf m .named) i 0 < 4096
+  unfolding namedOf namedBlock
+  named-low h = omega (arith, getD-tab (namedBlock m (capacityOf m)) 0 (namedCount m) i 0 (omega (arith, named-length m)))
+
+  pub directory-low : i < length (flatOf m .directories) → getD (flatOf m .directories) i 0 < 4096
+  unfolding directoriesOf directoryAt
+  directory-low h = omega (arith, getD-tab (directoryAt m) 0 (directoryCount m) i 0 (omega (arith, directories-length m)))
+
 module _ (f : Flat) where
   pub named-count : length (namedIn f) ≡ length (f .named) + length (f .directories)
   unfolding namedIn
@@ -281,26 +273,20 @@ abbrev landedHead : Head → Head
 landedHead h =
     record { capacity = h .capacity; blocks = h .blocks; level = h .level + 1; next = h .next; running = false; begun = h .begun; taken = h .taken }
 
-store-is-header : (f : Flat) (u : ℕ → Bool) → storeOf (withHead (withUsed f u) (landedHead (f .head))) ≡ withProgress (storeOf f) (storeOf f .level + 1) (storeOf f .pages) u (storeOf f .taken) idle
+store-is-header : (f : Flat) (u : ℕ → Bool) → storeOf (withHead (withUsed f u) (landedHead (f .head)))
+    ≡ withProgress (storeOf f) (storeOf f .level + 1) (storeOf f .pages) u (storeOf f .taken) idle
 unfolding withProgress storeOf checkpointOf if_then_else_
 store-is-header f u = refl
 
-kept-is-header : (s : Store) (n : ℕ) (es ds : List ℕ) → s .checkpoint ≡ running n es ds
-    → withProgress s (suc (s .level)) (s .pages) (λ b. isIn b (es ++ ds)) (s .taken) idle ≡ headerKept s
-unfolding headerKept namedBy
-kept-is-header s n es ds q = ap (λ (c : Checkpoint). withProgress s (suc (s .level)) (s .pages) (λ b. isIn b (namedBy c)) (s .taken) idle) (sym q)
-
-header-kept : (f : Flat) (u : ℕ → Bool) → isRunning (storeOf f .checkpoint) ≡ true
-    → ((c : ℕ) → u c ≡ (isIn c (namedIn f) || false))
-    → storeOf (withHead (withUsed f u) (landedHead (f .head))) ≡ headerKept (storeOf f)
-header-kept f u on e =
+header-kept : (f : Flat) (u : ℕ → Bool) → ((c : ℕ) → u c ≡ (isIn c (namedIn f) || false))
+    → storeOf (withHead (withUsed f u) (landedHead (f .head))) ≡ afterStore (λ n. headerStored) f
+header-kept f u e =
     let s : Store = storeOf f in
     let es : List ℕ = f .named in
     let ds : List ℕ = f .directories in
     let q : u ≡ (λ b. isIn b (es ++ ds)) = fun-ext (λ c. e c ∙ or-none (isIn c (namedIn f)) ∙ ap (isIn c) (named-is-both f)) in
     store-is-header f u ∙ ap (λ (v : ℕ → Bool). withProgress s (s .level + 1) (s .pages) v (s .taken) idle) q
     ∙ ap (λ (l : ℕ). withProgress s l (s .pages) (λ b. isIn b (es ++ ds)) (s .taken) idle) (add-one (s .level))
-    ∙ kept-is-header s (f .head .begun) es ds (running-is f on .0)
 
 module _ {m m1 m2 : List ℕ} (r : RunningIn m) (a : Becomes m m1 (withUsed (flatOf m) (λ c. false))) (b : Marks m1 m2 (namedIn (flatOf m1))) where
   header-flat : Becomes m m2 (withUsed (flatOf m) (flatOf m2 .used))
@@ -315,14 +301,14 @@ module _ {m m1 m2 : List ℕ} (r : RunningIn m) (a : Becomes m m1 (withUsed (fla
   unfolding namedIn
   used-is c = b .used c ∙ ap (λ (f : Flat). isIn c (namedIn f) || f .used c) (a .flat)
 
-  pub header-leads : (h : Head) → h ≡ flatOf m2 .head → (m3 : List ℕ) → Becomes m2 m3 (withHead (flatOf m2) (landedHead h)) → HoldsNow m m3 (headerKept (storeOf (flatOf m)))
+  pub header-leads : (h : Head) → h ≡ flatOf m2 .head → (m3 : List ℕ) → Becomes m2 m3 (withHead (flatOf m2) (landedHead h)) → HoldsNow m m3 (afterStore (λ n. headerStored) (flatOf m))
   header-leads h eh m3 x =
       let z : Becomes m m3 (withHead (withUsed (flatOf m) (flatOf m2 .used)) (landedHead (flatOf m .head))) = record {
         size = x .size ∙ header-flat .size;
         room = x .room;
         flat = x .flat ∙ ap (λ (g : Head). withHead (flatOf m2) (landedHead g)) eh ∙ ap (λ (f : Flat). withHead f (landedHead (f .head))) (header-flat .flat);
       } in
-      record { size = z .size; store = becomes-store z (holds-counted m (r .has-store)) ∙ ap some (header-kept (flatOf m) (flatOf m2 .used) (r .on) used-is) }
+      record { size = z .size; store = becomes-store z (holds-counted m (r .has-store)) ∙ ap some (header-kept (flatOf m) (flatOf m2 .used) used-is) }
 
   pub header-low : flatOf m2 .head .level < 4294967295
   header-low = omega (arith, running-is (flatOf m) (r .on) .1, ap (λ (f : Flat). f .head .level) (header-flat .flat))

@@ -1,4 +1,4 @@
-pub mod Tallies
+pub mod Running
 pub mod Beginning
 pub mod Leaving
 pub mod Stepping

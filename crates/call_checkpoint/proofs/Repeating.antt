@@ -1,23 +1,22 @@
 -- Run: steps in turn.
 use Rattle.basics.proofs.Kit.{_≡_, refl, sym, ap, _∙_, subst, true, false, some, List, [], _∷_, _++_, ℕ, suc, _+_, _*_, _≤_, _<_, _-_, min, length, eq-eqb, ne-eqb, arith}
 use Rattle.basics.specs.Basics.{if_then_else_}
-use Rattle.basics.proofs.Facts.{by}
 use Rattle.model.specs.State.{Store, Write, Outcome}
 use Rattle.model.specs.Transactions.{gives, unless}
 use Rattle.model.specs.Checkpoint.{isRunning, left, stepAt, badImage, stepCall, inTurn, runCall}
 use Rattle.model.specs.Recover.{imageAfter}
 use Rattle.model.proofs.Laws.{step-size}
-use Rattle.memory_layout.specs.Flat.{Flat, flatOf}
+use Rattle.memory_layout.specs.Flat.{flatOf}
 use Rattle.memory_layout.specs.Store.{holdsStore, storeOf, HoldsNow}
-use Rattle.memory_layout.proofs.Laws.{Sound, in-some, in-sound}
+use Rattle.memory_layout.proofs.Laws.{Sound, blocks-is, in-some, in-sound}
 use Rattle.call_contracts.specs.Shape.{MemoryAfter, StoredBy, Stores, StoresAt}
 use Rattle.call_contracts.specs.declared.Answer.{Answer}
 use Rattle.call_contracts.specs.declared.Answer.the-variants.{Count}
 use Rattle.call_contracts.proofs.Answering.{stores-count}
 use Rattle.call_checkpoint.specs.Keeping.{Ready}
-use Rattle.call_checkpoint.proofs.Tallies.{left-none}
+use Rattle.call_checkpoint.proofs.Running.{left-runs}
 use Rattle.call_checkpoint.proofs.Allotting.{lowers}
-use Rattle.call_checkpoint.proofs.Stepping.{blocks-is, step-at, answer-of}
+use Rattle.call_checkpoint.proofs.Stepping.{step-at, answer-of}
 use Rattle.model.specs.State as model
 
 image-append : (ws vs : List Write) (img : List ℕ) → imageAfter (ws ++ vs) img ≡ imageAfter vs (imageAfter ws img)
@@ -56,10 +55,6 @@ pub record Repeats (img₀ m₀ : List ℕ) (k : ℕ) (img m : List ℕ) (n : �
 
 pub repeats-start : (img m : List ℕ) (k : ℕ) → Ready img m → k ≤ left (storeOf (flatOf m)) → Repeats img m k img m k
 repeats-start img m k r h = record { size = refl; wide = refl; has-store = r .runs .has-store; long = r .long; few = h; store = refl; image = refl }
-
--- while stores are left, the checkpoint runs
-left-runs : (f : Flat) → 0 < left (storeOf f) → isRunning (storeOf f .checkpoint) ≡ true
-left-runs f h = by (isRunning (storeOf f .checkpoint)) (λ e. e) (λ e. absurd (omega (arith, left-none f e)))
 
 counted : (a : model.Answer) (s : Store) (m m' : List ℕ) (n : ℕ) → a ≡ model.count n → MemoryAfter a s m m' → HoldsNow m m' s
 counted a s m m' n e l = subst (λ (z : model.Answer). MemoryAfter z s m m') e l

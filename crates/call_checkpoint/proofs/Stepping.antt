@@ -1,21 +1,21 @@
 -- A step: which store it makes, its tests, and what it answers.
-use Rattle.basics.proofs.Kit.{_≡_, refl, sym, ap, _∙_, subst, Bool, true, false, not, some, none, Option, List, [], _∷_, _++_, ℕ, suc, _+_, _*_, _≤_, _<_, zero, _-_, add-one, eqb, ltb}
-use Rattle.basics.proofs.Kit.{length, take, drop, drop-drop, lt-ltb, le-ltb, eqb-true, eq-eqb, ne-eqb, eqb-false, arith}
-use Rattle.basics.specs.Basics.{if_then_else_, howMany, first, isIn}
+use Rattle.basics.proofs.Kit.{_≡_, refl, sym, ap, _∙_, subst, Bool, true, false, some, none, Option, List, [], _∷_, _++_, ℕ, suc, _+_, _*_, _≤_, _<_, zero, _-_, add-one, eqb, ltb}
+use Rattle.basics.proofs.Kit.{length, take, drop, drop-drop, drop-of-length-le, lt-ltb, le-ltb, eqb-true, eq-eqb, ne-eqb, eqb-false, arith}
+use Rattle.basics.specs.Basics.{if_then_else_, howMany, first}
 use Rattle.basics.proofs.Facts.{by, lie}
 use Rattle.block_forms.specs.Block.{Block, header, page, directory, encodeBlock}
 use Rattle.image.specs.Stages.{directoriesFor}
 use Rattle.model.specs.State.{Held, Page, Checkpoint, idle, running, Store, Outcome}
-use Rattle.model.specs.Rules.{isFrozen, shown, thaw}
+use Rattle.model.specs.Rules.{isFrozen, shown}
 use Rattle.model.specs.Transactions.{gives, unless}
-use Rattle.model.specs.Checkpoint.{withProgress, allocate, usedToo, isRunning, left, made, storable, storePage, storeDirectory, headerFor, storeHeader, stepOf, stepAt, badImage, stepCall}
+use Rattle.model.specs.Checkpoint.{allocate, isRunning, left, made, storable, pageStored, storePage, directoryStored, storeDirectory, headerFor, headerStored, storeHeader}
+use Rattle.model.specs.Checkpoint.{stepOf, stepAt, badImage, stepCall}
 use Rattle.model.specs.Recover.{putBlock, imageAfter}
-use Rattle.basics.proofs.Elements.{first-none as none-many}
 use Rattle.basics.specs.Lists.{firstIndex}
-use Rattle.memory_layout.specs.Flat.{Flat, flatOf}
-use Rattle.memory_layout.specs.Store.{pageOf, nest, pagesIn, holdsStore, storeOf, storeIn, HoldsNow}
+use Rattle.memory_layout.specs.Flat.{flatOf}
+use Rattle.memory_layout.specs.Store.{pageOf, nest, holdsStore, storeOf, storeIn, HoldsNow}
 use Rattle.memory_layout.specs.declared.Entry.{Entry}
-use Rattle.memory_layout.proofs.Laws.{in-none, in-some, in-sound}
+use Rattle.memory_layout.proofs.Laws.{blocks-is, level-is, store-pages, in-none, in-some, in-sound}
 use Rattle.memory_layout.proofs.Exchange.{pages-count}
 use Rattle.memory_pages.specs.Pages.{frozenEntry}
 use Rattle.engine_pages.specs.Pages.{pagesOf, pageAt, entryOf, firstRow}
@@ -26,19 +26,18 @@ use Rattle.engine_pages.proofs.Places.{from-page, page-table, tuples-are}
 use Rattle.call_contracts.specs.Shape.{Stores}
 use Rattle.call_contracts.specs.declared.Answer.the-variants.{Count, Refused}
 use Rattle.call_contracts.proofs.Answering.{stores-4, stores-refused, stores-count}
-use Rattle.call_checkpoint.specs.Keeping.{entryFilled, directoryAdded, namedBy, pageKept, directoryKept, headerKept, RunningIn, Ready, NoneFrozen, Effect, Steps, stepRefusal}
-use Rattle.call_checkpoint.proofs.Tallies.{running-is, first-hit, first-past, frozen-many}
+use Rattle.call_checkpoint.specs.Keeping.{afterStore, RunningIn, Ready, NoneFrozen, Effect, Steps, refusalOf, stepRefusal}
+use Rattle.engine_allocator.proofs.Tallies.{first-hit, first-past, frozen-many}
+use Rattle.call_checkpoint.proofs.Running.{running-is}
 use Rattle.model.specs.State as model
 
 -- ---- the first frozen page
 
 -- none passes
-index-none : (hit : Page → Bool) (ps : List Page) → length ps ≤ firstIndex hit ps → first hit ps ≡ none
-unfolding first
-index-none hit [] h = refl
-index-none hit (q ∷ qs) h =
-    by (hit q) (λ e. absurd (omega (arith, index-hit hit q qs e)))
-    (λ e. first-past hit q qs e ∙ index-none hit qs (omega (arith, index-pass hit q qs e)))
+many-none : (hit : Page → Bool) (ps : List Page) → howMany hit ps ≡ 0 → first hit ps ≡ none
+unfolding first howMany if_then_else_
+many-none hit [] e = refl
+many-none hit (q ∷ qs) e = by (hit q) (λ t. absurd (omega (arith, (rw t at e)))) (λ t. first-past hit q qs t ∙ many-none hit qs (rw t at e))
 
 -- one does
 index-some : (hit : Page → Bool) (p : ℕ) (q : Page) (ps : List Page) → p ≡ firstIndex hit ps → drop p ps ≡ q ∷ drop (suc p) ps → first hit ps ≡ some q
@@ -69,19 +68,18 @@ module _ (m : List ℕ) {p : ℕ} (e : p ≡ firstIndex frozenEntry (flatOf m .e
   pub found-first : p ≡ firstIndex isFrozen (pagesOf m)
   found-first = e ∙ sym (index-nest (flatOf m .entries) (flatOf m .rows))
 
-  pub found-none : length (flatOf m .entries) ≤ p → NoneFrozen m
-  found-none h = index-none isFrozen (pagesOf m) (omega (arith, pages-count (flatOf m), found-first))
-
   -- only pages from the first frozen one on are frozen
   pub frozen-from : {r : ℕ} → r ≡ howMany frozenEntry (drop p (flatOf m .entries)) → r ≡ howMany isFrozen (pagesOf m)
   frozen-from q = q ∙ sym (frozen-many (flatOf m) p) ∙ index-many isFrozen p (pagesOf m) found-first
 
 module _ (m : List ℕ) where
+  pub found-none : {p : ℕ} → p ≡ firstIndex isFrozen (pagesOf m) → length (flatOf m .entries) ≤ p → NoneFrozen m
+  unfolding howMany
+  found-none {p} e h =
+      sym (index-many isFrozen p (pagesOf m) e) ∙ ap (howMany isFrozen) (drop-of-length-le (pagesOf m) {i = p} (omega (arith, pages-count (flatOf m))))
+
   pub frozen-all : {r : ℕ} → r ≡ howMany frozenEntry (flatOf m .entries) → r ≡ howMany isFrozen (pagesOf m)
   frozen-all e = e ∙ sym (frozen-many (flatOf m) 0)
-
-  pub frozen-none : NoneFrozen m → 0 ≡ howMany isFrozen (pagesOf m)
-  frozen-none h = sym (none-many isFrozen (pagesOf m) h)
 
 -- ---- which store a step makes
 
@@ -90,28 +88,10 @@ module _ (s : Store) (n : ℕ) (es ds : List ℕ) (e : s .checkpoint ≡ running
   unfolding stepAt
   step-is = ap (λ (c : Checkpoint). stepAt c s) e
 
-  page-made : (q : Page) → storePage n es ds q s ≡ made (allocate s) (page (q .table) (suc (s .level)) (storable (shown (q .tuples)))) (pageKept (allocate s) s)
-  unfolding storePage pageKept entryFilled
-  page-made q =
-      ap (λ (c : Checkpoint). made (allocate s) (page (q .table) (suc (s .level)) (storable (shown (q .tuples))))
-      (withProgress s (s .level) (thaw (allocate s) (s .pages)) (usedToo s (allocate s)) (allocate s) (entryFilled (allocate s) c))) (sym e)
-
   pub step-page : (q : Page) → first isFrozen (s .pages) ≡ some q
-      → stepAt (s .checkpoint) s ≡ made (allocate s) (page (q .table) (suc (s .level)) (storable (shown (q .tuples)))) (pageKept (allocate s) s)
-  unfolding stepOf
-  step-page q f = step-is ∙ ap (λ (o : Option Page). stepOf o n es ds s) f ∙ page-made q
-
-  directory-made : storeDirectory n es ds s ≡ made (allocate s) (directory (suc (s .level)) (take 336 (drop (336 * length ds) es))) (directoryKept (allocate s) s)
-  unfolding storeDirectory directoryKept directoryAdded
-  directory-made =
-      ap (λ (c : Checkpoint). made (allocate s) (directory (suc (s .level)) (take 336 (drop (336 * length ds) es)))
-      (withProgress s (s .level) (s .pages) (usedToo s (allocate s)) (allocate s) (directoryAdded (allocate s) c))) (sym e)
-
-  header-made : storeHeader n es ds s ≡ made 0 (header (headerFor s (suc (s .level)) n (length es) ds)) (headerKept s)
-  unfolding storeHeader headerKept namedBy
-  header-made =
-      ap (λ (c : Checkpoint). made 0 (header (headerFor s (suc (s .level)) n (length es) ds))
-      (withProgress s (suc (s .level)) (s .pages) (λ b. isIn b (namedBy c)) (s .taken) idle)) (sym e)
+      → stepAt (s .checkpoint) s ≡ made (allocate s) (page (q .table) (suc (s .level)) (storable (shown (q .tuples)))) (pageStored (allocate s) n es ds s)
+  unfolding stepOf storePage
+  step-page q f = step-is ∙ ap (λ (o : Option Page). stepOf o n es ds s) f
 
   module _ (f : first isFrozen (s .pages) ≡ none) where
     rest-is : stepAt (s .checkpoint) s ≡ (if ltb (length ds) (directoriesFor (length es)) then storeDirectory n es ds s else storeHeader n es ds s)
@@ -119,18 +99,16 @@ module _ (s : Store) (n : ℕ) (es ds : List ℕ) (e : s .checkpoint ≡ running
     rest-is = step-is ∙ ap (λ (o : Option Page). stepOf o n es ds s) f
 
     pub step-directory : length ds < directoriesFor (length es)
-        → stepAt (s .checkpoint) s ≡ made (allocate s) (directory (suc (s .level)) (take 336 (drop (336 * length ds) es))) (directoryKept (allocate s) s)
-    unfolding if_then_else_
+        → stepAt (s .checkpoint) s ≡ made (allocate s) (directory (suc (s .level)) (take 336 (drop (336 * length ds) es))) (directoryStored (allocate s) n es ds s)
+    unfolding if_then_else_ storeDirectory
     step-directory h =
         rest-is ∙ ap (λ (b : Bool). if b then storeDirectory n es ds s else storeHeader n es ds s) (lt-ltb (length ds) (directoriesFor (length es)) h)
-        ∙ directory-made
 
     pub step-header : directoriesFor (length es) ≤ length ds
-        → stepAt (s .checkpoint) s ≡ made 0 (header (headerFor s (suc (s .level)) n (length es) ds)) (headerKept s)
-    unfolding if_then_else_
+        → stepAt (s .checkpoint) s ≡ made 0 (header (headerFor s (suc (s .level)) n (length es) ds)) (headerStored es ds s)
+    unfolding if_then_else_ storeHeader
     step-header h =
         rest-is ∙ ap (λ (b : Bool). if b then storeDirectory n es ds s else storeHeader n es ds s) (le-ltb (length ds) (directoriesFor (length es)) h)
-        ∙ header-made
 
 -- ---- one block exchanged
 
@@ -158,68 +136,83 @@ module _ {m : List ℕ} (r : RunningIn m) where
   runs : storeOf (flatOf m) .checkpoint ≡ running (flatOf m .head .begun) (flatOf m .named) (flatOf m .directories)
   runs = running-is (flatOf m) (r .on) .0
 
-module _ (m : List ℕ) where
-  level-is : storeOf (flatOf m) .level ≡ flatOf m .head .level
-  unfolding storeOf
-  level-is = refl
-
-  pages-are : storeOf (flatOf m) .pages ≡ pagesOf m
-  unfolding storeOf
-  pages-are = refl
-
-  none-is : NoneFrozen m → first isFrozen (storeOf (flatOf m) .pages) ≡ none
-  none-is h = ap (first isFrozen) pages-are ∙ h
+none-is : (m : List ℕ) → NoneFrozen m → first isFrozen (storeOf (flatOf m) .pages) ≡ none
+none-is m h = ap (first isFrozen) (store-pages (flatOf m)) ∙ many-none isFrozen (pagesOf m) h
 
 module _ {img m img' m' part : List ℕ} (r : RunningIn m) where
   pub page-does : (p b t a e l : ℕ) → FirstFrozen m p → b ≡ allocate (storeOf (flatOf m)) → t ≡ entryOf m p .table → a ≡ firstRow m p → e ≡ firstRow m (p + 1)
       → l ≡ flatOf m .head .level + 1 → part ≡ encodeBlock (page t l (storable (shown (rowsFrom m a e)))) → img' ≡ putBlock img b part
-      → HoldsNow m m' (pageKept b (storeOf (flatOf m))) → Steps img m img' m'
+      → HoldsNow m m' (afterStore (pageStored b) (flatOf m)) → Steps img m img' m'
   page-does p b t a e l o eb et ea ee el ep ei k =
       let s : Store = storeOf (flatOf m) in
       let q : Page = pageAt m p in
       let e1 : q .table ≡ t = page-table (o .there) ∙ sym et in
-      let e2 : suc (s .level) ≡ l = ap suc (level-is m) ∙ sym (add-one (flatOf m .head .level)) ∙ sym el in
+      let e2 : suc (s .level) ≡ l = ap suc (level-is (flatOf m)) ∙ sym (add-one (flatOf m .head .level)) ∙ sym el in
       let e3 : rowsFrom m a e ≡ q .tuples = tuples-are (o .there) ea ee in
       let x : encodeBlock (page t l (storable (shown (rowsFrom m a e)))) ≡ encodeBlock (page (q .table) (suc (s .level)) (storable (shown (q .tuples)))) = cc in
-      does-made _ (allocate s) (page (q .table) (suc (s .level)) (storable (shown (q .tuples)))) (pageKept (allocate s) s)
-      (step-page s _ _ _ (runs r) q (ap (first isFrozen) (pages-are m) ∙ index-some isFrozen p q (pagesOf m) (o .first) (from-page (o .there))))
-      (subst (λ (z : ℕ). HoldsNow m m' (pageKept z s)) eb k)
+      does-made _ (allocate s) (page (q .table) (suc (s .level)) (storable (shown (q .tuples)))) (afterStore (pageStored (allocate s)) (flatOf m))
+      (step-page s _ _ _ (runs r) q (ap (first isFrozen) (store-pages (flatOf m)) ∙ index-some isFrozen p q (pagesOf m) (o .first) (from-page (o .there))))
+      (subst (λ (z : ℕ). HoldsNow m m' (afterStore (pageStored z) (flatOf m))) eb k)
       (ei ∙ ap (putBlock img b) (ep ∙ x) ∙ ap (λ (z : ℕ). putBlock img z (encodeBlock (page (q .table) (suc (s .level)) (storable (shown (q .tuples)))))) eb)
 
   module _ (none-frozen : NoneFrozen m) where
     pub directory-does : (b k l : ℕ) → length (flatOf m .directories) < directoriesFor (length (flatOf m .named)) → b ≡ allocate (storeOf (flatOf m))
         → k ≡ length (flatOf m .directories) → l ≡ flatOf m .head .level + 1
         → part ≡ encodeBlock (directory l (take 336 (drop (336 * k) (flatOf m .named)))) → img' ≡ putBlock img b part
-        → HoldsNow m m' (directoryKept b (storeOf (flatOf m))) → Steps img m img' m'
+        → HoldsNow m m' (afterStore (directoryStored b) (flatOf m)) → Steps img m img' m'
     directory-does b k l h eb ek el ep ei d =
         let s : Store = storeOf (flatOf m) in
         let es : List ℕ = flatOf m .named in
         let ds : List ℕ = flatOf m .directories in
-        let e2 : suc (s .level) ≡ l = ap suc (level-is m) ∙ sym (add-one (flatOf m .head .level)) ∙ sym el in
+        let e2 : suc (s .level) ≡ l = ap suc (level-is (flatOf m)) ∙ sym (add-one (flatOf m .head .level)) ∙ sym el in
         let x : encodeBlock (directory l (take 336 (drop (336 * k) es))) ≡ encodeBlock (directory (suc (s .level)) (take 336 (drop (336 * length ds) es))) = cc in
-        does-made _ (allocate s) (directory (suc (s .level)) (take 336 (drop (336 * length ds) es))) (directoryKept (allocate s) s)
+        does-made _ (allocate s) (directory (suc (s .level)) (take 336 (drop (336 * length ds) es))) (afterStore (directoryStored (allocate s)) (flatOf m))
         (step-directory s _ es ds (runs r) (none-is m none-frozen) h)
-        (subst (λ (z : ℕ). HoldsNow m m' (directoryKept z s)) eb d)
+        (subst (λ (z : ℕ). HoldsNow m m' (afterStore (directoryStored z) (flatOf m))) eb d)
         (ei ∙ ap (putBlock img b) (ep ∙ x) ∙ ap (λ (z : ℕ). putBlock img z (encodeBlock (directory (suc (s .level)) (take 336 (drop (336 * length ds) es))))) eb)
 
     pub header-does : directoriesFor (length (flatOf m .named)) ≤ length (flatOf m .directories)
         → part ≡ encodeBlock (header (headerFor (storeOf (flatOf m)) (suc (flatOf m .head .level)) (flatOf m .head .begun) (length (flatOf m .named)) (flatOf m .directories)))
-        → img' ≡ putBlock img 0 part → HoldsNow m m' (headerKept (storeOf (flatOf m))) → Steps img m img' m'
+        → img' ≡ putBlock img 0 part → HoldsNow m m' (afterStore (λ n. headerStored) (flatOf m)) → Steps img m img' m'
     header-does h ep ei d =
         let s : Store = storeOf (flatOf m) in
         let n : ℕ = flatOf m .head .begun in
         let es : List ℕ = flatOf m .named in
         let ds : List ℕ = flatOf m .directories in
-        let e : suc (flatOf m .head .level) ≡ suc (s .level) = sym (ap suc (level-is m)) in
-        does-made _ 0 (header (headerFor s (suc (s .level)) n (length es) ds)) (headerKept s)
+        let e : suc (flatOf m .head .level) ≡ suc (s .level) = sym (ap suc (level-is (flatOf m))) in
+        does-made _ 0 (header (headerFor s (suc (s .level)) n (length es) ds)) (afterStore (λ n. headerStored) (flatOf m))
         (step-header s n es ds (runs r) (none-is m none-frozen) h) d
         (ei ∙ ap (putBlock img 0) (ep ∙ ap (λ (z : ℕ). encodeBlock (header (headerFor s z n (length es) ds))) e))
 
 -- ---- the tests
 
-pub blocks-is : (f : Flat) → storeOf f .blocks ≡ f .head .blocks
-unfolding storeOf
-blocks-is f = refl
+idle-step : (c : Checkpoint) (s : Store) → isRunning c ≡ false → stepAt c s ≡ gives (model.refused 18) s
+unfolding stepAt isRunning
+idle-step idle s e = refl
+idle-step (running n es ds) s e = lie (sym e)
+
+module _ (len : ℕ) (s : Store) where
+  pub step-5 : (len ≡ 512 * s .blocks → ⊥) → stepCall len s ≡ gives (model.refused 5) s
+  unfolding stepCall badImage unless if_then_else_
+  step-5 h = rw (ne-eqb len (512 * s .blocks) h)
+
+  module _ (e : len ≡ 512 * s .blocks) where
+    pub step-at : stepCall len s ≡ stepAt (s .checkpoint) s
+    unfolding stepCall badImage unless if_then_else_
+    step-at = rw (eq-eqb len (512 * s .blocks) e)
+
+    pub step-18 : isRunning (s .checkpoint) ≡ false → stepCall len s ≡ gives (model.refused 18) s
+    step-18 h = step-at ∙ idle-step (s .checkpoint) s h
+
+answer-at : (o : Option Page) (n : ℕ) (es ds : List ℕ) (s : Store) → stepOf o n es ds s .answer ≡ model.count (left (stepOf o n es ds s .store))
+unfolding stepOf storePage storeDirectory storeHeader made if_then_else_
+answer-at (some p) n es ds s = refl
+answer-at none n es ds s = by (ltb (length ds) (directoriesFor (length es))) (λ h. rw h refl) (λ h. rw h refl)
+
+pub answer-of : (c : Checkpoint) (s : Store) → isRunning c ≡ true → stepAt c s .answer ≡ model.count (left (stepAt c s .store))
+unfolding stepAt isRunning
+answer-of idle s e = lie e
+answer-of (running n es ds) s e = answer-at (first isFrozen (s .pages)) n es ds s
 
 module _ (len : ℕ) (m : List ℕ) where
   pub refusal-4 : holdsStore m ≡ false → 4 ≡ stepRefusal len (storeIn m)
@@ -227,24 +220,22 @@ module _ (len : ℕ) (m : List ℕ) where
   refusal-4 h = sym (ap (stepRefusal len) (in-none m h))
 
   module _ (held : holdsStore m ≡ true) where
-    refusal-is : stepRefusal len (storeIn m) ≡ (if not (eqb len (512 * flatOf m .head .blocks)) then 5 else if isRunning (storeOf (flatOf m) .checkpoint) then 0 else 18)
+    refused-as : {o : Outcome} → stepCall len (storeOf (flatOf m)) ≡ o → refusalOf (o .answer) ≡ stepRefusal len (storeIn m)
     unfolding stepRefusal
-    refusal-is =
-        ap (stepRefusal len) (in-some m held)
-        ∙ ap (λ (b : ℕ). if not (eqb len (512 * b)) then 5 else if isRunning (storeOf (flatOf m) .checkpoint) then 0 else 18) (blocks-is (flatOf m))
+    refused-as q = sym (ap (stepRefusal len) (in-some m held) ∙ ap (λ (o : Outcome). refusalOf (o .answer)) q)
 
     pub refusal-5 : (len ≡ 512 * flatOf m .head .blocks → ⊥) → 5 ≡ stepRefusal len (storeIn m)
-    unfolding if_then_else_
-    refusal-5 h = sym (refusal-is ∙ rw (ne-eqb len (512 * flatOf m .head .blocks) h))
+    unfolding refusalOf gives storeOf
+    refusal-5 h = refused-as (step-5 len (storeOf (flatOf m)) h)
 
     module _ (e : len ≡ 512 * flatOf m .head .blocks) where
       pub refusal-18 : isRunning (storeOf (flatOf m) .checkpoint) ≡ false → 18 ≡ stepRefusal len (storeIn m)
-      unfolding if_then_else_
-      refusal-18 h = sym (refusal-is ∙ rw (eq-eqb len (512 * flatOf m .head .blocks) e, h))
+      unfolding refusalOf gives storeOf
+      refusal-18 h = refused-as (step-18 len (storeOf (flatOf m)) e h)
 
       pub refusal-none : isRunning (storeOf (flatOf m) .checkpoint) ≡ true → 0 ≡ stepRefusal len (storeIn m)
-      unfolding if_then_else_
-      refusal-none h = sym (refusal-is ∙ rw (eq-eqb len (512 * flatOf m .head .blocks) e, h))
+      unfolding refusalOf storeOf
+      refusal-none h = let s : Store = storeOf (flatOf m) in sym (ap refusalOf (answer-of (s .checkpoint) s h)) ∙ refused-as (step-at len s e)
 
   -- a call with these tests: each of them refuses
   module _ (v : ℕ) (ev : v ≡ stepRefusal len (storeIn m)) where
@@ -284,36 +275,6 @@ module _ (len : ℕ) (m : List ℕ) where
 
 pub passed-ready : (img m : List ℕ) (v : ℕ) → v ≡ stepRefusal (length img) (storeIn m) → v ≡ 0 → Ready img m
 passed-ready img m v ev z = record { runs = passed-runs (length img) m v ev z; long = passed-long (length img) m v ev z }
-
-idle-step : (c : Checkpoint) (s : Store) → isRunning c ≡ false → stepAt c s ≡ gives (model.refused 18) s
-unfolding stepAt isRunning
-idle-step idle s e = refl
-idle-step (running n es ds) s e = lie (sym e)
-
-module _ (len : ℕ) (s : Store) where
-  pub step-5 : (len ≡ 512 * s .blocks → ⊥) → stepCall len s ≡ gives (model.refused 5) s
-  unfolding stepCall badImage unless if_then_else_
-  step-5 h = rw (ne-eqb len (512 * s .blocks) h)
-
-  module _ (e : len ≡ 512 * s .blocks) where
-    pub step-at : stepCall len s ≡ stepAt (s .checkpoint) s
-    unfolding stepCall badImage unless if_then_else_
-    step-at = rw (eq-eqb len (512 * s .blocks) e)
-
-    pub step-18 : isRunning (s .checkpoint) ≡ false → stepCall len s ≡ gives (model.refused 18) s
-    step-18 h = step-at ∙ idle-step (s .checkpoint) s h
-
--- ---- the answer
-
-answer-at : (o : Option Page) (n : ℕ) (es ds : List ℕ) (s : Store) → stepOf o n es ds s .answer ≡ model.count (left (stepOf o n es ds s .store))
-unfolding stepOf storePage storeDirectory storeHeader made if_then_else_
-answer-at (some p) n es ds s = refl
-answer-at none n es ds s = by (ltb (length ds) (directoriesFor (length es))) (λ h. rw h refl) (λ h. rw h refl)
-
-pub answer-of : (c : Checkpoint) (s : Store) → isRunning c ≡ true → stepAt c s .answer ≡ model.count (left (stepAt c s .store))
-unfolding stepAt isRunning
-answer-of idle s e = lie e
-answer-of (running n es ds) s e = answer-at (first isFrozen (s .pages)) n es ds s
 
 pub step-done : (img m img' m' : List ℕ) (k : ℕ) → Ready img m → Steps img m img' m' → k ≡ left (storeOf (flatOf m')) → Stores (stepCall (length img)) img m (Count k) img' m'
 step-done img m img' m' k r d e =

@@ -1,27 +1,12 @@
--- What a checkpoint counts and searches on the flat lists of the memory.
-use Prim.Native.Nat.{ℕ, suc, _+_, _-_, _≤_}
+-- Which entries of the list of pages name a block.
+use Prim.Native.Nat.{ℕ, suc, _+_, _≤_}
 use mathlib.Core.Path.{_≡_}
-use mathlib.Core.Bool.{Bool, true, false, not}
-use mathlib.Core.Option.{Option, none, some}
+use mathlib.Core.Bool.{Bool, not}
 use mathlib.Core.List.{List, [], _∷_, _++_}
 use lib.ListN.{length, drop, getD}
 use lib.Dec.{eqb}
-use Rattle.basics.specs.Basics.{if_then_else_, all, first, from}
+use Rattle.basics.specs.Basics.{if_then_else_, all}
 use Rattle.memory_layout.specs.Flat.{Flat}
-
--- 1 if the test holds, otherwise 0
-unfoldable pub oneIf : Bool → ℕ
-oneIf true = 1
-oneIf false = 0
-
--- what was found, else e
-unfoldable pub orElse : ℕ → Option ℕ → ℕ
-orElse e none = e
-orElse e (some b) = b
-
--- the first block from a up to, not including, e that is not in use; e, if there is none
-unfoldable pub freeFrom : (ℕ → Bool) → ℕ → ℕ → ℕ
-freeFrom used a e = orElse e (first (λ b. not (used b)) (from a (e - a)))
 
 -- the place of the first entry that names no block yet; how many entries there are, if each does
 unfoldable pub firstZero : List ℕ → ℕ

@@ -1,59 +1,26 @@
--- The store after a begin and after each kind of block store, and what one step does to image and memory.
-use Prim.Native.Nat.{ℕ, suc, _*_}
+-- What a step needs, and what it does to image and memory.
+use Prim.Native.Nat.{ℕ, _*_, _≤_, _<_}
 use mathlib.Core.Path.{_≡_}
-use mathlib.Core.Bool.{true, not, _||_}
+use mathlib.Core.Bool.{true, _||_}
 use mathlib.Core.Option.{Option, none, some}
-use mathlib.Core.List.{List, [], _∷_, _++_, map}
+use mathlib.Core.List.{List}
 use lib.ListN.{length}
-use lib.Dec.{eqb}
-use Rattle.engine_allocator.specs.declared.Allocator.{Allocator}
-use Rattle.basics.specs.Basics.{if_then_else_, isIn, first}
-use Rattle.model.specs.State.{Checkpoint, idle, running, Store, Outcome}
-use Rattle.model.specs.Rules.{isFrozen, freeze, thaw}
-use Rattle.model.specs.Checkpoint.{withProgress, isRunning, left, usedToo, fill, stepAt}
+use Rattle.basics.specs.Basics.{howMany, isIn}
+use Rattle.basics.specs.Lists.{firstIndex}
+use Rattle.image.specs.Stages.{directoriesFor}
+use Rattle.model.specs.State.{Answer, refused, done, count, filled, Store, Outcome}
+use Rattle.model.specs.Rules.{isFrozen}
+use Rattle.model.specs.Checkpoint.{isRunning, stepAt, stepCall}
 use Rattle.model.specs.Recover.{imageAfter}
 use Rattle.memory_layout.specs.Flat.{Flat, flatOf, usedAnd, Becomes, withHead, withUsed}
-use Rattle.memory_layout.specs.Store.{holdsStore, storeOf, storeIn, HoldsNow}
+use Rattle.memory_layout.specs.Store.{holdsStore, storeOf, HoldsNow}
 use Rattle.engine_pages.specs.Pages.{pagesOf}
+use Rattle.engine_pages.specs.Pending.{FirstFrozen}
+use Rattle.engine_allocator.specs.Blocks.{allocatorIn}
 
--- where the search for a free block goes on, and how many stores are left
-unfoldable pub allocatorOf : Store → Allocator
-allocatorOf s = record { taken = s .taken; left = left s }
-
--- that of the store in the memory m
-abbrev pub allocatorIn : List ℕ → Allocator
-allocatorIn m = allocatorOf (storeOf (flatOf m))
-
--- begin freezes every dirty page and fixes the list of all pages
-unfoldable pub begun : Store → Store
-begun s = withProgress s (s .level) (map freeze (s .pages)) (s .used) (s .taken) (running (s .next) (map (λ p. p .block) (s .pages)) [])
-
--- the directory will name block b for the page that was stored
-unfoldable pub entryFilled : ℕ → Checkpoint → Checkpoint
-entryFilled b idle = idle
-entryFilled b (running n es ds) = running n (fill b es) ds
-
--- one directory block more is written
-unfoldable pub directoryAdded : ℕ → Checkpoint → Checkpoint
-directoryAdded b idle = idle
-directoryAdded b (running n es ds) = running n es (ds ++ b ∷ [])
-
--- the blocks that the header to come and its directory name
-unfoldable pub namedBy : Checkpoint → List ℕ
-namedBy idle = []
-namedBy (running n es ds) = es ++ ds
-
--- after a page's store as block b
-unfoldable pub pageKept : ℕ → Store → Store
-pageKept b s = withProgress s (s .level) (thaw b (s .pages)) (usedToo s b) b (entryFilled b (s .checkpoint))
-
--- after the store of a directory block as block b
-unfoldable pub directoryKept : ℕ → Store → Store
-directoryKept b s = withProgress s (s .level) (s .pages) (usedToo s b) b (directoryAdded b (s .checkpoint))
-
--- after the header's store
-unfoldable pub headerKept : Store → Store
-headerKept s = withProgress s (suc (s .level)) (s .pages) (λ b. isIn b (namedBy (s .checkpoint))) (s .taken) idle
+-- the store after g, which is given the next number at begin, the list of pages and the directory blocks of the running checkpoint
+abbrev pub afterStore : (ℕ → List ℕ → List ℕ → Store → Store) → Flat → Store
+afterStore g f = g (f .head .begun) (f .named) (f .directories) (storeOf f)
 
 -- a checkpoint runs in the store that the memory holds
 pub record RunningIn (m : List ℕ) : Type 0 where
@@ -65,9 +32,37 @@ pub record Ready (img m : List ℕ) : Type 0 where
   pub runs : RunningIn m
   pub long : length img ≡ 512 * flatOf m .head .blocks
 
+-- the running checkpoint takes block b
+pub record Takes (m : List ℕ) (b : ℕ) : Type 0 where
+  pub runs : RunningIn m
+  pub inside : b < flatOf m .head .blocks
+
+-- a block is still to be taken, and p is the first frozen page, or the number of pages if none is frozen
+pub record BlockLeft (img m : List ℕ) (p : ℕ) : Type 0 where
+  pub ready : Ready img m
+  pub next : p ≡ firstIndex isFrozen (pagesOf m)
+  pub some-left : 1 ≤ allocatorIn m .left
+
 -- no page is frozen
 abbrev pub NoneFrozen : List ℕ → Type 0
-NoneFrozen m = first isFrozen (pagesOf m) ≡ none
+NoneFrozen m = howMany isFrozen (pagesOf m) ≡ 0
+
+-- the first frozen page, p, is to be stored
+pub record PageNext (img m : List ℕ) (p : ℕ) : Type 0 where
+  pub ready : Ready img m
+  pub first-frozen : FirstFrozen m p
+
+-- a directory block is to be stored: no page is frozen, and blocks of the directory are missing
+pub record DirectoryNext (img m : List ℕ) : Type 0 where
+  pub ready : Ready img m
+  pub none-frozen : NoneFrozen m
+  pub short : length (flatOf m .directories) < directoriesFor (length (flatOf m .named))
+
+-- the header is to be stored: no page is frozen, and the directory is complete
+pub record HeaderNext (img m : List ℕ) : Type 0 where
+  pub ready : Ready img m
+  pub none-frozen : NoneFrozen m
+  pub complete : directoriesFor (length (flatOf m .named)) ≤ length (flatOf m .directories)
 
 -- block b is in use too, and it is the one last taken
 abbrev pub taking : ℕ → Flat → Flat
@@ -89,7 +84,14 @@ pub record Effect (o : Outcome) (img m img' m' : List ℕ) : Type 0 where
 abbrev pub Steps : List ℕ → List ℕ → List ℕ → List ℕ → Type 0
 Steps img m img' m' = Effect (stepAt (storeOf (flatOf m) .checkpoint) (storeOf (flatOf m))) img m img' m'
 
--- the number of the first test of a step that holds, 0 if none does: 4, no store; 5, the image is not exactly the store's blocks long; 18, no checkpoint runs
+-- the number of a refusal, 0 of any other answer
+unfoldable pub refusalOf : Answer → ℕ
+refusalOf (refused n) = n
+refusalOf done = 0
+refusalOf (count n) = 0
+refusalOf (filled n bs) = 0
+
+-- what a step, of an image of len bytes, is refused with, 0 if it is not: 4 without a store, otherwise by the model's tests
 unfoldable pub stepRefusal : ℕ → Option Store → ℕ
 stepRefusal len none = 4
-stepRefusal len (some s) = if not (eqb len (512 * s .blocks)) then 5 else if isRunning (s .checkpoint) then 0 else 18
+stepRefusal len (some s) = refusalOf (stepCall len s .answer)

@@ -2,28 +2,19 @@
 // answers and leaves, for any image and any memory, by the model's function.
 use call_contracts::Answer;
 use engine_allocator::Allocator;
-
-mod space;
-
-use space::allocate;
-use space::allocator_of;
-use space::blocks_needed;
-use space::directories_left;
-use space::enough_free;
-use space::left;
 ghost use mathlib.Core.Path.{_≡_};
 ghost use mathlib.Core.Bool.{true};
 ghost use mathlib.Core.List.{[], map};
-ghost use Prim.Native.Nat.{_+_, _-_, _≤_, _<_, min};
+ghost use Prim.Native.Nat.{_+_, _≤_, _<_, min};
 ghost use lib.ListN.{length, getD};
-ghost use Rattle.image.specs.Stages.{directoriesFor};
-ghost use Rattle.model.specs.Checkpoint.{allocate, isRunning, beginCall, fill, left, stepCall, runCall};
+ghost use Rattle.model.specs.Checkpoint.{isRunning, begun, beginCall, fill, left, pageStored, directoryStored, headerStored, stepCall, runCall};
 ghost use Rattle.memory_layout.specs.Flat.{flatOf, Room, Becomes, withNamed};
 ghost use Rattle.memory_layout.specs.Store.{holdsStore, storeOf, storeIn, HoldsNow};
 ghost use Rattle.engine_pages.specs.Pending.{FirstFrozen};
+ghost use Rattle.engine_allocator.specs.Blocks.{allocatorIn};
 ghost use Rattle.call_contracts.specs.Shape.{Answers, Stores};
 ghost use Rattle.call_checkpoint.specs.Counting.{firstZero, NamedBefore, fourNamed, namedIn};
-ghost use Rattle.call_checkpoint.specs.Keeping.{allocatorIn, begun, pageKept, directoryKept, headerKept, RunningIn, Ready, NoneFrozen, taking, Marks, Steps, stepRefusal};
+ghost use Rattle.call_checkpoint.specs.Keeping.{afterStore, RunningIn, Ready, Takes, BlockLeft, PageNext, DirectoryNext, HeaderNext, taking, Marks, Steps, stepRefusal};
 
 // A level, and with it a header's number, is at most this.
 const LAST_LEVEL: u32 = 4294967295;
@@ -88,8 +79,8 @@ pub fn begin(m: &mut [u8]) -> Answer
     if h.level == LAST_LEVEL {
         return Answer::Refused(19);
     }
-    let need = blocks_needed(m);
-    if !enough_free(m, need) {
+    let need = engine_allocator::blocks_needed(m);
+    if !engine_allocator::enough_free(m, need) {
         return Answer::Refused(20);
     }
     start(m);
@@ -170,8 +161,8 @@ fn fill_entry(m: &mut [u8], b: u16)
 
 // After the store of the first frozen page, p, as block b.
 fn keep_page(m: &mut [u8], p: usize, b: u32)
-    requires { ⌜ RunningIn (now m) × ((b < flatOf (now m) .head .blocks) × FirstFrozen (now m) p) ⌝ }
-    ensures { λ _. ⌜ HoldsNow (now (m .entry)) (now (m .exit)) (pageKept b (storeOf (flatOf (now (m .entry))))) ⌝ }
+    requires { ⌜ Takes (now m) b × FirstFrozen (now m) p ⌝ }
+    ensures { λ _. ⌜ HoldsNow (now (m .entry)) (now (m .exit)) (afterStore (pageStored b) (flatOf (now (m .entry)))) ⌝ }
 {
     take_block(m, b);
     fill_entry(m, b as u16);
@@ -180,8 +171,8 @@ fn keep_page(m: &mut [u8], p: usize, b: u32)
 
 // After the store of a directory block as block b.
 fn keep_directory(m: &mut [u8], b: u32)
-    requires { ⌜ RunningIn (now m) × ((b < flatOf (now m) .head .blocks) × (length (flatOf (now m) .directories) < 4)) ⌝ }
-    ensures { λ _. ⌜ HoldsNow (now (m .entry)) (now (m .exit)) (directoryKept b (storeOf (flatOf (now (m .entry))))) ⌝ }
+    requires { ⌜ Takes (now m) b × (length (flatOf (now m) .directories) < 4) ⌝ }
+    ensures { λ _. ⌜ HoldsNow (now (m .entry)) (now (m .exit)) (afterStore (directoryStored b) (flatOf (now (m .entry)))) ⌝ }
 {
     take_block(m, b);
     memory_layout::push_directory(m, b);
@@ -218,7 +209,7 @@ fn mark_named(m: &mut [u8])
 // After the header's store: the blocks that it no longer names are free.
 fn keep_header(m: &mut [u8])
     requires { ⌜ RunningIn (now m) ⌝ }
-    ensures { λ _. ⌜ HoldsNow (now (m .entry)) (now (m .exit)) (headerKept (storeOf (flatOf (now (m .entry))))) ⌝ }
+    ensures { λ _. ⌜ HoldsNow (now (m .entry)) (now (m .exit)) (afterStore (λ n. headerStored) (flatOf (now (m .entry)))) ⌝ }
 {
     memory_layout::clear_used(m);
     mark_named(m);
@@ -228,77 +219,102 @@ fn keep_header(m: &mut [u8])
     memory_layout::put_head(m, h);
 }
 
-// ---- step: each store is handed the allocator, and hands on the one after it
+// ---- step: each block store is lent the allocator, and changes it in place
 
-// The first frozen page, p, goes into the next free block.
-fn store_page(image: &mut [u8], m: &mut [u8], p: usize, alloc: Allocator) -> Allocator
-    requires { ⌜ Ready (now image) (now m) × (FirstFrozen (now m) p × (alloc ≡ allocatorIn (now m))) ⌝ }
-    ensures { λ r. ⌜ Steps (now (image .entry)) (now (m .entry)) (now (image .exit)) (now (m .exit)) × (r ≡ allocatorIn (now (m .exit))) ⌝ }
+// Writes the first frozen page, p, into the first free block after the one last taken; answers that block.
+fn store_page(image: &mut [u8], m: &mut [u8], p: usize, taken: u32) -> u32
+    requires { ⌜ PageNext (now image) (now m) p × (taken ≡ allocatorIn (now m) .taken) ⌝ }
+    ensures { λ b. ⌜ Steps (now (image .entry)) (now (m .entry)) (now (image .exit)) (now (m .exit)) × (b ≡ allocatorIn (now (m .exit)) .taken) ⌝ }
 {
     let h = memory_layout::get_head(m);
     let t = memory_pages::table_of(m, p);
     let s = memory_pages::start_of(m, p);
     let e = memory_pages::start_of(m, p + 1);
-    let b = allocate(m, alloc.taken);
+    let b = engine_allocator::allocate(m, taken);
     let a = BLOCK_SIZE * b;
     let end = a + BLOCK_SIZE;
     engine_writer::write_page(&mut image[a..end], m, t, s, e, h.level + 1);
-    let next = engine_allocator::taken_by(alloc, b as u32);
-    keep_page(m, p, next.taken);
-    next
+    let block = b as u32;
+    keep_page(m, p, block);
+    block
 }
 
-// The next part of the list of pages goes into the next free block.
-fn store_directory(image: &mut [u8], m: &mut [u8], alloc: Allocator) -> Allocator
-    requires { ⌜ Ready (now image) (now m) × (NoneFrozen (now m) × ((length (flatOf (now m) .directories) < directoriesFor (length (flatOf (now m) .named))) × (alloc ≡ allocatorIn (now m)))) ⌝ }
-    ensures { λ r. ⌜ Steps (now (image .entry)) (now (m .entry)) (now (image .exit)) (now (m .exit)) × (r ≡ allocatorIn (now (m .exit))) ⌝ }
+// Writes the next part of the list of pages into the first free block after the one last taken; answers that block.
+fn store_directory(image: &mut [u8], m: &mut [u8], taken: u32) -> u32
+    requires { ⌜ DirectoryNext (now image) (now m) × (taken ≡ allocatorIn (now m) .taken) ⌝ }
+    ensures { λ b. ⌜ Steps (now (image .entry)) (now (m .entry)) (now (image .exit)) (now (m .exit)) × (b ≡ allocatorIn (now (m .exit)) .taken) ⌝ }
 {
     let h = memory_layout::get_head(m);
     let c = memory_layout::get_counts(m);
-    let b = allocate(m, alloc.taken);
+    let b = engine_allocator::allocate(m, taken);
     let a = BLOCK_SIZE * b;
     let end = a + BLOCK_SIZE;
     let k = c.directories as usize;
     engine_writer::write_directory(&mut image[a..end], m, k, h.level + 1);
-    let next = engine_allocator::taken_by(alloc, b as u32);
-    keep_directory(m, next.taken);
-    next
+    let block = b as u32;
+    keep_directory(m, block);
+    block
+}
+
+// Writes the next block: the first frozen page, p, or, where p is the number of pages, a directory block. Answers the block taken.
+fn write_block(image: &mut [u8], m: &mut [u8], p: usize, taken: u32) -> u32
+    requires { ⌜ BlockLeft (now image) (now m) p × (taken ≡ allocatorIn (now m) .taken) ⌝ }
+    ensures { λ b. ⌜ Steps (now (image .entry)) (now (m .entry)) (now (image .exit)) (now (m .exit)) × (b ≡ allocatorIn (now (m .exit)) .taken) ⌝ }
+{
+    let c = memory_layout::get_counts(m);
+    if p < c.pages as usize {
+        return store_page(image, m, p, taken);
+    }
+    store_directory(image, m, taken)
+}
+
+// Stores the next block, and changes the allocator in place: the block taken is the last one, and one less is left. A function over a
+// `&mut` to a struct, and one that makes such a reference, is proved by a walk of its MIR, by hand: so this one and the next are short.
+fn store_block(a: &mut Allocator, image: &mut [u8], m: &mut [u8], p: usize)
+    requires { ⌜ BlockLeft (now image) (now m) p × (now a ≡ allocatorIn (now m)) ⌝ }
+    ensures { λ _. ⌜ Steps (now (image .entry)) (now (m .entry)) (now (image .exit)) (now (m .exit)) × (now (a .exit) ≡ allocatorIn (now (m .exit))) ⌝ }
+{
+    let b = write_block(image, m, p, a.taken);
+    a.taken = b;
+    a.left = a.left - 1;
+}
+
+// Makes the allocator of this step and lends it to the store of the next block; answers how many blocks are left.
+fn lend_allocator(image: &mut [u8], m: &mut [u8], p: usize, taken: u32, left: u64) -> u64
+    requires { ⌜ BlockLeft (now image) (now m) p × (record { taken = taken; left = left } ≡ allocatorIn (now m)) ⌝ }
+    ensures { λ r. ⌜ Steps (now (image .entry)) (now (m .entry)) (now (image .exit)) (now (m .exit)) × (r ≡ allocatorIn (now (m .exit)) .left) ⌝ }
+{
+    let mut a = Allocator {
+        taken: taken,
+        left: left,
+    };
+    store_block(&mut a, image, m, p);
+    a.left
 }
 
 // The header goes into block 0, and the checkpoint ends.
-fn store_header(image: &mut [u8], m: &mut [u8], alloc: Allocator) -> Allocator
-    requires { ⌜ Ready (now image) (now m) × (NoneFrozen (now m) × ((directoriesFor (length (flatOf (now m) .named)) ≤ length (flatOf (now m) .directories)) × (alloc ≡ allocatorIn (now m)))) ⌝ }
-    ensures { λ r. ⌜ Steps (now (image .entry)) (now (m .entry)) (now (image .exit)) (now (m .exit)) × (r ≡ allocatorIn (now (m .exit))) ⌝ }
+fn store_header(image: &mut [u8], m: &mut [u8])
+    requires { ⌜ HeaderNext (now image) (now m) ⌝ }
+    ensures { λ _. ⌜ Steps (now (image .entry)) (now (m .entry)) (now (image .exit)) (now (m .exit)) × (left (storeOf (flatOf (now (m .exit)))) ≡ 0) ⌝ }
 {
     engine_writer::write_header(&mut image[0..BLOCK_SIZE], m);
     keep_header(m);
-    engine_allocator::landed(alloc)
 }
 
-// No page is frozen any more: the directory, then the header.
-fn store_rest(image: &mut [u8], m: &mut [u8], alloc: Allocator) -> Allocator
-    requires { ⌜ Ready (now image) (now m) × (NoneFrozen (now m) × (alloc ≡ allocatorIn (now m))) ⌝ }
-    ensures { λ r. ⌜ Steps (now (image .entry)) (now (m .entry)) (now (image .exit)) (now (m .exit)) × (r ≡ allocatorIn (now (m .exit))) ⌝ }
-{
-    if 0 < directories_left(m) {
-        return store_directory(image, m, alloc);
-    }
-    store_header(image, m, alloc)
-}
-
-// One store: the frozen pages in list order, then the directory, then the header. Frozen pages are counted from the first one on.
-fn store_next(image: &mut [u8], m: &mut [u8]) -> Allocator
+// One store: the frozen pages in list order, then the directory, then the header; answers how many are left. Frozen pages are counted
+// from the first one on.
+fn store_next(image: &mut [u8], m: &mut [u8]) -> u64
     requires { ⌜ Ready (now image) (now m) ⌝ }
-    ensures { λ r. ⌜ Steps (now (image .entry)) (now (m .entry)) (now (image .exit)) (now (m .exit)) × (r ≡ allocatorIn (now (m .exit))) ⌝ }
+    ensures { λ r. ⌜ Steps (now (image .entry)) (now (m .entry)) (now (image .exit)) (now (m .exit)) × (r ≡ left (storeOf (flatOf (now (m .exit))))) ⌝ }
 {
     let p = memory_pages::first_frozen(m);
-    let c = memory_layout::get_counts(m);
-    if p < c.pages as usize {
-        let alloc = allocator_of(m, memory_pages::count_frozen(m, p));
-        return store_page(image, m, p, alloc);
+    let n = engine_allocator::blocks_left(m, memory_pages::count_frozen(m, p));
+    if n == 0 {
+        store_header(image, m);
+        return 0;
     }
-    let alloc = allocator_of(m, 0);
-    store_rest(image, m, alloc)
+    let h = memory_layout::get_head(m);
+    lend_allocator(image, m, p, h.taken, n) + 1
 }
 
 // The refusal's number: 4, no store; 5, the image, of len bytes, is not exactly the store's blocks long; 18, no checkpoint runs; otherwise 0.
@@ -327,8 +343,8 @@ pub fn step(image: &mut [u8], m: &mut [u8]) -> Answer
     if v != 0 {
         return Answer::Refused(v);
     }
-    let next = store_next(image, m);
-    Answer::Count(next.left)
+    let n = store_next(image, m);
+    Answer::Count(n)
 }
 
 // ---- run
@@ -350,7 +366,10 @@ pub fn run(image: &mut [u8], m: &mut [u8], limit: u64) -> Answer
     if v != 0 {
         return Answer::Refused(v);
     }
-    let k = smaller(limit, left(m, memory_pages::count_frozen(m, 0)));
+    let k = smaller(
+        limit,
+        engine_allocator::blocks_left(m, memory_pages::count_frozen(m, 0)) + 1,
+    );
     let mut n = k;
     while 0 < n {
         step(image, m);

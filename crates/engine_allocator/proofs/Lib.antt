@@ -1,1 +1,3 @@
+pub mod Walk
 pub mod Lent
+pub mod Tallies

@@ -206,6 +206,19 @@ held-again m r h =
 
 -- ---- the store that the flat lists mean
 
+module _ (f : Flat) where
+  pub blocks-is : storeOf f .blocks ≡ f .head .blocks
+  unfolding storeOf
+  blocks-is = refl
+
+  pub level-is : storeOf f .level ≡ f .head .level
+  unfolding storeOf
+  level-is = refl
+
+  pub taken-is : storeOf f .taken ≡ f .head .taken
+  unfolding storeOf
+  taken-is = refl
+
 pub in-none : (m : List ℕ) → holdsStore m ≡ false → storeIn m ≡ none
 unfolding storeIn if_then_else_
 in-none m e = rw e

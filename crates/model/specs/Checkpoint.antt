@@ -52,19 +52,26 @@ isRunning (running n es ds) = true
 unfoldable pub blocksNeeded : List Page → ℕ
 blocksNeeded ps = howMany isDirty ps + directoriesFor (length ps)
 
+-- the store after a begin: every dirty page is frozen, and the list of all pages is fixed
+abbrev pub begun : Store → Store
+begun s = withProgress s (s .level) (map freeze (s .pages)) (s .used) (s .taken) (running (s .next) (map (λ p. p .block) (s .pages)) [])
+
 -- 17 already running; 19 level is 4,294,967,295; 20 fewer free blocks than F + ⌈P/336⌉
 unfoldable pub beginCall : Store → Outcome
 beginCall s =
     unless (17 when isRunning (s .checkpoint) ∷ 19 when eqb (s .level) mostNumber ∷ 20 when ltb (freeCount s) (blocksNeeded (s .pages)) ∷ []) s
-    (gives (count (blocksNeeded (s .pages) + 1))
-    (withProgress s (s .level) (map freeze (s .pages)) (s .used) (s .taken) (running (s .next) (map (λ p. p .block) (s .pages)) [])))
+    (gives (count (blocksNeeded (s .pages) + 1)) (begun s))
 
 -- ---- step
 
--- the frozen pages, the directory blocks still to write, the header
+-- the frozen pages and the directory blocks still to write: each takes a free block
+abbrev pub blocksLeft : List ℕ → List ℕ → List Page → ℕ
+blocksLeft es ds ps = howMany isFrozen ps + (directoriesFor (length es) - length ds)
+
+-- these blocks, and the header
 unfoldable pub leftOf : Checkpoint → List Page → ℕ
 leftOf idle ps = 0
-leftOf (running n es ds) ps = howMany isFrozen ps + (directoriesFor (length es) - length ds) + 1
+leftOf (running n es ds) ps = blocksLeft es ds ps + 1
 
 -- how many stores the running checkpoint has still to make
 unfoldable pub left : Store → ℕ
@@ -83,19 +90,25 @@ fill b (e ∷ es) = if eqb e 0 then b ∷ es else e ∷ fill b es
 unfoldable pub storable : List Tuple → List Tuple
 storable ts = if leb (sizes ts) recordSpace then ts else []
 
--- a page's store: the page is thawed, and the directory will name the new block
+-- the store after a page's store in block b: the page is thawed, and the directory will name b
+abbrev pub pageStored : ℕ → ℕ → List ℕ → List ℕ → Store → Store
+pageStored b n es ds s = withProgress s (s .level) (thaw b (s .pages)) (usedToo s b) b (running n (fill b es) ds)
+
+-- a page's store
 unfoldable pub storePage : ℕ → List ℕ → List ℕ → Page → Store → Outcome
 storePage n es ds p s =
     let b = allocate s in
-    made b (page (p .table) (suc (s .level)) (storable (shown (p .tuples))))
-    (withProgress s (s .level) (thaw b (s .pages)) (usedToo s b) b (running n (fill b es) ds))
+    made b (page (p .table) (suc (s .level)) (storable (shown (p .tuples)))) (pageStored b n es ds s)
+
+-- the store after the store of a directory block in block b
+abbrev pub directoryStored : ℕ → ℕ → List ℕ → List ℕ → Store → Store
+directoryStored b n es ds s = withProgress s (s .level) (s .pages) (usedToo s b) b (running n es (ds ++ b ∷ []))
 
 -- 336 entries in every directory block but the last
 unfoldable pub storeDirectory : ℕ → List ℕ → List ℕ → Store → Outcome
 storeDirectory n es ds s =
     let b = allocate s in
-    made b (directory (suc (s .level)) (take entriesPerBlock (drop (entriesPerBlock * length ds) es)))
-    (withProgress s (s .level) (s .pages) (usedToo s b) b (running n es (ds ++ b ∷ [])))
+    made b (directory (suc (s .level)) (take entriesPerBlock (drop (entriesPerBlock * length ds) es))) (directoryStored b n es ds s)
 
 -- the next number and page count are those at begin
 unfoldable pub headerFor : Store → ℕ → ℕ → ℕ → List ℕ → Header
@@ -113,11 +126,13 @@ headerFor s l n p ds =
       d3 = getD ds 3 0;
     }
 
--- blocks that the new header no longer names become free
+-- the store after the header's store: blocks that it no longer names are free
+abbrev pub headerStored : List ℕ → List ℕ → Store → Store
+headerStored es ds s = withProgress s (suc (s .level)) (s .pages) (λ b. isIn b (es ++ ds)) (s .taken) idle
+
+-- the header's store
 unfoldable pub storeHeader : ℕ → List ℕ → List ℕ → Store → Outcome
-storeHeader n es ds s =
-    made 0 (header (headerFor s (suc (s .level)) n (length es) ds))
-    (withProgress s (suc (s .level)) (s .pages) (λ b. isIn b (es ++ ds)) (s .taken) idle)
+storeHeader n es ds s = made 0 (header (headerFor s (suc (s .level)) n (length es) ds)) (headerStored es ds s)
 
 -- the frozen pages in list order, then the directory, then the header
 unfoldable pub stepOf : Option Page → ℕ → List ℕ → List ℕ → Store → Outcome

@@ -1,6 +1,6 @@
 -- `call_checkpoint::fill_entry` meets its contract.
 use Rattle.basics.proofs.Kit.{needs, arith}
-use Rattle.call_checkpoint.proofs.Tallies.{named-read}
+use Rattle.memory_layout.proofs.Laws.{named-read}
 use Rattle.call_checkpoint.proofs.Leaving.{fills-none, fills-at}
 use Rattle.call_checkpoint.proofs.fill_entry.Statement.{statement}
 use Rattle.call_checkpoint.proofs.fill_entry.Tie as tie
@@ -16,7 +16,7 @@ put-named-requires : tie.Need-put-named-requires
 put-named-requires c κs =
     let k = c .before .before .before .before .before in
     let st = k .before .before .before in
-    (st .pre .0, (omega (arith, c .before .if1 .left, named-read (st .args .m .now) (k .get-counts .ensures)), st .pre .1))
+    (st .pre .0, record { inside = omega (arith, c .before .if1 .left, named-read (st .args .m .now) (k .get-counts .ensures)); fits = st .pre .1 })
 
 returns-2 : tie.Need-returns-2
 returns-2 c =

@@ -3,7 +3,7 @@ use Rattle.basics.proofs.Kit.{_≡_, sym, ap, _∙_, true, ltb, not-true, not-f
 use Rattle.memory_layout.specs.declared.Head.{Head}
 use Rattle.memory_layout.specs.Flat.{flatOf}
 use Rattle.basics.proofs.Facts.{by}
-use Rattle.call_checkpoint.proofs.Tallies.{not-on, runs-on, last-level}
+use Rattle.call_checkpoint.proofs.Running.{not-on, runs-on, last-level}
 use Rattle.call_checkpoint.proofs.is_running.Statement.{statement}
 use Rattle.call_checkpoint.proofs.is_running.Tie as tie
 

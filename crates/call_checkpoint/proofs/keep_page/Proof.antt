@@ -6,36 +6,36 @@ use Rattle.call_checkpoint.proofs.keep_page.Statement.{statement}
 use Rattle.call_checkpoint.proofs.keep_page.Tie as tie
 
 take-block-requires : tie.Need-take-block-requires
-take-block-requires c κs = (holds-room _ (c .before .before .pre .0 .has-store), c .before .before .pre .1 .0)
+take-block-requires c κs = (holds-room _ (c .before .before .pre .0 .runs .has-store), c .before .before .pre .0 .inside)
 
 cast-fill-entry : tie.Need-cast-fill-entry
 cast-fill-entry c =
     let p = c .before .before .before .before .before .before .pre in
-    record { fits = omega (arith, p .1 .0, holds-room _ (p .0 .has-store) .range .many) }
+    record { fits = omega (arith, p .0 .inside, holds-room _ (p .0 .runs .has-store) .range .many) }
 
 fill-entry-requires : tie.Need-fill-entry-requires
 fill-entry-requires c κs =
     let t = c .before .before .before in
     let p = t .before .before .before .pre in
-    (t .take-block .ensures .room, omega (arith, p .1 .0, holds-room _ (p .0 .has-store) .range .many))
+    (t .take-block .ensures .room, omega (arith, p .0 .inside, holds-room _ (p .0 .runs .has-store) .range .many))
 
 cast-thaw : tie.Need-cast-thaw
 cast-thaw c =
     let p = c .before .before .before .before .before .before .before .before .before .before .pre in
-    record { fits = omega (arith, p .1 .0, holds-room _ (p .0 .has-store) .range .many) }
+    record { fits = omega (arith, p .0 .inside, holds-room _ (p .0 .runs .has-store) .range .many) }
 
 thaw-requires : tie.Need-thaw-requires
 thaw-requires c κs =
     let f = c .before .before .before in
     let t = f .before .before .before .before in
     let p = t .before .before .before .pre in
-    (still-first _ (p .0) (t .take-block .ensures) (f .fill-entry .ensures) (p .1 .1), omega (arith, p .1 .0, holds-room _ (p .0 .has-store) .range .many))
+    (still-first _ (p .0 .runs) (t .take-block .ensures) (f .fill-entry .ensures) (p .1), omega (arith, p .0 .inside, holds-room _ (p .0 .runs .has-store) .range .many))
 
 returns : tie.Need-returns
 returns c =
     let f = c .before .before .before .before .before .before in
     let t = f .before .before .before .before in
-    page-leads _ (t .before .before .before .pre .0) (t .take-block .ensures) (f .fill-entry .ensures) (c .before .before .thaw .ensures)
+    page-leads _ (t .before .before .before .pre .0 .runs) (t .take-block .ensures) (f .fill-entry .ensures) (c .before .before .thaw .ensures)
 
 pub keep-page-spec : {M : Type 1} → statement M
 keep-page-spec = tie.close (tie.spec take-block-requires cast-fill-entry fill-entry-requires cast-thaw thaw-requires (search needs) returns)

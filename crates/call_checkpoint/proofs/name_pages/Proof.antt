@@ -1,7 +1,7 @@
 -- `call_checkpoint::name_pages` meets its contract.
 use Rattle.basics.proofs.Kit.{_-_, needs, arith}
-use Rattle.memory_layout.proofs.Laws.{holds-room}
-use Rattle.call_checkpoint.proofs.Tallies.{sizes, pages-read}
+use Rattle.memory_layout.proofs.Laws.{pages-read, holds-room}
+use Rattle.engine_allocator.proofs.Tallies.{sizes}
 use Rattle.call_checkpoint.proofs.Beginning.{Naming, naming-start, naming-in, naming-room, naming-low, naming-turn, naming-end}
 use Rattle.call_checkpoint.proofs.name_pages.Statement.{statement}
 use Rattle.call_checkpoint.proofs.name_pages.Tie as tie
@@ -29,10 +29,10 @@ push-named-requires c κs =
     let i = c .before .before .before in
     let l = i .before .loop in (
       l .inv .becomes .room,
-      (
-        naming-room (l .inv) (i .loop-test .taken) (i .before .before .before .before .before .before .pre .0),
-        naming-low (l .inv) (i .loop-test .taken) (c .before .block-at .ensures),
-      ),
+      record {
+        few = naming-room (l .inv) (i .loop-test .taken) (i .before .before .before .before .before .before .pre .0);
+        fits = naming-low (l .inv) (i .loop-test .taken) (c .before .block-at .ensures);
+      },
     )
 
 add-p : tie.Need-add-p Inv-loop μ-loop

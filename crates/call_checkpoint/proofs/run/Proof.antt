@@ -1,8 +1,10 @@
 -- `call_checkpoint::run` meets its contract.
-use Rattle.basics.proofs.Kit.{ap, _∙_, List, ℕ, min, length, needs, arith}
+use Rattle.basics.proofs.Kit.{ap, _∙_, List, ℕ, _+_, min, length, needs, arith}
 use Rattle.model.specs.Checkpoint.{runCall}
+use Rattle.memory_layout.specs.Flat.{flatOf}
 use Rattle.memory_layout.proofs.Laws.{holds-room}
 use Rattle.call_checkpoint.specs.Keeping.{Ready}
+use Rattle.call_checkpoint.proofs.Running.{left-is}
 use Rattle.call_checkpoint.proofs.Stepping.{frozen-all, stopped, passed-ready}
 use Rattle.call_checkpoint.proofs.Repeating.{run-5, run-18, Repeats, repeats-start, repeats-turn, repeats-end}
 use Rattle.call_checkpoint.proofs.run.Statement.{statement}
@@ -29,14 +31,17 @@ returns c = let p = c .before .before .before .before .before .args in
 count-frozen-requires : tie.Need-count-frozen-requires Inv-loop μ-loop
 count-frozen-requires c κs = (holds-room _ (ready (c .before) .runs .has-store), omega arith)
 
-left-requires : tie.Need-left-requires Inv-loop μ-loop
-left-requires c κs = let passed = c .before .before in
-    (ready passed .runs, frozen-all (began passed .args .m .now) (c .count-frozen .ensures))
+blocks-left-requires : tie.Need-blocks-left-requires Inv-loop μ-loop
+blocks-left-requires c κs = let passed = c .before .before in
+    (holds-room _ (ready passed .runs .has-store), frozen-all (began passed .args .m .now) (c .count-frozen .ensures))
+
+add-smaller : tie.Need-add-smaller Inv-loop μ-loop
+add-smaller c = record { fits = omega (arith, c .blocks-left .ensures .1) }
 
 loop-holds : tie.Need-loop-holds Inv-loop μ-loop
 loop-holds c = let passed = c .before .before .before .before in
     let p = began passed .args in
-    repeats-start (p .image .now) (p .m .now) _ (ready passed) (omega (arith, c .smaller .ensures, c .before .left .ensures))
+    repeats-start (p .image .now) (p .m .now) _ (ready passed) (omega (arith, c .smaller .ensures, c .before .blocks-left .ensures .0, left-is (flatOf (p .m .now)) (ready passed .runs .on)))
 
 loop-less : tie.Need-loop-less Inv-loop μ-loop
 loop-less c = omega (arith, c .before .before .before .before .before .before .before .loop-test .taken)
@@ -54,9 +59,10 @@ same-length-3 c = c .before .loop .inv .size
 
 returns-2 : tie.Need-returns-2 Inv-loop μ-loop
 returns-2 c = let passed = c .before .before .before .before .before .before in
-    let limit = began passed .args .limit in
-    repeats-end (c .before .loop .inv) (c .loop-test .left) limit (ready passed) (c .before .before .smaller .ensures ∙ ap (min limit) (c .before .before .before .left .ensures)) _ (omega arith)
+    let p = began passed .args in
+    let l = ap (λ (n : ℕ). n + 1) (c .before .before .before .blocks-left .ensures .0) ∙ left-is (flatOf (p .m .now)) (ready passed .runs .on) in
+    repeats-end (c .before .loop .inv) (c .loop-test .left) (p .limit) (ready passed) (c .before .before .smaller .ensures ∙ ap (min (p .limit)) l) _ (omega arith)
 
 pub run-spec : {M : Type 1} → statement M
-run-spec = tie.close (tie.spec Inv-loop μ-loop (λ c κs. search needs) (search needs) returns count-frozen-requires left-requires (λ c κs. search needs) loop-holds
+run-spec = tie.close (tie.spec Inv-loop μ-loop (λ c κs. search needs) (search needs) returns count-frozen-requires blocks-left-requires add-smaller (λ c κs. search needs) loop-holds
     (λ c κs. search needs) (λ c. omega arith) loop-less loop-again same-length-2 same-length-3 returns-2)

@@ -1,8 +1,7 @@
 -- `call_checkpoint::step` meets its contract.
-use Rattle.basics.proofs.Kit.{List, ℕ, length, needs, arith}
+use Rattle.basics.proofs.Kit.{List, ℕ, length, needs}
 use Rattle.model.specs.Checkpoint.{stepCall}
 use Rattle.call_checkpoint.specs.Keeping.{Ready}
-use Rattle.call_checkpoint.proofs.Allotting.{left-is}
 use Rattle.call_checkpoint.proofs.Stepping.{stopped, step-5, step-18, passed-ready, step-done}
 use Rattle.call_checkpoint.proofs.step.Statement.{statement}
 use Rattle.call_checkpoint.proofs.step.Tie as tie
@@ -26,7 +25,7 @@ returns-2 : tie.Need-returns-2
 returns-2 c = let passed = c .before .before .before .before .before .before .before in
     let p = began passed .args in
     let d = c .before .before .before .before .store-next .ensures in
-    step-done (p .image .now) (p .m .now) _ _ _ (ready passed) (d .0) (omega (arith, left-is _ _ (d .1)))
+    step-done (p .image .now) (p .m .now) _ _ _ (ready passed) (d .0) (d .1)
 
 pub step-spec : {M : Type 1} → statement M
 step-spec = tie.close (tie.spec (λ c κs. search needs) (λ c. search needs) returns store-next-requires (λ c. search needs) (λ c. search needs) returns-2)

@@ -1,58 +1,82 @@
 -- `call_checkpoint::store_next` meets its contract.
-use Rattle.basics.proofs.Kit.{needs, arith}
-use Rattle.memory_layout.specs.Flat.{flatOf}
+use Rattle.basics.proofs.Kit.{_≡_, sym, ap, needs, arith}
+use Rattle.memory_layout.specs.declared.Head.{Head}
+use Rattle.memory_layout.specs.Flat.{flatOf, noEntry}
 use Rattle.memory_layout.proofs.Laws.{holds-room}
-use Rattle.engine_pages.specs.Pending.{FirstFrozen}
-use Rattle.call_checkpoint.specs.Keeping.{NoneFrozen}
-use Rattle.call_checkpoint.proofs.Tallies.{sizes, pages-read}
-use Rattle.call_checkpoint.proofs.Stepping.{found-first, found-none, frozen-from, frozen-none}
+use Rattle.memory_bytes.proofs.Found.{first-most}
+use Rattle.memory_pages.specs.Pages.{frozenEntry}
+use Rattle.engine_allocator.specs.Blocks.{allocatorIn}
+use Rattle.engine_allocator.proofs.Tallies.{sizes}
+use Rattle.call_checkpoint.specs.Keeping.{BlockLeft}
+use Rattle.call_checkpoint.proofs.Stepping.{found-first, frozen-from}
+use Rattle.call_checkpoint.proofs.Allotting.{header-left, block-less}
 use Rattle.call_checkpoint.proofs.store_next.Statement.{statement}
 use Rattle.call_checkpoint.proofs.store_next.Tie as tie
-
-abbrev began : tie.Then1 → tie.Start
-began c = c .before .before .before .before .before .before .before .before
-
--- the page that was found
-found : (c : tie.Then1) → FirstFrozen (began c .args .m .now) (c .before .before .before .before .first-frozen .result)
-found c =
-    let m = began c .args .m .now in
-    record {
-      there = record { has-store = began c .pre .runs .has-store; inside = omega (arith, c .if1 .taken, pages-read m (c .before .before .get-counts .ensures)) };
-      first = found-first m (c .before .before .before .before .first-frozen .ensures);
-    }
-
-abbrev begun : tie.Else1 → tie.Start
-begun c = c .before .before .before .before .before .before .before .before
-
--- none was found
-nowhere : (c : tie.Else1) → NoneFrozen (begun c .args .m .now)
-nowhere c =
-    let m = begun c .args .m .now in
-    found-none m (c .before .before .before .before .first-frozen .ensures) (omega (arith, c .if1 .left, pages-read m (c .before .before .get-counts .ensures)))
 
 first-frozen-requires : tie.Need-first-frozen-requires
 first-frozen-requires c κs = holds-room _ (c .before .before .before .pre .runs .has-store)
 
-get-counts-requires : tie.Need-get-counts-requires
-get-counts-requires c κs = sizes (holds-room _ (c .before .before .before .before .before .pre .runs .has-store)) .long
-
 count-frozen-requires : tie.Need-count-frozen-requires
-count-frozen-requires c κs = let o = found (c .before) .there in (holds-room _ (o .has-store), omega (arith, o .inside))
+count-frozen-requires c κs =
+    let f = c .before in
+    let st = f .before .before .before .before in
+    (holds-room _ (st .pre .runs .has-store), omega (arith, f .first-frozen .ensures, first-most frozenEntry noEntry (flatOf (st .args .m .now) .entries)))
 
-allocator-of-requires : tie.Need-allocator-of-requires
-allocator-of-requires c κs =
-    let here = c .before .before in
-    (began here .pre .runs, frozen-from (began here .args .m .now) (here .before .before .before .before .first-frozen .ensures) (c .count-frozen .ensures))
+blocks-left-requires : tie.Need-blocks-left-requires
+blocks-left-requires c κs =
+    let f = c .before .before in
+    let st = f .before .before .before .before in
+    (holds-room _ (st .pre .runs .has-store), frozen-from (st .args .m .now) (f .first-frozen .ensures) (c .count-frozen .ensures))
 
-store-page-requires : tie.Need-store-page-requires
-store-page-requires c κs = let here = c .before .before .before .before .before in (began here .pre, (found here, c .before .before .allocator-of .ensures))
+store-header-requires : tie.Need-store-header-requires
+store-header-requires c κs =
+    let none = c .before .before in
+    let n = none .before in
+    let p = n .before .before .before .before .before .before .before .pre in
+    let e = n .blocks-left .ensures .0 in
+    record { ready = p; none-frozen = omega (arith, none .if1 .taken, e); complete = omega (arith, none .if1 .taken, e) }
 
-allocator-of-requires-2 : tie.Need-allocator-of-requires-2
-allocator-of-requires-2 c κs = let st = begun (c .before) in (st .pre .runs, frozen-none (st .args .m .now) (nowhere (c .before)))
+returns : tie.Need-returns
+returns c = let d = c .before .before .before .before .store-header .ensures in (d .0, sym (d .1))
 
-store-rest-requires : tie.Need-store-rest-requires
-store-rest-requires c κs = let told = c .before .before .before .before in (begun told .pre, (nowhere told, c .before .before .allocator-of2 .ensures))
+get-head-requires : tie.Need-get-head-requires
+get-head-requires c κs = sizes (holds-room _ (c .before .before .before .before .before .before .before .before .before .pre .runs .has-store)) .long
+
+abbrev began : tie.Else1 → tie.Start
+began c = c .before .before .before .before .before .before .before .before
+
+left-is : (c : tie.Else1) → c .before .blocks-left .result ≡ allocatorIn (began c .args .m .now) .left
+left-is c = c .before .blocks-left .ensures .0
+
+-- a block is left
+block : (c : tie.Else1) → BlockLeft (began c .args .image .now) (began c .args .m .now) (c .before .before .before .before .first-frozen .result)
+block c =
+    let f = c .before .before .before .before .first-frozen in
+    record { ready = began c .pre; next = found-first (began c .args .m .now) (f .ensures); some-left = omega (arith, c .if1 .left, left-is c) }
+
+lend-allocator-requires : tie.Need-lend-allocator-requires
+lend-allocator-requires c κs =
+    let h = c .before .before in
+    let some = h .before .before in
+    let t = ap (λ (x : Head). x .taken) (h .get-head .ensures) in
+    let l = left-is some in
+    (block some, λ i. record { taken = t i; left = l i })
+
+add-result : tie.Need-add-result
+add-result c =
+    let d = c .before .before .before .before in
+    let some = d .before .before .before .before .before in
+    let b = block some in
+    let less = block-less (b .ready .runs) (b .some-left) (d .lend-allocator .ensures .0) in
+    record { fits = omega (arith, d .lend-allocator .ensures .1, less, left-is some, some .before .blocks-left .ensures .1) }
+
+returns-2 : tie.Need-returns-2
+returns-2 c =
+    let d = c .before .before .before .before in
+    let b = block (d .before .before .before .before .before) in
+    let e = d .lend-allocator .ensures in
+    (e .0, omega (arith, e .1, header-left (b .ready .runs) (b .some-left) (e .0)))
 
 pub store-next-spec : {M : Type 1} → statement M
-store-next-spec = tie.close (tie.spec first-frozen-requires get-counts-requires (λ c. search needs) count-frozen-requires allocator-of-requires store-page-requires
-    (λ c. search needs) (λ c. search needs) (λ c. search needs) allocator-of-requires-2 store-rest-requires (λ c. search needs) (λ c. search needs) (λ c. search needs))
+store-next-spec = tie.close (tie.spec first-frozen-requires count-frozen-requires blocks-left-requires store-header-requires (λ c. search needs) (λ c. search needs)
+    returns get-head-requires lend-allocator-requires add-result (λ c. search needs) (λ c. search needs) returns-2)
