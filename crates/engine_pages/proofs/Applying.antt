@@ -5,19 +5,18 @@ use Rattle.basics.proofs.Kit.{set-getD, set-set, arith}
 use Rattle.basics.specs.Basics.{if_then_else_, sum}
 use Rattle.basics.proofs.Facts.{by}
 use Rattle.model.specs.State.{nothing, Held, Page}
-use Rattle.model.specs.Rules.{isRemoving, isCommitting, withPending, withoutPending, applied, live, asCommitted, fresh}
+use Rattle.model.specs.Rules.{isRemoving, isCommitting, withPending, withoutPending, applied, live, fresh}
 use Rattle.basics.specs.Lists.{removeAt}
 use Rattle.memory_layout.specs.Flat.{Flat, flatOf, entryIn, rowIn, noRow, noEntry, Room, Becomes, withRows, withEntries}
-use Rattle.memory_layout.specs.Store.{nest, total, pageOf, pageIn, startOf}
+use Rattle.memory_layout.specs.Store.{nest, total, pageOf, pageIn}
 use Rattle.memory_layout.specs.declared.Entry.{Entry}
 use Rattle.memory_layout.proofs.Laws.{becomes-then}
-use Rattle.memory_layout.proofs.Nest.{Counted}
-use Rattle.memory_layout.proofs.Exchange.{counted-set, counted-exchange, nest-one, for-page, page-set}
+use Rattle.memory_layout.proofs.Exchange.{counted-set, counted-exchange, for-page, page-set}
 use Rattle.memory_rows.specs.Rows.{committedRow}
 use Rattle.memory_pages.specs.Pages.{dirty, withBlock, withCount, fewerRows, MayLose}
 use Rattle.engine_pages.specs.Pages.{PagesNow, pagesOf, pageAt, tuplesAt, entryOf, firstRow, There, swapped}
 use Rattle.engine_pages.specs.Pending.{applyPending, appliedAll, AppliesOne, Applies, Applied}
-use Rattle.engine_pages.proofs.Places.{now-becomes, counted, full, room, many, page-end, has-row, pos-of, still-there}
+use Rattle.engine_pages.proofs.Places.{now-becomes, counted, full, room, many, page-end, pos-of, still-there}
 use Rattle.engine_pages.proofs.Rows.{page-fresh}
 use Rattle.engine_pages.proofs.Removing.{becomes-to, remove-set}
 use Rattle.engine_pages.proofs.Growing.{getD-front}

@@ -2,7 +2,7 @@
 use Rattle.basics.proofs.Kit.{_≡_, refl, sym, ap, _∙_, true, false, List, [], _∷_, ℕ, _-_, set, set-getD}
 use Rattle.basics.specs.Basics.{if_then_else_}
 use Rattle.model.specs.State.{committing, Held, Page}
-use Rattle.model.specs.Rules.{isAdding, isRemoving, commitNow, pendCommit, asCommitted, withPending, withTuples, fresh}
+use Rattle.model.specs.Rules.{isAdding, isRemoving, commitNow, pendCommit, withPending, withTuples, fresh}
 use Rattle.model.specs.Places.{editAt, committedAt, commitRowOn, commitRow}
 use Rattle.model.proofs.Flat.{edit-one}
 use Rattle.memory_layout.specs.Flat.{flatOf, rowIn, noRow, Becomes, withRows, withEntries}

@@ -6,9 +6,9 @@ use Rattle.block_forms.specs.Tuple.{Tuple}
 use Rattle.model.specs.State.{adding, Held, Page}
 use Rattle.model.specs.Rules.{splitOnce, fresh, withoutPending, grown, entering, withPending, withTuples}
 use Rattle.basics.specs.Lists.{insertAt}
-use Rattle.memory_layout.specs.Flat.{Flat, flatOf, entryIn, rowIn, noRow, noEntry, Room, Becomes, withRows, withEntries}
+use Rattle.memory_layout.specs.Flat.{Flat, flatOf, entryIn, rowIn, noRow, noEntry, Becomes, withRows, withEntries}
 use Rattle.memory_layout.specs.Views.{headOf}
-use Rattle.memory_layout.specs.Store.{nest, pageOf, pageIn, total, startOf}
+use Rattle.memory_layout.specs.Store.{nest, total}
 use Rattle.memory_layout.specs.declared.Entry.{Entry}
 use Rattle.memory_layout.proofs.Laws.{holds-room, filled, becomes-then}
 use Rattle.memory_layout.proofs.Nest.{Counted, counted-length}
@@ -16,7 +16,7 @@ use Rattle.memory_layout.proofs.Exchange.{start-le, counted-set, counted-exchan
 use Rattle.memory_rows.specs.Rows.{heldBy, pendingIs, NewRow}
 use Rattle.memory_rows.specs.declared.Pending.{Pending}
 use Rattle.memory_rows.specs.declared.Row.{Row}
-use Rattle.memory_pages.specs.Pages.{dirty, withBlock, withCount, moreRows, Between}
+use Rattle.memory_pages.specs.Pages.{dirty, withBlock, withCount, moreRows}
 use Rattle.engine_pages.specs.Pages.{PagesNow, pagesOf, pageAt, tuplesAt, entryOf, firstRow, There, swapped}
 use Rattle.engine_pages.specs.Changes.{Dirty, Halved}
 use Rattle.engine_pages.specs.Spots.{tupleBy, placedOn, NewTuple, GrowAt, AddAt}

@@ -4,14 +4,14 @@ use Rattle.basics.proofs.Kit.{length-append, take-append-drop, take-at, drop-at
 use Rattle.basics.proofs.Tabs.{lt-or-ge}
 use Rattle.model.specs.State.{Held, Page, Store}
 use Rattle.model.specs.Transactions.{changed}
-use Rattle.memory_layout.specs.Flat.{Flat, flatOf, capacityOf, entryIn, rowIn, noRow, Room, Becomes, withRows, withEntries}
-use Rattle.memory_layout.specs.Store.{nest, pageOf, pageIn, total, startOf, holdsStore, storeOf, storeIn, HoldsNow}
+use Rattle.memory_layout.specs.Flat.{Flat, flatOf, rowIn, noRow, Room, Becomes, withRows, withEntries}
+use Rattle.memory_layout.specs.Store.{nest, pageOf, pageIn, total, holdsStore, storeOf, HoldsNow}
 use Rattle.memory_layout.specs.declared.Entry.{Entry}
 use Rattle.memory_layout.specs.Views.{headOf}
 use Rattle.memory_pages.proofs.Ranges.{entry-block}
 use Rattle.memory_layout.proofs.Laws.{Known, known, entries-length, filled, Sound, in-some, in-sound, holds-room, holds-counted, becomes-store}
-use Rattle.memory_layout.proofs.Nest.{Counted, all-counted, counted-all, counted-at, counted-length}
-use Rattle.memory_layout.proofs.Exchange.{pages-count, page-at, page-long, start-next, start-in, start-le, tuple-at, counted-more}
+use Rattle.memory_layout.proofs.Nest.{Counted, all-counted, counted-all, counted-at}
+use Rattle.memory_layout.proofs.Exchange.{pages-count, page-at, page-long, start-next, start-in, tuple-at, counted-more}
 use Rattle.engine_pages.specs.Pages.{withPages, PagesNow, pagesOf, pageAt, tuplesAt, entryOf, firstRow, rowsFrom, Span, There, RowOn, swapped}
 
 -- ---- one change after another
