@@ -37,7 +37,7 @@ later-noted : (h : Held) → isAdding (h .pending) ≡ false → isRemoving (h .
 unfolding pendCommit if_then_else_
 later-noted h a e = rw (a, e)
 
-with-same : (q : Page) → withTuples q (q .tuples) ≡ q
+pub with-same : (q : Page) → withTuples q (q .tuples) ≡ q
 unfolding withTuples
 with-same q = refl
 
