@@ -17,7 +17,6 @@ use Rattle.call_transactions.specs.Calls.{endCall}
 use Rattle.call_transactions.proofs.Opens.{without-found, without-none}
 use Rattle.call_transactions.proofs.Verdicts.{passed-held, call-after, answers-stopped, open-numbered}
 use Rattle.call_transactions.proofs.Opening.{opens-hold}
-use Rattle.model.specs.State as model
 
 -- what the loop has shown: only the list of open transactions has changed
 pub record Closed (m m' : List ℕ) (tx : ℕ) : Type 0 where

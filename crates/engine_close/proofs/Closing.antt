@@ -9,11 +9,11 @@ use Rattle.memory_layout.specs.Flat.{flatOf}
 use Rattle.memory_layout.specs.Store.{storeOf, holdsStore, HoldsNow}
 use Rattle.engine_pages.specs.Pages.{withPages, PagesNow, pagesOf}
 use Rattle.engine_pages.proofs.Places.{now-held, now-pages, now-then, now-to, now-stay}
-use Rattle.engine_close.specs.Close.{taggedOf, isLive, rowFrom, isOwnRow, entryPlace, removedLive, closedRun, Behind, RowRemoved, LiveRemoved, Within, RunClosed}
+use Rattle.engine_close.specs.Close.{taggedOf, isLive, rowFrom, entryPlace, removedLive, closedRun, Behind, RowRemoved, LiveRemoved, Within, RunClosed}
 use Rattle.model.proofs.Others.{others-stay, only-count, only-front, only-behind}
 use Rattle.model.proofs.Rows.{applied-is}
 use Rattle.model.proofs.Carry.{carry-append}
-use Rattle.engine_close.proofs.Removals.{carry-commit, removed-behind, removed-least, removed-most, behind-fewer, behind-place, behind-left, behind-more}
+use Rattle.engine_close.proofs.Removals.{carry-commit, removed-behind, removed-least, removed-most, behind-fewer, behind-place, behind-more}
 use Rattle.engine_close.proofs.Removals.{behind-then, behind-at, picks, removing, none-left, pass-row, hit-row, removing-then, live-removing}
 use Rattle.engine_close.proofs.RunPlans.{other-picks}
 

@@ -1,13 +1,12 @@
 -- The rows of a memory with room, each with its table: as many as the memory says, in its order, and tables by the page entries.
-use Rattle.basics.proofs.Kit.{_≡_, refl, sym, ap, _∙_, subst, ap₂, ⊎-elim, true, List, [], _∷_, _++_, map, ℕ, suc, _+_, _≤_, _<_, zero, _-_, add-one, ltb, length, take, drop, getD}
-use Rattle.basics.proofs.Kit.{length-drop, take-append-drop, length-map, List·getD-append, List·getD-map, take-suc, length-take-le, getD-append-add, take-length, arith}
+use Rattle.basics.proofs.Kit.{_≡_, refl, sym, ap, _∙_, subst, ⊎-elim, true, List, [], _∷_, _++_, map, ℕ, suc, _+_, _≤_, _<_, zero, _-_, add-one, ltb, length, take, drop, getD}
+use Rattle.basics.proofs.Kit.{length-drop, length-map, List·getD-append, List·getD-map, length-take-le, getD-append-add, take-length, arith}
 use Rattle.basics.specs.Basics.{sum}
-use Rattle.basics.proofs.Lists.{map-append}
 use Rattle.basics.proofs.Facts.{by}
 use Rattle.model.specs.State.{Held}
 use Rattle.model.specs.Places.{tagged}
 use Rattle.basics.proofs.Elements.{leb-true, leb-false}
-use Rattle.memory_layout.specs.Flat.{Flat, flatOf, noRow, noEntry, rowIn, entryIn, Room}
+use Rattle.memory_layout.specs.Flat.{flatOf, noRow, noEntry, rowIn, entryIn, Room}
 use Rattle.memory_layout.specs.Store.{pageOf, nest, total, startOf, holdsStore}
 use Rattle.memory_layout.specs.declared.Entry.{Entry}
 use Rattle.memory_layout.specs.Views.{countsOf}

@@ -1,12 +1,12 @@
 -- A commit and an abort, step by step: what is left to do from a row on.
-use Rattle.basics.proofs.Kit.{_≡_, refl, sym, ap, _∙_, subst, ap₂, ⊎-elim, Bool, true, false, some, List, [], _∷_, _++_, ℕ, suc, _+_, _≤_, _<_, _-_, length, take, drop, length-take, length-drop}
-use Rattle.basics.proofs.Kit.{take-append-drop, drop-of-length-le, drop-drop, drop-cons, getD-drop, getD-take, arith}
+use Rattle.basics.proofs.Kit.{_≡_, refl, sym, ap, _∙_, subst, ap₂, ⊎-elim, Bool, true, false, some, List, [], _∷_, _++_, ℕ, suc, _+_, _≤_, _<_, _-_, length, take, drop}
+use Rattle.basics.proofs.Kit.{length-take, length-drop, take-append-drop, drop-of-length-le, drop-drop, drop-cons, getD-drop, getD-take, arith}
 use Rattle.basics.specs.Basics.{last}
 use Rattle.basics.proofs.Facts.{AllOf}
 use Rattle.model.specs.State.{Held, Page}
 use Rattle.model.specs.Sight.{held}
 use Rattle.model.specs.Rules.{applied}
-use Rattle.model.specs.Places.{tagged, placed, carryOut, runs, liveOf, planNewest, planRun, planRuns, allPlaced, allRuns, closePlan, abortPlan, ownPlaced, Placed}
+use Rattle.model.specs.Places.{tagged, placed, carryOut, runs, liveOf, planNewest, planRun, planRuns, allPlaced, allRuns, closePlan, ownPlaced, Placed}
 use Rattle.basics.proofs.Tabs.{lt-or-ge}
 use Rattle.memory_layout.specs.Flat.{noRow}
 use Rattle.memory_layout.specs.Store.{holdsStore}

@@ -1,26 +1,24 @@
 -- Pending operations applied: to one row, to the rows of a page, and the page that they leave.
 use Rattle.basics.proofs.Kit.{_≡_, refl, sym, ap, _∙_, subst, true, false, List, [], _∷_, _++_, append-assoc, append-nil, map, ℕ, suc, _+_, _≤_, _<_, _-_, add-one, length, take, drop, getD}
 use Rattle.basics.proofs.Kit.{set, length-append, length-drop, take-append-drop, length-set, set-split, take-at, drop-at, drop-cons, take-suc, getD-drop, length-take-le, getD-set-same}
-use Rattle.basics.proofs.Kit.{set-getD, set-set, arith}
+use Rattle.basics.proofs.Kit.{set-getD, set-set, getD-append-seam, arith}
 use Rattle.basics.specs.Basics.{if_then_else_, sum}
 use Rattle.basics.proofs.Facts.{by}
 use Rattle.model.specs.State.{nothing, Held, Page}
-use Rattle.model.specs.Rules.{isRemoving, isCommitting, withPending, withoutPending, applied, live, asCommitted, fresh}
+use Rattle.model.specs.Rules.{isRemoving, isCommitting, withPending, withoutPending, applied, live, fresh}
 use Rattle.basics.specs.Lists.{removeAt}
 use Rattle.memory_layout.specs.Flat.{Flat, flatOf, entryIn, rowIn, noRow, noEntry, Room, Becomes, withRows, withEntries}
-use Rattle.memory_layout.specs.Store.{nest, total, pageOf, pageIn, startOf}
+use Rattle.memory_layout.specs.Store.{nest, total, pageOf, pageIn}
 use Rattle.memory_layout.specs.declared.Entry.{Entry}
 use Rattle.memory_layout.proofs.Laws.{becomes-then}
-use Rattle.memory_layout.proofs.Nest.{Counted}
-use Rattle.memory_layout.proofs.Exchange.{counted-set, counted-exchange, nest-one, for-page, page-set}
+use Rattle.memory_layout.proofs.Exchange.{counted-set, counted-exchange, for-page, page-set}
 use Rattle.memory_rows.specs.Rows.{committedRow}
 use Rattle.memory_pages.specs.Pages.{dirty, withBlock, withCount, fewerRows, MayLose}
 use Rattle.engine_pages.specs.Pages.{PagesNow, pagesOf, pageAt, tuplesAt, entryOf, firstRow, There, swapped}
 use Rattle.engine_pages.specs.Pending.{applyPending, appliedAll, AppliesOne, Applies, Applied}
-use Rattle.engine_pages.proofs.Places.{now-becomes, counted, full, room, many, page-end, has-row, pos-of, still-there}
+use Rattle.engine_pages.proofs.Places.{now-becomes, counted, full, room, page-end, pos-of, still-there}
 use Rattle.engine_pages.proofs.Rows.{page-fresh}
 use Rattle.engine_pages.proofs.Removing.{becomes-to, remove-set}
-use Rattle.engine_pages.proofs.Growing.{getD-front}
 
 -- ---- tuples
 
@@ -44,11 +42,6 @@ applied-append (x ∷ xs) ys = ap (λ (z : List Held). applyPending x ++ z) (app
 
 applied-one : (h : Held) → length (applyPending h) ≤ 1
 applied-one h = by (isRemoving (h .pending)) (λ e. omega (arith, ap length (applied-removed h e))) (λ e. omega (arith, ap length (applied-kept h e)))
-
-applied-most : (xs : List Held) → length (appliedAll xs) ≤ length xs
-unfolding appliedAll
-applied-most [] = omega arith
-applied-most (x ∷ xs) = omega (arith, length-append (applyPending x) (appliedAll xs), applied-one x, applied-most xs)
 
 kept-committing : (h : Held) → isCommitting (h .pending) ≡ true → withPending nothing (committedRow h) ≡ withoutPending (applied h)
 unfolding withPending committedRow withoutPending applied if_then_else_
@@ -196,7 +189,7 @@ module _ {m : List ℕ} {p : ℕ} (a : There m p) where
     inside = omega (arith, ap length rows-front, length-append (A ++ B) (x ∷ D), front-long)
 
     row-is : rowIn (flatOf m1) i ≡ x
-    row-is = ap (λ (z : List Held). getD z i noRow) rows-front ∙ ap (λ (k : ℕ). getD ((A ++ B) ++ x ∷ D) k noRow) (sym front-long) ∙ getD-front (A ++ B) x D noRow
+    row-is = ap (λ (z : List Held). getD z i noRow) rows-front ∙ ap (λ (k : ℕ). getD ((A ++ B) ++ x ∷ D) k noRow) (sym front-long) ∙ getD-append-seam (A ++ B) x D noRow
 
     entry-is : entryOf m1 p ≡ withCount (entryOf m p) (i - firstRow m p + left)
     entry-is = ap (λ (f : Flat). entryIn f p) (inv .becomes .flat) ∙ getD-set-same (flatOf m .entries) p _ noEntry (a .inside)
@@ -310,6 +303,3 @@ module _ {m : List ℕ} {p : ℕ} (a : There m p) where
         (page-set (flatOf m) (full a) p (a .inside) e hs R (o .count) refl
         ∙ ap (λ (z : Page). take p (pagesOf m) ++ z ∷ drop (suc p) (pagesOf m)) (page-fresh m p r hs)) in
         record { count = o .count; none-left = λ q. absurd (nz q); some-left = λ q. t }
-
-    pub left-most : r ≤ entryOf m p .count
-    left-most = omega (arith, o .count, applied-most (tuplesAt m p), many a)

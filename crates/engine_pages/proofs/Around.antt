@@ -1,6 +1,6 @@
 -- The model's walk to the first page that passes a test, by place; pages joined there.
 use Rattle.basics.proofs.Kit.{_≡_, refl, sym, ap, _∙_, subst, Bool, true, false, cond, some, none, Option, List, [], _∷_, _++_, append-nil, ℕ, suc, _+_, _≤_, _<_, zero, add-one, length}
-use Rattle.basics.proofs.Kit.{take, drop, drop-of-length-le, arith}
+use Rattle.basics.proofs.Kit.{take, drop, drop-of-length-le, drop-nil, arith}
 use Rattle.basics.specs.Basics.{if_then_else_, isEmpty}
 use Rattle.basics.proofs.Facts.{by}
 use Rattle.basics.specs.Lists.{firstIndex}
@@ -15,10 +15,6 @@ use Rattle.engine_pages.proofs.Places.{cons-head, from-page, swap-same}
 
 none-cons : {A : Type 0} (x : A) (xs : List A) → [] ≡ x ∷ xs → ⊥
 none-cons x xs e = let z : _≡_ {A = ℕ} 0 1 = cc in omega arith
-
-drop-none : {A : Type 0} (p : ℕ) → _≡_ {A = List A} (drop p []) []
-drop-none zero = refl
-drop-none (suc p) = refl
 
 -- ---- f on page p
 
@@ -35,7 +31,7 @@ module _ (f : Option Page → Page → List Page → List Page) where
   pub on-local : (Y : List Page → List Page) (p : ℕ) (q : Page) (ps : List Page) → ((prev : Option Page) (qs : List Page) → f prev q qs ≡ listOf prev ++ Y qs)
       → drop p ps ≡ q ∷ drop (suc p) ps → (prev : Option Page) → onPage f p prev ps ≡ listOf prev ++ (take p ps ++ Y (drop (suc p) ps))
   unfolding onPage listOf
-  on-local Y p q [] h e prev = absurd (none-cons q _ (sym (drop-none p) ∙ e))
+  on-local Y p q [] h e prev = absurd (none-cons q _ (sym (drop-nil p) ∙ e))
   on-local Y zero q (r ∷ rs) h e prev = ap (λ (z : Page). f prev z rs) (cons-head r q _ _ e) ∙ h prev rs
   on-local Y (suc p) q (r ∷ rs) h e prev = ap (λ (z : List Page). listOf prev ++ z) (on-local Y p q rs h e (some r))
 
@@ -44,7 +40,7 @@ module _ (f : Option Page → Page → List Page → List Page) where
       → ((prev : Option Page) (qs : List Page) → f prev q qs ≡ g prev r qs) → drop p ps ≡ q ∷ drop (suc p) ps
       → (prev : Option Page) → onPage f p prev ps ≡ onPage g p prev (take p ps ++ r ∷ drop (suc p) ps)
   unfolding onPage
-  on-changed g p q r [] h e prev = absurd (none-cons q _ (sym (drop-none p) ∙ e))
+  on-changed g p q r [] h e prev = absurd (none-cons q _ (sym (drop-nil p) ∙ e))
   on-changed g zero q r (s ∷ ss) h e prev = ap (λ (z : Page). f prev z ss) (cons-head s q _ _ e) ∙ h prev ss
   on-changed g (suc p) q r (s ∷ ss) h e prev = ap (λ (z : List Page). listOf prev ++ z) (on-changed g p q r ss h e (some s))
 
@@ -56,7 +52,7 @@ module _ (f : Option Page → Page → List Page → List Page) where
   on-second : (p : ℕ) (o q : Page) (ps : List Page) → drop p ps ≡ o ∷ drop (suc p) ps → drop (suc p) ps ≡ q ∷ drop (suc (suc p)) ps
       → (prev : Option Page) → onPage f (suc p) prev ps ≡ listOf prev ++ (take p ps ++ f (some o) q (drop (suc (suc p)) ps))
   unfolding onPage listOf
-  on-second p o q [] e1 e2 prev = absurd (none-cons o _ (sym (drop-none p) ∙ e1))
+  on-second p o q [] e1 e2 prev = absurd (none-cons o _ (sym (drop-nil p) ∙ e1))
   on-second zero o q (r ∷ []) e1 e2 prev = absurd (none-cons q _ e2)
   on-second zero o q (r ∷ s ∷ ss) e1 e2 prev =
       ap (λ (z : List Page). listOf prev ++ z)

@@ -2,7 +2,7 @@
 use Rattle.basics.proofs.Kit.{_≡_, refl, sym, ap, _∙_, true, false, List, [], _∷_, ℕ, _-_, set, set-getD}
 use Rattle.basics.specs.Basics.{if_then_else_}
 use Rattle.model.specs.State.{committing, Held, Page}
-use Rattle.model.specs.Rules.{isAdding, isRemoving, commitNow, pendCommit, asCommitted, withPending, withTuples, fresh}
+use Rattle.model.specs.Rules.{isAdding, isRemoving, commitNow, pendCommit, withPending, withTuples, fresh}
 use Rattle.model.specs.Places.{editAt, committedAt, commitRowOn, commitRow}
 use Rattle.model.proofs.Flat.{edit-one}
 use Rattle.memory_layout.specs.Flat.{flatOf, rowIn, noRow, Becomes, withRows, withEntries}
@@ -37,7 +37,7 @@ later-noted : (h : Held) → isAdding (h .pending) ≡ false → isRemoving (h .
 unfolding pendCommit if_then_else_
 later-noted h a e = rw (a, e)
 
-with-same : (q : Page) → withTuples q (q .tuples) ≡ q
+pub with-same : (q : Page) → withTuples q (q .tuples) ≡ q
 unfolding withTuples
 with-same q = refl
 

@@ -1,14 +1,14 @@
 -- A row goes on a page, or on a new page.
 use Rattle.basics.proofs.Kit.{_≡_, refl, sym, ap, _∙_, subst, true, false, List, [], _∷_, _++_, map, ℕ, suc, _+_, _*_, _<_, _-_, length, take, drop, getD, set, length-set, length-take-le}
-use Rattle.basics.proofs.Kit.{getD-set-same, set-at, set-set, arith}
+use Rattle.basics.proofs.Kit.{getD-append-seam, getD-set-same, set-at, set-set, arith}
 use Rattle.basics.specs.Basics.{if_then_else_}
 use Rattle.block_forms.specs.Tuple.{Tuple}
 use Rattle.model.specs.State.{adding, Held, Page}
 use Rattle.model.specs.Rules.{splitOnce, fresh, withoutPending, grown, entering, withPending, withTuples}
 use Rattle.basics.specs.Lists.{insertAt}
-use Rattle.memory_layout.specs.Flat.{Flat, flatOf, entryIn, rowIn, noRow, noEntry, Room, Becomes, withRows, withEntries}
+use Rattle.memory_layout.specs.Flat.{Flat, flatOf, entryIn, rowIn, noRow, noEntry, Becomes, withRows, withEntries}
 use Rattle.memory_layout.specs.Views.{headOf}
-use Rattle.memory_layout.specs.Store.{nest, pageOf, pageIn, total, startOf}
+use Rattle.memory_layout.specs.Store.{nest, total}
 use Rattle.memory_layout.specs.declared.Entry.{Entry}
 use Rattle.memory_layout.proofs.Laws.{holds-room, filled, becomes-then}
 use Rattle.memory_layout.proofs.Nest.{Counted, counted-length}
@@ -16,7 +16,7 @@ use Rattle.memory_layout.proofs.Exchange.{start-le, counted-set, counted-exchan
 use Rattle.memory_rows.specs.Rows.{heldBy, pendingIs, NewRow}
 use Rattle.memory_rows.specs.declared.Pending.{Pending}
 use Rattle.memory_rows.specs.declared.Row.{Row}
-use Rattle.memory_pages.specs.Pages.{dirty, withBlock, withCount, moreRows, Between}
+use Rattle.memory_pages.specs.Pages.{dirty, withBlock, withCount, moreRows}
 use Rattle.engine_pages.specs.Pages.{PagesNow, pagesOf, pageAt, tuplesAt, entryOf, firstRow, There, swapped}
 use Rattle.engine_pages.specs.Changes.{Dirty, Halved}
 use Rattle.engine_pages.specs.Spots.{tupleBy, placedOn, NewTuple, GrowAt, AddAt}
@@ -34,10 +34,6 @@ grown-split : (q : Page) (x : Tuple) (j : ℕ) → q .frozen ≡ false
     → placedOn x j q ≡ map (fresh (q .table)) (splitOnce (insertAt j (withoutPending x) (q .tuples)))
 unfolding placedOn grown entering withoutPending if_then_else_
 grown-split q x j e = rw e
-
-pub getD-front : {A : Type 0} (xs : List A) (y : A) (ys : List A) (d : A) → getD (xs ++ y ∷ ys) (length xs) d ≡ y
-getD-front [] y ys d = refl
-getD-front (x ∷ xs) y ys d = getD-front xs y ys d
 
 -- a row with nothing pending
 held-withoutPending : {m : List ℕ} {row : Row} {xs : List ℕ} → NewTuple m row xs → heldBy row xs ≡ withoutPending (tupleBy row xs)
@@ -87,7 +83,7 @@ module _ {m : List ℕ} {p at : ℕ} {row : Row} {xs : List ℕ} (g : GrowAt m p
         let h : Held = record { tuple = x; pending = adding } in
         let la : length (take at rs) ≡ at = length-take-le at rs (grow-new .at) in
         let gd : getD (insertAt at old rs) at noRow ≡ old =
-        ap (λ (z : ℕ). getD (insertAt at old rs) z noRow) (sym la) ∙ getD-front (take at rs) old (drop at rs) noRow in
+        ap (λ (z : ℕ). getD (insertAt at old rs) z noRow) (sym la) ∙ getD-append-seam (take at rs) old (drop at rs) noRow in
         let er : set (insertAt at old rs) at (withPending adding (getD (insertAt at old rs) at noRow)) ≡ insertAt at h rs =
         ap (λ (y : Held). set (insertAt at old rs) at (withPending adding y)) gd ∙ set-at (take at rs) old (drop at rs) h at la in
         let w : Becomes m m2 (after h) =
@@ -171,7 +167,7 @@ module _ {m : List ℕ} {t p : ℕ} {row : Row} {xs : List ℕ} (g : AddAt m t p
         let pz : p + 0 ≡ p = omega arith in
         let lp : length (take p es) ≡ p = length-take-le p es (g .between .most) in
         let gd : getD (insertAt p (dirty t 0) es) p noEntry ≡ dirty t 0 =
-        ap (λ (z : ℕ). getD (insertAt p (dirty t 0) es) z noEntry) (sym lp) ∙ getD-front (take p es) (dirty t 0) (drop p es) noEntry in
+        ap (λ (z : ℕ). getD (insertAt p (dirty t 0) es) z noEntry) (sym lp) ∙ getD-append-seam (take p es) (dirty t 0) (drop p es) noEntry in
         let eE : moreRows p (insertAt p (dirty t 0) es) ≡ insertAt p (dirty t 1) es =
         ap (λ (y : Entry). set (insertAt p (dirty t 0) es) p (withCount y (y .count + 1))) gd ∙ set-at (take p es) (dirty t 0) (drop p es) (dirty t 1) p lp in
         now-becomes (becomes-to (withRows (flatOf m) (insertAt at h (flatOf m .rows)))

@@ -1,5 +1,5 @@
 -- Whether two pages may be joined, and what joining a changed page does.
-use Rattle.basics.proofs.Kit.{_≡_, refl, sym, ap, _∙_, subst, Bool, true, false, not, none, List, [], _∷_, _++_, ℕ, suc, _+_, _<_, _-_, leb, length, take, drop, drop-drop, take-add, eq-eqb}
+use Rattle.basics.proofs.Kit.{_≡_, refl, sym, ap, _∙_, subst, Bool, true, false, none, List, [], _∷_, _++_, ℕ, suc, _+_, _<_, _-_, leb, length, take, drop, drop-drop, take-add, eq-eqb}
 use Rattle.basics.proofs.Kit.{ne-eqb, arith}
 use Rattle.basics.specs.Basics.{sum, isEmpty}
 use Rattle.basics.proofs.Facts.{by, lie}

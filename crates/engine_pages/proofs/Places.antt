@@ -1,17 +1,17 @@
 -- Pages by place: what stands where after pages were exchanged, and one change after another.
-use Rattle.basics.proofs.Kit.{_≡_, refl, sym, ap, _∙_, ⊎-elim, true, some, List, [], _∷_, _++_, append-assoc, append-nil, ℕ, suc, _+_, _*_, _≤_, _<_, zero, _-_, length, take, drop, getD}
+use Rattle.basics.proofs.Kit.{_≡_, refl, sym, ap, _∙_, ⊎-elim, true, some, List, [], _∷_, _++_, append-assoc, append-nil, ℕ, suc, _+_, _*_, _≤_, _<_, _-_, length, take, drop, getD}
 use Rattle.basics.proofs.Kit.{length-append, take-append-drop, take-at, drop-at, length-take-le, arith}
 use Rattle.basics.proofs.Tabs.{lt-or-ge}
 use Rattle.model.specs.State.{Held, Page, Store}
 use Rattle.model.specs.Transactions.{changed}
-use Rattle.memory_layout.specs.Flat.{Flat, flatOf, capacityOf, entryIn, rowIn, noRow, Room, Becomes, withRows, withEntries}
-use Rattle.memory_layout.specs.Store.{nest, pageOf, pageIn, total, startOf, holdsStore, storeOf, storeIn, HoldsNow}
+use Rattle.memory_layout.specs.Flat.{Flat, flatOf, rowIn, noRow, Room, Becomes, withRows, withEntries}
+use Rattle.memory_layout.specs.Store.{nest, pageOf, pageIn, total, holdsStore, storeOf, HoldsNow}
 use Rattle.memory_layout.specs.declared.Entry.{Entry}
 use Rattle.memory_layout.specs.Views.{headOf}
 use Rattle.memory_pages.proofs.Ranges.{entry-block}
 use Rattle.memory_layout.proofs.Laws.{Known, known, entries-length, filled, Sound, in-some, in-sound, holds-room, holds-counted, becomes-store}
-use Rattle.memory_layout.proofs.Nest.{Counted, all-counted, counted-all, counted-at, counted-length}
-use Rattle.memory_layout.proofs.Exchange.{pages-count, page-at, page-long, start-next, start-in, start-le, tuple-at, counted-more}
+use Rattle.memory_layout.proofs.Nest.{Counted, all-counted, counted-all, counted-at}
+use Rattle.memory_layout.proofs.Exchange.{pages-count, page-at, page-long, start-next, start-in, tuple-at, counted-more}
 use Rattle.engine_pages.specs.Pages.{withPages, PagesNow, pagesOf, pageAt, tuplesAt, entryOf, firstRow, There, RowOn, swapped}
 use Rattle.memory_layout.specs.Elements.{rowsFrom, RowRange}
 
@@ -153,8 +153,7 @@ pub less-than : {a b : ℕ} → a ≤ b → (a ≡ b → ⊥) → a < b
 less-than {a} {b} l n = ⊎-elim (λ x. x) (λ x. absurd (n (omega arith))) (lt-or-ge a b)
 
 pub pos-of : (n : ℕ) → (n ≡ 0 → ⊥) → 0 < n
-pos-of zero h = absurd (h refl)
-pos-of (suc n) h = omega arith
+pos-of n h = less-than (omega arith) (λ z. h (sym z))
 
 -- where the pages are xs, q and more, q stands behind xs
 module _ (m : List ℕ) (h : holdsStore m ≡ true) (xs : List Page) (q : Page) (ys : List Page) (e : pagesOf m ≡ xs ++ q ∷ ys) (p : ℕ) (ep : p ≡ length xs) where

@@ -1,5 +1,5 @@
 -- A removal, on a frozen page and on another.
-use Rattle.basics.proofs.Kit.{_≡_, refl, sym, ap, _∙_, subst, Bool, true, false, List, [], _∷_, _++_, ℕ, suc, _+_, _≤_, _<_, zero, _-_, length, take, drop, getD, set, length-set}
+use Rattle.basics.proofs.Kit.{_≡_, refl, sym, ap, _∙_, subst, Bool, true, false, List, [], _∷_, _++_, ℕ, suc, _+_, _≤_, _<_, _-_, length, take, drop, getD, set, length-set}
 use Rattle.basics.proofs.Kit.{getD-set-same, set-set, take-set-le, drop-set-lt, arith}
 use Rattle.basics.specs.Basics.{if_then_else_, isEmpty}
 use Rattle.model.specs.State.{removing, Held, Page}
@@ -16,16 +16,15 @@ use Rattle.memory_layout.proofs.Exchange.{length-remove, counted-set, counted-e
 use Rattle.memory_pages.specs.Pages.{dirty, withBlock, withCount, fewerRows, MayLose}
 use Rattle.engine_pages.specs.Pages.{PagesNow, pagesOf, pageAt, tuplesAt, entryOf, firstRow, There, RowOn, swapped}
 use Rattle.engine_pages.specs.Changes.{Tries, settledAt, settledBy}
-use Rattle.engine_pages.proofs.Places.{now-to, now-then, now-stay, now-becomes, counted, full, room, many}
+use Rattle.engine_pages.proofs.Places.{less-than, now-to, now-then, now-stay, now-becomes, counted, full, room, many}
 use Rattle.engine_pages.proofs.Places.{has-row, swap-same, row-in, row-inside, tuple-is, first-there, first-page, still-there}
 use Rattle.engine_pages.proofs.Around.{on-swap, on-same}
 use Rattle.engine_pages.proofs.Rows.{at-row, row-now, page-fresh}
+use Rattle.engine_pages.proofs.Committing.{with-same}
 use Rattle.engine_pages.proofs.Joining.{empty-none, tries-done, settled-none, settled-by}
 
 pub more : (k : ℕ) → 1 ≤ k → (k ≡ 1 → ⊥) → 1 < k
-more zero l h = absurd (omega arith)
-more (suc zero) l h = absurd (h refl)
-more (suc (suc k)) l h = omega arith
+more k l h = less-than l (λ z. h (sym z))
 
 -- ---- tuple j of a frozen page
 
@@ -86,10 +85,6 @@ module _ {m : List ℕ} {p i : ℕ} (g : RowOn m p i) where
 
   -- ---- a frozen page
 
-  with-same : withTuples (pageAt m p) (tuplesAt m p) ≡ pageAt m p
-  unfolding withTuples
-  with-same = refl
-
   abbrev noted : List Page
   noted = swapped p (withTuples (pageAt m p) (pendRemoveAt (i - firstRow m p) (tuplesAt m p)) ∷ []) (pagesOf m)
 
@@ -107,7 +102,7 @@ module _ {m : List ℕ} {p i : ℕ} (g : RowOn m p i) where
     pub later-last : n ≡ 1 → PagesNow m m noted
     later-last l =
         later hs (taken-last j hs (row-inside g) (adding-is eb ∙ h) (many a ∙ sym en ∙ l))
-        (now-to (now-stay m (a .has-store)) (sym (ap (λ (z : Page). swapped p (z ∷ []) (pagesOf m)) with-same ∙ swap-same a)))
+        (now-to (now-stay m (a .has-store)) (sym (ap (λ (z : Page). swapped p (z ∷ []) (pagesOf m)) (with-same (pageAt m p)) ∙ swap-same a)))
 
     pub later-away : (n ≡ 1 → ⊥) → {m' : List ℕ} → Becomes m m' (withEntries (withRows (flatOf m) (removeAt i (flatOf m .rows))) (fewerRows p (flatOf m .entries)))
         → PagesNow m m' noted

@@ -1,11 +1,10 @@
 -- A row of a page changed, put in or taken out: what it does to the pages; and the row's place in the model's list of all tuples.
-use Rattle.basics.proofs.Kit.{_≡_, refl, sym, ap, _∙_, ap₂, Bool, false, none, Option, List, [], _∷_, _++_, map, ℕ, suc, _+_, _-_, length, take, drop, set, take-append-drop, length-drop, length-map}
-use Rattle.basics.proofs.Kit.{length-take-le, set-getD, arith}
+use Rattle.basics.proofs.Kit.{_≡_, refl, sym, ap, _∙_, ap₂, Bool, false, none, Option, List, [], _∷_, _++_, map, ℕ, suc, _+_, _-_, length, take, drop, set}
+use Rattle.basics.proofs.Kit.{take-append-drop, length-drop, length-map, length-take-le, set-getD, arith}
 use Rattle.basics.specs.Basics.{sum}
 use Rattle.basics.proofs.Lists.{map-append}
 use Rattle.model.specs.State.{Held, Page}
 use Rattle.model.specs.Rules.{fresh, withTuples}
-use Rattle.model.specs.Places as places
 use Rattle.model.specs.Places.{atRow, onPage, tagged}
 use Rattle.model.proofs.Flat.{row-by-page}
 use Rattle.memory_layout.specs.Flat.{Flat, flatOf, entryIn, noEntry, Becomes, withRows, withEntries}
@@ -16,7 +15,7 @@ use Rattle.memory_layout.proofs.Nest.{take-nest}
 use Rattle.memory_layout.proofs.Exchange.{start-le, counted-set, row-changed, entry-set}
 use Rattle.memory_pages.specs.Pages.{dirty, withBlock}
 use Rattle.engine_pages.specs.Pages.{PagesNow, pagesOf, pageAt, tuplesAt, entryOf, firstRow, There, RowOn, swapped}
-use Rattle.engine_pages.proofs.Places.{now-becomes, counted, full, has-row, from-page, row-inside, page-table}
+use Rattle.engine_pages.proofs.Places.{now-becomes, counted, full, has-row, from-page, row-inside}
 
 -- ---- all tuples, by place
 

@@ -9,7 +9,7 @@ use Rattle.model.specs.State.{Held}
 use Rattle.model.specs.Rules.{heldSize, lead}
 use Rattle.model.proofs.Splits.{Small}
 use Rattle.basics.proofs.Elements.{all-take, all-drop}
-use Rattle.memory_layout.specs.Flat.{flatOf, capacityOf, rowIn, noRow, Room}
+use Rattle.memory_layout.specs.Flat.{flatOf, capacityOf, rowIn, noRow}
 use Rattle.memory_layout.specs.Views.{lengthOf, stateOf}
 use Rattle.memory_rows.proofs.Fields.{size-is, owner-most}
 use Rattle.memory_layout.specs.Elements.{rowsFrom, RowRange}

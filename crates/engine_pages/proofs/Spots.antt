@@ -3,7 +3,7 @@ use Rattle.basics.proofs.Kit.{_≡_, refl, sym, ap, _∙_, ⊎-elim, Bool, true
 use Rattle.basics.proofs.Kit.{length-drop, take-add, getD-drop, length-take-le, getD-take, eqb-true, eqb-false, arith}
 use Rattle.basics.proofs.Facts.{by, lie}
 use Rattle.block_forms.specs.Tuple.{Tuple}
-use Rattle.model.specs.State.{Held, Page}
+use Rattle.model.specs.State.{Held}
 use Rattle.model.specs.Rules.{placeAfter, placeFront, place, fresh, withoutPending}
 use Rattle.basics.specs.Lists.{lastIndex}
 use Rattle.basics.proofs.Tabs.{lt-or-ge}
@@ -13,7 +13,7 @@ use Rattle.memory_layout.specs.Store.{total, startOf, pageIn, pagesIn, pageOf}
 use Rattle.memory_layout.proofs.Nest.{total-append}
 use Rattle.memory_layout.proofs.Exchange.{start-le, start-next, page-at, page-long, pages-end, tuple-at}
 use Rattle.memory_pages.specs.Pages.{TableFrom, OnPages, PageOf}
-use Rattle.memory_pages.specs.Spots.{tablePage, tableRow, tableRows, keyUpTo, placeIn}
+use Rattle.memory_pages.specs.Spots.{tableRow, tableRows, keyUpTo, placeIn}
 use Rattle.memory_pages.proofs.Spots.{row-from, pages-rise}
 use Rattle.memory_layout.specs.Flat.{Room}
 use Rattle.memory_layout.proofs.Laws.{holds-room, filled}

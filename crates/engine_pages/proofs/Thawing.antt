@@ -1,31 +1,22 @@
 -- Thawing the first frozen page: the model's rule by place.
-use Rattle.basics.proofs.Kit.{_≡_, refl, sym, ap, _∙_, subst, Bool, true, false, cond, none, Option, List, [], _∷_, _++_, map, ℕ, suc, drop, set, arith}
+use Rattle.basics.proofs.Kit.{_≡_, refl, sym, ap, _∙_, subst, Bool, true, false, none, Option, List, [], _∷_, _++_, map, ℕ, set, arith}
 use Rattle.basics.specs.Basics.{if_then_else_, any}
 use Rattle.model.specs.State.{Held, Page}
 use Rattle.model.specs.Rules.{isFrozen, fresh, listOf, splitAll, settle, thawOn, thaw}
 use Rattle.model.specs.Places.{onPage}
 use Rattle.memory_layout.specs.Flat.{flatOf, Becomes, withEntries}
-use Rattle.memory_layout.specs.Store.{pageOf, pageIn, nest}
+use Rattle.memory_layout.specs.Store.{pageOf, pageIn}
 use Rattle.memory_layout.proofs.Exchange.{pages-count}
-use Rattle.memory_pages.specs.Pages.{withBlock, frozenEntry}
-use Rattle.basics.specs.Lists.{firstIndex}
-use Rattle.memory_layout.specs.declared.Entry.{Entry}
+use Rattle.memory_pages.specs.Pages.{withBlock}
 use Rattle.engine_pages.specs.Pages.{PagesNow, pagesOf, pageAt, tuplesAt, entryOf, There, swapped}
 use Rattle.engine_pages.specs.Changes.{Dirty, Tries, settledAt, settledBy}
 use Rattle.engine_pages.specs.Pending.{waits, appliedAll, Applied, FirstFrozen}
-use Rattle.engine_pages.proofs.Places.{now-to, now-then, first-there, first-page, pos-of, now-again}
+use Rattle.engine_pages.proofs.Places.{now-to, now-then, first-there, first-page, pos-of}
 use Rattle.engine_pages.proofs.Around.{on-swap, on-same, around-first}
 use Rattle.engine_pages.proofs.Rows.{page-now}
 use Rattle.engine_pages.proofs.Splitting.{dirty-fresh}
 use Rattle.engine_pages.proofs.Joining.{settled-none, settled-by}
 use Rattle.engine_pages.proofs.Applying.{applied-live}
-
--- ---- the first frozen page, by the entries
-
-frozen-nest : (es : List Entry) (hs : List Held) → firstIndex frozenEntry es ≡ firstIndex isFrozen (nest es hs)
-unfolding firstIndex nest pageOf isFrozen
-frozen-nest [] hs = refl
-frozen-nest (e ∷ es) hs = ap (λ (z : ℕ). cond (e .frozen) 0 (suc z)) (frozen-nest es (drop (e .count) hs))
 
 -- ---- what the rule does to a page with nothing pending, and to another
 

@@ -1,5 +1,5 @@
 -- Counts and header, from what the memory holds.
-use Rattle.basics.proofs.Kit.{_≡_, sym, ap, _∙_, List, ℕ, suc, _+_, _≤_, length, getD, arith}
+use Rattle.basics.proofs.Kit.{_≡_, ap, List, ℕ, suc, _+_, _≤_, length, getD, arith}
 use Rattle.model.specs.Checkpoint.{headerFor}
 use Rattle.memory_layout.specs.Views.{headOf, countsOf}
 use Rattle.memory_layout.specs.Flat.{flatOf, Room}

@@ -1,5 +1,5 @@
 -- What a run of rows shows, row by row.
-use Rattle.basics.proofs.Kit.{_≡_, refl, sym, ap, _∙_, true, false, not, List, [], _∷_, _++_, append-nil, ℕ, suc, _+_, _≤_, _<_, _-_, add-one, length, take, drop, getD}
+use Rattle.basics.proofs.Kit.{_≡_, refl, ap, _∙_, true, false, not, List, [], _∷_, _++_, append-nil, ℕ, suc, _+_, _≤_, _<_, _-_, add-one, length, take, drop, getD}
 use Rattle.basics.proofs.Kit.{drop-cons, drop-drop, take-add, arith}
 use Rattle.basics.specs.Basics.{if_then_else_, sum}
 use Rattle.basics.proofs.Facts.{by}

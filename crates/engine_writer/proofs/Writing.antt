@@ -8,7 +8,7 @@ use Rattle.block_forms.specs.Bytes.{payloadIn, tupleOf, sizeOf, Appendable, par
 use Rattle.block_forms.specs.declared.Record.{Record}
 use Rattle.block_forms.proofs.Stores.{length-part}
 use Rattle.block_forms.proofs.Tuples.{count-sizes, record-size, sizes-more}
-use Rattle.block_forms.proofs.Built.{behind-more, part-length, whole-page}
+use Rattle.block_forms.proofs.Built.{behind-more, whole-page}
 use Rattle.model.specs.Checkpoint.{storable}
 use Rattle.engine_writer.specs.Written.{Spells, Measures}
 use Rattle.engine_writer.specs.declared.Shown.{Shown}

@@ -1,5 +1,5 @@
 -- Loops that look at every number of a group, and: the numbers of a group are numbers of the column that it is of.
-use Rattle.basics.proofs.Kit.{_≡_, refl, sym, ap, _∙_, Bool, false, _||_, List, ℕ, _+_, _*_, _≤_, _<_, _-_, arith}
+use Rattle.basics.proofs.Kit.{_≡_, refl, sym, ap, _∙_, subst, Bool, false, _||_, List, ℕ, _+_, _*_, _≤_, _<_, _-_, arith}
 use Rattle.basics.specs.Basics.{any}
 use Rattle.basics.specs.Lists.{tab}
 use Rattle.memory_bytes.specs.Bytes.{le2, le4, column2, column4}
@@ -20,6 +20,10 @@ module _ {A : Type 0} {f : A → Bool} {g : ℕ → A} {a n : ℕ} where
   module _ {hit : Bool} {j : ℕ} (p : AnyFrom f g a n hit j) where
     pub any-turns : {r : A} → j < n → r ≡ g j → AnyFrom f g a n (hit || f r) (j + 1)
     any-turns h e = record { most = omega arith; same = any-turn f g j n h hit (p .same) e }
+
+    -- where the test's answer was read
+    pub any-next : {b : Bool} → j < n → b ≡ f (g j) → AnyFrom f g a n (hit || b) (j + 1)
+    any-next h e = subst (λ z. AnyFrom f g a n (hit || z) (j + 1)) (sym e) (any-turns h refl)
 
     pub any-ends : n ≤ j → hit ≡ any f (tab g a (n - a))
     any-ends h = any-end f g j n h hit (p .same)

@@ -180,7 +180,7 @@ pub fn lower(m: &mut [u8], lo: usize, hi: usize, w: usize)
 
 // ---- columns of two bytes: counted, compared, searched
 
-fn one_if(b: bool) -> u16
+pub fn one_if(b: bool) -> u16
     ensures { λ r. ⌜ r ≡ cond b 1 0 ⌝ }
 {
     b as u16

@@ -6,6 +6,7 @@ use Rattle.basics.specs.Basics.{howMany, from}
 use Rattle.memory_bytes.specs.Bytes.{le2, le4, bytes}
 use Rattle.basics.specs.Lists.{tab}
 use Rattle.memory_bytes.proofs.Bytes.{le2-cong, le4-cong, bytes-cong}
+use Rattle.basics.proofs.Tabs as tabs
 use Rattle.memory_layout.specs.Places.{startsAt}
 use Rattle.block_forms.specs.Decode.{readOwner, readMark}
 use Rattle.memory_layout.specs.Views.{headOf, rowCount, pageCount, tableEnd, openAt, directoryAt, isUsed, slotOf, slotPlace, heldOf, rowAt, keyOf, refOf, stateOf, startAt, tableAt}
@@ -18,11 +19,7 @@ Same m m' a n = (b : ℕ) → a ≤ b → b < a + n → getD m' b 0 ≡ getD m b
 
 -- lists by index are equal if their elements are
 pub tab-cong : {A : Type 0} (f g : ℕ → A) (i n : ℕ) → ((k : ℕ) → i ≤ k → k < i + n → f k ≡ g k) → tab f i n ≡ tab g i n
-tab-cong f g i zero h = refl
-tab-cong f g i (suc n) h =
-    let a : f i ≡ g i = h i (omega arith) (omega arith) in
-    let b : tab f (suc i) n ≡ tab g (suc i) n = tab-cong f g (suc i) n (λ k p q. h k (omega arith) (omega arith)) in
-    λ j. a j ∷ b j
+tab-cong f g i n h = tabs.tab-cong f g i i n (λ k l. h (i + k) (omega arith) (omega arith))
 
 -- as many pass two tests that agree
 pub count-cong : (f g : ℕ → Bool) (a n : ℕ) → ((t : ℕ) → a ≤ t → t < a + n → f t ≡ g t) → howMany f (from a n) ≡ howMany g (from a n)

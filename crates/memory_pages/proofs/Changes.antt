@@ -18,7 +18,7 @@ use Rattle.memory_pages.proofs.Tables.{TableIs, table-is}
 use Rattle.memory_pages.proofs.Columns.{in-columns, same-row-count}
 use Rattle.memory_pages.proofs.Parts.{splice, entries-become}
 use Rattle.memory_pages.proofs.Entries.{entry-is, entry-same, entry-counted, Stands, stands-behind}
-use Rattle.memory_pages.proofs.Entries.{More, opens, closes, more-tables, more-before, more-here, more-same, more-entry, open-rises}
+use Rattle.memory_pages.proofs.Entries.{opens, closes, more-tables, more-before, more-here, more-same, more-entry, open-rises}
 
 -- one change of the pages after another
 pub then-entries : {m m1 m2 : List ℕ} {es ds : List Entry} → Becomes m m1 (withEntries (flatOf m) es) → Becomes m1 m2 (withEntries (flatOf m1) ds)

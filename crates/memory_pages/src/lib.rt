@@ -10,7 +10,6 @@ use memory_layout::TABLE_ENDS;
 use memory_rows::Row;
 ghost use mathlib.Core.Path.{_≡_};
 ghost use Prim.Native.Nat.{_+_, _*_, _≤_, _<_};
-ghost use mathlib.Core.Bool.{cond};
 ghost use lib.ListN.{length, drop};
 ghost use Rattle.basics.specs.Basics.{any, howMany};
 ghost use Rattle.memory_bytes.specs.Bytes.{column2};
@@ -350,12 +349,6 @@ pub fn first_frozen(m: &[u8]) -> usize
 
 // ---- pages counted: one pass over the blocks without a branch
 
-fn one_if(b: bool) -> u16
-    ensures { λ r. ⌜ r ≡ cond b 1 0 ⌝ }
-{
-    b as u16
-}
-
 // How many pages, from this one on, are frozen. They are counted in 16 bits, like what is read, so that no lane of a vector is wider.
 pub fn count_frozen(m: &[u8], from: usize) -> usize
     requires { ⌜ Room (now m) × (from ≤ length (flatOf (now m) .entries)) ⌝ }
@@ -365,7 +358,7 @@ pub fn count_frozen(m: &[u8], from: usize) -> usize
     let mut k: u16 = 0;
     let mut p = from;
     while p < n {
-        k += one_if(frozen_at(m, p));
+        k += memory_bytes::one_if(frozen_at(m, p));
         p += 1;
     }
     k as usize
@@ -380,7 +373,7 @@ pub fn count_dirty(m: &[u8]) -> usize
     let mut k: u16 = 0;
     let mut p: usize = 0;
     while p < n {
-        k += one_if(block_at(m, p) == 0);
+        k += memory_bytes::one_if(block_at(m, p) == 0);
         p += 1;
     }
     k as usize

@@ -1,4 +1,4 @@
--- `call_transactions::close` meets its contract.
+-- `call_transactions::close` meets its contract. The invariant (`Closed`): only the list of open transactions has changed, by entries of this one.
 use Rattle.basics.proofs.Kit.{_≡_, refl, _∙_, _<_, length, arith}
 use Rattle.memory_layout.specs.Flat.{flatOf}
 use Rattle.memory_layout.specs.Opens.{findOpen}
@@ -19,8 +19,7 @@ find-open-requires : tie.Need-find-open-requires Inv-loop μ-loop
 find-open-requires c κs = c .before .before .before .before .pre
 
 loop-holds : tie.Need-loop-holds Inv-loop μ-loop
-loop-holds c =
-    let st = c .before .before .before .before .before in
+loop-holds c = let st = c .before .before .before .before .before in
     (c .before .before .open-count .ensures, (c .find-open .ensures, (refl, closed-start (st .args .transaction) (st .pre))))
 
 remove-open-requires : tie.Need-remove-open-requires Inv-loop μ-loop
@@ -37,11 +36,7 @@ loop-less : tie.Need-loop-less Inv-loop μ-loop
 loop-less c = omega (arith, c .before .before .before .before .before .before .loop-test .taken)
 
 loop-again : tie.Need-loop-again Inv-loop μ-loop
-loop-again c =
-    let r = c .before .before .before .before in
-    let t = r .before .before in
-    let l = t .before .loop in
-    let b = r .remove-open .ensures in
+loop-again c = let r = c .before .before .before .before in let t = r .before .before in let l = t .before .loop in let b = r .remove-open .ensures in
     let lt : l .i < length (flatOf (l .m) .opens) = omega (arith, l .inv .0, t .loop-test .taken) in
     (omega (arith, l .inv .0, removed-count (l .i) lt b), (c .find-open2 .ensures, (b .size ∙ l .inv .1 .1 .0, closed-out (l .inv .1 .1 .1) (l .inv .1 .0) lt b)))
 

@@ -1,4 +1,4 @@
--- `call_transactions::count_write` meets its contract.
+-- `call_transactions::count_write` meets its contract: the head's next number and the entry, one after the other (`counted`).
 use Rattle.basics.proofs.Kit.{_≡_, sym, ap, _∙_, needs, arith}
 use Rattle.memory_layout.specs.declared.Head.{Head}
 use Rattle.model.specs.Transactions.{oneMore}
@@ -16,21 +16,15 @@ one-more-requires : tie.Need-one-more-requires
 one-more-requires c κs = read-fits (c .before .before .before .before .before .before .pre) (c .get-open .ensures)
 
 put-head-requires : tie.Need-put-head-requires
-put-head-requires c κs =
-    let h = c .before .before .before .before .before in
-    let st = h .before .before .before in
+put-head-requires c κs = let h = c .before .before .before .before .before in let st = h .before .before .before in
     (st .pre .room, next-replaces (st .pre .room) (h .get-head .ensures))
 
 put-open-requires : tie.Need-put-open-requires
-put-open-requires c κs =
-    let h = c .before .before .before in
-    let st = h .before .before .before .before .before .before .before .before .before in
+put-open-requires c κs = let h = c .before .before .before in let st = h .before .before .before .before .before .before .before .before .before in
     (h .put-head .ensures .room, record { inside = omega (arith, st .pre .inside, same-opens (h .put-head .ensures)); fits = h .before .before .one-more .ensures .1 })
 
 returns : tie.Need-returns
-returns c =
-    let o = c .before .before .before .before .before .before .before .before in
-    let h = o .before .before .before .before in
+returns c = let o = c .before .before .before .before .before .before .before .before in let h = o .before .before .before .before in
     let st = h .before .before .before in
     let more = o .one-more .ensures .0 ∙ ap oneMore (o .before .get-open .ensures) in
     counted (st .args .i) (h .get-head .ensures) more (c .before .before .before .before .before .before .put-head .ensures) (c .before .before .put-open .ensures)

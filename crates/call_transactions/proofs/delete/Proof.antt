@@ -1,4 +1,4 @@
--- `call_transactions::delete` meets its contract.
+-- `call_transactions::delete` meets its contract: a write of a mark with empty payload (`delete-is`).
 use Rattle.basics.proofs.Kit.{needs, arith}
 use Rattle.call_transactions.proofs.Called.{delete-is}
 use Rattle.call_transactions.proofs.delete.Statement.{statement}

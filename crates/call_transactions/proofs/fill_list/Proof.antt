@@ -1,4 +1,4 @@
--- `call_transactions::fill_list` meets its contract.
+-- `call_transactions::fill_list` meets its contract. The invariant: the first i numbers stand in the reply (`listedTo`).
 use Rattle.basics.proofs.Kit.{_≡_, refl, ap, List, ℕ, _*_, _≤_, _<_, _-_, length, length-set, arith}
 use Rattle.model.specs.State.{Active}
 use Rattle.memory_layout.specs.Flat.{flatOf}
@@ -40,8 +40,7 @@ loop-less : tie.Need-loop-less Inv-loop μ-loop
 loop-less c = omega (arith, c .before .loop-test .taken)
 
 loop-again : tie.Need-loop-again Inv-loop μ-loop
-loop-again c = let l = c .before .before in
-    let st = l .before .before .before in
+loop-again c = let l = c .before .before in let st = l .before .before .before in
     let os : List Active = flatOf (st .args .m .now) .opens in
     let t = ap (λ (x : Active). x .transaction) (c .get-open .ensures) in
     let p : List ℕ = st .args .reply .now in
@@ -53,8 +52,7 @@ same-length : tie.Need-same-length Inv-loop μ-loop
 same-length c = c .before .loop .inv .1 .0
 
 returns : tie.Need-returns Inv-loop μ-loop
-returns c = let l = c .before in
-    let st = l .before .before .before in
+returns c = let l = c .before in let st = l .before .before .before in
     list-end (flatOf (st .args .m .now) .opens) (st .args .reply .now) (st .args .n) (l .loop .i) (st .pre .count) (c .loop-test .left) (l .loop .inv .0) _ (l .loop .inv .1 .1)
 
 pub fill-list-spec : {M : Type 1} → statement M

@@ -1,4 +1,4 @@
--- `call_transactions::list` meets its contract.
+-- `call_transactions::list` meets its contract: a reply that is too short is left (`list-21`), another has the numbers first (`list-done`).
 use Rattle.basics.proofs.Kit.{_≡_, sym, ap, _∙_, true, List, _++_, ℕ, _*_, length, drop, not-true, not-false, needs, arith}
 use Rattle.memory_layout.specs.Flat.{Flat, flatOf}
 use Rattle.memory_layout.specs.Store.{holdsStore}
@@ -26,8 +26,7 @@ mul-if2 : tie.Need-mul-if2
 mul-if2 c = omega (arith, c .open-count .ensures, known _ (holds-room _ (has-store (c .before))))
 
 returns-2 : tie.Need-returns-2
-returns-2 c = let e1 = c .before .before in
-    let a = start e1 .args in
+returns-2 c = let e1 = c .before .before in let a = start e1 .args in
     replies-lists _ _ _ _ (replies-refused _ (a .m .now) (a .reply .now) 21 (has-store e1)
     (list-21 (length (a .reply .now)) (flatOf (a .m .now)) (omega (arith, c .before .open-count .ensures, c .if2 .taken))))
 
@@ -37,8 +36,7 @@ fill-list-requires c κs =
     record { room = holds-room _ (has-store (e .before)); count = e .open-count .ensures; long = omega (arith, c .before .if2 .left) }
 
 returns-3 : tie.Need-returns-3
-returns-3 c = let e1 = c .before .before .before .before .before .before in
-    let a = start e1 .args in
+returns-3 c = let e1 = c .before .before .before .before .before .before in let a = start e1 .args in
     let f : Flat = flatOf (a .m .now) in
     let p : List ℕ = a .reply .now in
     let en = c .before .before .before .before .before .open-count .ensures in

@@ -1,4 +1,4 @@
--- `call_transactions::next_row` meets its contract.
+-- `call_transactions::next_row` meets its contract: its number is the head's next one, its owner the open transaction.
 use Rattle.basics.proofs.Kit.{refl, ap, needs}
 use Rattle.block_forms.specs.Tuple.{tentative}
 use Rattle.model.specs.State.{Active}
@@ -8,8 +8,7 @@ use Rattle.call_transactions.proofs.next_row.Statement.{statement}
 use Rattle.call_transactions.proofs.next_row.Tie as tie
 
 returns : tie.Need-returns
-returns c =
-    let fit = read-fits (c .before .before .before .pre) (c .get-open .ensures) in
+returns c = let fit = read-fits (c .before .before .before .pre) (c .get-open .ensures) in
     record {
       key = refl;
       number = ap (λ (x : Head). x .next) (c .before .get-head .ensures);

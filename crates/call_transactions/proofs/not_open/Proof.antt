@@ -1,4 +1,4 @@
--- `call_transactions::not_open` meets its contract.
+-- `call_transactions::not_open` meets its contract: one case for each test (`stop-6`, `stop-7`), and none (`none-7`).
 use Rattle.basics.proofs.Kit.{_≡_, sym, _∙_, true, not-true, not-false, needs, arith}
 use Rattle.model.specs.Transactions.{notOpen}
 use Rattle.memory_layout.specs.Flat.{flatOf}
@@ -30,16 +30,12 @@ find-open-requires : tie.Need-find-open-requires
 find-open-requires c κs = holds-room _ (has-store (c .before .before))
 
 returns-3 : tie.Need-returns-3
-returns-3 c =
-    let e2 = c .before .before .before in
-    let a = start (e2 .before) .args in
+returns-3 c = let e2 = c .before .before .before in let a = start (e2 .before) .args in
     sym (verdict-in (a .m .now) (notOpen (a .transaction)) (has-store (e2 .before)) ∙ stop-7 (a .transaction) (flatOf (a .m .now)) (e2 .if2 .left)
     (omega (arith, c .before .before .open-count .ensures, c .before .find-open .ensures, c .if3 .taken)))
 
 returns-4 : tie.Need-returns-4
-returns-4 c =
-    let e2 = c .before .before .before in
-    let a = start (e2 .before) .args in
+returns-4 c = let e2 = c .before .before .before in let a = start (e2 .before) .args in
     sym (verdict-in (a .m .now) (notOpen (a .transaction)) (has-store (e2 .before)) ∙ none-7 (a .transaction) (flatOf (a .m .now)) (e2 .if2 .left)
     (omega (arith, c .before .before .open-count .ensures, c .before .find-open .ensures, c .if3 .left)))
 

@@ -1,4 +1,4 @@
--- `call_transactions::open` meets its contract.
+-- `call_transactions::open` meets its contract: one case for each test (`open-6` to `open-9`), and the entry pushed (`open-done`).
 use Rattle.basics.proofs.Kit.{_≡_, sym, _∙_, true, _≤_, _<_, length, not-true, not-false, needs, arith}
 use Rattle.memory_layout.specs.Flat.{Flat, flatOf}
 use Rattle.memory_layout.specs.Opens.{findOpen}
@@ -20,8 +20,7 @@ returns : tie.Need-returns
 returns c = answers-4 _ (c .before .before .before .before .args .m .now) (sym (c .before .holds-store .ensures) ∙ not-true _ (c .if1 .taken))
 
 returns-2 : tie.Need-returns-2
-returns-2 c = let e1 = c .before in
-    let a = start e1 .args in
+returns-2 c = let e1 = c .before in let a = start e1 .args in
     answers-refused _ (a .m .now) 6 (has-store e1) (open-6 (a .transaction) (flatOf (a .m .now)) (c .if2 .taken))
 
 open-count-requires : tie.Need-open-count-requires
@@ -31,14 +30,12 @@ find-open-requires : tie.Need-find-open-requires
 find-open-requires c κs = holds-room _ (has-store (c .before .before .before .before))
 
 returns-3 : tie.Need-returns-3
-returns-3 c = let e2 = c .before .before .before .before .before in
-    let a = start (e2 .before) .args in
+returns-3 c = let e2 = c .before .before .before .before .before in let a = start (e2 .before) .args in
     answers-refused _ (a .m .now) 8 (has-store (e2 .before))
     (open-8 (a .transaction) (flatOf (a .m .now)) (e2 .if2 .left) (omega (arith, c .before .before .before .open-count .ensures, c .before .find-open .ensures, c .if3 .taken)))
 
 returns-4 : tie.Need-returns-4
-returns-4 c = let e2 = c .before .before .before .before .before .before in
-    let a = start (e2 .before) .args in
+returns-4 c = let e2 = c .before .before .before .before .before .before in let a = start (e2 .before) .args in
     let en = c .before .before .before .before .open-count .ensures in
     answers-refused _ (a .m .now) 9 (has-store (e2 .before))
     (open-9 (a .transaction) (flatOf (a .m .now)) (e2 .if2 .left) (omega (arith, en, c .before .before .find-open .ensures, c .before .if3 .left)) (omega (arith, en, c .if4 .taken)))
@@ -53,11 +50,9 @@ push-open-requires c κs = let e2 = c .before .before .before .before .before .b
 )
 
 returns-5 : tie.Need-returns-5
-returns-5 c = let e2 = c .before .before .before .before .before .before .before .before .before .before in
-    let a = start (e2 .before) .args in
+returns-5 c = let e2 = c .before .before .before .before .before .before .before .before .before .before in let a = start (e2 .before) .args in
     let f : Flat = flatOf (a .m .now) in
-    let looked = c .before .before .before .before .before in
-    let en = looked .before .before .before .open-count .ensures in
+    let looked = c .before .before .before .before .before in let en = looked .before .before .before .open-count .ensures in
     let few : length (f .opens) < 64 = omega (arith, en, c .before .before .before .before .if4 .left) in
     let new : length (f .opens) ≤ findOpen (a .transaction) (f .opens) = omega (arith, en, looked .before .find-open .ensures, looked .if3 .left) in
     answers-done _ (a .m .now) _ _ (has-store (e2 .before))

@@ -1,4 +1,4 @@
--- `call_transactions::open_count` meets its contract.
+-- `call_transactions::open_count` meets its contract: the head's count is the length of the list (`opens-read`).
 use Rattle.basics.proofs.Kit.{needs}
 use Rattle.memory_layout.proofs.Laws.{opens-read}
 use Rattle.call_transactions.proofs.open_count.Statement.{statement}

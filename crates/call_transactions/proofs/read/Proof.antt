@@ -1,4 +1,4 @@
--- `call_transactions::read` meets its contract.
+-- `call_transactions::read` meets its contract: one case for each test (`read-10`, `read-14`, `read-21`), and the payload copied (`read-done`).
 use Rattle.basics.proofs.Kit.{_≡_, ap, _∙_, true, List, _++_, ℕ, length, drop, needs, arith}
 use Rattle.model.specs.Transactions.{notOpen, readCall}
 use Rattle.memory_layout.specs.Flat.{flatOf, rowIn}
@@ -20,8 +20,7 @@ has-store c = let a = start c .args in passed-held (a .m .now) (notOpen (a .tran
 opened : (c : tie.Else1) → let a = start c .args in
     readCall (a .transaction) (a .table) (a .key) (length (a .reply .now)) (storeOf (flatOf (a .m .now)))
     ≡ readAfter (a .transaction) (a .table) (a .key) (length (a .reply .now)) (storeOf (flatOf (a .m .now)))
-opened c =
-    let a = start c .args in
+opened c = let a = start c .args in
     let n : ℕ = length (a .reply .now) in
     call-after (a .m .now) (notOpen (a .transaction)) _ (c .before .not-open .ensures) (readCall (a .transaction) (a .table) (a .key) n)
     (readAfter (a .transaction) (a .table) (a .key) n) (read-tests (a .transaction) (a .table) (a .key) n) (open-numbered (a .transaction)) (c .if1 .left)
@@ -33,51 +32,37 @@ returns c = let a = c .before .before .before .before .args in
     (readAfter (a .transaction) (a .table) (a .key) (length p)) (read-tests (a .transaction) (a .table) (a .key) (length p)) (c .if1 .taken) p
 
 returns-2 : tie.Need-returns-2
-returns-2 c = let e1 = c .before in
-    let a = start e1 .args in
+returns-2 c = let e1 = c .before in let a = start e1 .args in
     replies-refused _ (a .m .now) (a .reply .now) 10 (has-store e1) (opened e1 ∙ read-10 (a .transaction) (a .table) (a .key) (length (a .reply .now)) (flatOf (a .m .now)) (c .if2 .taken))
 
 seen-by-requires : tie.Need-seen-by-requires
 seen-by-requires c κs = (has-store (c .before), omega (arith, c .if2 .left))
 
 returns-3 : tie.Need-returns-3
-returns-3 c = let s = c .before .before in
-    let e1 = s .before .before in
-    let a = start e1 .args in
+returns-3 c = let s = c .before .before in let e1 = s .before .before in let a = start e1 .args in
     replies-refused _ (a .m .now) (a .reply .now) 14 (has-store e1)
     (opened e1 ∙ read-14 (a .transaction) (a .table) (a .key) (length (a .reply .now)) (flatOf (a .m .now)) (s .before .if2 .left) _ (s .seen-by .ensures) (c .enum-told .given .1))
 
 payload-at-requires : tie.Need-payload-at-requires
-payload-at-requires c κs = let s = c .before .before .before in
-    let e1 = s .before .before in
-    let a = start e1 .args in
+payload-at-requires c κs = let s = c .before .before .before in let e1 = s .before .before in let a = start e1 .args in
     (holds-room _ (has-store e1), seen-in (a .transaction) (a .table) (a .key) 0 (flatOf (a .m .now)) (s .before .if2 .left) _ (s .seen-by .ensures) _ (c .before .i .given .1))
 
 returns-4 : tie.Need-returns-4
-returns-4 c = let s = c .before .before .before .before .before in
-    let e1 = s .before .before in
-    let a = start e1 .args in
-    let hd = c .before .payload-at .ensures in
+returns-4 c = let s = c .before .before .before .before .before in let e1 = s .before .before in let a = start e1 .args in let hd = c .before .payload-at .ensures in
     replies-refused _ (a .m .now) (a .reply .now) 21 (has-store e1)
     (opened e1 ∙ read-21 (a .transaction) (a .table) (a .key) (length (a .reply .now)) (flatOf (a .m .now)) (s .before .if2 .left) _ (s .seen-by .ensures) _ (c .before .before .before .i .given .1)
     (omega (arith, hd .count, c .if3 .taken)))
 
 copy-payload-requires : tie.Need-copy-payload-requires
-copy-payload-requires c κs = let s = c .before .before .before .before .before .before in
-    let e1 = s .before .before in
-    let a = start e1 .args in
-    let hd = c .before .before .payload-at .ensures in
-    let i = c .before .before .before .before .i .given in
+copy-payload-requires c κs = let s = c .before .before .before .before .before .before in let e1 = s .before .before in let a = start e1 .args in
+    let hd = c .before .before .payload-at .ensures in let i = c .before .before .before .before .i .given in
     let inside = seen-in (a .transaction) (a .table) (a .key) 0 (flatOf (a .m .now)) (s .before .if2 .left) _ (s .seen-by .ensures) _ (i .1) in
     (holds-room _ (has-store e1), (inside, omega (arith, hd .count, c .before .if3 .left)))
 
 returns-5 : tie.Need-returns-5
-returns-5 c = let s = c .before .before .before .before .before .before .before .before .before in
-    let e1 = s .before .before in
-    let a = start e1 .args in
+returns-5 c = let s = c .before .before .before .before .before .before .before .before .before in let e1 = s .before .before in let a = start e1 .args in
     let p : List ℕ = a .reply .now in
-    let hd = c .before .before .before .before .before .payload-at .ensures in
-    let cp = c .before .before .copy-payload .ensures in
+    let hd = c .before .before .before .before .before .payload-at .ensures in let cp = c .before .before .copy-payload .ensures in
     let bs : List ℕ = rowIn (flatOf (a .m .now)) (c .before .before .before .before .before .before .before .i .given .0 .0) .tuple .payload in
     replies-filled _ (a .m .now) p _ bs _ (has-store e1)
     (opened e1 ∙ read-done (a .transaction) (a .table) (a .key) (length p) (flatOf (a .m .now)) (s .before .if2 .left) _ (s .seen-by .ensures) _

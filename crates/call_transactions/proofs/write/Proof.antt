@@ -1,4 +1,4 @@
--- `call_transactions::write` meets its contract.
+-- `call_transactions::write` meets its contract: the first test that holds refuses (`call-refused`, `key-refused`), else the tuple is written (`write-done`).
 use Rattle.basics.proofs.Kit.{sym, _∙_, length, needs, arith}
 use Rattle.call_transactions.proofs.Called.{call-refused, key-refused, write-done}
 use Rattle.call_transactions.proofs.Testing.{Called, called, accepts}
@@ -26,26 +26,16 @@ key-refusal-requires : tie.Need-key-refusal-requires
 key-refusal-requires c κs = (passed (c .before .before .before) .there, c .before .find-place .ensures .visibility .own-in)
 
 returns-2 : tie.Need-returns-2
-returns-2 c =
-    let k = c .before in
-    let s = k .before .before in
-    let e1 = s .before .before in
-    let a = start e1 .args in
+returns-2 c = let k = c .before in let s = k .before .before in let e1 = s .before .before in let a = start e1 .args in
     key-refused (a .new) (a .mark) (a .transaction) (a .table) (a .key) (a .payload .now) (a .m .now) _ (e1 .before .call-refusal .ensures) (e1 .if1 .left)
     _ (s .find-place .ensures .visibility) _ (k .key-refusal .ensures) (c .if2 .taken)
 
 accept-requires : tie.Need-accept-requires
-accept-requires c κs =
-    let k = c .before .before in
-    let s = k .before .before in
+accept-requires c κs = let k = c .before .before in let s = k .before .before in
     accepts _ _ (passed (s .before .before)) (sym (k .key-refusal .ensures) ∙ c .before .if2 .left) (s .find-place .ensures .place)
 
 returns-3 : tie.Need-returns-3
-returns-3 c =
-    let k = c .before .before .before .before .before in
-    let s = k .before .before in
-    let e1 = s .before .before in
-    let a = start e1 .args in
+returns-3 c = let k = c .before .before .before .before .before in let s = k .before .before in let e1 = s .before .before in let a = start e1 .args in
     write-done (a .new) (a .mark) (a .transaction) (a .table) (a .key) (a .payload .now) (a .m .now) _ (e1 .before .call-refusal .ensures) (e1 .if1 .left)
     _ (s .find-place .ensures .visibility) _ (k .key-refusal .ensures) (c .before .before .before .before .if2 .left) _ (c .before .before .accept .ensures)
 

@@ -12,8 +12,7 @@ mark-at-requires : tie.Need-mark-at-requires
 mark-at-requires c κs = let st = c .before .before in let r = holds-room _ (st .pre .has-store) in (r, omega (arith, st .pre .high, st .pre .most, tagged-length (st .args .m .now) r))
 
 returns : tie.Need-returns
-returns c = let p2 = c .before .before in let p4 = p2 .before .before in let p5 = p4 .before in let st = p5 .before .before .before in
-    let m = st .args .m .now in
+returns c = let p2 = c .before .before in let p4 = p2 .before .before in let p5 = p4 .before in let st = p5 .before .before .before in let m = st .args .m .now in
     let k = ap (λ (h : Held). h .tuple .mark) (row-is m (holds-room _ (st .pre .has-store)) (st .args .k)) ∙ sym (p5 .mark-at .ensures) in
     run-marked (st .pre) (k ∙ p4 .if1 .taken) (p2 .remove-rows .ensures)
 

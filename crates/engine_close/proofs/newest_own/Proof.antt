@@ -29,8 +29,7 @@ returns c = let p3 = c .before .before .before in let st = p3 .before .before in
     }
 
 loop-again : tie.Need-loop-again Inv-loop μ-loop
-loop-again c = let p3 = c .before .before .before in let st = p3 .before .before in
-    let l = p3 .loop in
+loop-again c = let p3 = c .before .before .before in let st = p3 .before .before in let l = p3 .loop in
     (omega arith, (omega arith, not-later-more (st .args .m .now) (st .pre .0) (st .args .transaction) (l .inv .1 .1) (sym (c .before .owns .ensures) ∙ c .if1 .left)))
 
 returns-2 : tie.Need-returns-2 Inv-loop μ-loop

@@ -1,4 +1,4 @@
--- `engine_lookup::find_versions` meets its contract.
+-- `engine_lookup::find_versions` meets its contract: what is noted of the table's rows is what there is of the key (`table-shown`).
 use Rattle.memory_layout.proofs.Laws.{holds-room}
 use Rattle.engine_lookup.proofs.Tables.{table-shown}
 use Rattle.engine_lookup.proofs.find_versions.Statement.{statement}
@@ -14,9 +14,7 @@ search-span-requires c κs =
     record { room = holds-room (st .args .m .now) (st .pre .0); order = g .order; inside = g .inside }
 
 returns : tie.Need-returns
-returns c =
-    let st = c .before .before .before in
-    let a = st .args in
+returns c = let st = c .before .before .before in let a = st .args in
     table-shown (holds-room (a .m .now) (st .pre .0)) (a .table) (a .transaction) (a .key) (st .pre .1) (c .before .table-rows .ensures) (c .search-span .ensures)
 
 pub find-versions-spec : {M : Type 1} → statement M

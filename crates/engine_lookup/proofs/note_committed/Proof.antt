@@ -1,4 +1,4 @@
--- `engine_lookup::note_committed` meets its contract.
+-- `engine_lookup::note_committed` meets its contract: the first committed version and a later one.
 use Rattle.engine_lookup.proofs.Notes.{first-committed, later-committed}
 use Rattle.basics.proofs.Kit.{needs}
 use Rattle.engine_lookup.proofs.note_committed.Statement.{statement}

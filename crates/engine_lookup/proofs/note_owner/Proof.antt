@@ -1,4 +1,4 @@
--- `engine_lookup::note_owner` meets its contract.
+-- `engine_lookup::note_owner` meets its contract: one case for each kind of owner.
 use Rattle.basics.proofs.Kit.{sym, ap, _∙_, needs}
 use Rattle.block_forms.specs.declared.Owner.{Owner}
 use Rattle.block_forms.specs.Bytes.{ownerIs}
@@ -8,15 +8,13 @@ use Rattle.engine_lookup.proofs.note_owner.Tie as tie
 
 returns : tie.Need-returns
 unfolding noteOwner
-returns c =
-    let a = c .before .before .before .args in
+returns c = let a = c .before .before .before .args in
     c .note-committed .ensures
     ∙ sym (ap (λ (o : Owner). noteOwner (a .transaction) (a .i) (ownerIs o) (a .visibility)) (c .before .enum-told .given .1))
 
 returns-2 : tie.Need-returns-2
 unfolding noteOwner
-returns-2 c =
-    let a = c .before .before .before .before .args in
+returns-2 c = let a = c .before .before .before .before .args in
     c .note-tentative .ensures
     ∙ sym (ap (λ (o : Owner). noteOwner (a .transaction) (a .i) (ownerIs o) (a .visibility)) (c .before .before .owner .given .1))
 

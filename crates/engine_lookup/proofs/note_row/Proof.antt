@@ -1,4 +1,4 @@
--- `engine_lookup::note_row` meets its contract.
+-- `engine_lookup::note_row` meets its contract: one case for each pending operation.
 use Rattle.basics.proofs.Kit.{ap, _∙_, needs}
 use Rattle.block_forms.specs.Tuple as tuples
 use Rattle.memory_layout.specs.Flat.{flatOf, rowIn}

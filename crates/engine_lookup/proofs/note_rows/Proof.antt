@@ -1,4 +1,4 @@
--- `engine_lookup::note_rows` meets its contract.
+-- `engine_lookup::note_rows` meets its contract. The invariant: the answer is what the rows from i on make of what is noted so far.
 use Rattle.basics.proofs.Kit.{_≡_, refl, sym, ap, _∙_, ⊎-elim, _+_, _<_, _-_, arith}
 use Rattle.memory_layout.specs.Flat.{Flat, flatOf, rowIn}
 use Rattle.basics.specs.Lists.{tab}
@@ -21,16 +21,14 @@ key-at-requires : tie.Need-key-at-requires Inv-loop μ-loop
 key-at-requires c κs = (c .before .before .before .pre .0, omega (arith, c .before .before .before .pre .1, c .loop-test .taken))
 
 note-row-requires : tie.Need-note-row-requires Inv-loop μ-loop
-note-row-requires c κs =
-    let st = c .before .before .before .before .before in
+note-row-requires c κs = let st = c .before .before .before .before .before in
     (st .pre .0, omega (arith, st .pre .1, c .before .before .loop-test .taken))
 
 loop-less : tie.Need-loop-less Inv-loop μ-loop
 loop-less c = omega (arith, c .before .before .loop-test .taken)
 
 loop-again : tie.Need-loop-again Inv-loop μ-loop
-loop-again c =
-    let a = c .before .before .before .before .before .args in
+loop-again c = let a = c .before .before .before .before .before .args in
     let f : Flat = flatOf (a .m .now) in
     let g = c .before .before .before .loop in
     let lt : g .i < a .to = c .before .before .loop-test .taken in
@@ -41,9 +39,7 @@ loop-again c =
     (c .if1 .came)
 
 returns : tie.Need-returns Inv-loop μ-loop
-returns c =
-    let a = c .before .before .before .args in
-    let g = c .before .loop in
+returns c = let a = c .before .before .before .args in let g = c .before .loop in
     sym (turn-end (flatOf (a .m .now)) (a .transaction) (a .key) (g .i) (a .to) (g .l) (omega (arith, c .loop-test .left))) ∙ g .inv
 
 pub note-rows-spec : {M : Type 1} → statement M

@@ -1,4 +1,4 @@
--- `engine_lookup::note_tentative` meets its contract.
+-- `engine_lookup::note_tentative` meets its contract: an own version and one of another transaction.
 use Rattle.engine_lookup.proofs.Notes.{own-tentative, foreign-tentative}
 use Rattle.basics.proofs.Kit.{needs}
 use Rattle.engine_lookup.proofs.note_tentative.Statement.{statement}

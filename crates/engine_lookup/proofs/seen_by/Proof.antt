@@ -1,4 +1,4 @@
--- `engine_lookup::seen_by` meets its contract.
+-- `engine_lookup::seen_by` meets its contract: what is noted of the key tells what is seen (`visibility-sees`).
 use Rattle.memory_layout.specs.Flat.{flatOf}
 use Rattle.memory_layout.proofs.Laws.{holds-room}
 use Rattle.engine_lookup.proofs.Picking.{visibility-sees}
@@ -10,8 +10,7 @@ pick-requires : tie.Need-pick-requires
 pick-requires c κs = let st = c .before .before in (holds-room (st .args .m .now) (st .pre .0), c .find-versions .ensures .own-in)
 
 returns : tie.Need-returns
-returns c =
-    let a = c .before .before .before .args in
+returns c = let a = c .before .before .before .args in
     visibility-sees (flatOf (a .m .now)) (a .table) (a .transaction) (a .key) (c .before .find-versions .result) (c .pick .result) (c .before .find-versions .ensures) (c .pick .ensures)
 
 pub seen-by-spec : {M : Type 1} → statement M

@@ -1,6 +1,5 @@
 -- `engine_pages::apply_kept` meets its contract: a pending commit by `kept-both`, any other row by `kept-one`.
 use Rattle.basics.proofs.Kit.{sym, _∙_, needs}
-use Rattle.memory_layout.specs.Flat.{Flat}
 use Rattle.engine_pages.proofs.Applying.{kept-both, kept-one, still-row}
 use Rattle.engine_pages.proofs.apply_kept.Statement.{statement}
 use Rattle.engine_pages.proofs.apply_kept.Tie as tie

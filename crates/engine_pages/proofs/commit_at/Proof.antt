@@ -1,6 +1,5 @@
 -- `engine_pages::commit_at` meets its contract: on a frozen page by that of `commit_later`, on another by `commit-now`, which leaves it dirty.
 use Rattle.basics.proofs.Kit.{sym, _∙_, needs, arith}
-use Rattle.memory_layout.specs.Flat.{Flat}
 use Rattle.engine_pages.proofs.Places.{row-in, page-in, page-frozen, now-to, holds-now, still-there}
 use Rattle.engine_pages.proofs.Committing.{commit-is, commit-now}
 use Rattle.engine_pages.proofs.commit_at.Statement.{statement}

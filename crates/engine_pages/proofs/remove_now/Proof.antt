@@ -1,7 +1,7 @@
 -- `engine_pages::remove_now` meets its contract: an empty page is dropped (`now-none`), another is joined as it may be (`now-joined`).
 use Rattle.basics.proofs.Kit.{sym, _∙_, _<_, needs, arith}
 use Rattle.engine_pages.specs.Pages.{entryOf}
-use Rattle.engine_pages.proofs.Places.{has-row, page-in}
+use Rattle.engine_pages.proofs.Places.{has-row}
 use Rattle.engine_pages.proofs.Removing.{more, may-lose, less-there, less-empty, now-none, now-there, now-joined}
 use Rattle.engine_pages.proofs.remove_now.Statement.{statement}
 use Rattle.engine_pages.proofs.remove_now.Tie as tie

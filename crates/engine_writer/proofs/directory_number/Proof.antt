@@ -1,4 +1,4 @@
--- `engine_writer::directory_number` meets its contract.
+-- `engine_writer::directory_number` meets its contract: the entry that is there, or 0.
 use Rattle.memory_layout.specs.Flat.{flatOf}
 use Rattle.memory_layout.proofs.Laws.{directories-read}
 use Rattle.basics.proofs.Kit.{sym, List·getD-eq-default, needs, arith}

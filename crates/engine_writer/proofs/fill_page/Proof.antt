@@ -1,4 +1,4 @@
--- `engine_writer::fill_page` meets its contract.
+-- `engine_writer::fill_page` meets its contract. The invariant (`Filling`): the block is a page with what the rows before row i show.
 use Rattle.basics.proofs.Kit.{_≡_, refl, sym, ap, _∙_, ⊎-elim, List, [], _∷_, _++_, getD, ℕ, _+_, _≤_, _-_, length, not-true, not-false, arith}
 use Rattle.block_forms.specs.Limits.{recordSpace}
 use Rattle.block_forms.specs.Tuple.{sizes}
@@ -24,25 +24,19 @@ cast-begin-page : tie.Need-cast-begin-page Inv-loop μ-loop
 cast-begin-page c = omega (arith, c .before .before .before .pre .fits)
 
 begin-page-requires : tie.Need-begin-page-requires Inv-loop μ-loop
-begin-page-requires c κs =
-    let g = c .before .before .before .pre in
+begin-page-requires c κs = let g = c .before .before .before .pre in
     (g .zero, (g .table, (few-fit (g .measured) (g .fits), omega (arith, g .fits))))
 
 loop-holds : tie.Need-loop-holds Inv-loop μ-loop
-loop-holds c =
-    let s = c .before .before .before .before in
-    let a = s .args in
+loop-holds c = let s = c .before .before .before .before in let a = s .args in
     (omega arith, (s .pre .rows .order, filling-start (c .begin-page .ensures) (s .pre .measured) (shown-none (flatOf (a .m .now) .rows) (a .s))))
 
 is-shown-requires : tie.Need-is-shown-requires Inv-loop μ-loop
-is-shown-requires c κs =
-    let g = c .before .before .before .before .before .before .pre .rows in
+is-shown-requires c κs = let g = c .before .before .before .before .before .before .pre .rows in
     (g .room, omega (arith, g .inside, c .loop-test .taken))
 
 record-at-requires : tie.Need-record-at-requires Inv-loop μ-loop
-record-at-requires c κs =
-    let p = c .before .before in
-    let g = p .before .before .before .before .before .before .pre .rows in
+record-at-requires c κs = let p = c .before .before in let g = p .before .before .before .before .before .before .pre .rows in
     (g .room, omega (arith, g .inside, p .loop-test .taken))
 
 -- a row that is shown comes next, and has room
@@ -54,26 +48,16 @@ rows c = flatOf (c .before .before .before .before .before .before .before .befo
 
 next : (c : Shows) → let p = c .before .before in let a = p .before .before .before .before .before .before .args in
     shown (run (rows c) (a .s) (p .before .loop .i + 1)) ≡ shown (run (rows c) (a .s) (p .before .loop .i)) ++ (getD (rows c) (p .before .loop .i) noRow .tuple ∷ [])
-next c =
-    let p = c .before .before in
-    let s = p .before .before .before .before .before .before in
-    let l = p .before .loop in
+next c = let p = c .before .before in let s = p .before .before .before .before .before .before in let l = p .before .loop in
     shown-more (rows c) (s .args .s) (l .i) (l .inv .0) (omega (arith, s .pre .rows .inside, p .loop-test .taken)) (not-true _ (sym (c .before .is-shown .ensures) ∙ c .if1 .taken))
 
 room : (c : Shows) → let p = c .before .before in let a = p .before .before .before .before .before .before .args in
     sizes (shown (run (rows c) (a .s) (p .before .loop .i + 1))) ≤ recordSpace
-room c =
-    let p = c .before .before in
-    let s = p .before .before .before .before .before .before in
-    let l = p .before .loop in
+room c = let p = c .before .before in let s = p .before .before .before .before .before .before in let l = p .before .loop in
     omega (arith, shown-within (rows c) (s .args .s) (l .i + 1) (omega (arith, l .inv .0)) (s .args .e) (omega (arith, p .loop-test .taken)), s .pre .measured .bytes, s .pre .fits)
 
 append-requires : tie.Need-append-requires Inv-loop μ-loop
-append-requires c κs =
-    let t = c .before .before in
-    let p = t .before .before in
-    let l = p .before .loop in
-    let k = p .before .before .before .before .before in
+append-requires c κs = let t = c .before .before in let p = t .before .before in let l = p .before .loop in let k = p .before .before .before .before .before in
     let s = k .before in
     let fit = tuple-fits (s .args .m .now) (k .shared-slice-known .given) (l .i) (omega (arith, s .pre .rows .inside, p .loop-test .taken)) in
     spells-appends (c .before .record-at .ensures) fit
@@ -86,15 +70,8 @@ loop-less : tie.Need-loop-less Inv-loop μ-loop
 loop-less c = omega (arith, c .before .before .loop-test .taken)
 
 loop-again : tie.Need-loop-again Inv-loop μ-loop
-loop-again c =
-    let b = c .before in
-    let p = b .before in
-    let s = p .before .before .before .before .before .before in
-    let hs = flatOf (s .args .m .now) .rows in
-    let l = p .before .loop in
-    let lt = p .loop-test .taken in
-    let f = l .inv .1 .1 in
-    let all = shown (run hs (s .args .s) (s .args .e)) in
+loop-again c = let b = c .before in let p = b .before in let s = p .before .before .before .before .before .before in let hs = flatOf (s .args .m .now) .rows in
+    let l = p .before .loop in let lt = p .loop-test .taken in let f = l .inv .1 .1 in let all = shown (run hs (s .args .s) (s .args .e)) in
     let more : Filling (c .if1 .block) (s .args .table) (s .args .level) (length all) (sizes all) (shown (run hs (s .args .s) (l .i + 1))) (c .if1 .at) =
     ⊎-elim
     (λ a. let t : Shows = record { before = b; if1 = a .0 } in filling-same (filling-more f (a .1 .ensures) (a .3 .ensures) (next t) (room t)) (a .4) (a .5) refl)
@@ -103,10 +80,7 @@ loop-again c =
     (omega (arith, l .inv .0), (omega (arith, lt), more))
 
 returns : tie.Need-returns Inv-loop μ-loop
-returns c =
-    let p = c .before in
-    let k = p .before .before .before .before in
-    let s = k .before in
+returns c = let p = c .before in let k = p .before .before .before .before in let s = k .before in
     let m : List ℕ = s .args .m .now in
     let e : p .loop .i ≡ s .args .e = omega (arith, p .loop .inv .1 .0, c .loop-test .left) in
     let z : s .args .s + (s .args .e - s .args .s) ≡ s .args .e = omega (arith, s .pre .rows .order) in

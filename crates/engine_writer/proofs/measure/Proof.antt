@@ -1,4 +1,4 @@
--- `engine_writer::measure` meets its contract.
+-- `engine_writer::measure` meets its contract. The invariant (`Measured`): count and size are those of what the rows before row i show.
 use Rattle.basics.proofs.Kit.{_≡_, sym, _∙_, ⊎-elim, _+_, _≤_, _<_, _-_, length, not-true, not-false, arith}
 use Rattle.model.specs.Rules.{heldSize, shown}
 use Rattle.memory_layout.specs.Flat.{flatOf}
@@ -19,8 +19,7 @@ loop-holds c = let s = c .before in (omega arith, (s .pre .order, measured-none 
 
 -- a row is passed, and there are few
 row : (c : tie.In-loop Inv-loop μ-loop) → let l = c .before .loop in let a = c .before .before .before .args in (l .i < length (flatOf (a .m .now) .rows)) × (l .i < 1024)
-row c =
-    let s = c .before .before .before in
+row c = let s = c .before .before .before in
     let k : Known (s .args .m .now) = known (s .args .m .now) (s .pre .room) in
     (omega (arith, s .pre .inside, c .loop-test .taken), omega (arith, s .pre .inside, c .loop-test .taken))
 
@@ -44,16 +43,8 @@ loop-less c = omega (arith, c .before .before .before .loop-test .taken)
 
 loop-again : tie.Need-loop-again Inv-loop μ-loop
 unfolding heldSize
-loop-again c =
-    let z = c .before .before in
-    let p = z .before in
-    let l = p .before .loop in
-    let s = p .before .before .before in
-    let hs = flatOf (s .args .m .now) .rows in
-    let h = row p .0 in
-    let q = c .before .is-shown .ensures in
-    let d = l .inv .1 .1 in
-    let o = l .inv .0 in
+loop-again c = let z = c .before .before in let p = z .before in let l = p .before .loop in let s = p .before .before .before in
+    let hs = flatOf (s .args .m .now) .rows in let h = row p .0 in let q = c .before .is-shown .ensures in let d = l .inv .1 .1 in let o = l .inv .0 in
     let next : Measured (l .i + 1 - s .args .s) (shown (run hs (s .args .s) (l .i + 1))) (c .if1 .count) (c .if1 .bytes) =
     ⊎-elim
     (λ a. measured-more d _ (shown-more hs (s .args .s) (l .i) o h (not-true _ (sym q ∙ a .0 .taken))) (a .1) (z .size-at .ensures .0) (z .size-at .ensures .1) (omega (arith, a .2)) (omega arith))
@@ -62,9 +53,7 @@ loop-again c =
     (omega arith, (omega (arith, p .loop-test .taken), next))
 
 returns : tie.Need-returns Inv-loop μ-loop
-returns c =
-    let l = c .before .loop in
-    let a = c .before .before .before .args in
+returns c = let l = c .before .loop in let a = c .before .before .before .args in
     let e : l .i ≡ a .e = omega (arith, l .inv .1 .0, c .loop-test .left) in
     let d = rw e at (l .inv .1 .1) in
     record { count = d .length-is; bytes = d .size-is }

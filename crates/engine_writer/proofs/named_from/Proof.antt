@@ -1,4 +1,4 @@
--- `engine_writer::named_from` meets its contract.
+-- `engine_writer::named_from` meets its contract. The invariant: the first i numbers are those from entry `first` on.
 use Rattle.engine_writer.proofs.Headers.{named-few}
 use Rattle.engine_writer.proofs.Numbered.{entries-turn}
 use Rattle.memory_layout.specs.Flat.{flatOf}
@@ -23,9 +23,7 @@ get-named-requires : tie.Need-get-named-requires Inv-loop μ-loop
 get-named-requires c κs = let s = c .before .before .before in (s .pre .0, omega (arith, s .pre .1 .inside))
 
 loop-again : tie.Need-loop-again Inv-loop μ-loop
-loop-again c = let s = c .before .before .before .before in
-    let p = c .before .before .loop in
-    let ns = flatOf (s .args .m .now) .named in
+loop-again c = let s = c .before .before .before .before in let p = c .before .before .loop in let ns = flatOf (s .args .m .now) .named in
     (simp length-set (p .inv .0), (omega arith, entries-turn ns (p .entries) (s .args .first) (p .i) (c .get-named .result) (omega arith) (omega arith) (c .get-named .ensures) (p .inv .1 .1)))
 
 returns : tie.Need-returns Inv-loop μ-loop

@@ -1,4 +1,4 @@
--- `engine_writer::write_directory` meets its contract.
+-- `engine_writer::write_directory` meets its contract: a full run of entries or the last one (`run-full`, `run-last`).
 use Rattle.basics.proofs.Kit.{_≡_, ap, _∙_, ⊎-elim, List, ℕ, _*_, _-_, take, length-take, needs, arith}
 use Rattle.block_forms.specs.Limits.{entriesPerBlock}
 use Rattle.block_forms.specs.Block.{directory, encodeBlock}
@@ -28,10 +28,7 @@ Joined =
 -- the entries of this block
 run : (c : Joined) → let s = c .before .before .before .before .before in
     Run (flatOf (s .args .m .now) .named) (entriesPerBlock * s .args .k) (c .if1 .count)
-run c =
-    let s = c .before .before .before .before .before in
-    let n = named-read (s .args .m .now) (c .before .before .get-counts .ensures) in
-    let h = s .pre .1 .start in
+run c = let s = c .before .before .before .before .before in let n = named-read (s .args .m .now) (c .before .before .get-counts .ensures) in let h = s .pre .1 .start in
     ⊎-elim (λ w. run-full (omega (arith, w .0 .taken)) (omega (arith, w .1))) (λ w. run-last (omega (arith, w .1)) (omega (arith, w .0 .left, w .1))) (c .if1 .came)
 
 named-from-requires : tie.Need-named-from-requires
@@ -44,8 +41,7 @@ write-directory-requires : tie.Need-write-directory-requires
 write-directory-requires c κs = (omega arith, simp length-take (omega (arith, run (c .before .before .before .before .before) .few)))
 
 returns : tie.Need-returns
-returns c = let j = c .before .before .before .before .before .before .before in
-    let s = j .before .before .before .before .before .before in
+returns c = let j = c .before .before .before .before .before .before .before in let s = j .before .before .before .before .before .before in
     let f = j .named-from in
     let n : ℕ = j .before .if1 .count in
     let e : n - 0 ≡ n = omega arith in

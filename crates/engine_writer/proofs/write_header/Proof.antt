@@ -1,4 +1,4 @@
--- `engine_writer::write_header` meets its contract.
+-- `engine_writer::write_header` meets its contract: the header's fields are those of the memory (`header-is`).
 use Rattle.engine_writer.proofs.Headers.{header-is}
 use Rattle.memory_layout.specs.declared.Head.{Head}
 use Rattle.block_forms.specs.declared.Header.{Header}
@@ -11,9 +11,7 @@ add-t6 : tie.Need-add-t6
 add-t6 c = omega (arith, c .before .before .before .before .before .pre .1 .level, ap (λ (x : Head). x .level) (c .before .before .get-head .ensures))
 
 returns : tie.Need-returns
-returns c = let d3 = c .before .before .before .before in
-    let d0 = d3 .before .before .before in
-    let n = d0 .before .before in
+returns c = let d3 = c .before .before .before .before in let d0 = d3 .before .before .before in let n = d0 .before .before in
     let m = n .before .before .before .before .args .m .now in
     c .before .before .write-header .ensures
     ∙ ap (λ (x : Header). encodeBlock (header x)) (header-is m (n .get-counts .ensures) (n .before .get-head .ensures) (d0 .directory-number .ensures)

@@ -1,4 +1,4 @@
--- `engine_writer::write_page` meets its contract.
+-- `engine_writer::write_page` meets its contract: a page that shows nothing is empty (`storable-none`), another holds all that it shows (`storable-all`).
 use Rattle.basics.proofs.Kit.{_≡_, refl, sym, ap, _∙_, ⊎-elim, List, ℕ, length, leb-true, needs, arith}
 use Rattle.block_forms.specs.Limits.{recordSpace}
 use Rattle.block_forms.specs.Tuple.{Tuple}
@@ -12,10 +12,7 @@ use Rattle.engine_writer.proofs.write_page.Statement.{statement}
 use Rattle.engine_writer.proofs.write_page.Tie as tie
 
 fill-page-requires : tie.Need-fill-page-requires
-fill-page-requires c κs =
-    let f = c .before .before in
-    let g = f .before in
-    let s = g .before .before .before in
+fill-page-requires c κs = let f = c .before .before in let g = f .before in let s = g .before .before .before in
     record {
       zero = refl;
       table = s .pre .table;
@@ -27,10 +24,7 @@ fill-page-requires c κs =
 -- the block that is built
 made : (c : tie.Joined1) → let a = c .before .before .before .before .before .args in
     c .if1 .block ≡ encodeBlock (page (a .table) (a .level) (storable (shown (rowsFrom (a .m .now) (a .s) (a .e)))))
-made c =
-    let f = c .before in
-    let g = f .before in
-    let s = g .before .before .before in
+made c = let f = c .before in let g = f .before in let s = g .before .before .before in
     let store : List Tuple → List ℕ = λ ts. encodeBlock (page (s .args .table) (s .args .level) ts) in
     ⊎-elim
     (λ a. a .3 ∙ a .2 .ensures ∙ ap store (sym (storable-all (g .measure .ensures) (sym (f .fits2 .ensures) ∙ a .0 .taken))))

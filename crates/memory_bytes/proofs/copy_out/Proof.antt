@@ -23,8 +23,7 @@ same-length : tie.Need-same-length Inv-loop μ-loop
 same-length c = c .before .loop .inv .1 .size
 
 returns : tie.Need-returns Inv-loop μ-loop
-returns c = let l = c .before in
-    let a = l .before .args in
+returns c = let l = c .before in let a = l .before .args in
     let e : length (bytes (a .m .now) (a .a) (a .n)) ≡ a .n = length-bytes (a .m .now) (a .a) (a .n) in
     front-wrote (write-end (l .loop .inv .1) (omega arith)) (omega arith) ∙ ap (λ (k : ℕ). bytes (a .m .now) (a .a) (a .n) ++ drop k (a .out .now)) e
 

@@ -18,8 +18,7 @@ add-k : tie.Need-add-k Inv-loop μ-loop
 add-k c = omega (arith, one-most (leb (c .before .get2 .result) (c .before .before .before .before .before .args .x)) (c .one-if .ensures))
 
 loop-again : tie.Need-loop-again Inv-loop μ-loop
-loop-again c = let l = c .before .before .before in
-    let a = l .before .before .args in
+loop-again c = let l = c .before .before .before in let a = l .before .before .args in
     let p : c .one-if .result ≤ 1 = one-most (leb (c .before .get2 .result) (a .x)) (c .one-if .ensures) in (
       omega arith,
       (
@@ -32,8 +31,7 @@ loop-again c = let l = c .before .before .before in
     )
 
 returns : tie.Need-returns Inv-loop μ-loop
-returns c = let l = c .before in
-    let a = l .before .before .args in
+returns c = let l = c .before in let a = l .before .before .args in
     count-end (upTo (a .x)) (column2 (a .m .now) (a .base)) (l .loop .j) (a .e) (l .loop .k) (l .loop .inv .1 .1 .1) (omega arith)
 
 pub count-up-to2-spec : {M : Type 1} → statement M

@@ -19,15 +19,12 @@ loop-holds : tie.Need-loop-holds Inv-loop μ-loop
 loop-holds c = let a = c .before .args in (omega arith, any-start (names (a .s)) (column2 (a .m .now) (a .base)) (a .n))
 
 returns : tie.Need-returns Inv-loop μ-loop
-returns c = let l = c .before .before .before in
-    let a = l .before .before .args in
-    let i = l .loop .i in
+returns c = let l = c .before .before .before in let a = l .before .before .args in let i = l .loop .i in
     any-hit (names (a .s)) (column2 (a .m .now) (a .base)) i (a .n) 64 (l .loop .inv .1) (omega arith)
     (any-group2 (a .m .now) (a .base) i 64 (names (a .s)) (c .before .any-names .ensures) (c .if1 .taken))
 
 loop-again : tie.Need-loop-again Inv-loop μ-loop
-loop-again c = let l = c .before .before .before in
-    let a = l .before .before .args in
+loop-again c = let l = c .before .before .before in let a = l .before .before .args in
     let i = l .loop .i in (
       omega arith,
       any-pass (names (a .s)) (column2 (a .m .now) (a .base)) i (a .n) 64 (l .loop .inv .1) (omega arith)

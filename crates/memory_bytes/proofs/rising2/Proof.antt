@@ -17,16 +17,14 @@ loop-holds : tie.Need-loop-holds Inv-loop μ-loop
 loop-holds c = let a = c .before .args in (omega arith, paired-start ltb (column2 (a .m .now) (a .base)) (a .n))
 
 loop-again : tie.Need-loop-again Inv-loop μ-loop
-loop-again c = let l = c .before .before .before in
-    let a = l .before .before .args in
+loop-again c = let l = c .before .before .before in let a = l .before .before .args in
     let next : c .get22 .result ≡ column2 (a .m .now) (a .base) (l .loop .j + 1) = c .get22 .ensures ∙ ap (le2 (a .m .now)) (omega arith) in (
       omega arith,
       paired-turn ltb (column2 (a .m .now) (a .base)) (l .loop .j) (a .n) (l .loop .ok) (l .loop .inv .1) (omega arith) (c .before .get2 .ensures) next,
     )
 
 returns : tie.Need-returns Inv-loop μ-loop
-returns c = let l = c .before in
-    let a = l .before .before .args in
+returns c = let l = c .before in let a = l .before .before .args in
     paired-end ltb (column2 (a .m .now) (a .base)) (l .loop .j) (a .n) (l .loop .ok) (l .loop .inv .1) (omega arith)
 
 pub rising2-spec : {M : Type 1} → statement M

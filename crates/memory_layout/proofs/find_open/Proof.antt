@@ -36,8 +36,7 @@ get4-requires-2 : tie.Need-get4-requires-2 Inv-loop μ-loop
 get4-requires-2 c κs = let st = c .before .before .before .before in omega (arith, known _ (st .pre))
 
 returns : tie.Need-returns Inv-loop μ-loop
-returns c = let l = c .before .before .before in
-    let st = l .before .before .before in
+returns c = let l = c .before .before .before in let st = l .before .before .before in
     omega (arith, l .loop .inv .1 .1, find-here (st .args .m .now) (st .args .transaction) (l .loop .i) (l .before .get4 .result) (omega arith) (c .before .get42 .ensures) (omega arith))
 
 loop-again : tie.Need-loop-again Inv-loop μ-loop
@@ -51,8 +50,7 @@ loop-again c = let l = c .before .before .before in
     )
 
 returns-2 : tie.Need-returns-2 Inv-loop μ-loop
-returns-2 c = let l = c .before in
-    let st = l .before .before .before in
+returns-2 c = let l = c .before in let st = l .before .before .before in
     omega (arith, l .loop .inv .1 .1, find-end (st .args .m .now) (st .args .transaction) (l .loop .i) (l .before .get4 .result) (omega arith))
 
 pub find-open-spec : {M : Type 1} → statement M

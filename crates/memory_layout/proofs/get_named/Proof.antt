@@ -16,8 +16,7 @@ get2-requires c κs = omega (arith, known _ (c .before .before .pre .0), c .name
 
 returns : tie.Need-returns
 unfolding headOf
-returns c = let p = c .before in
-    let st = p .before .before in
+returns c = let p = c .before in let st = p .before .before in
     named-at _ _ _ (st .pre .0) (st .pre .1) (c .get2 .ensures ∙ ap (le2 (st .args .m .now)) (p .named-place .ensures))
 
 pub get-named-spec : {M : Type 1} → statement M

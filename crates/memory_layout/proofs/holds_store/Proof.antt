@@ -12,37 +12,22 @@ returns-2 c = let s = c .before in
     unsigned (s .before .before .before .args .m .now) (omega (arith, s .before .if1 .left)) (s .get4 .ensures) (c .if2 .taken)
 
 returns-3 : tie.Need-returns-3
-returns-3 c = let r = c .before in
-    let n = r .before in
-    let h = n .before in
-    let s = h .before .before in
+returns-3 c = let r = c .before in let n = r .before in let h = n .before in let s = h .before .before in
     out-of-range (s .before .before .before .args .m .now) (omega (arith, s .before .if1 .left)) (s .get4 .ensures) (h .before .if2 .left)
     (h .get-head .ensures) (n .get-counts .ensures) (r .in-range .ensures) (not-true _ (c .if3 .taken))
 
 returns-4 : tie.Need-returns-4
-returns-4 c = let t = c .before in
-    let r = t .before .before in
-    let n = r .before in
-    let h = n .before in
-    let s = h .before .before in
+returns-4 c = let t = c .before in let r = t .before .before in let n = r .before in let h = n .before in let s = h .before .before in
     tables-fall (s .before .before .before .args .m .now) (omega (arith, s .before .if1 .left)) (s .get4 .ensures) (h .before .if2 .left)
     (h .get-head .ensures) (n .get-counts .ensures) (r .in-range .ensures) (not-false _ (t .before .if3 .left)) (t .tables-rise .ensures) (not-true _ (c .if4 .taken))
 
 starts-rise-requires : tie.Need-starts-rise-requires
-starts-rise-requires c κs = let t = c .before .before .before in
-    let r = t .before .before in
-    let n = r .before in
-    let h = n .before in
-    let s = h .before .before in
+starts-rise-requires c κs = let t = c .before .before .before in let r = t .before .before in let n = r .before in let h = n .before in let s = h .before .before in
     starts-at (s .before .before .before .args .m .now) (omega (arith, s .before .if1 .left)) (s .get4 .ensures) (h .before .if2 .left)
     (h .get-head .ensures) (n .get-counts .ensures) (r .in-range .ensures) (not-false _ (t .before .if3 .left))
 
 returns-5 : tie.Need-returns-5
-returns-5 c = let e = c .before .before .before in
-    let t = e .before in
-    let r = t .before .before in
-    let n = r .before in
-    let h = n .before in
+returns-5 c = let e = c .before .before .before in let t = e .before in let r = t .before .before in let n = r .before in let h = n .before in
     let s = h .before .before in
     c .starts-rise .ensures ∙ sym (last-test (s .before .before .before .args .m .now) (omega (arith, s .before .if1 .left)) (s .get4 .ensures) (h .before .if2 .left)
     (h .get-head .ensures) (n .get-counts .ensures) (r .in-range .ensures) (not-false _ (t .before .if3 .left)) (t .tables-rise .ensures) (not-false _ (e .if4 .left)))

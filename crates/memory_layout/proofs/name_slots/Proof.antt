@@ -18,16 +18,14 @@ put2-requires : tie.Need-put2-requires Inv-loop μ-loop
 put2-requires c κs = omega (arith, c .before .before .loop .inv .1 .size)
 
 loop-again : tie.Need-loop-again Inv-loop μ-loop
-loop-again c = let w = c .before .before in
-    let l = w .before .before .before in
+loop-again c = let w = c .before .before in let l = w .before .before .before in
     (omega arith, names-turn (l .loop .i) (l .loop .inv .1) (w .put2 .ensures .apart))
 
 same-length : tie.Need-same-length Inv-loop μ-loop
 same-length c = c .before .loop .inv .1 .size
 
 returns : tie.Need-returns Inv-loop μ-loop
-returns c = let l = c .before in
-    let s = l .loop .inv .1 in
+returns c = let l = c .before in let s = l .loop .inv .1 in
     record { size = s .size; below = s .below; above = λ b h. s .above b (omega arith) }
 
 pub name-slots-spec : {M : Type 1} → statement M

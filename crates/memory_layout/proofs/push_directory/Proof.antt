@@ -12,10 +12,7 @@ add-put4-2 : tie.Need-add-put4-2
 add-put4-2 c = let n = c .before .before .before .before .before in omega (arith, known _ (n .before .before .before .pre .0), n .get4 .ensures)
 
 returns : tie.Need-returns
-returns c = let v = c .before .before in
-    let w = v .before .before .before .before in
-    let n = w .before .before in
-    let st = n .before .before .before in
+returns c = let v = c .before .before in let w = v .before .before .before .before in let n = w .before .before in let st = n .before .before .before in
     directory-push (st .args .b) (st .pre .0) (n .get4 .ensures) (st .pre .1 .few) (st .pre .1 .fits) (w .put4 .ensures) (v .put42 .ensures)
 
 pub push-directory-spec : {M : Type 1} → statement M

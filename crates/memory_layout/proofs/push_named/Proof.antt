@@ -11,8 +11,7 @@ named-place-requires c κs = let st = c .before .before .before .before in (st .
 
 put2-requires : tie.Need-put2-requires
 unfolding headOf
-put2-requires c κs = let n = c .before .before .before in
-    let st = n .before .before .before in
+put2-requires c κs = let n = c .before .before .before in let st = n .before .before .before in
     omega (arith, known _ (st .pre .0), st .pre .1 .few, c .before .named-place .ensures, n .get4 .ensures)
 
 add-put4 : tie.Need-add-put4
@@ -20,10 +19,7 @@ add-put4 c = let n = c .before .before .before .before .before .before .before i
 
 returns : tie.Need-returns
 unfolding headOf
-returns c = let v = c .before .before in
-    let w = v .before .before .before .before in
-    let p = w .before .before in
-    let n = p .before .before in
+returns c = let v = c .before .before in let w = v .before .before .before .before in let p = w .before .before in let n = p .before .before in
     let st = n .before .before .before in
     named-push (st .pre .0) (st .args .b) (st .pre .1 .fits) (n .get4 .ensures) (st .pre .1 .few) (p .named-place .ensures) (w .put2 .ensures) (v .put4 .ensures)
 

@@ -12,9 +12,7 @@ add-put4-3 : tie.Need-add-put4-3
 add-put4-3 c = let n = c .before .before .before .before .before .before .before in omega (arith, known _ (n .before .before .before .pre .0), n .get4 .ensures)
 
 returns : tie.Need-returns
-returns c = let v = c .before .before in
-    let w = v .before .before .before .before in
-    let n = w .before .before .before .before in
+returns c = let v = c .before .before in let w = v .before .before .before .before in let n = w .before .before .before .before in
     let st = n .before .before .before in
     open-push (st .pre .0) 0 (n .get4 .ensures) (st .args .o) (st .pre .1 .few) (st .pre .1 .fits) (w .put4 .ensures) (v .put42 .ensures)
 

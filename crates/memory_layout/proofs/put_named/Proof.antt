@@ -15,9 +15,7 @@ put2-requires c κs = let st = c .before .before .before .before in omega (arith
 
 returns : tie.Need-returns
 unfolding headOf
-returns c = let w = c .before .before in
-    let p = w .before .before in
-    let st = p .before .before .before in
+returns c = let w = c .before .before in let p = w .before .before in let st = p .before .before .before in
     named-set (st .pre .0) (st .args .b) (st .pre .1 .fits) (st .args .i) (st .pre .1 .inside) (p .named-place .ensures) (w .put2 .ensures)
 
 pub put-named-spec : {M : Type 1} → statement M

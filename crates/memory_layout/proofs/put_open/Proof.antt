@@ -15,8 +15,7 @@ put4-requires : tie.Need-put4-requires
 put4-requires c κs = omega (arith, known _ (c .before .before .before .before .pre .0))
 
 returns : tie.Need-returns
-returns c = let w = c .before .before in
-    let st = w .before .before .before .before .before in
+returns c = let w = c .before .before in let st = w .before .before .before .before .before in
     open-set (st .pre .0) (st .args .i) (st .args .o) (st .pre .1 .inside) (st .pre .1 .fits) (w .put4 .ensures)
 
 pub put-open-spec : {M : Type 1} → statement M

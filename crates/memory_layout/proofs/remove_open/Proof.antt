@@ -19,10 +19,7 @@ sub-put4 : tie.Need-sub-put4
 sub-put4 c = let n = c .before .before .before .before .before in omega (arith, known _ (n .before .before .before .pre .0), n .get4 .ensures)
 
 returns : tie.Need-returns
-returns c = let v = c .before .before in
-    let w = v .before .before .before .before in
-    let n = w .before .before in
-    let st = n .before .before .before in
+returns c = let v = c .before .before in let w = v .before .before .before .before in let n = w .before .before in let st = n .before .before .before in
     open-remove (st .pre .0) (st .args .i) (n .get4 .ensures) (st .pre .1) (w .lower .ensures) (v .put4 .ensures)
 
 pub remove-open-spec : {M : Type 1} → statement M

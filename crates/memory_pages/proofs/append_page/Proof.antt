@@ -2,7 +2,7 @@
 use Rattle.basics.proofs.Kit.{_≡_, sym, _∙_, _*_, _<_, needs, arith}
 use Rattle.memory_layout.proofs.Laws.{entries-length}
 use Rattle.memory_layout.specs.Views.{pageCount, startAt}
-use Rattle.memory_layout.specs.Flat.{capacityOf}
+use Rattle.memory_layout.specs.Flat.{capacityOf, Room}
 use Rattle.memory_pages.proofs.Appending.{last-stands, open-room, open-pages, page-appended, page-order}
 use Rattle.memory_pages.proofs.Ranges.{ranges, head-capacity, start-behind}
 use Rattle.memory_pages.proofs.append_page.Statement.{statement}
@@ -17,72 +17,35 @@ space c = let st = c .before .before .before in let m = st .args .m .now in omeg
 
 -- the page starts behind the last row
 start : (c : tie.After-row-count) → let m = c .before .before .before .before .before .args .m .now in c .row-count .result ≡ startAt m (capacityOf m) (c .before .before .page-count .result)
-start c =
-    let m = c .before .before .before .before .before .args .m .now in
-    let n = c .before .before .page-count in
+start c = let m = c .before .before .before .before .before .args .m .now in let n = c .before .before .page-count in
     c .row-count .ensures ∙ sym (start-behind m (capacityOf m) (n .result) (omega (arith, n .ensures)))
 
 open-page-requires : tie.Need-open-page-requires
-open-page-requires c κs =
-    let p3 = c .before .before .before in
-    let st = p3 .before .before .before in
+open-page-requires c κs = let p3 = c .before .before .before in let st = p3 .before .before .before in
     (st .pre .0, record { table = st .pre .1 .1 .table; place = omega (arith, p3 .page-count .ensures); space = space p3 })
 
-blocks-requires : tie.Need-blocks-requires
-blocks-requires c κs =
-    let p3 = c .before .before .before in
-    let p5 = p3 .before .before in
-    let p7 = p5 .before .before in
-    let p10 = p7 .before .before .before in
-    let pre = p10 .pre in
-    let n = p7 .page-count .ensures in
-    let s = last-stands (pre .0) n (pre .1 .1) in
-    open-room (pre .0) n s (space p7) (pre .1 .1 .block) (start p5) (p3 .open-page .ensures)
+-- the memory with the page opened has room
+opened : (c : tie.After-open-page) → Room (c .open-page .last .0)
+opened c = let p2 = c .before .before in let p4 = p2 .before .before in let pre = p4 .before .before .before .pre in let n = p4 .page-count .ensures in
+    open-room (pre .0) n (last-stands (pre .0) n (pre .1 .1)) (space p4) (pre .1 .1 .block) (start p2) (c .open-page .ensures)
 
 mul-a : tie.Need-mul-a
-mul-a c =
-    let p4 = c .before .before .before .before in
-    let p6 = p4 .before .before in
-    let p8 = p6 .before .before in
-    let p11 = p8 .before .before .before in
-    let pre = p11 .pre in
-    let n = p8 .page-count .ensures in
-    let s = last-stands (pre .0) n (pre .1 .1) in
-    omega (arith, ranges (pre .0), ranges (open-room (pre .0) n s (space p8) (pre .1 .1 .block) (start p6) (p4 .open-page .ensures)), c .blocks2 .ensures)
+mul-a c = let p4 = c .before .before .before .before in
+    omega (arith, ranges (p4 .before .before .before .before .before .before .before .pre .0), ranges (opened p4), c .blocks2 .ensures)
 
 add-a : tie.Need-add-a
-add-a c =
-    let p4 = c .before .before .before .before in
-    let p6 = p4 .before .before in
-    let p8 = p6 .before .before in
-    let p11 = p8 .before .before .before in
-    let pre = p11 .pre in
-    let n = p8 .page-count .ensures in
-    let s = last-stands (pre .0) n (pre .1 .1) in
-    omega (arith, ranges (pre .0), ranges (open-room (pre .0) n s (space p8) (pre .1 .1 .block) (start p6) (p4 .open-page .ensures)), c .blocks2 .ensures)
+add-a c = let p4 = c .before .before .before .before in
+    omega (arith, ranges (p4 .before .before .before .before .before .before .before .pre .0), ranges (opened p4), c .blocks2 .ensures)
 
 put2-requires : tie.Need-put2-requires
-put2-requires c κs =
-    let p5 = c .before .before .before .before .before in
-    let p7 = p5 .before .before in
-    let p9 = p7 .before .before in
-    let p12 = p9 .before .before .before in
-    let pre = p12 .pre in
-    let n = p9 .page-count .ensures in
-    let s = last-stands (pre .0) n (pre .1 .1) in
-    let o = p5 .open-page .ensures in
-    let b = pre .1 .1 .block in
-    omega (arith, ranges (open-room (pre .0) n s (space p9) b (start p7) o), open-pages (pre .0) n s (space p9) b (start p7) o, c .before .blocks2 .ensures)
+put2-requires c κs = let p5 = c .before .before .before .before .before in let p7 = p5 .before .before in let p9 = p7 .before .before in
+    let p12 = p9 .before .before .before in let pre = p12 .pre in let n = p9 .page-count .ensures in let s = last-stands (pre .0) n (pre .1 .1) in
+    let o = p5 .open-page .ensures in let b = pre .1 .1 .block in
+    omega (arith, ranges (opened p5), open-pages (pre .0) n s (space p9) b (start p7) o, c .before .blocks2 .ensures)
 
 returns : tie.Need-returns
-returns c =
-    let p8 = c .before .before .before .before .before .before .before .before in
-    let p10 = p8 .before .before in
-    let p12 = p10 .before .before in
-    let p15 = p12 .before .before .before in
-    let pre = p15 .pre in
-    let n = p12 .page-count .ensures in
-    let s = last-stands (pre .0) n (pre .1 .1) in
+returns c = let p8 = c .before .before .before .before .before .before .before .before in let p10 = p8 .before .before in let p12 = p10 .before .before in
+    let p15 = p12 .before .before .before in let pre = p15 .pre in let n = p12 .page-count .ensures in let s = last-stands (pre .0) n (pre .1 .1) in
     let b = c .before .before .before .before .blocks2 .ensures in
     let w = c .before .before .put2 .ensures in (
       page-appended (pre .0) n s (space p12) (pre .1 .1 .block) (start p10) (p8 .open-page .ensures) b w,
@@ -90,5 +53,5 @@ returns c =
     )
 
 pub append-page-spec : {M : Type 1} → statement M
-append-page-spec = tie.close (tie.spec (λ c κs. search needs) (λ c κs. search needs) cast-start open-page-requires blocks-requires mul-a add-a put2-requires (search needs)
-    returns)
+append-page-spec = tie.close (tie.spec (λ c κs. search needs) (λ c κs. search needs) cast-start open-page-requires (λ c κs. opened (c .before .before .before))
+    mul-a add-a put2-requires (search needs) returns)

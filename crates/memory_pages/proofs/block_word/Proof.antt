@@ -16,8 +16,7 @@ get2-requires : tie.Need-get2-requires
 get2-requires c κs = let st = c .before .before in omega (arith, ranges (st .pre .0), entries-length (st .args .m .now))
 
 returns : tie.Need-returns
-returns c =
-    let st = c .before .before .before in
+returns c = let st = c .before .before .before in
     c .get2 .ensures ∙ ap (λ (z : ℕ). le2 (st .args .m .now) (z + st .args .p * 2)) (c .before .blocks2 .ensures)
 
 pub block-word-spec : {M : Type 1} → statement M

@@ -1,4 +1,4 @@
--- `memory_pages::count_dirty` meets its contract.
+-- `memory_pages::count_dirty` meets its contract. The invariant (`Counted`): the answer is k plus the count of the entries from page p on.
 use Rattle.basics.proofs.Kit.{_≡_, ap, _∙_, cond, ℕ, _-_, eqb, length, needs, arith}
 use Rattle.basics.specs.Basics.{howMany}
 use Rattle.basics.proofs.Searches.{one-most}
@@ -24,21 +24,16 @@ block-at-requires : tie.Need-block-at-requires Inv-loop μ-loop
 block-at-requires c κs = let l = c .before in (l .before .before .before .pre, omega (arith, l .loop .inv .0))
 
 add-k : tie.Need-add-k Inv-loop μ-loop
-add-k c =
-    let l = c .before .before .before in
-    let st = l .before .before .before in
+add-k c = let l = c .before .before .before in let st = l .before .before .before in
     omega (arith, one-most (eqb (c .before .block-at .result) 0) (c .one-if .ensures), l .loop .inv .0, l .loop .inv .1 .few, ranges (st .pre), entries-length (st .args .m .now))
 
 loop-again : tie.Need-loop-again Inv-loop μ-loop
-loop-again c =
-    let l = c .before .before .before in
-    let st = l .before .before .before in
+loop-again c = let l = c .before .before .before in let st = l .before .before .before in
     let e = c .one-if .ensures ∙ ap (λ (z : ℕ). cond (eqb z 0) 1 0) (c .before .block-at .ensures) in
     (l .loop .inv .0, counted-turn dirtyEntry (flatOf (st .args .m .now) .entries) (l .loop .inv .1) noEntry (omega (arith, l .loop .inv .0)) e (one-most (eqb (c .before .block-at .result) 0) (c .one-if .ensures)))
 
 returns : tie.Need-returns Inv-loop μ-loop
-returns c =
-    let l = c .before in
+returns c = let l = c .before in
     counted-end dirtyEntry (flatOf (l .before .before .before .args .m .now) .entries) (l .loop .inv .1) (omega (arith, l .loop .inv .0))
 
 pub count-dirty-spec : {M : Type 1} → statement M

@@ -1,4 +1,4 @@
--- `memory_pages::count_frozen` meets its contract.
+-- `memory_pages::count_frozen` meets its contract. The invariant (`Counted`): the answer is k plus the count of the entries from page p on.
 use Rattle.basics.proofs.Kit.{_≡_, ap, _∙_, Bool, cond, _-_, length, drop, needs, arith}
 use Rattle.basics.specs.Basics.{howMany}
 use Rattle.basics.proofs.Searches.{one-most}
@@ -24,21 +24,16 @@ frozen-at-requires : tie.Need-frozen-at-requires Inv-loop μ-loop
 frozen-at-requires c κs = let l = c .before in (l .before .before .before .pre .0, omega (arith, l .loop .inv .0))
 
 add-k : tie.Need-add-k Inv-loop μ-loop
-add-k c =
-    let l = c .before .before .before in
-    let st = l .before .before .before in
+add-k c = let l = c .before .before .before in let st = l .before .before .before in
     omega (arith, one-most (c .before .frozen-at .result) (c .one-if .ensures), l .loop .inv .0, l .loop .inv .1 .few, ranges (st .pre .0), entries-length (st .args .m .now))
 
 loop-again : tie.Need-loop-again Inv-loop μ-loop
-loop-again c =
-    let l = c .before .before .before in
-    let st = l .before .before .before in
+loop-again c = let l = c .before .before .before in let st = l .before .before .before in
     let e = c .one-if .ensures ∙ ap (λ (b : Bool). cond b 1 0) (c .before .frozen-at .ensures) in
     (l .loop .inv .0, counted-turn frozenEntry (flatOf (st .args .m .now) .entries) (l .loop .inv .1) noEntry (omega (arith, l .loop .inv .0)) e (one-most (c .before .frozen-at .result) (c .one-if .ensures)))
 
 returns : tie.Need-returns Inv-loop μ-loop
-returns c =
-    let l = c .before in
+returns c = let l = c .before in
     counted-end frozenEntry (flatOf (l .before .before .before .args .m .now) .entries) (l .loop .inv .1) (omega (arith, l .loop .inv .0))
 
 pub count-frozen-spec : {M : Type 1} → statement M

@@ -22,21 +22,13 @@ inside : (c : tie.In-loop Inv-loop μ-loop) → let b3 = c .before .before .befo
 inside c = let b3 = c .before .before .before in let b4 = b3 .before in blocks-inside (b4 .before .before .pre) (b4 .page-count .ensures) (b3 .blocks2 .ensures)
 
 returns : tie.Need-returns Inv-loop μ-loop
-returns c =
-    let b3 = c .before .before .before in
-    let b5 = b3 .before .before in
-    let b6 = b5 .before in
-    let m = b6 .before .before .args .m .now in
+returns c = let b3 = c .before .before .before in let b5 = b3 .before .before in let b6 = b5 .before in let m = b6 .before .before .args .m .now in
     let l = b3 .loop in
     first-hit frozenWord _ (l .p) (b6 .page-count .result) (l .inv .rest) (c .before .before .loop-test .taken) (c .before .get2 .ensures) (eq-eqb _ 1 (c .if1 .taken))
     ∙ frozen-entries m (b6 .page-count .ensures) (b5 .blocks2 .ensures)
 
 loop-again : tie.Need-loop-again Inv-loop μ-loop
-loop-again c =
-    let b3 = c .before .before .before in
-    let b5 = b3 .before .before in
-    let b6 = b5 .before in
-    let l = b3 .loop in
+loop-again c = let b3 = c .before .before .before in let b5 = b3 .before .before in let b6 = b5 .before in let l = b3 .loop in
     let k = c .before .before .loop-test .taken in
     record {
       most = omega arith;
@@ -44,11 +36,7 @@ loop-again c =
     }
 
 returns-2 : tie.Need-returns-2 Inv-loop μ-loop
-returns-2 c =
-    let b3 = c .before .before .before in
-    let b4 = b3 .before in
-    let m = b4 .before .before .args .m .now in
-    let l = c .before .loop in
+returns-2 c = let b3 = c .before .before .before in let b4 = b3 .before in let m = b4 .before .before .args .m .now in let l = c .before .loop in
     first-end frozenWord _ (l .p) (b4 .page-count .result) (l .inv .rest) (l .inv .most) (c .loop-test .left)
     ∙ frozen-entries m (b4 .page-count .ensures) (b3 .blocks2 .ensures)
 

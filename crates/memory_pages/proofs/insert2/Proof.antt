@@ -5,10 +5,7 @@ use Rattle.memory_pages.proofs.insert2.Statement.{statement}
 use Rattle.memory_pages.proofs.insert2.Tie as tie
 
 returns : tie.Need-returns
-returns c =
-    let c2 = c .before .before in
-    let c6 = c2 .before .before .before .before in
-    let st = c6 .before .before .before in
+returns c = let c2 = c .before .before in let c6 = c2 .before .before .before .before in let st = c6 .before .before .before in
     inserted2 (st .pre .0) (omega arith) (c6 .raise .ensures) (c2 .put2 .ensures)
 
 pub insert2-spec : {M : Type 1} → statement M

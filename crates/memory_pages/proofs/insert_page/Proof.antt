@@ -11,18 +11,11 @@ cast-start : tie.Need-cast-start
 cast-start c = let st = c .before .before .before in omega (arith, ranges (st .pre .0), start-most (st .pre .0) (st .args .p), c .start-at .ensures)
 
 open-page-requires : tie.Need-open-page-requires
-open-page-requires c κs =
-    let st = c .before .before .before .before in
-    let m = st .args .m .now in
-    let b = st .pre .1 .place in
+open-page-requires c κs = let st = c .before .before .before .before in let m = st .args .m .now in let b = st .pre .1 .place in
     (st .pre .0, record { table = b .table; place = omega (arith, b .most, entries-length m); space = omega (arith, st .pre .1 .space, entries-length m, head-capacity m) })
 
 returns : tie.Need-returns
-returns c =
-    let c2 = c .before .before in
-    let c4 = c2 .before .before in
-    let st = c4 .before .before .before in
-    let m = st .args .m .now in
+returns c = let c2 = c .before .before in let c4 = c2 .before .before in let st = c4 .before .before .before in let m = st .args .m .now in
     let b = st .pre .1 .place in
     page-inserted (st .pre .0) (stands (st .pre .0) b)
     (omega (arith, st .pre .1 .space, entries-length m, head-capacity m)) (omega (arith, b .most, entries-length m))

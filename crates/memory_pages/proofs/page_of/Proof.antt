@@ -15,31 +15,22 @@ use Rattle.memory_bytes.proofs.count_up_to2.Reads as count-up-to2-reads
 use Rattle.memory_pages.proofs.starts.Reads as starts-reads
 
 cast-count-up-to2 : tie.Need-cast-count-up-to2
-cast-count-up-to2 c =
-    let st = c .before .before in
-    let m = st .args .m .now in
-    let o = st .pre .1 in
+cast-count-up-to2 c = let st = c .before .before in let m = st .args .m .now in let o = st .pre .1 in
     omega (arith, ranges (st .pre .0), start-most (st .pre .0) (st .args .b), starts m (st .pre .0) (st .args .b) (omega (arith, entries-length m, o .most)), o .last)
 
 count-up-to2-requires : tie.Need-count-up-to2-requires
-count-up-to2-requires c κs =
-    let st = c .before .before in
-    let m = st .args .m .now in
-    let o = st .pre .1 in
+count-up-to2-requires c κs = let st = c .before .before in let m = st .args .m .now in let o = st .pre .1 in
     (omega (arith, o .some), (omega (arith, ranges (st .pre .0), entries-length m, o .most), omega (arith, ranges (st .pre .0), entries-length m, o .most, c .starts .ensures)))
 
 -- what the count says
 known : (c : lts.After-count-up-to2 (starts-reads.Asked, starts-reads.Learnt, count-up-to2-reads.Asked, count-up-to2-reads.Learnt) reads.Pre reads.Post)
     → let st = c .before .before .before in Found (st .args .m .now) (st .args .a) (st .args .b) (st .args .i) (c .count-up-to2 .result)
-known c =
-    let st = c .before .before .before in
-    let a = st .args in
+known c = let st = c .before .before .before in let a = st .args in
     found (st .pre .0) (a .a) (a .b) (a .i) (c .count-up-to2 .result) (st .pre .1)
     (c .count-up-to2 .ensures ∙ ap (λ (s : ℕ). howMany (upTo (a .i)) (tab (column2 (a .m .now) s) (a .a) (a .b - a .a))) (c .before .starts .ensures))
 
 add-result : tie.Need-add-result
-add-result c =
-    let st = c .before .before .before in
+add-result c = let st = c .before .before .before in
     omega (arith, known c .most, ranges (st .pre .0), entries-length (st .args .m .now), st .pre .1 .most)
 
 sub-result : tie.Need-sub-result

@@ -14,8 +14,7 @@ abbrev μ-loop : tie.MeasureT-loop
 μ-loop m base n p₀ p = n - p
 
 loop-again : tie.Need-loop-again Inv-loop μ-loop
-loop-again c = let l = c .before .before .before in
-    let a = l .before .before .args in
+loop-again c = let l = c .before .before .before in let a = l .before .before .args in
     record {
       most = omega (arith, c .before .before .loop-test .taken);
       rest = first-skip frozenWord _ (l .loop .p) (a .n) (l .loop .inv .rest) 16 (omega (arith, c .before .before .loop-test .taken))

@@ -10,21 +10,13 @@ use Rattle.memory_pages.proofs.remove_page.Statement.{statement}
 use Rattle.memory_pages.proofs.remove_page.Tie as tie
 
 close-page-requires : tie.Need-close-page-requires
-close-page-requires c κs =
-    let st = c .before .before .before .before in
-    let m = st .args .m .now in
-    let p = st .args .p in
+close-page-requires c κs = let st = c .before .before .before .before in let m = st .args .m .now in let p = st .args .p in
     let h : p < pageCount m = omega (arith, entries-length m, st .pre .1 .place) in
     let e : c .before .table-of .result ≡ tableAt m p = c .before .table-of .ensures .0 ∙ entry-table m p h in
     (st .pre .0, record { table = c .before .table-of .ensures .1; place = h; behind = ends-behind (subst (λ (z : ℕ). TableIs m p z) (sym e) (table-is (st .pre .0) p)) h })
 
 returns : tie.Need-returns
-returns c =
-    let c2 = c .before .before in
-    let c4 = c2 .before .before in
-    let st = c4 .before .before .before in
-    let m = st .args .m .now in
-    let p = st .args .p in
+returns c = let c2 = c .before .before in let c4 = c2 .before .before in let st = c4 .before .before .before in let m = st .args .m .now in let p = st .args .p in
     let h : p < pageCount m = omega (arith, entries-length m, st .pre .1 .place) in
     page-removed (st .pre .0) h (c4 .table-of .ensures .0 ∙ entry-table m p h) (c2 .close-page .ensures) (st .pre .1 .empty)
 

@@ -16,15 +16,11 @@ get2-requires : tie.Need-get2-requires
 get2-requires c κs = let st = c .before .before .before .before in omega (arith, ranges (st .pre))
 
 returns : tie.Need-returns
-returns c =
-    let st = c .before .before .before .before .before in
-    let m = st .args .m .now in
+returns c = let st = c .before .before .before .before .before in let m = st .args .m .now in
     c .get2 .ensures ∙ ap (λ (z : ℕ). le2 m (z + st .args .p * 2)) (c .before .starts .ensures) ∙ sym (start-stored m (capacityOf m) (st .args .p) (omega arith))
 
 returns-2 : tie.Need-returns-2
-returns-2 c =
-    let st = c .before .before .before .before in
-    let m = st .args .m .now in
+returns-2 c = let st = c .before .before .before .before in let m = st .args .m .now in
     c .row-count .ensures ∙ sym (start-behind m (capacityOf m) (st .args .p) (omega arith))
 
 pub start-at-spec : {M : Type 1} → statement M

@@ -6,10 +6,7 @@ use Rattle.memory_pages.proofs.start_of.Statement.{statement}
 use Rattle.memory_pages.proofs.start_of.Tie as tie
 
 returns : tie.Need-returns
-returns c =
-    let st = c .before .before in
-    let m = st .args .m .now in
-    let p = st .args .p in
+returns c = let st = c .before .before in let m = st .args .m .now in let p = st .args .p in
     (c .start-at .ensures ∙ starts m (st .pre .0) p (omega (arith, entries-length m)), omega (arith, c .start-at .ensures, start-most (st .pre .0) p, rows-length m))
 
 pub start-of-spec : {M : Type 1} → statement M

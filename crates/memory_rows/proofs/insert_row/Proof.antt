@@ -11,12 +11,8 @@ free-slot-requires c κs = let st = c .before .before .before .before .before .b
 
 raise-rows-requires : tie.Need-raise-rows-requires
 unfolding headOf
-raise-rows-requires c κs =
-    let p3 = c .before .before .before in
-    let p10 = p3 .before .before .before .before .before .before .before in
-    let p12 = p10 .before .before in
-    let st = p12 .before .before .before .before in
-    let cap = p12 .capacity .ensures in
+raise-rows-requires c κs = let p3 = c .before .before .before in let p10 = p3 .before .before .before .before .before .before .before in
+    let p12 = p10 .before .before in let st = p12 .before .before .before .before in let cap = p12 .capacity .ensures in
     let n = p10 .row-count .ensures in (
       record { most = cap .most; long = omega (arith, cap .long, p3 .fill-slot .ensures .apart .size) },
       (omega (arith, n, st .pre .at), omega (arith, n, cap .is, st .pre .more)),
@@ -24,11 +20,8 @@ raise-rows-requires c κs =
 
 put-cells-requires : tie.Need-put-cells-requires
 unfolding headOf
-put-cells-requires c κs =
-    let p3 = c .before .before .before in
-    let p7 = p3 .before .before .before .before in
-    let p16 = p7 .before .before .before .before .before .before .before .before .before in
-    let st = p16 .before .before .before .before in
+put-cells-requires c κs = let p3 = c .before .before .before in let p7 = p3 .before .before .before .before in
+    let p16 = p7 .before .before .before .before .before .before .before .before .before in let st = p16 .before .before .before .before in
     let cap = p16 .capacity .ensures in (
       record { most = cap .most; long = omega (arith, cap .long, p7 .fill-slot .ensures .apart .size, p3 .raise-rows .ensures .only .size) },
       omega (arith, cap .is, st .pre .at, st .pre .more),
@@ -36,21 +29,10 @@ put-cells-requires c κs =
 
 returns : tie.Need-returns
 unfolding headOf
-returns c =
-    let p2 = c .before .before in
-    let p6 = p2 .before .before .before .before in
-    let p10 = p6 .before .before .before .before in
-    let p14 = p10 .before .before .before .before in
-    let p15 = p14 .before in
-    let p17 = p15 .before .before in
-    let p18 = p17 .before in
-    let p19 = p18 .before in
-    let p21 = p19 .before .before in
-    let p23 = p21 .before .before in
-    let st = p23 .before .before .before .before in
-    let cap = p23 .capacity .ensures in
-    let n = p21 .row-count .ensures in
-    let s = p19 .free-slot in
+returns c = let p2 = c .before .before in let p6 = p2 .before .before .before .before in let p10 = p6 .before .before .before .before in
+    let p14 = p10 .before .before .before .before in let p15 = p14 .before in let p17 = p15 .before .before in let p18 = p17 .before in let p19 = p18 .before in
+    let p21 = p19 .before .before in let p23 = p21 .before .before in let st = p23 .before .before .before .before in let cap = p23 .capacity .ensures in
+    let n = p21 .row-count .ensures in let s = p19 .free-slot in
     inserted (st .args .row) cap n (omega (arith, n, st .pre .at)) (omega (arith, n, cap .is, st .pre .more)) (st .pre .owner) (st .pre .payload)
     (omega (arith, cap .is, s .ensures .0)) (s .ensures .1)
     (p15 .word-of .ensures) (ap (λ (z : ℕ). s .result + z * 1024) (p17 .pending-code .ensures .0)) (p18 .flags-of .ensures)

@@ -12,9 +12,7 @@ returns c = sym (ap (λ (o : Owner). isBy (c .before .before .args .transaction)
 
 returns-2 : tie.Need-returns-2
 unfolding isBy
-returns-2 c =
-    let p1 = c .before in
-    let p3 = p1 .before .before in
+returns-2 c = let p1 = c .before in let p3 = p1 .before .before in
     sym (ap (λ (o : Owner). isBy (p3 .args .transaction) (ownerIs o)) (p1 .o .given .1))
 
 pub is-by-spec : {M : Type 1} → statement M

@@ -8,10 +8,7 @@ use Rattle.memory_rows.proofs.last_equal.Statement.{statement}
 use Rattle.memory_rows.proofs.last_equal.Tie as tie
 
 returns : tie.Need-returns
-returns c =
-    let p2 = c .before .before in
-    let st = p2 .before .before in
-    let a = st .args in
+returns c = let p2 = c .before .before in let st = p2 .before .before in let a = st .args in
     over-keys (a .m .now) (lastIndex (equals (a .key))) (a .s) (a .e) (st .pre .inside) (c .before .keys-at .ensures ∙ ap keysAt (p2 .capacity .ensures .is)) (c .last-equal .ensures)
 
 pub last-equal-spec : {M : Type 1} → statement M

@@ -8,10 +8,7 @@ use Rattle.memory_rows.proofs.last_up_to.Statement.{statement}
 use Rattle.memory_rows.proofs.last_up_to.Tie as tie
 
 returns : tie.Need-returns
-returns c =
-    let p2 = c .before .before in
-    let st = p2 .before .before in
-    let a = st .args in
+returns c = let p2 = c .before .before in let st = p2 .before .before in let a = st .args in
     over-keys (a .m .now) (lastIndex (upTo (a .key))) (a .s) (a .e) (st .pre .inside) (c .before .keys-at .ensures ∙ ap keysAt (p2 .capacity .ensures .is)) (c .last-up-to .ensures)
 
 pub last-up-to-spec : {M : Type 1} → statement M

@@ -6,9 +6,7 @@ use Rattle.memory_rows.proofs.mark_at.Statement.{statement}
 use Rattle.memory_rows.proofs.mark_at.Tie as tie
 
 returns : tie.Need-returns
-returns c =
-    let p1 = c .before in
-    let st = p1 .before .before in
+returns c = let p1 = c .before in let st = p1 .before .before in
     c .mark-of .ensures ∙ ap readMark (p1 .state-at .ensures) ∙ sym (mark-is (st .args .m .now) (st .args .i) (st .pre .1))
 
 pub mark-at-spec : {M : Type 1} → statement M

@@ -6,10 +6,7 @@ use Rattle.memory_rows.proofs.number_at.Statement.{statement}
 use Rattle.memory_rows.proofs.number_at.Tie as tie
 
 returns : tie.Need-returns
-returns c =
-    let p1 = c .before in
-    let st = p1 .before .before in
-    let m = st .args .m .now in
+returns c = let p1 = c .before in let st = p1 .before .before in let m = st .args .m .now in
     c .get4 .ensures ∙ ap (le4 m) (p1 .slot-place .ensures .0) ∙ sym (number-is m (st .args .i) (st .pre .1))
 
 pub number-at-spec : {M : Type 1} → statement M

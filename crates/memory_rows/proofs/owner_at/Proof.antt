@@ -9,12 +9,7 @@ use Rattle.memory_rows.proofs.owner_at.Statement.{statement}
 use Rattle.memory_rows.proofs.owner_at.Tie as tie
 
 returns : tie.Need-returns
-returns c =
-    let p1 = c .before in
-    let p2 = p1 .before in
-    let p3 = p2 .before in
-    let st = p3 .before .before in
-    let m = st .args .m .now in
+returns c = let p1 = c .before in let p2 = p1 .before in let p3 = p2 .before in let st = p3 .before .before in let m = st .args .m .now in
     let w = p2 .get4 .ensures ∙ ap (λ (z : ℕ). le4 m (z + 4)) (p3 .slot-place .ensures .0) in
     ap ownerIs (c .owner-of .ensures) ∙ owner-same _ ∙ (λ i. readOwner (p1 .state-at .ensures i) (w i)) ∙ sym (owner-is m (st .args .i) (st .pre .1))
 

@@ -8,13 +8,7 @@ use Rattle.memory_rows.proofs.payload_at.Statement.{statement}
 use Rattle.memory_rows.proofs.payload_at.Tie as tie
 
 returns : tie.Need-returns
-returns c =
-    let p1 = c .before in
-    let p2 = p1 .before in
-    let st = p2 .before .before in
-    let m = st .args .m .now in
-    let a = p2 .slot-place in
-    let n = c .length-of in
+returns c = let p1 = c .before in let p2 = p1 .before in let st = p2 .before .before in let m = st .args .m .now in let a = p2 .slot-place in let n = c .length-of in
     let e = (λ j. bytes m (a .ensures .0 j + 8) ((n .ensures .0 ∙ ap lengthOf (p1 .state-at .ensures)) j)) ∙ sym (payload-is m (st .args .i) (st .pre .1)) in
     record { inside = omega arith; count = sym (length-bytes m (a .result + 8) (n .result)) ∙ ap length e; here = e }
 

@@ -6,9 +6,7 @@ use Rattle.memory_rows.proofs.pending_at.Statement.{statement}
 use Rattle.memory_rows.proofs.pending_at.Tie as tie
 
 returns : tie.Need-returns
-returns c =
-    let p1 = c .before in
-    let st = p1 .before .before in
+returns c = let p1 = c .before in let st = p1 .before .before in
     c .pending-of .ensures ∙ ap pendingOf (p1 .ref-at .ensures) ∙ sym (pending-is (st .args .m .now) (st .args .i) (st .pre .1))
 
 pub pending-at-spec : {M : Type 1} → statement M

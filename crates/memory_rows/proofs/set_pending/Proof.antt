@@ -5,14 +5,8 @@ use Rattle.memory_rows.proofs.set_pending.Statement.{statement}
 use Rattle.memory_rows.proofs.set_pending.Tie as tie
 
 returns : tie.Need-returns
-returns c =
-    let p2 = c .before .before in
-    let p3 = p2 .before in
-    let p5 = p3 .before .before in
-    let p7 = p5 .before .before in
-    let st = p7 .before .before .before in
-    let a = p7 .ref-place in
-    let code = p3 .pending-code in
+returns c = let p2 = c .before .before in let p3 = p2 .before in let p5 = p3 .before .before in let p7 = p5 .before .before in let st = p7 .before .before .before in
+    let a = p7 .ref-place in let code = p3 .pending-code in
     pends (st .pre .0) (st .args .i) (st .pre .1) (st .args .p) (a .ensures .0) (omega (arith, code .ensures))
     (λ y. p5 .get2 .ensures y % 1024 + code .ensures .0 y * 1024) (p2 .put2 .ensures)
 

@@ -6,10 +6,7 @@ use Rattle.memory_rows.proofs.span_equal.Statement.{statement}
 use Rattle.memory_rows.proofs.span_equal.Tie as tie
 
 returns : tie.Need-returns
-returns c =
-    let p2 = c .before .before in
-    let st = p2 .before .before in
-    let a = st .args in
+returns c = let p2 = c .before .before in let st = p2 .before .before in let a = st .args in
     covers-keys (a .m .now) (st .pre .inside) (c .before .keys-at .ensures ∙ ap keysAt (p2 .capacity .ensures .is)) (c .span-equal .ensures)
 
 pub span-equal-spec : {M : Type 1} → statement M

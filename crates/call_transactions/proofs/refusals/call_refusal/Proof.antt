@@ -1,4 +1,4 @@
--- `call_transactions::refusals::call_refusal` meets its contract.
+-- `call_transactions::refusals::call_refusal` meets its contract: one case for each test (`call-10`, `call-11`), and none (`call-passed`).
 use Rattle.basics.proofs.Kit.{needs}
 use Rattle.call_transactions.proofs.Testing.{call-stopped, call-10, call-11, call-passed}
 use Rattle.call_transactions.proofs.refusals.call_refusal.Statement.{statement}

@@ -1,4 +1,4 @@
--- `call_transactions::refusals::full_refusal` meets its contract.
+-- `call_transactions::refusals::full_refusal` meets its contract: one case for each test (`full-15`, `full-16`), and none (`full-none`).
 use Rattle.basics.proofs.Kit.{sym, ap, _∙_, List, ℕ, arith}
 use Rattle.memory_layout.specs.declared.Head.{Head}
 use Rattle.memory_layout.proofs.Laws.{known, holds-room, rows-read}

@@ -4,7 +4,6 @@ use Rattle.block_forms.specs.Limits.{mostRecord}
 use Rattle.engine_pages.proofs.Sizes.{Turn, turn, lead-stop, lead-go, lead-end}
 use Rattle.memory_layout.specs.Elements.{rowsFrom}
 use Rattle.model.specs.Rules.{lead}
-use Rattle.memory_layout.specs.Flat.{flatOf}
 use Rattle.engine_pages.proofs.measures.half.Statement.{statement}
 use Rattle.engine_pages.proofs.measures.half.Tie as tie
 

@@ -1,6 +1,6 @@
 -- `engine_pages::measures::has_pending` meets its contract. The invariant (`AnyFrom`): the answer is hit, or whether one of the page's rows from row i on has a pending operation.
-use Rattle.basics.proofs.Kit.{refl, sym, ap, _∙_, subst, _||_, _+_, _-_, arith}
-use Rattle.memory_bytes.proofs.Scans.{AnyFrom, any-starts, any-turns, any-ends}
+use Rattle.basics.proofs.Kit.{ap, _∙_, _-_, arith}
+use Rattle.memory_bytes.proofs.Scans.{AnyFrom, any-starts, any-next, any-ends}
 use Rattle.memory_layout.specs.Flat.{flatOf, rowIn}
 use Rattle.engine_pages.proofs.Sizes.{rows-by}
 use Rattle.engine_pages.proofs.Places.{few-pages, few-rows, room, start-there, next-there, page-span, tuples-are}
@@ -29,11 +29,6 @@ is-pending-requires c κs = let g = spanned (c .before .before) in (g .room, ome
 add-i : tie.Need-add-i Inv-loop μ-loop
 add-i c = let g = spanned (c .before .before .before) in omega (arith, c .before .loop-test .taken, g .inside, few-rows (g .room))
 
-loop-again : tie.Need-loop-again Inv-loop μ-loop
-loop-again c = let l = c .before .before .loop in let s = c .before .before .before in
-    subst (λ z. AnyFrom waits (rowIn (flatOf (s .before .before .before .args .m .now))) (s .start-of2 .result) (s .before .start-of .result) (l .hit || z) (l .i + 1))
-    (sym (c .is-pending .ensures)) (any-turns (l .inv) (c .before .loop-test .taken) refl)
-
 returns : tie.Need-returns Inv-loop μ-loop
 returns c = let s = c .before .before in
     any-ends (c .before .loop .inv) (c .loop-test .left)
@@ -41,4 +36,5 @@ returns c = let s = c .before .before in
 
 pub has-pending-spec : {M : Type 1} → statement M
 has-pending-spec = tie.close (tie.spec Inv-loop μ-loop add-start-of (λ c κs. next-there (c .before .pre)) (λ c κs. start-there (c .before .before .pre))
-    (λ c. any-starts (spanned c .order)) is-pending-requires add-i (λ c. omega (arith, c .before .loop-test .taken)) loop-again returns)
+    (λ c. any-starts (spanned c .order)) is-pending-requires add-i (λ c. omega (arith, c .before .loop-test .taken))
+    (λ c. any-next (c .before .before .loop .inv) (c .before .loop-test .taken) (c .is-pending .ensures)) returns)

@@ -17,14 +17,12 @@ loop-holds : tie.Need-loop-holds Inv-loop μ-loop
 loop-holds c = (omega arith, (omega arith, grouped-none (c .before .args .e)))
 
 loop-again : tie.Need-loop-again Inv-loop μ-loop
-loop-again c = let l = c .before .before .before .before in
-    let a = l .before .before .args in
+loop-again c = let l = c .before .before .before .before in let a = l .before .before .args in
     let hit = sym (any-group4 (a .m .now) (a .base) (l .loop .k) 16 (equals (a .key)) (c .before .before .any-equal .ensures) refl) in
     (omega arith, (omega arith, grouped-turn (l .loop .inv .1 .1) (omega arith) (omega arith) (omega arith) refl hit (c .before .pick .ensures) (c .pick2 .ensures) refl))
 
 returns : tie.Need-returns Inv-loop μ-loop
-returns c = let l = c .before .before .before .before in
-    let a = l .before .before .args in
+returns c = let l = c .before .before .before .before in let a = l .before .before .args in
     let hit = sym (any-group4 (a .m .now) (a .base) (a .e - 16) 16 (equals (a .key)) (c .before .before .any-equal2 .ensures) refl) in
     grouped-turn (l .loop .inv .1 .1) (omega arith) (omega arith) (omega arith) (omega arith) hit (c .before .pick3 .ensures) (c .pick4 .ensures) (omega arith)
 

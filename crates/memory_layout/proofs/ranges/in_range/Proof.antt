@@ -10,8 +10,7 @@ use Rattle.memory_layout.proofs.ranges.in_range.Tie as tie
 
 returns : tie.Need-returns
 unfolding inRange memoryFor
-returns c = let s5 = c .before .before .before .before .before in
-    let s10 = s5 .before .before .before .before .before in
+returns c = let s5 = c .before .before .before .before .before in let s10 = s5 .before .before .before .before .before in
     let st = s10 .before .before .before .before in
     let h : Head = st .args .h in
     let n : Counts = st .args .n in

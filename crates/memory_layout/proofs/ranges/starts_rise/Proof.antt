@@ -12,13 +12,11 @@ returns-2 c = let g = c .before in
     last-empty (g .before .before .before .pre) (omega arith) (g .get2 .ensures) (omega (arith, c .if2 .taken))
 
 returns-3 : tie.Need-returns-3
-returns-3 c = let g = c .before in
-    let st = g .before .before .before .before .before in
+returns-3 c = let g = c .before in let st = g .before .before .before .before .before in
     first-moved (st .pre) (omega arith) (g .get22 .ensures) (c .if3 .taken)
 
 returns-4 : tie.Need-returns-4
-returns-4 c = let g2 = c .before .before in
-    let g = g2 .before .before in
+returns-4 c = let g2 = c .before .before in let g = g2 .before .before in
     all-rise (g .before .before .before .pre) (omega arith) (g .get2 .ensures) (omega arith) (g2 .get22 .ensures) (omega arith) (c .rising2 .ensures)
 
 pub starts-rise-spec : {M : Type 1} → statement M

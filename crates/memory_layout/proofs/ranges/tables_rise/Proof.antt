@@ -25,8 +25,7 @@ loop-again c = let l = c .before .before .before in (
 )
 
 returns : tie.Need-returns Inv-loop μ-loop
-returns c = let l = c .before in
-    let m = l .before .before .args .m .now in
+returns c = let l = c .before in let m = l .before .before .args .m .now in
     sym (l .loop .inv .1 ∙ ap (λ (z : Bool). l .loop .rise && z) (all-end (endRises m) (l .loop .t) 7 (omega arith)) ∙ and-yes (l .loop .rise))
 
 pub tables-rise-spec : {M : Type 1} → statement M

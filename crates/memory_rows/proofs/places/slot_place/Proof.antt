@@ -7,12 +7,7 @@ use Rattle.memory_rows.proofs.places.slot_place.Tie as tie
 
 returns : tie.Need-returns
 unfolding slotIn
-returns c =
-    let p1 = c .before in
-    let p2 = p1 .before in
-    let p3 = p2 .before in
-    let p5 = p3 .before .before in
-    let s = p1 .slot-of in
+returns c = let p1 = c .before in let p2 = p1 .before in let p3 = p2 .before in let p5 = p3 .before .before in let s = p1 .slot-of in
     let e : s .result ≡ slotAt (p5 .args .m .now) (p5 .args .i) = s .ensures .0 ∙ (λ i. slotOf (p3 .capacity .ensures .is i) (p2 .ref-at .ensures i)) in
     (c .slot-at .ensures ∙ ap slotPlace e, omega arith)
 

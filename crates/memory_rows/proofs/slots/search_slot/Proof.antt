@@ -23,19 +23,12 @@ add-s : tie.Need-add-s Inv-loop μ-loop
 add-s c = omega (arith, sized (c .before .before .before .before .args .m .now) (c .before .before .before .before .pre .0) .most)
 
 loop-again : tie.Need-loop-again Inv-loop μ-loop
-loop-again c =
-    let p1 = c .before in
-    let l = p1 .before in
-    let p4 = l .before .before in
-    let m = p4 .args .m .now in
-    let s = l .loop .s in
+loop-again c = let p1 = c .before in let l = p1 .before in let p4 = l .before .before in let m = p4 .args .m .now in let s = l .loop .s in
     let all : (k : ℕ) → k < s + 1 → isTaken m k ≡ true = below-more _ s (l .loop .inv .1) (sym (p1 .is-taken .ensures) ∙ c .if1 .taken) in
     (omega (arith, fewer m (s + 1) all, p4 .pre .1), all)
 
 returns : tie.Need-returns Inv-loop μ-loop
-returns c =
-    let p1 = c .before in
-    let p2 = p1 .before in
+returns c = let p1 = c .before in let p2 = p1 .before in
     (p2 .loop .inv .0, sym (p1 .is-taken .ensures) ∙ c .if1 .left)
 
 pub search-slot-spec : {M : Type 1} → statement M
