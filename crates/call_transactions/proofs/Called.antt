@@ -11,8 +11,8 @@ use Rattle.call_contracts.specs.declared.Answer.the-variants.{Done, Refused}
 use Rattle.call_contracts.proofs.Answering.{answers-refused, answers-done}
 use Rattle.engine_lookup.specs.Lookup.{Shows}
 use Rattle.engine_lookup.specs.declared.Visibility.{Visibility}
-use Rattle.call_transactions.specs.Refusals.{verdict, verdictIn, foundTests}
-use Rattle.call_transactions.proofs.Verdicts.{unless-append, unless-stop, unless-pass, passed-held, call-after, answers-stopped}
+use Rattle.call_transactions.specs.Refusals.{firstRefusal, refusalIn, foundTests}
+use Rattle.call_transactions.proofs.Refusing.{unless-append, unless-stop, unless-pass, passed-held, call-after, answers-stopped}
 use Rattle.call_transactions.proofs.Testing.{key-tests-are, later-numbered, call-numbered}
 use Rattle.model.specs.State as model
 
@@ -36,7 +36,7 @@ is-write : (new mark : Bool) (tx t k : ℕ) (bs : List ℕ) (s : Store)
 unfolding writeCall writeTests withTuple wrote
 is-write new mark tx t k bs s = unless-append (argumentTests tx t (length bs) s) (tupleTests new tx t k s) s _
 
-module _ (new mark : Bool) (tx t k : ℕ) (bs m : List ℕ) (v : ℕ) (ev : v ≡ verdictIn (storeIn m) (argumentTests tx t (length bs))) where
+module _ (new mark : Bool) (tx t k : ℕ) (bs m : List ℕ) (v : ℕ) (ev : v ≡ refusalIn (storeIn m) (argumentTests tx t (length bs))) where
   abbrev S : Store
   S = storeOf (flatOf m)
 
@@ -46,7 +46,7 @@ module _ (new mark : Bool) (tx t k : ℕ) (bs m : List ℕ) (v : ℕ) (ev : v �
   pub call-refused : (v ≡ 0 → ⊥) → Answers (writeCall new mark tx t k bs) m (Refused v) m
   call-refused nz = answers-stopped m (argumentTests tx t (length bs)) v ev call (wrote new mark tx t k bs) (is-write new mark tx t k bs) nz
 
-  module _ (z : v ≡ 0) (l : Visibility) (shown : Shows (flatOf m) t tx (versions t k (pagesIn (flatOf m))) l) (w : ℕ) (ew : w ≡ verdict (foundTests new (flatOf m) l)) where
+  module _ (z : v ≡ 0) (l : Visibility) (shown : Shows (flatOf m) t tx (versions t k (pagesIn (flatOf m))) l) (w : ℕ) (ew : w ≡ firstRefusal (foundTests new (flatOf m) l)) where
     there : holdsStore m ≡ true
     there = passed-held m (argumentTests tx t (length bs)) v ev z
 
@@ -57,8 +57,8 @@ module _ (new mark : Bool) (tx t k : ℕ) (bs m : List ℕ) (v : ℕ) (ev : v �
     unfolding wrote
     call-is = call-after m (argumentTests tx t (length bs)) v ev call (wrote new mark tx t k bs) (is-write new mark tx t k bs) (call-numbered tx t (length bs)) z
 
-    later-is : verdict (tupleTests new tx t k S) ≡ w
-    later-is = sym (ew ∙ ap verdict tests-are)
+    later-is : firstRefusal (tupleTests new tx t k S) ≡ w
+    later-is = sym (ew ∙ ap firstRefusal tests-are)
 
     pub key-refused : (w ≡ 0 → ⊥) → Answers (writeCall new mark tx t k bs) m (Refused w) m
     key-refused nz =

@@ -12,10 +12,10 @@ use Rattle.call_contracts.specs.declared.Answer.the-variants.{Done, Refused}
 use Rattle.call_contracts.proofs.Answering.{answers-done}
 use Rattle.engine_pages.specs.Pages.{withPages}
 use Rattle.engine_close.specs.Close.{closedPages}
-use Rattle.call_transactions.specs.Refusals.{verdictIn}
+use Rattle.call_transactions.specs.Refusals.{refusalIn}
 use Rattle.call_transactions.specs.Calls.{endCall}
 use Rattle.call_transactions.proofs.Opens.{without-found, without-none}
-use Rattle.call_transactions.proofs.Verdicts.{passed-held, call-after, answers-stopped, open-numbered}
+use Rattle.call_transactions.proofs.Refusing.{passed-held, call-after, answers-stopped, open-numbered}
 use Rattle.call_transactions.proofs.Opening.{opens-hold}
 
 -- what the loop has shown: only the list of open transactions has changed
@@ -71,7 +71,7 @@ after-with : (s : Store) (ps : List Page) (tx : ℕ) → let z = withPages s ps 
 unfolding withPages changed
 after-with s ps tx = refl
 
-module _ (m : List ℕ) (tx v : ℕ) (ev : v ≡ verdictIn (storeIn m) (notOpen tx)) (keep : Bool) where
+module _ (m : List ℕ) (tx v : ℕ) (ev : v ≡ refusalIn (storeIn m) (notOpen tx)) (keep : Bool) where
   abbrev ended : Store → Outcome
   ended s = closing tx (closedPages keep tx (s .pages)) s
 

@@ -1,5 +1,5 @@
 pub mod Opens
-pub mod Verdicts
+pub mod Refusing
 pub mod Opening
 pub mod Reading
 pub mod Making

@@ -7,7 +7,7 @@ use Rattle.model.specs.Transactions.{gives, openNumbers, listing, listCall}
 use Rattle.memory_layout.specs.Flat.{Flat, noOpen}
 use Rattle.memory_layout.specs.Store.{storeOf}
 use Rattle.call_contracts.proofs.Answering.{length-listing}
-use Rattle.call_transactions.proofs.Verdicts.{refused-here, passed-on, unless-none}
+use Rattle.call_transactions.proofs.Refusing.{refused-here, passed-on, unless-none}
 use Rattle.model.specs.State as model
 
 -- the listing of open transactions

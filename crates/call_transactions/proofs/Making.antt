@@ -14,7 +14,7 @@ use Rattle.memory_layout.specs.Store.{FreshFits, HoldsNow}
 use Rattle.basics.proofs.Tabs.{lt-or-ge}
 use Rattle.call_contracts.specs.Shape.{MadeBy, Made}
 use Rattle.call_contracts.specs.declared.Answer.the-variants.{Done, Refused}
-use Rattle.call_transactions.specs.Refusals.{makeVerdict}
+use Rattle.call_transactions.specs.Refusals.{makeRefusal}
 
 module _ (n : ℕ) (img m : List ℕ) where
   pub made-refused : (k : ℕ) → make (length img) (length m) n ≡ refuses k → Made n img m (Refused k) img m
@@ -67,7 +67,7 @@ module _ (len mem n : ℕ) where
       unfolding make memoryFor if_then_else_
       make-done h = rw (is-whole, le-ltb n 1 least, le-ltb 1024 n most, le-ltb mem (128 * n + 1024) h)
 
--- ---- their verdict
+-- ---- the refusal that they give
 
 -- the lengths and the capacity that are accepted
 pub record Fits (len mem n : ℕ) : Type 0 where
@@ -77,27 +77,27 @@ pub record Fits (len mem n : ℕ) : Type 0 where
 pub make-accepts : {len mem n : ℕ} → Fits len mem n → make len mem n ≡ holds (freshStore (len / 512) n)
 make-accepts f = let r = f .room in make-done _ _ _ (f .whole) (r .few) (r .many) (r .least) (r .most) (r .long)
 
-stage-refuses : (g : Stage Store) (v : ℕ) → v ≡ makeVerdict g → (v ≡ 0 → ⊥) → g ≡ refuses v
-unfolding makeVerdict
+stage-refuses : (g : Stage Store) (v : ℕ) → v ≡ makeRefusal g → (v ≡ 0 → ⊥) → g ≡ refuses v
+unfolding makeRefusal
 stage-refuses (refuses k) v e nz = ap refuses (sym e)
 stage-refuses (holds s) v e nz = absurd (nz e)
 
 module _ (len mem n : ℕ) where
-  pub verdict-refuses : {k : ℕ} → make len mem n ≡ refuses k → k ≡ makeVerdict (make len mem n)
-  unfolding makeVerdict
-  verdict-refuses e = sym (ap makeVerdict e)
+  pub refusal-given : {k : ℕ} → make len mem n ≡ refuses k → k ≡ makeRefusal (make len mem n)
+  unfolding makeRefusal
+  refusal-given e = sym (ap makeRefusal e)
 
-  pub verdict-accepts : Fits len mem n → 0 ≡ makeVerdict (make len mem n)
-  unfolding makeVerdict
-  verdict-accepts f = sym (ap makeVerdict (make-accepts f))
+  pub refusal-zero : Fits len mem n → 0 ≡ makeRefusal (make len mem n)
+  unfolding makeRefusal
+  refusal-zero f = sym (ap makeRefusal (make-accepts f))
 
-  module _ (v : ℕ) (ev : v ≡ makeVerdict (make len mem n)) where
+  module _ (v : ℕ) (ev : v ≡ makeRefusal (make len mem n)) where
     pub make-refused : (v ≡ 0 → ⊥) → make len mem n ≡ refuses v
     make-refused nz = stage-refuses (make len mem n) v ev nz
 
     pub make-fits : v ≡ 0 → Fits len mem n
     make-fits z =
-        let not-by : (k : ℕ) → 0 < k → make len mem n ≡ refuses k → ⊥ = λ k p e. omega (arith, ev, verdict-refuses e) in
+        let not-by : (k : ℕ) → 0 < k → make len mem n ≡ refuses k → ⊥ = λ k p e. omega (arith, ev, refusal-given e) in
         let whole : len % 512 ≡ 0 = by (eqb (len % 512) 0) (λ t. eqb-true _ _ t) (λ t. absurd (not-by 1 (omega arith) (make-odd len mem n (eqb-false _ _ t)))) in
         let few : 2 ≤ len / 512 = ⊎-elim (λ h. absurd (not-by 1 (omega arith) (make-few len mem n h))) (λ h. h) (lt-or-ge (len / 512) 2) in
         let many : len / 512 ≤ 4096 = ⊎-elim (λ h. absurd (not-by 1 (omega arith) (make-many len mem n h))) (λ h. h) (lt-or-ge 4096 (len / 512)) in

@@ -7,7 +7,7 @@ use Rattle.memory_layout.specs.Store.{holdsStore, storeOf, HoldsNow}
 use Rattle.memory_layout.specs.Opens.{findOpen}
 use Rattle.memory_layout.proofs.Laws.{holds-counted, becomes-store}
 use Rattle.call_transactions.proofs.Opens.{found-open, not-found-open}
-use Rattle.call_transactions.proofs.Verdicts.{refused-here, passed-on, unless-none}
+use Rattle.call_transactions.proofs.Refusing.{refused-here, passed-on, unless-none}
 use Rattle.model.specs.State as model
 
 module _ (tx : ℕ) (f : Flat) where

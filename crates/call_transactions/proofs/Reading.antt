@@ -12,7 +12,7 @@ use Rattle.memory_layout.specs.Store.{storeOf}
 use Rattle.engine_lookup.specs.Lookup.{version, seenAt, Sees, Inside}
 use Rattle.engine_lookup.specs.declared.Seen.{Seen}
 use Rattle.engine_lookup.specs.declared.Seen.the-variants.{At, Nothing}
-use Rattle.call_transactions.proofs.Verdicts.{refused-here, passed-on, unless-none, unless-append}
+use Rattle.call_transactions.proofs.Refusing.{refused-here, passed-on, unless-none, unless-append}
 use Rattle.model.specs.State as model
 
 applied-payload : (h : Held) → applied h .payload ≡ h .tuple .payload

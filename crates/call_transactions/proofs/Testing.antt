@@ -20,10 +20,10 @@ use Rattle.engine_lookup.specs.declared.Visibility.{Visibility}
 use Rattle.engine_lookup.specs.declared.Seen.{Seen}
 use Rattle.engine_lookup.specs.declared.Seen.the-variants.{At, Nothing}
 use Rattle.engine_lookup.proofs.Picking.{visibility-sees}
-use Rattle.call_transactions.specs.Refusals.{verdict, verdictIn, known, foundTests}
+use Rattle.call_transactions.specs.Refusals.{firstRefusal, refusalIn, known, foundTests}
 use Rattle.call_transactions.specs.Calls.{AcceptAt}
 use Rattle.call_transactions.proofs.Opens.{not-found-open}
-use Rattle.call_transactions.proofs.Verdicts.{Numbered, stop-here, go-on, verdict-none, verdict-append, verdict-first, verdict-4, verdict-in, passed-held, passed-tests, open-numbered}
+use Rattle.call_transactions.proofs.Refusing.{Numbered, stop-here, go-on, refusal-none, refusal-append, refusal-first, refusal-4, refusal-in, passed-held, passed-tests, open-numbered}
 
 -- ---- 4, 6, 7, 10, 11
 
@@ -35,37 +35,37 @@ tests-are : (tx t n : ℕ) (s : Store) → argumentTests tx t n s ≡ notOpen tx
 unfolding argumentTests
 tests-are tx t n s = refl
 
-module _ (tx t n : ℕ) (m : List ℕ) (v : ℕ) (ev : v ≡ verdictIn (storeIn m) (notOpen tx)) where
+module _ (tx t n : ℕ) (m : List ℕ) (v : ℕ) (ev : v ≡ refusalIn (storeIn m) (notOpen tx)) where
   abbrev S : Store
   S = storeOf (flatOf m)
 
-  pub call-stopped : (v ≡ 0 → ⊥) → v ≡ verdictIn (storeIn m) (argumentTests tx t n)
+  pub call-stopped : (v ≡ 0 → ⊥) → v ≡ refusalIn (storeIn m) (argumentTests tx t n)
   call-stopped nz =
       by (holdsStore m)
-      (λ h. let e1 : v ≡ verdict (notOpen tx S) = ev ∙ verdict-in m (notOpen tx) h in
-      e1 ∙ sym (verdict-in m (argumentTests tx t n) h ∙ ap verdict (tests-are tx t n S) ∙ verdict-first (notOpen tx S) (ownTests t n) (λ z. nz (e1 ∙ z))))
-      (λ h. ev ∙ verdict-4 m (notOpen tx) h ∙ sym (verdict-4 m (argumentTests tx t n) h))
+      (λ h. let e1 : v ≡ firstRefusal (notOpen tx S) = ev ∙ refusal-in m (notOpen tx) h in
+      e1 ∙ sym (refusal-in m (argumentTests tx t n) h ∙ ap firstRefusal (tests-are tx t n S) ∙ refusal-first (notOpen tx S) (ownTests t n) (λ z. nz (e1 ∙ z))))
+      (λ h. ev ∙ refusal-4 m (notOpen tx) h ∙ sym (refusal-4 m (argumentTests tx t n) h))
 
   module _ (z : v ≡ 0) where
-    rest-is : verdictIn (storeIn m) (argumentTests tx t n) ≡ verdict (ownTests t n)
+    rest-is : refusalIn (storeIn m) (argumentTests tx t n) ≡ firstRefusal (ownTests t n)
     rest-is =
-        verdict-in m (argumentTests tx t n) (passed-held m (notOpen tx) v ev z) ∙ ap verdict (tests-are tx t n S)
-        ∙ verdict-append (notOpen tx S) (ownTests t n) (passed-tests m (notOpen tx) v ev z) (open-numbered tx S)
+        refusal-in m (argumentTests tx t n) (passed-held m (notOpen tx) v ev z) ∙ ap firstRefusal (tests-are tx t n S)
+        ∙ refusal-append (notOpen tx S) (ownTests t n) (passed-tests m (notOpen tx) v ev z) (open-numbered tx S)
 
-    pub call-10 : 7 < t → 10 ≡ verdictIn (storeIn m) (argumentTests tx t n)
+    pub call-10 : 7 < t → 10 ≡ refusalIn (storeIn m) (argumentTests tx t n)
     unfolding noTable
     call-10 h = sym (rest-is ∙ stop-here 10 (ltb 7 t) _ (lt-ltb 7 t h))
 
     module _ (h10 : t ≤ 7) where
-      past-10 : verdictIn (storeIn m) (argumentTests tx t n) ≡ verdict (11 when ltb payloadLimit n ∷ [])
+      past-10 : refusalIn (storeIn m) (argumentTests tx t n) ≡ firstRefusal (11 when ltb payloadLimit n ∷ [])
       unfolding noTable tooLong
       past-10 = rest-is ∙ go-on 10 (ltb 7 t) _ (le-ltb 7 t h10)
 
-      pub call-11 : payloadLimit < n → 11 ≡ verdictIn (storeIn m) (argumentTests tx t n)
+      pub call-11 : payloadLimit < n → 11 ≡ refusalIn (storeIn m) (argumentTests tx t n)
       call-11 h = sym (past-10 ∙ stop-here 11 (ltb payloadLimit n) _ (lt-ltb payloadLimit n h))
 
-      pub call-passed : n ≤ payloadLimit → 0 ≡ verdictIn (storeIn m) (argumentTests tx t n)
-      call-passed h = sym (past-10 ∙ go-on 11 (ltb payloadLimit n) _ (le-ltb payloadLimit n h) ∙ verdict-none)
+      pub call-passed : n ≤ payloadLimit → 0 ≡ refusalIn (storeIn m) (argumentTests tx t n)
+      call-passed h = sym (past-10 ∙ go-on 11 (ltb payloadLimit n) _ (le-ltb payloadLimit n h) ∙ refusal-none)
 
 -- ---- 15, 16
 
@@ -85,7 +85,7 @@ module _ (m : List ℕ) (there : holdsStore m ≡ true) where
   unfolding storeOf
   next-is = refl
 
-  pub full-15 : f .head .capacity ≤ length (f .rows) → 15 ≡ verdict (full (storeOf f))
+  pub full-15 : f .head .capacity ≤ length (f .rows) → 15 ≡ firstRefusal (full (storeOf f))
   unfolding full
   full-15 h = sym (stop-here 15 _ _ (le-leb (storeOf f .capacity) (length (held (storeOf f .pages))) (omega (arith, h, held-rows, cap-is))))
 
@@ -93,18 +93,18 @@ module _ (m : List ℕ) (there : holdsStore m ≡ true) where
     free : leb (storeOf f .capacity) (length (held (storeOf f .pages))) ≡ false
     free = lt-leb (storeOf f .capacity) (length (held (storeOf f .pages))) (omega (arith, h, held-rows, cap-is))
 
-    pub full-16 : f .head .next ≡ 4294967295 → 16 ≡ verdict (full (storeOf f))
+    pub full-16 : f .head .next ≡ 4294967295 → 16 ≡ firstRefusal (full (storeOf f))
     unfolding full
     full-16 e = sym (go-on 15 _ _ free ∙ stop-here 16 _ _ (eq-eqb _ _ (next-is ∙ e)))
 
-    pub full-none : (f .head .next ≡ 4294967295 → ⊥) → 0 ≡ verdict (full (storeOf f))
+    pub full-none : (f .head .next ≡ 4294967295 → ⊥) → 0 ≡ firstRefusal (full (storeOf f))
     unfolding full
-    full-none e = sym (go-on 15 _ _ free ∙ go-on 16 _ _ (ne-eqb _ _ (λ q. e (sym next-is ∙ q))) ∙ verdict-none)
+    full-none e = sym (go-on 15 _ _ free ∙ go-on 16 _ _ (ne-eqb _ _ (λ q. e (sym next-is ∙ q))) ∙ refusal-none)
 
 -- ---- 12, 13, 14
 
 module _ (f : Flat) (l : Visibility) where
-  pub key-12 : (new : Bool) → l .foreign ≡ true → 12 ≡ verdict (foundTests new f l)
+  pub key-12 : (new : Bool) → l .foreign ≡ true → 12 ≡ firstRefusal (foundTests new f l)
   unfolding foundTests keyTests
   key-12 new e = sym (stop-here 12 _ _ e)
 
@@ -113,30 +113,30 @@ module _ (f : Flat) (l : Visibility) where
   behind new = keyTest new (l .any) (known (picked f l)) ∷ full (storeOf f)
 
   module _ (e12 : l .foreign ≡ false) where
-    past-12 : (new : Bool) → verdict (foundTests new f l) ≡ verdict (behind new)
+    past-12 : (new : Bool) → firstRefusal (foundTests new f l) ≡ firstRefusal (behind new)
     unfolding foundTests keyTests
     past-12 new = go-on 12 _ _ e12
 
-    pub key-13 : (new : Bool) → new ≡ true → l .any ≡ true → 13 ≡ verdict (foundTests new f l)
+    pub key-13 : (new : Bool) → new ≡ true → l .any ≡ true → 13 ≡ firstRefusal (foundTests new f l)
     unfolding keyTest
-    key-13 new en e = sym (past-12 new ∙ ap (λ (b : Bool). verdict (behind b)) en ∙ stop-here 13 _ _ e)
+    key-13 new en e = sym (past-12 new ∙ ap (λ (b : Bool). firstRefusal (behind b)) en ∙ stop-here 13 _ _ e)
 
-    pub key-new : (new : Bool) → new ≡ true → l .any ≡ false → verdict (full (storeOf f)) ≡ verdict (foundTests new f l)
+    pub key-new : (new : Bool) → new ≡ true → l .any ≡ false → firstRefusal (full (storeOf f)) ≡ firstRefusal (foundTests new f l)
     unfolding keyTest
-    key-new new en e = sym (past-12 new ∙ ap (λ (b : Bool). verdict (behind b)) en ∙ go-on 13 _ _ e)
+    key-new new en e = sym (past-12 new ∙ ap (λ (b : Bool). firstRefusal (behind b)) en ∙ go-on 13 _ _ e)
 
     module _ (new : Bool) (en : new ≡ false) (r : Seen) (er : r ≡ picked f l) where
-      by-sight : verdict (foundTests new f l) ≡ verdict (14 when not (known r) ∷ full (storeOf f))
+      by-sight : firstRefusal (foundTests new f l) ≡ firstRefusal (14 when not (known r) ∷ full (storeOf f))
       unfolding keyTest
       by-sight =
-          past-12 new ∙ ap (λ (b : Bool). verdict (behind b)) en
-          ∙ ap (λ (z : Seen). verdict (14 when not (known z) ∷ full (storeOf f))) (sym er)
+          past-12 new ∙ ap (λ (b : Bool). firstRefusal (behind b)) en
+          ∙ ap (λ (z : Seen). firstRefusal (14 when not (known z) ∷ full (storeOf f))) (sym er)
 
-      pub key-14 : r ≡ Nothing → 14 ≡ verdict (foundTests new f l)
+      pub key-14 : r ≡ Nothing → 14 ≡ firstRefusal (foundTests new f l)
       unfolding known
       key-14 q = sym (by-sight ∙ stop-here 14 (not (known r)) _ (ap (λ (z : Seen). not (known z)) q))
 
-      pub key-seen : (i : ℕ) → r ≡ At i → verdict (full (storeOf f)) ≡ verdict (foundTests new f l)
+      pub key-seen : (i : ℕ) → r ≡ At i → firstRefusal (full (storeOf f)) ≡ firstRefusal (foundTests new f l)
       unfolding known
       key-seen i q = sym (by-sight ∙ go-on 14 (not (known r)) _ (ap (λ (z : Seen). not (known z)) q))
 
@@ -165,10 +165,10 @@ call-numbered tx t n s = (omega arith, (omega arith, (omega arith, (omega arith,
 
 -- ---- none holds
 
-pass-one : (n : ℕ) (b : Bool) (ts : List Test) → 0 < n → verdict (n when b ∷ ts) ≡ 0 → (b ≡ false) × (verdict ts ≡ 0)
+pass-one : (n : ℕ) (b : Bool) (ts : List Test) → 0 < n → firstRefusal (n when b ∷ ts) ≡ 0 → (b ≡ false) × (firstRefusal ts ≡ 0)
 pass-one n b ts p e = by b (λ h. absurd (omega (arith, p, e, stop-here n b ts h))) (λ h. (h, sym (go-on n b ts h) ∙ e))
 
-pass-key : (new : Bool) (f : Flat) (l : Visibility) → verdict (foundTests new f l) ≡ 0 → verdict (full (storeOf f)) ≡ 0
+pass-key : (new : Bool) (f : Flat) (l : Visibility) → firstRefusal (foundTests new f l) ≡ 0 → firstRefusal (full (storeOf f)) ≡ 0
 unfolding foundTests keyTests keyTest
 pass-key true f l e = pass-one 13 _ _ (omega arith) (pass-one 12 _ _ (omega arith) e .1) .1
 pass-key false f l e = pass-one 14 _ _ (omega arith) (pass-one 12 _ _ (omega arith) e .1) .1
@@ -186,7 +186,7 @@ pub record Called (m : List ℕ) (tx t n : ℕ) : Type 0 where
   pub table : t < 8
   pub short : n ≤ payloadLimit
 
-pub called : {tx t n : ℕ} {m : List ℕ} {v : ℕ} → v ≡ verdictIn (storeIn m) (argumentTests tx t n) → v ≡ 0 → Called m tx t n
+pub called : {tx t n : ℕ} {m : List ℕ} {v : ℕ} → v ≡ refusalIn (storeIn m) (argumentTests tx t n) → v ≡ 0 → Called m tx t n
 unfolding argumentTests notOpen noTable tooLong
 called {tx} {t} {n} {m} {v} ev z =
     let s : Store = storeOf (flatOf m) in
@@ -203,7 +203,7 @@ called {tx} {t} {n} {m} {v} ev z =
     }
 
 -- and the others
-pub accepts : {m : List ℕ} {tx t at k : ℕ} {bs : List ℕ} (new : Bool) (l : Visibility) → Called m tx t (length bs) → verdict (foundTests new (flatOf m) l) ≡ 0
+pub accepts : {m : List ℕ} {tx t at k : ℕ} {bs : List ℕ} (new : Bool) (l : Visibility) → Called m tx t (length bs) → firstRefusal (foundTests new (flatOf m) l) ≡ 0
     → at ≡ placeIn (flatOf m) t k → AcceptAt m tx t at k bs
 unfolding full
 accepts {m} new l c e p =

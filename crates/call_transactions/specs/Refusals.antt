@@ -15,14 +15,14 @@ use Rattle.engine_lookup.specs.declared.Seen.{Seen}
 use Rattle.engine_lookup.specs.declared.Seen.the-variants.{At, Nothing}
 
 -- the number of the first test that holds, 0 if none does
-unfoldable pub verdict : List Test → ℕ
-verdict [] = 0
-verdict ((n when b) ∷ ts) = if b then n else verdict ts
+unfoldable pub firstRefusal : List Test → ℕ
+firstRefusal [] = 0
+firstRefusal ((n when b) ∷ ts) = if b then n else firstRefusal ts
 
 -- the same for the tests on a store; 4 if there is no store
-unfoldable pub verdictIn : Option Store → (Store → List Test) → ℕ
-verdictIn none tests = 4
-verdictIn (some s) tests = verdict (tests s)
+unfoldable pub refusalIn : Option Store → (Store → List Test) → ℕ
+refusalIn none tests = 4
+refusalIn (some s) tests = firstRefusal (tests s)
 
 -- a version of the key is seen
 unfoldable pub known : Seen → Bool
@@ -34,6 +34,6 @@ unfoldable pub foundTests : Bool → Flat → Visibility → List Test
 foundTests new f l = keyTests new (l .foreign) (l .any) (known (picked f l)) (storeOf f)
 
 -- the number of a refused make, 0 if it is accepted
-unfoldable pub makeVerdict : Stage Store → ℕ
-makeVerdict (refuses k) = k
-makeVerdict (holds s) = 0
+unfoldable pub makeRefusal : Stage Store → ℕ
+makeRefusal (refuses k) = k
+makeRefusal (holds s) = 0

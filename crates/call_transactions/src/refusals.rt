@@ -12,11 +12,11 @@ ghost use lib.ListN.{length};
 ghost use Rattle.model.specs.Transactions.{full, argumentTests};
 ghost use Rattle.memory_layout.specs.Flat.{flatOf};
 ghost use Rattle.memory_layout.specs.Store.{holdsStore, storeIn, storeOf};
-ghost use Rattle.call_transactions.specs.Refusals.{verdict, verdictIn, foundTests};
+ghost use Rattle.call_transactions.specs.Refusals.{firstRefusal, refusalIn, foundTests};
 
 // 4, 6, 7; 10 table above 7; 11 payload, of len bytes, too long; 0 if none holds.
 pub fn call_refusal(m: &[u8], transaction: u64, table: u64, len: usize) -> u64
-    ensures { λ r. ⌜ r ≡ verdictIn (storeIn (now (m .entry))) (argumentTests transaction table len) ⌝ }
+    ensures { λ r. ⌜ r ≡ refusalIn (storeIn (now (m .entry))) (argumentTests transaction table len) ⌝ }
 {
     let v = not_open(m, transaction);
     if v != 0 {
@@ -34,7 +34,7 @@ pub fn call_refusal(m: &[u8], transaction: u64, table: u64, len: usize) -> u64
 // 15 N tuples held; 16 next number is 4,294,967,295; else 0.
 pub fn full_refusal(m: &[u8]) -> u64
     requires { ⌜ holdsStore (now m) ≡ true ⌝ }
-    ensures { λ r. ⌜ r ≡ verdict (full (storeOf (flatOf (now (m .entry))))) ⌝ }
+    ensures { λ r. ⌜ r ≡ firstRefusal (full (storeOf (flatOf (now (m .entry))))) ⌝ }
 {
     let h = memory_layout::get_head(m);
     let c = memory_layout::get_counts(m);
@@ -50,7 +50,7 @@ pub fn full_refusal(m: &[u8]) -> u64
 // By what there is of the key: 12 a tentative tuple of another transaction; 13 a tuple, if the key is to be new, else 14 none is seen; 15, 16; else 0.
 pub fn key_refusal(m: &[u8], new: bool, visibility: Visibility) -> u64
     requires { ⌜ (holdsStore (now m) ≡ true) × (visibility .own ≤ length (flatOf (now m) .rows)) ⌝ }
-    ensures { λ r. ⌜ r ≡ verdict (foundTests new (flatOf (now (m .entry))) visibility) ⌝ }
+    ensures { λ r. ⌜ r ≡ firstRefusal (foundTests new (flatOf (now (m .entry))) visibility) ⌝ }
 {
     if visibility.foreign {
         return 12;

@@ -12,8 +12,7 @@ take-block-requires c κs = (holds-room _ (c .before .before .pre .0 .runs .has-
 push-directory-requires : tie.Need-push-directory-requires
 push-directory-requires c κs =
     let b = c .before .before .before .take-block .ensures in
-    let p = c .before .before .before .before .before .before .pre in
-    (
+    let p = c .before .before .before .before .before .before .pre in (
       b .room,
       record {
         few = omega (arith, p .1, ap (λ (f : Flat). length (f .directories)) (b .flat));

@@ -31,8 +31,7 @@ push-open-requires c κs =
     let g = p6 .o .given in
     let a = p11 .args in
     let e = opened-last (g .0 .0) (g .0 .1 .0) (p4 .wide .result) (a .counts .now) (a .passed .now) (ap ownerIs (g .1)) w (p1 .if1 .taken) in
-    let l = small p4 in
-    (
+    let l = small p4 in (
       pre .0,
       record {
         few = omega (arith, ap length e, pre .1 .1 .1);

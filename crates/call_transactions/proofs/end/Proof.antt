@@ -2,7 +2,7 @@
 use Rattle.basics.proofs.Kit.{needs}
 use Rattle.model.specs.Transactions.{notOpen}
 use Rattle.call_transactions.proofs.Closing.{end-refused, end-done, closed-room}
-use Rattle.call_transactions.proofs.Verdicts.{passed-held}
+use Rattle.call_transactions.proofs.Refusing.{passed-held}
 use Rattle.call_transactions.proofs.end.Statement.{statement}
 use Rattle.call_transactions.proofs.end.Tie as tie
 

@@ -4,7 +4,7 @@ use Rattle.model.specs.Transactions.{notOpen}
 use Rattle.memory_layout.specs.Flat.{flatOf}
 use Rattle.memory_layout.specs.Store.{holdsStore}
 use Rattle.memory_layout.proofs.Laws.{holds-room}
-use Rattle.call_transactions.proofs.Verdicts.{verdict-4, verdict-in, stop-6, stop-7, none-7}
+use Rattle.call_transactions.proofs.Refusing.{refusal-4, refusal-in, stop-6, stop-7, none-7}
 use Rattle.call_transactions.proofs.not_open.Statement.{statement}
 use Rattle.call_transactions.proofs.not_open.Tie as tie
 
@@ -17,11 +17,11 @@ has-store c = sym (c .before .holds-store .ensures) ∙ not-false _ (c .if1 .lef
 
 returns : tie.Need-returns
 returns c = let a = c .before .before .before .args in
-    sym (verdict-4 (a .m .now) (notOpen (a .transaction)) (sym (c .before .holds-store .ensures) ∙ not-true _ (c .if1 .taken)))
+    sym (refusal-4 (a .m .now) (notOpen (a .transaction)) (sym (c .before .holds-store .ensures) ∙ not-true _ (c .if1 .taken)))
 
 returns-2 : tie.Need-returns-2
 returns-2 c = let a = start (c .before) .args in
-    sym (verdict-in (a .m .now) (notOpen (a .transaction)) (has-store (c .before)) ∙ stop-6 (a .transaction) (flatOf (a .m .now)) (c .if2 .taken))
+    sym (refusal-in (a .m .now) (notOpen (a .transaction)) (has-store (c .before)) ∙ stop-6 (a .transaction) (flatOf (a .m .now)) (c .if2 .taken))
 
 open-count-requires : tie.Need-open-count-requires
 open-count-requires c κs = holds-room _ (has-store (c .before))
@@ -31,12 +31,12 @@ find-open-requires c κs = holds-room _ (has-store (c .before .before))
 
 returns-3 : tie.Need-returns-3
 returns-3 c = let e2 = c .before .before .before in let a = start (e2 .before) .args in
-    sym (verdict-in (a .m .now) (notOpen (a .transaction)) (has-store (e2 .before)) ∙ stop-7 (a .transaction) (flatOf (a .m .now)) (e2 .if2 .left)
+    sym (refusal-in (a .m .now) (notOpen (a .transaction)) (has-store (e2 .before)) ∙ stop-7 (a .transaction) (flatOf (a .m .now)) (e2 .if2 .left)
     (omega (arith, c .before .before .open-count .ensures, c .before .find-open .ensures, c .if3 .taken)))
 
 returns-4 : tie.Need-returns-4
 returns-4 c = let e2 = c .before .before .before in let a = start (e2 .before) .args in
-    sym (verdict-in (a .m .now) (notOpen (a .transaction)) (has-store (e2 .before)) ∙ none-7 (a .transaction) (flatOf (a .m .now)) (e2 .if2 .left)
+    sym (refusal-in (a .m .now) (notOpen (a .transaction)) (has-store (e2 .before)) ∙ none-7 (a .transaction) (flatOf (a .m .now)) (e2 .if2 .left)
     (omega (arith, c .before .before .open-count .ensures, c .before .find-open .ensures, c .if3 .left)))
 
 pub not-open-spec : {M : Type 1} → statement M

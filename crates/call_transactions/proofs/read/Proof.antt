@@ -6,7 +6,7 @@ use Rattle.memory_layout.specs.Store.{holdsStore, storeOf}
 use Rattle.memory_layout.proofs.Laws.{holds-room}
 use Rattle.call_contracts.proofs.Answering.{replies-refused, replies-filled}
 use Rattle.call_transactions.proofs.Reading.{readAfter, read-tests, read-10, read-14, seen-in, read-21, read-done}
-use Rattle.call_transactions.proofs.Verdicts.{passed-held, call-after, replies-stopped, open-numbered}
+use Rattle.call_transactions.proofs.Refusing.{passed-held, call-after, replies-stopped, open-numbered}
 use Rattle.call_transactions.proofs.read.Statement.{statement}
 use Rattle.call_transactions.proofs.read.Tie as tie
 

@@ -10,7 +10,7 @@ use Rattle.memory_layout.proofs.Laws.{in-none, in-some}
 use Rattle.memory_layout.specs.Opens.{findOpen}
 use Rattle.call_transactions.proofs.Opens.{found-open, not-found-open}
 use Rattle.call_contracts.specs.Shape.{Answers, Replies}
-use Rattle.call_transactions.specs.Refusals.{verdict, verdictIn}
+use Rattle.call_transactions.specs.Refusals.{firstRefusal, refusalIn}
 use Rattle.call_contracts.specs.declared.Answer.the-variants.{Refused}
 use Rattle.call_contracts.proofs.Answering.{answers-4, answers-refused, replies-4, replies-refused}
 use Rattle.model.specs.State as model
@@ -18,12 +18,12 @@ use Rattle.model.specs.State as model
 -- ---- one test after the other
 
 module _ (n : ℕ) (b : Bool) (ts : List Test) where
-  pub stop-here : b ≡ true → verdict (n when b ∷ ts) ≡ n
-  unfolding verdict if_then_else_
+  pub stop-here : b ≡ true → firstRefusal (n when b ∷ ts) ≡ n
+  unfolding firstRefusal if_then_else_
   stop-here e = rw e
 
-  pub go-on : b ≡ false → verdict (n when b ∷ ts) ≡ verdict ts
-  unfolding verdict if_then_else_
+  pub go-on : b ≡ false → firstRefusal (n when b ∷ ts) ≡ firstRefusal ts
+  unfolding firstRefusal if_then_else_
   go-on e = rw e
 
   module _ (s : Store) (o : Outcome) where
@@ -35,9 +35,9 @@ module _ (n : ℕ) (b : Bool) (ts : List Test) where
     unfolding unless if_then_else_
     passed-on e = rw e
 
-pub verdict-none : verdict [] ≡ 0
-unfolding verdict
-verdict-none = refl
+pub refusal-none : firstRefusal [] ≡ 0
+unfolding firstRefusal
+refusal-none = refl
 
 pub unless-none : (s : Store) (o : Outcome) → unless [] s o ≡ o
 unfolding unless
@@ -53,43 +53,43 @@ unfolding unless
 unless-append [] ys s o = refl
 unless-append ((n when b) ∷ xs) ys s o = ap (λ (z : Outcome). if b then gives (model.refused n) s else z) (unless-append xs ys s o)
 
-pub unless-stop : (ts : List Test) (s : Store) (o : Outcome) → (verdict ts ≡ 0 → ⊥) → unless ts s o ≡ gives (model.refused (verdict ts)) s
-unfolding verdict unless if_then_else_
+pub unless-stop : (ts : List Test) (s : Store) (o : Outcome) → (firstRefusal ts ≡ 0 → ⊥) → unless ts s o ≡ gives (model.refused (firstRefusal ts)) s
+unfolding firstRefusal unless if_then_else_
 unless-stop [] s o h = absurd (h refl)
 unless-stop ((n when b) ∷ ts) s o h = by b (λ e. rw e) (λ e. rw e (unless-stop ts s o (rw e at h)))
 
-pub unless-pass : (ts : List Test) (s : Store) (o : Outcome) → Numbered ts → verdict ts ≡ 0 → unless ts s o ≡ o
-unfolding verdict unless if_then_else_
+pub unless-pass : (ts : List Test) (s : Store) (o : Outcome) → Numbered ts → firstRefusal ts ≡ 0 → unless ts s o ≡ o
+unfolding firstRefusal unless if_then_else_
 unless-pass [] s o a h = refl
 unless-pass ((n when b) ∷ ts) s o a h = by b (λ e. let z : n ≡ 0 = rw e at h in absurd (omega (arith, a .0))) (λ e. rw e (unless-pass ts s o (a .1) (rw e at h)))
 
-pub verdict-append : (xs ys : List Test) → verdict xs ≡ 0 → Numbered xs → verdict (xs ++ ys) ≡ verdict ys
-unfolding verdict if_then_else_
-verdict-append [] ys h a = refl
-verdict-append ((n when b) ∷ xs) ys h a = by b (λ e. let z : n ≡ 0 = rw e at h in absurd (omega (arith, a .0))) (λ e. rw e (verdict-append xs ys (rw e at h) (a .1)))
+pub refusal-append : (xs ys : List Test) → firstRefusal xs ≡ 0 → Numbered xs → firstRefusal (xs ++ ys) ≡ firstRefusal ys
+unfolding firstRefusal if_then_else_
+refusal-append [] ys h a = refl
+refusal-append ((n when b) ∷ xs) ys h a = by b (λ e. let z : n ≡ 0 = rw e at h in absurd (omega (arith, a .0))) (λ e. rw e (refusal-append xs ys (rw e at h) (a .1)))
 
-pub verdict-first : (xs ys : List Test) → (verdict xs ≡ 0 → ⊥) → verdict (xs ++ ys) ≡ verdict xs
-unfolding verdict if_then_else_
-verdict-first [] ys h = absurd (h refl)
-verdict-first ((n when b) ∷ xs) ys h = by b (λ e. rw e) (λ e. rw e (verdict-first xs ys (rw e at h)))
+pub refusal-first : (xs ys : List Test) → (firstRefusal xs ≡ 0 → ⊥) → firstRefusal (xs ++ ys) ≡ firstRefusal xs
+unfolding firstRefusal if_then_else_
+refusal-first [] ys h = absurd (h refl)
+refusal-first ((n when b) ∷ xs) ys h = by b (λ e. rw e) (λ e. rw e (refusal-first xs ys (rw e at h)))
 
 -- ---- in the memory
 
 module _ (m : List ℕ) (tests : Store → List Test) where
-  pub verdict-4 : holdsStore m ≡ false → verdictIn (storeIn m) tests ≡ 4
-  unfolding verdictIn
-  verdict-4 h = rw (in-none m h)
+  pub refusal-4 : holdsStore m ≡ false → refusalIn (storeIn m) tests ≡ 4
+  unfolding refusalIn
+  refusal-4 h = rw (in-none m h)
 
-  pub verdict-in : holdsStore m ≡ true → verdictIn (storeIn m) tests ≡ verdict (tests (storeOf (flatOf m)))
-  unfolding verdictIn
-  verdict-in h = rw (in-some m h)
+  pub refusal-in : holdsStore m ≡ true → refusalIn (storeIn m) tests ≡ firstRefusal (tests (storeOf (flatOf m)))
+  unfolding refusalIn
+  refusal-in h = rw (in-some m h)
 
-  module _ (v : ℕ) (e : v ≡ verdictIn (storeIn m) tests) where
+  module _ (v : ℕ) (e : v ≡ refusalIn (storeIn m) tests) where
     pub passed-held : v ≡ 0 → holdsStore m ≡ true
-    passed-held z = by (holdsStore m) (λ h. h) (λ h. absurd (omega (arith, e, verdict-4 h)))
+    passed-held z = by (holdsStore m) (λ h. h) (λ h. absurd (omega (arith, e, refusal-4 h)))
 
-    pub passed-tests : v ≡ 0 → verdict (tests (storeOf (flatOf m))) ≡ 0
-    passed-tests z = sym (verdict-in (passed-held z)) ∙ sym e ∙ z
+    pub passed-tests : v ≡ 0 → firstRefusal (tests (storeOf (flatOf m))) ≡ 0
+    passed-tests z = sym (refusal-in (passed-held z)) ∙ sym e ∙ z
 
     -- a call with these tests first does what comes after them
     pub call-after : (call after : Store → Outcome) → ((s : Store) → call s ≡ unless (tests s) s (after s)) → ((s : Store) → Numbered (tests s)) → v ≡ 0
@@ -100,34 +100,34 @@ module _ (m : List ℕ) (tests : Store → List Test) where
       refused-call : holdsStore m ≡ true → call (storeOf (flatOf m)) ≡ gives (model.refused v) (storeOf (flatOf m))
       refused-call h =
           let s : Store = storeOf (flatOf m) in
-          let ev : v ≡ verdict (tests s) = e ∙ verdict-in h in
+          let ev : v ≡ firstRefusal (tests s) = e ∙ refusal-in h in
           q s ∙ unless-stop (tests s) s (after s) (λ z. nz (ev ∙ z)) ∙ ap (λ (k : ℕ). gives (model.refused k) s) (sym ev)
 
       pub answers-stopped : Answers call m (Refused v) m
       answers-stopped =
           by (holdsStore m) (λ h. answers-refused call m v h (refused-call h))
-          (λ h. rw (e ∙ verdict-4 h) (answers-4 call m h))
+          (λ h. rw (e ∙ refusal-4 h) (answers-4 call m h))
 
       pub replies-stopped : (p : List ℕ) → Replies call m (Refused v) p p
       replies-stopped p =
           by (holdsStore m) (λ h. replies-refused call m p v h (refused-call h))
-          (λ h. rw (e ∙ verdict-4 h) (replies-4 call m p h))
+          (λ h. rw (e ∙ refusal-4 h) (replies-4 call m p h))
 
 -- ---- 6, 7
 
 module _ (tx : ℕ) (f : Flat) where
-  pub stop-6 : 4095 < tx → verdict (notOpen tx (storeOf f)) ≡ 6
+  pub stop-6 : 4095 < tx → firstRefusal (notOpen tx (storeOf f)) ≡ 6
   unfolding notOpen
   stop-6 h = stop-here 6 (ltb 4095 tx) _ (lt-ltb 4095 tx h)
 
   module _ (h : tx ≤ 4095) where
-    pub stop-7 : length (f .opens) ≤ findOpen tx (f .opens) → verdict (notOpen tx (storeOf f)) ≡ 7
+    pub stop-7 : length (f .opens) ≤ findOpen tx (f .opens) → firstRefusal (notOpen tx (storeOf f)) ≡ 7
     unfolding notOpen storeOf
     stop-7 k = go-on 6 (ltb 4095 tx) _ (le-ltb 4095 tx h) ∙ stop-here 7 _ _ (ap not (not-found-open tx (f .opens) k))
 
-    pub none-7 : findOpen tx (f .opens) < length (f .opens) → verdict (notOpen tx (storeOf f)) ≡ 0
+    pub none-7 : findOpen tx (f .opens) < length (f .opens) → firstRefusal (notOpen tx (storeOf f)) ≡ 0
     unfolding notOpen storeOf
-    none-7 k = go-on 6 (ltb 4095 tx) _ (le-ltb 4095 tx h) ∙ go-on 7 _ _ (ap not (found-open tx (f .opens) k)) ∙ verdict-none
+    none-7 k = go-on 6 (ltb 4095 tx) _ (le-ltb 4095 tx h) ∙ go-on 7 _ _ (ap not (found-open tx (f .opens) k)) ∙ refusal-none
 
 pub open-numbered : (tx : ℕ) (s : Store) → Numbered (notOpen tx s)
 unfolding notOpen
