@@ -22,7 +22,8 @@ returns : tie.Need-returns
 unfolding encodeBlock
 returns c = let s = c .before .before .before .before .before .before .before .before .before .before .before .before .before .before .before .before .before in
     let p = c .before .before .put-fields in
-    whole-block (headerFields (s .args .h)) (s .args .block .now) (p .last .0) (s .pre .1) (omega arith) (omega (arith, p .kept, s .pre .0)) (λ j. omega (arith, c .slice-known2 .given j)) (p .ensures)
+    let a = s .args in
+    whole-block (headerFields (a .h)) (a .block .now) (p .last .0) (s .pre .1) (omega arith) (omega (arith, p .kept, s .pre .0)) (λ j. omega (arith, c .slice-known2 .given j)) (p .ensures)
 
 pub spell-header-spec : {M : Type 1} → statement M
 spell-header-spec = tie.close (tie.spec (search needs) (search needs) (search needs) (search needs) (search needs) (search needs) (search needs) (search needs) (search needs)

@@ -57,8 +57,10 @@ load-pages-requires c κs =
     let k = known p5 in
     let a = p9 .args in
     let ps = pagesAt (view (a .image .now)) (a .entries .now) in
-    let f = p3 .fresh .ensures .0 in
-    ((k .named, (k .whole .many, p9 .pre .1 .1)), (f .room, (order-none (a .h) ps (k .pages) f, pages-room (a .h) ps (k .pages) f (k .rows) (k .follow))))
+    let f = p3 .fresh .ensures .0 in (
+      record { named = k .named; few = k .whole .many; pages = p9 .pre .1 .1 },
+      record { room = f .room; order = order-none (a .h) ps (k .pages) f; fit = pages-room (a .h) ps (k .pages) f (k .rows) (k .follow) },
+    )
 
 mark-blocks-requires : tie.Need-mark-blocks-requires
 mark-blocks-requires c κs =
@@ -86,10 +88,12 @@ mark-blocks-requires-2 c κs =
 
 reopen-requires : tie.Need-reopen-requires
 reopen-requires c κs =
-    let p = c .before .before .before in let w = start p in let a = w .before .before .before .before .args in let k = known w in (
-      p .mark-blocks2 .ensures .room,
-      (owners-room (a .h) (pages w) (k .pages) (a .entries .now) (inUse w) (laid p), opens-room (a .h) (pages w) (k .pages) (a .entries .now) (inUse w) (laid p) (k .opens)),
-    )
+    let p = c .before .before .before in let w = start p in let a = w .before .before .before .before .args in let k = known w in
+    record {
+      room = p .mark-blocks2 .ensures .room;
+      owners = owners-room (a .h) (pages w) (k .pages) (a .entries .now) (inUse w) (laid p);
+      opens = opens-room (a .h) (pages w) (k .pages) (a .entries .now) (inUse w) (laid p) (k .opens);
+    }
 
 put-head-requires : tie.Need-put-head-requires
 put-head-requires c κs =

@@ -36,14 +36,14 @@ fits c =
     let a = p8 .args in
     let g = p1 .table .given in
     let q = seen-here (a .image .now) (p5 .block-at .result) (a .e) (p5 .block-at .ensures) in
-    one-fits (a .e) _ _ _ (flatOf (a .m .now)) (p8 .pre .0 .1 .0) (table-small _ (sym (g .1) ∙ p3 .known-page .ensures))
-    (p8 .pre .1 .0 .range .least) (found c) (subst (λ (b : Block). RoomFor (pageAt (a .e) (asPage b)) (flatOf (a .m .now))) (sym q) (p8 .pre .1 .1 .1))
+    one-fits (a .e) _ _ _ (flatOf (a .m .now)) (p8 .pre .0 .low) (table-small _ (sym (g .1) ∙ p3 .known-page .ensures))
+    (p8 .pre .1 .room .range .least) (found c) (subst (λ (b : Block). RoomFor (pageAt (a .e) (asPage b)) (flatOf (a .m .now))) (sym q) (p8 .pre .1 .fit))
 
 known-page-requires : tie.Need-known-page-requires
 known-page-requires c κs =
     let p2 = c .before .before in
     let a = c .before .before .before .before .args in
-    ap isPage (seen-here (a .image .now) _ (a .e) (c .before .block-at .ensures)) ∙ c .before .before .before .before .pre .0 .1 .1
+    ap isPage (seen-here (a .image .now) _ (a .e) (c .before .block-at .ensures)) ∙ c .before .before .before .before .pre .0 .page
 
 cast-append-page : tie.Need-cast-append-page
 cast-append-page c = omega (arith, fits (c .before) .may .table)
@@ -52,14 +52,14 @@ append-page-requires : tie.Need-append-page-requires
 append-page-requires c κs =
     let p1 = c .before in
     let p9 = p1 .before .before .before .before .before .before .before .before in
-    (p9 .pre .1 .0, (p9 .pre .1 .1 .0, fits p1 .may))
+    (p9 .pre .1 .room, (p9 .pre .1 .order, fits p1 .may))
 
 load-rows-requires : tie.Need-load-rows-requires
 load-rows-requires c κs =
     let p4 = c .before .before .before .before in
     let p6 = p4 .before .before in
     let h = found p6 in
-    ((omega arith, (h .is, h .count)), page-room _ _ _ _ _ (p4 .append-page .ensures) (fits p6))
+    (record { size = omega arith; page = h .is; count = h .count }, page-room _ _ _ _ _ (p4 .append-page .ensures) (fits p6))
 
 returns : tie.Need-returns
 unfolding pageAt
@@ -69,7 +69,7 @@ returns c =
     let p6 = p3 .before .before .before in
     let a = p6 .args in
     let e = ap (λ (b : Block). pageAt (a .e) (asPage b)) (sym (seen-here (a .image .now) _ (a .e) (p3 .block-at .ensures))) in
-    loads-none _ _ (p6 .pre .1 .0) (p6 .pre .1 .1 .0) (e ∙ ap (pageAt (a .e)) (no-page _ (p1 .known-page .ensures) (c .match .keys2)))
+    loads-none _ _ (p6 .pre .1 .room) (p6 .pre .1 .order) (e ∙ ap (pageAt (a .e)) (no-page _ (p1 .known-page .ensures) (c .match .keys2)))
 
 returns-2 : tie.Need-returns-2
 returns-2 c =

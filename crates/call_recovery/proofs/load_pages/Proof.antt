@@ -15,7 +15,7 @@ abbrev μ-loop : tie.MeasureT-loop
 μ-loop image entries m₀ i₀ m i = length entries - i
 
 loop-holds : tie.Need-loop-holds Inv-loop μ-loop
-loop-holds c = let s = c .before .before .before in (omega arith, loading-start (view (s .args .image .now)) (s .args .m .now) (s .args .entries .now) (s .pre .1 .0) (s .pre .1 .1 .0))
+loop-holds c = let s = c .before .before .before in (omega arith, loading-start (view (s .args .image .now)) (s .args .m .now) (s .args .entries .now) (s .pre .1 .room) (s .pre .1 .order))
 
 load-page-requires : tie.Need-load-page-requires Inv-loop μ-loop
 load-page-requires c κs =
@@ -28,14 +28,16 @@ load-page-requires c κs =
     let pre = p8 .pre in
     let h : l .i < length (a .entries .now) = omega (arith, p3 .loop-test) in
     let w = p1 .wide .ensures in (
-      (
-        omega (arith, within (a .image .now) (a .entries .now) (l .i) (pre .0 .0) h, w),
-        (
-          omega (arith, named-below _ (a .entries .now) (l .i) (pre .0 .0) h, w, pre .0 .1 .0),
-          ap (λ (z : ℕ). isPage (view (a .image .now) z)) w ∙ all-pages (view (a .image .now)) (a .entries .now) (l .i) (pre .0 .1 .1) h,
-        ),
-      ),
-      (l .inv .1 .becomes .room, (l .inv .1 .order, loading-room (view (a .image .now)) (a .entries .now) (l .i) _ h w (a .m .now) (l .m) (l .inv .1) (pre .1 .1 .1))),
+      record {
+        inside = omega (arith, within (a .image .now) (a .entries .now) (l .i) (pre .0 .named) h, w);
+        low = omega (arith, named-below _ (a .entries .now) (l .i) (pre .0 .named) h, w, pre .0 .few);
+        page = ap (λ (z : ℕ). isPage (view (a .image .now) z)) w ∙ all-pages (view (a .image .now)) (a .entries .now) (l .i) (pre .0 .pages) h;
+      },
+      record {
+        room = l .inv .1 .becomes .room;
+        order = l .inv .1 .order;
+        fit = loading-room (view (a .image .now)) (a .entries .now) (l .i) _ h w (a .m .now) (l .m) (l .inv .1) (pre .1 .fit);
+      },
     )
 
 loop-again : tie.Need-loop-again Inv-loop μ-loop

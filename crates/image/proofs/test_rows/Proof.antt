@@ -71,21 +71,21 @@ same-length-4 c = c .before .before .before .before .before .before .before .bef
 
 returns : tie.Need-returns Inv-loop μ-loop
 returns c =
-    let p2 = c .before .before in let p4 = p2 .before .before in let p5 = p4 .before in let p8 = p5 .before .before .before in let p9 = p8 .before in
+    let p2 = c .before .before in let p4 = p2 .before .before in let p5 = p4 .before in let p7 = p5 .before .before in let p8 = p7 .before in let p9 = p8 .before in
     let p16 = p9 .before .before .before .before .before .before .before in
     let a = p16 .args in let p = p8 .loop in
     let e = page-here (a .image .now) (a .entries .now) (p .i) _ _ (p4 .block-at .ensures) (p5 .wide2 .ensures) (a .h .level) (a .h .capacity) _ (p .to) _
     (p9 .wide .ensures) (p2 .good-page .ensures) in
-    collecting-bad (view (a .image .now)) (a .h) (a .entries .now) (p .i) (p .to) _ (p .inv .0) (omega (arith, c .before .before .before .before .before .before .before .loop-test)) (e ∙ c .enum-told .given .1)
+    collecting-bad (view (a .image .now)) (a .h) (a .entries .now) (p .i) (p .to) _ (p .inv .0) (omega (arith, p7 .loop-test)) (e ∙ c .enum-told .given .1)
 
 add-i : tie.Need-add-i Inv-loop μ-loop
 add-i c =
-    let p23 = c .before .before .before .before .before .before .before .before .before .before .before .before .before .before .before .before .before .before .before .before .before .before .before in
+    let p12 = c .before .before .before .before .before .before .before .before .before .before .before .before in let p23 = p12 .before .before .before .before .before .before .before .before .before .before .before in
     let p32 = p23 .before .before .before .before .before .before .before .before .before in
     omega (arith, p32 .good, p23 .loop-test)
 
 loop-less : tie.Need-loop-less Inv-loop μ-loop
-loop-less c = omega (arith, c .before .before .before .before .before .before .before .before .before .before .before .before .before .before .before .before .before .before .before .before .before .before .before .loop-test .taken)
+loop-less c = let p12 = c .before .before .before .before .before .before .before .before .before .before .before .before in omega (arith, p12 .before .before .before .before .before .before .before .before .before .before .before .loop-test .taken)
 
 loop-again : tie.Need-loop-again Inv-loop μ-loop
 loop-again c =

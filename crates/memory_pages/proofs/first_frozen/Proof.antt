@@ -69,10 +69,8 @@ loop-again c =
     let b6 = b5 .before in
     let l = b3 .loop in
     let k = c .before .before .loop-test .taken in
-    record {
-      most = omega arith;
-      rest = first-pass frozenWord (column2 (b6 .before .before .args .m .now) (b5 .blocks2 .result)) (l .p) (b6 .page-count .result) (l .inv .rest) k (c .before .get2 .ensures) (ne-eqb _ 1 (c .if1 .left));
-    }
+    let words = column2 (b6 .before .before .args .m .now) (b5 .blocks2 .result) in
+    record { most = omega arith; rest = first-pass frozenWord words (l .p) (b6 .page-count .result) (l .inv .rest) k (c .before .get2 .ensures) (ne-eqb _ 1 (c .if1 .left)) }
 
 returns-2 : tie.Need-returns-2 Inv-loop μ-loop
 returns-2 c =
