@@ -1,5 +1,5 @@
 -- General lemmas: tests, properties of all elements and of all pairs, members, and the searches on lists.
-use Rattle.basics.proofs.Kit.{_≡_, refl, sym, ap, _∙_, subst, Bool, true, false, _&&_, not, _||_, some, none, Option, Option·map, List, [], _∷_, _++_, append-assoc, map, ℕ}
+use Rattle.basics.proofs.Kit.{_≡_, refl, sym, ap, _∙_, subst, Bool, true, false, _&&_, not, _||_, some, none, List, [], _∷_, _++_, map, ℕ}
 use Rattle.basics.proofs.Kit.{suc, _+_, _≤_, _<_, zero, leb, eqb, ltb, T}
 use Rattle.basics.proofs.Kit.{eqb-refl, le→leb, length, take, drop, getD, arith}
 use Rattle.basics.specs.Basics.{if_then_else_, every, all, keep, isEmpty, first, last, any, howMany, isIn}
@@ -8,7 +8,6 @@ use Rattle.basics.proofs.Facts.{by, lie, AllOf, and-true, never, by-opt
 
 pub use borrow.Author.Tests.{eqb-true, leb-true, leb-false}
 pub use Rattle.basics.proofs.Ands.{and-no, and-yes}
-use Rattle.basics.proofs.Ands.{and-assoc}
 
 T-true : (b : Bool) → T b → b ≡ true
 T-true true t = refl
@@ -105,33 +104,6 @@ module _ {A : Type 0} where
   unfolding all
   all-split f [] e = tt
   all-split f (x ∷ xs) e = let k = and-true (f x) (all f xs) e in (k .0, all-split f xs (k .1))
-
-  -- by index, from a property that the default has too
-  pub all-each : (P : A → Type 0) (d : A) (xs : List A) → ((i : ℕ) → P (getD xs i d)) → AllOf P xs
-  all-each P d [] h = tt
-  all-each P d (x ∷ xs) h = (h 0, all-each P d xs (λ i. h (suc i)))
-
-  -- a test that all pass: at an index, weakened, on two lists
-  pub all-get : (f : A → Bool) (d : A) (xs : List A) (i : ℕ) → all f xs ≡ true → i < length xs → f (getD xs i d) ≡ true
-  all-get f d xs i e h = all-at (λ x. f x ≡ true) d xs i h (all-split f xs e)
-
-  pub all-weak : (f g : A → Bool) → ((x : A) → f x ≡ true → g x ≡ true) → (xs : List A) → all f xs ≡ true → all g xs ≡ true
-  all-weak f g w xs e = all-true g xs (all-map (λ x. f x ≡ true) (λ x. g x ≡ true) w xs (all-split f xs e))
-
-  pub all-join : (f : A → Bool) (xs ys : List A) → all f (xs ++ ys) ≡ (all f xs && all f ys)
-  unfolding all
-  all-join f [] ys = refl
-  all-join f (x ∷ xs) ys = rw (all-join f xs ys, and-assoc)
-
--- a list that may be missing, behind another
-module _ {A : Type 0} where
-  pub behind-none : (o : Option (List A)) → Option·map (λ xs. [] ++ xs) o ≡ o
-  behind-none none = refl
-  behind-none (some xs) = refl
-
-  pub behind-two : (a b : List A) (o : Option (List A)) → Option·map (λ xs. a ++ xs) (Option·map (λ xs. b ++ xs) o) ≡ Option·map (λ xs. (a ++ b) ++ xs) o
-  behind-two a b none = refl
-  behind-two a b (some xs) = ap some (sym (append-assoc a b xs))
 
 pub all-mapped : {A B : Type 0} (P : B → Type 0) (f : A → B) (xs : List A) → AllOf (λ x. P (f x)) xs → AllOf P (map f xs)
 all-mapped P f [] a = tt

@@ -2,7 +2,7 @@
 -- another (`round-trip`); putting what was got changes nothing (`get-law`); bytes are known by their bits (`same-bits`).
 use Rattle.basics.proofs.Kit.{_≡_, refl, sym, ap, _∙_, ⊎-elim, List, [], _∷_, _++_, append-assoc, ℕ, suc, _+_, _%_, _^_, _≤_, _<_, _-_, mod-eq-of-lt, length, take, drop, length-append}
 use Rattle.basics.proofs.Kit.{length-take, length-drop, take-append-drop, take-at, drop-drop, take-append-le, drop-append-le, drop-at, arith}
-use Rattle.basics.proofs.Elements.{all-each}
+use Rattle.basics.proofs.Lists.{all-each}
 use Rattle.block_bits.specs.Bits.{bitsOf, bitsIn, number, field}
 use Rattle.basics.specs.Lists.{over}
 use Rattle.block_bits.specs.Fields.{putAll, getAll, widths, values, total}

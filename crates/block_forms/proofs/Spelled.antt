@@ -3,7 +3,8 @@ use Rattle.basics.proofs.Kit.{_≡_, refl, sym, ap, _∙_, List, [], _∷_, _++
 use Rattle.basics.proofs.Kit.{mod-eq-of-lt, pow-mono}
 use Rattle.basics.proofs.Kit.{lit<, length, take, drop, getD, length-append, length-take, length-drop, take-append-drop, length-replicate, replicate-append-replicate, take-at}
 use Rattle.basics.proofs.Kit.{drop-append-seam, drop-at, arith}
-use Rattle.basics.proofs.Elements.{all-append, all-each, all-take, all-drop}
+use Rattle.basics.proofs.Elements.{all-append, all-take, all-drop}
+use Rattle.basics.proofs.Lists.{all-each}
 use Rattle.block_bits.specs.Bits.{bitsOf, bitsIn, number, field}
 use Rattle.basics.specs.Lists.{over}
 use Rattle.block_bits.specs.Fields.{putAll, getAll, widths, values, total, Fit}

@@ -2,7 +2,7 @@
 use Rattle.basics.proofs.Kit.{_≡_, refl, sym, ap, _∙_, some, none, Option·map, List, [], _∷_, _++_, append-assoc, append-nil, ℕ, suc, _+_, _≤_, _<_, zero, _-_, length, take, drop}
 use Rattle.basics.proofs.Kit.{length-append, drop-drop, take-at, drop-at, drop-of-length-le, arith}
 use Rattle.basics.proofs.Facts.{by-option, never}
-use Rattle.basics.proofs.Elements.{behind-none, behind-two}
+use Rattle.basics.proofs.Lists.{behind-none, behind-two}
 use Rattle.basics.specs.Basics.{if_then_else_}
 use Rattle.block_forms.specs.Limits.{pageHeadSize}
 use Rattle.block_forms.specs.Tuple.{Tuple}

@@ -4,7 +4,7 @@ use Rattle.basics.proofs.Kit.{add-one, ltb, length, take, drop}
 use Rattle.basics.proofs.Kit.{getD, length-append, take-append-drop, length-map, take-all, take-suc, lt-ltb, ltb-true, arith}
 use Rattle.basics.specs.Basics.{all, isSome}
 use Rattle.basics.proofs.Facts.{and-true}
-use Rattle.basics.proofs.Elements.{all-get, all-weak}
+use Rattle.basics.proofs.Lists.{all-get, all-weak}
 use Rattle.basics.proofs.Iterations.{drop-turn}
 use Rattle.block_forms.specs.Block.{PageBlock, asPage}
 use Rattle.block_reader.specs.Answers.{isPage}

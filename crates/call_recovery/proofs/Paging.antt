@@ -2,8 +2,7 @@
 use Rattle.basics.proofs.Kit.{_≡_, refl, sym, ap, _∙_, subst, true, Option, List, [], _∷_, _++_, append-assoc, append-nil, map, ℕ, _+_, _≤_, _<_, zero-add, leb, length}
 use Rattle.basics.proofs.Kit.{getD, length-append, length-map, leb-true, arith}
 use Rattle.basics.specs.Basics.{isSome}
-use Rattle.basics.proofs.Lists.{map-append}
-use Rattle.basics.proofs.Elements.{all-get}
+use Rattle.basics.proofs.Lists.{map-append, all-get}
 use Rattle.block_forms.specs.Tuple.{Tuple}
 use Rattle.block_forms.specs.Block.{Block, PageBlock, asPage}
 use Rattle.block_forms.specs.Decode.{decodeBlock}

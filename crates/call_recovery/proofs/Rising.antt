@@ -2,7 +2,7 @@
 use Rattle.basics.proofs.Kit.{_≡_, refl, _∙_, Bool, true, _&&_, not, List, [], _∷_, _++_, ℕ, _≤_, leb, eqb, ltb, length, le-leb, leb-true, eqb-true, ltb-true, arith}
 use Rattle.basics.specs.Basics.{if_then_else_, all, paired}
 use Rattle.basics.proofs.Facts.{by, AllOf, and-true}
-use Rattle.basics.proofs.Elements.{all-weak, all-join}
+use Rattle.basics.proofs.Lists.{all-weak, all-join}
 use Rattle.block_forms.specs.Tuple.{Tuple}
 use Rattle.image_rows.specs.Rows.{Row, rowsOf, isAt, isLower, follows}
 use Rattle.image.specs.Stages.{StoredPage, rowsOfPages}

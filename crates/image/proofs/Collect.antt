@@ -4,8 +4,8 @@ use Rattle.basics.proofs.Kit.{_<_, _/_, _-_, leb, ltb, length, take, drop, getD
 use Rattle.basics.proofs.Kit.{ltb-true, arith}
 use Rattle.basics.specs.Basics.{if_then_else_, all, every}
 use Rattle.basics.proofs.Facts.{by, by-option, never, and-true, clash}
-use Rattle.basics.proofs.Elements.{some-eq, all-get, all-join, behind-none, behind-two}
-use Rattle.basics.proofs.Lists.{map-append}
+use Rattle.basics.proofs.Elements.{some-eq}
+use Rattle.basics.proofs.Lists.{map-append, all-get, all-join, behind-none, behind-two}
 use Rattle.basics.specs.Lists.{over}
 use Rattle.block_forms.specs.Tuple.{Tuple}
 use Rattle.block_forms.specs.Block.{PageBlock, asPage}

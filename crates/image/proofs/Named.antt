@@ -3,7 +3,8 @@ use Rattle.basics.proofs.Kit.{_≡_, refl, sym, ap, _∙_, subst, Bool, true, f
 use Rattle.basics.proofs.Kit.{_<_, _-_, min, add-one, eqb, length, take, drop, getD, set, length-append, length-take, take-suc, eqb-true, eq-eqb, ne-eqb, arith}
 use Rattle.basics.specs.Basics.{if_then_else_}
 use Rattle.basics.proofs.Facts.{by, never, lie, and-true}
-use Rattle.basics.proofs.Elements.{some-eq, behind-none, behind-two}
+use Rattle.basics.proofs.Elements.{some-eq}
+use Rattle.basics.proofs.Lists.{behind-none, behind-two}
 use Rattle.basics.specs.Lists.{over}
 use Rattle.basics.proofs.Overs.{over-nil}
 use Rattle.block_forms.specs.Limits.{entriesPerBlock}

@@ -28,11 +28,13 @@ loop-holds c =
     )
 
 -- what was asked of the count, from the loop on
-few : (p : tie.At-loop Inv-loop μ-loop) → p .before .before .before .before .before .before .before .before .before .before .before .before .before .before .before .before .before .before .before .args .count ≤ entriesPerBlock
-few p = p .before .before .before .before .before .before .before .before .before .before .before .before .before .before .before .before .before .before .before .pre .0
+few : (p : tie.At-loop Inv-loop μ-loop) → let q = p .before .before .before .before .before .before .before .before .before .before in
+    q .before .before .before .before .before .before .before .before .before .args .count ≤ entriesPerBlock
+few p = let q = p .before .before .before .before .before .before .before .before .before .before in q .before .before .before .before .before .before .before .before .before .pre .0
 
-there : (p : tie.At-loop Inv-loop μ-loop) → let a = p .before .before .before .before .before .before .before .before .before .before .before .before .before .before .before .before .before .before .before .args in a .count ≤ length (a .entries .now)
-there p = p .before .before .before .before .before .before .before .before .before .before .before .before .before .before .before .before .before .before .before .pre .1 .0
+there : (p : tie.At-loop Inv-loop μ-loop) → let q = p .before .before .before .before .before .before .before .before .before .before in
+    let a = q .before .before .before .before .before .before .before .before .before .args in a .count ≤ length (a .entries .now)
+there p = let q = p .before .before .before .before .before .before .before .before .before .before in q .before .before .before .before .before .before .before .before .before .pre .1 .0
 
 mul-put-bits : tie.Need-mul-put-bits Inv-loop μ-loop
 mul-put-bits c = omega (arith, c .before .loop-test .taken, few (c .before .before))
@@ -58,17 +60,20 @@ loop-less c = omega (arith, c .before .before .before .before .before .before .l
 loop-again : tie.Need-loop-again Inv-loop μ-loop
 loop-again c =
     let t = c .before .before .before .before .before .before in let l = t .before in let p = l .loop in
-    let a = l .before .before .before .before .before .before .before .before .before .before .before .before .before .before .before .before .before .before .before .args in
+    let q = l .before .before .before .before .before .before .before .before .before .before in let a = q .before .before .before .before .before .before .before .before .before .args in
     let more = entry-filled (a .level) (a .count) (a .entries .now) (p .i) (omega (arith, there l, t .loop-test)) (omega (arith, few l, t .loop-test)) (p .inv .1 .1 .1)
     (c .before .before .before .big .ensures) (c .before .before .put-bits5 .ensures) in
     (omega (arith, t .loop-test .taken), (omega (arith, c .before .before .put-bits5 .kept, p .inv .1 .0), (λ j. omega (arith, c .slice-known6 .given j), more)))
 
 same-length : tie.Need-same-length Inv-loop μ-loop
-same-length c = omega (arith, c .before .before .before .before .before .before .before .before .before .before .before .before .before .before .before .before .before .before .before .before .pre .1 .1 .0)
+same-length c =
+    let q = c .before .before .before .before .before .before .before .before .before .before .before in
+    omega (arith, q .before .before .before .before .before .before .before .before .before .pre .1 .1 .0)
 
 returns : tie.Need-returns Inv-loop μ-loop
 returns c =
-    let l = c .before in let p = l .loop in let a = l .before .before .before .before .before .before .before .before .before .before .before .before .before .before .before .before .before .before .before .args in
+    let l = c .before in let p = l .loop in let q = l .before .before .before .before .before .before .before .before .before .before in
+    let a = q .before .before .before .before .before .before .before .before .before .args in
     let e : p .i ≡ a .count = omega arith in
     dir-done (a .level) (a .count) (a .entries .now) (p .block) (there l) (p .inv .1 .0) (p .inv .1 .1 .0) (rw e at (p .inv .1 .1 .1))
 

@@ -20,16 +20,12 @@ loop-holds c = (row-count _ (c .before .get-counts .ensures) (c .wide .ensures),
 
 owner-at-requires : tie.Need-owner-at-requires Inv-loop μ-loop
 owner-at-requires c κs =
-    let p1 = c .before in
-    let p2 = p1 .before in
-    let p7 = p2 .before .before .before .before .before in
+    let p1 = c .before in let p2 = p1 .before in let p7 = p2 .before .before .before .before .before in
     (p7 .pre .0 .0, omega (arith, p2 .loop .inv .0, p1 .loop-test))
 
 note-requires : tie.Need-note-requires Inv-loop μ-loop
 note-requires c κs =
-    let p2 = c .before .before in
-    let p3 = p2 .before in
-    let p8 = p3 .before .before .before .before .before in
+    let p2 = c .before .before in let p3 = p2 .before in let p8 = p3 .before .before .before .before .before in
     let l = p3 .loop in
     let m = p8 .args .m .now in
     let h : l .i < length (flatOf m .rows) = omega (arith, l .inv .0, p2 .loop-test) in
@@ -37,10 +33,7 @@ note-requires c κs =
 
 loop-again : tie.Need-loop-again Inv-loop μ-loop
 loop-again c =
-    let p2 = c .before .before in
-    let p3 = p2 .before in
-    let p5 = p3 .before .before in
-    let p6 = p5 .before in
+    let p2 = c .before .before in let p3 = p2 .before in let p5 = p3 .before .before in let p6 = p5 .before in
     let p11 = p6 .before .before .before .before .before in
     let l = p6 .loop in
     let m = p11 .args .m .now in
@@ -49,16 +42,14 @@ loop-again c =
 
 same-length : tie.Need-same-length Inv-loop μ-loop
 same-length c =
-    let p1 = c .before in
-    let p6 = p1 .before .before .before .before .before in
+    let p1 = c .before in let p6 = p1 .before .before .before .before .before in
     p1 .loop .inv .1 .size ∙ sym (p6 .pre .1 .size)
 
 returns : tie.Need-returns Inv-loop μ-loop
 returns c =
-    let p1 = c .before in
-    let p6 = p1 .before .before .before .before .before in
+    let p1 = c .before in let p6 = p1 .before .before .before .before .before in
     counts-end (flatOf (p6 .args .m .now)) (p1 .loop .i) (omega (arith, p1 .loop .inv .0, c .loop-test)) (p1 .loop .inv .1)
 
 pub count-rows-spec : {M : Type 1} → statement M
-count-rows-spec = tie.close (tie.spec Inv-loop μ-loop get-counts-requires (λ c κs. omega arith) loop-holds owner-at-requires note-requires (λ c. omega arith) (λ c. omega arith)
-    loop-again same-length returns)
+count-rows-spec = tie.close (tie.spec Inv-loop μ-loop get-counts-requires (λ c κs. omega arith) loop-holds owner-at-requires note-requires (λ c. omega arith)
+    (λ c. omega arith) loop-again same-length returns)

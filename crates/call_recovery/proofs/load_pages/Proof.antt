@@ -19,10 +19,7 @@ loop-holds c = let s = c .before .before .before in (omega arith, loading-start 
 
 load-page-requires : tie.Need-load-page-requires Inv-loop μ-loop
 load-page-requires c κs =
-    let p1 = c .before in
-    let p3 = p1 .before .before in
-    let p4 = p3 .before in
-    let p8 = p4 .before .before .before .before in
+    let p1 = c .before in let p3 = p1 .before .before in let p4 = p3 .before in let p8 = p4 .before .before .before .before in
     let a = p8 .args in
     let l = p4 .loop in
     let pre = p8 .pre in
@@ -42,27 +39,20 @@ load-page-requires c κs =
 
 loop-again : tie.Need-loop-again Inv-loop μ-loop
 loop-again c =
-    let p2 = c .before .before in
-    let p4 = p2 .before .before in
-    let p6 = p4 .before .before in
-    let p7 = p6 .before in
+    let p2 = c .before .before in let p4 = p2 .before .before in let p6 = p4 .before .before in let p7 = p6 .before in
     let p11 = p7 .before .before .before .before in
     let a = p11 .args in
     let l = p7 .loop in
     let h : l .i < length (a .entries .now) = omega (arith, p6 .loop-test) in
     (omega arith, loading-turn (view (a .image .now)) (a .entries .now) (l .i) _ h (p4 .wide .ensures) (a .m .now) (l .m) _ (l .inv .1) (p2 .load-page .ensures))
 
-same-length : tie.Need-same-length Inv-loop μ-loop
-same-length c = c .before .loop .inv .1 .becomes .size
-
 returns : tie.Need-returns Inv-loop μ-loop
 returns c =
-    let p1 = c .before in
-    let p5 = p1 .before .before .before .before in
+    let p1 = c .before in let p5 = p1 .before .before .before .before in
     let a = p5 .args in
     let l = p1 .loop in
     loading-end (view (a .image .now)) (a .m .now) (l .m) (a .entries .now) (l .i) (omega (arith, c .loop-test)) (l .inv .1)
 
 pub load-pages-spec : {M : Type 1} → statement M
 load-pages-spec = tie.close (tie.spec Inv-loop μ-loop loop-holds (λ c. omega arith) (λ c. omega arith) (λ c κs. omega arith) load-page-requires (λ c. omega arith)
-    (λ c. omega arith) loop-again same-length returns)
+    (λ c. omega arith) loop-again (λ c. c .before .loop .inv .1 .becomes .size) returns)

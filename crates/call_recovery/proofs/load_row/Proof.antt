@@ -10,8 +10,7 @@ use Rattle.call_recovery.proofs.load_row.Tie as tie
 
 append-row-requires : tie.Need-append-row-requires
 append-row-requires c κs =
-    let p2 = c .before .before in
-    let p6 = p2 .before .before .before .before in
+    let p2 = c .before .before in let p6 = p2 .before .before .before .before in
     let pre = p6 .pre in (
       record {
         room = pre .1 .room;
@@ -26,9 +25,7 @@ append-row-requires c κs =
 returns : tie.Need-returns
 unfolding withoutPending tupleOf
 returns c =
-    let p2 = c .before .before in
-    let p5 = p2 .before .before .before in
-    let p9 = p5 .before .before .before .before in
+    let p2 = c .before .before in let p5 = p2 .before .before .before in let p9 = p5 .before .before .before .before in
     let r = p9 .args .r in
     let bs : List ℕ = drop (r .start) (p9 .args .block .now) in
     let n : ℕ = r .start + r .len - r .start in

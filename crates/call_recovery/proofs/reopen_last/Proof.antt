@@ -10,8 +10,7 @@ use Rattle.call_recovery.proofs.reopen_last.Tie as tie
 -- the transaction is one that there may be
 small : (c : tie.After-wide) → c .wide .result < 4096
 small c =
-    let p2 = c .before .before in
-    let p7 = p2 .before .before .before .before .before in
+    let p2 = c .before .before in let p7 = p2 .before .before .before .before .before in
     omega (arith, c .wide .ensures, subst (λ (o : Owner). OwnerFits (ownerIs o)) (p2 .o .given .1) (p7 .pre .owner))
 
 shared-slice-read-written : tie.Need-shared-slice-read-written
@@ -22,9 +21,7 @@ shared-slice-read-if1 c = omega (arith, small (c .before .before), c .before .be
 
 push-open-requires : tie.Need-push-open-requires
 push-open-requires c κs =
-    let p1 = c .before in
-    let p4 = p1 .before .before .before in
-    let p6 = p4 .before .before in
+    let p1 = c .before in let p4 = p1 .before .before .before in let p6 = p4 .before .before in
     let p11 = p6 .before .before .before .before .before in
     let pre = p11 .pre in
     let w = p4 .wide .ensures in
@@ -39,17 +36,12 @@ returns c = let p5 = c .before .before .before .before .before in opens-none _ _
 
 returns-2 : tie.Need-returns-2
 returns-2 c =
-    let p2 = c .before .before in
-    let p4 = p2 .before .before in
-    let p7 = p4 .before .before .before in
-    let p9 = p7 .before .before in
+    let p2 = c .before .before in let p4 = p2 .before .before in let p7 = p4 .before .before .before in let p9 = p7 .before .before in
     opens-one _ _ _ _ (opened-last _ _ _ _ _ (ap ownerIs (p9 .o .given .1)) (p7 .wide .ensures) (p4 .if1 .taken)) (p2 .push-open .ensures)
 
 returns-3 : tie.Need-returns-3
 returns-3 c =
-    let p3 = c .before .before .before in
-    let p5 = p3 .before .before in
-    let p10 = p5 .before .before .before .before .before in
+    let p3 = c .before .before .before in let p5 = p3 .before .before in let p10 = p5 .before .before .before .before .before in
     opens-none _ _ (p10 .pre .room) (opened-other _ _ _ _ _ (ap ownerIs (p5 .o .given .1)) (p3 .wide .ensures) (c .if1 .left))
 
 pub reopen-last-spec : {M : Type 1} → statement M

@@ -18,22 +18,18 @@ get-counts-requires c κs = omega (arith, c .before .before .before .before .pre
 
 loop-holds : tie.Need-loop-holds Inv-loop μ-loop
 loop-holds c =
-    let p1 = c .before in
-    let p6 = p1 .before .before .before .before .before in
+    let p1 = c .before in let p6 = p1 .before .before .before .before .before in
     (row-count _ (p1 .get-counts .ensures) (c .wide .ensures), (reopened-start _ (p6 .pre .0 .room), p6 .pre .1 .1))
 
 owner-at-requires : tie.Need-owner-at-requires Inv-loop μ-loop
 owner-at-requires c κs =
-    let p1 = c .before in
-    let p2 = p1 .before in
+    let p1 = c .before in let p2 = p1 .before in
     let l = p2 .loop in
     (l .inv .1 .0 .becomes .room, omega (arith, l .inv .0, p1 .loop-test, same-rows (l .inv .1 .0)))
 
 note-requires : tie.Need-note-requires Inv-loop μ-loop
 note-requires c κs =
-    let p1 = c .before in
-    let p3 = p1 .before .before in
-    let p4 = p3 .before in
+    let p1 = c .before in let p3 = p1 .before .before in let p4 = p3 .before in
     let p11 = p4 .before .before .before .before .before .before .before in
     let l = p4 .loop in
     let m = p11 .args .m .now in
@@ -43,10 +39,7 @@ note-requires c κs =
 
 reopen-last-requires : tie.Need-reopen-last-requires Inv-loop μ-loop
 reopen-last-requires c κs =
-    let p4 = c .before .before .before .before in
-    let p6 = p4 .before .before in
-    let p8 = p6 .before .before in
-    let p9 = p8 .before in
+    let p4 = c .before .before .before .before in let p6 = p4 .before .before in let p8 = p6 .before .before in let p9 = p8 .before in
     let p16 = p9 .before .before .before .before .before .before .before in
     let l = p9 .loop in
     let m = p16 .args .m .now in
@@ -65,12 +58,8 @@ reopen-last-requires c κs =
 
 loop-again : tie.Need-loop-again Inv-loop μ-loop
 loop-again c =
-    let p2 = c .before .before in
-    let p7 = p2 .before .before .before .before .before in
-    let p9 = p7 .before .before in
-    let p11 = p9 .before .before in
-    let p12 = p11 .before in
-    let p19 = p12 .before .before .before .before .before .before .before in
+    let p2 = c .before .before in let p7 = p2 .before .before .before .before .before in let p9 = p7 .before .before in
+    let p11 = p9 .before .before in let p12 = p11 .before in let p19 = p12 .before .before .before .before .before .before .before in
     let l = p12 .loop in
     let m = p19 .args .m .now in
     let pre = p19 .pre .0 in
@@ -79,13 +68,9 @@ loop-again c =
     let k = counts-turn (flatOf m) (l .i) h (pre .owners) e (l .inv .1 .1) (p7 .note .ensures) in
     (l .inv .0, (reopened-turn (l .inv .1 .0) h (pre .owners) e (p19 .pre .1 .0) k (p2 .reopen-last .ensures), k))
 
-same-length : tie.Need-same-length Inv-loop μ-loop
-same-length c = c .before .loop .inv .1 .0 .becomes .size
-
 same-length-2 : tie.Need-same-length-2 Inv-loop μ-loop
 same-length-2 c =
-    let p1 = c .before in
-    let p8 = p1 .before .before .before .before .before .before .before in
+    let p1 = c .before in let p8 = p1 .before .before .before .before .before .before .before in
     p1 .loop .inv .1 .1 .size ∙ sym (p8 .pre .1 .1 .size)
 
 returns : tie.Need-returns Inv-loop μ-loop
@@ -93,4 +78,4 @@ returns c = reopened-end (c .before .loop .inv .1 .0) (omega (arith, c .before .
 
 pub reopen-rows-spec : {M : Type 1} → statement M
 reopen-rows-spec = tie.close (tie.spec Inv-loop μ-loop get-counts-requires (λ c κs. omega arith) loop-holds owner-at-requires note-requires reopen-last-requires
-    (λ c. omega arith) (λ c. omega arith) loop-again same-length same-length-2 returns)
+    (λ c. omega arith) (λ c. omega arith) loop-again (λ c. c .before .loop .inv .1 .0 .becomes .size) same-length-2 returns)
