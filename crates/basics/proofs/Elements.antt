@@ -1,7 +1,8 @@
 -- General lemmas: tests, properties of all elements and of all pairs, members, and the searches on lists.
-use Rattle.basics.proofs.Kit.{_≡_, refl, sym, ap, _∙_, subst, Bool, true, false, _&&_, not, _||_, some, none, List, [], _∷_, _++_, map, ℕ, suc, _+_, _≤_, _<_, zero, leb, eqb, ltb, T}
+use Rattle.basics.proofs.Kit.{_≡_, refl, sym, ap, _∙_, subst, Bool, true, false, _&&_, not, _||_, some, none, List, [], _∷_, _++_, map, ℕ}
+use Rattle.basics.proofs.Kit.{suc, _+_, _≤_, _<_, zero, leb, eqb, ltb, T}
 use Rattle.basics.proofs.Kit.{eqb-refl, le→leb, length, take, drop, getD, arith}
-use Rattle.basics.specs.Basics.{every, all, keep, if_then_else_, isEmpty, first, last, any, howMany, isIn}
+use Rattle.basics.specs.Basics.{if_then_else_, every, all, keep, isEmpty, first, last, any, howMany, isIn}
 use Rattle.basics.proofs.Facts.{by, lie, AllOf, and-true, never, by-option}
 -- ---- tests
 

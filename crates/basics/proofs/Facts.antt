@@ -4,7 +4,7 @@ use Prim.Native.Nat.{ℕ}
 use native.Mathlib.Omega.{arith}
 use mathlib.Core.Bool.{Bool, true, false, _&&_}
 use mathlib.Core.Option.{Option, none, some}
-use mathlib.Core.List.{List, [], _∷_}
+pub use Rattle.basics.specs.Basics.{AllOf}
 
 -- a test is true or false
 pub by {ℓ} : {X : Type ℓ} (b : Bool) → (b ≡ true → X) → (b ≡ false → X) → X
@@ -14,11 +14,6 @@ by false f g = g refl
 pub by-option {ℓ} : {A : Type 0} {X : Type ℓ} (o : Option A) → (o ≡ none → X) → ((a : A) → o ≡ some a → X) → X
 by-option none f g = f refl
 by-option (some a) f g = g a refl
-
--- every element has the property
-abbrev pub AllOf : {A : Type 0} → (A → Type 0) → List A → Type 0
-AllOf P [] = Unit {0}
-AllOf P (x ∷ xs) = P x × AllOf P xs
 
 -- one constructor is not another
 pub clash {ℓ} : {X : Type ℓ} → _≡_ {A = ℕ} 0 1 → X

@@ -1,9 +1,37 @@
--- A function over every element: of lists joined, of a front, of a rest.
-use mathlib.Core.Path.{_≡_, refl, ap}
-use mathlib.Core.List.{List, [], _∷_, _++_, map}
-use Prim.Native.Nat.{ℕ, zero, suc}
-use lib.ListN.{take, drop}
+-- A function or a test over every element: of lists joined, at an index, weakened; a list that may be missing behind another.
+use Rattle.basics.proofs.Kit.{_≡_, refl, sym, ap, Bool, true, _&&_, some, none, Option, Option·map, List, [], _∷_, _++_, append-assoc, map, ℕ, suc, _<_, length, getD}
+use Rattle.basics.specs.Basics.{AllOf, all}
+use Rattle.basics.proofs.Ands.{and-assoc}
+use Rattle.basics.proofs.Elements.{all-at, all-map, all-true, all-split}
 
 pub map-append : {A B : Type 0} (g : A → B) (xs ys : List A) → map g (xs ++ ys) ≡ map g xs ++ map g ys
 map-append g [] ys = refl
 map-append g (x ∷ xs) ys = ap (λ (z : List _). g x ∷ z) (map-append g xs ys)
+
+module _ {A : Type 0} where
+  -- by index, from a property that the default has too
+  pub all-each : (P : A → Type 0) (d : A) (xs : List A) → ((i : ℕ) → P (getD xs i d)) → AllOf P xs
+  all-each P d [] h = tt
+  all-each P d (x ∷ xs) h = (h 0, all-each P d xs (λ i. h (suc i)))
+
+  -- a test that all pass: at an index, weakened, on two lists
+  pub all-get : (f : A → Bool) (d : A) (xs : List A) (i : ℕ) → all f xs ≡ true → i < length xs → f (getD xs i d) ≡ true
+  all-get f d xs i e h = all-at (λ x. f x ≡ true) d xs i h (all-split f xs e)
+
+  pub all-weak : (f g : A → Bool) → ((x : A) → f x ≡ true → g x ≡ true) → (xs : List A) → all f xs ≡ true → all g xs ≡ true
+  all-weak f g w xs e = all-true g xs (all-map (λ x. f x ≡ true) (λ x. g x ≡ true) w xs (all-split f xs e))
+
+  pub all-join : (f : A → Bool) (xs ys : List A) → all f (xs ++ ys) ≡ (all f xs && all f ys)
+  unfolding all
+  all-join f [] ys = refl
+  all-join f (x ∷ xs) ys = rw (all-join f xs ys, and-assoc)
+
+-- a list that may be missing, behind another
+module _ {A : Type 0} where
+  pub behind-none : (o : Option (List A)) → Option·map (λ xs. [] ++ xs) o ≡ o
+  behind-none none = refl
+  behind-none (some xs) = refl
+
+  pub behind-two : (a b : List A) (o : Option (List A)) → Option·map (λ xs. a ++ xs) (Option·map (λ xs. b ++ xs) o) ≡ Option·map (λ xs. (a ++ b) ++ xs) o
+  behind-two a b none = refl
+  behind-two a b (some xs) = ap some (sym (append-assoc a b xs))

@@ -1,9 +1,10 @@
 -- Searches in lists by index, and one turn of each loop that searches a list.
-use Rattle.basics.proofs.Kit.{_≡_, refl, sym, ap, _∙_, ⊎-elim, Bool, true, false, _&&_, _||_, cond, or-assoc, List, [], _∷_, _++_, ℕ, suc, _+_, _*_, _≤_, _<_, zero, _-_, zero-add, suc-add, length, arith}
+use Rattle.basics.proofs.Kit.{_≡_, refl, sym, ap, _∙_, ⊎-elim, Bool, true, false, _&&_, _||_, cond, or-assoc, List, [], _∷_, _++_, ℕ, suc, _+_, _≤_, _<_, zero, _-_}
+use Rattle.basics.proofs.Kit.{zero-add, suc-add, length, arith}
 use Rattle.basics.specs.Basics.{any, all, howMany, paired, if_then_else_}
 use Rattle.basics.specs.Lists.{tab, firstIndex, lastIndex}
 use Rattle.basics.proofs.Ands.{and-yes, and-assoc}
-use Rattle.basics.proofs.Tabs.{tab-add, tab-cong, length-tab, lt-or-ge}
+use Rattle.basics.proofs.Tabs.{tab-add, length-tab, lt-or-ge}
 use Rattle.basics.proofs.Facts.{by, lie, and-true}
 use Rattle.basics.proofs.Elements.{or-right}
 pub use Rattle.basics.proofs.Elements.{any-cons}

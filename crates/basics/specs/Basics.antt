@@ -63,6 +63,11 @@ module _ {A : Type 0} where
   sum f [] = 0
   sum f (x ∷ xs) = f x + sum f xs
 
+-- every element has the property
+abbrev pub AllOf : {A : Type 0} → (A → Type 0) → List A → Type 0
+AllOf P [] = Unit {0}
+AllOf P (x ∷ xs) = P x × AllOf P xs
+
 -- every test of the list holds
 unfoldable pub every : List Bool → Bool
 every [] = true

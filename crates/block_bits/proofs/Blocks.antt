@@ -1,10 +1,11 @@
 -- Laws of the bits of a block, and of its fields.
 use Rattle.basics.proofs.Kit.{_≡_, refl, sym, ap, _∙_, List, [], _∷_, _++_, append-assoc, ℕ, suc, _+_, _*_, _%_, _^_, _≤_, _<_, lt-of-lt-of-le, mod-eq-of-lt, pow-mono, length, take, drop}
 use Rattle.basics.proofs.Kit.{getD, set, length-append, length-take, length-drop, split-at, set-split, take-at, drop-append-seam, drop-drop, take-add, arith}
-use Rattle.block_bits.specs.Bits.{bitsOf, number, bitsIn, field}
+use Rattle.basics.proofs.Elements.{all-append, all-take, all-drop}
+use Rattle.block_bits.specs.Bits.{bitsOf, bitsIn, field}
 use Rattle.basics.specs.Lists.{over}
 use Rattle.basics.proofs.Overs.{over-middle}
-use Rattle.block_bits.proofs.Numbers.{length-bitsOf, bitsOf-mod, number-append, number-bitsOf, Bits, bits-of, bits-append, bits-part, number-lt, bits-field}
+use Rattle.block_bits.proofs.Numbers.{length-bitsOf, bitsOf-mod, number-append, number-bitsOf, Bit, Bits, bits-of, number-lt, bits-field}
 
 pub bitsIn-append : (s t : List ℕ) → bitsIn (s ++ t) ≡ bitsIn s ++ bitsIn t
 unfolding bitsIn
@@ -19,7 +20,7 @@ length-bitsIn (b ∷ s) = simp (length-append, length-bitsOf, length-bitsIn s) (
 pub bits-in : (s : List ℕ) → Bits (bitsIn s)
 unfolding bitsIn
 bits-in [] = tt
-bits-in (b ∷ s) = bits-append (bitsOf 8 b) (bitsIn s) (bits-of 8 b) (bits-in s)
+bits-in (b ∷ s) = all-append Bit (bitsOf 8 b) (bitsIn s) (bits-of 8 b) (bits-in s)
 
 -- ---- a byte
 
@@ -62,7 +63,8 @@ field-add s at n k h =
 pub field-lt : (s : List ℕ) (at w : ℕ) → field (bitsIn s) at w < 2 ^ w
 unfolding field
 field-lt s at w =
-    lt-of-lt-of-le (number-lt (take w (drop at (bitsIn s))) (bits-part at w (bitsIn s) (bits-in s))) (pow-mono (rw (length-take w (drop at (bitsIn s))) (omega arith)))
+    let X : List ℕ = drop at (bitsIn s) in
+    lt-of-lt-of-le (number-lt (take w X) (all-take Bit w X (all-drop Bit at (bitsIn s) (bits-in s)))) (pow-mono (rw (length-take w X) (omega arith)))
 
 -- the bits of a field's number are the field
 pub bitsOf-field : (s : List ℕ) (at w : ℕ) → at + w ≤ 8 * length s → bitsOf w (field (bitsIn s) at w) ≡ take w (drop at (bitsIn s))

@@ -3,7 +3,9 @@ use Rattle.basics.proofs.Kit.{_≡_, refl, sym, ap, _∙_, List, [], _∷_, _++
 use Rattle.basics.proofs.Kit.{add-comm, mod-one, mod-lt, pow-suc, mul-add-div-right, mul-add-mod-self-right, digits-lt, pow-pos, pow-add, shr-shr, split, high, mod-pow-add, lit<, length}
 use Rattle.basics.proofs.Kit.{_≤_, take, drop, length-append, length-take, length-drop, take-at, drop-drop, drop-at, arith}
 use Rattle.block_bits.specs.Bits.{bitsOf, number, field, mixed}
+use Rattle.basics.specs.Basics.{AllOf}
 use Rattle.basics.specs.Lists.{over}
+use Rattle.basics.proofs.Elements.{all-take, all-drop}
 
 -- ---- the bits of a number
 
@@ -63,28 +65,17 @@ unfolding number bitsOf
 number-bitsOf zero v = sym (mod-one v)
 number-bitsOf (suc w) v = rw (length-bitsOf w v, number-bitsOf w v) (sym (mod-pow-add v 1 w) ∙ ap (λ (k : ℕ). v % 2 ^ k) (one-add w))
 
--- each is 0 or 1
+-- 0 or 1, and a list of such
+abbrev pub Bit : ℕ → Type 0
+Bit x = x < 2
+
 abbrev pub Bits : List ℕ → Type 0
-Bits [] = Unit {0}
-Bits (x ∷ xs) = (x < 2) × Bits xs
+Bits xs = AllOf Bit xs
 
 pub bits-of : (w v : ℕ) → Bits (bitsOf w v)
 unfolding bitsOf
 bits-of zero v = tt
 bits-of (suc w) v = (mod-lt (v / 2 ^ w) (lit< tt), bits-of w v)
-
-pub bits-append : (xs ys : List ℕ) → Bits xs → Bits ys → Bits (xs ++ ys)
-bits-append [] ys a b = b
-bits-append (x ∷ xs) ys a b = (a .0, bits-append xs ys (a .1) b)
-
-pub bits-part : (n k : ℕ) (xs : List ℕ) → Bits xs → Bits (take k (drop n xs))
-bits-part zero zero xs a = tt
-bits-part zero (suc k) [] a = tt
-bits-part zero (suc k) (x ∷ xs) a = (a .0, bits-part zero k xs (a .1))
-bits-part (suc n) zero [] a = tt
-bits-part (suc n) (suc k) [] a = tt
-bits-part (suc n) zero (x ∷ xs) a = tt
-bits-part (suc n) (suc k) (x ∷ xs) a = bits-part n (suc k) xs (a .1)
 
 digit-lt : (x p n : ℕ) → x < 2 → n < p → x * p + n < p * 2
 digit-lt zero p n h l = omega arith
@@ -112,7 +103,7 @@ unfolding field
 bits-field s at w b h =
     let X : List ℕ = take w (drop at s) in
     let l : length X ≡ w = simp (length-take, length-drop) (omega arith) in
-    ap (λ (n : ℕ). bitsOf n (number X)) (sym l) ∙ bitsOf-number X (bits-part at w s b)
+    ap (λ (n : ℕ). bitsOf n (number X)) (sym l) ∙ bitsOf-number X (all-take Bit w (drop at s) (all-drop Bit at s b))
 
 pub join-lt : (m n h l : ℕ) → h < 2 ^ m → l < 2 ^ n → h * 2 ^ n + l < 2 ^ (m + n)
 join-lt m n h l a b = rw (pow-add 2 m n) (digits-lt a b)

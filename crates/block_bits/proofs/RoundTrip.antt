@@ -1,14 +1,15 @@
 -- What is put is got back, and nothing else changes: for one field at any width and offset (`put-law`), and for fields one after
 -- another (`round-trip`); putting what was got changes nothing (`get-law`); bytes are known by their bits (`same-bits`).
-use Rattle.basics.proofs.Kit.{_≡_, refl, sym, ap, _∙_, ⊎-elim, List, [], _∷_, _++_, append-assoc, ℕ, suc, _+_, _%_, _^_, _≤_, _<_, _-_, mod-eq-of-lt, length, take, drop, getD, length-append}
+use Rattle.basics.proofs.Kit.{_≡_, refl, sym, ap, _∙_, ⊎-elim, List, [], _∷_, _++_, append-assoc, ℕ, suc, _+_, _%_, _^_, _≤_, _<_, _-_, mod-eq-of-lt, length, take, drop, length-append}
 use Rattle.basics.proofs.Kit.{length-take, length-drop, take-append-drop, take-at, drop-drop, take-append-le, drop-append-le, drop-at, arith}
+use Rattle.basics.proofs.Lists.{all-each}
 use Rattle.block_bits.specs.Bits.{bitsOf, bitsIn, number, field}
 use Rattle.basics.specs.Lists.{over}
 use Rattle.block_bits.specs.Fields.{putAll, getAll, widths, values, total}
 use Rattle.block_bits.specs.Laws.{PutLaw, GetLaw, FieldsLaw, SameBits}
 use Rattle.basics.proofs.Overs.{length-over}
 use Rattle.block_bits.proofs.Blocks.{length-bitsIn}
-use Rattle.block_bits.proofs.Numbers.{length-bitsOf, number-bitsOf, Bits, bits-field}
+use Rattle.block_bits.proofs.Numbers.{length-bitsOf, number-bitsOf, Bit, bits-field}
 
 put-get : (s : List ℕ) (at w v : ℕ) → at + w ≤ length s → field (over s at (bitsOf w v)) at w ≡ v % 2 ^ w
 unfolding over field
@@ -53,16 +54,12 @@ put-law s at w v h b = (
       (λ (p : at + w ≤ at'). put-after s (bitsOf w v) at at' w' (rw (length-bitsOf w v) h) (rw (length-bitsOf w v) p)),
 )
 
-each-bit : (xs : List ℕ) → ((i : ℕ) → getD xs i 0 < 2) → Bits xs
-each-bit [] h = tt
-each-bit (x ∷ xs) h = (h 0, each-bit xs (λ i. h (suc i)))
-
 -- putting what was got leaves the bits as they were
 pub get-law : GetLaw
 unfolding over
 get-law s at w b h =
     let l : length (take w (drop at s)) ≡ w = simp (length-take, length-drop) (omega arith) in
-    rw (bits-field s at w (each-bit s b) h, l, ← drop-drop w at s, take-append-drop w (drop at s), take-append-drop at s)
+    rw (bits-field s at w (all-each Bit 0 s b) h, l, ← drop-drop w at s, take-append-drop w (drop at s), take-append-drop at s)
 
 -- ---- fields one after another
 

@@ -1,15 +1,17 @@
 -- The byte forms of a record and of a page's head are their fields, most significant bit first; so a page's block is known byte by byte.
-use Rattle.basics.proofs.Kit.{_≡_, refl, sym, ap, _∙_, Bool, true, false, List, [], _∷_, _++_, append-assoc, append-nil, ℕ, _+_, _*_, _%_, _≤_, _<_, _/_, _-_, length, length-append, arith}
+use Rattle.basics.proofs.Kit.{_≡_, refl, sym, ap, _∙_, Bool, true, false, List, [], _∷_, _++_, append-assoc, append-nil, ℕ, _+_, _*_, _%_, _≤_, _<_, _/_, _-_, length}
+use Rattle.basics.proofs.Kit.{length-append, arith}
 use Rattle.block_forms.specs.Limits.{recordSpace, markValue, committedValue, statementLimit}
+use Rattle.basics.proofs.Elements.{all-append}
 use Rattle.block_bits.specs.Bits.{bitsOf, bitsIn}
 use Rattle.block_bits.proofs.Numbers.{bitsOf-add, bitsOf-mod, bitsOf-digits}
 use Rattle.block_bits.proofs.Blocks.{bitsIn-append, length-bitsIn}
 use Rattle.block_forms.specs.Numbers.{be4}
-use Rattle.block_forms.specs.Tuple.{Owner, committed, tentative, Tuple, sizes, AllBytes, OwnerFits, Fits, AllFit}
+use Rattle.block_forms.specs.Tuple.{Owner, committed, tentative, Tuple, sizes, Byte, AllBytes, OwnerFits, Fits, AllFit}
 use Rattle.block_forms.specs.Spell.{zeros, spell, padded}
 use Rattle.block_forms.specs.Block.{page, committedBit, markBit, ownerFields, payloadFields, recordFields, recordsFields, pageFields, encodeBlock, PageFits}
 use Rattle.block_forms.specs.Bytes.{flagsOf, ownerWord, ownerBytes, recordBytes, records, pageHead}
-use Rattle.block_forms.proofs.Spelled.{spell-append, zero-bits-in, length-zeros, bytes-append, bytes-zeros, block-is}
+use Rattle.block_forms.proofs.Spelled.{spell-append, zero-bits-in, length-zeros, bytes-zeros, block-is}
 use Rattle.block_forms.proofs.Tuples.{length-records, count-sizes, be4-bytes, records-bytes}
 
 -- a number's four bytes are its 32 bits
@@ -113,7 +115,7 @@ head-bytes : (t n b l : ℕ) → AllBytes (pageHead t n b l)
 unfolding pageHead
 head-bytes t n b l =
     let u = 536870912 + t * 33554432 + n * 524288 + b * 1024 + l / 4194304 in
-    bytes-append (be4 u) (be4 (l % 4194304 * 1024)) (be4-bytes u) (be4-bytes (l % 4194304 * 1024))
+    all-append Byte (be4 u) (be4 (l % 4194304 * 1024)) (be4-bytes u) (be4-bytes (l % 4194304 * 1024))
 
 -- the records of a page and the zeros after them
 abbrev pub body : List Tuple → List ℕ
@@ -155,6 +157,6 @@ module _ (t l : ℕ) (ts : List Tuple) (fit : PageFits t l ts) where
       let H = pageHead t (length ts) (sizes ts) l in
       let k : length (pageHead t (length ts) (sizes ts) l ++ body ts) ≡ 512 = rw (length-append H (body ts), length-head t (length ts) (sizes ts) l, length-body ts (fit .room)) in
       let b : AllBytes (pageHead t (length ts) (sizes ts) l ++ body ts) =
-      bytes-append H (body ts) (head-bytes t (length ts) (sizes ts) l)
-      (bytes-append (records ts) (zeros (recordSpace - sizes ts)) (records-bytes ts (fit .tuples)) (bytes-zeros (recordSpace - sizes ts))) in
+      all-append Byte H (body ts) (head-bytes t (length ts) (sizes ts) l)
+      (all-append Byte (records ts) (zeros (recordSpace - sizes ts)) (records-bytes ts (fit .tuples)) (bytes-zeros (recordSpace - sizes ts))) in
       sym (block-is (pageFields t l ts) (H ++ body ts) k b page-bits)

@@ -43,8 +43,8 @@ head-put : (l n : ℕ) (b : List ℕ) → b ≡ bitsIn (zeros 512) → over (ove
 unfolding dirBits entryFields spell
 head-put l n b e = rw (e, empty-block) (put-fields (headFields l n) [] 0 refl (omega arith) ∙ ap padded (sym (append-nil (spell (headFields l n)))))
 
-pub head-filled : (l n : ℕ) {b b₁ b₂ b₃ b₄ : List ℕ} → b ≡ bitsIn (zeros 512) → b₁ ≡ over b 0 (bitsOf 4 3) → b₂ ≡ over b₁ 4 (bitsOf 9 n) → b₃ ≡ over b₂ 13 (bitsOf 32 l)
-    → b₄ ≡ over b₃ 45 (bitsOf 19 0) → b₄ ≡ padded (dirBits l n [])
+pub head-filled : (l n : ℕ) {b b₁ b₂ b₃ b₄ : List ℕ} → b ≡ bitsIn (zeros 512) → b₁ ≡ over b 0 (bitsOf 4 3) → b₂ ≡ over b₁ 4 (bitsOf 9 n)
+    → b₃ ≡ over b₂ 13 (bitsOf 32 l) → b₄ ≡ over b₃ 45 (bitsOf 19 0) → b₄ ≡ padded (dirBits l n [])
 head-filled l n {b} e kind count level rest = rest ∙ rw (level, count, kind) (head-put l n b e)
 
 dir-snoc : (l n : ℕ) (es : List ℕ) (e : ℕ) → dirBits l n es ++ bitsOf 12 e ≡ dirBits l n (es ++ (e ∷ []))

@@ -2,17 +2,18 @@
 -- what a block holds that is read as a page or a directory (`page-read`, `directory-read`).
 use Rattle.basics.proofs.Kit.{_≡_, refl, sym, ap, _∙_, true, false, some, List, [], _∷_, _++_, append-nil, ℕ, suc, _+_, _*_, _≤_, _<_, zero, leb, eqb, length, drop, length-drop, drop-at}
 use Rattle.basics.proofs.Kit.{le-leb, leb-true, arith}
-use Rattle.basics.specs.Basics.{if_then_else_}
 use Rattle.basics.proofs.Facts.{by, by-option, never, clash}
-use Rattle.basics.proofs.Elements.{some-eq}
+use Rattle.basics.proofs.Elements.{some-eq, all-drop}
+use Rattle.basics.specs.Basics.{if_then_else_}
 use Rattle.block_forms.specs.Limits.{pageHeadSize, recordSpace, entriesPerBlock}
 use Rattle.block_bits.specs.Bits.{bitsIn, field}
 use Rattle.block_bits.specs.Fields.{getAll, widths, values, total, Fit}
 use Rattle.block_bits.proofs.Blocks.{bitsIn-append, field-lt}
 use Rattle.block_forms.specs.Numbers.{same}
-use Rattle.block_forms.specs.Tuple.{Tuple, sizes, AllBytes}
+use Rattle.block_forms.specs.Tuple.{Tuple, sizes, Byte, AllBytes}
 use Rattle.block_forms.specs.Spell.{spell}
-use Rattle.block_forms.specs.Block.{Block, malformed, header, page, directory, PageBlock, DirectoryBlock, asHeader, asPage, asDirectory, headerFields, entryFields, directoryFields, blockFields}
+use Rattle.block_forms.specs.Block.{Block, malformed, header, page, directory, PageBlock, DirectoryBlock, asHeader, asPage, asDirectory, headerFields, entryFields, directoryFields}
+use Rattle.block_forms.specs.Block.{blockFields}
 use Rattle.block_forms.specs.Block.{encodeBlock, EntriesFit, PageFits, DirectoryFits, InRange}
 use Rattle.block_forms.specs.Decode.{kind, spelledBy, readHeader, headerIn, pageTuples, pageTable, pageCount, pageBytes, pageLevel, pageSpelled, pageIn}
 use Rattle.block_forms.specs.Decode.{readEntries, directoryCount, directoryLevel, directoryIn, decodeBlock}
@@ -20,7 +21,7 @@ use Rattle.block_forms.specs.Laws.{DecodeOfEncode, EncodeOfDecode}
 use Rattle.block_forms.specs.Bytes.{pageHead}
 use Rattle.block_forms.specs.declared.Header.{Header}
 use Rattle.block_forms.proofs.Same.{same-eq, same-refl}
-use Rattle.block_forms.proofs.Spelled.{block-fields, get-spelled, length-block, block-bytes, bytes-drop}
+use Rattle.block_forms.proofs.Spelled.{block-fields, get-spelled, length-block, block-bytes}
 use Rattle.block_forms.proofs.Tuples.{count-sizes}
 use Rattle.block_forms.proofs.Bitwise.{body, head-bits, length-head, page-bytes}
 use Rattle.block_forms.proofs.ReadTuples.{read-all-fit, read-room}
@@ -242,7 +243,7 @@ read-page xs g =
     record {
       table = field-lt xs 4 3;
       level = field-lt xs 22 32;
-      tuples = read-all-fit (pageCount xs) (drop pageHeadSize xs) ts (bytes-drop pageHeadSize xs bytes) h;
+      tuples = read-all-fit (pageCount xs) (drop pageHeadSize xs) ts (all-drop Byte pageHeadSize xs bytes) h;
       room = omega (arith, read-room (pageCount xs) (drop pageHeadSize xs) ts h);
     } in
     rw h (read-spelled xs b fits (rw h at g)))

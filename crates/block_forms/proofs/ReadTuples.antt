@@ -2,12 +2,13 @@
 use Rattle.basics.proofs.Kit.{_≡_, refl, true, _&&_, some, none, List, [], _∷_, ℕ, suc, _+_, _%_, _≤_, _<_, zero, leb, ltb, length, drop, getD, length-take, length-drop, leb-true, arith}
 use Rattle.basics.specs.Basics.{if_then_else_, sum}
 use Rattle.basics.proofs.Facts.{by, by-option, never, and-true}
+use Rattle.basics.proofs.Elements.{all-drop, all-take}
 use Rattle.block_forms.specs.Limits.{payloadLimit, recordHead, ownerWidth, markValue, committedValue}
 use Rattle.block_forms.specs.Numbers.{num4}
-use Rattle.block_forms.specs.Tuple.{Owner, committed, tentative, Tuple, ownerSize, size, sizes, OwnerFits, AllBytes, Fits, AllFit}
+use Rattle.block_forms.specs.Tuple.{Owner, committed, tentative, Tuple, ownerSize, size, sizes, OwnerFits, Byte, AllBytes, Fits, AllFit}
 use Rattle.block_forms.specs.Decode.{readOwner, readTuple, recordLength, isRecord, readTuples}
 use Rattle.block_forms.specs.Bytes.{ownerIs, ownerAs}
-use Rattle.block_forms.proofs.Spelled.{bytes-at, bytes-take, bytes-drop}
+use Rattle.block_forms.proofs.Spelled.{bytes-at}
 
 -- four bytes more if tentative
 abbrev pub ownerPart : ℕ → ℕ
@@ -62,7 +63,7 @@ module _ (ys : List ℕ) (w : isRecord ys ≡ true) where
         number = num4-small 4 b;
         owner = owner-fits f (num4 ys recordHead) (num4-small recordHead b);
         payload = omega (arith, payload-length);
-        bytes = bytes-take (f % markValue) (drop k ys) (bytes-drop k ys b);
+        bytes = all-take Byte (f % markValue) (drop k ys) (all-drop Byte k ys b);
       }
 
 -- ---- a list of tuples
@@ -91,7 +92,7 @@ pub read-all-fit : (n : ℕ) (xs : List ℕ) (ts : List Tuple) → AllBytes xs �
 read-all-fit zero xs ts b e = rw (none-is xs ts e) tt
 read-all-fit (suc n) xs ts b e =
     let s = split n xs ts e in
-    rw (s .is) (read-fits xs (s .whole-first) b, read-all-fit n (drop (recordLength xs) xs) (s .others) (bytes-drop (recordLength xs) xs b) (s .read))
+    rw (s .is) (read-fits xs (s .whole-first) b, read-all-fit n (drop (recordLength xs) xs) (s .others) (all-drop Byte (recordLength xs) xs b) (s .read))
 
 pub read-room : (n : ℕ) (xs : List ℕ) (ts : List Tuple) → readTuples n xs ≡ some ts → sizes ts ≤ length xs
 unfolding sum

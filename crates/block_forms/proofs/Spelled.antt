@@ -1,39 +1,27 @@
 -- A block of fields: its bits and its bytes; what is spelled is read back at every width.
-use Rattle.basics.proofs.Kit.{_≡_, refl, sym, ap, _∙_, List, [], _∷_, _++_, append-assoc, append-nil, ℕ, suc, _+_, _*_, _%_, _^_, _≤_, _<_, zero, _-_, lt-of-lt-of-le, mod-eq-of-lt, pow-mono}
+use Rattle.basics.proofs.Kit.{_≡_, refl, sym, ap, _∙_, List, [], _∷_, _++_, append-assoc, append-nil, ℕ, suc, _+_, _*_, _%_, _^_, _≤_, _<_, zero, _-_, lt-of-lt-of-le}
+use Rattle.basics.proofs.Kit.{mod-eq-of-lt, pow-mono}
 use Rattle.basics.proofs.Kit.{lit<, length, take, drop, getD, length-append, length-take, length-drop, take-append-drop, length-replicate, replicate-append-replicate, take-at}
 use Rattle.basics.proofs.Kit.{drop-append-seam, drop-at, arith}
+use Rattle.basics.proofs.Elements.{all-append, all-take, all-drop}
+use Rattle.basics.proofs.Lists.{all-each}
 use Rattle.block_bits.specs.Bits.{bitsOf, bitsIn, number, field}
 use Rattle.basics.specs.Lists.{over}
 use Rattle.block_bits.specs.Fields.{putAll, getAll, widths, values, total, Fit}
-use Rattle.block_bits.proofs.Numbers.{length-bitsOf, number-bitsOf, Bits, bits-of, bits-append, number-lt, bitsOf-number}
+use Rattle.block_bits.proofs.Numbers.{length-bitsOf, number-bitsOf, Bit, Bits, bits-of, number-lt, bitsOf-number}
 use Rattle.basics.proofs.Overs.{over-middle}
-use Rattle.block_forms.specs.Tuple.{AllBytes}
+use Rattle.block_forms.specs.Tuple.{Byte, AllBytes}
 use Rattle.block_forms.specs.Spell.{zeros, spell, bytesOf, padded, blockOf}
 
 -- ---- bytes
 
 pub all-bytes : (s : List ℕ) → ((i : ℕ) → getD s i 0 < 256) → AllBytes s
-all-bytes [] h = tt
-all-bytes (x ∷ s) h = (h 0, all-bytes s (λ i. h (suc i)))
+all-bytes s h = all-each Byte 0 s h
 
 pub bytes-at : (s : List ℕ) → AllBytes s → (i : ℕ) → getD s i 0 < 256
 bytes-at [] h i = lit< tt
 bytes-at (x ∷ s) h zero = h .0
 bytes-at (x ∷ s) h (suc i) = bytes-at s (h .1) i
-
-pub bytes-append : (s t : List ℕ) → AllBytes s → AllBytes t → AllBytes (s ++ t)
-bytes-append [] t hs ht = ht
-bytes-append (x ∷ s) t hs ht = (hs .0, bytes-append s t (hs .1) ht)
-
-pub bytes-drop : (n : ℕ) (s : List ℕ) → AllBytes s → AllBytes (drop n s)
-bytes-drop zero s h = h
-bytes-drop (suc n) [] h = h
-bytes-drop (suc n) (x ∷ s) h = bytes-drop n s (h .1)
-
-pub bytes-take : (n : ℕ) (s : List ℕ) → AllBytes s → AllBytes (take n s)
-bytes-take zero s h = tt
-bytes-take (suc n) [] h = h
-bytes-take (suc n) (x ∷ s) h = (h .0, bytes-take n s (h .1))
 
 pub bytes-zeros : (n : ℕ) → AllBytes (zeros n)
 bytes-zeros zero = tt
@@ -43,16 +31,6 @@ bytes-zeros (suc n) = (omega arith, bytes-zeros n)
 
 small : (b : ℕ) → b < 256 → b % 2 ^ 8 ≡ b
 small b h = mod-eq-of-lt h
-
-drop-bits : (n : ℕ) (b : List ℕ) → Bits b → Bits (drop n b)
-drop-bits zero b h = h
-drop-bits (suc n) [] h = h
-drop-bits (suc n) (x ∷ b) h = drop-bits n b (h .1)
-
-take-bits : (n : ℕ) (b : List ℕ) → Bits b → Bits (take n b)
-take-bits zero b h = tt
-take-bits (suc n) [] h = h
-take-bits (suc n) (x ∷ b) h = (h .0, take-bits n b (h .1))
 
 -- bytes are their bits
 pub bytes-bits : (s : List ℕ) → AllBytes s → bytesOf (length s) (bitsIn s) ≡ s
@@ -68,8 +46,8 @@ bits-bytes zero (x ∷ b) e h = absurd (omega arith)
 bits-bytes (suc n) b e h =
     let l : length (take 8 b) ≡ 8 = simp length-take (omega arith) in
     let d : length (drop 8 b) ≡ 8 * n = simp length-drop (omega arith) in
-    let p : bitsOf 8 (number (take 8 b)) ≡ take 8 b = ap (λ (k : ℕ). bitsOf k (number (take 8 b))) (sym l) ∙ bitsOf-number (take 8 b) (take-bits 8 b h) in
-    rw (p, bits-bytes n (drop 8 b) d (drop-bits 8 b h)) (take-append-drop 8 b)
+    let p : bitsOf 8 (number (take 8 b)) ≡ take 8 b = ap (λ (k : ℕ). bitsOf k (number (take 8 b))) (sym l) ∙ bitsOf-number (take 8 b) (all-take Bit 8 b h) in
+    rw (p, bits-bytes n (drop 8 b) d (all-drop Bit 8 b h)) (take-append-drop 8 b)
 
 pub length-bytesOf : (n : ℕ) (b : List ℕ) → length (bytesOf n b) ≡ n
 unfolding bytesOf
@@ -81,7 +59,7 @@ unfolding bytesOf
 bytes-of-bits zero b h = tt
 bytes-of-bits (suc n) b h =
     let w : length (take 8 b) ≤ 8 = simp length-take (omega arith) in
-    (lt-of-lt-of-le (number-lt (take 8 b) (take-bits 8 b h)) (pow-mono w), bytes-of-bits n (drop 8 b) (drop-bits 8 b h))
+    (lt-of-lt-of-le (number-lt (take 8 b) (all-take Bit 8 b h)) (pow-mono w), bytes-of-bits n (drop 8 b) (all-drop Bit 8 b h))
 
 -- ---- fields
 
@@ -93,7 +71,7 @@ length-spell (f ∷ fs) = rw (length-append (bitsOf (f .0) (f .1)) (spell fs), l
 spell-bits : (fs : List (ℕ × ℕ)) → Bits (spell fs)
 unfolding spell
 spell-bits [] = tt
-spell-bits (f ∷ fs) = bits-append (bitsOf (f .0) (f .1)) (spell fs) (bits-of (f .0) (f .1)) (spell-bits fs)
+spell-bits (f ∷ fs) = all-append Bit (bitsOf (f .0) (f .1)) (spell fs) (bits-of (f .0) (f .1)) (spell-bits fs)
 
 pub length-zeros : (n : ℕ) → length (zeros n) ≡ n
 length-zeros n = length-replicate n 0
@@ -126,7 +104,7 @@ length-filled d h = rw (length-append d (zeros (4096 - length d)), length-zeros 
 
 filled-bits : (fs : List (ℕ × ℕ)) → Bits (padded (spell fs))
 unfolding padded
-filled-bits fs = bits-append (spell fs) (zeros (4096 - length (spell fs))) (spell-bits fs) (zero-bits (4096 - length (spell fs)))
+filled-bits fs = all-append Bit (spell fs) (zeros (4096 - length (spell fs))) (spell-bits fs) (zero-bits (4096 - length (spell fs)))
 
 pub length-block : (fs : List (ℕ × ℕ)) → length (blockOf fs) ≡ 512
 unfolding blockOf

@@ -76,7 +76,8 @@ module _ (m p : List ℕ) (at : ℕ) (r : Record) (l : length p ≡ r .len) wher
     unfolding be4 ownerBytes
     appended-tentative {w = w} o ew owner ee last h =
         last
-        ∙ rw (ee, owner, first-nine (omega arith), over-then m nine (be4 w) at recordHead refl (omega arith), over-then m (nine ++ be4 w) p at (recordHead + ownerWidth) refl (omega arith), bytes-are, ew, o)
+        ∙ rw (ee, owner, first-nine (omega arith), over-then m nine (be4 w) at recordHead refl (omega arith))
+        (rw (over-then m (nine ++ be4 w) p at (recordHead + ownerWidth) refl (omega arith), bytes-are, ew, o))
 
     pub appended-committed : {m₄ : List ℕ} {e : ℕ} → r .owner ≡ Committed → e ≡ at + recordHead → m₄ ≡ over m₃ e p
         → at + (recordHead + length p) ≤ length m → m₄ ≡ over m at (recordBytes (tupleOf r p))

@@ -1,13 +1,13 @@
 -- A tuple's record and a page's records byte by byte, their sizes and bounds.
 use Rattle.basics.proofs.Kit.{_≡_, refl, sym, Bool, true, false, List, [], _∷_, _++_, append-assoc, append-nil, ℕ, _+_, _*_, _≤_, _<_, length, length-append, arith}
 use Rattle.basics.specs.Basics.{sum}
+use Rattle.basics.proofs.Elements.{all-append}
 use Rattle.block_forms.specs.Limits.{recordHead, markValue}
 use Rattle.block_forms.specs.Numbers.{be4}
-use Rattle.block_forms.specs.Tuple.{Owner, committed, tentative, Tuple, ownerSize, size, sizes, AllBytes, Fits, AllFit}
+use Rattle.block_forms.specs.Tuple.{Owner, committed, tentative, Tuple, ownerSize, size, sizes, Byte, AllBytes, Fits, AllFit}
 use Rattle.block_forms.specs.Block.{committedBit, markBit}
 use Rattle.block_forms.specs.Bytes.{sizeOf, tupleOf, flagsOf, ownerWord, ownerBytes, recordBytes, records}
 use Rattle.block_forms.specs.declared.Record.{Record}
-use Rattle.block_forms.proofs.Spelled.{bytes-append}
 
 -- ---- lengths
 
@@ -66,15 +66,15 @@ record-bytes : (x : Tuple) → Fits x → AllBytes (recordBytes x)
 unfolding recordBytes
 record-bytes x f =
     let h : length (x .payload) < markValue = omega (arith, f .payload) in
-    let rest : AllBytes (ownerBytes (x .owner) ++ x .payload) = bytes-append (ownerBytes (x .owner)) (x .payload) (owner-bytes (x .owner)) (f .bytes) in
+    let rest : AllBytes (ownerBytes (x .owner) ++ x .payload) = all-append Byte (ownerBytes (x .owner)) (x .payload) (owner-bytes (x .owner)) (f .bytes) in
     let flags : ℕ = flagsOf (x .owner) (x .mark) (length (x .payload)) in
-    bytes-append (be4 (x .key)) (be4 (x .number) ++ (flags ∷ (ownerBytes (x .owner) ++ x .payload))) (be4-bytes (x .key))
-    (bytes-append (be4 (x .number)) (flags ∷ (ownerBytes (x .owner) ++ x .payload)) (be4-bytes (x .number)) (flags-small (x .owner) (x .mark) (length (x .payload)) h, rest))
+    all-append Byte (be4 (x .key)) (be4 (x .number) ++ (flags ∷ (ownerBytes (x .owner) ++ x .payload))) (be4-bytes (x .key))
+    (all-append Byte (be4 (x .number)) (flags ∷ (ownerBytes (x .owner) ++ x .payload)) (be4-bytes (x .number)) (flags-small (x .owner) (x .mark) (length (x .payload)) h, rest))
 
 pub records-bytes : (ts : List Tuple) → AllFit ts → AllBytes (records ts)
 unfolding records
 records-bytes [] f = tt
-records-bytes (x ∷ ts) f = bytes-append (recordBytes x) (records ts) (record-bytes x (f .0)) (records-bytes ts (f .1))
+records-bytes (x ∷ ts) f = all-append Byte (recordBytes x) (records ts) (record-bytes x (f .0)) (records-bytes ts (f .1))
 
 -- ---- the record of a tuple
 

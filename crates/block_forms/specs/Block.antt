@@ -4,8 +4,9 @@ use mathlib.Core.Bool.{Bool, true, false}
 use mathlib.Core.Option.{Option, none, some}
 use mathlib.Core.List.{List, [], _∷_, _++_}
 use lib.ListN.{length}
+use Rattle.basics.specs.Basics.{AllOf}
 use Rattle.block_bits.specs.Fields.{Fit}
-use Rattle.block_forms.specs.Limits.{recordSpace, entriesPerBlock}
+use Rattle.block_forms.specs.Limits.{blockLimit, recordSpace, entriesPerBlock}
 use Rattle.block_forms.specs.Tuple.{Owner, committed, tentative, Tuple, sizes, AllFit}
 use Rattle.block_forms.specs.Spell.{blockOf}
 use Rattle.block_forms.specs.declared.Header.{Header}
@@ -116,8 +117,7 @@ encodeBlock b = blockOf (blockFields b)
 
 -- every entry has 12 bits
 abbrev pub EntriesFit : List ℕ → Type 0
-EntriesFit [] = Unit {0}
-EntriesFit (e ∷ es) = (e < 4096) × EntriesFit es
+EntriesFit es = AllOf (λ e. e < blockLimit) es
 
 -- every field of a page is in its range, and its records have room
 pub record PageFits (t l : ℕ) (ts : List Tuple) : Type 0 where

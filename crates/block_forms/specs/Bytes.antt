@@ -5,7 +5,7 @@ use mathlib.Core.Path.{_≡_}
 use mathlib.Core.Bool.{Bool}
 use mathlib.Core.List.{List, [], _∷_, _++_}
 use lib.ListN.{length, take, drop}
-use Rattle.block_forms.specs.Limits.{payloadLimit, pageHeadSize, recordSpace, recordHead, markValue, committedValue, statementLimit}
+use Rattle.block_forms.specs.Limits.{blockSize, payloadLimit, pageHeadSize, recordSpace, recordHead, markValue, committedValue, statementLimit}
 use Rattle.block_forms.specs.Numbers.{be4}
 use Rattle.block_forms.specs.Tuple as tuples
 use Rattle.block_forms.specs.Tuple.{committed, tentative, Tuple, ownerSize, sizes, OwnerFits}
@@ -41,7 +41,7 @@ sizeOf r = recordHead + ownerSize (ownerIs (r .owner)) + r .len
 
 -- the record fits a block at place at, its payload stands in xs, and its owner and payload are in range
 pub record Appendable (at : ℕ) (r : Record) (xs : List ℕ) : Type 0 where
-  pub room : at + sizeOf r ≤ 512
+  pub room : at + sizeOf r ≤ blockSize
   pub inside : r .start + r .len ≤ length xs
   pub limit : r .len ≤ payloadLimit
   pub owner : OwnerFits (ownerIs (r .owner))

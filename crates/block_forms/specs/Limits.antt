@@ -1,6 +1,14 @@
 -- The numbers of the block forms, each named once.
 use Prim.Native.Nat.{ℕ, _+_}
 
+-- a block has 512 bytes
+abbrev pub blockSize : ℕ
+blockSize = 512
+
+-- an image has at most 4,096 blocks, so a block number has 12 bits
+abbrev pub blockLimit : ℕ
+blockLimit = 4096
+
 -- a payload has 0 to 40 bytes
 abbrev pub payloadLimit : ℕ
 payloadLimit = 40

@@ -1,9 +1,9 @@
 -- A tuple and its size.
 use Prim.Native.Nat.{ℕ, _+_, _<_, _≤_}
 use mathlib.Core.Bool.{Bool, true, false}
-use mathlib.Core.List.{List, [], _∷_}
+use mathlib.Core.List.{List}
 use lib.ListN.{length}
-use Rattle.basics.specs.Basics.{if_then_else_, sum}
+use Rattle.basics.specs.Basics.{if_then_else_, sum, AllOf}
 use Rattle.block_forms.specs.Limits.{payloadLimit, recordHead, ownerWidth, transactionLimit, statementLimit}
 
 -- the committed mark; a tentative tuple has its transaction and statement instead
@@ -46,10 +46,13 @@ abbrev pub OwnerFits : Owner → Type 0
 OwnerFits committed = Unit {0}
 OwnerFits (tentative t s) = (t < transactionLimit) × (s < statementLimit)
 
+-- a byte
+abbrev pub Byte : ℕ → Type 0
+Byte b = b < 256
+
 -- every element is a byte
 abbrev pub AllBytes : List ℕ → Type 0
-AllBytes [] = Unit {0}
-AllBytes (b ∷ bs) = (b < 256) × AllBytes bs
+AllBytes bs = AllOf Byte bs
 
 -- every field is in its range
 pub record Fits (x : Tuple) : Type 0 where
@@ -61,5 +64,4 @@ pub record Fits (x : Tuple) : Type 0 where
 
 -- every tuple's fields are in their ranges
 abbrev pub AllFit : List Tuple → Type 0
-AllFit [] = Unit {0}
-AllFit (x ∷ xs) = Fits x × AllFit xs
+AllFit xs = AllOf Fits xs

@@ -5,7 +5,7 @@ ghost use Prim.Native.Nat.{_+_, _%_, _<_, _≤_};
 ghost use lib.ListN.{length, take, drop};
 ghost use lib.Dec.{leb};
 ghost use Rattle.basics.specs.Lists.{over};
-ghost use Rattle.block_forms.specs.Limits.{payloadLimit, recordSpace, joinSum, markValue, entriesPerBlock, mostNumber};
+ghost use Rattle.block_forms.specs.Limits.{blockSize, payloadLimit, recordSpace, joinSum, markValue, entriesPerBlock, mostNumber};
 ghost use Rattle.block_forms.specs.Numbers.{be4};
 ghost use Rattle.block_forms.specs.Tuple.{recordSize, OwnerFits};
 ghost use Rattle.block_forms.specs.Spell.{zeros};
@@ -42,6 +42,12 @@ pub struct Record {
     pub start: usize,
     pub len: usize,
 }
+
+// A block's bytes.
+pub const BLOCK_SIZE: usize = 512;
+
+// An image has at most this many blocks.
+pub const BLOCK_LIMIT: usize = 4096;
 
 // Block numbers in every directory block but the last.
 pub const ENTRIES_PER_BLOCK: usize = 336;
@@ -136,7 +142,7 @@ pub const COMMITTED: u8 = 128;
 pub const MARK: u8 = 64;
 
 // How many tuples a transaction may write, and what its number is multiplied by in an owner's word.
-const STATEMENTS: u32 = 1048576;
+pub const STATEMENTS: u32 = 1048576;
 
 // A record's ninth byte.
 pub fn flags_of(owner: Owner, mark: bool, len: usize) -> u8
@@ -193,8 +199,8 @@ pub fn mark_of(flags: u8) -> bool
 // ---- a page, filled from the front
 
 // The head of a page that will have count tuples with the given record bytes, in a block of zeros.
-pub fn begin_page(block: &mut [u8; 512], table: u32, count: u32, bytes: u32, level: u32)
-    requires { ⌜ (now block ≡ zeros 512) × ((table < 8) × ((count < 64) × (bytes < 512))) ⌝ }
+pub fn begin_page(block: &mut [u8; BLOCK_SIZE], table: u32, count: u32, bytes: u32, level: u32)
+    requires { ⌜ (now block ≡ zeros blockSize) × ((table < 8) × ((count < 64) × (bytes < 512))) ⌝ }
     ensures { λ _. ⌜ now (block .exit) ≡ partPage table level count bytes [] ⌝ }
 {
     put4(
@@ -206,7 +212,7 @@ pub fn begin_page(block: &mut [u8; 512], table: u32, count: u32, bytes: u32, lev
 }
 
 // Writes one more record of a page under construction, at the place `at`; the answer is the place behind it.
-pub fn append(block: &mut [u8; 512], at: usize, r: Record, from: &[u8]) -> usize
+pub fn append(block: &mut [u8; BLOCK_SIZE], at: usize, r: Record, from: &[u8]) -> usize
     requires { ⌜ Appendable at r (now from) ⌝ }
     ensures { λ n. ⌜ Appended (now (block .entry)) (now (block .exit)) at r (now (from .entry)) n ⌝ }
 {
@@ -236,10 +242,10 @@ pub fn append(block: &mut [u8; 512], at: usize, r: Record, from: &[u8]) -> usize
 
 // Copies a whole block out.
 pub fn copy_out(out: &mut [u8], block: &[u8])
-    requires { ⌜ (length (now out) ≡ 512) × (length (now block) ≡ 512) ⌝ }
+    requires { ⌜ (length (now out) ≡ blockSize) × (length (now block) ≡ blockSize) ⌝ }
     ensures { λ _. ⌜ now (out .exit) ≡ now (block .entry) ⌝ }
 {
-    copy(out, 0, block, 0, 512);
+    copy(out, 0, block, 0, BLOCK_SIZE);
 }
 
 fn big(x: u16) -> u64
@@ -250,7 +256,7 @@ fn big(x: u16) -> u64
 
 // A directory's block, in a block of zeros, filled from the front.
 pub fn spell_directory(block: &mut [u8], level: u32, entries: &[u16], count: usize)
-    requires { ⌜ (count ≤ entriesPerBlock) × ((count ≤ length (now entries)) × ((length (now block) ≡ 512) × (now block ≡ zeros 512))) ⌝ }
+    requires { ⌜ (count ≤ entriesPerBlock) × ((count ≤ length (now entries)) × ((length (now block) ≡ blockSize) × (now block ≡ zeros blockSize))) ⌝ }
     ensures { λ _. ⌜ now (block .exit) ≡ encodeBlock (directory level (take count (now (entries .entry)))) ⌝ }
 {
     block_bits::put_bits(block, 0, 4, 3);
@@ -266,7 +272,7 @@ pub fn spell_directory(block: &mut [u8], level: u32, entries: &[u16], count: usi
 
 // A header's block, in a block of zeros, by the table of widths.
 pub fn spell_header(block: &mut [u8], h: Header)
-    requires { ⌜ (length (now block) ≡ 512) × (now block ≡ zeros 512) ⌝ }
+    requires { ⌜ (length (now block) ≡ blockSize) × (now block ≡ zeros blockSize) ⌝ }
     ensures { λ _. ⌜ now (block .exit) ≡ encodeBlock (header h) ⌝ }
 {
     let widths = [4u8, 13, 11, 32, 32, 11, 3, 12, 12, 12, 12];
@@ -288,20 +294,20 @@ pub fn spell_header(block: &mut [u8], h: Header)
 
 // A header's block, built in zeros and copied out whole.
 pub fn write_header(out: &mut [u8], h: Header)
-    requires { ⌜ length (now out) ≡ 512 ⌝ }
+    requires { ⌜ length (now out) ≡ blockSize ⌝ }
     ensures { λ _. ⌜ now (out .exit) ≡ encodeBlock (header h) ⌝ }
 {
-    let mut block = [0u8; 512];
+    let mut block = [0u8; BLOCK_SIZE];
     spell_header(&mut block, h);
     copy_out(out, &block);
 }
 
 // A directory's block, built in zeros and copied out whole.
 pub fn write_directory(out: &mut [u8], level: u32, entries: &[u16])
-    requires { ⌜ (length (now out) ≡ 512) × (length (now entries) ≤ entriesPerBlock) ⌝ }
+    requires { ⌜ (length (now out) ≡ blockSize) × (length (now entries) ≤ entriesPerBlock) ⌝ }
     ensures { λ _. ⌜ now (out .exit) ≡ encodeBlock (directory level (now (entries .entry))) ⌝ }
 {
-    let mut block = [0u8; 512];
+    let mut block = [0u8; BLOCK_SIZE];
     spell_directory(&mut block, level, entries, entries.len());
     copy_out(out, &block);
 }

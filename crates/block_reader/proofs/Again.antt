@@ -2,17 +2,17 @@
 use Rattle.basics.proofs.Kit.{_≡_, refl, sym, ap, _∙_, false, some, List, [], _∷_, _++_, ℕ, _+_, _≤_, _<_, length, drop, length-drop, arith}
 use Rattle.basics.specs.Basics.{sum}
 use Rattle.basics.proofs.Facts.{by}
+use Rattle.basics.proofs.Elements.{all-drop}
 use Rattle.block_bits.specs.Bits.{bitsIn, field}
 use Rattle.block_bits.proofs.Blocks.{field-lt}
 use Rattle.block_forms.specs.Limits.{pageHeadSize, recordSpace}
 use Rattle.block_forms.specs.Numbers.{same}
-use Rattle.block_forms.specs.Tuple.{Tuple, sizes, AllBytes}
+use Rattle.block_forms.specs.Tuple.{Tuple, sizes, Byte, AllBytes}
 use Rattle.block_forms.specs.Block.{page, encodeBlock, PageFits}
 use Rattle.block_forms.specs.Decode.{pageTuples, pageBytes}
 use Rattle.block_forms.specs.Bytes.{payloadIn, tupleOf, partPage, behind, Appended}
 use Rattle.block_forms.specs.declared.Record.{Record}
 use Rattle.block_forms.proofs.Same.{same-eq}
-use Rattle.block_forms.proofs.Spelled.{bytes-drop}
 use Rattle.block_forms.proofs.ReadTuples.{read-all-fit, read-room}
 use Rattle.block_forms.proofs.Built.{behind-more, part-length, whole-page}
 use Rattle.block_forms.proofs.Laws.{page-sizes}
@@ -61,7 +61,7 @@ module _ {xs copy : List ℕ} {t l n b at i : ℕ} (k : length xs ≡ 512) (a : 
           record {
             table = omega arith;
             level = omega arith;
-            tuples = read-all-fit n (drop pageHeadSize xs) (a .done) (bytes-drop pageHeadSize xs bytes) again-end;
+            tuples = read-all-fit n (drop pageHeadSize xs) (a .done) (all-drop Byte pageHeadSize xs bytes) again-end;
             room = omega (arith, read-room n (drop pageHeadSize xs) (a .done) again-end);
           }
 

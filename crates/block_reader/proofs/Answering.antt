@@ -2,8 +2,8 @@
 use Rattle.basics.proofs.Kit.{_≡_, ap, _∙_, subst, ⊎-elim, true, false, some, none, List, [], _∷_, ℕ, _≤_, _<_, length, take, le-leb, lt-leb, ne-eqb, arith}
 use types.Run.{OneOf}
 use denote.Enum.Declared.{tagOf}
-use Rattle.basics.specs.Basics.{if_then_else_}
 use Rattle.basics.proofs.Facts.{by-option, clash}
+use Rattle.basics.specs.Basics.{if_then_else_}
 use Rattle.block_forms.specs.Limits.{entriesPerBlock}
 use Rattle.block_bits.specs.Bits.{bitsIn, field}
 use Rattle.block_forms.specs.Numbers.{same}

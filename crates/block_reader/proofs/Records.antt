@@ -1,14 +1,14 @@
 -- The record that the cursor finds is the tuple that is read there.
 use Rattle.basics.proofs.Kit.{_≡_, refl, true, false, List, ℕ, _+_, _%_, _≤_, add-zero, add-assoc, length, drop, length-take, length-drop, drop-drop, getD-drop, arith}
-use Rattle.basics.specs.Basics.{if_then_else_}
 use Rattle.basics.proofs.Facts.{by}
+use Rattle.basics.proofs.Elements.{all-drop}
+use Rattle.basics.specs.Basics.{if_then_else_}
 use Rattle.block_forms.specs.Limits.{payloadLimit, recordHead, markValue}
 use Rattle.block_forms.specs.Numbers.{num4}
-use Rattle.block_forms.specs.Tuple.{ownerSize, AllBytes, OwnerFits, Fits}
+use Rattle.block_forms.specs.Tuple.{ownerSize, Byte, AllBytes, OwnerFits, Fits}
 use Rattle.block_forms.specs.Decode.{readOwner, readTuple, recordLength, isRecord}
 use Rattle.block_forms.specs.Bytes.{ownerIs, sizeOf, payloadIn, tupleOf, Appendable}
 use Rattle.block_forms.specs.declared.Record.{Record}
-use Rattle.block_forms.proofs.Spelled.{bytes-drop}
 use Rattle.block_forms.proofs.ReadTuples.{whole-parts, owner-size, owner-same, read-fits}
 use Rattle.block_reader.specs.Answers.{recordAt, nextAt}
 use Rattle.block_reader.specs.declared.Cursor.{Cursor}
@@ -90,7 +90,7 @@ module _ (xs : List ℕ) (at : ℕ) where
   pub found-fits : {r : Record} {c : Cursor} → AllBytes xs → Found-is r c → OwnerFits (ownerIs (r .owner))
   unfolding tupleOf
   found-fits {r} b g =
-      let fit : Fits (tupleOf r (payloadIn xs r)) = rw (g .tuple) (read-fits (drop at xs) (g .is-whole) (bytes-drop at xs b)) in
+      let fit : Fits (tupleOf r (payloadIn xs r)) = rw (g .tuple) (read-fits (drop at xs) (g .is-whole) (all-drop Byte at xs b)) in
       fit .owner
 
   -- it can be appended to a block at the same place

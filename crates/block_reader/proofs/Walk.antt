@@ -1,8 +1,9 @@
 -- The cursor goes through a page: at each of its places it finds the record of the next tuple.
-use Rattle.basics.proofs.Kit.{_≡_, refl, sym, ap, _∙_, some, none, Option, Option·map, List, [], _∷_, _++_, append-assoc, append-nil, ℕ, suc, _+_, _≤_, _<_, zero, _-_, length, take, drop}
+use Rattle.basics.proofs.Kit.{_≡_, refl, sym, ap, _∙_, some, none, Option·map, List, [], _∷_, _++_, append-assoc, append-nil, ℕ, suc, _+_, _≤_, _<_, zero, _-_, length, take, drop}
 use Rattle.basics.proofs.Kit.{length-append, drop-drop, take-at, drop-at, drop-of-length-le, arith}
-use Rattle.basics.specs.Basics.{if_then_else_}
 use Rattle.basics.proofs.Facts.{by-option, never}
+use Rattle.basics.proofs.Lists.{behind-none, behind-two}
+use Rattle.basics.specs.Basics.{if_then_else_}
 use Rattle.block_forms.specs.Limits.{pageHeadSize}
 use Rattle.block_forms.specs.Tuple.{Tuple}
 use Rattle.block_forms.specs.Block.{page, PageBlock, asPage}
@@ -23,14 +24,6 @@ read-count (suc n) xs ts e = let s = split n xs ts e in ap length (s .is) ∙ ap
 
 -- ---- any block
 
-map-same : (o : Option (List Tuple)) → Option·map (λ ts. [] ++ ts) o ≡ o
-map-same none = refl
-map-same (some ts) = refl
-
-map-more : (d : List Tuple) (x : Tuple) (o : Option (List Tuple)) → Option·map (λ ts. d ++ ts) (Option·map (λ ts. x ∷ ts) o) ≡ Option·map (λ ts. (d ++ (x ∷ [])) ++ ts) o
-map-more d x none = refl
-map-more d x (some ts) = ap some (sym (append-assoc d (x ∷ []) ts))
-
 -- i of n tuples are read, those of done, and the cursor is at at
 pub record Passed (xs : List ℕ) (n at i : ℕ) (done : List Tuple) : Type 0 where
   pub turn : i ≤ n
@@ -41,7 +34,7 @@ pub record Passed (xs : List ℕ) (n at i : ℕ) (done : List Tuple) : Type 0 wh
 pub passed-start : (xs : List ℕ) (n : ℕ) → length xs ≡ 512 → Passed xs n pageHeadSize 0 []
 passed-start xs n k =
     let z : n - 0 ≡ n = omega arith in
-    record { turn = omega arith; room = omega arith; count = refl; rest = rw z (sym (map-same (pageTuples n xs))) }
+    record { turn = omega arith; room = omega arith; count = refl; rest = rw z (sym (behind-none (pageTuples n xs))) }
 
 module _ {xs : List ℕ} {n at i : ℕ} {done : List Tuple} (p : Passed xs n at i done) where
   -- a record is missing
@@ -58,7 +51,7 @@ module _ {xs : List ℕ} {n at i : ℕ} {done : List Tuple} (p : Passed xs n at 
       let x = readTuple (drop at xs) in
       let e : n - i ≡ suc (n - (i + 1)) = omega arith in
       let next : pageTuples n xs ≡ Option·map (λ ts. (done ++ (readTuple (drop at xs) ∷ [])) ++ ts) (readTuples (n - (i + 1)) (drop (at + recordLength (drop at xs)) xs)) =
-      p .rest ∙ rw (e, f .is-whole, map-more done x (readTuples (n - (i + 1)) (drop (recordLength (drop at xs)) (drop at xs))), drop-drop (recordLength (drop at xs)) at xs) in
+      p .rest ∙ rw (e, f .is-whole, behind-two done (x ∷ []) (readTuples (n - (i + 1)) (drop (recordLength (drop at xs)) (drop at xs))), drop-drop (recordLength (drop at xs)) at xs) in
       record {
         turn = omega arith;
         room = f .ends;

@@ -4,16 +4,16 @@ use block_forms::PageLayout;
 use block_forms::Record;
 ghost use mathlib.Core.Path.{_≡_};
 ghost use mathlib.Core.Bool.{true};
-ghost use Prim.Native.Nat.{_+_, _<_, _≤_};
+ghost use Prim.Native.Nat.{_+_, _*_, _<_, _≤_};
 ghost use lib.ListN.{length, take};
 ghost use Rattle.block_bits.specs.Bits.{bitsIn, field};
-ghost use Rattle.block_forms.specs.Limits.{pageHeadSize, entriesPerBlock};
+ghost use Rattle.block_forms.specs.Limits.{blockSize, pageHeadSize, entriesPerBlock};
 ghost use Rattle.block_forms.specs.Numbers.{num4, same};
 ghost use Rattle.block_forms.specs.Decode.{readHeader, readEntries, headerIn, pageIn, directoryIn, decodeBlock};
 ghost use Rattle.block_reader.specs.Answers.{nextAt, isPage, reading};
 
 // A record that starts behind this place has no room for its ninth byte.
-const LAST_RECORD: usize = 512 - PageLayout::RECORD_HEAD;
+const LAST_RECORD: usize = block_forms::BLOCK_SIZE - PageLayout::RECORD_HEAD;
 
 // A place in a page's block, before a record.
 pub struct Cursor {
@@ -63,7 +63,7 @@ impl Cursor {
 
     // The record at the cursor, if a whole one is there.
     pub fn next(self, block: &[u8]) -> Next
-        requires { ⌜ length (now block) ≡ 512 ⌝ }
+        requires { ⌜ length (now block) ≡ blockSize ⌝ }
         ensures { λ r. ⌜ r ≡ nextAt (now (block .entry)) (self .at) ⌝ }
     {
         let at = self.at;
@@ -77,7 +77,7 @@ impl Cursor {
         }
         let tentative = flags < block_forms::COMMITTED;
         let end = at + PageLayout::record_size(len, tentative);
-        if 512 < end {
+        if block_forms::BLOCK_SIZE < end {
             return Next::Bad;
         }
         let mut word: u32 = 0;
@@ -98,12 +98,12 @@ impl Cursor {
 
 // Whether the two blocks are the same. All bytes are compared, without a branch, since nearly every block that is read is well formed.
 fn same_block(a: &[u8], b: &[u8]) -> bool
-    requires { ⌜ (length (now a) ≡ 512) × (length (now b) ≡ 512) ⌝ }
+    requires { ⌜ (length (now a) ≡ blockSize) × (length (now b) ≡ blockSize) ⌝ }
     ensures { λ r. ⌜ r ≡ same (now (a .entry)) (now (b .entry)) ⌝ }
 {
     let mut ok = true;
     let mut i: usize = 0;
-    while i < 512 {
+    while i < block_forms::BLOCK_SIZE {
         ok = ok & (a[i] == b[i]);
         i = i + 1;
     }
@@ -111,8 +111,8 @@ fn same_block(a: &[u8], b: &[u8]) -> bool
 }
 
 // The number in at most 32 bits of a block.
-fn get32(block: &[u8; 512], at: usize, width: usize) -> u32
-    requires { ⌜ (at + width ≤ 4096) × (width ≤ 32) ⌝ }
+fn get32(block: &[u8; block_forms::BLOCK_SIZE], at: usize, width: usize) -> u32
+    requires { ⌜ (at + width ≤ 8 * blockSize) × (width ≤ 32) ⌝ }
     ensures { λ r. ⌜ r ≡ field (bitsIn (now (block .entry))) at width ⌝ }
 {
     block_bits::get_bits(block, at, width) as u32
@@ -120,14 +120,14 @@ fn get32(block: &[u8; 512], at: usize, width: usize) -> u32
 
 // The page that a block spells: its head and then its records, one by one, are copied into an empty block, and the two are compared.
 fn read_page(block: &[u8]) -> Reading
-    requires { ⌜ length (now block) ≡ 512 ⌝ }
+    requires { ⌜ length (now block) ≡ blockSize ⌝ }
     ensures { λ r. ⌜ r ≡ reading (pageIn (now (block .entry))) ⌝ }
 {
     let table = block_bits::get_bits(block, 4, 3) as u32;
     let count = block_bits::get_bits(block, 7, 6) as u32;
     let bytes = block_bits::get_bits(block, 13, 9) as u32;
     let level = block_bits::get_bits(block, 22, 32) as u32;
-    let mut copy = [0u8; 512];
+    let mut copy = [0u8; block_forms::BLOCK_SIZE];
     block_forms::begin_page(&mut copy, table, count, bytes, level);
     let mut at: usize = PageLayout::HEAD_SIZE;
     let mut i: u32 = 0;
@@ -156,7 +156,10 @@ fn read_page(block: &[u8]) -> Reading
 }
 
 // The entries of a directory's block, as many as count says.
-pub fn read_entries(block: &[u8; 512], count: usize) -> [u16; block_forms::ENTRIES_PER_BLOCK]
+pub fn read_entries(
+    block: &[u8; block_forms::BLOCK_SIZE],
+    count: usize,
+) -> [u16; block_forms::ENTRIES_PER_BLOCK]
     requires { ⌜ count ≤ entriesPerBlock ⌝ }
     ensures { λ r. ⌜ take count r ≡ readEntries (now (block .entry)) 64 count ⌝ }
 {
@@ -170,7 +173,7 @@ pub fn read_entries(block: &[u8; 512], count: usize) -> [u16; block_forms::ENTRI
 }
 
 // The directory that a block spells: its fields are read and spelled again, and the two blocks are compared.
-fn read_directory(block: &[u8; 512]) -> Reading
+fn read_directory(block: &[u8; block_forms::BLOCK_SIZE]) -> Reading
     ensures { λ r. ⌜ r ≡ reading (directoryIn (now (block .entry))) ⌝ }
 {
     let count = block_bits::get_bits(block, 4, 9) as usize;
@@ -179,7 +182,7 @@ fn read_directory(block: &[u8; 512]) -> Reading
     }
     let level = get32(block, 13, 32);
     let entries = read_entries(block, count);
-    let mut copy = [0u8; 512];
+    let mut copy = [0u8; block_forms::BLOCK_SIZE];
     block_forms::spell_directory(&mut copy, level, &entries, count);
     if same_block(&copy, block) {
         return Reading::IsDirectory {
@@ -191,7 +194,7 @@ fn read_directory(block: &[u8; 512]) -> Reading
 }
 
 // The fields of a header's block.
-fn get_header(block: &[u8; 512]) -> Header
+fn get_header(block: &[u8; block_forms::BLOCK_SIZE]) -> Header
     ensures { λ r. ⌜ r ≡ readHeader (now (block .entry)) ⌝ }
 {
     Header {
@@ -209,11 +212,11 @@ fn get_header(block: &[u8; 512]) -> Header
 }
 
 // The header that a block spells: its fields are read and spelled again, and the two blocks are compared.
-fn read_header(block: &[u8; 512]) -> Reading
+fn read_header(block: &[u8; block_forms::BLOCK_SIZE]) -> Reading
     ensures { λ r. ⌜ r ≡ reading (headerIn (now (block .entry))) ⌝ }
 {
     let h = get_header(block);
-    let mut copy = [0u8; 512];
+    let mut copy = [0u8; block_forms::BLOCK_SIZE];
     block_forms::spell_header(&mut copy, h);
     if same_block(&copy, block) {
         return Reading::IsHeader(h);
@@ -222,7 +225,7 @@ fn read_header(block: &[u8; 512]) -> Reading
 }
 
 // What a block that is known to be a page is: its head is read, and nothing is tested.
-pub fn known_page(block: &[u8; 512]) -> Reading
+pub fn known_page(block: &[u8; block_forms::BLOCK_SIZE]) -> Reading
     requires { ⌜ isPage (decodeBlock (now block)) ≡ true ⌝ }
     ensures { λ r. ⌜ r ≡ reading (decodeBlock (now (block .entry))) ⌝ }
 {
@@ -234,7 +237,7 @@ pub fn known_page(block: &[u8; 512]) -> Reading
 }
 
 // What a block is: by its first four bits a header, a page or a directory, and any other is refused.
-pub fn read_block(block: &[u8; 512]) -> Reading
+pub fn read_block(block: &[u8; block_forms::BLOCK_SIZE]) -> Reading
     ensures { λ r. ⌜ r ≡ reading (decodeBlock (now (block .entry))) ⌝ }
 {
     let kind = get32(block, 0, 4);

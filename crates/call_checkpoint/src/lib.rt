@@ -19,7 +19,7 @@ ghost use Rattle.call_checkpoint.specs.Keeping.{afterStore, RunningIn, R
 // A level, and with it a header's number, is at most this.
 const LAST_LEVEL: u32 = 4294967295;
 
-const BLOCK_SIZE: usize = 512;
+const BLOCK_SIZE: usize = block_forms::BLOCK_SIZE;
 
 // Whether a checkpoint runs: none does at the last level.
 fn is_running(m: &[u8]) -> bool

@@ -1,5 +1,6 @@
 -- Rows behind those that are there, on the last page.
-use Rattle.basics.proofs.Kit.{_≡_, refl, sym, ap, _∙_, subst, true, some, none, Option, List, [], _∷_, _++_, append-assoc, append-nil, map, ℕ, _+_, _≤_, _<_, _-_, add-zero, length, take, set, length-append}
+use Rattle.basics.proofs.Kit.{_≡_, refl, sym, ap, _∙_, subst, true, some, none, Option, List, [], _∷_, _++_, append-assoc, append-nil, map, ℕ, _+_, _≤_, _<_, _-_, add-zero}
+use Rattle.basics.proofs.Kit.{length, take, set, length-append}
 use Rattle.basics.proofs.Kit.{length-map, take-at, take-all, length-take-le, arith}
 use Rattle.basics.specs.Basics.{isSome}
 use Rattle.basics.proofs.Facts.{lie}
@@ -17,7 +18,7 @@ use Rattle.memory_layout.proofs.Laws.{becomes-none, becomes-then}
 use Rattle.memory_rows.specs.Cells.{InOrder}
 use Rattle.memory_pages.specs.Pages.{withCount, entryOf, moreRows, moreLast, behind, RowsBecome}
 use Rattle.memory_pages.proofs.Appending.{last-got, last-set}
-use Rattle.call_recovery.specs.Loading.{tuplesIn, lastMore, Fills}
+use Rattle.call_recovery.specs.Loading.{tuplesIn, lastMore, Fills, RowsFit}
 
 -- the same lists, said otherwise
 pub becomes-as : (m m' : List ℕ) (f g : Flat) → f ≡ g → Becomes m m' f → Becomes m m' g
@@ -118,7 +119,8 @@ pub row-as : {m m' : List ℕ} (h g : Held) → h ≡ g → RowsBecome m m' (beh
 row-as {m} {m'} h g e b = (becomes-as m m' _ _ (λ i. withEntries (withRows (flatOf m) (behind (e i) (flatOf m .rows))) (moreLast (flatOf m .entries))) (b .0), b .1)
 
 -- the first i + 1 tuples
-withoutPending-next : (i : ℕ) (ts : List Tuple) (x : Tuple) → take (i + 1) ts ≡ take i ts ++ x ∷ [] → map withoutPending (take i ts) ++ withoutPending x ∷ [] ≡ map withoutPending (take (i + 1) ts)
+withoutPending-next : (i : ℕ) (ts : List Tuple) (x : Tuple) → take (i + 1) ts ≡ take i ts ++ x ∷ []
+    → map withoutPending (take i ts) ++ withoutPending x ∷ [] ≡ map withoutPending (take (i + 1) ts)
 withoutPending-next i ts x e = sym (ap (map withoutPending) e ∙ map-append withoutPending (take i ts) (x ∷ []))
 
 pub withoutPending-all : (i : ℕ) (ts : List Tuple) → length ts ≤ i → map withoutPending (take i ts) ≡ map withoutPending ts
@@ -131,8 +133,9 @@ fills-turn {m} {m1} {m2} i ts x e a s b = subst (λ (hs : List Held). Fills hs m
 -- where the first i of n tuples are rows, there is room for one more
 pub row-room : (m m1 : List ℕ) (n i : ℕ) (ts : List Tuple) → length ts ≡ n → Fills (map withoutPending (take i ts)) m m1
     → length (flatOf m .rows) + n ≤ flatOf m .head .capacity → i < n
-    → Room m1 × (InOrder m1 × ((1 ≤ length (flatOf m1 .entries)) × (length (flatOf m1 .rows) < flatOf m1 .head .capacity)))
+    → RowsFit 1 m1
 row-room m m1 n i ts l a k h =
     let c : length (map withoutPending (take i ts)) ≡ i = length-map (take i ts) withoutPending ∙ length-take-le i ts (omega arith) in
     let q : flatOf m1 .head .capacity ≡ flatOf m .head .capacity = ap (λ (f : Flat). f .head .capacity) (a .becomes .flat) in
-    (a .becomes .room, (a .order, (fills-page m m1 (map withoutPending (take i ts)) a, omega (arith, fills-count m m1 (map withoutPending (take i ts)) a))))
+    let n = fills-count m m1 (map withoutPending (take i ts)) a in
+    record { room = a .becomes .room; order = a .order; page = fills-page m m1 (map withoutPending (take i ts)) a; rows = omega arith }

@@ -1,7 +1,7 @@
 -- Recovery's answers: by the stage that refused, or with the store recovered.
 use Rattle.basics.proofs.Kit.{_≡_, refl, sym, ap, _∙_, List, map, ℕ, _+_, _*_, _≤_, _<_, length, take, take-at, lt-ltb, le-ltb, arith}
-use Rattle.basics.specs.Basics.{if_then_else_}
 use Rattle.basics.specs.Lists.{over}
+use Rattle.basics.specs.Basics.{if_then_else_}
 use Rattle.block_forms.specs.declared.Header.{Header}
 use Rattle.image.specs.View.{View, view}
 use Rattle.image.specs.Stages.{Stage, refuses, holds, StoredPage}

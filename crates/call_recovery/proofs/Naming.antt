@@ -1,14 +1,15 @@
 -- The blocks that the directory and the header name, one after the other.
-use Rattle.basics.proofs.Kit.{_≡_, refl, sym, ap, _∙_, subst, Bool, true, some, none, Option, List, [], _∷_, _++_, append-assoc, append-nil, map, ℕ, suc, _+_, _≤_, _<_, zero, add-one, ltb, length, take, drop}
+use Rattle.basics.proofs.Kit.{_≡_, refl, sym, ap, _∙_, subst, Bool, true, some, none, Option, List, [], _∷_, _++_, append-assoc, append-nil, map, ℕ, suc, _+_, _≤_, _<_, zero}
+use Rattle.basics.proofs.Kit.{add-one, ltb, length, take, drop}
 use Rattle.basics.proofs.Kit.{getD, length-append, take-append-drop, length-map, take-all, take-suc, lt-ltb, ltb-true, arith}
 use Rattle.basics.specs.Basics.{all, isSome}
 use Rattle.basics.proofs.Facts.{and-true}
+use Rattle.basics.proofs.Lists.{all-get, all-weak}
 use Rattle.basics.proofs.Iterations.{drop-turn}
 use Rattle.block_forms.specs.Block.{PageBlock, asPage}
 use Rattle.block_reader.specs.Answers.{isPage}
 use Rattle.image.specs.View.{View}
 use Rattle.image.specs.Stages.{blockOk, StoredPage}
-use Rattle.image.proofs.Collect.{all-at}
 use Rattle.memory_layout.specs.Flat.{Flat, flatOf, Room, Becomes, withUsed, usedAnd}
 use Rattle.memory_layout.specs.declared.Entry.{Entry}
 use Rattle.memory_layout.proofs.Laws.{becomes-none, becomes-then}
@@ -23,16 +24,13 @@ use Rattle.call_recovery.proofs.Paging.{helds-append, loads-none, loads
 -- a block that may be named is below the image's count
 pub named-below : (n : ℕ) (s : List ℕ) (i : ℕ) → all (blockOk n) s ≡ true → i < length s → getD s i 0 < n
 unfolding blockOk
-named-below n s i e h = ltb-true (getD s i 0) n (and-true (ltb 0 (getD s i 0)) (ltb (getD s i 0) n) (all-at (blockOk n) s i e h) .1)
+named-below n s i e h = ltb-true (getD s i 0) n (and-true (ltb 0 (getD s i 0)) (ltb (getD s i 0) n) (all-get (blockOk n) 0 s i e h) .1)
 
 -- it is so in a longer image too
 pub named-more : (n k : ℕ) (s : List ℕ) → n ≤ k → all (blockOk n) s ≡ true → all (blockOk k) s ≡ true
-unfolding all blockOk
-named-more n k [] h e = refl
-named-more n k (x ∷ s) h e =
-    let a = and-true (blockOk n x) (all (blockOk n) s) e in
-    let b = and-true (ltb 0 x) (ltb x n) (a .0) in
-    rw (b .0, lt-ltb x k (omega (arith, ltb-true x n (b .1))), named-more n k s h (a .1))
+unfolding blockOk
+named-more n k s h e =
+    all-weak (blockOk n) (blockOk k) (λ x t. let b = and-true (ltb 0 x) (ltb x n) t in rw (b .0, lt-ltb x k (omega (arith, ltb-true x n (b .1))))) s e
 
 -- ---- pages
 

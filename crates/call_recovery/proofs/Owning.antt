@@ -1,6 +1,7 @@
 -- Counts by transaction, and the transactions that are opened at their last rows.
-use Rattle.basics.proofs.Kit.{_≡_, refl, sym, ap, _∙_, subst, Bool, true, false, cond, List, [], _∷_, _++_, append-assoc, append-nil, map, ℕ, suc, _+_, _≤_, _<_, zero, add-one, eqb, length}
-use Rattle.basics.proofs.Kit.{take, drop, getD, set, length-append, length-take, take-append-drop, length-set, length-replicate, drop-of-length-le, length-map, replicate, getD-replicate, List·getD-map}
+use Rattle.basics.proofs.Kit.{_≡_, refl, sym, ap, _∙_, subst, Bool, true, false, cond, List, [], _∷_, _++_, append-assoc, append-nil, map, ℕ, suc, _+_, _≤_, _<_, add-one, eqb, length}
+use Rattle.basics.proofs.Kit.{take, drop, getD, set, length-append, length-take, take-append-drop, length-set, length-replicate, drop-of-length-le, length-map, replicate, getD-replicate}
+use Rattle.basics.proofs.Kit.{List·getD-map}
 use Rattle.basics.proofs.Kit.{drop-cons, take-all, take-suc, getD-set-same, getD-set-other, eqb-true, eq-eqb, ne-eqb, eqb-false, ltb-true, ltb-false, arith}
 use Rattle.basics.specs.Basics.{if_then_else_, any, howMany}
 use Rattle.basics.proofs.Facts.{by}
@@ -9,7 +10,7 @@ use Rattle.image_rows.specs.Rows.{Row, isBy, isOwn, addOwner, transactions}
 use Rattle.image_rows.proofs.Owners.{in-transactions}
 use Rattle.model.specs.State.{Held, Active}
 use Rattle.model.specs.Recover.{reopened}
-use Rattle.basics.proofs.Elements.{many-append, many-length, any-many}
+use Rattle.basics.proofs.Elements.{all-at, many-append, many-length, any-many}
 use Rattle.memory_layout.specs.Flat.{Flat, flatOf, noRow, rowIn, Room, Becomes, withOpens}
 use Rattle.memory_layout.specs.Views.{countsOf}
 use Rattle.memory_layout.specs.declared.Counts as layout
@@ -18,11 +19,6 @@ use Rattle.call_recovery.specs.Reopening.{AllOwners, ownRow, ownRows, Si
 use Rattle.call_recovery.proofs.Adding.{becomes-as}
 
 -- ---- counts
-
-owners-at : (hs : List Held) (i : ℕ) → AllOwners hs → i < length hs → OwnerFits (getD hs i noRow .tuple .owner)
-owners-at [] i a h = absurd (omega arith)
-owners-at (x ∷ hs) zero a h = a .0
-owners-at (x ∷ hs) (suc i) a h = owners-at hs i (a .1) (omega arith)
 
 pub counts-sized : {rs : List Row} {xs : List ℕ} → Counts rs xs → length rs ≤ 1024 → Sized xs
 counts-sized {rs} {xs} k h = record { size = k .size; most = λ t l. omega (arith, k .each t l, many-length (isOwn t) rs) }
@@ -98,7 +94,7 @@ module _ (f : Flat) where
 
     -- the owner of row i is in its ranges
     pub owner-fits : {o : Owner} → AllOwners (f .rows) → o ≡ rowIn f i .tuple .owner → OwnerFits o
-    owner-fits a e = subst OwnerFits (sym e) (owners-at (f .rows) i a h)
+    owner-fits a e = subst OwnerFits (sym e) (all-at (λ (x : Held). OwnerFits (x .tuple .owner)) noRow (f .rows) i h a)
 
     -- one row more is counted
     pub counts-turn : {o : Owner} {xs ys : List ℕ} → AllOwners (f .rows) → o ≡ rowIn f i .tuple .owner → Counts (take i (ownRows f)) xs → ys ≡ noted o xs

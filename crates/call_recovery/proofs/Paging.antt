@@ -1,9 +1,8 @@
 -- Pages, one behind the other: what a block that was read says, and what it comes to in the memory.
-use Rattle.basics.proofs.Kit.{_≡_, refl, sym, ap, _∙_, subst, Bool, true, Option, List, [], _∷_, _++_, append-assoc, append-nil, map, ℕ, suc, _+_, _≤_, _<_, zero, zero-add, leb, length}
+use Rattle.basics.proofs.Kit.{_≡_, refl, sym, ap, _∙_, subst, true, Option, List, [], _∷_, _++_, append-assoc, append-nil, map, ℕ, _+_, _≤_, _<_, zero-add, leb, length}
 use Rattle.basics.proofs.Kit.{getD, length-append, length-map, leb-true, arith}
-use Rattle.basics.specs.Basics.{all, isSome}
-use Rattle.basics.proofs.Lists.{map-append}
-use Rattle.basics.proofs.Facts.{and-true}
+use Rattle.basics.specs.Basics.{isSome}
+use Rattle.basics.proofs.Lists.{map-append, all-get}
 use Rattle.block_forms.specs.Tuple.{Tuple}
 use Rattle.block_forms.specs.Block.{Block, PageBlock, asPage}
 use Rattle.block_forms.specs.Decode.{decodeBlock}
@@ -20,7 +19,7 @@ use Rattle.memory_layout.specs.declared.Entry.{Entry}
 use Rattle.memory_layout.proofs.Laws.{becomes-none, becomes-then}
 use Rattle.memory_rows.specs.Cells.{InOrder}
 use Rattle.memory_pages.specs.Pages.{MayAppend, clean, behind, EntriesBecome}
-use Rattle.call_recovery.specs.Loading.{pageAt, tuplesIn, heldsOf, entryFor, lastMore, withPages, TablesRise, Fills, Loads, RoomFor}
+use Rattle.call_recovery.specs.Loading.{pageAt, tuplesIn, heldsOf, entryFor, lastMore, withPages, TablesRise, Fills, Loads, RoomFor, RowsFit}
 use Rattle.call_recovery.proofs.Adding.{becomes-as, last-more}
 
 -- ---- a block that was read
@@ -44,12 +43,6 @@ seen-here img bs e q = ap decodeBlock q
 
 -- ---- room
 
-all-entries : (f : Entry → Bool) (es : List Entry) (j : ℕ) → all f es ≡ true → j < length es → f (getD es j noEntry) ≡ true
-unfolding all
-all-entries f [] j e h = absurd (omega arith)
-all-entries f (x ∷ es) zero e h = and-true (f x) (all f es) e .0
-all-entries f (x ∷ es) (suc j) e h = all-entries f es j (and-true (f x) (all f es) e .1) (omega arith)
-
 -- one page may stand behind the others, and its n rows behind the others
 pub record OneFits (e t n : ℕ) (f : Flat) : Type 0 where
   pub may : MayAppend f t e
@@ -64,7 +57,7 @@ one-fits e t n o f he ht hc h r =
     record {
       may = record {
         table = ht;
-        below = λ j l. leb-true (getD (f .entries) j noEntry .table) t (all-entries (λ x. leb (x .table) t) (f .entries) j (q .tables .0) l);
+        below = λ j l. leb-true (getD (f .entries) j noEntry .table) t (all-get (λ x. leb (x .table) t) noEntry (f .entries) j (q .tables .0) l);
         space = omega (arith, q .entries);
         block = he;
       };
@@ -73,13 +66,13 @@ one-fits e t n o f he ht hc h r =
 
 -- behind the new page, which has no row
 pub page-room : (m m1 : List ℕ) (e t n : ℕ) → EntriesBecome m m1 (behind (clean t e 0)) × InOrder m1 → OneFits e t n (flatOf m)
-    → Room m1 × (InOrder m1 × ((1 ≤ length (flatOf m1 .entries)) × (length (flatOf m1 .rows) + n ≤ flatOf m1 .head .capacity)))
+    → RowsFit n m1
 page-room m m1 e t n a o =
     let l : length (flatOf m1 .entries) ≡ length (flatOf m .entries) + 1 =
     ap (λ (f : Flat). length (f .entries)) (a .0 .flat) ∙ length-append (flatOf m .entries) (clean t e 0 ∷ []) in
     let r : length (flatOf m1 .rows) ≡ length (flatOf m .rows) = ap (λ (f : Flat). length (f .rows)) (a .0 .flat) in
     let c : flatOf m1 .head .capacity ≡ flatOf m .head .capacity = ap (λ (f : Flat). f .head .capacity) (a .0 .flat) in
-    (a .0 .room, (a .1, (omega arith, omega (arith, o .rows))))
+    record { room = a .0 .room; order = a .1; page = omega arith; rows = omega (arith, o .rows) }
 
 -- ---- pages loaded
 

@@ -1,7 +1,8 @@
 -- The tables of the pages do not fall: rows rise by table, and every page has a row.
-use Rattle.basics.proofs.Kit.{_≡_, refl, Bool, true, _&&_, not, List, [], _∷_, _++_, ℕ, _≤_, leb, eqb, ltb, length, le-leb, leb-true, eqb-true, ltb-true, arith}
+use Rattle.basics.proofs.Kit.{_≡_, refl, _∙_, Bool, true, _&&_, not, List, [], _∷_, _++_, ℕ, _≤_, leb, eqb, ltb, length, le-leb, leb-true, eqb-true, ltb-true, arith}
 use Rattle.basics.specs.Basics.{if_then_else_, all, paired}
 use Rattle.basics.proofs.Facts.{by, AllOf, and-true}
+use Rattle.basics.proofs.Lists.{all-weak, all-join}
 use Rattle.block_forms.specs.Tuple.{Tuple}
 use Rattle.image_rows.specs.Rows.{Row, rowsOf, isAt, isLower, follows}
 use Rattle.image.specs.Stages.{StoredPage, rowsOfPages}
@@ -74,28 +75,17 @@ all-rise (p ∷ ps) a h =
 
 -- ---- entries
 
-all-up : (u t : ℕ) → u ≤ t → (es : List Entry) → all (λ (e : Entry). leb (e .table) u) es ≡ true → all (λ (e : Entry). leb (e .table) t) es ≡ true
-unfolding all
-all-up u t h [] a = refl
-all-up u t h (e ∷ es) a =
-    let b = and-true (leb (e .table) u) (all (λ (x : Entry). leb (x .table) u) es) a in
-    rw (le-leb (e .table) t (omega (arith, leb-true (e .table) u (b .0))), all-up u t h es (b .1))
-
-all-behind : (f : Entry → Bool) (es : List Entry) (x : Entry) → all f es ≡ true → f x ≡ true → all f (es ++ x ∷ []) ≡ true
-unfolding all
-all-behind f [] x a h = rw h
-all-behind f (e ∷ es) x a h = let b = and-true (f e) (all f es) a in rw (b .0, all-behind f es x (b .1) h)
-
 entry-table : (p : StoredPage) → leb (entryFor p .table) (p .table) ≡ true
 unfolding entryFor
 entry-table p = le-leb (p .table) (p .table) (omega arith)
 
 tables-from : (u : ℕ) (es : List Entry) (ps : List StoredPage) → all (λ (e : Entry). leb (e .table) u) es ≡ true → RisesFrom u ps → TablesRise es ps
-unfolding TablesRise
+unfolding TablesRise all
 tables-from u es [] a r = tt
 tables-from u es (p ∷ ps) a r =
-    let b = all-up u (p .table) (r .0) es a in
-    (b, tables-from (p .table) (es ++ entryFor p ∷ []) ps (all-behind (λ (e : Entry). leb (e .table) (p .table)) es (entryFor p) b (entry-table p)) (r .1))
+    let f : Entry → Bool = λ e. leb (e .table) (p .table) in
+    let b = all-weak (λ (e : Entry). leb (e .table) u) f (λ e h. le-leb (e .table) (p .table) (omega (arith, r .0, leb-true (e .table) u h))) es a in
+    (b, tables-from (p .table) (es ++ entryFor p ∷ []) ps (all-join f es (entryFor p ∷ []) ∙ rw (b, entry-table p)) (r .1))
 
 pub tables-rise : (ps : List StoredPage) → AllOf PageOk ps → paired follows (rowsOfPages ps) ≡ true → TablesRise [] ps
 unfolding all

@@ -3,7 +3,8 @@ use Rattle.basics.proofs.Kit.{_≡_, refl, sym, ap, _∙_, true, false, List, [
 use Rattle.basics.specs.Basics.{if_then_else_, all, howMany, isIn}
 use Rattle.basics.proofs.Facts.{AllOf}
 use Rattle.basics.proofs.Lists.{map-append}
-use Rattle.block_forms.specs.Tuple.{Tuple, AllFit}
+use Rattle.basics.proofs.Elements.{all-append, all-map, all-mapped}
+use Rattle.block_forms.specs.Tuple.{Tuple, OwnerFits, Fits}
 use Rattle.block_forms.specs.declared.Header.{Header}
 use Rattle.image_rows.specs.Rows.{Row, rowsOf, isOwn, transactions}
 use Rattle.image_rows.proofs.Kept.{count-kept, transactions-kept}
@@ -63,19 +64,12 @@ rows-there (p ∷ ps) a = rw (le-leb 1 (entryFor p .count) (omega (arith, entry-
 
 -- ---- open transactions
 
-owners-withoutPending : (ts : List Tuple) → AllFit ts → AllOwners (map withoutPending ts)
-unfolding withoutPending
-owners-withoutPending [] a = tt
-owners-withoutPending (x ∷ ts) a = (a .0 .owner, owners-withoutPending ts (a .1))
-
-owners-append : (hs gs : List Held) → AllOwners hs → AllOwners gs → AllOwners (hs ++ gs)
-owners-append [] gs a b = b
-owners-append (h ∷ hs) gs a b = (a .0, owners-append hs gs (a .1) b)
-
 pub owners-there : (ps : List StoredPage) → AllOf PageOk ps → AllOwners (heldsOf ps)
-unfolding heldsOf
+unfolding heldsOf withoutPending
 owners-there [] a = tt
-owners-there (p ∷ ps) a = owners-append (map withoutPending (p .tuples)) (heldsOf ps) (owners-withoutPending (p .tuples) (a .0 .tuples)) (owners-there ps (a .1))
+owners-there (p ∷ ps) a =
+    let own : Held → Type 0 = λ h. OwnerFits (h .tuple .owner) in
+    all-append own (map withoutPending (p .tuples)) (heldsOf ps) (all-mapped own withoutPending (p .tuples) (all-map Fits _ (λ x f. f .owner) (p .tuples) (a .0 .tuples))) (owners-there ps (a .1))
 
 -- a row without its table
 abbrev plain : Row → Row

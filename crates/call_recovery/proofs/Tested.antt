@@ -1,5 +1,5 @@
 -- What recovery's tests showed, where they passed.
-use Rattle.basics.proofs.Kit.{_≡_, refl, sym, ap, _∙_, true, some, Option, List, [], _∷_, _++_, map, ℕ, _≤_, _<_, ltb, length, length-take, leb-true, ltb-true, arith}
+use Rattle.basics.proofs.Kit.{_≡_, sym, ap, _∙_, true, some, Option, List, [], _∷_, _++_, map, ℕ, _≤_, _<_, ltb, length, length-take, leb-true, ltb-true, arith}
 use Rattle.basics.specs.Basics.{if_then_else_, all, every, paired}
 use Rattle.basics.proofs.Facts.{by, AllOf, and-true}
 use Rattle.basics.proofs.Elements.{some-eq, every-all}

@@ -1,5 +1,5 @@
 -- What recovery puts into the memory: rows and page entries of the pages, and blocks in use.
-use Prim.Native.Nat.{ℕ, _+_, _-_, _≤_}
+use Prim.Native.Nat.{ℕ, _+_, _*_, _-_, _≤_, _<_}
 use mathlib.Core.Path.{_≡_}
 use mathlib.Core.Bool.{Bool, true, _||_}
 use mathlib.Core.Option.{Option, none, some}
@@ -7,14 +7,18 @@ use mathlib.Core.List.{List, [], _∷_, _++_, map}
 use lib.ListN.{length, take}
 use lib.Dec.{leb}
 use Rattle.basics.specs.Basics.{all, isIn}
-use Rattle.block_forms.specs.Tuple.{Tuple}
+use Rattle.block_forms.specs.Limits.{payloadLimit, blockSize, blockLimit}
+use Rattle.block_forms.specs.Tuple.{Tuple, OwnerFits}
 use Rattle.block_forms.specs.Block.{PageBlock, asPage}
+use Rattle.block_forms.specs.Decode.{decodeBlock}
+use Rattle.block_forms.specs.Bytes.{ownerIs}
 use Rattle.block_forms.specs.declared.Record.{Record}
-use Rattle.image.specs.View.{View}
-use Rattle.image.specs.Stages.{StoredPage, storedPage}
+use Rattle.block_reader.specs.Answers.{isPage}
+use Rattle.image.specs.View.{View, view, blockCount}
+use Rattle.image.specs.Stages.{StoredPage, storedPage, blockOk}
 use Rattle.model.specs.State.{Held}
 use Rattle.model.specs.Rules.{withoutPending}
-use Rattle.memory_layout.specs.Flat.{Flat, flatOf, Becomes, withRows, withEntries}
+use Rattle.memory_layout.specs.Flat.{Flat, flatOf, Room, Becomes, withRows, withEntries}
 use Rattle.memory_layout.specs.declared.Entry.{Entry}
 use Rattle.memory_rows.specs.Cells.{InOrder}
 use Rattle.memory_rows.specs.declared.Pending.the-variants.{Nothing}
@@ -91,3 +95,42 @@ pub record RoomFor (ps : List StoredPage) (f : Flat) : Type 0 where
   pub rows : length (f .rows) + length (heldsOf ps) ≤ f .head .capacity
   pub entries : length (f .entries) + length ps ≤ f .head .capacity
   pub tables : TablesRise (f .entries) ps
+
+-- ---- what they ask
+
+-- a record that stands in the bytes xs may become a row
+pub record Loadable (r : Record) (xs : List ℕ) : Type 0 where
+  pub limit : r .len ≤ payloadLimit
+  pub inside : r .start + r .len ≤ length xs
+  pub owner : OwnerFits (ownerIs (r .owner))
+
+-- n rows may stand behind the others, on the last page
+pub record RowsFit (n : ℕ) (m : List ℕ) : Type 0 where
+  pub room : Room m
+  pub order : InOrder m
+  pub page : 1 ≤ length (flatOf m .entries)
+  pub rows : length (flatOf m .rows) + n ≤ flatOf m .head .capacity
+
+-- the bytes of a page of n tuples
+pub record PageBytes (n : ℕ) (xs : List ℕ) : Type 0 where
+  pub size : length xs ≡ blockSize
+  pub page : isPage (decodeBlock xs) ≡ true
+  pub count : length (tuplesIn (asPage (decodeBlock xs))) ≡ n
+
+-- block e of an image is a page
+pub record PageIn (img : List ℕ) (e : ℕ) : Type 0 where
+  pub inside : blockSize * e + blockSize ≤ length img
+  pub low : e < blockLimit
+  pub page : isPage (view img e) ≡ true
+
+-- every block of es is a page of the image
+pub record PagesIn (img es : List ℕ) : Type 0 where
+  pub named : all (blockOk (blockCount img)) es ≡ true
+  pub few : blockCount img ≤ blockLimit
+  pub pages : blocksIn (pagesAt (view img) es) ≡ es
+
+-- the pages ps may stand behind those that are there
+pub record PagesFit (ps : List StoredPage) (m : List ℕ) : Type 0 where
+  pub room : Room m
+  pub order : InOrder m
+  pub fit : RoomFor ps (flatOf m)

@@ -14,14 +14,13 @@ ghost use mathlib.Core.List.{[], _++_, map};
 ghost use Prim.Native.Nat.{_+_, _*_, _≤_, _<_};
 ghost use lib.ListN.{length};
 ghost use Rattle.basics.specs.Basics.{all};
-ghost use Rattle.block_forms.specs.Limits.{payloadLimit};
+ghost use Rattle.block_forms.specs.Limits.{blockLimit};
 ghost use Rattle.block_forms.specs.Tuple.{OwnerFits};
 ghost use Rattle.block_forms.specs.Block.{asPage};
 ghost use Rattle.block_forms.specs.Decode.{decodeBlock};
 ghost use Rattle.block_forms.specs.Bytes.{tupleOf, payloadIn, ownerIs};
-ghost use Rattle.block_reader.specs.Answers.{isPage};
 ghost use Rattle.image_rows.specs.Rows.{transactions};
-ghost use Rattle.image.specs.View.{view, blockCount};
+ghost use Rattle.image.specs.View.{view};
 ghost use Rattle.image.specs.Stages.{holds, blockOk};
 ghost use Rattle.image.specs.Whole.{headerStage, pagesStage};
 ghost use Rattle.model.specs.Rules.{withoutPending};
@@ -31,8 +30,8 @@ ghost use Rattle.memory_layout.specs.Store.{HoldsNow};
 ghost use Rattle.memory_rows.specs.Cells.{InOrder};
 ghost use Rattle.memory_pages.specs.Pages.{RowsBecome, behind, moreLast};
 ghost use Rattle.call_contracts.specs.Shape.{Recovered};
-ghost use Rattle.call_recovery.specs.Loading.{pageAt, pagesAt, tuplesIn, blocksIn, usedBy, rowFor, Fills, Loads, RoomFor};
-ghost use Rattle.call_recovery.specs.Reopening.{AllOwners, ownRows, Counts, Sized, noted, openedBy};
+ghost use Rattle.call_recovery.specs.Loading.{pageAt, pagesAt, tuplesIn, blocksIn, usedBy, rowFor, Fills, Loads, Loadable, RowsFit, PageBytes, PageIn, PagesIn, PagesFit};
+ghost use Rattle.call_recovery.specs.Reopening.{AllOwners, ownRows, Counts, Sized, noted, openedBy, MayOpen, MayOpenOne};
 
 // How many transactions there may be.
 const TRANSACTIONS: usize = 4096;
@@ -62,8 +61,7 @@ fn row_of(r: Record) -> Row
 
 // The row of a record that stands in a block, behind all others, on the last page.
 fn load_row(block: &[u8], r: Record, m: &mut [u8])
-    requires { ⌜ (r .len ≤ payloadLimit) × ((r .start + r .len ≤ length (now block)) × OwnerFits (ownerIs (r .owner))) ⌝ }
-    requires { ⌜ Room (now m) × (InOrder (now m) × ((1 ≤ length (flatOf (now m) .entries)) × (length (flatOf (now m) .rows) < flatOf (now m) .head .capacity))) ⌝ }
+    requires { ⌜ Loadable r (now block) × RowsFit 1 (now m) ⌝ }
     ensures { λ _. ⌜ RowsBecome (now (m .entry)) (now (m .exit)) (behind (withoutPending (tupleOf r (payloadIn (now (block .entry)) r)))) moreLast × InOrder (now (m .exit)) ⌝ }
 {
     let from = r.start;
@@ -74,8 +72,7 @@ fn load_row(block: &[u8], r: Record, m: &mut [u8])
 
 // The rows of a page's tuples, behind those that are there, on the last page.
 fn load_rows(block: &[u8], count: u32, m: &mut [u8])
-    requires { ⌜ (length (now block) ≡ 512) × ((isPage (decodeBlock (now block)) ≡ true) × (length (tuplesIn (asPage (decodeBlock (now block)))) ≡ count)) ⌝ }
-    requires { ⌜ Room (now m) × (InOrder (now m) × ((1 ≤ length (flatOf (now m) .entries)) × (length (flatOf (now m) .rows) + count ≤ flatOf (now m) .head .capacity))) ⌝ }
+    requires { ⌜ PageBytes count (now block) × RowsFit count (now m) ⌝ }
     ensures { λ _. ⌜ Fills (map withoutPending (tuplesIn (asPage (decodeBlock (now (block .entry)))))) (now (m .entry)) (now (m .exit)) ⌝ }
 {
     let mut at: usize = block_forms::PageLayout::HEAD_SIZE;
@@ -98,8 +95,7 @@ fn load_rows(block: &[u8], count: u32, m: &mut [u8])
 
 // The page in block e, behind those that are there.
 fn load_page(image: &[u8], e: usize, m: &mut [u8])
-    requires { ⌜ (512 * e + 512 ≤ length (now image)) × ((e < 4096) × (isPage (view (now image) e) ≡ true)) ⌝ }
-    requires { ⌜ Room (now m) × (InOrder (now m) × RoomFor (pageAt e (asPage (view (now image) e))) (flatOf (now m))) ⌝ }
+    requires { ⌜ PageIn (now image) e × PagesFit (pageAt e (asPage (view (now image) e))) (now m) ⌝ }
     ensures { λ _. ⌜ Loads (pageAt e (asPage (view (now (image .entry)) e))) (now (m .entry)) (now (m .exit)) ⌝ }
 {
     let block = image::block_at(image, e);
@@ -120,8 +116,7 @@ fn load_page(image: &[u8], e: usize, m: &mut [u8])
 
 // The pages in the blocks that the entries name, in their order.
 fn load_pages(image: &[u8], entries: &[u32], m: &mut [u8])
-    requires { ⌜ (all (blockOk (blockCount (now image))) (now entries) ≡ true) × ((blockCount (now image) ≤ 4096) × (blocksIn (pagesAt (view (now image)) (now entries)) ≡ now entries)) ⌝ }
-    requires { ⌜ Room (now m) × (InOrder (now m) × RoomFor (pagesAt (view (now image)) (now entries)) (flatOf (now m))) ⌝ }
+    requires { ⌜ PagesIn (now image) (now entries) × PagesFit (pagesAt (view (now image)) (now entries)) (now m) ⌝ }
     ensures { λ _. ⌜ Loads (pagesAt (view (now (image .entry))) (now (entries .entry))) (now (m .entry)) (now (m .exit)) ⌝ }
 {
     let mut i: usize = 0;
@@ -133,7 +128,7 @@ fn load_pages(image: &[u8], entries: &[u32], m: &mut [u8])
 
 // These blocks are in use too.
 fn mark_blocks(bs: &[u32], m: &mut [u8])
-    requires { ⌜ (all (blockOk 4096) (now bs) ≡ true) × Room (now m) ⌝ }
+    requires { ⌜ (all (blockOk blockLimit) (now bs) ≡ true) × Room (now m) ⌝ }
     ensures { λ _. ⌜ Becomes (now (m .entry)) (now (m .exit)) (withUsed (flatOf (now (m .entry))) (usedBy (now (bs .entry)) (flatOf (now (m .entry)) .used))) ⌝ }
 {
     let mut i: usize = 0;
@@ -164,7 +159,8 @@ fn note(counts: &mut [u32], o: Owner)
 
 // How many tuples each transaction has.
 fn count_rows(m: &[u8], counts: &mut [u32])
-    requires { ⌜ Room (now m) × (AllOwners (flatOf (now m) .rows) × Counts [] (now counts)) ⌝ }
+    requires { ⌜ Room (now m) × AllOwners (flatOf (now m) .rows) ⌝ }
+    requires { ⌜ Counts [] (now counts) ⌝ }
     ensures { λ _. ⌜ Counts (ownRows (flatOf (now (m .entry)))) (now (counts .exit)) ⌝ }
 {
     let n = wide(memory_layout::get_counts(m).rows);
@@ -177,7 +173,7 @@ fn count_rows(m: &[u8], counts: &mut [u32])
 
 // Where all tuples of the owner's transaction are passed, it is open again.
 fn reopen_last(m: &mut [u8], o: Owner, counts: &[u32], passed: &[u32])
-    requires { ⌜ Room (now m) × ((Sized (now counts) × Sized (now passed)) × (OwnerFits (ownerIs o) × (length (flatOf (now m) .opens) + length (openedBy (ownerIs o) (now counts) (now passed)) ≤ 64))) ⌝ }
+    requires { ⌜ MayOpenOne (now m) (ownerIs o) (now counts) (now passed) ⌝ }
     ensures { λ _. ⌜ Becomes (now (m .entry)) (now (m .exit)) (withOpens (flatOf (now (m .entry))) (flatOf (now (m .entry)) .opens ++ openedBy (ownerIs o) (now (counts .entry)) (now (passed .entry)))) ⌝ }
 {
     match o {
@@ -201,8 +197,8 @@ fn reopen_last(m: &mut [u8], o: Owner, counts: &[u32], passed: &[u32])
 
 // The transactions of all rows, each once, in the order of their last rows.
 fn reopen_rows(m: &mut [u8], counts: &[u32], passed: &mut [u32])
-    requires { ⌜ Room (now m) × (AllOwners (flatOf (now m) .rows) × (Counts (ownRows (flatOf (now m))) (now counts) × Counts [] (now passed))) ⌝ }
-    requires { ⌜ length (flatOf (now m) .opens) + length (transactions (ownRows (flatOf (now m)))) ≤ 64 ⌝ }
+    requires { ⌜ MayOpen (now m) ⌝ }
+    requires { ⌜ Counts (ownRows (flatOf (now m))) (now counts) × Counts [] (now passed) ⌝ }
     ensures { λ _. ⌜ Becomes (now (m .entry)) (now (m .exit)) (withOpens (flatOf (now (m .entry))) (flatOf (now (m .entry)) .opens ++ map (reopened (ownRows (flatOf (now (m .entry))))) (transactions (ownRows (flatOf (now (m .entry))))))) ⌝ }
 {
     let n = wide(memory_layout::get_counts(m).rows);
@@ -217,7 +213,7 @@ fn reopen_rows(m: &mut [u8], counts: &[u32], passed: &mut [u32])
 
 // The same, with room for the counts.
 fn reopen(m: &mut [u8])
-    requires { ⌜ Room (now m) × (AllOwners (flatOf (now m) .rows) × (length (flatOf (now m) .opens) + length (transactions (ownRows (flatOf (now m)))) ≤ 64)) ⌝ }
+    requires { ⌜ MayOpen (now m) ⌝ }
     ensures { λ _. ⌜ Becomes (now (m .entry)) (now (m .exit)) (withOpens (flatOf (now (m .entry))) (flatOf (now (m .entry)) .opens ++ map (reopened (ownRows (flatOf (now (m .entry))))) (transactions (ownRows (flatOf (now (m .entry))))))) ⌝ }
 {
     let mut counts = [0u32; TRANSACTIONS];

@@ -26,7 +26,7 @@ ghost use Rattle.call_contracts.specs.Shape.{Answers, Replies, Lists, Made};
 ghost use Rattle.call_transactions.specs.Refusals.{refusalIn, makeRefusal};
 ghost use Rattle.call_transactions.specs.Calls.{ListInto, WriterAt, NextRow, afterCount, AcceptAt, endCall};
 
-const BLOCK_SIZE: usize = 512;
+const BLOCK_SIZE: usize = block_forms::BLOCK_SIZE;
 
 // The most blocks and the largest capacity, in the types of what is tested.
 const BLOCK_LIMIT: usize = memory_layout::BLOCK_LIMIT as usize;

@@ -1,11 +1,11 @@
 -- The pages of an image one after another, their rows in columns; and what the tests make of them.
 use Rattle.basics.proofs.Kit.{_≡_, refl, sym, ap, _∙_, Bool, true, false, _&&_, some, none, Option, Option·map, List, [], _∷_, _++_, append-assoc, append-nil, map, ℕ, suc, _+_, _*_, _≤_}
-use Rattle.basics.proofs.Kit.{_<_, zero, _/_, _-_, leb, ltb, length, take, drop, getD, length-append, length-take, length-drop, drop-of-length-le, le-leb, leb-true, lt-leb, leb-false}
+use Rattle.basics.proofs.Kit.{_<_, _/_, _-_, leb, ltb, length, take, drop, getD, length-append, length-take, length-drop, drop-of-length-le, le-leb, leb-true, lt-leb, leb-false}
 use Rattle.basics.proofs.Kit.{ltb-true, arith}
 use Rattle.basics.specs.Basics.{if_then_else_, all, every}
 use Rattle.basics.proofs.Facts.{by, by-option, never, and-true, clash}
 use Rattle.basics.proofs.Elements.{some-eq}
-use Rattle.basics.proofs.Lists.{map-append}
+use Rattle.basics.proofs.Lists.{map-append, all-get, all-join, behind-none, behind-two}
 use Rattle.basics.specs.Lists.{over}
 use Rattle.block_forms.specs.Tuple.{Tuple}
 use Rattle.block_forms.specs.Block.{PageBlock, asPage}
@@ -14,8 +14,7 @@ use Rattle.block_forms.specs.declared.Header.{Header}
 use Rattle.block_reader.proofs.Walk.{walk-start}
 use Rattle.image_rows.specs.Rows.{Row, rowsOf, markOk, rowsOk}
 use Rattle.image_rows.specs.Columns.{bare, rowsIn, columnsOk}
-use Rattle.basics.specs.Lists.{tab}
-use Rattle.basics.proofs.Ands.{and-yes, and-no, and-assoc}
+use Rattle.basics.proofs.Ands.{and-yes, and-no}
 use Rattle.basics.proofs.Iterations.{drop-turn, drop-end}
 use Rattle.image_rows.proofs.Bare.{columns-bare, rows-tests}
 use Rattle.image_page.specs.Page.{goodPage}
@@ -27,17 +26,6 @@ use Rattle.image.specs.Answers.{accepts}
 
 -- ---- lists
 
-all-append : {A : Type 0} (f : A → Bool) (xs ys : List A) → all f (xs ++ ys) ≡ (all f xs && all f ys)
-unfolding all
-all-append f [] ys = refl
-all-append f (x ∷ xs) ys = rw (all-append f xs ys, and-assoc)
-
-pub all-at : (f : ℕ → Bool) (s : List ℕ) (i : ℕ) → all f s ≡ true → i < length s → f (getD s i 0) ≡ true
-unfolding all
-all-at f [] i e h = absurd (omega arith)
-all-at f (x ∷ s) zero e h = and-true (f x) (all f s) e .0
-all-at f (x ∷ s) (suc i) e h = all-at f s i (and-true (f x) (all f s) e .1) (omega arith)
-
 rows-pages : (ps qs : List StoredPage) → rowsOfPages (ps ++ qs) ≡ rowsOfPages ps ++ rowsOfPages qs
 unfolding rowsOfPages
 rows-pages [] qs = refl
@@ -47,7 +35,7 @@ rows-pages (p ∷ ps) qs = rw (rows-pages ps qs) (sym (append-assoc (rowsOf (p .
 pub within : (xs es : List ℕ) (i : ℕ) → all (blockOk (blockCount xs)) es ≡ true → i < length es → 512 * getD es i 0 + 512 ≤ length xs
 unfolding blockOk blockCount
 within xs es i e h =
-    let b = and-true (ltb 0 (getD es i 0)) (ltb (getD es i 0) (length xs / 512)) (all-at (blockOk (blockCount xs)) es i e h) in
+    let b = and-true (ltb 0 (getD es i 0)) (ltb (getD es i 0) (length xs / 512)) (all-get (blockOk (blockCount xs)) 0 es i e h) in
     let l = ltb-true (getD es i 0) (length xs / 512) (b .1) in omega arith
 
 -- ---- a good page
@@ -141,7 +129,7 @@ module _ (l room cap next e : ℕ) (done : List StoredPage) (full : length (rows
       (λ a. by (all markOk own)
       (λ b. let z : Good (p .table) (length (p .tuples)) ≡ Bad = rw (right, a, b) at bad in no-good (sym z))
       (λ b. mark-wrong cap next (rowsOfPages ps)
-      (ap (all markOk) rs ∙ rw (all-append markOk (rowsOfPages done) (own ++ rowsOfPages qs), all-append markOk own (rowsOfPages qs), b, and-no))))
+      (ap (all markOk) rs ∙ rw (all-join markOk (rowsOfPages done) (own ++ rowsOfPages qs), all-join markOk own (rowsOfPages qs), b, and-no))))
       (λ a.
       let m = leb-false (length (p .tuples)) room a in
       let n = ap length rs ∙ length-append (rowsOfPages done) (own ++ rowsOfPages qs) in
@@ -177,19 +165,10 @@ module _ (v : View) (h : Header) (es : List ℕ) where
     pub marks : all markOk (rowsOfPages done) ≡ true
     pub rest : readPages v (h .level) es ≡ Option·map (λ ps. done ++ ps) (readPages v (h .level) (drop i es))
 
-  map-same : (o : Option (List StoredPage)) → o ≡ Option·map (λ ps. [] ++ ps) o
-  map-same none = refl
-  map-same (some ps) = refl
-
   pub collecting-start : (ps ns os ms : List ℕ) → Collecting 0 0 (rowsIn ps ns os ms 0)
   unfolding rowsIn rowsOfPages all
   collecting-start ps ns os ms =
-      record { done = []; room = omega arith; count = refl; rows = refl; marks = refl; rest = map-same (readPages v (h .level) es) }
-
-  map-twice : (d : List StoredPage) (p : StoredPage) (o : Option (List StoredPage))
-      → Option·map (λ ps. d ++ ps) (Option·map (λ ps. p ∷ ps) o) ≡ Option·map (λ ps. (d ++ (p ∷ [])) ++ ps) o
-  map-twice d p none = refl
-  map-twice d p (some ps) = ap some (sym (append-assoc d (p ∷ []) ps))
+      record { done = []; room = omega arith; count = refl; rows = refl; marks = refl; rest = sym (behind-none (readPages v (h .level) es)) }
 
   module _ (i to : ℕ) (columns : List Row) (a : Collecting i to columns) where
     next : i < length es → readPages v (h .level) (drop i es) ≡ addPage (h .level) (getD es i 0) (asPage (v (getD es i 0))) (readPages v (h .level) (drop (i + 1) es))
@@ -212,8 +191,8 @@ module _ (v : View) (h : Header) (es : List ℕ) where
           room = omega (arith, a .room, g .room-left);
           count = len;
           rows = m ∙ rw (a .rows, rs, map-append bare (rowsOfPages (a .done)) (rowsOf t (g .tuples)));
-          marks = ap (all markOk) rs ∙ rw (all-append markOk (rowsOfPages (a .done)) (rowsOf t (g .tuples)), a .marks, g .marks);
-          rest = a .rest ∙ ap (Option·map (λ ps. a .done ++ ps)) q ∙ map-twice (a .done) p o;
+          marks = ap (all markOk) rs ∙ rw (all-join markOk (rowsOfPages (a .done)) (rowsOf t (g .tuples)), a .marks, g .marks);
+          rest = a .rest ∙ ap (Option·map (λ ps. a .done ++ ps)) q ∙ behind-two (a .done) (p ∷ []) o;
         }
 
     -- all pages are read

@@ -1,9 +1,10 @@
 -- The entries of directory blocks, one block after another.
-use Rattle.basics.proofs.Kit.{_≡_, refl, sym, ap, _∙_, subst, Bool, true, false, _&&_, some, none, Option, Option·map, List, [], _∷_, _++_, append-assoc, append-nil, ℕ, _+_, _≤_}
+use Rattle.basics.proofs.Kit.{_≡_, refl, sym, ap, _∙_, subst, Bool, true, false, _&&_, some, none, Option, Option·map, List, [], _++_, append-nil, ℕ, _+_, _≤_}
 use Rattle.basics.proofs.Kit.{_<_, _-_, min, add-one, eqb, length, take, drop, getD, set, length-append, length-take, take-suc, eqb-true, eq-eqb, ne-eqb, arith}
 use Rattle.basics.specs.Basics.{if_then_else_}
 use Rattle.basics.proofs.Facts.{by, never, lie, and-true}
 use Rattle.basics.proofs.Elements.{some-eq}
+use Rattle.basics.proofs.Lists.{behind-none, behind-two}
 use Rattle.basics.specs.Lists.{over}
 use Rattle.basics.proofs.Overs.{over-nil}
 use Rattle.block_forms.specs.Limits.{entriesPerBlock}
@@ -55,8 +56,8 @@ module _ (l p : ℕ) {n k : ℕ} {xs : List ℕ} (r : Read n k xs) where
   other-count h = due-is ∙ rw (ne-eqb n (min entriesPerBlock p) h, and-no)
 
   -- its entries, put over those of out
-  pub entries-put : (at : ℕ) (out : List ℕ) {out′ : List ℕ} (es : List ℕ) → k ≡ l → n ≡ min entriesPerBlock p → take n es ≡ readEntries xs 64 n → out′ ≡ over out at (take n es)
-      → Filled (entriesDue l p (asDirectory (decodeBlock xs))) at out true out′
+  pub entries-put : (at : ℕ) (out : List ℕ) {out′ : List ℕ} (es : List ℕ) → k ≡ l → n ≡ min entriesPerBlock p → take n es ≡ readEntries xs 64 n
+      → out′ ≡ over out at (take n es) → Filled (entriesDue l p (asDirectory (decodeBlock xs))) at out true out′
   unfolding if_then_else_
   entries-put at out es hk hn he ho =
       let e : entriesDue l p (asDirectory (decodeBlock xs)) ≡ some (r .entries) = due-is ∙ rw (eq-eqb k l hk, eq-eqb n (min entriesPerBlock p) hn) in
@@ -91,14 +92,6 @@ filled-not (some es) at out out′ r t f = lie (sym t ∙ f .0)
 
 -- ---- the turns
 
-map-same : (o : Option (List ℕ)) → o ≡ Option·map (λ es. [] ++ es) o
-map-same none = refl
-map-same (some es) = refl
-
-map-twice : (d f : List ℕ) (o : Option (List ℕ)) → Option·map (λ es. d ++ es) (Option·map (λ es. f ++ es) o) ≡ Option·map (λ es. (d ++ f) ++ es) o
-map-twice d f none = refl
-map-twice d f (some es) = ap some (sym (append-assoc d f es))
-
 module _ (v : View) (l pages : ℕ) (ds out₀ : List ℕ) where
   -- the entries of the first i blocks
   pub record Gathering (i at : ℕ) (out : List ℕ) : Type 0 where
@@ -114,17 +107,17 @@ module _ (v : View) (l pages : ℕ) (ds out₀ : List ℕ) where
     count = refl;
     room = omega arith;
     put = sym (over-nil out₀ 0);
-    rest = let z : pages - 0 ≡ pages = omega arith in rw z (map-same (readDirectories v l pages ds));
+    rest = let z : pages - 0 ≡ pages = omega arith in rw z (sym (behind-none (readDirectories v l pages ds)));
   }
 
   module _ (i at : ℕ) (out : List ℕ) (a : Gathering i at out) where
     next : i < length ds → readDirectories v l (pages - at) (drop i ds)
-        ≡ addEntries (entriesDue l (pages - at) (asDirectory (v (getD ds i 0)))) (readDirectories v l (pages - at - 336) (drop (i + 1) ds))
+        ≡ addEntries (entriesDue l (pages - at) (asDirectory (v (getD ds i 0)))) (readDirectories v l (pages - at - entriesPerBlock) (drop (i + 1) ds))
     unfolding readDirectories
     next h = ap (readDirectories v l (pages - at)) (drop-turn ds i h)
 
     pub gathering-turn : (out′ : List ℕ) (r : Bool) → i < length ds → pages ≤ length out₀ → r ≡ true
-        → Filled (entriesDue l (pages - at) (asDirectory (v (getD ds i 0)))) at out r out′ → Gathering (i + 1) (at + min 336 (pages - at)) out′
+        → Filled (entriesDue l (pages - at) (asDirectory (v (getD ds i 0)))) at out r out′ → Gathering (i + 1) (at + min entriesPerBlock (pages - at)) out′
     unfolding addEntries
     gathering-turn out′ r h m t f =
         let o = entriesDue l (pages - at) (asDirectory (v (getD ds i 0))) in
@@ -132,18 +125,18 @@ module _ (v : View) (l pages : ℕ) (ds out₀ : List ℕ) where
         let n = due-count l (pages - at) (asDirectory (v (getD ds i 0))) (p .some-are) in
         let ro = a .room in
         let y : at ≡ 0 + at = omega arith in
-        let z : pages - at - 336 ≡ pages - (at + min 336 (pages - at)) = omega arith in
+        let z : pages - at - entriesPerBlock ≡ pages - (at + min entriesPerBlock (pages - at)) = omega arith in
         let q : readDirectories v l (pages - at) (drop i ds) ≡ Option·map (λ es. p .entries ++ es)
-        (readDirectories v l (pages - (at + min 336 (pages - at))) (drop (i + 1) ds))
-        = next h ∙ ap (λ (x : Option (List ℕ)). addEntries x (readDirectories v l (pages - at - 336) (drop (i + 1) ds))) (p .some-are) ∙ rw z in
+        (readDirectories v l (pages - (at + min entriesPerBlock (pages - at))) (drop (i + 1) ds))
+        = next h ∙ ap (λ (x : Option (List ℕ)). addEntries x (readDirectories v l (pages - at - entriesPerBlock) (drop (i + 1) ds))) (p .some-are) ∙ rw z in
         record {
           done = a .done ++ p .entries;
           count = length-append (a .done) (p .entries) ∙ omega (arith, a .count);
           room = omega arith;
           put = p .put ∙ ap (λ (o : List ℕ). over o at (p .entries)) (a .put) ∙ ap (λ (k : ℕ). over (over out₀ 0 (a .done)) k (p .entries)) y
               ∙ over-then out₀ (a .done) (p .entries) 0 at (sym (a .count)) (omega (arith, a .count));
-          rest = a .rest ∙ ap (Option·map (λ es. a .done ++ es)) q ∙ map-twice (a .done) (p .entries)
-              (readDirectories v l (pages - (at + min 336 (pages - at))) (drop (i + 1) ds));
+          rest = a .rest ∙ ap (Option·map (λ es. a .done ++ es)) q ∙ behind-two (a .done) (p .entries)
+              (readDirectories v l (pages - (at + min entriesPerBlock (pages - at))) (drop (i + 1) ds));
         }
 
     pub gathering-stop : (out′ out″ : List ℕ) (r : Bool) → i < length ds → r ≡ false

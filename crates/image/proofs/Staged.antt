@@ -1,10 +1,11 @@
 -- The stages of the tests, put together.
-use Rattle.basics.proofs.Kit.{_≡_, refl, sym, ap, _∙_, subst, ⊎-elim, Bool, true, false, _&&_, some, none, Option, List, [], _∷_, _++_, map, ℕ, _+_, _*_, _%_, _≤_, _<_, _/_, _-_, min, eqb}
-use Rattle.basics.proofs.Kit.{length, take, drop, length-append, length-take, length-replicate, take-at, le-leb, lt-leb, eqb-true, eq-eqb, ne-eqb, arith}
+use Rattle.basics.proofs.Kit.{_≡_, refl, sym, ap, _∙_, Bool, true, false, some, none, Option, List, [], _∷_, _++_, map, ℕ, _+_, _*_, _%_, _≤_, _<_, _/_, _-_}
+use Rattle.basics.proofs.Kit.{length, take, drop, length-append, length-take, length-replicate, take-at, le-leb, lt-leb, eq-eqb, ne-eqb, arith}
 use Rattle.basics.specs.Basics.{if_then_else_, all, every}
 use Rattle.basics.proofs.Facts.{by, by-option, never, lie, and-true, clash}
 use Rattle.basics.proofs.Elements.{some-eq, every-all}
 use Rattle.basics.specs.Lists.{over}
+use Rattle.block_forms.specs.Limits.{entriesPerBlock}
 use Rattle.block_forms.specs.Block.{Block, asHeader, asPage, asDirectory}
 use Rattle.block_forms.specs.Decode.{decodeBlock}
 use Rattle.block_reader.specs.Answers.{reading}
@@ -14,7 +15,8 @@ use Rattle.block_reader.proofs.Answering.{is-header}
 use Rattle.image_rows.specs.Rows.{rowsOk}
 use Rattle.basics.proofs.Ands.{and-no}
 use Rattle.image.specs.View.{View, view, blockAt, blockCount}
-use Rattle.image.specs.Stages.{Stage, refuses, holds, wholeBlocks, blockOk, directoriesFor, numbersOf, directoryBlocks, headerOk, headerTest, entriesDue, addEntries, readDirectories, entriesOk, testedEntries}
+use Rattle.image.specs.Stages.{Stage, refuses, holds, wholeBlocks, blockOk, directoriesFor, numbersOf, directoryBlocks, headerOk, headerTest, entriesDue, addEntries, readDirectories}
+use Rattle.image.specs.Stages.{entriesOk, testedEntries}
 use Rattle.image.specs.Stages.{directoryTest, StoredPage, readPages, rowsOfPages, testedPages, pageTest}
 use Rattle.image.specs.Whole.{headerStage, pagesBelow, pagesStage, withHeader, afterHeader, readImage}
 use Rattle.image.specs.Answers.{Filled, accepts, headerAnswer, noEntries, entriesIn, pagesAnswer, imageAnswer}
@@ -104,12 +106,12 @@ joined none more e = never e
 joined (some fs) none e = never e
 joined (some fs) (some gs) e = record { first = fs; others = gs; is = refl; rest = refl; are = sym (some-eq e) }
 
-pub entries-count : (v : View) (l : ℕ) (ds : List ℕ) (p : ℕ) (es : List ℕ) → p ≤ 336 * length ds → readDirectories v l p ds ≡ some es → length es ≡ p
+pub entries-count : (v : View) (l : ℕ) (ds : List ℕ) (p : ℕ) (es : List ℕ) → p ≤ entriesPerBlock * length ds → readDirectories v l p ds ≡ some es → length es ≡ p
 unfolding readDirectories
 entries-count v l [] p es h e = let z : es ≡ [] = cc in ap length z ∙ omega arith
 entries-count v l (d ∷ ds) p es h e =
-    let j = joined (entriesDue l p (asDirectory (v d))) (readDirectories v l (p - 336) ds) e in
-    let n = entries-count v l ds (p - 336) (j .others) (omega arith) (j .rest) in
+    let j = joined (entriesDue l p (asDirectory (v d))) (readDirectories v l (p - entriesPerBlock) ds) e in
+    let n = entries-count v l ds (p - entriesPerBlock) (j .others) (omega arith) (j .rest) in
     ap length (j .are) ∙ length-append (j .first) (j .others) ∙ omega (arith, due-count l p (asDirectory (v d)) (j .is))
 
 -- ---- 24: the blocks of the pages are the entries
@@ -222,7 +224,7 @@ module _ (xs : List ℕ) (h : Header) (pages used : ℕ) where
     read-are = rw (b .pages-are, b .used-are)
 
     -- each directory block but the last has 336 entries
-    enough : pages ≤ 336 * length (take used (numbersOf h))
+    enough : pages ≤ entriesPerBlock * length (take used (numbersOf h))
     unfolding directoriesFor
     enough = simp length-take (omega (arith, four, b .used-are, b .pages-are, b .passed .counts .directories))
 

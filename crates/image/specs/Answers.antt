@@ -7,7 +7,7 @@ use mathlib.Core.List.{List, map}
 use Rattle.basics.specs.Lists.{over}
 use Rattle.block_forms.specs.Spell.{zeros}
 use Rattle.block_forms.specs.declared.Header.{Header}
-use Rattle.image.specs.Stages.{Stage, refuses, holds, StoredPage}
+use Rattle.image.specs.Stages.{Stage, refuses, holds, capacityLimit, StoredPage}
 use Rattle.image.specs.Whole.{Contents}
 use Rattle.image.specs.declared.HeaderTest.{HeaderTest}
 use Rattle.image.specs.declared.HeaderTest.the-variants.{Passed, Refused}
@@ -35,7 +35,7 @@ headerAnswer (holds h) = Passed h
 
 -- 1,024 zeros: the entries where there is no page
 unfoldable pub noEntries : List ℕ
-noEntries = zeros 1024
+noEntries = zeros capacityLimit
 
 -- the blocks of the pages, then zeros
 unfoldable pub entriesIn : List StoredPage → List ℕ

@@ -6,7 +6,7 @@ use mathlib.Core.List.{List, [], _∷_, _++_}
 use lib.ListN.{length}
 use lib.Dec.{eqb, leb}
 use Rattle.basics.specs.Basics.{if_then_else_}
-use Rattle.block_forms.specs.Limits.{entriesPerBlock}
+use Rattle.block_forms.specs.Limits.{blockSize, blockLimit, entriesPerBlock}
 use Rattle.block_forms.specs.Tuple.{Tuple}
 use Rattle.block_forms.specs.Block.{PageBlock, DirectoryBlock, asPage, asDirectory}
 use Rattle.block_forms.specs.declared.Header.{Header}
@@ -27,7 +27,7 @@ pub data Stage (A : Type 0) : Type 0 where
 
 -- n bytes are 2 to 4,096 whole blocks
 unfoldable pub wholeBlocks : ℕ → Bool
-wholeBlocks n = eqb (n % 512) 0 && (leb 2 (n / 512) && leb (n / 512) 4096)
+wholeBlocks n = eqb (n % blockSize) 0 && (leb 2 (n / blockSize) && leb (n / blockSize) blockLimit)
 
 -- ---- 22: header
 

@@ -5,11 +5,11 @@ ghost use Prim.Native.Nat.{_+_, _*_, _≤_, min};
 ghost use lib.ListN.{length, take};
 ghost use Rattle.basics.specs.Basics.{all};
 ghost use Rattle.basics.specs.Lists.{over};
-ghost use Rattle.block_forms.specs.Limits.{entriesPerBlock};
+ghost use Rattle.block_forms.specs.Limits.{blockSize, entriesPerBlock};
 ghost use Rattle.block_forms.specs.Block.{asDirectory};
 ghost use Rattle.block_forms.specs.Decode.{decodeBlock};
 ghost use Rattle.image.specs.View.{view, blockAt, blockCount};
-ghost use Rattle.image.specs.Stages.{refuses, holds, blockOk, entriesDue, readDirectories, pageTest};
+ghost use Rattle.image.specs.Stages.{refuses, holds, capacityLimit, blockOk, entriesDue, readDirectories, pageTest};
 ghost use Rattle.image.specs.Whole.{headerStage, pagesStage, readImage};
 ghost use Rattle.image.specs.Answers.{Filled, accepts, noEntries, headerAnswer, pagesAnswer, imageAnswer};
 
@@ -22,14 +22,14 @@ pub enum HeaderTest {
 // The refusal's number, or 0 and the blocks of the pages in order; the other entries are 0.
 pub struct PagesTest {
     pub refusal: u64,
-    pub entries: [u32; 1024],
+    pub entries: [u32; image_rows::ROWS],
 }
 
 // The refusal's number, or 0 and what the image holds; all else is 0.
 pub struct ImageTest {
     pub refusal: u64,
     pub header: block_forms::Header,
-    pub entries: [u32; 1024],
+    pub entries: [u32; image_rows::ROWS],
 }
 
 // The same number, as a size.
@@ -47,12 +47,18 @@ fn number(x: u16) -> u32
 }
 
 // Block e of an image, copied out whole.
-pub fn block_at(image: &[u8], e: usize) -> [u8; 512]
-    requires { ⌜ 512 * e + 512 ≤ length (now image) ⌝ }
+pub fn block_at(image: &[u8], e: usize) -> [u8; block_forms::BLOCK_SIZE]
+    requires { ⌜ blockSize * e + blockSize ≤ length (now image) ⌝ }
     ensures { λ r. ⌜ r ≡ blockAt (now (image .entry)) e ⌝ }
 {
-    let mut block = [0u8; 512];
-    block_forms::copy(&mut block, 0, image, 512 * e, 512);
+    let mut block = [0u8; block_forms::BLOCK_SIZE];
+    block_forms::copy(
+        &mut block,
+        0,
+        image,
+        block_forms::BLOCK_SIZE * e,
+        block_forms::BLOCK_SIZE,
+    );
     block
 }
 
@@ -67,7 +73,7 @@ fn test_rows(
     marks: &mut [u8],
 ) -> bool
     requires { ⌜ all (blockOk (blockCount (now image))) (now entries) ≡ true ⌝ }
-    requires { ⌜ h .capacity ≤ 1024 ⌝ }
+    requires { ⌜ h .capacity ≤ capacityLimit ⌝ }
     requires { ⌜ (h .capacity ≤ length (now places)) × ((h .capacity ≤ length (now numbers)) × ((h .capacity ≤ length (now owners)) × (h .capacity ≤ length (now marks)))) ⌝ }
     ensures { λ r. ⌜ r ≡ accepts (pageTest (view (now (image .entry))) h (now (entries .entry))) ⌝ }
 {
@@ -94,13 +100,13 @@ fn test_rows(
 // The tests of refusal 24.
 fn pages_ok(image: &[u8], entries: &[u32], h: block_forms::Header) -> bool
     requires { ⌜ all (blockOk (blockCount (now image))) (now entries) ≡ true ⌝ }
-    requires { ⌜ h .capacity ≤ 1024 ⌝ }
+    requires { ⌜ h .capacity ≤ capacityLimit ⌝ }
     ensures { λ r. ⌜ r ≡ accepts (pageTest (view (now (image .entry))) h (now (entries .entry))) ⌝ }
 {
-    let mut places = [0u64; 1024];
-    let mut numbers = [0u32; 1024];
-    let mut owners = [0u64; 1024];
-    let mut marks = [0u8; 1024];
+    let mut places = [0u64; image_rows::ROWS];
+    let mut numbers = [0u32; image_rows::ROWS];
+    let mut owners = [0u64; image_rows::ROWS];
+    let mut marks = [0u8; image_rows::ROWS];
     test_rows(
         image,
         entries,
@@ -135,7 +141,13 @@ fn put_entries(out: &mut [u32], at: usize, entries: &[u16], count: usize)
 }
 
 // The entries of a directory block of this level go into out from a place on, if they are as many as are due.
-fn add_entries(block: &[u8; 512], level: u32, left: usize, out: &mut [u32], at: usize) -> bool
+fn add_entries(
+    block: &[u8; block_forms::BLOCK_SIZE],
+    level: u32,
+    left: usize,
+    out: &mut [u32],
+    at: usize,
+) -> bool
     requires { ⌜ at + left ≤ length (now out) ⌝ }
     ensures { λ r. ⌜ Filled (entriesDue level left (asDirectory (decodeBlock (now (block .entry))))) at (now (out .entry)) r (now (out .exit)) ⌝ }
 {
@@ -180,14 +192,14 @@ pub fn test_header(image: &[u8]) -> HeaderTest
     ensures { λ r. ⌜ r ≡ headerAnswer (headerStage (now (image .entry))) ⌝ }
 {
     let len = image.len();
-    if len % 512 != 0 {
+    if len % block_forms::BLOCK_SIZE != 0 {
         return HeaderTest::Refused(1);
     }
-    let n = len / 512;
+    let n = len / block_forms::BLOCK_SIZE;
     if n < 2 {
         return HeaderTest::Refused(1);
     }
-    if 4096 < n {
+    if block_forms::BLOCK_LIMIT < n {
         return HeaderTest::Refused(1);
     }
     let block = block_at(image, 0);
@@ -203,10 +215,10 @@ pub fn test_header(image: &[u8]) -> HeaderTest
 }
 
 // 1,024 zeros: the entries where there is no page.
-fn no_entries() -> [u32; 1024]
+fn no_entries() -> [u32; image_rows::ROWS]
     ensures { λ r. ⌜ r ≡ noEntries ⌝ }
 {
-    [0u32; 1024]
+    [0u32; image_rows::ROWS]
 }
 
 // A refusal by its number.

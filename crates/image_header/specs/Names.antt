@@ -7,10 +7,11 @@ use lib.Dec.{eqb, ltb, leb}
 use Rattle.basics.specs.Basics.{all, every, isIn, distinct}
 use Rattle.block_forms.specs.Limits.{entriesPerBlock}
 use Rattle.block_forms.specs.declared.Header.{Header}
+use Rattle.image_rows.specs.Chains.{rowLimit}
 
 -- a capacity is 1 to 1,024
 abbrev pub capacityLimit : ℕ
-capacityLimit = 1024
+capacityLimit = rowLimit
 
 -- a block that may be named in an image of n blocks: not zero, and not beyond the image
 unfoldable pub blockOk : ℕ → ℕ → Bool

@@ -7,6 +7,9 @@ ghost use lib.ListN.{length};
 ghost use Rattle.basics.specs.Basics.{all, isIn};
 ghost use Rattle.image_header.specs.Names.{capacityLimit, directoriesFor, blockOk, isZero, countsOk, headerOk, entriesOk};
 
+// The largest capacity.
+const CAPACITY_LIMIT: u32 = image_rows::ROWS as u32;
+
 // The same number, as a size.
 fn wide(x: u32) -> usize
     ensures { λ r. ⌜ r ≡ x ⌝ }
@@ -98,7 +101,7 @@ fn counts_ok(h: Header, n: u32) -> bool
     if h.capacity < 1 {
         return false;
     }
-    if 1024 < h.capacity {
+    if CAPACITY_LIMIT < h.capacity {
         return false;
     }
     if h.capacity < h.pages {

@@ -1,5 +1,5 @@
 -- A record as a row, put into columns; and its delete mark.
-use Rattle.basics.proofs.Kit.{_≡_, refl, sym, ap, _∙_, Bool, true, false, not, List, [], _∷_, _++_, ℕ, suc, _+_, _*_, _%_, _<_, zero, _/_, _-_, leb, eqb, length, set, getD-set-same}
+use Rattle.basics.proofs.Kit.{_≡_, refl, sym, _∙_, Bool, true, false, not, List, [], _∷_, _++_, ℕ, suc, _+_, _*_, _%_, _<_, _/_, _-_, leb, eqb, length, set, getD-set-same}
 use Rattle.basics.proofs.Kit.{getD-set-other, ne-eqb, arith}
 use mir.Val.{boolByte}
 use Rattle.basics.specs.Basics.{if_then_else_, isEmpty}
@@ -10,7 +10,6 @@ use Rattle.block_forms.specs.declared.Owner.the-variants.{Committed, Tentative}
 use Rattle.block_forms.specs.declared.Record.{Record}
 use Rattle.image_rows.specs.Rows.{markOk}
 use Rattle.image_rows.specs.Columns.{codedOwner, coded, rowAt, rowsIn}
-use Rattle.basics.specs.Lists.{tab}
 use Rattle.basics.proofs.Tabs.{tab-cong, tab-add}
 
 -- ---- the row of a record

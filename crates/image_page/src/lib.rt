@@ -11,6 +11,7 @@ ghost use mathlib.Core.List.{List, [], _∷_, _++_, map};
 ghost use Prim.Native.Nat.{ℕ, _+_, _*_, _<_, _≤_};
 ghost use lib.ListN.{length};
 ghost use Rattle.basics.specs.Basics.{all};
+ghost use Rattle.block_forms.specs.Limits.{blockSize};
 ghost use Rattle.block_forms.specs.Tuple.{Tuple, OwnerFits};
 ghost use Rattle.block_forms.specs.Block.{asPage};
 ghost use Rattle.block_forms.specs.Decode.{pageTuples, decodeBlock};
@@ -51,7 +52,7 @@ fn mark_ok(r: Record) -> bool
 
 // Whether every delete mark of a page's block is tentative and has no payload.
 fn marks_ok(block: &[u8], count: u32) -> bool
-    requires { ⌜ length (now block) ≡ 512 ⌝ }
+    requires { ⌜ length (now block) ≡ blockSize ⌝ }
     ensures { λ r. ⌜ ((t : ℕ) (ts : List Tuple) → pageTuples count (now (block .entry)) ≡ some ts → r ≡ all markOk (rowsOf t ts)) ⌝ }
 {
     let mut at: usize = PageLayout::HEAD_SIZE;
@@ -90,7 +91,7 @@ fn owner_code(owner: Owner) -> u64
         Owner::Tentative {
             transaction: t,
             statement: s,
-        } => 1 + t as u64 * 1048576 + s as u64,
+        } => 1 + t as u64 * image_rows::STATEMENTS + s as u64,
     }
 }
 
@@ -127,7 +128,7 @@ pub fn add_rows(
     marks: &mut [u8],
     k: usize,
 )
-    requires { ⌜ length (now block) ≡ 512 ⌝ }
+    requires { ⌜ length (now block) ≡ blockSize ⌝ }
     requires { ⌜ (k + count ≤ length (now places)) × ((k + count ≤ length (now numbers)) × ((k + count ≤ length (now owners)) × (k + count ≤ length (now marks)))) ⌝ }
     ensures { λ _. ⌜ ((ts : List Tuple) → pageTuples count (now (block .entry)) ≡ some ts
         → rowsIn (now (places .exit)) (now (numbers .exit)) (now (owners .exit)) (now (marks .exit)) (k + count)
@@ -152,7 +153,7 @@ pub fn add_rows(
 }
 
 // Whether the block is a page that may stand in an image whose header has this level, with at most `room` tuples; its table and count.
-pub fn good_page(block: &[u8; 512], level: u32, room: usize) -> GoodPage
+pub fn good_page(block: &[u8; block_forms::BLOCK_SIZE], level: u32, room: usize) -> GoodPage
     ensures { λ r. ⌜ r ≡ goodPage level room (asPage (decodeBlock (now (block .entry)))) ⌝ }
 {
     match block_reader::read_block(block) {

@@ -1,6 +1,6 @@
 -- Rows without their payloads: what columns hold of rows, and the tests on them.
-use Rattle.basics.proofs.Kit.{_≡_, refl, Bool, _&&_, List, [], _∷_, map, ℕ, _-_, leb, length}
-use Rattle.basics.specs.Basics.{if_then_else_, all, every, paired, distinct}
+use Rattle.basics.proofs.Kit.{_≡_, refl, Bool, _&&_, List, [], _∷_, map, ℕ, leb, length}
+use Rattle.basics.specs.Basics.{all, every, paired, distinct}
 use Rattle.image_rows.specs.Rows.{Row, number, isAt, isLower, follows, startsWell, isBelow, statementOk, transactions, openLimit, markOk, rowsOk}
 use Rattle.image_rows.specs.Columns.{bare, columnsOk}
 use Rattle.basics.proofs.Ands.{and-assoc, and-comm, and-swap}

@@ -7,6 +7,7 @@ use Rattle.basics.specs.Lists.{tab}
 use Rattle.image_rows.specs.Chains.{bucketCount, lastBy, bucketOf, inBucket, Chained, Table, Chain, isNew, keysOnce, isThereBelow, isNext}
 use Rattle.basics.proofs.Iterations.{tab-whole, all-yes, all-not, all-end}
 use Rattle.basics.proofs.Searches.{tab-next, tab-none}
+use Rattle.block_forms.specs.Limits.{statementLimit}
 
 -- ---- the last that passes
 
@@ -214,11 +215,11 @@ module _ (xs : List ℕ) (n : ℕ) {heads links : List ℕ} where
 -- ---- row i after the statement before it
 
 module _ (ns os : List ℕ) (n i : ℕ) where
-  pub next-first : (getD os i 0 - 1) % 1048576 ≡ 0 → true ≡ isNext ns os n i
+  pub next-first : (getD os i 0 - 1) % statementLimit ≡ 0 → true ≡ isNext ns os n i
   unfolding isNext
   next-first e = rw (eq-eqb _ _ e)
 
-  module _ {j : ℕ} (later : (getD os i 0 - 1) % 1048576 ≡ 0 → ⊥) (f : j ≡ lastBy (eqb (getD os i 0 - 1)) os n) where
+  module _ {j : ℕ} (later : (getD os i 0 - 1) % statementLimit ≡ 0 → ⊥) (f : j ≡ lastBy (eqb (getD os i 0 - 1)) os n) where
     pub next-none : j ≡ 0 → false ≡ isNext ns os n i
     unfolding isNext isThereBelow
     next-none e = rw (ne-eqb _ _ later, ← f, e)

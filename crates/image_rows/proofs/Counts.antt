@@ -1,15 +1,13 @@
 -- Where statements are in order, each transaction has one row of statement 0, so these rows count the transactions.
-use Rattle.basics.proofs.Kit.{_≡_, refl, sym, ap, _∙_, Bool, true, false, _&&_, not, List, [], _∷_, ℕ, suc, _+_, _≤_, _<_, zero, eqb, length, getD, eqb-true, eq-eqb, eqb-false, not-true}
+use Rattle.basics.proofs.Kit.{_≡_, refl, sym, ap, _∙_, true, false, _&&_, not, List, [], _∷_, ℕ, _+_, _<_, eqb, length, getD, eqb-true, eqb-false, not-true}
 use Rattle.basics.proofs.Kit.{arith}
 use Rattle.basics.specs.Basics.{if_then_else_, any, isIn, distinct}
-use Rattle.basics.proofs.Facts.{by, lie, and-true}
+use Rattle.basics.proofs.Facts.{by, and-true}
 use Rattle.block_forms.specs.Tuple.{Owner, committed, tentative}
 use Rattle.image_rows.specs.Rows.{Row, isOwn, addOwner, transactions}
 use Rattle.image_rows.specs.Columns.{rowAt, rowsIn}
-use Rattle.basics.specs.Lists.{tab}
 use Rattle.image_rows.specs.Chains.{isStart, starts}
 use Rattle.basics.proofs.Ands.{and-no}
-use Rattle.basics.proofs.Iterations.{any-yes, any-not}
 use Rattle.basics.proofs.Searches.{any-cons, any-tab, tab-any}
 use Rattle.image_rows.proofs.Owners.{in-transactions}
 use Rattle.image_rows.proofs.Totals.{total, bit, total-same, total-sum, total-none, count-total}

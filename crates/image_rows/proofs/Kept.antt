@@ -1,12 +1,13 @@
 -- Rows that are changed but for what a test looks at: the test answers the same. So the tests read columns with the others missing, and rows
 -- without payloads.
-use Rattle.basics.proofs.Kit.{_≡_, refl, sym, ap, _∙_, Bool, false, _&&_, List, [], _∷_, map, ℕ, suc, _+_, _≤_, zero, add-one, leb, ltb, length, take, getD, arith}
+use Rattle.basics.proofs.Kit.{_≡_, refl, sym, ap, _∙_, Bool, false, _&&_, List, [], _∷_, map, ℕ, suc, _≤_, zero, leb, ltb, length, take, getD}
 use Rattle.basics.specs.Basics.{if_then_else_, all, every, paired, howMany, distinct}
 use Rattle.block_forms.specs.Tuple.{Owner, committed, tentative}
 use Rattle.image_rows.specs.Rows.{Row, number, isBy, isOwn, follows, startsWell, isBelow, earlierBy, statementIs, statementOk, transactions, openLimit}
 use Rattle.image_rows.specs.Columns.{codedOwner, coded, rowAt, rowsIn, columnsOk}
 use Rattle.basics.specs.Lists.{tab}
 use Rattle.basics.proofs.Ands.{and-yes, and-assoc}
+use Rattle.basics.proofs.Tabs.{take-tab, tab-self}
 
 module _ {A : Type 0} (f g : A → Bool) (h : A → A) (e : (x : A) → f (h x) ≡ g x) where
   pub all-kept : (xs : List A) → all f (map h xs) ≡ all g xs
@@ -97,21 +98,10 @@ module _ (ps ns os ms : List ℕ) (n : ℕ) where
   unfolding number
   statements-columns = rw thin-rows (statements-kept thin (λ r. refl) (λ r. refl) (rowsIn ps ns os ms n))
 
-tab-shift : {A : Type 0} (u v : ℕ → A) (i n : ℕ) → ((k : ℕ) → u (suc k) ≡ v k) → tab u (suc i) n ≡ tab v i n
-tab-shift u v i zero e = refl
-tab-shift u v i (suc n) e = rw (e i, tab-shift u v (suc i) n e)
-
-take-tab : (n : ℕ) (ns : List ℕ) → n ≤ length ns → tab (λ i. getD ns i 0) 0 n ≡ take n ns
-take-tab zero ns h = refl
-take-tab (suc n) [] h = absurd (omega arith)
-take-tab (suc n) (x ∷ ns) h =
-    ap (λ (l : List ℕ). x ∷ l)
-    (tab-shift (λ i. getD (x ∷ ns) i 0) (λ i. getD ns i 0) 0 n (λ k. refl) ∙ take-tab n ns (omega arith))
-
 module _ (ps ns os ms : List ℕ) (n : ℕ) (h : n ≤ length ns) where
   numbers-columns : map number (rowsIn ps ns os ms n) ≡ take n ns
   unfolding number rowsIn rowAt coded
-  numbers-columns = sym (map-tab number (rowAt ps ns os ms) 0 n) ∙ take-tab n ns h
+  numbers-columns = sym (map-tab number (rowAt ps ns os ms) 0 n) ∙ sym (take-tab (λ i. getD ns i 0) 0 n (length ns) h) ∙ ap (take n) (tab-self ns)
 
   -- each test with the columns that it looks at
   pub columns-tests : (next : ℕ) →

@@ -1,9 +1,8 @@
 -- Numbers as keys: each is there once as a key if it is there once as a number.
-use Rattle.basics.proofs.Kit.{_≡_, refl, sym, ap, _∙_, Bool, true, false, not, List, [], _∷_, ℕ, suc, _+_, _≤_, _<_, zero, _-_, eqb, length, getD, set, getD-set-same, getD-set-other}
+use Rattle.basics.proofs.Kit.{_≡_, refl, sym, ap, _∙_, true, false, not, List, [], _∷_, ℕ, suc, _+_, _<_, zero, _-_, eqb, length, getD, set, getD-set-same, getD-set-other}
 use Rattle.basics.proofs.Kit.{eqb-true, eq-eqb, ne-eqb, eqb-false, not-true, arith}
-use Rattle.basics.specs.Basics.{all, isIn, distinct}
+use Rattle.basics.specs.Basics.{isIn, distinct}
 use Rattle.basics.proofs.Facts.{by, lie, and-true}
-use Rattle.basics.specs.Lists.{tab}
 use Rattle.image_rows.specs.Chains.{lastBy, isNew, keysOnce}
 use Rattle.basics.proofs.Iterations.{any-yes, any-not, any-end}
 use Rattle.image_rows.proofs.Chains.{last-le, last-passes, last-there}

@@ -1,5 +1,5 @@
 -- The transactions of a list of rows: those that have a row.
-use Rattle.basics.proofs.Kit.{_≡_, refl, sym, ap, _∙_, Bool, true, _||_, List, [], _∷_, ℕ, eqb, eqb-true, eq-eqb, ne-eqb, eqb-false}
+use Rattle.basics.proofs.Kit.{_≡_, refl, sym, ap, _∙_, Bool, true, _||_, List, [], _∷_, ℕ, eqb, eqb-true}
 use Rattle.basics.specs.Basics.{if_then_else_, any, isIn}
 use Rattle.basics.proofs.Facts.{by}
 use Rattle.block_forms.specs.Tuple.{Owner, committed, tentative}

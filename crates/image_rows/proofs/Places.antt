@@ -20,10 +20,10 @@ abbrev lower : ℕ → ℕ → Bool
 lower p q = ltb (p / B) (q / B) || (eqb (p / B) (q / B) && ltb (p % B) (q % B))
 
 module _ (p q : ℕ) where
-  rises-not-same : p < q → same p q ≡ false
-  rises-not-same h =
+  not-same : (p ≡ q → ⊥) → same p q ≡ false
+  not-same h =
       by (eqb (p / B) (q / B))
-      (λ e. let t = eqb-true (p / B) (q / B) e in rw (e, ne-eqb (p % B) (q % B) (λ d. omega arith)))
+      (λ e. let t = eqb-true (p / B) (q / B) e in rw (e, ne-eqb (p % B) (q % B) (λ d. h (omega arith))))
       (λ e. rw e)
 
   rises-lower : p < q → lower p q ≡ true
@@ -40,12 +40,6 @@ module _ (p q : ℕ) where
 
   stays-same : p ≡ q → same p q ≡ true
   stays-same h = rw (h, eq-eqb (q / B) (q / B) refl, eq-eqb (q % B) (q % B) refl)
-
-falls-not-same : (p q : ℕ) → q < p → same p q ≡ false
-falls-not-same p q h =
-    by (eqb (p / B) (q / B))
-    (λ e. let t = eqb-true (p / B) (q / B) e in rw (e, ne-eqb (p % B) (q % B) (λ d. omega arith)))
-    (λ e. rw e)
 
 pub unmarked : (m : ℕ) → eqb m 0 ≡ not (leb 1 m)
 unmarked m =
@@ -64,11 +58,11 @@ after-committed o =
 module _ (p n o p′ n′ o′ m : ℕ) where
   pub follows-rising : p < p′ → follows (coded p n o 0) (coded p′ n′ o′ m) ≡ eqb m 0
   unfolding follows isAt isLower coded if_then_else_
-  follows-rising h = rw (unmarked m, rises-not-same p p′ h, rises-lower p p′ h)
+  follows-rising h = rw (unmarked m, not-same p p′ (λ e. omega arith), rises-lower p p′ h)
 
   pub follows-falling : p′ < p → follows (coded p n o 0) (coded p′ n′ o′ m) ≡ false
   unfolding follows isAt isLower coded if_then_else_
-  follows-falling h = rw (falls-not-same p p′ h, falls-not-lower p p′ h)
+  follows-falling h = rw (not-same p p′ (λ e. omega arith), falls-not-lower p p′ h)
 
   pub follows-there : p ≡ p′ → follows (coded p n o 0) (coded p′ n′ o′ m) ≡ (ltb n n′ && ownerAfter (codedOwner o) (codedOwner o′))
   unfolding follows isAt isLower coded if_then_else_

@@ -3,15 +3,16 @@
 use Rattle.basics.proofs.Kit.{_≡_, refl, sym, ap, _∙_, Bool, true, _&&_, not, List, ℕ, suc, _+_, _%_, _≤_, _<_, zero, _/_, _-_, eqb, ltb, getD, lt-ltb, le-ltb, eqb-true, eq-eqb, ne-eqb}
 use Rattle.basics.proofs.Kit.{eqb-false, not-true, arith}
 use Rattle.basics.proofs.Facts.{by, and-true}
+use Rattle.block_forms.specs.Limits.{statementLimit}
 use Rattle.image_rows.proofs.Totals.{total, bit, bit-most, bit-true, true-bit, bit-suc, bit-none, bit-below, compared, total-le, total-same, total-sum, total-none, total-some}
 use Rattle.image_rows.proofs.Totals.{total-find, total-one}
 
 -- transaction and statement of a code
 abbrev pub txOf : ℕ → ℕ
-txOf o = (o - 1) / 1048576
+txOf o = (o - 1) / statementLimit
 
 abbrev pub stOf : ℕ → ℕ
-stOf o = (o - 1) % 1048576
+stOf o = (o - 1) % statementLimit
 
 -- a code of transaction t
 unfoldable pub own : ℕ → ℕ → Bool
@@ -124,7 +125,8 @@ module _ (os ns : List ℕ) (n : ℕ) where
           (λ u. eqb-true _ _ u)
           (λ u. let z = eqb-false (getD os k 0) 0 u in
           let t = txOf (getD os k 0) in
-          let a : rank t (getD ns j 0) ≡ rank t (getD ns k 0) = ap (λ o. rank (txOf o) (getD ns j 0)) (sym e) ∙ sym (ranked j (omega arith) (λ q. z (sym e ∙ q))) ∙ ap stOf e ∙ ranked k h z in
+          let own = sym (ranked j (omega arith) (λ q. z (sym e ∙ q))) in
+          let a : rank t (getD ns j 0) ≡ rank t (getD ns k 0) = ap (λ o. rank (txOf o) (getD ns j 0)) (sym e) ∙ own ∙ ap stOf e ∙ ranked k h z in
           compared (getD ns j 0) (getD ns k 0)
           (λ m. absurd (omega (arith, rank-less t j (getD ns k 0) (omega arith) (own-in t (getD os j 0) (λ q. z (sym e ∙ q)) (ap txOf e)) m)))
           (λ m. absurd (apart j k l h m))

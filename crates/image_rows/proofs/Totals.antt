@@ -1,5 +1,5 @@
 -- Sums over the first n indices.
-use Rattle.basics.proofs.Kit.{_≡_, refl, ap, Bool, true, false, _&&_, ℕ, suc, _+_, _≤_, _<_, zero, add-one, eqb, ltb, lt-ltb, le-ltb, eqb-true, eq-eqb, ne-eqb, eqb-false, ltb-true}
+use Rattle.basics.proofs.Kit.{_≡_, refl, ap, Bool, true, false, _&&_, ℕ, suc, _+_, _≤_, _<_, zero, eqb, ltb, lt-ltb, le-ltb, eqb-true, eq-eqb, ne-eqb, eqb-false, ltb-true}
 use Rattle.basics.proofs.Kit.{ltb-false, arith}
 use Rattle.basics.specs.Basics.{if_then_else_, howMany}
 use Rattle.basics.proofs.Facts.{by}

@@ -7,6 +7,7 @@ use lib.ListN.{length, getD}
 use lib.Dec.{eqb, ltb}
 use Rattle.basics.specs.Basics.{if_then_else_, all, howMany}
 use Rattle.basics.specs.Lists.{tab}
+use Rattle.block_forms.specs.Limits.{statementLimit}
 
 -- the rows of an image, at most
 abbrev pub rowLimit : ℕ
@@ -64,7 +65,7 @@ isThereBelow ns v (suc j) = ltb (getD ns j 0) v
 -- row i is its transaction's statement 0 or committed, or the statement before has a lower number
 unfoldable pub isNext : List ℕ → List ℕ → ℕ → ℕ → Bool
 isNext ns os n i =
-    eqb ((getD os i 0 - 1) % 1048576) 0 || isThereBelow ns (getD ns i 0) (lastBy (eqb (getD os i 0 - 1)) os n)
+    eqb ((getD os i 0 - 1) % statementLimit) 0 || isThereBelow ns (getD ns i 0) (lastBy (eqb (getD os i 0 - 1)) os n)
 
 -- the statements of each transaction rise with the numbers
 unfoldable pub statementsRise : List ℕ → List ℕ → ℕ → Bool
@@ -72,7 +73,7 @@ statementsRise ns os n = all (isNext ns os n) (tab (λ i. i) 0 n)
 
 -- an owner's code of statement 0 of some transaction
 unfoldable pub isStart : ℕ → Bool
-isStart o = not (eqb o 0) && eqb ((o - 1) % 1048576) 0
+isStart o = not (eqb o 0) && eqb ((o - 1) % statementLimit) 0
 
 -- how many of the first n rows are a transaction's statement 0
 unfoldable pub starts : List ℕ → ℕ → ℕ

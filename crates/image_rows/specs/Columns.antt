@@ -1,17 +1,18 @@
 -- Rows as the code holds them for its tests: four columns of numbers. A row read from them has no payload.
-use Prim.Native.Nat.{ℕ, zero, suc, _+_, _-_, _/_, _%_}
+use Prim.Native.Nat.{ℕ, _-_, _/_, _%_}
 use mathlib.Core.Bool.{Bool}
 use mathlib.Core.List.{List, [], _∷_, map}
 use lib.ListN.{length, getD}
 use lib.Dec.{eqb, leb}
 use Rattle.basics.specs.Basics.{if_then_else_, all, every, paired, distinct}
 use Rattle.basics.specs.Lists.{tab}
+use Rattle.block_forms.specs.Limits.{statementLimit}
 use Rattle.block_forms.specs.Tuple.{Owner, committed, tentative}
 use Rattle.image_rows.specs.Rows.{Row, number, follows, startsWell, isBelow, transactions, openLimit, statementOk}
 
 -- an owner's code is 0 for committed, else 1 + transaction and statement
 unfoldable pub codedOwner : ℕ → Owner
-codedOwner o = if eqb o 0 then committed else tentative ((o - 1) / 1048576) ((o - 1) % 1048576)
+codedOwner o = if eqb o 0 then committed else tentative ((o - 1) / statementLimit) ((o - 1) % statementLimit)
 
 -- the row with these codes: table and key, number, owner, mark (0 or 1)
 unfoldable pub coded : ℕ → ℕ → ℕ → ℕ → Row

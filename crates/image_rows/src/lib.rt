@@ -11,7 +11,9 @@ ghost use Rattle.image_rows.specs.Columns.{coded, rowsIn, columnsOk};
 ghost use Rattle.image_rows.specs.Chains.{rowLimit, bucketCount, lastBy, bucketOf, Chain, Table, keysOnce, isNext, statementsRise, isStart, starts};
 
 // The rows of an image, at most.
-const ROWS: usize = 1024;
+pub const ROWS: usize = 1024;
+// What a transaction is multiplied by in an owner's code.
+pub const STATEMENTS: u64 = block_forms::STATEMENTS as u64;
 // The hash table's buckets: a prime, so that the statements of many transactions spread.
 const BUCKETS: u64 = 1013;
 // The bucket of rows that have no key, after all others.
@@ -120,7 +122,7 @@ fn is_next(
     if o == 0 {
         return true;
     }
-    if (o - 1) % 1048576 == 0 {
+    if (o - 1) % STATEMENTS == 0 {
         return true;
     }
     let b = bucket(o - 1);
@@ -185,7 +187,7 @@ fn follows(p: u64, n: u32, o: u64, p2: u64, n2: u32, o2: u64, m2: u8) -> bool
     if o2 == 0 {
         return false;
     }
-    (o - 1) / 1048576 == (o2 - 1) / 1048576
+    (o - 1) / STATEMENTS == (o2 - 1) / STATEMENTS
 }
 
 // The tuples rise, and each may follow the one before it.
@@ -241,7 +243,7 @@ fn is_start(o: u64) -> bool
     if o == 0 {
         return false;
     }
-    (o - 1) % 1048576 == 0
+    (o - 1) % STATEMENTS == 0
 }
 
 // How many rows are a transaction's statement 0.

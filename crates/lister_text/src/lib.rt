@@ -74,7 +74,12 @@ fn tuple_line(out: &mut [u8], at: usize, r: Record) -> usize {
     line_end(out, to, r.mark)
 }
 
-fn tuple_lines(out: &mut [u8], at: usize, block: &[u8; 512], count: u32) -> usize {
+fn tuple_lines(
+    out: &mut [u8],
+    at: usize,
+    block: &[u8; block_forms::BLOCK_SIZE],
+    count: u32,
+) -> usize {
     let mut to = at;
     let mut c = Cursor::first();
     for _ in 0..count {
@@ -94,7 +99,7 @@ fn tuple_lines(out: &mut [u8], at: usize, block: &[u8; 512], count: u32) -> usiz
 // The page in block e of the image.
 fn page(out: &mut [u8], at: usize, image: &[u8], e: u32) -> usize {
     let i = e as usize;
-    if image.len() / 512 <= i {
+    if image.len() / block_forms::BLOCK_SIZE <= i {
         return at;
     }
     let block = image::block_at(image, i);
@@ -112,9 +117,15 @@ fn page(out: &mut [u8], at: usize, image: &[u8], e: u32) -> usize {
 }
 
 // The pages in the first count of the blocks.
-fn pages(out: &mut [u8], at: usize, image: &[u8], blocks: [u32; 1024], count: u32) -> usize {
+fn pages(
+    out: &mut [u8],
+    at: usize,
+    image: &[u8],
+    blocks: [u32; image_rows::ROWS],
+    count: u32,
+) -> usize {
     let mut to = at;
-    for i in 0..1024usize {
+    for i in 0..image_rows::ROWS {
         if count as usize <= i {
             return to;
         }

@@ -3,7 +3,7 @@ use Rattle.basics.proofs.Kit.{_≡_, refl, sym, subst, true, false, some, none,
 use Rattle.basics.proofs.Kit.{drop, length-take, length-drop, take-append-drop, arith}
 use Rattle.basics.specs.Basics.{if_then_else_, sum, isEmpty}
 use Rattle.basics.proofs.Facts.{by, AllOf, never, by-option}
-use Rattle.block_forms.specs.Limits.{payloadLimit}
+use Rattle.block_forms.specs.Limits.{mostRecord}
 use Rattle.model.specs.State.{Held}
 use Rattle.model.specs.Rules.{lead, heldSize, half, fits, splitDeep, splitAll, splitOnce, after}
 use Rattle.basics.proofs.Elements.{leb-false, nonempty, all-take, all-drop, all-append, some-eq}
@@ -16,7 +16,7 @@ lead-pos w a x xs = by (leb w (2 * (a + heldSize x))) (λ h. rw h (omega arith))
 
 -- a tentative tuple has at most 53 bytes
 abbrev pub mostSize : ℕ
-mostSize = 13 + payloadLimit
+mostSize = mostRecord
 
 abbrev pub Small : Held → Type 0
 Small x = heldSize x ≤ mostSize

@@ -3,7 +3,7 @@ use Rattle.basics.proofs.Kit.{_≡_, refl, sym, ap, _∙_, subst, ap₂, Bool, 
 use Rattle.basics.proofs.Kit.{take, drop, getD, length-take, length-map, arith}
 use Rattle.basics.specs.Basics.{if_then_else_, all, first, isIn, any, every}
 use Rattle.basics.proofs.Facts.{AllOf, lie, by}
-use Rattle.block_forms.specs.Block.{page, Block, header, InRange, EntriesFit, directory}
+use Rattle.block_forms.specs.Block.{page, Block, header, InRange, directory}
 use Rattle.block_forms.specs.Limits.{recordSpace}
 use Rattle.block_forms.specs.Tuple.{AllFit, sizes, Tuple}
 use Rattle.block_forms.specs.declared.Header.{Header}
@@ -122,10 +122,6 @@ page-step n img s b b₀ n₀ es ds p bk r inv run small₀ e =
       };
     }))
 
-entries-fit : (es : List ℕ) → AllOf (λ e. e < 4096) es → EntriesFit es
-entries-fit [] a = tt
-entries-fit (e ∷ es) a = (a .0, entries-fit es (a .1))
-
 -- the entries of a running checkpoint are blocks of the view
 entries-low : (s : Store) (es : List ℕ) → 0 < s .blocks → ((c : ℕ) → s .used c ≡ true → (0 < c) × (c < s .blocks))
     → AllOf (λ e. 0 < e → s .used e ≡ true) es
@@ -151,8 +147,8 @@ directory-step n img s b b₀ n₀ es ds bk r inv run e lt =
     (λ small fit. record {
       level = omega (arith, r .level);
       count = omega arith;
-      entries = entries-fit part (all-take _ 336 (drop (336 * length ds) es) (all-drop _ (336 * length ds) es
-          (all-map _ _ (λ e h. omega (arith, inv .blocks)) es (entries-low s es (omega (arith, fr .low)) (bk .within) (r .named)))));
+      entries = all-take _ 336 (drop (336 * length ds) es) (all-drop _ (336 * length ds) es
+          (all-map _ _ (λ e h. omega (arith, inv .blocks)) es (entries-low s es (omega (arith, fr .low)) (bk .within) (r .named))));
     })
     (λ z. lie (sym (pos-not-zero i (fr .pos)) ∙ z))
     (λ h. g)

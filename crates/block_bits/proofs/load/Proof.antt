@@ -20,9 +20,6 @@ mul-acc c =
     let l = c .before .loop in
     omega (arith, load-fits (l .i) (l .acc) 0 (omega arith) (l .inv .2) (lit< tt))
 
-wide-requires : tie.Need-wide-requires Inv-loop μ-loop
-wide-requires c κs = tt
-
 add-acc : tie.Need-add-acc Inv-loop μ-loop
 add-acc c =
     let l = c .before .before .before .loop in
@@ -45,5 +42,5 @@ returns c =
     rw (← e) (c .before .loop .inv .1, c .before .loop .inv .2)
 
 pub load-spec : {M : Type 1} → statement M
-load-spec = tie.close (tie.spec Inv-loop μ-loop loop-holds mul-acc (λ c. omega arith) (λ c. omega arith) wide-requires add-acc (λ c. omega arith) (λ c. omega arith) loop-again
-    returns)
+load-spec = tie.close (tie.spec Inv-loop μ-loop loop-holds mul-acc (λ c. omega arith) (λ c. omega arith) (λ c κs. tt) add-acc (λ c. omega arith) (λ c. omega arith)
+    loop-again returns)

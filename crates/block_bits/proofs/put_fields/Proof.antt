@@ -17,9 +17,6 @@ abbrev μ-loop : tie.MeasureT-loop
 loop-holds : tie.Need-loop-holds Inv-loop μ-loop
 loop-holds c = (omega arith, refl, refl, c .before .before .before .pre .0 .words, refl)
 
-size-requires : tie.Need-size-requires Inv-loop μ-loop
-size-requires c κs = tt
-
 put-bits-requires : tie.Need-put-bits-requires Inv-loop μ-loop
 put-bits-requires c κs =
     let l = c .before .before .before .before .before .loop in
@@ -51,9 +48,6 @@ loop-again c =
       rw (put .ensures, size .ensures) (sym (put-rest (bitsIn (l .block)) ws (a .values .now) (l .i) (l .pos) h k)) ∙ l .inv .4,
     )
 
-same-length : tie.Need-same-length Inv-loop μ-loop
-same-length c = c .before .loop .inv .1
-
 returns : tie.Need-returns Inv-loop μ-loop
 returns c =
     let l = c .before .loop in
@@ -61,5 +55,5 @@ returns c =
     sym (put-none (bitsIn (l .block)) (a .widths .now) (a .values .now) (l .i) (l .pos) (l .inv .0) (omega arith)) ∙ l .inv .4
 
 pub put-fields-spec : {M : Type 1} → statement M
-put-fields-spec = tie.close (tie.spec Inv-loop μ-loop loop-holds (λ c. omega arith) size-requires (λ c. omega arith) (λ c. omega arith) put-bits-requires add-pos
-    (λ c. omega arith) (λ c. omega arith) loop-again same-length returns)
+put-fields-spec = tie.close (tie.spec Inv-loop μ-loop loop-holds (λ c. omega arith) (λ c κs. tt) (λ c. omega arith) (λ c. omega arith) put-bits-requires add-pos
+    (λ c. omega arith) (λ c. omega arith) loop-again (λ c. c .before .loop .inv .1) returns)

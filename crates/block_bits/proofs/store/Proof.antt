@@ -17,9 +17,6 @@ loop-holds : tie.Need-loop-holds Inv-loop μ-loop
 unfolding bitsOf
 loop-holds c = (omega arith, refl, sym (over-nil (bitsIn (c .before .args .block .now)) (8 * c .before .args .p)))
 
-byte-requires : tie.Need-byte-requires Inv-loop μ-loop
-byte-requires c κs = tt
-
 loop-again : tie.Need-loop-again Inv-loop μ-loop
 loop-again c =
     let l = c .before .before .before .loop in
@@ -30,9 +27,6 @@ loop-again c =
           (rw (← c .before .shr .ensures) (c .byte .ensures)),
     )
 
-same-length : tie.Need-same-length Inv-loop μ-loop
-same-length c = c .before .loop .inv .1
-
 returns : tie.Need-returns Inv-loop μ-loop
 returns c =
     let l = c .before .loop in
@@ -40,5 +34,5 @@ returns c =
     l .inv .2 ∙ store-end (bitsIn (a .block .now)) (a .p) (a .n) (l .i) (a .x) (l .inv .0) (c .loop-test .left)
 
 pub store-spec : {M : Type 1} → statement M
-store-spec = tie.close (tie.spec Inv-loop μ-loop loop-holds (λ c. omega arith) (λ c. omega arith) (λ c. omega arith) (λ c. omega arith) (λ c κs. omega arith) byte-requires
-    (λ c. omega arith) (λ c. omega arith) (λ c. omega arith) (λ c. omega arith) loop-again same-length returns)
+store-spec = tie.close (tie.spec Inv-loop μ-loop loop-holds (λ c. omega arith) (λ c. omega arith) (λ c. omega arith) (λ c. omega arith) (λ c κs. omega arith)
+    (λ c κs. tt) (λ c. omega arith) (λ c. omega arith) (λ c. omega arith) (λ c. omega arith) loop-again (λ c. c .before .loop .inv .1) returns)

@@ -44,8 +44,7 @@ copy-requires-2 c κs = let p5 = c .before .before .before .before .before in
 returns : tie.Need-returns
 unfolding if_then_else_
 returns c = let z = c .before .before .record-size .ensures in
-    let p5 = c .before .before .before .before .before in
-    let p10 = p5 .before .before .before .before .before in
+    let p5 = c .before .before .before .before .before in let p10 = p5 .before .before .before .before .before in
     let s = p10 .before .before .before in
     let r = s .args .r in
     let o = c .before .before .before .enum-told .given .1 in
@@ -61,10 +60,8 @@ returns c = let z = c .before .before .record-size .ensures in
 returns-2 : tie.Need-returns-2
 unfolding if_then_else_
 returns-2 c = let z = c .before .before .record-size2 .ensures in
-    let p4 = c .before .before .before .before in
-    let p8 = p4 .before .before .before .before in
-    let p13 = p8 .before .before .before .before .before in
-    let s = p13 .before .before .before in
+    let p4 = c .before .before .before .before in let p8 = p4 .before .before .before .before in
+    let p13 = p8 .before .before .before .before .before in let s = p13 .before .before .before in
     let r = s .args .r in
     let o = p4 .before .before .enum-told2 .given .1 in
     let room = s .pre .room in
@@ -78,6 +75,6 @@ returns-2 c = let z = c .before .before .record-size2 .ensures in
     o (p4 .word-of .ensures) (c .before .before .before .put43 .ensures) (omega arith) (c .copy2 .ensures) (omega arith))
 
 pub append-spec : {M : Type 1} → statement M
-append-spec = tie.close (tie.spec put4-requires (search needs) put4-requires-2 (search needs) (λ c κs. search needs) put1-requires (search needs) (λ c κs. search needs) add-end
-    (search needs) copy-requires (search needs) (search needs) (λ c κs. search needs) put4-requires-3 (λ c κs. search needs) add-end-2 (search needs) copy-requires-2 returns
-    returns-2)
+append-spec = tie.close (tie.spec put4-requires (search needs) put4-requires-2 (search needs) (λ c κs. search needs) put1-requires (search needs) (λ c κs. search needs)
+    add-end (search needs) copy-requires (search needs) (search needs) (λ c κs. search needs) put4-requires-3 (λ c κs. search needs) add-end-2 (search needs)
+    copy-requires-2 returns returns-2)

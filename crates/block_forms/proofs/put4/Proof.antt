@@ -5,15 +5,6 @@ use Rattle.block_forms.proofs.Stores.{put-four}
 use Rattle.block_forms.proofs.put4.Statement.{statement}
 use Rattle.block_forms.proofs.put4.Tie as tie
 
-slice-write-block-2 : tie.Need-slice-write-block-2
-slice-write-block-2 c = simp length-set (omega arith)
-
-slice-write-block-3 : tie.Need-slice-write-block-3
-slice-write-block-3 c = simp length-set (omega arith)
-
-slice-write-block-4 : tie.Need-slice-write-block-4
-slice-write-block-4 c = simp length-set (omega arith)
-
 returns : tie.Need-returns
 unfolding be4
 returns c = let s = c .before .before .before .before .before in
@@ -21,5 +12,6 @@ returns c = let s = c .before .before .before .before .before in
     (put-four (s .args .block .now) (s .args .at) _ _ _ _ (omega arith))
 
 pub put4-spec : {M : Type 1} → statement M
-put4-spec = tie.close (tie.spec (λ c κs. search needs) (search needs) (λ c κs. search needs) (search needs) slice-write-block-2 (λ c κs. search needs) (search needs)
-    slice-write-block-3 (λ c κs. search needs) (search needs) slice-write-block-4 (search needs) returns)
+put4-spec = tie.close (tie.spec (λ c κs. search needs) (search needs) (λ c κs. search needs) (search needs) (λ c. simp length-set (omega arith))
+    (λ c κs. search needs) (search needs) (λ c. simp length-set (omega arith)) (λ c κs. search needs) (search needs) (λ c. simp length-set (omega arith))
+    (search needs) returns)

@@ -5,9 +5,6 @@ use Rattle.block_forms.proofs.Spelled.{whole-block}
 use Rattle.block_forms.proofs.spell_header.Statement.{statement}
 use Rattle.block_forms.proofs.spell_header.Tie as tie
 
-cast-t14 : tie.Need-cast-t14
-cast-t14 c = omega (arith, c .struct-known10)
-
 put-fields-requires : tie.Need-put-fields-requires
 put-fields-requires c κs = let s = c .before .before .before .before .before .before .before .before .before .before .before .before .before .before in (
   record {
@@ -22,8 +19,9 @@ returns : tie.Need-returns
 unfolding encodeBlock
 returns c = let s = c .before .before .before .before .before .before .before .before .before .before .before .before .before .before .before .before .before in
     let p = c .before .before .put-fields in
-    whole-block (headerFields (s .args .h)) (s .args .block .now) (p .last .0) (s .pre .1) (omega arith) (omega (arith, p .kept, s .pre .0)) (λ j. omega (arith, c .slice-known2 .given j)) (p .ensures)
+    let a = s .args in
+    whole-block (headerFields (a .h)) (a .block .now) (p .last .0) (s .pre .1) (omega arith) (omega (arith, p .kept, s .pre .0)) (λ j. omega (arith, c .slice-known2 .given j)) (p .ensures)
 
 pub spell-header-spec : {M : Type 1} → statement M
-spell-header-spec = tie.close (tie.spec (search needs) (search needs) (search needs) (search needs) (search needs) (search needs) (search needs) (search needs) (search needs)
-    cast-t14 (search needs) (search needs) put-fields-requires (search needs) returns)
+spell-header-spec = tie.close (tie.spec (search needs) (search needs) (search needs) (search needs) (search needs) (search needs) (search needs) (search needs)
+    (search needs) (λ c. omega (arith, c .struct-known10)) (search needs) (search needs) put-fields-requires (search needs) returns)

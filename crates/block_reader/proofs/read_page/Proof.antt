@@ -42,8 +42,7 @@ again p = page (p .before .before .before .before .before .before .get-bits .res
 -- what was compared is its spelling
 spells : (c : tie.After-same-block Inv-loop μ-loop) → let p = c .before .before .before .before in c .same-block .result ≡ same (encodeBlock (again p)) (block p)
 spells c =
-    let e = c .before .before in
-    let p = e .before .before in
+    let e = c .before .before in let p = e .before .before in
     let t = p .before .before .before .before .before .before .get-bits .ensures .0 in
     let l = p .before .before .before .get-bits4 .ensures .0 in
     c .same-block .ensures
@@ -58,17 +57,14 @@ begin-page-requires c κs =
 
 loop-holds : tie.Need-loop-holds Inv-loop μ-loop
 loop-holds c =
-    let l = c .before .before in
-    let b = l .before in
-    let t = b .before .before in
+    let l = c .before .before in let b = l .before in let t = b .before .before in
     let a = again-start (t .before .before .args .block .now) (t .get-bits .result) (l .get-bits4 .result) (b .before .get-bits2 .result) (b .get-bits3 .result)
     (t .before .before .pre) (c .begin-page .ensures) in
     (again-length (t .before .before .pre) a, a)
 
 append-requires : tie.Need-append-requires Inv-loop μ-loop
 append-requires c κs =
-    let f = c .before .before in
-    let p = f .before .before .before .before in
+    let f = c .before .before in let p = f .before .before .before .before in
     found-appends (block p) (p .loop .at) (whole p) (bytes p) (found f)
 
 returns : tie.Need-returns Inv-loop μ-loop
@@ -81,8 +77,7 @@ returns c =
 
 loop-again : tie.Need-loop-again Inv-loop μ-loop
 loop-again c =
-    let f = c .before .before .before in
-    let p = f .before .before .before .before in
+    let f = c .before .before .before in let p = f .before .before .before .before in
     let more = again-turn (whole p) (p .loop .inv .1) (omega (arith, f .before .before .before .loop-test)) (found f) (c .append .ensures) in
     (again-length (whole p) more, more)
 
@@ -117,6 +112,7 @@ returns-4 c =
     sym (page-no (block p) t n l (passed-end (p .loop .inv .1 .passed) (omega (arith, e))) (sym (spells (c .before)) ∙ c .if2 .left))
 
 pub read-page-spec : {M : Type 1} → statement M
-read-page-spec = tie.close (tie.spec Inv-loop μ-loop (λ c κs. omega arith) (λ c. omega arith) (λ c κs. omega arith) (λ c. omega arith) (λ c κs. omega arith) (λ c. omega arith)
-    (λ c κs. omega arith) (λ c. omega arith) begin-page-requires loop-holds (λ c κs. omega arith) (λ c. omega arith) append-requires (λ c. omega arith) returns
-    (λ c. omega arith) (λ c. omega arith) loop-again (λ c. omega arith) (λ c. omega arith) returns-2 (λ c. omega arith) (λ c κs. omega arith) returns-3 returns-4)
+read-page-spec = tie.close (tie.spec Inv-loop μ-loop (λ c κs. omega arith) (λ c. omega arith) (λ c κs. omega arith) (λ c. omega arith) (λ c κs. omega arith)
+    (λ c. omega arith) (λ c κs. omega arith) (λ c. omega arith) begin-page-requires loop-holds (λ c κs. omega arith) (λ c. omega arith) append-requires
+    (λ c. omega arith) returns (λ c. omega arith) (λ c. omega arith) loop-again (λ c. omega arith) (λ c. omega arith) returns-2 (λ c. omega arith)
+    (λ c κs. omega arith) returns-3 returns-4)

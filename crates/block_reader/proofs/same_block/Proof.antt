@@ -11,9 +11,6 @@ Inv-loop a b ok₀ i₀ ok i = (i ≤ 512) × (same a b ≡ (ok && same (drop i 
 abbrev μ-loop : tie.MeasureT-loop
 μ-loop a b ok₀ i₀ ok i = 512 - i
 
-loop-holds : tie.Need-loop-holds Inv-loop μ-loop
-loop-holds c = (omega arith, refl)
-
 loop-again : tie.Need-loop-again Inv-loop μ-loop
 loop-again c = let s = c .before .before .before .before in
     let p = c .before .before .before .loop in
@@ -25,4 +22,5 @@ returns c = let s = c .before .before in
     same-end (s .args .a .now) (s .args .b .now) (p .i) (p .ok) (p .inv .1) (omega arith) (omega arith)
 
 pub same-block-spec : {M : Type 1} → statement M
-same-block-spec = tie.close (tie.spec Inv-loop μ-loop loop-holds (λ c. omega arith) (λ c. omega arith) (λ c. omega arith) (λ c. omega arith) loop-again returns)
+same-block-spec = tie.close (tie.spec Inv-loop μ-loop (λ c. (omega arith, refl)) (λ c. omega arith) (λ c. omega arith) (λ c. omega arith) (λ c. omega arith)
+    loop-again returns)

@@ -13,52 +13,43 @@ abbrev μ-loop : tie.MeasureT-loop
 μ-loop m counts₀ n i₀ counts i = n - i
 
 get-counts-requires : tie.Need-get-counts-requires Inv-loop μ-loop
-get-counts-requires c κs = omega (arith, c .before .before .pre .0 .range .long)
+get-counts-requires c κs = omega (arith, c .before .before .pre .0 .0 .range .long)
 
 loop-holds : tie.Need-loop-holds Inv-loop μ-loop
-loop-holds c = (row-count _ (c .before .get-counts .ensures) (c .wide .ensures), c .before .before .before .before .pre .1 .1)
+loop-holds c = (row-count _ (c .before .get-counts .ensures) (c .wide .ensures), c .before .before .before .before .pre .1)
 
 owner-at-requires : tie.Need-owner-at-requires Inv-loop μ-loop
 owner-at-requires c κs =
-    let p1 = c .before in
-    let p2 = p1 .before in
-    let p7 = p2 .before .before .before .before .before in
-    (p7 .pre .0, omega (arith, p2 .loop .inv .0, p1 .loop-test))
+    let p1 = c .before in let p2 = p1 .before in let p7 = p2 .before .before .before .before .before in
+    (p7 .pre .0 .0, omega (arith, p2 .loop .inv .0, p1 .loop-test))
 
 note-requires : tie.Need-note-requires Inv-loop μ-loop
 note-requires c κs =
-    let p2 = c .before .before in
-    let p3 = p2 .before in
-    let p8 = p3 .before .before .before .before .before in
+    let p2 = c .before .before in let p3 = p2 .before in let p8 = p3 .before .before .before .before .before in
     let l = p3 .loop in
     let m = p8 .args .m .now in
     let h : l .i < length (flatOf m .rows) = omega (arith, l .inv .0, p2 .loop-test) in
-    (counts-small (flatOf m) (l .i) (rows-few m (p8 .pre .0)) (l .inv .1), owner-fits (flatOf m) (l .i) h (p8 .pre .1 .0) (c .owner-at .ensures))
+    (counts-small (flatOf m) (l .i) (rows-few m (p8 .pre .0 .0)) (l .inv .1), owner-fits (flatOf m) (l .i) h (p8 .pre .0 .1) (c .owner-at .ensures))
 
 loop-again : tie.Need-loop-again Inv-loop μ-loop
 loop-again c =
-    let p2 = c .before .before in
-    let p3 = p2 .before in
-    let p5 = p3 .before .before in
-    let p6 = p5 .before in
+    let p2 = c .before .before in let p3 = p2 .before in let p5 = p3 .before .before in let p6 = p5 .before in
     let p11 = p6 .before .before .before .before .before in
     let l = p6 .loop in
     let m = p11 .args .m .now in
     let h : l .i < length (flatOf m .rows) = omega (arith, l .inv .0, p5 .loop-test) in
-    (l .inv .0, counts-turn (flatOf m) (l .i) h (p11 .pre .1 .0) (p3 .owner-at .ensures) (l .inv .1) (p2 .note .ensures))
+    (l .inv .0, counts-turn (flatOf m) (l .i) h (p11 .pre .0 .1) (p3 .owner-at .ensures) (l .inv .1) (p2 .note .ensures))
 
 same-length : tie.Need-same-length Inv-loop μ-loop
 same-length c =
-    let p1 = c .before in
-    let p6 = p1 .before .before .before .before .before in
-    p1 .loop .inv .1 .size ∙ sym (p6 .pre .1 .1 .size)
+    let p1 = c .before in let p6 = p1 .before .before .before .before .before in
+    p1 .loop .inv .1 .size ∙ sym (p6 .pre .1 .size)
 
 returns : tie.Need-returns Inv-loop μ-loop
 returns c =
-    let p1 = c .before in
-    let p6 = p1 .before .before .before .before .before in
+    let p1 = c .before in let p6 = p1 .before .before .before .before .before in
     counts-end (flatOf (p6 .args .m .now)) (p1 .loop .i) (omega (arith, p1 .loop .inv .0, c .loop-test)) (p1 .loop .inv .1)
 
 pub count-rows-spec : {M : Type 1} → statement M
-count-rows-spec = tie.close (tie.spec Inv-loop μ-loop get-counts-requires (λ c κs. omega arith) loop-holds owner-at-requires note-requires (λ c. omega arith) (λ c. omega arith)
-    loop-again same-length returns)
+count-rows-spec = tie.close (tie.spec Inv-loop μ-loop get-counts-requires (λ c κs. omega arith) loop-holds owner-at-requires note-requires (λ c. omega arith)
+    (λ c. omega arith) loop-again same-length returns)

@@ -43,27 +43,25 @@ laid c =
 
 fresh-requires : tie.Need-fresh-requires
 fresh-requires c κs =
-    let p1 = c .before in
-    let p5 = p1 .before .before .before .before in
+    let p1 = c .before in let p5 = p1 .before .before .before .before in
     let k = known p1 in
     let n = k .whole .passed .counts in
     record { least = n .low; most = n .high; long = p5 .pre .0 .1; few = omega (arith, n .blocks, k .whole .few); many = omega (arith, n .blocks, k .whole .many) }
 
 load-pages-requires : tie.Need-load-pages-requires
 load-pages-requires c κs =
-    let p3 = c .before .before .before in
-    let p5 = p3 .before .before in
-    let p9 = p5 .before .before .before .before in
+    let p3 = c .before .before .before in let p5 = p3 .before .before in let p9 = p5 .before .before .before .before in
     let k = known p5 in
     let a = p9 .args in
     let ps = pagesAt (view (a .image .now)) (a .entries .now) in
-    let f = p3 .fresh .ensures .0 in
-    ((k .named, (k .whole .many, p9 .pre .1 .1)), (f .room, (order-none (a .h) ps (k .pages) f, pages-room (a .h) ps (k .pages) f (k .rows) (k .follow))))
+    let f = p3 .fresh .ensures .0 in (
+      record { named = k .named; few = k .whole .many; pages = p9 .pre .1 .1 },
+      record { room = f .room; order = order-none (a .h) ps (k .pages) f; fit = pages-room (a .h) ps (k .pages) f (k .rows) (k .follow) },
+    )
 
 mark-blocks-requires : tie.Need-mark-blocks-requires
 mark-blocks-requires c κs =
-    let p3 = c .before .before .before in
-    let p9 = p3 .before .before .before .before .before .before in
+    let p3 = c .before .before .before in let p9 = p3 .before .before .before .before .before .before in
     let k = known p9 in
     (named-more _ 4096 _ (k .whole .many) (k .named), p3 .load-pages .ensures .becomes .room)
 
@@ -79,17 +77,18 @@ slice-aggregate-mark-blocks c =
 
 mark-blocks-requires-2 : tie.Need-mark-blocks-requires-2
 mark-blocks-requires-2 c κs =
-    let p4 = c .before .before .before .before in
-    let p14 = p4 .before .before .before .before .before .before .before .before .before .before in
+    let p4 = c .before .before .before .before in let p14 = p4 .before .before .before .before .before .before .before .before .before .before in
     let k = known p14 in
     (ap (all (blockOk 4096)) (in-directory p14) ∙ named-more _ 4096 _ (k .whole .many) (k .whole .passed .directories), p4 .mark-blocks .ensures .room)
 
 reopen-requires : tie.Need-reopen-requires
 reopen-requires c κs =
-    let p = c .before .before .before in let w = start p in let a = w .before .before .before .before .args in let k = known w in (
-      p .mark-blocks2 .ensures .room,
-      (owners-room (a .h) (pages w) (k .pages) (a .entries .now) (inUse w) (laid p), opens-room (a .h) (pages w) (k .pages) (a .entries .now) (inUse w) (laid p) (k .opens)),
-    )
+    let p = c .before .before .before in let w = start p in let a = w .before .before .before .before .args in let k = known w in
+    record {
+      room = p .mark-blocks2 .ensures .room;
+      owners = owners-room (a .h) (pages w) (k .pages) (a .entries .now) (inUse w) (laid p);
+      opens = opens-room (a .h) (pages w) (k .pages) (a .entries .now) (inUse w) (laid p) (k .opens);
+    }
 
 put-head-requires : tie.Need-put-head-requires
 put-head-requires c κs =
@@ -106,5 +105,5 @@ returns c =
     laid-out (a .h) (pages w) (known w .pages) (a .entries .now) (inUse w) (laid p) (p6 .reopen .ensures) (sym (s .pre .1 .1)) (in-directory w) (p2 .put-head .ensures)
 
 pub lay-out-spec : {M : Type 1} → statement M
-lay-out-spec = tie.close (tie.spec (λ c κs. search needs) fresh-requires load-pages-requires mark-blocks-requires array-share-prefix-directories slice-aggregate-mark-blocks
-    mark-blocks-requires-2 reopen-requires put-head-requires (search needs) returns)
+lay-out-spec = tie.close (tie.spec (λ c κs. search needs) fresh-requires load-pages-requires mark-blocks-requires array-share-prefix-directories
+    slice-aggregate-mark-blocks mark-blocks-requires-2 reopen-requires put-head-requires (search needs) returns)

@@ -10,19 +10,22 @@ use Rattle.call_recovery.proofs.load_row.Tie as tie
 
 append-row-requires : tie.Need-append-row-requires
 append-row-requires c κs =
-    let p2 = c .before .before in
-    let p6 = p2 .before .before .before .before in
+    let p2 = c .before .before in let p6 = p2 .before .before .before .before in
     let pre = p6 .pre in (
-      record { room = pre .1 .0; at = omega arith; more = pre .1 .1 .1 .1; owner = subst RowFits (sym (p2 .row-of .ensures)) (pre .0 .1 .1); payload = simp length-take (omega (arith, pre .0 .0)) },
-      (pre .1 .1 .0, pre .1 .1 .1 .0),
+      record {
+        room = pre .1 .room;
+        at = omega arith;
+        more = omega (arith, pre .1 .rows);
+        owner = subst RowFits (sym (p2 .row-of .ensures)) (pre .0 .owner);
+        payload = simp length-take (omega (arith, pre .0 .limit));
+      },
+      (pre .1 .order, pre .1 .page),
     )
 
 returns : tie.Need-returns
 unfolding withoutPending tupleOf
 returns c =
-    let p2 = c .before .before in
-    let p5 = p2 .before .before .before in
-    let p9 = p5 .before .before .before .before in
+    let p2 = c .before .before in let p5 = p2 .before .before .before in let p9 = p5 .before .before .before .before in
     let r = p9 .args .r in
     let bs : List ℕ = drop (r .start) (p9 .args .block .now) in
     let n : ℕ = r .start + r .len - r .start in

@@ -14,7 +14,8 @@ use Rattle.call_recovery.proofs.load_rows.Statement.{statement}
 use Rattle.call_recovery.proofs.load_rows.Tie as tie
 
 abbrev Inv-loop : tie.InvT-loop
-Inv-loop block count m₀ at₀ i₀ m at i = (i ≤ count) × (Walk block (tuplesIn (asPage (decodeBlock block))) at i × Fills (map withoutPending (take i (tuplesIn (asPage (decodeBlock block))))) m₀ m)
+Inv-loop block count m₀ at₀ i₀ m at i =
+    let ts = tuplesIn (asPage (decodeBlock block)) in (i ≤ count) × (Walk block ts at i × Fills (map withoutPending (take i ts)) m₀ m)
 
 abbrev μ-loop : tie.MeasureT-loop
 μ-loop block count m₀ at₀ i₀ m at i = count - i
@@ -24,70 +25,54 @@ loop-holds c =
     let p2 = c .before .before in
     let bs = p2 .args .block .now in
     let r = p2 .pre .1 in
-    (omega arith, (page-walk bs (asPage (decodeBlock bs)) refl (p2 .pre .0 .1 .0), fills-none (p2 .args .m .now) (r .0) (r .1 .0) (r .1 .1 .0)))
+    (omega arith, (page-walk bs (asPage (decodeBlock bs)) refl (p2 .pre .0 .page), fills-none (p2 .args .m .now) (r .room) (r .order) (r .page)))
 
 next-requires : tie.Need-next-requires Inv-loop μ-loop
-next-requires c κs = c .before .before .before .before .pre .0 .0
+next-requires c κs = c .before .before .before .before .pre .0 .size
 
 load-row-requires : tie.Need-load-row-requires Inv-loop μ-loop
 load-row-requires c κs =
-    let p2 = c .before .before in
-    let p4 = p2 .before .before in
-    let p5 = p4 .before in
-    let p6 = p5 .before in
-    let p8 = p6 .before .before in
+    let p2 = c .before .before in let p4 = p2 .before .before in let p5 = p4 .before in let p6 = p5 .before in let p8 = p6 .before .before in
     let p9 = p8 .before in
     let xs = p9 .args .block .now in
     let l = p6 .loop in
     let pre = p9 .pre in
     let h : l .i < p9 .args .count = omega (arith, p5 .loop-test) in
-    let f = walk-found (l .inv .1 .0) (omega (arith, pre .0 .1 .1)) (sym (p2 .r .given .1) ∙ p4 .next .ensures) in
+    let f = walk-found (l .inv .1 .0) (omega (arith, pre .0 .count)) (sym (p2 .r .given .1) ∙ p4 .next .ensures) in
     let fits = found-fits xs (l .at) (all-bytes xs (λ j. omega (arith, p8 .shared-slice-known .given j))) (f .found) in
-    ((f .found .limit, (f .found .inside, fits)), row-room _ _ (p9 .args .count) (l .i) _ (pre .0 .1 .1) (l .inv .1 .1) (pre .1 .1 .1 .1) h)
+    (record { limit = f .found .limit; inside = f .found .inside; owner = fits }, row-room _ _ (p9 .args .count) (l .i) _ (pre .0 .count) (l .inv .1 .1) (pre .1 .rows) h)
 
 same-length : tie.Need-same-length Inv-loop μ-loop
 same-length c = c .before .before .before .before .loop .inv .1 .1 .becomes .size
 
 returns : tie.Need-returns Inv-loop μ-loop
 returns c =
-    let p2 = c .before .before in
-    let p3 = p2 .before in
-    let p4 = p3 .before in
-    let p7 = p4 .before .before .before in
-    absurd (walk-bad (p4 .loop .inv .1 .0) (omega (arith, p7 .pre .0 .1 .1, p3 .loop-test)) (sym (c .enum-told .given .1) ∙ p2 .next .ensures))
+    let p2 = c .before .before in let p3 = p2 .before in let p4 = p3 .before in let p7 = p4 .before .before .before in
+    absurd (walk-bad (p4 .loop .inv .1 .0) (omega (arith, p7 .pre .0 .count, p3 .loop-test)) (sym (c .enum-told .given .1) ∙ p2 .next .ensures))
 
 add-i : tie.Need-add-i Inv-loop μ-loop
 add-i c =
-    let p8 = c .before .before .before .before .before .before .before .before in
-    let p12 = p8 .before .before .before .before in
-    omega (arith, p12 .pre .1 .1 .1 .1, p12 .pre .1 .0 .range .most, p8 .loop-test)
+    let p8 = c .before .before .before .before .before .before .before .before in let p12 = p8 .before .before .before .before in
+    omega (arith, p12 .pre .1 .rows, p12 .pre .1 .room .range .most, p8 .loop-test)
 
 loop-again : tie.Need-loop-again Inv-loop μ-loop
 loop-again c =
-    let p2 = c .before .before in
-    let p5 = p2 .before .before .before in
-    let p7 = p5 .before .before in
-    let p8 = p7 .before in
-    let p9 = p8 .before in
+    let p2 = c .before .before in let p5 = p2 .before .before .before in let p7 = p5 .before .before in let p8 = p7 .before in let p9 = p8 .before in
     let p12 = p9 .before .before .before in
     let l = p9 .loop in
     let pre = p12 .pre in
     let ts : List Tuple = tuplesIn (asPage (decodeBlock (p12 .args .block .now))) in
-    let h : l .i < length ts = omega (arith, pre .0 .1 .1, p8 .loop-test) in
+    let h : l .i < length ts = omega (arith, pre .0 .count, p8 .loop-test) in
     let f = walk-found (l .inv .1 .0) h (sym (p5 .r .given .1) ∙ p7 .next .ensures) in
-    (omega (arith, p8 .loop-test), (f .walk, fills-turn (l .i) ts _ (f .done) (l .inv .1 .1) (pre .1 .1 .1 .0) (p2 .load-row .ensures)))
-
-same-length-2 : tie.Need-same-length-2 Inv-loop μ-loop
-same-length-2 c = c .before .loop .inv .1 .1 .becomes .size
+    (omega (arith, p8 .loop-test), (f .walk, fills-turn (l .i) ts _ (f .done) (l .inv .1 .1) (pre .1 .page) (p2 .load-row .ensures)))
 
 returns-2 : tie.Need-returns-2 Inv-loop μ-loop
 returns-2 c =
-    let p1 = c .before in
-    let p4 = p1 .before .before .before in
+    let p1 = c .before in let p4 = p1 .before .before .before in
     let l = p1 .loop in
     let ts : List Tuple = tuplesIn (asPage (decodeBlock (p4 .args .block .now))) in
-    subst (λ (hs : List Held). Fills hs (p4 .args .m .now) (l .m)) (withoutPending-all (l .i) ts (omega (arith, p4 .pre .0 .1 .1, c .loop-test))) (l .inv .1 .1)
+    subst (λ (hs : List Held). Fills hs (p4 .args .m .now) (l .m)) (withoutPending-all (l .i) ts (omega (arith, p4 .pre .0 .count, c .loop-test))) (l .inv .1 .1)
 
 pub load-rows-spec : {M : Type 1} → statement M
 load-rows-spec = tie.close (tie.spec Inv-loop μ-loop loop-holds next-requires (λ c. omega arith) load-row-requires (λ c. omega arith) same-length returns add-i
-    (λ c. omega arith) loop-again same-length-2 returns-2)
+    (λ c. omega arith) loop-again (λ c. c .before .loop .inv .1 .1 .becomes .size) returns-2)

@@ -15,9 +15,7 @@ loop-holds c = let s = c .before .before in (omega arith, marking-start (s .args
 
 mark-used-requires : tie.Need-mark-used-requires Inv-loop μ-loop
 mark-used-requires c κs =
-    let p3 = c .before .before .before in
-    let p4 = p3 .before in
-    let p7 = p4 .before .before .before in
+    let p3 = c .before .before .before in let p4 = p3 .before in let p7 = p4 .before .before .before in
     let bs = p7 .args .bs .now in
     let l = p4 .loop in
     let h : l .i < length bs = omega (arith, p3 .loop-test) in
@@ -25,22 +23,16 @@ mark-used-requires c κs =
 
 loop-again : tie.Need-loop-again Inv-loop μ-loop
 loop-again c =
-    let p2 = c .before .before in
-    let p3 = p2 .before in
-    let p6 = p3 .before .before .before in
-    let p7 = p6 .before in
+    let p2 = c .before .before in let p3 = p2 .before in let p6 = p3 .before .before .before in let p7 = p6 .before in
     let p10 = p7 .before .before .before in
     let a = p10 .args in
     let l = p7 .loop in
     let h : l .i < length (a .bs .now) = omega (arith, p6 .loop-test) in
     (omega arith, marking-turn (a .m .now) (l .m) _ (a .bs .now) (l .i) _ h (p3 .wide .ensures) (l .inv .1) (p2 .mark-used .ensures))
 
-same-length : tie.Need-same-length Inv-loop μ-loop
-same-length c = c .before .loop .inv .1 .size
-
 returns : tie.Need-returns Inv-loop μ-loop
 returns c = let s = c .before .before .before .before in let a = s .args in let p = c .before .loop in marking-end (a .m .now) (p .m) (a .bs .now) (p .i) (omega (arith, c .loop-test)) (p .inv .1)
 
 pub mark-blocks-spec : {M : Type 1} → statement M
 mark-blocks-spec = tie.close (tie.spec Inv-loop μ-loop loop-holds (λ c. omega arith) (λ c. omega arith) (λ c κs. omega arith) mark-used-requires (λ c. omega arith)
-    (λ c. omega arith) loop-again same-length returns)
+    (λ c. omega arith) loop-again (λ c. c .before .loop .inv .1 .size) returns)

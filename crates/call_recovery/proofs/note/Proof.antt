@@ -11,8 +11,7 @@ use Rattle.call_recovery.proofs.note.Tie as tie
 -- the transaction is one that there may be
 small : (c : tie.After-wide) → c .wide .result < 4096
 small c =
-    let p2 = c .before .before in
-    let p5 = p2 .before .before .before in
+    let p2 = c .before .before in let p5 = p2 .before .before .before in
     omega (arith, c .wide .ensures, subst (λ (o : Owner). OwnerFits (ownerIs o)) (p2 .o .given .1) (p5 .pre .1))
 
 slice-read-counts : tie.Need-slice-read-counts
@@ -30,9 +29,7 @@ returns c = let xs = c .before .before .before .args .counts .now in sym (ap (λ
 
 returns-2 : tie.Need-returns-2
 returns-2 c =
-    let p1 = c .before in
-    let p3 = p1 .before .before in
-    let p6 = p3 .before .before .before in
+    let p1 = c .before in let p3 = p1 .before .before in let p6 = p3 .before .before .before in
     let xs = p6 .args .counts .now in
     noted-by xs (ap ownerIs (p3 .o .given .1)) (p1 .wide .ensures) _ (omega arith)
 

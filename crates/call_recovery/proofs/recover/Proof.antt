@@ -12,44 +12,30 @@ use Rattle.call_recovery.proofs.recover.Tie as tie
 -- the header that passed
 passed : (c : tie.After-known-told) → headerStage (c .before .before .before .before .before .before .args .image .now) ≡ holds (c .before .h .given .0 .0)
 passed c =
-    let p1 = c .before in
-    let p3 = p1 .before .before in
-    let p6 = p3 .before .before .before in
+    let p1 = c .before in let p3 = p1 .before .before in let p6 = p3 .before .before .before in
     let g = p1 .h .given in
     passed-is (p6 .args .image .now) (g .0 .0) (sym (g .1) ∙ p3 .test-header .ensures)
 
 -- the pages that passed
 prepared : (c : tie.After-wide2)
     → let p4 = c .before .before .before .before in
-    let p8 = p4 .before .before .before .before in
-    let p13 = p8 .before .before .before .before .before in
+    let p8 = p4 .before .before .before .before in let p13 = p8 .before .before .before .before .before in
     Ready (p13 .args .image .now) (p8 .h .given .0 .0) (p4 .test-pages .result) (c .wide2 .result)
 prepared c =
-    let p2 = c .before .before in
-    let p4 = p2 .before .before in
-    let p7 = p4 .before .before .before in
-    let p8 = p7 .before in
+    let p2 = c .before .before in let p4 = p2 .before .before in let p7 = p4 .before .before .before in let p8 = p7 .before in
     let p13 = p8 .before .before .before .before .before in
     ready (p13 .args .image .now) (p8 .h .given .0 .0) (p4 .test-pages .result) (c .wide2 .result) (passed p7) (p4 .test-pages .ensures)
     (omega (arith, p2 .if2 .left)) (c .wide2 .ensures)
 
 returns : tie.Need-returns
 returns c =
-    let p1 = c .before in
-    let p2 = p1 .before in
-    let p8 = p2 .before .before .before .before .before .before in
+    let p1 = c .before in let p2 = p1 .before in let p8 = p2 .before .before .before .before .before .before in
     let a = p8 .args in
     refused-memory (a .image .now) (a .m .now) _ (passed p2) (omega (arith, p1 .wide .ensures, c .if1 .taken))
 
-test-pages-requires : tie.Need-test-pages-requires
-test-pages-requires c κs = passed (c .before .before)
-
 returns-2 : tie.Need-returns-2
 returns-2 c =
-    let p2 = c .before .before in
-    let p3 = p2 .before in
-    let p4 = p3 .before in
-    let p5 = p4 .before in
+    let p2 = c .before .before in let p3 = p2 .before in let p4 = p3 .before in let p5 = p4 .before in
     let p11 = p5 .before .before .before .before .before .before in
     let a = p11 .args in
     refused-pages (a .image .now) (a .m .now) _ (passed p5) (omega (arith, p4 .wide .ensures, p3 .if1 .left)) _
@@ -58,15 +44,9 @@ returns-2 c =
 array-share-prefix-entries : tie.Need-array-share-prefix-entries
 array-share-prefix-entries c = omega (arith, prepared c .count, length-take (c .wide2 .result) (c .before .before .before .before .test-pages .result .entries))
 
-slice-aggregate-lay-out : tie.Need-slice-aggregate-lay-out
-slice-aggregate-lay-out c = sym (prepared (c .before) .count)
-
 lay-out-requires : tie.Need-lay-out-requires
 lay-out-requires c κs =
-    let p2 = c .before .before in
-    let p7 = p2 .before .before .before .before .before in
-    let p8 = p7 .before in
-    let p9 = p8 .before in
+    let p2 = c .before .before in let p7 = p2 .before .before .before .before .before in let p8 = p7 .before in let p9 = p8 .before in
     let r = prepared p2 in (
       (passed p9, omega (arith, p8 .wide .ensures, p7 .if1 .left)),
       (r .passed ∙ ap holds (sym (r .there)), ap blocksIn (r .there) ∙ r .blocks),
@@ -74,13 +54,8 @@ lay-out-requires c κs =
 
 returns-3 : tie.Need-returns-3
 returns-3 c =
-    let p2 = c .before .before in
-    let p5 = p2 .before .before .before in
-    let p9 = p5 .before .before .before .before in
-    let p10 = p9 .before in
-    let p11 = p10 .before in
-    let p12 = p11 .before in
-    let p18 = p12 .before .before .before .before .before .before in
+    let p2 = c .before .before in let p5 = p2 .before .before .before in let p9 = p5 .before .before .before .before in let p10 = p9 .before in
+    let p11 = p10 .before in let p12 = p11 .before in let p18 = p12 .before .before .before .before .before .before in
     let a = p18 .args in
     let r = prepared p5 in
     let es = take (p5 .wide2 .result) (p9 .test-pages .result .entries) in
@@ -89,13 +64,12 @@ returns-3 c =
 
 returns-4 : tie.Need-returns-4
 returns-4 c =
-    let p1 = c .before in
-    let p3 = p1 .before .before in
-    let p6 = p3 .before .before .before in
+    let p1 = c .before in let p3 = p1 .before .before in let p6 = p3 .before .before .before in
     let a = p6 .args in
     let g = p1 .n .given in
     refused-header (a .image .now) (a .m .now) _ (stage-refused _ (g .0 .0) (sym (g .1) ∙ p3 .test-header .ensures))
 
 pub recover-spec : {M : Type 1} → statement M
-recover-spec = tie.close (tie.spec (λ c κs. search needs) (search needs) (λ c κs. search needs) (search needs) (search needs) returns test-pages-requires returns-2
-    (λ c κs. search needs) array-share-prefix-entries slice-aggregate-lay-out lay-out-requires (search needs) (search needs) returns-3 returns-4)
+recover-spec = tie.close (tie.spec (λ c κs. search needs) (search needs) (λ c κs. search needs) (search needs) (search needs) returns
+    (λ c κs. passed (c .before .before)) returns-2 (λ c κs. search needs) array-share-prefix-entries (λ c. sym (prepared (c .before) .count)) lay-out-requires
+    (search needs) (search needs) returns-3 returns-4)

@@ -10,21 +10,18 @@ use Rattle.call_recovery.proofs.reopen_last.Tie as tie
 -- the transaction is one that there may be
 small : (c : tie.After-wide) → c .wide .result < 4096
 small c =
-    let p2 = c .before .before in
-    let p7 = p2 .before .before .before .before .before in
-    omega (arith, c .wide .ensures, subst (λ (o : Owner). OwnerFits (ownerIs o)) (p2 .o .given .1) (p7 .pre .1 .1 .0))
+    let p2 = c .before .before in let p7 = p2 .before .before .before .before .before in
+    omega (arith, c .wide .ensures, subst (λ (o : Owner). OwnerFits (ownerIs o)) (p2 .o .given .1) (p7 .pre .owner))
 
 shared-slice-read-written : tie.Need-shared-slice-read-written
-shared-slice-read-written c = omega (arith, small (c .before), c .before .before .before .before .before .before .before .before .pre .1 .0 .0 .size)
+shared-slice-read-written c = omega (arith, small (c .before), c .before .before .before .before .before .before .before .before .pre .counted .size)
 
 shared-slice-read-if1 : tie.Need-shared-slice-read-if1
-shared-slice-read-if1 c = omega (arith, small (c .before .before), c .before .before .before .before .before .before .before .before .before .pre .1 .0 .1 .size)
+shared-slice-read-if1 c = omega (arith, small (c .before .before), c .before .before .before .before .before .before .before .before .before .pre .passing .size)
 
 push-open-requires : tie.Need-push-open-requires
 push-open-requires c κs =
-    let p1 = c .before in
-    let p4 = p1 .before .before .before in
-    let p6 = p4 .before .before in
+    let p1 = c .before in let p4 = p1 .before .before .before in let p6 = p4 .before .before in
     let p11 = p6 .before .before .before .before .before in
     let pre = p11 .pre in
     let w = p4 .wide .ensures in
@@ -32,30 +29,25 @@ push-open-requires c κs =
     let a = p11 .args in
     let e = opened-last (g .0 .0) (g .0 .1 .0) (p4 .wide .result) (a .counts .now) (a .passed .now) (ap ownerIs (g .1)) w (p1 .if1 .taken) in
     let l = small p4 in (
-      pre .0,
+      pre .room,
       record {
-        few = omega (arith, ap length e, pre .1 .1 .1);
-        fits = record { transaction = omega arith; written = omega (arith, pre .1 .0 .0 .most _ l) };
+        few = omega (arith, ap length e, pre .opens);
+        fits = record { transaction = omega arith; written = omega (arith, pre .counted .most _ l) };
       },
     )
 
 returns : tie.Need-returns
-returns c = let p5 = c .before .before .before .before .before in opens-none _ _ (p5 .pre .0) (opened-settled _ _ (ap ownerIs (c .enum-told .given .1)))
+returns c = let p5 = c .before .before .before .before .before in opens-none _ _ (p5 .pre .room) (opened-settled _ _ (ap ownerIs (c .enum-told .given .1)))
 
 returns-2 : tie.Need-returns-2
 returns-2 c =
-    let p2 = c .before .before in
-    let p4 = p2 .before .before in
-    let p7 = p4 .before .before .before in
-    let p9 = p7 .before .before in
+    let p2 = c .before .before in let p4 = p2 .before .before in let p7 = p4 .before .before .before in let p9 = p7 .before .before in
     opens-one _ _ _ _ (opened-last _ _ _ _ _ (ap ownerIs (p9 .o .given .1)) (p7 .wide .ensures) (p4 .if1 .taken)) (p2 .push-open .ensures)
 
 returns-3 : tie.Need-returns-3
 returns-3 c =
-    let p3 = c .before .before .before in
-    let p5 = p3 .before .before in
-    let p10 = p5 .before .before .before .before .before in
-    opens-none _ _ (p10 .pre .0) (opened-other _ _ _ _ _ (ap ownerIs (p5 .o .given .1)) (p3 .wide .ensures) (c .if1 .left))
+    let p3 = c .before .before .before in let p5 = p3 .before .before in let p10 = p5 .before .before .before .before .before in
+    opens-none _ _ (p10 .pre .room) (opened-other _ _ _ _ _ (ap ownerIs (p5 .o .given .1)) (p3 .wide .ensures) (c .if1 .left))
 
 pub reopen-last-spec : {M : Type 1} → statement M
 reopen-last-spec = tie.close (tie.spec (search needs) (search needs) (λ c κs. search needs) (search needs) shared-slice-read-written (search needs) shared-slice-read-if1

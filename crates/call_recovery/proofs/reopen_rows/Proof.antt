@@ -14,83 +14,68 @@ abbrev μ-loop : tie.MeasureT-loop
 μ-loop m₀ counts passed₀ n i₀ m passed i = n - i
 
 get-counts-requires : tie.Need-get-counts-requires Inv-loop μ-loop
-get-counts-requires c κs = omega (arith, c .before .before .before .before .pre .0 .0 .range .long)
+get-counts-requires c κs = omega (arith, c .before .before .before .before .pre .0 .room .range .long)
 
 loop-holds : tie.Need-loop-holds Inv-loop μ-loop
 loop-holds c =
-    let p1 = c .before in
-    let p6 = p1 .before .before .before .before .before in
-    let pre = p6 .pre .0 in
-    (row-count _ (p1 .get-counts .ensures) (c .wide .ensures), (reopened-start _ (pre .0), pre .1 .1 .1))
+    let p1 = c .before in let p6 = p1 .before .before .before .before .before in
+    (row-count _ (p1 .get-counts .ensures) (c .wide .ensures), (reopened-start _ (p6 .pre .0 .room), p6 .pre .1 .1))
 
 owner-at-requires : tie.Need-owner-at-requires Inv-loop μ-loop
 owner-at-requires c κs =
-    let p1 = c .before in
-    let p2 = p1 .before in
+    let p1 = c .before in let p2 = p1 .before in
     let l = p2 .loop in
     (l .inv .1 .0 .becomes .room, omega (arith, l .inv .0, p1 .loop-test, same-rows (l .inv .1 .0)))
 
 note-requires : tie.Need-note-requires Inv-loop μ-loop
 note-requires c κs =
-    let p1 = c .before in
-    let p3 = p1 .before .before in
-    let p4 = p3 .before in
+    let p1 = c .before in let p3 = p1 .before .before in let p4 = p3 .before in
     let p11 = p4 .before .before .before .before .before .before .before in
     let l = p4 .loop in
     let m = p11 .args .m .now in
     let pre = p11 .pre .0 in
     let h : l .i < length (flatOf m .rows) = omega (arith, l .inv .0, p3 .loop-test) in
-    (counts-small (flatOf m) (l .i) (rows-few m (pre .0)) (l .inv .1 .1), owner-fits (flatOf m) (l .i) h (pre .1 .0) (same-owner (l .inv .1 .0) (p1 .owner-at .ensures)))
+    (counts-small (flatOf m) (l .i) (rows-few m (pre .room)) (l .inv .1 .1), owner-fits (flatOf m) (l .i) h (pre .owners) (same-owner (l .inv .1 .0) (p1 .owner-at .ensures)))
 
 reopen-last-requires : tie.Need-reopen-last-requires Inv-loop μ-loop
 reopen-last-requires c κs =
-    let p4 = c .before .before .before .before in
-    let p6 = p4 .before .before in
-    let p8 = p6 .before .before in
-    let p9 = p8 .before in
+    let p4 = c .before .before .before .before in let p6 = p4 .before .before in let p8 = p6 .before .before in let p9 = p8 .before in
     let p16 = p9 .before .before .before .before .before .before .before in
     let l = p9 .loop in
     let m = p16 .args .m .now in
     let pre = p16 .pre .0 in
-    let few = rows-few m (pre .0) in
+    let few = rows-few m (pre .room) in
     let h : l .i < length (flatOf m .rows) = omega (arith, l .inv .0, p8 .loop-test) in
     let e = same-owner (l .inv .1 .0) (p6 .owner-at .ensures) in
-    let k = counts-turn (flatOf m) (l .i) h (pre .1 .0) e (l .inv .1 .1) (p4 .note .ensures) in (
-      l .inv .1 .0 .becomes .room,
-      (
-        (counts-sized (pre .1 .1 .0) (omega (arith, own-length (flatOf m))), counts-small (flatOf m) (l .i + 1) few k),
-        (owner-fits (flatOf m) (l .i) h (pre .1 .0) e, reopened-room (l .inv .1 .0) h (pre .1 .0) e (pre .1 .1 .0) k (p16 .pre .1)),
-      ),
-    )
+    let k = counts-turn (flatOf m) (l .i) h (pre .owners) e (l .inv .1 .1) (p4 .note .ensures) in
+    record {
+      room = l .inv .1 .0 .becomes .room;
+      owner = owner-fits (flatOf m) (l .i) h (pre .owners) e;
+      counted = counts-sized (p16 .pre .1 .0) (omega (arith, own-length (flatOf m)));
+      passing = counts-small (flatOf m) (l .i + 1) few k;
+      opens = reopened-room (l .inv .1 .0) h (pre .owners) e (p16 .pre .1 .0) k (pre .opens);
+    }
 
 loop-again : tie.Need-loop-again Inv-loop μ-loop
 loop-again c =
-    let p2 = c .before .before in
-    let p7 = p2 .before .before .before .before .before in
-    let p9 = p7 .before .before in
-    let p11 = p9 .before .before in
-    let p12 = p11 .before in
-    let p19 = p12 .before .before .before .before .before .before .before in
+    let p2 = c .before .before in let p7 = p2 .before .before .before .before .before in let p9 = p7 .before .before in
+    let p11 = p9 .before .before in let p12 = p11 .before in let p19 = p12 .before .before .before .before .before .before .before in
     let l = p12 .loop in
     let m = p19 .args .m .now in
     let pre = p19 .pre .0 in
     let h : l .i < length (flatOf m .rows) = omega (arith, l .inv .0, p11 .loop-test) in
     let e = same-owner (l .inv .1 .0) (p9 .owner-at .ensures) in
-    let k = counts-turn (flatOf m) (l .i) h (pre .1 .0) e (l .inv .1 .1) (p7 .note .ensures) in
-    (l .inv .0, (reopened-turn (l .inv .1 .0) h (pre .1 .0) e (pre .1 .1 .0) k (p2 .reopen-last .ensures), k))
-
-same-length : tie.Need-same-length Inv-loop μ-loop
-same-length c = c .before .loop .inv .1 .0 .becomes .size
+    let k = counts-turn (flatOf m) (l .i) h (pre .owners) e (l .inv .1 .1) (p7 .note .ensures) in
+    (l .inv .0, (reopened-turn (l .inv .1 .0) h (pre .owners) e (p19 .pre .1 .0) k (p2 .reopen-last .ensures), k))
 
 same-length-2 : tie.Need-same-length-2 Inv-loop μ-loop
 same-length-2 c =
-    let p1 = c .before in
-    let p8 = p1 .before .before .before .before .before .before .before in
-    p1 .loop .inv .1 .1 .size ∙ sym (p8 .pre .0 .1 .1 .1 .size)
+    let p1 = c .before in let p8 = p1 .before .before .before .before .before .before .before in
+    p1 .loop .inv .1 .1 .size ∙ sym (p8 .pre .1 .1 .size)
 
 returns : tie.Need-returns Inv-loop μ-loop
 returns c = reopened-end (c .before .loop .inv .1 .0) (omega (arith, c .before .loop .inv .0, c .loop-test))
 
 pub reopen-rows-spec : {M : Type 1} → statement M
 reopen-rows-spec = tie.close (tie.spec Inv-loop μ-loop get-counts-requires (λ c κs. omega arith) loop-holds owner-at-requires note-requires reopen-last-requires
-    (λ c. omega arith) (λ c. omega arith) loop-again same-length same-length-2 returns)
+    (λ c. omega arith) (λ c. omega arith) loop-again (λ c. c .before .loop .inv .1 .0 .becomes .size) same-length-2 returns)

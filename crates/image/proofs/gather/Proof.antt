@@ -53,9 +53,6 @@ loop-again c =
     (omega (arith, p10 .loop-test)) (p15 .pre .1) (not-false _ (c .before .if1 .left)) f in
     (rw (c .due .ensures) t, p4 .add-entries .kept .1 .1 .1 .0 ∙ p .inv .1)
 
-same-length-2 : tie.Need-same-length-2 Inv-loop μ-loop
-same-length-2 c = c .before .loop .inv .1
-
 returns-2 : tie.Need-returns-2 Inv-loop μ-loop
 returns-2 c =
     let p5 = c .before .before .before .before .before in
@@ -64,4 +61,4 @@ returns-2 c =
 
 pub gather-spec : {M : Type 1} → statement M
 gather-spec = tie.close (tie.spec Inv-loop μ-loop loop-holds (λ c. omega arith) (λ c. omega arith) (λ c κs. omega arith) block-at-requires (λ c. omega arith)
-    (λ c κs. omega arith) same-length returns (λ c κs. omega arith) (λ c. omega arith) add-i loop-less loop-again same-length-2 returns-2)
+    (λ c κs. omega arith) same-length returns (λ c κs. omega arith) (λ c. omega arith) add-i loop-less loop-again (λ c. c .before .loop .inv .1) returns-2)

@@ -11,9 +11,6 @@ begun c =
     let p3 = c .before .before .before in
     record { passed = passing (p3 .args .image .now) (p3 .args .h) (p3 .pre); pages-are = c .before .wide .ensures; used-are = c .wide2 .ensures }
 
-array-share-prefix-directories : tie.Need-array-share-prefix-directories
-array-share-prefix-directories c = four _ _ _ _ (begun (c .before))
-
 slice-aggregate-gather : tie.Need-slice-aggregate-gather
 slice-aggregate-gather c =
     let p2 = c .before .before in
@@ -101,6 +98,7 @@ returns-4 c =
     (not-false _ (c .if3 .left))
 
 pub test-pages-spec : {M : Type 1} → statement M
-test-pages-spec = tie.close (tie.spec (λ c κs. search needs) (λ c κs. search needs) (λ c κs. search needs) array-share-prefix-directories slice-aggregate-gather (search needs)
-    gather-requires (λ c κs. search needs) returns array-share-prefix-entries slice-aggregate-entries-ok array-share-prefix-directories-2 slice-aggregate-entries-ok-2
-    entries-ok-requires (λ c κs. search needs) returns-2 array-share-prefix-entries-2 slice-aggregate-pages-ok pages-ok-requires (λ c κs. search needs) returns-3 returns-4)
+test-pages-spec = tie.close (tie.spec (λ c κs. search needs) (λ c κs. search needs) (λ c κs. search needs) (λ c. four _ _ _ _ (begun (c .before)))
+    slice-aggregate-gather (search needs) gather-requires (λ c κs. search needs) returns array-share-prefix-entries slice-aggregate-entries-ok
+    array-share-prefix-directories-2 slice-aggregate-entries-ok-2 entries-ok-requires (λ c κs. search needs) returns-2 array-share-prefix-entries-2
+    slice-aggregate-pages-ok pages-ok-requires (λ c κs. search needs) returns-3 returns-4)

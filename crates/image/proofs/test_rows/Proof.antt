@@ -35,9 +35,6 @@ loop-holds c =
     let a = p7 .args in
     (collecting-start (view (a .image .now)) (a .h) (a .entries .now) (a .places .now) (a .numbers .now) (a .owners .now) (a .marks .now), (refl, (refl, (refl, refl))))
 
-shared-slice-read-wide : tie.Need-shared-slice-read-wide Inv-loop μ-loop
-shared-slice-read-wide c = omega (arith, c .before .loop-test .taken)
-
 block-at-requires : tie.Need-block-at-requires Inv-loop μ-loop
 block-at-requires c κs =
     let p3 = c .before .before .before in let p11 = p3 .before .before .before .before .before .before .before .before in
@@ -71,21 +68,24 @@ same-length-4 c = c .before .before .before .before .before .before .before .bef
 
 returns : tie.Need-returns Inv-loop μ-loop
 returns c =
-    let p2 = c .before .before in let p4 = p2 .before .before in let p5 = p4 .before in let p8 = p5 .before .before .before in let p9 = p8 .before in
+    let p2 = c .before .before in let p4 = p2 .before .before in let p5 = p4 .before in let p7 = p5 .before .before in let p8 = p7 .before in let p9 = p8 .before in
     let p16 = p9 .before .before .before .before .before .before .before in
     let a = p16 .args in let p = p8 .loop in
     let e = page-here (a .image .now) (a .entries .now) (p .i) _ _ (p4 .block-at .ensures) (p5 .wide2 .ensures) (a .h .level) (a .h .capacity) _ (p .to) _
     (p9 .wide .ensures) (p2 .good-page .ensures) in
-    collecting-bad (view (a .image .now)) (a .h) (a .entries .now) (p .i) (p .to) _ (p .inv .0) (omega (arith, c .before .before .before .before .before .before .before .loop-test)) (e ∙ c .enum-told .given .1)
+    collecting-bad (view (a .image .now)) (a .h) (a .entries .now) (p .i) (p .to) _ (p .inv .0) (omega (arith, p7 .loop-test)) (e ∙ c .enum-told .given .1)
 
 add-i : tie.Need-add-i Inv-loop μ-loop
 add-i c =
-    let p23 = c .before .before .before .before .before .before .before .before .before .before .before .before .before .before .before .before .before .before .before .before .before .before .before in
+    let p12 = c .before .before .before .before .before .before .before .before .before .before .before .before in
+    let p23 = p12 .before .before .before .before .before .before .before .before .before .before .before in
     let p32 = p23 .before .before .before .before .before .before .before .before .before in
     omega (arith, p32 .good, p23 .loop-test)
 
 loop-less : tie.Need-loop-less Inv-loop μ-loop
-loop-less c = omega (arith, c .before .before .before .before .before .before .before .before .before .before .before .before .before .before .before .before .before .before .before .before .before .before .before .loop-test .taken)
+loop-less c =
+    let p12 = c .before .before .before .before .before .before .before .before .before .before .before .before in
+    omega (arith, p12 .before .before .before .before .before .before .before .before .before .before .before .loop-test .taken)
 
 loop-again : tie.Need-loop-again Inv-loop μ-loop
 loop-again c =
@@ -123,6 +123,7 @@ returns-2 c =
     c .columns-ok .ensures ∙ collecting-end (view (a .image .now)) (a .h) (a .entries .now) (p .i) (p .to) _ (p .inv .0) (omega (arith, c .before .before .before .before .before .loop-test))
 
 pub test-rows-spec : {M : Type 1} → statement M
-test-rows-spec = tie.close (tie.spec Inv-loop μ-loop (λ c κs. omega arith) loop-holds (λ c. omega arith) shared-slice-read-wide (λ c κs. omega arith) block-at-requires
-    (λ c. omega arith) (λ c κs. omega arith) (λ c. omega arith) (λ c. omega arith) add-rows-requires (λ c κs. omega arith) add-to (λ c. omega arith) same-length same-length-2
-    same-length-3 same-length-4 returns add-i loop-less loop-again columns-ok-requires same-length-5 same-length-6 same-length-7 same-length-8 returns-2)
+test-rows-spec = tie.close (tie.spec Inv-loop μ-loop (λ c κs. omega arith) loop-holds (λ c. omega arith) (λ c. omega (arith, c .before .loop-test .taken))
+    (λ c κs. omega arith) block-at-requires (λ c. omega arith) (λ c κs. omega arith) (λ c. omega arith) (λ c. omega arith) add-rows-requires (λ c κs. omega arith)
+    add-to (λ c. omega arith) same-length same-length-2 same-length-3 same-length-4 returns add-i loop-less loop-again columns-ok-requires same-length-5 same-length-6
+    same-length-7 same-length-8 returns-2)

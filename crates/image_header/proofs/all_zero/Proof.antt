@@ -12,9 +12,6 @@ Inv-loop s i₀ i = all isZero s ≡ all isZero (drop i s)
 abbrev μ-loop : tie.MeasureT-loop
 μ-loop s i₀ i = length s - i
 
-loop-holds : tie.Need-loop-holds Inv-loop μ-loop
-loop-holds c = refl
-
 returns : tie.Need-returns Inv-loop μ-loop
 unfolding isZero
 returns c =
@@ -35,4 +32,5 @@ returns-2 c =
     let s = p2 in let p = c .before .loop in sym (p .inv ∙ all-end isZero (drop-end (s .args .s .now) (p .i) (omega arith)))
 
 pub all-zero-spec : {M : Type 1} → statement M
-all-zero-spec = tie.close (tie.spec Inv-loop μ-loop loop-holds (λ c. omega arith) (λ c. omega arith) returns (λ c. omega arith) (λ c. omega arith) loop-again returns-2)
+all-zero-spec = tie.close (tie.spec Inv-loop μ-loop (λ c. refl) (λ c. omega arith) (λ c. omega arith) returns (λ c. omega arith) (λ c. omega arith) loop-again
+    returns-2)

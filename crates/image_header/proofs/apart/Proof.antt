@@ -11,12 +11,6 @@ Inv-loop s t i₀ i = all (λ e. not (isIn e t)) s ≡ all (λ e. not (isIn e t)
 abbrev μ-loop : tie.MeasureT-loop
 μ-loop s t i₀ i = length s - i
 
-loop-holds : tie.Need-loop-holds Inv-loop μ-loop
-loop-holds c = refl
-
-is-in-requires : tie.Need-is-in-requires Inv-loop μ-loop
-is-in-requires c κs = tt
-
 returns : tie.Need-returns Inv-loop μ-loop
 returns c =
     let p4 = c .before .before .before .before in let p7 = p4 .before .before .before in
@@ -36,5 +30,5 @@ returns-2 c =
     sym (p .inv ∙ all-end (λ (e : ℕ). not (isIn e (s .args .t .now))) (drop-end (s .args .s .now) (p .i) (omega arith)))
 
 pub apart-spec : {M : Type 1} → statement M
-apart-spec = tie.close (tie.spec Inv-loop μ-loop loop-holds (λ c. omega arith) (λ c. omega arith) is-in-requires returns (λ c. omega arith) (λ c. omega arith) loop-again
-    returns-2)
+apart-spec = tie.close (tie.spec Inv-loop μ-loop (λ c. refl) (λ c. omega arith) (λ c. omega arith) (λ c κs. tt) returns (λ c. omega arith) (λ c. omega arith)
+    loop-again returns-2)

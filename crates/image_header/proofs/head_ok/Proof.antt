@@ -15,9 +15,6 @@ returns : tie.Need-returns
 unfolding headerOk every
 returns c = rw (sym (c .before .counts-ok .ensures) ∙ not-true _ (c .if1 .taken))
 
-array-share-prefix-ds : tie.Need-array-share-prefix-ds
-array-share-prefix-ds c = few c
-
 slice-aggregate-in-blocks : tie.Need-slice-aggregate-in-blocks
 slice-aggregate-in-blocks c = let h = few (c .before) in simp length-take (omega arith)
 
@@ -27,14 +24,8 @@ returns-2 c =
     let w = c .before .before .before in let a = w .before .before .before .args in
     rw (sym (used (a .h) (w .wide .ensures) (all (blockOk (a .n)))) ∙ sym (c .before .in-blocks .ensures) ∙ not-true _ (c .if2 .taken), and-no)
 
-array-share-prefix-ds-2 : tie.Need-array-share-prefix-ds-2
-array-share-prefix-ds-2 c = few (c .before .before .before)
-
 slice-aggregate-distinct : tie.Need-slice-aggregate-distinct
 slice-aggregate-distinct c = let h = few (c .before .before .before .before) in simp length-take (omega arith)
-
-distinct-requires : tie.Need-distinct-requires
-distinct-requires c κs = simp length-take (omega arith)
 
 returns-3 : tie.Need-returns-3
 unfolding headerOk every
@@ -58,5 +49,6 @@ returns-4 c =
     c .all-zero .ensures ∙ unused (a .h) e (all isZero) (few w) ∙ rw (sym (p .counts-ok .ensures) ∙ not-false _ (w .before .if1 .left), b, d, and-yes)
 
 pub head-ok-spec : {M : Type 1} → statement M
-head-ok-spec = tie.close (tie.spec (λ c κs. search needs) returns (λ c κs. search needs) array-share-prefix-ds slice-aggregate-in-blocks (λ c κs. search needs) returns-2
-    array-share-prefix-ds-2 slice-aggregate-distinct distinct-requires returns-3 (search needs) sub-all-zero part-all-zero-start (search needs) (λ c κs. search needs) returns-4)
+head-ok-spec = tie.close (tie.spec (λ c κs. search needs) returns (λ c κs. search needs) (λ c. few c) slice-aggregate-in-blocks (λ c κs. search needs) returns-2
+    (λ c. few (c .before .before .before)) slice-aggregate-distinct (λ c κs. simp length-take (omega arith)) returns-3 (search needs) sub-all-zero part-all-zero-start
+    (search needs) (λ c κs. search needs) returns-4)

@@ -12,12 +12,6 @@ Inv-loop s n i₀ i = all (blockOk n) s ≡ all (blockOk n) (drop i s)
 abbrev μ-loop : tie.MeasureT-loop
 μ-loop s n i₀ i = length s - i
 
-loop-holds : tie.Need-loop-holds Inv-loop μ-loop
-loop-holds c = refl
-
-block-ok-requires : tie.Need-block-ok-requires Inv-loop μ-loop
-block-ok-requires c κs = tt
-
 returns : tie.Need-returns Inv-loop μ-loop
 returns c =
     let p4 = c .before .before .before .before in let p6 = p4 .before .before in
@@ -36,5 +30,5 @@ returns-2 c =
     let s = p3 in let p = c .before .loop in sym (p .inv ∙ all-end (blockOk (s .args .n)) (drop-end (s .args .s .now) (p .i) (omega arith)))
 
 pub in-blocks-spec : {M : Type 1} → statement M
-in-blocks-spec = tie.close (tie.spec Inv-loop μ-loop loop-holds (λ c. omega arith) (λ c. omega arith) block-ok-requires returns (λ c. omega arith) (λ c. omega arith) loop-again
-    returns-2)
+in-blocks-spec = tie.close (tie.spec Inv-loop μ-loop (λ c. refl) (λ c. omega arith) (λ c. omega arith) (λ c κs. tt) returns (λ c. omega arith) (λ c. omega arith)
+    loop-again returns-2)

@@ -31,10 +31,7 @@ loop-holds c =
 
 put-row-requires : tie.Need-put-row-requires Inv-loop μ-loop
 put-row-requires c κs = let p5 = c .before .before .before .before .before in
-    let p8 = p5 .before .before .before in
-    let p9 = p8 .before in
-    let known = p9 .before .before .before .before .before in
-    let s = known .before in
+    let p8 = p5 .before .before .before in let p9 = p8 .before in let known = p9 .before .before .before .before .before in let s = known .before in
     let xs : List ℕ = s .args .block .now in
     let p = p9 .loop in
     let f = found-is xs (p .at) (omega (arith, s .pre .0, p .inv .1 .0)) (sym (p5 .r .given .1) ∙ p5 .before .before .next .ensures) in (
@@ -103,18 +100,6 @@ loop-again c =
       ),
     )
 
-same-length-5 : tie.Need-same-length-5 Inv-loop μ-loop
-same-length-5 c = c .before .loop .inv .1 .1 .1 .0 .0
-
-same-length-6 : tie.Need-same-length-6 Inv-loop μ-loop
-same-length-6 c = c .before .loop .inv .1 .1 .1 .0 .1 .0
-
-same-length-7 : tie.Need-same-length-7 Inv-loop μ-loop
-same-length-7 c = c .before .loop .inv .1 .1 .1 .0 .1 .1 .0
-
-same-length-8 : tie.Need-same-length-8 Inv-loop μ-loop
-same-length-8 c = c .before .loop .inv .1 .1 .1 .0 .1 .1 .1
-
 returns-2 : tie.Need-returns-2 Inv-loop μ-loop
 returns-2 c =
     let p7 = c .before .before .before .before .before .before .before in
@@ -126,4 +111,5 @@ returns-2 c =
 
 pub add-rows-spec : {M : Type 1} → statement M
 add-rows-spec = tie.close (tie.spec Inv-loop μ-loop loop-holds (λ c κs. omega arith) (λ c. omega arith) put-row-requires (λ c. omega arith) same-length same-length-2
-    same-length-3 same-length-4 returns add-to add-i loop-less loop-again same-length-5 same-length-6 same-length-7 same-length-8 returns-2)
+    same-length-3 same-length-4 returns add-to add-i loop-less loop-again (λ c. c .before .loop .inv .1 .1 .1 .0 .0) (λ c. c .before .loop .inv .1 .1 .1 .0 .1 .0)
+    (λ c. c .before .loop .inv .1 .1 .1 .0 .1 .1 .0) (λ c. c .before .loop .inv .1 .1 .1 .0 .1 .1 .1) returns-2)

@@ -14,8 +14,7 @@ returns-2 c =
 
 returns-3 : tie.Need-returns-3
 returns-3 c =
-    let p1 = c .before in
-    let p3 = p1 .before .before in
+    let p1 = c .before in let p3 = p1 .before .before in
     λ t p e. sym (marked-open t (p3 .before .before .args .r) p (p3 .if1 .left) (p1 .enum-told2 .given .1) e)
 
 pub mark-ok-spec : {M : Type 1} → statement M

@@ -9,9 +9,7 @@ use Rattle.image_page.proofs.put_row.Tie as tie
 
 returns : tie.Need-returns
 returns c =
-    let p1 = c .before in
-    let p2 = p1 .before in
-    let s = p2 .before .before .before .before .before in
+    let p1 = c .before in let p2 = p1 .before in let s = p2 .before .before .before .before .before in
     let a = s .args in
     let e = record-row (a .table) (p2 .place .result) (p1 .owner-code .result) (a .r) (p2 .place .ensures .0) (p2 .place .ensures .1) (p1 .owner-code .ensures) in
     row-put (a .places .now) (a .numbers .now) (a .owners .now) (a .marks .now) (a .k) (p2 .place .result) (a .r .number) (p1 .owner-code .result)
@@ -19,5 +17,5 @@ returns c =
     ∙ ap (λ (x : Row). rowsIn (a .places .now) (a .numbers .now) (a .owners .now) (a .marks .now) (a .k) ++ (x ∷ [])) e
 
 pub put-row-spec : {M : Type 1} → statement M
-put-row-spec = tie.close (tie.spec (λ c κs. search needs) (search needs) (search needs) (search needs) (search needs) (λ c κs. search needs) (search needs) (search needs)
-    (search needs) (search needs) (search needs) (search needs) (search needs) (search needs) returns)
+put-row-spec = tie.close (tie.spec (λ c κs. search needs) (search needs) (search needs) (search needs) (search needs) (λ c κs. search needs) (search needs)
+    (search needs) (search needs) (search needs) (search needs) (search needs) (search needs) (search needs) returns)

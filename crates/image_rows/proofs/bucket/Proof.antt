@@ -1,7 +1,7 @@
 -- `image_rows::bucket` meets its contract, for 0 and for every other key.
 use Rattle.image_rows.specs.Chains.{bucketOf}
-use Rattle.basics.specs.Basics.{if_then_else_}
 use Rattle.basics.proofs.Kit.{eq-eqb, ne-eqb, arith}
+use Rattle.basics.specs.Basics.{if_then_else_}
 use Rattle.image_rows.proofs.bucket.Statement.{statement}
 use Rattle.image_rows.proofs.bucket.Tie as tie
 

@@ -12,12 +12,6 @@ returns c = let s = c .before .before .before .before .before .before in let a =
     sym (columns-tests (a .places .now) (a .numbers .now) (a .owners .now) (a .marks .now) (a .count) (s .pre .1 .1 .0) (a .next) ∙ rw
     (sym (c .before .rising .ensures) ∙ not-true _ (c .if1 .taken)))
 
-slice-aggregate-distinct : tie.Need-slice-aggregate-distinct
-slice-aggregate-distinct c = simp length-take (omega arith)
-
-distinct-requires : tie.Need-distinct-requires
-distinct-requires c κs = simp length-take (omega arith)
-
 returns-2 : tie.Need-returns-2
 returns-2 c = let s = c .before .before .before .before .before .before .before .before .before in let a = s .args in
     sym (columns-tests (a .places .now) (a .numbers .now) (a .owners .now) (a .marks .now) (a .count) (s .pre .1 .1 .0) (a .next) ∙ rw
@@ -50,5 +44,5 @@ returns-5 c = let p2 = c .before .before in let p4 = p2 .before .before in let p
     (r, d, b, t, ← n, and-yes))
 
 pub columns-ok-spec : {M : Type 1} → statement M
-columns-ok-spec = tie.close (tie.spec (λ c κs. search needs) returns slice-aggregate-distinct distinct-requires returns-2 (λ c κs. search needs) returns-3 statements-requires
-    returns-4 (λ c κs. search needs) returns-5)
+columns-ok-spec = tie.close (tie.spec (λ c κs. search needs) returns (λ c. simp length-take (omega arith)) (λ c κs. simp length-take (omega arith)) returns-2
+    (λ c κs. search needs) returns-3 statements-requires returns-4 (λ c κs. search needs) returns-5)

@@ -11,9 +11,6 @@ Inv-loop keys links head x j₀ j = Chain keys links j x × (lastBy (eqb x) keys
 abbrev μ-loop : tie.MeasureT-loop
 μ-loop keys links head x j₀ j = j
 
-loop-holds : tie.Need-loop-holds Inv-loop μ-loop
-loop-holds c = (c .pre, refl)
-
 returns : tie.Need-returns Inv-loop μ-loop
 returns c = let p = c .before .before .before .loop in found-here (p .inv .0) (omega arith) (c .if1 .taken) ∙ sym (p .inv .1)
 
@@ -31,5 +28,5 @@ unfolding lastBy
 returns-2 c = let p = c .before .loop in let e : p .j ≡ 0 = omega arith in sym (p .inv .1 ∙ rw e)
 
 pub find-spec : {M : Type 1} → statement M
-find-spec = tie.close (tie.spec Inv-loop μ-loop loop-holds (λ c. omega arith) (λ c. omega arith) (λ c. omega arith) returns (λ c. omega arith) (λ c. omega arith)
-    (λ c. omega arith) cast-j loop-less loop-again returns-2)
+find-spec = tie.close (tie.spec Inv-loop μ-loop (λ c. (c .pre, refl)) (λ c. omega arith) (λ c. omega arith) (λ c. omega arith) returns (λ c. omega arith)
+    (λ c. omega arith) (λ c. omega arith) cast-j loop-less loop-again returns-2)

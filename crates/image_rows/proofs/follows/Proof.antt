@@ -1,9 +1,9 @@
 -- `image_rows::follows` meets its contract, by cases: the place rises, falls or stays; where it stays, by numbers and owners.
 use Rattle.basics.proofs.Kit.{sym, _∙_, lt-ltb, le-ltb, eq-eqb, ne-eqb, needs, arith}
+use Rattle.basics.specs.Basics.{if_then_else_}
 use Rattle.image_rows.proofs.Places.{follows-rising, follows-falling, follows-there, after-committed}
 use Rattle.image_rows.specs.Columns.{codedOwner}
 use Rattle.image_rows.specs.Rows.{ownerAfter}
-use Rattle.basics.specs.Basics.{if_then_else_}
 use Rattle.image_rows.proofs.follows.Statement.{statement}
 use Rattle.image_rows.proofs.follows.Tie as tie
 

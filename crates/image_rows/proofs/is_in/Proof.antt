@@ -11,9 +11,6 @@ Inv-loop s from x i₀ i = isIn x (drop from s) ≡ isIn x (drop i s)
 abbrev μ-loop : tie.MeasureT-loop
 μ-loop s from x i₀ i = length s - i
 
-loop-holds : tie.Need-loop-holds Inv-loop μ-loop
-loop-holds c = refl
-
 returns : tie.Need-returns Inv-loop μ-loop
 unfolding isIn
 returns c =
@@ -35,4 +32,4 @@ returns-2 c =
     let s = p2 in let p = c .before .loop in sym (p .inv ∙ any-end (eqb (s .args .x)) (drop-end (s .args .s .now) (p .i) (omega arith)))
 
 pub is-in-spec : {M : Type 1} → statement M
-is-in-spec = tie.close (tie.spec Inv-loop μ-loop loop-holds (λ c. omega arith) (λ c. omega arith) returns (λ c. omega arith) (λ c. omega arith) loop-again returns-2)
+is-in-spec = tie.close (tie.spec Inv-loop μ-loop (λ c. refl) (λ c. omega arith) (λ c. omega arith) returns (λ c. omega arith) (λ c. omega arith) loop-again returns-2)

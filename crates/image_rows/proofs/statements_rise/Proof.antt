@@ -23,7 +23,8 @@ is-next-requires c κs = (omega arith, (omega arith, c .before .before .before .
 
 returns : tie.Need-returns Inv-loop μ-loop
 returns c = let p = c .before .before .before .loop in let a = c .before .before .before .before .before .before .before .before .args in
-    sym (p .inv ∙ all-not (isNext (a .numbers .now) (a .owners .now) (a .count)) (tab-next (λ j. j) (p .i) (a .count) (omega arith)) (sym (c .before .is-next .ensures) ∙ not-true _ (c .if1 .taken)))
+    let t = tab-next (λ j. j) (p .i) (a .count) (omega arith) in
+    sym (p .inv ∙ all-not (isNext (a .numbers .now) (a .owners .now) (a .count)) t (sym (c .before .is-next .ensures) ∙ not-true _ (c .if1 .taken)))
 
 loop-again : tie.Need-loop-again Inv-loop μ-loop
 loop-again c = let p = c .before .before .before .loop in let a = c .before .before .before .before .before .before .before .before .args in

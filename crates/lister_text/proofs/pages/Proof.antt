@@ -9,15 +9,6 @@ Inv-loop out₀ at image count blocks to₀ i₀ out to i = (i ≤ 1024) × (len
 abbrev μ-loop : tie.MeasureT-loop
 μ-loop out₀ at image count blocks to₀ i₀ out to i = 1024 - i
 
-returns : tie.Need-returns Inv-loop μ-loop
-returns c = tt
-
-page-requires : tie.Need-page-requires Inv-loop μ-loop
-page-requires c κs = tt
-
-returns-2 : tie.Need-returns-2 Inv-loop μ-loop
-returns-2 c = tt
-
 pub pages-spec : {M : Type 1} → statement M
-pages-spec = tie.close (tie.spec Inv-loop μ-loop (λ c. omega arith) (λ c. omega arith) returns (λ c. omega arith) (λ c. omega arith) page-requires (λ c. omega arith)
-    (λ c. omega arith) (λ c. omega arith) (λ c. omega arith) returns-2)
+pages-spec = tie.close (tie.spec Inv-loop μ-loop (λ c. omega arith) (λ c. omega arith) (λ c. tt) (λ c. omega arith) (λ c. omega arith) (λ c κs. tt)
+    (λ c. omega arith) (λ c. omega arith) (λ c. omega arith) (λ c. omega arith) (λ c. tt))

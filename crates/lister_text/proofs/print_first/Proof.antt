@@ -3,8 +3,5 @@ use Rattle.basics.proofs.Kit.{length-take, needs, arith}
 use Rattle.lister_text.proofs.print_first.Statement.{statement}
 use Rattle.lister_text.proofs.print_first.Tie as tie
 
-slice-aggregate-write-all : tie.Need-slice-aggregate-write-all
-slice-aggregate-write-all c = simp length-take (omega arith)
-
 pub print-first-spec : {M : Type 1} → statement M
-print-first-spec = tie.close (tie.spec slice-aggregate-write-all (λ c κs. search needs) (search needs) (search needs))
+print-first-spec = tie.close (tie.spec (λ c. simp length-take (omega arith)) (λ c κs. search needs) (search needs) (search needs))

@@ -14,9 +14,6 @@ loop-again c =
     let kept = c .before .before .loop .inv .2 in
     (search needs, omega arith, ⊎-elim (λ w. ap length (w .2) ∙ simp length-set kept) (λ w. ap length (w .1) ∙ kept) (c .if1 .came))
 
-returns : tie.Need-returns Inv-loop μ-loop
-returns c = tt
-
 pub text-spec : {M : Type 1} → statement M
-text-spec = tie.close (tie.spec Inv-loop μ-loop (λ c. omega arith) (λ c. omega arith) (λ c. omega arith) (λ c. omega arith) (λ c. omega arith) (λ c. omega arith) loop-again
-    (λ c. omega arith) returns)
+text-spec = tie.close (tie.spec Inv-loop μ-loop (λ c. omega arith) (λ c. omega arith) (λ c. omega arith) (λ c. omega arith) (λ c. omega arith) (λ c. omega arith)
+    loop-again (λ c. omega arith) (λ c. tt))

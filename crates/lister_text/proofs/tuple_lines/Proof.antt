@@ -9,18 +9,6 @@ Inv-loop out₀ at block count to₀ c₀ counter₀ out to c counter = (counter
 abbrev μ-loop : tie.MeasureT-loop
 μ-loop out₀ at block count to₀ c₀ counter₀ out to c counter = count - counter
 
-first-requires : tie.Need-first-requires Inv-loop μ-loop
-first-requires c κs = tt
-
-tuple-line-requires : tie.Need-tuple-line-requires Inv-loop μ-loop
-tuple-line-requires c κs = tt
-
-returns : tie.Need-returns Inv-loop μ-loop
-returns c = tt
-
-returns-2 : tie.Need-returns-2 Inv-loop μ-loop
-returns-2 c = tt
-
 pub tuple-lines-spec : {M : Type 1} → statement M
-tuple-lines-spec = tie.close (tie.spec Inv-loop μ-loop first-requires (λ c. omega arith) (λ c κs. omega arith) (λ c. omega arith) tuple-line-requires (λ c. omega arith)
-    (λ c. omega arith) returns (λ c. omega arith) (λ c. omega arith) (λ c. omega arith) (λ c. omega arith) returns-2)
+tuple-lines-spec = tie.close (tie.spec Inv-loop μ-loop (λ c κs. tt) (λ c. omega arith) (λ c κs. omega arith) (λ c. omega arith) (λ c κs. tt) (λ c. omega arith)
+    (λ c. omega arith) (λ c. tt) (λ c. omega arith) (λ c. omega arith) (λ c. omega arith) (λ c. omega arith) (λ c. tt))

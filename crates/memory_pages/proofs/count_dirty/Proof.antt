@@ -30,7 +30,8 @@ add-k c = let l = c .before .before .before in let st = l .before .before .befor
 loop-again : tie.Need-loop-again Inv-loop μ-loop
 loop-again c = let l = c .before .before .before in let st = l .before .before .before in
     let e = c .one-if .ensures ∙ ap (λ (z : ℕ). cond (eqb z 0) 1 0) (c .before .block-at .ensures) in
-    (l .loop .inv .0, counted-turn dirtyEntry (flatOf (st .args .m .now) .entries) (l .loop .inv .1) noEntry (omega (arith, l .loop .inv .0)) e (one-most (eqb (c .before .block-at .result) 0) (c .one-if .ensures)))
+    let few = one-most (eqb (c .before .block-at .result) 0) (c .one-if .ensures) in
+    (l .loop .inv .0, counted-turn dirtyEntry (flatOf (st .args .m .now) .entries) (l .loop .inv .1) noEntry (omega (arith, l .loop .inv .0)) e few)
 
 returns : tie.Need-returns Inv-loop μ-loop
 returns c = let l = c .before in

@@ -30,7 +30,8 @@ add-k c = let l = c .before .before .before in let st = l .before .before .befor
 loop-again : tie.Need-loop-again Inv-loop μ-loop
 loop-again c = let l = c .before .before .before in let st = l .before .before .before in
     let e = c .one-if .ensures ∙ ap (λ (b : Bool). cond b 1 0) (c .before .frozen-at .ensures) in
-    (l .loop .inv .0, counted-turn frozenEntry (flatOf (st .args .m .now) .entries) (l .loop .inv .1) noEntry (omega (arith, l .loop .inv .0)) e (one-most (c .before .frozen-at .result) (c .one-if .ensures)))
+    let few = one-most (c .before .frozen-at .result) (c .one-if .ensures) in
+    (l .loop .inv .0, counted-turn frozenEntry (flatOf (st .args .m .now) .entries) (l .loop .inv .1) noEntry (omega (arith, l .loop .inv .0)) e few)
 
 returns : tie.Need-returns Inv-loop μ-loop
 returns c = let l = c .before in

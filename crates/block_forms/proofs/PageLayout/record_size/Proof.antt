@@ -1,6 +1,6 @@
 -- `block_forms::PageLayout::record_size` meets its contract.
-use Rattle.basics.specs.Basics.{if_then_else_}
 use Rattle.basics.proofs.Kit.{needs}
+use Rattle.basics.specs.Basics.{if_then_else_}
 use Rattle.block_forms.proofs.PageLayout.record_size.Statement.{statement}
 use Rattle.block_forms.proofs.PageLayout.record_size.Tie as tie
 

@@ -52,10 +52,7 @@ sub-t18 c = omega (arith, c .before .before .before .before .before .before .rec
 
 returns-4 : tie.Need-returns-4
 returns-4 c = let p1 = c .before in
-    let p4 = p1 .before .before .before in
-    let p6 = p4 .before .before in
-    let p9 = p6 .before .before .before in
-    let s = p9 .before .before in
+    let p4 = p1 .before .before .before in let p6 = p4 .before .before in let p9 = p6 .before .before .before in let s = p9 .before .before in
     let xs : List ℕ = s .args .block .now in
     let at : ℕ = s .args .self .at in
     let f : ℕ = flagsAt xs at in
@@ -67,5 +64,5 @@ returns-4 c = let p1 = c .before in
     (p1 .before .get43 .ensures) word (p1 .owner-of .ensures) (c .mark-of .ensures) (omega (arith, p4 .before .if3 .left))
 
 pub next-spec : {M : Type 1} → statement M
-next-spec = tie.close (tie.spec returns (search needs) (search needs) (search needs) returns-2 (λ c κs. search needs) add-end returns-3 add-get4 get4-requires get4-requires-2
-    add-get4-2 get4-requires-3 (λ c κs. search needs) (λ c κs. search needs) sub-t18 returns-4)
+next-spec = tie.close (tie.spec returns (search needs) (search needs) (search needs) returns-2 (λ c κs. search needs) add-end returns-3 add-get4 get4-requires
+    get4-requires-2 add-get4-2 get4-requires-3 (λ c κs. search needs) (λ c κs. search needs) sub-t18 returns-4)
