@@ -1,4 +1,4 @@
--- `block_forms::append` meets its contract.
+-- `block_forms::append` meets its contract: the head's bytes, the owner's word if there is one and the payload stand behind each other (`appends`).
 use Rattle.basics.proofs.Kit.{_≡_, List, ℕ, length, needs, arith}
 use Rattle.basics.specs.Basics.{if_then_else_}
 use Rattle.block_forms.specs.Bytes.{payloadIn}

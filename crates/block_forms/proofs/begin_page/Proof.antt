@@ -1,4 +1,4 @@
--- `block_forms::begin_page` meets its contract.
+-- `block_forms::begin_page` meets its contract: the head's eight bytes over zeros are a page without records yet (`part-start`).
 use Rattle.basics.proofs.Kit.{_∙_, ap, List, ℕ, needs, arith}
 use Rattle.basics.specs.Lists.{over}
 use Rattle.block_forms.specs.Bytes.{pageHead}

@@ -1,4 +1,4 @@
--- `block_forms::copy` meets its contract.
+-- `block_forms::copy` meets its contract. The invariant: the first i bytes are over those of the block from `at` on.
 use Rattle.basics.proofs.Kit.{_≡_, refl, sym, _∙_, _≤_, _-_, length, take, drop, length-set, arith}
 use Rattle.basics.specs.Lists.{over}
 use Rattle.basics.proofs.Overs.{over-nil}

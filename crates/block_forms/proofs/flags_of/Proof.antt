@@ -1,4 +1,4 @@
--- `block_forms::flags_of` meets its contract.
+-- `block_forms::flags_of` meets its contract: for each case of committed and mark, the sum of the bits and of the length.
 use Rattle.basics.proofs.Kit.{_≡_, ap, ⊎-elim, _+_, _*_, needs, arith}
 use Rattle.block_forms.specs.Limits.{markValue}
 use Rattle.block_forms.specs.Block.{committedBit, markBit}

@@ -1,4 +1,4 @@
--- `block_forms::mark_of` meets its contract.
+-- `block_forms::mark_of` meets its contract: the mark's bit is the second from above.
 use Rattle.basics.proofs.Kit.{refl}
 use Rattle.block_forms.specs.Decode.{readMark}
 use Rattle.block_forms.proofs.mark_of.Statement.{statement}

@@ -1,4 +1,4 @@
--- `block_forms::owner_of` meets its contract.
+-- `block_forms::owner_of` meets its contract: the committed bit is the highest, and the word's two parts are transaction and statement.
 use Rattle.basics.proofs.Kit.{lt-ltb, le-ltb}
 use Rattle.basics.specs.Basics.{if_then_else_}
 use Rattle.block_forms.specs.Decode.{readOwner}

@@ -1,4 +1,4 @@
--- `block_forms::spell_directory` meets its contract.
+-- `block_forms::spell_directory` meets its contract. The invariant: the block's bits are those of the head and the first i entries, then zeros (`dirBits`).
 use Rattle.basics.proofs.Kit.{_≡_, ap, ℕ, _≤_, _<_, _-_, length, take, getD, arith}
 use Rattle.block_bits.specs.Bits.{bitsIn}
 use Rattle.block_forms.specs.Limits.{entriesPerBlock}

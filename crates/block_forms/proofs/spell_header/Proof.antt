@@ -1,4 +1,4 @@
--- `block_forms::spell_header` meets its contract.
+-- `block_forms::spell_header` meets its contract: the fields put into a block of zeros are the block that they spell (`whole-block`).
 use Rattle.basics.proofs.Kit.{refl, needs, arith}
 use Rattle.block_forms.specs.Block.{headerFields, encodeBlock}
 use Rattle.block_forms.proofs.Spelled.{whole-block}

@@ -1,4 +1,4 @@
--- `block_forms::word_of` meets its contract.
+-- `block_forms::word_of` meets its contract: a committed owner has the word 0, a tentative one its two numbers side by side.
 use Rattle.basics.proofs.Kit.{sym, ap, subst, needs, arith}
 use Rattle.block_forms.specs.Tuple.{OwnerFits}
 use Rattle.block_forms.specs.Bytes.{ownerIs, ownerWord}

@@ -1,4 +1,4 @@
--- `block_forms::write_directory` meets its contract.
+-- `block_forms::write_directory` meets its contract: the block is spelled in zeros and copied out whole.
 use Rattle.basics.proofs.Kit.{ap, _∙_, List, ℕ, length, take-all, needs, arith}
 use Rattle.block_forms.specs.Block.{directory, encodeBlock}
 use Rattle.block_forms.proofs.write_directory.Statement.{statement}

@@ -1,4 +1,4 @@
--- `block_forms::write_header` meets its contract.
+-- `block_forms::write_header` meets its contract: the block is spelled in zeros and copied out whole.
 use Rattle.basics.proofs.Kit.{_∙_, needs}
 use Rattle.block_forms.proofs.write_header.Statement.{statement}
 use Rattle.block_forms.proofs.write_header.Tie as tie

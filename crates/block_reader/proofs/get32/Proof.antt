@@ -1,4 +1,4 @@
--- `block_reader::get32` meets its contract.
+-- `block_reader::get32` meets its contract, by the definition of four bytes as a number.
 use Rattle.basics.proofs.Kit.{_^_, _≤_, pow-mono, needs, arith}
 use Rattle.block_reader.proofs.get32.Statement.{statement}
 use Rattle.block_reader.proofs.get32.Tie as tie

@@ -1,4 +1,4 @@
--- `block_reader::get_header` meets its contract.
+-- `block_reader::get_header` meets its contract: each field is read at its own bits.
 use Rattle.block_forms.specs.Decode.{readHeader}
 use Rattle.basics.proofs.Kit.{needs}
 use Rattle.block_reader.proofs.get_header.Statement.{statement}

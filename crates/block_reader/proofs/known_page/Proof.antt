@@ -1,4 +1,4 @@
--- `block_reader::known_page` meets its contract.
+-- `block_reader::known_page` meets its contract: of a block that is a page the head says table and count (`known`).
 use Rattle.basics.proofs.Kit.{sym, _∙_, needs}
 use Rattle.block_forms.specs.Decode.{pageTable, pageCount, pageLevel}
 use Rattle.block_reader.specs.declared.Reading.the-variants.{IsPage}

@@ -1,4 +1,4 @@
--- `block_reader::read_block` meets its contract.
+-- `block_reader::read_block` meets its contract: the kind decides which of the three is read; any other kind is malformed (`reads-other`).
 use Rattle.basics.proofs.Kit.{sym, ap, _∙_, needs, arith}
 use Rattle.block_reader.specs.Answers.{reading}
 use Rattle.block_reader.proofs.Answering.{kind-header, kind-page, kind-directory, reads-other}

@@ -1,4 +1,4 @@
--- `block_reader::read_directory` meets its contract.
+-- `block_reader::read_directory` meets its contract: the entries that were read spell these very bytes, or the block is malformed (`directory-yes`, `directory-no`).
 use Rattle.basics.proofs.Kit.{_≡_, refl, sym, _∙_, List, ℕ, length, take, length-take, needs, arith}
 use Rattle.block_forms.specs.Limits.{entriesPerBlock}
 use Rattle.block_reader.proofs.Answering.{directory-many, directory-yes, directory-no}

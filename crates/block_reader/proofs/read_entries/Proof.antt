@@ -1,4 +1,4 @@
--- `block_reader::read_entries` meets its contract.
+-- `block_reader::read_entries` meets its contract. The invariant: the first i entries are read.
 use Rattle.basics.proofs.Kit.{_≡_, refl, _≤_, _-_, length, take, length-set, arith}
 use Rattle.block_forms.specs.Limits.{entriesPerBlock}
 use Rattle.block_forms.specs.Decode.{readEntries}

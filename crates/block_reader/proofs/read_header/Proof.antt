@@ -1,4 +1,4 @@
--- `block_reader::read_header` meets its contract.
+-- `block_reader::read_header` meets its contract: the fields that were read spell these very bytes, or the block is malformed (`header-yes`, `header-no`).
 use Rattle.basics.proofs.Kit.{sym, ap, _∙_, List, ℕ, needs}
 use Rattle.block_forms.specs.Numbers.{same}
 use Rattle.block_reader.proofs.Answering.{header-yes, header-no}

@@ -1,4 +1,4 @@
--- `block_reader::read_page` meets its contract.
+-- `block_reader::read_page` meets its contract. The invariant: the page is built again from the records read so far (`Again`); at the end the two blocks are compared.
 use Rattle.basics.proofs.Kit.{_≡_, refl, sym, ap, _∙_, List, ℕ, _-_, length, arith}
 use Rattle.block_forms.specs.Block.{Block, page, encodeBlock}
 use Rattle.block_forms.specs.Tuple.{AllBytes}

@@ -1,4 +1,4 @@
--- `block_reader::same_block` meets its contract.
+-- `block_reader::same_block` meets its contract. The invariant: the blocks are equal if the bytes passed are and those left are.
 use Rattle.basics.proofs.Kit.{_≡_, refl, _&&_, _≤_, _-_, drop, arith}
 use Rattle.block_forms.specs.Numbers.{same}
 use Rattle.block_reader.proofs.Same.{same-turn, same-end}

@@ -1,4 +1,4 @@
--- `call_checkpoint::begin` meets its contract.
+-- `call_checkpoint::begin` meets its contract: 4, 17, 19 and 20 by the model's tests in order, else the store has begun (`begin-done`).
 use Rattle.basics.proofs.Kit.{_≡_, sym, ap, _∙_, true, false, List, ℕ, _+_, leb-true, not-true, not-false, leb-false, needs, arith}
 use Rattle.memory_layout.specs.declared.Head.{Head}
 use Rattle.memory_layout.specs.Store.{holdsStore, storeOf}

@@ -1,4 +1,4 @@
--- `call_checkpoint::block_named` meets its contract.
+-- `call_checkpoint::block_named` meets its contract: an index below the number of pages is a page's, the others are of the directory (`page-block`, `directory-block`).
 use Rattle.basics.proofs.Kit.{ap, _∙_, ℕ, _-_, length, getD, needs, arith}
 use Rattle.memory_layout.specs.Flat.{flatOf}
 use Rattle.memory_layout.proofs.Laws.{named-read}

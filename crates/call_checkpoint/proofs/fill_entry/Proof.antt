@@ -1,4 +1,4 @@
--- `call_checkpoint::fill_entry` meets its contract.
+-- `call_checkpoint::fill_entry` meets its contract: without an entry that is 0 nothing is filled (`fills-none`), else the first such entry is (`fills-at`).
 use Rattle.basics.proofs.Kit.{needs, arith}
 use Rattle.memory_layout.proofs.Laws.{named-read}
 use Rattle.call_checkpoint.proofs.Leaving.{fills-none, fills-at}

@@ -1,4 +1,4 @@
--- `call_checkpoint::first_unnamed` meets its contract.
+-- `call_checkpoint::first_unnamed` meets its contract. The invariant: each entry before i has a block, so the first one without is found from i on (`NamedBefore`).
 use Rattle.basics.proofs.Kit.{_≡_, sym, _∙_, _-_, length, needs, arith}
 use Rattle.memory_layout.specs.Flat.{flatOf}
 use Rattle.call_checkpoint.specs.Counting.{NamedBefore}

@@ -1,4 +1,4 @@
--- `call_checkpoint::four_named` meets its contract.
+-- `call_checkpoint::four_named` meets its contract: the four tests joined are the test of the four entries in a list.
 use Rattle.basics.proofs.Kit.{needs, arith}
 use Rattle.basics.specs.Basics.{all}
 use Rattle.basics.proofs.Ands.{and-yes, and-assoc}

@@ -1,4 +1,4 @@
--- `call_checkpoint::is_running` meets its contract.
+-- `call_checkpoint::is_running` meets its contract: the head's bit and level are what the model's checkpoint is read from (`runs-on`, `last-level`).
 use Rattle.basics.proofs.Kit.{_≡_, sym, ap, _∙_, true, ltb, not-true, not-false, ltb-true, ltb-false, needs, arith}
 use Rattle.memory_layout.specs.declared.Head.{Head}
 use Rattle.memory_layout.specs.Flat.{flatOf}

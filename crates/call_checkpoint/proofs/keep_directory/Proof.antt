@@ -1,4 +1,4 @@
--- `call_checkpoint::keep_directory` meets its contract.
+-- `call_checkpoint::keep_directory` meets its contract: the block is in use and the list of directory blocks has it last, which is the model's store.
 use Rattle.basics.proofs.Kit.{ap, length, needs, arith}
 use Rattle.memory_layout.specs.Flat.{Flat}
 use Rattle.memory_layout.proofs.Laws.{holds-room}

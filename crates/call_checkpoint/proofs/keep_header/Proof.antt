@@ -1,4 +1,4 @@
--- `call_checkpoint::keep_header` meets its contract.
+-- `call_checkpoint::keep_header` meets its contract: the blocks named are those in use, and the head is that of an idle store at the next level.
 use Rattle.basics.proofs.Kit.{refl, ap, needs, arith}
 use Rattle.memory_layout.specs.declared.Head.{Head}
 use Rattle.memory_layout.proofs.Laws.{holds-room}

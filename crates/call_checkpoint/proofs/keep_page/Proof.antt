@@ -1,4 +1,4 @@
--- `call_checkpoint::keep_page` meets its contract.
+-- `call_checkpoint::keep_page` meets its contract: the page is still the first frozen one when it is thawed (`still-first`), and the store is then the model's.
 use Rattle.basics.proofs.Kit.{needs, arith}
 use Rattle.memory_layout.proofs.Laws.{holds-room}
 use Rattle.call_checkpoint.proofs.Leaving.{still-first, page-leads}

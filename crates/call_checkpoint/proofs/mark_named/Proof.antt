@@ -1,4 +1,4 @@
--- `call_checkpoint::mark_named` meets its contract.
+-- `call_checkpoint::mark_named` meets its contract. The invariant: the first i blocks named are in use, and all others as at entry (`Marking`).
 use Rattle.basics.proofs.Kit.{ap, _∙_, List, ℕ, _-_, length, getD, needs, arith}
 use Rattle.memory_layout.specs.Flat.{flatOf}
 use Rattle.call_checkpoint.specs.Counting.{namedIn}

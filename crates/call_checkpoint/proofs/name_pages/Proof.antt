@@ -1,4 +1,4 @@
--- `call_checkpoint::name_pages` meets its contract.
+-- `call_checkpoint::name_pages` meets its contract. The invariant: the list has the blocks of the first p pages (`Naming`).
 use Rattle.basics.proofs.Kit.{_-_, needs, arith}
 use Rattle.memory_layout.proofs.Laws.{pages-read, holds-room}
 use Rattle.engine_allocator.proofs.Tallies.{sizes}

@@ -1,4 +1,4 @@
--- `call_checkpoint::named_fours` meets its contract.
+-- `call_checkpoint::named_fours` meets its contract. The invariant: each entry before i has a block; four more that have one keep it (`named-four`).
 use Rattle.basics.proofs.Kit.{sym, _∙_, _-_, not-false, arith}
 use Rattle.memory_layout.specs.Flat.{flatOf}
 use Rattle.call_checkpoint.specs.Counting.{NamedBefore}

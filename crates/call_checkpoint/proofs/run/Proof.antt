@@ -1,4 +1,4 @@
--- `call_checkpoint::run` meets its contract.
+-- `call_checkpoint::run` meets its contract. The invariant: the stores made so far and those of the n steps to come are those of the model's run (`Repeats`).
 use Rattle.basics.proofs.Kit.{ap, _∙_, List, ℕ, _+_, min, length, needs, arith}
 use Rattle.model.specs.Checkpoint.{runCall}
 use Rattle.memory_layout.specs.Flat.{flatOf}

@@ -1,4 +1,4 @@
--- `call_checkpoint::smaller` meets its contract.
+-- `call_checkpoint::smaller` meets its contract: the two cases of the smaller of two numbers.
 use Rattle.basics.proofs.Kit.{arith}
 use Rattle.call_checkpoint.proofs.smaller.Statement.{statement}
 use Rattle.call_checkpoint.proofs.smaller.Tie as tie

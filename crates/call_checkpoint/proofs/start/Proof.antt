@@ -1,4 +1,4 @@
--- `call_checkpoint::start` meets its contract.
+-- `call_checkpoint::start` meets its contract: the list of pages is fixed before the pages are frozen, which leaves their blocks (`begin-held`).
 use Rattle.basics.proofs.Kit.{refl, ap, needs}
 use Rattle.memory_layout.specs.Flat.{Flat}
 use Rattle.memory_layout.proofs.Laws.{holds-room}

@@ -1,4 +1,4 @@
--- `call_checkpoint::step` meets its contract.
+-- `call_checkpoint::step` meets its contract: 5 and 18 by the model's tests, else one store as the model makes it (`step-done`).
 use Rattle.basics.proofs.Kit.{List, ℕ, length, needs}
 use Rattle.model.specs.Checkpoint.{stepCall}
 use Rattle.call_checkpoint.specs.Keeping.{Ready}

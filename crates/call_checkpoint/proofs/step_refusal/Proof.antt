@@ -1,4 +1,4 @@
--- `call_checkpoint::step_refusal` meets its contract.
+-- `call_checkpoint::step_refusal` meets its contract: each test of the code is the model's test of that number.
 use Rattle.basics.proofs.Kit.{_≡_, sym, ap, _∙_, true, List, ℕ, _*_, not-true, not-false, needs}
 use Rattle.memory_layout.specs.declared.Head.{Head}
 use Rattle.memory_layout.specs.Flat.{flatOf}

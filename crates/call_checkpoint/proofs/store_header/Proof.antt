@@ -1,4 +1,4 @@
--- `call_checkpoint::store_header` meets its contract.
+-- `call_checkpoint::store_header` meets its contract: the part of the image that is lent is block 0 (`front-is`), and image and store are the model's (`header-does`).
 use Rattle.basics.proofs.Kit.{length-take, needs, arith}
 use Rattle.memory_layout.proofs.Laws.{holds-room}
 use Rattle.call_checkpoint.proofs.Allotting.{none-left}

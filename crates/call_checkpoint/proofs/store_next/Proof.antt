@@ -1,4 +1,4 @@
--- `call_checkpoint::store_next` meets its contract.
+-- `call_checkpoint::store_next` meets its contract: without a block left it is the header's store, else a block's, and one less is left (`header-left`, `block-less`).
 use Rattle.basics.proofs.Kit.{_≡_, sym, ap, needs, arith}
 use Rattle.memory_layout.specs.declared.Head.{Head}
 use Rattle.memory_layout.specs.Flat.{flatOf, noEntry}

@@ -1,4 +1,4 @@
--- `call_checkpoint::store_page` meets its contract.
+-- `call_checkpoint::store_page` meets its contract: the part of the image that is lent is the free block's (`back-is`), and image and store are the model's (`page-does`).
 use Rattle.basics.proofs.Kit.{ap, _+_, length-take, length-drop, needs, arith}
 use Rattle.model.specs.Checkpoint.{withProgress}
 use Rattle.memory_layout.specs.declared.Head.{Head}

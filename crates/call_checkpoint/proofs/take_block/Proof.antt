@@ -1,4 +1,4 @@
--- `call_checkpoint::take_block` meets its contract.
+-- `call_checkpoint::take_block` meets its contract: the head has the block as the one last taken, and its bit is set (`took`).
 use Rattle.basics.proofs.Kit.{refl, ap, needs, arith}
 use Rattle.memory_layout.specs.declared.Head.{Head}
 use Rattle.call_checkpoint.proofs.Leaving.{took}

@@ -1,4 +1,4 @@
--- `call_checkpoint::write_block` meets its contract.
+-- `call_checkpoint::write_block` meets its contract: a frozen page comes first, and without one it is the directory's turn (`found-none`).
 use Rattle.basics.proofs.Kit.{needs, arith}
 use Rattle.memory_layout.proofs.Laws.{pages-read, holds-room}
 use Rattle.engine_pages.specs.Pages.{There}

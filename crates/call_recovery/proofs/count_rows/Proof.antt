@@ -1,4 +1,4 @@
--- `call_recovery::count_rows` meets its contract.
+-- `call_recovery::count_rows` meets its contract. The invariant: the counts are those of the first i rows.
 use Rattle.call_recovery.proofs.Owning.{rows-few, row-count, owner-fits, counts-turn, counts-end, counts-small}
 use Rattle.call_recovery.specs.Reopening.{ownRows, Counts}
 use Rattle.memory_layout.specs.Flat.{flatOf}

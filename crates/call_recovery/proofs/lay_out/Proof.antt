@@ -1,4 +1,4 @@
--- `call_recovery::lay_out` meets its contract.
+-- `call_recovery::lay_out` meets its contract: one part after the other is laid out and leaves the parts before it; together they are the recovered store (`laid-out`).
 use Rattle.call_recovery.proofs.Laying.{pages-room, order-none, marked, owners-room, opens-room, head-fits, laid-out}
 use Rattle.call_recovery.proofs.Tested.{Sure, sure}
 use Rattle.call_recovery.proofs.Naming.{named-more}

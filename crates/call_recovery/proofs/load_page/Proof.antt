@@ -1,4 +1,4 @@
--- `call_recovery::load_page` meets its contract.
+-- `call_recovery::load_page` meets its contract: of a block that is a page the head and the records are loaded, of any other nothing (`loads-one`, `loads-none`).
 use Rattle.call_recovery.proofs.Paging.{Here, here, table-small, seen-here, OneFits, one-fits, page-room, loads-none, loads-one, loads-as}
 use Rattle.call_recovery.specs.Loading.{pageAt, tuplesIn, RoomFor}
 use Rattle.memory_layout.specs.Flat.{flatOf}

@@ -1,4 +1,4 @@
--- `call_recovery::load_pages` meets its contract.
+-- `call_recovery::load_pages` meets its contract. The invariant: the pages in the first i blocks are loaded.
 use Rattle.call_recovery.proofs.Naming.{named-below, all-pages, loading-start, loading-turn, loading-room, loading-end}
 use Rattle.call_recovery.specs.Loading.{pagesAt, Loads}
 use Rattle.image.proofs.Collect.{within}

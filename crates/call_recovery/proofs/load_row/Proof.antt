@@ -1,4 +1,4 @@
--- `call_recovery::load_row` meets its contract.
+-- `call_recovery::load_row` meets its contract: the record's tuple goes behind all rows, nothing pending (`row-as`).
 use Rattle.block_forms.specs.Bytes.{tupleOf}
 use Rattle.model.specs.Rules.{withoutPending}
 use Rattle.memory_rows.specs.Rows.{heldBy, RowFits}

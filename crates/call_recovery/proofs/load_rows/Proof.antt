@@ -1,4 +1,4 @@
--- `call_recovery::load_rows` meets its contract.
+-- `call_recovery::load_rows` meets its contract. The invariant: the first i tuples of the page are loaded, and the cursor stands at the next record (`Walk`).
 use Rattle.call_recovery.proofs.Adding.{page-walk, fills-none, fills-turn, row-room, withoutPending-all}
 use Rattle.call_recovery.specs.Loading.{tuplesIn, Fills}
 use Rattle.model.specs.State.{Held}

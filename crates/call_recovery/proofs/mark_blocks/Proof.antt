@@ -1,4 +1,4 @@
--- `call_recovery::mark_blocks` meets its contract.
+-- `call_recovery::mark_blocks` meets its contract. The invariant: the first i blocks are in use, and all others as at entry (`Marked`).
 use Rattle.call_recovery.proofs.Naming.{named-below, Marked, marking-start, marking-turn, marking-end}
 use Rattle.basics.proofs.Kit.{_≤_, _<_, _-_, length, take, arith}
 use Rattle.call_recovery.proofs.mark_blocks.Statement.{statement}

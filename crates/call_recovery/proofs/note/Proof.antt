@@ -1,4 +1,4 @@
--- `call_recovery::note` meets its contract.
+-- `call_recovery::note` meets its contract: a tentative owner's transaction has one tuple more, a committed owner changes nothing (`noted-by`).
 use Rattle.call_recovery.proofs.Owning.{noted-by}
 use Rattle.call_recovery.specs.Reopening.{noted}
 use Rattle.block_forms.specs.Bytes.{ownerIs}

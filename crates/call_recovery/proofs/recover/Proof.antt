@@ -1,4 +1,4 @@
--- `call_recovery::recover` meets its contract.
+-- `call_recovery::recover` meets its contract: the tests in order, each refusal with the memory as found, then the store that the image holds (`all-recovered`).
 use Rattle.call_recovery.proofs.Answered.{Ready, ready, refused-header, refused-memory, refused-pages, all-recovered}
 use Rattle.call_recovery.specs.Loading.{pagesAt, blocksIn}
 use Rattle.image.proofs.Staged.{passed-is, stage-refused, pages-refusal}

@@ -1,4 +1,4 @@
--- `call_recovery::reopen` meets its contract.
+-- `call_recovery::reopen` meets its contract: the tables of counts start at zeros (`no-counts`), and each pass has what the one before it leaves.
 use Rattle.call_recovery.proofs.Owning.{no-counts}
 use Rattle.basics.proofs.Kit.{needs}
 use Rattle.call_recovery.proofs.reopen.Statement.{statement}

@@ -1,4 +1,4 @@
--- `call_recovery::reopen_last` meets its contract.
+-- `call_recovery::reopen_last` meets its contract: a transaction is opened at its last row, and at no other (`opened-last`, `opened-other`).
 use Rattle.call_recovery.proofs.Owning.{opened-settled, opened-other, opened-last, opens-none, opens-one}
 use Rattle.block_forms.specs.Bytes.{ownerIs}
 use Rattle.block_forms.specs.declared.Owner.{Owner}

@@ -1,4 +1,4 @@
--- `call_recovery::reopen_rows` meets its contract.
+-- `call_recovery::reopen_rows` meets its contract. The invariant: the transactions whose last row is among the first i rows are open, in that order (`Reopened`).
 use Rattle.call_recovery.proofs.Owning.{counts-sized, own-length, rows-few, row-count, owner-fits, counts-turn, counts-small}
 use Rattle.call_recovery.proofs.Owning.{Reopened, reopened-start, same-rows, same-owner, reopened-turn, reopened-room, reopened-end}
 use Rattle.call_recovery.specs.Reopening.{ownRows, Counts}

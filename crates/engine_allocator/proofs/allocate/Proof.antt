@@ -1,4 +1,4 @@
--- `engine_allocator::allocate` meets its contract.
+-- `engine_allocator::allocate` meets its contract: the search up to the last block, then from block 1 on, is the model's search in one list (`alloc-up`, `alloc-round`).
 use Rattle.basics.proofs.Kit.{ap, _∙_, needs, arith}
 use Rattle.memory_layout.specs.declared.Head.{Head}
 use Rattle.memory_layout.specs.Flat.{flatOf}

@@ -1,4 +1,4 @@
--- `engine_allocator::blocks_left` meets its contract.
+-- `engine_allocator::blocks_left` meets its contract: a block for each frozen page and each directory block to come, and no sum is too large (`frozen-few`).
 use Rattle.basics.proofs.Kit.{arith}
 use Rattle.engine_allocator.proofs.Tallies.{frozen-few}
 use Rattle.engine_allocator.proofs.blocks_left.Statement.{statement}

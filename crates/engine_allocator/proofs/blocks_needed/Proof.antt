@@ -1,4 +1,4 @@
--- `engine_allocator::blocks_needed` meets its contract.
+-- `engine_allocator::blocks_needed` meets its contract: a block for each dirty page and the directory's, and no sum is too large (`needed-is`).
 use Rattle.basics.proofs.Kit.{ap, needs, arith}
 use Rattle.image.specs.Stages.{directoriesFor}
 use Rattle.memory_layout.specs.Flat.{flatOf}

@@ -1,4 +1,4 @@
--- `engine_allocator::directories_left` meets its contract.
+-- `engine_allocator::directories_left` meets its contract: the difference of the two counts, 0 where it would be negative.
 use Rattle.basics.proofs.Kit.{ap, needs, arith}
 use Rattle.image.specs.Stages.{directoriesFor}
 use Rattle.memory_layout.proofs.Laws.{named-read, directories-read}

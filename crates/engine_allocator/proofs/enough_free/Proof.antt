@@ -1,4 +1,4 @@
--- `engine_allocator::enough_free` meets its contract.
+-- `engine_allocator::enough_free` meets its contract. The invariant: k of the blocks passed are free; a search that ends early has found enough (`tally-end`).
 use Rattle.basics.proofs.Kit.{_≡_, sym, ap, Bool, not, ℕ, _+_, _≤_, _-_, leb, le-leb, needs, arith}
 use Rattle.memory_layout.specs.declared.Head.{Head}
 use Rattle.memory_layout.specs.Flat.{Flat, flatOf}

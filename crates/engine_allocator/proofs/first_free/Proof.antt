@@ -1,4 +1,4 @@
--- `engine_allocator::first_free` meets its contract.
+-- `engine_allocator::first_free` meets its contract. The invariant: each block passed is in use, so the first free one is found from b on.
 use Rattle.basics.proofs.Kit.{_≡_, refl, sym, _∙_, _≤_, _-_, not-true, not-false, arith}
 use Rattle.memory_layout.specs.Flat.{flatOf}
 use Rattle.engine_allocator.specs.Blocks.{freeFrom}

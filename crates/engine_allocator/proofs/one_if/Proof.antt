@@ -1,4 +1,4 @@
--- `engine_allocator::one_if` meets its contract.
+-- `engine_allocator::one_if` meets its contract: the two cases of a Boolean.
 use Rattle.basics.proofs.Kit.{sym, ap, arith}
 use Rattle.engine_allocator.specs.Blocks.{oneIf}
 use Rattle.engine_allocator.proofs.one_if.Statement.{statement}

@@ -1,4 +1,4 @@
--- `image_header::directories_for` meets its contract.
+-- `image_header::directories_for` meets its contract, by the definition, since no sum is too large.
 use Rattle.basics.proofs.Kit.{refl, needs, arith}
 use Rattle.image_header.specs.Names.{directoriesFor}
 use Rattle.image_header.proofs.directories_for.Statement.{statement}

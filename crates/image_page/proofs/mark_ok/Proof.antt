@@ -1,4 +1,4 @@
--- `image_page::mark_ok` meets its contract.
+-- `image_page::mark_ok` meets its contract: a delete mark is of a tentative tuple without payload (`marked-open`).
 use Rattle.basics.proofs.Kit.{sym, needs}
 use Rattle.image_page.proofs.Places.{unmarked, marked-held, marked-open}
 use Rattle.image_page.proofs.mark_ok.Statement.{statement}

@@ -1,4 +1,4 @@
--- `image_page::owner_code` meets its contract.
+-- `image_page::owner_code` meets its contract: a committed owner is 0, a tentative one its number above it (`owner-coded`).
 use Rattle.basics.proofs.Kit.{refl, sym, ap, _∙_, subst, needs, arith}
 use Rattle.basics.specs.Basics.{if_then_else_}
 use Rattle.block_forms.specs.Tuple.{OwnerFits}

@@ -1,4 +1,4 @@
--- `image_page::put_row` meets its contract.
+-- `image_page::put_row` meets its contract: the four columns have the record's numbers, so the row read from them is the record's (`row-put`).
 use Rattle.basics.proofs.Kit.{ap, _∙_, [], _∷_, _++_, needs}
 use mir.Val.{boolByte}
 use Rattle.image_page.proofs.Places.{record-row, row-put}

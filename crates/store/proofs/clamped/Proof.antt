@@ -1,4 +1,4 @@
--- `store::clamped` meets its contract.
+-- `store::clamped` meets its contract: a number above the largest `i64` is that one, any other is itself.
 use Rattle.store.proofs.Signed.{clamped-low, clamped-high}
 use Rattle.basics.proofs.Kit.{needs}
 use Rattle.store.proofs.clamped.Statement.{statement}

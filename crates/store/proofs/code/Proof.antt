@@ -1,4 +1,4 @@
--- `store::code` meets its contract.
+-- `store::code` meets its contract: an accepted answer's number stands as it is, a refusal's with its sign changed, within 64 bits.
 use Rattle.basics.proofs.Kit.{sym, ap, _∙_, needs}
 use Rattle.store.specs.Code.{code}
 use Rattle.store.proofs.Signed.{back, minus-fits, minus-back}

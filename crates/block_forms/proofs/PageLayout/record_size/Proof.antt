@@ -1,4 +1,4 @@
--- `block_forms::PageLayout::record_size` meets its contract.
+-- `block_forms::PageLayout::record_size` meets its contract: the sum of the head's bytes, the owner's and the payload's, which is not too large for 32 bits.
 use Rattle.basics.proofs.Kit.{needs}
 use Rattle.basics.specs.Basics.{if_then_else_}
 use Rattle.block_forms.proofs.PageLayout.record_size.Statement.{statement}

@@ -1,4 +1,4 @@
--- `block_reader::Cursor::next` meets its contract.
+-- `block_reader::Cursor::next` meets its contract: no record where one would reach too far or be too long, else the record as the definitions read it (`found-as`).
 use Rattle.basics.proofs.Kit.{_≡_, sym, _∙_, ⊎-elim, List, ℕ, _+_, _%_, ltb, needs, arith}
 use Rattle.basics.specs.Basics.{if_then_else_}
 use Rattle.block_forms.specs.Limits.{recordHead, markValue, committedValue}
