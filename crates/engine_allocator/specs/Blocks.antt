@@ -1,10 +1,13 @@
 -- What is counted and searched for the blocks that a checkpoint takes.
-use Prim.Native.Nat.{ℕ, _-_}
+use Prim.Native.Nat.{ℕ, _-_, _≤_}
 use mathlib.Core.Bool.{Bool, true, false, not}
 use mathlib.Core.Option.{Option, none, some}
 use mathlib.Core.List.{List}
+use lib.ListN.{length}
 use Rattle.basics.specs.Basics.{first, from}
+use Rattle.block_forms.specs.Limits.{blockLimit}
 use Rattle.model.specs.Checkpoint.{blocksLeft}
+use Rattle.memory_layout.specs.Places.{headSize}
 use Rattle.memory_layout.specs.Flat.{flatOf}
 use Rattle.engine_pages.specs.Pages.{pagesOf}
 use Rattle.engine_allocator.specs.declared.Allocator.{Allocator}
@@ -17,6 +20,12 @@ allocatorIn m = record { taken = flatOf m .head .taken; left = blocksLeft (flatO
 unfoldable pub oneIf : Bool → ℕ
 oneIf true = 1
 oneIf false = 0
+
+-- the memory has a head, and the blocks from a up to e are blocks of an image
+pub record BlockRange (m : List ℕ) (a e : ℕ) : Type 0 where
+  pub head : headSize ≤ length m
+  pub order : a ≤ e
+  pub most : e ≤ blockLimit
 
 -- what was found, else e
 unfoldable pub orElse : ℕ → Option ℕ → ℕ

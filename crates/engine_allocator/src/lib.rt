@@ -11,7 +11,7 @@ ghost use Rattle.model.specs.Checkpoint.{allocate, freeCount, blocksNeeded};
 ghost use Rattle.memory_layout.specs.Flat.{flatOf, Room};
 ghost use Rattle.memory_layout.specs.Store.{holdsStore, storeOf};
 ghost use Rattle.engine_pages.specs.Pages.{pagesOf};
-ghost use Rattle.engine_allocator.specs.Blocks.{oneIf, freeFrom, allocatorIn};
+ghost use Rattle.engine_allocator.specs.Blocks.{BlockRange, oneIf, freeFrom, allocatorIn};
 
 // The block last taken, after which the next search starts, and how many blocks the running checkpoint has still to take: one for
 // each frozen page and for each directory block to come. The header takes none.
@@ -83,7 +83,7 @@ pub fn blocks_left(m: &[u8], frozen: usize) -> u64
 
 // The first free block from a up to, not including, e; e, if there is none.
 fn first_free(m: &[u8], a: usize, e: usize) -> usize
-    requires { ⌜ (1024 ≤ length (now m)) × ((a ≤ e) × (e ≤ 4096)) ⌝ }
+    requires { ⌜ BlockRange (now m) a e ⌝ }
     ensures { λ r. ⌜ (r ≡ freeFrom (flatOf (now (m .entry)) .used) a e) × (r ≤ e) ⌝ }
 {
     let mut b = a;

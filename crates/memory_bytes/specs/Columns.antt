@@ -1,9 +1,9 @@
 -- Tests on the numbers of a column, and what searches by groups find.
-use Prim.Native.Nat.{ℕ, zero, suc, _+_, _%_, _≤_, _<_}
+use Prim.Native.Nat.{ℕ, zero, suc, _+_, _*_, _%_, _≤_, _<_}
 use mathlib.Core.Path.{_≡_}
 use mathlib.Core.Bool.{Bool, true, false, cond}
 use mathlib.Core.List.{List, [], _∷_, _++_}
-use lib.ListN.{take, drop}
+use lib.ListN.{length, take, drop}
 use lib.Dec.{eqb, leb}
 use Rattle.basics.specs.Basics.{any}
 use Rattle.basics.specs.Lists.{tab}
@@ -19,6 +19,12 @@ upTo key x = leb x key
 -- x is s modulo 1,024
 abbrev pub names : ℕ → ℕ → Bool
 names s x = eqb (x % 1024) s
+
+-- there are numbers of two bytes from base on, from index s up to, not including, e, and they can be counted in 16 bits
+pub record Countable (m : List ℕ) (base s e : ℕ) : Type 0 where
+  pub order : s ≤ e
+  pub few : e ≤ s + 65535
+  pub inside : base + e * 2 ≤ length m
 
 -- every number that is the key, of those from index s up to, not including, e, stands from a up to, not including, b
 pub record Covers (g : ℕ → ℕ) (key s e a b : ℕ) : Type 0 where

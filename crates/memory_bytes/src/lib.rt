@@ -7,7 +7,7 @@ ghost use mathlib.Core.List.{_++_};
 ghost use Prim.Native.Nat.{_+_, _*_, _-_, _%_, _≤_};
 ghost use lib.ListN.{length, drop, replicate};
 ghost use Rattle.memory_bytes.specs.Bytes.{le2, le4, bytes, bytes2, bytes4, column2, Raised, Lowered, Wrote, Added};
-ghost use Rattle.memory_bytes.specs.Columns.{upTo, names};
+ghost use Rattle.memory_bytes.specs.Columns.{upTo, names, Countable};
 ghost use Rattle.basics.specs.Lists.{tab};
 ghost use Rattle.basics.specs.Basics.{any, howMany, paired};
 ghost use mathlib.Core.Bool.{cond};
@@ -189,7 +189,7 @@ pub fn one_if(b: bool) -> u16
 // How many of the numbers of two bytes from base on, from index s up to, not including, e, are not above x. They are counted in 16 bits, like
 // what is read, so that no lane of a vector is wider.
 pub fn count_up_to2(m: &[u8], base: usize, s: usize, e: usize, x: u16) -> usize
-    requires { ⌜ (s ≤ e) × ((e ≤ s + 65535) × (base + e * 2 ≤ length (now m))) ⌝ }
+    requires { ⌜ Countable (now m) base s e ⌝ }
     ensures { λ r. ⌜ r ≡ howMany (upTo x) (tab (column2 (now (m .entry)) base) s (e - s)) ⌝ }
 {
     let mut k: u16 = 0;

@@ -7,9 +7,12 @@ use lib.ListN.{length, take, drop, getD, set}
 use lib.Dec.{eqb}
 use Rattle.model.specs.State.{Held}
 use Rattle.basics.specs.Lists.{tab, firstIndex}
-use Rattle.memory_layout.specs.Flat.{Flat, flatOf, entryIn, noEntry, Becomes, withRows, withEntries}
+use Rattle.memory_layout.specs.Flat.{Flat, flatOf, entryIn, noEntry, Room, Becomes, withRows, withEntries}
 use Rattle.memory_layout.specs.Store.{startOf}
 use Rattle.memory_layout.specs.declared.Entry.{Entry}
+use Rattle.memory_rows.specs.Rows.{NewRow}
+use Rattle.memory_rows.specs.Cells.{InOrder}
+use Rattle.memory_rows.specs.declared.Row.{Row}
 
 -- r is the first page of table t, or of a later table, or how many pages there are
 pub record TableFrom (f : Flat) (t r : ℕ) : Type 0 where
@@ -128,6 +131,18 @@ pub record MayAppend (f : Flat) (t b : ℕ) : Type 0 where
   pub below : (j : ℕ) → j < length (f .entries) → entryIn f j .table ≤ t
   pub space : length (f .entries) < 2 * f .head .capacity
   pub block : b < 4096
+
+-- such a page may be appended, and every row is in the slot of its index
+pub record PageBehind (m : List ℕ) (t b : ℕ) : Type 0 where
+  pub room : Room m
+  pub order : InOrder m
+  pub may : MayAppend (flatOf m) t b
+
+-- the row may be appended to the last page, and every row is in the slot of its index
+pub record RowBehind (m : List ℕ) (r : Row) (xs : List ℕ) : Type 0 where
+  pub new : NewRow m (length (flatOf m .rows)) r xs
+  pub order : InOrder m
+  pub page : 1 ≤ length (flatOf m .entries)
 
 -- ---- what the functions promise
 

@@ -21,7 +21,7 @@ ghost use Rattle.memory_layout.specs.Store.{startOf};
 ghost use Rattle.memory_rows.specs.Rows.{NewRow, heldBy};
 ghost use Rattle.memory_rows.specs.Cells.{InOrder};
 ghost use Rattle.memory_pages.specs.Columns.{Inserted2, Removed2, Opened, Closed, MayOpen, MayClose};
-ghost use Rattle.memory_pages.specs.Pages.{TableFrom, OnPages, PageOf, MaySplit, MayJoin, MayLose, MaySet, MayInsert, MayRemove, wordOf, dirty, setBlock, splitEntry, joinEntries, moreRows, fewerRows, EntriesBecome, RowsBecome, frozenWord, Passed, frozenEntry, dirtyEntry, MayAppend, clean, behind, moreLast};
+ghost use Rattle.memory_pages.specs.Pages.{TableFrom, OnPages, PageOf, MaySplit, MayJoin, MayLose, MaySet, MayInsert, MayRemove, wordOf, dirty, setBlock, splitEntry, joinEntries, moreRows, fewerRows, EntriesBecome, RowsBecome, frozenWord, Passed, frozenEntry, dirtyEntry, PageBehind, RowBehind, clean, behind, moreLast};
 
 // Bytes a row before the blocks of the pages.
 const BLOCKS: usize = 83;
@@ -227,7 +227,7 @@ pub fn insert_page(m: &mut [u8], p: usize, table: u8)
 
 // Puts a page of the table, in this block, behind all others: it has no row yet, and no row is moved.
 pub fn append_page(m: &mut [u8], table: u8, block: u16)
-    requires { ⌜ Room (now m) × (InOrder (now m) × MayAppend (flatOf (now m)) table block) ⌝ }
+    requires { ⌜ PageBehind (now m) table block ⌝ }
     ensures { λ _. ⌜ EntriesBecome (now (m .entry)) (now (m .exit)) (behind (clean table block 0)) × InOrder (now (m .exit)) ⌝ }
 {
     let n = page_count(m);
@@ -282,7 +282,7 @@ pub fn insert_row(m: &mut [u8], p: usize, i: usize, row: Row, payload: &[u8])
 
 // The row, with its payload, behind all others: the last page has one row more. No other page starts elsewhere.
 pub fn append_row(m: &mut [u8], row: Row, payload: &[u8])
-    requires { ⌜ NewRow (now m) (length (flatOf (now m) .rows)) row (now payload) × (InOrder (now m) × (1 ≤ length (flatOf (now m) .entries))) ⌝ }
+    requires { ⌜ RowBehind (now m) row (now payload) ⌝ }
     ensures { λ _. ⌜ RowsBecome (now (m .entry)) (now (m .exit)) (behind (heldBy row (now (payload .entry)))) moreLast × InOrder (now (m .exit)) ⌝ }
 {
     memory_rows::append_row(m, row, payload);

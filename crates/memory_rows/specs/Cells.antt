@@ -4,6 +4,7 @@ use mathlib.Core.Path.{_≡_}
 use mathlib.Core.Bool.{Bool, true, false}
 use mathlib.Core.List.{List}
 use lib.ListN.{length, getD}
+use Rattle.block_forms.specs.Limits.{payloadLimit}
 use Rattle.memory_bytes.specs.Bytes.{le4, bytes, Apart}
 use Rattle.memory_layout.specs.Places.{slotSize, keysAt, refsAt, statesAt, startsAt}
 use Rattle.memory_layout.specs.Views.{slotOf, keyOf, refOf, stateOf, slotPlace}
@@ -99,6 +100,30 @@ pub record EightFits (rows : Eight) : Type 0 where
   pub refs : length (rows .refs) ≡ 16
   pub states : length (rows .states) ≡ 8
 
+-- the eight rows from row k on may get these cells
+pub record EightInto (m : List ℕ) (c k : ℕ) (rows : Eight) : Type 0 where
+  pub fit : ColumnsFit m c
+  pub inside : k + 8 ≤ c
+  pub cells : EightFits rows
+
+-- there are eight rows from row i on, and eight from row k on
+pub record EightPair (m : List ℕ) (c i k : ℕ) : Type 0 where
+  pub fit : ColumnsFit m c
+  pub first : i + 8 ≤ c
+  pub second : k + 8 ≤ c
+
+-- of n rows, those from row i on may go one up
+pub record MayRaise (m : List ℕ) (c i n : ℕ) : Type 0 where
+  pub fit : ColumnsFit m c
+  pub order : i ≤ n
+  pub space : n < c
+
+-- of n rows, those behind row i may go one down
+pub record MayLower (m : List ℕ) (c i n : ℕ) : Type 0 where
+  pub fit : ColumnsFit m c
+  pub order : i < n
+  pub space : n ≤ c
+
 -- rows has the cells of the eight rows of m from row i on
 pub record EightOf (m : List ℕ) (c i : ℕ) (rows : Eight) : Type 0 where
   pub keys : rows .keys ≡ bytes m (keysAt c + i * 4) 32
@@ -119,6 +144,18 @@ pub record CellsPut (m m' : List ℕ) (c i k r s : ℕ) : Type 0 where
   pub key : keyOf m' c i ≡ k
   pub ref : refOf m' c i ≡ r
   pub state : stateOf m' c i ≡ s
+
+-- c may be a capacity, and the column of slot numbers has n of them
+pub record SlotNumbers (m : List ℕ) (c n : ℕ) : Type 0 where
+  pub least : 1 ≤ c
+  pub most : c ≤ 1024
+  pub long : refsAt c + n * 2 ≤ length m
+
+-- slot s is inside the memory, and the payload has room in it
+pub record SlotInto (m : List ℕ) (s : ℕ) (xs : List ℕ) : Type 0 where
+  pub low : s < 1024
+  pub inside : slotPlace s + slotSize ≤ length m
+  pub payload : length xs ≤ payloadLimit
 
 -- slot s has number n, the owner of word w and payload xs
 pub record SlotFilled (m m' : List ℕ) (s n w : ℕ) (xs : List ℕ) : Type 0 where

@@ -79,6 +79,12 @@ withRow f i h = withRows f (set (f .rows) i h)
 
 -- ---- rows put in or taken out
 
+-- row i is there, and its payload has room in what is lent
+pub record PayloadInto (m : List ℕ) (i : ℕ) (out : List ℕ) : Type 0 where
+  pub room : Room m
+  pub inside : i < length (flatOf m .rows)
+  pub long : length (rowIn (flatOf m) i .tuple .payload) ≤ length out
+
 -- there is room for the row, with payload xs, as row i
 pub record NewRow (m : List ℕ) (i : ℕ) (r : Row) (xs : List ℕ) : Type 0 where
   pub room : Room m

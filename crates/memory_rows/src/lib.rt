@@ -33,13 +33,12 @@ ghost use Rattle.image_rows.specs.Rows.{isBy};
 ghost use Rattle.model.specs.Rules.{heldSize, withPending, isAdding, isCommitting, isRemoving, isPending};
 ghost use Rattle.memory_bytes.specs.Columns.{equals, upTo, Covers};
 ghost use Rattle.basics.specs.Lists.{tab, insertAt, removeAt, firstIndex, lastIndex};
-ghost use Rattle.memory_layout.specs.Places.{slotSize};
-ghost use Rattle.memory_layout.specs.Views.{lengthOf, slotPlace, pendingOf};
+ghost use Rattle.memory_layout.specs.Views.{lengthOf, pendingOf};
 ghost use Rattle.memory_layout.specs.Flat.{flatOf, rowIn, Room, Becomes};
 ghost use Rattle.memory_layout.specs.Elements.{RowRange};
 ghost use Rattle.block_forms.specs.Bytes.{ownerIs};
-ghost use Rattle.memory_rows.specs.Rows.{pendingIs, heldBy, committedRow, isLiveOwn, isOwned, withRow, keyIn, Holds, Copied, NewRow, RowsOnly};
-ghost use Rattle.memory_rows.specs.Cells.{codeOf, keepsOwner, InOrder, ColumnsFit, CellsPut, SlotFilled};
+ghost use Rattle.memory_rows.specs.Rows.{pendingIs, heldBy, committedRow, isLiveOwn, isOwned, withRow, keyIn, Holds, Copied, PayloadInto, NewRow, RowsOnly};
+ghost use Rattle.memory_rows.specs.Cells.{codeOf, keepsOwner, InOrder, ColumnsFit, CellsPut, SlotInto, SlotFilled};
 
 // Number, owner and payload of a row.
 const SLOT_SIZE: usize = 72;
@@ -209,7 +208,7 @@ pub fn payload_at(m: &[u8], i: usize) -> Part
 
 // Copies the payload over the first bytes of out; the answer is how many they are.
 pub fn copy_payload(m: &[u8], i: usize, out: &mut [u8]) -> usize
-    requires { ⌜ Room (now m) × ((i < length (flatOf (now m) .rows)) × (length (rowIn (flatOf (now m)) i .tuple .payload) ≤ length (now out))) ⌝ }
+    requires { ⌜ PayloadInto (now m) i (now out) ⌝ }
     ensures { λ r. ⌜ Copied (now (out .entry)) (now (out .exit)) (rowIn (flatOf (now (m .entry))) i .tuple .payload) r ⌝ }
 {
     let p = payload_at(m, i);
@@ -357,7 +356,7 @@ fn put_cells(m: &mut [u8], c: usize, i: usize, key: u32, r: u16, state: u8)
 
 // Writes number, owner and payload into slot s.
 fn fill_slot(m: &mut [u8], s: usize, number: u32, owner: u32, payload: &[u8])
-    requires { ⌜ (s < 1024) × ((slotPlace s + slotSize ≤ length (now m)) × (length (now payload) ≤ payloadLimit)) ⌝ }
+    requires { ⌜ SlotInto (now m) s (now payload) ⌝ }
     ensures { λ _. ⌜ SlotFilled (now (m .entry)) (now (m .exit)) s number owner (now (payload .entry)) ⌝ }
 {
     let a = slot_at(s);

@@ -5,7 +5,7 @@ use super::places::refs_at;
 use super::places::states_at;
 ghost use mathlib.Core.List.{List};
 ghost use Prim.Native.Nat.{ℕ, _+_, _*_, _-_, _≤_, _<_};
-ghost use Rattle.memory_rows.specs.Cells.{ColumnsFit, EightFits, EightOf, EightPut, RowsRaised, RowsLowered};
+ghost use Rattle.memory_rows.specs.Cells.{ColumnsFit, EightInto, EightPair, MayRaise, MayLower, EightOf, EightPut, RowsRaised, RowsLowered};
 
 // The cells of the eight rows from row i on.
 pub fn take_eight(m: &[u8], c: usize, i: usize) -> Eight
@@ -27,7 +27,7 @@ pub fn take_eight(m: &[u8], c: usize, i: usize) -> Eight
 
 // The eight rows from row k on get these cells.
 pub fn give_eight(m: &mut [u8], c: usize, k: usize, rows: Eight)
-    requires { ⌜ ColumnsFit (now m) c × ((k + 8 ≤ c) × EightFits rows) ⌝ }
+    requires { ⌜ EightInto (now m) c k rows ⌝ }
     ensures { λ _. ⌜ ((m₀ : List ℕ) (i : ℕ) → EightOf m₀ c i rows → EightPut m₀ (now (m .entry)) (now (m .exit)) c i k) ⌝ }
 {
     let keys = rows.keys;
@@ -40,7 +40,7 @@ pub fn give_eight(m: &mut [u8], c: usize, k: usize, rows: Eight)
 
 // The eight rows from row k on get the cells that the eight from row i on had.
 pub fn copy_eight(m: &mut [u8], c: usize, i: usize, k: usize)
-    requires { ⌜ ColumnsFit (now m) c × ((i + 8 ≤ c) × (k + 8 ≤ c)) ⌝ }
+    requires { ⌜ EightPair (now m) c i k ⌝ }
     ensures { λ _. ⌜ EightPut (now (m .entry)) (now (m .entry)) (now (m .exit)) c i k ⌝ }
 {
     let keys = keys_at(c);
@@ -54,7 +54,7 @@ pub fn copy_eight(m: &mut [u8], c: usize, i: usize, k: usize)
 // Of n rows, those from row i on, eight or more, go one up: by blocks whose new place is a multiple of eight, from the last one down. The
 // first and the last eight are read before and written after them, so that the blocks need not reach the first and the last row.
 pub fn raise_eights(m: &mut [u8], c: usize, i: usize, n: usize)
-    requires { ⌜ ColumnsFit (now m) c × ((i + 8 ≤ n) × (n < c)) ⌝ }
+    requires { ⌜ MayRaise (now m) c i n × (i + 8 ≤ n) ⌝ }
     ensures { λ _. ⌜ RowsRaised (now (m .entry)) (now (m .exit)) c i n ⌝ }
 {
     let first = take_eight(m, c, i);
@@ -70,7 +70,7 @@ pub fn raise_eights(m: &mut [u8], c: usize, i: usize, n: usize)
 
 // Of n rows, those behind row i, eight or more, go one down: by blocks whose new place is a multiple of eight, from the first one up.
 pub fn lower_eights(m: &mut [u8], c: usize, i: usize, n: usize)
-    requires { ⌜ ColumnsFit (now m) c × ((i + 9 ≤ n) × (n ≤ c)) ⌝ }
+    requires { ⌜ MayLower (now m) c i n × (i + 9 ≤ n) ⌝ }
     ensures { λ _. ⌜ RowsLowered (now (m .entry)) (now (m .exit)) c i n ⌝ }
 {
     let first = take_eight(m, c, i + 1);
@@ -86,7 +86,7 @@ pub fn lower_eights(m: &mut [u8], c: usize, i: usize, n: usize)
 
 // Of n rows, those from row i on go one up.
 pub fn raise_rows(m: &mut [u8], c: usize, i: usize, n: usize)
-    requires { ⌜ ColumnsFit (now m) c × ((i ≤ n) × (n < c)) ⌝ }
+    requires { ⌜ MayRaise (now m) c i n ⌝ }
     ensures { λ _. ⌜ RowsRaised (now (m .entry)) (now (m .exit)) c i n ⌝ }
 {
     if i + 8 <= n {
@@ -103,7 +103,7 @@ pub fn raise_rows(m: &mut [u8], c: usize, i: usize, n: usize)
 
 // Of n rows, those behind row i go one down.
 pub fn lower_rows(m: &mut [u8], c: usize, i: usize, n: usize)
-    requires { ⌜ ColumnsFit (now m) c × ((i < n) × (n ≤ c)) ⌝ }
+    requires { ⌜ MayLower (now m) c i n ⌝ }
     ensures { λ _. ⌜ RowsLowered (now (m .entry)) (now (m .exit)) c i n ⌝ }
 {
     if i + 9 <= n {

@@ -11,13 +11,12 @@ ghost use lib.ListN.{length};
 ghost use Rattle.basics.specs.Basics.{any};
 ghost use Rattle.memory_bytes.specs.Columns.{equals};
 ghost use Rattle.basics.specs.Lists.{tab};
-ghost use Rattle.memory_layout.specs.Places.{refsAt};
 ghost use Rattle.memory_layout.specs.Flat.{flatOf, capacityOf, Room};
-ghost use Rattle.memory_rows.specs.Cells.{slotIn, isTaken};
+ghost use Rattle.memory_rows.specs.Cells.{SlotNumbers, slotIn, isTaken};
 
 // Whether one of the n rows is in slot 0; a row whose slot number is not below the capacity is in slot 0 too.
 pub fn zero_taken(m: &[u8], c: usize, n: usize) -> bool
-    requires { ⌜ (1 ≤ c) × ((c ≤ 1024) × (refsAt c + n * 2 ≤ length (now m))) ⌝ }
+    requires { ⌜ SlotNumbers (now m) c n ⌝ }
     ensures { λ r. ⌜ r ≡ any (equals 0) (tab (slotIn (now (m .entry)) c) 0 n) ⌝ }
 {
     let a = refs_at(c);

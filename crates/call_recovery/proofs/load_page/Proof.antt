@@ -42,7 +42,7 @@ known-page-requires c κs =
 append-page-requires : tie.Need-append-page-requires
 append-page-requires c κs =
     let p1 = c .before in let p9 = p1 .before .before .before .before .before .before .before .before in
-    (p9 .pre .1 .room, (p9 .pre .1 .order, fits p1 .may))
+    record { room = p9 .pre .1 .room; order = p9 .pre .1 .order; may = fits p1 .may }
 
 load-rows-requires : tie.Need-load-rows-requires
 load-rows-requires c κs =

@@ -11,16 +11,18 @@ use Rattle.call_recovery.proofs.load_row.Tie as tie
 append-row-requires : tie.Need-append-row-requires
 append-row-requires c κs =
     let p2 = c .before .before in let p6 = p2 .before .before .before .before in
-    let pre = p6 .pre in (
-      record {
+    let pre = p6 .pre in
+    record {
+      new = record {
         room = pre .1 .room;
         at = omega arith;
         more = omega (arith, pre .1 .rows);
         owner = subst RowFits (sym (p2 .row-of .ensures)) (pre .0 .owner);
         payload = simp length-take (omega (arith, pre .0 .limit));
-      },
-      (pre .1 .order, pre .1 .page),
-    )
+      };
+      order = pre .1 .order;
+      page = pre .1 .page;
+    }
 
 returns : tie.Need-returns
 unfolding withoutPending tupleOf

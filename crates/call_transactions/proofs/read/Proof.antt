@@ -57,7 +57,7 @@ copy-payload-requires : tie.Need-copy-payload-requires
 copy-payload-requires c κs = let s = c .before .before .before .before .before .before in let e1 = s .before .before in let a = start e1 .args in
     let hd = c .before .before .payload-at .ensures in let i = c .before .before .before .before .i .given in
     let inside = seen-in (a .transaction) (a .table) (a .key) 0 (flatOf (a .m .now)) (s .before .if2 .left) _ (s .seen-by .ensures) _ (i .1) in
-    (holds-room _ (has-store e1), (inside, omega (arith, hd .count, c .before .if3 .left)))
+    record { room = holds-room _ (has-store e1); inside = inside; long = omega (arith, hd .count, c .before .if3 .left) }
 
 returns-5 : tie.Need-returns-5
 returns-5 c = let s = c .before .before .before .before .before .before .before .before .before in let e1 = s .before .before in let a = start e1 .args in

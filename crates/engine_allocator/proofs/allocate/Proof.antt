@@ -10,7 +10,7 @@ first-free-requires : tie.Need-first-free-requires
 first-free-requires c κs = let p = c .before .before .before in
     let r = p .pre .0 .range in
     let eb = ap (λ (h : Head). h .blocks) (c .before .get-head .ensures) in
-    (omega (arith, r .long), (omega (arith, r .taken, p .pre .1), omega (arith, r .many)))
+    record { head = omega (arith, r .long); order = omega (arith, r .taken, p .pre .1); most = omega (arith, r .many) }
 
 returns : tie.Need-returns
 returns c = let p = c .before .before .before .before .before in
@@ -23,7 +23,7 @@ returns c = let p = c .before .before .before .before .before in
 first-free-requires-2 : tie.Need-first-free-requires-2
 first-free-requires-2 c κs = let p = c .before .before .before .before .before in
     let r = p .pre .0 .range in
-    (omega (arith, r .long), (omega arith, omega (arith, r .taken, r .many, p .pre .1)))
+    record { head = omega (arith, r .long); order = omega arith; most = omega (arith, r .taken, r .many, p .pre .1) }
 
 returns-2 : tie.Need-returns-2
 returns-2 c =

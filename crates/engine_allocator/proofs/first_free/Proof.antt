@@ -16,7 +16,7 @@ loop-holds : tie.Need-loop-holds Inv-loop μ-loop
 loop-holds c = (omega arith, (omega arith, refl))
 
 is-used-requires : tie.Need-is-used-requires Inv-loop μ-loop
-is-used-requires c κs = (omega arith, c .before .before .before .pre .0)
+is-used-requires c κs = (omega arith, c .before .before .before .pre .head)
 
 returns : tie.Need-returns Inv-loop μ-loop
 returns c =

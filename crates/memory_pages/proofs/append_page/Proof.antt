@@ -9,11 +9,11 @@ use Rattle.memory_pages.proofs.append_page.Statement.{statement}
 use Rattle.memory_pages.proofs.append_page.Tie as tie
 
 cast-start : tie.Need-cast-start
-cast-start c = omega (arith, ranges (c .before .before .before .before .before .pre .0), c .row-count .ensures)
+cast-start c = omega (arith, ranges (c .before .before .before .before .before .pre .room), c .row-count .ensures)
 
 -- there is room for a page more
 space : (c : tie.After-page-count) → let m = c .before .before .before .args .m .now in pageCount m < 2 * capacityOf m
-space c = let st = c .before .before .before in let m = st .args .m .now in omega (arith, st .pre .1 .1 .space, entries-length m, head-capacity m)
+space c = let st = c .before .before .before in let m = st .args .m .now in omega (arith, st .pre .may .space, entries-length m, head-capacity m)
 
 -- the page starts behind the last row
 start : (c : tie.After-row-count) → let m = c .before .before .before .before .before .args .m .now in c .row-count .result ≡ startAt m (capacityOf m) (c .before .before .page-count .result)
@@ -22,34 +22,34 @@ start c = let m = c .before .before .before .before .before .args .m .now in let
 
 open-page-requires : tie.Need-open-page-requires
 open-page-requires c κs = let p3 = c .before .before .before in let st = p3 .before .before .before in
-    (st .pre .0, record { table = st .pre .1 .1 .table; place = omega (arith, p3 .page-count .ensures); space = space p3 })
+    (st .pre .room, record { table = st .pre .may .table; place = omega (arith, p3 .page-count .ensures); space = space p3 })
 
 -- the memory with the page opened has room
 opened : (c : tie.After-open-page) → Room (c .open-page .last .0)
 opened c = let p2 = c .before .before in let p4 = p2 .before .before in let pre = p4 .before .before .before .pre in let n = p4 .page-count .ensures in
-    open-room (pre .0) n (last-stands (pre .0) n (pre .1 .1)) (space p4) (pre .1 .1 .block) (start p2) (c .open-page .ensures)
+    open-room (pre .room) n (last-stands (pre .room) n (pre .may)) (space p4) (pre .may .block) (start p2) (c .open-page .ensures)
 
 mul-a : tie.Need-mul-a
 mul-a c = let p4 = c .before .before .before .before in
-    omega (arith, ranges (p4 .before .before .before .before .before .before .before .pre .0), ranges (opened p4), c .blocks2 .ensures)
+    omega (arith, ranges (p4 .before .before .before .before .before .before .before .pre .room), ranges (opened p4), c .blocks2 .ensures)
 
 add-a : tie.Need-add-a
 add-a c = let p4 = c .before .before .before .before in
-    omega (arith, ranges (p4 .before .before .before .before .before .before .before .pre .0), ranges (opened p4), c .blocks2 .ensures)
+    omega (arith, ranges (p4 .before .before .before .before .before .before .before .pre .room), ranges (opened p4), c .blocks2 .ensures)
 
 put2-requires : tie.Need-put2-requires
 put2-requires c κs = let p5 = c .before .before .before .before .before in let p7 = p5 .before .before in let p9 = p7 .before .before in
-    let p12 = p9 .before .before .before in let pre = p12 .pre in let n = p9 .page-count .ensures in let s = last-stands (pre .0) n (pre .1 .1) in
-    let o = p5 .open-page .ensures in let b = pre .1 .1 .block in
-    omega (arith, ranges (opened p5), open-pages (pre .0) n s (space p9) b (start p7) o, c .before .blocks2 .ensures)
+    let p12 = p9 .before .before .before in let pre = p12 .pre in let n = p9 .page-count .ensures in let s = last-stands (pre .room) n (pre .may) in
+    let o = p5 .open-page .ensures in let b = pre .may .block in
+    omega (arith, ranges (opened p5), open-pages (pre .room) n s (space p9) b (start p7) o, c .before .blocks2 .ensures)
 
 returns : tie.Need-returns
 returns c = let p8 = c .before .before .before .before .before .before .before .before in let p10 = p8 .before .before in let p12 = p10 .before .before in
-    let p15 = p12 .before .before .before in let pre = p15 .pre in let n = p12 .page-count .ensures in let s = last-stands (pre .0) n (pre .1 .1) in
+    let p15 = p12 .before .before .before in let pre = p15 .pre in let n = p12 .page-count .ensures in let s = last-stands (pre .room) n (pre .may) in
     let b = c .before .before .before .before .blocks2 .ensures in
     let w = c .before .before .put2 .ensures in (
-      page-appended (pre .0) n s (space p12) (pre .1 .1 .block) (start p10) (p8 .open-page .ensures) b w,
-      page-order (pre .0) n s (space p12) (pre .1 .1 .block) (start p10) (p8 .open-page .ensures) b w (pre .1 .0),
+      page-appended (pre .room) n s (space p12) (pre .may .block) (start p10) (p8 .open-page .ensures) b w,
+      page-order (pre .room) n s (space p12) (pre .may .block) (start p10) (p8 .open-page .ensures) b w (pre .order),
     )
 
 pub append-page-spec : {M : Type 1} → statement M

@@ -10,10 +10,10 @@ use Rattle.memory_pages.proofs.append_row.Statement.{statement}
 use Rattle.memory_pages.proofs.append_row.Tie as tie
 
 returns : tie.Need-returns
-returns c = let p2 = c .before .before in let st = p2 .before .before .before .before in let m = st .args .m .now in let new = st .pre .0 in
+returns c = let p2 = c .before .before in let st = p2 .before .before .before .before in let m = st .args .m .now in let new = st .pre .new in
     let h = heldBy (st .args .row) (st .args .payload .now) in (
-      row-inserted (new .room) (omega (arith, entries-length m, st .pre .1 .1)) (p2 .append-row .ensures .0) refl refl (add-start _ _ _ 1)
-          (omega (arith, entries-length m, st .pre .1 .1)) (omega (arith, length-append (flatOf m .rows) (h ∷ []), rows-length m))
+      row-inserted (new .room) (omega (arith, entries-length m, st .pre .page)) (p2 .append-row .ensures .0) refl refl (add-start _ _ _ 1)
+          (omega (arith, entries-length m, st .pre .page)) (omega (arith, length-append (flatOf m .rows) (h ∷ []), rows-length m))
           (omega (arith, new .more, rows-length m, head-capacity m)),
       p2 .append-row .ensures .1,
     )

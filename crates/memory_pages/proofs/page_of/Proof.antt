@@ -20,7 +20,11 @@ cast-count-up-to2 c = let st = c .before .before in let m = st .args .m .now in 
 
 count-up-to2-requires : tie.Need-count-up-to2-requires
 count-up-to2-requires c κs = let st = c .before .before in let m = st .args .m .now in let o = st .pre .1 in
-    (omega (arith, o .some), (omega (arith, ranges (st .pre .0), entries-length m, o .most), omega (arith, ranges (st .pre .0), entries-length m, o .most, c .starts .ensures)))
+    record {
+      order = omega (arith, o .some);
+      few = omega (arith, ranges (st .pre .0), entries-length m, o .most);
+      inside = omega (arith, ranges (st .pre .0), entries-length m, o .most, c .starts .ensures);
+    }
 
 -- what the count says
 known : (c : lts.After-count-up-to2 (starts-reads.Asked, starts-reads.Learnt, count-up-to2-reads.Asked, count-up-to2-reads.Learnt) reads.Pre reads.Post)

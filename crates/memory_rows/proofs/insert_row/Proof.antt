@@ -13,10 +13,12 @@ raise-rows-requires : tie.Need-raise-rows-requires
 unfolding headOf
 raise-rows-requires c κs = let p3 = c .before .before .before in let p10 = p3 .before .before .before .before .before .before .before in
     let p12 = p10 .before .before in let st = p12 .before .before .before .before in let cap = p12 .capacity .ensures in
-    let n = p10 .row-count .ensures in (
-      record { most = cap .most; long = omega (arith, cap .long, p3 .fill-slot .ensures .apart .size) },
-      (omega (arith, n, st .pre .at), omega (arith, n, cap .is, st .pre .more)),
-    )
+    let n = p10 .row-count .ensures in
+    record {
+      fit = record { most = cap .most; long = omega (arith, cap .long, p3 .fill-slot .ensures .apart .size) };
+      order = omega (arith, n, st .pre .at);
+      space = omega (arith, n, cap .is, st .pre .more);
+    }
 
 put-cells-requires : tie.Need-put-cells-requires
 unfolding headOf

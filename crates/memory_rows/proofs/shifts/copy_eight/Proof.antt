@@ -6,8 +6,8 @@ use Rattle.memory_rows.proofs.shifts.copy_eight.Tie as tie
 
 returns : tie.Need-returns
 returns c = let p2 = c .before .before in let p6 = p2 .before .before .before .before in let p10 = p6 .before .before .before .before in
-    let p12 = p10 .before .before in let p13 = p12 .before in let p14 = p13 .before in let h = p14 .before .before .pre .1 in
-    copied-eight (p14 .keys-at .ensures) (p13 .refs-at .ensures) (p12 .states-at .ensures) (h .0) (h .1)
+    let p12 = p10 .before .before in let p13 = p12 .before in let p14 = p13 .before in let h = p14 .before .before .pre in
+    copied-eight (p14 .keys-at .ensures) (p13 .refs-at .ensures) (p12 .states-at .ensures) (h .first) (h .second)
     (p10 .copy32 .ensures) (p6 .copy16 .ensures) (p2 .copy8 .ensures)
 
 pub copy-eight-spec : {M : Type 1} → statement M
