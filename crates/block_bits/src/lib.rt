@@ -3,7 +3,7 @@
 ghost use mathlib.Core.Path.{_≡_};
 ghost use Prim.Native.Nat.{_+_, _*_, _/_, _%_, _^_, _<_, _≤_};
 ghost use lib.ListN.{length};
-ghost use Rattle.block_bits.specs.Bits.{bitsOf, bitsIn, field, mixed, Inside};
+ghost use Rattle.block_bits.specs.Bits.{bitsOf, bitsIn, field, mixed, Middle, Inside};
 ghost use Rattle.basics.specs.Lists.{over};
 ghost use Rattle.block_bits.specs.Fields.{putAll, fieldsOf, AllInside};
 
@@ -71,7 +71,7 @@ fn store(block: &mut [u8], p: usize, n: usize, x: u64)
 
 // old, of r + k + t bits, with the k low bits of x in the place of its own above its t low bits.
 fn mix(old: u64, r: usize, k: usize, t: usize, x: u64) -> u64
-    requires { ⌜ (k + t < 64) × (r + (k + t) ≤ 64) × (old < 2 ^ (r + (k + t))) ⌝ }
+    requires { ⌜ Middle old r k t ⌝ }
     ensures { λ res. ⌜ res ≡ mixed k t old x ⌝ }
 {
     let high = shl(shr(old, k + t), k) + low(x, k);

@@ -1,14 +1,15 @@
 -- The three kinds of block, what a block of each holds, its fields in order, and how a block is spelled.
 use Prim.Native.Nat.{ℕ, _<_, _≤_}
+use mathlib.Core.Path.{_≡_}
 use mathlib.Core.Bool.{Bool, true, false}
 use mathlib.Core.Option.{Option, none, some}
 use mathlib.Core.List.{List, [], _∷_, _++_}
 use lib.ListN.{length}
 use Rattle.basics.specs.Basics.{AllOf}
 use Rattle.block_bits.specs.Fields.{Fit}
-use Rattle.block_forms.specs.Limits.{blockLimit, recordSpace, entriesPerBlock}
+use Rattle.block_forms.specs.Limits.{blockSize, blockLimit, recordSpace, entriesPerBlock}
 use Rattle.block_forms.specs.Tuple.{Owner, committed, tentative, Tuple, sizes, AllFit}
-use Rattle.block_forms.specs.Spell.{blockOf}
+use Rattle.block_forms.specs.Spell.{zeros, blockOf}
 use Rattle.block_forms.specs.declared.Header.{Header}
 
 -- page: table, level of writing, tuples; directory: level, block numbers
@@ -110,6 +111,13 @@ blockFields malformed = []
 blockFields (header h) = headerFields h
 blockFields (page t l ts) = pageFields t l ts
 blockFields (directory l es) = directoryFields l es
+
+-- a block of zeros, and entries enough of which the first n have room in a directory block
+pub record DirectoryStart (block es : List ℕ) (n : ℕ) : Type 0 where
+  pub few : n ≤ entriesPerBlock
+  pub there : n ≤ length es
+  pub size : length block ≡ blockSize
+  pub zero : block ≡ zeros blockSize
 
 -- the 512 bytes of a block
 unfoldable pub encodeBlock : Block → List ℕ

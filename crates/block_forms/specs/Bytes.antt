@@ -1,6 +1,6 @@
 -- Owners and records as values of the code; records and a page's head byte by byte, as the code writes them: proofs/ show that they are
 -- the fields of Block.antt.
-use Prim.Native.Nat.{ℕ, _+_, _*_, _/_, _%_, _-_, _≤_}
+use Prim.Native.Nat.{ℕ, _+_, _*_, _/_, _%_, _-_, _≤_, _<_}
 use mathlib.Core.Path.{_≡_}
 use mathlib.Core.Bool.{Bool}
 use mathlib.Core.List.{List, [], _∷_, _++_}
@@ -77,6 +77,13 @@ unfoldable pub pageHead : ℕ → ℕ → ℕ → ℕ → List ℕ
 pageHead t n b l = be4 (536870912 + t * 33554432 + n * 524288 + b * 1024 + l / 4194304) ++ be4 (l % 4194304 * 1024)
 
 -- ---- a page under construction
+
+-- a block of zeros, and numbers that have room in a page's head: table, tuple count, record bytes
+pub record PageStart (block : List ℕ) (t n b : ℕ) : Type 0 where
+  pub zero : block ≡ zeros blockSize
+  pub table : t < 8
+  pub count : n < 64
+  pub bytes : b < 512
 
 -- the 512 bytes of a page that will have n tuples with b record bytes: its head, the records of ts, then zeros
 unfoldable pub partPage : ℕ → ℕ → ℕ → ℕ → List Tuple → List ℕ

@@ -9,9 +9,9 @@ ghost use Rattle.block_forms.specs.Limits.{blockSize, payloadLimit, reco
 ghost use Rattle.block_forms.specs.Numbers.{be4};
 ghost use Rattle.block_forms.specs.Tuple.{recordSize, OwnerFits};
 ghost use Rattle.block_forms.specs.Spell.{zeros};
-ghost use Rattle.block_forms.specs.Block.{header, directory, encodeBlock};
+ghost use Rattle.block_forms.specs.Block.{header, directory, DirectoryStart, encodeBlock};
 ghost use Rattle.block_forms.specs.Decode.{readOwner, readMark};
-ghost use Rattle.block_forms.specs.Bytes.{ownerIs, ownerAs, flagsOf, ownerWord, Appendable, Appended, partPage};
+ghost use Rattle.block_forms.specs.Bytes.{ownerIs, ownerAs, flagsOf, ownerWord, Appendable, Appended, PageStart, partPage};
 
 // A header block's fields.
 pub struct Header {
@@ -200,7 +200,7 @@ pub fn mark_of(flags: u8) -> bool
 
 // The head of a page that will have count tuples with the given record bytes, in a block of zeros.
 pub fn begin_page(block: &mut [u8; BLOCK_SIZE], table: u32, count: u32, bytes: u32, level: u32)
-    requires { ⌜ (now block ≡ zeros blockSize) × ((table < 8) × ((count < 64) × (bytes < 512))) ⌝ }
+    requires { ⌜ PageStart (now block) table count bytes ⌝ }
     ensures { λ _. ⌜ now (block .exit) ≡ partPage table level count bytes [] ⌝ }
 {
     put4(
@@ -256,7 +256,7 @@ fn big(x: u16) -> u64
 
 // A directory's block, in a block of zeros, filled from the front.
 pub fn spell_directory(block: &mut [u8], level: u32, entries: &[u16], count: usize)
-    requires { ⌜ (count ≤ entriesPerBlock) × ((count ≤ length (now entries)) × ((length (now block) ≡ blockSize) × (now block ≡ zeros blockSize))) ⌝ }
+    requires { ⌜ DirectoryStart (now block) (now entries) count ⌝ }
     ensures { λ _. ⌜ now (block .exit) ≡ encodeBlock (directory level (take count (now (entries .entry)))) ⌝ }
 {
     block_bits::put_bits(block, 0, 4, 3);

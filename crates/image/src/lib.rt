@@ -8,6 +8,7 @@ ghost use Rattle.basics.specs.Lists.{over};
 ghost use Rattle.block_forms.specs.Limits.{blockSize, entriesPerBlock};
 ghost use Rattle.block_forms.specs.Block.{asDirectory};
 ghost use Rattle.block_forms.specs.Decode.{decodeBlock};
+ghost use Rattle.image_rows.specs.Columns.{ColumnsHold};
 ghost use Rattle.image.specs.View.{view, blockAt, blockCount};
 ghost use Rattle.image.specs.Stages.{refuses, holds, capacityLimit, blockOk, entriesDue, readDirectories, pageTest};
 ghost use Rattle.image.specs.Whole.{headerStage, pagesStage, readImage};
@@ -74,7 +75,7 @@ fn test_rows(
 ) -> bool
     requires { ⌜ all (blockOk (blockCount (now image))) (now entries) ≡ true ⌝ }
     requires { ⌜ h .capacity ≤ capacityLimit ⌝ }
-    requires { ⌜ (h .capacity ≤ length (now places)) × ((h .capacity ≤ length (now numbers)) × ((h .capacity ≤ length (now owners)) × (h .capacity ≤ length (now marks)))) ⌝ }
+    requires { ⌜ ColumnsHold (now places) (now numbers) (now owners) (now marks) (h .capacity) ⌝ }
     ensures { λ r. ⌜ r ≡ accepts (pageTest (view (now (image .entry))) h (now (entries .entry))) ⌝ }
 {
     let level = h.level;

@@ -9,7 +9,7 @@ use Rattle.block_forms.specs.Bytes.{ownerIs, tupleOf}
 use Rattle.block_forms.specs.declared.Owner.the-variants.{Committed, Tentative}
 use Rattle.block_forms.specs.declared.Record.{Record}
 use Rattle.image_rows.specs.Rows.{markOk}
-use Rattle.image_rows.specs.Columns.{codedOwner, coded, rowAt, rowsIn}
+use Rattle.image_rows.specs.Columns.{codedOwner, coded, rowAt, rowsIn, ColumnsHold}
 use Rattle.basics.proofs.Tabs.{tab-cong, tab-add}
 
 -- ---- the row of a record
@@ -43,11 +43,16 @@ module _ (ps ns os ms : List ℕ) (k p n o m : ℕ) where
       let d : j ≡ k → ⊥ = λ e. omega arith in
       rw (getD-set-other ps k j p 0 d, getD-set-other ns k j n 0 d, getD-set-other os k j o 0 d, getD-set-other ms k j m 0 d)
 
-  here : (k < length ps) × ((k < length ns) × ((k < length os) × (k < length ms))) → rowAt (set ps k p) (set ns k n) (set os k o) (set ms k m) k ≡ coded p n o m
+  here : ColumnsHold ps ns os ms (k + 1) → rowAt (set ps k p) (set ns k n) (set os k o) (set ms k m) k ≡ coded p n o m
   unfolding rowAt
-  here h = rw (getD-set-same ps k p 0 (h .0), getD-set-same ns k n 0 (h .1 .0), getD-set-same os k o 0 (h .1 .1 .0), getD-set-same ms k m 0 (h .1 .1 .1))
+  here h = rw (
+    getD-set-same ps k p 0 (omega (arith, h .places)),
+    getD-set-same ns k n 0 (omega (arith, h .numbers)),
+    getD-set-same os k o 0 (omega (arith, h .owners)),
+    getD-set-same ms k m 0 (omega (arith, h .marks)),
+  )
 
-  pub row-put : (k < length ps) × ((k < length ns) × ((k < length os) × (k < length ms)))
+  pub row-put : ColumnsHold ps ns os ms (k + 1)
       → rowsIn (set ps k p) (set ns k n) (set os k o) (set ms k m) (k + 1) ≡ rowsIn ps ns os ms k ++ (coded p n o m ∷ [])
   unfolding rowsIn
   row-put h =

@@ -17,7 +17,7 @@ ghost use Rattle.block_forms.specs.Block.{asPage};
 ghost use Rattle.block_forms.specs.Decode.{pageTuples, decodeBlock};
 ghost use Rattle.block_forms.specs.Bytes.{ownerIs, tupleOf};
 ghost use Rattle.image_rows.specs.Rows.{rowsOf, markOk};
-ghost use Rattle.image_rows.specs.Columns.{codedOwner, rowsIn, bare};
+ghost use Rattle.image_rows.specs.Columns.{codedOwner, rowsIn, bare, ColumnsHold};
 ghost use Rattle.image_page.specs.Page.{goodPage};
 
 // A page that may stand in an image.
@@ -105,7 +105,7 @@ fn put_row(
     table: u32,
     r: Record,
 )
-    requires { ⌜ (k < length (now places)) × ((k < length (now numbers)) × ((k < length (now owners)) × (k < length (now marks)))) ⌝ }
+    requires { ⌜ ColumnsHold (now places) (now numbers) (now owners) (now marks) (k + 1) ⌝ }
     requires { ⌜ OwnerFits (ownerIs (r .owner)) ⌝ }
     ensures { λ _. ⌜ rowsIn (now (places .exit)) (now (numbers .exit)) (now (owners .exit)) (now (marks .exit)) (k + 1)
         ≡ rowsIn (now (places .entry)) (now (numbers .entry)) (now (owners .entry)) (now (marks .entry)) k ++ ((table, tupleOf r []) ∷ []) ⌝ }
@@ -129,7 +129,7 @@ pub fn add_rows(
     k: usize,
 )
     requires { ⌜ length (now block) ≡ blockSize ⌝ }
-    requires { ⌜ (k + count ≤ length (now places)) × ((k + count ≤ length (now numbers)) × ((k + count ≤ length (now owners)) × (k + count ≤ length (now marks)))) ⌝ }
+    requires { ⌜ ColumnsHold (now places) (now numbers) (now owners) (now marks) (k + count) ⌝ }
     ensures { λ _. ⌜ ((ts : List Tuple) → pageTuples count (now (block .entry)) ≡ some ts
         → rowsIn (now (places .exit)) (now (numbers .exit)) (now (owners .exit)) (now (marks .exit)) (k + count)
         ≡ rowsIn (now (places .entry)) (now (numbers .entry)) (now (owners .entry)) (now (marks .entry)) k ++ map bare (rowsOf table ts)) ⌝ }

@@ -42,6 +42,12 @@ pub record Table (xs heads links : List ℕ) (n : ℕ) : Type 0 where
   pub head : (b : ℕ) → b ≤ bucketCount → getD heads b 0 ≡ lastBy (inBucket b) xs n
   pub chain : Chained xs links n
 
+-- row i is one of the first n, and the hash table is theirs
+pub record TableRow (ns xs heads links : List ℕ) (n i : ℕ) : Type 0 where
+  pub inside : i < n
+  pub numbers : n ≤ length ns
+  pub table : Table xs heads links n
+
 -- where to look for x: the chain that ends at row j - 1 is its bucket's
 pub record Chain (xs links : List ℕ) (j x : ℕ) : Type 0 where
   pub rows : j ≤ length xs

@@ -1,5 +1,5 @@
 -- Rows as the code holds them for its tests: four columns of numbers. A row read from them has no payload.
-use Prim.Native.Nat.{ℕ, _-_, _/_, _%_}
+use Prim.Native.Nat.{ℕ, _-_, _/_, _%_, _≤_}
 use mathlib.Core.Bool.{Bool}
 use mathlib.Core.List.{List, [], _∷_, map}
 use lib.ListN.{length, getD}
@@ -8,6 +8,7 @@ use Rattle.basics.specs.Basics.{if_then_else_, all, every, paired, distinct}
 use Rattle.basics.specs.Lists.{tab}
 use Rattle.block_forms.specs.Limits.{statementLimit}
 use Rattle.block_forms.specs.Tuple.{Owner, committed, tentative}
+use Rattle.image_rows.specs.Chains.{rowLimit}
 use Rattle.image_rows.specs.Rows.{Row, number, follows, startsWell, isBelow, transactions, openLimit, statementOk}
 
 -- an owner's code is 0 for committed, else 1 + transaction and statement
@@ -25,6 +26,19 @@ rowAt ps ns os ms i = coded (getD ps i 0) (getD ns i 0) (getD os i 0) (getD ms i
 -- the first n rows of four columns
 unfoldable pub rowsIn : List ℕ → List ℕ → List ℕ → List ℕ → ℕ → List Row
 rowsIn ps ns os ms n = tab (rowAt ps ns os ms) 0 n
+
+-- each of the four columns has n rows
+pub record ColumnsHold (ps ns os ms : List ℕ) (n : ℕ) : Type 0 where
+  pub places : n ≤ length ps
+  pub numbers : n ≤ length ns
+  pub owners : n ≤ length os
+  pub marks : n ≤ length ms
+
+-- numbers and owners have n rows, and these are not too many
+pub record OwnersHold (ns os : List ℕ) (n : ℕ) : Type 0 where
+  pub few : n ≤ rowLimit
+  pub numbers : n ≤ length ns
+  pub owners : n ≤ length os
 
 -- a row without its payload
 abbrev pub bare : Row → Row

@@ -7,8 +7,8 @@ ghost use lib.ListN.{length, take, drop, getD};
 ghost use lib.Dec.{eqb};
 ghost use Rattle.basics.specs.Basics.{all, paired, isIn, distinct};
 ghost use Rattle.image_rows.specs.Rows.{statementOk, follows, startsWell, isBelow};
-ghost use Rattle.image_rows.specs.Columns.{coded, rowsIn, columnsOk};
-ghost use Rattle.image_rows.specs.Chains.{rowLimit, bucketCount, lastBy, bucketOf, Chain, Table, keysOnce, isNext, statementsRise, isStart, starts};
+ghost use Rattle.image_rows.specs.Columns.{coded, rowsIn, columnsOk, ColumnsHold, OwnersHold};
+ghost use Rattle.image_rows.specs.Chains.{rowLimit, bucketCount, lastBy, bucketOf, Chain, Table, TableRow, keysOnce, isNext, statementsRise, isStart, starts};
 
 // The rows of an image, at most.
 pub const ROWS: usize = 1024;
@@ -115,7 +115,7 @@ fn is_next(
     count: usize,
     i: usize,
 ) -> bool
-    requires { ⌜ (i < count) × ((count ≤ length (now numbers)) × Table (now owners) (now heads) (now links) count) ⌝ }
+    requires { ⌜ TableRow (now numbers) (now owners) (now heads) (now links) count i ⌝ }
     ensures { λ r. ⌜ r ≡ isNext (now (numbers .entry)) (now (owners .entry)) count i ⌝ }
 {
     let o = owners[i];
@@ -156,7 +156,7 @@ fn statements_rise(
 
 // The statements of each transaction are 0, 1, 2, .. by rising number: none stands twice, and each but 0 has the one before it at a lower number.
 fn statements(numbers: &[u32], owners: &[u64], count: usize) -> bool
-    requires { ⌜ (count ≤ rowLimit) × ((count ≤ length (now numbers)) × (count ≤ length (now owners))) ⌝ }
+    requires { ⌜ OwnersHold (now numbers) (now owners) count ⌝ }
     requires { ⌜ distinct (take count (now numbers)) ≡ true ⌝ }
     ensures { λ r. ⌜ r ≡ all (statementOk (rowsIn [] (now (numbers .entry)) (now (owners .entry)) [] count)) (rowsIn [] (now (numbers .entry)) (now (owners .entry)) [] count) ⌝ }
 {
@@ -192,7 +192,7 @@ fn follows(p: u64, n: u32, o: u64, p2: u64, n2: u32, o2: u64, m2: u8) -> bool
 
 // The tuples rise, and each may follow the one before it.
 pub fn rising(places: &[u64], numbers: &[u32], owners: &[u64], marks: &[u8], count: usize) -> bool
-    requires { ⌜ (count ≤ length (now places)) × ((count ≤ length (now numbers)) × ((count ≤ length (now owners)) × (count ≤ length (now marks)))) ⌝ }
+    requires { ⌜ ColumnsHold (now places) (now numbers) (now owners) (now marks) count ⌝ }
     ensures { λ r. ⌜ r ≡ (paired follows (rowsIn (now (places .entry)) (now (numbers .entry)) (now (owners .entry)) (now (marks .entry)) count)
         && startsWell (rowsIn (now (places .entry)) (now (numbers .entry)) (now (owners .entry)) (now (marks .entry)) count)) ⌝ }
 {
@@ -272,7 +272,7 @@ pub fn columns_ok(
     next: u32,
 ) -> bool
     requires { ⌜ count ≤ rowLimit ⌝ }
-    requires { ⌜ (count ≤ length (now places)) × ((count ≤ length (now numbers)) × ((count ≤ length (now owners)) × (count ≤ length (now marks)))) ⌝ }
+    requires { ⌜ ColumnsHold (now places) (now numbers) (now owners) (now marks) count ⌝ }
     ensures { λ r. ⌜ r ≡ columnsOk next (rowsIn (now (places .entry)) (now (numbers .entry)) (now (owners .entry)) (now (marks .entry)) count) ⌝ }
 {
     if !rising(places, numbers, owners, marks, count) {

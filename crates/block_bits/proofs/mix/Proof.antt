@@ -7,20 +7,20 @@ use Rattle.block_bits.proofs.mix.Tie as tie
 shl-requires : tie.Need-shl-requires
 shl-requires c κs =
     let a = c .before .args in
-    (search needs, rw (c .shr .ensures) (omega (arith, window-fits (a .r) (a .k) (a .t) (a .old) (a .x) (c .before .pre .1) (c .before .pre .2) .0)))
+    (search needs, rw (c .shr .ensures) (omega (arith, window-fits (a .r) (a .k) (a .t) (a .old) (a .x) (c .before .pre .size) (c .before .pre .fits) .0)))
 
 add-high : tie.Need-add-high
 add-high c =
     let s = c .before .before .before in
     let a = s .args in
-    rw (c .low .ensures, c .before .shl .ensures, c .before .before .shr .ensures) (omega (arith, window-fits (a .r) (a .k) (a .t) (a .old) (a .x) (s .pre .1) (s .pre .2) .0))
+    rw (c .low .ensures, c .before .shl .ensures, c .before .before .shr .ensures) (omega (arith, window-fits (a .r) (a .k) (a .t) (a .old) (a .x) (s .pre .size) (s .pre .fits) .0))
 
 shl-requires-2 : tie.Need-shl-requires-2
 shl-requires-2 c κs =
     let s = c .before .before .before in
     let a = s .args in (
       search needs,
-      rw (c .low .ensures, c .before .shl .ensures, c .before .before .shr .ensures) (omega (arith, window-fits (a .r) (a .k) (a .t) (a .old) (a .x) (s .pre .1) (s .pre .2) .1)),
+      rw (c .low .ensures, c .before .shl .ensures, c .before .before .shr .ensures) (omega (arith, window-fits (a .r) (a .k) (a .t) (a .old) (a .x) (s .pre .size) (s .pre .fits) .1)),
     )
 
 add-result : tie.Need-add-result
@@ -28,7 +28,7 @@ add-result c =
     let s = c .before .before .before .before .before in
     let a = s .args in
     rw (c .low2 .ensures, c .before .shl2 .ensures, c .before .before .low .ensures, c .before .before .before .shl .ensures, c .before .before .before .before .shr .ensures)
-    (omega (arith, window-fits (a .r) (a .k) (a .t) (a .old) (a .x) (s .pre .1) (s .pre .2) .1))
+    (omega (arith, window-fits (a .r) (a .k) (a .t) (a .old) (a .x) (s .pre .size) (s .pre .fits) .1))
 
 returns : tie.Need-returns
 returns c =

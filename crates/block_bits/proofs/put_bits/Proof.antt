@@ -10,7 +10,7 @@ mix-requires c κs =
     let a = c .before .before .before .before .args in
     let n : ℕ = (a .at % 8 + a .width + 7) / 8 in
     let e : 8 * n ≡ a .at % 8 + (a .width + (8 * n - a .at % 8 - a .width)) = omega arith in
-    (omega arith, omega arith, subst (λ (m : ℕ). c .before .load .result < 2 ^ m) e (c .before .load .ensures .1))
+    record { width = omega arith; size = omega arith; fits = subst (λ (m : ℕ). c .before .load .result < 2 ^ m) e (c .before .load .ensures .1) }
 
 returns : tie.Need-returns
 returns c =

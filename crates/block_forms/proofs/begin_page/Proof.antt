@@ -13,7 +13,7 @@ returns c = let p2 = c .before .before in
     let a = s .args in
     rw (c .put42 .ensures, p2 .put4 .ensures)
     (put-head (a .block .now) (a .table) (a .count) (a .bytes) (a .level) (omega arith)
-    ∙ ap (λ (z : List ℕ). over z 0 (pageHead (a .table) (a .count) (a .bytes) (a .level))) (s .pre .0)
+    ∙ ap (λ (z : List ℕ). over z 0 (pageHead (a .table) (a .count) (a .bytes) (a .level))) (s .pre .zero)
     ∙ part-start (a .table) (a .level) (a .count) (a .bytes))
 
 pub begin-page-spec : {M : Type 1} → statement M

@@ -18,11 +18,11 @@ loop-holds : tie.Need-loop-holds Inv-loop μ-loop
 loop-holds c =
     let p4 = c .before .before in let p3 = p4 .before .before .before .before in let p2 = p3 .before .before .before .before in
     let p1 = p2 .before .before .before .before in let s = p1 .before .before .before .before in
-    let head = head-filled (s .args .level) (s .args .count) (ap bitsIn (s .pre .1 .1 .1)) (p1 .put-bits .ensures) (p2 .put-bits2 .ensures) (p3 .put-bits3 .ensures)
+    let head = head-filled (s .args .level) (s .args .count) (ap bitsIn (s .pre .zero)) (p1 .put-bits .ensures) (p2 .put-bits2 .ensures) (p3 .put-bits3 .ensures)
     (p4 .put-bits4 .ensures) in (
       omega arith,
       (
-        omega (arith, p4 .put-bits4 .kept, p3 .put-bits3 .kept, p2 .put-bits2 .kept, p1 .put-bits .kept, s .pre .1 .1 .0),
+        omega (arith, p4 .put-bits4 .kept, p3 .put-bits3 .kept, p2 .put-bits2 .kept, p1 .put-bits .kept, s .pre .size),
         (λ j. omega (arith, c .slice-known5 .given j), head),
       ),
     )
@@ -30,11 +30,11 @@ loop-holds c =
 -- what was asked of the count, from the loop on
 few : (p : tie.At-loop Inv-loop μ-loop) → let q = p .before .before .before .before .before .before .before .before .before .before in
     q .before .before .before .before .before .before .before .before .before .args .count ≤ entriesPerBlock
-few p = let q = p .before .before .before .before .before .before .before .before .before .before in q .before .before .before .before .before .before .before .before .before .pre .0
+few p = let q = p .before .before .before .before .before .before .before .before .before .before in q .before .before .before .before .before .before .before .before .before .pre .few
 
 there : (p : tie.At-loop Inv-loop μ-loop) → let q = p .before .before .before .before .before .before .before .before .before .before in
     let a = q .before .before .before .before .before .before .before .before .before .args in a .count ≤ length (a .entries .now)
-there p = let q = p .before .before .before .before .before .before .before .before .before .before in q .before .before .before .before .before .before .before .before .before .pre .1 .0
+there p = let q = p .before .before .before .before .before .before .before .before .before .before in q .before .before .before .before .before .before .before .before .before .pre .there
 
 mul-put-bits : tie.Need-mul-put-bits Inv-loop μ-loop
 mul-put-bits c = omega (arith, c .before .loop-test .taken, few (c .before .before))
@@ -68,7 +68,7 @@ loop-again c =
 same-length : tie.Need-same-length Inv-loop μ-loop
 same-length c =
     let q = c .before .before .before .before .before .before .before .before .before .before .before in
-    omega (arith, q .before .before .before .before .before .before .before .before .before .pre .1 .1 .0)
+    omega (arith, q .before .before .before .before .before .before .before .before .before .pre .size)
 
 returns : tie.Need-returns Inv-loop μ-loop
 returns c =

@@ -11,7 +11,7 @@ returns c = let xs : List ℕ = c .before .before .before .args .block .now in
 
 spell-directory-requires : tie.Need-spell-directory-requires
 spell-directory-requires c κs = let few = c .before .before .before .before .if1 .left in
-    (few, (omega (arith, few, c .before .before .read-entries), (refl, refl)))
+    record { few = few; there = omega (arith, few, c .before .before .read-entries); size = refl; zero = refl }
 
 returns-2 : tie.Need-returns-2
 returns-2 c = let xs : List ℕ = c .before .before .before .before .before .before .before .before .before .before .before .before .before .args .block .now in

@@ -53,7 +53,12 @@ spells c =
 begin-page-requires : tie.Need-begin-page-requires Inv-loop μ-loop
 begin-page-requires c κs =
     let l = c .before in
-    (refl, (omega (arith, l .before .before .before .get-bits .ensures .1), (omega (arith, l .before .before .get-bits2 .ensures .1), omega (arith, l .before .get-bits3 .ensures .1))))
+    record {
+      zero = refl;
+      table = omega (arith, l .before .before .before .get-bits .ensures .1);
+      count = omega (arith, l .before .before .get-bits2 .ensures .1);
+      bytes = omega (arith, l .before .get-bits3 .ensures .1);
+    }
 
 loop-holds : tie.Need-loop-holds Inv-loop μ-loop
 loop-holds c =

@@ -25,7 +25,7 @@ cast-begin-page c = omega (arith, c .before .before .before .pre .fits)
 
 begin-page-requires : tie.Need-begin-page-requires Inv-loop μ-loop
 begin-page-requires c κs = let g = c .before .before .before .pre in
-    (g .zero, (g .table, (few-fit (g .measured) (g .fits), omega (arith, g .fits))))
+    record { zero = g .zero; table = g .table; count = few-fit (g .measured) (g .fits); bytes = omega (arith, g .fits) }
 
 loop-holds : tie.Need-loop-holds Inv-loop μ-loop
 loop-holds c = let s = c .before .before .before .before in let a = s .args in

@@ -44,8 +44,10 @@ add-rows-requires : tie.Need-add-rows-requires Inv-loop μ-loop
 add-rows-requires c κs =
     let p5 = c .before .before .before .before .before in let p10 = p5 .before .before .before .before .before in
     let p14 = p10 .before .before .before .before in let p22 = p14 .before .before .before .before .before .before .before .before in
-    let g = found p5 in let k = p22 .pre .1 in let p = p14 .loop in let l = p .inv .1 in let r = p .inv .0 .room in let m = g .room-left in
-    (omega (arith, p10 .block-at), (omega (arith, k, l, r, m), (omega (arith, k, l, r, m), (omega (arith, k, l, r, m), omega (arith, k, l, r, m)))))
+    let g = found p5 in let k = p22 .pre .1 in let p = p14 .loop in let l = p .inv .1 in let r = p .inv .0 .room in let m = g .room-left in (
+      omega (arith, p10 .block-at),
+      record { places = omega (arith, k, l, r, m); numbers = omega (arith, k, l, r, m); owners = omega (arith, k, l, r, m); marks = omega (arith, k, l, r, m) },
+    )
 
 add-to : tie.Need-add-to Inv-loop μ-loop
 add-to c =
@@ -102,7 +104,8 @@ loop-again c =
 columns-ok-requires : tie.Need-columns-ok-requires Inv-loop μ-loop
 columns-ok-requires c κs = let s = c .before .before .before .before .before .before .before .before .before .before .before .before .before in
     let p = c .before .before .before .before .before .loop in
-    omega (arith, p .inv .0 .room, p .inv .1, s .pre .1)
+    let r = p .inv .0 .room in let l = p .inv .1 in let h = s .pre .1 in
+    (omega (arith, r, h), record { places = omega (arith, r, l, h); numbers = omega (arith, r, l, h); owners = omega (arith, r, l, h); marks = omega (arith, r, l, h) })
 
 same-length-5 : tie.Need-same-length-5 Inv-loop μ-loop
 same-length-5 c = c .before .before .before .before .before .before .loop .inv .1 .0

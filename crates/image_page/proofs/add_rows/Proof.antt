@@ -35,7 +35,12 @@ put-row-requires c κs = let p5 = c .before .before .before .before .before in
     let xs : List ℕ = s .args .block .now in
     let p = p9 .loop in
     let f = found-is xs (p .at) (omega (arith, s .pre .0, p .inv .1 .0)) (sym (p5 .r .given .1) ∙ p5 .before .before .next .ensures) in (
-      omega (arith, p8 .loop-test .taken, p .inv .1 .1 .0, p .inv .1 .1 .1 .0, s .pre),
+      record {
+        places = omega (arith, p8 .loop-test .taken, p .inv .1 .1 .0, p .inv .1 .1 .1 .0, s .pre .1 .places);
+        numbers = omega (arith, p8 .loop-test .taken, p .inv .1 .1 .0, p .inv .1 .1 .1 .0, s .pre .1 .numbers);
+        owners = omega (arith, p8 .loop-test .taken, p .inv .1 .1 .0, p .inv .1 .1 .1 .0, s .pre .1 .owners);
+        marks = omega (arith, p8 .loop-test .taken, p .inv .1 .1 .0, p .inv .1 .1 .1 .0, s .pre .1 .marks);
+      },
       found-fits xs (p .at) (all-bytes xs (λ j. omega (arith, known .shared-slice-known .given j))) f,
     )
 

@@ -9,26 +9,26 @@ use Rattle.image_rows.proofs.columns_ok.Tie as tie
 
 returns : tie.Need-returns
 returns c = let s = c .before .before .before .before .before .before in let a = s .args in
-    sym (columns-tests (a .places .now) (a .numbers .now) (a .owners .now) (a .marks .now) (a .count) (s .pre .1 .1 .0) (a .next) ∙ rw
+    sym (columns-tests (a .places .now) (a .numbers .now) (a .owners .now) (a .marks .now) (a .count) (s .pre .1 .numbers) (a .next) ∙ rw
     (sym (c .before .rising .ensures) ∙ not-true _ (c .if1 .taken)))
 
 returns-2 : tie.Need-returns-2
 returns-2 c = let s = c .before .before .before .before .before .before .before .before .before in let a = s .args in
-    sym (columns-tests (a .places .now) (a .numbers .now) (a .owners .now) (a .marks .now) (a .count) (s .pre .1 .1 .0) (a .next) ∙ rw
+    sym (columns-tests (a .places .now) (a .numbers .now) (a .owners .now) (a .marks .now) (a .count) (s .pre .1 .numbers) (a .next) ∙ rw
     (sym (c .before .distinct .ensures) ∙ not-true _ (c .if2 .taken), and-no))
 
 returns-3 : tie.Need-returns-3
 returns-3 c = let s = c .before .before .before .before .before .before .before .before .before .before .before in let a = s .args in
-    sym (columns-tests (a .places .now) (a .numbers .now) (a .owners .now) (a .marks .now) (a .count) (s .pre .1 .1 .0) (a .next) ∙ rw
+    sym (columns-tests (a .places .now) (a .numbers .now) (a .owners .now) (a .marks .now) (a .count) (s .pre .1 .numbers) (a .next) ∙ rw
     (sym (c .before .below .ensures) ∙ not-true _ (c .if3 .taken), and-no, and-no))
 
 statements-requires : tie.Need-statements-requires
 statements-requires c κs =
-    let p2 = c .before .before in ((omega arith, (omega arith, omega arith)), sym (p2 .before .distinct .ensures) ∙ not-false _ (p2 .if2 .left))
+    let p2 = c .before .before in (record { few = omega arith; numbers = omega arith; owners = omega arith }, sym (p2 .before .distinct .ensures) ∙ not-false _ (p2 .if2 .left))
 
 returns-4 : tie.Need-returns-4
 returns-4 c = let s = c .before .before .before .before .before .before .before .before .before .before .before .before .before in let a = s .args in
-    sym (columns-tests (a .places .now) (a .numbers .now) (a .owners .now) (a .marks .now) (a .count) (s .pre .1 .1 .0) (a .next) ∙ rw
+    sym (columns-tests (a .places .now) (a .numbers .now) (a .owners .now) (a .marks .now) (a .count) (s .pre .1 .numbers) (a .next) ∙ rw
     (sym (c .before .statements .ensures) ∙ not-true _ (c .if4 .taken), and-no, and-no, and-no, and-no))
 
 returns-5 : tie.Need-returns-5
@@ -39,8 +39,8 @@ returns-5 c = let p2 = c .before .before in let p4 = p2 .before .before in let p
     let b = sym (p4 .below .ensures) ∙ not-false _ (p2 .before .if3 .left) in
     let t = sym (p2 .statements .ensures) ∙ not-false _ (c .before .if4 .left) in
     let n = c .starts .ensures ∙ starts-transactions (a .owners .now) (a .numbers .now) (a .count)
-    (statements-ordered (a .owners .now) (a .numbers .now) (a .count) (s .pre .1 .1 .0) d t) in
-    sym (columns-tests (a .places .now) (a .numbers .now) (a .owners .now) (a .marks .now) (a .count) (s .pre .1 .1 .0) (a .next) ∙ rw
+    (statements-ordered (a .owners .now) (a .numbers .now) (a .count) (s .pre .1 .numbers) d t) in
+    sym (columns-tests (a .places .now) (a .numbers .now) (a .owners .now) (a .marks .now) (a .count) (s .pre .1 .numbers) (a .next) ∙ rw
     (r, d, b, t, ← n, and-yes))
 
 pub columns-ok-spec : {M : Type 1} → statement M

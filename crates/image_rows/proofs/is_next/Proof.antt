@@ -14,7 +14,7 @@ found : (c : lts.After-find (bucket-reads.Asked, bucket-reads.Learnt, find-reads
     let a = c .before .before .before .before .before .before .before .before .before .before .args in
     c .find .result ≡ lastBy (eqb (getD (a .owners .now) (a .i) 0 - 1)) (a .owners .now) (a .count)
 found c = let p2 = c .before .before in let s = p2 .before .before .before .before .before .before .before .before in
-    table-finds (s .pre .1 .1) (getD (s .args .owners .now) (s .args .i) 0 - 1) (p2 .bucket .ensures .0) (c .find .ensures)
+    table-finds (s .pre .table) (getD (s .args .owners .now) (s .args .i) 0 - 1) (p2 .bucket .ensures .0) (c .find .ensures)
 
 returns : tie.Need-returns
 returns c = let a = c .before .before .before .before .before .before .args in next-first (a .numbers .now) (a .owners .now) (a .count) (a .i) (omega arith)
@@ -25,10 +25,10 @@ returns-2 c =
 
 cast-find : tie.Need-cast-find
 cast-find c =
-    let p1 = c .before in let s = p1 .before .before .before .before .before .before .before .before in omega (arith, table-chain (s .pre .1 .1) _ (p1 .bucket .ensures .0) .rows)
+    let p1 = c .before in let s = p1 .before .before .before .before .before .before .before .before in omega (arith, table-chain (s .pre .table) _ (p1 .bucket .ensures .0) .rows)
 
 find-requires : tie.Need-find-requires
-find-requires c κs = table-chain (c .before .before .before .before .before .before .before .before .before .pre .1 .1) _ (c .before .bucket .ensures .0)
+find-requires c κs = table-chain (c .before .before .before .before .before .before .before .before .before .pre .table) _ (c .before .bucket .ensures .0)
 
 returns-3 : tie.Need-returns-3
 returns-3 c =

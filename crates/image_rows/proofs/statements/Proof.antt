@@ -11,18 +11,18 @@ link-all-requires c κs = ((omega arith, empty-table _ _), (omega arith, omega a
 returns : tie.Need-returns
 returns c =
     let p3 = c .before .before .before in let s = p3 .before .before .before .before .before in let a = s .args in
-    sym (sym (statements-tests (a .owners .now) (a .numbers .now) (a .count) (s .pre .0 .1 .0) (s .pre .1))
+    sym (sym (statements-tests (a .owners .now) (a .numbers .now) (a .count) (s .pre .0 .numbers) (s .pre .1))
     ∙ rw (sym (p3 .link-all .ensures .0) ∙ not-true _ (c .if1 .taken)))
 
 statements-rise-requires : tie.Need-statements-rise-requires
 statements-rise-requires c κs =
     let p2 = c .before .before in let p5 = p2 .before .before .before in let s = p5 .before .before .before .before .before in
-    (s .pre .0 .1 .0, p5 .link-all .ensures .1 (not-false _ (p2 .if1 .left)))
+    (s .pre .0 .numbers, p5 .link-all .ensures .1 (not-false _ (p2 .if1 .left)))
 
 returns-2 : tie.Need-returns-2
 returns-2 c =
     let p3 = c .before .before .before in let p6 = p3 .before .before .before in let s = p6 .before .before .before .before .before in let a = s .args in
-    c .statements-rise .ensures ∙ sym (sym (statements-tests (a .owners .now) (a .numbers .now) (a .count) (s .pre .0 .1 .0) (s .pre .1))
+    c .statements-rise .ensures ∙ sym (sym (statements-tests (a .owners .now) (a .numbers .now) (a .count) (s .pre .0 .numbers) (s .pre .1))
     ∙ rw (sym (p6 .link-all .ensures .0) ∙ not-false _ (p3 .if1 .left)))
 
 pub statements-spec : {M : Type 1} → statement M

@@ -19,7 +19,7 @@ unfolding statementsRise
 loop-holds c = let a = c .before .before .before .before .args in ap (all (isNext (a .numbers .now) (a .owners .now) (a .count))) (sym (tab-whole (λ j. j) (a .count)))
 
 is-next-requires : tie.Need-is-next-requires Inv-loop μ-loop
-is-next-requires c κs = (omega arith, (omega arith, c .before .before .before .before .before .before .pre .1))
+is-next-requires c κs = record { inside = omega arith; numbers = omega arith; table = c .before .before .before .before .before .before .pre .1 }
 
 returns : tie.Need-returns Inv-loop μ-loop
 returns c = let p = c .before .before .before .loop in let a = c .before .before .before .before .before .before .before .before .args in
