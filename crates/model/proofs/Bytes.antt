@@ -167,10 +167,19 @@ make-accepted len m n s e =
     let mem : memoryFor n < suc m = leb-false (suc m) (memoryFor n) d in
     (not-false (wholeBlocks len) a, omega arith, omega arith, omega arith, sym (holds-eq (rw (a, b, c, d) at e)))))))
 
+-- the tests of a header, and those of the directory and the pages below it, for `unfolding`
+unfoldable headerTests : ℕ
+unfolding headerTest countsOk headerOk directoriesFor directoryBlocks unusedNumbers blockOk isZero
+headerTests = 0
+
+unfoldable pageTests : ℕ
+unfolding pagesStage pagesBelow directoryTest readDirectories testedEntries entriesOk pageTest readPages testedPages rowsOfPages rowRules
+pageTests = 0
+
 -- the header that make writes passes, and the store below it is empty
 fresh-view : (v : View) (b n : ℕ) → 1 ≤ n → n ≤ capacityLimit → v 0 ≡ header (headerFor (freshStore b n) 0 0 0 [])
     → recoverView b v ≡ holds (freshStore b n)
-unfolding recoverView recoverFrom headerTest countsOk headerOk directoriesFor directoryBlocks unusedNumbers blockOk isZero basics headerFor freshStore pagesStage pagesBelow directoryTest readDirectories testedEntries entriesOk pageTest readPages testedPages rowsOfPages rowRules recoverPages recoveredStore
+unfolding recoverView recoverFrom headerTests pageTests basics headerFor freshStore recoverPages recoveredStore
 fresh-view v b n l u e = rw (e, eqb-self b, le-true 1 n l, le-true n capacityLimit u, zero) (rw zero)
   where
     zero : leb 0 n ≡ true

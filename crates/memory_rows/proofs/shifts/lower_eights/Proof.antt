@@ -20,13 +20,21 @@ loop-again c = let p2 = c .before .before in let p4 = p2 .before .before in let 
 
 give-eight-requires : tie.Need-give-eight-requires Inv μ
 give-eight-requires c κs = let p2 = c .before .before in let p5 = p2 .before .before .before in let s = p5 .before .before .before in
-    record { fit = fit-then (s .pre .0 .fit) (p2 .loop .inv .only); inside = omega (arith, s .pre .0 .space); cells = taken-fits (s .args .m .now) (s .args .c) (s .args .i + 1) (p5 .take-eight .ensures) }
+    record {
+      fit = fit-then (s .pre .0 .fit) (p2 .loop .inv .only);
+      inside = omega (arith, s .pre .0 .space);
+      cells = taken-fits (s .args .m .now) (s .args .c) (s .args .i + 1) (p5 .take-eight .ensures);
+    }
 
 give-eight-requires-2 : tie.Need-give-eight-requires-2 Inv μ
 give-eight-requires-2 c κs = let p3 = c .before .before .before in let p6 = p3 .before .before .before in let p9 = p6 .before .before .before in
     let s = p9 .before .before .before in let a = s .args in
     let g = p3 .give-eight .ensures (a .m .now) (a .i + 1) (p9 .take-eight .ensures) in
-    record { fit = fit-then (fit-then (s .pre .0 .fit) (p6 .loop .inv .only)) (g .only); inside = omega (arith, s .pre .0 .space); cells = taken-fits (a .m .now) (a .c) (a .n - 8) (p6 .before .take-eight2 .ensures) }
+    record {
+      fit = fit-then (fit-then (s .pre .0 .fit) (p6 .loop .inv .only)) (g .only);
+      inside = omega (arith, s .pre .0 .space);
+      cells = taken-fits (a .m .now) (a .c) (a .n - 8) (p6 .before .take-eight2 .ensures);
+    }
 
 returns : tie.Need-returns Inv μ
 returns c = let p2 = c .before .before in let p6 = p2 .before .before .before .before in let p8 = p6 .before .before in let p9 = p8 .before in
