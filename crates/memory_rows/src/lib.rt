@@ -14,14 +14,14 @@ use places::ref_at;
 use places::ref_place;
 use places::refs_at;
 use places::row_count;
-use places::slot_at;
 use places::slot_place;
 use places::state_at;
 use places::state_place;
-use places::states_at;
 use shifts::lower_rows;
 use shifts::raise_rows;
+use slots::fill_slot;
 use slots::free_slot;
+use slots::put_cells;
 ghost use mathlib.Core.Path.{_≡_};
 ghost use mathlib.Core.Bool.{false};
 ghost use mathlib.Core.List.{_∷_, [], _++_};
@@ -38,7 +38,7 @@ ghost use Rattle.memory_layout.specs.Flat.{flatOf, rowIn, Room, Becomes};
 ghost use Rattle.memory_layout.specs.Elements.{RowRange};
 ghost use Rattle.block_forms.specs.Bytes.{ownerIs};
 ghost use Rattle.memory_rows.specs.Rows.{pendingIs, heldBy, committedRow, isLiveOwn, isOwned, withRow, keyIn, Holds, Copied, PayloadInto, NewRow, RowsOnly};
-ghost use Rattle.memory_rows.specs.Cells.{codeOf, keepsOwner, InOrder, ColumnsFit, CellsPut, SlotInto, SlotFilled};
+ghost use Rattle.memory_rows.specs.Cells.{codeOf, keepsOwner, InOrder};
 
 // Number, owner and payload of a row.
 const SLOT_SIZE: usize = 72;
@@ -341,28 +341,6 @@ struct Eight {
     keys: [u8; 32],
     refs: [u8; 16],
     states: [u8; 8],
-}
-
-// Writes the cells of row i.
-fn put_cells(m: &mut [u8], c: usize, i: usize, key: u32, r: u16, state: u8)
-    requires { ⌜ ColumnsFit (now m) c × (i < c) ⌝ }
-    ensures { λ _. ⌜ CellsPut (now (m .entry)) (now (m .exit)) c i key r state ⌝ }
-{
-    let s = states_at(c) + i;
-    memory_bytes::put4(m, keys_at(c) + i * 4, key);
-    memory_bytes::put2(m, refs_at(c) + i * 2, r);
-    m[s] = state;
-}
-
-// Writes number, owner and payload into slot s.
-fn fill_slot(m: &mut [u8], s: usize, number: u32, owner: u32, payload: &[u8])
-    requires { ⌜ SlotInto (now m) s (now payload) ⌝ }
-    ensures { λ _. ⌜ SlotFilled (now (m .entry)) (now (m .exit)) s number owner (now (payload .entry)) ⌝ }
-{
-    let a = slot_at(s);
-    memory_bytes::put4(m, a, number);
-    memory_bytes::put4(m, a + 4, owner);
-    memory_bytes::write(m, a + 8, payload);
 }
 
 // The row, with its payload, becomes row i, in a slot that no row is in, so that all other rows are as they were.

@@ -1,9 +1,12 @@
-// A slot that no row is in: the hint behind the rows is tested first, then all slots.
+// A slot that no row is in: the hint behind the rows is tested first, then all slots. And what is written of a row: its slot and its cells.
 use super::SLOT_LIMIT;
 use super::places::capacity;
+use super::places::keys_at;
 use super::places::refs_at;
 use super::places::row_count;
+use super::places::slot_at;
 use super::places::slot_of;
+use super::places::states_at;
 ghost use mathlib.Core.Path.{_≡_};
 ghost use mathlib.Core.Bool.{false};
 ghost use Prim.Native.Nat.{_+_, _*_, _-_, _≤_, _<_};
@@ -12,7 +15,7 @@ ghost use Rattle.basics.specs.Basics.{any};
 ghost use Rattle.memory_bytes.specs.Columns.{equals};
 ghost use Rattle.basics.specs.Lists.{tab};
 ghost use Rattle.memory_layout.specs.Flat.{flatOf, capacityOf, Room};
-ghost use Rattle.memory_rows.specs.Cells.{SlotNumbers, slotIn, isTaken};
+ghost use Rattle.memory_rows.specs.Cells.{ColumnsFit, CellsPut, SlotInto, SlotFilled, SlotNumbers, slotIn, isTaken};
 
 // Whether one of the n rows is in slot 0; a row whose slot number is not below the capacity is in slot 0 too.
 pub fn zero_taken(m: &[u8], c: usize, n: usize) -> bool
@@ -67,4 +70,26 @@ pub fn free_slot(m: &[u8]) -> u16
         }
     }
     search_slot(m)
+}
+
+// Writes the cells of row i.
+pub fn put_cells(m: &mut [u8], c: usize, i: usize, key: u32, r: u16, state: u8)
+    requires { ⌜ ColumnsFit (now m) c × (i < c) ⌝ }
+    ensures { λ _. ⌜ CellsPut (now (m .entry)) (now (m .exit)) c i key r state ⌝ }
+{
+    let s = states_at(c) + i;
+    memory_bytes::put4(m, keys_at(c) + i * 4, key);
+    memory_bytes::put2(m, refs_at(c) + i * 2, r);
+    m[s] = state;
+}
+
+// Writes number, owner and payload into slot s.
+pub fn fill_slot(m: &mut [u8], s: usize, number: u32, owner: u32, payload: &[u8])
+    requires { ⌜ SlotInto (now m) s (now payload) ⌝ }
+    ensures { λ _. ⌜ SlotFilled (now (m .entry)) (now (m .exit)) s number owner (now (payload .entry)) ⌝ }
+{
+    let a = slot_at(s);
+    memory_bytes::put4(m, a, number);
+    memory_bytes::put4(m, a + 4, owner);
+    memory_bytes::write(m, a + 8, payload);
 }

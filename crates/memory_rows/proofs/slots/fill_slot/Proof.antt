@@ -1,8 +1,8 @@
--- `memory_rows::fill_slot` meets its contract: number, owner and payload are written one after the other (`slot-filled`).
+-- `memory_rows::slots::fill_slot` meets its contract: number, owner and payload are written one after the other (`slot-filled`).
 use Rattle.memory_rows.proofs.Moving.{slot-filled}
 use Rattle.basics.proofs.Kit.{needs, arith}
-use Rattle.memory_rows.proofs.fill_slot.Statement.{statement}
-use Rattle.memory_rows.proofs.fill_slot.Tie as tie
+use Rattle.memory_rows.proofs.slots.fill_slot.Statement.{statement}
+use Rattle.memory_rows.proofs.slots.fill_slot.Tie as tie
 
 returns : tie.Need-returns
 returns c = let p2 = c .before .before in let p6 = p2 .before .before .before .before in let p10 = p6 .before .before .before .before in

@@ -1,9 +1,9 @@
--- `memory_rows::put_cells` meets its contract: key, reference and state are written, each in its column (`cells-put`).
+-- `memory_rows::slots::put_cells` meets its contract: key, reference and state are written, each in its column (`cells-put`).
 use Rattle.memory_rows.proofs.Moving.{cells-put}
 use Rattle.memory_bytes.proofs.Moves.{write-first, write-end}
 use Rattle.basics.proofs.Kit.{refl, _∙_, [], length-set, needs, arith}
-use Rattle.memory_rows.proofs.put_cells.Statement.{statement}
-use Rattle.memory_rows.proofs.put_cells.Tie as tie
+use Rattle.memory_rows.proofs.slots.put_cells.Statement.{statement}
+use Rattle.memory_rows.proofs.slots.put_cells.Tie as tie
 
 same-length : tie.Need-same-length
 same-length c = let p2 = c .before .before in let p7 = p2 .before .before .before .before .before in
