@@ -19,12 +19,13 @@ use Rattle.memory_layout.proofs.Exchange.{pages-count}
 use Rattle.memory_pages.specs.Pages.{frozenEntry, dirtyEntry}
 use Rattle.engine_pages.specs.Pages.{pagesOf}
 use Rattle.engine_pages.proofs.Places.{counted}
-use Rattle.engine_allocator.specs.Blocks.{oneIf, orElse, freeFrom}
+use Rattle.memory_layout.specs.Opens.{oneIf}
+use Rattle.engine_allocator.specs.Blocks.{orElse, freeFrom}
 
 -- ---- counts
 
 one-more : {A : Type 0} (f : A → Bool) (x : A) (xs : List A) → howMany f (x ∷ xs) ≡ oneIf (f x) + howMany f xs
-unfolding howMany oneIf if_then_else_
+unfolding howMany if_then_else_
 one-more f x xs = by (f x) (λ e. rw e (omega arith)) (λ e. rw e (omega arith))
 
 pub from-turn : (b n : ℕ) → b < n → from b (n - b) ≡ b ∷ from (b + 1) (n - (b + 1))

@@ -1,6 +1,6 @@
 -- What is counted and searched for the blocks that a checkpoint takes.
 use Prim.Native.Nat.{ℕ, _-_, _≤_}
-use mathlib.Core.Bool.{Bool, true, false, not}
+use mathlib.Core.Bool.{Bool, not}
 use mathlib.Core.Option.{Option, none, some}
 use mathlib.Core.List.{List}
 use lib.ListN.{length}
@@ -15,11 +15,6 @@ use Rattle.engine_allocator.specs.declared.Allocator.{Allocator}
 -- the allocator of the checkpoint that runs in the memory m: the block last taken, and how many are still to be taken
 abbrev pub allocatorIn : List ℕ → Allocator
 allocatorIn m = record { taken = flatOf m .head .taken; left = blocksLeft (flatOf m .named) (flatOf m .directories) (pagesOf m) }
-
--- 1 if the test holds, otherwise 0
-unfoldable pub oneIf : Bool → ℕ
-oneIf true = 1
-oneIf false = 0
 
 -- the memory has a head, and the blocks from a up to e are blocks of an image
 pub record BlockRange (m : List ℕ) (a e : ℕ) : Type 0 where

@@ -9,9 +9,10 @@ ghost use Rattle.image.specs.Stages.{directoriesFor};
 ghost use Rattle.model.specs.Rules.{isFrozen};
 ghost use Rattle.model.specs.Checkpoint.{allocate, freeCount, blocksNeeded};
 ghost use Rattle.memory_layout.specs.Flat.{flatOf, Room};
+ghost use Rattle.memory_layout.specs.Opens.{oneIf};
 ghost use Rattle.memory_layout.specs.Store.{holdsStore, storeOf};
 ghost use Rattle.engine_pages.specs.Pages.{pagesOf};
-ghost use Rattle.engine_allocator.specs.Blocks.{BlockRange, oneIf, freeFrom, allocatorIn};
+ghost use Rattle.engine_allocator.specs.Blocks.{BlockRange, freeFrom, allocatorIn};
 
 // The block last taken, after which the next search starts, and how many blocks the running checkpoint has still to take: one for
 // each frozen page and for each directory block to come. The header takes none.

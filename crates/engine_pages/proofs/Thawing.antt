@@ -10,7 +10,7 @@ use Rattle.memory_layout.proofs.Exchange.{pages-count}
 use Rattle.memory_pages.specs.Pages.{withBlock}
 use Rattle.engine_pages.specs.Pages.{PagesNow, pagesOf, pageAt, tuplesAt, entryOf, There, swapped}
 use Rattle.engine_pages.specs.Changes.{Dirty, Tries, settledAt, settledBy}
-use Rattle.engine_pages.specs.Pending.{waits, appliedAll, Applied, FirstFrozen}
+use Rattle.engine_pages.specs.Pending.{hasPending, appliedAll, Applied, FirstFrozen}
 use Rattle.engine_pages.proofs.Places.{now-to, now-then, first-there, first-page, pos-of}
 use Rattle.engine_pages.proofs.Around.{on-swap, on-same, around-first}
 use Rattle.engine_pages.proofs.Rows.{page-now}
@@ -20,12 +20,12 @@ use Rattle.engine_pages.proofs.Applying.{applied-live}
 
 -- ---- what the rule does to a page with nothing pending, and to another
 
-thaw-clean : (b : ℕ) (prev : Option Page) (q : Page) (qs : List Page) → any waits (q .tuples) ≡ false
+thaw-clean : (b : ℕ) (prev : Option Page) (q : Page) (qs : List Page) → any hasPending (q .tuples) ≡ false
     → thawOn b prev q qs ≡ listOf prev ++ record { table = q .table; block = b; frozen = false; tuples = q .tuples } ∷ qs
 unfolding thawOn if_then_else_
 thaw-clean b prev q qs e = rw e refl
 
-thaw-changed : (b : ℕ) (prev : Option Page) (q : Page) (qs : List Page) → any waits (q .tuples) ≡ true
+thaw-changed : (b : ℕ) (prev : Option Page) (q : Page) (qs : List Page) → any hasPending (q .tuples) ≡ true
     → thawOn b prev q qs ≡ settle (map (fresh (q .table)) (splitAll (appliedAll (q .tuples)))) prev (fresh (q .table) (appliedAll (q .tuples))) qs
 unfolding thawOn if_then_else_
 thaw-changed b prev q qs e =
@@ -47,7 +47,7 @@ module _ {m : List ℕ} {p : ℕ} (first : FirstFrozen m p) (b : ℕ) where
   clean-page = refl
 
   -- nothing was pending
-  pub thawed-clean : any waits (tuplesAt m p) ≡ false → {m' : List ℕ}
+  pub thawed-clean : any hasPending (tuplesAt m p) ≡ false → {m' : List ℕ}
       → Becomes m m' (withEntries (flatOf m) (set (flatOf m .entries) p (withBlock (entryOf m p) b false))) → PagesNow m m' (thaw b (pagesOf m))
   thawed-clean w u =
       let q : Page = record { table = pageAt m p .table; block = b; frozen = false; tuples = tuplesAt m p } in
@@ -64,7 +64,7 @@ module _ {m : List ℕ} {p : ℕ} (first : FirstFrozen m p) (b : ℕ) where
   abbrev rest : List Page
   rest = map (fresh (pageAt m p .table)) (splitAll (appliedAll (tuplesAt m p)))
 
-  module _ (w : any waits (tuplesAt m p) ≡ true) {m1 : List ℕ} {r : ℕ} (o : Applied m m1 p r) where
+  module _ (w : any hasPending (tuplesAt m p) ≡ true) {m1 : List ℕ} {r : ℕ} (o : Applied m m1 p r) where
     settled-is : settledBy p rest (fresh t hs) (pagesOf m) ≡ thaw b (pagesOf m)
     unfolding settledBy
     settled-is = sym (on-same a (thawOn b) (λ prev q qs. settle rest prev (fresh t hs) qs) (λ prev qs. thaw-changed b prev (pageAt m p) qs w)) ∙ by-place

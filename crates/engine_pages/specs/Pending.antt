@@ -13,8 +13,8 @@ use Rattle.memory_pages.specs.Pages.{withCount}
 use Rattle.engine_pages.specs.Pages.{PagesNow, pagesOf, pageAt, tuplesAt, entryOf, firstRow, There, swapped}
 
 -- the tuple has a pending operation
-abbrev pub waits : Held → Bool
-waits h = isPending (h .pending)
+abbrev pub hasPending : Held → Bool
+hasPending h = isPending (h .pending)
 
 -- what becomes of a tuple: one pending removal is gone, any other stays with its operation done
 unfoldable pub applyPending : Held → List Held

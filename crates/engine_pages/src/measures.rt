@@ -11,7 +11,7 @@ ghost use Rattle.model.specs.Rules.{heldSize, lead};
 ghost use Rattle.memory_layout.specs.Flat.{flatOf, rowIn, Room};
 ghost use Rattle.engine_pages.specs.Pages.{tuplesAt, There};
 ghost use Rattle.memory_layout.specs.Elements.{rowsFrom, RowRange};
-ghost use Rattle.engine_pages.specs.Pending.{waits};
+ghost use Rattle.engine_pages.specs.Pending.{hasPending};
 
 // The size of the rows from s up to e.
 pub fn rows_size(m: &[u8], s: usize, e: usize) -> usize
@@ -65,7 +65,7 @@ pub fn small_enough(m: &[u8], s: usize, e: usize) -> bool
 // Whether a row of page p has a pending operation. All rows are looked at, without a branch, since nearly no row has one.
 pub fn has_pending(m: &[u8], p: usize) -> bool
     requires { ⌜ There (now m) p ⌝ }
-    ensures { λ r. ⌜ r ≡ any waits (tuplesAt (now (m .entry)) p) ⌝ }
+    ensures { λ r. ⌜ r ≡ any hasPending (tuplesAt (now (m .entry)) p) ⌝ }
 {
     let e = memory_pages::start_of(m, p + 1);
     let mut hit = false;

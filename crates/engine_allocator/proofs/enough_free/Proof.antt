@@ -5,7 +5,7 @@ use Rattle.memory_layout.specs.Flat.{Flat, flatOf}
 use Rattle.memory_layout.specs.Store.{storeOf}
 use Rattle.basics.specs.Basics.{howMany, from}
 use Rattle.model.specs.Checkpoint.{freeCount}
-use Rattle.engine_allocator.specs.Blocks.{oneIf}
+use Rattle.memory_layout.specs.Opens.{oneIf}
 use Rattle.engine_allocator.proofs.Tallies.{tally-turn, tally-end, free-is}
 use Rattle.engine_allocator.proofs.enough_free.Statement.{statement}
 use Rattle.engine_allocator.proofs.enough_free.Tie as tie

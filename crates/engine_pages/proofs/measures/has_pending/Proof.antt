@@ -4,14 +4,14 @@ use Rattle.memory_bytes.proofs.Scans.{AnyFrom, any-starts, any-next, any-ends}
 use Rattle.memory_layout.specs.Flat.{flatOf, rowIn}
 use Rattle.engine_pages.proofs.Sizes.{rows-by}
 use Rattle.engine_pages.proofs.Places.{few-pages, few-rows, room, start-there, next-there, page-span, tuples-are}
-use Rattle.engine_pages.specs.Pending.{waits}
+use Rattle.engine_pages.specs.Pending.{hasPending}
 use Rattle.memory_layout.specs.Elements.{RowRange}
 use Rattle.basics.specs.Basics.{any}
 use Rattle.engine_pages.proofs.measures.has_pending.Statement.{statement}
 use Rattle.engine_pages.proofs.measures.has_pending.Tie as tie
 
 abbrev Inv-loop : tie.InvT-loop
-Inv-loop m p e hit₀ i₀ hit i = AnyFrom waits (rowIn (flatOf m)) i₀ e hit i
+Inv-loop m p e hit₀ i₀ hit i = AnyFrom hasPending (rowIn (flatOf m)) i₀ e hit i
 
 abbrev μ-loop : tie.MeasureT-loop
 μ-loop m p e hit₀ i₀ hit i = e - i
@@ -32,7 +32,7 @@ add-i c = let g = spanned (c .before .before .before) in omega (arith, c .before
 returns : tie.Need-returns Inv-loop μ-loop
 returns c = let s = c .before .before in
     any-ends (c .before .loop .inv) (c .loop-test .left)
-    ∙ ap (any waits) (rows-by (spanned s) ∙ tuples-are (s .before .before .before .pre) (s .start-of2 .ensures .0) (s .before .start-of .ensures .0))
+    ∙ ap (any hasPending) (rows-by (spanned s) ∙ tuples-are (s .before .before .before .pre) (s .start-of2 .ensures .0) (s .before .start-of .ensures .0))
 
 pub has-pending-spec : {M : Type 1} → statement M
 has-pending-spec = tie.close (tie.spec Inv-loop μ-loop add-start-of (λ c κs. next-there (c .before .pre)) (λ c κs. start-there (c .before .before .pre))
