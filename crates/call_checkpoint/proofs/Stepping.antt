@@ -26,7 +26,7 @@ use Rattle.engine_pages.proofs.Places.{from-page, page-table, tuples-are}
 use Rattle.call_contracts.specs.Shape.{Stores}
 use Rattle.call_contracts.specs.declared.Answer.the-variants.{Count, Refused}
 use Rattle.call_contracts.proofs.Answering.{stores-4, stores-refused, stores-count}
-use Rattle.call_checkpoint.specs.Keeping.{afterStore, RunningIn, Ready, NoneFrozen, Effect, Steps, refusalOf, stepRefusal}
+use Rattle.call_checkpoint.specs.Keeping.{afterStore, RunningIn, Ready, NoneFrozen, Effect, Steps, refusalNumber, stepRefusal}
 use Rattle.engine_allocator.proofs.Tallies.{first-hit, first-past, frozen-many}
 use Rattle.call_checkpoint.proofs.Running.{running-is}
 use Rattle.model.specs.State as model
@@ -220,22 +220,22 @@ module _ (len : ℕ) (m : List ℕ) where
   refusal-4 h = sym (ap (stepRefusal len) (in-none m h))
 
   module _ (held : holdsStore m ≡ true) where
-    refused-as : {o : Outcome} → stepCall len (storeOf (flatOf m)) ≡ o → refusalOf (o .answer) ≡ stepRefusal len (storeIn m)
+    refused-as : {o : Outcome} → stepCall len (storeOf (flatOf m)) ≡ o → refusalNumber (o .answer) ≡ stepRefusal len (storeIn m)
     unfolding stepRefusal
-    refused-as q = sym (ap (stepRefusal len) (in-some m held) ∙ ap (λ (o : Outcome). refusalOf (o .answer)) q)
+    refused-as q = sym (ap (stepRefusal len) (in-some m held) ∙ ap (λ (o : Outcome). refusalNumber (o .answer)) q)
 
     pub refusal-5 : (len ≡ 512 * flatOf m .head .blocks → ⊥) → 5 ≡ stepRefusal len (storeIn m)
-    unfolding refusalOf gives storeOf
+    unfolding refusalNumber gives storeOf
     refusal-5 h = refused-as (step-5 len (storeOf (flatOf m)) h)
 
     module _ (e : len ≡ 512 * flatOf m .head .blocks) where
       pub refusal-18 : isRunning (storeOf (flatOf m) .checkpoint) ≡ false → 18 ≡ stepRefusal len (storeIn m)
-      unfolding refusalOf gives storeOf
+      unfolding refusalNumber gives storeOf
       refusal-18 h = refused-as (step-18 len (storeOf (flatOf m)) e h)
 
       pub refusal-none : isRunning (storeOf (flatOf m) .checkpoint) ≡ true → 0 ≡ stepRefusal len (storeIn m)
-      unfolding refusalOf storeOf
-      refusal-none h = let s : Store = storeOf (flatOf m) in sym (ap refusalOf (answer-of (s .checkpoint) s h)) ∙ refused-as (step-at len s e)
+      unfolding refusalNumber storeOf
+      refusal-none h = let s : Store = storeOf (flatOf m) in sym (ap refusalNumber (answer-of (s .checkpoint) s h)) ∙ refused-as (step-at len s e)
 
   -- a call with these tests: each of them refuses
   module _ (v : ℕ) (ev : v ≡ stepRefusal len (storeIn m)) where

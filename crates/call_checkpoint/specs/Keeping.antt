@@ -85,13 +85,13 @@ abbrev pub Steps : List ℕ → List ℕ → List ℕ → List ℕ → Type 0
 Steps img m img' m' = Effect (stepAt (storeOf (flatOf m) .checkpoint) (storeOf (flatOf m))) img m img' m'
 
 -- the number of a refusal, 0 of any other answer
-unfoldable pub refusalOf : Answer → ℕ
-refusalOf (refused n) = n
-refusalOf done = 0
-refusalOf (count n) = 0
-refusalOf (filled n bs) = 0
+unfoldable pub refusalNumber : Answer → ℕ
+refusalNumber (refused n) = n
+refusalNumber done = 0
+refusalNumber (count n) = 0
+refusalNumber (filled n bs) = 0
 
 -- what a step, of an image of len bytes, is refused with, 0 if it is not: 4 without a store, otherwise by the model's tests
 unfoldable pub stepRefusal : ℕ → Option Store → ℕ
 stepRefusal len none = 4
-stepRefusal len (some s) = refusalOf (stepCall len s .answer)
+stepRefusal len (some s) = refusalNumber (stepCall len s .answer)

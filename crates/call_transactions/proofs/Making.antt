@@ -5,7 +5,7 @@ use Rattle.basics.specs.Basics.{if_then_else_}
 use Rattle.basics.proofs.Facts.{by}
 use Rattle.block_forms.specs.Block.{header, encodeBlock}
 use Rattle.block_forms.specs.declared.Header.{Header}
-use Rattle.image.specs.Stages.{Stage, refuses, holds, wholeBlocks}
+use Rattle.image.specs.Stages.{Stage, refuses, holds, refusalOf, wholeBlocks}
 use Rattle.model.specs.State.{Store}
 use Rattle.model.specs.Checkpoint.{headerFor}
 use Rattle.model.specs.Recover.{memoryFor, putBlock, freshStore, make, madeImage}
@@ -14,7 +14,6 @@ use Rattle.memory_layout.specs.Store.{FreshFits, HoldsNow}
 use Rattle.basics.proofs.Tabs.{lt-or-ge}
 use Rattle.call_contracts.specs.Shape.{MadeBy, Made}
 use Rattle.call_contracts.specs.declared.Answer.the-variants.{Done, Refused}
-use Rattle.call_transactions.specs.Refusals.{makeRefusal}
 
 module _ (n : ℕ) (img m : List ℕ) where
   pub made-refused : (k : ℕ) → make (length img) (length m) n ≡ refuses k → Made n img m (Refused k) img m
@@ -77,21 +76,21 @@ pub record Fits (len mem n : ℕ) : Type 0 where
 pub make-accepts : {len mem n : ℕ} → Fits len mem n → make len mem n ≡ holds (freshStore (len / 512) n)
 make-accepts f = let r = f .room in make-done _ _ _ (f .whole) (r .few) (r .many) (r .least) (r .most) (r .long)
 
-stage-refuses : (g : Stage Store) (v : ℕ) → v ≡ makeRefusal g → (v ≡ 0 → ⊥) → g ≡ refuses v
-unfolding makeRefusal
+stage-refuses : (g : Stage Store) (v : ℕ) → v ≡ refusalOf g → (v ≡ 0 → ⊥) → g ≡ refuses v
+unfolding refusalOf
 stage-refuses (refuses k) v e nz = ap refuses (sym e)
 stage-refuses (holds s) v e nz = absurd (nz e)
 
 module _ (len mem n : ℕ) where
-  pub refusal-given : {k : ℕ} → make len mem n ≡ refuses k → k ≡ makeRefusal (make len mem n)
-  unfolding makeRefusal
-  refusal-given e = sym (ap makeRefusal e)
+  pub refusal-given : {k : ℕ} → make len mem n ≡ refuses k → k ≡ refusalOf (make len mem n)
+  unfolding refusalOf
+  refusal-given e = sym (ap refusalOf e)
 
-  pub refusal-zero : Fits len mem n → 0 ≡ makeRefusal (make len mem n)
-  unfolding makeRefusal
-  refusal-zero f = sym (ap makeRefusal (make-accepts f))
+  pub refusal-zero : Fits len mem n → 0 ≡ refusalOf (make len mem n)
+  unfolding refusalOf
+  refusal-zero f = sym (ap refusalOf (make-accepts f))
 
-  module _ (v : ℕ) (ev : v ≡ makeRefusal (make len mem n)) where
+  module _ (v : ℕ) (ev : v ≡ refusalOf (make len mem n)) where
     pub make-refused : (v ≡ 0 → ⊥) → make len mem n ≡ refuses v
     make-refused nz = stage-refuses (make len mem n) v ev nz
 

@@ -4,7 +4,6 @@ use mathlib.Core.Option.{Option, none, some}
 use mathlib.Core.List.{List, [], _∷_}
 use Prim.Native.Nat.{ℕ}
 use Rattle.basics.specs.Basics.{if_then_else_}
-use Rattle.image.specs.Stages.{Stage, refuses, holds}
 use Rattle.model.specs.State.{Store}
 use Rattle.model.specs.Transactions.{Test, _when_, keyTests}
 use Rattle.memory_layout.specs.Flat.{Flat}
@@ -32,8 +31,3 @@ known Nothing = false
 -- the model's tests of a write by what the search has found of its key
 unfoldable pub foundTests : Bool → Flat → Visibility → List Test
 foundTests new f l = keyTests new (l .foreign) (l .any) (known (picked f l)) (storeOf f)
-
--- the number of a refused make, 0 if it is accepted
-unfoldable pub makeRefusal : Stage Store → ℕ
-makeRefusal (refuses k) = k
-makeRefusal (holds s) = 0

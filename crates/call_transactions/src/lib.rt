@@ -23,7 +23,8 @@ ghost use Rattle.memory_layout.specs.Flat.{flatOf, Room, Becomes, withOpens};
 ghost use Rattle.memory_layout.specs.Store.{storeIn, storeOf, HoldsNow};
 ghost use Rattle.memory_layout.specs.Opens.{activeOf, OpenFits};
 ghost use Rattle.call_contracts.specs.Shape.{Answers, Replies, Lists, Made};
-ghost use Rattle.call_transactions.specs.Refusals.{refusalIn, makeRefusal};
+ghost use Rattle.call_transactions.specs.Refusals.{refusalIn};
+ghost use Rattle.image.specs.Stages.{refusalOf};
 ghost use Rattle.call_transactions.specs.Calls.{ListInto, WriterAt, NextRow, afterCount, AcceptAt, endCall};
 
 const BLOCK_SIZE: usize = block_forms::BLOCK_SIZE;
@@ -49,7 +50,7 @@ const LAST_NUMBER: u32 = 4294967295;
 
 // 1 image, of len bytes, not 2 to 4,096 whole blocks; 2 capacity not 1 to 1,024; 3 memory, of room bytes, too short; else 0.
 fn make_refusal(len: usize, room: usize, capacity: u64) -> u64
-    ensures { λ r. ⌜ r ≡ makeRefusal (make len room capacity) ⌝ }
+    ensures { λ r. ⌜ r ≡ refusalOf (make len room capacity) ⌝ }
 {
     let blocks = len / BLOCK_SIZE;
     if len % BLOCK_SIZE != 0 {

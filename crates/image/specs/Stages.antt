@@ -23,6 +23,11 @@ pub data Stage (A : Type 0) : Type 0 where
   refuses : ℕ → Stage A
   holds : A → Stage A
 
+-- the refusal's number, 0 if there is none
+unfoldable pub refusalOf : {A : Type 0} → Stage A → ℕ
+refusalOf (refuses n) = n
+refusalOf (holds a) = 0
+
 -- ---- 1: image not 2 to 4,096 whole blocks
 
 -- n bytes are 2 to 4,096 whole blocks

@@ -16,7 +16,7 @@ use Rattle.block_forms.specs.Block.{Block, header, page, committedBit, markBit,
 use Rattle.block_forms.specs.Decode.{kind, spelledBy, readHeader, headerIn, readOwner, readMark, readTuple, recordLength, isRecord, readTuples, pageTable, pageCount, pageLevel, pageSpelled, pageIn, readEntries, directoryCount, directoryLevel, directoryIn, decodeBlock}
 use Rattle.image_rows.specs.Rows.{rowRules}
 use Rattle.image.specs.View.{blockAt, blockCount, view}
-use Rattle.image.specs.Stages.{Stage, refuses, holds, wholeBlocks, blockOk, isZero, directoriesFor, directoryBlocks, unusedNumbers, countsOk, headerOk, headerTest, entriesDue, addEntries, readDirectories, entriesOk, testedEntries, directoryTest, pageOk, addPage, readPages, rowsOfPages, testedPages, pageTest}
+use Rattle.image.specs.Stages.{Stage, refuses, holds, refusalOf, wholeBlocks, blockOk, isZero, directoriesFor, directoryBlocks, unusedNumbers, countsOk, headerOk, headerTest, entriesDue, addEntries, readDirectories, entriesOk, testedEntries, directoryTest, pageOk, addPage, readPages, rowsOfPages, testedPages, pageTest}
 use Rattle.image.specs.Whole.{headerStage, pagesBelow, pagesStage}
 use Rattle.model.specs.State.{Held, Page, idle, Store, Write, storedBytes, Answer, refused, done, count, filled}
 use Rattle.model.specs.Rules.{heldSize, fresh, withoutPending, joins, rules}
@@ -264,11 +264,6 @@ refusedCalls =
 unfoldable pub lastStore : Store
 lastStore =
     record { blocks = 16; capacity = 2; level = mostNumber; next = mostNumber; pages = []; active = []; used = λ b. false; taken = 0; checkpoint = idle }
-
--- the refusal's number, 0 if there is none
-unfoldable pub refusalOf : Stage Store → ℕ
-refusalOf (refuses n) = n
-refusalOf (holds s) = 0
 
 -- what the runs above give
 pub record Refusals : Type 0 where
