@@ -4,6 +4,7 @@ use Rattle.basics.proofs.Kit.{suc, _+_, _≤_, _<_, zero, leb, eqb, ltb
 use Rattle.basics.proofs.Kit.{eqb-refl, le→leb, length, take, drop, getD, arith}
 use Rattle.basics.specs.Basics.{if_then_else_, every, all, keep, isEmpty, first, last, any, howMany, isIn}
 use Rattle.basics.proofs.Facts.{by, lie, AllOf, and-true, never, by-option}
+pub use Rattle.basics.proofs.Kit.{not-true, not-false}
 -- ---- tests
 
 pub use borrow.Author.Tests.{eqb-true, leb-true, leb-false}
@@ -41,14 +42,6 @@ and-both p q = rw (p, q)
 pub or-right : (a b : Bool) → b ≡ true → (a || b) ≡ true
 or-right true b h = refl
 or-right false b h = h
-
-pub not-true : (b : Bool) → not b ≡ true → b ≡ false
-not-true true e = lie e
-not-true false e = refl
-
-pub not-false : (b : Bool) → not b ≡ false → b ≡ true
-not-false true h = refl
-not-false false h = lie (sym h)
 
 pub every-all : (bs : List Bool) → every bs ≡ true → AllOf (λ b. b ≡ true) bs
 unfolding every
@@ -393,3 +386,26 @@ pub many-length : {A : Type 0} (f : A → Bool) (xs : List A) → howMany f xs �
 unfolding howMany if_then_else_
 many-length f [] = omega arith
 many-length f (x ∷ xs) = let k = many-length f xs in by (f x) (λ h. rw h (omega arith)) (λ h. rw h (omega arith))
+
+-- ---- tests in a list
+
+pub every-true : (b : Bool) (bs : List Bool) → every (b ∷ bs) ≡ true → (b ≡ true) × (every bs ≡ true)
+unfolding every
+every-true b bs e = and-true b (every bs) e
+
+pub every-cons : (b : Bool) (bs : List Bool) → b ≡ true → every (b ∷ bs) ≡ every bs
+unfolding every
+every-cons b bs e = rw e
+
+pub every-stop : (b : Bool) (bs : List Bool) → b ≡ false → every (b ∷ bs) ≡ false
+unfolding every
+every-stop b bs e = rw e
+
+pub every-one : (b : Bool) → every (b ∷ []) ≡ b
+unfolding every
+every-one b = and-yes b
+
+pub or-move : (p q u : Bool) → ((p || q) || u) ≡ (q || (p || u))
+or-move true true u = refl
+or-move true false u = refl
+or-move false q u = refl

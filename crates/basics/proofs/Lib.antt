@@ -7,3 +7,7 @@ pub mod Lists
 pub mod Overs
 pub mod Searches
 pub mod Iterations
+pub mod Found
+pub mod Parts
+pub mod Firsts
+pub mod Members

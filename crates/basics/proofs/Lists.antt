@@ -3,6 +3,7 @@ use Rattle.basics.proofs.Kit.{_≡_, refl, sym, ap, Bool, true, _&&_, s
 use Rattle.basics.specs.Basics.{AllOf, all}
 use Rattle.basics.proofs.Ands.{and-assoc}
 use Rattle.basics.proofs.Elements.{all-at, all-map, all-true, all-split}
+use Rattle.basics.proofs.Kit.{arith}
 
 pub map-append : {A B : Type 0} (g : A → B) (xs ys : List A) → map g (xs ++ ys) ≡ map g xs ++ map g ys
 map-append g [] ys = refl
@@ -35,3 +36,7 @@ module _ {A : Type 0} where
   pub behind-two : (a b : List A) (o : Option (List A)) → Option·map (λ xs. a ++ xs) (Option·map (λ xs. b ++ xs) o) ≡ Option·map (λ xs. (a ++ b) ++ xs) o
   behind-two a b none = refl
   behind-two a b (some xs) = ap some (sym (append-assoc a b xs))
+
+pub some-one : {A : Type 0} (Q : Type 0) (P : A → Type 0) (xs : List A) → 0 < length xs → AllOf P xs → ((x : A) → P x → Q) → Q
+some-one Q P [] l a f = absurd (omega arith)
+some-one Q P (x ∷ xs) l a f = f x (a .0)

@@ -1,6 +1,7 @@
 -- Laws of `over`, at lists of any length.
 use Rattle.basics.proofs.Kit.{_≡_, refl, sym, _∙_, List, [], _++_, append-assoc, ℕ, _+_, _≤_, add-zero, add-assoc, length, take, drop, length-append, length-take, length-drop}
 use Rattle.basics.proofs.Kit.{take-append-drop, take-at, drop-append-seam, drop-drop, take-append-add, take-append-le, take-append-seam, drop-append-add, drop-append-le, drop-at, arith}
+use Rattle.basics.proofs.Kit.{ap, _∷_, append-nil, _<_, add-one, getD, set, drop-of-length-le, set-split, take-all, take-suc, getD-drop}
 use Rattle.basics.specs.Lists.{over}
 
 over-def : (s : List ℕ) (at : ℕ) (xs : List ℕ) → over s at xs ≡ take at s ++ (xs ++ drop (at + length xs) s)
@@ -52,3 +53,54 @@ over-part s xs at w r h k =
     let parts : P ++ (W ++ Q) ≡ s = rw (← drop-drop w at s, take-append-drop w (drop at s)) (take-append-drop at s) in
     let inner : over (P ++ (W ++ Q)) (length P + r) xs ≡ P ++ (over W r xs ++ Q) = over-inner P W Q xs r (omega arith) in
     over-def s at (over W r xs) ∙ rw lO (rw (parts, lP) at (sym inner))
+
+-- ---- element by element
+
+pub set-over : (m : List ℕ) (i v : ℕ) → i < length m → set m i v ≡ over m i (v ∷ [])
+unfolding over
+set-over m i v h = set-split m i v h ∙ rw (add-one i)
+
+pub set-next : (m xs : List ℕ) (at n v : ℕ) → n ≡ length xs → at + length xs < length m → set (over m at xs) (at + n) v ≡ over m at (xs ++ (v ∷ []))
+set-next m xs at n v e h =
+    let l : length (over m at xs) ≡ length m = length-over m xs at (omega arith) in
+    rw e (set-over (over m at xs) (at + length xs) v (omega arith) ∙ over-over m xs (v ∷ []) at (omega arith))
+
+pub put-four : (m : List ℕ) (at a b c d : ℕ) → at + 4 ≤ length m
+    → set (set (set (set m at a) (at + 1) b) (at + 2) c) (at + 3) d ≡ over m at (a ∷ b ∷ c ∷ d ∷ [])
+put-four m at a b c d h =
+    rw (
+      set-over m at a (omega arith),
+      set-next m (a ∷ []) at 1 b refl (omega arith),
+      set-next m (a ∷ b ∷ []) at 2 c refl (omega arith),
+      set-next m (a ∷ b ∷ c ∷ []) at 3 d refl (omega arith),
+    )
+
+pub copy-turn : (m s : List ℕ) (at start i : ℕ) → at + i < length m → start + i < length s
+    → set (over m at (take i (drop start s))) (at + i) (getD s (start + i) 0) ≡ over m at (take (i + 1) (drop start s))
+copy-turn m s at start i h k =
+    let d : i < length (drop start s) = rw (length-drop start s) (omega arith) in
+    let l : length (take i (drop start s)) ≡ i = simp length-take (omega arith) in
+    rw (← getD-drop start s i 0, set-next m (take i (drop start s)) at i (getD (drop start s) i 0) (sym l) (omega arith), add-one i)
+    (ap (over m at) (sym (take-suc (drop start s) i 0 d)))
+
+-- a list copied over the whole of another is that list
+pub copied-whole : (m s : List ℕ) (n : ℕ) {m' : List ℕ} → m' ≡ over m 0 (take n (drop 0 s)) → n ≡ length m → n ≡ length s → m' ≡ s
+unfolding over
+copied-whole m s n e hm hs =
+    let t : take n s ≡ s = take-all n s (omega arith) in
+    let k : length m ≤ 0 + length s = omega arith in
+    let d : drop (0 + length s) m ≡ [] = drop-of-length-le m k in
+    e ∙ rw (t, d) (append-nil s)
+
+pub over-then : (m xs ys : List ℕ) (at n : ℕ) → n ≡ length xs → at + length xs ≤ length m → over (over m at xs) (at + n) ys ≡ over m at (xs ++ ys)
+over-then m xs ys at n e h = rw e (over-over m xs ys at h)
+
+pub length-part : (n k : ℕ) (s : List ℕ) → k + n ≤ length s → length (take n (drop k s)) ≡ n
+length-part n k s h = simp (length-take, length-drop) (omega arith)
+
+-- one entry more
+pub put-turn : (m s : List ℕ) (at i v : ℕ) → at + i < length m → i < length s → v ≡ getD s i 0
+    → set (over m at (take i s)) (at + i) v ≡ over m at (take (i + 1) s)
+put-turn m s at i v hm hs e =
+    let l : i ≡ length (take i s) = simp length-take (omega arith) in
+    set-next m (take i s) at i v l (omega arith) ∙ ap (over m at) (rw (e, add-one i) (sym (take-suc s i 0 hs)))

@@ -1,7 +1,10 @@
 -- Laws of lists by index (`tab`): length, parts, elements, one element more, less or changed.
+use Rattle.basics.proofs.Kit.{sym, take, drop, drop-cons}
 use Rattle.basics.proofs.Kit.{_≡_, refl, ap, _∙_, ⊎-elim, _⊎_, inl, inr, List, _∷_, _++_, ℕ, suc, _+_, _≤_, _<_, zero, _-_, zero-le, suc-le-suc, add-zero, zero-add, suc-add}
 use Rattle.basics.proofs.Kit.{le-of-suc-le-suc, not-suc-le-zero, zero-lt-suc, length, take, drop, getD, set, set-split, ext-getD, arith}
+use Rattle.basics.proofs.Kit.{[], map}
 use Rattle.basics.specs.Lists.{tab, insertAt, removeAt}
+use Rattle.basics.specs.Basics.{AllOf}
 
 -- either way round
 pub lt-or-ge : (a b : ℕ) → (a < b) ⊎ (b ≤ a)
@@ -95,3 +98,39 @@ tab-self xs =
     ext-getD 0 (tab (λ k. getD xs k 0) 0 (length xs)) xs (length-tab (λ k. getD xs k 0) 0 (length xs))
     (λ i h. getD-tab (λ k. getD xs k 0) 0 (length xs) i 0 (omega (arith, length-tab (λ k. getD xs k 0) 0 (length xs)))
     ∙ ap (λ (z : ℕ). getD xs z 0) (zero-add i))
+
+-- one more element
+pub tab-push : {A : Type 0} (f g : ℕ → A) (n : ℕ) (x : A) → g n ≡ x → ((j : ℕ) → j < n → g j ≡ f j) → tab g 0 (n + 1) ≡ tab f 0 n ++ x ∷ []
+tab-push f g n x here other =
+    let a : tab g 0 n ≡ tab f 0 n = tab-cong g f 0 0 n (λ k q. other (0 + k) (omega arith)) in
+    let w : g (0 + n) ≡ x = ap g (zero-add n) ∙ here in
+    tab-add g 0 n 1 ∙ cc
+
+pub map-tab : {A B : Type 0} (f : A → B) (u : ℕ → A) (i n : ℕ) → tab (λ k. f (u k)) i n ≡ map f (tab u i n)
+map-tab f u i zero = refl
+map-tab f u i (suc n) = ap (λ (l : List _). f (u i) ∷ l) (map-tab f u (suc i) n)
+
+-- every element by its index
+pub all-by : {A : Type 0} (P : A → Type 0) (xs : List A) (d : A) → ((i : ℕ) → i < length xs → P (getD xs i d)) → AllOf P xs
+all-by P [] d h = tt
+all-by P (x ∷ xs) d h = (h 0 (omega arith), all-by P xs d (λ i l. h (suc i) (omega arith)))
+
+-- the elements by index
+pub tab-part : {A : Type 0} (xs : List A) (d : A) (i n : ℕ) → i + n ≤ length xs → tab (λ k. getD xs k d) i n ≡ take n (drop i xs)
+tab-part xs d i zero h = refl
+tab-part xs d i (suc n) h = ap (λ z. getD xs i d ∷ z) (tab-part xs d (suc i) n (omega arith)) ∙ sym (ap (take (suc n)) (drop-cons xs i d (omega arith)))
+
+-- elements a to b of f are k elements of g
+pub splice : {A : Type 0} (f g : ℕ → A) (n n' a k b : ℕ) → a ≤ b → b ≤ n → n' ≡ a + k + (n - b) → ((j : ℕ) → j < a → g j ≡ f j)
+    → ((j : ℕ) → j < n - b → g (a + k + j) ≡ f (b + j)) → tab g 0 n' ≡ take a (tab f 0 n) ++ (tab g a k ++ drop b (tab f 0 n))
+splice {A} f g n n' a k b h l e before behind =
+    let x : tab g 0 a ≡ take a (tab f 0 n) =
+    tab-cong g f 0 0 a (λ j q. before (0 + j) (omega arith)) ∙ sym (take-tab f 0 a n (omega arith)) in
+    let y : tab g (a + k) (n - b) ≡ drop b (tab f 0 n) =
+    tab-cong g f (a + k) b (n - b) behind ∙ ap (λ (z : ℕ). tab f z (n - b)) (sym (zero-add b)) ∙ sym (drop-tab f 0 b n l) in
+    let q : a + k + (n - b) ≡ a + (k + (n - b)) = omega arith in
+    ap (tab g 0) (e ∙ q)
+    ∙ tab-add g 0 a (k + (n - b))
+    ∙ ap (λ (z : ℕ). tab g 0 a ++ tab g z (k + (n - b))) (zero-add a)
+    ∙ ap (λ (z : List A). tab g 0 a ++ z) (tab-add g a k (n - b))
+    ∙ (λ i. x i ++ (tab g a k ++ y i))

@@ -9,7 +9,7 @@ use Rattle.block_forms.specs.Spell.{zeros}
 use Rattle.block_forms.specs.Bytes.{payloadIn, sizeOf, recordBytes, records, tupleOf, Appendable, pageHead, partPage, behind, Appended}
 use Rattle.block_forms.specs.Laws.{WholePage}
 use Rattle.block_forms.specs.declared.Record.{Record}
-use Rattle.block_forms.proofs.Stores.{length-part}
+use Rattle.basics.proofs.Overs.{length-part}
 use Rattle.block_forms.proofs.Spelled.{length-zeros, zeros-add}
 use Rattle.block_forms.proofs.Tuples.{length-record, length-records, records-more, sizes-more, record-size}
 use Rattle.block_forms.proofs.Bitwise.{body, length-body, length-head, page-bytes}

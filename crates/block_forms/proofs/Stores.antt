@@ -10,45 +10,7 @@ use Rattle.block_forms.specs.Bytes.{ownerIs, tupleOf, sizeOf, flagsOf, o
 use Rattle.block_forms.specs.declared.Owner.{Owner}
 use Rattle.block_forms.specs.declared.Owner.the-variants.{Committed, Tentative}
 use Rattle.block_forms.specs.declared.Record.{Record}
-
-pub set-over : (m : List ℕ) (i v : ℕ) → i < length m → set m i v ≡ over m i (v ∷ [])
-unfolding over
-set-over m i v h = set-split m i v h ∙ rw (add-one i)
-
-pub set-next : (m xs : List ℕ) (at n v : ℕ) → n ≡ length xs → at + length xs < length m → set (over m at xs) (at + n) v ≡ over m at (xs ++ (v ∷ []))
-set-next m xs at n v e h =
-    let l : length (over m at xs) ≡ length m = length-over m xs at (omega arith) in
-    rw e (set-over (over m at xs) (at + length xs) v (omega arith) ∙ over-over m xs (v ∷ []) at (omega arith))
-
-pub put-four : (m : List ℕ) (at a b c d : ℕ) → at + 4 ≤ length m
-    → set (set (set (set m at a) (at + 1) b) (at + 2) c) (at + 3) d ≡ over m at (a ∷ b ∷ c ∷ d ∷ [])
-put-four m at a b c d h =
-    rw (
-      set-over m at a (omega arith),
-      set-next m (a ∷ []) at 1 b refl (omega arith),
-      set-next m (a ∷ b ∷ []) at 2 c refl (omega arith),
-      set-next m (a ∷ b ∷ c ∷ []) at 3 d refl (omega arith),
-    )
-
-pub copy-turn : (m s : List ℕ) (at start i : ℕ) → at + i < length m → start + i < length s
-    → set (over m at (take i (drop start s))) (at + i) (getD s (start + i) 0) ≡ over m at (take (i + 1) (drop start s))
-copy-turn m s at start i h k =
-    let d : i < length (drop start s) = rw (length-drop start s) (omega arith) in
-    let l : length (take i (drop start s)) ≡ i = simp length-take (omega arith) in
-    rw (← getD-drop start s i 0, set-next m (take i (drop start s)) at i (getD (drop start s) i 0) (sym l) (omega arith), add-one i)
-    (ap (over m at) (sym (take-suc (drop start s) i 0 d)))
-
--- a list copied over the whole of another is that list
-pub copied-whole : (m s : List ℕ) (n : ℕ) {m' : List ℕ} → m' ≡ over m 0 (take n (drop 0 s)) → n ≡ length m → n ≡ length s → m' ≡ s
-unfolding over
-copied-whole m s n e hm hs =
-    let t : take n s ≡ s = take-all n s (omega arith) in
-    let k : length m ≤ 0 + length s = omega arith in
-    let d : drop (0 + length s) m ≡ [] = drop-of-length-le m k in
-    e ∙ rw (t, d) (append-nil s)
-
-pub over-then : (m xs ys : List ℕ) (at n : ℕ) → n ≡ length xs → at + length xs ≤ length m → over (over m at xs) (at + n) ys ≡ over m at (xs ++ ys)
-over-then m xs ys at n e h = rw e (over-over m xs ys at h)
+use Rattle.basics.proofs.Overs.{over-then}
 
 -- ---- a record is appended
 
@@ -96,9 +58,6 @@ module _ (r : Record) where
   pub size-nine : recordHead + r .len ≤ sizeOf r
   unfolding sizeOf
   size-nine = omega arith
-
-pub length-part : (n k : ℕ) (s : List ℕ) → k + n ≤ length s → length (take n (drop k s)) ≡ n
-length-part n k s h = simp (length-take, length-drop) (omega arith)
 
 -- ---- a page's head
 

@@ -23,6 +23,7 @@ use Rattle.call_checkpoint.specs.Keeping.{afterStore, RunningIn, taking,
 use Rattle.call_checkpoint.proofs.Running.{running-is}
 use Rattle.call_checkpoint.proofs.Beginning.{held-still}
 use Rattle.basics.proofs.Searches.{or-none}
+use Rattle.basics.proofs.Elements.{or-move}
 
 -- ---- a block is taken
 
@@ -188,11 +189,6 @@ directory-leads {m} {m1} {m2} b r x y =
     record { size = z .size; store = becomes-store z (holds-counted m (r .has-store)) ∙ ap some (directory-kept (flatOf m) b (r .on)) }
 
 -- ---- after the header's store
-
-or-move : (p q u : Bool) → ((p || q) || u) ≡ (q || (p || u))
-or-move true true u = refl
-or-move true false u = refl
-or-move false q u = refl
 
 marked-next : (c b : ℕ) (bs : List ℕ) (u : ℕ → Bool) → (isIn c bs || usedAnd b u c) ≡ (isIn c (b ∷ bs) || u c)
 unfolding isIn

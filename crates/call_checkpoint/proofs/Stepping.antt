@@ -21,42 +21,19 @@ use Rattle.memory_pages.specs.Pages.{frozenEntry}
 use Rattle.engine_pages.specs.Pages.{pagesOf, pageAt, entryOf, firstRow}
 use Rattle.memory_layout.specs.Elements.{rowsFrom}
 use Rattle.engine_pages.specs.Pending.{FirstFrozen}
-use Rattle.engine_pages.proofs.Around.{index-hit, index-pass}
+use Rattle.basics.proofs.Firsts.{index-hit, index-pass}
 use Rattle.engine_pages.proofs.Places.{from-page, page-table, tuples-are}
 use Rattle.call_contracts.specs.Shape.{Stores}
 use Rattle.call_contracts.specs.declared.Answer.the-variants.{Count, Refused}
 use Rattle.call_contracts.proofs.Answering.{stores-4, stores-refused, stores-count}
 use Rattle.call_checkpoint.specs.Keeping.{afterStore, RunningIn, Ready, NoneFrozen, Effect, Steps, refusalNumber, stepRefusal}
-use Rattle.engine_allocator.proofs.Tallies.{first-hit, first-past, frozen-many}
+use Rattle.engine_allocator.proofs.Tallies.{frozen-many}
+use Rattle.basics.proofs.Firsts.{first-hit, first-past}
 use Rattle.call_checkpoint.proofs.Running.{running-is}
 use Rattle.model.specs.State as model
+use Rattle.basics.proofs.Firsts.{many-none, index-some, index-many}
 
 -- ---- the first frozen page
-
--- none passes
-many-none : (hit : Page → Bool) (ps : List Page) → howMany hit ps ≡ 0 → first hit ps ≡ none
-unfolding first howMany if_then_else_
-many-none hit [] e = refl
-many-none hit (q ∷ qs) e = by (hit q) (λ t. absurd (omega (arith, (rw t at e)))) (λ t. first-past hit q qs t ∙ many-none hit qs (rw t at e))
-
--- one does
-index-some : (hit : Page → Bool) (p : ℕ) (q : Page) (ps : List Page) → p ≡ firstIndex hit ps → drop p ps ≡ q ∷ drop (suc p) ps → first hit ps ≡ some q
-index-some hit zero q [] e d = absurd (let z : _≡_ {A = ℕ} 0 1 = cc in omega arith)
-index-some hit (suc p) q [] e d = absurd (let z : _≡_ {A = ℕ} 0 1 = cc in omega arith)
-index-some hit zero q (r ∷ ps) e d =
-    by (hit r) (λ t. let z : r ≡ q = cc in first-hit hit r ps t ∙ ap some z) (λ t. absurd (omega (arith, index-pass hit r ps t)))
-index-some hit (suc p) q (r ∷ ps) e d =
-    by (hit r) (λ t. absurd (omega (arith, index-hit hit r ps t)))
-    (λ t. first-past hit r ps t ∙ index-some hit p q ps (omega (arith, index-pass hit r ps t)) d)
-
--- none before it does
-index-many : (hit : Page → Bool) (p : ℕ) (ps : List Page) → p ≡ firstIndex hit ps → howMany hit (drop p ps) ≡ howMany hit ps
-unfolding howMany if_then_else_
-index-many hit zero ps e = refl
-index-many hit (suc p) [] e = refl
-index-many hit (suc p) (q ∷ ps) e =
-    by (hit q) (λ t. absurd (omega (arith, index-hit hit q ps t)))
-    (λ t. index-many hit p ps (omega (arith, index-pass hit q ps t)) ∙ sym (rw t refl))
 
 index-nest : (es : List Entry) (hs : List Held) → firstIndex isFrozen (nest es hs) ≡ firstIndex frozenEntry es
 unfolding firstIndex nest isFrozen pageOf

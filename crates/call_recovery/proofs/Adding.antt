@@ -1,5 +1,5 @@
 -- Rows behind those that are there, on the last page.
-use Rattle.basics.proofs.Kit.{_≡_, refl, sym, ap, _∙_, subst, true, some, none, Option, List, [], _∷_, _++_, append-assoc, append-nil, map, ℕ, _+_, _≤_, _<_, _-_, add-zero}
+use Rattle.basics.proofs.Kit.{_≡_, refl, sym, ap, _∙_, subst, true, some, none, Option, List, [], _∷_, _++_, append-assoc, append-nil, map, ℕ, _+_, _≤_, _<_, _-_, add-zero, getD-append-seam}
 use Rattle.basics.proofs.Kit.{length, take, set, length-append}
 use Rattle.basics.proofs.Kit.{length-map, take-at, take-all, length-take-le, arith}
 use Rattle.basics.specs.Basics.{isSome}
@@ -17,7 +17,7 @@ use Rattle.memory_layout.specs.declared.Entry.{Entry}
 use Rattle.memory_layout.proofs.Laws.{becomes-none, becomes-then}
 use Rattle.memory_rows.specs.Cells.{InOrder}
 use Rattle.memory_pages.specs.Pages.{withCount, entryOf, moreRows, moreLast, behind, RowsBecome}
-use Rattle.memory_pages.proofs.Appending.{last-got, last-set}
+use Rattle.basics.proofs.Parts.{last-set}
 use Rattle.call_recovery.specs.Loading.{tuplesIn, lastMore, Fills, RowsFit}
 
 -- the same lists, said otherwise
@@ -41,13 +41,13 @@ unfolding lastMore
 last-more xs y k =
     let es : List Entry = xs ++ y ∷ [] in
     ap (λ (n : ℕ). take n es ++ withCount (entryOf es n) (entryOf es n .count + k) ∷ []) (last-index xs y)
-    ∙ (λ i. take-at xs (y ∷ []) (length xs) refl i ++ withCount (last-got xs y noEntry i) (last-got xs y noEntry i .count + k) ∷ [])
+    ∙ (λ i. take-at xs (y ∷ []) (length xs) refl i ++ withCount (getD-append-seam xs y [] noEntry i) (getD-append-seam xs y [] noEntry i .count + k) ∷ [])
 
 more-last : (xs : List Entry) (y : Entry) → moreLast (xs ++ y ∷ []) ≡ xs ++ withCount y (y .count + 1) ∷ []
 more-last xs y =
     let es : List Entry = xs ++ y ∷ [] in
     ap (λ (n : ℕ). moreRows n es) (last-index xs y)
-    ∙ ap (λ (z : Entry). set es (length xs) (withCount z (z .count + 1))) (last-got xs y noEntry)
+    ∙ ap (λ (z : Entry). set es (length xs) (withCount z (z .count + 1))) (getD-append-seam xs y [] noEntry)
     ∙ last-set xs y (withCount y (y .count + 1))
 
 -- a list that is not empty ends with an element

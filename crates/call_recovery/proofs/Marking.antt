@@ -5,11 +5,7 @@ use Rattle.basics.proofs.Searches.{any-cons, or-none}
 use Rattle.basics.proofs.Elements.{in-append, eqb-swap}
 use Rattle.memory_layout.specs.Flat.{usedAnd}
 use Rattle.call_recovery.specs.Loading.{usedBy}
-
-or-swap : (a b c : Bool) → (b || (a || c)) ≡ ((a || b) || c)
-or-swap true true c = refl
-or-swap true false c = refl
-or-swap false b c = refl
+use Rattle.basics.proofs.Elements.{or-move}
 
 pub used-none : (u : ℕ → Bool) → usedBy [] u ≡ u
 unfolding usedBy isIn any
@@ -21,7 +17,7 @@ used-one b u = λ i c. ((eqb-swap b c ∙ sym (or-none (eqb c b)) ∙ sym (any-c
 
 pub used-then : (xs ys : List ℕ) (u : ℕ → Bool) → usedBy ys (usedBy xs u) ≡ usedBy (xs ++ ys) u
 unfolding usedBy
-used-then xs ys u = λ i c. (or-swap (isIn c xs) (isIn c ys) (u c) ∙ ap (λ (b : Bool). b || u c) (sym (in-append c xs ys))) i
+used-then xs ys u = λ i c. (sym (or-move (isIn c xs) (isIn c ys) (u c)) ∙ ap (λ (b : Bool). b || u c) (sym (in-append c xs ys))) i
 
 -- where no block was in use
 pub used-first : (xs : List ℕ) → usedBy xs (λ c. false) ≡ (λ c. isIn c xs)

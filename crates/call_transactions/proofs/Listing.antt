@@ -9,6 +9,7 @@ use Rattle.memory_layout.specs.Store.{storeOf}
 use Rattle.call_contracts.proofs.Answering.{length-listing}
 use Rattle.call_transactions.proofs.Refusing.{refused-here, passed-on, unless-none}
 use Rattle.model.specs.State as model
+use Rattle.basics.proofs.Parts.{two-more}
 
 -- the listing of open transactions
 abbrev pub listed : List Active → List ℕ
@@ -28,23 +29,6 @@ listed-last os o =
 pub length-listed : (os : List Active) → length (listed os) ≡ 2 * length os
 unfolding openNumbers
 length-listed os = length-listing (openNumbers os) ∙ ap (λ (z : ℕ). 2 * z) (length-map os (λ (o : Active). o .transaction))
-
--- two bytes more
-two-more : (xs p : List ℕ) (i a b : ℕ) → length xs ≡ 2 * i → 2 * i + 2 ≤ length p
-    → set (set (xs ++ drop (2 * i) p) (2 * i) a) (2 * i + 1) b ≡ (xs ++ a ∷ b ∷ []) ++ drop (2 * (i + 1)) p
-two-more xs p i a b l h =
-    let y0 : ℕ = getD p (2 * i) 0 in
-    let y1 : ℕ = getD p (suc (2 * i)) 0 in
-    let d : List ℕ = drop (suc (suc (2 * i))) p in
-    let e0 : drop (2 * i) p ≡ y0 ∷ y1 ∷ d = drop-cons p (2 * i) 0 (omega arith) ∙ ap (λ (z : List ℕ). y0 ∷ z) (drop-cons p (suc (2 * i)) 0 (omega arith)) in
-    let s0 : set (xs ++ drop (2 * i) p) (2 * i) a ≡ xs ++ a ∷ y1 ∷ d = ap (λ (z : List ℕ). set (xs ++ z) (2 * i) a) e0 ∙ set-at xs y0 (y1 ∷ d) a (2 * i) l in
-    let l1 : length (xs ++ a ∷ []) ≡ 2 * i + 1 = length-append xs (a ∷ []) ∙ omega (arith, l) in
-    let z : suc (suc (2 * i)) ≡ 2 * (i + 1) = omega arith in
-    ap (λ (q : List ℕ). set q (2 * i + 1) b) (s0 ∙ sym (append-assoc xs (a ∷ []) (y1 ∷ d)))
-    ∙ set-at (xs ++ a ∷ []) y1 d b (2 * i + 1) l1
-    ∙ append-assoc xs (a ∷ []) (b ∷ d)
-    ∙ sym (append-assoc xs (a ∷ b ∷ []) d)
-    ∙ ap (λ (q : ℕ). (xs ++ a ∷ b ∷ []) ++ drop q p) z
 
 -- the first i are listed over the reply p
 abbrev pub listedTo : List Active → ℕ → List ℕ → List ℕ

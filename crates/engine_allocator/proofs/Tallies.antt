@@ -21,22 +21,13 @@ use Rattle.engine_pages.specs.Pages.{pagesOf}
 use Rattle.engine_pages.proofs.Places.{counted}
 use Rattle.memory_layout.specs.Opens.{oneIf}
 use Rattle.engine_allocator.specs.Blocks.{orElse, freeFrom}
+use Rattle.basics.proofs.Firsts.{first-hit, first-past, first-some, first-skip, from-turn, from-end, from-low}
 
 -- ---- counts
 
 one-more : {A : Type 0} (f : A → Bool) (x : A) (xs : List A) → howMany f (x ∷ xs) ≡ oneIf (f x) + howMany f xs
 unfolding howMany if_then_else_
 one-more f x xs = by (f x) (λ e. rw e (omega arith)) (λ e. rw e (omega arith))
-
-pub from-turn : (b n : ℕ) → b < n → from b (n - b) ≡ b ∷ from (b + 1) (n - (b + 1))
-unfolding from
-from-turn b n h =
-    let e : n - b ≡ suc (n - (b + 1)) = omega arith in
-    ap (from b) e ∙ ap (λ (z : ℕ). b ∷ from z (n - (b + 1))) (sym (add-one b))
-
-from-end : (b n : ℕ) → n ≤ b → from b (n - b) ≡ []
-unfolding from
-from-end b n h = let e : n - b ≡ 0 = omega arith in ap (from b) e
 
 module _ (f : ℕ → Bool) (b n : ℕ) where
   pub tally-turn : b < n → howMany f (from b (n - b)) ≡ oneIf (f b) + howMany f (from (b + 1) (n - (b + 1)))
@@ -125,27 +116,6 @@ module _ (f : Flat) where
 
 -- ---- searches
 
-module _ {A : Type 0} (f : A → Bool) where
-  pub first-hit : (x : A) (xs : List A) → f x ≡ true → first f (x ∷ xs) ≡ some x
-  unfolding first
-  first-hit x xs e = rw (e, first)
-
-  pub first-past : (x : A) (xs : List A) → f x ≡ false → first f (x ∷ xs) ≡ first f xs
-  unfolding first
-  first-past x xs e = rw (e, first)
-
-  first-some : (xs ys : List A) (b : A) → first f xs ≡ some b → first f (xs ++ ys) ≡ some b
-  unfolding first
-  first-some [] ys b e = never e
-  first-some (x ∷ xs) ys b e =
-      by (f x) (λ h. first-hit x (xs ++ ys) h ∙ sym (first-hit x xs h) ∙ e) (λ h. first-past x (xs ++ ys) h ∙ first-some xs ys b (sym (first-past x xs h) ∙ e))
-
-  first-skip : (xs ys : List A) → first f xs ≡ none → first f (xs ++ ys) ≡ first f ys
-  unfolding first
-  first-skip [] ys e = refl
-  first-skip (x ∷ xs) ys e =
-      by (f x) (λ h. never (sym e ∙ first-hit x xs h)) (λ h. first-past x (xs ++ ys) h ∙ first-skip xs ys (sym (first-past x xs h) ∙ e))
-
 module _ (used : ℕ → Bool) (a e : ℕ) where
   pub free-hit : a < e → used a ≡ false → freeFrom used a e ≡ a
   unfolding freeFrom orElse
@@ -158,14 +128,6 @@ module _ (used : ℕ → Bool) (a e : ℕ) where
   pub free-end : e ≤ a → freeFrom used a e ≡ e
   unfolding freeFrom orElse first
   free-end h = ap (λ (l : List ℕ). orElse e (first (λ b. not (used b)) l)) (from-end a e h)
-
--- what is found is below the end
-from-low : (f : ℕ → Bool) (a k b : ℕ) → first f (from a k) ≡ some b → b < a + k
-unfolding first from
-from-low f a zero b e = never e
-from-low f a (suc k) b e =
-    by (f a) (λ h. let q : some a ≡ some b = sym (first-hit f a (from (suc a) k) h) ∙ e in let z : a ≡ b = cc in omega arith)
-    (λ h. omega (arith, from-low f (suc a) k b (sym (first-past f a (from (suc a) k) h) ∙ e)))
 
 or-found : (e n : ℕ) (o : Option ℕ) → ((b : ℕ) → o ≡ some b → b < n) → n ≤ e → orElse e o < n → o ≡ some (orElse e o)
 unfolding orElse

@@ -16,6 +16,7 @@ use Rattle.model.proofs.Carry.{carry-append}
 use Rattle.engine_close.proofs.Removals.{carry-commit, removed-behind, removed-least, removed-most, behind-fewer, behind-place, behind-more}
 use Rattle.engine_close.proofs.Removals.{behind-then, behind-at, picks, removing, none-left, pass-row, hit-row, removing-then, live-removing}
 use Rattle.engine_close.proofs.RunPlans.{other-picks}
+use Rattle.basics.proofs.Parts.{drop-take}
 
 -- ---- pages now
 
@@ -124,11 +125,6 @@ same-before xs ys a k l e = sym (part ys) ∙ ap (drop a) e ∙ part xs
   where
     part : (zs : List (ℕ × Held)) → drop a (take k zs) ≡ take (k - a) (drop a zs)
     part zs = let z : a + (k - a) ≡ k = omega arith in ap (λ n. drop a (take n zs)) (sym z) ∙ drop-take a (k - a) zs
-      where
-        drop-take : (a n : ℕ) (zs : List (ℕ × Held)) → drop a (take (a + n) zs) ≡ take n (drop a zs)
-        drop-take zero n zs = let z : 0 + n ≡ n = omega arith in ap (λ k. take k zs) z
-        drop-take (suc a) n [] = let z : suc a + n ≡ suc (a + n) = omega arith in ap (λ k. drop (suc a) (take k [])) z ∙ sym (take-nil n)
-        drop-take (suc a) n (x ∷ zs) = let z : suc a + n ≡ suc (a + n) = omega arith in ap (λ k. drop (suc a) (take k (x ∷ zs))) z ∙ drop-take a n zs
 
 newest-marked : (n a e k : ℕ) (ps : List Page) → rowFrom (tagged ps) k .1 .tuple .mark ≡ true → closedRun n a e k ps ≡ removedLive n a (e - a) ps
 unfolding closedRun planNewest removedLive if_then_else_

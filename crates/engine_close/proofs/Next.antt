@@ -17,7 +17,7 @@ use Rattle.model.proofs.Carry.{carry-append}
 use Rattle.engine_close.proofs.Removals.{held-length, behind-fewer, behind-place, behind-left, abort-next, abort-one, abort-ends, abort-starts}
 use Rattle.engine_close.proofs.RunPlans.{same-as, same-self, same-not, plan-none, plan-past, Ends, plan-first, newest-is}
 use Rattle.engine_pages.specs.Pages.{PagesNow, pagesOf}
-use Rattle.engine_pages.proofs.Sizes.{all-by}
+use Rattle.basics.proofs.Tabs.{all-by}
 use Rattle.engine_pages.proofs.Places.{now-held, now-pages, now-then, now-to, now-stay}
 use Rattle.engine_close.proofs.Closing.{now-self, row-next, row-behind, split-run}
 

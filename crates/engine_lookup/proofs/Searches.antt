@@ -3,7 +3,7 @@ use Rattle.basics.proofs.Kit.{_≡_, refl, sym, ap, _∙_, Bool, false, cond, �
 use Rattle.memory_bytes.specs.Columns.{upTo, Covers}
 use Rattle.basics.specs.Lists.{tab, lastIndex}
 use Rattle.basics.proofs.Tabs.{length-tab}
-use Rattle.memory_bytes.proofs.Found.{last-most, last-behind}
+use Rattle.basics.proofs.Found.{last-most, last-behind}
 use Rattle.memory_bytes.proofs.Spans.{test-at}
 use Rattle.memory_layout.specs.Flat.{Flat, rowIn}
 use Rattle.memory_rows.specs.Rows.{keyIn}

@@ -18,7 +18,8 @@ use Rattle.engine_pages.specs.Pages.{PagesNow, pagesOf, pageAt, tuplesAt
 use Rattle.engine_pages.specs.Pending.{applyPending, appliedAll, AppliesOne, Applies, Applied}
 use Rattle.engine_pages.proofs.Places.{now-becomes, counted, full, room, page-end, pos-of, still-there}
 use Rattle.engine_pages.proofs.Rows.{page-fresh}
-use Rattle.engine_pages.proofs.Removing.{becomes-to, remove-set}
+use Rattle.engine_pages.proofs.Removing.{becomes-to}
+use Rattle.basics.proofs.Parts.{remove-set}
 
 -- ---- tuples
 

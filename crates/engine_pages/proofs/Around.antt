@@ -11,20 +11,11 @@ use Rattle.memory_layout.proofs.Exchange.{pages-count}
 use Rattle.model.specs.Places.{onPage}
 use Rattle.engine_pages.specs.Pages.{pagesOf, pageAt, There, swapped}
 use Rattle.engine_pages.specs.Changes.{settledAt, settledNext}
-use Rattle.engine_pages.proofs.Places.{cons-head, from-page, swap-same}
-
-none-cons : {A : Type 0} (x : A) (xs : List A) → [] ≡ x ∷ xs → ⊥
-none-cons x xs e = let z : _≡_ {A = ℕ} 0 1 = cc in omega arith
+use Rattle.engine_pages.proofs.Places.{from-page, swap-same}
+use Rattle.basics.proofs.Parts.{cons-head}
+use Rattle.basics.proofs.Firsts.{index-hit, index-pass, none-cons}
 
 -- ---- f on page p
-
-pub index-hit : (hit : Page → Bool) (p : Page) (ps : List Page) → hit p ≡ true → firstIndex hit (p ∷ ps) ≡ 0
-unfolding firstIndex
-index-hit hit p ps e = ap (λ b. cond b 0 (suc (firstIndex hit ps))) e
-
-pub index-pass : (hit : Page → Bool) (p : Page) (ps : List Page) → hit p ≡ false → firstIndex hit (p ∷ ps) ≡ suc (firstIndex hit ps)
-unfolding firstIndex
-index-pass hit p ps e = ap (λ b. cond b 0 (suc (firstIndex hit ps))) e
 
 module _ (f : Option Page → Page → List Page → List Page) where
   -- what f leaves before and after page q alone

@@ -9,7 +9,8 @@ use Rattle.memory_layout.specs.Store.{pageOf, pageIn, holdsStore}
 use Rattle.memory_layout.proofs.Exchange.{pages-count}
 use Rattle.memory_pages.specs.Pages.{withBlock}
 use Rattle.engine_pages.specs.Pages.{PagesNow, pagesOf, pageAt, tuplesAt, entryOf, There, swapped}
-use Rattle.engine_pages.proofs.Places.{now-to, now-stay, now-then, now-pages, now-held, from-page, before-long, there-here, page-here, swap-at, cons-head}
+use Rattle.engine_pages.proofs.Places.{now-to, now-stay, now-then, now-pages, now-held, from-page, before-long, there-here, page-here, swap-at}
+use Rattle.basics.proofs.Parts.{cons-head}
 use Rattle.engine_pages.proofs.Rows.{page-now}
 
 -- the page is frozen where its block is 0

@@ -12,7 +12,8 @@ use Rattle.memory_layout.specs.Store.{nest, total}
 use Rattle.memory_layout.specs.declared.Entry.{Entry}
 use Rattle.memory_layout.proofs.Laws.{holds-room, filled, becomes-then}
 use Rattle.memory_layout.proofs.Nest.{Counted, counted-length}
-use Rattle.memory_layout.proofs.Exchange.{start-le, counted-set, counted-exchange, row-inserted, page-added, length-insert}
+use Rattle.memory_layout.proofs.Exchange.{start-le, counted-set, counted-exchange, row-inserted, page-added}
+use Rattle.basics.proofs.Parts.{length-insert}
 use Rattle.memory_rows.specs.Rows.{heldBy, pendingIs, NewRow}
 use Rattle.memory_rows.specs.declared.Pending.{Pending}
 use Rattle.memory_rows.specs.declared.Row.{Row}

@@ -14,6 +14,7 @@ use Rattle.memory_layout.proofs.Nest.{Counted, all-counted, counted-all, counte
 use Rattle.memory_layout.proofs.Exchange.{pages-count, page-at, page-long, start-next, start-in, tuple-at, counted-more}
 use Rattle.engine_pages.specs.Pages.{withPages, PagesNow, pagesOf, pageAt, tuplesAt, entryOf, firstRow, There, RowOn, swapped}
 use Rattle.memory_layout.specs.Elements.{rowsFrom, RowRange}
+use Rattle.basics.proofs.Parts.{cons-head}
 
 -- ---- one change after another
 
@@ -145,9 +146,6 @@ module _ {m : List ℕ} {p i : ℕ} (g : RowOn m p i) where
   tuple-is =
       let z : firstRow m p + (i - firstRow m p) ≡ i = omega (arith, g .least) in
       tuple-at (flatOf m) (full (g .there)) p (i - firstRow m p) noRow (omega (arith, g .least, g .most)) ∙ ap (rowIn (flatOf m)) z
-
-pub cons-head : {A : Type 0} (x y : A) (xs ys : List A) → x ∷ xs ≡ y ∷ ys → x ≡ y
-cons-head x y xs ys e = cc
 
 pub less-than : {a b : ℕ} → a ≤ b → (a ≡ b → ⊥) → a < b
 less-than {a} {b} l n = ⊎-elim (λ x. x) (λ x. absurd (n (omega arith))) (lt-or-ge a b)

@@ -12,7 +12,8 @@ use Rattle.memory_layout.specs.Store.{nest, pageOf, pageIn}
 use Rattle.memory_layout.specs.declared.Entry.{Entry}
 use Rattle.memory_layout.proofs.Laws.{becomes-then}
 use Rattle.memory_layout.proofs.Nest.{Counted}
-use Rattle.memory_layout.proofs.Exchange.{length-remove, counted-set, counted-exchange, row-removed, row-dropped}
+use Rattle.memory_layout.proofs.Exchange.{counted-set, counted-exchange, row-removed, row-dropped}
+use Rattle.basics.proofs.Parts.{length-remove}
 use Rattle.memory_pages.specs.Pages.{dirty, withBlock, withCount, fewerRows, MayLose}
 use Rattle.engine_pages.specs.Pages.{PagesNow, pagesOf, pageAt, tuplesAt, entryOf, firstRow, There, RowOn, swapped}
 use Rattle.engine_pages.specs.Changes.{Tries, settledAt, settledBy}
@@ -22,6 +23,7 @@ use Rattle.engine_pages.proofs.Around.{on-swap, on-same}
 use Rattle.engine_pages.proofs.Rows.{at-row, row-now, page-fresh}
 use Rattle.engine_pages.proofs.Committing.{with-same}
 use Rattle.engine_pages.proofs.Joining.{empty-none, tries-done, settled-none, settled-by}
+use Rattle.basics.proofs.Parts.{remove-set}
 
 pub more : (k : ℕ) → 1 ≤ k → (k ≡ 1 → ⊥) → 1 < k
 more k l h = less-than l (λ z. h (sym z))
@@ -48,11 +50,6 @@ module _ (j : ℕ) (hs : List Held) (lt : j < length hs) where
   taken-noted x e ex = taken-is j hs (set hs j x) (edit-one pendRemove noRow x hs j (rw (e, ex) refl)) (omega (arith, length-set hs j x))
 
 -- ---- entries
-
-module _ {A : Type 0} where
-  -- what was set before does not matter
-  pub remove-set : (xs : List A) (p : ℕ) (x : A) → removeAt p (set xs p x) ≡ removeAt p xs
-  remove-set xs p x = ap (λ (z : List A). z ++ drop (p + 1) (set xs p x)) (take-set-le p xs p x (omega arith)) ∙ ap (λ (z : List A). take p xs ++ z) (drop-set-lt (p + 1) xs p x (omega arith))
 
 pub page-less : (m : List ℕ) (p n : ℕ) (hs : List Held) → pageOf (withCount (entryOf m p) n) hs ≡ withTuples (pageAt m p) hs
 unfolding pageIn pageOf withTuples

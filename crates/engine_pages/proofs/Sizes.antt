@@ -14,6 +14,7 @@ use Rattle.memory_layout.specs.Views.{lengthOf, stateOf}
 use Rattle.memory_rows.proofs.Fields.{size-is, owner-most}
 use Rattle.memory_layout.specs.Elements.{rowsFrom, RowRange}
 use Rattle.engine_pages.proofs.Places.{few-rows}
+use Rattle.basics.proofs.Tabs.{all-by, tab-part}
 
 -- ---- no row is large
 
@@ -26,20 +27,10 @@ row-small m i h =
     let s : ℕ = stateOf m (capacityOf m) i in
     omega (arith, size-is m i h s refl, length-most s, owner-most (ltb s committedValue))
 
--- every element by its index
-pub all-by : {A : Type 0} (P : A → Type 0) (xs : List A) (d : A) → ((i : ℕ) → i < length xs → P (getD xs i d)) → AllOf P xs
-all-by P [] d h = tt
-all-by P (x ∷ xs) d h = (h 0 (omega arith), all-by P xs d (λ i l. h (suc i) (omega arith)))
-
 pub rows-small : (m : List ℕ) (s e : ℕ) → AllOf Small (rowsFrom m s e)
 rows-small m s e = all-take Small (e - s) _ (all-drop Small s (flatOf m .rows) (all-by Small (flatOf m .rows) noRow (row-small m)))
 
 -- ---- turn by turn
-
--- the elements by index
-tab-part : {A : Type 0} (xs : List A) (d : A) (i n : ℕ) → i + n ≤ length xs → tab (λ k. getD xs k d) i n ≡ take n (drop i xs)
-tab-part xs d i zero h = refl
-tab-part xs d i (suc n) h = ap (λ z. getD xs i d ∷ z) (tab-part xs d (suc i) n (omega arith)) ∙ sym (ap (take (suc n)) (drop-cons xs i d (omega arith)))
 
 pub rows-by : {m : List ℕ} {s e : ℕ} → RowRange m s e → tab (rowIn (flatOf m)) s (e - s) ≡ rowsFrom m s e
 rows-by {m} {s} {e} g = tab-part (flatOf m .rows) noRow s (e - s) (omega (arith, g .order, g .inside))

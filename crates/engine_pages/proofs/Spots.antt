@@ -7,7 +7,7 @@ use Rattle.model.specs.State.{Held}
 use Rattle.model.specs.Rules.{placeAfter, placeFront, place, fresh, withoutPending}
 use Rattle.basics.specs.Lists.{lastIndex}
 use Rattle.basics.proofs.Tabs.{lt-or-ge}
-use Rattle.memory_bytes.proofs.Found.{last-most, last-at, last-behind}
+use Rattle.basics.proofs.Found.{last-most, last-at, last-behind}
 use Rattle.memory_layout.specs.Flat.{Flat, flatOf, entryIn, rowIn, noRow}
 use Rattle.memory_layout.specs.Store.{total, startOf, pageIn, pagesIn, pageOf}
 use Rattle.memory_layout.proofs.Nest.{total-append}
@@ -22,20 +22,7 @@ use Rattle.engine_pages.specs.Pages.{pagesOf, pageAt, firstRow, swapped}
 use Rattle.engine_pages.specs.Spots.{tupleBy, placedOn, GrowAt, AddAt, PlaceAt}
 use Rattle.engine_pages.proofs.Places.{less-than}
 use Rattle.engine_pages.proofs.Placing.{other-table, no-key, place-on, place-front, front-turn, front-on, front-new, front-last}
-
--- the last that passes is before n: it does, if it is there, and none from n on does
-pub last-is : {A : Type 0} (f : A → Bool) (d : A) (xs : List A) (n : ℕ) → n ≤ length xs → (0 < n → f (getD xs (n - 1) d) ≡ true)
-    → ((i : ℕ) → n ≤ i → i < length xs → f (getD xs i d) ≡ false) → lastIndex f xs ≡ n
-last-is f d xs n l here behind =
-    ⊎-elim
-    (λ a. lie (sym (last-behind f d xs (n - 1) (omega arith) (omega arith)) ∙ here (omega arith)))
-    (λ a. ⊎-elim
-    (λ b. let k : ℕ = lastIndex f xs - 1 in
-    let e : lastIndex f xs ≡ suc k = omega arith in
-    lie (sym (behind k (omega arith) (omega (arith, last-most f d xs))) ∙ last-at f d xs k e))
-    (λ b. omega arith)
-    (lt-or-ge n (lastIndex f xs)))
-    (lt-or-ge (lastIndex f xs) n)
+use Rattle.basics.proofs.Found.{last-is}
 
 start-rise : (f : Flat) (p q : ℕ) → p ≤ q → startOf f p ≤ startOf f q
 start-rise f p q h =

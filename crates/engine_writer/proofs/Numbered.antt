@@ -2,14 +2,6 @@
 use Rattle.basics.proofs.Kit.{_≡_, sym, ap, _∙_, List, ℕ, _+_, _≤_, _<_, add-one, length, take, drop, getD, set, length-drop, take-suc-set, take-all, take-suc, getD-drop, arith}
 use Rattle.block_forms.specs.Limits.{entriesPerBlock}
 
--- one entry more of a run
-pub entries-turn : (ns out : List ℕ) (first i v : ℕ) → i < length out → first + i < length ns → v ≡ getD ns (first + i) 0
-    → take i out ≡ take i (drop first ns) → take (i + 1) (set out i v) ≡ take (i + 1) (drop first ns)
-entries-turn ns out first i v h k e t =
-    let l : i < length (drop first ns) = simp length-drop (omega arith) in
-    let x : v ≡ getD (drop first ns) i 0 = e ∙ sym (getD-drop first ns i 0) in
-    rw (add-one i, take-suc-set out i v h, t, x) (sym (take-suc (drop first ns) i 0 l))
-
 -- count entries from first on are those of one directory block
 pub record Run (ns : List ℕ) (first count : ℕ) : Type 0 where
   pub few : count ≤ entriesPerBlock

@@ -3,7 +3,7 @@ use Rattle.basics.proofs.Kit.{_≡_, sym, _∙_, Bool, List, ℕ, _+_, _≤_, _
 use Rattle.block_forms.specs.Tuple.{Tuple}
 use Rattle.block_forms.specs.Bytes.{ownerIs, tupleOf}
 use Rattle.block_forms.specs.declared.Owner.{Owner}
-use Rattle.block_forms.proofs.Stores.{length-part}
+use Rattle.basics.proofs.Overs.{length-part}
 use Rattle.memory_bytes.specs.Bytes.{bytes}
 use Rattle.memory_bytes.proofs.Bytes.{length-bytes, getD-bytes}
 use Rattle.memory_rows.specs.Rows.{Holds}

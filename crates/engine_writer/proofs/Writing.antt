@@ -6,7 +6,7 @@ use Rattle.block_forms.specs.Tuple.{Tuple, size, sizes, OwnerFits, Fits}
 use Rattle.block_forms.specs.Block.{page, encodeBlock, PageFits}
 use Rattle.block_forms.specs.Bytes.{payloadIn, tupleOf, sizeOf, Appendable, partPage, behind, Appended}
 use Rattle.block_forms.specs.declared.Record.{Record}
-use Rattle.block_forms.proofs.Stores.{length-part}
+use Rattle.basics.proofs.Overs.{length-part}
 use Rattle.block_forms.proofs.Tuples.{count-sizes, record-size, sizes-more}
 use Rattle.block_forms.proofs.Built.{behind-more, whole-page}
 use Rattle.model.specs.Checkpoint.{storable}

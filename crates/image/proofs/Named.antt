@@ -14,19 +14,12 @@ use Rattle.block_reader.specs.Answers.{reading}
 use Rattle.block_reader.specs.declared.Reading.the-variants.{IsDirectory}
 use Rattle.block_reader.proofs.Answering.{is-directory}
 use Rattle.block_forms.proofs.Laws.{decode-entries}
-use Rattle.block_forms.proofs.Stores.{set-next, over-then}
+use Rattle.basics.proofs.Overs.{set-next, over-then}
 use Rattle.basics.proofs.Ands.{and-no}
 use Rattle.basics.proofs.Iterations.{drop-turn, drop-end}
 use Rattle.image.specs.View.{View}
 use Rattle.image.specs.Stages.{entriesDue, addEntries, readDirectories}
 use Rattle.image.specs.Answers.{Filled}
-
--- one entry more
-pub put-turn : (m s : List ℕ) (at i v : ℕ) → at + i < length m → i < length s → v ≡ getD s i 0
-    → set (over m at (take i s)) (at + i) v ≡ over m at (take (i + 1) s)
-put-turn m s at i v hm hs e =
-    let l : i ≡ length (take i s) = simp length-take (omega arith) in
-    set-next m (take i s) at i v l (omega arith) ∙ ap (over m at) (rw (e, add-one i) (sym (take-suc s i 0 hs)))
 
 -- ---- one directory block
 

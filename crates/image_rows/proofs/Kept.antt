@@ -8,6 +8,7 @@ use Rattle.image_rows.specs.Columns.{codedOwner, coded, rowAt, rowsIn, c
 use Rattle.basics.specs.Lists.{tab}
 use Rattle.basics.proofs.Ands.{and-yes, and-assoc}
 use Rattle.basics.proofs.Tabs.{take-tab, tab-self}
+use Rattle.basics.proofs.Tabs.{map-tab}
 
 module _ {A : Type 0} (f g : A → Bool) (h : A → A) (e : (x : A) → f (h x) ≡ g x) where
   pub all-kept : (xs : List A) → all f (map h xs) ≡ all g xs
@@ -59,10 +60,6 @@ module _ (h : Row → Row) (o : (r : Row) → h r .1 .owner ≡ r .1 .owner) (n 
       all-kept (statementOk (map h rs)) (statementOk rs) h (λ r. rw (n r, o r) (statement-kept rs (number r) (r .1 .owner))) rs
 
 -- ---- columns that are missing
-
-map-tab : {A B : Type 0} (f : A → B) (u : ℕ → A) (i n : ℕ) → tab (λ k. f (u k)) i n ≡ map f (tab u i n)
-map-tab f u i zero = refl
-map-tab f u i (suc n) = ap (λ (l : List _). f (u i) ∷ l) (map-tab f u (suc i) n)
 
 -- only number and owner of a row
 abbrev thin : Row → Row

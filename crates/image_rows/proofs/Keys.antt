@@ -7,36 +7,9 @@ use Rattle.image_rows.specs.Chains.{lastBy, isNew, keysOnce}
 use Rattle.basics.proofs.Iterations.{any-yes, any-not, any-end}
 use Rattle.image_rows.proofs.Chains.{last-le, last-passes, last-there}
 use Rattle.basics.proofs.Searches.{all-tab, tab-all}
+use Rattle.basics.proofs.Members.{distinct-in, distinct-out}
 
 -- ---- distinct numbers, by index
-
-in-none : (x : ℕ) (s : List ℕ) → ((k : ℕ) → k < length s → x ≡ getD s k 0 → ⊥) → isIn x s ≡ false
-unfolding isIn
-in-none x [] w = any-end (eqb x) refl
-in-none x (y ∷ s) w = any-not (eqb x) refl (ne-eqb x y (w 0 (omega arith))) ∙ in-none x s (λ k h. w (suc k) (omega arith))
-
-in-at : (s : List ℕ) (k : ℕ) → k < length s → isIn (getD s k 0) s ≡ true
-unfolding isIn
-in-at [] k h = absurd (omega arith)
-in-at (y ∷ s) zero h = any-yes (eqb y) refl (eq-eqb y y refl)
-in-at (y ∷ s) (suc k) h =
-    by (eqb (getD s k 0) y)
-    (λ t. any-yes (eqb (getD s k 0)) refl t)
-    (λ t. any-not (eqb (getD s k 0)) refl t ∙ in-at s k (omega arith))
-
-pub distinct-in : (s : List ℕ) → ((j k : ℕ) → j < k → k < length s → getD s j 0 ≡ getD s k 0 → ⊥) → distinct s ≡ true
-unfolding distinct
-distinct-in [] w = refl
-distinct-in (x ∷ s) w =
-    rw (in-none x s (λ k h. w 0 (suc k) (omega arith) (omega arith))) (distinct-in s (λ j k l h. w (suc j) (suc k) (omega arith) (omega arith)))
-
-pub distinct-out : (s : List ℕ) → distinct s ≡ true → (j k : ℕ) → j < k → k < length s → getD s j 0 ≡ getD s k 0 → ⊥
-unfolding distinct
-distinct-out [] e j k l h q = omega arith
-distinct-out (x ∷ s) e j zero l h q = omega arith
-distinct-out (x ∷ s) e zero (suc k) l h q =
-    lie (sym (not-true _ (and-true (not (isIn x s)) (distinct s) e .0)) ∙ ap (λ y. isIn y s) q ∙ in-at s k (omega arith))
-distinct-out (x ∷ s) e (suc j) (suc k) l h q = distinct-out s (and-true (not (isIn x s)) (distinct s) e .1) j k (omega arith) (omega arith) q
 
 -- ---- keys that are there once, by index
 

@@ -7,7 +7,8 @@ use Rattle.image_rows.specs.Rows.{Row, number, isBy, isOwn, earlierBy, s
 use Rattle.image_rows.specs.Columns.{codedOwner, coded, rowAt, rowsIn}
 use Rattle.image_rows.specs.Chains.{lastBy, keysOnce, isThereBelow, isNext, statementsRise}
 use Rattle.image_rows.proofs.Chains.{last-le, last-passes, last-there}
-use Rattle.image_rows.proofs.Keys.{distinct-out, once-in, once-out}
+use Rattle.image_rows.proofs.Keys.{once-in, once-out}
+use Rattle.basics.proofs.Members.{distinct-out}
 use Rattle.basics.proofs.Searches.{all-tab, tab-all}
 use Rattle.image_rows.proofs.Totals.{bit, total-same, count-total}
 use Rattle.image_rows.proofs.Ranks.{txOf, stOf, own, rank, Before, Ordered, Ranked, ranked-ordered, ordered-ranked, same-row}

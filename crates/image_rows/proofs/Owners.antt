@@ -6,14 +6,7 @@ use Rattle.block_forms.specs.Tuple.{Owner, committed, tentative}
 use Rattle.image_rows.specs.Rows.{Row, isBy, isOwn, addOwner, transactions}
 use Rattle.basics.proofs.Searches.{any-cons}
 use Rattle.basics.proofs.Elements.{eqb-swap}
-
-in-cons : (t u : ℕ) (ts : List ℕ) → isIn t (u ∷ ts) ≡ (eqb u t || isIn t ts)
-unfolding isIn
-in-cons t u ts = any-cons (eqb t) u ts ∙ ap (λ (b : Bool). b || any (eqb t) ts) (eqb-swap t u)
-
--- a transaction that is in the list already
-or-in : (t u : ℕ) (ts : List ℕ) → isIn u ts ≡ true → isIn t ts ≡ (eqb u t || isIn t ts)
-or-in t u ts h = by (eqb u t) (λ e. rw (e, ← eqb-true u t e) h) (λ e. rw e)
+use Rattle.basics.proofs.Members.{in-cons, or-in}
 
 in-added : (t : ℕ) (o : Owner) (ts : List ℕ) → isIn t (addOwner o ts) ≡ (isBy t o || isIn t ts)
 unfolding addOwner isBy if_then_else_

@@ -1,5 +1,4 @@
 pub mod Bytes
 pub mod Moves
 pub mod Scans
-pub mod Found
 pub mod Spans

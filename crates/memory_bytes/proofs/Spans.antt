@@ -6,7 +6,7 @@ use Rattle.basics.specs.Lists.{tab, firstIndex, lastIndex}
 use Rattle.memory_bytes.specs.Bytes.{le4, column4}
 use Rattle.basics.proofs.Tabs.{lt-or-ge, length-tab, getD-tab}
 use Rattle.basics.proofs.Searches.{any-cons}
-use Rattle.memory_bytes.proofs.Found.{any-none, first-most, first-before, last-most, last-behind}
+use Rattle.basics.proofs.Found.{any-none, first-most, first-before, last-most, last-behind}
 
 -- ---- a test of the numbers of a column, by index
 

@@ -8,15 +8,10 @@ use Rattle.memory_layout.specs.Flat.{Flat, entryIn, noEntry, noRow, rowI
 use Rattle.memory_layout.specs.Store.{pageOf, nest, pagesIn, pageIn, total, startOf}
 use Rattle.memory_layout.specs.declared.Entry.{Entry}
 use Rattle.memory_layout.proofs.Nest.{Counted, counted-length, total-append, total-split, counted-at, counted-append, counted-take, counted-drop, nest-at, length-nest, nest-replace}
-use Rattle.memory_layout.proofs.Nest.{insert-within, remove-within, set-within}
+use Rattle.basics.proofs.Parts.{insert-within, remove-within, set-within}
+use Rattle.basics.proofs.Parts.{length-insert, length-remove, cut-rows}
 
 -- ---- lengths
-
-pub length-insert : {A : Type 0} (j : ℕ) (x : A) (xs : List A) → j ≤ length xs → length (insertAt j x xs) ≡ length xs + 1
-length-insert j x xs h = length-append (take j xs) (x ∷ drop j xs) ∙ omega (arith, length-take-le j xs h, length-drop j xs)
-
-pub length-remove : {A : Type 0} (j : ℕ) (xs : List A) → j < length xs → length (removeAt j xs) ≡ length xs - 1
-length-remove j xs h = length-append (take j xs) (drop (j + 1) xs) ∙ omega (arith, length-take-le j xs (omega arith), length-drop (j + 1) xs)
 
 pub sum-append : {A : Type 0} (g : A → ℕ) (xs ys : List A) → sum g (xs ++ ys) ≡ sum g xs + sum g ys
 unfolding sum
@@ -98,11 +93,6 @@ module _ (f : Flat) (full : total (f .entries) ≡ length (f .rows)) where
       → nest (take p (f .entries) ++ (ms ++ drop (p + r) (f .entries))) (take s (f .rows) ++ (ws ++ drop (s + c) (f .rows)))
       ≡ take p (pagesIn f) ++ (nest ms ws ++ drop (p + r) (pagesIn f))
   exchange p r s c ms ws es ends lw = nest-replace (f .entries) (f .rows) p r s c ms ws es ends (omega (arith, start-le p)) lw
-
--- the rows, cut around c of them
-pub cut-rows : {A : Type 0} (s c : ℕ) (rs : List A) → rs ≡ take s rs ++ (take c (drop s rs) ++ drop (s + c) rs)
-cut-rows {A} s c rs =
-    sym (take-append-drop s rs) ∙ ap (λ (z : List A). take s rs ++ z) (sym (take-append-drop c (drop s rs)) ∙ ap (λ (z : List A). take c (drop s rs) ++ z) (drop-drop c s rs))
 
 -- ---- one page
 

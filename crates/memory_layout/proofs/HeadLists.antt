@@ -16,13 +16,7 @@ use Rattle.memory_layout.specs.declared.Open.{Open}
 use Rattle.memory_layout.proofs.Frame.{tab-cong}
 use Rattle.memory_layout.proofs.Laws.{Known, known, opens-length, named-length, directories-length}
 use Rattle.memory_layout.proofs.Changes.{same-below, same-above, apart-then, becomes-head, becomes-opens, becomes-named, becomes-directories}
-
--- one more element
-pub tab-push : {A : Type 0} (f g : ℕ → A) (n : ℕ) (x : A) → g n ≡ x → ((j : ℕ) → j < n → g j ≡ f j) → tab g 0 (n + 1) ≡ tab f 0 n ++ x ∷ []
-tab-push f g n x here other =
-    let a : tab g 0 n ≡ tab f 0 n = tab-cong g f 0 n (λ k p q. other k (omega arith)) in
-    let w : g (0 + n) ≡ x = ap g (zero-add n) ∙ here in
-    tab-add g 0 n 1 ∙ cc
+use Rattle.basics.proofs.Tabs.{tab-push}
 
 -- a truth value as a number
 one-back : (b : Bool) → not (eqb (oneIf b) 0) ≡ b

@@ -13,7 +13,8 @@ use Rattle.memory_layout.specs.Views.{headOf, countsOf, rowCount, openCo
 use Rattle.memory_layout.specs.declared.Counts.{Counts}
 use Rattle.memory_layout.specs.Flat.{Flat, flatOf, capacityOf, opensOf, rowsOf, entriesOf, namedOf, directoriesOf, Room, InRange, Becomes}
 use Rattle.memory_layout.specs.Store.{total, startOf, tablesRise, startsRise, holdsStore, hasRows, pagesIn, storeOf, storeIn}
-use Rattle.memory_layout.proofs.Refusal.{every-true, every-cons, every-one, all-from, from-all, range-in, in-range, endRises, startRises}
+use Rattle.memory_layout.proofs.Refusal.{all-from, from-all, range-in, in-range, endRises, startRises}
+use Rattle.basics.proofs.Elements.{every-true, every-cons, every-one}
 use Rattle.basics.proofs.Searches.{all-tab, tab-all}
 
 -- ---- how long each list is

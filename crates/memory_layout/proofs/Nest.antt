@@ -8,6 +8,7 @@ use Rattle.model.specs.State.{Held, Page}
 use Rattle.basics.specs.Lists.{insertAt, removeAt}
 use Rattle.memory_layout.specs.Store.{pageOf, nest, total, hasRows}
 use Rattle.memory_layout.specs.declared.Entry.{Entry}
+use Rattle.basics.proofs.Parts.{drop-take}
 
 -- ---- how many rows entries have
 
@@ -58,11 +59,6 @@ counted-all [] h = refl
 counted-all (e ∷ es) h = simp (le-leb 1 (e .count) (h .0), counted-all es (h .1))
 
 -- ---- nested lists, in parts
-
-drop-take : {A : Type 0} (n k : ℕ) (l : List A) → drop n (take (n + k) l) ≡ take k (drop n l)
-drop-take zero k l = ap (λ (z : ℕ). take z l) (zero-add k)
-drop-take (suc n) k [] = rw (take-nil, drop-nil, take-nil)
-drop-take (suc n) k (x ∷ l) = rw suc-add (drop-take n k l)
 
 pub nest-append : (es fs : List Entry) (us vs : List Held) → length us ≡ total es → nest (es ++ fs) (us ++ vs) ≡ nest es us ++ nest fs vs
 unfolding nest total sum
@@ -126,52 +122,3 @@ nest-replace es ts i r s c ms ws es1 es2 l lw =
     (ap (λ (z : ℕ). nest (drop (i + r) es) (drop z ts)) es2 ∙ sym (drop-nest (i + r) es ts))
 
 -- ---- one element put in, taken out or changed among c elements from s on
-
-module _ {A : Type 0} (ts : List A) (s j c : ℕ) where
-  before-j : j ≤ c → take (s + j) ts ≡ take s ts ++ take j (take c (drop s ts))
-  before-j h = take-add s j ts ∙ ap (λ (z : List A). take s ts ++ z) (sym (take-take j c (drop s ts) h))
-
-  after-j : j ≤ c → drop (s + j) ts ≡ drop j (take c (drop s ts)) ++ drop (s + c) ts
-  after-j h =
-      let e : j + (c - j) ≡ c = omega arith in
-      let e2 : s + j + (c - j) ≡ s + c = omega arith in
-      let d : drop j (take c (drop s ts)) ≡ take (c - j) (drop (s + j) ts) =
-      ap (λ (z : ℕ). drop j (take z (drop s ts))) (sym e) ∙ drop-take j (c - j) (drop s ts) ∙ ap (take (c - j)) (drop-drop j s ts) in
-      sym (take-append-drop (c - j) (drop (s + j) ts))
-      ∙ ap (λ (z : List A). z ++ drop (c - j) (drop (s + j) ts)) (sym d)
-      ∙ ap (λ (z : List A). drop j (take c (drop s ts)) ++ z) (drop-drop (c - j) (s + j) ts ∙ ap (λ (z : ℕ). drop z ts) e2)
-
-  pub insert-within : (x : A) → j ≤ c → insertAt (s + j) x ts ≡ take s ts ++ (insertAt j x (take c (drop s ts)) ++ drop (s + c) ts)
-  insert-within x h =
-      let v : List A = take c (drop s ts) in
-      ap (λ (z : List A). z ++ x ∷ drop (s + j) ts) (before-j h)
-      ∙ ap (λ (z : List A). (take s ts ++ take j v) ++ x ∷ z) (after-j h)
-      ∙ append-assoc (take s ts) (take j v) (x ∷ (drop j v ++ drop (s + c) ts))
-      ∙ ap (λ (z : List A). take s ts ++ z) (sym (append-assoc (take j v) (x ∷ drop j v) (drop (s + c) ts)))
-
-module _ {A : Type 0} (ts : List A) (s j c : ℕ) (h : j < c) where
-  next : drop (s + j + 1) ts ≡ drop (j + 1) (take c (drop s ts)) ++ drop (s + c) ts
-  next =
-      let e : s + j + 1 ≡ s + (j + 1) = omega arith in
-      ap (λ (z : ℕ). drop z ts) e ∙ after-j ts s (j + 1) c (omega arith)
-
-  pub remove-within : removeAt (s + j) ts ≡ take s ts ++ (removeAt j (take c (drop s ts)) ++ drop (s + c) ts)
-  remove-within =
-      let v : List A = take c (drop s ts) in
-      ap (λ (z : List A). z ++ drop (s + j + 1) ts) (before-j ts s j c (omega arith))
-      ∙ ap (λ (z : List A). (take s ts ++ take j v) ++ z) next
-      ∙ append-assoc (take s ts) (take j v) (drop (j + 1) v ++ drop (s + c) ts)
-      ∙ ap (λ (z : List A). take s ts ++ z) (sym (append-assoc (take j v) (drop (j + 1) v) (drop (s + c) ts)))
-
-  pub set-within : (x : A) → s + c ≤ length ts → set ts (s + j) x ≡ take s ts ++ (set (take c (drop s ts)) j x ++ drop (s + c) ts)
-  set-within x l =
-      let v : List A = take c (drop s ts) in
-      let lv : length v ≡ c = length-take-le c (drop s ts) (simp length-drop (omega arith)) in
-      let e : suc (s + j) ≡ s + j + 1 = omega arith in
-      let e2 : j + 1 ≡ suc j = omega arith in
-      set-split ts (s + j) x (omega arith)
-      ∙ ap (λ (z : List A). z ++ x ∷ drop (suc (s + j)) ts) (before-j ts s j c (omega arith))
-      ∙ ap (λ (z : List A). (take s ts ++ take j v) ++ x ∷ z) (ap (λ (z : ℕ). drop z ts) e ∙ next ∙ ap (λ (z : ℕ). drop z v ++ drop (s + c) ts) e2)
-      ∙ append-assoc (take s ts) (take j v) (x ∷ (drop (suc j) v ++ drop (s + c) ts))
-      ∙ ap (λ (z : List A). take s ts ++ z) (sym (append-assoc (take j v) (x ∷ drop (suc j) v) (drop (s + c) ts)))
-      ∙ ap (λ (z : List A). take s ts ++ (z ++ drop (s + c) ts)) (sym (set-split v j x (omega arith)))

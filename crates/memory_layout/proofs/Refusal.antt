@@ -14,24 +14,9 @@ use Rattle.memory_layout.specs.Flat.{InRange, capacityOf}
 use Rattle.memory_layout.specs.Store.{inRange, tablesRise, startsRise, StartsAt, holdsStore}
 use Rattle.memory_layout.specs.declared.Head.{Head}
 use Rattle.memory_layout.specs.declared.Counts.{Counts}
+use Rattle.basics.proofs.Elements.{every-true, every-cons, every-stop, every-one}
 
 -- ---- lists of tests
-
-pub every-true : (b : Bool) (bs : List Bool) → every (b ∷ bs) ≡ true → (b ≡ true) × (every bs ≡ true)
-unfolding every
-every-true b bs e = and-true b (every bs) e
-
-pub every-cons : (b : Bool) (bs : List Bool) → b ≡ true → every (b ∷ bs) ≡ every bs
-unfolding every
-every-cons b bs e = rw e
-
-pub every-stop : (b : Bool) (bs : List Bool) → b ≡ false → every (b ∷ bs) ≡ false
-unfolding every
-every-stop b bs e = rw e
-
-pub every-one : (b : Bool) → every (b ∷ []) ≡ b
-unfolding every
-every-one b = and-yes b
 
 -- a test of numbers in a row, or of a list by index, number by number
 module _ (f : ℕ → Bool) where

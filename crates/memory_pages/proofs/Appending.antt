@@ -1,5 +1,5 @@
 -- A page and a row behind all others: no row and no other page is moved.
-use Rattle.basics.proofs.Kit.{_≡_, refl, sym, ap, _∙_, false, List, [], _∷_, _++_, ℕ, _+_, _*_, _≤_, _<_, _-_, add-zero, length, getD, set, arith}
+use Rattle.basics.proofs.Kit.{_≡_, refl, sym, ap, _∙_, false, List, [], _∷_, _++_, ℕ, _+_, _*_, _≤_, _<_, _-_, add-zero, length, getD, set, arith, getD-append-seam}
 use Rattle.memory_bytes.specs.Bytes.{bytes2, Wrote}
 use Rattle.basics.specs.Lists.{insertAt}
 use Rattle.memory_bytes.proofs.Bytes.{le2-cong, le4-cong}
@@ -9,22 +9,13 @@ use Rattle.memory_layout.specs.Flat.{Flat, flatOf, capacityOf, rowsOf, noEntry,
 use Rattle.memory_layout.specs.declared.Entry.{Entry}
 use Rattle.memory_layout.proofs.Laws.{entries-length, rows-length}
 use Rattle.memory_rows.specs.Cells.{slotIn, InOrder}
-use Rattle.memory_rows.proofs.Appending.{insert-last}
+use Rattle.basics.proofs.Parts.{insert-last}
 use Rattle.memory_pages.specs.Columns.{Opened}
 use Rattle.memory_pages.specs.Pages.{MayAppend, dirty, clean, withBlock, wordOf, EntriesBecome}
 use Rattle.memory_pages.proofs.Ranges.{ranges}
 use Rattle.memory_pages.proofs.Entries.{Stands, stands}
 use Rattle.memory_pages.proofs.Changes.{then-entries, block-set, page-inserted}
-
--- ---- the last of a list
-
-pub last-got : {A : Type 0} (xs : List A) (x z : A) → getD (xs ++ x ∷ []) (length xs) z ≡ x
-last-got [] x z = refl
-last-got (y ∷ xs) x z = last-got xs x z
-
-pub last-set : {A : Type 0} (xs : List A) (x y : A) → set (xs ++ x ∷ []) (length xs) y ≡ xs ++ y ∷ []
-last-set [] x y = refl
-last-set (z ∷ xs) x y = ap (λ (l : List _). z ∷ l) (last-set xs x y)
+use Rattle.basics.proofs.Parts.{last-set}
 
 -- ---- no row is moved
 
@@ -72,7 +63,7 @@ module _ {m m1 : List ℕ} {n t x b : ℕ} (room : Room m) (en : n ≡ pageCount
         let k : n ≡ length es = en ∙ sym (entries-length m) in
         let e2 : set (flatOf m1 .entries) n (withBlock (entryIn (flatOf m1) n) b false) ≡ es ++ clean t b 0 ∷ [] =
         (λ i. set (e1 i) (k i) (withBlock (getD (e1 i) (k i) noEntry) b false))
-        ∙ ap (λ (z : Entry). set (es ++ d ∷ []) (length es) (withBlock z b false)) (last-got es d noEntry)
+        ∙ ap (λ (z : Entry). set (es ++ d ∷ []) (length es) (withBlock z b false)) (getD-append-seam es d [] noEntry)
         ∙ last-set es d (clean t b 0) in
         record { size = q .size; room = q .room; flat = q .flat ∙ (λ i. withEntries (flatOf m) (e2 i)) }
 

@@ -16,7 +16,8 @@ use Rattle.memory_pages.specs.Pages.{dirty, withBlock, withCount, wordOf
 use Rattle.memory_pages.proofs.Ranges.{ranges, entry-table, entry-count, start-stored, start-behind, start-step, starts-rise}
 use Rattle.memory_pages.proofs.Tables.{TableIs, table-is}
 use Rattle.memory_pages.proofs.Columns.{in-columns, same-row-count}
-use Rattle.memory_pages.proofs.Parts.{splice, entries-become}
+use Rattle.memory_pages.proofs.Parts.{entries-become}
+use Rattle.basics.proofs.Tabs.{splice}
 use Rattle.memory_pages.proofs.Entries.{entry-is, entry-same, entry-counted, Stands, stands-behind}
 use Rattle.memory_pages.proofs.Entries.{opens, closes, more-tables, more-before, more-here, more-same, more-entry, open-rises}
 

@@ -15,13 +15,9 @@ use Rattle.memory_layout.proofs.Laws.{entries-length}
 use Rattle.memory_rows.specs.Rows.{RowsOnly}
 use Rattle.memory_pages.specs.Pages.{withCount, moreRows, fewerRows}
 use Rattle.memory_pages.proofs.Ranges.{ranges, entry-count, start-stored, start-behind, start-step, starts-rise, start-most}
-use Rattle.memory_pages.proofs.Parts.{splice, becomes}
+use Rattle.memory_pages.proofs.Parts.{becomes}
+use Rattle.basics.proofs.Tabs.{splice}
 use Rattle.memory_pages.proofs.Entries.{entry-same, entry-counted}
-
--- ---- how many there are then
-
-pub length-remove : {A : Type 0} (i : ℕ) (xs : List A) → i < length xs → length (removeAt i xs) + 1 ≡ length xs
-length-remove i xs h = omega (arith, length-append (take i xs) (drop (i + 1) xs), length-take-le i xs (omega arith), length-drop (i + 1) xs)
 
 -- ---- the pages' part
 

@@ -14,21 +14,6 @@ use Rattle.memory_pages.proofs.Ranges.{ranges}
 
 -- ---- a part of a list by index exchanged
 
--- elements a to b of f are k elements of g
-pub splice : {A : Type 0} (f g : ℕ → A) (n n' a k b : ℕ) → a ≤ b → b ≤ n → n' ≡ a + k + (n - b) → ((j : ℕ) → j < a → g j ≡ f j)
-    → ((j : ℕ) → j < n - b → g (a + k + j) ≡ f (b + j)) → tab g 0 n' ≡ take a (tab f 0 n) ++ (tab g a k ++ drop b (tab f 0 n))
-splice {A} f g n n' a k b h l e before behind =
-    let x : tab g 0 a ≡ take a (tab f 0 n) =
-    tab-cong g f 0 0 a (λ j q. before (0 + j) (omega arith)) ∙ sym (take-tab f 0 a n (omega arith)) in
-    let y : tab g (a + k) (n - b) ≡ drop b (tab f 0 n) =
-    tab-cong g f (a + k) b (n - b) behind ∙ ap (λ (z : ℕ). tab f z (n - b)) (sym (zero-add b)) ∙ sym (drop-tab f 0 b n l) in
-    let q : a + k + (n - b) ≡ a + (k + (n - b)) = omega arith in
-    ap (tab g 0) (e ∙ q)
-    ∙ tab-add g 0 a (k + (n - b))
-    ∙ ap (λ (z : ℕ). tab g 0 a ++ tab g z (k + (n - b))) (zero-add a)
-    ∙ ap (λ (z : List A). tab g 0 a ++ z) (tab-add g a k (n - b))
-    ∙ (λ i. x i ++ (tab g a k ++ y i))
-
 -- ---- rows and pages changed, the rest as it was
 
 -- the bytes that say neither rows nor pages, for the capacity c

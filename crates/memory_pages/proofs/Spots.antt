@@ -3,7 +3,7 @@ use Rattle.basics.proofs.Kit.{_≡_, refl, sym, ap, _∙_, subst, ⊎-elim, Boo
 use Rattle.basics.proofs.Facts.{lie}
 use Rattle.basics.specs.Lists.{firstIndex}
 use Rattle.basics.proofs.Tabs.{lt-or-ge}
-use Rattle.memory_bytes.proofs.Found.{first-most, first-at, first-before}
+use Rattle.basics.proofs.Found.{first-most, first-at, first-before}
 use Rattle.memory_layout.specs.Views.{tableEnd}
 use Rattle.memory_layout.specs.Flat.{Flat, flatOf, entryIn, noEntry, Room}
 use Rattle.memory_layout.specs.Store.{startOf}
@@ -11,18 +11,7 @@ use Rattle.memory_layout.specs.declared.Entry.{Entry}
 use Rattle.memory_pages.specs.Pages.{TableFrom}
 use Rattle.memory_pages.specs.Spots.{tablePage, tableRow}
 use Rattle.memory_pages.proofs.Tables.{from-zero, from-end}
-
--- the first that passes is at r: none before it passes, and it does, if it is there
-first-is : {A : Type 0} (f : A → Bool) (d : A) (xs : List A) (r : ℕ) → r ≤ length xs → ((p : ℕ) → p < r → f (getD xs p d) ≡ false)
-    → (r < length xs → f (getD xs r d) ≡ true) → firstIndex f xs ≡ r
-first-is f d xs r h below here =
-    ⊎-elim
-    (λ a. lie (sym (below (firstIndex f xs) a) ∙ first-at f d xs (omega arith)))
-    (λ a. ⊎-elim
-    (λ b. lie (sym (first-before f d xs r b) ∙ here (omega (arith, first-most f d xs))))
-    (λ b. omega arith)
-    (lt-or-ge r (firstIndex f xs)))
-    (lt-or-ge (firstIndex f xs) r)
+use Rattle.basics.proofs.Found.{first-is}
 
 module _ {f : Flat} {t : ℕ} where
   -- what is found to be the first page of a table is

@@ -16,12 +16,7 @@ use Rattle.memory_rows.specs.Cells.{codeOf, Capacity, slotIn, slotAt, is
 use Rattle.memory_rows.specs.declared.Row.{Row}
 use Rattle.memory_rows.proofs.Moving.{cells-stay}
 use Rattle.memory_rows.proofs.Inserting.{slot-own, inserted}
-
--- behind all others
-pub insert-last : {A : Type 0} (n : ℕ) (x : A) (xs : List A) → n ≡ length xs → insertAt n x xs ≡ xs ++ x ∷ []
-insert-last n x xs e =
-    ap (λ (k : ℕ). insertAt k x xs) e ∙ ap (λ (z : List _). z ++ x ∷ drop (length xs) xs) (take-length xs)
-    ∙ ap (λ (z : List _). xs ++ x ∷ z) (drop-length xs)
+use Rattle.basics.proofs.Parts.{insert-last}
 
 -- no row is moved
 raised-none : (m : List ℕ) (c n : ℕ) → RowsRaised m m c n n

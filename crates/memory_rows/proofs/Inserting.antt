@@ -9,7 +9,7 @@ use Rattle.memory_bytes.specs.Columns.{equals}
 use Rattle.basics.specs.Lists.{tab, insertAt, removeAt}
 use Rattle.memory_bytes.proofs.Bytes.{le2-below, le4-below, le4-wrote}
 use Rattle.basics.proofs.Tabs.{lt-or-ge, length-tab, getD-tab, tab-insert, tab-remove}
-use Rattle.memory_bytes.proofs.Found.{any-none}
+use Rattle.basics.proofs.Found.{any-none}
 use Rattle.memory_layout.specs.Places.{keysAt, refsAt, statesAt, startsAt}
 use Rattle.block_forms.specs.Decode.{readOwner}
 use Rattle.memory_layout.specs.Views.{rowCount, lengthOf, slotOf, slotPlace, keyOf, refOf, stateOf, heldOf, rowAt}

@@ -5,17 +5,7 @@ use Rattle.basics.proofs.Facts.{AllOf, by, by-option}
 use Rattle.model.specs.State.{Store}
 use Rattle.model.specs.Checkpoint.{allocate, freeCount, isFree, usedToo}
 use Rattle.basics.proofs.Elements.{all-map, first-none, many-append, first-all, all-append, not-true, first-passes, eqb-self, or-right, eqb-true}
-
-from-append : (a j k : ℕ) → from a (j + k) ≡ from a j ++ from (a + j) k
-unfolding from
-from-append a zero k = let z : 0 + k ≡ k = omega arith in let y : a + 0 ≡ a = omega arith in rw (z, y)
-from-append a (suc j) k =
-    let z : suc j + k ≡ suc (j + k) = omega arith in let y : a + suc j ≡ suc a + j = omega arith in rw (z, y, from-append (suc a) j k)
-
-pub all-from : (a k : ℕ) → AllOf (λ b. (a ≤ b) × (b < a + k)) (from a k)
-unfolding from
-all-from a zero = tt
-all-from a (suc k) = ((omega arith, omega arith), all-map _ _ (λ b h. (omega arith, omega arith)) (from (suc a) k) (all-from (suc a) k))
+use Rattle.basics.proofs.Firsts.{from-append, all-from}
 
 -- a free block in range
 pub record Fresh (n : ℕ) (used : ℕ → Bool) (b : ℕ) : Type 0 where

@@ -19,13 +19,9 @@ use Rattle.model.proofs.Views.{put, recoverFrom, recoverView, AllSane}
 use Rattle.model.proofs.Recovery.{found, pages-store, refuses-holds, holds-eq}
 use Rattle.model.proofs.Start.{headed}
 use Rattle.basics.proofs.Elements.{eqb-self, eqb-true, le-true, leb-true, leb-false, lt-false, not-false}
+use Rattle.basics.proofs.Parts.{front}
 
 -- ---- a block of an image exchanged
-
-front : {A : Type 0} (p q : List A) (n k : ℕ) → n + k ≤ length p → take k (drop n (p ++ q)) ≡ take k (drop n p)
-front p q n k h =
-    let few : n ≤ length p = omega arith in
-    rw (drop-append-le n p q few) (take-append-le k (drop n p) q (rw (length-drop n p) (omega arith)))
 
 module _ (img xs : List ℕ) (b : ℕ) (fits : 512 * b + 512 ≤ length img) (block : length xs ≡ 512) where
   head : length (take (512 * b) img) ≡ 512 * b

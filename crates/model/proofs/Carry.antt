@@ -9,7 +9,8 @@ use Rattle.model.specs.Places.{PlaceOp, commitPlace, removePlace, carryO
 use Rattle.basics.proofs.Elements.{Pairs, pairs-parts, pairs-append, all-map, eqb-self, eqb-true}
 use Rattle.model.proofs.ByNumber.{remove, commit, Op, toCommit, toRemove, perform, placeIn}
 use Rattle.model.proofs.Rows.{entries, held-plain, asRow}
-use Rattle.model.proofs.Places.{numberOf, numbers, remove-place, commit-place, Less, removeAt-seam, remove-numbers, commit-numbers}
+use Rattle.model.proofs.Places.{numberOf, numbers, remove-place, commit-place, Less, remove-numbers, commit-numbers}
+use Rattle.basics.proofs.Parts.{removeAt-seam}
 
 -- operations in two parts
 pub carry-append : (n : ℕ) (a b : List PlaceOp) (ps : List Page) → carryOut n (a ++ b) ps ≡ carryOut n b (carryOut n a ps)

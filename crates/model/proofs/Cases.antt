@@ -10,7 +10,7 @@ use Rattle.model.specs.Transactions.{openNumbers}
 use Rattle.model.specs.WellFormed.{isBefore, heldOk, settledOk, frozenOk, pageWell, dirtyOr, ownerIn, openOk, WellFormed}
 use Rattle.model.specs.Cases.{cleanPage, clean, Cases, cases}
 use Rattle.basics.proofs.Elements.{eqb-true, in-all}
-use Rattle.model.proofs.Alloc.{all-from}
+use Rattle.basics.proofs.Firsts.{all-from}
 
 many-below : (b a n : ℕ) → b < a → howMany (λ p. eqb b (p .block)) (map cleanPage (from a n)) ≡ 0
 unfolding howMany from cleanPage if_then_else_

@@ -10,8 +10,10 @@ use Rattle.basics.specs.Lists.{removeAt}
 use Rattle.model.specs.Places.{LastStays, RemovedStays, committedTuple, CommittedRow}
 use Rattle.basics.proofs.Elements.{nonempty, le-true, lt-false}
 use Rattle.model.proofs.Rows.{withTable, entries, entries-append}
-use Rattle.model.proofs.Places.{tagged-page, tagged-entries, row-here, row-past, removeAt-suc, removeAt-left, removeAt-right, entriesAt, removedOn, committedOn, entries-removeRow}
+use Rattle.model.proofs.Places.{tagged-page, tagged-entries, row-here, row-past, entriesAt, removedOn, committedOn, entries-removeRow}
+use Rattle.basics.proofs.Parts.{removeAt-suc, removeAt-left, removeAt-right}
 use Rattle.model.proofs.Places.{entries-commitRow}
+use Rattle.basics.proofs.Parts.{remove-middle, set-middle, map-set, map-remove, removed-length}
 
 -- ---- the page of a row
 
@@ -79,33 +81,6 @@ tagged-on : (ps : List Page) (i k j : ℕ) (p : Page) → RowOn ps i k j p
 tagged-on ps i k j p o = ap tagged (sym (take-append-drop k ps) ∙ ap (λ z. take k ps ++ z) (o .page)) ∙ tagged-append (take k ps) (p ∷ drop (suc k) ps)
     ∙ (unfold tagged in refl)
 
-module _ {A : Type 0} where
-  set-right : (a b : List A) (j : ℕ) (x : A) → set (a ++ b) (length a + j) x ≡ a ++ set b j x
-  set-right [] b j x = let z : 0 + j ≡ j = omega arith in ap (λ n. set b n x) z
-  set-right (y ∷ a) b j x =
-      let z : suc (length a) + j ≡ suc (length a + j) = omega arith in
-      ap (λ n. set (y ∷ (a ++ b)) n x) z ∙ ap (λ l. y ∷ l) (set-right a b j x)
-
-  -- element j of the middle part
-  remove-middle : (a b c : List A) (j : ℕ) → j < length b → removeAt (length a + j) (a ++ (b ++ c)) ≡ a ++ (removeAt j b ++ c)
-  remove-middle a b c j h =
-      let z : length a + j - length a ≡ j = omega arith in
-      removeAt-right (length a + j) a (b ++ c) (omega arith) ∙ ap (λ n. a ++ removeAt n (b ++ c)) z ∙ ap (λ l. a ++ l) (removeAt-left j b c h)
-
-  set-middle : (a b c : List A) (j : ℕ) (x : A) → j < length b → set (a ++ (b ++ c)) (length a + j) x ≡ a ++ (set b j x ++ c)
-  set-middle a b c j x h = set-right a (b ++ c) j x ∙ ap (λ l. a ++ l) (set-append-left b c j x h)
-
-map-set : {A B : Type 0} (f : A → B) (xs : List A) (j : ℕ) (x : A) → map f (set xs j x) ≡ set (map f xs) j (f x)
-map-set f [] j x = refl
-map-set f (y ∷ ys) zero x = refl
-map-set f (y ∷ ys) (suc j) x = ap (λ l. f y ∷ l) (map-set f ys j x)
-
-map-remove : {A B : Type 0} (f : A → B) (xs : List A) (j : ℕ) → j < length xs → map f (removeAt j xs) ≡ removeAt j (map f xs)
-map-remove f [] j h = absurd (omega arith)
-map-remove f (y ∷ ys) zero h = refl
-map-remove f (y ∷ ys) (suc j) h =
-    ap (map f) (removeAt-suc j y ys) ∙ ap (λ l. f y ∷ l) (map-remove f ys j (omega arith)) ∙ sym (removeAt-suc j (f y) (map f ys))
-
 -- ---- one tuple of a page
 
 module _ (g : Held → List Held) (d : Held) where
@@ -120,11 +95,6 @@ module _ (g : Held → List Held) (d : Held) where
   edit-one x [] j e = refl
   edit-one x (y ∷ ys) zero e = ap (λ z. z ++ ys) e
   edit-one x (y ∷ ys) (suc j) e = ap (λ z. y ∷ z) (edit-one x ys j e)
-
-removed-length : {A : Type 0} (xs : List A) (j : ℕ) → j < length xs → suc (length (removeAt j xs)) ≡ length xs
-removed-length [] j h = absurd (omega arith)
-removed-length (x ∷ xs) zero h = refl
-removed-length (x ∷ xs) (suc j) h = let r = removed-length xs j (omega arith) in let e = ap length (removeAt-suc j x xs) in omega arith
 
 pub taken-is : (j : ℕ) (hs left : List Held) → editAt pendRemove j hs ≡ left → 0 < length left → pendRemoveAt j hs ≡ left
 unfolding pendRemoveAt if_then_else_

@@ -11,6 +11,7 @@ use Rattle.basics.specs.Lists.{removeAt}
 use Rattle.basics.proofs.Elements.{le-true, lt-false, leb-true, leb-false}
 use Rattle.model.proofs.ByNumber.{isNumber, hasNumber, remove, commit, removeOn, commitOn, placeIn, numbersOn, removeOn-place, commitOn-place}
 use Rattle.model.proofs.Rows.{Entry, withTable, entries, entries-append, entries-settle, entries-page}
+use Rattle.basics.proofs.Parts.{removeAt-suc, removeAt-left, removeAt-right}
 
 -- ---- all tuples, with their tables
 
@@ -95,26 +96,6 @@ unfolding commit commitRow
 commit-place n ps = around-place n (commitOn n) commitRowOn (commitOn-place n) none ps
 
 -- ---- all tuples after an operation by place
-
-module _ {A : Type 0} where
-  pub removeAt-suc : (i : ℕ) (x : A) (xs : List A) → removeAt (suc i) (x ∷ xs) ≡ x ∷ removeAt i xs
-  removeAt-suc i x xs = let z : suc i + 1 ≡ suc (i + 1) = omega arith in ap (λ k. x ∷ (take i xs ++ drop k (x ∷ xs))) z
-
-  pub removeAt-left : (i : ℕ) (a b : List A) → i < length a → removeAt i (a ++ b) ≡ removeAt i a ++ b
-  removeAt-left i a b h =
-      let l : i + 1 ≤ length a = omega arith in
-      rw (take-append-le i a b (omega arith), drop-append-le (i + 1) a b l) (sym (append-assoc (take i a) (drop (i + 1) a) b))
-
-  pub removeAt-right : (i : ℕ) (a b : List A) → length a ≤ i → removeAt i (a ++ b) ≡ a ++ removeAt (i - length a) b
-  removeAt-right i a b h =
-      let k = i - length a in
-      let e : i ≡ length a + k = omega arith in
-      let d : length a + k + 1 ≡ length a + (k + 1) = omega arith in
-      ap (λ z. removeAt z (a ++ b)) e ∙ ap (λ z. take (length a + k) (a ++ b) ++ drop z (a ++ b)) d
-      ∙ rw (take-append-add a b k, drop-append-add a b (k + 1)) (append-assoc a (take k b) (drop (k + 1) b))
-
-  pub removeAt-seam : (a : List A) (x : A) (b : List A) → removeAt (length a) (a ++ x ∷ b) ≡ a ++ b
-  removeAt-seam a x b = rw (take-append-seam a (x ∷ b), drop-append-add a (x ∷ b) 1)
 
 -- a is b, or b without element i
 abbrev pub Less : {A : Type 0} → ℕ → List A → List A → Type 0

@@ -24,6 +24,7 @@ use Rattle.model.proofs.Valid.{Valid, Counted}
 use Rattle.model.proofs.ByPlace.{commit-carried, abort-carried}
 use Rattle.model.proofs.Keeps.{rows-sub, step-valid}
 use Rattle.model.proofs.Whole.{Fitting}
+use Rattle.basics.proofs.Lists.{some-one}
 
 since-fits : {a b : Owner} → Since a b → OwnerFits b → OwnerFits a
 since-fits still h = h
@@ -108,10 +109,6 @@ pub page-rows : (P : Row → Type 0) (t : ℕ) (ts : List Tuple) (rest : List Ro
 unfolding rowsOf
 page-rows P t [] rest a = (tt, a)
 page-rows P t (x ∷ xs) rest a = let r = page-rows P t xs rest (a .1) in ((a .0, r .0), r .1)
-
-pub some-one : {A : Type 0} (Q : Type 0) (P : A → Type 0) (xs : List A) → 0 < length xs → AllOf P xs → ((x : A) → P x → Q) → Q
-some-one Q P [] l a f = absurd (omega arith)
-some-one Q P (x ∷ xs) l a f = f x (a .0)
 
 pages-fit : (ps : List Page) → AllOf PageOk ps → AllOf (λ r. (r .0 ≤ 7) × Fits (r .1)) (held ps)
     → AllOf (λ p. p .frozen ≡ true → (p .table < 8) × AllFit (shown (p .tuples)) × (sizes (shown (p .tuples)) ≤ recordSpace)) ps

@@ -27,6 +27,7 @@ use Rattle.model.proofs.BlockUse.{Booked, test-other, BlockUse, Running
 use Rattle.model.proofs.Recovery.{Found, read-blocks}
 use Rattle.model.proofs.Stored.{Dirs, put-other, Stored, stored-fill, put-same, stored-put, dirs-snoc, dirs-put, end, todo, stands, stored-read, dirs-read, stored-written}
 use Rattle.model.proofs.Inv.{Inv, Good, Tied, clean-pos, Run, good-put, good-more, named-fill, tied-fresh, tied-frozen, listed, listed-read, listed-held, Named}
+use Rattle.basics.proofs.Members.{zero-not-in}
 
 -- what the frozen pages show can be written
 abbrev pub FrozenFit : Store → Type 0
@@ -170,11 +171,6 @@ directory-step n img s b b₀ n₀ es ds bk r inv run e lt =
     }))
 
 -- ---- the header
-
-zero-not-in : (ds : List ℕ) → AllOf (λ d. 0 < d) ds → isIn 0 ds ≡ false
-unfolding isIn any
-zero-not-in [] p = refl
-zero-not-in (d ∷ ds) p = by (eqb 0 d) (λ h. let z = eqb-true 0 d h in let q = p .0 in absurd (omega arith)) (λ h. rw (h, any) (zero-not-in ds (p .1)))
 
 blocks-ok : (n : ℕ) (ds : List ℕ) → AllOf (λ d. (0 < d) × (d < n)) ds → all (blockOk n) ds ≡ true
 unfolding blockOk

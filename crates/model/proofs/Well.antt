@@ -27,7 +27,8 @@ use Rattle.model.proofs.Tests.{lower-before, before-trans, differ-disti
 use Rattle.model.proofs.Whole.{Fitting, few-pages, owner-size, rows-tests, tested-live}
 use Rattle.model.proofs.WriteCounts.{keeps-count}
 use Rattle.model.proofs.Listed.{Listed, keeps-listed}
-use Rattle.model.proofs.Range.{keeps-fits, page-rows, some-one}
+use Rattle.model.proofs.Range.{keeps-fits, page-rows}
+use Rattle.basics.proofs.Lists.{some-one}
 
 pub record Sound (s : Store) : Type 0 where
   pub valid : Valid s

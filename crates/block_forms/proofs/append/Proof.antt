@@ -2,7 +2,8 @@
 use Rattle.basics.proofs.Kit.{_≡_, List, ℕ, length, needs, arith}
 use Rattle.basics.specs.Basics.{if_then_else_}
 use Rattle.block_forms.specs.Bytes.{payloadIn}
-use Rattle.block_forms.proofs.Stores.{appended-tentative, appended-committed, size-tentative, size-committed, size-nine, length-part}
+use Rattle.block_forms.proofs.Stores.{appended-tentative, appended-committed, size-tentative, size-committed, size-nine}
+use Rattle.basics.proofs.Overs.{length-part}
 use Rattle.block_forms.proofs.Built.{appends}
 use Rattle.block_forms.proofs.append.Statement.{statement}
 use Rattle.block_forms.proofs.append.Tie as tie

@@ -2,7 +2,7 @@
 use Rattle.basics.proofs.Kit.{_≡_, refl, sym, _∙_, _≤_, _-_, length, take, drop, length-set, arith}
 use Rattle.basics.specs.Lists.{over}
 use Rattle.basics.proofs.Overs.{over-nil}
-use Rattle.block_forms.proofs.Stores.{copy-turn}
+use Rattle.basics.proofs.Overs.{copy-turn}
 use Rattle.block_forms.proofs.copy.Statement.{statement}
 use Rattle.block_forms.proofs.copy.Tie as tie
 

@@ -1,6 +1,6 @@
 -- `block_forms::copy_out` meets its contract: what is copied is as long as what is lent (`copied-whole`).
 use Rattle.basics.proofs.Kit.{needs, arith}
-use Rattle.block_forms.proofs.Stores.{copied-whole}
+use Rattle.basics.proofs.Overs.{copied-whole}
 use Rattle.block_forms.proofs.copy_out.Statement.{statement}
 use Rattle.block_forms.proofs.copy_out.Tie as tie
 

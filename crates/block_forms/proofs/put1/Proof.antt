@@ -1,6 +1,6 @@
 -- `block_forms::put1` meets its contract: one byte set is one byte put over (`set-over`).
 use Rattle.basics.proofs.Kit.{needs, arith}
-use Rattle.block_forms.proofs.Stores.{set-over}
+use Rattle.basics.proofs.Overs.{set-over}
 use Rattle.block_forms.proofs.put1.Statement.{statement}
 use Rattle.block_forms.proofs.put1.Tie as tie
 

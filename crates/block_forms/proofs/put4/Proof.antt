@@ -1,7 +1,7 @@
 -- `block_forms::put4` meets its contract: four bytes set in turn are the number's four bytes put over (`put-four`).
 use Rattle.basics.proofs.Kit.{length-set, needs, arith}
 use Rattle.block_forms.specs.Numbers.{be4}
-use Rattle.block_forms.proofs.Stores.{put-four}
+use Rattle.basics.proofs.Overs.{put-four}
 use Rattle.block_forms.proofs.put4.Statement.{statement}
 use Rattle.block_forms.proofs.put4.Tie as tie
 

@@ -1,6 +1,6 @@
 -- `engine_writer::named_from` meets its contract. The invariant: the first i numbers are those from entry `first` on.
 use Rattle.engine_writer.proofs.Headers.{named-few}
-use Rattle.engine_writer.proofs.Numbered.{entries-turn}
+use Rattle.basics.proofs.Parts.{entries-turn}
 use Rattle.memory_layout.specs.Flat.{flatOf}
 use Rattle.block_forms.specs.Limits.{entriesPerBlock}
 use Rattle.basics.proofs.Kit.{_≡_, refl, _≤_, _-_, length, take, drop, length-set, arith}

@@ -1,6 +1,6 @@
 -- `image::put_entries` meets its contract. The invariant: out is as at entry but for the first i entries, which are put from the place on.
 use Rattle.basics.proofs.Kit.{_≡_, refl, sym, ap, _∙_, List, ℕ, _+_, _≤_, _-_, length, take, set, length-set, arith}
-use Rattle.image.proofs.Named.{put-turn}
+use Rattle.basics.proofs.Overs.{put-turn}
 use Rattle.basics.proofs.Overs.{over-nil}
 use Rattle.basics.specs.Lists.{over}
 use Rattle.image.proofs.put_entries.Statement.{statement}

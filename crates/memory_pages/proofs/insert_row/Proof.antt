@@ -4,7 +4,7 @@ use Rattle.memory_rows.specs.Rows.{heldBy}
 use Rattle.memory_layout.specs.Flat.{flatOf}
 use Rattle.memory_layout.proofs.Laws.{entries-length, rows-length}
 use Rattle.memory_pages.proofs.Moves.{row-inserted}
-use Rattle.memory_layout.proofs.Exchange.{length-insert}
+use Rattle.basics.proofs.Parts.{length-insert}
 use Rattle.memory_pages.proofs.Ranges.{ranges, head-capacity}
 use Rattle.memory_pages.proofs.insert_row.Statement.{statement}
 use Rattle.memory_pages.proofs.insert_row.Tie as tie

@@ -2,7 +2,8 @@
 use Rattle.basics.proofs.Kit.{needs, arith}
 use Rattle.memory_layout.specs.Flat.{flatOf}
 use Rattle.memory_layout.proofs.Laws.{entries-length, rows-length}
-use Rattle.memory_pages.proofs.Moves.{length-remove, row-removed}
+use Rattle.memory_pages.proofs.Moves.{row-removed}
+use Rattle.basics.proofs.Parts.{length-remove}
 use Rattle.memory_pages.proofs.Ranges.{ranges}
 use Rattle.memory_pages.proofs.remove_row.Statement.{statement}
 use Rattle.memory_pages.proofs.remove_row.Tie as tie
@@ -21,7 +22,7 @@ returns c = let c2 = c .before .before in let c6 = c2 .before .before .before .b
     let st = c10 .before .before .before in let m = st .args .m .now in let may = st .pre .1 in
     row-removed (st .pre .0) (omega (arith, entries-length m, may .place)) (c6 .remove-row .ensures)
     (c10 .starts .ensures) (c8 .page-count .ensures) (c2 .add2 .ensures) (omega arith)
-    (omega (arith, length-remove (st .args .i) (flatOf m .rows) (may .row), rows-length m)) (may .rows)
+    (omega (arith, length-remove (st .args .i) (flatOf m .rows) (may .row), may .row, rows-length m)) (may .rows)
 
 pub remove-row-spec : {M : Type 1} → statement M
 remove-row-spec = tie.close (tie.spec (λ c κs. search needs) (λ c κs. search needs) (λ c κs. search needs) add-add2 add2-requires (search needs) returns)

@@ -1,9 +1,12 @@
 -- What is known of the element that a search finds, and of those that it passes.
 use Rattle.basics.proofs.Kit.{_≡_, sym, ap, _∙_, Bool, true, false, cond, List, [], _∷_, ℕ, suc, _≤_, _<_, zero, zero-le, suc-le-suc, le-of-suc-le-suc, not-suc-le-zero, length, getD, arith}
 use Rattle.basics.specs.Basics.{any}
 use Rattle.basics.proofs.Facts.{by}
 use Rattle.basics.specs.Lists.{firstIndex, lastIndex}
 use Rattle.basics.proofs.Searches.{any-cons, or-split}
+use Rattle.basics.proofs.Kit.{⊎-elim, _-_}
+use Rattle.basics.proofs.Tabs.{lt-or-ge}
+use Rattle.basics.proofs.Facts.{lie}
 
 module _ {A : Type 0} (f : A → Bool) (d : A) where
   -- where none passes, element k does not
@@ -66,3 +69,29 @@ module _ {A : Type 0} (f : A → Bool) (d : A) where
       step zero q (suc j) p l = q j (omega arith) (le-of-suc-le-suc l)
       step (suc r) q zero p l = absurd (not-suc-le-zero p)
       step (suc r) q (suc j) p l = q j (omega arith) (le-of-suc-le-suc l)
+
+-- the first that passes is at r: none before it passes, and it does, if it is there
+pub first-is : {A : Type 0} (f : A → Bool) (d : A) (xs : List A) (r : ℕ) → r ≤ length xs → ((p : ℕ) → p < r → f (getD xs p d) ≡ false)
+    → (r < length xs → f (getD xs r d) ≡ true) → firstIndex f xs ≡ r
+first-is f d xs r h below here =
+    ⊎-elim
+    (λ a. lie (sym (below (firstIndex f xs) a) ∙ first-at f d xs (omega arith)))
+    (λ a. ⊎-elim
+    (λ b. lie (sym (first-before f d xs r b) ∙ here (omega (arith, first-most f d xs))))
+    (λ b. omega arith)
+    (lt-or-ge r (firstIndex f xs)))
+    (lt-or-ge (firstIndex f xs) r)
+
+-- the last that passes is before n: it does, if it is there, and none from n on does
+pub last-is : {A : Type 0} (f : A → Bool) (d : A) (xs : List A) (n : ℕ) → n ≤ length xs → (0 < n → f (getD xs (n - 1) d) ≡ true)
+    → ((i : ℕ) → n ≤ i → i < length xs → f (getD xs i d) ≡ false) → lastIndex f xs ≡ n
+last-is f d xs n l here behind =
+    ⊎-elim
+    (λ a. lie (sym (last-behind f d xs (n - 1) (omega arith) (omega arith)) ∙ here (omega arith)))
+    (λ a. ⊎-elim
+    (λ b. let k : ℕ = lastIndex f xs - 1 in
+    let e : lastIndex f xs ≡ suc k = omega arith in
+    lie (sym (behind k (omega arith) (omega (arith, last-most f d xs))) ∙ last-at f d xs k e))
+    (λ b. omega arith)
+    (lt-or-ge n (lastIndex f xs)))
+    (lt-or-ge (lastIndex f xs) n)
