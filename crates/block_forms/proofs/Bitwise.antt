@@ -1,7 +1,7 @@
 -- The byte forms of a record and of a page's head are their fields, most significant bit first; so a page's block is known byte by byte.
 use Rattle.basics.proofs.Kit.{_≡_, refl, sym, ap, _∙_, Bool, true, false, List, [], _∷_, _++_, append-assoc, append-nil, ℕ, _+_, _*_, _%_, _≤_, _<_, _/_, _-_, length}
 use Rattle.basics.proofs.Kit.{length-append, arith}
-use Rattle.block_forms.specs.Limits.{recordSpace, markValue, committedValue, statementLimit}
+use Rattle.block_forms.specs.Limits.{recordSpace, markValue, committedValue, statementLimit, blockBits, blockSize}
 use Rattle.basics.proofs.Elements.{all-append}
 use Rattle.block_bits.specs.Bits.{bitsOf, bitsIn}
 use Rattle.block_bits.proofs.Numbers.{bitsOf-add, bitsOf-mod, bitsOf-digits}
@@ -136,7 +136,7 @@ module _ (t l : ℕ) (ts : List Tuple) (fit : PageFits t l ts) where
       let R = spell (recordsFields ts) in
       let lR : length (spell (recordsFields ts)) ≡ 8 * sizes ts = ap length (sym (records-bits ts (fit .tuples))) ∙ length-bitsIn (records ts) ∙ ap (λ (m : ℕ). 8 * m) (length-records ts) in
       let lH : length (bitsIn (pageHead t (length ts) (sizes ts) l)) ≡ 64 = length-bitsIn H ∙ ap (λ (m : ℕ). 8 * m) (length-head t (length ts) (sizes ts) l) in
-      let z : 8 * (recordSpace - sizes ts) ≡ 4096 - (64 + 8 * sizes ts) = omega arith in
+      let z : 8 * (recordSpace - sizes ts) ≡ blockBits - (64 + 8 * sizes ts) = omega arith in
       rw (
         bitsIn-append H (records ts ++ zeros k),
         bitsIn-append (records ts) (zeros k),
@@ -148,14 +148,14 @@ module _ (t l : ℕ) (ts : List Tuple) (fit : PageFits t l ts) where
         lR,
         z,
       )
-      (sym (append-assoc (bitsIn H) R (zeros (4096 - (64 + 8 * sizes ts)))))
+      (sym (append-assoc (bitsIn H) R (zeros (blockBits - (64 + 8 * sizes ts)))))
 
   -- a page's block, byte by byte
   pub page-bytes : encodeBlock (page t l ts) ≡ pageHead t (length ts) (sizes ts) l ++ body ts
   unfolding encodeBlock
   page-bytes =
       let H = pageHead t (length ts) (sizes ts) l in
-      let k : length (pageHead t (length ts) (sizes ts) l ++ body ts) ≡ 512 = rw (length-append H (body ts), length-head t (length ts) (sizes ts) l, length-body ts (fit .room)) in
+      let k : length (pageHead t (length ts) (sizes ts) l ++ body ts) ≡ blockSize = rw (length-append H (body ts), length-head t (length ts) (sizes ts) l, length-body ts (fit .room)) in
       let b : AllBytes (pageHead t (length ts) (sizes ts) l ++ body ts) =
       all-append Byte H (body ts) (head-bytes t (length ts) (sizes ts) l)
       (all-append Byte (records ts) (zeros (recordSpace - sizes ts)) (records-bytes ts (fit .tuples)) (bytes-zeros (recordSpace - sizes ts))) in

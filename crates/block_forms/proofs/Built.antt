@@ -3,7 +3,7 @@ use Rattle.basics.proofs.Kit.{_≡_, sym, ap, _∙_, List, [], _∷_, _++_, app
 use Rattle.basics.specs.Basics.{sum}
 use Rattle.basics.specs.Lists.{over}
 use Rattle.basics.proofs.Overs.{over-middle}
-use Rattle.block_forms.specs.Limits.{recordSpace}
+use Rattle.block_forms.specs.Limits.{recordSpace, blockSize}
 use Rattle.block_forms.specs.Tuple.{Tuple, size, sizes}
 use Rattle.block_forms.specs.Spell.{zeros}
 use Rattle.block_forms.specs.Bytes.{payloadIn, sizeOf, recordBytes, records, tupleOf, Appendable, pageHead, partPage, behind, Appended}
@@ -16,16 +16,16 @@ use Rattle.block_forms.proofs.Bitwise.{body, length-body, length-head, 
 
 module _ (t l n b : ℕ) where
   -- a head in a block of zeros
-  pub part-start : over (zeros 512) 0 (pageHead t n b l) ≡ partPage t l n b []
+  pub part-start : over (zeros blockSize) 0 (pageHead t n b l) ≡ partPage t l n b []
   unfolding partPage records sum
   part-start = over-middle [] (zeros 8) (zeros recordSpace) (pageHead t n b l) (length-head t n b l)
 
-  pub part-length : (ts : List Tuple) → sizes ts ≤ recordSpace → length (partPage t l n b ts) ≡ 512
+  pub part-length : (ts : List Tuple) → sizes ts ≤ recordSpace → length (partPage t l n b ts) ≡ blockSize
   unfolding partPage
   part-length ts h = rw (length-append (pageHead t n b l) (body ts), length-head t n b l, length-body ts h)
 
   -- one record more
-  pub part-more : (ts : List Tuple) (x : Tuple) (at : ℕ) → at ≡ behind ts → at + size x ≤ 512 → over (partPage t l n b ts) at (recordBytes x) ≡ partPage t l n b (ts ++ (x ∷ []))
+  pub part-more : (ts : List Tuple) (x : Tuple) (at : ℕ) → at ≡ behind ts → at + size x ≤ blockSize → over (partPage t l n b ts) at (recordBytes x) ≡ partPage t l n b (ts ++ (x ∷ []))
   unfolding partPage
   part-more ts x at pl h =
       let R = recordBytes x in

@@ -1,7 +1,7 @@
 -- A directory is filled from the front.
 use Rattle.basics.proofs.Kit.{_≡_, refl, sym, ap, _∙_, List, [], _∷_, _++_, append-assoc, append-nil, ℕ, _+_, _*_, _≤_, _<_, add-one, length, take, getD, length-append, length-take}
 use Rattle.basics.proofs.Kit.{take-suc, arith}
-use Rattle.block_forms.specs.Limits.{entriesPerBlock}
+use Rattle.block_forms.specs.Limits.{entriesPerBlock, blockSize}
 use Rattle.block_bits.specs.Bits.{bitsOf, bitsIn}
 use Rattle.basics.specs.Lists.{over}
 use Rattle.block_bits.proofs.Numbers.{length-bitsOf}
@@ -17,7 +17,7 @@ headFields l n = (4, 3) ∷ (9, n) ∷ (32, l) ∷ (19, 0) ∷ []
 unfoldable pub dirBits : ℕ → ℕ → List ℕ → List ℕ
 dirBits l n es = spell (headFields l n) ++ spell (entryFields es)
 
-dir-whole : (l : ℕ) (es s : List ℕ) → length s ≡ 512 → ((i : ℕ) → getD s i 0 < 256) → bitsIn s ≡ padded (dirBits l (length es) es) → s ≡ encodeBlock (directory l es)
+dir-whole : (l : ℕ) (es s : List ℕ) → length s ≡ blockSize → ((i : ℕ) → getD s i 0 < 256) → bitsIn s ≡ padded (dirBits l (length es) es) → s ≡ encodeBlock (directory l es)
 unfolding dirBits encodeBlock
 dir-whole l es s k b e =
     let a : spell (directoryFields l es) ≡ spell (headFields l (length es)) ++ spell (entryFields es) = spell-append (headFields l (length es)) (entryFields es) in
@@ -39,11 +39,11 @@ length-dir l n es =
     rw (length-append (spell (headFields l n)) (spell (entryFields es)), length-entries es, length-spell (headFields l n))
 
 -- the head, field by field
-head-put : (l n : ℕ) (b : List ℕ) → b ≡ bitsIn (zeros 512) → over (over (over (over b 0 (bitsOf 4 3)) 4 (bitsOf 9 n)) 13 (bitsOf 32 l)) 45 (bitsOf 19 0) ≡ padded (dirBits l n [])
+head-put : (l n : ℕ) (b : List ℕ) → b ≡ bitsIn (zeros blockSize) → over (over (over (over b 0 (bitsOf 4 3)) 4 (bitsOf 9 n)) 13 (bitsOf 32 l)) 45 (bitsOf 19 0) ≡ padded (dirBits l n [])
 unfolding dirBits entryFields spell
 head-put l n b e = rw (e, empty-block) (put-fields (headFields l n) [] 0 refl (omega arith) ∙ ap padded (sym (append-nil (spell (headFields l n)))))
 
-pub head-filled : (l n : ℕ) {b b₁ b₂ b₃ b₄ : List ℕ} → b ≡ bitsIn (zeros 512) → b₁ ≡ over b 0 (bitsOf 4 3) → b₂ ≡ over b₁ 4 (bitsOf 9 n)
+pub head-filled : (l n : ℕ) {b b₁ b₂ b₃ b₄ : List ℕ} → b ≡ bitsIn (zeros blockSize) → b₁ ≡ over b 0 (bitsOf 4 3) → b₂ ≡ over b₁ 4 (bitsOf 9 n)
     → b₃ ≡ over b₂ 13 (bitsOf 32 l) → b₄ ≡ over b₃ 45 (bitsOf 19 0) → b₄ ≡ padded (dirBits l n [])
 head-filled l n {b} e kind count level rest = rest ∙ rw (level, count, kind) (head-put l n b e)
 
@@ -66,7 +66,7 @@ pub entry-filled : (l n : ℕ) (es : List ℕ) (i : ℕ) {b b₁ : List ℕ} {v 
     → b₁ ≡ over b (64 + 12 * i) (bitsOf 12 v) → b₁ ≡ padded (dirBits l n (take (i + 1) es))
 entry-filled l n es i h k front entry put = put ∙ rw (front, entry) (entry-put l n es i h k)
 
-pub dir-done : (l n : ℕ) (es s : List ℕ) → n ≤ length es → length s ≡ 512 → ((i : ℕ) → getD s i 0 < 256)
+pub dir-done : (l n : ℕ) (es s : List ℕ) → n ≤ length es → length s ≡ blockSize → ((i : ℕ) → getD s i 0 < 256)
     → bitsIn s ≡ padded (dirBits l n (take n es)) → s ≡ encodeBlock (directory l (take n es))
 dir-done l n es s h k b e =
     let t : length (take n es) ≡ n = simp length-take (omega arith) in

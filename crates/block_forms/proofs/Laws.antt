@@ -5,7 +5,7 @@ use Rattle.basics.proofs.Kit.{le-leb, leb-true, arith}
 use Rattle.basics.proofs.Facts.{by, by-option, never, clash}
 use Rattle.basics.proofs.Elements.{some-eq, all-drop}
 use Rattle.basics.specs.Basics.{if_then_else_}
-use Rattle.block_forms.specs.Limits.{pageHeadSize, recordSpace, entriesPerBlock}
+use Rattle.block_forms.specs.Limits.{pageHeadSize, recordSpace, entriesPerBlock, blockSize}
 use Rattle.block_bits.specs.Bits.{bitsIn, field}
 use Rattle.block_bits.specs.Fields.{getAll, widths, values, total, Fit}
 use Rattle.block_bits.proofs.Blocks.{bitsIn-append, field-lt}
@@ -29,7 +29,7 @@ use Rattle.block_forms.proofs.ReadBack.{read-records}
 
 -- ---- length and bytes
 
-pub encode-length : (b : Block) → length (encodeBlock b) ≡ 512
+pub encode-length : (b : Block) → length (encodeBlock b) ≡ blockSize
 unfolding encodeBlock
 encode-length b = length-block (blockFields b)
 
@@ -238,7 +238,7 @@ read-page xs g =
     let b = page (pageTable xs) (pageLevel xs) ts in
     let fits : encodeBlock b ≡ xs → PageFits (pageTable xs) (pageLevel xs) ts = λ q.
     let bytes : AllBytes xs = rw q at (encode-bytes b) in
-    let k : length xs ≡ 512 = rw q at (encode-length b) in
+    let k : length xs ≡ blockSize = rw q at (encode-length b) in
     let d : length (drop pageHeadSize xs) ≡ recordSpace = rw (length-drop pageHeadSize xs, k) in
     record {
       table = field-lt xs 4 3;

@@ -12,6 +12,7 @@ use Rattle.block_bits.proofs.Numbers.{length-bitsOf, number-bitsOf, Bit, Bits, 
 use Rattle.basics.proofs.Overs.{over-middle}
 use Rattle.block_forms.specs.Tuple.{Byte, AllBytes}
 use Rattle.block_forms.specs.Spell.{zeros, spell, bytesOf, padded, blockOf}
+use Rattle.block_forms.specs.Limits.{blockBits, blockSize}
 
 -- ---- bytes
 
@@ -98,49 +99,49 @@ get-spelled (f ∷ fs) p q fit =
     let r : getAll (p ++ (X ++ (S ++ q))) (length p + f .0) (widths fs) ≡ values fs = rw (b, ← l) (get-spelled fs (p ++ X) q (fit .1)) in
     rw a (λ i. v i ∷ r i)
 
-pub length-filled : (d : List ℕ) → length d ≤ 4096 → length (padded d) ≡ 4096
+pub length-filled : (d : List ℕ) → length d ≤ blockBits → length (padded d) ≡ blockBits
 unfolding padded
-length-filled d h = rw (length-append d (zeros (4096 - length d)), length-zeros (4096 - length d)) (omega arith)
+length-filled d h = rw (length-append d (zeros (blockBits - length d)), length-zeros (blockBits - length d)) (omega arith)
 
 filled-bits : (fs : List (ℕ × ℕ)) → Bits (padded (spell fs))
 unfolding padded
-filled-bits fs = all-append Bit (spell fs) (zeros (4096 - length (spell fs))) (spell-bits fs) (zero-bits (4096 - length (spell fs)))
+filled-bits fs = all-append Bit (spell fs) (zeros (blockBits - length (spell fs))) (spell-bits fs) (zero-bits (blockBits - length (spell fs)))
 
-pub length-block : (fs : List (ℕ × ℕ)) → length (blockOf fs) ≡ 512
+pub length-block : (fs : List (ℕ × ℕ)) → length (blockOf fs) ≡ blockSize
 unfolding blockOf
-length-block fs = length-bytesOf 512 (padded (spell fs))
+length-block fs = length-bytesOf blockSize (padded (spell fs))
 
 pub block-bytes : (fs : List (ℕ × ℕ)) → AllBytes (blockOf fs)
 unfolding blockOf
-block-bytes fs = bytes-of-bits 512 (padded (spell fs)) (filled-bits fs)
+block-bytes fs = bytes-of-bits blockSize (padded (spell fs)) (filled-bits fs)
 
 -- bytes with the bits of a block of fields are that block
-pub block-is : (fs : List (ℕ × ℕ)) (s : List ℕ) → length s ≡ 512 → AllBytes s → bitsIn s ≡ padded (spell fs) → s ≡ blockOf fs
+pub block-is : (fs : List (ℕ × ℕ)) (s : List ℕ) → length s ≡ blockSize → AllBytes s → bitsIn s ≡ padded (spell fs) → s ≡ blockOf fs
 unfolding blockOf
 block-is fs s k b e = sym (bytes-bits s b) ∙ rw (k, e)
 
-pub filled-spell : (fs : List (ℕ × ℕ)) → total fs ≤ 4096 → bitsIn (blockOf fs) ≡ padded (spell fs)
+pub filled-spell : (fs : List (ℕ × ℕ)) → total fs ≤ blockBits → bitsIn (blockOf fs) ≡ padded (spell fs)
 unfolding blockOf
 filled-spell fs h =
-    let l : length (spell fs) ≤ 4096 = rw (length-spell fs) h in
-    bits-bytes 512 (padded (spell fs)) (length-filled (spell fs) l) (filled-bits fs)
+    let l : length (spell fs) ≤ blockBits = rw (length-spell fs) h in
+    bits-bytes blockSize (padded (spell fs)) (length-filled (spell fs) l) (filled-bits fs)
 
 -- what is spelled is read back, at every width
-pub block-fields : (fs : List (ℕ × ℕ)) → total fs ≤ 4096 → Fit fs → getAll (bitsIn (blockOf fs)) 0 (widths fs) ≡ values fs
+pub block-fields : (fs : List (ℕ × ℕ)) → total fs ≤ blockBits → Fit fs → getAll (bitsIn (blockOf fs)) 0 (widths fs) ≡ values fs
 unfolding padded
-block-fields fs h fit = rw (filled-spell fs h) (get-spelled fs [] (zeros (4096 - length (spell fs))) fit)
+block-fields fs h fit = rw (filled-spell fs h) (get-spelled fs [] (zeros (blockBits - length (spell fs))) fit)
 
-split-room : (a b : ℕ) → a + b ≤ 4096 → 4096 - a ≡ b + (4096 - (a + b))
+split-room : (a b : ℕ) → a + b ≤ blockBits → blockBits - a ≡ b + (blockBits - (a + b))
 split-room a b h = omega arith
 
 -- one field more
-pub put-next : (d x : List ℕ) → length d + length x ≤ 4096 → over (padded d) (length d) x ≡ padded (d ++ x)
+pub put-next : (d x : List ℕ) → length d + length x ≤ blockBits → over (padded d) (length d) x ≡ padded (d ++ x)
 unfolding padded
 put-next d x h =
-    let k = 4096 - length d in
-    let e : zeros (4096 - length d) ≡ zeros (length x) ++ zeros (4096 - (length d + length x)) =
-    ap zeros (split-room (length d) (length x) h) ∙ sym (zeros-add (length x) (4096 - (length d + length x))) in
-    rw (e, over-middle d (zeros (length x)) (zeros (4096 - (length d + length x))) x (sym (length-zeros (length x))), length-append d x) (sym (append-assoc d x (zeros (4096 - (length d + length x)))))
+    let k = blockBits - length d in
+    let e : zeros (blockBits - length d) ≡ zeros (length x) ++ zeros (blockBits - (length d + length x)) =
+    ap zeros (split-room (length d) (length x) h) ∙ sym (zeros-add (length x) (blockBits - (length d + length x))) in
+    rw (e, over-middle d (zeros (length x)) (zeros (blockBits - (length d + length x))) x (sym (length-zeros (length x))), length-append d x) (sym (append-assoc d x (zeros (blockBits - (length d + length x)))))
 
 pub spell-append : (fs gs : List (ℕ × ℕ)) → spell (fs ++ gs) ≡ spell fs ++ spell gs
 unfolding spell
@@ -152,7 +153,7 @@ unfolding spell
 spell-one f = append-nil (bitsOf (f .0) (f .1))
 
 -- fields put one after another into a block that is filled from the front
-pub put-fields : (fs done : List (ℕ × ℕ)) (at : ℕ) → at ≡ length (spell done) → at + total fs ≤ 4096 → putAll (padded (spell done)) at fs ≡ padded (spell (done ++ fs))
+pub put-fields : (fs done : List (ℕ × ℕ)) (at : ℕ) → at ≡ length (spell done) → at + total fs ≤ blockBits → putAll (padded (spell done)) at fs ≡ padded (spell (done ++ fs))
 put-fields [] done at e h = ap (λ (l : List (ℕ × ℕ)). padded (spell l)) (sym (append-nil done))
 put-fields (f ∷ fs) done at e h =
     let X = bitsOf (f .0) (f .1) in
@@ -173,12 +174,12 @@ zero-bits-in (suc n) =
     let e : 8 * suc n ≡ 8 + 8 * n = omega arith in
     rw (zero-bits-in n, zero-byte (zeros (8 * n)), zeros-add 8 (8 * n), e)
 
-pub empty-block : bitsIn (zeros 512) ≡ padded []
+pub empty-block : bitsIn (zeros blockSize) ≡ padded []
 unfolding padded
-empty-block = zero-bits-in 512
+empty-block = zero-bits-in blockSize
 
 -- a block of zeros in which fields were put from the front
-pub whole-block : (fs : List (ℕ × ℕ)) (z s : List ℕ) → z ≡ zeros 512 → total fs ≤ 4096 → length s ≡ 512 → ((i : ℕ) → getD s i 0 < 256)
+pub whole-block : (fs : List (ℕ × ℕ)) (z s : List ℕ) → z ≡ zeros blockSize → total fs ≤ blockBits → length s ≡ blockSize → ((i : ℕ) → getD s i 0 < 256)
     → bitsIn s ≡ putAll (bitsIn z) 0 fs → s ≡ blockOf fs
 unfolding spell
 whole-block fs z s e h k b p = block-is fs s k (all-bytes s b) (p ∙ rw (e, empty-block) (put-fields fs [] 0 refl (omega arith)))

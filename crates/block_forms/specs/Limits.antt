@@ -1,9 +1,13 @@
 -- The numbers of the block forms, each named once.
-use Prim.Native.Nat.{ℕ, _+_}
+use Prim.Native.Nat.{ℕ, _+_, _*_, _-_}
 
 -- a block has 512 bytes
 abbrev pub blockSize : ℕ
 blockSize = 512
+
+-- a block's bits
+abbrev pub blockBits : ℕ
+blockBits = 8 * blockSize
 
 -- an image has at most 4,096 blocks, so a block number has 12 bits
 abbrev pub blockLimit : ℕ
@@ -49,9 +53,17 @@ committedValue = 128
 abbrev pub transactionLimit : ℕ
 transactionLimit = 4096
 
+-- the largest transaction
+abbrev pub mostTransaction : ℕ
+mostTransaction = transactionLimit - 1
+
 -- a statement has 20 bits
 abbrev pub statementLimit : ℕ
 statementLimit = 1048576
+
+-- the largest statement, and the largest count of tuples written
+abbrev pub mostStatement : ℕ
+mostStatement = statementLimit - 1
 
 -- block numbers in every directory block but the last
 abbrev pub entriesPerBlock : ℕ

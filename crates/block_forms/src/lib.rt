@@ -141,7 +141,9 @@ pub const COMMITTED: u8 = 128;
 
 pub const MARK: u8 = 64;
 
-// How many tuples a transaction may write, and what its number is multiplied by in an owner's word.
+// A transaction has 12 bits and a statement 20; an owner's word is the transaction times the statements, plus the statement.
+pub const TRANSACTIONS: usize = 4096;
+
 pub const STATEMENTS: u32 = 1048576;
 
 // A record's ninth byte.

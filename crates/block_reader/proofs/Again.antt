@@ -5,7 +5,7 @@ use Rattle.basics.proofs.Facts.{by}
 use Rattle.basics.proofs.Elements.{all-drop}
 use Rattle.block_bits.specs.Bits.{bitsIn, field}
 use Rattle.block_bits.proofs.Blocks.{field-lt}
-use Rattle.block_forms.specs.Limits.{pageHeadSize, recordSpace}
+use Rattle.block_forms.specs.Limits.{pageHeadSize, recordSpace, blockSize}
 use Rattle.block_forms.specs.Numbers.{same}
 use Rattle.block_forms.specs.Tuple.{Tuple, sizes, Byte, AllBytes}
 use Rattle.block_forms.specs.Block.{page, encodeBlock, PageFits}
@@ -27,12 +27,12 @@ pub record Again (xs copy : List ℕ) (t l n b at i : ℕ) : Type 0 where
   pub place : at ≡ behind done
   pub made : copy ≡ partPage t l n b done
 
-pub again-start : (xs : List ℕ) {copy : List ℕ} (t l n b : ℕ) → length xs ≡ 512 → copy ≡ partPage t l n b [] → Again xs copy t l n b pageHeadSize 0
+pub again-start : (xs : List ℕ) {copy : List ℕ} (t l n b : ℕ) → length xs ≡ blockSize → copy ≡ partPage t l n b [] → Again xs copy t l n b pageHeadSize 0
 unfolding sum
 again-start xs t l n b k made = record { done = []; passed = passed-start xs n k; place = refl; made = made }
 
-module _ {xs copy : List ℕ} {t l n b at i : ℕ} (k : length xs ≡ 512) (a : Again xs copy t l n b at i) where
-  pub again-length : length copy ≡ 512
+module _ {xs copy : List ℕ} {t l n b at i : ℕ} (k : length xs ≡ blockSize) (a : Again xs copy t l n b at i) where
+  pub again-length : length copy ≡ blockSize
   again-length = ap length (a .made) ∙ part-length t l n b (a .done) (omega (arith, a .place, a .passed .room))
 
   pub again-turn : i < n → {r : Record} {c : Cursor} → Found-is xs at r c → {copy′ : List ℕ} {at′ : ℕ} → Appended copy copy′ at r xs at′ → Again xs copy′ t l n b at′ (i + 1)

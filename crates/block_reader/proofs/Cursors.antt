@@ -2,7 +2,7 @@
 use Rattle.basics.proofs.Kit.{_≡_, sym, ap, _∙_, Bool, true, false, List, ℕ, _+_, _%_, _≤_, _<_, _-_, leb, ltb, length, drop, getD, length-drop, getD-drop, le-leb, lt-leb, arith}
 use Rattle.basics.specs.Basics.{if_then_else_}
 use Rattle.basics.proofs.Facts.{by}
-use Rattle.block_forms.specs.Limits.{payloadLimit, recordHead, ownerWidth, markValue, committedValue}
+use Rattle.block_forms.specs.Limits.{payloadLimit, recordHead, ownerWidth, markValue, committedValue, blockSize}
 use Rattle.block_forms.specs.Numbers.{num4}
 use Rattle.block_forms.specs.Tuple.{ownerSize, recordSize}
 use Rattle.block_forms.specs.Decode.{readOwner, readMark, recordLength, isRecord}
@@ -43,29 +43,29 @@ taken-at xs at = rw (getD-drop at xs 8 0)
 start-at : (f w at : ℕ) → at + (recordHead + ownerSize (readOwner f w)) ≡ at + recordSize (ltb f committedValue) (f % markValue) - f % markValue
 start-at f w at = rw (owner-size f w) (omega arith)
 
-module _ (xs : List ℕ) (at : ℕ) (l : length xs ≡ 512) where
-  left : length (drop at xs) ≡ 512 - at
+module _ (xs : List ℕ) (at : ℕ) (l : length xs ≡ blockSize) where
+  left : length (drop at xs) ≡ blockSize - at
   left = rw (length-drop at xs, l)
 
-  pub none-far : 512 - recordHead < at → nextAt xs at ≡ Bad
+  pub none-far : blockSize - recordHead < at → nextAt xs at ≡ Bad
   unfolding nextAt isRecord if_then_else_
-  none-far h = rw (left, lt-leb recordHead (512 - at) (omega arith))
+  none-far h = rw (left, lt-leb recordHead (blockSize - at) (omega arith))
 
-  module _ (n : at ≤ 512 - recordHead) where
+  module _ (n : at ≤ blockSize - recordHead) where
     pub none-long : payloadLimit < flagsAt xs at % markValue → nextAt xs at ≡ Bad
     unfolding nextAt isRecord if_then_else_
-    none-long h = rw (left, le-leb recordHead (512 - at) (omega arith), getD-drop at xs 8 0, lt-leb (flagsAt xs at % markValue) payloadLimit h)
+    none-long h = rw (left, le-leb recordHead (blockSize - at) (omega arith), getD-drop at xs 8 0, lt-leb (flagsAt xs at % markValue) payloadLimit h)
 
     module _ (p : flagsAt xs at % markValue ≤ payloadLimit) (e : ℕ) (t : e ≡ recordSize (ltb (flagsAt xs at) committedValue) (flagsAt xs at % markValue)) where
-      fits : isRecord (drop at xs) ≡ leb e (512 - at)
+      fits : isRecord (drop at xs) ≡ leb e (blockSize - at)
       unfolding isRecord
-      fits = rw (left, le-leb recordHead (512 - at) (omega arith), getD-drop at xs 8 0, le-leb (flagsAt xs at % markValue) payloadLimit p, taken-at xs at, t)
+      fits = rw (left, le-leb recordHead (blockSize - at) (omega arith), getD-drop at xs 8 0, le-leb (flagsAt xs at % markValue) payloadLimit p, taken-at xs at, t)
 
-      pub none-short : 512 < at + e → nextAt xs at ≡ Bad
+      pub none-short : blockSize < at + e → nextAt xs at ≡ Bad
       unfolding nextAt if_then_else_
-      none-short h = rw (fits, lt-leb e (512 - at) (omega arith))
+      none-short h = rw (fits, lt-leb e (blockSize - at) (omega arith))
 
-      found-whole : {o : Owner} {mark : Bool} → o ≡ ownerAs (readOwner (flagsAt xs at) (num4 xs (at + recordHead))) → mark ≡ readMark (flagsAt xs at) → at + e ≤ 512
+      found-whole : {o : Owner} {mark : Bool} → o ≡ ownerAs (readOwner (flagsAt xs at) (num4 xs (at + recordHead))) → mark ≡ readMark (flagsAt xs at) → at + e ≤ blockSize
           → nextAt xs at ≡ Found
           (record {
             key = num4 xs at;
@@ -77,10 +77,10 @@ module _ (xs : List ℕ) (at : ℕ) (l : length xs ≡ 512) where
           })
           (record { at = at + e })
       unfolding nextAt recordAt if_then_else_
-      found-whole eo em h = rw (fits, le-leb e (512 - at) (omega arith), ← eo, ← em, start-at (flagsAt xs at) (num4 xs (at + recordHead)) at, taken-at xs at, t)
+      found-whole eo em h = rw (fits, le-leb e (blockSize - at) (omega arith), ← eo, ← em, start-at (flagsAt xs at) (num4 xs (at + recordHead)) at, taken-at xs at, t)
 
       pub found-as : {k n w : ℕ} {o : Owner} {mark : Bool} → k ≡ num4 xs at → n ≡ num4 xs (at + 4) → w ≡ (if ltb (flagsAt xs at) committedValue then num4 xs (at + recordHead) else 0)
-          → o ≡ ownerAs (readOwner (flagsAt xs at) w) → mark ≡ readMark (flagsAt xs at) → at + e ≤ 512
+          → o ≡ ownerAs (readOwner (flagsAt xs at) w) → mark ≡ readMark (flagsAt xs at) → at + e ≤ blockSize
           → Found
           (record {
             key = k;

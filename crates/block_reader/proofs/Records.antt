@@ -3,7 +3,7 @@ use Rattle.basics.proofs.Kit.{_≡_, refl, true, false, List, ℕ, _+_, _%_, _�
 use Rattle.basics.proofs.Facts.{by}
 use Rattle.basics.proofs.Elements.{all-drop}
 use Rattle.basics.specs.Basics.{if_then_else_}
-use Rattle.block_forms.specs.Limits.{payloadLimit, recordHead, markValue}
+use Rattle.block_forms.specs.Limits.{payloadLimit, recordHead, markValue, blockSize}
 use Rattle.block_forms.specs.Numbers.{num4}
 use Rattle.block_forms.specs.Tuple.{ownerSize, Byte, AllBytes, OwnerFits, Fits}
 use Rattle.block_forms.specs.Decode.{readOwner, readTuple, recordLength, isRecord}
@@ -94,7 +94,7 @@ module _ (xs : List ℕ) (at : ℕ) where
       fit .owner
 
   -- it can be appended to a block at the same place
-  pub found-appends : {r : Record} {c : Cursor} → length xs ≡ 512 → AllBytes xs → Found-is r c → Appendable at r xs
+  pub found-appends : {r : Record} {c : Cursor} → length xs ≡ blockSize → AllBytes xs → Found-is r c → Appendable at r xs
   found-appends l b g = record { room = omega (arith, g .takes, g .next, g .ends); inside = g .inside; limit = g .limit; owner = found-fits b g }
 
   pub bad-is : Bad ≡ nextAt xs at → isRecord (drop at xs) ≡ false

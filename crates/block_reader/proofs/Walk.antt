@@ -4,7 +4,7 @@ use Rattle.basics.proofs.Kit.{length-append, drop-drop, take-at, drop-at, drop-
 use Rattle.basics.proofs.Facts.{by-option, never}
 use Rattle.basics.proofs.Lists.{behind-none, behind-two}
 use Rattle.basics.specs.Basics.{if_then_else_}
-use Rattle.block_forms.specs.Limits.{pageHeadSize}
+use Rattle.block_forms.specs.Limits.{pageHeadSize, blockSize}
 use Rattle.block_forms.specs.Tuple.{Tuple}
 use Rattle.block_forms.specs.Block.{page, PageBlock, asPage}
 use Rattle.block_forms.specs.Decode.{readTuple, recordLength, readTuples, pageTuples, decodeBlock}
@@ -31,7 +31,7 @@ pub record Passed (xs : List ℕ) (n at i : ℕ) (done : List Tuple) : Type 0 wh
   pub count : length done ≡ i
   pub rest : pageTuples n xs ≡ Option·map (λ ts. done ++ ts) (readTuples (n - i) (drop at xs))
 
-pub passed-start : (xs : List ℕ) (n : ℕ) → length xs ≡ 512 → Passed xs n pageHeadSize 0 []
+pub passed-start : (xs : List ℕ) (n : ℕ) → length xs ≡ blockSize → Passed xs n pageHeadSize 0 []
 passed-start xs n k =
     let z : n - 0 ≡ n = omega arith in
     record { turn = omega arith; room = omega arith; count = refl; rest = rw z (sym (behind-none (pageTuples n xs))) }
@@ -83,7 +83,7 @@ pub record Walk (xs : List ℕ) (ts : List Tuple) (at i : ℕ) : Type 0 where
   pub passed : Passed xs (length ts) at i (take i ts)
 
 -- before the first record
-pub walk-read : (n : ℕ) {xs : List ℕ} {ts : List Tuple} → length xs ≡ 512 → pageTuples n xs ≡ some ts → Walk xs ts pageHeadSize 0
+pub walk-read : (n : ℕ) {xs : List ℕ} {ts : List Tuple} → length xs ≡ blockSize → pageTuples n xs ≡ some ts → Walk xs ts pageHeadSize 0
 walk-read n {xs} {ts} k e =
     let c : length ts ≡ n = read-count n (drop pageHeadSize xs) ts e in
     record { read = rw c e; passed = passed-start xs (length ts) k }

@@ -1,4 +1,5 @@
 -- The allocator from store to store: each store makes the stores left one less, and each block store the blocks left.
+use Rattle.block_forms.specs.Limits.{blockSize}
 use Rattle.basics.proofs.Kit.{_≡_, refl, sym, ap, _∙_, true, List, ℕ, suc, _+_, _*_, _≤_, arith}
 use Rattle.model.specs.State.{Store, Outcome}
 use Rattle.model.specs.Checkpoint.{withProgress, isRunning, left, leftOf, headerStored, stepAt, stepCall}
@@ -20,7 +21,7 @@ accepts a n e = ap accepted e
 -- each step lowers what is left by one
 pub lowers : (s : Store) → isRunning (s .checkpoint) ≡ true → left s ≡ suc (left (stepAt (s .checkpoint) s .store))
 lowers s on =
-    let len : ℕ = 512 * s .blocks in
+    let len : ℕ = blockSize * s .blocks in
     let q : stepCall len s ≡ stepAt (s .checkpoint) s = step-at len s refl in
     one-less len s (ap (λ (z : Outcome). accepted (z .answer)) q ∙ accepts _ _ (answer-of (s .checkpoint) s on)) .1
     ∙ ap (λ (z : Outcome). suc (left (z .store))) q

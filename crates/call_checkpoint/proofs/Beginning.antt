@@ -1,4 +1,5 @@
 -- Begin: the list of all pages, the store that it leaves, and its tests.
+use Rattle.block_forms.specs.Limits.{blockLimit}
 use Rattle.basics.proofs.Kit.{_≡_, refl, sym, ap, _∙_, true, false, some, List, [], _∷_, _++_, map, ℕ, _+_, _≤_, _<_, add-one, eqb, length, take, getD, length-map, take-all, take-suc}
 use Rattle.basics.proofs.Kit.{length-take-le, lt-ltb, le-ltb, eq-eqb, ne-eqb, arith}
 use Rattle.basics.specs.Basics.{if_then_else_, all}
@@ -56,7 +57,7 @@ module _ {m m' : List ℕ} {n p : ℕ} (c : Naming m m' n p) where
         let b : flatOf m' .head .capacity ≡ flatOf m .head .capacity = ap (λ (f : Flat). f .head .capacity) flat-is in
         omega (arith, a, b, length-map es blockIn, length-take-le p (flatOf m .entries) (omega (arith, c .whole)), c .whole, pages-few m held)
 
-    pub naming-low : {b : ℕ} → b ≡ entryIn (flatOf m') p .block → b < 4096
+    pub naming-low : {b : ℕ} → b ≡ entryIn (flatOf m') p .block → b < blockLimit
     naming-low e = omega (arith, entry-block m' p (omega (arith, entries-length m', naming-in)))
 
     pub naming-turn : {b : ℕ} → b ≡ entryIn (flatOf m') p .block → {m2 : List ℕ} → Becomes m' m2 (withNamed (flatOf m') (flatOf m' .named ++ b ∷ []))

@@ -1,4 +1,5 @@
 -- What the memory holds after each kind of store.
+use Rattle.block_forms.specs.Limits.{blockLimit}
 use Rattle.basics.proofs.Kit.{_≡_, refl, sym, ap, _∙_, subst, fun-ext, Bool, true, false, not, _||_, some, List, [], _∷_, _++_, ℕ, suc, _+_, _≤_, _<_, _-_, add-one, leb, eqb, length, drop}
 use Rattle.basics.proofs.Kit.{getD, set, length-append, drop-of-length-le, List·getD-append, getD-append-add, eqb-true, eq-eqb, ne-eqb, eqb-false, not-true, arith}
 use Rattle.basics.specs.Basics.{if_then_else_, any, isIn}
@@ -237,11 +238,11 @@ module _ {m m' : List ℕ} {bs : List ℕ} {n i : ℕ} (k : Marking m m' bs n i)
 
 -- a block's number has twelve bits
 module _ (m : List ℕ) (i : ℕ) where
-  pub named-low : i < length (flatOf m .named) → getD (flatOf m .named) i 0 < 4096
+  pub named-low : i < length (flatOf m .named) → getD (flatOf m .named) i 0 < blockLimit
   unfolding namedOf namedBlock
   named-low h = omega (arith, getD-tab (namedBlock m (capacityOf m)) 0 (namedCount m) i 0 (omega (arith, named-length m)))
 
-  pub directory-low : i < length (flatOf m .directories) → getD (flatOf m .directories) i 0 < 4096
+  pub directory-low : i < length (flatOf m .directories) → getD (flatOf m .directories) i 0 < blockLimit
   unfolding directoriesOf directoryAt
   directory-low h = omega (arith, getD-tab (directoryAt m) 0 (directoryCount m) i 0 (omega (arith, directories-length m)))
 

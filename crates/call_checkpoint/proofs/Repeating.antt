@@ -1,4 +1,5 @@
 -- Run: steps in turn.
+use Rattle.block_forms.specs.Limits.{blockSize}
 use Rattle.basics.proofs.Kit.{_≡_, refl, sym, ap, _∙_, subst, true, false, some, List, [], _∷_, _++_, ℕ, suc, _+_, _*_, _≤_, _<_, _-_, min, length, eq-eqb, ne-eqb, arith}
 use Rattle.basics.specs.Basics.{if_then_else_}
 use Rattle.model.specs.State.{Store, Write, Outcome}
@@ -27,19 +28,19 @@ image-append (w ∷ ws) vs img = image-append ws vs _
 -- ---- the tests
 
 module _ (limit len : ℕ) (s : Store) where
-  pub run-5 : (len ≡ 512 * s .blocks → ⊥) → runCall limit len s ≡ gives (model.refused 5) s
+  pub run-5 : (len ≡ blockSize * s .blocks → ⊥) → runCall limit len s ≡ gives (model.refused 5) s
   unfolding runCall badImage unless if_then_else_
-  run-5 h = rw (ne-eqb len (512 * s .blocks) h)
+  run-5 h = rw (ne-eqb len (blockSize * s .blocks) h)
 
-  module _ (e : len ≡ 512 * s .blocks) where
+  module _ (e : len ≡ blockSize * s .blocks) where
     pub run-18 : isRunning (s .checkpoint) ≡ false → runCall limit len s ≡ gives (model.refused 18) s
     unfolding runCall badImage unless if_then_else_
-    run-18 h = rw (eq-eqb len (512 * s .blocks) e, h)
+    run-18 h = rw (eq-eqb len (blockSize * s .blocks) e, h)
 
     run-at : isRunning (s .checkpoint) ≡ true
         → runCall limit len s ≡ record { answer = model.count (min limit (left s)); store = inTurn (min limit (left s)) s .store; writes = inTurn (min limit (left s)) s .writes }
     unfolding runCall badImage unless if_then_else_
-    run-at h = rw (eq-eqb len (512 * s .blocks) e, h)
+    run-at h = rw (eq-eqb len (blockSize * s .blocks) e, h)
 
 -- ---- turn by turn
 
@@ -48,7 +49,7 @@ pub record Repeats (img₀ m₀ : List ℕ) (k : ℕ) (img m : List ℕ) (n : �
   pub size : length m ≡ length m₀
   pub wide : length img ≡ length img₀
   pub has-store : holdsStore m ≡ true
-  pub long : length img ≡ 512 * flatOf m .head .blocks
+  pub long : length img ≡ blockSize * flatOf m .head .blocks
   pub few : n ≤ left (storeOf (flatOf m))
   pub store : inTurn n (storeOf (flatOf m)) .store ≡ inTurn k (storeOf (flatOf m₀)) .store
   pub image : imageAfter (inTurn n (storeOf (flatOf m)) .writes) img ≡ imageAfter (inTurn k (storeOf (flatOf m₀)) .writes) img₀
@@ -75,7 +76,7 @@ module _ {img₀ m₀ : List ℕ} {k : ℕ} {img m : List ℕ} {n : ℕ} (c : Re
     repeats-turn =
         let s : Store = storeOf (flatOf m) in
         let o : Outcome = stepAt (s .checkpoint) s in
-        let e : length img ≡ 512 * s .blocks = c .long ∙ ap (λ (z : ℕ). 512 * z) (sym (blocks-is (flatOf m))) in
+        let e : length img ≡ blockSize * s .blocks = c .long ∙ ap (λ (z : ℕ). blockSize * z) (sym (blocks-is (flatOf m))) in
         let on : isRunning (s .checkpoint) ≡ true = left-runs (flatOf m) (omega (arith, c .few)) in
         let a = answer-of (s .checkpoint) s on in
         let q : stepCall (length img) s ≡ o = step-at (length img) s e in
@@ -89,7 +90,7 @@ module _ {img₀ m₀ : List ℕ} {k : ℕ} {img m : List ℕ} {n : ℕ} (c : Re
           size = l .size ∙ c .size;
           wide = w ∙ c .wide;
           has-store = u .has-store;
-          long = w ∙ e ∙ ap (λ (z : ℕ). 512 * z) (sym (step-size s) ∙ ap (λ (z : Store). z .blocks) (sym (u .means)) ∙ blocks-is (flatOf m'));
+          long = w ∙ e ∙ ap (λ (z : ℕ). blockSize * z) (sym (step-size s) ∙ ap (λ (z : Store). z .blocks) (sym (u .means)) ∙ blocks-is (flatOf m'));
           few = omega (arith, c .few, less, ap left (u .means));
           store = ap (λ (z : Store). inTurn (n - 1) z .store) (u .means) ∙ sym (x .0) ∙ ap (λ (z : ℕ). inTurn z s .store) (sym j) ∙ c .store;
           image =
@@ -112,7 +113,7 @@ module _ {img₀ m₀ : List ℕ} {k : ℕ} {img m : List ℕ} {n : ℕ} (c : Re
   repeats-end h limit r ek a ea =
       let s : Store = storeOf (flatOf m₀) in
       let x = none-left h in
-      let e : length img₀ ≡ 512 * s .blocks = r .long ∙ ap (λ (z : ℕ). 512 * z) (sym (blocks-is (flatOf m₀))) in
+      let e : length img₀ ≡ blockSize * s .blocks = r .long ∙ ap (λ (z : ℕ). blockSize * z) (sym (blocks-is (flatOf m₀))) in
       stores-count (runCall limit (length img₀)) m₀ img₀ img m a (inTurn k s .store) (inTurn k s .writes) (r .runs .has-store)
       (run-at limit (length img₀) s e (r .runs .on)
       ∙ ap (λ (i : ℕ). record { answer = model.count i; store = inTurn i s .store; writes = inTurn i s .writes }) (sym ek)

@@ -1,4 +1,5 @@
 -- A step: which store it makes, its tests, and what it answers.
+use Rattle.block_forms.specs.Limits.{blockSize, entriesPerBlock}
 use Rattle.basics.proofs.Kit.{_≡_, refl, sym, ap, _∙_, subst, Bool, true, false, some, none, Option, List, [], _∷_, _++_, ℕ, suc, _+_, _*_, _≤_, _<_, zero, _-_, add-one, eqb, ltb}
 use Rattle.basics.proofs.Kit.{length, take, drop, drop-drop, drop-of-length-le, lt-ltb, le-ltb, eqb-true, eq-eqb, ne-eqb, eqb-false, arith}
 use Rattle.basics.specs.Basics.{if_then_else_, howMany, first}
@@ -76,7 +77,7 @@ module _ (s : Store) (n : ℕ) (es ds : List ℕ) (e : s .checkpoint ≡ running
     rest-is = step-is ∙ ap (λ (o : Option Page). stepOf o n es ds s) f
 
     pub step-directory : length ds < directoriesFor (length es)
-        → stepAt (s .checkpoint) s ≡ made (allocate s) (directory (suc (s .level)) (take 336 (drop (336 * length ds) es))) (directoryStored (allocate s) n es ds s)
+        → stepAt (s .checkpoint) s ≡ made (allocate s) (directory (suc (s .level)) (take entriesPerBlock (drop (entriesPerBlock * length ds) es))) (directoryStored (allocate s) n es ds s)
     unfolding if_then_else_ storeDirectory
     step-directory h =
         rest-is ∙ ap (λ (b : Bool). if b then storeDirectory n es ds s else storeHeader n es ds s) (lt-ltb (length ds) (directoriesFor (length es)) h)
@@ -89,14 +90,14 @@ module _ (s : Store) (n : ℕ) (es ds : List ℕ) (e : s .checkpoint ≡ running
 
 -- ---- one block exchanged
 
-pub back-is : (img part : List ℕ) (b : ℕ) → take (512 * b) img ++ (part ++ drop (512 * b + 512 - 512 * b) (drop (512 * b) img)) ≡ putBlock img b part
+pub back-is : (img part : List ℕ) (b : ℕ) → take (blockSize * b) img ++ (part ++ drop (blockSize * b + blockSize - blockSize * b) (drop (blockSize * b) img)) ≡ putBlock img b part
 unfolding putBlock
 back-is img part b =
-    let e : 512 * b + 512 - 512 * b ≡ 512 = omega arith in
-    ap (λ (k : ℕ). take (512 * b) img ++ (part ++ drop k (drop (512 * b) img))) e
-    ∙ ap (λ (z : List ℕ). take (512 * b) img ++ (part ++ z)) (drop-drop 512 (512 * b) img)
+    let e : blockSize * b + blockSize - blockSize * b ≡ blockSize = omega arith in
+    ap (λ (k : ℕ). take (blockSize * b) img ++ (part ++ drop k (drop (blockSize * b) img))) e
+    ∙ ap (λ (z : List ℕ). take (blockSize * b) img ++ (part ++ z)) (drop-drop blockSize (blockSize * b) img)
 
-pub front-is : (img part : List ℕ) → part ++ drop 512 img ≡ putBlock img 0 part
+pub front-is : (img part : List ℕ) → part ++ drop blockSize img ≡ putBlock img 0 part
 unfolding putBlock
 front-is img part = refl
 
@@ -135,18 +136,18 @@ module _ {img m img' m' part : List ℕ} (r : RunningIn m) where
   module _ (none-frozen : NoneFrozen m) where
     pub directory-does : (b k l : ℕ) → length (flatOf m .directories) < directoriesFor (length (flatOf m .named)) → b ≡ allocate (storeOf (flatOf m))
         → k ≡ length (flatOf m .directories) → l ≡ flatOf m .head .level + 1
-        → part ≡ encodeBlock (directory l (take 336 (drop (336 * k) (flatOf m .named)))) → img' ≡ putBlock img b part
+        → part ≡ encodeBlock (directory l (take entriesPerBlock (drop (entriesPerBlock * k) (flatOf m .named)))) → img' ≡ putBlock img b part
         → HoldsNow m m' (afterStore (directoryStored b) (flatOf m)) → Steps img m img' m'
     directory-does b k l h eb ek el ep ei d =
         let s : Store = storeOf (flatOf m) in
         let es : List ℕ = flatOf m .named in
         let ds : List ℕ = flatOf m .directories in
         let e2 : suc (s .level) ≡ l = ap suc (level-is (flatOf m)) ∙ sym (add-one (flatOf m .head .level)) ∙ sym el in
-        let x : encodeBlock (directory l (take 336 (drop (336 * k) es))) ≡ encodeBlock (directory (suc (s .level)) (take 336 (drop (336 * length ds) es))) = cc in
-        does-made _ (allocate s) (directory (suc (s .level)) (take 336 (drop (336 * length ds) es))) (afterStore (directoryStored (allocate s)) (flatOf m))
+        let x : encodeBlock (directory l (take entriesPerBlock (drop (entriesPerBlock * k) es))) ≡ encodeBlock (directory (suc (s .level)) (take entriesPerBlock (drop (entriesPerBlock * length ds) es))) = cc in
+        does-made _ (allocate s) (directory (suc (s .level)) (take entriesPerBlock (drop (entriesPerBlock * length ds) es))) (afterStore (directoryStored (allocate s)) (flatOf m))
         (step-directory s _ es ds (runs r) (none-is m none-frozen) h)
         (subst (λ (z : ℕ). HoldsNow m m' (afterStore (directoryStored z) (flatOf m))) eb d)
-        (ei ∙ ap (putBlock img b) (ep ∙ x) ∙ ap (λ (z : ℕ). putBlock img z (encodeBlock (directory (suc (s .level)) (take 336 (drop (336 * length ds) es))))) eb)
+        (ei ∙ ap (putBlock img b) (ep ∙ x) ∙ ap (λ (z : ℕ). putBlock img z (encodeBlock (directory (suc (s .level)) (take entriesPerBlock (drop (entriesPerBlock * length ds) es))))) eb)
 
     pub header-does : directoriesFor (length (flatOf m .named)) ≤ length (flatOf m .directories)
         → part ≡ encodeBlock (header (headerFor (storeOf (flatOf m)) (suc (flatOf m .head .level)) (flatOf m .head .begun) (length (flatOf m .named)) (flatOf m .directories)))
@@ -169,14 +170,14 @@ idle-step idle s e = refl
 idle-step (running n es ds) s e = lie (sym e)
 
 module _ (len : ℕ) (s : Store) where
-  pub step-5 : (len ≡ 512 * s .blocks → ⊥) → stepCall len s ≡ gives (model.refused 5) s
+  pub step-5 : (len ≡ blockSize * s .blocks → ⊥) → stepCall len s ≡ gives (model.refused 5) s
   unfolding stepCall badImage unless if_then_else_
-  step-5 h = rw (ne-eqb len (512 * s .blocks) h)
+  step-5 h = rw (ne-eqb len (blockSize * s .blocks) h)
 
-  module _ (e : len ≡ 512 * s .blocks) where
+  module _ (e : len ≡ blockSize * s .blocks) where
     pub step-at : stepCall len s ≡ stepAt (s .checkpoint) s
     unfolding stepCall badImage unless if_then_else_
-    step-at = rw (eq-eqb len (512 * s .blocks) e)
+    step-at = rw (eq-eqb len (blockSize * s .blocks) e)
 
     pub step-18 : isRunning (s .checkpoint) ≡ false → stepCall len s ≡ gives (model.refused 18) s
     step-18 h = step-at ∙ idle-step (s .checkpoint) s h
@@ -201,11 +202,11 @@ module _ (len : ℕ) (m : List ℕ) where
     unfolding stepRefusal
     refused-as q = sym (ap (stepRefusal len) (in-some m held) ∙ ap (λ (o : Outcome). refusalNumber (o .answer)) q)
 
-    pub refusal-5 : (len ≡ 512 * flatOf m .head .blocks → ⊥) → 5 ≡ stepRefusal len (storeIn m)
+    pub refusal-5 : (len ≡ blockSize * flatOf m .head .blocks → ⊥) → 5 ≡ stepRefusal len (storeIn m)
     unfolding refusalNumber gives storeOf
     refusal-5 h = refused-as (step-5 len (storeOf (flatOf m)) h)
 
-    module _ (e : len ≡ 512 * flatOf m .head .blocks) where
+    module _ (e : len ≡ blockSize * flatOf m .head .blocks) where
       pub refusal-18 : isRunning (storeOf (flatOf m) .checkpoint) ≡ false → 18 ≡ stepRefusal len (storeIn m)
       unfolding refusalNumber gives storeOf
       refusal-18 h = refused-as (step-18 len (storeOf (flatOf m)) e h)
@@ -219,9 +220,9 @@ module _ (len : ℕ) (m : List ℕ) where
     passed-held : v ≡ 0 → holdsStore m ≡ true
     passed-held z = by (holdsStore m) (λ h. h) (λ h. absurd (omega (arith, refusal-4 h)))
 
-    passed-long : v ≡ 0 → len ≡ 512 * flatOf m .head .blocks
+    passed-long : v ≡ 0 → len ≡ blockSize * flatOf m .head .blocks
     passed-long z =
-        by (eqb len (512 * flatOf m .head .blocks)) (λ h. eqb-true len _ h)
+        by (eqb len (blockSize * flatOf m .head .blocks)) (λ h. eqb-true len _ h)
         (λ h. absurd (omega (arith, refusal-5 (passed-held z) (eqb-false len _ h))))
 
     passed-runs : v ≡ 0 → RunningIn m
@@ -233,20 +234,20 @@ module _ (len : ℕ) (m : List ℕ) where
         }
 
     pub stopped : (call : Store → Outcome)
-        → ((s : Store) → (len ≡ 512 * s .blocks → ⊥) → call s ≡ gives (model.refused 5) s)
-        → ((s : Store) → len ≡ 512 * s .blocks → isRunning (s .checkpoint) ≡ false → call s ≡ gives (model.refused 18) s)
+        → ((s : Store) → (len ≡ blockSize * s .blocks → ⊥) → call s ≡ gives (model.refused 5) s)
+        → ((s : Store) → len ≡ blockSize * s .blocks → isRunning (s .checkpoint) ≡ false → call s ≡ gives (model.refused 18) s)
         → (img : List ℕ) → (v ≡ 0 → ⊥) → Stores call img m (Refused v) img m
     stopped call c5 c18 img nz =
         by (holdsStore m)
         (λ h. let s : Store = storeOf (flatOf m) in
         let n : ℕ = flatOf m .head .blocks in
-        let e : 512 * s .blocks ≡ 512 * n = ap (λ (z : ℕ). 512 * z) (blocks-is (flatOf m)) in
-        by (eqb len (512 * n))
-        (λ k. let q : len ≡ 512 * n = eqb-true len (512 * n) k in
+        let e : blockSize * s .blocks ≡ blockSize * n = ap (λ (z : ℕ). blockSize * z) (blocks-is (flatOf m)) in
+        by (eqb len (blockSize * n))
+        (λ k. let q : len ≡ blockSize * n = eqb-true len (blockSize * n) k in
         by (isRunning (s .checkpoint))
         (λ w. absurd (nz (ev ∙ sym (refusal-none h q w))))
         (λ w. rw (ev ∙ sym (refusal-18 h q w)) (stores-refused call m img 18 h (c18 s (q ∙ sym e) w))))
-        (λ k. let ne : len ≡ 512 * n → ⊥ = eqb-false len (512 * n) k in
+        (λ k. let ne : len ≡ blockSize * n → ⊥ = eqb-false len (blockSize * n) k in
         rw (ev ∙ sym (refusal-5 h ne)) (stores-refused call m img 5 h (c5 s (λ z. ne (z ∙ e))))))
         (λ h. rw (ev ∙ sym (refusal-4 h)) (stores-4 call m img h))
 
@@ -259,6 +260,6 @@ step-done img m img' m' k r d e =
     let o : Outcome = stepAt (s .checkpoint) s in
     let n : k ≡ left (o .store) = e ∙ ap left (in-sound m' (o .store) (d .memory .store) .means) in
     stores-count (stepCall (length img)) m img img' m' k (o .store) (o .writes) (r .runs .has-store)
-    (step-at (length img) s (r .long ∙ ap (λ (b : ℕ). 512 * b) (sym (blocks-is (flatOf m))))
+    (step-at (length img) s (r .long ∙ ap (λ (b : ℕ). blockSize * b) (sym (blocks-is (flatOf m))))
     ∙ ap (λ (a : model.Answer). record { answer = a; store = o .store; writes = o .writes }) (answer-of (s .checkpoint) s (r .runs .on) ∙ ap model.count (sym n)))
     (d .memory) (d .image)

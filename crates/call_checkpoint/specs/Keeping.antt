@@ -5,6 +5,7 @@ use mathlib.Core.Bool.{true, _||_}
 use mathlib.Core.Option.{Option, none, some}
 use mathlib.Core.List.{List}
 use lib.ListN.{length}
+use Rattle.block_forms.specs.Limits.{blockSize}
 use Rattle.basics.specs.Basics.{howMany, isIn}
 use Rattle.basics.specs.Lists.{firstIndex}
 use Rattle.image.specs.Stages.{directoriesFor}
@@ -30,7 +31,7 @@ pub record RunningIn (m : List ℕ) : Type 0 where
 -- a checkpoint runs, and the image is exactly the store's blocks long
 pub record Ready (img m : List ℕ) : Type 0 where
   pub runs : RunningIn m
-  pub long : length img ≡ 512 * flatOf m .head .blocks
+  pub long : length img ≡ blockSize * flatOf m .head .blocks
 
 -- the running checkpoint takes block b
 pub record Takes (m : List ℕ) (b : ℕ) : Type 0 where

@@ -7,6 +7,8 @@ ghost use mathlib.Core.Bool.{true};
 ghost use mathlib.Core.List.{[], map};
 ghost use Prim.Native.Nat.{_+_, _≤_, _<_, min};
 ghost use lib.ListN.{length, getD};
+ghost use Rattle.memory_layout.specs.Places.{headSize};
+ghost use Rattle.block_forms.specs.Limits.{blockLimit};
 ghost use Rattle.model.specs.Checkpoint.{isRunning, begun, beginCall, fill, left, pageStored, directoryStored, headerStored, stepCall, runCall};
 ghost use Rattle.memory_layout.specs.Flat.{flatOf, Room, Becomes, withNamed};
 ghost use Rattle.memory_layout.specs.Store.{holdsStore, storeOf, storeIn, HoldsNow};
@@ -23,7 +25,7 @@ const BLOCK_SIZE: usize = block_forms::BLOCK_SIZE;
 
 // Whether a checkpoint runs: none does at the last level.
 fn is_running(m: &[u8]) -> bool
-    requires { ⌜ 1024 ≤ length (now m) ⌝ }
+    requires { ⌜ headSize ≤ length (now m) ⌝ }
     ensures { λ r. ⌜ r ≡ isRunning (storeOf (flatOf (now (m .entry))) .checkpoint) ⌝ }
 {
     let h = memory_layout::get_head(m);
@@ -147,7 +149,7 @@ fn first_unnamed(m: &[u8]) -> usize
 
 // The first page of the list that has no block yet gets block b.
 fn fill_entry(m: &mut [u8], b: u16)
-    requires { ⌜ Room (now m) × (b < 4096) ⌝ }
+    requires { ⌜ Room (now m) × (b < blockLimit) ⌝ }
     ensures { λ _. ⌜ Becomes (now (m .entry)) (now (m .exit)) (withNamed (flatOf (now (m .entry))) (fill b (flatOf (now (m .entry)) .named))) ⌝ }
 {
     let c = memory_layout::get_counts(m);
@@ -181,7 +183,7 @@ fn keep_directory(m: &mut [u8], b: u32)
 // Block i of those that the header to come and its directory name: first of the listed pages, then of the directory.
 fn block_named(m: &[u8], i: usize) -> usize
     requires { ⌜ Room (now m) × (i < length (namedIn (flatOf (now m)))) ⌝ }
-    ensures { λ r. ⌜ (r ≡ getD (namedIn (flatOf (now (m .entry)))) i 0) × (r < 4096) ⌝ }
+    ensures { λ r. ⌜ (r ≡ getD (namedIn (flatOf (now (m .entry)))) i 0) × (r < blockLimit) ⌝ }
 {
     let c = memory_layout::get_counts(m);
     let n = c.named as usize;

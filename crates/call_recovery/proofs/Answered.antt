@@ -63,16 +63,16 @@ module _ (img m : List ℕ) where
   refused-header k e = rw e (refl, refl)
 
   module _ (h : Header) (e : headerStage img ≡ holds h) where
-    pub refused-memory : length m < 128 * h .capacity + 1024 → Recovered img m (Refused 3) m
-    unfolding RecoveredBy recover recoverBelow memoryFor if_then_else_
-    refused-memory l = rw (e, lt-ltb (length m) (128 * h .capacity + 1024) l) (refl, refl)
+    pub refused-memory : length m < memoryFor (h .capacity) → Recovered img m (Refused 3) m
+    unfolding RecoveredBy recover recoverBelow if_then_else_
+    refused-memory l = rw (e, lt-ltb (length m) (memoryFor (h .capacity)) l) (refl, refl)
 
-    module _ (l : 128 * h .capacity + 1024 ≤ length m) where
+    module _ (l : memoryFor (h .capacity) ≤ length m) where
       pub refused-pages : (k : ℕ) → pagesStage (view img) h ≡ refuses k → Recovered img m (Refused k) m
-      unfolding RecoveredBy recover recoverBelow recoverPages memoryFor if_then_else_
-      refused-pages k q = rw (e, le-ltb (length m) (128 * h .capacity + 1024) l, q) (refl, refl)
+      unfolding RecoveredBy recover recoverBelow recoverPages if_then_else_
+      refused-pages k q = rw (e, le-ltb (length m) (memoryFor (h .capacity)) l, q) (refl, refl)
 
       pub all-recovered : (ps : List StoredPage) (m' : List ℕ) → pagesStage (view img) h ≡ holds ps
           → HoldsNow m m' (recoveredStore h ps) → Recovered img m Done m'
-      unfolding RecoveredBy recover recoverBelow recoverPages memoryFor if_then_else_
-      all-recovered ps m' q k = rw (e, le-ltb (length m) (128 * h .capacity + 1024) l, q) (refl, k)
+      unfolding RecoveredBy recover recoverBelow recoverPages if_then_else_
+      all-recovered ps m' q k = rw (e, le-ltb (length m) (memoryFor (h .capacity)) l, q) (refl, k)

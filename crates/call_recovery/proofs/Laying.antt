@@ -1,4 +1,5 @@
 -- The steps of the loading, one after the other: what each asks, and what they come to.
+use Rattle.block_forms.specs.Limits.{blockLimit}
 use Rattle.basics.proofs.Kit.{_≡_, refl, sym, ap, _∙_, subst, true, some, List, ℕ, _+_, _≤_, length, arith}
 use Rattle.basics.specs.Basics.{all, paired}
 use Rattle.basics.proofs.Facts.{AllOf}
@@ -63,7 +64,7 @@ module _ (h : Header) (ps : List StoredPage) (ok : AllOf PageOk ps) where
       unfolding freshFlat
       laid-capacity = refl
 
-      pub head-fits : 2 ≤ h .blocks → h .blocks ≤ 4096 → Replaces (flatOf m5 .head) (headFor h)
+      pub head-fits : 2 ≤ h .blocks → h .blocks ≤ blockLimit → Replaces (flatOf m5 .head) (headFor h)
       head-fits lo hi =
           record { capacity = sym (ap (λ (f : Flat). f .head .capacity) (again .flat) ∙ laid-capacity); few = lo; many = hi; taken = omega arith }
 

@@ -1,4 +1,6 @@
 -- Counts by transaction, and the transactions that are opened at their last rows.
+use Rattle.block_forms.specs.Limits.{transactionLimit}
+use Rattle.image.specs.Stages.{capacityLimit}
 use Rattle.basics.proofs.Kit.{_≡_, refl, sym, ap, _∙_, subst, Bool, true, false, cond, List, [], _∷_, _++_, append-assoc, append-nil, map, ℕ, suc, _+_, _≤_, _<_, add-one, eqb, length}
 use Rattle.basics.proofs.Kit.{take, drop, getD, set, length-append, length-take, take-append-drop, length-set, length-replicate, drop-of-length-le, length-map, replicate, getD-replicate}
 use Rattle.basics.proofs.Kit.{List·getD-map}
@@ -20,7 +22,7 @@ use Rattle.call_recovery.proofs.Adding.{becomes-as}
 
 -- ---- counts
 
-pub counts-sized : {rs : List Row} {xs : List ℕ} → Counts rs xs → length rs ≤ 1024 → Sized xs
+pub counts-sized : {rs : List Row} {xs : List ℕ} → Counts rs xs → length rs ≤ capacityLimit → Sized xs
 counts-sized {rs} {xs} k h = record { size = k .size; most = λ t l. omega (arith, k .each t l, many-length (isOwn t) rs) }
 
 own-one : (t : ℕ) (r : Row) (b : Bool) → isOwn t r ≡ b → howMany (isOwn t) (r ∷ []) ≡ cond b 1 0
@@ -59,11 +61,11 @@ unfolding noted
 noted-by {o} {t} {s} {k} xs e q v h =
     ap (set xs k) h ∙ ap (λ (n : ℕ). set xs n (getD xs n 0 + 1)) q ∙ sym (ap (λ (x : Owner). noted x xs) e)
 
-pub no-counts : Counts [] (replicate 4096 0)
+pub no-counts : Counts [] (replicate transactionLimit 0)
 unfolding howMany
-no-counts = record { size = length-replicate {A = ℕ} 4096 0; each = λ t h. getD-replicate 4096 t 0 0 h }
+no-counts = record { size = length-replicate {A = ℕ} transactionLimit 0; each = λ t h. getD-replicate transactionLimit t 0 0 h }
 
-pub rows-few : (m : List ℕ) → Room m → length (flatOf m .rows) ≤ 1024
+pub rows-few : (m : List ℕ) → Room m → length (flatOf m .rows) ≤ capacityLimit
 rows-few m r = let k = known m r in omega (arith, k .rows-are, k .rows, k .most)
 
 pub row-count : (m : List ℕ) {n : ℕ} {c : layout.Counts} → c ≡ countsOf m → n ≡ c .rows → n ≡ length (flatOf m .rows)
@@ -108,7 +110,7 @@ module _ (f : Flat) where
   counts-end i {xs} h k = subst (λ (z : List Row). Counts z xs) (take-all i (ownRows f) (omega (arith, own-length))) k
 
   -- counts of the first i rows are small
-  pub counts-small : (i : ℕ) {xs : List ℕ} → length (f .rows) ≤ 1024 → Counts (take i (ownRows f)) xs → Sized xs
+  pub counts-small : (i : ℕ) {xs : List ℕ} → length (f .rows) ≤ capacityLimit → Counts (take i (ownRows f)) xs → Sized xs
   counts-small i {xs} h k = counts-sized k (omega (arith, length-take i (ownRows f), own-length))
 
 -- ---- what is opened at a row

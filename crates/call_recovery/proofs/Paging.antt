@@ -1,4 +1,5 @@
 -- Pages, one behind the other: what a block that was read says, and what it comes to in the memory.
+use Rattle.block_forms.specs.Limits.{blockLimit}
 use Rattle.basics.proofs.Kit.{_≡_, refl, sym, ap, _∙_, subst, true, Option, List, [], _∷_, _++_, append-assoc, append-nil, map, ℕ, _+_, _≤_, _<_, zero-add, leb, length}
 use Rattle.basics.proofs.Kit.{getD, length-append, length-map, leb-true, arith}
 use Rattle.basics.specs.Basics.{isSome}
@@ -48,7 +49,7 @@ pub record OneFits (e t n : ℕ) (f : Flat) : Type 0 where
   pub may : MayAppend f t e
   pub rows : length (f .rows) + n ≤ f .head .capacity
 
-pub one-fits : (e t n : ℕ) (o : Option PageBlock) (f : Flat) → e < 4096 → t < 8 → 1 ≤ f .head .capacity → Here e t n o → RoomFor (pageAt e o) f → OneFits e t n f
+pub one-fits : (e t n : ℕ) (o : Option PageBlock) (f : Flat) → e < blockLimit → t < 8 → 1 ≤ f .head .capacity → Here e t n o → RoomFor (pageAt e o) f → OneFits e t n f
 unfolding heldsOf TablesRise
 one-fits e t n o f he ht hc h r =
     let ts : List Tuple = tuplesIn o in

@@ -1,4 +1,5 @@
 -- What recovery's tests showed, where they passed.
+use Rattle.block_forms.specs.Limits.{blockLimit}
 use Rattle.basics.proofs.Kit.{_≡_, sym, ap, _∙_, true, some, Option, List, [], _∷_, _++_, map, ℕ, _≤_, _<_, ltb, length, length-take, leb-true, ltb-true, arith}
 use Rattle.basics.specs.Basics.{if_then_else_, all, every, paired}
 use Rattle.basics.proofs.Facts.{by, AllOf, and-true}
@@ -38,7 +39,7 @@ pages-are v l (e ∷ es) ps h =
 pub record Whole (img : List ℕ) (h : Header) : Type 0 where
   pub passed : Passing img h
   pub few : 2 ≤ blockCount img
-  pub many : blockCount img ≤ 4096
+  pub many : blockCount img ≤ blockLimit
 
 pub whole : (img : List ℕ) (h : Header) → headerStage img ≡ holds h → Whole img h
 unfolding headerStage blockCount if_then_else_
@@ -52,7 +53,7 @@ whole img h e =
 -- a page may be loaded: its numbers fit an entry
 pub record PageOk (p : StoredPage) : Type 0 where
   pub table : p .table < 8
-  pub block : p .block < 4096
+  pub block : p .block < blockLimit
   pub filled : 1 ≤ length (p .tuples)
   pub tuples : AllFit (p .tuples)
 
@@ -65,7 +66,7 @@ pub record Sure (img : List ℕ) (h : Header) (es : List ℕ) (ps : List StoredP
   pub opens : length (transactions (rowsOfPages ps)) ≤ openLimit
   pub follow : paired follows (rowsOfPages ps) ≡ true
 
-pages-fit : (img : List ℕ) (n l : ℕ) (ps : List StoredPage) → n ≤ 4096 → all (blockOk n) (map (λ p. p .block) ps) ≡ true → AllOf (Read (view img) l) ps → AllOf PageOk ps
+pages-fit : (img : List ℕ) (n l : ℕ) (ps : List StoredPage) → n ≤ blockLimit → all (blockOk n) (map (λ p. p .block) ps) ≡ true → AllOf (Read (view img) l) ps → AllOf PageOk ps
 unfolding all blockOk
 pages-fit img n l [] h b r = tt
 pages-fit img n l (p ∷ ps) h b r =

@@ -24,7 +24,7 @@ ghost use Rattle.image.specs.View.{view};
 ghost use Rattle.image.specs.Stages.{holds, blockOk};
 ghost use Rattle.image.specs.Whole.{headerStage, pagesStage};
 ghost use Rattle.model.specs.Rules.{withoutPending};
-ghost use Rattle.model.specs.Recover.{recoveredStore, reopened};
+ghost use Rattle.model.specs.Recover.{recoveredStore, reopened, memoryFor};
 ghost use Rattle.memory_layout.specs.Flat.{flatOf, Room, Becomes, withOpens, withUsed};
 ghost use Rattle.memory_layout.specs.Store.{HoldsNow};
 ghost use Rattle.memory_rows.specs.Cells.{InOrder};
@@ -34,7 +34,7 @@ ghost use Rattle.call_recovery.specs.Loading.{pageAt, pagesAt, tuplesIn,
 ghost use Rattle.call_recovery.specs.Reopening.{AllOwners, ownRows, Counts, Sized, noted, openedBy, MayOpen, MayOpenOne};
 
 // How many transactions there may be.
-const TRANSACTIONS: usize = 4096;
+const TRANSACTIONS: usize = block_forms::TRANSACTIONS;
 
 // The same number, as a size.
 fn wide(x: u32) -> usize
@@ -226,7 +226,7 @@ fn reopen(m: &mut [u8])
 
 // Lays the store out over any old content: entries are the blocks of the pages that passed the tests.
 fn lay_out(image: &[u8], h: Header, entries: &[u32], m: &mut [u8])
-    requires { ⌜ (headerStage (now image) ≡ holds h) × (128 * h .capacity + 1024 ≤ length (now m)) ⌝ }
+    requires { ⌜ (headerStage (now image) ≡ holds h) × (memoryFor (h .capacity) ≤ length (now m)) ⌝ }
     requires { ⌜ (pagesStage (view (now image)) h ≡ holds (pagesAt (view (now image)) (now entries))) × (blocksIn (pagesAt (view (now image)) (now entries)) ≡ now entries) ⌝ }
     ensures { λ _. ⌜ HoldsNow (now (m .entry)) (now (m .exit)) (recoveredStore h (pagesAt (view (now (image .entry))) (now (entries .entry)))) ⌝ }
 {

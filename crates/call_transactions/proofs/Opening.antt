@@ -1,4 +1,5 @@
 -- Open: its tests, and the store with one transaction more.
+use Rattle.block_forms.specs.Limits.{mostTransaction}
 use Rattle.basics.proofs.Kit.{_≡_, _∙_, true, List, [], _∷_, _++_, ℕ, _≤_, _<_, ltb, length, le-leb, lt-ltb, le-ltb, lt-leb}
 use Rattle.model.specs.State.{Active}
 use Rattle.model.specs.Transactions.{gives, openCall, changed}
@@ -15,26 +16,26 @@ module _ (tx : ℕ) (f : Flat) where
   abbrev opened : Active
   opened = record { transaction = tx; written = 0 }
 
-  pub open-6 : 4095 < tx → openCall tx (storeOf f) ≡ gives (model.refused 6) (storeOf f)
+  pub open-6 : mostTransaction < tx → openCall tx (storeOf f) ≡ gives (model.refused 6) (storeOf f)
   unfolding openCall
-  open-6 h = refused-here 6 (ltb 4095 tx) _ _ _ (lt-ltb 4095 tx h)
+  open-6 h = refused-here 6 (ltb mostTransaction tx) _ _ _ (lt-ltb mostTransaction tx h)
 
-  module _ (h : tx ≤ 4095) where
+  module _ (h : tx ≤ mostTransaction) where
     pub open-8 : findOpen tx (f .opens) < length (f .opens) → openCall tx (storeOf f) ≡ gives (model.refused 8) (storeOf f)
     unfolding openCall storeOf
-    open-8 k = passed-on 6 (ltb 4095 tx) _ _ _ (le-ltb 4095 tx h) ∙ refused-here 8 _ _ _ _ (found-open tx (f .opens) k)
+    open-8 k = passed-on 6 (ltb mostTransaction tx) _ _ _ (le-ltb mostTransaction tx h) ∙ refused-here 8 _ _ _ _ (found-open tx (f .opens) k)
 
     module _ (k : length (f .opens) ≤ findOpen tx (f .opens)) where
       pub open-9 : 64 ≤ length (f .opens) → openCall tx (storeOf f) ≡ gives (model.refused 9) (storeOf f)
       unfolding openCall storeOf
       open-9 l =
-          passed-on 6 (ltb 4095 tx) _ _ _ (le-ltb 4095 tx h) ∙ passed-on 8 _ _ _ _ (not-found-open tx (f .opens) k)
+          passed-on 6 (ltb mostTransaction tx) _ _ _ (le-ltb mostTransaction tx h) ∙ passed-on 8 _ _ _ _ (not-found-open tx (f .opens) k)
           ∙ refused-here 9 _ _ _ _ (le-leb 64 (length (f .opens)) l)
 
       pub open-done : length (f .opens) < 64 → openCall tx (storeOf f) ≡ gives model.done (storeOf (withOpens f (f .opens ++ opened ∷ [])))
       unfolding openCall storeOf changed
       open-done l =
-          passed-on 6 (ltb 4095 tx) _ _ _ (le-ltb 4095 tx h) ∙ passed-on 8 _ _ _ _ (not-found-open tx (f .opens) k)
+          passed-on 6 (ltb mostTransaction tx) _ _ _ (le-ltb mostTransaction tx h) ∙ passed-on 8 _ _ _ _ (not-found-open tx (f .opens) k)
           ∙ passed-on 9 _ _ _ _ (lt-leb 64 (length (f .opens)) l) ∙ unless-none _ _
 
 -- other open transactions: the memory still holds a store

@@ -1,4 +1,5 @@
 -- A transaction's entry among the open ones: what is found there, written and taken out.
+use Rattle.block_forms.specs.Limits.{statementLimit}
 use Rattle.basics.proofs.Kit.{_≡_, refl, sym, ap, _∙_, true, false, not, List, [], _∷_, _++_, ℕ, suc, _+_, _≤_, _<_, length, take, drop, getD, set, eqb-true, eq-eqb, ne-eqb, eqb-false}
 use Rattle.basics.proofs.Kit.{arith}
 use Rattle.basics.specs.Basics.{if_then_else_, any, isIn, keep}
@@ -120,7 +121,7 @@ without-none tx (o ∷ os) h =
     (λ e. without-on tx o os e ∙ ap (λ (z : List Active). o ∷ z) (without-none tx os (omega (arith, find-on tx o os e))))
 
 -- a count has 20 bits
-pub written-small : (m : List ℕ) (i : ℕ) → i < length (flatOf m .opens) → getD (flatOf m .opens) i noOpen .written < 1048576
+pub written-small : (m : List ℕ) (i : ℕ) → i < length (flatOf m .opens) → getD (flatOf m .opens) i noOpen .written < statementLimit
 unfolding opensOf openAt
 written-small m i h =
     let e : getD (tab (openAt m) 0 (openCount m)) i noOpen ≡ openAt m (0 + i) = getD-tab (openAt m) 0 (openCount m) i noOpen (omega (arith, opens-length m)) in

@@ -1,4 +1,5 @@
 -- The first test that holds, and what a call that was tested does.
+use Rattle.block_forms.specs.Limits.{mostTransaction}
 use Rattle.basics.proofs.Kit.{_≡_, refl, sym, ap, _∙_, Bool, true, false, not, List, [], _∷_, _++_, ℕ, _≤_, _<_, ltb, length, lt-ltb, le-ltb, arith}
 use Rattle.basics.specs.Basics.{if_then_else_}
 use Rattle.basics.proofs.Facts.{by}
@@ -116,18 +117,18 @@ module _ (m : List ℕ) (tests : Store → List Test) where
 -- ---- 6, 7
 
 module _ (tx : ℕ) (f : Flat) where
-  pub stop-6 : 4095 < tx → firstRefusal (notOpen tx (storeOf f)) ≡ 6
+  pub stop-6 : mostTransaction < tx → firstRefusal (notOpen tx (storeOf f)) ≡ 6
   unfolding notOpen
-  stop-6 h = stop-here 6 (ltb 4095 tx) _ (lt-ltb 4095 tx h)
+  stop-6 h = stop-here 6 (ltb mostTransaction tx) _ (lt-ltb mostTransaction tx h)
 
-  module _ (h : tx ≤ 4095) where
+  module _ (h : tx ≤ mostTransaction) where
     pub stop-7 : length (f .opens) ≤ findOpen tx (f .opens) → firstRefusal (notOpen tx (storeOf f)) ≡ 7
     unfolding notOpen storeOf
-    stop-7 k = go-on 6 (ltb 4095 tx) _ (le-ltb 4095 tx h) ∙ stop-here 7 _ _ (ap not (not-found-open tx (f .opens) k))
+    stop-7 k = go-on 6 (ltb mostTransaction tx) _ (le-ltb mostTransaction tx h) ∙ stop-here 7 _ _ (ap not (not-found-open tx (f .opens) k))
 
     pub none-7 : findOpen tx (f .opens) < length (f .opens) → firstRefusal (notOpen tx (storeOf f)) ≡ 0
     unfolding notOpen storeOf
-    none-7 k = go-on 6 (ltb 4095 tx) _ (le-ltb 4095 tx h) ∙ go-on 7 _ _ (ap not (found-open tx (f .opens) k)) ∙ refusal-none
+    none-7 k = go-on 6 (ltb mostTransaction tx) _ (le-ltb mostTransaction tx h) ∙ go-on 7 _ _ (ap not (found-open tx (f .opens) k)) ∙ refusal-none
 
 pub open-numbered : (tx : ℕ) (s : Store) → Numbered (notOpen tx s)
 unfolding notOpen

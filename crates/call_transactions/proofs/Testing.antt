@@ -3,7 +3,7 @@ use Rattle.basics.proofs.Kit.{_≡_, refl, sym, ap, _∙_, ⊎-elim, Bool, true
 use Rattle.basics.proofs.Kit.{eq-eqb, ne-eqb, eqb-false, ltb-false, arith}
 use Rattle.basics.specs.Basics.{any, isSome, isIn}
 use Rattle.basics.proofs.Facts.{by, lie}
-use Rattle.block_forms.specs.Limits.{payloadLimit}
+use Rattle.block_forms.specs.Limits.{payloadLimit, mostTransaction}
 use Rattle.model.specs.State.{Store}
 use Rattle.model.specs.Sight.{held, versions}
 use Rattle.model.specs.Transactions.{Test, _when_, notOpen, noTable, tooLong, full, argumentTests, keyTest, keyTests, tupleTests, openNumbers}
@@ -182,7 +182,7 @@ is-open tx f e =
 pub record Called (m : List ℕ) (tx t n : ℕ) : Type 0 where
   pub there : holdsStore m ≡ true
   pub opened : findOpen tx (flatOf m .opens) < length (flatOf m .opens)
-  pub transaction : tx ≤ 4095
+  pub transaction : tx ≤ mostTransaction
   pub table : t < 8
   pub short : n ≤ payloadLimit
 
@@ -190,14 +190,14 @@ pub called : {tx t n : ℕ} {m : List ℕ} {v : ℕ} → v ≡ refusalIn (storeI
 unfolding argumentTests notOpen noTable tooLong
 called {tx} {t} {n} {m} {v} ev z =
     let s : Store = storeOf (flatOf m) in
-    let p6 = pass-one 6 (ltb 4095 tx) _ (omega arith) (passed-tests m (argumentTests tx t n) v ev z) in
+    let p6 = pass-one 6 (ltb mostTransaction tx) _ (omega arith) (passed-tests m (argumentTests tx t n) v ev z) in
     let p7 = pass-one 7 (not (isIn tx (openNumbers (s .active)))) _ (omega arith) (p6 .1) in
     let p10 = pass-one 10 (ltb 7 t) _ (omega arith) (p7 .1) in
     let p11 = pass-one 11 (ltb payloadLimit n) _ (omega arith) (p10 .1) in
     record {
       there = passed-held m (argumentTests tx t n) v ev z;
       opened = is-open tx (flatOf m) (p7 .0);
-      transaction = ltb-false 4095 tx (p6 .0);
+      transaction = ltb-false mostTransaction tx (p6 .0);
       table = omega (arith, ltb-false 7 t (p10 .0));
       short = ltb-false payloadLimit n (p11 .0);
     }

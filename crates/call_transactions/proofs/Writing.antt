@@ -1,4 +1,5 @@
 -- A tuple written: its row, the counters, the store with it.
+use Rattle.block_forms.specs.Limits.{mostStatement}
 use Rattle.basics.proofs.Kit.{_≡_, refl, sym, ap, _∙_, Bool, some, List, ℕ, suc, _+_, _≤_, _<_, min, add-one, length, set, arith}
 use Rattle.basics.specs.Basics.{all}
 use Rattle.block_forms.specs.Tuple.{Tuple, tentative}
@@ -22,16 +23,16 @@ use Rattle.call_transactions.proofs.Opens.{found-is, count-is, wrote-is
 -- ---- one more
 
 module _ (o : Open) where
-  pub more-one : o .written < 1048575 → activeOf (record { transaction = o .transaction; written = o .written + 1 }) ≡ oneMore (activeOf o)
+  pub more-one : o .written < mostStatement → activeOf (record { transaction = o .transaction; written = o .written + 1 }) ≡ oneMore (activeOf o)
   unfolding oneMore
   more-one h =
-      let e : o .written + 1 ≡ min (suc (o .written)) 1048575 = omega arith in
+      let e : o .written + 1 ≡ min (suc (o .written)) mostStatement = omega arith in
       ap (λ (z : ℕ). record { transaction = o .transaction; written = z }) e
 
-  pub more-full : OpenFits o → 1048575 ≤ o .written → activeOf o ≡ oneMore (activeOf o)
+  pub more-full : OpenFits o → mostStatement ≤ o .written → activeOf o ≡ oneMore (activeOf o)
   unfolding oneMore
   more-full f h =
-      let e : o .written ≡ min (suc (o .written)) 1048575 = omega (arith, f .written) in
+      let e : o .written ≡ min (suc (o .written)) mostStatement = omega (arith, f .written) in
       ap (λ (z : ℕ). record { transaction = o .transaction; written = z }) e
 
 -- the entry that the code reads has its bits

@@ -4,7 +4,7 @@ use mathlib.Core.Bool.{Bool, true, false}
 use mathlib.Core.List.{List}
 use Prim.Native.Nat.{ℕ, _+_, _*_, _≤_, _<_}
 use lib.ListN.{length, getD, set}
-use Rattle.block_forms.specs.Limits.{payloadLimit}
+use Rattle.block_forms.specs.Limits.{payloadLimit, mostTransaction, statementLimit, transactionLimit}
 use Rattle.block_forms.specs.Tuple.{tentative}
 use Rattle.model.specs.State.{Active, Store, Outcome}
 use Rattle.model.specs.Rules.{place}
@@ -33,8 +33,8 @@ pub record ListInto (m : List ℕ) (n : ℕ) (reply : List ℕ) : Type 0 where
 pub record WriterAt (m : List ℕ) (i : ℕ) : Type 0 where
   pub room : Room m
   pub inside : i < length (flatOf m .opens)
-  pub transaction : openIn (flatOf m) i .transaction < 4096
-  pub written : openIn (flatOf m) i .written < 1048576
+  pub transaction : openIn (flatOf m) i .transaction < transactionLimit
+  pub written : openIn (flatOf m) i .written < statementLimit
   pub next : flatOf m .head .next ≡ 4294967295 → ⊥
 
 -- the row that open transaction i writes next
@@ -58,7 +58,7 @@ afterCount f i = withOpens (withHead f (nextHead (f .head))) (set (f .opens) i (
 pub record AcceptAt (m : List ℕ) (tx t at k : ℕ) (bs : List ℕ) : Type 0 where
   pub has-store : holdsStore m ≡ true
   pub opened : findOpen tx (flatOf m .opens) < length (flatOf m .opens)
-  pub transaction : tx ≤ 4095
+  pub transaction : tx ≤ mostTransaction
   pub table : t < 8
   pub short : length bs ≤ payloadLimit
   pub free : length (flatOf m .rows) < flatOf m .head .capacity

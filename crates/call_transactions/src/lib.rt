@@ -35,14 +35,14 @@ const BLOCK_LIMIT: usize = memory_layout::BLOCK_LIMIT as usize;
 const CAPACITY_LIMIT: u64 = memory_layout::CAPACITY_LIMIT as u64;
 
 // The largest number of a transaction and of a table, and how many transactions may be open.
-const TRANSACTION_LIMIT: u64 = 4095;
+const TRANSACTION_LIMIT: u64 = block_forms::TRANSACTIONS as u64 - 1;
 
 const TABLE_LIMIT: u64 = 7;
 
 const OPEN_LIMIT: usize = memory_layout::OPEN_LIMIT as usize;
 
 // The most that a transaction's count of tuples goes to, and the number that no tuple gets.
-const WRITTEN_LIMIT: u32 = memory_layout::WRITTEN_LIMIT - 1;
+const WRITTEN_LIMIT: u32 = block_forms::STATEMENTS - 1;
 
 const LAST_NUMBER: u32 = 4294967295;
 

@@ -1,9 +1,11 @@
 -- Counts and searches of blocks, turn by turn, and what they say of the store.
+use Rattle.memory_layout.specs.Places.{headSize}
+use Rattle.block_forms.specs.Limits.{blockLimit}
 use Rattle.basics.proofs.Kit.{_≡_, refl, sym, ap, _∙_, Bool, true, false, not, some, none, Option, List, [], _∷_, _++_, ℕ, suc, _+_, _≤_, _<_, zero, _-_, add-one, length, take, drop}
 use Rattle.basics.proofs.Kit.{arith}
 use Rattle.basics.specs.Basics.{if_then_else_, howMany, first, from}
 use Rattle.basics.proofs.Facts.{by, never}
-use Rattle.image.specs.Stages.{directoriesFor}
+use Rattle.image.specs.Stages.{directoriesFor, capacityLimit}
 use Rattle.model.specs.State.{Held, Page}
 use Rattle.model.specs.Rules.{isDirty, isFrozen}
 use Rattle.model.specs.Checkpoint.{allocate, isFree, freeCount, blocksNeeded}
@@ -44,12 +46,12 @@ free-is f = refl
 -- ---- the numbers of a memory with room, for omega
 
 pub record Sizes (m : List ℕ) : Type 0 where
-  pub long : 1024 ≤ length m
+  pub long : headSize ≤ length m
   pub few : 2 ≤ flatOf m .head .blocks
-  pub many : flatOf m .head .blocks ≤ 4096
+  pub many : flatOf m .head .blocks ≤ blockLimit
   pub taken : flatOf m .head .taken < flatOf m .head .blocks
   pub pages : length (flatOf m .entries) ≤ 2048
-  pub named : length (flatOf m .named) ≤ 1024
+  pub named : length (flatOf m .named) ≤ capacityLimit
   pub directories : length (flatOf m .directories) ≤ 4
 
 pub sizes : {m : List ℕ} → Room m → Sizes m
@@ -73,7 +75,7 @@ pages-few m h =
     let k : Known m = known m r in
     omega (arith, counted-length (flatOf m .entries) (counted m h), filled m r)
 
-pub pages-most : (m : List ℕ) → holdsStore m ≡ true → length (flatOf m .entries) ≤ 1024
+pub pages-most : (m : List ℕ) → holdsStore m ≡ true → length (flatOf m .entries) ≤ capacityLimit
 pages-most m h = omega (arith, pages-few m h, holds-room m h .range .most)
 
 -- ---- pages by their entries

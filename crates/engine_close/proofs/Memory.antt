@@ -1,4 +1,5 @@
 -- The rows of a memory with room, each with its table: as many as the memory says, in its order, and tables by the page entries.
+use Rattle.image.specs.Stages.{capacityLimit}
 use Rattle.basics.proofs.Kit.{_≡_, refl, sym, ap, _∙_, subst, ⊎-elim, true, List, [], _∷_, _++_, map, ℕ, suc, _+_, _≤_, _<_, zero, _-_, add-one, ltb, length, take, drop, getD}
 use Rattle.basics.proofs.Kit.{length-drop, length-map, List·getD-append, List·getD-map, length-take-le, getD-append-add, take-length, arith}
 use Rattle.basics.specs.Basics.{sum}
@@ -35,7 +36,7 @@ module _ (m : List ℕ) (room : Room m) where
   rows-counted e = rows-read m e ∙ sym tagged-length
 
   -- there are few
-  pub few-rows : length (taggedOf m) ≤ 1024
+  pub few-rows : length (taggedOf m) ≤ capacityLimit
   few-rows = let k = known m room in omega (arith, tagged-length, k .rows-are, k .rows, k .most)
 
 -- ---- tables

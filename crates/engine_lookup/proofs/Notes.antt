@@ -1,4 +1,5 @@
 -- One row noted, by what the code finds there.
+use Rattle.image.specs.Stages.{capacityLimit}
 use Rattle.basics.proofs.Kit.{_≡_, refl, sym, ap, _∙_, ⊎-elim, Bool, true, false, List, [], _∷_, ℕ, _+_, _<_, add-one, length, eq-eqb, ne-eqb, arith}
 use types.Run.{OneOf}
 use denote.Enum.Declared.{tagOf}
@@ -72,5 +73,5 @@ module _ (tx i : ℕ) (h : Held) (l : Visibility) where
         others Removing k = absurd (⊎-elim (λ z. omega arith) (λ z. omega arith) k)
 
 -- there are at most 1,024 rows
-pub row-below : {m : List ℕ} {i : ℕ} → Room m → i < length (flatOf m .rows) → i < 1024
+pub row-below : {m : List ℕ} {i : ℕ} → Room m → i < length (flatOf m .rows) → i < capacityLimit
 row-below {m} r h = let k : Known m = known m r in omega arith

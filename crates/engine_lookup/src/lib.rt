@@ -6,6 +6,7 @@ ghost use mathlib.Core.Path.{_≡_};
 ghost use mathlib.Core.Bool.{true};
 ghost use Prim.Native.Nat.{_-_, _≤_, _<_};
 ghost use lib.ListN.{length};
+ghost use Rattle.image.specs.Stages.{capacityLimit};
 ghost use Rattle.model.specs.Sight.{versions, seen};
 ghost use Rattle.basics.specs.Lists.{tab};
 ghost use Rattle.memory_layout.specs.Flat.{flatOf, rowIn, Room};
@@ -45,7 +46,7 @@ struct Range {
 
 // A committed version at row i: the first one counts.
 fn note_committed(i: usize, visibility: Visibility) -> Visibility
-    requires { ⌜ i < 1024 ⌝ }
+    requires { ⌜ i < capacityLimit ⌝ }
     ensures { λ r. ⌜ r ≡ noteCommitted i visibility ⌝ }
 {
     let mut l = visibility;
@@ -58,7 +59,7 @@ fn note_committed(i: usize, visibility: Visibility) -> Visibility
 
 // A tentative version at row i, the transaction's own or another's: the last own one counts.
 fn note_tentative(i: usize, own: bool, visibility: Visibility) -> Visibility
-    requires { ⌜ i < 1024 ⌝ }
+    requires { ⌜ i < capacityLimit ⌝ }
     ensures { λ r. ⌜ r ≡ noteTentative i own visibility ⌝ }
 {
     let mut l = visibility;
@@ -73,7 +74,7 @@ fn note_tentative(i: usize, own: bool, visibility: Visibility) -> Visibility
 
 // A version of this owner at row i.
 fn note_owner(i: usize, owner: Owner, transaction: u64, visibility: Visibility) -> Visibility
-    requires { ⌜ i < 1024 ⌝ }
+    requires { ⌜ i < capacityLimit ⌝ }
     ensures { λ r. ⌜ r ≡ noteOwner transaction i (ownerIs owner) visibility ⌝ }
 {
     match owner {

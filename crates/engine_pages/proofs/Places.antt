@@ -1,4 +1,7 @@
 -- Pages by place: what stands where after pages were exchanged, and one change after another.
+use Rattle.memory_layout.specs.Places.{headSize}
+use Rattle.image.specs.Stages.{capacityLimit}
+use Rattle.block_forms.specs.Limits.{blockLimit}
 use Rattle.basics.proofs.Kit.{_≡_, refl, sym, ap, _∙_, ⊎-elim, true, some, List, [], _∷_, _++_, append-assoc, append-nil, ℕ, suc, _+_, _*_, _≤_, _<_, _-_, length, take, drop, getD}
 use Rattle.basics.proofs.Kit.{length-append, take-append-drop, take-at, drop-at, length-take-le, arith}
 use Rattle.basics.proofs.Tabs.{lt-or-ge}
@@ -56,13 +59,13 @@ now-becomes {m} {m'} {R} {E} b c e =
 
 -- ---- what is known of a page
 
-pub few-rows : {m : List ℕ} → Room m → length (flatOf m .rows) ≤ 1024
+pub few-rows : {m : List ℕ} → Room m → length (flatOf m .rows) ≤ capacityLimit
 few-rows {m} r = let k : Known m = known m r in omega arith
 
 pub few-pages : {m : List ℕ} → Room m → length (flatOf m .entries) ≤ 2048
 few-pages {m} r = let k : Known m = known m r in omega arith
 
-pub long : {m : List ℕ} → Room m → 1024 ≤ length m
+pub long : {m : List ℕ} → Room m → headSize ≤ length m
 long {m} r = let k : Known m = known m r in omega arith
 
 -- what stands after a change of rows
@@ -122,7 +125,7 @@ module _ {m : List ℕ} {p : ℕ} (a : There m p) where
   unfolding headOf
   spacious h = let k : Known m = known m room in omega arith
 
-  pub block-small : entryOf m p .block < 4096
+  pub block-small : entryOf m p .block < blockLimit
   block-small = omega (arith, entry-block m p (omega (arith, a .inside, entries-length m)))
 
   pub page-table : pageAt m p .table ≡ entryOf m p .table

@@ -1,4 +1,5 @@
 -- Rows from s up to e, turn by turn: their sizes, and tests over them.
+use Rattle.image.specs.Stages.{capacityLimit}
 use Rattle.basics.proofs.Kit.{_≡_, refl, sym, ap, _∙_, List, [], _∷_, ℕ, zero, suc, _+_, _*_, _≤_, _<_, _-_, add-one, ltb, length, take, drop, getD, drop-cons}
 use Rattle.basics.proofs.Kit.{le-leb, lt-leb, arith}
 use Rattle.basics.specs.Basics.{if_then_else_, sum}
@@ -73,7 +74,7 @@ pub record Turn (m : List ℕ) (s e i all w : ℕ) : Type 0 where
   pub least : s ≤ i
   pub inside : i < e
   pub most : e ≤ length (flatOf m .rows)
-  pub few : e ≤ 1024
+  pub few : e ≤ capacityLimit
   pub light : all ≤ mostRecord * (i - s)
   pub small : w ≤ mostRecord
   pub size : w ≡ heldSize (rowIn (flatOf m) i)

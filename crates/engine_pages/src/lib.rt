@@ -15,6 +15,7 @@ ghost use mathlib.Core.Bool.{true, false};
 ghost use mathlib.Core.List.{_∷_, [], _++_, map};
 ghost use Prim.Native.Nat.{_+_, _-_, _<_};
 ghost use lib.ListN.{length, take, drop};
+ghost use Rattle.block_forms.specs.Limits.{blockLimit};
 ghost use Rattle.basics.specs.Basics.{any};
 ghost use Rattle.model.specs.Rules.{fresh, withTuples, joins, splitAll, freeze, withoutPending, applied, thaw, place};
 ghost use Rattle.model.specs.Places.{pendRemoveAt, removeRow, committedAt, commitRow};
@@ -296,7 +297,7 @@ fn apply_pending(m: &mut [u8], p: usize) -> usize
 
 // Page p, the first frozen one, is stored as block b: it is clean if nothing was pending, else dropped, joined or split.
 pub fn thaw(m: &mut [u8], p: usize, b: u16)
-    requires { ⌜ FirstFrozen (now m) p × (b < 4096) ⌝ }
+    requires { ⌜ FirstFrozen (now m) p × (b < blockLimit) ⌝ }
     ensures { λ _. ⌜ HoldsNow (now (m .entry)) (now (m .exit)) (withPages (storeOf (flatOf (now (m .entry)))) (thaw b (pagesOf (now (m .entry))))) ⌝ }
 {
     if !has_pending(m, p) {

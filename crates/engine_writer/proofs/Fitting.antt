@@ -1,4 +1,5 @@
 -- Whatever bytes the memory has, its tuples are in the ranges of a block.
+use Rattle.block_forms.specs.Limits.{markValue, payloadLimit}
 use Rattle.basics.proofs.Kit.{_≡_, List, ℕ, suc, _+_, _*_, _%_, _≤_, _<_, zero, _-_, min-le-right, length, getD, arith}
 use mir.Syntax.{w8}
 use mir.Val as val
@@ -32,7 +33,7 @@ module _ (m : List ℕ) (small : (k : ℕ) → val.Fits w8 (getD m k 0)) where
         key = h;
         number = word-small a;
         owner = owner-fits s (le4 m (a + 4)) (word-small (a + 4));
-        payload = omega (arith, length-bytes m (a + 8) (lengthOf s), min-le-right (s % 64) 40);
+        payload = omega (arith, length-bytes m (a + 8) (lengthOf s), min-le-right (s % markValue) payloadLimit);
         bytes = all-bytes (a + 8) (lengthOf s);
       }
 

@@ -1,4 +1,5 @@
 -- Counts and header, from what the memory holds.
+use Rattle.image.specs.Stages.{capacityLimit}
 use Rattle.basics.proofs.Kit.{_≡_, ap, List, ℕ, suc, _+_, _≤_, length, getD, arith}
 use Rattle.model.specs.Checkpoint.{headerFor}
 use Rattle.memory_layout.specs.Views.{headOf, countsOf}
@@ -10,7 +11,7 @@ use Rattle.engine_writer.specs.Written.{nextHeader}
 use Rattle.memory_layout.proofs.Laws.{named-length, named-read, directories-read}
 
 -- there are at most as many directory entries as rows
-pub named-few : (m : List ℕ) → Room m → length (flatOf m .named) ≤ 1024
+pub named-few : (m : List ℕ) → Room m → length (flatOf m .named) ≤ capacityLimit
 unfolding countsOf
 named-few m r = omega (arith, named-length m, r .range .named, r .range .most)
 

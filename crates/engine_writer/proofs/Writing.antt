@@ -1,7 +1,7 @@
 -- A row's record on a page: its size, and that it can be appended; a page while its rows are measured and written.
 use Rattle.basics.proofs.Kit.{_≡_, refl, sym, ap, _∙_, subst, true, false, List, [], _∷_, _++_, ℕ, _+_, _*_, _≤_, _<_, leb, length, length-append, arith}
 use Rattle.basics.specs.Basics.{if_then_else_, sum}
-use Rattle.block_forms.specs.Limits.{pageHeadSize, recordSpace, mostRecord}
+use Rattle.block_forms.specs.Limits.{pageHeadSize, recordSpace, mostRecord, blockSize}
 use Rattle.block_forms.specs.Tuple.{Tuple, size, sizes, OwnerFits, Fits}
 use Rattle.block_forms.specs.Block.{page, encodeBlock, PageFits}
 use Rattle.block_forms.specs.Bytes.{payloadIn, tupleOf, sizeOf, Appendable, partPage, behind, Appended}
@@ -21,7 +21,7 @@ module _ {m : List ℕ} {r : Record} {x : Tuple} (s : Spells m r x) where
   spells-size = record-size r (payloadIn m r) (length-part (r .len) (r .start) m (s .inside)) ∙ ap size (s .tuple)
 
   -- the record of a tuple in range can be appended
-  pub spells-appends : {at : ℕ} → Fits x → at + size x ≤ 512 → Appendable at r m
+  pub spells-appends : {at : ℕ} → Fits x → at + size x ≤ blockSize → Appendable at r m
   unfolding tupleOf
   spells-appends fit h =
       let l : length (payloadIn m r) ≡ r .len = length-part (r .len) (r .start) m (s .inside) in
@@ -65,7 +65,7 @@ module _ {n : ℕ} {ts : List Tuple} {count bytes : ℕ} (d : Measured n ts coun
 pub record Filling (block : List ℕ) (t l n b : ℕ) (ts : List Tuple) (at : ℕ) : Type 0 where
   pub made : block ≡ partPage t l n b ts
   pub place : at ≡ behind ts
-  pub room : at ≤ 512
+  pub room : at ≤ blockSize
 
 pub filling-start : {block : List ℕ} {t l : ℕ} {w : Shown} {all ts : List Tuple} → block ≡ partPage t l (w .count) (w .bytes) [] → Measures w all → ts ≡ []
     → Filling block t l (length all) (sizes all) ts pageHeadSize

@@ -135,7 +135,7 @@ fn measure(m: &[u8], s: usize, e: usize) -> Shown
 }
 
 // The page of what these rows show, in a block of zeros: its head, then record after record.
-fn fill_page(block: &mut [u8; 512], m: &[u8], table: u8, s: usize, e: usize, level: u32, w: Shown)
+fn fill_page(block: &mut [u8; block_forms::BLOCK_SIZE], m: &[u8], table: u8, s: usize, e: usize, level: u32, w: Shown)
     requires { ⌜ Fillable (now block) (now m) table s e w ⌝ }
     ensures { λ _. ⌜ now (block .exit) ≡ encodeBlock (page table level (shown (rowsFrom (now (m .entry)) s e))) ⌝ }
 {
@@ -158,7 +158,7 @@ pub fn write_page(out: &mut [u8], m: &[u8], table: u8, s: usize, e: usize, level
     ensures { λ _. ⌜ now (out .exit) ≡ encodeBlock (page table level (storable (shown (rowsFrom (now (m .entry)) s e)))) ⌝ }
 {
     let w = measure(m, s, e);
-    let mut block = [0u8; 512];
+    let mut block = [0u8; block_forms::BLOCK_SIZE];
     if block_forms::PageLayout::fits(w.bytes) {
         fill_page(&mut block, m, table, s, e, level, w);
     } else {

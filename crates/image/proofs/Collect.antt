@@ -1,4 +1,5 @@
 -- The pages of an image one after another, their rows in columns; and what the tests make of them.
+use Rattle.block_forms.specs.Limits.{blockSize}
 use Rattle.basics.proofs.Kit.{_≡_, refl, sym, ap, _∙_, Bool, true, false, _&&_, some, none, Option, Option·map, List, [], _∷_, _++_, append-assoc, append-nil, map, ℕ, suc, _+_, _*_, _≤_}
 use Rattle.basics.proofs.Kit.{_<_, _/_, _-_, leb, ltb, length, take, drop, getD, length-append, length-take, length-drop, drop-of-length-le, le-leb, leb-true, lt-leb, leb-false}
 use Rattle.basics.proofs.Kit.{ltb-true, arith}
@@ -32,11 +33,11 @@ rows-pages [] qs = refl
 rows-pages (p ∷ ps) qs = rw (rows-pages ps qs) (sym (append-assoc (rowsOf (p .table) (p .tuples)) (rowsOfPages ps) (rowsOfPages qs)))
 
 -- a block that may be named is in the image
-pub within : (xs es : List ℕ) (i : ℕ) → all (blockOk (blockCount xs)) es ≡ true → i < length es → 512 * getD es i 0 + 512 ≤ length xs
+pub within : (xs es : List ℕ) (i : ℕ) → all (blockOk (blockCount xs)) es ≡ true → i < length es → blockSize * getD es i 0 + blockSize ≤ length xs
 unfolding blockOk blockCount
 within xs es i e h =
-    let b = and-true (ltb 0 (getD es i 0)) (ltb (getD es i 0) (length xs / 512)) (all-get (blockOk (blockCount xs)) 0 es i e h) in
-    let l = ltb-true (getD es i 0) (length xs / 512) (b .1) in omega arith
+    let b = and-true (ltb 0 (getD es i 0)) (ltb (getD es i 0) (length xs / blockSize)) (all-get (blockOk (blockCount xs)) 0 es i e h) in
+    let l = ltb-true (getD es i 0) (length xs / blockSize) (b .1) in omega arith
 
 -- ---- a good page
 
@@ -223,12 +224,12 @@ module _ (v : View) (h : Header) (es : List ℕ) where
 
 -- ---- the block that the code holds
 
-pub whole-copy : (m xs : List ℕ) (k : ℕ) → length m ≡ 512 → 512 * k + 512 ≤ length xs → over m 0 (take 512 (drop (512 * k) xs)) ≡ blockAt xs k
+pub whole-copy : (m xs : List ℕ) (k : ℕ) → length m ≡ blockSize → blockSize * k + blockSize ≤ length xs → over m 0 (take blockSize (drop (blockSize * k) xs)) ≡ blockAt xs k
 unfolding over blockAt
 whole-copy m xs k l h =
-    let p : length (take 512 (drop (512 * k) xs)) ≡ 512 = simp (length-take, length-drop) (omega arith) in
-    let q : length m ≤ 0 + length (take 512 (drop (512 * k) xs)) = omega arith in
-    rw (drop-of-length-le m q) (append-nil (take 512 (drop (512 * k) xs)))
+    let p : length (take blockSize (drop (blockSize * k) xs)) ≡ blockSize = simp (length-take, length-drop) (omega arith) in
+    let q : length m ≤ 0 + length (take blockSize (drop (blockSize * k) xs)) = omega arith in
+    rw (drop-of-length-le m q) (append-nil (take blockSize (drop (blockSize * k) xs)))
 
 module _ (xs es : List ℕ) (i x : ℕ) (bs : List ℕ) (b : bs ≡ blockAt xs x) (e : x ≡ getD es i 0) where
   pub seen : decodeBlock bs ≡ view xs (getD es i 0)

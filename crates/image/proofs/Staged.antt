@@ -5,7 +5,7 @@ use Rattle.basics.specs.Basics.{if_then_else_, all, every}
 use Rattle.basics.proofs.Facts.{by, by-option, never, lie, and-true, clash}
 use Rattle.basics.proofs.Elements.{some-eq, every-all}
 use Rattle.basics.specs.Lists.{over}
-use Rattle.block_forms.specs.Limits.{entriesPerBlock}
+use Rattle.block_forms.specs.Limits.{entriesPerBlock, blockLimit, blockSize}
 use Rattle.block_forms.specs.Block.{Block, asHeader, asPage, asDirectory}
 use Rattle.block_forms.specs.Decode.{decodeBlock}
 use Rattle.block_reader.specs.Answers.{reading}
@@ -33,23 +33,23 @@ module _ (xs : List ℕ) where
   unfolding headerStage headerAnswer if_then_else_
   ragged e = rw e
 
-  pub not-whole : (length xs % 512 ≡ 0 → ⊥) → Refused 1 ≡ headerAnswer (headerStage xs)
+  pub not-whole : (length xs % blockSize ≡ 0 → ⊥) → Refused 1 ≡ headerAnswer (headerStage xs)
   unfolding wholeBlocks
-  not-whole h = ragged (rw (ne-eqb (length xs % 512) 0 h))
+  not-whole h = ragged (rw (ne-eqb (length xs % blockSize) 0 h))
 
-  pub too-few : length xs / 512 < 2 → Refused 1 ≡ headerAnswer (headerStage xs)
+  pub too-few : length xs / blockSize < 2 → Refused 1 ≡ headerAnswer (headerStage xs)
   unfolding wholeBlocks
-  too-few h = ragged (rw (lt-leb 2 (length xs / 512) h, and-no))
+  too-few h = ragged (rw (lt-leb 2 (length xs / blockSize) h, and-no))
 
-  pub too-many : 4096 < length xs / 512 → Refused 1 ≡ headerAnswer (headerStage xs)
+  pub too-many : blockLimit < length xs / blockSize → Refused 1 ≡ headerAnswer (headerStage xs)
   unfolding wholeBlocks
-  too-many h = ragged (rw (lt-leb (length xs / 512) 4096 h, and-no, and-no))
+  too-many h = ragged (rw (lt-leb (length xs / blockSize) blockLimit h, and-no, and-no))
 
-  module _ (w : length xs % 512 ≡ 0) (l : 2 ≤ length xs / 512) (m : length xs / 512 ≤ 4096) (bs : List ℕ) (b : bs ≡ blockAt xs 0) where
+  module _ (w : length xs % blockSize ≡ 0) (l : 2 ≤ length xs / blockSize) (m : length xs / blockSize ≤ blockLimit) (bs : List ℕ) (b : bs ≡ blockAt xs 0) where
     -- the first block decides
-    pub by-block : headerTest (length xs / 512) (asHeader (decodeBlock bs)) ≡ headerStage xs
+    pub by-block : headerTest (length xs / blockSize) (asHeader (decodeBlock bs)) ≡ headerStage xs
     unfolding headerStage wholeBlocks blockCount view if_then_else_
-    by-block = rw (b, eq-eqb (length xs % 512) 0 w, le-leb 2 (length xs / 512) l, le-leb (length xs / 512) 4096 m)
+    by-block = rw (b, eq-eqb (length xs % blockSize) 0 w, le-leb 2 (length xs / blockSize) l, le-leb (length xs / blockSize) blockLimit m)
 
 module _ (n : ℕ) where
   pub header-yes : (b : Block) {h : Header} → IsHeader h ≡ reading b → headerOk n h ≡ true → Passed h ≡ headerAnswer (headerTest n (asHeader b))

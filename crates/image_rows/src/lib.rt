@@ -12,6 +12,9 @@ ghost use Rattle.image_rows.specs.Chains.{rowLimit, bucketCount, lastBy,
 
 // The rows of an image, at most.
 pub const ROWS: usize = 1024;
+
+// At most so many transactions are open.
+pub const OPEN_LIMIT: usize = 64;
 // What a transaction is multiplied by in an owner's code.
 pub const STATEMENTS: u64 = block_forms::STATEMENTS as u64;
 // The hash table's buckets: a prime, so that the statements of many transactions spread.
@@ -287,5 +290,5 @@ pub fn columns_ok(
     if !statements(numbers, owners, count) {
         return false;
     }
-    starts(owners, count) <= 64
+    starts(owners, count) <= OPEN_LIMIT
 }

@@ -16,9 +16,13 @@ equals key x = eqb x key
 abbrev pub upTo : ℕ → ℕ → Bool
 upTo key x = leb x key
 
--- x is s modulo 1,024
+-- a slot's number has ten bits; a row's pending operation stands above them
+abbrev pub slotLimit : ℕ
+slotLimit = 1024
+
+-- x names slot s
 abbrev pub names : ℕ → ℕ → Bool
-names s x = eqb (x % 1024) s
+names s x = eqb (x % slotLimit) s
 
 -- there are numbers of two bytes from base on, from index s up to, not including, e, and they can be counted in 16 bits
 pub record Countable (m : List ℕ) (base s e : ℕ) : Type 0 where

@@ -13,6 +13,9 @@ ghost use Rattle.basics.specs.Basics.{any, howMany, paired};
 ghost use mathlib.Core.Bool.{cond};
 ghost use lib.Dec.{ltb};
 
+// A slot's number has ten bits; a row's pending operation stands above them.
+pub const SLOT_LIMIT: u16 = 1024;
+
 // The indices from first up to, not including, last.
 pub struct Span {
     pub first: usize,
@@ -216,7 +219,7 @@ pub fn rising2(m: &[u8], base: usize, n: usize) -> bool
     ok
 }
 
-// Whether one of the 64 numbers of two bytes from byte at on is s modulo 1,024.
+// Whether one of the 64 numbers of two bytes from byte at on names slot s.
 fn any_names(m: &[u8], at: usize, s: u16) -> bool
     requires { ⌜ at + 128 ≤ length (now m) ⌝ }
     ensures { λ r. ⌜ r ≡ any (names s) (tab (column2 (now (m .entry)) at) 0 64) ⌝ }
@@ -224,7 +227,7 @@ fn any_names(m: &[u8], at: usize, s: u16) -> bool
     let mut hit = false;
     let mut j: usize = 0;
     while j < 64 {
-        hit = hit | (get2(m, at + j * 2) % 1024 == s);
+        hit = hit | (get2(m, at + j * 2) % SLOT_LIMIT == s);
         j += 1;
     }
     hit
@@ -238,7 +241,7 @@ fn rest_names(m: &[u8], base: usize, i: usize, n: usize, s: u16) -> bool
     let mut hit = false;
     let mut j = i;
     while j < n {
-        hit = hit | (get2(m, base + j * 2) % 1024 == s);
+        hit = hit | (get2(m, base + j * 2) % SLOT_LIMIT == s);
         j += 1;
     }
     hit

@@ -1,11 +1,13 @@
 -- A fresh store: over any old content, zeros in the head but for three numbers, and no block in use.
+use Rattle.image.specs.Stages.{capacityLimit}
+use Rattle.block_forms.specs.Limits.{blockLimit}
 use Rattle.basics.proofs.Kit.{_≡_, refl, ap, _∙_, true, not, some, List, ℕ, _+_, _*_, _≤_, _<_, _-_, eqb, length, getD, length-replicate, replicate, le-ltb, arith}
 use Rattle.basics.specs.Basics.{if_then_else_, all}
 use Rattle.model.specs.Recover.{freshStore}
 use Rattle.memory_bytes.specs.Bytes.{le2, le4, bytes4, Apart, Wrote}
 use Rattle.basics.specs.Lists.{tab}
 use Rattle.memory_bytes.proofs.Bytes.{le4-below, le4-wrote}
-use Rattle.memory_layout.specs.Places.{signature}
+use Rattle.memory_layout.specs.Places.{signature, headSize, opensAt, refsAt, usedAt, usedSize}
 use Rattle.memory_layout.specs.Views.{headOf, countsOf, tableEnd, pageCount, openAt, rowAt, entryAt, namedBlock, directoryAt, startAt}
 use Rattle.memory_layout.specs.Flat.{capacityOf, opensOf, rowsOf, entriesOf, namedOf, directoriesOf, Becomes}
 use Rattle.memory_layout.specs.Store.{nest, checkpointOf, storeOf, storeIn, hasRows, FreshFits, freshFlat}
@@ -30,10 +32,10 @@ names-turn i s w =
 -- what the fresh memory's bytes say
 pub record Blanked (m' : List ℕ) (b n : ℕ) : Type 0 where
   pub sign : le4 m' 0 ≡ signature
-  pub capacity : le4 m' 4 ≡ n
+  pub capacity : capacityOf m' ≡ n
   pub blocks : le4 m' 8 ≡ b
-  pub zeros : (x : ℕ) → 12 ≤ x → x < 128 → getD m' x 0 ≡ 0
-  pub unused : (x : ℕ) → 512 ≤ x → x < 1024 → getD m' x 0 ≡ 0
+  pub zeros : (x : ℕ) → 12 ≤ x → x < opensAt → getD m' x 0 ≡ 0
+  pub unused : (x : ℕ) → usedAt ≤ x → x < headSize → getD m' x 0 ≡ 0
 
 zero2 : (m : List ℕ) (a : ℕ) → ((x : ℕ) → a ≤ x → x < a + 2 → getD m x 0 ≡ 0) → le2 m a ≡ 0
 unfolding le2
@@ -45,7 +47,7 @@ zero4 m a z =
     omega (arith, z a (omega arith) (omega arith), z (a + 1) (omega arith) (omega arith), z (a + 2) (omega arith) (omega arith), z (a + 3) (omega arith) (omega arith))
 
 module _ {m' : List ℕ} {b n : ℕ} (k : Blanked m' b n) where
-  word : (a : ℕ) → 12 ≤ a → a + 4 ≤ 128 → le4 m' a ≡ 0
+  word : (a : ℕ) → 12 ≤ a → a + 4 ≤ opensAt → le4 m' a ≡ 0
   word a h l = zero4 m' a (λ x p q. k .zeros x (omega arith) (omega arith))
 
   ends : (t : ℕ) → t < 8 → tableEnd m' t ≡ 0
@@ -100,20 +102,20 @@ module _ {m' : List ℕ} {b n : ℕ} (k : Blanked m' b n) where
       }
 
 -- the six writes, one after the other
-pub blanked : {m m1 m2 m3 m4 m5 m6 : List ℕ} {b n : ℕ} → n ≤ 1024 → b ≤ 4096 → Wrote m m1 0 (replicate 128 0) → Wrote m1 m2 0 (bytes4 signature) → Wrote m2 m3 4 (bytes4 n)
-    → Wrote m3 m4 8 (bytes4 b) → Wrote m4 m5 512 (replicate 512 0) → Apart m5 m6 (1024 + n * 76) (n * 2) → Blanked m6 b n
+pub blanked : {m m1 m2 m3 m4 m5 m6 : List ℕ} {b n : ℕ} → n ≤ capacityLimit → b ≤ blockLimit → Wrote m m1 0 (replicate opensAt 0) → Wrote m1 m2 0 (bytes4 signature) → Wrote m2 m3 4 (bytes4 n)
+    → Wrote m3 m4 8 (bytes4 b) → Wrote m4 m5 usedAt (replicate usedSize 0) → Apart m5 m6 (refsAt n) (n * 2) → Blanked m6 b n
 blanked {m} {m1} {m2} {m3} {m4} {m5} {m6} {b} {n} nb bb w1 w2 w3 w4 w5 s =
-    let l1 : length (replicate {A = ℕ} 128 0) ≡ 128 = length-replicate {A = ℕ} 128 0 in
-    let l5 : length (replicate {A = ℕ} 512 0) ≡ 512 = length-replicate {A = ℕ} 512 0 in
+    let l1 : length (replicate {A = ℕ} opensAt 0) ≡ opensAt = length-replicate {A = ℕ} opensAt 0 in
+    let l5 : length (replicate {A = ℕ} usedSize 0) ≡ usedSize = length-replicate {A = ℕ} usedSize 0 in
     let k3 = le4-below (w3 .apart) in
-    let behind : (x : ℕ) → x + 4 ≤ 512 → le4 m6 x ≡ le4 m4 x = λ x h. le4-below s x (omega arith) ∙ le4-below (w5 .apart) x (omega arith) in
+    let behind : (x : ℕ) → x + 4 ≤ usedAt → le4 m6 x ≡ le4 m4 x = λ x h. le4-below s x (omega arith) ∙ le4-below (w5 .apart) x (omega arith) in
     record {
       sign = behind 0 (omega arith) ∙ le4-below (w4 .apart) 0 (omega arith) ∙ k3 0 (omega arith) ∙ le4-wrote signature (omega arith) w2;
       capacity = behind 4 (omega arith) ∙ le4-below (w4 .apart) 4 (omega arith) ∙ le4-wrote n (omega arith) w3;
       blocks = behind 8 (omega arith) ∙ le4-wrote b (omega arith) w4;
       zeros = λ x p q. s .below x (omega arith) ∙ w5 .apart .below x (omega arith) ∙ w4 .apart .above x (omega arith) ∙ w3 .apart .above x (omega arith)
-          ∙ w2 .apart .above x (omega arith) ∙ zeros-at 128 w1 x (omega arith) (omega arith);
-      unused = λ x p q. s .below x (omega arith) ∙ zeros-at 512 w5 x p (omega arith);
+          ∙ w2 .apart .above x (omega arith) ∙ zeros-at opensAt w1 x (omega arith) (omega arith);
+      unused = λ x p q. s .below x (omega arith) ∙ zeros-at usedSize w5 x p (omega arith);
     }
 
 fresh-counted : (b n : ℕ) → all hasRows (freshFlat b n .entries) ≡ true

@@ -1,4 +1,7 @@
 -- What a change of some bytes leaves of what the memory holds: each list is as it was if its bytes are.
+use Rattle.memory_bytes.specs.Columns.{slotLimit}
+use Rattle.image_rows.specs.Rows.{openLimit}
+use Rattle.block_forms.specs.Limits.{blockLimit, markValue, payloadLimit, statementLimit}
 use Rattle.basics.proofs.Kit.{_≡_, refl, ap, _∙_, fun-ext, Bool, true, false, _&&_, not, List, _∷_, ℕ, suc, _+_, _*_, _%_, _^_, _≤_, _<_, zero, _/_, _-_, min-le-right, leb, eqb, ltb, getD}
 use Rattle.basics.proofs.Kit.{ltb-true, arith}
 use Rattle.basics.specs.Basics.{if_then_else_}
@@ -7,10 +10,10 @@ use Rattle.memory_bytes.specs.Bytes.{le2, le4, bytes}
 use Rattle.basics.specs.Lists.{tab}
 use Rattle.memory_bytes.proofs.Bytes.{le2-cong, le4-cong, bytes-cong}
 use Rattle.basics.proofs.Tabs as tabs
-use Rattle.memory_layout.specs.Places.{startsAt}
+use Rattle.memory_layout.specs.Places.{startsAt, blocksAt, directoriesAt, headSize, keysAt, namedAt, opensAt, refsAt, slotSize, statesAt, tablesAt, usedAt, usedSize}
 use Rattle.block_forms.specs.Decode.{readOwner, readMark}
 use Rattle.memory_layout.specs.Views.{headOf, rowCount, pageCount, tableEnd, openAt, directoryAt, isUsed, slotOf, slotPlace, heldOf, rowAt, keyOf, refOf, stateOf, startAt, tableAt}
-use Rattle.memory_layout.specs.Views.{entryAt, blockWord, namedBlock, lengthOf, pendingOf}
+use Rattle.memory_layout.specs.Views.{entryAt, blockWord, namedBlock, lengthOf, pendingOf, directoryCount, namedCount, openCount}
 use Rattle.memory_layout.specs.Flat.{opensOf, directoriesOf}
 
 -- the n bytes from a on are the same in both
@@ -65,29 +68,29 @@ module _ (m m' : List ℕ) where
     taken = within4 4 28 28 s (omega arith) (omega arith) i;
   }
 
-  pub same-opens : Same m m' 36 4 → Same m m' 128 256 → le4 m 36 ≤ 64 → opensOf m' ≡ opensOf m
+  pub same-opens : Same m m' 36 4 → Same m m' opensAt (openLimit * 4) → openCount m ≤ openLimit → opensOf m' ≡ opensOf m
   unfolding opensOf openAt
   same-opens s t h =
       ap (tab (openAt m') 0) (same4 36 s)
-      ∙ tab-cong (openAt m') (openAt m) 0 (le4 m 36)
-      (λ k p q. ap (λ (w : ℕ). record { transaction = w / 1048576; written = w % 1048576 }) (within4 128 256 (128 + k * 4) t (omega arith) (omega arith)))
+      ∙ tab-cong (openAt m') (openAt m) 0 (openCount m)
+      (λ k p q. ap (λ (w : ℕ). record { transaction = w / statementLimit; written = w % statementLimit }) (within4 opensAt (openLimit * 4) (opensAt + k * 4) t (omega arith) (omega arith)))
 
-  pub same-directories : Same m m' 44 4 → Same m m' 96 16 → le4 m 44 ≤ 4 → directoriesOf m' ≡ directoriesOf m
+  pub same-directories : Same m m' 44 4 → Same m m' directoriesAt 16 → directoryCount m ≤ 4 → directoriesOf m' ≡ directoriesOf m
   unfolding directoriesOf directoryAt
   same-directories s t h =
       ap (tab (directoryAt m') 0) (same4 44 s)
-      ∙ tab-cong (directoryAt m') (directoryAt m) 0 (le4 m 44)
-      (λ k p q. ap (λ (w : ℕ). w % 4096) (within4 96 16 (96 + k * 4) t (omega arith) (omega arith)))
+      ∙ tab-cong (directoryAt m') (directoryAt m) 0 (directoryCount m)
+      (λ k p q. ap (λ (w : ℕ). w % blockLimit) (within4 directoriesAt 16 (directoriesAt + k * 4) t (omega arith) (omega arith)))
 
-  pub same-used : Same m m' 512 512 → isUsed m' ≡ isUsed m
+  pub same-used : Same m m' usedAt usedSize → isUsed m' ≡ isUsed m
   unfolding isUsed
-  same-used s = fun-ext (λ b. by-bound b (ltb b 4096) refl)
+  same-used s = fun-ext (λ b. by-bound b (ltb b blockLimit) refl)
     where
-      by-bound : (b : ℕ) (t : Bool) → ltb b 4096 ≡ t → (t && eqb (getD m' (512 + b / 8) 0 / 2 ^ (b % 8) % 2) 1) ≡ (t && eqb (getD m (512 + b / 8) 0 / 2 ^ (b % 8) % 2) 1)
+      by-bound : (b : ℕ) (t : Bool) → ltb b blockLimit ≡ t → (t && eqb (getD m' (usedAt + b / 8) 0 / 2 ^ (b % 8) % 2) 1) ≡ (t && eqb (getD m (usedAt + b / 8) 0 / 2 ^ (b % 8) % 2) 1)
       by-bound b false h = refl
       by-bound b true h =
-          let l : b < 4096 = ltb-true b 4096 h in
-          ap (λ (x : ℕ). eqb (x / 2 ^ (b % 8) % 2) 1) (s (512 + b / 8) (omega arith) (omega arith))
+          let l : b < blockLimit = ltb-true b blockLimit h in
+          ap (λ (x : ℕ). eqb (x / 2 ^ (b % 8) % 2) 1) (s (usedAt + b / 8) (omega arith) (omega arith))
 
   -- a page's table goes by the ends of the tables alone
   pub same-table : (p : ℕ) → ((t : ℕ) → t < 8 → tableEnd m' t ≡ tableEnd m t) → tableAt m' p ≡ tableAt m p
@@ -98,62 +101,62 @@ module _ (m m' : List ℕ) where
   -- ---- columns, for a capacity c
 
   module _ (c : ℕ) where
-    pub same-named : Same m m' 40 4 → Same m m' (1024 + c * 87) (le4 m 40 * 2) → tab (namedBlock m' c) 0 (le4 m' 40) ≡ tab (namedBlock m c) 0 (le4 m 40)
+    pub same-named : Same m m' 40 4 → Same m m' (namedAt c) (namedCount m * 2) → tab (namedBlock m' c) 0 (namedCount m') ≡ tab (namedBlock m c) 0 (namedCount m)
     unfolding namedBlock
     same-named s t =
         ap (tab (namedBlock m' c) 0) (same4 40 s)
-        ∙ tab-cong (namedBlock m' c) (namedBlock m c) 0 (le4 m 40)
-        (λ k p q. ap (λ (w : ℕ). w % 4096) (within2 (1024 + c * 87) (le4 m 40 * 2) (1024 + c * 87 + k * 2) t (omega arith) (omega arith)))
+        ∙ tab-cong (namedBlock m' c) (namedBlock m c) 0 (namedCount m)
+        (λ k p q. ap (λ (w : ℕ). w % blockLimit) (within2 (namedAt c) (namedCount m * 2) (namedAt c + k * 2) t (omega arith) (omega arith)))
 
     -- a slot that is named is one of c
     pub slot-below : (r : ℕ) → 1 ≤ c → slotOf c r < c
     unfolding slotOf if_then_else_
-    slot-below r h = by-test (ltb (r % 1024) c) refl
+    slot-below r h = by-test (ltb (r % slotLimit) c) refl
       where
-        by-test : (t : Bool) → ltb (r % 1024) c ≡ t → (if t then r % 1024 else 0) < c
-        by-test true e = ltb-true (r % 1024) c e
+        by-test : (t : Bool) → ltb (r % slotLimit) c ≡ t → (if t then r % slotLimit else 0) < c
+        by-test true e = ltb-true (r % slotLimit) c e
         by-test false e = h
 
     -- what stands in a slot, by its bytes
-    pub same-held : (a k s r : ℕ) → Same m m' a 72 → heldOf m' a k s r ≡ heldOf m a k s r
+    pub same-held : (a k s r : ℕ) → Same m m' a slotSize → heldOf m' a k s r ≡ heldOf m a k s r
     unfolding heldOf lengthOf
     same-held a k s r t =
-        let n : lengthOf s ≤ 40 = omega (arith, min-le-right (s % 64) 40) in
+        let n : lengthOf s ≤ payloadLimit = omega (arith, min-le-right (s % markValue) payloadLimit) in
         λ i. record {
           tuple = record {
             key = k;
-            number = within4 a 72 a t (omega arith) (omega arith) i;
-            owner = readOwner s (within4 a 72 (a + 4) t (omega arith) (omega arith) i);
+            number = within4 a slotSize a t (omega arith) (omega arith) i;
+            owner = readOwner s (within4 a slotSize (a + 4) t (omega arith) (omega arith) i);
             mark = readMark s;
-            payload = same-bytes (a + 8) (lengthOf s) (within a 72 (a + 8) (lengthOf s) t (omega arith) (omega arith)) i;
+            payload = same-bytes (a + 8) (lengthOf s) (within a slotSize (a + 8) (lengthOf s) t (omega arith) (omega arith)) i;
           };
           pending = pendingOf r;
         }
 
     -- row j of the one is row i of the other: its key, slot number and state stand there, and the slot's bytes are the same
     pub moved-row : (i j : ℕ) → keyOf m' c j ≡ keyOf m c i → refOf m' c j ≡ refOf m c i → stateOf m' c j ≡ stateOf m c i
-        → Same m m' (slotPlace (slotOf c (refOf m c i))) 72 → rowAt m' c j ≡ rowAt m c i
+        → Same m m' (slotPlace (slotOf c (refOf m c i))) slotSize → rowAt m' c j ≡ rowAt m c i
     unfolding rowAt
     moved-row i j ek er es t =
         (λ x. heldOf m' (slotPlace (slotOf c (er x))) (ek x) (es x) (er x))
         ∙ same-held (slotPlace (slotOf c (refOf m c i))) (keyOf m c i) (stateOf m c i) (refOf m c i) t
 
     -- the rows are the same if all slots and the first n cells of each column are
-    pub same-rows : (n : ℕ) → 1 ≤ c → Same m m' 1024 (c * 72) → Same m m' (1024 + c * 72) (n * 4) → Same m m' (1024 + c * 76) (n * 2) → Same m m' (1024 + c * 78) n
+    pub same-rows : (n : ℕ) → 1 ≤ c → Same m m' headSize (c * slotSize) → Same m m' (keysAt c) (n * 4) → Same m m' (refsAt c) (n * 2) → Same m m' (statesAt c) n
         → tab (rowAt m' c) 0 n ≡ tab (rowAt m c) 0 n
     same-rows n h ss sk sr st =
         tab-cong (rowAt m' c) (rowAt m c) 0 n
         (λ k p q.
         let b : slotOf c (refOf m c k) < c = slot-below (refOf m c k) h in
         moved-row k k
-        (within4 (1024 + c * 72) (n * 4) (1024 + c * 72 + k * 4) sk (omega arith) (omega arith))
-        (within2 (1024 + c * 76) (n * 2) (1024 + c * 76 + k * 2) sr (omega arith) (omega arith))
-        (st (1024 + c * 78 + k) (omega arith) (omega arith))
-        (within 1024 (c * 72) (slotPlace (slotOf c (refOf m c k))) 72 ss (omega arith) (omega arith)))
+        (within4 (keysAt c) (n * 4) (keysAt c + k * 4) sk (omega arith) (omega arith))
+        (within2 (refsAt c) (n * 2) (refsAt c + k * 2) sr (omega arith) (omega arith))
+        (st (statesAt c + k) (omega arith) (omega arith))
+        (within headSize (c * slotSize) (slotPlace (slotOf c (refOf m c k))) slotSize ss (omega arith) (omega arith)))
 
     -- ---- pages
 
-    pub same-start : (n p : ℕ) → pageCount m' ≡ pageCount m → rowCount m' ≡ rowCount m → pageCount m ≤ n → Same m m' (1024 + c * 79) (n * 2)
+    pub same-start : (n p : ℕ) → pageCount m' ≡ pageCount m → rowCount m' ≡ rowCount m → pageCount m ≤ n → Same m m' (startsAt c) (n * 2)
         → startAt m' c p ≡ startAt m c p
     unfolding startAt if_then_else_
     same-start n p ep er h s = ap (λ (k : ℕ). if ltb p k then le2 m' (startsAt c + p * 2) else rowCount m') ep ∙ by-test (ltb p (pageCount m)) refl
@@ -161,22 +164,22 @@ module _ (m m' : List ℕ) where
         by-test : (t : Bool) → ltb p (pageCount m) ≡ t → (if t then le2 m' (startsAt c + p * 2) else rowCount m') ≡ (if t then le2 m (startsAt c + p * 2) else rowCount m)
         by-test true e =
             let l : p < pageCount m = ltb-true p (pageCount m) e in
-            within2 (1024 + c * 79) (n * 2) (1024 + c * 79 + p * 2) s (omega arith) (omega arith)
+            within2 (startsAt c) (n * 2) (startsAt c + p * 2) s (omega arith) (omega arith)
         by-test false e = er
 
-    pub same-entries : (n : ℕ) → Same m m' 32 4 → Same m m' 64 16 → pageCount m ≤ n → Same m m' (1024 + c * 79) (n * 2) → Same m m' (1024 + c * 83) (n * 2)
+    pub same-entries : (n : ℕ) → Same m m' 32 4 → Same m m' tablesAt 16 → pageCount m ≤ n → Same m m' (startsAt c) (n * 2) → Same m m' (blocksAt c) (n * 2)
         → tab (entryAt m' c) 0 (pageCount m') ≡ tab (entryAt m c) 0 (pageCount m)
     unfolding entryAt tableAt
     same-entries n sr st h ss sb =
-        let ep : pageCount m' ≡ pageCount m = within2 64 16 78 st (omega arith) (omega arith) in
+        let ep : pageCount m' ≡ pageCount m = within2 tablesAt 16 78 st (omega arith) (omega arith) in
         let er : rowCount m' ≡ rowCount m = same4 32 sr in
-        let ends : (t : ℕ) → t < 8 → tableEnd m' t ≡ tableEnd m t = λ t b. within2 64 16 (64 + t * 2) st (omega arith) (omega arith) in
+        let ends : (t : ℕ) → t < 8 → tableEnd m' t ≡ tableEnd m t = λ t b. within2 tablesAt 16 (64 + t * 2) st (omega arith) (omega arith) in
         ap (tab (entryAt m' c) 0) ep
         ∙ tab-cong (entryAt m' c) (entryAt m c) 0 (pageCount m)
-        (λ p a b. let w : blockWord m' c p ≡ blockWord m c p = within2 (1024 + c * 83) (n * 2) (1024 + c * 83 + p * 2) sb (omega arith) (omega arith) in
+        (λ p a b. let w : blockWord m' c p ≡ blockWord m c p = within2 (blocksAt c) (n * 2) (blocksAt c + p * 2) sb (omega arith) (omega arith) in
         λ i. record {
           table = same-table p ends i;
-          frozen = eqb (w i / 4096 % 2) 1;
+          frozen = eqb (w i / blockLimit % 2) 1;
           count = same-start n (suc p) ep er h ss i - same-start n p ep er h ss i;
-          block = w i % 4096;
+          block = w i % blockLimit;
         })

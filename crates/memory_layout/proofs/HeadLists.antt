@@ -1,4 +1,6 @@
 -- Each change of a list in the head, or of the directory entries, from the bytes written.
+use Rattle.image_rows.specs.Rows.{openLimit}
+use Rattle.block_forms.specs.Limits.{blockLimit, statementLimit}
 use Rattle.basics.proofs.Kit.{_≡_, refl, sym, ap, _∙_, Bool, true, false, not, List, [], _∷_, _++_, ℕ, suc, _+_, _*_, _%_, _≤_, _<_, _/_, _-_, zero-add, eqb, length, getD, set, eq-eqb}
 use Rattle.basics.proofs.Kit.{ne-eqb, arith}
 use Rattle.basics.specs.Basics.{if_then_else_}
@@ -8,7 +10,7 @@ use Rattle.basics.proofs.Tabs.{getD-tab, tab-add, tab-set, tab-remove}
 use Rattle.basics.proofs.Searches.{tab-next, tab-none}
 use Rattle.memory_bytes.proofs.Bytes.{le2-below, le2-above, le4-below, le4-above, le2-wrote, le4-wrote, le4-lowered}
 use Rattle.model.specs.Transactions.{isFor}
-use Rattle.memory_layout.specs.Views.{headOf, openAt, directoryAt, namedBlock}
+use Rattle.memory_layout.specs.Views.{headOf, openAt, directoryAt, namedBlock, directoryCount, namedCount, openCount}
 use Rattle.memory_layout.specs.Flat.{flatOf, capacityOf, opensOf, namedOf, directoriesOf, Room, Replaces, Becomes, withHead, withOpens, withNamed, withDirectories, noOpen}
 use Rattle.memory_layout.specs.Opens.{activeOf, OpenFits, findOpen, oneIf}
 use Rattle.memory_layout.specs.declared.Head.{Head}
@@ -17,6 +19,7 @@ use Rattle.memory_layout.proofs.Frame.{tab-cong}
 use Rattle.memory_layout.proofs.Laws.{Known, known, opens-length, named-length, directories-length}
 use Rattle.memory_layout.proofs.Changes.{same-below, same-above, apart-then, becomes-head, becomes-opens, becomes-named, becomes-directories}
 use Rattle.basics.proofs.Tabs.{tab-push}
+use Rattle.memory_layout.specs.Places.{directoriesAt, namedAt, opensAt}
 
 -- a truth value as a number
 one-back : (b : Bool) → not (eqb (oneIf b) 0) ≡ b
@@ -46,7 +49,7 @@ module _ {m m1 m2 m3 m4 m5 m6 m7 : List ℕ} {x : ℕ} (h : Head) (room : Room m
       let k6 = le4-below (w6 .apart) in
       let k7 = le4-below (w7 .apart) in
       let above5 : (b : ℕ) → b + 4 ≤ 20 → le4 m7 b ≡ le4 m4 b = λ b l. k7 b (omega arith) ∙ k6 b (omega arith) ∙ k5 b (omega arith) in
-      let f1 : le4 m7 4 ≡ h .capacity =
+      let f1 : capacityOf m7 ≡ h .capacity =
       above5 4 (omega arith) ∙ k4 4 (omega arith) ∙ k3 4 (omega arith) ∙ k2 4 (omega arith) ∙ le4-wrote _ (omega (arith, rep .capacity)) w1 in
       let f2 : le4 m7 8 ≡ h .blocks = above5 8 (omega arith) ∙ k4 8 (omega arith) ∙ k3 8 (omega arith) ∙ le4-wrote _ (omega (arith, rep .many)) w2 in
       let f3 : le4 m7 12 ≡ h .level = above5 12 (omega arith) ∙ k4 12 (omega arith) ∙ le4-wrote _ lb w3 in
@@ -64,87 +67,87 @@ element f n i d h = getD-tab f 0 n i d h ∙ ap f (zero-add i)
 
 -- ---- open transactions
 
-open-by : (m m' : List ℕ) (i j : ℕ) → le4 m' (128 + j * 4) ≡ le4 m (128 + i * 4) → openAt m' j ≡ openAt m i
+open-by : (m m' : List ℕ) (i j : ℕ) → le4 m' (opensAt + j * 4) ≡ le4 m (opensAt + i * 4) → openAt m' j ≡ openAt m i
 unfolding openAt
-open-by m m' i j e = ap (λ (w : ℕ). record { transaction = w / 1048576; written = w % 1048576 }) e
+open-by m m' i j e = ap (λ (w : ℕ). record { transaction = w / statementLimit; written = w % statementLimit }) e
 
-pub open-new : (m : List ℕ) (i : ℕ) (o : Open) → OpenFits o → le4 m (128 + i * 4) ≡ o .transaction * 1048576 + o .written → openAt m i ≡ activeOf o
+pub open-new : (m : List ℕ) (i : ℕ) (o : Open) → OpenFits o → le4 m (opensAt + i * 4) ≡ o .transaction * statementLimit + o .written → openAt m i ≡ activeOf o
 unfolding openAt
 open-new m i o f e =
-    let w : o .written < 1048576 = f .written in
-    let a : le4 m (128 + i * 4) / 1048576 ≡ o .transaction = omega arith in
-    let b : le4 m (128 + i * 4) % 1048576 ≡ o .written = omega arith in
+    let w : o .written < statementLimit = f .written in
+    let a : le4 m (opensAt + i * 4) / statementLimit ≡ o .transaction = omega arith in
+    let b : le4 m (opensAt + i * 4) % statementLimit ≡ o .written = omega arith in
     λ x. record { transaction = a x; written = b x }
 
-word-small : (o : Open) → OpenFits o → o .transaction * 1048576 + o .written < 4294967296
+word-small : (o : Open) → OpenFits o → o .transaction * statementLimit + o .written < 4294967296
 word-small o f = omega (arith, f .transaction, f .written)
 
-pub open-at : (m : List ℕ) (i x : ℕ) → Room m → i < length (opensOf m) → x ≡ le4 m (128 + i * 4)
-    → activeOf (record { transaction = x / 1048576; written = x % 1048576 }) ≡ getD (opensOf m) i noOpen
+pub open-at : (m : List ℕ) (i x : ℕ) → Room m → i < length (opensOf m) → x ≡ le4 m (opensAt + i * 4)
+    → activeOf (record { transaction = x / statementLimit; written = x % statementLimit }) ≡ getD (opensOf m) i noOpen
 unfolding opensOf openAt
 open-at m i x room h e =
-    ap (λ (w : ℕ). record { transaction = w / 1048576; written = w % 1048576 }) e ∙ sym (element (openAt m) (le4 m 36) i noOpen (omega (arith, opens-length m)))
+    ap (λ (w : ℕ). record { transaction = w / statementLimit; written = w % statementLimit }) e ∙ sym (element (openAt m) (openCount m) i noOpen (omega (arith, opens-length m)))
 
 module _ {m m' : List ℕ} (room : Room m) (i : ℕ) where
-  pub open-set : (o : Open) → i < length (opensOf m) → OpenFits o → Wrote m m' (128 + i * 4) (bytes4 (o .transaction * 1048576 + o .written))
+  pub open-set : (o : Open) → i < length (opensOf m) → OpenFits o → Wrote m m' (opensAt + i * 4) (bytes4 (o .transaction * statementLimit + o .written))
       → Becomes m m' (withOpens (flatOf m) (set (opensOf m) i (activeOf o)))
   unfolding opensOf
   open-set o h f w =
       let k : Known m = known m room in
-      let n : le4 m' 36 ≡ le4 m 36 = le4-below (w .apart) 36 (omega arith) in
+      let n : openCount m' ≡ openCount m = le4-below (w .apart) 36 (omega arith) in
       becomes-opens m m' room (w .apart .size) (same-below 0 36 (w .apart) (omega arith)) (same-below 40 88 (w .apart) (omega arith))
       (same-above 384 (length m) (w .apart) (omega arith)) (omega arith)
       (ap (tab (openAt m') 0) n
-      ∙ tab-set (openAt m) (openAt m') (le4 m 36) i (activeOf o) (omega arith)
-      (λ j b. open-by m m' j j (le4-below (w .apart) (128 + j * 4) (omega arith)))
+      ∙ tab-set (openAt m) (openAt m') (openCount m) i (activeOf o) (omega arith)
+      (λ j b. open-by m m' j j (le4-below (w .apart) (opensAt + j * 4) (omega arith)))
       (open-new m' i o f (le4-wrote _ (word-small o f) w))
-      (λ j b l. open-by m m' j j (le4-above (w .apart) (128 + j * 4) (omega arith))))
+      (λ j b l. open-by m m' j j (le4-above (w .apart) (opensAt + j * 4) (omega arith))))
 
-  module _ {m2 : List ℕ} {n : ℕ} (e : n ≡ le4 m 36) where
-    pub open-push : (o : Open) → length (opensOf m) < 64 → OpenFits o → Wrote m m' (128 + n * 4) (bytes4 (o .transaction * 1048576 + o .written))
+  module _ {m2 : List ℕ} {n : ℕ} (e : n ≡ openCount m) where
+    pub open-push : (o : Open) → length (opensOf m) < openLimit → OpenFits o → Wrote m m' (opensAt + n * 4) (bytes4 (o .transaction * statementLimit + o .written))
         → Wrote m' m2 36 (bytes4 (n + 1)) → Becomes m m2 (withOpens (flatOf m) (opensOf m ++ activeOf o ∷ []))
     unfolding opensOf
     open-push o h f w v =
         let k : Known m = known m room in
-        let c : le4 m2 36 ≡ le4 m 36 + 1 = le4-wrote (n + 1) (omega arith) v ∙ ap (λ (z : ℕ). z + 1) e in
-        let new : le4 m2 (128 + le4 m 36 * 4) ≡ o .transaction * 1048576 + o .written =
-        le4-above (v .apart) (128 + le4 m 36 * 4) (omega arith) ∙ ap (λ (z : ℕ). le4 m' (128 + z * 4)) (sym e) ∙ le4-wrote _ (word-small o f) w in
+        let c : openCount m2 ≡ openCount m + 1 = le4-wrote (n + 1) (omega arith) v ∙ ap (λ (z : ℕ). z + 1) e in
+        let new : le4 m2 (opensAt + openCount m * 4) ≡ o .transaction * statementLimit + o .written =
+        le4-above (v .apart) (opensAt + openCount m * 4) (omega arith) ∙ ap (λ (z : ℕ). le4 m' (opensAt + z * 4)) (sym e) ∙ le4-wrote _ (word-small o f) w in
         becomes-opens m m2 room (v .apart .size ∙ w .apart .size)
         (λ b p q. v .apart .below b (omega arith) ∙ w .apart .below b (omega arith))
         (λ b p q. v .apart .above b (omega arith) ∙ w .apart .below b (omega arith))
         (λ b p q. v .apart .above b (omega arith) ∙ w .apart .above b (omega arith))
         (omega arith)
         (ap (tab (openAt m2) 0) c
-        ∙ tab-push (openAt m) (openAt m2) (le4 m 36) (activeOf o) (open-new m2 (le4 m 36) o f new)
-        (λ j b. open-by m m2 j j (le4-above (v .apart) (128 + j * 4) (omega arith) ∙ le4-below (w .apart) (128 + j * 4) (omega arith))))
+        ∙ tab-push (openAt m) (openAt m2) (openCount m) (activeOf o) (open-new m2 (openCount m) o f new)
+        (λ j b. open-by m m2 j j (le4-above (v .apart) (opensAt + j * 4) (omega arith) ∙ le4-below (w .apart) (opensAt + j * 4) (omega arith))))
 
-    pub open-remove : i < length (opensOf m) → Lowered m m' (128 + i * 4) (128 + n * 4) 4 → Wrote m' m2 36 (bytes4 (n - 1))
+    pub open-remove : i < length (opensOf m) → Lowered m m' (opensAt + i * 4) (opensAt + n * 4) 4 → Wrote m' m2 36 (bytes4 (n - 1))
         → Becomes m m2 (withOpens (flatOf m) (removeAt i (opensOf m)))
     unfolding opensOf
     open-remove h w v =
         let k : Known m = known m room in
-        let c : le4 m2 36 ≡ le4 m 36 - 1 = le4-wrote (n - 1) (omega arith) v ∙ ap (λ (z : ℕ). z - 1) e in
+        let c : openCount m2 ≡ openCount m - 1 = le4-wrote (n - 1) (omega arith) v ∙ ap (λ (z : ℕ). z - 1) e in
         becomes-opens m m2 room (v .apart .size ∙ w .apart .size)
         (λ b p q. v .apart .below b (omega arith) ∙ w .apart .below b (omega arith))
         (λ b p q. v .apart .above b (omega arith) ∙ w .apart .below b (omega arith))
         (λ b p q. v .apart .above b (omega arith) ∙ w .apart .above b (omega arith))
         (omega arith)
         (ap (tab (openAt m2) 0) c
-        ∙ tab-remove (openAt m) (openAt m2) (le4 m 36) i (omega arith)
-        (λ j b. open-by m m2 j j (le4-above (v .apart) (128 + j * 4) (omega arith) ∙ le4-below (w .apart) (128 + j * 4) (omega arith)))
-        (λ j b l. open-by m m2 (suc j) j (le4-above (v .apart) (128 + j * 4) (omega arith)
-        ∙ le4-lowered w (128 + j * 4) (omega arith) (omega arith) ∙ ap (le4 m) (omega arith))))
+        ∙ tab-remove (openAt m) (openAt m2) (openCount m) i (omega arith)
+        (λ j b. open-by m m2 j j (le4-above (v .apart) (opensAt + j * 4) (omega arith) ∙ le4-below (w .apart) (opensAt + j * 4) (omega arith)))
+        (λ j b l. open-by m m2 (suc j) j (le4-above (v .apart) (opensAt + j * 4) (omega arith)
+        ∙ le4-lowered w (opensAt + j * 4) (omega arith) (omega arith) ∙ ap (le4 m) (omega arith))))
 
 -- a search from entry i on, turn by turn: x is the number that stands there
 module _ (m : List ℕ) (tx i n : ℕ) where
-  pub find-here : {x : ℕ} → i < n → x ≡ le4 m (128 + i * 4) → x / 1048576 ≡ tx → findOpen tx (tab (openAt m) i (n - i)) ≡ 0
+  pub find-here : {x : ℕ} → i < n → x ≡ le4 m (opensAt + i * 4) → x / statementLimit ≡ tx → findOpen tx (tab (openAt m) i (n - i)) ≡ 0
   unfolding findOpen isFor openAt if_then_else_
-  find-here h e t = ap (findOpen tx) (tab-next (openAt m) i n h) ∙ rw (eq-eqb (le4 m (128 + i * 4) / 1048576) tx (omega arith))
+  find-here h e t = ap (findOpen tx) (tab-next (openAt m) i n h) ∙ rw (eq-eqb (le4 m (opensAt + i * 4) / statementLimit) tx (omega arith))
 
-  pub find-turn : {x : ℕ} → i < n → x ≡ le4 m (128 + i * 4) → (x / 1048576 ≡ tx → ⊥)
+  pub find-turn : {x : ℕ} → i < n → x ≡ le4 m (opensAt + i * 4) → (x / statementLimit ≡ tx → ⊥)
       → findOpen tx (tab (openAt m) i (n - i)) ≡ suc (findOpen tx (tab (openAt m) (i + 1) (n - (i + 1))))
   unfolding findOpen isFor openAt if_then_else_
-  find-turn {x} h e t = ap (findOpen tx) (tab-next (openAt m) i n h) ∙ rw (ne-eqb (le4 m (128 + i * 4) / 1048576) tx (λ z. t (ap (λ (y : ℕ). y / 1048576) e ∙ z)))
+  find-turn {x} h e t = ap (findOpen tx) (tab-next (openAt m) i n h) ∙ rw (ne-eqb (le4 m (opensAt + i * 4) / statementLimit) tx (λ z. t (ap (λ (y : ℕ). y / statementLimit) e ∙ z)))
 
   pub find-end : n ≤ i → findOpen tx (tab (openAt m) i (n - i)) ≡ 0
   unfolding findOpen
@@ -152,82 +155,82 @@ module _ (m : List ℕ) (tx i n : ℕ) where
 
 -- ---- directory entries
 
-named-by : (m m' : List ℕ) (c i : ℕ) → le2 m' (1024 + c * 87 + i * 2) ≡ le2 m (1024 + c * 87 + i * 2) → namedBlock m' c i ≡ namedBlock m c i
+named-by : (m m' : List ℕ) (c i : ℕ) → le2 m' (namedAt c + i * 2) ≡ le2 m (namedAt c + i * 2) → namedBlock m' c i ≡ namedBlock m c i
 unfolding namedBlock
-named-by m m' c i e = ap (λ (w : ℕ). w % 4096) e
+named-by m m' c i e = ap (λ (w : ℕ). w % blockLimit) e
 
-pub named-new : (m : List ℕ) (c i b : ℕ) → b < 4096 → le2 m (1024 + c * 87 + i * 2) ≡ b → namedBlock m c i ≡ b
+pub named-new : (m : List ℕ) (c i b : ℕ) → b < blockLimit → le2 m (namedAt c + i * 2) ≡ b → namedBlock m c i ≡ b
 unfolding namedBlock
 named-new m c i b h e = omega arith
 
-pub named-at : (m : List ℕ) (i x : ℕ) → Room m → i < length (namedOf m) → x ≡ le2 m (1024 + capacityOf m * 87 + i * 2) → x % 4096 ≡ getD (namedOf m) i 0
+pub named-at : (m : List ℕ) (i x : ℕ) → Room m → i < length (namedOf m) → x ≡ le2 m (namedAt (capacityOf m) + i * 2) → x % blockLimit ≡ getD (namedOf m) i 0
 unfolding namedOf namedBlock
-named-at m i x room h e = ap (λ (w : ℕ). w % 4096) e ∙ sym (element (namedBlock m (capacityOf m)) (le4 m 40) i 0 (omega (arith, named-length m)))
+named-at m i x room h e = ap (λ (w : ℕ). w % blockLimit) e ∙ sym (element (namedBlock m (capacityOf m)) (namedCount m) i 0 (omega (arith, named-length m)))
 
-module _ {m m' : List ℕ} (room : Room m) {a : ℕ} (b : ℕ) (small : b < 4096) where
-  pub named-set : (i : ℕ) → i < length (namedOf m) → a ≡ 1024 + capacityOf m * 87 + i * 2 → Wrote m m' a (bytes2 b) → Becomes m m' (withNamed (flatOf m) (set (namedOf m) i b))
+module _ {m m' : List ℕ} (room : Room m) {a : ℕ} (b : ℕ) (small : b < blockLimit) where
+  pub named-set : (i : ℕ) → i < length (namedOf m) → a ≡ namedAt (capacityOf m) + i * 2 → Wrote m m' a (bytes2 b) → Becomes m m' (withNamed (flatOf m) (set (namedOf m) i b))
   unfolding namedOf
   named-set i h e w =
       let k : Known m = known m room in
       let c : ℕ = capacityOf m in
-      let n : le4 m' 40 ≡ le4 m 40 = le4-below (w .apart) 40 (omega arith) in
-      let new : le2 m' (1024 + c * 87 + i * 2) ≡ b = ap (le2 m') (sym e) ∙ le2-wrote b (omega arith) w in
-      becomes-named m m' room (w .apart .size) (same-below 0 40 (w .apart) (omega arith)) (same-below 44 (980 + c * 87) (w .apart) (omega arith)) (omega arith)
+      let n : namedCount m' ≡ namedCount m = le4-below (w .apart) 40 (omega arith) in
+      let new : le2 m' (namedAt c + i * 2) ≡ b = ap (le2 m') (sym e) ∙ le2-wrote b (omega arith) w in
+      becomes-named m m' room (w .apart .size) (same-below 0 40 (w .apart) (omega arith)) (same-below 44 (namedAt c - 44) (w .apart) (omega arith)) (omega arith)
       ((λ x. tab (namedBlock m' (le4-below (w .apart) 4 (omega arith) x)) 0 (n x))
-      ∙ tab-set (namedBlock m c) (namedBlock m' c) (le4 m 40) i b (omega arith)
-      (λ j l. named-by m m' c j (le2-below (w .apart) (1024 + c * 87 + j * 2) (omega arith)))
+      ∙ tab-set (namedBlock m c) (namedBlock m' c) (namedCount m) i b (omega arith)
+      (λ j l. named-by m m' c j (le2-below (w .apart) (namedAt c + j * 2) (omega arith)))
       (named-new m' c i b small new)
-      (λ j l r. named-by m m' c j (le2-above (w .apart) (1024 + c * 87 + j * 2) (omega arith))))
+      (λ j l r. named-by m m' c j (le2-above (w .apart) (namedAt c + j * 2) (omega arith))))
 
-  pub named-push : {m2 : List ℕ} {n : ℕ} → n ≡ le4 m 40 → length (namedOf m) < capacityOf m → a ≡ 1024 + capacityOf m * 87 + n * 2 → Wrote m m' a (bytes2 b)
+  pub named-push : {m2 : List ℕ} {n : ℕ} → n ≡ namedCount m → length (namedOf m) < capacityOf m → a ≡ namedAt (capacityOf m) + n * 2 → Wrote m m' a (bytes2 b)
       → Wrote m' m2 40 (bytes4 (n + 1)) → Becomes m m2 (withNamed (flatOf m) (namedOf m ++ b ∷ []))
   unfolding namedOf
   named-push {m2} {n} en h e w v =
       let k : Known m = known m room in
       let c : ℕ = capacityOf m in
-      let l : ℕ = le4 m 40 in
-      let cap : le4 m2 4 ≡ c = le4-below (v .apart) 4 (omega arith) ∙ le4-below (w .apart) 4 (omega arith) in
-      let count : le4 m2 40 ≡ l + 1 = le4-wrote (n + 1) (omega arith) v ∙ ap (λ (z : ℕ). z + 1) en in
-      let place : 1024 + c * 87 + l * 2 ≡ a = omega arith in
-      let new : le2 m2 (1024 + c * 87 + l * 2) ≡ b = ap (le2 m2) place ∙ le2-above (v .apart) a (omega arith) ∙ le2-wrote b (omega arith) w in
+      let l : ℕ = namedCount m in
+      let cap : capacityOf m2 ≡ c = le4-below (v .apart) 4 (omega arith) ∙ le4-below (w .apart) 4 (omega arith) in
+      let count : namedCount m2 ≡ l + 1 = le4-wrote (n + 1) (omega arith) v ∙ ap (λ (z : ℕ). z + 1) en in
+      let place : namedAt c + l * 2 ≡ a = omega arith in
+      let new : le2 m2 (namedAt c + l * 2) ≡ b = ap (le2 m2) place ∙ le2-above (v .apart) a (omega arith) ∙ le2-wrote b (omega arith) w in
       becomes-named m m2 room (v .apart .size ∙ w .apart .size)
       (λ x p q. v .apart .below x (omega arith) ∙ w .apart .below x (omega arith))
       (λ x p q. v .apart .above x (omega arith) ∙ w .apart .below x (omega arith))
       (omega arith)
       ((λ x. tab (namedBlock m2 (cap x)) 0 (count x))
       ∙ tab-push (namedBlock m c) (namedBlock m2 c) l b (named-new m2 c l b small new)
-      (λ j r. named-by m m2 c j (le2-above (v .apart) (1024 + c * 87 + j * 2) (omega arith) ∙ le2-below (w .apart) (1024 + c * 87 + j * 2) (omega arith))))
+      (λ j r. named-by m m2 c j (le2-above (v .apart) (namedAt c + j * 2) (omega arith) ∙ le2-below (w .apart) (namedAt c + j * 2) (omega arith))))
 
 pub named-clear : {m m' : List ℕ} → Room m → Wrote m m' 40 (bytes4 0) → Becomes m m' (withNamed (flatOf m) [])
 unfolding namedOf
 named-clear {m} {m'} room w =
-    let n : le4 m' 40 ≡ 0 = le4-wrote 0 (omega arith) w in
-    becomes-named m m' room (w .apart .size) (same-below 0 40 (w .apart) (omega arith)) (same-above 44 (980 + capacityOf m * 87) (w .apart) (omega arith)) (omega arith)
-    (ap (tab (namedBlock m' (le4 m' 4)) 0) n)
+    let n : namedCount m' ≡ 0 = le4-wrote 0 (omega arith) w in
+    becomes-named m m' room (w .apart .size) (same-below 0 40 (w .apart) (omega arith)) (same-above 44 (namedAt (capacityOf m) - 44) (w .apart) (omega arith)) (omega arith)
+    (ap (tab (namedBlock m' (capacityOf m')) 0) n)
 
 -- ---- directory blocks written
 
-directory-by : (m m' : List ℕ) (i : ℕ) → le4 m' (96 + i * 4) ≡ le4 m (96 + i * 4) → directoryAt m' i ≡ directoryAt m i
+directory-by : (m m' : List ℕ) (i : ℕ) → le4 m' (directoriesAt + i * 4) ≡ le4 m (directoriesAt + i * 4) → directoryAt m' i ≡ directoryAt m i
 unfolding directoryAt
-directory-by m m' i e = ap (λ (w : ℕ). w % 4096) e
+directory-by m m' i e = ap (λ (w : ℕ). w % blockLimit) e
 
-directory-new : (m : List ℕ) (i b : ℕ) → b < 4096 → le4 m (96 + i * 4) ≡ b → directoryAt m i ≡ b
+directory-new : (m : List ℕ) (i b : ℕ) → b < blockLimit → le4 m (directoriesAt + i * 4) ≡ b → directoryAt m i ≡ b
 unfolding directoryAt
 directory-new m i b h e = omega arith
 
-pub directory-at : (m : List ℕ) (i x : ℕ) → Room m → i < length (directoriesOf m) → x ≡ le4 m (96 + i * 4) → x % 4096 ≡ getD (directoriesOf m) i 0
+pub directory-at : (m : List ℕ) (i x : ℕ) → Room m → i < length (directoriesOf m) → x ≡ le4 m (directoriesAt + i * 4) → x % blockLimit ≡ getD (directoriesOf m) i 0
 unfolding directoriesOf directoryAt
-directory-at m i x room h e = ap (λ (w : ℕ). w % 4096) e ∙ sym (element (directoryAt m) (le4 m 44) i 0 (omega (arith, directories-length m)))
+directory-at m i x room h e = ap (λ (w : ℕ). w % blockLimit) e ∙ sym (element (directoryAt m) (directoryCount m) i 0 (omega (arith, directories-length m)))
 
-pub directory-push : {m m' m2 : List ℕ} {n : ℕ} (b : ℕ) → Room m → n ≡ le4 m 44 → length (directoriesOf m) < 4 → b < 4096 → Wrote m m' (96 + n * 4) (bytes4 b)
+pub directory-push : {m m' m2 : List ℕ} {n : ℕ} (b : ℕ) → Room m → n ≡ directoryCount m → length (directoriesOf m) < 4 → b < blockLimit → Wrote m m' (directoriesAt + n * 4) (bytes4 b)
     → Wrote m' m2 44 (bytes4 (n + 1)) → Becomes m m2 (withDirectories (flatOf m) (directoriesOf m ++ b ∷ []))
 unfolding directoriesOf
 directory-push {m} {m'} {m2} {n} b room e h small w v =
     let k : Known m = known m room in
-    let l : ℕ = le4 m 44 in
-    let count : le4 m2 44 ≡ l + 1 = le4-wrote (n + 1) (omega arith) v ∙ ap (λ (z : ℕ). z + 1) e in
-    let new : le4 m2 (96 + l * 4) ≡ b =
-    le4-above (v .apart) (96 + l * 4) (omega arith) ∙ ap (λ (z : ℕ). le4 m' (96 + z * 4)) (sym e) ∙ le4-wrote b (omega arith) w in
+    let l : ℕ = directoryCount m in
+    let count : directoryCount m2 ≡ l + 1 = le4-wrote (n + 1) (omega arith) v ∙ ap (λ (z : ℕ). z + 1) e in
+    let new : le4 m2 (directoriesAt + l * 4) ≡ b =
+    le4-above (v .apart) (directoriesAt + l * 4) (omega arith) ∙ ap (λ (z : ℕ). le4 m' (directoriesAt + z * 4)) (sym e) ∙ le4-wrote b (omega arith) w in
     becomes-directories m m2 room (v .apart .size ∙ w .apart .size)
     (λ x p q. v .apart .below x (omega arith) ∙ w .apart .below x (omega arith))
     (λ x p q. v .apart .above x (omega arith) ∙ w .apart .below x (omega arith))
@@ -235,11 +238,11 @@ directory-push {m} {m'} {m2} {n} b room e h small w v =
     (omega arith)
     (ap (tab (directoryAt m2) 0) count
     ∙ tab-push (directoryAt m) (directoryAt m2) l b (directory-new m2 l b small new)
-    (λ j r. directory-by m m2 j (le4-above (v .apart) (96 + j * 4) (omega arith) ∙ le4-below (w .apart) (96 + j * 4) (omega arith))))
+    (λ j r. directory-by m m2 j (le4-above (v .apart) (directoriesAt + j * 4) (omega arith) ∙ le4-below (w .apart) (directoriesAt + j * 4) (omega arith))))
 
 pub directories-clear : {m m' : List ℕ} → Room m → Wrote m m' 44 (bytes4 0) → Becomes m m' (withDirectories (flatOf m) [])
 unfolding directoriesOf
 directories-clear {m} {m'} room w =
-    let n : le4 m' 44 ≡ 0 = le4-wrote 0 (omega arith) w in
+    let n : directoryCount m' ≡ 0 = le4-wrote 0 (omega arith) w in
     becomes-directories m m' room (w .apart .size) (same-below 0 44 (w .apart) (omega arith)) (same-above 48 48 (w .apart) (omega arith))
     (same-above 112 (length m) (w .apart) (omega arith)) (omega arith) (ap (tab (directoryAt m') 0) n)

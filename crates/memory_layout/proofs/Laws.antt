@@ -1,5 +1,8 @@
 -- What the flat lists of any memory with room are known to have: how long each is, where each page starts; and from the flat lists to
 -- the store that the memory holds.
+use Rattle.image_rows.specs.Rows.{openLimit}
+use Rattle.model.specs.Recover.{memoryFor}
+use Rattle.image.specs.Stages.{capacityLimit}
 use Rattle.basics.proofs.Kit.{_≡_, refl, sym, ap, _∙_, true, false, some, none, List, ℕ, suc, _+_, _*_, _≤_, _<_, zero, _-_, zero-le, add-one, add-zero, zero-add, eqb, length, take, le-leb}
 use Rattle.basics.proofs.Kit.{leb-true, lt-ltb, le-ltb, eqb-true, eq-eqb, ltb-true, arith}
 use Rattle.basics.specs.Basics.{if_then_else_, all, from, sum}
@@ -8,7 +11,7 @@ use Rattle.model.specs.State.{Store}
 use Rattle.memory_bytes.specs.Bytes.{le4}
 use Rattle.basics.specs.Lists.{tab}
 use Rattle.basics.proofs.Tabs.{length-tab, take-tab}
-use Rattle.memory_layout.specs.Places.{signature}
+use Rattle.memory_layout.specs.Places.{signature, headSize}
 use Rattle.memory_layout.specs.Views.{headOf, countsOf, rowCount, openCount, namedCount, directoryCount, pageCount, openAt, directoryAt, rowAt, startAt, entryAt, namedBlock}
 use Rattle.memory_layout.specs.declared.Counts.{Counts}
 use Rattle.memory_layout.specs.Flat.{Flat, flatOf, capacityOf, opensOf, rowsOf, entriesOf, namedOf, directoriesOf, Room, InRange, Becomes}
@@ -108,11 +111,11 @@ module _ (m : List ℕ) (room : Room m) where
 
 pub record Known (m : List ℕ) : Type 0 where
   pub least : 1 ≤ capacityOf m
-  pub most : capacityOf m ≤ 1024
-  pub long : 1024 + capacityOf m * 128 ≤ length m
+  pub most : capacityOf m ≤ capacityLimit
+  pub long : memoryFor (capacityOf m) ≤ length m
   pub rows : rowCount m ≤ capacityOf m
   pub pages : pageCount m ≤ 2 * capacityOf m
-  pub opens : openCount m ≤ 64
+  pub opens : openCount m ≤ openLimit
   pub named : namedCount m ≤ capacityOf m
   pub directories : directoryCount m ≤ 4
   pub rows-are : length (rowsOf m) ≡ rowCount m
@@ -198,7 +201,7 @@ held-again m r h =
     (λ p a b.
     let l : 1 ≤ startAt m c (suc p) - startAt m c p = leb-true _ _ (tab-all hasRows (entryAt m c) 0 (pageCount m) h p a b) in
     lt-ltb (startAt m c p) (startAt m c (suc p)) (omega arith)) in
-    every-cons _ _ (le-leb 1024 (length m) (omega arith))
+    every-cons _ _ (le-leb headSize (length m) (omega arith))
     ∙ every-cons _ _ (eq-eqb _ _ (r .sign))
     ∙ every-cons _ _ (in-range _ _ _ (r .range))
     ∙ every-cons _ _ tables

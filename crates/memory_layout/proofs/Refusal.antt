@@ -8,7 +8,7 @@ use Rattle.model.specs.Recover.{memoryFor}
 use Rattle.memory_bytes.specs.Bytes.{le2, le4, column2}
 use Rattle.basics.specs.Lists.{tab}
 use Rattle.basics.proofs.Tabs.{lt-or-ge}
-use Rattle.memory_layout.specs.Places.{signature}
+use Rattle.memory_layout.specs.Places.{signature, headSize, startsAt}
 use Rattle.memory_layout.specs.Views.{headOf, countsOf, tableEnd, pageCount, startAt}
 use Rattle.memory_layout.specs.Flat.{InRange, capacityOf}
 use Rattle.memory_layout.specs.Store.{inRange, tablesRise, startsRise, StartsAt, holdsStore}
@@ -47,7 +47,7 @@ module _ (f : ℕ → Bool) where
 -- ---- the head's numbers
 
 pub range-in : (size : ℕ) (h : Head) (n : Counts) → inRange size h n ≡ true → InRange size h n
-unfolding inRange memoryFor
+unfolding inRange
 range-in size h n e =
     let t1 = every-true _ _ e in
     let t2 = every-true _ _ (t1 .1) in
@@ -75,7 +75,7 @@ range-in size h n e =
     }
 
 pub in-range : (size : ℕ) (h : Head) (n : Counts) → InRange size h n → inRange size h n ≡ true
-unfolding inRange memoryFor
+unfolding inRange
 in-range size h n g =
     every-cons _ _ (le-leb _ _ (g .least))
     ∙ every-cons _ _ (le-leb _ _ (g .most))
@@ -139,11 +139,11 @@ all-snoc f i (suc k) =
 
 module _ {m : List ℕ} {c pages rows : ℕ} (at : StartsAt m c pages rows) where
   -- a page's start, by its two bytes
-  start-in : (p : ℕ) → p < pages → startAt m (capacityOf m) p ≡ column2 m (1024 + c * 79) p
+  start-in : (p : ℕ) → p < pages → startAt m (capacityOf m) p ≡ column2 m (startsAt c) p
   unfolding startAt if_then_else_
   start-in p h =
       let t : ltb p (pageCount m) ≡ true = lt-ltb p (pageCount m) (omega (arith, at .pages)) in
-      rw t (ap (λ (z : ℕ). le2 m (1024 + z * 79 + p * 2)) (sym (at .capacity)))
+      rw t (ap (λ (z : ℕ). le2 m (startsAt z + p * 2)) (sym (at .capacity)))
 
   start-behind : startAt m (capacityOf m) pages ≡ rows
   unfolding startAt if_then_else_
@@ -158,14 +158,14 @@ module _ {m : List ℕ} {c pages rows : ℕ} (at : StartsAt m c pages rows) wher
 
   -- with pages: the first start, the rise from each to the next, and the last against the rows
   module _ (some : 1 ≤ pages) where
-    pub some-pages : startsRise m ≡ (eqb (le2 m (1024 + c * 79)) 0
-        && (paired ltb (tab (column2 m (1024 + c * 79)) 0 (pages - 1 + 1)) && ltb (column2 m (1024 + c * 79) (pages - 1)) rows))
+    pub some-pages : startsRise m ≡ (eqb (le2 m (startsAt c)) 0
+        && (paired ltb (tab (column2 m (startsAt c)) 0 (pages - 1 + 1)) && ltb (column2 m (startsAt c) (pages - 1)) rows))
     unfolding startsRise
     some-pages =
         let k : ℕ = pages - 1 in
-        let g : ℕ → ℕ = column2 m (1024 + c * 79) in
+        let g : ℕ → ℕ = column2 m (startsAt c) in
         let n : pageCount m ≡ suc k = omega (arith, at .pages) in
-        let first : startAt m (capacityOf m) 0 ≡ le2 m (1024 + c * 79) = start-in 0 (omega arith) ∙ ap (le2 m) (add-zero (1024 + c * 79)) in
+        let first : startAt m (capacityOf m) 0 ≡ le2 m (startsAt c) = start-in 0 (omega arith) ∙ ap (le2 m) (add-zero (startsAt c)) in
         let mid : all (startRises m) (from 0 k) ≡ paired ltb (tab g 0 (k + 1)) =
         all-same (startRises m) (λ p. ltb (g p) (g (suc p))) 0 k (λ p a b. λ i. ltb (start-in p (omega arith) i) (start-in (suc p) (omega arith) i))
         ∙ sym (paired-all ltb g 0 k) ∙ ap (λ (z : ℕ). paired ltb (tab g 0 z)) (sym (add-one k)) in
@@ -173,30 +173,30 @@ module _ {m : List ℕ} {c pages rows : ℕ} (at : StartsAt m c pages rows) wher
         let last : startRises m (0 + k) ≡ ltb (g k) rows =
         (λ i. ltb ((ap (startAt m (capacityOf m)) (zero-add k) ∙ start-in k (omega arith)) i) ((ap (startAt m (capacityOf m)) behind ∙ start-behind) i)) in
         (λ i. eqb (first i) 0 && all (startRises m) (from 0 (n i)))
-        ∙ ap (λ (z : Bool). eqb (le2 m (1024 + c * 79)) 0 && z) (all-snoc (startRises m) 0 k ∙ (λ i. mid i && last i))
+        ∙ ap (λ (z : Bool). eqb (le2 m (startsAt c)) 0 && z) (all-snoc (startRises m) 0 k ∙ (λ i. mid i && last i))
 
-    pub last-empty : {x : ℕ} → x ≡ column2 m (1024 + c * 79) (pages - 1) → rows ≤ x → false ≡ startsRise m
+    pub last-empty : {x : ℕ} → x ≡ column2 m (startsAt c) (pages - 1) → rows ≤ x → false ≡ startsRise m
     last-empty e h =
-        sym (some-pages ∙ rw (le-ltb (column2 m (1024 + c * 79) (pages - 1)) rows (omega arith), and-no, and-no))
+        sym (some-pages ∙ rw (le-ltb (column2 m (startsAt c) (pages - 1)) rows (omega arith), and-no, and-no))
 
-    pub first-moved : {x : ℕ} → x ≡ le2 m (1024 + c * 79) → (x ≡ 0 → ⊥) → false ≡ startsRise m
-    first-moved e ne = sym (some-pages ∙ rw (ne-eqb (le2 m (1024 + c * 79)) 0 (λ z. ne (e ∙ z))))
+    pub first-moved : {x : ℕ} → x ≡ le2 m (startsAt c) → (x ≡ 0 → ⊥) → false ≡ startsRise m
+    first-moved e ne = sym (some-pages ∙ rw (ne-eqb (le2 m (startsAt c)) 0 (λ z. ne (e ∙ z))))
 
-    pub all-rise : {x y : ℕ} {b : Bool} → x ≡ column2 m (1024 + c * 79) (pages - 1) → x < rows → y ≡ le2 m (1024 + c * 79) → y ≡ 0
-        → b ≡ paired ltb (tab (column2 m (1024 + c * 79)) 0 (pages - 1 + 1)) → b ≡ startsRise m
+    pub all-rise : {x y : ℕ} {b : Bool} → x ≡ column2 m (startsAt c) (pages - 1) → x < rows → y ≡ le2 m (startsAt c) → y ≡ 0
+        → b ≡ paired ltb (tab (column2 m (startsAt c)) 0 (pages - 1 + 1)) → b ≡ startsRise m
     all-rise ex hx ey hy eb =
-        eb ∙ sym (some-pages ∙ rw (eq-eqb (le2 m (1024 + c * 79)) 0 (sym ey ∙ hy), lt-ltb (column2 m (1024 + c * 79) (pages - 1)) rows (omega arith), and-yes))
+        eb ∙ sym (some-pages ∙ rw (eq-eqb (le2 m (startsAt c)) 0 (sym ey ∙ hy), lt-ltb (column2 m (startsAt c) (pages - 1)) rows (omega arith), and-yes))
 
 -- ---- the whole test, where it stops
 
-pub too-short : (m : List ℕ) → length m < 1024 → false ≡ holdsStore m
+pub too-short : (m : List ℕ) → length m < headSize → false ≡ holdsStore m
 unfolding holdsStore
-too-short m h = sym (every-stop _ _ (lt-leb 1024 (length m) h))
+too-short m h = sym (every-stop _ _ (lt-leb headSize (length m) h))
 
-module _ (m : List ℕ) {s : ℕ} (big : 1024 ≤ length m) (es : s ≡ le4 m 0) where
+module _ (m : List ℕ) {s : ℕ} (big : headSize ≤ length m) (es : s ≡ le4 m 0) where
   pub unsigned : (s ≡ signature → ⊥) → false ≡ holdsStore m
   unfolding holdsStore
-  unsigned ne = sym (every-cons _ _ (le-leb 1024 (length m) big) ∙ every-stop _ _ (ne-eqb _ _ (λ z. ne (es ∙ z))))
+  unsigned ne = sym (every-cons _ _ (le-leb headSize (length m) big) ∙ every-stop _ _ (ne-eqb _ _ (λ z. ne (es ∙ z))))
 
   module _ {h : Head} {n : Counts} {b : Bool} (sign : s ≡ signature) (eh : h ≡ headOf m) (en : n ≡ countsOf m) (eb : b ≡ inRange (length m) h n) where
     range-is : inRange (length m) (headOf m) (countsOf m) ≡ b
@@ -205,7 +205,7 @@ module _ (m : List ℕ) {s : ℕ} (big : 1024 ≤ length m) (es : s ≡ le4 m 0)
     front : holdsStore m ≡ every (b ∷ tablesRise m ∷ startsRise m ∷ [])
     unfolding holdsStore
     front =
-        every-cons _ _ (le-leb 1024 (length m) big) ∙ every-cons _ _ (eq-eqb _ _ (sym es ∙ sign))
+        every-cons _ _ (le-leb headSize (length m) big) ∙ every-cons _ _ (eq-eqb _ _ (sym es ∙ sign))
         ∙ ap (λ (z : Bool). every (z ∷ tablesRise m ∷ startsRise m ∷ [])) range-is
 
     pub out-of-range : b ≡ false → false ≡ holdsStore m

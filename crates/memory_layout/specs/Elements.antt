@@ -2,6 +2,8 @@
 use Prim.Native.Nat.{ℕ, _-_, _≤_, _<_}
 use mathlib.Core.List.{List}
 use lib.ListN.{length, take, drop}
+use Rattle.image_rows.specs.Rows.{openLimit}
+use Rattle.block_forms.specs.Limits.{blockLimit}
 use Rattle.model.specs.State.{Held}
 use Rattle.memory_layout.specs.Flat.{Flat, flatOf, Room}
 use Rattle.memory_layout.specs.Opens.{OpenFits}
@@ -14,23 +16,23 @@ pub record OpenAt (f : Flat) (i : ℕ) (o : Open) : Type 0 where
 
 -- the transaction o may be opened
 pub record OpenMore (f : Flat) (o : Open) : Type 0 where
-  pub few : length (f .opens) < 64
+  pub few : length (f .opens) < openLimit
   pub fits : OpenFits o
 
 -- directory entry i may be block b
 pub record NamedAt (f : Flat) (i b : ℕ) : Type 0 where
   pub inside : i < length (f .named)
-  pub fits : b < 4096
+  pub fits : b < blockLimit
 
 -- there may be one directory entry more, block b
 pub record NamedMore (f : Flat) (b : ℕ) : Type 0 where
   pub few : length (f .named) < f .head .capacity
-  pub fits : b < 4096
+  pub fits : b < blockLimit
 
 -- there may be one directory block more, block b
 pub record DirectoryMore (f : Flat) (b : ℕ) : Type 0 where
   pub few : length (f .directories) < 4
-  pub fits : b < 4096
+  pub fits : b < blockLimit
 
 -- ---- some of the rows
 

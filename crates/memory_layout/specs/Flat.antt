@@ -5,6 +5,10 @@ use mathlib.Core.Bool.{Bool, false, _||_}
 use mathlib.Core.List.{List, [], _∷_, _++_}
 use lib.ListN.{length, take, drop, getD}
 use lib.Dec.{eqb}
+use Rattle.image_rows.specs.Rows.{openLimit}
+use Rattle.model.specs.Recover.{memoryFor}
+use Rattle.image.specs.Stages.{capacityLimit}
+use Rattle.block_forms.specs.Limits.{blockLimit}
 use Rattle.block_forms.specs.Tuple.{committed}
 use Rattle.model.specs.State.{nothing, Held, Active}
 use Rattle.memory_bytes.specs.Bytes.{le4}
@@ -61,14 +65,14 @@ flatOf m =
 -- the ranges of the head's numbers, for a memory of size bytes
 pub record InRange (size : ℕ) (h : Head) (n : Counts) : Type 0 where
   pub least : 1 ≤ h .capacity
-  pub most : h .capacity ≤ 1024
-  pub long : 128 * h .capacity + 1024 ≤ size
+  pub most : h .capacity ≤ capacityLimit
+  pub long : memoryFor (h .capacity) ≤ size
   pub few : 2 ≤ h .blocks
-  pub many : h .blocks ≤ 4096
+  pub many : h .blocks ≤ blockLimit
   pub taken : h .taken < h .blocks
   pub rows : n .rows ≤ h .capacity
   pub pages : n .pages ≤ 2 * h .capacity
-  pub opens : n .opens ≤ 64
+  pub opens : n .opens ≤ openLimit
   pub named : n .named ≤ h .capacity
   pub directories : n .directories ≤ 4
 
@@ -85,7 +89,7 @@ pub record Room (m : List ℕ) : Type 0 where
 pub record Replaces (g h : Head) : Type 0 where
   pub capacity : h .capacity ≡ g .capacity
   pub few : 2 ≤ h .blocks
-  pub many : h .blocks ≤ 4096
+  pub many : h .blocks ≤ blockLimit
   pub taken : h .taken < h .blocks
 
 -- what a function that changes the memory promises: f is all that it holds then

@@ -2,6 +2,7 @@
 use Prim.Native.Nat.{ℕ, suc, _<_}
 use mathlib.Core.Bool.{Bool, true, false}
 use mathlib.Core.List.{List, [], _∷_}
+use Rattle.block_forms.specs.Limits.{statementLimit, transactionLimit}
 use Rattle.basics.specs.Basics.{if_then_else_}
 use Rattle.model.specs.State.{Active}
 use Rattle.model.specs.Transactions.{isFor}
@@ -13,8 +14,8 @@ activeOf o = record { transaction = o .transaction; written = o .written }
 
 -- its numbers have 12 and 20 bits
 pub record OpenFits (o : Open) : Type 0 where
-  pub transaction : o .transaction < 4096
-  pub written : o .written < 1048576
+  pub transaction : o .transaction < transactionLimit
+  pub written : o .written < statementLimit
 
 -- the place of the first entry of the transaction; how many entries there are, if it has none
 unfoldable pub findOpen : ℕ → List Active → ℕ

@@ -1,5 +1,6 @@
 -- Where each part of the memory stands: the head in the first 1,024 bytes, then columns whose places go by the capacity c.
-use Prim.Native.Nat.{ℕ, _+_, _*_}
+use Prim.Native.Nat.{ℕ, _+_, _*_, _/_}
+use Rattle.block_forms.specs.Limits.{blockLimit}
 
 -- ---- the head
 
@@ -23,6 +24,10 @@ opensAt = 128
 abbrev pub usedAt : ℕ
 usedAt = 512
 
+-- the bytes of these bits
+abbrev pub usedSize : ℕ
+usedSize = blockLimit / 8
+
 -- the end of the head
 abbrev pub headSize : ℕ
 headSize = 1024
@@ -33,30 +38,34 @@ headSize = 1024
 abbrev pub slotSize : ℕ
 slotSize = 72
 
--- slots, 72 bytes each
+-- slots
 abbrev pub slotsAt : ℕ
-slotsAt = 1024
+slotsAt = headSize
 
 -- keys of the rows, four bytes each
 abbrev pub keysAt : ℕ → ℕ
-keysAt c = 1024 + c * 72
+keysAt c = headSize + c * slotSize
 
 -- slots of the rows with their pending operations, two bytes each
 abbrev pub refsAt : ℕ → ℕ
-refsAt c = 1024 + c * 76
+refsAt c = headSize + c * (slotSize + 4)
 
 -- states of the rows, one byte each
 abbrev pub statesAt : ℕ → ℕ
-statesAt c = 1024 + c * 78
+statesAt c = headSize + c * (slotSize + 6)
 
 -- first rows of the pages, two bytes each; room for two pages a row
 abbrev pub startsAt : ℕ → ℕ
-startsAt c = 1024 + c * 79
+startsAt c = headSize + c * (slotSize + 7)
 
 -- blocks of the pages, two bytes each
 abbrev pub blocksAt : ℕ → ℕ
-blocksAt c = 1024 + c * 83
+blocksAt c = headSize + c * (slotSize + 11)
 
 -- directory entries of the running checkpoint, two bytes each
 abbrev pub namedAt : ℕ → ℕ
-namedAt c = 1024 + c * 87
+namedAt c = headSize + c * (slotSize + 15)
+
+-- the bytes that a row uses in the slots and the columns together
+abbrev pub rowBytes : ℕ
+rowBytes = slotSize + 17

@@ -7,13 +7,13 @@ use mathlib.Core.List.{List, [], _∷_, _++_}
 use lib.ListN.{length, take, drop}
 use lib.Dec.{leb, ltb, eqb}
 use Rattle.basics.specs.Basics.{if_then_else_, every, all, sum, from}
-use Rattle.block_forms.specs.Limits.{mostNumber}
+use Rattle.block_forms.specs.Limits.{mostNumber, blockLimit}
 use Rattle.image_rows.specs.Rows.{openLimit}
 use Rattle.image.specs.Stages.{capacityLimit}
 use Rattle.model.specs.State.{Held, Page, Checkpoint, idle, running, Store}
 use Rattle.model.specs.Recover.{memoryFor}
 use Rattle.memory_bytes.specs.Bytes.{le4}
-use Rattle.memory_layout.specs.Places.{signature}
+use Rattle.memory_layout.specs.Places.{signature, headSize}
 use Rattle.memory_layout.specs.Views.{headOf, countsOf, rowCount, tableEnd, pageCount, startAt}
 use Rattle.memory_layout.specs.Flat.{Flat, flatOf, capacityOf, entryIn}
 use Rattle.memory_layout.specs.declared.Head.{Head}
@@ -78,7 +78,7 @@ inRange size h n =
     ∷ leb (h .capacity) capacityLimit
     ∷ leb (memoryFor (h .capacity)) size
     ∷ leb 2 (h .blocks)
-    ∷ leb (h .blocks) 4096
+    ∷ leb (h .blocks) blockLimit
     ∷ ltb (h .taken) (h .blocks)
     ∷ leb (n .rows) (h .capacity)
     ∷ leb (n .pages) (2 * h .capacity)
@@ -97,7 +97,7 @@ startsRise m = eqb (startAt m (capacityOf m) 0) 0 && all (λ p. ltb (startAt m (
 
 -- c is the capacity, p how many pages and r how many rows there are, and the memory has room for the first rows of the pages
 pub record StartsAt (m : List ℕ) (c p r : ℕ) : Type 0 where
-  pub long : 1024 + 128 * c ≤ length m
+  pub long : memoryFor c ≤ length m
   pub capacity : c ≡ capacityOf m
   pub most : p ≤ 2 * c
   pub pages : p ≡ pageCount m
@@ -107,7 +107,7 @@ pub record StartsAt (m : List ℕ) (c p r : ℕ) : Type 0 where
 unfoldable pub holdsStore : List ℕ → Bool
 holdsStore m =
     every (
-    leb 1024 (length m)
+    leb headSize (length m)
     ∷ eqb (le4 m 0) signature
     ∷ inRange (length m) (headOf m) (countsOf m)
     ∷ tablesRise m
@@ -127,10 +127,10 @@ hasRows e = leb 1 (e .count)
 -- a memory of size bytes has room for a store of b blocks and capacity n
 pub record FreshFits (size b n : ℕ) : Type 0 where
   pub least : 1 ≤ n
-  pub most : n ≤ 1024
-  pub long : 128 * n + 1024 ≤ size
+  pub most : n ≤ capacityLimit
+  pub long : memoryFor n ≤ size
   pub few : 2 ≤ b
-  pub many : b ≤ 4096
+  pub many : b ≤ blockLimit
 
 -- an empty store of b blocks and capacity n
 unfoldable pub freshFlat : ℕ → ℕ → Flat

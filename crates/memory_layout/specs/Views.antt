@@ -4,9 +4,10 @@ use mathlib.Core.Bool.{Bool, not, _&&_}
 use mathlib.Core.List.{List}
 use lib.ListN.{getD}
 use lib.Dec.{eqb, ltb, leb}
+use Rattle.memory_bytes.specs.Columns.{slotLimit}
 use Rattle.basics.specs.Basics.{if_then_else_, howMany, from}
 use Rattle.memory_bytes.specs.Bytes.{le2, le4, bytes}
-use Rattle.block_forms.specs.Limits.{payloadLimit}
+use Rattle.block_forms.specs.Limits.{payloadLimit, blockLimit, markValue, statementLimit}
 use Rattle.block_forms.specs.Decode.{readOwner, readMark}
 use Rattle.model.specs.State.{Pending, nothing, adding, committing, removing, Held, Active}
 use Rattle.memory_layout.specs.Places.{tablesAt, directoriesAt, opensAt, usedAt, slotsAt, slotSize, keysAt, refsAt, statesAt, startsAt, blocksAt, namedAt}
@@ -59,33 +60,33 @@ countsOf m = record { rows = rowCount m; pages = pageCount m; opens = openCount 
 
 -- open transaction i: its number is in the high 12 bits, and how many tuples it has written in the low 20
 unfoldable pub openAt : List ℕ → ℕ → Active
-openAt m i = record { transaction = le4 m (opensAt + i * 4) / 1048576; written = le4 m (opensAt + i * 4) % 1048576 }
+openAt m i = record { transaction = le4 m (opensAt + i * 4) / statementLimit; written = le4 m (opensAt + i * 4) % statementLimit }
 
 -- number i of the directory blocks written
 unfoldable pub directoryAt : List ℕ → ℕ → ℕ
-directoryAt m i = le4 m (directoriesAt + i * 4) % 4096
+directoryAt m i = le4 m (directoriesAt + i * 4) % blockLimit
 
 -- block b is in use: bit b % 8 from the low end of byte b / 8
 unfoldable pub isUsed : List ℕ → ℕ → Bool
-isUsed m b = ltb b 4096 && eqb (getD m (usedAt + b / 8) 0 / 2 ^ (b % 8) % 2) 1
+isUsed m b = ltb b blockLimit && eqb (getD m (usedAt + b / 8) 0 / 2 ^ (b % 8) % 2) 1
 
 -- ---- rows, for the capacity c
 
 -- the slot that a number of two bytes names: slot 0 for one that is not there
 unfoldable pub slotOf : ℕ → ℕ → ℕ
-slotOf c r = if ltb (r % 1024) c then r % 1024 else 0
+slotOf c r = if ltb (r % slotLimit) c then r % slotLimit else 0
 
 -- the pending operation in a number of two bytes
 unfoldable pub pendingOf : ℕ → Pending
 pendingOf r =
-    if eqb (r / 1024 % 4) 0 then nothing
-    else if eqb (r / 1024 % 4) 1 then adding
-    else if eqb (r / 1024 % 4) 2 then committing
+    if eqb (r / slotLimit % 4) 0 then nothing
+    else if eqb (r / slotLimit % 4) 1 then adding
+    else if eqb (r / slotLimit % 4) 2 then committing
     else removing
 
 -- the payload's length by a state's low six bits, and never above the limit
 unfoldable pub lengthOf : ℕ → ℕ
-lengthOf s = min (s % 64) payloadLimit
+lengthOf s = min (s % markValue) payloadLimit
 
 -- the two bytes of row i that name its slot and its pending operation
 abbrev pub refOf : List ℕ → ℕ → ℕ → ℕ
@@ -134,11 +135,11 @@ unfoldable pub entryAt : List ℕ → ℕ → ℕ → Entry
 entryAt m c p =
     record {
       table = tableAt m p;
-      frozen = eqb (blockWord m c p / 4096 % 2) 1;
+      frozen = eqb (blockWord m c p / blockLimit % 2) 1;
       count = startAt m c (suc p) - startAt m c p;
-      block = blockWord m c p % 4096;
+      block = blockWord m c p % blockLimit;
     }
 
 -- directory entry i: the block of a page at begin, 0 while it is to be written
 unfoldable pub namedBlock : List ℕ → ℕ → ℕ → ℕ
-namedBlock m c i = le2 m (namedAt c + i * 2) % 4096
+namedBlock m c i = le2 m (namedAt c + i * 2) % blockLimit

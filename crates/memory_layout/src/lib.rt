@@ -14,7 +14,9 @@ ghost use Prim.Native.Nat.{_+_, _*_, _/_, _%_, _^_, _≤_, _<_};
 ghost use lib.Dec.{eqb};
 ghost use lib.Bits.{bitOr};
 ghost use lib.ListN.{length, getD, set};
-ghost use Rattle.model.specs.Recover.{freshStore};
+ghost use Rattle.image.specs.Stages.{capacityLimit};
+ghost use Rattle.block_forms.specs.Limits.{blockLimit};
+ghost use Rattle.model.specs.Recover.{freshStore, memoryFor};
 ghost use Rattle.memory_bytes.specs.Bytes.{Apart};
 ghost use Rattle.basics.specs.Lists.{removeAt};
 ghost use Rattle.memory_layout.specs.Views.{headOf, countsOf};
@@ -22,6 +24,7 @@ ghost use Rattle.memory_layout.specs.Flat.{flatOf, Room, Replaces, Becom
 ghost use Rattle.memory_layout.specs.Opens.{activeOf, findOpen, oneIf};
 ghost use Rattle.memory_layout.specs.Elements.{OpenAt, OpenMore, NamedAt, NamedMore, DirectoryMore};
 ghost use Rattle.memory_layout.specs.Store.{holdsStore, FreshFits, freshFlat, storeIn};
+ghost use Rattle.memory_layout.specs.Places.{headSize, namedAt, refsAt};
 
 // What a memory that holds a store begins with: V, O, Z and the layout's version.
 const SIGNATURE: u32 = 56250198;
@@ -60,34 +63,43 @@ const OPENS: usize = 128;
 
 const USED: usize = 512;
 
-const USED_SIZE: usize = 512;
+const USED_SIZE: usize = block_forms::BLOCK_LIMIT / 8;
 
 pub const HEAD_SIZE: usize = 1024;
 
-// Bytes a row before the slots of the rows, the first rows of the pages and the directory entries.
-const REFS: usize = 76;
+// A slot has number, owner and payload of a row.
+pub const SLOT_SIZE: usize = 72;
 
-pub const STARTS: usize = 79;
+// Bytes a row before each column: keys, slots and states of the rows, first rows and blocks of the pages, directory entries.
+pub const KEYS: usize = SLOT_SIZE;
 
-const NAMED: usize = 87;
+pub const REFS: usize = KEYS + 4;
+
+pub const STATES: usize = REFS + 2;
+
+pub const STARTS: usize = STATES + 1;
+
+pub const PAGE_BLOCKS: usize = STARTS + 4;
+
+const NAMED: usize = PAGE_BLOCKS + 4;
 
 // An open transaction is stored as its number times this, plus how many tuples it has written.
-pub const WRITTEN_LIMIT: u32 = 1048576;
+const STATEMENTS: u32 = block_forms::STATEMENTS;
 
 // The largest capacity, and how many bytes of memory each row of it takes.
-pub const CAPACITY_LIMIT: u32 = 1024;
+pub const CAPACITY_LIMIT: u32 = image_rows::ROWS as u32;
 
 pub const ROW_SPACE: usize = 128;
 
 // At most so many blocks, open transactions and directory blocks.
-pub const BLOCK_LIMIT: u32 = 4096;
+pub const BLOCK_LIMIT: u32 = block_forms::BLOCK_LIMIT as u32;
 
-pub const OPEN_LIMIT: u32 = 64;
+pub const OPEN_LIMIT: u32 = image_rows::OPEN_LIMIT as u32;
 
 const DIRECTORY_LIMIT: u32 = 4;
 
-// A directory entry has the block in its low twelve bits.
-const ENTRY_BLOCKS: u16 = 4096;
+// A directory entry's two bytes, modulo this, are its block.
+const ENTRY_BLOCKS: u16 = block_forms::BLOCK_LIMIT as u16;
 
 // The numbers of the head that are no counts. begun: the next number at begin; taken: the block last taken.
 pub struct Head {
@@ -126,7 +138,7 @@ pub struct Open {
 // ---- the head
 
 pub fn get_head(m: &[u8]) -> Head
-    requires { ⌜ 1024 ≤ length (now m) ⌝ }
+    requires { ⌜ headSize ≤ length (now m) ⌝ }
     ensures { λ r. ⌜ r ≡ headOf (now (m .entry)) ⌝ }
 {
     Head {
@@ -141,7 +153,7 @@ pub fn get_head(m: &[u8]) -> Head
 }
 
 pub fn get_counts(m: &[u8]) -> Counts
-    requires { ⌜ 1024 ≤ length (now m) ⌝ }
+    requires { ⌜ headSize ≤ length (now m) ⌝ }
     ensures { λ r. ⌜ r ≡ countsOf (now (m .entry)) ⌝ }
 {
     Counts {
@@ -184,8 +196,8 @@ pub fn get_open(m: &[u8], i: usize) -> Open
 {
     let w = memory_bytes::get4(m, OPENS + i * 4);
     Open {
-        transaction: w / WRITTEN_LIMIT,
-        written: w % WRITTEN_LIMIT,
+        transaction: w / STATEMENTS,
+        written: w % STATEMENTS,
     }
 }
 
@@ -197,7 +209,7 @@ pub fn find_open(m: &[u8], transaction: u64) -> usize
     let n = memory_bytes::get4(m, OPEN_COUNT) as usize;
     let mut i = 0;
     while i < n {
-        let t = (memory_bytes::get4(m, OPENS + i * 4) / WRITTEN_LIMIT) as u64;
+        let t = (memory_bytes::get4(m, OPENS + i * 4) / STATEMENTS) as u64;
         if t == transaction {
             return i;
         }
@@ -210,7 +222,7 @@ pub fn put_open(m: &mut [u8], i: usize, o: Open)
     requires { ⌜ Room (now m) × OpenAt (flatOf (now m)) i o ⌝ }
     ensures { λ _. ⌜ Becomes (now (m .entry)) (now (m .exit)) (withOpens (flatOf (now (m .entry))) (set (flatOf (now (m .entry)) .opens) i (activeOf o))) ⌝ }
 {
-    memory_bytes::put4(m, OPENS + i * 4, o.transaction * WRITTEN_LIMIT + o.written);
+    memory_bytes::put4(m, OPENS + i * 4, o.transaction * STATEMENTS + o.written);
 }
 
 pub fn push_open(m: &mut [u8], o: Open)
@@ -219,7 +231,7 @@ pub fn push_open(m: &mut [u8], o: Open)
 {
     let n = memory_bytes::get4(m, OPEN_COUNT);
     let i = n as usize;
-    memory_bytes::put4(m, OPENS + i * 4, o.transaction * WRITTEN_LIMIT + o.written);
+    memory_bytes::put4(m, OPENS + i * 4, o.transaction * STATEMENTS + o.written);
     memory_bytes::put4(m, OPEN_COUNT, n + 1);
 }
 
@@ -236,8 +248,8 @@ pub fn remove_open(m: &mut [u8], i: usize)
 // ---- directory entries
 
 fn named_place(m: &[u8], i: usize) -> usize
-    requires { ⌜ Room (now m) × (i < 1024) ⌝ }
-    ensures { λ r. ⌜ r ≡ 1024 + headOf (now (m .entry)) .capacity * 87 + i * 2 ⌝ }
+    requires { ⌜ Room (now m) × (i < capacityLimit) ⌝ }
+    ensures { λ r. ⌜ r ≡ namedAt (headOf (now (m .entry)) .capacity) + i * 2 ⌝ }
 {
     let c = memory_bytes::get4(m, CAPACITY) as usize;
     HEAD_SIZE + c * NAMED + i * 2
@@ -320,14 +332,14 @@ fn with_bit(x: u8, k: usize) -> u8
 }
 
 pub fn is_used(m: &[u8], b: usize) -> bool
-    requires { ⌜ (b < 4096) × (1024 ≤ length (now m)) ⌝ }
+    requires { ⌜ (b < blockLimit) × (headSize ≤ length (now m)) ⌝ }
     ensures { λ r. ⌜ r ≡ flatOf (now (m .entry)) .used b ⌝ }
 {
     bit(m[USED + b / 8], b % 8)
 }
 
 pub fn mark_used(m: &mut [u8], b: usize)
-    requires { ⌜ Room (now m) × (b < 4096) ⌝ }
+    requires { ⌜ Room (now m) × (b < blockLimit) ⌝ }
     ensures { λ _. ⌜ Becomes (now (m .entry)) (now (m .exit)) (withUsed (flatOf (now (m .entry))) (usedAnd b (flatOf (now (m .entry)) .used))) ⌝ }
 {
     let a = USED + b / 8;
@@ -368,8 +380,8 @@ pub fn holds_store(m: &[u8]) -> bool
 
 // Writes the numbers of all slots, in order, as those that may be free: there is no row yet.
 fn name_slots(m: &mut [u8], n: usize)
-    requires { ⌜ (n ≤ 1024) × (128 * n + 1024 ≤ length (now m)) ⌝ }
-    ensures { λ _. ⌜ Apart (now (m .entry)) (now (m .exit)) (1024 + n * 76) (n * 2) ⌝ }
+    requires { ⌜ (n ≤ capacityLimit) × (memoryFor n ≤ length (now m)) ⌝ }
+    ensures { λ _. ⌜ Apart (now (m .entry)) (now (m .exit)) (refsAt n) (n * 2) ⌝ }
 {
     let mut i: usize = 0;
     while i < n {

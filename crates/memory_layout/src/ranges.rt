@@ -14,6 +14,7 @@ ghost use mathlib.Core.Bool.{false};
 ghost use Prim.Native.Nat.{_+_, _*_, _/_, _≤_, _<_};
 ghost use lib.ListN.{length};
 ghost use Rattle.memory_layout.specs.Store.{inRange, tablesRise, startsRise, StartsAt};
+ghost use Rattle.memory_layout.specs.Places.{headSize};
 
 // The ranges of the head's numbers: no branch, since nearly every memory passes.
 pub fn in_range(size: usize, h: Head, n: Counts) -> bool
@@ -37,7 +38,7 @@ pub fn in_range(size: usize, h: Head, n: Counts) -> bool
 
 // No table ends before the one below it.
 pub fn tables_rise(m: &[u8]) -> bool
-    requires { ⌜ 1024 ≤ length (now m) ⌝ }
+    requires { ⌜ headSize ≤ length (now m) ⌝ }
     ensures { λ r. ⌜ r ≡ tablesRise (now (m .entry)) ⌝ }
 {
     let mut rise = true;

@@ -1,9 +1,10 @@
 -- A page and a row behind all others: no row and no other page is moved.
+use Rattle.block_forms.specs.Limits.{blockLimit}
 use Rattle.basics.proofs.Kit.{_≡_, refl, sym, ap, _∙_, false, List, [], _∷_, _++_, ℕ, _+_, _*_, _≤_, _<_, _-_, add-zero, length, getD, set, arith, getD-append-seam}
 use Rattle.memory_bytes.specs.Bytes.{bytes2, Wrote}
 use Rattle.basics.specs.Lists.{insertAt}
 use Rattle.memory_bytes.proofs.Bytes.{le2-cong, le4-cong}
-use Rattle.memory_layout.specs.Places.{refsAt, startsAt, blocksAt}
+use Rattle.memory_layout.specs.Places.{refsAt, startsAt, blocksAt, headSize}
 use Rattle.memory_layout.specs.Views.{pageCount, startAt, slotOf}
 use Rattle.memory_layout.specs.Flat.{Flat, flatOf, capacityOf, rowsOf, noEntry, entryIn, Room, Becomes, withEntries}
 use Rattle.memory_layout.specs.declared.Entry.{Entry}
@@ -20,7 +21,7 @@ use Rattle.basics.proofs.Parts.{last-set}
 -- ---- no row is moved
 
 order-kept : {m m' : List ℕ} → Room m → ((b : ℕ) → b < 32 → getD m' b 0 ≡ getD m b 0)
-    → ((b : ℕ) → 1024 ≤ b → b < startsAt (capacityOf m) → getD m' b 0 ≡ getD m b 0) → length (rowsOf m') ≡ length (rowsOf m) → InOrder m → InOrder m'
+    → ((b : ℕ) → headSize ≤ b → b < startsAt (capacityOf m) → getD m' b 0 ≡ getD m b 0) → length (rowsOf m') ≡ length (rowsOf m) → InOrder m → InOrder m'
 unfolding slotIn
 order-kept {m} {m'} room low refs same o =
     let c : ℕ = capacityOf m in
@@ -39,7 +40,7 @@ last-stands {m} room en a =
     let l : length (flatOf m .entries) ≡ pageCount m = entries-length m in
     stands room (record { table = a .table; most = omega arith; below = λ j h. a .below j (omega arith); above = λ j h k. absurd (omega arith) })
 
-module _ {m m1 : List ℕ} {n t x b : ℕ} (room : Room m) (en : n ≡ pageCount m) (s : Stands m n t) (space : pageCount m < 2 * capacityOf m) (fits : b < 4096)
+module _ {m m1 : List ℕ} {n t x b : ℕ} (room : Room m) (en : n ≡ pageCount m) (s : Stands m n t) (space : pageCount m < 2 * capacityOf m) (fits : b < blockLimit)
     (ex : x ≡ startAt m (capacityOf m) n) (o : Opened m m1 n t x) where
   opened : Becomes m m1 (withEntries (flatOf m) (insertAt n (dirty t 0) (flatOf m .entries)))
   opened = page-inserted room s space (omega arith) ex o

@@ -1,4 +1,5 @@
 -- What the memory holds after each change of the pages.
+use Rattle.block_forms.specs.Limits.{blockLimit}
 use Rattle.basics.proofs.Kit.{_≡_, sym, ap, _∙_, subst, ⊎-elim, Bool, true, false, List, _∷_, _++_, ℕ, suc, _+_, _*_, _%_, _≤_, _<_, _/_, _-_, add-one, eqb, length, take, drop, set}
 use Rattle.basics.proofs.Kit.{set-split, eq-eqb, ne-eqb, arith}
 use Rattle.memory_bytes.specs.Bytes.{le2, bytes2, Wrote}
@@ -29,22 +30,22 @@ then-entries {m} {m1} {m2} {es} {ds} s t =
 
 -- ---- a page's block
 
-word-frozen : (b : ℕ) (z : Bool) → b < 4096 → eqb (wordOf b z / 4096 % 2) 1 ≡ z
+word-frozen : (b : ℕ) (z : Bool) → b < blockLimit → eqb (wordOf b z / blockLimit % 2) 1 ≡ z
 unfolding wordOf
-word-frozen b true h = eq-eqb ((b + 4096) / 4096 % 2) 1 (omega arith)
-word-frozen b false h = ne-eqb ((b + 0) / 4096 % 2) 1 (λ e. omega arith)
+word-frozen b true h = eq-eqb ((b + blockLimit) / blockLimit % 2) 1 (omega arith)
+word-frozen b false h = ne-eqb ((b + 0) / blockLimit % 2) 1 (λ e. omega arith)
 
-word-block : (b : ℕ) (z : Bool) → b < 4096 → wordOf b z % 4096 ≡ b
+word-block : (b : ℕ) (z : Bool) → b < blockLimit → wordOf b z % blockLimit ≡ b
 unfolding wordOf
 word-block b true h = omega arith
 word-block b false h = omega arith
 
-word-fits : (b : ℕ) (z : Bool) → b < 4096 → wordOf b z < 65536
+word-fits : (b : ℕ) (z : Bool) → b < blockLimit → wordOf b z < 65536
 unfolding wordOf
 word-fits b true h = omega arith
 word-fits b false h = omega arith
 
-module _ {m m' : List ℕ} {p b a w : ℕ} (z : Bool) (room : Room m) (h : p < pageCount m) (fits : b < 4096) (ew : w ≡ wordOf b z)
+module _ {m m' : List ℕ} {p b a w : ℕ} (z : Bool) (room : Room m) (h : p < pageCount m) (fits : b < blockLimit) (ew : w ≡ wordOf b z)
     (ea : a ≡ blocksAt (capacityOf m)) (s : Wrote m m' (a + p * 2) (bytes2 w)) where
   block-end : (t : ℕ) → t < 8 → tableEnd m' t ≡ tableEnd m t
   block-end t k = le2-below (s .apart) (64 + t * 2) (omega arith)

@@ -3,7 +3,7 @@ use Rattle.basics.proofs.Kit.{_≡_, sym, ap, _∙_, ⊎-elim, List, ℕ, suc, 
 use Rattle.memory_bytes.specs.Bytes.{le2, bytes2, column2, Apart, Raised, Lowered, Wrote, Added}
 use Rattle.memory_bytes.proofs.Bytes.{le2-below, le2-above, le2-raised, le2-lowered, le2-wrote, le4-cong}
 use Rattle.basics.proofs.Tabs.{lt-or-ge}
-use Rattle.memory_layout.specs.Places.{startsAt, blocksAt}
+use Rattle.memory_layout.specs.Places.{startsAt, blocksAt, headSize, namedAt}
 use Rattle.memory_layout.specs.Views.{rowCount, pageCount, tableEnd}
 use Rattle.memory_layout.specs.Flat.{capacityOf, Room}
 use Rattle.memory_pages.specs.Columns.{Inserted2, Removed2, PagesOnly, Opened, Closed, MayOpen, MayClose}
@@ -48,7 +48,7 @@ then-only s t =
     }
 
 -- a change in the two columns
-pub in-columns : {c a n : ℕ} {m m' : List ℕ} → Apart m m' a n → 1024 + c * 79 ≤ a → a + n ≤ 1024 + c * 87 → PagesOnly c m m'
+pub in-columns : {c a n : ℕ} {m m' : List ℕ} → Apart m m' a n → startsAt c ≤ a → a + n ≤ namedAt c → PagesOnly c m m'
 in-columns s h k =
     record {
       size = s .size;
@@ -96,7 +96,7 @@ module _ {m m1 m2 m' : List ℕ} {p t x n s b lo hi : ℕ} (room : Room m) (may 
   open-pages = open-from 7 (omega (arith, may .table)) (omega arith)
 
   -- a number of a column, after the last step
-  open-column : (k : ℕ) → 1024 ≤ k → le2 m' k ≡ le2 m2 k
+  open-column : (k : ℕ) → headSize ≤ k → le2 m' k ≡ le2 m2 k
   open-column k h = le2-above (a .apart) k (omega (arith, may .table))
 
   pub opened : Opened m m' p t x
@@ -165,7 +165,7 @@ module _ {m m1 m2 m' : List ℕ} {p t n s b lo hi : ℕ} (room : Room m) (may : 
   close-pages : pageCount m' + 1 ≡ pageCount m
   close-pages = close-from 7 (omega (arith, may .table)) (omega arith)
 
-  close-column : (k : ℕ) → 1024 ≤ k → le2 m' k ≡ le2 m2 k
+  close-column : (k : ℕ) → headSize ≤ k → le2 m' k ≡ le2 m2 k
   close-column k h = le2-above (a .apart) k (omega (arith, may .table))
 
   pub closed : Closed m m' p t

@@ -1,4 +1,5 @@
 -- Tables and entries after a page was opened or closed.
+use Rattle.block_forms.specs.Limits.{blockLimit}
 use Rattle.basics.proofs.Kit.{_≡_, sym, ap, _∙_, ⊎-elim, List, ℕ, suc, _+_, _%_, _≤_, _<_, _/_, _-_, eqb, length, arith}
 use Rattle.basics.proofs.Tabs.{lt-or-ge}
 use Rattle.memory_layout.specs.Views.{pageCount, tableEnd, tableAt, startAt, blockWord, entryAt}
@@ -11,9 +12,9 @@ use Rattle.memory_pages.proofs.Tables.{TableIs, table-by, Rise, table-b
 
 -- an entry by its parts
 pub entry-is : (m : List ℕ) (c k : ℕ) {t n w : ℕ} → tableAt m k ≡ t → startAt m c (suc k) - startAt m c k ≡ n → blockWord m c k ≡ w
-    → entryAt m c k ≡ record { table = t; frozen = eqb (w / 4096 % 2) 1; count = n; block = w % 4096 }
+    → entryAt m c k ≡ record { table = t; frozen = eqb (w / blockLimit % 2) 1; count = n; block = w % blockLimit }
 unfolding entryAt
-entry-is m c k t n w = λ i. record { table = t i; frozen = eqb (w i / 4096 % 2) 1; count = n i; block = w i % 4096 }
+entry-is m c k t n w = λ i. record { table = t i; frozen = eqb (w i / blockLimit % 2) 1; count = n i; block = w i % blockLimit }
 
 -- an entry of the one is an entry of the other
 pub entry-same : (m m' : List ℕ) (c j k : ℕ) → tableAt m' k ≡ tableAt m j → startAt m' c (suc k) - startAt m' c k ≡ startAt m c (suc j) - startAt m c j

@@ -6,7 +6,7 @@ use Rattle.basics.specs.Lists.{tab, removeAt}
 use Rattle.memory_bytes.proofs.Bytes.{le2-cong, le4-cong, le2-below, le2-above, le4-below}
 use Rattle.basics.proofs.Tabs.{lt-or-ge}
 use Rattle.model.specs.State.{Held}
-use Rattle.memory_layout.specs.Places.{startsAt, blocksAt}
+use Rattle.memory_layout.specs.Places.{startsAt, blocksAt, headSize, keysAt, refsAt, slotSize, statesAt}
 use Rattle.memory_layout.specs.Views.{rowCount, pageCount, tableEnd, startAt, blockWord, rowAt, entryAt}
 use Rattle.memory_layout.specs.Flat.{flatOf, capacityOf, rowsOf, entriesOf, entryIn, Room, Becomes, withRows, withEntries}
 use Rattle.memory_layout.specs.declared.Entry.{Entry}
@@ -111,9 +111,9 @@ module _ {m m1 m2 : List ℕ} {hs : List Held} {p s n d q : ℕ} (room : Room m)
           };
           rows =
               ap (tab (rowAt m2 c) 0) (row-count ∙ sym (r .count))
-              ∙ same-rows m1 m2 c (rowCount m1) (g .least) (low 1024 (c * 72) (omega arith)) (low (1024 + c * 72) (rowCount m1 * 4) (omega arith))
-              (low (1024 + c * 76) (rowCount m1 * 2) (omega arith))
-              (low (1024 + c * 78) (rowCount m1) (omega arith))
+              ∙ same-rows m1 m2 c (rowCount m1) (g .least) (low headSize (c * slotSize) (omega arith)) (low (keysAt c) (rowCount m1 * 4) (omega arith))
+              (low (refsAt c) (rowCount m1 * 2) (omega arith))
+              (low (statesAt c) (rowCount m1) (omega arith))
               ∙ ap (λ (z : ℕ). tab (rowAt m1 z) 0 (rowCount m1)) (sym c1)
               ∙ r .rows;
           entries =

@@ -1,10 +1,12 @@
 -- From bytes to what the memory holds: a change of rows and pages that leaves the rest.
+use Rattle.image_rows.specs.Rows.{openLimit}
+use Rattle.memory_layout.specs.Places.{headSize, keysAt, namedAt, opensAt, refsAt, slotSize, startsAt, statesAt, usedAt, usedSize}
 use Rattle.basics.proofs.Kit.{_≡_, sym, ap, _∙_, List, _++_, ℕ, _+_, _*_, _≤_, _<_, _-_, zero-add, length, take, drop, getD, arith}
 use Rattle.memory_bytes.specs.Bytes.{le4}
 use Rattle.basics.specs.Lists.{tab}
 use Rattle.basics.proofs.Tabs.{tab-add, tab-cong, take-tab, drop-tab}
 use Rattle.model.specs.State.{Held}
-use Rattle.memory_layout.specs.Views.{headOf, countsOf, rowCount, pageCount, tableEnd, startAt, rowAt, entryAt, namedBlock}
+use Rattle.memory_layout.specs.Views.{headOf, countsOf, rowCount, pageCount, tableEnd, startAt, rowAt, entryAt, namedBlock, directoryCount, namedCount, openCount}
 use Rattle.memory_layout.specs.Flat.{flatOf, capacityOf, rowsOf, entriesOf, namedOf, Room, InRange, Becomes, withRows, withEntries}
 use Rattle.memory_layout.specs.declared.Entry.{Entry}
 use Rattle.memory_layout.proofs.Frame.{Same, within, within4, same-head, same-opens, same-directories, same-used, same-named, same-rows}
@@ -22,7 +24,7 @@ pub record Rest (c : ℕ) (m m' : List ℕ) : Type 0 where
   pub head : Same m m' 0 32
   pub counts : Same m m' 36 28
   pub lists : Same m m' 80 944
-  pub named : (b : ℕ) → 1024 + c * 87 ≤ b → getD m' b 0 ≡ getD m b 0
+  pub named : (b : ℕ) → namedAt c ≤ b → getD m' b 0 ≡ getD m b 0
 
 -- all that Becomes asks for
 pub record Parts (m m' : List ℕ) (hs : List Held) (es : List Entry) : Type 0 where
@@ -45,12 +47,12 @@ module _ {m m' : List ℕ} {hs : List Held} {es : List Entry} (room : Room m) (s
       let r = room .range in
       let h = s .rest .head in
       let k = s .rest .counts in
-      let c : le4 m' 4 ≡ le4 m 4 = cap in
+      let c : capacityOf m' ≡ capacityOf m = cap in
       let b : le4 m' 8 ≡ le4 m 8 = within4 m m' 0 32 8 h (omega arith) (omega arith) in
       let t : le4 m' 28 ≡ le4 m 28 = within4 m m' 0 32 28 h (omega arith) (omega arith) in
-      let o : le4 m' 36 ≡ le4 m 36 = within4 m m' 36 28 36 k (omega arith) (omega arith) in
-      let n : le4 m' 40 ≡ le4 m 40 = within4 m m' 36 28 40 k (omega arith) (omega arith) in
-      let d : le4 m' 44 ≡ le4 m 44 = within4 m m' 36 28 44 k (omega arith) (omega arith) in
+      let o : openCount m' ≡ openCount m = within4 m m' 36 28 36 k (omega arith) (omega arith) in
+      let n : namedCount m' ≡ namedCount m = within4 m m' 36 28 40 k (omega arith) (omega arith) in
+      let d : directoryCount m' ≡ directoryCount m = within4 m m' 36 28 44 k (omega arith) (omega arith) in
       let z : length m' ≡ length m = s .rest .size in
       record {
         least = omega (arith, r .least);
@@ -85,14 +87,14 @@ module _ {m m' : List ℕ} {hs : List Held} {es : List Entry} (room : Room m) (s
       let l = s .rest .lists in
       let c : ℕ = capacityOf m in
       let eh = same-head m m' (within m m' 0 32 4 28 (s .rest .head) (omega arith) (omega arith)) in
-      let eo = same-opens m m' (within m m' 36 28 36 4 k (omega arith) (omega arith)) (within m m' 80 944 128 256 l (omega arith) (omega arith)) (r .opens) in
+      let eo = same-opens m m' (within m m' 36 28 36 4 k (omega arith) (omega arith)) (within m m' 80 944 opensAt (openLimit * 4) l (omega arith) (omega arith)) (r .opens) in
       let er : rowsOf m' ≡ hs = ap (λ (c : ℕ). tab (rowAt m' c) 0 (rowCount m')) cap ∙ s .rows in
       let ee : entriesOf m' ≡ es = ap (λ (c : ℕ). tab (entryAt m' c) 0 (pageCount m')) cap ∙ s .entries in
       let en : namedOf m' ≡ namedOf m =
-      ap (λ (c : ℕ). tab (namedBlock m' c) 0 (le4 m' 40)) cap
+      ap (λ (c : ℕ). tab (namedBlock m' c) 0 (namedCount m')) cap
       ∙ same-named m m' c (within m m' 36 28 40 4 k (omega arith) (omega arith)) (λ b p q. s .rest .named b p) in
       let ed = same-directories m m' (within m m' 36 28 44 4 k (omega arith) (omega arith)) (within m m' 80 944 96 16 l (omega arith) (omega arith)) (r .directories) in
-      let eu = same-used m m' (within m m' 80 944 512 512 l (omega arith) (omega arith)) in
+      let eu = same-used m m' (within m m' 80 944 usedAt usedSize l (omega arith) (omega arith)) in
       record {
         size = s .rest .size;
         room = room';
@@ -117,7 +119,7 @@ entries-become {m} {m'} {es} room s =
     let o = s .only in
     let n : rowCount m' ≡ rowCount m = same-row-count o in
     let g = ranges room in
-    let up : (a k : ℕ) → 80 ≤ a → a + k ≤ 1024 + c * 79 → Same m m' a k = λ a k p q b u v. o .between b (omega arith) (omega arith) in
+    let up : (a k : ℕ) → 80 ≤ a → a + k ≤ startsAt c → Same m m' a k = λ a k p q b u v. o .between b (omega arith) (omega arith) in
     becomes room (record {
       rest = record {
         size = o .size;
@@ -128,10 +130,10 @@ entries-become {m} {m'} {es} room s =
       };
       rows =
           ap (tab (rowAt m' c) 0) n
-          ∙ same-rows m m' c (rowCount m) (g .least) (up 1024 (c * 72) (omega arith) (omega arith))
-          (up (1024 + c * 72) (rowCount m * 4) (omega arith) (omega arith))
-          (up (1024 + c * 76) (rowCount m * 2) (omega arith) (omega arith))
-          (up (1024 + c * 78) (rowCount m) (omega arith) (omega arith));
+          ∙ same-rows m m' c (rowCount m) (g .least) (up headSize (c * slotSize) (omega arith) (omega arith))
+          (up (keysAt c) (rowCount m * 4) (omega arith) (omega arith))
+          (up (refsAt c) (rowCount m * 2) (omega arith) (omega arith))
+          (up (statesAt c) (rowCount m) (omega arith) (omega arith));
       entries = s .entries;
       few-rows = omega arith;
       few-pages = s .few;

@@ -1,4 +1,7 @@
 -- What a memory with room is known to have, as numbers of its bytes, and an entry by its place.
+use Rattle.model.specs.Recover.{memoryFor}
+use Rattle.image.specs.Stages.{capacityLimit}
+use Rattle.block_forms.specs.Limits.{blockLimit}
 use Rattle.basics.proofs.Kit.{_≡_, refl, ap, _∙_, ⊎-elim, List, ℕ, suc, _+_, _*_, _%_, _≤_, _<_, zero, _/_, _-_, add-zero, zero-add, eqb, length, lt-ltb, le-ltb, arith}
 use Rattle.basics.specs.Basics.{if_then_else_}
 use Rattle.memory_bytes.specs.Bytes.{le2}
@@ -10,8 +13,8 @@ use Rattle.memory_layout.specs.declared.Entry.{Entry}
 
 pub record Ranges (m : List ℕ) : Type 0 where
   pub least : 1 ≤ capacityOf m
-  pub most : capacityOf m ≤ 1024
-  pub long : 128 * capacityOf m + 1024 ≤ length m
+  pub most : capacityOf m ≤ capacityLimit
+  pub long : memoryFor (capacityOf m) ≤ length m
   pub rows : rowCount m ≤ capacityOf m
   pub pages : pageCount m ≤ 2 * capacityOf m
 
@@ -36,11 +39,11 @@ module _ (m : List ℕ) (p : ℕ) (h : p < pageCount m) where
   unfolding entryAt
   entry-count = ap (λ (e : Entry). e .count) entry-at
 
-  pub entry-frozen : entryIn (flatOf m) p .frozen ≡ eqb (blockWord m (capacityOf m) p / 4096 % 2) 1
+  pub entry-frozen : entryIn (flatOf m) p .frozen ≡ eqb (blockWord m (capacityOf m) p / blockLimit % 2) 1
   unfolding entryAt
   entry-frozen = ap (λ (e : Entry). e .frozen) entry-at
 
-  pub entry-block : entryIn (flatOf m) p .block ≡ blockWord m (capacityOf m) p % 4096
+  pub entry-block : entryIn (flatOf m) p .block ≡ blockWord m (capacityOf m) p % blockLimit
   unfolding entryAt
   entry-block = ap (λ (e : Entry). e .block) entry-at
 

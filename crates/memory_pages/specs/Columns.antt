@@ -3,6 +3,7 @@ use Prim.Native.Nat.{ℕ, suc, _+_, _*_, _-_, _≤_, _<_}
 use mathlib.Core.Path.{_≡_}
 use mathlib.Core.List.{List}
 use lib.ListN.{length, getD}
+use Rattle.memory_layout.specs.Places.{namedAt, startsAt}
 use Rattle.memory_bytes.specs.Bytes.{Apart, column2}
 use Rattle.memory_layout.specs.Views.{pageCount, tableEnd, startAt, blockWord}
 use Rattle.memory_layout.specs.Flat.{capacityOf}
@@ -22,8 +23,8 @@ pub record Removed2 (m m' : List ℕ) (base i n : ℕ) : Type 0 where
 pub record PagesOnly (c : ℕ) (m m' : List ℕ) : Type 0 where
   pub size : length m' ≡ length m
   pub below : (b : ℕ) → b < 64 → getD m' b 0 ≡ getD m b 0
-  pub between : (b : ℕ) → 80 ≤ b → b < 1024 + c * 79 → getD m' b 0 ≡ getD m b 0
-  pub above : (b : ℕ) → 1024 + c * 87 ≤ b → getD m' b 0 ≡ getD m b 0
+  pub between : (b : ℕ) → 80 ≤ b → b < startsAt c → getD m' b 0 ≡ getD m b 0
+  pub above : (b : ℕ) → namedAt c ≤ b → getD m' b 0 ≡ getD m b 0
 
 -- one page more before page p, of table t: it starts at row x and has no block
 pub record Opened (m m' : List ℕ) (p t x : ℕ) : Type 0 where

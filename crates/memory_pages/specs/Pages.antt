@@ -5,6 +5,7 @@ use mathlib.Core.Bool.{Bool, false, cond}
 use mathlib.Core.List.{List, [], _∷_, _++_}
 use lib.ListN.{length, take, drop, getD, set}
 use lib.Dec.{eqb}
+use Rattle.block_forms.specs.Limits.{blockLimit}
 use Rattle.model.specs.State.{Held}
 use Rattle.basics.specs.Lists.{tab, firstIndex}
 use Rattle.memory_layout.specs.Flat.{Flat, flatOf, entryIn, noEntry, Room, Becomes, withRows, withEntries}
@@ -51,7 +52,7 @@ clean t b n = record { table = t; frozen = false; count = n; block = b }
 
 -- the two bytes of a page that name its block and say whether it is frozen
 unfoldable pub wordOf : ℕ → Bool → ℕ
-wordOf b z = b + cond z 4096 0
+wordOf b z = b + cond z blockLimit 0
 
 -- the entry with the block b, and frozen or not
 abbrev pub withBlock : Entry → ℕ → Bool → Entry
@@ -96,7 +97,7 @@ joinEntries p es = take p es ++ dirty (entryOf es p .table) (entryOf es p .count
 -- there is page p, and the block's number has 12 bits
 pub record MaySet (f : Flat) (p b : ℕ) : Type 0 where
   pub place : p < length (f .entries)
-  pub block : b < 4096
+  pub block : b < blockLimit
 
 -- a page of table t may stand before page p, and there is room for it
 pub record MayInsert (f : Flat) (p t : ℕ) : Type 0 where
@@ -130,7 +131,7 @@ pub record MayAppend (f : Flat) (t b : ℕ) : Type 0 where
   pub table : t < 8
   pub below : (j : ℕ) → j < length (f .entries) → entryIn f j .table ≤ t
   pub space : length (f .entries) < 2 * f .head .capacity
-  pub block : b < 4096
+  pub block : b < blockLimit
 
 -- such a page may be appended, and every row is in the slot of its index
 pub record PageBehind (m : List ℕ) (t b : ℕ) : Type 0 where
@@ -158,7 +159,7 @@ RowsBecome m m' h g = Becomes m m' (withEntries (withRows (flatOf m) (h (flatOf 
 
 -- two bytes that name a page's block say that it is frozen
 abbrev pub frozenWord : ℕ → Bool
-frozenWord w = eqb (w / 4096 % 2) 1
+frozenWord w = eqb (w / blockLimit % 2) 1
 
 -- a search of n numbers for that of a frozen page may start at r
 pub record Passed (g : ℕ → ℕ) (n r : ℕ) : Type 0 where

@@ -3,6 +3,7 @@
 // Each function that changes the memory promises one equation on the flat lists that it holds.
 use memory_layout::CAPACITY;
 use memory_layout::HEAD_SIZE;
+use memory_layout::PAGE_BLOCKS;
 use memory_layout::PAGE_COUNT;
 use memory_layout::ROW_COUNT;
 use memory_layout::STARTS;
@@ -11,6 +12,7 @@ use memory_rows::Row;
 ghost use mathlib.Core.Path.{_≡_};
 ghost use Prim.Native.Nat.{_+_, _*_, _≤_, _<_};
 ghost use lib.ListN.{length, drop};
+ghost use Rattle.block_forms.specs.Limits.{blockLimit};
 ghost use Rattle.basics.specs.Basics.{any, howMany};
 ghost use Rattle.memory_bytes.specs.Bytes.{column2};
 ghost use Rattle.basics.specs.Lists.{tab, firstIndex, insertAt, removeAt};
@@ -23,15 +25,12 @@ ghost use Rattle.memory_rows.specs.Cells.{InOrder};
 ghost use Rattle.memory_pages.specs.Columns.{Inserted2, Removed2, Opened, Closed, MayOpen, MayClose};
 ghost use Rattle.memory_pages.specs.Pages.{TableFrom, OnPages, PageOf, MaySplit, MayJoin, MayLose, MaySet, MayInsert, MayRemove, wordOf, dirty, setBlock, splitEntry, joinEntries, moreRows, fewerRows, EntriesBecome, RowsBecome, frozenWord, Passed, frozenEntry, dirtyEntry, PageBehind, RowBehind, clean, behind, moreLast};
 
-// Bytes a row before the blocks of the pages.
-const BLOCKS: usize = 83;
-
 const TABLES: usize = 8;
 
 const LAST_TABLE: usize = 7;
 
 // What is added to a block's number if its page is frozen.
-const FROZEN: u16 = 4096;
+const FROZEN: u16 = block_forms::BLOCK_LIMIT as u16;
 
 // ---- places
 
@@ -71,7 +70,7 @@ fn blocks(m: &[u8]) -> usize
     requires { ⌜ Room (now m) ⌝ }
     ensures { λ r. ⌜ r ≡ blocksAt (capacityOf (now (m .entry))) ⌝ }
 {
-    HEAD_SIZE + capacity(m) * BLOCKS
+    HEAD_SIZE + capacity(m) * PAGE_BLOCKS
 }
 
 // ---- a page's fields
@@ -198,7 +197,7 @@ fn close_page(m: &mut [u8], p: usize, table: usize)
 
 // The two bytes of a page that name its block and say whether it is frozen.
 fn word(block: u16, frozen: bool) -> u16
-    requires { ⌜ block < 4096 ⌝ }
+    requires { ⌜ block < blockLimit ⌝ }
     ensures { λ r. ⌜ r ≡ wordOf block frozen ⌝ }
 {
     if frozen {
@@ -309,7 +308,7 @@ fn any_frozen(m: &[u8], at: usize) -> bool
     let mut hit = false;
     let mut j: usize = 0;
     while j < 16 {
-        hit = hit | (memory_bytes::get2(m, at + j * 2) / 4096 % 2 == 1);
+        hit = hit | (memory_bytes::get2(m, at + j * 2) / FROZEN % 2 == 1);
         j += 1;
     }
     hit
@@ -339,7 +338,7 @@ pub fn first_frozen(m: &[u8]) -> usize
     let base = blocks(m);
     let mut p = pass_groups(m, base, n);
     while p < n {
-        if memory_bytes::get2(m, base + p * 2) / 4096 % 2 == 1 {
+        if memory_bytes::get2(m, base + p * 2) / FROZEN % 2 == 1 {
             return p;
         }
         p += 1;

@@ -1,10 +1,11 @@
 -- A row behind all others, in the slot of its own index.
+use Rattle.block_forms.specs.Limits.{payloadLimit}
 use Rattle.basics.proofs.Kit.{_≡_, refl, sym, ap, _∙_, subst, ⊎-elim, false, _||_, List, [], _∷_, _++_, ℕ, suc, _+_, _*_, _≤_, _<_, zero, length, drop, length-append, drop-length}
 use Rattle.basics.proofs.Kit.{take-length, ne-eqb, arith}
 use Rattle.basics.specs.Basics.{any}
 use Rattle.block_forms.specs.Bytes.{ownerIs, flagsOf, ownerWord}
 use Rattle.memory_bytes.specs.Bytes.{bytes4, Wrote}
-use Rattle.memory_bytes.specs.Columns.{equals}
+use Rattle.memory_bytes.specs.Columns.{equals, slotLimit}
 use Rattle.basics.specs.Lists.{tab, insertAt}
 use Rattle.basics.proofs.Tabs.{lt-or-ge}
 use Rattle.basics.proofs.Searches.{any-cons}
@@ -39,8 +40,8 @@ order-free : {m : List ℕ} {n : ℕ} → InOrder m → n ≡ length (rowsOf m) 
 order-free {m} {n} o e = none-equal (slotAt m) n 0 (length (rowsOf m)) (λ j p q z. omega (arith, o .slot j (omega arith)))
 
 module _ {m m1 m3 m4 : List ℕ} {c n w r st : ℕ} (row : Row) {xs : List ℕ} (z : Capacity m c) (en : n ≡ length (rowsOf m)) (full : n < c)
-    (own : RowFits row) (fit : length xs ≤ 40) (o : InOrder m)
-    (ew : w ≡ ownerWord (ownerIs (row .owner))) (er : r ≡ n + codeOf (row .pending) * 1024) (es : st ≡ flagsOf (ownerIs (row .owner)) (row .mark) (length xs))
+    (own : RowFits row) (fit : length xs ≤ payloadLimit) (o : InOrder m)
+    (ew : w ≡ ownerWord (ownerIs (row .owner))) (er : r ≡ n + codeOf (row .pending) * slotLimit) (es : st ≡ flagsOf (ownerIs (row .owner)) (row .mark) (length xs))
     (fill : SlotFilled m m1 n (row .number) w xs) (put : CellsPut m1 m3 c n (row .key) r st) (count : Wrote m3 m4 32 (bytes4 (n + 1))) where
   pub appended : RowsOnly m m4 (rowsOf m ++ heldBy row xs ∷ [])
   appended =

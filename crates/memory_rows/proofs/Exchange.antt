@@ -1,7 +1,8 @@
 -- One row exchanged by a change of its columns: another state, another pending operation.
+use Rattle.memory_bytes.specs.Columns.{slotLimit}
 use Rattle.basics.proofs.Kit.{_≡_, refl, sym, ap, _∙_, ⊎-elim, Bool, List, [], _∷_, ℕ, _+_, _*_, _%_, _≤_, _<_, _/_, min, leb, eqb, ltb, length, getD, le-ltb, arith}
 use Rattle.basics.specs.Basics.{if_then_else_}
-use Rattle.block_forms.specs.Limits.{payloadLimit, committedValue, statementLimit}
+use Rattle.block_forms.specs.Limits.{payloadLimit, committedValue, statementLimit, markValue}
 use Rattle.block_forms.specs.Tuple.{committed, tentative}
 use Rattle.model.specs.State as model
 use Rattle.model.specs.State.{Held}
@@ -10,7 +11,7 @@ use Rattle.memory_bytes.specs.Bytes.{le2, le4, bytes, bytes2, Apart, Wrote}
 use Rattle.basics.specs.Lists.{tab}
 use Rattle.memory_bytes.proofs.Bytes.{le2-below, le2-above, le4-below, le2-wrote}
 use Rattle.basics.proofs.Tabs.{lt-or-ge, tab-set}
-use Rattle.memory_layout.specs.Places.{keysAt, refsAt, statesAt, startsAt}
+use Rattle.memory_layout.specs.Places.{keysAt, refsAt, statesAt, startsAt, slotSize}
 use Rattle.block_forms.specs.Decode.{readOwner, readMark}
 use Rattle.memory_layout.specs.Views.{rowCount, pendingOf, lengthOf, slotOf, slotPlace, keyOf, refOf, stateOf, heldOf, rowAt}
 use Rattle.memory_layout.specs.Flat.{flatOf, capacityOf, rowsOf, rowIn, Room, Becomes}
@@ -28,8 +29,8 @@ pub apart : (i j : ℕ) → i ≤ j → (j ≡ i → ⊥) → i < j
 apart i j h ne = ⊎-elim (λ p. p) (λ p. absurd (ne (omega arith))) (lt-or-ge i j)
 
 module _ {m m' : List ℕ} (room : Room m) (i : ℕ) (h : i < length (rowsOf m)) {a n : ℕ} (s : Apart m m' a n)
-    (from : 1024 + capacityOf m * 72 ≤ a) (to : a + n ≤ startsAt (capacityOf m)) where
-  slot-same : (r : ℕ) → Same m m' (slotPlace (slotOf (capacityOf m) r)) 72
+    (from : keysAt (capacityOf m) ≤ a) (to : a + n ≤ startsAt (capacityOf m)) where
+  slot-same : (r : ℕ) → Same m m' (slotPlace (slotOf (capacityOf m) r)) slotSize
   slot-same r b p q =
       let l : slotOf (capacityOf m) r < capacityOf m = slot-below m m' (capacityOf m) r (sized m room .least) in
       s .below b (omega arith)
@@ -56,22 +57,22 @@ module _ {m m' : List ℕ} (room : Room m) (i : ℕ) (h : i < length (rowsOf m))
 
 -- ---- committed
 
-owner-committed : (s w : ℕ) → 128 ≤ s → readOwner s w ≡ committed
+owner-committed : (s w : ℕ) → committedValue ≤ s → readOwner s w ≡ committed
 unfolding readOwner if_then_else_
 owner-committed s w h = ap (λ (t : Bool). if t then tentative (w / statementLimit) (w % statementLimit) else committed) (le-ltb s committedValue h)
 
-pub length-by : (s t : ℕ) → s % 64 ≡ t % 64 → lengthOf s ≡ lengthOf t
+pub length-by : (s t : ℕ) → s % markValue ≡ t % 64 → lengthOf s ≡ lengthOf t
 unfolding lengthOf
 length-by s t h = ap (λ (z : ℕ). min z payloadLimit) h
 
-mark-by : (s t : ℕ) → s % 128 ≡ t % 128 → readMark s ≡ readMark t
+mark-by : (s t : ℕ) → s % committedValue ≡ t % committedValue → readMark s ≡ readMark t
 unfolding readMark
 mark-by s t h = ap (leb 64) h
 
-committed-is : (m : List ℕ) (a k s r : ℕ) → heldOf m a k (s % 128 + 128) r ≡ committedRow (heldOf m a k s r)
+committed-is : (m : List ℕ) (a k s r : ℕ) → heldOf m a k (s % committedValue + committedValue) r ≡ committedRow (heldOf m a k s r)
 unfolding heldOf committedRow asCommitted
 committed-is m a k s r =
-    let v : ℕ = s % 128 + 128 in
+    let v : ℕ = s % committedValue + committedValue in
     λ i. record {
       tuple = record {
         key = k;
@@ -84,7 +85,7 @@ committed-is m a k s r =
     }
 
 module _ {m m' : List ℕ} (room : Room m) (i : ℕ) (h : i < length (rowsOf m)) where
-  pub commits : {a v : ℕ} → a ≡ statesAt (capacityOf m) + i → v ≡ getD m a 0 % 128 + 128 → Wrote m m' a (v ∷ [])
+  pub commits : {a v : ℕ} → a ≡ statesAt (capacityOf m) + i → v ≡ getD m a 0 % committedValue + committedValue → Wrote m m' a (v ∷ [])
       → Becomes m m' (withRow (flatOf m) i (committedRow (rowIn (flatOf m) i)))
   unfolding rowAt
   commits {a} {v} e ev w =
@@ -94,13 +95,13 @@ module _ {m m' : List ℕ} (room : Room m) (i : ℕ) (h : i < length (rowsOf m))
       let rs : (j : ℕ) → j < c → refOf m' c j ≡ refOf m c j = λ j b. le2-below s (refsAt c + j * 2) (omega arith) in
       let ks : (j : ℕ) → j < c → keyOf m' c j ≡ keyOf m c j = λ j b. le4-below s (keysAt c + j * 4) (omega arith) in
       let l : i < c = omega arith in
-      let new : stateOf m' c i ≡ stateOf m c i % 128 + 128 =
-      ap (λ (y : ℕ). getD m' y 0) (omega arith) ∙ w .here 0 (omega arith) ∙ ev ∙ ap (λ (y : ℕ). getD m y 0 % 128 + 128) e in
+      let new : stateOf m' c i ≡ stateOf m c i % committedValue + committedValue =
+      ap (λ (y : ℕ). getD m' y 0) (omega arith) ∙ w .here 0 (omega arith) ∙ ev ∙ ap (λ (y : ℕ). getD m y 0 % committedValue + committedValue) e in
       let p : ℕ = slotPlace (slotOf c (refOf m c i)) in
       exchanged room i h s (omega arith) (omega arith) (λ j b ne. ks j b) (λ j b ne. rs j b)
       (λ j b ne. ⊎-elim (λ q. s .below (statesAt c + j) (omega arith)) (λ q. s .above (statesAt c + j) (omega (arith, apart i j q ne))) (lt-or-ge j i))
       ((λ y. heldOf m' (slotPlace (slotOf c (rs i l y))) (ks i l y) (new y) (rs i l y))
-      ∙ same-held m m' c p (keyOf m c i) (stateOf m c i % 128 + 128) (refOf m c i) (slot-same room i h s (omega arith) (omega arith) (refOf m c i))
+      ∙ same-held m m' c p (keyOf m c i) (stateOf m c i % committedValue + committedValue) (refOf m c i) (slot-same room i h s (omega arith) (omega arith) (refOf m c i))
       ∙ committed-is m p (keyOf m c i) (stateOf m c i) (refOf m c i)
       ∙ ap committedRow (sym (row-is m i h)))
 
@@ -110,29 +111,29 @@ by-code : ℕ → model.Pending
 unfolding if_then_else_
 by-code k = if eqb k 0 then model.nothing else if eqb k 1 then model.adding else if eqb k 2 then model.committing else model.removing
 
-pub code-is : (p : Pending) (s : ℕ) → s < 1024 → pendingOf (s + codeOf p * 1024) ≡ pendingIs p
+pub code-is : (p : Pending) (s : ℕ) → s < slotLimit → pendingOf (s + codeOf p * slotLimit) ≡ pendingIs p
 unfolding pendingOf by-code if_then_else_
-code-is Nothing s h = let e : (s + 0 * 1024) / 1024 % 4 ≡ 0 = omega arith in ap by-code e
-code-is Adding s h = let e : (s + 1 * 1024) / 1024 % 4 ≡ 1 = omega arith in ap by-code e
-code-is Committing s h = let e : (s + 2 * 1024) / 1024 % 4 ≡ 2 = omega arith in ap by-code e
-code-is Removing s h = let e : (s + 3 * 1024) / 1024 % 4 ≡ 3 = omega arith in ap by-code e
+code-is Nothing s h = let e : (s + 0 * slotLimit) / slotLimit % 4 ≡ 0 = omega arith in ap by-code e
+code-is Adding s h = let e : (s + 1 * slotLimit) / slotLimit % 4 ≡ 1 = omega arith in ap by-code e
+code-is Committing s h = let e : (s + 2 * slotLimit) / slotLimit % 4 ≡ 2 = omega arith in ap by-code e
+code-is Removing s h = let e : (s + 3 * slotLimit) / slotLimit % 4 ≡ 3 = omega arith in ap by-code e
 
-pub slot-by : (c r t : ℕ) → r % 1024 ≡ t % 1024 → slotOf c r ≡ slotOf c t
+pub slot-by : (c r t : ℕ) → r % slotLimit ≡ t % slotLimit → slotOf c r ≡ slotOf c t
 unfolding slotOf
 slot-by c r t e = ap (λ (z : ℕ). if ltb z c then z else 0) e
 
-pending-is : (m : List ℕ) (a k s r v : ℕ) (p : Pending) → v ≡ r % 1024 + codeOf p * 1024
+pending-is : (m : List ℕ) (a k s r v : ℕ) (p : Pending) → v ≡ r % slotLimit + codeOf p * slotLimit
     → heldOf m a k s v ≡ withPending (pendingIs p) (heldOf m a k s r)
 unfolding heldOf withPending
 pending-is m a k s r v p e =
-    let o : pendingOf v ≡ pendingIs p = ap pendingOf e ∙ code-is p (r % 1024) (omega arith) in
+    let o : pendingOf v ≡ pendingIs p = ap pendingOf e ∙ code-is p (r % slotLimit) (omega arith) in
     λ i. record {
       tuple = record { key = k; number = le4 m a; owner = readOwner s (le4 m (a + 4)); mark = readMark s; payload = bytes m (a + 8) (lengthOf s) };
       pending = o i;
     }
 
 module _ {m m' : List ℕ} (room : Room m) (i : ℕ) (h : i < length (rowsOf m)) where
-  pub pends : {a v : ℕ} (p : Pending) → a ≡ refsAt (capacityOf m) + i * 2 → codeOf p < 4 → v ≡ le2 m a % 1024 + codeOf p * 1024
+  pub pends : {a v : ℕ} (p : Pending) → a ≡ refsAt (capacityOf m) + i * 2 → codeOf p < 4 → v ≡ le2 m a % slotLimit + codeOf p * slotLimit
       → Wrote m m' a (bytes2 v) → Becomes m m' (withRow (flatOf m) i (withPending (pendingIs p) (rowIn (flatOf m) i)))
   unfolding rowAt
   pends {a} {v} p e four ev w =
@@ -143,8 +144,8 @@ module _ {m m' : List ℕ} (room : Room m) (i : ℕ) (h : i < length (rowsOf m))
       let ks : (j : ℕ) → j < c → keyOf m' c j ≡ keyOf m c j = λ j b. le4-below s (keysAt c + j * 4) (omega arith) in
       let l : i < c = omega arith in
       let r : ℕ = refOf m c i in
-      let u : ℕ = r % 1024 + codeOf p * 1024 in
-      let eu : v ≡ u = ev ∙ ap (λ (y : ℕ). le2 m y % 1024 + codeOf p * 1024) e in
+      let u : ℕ = r % slotLimit + codeOf p * slotLimit in
+      let eu : v ≡ u = ev ∙ ap (λ (y : ℕ). le2 m y % slotLimit + codeOf p * slotLimit) e in
       let new : refOf m' c i ≡ u = ap (le2 m') (sym e) ∙ le2-wrote v (omega arith) w ∙ eu in
       let t : slotOf c u ≡ slotOf c r = slot-by c u r (omega arith) in
       exchanged room i h s (omega arith) (omega arith) (λ j b ne. ks j b)

@@ -3,7 +3,7 @@ use Rattle.basics.proofs.Kit.{_≡_, refl, sym, ap, _∙_, Bool, true, false, _
 use Rattle.basics.proofs.Kit.{arith}
 use Rattle.basics.specs.Basics.{if_then_else_, any}
 use Rattle.memory_bytes.specs.Bytes.{column2}
-use Rattle.memory_bytes.specs.Columns.{equals, names}
+use Rattle.memory_bytes.specs.Columns.{equals, names, slotLimit}
 use Rattle.basics.specs.Lists.{tab}
 use Rattle.basics.proofs.Tabs.{length-tab}
 use Rattle.basics.proofs.Searches.{any-cons}
@@ -23,13 +23,13 @@ any-cong f f' g g' i (suc n) h =
     ∙ sym (any-cons f' (g' i) (tab g' (suc i) n))
 
 -- a slot that is not 0 is named by its own number only
-same-slot : (c r s : ℕ) → 0 < s → s < c → eqb (r % 1024) s ≡ eqb (slotOf c r) s
+same-slot : (c r s : ℕ) → 0 < s → s < c → eqb (r % slotLimit) s ≡ eqb (slotOf c r) s
 unfolding slotOf if_then_else_
-same-slot c r s h k = by-test (ltb (r % 1024) c) refl
+same-slot c r s h k = by-test (ltb (r % slotLimit) c) refl
   where
-    by-test : (t : Bool) → ltb (r % 1024) c ≡ t → eqb (r % 1024) s ≡ eqb (if t then r % 1024 else 0) s
+    by-test : (t : Bool) → ltb (r % slotLimit) c ≡ t → eqb (r % slotLimit) s ≡ eqb (if t then r % slotLimit else 0) s
     by-test true e = refl
-    by-test false e = let p : c ≤ r % 1024 = ltb-false (r % 1024) c e in ne-eqb (r % 1024) s (λ z. omega arith) ∙ sym (ne-eqb 0 s (λ z. omega arith))
+    by-test false e = let p : c ≤ r % slotLimit = ltb-false (r % slotLimit) c e in ne-eqb (r % slotLimit) s (λ z. omega arith) ∙ sym (ne-eqb 0 s (λ z. omega arith))
 
 pub named-taken : (m : List ℕ) (c n s : ℕ) → 0 < s → s < c → any (names s) (tab (column2 m (refsAt c)) 0 n) ≡ any (equals s) (tab (slotIn m c) 0 n)
 unfolding slotIn

@@ -1,4 +1,6 @@
 -- The states of 16 rows, tested together.
+use Rattle.memory_layout.specs.Places.{statesAt}
+use Rattle.block_forms.specs.Limits.{committedValue}
 use Rattle.basics.proofs.Kit.{_≡_, refl, sym, ap, _∙_, ap₂, Bool, _||_, List, ℕ, suc, _+_, _*_, _≤_, _<_, zero, _-_, ltb, length, take, drop, getD, arith}
 use Rattle.basics.specs.Basics.{if_then_else_, any}
 use Rattle.basics.proofs.Facts.{by}
@@ -14,7 +16,7 @@ use Rattle.memory_layout.proofs.Laws.{rows-length}
 
 -- the committed bit is not set
 abbrev pub unset : ℕ → Bool
-unset s = ltb s 128
+unset s = ltb s committedValue
 
 any-tabs : {A B : Type 0} (f : A → Bool) (g : ℕ → A) (t : B → Bool) (h : ℕ → B) (i j n : ℕ) → ((k : ℕ) → k < n → f (g (i + k)) ≡ t (h (j + k)))
     → any f (tab g i n) ≡ any t (tab h j n)
@@ -31,9 +33,9 @@ any-tabs f g t h i j (suc n) e =
 
 owned-is : (m : List ℕ) (c i : ℕ) → isOwned (rowAt m c i) ≡ unset (stateOf m c i)
 unfolding isOwned rowAt heldOf readOwner isTentative if_then_else_
-owned-is m c i = by (ltb (stateOf m c i) 128) (λ h. rw h) (λ h. rw h)
+owned-is m c i = by (ltb (stateOf m c i) committedValue) (λ h. rw h) (λ h. rw h)
 
-pub group-is : (m : List ℕ) (i a : ℕ) → i + 16 ≤ length (flatOf m .rows) → a ≡ 1024 + capacityOf m * 78 + i
+pub group-is : (m : List ℕ) (i a : ℕ) → i + 16 ≤ length (flatOf m .rows) → a ≡ statesAt (capacityOf m) + i
     → any isOwned (take 16 (drop i (flatOf m .rows))) ≡ any unset (tab (λ k. getD m (a + k) 0) 0 16)
 unfolding rowsOf
 group-is m i a h e =
@@ -44,4 +46,4 @@ group-is m i a h e =
     ap (λ z. any isOwned (take 16 z)) (drop-tab (rowAt m c) 0 i n (omega arith)) ∙ ap (any isOwned) (take-tab (rowAt m c) (0 + i) 16 (n - i) (omega arith))
     ∙ ap (λ j. any isOwned (tab (rowAt m c) j 16)) z
     ∙ any-tabs isOwned (rowAt m c) unset (λ k. getD m (a + k) 0) i 0 16
-    (λ k b. let x : 1024 + c * 78 + (i + k) ≡ a + (0 + k) = omega arith in owned-is m c (i + k) ∙ ap (λ p. unset (getD m p 0)) x)
+    (λ k b. let x : statesAt c + (i + k) ≡ a + (0 + k) = omega arith in owned-is m c (i + k) ∙ ap (λ p. unset (getD m p 0)) x)

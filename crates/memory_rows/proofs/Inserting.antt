@@ -5,12 +5,12 @@ use Rattle.basics.specs.Basics.{if_then_else_}
 use Rattle.block_forms.specs.Limits.{payloadLimit}
 use Rattle.block_forms.specs.Tuple.{Owner}
 use Rattle.memory_bytes.specs.Bytes.{le4, bytes, bytes2, bytes4, Wrote}
-use Rattle.memory_bytes.specs.Columns.{equals}
+use Rattle.memory_bytes.specs.Columns.{equals, slotLimit}
 use Rattle.basics.specs.Lists.{tab, insertAt, removeAt}
 use Rattle.memory_bytes.proofs.Bytes.{le2-below, le4-below, le4-wrote}
 use Rattle.basics.proofs.Tabs.{lt-or-ge, length-tab, getD-tab, tab-insert, tab-remove}
 use Rattle.basics.proofs.Found.{any-none}
-use Rattle.memory_layout.specs.Places.{keysAt, refsAt, statesAt, startsAt}
+use Rattle.memory_layout.specs.Places.{keysAt, refsAt, statesAt, startsAt, headSize, slotSize}
 use Rattle.block_forms.specs.Decode.{readOwner}
 use Rattle.memory_layout.specs.Views.{rowCount, lengthOf, slotOf, slotPlace, keyOf, refOf, stateOf, heldOf, rowAt}
 use Rattle.memory_layout.specs.Flat.{capacityOf, rowsOf}
@@ -26,26 +26,26 @@ use Rattle.memory_rows.proofs.Moving.{cells-then, cells-stay}
 
 -- ---- what was stored is read
 
-pub slot-own : (c r s : ℕ) → r % 1024 ≡ s → s < c → slotOf c r ≡ s
+pub slot-own : (c r s : ℕ) → r % slotLimit ≡ s → s < c → slotOf c r ≡ s
 unfolding slotOf if_then_else_
 slot-own c r s e h = ap (λ (z : ℕ). if ltb z c then z else 0) e ∙ ap (λ (t : Bool). if t then s else 0) (lt-ltb s c h)
 
-length-read : (o : Owner) (mark : Bool) (n : ℕ) → n ≤ 40 → lengthOf (flagsOf o mark n) ≡ n
+length-read : (o : Owner) (mark : Bool) (n : ℕ) → n ≤ payloadLimit → lengthOf (flagsOf o mark n) ≡ n
 unfolding lengthOf
 length-read o mark n h = ap (λ (z : ℕ). min z payloadLimit) (flags-length o mark n h) ∙ min-eq-left h
 
 -- ---- a row more
 
 module _ {m m1 m2 m3 m4 : List ℕ} {c i n s w r st : ℕ} (row : Row) {xs : List ℕ} (z : Capacity m c) (en : n ≡ length (rowsOf m)) (at : i ≤ n) (full : n < c)
-    (own : RowFits row) (fit : length xs ≤ 40) (ls : s < c) (free : isTaken m s ≡ false)
-    (ew : w ≡ ownerWord (ownerIs (row .owner))) (er : r ≡ s + codeOf (row .pending) * 1024) (es : st ≡ flagsOf (ownerIs (row .owner)) (row .mark) (length xs))
+    (own : RowFits row) (fit : length xs ≤ payloadLimit) (ls : s < c) (free : isTaken m s ≡ false)
+    (ew : w ≡ ownerWord (ownerIs (row .owner))) (er : r ≡ s + codeOf (row .pending) * slotLimit) (es : st ≡ flagsOf (ownerIs (row .owner)) (row .mark) (length xs))
     (fill : SlotFilled m m1 s (row .number) w xs) (up : RowsRaised m1 m2 c i n) (put : CellsPut m2 m3 c i (row .key) r st)
     (count : Wrote m3 m4 32 (bytes4 (n + 1))) where
   -- slots are as they were when the new one was filled
-  after-fill : (b : ℕ) → 1024 ≤ b → b < keysAt c → getD m4 b 0 ≡ getD m1 b 0
+  after-fill : (b : ℕ) → headSize ≤ b → b < keysAt c → getD m4 b 0 ≡ getD m1 b 0
   after-fill b p q = count .apart .above b (omega arith) ∙ put .only .below b q ∙ up .only .below b q
 
-  other-slot : (t : ℕ) → t < c → (t ≡ s → ⊥) → Same m m4 (slotPlace t) 72
+  other-slot : (t : ℕ) → t < c → (t ≡ s → ⊥) → Same m m4 (slotPlace t) slotSize
   other-slot t l ne b p q =
       after-fill b (omega arith) (omega arith)
       ∙ ⊎-elim (λ r. fill .apart .below b (omega arith)) (λ r. fill .apart .above b (omega (arith, apart s t r ne))) (lt-or-ge t s)
@@ -80,7 +80,7 @@ module _ {m m1 m2 m3 m4 : List ℕ} {c i n s w r st : ℕ} (row : Row) {xs : Lis
       ap (rowAt m4 c) e
       ∙ row-from j (j + 1) q (cells-then (filled j) (cells-then (up .moved j p q) (cells-then (put .others (j + 1) (omega arith) (λ e. omega arith)) (counted (j + 1)))))
 
-  new-slot : Same m1 m4 (slotPlace s) 72
+  new-slot : Same m1 m4 (slotPlace s) slotSize
   new-slot b p q = after-fill b (omega arith) (omega arith)
 
   row-new : rowAt m4 c i ≡ heldBy row xs
@@ -89,15 +89,15 @@ module _ {m m1 m2 m3 m4 : List ℕ} {c i n s w r st : ℕ} (row : Row) {xs : Lis
       let o : Owner = ownerIs (row .owner) in
       let l : ℕ = length xs in
       let a : ℕ = slotPlace s in
-      let ref : ℕ = s + codeOf (row .pending) * 1024 in
+      let ref : ℕ = s + codeOf (row .pending) * slotLimit in
       let state : ℕ = flagsOf o (row .mark) l in
       let pr : refOf m4 c i ≡ ref = counted i .ref ∙ put .ref ∙ er in
       let ps : stateOf m4 c i ≡ state = counted i .state ∙ put .state ∙ es in
       let pk : keyOf m4 c i ≡ row .key = counted i .key ∙ put .key in
       let sl : slotOf c ref ≡ s = slot-own c ref s (omega (arith, z .most)) ls in
-      let num : le4 m4 a ≡ row .number = within4 m1 m4 a 72 a new-slot (omega arith) (omega arith) ∙ fill .number in
-      let word : le4 m4 (a + 4) ≡ ownerWord o = within4 m1 m4 a 72 (a + 4) new-slot (omega arith) (omega arith) ∙ fill .owner ∙ ew in
-      let pay : bytes m4 (a + 8) l ≡ xs = same-bytes m1 m4 (a + 8) l (within m1 m4 a 72 (a + 8) l new-slot (omega arith) (omega arith)) ∙ fill .payload in
+      let num : le4 m4 a ≡ row .number = within4 m1 m4 a slotSize a new-slot (omega arith) (omega arith) ∙ fill .number in
+      let word : le4 m4 (a + 4) ≡ ownerWord o = within4 m1 m4 a slotSize (a + 4) new-slot (omega arith) (omega arith) ∙ fill .owner ∙ ew in
+      let pay : bytes m4 (a + 8) l ≡ xs = same-bytes m1 m4 (a + 8) l (within m1 m4 a slotSize (a + 8) l new-slot (omega arith) (omega arith)) ∙ fill .payload in
       (λ y. heldOf m4 (slotPlace (slotOf c (pr y))) (pk y) (ps y) (pr y))
       ∙ (λ y. heldOf m4 (slotPlace (sl y)) (row .key) state ref)
       ∙ (λ y. record {
@@ -139,7 +139,7 @@ module _ {m m1 m2 m3 m4 : List ℕ} {c i n s w r st : ℕ} (row : Row) {xs : Lis
 
 module _ {m m1 m2 m3 : List ℕ} {c i n r : ℕ} (v : ℕ) (z : Capacity m c) (en : n ≡ length (rowsOf m)) (at : i < n) (er : r ≡ refsAt c)
     (down : RowsLowered m m1 c i n) (hint : Wrote m1 m2 (r + (n - 1) * 2) (bytes2 v)) (count : Wrote m2 m3 32 (bytes4 (n - 1))) where
-  slot-stays : (t : ℕ) → t < c → Same m m3 (slotPlace t) 72
+  slot-stays : (t : ℕ) → t < c → Same m m3 (slotPlace t) slotSize
   slot-stays t l b p q = count .apart .above b (omega arith) ∙ hint .apart .below b (omega arith) ∙ down .only .below b (omega arith)
 
   -- the note behind the rows touches none that is left

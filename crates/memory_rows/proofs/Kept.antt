@@ -1,22 +1,24 @@
 -- Slots and columns of rows change, all other bytes are as they were.
+use Rattle.image_rows.specs.Rows.{openLimit}
+use Rattle.image.specs.Stages.{capacityLimit}
 use Rattle.basics.proofs.Kit.{_≡_, ap, _∙_, List, ℕ, _+_, _*_, _≤_, _<_, length, getD, arith}
 use Rattle.model.specs.State.{Held}
 use Rattle.memory_bytes.specs.Bytes.{le4}
 use Rattle.basics.specs.Lists.{tab}
-use Rattle.memory_layout.specs.Places.{startsAt}
-use Rattle.memory_layout.specs.Views.{headOf, countsOf, tableEnd, pageCount, startAt, entryAt, namedBlock}
+use Rattle.memory_layout.specs.Places.{startsAt, blocksAt, headSize, namedAt, opensAt, usedAt, usedSize}
+use Rattle.memory_layout.specs.Views.{headOf, countsOf, tableEnd, pageCount, startAt, entryAt, namedBlock, namedCount}
 use Rattle.memory_layout.specs.Flat.{flatOf, capacityOf, rowsOf, entriesOf, namedOf, Room, InRange, Becomes, withRows}
 use Rattle.memory_layout.proofs.Frame.{Same, same4, within2, same-head, same-opens, same-named, same-directories, same-used, same-start, same-entries}
 
-module _ (m m' : List ℕ) (room : Room m) (size : length m' ≡ length m) (head : (b : ℕ) → b < 1024 → getD m' b 0 ≡ getD m b 0)
+module _ (m m' : List ℕ) (room : Room m) (size : length m' ≡ length m) (head : (b : ℕ) → b < headSize → getD m' b 0 ≡ getD m b 0)
     (behind : (b : ℕ) → startsAt (capacityOf m) ≤ b → getD m' b 0 ≡ getD m b 0) where
-  in-head : (a n : ℕ) → a + n ≤ 1024 → Same m m' a n
+  in-head : (a n : ℕ) → a + n ≤ capacityLimit → Same m m' a n
   in-head a n h b p q = head b (omega arith)
 
   on : (a n : ℕ) → startsAt (capacityOf m) ≤ a → Same m m' a n
   on a n h b p q = behind b (omega arith)
 
-  word : (a : ℕ) → a + 4 ≤ 1024 → le4 m' a ≡ le4 m a
+  word : (a : ℕ) → a + 4 ≤ headSize → le4 m' a ≡ le4 m a
   word a h = same4 m m' a (in-head a 4 h)
 
   ends : (t : ℕ) → t < 8 → tableEnd m' t ≡ tableEnd m t
@@ -26,7 +28,7 @@ module _ (m m' : List ℕ) (room : Room m) (size : length m' ≡ length m) (head
   starts p =
       let c : ℕ = capacityOf m in
       ap (λ (z : ℕ). startAt m' z p) (word 4 (omega arith))
-      ∙ same-start m m' c (pageCount m) p (ends 7 (omega arith)) (word 32 (omega arith)) (omega arith) (on (1024 + c * 79) (pageCount m * 2) (omega arith))
+      ∙ same-start m m' c (pageCount m) p (ends 7 (omega arith)) (word 32 (omega arith)) (omega arith) (on (startsAt c) (pageCount m * 2) (omega arith))
 
   kept-room : Room m'
   unfolding headOf countsOf
@@ -60,14 +62,14 @@ module _ (m m' : List ℕ) (room : Room m) (size : length m' ≡ length m) (head
       let n : ℕ = pageCount m * 2 in
       ap (λ (z : ℕ). tab (entryAt m' z) 0 (pageCount m')) (word 4 (omega arith))
       ∙ same-entries m m' c (pageCount m) (in-head 32 4 (omega arith)) (in-head 64 16 (omega arith)) (omega arith)
-      (on (1024 + c * 79) n (omega arith)) (on (1024 + c * 83) n (omega arith))
+      (on (startsAt c) n (omega arith)) (on (blocksAt c) n (omega arith))
 
   kept-named : namedOf m' ≡ namedOf m
   unfolding namedOf
   kept-named =
       let c : ℕ = capacityOf m in
-      ap (λ (z : ℕ). tab (namedBlock m' z) 0 (le4 m' 40)) (word 4 (omega arith))
-      ∙ same-named m m' c (in-head 40 4 (omega arith)) (on (1024 + c * 87) (le4 m 40 * 2) (omega arith))
+      ap (λ (z : ℕ). tab (namedBlock m' z) 0 (namedCount m')) (word 4 (omega arith))
+      ∙ same-named m m' c (in-head 40 4 (omega arith)) (on (namedAt c) (namedCount m * 2) (omega arith))
 
   -- everything but the rows is as it was
   pub becomes-rows : {hs : List Held} → rowsOf m' ≡ hs → Becomes m m' (withRows (flatOf m) hs)
@@ -79,11 +81,11 @@ module _ (m m' : List ℕ) (room : Room m) (size : length m' ≡ length m) (head
         room = kept-room;
         flat = λ i. record {
           head = same-head m m' (in-head 4 28 (omega arith)) i;
-          opens = same-opens m m' (in-head 36 4 (omega arith)) (in-head 128 256 (omega arith)) (g .opens) i;
+          opens = same-opens m m' (in-head 36 4 (omega arith)) (in-head opensAt (openLimit * 4) (omega arith)) (g .opens) i;
           rows = e i;
           entries = kept-entries i;
           named = kept-named i;
           directories = same-directories m m' (in-head 44 4 (omega arith)) (in-head 96 16 (omega arith)) (g .directories) i;
-          used = same-used m m' (in-head 512 512 (omega arith)) i;
+          used = same-used m m' (in-head usedAt usedSize (omega arith)) i;
         };
       }

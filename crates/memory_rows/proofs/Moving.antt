@@ -1,4 +1,5 @@
 -- Cells of the columns after the moves and stores of an insert or a remove.
+use Rattle.block_forms.specs.Limits.{payloadLimit}
 use Rattle.basics.proofs.Kit.{_≡_, sym, ap, _∙_, ⊎-elim, List, [], _∷_, ℕ, _+_, _*_, _≤_, _<_, _-_, length, getD, arith}
 use Rattle.memory_bytes.specs.Bytes.{le2, le4, bytes, bytes2, bytes4, Apart, Raised, Lowered, Wrote}
 use Rattle.memory_bytes.proofs.Bytes.{le2-below, le2-above, le4-below, le4-above, le2-raised, le4-raised, le2-lowered, le4-lowered, le2-wrote, le4-wrote, bytes-wrote}
@@ -95,7 +96,7 @@ module _ {m m1 m2 m3 : List ℕ} {c i k r s key ref state : ℕ} (ek : k ≡ key
       }
 
 pub slot-filled : {m m1 m2 m3 : List ℕ} {s a number word : ℕ} {payload : List ℕ} → a ≡ slotPlace s → number < 4294967296 → word < 4294967296
-    → length payload ≤ 40 → Wrote m m1 a (bytes4 number) → Wrote m1 m2 (a + 4) (bytes4 word) → Wrote m2 m3 (a + 8) payload
+    → length payload ≤ payloadLimit → Wrote m m1 a (bytes4 number) → Wrote m1 m2 (a + 4) (bytes4 word) → Wrote m2 m3 (a + 8) payload
     → SlotFilled m m3 s number word payload
 slot-filled {m} {m1} {m2} {m3} {s} {a} {number} {word} {payload} e bn bw bp w1 w2 w3 =
     record {

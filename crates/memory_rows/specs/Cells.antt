@@ -4,13 +4,15 @@ use mathlib.Core.Path.{_≡_}
 use mathlib.Core.Bool.{Bool, true, false}
 use mathlib.Core.List.{List}
 use lib.ListN.{length, getD}
+use Rattle.model.specs.Recover.{memoryFor}
+use Rattle.image.specs.Stages.{capacityLimit}
 use Rattle.block_forms.specs.Limits.{payloadLimit}
 use Rattle.memory_bytes.specs.Bytes.{le4, bytes, Apart}
 use Rattle.memory_layout.specs.Places.{slotSize, keysAt, refsAt, statesAt, startsAt}
 use Rattle.memory_layout.specs.Views.{slotOf, keyOf, refOf, stateOf, slotPlace}
 use Rattle.basics.specs.Basics.{any}
 use Rattle.model.specs.State as model
-use Rattle.memory_bytes.specs.Columns.{equals}
+use Rattle.memory_bytes.specs.Columns.{equals, slotLimit}
 use Rattle.basics.specs.Lists.{tab}
 use Rattle.memory_layout.specs.Flat.{capacityOf, rowsOf}
 use Rattle.memory_rows.specs.declared.Eight.{Eight}
@@ -41,8 +43,8 @@ keepsOwner model.removing = false
 pub record Capacity (m : List ℕ) (c : ℕ) : Type 0 where
   pub is : c ≡ capacityOf m
   pub least : 1 ≤ c
-  pub most : c ≤ 1024
-  pub long : 128 * c + 1024 ≤ length m
+  pub most : c ≤ capacityLimit
+  pub long : memoryFor c ≤ length m
   pub rows : length (rowsOf m) ≤ c
 
 -- ---- slots
@@ -79,7 +81,7 @@ pub record ColumnsOnly (m m' : List ℕ) (c : ℕ) : Type 0 where
 
 -- the memory has room for the columns
 pub record ColumnsFit (m : List ℕ) (c : ℕ) : Type 0 where
-  pub most : c ≤ 1024
+  pub most : c ≤ capacityLimit
   pub long : startsAt c ≤ length m
 
 -- of n rows, those from row i on are one further up
@@ -148,12 +150,12 @@ pub record CellsPut (m m' : List ℕ) (c i k r s : ℕ) : Type 0 where
 -- c may be a capacity, and the column of slot numbers has n of them
 pub record SlotNumbers (m : List ℕ) (c n : ℕ) : Type 0 where
   pub least : 1 ≤ c
-  pub most : c ≤ 1024
+  pub most : c ≤ capacityLimit
   pub long : refsAt c + n * 2 ≤ length m
 
 -- slot s is inside the memory, and the payload has room in it
 pub record SlotInto (m : List ℕ) (s : ℕ) (xs : List ℕ) : Type 0 where
-  pub low : s < 1024
+  pub low : s < slotLimit
   pub inside : slotPlace s + slotSize ≤ length m
   pub payload : length xs ≤ payloadLimit
 

@@ -12,7 +12,7 @@ use Rattle.model.specs.State as model
 use Rattle.model.specs.State.{Held}
 use Rattle.model.specs.Rules.{isRemoving, applied, asCommitted}
 use Rattle.memory_bytes.specs.Bytes.{le4, bytes}
-use Rattle.memory_layout.specs.Places.{startsAt}
+use Rattle.memory_layout.specs.Places.{startsAt, headSize}
 use Rattle.memory_layout.specs.Flat.{Flat, flatOf, withRows, capacityOf, rowsOf, rowIn, Room}
 use Rattle.memory_rows.specs.declared.Pending.{Pending}
 use Rattle.memory_rows.specs.declared.Pending.the-variants.{Nothing, Adding, Committing, Removing}
@@ -99,5 +99,5 @@ pub record RowsOnly (m m' : List ℕ) (hs : List Held) : Type 0 where
   pub rows : rowsOf m' ≡ hs
   pub count : le4 m' 32 ≡ length hs
   pub before : (b : ℕ) → b < 32 → getD m' b 0 ≡ getD m b 0
-  pub head : (b : ℕ) → 36 ≤ b → b < 1024 → getD m' b 0 ≡ getD m b 0
+  pub head : (b : ℕ) → 36 ≤ b → b < headSize → getD m' b 0 ≡ getD m b 0
   pub behind : (b : ℕ) → startsAt (capacityOf m) ≤ b → getD m' b 0 ≡ getD m b 0

@@ -40,11 +40,8 @@ ghost use Rattle.block_forms.specs.Bytes.{ownerIs};
 ghost use Rattle.memory_rows.specs.Rows.{pendingIs, heldBy, committedRow, isLiveOwn, isOwned, withRow, keyIn, Holds, Copied, PayloadInto, NewRow, RowsOnly};
 ghost use Rattle.memory_rows.specs.Cells.{codeOf, keepsOwner, InOrder};
 
-// Number, owner and payload of a row.
-const SLOT_SIZE: usize = 72;
-
-// A slot's number has ten bits; the bits above them are the pending operation.
-const SLOT_LIMIT: u16 = 1024;
+// A row's two bytes are its slot, plus this times its pending operation.
+const SLOT_LIMIT: u16 = memory_bytes::SLOT_LIMIT;
 
 // A row's state is the ninth byte of its record; from this number on it means committed.
 const COMMITTED: u8 = block_forms::COMMITTED;

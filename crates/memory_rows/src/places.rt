@@ -1,12 +1,17 @@
 // Where the parts of a row stand: its key, reference and state in the columns, its number, owner and payload in a slot.
 use super::SLOT_LIMIT;
-use super::SLOT_SIZE;
 use memory_layout::CAPACITY;
 use memory_layout::HEAD_SIZE;
+use memory_layout::KEYS;
+use memory_layout::REFS;
 use memory_layout::ROW_COUNT;
+use memory_layout::SLOT_SIZE;
+use memory_layout::STATES;
 ghost use mathlib.Core.Path.{_≡_};
 ghost use Prim.Native.Nat.{_+_, _*_, _-_, _≤_, _<_};
 ghost use lib.ListN.{length};
+ghost use Rattle.memory_bytes.specs.Columns.{slotLimit};
+ghost use Rattle.image.specs.Stages.{capacityLimit};
 ghost use Rattle.memory_layout.specs.Places.{slotSize, keysAt, refsAt, statesAt};
 ghost use Rattle.memory_layout.specs.Views.{slotOf, slotPlace, refOf, stateOf};
 ghost use Rattle.memory_layout.specs.Flat.{flatOf, capacityOf, Room};
@@ -27,29 +32,29 @@ pub fn row_count(m: &[u8]) -> usize
 }
 
 pub fn keys_at(c: usize) -> usize
-    requires { ⌜ c ≤ 1024 ⌝ }
+    requires { ⌜ c ≤ capacityLimit ⌝ }
     ensures { λ r. ⌜ r ≡ keysAt c ⌝ }
 {
-    HEAD_SIZE + c * 72
+    HEAD_SIZE + c * KEYS
 }
 
 pub fn refs_at(c: usize) -> usize
-    requires { ⌜ c ≤ 1024 ⌝ }
+    requires { ⌜ c ≤ capacityLimit ⌝ }
     ensures { λ r. ⌜ r ≡ refsAt c ⌝ }
 {
-    HEAD_SIZE + c * 76
+    HEAD_SIZE + c * REFS
 }
 
 pub fn states_at(c: usize) -> usize
-    requires { ⌜ c ≤ 1024 ⌝ }
+    requires { ⌜ c ≤ capacityLimit ⌝ }
     ensures { λ r. ⌜ r ≡ statesAt c ⌝ }
 {
-    HEAD_SIZE + c * 78
+    HEAD_SIZE + c * STATES
 }
 
 // Where slot s stands.
 pub fn slot_at(s: usize) -> usize
-    requires { ⌜ s < 1024 ⌝ }
+    requires { ⌜ s < slotLimit ⌝ }
     ensures { λ r. ⌜ r ≡ slotPlace s ⌝ }
 {
     HEAD_SIZE + s * SLOT_SIZE

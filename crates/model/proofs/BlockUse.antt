@@ -3,7 +3,7 @@ use Rattle.basics.proofs.Kit.{_≡_, refl, sym, ap, _∙_, subst, ap₂, Bool, 
 use Rattle.basics.proofs.Kit.{ltb, length, length-append, length-map, arith}
 use Rattle.basics.specs.Basics.{isIn, any, if_then_else_, howMany, sum, distinct, first}
 use Rattle.basics.proofs.Facts.{by, AllOf, lie, by-option, and-true}
-use Rattle.block_forms.specs.Limits.{mostNumber}
+use Rattle.block_forms.specs.Limits.{mostNumber, blockLimit}
 use Rattle.image.specs.Stages.{isZero, directoriesFor, capacityLimit}
 use Rattle.model.specs.State.{Page, Store, Checkpoint, idle, running, Held, Active}
 use Rattle.model.specs.Rules.{isDirty, fresh, freeze, isFrozen}
@@ -83,7 +83,7 @@ Ledger idle s = AllOf (Booked (s .used)) (s .pages)
 Ledger (running n es ds) s = Running n es ds s
 
 pub record BlockUse (s : Store) : Type 0 where
-  pub blocks : (2 ≤ s .blocks) × (s .blocks ≤ 4096)
+  pub blocks : (2 ≤ s .blocks) × (s .blocks ≤ blockLimit)
   pub cap : (1 ≤ s .capacity) × (s .capacity ≤ capacityLimit)
   pub level : s .level ≤ mostNumber
   pub taken : s .taken < s .blocks

@@ -1,4 +1,5 @@
 -- An image's bytes and its view: a block exchanged in the one is exchanged in the other; recovery of bytes is recovery of the view.
+use Rattle.block_forms.specs.Limits.{blockLimit, blockSize}
 use Rattle.basics.proofs.Kit.{_≡_, refl, sym, ap, _∙_, subst, fun-ext, true, false, not, List, [], _++_, ℕ, suc, _+_, _*_, _%_, _≤_, _<_, zero, _/_, _-_, leb, eqb, ltb, length, take, drop}
 use Rattle.basics.proofs.Kit.{length-append, length-take, length-drop, take-append-drop, take-at, drop-drop, take-append-le, drop-append-add, drop-append-le, drop-at, arith}
 use Rattle.basics.specs.Basics.{if_then_else_, basics}
@@ -23,9 +24,9 @@ use Rattle.basics.proofs.Parts.{front}
 
 -- ---- a block of an image exchanged
 
-module _ (img xs : List ℕ) (b : ℕ) (fits : 512 * b + 512 ≤ length img) (block : length xs ≡ 512) where
-  head : length (take (512 * b) img) ≡ 512 * b
-  head = rw (length-take (512 * b) img) (omega arith)
+module _ (img xs : List ℕ) (b : ℕ) (fits : blockSize * b + blockSize ≤ length img) (block : length xs ≡ blockSize) where
+  head : length (take (blockSize * b) img) ≡ blockSize * b
+  head = rw (length-take (blockSize * b) img) (omega arith)
 
   pub length-put : length (putBlock img b xs) ≡ length img
   unfolding putBlock
@@ -33,24 +34,24 @@ module _ (img xs : List ℕ) (b : ℕ) (fits : 512 * b + 512 ≤ length img) (bl
 
   at-put : blockAt (putBlock img b xs) b ≡ xs
   unfolding putBlock blockAt
-  at-put = rw (drop-at (take (512 * b) img) (xs ++ drop (512 * b + 512) img) (512 * b) head) (take-at xs (drop (512 * b + 512) img) 512 block)
+  at-put = rw (drop-at (take (blockSize * b) img) (xs ++ drop (blockSize * b + blockSize) img) (blockSize * b) head) (take-at xs (drop (blockSize * b + blockSize) img) blockSize block)
 
   below-put : (i : ℕ) → i < b → blockAt (putBlock img b xs) i ≡ blockAt img i
   unfolding putBlock blockAt
   below-put i h =
-      front (take (512 * b) img) _ (512 * i) 512 (rw head (omega arith))
-      ∙ sym (front (take (512 * b) img) (drop (512 * b) img) (512 * i) 512 (rw head (omega arith)))
-      ∙ ap (λ z. take 512 (drop (512 * i) z)) (take-append-drop (512 * b) img)
+      front (take (blockSize * b) img) _ (blockSize * i) blockSize (rw head (omega arith))
+      ∙ sym (front (take (blockSize * b) img) (drop (blockSize * b) img) (blockSize * i) blockSize (rw head (omega arith)))
+      ∙ ap (λ z. take blockSize (drop (blockSize * i) z)) (take-append-drop (blockSize * b) img)
 
   above-put : (i : ℕ) → b < i → blockAt (putBlock img b xs) i ≡ blockAt img i
   unfolding putBlock blockAt
   above-put i h =
-      let m = 512 * i - (512 * b + 512) in
-      let e : 512 * i ≡ length (take (512 * b) img) + (length xs + m) = rw (head, block) (omega arith) in
-      let f : 512 * b + 512 + m ≡ 512 * i = omega arith in
-      ap (λ z. take 512 (drop z (putBlock img b xs))) e
-      ∙ ap (take 512) (drop-append-add (take (512 * b) img) (xs ++ drop (512 * b + 512) img) (length xs + m)
-      ∙ drop-append-add xs (drop (512 * b + 512) img) m ∙ drop-drop m (512 * b + 512) img ∙ ap (λ z. drop z img) f)
+      let m = blockSize * i - (blockSize * b + blockSize) in
+      let e : blockSize * i ≡ length (take (blockSize * b) img) + (length xs + m) = rw (head, block) (omega arith) in
+      let f : blockSize * b + blockSize + m ≡ blockSize * i = omega arith in
+      ap (λ z. take blockSize (drop z (putBlock img b xs))) e
+      ∙ ap (take blockSize) (drop-append-add (take (blockSize * b) img) (xs ++ drop (blockSize * b + blockSize) img) (length xs + m)
+      ∙ drop-append-add xs (drop (blockSize * b + blockSize) img) m ∙ drop-drop m (blockSize * b + blockSize) img ∙ ap (λ z. drop z img) f)
 
   apart : (i : ℕ) → eqb b i ≡ false → b < suc i → b < i
   apart i h k = by (leb (suc b) i) (leb-true (suc b) i)
@@ -76,24 +77,24 @@ view-sane img i = decode-in-range (blockAt img i)
 -- ---- recovery of bytes and of the view
 
 -- an image of n whole blocks
-whole-blocks : (len n : ℕ) → len ≡ 512 * n → 2 ≤ n → n ≤ 4096 → wholeBlocks len ≡ true
+whole-blocks : (len n : ℕ) → len ≡ blockSize * n → 2 ≤ n → n ≤ blockLimit → wholeBlocks len ≡ true
 unfolding wholeBlocks
 whole-blocks len n e l u =
-    let q : len / 512 ≡ n = omega arith in
-    let r : len % 512 ≡ 0 = omega arith in
-    rw (q, r, le-true 2 n l, le-true n 4096 u)
+    let q : len / blockSize ≡ n = omega arith in
+    let r : len % blockSize ≡ 0 = omega arith in
+    rw (q, r, le-true 2 n l, le-true n blockLimit u)
 
-pub blocks-whole : (len : ℕ) → wholeBlocks len ≡ true → (len ≡ 512 * (len / 512)) × (2 ≤ len / 512) × (len / 512 ≤ 4096)
+pub blocks-whole : (len : ℕ) → wholeBlocks len ≡ true → (len ≡ blockSize * (len / blockSize)) × (2 ≤ len / blockSize) × (len / blockSize ≤ blockLimit)
 unfolding wholeBlocks
 blocks-whole len e =
-    let k = and-true (eqb (len % 512) 0) _ e in
-    let l = and-true (leb 2 (len / 512)) (leb (len / 512) 4096) (k .1) in
-    let z : len % 512 ≡ 0 = eqb-true _ _ (k .0) in
-    (omega arith, leb-true 2 (len / 512) (l .0), leb-true (len / 512) 4096 (l .1))
+    let k = and-true (eqb (len % blockSize) 0) _ e in
+    let l = and-true (leb 2 (len / blockSize)) (leb (len / blockSize) blockLimit) (k .1) in
+    let z : len % blockSize ≡ 0 = eqb-true _ _ (k .0) in
+    (omega arith, leb-true 2 (len / blockSize) (l .0), leb-true (len / blockSize) blockLimit (l .1))
 
-pub stage-is : (img : List ℕ) (n : ℕ) → length img ≡ 512 * n → 2 ≤ n → n ≤ 4096 → headerStage img ≡ headerTest n (asHeader (view img 0))
+pub stage-is : (img : List ℕ) (n : ℕ) → length img ≡ blockSize * n → 2 ≤ n → n ≤ blockLimit → headerStage img ≡ headerTest n (asHeader (view img 0))
 unfolding headerStage blockCount if_then_else_
-stage-is img n e l u = let q : length img / 512 ≡ n = omega arith in rw (whole-blocks (length img) n e l u, q)
+stage-is img n e l u = let q : length img / blockSize ≡ n = omega arith in rw (whole-blocks (length img) n e l u, q)
 
 -- with memory enough
 enough : (m : ℕ) (v : View) (st : Stage Header) (s : Store) → recoverFrom v st ≡ holds s → memoryFor (s .capacity) ≤ m → recoverBelow m v st ≡ holds s
@@ -104,7 +105,7 @@ enough m v (holds c) s e h =
     let q : s .capacity ≡ c .capacity = ap (λ z. z .capacity) (sym (k .2)) in
     rw (lt-false m (memoryFor (c .capacity)) (subst (λ z. memoryFor z ≤ m) q h)) e
 
-pub recover-view : (m : ℕ) (img : List ℕ) (s : Store) (n : ℕ) → length img ≡ 512 * n → 2 ≤ n → n ≤ 4096 → recoverView n (view img) ≡ holds s → memoryFor (s .capacity) ≤ m
+pub recover-view : (m : ℕ) (img : List ℕ) (s : Store) (n : ℕ) → length img ≡ blockSize * n → 2 ≤ n → n ≤ blockLimit → recoverView n (view img) ≡ holds s → memoryFor (s .capacity) ≤ m
     → recover m img ≡ holds s
 unfolding recoverView recover
 recover-view m img s n e l u r h = enough m (view img) (headerStage img) s (rw (stage-is img n e l u) r) h
@@ -112,9 +113,9 @@ recover-view m img s n e l u r h = enough m (view img) (headerStage img) s (rw (
 -- ---- what an accepted recovery says of its image
 
 pub record Accepted (img : List ℕ) (s : Store) : Type 0 where
-  pub long : length img ≡ 512 * s .blocks
+  pub long : length img ≡ blockSize * s .blocks
   pub least : 2 ≤ s .blocks
-  pub most : s .blocks ≤ 4096
+  pub most : s .blocks ≤ blockLimit
   pub seen : recoverView (s .blocks) (view img) ≡ holds s
 
 -- without the test of the memory
@@ -128,7 +129,7 @@ unfolding recoverView recoverFrom headerStage blockCount if_then_else_ recovered
 accepted-stage img s e =
     by (wholeBlocks (length img))
     (λ w.
-    let n = length img / 512 in
+    let n = length img / blockSize in
     let q : recoverView n (view img) ≡ holds s = rw w at e in
     let k = found n (view img) s q in
     let b = headed n (k .head) (k .head-ok) in
@@ -150,7 +151,7 @@ accepted-recovery m img s e = accepted-stage img s (below m (view img) (headerSt
 
 -- what an accepted make says
 pub make-accepted : (len m n : ℕ) (s : Store) → make len m n ≡ holds s
-    → (wholeBlocks len ≡ true) × (1 ≤ n) × (n ≤ capacityLimit) × (memoryFor n ≤ m) × (s ≡ freshStore (len / 512) n)
+    → (wholeBlocks len ≡ true) × (1 ≤ n) × (n ≤ capacityLimit) × (memoryFor n ≤ m) × (s ≡ freshStore (len / blockSize) n)
 unfolding make if_then_else_
 make-accepted len m n s e =
     by (not (wholeBlocks len)) (λ a. refuses-holds (rw a at e))
@@ -187,10 +188,10 @@ unfolding madeImage headerFor freshStore put if_then_else_
 made-accepted img m n s e =
     let k = make-accepted (length img) m n s e in
     let c = blocks-whole (length img) (k .0) in
-    let b = length img / 512 in
+    let b = length img / blockSize in
     let h = headerFor (freshStore b n) 0 0 0 [] in
     let x = encodeBlock (header h) in
-    let fits : 512 * 0 + 512 ≤ length img = omega arith in
+    let fits : blockSize * 0 + blockSize ≤ length img = omega arith in
     let eq : view (madeImage img n) 0 ≡ header h = ap (λ v. v 0) (view-put img x 0 fits (encode-length (header h))) ∙ decode-encode (header h) (omega arith) in
     rw (k .4) (record {
       long = length-put img x 0 fits (encode-length (header h)) ∙ c .0;

@@ -1,4 +1,5 @@
 -- The claims on views, with no assumption left.
+use Rattle.block_forms.specs.Limits.{blockLimit}
 use Rattle.basics.proofs.Kit.{_≡_, refl, ap, _∙_, true, List, [], _∷_, _≤_}
 use Rattle.basics.specs.Basics.{if_then_else_}
 use Rattle.basics.proofs.Facts.{AllOf}
@@ -21,7 +22,7 @@ use Rattle.model.proofs.Whole.{Fitting, starts, ready, few-pages}
 use Rattle.model.proofs.WriteCounts.{keeps-count, counted-step, writers-law}
 use Rattle.model.proofs.Range.{frozen-small, keeps-fits, step-fits, frozen-fit}
 
-module _ (v : View) (sane : AllSane v) (s : Store) (two : 2 ≤ s .blocks) (most : s .blocks ≤ 4096) (e : recoverView (s .blocks) v ≡ holds s) where
+module _ (v : View) (sane : AllSane v) (s : Store) (two : 2 ≤ s .blocks) (most : s .blocks ≤ blockLimit) (e : recoverView (s .blocks) v ≡ holds s) where
   at-start : Found (s .blocks) v s
   at-start = found (s .blocks) v s e
 
@@ -91,7 +92,7 @@ crash-views v sane s two most e calls v′ base cut = recovers-cut v sane s two 
 pub writes-ok : WritesOk
 writes-ok v sane s two most e calls a = writes-range v sane s two most e calls a
 
-pub claims-ok : (v : View) → AllSane v → (s : Store) → 2 ≤ s .blocks → s .blocks ≤ 4096 → recoverView (s .blocks) v ≡ holds s → (calls : List Call)
+pub claims-ok : (v : View) → AllSane v → (s : Store) → 2 ≤ s .blocks → s .blocks ≤ blockLimit → recoverView (s .blocks) v ≡ holds s → (calls : List Call)
     → ((v′ : View) (base : List Call) → CutV v [] (log [] [] s calls) v′ base → (r : Store) × (recoverView (s .blocks) v′ ≡ holds r) × Like r (afterCalls base s))
     × AllOf (λ w. isHeader w ≡ true → Top (w .write .what) (afterCalls (w .before) s)) (log [] [] s calls)
 claims-ok v sane s two most e calls = claims v sane s two most e calls

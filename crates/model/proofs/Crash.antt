@@ -3,7 +3,7 @@ use Rattle.basics.proofs.Kit.{_≡_, refl, sym, ap, _∙_, subst, Bool, true, f
 use Rattle.basics.specs.Basics.{if_then_else_, first}
 use Rattle.basics.proofs.Facts.{AllOf, by, by-option}
 use Rattle.block_forms.specs.Block.{Block}
-use Rattle.block_forms.specs.Limits.{mostNumber}
+use Rattle.block_forms.specs.Limits.{mostNumber, blockLimit}
 use Rattle.image.specs.Stages.{directoriesFor, holds}
 use Rattle.image.specs.View.{View}
 use Rattle.model.specs.State.{Store, Checkpoint, Page, idle, running, Held, Active, Outcome, Write, count}
@@ -113,7 +113,7 @@ module _ (n : ℕ) (s₀ : Store) (Okay : Call → Type 0) (Valid : Store → Ty
     pub safe : (img′ : View) (base′ : List Call) → CutV img base₀ ws img′ base′
         → (r : Store) × (recoverView n img′ ≡ holds r) × Like r (afterCalls base′ s₀)
     pub tops : AllOf (λ w. isHeader w ≡ true → Top (w .write .what) (afterCalls (w .before) s₀)) ws
-    pub ranged : n ≤ 4096 → ((s : Store) → Valid s → FrozenFit s) → AllOf (WriteOk n) ws
+    pub ranged : n ≤ blockLimit → ((s : Store) → Valid s → FrozenFit s) → AllOf (WriteOk n) ws
 
   abbrev Now : View → Store → List Call → List Call → Type 0
   Now img s base base₀ = Inv n img s (afterCalls base s₀) (afterCalls base₀ s₀)
@@ -131,7 +131,7 @@ module _ (n : ℕ) (s₀ : Store) (Okay : Call → Type 0) (Valid : Store → Ty
 
   goes-cons : (img : View) (used : ℕ → Bool) (base₀ : List Call) (w : Logged) (ws : List Logged) → Good n img used (afterCalls base₀ s₀)
       → (isHeader w ≡ false → (x : Block) → Good n (put img (w .write .at) x) used (afterCalls base₀ s₀))
-      → (n ≤ 4096 → ((s : Store) → Valid s → FrozenFit s) → WriteOk n w) → (isHeader w ≡ true → Top (w .write .what) (afterCalls (w .before) s₀))
+      → (n ≤ blockLimit → ((s : Store) → Valid s → FrozenFit s) → WriteOk n w) → (isHeader w ≡ true → Top (w .write .what) (afterCalls (w .before) s₀))
       → Goes (put img (w .write .at) (w .write .what)) (landed w base₀) ws → Goes img base₀ (w ∷ ws)
   goes-cons img used base₀ w ws g t ok top r = record { safe = cuts; tops = (top, r .tops); ranged = λ m f. (ok m f, r .ranged m f) }
     where

@@ -2,7 +2,7 @@
 use Rattle.basics.proofs.Kit.{_≡_, refl, sym, subst, Bool, true, false, not, _||_, some, none, Option, List, [], _∷_, ℕ, suc, _≤_, _<_, eqb, length, arith}
 use Rattle.basics.specs.Basics.{if_then_else_, any, isEmpty, isSome, isIn, first, last}
 use Rattle.basics.proofs.Facts.{by, lie}
-use Rattle.block_forms.specs.Limits.{payloadLimit, mostNumber}
+use Rattle.block_forms.specs.Limits.{payloadLimit, mostNumber, mostTransaction, transactionLimit}
 use Rattle.image_rows.specs.Rows.{Row, openLimit}
 use Rattle.model.specs.State.{Store, Write, Outcome, Answer, refused, done}
 use Rattle.model.specs.Sight.{held, isForeign, versions, seenOf, seen}
@@ -44,7 +44,7 @@ unless-accepted P ((n when b) ∷ ts) s o f h =
 
 -- what an accepted insert, replace or delete has shown of its arguments and of the store
 pub record Accepts (c : TransactionCall) (tx t k : ℕ) (bs : List ℕ) (m : Bool) (s : Store) : Type 0 where
-  pub low : tx ≤ 4095
+  pub low : tx ≤ mostTransaction
   pub opened : isIn tx (openNumbers (s .active)) ≡ true
   pub table : t ≤ 7
   pub short : length bs ≤ payloadLimit
@@ -59,7 +59,7 @@ pub record Accepts (c : TransactionCall) (tx t k : ℕ) (bs : List ℕ) (m : Boo
 pub data Does (c : TransactionCall) (s : Store) : Outcome → Type 0 where
   refuses : (n : ℕ) → Does c s (gives (refused n) s)
   answers : (a : Answer) → effect c ≡ noEffect → accepted a ≡ true → Does c s (gives a s)
-  starts : (tx : ℕ) → effect c ≡ startOf tx → tx ≤ 4095 → isIn tx (openNumbers (s .active)) ≡ false → length (s .active) < openLimit
+  starts : (tx : ℕ) → effect c ≡ startOf tx → tx ≤ mostTransaction → isIn tx (openNumbers (s .active)) ≡ false → length (s .active) < openLimit
       → Does c s (gives done (withOpen tx s))
   writes : (tx t k : ℕ) (bs : List ℕ) (m : Bool) → effect c ≡ writeOf tx → Accepts c tx t k bs m s → Does c s (withTuple tx t k bs m s)
   finishes : (tx : ℕ) → effect c ≡ commitOf tx → Does c s (closing tx (committedPages tx (s .pages)) s)
@@ -101,7 +101,7 @@ module _ (c : TransactionCall) (s : Store) (tx t k : ℕ) (bs : List ℕ) (typed
       let r = key-passed new (p .1 .1 .1 .1) in
       let d = marked new m q (p .1 .1 .1 .1) in
       record {
-        low = omega (arith, leb-false 4096 tx (p .0));
+        low = omega (arith, leb-false transactionLimit tx (p .0));
         opened = not-false _ (p .1 .0);
         table = omega (arith, leb-false 8 t (p .1 .1 .0));
         short = omega (arith, leb-false (suc payloadLimit) (length bs) (p .1 .1 .1 .0));
@@ -125,7 +125,7 @@ reading c s room (some r) e = does-unless c s _ _ (λ p. answers _ e refl)
 pub does : (c : TransactionCall) (s : Store) → Does c s (transact c s)
 unfolding transact openCall commitCall abortCall readCall listCall effect isEmpty accepted
 does (opens tx) s =
-    does-unless _ s _ _ (λ p. starts tx refl (omega (arith, leb-false 4096 tx (p .0))) (p .1 .0) (leb-false openLimit (length (s .active)) (p .1 .1 .0)))
+    does-unless _ s _ _ (λ p. starts tx refl (omega (arith, leb-false transactionLimit tx (p .0))) (p .1 .0) (leb-false openLimit (length (s .active)) (p .1 .1 .0)))
 does (inserts tx t k bs) s = writing (inserts tx t k bs) s tx t k bs (λ h. h) true false refl tt
 does (replaces tx t k bs) s = writing (replaces tx t k bs) s tx t k bs (λ h. h) false false refl tt
 does (deletes tx t k) s = writing (deletes tx t k) s tx t k [] (λ h. h) false true refl (refl, refl)

@@ -1,4 +1,5 @@
 -- The order of the rows held, runs as keys, the blocks that a checkpoint takes, the stores that are left, and run as steps.
+use Rattle.block_forms.specs.Limits.{blockSize, mostStatement}
 use Rattle.basics.proofs.Kit.{_≡_, refl, sym, ap, _∙_, subst, true, false, some, none, Option, List, [], _∷_, _++_, map, ℕ, suc, _+_, _*_, _≤_, _<_, zero, min, ltb, length, length-append}
 use Rattle.basics.proofs.Kit.{length-map, arith}
 use Rattle.basics.specs.Basics.{if_then_else_, all, sum, howMany, first, keep, isEmpty, isIn}
@@ -91,17 +92,17 @@ pub step-size : (s : Store) → stepAt (s .checkpoint) s .store .blocks ≡ s .b
 unfolding withProgress
 step-size s = step-frame (λ z. z .blocks ≡ s .blocks) s refl (λ l ps u b c. refl)
 
-step-is : (len : ℕ) (s : Store) → len ≡ 512 * s .blocks → call (steps len) s ≡ stepAt (s .checkpoint) s
+step-is : (len : ℕ) (s : Store) → len ≡ blockSize * s .blocks → call (steps len) s ≡ stepAt (s .checkpoint) s
 unfolding call stepCall unless badImage if_then_else_
-step-is len s e = rw (e, eqb-self (512 * s .blocks))
+step-is len s e = rw (e, eqb-self (blockSize * s .blocks))
 
-turn-steps : (len k : ℕ) (s : Store) → len ≡ 512 * s .blocks
+turn-steps : (len k : ℕ) (s : Store) → len ≡ blockSize * s .blocks
     → (inTurn k s .store ≡ afterCalls (times k (steps len)) s) × (inTurn k s .writes ≡ writesOf (times k (steps len)) s)
 unfolding inTurn times afterCalls writesOf gives
 turn-steps len zero s e = (refl, refl)
 turn-steps len (suc k) s e =
     let o = stepAt (s .checkpoint) s in
-    let r = turn-steps len k (o .store) (e ∙ ap (λ z. 512 * z) (sym (step-size s))) in
+    let r = turn-steps len k (o .store) (e ∙ ap (λ z. blockSize * z) (sym (step-size s))) in
     subst (λ z. (inTurn k (o .store) .store ≡ afterCalls (times k (steps len)) (z .store)) × (o .writes ++ inTurn k
     (o .store) .writes ≡ z .writes ++ writesOf (times k (steps len)) (z .store)))
     (sym (step-is len s e)) (r .0, ap (λ z. o .writes ++ z) (r .1))
@@ -128,7 +129,7 @@ unfolding runCall badImage
 run-is-steps limit len s h k e =
     unless-accepted (Ran k)
     _ s _ (λ p q. subst (λ j. Ran k (record { answer = count j; store = inTurn j s .store; writes = inTurn j s .writes })) e
-    (let r = turn-steps len k s (eqb-true len (512 * s .blocks) (not-false _ (p .0))) in let n = turn-count k s (omega arith) in (refl, r .0, r .1, n .0, n .1))) h
+    (let r = turn-steps len k s (eqb-true len (blockSize * s .blocks) (not-false _ (p .0))) in let n = turn-count k s (omega arith) in (refl, r .0, r .1, n .0, n .1))) h
   where
     Ran : ℕ → Outcome → Type 0
     Ran k o = (o .answer ≡ count k) × (o .store ≡ afterCalls (times k (steps len)) s) × (o .writes ≡ writesOf (times k (steps len)) s)
@@ -205,7 +206,7 @@ module _ (s : Store) (w : WellFormed s) where
       let v = sound s w .valid in
       subst (λ n. n ≤ s .capacity) (sym (w .counts tx h)) (omega (arith, many-length (isOwn tx) (rows (s .pages)), sub-length (rows-sub (s .pages)), v .has .few))
 
-min-below : {n cap : ℕ} → n ≤ cap → cap ≤ 1024 → min (suc n) 1048575 ≡ suc n
+min-below : {n cap : ℕ} → n ≤ cap → cap ≤ 1024 → min (suc n) mostStatement ≡ suc n
 min-below h k = omega (arith, h, k)
 
 pub never-falls-back : NeverFallsBack

@@ -1,4 +1,5 @@
 -- The quoted line: a cut of an image's bytes is a cut of its view, and recovery of the one is recovery of the other.
+use Rattle.block_forms.specs.Limits.{blockSize}
 use Rattle.basics.proofs.Kit.{_≡_, sym, ap, _∙_, subst, List, _∷_, ℕ, _+_, _*_, _≤_, _<_, length, arith}
 use Rattle.basics.proofs.Facts.{AllOf}
 use Rattle.block_forms.specs.Block.{encodeBlock}
@@ -16,22 +17,22 @@ use Rattle.model.proofs.Capacity.{same-capacity}
 
 -- ---- a cut of the bytes is a cut of the view
 
-room : (n at len : ℕ) → at < n → len ≡ 512 * n → 512 * at + 512 ≤ len
+room : (n at len : ℕ) → at < n → len ≡ blockSize * n → blockSize * at + blockSize ≤ len
 room n at len h e = omega arith
 
-pub view-after : (n : ℕ) (img : List ℕ) (w : Logged) → length img ≡ 512 * n → WriteOk n w → view (imageWith img w) ≡ put (view img) (w .write .at) (w .write .what)
+pub view-after : (n : ℕ) (img : List ℕ) (w : Logged) → length img ≡ blockSize * n → WriteOk n w → view (imageWith img w) ≡ put (view img) (w .write .at) (w .write .what)
 unfolding imageWith
 view-after n img w e k =
     view-put img (encodeBlock (w .write .what)) (w .write .at) (room n (w .write .at) (length img) (k .0) e) (encode-length (w .write .what))
     ∙ ap (put (view img) (w .write .at)) (decode-encode (w .write .what) (k .1))
 
-pub length-after : (n : ℕ) (img : List ℕ) (w : Logged) → length img ≡ 512 * n → WriteOk n w → length (imageWith img w) ≡ 512 * n
+pub length-after : (n : ℕ) (img : List ℕ) (w : Logged) → length img ≡ blockSize * n → WriteOk n w → length (imageWith img w) ≡ blockSize * n
 unfolding imageWith
 length-after n img w e k =
     length-put img (encodeBlock (w .write .what)) (w .write .at) (room n (w .write .at) (length img) (k .0) e) (encode-length (w .write .what)) ∙ e
 
 pub cut-view : (n : ℕ) {img : List ℕ} {base : List Call} {ws : List Logged} {img′ : List ℕ} {base′ : List Call} → Cut img base ws img′ base′
-    → length img ≡ 512 * n → AllOf (WriteOk n) ws → CutV (view img) base ws (view img′) base′ × (length img′ ≡ 512 * n)
+    → length img ≡ blockSize * n → AllOf (WriteOk n) ws → CutV (view img) base ws (view img′) base′ × (length img′ ≡ blockSize * n)
 cut-view n stop e ok = (CutV.stop, e)
 cut-view n {img} {base} (torn {w = w} {ws = ws} h xs l a) e ok =
     let r = room n (w .write .at) (length img) (ok .0 .0) e in (

@@ -1,4 +1,5 @@
 -- The open transactions are listed each once, and each is 0 to 4,095.
+use Rattle.block_forms.specs.Limits.{mostTransaction}
 use Rattle.basics.proofs.Kit.{_≡_, refl, sym, ap, _∙_, subst, Bool, true, false, not, List, [], _∷_, _++_, map, ℕ, _≤_, eqb, arith}
 use Rattle.basics.specs.Basics.{distinct, isIn, any, keep, if_then_else_}
 use Rattle.basics.proofs.Facts.{AllOf, and-true, by, lie}
@@ -14,10 +15,10 @@ use Rattle.model.proofs.Effects.{Does, refuses, answers, starts, writes
 use Rattle.model.proofs.NoStores.{call-leaves}
 
 abbrev pub Listed : Store → Type 0
-Listed s = (distinct (openNumbers (s .active)) ≡ true) × AllOf (λ tx. tx ≤ 4095) (openNumbers (s .active))
+Listed s = (distinct (openNumbers (s .active)) ≡ true) × AllOf (λ tx. tx ≤ mostTransaction) (openNumbers (s .active))
 
 abbrev Once : List ℕ → Type 0
-Once os = (distinct os ≡ true) × AllOf (λ tx. tx ≤ 4095) os
+Once os = (distinct os ≡ true) × AllOf (λ tx. tx ≤ mostTransaction) os
 
 distinct-snoc : (x : ℕ) (os : List ℕ) → isIn x os ≡ false → distinct os ≡ true → distinct (os ++ x ∷ []) ≡ true
 unfolding distinct
@@ -34,15 +35,15 @@ distinct-keep f (o ∷ os) d =
     let k = and-true (not (isIn o os)) (distinct os) d in
     by (f o) (λ h. rw (h, in-keep o f os, not-true (isIn o os) (k .0), distinct-keep f os (k .1))) (λ h. rw h (distinct-keep f os (k .1)))
 
-once-open : (tx : ℕ) (os : List ℕ) → isIn tx os ≡ false → tx ≤ 4095 → Once os → Once (os ++ tx ∷ [])
+once-open : (tx : ℕ) (os : List ℕ) → isIn tx os ≡ false → tx ≤ mostTransaction → Once os → Once (os ++ tx ∷ [])
 once-open tx os h l o = (distinct-snoc tx os h (o .0), all-append _ os (tx ∷ []) (o .1) (l, tt))
 
 once-others : (tx : ℕ) (os : List ℕ) → Once os → Once (others tx os)
 unfolding others
 once-others tx os o = (
   distinct-keep _ os (o .0),
-  all-map (λ x. (not (eqb x tx) ≡ true) × (x ≤ 4095)) _ (λ x k. k .1) (keep (λ w. not (eqb w tx)) os)
-      (all-keep (λ x. x ≤ 4095) (λ w. not (eqb w tx)) os (o .1)),
+  all-map (λ x. (not (eqb x tx) ≡ true) × (x ≤ mostTransaction)) _ (λ x k. k .1) (keep (λ w. not (eqb w tx)) os)
+      (all-keep (λ x. x ≤ mostTransaction) (λ w. not (eqb w tx)) os (o .1)),
 )
 
 listed-same : (s z : Store) → openNumbers (z .active) ≡ openNumbers (s .active) → Listed s → Listed z
@@ -67,12 +68,12 @@ keeps-listed (runs limit len) s l = listed-same s (call (runs limit len) s .stor
 
 -- ---- recovered
 
-own-small : (tx : ℕ) (o : Owner) → OwnerFits o → isBy tx o ≡ true → tx ≤ 4095
+own-small : (tx : ℕ) (o : Owner) → OwnerFits o → isBy tx o ≡ true → tx ≤ mostTransaction
 unfolding isBy
 own-small tx committed f h = lie h
 own-small tx (tentative u s) f h = let e = eqb-true u tx h in omega (arith, f .0)
 
-owners-small : (tx : ℕ) (rs : List Row) → AllOf (λ r. Fits (r .1)) rs → any (isOwn tx) rs ≡ true → tx ≤ 4095
+owners-small : (tx : ℕ) (rs : List Row) → AllOf (λ r. Fits (r .1)) rs → any (isOwn tx) rs ≡ true → tx ≤ mostTransaction
 unfolding any isOwn
 owners-small tx [] a h = lie h
 owners-small tx (r ∷ rs) a h = by (isBy tx (r .1 .owner)) (λ k. own-small tx (r .1 .owner) (a .0 .owner) k) (λ k. owners-small tx rs (a .1) (rw (k, any) at h))

@@ -1,4 +1,5 @@
 -- The transactions of the tentative rows.
+use Rattle.block_forms.specs.Limits.{mostStatement}
 use Rattle.basics.proofs.Kit.{_≡_, refl, sym, ap, _∙_, true, false, not, List, [], _∷_, _++_, map, ℕ, suc, _≤_, _<_, min, eqb, length, arith}
 use Rattle.basics.specs.Basics.{isIn, if_then_else_, any, distinct, keep, howMany}
 use Rattle.basics.proofs.Facts.{by, lie, AllOf, and-true}
@@ -86,7 +87,7 @@ count-new tx u (o ∷ os) h =
     let n = not-in tx (o .transaction) (openNumbers os) h in
     rw (eqb-sym tx (o .transaction) (n .0)) (count-new tx u os (n .1))
 
-pub count-write : (tx : ℕ) (os : List Active) → isIn tx (openNumbers os) ≡ true → writtenBy tx (withWrite tx os) ≡ min (suc (writtenBy tx os)) 1048575
+pub count-write : (tx : ℕ) (os : List Active) → isIn tx (openNumbers os) ≡ true → writtenBy tx (withWrite tx os) ≡ min (suc (writtenBy tx os)) mostStatement
 unfolding openNumbers writtenBy withWrite oneMore isFor if_then_else_
 count-write tx [] h = lie (unfold isIn any in h)
 count-write tx (o ∷ os) h =

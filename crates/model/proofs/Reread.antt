@@ -1,4 +1,5 @@
 -- When a checkpoint's header has landed, its blocks are read as the store before its begin.
+use Rattle.block_forms.specs.Limits.{blockLimit, blockSize}
 use Rattle.basics.proofs.Kit.{_≡_, sym, ap, _∙_, subst, Bool, true, List, [], _∷_, _++_, map, ℕ, _*_, _≤_, _<_, length}
 use Rattle.basics.specs.Basics.{if_then_else_}
 use Rattle.basics.proofs.Facts.{AllOf}
@@ -36,7 +37,7 @@ unfolding afterStores
 whole-cut img base [] w later h = Cut.whole (subst (λ z. Cut (imageWith img w) z later (imageWith img w) (w .before)) (sym (header-lands w base h)) Cut.stop)
 whole-cut img base (v ∷ ws) w later h = Cut.whole (whole-cut (imageWith img v) (landed v base) ws w later h)
 
-top-block : (n : ℕ) (img : List ℕ) (ws : List Logged) (w : Logged) → length img ≡ 512 * n → AllOf (WriteOk n) (ws ++ w ∷ []) → isHeader w ≡ true
+top-block : (n : ℕ) (img : List ℕ) (ws : List Logged) (w : Logged) → length img ≡ blockSize * n → AllOf (WriteOk n) (ws ++ w ∷ []) → isHeader w ≡ true
     → view (afterStores img (ws ++ w ∷ [])) 0 ≡ w .write .what
 unfolding afterStores isHeader
 top-block n img [] w e ok h =
@@ -47,7 +48,7 @@ top-block n img (v ∷ ws) w e ok h = top-block n (imageWith img v) ws w (length
 
 -- ---- reading
 
-reads-found : (n : ℕ) (img : List ℕ) (s : Store) → length img ≡ 512 * n → 2 ≤ n → n ≤ 4096 → (f : Found n (view img) s)
+reads-found : (n : ℕ) (img : List ℕ) (s : Store) → length img ≡ blockSize * n → 2 ≤ n → n ≤ blockLimit → (f : Found n (view img) s)
     → readImage img ≡ holds (record { header = f .head; pages = f .pages })
 unfolding readImage afterHeader withHeader headerTest pagesStage pagesBelow directoryTest testedEntries pageTest testedPages if_then_else_
 reads-found n img s e lo hi f = rw (stage-is img n e lo hi, f .top, f .head-ok, f .listed, f .entries-ok, f .read, f .rows-ok)
@@ -78,7 +79,7 @@ found-positive n v s f =
     (all-map _ _ (λ b k. k .0) (f .entries) (entries-in (f .head .blocks) (directoryBlocks (f .head)) (f .entries) (f .entries-ok)))
 
 -- an image whose first block is the header of b, and which recovers to r, which is like b
-read-again : (n : ℕ) (img : List ℕ) (b r : Store) (x : Block) → length img ≡ 512 * n → 2 ≤ n → n ≤ 4096 → Found n (view img) r → Like r b
+read-again : (n : ℕ) (img : List ℕ) (b r : Store) (x : Block) → length img ≡ blockSize * n → 2 ≤ n → n ≤ blockLimit → Found n (view img) r → Like r b
     → Top x b → view img 0 ≡ x → Checkpointed img b
 read-again n img b r x len lo hi f l t e =
     let q : t .head ≡ f .head = same-header (t .is) (sym e ∙ f .top) in

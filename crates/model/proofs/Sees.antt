@@ -1,4 +1,5 @@
 -- What a transaction sees after each call.
+use Rattle.block_forms.specs.Limits.{mostTransaction}
 use Rattle.basics.proofs.Kit.{_≡_, refl, sym, ap, _∙_, ap₂, Bool, true, false, _&&_, not, some, none, Option, List, [], _∷_, _++_, append-nil, ℕ, suc, _≤_, eqb, ltb}
 use Rattle.basics.proofs.Kit.{length, arith}
 use Rattle.basics.specs.Basics.{if_then_else_, keep, last, first, isIn}
@@ -300,10 +301,10 @@ same-read : (u t k room : ℕ) (s z : Store) → isIn u (openNumbers (z .active)
     → readCall u t k room z .answer ≡ readCall u t k room s .answer
 unfolding readCall notOpen
 same-read u t k room s z o e =
-    ap (λ b. unless (6 when ltb 4095 u ∷ 7 when not b ∷ noTable t ∷ []) z (readSeen room (seen u t k z) z) .answer) o
+    ap (λ b. unless (6 when ltb mostTransaction u ∷ 7 when not b ∷ noTable t ∷ []) z (readSeen room (seen u t k z) z) .answer) o
     ∙ answer-unless _ z s _ _ (ap (λ r. readSeen room r z .answer) e ∙ answer-seen room (seen u t k s) s z)
 
-module _ (u t k room : ℕ) (z : Store) (few : ltb 4095 u ≡ false) (o : isIn u (openNumbers (z .active)) ≡ true) (tb : ltb 7 t ≡ false) where
+module _ (u t k room : ℕ) (z : Store) (few : ltb mostTransaction u ≡ false) (o : isIn u (openNumbers (z .active)) ≡ true) (tb : ltb 7 t ≡ false) where
   reads-some : (r : Row) → seen u t k z ≡ some r → length (r .1 .payload) ≤ room → readCall u t k room z .answer ≡ filled (length (r .1 .payload)) (r .1 .payload)
   unfolding readCall notOpen noTable unless if_then_else_ readSeen gives
   reads-some r e l = rw (few, o, tb, e) (rw (lt-false room (length (r .1 .payload)) l))
@@ -317,7 +318,7 @@ module _ (u t k room : ℕ) (z : Store) (few : ltb 4095 u ≡ false) (o : isIn u
 still-listed : (tx u : ℕ) (s : Store) → isIn u (openNumbers (s .active)) ≡ true → isIn u (openNumbers (withWrite tx (s .active))) ≡ true
 still-listed tx u s h = ap (isIn u) (numbers-write tx (s .active)) ∙ h
 
-module _ (s : Store) (v : Valid s) (tx t k room : ℕ) (few : ltb 4095 tx ≡ false) (o : not (isIn tx (openNumbers (s .active))) ≡ false) (tb : ltb 7 t ≡ false) where
+module _ (s : Store) (v : Valid s) (tx t k room : ℕ) (few : ltb mostTransaction tx ≡ false) (o : not (isIn tx (openNumbers (s .active))) ≡ false) (tb : ltb 7 t ≡ false) where
   wrote-reads : (bs : List ℕ) → length bs ≤ room → readCall tx t k room (withTuple tx t k bs false s .store) .answer ≡ filled (length bs) bs
   unfolding withTuple afterWrite gives changed newTuple if_then_else_
   wrote-reads bs l =

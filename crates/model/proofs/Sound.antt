@@ -1,4 +1,5 @@
 -- Every page that is not frozen is not empty, fits its block and has nothing pending; and every tuple has at most 53 bytes.
+use Rattle.block_forms.specs.Limits.{joinSum, recordSpace}
 use Rattle.basics.proofs.Kit.{_≡_, refl, sym, ap, _∙_, subst, true, false, _&&_, not, some, none, Option, List, [], _∷_, _++_, map, ℕ, suc, _+_, _*_, _≤_, _<_, zero, _-_, min, leb, eqb, ltb}
 use Rattle.basics.proofs.Kit.{length, take, drop, length-append, length-take, length-drop, take-append-drop, length-map, arith}
 use Rattle.basics.specs.Basics.{sum, if_then_else_, isEmpty, any}
@@ -19,11 +20,11 @@ NothingPending x = (heldSize x ≤ mostSize) × (x .pending ≡ nothing)
 
 -- a list of tuples that may stand on such a page
 abbrev Fine : List Held → Type 0
-Fine ts = AllOf NothingPending ts × (sum heldSize ts ≤ 504) × (0 < length ts)
+Fine ts = AllOf NothingPending ts × (sum heldSize ts ≤ recordSpace) × (0 < length ts)
 
 -- and what a frozen page had at begin
 abbrev Whole : List Tuple → Type 0
-Whole ts = (sum size ts ≤ 504) × (0 < length ts)
+Whole ts = (sum size ts ≤ recordSpace) × (0 < length ts)
 
 abbrev pub PageOk : Page → Type 0
 PageOk p = AllOf Small (p .tuples) × (p .frozen ≡ false → Fine (p .tuples)) × (p .frozen ≡ true → Whole (shown (p .tuples)))
@@ -63,12 +64,12 @@ lead-size w a (x ∷ xs) h e s =
     let r = lead-size w (a + heldSize x) xs k (omega arith) (s .1) in
     rw t (omega arith, omega arith))
 
-split-once : (ts : List Held) → AllOf NothingPending ts → 0 < length ts → sum heldSize ts ≤ 504 + mostSize → AllOf Fine (splitOnce ts)
+split-once : (ts : List Held) → AllOf NothingPending ts → 0 < length ts → sum heldSize ts ≤ recordSpace + mostSize → AllOf Fine (splitOnce ts)
 unfolding splitOnce if_then_else_ fits half
 split-once ts c p l =
-    by (leb (sum heldSize ts) 504) (λ h. rw h ((c, leb-true (sum heldSize ts) 504 h, p), tt))
+    by (leb (sum heldSize ts) recordSpace) (λ h. rw h ((c, leb-true (sum heldSize ts) recordSpace h, p), tt))
     (λ h.
-    let big : 504 < sum heldSize ts = leb-false (sum heldSize ts) 504 h in
+    let big : recordSpace < sum heldSize ts = leb-false (sum heldSize ts) recordSpace h in
     let k = half ts in
     let m = half-between ts (small ts c) big in
     let z = lead-size (sum heldSize ts) 0 ts (omega arith) (omega arith) (small ts c) in
@@ -101,7 +102,7 @@ entering-withoutPending p x h = rw h
 -- a page takes the tuples zs, which are its own and x
 all-grown : (p : Page) (zs : List Held) (ps : List Page) → AllOf Small zs
     → (p .frozen ≡ true → (shown zs ≡ shown (p .tuples)) × Whole (shown (p .tuples)))
-    → (p .frozen ≡ false → AllOf NothingPending zs × (sum heldSize zs ≤ 504 + mostSize) × (0 < length zs)) → AllOf PageOk ps → AllOf PageOk (grown p zs ++ ps)
+    → (p .frozen ≡ false → AllOf NothingPending zs × (sum heldSize zs ≤ recordSpace + mostSize) × (0 < length zs)) → AllOf PageOk ps → AllOf PageOk (grown p zs ++ ps)
 unfolding grown if_then_else_
 all-grown p zs ps s w f a =
     by (p .frozen) (λ h. rw h (frozen-ok _ zs refl s (w h .0) (w h .1), a))
@@ -157,13 +158,13 @@ module _ (t : ℕ) (x : Tuple) (sx : size x ≤ mostSize) where
 
 -- pages that join are not frozen, and their sizes sum to at most 336
 joins-in : (p q : Page) → joins p q ≡ true
-    → (p .frozen ≡ false) × (q .frozen ≡ false) × (sum heldSize (p .tuples) + sum heldSize (q .tuples) ≤ 336)
+    → (p .frozen ≡ false) × (q .frozen ≡ false) × (sum heldSize (p .tuples) + sum heldSize (q .tuples) ≤ joinSum)
 unfolding joins
 joins-in p q e =
-    let a = and-true (not (p .frozen)) (not (q .frozen) && (eqb (p .table) (q .table) && leb (sum heldSize (p .tuples) + sum heldSize (q .tuples)) 336)) e in
-    let b = and-true (not (q .frozen)) (eqb (p .table) (q .table) && leb (sum heldSize (p .tuples) + sum heldSize (q .tuples)) 336) (a .1) in
-    let c = and-true (eqb (p .table) (q .table)) (leb (sum heldSize (p .tuples) + sum heldSize (q .tuples)) 336) (b .1) in
-    (not-true _ (a .0), not-true _ (b .0), leb-true _ 336 (c .1))
+    let a = and-true (not (p .frozen)) (not (q .frozen) && (eqb (p .table) (q .table) && leb (sum heldSize (p .tuples) + sum heldSize (q .tuples)) joinSum)) e in
+    let b = and-true (not (q .frozen)) (eqb (p .table) (q .table) && leb (sum heldSize (p .tuples) + sum heldSize (q .tuples)) joinSum) (a .1) in
+    let c = and-true (eqb (p .table) (q .table)) (leb (sum heldSize (p .tuples) + sum heldSize (q .tuples)) joinSum) (b .1) in
+    (not-true _ (a .0), not-true _ (b .0), leb-true _ joinSum (c .1))
 
 joined-ok : (p q : Page) → joins p q ≡ true → AllOf NothingPending (p .tuples) → 0 < length (p .tuples) → AllOf NothingPending (q .tuples) → PageOk (joined p q)
 unfolding joined
@@ -329,7 +330,7 @@ split-fine ts c l =
     go [] a b = tt
     go (ts ∷ tss) a b =
         let q = all-parts NothingPending ts (together tss) b in
-        ((q .0, leb-true (sum heldSize ts) 504 (a .0 .0), has-some ts (a .0 .1)), go tss (a .1) (q .1))
+        ((q .0, leb-true (sum heldSize ts) recordSpace (a .0 .0), has-some ts (a .0 .1)), go tss (a .1) (q .1))
 
 -- small tuples without a pending operation
 withoutPending-of : (ts : List Held) → any (λ x. isPending (x .pending)) ts ≡ false → AllOf Small ts → AllOf NothingPending ts

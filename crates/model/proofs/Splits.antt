@@ -3,7 +3,7 @@ use Rattle.basics.proofs.Kit.{_≡_, refl, sym, subst, true, false, some, none,
 use Rattle.basics.proofs.Kit.{drop, length-take, length-drop, take-append-drop, arith}
 use Rattle.basics.specs.Basics.{if_then_else_, sum, isEmpty}
 use Rattle.basics.proofs.Facts.{by, AllOf, never, by-option}
-use Rattle.block_forms.specs.Limits.{mostRecord}
+use Rattle.block_forms.specs.Limits.{mostRecord, recordSpace}
 use Rattle.model.specs.State.{Held}
 use Rattle.model.specs.Rules.{lead, heldSize, half, fits, splitDeep, splitAll, splitOnce, after}
 use Rattle.basics.proofs.Elements.{leb-false, nonempty, all-take, all-drop, all-append, some-eq}
@@ -32,7 +32,7 @@ lead-short w a (x ∷ y ∷ ys) big h e s =
     rw t (omega arith))
 
 -- a page above 504 bytes splits in two parts that are not empty
-pub half-between : (ts : List Held) → AllOf Small ts → 504 < sum heldSize ts → (0 < half ts) × (half ts < length ts)
+pub half-between : (ts : List Held) → AllOf Small ts → recordSpace < sum heldSize ts → (0 < half ts) × (half ts < length ts)
 unfolding half sum
 half-between [] s h = absurd (omega arith)
 half-between (x ∷ xs) s h = (lead-pos _ 0 x xs, lead-short (sum heldSize (x ∷ xs)) 0 (x ∷ xs) (omega arith) (omega arith) (omega arith) s)
@@ -56,7 +56,7 @@ split-deep zero ts l p s = absurd (omega arith)
 split-deep (suc d) ts l p s =
     by (fits ts) (λ h. rw (h, splitDeep) (((h, nonempty ts p), tt), append-nil ts))
     (λ h.
-    let big : 504 < sum heldSize ts = leb-false (sum heldSize ts) 504 h in
+    let big : recordSpace < sum heldSize ts = leb-false (sum heldSize ts) recordSpace h in
     let m = half-between ts s big in
     let k = half ts in
     let lt : length (take k ts) ≡ min k (length ts) = length-take k ts in

@@ -3,7 +3,7 @@ use Rattle.basics.proofs.Kit.{_≡_, refl, sym, ap, _∙_, subst, Bool, true, f
 use Rattle.basics.specs.Basics.{isEmpty, if_then_else_, all, distinct, isIn, any, howMany}
 use Rattle.basics.proofs.Facts.{AllOf, by, and-true, lie, clash}
 use Rattle.block_forms.specs.Block.{page, header, asPage, InRange}
-use Rattle.block_forms.specs.Limits.{mostNumber}
+use Rattle.block_forms.specs.Limits.{mostNumber, blockLimit}
 use Rattle.block_forms.specs.declared.Header.{Header}
 use Rattle.image_rows.specs.Rows.{transactions, isOwn}
 use Rattle.image.specs.Stages.{StoredPage, readPages, pageOk, blockOk, capacityLimit, directoryBlocks, headerOk, entriesOk, rowsOfPages}
@@ -118,7 +118,7 @@ unfolding loaded isDirty
 booked-loaded used [] a = tt
 booked-loaded used (p ∷ ps) a = ((λ h. lie h, λ h. a .0), booked-loaded used ps (a .1))
 
-read-use : (n : ℕ) (v : View) (h : Header) (es : List ℕ) (ps : List StoredPage) → 2 ≤ n → n ≤ 4096 → h .level ≤ mostNumber → Headed n h → map (λ p. p .block) ps ≡ es
+read-use : (n : ℕ) (v : View) (h : Header) (es : List ℕ) (ps : List StoredPage) → 2 ≤ n → n ≤ blockLimit → h .level ≤ mostNumber → Headed n h → map (λ p. p .block) ps ≡ es
     → entriesOk (h .blocks) (directoryBlocks h) es ≡ true → BlockUse (recoveredStore h ps)
 unfolding recoveredStore
 read-use n v h es ps two most lvl g bs ok =
@@ -136,7 +136,7 @@ read-use n v h es ps two most lvl g bs ok =
       phase = booked-loaded _ ps (all-in _ (map (λ p. p .block) ps) (λ b i. rw (in-append b (map (λ p. p .block) ps), i)));
     }
 
-pub start-use : (n : ℕ) (v : View) (s : Store) → 2 ≤ n → n ≤ 4096 → AllSane v → Found n v s → BlockUse s
+pub start-use : (n : ℕ) (v : View) (s : Store) → 2 ≤ n → n ≤ blockLimit → AllSane v → Found n v s → BlockUse s
 start-use n v s two most sane f =
     let h = f .head in
     subst BlockUse (f .store) (read-use n v h (f .entries) (f .pages) two most (head-range v h sane (f .top) .0) (headed n h (f .head-ok))

@@ -1,4 +1,5 @@
 -- A store made or recovered is well formed, and every call keeps it so.
+use Rattle.block_forms.specs.Limits.{blockLimit, blockSize}
 use Rattle.basics.proofs.Kit.{_≡_, refl, sym, subst, true, List, [], _∷_, ℕ, _≤_, _/_, leb, length, arith}
 use Rattle.basics.specs.Basics.{basics}
 use Rattle.basics.proofs.Facts.{lie, AllOf}
@@ -26,7 +27,7 @@ kept-well c s t w = well (call c s .store) (keeps-sound c s t (sound s w))
 
 -- ---- made
 
-fresh-well : (b n : ℕ) → 2 ≤ b → b ≤ 4096 → 1 ≤ n → n ≤ capacityLimit → WellFormed (freshStore b n)
+fresh-well : (b n : ℕ) → 2 ≤ b → b ≤ blockLimit → 1 ≤ n → n ≤ capacityLimit → WellFormed (freshStore b n)
 unfolding freshStore heldOk openOk held rows basics rowRules openNumbers
 fresh-well b n lo hi some few =
     let z : leb 0 n ≡ true = le-true 0 n (omega arith) in
@@ -53,7 +54,7 @@ pub made-well : MadeWell
 made-well len m n s e =
     let k = make-accepted len m n s e in
     let c = blocks-whole len (k .0) in
-    subst WellFormed (sym (k .4)) (fresh-well (len / 512) n (c .1) (c .2) (k .1) (k .2))
+    subst WellFormed (sym (k .4)) (fresh-well (len / blockSize) n (c .1) (c .2) (k .1) (k .2))
 
 -- ---- recovered
 

@@ -4,7 +4,7 @@ use Rattle.basics.proofs.Kit.{take, drop, getD, length-take, length-map, arith}
 use Rattle.basics.specs.Basics.{if_then_else_, all, first, isIn, any, every}
 use Rattle.basics.proofs.Facts.{AllOf, lie, by}
 use Rattle.block_forms.specs.Block.{page, Block, header, InRange, directory}
-use Rattle.block_forms.specs.Limits.{recordSpace}
+use Rattle.block_forms.specs.Limits.{recordSpace, blockLimit, entriesPerBlock}
 use Rattle.block_forms.specs.Tuple.{AllFit, sizes, Tuple}
 use Rattle.block_forms.specs.declared.Header.{Header}
 use Rattle.image_rows.specs.Rows.{rowsOk, transactions, isOwn}
@@ -53,7 +53,7 @@ pub record Top (x : Block) (b : Store) : Type 0 where
 
 pub data Stepped (n : ℕ) (img : View) (s b b₀ : Store) (o : Outcome) : Type 0 where
   still : o .writes ≡ [] → Inv n img (o .store) b b₀ → Stepped n img s b b₀ o
-  wrote : (w : Write) → o .writes ≡ w ∷ [] → w .at < n → (n ≤ 4096 → FrozenFit s → InRange (w .what)) → (eqb (w .at) 0 ≡ true → Top (w .what) b)
+  wrote : (w : Write) → o .writes ≡ w ∷ [] → w .at < n → (n ≤ blockLimit → FrozenFit s → InRange (w .what)) → (eqb (w .at) 0 ≡ true → Top (w .what) b)
       → (eqb (w .at) 0 ≡ false → (x : Block) → Good n (put img (w .at) x) (s .used) b₀)
       → Inv n (put img (w .at) (w .what)) (o .store) b (if eqb (w .at) 0 then b else b₀) → Stepped n img s b b₀ o
 
@@ -139,16 +139,16 @@ directory-step n img s b b₀ n₀ es ds bk r inv run e lt =
     let off = off-used (s .used) i es (fr .pos) (fr .free) (r .named) in
     let off′ = off-used (s .used) i ds (fr .pos) (fr .free) (all-map _ _ (λ d h q. h) ds (r .directories-used)) in
     let L = suc (s .level) in
-    let part = take 336 (drop (336 * length ds) es) in
+    let part = take entriesPerBlock (drop (entriesPerBlock * length ds) es) in
     let x : Block = directory L part in
     let img′ : View = put img i x in
     let g : (y : Block) → Good n (put img i y) (s .used) b₀ = λ y. good-put n img (s .used) b₀ i y (fr .pos) (fr .free) (inv .good) in
-    let tl : length part ≡ min 336 (length (drop (336 * length ds) es)) = length-take 336 (drop (336 * length ds) es) in
+    let tl : length part ≡ min entriesPerBlock (length (drop (entriesPerBlock * length ds) es)) = length-take entriesPerBlock (drop (entriesPerBlock * length ds) es) in
     wrote (record { at = i; what = x }) refl (omega (arith, fr .low, inv .blocks))
     (λ small fit. record {
       level = omega (arith, r .level);
       count = omega arith;
-      entries = all-take _ 336 (drop (336 * length ds) es) (all-drop _ (336 * length ds) es
+      entries = all-take _ entriesPerBlock (drop (entriesPerBlock * length ds) es) (all-drop _ (entriesPerBlock * length ds) es
           (all-map _ _ (λ e h. omega (arith, inv .blocks)) es (entries-low s es (omega (arith, fr .low)) (bk .within) (r .named))));
     })
     (λ z. lie (sym (pos-not-zero i (fr .pos)) ∙ z))
@@ -259,7 +259,7 @@ module _ (n : ℕ) (img : View) (s b : Store) (n₀ : ℕ) (es ds : List ℕ) (b
       (ap (rowsOk (s .capacity) n₀) rs ∙ rw (run .nxt, ← run .bcap) (run .base .ok)) in
       made-good img′ (t .0) f (hn .0) (t .2) rs (read-blocks img′ L es (t .0) (t .1))
     where
-      enough : length ds ≡ directoriesFor (length es) → length es ≤ 336 * length ds
+      enough : length ds ≡ directoriesFor (length es) → length es ≤ entriesPerBlock * length ds
       enough e = unfold directoriesFor in omega arith
 
       made-found : (img′ : View) (ps : List StoredPage) → img′ 0 ≡ header top → directoryBlocks top ≡ ds
@@ -306,12 +306,12 @@ module _ (n : ℕ) (img : View) (s b : Store) (n₀ : ℕ) (es ds : List ℕ) (b
     pages = stored-length (run .stored) ∙ length-map (b .pages) content;
   }
 
-  header-fits : s .blocks ≤ 4096 → InRange (header top)
+  header-fits : s .blocks ≤ blockLimit → InRange (header top)
   unfolding headerFor
   header-fits m =
       let f = few-pages in
       let q = few-dirs in
-      let low : AllOf (λ d. d < 4096) ds = all-map _ _ (λ d h. omega (arith, h .1)) ds dok in (
+      let low : AllOf (λ d. d < blockLimit) ds = all-map _ _ (λ d h. omega (arith, h .1)) ds dok in (
         omega arith,
         (
           omega arith,
@@ -334,7 +334,7 @@ module _ (n : ℕ) (img : View) (s b : Store) (n₀ : ℕ) (es ds : List ℕ) (b
         ),
       )
     where
-      low-at : (i : ℕ) (ds : List ℕ) → AllOf (λ d. d < 4096) ds → getD ds i 0 < 4096
+      low-at : (i : ℕ) (ds : List ℕ) → AllOf (λ d. d < blockLimit) ds → getD ds i 0 < blockLimit
       low-at i [] a = omega arith
       low-at zero (d ∷ ds) a = a .0
       low-at (suc i) (d ∷ ds) a = low-at i ds (a .1)

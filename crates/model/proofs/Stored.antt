@@ -1,4 +1,5 @@
 -- The running checkpoint's entries, the base's pages and the blocks written: what holds all along, and what is read back at the end.
+use Rattle.block_forms.specs.Limits.{entriesPerBlock}
 use Rattle.basics.proofs.Kit.{_≡_, refl, _∙_, subst, false, some, List, [], _∷_, _++_, map, ℕ, suc, _+_, _*_, _≤_, _<_, _-_, min, eqb, length, take, drop, length-take, length-drop}
 use Rattle.basics.proofs.Kit.{take-append-drop, drop-drop, arith}
 use Rattle.basics.specs.Basics.{if_then_else_, isIn, isEmpty}
@@ -69,26 +70,26 @@ stored-written e (stands k p q u v r) = (p, stored-written e r)
 
 abbrev pub Dirs : View → ℕ → List ℕ → List ℕ → Type 0
 Dirs img l es [] = Unit {0}
-Dirs img l es (d ∷ ds) = (img d ≡ directory l (take 336 es)) × Dirs img l (drop 336 es) ds
+Dirs img l es (d ∷ ds) = (img d ≡ directory l (take entriesPerBlock es)) × Dirs img l (drop entriesPerBlock es) ds
 
 pub dirs-put : (img : View) (l b : ℕ) (x : Block) (es ds : List ℕ) → isIn b ds ≡ false → Dirs img l es ds → Dirs (put img b x) l es ds
 dirs-put img l b x es [] h r = tt
-dirs-put img l b x es (d ∷ ds) h r = let n = not-in b d ds h in (put-other img b x d (n .0) ∙ r .0, dirs-put img l b x (drop 336 es) ds (n .1) (r .1))
+dirs-put img l b x es (d ∷ ds) h r = let n = not-in b d ds h in (put-other img b x d (n .0) ∙ r .0, dirs-put img l b x (drop entriesPerBlock es) ds (n .1) (r .1))
 
-pub dirs-snoc : (img : View) (l b : ℕ) (es ds : List ℕ) → img b ≡ directory l (take 336 (drop (336 * length ds) es)) → Dirs img l es ds
+pub dirs-snoc : (img : View) (l b : ℕ) (es ds : List ℕ) → img b ≡ directory l (take entriesPerBlock (drop (entriesPerBlock * length ds) es)) → Dirs img l es ds
     → Dirs img l es (ds ++ b ∷ [])
 dirs-snoc img l b es [] h r = (h, tt)
 dirs-snoc img l b es (d ∷ ds) h r =
-    let m : 336 + 336 * length ds ≡ 336 * suc (length ds) = omega arith in
-    (r .0, dirs-snoc img l b (drop 336 es) ds (h ∙ rw (drop-drop, m)) (r .1))
+    let m : entriesPerBlock + entriesPerBlock * length ds ≡ entriesPerBlock * suc (length ds) = omega arith in
+    (r .0, dirs-snoc img l b (drop entriesPerBlock es) ds (h ∙ rw (drop-drop, m)) (r .1))
 
-pub dirs-read : (img : View) (l : ℕ) (es ds : List ℕ) → length es ≤ 336 * length ds → Dirs img l es ds
+pub dirs-read : (img : View) (l : ℕ) (es ds : List ℕ) → length es ≤ entriesPerBlock * length ds → Dirs img l es ds
     → readDirectories img l (length es) ds ≡ some es
 unfolding readDirectories entriesDue addEntries if_then_else_
 dirs-read img l [] [] h r = refl
 dirs-read img l (e ∷ es) [] h r = absurd (omega arith)
 dirs-read img l es (d ∷ ds) h r =
-    let m : length (take 336 es) ≡ min 336 (length es) = length-take 336 es in
-    let i = dirs-read img l (drop 336 es) ds (simp length-drop (omega arith)) (r .1) in
-    let j : length (drop 336 es) ≡ length es - 336 = length-drop 336 es in
+    let m : length (take entriesPerBlock es) ≡ min entriesPerBlock (length es) = length-take entriesPerBlock es in
+    let i = dirs-read img l (drop entriesPerBlock es) ds (simp length-drop (omega arith)) (r .1) in
+    let j : length (drop entriesPerBlock es) ≡ length es - entriesPerBlock = length-drop entriesPerBlock es in
     rw (r .0, eqb-self l, m, eqb-self, ← j, i, take-append-drop)

@@ -1,4 +1,5 @@
 -- Images as views, that is what each block is: recovery, a cut and the claim on views, and what is said of every block written.
+use Rattle.block_forms.specs.Limits.{blockLimit}
 use Rattle.basics.proofs.Kit.{_≡_, false, List, [], _∷_, ℕ, _≤_, _<_, eqb}
 use Rattle.basics.specs.Basics.{if_then_else_}
 use Rattle.basics.proofs.Facts.{AllOf}
@@ -53,12 +54,12 @@ WriteOk n w = (w .write .at < n) × InRange (w .write .what)
 -- wherever the stores of a list of calls are cut, recovery gives what the run of the calls before the last landed begin had
 abbrev pub CrashViews : Type 0
 CrashViews =
-    (v : View) → AllSane v → (s : Store) → 2 ≤ s .blocks → s .blocks ≤ 4096 → recoverView (s .blocks) v ≡ holds s → (calls : List Call)
+    (v : View) → AllSane v → (s : Store) → 2 ≤ s .blocks → s .blocks ≤ blockLimit → recoverView (s .blocks) v ≡ holds s → (calls : List Call)
     → (v′ : View) (base : List Call) → CutV v [] (log [] [] s calls) v′ base
     → (r : Store) × (recoverView (s .blocks) v′ ≡ holds r) × Same r s base
 
 -- every block written is in range
 abbrev pub WritesOk : Type 0
 WritesOk =
-    (v : View) → AllSane v → (s : Store) → 2 ≤ s .blocks → s .blocks ≤ 4096 → recoverView (s .blocks) v ≡ holds s
+    (v : View) → AllSane v → (s : Store) → 2 ≤ s .blocks → s .blocks ≤ blockLimit → recoverView (s .blocks) v ≡ holds s
     → (calls : List Call) → AllTyped calls → AllOf (WriteOk (s .blocks)) (log [] [] s calls)

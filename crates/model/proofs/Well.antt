@@ -1,4 +1,5 @@
 -- A store is well formed exactly if it has the invariants; so a store made or recovered is, and every call keeps it.
+use Rattle.block_forms.specs.Limits.{mostTransaction, recordSpace}
 use Rattle.basics.proofs.Kit.{_≡_, refl, sym, _∙_, subst, Bool, true, false, _||_, List, [], _∷_, map, ℕ, suc, _+_, _≤_, _<_, _-_, leb, eqb, ltb, length, length-map, arith}
 use Rattle.basics.specs.Basics.{all, paired, any, howMany, if_then_else_, sum, every, isIn, distinct, isEmpty}
 use Rattle.basics.proofs.Facts.{by, and-true, AllOf, lie}
@@ -148,13 +149,13 @@ in-block-many b (p ∷ ps) = let e = in-block-many b ps in by (eqb b (p .block))
 
 -- ---- a sound store is well formed
 
-settled-true : (hs : List Held) → AllOf NothingPending hs × (sum heldSize hs ≤ 504) × (0 < length hs) → settledOk hs ≡ true
+settled-true : (hs : List Held) → AllOf NothingPending hs × (sum heldSize hs ≤ recordSpace) × (0 < length hs) → settledOk hs ≡ true
 unfolding settledOk every fits
-settled-true hs f = rw (nonempty hs (f .2), le-true (sum heldSize hs) 504 (f .1), nothing-pending hs (f .0))
+settled-true hs f = rw (nonempty hs (f .2), le-true (sum heldSize hs) recordSpace (f .1), nothing-pending hs (f .0))
 
-frozen-true : (p : Page) → isDirty p ≡ true → (sum size (shown (p .tuples)) ≤ 504) × (0 < length (shown (p .tuples))) → frozenOk p ≡ true
+frozen-true : (p : Page) → isDirty p ≡ true → (sum size (shown (p .tuples)) ≤ recordSpace) × (0 < length (shown (p .tuples))) → frozenOk p ≡ true
 unfolding frozenOk every
-frozen-true p d w = rw (d, nonempty (shown (p .tuples)) (w .1), le-true (sum size (shown (p .tuples))) 504 (w .0))
+frozen-true p d w = rw (d, nonempty (shown (p .tuples)) (w .1), le-true (sum size (shown (p .tuples))) recordSpace (w .0))
 
 page-true : (p : Page) → p .table ≤ 7 → (p .frozen ≡ true → isDirty p ≡ true) → PageOk p → pageWell p ≡ true
 unfolding pageWell if_then_else_
@@ -213,9 +214,9 @@ held-true cap nx rs h =
       le-true (length rs) cap (h .few),
     )
 
-opened-true : (os : List ℕ) → length os ≤ 64 → (distinct os ≡ true) × AllOf (λ tx. tx ≤ 4095) os → openOk os ≡ true
+opened-true : (os : List ℕ) → length os ≤ 64 → (distinct os ≡ true) × AllOf (λ tx. tx ≤ mostTransaction) os → openOk os ≡ true
 unfolding openOk every
-opened-true os l o = rw (le-true (length os) 64 l, o .0, all-true (λ tx. leb tx 4095) os (all-map _ _ (λ tx k. le-true tx 4095 k) os (o .1)))
+opened-true os l o = rw (le-true (length os) 64 l, o .0, all-true (λ tx. leb tx mostTransaction) os (all-map _ _ (λ tx k. le-true tx mostTransaction k) os (o .1)))
 
 pub well : (s : Store) → Sound s → WellFormed s
 well s w =
@@ -261,21 +262,21 @@ withoutPending-pending adding h = lie (sym h)
 withoutPending-pending committing h = lie (sym h)
 withoutPending-pending removing h = lie (sym h)
 
-true-settled : (hs : List Held) → AllOf Small hs → settledOk hs ≡ true → AllOf NothingPending hs × (sum heldSize hs ≤ 504) × (0 < length hs)
+true-settled : (hs : List Held) → AllOf Small hs → settledOk hs ≡ true → AllOf NothingPending hs × (sum heldSize hs ≤ recordSpace) × (0 < length hs)
 unfolding settledOk fits
 true-settled hs a h =
     let q = every-all _ h in
     let off = off-any (λ h. isPending (h .pending)) hs (not-true _ (q .1 .1 .0)) in (
       all-two Small (λ h. isPending (h .pending) ≡ false) NothingPending (λ h k u. (k, withoutPending-pending (h .pending) u)) hs a off,
-      leb-true (sum heldSize hs) 504 (q .1 .0),
+      leb-true (sum heldSize hs) recordSpace (q .1 .0),
       has-some hs (not-true (isEmpty hs) (q .0)),
     )
 
-true-frozen : (p : Page) → frozenOk p ≡ true → (isDirty p ≡ true) × (sum size (shown (p .tuples)) ≤ 504) × (0 < length (shown (p .tuples)))
+true-frozen : (p : Page) → frozenOk p ≡ true → (isDirty p ≡ true) × (sum size (shown (p .tuples)) ≤ recordSpace) × (0 < length (shown (p .tuples)))
 unfolding frozenOk
 true-frozen p h =
     let q = every-all _ h in
-    (q .0, leb-true (sum size (shown (p .tuples))) 504 (q .1 .1 .0), has-some (shown (p .tuples)) (not-true (isEmpty (shown (p .tuples))) (q .1 .0)))
+    (q .0, leb-true (sum size (shown (p .tuples))) recordSpace (q .1 .1 .0), has-some (shown (p .tuples)) (not-true (isEmpty (shown (p .tuples))) (q .1 .0)))
 
 -- what the test of a page says
 record Page′ (p : Page) : Type 0 where
@@ -342,7 +343,7 @@ module _ (s : Store) (w : WellFormed s) where
   ok-open =
       let os = openNumbers (s .active) in
       let q = every-all _ (w .opened) in
-      (leb-true (length os) 64 (q .0), (q .1 .0, all-map _ _ (λ tx k. leb-true tx 4095 k) os (all-split _ os (q .1 .1 .0))))
+      (leb-true (length os) 64 (q .0), (q .1 .0, all-map _ _ (λ tx k. leb-true tx mostTransaction k) os (all-split _ os (q .1 .1 .0))))
 
   no-frozen : s .checkpoint ≡ idle → images (s .pages) ≡ []
   no-frozen e = no-images (s .pages) (subst (λ c. CheckpointWell c s) e (w .checkpoint))

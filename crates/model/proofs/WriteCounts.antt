@@ -1,4 +1,5 @@
 -- A transaction's live rows are as many as the writes accepted since it opened: the count is kept from the calls and answers alone.
+use Rattle.block_forms.specs.Limits.{mostStatement}
 use Rattle.basics.proofs.Kit.{_≡_, refl, sym, ap, _∙_, Bool, true, false, not, List, [], _∷_, ℕ, suc, _≤_, min, eqb, ltb, length, arith}
 use Rattle.basics.specs.Basics.{if_then_else_, howMany, any, first, isIn}
 use Rattle.basics.proofs.Facts.{lie, by, AllOf, by-option, and-true}
@@ -203,7 +204,7 @@ counted-open tx s v c u i =
     (all-map (λ r. Opened (openNumbers (s .active)) (r .1 .owner)) (λ r. isOwn u r ≡ false)
     (λ r k. not-own-open u (openNumbers (s .active)) r h k) (rows (s .pages)) (v .sees .open′))))
 
-more-rows : (s : Store) → Valid s → (u : ℕ) → suc (own u s) ≤ 1048575
+more-rows : (s : Store) → Valid s → (u : ℕ) → suc (own u s) ≤ mostStatement
 unfolding own
 more-rows s v u = omega (arith, many-length (isOwn u) (rows (s .pages)), sub-length (rows-sub (s .pages)), v .has .few, v .cap)
 
@@ -217,8 +218,8 @@ counted-written s v c tx t k bs m u i =
     let o = written-own s v tx t k bs m u in
     by (eqb tx u)
     (λ e. let q = eqb-true tx u e in
-    ap (λ z. writtenBy u (withWrite z (s .active))) q ∙ count-write u (s .active) j ∙ ap (λ n. min (suc n) 1048575) (own-count s c u j)
-    ∙ min-under (suc (own u s)) 1048575 (more-rows s v u) ∙ sym (wrote-own u tx (own u s) e) ∙ sym o)
+    ap (λ z. writtenBy u (withWrite z (s .active))) q ∙ count-write u (s .active) j ∙ ap (λ n. min (suc n) mostStatement) (own-count s c u j)
+    ∙ min-under (suc (own u s)) mostStatement (more-rows s v u) ∙ sym (wrote-own u tx (own u s) e) ∙ sym o)
     (λ e. count-other tx u (s .active) e ∙ own-count s c u j ∙ sym (wrote-other u tx (own u s) e) ∙ sym o)
   where
     wrote-own : (u tx n : ℕ) → eqb tx u ≡ true → wrote u tx n ≡ suc n

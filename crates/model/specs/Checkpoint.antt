@@ -6,7 +6,7 @@ use mathlib.Core.List.{List, [], _∷_, _++_, map}
 use lib.ListN.{length, take, drop, getD}
 use lib.Dec.{leb, ltb, eqb}
 use Rattle.basics.specs.Basics.{if_then_else_, howMany, first, isIn, from}
-use Rattle.block_forms.specs.Limits.{recordSpace, entriesPerBlock, mostNumber}
+use Rattle.block_forms.specs.Limits.{recordSpace, entriesPerBlock, mostNumber, blockSize}
 use Rattle.block_forms.specs.Tuple.{Tuple, sizes}
 use Rattle.block_forms.specs.Block.{Block, header, page, directory}
 use Rattle.block_forms.specs.declared.Header.{Header}
@@ -146,7 +146,7 @@ stepAt (running n es ds) s = stepOf (first isFrozen (s .pages)) n es ds s
 
 -- 5 image is not exactly the store's blocks long; 18 none running
 unfoldable pub badImage : ℕ → Store → Test
-badImage len s = 5 when not (eqb len (512 * s .blocks))
+badImage len s = 5 when not (eqb len (blockSize * s .blocks))
 
 -- one store
 unfoldable pub stepCall : ℕ → Store → Outcome

@@ -5,6 +5,7 @@ use mathlib.Core.Bool.{Bool, false, _&&_}
 use mathlib.Core.List.{List, [], _∷_, _++_, map}
 use lib.ListN.{length}
 use lib.Dec.{eqb}
+use Rattle.block_forms.specs.Limits.{blockSize}
 use Rattle.basics.specs.Basics.{if_then_else_, howMany, isIn}
 use Rattle.block_forms.specs.Tuple.{Tuple, AllBytes}
 use Rattle.image.specs.Stages.{holds}
@@ -59,7 +60,7 @@ pub data Cut : List ℕ → List Call → List Logged → List ℕ → List Call
   -- the next store, if there is one, is not begun; or it is a header's, is cut and leaves the old one
   stop : {img : List ℕ} {base : List Call} {ws : List Logged} → Cut img base ws img base
   -- the next store is cut and leaves any 512 bytes, and it is no header's
-  torn : {img : List ℕ} {base : List Call} {w : Logged} {ws : List Logged} → isHeader w ≡ false → (xs : List ℕ) → length xs ≡ 512 → AllBytes xs
+  torn : {img : List ℕ} {base : List Call} {w : Logged} {ws : List Logged} → isHeader w ≡ false → (xs : List ℕ) → length xs ≡ blockSize → AllBytes xs
       → Cut img base (w ∷ ws) (putBlock img (w .write .at) xs) base
   -- the next store is whole; or it is a header's, is cut and leaves the new one (and no later store is begun: `stop` follows)
   whole : {img : List ℕ} {base : List Call} {w : Logged} {ws : List Logged} {img′ : List ℕ} {base′ : List Call}

@@ -4,6 +4,7 @@ use mathlib.Core.Bool.{false, not, _||_}
 use mathlib.Core.List.{List, [], _∷_, _++_, map}
 use lib.ListN.{length, take, drop}
 use lib.Dec.{ltb}
+use Rattle.block_forms.specs.Limits.{blockSize}
 use Rattle.basics.specs.Basics.{if_then_else_, howMany, isIn}
 use Rattle.block_forms.specs.Block.{header, encodeBlock}
 use Rattle.block_forms.specs.declared.Header.{Header}
@@ -16,12 +17,12 @@ use Rattle.model.specs.Rules.{withoutPending}
 use Rattle.model.specs.Checkpoint.{headerFor}
 
 -- the memory that a store of capacity N needs
-unfoldable pub memoryFor : ℕ → ℕ
+abbrev pub memoryFor : ℕ → ℕ
 memoryFor n = 128 * n + 1024
 
 -- block b of an image exchanged
 unfoldable pub putBlock : List ℕ → ℕ → List ℕ → List ℕ
-putBlock img b xs = take (512 * b) img ++ (xs ++ drop (512 * b + 512) img)
+putBlock img b xs = take (blockSize * b) img ++ (xs ++ drop (blockSize * b + blockSize) img)
 
 -- an image after these block stores, in turn
 unfoldable pub imageAfter : List Write → List ℕ → List ℕ
@@ -41,11 +42,11 @@ make len m n =
     if not (wholeBlocks len) then refuses 1
     else if ltb n 1 || ltb capacityLimit n then refuses 2
     else if ltb m (memoryFor n) then refuses 3
-    else holds (freshStore (len / 512) n)
+    else holds (freshStore (len / blockSize) n)
 
 -- make writes block 0 only
 unfoldable pub madeImage : List ℕ → ℕ → List ℕ
-madeImage img n = putBlock img 0 (encodeBlock (header (headerFor (freshStore (length img / 512) n) 0 0 0 [])))
+madeImage img n = putBlock img 0 (encodeBlock (header (headerFor (freshStore (length img / blockSize) n) 0 0 0 [])))
 
 -- ---- recover
 

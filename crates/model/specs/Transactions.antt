@@ -6,7 +6,7 @@ use mathlib.Core.List.{List, [], _∷_, _++_, map}
 use lib.ListN.{length}
 use lib.Dec.{leb, ltb, eqb}
 use Rattle.basics.specs.Basics.{if_then_else_, any, keep, last, isEmpty, isSome, isIn}
-use Rattle.block_forms.specs.Limits.{payloadLimit, mostNumber}
+use Rattle.block_forms.specs.Limits.{payloadLimit, mostNumber, mostStatement, mostTransaction}
 use Rattle.block_forms.specs.Tuple.{Tuple, tentative}
 use Rattle.image_rows.specs.Rows.{Row, isOwn, isAt, openLimit}
 use Rattle.model.specs.State.{Held, Page, Active, Store, Answer, refused, done, filled, Outcome}
@@ -51,7 +51,7 @@ writtenBy tx (o ∷ os) = if isFor tx o then o .written else writtenBy tx os
 
 -- an open transaction that has written one tuple more. (A count has 20 bits; no transaction has more tuples than a store holds.)
 unfoldable pub oneMore : Active → Active
-oneMore o = record { transaction = o .transaction; written = min (suc (o .written)) 1048575 }
+oneMore o = record { transaction = o .transaction; written = min (suc (o .written)) mostStatement }
 
 -- transaction tx has written one tuple more
 unfoldable pub withWrite : ℕ → List Active → List Active
@@ -71,14 +71,14 @@ withOpen tx s = changed s (s .next) (s .pages) (s .active ++ record { transactio
 -- 6 transaction above 4,095; 8 already open; 9 when 64 are open
 unfoldable pub openCall : ℕ → Store → Outcome
 openCall tx s =
-    unless (6 when ltb 4095 tx ∷ 8 when isIn tx (openNumbers (s .active)) ∷ 9 when leb openLimit (length (s .active)) ∷ []) s
+    unless (6 when ltb mostTransaction tx ∷ 8 when isIn tx (openNumbers (s .active)) ∷ 9 when leb openLimit (length (s .active)) ∷ []) s
     (gives done (withOpen tx s))
 
 -- ---- insert, replace, delete
 
 -- 6 transaction above 4,095; 7 not open
 unfoldable pub notOpen : ℕ → Store → List Test
-notOpen tx s = 6 when ltb 4095 tx ∷ 7 when not (isIn tx (openNumbers (s .active))) ∷ []
+notOpen tx s = 6 when ltb mostTransaction tx ∷ 7 when not (isIn tx (openNumbers (s .active))) ∷ []
 
 -- 10 table above 7
 unfoldable pub noTable : ℕ → Test

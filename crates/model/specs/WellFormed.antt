@@ -7,7 +7,7 @@ use mathlib.Core.List.{List, [], _∷_, _++_, map}
 use lib.ListN.{length}
 use lib.Dec.{leb, ltb, eqb}
 use Rattle.basics.specs.Basics.{if_then_else_, any, all, every, paired, howMany, isEmpty, isIn, distinct}
-use Rattle.block_forms.specs.Limits.{recordSpace, mostNumber}
+use Rattle.block_forms.specs.Limits.{recordSpace, mostNumber, blockLimit, mostTransaction}
 use Rattle.block_forms.specs.Tuple.{Owner, committed, tentative, AllFit, sizes}
 use Rattle.image_rows.specs.Rows.{Row, number, isOwn, isAt, isLower, isBelow, rowsOk, openLimit}
 use Rattle.image.specs.Stages.{holds, capacityLimit, directoriesFor, isZero}
@@ -57,7 +57,7 @@ ownerIn os (tentative tx s) = isIn tx os
 
 -- at most 64, each once, each 0 to 4,095
 unfoldable pub openOk : List ℕ → Bool
-openOk os = every (leb (length os) openLimit ∷ distinct os ∷ all (λ tx. leb tx 4095) os ∷ [])
+openOk os = every (leb (length os) openLimit ∷ distinct os ∷ all (λ tx. leb tx mostTransaction) os ∷ [])
 
 -- ---- a running checkpoint: n the next number at begin, es the entries, ds the directory blocks written
 
@@ -89,7 +89,7 @@ CheckpointWell (running n es ds) s = RunningWell n es ds s
 
 -- what holds of every store that calls lead to
 pub record WellFormed (s : Store) : Type 0 where
-  pub blocks : (2 ≤ s .blocks) × (s .blocks ≤ 4096)
+  pub blocks : (2 ≤ s .blocks) × (s .blocks ≤ blockLimit)
   pub capacity : (1 ≤ s .capacity) × (s .capacity ≤ capacityLimit)
   pub level : s .level ≤ mostNumber
   pub next : s .next ≤ mostNumber

@@ -7,6 +7,13 @@ use replay_script::Extent;
 use replay_script::Target;
 ghost use Prim.Native.Nat.{_<_};
 
+// Room for an answer, a script and an image.
+const REPLY_SIZE: usize = 4096;
+
+const SCRIPT_SIZE: usize = 1048576;
+
+const IMAGE_SIZE: usize = (block_forms::BLOCK_LIMIT + 1) * block_forms::BLOCK_SIZE;
+
 // How many bytes of the image and of the memory are lent to a call: those of the last accepted make or recovery.
 struct Lent {
     image: u64,
@@ -89,7 +96,7 @@ fn say_marked(marks: &[u8]) {
 
 // A listing may come in any order; it is printed rising.
 fn say_listing(reply: &[u8], n: usize) {
-    let mut marks = [0u8; 4096];
+    let mut marks = [0u8; block_forms::TRANSACTIONS];
     mark_all(&mut marks, reply, n);
     replay_script::say_number(n as u64);
     say_marked(&marks);
@@ -209,7 +216,7 @@ fn delete(m: &mut [u8], t: Target) {
 }
 
 fn read(m: &[u8], t: Target, room: u64) {
-    let mut reply = [0u8; 4096];
+    let mut reply = [0u8; REPLY_SIZE];
     let a = store::read(m, t.transaction, t.table, t.key, lend(&mut reply, room));
     match a {
         Answer::Filled(len) => say_payload(&reply, len),
@@ -218,7 +225,7 @@ fn read(m: &[u8], t: Target, room: u64) {
 }
 
 fn list(m: &[u8], room: u64) {
-    let mut reply = [0u8; 4096];
+    let mut reply = [0u8; REPLY_SIZE];
     let a = store::list(m, lend(&mut reply, room));
     match a {
         Answer::Filled(count) => say_listing(&reply, count),
@@ -305,10 +312,10 @@ fn replay_input(text: &mut [u8], image: &mut [u8], memory: &mut [u8]) {
     replay_all(&text[..n], image, memory);
 }
 
-// Room for a script of 1 MiB, an image of one block more than a store may have, and one memory for the largest store.
+// Room for a script, an image of one block more than a store may have, and one memory for the largest store.
 fn main() {
-    let mut text = [0u8; 1048576];
-    let mut image = [0u8; 2097664];
+    let mut text = [0u8; SCRIPT_SIZE];
+    let mut image = [0u8; IMAGE_SIZE];
     let mut memory = [0u8; 135168];
     replay_input(&mut text, &mut image, &mut memory);
 }

@@ -1,4 +1,5 @@
 -- A call that does what its contract says follows the rules: in memory and image.
+use Rattle.block_forms.specs.Limits.{blockSize}
 use Rattle.basics.proofs.Kit.{_≡_, refl, sym, ap, _∙_, false, some, List, [], ℕ, _*_, eqb, length}
 use Rattle.basics.specs.Basics.{if_then_else_}
 use Rattle.basics.proofs.Facts.{by}
@@ -42,9 +43,9 @@ unfolding imageAfter
 still ws img e = rw e refl
 
 -- lent something else, a step is refused
-module _ (len : ℕ) (img : List ℕ) (s : Store) (e : length img ≡ 512 * s .blocks) (h : len ≡ length img → ⊥) where
-  other : eqb len (512 * s .blocks) ≡ false
-  other = by (eqb len (512 * s .blocks)) (λ q. absurd (h (eqb-true len (512 * s .blocks) q ∙ sym e))) (λ q. q)
+module _ (len : ℕ) (img : List ℕ) (s : Store) (e : length img ≡ blockSize * s .blocks) (h : len ≡ length img → ⊥) where
+  other : eqb len (blockSize * s .blocks) ≡ false
+  other = by (eqb len (blockSize * s .blocks)) (λ q. absurd (h (eqb-true len (blockSize * s .blocks) q ∙ sym e))) (λ q. q)
 
   bad-step : call (steps len) s .writes ≡ []
   unfolding call stepCall badImage unless if_then_else_ gives
@@ -60,7 +61,7 @@ module _ (s : Store) (img m : List ℕ) (e : storeIn m ≡ some s) where
       → (storeIn m′ ≡ some (call c s .store)) × (img ≡ imageAfter (call c s .writes) img)
   without-stores c m′ h k = (k, still (call c s .writes) img (call-leaves c s .image h))
 
-  pub does : (c : Call) (img′ m′ : List ℕ) → length img ≡ 512 * s .blocks → Executes c img m img′ m′
+  pub does : (c : Call) (img′ m′ : List ℕ) → length img ≡ blockSize * s .blocks → Executes c img m img′ m′
       → (storeIn m′ ≡ some (call c s .store)) × (img′ ≡ imageAfter (call c s .writes) img)
   unfolding call isStep effect
   does c img′ m′ l (transacting {c = d} r h ty a) = without-stores (transacts d) m′ refl (answered (transacts d) s m e r m′ a)

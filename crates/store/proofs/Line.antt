@@ -1,4 +1,5 @@
 -- The quoted line over the contracts: a run's memory and image are those of the rules' own run, of which the model's line speaks.
+use Rattle.block_forms.specs.Limits.{blockSize}
 use Rattle.basics.proofs.Kit.{_≡_, refl, sym, ap, _∙_, subst, _&&_, some, List, [], _∷_, _++_, map, ℕ, _*_, length, arith}
 use Rattle.basics.specs.Basics.{if_then_else_}
 use Rattle.basics.proofs.Facts.{AllOf}
@@ -34,8 +35,8 @@ unfolding imageAfter tag
 after-append b [] ls img = refl
 after-append b (w ∷ ws) ls img = after-append b ws ls _
 
-long-after : (n : ℕ) (b : List Call) (ws : List Write) (img : List ℕ) → length img ≡ 512 * n → AllOf (WriteOk n) (map (tag b) ws)
-    → length (imageAfter ws img) ≡ 512 * n
+long-after : (n : ℕ) (b : List Call) (ws : List Write) (img : List ℕ) → length img ≡ blockSize * n → AllOf (WriteOk n) (map (tag b) ws)
+    → length (imageAfter ws img) ≡ blockSize * n
 unfolding imageAfter tag imageWith
 long-after n b [] img e ok = e
 long-after n b (w ∷ ws) img e ok = long-after n b ws _ (length-after n img (tag b w) e (ok .0)) (ok .1)
@@ -43,7 +44,7 @@ long-after n b (w ∷ ws) img e ok = long-after n b ws _ (length-after n img (ta
 -- ---- a run
 
 follows : (n : ℕ) (past base : List Call) (s : Store) (cs : List Call) (img m img′ m′ : List ℕ) → ExecutesAll cs img m img′ m′ → storeIn m ≡ some s
-    → s .blocks ≡ n → length img ≡ 512 * n → AllOf (WriteOk n) (log past base s cs)
+    → s .blocks ≡ n → length img ≡ blockSize * n → AllOf (WriteOk n) (log past base s cs)
     → (storeIn m′ ≡ some (afterCalls cs s)) × (img′ ≡ imageAfter (writesIn (log past base s cs)) img)
 unfolding afterCalls log imageAfter
 follows n past base s [] img m img′ m′ ends e b l ok = (e, refl)
@@ -51,9 +52,9 @@ follows n past base s (c ∷ cs) img m img′ m′ (next {img₁ = img₁} {m₁
     let o = call c s in
     let base′ = if isBegin c && accepted (o .answer) then past else base in
     let rest = log (past ++ c ∷ []) base′ (o .store) cs in
-    let k = does s img m e c img₁ m₁ (l ∙ ap (λ (z : ℕ). 512 * z) (sym b)) d in
+    let k = does s img m e c img₁ m₁ (l ∙ ap (λ (z : ℕ). blockSize * z) (sym b)) d in
     let parts = all-parts (WriteOk n) (map (tag base′) (o .writes)) rest ok in
-    let l₁ : length img₁ ≡ 512 * n = ap length (k .1) ∙ long-after n base′ (o .writes) img l (parts .0) in
+    let l₁ : length img₁ ≡ blockSize * n = ap length (k .1) ∙ long-after n base′ (o .writes) img l (parts .0) in
     let t = follows n (past ++ c ∷ []) base′ (o .store) cs img₁ m₁ img′ m′ rs (k .0) (call-leaves c s .blocks ∙ b) l₁ (parts .1) in
     (t .0, t .1 ∙ ap (imageAfter (writesIn rest)) (k .1) ∙ sym (after-append base′ (o .writes) rest img))
 

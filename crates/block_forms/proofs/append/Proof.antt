@@ -7,6 +7,7 @@ use Rattle.basics.proofs.Overs.{length-part}
 use Rattle.block_forms.proofs.Built.{appends}
 use Rattle.block_forms.proofs.append.Statement.{statement}
 use Rattle.block_forms.proofs.append.Tie as tie
+use Rattle.block_forms.specs.Limits.{blockSize}
 
 put4-requires : tie.Need-put4-requires
 put4-requires c κs = let s = c .before .before in omega (arith, size-nine (s .args .r), s .pre .room, c .put4-arg)
@@ -53,7 +54,7 @@ returns c = let z = c .before .before .record-size .ensures in
     let g = size-committed r o in
     let P : List ℕ = payloadIn (s .args .from .now) r in
     let l : length P ≡ r .len = length-part (r .len) (r .start) (s .args .from .now) (s .pre .inside) in
-    let k : length (s .args .block .now) ≡ 512 = omega (arith, p10 .before .put4-arg) in
+    let k : length (s .args .block .now) ≡ blockSize = omega (arith, p10 .before .put4-arg) in
     let number = p5 .before .before .before .put42 .ensures in
     appends (s .pre) (omega arith)
     (appended-committed (s .args .block .now) P (s .args .at) r l (p10 .put4 .ensures) number (p5 .before .flags-of .ensures) (p5 .put1 .ensures) o (omega arith) (c .copy .ensures) (omega arith))
@@ -69,7 +70,7 @@ returns-2 c = let z = c .before .before .record-size2 .ensures in
     let g = size-tentative r o in
     let P : List ℕ = payloadIn (s .args .from .now) r in
     let l : length P ≡ r .len = length-part (r .len) (r .start) (s .args .from .now) (s .pre .inside) in
-    let k : length (s .args .block .now) ≡ 512 = omega (arith, p13 .before .put4-arg) in
+    let k : length (s .args .block .now) ≡ blockSize = omega (arith, p13 .before .put4-arg) in
     let number = p8 .before .before .before .put42 .ensures in
     appends (s .pre) (omega arith)
     (appended-tentative (s .args .block .now) P (s .args .at) r l (p13 .put4 .ensures) number (p8 .before .flags-of .ensures) (p8 .put1 .ensures)

@@ -1,7 +1,7 @@
 -- `block_forms::spell_directory` meets its contract. The invariant: the block's bits are those of the head and the first i entries, then zeros (`dirBits`).
 use Rattle.basics.proofs.Kit.{_≡_, ap, ℕ, _≤_, _<_, _-_, length, take, getD, arith}
 use Rattle.block_bits.specs.Bits.{bitsIn}
-use Rattle.block_forms.specs.Limits.{entriesPerBlock}
+use Rattle.block_forms.specs.Limits.{entriesPerBlock, blockSize}
 use Rattle.block_forms.specs.Spell.{padded}
 use Rattle.block_forms.proofs.Entries.{dirBits, head-filled, entry-filled, dir-done}
 use Rattle.block_forms.proofs.spell_directory.Statement.{statement}
@@ -9,7 +9,7 @@ use Rattle.block_forms.proofs.spell_directory.Tie as tie
 
 abbrev Inv-loop : tie.InvT-loop
 Inv-loop block₀ level entries count i₀ block i =
-    (i ≤ count) × ((length block ≡ 512) × (((j : ℕ) → getD block j 0 < 256) × (bitsIn block ≡ padded (dirBits level count (take i entries)))))
+    (i ≤ count) × ((length block ≡ blockSize) × (((j : ℕ) → getD block j 0 < 256) × (bitsIn block ≡ padded (dirBits level count (take i entries)))))
 
 abbrev μ-loop : tie.MeasureT-loop
 μ-loop block₀ level entries count i₀ block i = count - i

@@ -1,4 +1,5 @@
 -- `block_reader::read_page` meets its contract. The invariant: the page is built again from the records read so far (`Again`); at the end the two blocks are compared.
+use Rattle.block_forms.specs.Limits.{blockSize}
 use Rattle.basics.proofs.Kit.{_≡_, refl, sym, ap, _∙_, List, ℕ, _-_, length, arith}
 use Rattle.block_forms.specs.Block.{Block, page, encodeBlock}
 use Rattle.block_forms.specs.Tuple.{AllBytes}
@@ -12,7 +13,7 @@ use Rattle.block_reader.proofs.read_page.Statement.{statement}
 use Rattle.block_reader.proofs.read_page.Tie as tie
 
 abbrev Inv-loop : tie.InvT-loop
-Inv-loop block table count bytes level copy₀ at₀ i₀ copy at i = (length copy ≡ 512) × Again block copy table level count bytes at i
+Inv-loop block table count bytes level copy₀ at₀ i₀ copy at i = (length copy ≡ blockSize) × Again block copy table level count bytes at i
 
 abbrev μ-loop : tie.MeasureT-loop
 μ-loop block table count bytes level copy₀ at₀ i₀ copy at i = count - i
@@ -23,7 +24,7 @@ abbrev μ-loop : tie.MeasureT-loop
 abbrev block : tie.At-loop Inv-loop μ-loop → List ℕ
 block p = p .before .before .before .before .before .before .before .before .args .block .now
 
-whole : (p : tie.At-loop Inv-loop μ-loop) → length (block p) ≡ 512
+whole : (p : tie.At-loop Inv-loop μ-loop) → length (block p) ≡ blockSize
 whole p = p .before .before .before .before .before .before .before .before .pre
 
 bytes : (p : tie.At-loop Inv-loop μ-loop) → AllBytes (block p)

@@ -1,4 +1,5 @@
 -- `block_reader::same_block` meets its contract. The invariant: the blocks are equal if the bytes passed are and those left are.
+use Rattle.block_forms.specs.Limits.{blockSize}
 use Rattle.basics.proofs.Kit.{_≡_, refl, _&&_, _≤_, _-_, drop, arith}
 use Rattle.block_forms.specs.Numbers.{same}
 use Rattle.block_reader.proofs.Same.{same-turn, same-end}
@@ -6,10 +7,10 @@ use Rattle.block_reader.proofs.same_block.Statement.{statement}
 use Rattle.block_reader.proofs.same_block.Tie as tie
 
 abbrev Inv-loop : tie.InvT-loop
-Inv-loop a b ok₀ i₀ ok i = (i ≤ 512) × (same a b ≡ (ok && same (drop i a) (drop i b)))
+Inv-loop a b ok₀ i₀ ok i = (i ≤ blockSize) × (same a b ≡ (ok && same (drop i a) (drop i b)))
 
 abbrev μ-loop : tie.MeasureT-loop
-μ-loop a b ok₀ i₀ ok i = 512 - i
+μ-loop a b ok₀ i₀ ok i = blockSize - i
 
 loop-again : tie.Need-loop-again Inv-loop μ-loop
 loop-again c = let s = c .before .before .before .before in

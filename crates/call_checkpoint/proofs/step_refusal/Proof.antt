@@ -1,4 +1,5 @@
 -- `call_checkpoint::step_refusal` meets its contract: each test of the code is the model's test of that number.
+use Rattle.block_forms.specs.Limits.{blockSize}
 use Rattle.basics.proofs.Kit.{_≡_, sym, ap, _∙_, true, List, ℕ, _*_, not-true, not-false, needs}
 use Rattle.memory_layout.specs.declared.Head.{Head}
 use Rattle.memory_layout.specs.Flat.{flatOf}
@@ -22,8 +23,8 @@ has-store c = sym (c .before .holds-store .ensures) ∙ not-false _ (c .if1 .lef
 abbrev holds : tie.Else2 → tie.Else1
 holds c = c .before .before .before
 
-long : (c : tie.Else2) → began (holds c) .args .len ≡ 512 * flatOf (memory (holds c)) .head .blocks
-long c = c .if2 .left ∙ ap (λ (h : Head). 512 * h .blocks) (c .before .before .get-head .ensures)
+long : (c : tie.Else2) → began (holds c) .args .len ≡ blockSize * flatOf (memory (holds c)) .head .blocks
+long c = c .if2 .left ∙ ap (λ (h : Head). blockSize * h .blocks) (c .before .before .get-head .ensures)
 
 returns : tie.Need-returns
 returns c = let a = c .before .before .before .args in refusal-4 (a .len) (a .m .now) (sym (c .before .holds-store .ensures) ∙ not-true _ (c .if1 .taken))
@@ -34,7 +35,7 @@ get-head-requires c κs = sizes (holds-room _ (has-store c)) .long
 returns-2 : tie.Need-returns-2
 returns-2 c =
     let e = c .before .before .before in
-    refusal-5 (began e .args .len) (memory e) (has-store e) (λ q. c .if2 .taken (q ∙ ap (λ (h : Head). 512 * h .blocks) (sym (c .before .before .get-head .ensures))))
+    refusal-5 (began e .args .len) (memory e) (has-store e) (λ q. c .if2 .taken (q ∙ ap (λ (h : Head). blockSize * h .blocks) (sym (c .before .before .get-head .ensures))))
 
 is-running-requires : tie.Need-is-running-requires
 is-running-requires c κs = sizes (holds-room _ (has-store (holds c))) .long

@@ -1,4 +1,5 @@
 -- `call_checkpoint::store_header` meets its contract: the part of the image that is lent is block 0 (`front-is`), and image and store are the model's (`header-does`).
+use Rattle.block_forms.specs.Limits.{blockSize}
 use Rattle.basics.proofs.Kit.{length-take, needs, arith}
 use Rattle.memory_layout.proofs.Laws.{holds-room}
 use Rattle.call_checkpoint.proofs.Allotting.{none-left}
@@ -16,7 +17,7 @@ write-header-requires c κs =
     let st = c .before .before .before .before in
     let p = st .pre .ready in
     let r = holds-room _ (p .runs .has-store) in
-    (r, record { level = running-is _ (p .runs .on) .1; size = omega (arith, p .long, sizes r, length-take 512 (st .args .image .now)) })
+    (r, record { level = running-is _ (p .runs .on) .1; size = omega (arith, p .long, sizes r, length-take blockSize (st .args .image .now)) })
 
 returns : tie.Need-returns
 returns c =

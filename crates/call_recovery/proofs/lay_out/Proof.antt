@@ -1,4 +1,5 @@
 -- `call_recovery::lay_out` meets its contract: one part after the other is laid out and leaves the parts before it; together they are the recovered store (`laid-out`).
+use Rattle.block_forms.specs.Limits.{blockLimit}
 use Rattle.call_recovery.proofs.Laying.{pages-room, order-none, marked, owners-room, opens-room, head-fits, laid-out}
 use Rattle.call_recovery.proofs.Tested.{Sure, sure}
 use Rattle.call_recovery.proofs.Naming.{named-more}
@@ -63,7 +64,7 @@ mark-blocks-requires : tie.Need-mark-blocks-requires
 mark-blocks-requires c κs =
     let p3 = c .before .before .before in let p9 = p3 .before .before .before .before .before .before in
     let k = known p9 in
-    (named-more _ 4096 _ (k .whole .many) (k .named), p3 .load-pages .ensures .becomes .room)
+    (named-more _ blockLimit _ (k .whole .many) (k .named), p3 .load-pages .ensures .becomes .room)
 
 array-share-prefix-directories : tie.Need-array-share-prefix-directories
 array-share-prefix-directories c =
@@ -79,7 +80,7 @@ mark-blocks-requires-2 : tie.Need-mark-blocks-requires-2
 mark-blocks-requires-2 c κs =
     let p4 = c .before .before .before .before in let p14 = p4 .before .before .before .before .before .before .before .before .before .before in
     let k = known p14 in
-    (ap (all (blockOk 4096)) (in-directory p14) ∙ named-more _ 4096 _ (k .whole .many) (k .whole .passed .directories), p4 .mark-blocks .ensures .room)
+    (ap (all (blockOk blockLimit)) (in-directory p14) ∙ named-more _ blockLimit _ (k .whole .many) (k .whole .passed .directories), p4 .mark-blocks .ensures .room)
 
 reopen-requires : tie.Need-reopen-requires
 reopen-requires c κs =

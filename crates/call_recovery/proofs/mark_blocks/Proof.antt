@@ -1,4 +1,5 @@
 -- `call_recovery::mark_blocks` meets its contract. The invariant: the first i blocks are in use, and all others as at entry (`Marked`).
+use Rattle.block_forms.specs.Limits.{blockLimit}
 use Rattle.call_recovery.proofs.Naming.{named-below, Marked, marking-start, marking-turn, marking-end}
 use Rattle.basics.proofs.Kit.{_≤_, _<_, _-_, length, take, arith}
 use Rattle.call_recovery.proofs.mark_blocks.Statement.{statement}
@@ -19,7 +20,7 @@ mark-used-requires c κs =
     let bs = p7 .args .bs .now in
     let l = p4 .loop in
     let h : l .i < length bs = omega (arith, p3 .loop-test) in
-    (l .inv .1 .room, omega (arith, named-below 4096 bs (l .i) (p7 .pre .0) h, c .wide .ensures))
+    (l .inv .1 .room, omega (arith, named-below blockLimit bs (l .i) (p7 .pre .0) h, c .wide .ensures))
 
 loop-again : tie.Need-loop-again Inv-loop μ-loop
 loop-again c =

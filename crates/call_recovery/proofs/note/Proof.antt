@@ -1,4 +1,5 @@
 -- `call_recovery::note` meets its contract: a tentative owner's transaction has one tuple more, a committed owner changes nothing (`noted-by`).
+use Rattle.block_forms.specs.Limits.{transactionLimit}
 use Rattle.call_recovery.proofs.Owning.{noted-by}
 use Rattle.call_recovery.specs.Reopening.{noted}
 use Rattle.block_forms.specs.Bytes.{ownerIs}
@@ -9,7 +10,7 @@ use Rattle.call_recovery.proofs.note.Statement.{statement}
 use Rattle.call_recovery.proofs.note.Tie as tie
 
 -- the transaction is one that there may be
-small : (c : tie.After-wide) → c .wide .result < 4096
+small : (c : tie.After-wide) → c .wide .result < transactionLimit
 small c =
     let p2 = c .before .before in let p5 = p2 .before .before .before in
     omega (arith, c .wide .ensures, subst (λ (o : Owner). OwnerFits (ownerIs o)) (p2 .o .given .1) (p5 .pre .1))

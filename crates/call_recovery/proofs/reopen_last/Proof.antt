@@ -1,4 +1,5 @@
 -- `call_recovery::reopen_last` meets its contract: a transaction is opened at its last row, and at no other (`opened-last`, `opened-other`).
+use Rattle.block_forms.specs.Limits.{transactionLimit}
 use Rattle.call_recovery.proofs.Owning.{opened-settled, opened-other, opened-last, opens-none, opens-one}
 use Rattle.block_forms.specs.Bytes.{ownerIs}
 use Rattle.block_forms.specs.declared.Owner.{Owner}
@@ -8,7 +9,7 @@ use Rattle.call_recovery.proofs.reopen_last.Statement.{statement}
 use Rattle.call_recovery.proofs.reopen_last.Tie as tie
 
 -- the transaction is one that there may be
-small : (c : tie.After-wide) → c .wide .result < 4096
+small : (c : tie.After-wide) → c .wide .result < transactionLimit
 small c =
     let p2 = c .before .before in let p7 = p2 .before .before .before .before .before in
     omega (arith, c .wide .ensures, subst (λ (o : Owner). OwnerFits (ownerIs o)) (p2 .o .given .1) (p7 .pre .owner))

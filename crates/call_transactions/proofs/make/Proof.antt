@@ -1,4 +1,5 @@
 -- `call_transactions::make` meets its contract: refused as `make_refusal` says, or header and memory are those of a fresh store (`made-done`).
+use Rattle.block_forms.specs.Limits.{blockSize}
 use Rattle.basics.proofs.Kit.{refl, ℕ, _/_, length, needs, arith}
 use Rattle.model.specs.Recover.{freshStore}
 use Rattle.call_transactions.proofs.Making.{Fits, made-refused, made-done, make-refused, make-fits, make-accepts, image-made}
@@ -31,7 +32,7 @@ fresh-requires c κs = fits (c .before .before .before .before .before) .room
 
 returns-2 : tie.Need-returns-2
 returns-2 c = let b6 = c .before .before .before .before .before .before in let passed = b6 .before .before in let a = began passed .args in
-    let b : ℕ = length (a .image .now) / 512 in
+    let b : ℕ = length (a .image .now) / blockSize in
     let f = c .before .before .fresh .ensures in
     made-done (a .capacity) (a .image .now) (a .m .now) (freshStore b (a .capacity)) _ _ (make-accepts (fits passed))
     (image-made (a .image .now) _ b (a .capacity) _ refl refl (b6 .write-header .ensures)) (record { size = f .0 .size; store = f .1 })

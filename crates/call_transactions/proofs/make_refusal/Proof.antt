@@ -1,4 +1,5 @@
 -- `call_transactions::make_refusal` meets its contract: one case for each way in which image, capacity or memory does not fit, and one for none.
+use Rattle.block_forms.specs.Limits.{blockSize}
 use Rattle.basics.proofs.Kit.{_/_, needs, arith}
 use Rattle.memory_layout.specs.Store.{FreshFits}
 use Rattle.call_transactions.proofs.Making.{make-odd, make-few, make-many, make-none, make-large, make-short, refusal-given, refusal-zero}
@@ -29,7 +30,7 @@ returns-6 c = let b3 = c .before .before .before in let a = b3 .before .before .
 
 returns-7 : tie.Need-returns-7
 returns-7 c = let b3 = c .before .before .before in let a = b3 .before .before .before .args in
-    let r : FreshFits (a .room) (a .len / 512) (a .capacity) = record {
+    let r : FreshFits (a .room) (a .len / blockSize) (a .capacity) = record {
       least = c .before .before .if4 .left;
       most = omega (arith, c .before .if5 .left);
       long = c .if6 .left;

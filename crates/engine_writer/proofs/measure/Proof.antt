@@ -1,4 +1,5 @@
 -- `engine_writer::measure` meets its contract. The invariant (`Measured`): count and size are those of what the rows before row i show.
+use Rattle.image.specs.Stages.{capacityLimit}
 use Rattle.basics.proofs.Kit.{_≡_, sym, _∙_, ⊎-elim, _+_, _≤_, _<_, _-_, length, not-true, not-false, arith}
 use Rattle.model.specs.Rules.{heldSize, shown}
 use Rattle.memory_layout.specs.Flat.{flatOf}
@@ -18,7 +19,7 @@ loop-holds : tie.Need-loop-holds Inv-loop μ-loop
 loop-holds c = let s = c .before in (omega arith, (s .pre .order, measured-none (shown-none (flatOf (s .args .m .now) .rows) (s .args .s))))
 
 -- a row is passed, and there are few
-row : (c : tie.In-loop Inv-loop μ-loop) → let l = c .before .loop in let a = c .before .before .before .args in (l .i < length (flatOf (a .m .now) .rows)) × (l .i < 1024)
+row : (c : tie.In-loop Inv-loop μ-loop) → let l = c .before .loop in let a = c .before .before .before .args in (l .i < length (flatOf (a .m .now) .rows)) × (l .i < capacityLimit)
 row c = let s = c .before .before .before in
     let k : Known (s .args .m .now) = known (s .args .m .now) (s .pre .room) in
     (omega (arith, s .pre .inside, c .loop-test .taken), omega (arith, s .pre .inside, c .loop-test .taken))

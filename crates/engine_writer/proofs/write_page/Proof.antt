@@ -1,6 +1,6 @@
 -- `engine_writer::write_page` meets its contract: a page that shows nothing is empty (`storable-none`), another holds all that it shows (`storable-all`).
 use Rattle.basics.proofs.Kit.{_≡_, refl, sym, ap, _∙_, ⊎-elim, List, ℕ, length, leb-true, needs, arith}
-use Rattle.block_forms.specs.Limits.{recordSpace}
+use Rattle.block_forms.specs.Limits.{recordSpace, blockSize}
 use Rattle.block_forms.specs.Tuple.{Tuple}
 use Rattle.block_forms.specs.Block.{page, encodeBlock}
 use Rattle.block_forms.proofs.Laws.{encode-length}
@@ -31,7 +31,7 @@ made c = let f = c .before in let g = f .before in let s = g .before .before .be
     (λ a. a .3 ∙ a .2 .ensures ∙ empty-page (s .pre .table) (omega (arith, s .fits)) ∙ ap store (sym (storable-none (g .measure .ensures) (sym (f .fits2 .ensures) ∙ a .0 .left))))
     (c .if1 .came)
 
-whole : (c : tie.Joined1) → length (c .if1 .block) ≡ 512
+whole : (c : tie.Joined1) → length (c .if1 .block) ≡ blockSize
 whole c = ap length (made c) ∙ encode-length _
 
 slice-aggregate-copy-out : tie.Need-slice-aggregate-copy-out

@@ -1,6 +1,6 @@
 -- `image_page::add_rows` meets its contract. The invariant: `at` is behind the first i tuples, and their rows are in the columns from place k on.
 use Rattle.basics.proofs.Kit.{_≡_, refl, sym, _∙_, some, List, _++_, map, ℕ, _+_, _≤_, _<_, _-_, length, take, drop, arith}
-use Rattle.block_forms.specs.Limits.{pageHeadSize}
+use Rattle.block_forms.specs.Limits.{pageHeadSize, blockSize}
 use Rattle.block_reader.proofs.Walk.{Walk, read-count, walk-read, walk-found, walk-bad, walk-end}
 use Rattle.image_page.proofs.Walk.{row-first, row-next, row-last}
 use Rattle.image_rows.specs.Columns.{rowsIn, bare}
@@ -15,7 +15,7 @@ use Rattle.image_page.proofs.add_rows.Tie as tie
 
 abbrev Inv-loop : tie.InvT-loop
 Inv-loop block table count places₀ numbers₀ owners₀ marks₀ k at₀ i₀ to₀ places numbers owners marks at i to = (i ≤ count) ×
-    ((at ≤ 512) × ((to ≡ k + i) × (((length places ≡ length places₀) ×
+    ((at ≤ blockSize) × ((to ≡ k + i) × (((length places ≡ length places₀) ×
     ((length numbers ≡ length numbers₀) × ((length owners ≡ length owners₀) × (length marks ≡ length marks₀))))
     × ((ts : List Tuple) → pageTuples count block ≡ some ts → Walk block ts at i ×
     (rowsIn places numbers owners marks to ≡ rowsIn places₀ numbers₀ owners₀ marks₀ k ++ map bare (rowsOf table (take i ts)))))))

@@ -7,12 +7,12 @@ use Rattle.block_reader.proofs.Records.{found-is}
 use Rattle.block_forms.specs.Decode.{pageTuples}
 use Rattle.block_forms.specs.Tuple.{Tuple}
 use Rattle.basics.specs.Basics.{all}
-use Rattle.block_forms.specs.Limits.{pageHeadSize}
+use Rattle.block_forms.specs.Limits.{pageHeadSize, blockSize}
 use Rattle.image_page.proofs.marks_ok.Statement.{statement}
 use Rattle.image_page.proofs.marks_ok.Tie as tie
 
 abbrev Inv-loop : tie.InvT-loop
-Inv-loop block count at₀ i₀ at i = (i ≤ count) × ((at ≤ 512) ×
+Inv-loop block count at₀ i₀ at i = (i ≤ count) × ((at ≤ blockSize) ×
     ((t : ℕ) (ts : List Tuple) → pageTuples count block ≡ some ts → Walk block ts at i × (all markOk (rowsOf t ts) ≡ all markOk (rowsOf t (drop i ts)))))
 
 abbrev μ-loop : tie.MeasureT-loop

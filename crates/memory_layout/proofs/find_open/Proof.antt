@@ -2,7 +2,7 @@
 use Rattle.basics.proofs.Kit.{_≡_, sym, ap, _∙_, List, ℕ, _+_, _≤_, _-_, zero-add, arith}
 use Rattle.memory_bytes.specs.Bytes.{le4}
 use Rattle.basics.specs.Lists.{tab}
-use Rattle.memory_layout.specs.Views.{openAt}
+use Rattle.memory_layout.specs.Views.{openAt, openCount}
 use Rattle.memory_layout.specs.Flat.{opensOf}
 use Rattle.memory_layout.specs.Opens.{findOpen}
 use Rattle.memory_layout.proofs.Laws.{known}
@@ -11,7 +11,7 @@ use Rattle.memory_layout.proofs.find_open.Statement.{statement}
 use Rattle.memory_layout.proofs.find_open.Tie as tie
 
 abbrev Inv-loop : tie.InvT-loop
-Inv-loop m transaction n i₀ i = (n ≡ le4 m 36) × ((i ≤ n) × (findOpen transaction (opensOf m) ≡ i + findOpen transaction (tab (openAt m) i (n - i))))
+Inv-loop m transaction n i₀ i = (n ≡ openCount m) × ((i ≤ n) × (findOpen transaction (opensOf m) ≡ i + findOpen transaction (tab (openAt m) i (n - i))))
 
 abbrev μ-loop : tie.MeasureT-loop
 μ-loop m transaction n i₀ i = n - i
@@ -23,7 +23,7 @@ loop-holds : tie.Need-loop-holds Inv-loop μ-loop
 unfolding opensOf
 loop-holds c = let m : List ℕ = c .before .before .args .m .now in
     let tx : ℕ = c .before .before .args .transaction in
-    let e : le4 m 36 ≡ c .get4 .result - 0 = omega (arith, c .get4 .ensures) in
+    let e : openCount m ≡ c .get4 .result - 0 = omega (arith, c .get4 .ensures) in
     (c .get4 .ensures, (omega arith, ap (λ (z : ℕ). findOpen tx (tab (openAt m) 0 z)) e ∙ sym (zero-add _)))
 
 mul-get4 : tie.Need-mul-get4 Inv-loop μ-loop

@@ -4,15 +4,16 @@ use Rattle.memory_bytes.specs.Bytes.{Apart}
 use Rattle.memory_layout.proofs.Blank.{names-start, names-turn}
 use Rattle.memory_layout.proofs.name_slots.Statement.{statement}
 use Rattle.memory_layout.proofs.name_slots.Tie as tie
+use Rattle.memory_layout.specs.Places.{refsAt}
 
 abbrev Inv-loop : tie.InvT-loop
-Inv-loop m₀ n i₀ m i = (i ≤ n) × Apart m₀ m (1024 + n * 76) (i * 2)
+Inv-loop m₀ n i₀ m i = (i ≤ n) × Apart m₀ m (refsAt n) (i * 2)
 
 abbrev μ-loop : tie.MeasureT-loop
 μ-loop m₀ n i₀ m i = n - i
 
 loop-holds : tie.Need-loop-holds Inv-loop μ-loop
-loop-holds c = (omega arith, names-start (c .before .args .m .now) (1024 + c .before .args .n * 76))
+loop-holds c = (omega arith, names-start (c .before .args .m .now) (refsAt (c .before .args .n)))
 
 put2-requires : tie.Need-put2-requires Inv-loop μ-loop
 put2-requires c κs = omega (arith, c .before .before .loop .inv .1 .size)

@@ -1,4 +1,5 @@
 -- `memory_rows::append_row` meets its contract: the row is inserted behind all others (`appended`), and each is in the slot of its own index (`in-order`).
+use Rattle.memory_bytes.specs.Columns.{slotLimit}
 use Rattle.memory_rows.proofs.Appending.{appended, in-order}
 use Rattle.memory_layout.specs.Views.{headOf}
 use Rattle.basics.proofs.Kit.{ap, ℕ, _+_, _*_, _<_, needs, arith}
@@ -18,7 +19,7 @@ returns c = let p2 = c .before .before in let p6 = p2 .before .before .before .b
     let p21 = p17 .before .before .before .before in let cap = p17 .capacity .ensures in let n = p15 .row-count in let pre = p21 .pre .0 in
     let full : n .result < p17 .capacity .result = omega (arith, n .ensures, cap .is, pre .more) in
     let word = p11 .word-of .ensures in
-    let ref = ap (λ (z : ℕ). n .result + z * 1024) (p13 .pending-code .ensures .0) in
+    let ref = ap (λ (z : ℕ). n .result + z * slotLimit) (p13 .pending-code .ensures .0) in
     let state = p14 .flags-of .ensures in (
       appended (p21 .args .row) cap (n .ensures) full (pre .owner) (pre .payload) (p21 .pre .1) word ref state
           (p10 .fill-slot .ensures) (p6 .put-cells .ensures) (p2 .put4 .ensures),

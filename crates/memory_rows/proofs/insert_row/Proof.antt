@@ -1,4 +1,5 @@
 -- `memory_rows::insert_row` meets its contract: the slot is filled, the rows from row i on go one up, the cells and the count are written (`inserted`).
+use Rattle.memory_bytes.specs.Columns.{slotLimit}
 use Rattle.memory_rows.proofs.Inserting.{inserted}
 use Rattle.memory_layout.specs.Views.{headOf}
 use Rattle.basics.proofs.Kit.{ap, ℕ, _+_, _*_, needs, arith}
@@ -37,7 +38,7 @@ returns c = let p2 = c .before .before in let p6 = p2 .before .before .before .b
     let n = p21 .row-count .ensures in let s = p19 .free-slot in
     inserted (st .args .row) cap n (omega (arith, n, st .pre .at)) (omega (arith, n, cap .is, st .pre .more)) (st .pre .owner) (st .pre .payload)
     (omega (arith, cap .is, s .ensures .0)) (s .ensures .1)
-    (p15 .word-of .ensures) (ap (λ (z : ℕ). s .result + z * 1024) (p17 .pending-code .ensures .0)) (p18 .flags-of .ensures)
+    (p15 .word-of .ensures) (ap (λ (z : ℕ). s .result + z * slotLimit) (p17 .pending-code .ensures .0)) (p18 .flags-of .ensures)
     (p14 .fill-slot .ensures) (p10 .raise-rows .ensures) (p6 .put-cells .ensures) (p2 .put4 .ensures)
 
 pub insert-row-spec : {M : Type 1} → statement M
