@@ -1,5 +1,5 @@
 -- General lemmas: tests, properties of all elements and of all pairs, members, and the searches on lists.
-use Rattle.basics.proofs.Kit.{_≡_, refl, sym, ap, _∙_, subst, Bool, true, false, _&&_, not, _||_, some, none, List, [], _∷_, _++_, map, ℕ}
+use Rattle.basics.proofs.Kit.{_≡_, refl, sym, ap, _∙_, subst, Bool, true, false, _&&_, _||_, some, none, List, [], _∷_, _++_, map, ℕ, ne-eqb}
 use Rattle.basics.proofs.Kit.{suc, _+_, _≤_, _<_, zero, leb, eqb, ltb, T}
 use Rattle.basics.proofs.Kit.{eqb-refl, le→leb, length, take, drop, getD, arith}
 use Rattle.basics.specs.Basics.{if_then_else_, every, all, keep, isEmpty, first, last, any, howMany, isIn}
@@ -267,6 +267,11 @@ module _ {A : Type 0} (f : A → Bool) where
 -- ---- keeping and counting
 
 module _ {A : Type 0} (f : A → Bool) where
+  pub keep-length : (xs : List A) → length (keep f xs) ≤ length xs
+  unfolding keep if_then_else_
+  keep-length [] = omega arith
+  keep-length (x ∷ xs) = let k = keep-length xs in by (f x) (λ h. rw h (omega arith)) (λ h. rw h (omega arith))
+
   pub keep-append : (a b : List A) → keep f (a ++ b) ≡ keep f a ++ keep f b
   unfolding keep if_then_else_
   keep-append [] b = refl
@@ -347,9 +352,9 @@ pub in-here : (x y : ℕ) (ys : List ℕ) → eqb x y ≡ true → isIn x (y ∷
 unfolding isIn any
 in-here x y ys h = rw (h, any)
 
-pub in-cons : (x y : ℕ) (ys : List ℕ) → eqb x y ≡ false → isIn x (y ∷ ys) ≡ isIn x ys
+pub in-past : (x y : ℕ) (ys : List ℕ) → eqb x y ≡ false → isIn x (y ∷ ys) ≡ isIn x ys
 unfolding isIn any
-in-cons x y ys h = rw (h, any)
+in-past x y ys h = rw (h, any)
 
 pub in-one : (x b : ℕ) → eqb x b ≡ false → isIn x (b ∷ []) ≡ false
 unfolding isIn any
@@ -359,7 +364,7 @@ pub in-head : (x : ℕ) (es : List ℕ) → isIn x (x ∷ es) ≡ true
 in-head x es = in-here x x es (eqb-self x)
 
 pub in-weak : (x e : ℕ) (es : List ℕ) → isIn x es ≡ true → isIn x (e ∷ es) ≡ true
-in-weak x e es h = by (eqb x e) (λ k. in-here x e es k) (λ k. in-cons x e es k ∙ h)
+in-weak x e es h = by (eqb x e) (λ k. in-here x e es k) (λ k. in-past x e es k ∙ h)
 
 pub in-all : (P : ℕ → Type 0) (x : ℕ) (es : List ℕ) → isIn x es ≡ true → AllOf P es → P x
 unfolding isIn any
@@ -409,3 +414,8 @@ pub or-move : (p q u : Bool) → ((p || q) || u) ≡ (q || (p || u))
 or-move true true u = refl
 or-move true false u = refl
 or-move false q u = refl
+
+pub empty-length : (p : List ℕ) → isEmpty p ≡ eqb (length p) 0
+unfolding isEmpty
+empty-length [] = refl
+empty-length (x ∷ p) = sym (ne-eqb (suc (length p)) 0 (λ e. omega arith))

@@ -1,8 +1,8 @@
 -- Cases on a test or an option; a property of every element; what a test that came out true or false says.
-use mathlib.Core.Path.{_≡_, refl}
+use mathlib.Core.Path.{_≡_, refl, sym}
 use Prim.Native.Nat.{ℕ}
 use native.Mathlib.Omega.{arith}
-use mathlib.Core.Bool.{Bool, true, false, _&&_}
+use mathlib.Core.Bool.{Bool, true, false, _&&_, _||_}
 use mathlib.Core.Option.{Option, none, some}
 pub use Rattle.basics.specs.Basics.{AllOf}
 
@@ -28,3 +28,8 @@ lie e = clash cc
 pub and-true : (a b : Bool) → (a && b) ≡ true → (a ≡ true) × (b ≡ true)
 and-true true b e = (refl, e)
 and-true false b e = lie e
+
+-- a test that holds, with two outcomes
+pub or-else : (a b : Bool) → (a || b) ≡ true → a ≡ false → b ≡ true
+or-else true b h e = lie (sym e)
+or-else false b h e = h

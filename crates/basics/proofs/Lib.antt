@@ -11,3 +11,5 @@ pub mod Found
 pub mod Parts
 pub mod Firsts
 pub mod Members
+pub mod Lasts
+pub mod Maps

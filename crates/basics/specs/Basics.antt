@@ -63,6 +63,11 @@ module _ {A : Type 0} where
   sum f [] = 0
   sum f (x ∷ xs) = f x + sum f xs
 
+-- 1 for true, 0 for false
+abbrev pub oneIf : Bool → ℕ
+oneIf true = 1
+oneIf false = 0
+
 -- every element has the property
 abbrev pub AllOf : {A : Type 0} → (A → Type 0) → List A → Type 0
 AllOf P [] = Unit {0}

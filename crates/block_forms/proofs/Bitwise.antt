@@ -3,13 +3,14 @@ use Rattle.basics.proofs.Kit.{_≡_, refl, sym, ap, _∙_, Bool, true, false, L
 use Rattle.basics.proofs.Kit.{length-append, arith}
 use Rattle.block_forms.specs.Limits.{recordSpace, markValue, committedValue, statementLimit, blockBits, blockSize}
 use Rattle.basics.proofs.Elements.{all-append}
+use Rattle.basics.specs.Basics.{oneIf}
 use Rattle.block_bits.specs.Bits.{bitsOf, bitsIn}
 use Rattle.block_bits.proofs.Numbers.{bitsOf-add, bitsOf-mod, bitsOf-digits}
 use Rattle.block_bits.proofs.Blocks.{bitsIn-append, length-bitsIn}
 use Rattle.block_forms.specs.Numbers.{be4}
 use Rattle.block_forms.specs.Tuple.{Owner, committed, tentative, Tuple, sizes, Byte, AllBytes, OwnerFits, Fits, AllFit}
 use Rattle.block_forms.specs.Spell.{zeros, spell, padded}
-use Rattle.block_forms.specs.Block.{page, committedBit, markBit, ownerFields, payloadFields, recordFields, recordsFields, pageFields, encodeBlock, PageFits}
+use Rattle.block_forms.specs.Block.{page, committedBit, ownerFields, payloadFields, recordFields, recordsFields, pageFields, encodeBlock, PageFits}
 use Rattle.block_forms.specs.Bytes.{flagsOf, ownerWord, ownerBytes, recordBytes, records, pageHead}
 use Rattle.block_forms.proofs.Spelled.{spell-append, zero-bits-in, length-zeros, bytes-zeros, block-is}
 use Rattle.block_forms.proofs.Tuples.{length-records, count-sizes, be4-bytes, records-bytes}
@@ -29,15 +30,14 @@ be4-bits v =
 
 -- ---- a record
 
-mark-low : (m : Bool) (n : ℕ) → n < markValue → markBit m * markValue + n < committedValue
-unfolding markBit
+mark-low : (m : Bool) (n : ℕ) → n < markValue → oneIf m * markValue + n < committedValue
 mark-low true n h = omega arith
 mark-low false n h = omega arith
 
-flag-bits : (o : Owner) (m : Bool) (n : ℕ) → n < markValue → bitsOf 8 (flagsOf o m n) ≡ bitsOf 1 (committedBit o) ++ (bitsOf 1 (markBit m) ++ bitsOf 6 n)
+flag-bits : (o : Owner) (m : Bool) (n : ℕ) → n < markValue → bitsOf 8 (flagsOf o m n) ≡ bitsOf 1 (committedBit o) ++ (bitsOf 1 (oneIf m) ++ bitsOf 6 n)
 unfolding flagsOf
 flag-bits o m n h =
-    bitsOf-digits 1 7 (committedBit o) (markBit m * markValue + n) (mark-low m n h) ∙ ap (λ (l : List ℕ). bitsOf 1 (committedBit o) ++ l) (bitsOf-digits 1 6 (markBit m) n h)
+    bitsOf-digits 1 7 (committedBit o) (oneIf m * markValue + n) (mark-low m n h) ∙ ap (λ (l : List ℕ). bitsOf 1 (committedBit o) ++ l) (bitsOf-digits 1 6 (oneIf m) n h)
 
 owner-bits : (o : Owner) → OwnerFits o → bitsIn (ownerBytes o) ≡ spell (ownerFields o)
 unfolding ownerBytes ownerWord ownerFields spell bitsIn

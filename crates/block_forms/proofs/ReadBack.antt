@@ -1,11 +1,11 @@
 -- Records that are spelled are read back; the record of a tuple.
 use Rattle.basics.proofs.Kit.{_≡_, refl, Bool, true, false, some, List, [], _∷_, _++_, append-assoc, ℕ, _+_, _*_, _%_, _≤_, _<_, _/_, ltb, length, take, drop, getD, length-append}
 use Rattle.basics.proofs.Kit.{take-append-seam, drop-at, le-leb, lt-ltb, le-ltb, lt-leb, arith}
-use Rattle.basics.specs.Basics.{if_then_else_}
+use Rattle.basics.specs.Basics.{if_then_else_, oneIf}
 use Rattle.block_forms.specs.Limits.{payloadLimit, recordHead, markValue, committedValue, statementLimit}
 use Rattle.block_forms.specs.Numbers.{be4, num4}
 use Rattle.block_forms.specs.Tuple.{Owner, committed, tentative, Tuple, ownerSize, size, OwnerFits, Fits, AllFit}
-use Rattle.block_forms.specs.Block.{committedBit, markBit}
+use Rattle.block_forms.specs.Block.{committedBit}
 use Rattle.block_forms.specs.Decode.{readOwner, readMark, readTuple, recordLength, isRecord, readTuples}
 use Rattle.block_forms.specs.Bytes.{flagsOf, ownerWord, ownerBytes, recordBytes, records}
 use Rattle.block_forms.proofs.Tuples.{length-record}
@@ -21,14 +21,14 @@ four v h =
 
 module _ (o : Owner) (m : Bool) (n : ℕ) (h : n ≤ payloadLimit) where
   pub flags-length : flagsOf o m n % markValue ≡ n
-  unfolding flagsOf committedBit markBit
+  unfolding flagsOf committedBit
   flags-length = elim o [
     | committed ↦ elim m [ true ↦ omega arith | false ↦ omega arith ]
     | tentative t s ↦ elim m [ true ↦ omega arith | false ↦ omega arith ]
   ]
 
   pub flags-mark : readMark (flagsOf o m n) ≡ m
-  unfolding readMark flagsOf committedBit markBit
+  unfolding readMark flagsOf committedBit
   flags-mark = elim o [
     | committed ↦ elim m [
       | true ↦ le-leb markValue ((committedValue + (markValue + n)) % committedValue) (omega arith)
@@ -39,10 +39,10 @@ module _ (o : Owner) (m : Bool) (n : ℕ) (h : n ≤ payloadLimit) where
 
 flags-committed : (m : Bool) (n : ℕ) → ltb (flagsOf committed m n) committedValue ≡ false
 unfolding flagsOf committedBit
-flags-committed m n = le-ltb (committedValue + (markBit m * markValue + n)) committedValue (omega arith)
+flags-committed m n = le-ltb (committedValue + (oneIf m * markValue + n)) committedValue (omega arith)
 
 flags-tentative : (t s : ℕ) (m : Bool) (n : ℕ) → n ≤ payloadLimit → ltb (flagsOf (tentative t s) m n) committedValue ≡ true
-unfolding flagsOf committedBit markBit
+unfolding flagsOf committedBit
 flags-tentative t s true n h = lt-ltb (0 + (markValue + n)) committedValue (omega arith)
 flags-tentative t s false n h = lt-ltb (0 + (0 + n)) committedValue (omega arith)
 

@@ -141,7 +141,8 @@ put-next d x h =
     let k = blockBits - length d in
     let e : zeros (blockBits - length d) ≡ zeros (length x) ++ zeros (blockBits - (length d + length x)) =
     ap zeros (split-room (length d) (length x) h) ∙ sym (zeros-add (length x) (blockBits - (length d + length x))) in
-    rw (e, over-middle d (zeros (length x)) (zeros (blockBits - (length d + length x))) x (sym (length-zeros (length x))), length-append d x) (sym (append-assoc d x (zeros (blockBits - (length d + length x)))))
+    rw (e, over-middle d (zeros (length x)) (zeros (blockBits - (length d + length x))) x (sym (length-zeros (length x))), length-append d x)
+    (sym (append-assoc d x (zeros (blockBits - (length d + length x)))))
 
 pub spell-append : (fs gs : List (ℕ × ℕ)) → spell (fs ++ gs) ≡ spell fs ++ spell gs
 unfolding spell

@@ -1,11 +1,11 @@
 -- A tuple's record and a page's records byte by byte, their sizes and bounds.
 use Rattle.basics.proofs.Kit.{_≡_, refl, sym, Bool, true, false, List, [], _∷_, _++_, append-assoc, append-nil, ℕ, _+_, _*_, _≤_, _<_, length, length-append, arith}
-use Rattle.basics.specs.Basics.{sum}
+use Rattle.basics.specs.Basics.{sum, oneIf}
 use Rattle.basics.proofs.Elements.{all-append}
 use Rattle.block_forms.specs.Limits.{recordHead, markValue}
 use Rattle.block_forms.specs.Numbers.{be4}
 use Rattle.block_forms.specs.Tuple.{Owner, committed, tentative, Tuple, ownerSize, size, sizes, Byte, AllBytes, Fits, AllFit}
-use Rattle.block_forms.specs.Block.{committedBit, markBit}
+use Rattle.block_forms.specs.Block.{committedBit}
 use Rattle.block_forms.specs.Bytes.{sizeOf, tupleOf, flagsOf, ownerWord, ownerBytes, recordBytes, records}
 use Rattle.block_forms.specs.declared.Record.{Record}
 
@@ -42,8 +42,8 @@ sizes-more (y ∷ ts) x = omega (arith, sizes-more ts x)
 
 -- ---- bytes
 
-bit-small : (o : Owner) (m : Bool) → (committedBit o ≤ 1) × (markBit m ≤ 1)
-unfolding committedBit markBit
+bit-small : (o : Owner) (m : Bool) → (committedBit o ≤ 1) × (oneIf m ≤ 1)
+unfolding committedBit
 bit-small committed true = (omega arith, omega arith)
 bit-small committed false = (omega arith, omega arith)
 bit-small (tentative t s) true = (omega arith, omega arith)

@@ -1,11 +1,10 @@
 -- The three kinds of block, what a block of each holds, its fields in order, and how a block is spelled.
 use Prim.Native.Nat.{ℕ, _<_, _≤_}
 use mathlib.Core.Path.{_≡_}
-use mathlib.Core.Bool.{Bool, true, false}
 use mathlib.Core.Option.{Option, none, some}
 use mathlib.Core.List.{List, [], _∷_, _++_}
 use lib.ListN.{length}
-use Rattle.basics.specs.Basics.{AllOf}
+use Rattle.basics.specs.Basics.{AllOf, oneIf}
 use Rattle.block_bits.specs.Fields.{Fit}
 use Rattle.block_forms.specs.Limits.{blockSize, blockLimit, recordSpace, entriesPerBlock}
 use Rattle.block_forms.specs.Tuple.{Owner, committed, tentative, Tuple, sizes, AllFit}
@@ -66,11 +65,6 @@ unfoldable pub committedBit : Owner → ℕ
 committedBit committed = 1
 committedBit (tentative t s) = 0
 
--- the delete mark's bit
-unfoldable pub markBit : Bool → ℕ
-markBit true = 1
-markBit false = 0
-
 -- an owner's fields: transaction 12 and statement 20 if tentative, else none
 unfoldable pub ownerFields : Owner → List (ℕ × ℕ)
 ownerFields committed = []
@@ -84,7 +78,7 @@ payloadFields (b ∷ bs) = (8, b) ∷ payloadFields bs
 -- key 32, number 32, committed 1, delete mark 1, payload length 6, if tentative transaction 12 and statement 20, payload
 unfoldable pub recordFields : Tuple → List (ℕ × ℕ)
 recordFields x =
-    (32, x .key) ∷ (32, x .number) ∷ (1, committedBit (x .owner)) ∷ (1, markBit (x .mark)) ∷ (6, length (x .payload))
+    (32, x .key) ∷ (32, x .number) ∷ (1, committedBit (x .owner)) ∷ (1, oneIf (x .mark)) ∷ (6, length (x .payload))
     ∷ (ownerFields (x .owner) ++ payloadFields (x .payload))
 
 -- records one after another

@@ -10,10 +10,11 @@ use Rattle.block_forms.specs.Numbers.{be4}
 use Rattle.block_forms.specs.Tuple as tuples
 use Rattle.block_forms.specs.Tuple.{committed, tentative, Tuple, ownerSize, sizes, OwnerFits}
 use Rattle.block_forms.specs.Spell.{zeros}
-use Rattle.block_forms.specs.Block.{committedBit, markBit}
+use Rattle.block_forms.specs.Block.{committedBit}
 use Rattle.block_forms.specs.declared.Owner.{Owner}
 use Rattle.block_forms.specs.declared.Owner.the-variants.{Committed, Tentative}
 use Rattle.block_forms.specs.declared.Record.{Record}
+use Rattle.basics.specs.Basics.{oneIf}
 
 -- ---- values of the code and of the specification
 
@@ -50,7 +51,7 @@ pub record Appendable (at : ℕ) (r : Record) (xs : List ℕ) : Type 0 where
 
 -- a record's ninth byte: committed, delete mark, payload length
 unfoldable pub flagsOf : tuples.Owner → Bool → ℕ → ℕ
-flagsOf o m n = committedBit o * committedValue + (markBit m * markValue + n)
+flagsOf o m n = committedBit o * committedValue + (oneIf m * markValue + n)
 
 -- an owner's four bytes as a number, 0 if committed
 unfoldable pub ownerWord : tuples.Owner → ℕ

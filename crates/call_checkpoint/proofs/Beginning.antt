@@ -149,9 +149,9 @@ module _ {m m1 m2 m3 m4 : List ℕ} (held : holdsStore m ≡ true)
   pub begin-held : holdsStore m4 ≡ true
   begin-held = held-still held begin-flat refl
 
-  pub begin-leads : flatOf m .head .level < 4294967295 → {m5 : List ℕ} → HoldsNow m4 m5 (withPages (storeOf (flatOf m4)) (map freeze (pagesOf m4)))
+  pub begin-holds : flatOf m .head .level < 4294967295 → {m5 : List ℕ} → HoldsNow m4 m5 (withPages (storeOf (flatOf m4)) (map freeze (pagesOf m4)))
       → HoldsNow m m5 (begun (storeOf (flatOf m)))
-  begin-leads low t =
+  begin-holds low t =
       record {
         size = t .size ∙ begin-flat .size;
         store =

@@ -160,8 +160,8 @@ module _ {m m1 m2 : List ℕ} (b : ℕ) (r : RunningIn m) (x : Becomes m m1 (tak
         first = subst (λ (f : Flat). p ≡ firstIndex isFrozen (pagesIn f)) e (o .first);
       }
 
-  pub page-leads : {m3 : List ℕ} → HoldsNow m2 m3 (withPages (storeOf (flatOf m2)) (thaw b (pagesOf m2))) → HoldsNow m m3 (afterStore (pageStored b) (flatOf m))
-  page-leads t =
+  pub page-holds : {m3 : List ℕ} → HoldsNow m2 m3 (withPages (storeOf (flatOf m2)) (thaw b (pagesOf m2))) → HoldsNow m m3 (afterStore (pageStored b) (flatOf m))
+  page-holds t =
       record {
         size = t .size ∙ page-flat .size;
         store =
@@ -183,9 +183,9 @@ directory-kept f b on =
     let g : Flat = withDirectories (taking b f) (f .directories ++ b ∷ []) in
     store-is-directory f b ∙ ap (withProgress s (s .level) (s .pages) (usedToo s b) b) (still-runs f g on refl refl)
 
-pub directory-leads : {m m1 m2 : List ℕ} (b : ℕ) → RunningIn m → Becomes m m1 (taking b (flatOf m))
+pub directory-holds : {m m1 m2 : List ℕ} (b : ℕ) → RunningIn m → Becomes m m1 (taking b (flatOf m))
     → Becomes m1 m2 (withDirectories (flatOf m1) (flatOf m1 .directories ++ b ∷ [])) → HoldsNow m m2 (afterStore (directoryStored b) (flatOf m))
-directory-leads {m} {m1} {m2} b r x y =
+directory-holds {m} {m1} {m2} b r x y =
     let z = becomes-then m m1 m2 _ (λ f. withDirectories f (f .directories ++ b ∷ [])) x y in
     record { size = z .size; store = becomes-store z (holds-counted m (r .has-store)) ∙ ap some (directory-kept (flatOf m) b (r .on)) }
 
@@ -298,8 +298,8 @@ module _ {m m1 m2 : List ℕ} (r : RunningIn m) (a : Becomes m m1 (withUsed (fla
   unfolding namedIn
   used-is c = b .used c ∙ ap (λ (f : Flat). isIn c (namedIn f) || f .used c) (a .flat)
 
-  pub header-leads : (h : Head) → h ≡ flatOf m2 .head → (m3 : List ℕ) → Becomes m2 m3 (withHead (flatOf m2) (landedHead h)) → HoldsNow m m3 (afterStore (λ n. headerStored) (flatOf m))
-  header-leads h eh m3 x =
+  pub header-holds : (h : Head) → h ≡ flatOf m2 .head → (m3 : List ℕ) → Becomes m2 m3 (withHead (flatOf m2) (landedHead h)) → HoldsNow m m3 (afterStore (λ n. headerStored) (flatOf m))
+  header-holds h eh m3 x =
       let z : Becomes m m3 (withHead (withUsed (flatOf m) (flatOf m2 .used)) (landedHead (flatOf m .head))) = record {
         size = x .size ∙ header-flat .size;
         room = x .room;

@@ -1,6 +1,6 @@
 -- A step: which store it makes, its tests, and what it answers.
-use Rattle.block_forms.specs.Limits.{blockSize, entriesPerBlock}
-use Rattle.basics.proofs.Kit.{_≡_, refl, sym, ap, _∙_, subst, Bool, true, false, some, none, Option, List, [], _∷_, _++_, ℕ, suc, _+_, _*_, _≤_, _<_, zero, _-_, add-one, eqb, ltb}
+use Rattle.block_forms.specs.Limits.{blockSize}
+use Rattle.basics.proofs.Kit.{_≡_, refl, sym, ap, _∙_, subst, Bool, true, false, some, none, Option, List, [], _∷_, _++_, ℕ, suc, _+_, _*_, _≤_, _<_, _-_, add-one, eqb, ltb}
 use Rattle.basics.proofs.Kit.{length, take, drop, drop-drop, drop-of-length-le, lt-ltb, le-ltb, eqb-true, eq-eqb, ne-eqb, eqb-false, arith}
 use Rattle.basics.specs.Basics.{if_then_else_, howMany, first}
 use Rattle.basics.proofs.Facts.{by, lie}
@@ -9,7 +9,7 @@ use Rattle.image.specs.Stages.{directoriesFor}
 use Rattle.model.specs.State.{Held, Page, Checkpoint, idle, running, Store, Outcome}
 use Rattle.model.specs.Rules.{isFrozen, shown}
 use Rattle.model.specs.Transactions.{gives, unless}
-use Rattle.model.specs.Checkpoint.{allocate, isRunning, left, made, storable, pageStored, storePage, directoryStored, storeDirectory, headerFor, headerStored, storeHeader}
+use Rattle.model.specs.Checkpoint.{allocate, isRunning, left, made, storable, pageStored, storePage, directoryStored, storeDirectory, headerFor, headerStored, storeHeader, blockEntries}
 use Rattle.model.specs.Checkpoint.{stepOf, stepAt, badImage, stepCall}
 use Rattle.model.specs.Recover.{putBlock, imageAfter}
 use Rattle.basics.specs.Lists.{firstIndex}
@@ -22,14 +22,12 @@ use Rattle.memory_pages.specs.Pages.{frozenEntry}
 use Rattle.engine_pages.specs.Pages.{pagesOf, pageAt, entryOf, firstRow}
 use Rattle.memory_layout.specs.Elements.{rowsFrom}
 use Rattle.engine_pages.specs.Pending.{FirstFrozen}
-use Rattle.basics.proofs.Firsts.{index-hit, index-pass}
 use Rattle.engine_pages.proofs.Places.{from-page, page-table, tuples-are}
 use Rattle.call_contracts.specs.Shape.{Stores}
 use Rattle.call_contracts.specs.declared.Answer.the-variants.{Count, Refused}
 use Rattle.call_contracts.proofs.Answering.{stores-4, stores-refused, stores-count}
 use Rattle.call_checkpoint.specs.Keeping.{afterStore, RunningIn, Ready, NoneFrozen, Effect, Steps, refusalNumber, stepRefusal}
 use Rattle.engine_allocator.proofs.Tallies.{frozen-many}
-use Rattle.basics.proofs.Firsts.{first-hit, first-past}
 use Rattle.call_checkpoint.proofs.Running.{running-is}
 use Rattle.model.specs.State as model
 use Rattle.basics.proofs.Firsts.{many-none, index-some, index-many}
@@ -77,7 +75,7 @@ module _ (s : Store) (n : ℕ) (es ds : List ℕ) (e : s .checkpoint ≡ running
     rest-is = step-is ∙ ap (λ (o : Option Page). stepOf o n es ds s) f
 
     pub step-directory : length ds < directoriesFor (length es)
-        → stepAt (s .checkpoint) s ≡ made (allocate s) (directory (suc (s .level)) (take entriesPerBlock (drop (entriesPerBlock * length ds) es))) (directoryStored (allocate s) n es ds s)
+        → stepAt (s .checkpoint) s ≡ made (allocate s) (directory (suc (s .level)) (blockEntries (length ds) es)) (directoryStored (allocate s) n es ds s)
     unfolding if_then_else_ storeDirectory
     step-directory h =
         rest-is ∙ ap (λ (b : Bool). if b then storeDirectory n es ds s else storeHeader n es ds s) (lt-ltb (length ds) (directoriesFor (length es)) h)
@@ -136,18 +134,18 @@ module _ {img m img' m' part : List ℕ} (r : RunningIn m) where
   module _ (none-frozen : NoneFrozen m) where
     pub directory-does : (b k l : ℕ) → length (flatOf m .directories) < directoriesFor (length (flatOf m .named)) → b ≡ allocate (storeOf (flatOf m))
         → k ≡ length (flatOf m .directories) → l ≡ flatOf m .head .level + 1
-        → part ≡ encodeBlock (directory l (take entriesPerBlock (drop (entriesPerBlock * k) (flatOf m .named)))) → img' ≡ putBlock img b part
+        → part ≡ encodeBlock (directory l (blockEntries k (flatOf m .named))) → img' ≡ putBlock img b part
         → HoldsNow m m' (afterStore (directoryStored b) (flatOf m)) → Steps img m img' m'
     directory-does b k l h eb ek el ep ei d =
         let s : Store = storeOf (flatOf m) in
         let es : List ℕ = flatOf m .named in
         let ds : List ℕ = flatOf m .directories in
         let e2 : suc (s .level) ≡ l = ap suc (level-is (flatOf m)) ∙ sym (add-one (flatOf m .head .level)) ∙ sym el in
-        let x : encodeBlock (directory l (take entriesPerBlock (drop (entriesPerBlock * k) es))) ≡ encodeBlock (directory (suc (s .level)) (take entriesPerBlock (drop (entriesPerBlock * length ds) es))) = cc in
-        does-made _ (allocate s) (directory (suc (s .level)) (take entriesPerBlock (drop (entriesPerBlock * length ds) es))) (afterStore (directoryStored (allocate s)) (flatOf m))
+        let x : encodeBlock (directory l (blockEntries k es)) ≡ encodeBlock (directory (suc (s .level)) (blockEntries (length ds) es)) = cc in
+        does-made _ (allocate s) (directory (suc (s .level)) (blockEntries (length ds) es)) (afterStore (directoryStored (allocate s)) (flatOf m))
         (step-directory s _ es ds (runs r) (none-is m none-frozen) h)
         (subst (λ (z : ℕ). HoldsNow m m' (afterStore (directoryStored z) (flatOf m))) eb d)
-        (ei ∙ ap (putBlock img b) (ep ∙ x) ∙ ap (λ (z : ℕ). putBlock img z (encodeBlock (directory (suc (s .level)) (take entriesPerBlock (drop (entriesPerBlock * length ds) es))))) eb)
+        (ei ∙ ap (putBlock img b) (ep ∙ x) ∙ ap (λ (z : ℕ). putBlock img z (encodeBlock (directory (suc (s .level)) (blockEntries (length ds) es)))) eb)
 
     pub header-does : directoriesFor (length (flatOf m .named)) ≤ length (flatOf m .directories)
         → part ≡ encodeBlock (header (headerFor (storeOf (flatOf m)) (suc (flatOf m .head .level)) (flatOf m .head .begun) (length (flatOf m .named)) (flatOf m .directories)))

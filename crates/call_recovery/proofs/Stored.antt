@@ -4,10 +4,11 @@ use Rattle.basics.specs.Basics.{if_then_else_, all, howMany, isIn}
 use Rattle.basics.proofs.Facts.{AllOf}
 use Rattle.basics.proofs.Lists.{map-append}
 use Rattle.basics.proofs.Elements.{all-append, all-map, all-mapped}
+use Rattle.basics.proofs.Maps.{count-kept}
 use Rattle.block_forms.specs.Tuple.{Tuple, OwnerFits, Fits}
 use Rattle.block_forms.specs.declared.Header.{Header}
 use Rattle.image_rows.specs.Rows.{Row, rowsOf, isOwn, transactions}
-use Rattle.image_rows.proofs.Kept.{count-kept, transactions-kept}
+use Rattle.image_rows.proofs.Kept.{transactions-kept}
 use Rattle.image.specs.Stages.{directoryBlocks, StoredPage, rowsOfPages}
 use Rattle.image.proofs.Collect.{length-rows}
 use Rattle.model.specs.State.{Held, idle}

@@ -6,7 +6,7 @@ use Rattle.basics.specs.Basics.{if_then_else_, any, isIn, keep}
 use Rattle.basics.proofs.Facts.{by}
 use Rattle.model.specs.State.{Active}
 use Rattle.model.specs.Transactions.{isFor, openNumbers, writtenBy, oneMore, withWrite, without}
-use Rattle.basics.proofs.Elements.{in-here, in-cons, keep-cons, keep-past}
+use Rattle.basics.proofs.Elements.{in-here, keep-cons, keep-past, in-past}
 use Rattle.basics.specs.Lists.{removeAt, tab}
 use Rattle.basics.proofs.Tabs.{getD-tab}
 use Rattle.memory_layout.specs.Views.{openAt, openCount}
@@ -45,7 +45,7 @@ module _ (tx : ℕ) (o : Active) (os : List Active) where
 
     numbers-on : isIn tx (openNumbers (o ∷ os)) ≡ isIn tx (openNumbers os)
     unfolding openNumbers isFor
-    numbers-on = in-cons tx (o .transaction) _ (ne-eqb tx (o .transaction) (λ q. eqb-false (o .transaction) tx e (sym q)))
+    numbers-on = in-past tx (o .transaction) _ (ne-eqb tx (o .transaction) (λ q. eqb-false (o .transaction) tx e (sym q)))
 
     wrote-on : withWrite tx (o ∷ os) ≡ o ∷ withWrite tx os
     unfolding withWrite if_then_else_

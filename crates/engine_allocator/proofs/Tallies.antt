@@ -1,10 +1,10 @@
 -- Counts and searches of blocks, turn by turn, and what they say of the store.
 use Rattle.memory_layout.specs.Places.{headSize}
 use Rattle.block_forms.specs.Limits.{blockLimit}
-use Rattle.basics.proofs.Kit.{_≡_, refl, sym, ap, _∙_, Bool, true, false, not, some, none, Option, List, [], _∷_, _++_, ℕ, suc, _+_, _≤_, _<_, zero, _-_, add-one, length, take, drop}
+use Rattle.basics.proofs.Kit.{_≡_, refl, sym, ap, _∙_, Bool, true, false, not, some, none, Option, List, [], _∷_, _++_, ℕ, suc, _+_, _≤_, _<_, zero, _-_, length, take, drop}
 use Rattle.basics.proofs.Kit.{arith}
-use Rattle.basics.specs.Basics.{if_then_else_, howMany, first, from}
-use Rattle.basics.proofs.Facts.{by, never}
+use Rattle.basics.specs.Basics.{if_then_else_, howMany, first, from, oneIf}
+use Rattle.basics.proofs.Facts.{by}
 use Rattle.image.specs.Stages.{directoriesFor, capacityLimit}
 use Rattle.model.specs.State.{Held, Page}
 use Rattle.model.specs.Rules.{isDirty, isFrozen}
@@ -21,7 +21,6 @@ use Rattle.memory_layout.proofs.Exchange.{pages-count}
 use Rattle.memory_pages.specs.Pages.{frozenEntry, dirtyEntry}
 use Rattle.engine_pages.specs.Pages.{pagesOf}
 use Rattle.engine_pages.proofs.Places.{counted}
-use Rattle.memory_layout.specs.Opens.{oneIf}
 use Rattle.engine_allocator.specs.Blocks.{orElse, freeFrom}
 use Rattle.basics.proofs.Firsts.{first-hit, first-past, first-some, first-skip, from-turn, from-end, from-low}
 

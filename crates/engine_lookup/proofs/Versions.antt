@@ -1,8 +1,8 @@
 -- The rows noted one after another show the versions of a key among them.
-use Rattle.basics.proofs.Kit.{_≡_, refl, sym, ap, _∙_, Bool, true, false, _&&_, not, some, none, List, [], _∷_, _++_, append-assoc, append-nil, ℕ, suc, _+_, _≤_, _<_, zero, eqb, length}
+use Rattle.basics.proofs.Kit.{_≡_, refl, sym, ap, _∙_, true, false, _&&_, not, List, [], _∷_, _++_, append-assoc, append-nil, ℕ, suc, _+_, _≤_, _<_, zero, eqb, length}
 use Rattle.basics.proofs.Kit.{eq-eqb, ne-eqb, arith}
 use Rattle.basics.specs.Basics.{if_then_else_, any, first, last, isEmpty, keep}
-use Rattle.basics.proofs.Facts.{by, never}
+use Rattle.basics.proofs.Facts.{by}
 use Rattle.block_forms.specs.Tuple.{Tuple, Owner, committed, tentative, isTentative}
 use Rattle.image_rows.specs.Rows.{Row, rowsOf, isBy, isOwn, isAt}
 use Rattle.model.specs.State.{Held}
@@ -11,53 +11,11 @@ use Rattle.model.specs.Sight.{isForeign}
 use Rattle.model.proofs.Rows.{applied-is}
 use Rattle.basics.proofs.Elements.{keep-cons, keep-past}
 use Rattle.basics.specs.Lists.{tab}
+use Rattle.basics.proofs.Lasts.{any-last-no, any-last-yes, last-new, last-old, first-old, first-new, first-stays, filled-last}
 use Rattle.memory_layout.specs.Flat.{Flat, rowIn}
 use Rattle.engine_lookup.specs.Lookup.{isCommitted, version, versionAt, Shows, blank, noteCommitted, noteTentative, noteOwner, note, notes}
 use Rattle.engine_lookup.specs.declared.Visibility.{Visibility}
 use Rattle.engine_lookup.proofs.Iterations.{notes-on, notes-here}
-
--- ---- one element more at the end
-
-module _ {A : Type 0} (f : A → Bool) (x : A) where
-  pub any-last-no : f x ≡ false → (xs : List A) → any f (xs ++ x ∷ []) ≡ any f xs
-  unfolding any
-  any-last-no e [] = rw (e, any)
-  any-last-no e (y ∷ xs) = by (f y) (λ h. rw (h, any)) (λ h. rw (h, any) (any-last-no e xs))
-
-  pub any-last-yes : f x ≡ true → (xs : List A) → any f (xs ++ x ∷ []) ≡ true
-  unfolding any
-  any-last-yes e [] = rw (e, any)
-  any-last-yes e (y ∷ xs) = by (f y) (λ h. rw (h, any)) (λ h. rw (h, any) (any-last-yes e xs))
-
-  last-new : f x ≡ true → (xs : List A) → last f (xs ++ x ∷ []) ≡ some x
-  unfolding last if_then_else_
-  last-new e [] = rw e
-  last-new e (y ∷ xs) = rw (last-new e xs)
-
-  last-old : f x ≡ false → (xs : List A) → last f (xs ++ x ∷ []) ≡ last f xs
-  unfolding last if_then_else_
-  last-old e [] = rw e
-  last-old e (y ∷ xs) = rw (last-old e xs)
-
-  first-old : f x ≡ false → (xs : List A) → first f (xs ++ x ∷ []) ≡ first f xs
-  unfolding first
-  first-old e [] = rw (e, first)
-  first-old e (y ∷ xs) = by (f y) (λ h. rw (h, first)) (λ h. rw (h, first) (first-old e xs))
-
-  first-new : f x ≡ true → (xs : List A) → first f xs ≡ none → first f (xs ++ x ∷ []) ≡ some x
-  unfolding first
-  first-new e [] n = rw (e, first)
-  first-new e (y ∷ xs) n = by (f y) (λ h. never (sym (rw (h, first) at n))) (λ h. rw (h, first) (first-new e xs (rw (h, first) at n)))
-
-  first-stays : (xs : List A) (z : A) → first f xs ≡ some z → first f (xs ++ x ∷ []) ≡ some z
-  unfolding first
-  first-stays [] z n = never n
-  first-stays (y ∷ xs) z n = by (f y) (λ h. rw (h, first) (rw (h, first) at n)) (λ h. rw (h, first) (first-stays xs z (rw (h, first) at n)))
-
-  filled-last : (xs : List A) → isEmpty (xs ++ x ∷ []) ≡ false
-  unfolding isEmpty
-  filled-last [] = refl
-  filled-last (y ∷ xs) = refl
 
 -- ---- one version more
 

@@ -6,7 +6,7 @@ ghost use lib.ListN.{length, take, drop, getD};
 ghost use Rattle.block_forms.specs.Limits.{entriesPerBlock};
 ghost use Rattle.block_forms.specs.Block.{header, page, directory, encodeBlock};
 ghost use Rattle.model.specs.Rules.{isAdding, shown};
-ghost use Rattle.model.specs.Checkpoint.{storable};
+ghost use Rattle.model.specs.Checkpoint.{storable, blockEntries};
 ghost use Rattle.memory_layout.specs.Flat.{flatOf, rowIn, Room};
 ghost use Rattle.engine_writer.specs.Written.{nextHeader, HeaderInto, EntriesFrom, DirectoryInto, Spells, Measures, PageInto, Fillable};
 ghost use Rattle.memory_layout.specs.Elements.{rowsFrom, RowRange};
@@ -67,7 +67,7 @@ fn named_from(m: &[u8], first: usize, count: usize) -> [u16; block_forms::ENTRIE
 // Directory block k of the list of pages at begin.
 pub fn write_directory(out: &mut [u8], m: &[u8], k: usize, level: u32)
     requires { ⌜ Room (now m) × DirectoryInto (now out) (flatOf (now m)) k ⌝ }
-    ensures { λ _. ⌜ now (out .exit) ≡ encodeBlock (directory level (take entriesPerBlock (drop (entriesPerBlock * k) (flatOf (now (m .entry)) .named)))) ⌝ }
+    ensures { λ _. ⌜ now (out .exit) ≡ encodeBlock (directory level (blockEntries k (flatOf (now (m .entry)) .named))) ⌝ }
 {
     let c = memory_layout::get_counts(m);
     let first = block_forms::ENTRIES_PER_BLOCK * k;

@@ -16,7 +16,7 @@ use Rattle.image_rows.specs.Rows.{rowsOk}
 use Rattle.basics.proofs.Ands.{and-no}
 use Rattle.image.specs.View.{View, view, blockAt, blockCount}
 use Rattle.image.specs.Stages.{Stage, refuses, holds, wholeBlocks, blockOk, directoriesFor, numbersOf, directoryBlocks, headerOk, headerTest, entriesDue, addEntries, readDirectories}
-use Rattle.image.specs.Stages.{entriesOk, testedEntries}
+use Rattle.image.specs.Stages.{entriesOk, testedEntries, capacityLimit}
 use Rattle.image.specs.Stages.{directoryTest, StoredPage, readPages, rowsOfPages, testedPages, pageTest}
 use Rattle.image.specs.Whole.{headerStage, pagesBelow, pagesStage, withHeader, afterHeader, readImage}
 use Rattle.image.specs.Answers.{Filled, accepts, headerAnswer, noEntries, entriesIn, pagesAnswer, imageAnswer}
@@ -194,9 +194,9 @@ tested v h ps e =
 
 -- ---- the same, as the code has it
 
-none-many : length noEntries ≡ 1024
+none-many : length noEntries ≡ capacityLimit
 unfolding noEntries
-none-many = length-replicate {A = ℕ} 1024 0
+none-many = length-replicate {A = ℕ} capacityLimit 0
 
 module _ (xs : List ℕ) (h : Header) (pages used : ℕ) where
   -- the counts that the code works with
@@ -209,7 +209,7 @@ module _ (xs : List ℕ) (h : Header) (pages used : ℕ) where
     pub four : used ≤ 4
     four = omega (arith, b .used-are, b .passed .counts .four)
 
-    pub fits : pages ≤ 1024
+    pub fits : pages ≤ capacityLimit
     fits = omega (arith, b .pages-are, b .passed .counts .pages, b .passed .counts .high)
 
     pub within-none : (l : List ℕ) → l ≡ noEntries → pages ≤ length l

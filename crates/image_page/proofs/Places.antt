@@ -1,8 +1,8 @@
 -- A record as a row, put into columns; and its delete mark.
-use Rattle.basics.proofs.Kit.{_≡_, refl, sym, _∙_, Bool, true, false, not, List, [], _∷_, _++_, ℕ, suc, _+_, _*_, _%_, _<_, _/_, _-_, leb, eqb, length, set, getD-set-same}
+use Rattle.basics.proofs.Kit.{_≡_, refl, _∙_, Bool, true, false, not, List, [], _∷_, _++_, ℕ, _+_, _*_, _%_, _<_, _/_, _-_, leb, eqb, length, set, getD-set-same}
 use Rattle.basics.proofs.Kit.{getD-set-other, ne-eqb, arith}
 use mir.Val.{boolByte}
-use Rattle.basics.specs.Basics.{if_then_else_, isEmpty}
+use Rattle.basics.specs.Basics.{if_then_else_}
 use Rattle.block_forms.specs.Limits.{statementLimit}
 use Rattle.block_forms.specs.Tuple.{tentative, isTentative}
 use Rattle.block_forms.specs.Bytes.{ownerIs, tupleOf}
@@ -11,6 +11,7 @@ use Rattle.block_forms.specs.declared.Record.{Record}
 use Rattle.image_rows.specs.Rows.{markOk}
 use Rattle.image_rows.specs.Columns.{codedOwner, coded, rowAt, rowsIn, ColumnsHold}
 use Rattle.basics.proofs.Tabs.{tab-cong, tab-add}
+use Rattle.basics.proofs.Elements.{empty-length}
 
 -- ---- the row of a record
 
@@ -62,11 +63,6 @@ module _ (ps ns os ms : List ℕ) (k p n o m : ℕ) where
       tab-add u 0 k 1 ∙ rw (z, e, here h)
 
 -- ---- a record's delete mark
-
-empty-length : (p : List ℕ) → isEmpty p ≡ eqb (length p) 0
-unfolding isEmpty
-empty-length [] = refl
-empty-length (x ∷ p) = sym (ne-eqb (suc (length p)) 0 (λ e. omega arith))
 
 module _ (t : ℕ) (r : Record) (p : List ℕ) where
   pub unmarked : not (r .mark) ≡ true → markOk (t, tupleOf r p) ≡ true

@@ -4,7 +4,8 @@ use Rattle.basics.specs.Basics.{all, every, paired, distinct}
 use Rattle.image_rows.specs.Rows.{Row, number, isAt, isLower, follows, startsWell, isBelow, statementOk, transactions, openLimit, markOk, rowsOk}
 use Rattle.image_rows.specs.Columns.{bare, columnsOk}
 use Rattle.basics.proofs.Ands.{and-assoc, and-comm, and-swap}
-use Rattle.image_rows.proofs.Kept.{paired-kept, numbers-kept, below-kept, transactions-kept, statements-kept}
+use Rattle.basics.proofs.Maps.{paired-kept}
+use Rattle.image_rows.proofs.Kept.{numbers-kept, below-kept, transactions-kept, statements-kept}
 
 -- ---- tests
 

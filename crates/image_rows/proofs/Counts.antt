@@ -1,7 +1,7 @@
 -- Where statements are in order, each transaction has one row of statement 0, so these rows count the transactions.
 use Rattle.basics.proofs.Kit.{_≡_, refl, sym, ap, _∙_, true, false, _&&_, not, List, [], _∷_, ℕ, _+_, _<_, eqb, length, getD, eqb-true, eqb-false, not-true}
 use Rattle.basics.proofs.Kit.{arith}
-use Rattle.basics.specs.Basics.{if_then_else_, any, isIn, distinct}
+use Rattle.basics.specs.Basics.{if_then_else_, any, isIn, distinct, oneIf}
 use Rattle.basics.proofs.Facts.{by, and-true}
 use Rattle.block_forms.specs.Tuple.{Owner, committed, tentative}
 use Rattle.image_rows.specs.Rows.{Row, isOwn, addOwner, transactions}
@@ -10,7 +10,7 @@ use Rattle.image_rows.specs.Chains.{isStart, starts}
 use Rattle.basics.proofs.Ands.{and-no}
 use Rattle.basics.proofs.Searches.{any-cons, any-tab, tab-any}
 use Rattle.image_rows.proofs.Owners.{in-transactions}
-use Rattle.image_rows.proofs.Totals.{total, bit, total-same, total-sum, total-none, count-total}
+use Rattle.image_rows.proofs.Totals.{total, total-same, total-sum, total-none, count-total}
 use Rattle.image_rows.proofs.Ranks.{txOf, stOf, own, own-in, own-out, placed, Ordered, placed-one}
 use Rattle.image_rows.proofs.Order.{own-row}
 use Rattle.basics.proofs.Elements.{in-head, in-weak}
@@ -29,8 +29,8 @@ transactions-distinct (r ∷ rs) = added-distinct (r .1 .owner) (transactions rs
 
 -- a start of t, or of one of ts
 start-or : (t o : ℕ) (ts : List ℕ) → isIn t ts ≡ false
-    → bit (isStart o && isIn (txOf o) (t ∷ ts)) ≡ bit (own t o && eqb (stOf o) 0) + bit (isStart o && isIn (txOf o) ts)
-unfolding isStart own isIn bit
+    → oneIf (isStart o && isIn (txOf o) (t ∷ ts)) ≡ oneIf (own t o && eqb (stOf o) 0) + oneIf (isStart o && isIn (txOf o) ts)
+unfolding isStart own isIn
 start-or t o ts h =
     rw (any-cons (eqb (txOf o)) t ts) (
     by (eqb o 0) (λ a. rw a) (λ a.
@@ -47,8 +47,8 @@ module _ (os ns : List ℕ) (n : ℕ) (w : Ordered os ns n) where
   rows = rowsIn [] [] os [] n
 
   listed : (ts : List ℕ) → distinct ts ≡ true → ((t : ℕ) → isIn t ts ≡ true → placed os ns n t 0 ≡ 1)
-      → total (λ k. bit (isStart (getD os k 0) && isIn (txOf (getD os k 0)) ts)) n ≡ length ts
-  unfolding distinct isIn any bit placed
+      → total (λ k. oneIf (isStart (getD os k 0) && isIn (txOf (getD os k 0)) ts)) n ≡ length ts
+  unfolding distinct isIn any placed
   listed [] d h = total-none _ n (λ k l. rw (and-no (isStart (getD os k 0))))
   listed (t ∷ ts) d h =
       let v = and-true (not (isIn t ts)) (distinct ts) d in

@@ -1,31 +1,14 @@
 -- Rows that are changed but for what a test looks at: the test answers the same. So the tests read columns with the others missing, and rows
 -- without payloads.
-use Rattle.basics.proofs.Kit.{_≡_, refl, sym, ap, _∙_, Bool, false, _&&_, List, [], _∷_, map, ℕ, suc, _≤_, zero, leb, ltb, length, take, getD}
+use Rattle.basics.proofs.Kit.{_≡_, refl, sym, ap, _∙_, false, _&&_, List, [], _∷_, map, ℕ, _≤_, leb, ltb, length, take, getD}
 use Rattle.basics.specs.Basics.{if_then_else_, all, every, paired, howMany, distinct}
 use Rattle.block_forms.specs.Tuple.{Owner, committed, tentative}
 use Rattle.image_rows.specs.Rows.{Row, number, isBy, isOwn, follows, startsWell, isBelow, earlierBy, statementIs, statementOk, transactions, openLimit}
 use Rattle.image_rows.specs.Columns.{codedOwner, coded, rowAt, rowsIn, columnsOk}
-use Rattle.basics.specs.Lists.{tab}
 use Rattle.basics.proofs.Ands.{and-yes, and-assoc}
 use Rattle.basics.proofs.Tabs.{take-tab, tab-self}
 use Rattle.basics.proofs.Tabs.{map-tab}
-
-module _ {A : Type 0} (f g : A → Bool) (h : A → A) (e : (x : A) → f (h x) ≡ g x) where
-  pub all-kept : (xs : List A) → all f (map h xs) ≡ all g xs
-  unfolding all
-  all-kept [] = refl
-  all-kept (x ∷ xs) = rw (e x, all-kept xs)
-
-  pub count-kept : (xs : List A) → howMany f (map h xs) ≡ howMany g xs
-  unfolding howMany if_then_else_
-  count-kept [] = refl
-  count-kept (x ∷ xs) = rw (e x, count-kept xs)
-
-pub paired-kept : {A : Type 0} (f : A → A → Bool) (h : A → A) → ((x y : A) → f (h x) (h y) ≡ f x y) → (xs : List A) → paired f (map h xs) ≡ paired f xs
-unfolding paired
-paired-kept f h e [] = refl
-paired-kept f h e (x ∷ []) = refl
-paired-kept f h e (x ∷ y ∷ ys) = rw (e x y, paired-kept f h e (y ∷ ys))
+use Rattle.basics.proofs.Maps.{all-kept, count-kept}
 
 -- ---- rows with the same owners, or numbers, or both
 

@@ -1,7 +1,7 @@
 -- The tests of statements that the code makes are the definition's, and count the transactions.
 use Rattle.basics.proofs.Kit.{_≡_, refl, sym, ap, _∙_, true, _&&_, List, [], ℕ, suc, _≤_, _<_, zero, _-_, eqb, ltb, length, take, getD, length-take, getD-take, lt-ltb, eqb-true, eq-eqb}
 use Rattle.basics.proofs.Kit.{ne-eqb, eqb-false, ltb-true, arith}
-use Rattle.basics.specs.Basics.{if_then_else_, all, howMany, distinct}
+use Rattle.basics.specs.Basics.{if_then_else_, all, howMany, distinct, oneIf}
 use Rattle.basics.proofs.Facts.{by, lie, and-true}
 use Rattle.image_rows.specs.Rows.{Row, number, isBy, isOwn, earlierBy, statementIs, statementOk}
 use Rattle.image_rows.specs.Columns.{codedOwner, coded, rowAt, rowsIn}
@@ -10,7 +10,7 @@ use Rattle.image_rows.proofs.Chains.{last-le, last-passes, last-there}
 use Rattle.image_rows.proofs.Keys.{once-in, once-out}
 use Rattle.basics.proofs.Members.{distinct-out}
 use Rattle.basics.proofs.Searches.{all-tab, tab-all}
-use Rattle.image_rows.proofs.Totals.{bit, total-same, count-total}
+use Rattle.image_rows.proofs.Totals.{total-same, count-total}
 use Rattle.image_rows.proofs.Ranks.{txOf, stOf, own, rank, Before, Ordered, Ranked, ranked-ordered, ordered-ranked, same-row}
 
 -- ---- the code's tests
@@ -80,8 +80,8 @@ module _ (os ns : List ℕ) (n : ℕ) where
   unfolding rowsIn rank earlierBy number rowAt coded
   row-rank t m = count-total (earlierBy t m) (rowAt [] ns os []) n ∙ total-same _ _ n (λ k l. earlier k)
     where
-      earlier : (k : ℕ) → bit (earlierBy t m (rowAt [] ns os [] k)) ≡ bit (own t (getD os k 0) && ltb (getD ns k 0) m)
-      earlier k = ap (λ b. bit (b && ltb (getD ns k 0) m)) (own-row t k)
+      earlier : (k : ℕ) → oneIf (earlierBy t m (rowAt [] ns os [] k)) ≡ oneIf (own t (getD os k 0) && ltb (getD ns k 0) m)
+      earlier k = ap (λ b. oneIf (b && ltb (getD ns k 0) m)) (own-row t k)
 
   row-none : (k : ℕ) → getD os k 0 ≡ 0 → statementOk rows (rowAt [] ns os [] k) ≡ true
   unfolding statementOk statementIs number rowAt coded codedOwner if_then_else_

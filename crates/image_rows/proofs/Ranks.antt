@@ -3,8 +3,10 @@
 use Rattle.basics.proofs.Kit.{_≡_, refl, sym, ap, _∙_, Bool, true, _&&_, not, List, ℕ, suc, _+_, _%_, _≤_, _<_, zero, _/_, _-_, eqb, ltb, getD, lt-ltb, le-ltb, eqb-true, eq-eqb, ne-eqb}
 use Rattle.basics.proofs.Kit.{eqb-false, not-true, arith}
 use Rattle.basics.proofs.Facts.{by, and-true}
+use Rattle.basics.specs.Basics.{oneIf}
+use Rattle.basics.proofs.Members.{compared}
 use Rattle.block_forms.specs.Limits.{statementLimit}
-use Rattle.image_rows.proofs.Totals.{total, bit, bit-most, bit-true, true-bit, bit-suc, bit-none, bit-below, compared, total-le, total-same, total-sum, total-none, total-some}
+use Rattle.image_rows.proofs.Totals.{total, bit-most, bit-true, bit-suc, bit-none, bit-below, total-le, total-same, total-sum, total-none, total-some}
 use Rattle.image_rows.proofs.Totals.{total-find, total-one}
 
 -- transaction and statement of a code
@@ -33,16 +35,16 @@ same-code o p a b d e = omega arith
 module _ (os ns : List ℕ) (n : ℕ) where
   -- how many rows of t have a number below m; number m; a statement below c; statement c
   unfoldable pub rank : ℕ → ℕ → ℕ
-  rank t m = total (λ k. bit (own t (getD os k 0) && ltb (getD ns k 0) m)) n
+  rank t m = total (λ k. oneIf (own t (getD os k 0) && ltb (getD ns k 0) m)) n
 
   unfoldable numbered : ℕ → ℕ → ℕ
-  numbered t m = total (λ k. bit (own t (getD os k 0) && eqb (getD ns k 0) m)) n
+  numbered t m = total (λ k. oneIf (own t (getD os k 0) && eqb (getD ns k 0) m)) n
 
   unfoldable lowest : ℕ → ℕ → ℕ
-  lowest t c = total (λ k. bit (own t (getD os k 0) && ltb (stOf (getD os k 0)) c)) n
+  lowest t c = total (λ k. oneIf (own t (getD os k 0) && ltb (stOf (getD os k 0)) c)) n
 
   unfoldable pub placed : ℕ → ℕ → ℕ
-  placed t c = total (λ k. bit (own t (getD os k 0) && eqb (stOf (getD os k 0)) c)) n
+  placed t c = total (λ k. oneIf (own t (getD os k 0) && eqb (stOf (getD os k 0)) c)) n
 
   -- a row with this code
   pub record Coded (o : ℕ) : Type 0 where
@@ -81,7 +83,7 @@ module _ (os ns : List ℕ) (n : ℕ) where
 
   numbered-some : (t k : ℕ) → k < n → own t (getD os k 0) ≡ true → 1 ≤ numbered t (getD ns k 0)
   unfolding numbered
-  numbered-some t k l w = total-some _ n k l (true-bit (rw (w, eq-eqb (getD ns k 0) (getD ns k 0) refl)))
+  numbered-some t k l w = total-some _ n k l (rw (w, eq-eqb (getD ns k 0) (getD ns k 0) refl) (omega arith))
 
   numbered-find : {X : Type 0} (t m : ℕ) → 1 ≤ numbered t m → ((k : ℕ) → k < n → own t (getD os k 0) ≡ true → getD ns k 0 ≡ m → X) → X
   unfolding numbered
@@ -94,7 +96,7 @@ module _ (os ns : List ℕ) (n : ℕ) where
 
   placed-some : (t c k : ℕ) → k < n → own t (getD os k 0) ≡ true → stOf (getD os k 0) ≡ c → 1 ≤ placed t c
   unfolding placed
-  placed-some t c k l w e = total-some _ n k l (true-bit (rw (w, eq-eqb _ _ e)))
+  placed-some t c k l w e = total-some _ n k l (rw (w, eq-eqb _ _ e) (omega arith))
 
   -- ---- from ranks to order
 
@@ -105,7 +107,7 @@ module _ (os ns : List ℕ) (n : ℕ) where
         total-one _ n (λ k. bit-most (own t (getD os k 0) && eqb (getD ns k 0) m))
         (λ j k l h a b. apart j k l h (at j a ∙ sym (at k b)))
       where
-        at : (k : ℕ) → 1 ≤ bit (own t (getD os k 0) && eqb (getD ns k 0) m) → getD ns k 0 ≡ m
+        at : (k : ℕ) → 1 ≤ oneIf (own t (getD os k 0) && eqb (getD ns k 0) m) → getD ns k 0 ≡ m
         at k a = eqb-true _ _ (and-true (own t (getD os k 0)) (eqb (getD ns k 0) m) (bit-true _ a) .1)
 
     -- below a number of rank r + 1 is a row of rank r
@@ -185,7 +187,7 @@ module _ (os ns : List ℕ) (n : ℕ) where
         total-one _ n (λ k. bit-most (own t (getD os k 0) && eqb (stOf (getD os k 0)) c)) (λ j k l h a b.
         let x = at j a in let y = at k b in y .0 (ordered .once j k l h (same-code (getD os j 0) (getD os k 0) (x .0) (y .0) (x .1 .0 ∙ sym (y .1 .0)) (x .1 .1 ∙ sym (y .1 .1)))))
       where
-        at : (k : ℕ) → 1 ≤ bit (own t (getD os k 0) && eqb (stOf (getD os k 0)) c) → (getD os k 0 ≡ 0 → ⊥) × ((txOf (getD os k 0) ≡ t) × (stOf (getD os k 0) ≡ c))
+        at : (k : ℕ) → 1 ≤ oneIf (own t (getD os k 0) && eqb (stOf (getD os k 0)) c) → (getD os k 0 ≡ 0 → ⊥) × ((txOf (getD os k 0) ≡ t) × (stOf (getD os k 0) ≡ c))
         at k a =
             let w = and-true (own t (getD os k 0)) (eqb (stOf (getD os k 0)) c) (bit-true _ a) in
             let v = own-out t (getD os k 0) (w .0) in (v .0, (v .1, eqb-true (stOf (getD os k 0)) c (w .1)))
@@ -213,8 +215,8 @@ module _ (os ns : List ℕ) (n : ℕ) where
         sym (total-same _ _ n (λ j h. by (own t (getD os j 0)) (same j h) (λ u. rw u)) ∙ lowest-all k l z (stOf (getD os k 0)) (omega arith))
       where
         same : (j : ℕ) → j < n → own (txOf (getD os k 0)) (getD os j 0) ≡ true
-            → bit (own (txOf (getD os k 0)) (getD os j 0) && ltb (getD ns j 0) (getD ns k 0))
-            ≡ bit (own (txOf (getD os k 0)) (getD os j 0) && ltb (stOf (getD os j 0)) (stOf (getD os k 0)))
+            → oneIf (own (txOf (getD os k 0)) (getD os j 0) && ltb (getD ns j 0) (getD ns k 0))
+            ≡ oneIf (own (txOf (getD os k 0)) (getD os j 0) && ltb (stOf (getD os j 0)) (stOf (getD os k 0)))
         same j h w =
             let x = own-out (txOf (getD os k 0)) (getD os j 0) w in
             compared (stOf (getD os j 0)) (stOf (getD os k 0))

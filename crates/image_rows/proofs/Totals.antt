@@ -1,40 +1,26 @@
 -- Sums over the first n indices.
 use Rattle.basics.proofs.Kit.{_≡_, refl, ap, Bool, true, false, _&&_, ℕ, suc, _+_, _≤_, _<_, zero, eqb, ltb, lt-ltb, le-ltb, eqb-true, eq-eqb, ne-eqb, eqb-false, ltb-true}
 use Rattle.basics.proofs.Kit.{ltb-false, arith}
-use Rattle.basics.specs.Basics.{if_then_else_, howMany}
+use Rattle.basics.specs.Basics.{if_then_else_, howMany, oneIf}
 use Rattle.basics.proofs.Facts.{by}
 use Rattle.basics.specs.Lists.{tab}
+use Rattle.basics.proofs.Members.{compared}
 
 -- w 0 + .. + w (n - 1)
 unfoldable pub total : (ℕ → ℕ) → ℕ → ℕ
 total w zero = 0
 total w (suc n) = w n + total w n
 
-unfoldable pub bit : Bool → ℕ
-bit true = 1
-bit false = 0
-
-pub bit-most : (b : Bool) → bit b ≤ 1
-unfolding bit
+pub bit-most : (b : Bool) → oneIf b ≤ 1
 bit-most true = omega arith
 bit-most false = omega arith
 
-pub bit-true : (b : Bool) → 1 ≤ bit b → b ≡ true
-unfolding bit
+pub bit-true : (b : Bool) → 1 ≤ oneIf b → b ≡ true
 bit-true true h = refl
 bit-true false h = absurd (omega arith)
 
-pub true-bit : {b : Bool} → b ≡ true → 1 ≤ bit b
-unfolding bit
-true-bit e = rw e (omega arith)
-
-pub compared : {X : Type 0} (a b : ℕ) → (a < b → X) → (a ≡ b → X) → (b < a → X) → X
-compared a b f g h =
-    by (ltb a b) (λ t. f (ltb-true a b t)) (λ t. by (eqb a b) (λ u. g (eqb-true a b u)) (λ u. h (omega (arith, ltb-false a b t, eqb-false a b u))))
-
 -- below m + 1 is below m or m
-pub bit-suc : (b : Bool) (x m : ℕ) → bit (b && ltb x (suc m)) ≡ bit (b && ltb x m) + bit (b && eqb x m)
-unfolding bit
+pub bit-suc : (b : Bool) (x m : ℕ) → oneIf (b && ltb x (suc m)) ≡ oneIf (b && ltb x m) + oneIf (b && eqb x m)
 bit-suc false x m = refl
 bit-suc true x m =
     compared x m
@@ -42,13 +28,11 @@ bit-suc true x m =
     (λ e. rw (lt-ltb x (suc m) (omega arith), le-ltb x m (omega arith), eq-eqb x m e))
     (λ l. rw (le-ltb x (suc m) (omega arith), le-ltb x m (omega arith), ne-eqb x m (λ e. omega arith)))
 
-pub bit-none : (b : Bool) (x : ℕ) → bit (b && ltb x 0) ≡ 0
-unfolding bit
+pub bit-none : (b : Bool) (x : ℕ) → oneIf (b && ltb x 0) ≡ 0
 bit-none false x = refl
 bit-none true x = rw (le-ltb x 0 (omega arith))
 
-pub bit-below : (b : Bool) (x m n : ℕ) → m ≤ n → bit (b && ltb x m) ≤ bit (b && ltb x n)
-unfolding bit
+pub bit-below : (b : Bool) (x m n : ℕ) → m ≤ n → oneIf (b && ltb x m) ≤ oneIf (b && ltb x n)
 bit-below false x m n h = omega arith
 bit-below true x m n h =
     by (ltb x m)
@@ -108,18 +92,18 @@ module _ (w : ℕ → ℕ) where
 
 -- a count along a list by its index
 module _ {A : Type 0} (f : A → Bool) (g : ℕ → A) where
-  counted : (i n : ℕ) → howMany f (tab g i n) + total (λ k. bit (f (g k))) i ≡ total (λ k. bit (f (g k))) (i + n)
-  unfolding howMany if_then_else_ bit
+  counted : (i n : ℕ) → howMany f (tab g i n) + total (λ k. oneIf (f (g k))) i ≡ total (λ k. oneIf (f (g k))) (i + n)
+  unfolding howMany if_then_else_
   counted i zero = let e : i + 0 ≡ i = omega arith in rw e (omega arith)
   counted i (suc n) =
       let e : i + suc n ≡ suc i + n = omega arith in
       rw e (by (f (g i))
-      (λ t. rw t (omega (arith, counted (suc i) n, more i, ap bit t)))
-      (λ t. rw t (omega (arith, counted (suc i) n, more i, ap bit t))))
+      (λ t. rw t (omega (arith, counted (suc i) n, more i, ap oneIf t)))
+      (λ t. rw t (omega (arith, counted (suc i) n, more i, ap oneIf t))))
     where
-      more : (i : ℕ) → total (λ k. bit (f (g k))) (suc i) ≡ bit (f (g i)) + total (λ k. bit (f (g k))) i
+      more : (i : ℕ) → total (λ k. oneIf (f (g k))) (suc i) ≡ oneIf (f (g i)) + total (λ k. oneIf (f (g k))) i
       more i = unfold total in refl
 
-  pub count-total : (n : ℕ) → howMany f (tab g 0 n) ≡ total (λ k. bit (f (g k))) n
+  pub count-total : (n : ℕ) → howMany f (tab g 0 n) ≡ total (λ k. oneIf (f (g k))) n
   unfolding total
   count-total n = let e : 0 + n ≡ n = omega arith in omega (arith, rw e at (counted 0 n))

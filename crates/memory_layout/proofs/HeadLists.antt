@@ -3,19 +3,18 @@ use Rattle.image_rows.specs.Rows.{openLimit}
 use Rattle.block_forms.specs.Limits.{blockLimit, statementLimit}
 use Rattle.basics.proofs.Kit.{_≡_, refl, sym, ap, _∙_, Bool, true, false, not, List, [], _∷_, _++_, ℕ, suc, _+_, _*_, _%_, _≤_, _<_, _/_, _-_, zero-add, eqb, length, getD, set, eq-eqb}
 use Rattle.basics.proofs.Kit.{ne-eqb, arith}
-use Rattle.basics.specs.Basics.{if_then_else_}
+use Rattle.basics.specs.Basics.{if_then_else_, oneIf}
 use Rattle.memory_bytes.specs.Bytes.{le2, le4, bytes2, bytes4, Apart, Wrote, Lowered}
 use Rattle.basics.specs.Lists.{tab, removeAt}
-use Rattle.basics.proofs.Tabs.{getD-tab, tab-add, tab-set, tab-remove}
+use Rattle.basics.proofs.Tabs.{getD-tab, tab-set, tab-remove}
 use Rattle.basics.proofs.Searches.{tab-next, tab-none}
 use Rattle.memory_bytes.proofs.Bytes.{le2-below, le2-above, le4-below, le4-above, le2-wrote, le4-wrote, le4-lowered}
 use Rattle.model.specs.Transactions.{isFor}
 use Rattle.memory_layout.specs.Views.{headOf, openAt, directoryAt, namedBlock, directoryCount, namedCount, openCount}
 use Rattle.memory_layout.specs.Flat.{flatOf, capacityOf, opensOf, namedOf, directoriesOf, Room, Replaces, Becomes, withHead, withOpens, withNamed, withDirectories, noOpen}
-use Rattle.memory_layout.specs.Opens.{activeOf, OpenFits, findOpen, oneIf}
+use Rattle.memory_layout.specs.Opens.{activeOf, OpenFits, findOpen}
 use Rattle.memory_layout.specs.declared.Head.{Head}
 use Rattle.memory_layout.specs.declared.Open.{Open}
-use Rattle.memory_layout.proofs.Frame.{tab-cong}
 use Rattle.memory_layout.proofs.Laws.{Known, known, opens-length, named-length, directories-length}
 use Rattle.memory_layout.proofs.Changes.{same-below, same-above, apart-then, becomes-head, becomes-opens, becomes-named, becomes-directories}
 use Rattle.basics.proofs.Tabs.{tab-push}

@@ -1,6 +1,5 @@
 -- Open transactions as values of the code, and a transaction's place among them.
 use Prim.Native.Nat.{ℕ, suc, _<_}
-use mathlib.Core.Bool.{Bool, true, false}
 use mathlib.Core.List.{List, [], _∷_}
 use Rattle.block_forms.specs.Limits.{statementLimit, transactionLimit}
 use Rattle.basics.specs.Basics.{if_then_else_}
@@ -21,8 +20,3 @@ pub record OpenFits (o : Open) : Type 0 where
 unfoldable pub findOpen : ℕ → List Active → ℕ
 findOpen tx [] = 0
 findOpen tx (o ∷ os) = if isFor tx o then 0 else suc (findOpen tx os)
-
--- 1 for true, 0 for false
-abbrev pub oneIf : Bool → ℕ
-oneIf true = 1
-oneIf false = 0

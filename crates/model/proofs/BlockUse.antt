@@ -1,8 +1,8 @@
 -- The blocks in use, the block last taken, and the entries and directory blocks of a running checkpoint: an invariant of the store alone.
-use Rattle.basics.proofs.Kit.{_≡_, refl, sym, ap, _∙_, subst, ap₂, Bool, true, false, not, some, none, List, [], _∷_, _++_, append-nil, map, tail, ℕ, suc, _+_, _≤_, _<_, _-_, leb, eqb}
+use Rattle.basics.proofs.Kit.{_≡_, refl, sym, ap, _∙_, subst, ap₂, Bool, true, false, some, none, List, [], _∷_, _++_, append-nil, map, tail, ℕ, suc, _+_, _≤_, _<_, _-_, leb, eqb}
 use Rattle.basics.proofs.Kit.{ltb, length, length-append, length-map, arith}
-use Rattle.basics.specs.Basics.{isIn, any, if_then_else_, howMany, sum, distinct, first}
-use Rattle.basics.proofs.Facts.{by, AllOf, lie, by-option, and-true}
+use Rattle.basics.specs.Basics.{isIn, any, if_then_else_, howMany, sum, first}
+use Rattle.basics.proofs.Facts.{by, AllOf, lie, by-option}
 use Rattle.block_forms.specs.Limits.{mostNumber, blockLimit}
 use Rattle.image.specs.Stages.{isZero, directoriesFor, capacityLimit}
 use Rattle.model.specs.State.{Page, Store, Checkpoint, idle, running, Held, Active}
@@ -10,8 +10,9 @@ use Rattle.model.specs.Rules.{isDirty, fresh, freeze, isFrozen}
 use Rattle.model.specs.Transactions.{changed, gives}
 use Rattle.model.specs.Checkpoint.{fill, freeCount, isFree, isRunning, beginCall, withProgress, blocksNeeded, usedToo, storePage, made, allocate, storeDirectory, storeHeader, stepAt, stepOf}
 use Rattle.model.specs.Calls.{TransactionCall, transact, Call, transacts, begins, steps, runs, call}
-use Rattle.basics.proofs.Elements.{eqb-true, not-true, in-here, in-cons, not-zero, pos-not-zero, in-head, in-weak, leb-false, any-many, leb-true, eqb-self, many-append, all-in, in-all}
+use Rattle.basics.proofs.Elements.{eqb-true, not-zero, pos-not-zero, in-head, in-weak, leb-false, leb-true, eqb-self, many-append, in-all}
 use Rattle.basics.proofs.Elements.{all-map, eqb-sym, all-append, all-two, in-append}
+use Rattle.basics.proofs.Members.{test-other, fails-not-in, one-many, not-in-many}
 use Rattle.model.proofs.Frozen.{images, images-first, images-thaw, Content, images-none}
 use Rattle.model.proofs.Pages.{stillFrozen, all-thaw}
 use Rattle.model.proofs.Totals.{sum-thaw}
@@ -38,17 +39,6 @@ pub length-fill : (b : ℕ) (es : List ℕ) → length (fill b es) ≡ length es
 unfolding fill if_then_else_
 length-fill b [] = refl
 length-fill b (e ∷ es) = by (eqb e 0) (λ k. rw k) (λ k. rw (k, length-fill b es))
-
--- x passes the test and b does not
-pub test-other : (f : ℕ → Bool) (x b : ℕ) → f x ≡ true → f b ≡ false → eqb b x ≡ false
-test-other f x b p q = by (eqb b x) (λ h. lie (sym q ∙ ap f (eqb-true b x h) ∙ p)) (λ h. h)
-
--- a block that is not in use is not in a list of blocks in use
-pub off-used : (used : ℕ → Bool) (b : ℕ) (es : List ℕ) → 0 < b → used b ≡ false → AllOf (λ e. 0 < e → used e ≡ true) es → isIn b es ≡ false
-unfolding isIn any
-off-used used b [] p h a = refl
-off-used used b (e ∷ es) p h a =
-    by (eqb b e) (λ k. let q = eqb-true b e k in lie (sym h ∙ ap used q ∙ a .0 (subst (λ z. 0 < z) q p))) (λ k. rw (k, any) (off-used used b es p h (a .1)))
 
 -- ---- the invariant
 
@@ -148,54 +138,6 @@ many-filled b i (e ∷ es) =
     (λ k. by (eqb b i) (λ u. by (eqb b e) (λ w. rw (k, u, w) (omega arith)) (λ w. rw (k, u, w) (omega arith)))
     (λ u. by (eqb b e) (λ w. rw (k, u, w) (omega arith)) (λ w. rw (k, u, w) (omega arith))))
     (λ k. let l = many-filled b i es in by (eqb b e) (λ w. rw (k, w) (omega arith)) (λ w. rw (k, w) l))
-
-one-many : (b i : ℕ) → howMany (eqb b) (i ∷ []) ≡ (if eqb b i then 1 else 0)
-unfolding howMany
-one-many b i = refl
-
-pub not-in-many : (b : ℕ) (es : List ℕ) → isIn b es ≡ false → howMany (eqb b) es ≡ 0
-unfolding isIn
-not-in-many b es h = let l = leb-false 1 (howMany (eqb b) es) (sym (any-many (eqb b) es) ∙ h) in omega arith
-
-in-many : (b : ℕ) (es : List ℕ) → isIn b es ≡ true → 0 < howMany (eqb b) es
-unfolding isIn
-in-many b es h = leb-true 1 (howMany (eqb b) es) (sym (any-many (eqb b) es) ∙ h)
-
--- in a list without repeats a number stands once or not at all
-pub once-many : (x : ℕ) (xs : List ℕ) → distinct xs ≡ true → howMany (eqb x) xs ≡ (if isIn x xs then 1 else 0)
-unfolding distinct howMany if_then_else_
-once-many x [] d = unfold isIn any in refl
-once-many x (y ∷ ys) d =
-    let q = and-true (not (isIn y ys)) (distinct ys) d in
-    by (eqb x y)
-    (λ e. rw (e, in-here x y ys e) (ap suc (not-in-many x ys (ap (λ z. isIn z ys) (eqb-true x y e) ∙ not-true (isIn y ys) (q .0)))))
-    (λ e. rw (e, in-cons x y ys e) (once-many x ys (q .1)))
-
--- a block that is named once
-pub once-distinct : (es : List ℕ) → AllOf (λ e. 0 < e) es → ((b : ℕ) → 0 < b → howMany (eqb b) es ≤ 1) → distinct es ≡ true
-unfolding distinct
-once-distinct [] p o = refl
-once-distinct (e ∷ es) p o = rw (alone, once-distinct es (p .1) (λ b h. let l = fewer b in omega (arith, o b h)))
-  where
-    fewer : (b : ℕ) → howMany (eqb b) es ≤ howMany (eqb b) (e ∷ es)
-    fewer b = unfold howMany if_then_else_ in by (eqb b e) (λ k. rw k (omega arith)) (λ k. rw k (omega arith))
-
-    more : howMany (eqb e) (e ∷ es) ≡ suc (howMany (eqb e) es)
-    more = unfold howMany if_then_else_ in rw (eqb-self e)
-
-    alone : isIn e es ≡ false
-    alone = by (isIn e es) (λ h. let l = in-many e es h in absurd (omega (arith, o e (p .0), more))) (λ h. h)
-
-pub once-left : (es ds : List ℕ) → ((b : ℕ) → 0 < b → howMany (eqb b) (es ++ ds) ≤ 1) → (b : ℕ) → 0 < b → howMany (eqb b) es ≤ 1
-once-left es ds o b h = omega (arith, o b h, many-append (eqb b) es ds)
-
-pub once-right : (es ds : List ℕ) → ((b : ℕ) → 0 < b → howMany (eqb b) (es ++ ds) ≤ 1) → (b : ℕ) → 0 < b → howMany (eqb b) ds ≤ 1
-once-right es ds o b h = omega (arith, o b h, many-append (eqb b) es ds)
-
-pub once-off : (es ds : List ℕ) → AllOf (λ e. 0 < e) es → ((b : ℕ) → 0 < b → howMany (eqb b) (es ++ ds) ≤ 1) → AllOf (λ e. isIn e ds ≡ false) es
-once-off es ds p o =
-    all-in _ es (λ e h. by (isIn e ds)
-    (λ k. absurd (omega (arith, in-many e es h, in-many e ds k, o e (in-all (λ e. 0 < e) e es h p), many-append (eqb e) es ds))) (λ k. k))
 
 -- ---- pages in a block
 
@@ -356,8 +298,8 @@ module _ (s : Store) (b : BlockUse s) (n : ℕ) (es ds : List ℕ) (r : Running 
       let one : length (images (s .pages)) ≡ suc (length is) = ap length ims in
       let i = allocate s in
       let fr : Fresh (s .blocks) (s .used) i = allocate-fresh s (b .taken) (omega (arith, r .room)) in
-      let off = off-used (s .used) i es (fr .pos) (fr .free) (r .named) in
-      let off′ = off-used (s .used) i ds (fr .pos) (fr .free) (all-map _ _ (λ d h q. h) ds (r .directories-used)) in
+      let off = fails-not-in (s .used) i es (fr .pos) (fr .free) (r .named) in
+      let off′ = fails-not-in (s .used) i ds (fr .pos) (fr .free) (all-map _ _ (λ d h q. h) ds (r .directories-used)) in
       let some-left : 0 < howMany isZero es = omega (arith, r .waiting) in
       let cnt = count-one s i 1 (s .blocks - 1) in
       let z = zeros-fill i es (fr .pos) some-left in
@@ -401,8 +343,8 @@ module _ (s : Store) (b : BlockUse s) (n : ℕ) (es ds : List ℕ) (r : Running 
       let i = allocate s in
       let fr : Fresh (s .blocks) (s .used) i = allocate-fresh s (b .taken) (omega (arith, r .room)) in
       let len : length (ds ++ i ∷ []) ≡ length ds + 1 = length-append ds (i ∷ []) in
-      let off = off-used (s .used) i es (fr .pos) (fr .free) (r .named) in
-      let off′ = off-used (s .used) i ds (fr .pos) (fr .free) (all-map _ _ (λ d h q. h) ds (r .directories-used)) in
+      let off = fails-not-in (s .used) i es (fr .pos) (fr .free) (r .named) in
+      let off′ = fails-not-in (s .used) i ds (fr .pos) (fr .free) (all-map _ _ (λ d h q. h) ds (r .directories-used)) in
       let cnt = count-one s i 1 (s .blocks - 1) in
       record {
         blocks = b .blocks;

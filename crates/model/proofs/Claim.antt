@@ -3,6 +3,7 @@ use Rattle.block_forms.specs.Limits.{blockLimit}
 use Rattle.basics.proofs.Kit.{_≡_, refl, ap, _∙_, true, List, [], _∷_, _≤_}
 use Rattle.basics.specs.Basics.{if_then_else_}
 use Rattle.basics.proofs.Facts.{AllOf}
+use Rattle.basics.proofs.Members.{once-many}
 use Rattle.image.specs.Stages.{holds}
 use Rattle.image.specs.View.{View}
 use Rattle.model.specs.State.{Store}
@@ -10,7 +11,7 @@ use Rattle.model.specs.Transactions.{openNumbers}
 use Rattle.model.specs.Calls.{afterCalls, Call, AllTyped, Typed}
 use Rattle.model.specs.CrashRecovery.{log, isHeader, Same}
 use Rattle.model.proofs.Views.{AllSane, recoverView, CutV, WriteOk, CrashViews, WritesOk}
-use Rattle.model.proofs.BlockUse.{once-many, BlockUse, keeps-use, step-use}
+use Rattle.model.proofs.BlockUse.{BlockUse, keeps-use, step-use}
 use Rattle.model.proofs.Recovery.{Found, found}
 use Rattle.model.proofs.Inv.{Ready, Inv, Like}
 use Rattle.model.proofs.Steps.{Top}

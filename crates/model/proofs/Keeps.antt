@@ -1,5 +1,5 @@
 -- Every call keeps the invariant.
-use Rattle.basics.proofs.Kit.{_≡_, refl, sym, ap, _∙_, subst, Bool, true, false, none, List, [], _∷_, _++_, map, ℕ, suc, _≤_, _<_, ltb, length}
+use Rattle.basics.proofs.Kit.{_≡_, refl, sym, ap, _∙_, subst, Bool, true, false, none, List, [], _∷_, _++_, map, ℕ, suc, _≤_, _<_, ltb, length, not, eqb}
 use Rattle.basics.proofs.Kit.{length-append, length-map, arith}
 use Rattle.basics.specs.Basics.{keep, if_then_else_, howMany, any, first, isEmpty}
 use Rattle.basics.proofs.Facts.{AllOf, by, by-option}
@@ -13,9 +13,9 @@ use Rattle.model.specs.Transactions.{gives, changed, openNumbers, withOp
 use Rattle.model.specs.Transactions.{carryOut, closePlan, abortPlan}
 use Rattle.model.specs.Checkpoint.{withProgress, beginCall, storePage, made, allocate, storeDirectory, storeHeader, stepAt, stepOf}
 use Rattle.model.specs.Calls.{TransactionCall, transact, Call, transacts, begins, steps, runs, call, others}
-use Rattle.basics.proofs.Elements.{in-append, all-map, Pairs}
+use Rattle.basics.proofs.Elements.{in-append, all-map, Pairs, keep-length}
 use Rattle.model.proofs.ByNumber.{planRows, removeAll}
-use Rattle.model.proofs.Owners.{numbers-append, numbers-write, numbers-length, others-length, numbers-without}
+use Rattle.model.proofs.Owners.{numbers-append, numbers-write, numbers-length, numbers-without}
 use Rattle.model.proofs.Splits.{mostSize}
 use Rattle.model.proofs.Frozen.{images, images-place, shown-withoutPending, images-none, images-carry}
 use Rattle.model.proofs.Effects.{unless-keeps, Accepts, Does, refuses, answers, starts, writes, finishes, undoes, does}
@@ -127,9 +127,9 @@ closed-valid : (tx n : ℕ) (os : List PlaceOp) (F : Row → List Row) (s : Stor
     → Sub (held (carryOut n os (s .pages))) (held (s .pages)) × (rows (carryOut n os (s .pages)) ≡ gather F (rows (s .pages)))
     → LiveOk (others tx (openNumbers (s .active))) (gather F (rows (s .pages)))
     → Valid (changed s (s .next) (carryOut n os (s .pages)) (without tx (s .active)))
-unfolding changed
+unfolding changed others
 closed-valid tx n os F s v r live =
-    let l = others-length tx (openNumbers (s .active)) in
+    let l = keep-length (λ o. not (eqb o tx)) (openNumbers (s .active)) in
     let o = numbers-without tx (s .active) in
     record {
       pages = carry-ok n os (s .pages) (v .pages);

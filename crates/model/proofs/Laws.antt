@@ -1,7 +1,7 @@
 -- The order of the rows held, runs as keys, the blocks that a checkpoint takes, the stores that are left, and run as steps.
-use Rattle.block_forms.specs.Limits.{blockSize, mostStatement}
-use Rattle.basics.proofs.Kit.{_≡_, refl, sym, ap, _∙_, subst, true, false, some, none, Option, List, [], _∷_, _++_, map, ℕ, suc, _+_, _*_, _≤_, _<_, zero, min, ltb, length, length-append}
-use Rattle.basics.proofs.Kit.{length-map, arith}
+use Rattle.block_forms.specs.Limits.{blockSize}
+use Rattle.basics.proofs.Kit.{_≡_, refl, sym, ap, _∙_, subst, true, false, some, none, Option, List, [], _∷_, _++_, map, ℕ, suc, _+_, _*_, _≤_, _<_, zero, ltb, length, length-append}
+use Rattle.basics.proofs.Kit.{length-map, arith, min-eq-left}
 use Rattle.basics.specs.Basics.{if_then_else_, all, sum, howMany, first, keep, isEmpty, isIn}
 use Rattle.basics.proofs.Facts.{by, lie, AllOf}
 use Rattle.image_rows.specs.Rows.{isOwn}
@@ -206,9 +206,6 @@ module _ (s : Store) (w : WellFormed s) where
       let v = sound s w .valid in
       subst (λ n. n ≤ s .capacity) (sym (w .counts tx h)) (omega (arith, many-length (isOwn tx) (rows (s .pages)), sub-length (rows-sub (s .pages)), v .has .few))
 
-min-below : {n cap : ℕ} → n ≤ cap → cap ≤ 1024 → min (suc n) mostStatement ≡ suc n
-min-below h k = omega (arith, h, k)
-
 pub never-falls-back : NeverFallsBack
 unfolding left
 never-falls-back s w =
@@ -219,7 +216,7 @@ never-falls-back s w =
       parts = λ p f. let hs = map withoutPending (live (p .tuples)) in parts-fit hs (small hs (live-withoutPending (p .tuples) (ok-in ok f .0)));
       block = λ h. enough s w (s .checkpoint) (w .checkpoint) h;
       low = counts-low s w;
-      counted = λ tx h. count-write tx (s .active) h ∙ min-below (counts-low s w tx h) (w .capacity .1);
+      counted = λ tx h. count-write tx (s .active) h ∙ min-eq-left (omega (arith, counts-low s w tx h, w .capacity .1));
     }
 
 -- ---- runs

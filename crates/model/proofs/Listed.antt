@@ -1,15 +1,16 @@
 -- The open transactions are listed each once, and each is 0 to 4,095.
 use Rattle.block_forms.specs.Limits.{mostTransaction}
-use Rattle.basics.proofs.Kit.{_≡_, refl, sym, ap, _∙_, subst, Bool, true, false, not, List, [], _∷_, _++_, map, ℕ, _≤_, eqb, arith}
-use Rattle.basics.specs.Basics.{distinct, isIn, any, keep, if_then_else_}
-use Rattle.basics.proofs.Facts.{AllOf, and-true, by, lie}
+use Rattle.basics.proofs.Kit.{_≡_, refl, sym, ap, _∙_, subst, true, false, not, List, [], _∷_, _++_, map, ℕ, _≤_, eqb, arith}
+use Rattle.basics.specs.Basics.{distinct, isIn, any, keep}
+use Rattle.basics.proofs.Facts.{AllOf, by, lie}
 use Rattle.block_forms.specs.Tuple.{Owner, OwnerFits, Fits, committed, tentative}
 use Rattle.image_rows.specs.Rows.{Row, isBy, isOwn, transactions}
 use Rattle.model.specs.State.{Store, Outcome}
 use Rattle.model.specs.Transactions.{gives, changed, openNumbers, afterWrite, withTuple}
 use Rattle.model.specs.Calls.{TransactionCall, transact, Call, transacts, begins, steps, runs, call, isTransaction, others}
 use Rattle.model.specs.Recover.{reopened}
-use Rattle.basics.proofs.Elements.{not-in, in-append, not-true, in-one, eqb-sym, in-keep, all-append, all-map, all-keep, eqb-true, all-in}
+use Rattle.basics.proofs.Elements.{all-append, all-map, all-keep, eqb-true, all-in}
+use Rattle.basics.proofs.Members.{distinct-snoc, distinct-keep}
 use Rattle.model.proofs.Owners.{numbers-append, numbers-write, numbers-without, numbers-reopened, transactions-distinct, in-transactions}
 use Rattle.model.proofs.Effects.{Does, refuses, answers, starts, writes, finishes, undoes, does}
 use Rattle.model.proofs.NoStores.{call-leaves}
@@ -19,21 +20,6 @@ Listed s = (distinct (openNumbers (s .active)) ≡ true) × AllOf (λ tx. tx ≤
 
 abbrev Once : List ℕ → Type 0
 Once os = (distinct os ≡ true) × AllOf (λ tx. tx ≤ mostTransaction) os
-
-distinct-snoc : (x : ℕ) (os : List ℕ) → isIn x os ≡ false → distinct os ≡ true → distinct (os ++ x ∷ []) ≡ true
-unfolding distinct
-distinct-snoc x [] h d = unfold isIn any in refl
-distinct-snoc x (o ∷ os) h d =
-    let n = not-in x o os h in
-    let k = and-true (not (isIn o os)) (distinct os) d in
-    rw (in-append o os, not-true (isIn o os) (k .0), in-one o x (eqb-sym x o (n .0)), distinct-snoc x os (n .1) (k .1))
-
-distinct-keep : (f : ℕ → Bool) (os : List ℕ) → distinct os ≡ true → distinct (keep f os) ≡ true
-unfolding distinct keep if_then_else_
-distinct-keep f [] d = refl
-distinct-keep f (o ∷ os) d =
-    let k = and-true (not (isIn o os)) (distinct os) d in
-    by (f o) (λ h. rw (h, in-keep o f os, not-true (isIn o os) (k .0), distinct-keep f os (k .1))) (λ h. rw h (distinct-keep f os (k .1)))
 
 once-open : (tx : ℕ) (os : List ℕ) → isIn tx os ≡ false → tx ≤ mostTransaction → Once os → Once (os ++ tx ∷ [])
 once-open tx os h l o = (distinct-snoc tx os h (o .0), all-append _ os (tx ∷ []) (o .1) (l, tt))

@@ -1,7 +1,7 @@
 -- A store just recovered.
 use Rattle.basics.proofs.Kit.{_≡_, refl, sym, ap, _∙_, subst, Bool, true, false, _&&_, not, some, List, [], _∷_, _++_, map, ℕ, suc, _≤_, _<_, leb, eqb, ltb, arith}
-use Rattle.basics.specs.Basics.{isEmpty, if_then_else_, all, distinct, isIn, any, howMany}
-use Rattle.basics.proofs.Facts.{AllOf, by, and-true, lie, clash}
+use Rattle.basics.specs.Basics.{isEmpty, all, distinct, isIn, any, howMany}
+use Rattle.basics.proofs.Facts.{AllOf, and-true, lie, clash}
 use Rattle.block_forms.specs.Block.{page, header, asPage, InRange}
 use Rattle.block_forms.specs.Limits.{mostNumber, blockLimit}
 use Rattle.block_forms.specs.declared.Header.{Header}
@@ -17,9 +17,10 @@ use Rattle.model.specs.Sight.{held, rows}
 use Rattle.model.specs.Transactions.{openNumbers}
 use Rattle.model.specs.Recover.{loaded, recoveredStore}
 use Rattle.model.proofs.Views.{AllSane, Sane}
-use Rattle.basics.proofs.Elements.{some-eq, leb-true, not-true, all-map, all-split, every-all, eqb-true, all-mapped, in-all, all-append, all-in, in-append}
+use Rattle.basics.proofs.Elements.{some-eq, leb-true, not-true, all-map, all-split, every-all, all-mapped, in-all, all-append, all-in, in-append}
+use Rattle.basics.proofs.Members.{many-distinct}
 use Rattle.model.proofs.Owners.{numbers-reopened, in-transactions, transactions-distinct}
-use Rattle.model.proofs.BlockUse.{not-in-many, Booked, BlockUse, inBlock-many}
+use Rattle.model.proofs.BlockUse.{Booked, BlockUse, inBlock-many}
 use Rattle.model.proofs.Recovery.{Found, read-blocks}
 use Rattle.model.proofs.Inv.{listed, listed-held, listed-read, Tied, Ready, Inv, named-self}
 use Rattle.model.proofs.Steps.{loaded-content, bare-withoutPending, loaded-blocks}
@@ -103,15 +104,6 @@ pub start-inv : (n : ℕ) (v : View) (s : Store) → Found n v s → Ready s →
 start-inv n v s f rd = subst (λ z. Inv n v z z z) (f .store) (start-store n v s f (subst Ready (sym (f .store)) rd))
 
 -- ---- the blocks that a recovered store uses
-
-many-distinct : (b : ℕ) (es : List ℕ) → distinct es ≡ true → howMany (eqb b) es ≤ 1
-unfolding distinct howMany if_then_else_
-many-distinct b [] d = omega arith
-many-distinct b (e ∷ es) d =
-    let k = and-true (not (isIn e es)) (distinct es) d in
-    by (eqb b e)
-    (λ h. let z = not-in-many b es (ap (λ x. isIn x es) (eqb-true b e h) ∙ not-true (isIn e es) (k .0)) in rw h (omega arith))
-    (λ h. rw h (many-distinct b es (k .1)))
 
 booked-loaded : (used : ℕ → Bool) (ps : List StoredPage) → AllOf (λ b. used b ≡ true) (map (λ p. p .block) ps) → AllOf (Booked used) (map loaded ps)
 unfolding loaded isDirty

@@ -1,6 +1,6 @@
 -- One step of a running checkpoint keeps what holds, and writes a block whose fields are in range.
 use Rattle.basics.proofs.Kit.{_≡_, refl, sym, ap, _∙_, subst, ap₂, Bool, true, false, not, some, none, List, [], _∷_, _++_, map, tail, ℕ, suc, _*_, _≤_, _<_, zero, min, eqb, ltb, length}
-use Rattle.basics.proofs.Kit.{take, drop, getD, length-take, length-map, arith}
+use Rattle.basics.proofs.Kit.{drop, getD, length-map, arith, length-take}
 use Rattle.basics.specs.Basics.{if_then_else_, all, first, isIn, any, every}
 use Rattle.basics.proofs.Facts.{AllOf, lie, by}
 use Rattle.block_forms.specs.Block.{page, Block, header, InRange, directory}
@@ -13,7 +13,7 @@ use Rattle.image.specs.View.{View}
 use Rattle.model.specs.State.{Store, Outcome, Write, Page}
 use Rattle.model.specs.Rules.{shown, isDirty, isFrozen, withoutPending}
 use Rattle.model.specs.Sight.{held}
-use Rattle.model.specs.Checkpoint.{storable, storePage, made, withProgress, allocate, fill, usedToo, storeDirectory, headerFor, storeHeader}
+use Rattle.model.specs.Checkpoint.{storable, storePage, made, withProgress, allocate, fill, usedToo, storeDirectory, headerFor, storeHeader, blockEntries}
 use Rattle.model.specs.Recover.{loaded, recoveredStore}
 use Rattle.model.specs.CrashRecovery.{content}
 use Rattle.model.specs.Checkpoints.{contentOf}
@@ -23,11 +23,11 @@ use Rattle.model.proofs.Owners.{numbers-reopened, in-transactions}
 use Rattle.model.proofs.Frozen.{Content, images, images-first, images-thaw, shown-withoutPending, bare, images-none}
 use Rattle.model.proofs.Pages.{all-thaw}
 use Rattle.model.proofs.Alloc.{Fresh, allocate-fresh, used-old}
-use Rattle.model.proofs.BlockUse.{Booked, test-other, BlockUse, Running, off-used, once-distinct, once-right, once-off, once-left}
+use Rattle.model.proofs.BlockUse.{Booked, BlockUse, Running}
 use Rattle.model.proofs.Recovery.{Found, read-blocks}
 use Rattle.model.proofs.Stored.{Dirs, put-other, Stored, stored-fill, put-same, stored-put, dirs-snoc, dirs-put, end, todo, stands, stored-read, dirs-read, stored-written}
 use Rattle.model.proofs.Inv.{Inv, Good, Tied, clean-pos, Run, good-put, good-more, named-fill, tied-fresh, tied-frozen, listed, listed-read, listed-held, Named}
-use Rattle.basics.proofs.Members.{zero-not-in}
+use Rattle.basics.proofs.Members.{zero-not-in, test-other, fails-not-in, once-distinct, once-left, once-right, once-off}
 
 -- what the frozen pages show can be written
 abbrev pub FrozenFit : Store → Type 0
@@ -87,7 +87,7 @@ page-step n img s b b₀ n₀ es ds p bk r inv run small₀ e =
     let none-yet : length ds ≡ 0 = none-yet′ (images (s .pages)) is ds (r .late) ims in
     let i = allocate s in
     let fr : Fresh (s .blocks) (s .used) i = allocate-fresh s (bk .taken) (omega (arith, r .room)) in
-    let off = off-used (s .used) i es (fr .pos) (fr .free) (r .named) in
+    let off = fails-not-in (s .used) i es (fr .pos) (fr .free) (r .named) in
     let L = suc (s .level) in
     let room : sizes (shown (p .tuples)) ≤ recordSpace
     = first-all isFrozen (λ p. p .frozen ≡ true → sizes (shown (p .tuples)) ≤ recordSpace) (s .pages) p e small₀ (first-passes isFrozen (s .pages) p e) in
@@ -136,10 +136,10 @@ directory-step n img s b b₀ n₀ es ds bk r inv run e lt =
     let few : length ds < directoriesFor (length es) = leb-true (suc (length ds)) (directoriesFor (length es)) lt in
     let i = allocate s in
     let fr : Fresh (s .blocks) (s .used) i = allocate-fresh s (bk .taken) (omega (arith, r .room)) in
-    let off = off-used (s .used) i es (fr .pos) (fr .free) (r .named) in
-    let off′ = off-used (s .used) i ds (fr .pos) (fr .free) (all-map _ _ (λ d h q. h) ds (r .directories-used)) in
+    let off = fails-not-in (s .used) i es (fr .pos) (fr .free) (r .named) in
+    let off′ = fails-not-in (s .used) i ds (fr .pos) (fr .free) (all-map _ _ (λ d h q. h) ds (r .directories-used)) in
     let L = suc (s .level) in
-    let part = take entriesPerBlock (drop (entriesPerBlock * length ds) es) in
+    let part = blockEntries (length ds) es in
     let x : Block = directory L part in
     let img′ : View = put img i x in
     let g : (y : Block) → Good n (put img i y) (s .used) b₀ = λ y. good-put n img (s .used) b₀ i y (fr .pos) (fr .free) (inv .good) in

@@ -7,7 +7,7 @@ use Rattle.basics.proofs.Facts.{by, AllOf}
 use Rattle.block_forms.specs.Block.{Block, page, directory}
 use Rattle.image.specs.Stages.{StoredPage, readPages, addPage, pageOk, readDirectories, entriesDue, addEntries}
 use Rattle.image.specs.View.{View}
-use Rattle.model.specs.Checkpoint.{fill}
+use Rattle.model.specs.Checkpoint.{fill, blockEntries}
 use Rattle.model.specs.Checkpoints.{contentOf}
 use Rattle.model.proofs.Views.{put}
 use Rattle.basics.proofs.Elements.{eqb-self, not-in, eqb-true, le-true}
@@ -76,7 +76,7 @@ pub dirs-put : (img : View) (l b : ℕ) (x : Block) (es ds : List ℕ) → isIn 
 dirs-put img l b x es [] h r = tt
 dirs-put img l b x es (d ∷ ds) h r = let n = not-in b d ds h in (put-other img b x d (n .0) ∙ r .0, dirs-put img l b x (drop entriesPerBlock es) ds (n .1) (r .1))
 
-pub dirs-snoc : (img : View) (l b : ℕ) (es ds : List ℕ) → img b ≡ directory l (take entriesPerBlock (drop (entriesPerBlock * length ds) es)) → Dirs img l es ds
+pub dirs-snoc : (img : View) (l b : ℕ) (es ds : List ℕ) → img b ≡ directory l (blockEntries (length ds) es) → Dirs img l es ds
     → Dirs img l es (ds ++ b ∷ [])
 dirs-snoc img l b es [] h r = (h, tt)
 dirs-snoc img l b es (d ∷ ds) h r =

@@ -2,7 +2,7 @@
 use Rattle.block_forms.specs.Limits.{mostTransaction, recordSpace}
 use Rattle.basics.proofs.Kit.{_≡_, refl, sym, _∙_, subst, Bool, true, false, _||_, List, [], _∷_, map, ℕ, suc, _+_, _≤_, _<_, _-_, leb, eqb, ltb, length, length-map, arith}
 use Rattle.basics.specs.Basics.{all, paired, any, howMany, if_then_else_, sum, every, isIn, distinct, isEmpty}
-use Rattle.basics.proofs.Facts.{by, and-true, AllOf, lie}
+use Rattle.basics.proofs.Facts.{by, and-true, AllOf, lie, or-else}
 use Rattle.block_forms.specs.Tuple.{Fits, AllFit, Tuple, size, Owner, committed, tentative}
 use Rattle.image_rows.specs.Rows.{Row, isLower, isAt, number, rowsOf, isBelow}
 use Rattle.image.specs.Stages.{isZero, directoriesFor}
@@ -249,11 +249,6 @@ well s w =
     }
 
 -- ---- a well-formed store is sound
-
--- a test that holds, with two outcomes
-or-else : (a b : Bool) → (a || b) ≡ true → a ≡ false → b ≡ true
-or-else true b h e = lie (sym e)
-or-else false b h e = h
 
 withoutPending-pending : (o : Pending) → isPending o ≡ false → o ≡ nothing
 unfolding isPending

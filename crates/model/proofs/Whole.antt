@@ -18,7 +18,8 @@ use Rattle.model.specs.Recover.{loaded, recoveredStore, reopened}
 use Rattle.model.specs.CrashRecovery.{content}
 use Rattle.model.proofs.Views.{AllSane, Sane}
 use Rattle.basics.proofs.Elements.{all-two, nonempty, all-in, le-true, all-true, here, all-map, all-mapped, has-some, all-append, Mem, there, all-mem, eqb-self, every-all, leb-true, all-split}
-use Rattle.model.proofs.Owners.{pigeon, transactions-distinct, in-transactions, numbers-length, numbers-reopened, count-reopened}
+use Rattle.basics.proofs.Members.{pigeon}
+use Rattle.model.proofs.Owners.{transactions-distinct, in-transactions, numbers-length, numbers-reopened, count-reopened}
 use Rattle.model.proofs.Frozen.{bare, shown-withoutPending, images}
 use Rattle.model.proofs.Recovery.{Found}
 use Rattle.model.proofs.Inv.{Ready}

@@ -1,6 +1,6 @@
 -- A transaction's live rows are as many as the writes accepted since it opened: the count is kept from the calls and answers alone.
 use Rattle.block_forms.specs.Limits.{mostStatement}
-use Rattle.basics.proofs.Kit.{_≡_, refl, sym, ap, _∙_, Bool, true, false, not, List, [], _∷_, ℕ, suc, _≤_, min, eqb, ltb, length, arith}
+use Rattle.basics.proofs.Kit.{_≡_, refl, sym, ap, _∙_, Bool, true, false, not, List, [], _∷_, ℕ, suc, _≤_, min, eqb, ltb, length, arith, min-eq-left}
 use Rattle.basics.specs.Basics.{if_then_else_, howMany, any, first, isIn}
 use Rattle.basics.proofs.Facts.{lie, by, AllOf, by-option, and-true}
 use Rattle.block_forms.specs.Tuple.{tentative, committed, Owner}
@@ -13,7 +13,7 @@ use Rattle.model.specs.Transactions.{gives, changed, openNumbers, withOp
 use Rattle.model.specs.Checkpoint.{beginCall, withProgress, storePage, made, allocate, stepAt, stepOf, storeDirectory, storeHeader, stepCall, runCall}
 use Rattle.model.specs.Calls.{TransactionCall, transact, Effect, noEffect, startOf, writeOf, commitOf, abortOf, effect, Call, transacts, begins, steps, runs, call, effectOf, accepted}
 use Rattle.model.specs.Calls.{isTransaction, others, withWriter, writers, afterCalls, hadWritten}
-use Rattle.basics.proofs.Elements.{Mem, many-none, all-map, eqb-true, all-mem, eqb-sym, many-length, in-keep, not-true, le-true, in-here, eqb-self, in-cons, and-no, and-yes, any-many}
+use Rattle.basics.proofs.Elements.{Mem, many-none, all-map, eqb-true, all-mem, eqb-sym, many-length, in-keep, not-true, le-true, in-here, eqb-self, and-no, and-yes, any-many, in-past}
 use Rattle.model.proofs.Owners.{count-append, count-new, numbers-write, count-write, count-other, numbers-without, count-without}
 use Rattle.model.proofs.Effects.{unless-keeps, Does, refuses, answers, starts, writes, finishes, undoes, does}
 use Rattle.model.proofs.NoStores.{step-frame, step-keeps, run-keeps, call-leaves}
@@ -208,9 +208,6 @@ more-rows : (s : Store) → Valid s → (u : ℕ) → suc (own u s) ≤ mostStat
 unfolding own
 more-rows s v u = omega (arith, many-length (isOwn u) (rows (s .pages)), sub-length (rows-sub (s .pages)), v .has .few, v .cap)
 
-min-under : (n m : ℕ) → n ≤ m → min n m ≡ n
-min-under n m h = omega arith
-
 counted-written : (s : Store) → Valid s → Counted s → (tx t k : ℕ) (bs : List ℕ) (m : Bool) → Counted (withTuple tx t k bs m s .store)
 unfolding withTuple afterWrite gives changed own
 counted-written s v c tx t k bs m u i =
@@ -219,7 +216,7 @@ counted-written s v c tx t k bs m u i =
     by (eqb tx u)
     (λ e. let q = eqb-true tx u e in
     ap (λ z. writtenBy u (withWrite z (s .active))) q ∙ count-write u (s .active) j ∙ ap (λ n. min (suc n) mostStatement) (own-count s c u j)
-    ∙ min-under (suc (own u s)) mostStatement (more-rows s v u) ∙ sym (wrote-own u tx (own u s) e) ∙ sym o)
+    ∙ min-eq-left (more-rows s v u) ∙ sym (wrote-own u tx (own u s) e) ∙ sym o)
     (λ e. count-other tx u (s .active) e ∙ own-count s c u j ∙ sym (wrote-other u tx (own u s) e) ∙ sym o)
   where
     wrote-own : (u tx n : ℕ) → eqb tx u ≡ true → wrote u tx n ≡ suc n
@@ -281,7 +278,7 @@ right-wrote tx n w r u =
     (λ e. let q = eqb-true tx u e in
     let p = sym (le-true 1 (suc (n u)) (omega arith)) in
     by (isIn tx w) (λ k. rw (e, k) (ap (λ z. isIn z w) (sym q) ∙ k ∙ p)) (λ k. rw (e, k) (in-here u tx w (ap (λ z. eqb z tx) (sym q) ∙ eqb-self tx) ∙ p)))
-    (λ e. by (isIn tx w) (λ k. rw (e, k) (r u)) (λ k. rw (e, k) (in-cons u tx w (eqb-sym tx u e) ∙ r u)))
+    (λ e. by (isIn tx w) (λ k. rw (e, k) (r u)) (λ k. rw (e, k) (in-past u tx w (eqb-sym tx u e) ∙ r u)))
 
 right-closed : (tx : ℕ) (n : ℕ → ℕ) (w : List ℕ) → Right n w → Right (λ u. closed u tx (n u)) (others tx w)
 unfolding closed if_then_else_ others

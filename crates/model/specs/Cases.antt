@@ -6,13 +6,13 @@ use mathlib.Core.Bool.{Bool, true, false, _&&_, _||_}
 use mathlib.Core.List.{List, [], _∷_, _++_, map}
 use lib.ListN.{length, replicate, take, drop}
 use lib.Dec.{eqb}
-use Rattle.basics.specs.Basics.{all, every, sum, isIn, from, basics}
+use Rattle.basics.specs.Basics.{all, every, sum, isIn, from, basics, oneIf}
 use Rattle.block_bits.specs.Bits.{bitsOf, number as numberOf, bitsIn, field}
 use Rattle.block_forms.specs.Limits.{mostNumber}
 use Rattle.block_forms.specs.Numbers.{num4, same}
 use Rattle.block_forms.specs.Tuple.{Owner, committed, tentative, Tuple, isTentative, ownerSize, size}
 use Rattle.block_forms.specs.Spell.{zeros, spell, bytesOf, padded as filledUp, blockOf}
-use Rattle.block_forms.specs.Block.{Block, header, page, committedBit, markBit, ownerFields, payloadFields, recordFields, recordsFields, entryFields, encodeBlock}
+use Rattle.block_forms.specs.Block.{Block, header, page, committedBit, ownerFields, payloadFields, recordFields, recordsFields, entryFields, encodeBlock}
 use Rattle.block_forms.specs.Decode.{kind, spelledBy, readHeader, headerIn, readOwner, readMark, readTuple, recordLength, isRecord, readTuples, pageTable, pageCount, pageLevel, pageSpelled, pageIn, readEntries, directoryCount, directoryLevel, directoryIn, decodeBlock}
 use Rattle.image_rows.specs.Rows.{rowRules}
 use Rattle.image.specs.View.{blockAt, blockCount, view}
@@ -289,7 +289,7 @@ ownerNumbers (tentative t n) = 1 ∷ t ∷ n ∷ []
 
 -- a tuple with all its fields
 unfoldable pub tupleNumbers : Tuple → List ℕ
-tupleNumbers x = x .key ∷ x .number ∷ markBit (x .mark) ∷ length (x .payload) ∷ (x .payload ++ ownerNumbers (x .owner))
+tupleNumbers x = x .key ∷ x .number ∷ oneIf (x .mark) ∷ length (x .payload) ∷ (x .payload ++ ownerNumbers (x .owner))
 
 -- the tuples of a page, in order
 unfoldable pub heldNumbers : List Held → List ℕ
@@ -349,5 +349,5 @@ pub record Cuts : Type 0 where
 
 -- unfolds all definitions that the cases compute with: `unfolding cases`
 unfoldable pub cases : ℕ
-unfolding basics bitsOf numberOf bitsIn field num4 same isTentative ownerSize size spell bytesOf filledUp blockOf committedBit markBit ownerFields payloadFields recordFields recordsFields entryFields encodeBlock kind spelledBy readHeader headerIn readOwner readMark readTuple recordLength isRecord readTuples pageTable pageCount pageLevel pageSpelled pageIn readEntries directoryCount directoryLevel directoryIn decodeBlock rowRules blockAt blockCount view wholeBlocks blockOk isZero directoriesFor directoryBlocks unusedNumbers countsOk headerOk headerTest entriesDue addEntries readDirectories entriesOk testedEntries directoryTest pageOk addPage readPages rowsOfPages testedPages pageTest headerStage pagesBelow pagesStage rules held rows isForeign versions seenOf seen gives unless changed openCall readSeen readCall listing listCall writeRules placeRules openNumbers isFor writtenBy without others commitCall abortCall storedStore isFree allocate freeCount usedToo isRunning blocksNeeded beginCall leftOf left made fill storable storePage storeDirectory headerFor storeHeader stepOf stepAt badImage stepCall inTurn runCall transact effect call isBegin effectOf withWriter writers accepted afterCalls hadWritten putBlock freshStore make madeImage loaded reopened recoveredStore recoverPages recoverBelow recover tag log isHeader landed imageWith content answers writes shape many after5 tuple samplePage joining cleanPage clean booking bookingBytes spelled firstSpells committedAll reading imageAfter shapeOf recoveredAfter places splitMeanwhile commitMeanwhile committedLate threeTimes oneAgain bothFrozen refusedCalls lastStore refusalOf ownerNumbers tupleNumbers heldNumbers pageNumbers agrees recoversTo tears cutHere cutEverywhere script scriptLog
+unfolding basics bitsOf numberOf bitsIn field num4 same isTentative ownerSize size spell bytesOf filledUp blockOf committedBit ownerFields payloadFields recordFields recordsFields entryFields encodeBlock kind spelledBy readHeader headerIn readOwner readMark readTuple recordLength isRecord readTuples pageTable pageCount pageLevel pageSpelled pageIn readEntries directoryCount directoryLevel directoryIn decodeBlock rowRules blockAt blockCount view wholeBlocks blockOk isZero directoriesFor directoryBlocks unusedNumbers countsOk headerOk headerTest entriesDue addEntries readDirectories entriesOk testedEntries directoryTest pageOk addPage readPages rowsOfPages testedPages pageTest headerStage pagesBelow pagesStage rules held rows isForeign versions seenOf seen gives unless changed openCall readSeen readCall listing listCall writeRules placeRules openNumbers isFor writtenBy without others commitCall abortCall storedStore isFree allocate freeCount usedToo isRunning blocksNeeded beginCall leftOf left made fill storable storePage storeDirectory headerFor storeHeader stepOf stepAt badImage stepCall inTurn runCall transact effect call isBegin effectOf withWriter writers accepted afterCalls hadWritten putBlock freshStore make madeImage loaded reopened recoveredStore recoverPages recoverBelow recover tag log isHeader landed imageWith content answers writes shape many after5 tuple samplePage joining cleanPage clean booking bookingBytes spelled firstSpells committedAll reading imageAfter shapeOf recoveredAfter places splitMeanwhile commitMeanwhile committedLate threeTimes oneAgain bothFrozen refusedCalls lastStore refusalOf ownerNumbers tupleNumbers heldNumbers pageNumbers agrees recoversTo tears cutHere cutEverywhere script scriptLog
 cases = 0

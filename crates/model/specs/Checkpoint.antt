@@ -104,11 +104,15 @@ storePage n es ds p s =
 abbrev pub directoryStored : ℕ → ℕ → List ℕ → List ℕ → Store → Store
 directoryStored b n es ds s = withProgress s (s .level) (s .pages) (usedToo s b) b (running n es (ds ++ b ∷ []))
 
+-- the entries of directory block k
+abbrev pub blockEntries : ℕ → List ℕ → List ℕ
+blockEntries k es = take entriesPerBlock (drop (entriesPerBlock * k) es)
+
 -- 336 entries in every directory block but the last
 unfoldable pub storeDirectory : ℕ → List ℕ → List ℕ → Store → Outcome
 storeDirectory n es ds s =
     let b = allocate s in
-    made b (directory (suc (s .level)) (take entriesPerBlock (drop (entriesPerBlock * length ds) es))) (directoryStored b n es ds s)
+    made b (directory (suc (s .level)) (blockEntries (length ds) es)) (directoryStored b n es ds s)
 
 -- the next number and page count are those at begin
 unfoldable pub headerFor : Store → ℕ → ℕ → ℕ → List ℕ → Header

@@ -128,11 +128,11 @@ fn bad_line() {
 }
 
 fn fill(image: &mut [u8], block: u64, byte: u8) {
-    if (image.len() / 512) as u64 <= block {
+    if (image.len() / block_forms::BLOCK_SIZE) as u64 <= block {
         return bad_line();
     }
-    let from = block as usize * 512;
-    let to = from + 512;
+    let from = block as usize * block_forms::BLOCK_SIZE;
+    let to = from + block_forms::BLOCK_SIZE;
     set_all(&mut image[from..to], byte);
     replay_script::say(b"filled\n");
 }
@@ -146,11 +146,11 @@ fn say_block(block: u64, s: &[u8]) {
 }
 
 fn show(image: &[u8], block: u64) {
-    if (image.len() / 512) as u64 <= block {
+    if (image.len() / block_forms::BLOCK_SIZE) as u64 <= block {
         return bad_line();
     }
-    let from = block as usize * 512;
-    let to = from + 512;
+    let from = block as usize * block_forms::BLOCK_SIZE;
+    let to = from + block_forms::BLOCK_SIZE;
     say_block(block, &image[from..to]);
 }
 

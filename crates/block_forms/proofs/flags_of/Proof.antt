@@ -1,7 +1,8 @@
 -- `block_forms::flags_of` meets its contract: for each case of committed and mark, the sum of the bits and of the length.
 use Rattle.basics.proofs.Kit.{_≡_, ap, ⊎-elim, _+_, _*_, needs, arith}
+use Rattle.basics.specs.Basics.{oneIf}
 use Rattle.block_forms.specs.Limits.{markValue}
-use Rattle.block_forms.specs.Block.{committedBit, markBit}
+use Rattle.block_forms.specs.Block.{committedBit}
 use Rattle.block_forms.specs.Bytes.{ownerIs, flagsOf}
 use Rattle.block_forms.specs.declared.Owner.{Owner}
 use Rattle.block_forms.proofs.flags_of.Statement.{statement}
@@ -10,9 +11,8 @@ use Rattle.block_forms.proofs.flags_of.Reads as reads
 use Rattle.block_forms.proofs.flags_of.Lts as lts
 
 -- the delete mark and the length
-low-flags : (c : lts.Joined1 reads.Pre reads.Post) → c .if1 .flags ≡ markBit (c .before .args .mark) * markValue + c .before .args .len
-unfolding markBit
-low-flags c = ⊎-elim (λ w. omega (arith, ap markBit (w .0 .taken))) (λ w. omega (arith, ap markBit (w .0 .left))) (c .if1 .came)
+low-flags : (c : lts.Joined1 reads.Pre reads.Post) → c .if1 .flags ≡ oneIf (c .before .args .mark) * markValue + c .before .args .len
+low-flags c = ⊎-elim (λ w. omega (arith, ap oneIf (w .0 .taken))) (λ w. omega (arith, ap oneIf (w .0 .left))) (c .if1 .came)
 
 add-result : tie.Need-add-result
 add-result c = let j = c .before .before .before in

@@ -2,7 +2,7 @@
 use Rattle.basics.proofs.Kit.{ap, length, needs, arith}
 use Rattle.memory_layout.specs.Flat.{Flat}
 use Rattle.memory_layout.proofs.Laws.{holds-room}
-use Rattle.call_checkpoint.proofs.Leaving.{directory-leads}
+use Rattle.call_checkpoint.proofs.Leaving.{directory-holds}
 use Rattle.call_checkpoint.proofs.keep_directory.Statement.{statement}
 use Rattle.call_checkpoint.proofs.keep_directory.Tie as tie
 
@@ -24,7 +24,7 @@ returns : tie.Need-returns
 returns c =
     let t = c .before .before .before .before .before .before in
     let st = t .before .before .before in
-    directory-leads (st .args .b) (st .pre .0 .runs) (t .take-block .ensures) (c .before .before .push-directory .ensures)
+    directory-holds (st .args .b) (st .pre .0 .runs) (t .take-block .ensures) (c .before .before .push-directory .ensures)
 
 pub keep-directory-spec : {M : Type 1} → statement M
 keep-directory-spec = tie.close (tie.spec take-block-requires push-directory-requires (search needs) returns)

@@ -2,7 +2,7 @@
 use Rattle.basics.proofs.Kit.{refl, ap, needs, arith}
 use Rattle.memory_layout.specs.declared.Head.{Head}
 use Rattle.memory_layout.proofs.Laws.{holds-room}
-use Rattle.call_checkpoint.proofs.Leaving.{header-low, header-leads}
+use Rattle.call_checkpoint.proofs.Leaving.{header-low, header-holds}
 use Rattle.call_checkpoint.proofs.Beginning.{head-replaces, taken-low}
 use Rattle.call_checkpoint.proofs.keep_header.Statement.{statement}
 use Rattle.call_checkpoint.proofs.keep_header.Tie as tie
@@ -27,7 +27,7 @@ returns c =
     let g = c .before .before .before .before .before .get-head in
     let k = c .before .before .before .before .before .before .before .before .before in
     let u = k .before .before .before .before in
-    header-leads (u .before .before .before .pre) (u .clear-used .ensures) (k .mark-named .ensures) (g .result) (g .ensures) _ (c .before .before .put-head .ensures)
+    header-holds (u .before .before .before .pre) (u .clear-used .ensures) (k .mark-named .ensures) (g .result) (g .ensures) _ (c .before .before .put-head .ensures)
 
 pub keep-header-spec : {M : Type 1} → statement M
 keep-header-spec = tie.close (tie.spec clear-used-requires (λ c κs. search needs) (λ c κs. search needs) add-h put-head-requires (search needs) returns)

@@ -1,7 +1,7 @@
 -- `call_checkpoint::keep_page` meets its contract: the page is still the first frozen one when it is thawed (`still-first`), and the store is then the model's.
 use Rattle.basics.proofs.Kit.{needs, arith}
 use Rattle.memory_layout.proofs.Laws.{holds-room}
-use Rattle.call_checkpoint.proofs.Leaving.{still-first, page-leads}
+use Rattle.call_checkpoint.proofs.Leaving.{still-first, page-holds}
 use Rattle.call_checkpoint.proofs.keep_page.Statement.{statement}
 use Rattle.call_checkpoint.proofs.keep_page.Tie as tie
 
@@ -35,7 +35,7 @@ returns : tie.Need-returns
 returns c =
     let f = c .before .before .before .before .before .before in
     let t = f .before .before .before .before in
-    page-leads _ (t .before .before .before .pre .0 .runs) (t .take-block .ensures) (f .fill-entry .ensures) (c .before .before .thaw .ensures)
+    page-holds _ (t .before .before .before .pre .0 .runs) (t .take-block .ensures) (f .fill-entry .ensures) (c .before .before .thaw .ensures)
 
 pub keep-page-spec : {M : Type 1} → statement M
 keep-page-spec = tie.close (tie.spec take-block-requires cast-fill-entry fill-entry-requires cast-thaw thaw-requires (search needs) returns)

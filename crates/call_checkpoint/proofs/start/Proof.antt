@@ -2,7 +2,7 @@
 use Rattle.basics.proofs.Kit.{refl, ap, needs}
 use Rattle.memory_layout.specs.Flat.{Flat}
 use Rattle.memory_layout.proofs.Laws.{holds-room}
-use Rattle.call_checkpoint.proofs.Beginning.{held-still, head-replaces, taken-low, begin-held, begin-leads}
+use Rattle.call_checkpoint.proofs.Beginning.{held-still, head-replaces, taken-low, begin-held, begin-holds}
 use Rattle.call_checkpoint.proofs.start.Statement.{statement}
 use Rattle.call_checkpoint.proofs.start.Tie as tie
 
@@ -37,7 +37,7 @@ returns c =
     let l = d .before .before .before .before in
     let n = l .before .before .before .before in
     let st = n .before .before .before in
-    begin-leads (st .pre .0) (n .clear-named .ensures) (l .name-pages .ensures) (d .clear-directories .ensures) (g .result) (g .ensures)
+    begin-holds (st .pre .0) (n .clear-named .ensures) (l .name-pages .ensures) (d .clear-directories .ensures) (g .result) (g .ensures)
     (c .before .before .before .before .before .before .put-head .ensures) (st .pre .1) (c .before .before .freeze .ensures)
 
 pub start-spec : {M : Type 1} → statement M

@@ -3,9 +3,8 @@ use Rattle.basics.proofs.Kit.{_≡_, sym, ap, Bool, not, ℕ, _+_, _≤_, _-_, 
 use Rattle.memory_layout.specs.declared.Head.{Head}
 use Rattle.memory_layout.specs.Flat.{Flat, flatOf}
 use Rattle.memory_layout.specs.Store.{storeOf}
-use Rattle.basics.specs.Basics.{howMany, from}
+use Rattle.basics.specs.Basics.{howMany, from, oneIf}
 use Rattle.model.specs.Checkpoint.{freeCount}
-use Rattle.memory_layout.specs.Opens.{oneIf}
 use Rattle.engine_allocator.proofs.Tallies.{tally-turn, tally-end, free-is}
 use Rattle.engine_allocator.proofs.enough_free.Statement.{statement}
 use Rattle.engine_allocator.proofs.enough_free.Tie as tie

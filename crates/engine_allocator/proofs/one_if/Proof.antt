@@ -1,6 +1,6 @@
 -- `engine_allocator::one_if` meets its contract: the two cases of a Boolean.
 use Rattle.basics.proofs.Kit.{sym, ap, arith}
-use Rattle.memory_layout.specs.Opens.{oneIf}
+use Rattle.basics.specs.Basics.{oneIf}
 use Rattle.engine_allocator.proofs.one_if.Statement.{statement}
 use Rattle.engine_allocator.proofs.one_if.Tie as tie
 
