@@ -1,7 +1,8 @@
--- Tests and searches of a list with one element more at its end.
-use Rattle.basics.proofs.Kit.{_≡_, refl, sym, Bool, true, false, some, none, List, [], _∷_, _++_}
-use Rattle.basics.specs.Basics.{if_then_else_, any, first, last, isEmpty}
-use Rattle.basics.proofs.Facts.{by, never}
+-- Tests and searches of a list with one element more at its end, and of what is kept of a list.
+use Rattle.basics.proofs.Kit.{_≡_, refl, sym, Bool, true, false, some, none, List, [], _∷_, _++_, _&&_, ap, ap₂, Option, _∙_}
+use Rattle.basics.specs.Basics.{if_then_else_, any, first, last, isEmpty, keep, AllOf}
+use Rattle.basics.proofs.Facts.{by, never, by-option}
+use Rattle.basics.proofs.Elements.{and-yes, and-no, keep-cons, keep-past}
 
 module _ {A : Type 0} (f : A → Bool) (x : A) where
   pub any-last-no : f x ≡ false → (xs : List A) → any f (xs ++ x ∷ []) ≡ any f xs
@@ -43,3 +44,48 @@ module _ {A : Type 0} (f : A → Bool) (x : A) where
   unfolding isEmpty
   filled-last [] = refl
   filled-last (y ∷ xs) = refl
+
+-- ---- searches of what is kept of a list
+
+-- what is looked for is not among those left out
+pub last-keep : {A : Type 0} (f g : A → Bool) (xs : List A) → AllOf (λ r. g r ≡ false → f r ≡ false) xs → last f (keep g xs) ≡ last f xs
+unfolding last keep if_then_else_
+last-keep f g [] a = refl
+last-keep f g (x ∷ xs) a =
+    let ih = last-keep f g xs (a .1) in
+    by (g x) (λ h. rw (h, ih))
+    (λ h. by-option (last f xs) (λ n. rw (h, n, a .0 h) (ih ∙ n)) (λ y n. rw (h, n, last) (ih ∙ n)))
+
+pub first-keep : {A : Type 0} (f g : A → Bool) (xs : List A) → AllOf (λ r. g r ≡ false → f r ≡ false) xs → first f (keep g xs) ≡ first f xs
+unfolding first keep if_then_else_
+first-keep f g [] a = refl
+first-keep f g (x ∷ xs) a =
+    let ih = first-keep f g xs (a .1) in
+    by (g x) (λ h. by (f x) (λ k. rw (h, k, first)) (λ k. rw (h, k, first) ih)) (λ h. rw (h, a .0 h, first) ih)
+
+-- the first of two, if there is one
+orOther : {A : Type 0} → Option A → Option A → Option A
+orOther (some y) o = some y
+orOther none o = o
+
+last-cons : {A : Type 0} (f : A → Bool) (x : A) (xs : List A) → last f (x ∷ xs) ≡ orOther (last f xs) (if f x then some x else none)
+unfolding last orOther
+last-cons f x xs = by-option (last f xs) (λ n. rw (n, last)) (λ y n. rw (n, last))
+
+or-none : {A : Type 0} (o : Option A) → orOther o none ≡ o
+unfolding orOther
+or-none none = refl
+or-none (some y) = refl
+
+-- a search among those that pass a first test
+pub last-both : {A : Type 0} (f g : A → Bool) (xs : List A) → last (λ r. f r && g r) xs ≡ last f (keep g xs)
+unfolding if_then_else_
+last-both f g [] = unfold last keep in refl
+last-both f g (x ∷ xs) =
+    let ih = last-both f g xs in
+    let pick : Bool → Option _ = λ b. if b then some x else none in
+    by (g x)
+    (λ h. last-cons (λ r. f r && g r) x xs ∙ ap₂ orOther ih (ap pick (ap (λ z. f x && z) h ∙ and-yes (f x))) ∙ sym (last-cons f x (keep g xs))
+    ∙ ap (last f) (sym (keep-cons g x xs h)))
+    (λ h. last-cons (λ r. f r && g r) x xs ∙ ap₂ orOther ih (ap pick (ap (λ z. f x && z) h ∙ and-no (f x))) ∙ or-none (last f (keep g xs))
+    ∙ ap (last f) (sym (keep-past g x xs h)))

@@ -10,6 +10,7 @@ use Rattle.model.specs.Rules.{pendRemove, withPending, commitNow, pendCo
 use Rattle.model.specs.Rules.{editAt, pendRemoveAt, removeRowOn, committedAt, commitRowOn, atRow, removeRow, commitRow}
 use Rattle.model.specs.Transactions.{PlaceOp, commitPlace, removePlace, carryOut}
 use Rattle.basics.proofs.Elements.{some-eq}
+use Rattle.model.proofs.RuleCases.{after-cases}
 
 -- a page's table and tuples, as an image has them
 abbrev pub Content : Type 0
@@ -60,14 +61,8 @@ images-placeAfter : (t : ℕ) (x : Tuple) (ps qs : List Page) → placeAfter t x
 unfolding placeAfter images if_then_else_
 images-placeAfter t x [] qs e = never e
 images-placeAfter t x (p ∷ ps) qs e =
-    by-option (placeAfter t x ps)
-    (λ n. by (eqb (p .table) t)
-    (λ h. by-option (after (entering p x) (p .tuples))
-    (λ m. never (rw (n, h, m) at e))
-    (λ ts m. let k : grown p ts ++ ps ≡ qs = some-eq (rw (n, h, m) at e) in
-    rw (← k) (images-grown p ts ps (λ f. after-shown (entering p x) (p .tuples) ts (entering-adding p x f) m))))
-    (λ h. never (rw (n, h) at e)))
-    (λ ws n. let k : p ∷ ws ≡ qs = some-eq (rw (n, placeAfter) at e) in rw (← k, images-placeAfter t x ps ws n))
+    after-cases t x p ps qs e (λ ts n h m k. rw (← k) (images-grown p ts ps (λ f. after-shown (entering p x) (p .tuples) ts (entering-adding p x f) m)))
+    (λ ws n k. rw (← k, images-placeAfter t x ps ws n))
 
 images-placeFront : (t : ℕ) (x : Tuple) (ps : List Page) → images (placeFront t x ps) ≡ images ps
 unfolding placeFront images if_then_else_ fresh shown

@@ -1,6 +1,7 @@
 pub mod Views
 pub mod Owners
 pub mod Splits
+pub mod RuleCases
 pub mod Frozen
 pub mod ByNumber
 pub mod Pages

@@ -1,13 +1,14 @@
 -- A property of pages that every fresh page has, and a frozen page whatever its tuples, is kept by the rules.
-use Rattle.basics.proofs.Kit.{_≡_, sym, subst, Bool, true, false, some, none, Option, List, [], _∷_, _++_, map, ℕ, _-_, eqb, ltb, length}
+use Rattle.basics.proofs.Kit.{_≡_, sym, subst, Bool, true, false, some, none, Option, List, [], _∷_, _++_, map, ℕ, _-_, eqb, ltb}
 use Rattle.basics.specs.Basics.{if_then_else_, isEmpty, first, any}
 use Rattle.basics.proofs.Facts.{AllOf, by, never, by-option}
 use Rattle.block_forms.specs.Tuple.{Tuple}
 use Rattle.model.specs.State.{Page, Held}
-use Rattle.model.specs.Rules.{fresh, grown, withTuples, splitOnce, placeAfter, place, after, entering, placeFront, settle, settleNext, joined, joins, settleFull, listOf, around, thaw}
-use Rattle.model.specs.Rules.{isFrozen, isPending, thawOn, splitAll, withoutPending, live, removeRowOn, committedAt, commitRowOn, atRow, removeRow, commitRow}
+use Rattle.model.specs.Rules.{fresh, grown, withTuples, splitOnce, placeAfter, place, placeFront, settle, settleNext, joined, joins, settleFull, listOf, around, thaw}
+use Rattle.model.specs.Rules.{isFrozen, isPending, thawOn, splitAll, withoutPending, live, removeRowOn, committedAt, commitRowOn, removeRow, commitRow}
 use Rattle.model.specs.Transactions.{PlaceOp, commitPlace, removePlace, carryOut}
 use Rattle.basics.proofs.Elements.{all-append, some-eq}
+use Rattle.model.proofs.RuleCases.{after-cases, all-row}
 
 -- a page that is frozen, with other tuples
 unfoldable pub stillFrozen : Page → List Held → Page
@@ -28,13 +29,8 @@ module _ (Q : Page → Type 0) (Q-fresh : (t : ℕ) (ts : List Held) → Q (fres
   unfolding placeAfter if_then_else_
   all-placeAfter t x [] qs e a = never e
   all-placeAfter t x (p ∷ ps) qs e a =
-      by-option (placeAfter t x ps)
-      (λ n. by (eqb (p .table) t)
-      (λ h. by-option (after (entering p x) (p .tuples))
-      (λ m. never (rw (n, h, m) at e))
-      (λ ts m. let k : grown p ts ++ ps ≡ qs = some-eq (rw (n, h, m) at e) in subst (AllOf Q) k (all-grown p ts ps (a .0) (a .1))))
-      (λ h. never (rw (n, h) at e)))
-      (λ ws n. let k : p ∷ ws ≡ qs = some-eq (rw (n, placeAfter) at e) in subst (AllOf Q) k (a .0, all-placeAfter t x ps ws n (a .1)))
+      after-cases t x p ps qs e (λ ts n h m k. subst (AllOf Q) k (all-grown p ts ps (a .0) (a .1)))
+      (λ ws n k. subst (AllOf Q) k (a .0, all-placeAfter t x ps ws n (a .1)))
 
   all-placeFront : (t : ℕ) (x : Tuple) (ps : List Page) → AllOf Q ps → AllOf Q (placeFront t x ps)
   unfolding placeFront if_then_else_
@@ -64,15 +60,6 @@ module _ (Q : Page → Type 0) (Q-fresh : (t : ℕ) (ts : List Held) → Q (fres
   unfolding settle if_then_else_
   all-settle rest o p ps r l a = by (isEmpty (p .tuples)) (λ h. rw h (all-append Q (listOf o) ps l a)) (λ h. rw h (all-settleFull rest o p ps r l a))
 
-  all-row : (f : ℕ → Option Page → Page → List Page → List Page)
-      → ((j : ℕ) (o : Option Page) (p : Page) (ps : List Page) → AllOf Q (listOf o) → AllOf Q (p ∷ ps) → AllOf Q (f j o p ps))
-      → (i : ℕ) (o : Option Page) (ps : List Page) → AllOf Q (listOf o) → AllOf Q ps → AllOf Q (atRow f i o ps)
-  unfolding atRow listOf
-  all-row f F i o [] l a = l
-  all-row f F i o (p ∷ ps) l a =
-      by (ltb i (length (p .tuples))) (λ h. rw (h, atRow) (F i o p ps l a))
-      (λ h. rw (h, atRow) (all-append Q (listOf o) _ l (all-row f F (i - length (p .tuples)) (some p) ps (a .0, tt) (a .1))))
-
   all-removeRowOn : (j : ℕ) (o : Option Page) (p : Page) (ps : List Page) → AllOf Q (listOf o) → AllOf Q (p ∷ ps) → AllOf Q (removeRowOn j o p ps)
   unfolding removeRowOn withTuples stillFrozen if_then_else_
   all-removeRowOn j o p ps l a =
@@ -87,8 +74,8 @@ module _ (Q : Page → Type 0) (Q-fresh : (t : ℕ) (ts : List Held) → Q (fres
   pub all-carry : (n : ℕ) (os : List PlaceOp) (ps : List Page) → AllOf Q ps → AllOf Q (carryOut n os ps)
   unfolding carryOut removeRow commitRow listOf
   all-carry n [] ps a = a
-  all-carry n (commitPlace i ∷ os) ps a = all-carry n os _ (all-row commitRowOn all-commitRowOn _ none ps tt a)
-  all-carry n (removePlace i ∷ os) ps a = all-carry n os _ (all-row removeRowOn all-removeRowOn _ none ps tt a)
+  all-carry n (commitPlace i ∷ os) ps a = all-carry n os _ (all-row Q commitRowOn all-commitRowOn _ none ps tt a)
+  all-carry n (removePlace i ∷ os) ps a = all-carry n os _ (all-row Q removeRowOn all-removeRowOn _ none ps tt a)
 
   all-aroundFirst : (hit : Page → Bool) (f : Option Page → Page → List Page → List Page) (q : Page)
       → ((o : Option Page) (ps : List Page) → AllOf Q (listOf o) → AllOf Q ps → AllOf Q (f o q ps))

@@ -12,6 +12,7 @@ use Rattle.model.proofs.Splits.{after-none, once-together}
 use Rattle.model.proofs.Sound.{PageOk}
 use Rattle.model.proofs.Rows.{Entry, asRow, withTable, all-table, entries, entries-append, entries-fresh, liveRows, plain, sub-all, live-sub, plain-append, live-append, pairs-plain}
 use Rattle.model.proofs.Rows.{held-plain, rows-live}
+use Rattle.model.proofs.RuleCases.{after-cases}
 
 -- a stands before b: by table, key, number
 abbrev pub Before : Row → Row → Type 0
@@ -222,15 +223,8 @@ module _ (t : ℕ) (x : Tuple) where
   unfolding placeAfter if_then_else_
   placeAfter-put [] qs e o s = never e
   placeAfter-put (p ∷ ps) qs e o s =
-      by-option (placeAfter t x ps)
-      (λ n. by (eqb (p .table) t)
-      (λ h. by-option (after (entering p x) (p .tuples))
-      (λ m. never (rw (n, h, m) at e))
-      (λ ts m. let k : grown p ts ++ ps ≡ qs = some-eq (rw (n, h, m) at e) in
-      subst (λ q. PlacedAfter (entries q) (entries (p ∷ ps))) k (here-put p ts ps (eqb-true (p .table) t h) m (o .0) s (placeAfter-clear t x ps n))))
-      (λ h. never (rw (n, h) at e)))
-      (λ ws n. let k : p ∷ ws ≡ qs = some-eq (rw (n, placeAfter) at e) in
-      let s′ : Pairs Earlier (withTable (p .table) (p .tuples) ++ entries ps) = unfold entries in s in
+      after-cases t x p ps qs e (λ ts n h m k. subst (λ q. PlacedAfter (entries q) (entries (p ∷ ps))) k (here-put p ts ps (eqb-true (p .table) t h) m (o .0) s (placeAfter-clear t x ps n)))
+      (λ ws n k. let s′ : Pairs Earlier (withTable (p .table) (p .tuples) ++ entries ps) = unfold entries in s in
       let r = placeAfter-put ps ws n (o .1) (pairs-parts Earlier (withTable (p .table) (p .tuples)) (entries ps) s′ .1) in
       subst (λ q. PlacedAfter (entries q) (entries (p ∷ ps))) k (past p ps ws s′ r))
     where

@@ -1,6 +1,6 @@
 -- What a transaction sees after each call.
 use Rattle.block_forms.specs.Limits.{mostTransaction}
-use Rattle.basics.proofs.Kit.{_≡_, refl, sym, ap, _∙_, ap₂, Bool, true, false, _&&_, not, some, none, Option, List, [], _∷_, _++_, append-nil, ℕ, suc, _≤_, eqb, ltb}
+use Rattle.basics.proofs.Kit.{_≡_, refl, sym, ap, _∙_, ap₂, Bool, true, false, not, some, none, Option, List, [], _∷_, _++_, append-nil, ℕ, suc, _≤_, eqb, ltb}
 use Rattle.basics.proofs.Kit.{length, arith}
 use Rattle.basics.specs.Basics.{if_then_else_, keep, last, first, isIn}
 use Rattle.basics.proofs.Facts.{by, lie, AllOf, by-option}
@@ -14,8 +14,9 @@ use Rattle.model.specs.Transactions.{withTuple, writeCall, readSeen, rea
 use Rattle.model.specs.Checkpoint.{beginCall, stepCall, runCall}
 use Rattle.model.specs.Calls.{TransactionCall, transact, effect, Call, transacts, begins, steps, runs, call, effectOf, isTransaction}
 use Rattle.model.specs.Seen.{remains, WriterReads, WriterMisses, RowsStay, SeenAfterCommit, mayShow, SeenAsBefore}
-use Rattle.basics.proofs.Elements.{leb-false, eqb-self, here, Pairs, keep-cons, keep-past, all-map, keep-none, and-yes, and-no, eqb-true, all-mem, not-false, Mem, there, mem-all}
+use Rattle.basics.proofs.Elements.{leb-false, eqb-self, here, Pairs, keep-cons, keep-past, all-map, keep-none, eqb-true, all-mem, not-false, Mem, there, mem-all}
 use Rattle.basics.proofs.Elements.{last-mem, pairs-keep, lt-false, eqb-sym, in-append}
+use Rattle.basics.proofs.Lasts.{last-new, last-old, first-old, last-keep, first-keep, last-both}
 use Rattle.model.proofs.ByNumber.{isRow, ownAt}
 use Rattle.model.proofs.Owners.{numbers-write, numbers-without, in-others, numbers-append}
 use Rattle.model.proofs.Effects.{unless-accepted, Does, refuses, answers, starts, writes, finishes, undoes, does}
@@ -88,63 +89,6 @@ keep-other t k x (r ∷ rs) n =
 
 -- ---- searches
 
-last-snoc : (f : Row → Bool) (xs : List Row) (x : Row) → f x ≡ true → last f (xs ++ x ∷ []) ≡ some x
-unfolding last if_then_else_
-last-snoc f [] x h = rw h
-last-snoc f (y ∷ xs) x h = rw (last-snoc f xs x h, last)
-
-last-snoc-not : (f : Row → Bool) (xs : List Row) (x : Row) → f x ≡ false → last f (xs ++ x ∷ []) ≡ last f xs
-unfolding last if_then_else_
-last-snoc-not f [] x h = rw h
-last-snoc-not f (y ∷ xs) x h = rw (last-snoc-not f xs x h)
-
-first-snoc-not : (f : Row → Bool) (xs : List Row) (x : Row) → f x ≡ false → first f (xs ++ x ∷ []) ≡ first f xs
-unfolding first
-first-snoc-not f [] x h = rw (h, first)
-first-snoc-not f (y ∷ xs) x h = by (f y) (λ k. rw (k, first)) (λ k. rw (k, first) (first-snoc-not f xs x h))
-
--- what is looked for is not among those left out
-last-keep : (f g : Row → Bool) (xs : List Row) → AllOf (λ r. g r ≡ false → f r ≡ false) xs → last f (keep g xs) ≡ last f xs
-unfolding last keep if_then_else_
-last-keep f g [] a = refl
-last-keep f g (x ∷ xs) a =
-    let ih = last-keep f g xs (a .1) in
-    by (g x) (λ h. rw (h, ih))
-    (λ h. by-option (last f xs) (λ n. rw (h, n, a .0 h) (ih ∙ n)) (λ y n. rw (h, n, last) (ih ∙ n)))
-
-first-keep : (f g : Row → Bool) (xs : List Row) → AllOf (λ r. g r ≡ false → f r ≡ false) xs → first f (keep g xs) ≡ first f xs
-unfolding first keep if_then_else_
-first-keep f g [] a = refl
-first-keep f g (x ∷ xs) a =
-    let ih = first-keep f g xs (a .1) in
-    by (g x) (λ h. by (f x) (λ k. rw (h, k, first)) (λ k. rw (h, k, first) ih)) (λ h. rw (h, a .0 h, first) ih)
-
-over : Option Row → Option Row → Option Row
-over (some y) o = some y
-over none o = o
-
-last-cons : (f : Row → Bool) (x : Row) (xs : List Row) → last f (x ∷ xs) ≡ over (last f xs) (if f x then some x else none)
-unfolding last over
-last-cons f x xs = by-option (last f xs) (λ n. rw (n, last)) (λ y n. rw (n, last))
-
-over-none : (o : Option Row) → over o none ≡ o
-unfolding over
-over-none none = refl
-over-none (some y) = refl
-
--- a search among the rows that pass a first test
-last-both : (f g : Row → Bool) (xs : List Row) → last (λ r. f r && g r) xs ≡ last f (keep g xs)
-unfolding if_then_else_
-last-both f g [] = unfold last keep in refl
-last-both f g (x ∷ xs) =
-    let ih = last-both f g xs in
-    let pick : Bool → Option Row = λ b. if b then some x else none in
-    by (g x)
-    (λ h. last-cons (λ r. f r && g r) x xs ∙ ap₂ over ih (ap pick (ap (λ z. f x && z) h ∙ and-yes (f x))) ∙ sym (last-cons f x (keep g xs))
-    ∙ ap (last f) (sym (keep-cons g x xs h)))
-    (λ h. last-cons (λ r. f r && g r) x xs ∙ ap₂ over ih (ap pick (ap (λ z. f x && z) h ∙ and-no (f x))) ∙ over-none (last f (keep g xs))
-    ∙ ap (last f) (sym (keep-past g x xs h)))
-
 -- ---- sight goes by the rows
 
 seen-rows : (u t k : ℕ) (s z : Store) → rows (z .pages) ≡ rows (s .pages) → seen u t k z ≡ seen u t k s
@@ -155,8 +99,8 @@ seen-rows u t k s z e = ap (λ rs. seenOf u (keep (isAt t k) rs)) e
 seen-snoc : (u : ℕ) (vs : List Row) (x : Row) → isOwn u x ≡ false → isTentative (x .1 .owner) ≡ true → seenOf u (vs ++ x ∷ []) ≡ seenOf u vs
 unfolding seenOf
 seen-snoc u vs x n o =
-    let a = last-snoc-not (isOwn u) vs x n in
-    let b = first-snoc-not (λ r. not (isTentative (r .1 .owner))) vs x (ap not o) in
+    let a = last-old (isOwn u) x n vs in
+    let b = first-old (λ r. not (isTentative (r .1 .owner))) x (ap not o) vs in
     by-option (last (isOwn u) vs) (λ e. rw (a, e, seenOf) b) (λ y e. rw (a, e, seenOf))
 
 -- nor is one that is gone
@@ -185,7 +129,7 @@ module _ (s : Store) (v : Valid s) (tx t k : ℕ) (bs : List ℕ) (m : Bool) whe
   -- its own newest version; a delete mark means absent
   sees-own : seen tx t k (withTuple tx t k bs m s .store) ≡ (if m then none else some (t, newTuple tx k bs m s))
   unfolding seen seenOf x newTuple isOwn isBy
-  sees-own = rw (at-written, last-snoc (isOwn tx) (versions t k (s .pages)) x (eqb-self tx), seenOf)
+  sees-own = rw (at-written, last-new (isOwn tx) x (eqb-self tx) (versions t k (s .pages)), seenOf)
 
   sees-others : (u : ℕ) → eqb tx u ≡ false → (t′ k′ : ℕ) → seen u t′ k′ (withTuple tx t k bs m s .store) ≡ seen u t′ k′ s
   unfolding seen x newTuple

@@ -8,11 +8,12 @@ use Rattle.block_forms.specs.Tuple.{Tuple, size, ownerSize}
 use Rattle.model.specs.State.{Held, nothing, Page, adding, Pending, removing, committing}
 use Rattle.model.specs.Rules.{heldSize, shown, fresh, withTuples, lead, splitOnce, fits, half, after, entering, withoutPending, grown, place, placeAfter, placeFront, joins, joined}
 use Rattle.model.specs.Rules.{settle, settleNext, settleFull, listOf, asCommitted, withPending, commitNow, removeNow, pendRemove, isAdding, pendCommit, isRemoving, around, applied}
-use Rattle.model.specs.Rules.{isCommitting, live, splitAll, isPending, thawOn, thaw, isFrozen, editAt, pendRemoveAt, removeRowOn, committedAt, commitRowOn, atRow, removeRow, commitRow}
+use Rattle.model.specs.Rules.{isCommitting, live, splitAll, isPending, thawOn, thaw, isFrozen, editAt, pendRemoveAt, removeRowOn, committedAt, commitRowOn, removeRow, commitRow}
 use Rattle.model.specs.Transactions.{PlaceOp, commitPlace, removePlace, carryOut}
 use Rattle.basics.proofs.Elements.{all-map, leb-true, leb-false, all-take, all-drop, some-eq, all-append, not-true, has-some, all-parts}
 use Rattle.model.proofs.Splits.{mostSize, Small, half-between, after-all, together, split-all}
 use Rattle.model.proofs.Frozen.{after-shown, entering-adding, shown-takenAt, shown-pendCommit, bare, shown-withoutPending}
+use Rattle.model.proofs.RuleCases.{after-cases, all-row}
 
 -- a tuple of a page that is not frozen: small, nothing pending
 abbrev pub NothingPending : Held → Type 0
@@ -123,13 +124,8 @@ module _ (t : ℕ) (x : Tuple) (sx : size x ≤ mostSize) where
   unfolding placeAfter if_then_else_
   all-placeAfter [] qs e a = never e
   all-placeAfter (p ∷ ps) qs e a =
-      by-option (placeAfter t x ps)
-      (λ n. by (eqb (p .table) t)
-      (λ h. by-option (after (entering p x) (p .tuples))
-      (λ m. never (rw (n, h, m) at e))
-      (λ ts m. let k : grown p ts ++ ps ≡ qs = some-eq (rw (n, h, m) at e) in subst (AllOf PageOk) k (grown-after p ts ps m (a .0) (a .1))))
-      (λ h. never (rw (n, h) at e)))
-      (λ ws n. let k : p ∷ ws ≡ qs = some-eq (rw (n, placeAfter) at e) in subst (AllOf PageOk) k (a .0, all-placeAfter ps ws n (a .1)))
+      after-cases t x p ps qs e (λ ts n h m k. subst (AllOf PageOk) k (grown-after p ts ps m (a .0) (a .1)))
+      (λ ws n k. subst (AllOf PageOk) k (a .0, all-placeAfter ps ws n (a .1)))
 
   alone : Fine (withoutPending x ∷ [])
   unfolding sum withoutPending heldSize
@@ -277,22 +273,13 @@ commitRowOn-ok j o p ps l a =
     let k = edit-sum commitNow kept-size j (p .tuples) in
     rw h (all-append PageOk (listOf o) _ l (fresh-ok (p .table) (editAt commitNow j (p .tuples)) (c, omega arith, rw (kept-length j (p .tuples)) (f .2)), a .1)))
 
-row-ok : (f : ℕ → Option Page → Page → List Page → List Page)
-    → ((j : ℕ) (o : Option Page) (p : Page) (ps : List Page) → AllOf PageOk (listOf o) → AllOf PageOk (p ∷ ps) → AllOf PageOk (f j o p ps))
-    → (i : ℕ) (o : Option Page) (ps : List Page) → AllOf PageOk (listOf o) → AllOf PageOk ps → AllOf PageOk (atRow f i o ps)
-unfolding atRow listOf
-row-ok f F i o [] l a = l
-row-ok f F i o (p ∷ ps) l a =
-    by (ltb i (length (p .tuples))) (λ h. rw (h, atRow) (F i o p ps l a))
-    (λ h. rw (h, atRow) (all-append PageOk (listOf o) _ l (row-ok f F (i - length (p .tuples)) (some p) ps (a .0, tt) (a .1))))
-
 pub removeRow-ok : (i : ℕ) (ps : List Page) → AllOf PageOk ps → AllOf PageOk (removeRow i ps)
 unfolding removeRow listOf
-removeRow-ok i ps a = row-ok removeRowOn removeRowOn-ok i none ps tt a
+removeRow-ok i ps a = all-row PageOk removeRowOn removeRowOn-ok i none ps tt a
 
 pub commitRow-ok : (i : ℕ) (ps : List Page) → AllOf PageOk ps → AllOf PageOk (commitRow i ps)
 unfolding commitRow listOf
-commitRow-ok i ps a = row-ok commitRowOn commitRowOn-ok i none ps tt a
+commitRow-ok i ps a = all-row PageOk commitRowOn commitRowOn-ok i none ps tt a
 
 pub carry-ok : (n : ℕ) (os : List PlaceOp) (ps : List Page) → AllOf PageOk ps → AllOf PageOk (carryOut n os ps)
 unfolding carryOut

@@ -4,12 +4,12 @@ use Rattle.basics.specs.Basics.{if_then_else_, sum, isEmpty, any}
 use Rattle.basics.proofs.Facts.{by, never, by-option}
 use Rattle.block_forms.specs.Tuple.{Tuple}
 use Rattle.model.specs.State.{Page, Held}
-use Rattle.model.specs.Rules.{grown, withTuples, listOf, removeNow, pendCommit, commitNow, fresh, splitOnce, placeAfter, place, after, entering, placeFront, withoutPending, settle}
+use Rattle.model.specs.Rules.{grown, withTuples, listOf, removeNow, pendCommit, commitNow, fresh, splitOnce, placeAfter, place, placeFront, withoutPending, settle}
 use Rattle.model.specs.Rules.{settleNext, joined, joins, settleFull, around, thaw, isFrozen, thawOn, isPending, live, splitAll, editAt, pendRemoveAt, removeRowOn, committedAt}
 use Rattle.model.specs.Rules.{commitRowOn, atRow, removeRow, commitRow}
 use Rattle.model.specs.Transactions.{PlaceOp, commitPlace, removePlace, carryOut}
-use Rattle.basics.proofs.Elements.{some-eq}
 use Rattle.model.proofs.Pages.{stillFrozen}
+use Rattle.model.proofs.RuleCases.{after-cases}
 
 grown-frozen : (p : Page) (ts : List Held) → p .frozen ≡ true → grown p ts ≡ stillFrozen p ts ∷ []
 unfolding grown withTuples stillFrozen if_then_else_
@@ -47,13 +47,8 @@ module _ (w : Page → ℕ) (w-fresh : (t : ℕ) (ts : List Held) → w (fresh t
   unfolding placeAfter if_then_else_ sum
   sum-placeAfter t x [] qs e = never e
   sum-placeAfter t x (p ∷ ps) qs e =
-      by-option (placeAfter t x ps)
-      (λ n. by (eqb (p .table) t)
-      (λ h. by-option (after (entering p x) (p .tuples))
-      (λ m. never (rw (n, h, m) at e))
-      (λ ts m. let k : grown p ts ++ ps ≡ qs = some-eq (rw (n, h, m) at e) in subst (λ z. sum w z ≤ w p + sum w ps) k (sum-grown p ts ps)))
-      (λ h. never (rw (n, h) at e)))
-      (λ ws n. let k : p ∷ ws ≡ qs = some-eq (rw (n, placeAfter) at e) in let l = sum-placeAfter t x ps ws n in subst (λ z. sum w z ≤ w p + sum w ps) k (omega arith))
+      after-cases t x p ps qs e (λ ts n h m k. subst (λ z. sum w z ≤ w p + sum w ps) k (sum-grown p ts ps))
+      (λ ws n k. let l = sum-placeAfter t x ps ws n in subst (λ z. sum w z ≤ w p + sum w ps) k (omega arith))
 
   sum-placeFront : (t : ℕ) (x : Tuple) (ps : List Page) → sum w (placeFront t x ps) ≤ sum w ps
   unfolding placeFront if_then_else_ sum
