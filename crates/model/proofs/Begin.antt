@@ -8,9 +8,10 @@ use Rattle.model.specs.Rules.{shown, freeze, isDirty}
 use Rattle.model.specs.Checkpoint.{withProgress}
 use Rattle.model.specs.CrashRecovery.{content}
 use Rattle.basics.proofs.Elements.{eqb-true, not-zero, le-true}
-use Rattle.model.proofs.Frozen.{bare, images}
+use Rattle.model.proofs.Frozen.{images}
 use Rattle.model.proofs.Stored.{Stored, end, todo, stands}
 use Rattle.model.proofs.Inv.{Tied, isClean, Inv, Ready, Phase, named-self}
+use Rattle.model.proofs.Shown.{bare}
 
 abbrev NothingPending : Page → Type 0
 NothingPending p = (p .frozen ≡ false) × (shown (p .tuples) ≡ bare (p .tuples))

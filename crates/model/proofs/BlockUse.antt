@@ -13,12 +13,13 @@ use Rattle.model.specs.Calls.{TransactionCall, transact, Call, transacts
 use Rattle.basics.proofs.Elements.{eqb-true, not-zero, pos-not-zero, in-head, in-weak, leb-false, leb-true, eqb-self, many-append, in-all}
 use Rattle.basics.proofs.Elements.{all-map, eqb-sym, all-append, all-two, in-append}
 use Rattle.basics.proofs.Members.{test-other, fails-not-in, one-many, not-in-many}
-use Rattle.model.proofs.Frozen.{images, images-first, images-thaw, Content, images-none}
-use Rattle.model.proofs.Pages.{stillFrozen, all-thaw}
-use Rattle.model.proofs.Totals.{sum-thaw}
+use Rattle.model.proofs.Frozen.{images, images-first, images-thaw, Content, images-none, images-moves}
+use Rattle.model.proofs.Pages.{all-thaw, all-moves}
+use Rattle.model.proofs.Totals.{sum-thaw, sum-moves}
 use Rattle.model.proofs.Alloc.{Fresh, allocate-fresh, count-one, used-new, used-old}
 use Rattle.model.proofs.Effects.{unless-keeps}
 use Rattle.model.proofs.NoStores.{no-stores, step-keeps, run-keeps}
+use Rattle.model.proofs.Moves.{stillFrozen}
 
 -- ---- entries: 0 stands for a page still to be written
 
@@ -199,9 +200,9 @@ call-use c s b =
       level = b .level;
       taken = b .taken;
       within = b .within;
-      apart = λ c l. let m = k .less (inBlock c) (inBlock-fresh c l) (inBlock-frozen c) in omega (arith, b .apart c l);
-      phase = phase-kept s (k .next) (k .pages) (k .active) (k .more) (k .same) (s .checkpoint)
-          (k .kept (Booked pool) (booked-fresh pool) (booked-frozen pool)) (b .phase);
+      apart = λ c l. let m = k .moved _ (sum-moves (inBlock c) (inBlock-fresh c l) (inBlock-frozen c)) in omega (arith, b .apart c l);
+      phase = phase-kept s (k .next) (k .pages) (k .active) (k .more) (k .moved _ images-moves) (s .checkpoint)
+          (k .moved _ (all-moves (Booked pool) (booked-fresh pool) (booked-frozen pool))) (b .phase);
     })
 
 -- ---- begin

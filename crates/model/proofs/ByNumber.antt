@@ -6,7 +6,7 @@ use Rattle.basics.proofs.Facts.{by}
 use Rattle.image_rows.specs.Rows.{Row, number, isOwn, isAt}
 use Rattle.model.specs.State.{Held, Page}
 use Rattle.model.specs.Rules.{fresh, withTuples, listOf, settle, around, removeNow, pendRemove, commitNow, pendCommit, shown, editAt, pendRemoveAt, removeRowOn, committedAt, commitRowOn}
-use Rattle.model.proofs.Frozen.{takenAt-is}
+use Rattle.model.proofs.Shown.{takenAt-is}
 
 -- ---- one operation
 

@@ -13,8 +13,7 @@ use Rattle.model.specs.Checkpoint.{beginCall, isRunning, freeCount, bloc
 use Rattle.model.specs.Calls.{TransactionCall, transact, Call, transacts, begins, steps, runs, call, isBegin, accepted, afterCalls}
 use Rattle.model.specs.CrashRecovery.{landed, Logged, isHeader, tag, log}
 use Rattle.model.proofs.Views.{CutV, recoverView, WriteOk, stop, put, torn, whole}
-use Rattle.model.proofs.Frozen.{images}
-use Rattle.model.proofs.Pages.{stillFrozen}
+use Rattle.model.proofs.Frozen.{images, images-moves}
 use Rattle.model.proofs.Effects.{unless-out}
 use Rattle.model.proofs.NoStores.{no-stores, NoStores}
 use Rattle.model.proofs.BlockUse.{idle-of, BlockUse, Ledger}
@@ -22,6 +21,8 @@ use Rattle.model.proofs.Recovery.{recovers}
 use Rattle.model.proofs.Inv.{Tied, tied-fresh, tied-frozen, Phase, Inv, Ready, Like, Good}
 use Rattle.model.proofs.Steps.{still, FrozenSmall, Stepped, directory-step, header-step, page-step, Top, FrozenFit, wrote}
 use Rattle.model.proofs.Begin.{begin-inv}
+use Rattle.model.proofs.Moves.{stillFrozen}
+use Rattle.model.proofs.Pages.{all-moves}
 
 -- ---- calls that make no store and touch no checkpoint
 
@@ -63,8 +64,8 @@ inv-kept n img s b b₀ o q inv =
     (unfold changed in record {
       blocks = inv .blocks;
       good = inv .good;
-      phase = phase-changed img s b (q .next) (q .pages) (q .active) (q .same) (s .checkpoint)
-          (q .kept T (tie-fresh img s (s .checkpoint)) (tie-frozen img s (s .checkpoint))) (inv .phase);
+      phase = phase-changed img s b (q .next) (q .pages) (q .active) (q .moved _ images-moves) (s .checkpoint)
+          (q .moved _ (all-moves T (tie-fresh img s (s .checkpoint)) (tie-frozen img s (s .checkpoint)))) (inv .phase);
     })
 
 -- ---- begin and step

@@ -17,10 +17,11 @@ use Rattle.model.specs.Checkpoints.{contentOf}
 use Rattle.model.proofs.Views.{put}
 use Rattle.basics.proofs.Elements.{leb-true, eqb-true, pos-not-zero}
 use Rattle.basics.proofs.Members.{test-other}
-use Rattle.model.proofs.Frozen.{bare, Content, images}
-use Rattle.model.proofs.Pages.{stillFrozen}
+use Rattle.model.proofs.Frozen.{Content, images}
 use Rattle.model.proofs.Recovery.{Found, found-frame}
 use Rattle.model.proofs.Stored.{Stored, put-other, Dirs}
+use Rattle.model.proofs.Shown.{bare}
+use Rattle.model.proofs.Moves.{stillFrozen}
 
 -- ---- clean pages
 

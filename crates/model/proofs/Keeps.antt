@@ -17,7 +17,7 @@ use Rattle.basics.proofs.Elements.{in-append, all-map, Pairs, keep-length}
 use Rattle.model.proofs.ByNumber.{planRows, removeAll}
 use Rattle.model.proofs.Owners.{numbers-append, numbers-write, numbers-length, numbers-without}
 use Rattle.model.proofs.Splits.{mostSize}
-use Rattle.model.proofs.Frozen.{images, images-place, shown-withoutPending, images-none, images-carry}
+use Rattle.model.proofs.Frozen.{images, images-none, images-moves}
 use Rattle.model.proofs.Effects.{unless-keeps, Accepts, Does, refuses, answers, starts, writes, finishes, undoes, does}
 use Rattle.model.proofs.NoStores.{step-keeps, run-keeps}
 use Rattle.model.proofs.BlockUse.{below-most, idle-of}
@@ -28,6 +28,8 @@ use Rattle.model.proofs.RowAfter.{differ-alike, gather, rowAfter, commi
 use Rattle.model.proofs.Valid.{Opened, LiveOk, Valid, before-alike, HeldOk, held-insert, live-insert, Counted, held-sub}
 use Rattle.model.proofs.Closing.{commit-live, abort-live}
 use Rattle.model.proofs.ByPlace.{commit-carried, abort-carried}
+use Rattle.model.proofs.Shown.{shown-withoutPending}
+use Rattle.model.proofs.Moves.{moves-place, moves-carry}
 
 -- ---- open
 
@@ -111,7 +113,7 @@ module _ (c : TransactionCall) (s : Store) (v : Valid s) (n : Counted s) (tx t k
       let put = place-put t x (s .pages) (v .pages) (v .has .rising) in
       record {
         pages = place-ok t x x-size (s .pages) (v .pages);
-        still = λ h. images-place t x (s .pages) ∙ v .still h;
+        still = λ h. moves-place _ images-moves t x (s .pages) ∙ v .still h;
         has = written-has _ _ (put .0) (v .has) (a .room);
         sees = subst (λ z. LiveOk z (rows (place t x (s .pages)))) (sym (numbers-write tx (s .active))) (written-sees _ (put .1));
         opened = subst (λ n. n ≤ openLimit) (sym (numbers-length (s .active)) ∙ ap length (sym (numbers-write tx (s .active)))
@@ -133,7 +135,7 @@ closed-valid tx n os F s v r live =
     let o = numbers-without tx (s .active) in
     record {
       pages = carry-ok n os (s .pages) (v .pages);
-      still = λ h. images-carry n os (s .pages) ∙ v .still h;
+      still = λ h. moves-carry _ images-moves n os (s .pages) ∙ v .still h;
       has = held-sub (s .capacity) (s .next) (r .0) (v .has);
       sees = rw (o, r .1) live;
       opened = omega (arith, v .opened, numbers-length (s .active), numbers-length (without tx (s .active)), ap length o);

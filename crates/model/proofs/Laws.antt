@@ -19,7 +19,7 @@ use Rattle.model.specs.Seen.{RefusedKeeps, ReadsOnly}
 use Rattle.basics.proofs.Elements.{Pairs, pairs-parts, all-parts, all-map, all-true, leb-true, leb-false, eqb-self, eqb-true, not-false, many-length}
 use Rattle.model.proofs.Owners.{count-write}
 use Rattle.model.proofs.Splits.{Small, split-all}
-use Rattle.model.proofs.Frozen.{takenAt-is, images-thaw, images-first, images-none}
+use Rattle.model.proofs.Frozen.{images-thaw, images-first, images-none}
 use Rattle.model.proofs.Alloc.{Fresh, allocate-fresh}
 use Rattle.model.proofs.Effects.{unless-accepted, Does, refuses, answers, starts, writes, finishes, undoes, does}
 use Rattle.model.proofs.NoStores.{step-frame}
@@ -33,6 +33,7 @@ use Rattle.model.proofs.Runs.{Grouped}
 use Rattle.model.proofs.ByPlace.{all-grouped, grouped-run}
 use Rattle.model.proofs.Keeps.{rows-sub}
 use Rattle.model.proofs.Well.{sound, before-true, many-frozen}
+use Rattle.model.proofs.Shown.{takenAt-is}
 
 pub list-order : ListOrder
 list-order s w before between behind r q e =

@@ -2,6 +2,8 @@ pub mod Views
 pub mod Owners
 pub mod Splits
 pub mod RuleCases
+pub mod Shown
+pub mod Moves
 pub mod Frozen
 pub mod ByNumber
 pub mod Pages

@@ -1,18 +1,16 @@
 -- Calls that make no store and touch no checkpoint: they change the next number, the pages and the open transactions only, and
 -- not what the frozen pages show. And what every call leaves.
 use Rattle.basics.proofs.Kit.{_≡_, refl, sym, ap, _∙_, Bool, true, false, List, [], ℕ, suc, _≤_, zero, min, ltb, length, arith}
-use Rattle.basics.specs.Basics.{if_then_else_, sum, first}
-use Rattle.basics.proofs.Facts.{by, AllOf, lie, by-option}
+use Rattle.basics.specs.Basics.{if_then_else_, first}
+use Rattle.basics.proofs.Facts.{by, lie, by-option}
 use Rattle.image.specs.Stages.{directoriesFor}
-use Rattle.model.specs.State.{Store, Outcome, Page, Active, Held, Answer, refused, done, Checkpoint, idle, running}
-use Rattle.model.specs.Rules.{fresh, isFrozen}
+use Rattle.model.specs.State.{Store, Outcome, Page, Active, Answer, refused, done, Checkpoint, idle, running}
+use Rattle.model.specs.Rules.{isFrozen}
 use Rattle.model.specs.Transactions.{gives, afterWrite, withTuple, changed, closing, PlaceOp, carryOut}
 use Rattle.model.specs.Checkpoint.{withProgress, beginCall, stepAt, stepOf, storePage, storeDirectory, storeHeader, made, stepCall, inTurn, left, runCall}
 use Rattle.model.specs.Calls.{TransactionCall, transact, Call, transacts, begins, steps, runs, call, isTransaction, isStep, Leaves, CallLeaves}
 use Rattle.model.proofs.Effects.{unless-out, unless-keeps, Does, refuses, answers, starts, writes, finishes, undoes, does}
-use Rattle.model.proofs.Frozen.{images, images-place, images-carry}
-use Rattle.model.proofs.Pages.{stillFrozen, all-place, all-carry}
-use Rattle.model.proofs.Totals.{sum-place, sum-carry}
+use Rattle.model.proofs.Moves.{Moves, moves-place, moves-carry}
 
 -- what such a call gives
 pub record NoStores (s : Store) (o : Outcome) : Type 1 where
@@ -22,18 +20,14 @@ pub record NoStores (s : Store) (o : Outcome) : Type 1 where
   pub active : List Active
   pub eq : o .store ≡ changed s next pages active
   pub more : s .next ≤ next
-  pub same : images pages ≡ images (s .pages)
-  -- a property of every page, and a total over the pages
-  pub kept : (Q : Page → Type 0) → ((t : ℕ) (ts : List Held) → Q (fresh t ts))
-      → ((p : Page) (ts : List Held) → p .frozen ≡ true → Q p → Q (stillFrozen p ts)) → AllOf Q (s .pages) → AllOf Q pages
-  pub less : (w : Page → ℕ) → ((t : ℕ) (ts : List Held) → w (fresh t ts) ≡ 0)
-      → ((p : Page) (ts : List Held) → p .frozen ≡ true → w (stillFrozen p ts) ≡ w p) → sum w pages ≤ sum w (s .pages)
+  -- the pages were changed by moves
+  pub moved : (R : List Page → List Page → Type 0) → Moves R → R (s .pages) pages
 
 module _ (s : Store) where
   no-stores-opened : (a : Answer) (os : List Active) → NoStores s (gives a (changed s (s .next) (s .pages) os))
   unfolding gives
   no-stores-opened a os =
-      record { none-written = refl; next = _; pages = _; active = _; eq = refl; more = omega arith; same = refl; kept = λ Q f g h. h; less = λ w f g. omega arith }
+      record { none-written = refl; next = _; pages = _; active = _; eq = refl; more = omega arith; moved = λ R m. m .same (s .pages) }
 
   no-stores-same : (a : Answer) → NoStores s (gives a s)
   unfolding gives changed
@@ -49,9 +43,7 @@ module _ (s : Store) where
         active = _;
         eq = refl;
         more = omega arith;
-        same = images-place t _ (s .pages);
-        kept = λ Q f g. all-place Q f g t _ (s .pages);
-        less = λ w f g. sum-place w f g t _ (s .pages);
+        moved = λ R m. moves-place R m t _ (s .pages);
       }
 
   no-stores-carried : (n : ℕ) (ops : List PlaceOp) (tx : ℕ) → NoStores s (closing tx (carryOut n ops (s .pages)) s)
@@ -64,9 +56,7 @@ module _ (s : Store) where
         active = _;
         eq = refl;
         more = omega arith;
-        same = images-carry n ops (s .pages);
-        kept = λ Q f g. all-carry Q f g n ops (s .pages);
-        less = λ w f g. sum-carry w f g n ops (s .pages);
+        moved = λ R m. moves-carry R m n ops (s .pages);
       }
 
   pub no-stores : (c : TransactionCall) → NoStores s (transact c s)

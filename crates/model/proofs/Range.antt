@@ -13,7 +13,6 @@ use Rattle.model.specs.Transactions.{gives, changed, newTuple, afterWrit
 use Rattle.model.specs.Checkpoint.{stepAt, stepOf, storePage, storeDirectory, storeHeader, made, withProgress, allocate, beginCall}
 use Rattle.model.specs.Calls.{TransactionCall, transact, TypedTuple, TypedCall, Call, transacts, begins, steps, runs, call, Typed}
 use Rattle.basics.proofs.Elements.{many-length, all-insert, all-map, all-two}
-use Rattle.model.proofs.Frozen.{bare}
 use Rattle.model.proofs.Effects.{unless-keeps, Accepts, Does, refuses, answers, starts, writes, finishes, undoes, does}
 use Rattle.model.proofs.NoStores.{step-keeps, run-keeps}
 use Rattle.model.proofs.Steps.{FrozenFit, FrozenSmall}
@@ -24,6 +23,7 @@ use Rattle.model.proofs.Valid.{Valid, Counted}
 use Rattle.model.proofs.ByPlace.{commit-carried, abort-carried}
 use Rattle.model.proofs.Keeps.{rows-sub, step-valid}
 use Rattle.model.proofs.Whole.{Fitting}
+use Rattle.model.proofs.Shown.{bare}
 use Rattle.basics.proofs.Lists.{some-one}
 
 since-fits : {a b : Owner} → Since a b → OwnerFits b → OwnerFits a

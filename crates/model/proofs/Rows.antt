@@ -10,9 +10,9 @@ use Rattle.model.specs.Rules.{thawOn, thaw, isPending, isFrozen, commitN
 use Rattle.model.specs.Sight.{rows, held}
 use Rattle.basics.proofs.Elements.{eqb-true, nothing-left, has-some, here, Pairs, all-map, off-any, pairs-parts}
 use Rattle.model.proofs.Splits.{together, Small, split-all}
-use Rattle.model.proofs.Frozen.{bare}
 use Rattle.model.proofs.ByNumber.{commit, isNumber, edit, hasNumber, remove, removeOn, commitOn, isRow, takenLater-is}
 use Rattle.model.proofs.Sound.{PageOk, small, live-withoutPending}
+use Rattle.model.proofs.Shown.{bare}
 
 -- a tuple as it stands on its page, with its table
 abbrev pub Entry : Type 0

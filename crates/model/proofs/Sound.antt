@@ -12,8 +12,8 @@ use Rattle.model.specs.Rules.{isCommitting, live, splitAll, isPending, t
 use Rattle.model.specs.Transactions.{PlaceOp, commitPlace, removePlace, carryOut}
 use Rattle.basics.proofs.Elements.{all-map, leb-true, leb-false, all-take, all-drop, some-eq, all-append, not-true, has-some, all-parts}
 use Rattle.model.proofs.Splits.{mostSize, Small, half-between, after-all, together, split-all}
-use Rattle.model.proofs.Frozen.{after-shown, entering-adding, shown-takenAt, shown-pendCommit, bare, shown-withoutPending}
 use Rattle.model.proofs.RuleCases.{after-cases, all-row}
+use Rattle.model.proofs.Shown.{bare, after-shown, entering-adding, shown-pendCommit, shown-takenAt, shown-withoutPending}
 
 -- a tuple of a page that is not frozen: small, nothing pending
 abbrev pub NothingPending : Held → Type 0

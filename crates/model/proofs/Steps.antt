@@ -20,13 +20,14 @@ use Rattle.model.specs.Checkpoints.{contentOf}
 use Rattle.model.proofs.Views.{put}
 use Rattle.basics.proofs.Elements.{all-two, pos-not-zero, not-zero, first-all, first-passes, all-map, eqb-true, leb-true, all-take, all-drop, all-true, le-true, eqb-self, leb-false, eqb-sym}
 use Rattle.model.proofs.Owners.{numbers-reopened, in-transactions}
-use Rattle.model.proofs.Frozen.{Content, images, images-first, images-thaw, shown-withoutPending, bare, images-none}
+use Rattle.model.proofs.Frozen.{Content, images, images-first, images-thaw, images-none}
 use Rattle.model.proofs.Pages.{all-thaw}
 use Rattle.model.proofs.Alloc.{Fresh, allocate-fresh, used-old}
 use Rattle.model.proofs.BlockUse.{Booked, BlockUse, Running}
 use Rattle.model.proofs.Recovery.{Found, read-blocks}
 use Rattle.model.proofs.Stored.{Dirs, put-other, Stored, stored-fill, put-same, stored-put, dirs-snoc, dirs-put, end, todo, stands, stored-read, dirs-read, stored-written}
 use Rattle.model.proofs.Inv.{Inv, Good, Tied, clean-pos, Run, good-put, good-more, named-fill, tied-fresh, tied-frozen, listed, listed-read, listed-held, Named}
+use Rattle.model.proofs.Shown.{bare, shown-withoutPending}
 use Rattle.basics.proofs.Members.{zero-not-in, test-other, fails-not-in, once-distinct, once-left, once-right, once-off}
 
 -- what the frozen pages show can be written

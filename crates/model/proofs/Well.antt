@@ -17,7 +17,7 @@ use Rattle.basics.proofs.Elements.{leb-false, eqb-self, le-true, leb-true, Pair
 use Rattle.basics.proofs.Elements.{off-any, not-true, has-some, all-split, pos-not-zero}
 use Rattle.model.proofs.Owners.{numbers-length}
 use Rattle.model.proofs.Splits.{Small}
-use Rattle.model.proofs.Frozen.{bare, images}
+use Rattle.model.proofs.Frozen.{images}
 use Rattle.model.proofs.BlockUse.{BlockUse, keeps-use, inBlock, Booked, Ledger, booked-more}
 use Rattle.model.proofs.Sound.{PageOk, NothingPending}
 use Rattle.model.proofs.Placing.{Before, page-full}
@@ -29,6 +29,7 @@ use Rattle.model.proofs.Whole.{Fitting, few-pages, owner-size, rows-tes
 use Rattle.model.proofs.WriteCounts.{keeps-count}
 use Rattle.model.proofs.Listed.{Listed, keeps-listed}
 use Rattle.model.proofs.Range.{keeps-fits, page-rows}
+use Rattle.model.proofs.Shown.{bare}
 use Rattle.basics.proofs.Lists.{some-one}
 
 pub record Sound (s : Store) : Type 0 where

@@ -20,7 +20,7 @@ use Rattle.model.proofs.Views.{AllSane, Sane}
 use Rattle.basics.proofs.Elements.{all-two, nonempty, all-in, le-true, all-true, here, all-map, all-mapped, has-some, all-append, Mem, there, all-mem, eqb-self, every-all, leb-true, all-split}
 use Rattle.basics.proofs.Members.{pigeon}
 use Rattle.model.proofs.Owners.{transactions-distinct, in-transactions, numbers-length, numbers-reopened, count-reopened}
-use Rattle.model.proofs.Frozen.{bare, shown-withoutPending, images}
+use Rattle.model.proofs.Frozen.{images}
 use Rattle.model.proofs.Recovery.{Found}
 use Rattle.model.proofs.Inv.{Ready}
 use Rattle.model.proofs.Start.{Read, loaded-held, head-range, headed, pages-read}
@@ -30,6 +30,7 @@ use Rattle.model.proofs.Valid.{Valid, Opened, HeldOk, LiveOk, Counted}
 use Rattle.model.proofs.Closing.{own-owner}
 use Rattle.model.proofs.Keeps.{nothing-pending, all-free}
 use Rattle.model.proofs.Tests.{order-tests, differ-distinct, paired-pairs, distinct-differ, all-heads}
+use Rattle.model.proofs.Shown.{bare, shown-withoutPending}
 
 -- ---- nothing pending: what is held is live
 
