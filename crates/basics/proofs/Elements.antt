@@ -2,7 +2,7 @@
 use Rattle.basics.proofs.Kit.{_≡_, refl, sym, ap, _∙_, subst, Bool, true, false, _&&_, _||_, some, none, List, [], _∷_, _++_, map, ℕ, ne-eqb}
 use Rattle.basics.proofs.Kit.{suc, _+_, _≤_, _<_, zero, leb, eqb, ltb, T}
 use Rattle.basics.proofs.Kit.{eqb-refl, le→leb, length, take, drop, getD, arith}
-use Rattle.basics.specs.Basics.{if_then_else_, every, all, keep, isEmpty, first, last, any, howMany, isIn}
+use Rattle.basics.specs.Basics.{if_then_else_, every, all, keep, isEmpty, first, last, any, howMany, isIn, sum}
 use Rattle.basics.proofs.Facts.{by, lie, AllOf, and-true, never, by-option}
 pub use Rattle.basics.proofs.Kit.{not-true, not-false}
 -- ---- tests
@@ -419,3 +419,8 @@ pub empty-length : (p : List ℕ) → isEmpty p ≡ eqb (length p) 0
 unfolding isEmpty
 empty-length [] = refl
 empty-length (x ∷ p) = sym (ne-eqb (suc (length p)) 0 (λ e. omega arith))
+
+pub sum-append : {A : Type 0} (g : A → ℕ) (xs ys : List A) → sum g (xs ++ ys) ≡ sum g xs + sum g ys
+unfolding sum
+sum-append g [] ys = omega arith
+sum-append g (x ∷ xs) ys = let e = sum-append g xs ys in omega arith

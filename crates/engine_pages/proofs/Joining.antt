@@ -7,10 +7,10 @@ use Rattle.block_forms.specs.Limits.{joinSum}
 use Rattle.model.specs.State.{Held, Page}
 use Rattle.model.specs.Rules.{heldSize, joins, joined, fresh, settle, settleFull}
 use Rattle.model.specs.Places.{onPage}
-use Rattle.basics.proofs.Elements.{nonempty}
+use Rattle.basics.proofs.Elements.{nonempty, sum-append}
 use Rattle.model.proofs.Rows.{joins-table}
 use Rattle.memory_layout.specs.Flat.{flatOf, Room, Becomes, withEntries}
-use Rattle.memory_layout.proofs.Exchange.{sum-append, counted-exchange, pages-joined}
+use Rattle.memory_layout.proofs.Exchange.{counted-exchange, pages-joined}
 use Rattle.memory_pages.specs.Pages.{dirty, joinEntries, MayJoin}
 use Rattle.engine_pages.specs.Pages.{PagesNow, pagesOf, pageAt, tuplesAt, entryOf, firstRow, There, swapped}
 use Rattle.memory_layout.specs.Elements.{rowsFrom, RowRange}

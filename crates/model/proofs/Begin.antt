@@ -45,14 +45,10 @@ begin-inv n img s b b₀ inv cp rd =
       blocks = inv .blocks;
       good = inv .good;
       phase = record {
-        nxt = refl;
+        base = record { next = refl; ready = rd; capacity = refl; level = refl; blocks = refl };
         stored = stored-begin img (s .level) (s .pages) ph (rd .thawed);
         dirs = tt;
-        base = rd;
-        bcap = refl;
-        blvl = refl;
-        bblk = refl;
-        bused = λ c h. h;
+        used = λ c h. h;
         names = named-self (s .used) (map (λ p. p .block) (s .pages));
         tied = tied-begin img (s .level) (s .pages) ph (rd .thawed);
       };

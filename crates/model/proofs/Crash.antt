@@ -45,14 +45,10 @@ unfolding changed
 phase-changed img s b nx ps os e idle k ph = k ph
 phase-changed img s b nx ps os e (running n₀ es ds) k r =
     record {
-      nxt = r .nxt;
+      base = r .base;
       stored = rw e (r .stored);
       dirs = r .dirs;
-      base = r .base;
-      bcap = r .bcap;
-      blvl = r .blvl;
-      bblk = r .bblk;
-      bused = r .bused;
+      used = r .used;
       names = r .names;
       tied = k (r .tied);
     }

@@ -126,15 +126,19 @@ good-more n img used used′ b f g = record { back = g .back; found = g .found; 
 
 -- ---- a running checkpoint
 
+-- b was the store at begin, with the next number n: it could begin, and had the capacity c, the level l and k blocks
+pub record Base (c l k n : ℕ) (b : Store) : Type 0 where
+  pub next : n ≡ b .next
+  pub ready : Ready b
+  pub capacity : b .capacity ≡ c
+  pub level : b .level ≡ l
+  pub blocks : b .blocks ≡ k
+
 pub record Run (img : View) (s b : Store) (n₀ : ℕ) (es ds : List ℕ) : Type 0 where
-  pub nxt : n₀ ≡ b .next
+  pub base : Base (s .capacity) (s .level) (s .blocks) n₀ b
   pub stored : Stored img (suc (s .level)) es (map content (b .pages)) (images (s .pages))
   pub dirs : Dirs img (suc (s .level)) es ds
-  pub base : Ready b
-  pub bcap : b .capacity ≡ s .capacity
-  pub blvl : b .level ≡ s .level
-  pub bblk : b .blocks ≡ s .blocks
-  pub bused : (c : ℕ) → b .used c ≡ true → s .used c ≡ true
+  pub used : (c : ℕ) → b .used c ≡ true → s .used c ≡ true
   pub names : Named (b .used) es (map (λ p. p .block) (b .pages))
   pub tied : AllOf (Tied img (suc (s .level))) (s .pages)
 

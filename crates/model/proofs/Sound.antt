@@ -10,7 +10,7 @@ use Rattle.model.specs.Rules.{heldSize, shown, fresh, withTuples, lead, 
 use Rattle.model.specs.Rules.{settle, settleNext, settleFull, listOf, asCommitted, withPending, commitNow, removeNow, pendRemove, isAdding, pendCommit, isRemoving, around, applied}
 use Rattle.model.specs.Rules.{isCommitting, live, splitAll, isPending, thawOn, thaw, isFrozen, editAt, pendRemoveAt, removeRowOn, committedAt, commitRowOn, removeRow, commitRow}
 use Rattle.model.specs.Transactions.{PlaceOp, commitPlace, removePlace, carryOut}
-use Rattle.basics.proofs.Elements.{all-map, leb-true, leb-false, all-take, all-drop, some-eq, all-append, not-true, has-some, all-parts}
+use Rattle.basics.proofs.Elements.{all-map, leb-true, leb-false, all-take, all-drop, some-eq, all-append, not-true, has-some, all-parts, sum-append}
 use Rattle.model.proofs.Splits.{mostSize, Small, half-between, after-all, together, split-all}
 use Rattle.model.proofs.RuleCases.{after-cases, all-row}
 use Rattle.model.proofs.Shown.{bare, after-shown, entering-adding, shown-pendCommit, shown-takenAt, shown-withoutPending}
@@ -48,11 +48,6 @@ frozen-ok p ts h a e w = (a, λ k. lie (sym k ∙ h), λ k. rw e w)
 
 -- ---- one split of a page that took one tuple more
 
-sum-append : (a b : List Held) → sum heldSize (a ++ b) ≡ sum heldSize a + sum heldSize b
-unfolding sum
-sum-append [] b = omega arith
-sum-append (x ∷ a) b = rw (sum-append a b) (omega arith)
-
 -- the first part is at least half, and at most half and a tuple
 lead-size : (w a : ℕ) (xs : List Held) → 2 * a < w → w ≡ a + sum heldSize xs → AllOf Small xs
     → (w ≤ 2 * (a + sum heldSize (take (lead w a xs) xs))) × (2 * (a + sum heldSize (take (lead w a xs) xs)) < w + 2 * mostSize)
@@ -74,7 +69,7 @@ split-once ts c p l =
     let k = half ts in
     let m = half-between ts (small ts c) big in
     let z = lead-size (sum heldSize ts) 0 ts (omega arith) (omega arith) (small ts c) in
-    let q : sum heldSize (take k ts) + sum heldSize (drop k ts) ≡ sum heldSize ts = sym (sum-append (take k ts) (drop k ts))
+    let q : sum heldSize (take k ts) + sum heldSize (drop k ts) ≡ sum heldSize ts = sym (sum-append heldSize (take k ts) (drop k ts))
     ∙ ap (sum heldSize) (take-append-drop k ts) in
     let lt : length (take k ts) ≡ min k (length ts) = length-take k ts in
     let ld : length (drop k ts) ≡ length ts - k = length-drop k ts in
@@ -166,7 +161,7 @@ joined-ok : (p q : Page) → joins p q ≡ true → AllOf NothingPending (p .tup
 unfolding joined
 joined-ok p q e a h b =
     let k = joins-in p q e in
-    let s = sum-append (p .tuples) (q .tuples) in
+    let s = sum-append heldSize (p .tuples) (q .tuples) in
     let l = length-append (p .tuples) (q .tuples) in
     fresh-ok (p .table) (p .tuples ++ q .tuples) (all-append NothingPending (p .tuples) (q .tuples) a b, omega arith, omega arith)
 
@@ -205,7 +200,7 @@ edit-sum : (g : Held → List Held) → ((x : Held) → sum heldSize (g x) ≤ h
     → sum heldSize (editAt g j ts) ≤ sum heldSize ts
 unfolding editAt sum
 edit-sum g f j [] = omega arith
-edit-sum g f zero (x ∷ xs) = let k = f x in rw (sum-append (g x) xs) (omega arith)
+edit-sum g f zero (x ∷ xs) = let k = f x in rw (sum-append heldSize (g x) xs) (omega arith)
 edit-sum g f (suc j) (x ∷ xs) = let k = edit-sum g f j xs in omega arith
 
 committed-size : (x : Tuple) → size (asCommitted x) ≤ size x

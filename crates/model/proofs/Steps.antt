@@ -109,15 +109,11 @@ page-step n img s b b₀ n₀ es ds p bk r inv run small₀ e =
       blocks = inv .blocks;
       good = good-more n img′ (s .used) (usedToo s i) b₀ (used-old s i) (g x);
       phase = record {
-        nxt = run .nxt;
+        base = run .base;
         stored = rw images-thaw st;
         dirs = no-dirs img′ L (fill i es) ds none-yet;
-        base = run .base;
-        bcap = run .bcap;
-        blvl = run .blvl;
-        bblk = run .bblk;
-        bused = λ c h. used-old s i c (run .bused c h);
-        names = named-fill (b .used) i es _ (by (b .used i) (λ h. lie (sym (fr .free) ∙ run .bused i h)) (λ h. h)) (run .names);
+        used = λ c h. used-old s i c (run .used c h);
+        names = named-fill (b .used) i es _ (by (b .used i) (λ h. lie (sym (fr .free) ∙ run .used i h)) (λ h. h)) (run .names);
         tied = all-thaw (Tied img′ L) (tied-fresh img′ L) (tied-frozen img′ L) i p (s .pages) e
             (λ h c. (L, put-same img i x ∙ whole ∙ ap (page (p .table) L) (shown-withoutPending (p .tuples) h), omega arith, omega arith))
             (tied-off img L i x (λ c. isIn c es) (s .pages) off (r .booked) (run .tied));
@@ -158,14 +154,10 @@ directory-step n img s b b₀ n₀ es ds bk r inv run e lt =
       blocks = inv .blocks;
       good = good-more n img′ (s .used) (usedToo s i) b₀ (used-old s i) (g x);
       phase = record {
-        nxt = run .nxt;
+        base = run .base;
         stored = stored-put i x off (run .stored);
         dirs = dirs-snoc img′ L i es ds (put-same img i x) (dirs-put img L i x es ds off′ (run .dirs));
-        base = run .base;
-        bcap = run .bcap;
-        blvl = run .blvl;
-        bblk = run .bblk;
-        bused = λ c h. used-old s i c (run .bused c h);
+        used = λ c h. used-old s i c (run .used c h);
         names = run .names;
         tied = tied-off img L i x (λ c. isIn c es) (s .pages) off (r .booked) (run .tied);
       };
@@ -216,7 +208,7 @@ module _ (n : ℕ) (img : View) (s b : Store) (n₀ : ℕ) (es ds : List ℕ) (b
   top = headerFor s (suc (s .level)) n₀ (length es) ds
 
   few-pages : length es ≤ s .capacity
-  few-pages = let len : length es ≡ length (b .pages) = stored-length (run .stored) ∙ length-map (b .pages) content in omega (arith, run .base .few, run .bcap)
+  few-pages = let len : length es ≡ length (b .pages) = stored-length (run .stored) ∙ length-map (b .pages) content in omega (arith, run .base .ready .few, run .base .capacity)
 
   all-dirs : length ds ≡ directoriesFor (length es)
   all-dirs = omega (arith, r .directories)
@@ -252,12 +244,12 @@ module _ (n : ℕ) (img : View) (s b : Store) (n₀ : ℕ) (es ds : List ℕ) (b
       let hn = header-numbers s L n₀ (length es) ds few-dirs in
       let epos = all-map _ _ (λ d h. h .0) es eok in
       let dpos = all-map _ _ (λ d h. h .0) ds dok in
-      let t = stored-read ims (run .base .some) (stored-put 0 (header top) (zero-not-in es epos) (run .stored)) in
+      let t = stored-read ims (run .base .ready .some) (stored-put 0 (header top) (zero-not-in es epos) (run .stored)) in
       let dr : readDirectories img′ L (length es) ds ≡ some es = dirs-read img′ L es ds (enough all-dirs)
       (dirs-put img L 0 (header top) es ds (zero-not-in ds dpos) (run .dirs)) in
       let rs : rowsOfPages (t .0) ≡ held (b .pages) = sym (listed-read (t .0)) ∙ ap listed (t .2) ∙ listed-held (b .pages) in
       let f : Found n img′ (recoveredStore top (t .0)) = made-found img′ (t .0) (put-same img 0 (header top)) (hn .0) dr (t .1)
-      (ap (rowsOk (s .capacity) n₀) rs ∙ rw (run .nxt, ← run .bcap) (run .base .ok)) in
+      (ap (rowsOk (s .capacity) n₀) rs ∙ rw (run .base .next, ← run .base .capacity) (run .base .ready .ok)) in
       made-good img′ (t .0) f (hn .0) (t .2) rs (read-blocks img′ L es (t .0) (t .1))
     where
       enough : length ds ≡ directoriesFor (length es) → length es ≤ entriesPerBlock * length ds
@@ -287,10 +279,10 @@ module _ (n : ℕ) (img : View) (s b : Store) (n₀ : ℕ) (es ds : List ℕ) (b
         found = f;
         like = record {
           pages = loaded-content ps ∙ c;
-          next = run .nxt;
+          next = run .base .next;
           names = subst (λ z. Named (b .used) z (map (λ p. p .block) (b .pages))) (sym (loaded-blocks ps ∙ bs)) (run .names);
           active = λ tx. ap (isIn tx) (numbers-reopened _ _) ∙ ap (λ z. isIn tx (transactions z)) rs ∙ in-transactions tx (held (b .pages))
-              ∙ ap (any (isOwn tx)) (sym (run .base .same));
+              ∙ ap (any (isOwn tx)) (sym (run .base .ready .same));
         };
         names = λ c u. ap₂ (λ y z. isIn c (y ++ z)) (sym bs) (sym q) ∙ u;
       }
@@ -300,10 +292,10 @@ module _ (n : ℕ) (img : View) (s b : Store) (n₀ : ℕ) (es ds : List ℕ) (b
   header-top = record {
     head = top;
     is = refl;
-    blocks = sym (run .bblk);
-    capacity = sym (run .bcap);
-    level = ap suc (sym (run .blvl));
-    next = run .nxt;
+    blocks = sym (run .base .blocks);
+    capacity = sym (run .base .capacity);
+    level = ap suc (sym (run .base .level));
+    next = run .base .next;
     pages = stored-length (run .stored) ∙ length-map (b .pages) content;
   }
 
@@ -321,7 +313,7 @@ module _ (n : ℕ) (img : View) (s b : Store) (n₀ : ℕ) (es ds : List ℕ) (b
             (
               omega (arith, r .level),
               (
-                omega (arith, run .nxt, run .base .most),
+                omega (arith, run .base .next, run .base .ready .most),
                 (
                   omega (arith, lim .1),
                   (

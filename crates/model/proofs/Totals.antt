@@ -1,7 +1,8 @@
 -- A total over the pages, to which a fresh page adds nothing and a frozen page the same whatever its tuples, is not raised by the rules.
-use Rattle.basics.proofs.Kit.{_≡_, Bool, true, false, some, none, Option, List, [], _∷_, _++_, map, ℕ, _+_, _≤_, _-_, arith}
+use Rattle.basics.proofs.Kit.{_≡_, Bool, true, false, some, none, Option, List, [], _∷_, map, ℕ, _+_, _≤_, _-_, arith}
 use Rattle.basics.specs.Basics.{if_then_else_, sum, any}
 use Rattle.basics.proofs.Facts.{by}
+use Rattle.basics.proofs.Elements.{sum-append}
 use Rattle.model.specs.State.{Page, Held}
 use Rattle.model.specs.Rules.{listOf, fresh, withoutPending}
 use Rattle.model.specs.Rules.{around, thaw, isFrozen, thawOn, isPending, live, splitAll}
@@ -9,11 +10,6 @@ use Rattle.model.proofs.Moves.{stillFrozen, Moves, moves-settle, all-co
 
 module _ (w : Page → ℕ) (w-fresh : (t : ℕ) (ts : List Held) → w (fresh t ts) ≡ 0)
     (w-frozen : (p : Page) (ts : List Held) → p .frozen ≡ true → w (stillFrozen p ts) ≡ w p) where
-  sum-append : (a b : List Page) → sum w (a ++ b) ≡ sum w a + sum w b
-  unfolding sum
-  sum-append [] b = omega arith
-  sum-append (p ∷ a) b = let e = sum-append a b in omega arith
-
   -- the total is not raised
   abbrev Less : List Page → List Page → Type 0
   Less ps qs = sum w qs ≤ sum w ps
@@ -22,8 +18,8 @@ module _ (w : Page → ℕ) (w-fresh : (t : ℕ) (ts : List Held) → w (fresh t
   sum-moves = record {
     same = λ ps. omega arith;
     chain = λ ps qs rs f g. omega arith;
-    left = λ c ps qs f. omega (arith, sum-append c ps, sum-append c qs);
-    right = λ c ps qs f. omega (arith, sum-append ps c, sum-append qs c);
+    left = λ c ps qs f. omega (arith, sum-append w c ps, sum-append w c qs);
+    right = λ c ps qs f. omega (arith, sum-append w ps c, sum-append w qs c);
     comes = λ t ts. unfold sum in omega (arith, w-fresh t ts);
     goes = λ p h. unfold sum in omega arith;
     stays = λ p ts h e. unfold sum in omega (arith, w-frozen p ts h);
@@ -37,7 +33,7 @@ module _ (w : Page → ℕ) (w-fresh : (t : ℕ) (ts : List Held) → w (fresh t
   sum-around hit f more F o [] = omega arith
   sum-around hit f more F o (p ∷ ps) =
       by (hit p) (λ h. rw (h, around) (F o p ps))
-      (λ h. let l = sum-around hit f more F (some p) ps in let e = sum-append (listOf o) (around hit f (some p) ps) in rw (h, around) (omega arith))
+      (λ h. let l = sum-around hit f more F (some p) ps in let e = sum-append w (listOf o) (around hit f (some p) ps) in rw (h, around) (omega arith))
 
   -- the thawed page, if it is clean, may add
   pub sum-thaw : (b more : ℕ) (ps : List Page) → ((p : Page) → w (record { table = p .table; block = b; frozen = false; tuples = p .tuples }) ≤ more)
@@ -48,6 +44,7 @@ module _ (w : Page → ℕ) (w-fresh : (t : ℕ) (ts : List Held) → w (fresh t
       on : (o : Option Page) (p : Page) (ps : List Page) → sum w (thawOn b o p ps) ≤ sum w (listOf o) + (w p + sum w ps) + more
       on o p ps = unfold thawOn if_then_else_ sum in
           by (any (λ x. isPending (x .pending)) (p .tuples))
-          (λ h. let hs = map withoutPending (live (p .tuples)) in let l = moves-settle Less sum-moves (map (fresh (p .table)) (splitAll hs)) (all-come Less sum-moves (p .table) (splitAll hs)) o (fresh (p .table) hs) ps in
-          rw h (omega (arith, l, sum-append (listOf o) ps)))
-          (λ h. let k = c p in let e = sum-append (listOf o) (record { table = p .table; block = b; frozen = false; tuples = p .tuples } ∷ ps) in rw h (omega arith))
+          (λ h. let hs = map withoutPending (live (p .tuples)) in let tss = splitAll hs in
+          let l = moves-settle Less sum-moves (map (fresh (p .table)) tss) (all-come Less sum-moves (p .table) tss) o (fresh (p .table) hs) ps in
+          rw h (omega (arith, l, sum-append w (listOf o) ps)))
+          (λ h. let k = c p in let e = sum-append w (listOf o) (record { table = p .table; block = b; frozen = false; tuples = p .tuples } ∷ ps) in rw h (omega arith))
