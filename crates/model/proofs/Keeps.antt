@@ -4,6 +4,7 @@ use Rattle.basics.proofs.Kit.{length-append, length-map, arith}
 use Rattle.basics.specs.Basics.{keep, if_then_else_, howMany, any, first, isEmpty}
 use Rattle.basics.proofs.Facts.{AllOf, by, by-option}
 use Rattle.block_forms.specs.Tuple.{Owner, committed, tentative, Tuple, size, ownerSize, isTentative}
+use Rattle.block_forms.specs.Limits.{mostRecord}
 use Rattle.image_rows.specs.Rows.{Row, isOwn, markOk, isAt, openLimit}
 use Rattle.image.specs.Stages.{directoriesFor}
 use Rattle.model.specs.State.{Store, Outcome, Page, Held, idle, running, nothing, Checkpoint}
@@ -16,7 +17,6 @@ use Rattle.model.specs.Calls.{TransactionCall, transact, Call, transacts
 use Rattle.basics.proofs.Elements.{in-append, all-map, Pairs, keep-length}
 use Rattle.model.proofs.ByNumber.{planRows, removeAll}
 use Rattle.model.proofs.Owners.{numbers-append, numbers-write, numbers-length, numbers-without}
-use Rattle.model.proofs.Splits.{mostSize}
 use Rattle.model.proofs.Frozen.{images, images-none, images-moves}
 use Rattle.model.proofs.Effects.{unless-keeps, Accepts, Does, refuses, answers, starts, writes, finishes, undoes, does}
 use Rattle.model.proofs.NoStores.{step-keeps, run-keeps}
@@ -81,7 +81,7 @@ module _ (c : TransactionCall) (s : Store) (v : Valid s) (n : Counted s) (tx t k
   x : Tuple
   x = newTuple tx k bs m s
 
-  x-size : size x ≤ mostSize
+  x-size : size x ≤ mostRecord
   unfolding size x newTuple ownerSize
   x-size = omega (arith, a .short)
 
@@ -166,7 +166,7 @@ abort-valid tx s v =
 no-idle : {X : Type 0} {n : ℕ} {es ds : List ℕ} → running n es ds ≡ idle → X
 no-idle e = let z : _≡_ {A = ℕ} 0 1 = cc in absurd (omega arith)
 
-pub nothing-pending : (ts : List Held) → AllOf (λ x. (heldSize x ≤ mostSize) × (x .pending ≡ nothing)) ts
+pub nothing-pending : (ts : List Held) → AllOf (λ x. (heldSize x ≤ mostRecord) × (x .pending ≡ nothing)) ts
     → any (λ x. isPending (x .pending)) ts ≡ false
 unfolding any isPending
 nothing-pending [] a = refl

@@ -1,5 +1,5 @@
 -- Every page that is not frozen is not empty, fits its block and has nothing pending; and every tuple has at most 53 bytes.
-use Rattle.block_forms.specs.Limits.{joinSum, recordSpace}
+use Rattle.block_forms.specs.Limits.{joinSum, recordSpace, mostRecord}
 use Rattle.basics.proofs.Kit.{_≡_, refl, sym, ap, _∙_, subst, true, false, _&&_, not, some, none, Option, List, [], _∷_, _++_, map, ℕ, suc, _+_, _*_, _≤_, _<_, zero, _-_, min, leb, eqb, ltb}
 use Rattle.basics.proofs.Kit.{length, take, drop, length-append, length-take, length-drop, take-append-drop, length-map, arith}
 use Rattle.basics.specs.Basics.{sum, if_then_else_, isEmpty, any}
@@ -11,13 +11,13 @@ use Rattle.model.specs.Rules.{settle, settleNext, settleFull, listOf, as
 use Rattle.model.specs.Rules.{isCommitting, live, splitAll, isPending, thawOn, thaw, isFrozen, editAt, pendRemoveAt, removeRowOn, committedAt, commitRowOn, removeRow, commitRow}
 use Rattle.model.specs.Transactions.{PlaceOp, commitPlace, removePlace, carryOut}
 use Rattle.basics.proofs.Elements.{all-map, leb-true, leb-false, all-take, all-drop, some-eq, all-append, not-true, has-some, all-parts, sum-append}
-use Rattle.model.proofs.Splits.{mostSize, Small, half-between, after-all, together, split-all}
+use Rattle.model.proofs.Splits.{Small, half-between, after-all, together, split-all}
 use Rattle.model.proofs.RuleCases.{after-cases, all-row}
 use Rattle.model.proofs.Shown.{bare, after-shown, entering-adding, shown-pendCommit, shown-takenAt, shown-withoutPending}
 
 -- a tuple of a page that is not frozen: small, nothing pending
 abbrev pub NothingPending : Held → Type 0
-NothingPending x = (heldSize x ≤ mostSize) × (x .pending ≡ nothing)
+NothingPending x = (heldSize x ≤ mostRecord) × (x .pending ≡ nothing)
 
 -- a list of tuples that may stand on such a page
 abbrev Fine : List Held → Type 0
@@ -50,7 +50,7 @@ frozen-ok p ts h a e w = (a, λ k. lie (sym k ∙ h), λ k. rw e w)
 
 -- the first part is at least half, and at most half and a tuple
 lead-size : (w a : ℕ) (xs : List Held) → 2 * a < w → w ≡ a + sum heldSize xs → AllOf Small xs
-    → (w ≤ 2 * (a + sum heldSize (take (lead w a xs) xs))) × (2 * (a + sum heldSize (take (lead w a xs) xs)) < w + 2 * mostSize)
+    → (w ≤ 2 * (a + sum heldSize (take (lead w a xs) xs))) × (2 * (a + sum heldSize (take (lead w a xs) xs)) < w + 2 * mostRecord)
 unfolding lead sum if_then_else_
 lead-size w a [] h e s = absurd (omega arith)
 lead-size w a (x ∷ xs) h e s =
@@ -60,7 +60,7 @@ lead-size w a (x ∷ xs) h e s =
     let r = lead-size w (a + heldSize x) xs k (omega arith) (s .1) in
     rw t (omega arith, omega arith))
 
-split-once : (ts : List Held) → AllOf NothingPending ts → 0 < length ts → sum heldSize ts ≤ recordSpace + mostSize → AllOf Fine (splitOnce ts)
+split-once : (ts : List Held) → AllOf NothingPending ts → 0 < length ts → sum heldSize ts ≤ recordSpace + mostRecord → AllOf Fine (splitOnce ts)
 unfolding splitOnce if_then_else_ fits half
 split-once ts c p l =
     by (leb (sum heldSize ts) recordSpace) (λ h. rw h ((c, leb-true (sum heldSize ts) recordSpace h, p), tt))
@@ -98,19 +98,19 @@ entering-withoutPending p x h = rw h
 -- a page takes the tuples zs, which are its own and x
 all-grown : (p : Page) (zs : List Held) (ps : List Page) → AllOf Small zs
     → (p .frozen ≡ true → (shown zs ≡ shown (p .tuples)) × Whole (shown (p .tuples)))
-    → (p .frozen ≡ false → AllOf NothingPending zs × (sum heldSize zs ≤ recordSpace + mostSize) × (0 < length zs)) → AllOf PageOk ps → AllOf PageOk (grown p zs ++ ps)
+    → (p .frozen ≡ false → AllOf NothingPending zs × (sum heldSize zs ≤ recordSpace + mostRecord) × (0 < length zs)) → AllOf PageOk ps → AllOf PageOk (grown p zs ++ ps)
 unfolding grown if_then_else_
 all-grown p zs ps s w f a =
     by (p .frozen) (λ h. rw h (frozen-ok _ zs refl s (w h .0) (w h .1), a))
     (λ h. let g = f h in rw h (all-append PageOk (map (fresh (p .table)) (splitOnce zs)) ps (all-fresh (p .table) (splitOnce zs) (split-once zs (g .0) (g .2) (g .1))) a))
 
-module _ (t : ℕ) (x : Tuple) (sx : size x ≤ mostSize) where
+module _ (t : ℕ) (x : Tuple) (sx : size x ≤ mostRecord) where
   grown-after : (p : Page) (zs : List Held) (ps : List Page) → after (entering p x) (p .tuples) ≡ some zs → PageOk p → AllOf PageOk ps
       → AllOf PageOk (grown p zs ++ ps)
   grown-after p zs ps e o a =
       let k = after-sum (entering p x) (p .tuples) zs e in
       let eq = entering-size p x in
-      let es : heldSize (entering p x) ≤ mostSize = omega arith in
+      let es : heldSize (entering p x) ≤ mostRecord = omega arith in
       all-grown p zs ps (after-all Small (entering p x) (p .tuples) zs e es (o .0))
       (λ h. (after-shown (entering p x) (p .tuples) zs (entering-adding p x h) e, o .2 h))
       (λ h. let f = o .1 h in (after-all NothingPending (entering p x) (p .tuples) zs e (es, entering-withoutPending p x h) (f .0), omega arith, k .1)) a
@@ -130,7 +130,7 @@ module _ (t : ℕ) (x : Tuple) (sx : size x ≤ mostSize) where
   unfolding sum shown if_then_else_
   grown-front p ps o a =
       let eq = entering-size p x in
-      let es : heldSize (entering p x) ≤ mostSize = omega arith in
+      let es : heldSize (entering p x) ≤ mostRecord = omega arith in
       all-grown p (entering p x ∷ p .tuples) ps (es, o .0) (λ h. (rw (entering-adding p x h), o .2 h))
       (λ h. let f = o .1 h in (((es, entering-withoutPending p x h), f .0), omega arith, omega arith)) a
 

@@ -14,14 +14,11 @@ lead-pos : (w a : ℕ) (x : Held) (xs : List Held) → 0 < lead w a (x ∷ xs)
 unfolding lead if_then_else_
 lead-pos w a x xs = by (leb w (2 * (a + heldSize x))) (λ h. rw h (omega arith)) (λ h. rw h (omega arith))
 
--- a tentative tuple has at most 53 bytes
-abbrev pub mostSize : ℕ
-mostSize = mostRecord
-
+-- no larger than the largest record
 abbrev pub Small : Held → Type 0
-Small x = heldSize x ≤ mostSize
+Small x = heldSize x ≤ mostRecord
 
-lead-short : (w a : ℕ) (xs : List Held) → 2 * mostSize < w → 2 * a < w → w ≡ a + sum heldSize xs → AllOf Small xs → lead w a xs < length xs
+lead-short : (w a : ℕ) (xs : List Held) → 2 * mostRecord < w → 2 * a < w → w ≡ a + sum heldSize xs → AllOf Small xs → lead w a xs < length xs
 unfolding lead sum if_then_else_
 lead-short w a [] big h e s = absurd (omega arith)
 lead-short w a (x ∷ []) big h e s = absurd (omega arith)
