@@ -7,8 +7,8 @@ use Rattle.block_forms.specs.Limits.{joinSum}
 use Rattle.model.specs.State.{Held, Page}
 use Rattle.model.specs.Rules.{heldSize, joins, joined, fresh, settle, settleFull}
 use Rattle.model.specs.Places.{onPage}
+use Rattle.model.proofs.RuleCases.{joinable}
 use Rattle.basics.proofs.Elements.{nonempty, sum-append}
-use Rattle.model.proofs.Rows.{joins-table}
 use Rattle.memory_layout.specs.Flat.{flatOf, Room, Becomes, withEntries}
 use Rattle.memory_layout.proofs.Exchange.{counted-exchange, pages-joined}
 use Rattle.memory_pages.specs.Pages.{dirty, joinEntries, MayJoin}
@@ -105,7 +105,7 @@ module _ {m : List ℕ} {p : ℕ} (a : There m p) (lt : p + 1 < length (flatOf m
 
 module _ {m : List ℕ} {p : ℕ} (a : There m p) (lt : p + 1 < length (flatOf m .entries)) (j : joins (pageAt m p) (pageAt m (p + 1)) ≡ true) where
   pub may-join : Room m × MayJoin (flatOf m) p
-  may-join = (room a, record { place = lt; table = sym (page-table (next-at a lt)) ∙ sym (joins-table _ _ j) ∙ page-table a })
+  may-join = (room a, record { place = lt; table = sym (page-table (next-at a lt)) ∙ sym (joinable _ _ j .table) ∙ page-table a })
 
   pub joined-now : {m' : List ℕ} → Becomes m m' (withEntries (flatOf m) (joinEntries p (flatOf m .entries)))
       → PagesNow m m' (take p (pagesOf m) ++ joined (pageAt m p) (pageAt m (p + 1)) ∷ drop (p + 2) (pagesOf m))

@@ -1,29 +1,19 @@
 -- Every rule for tuples is made of moves: a fresh page comes, a page that is not frozen goes, a frozen page gets other tuples and shows
 -- the same. So a relation between the pages before and after that each move keeps is kept by every rule.
 use Rattle.basics.proofs.Kit.{_≡_, true, false, some, none, Option, List, [], _∷_, _++_, append-nil, map, sym, subst, ℕ, _-_, eqb, ltb, length}
-use Rattle.basics.specs.Basics.{if_then_else_, isEmpty}
-use Rattle.basics.proofs.Facts.{by, never, by-option, lie}
+use Rattle.basics.specs.Basics.{if_then_else_}
+use Rattle.basics.proofs.Facts.{by, never, by-option}
 use Rattle.block_forms.specs.Tuple.{Tuple}
 use Rattle.model.specs.State.{Page, Held}
-use Rattle.model.specs.Rules.{shown, fresh, grown, withTuples, splitOnce, placeAfter, place, entering, placeFront, settle, settleNext, joined, joins, settleFull, listOf, pendRemoveAt}
+use Rattle.model.specs.Rules.{shown, fresh, grown, withTuples, splitOnce, placeAfter, place, entering, placeFront, settle, joined, listOf, pendRemoveAt}
 use Rattle.model.specs.Rules.{removeRowOn, committedAt, commitRowOn, atRow, removeRow, commitRow, editAt, pendCommit, removeNow, commitNow}
 use Rattle.model.specs.Transactions.{PlaceOp, commitPlace, removePlace, carryOut}
-use Rattle.model.proofs.RuleCases.{after-cases}
+use Rattle.model.proofs.RuleCases.{after-cases, settle-cases}
 use Rattle.model.proofs.Shown.{after-shown, entering-adding, shown-takenAt, shown-pendCommit}
 
 -- a page that is frozen, with other tuples
 unfoldable pub stillFrozen : Page → List Held → Page
 stillFrozen p ts = record { table = p .table; block = p .block; frozen = true; tuples = ts }
-
--- ---- pages that join are not frozen
-
-joins-left : (p q : Page) → joins p q ≡ true → p .frozen ≡ false
-unfolding joins
-joins-left p q e = by (p .frozen) (λ h. lie (rw (h, joins) at e)) (λ h. h)
-
-joins-right : (p q : Page) → joins p q ≡ true → q .frozen ≡ false
-unfolding joins
-joins-right p q e = by (p .frozen) (λ h. lie (rw (h, joins) at e)) (λ h. by (q .frozen) (λ k. lie (rw (h, k, joins) at e)) (λ k. k))
 
 -- ---- the rules for one page, by whether it is frozen
 
@@ -110,21 +100,14 @@ module _ (R : List Page → List Page → Type 0) (m : Moves R) where
 
   -- ---- settling, where the pages `rest` may come
 
-  module _ (rest : List Page) (r : (ps : List Page) → R ps (rest ++ ps)) where
-    moves-settleNext : (p : Page) (ps : List Page) → R ps (settleNext rest p ps)
-    unfolding settleNext if_then_else_ joined
-    moves-settleNext p [] = subst (R []) (append-nil rest) (r [])
-    moves-settleNext p (q ∷ qs) = by (joins p q) (λ h. rw h (becomes-fresh q _ _ qs (joins-right p q h))) (λ h. rw h (r (q ∷ qs)))
-
-    moves-settleFull : (o : Option Page) (p : Page) (ps : List Page) → R (listOf o ++ ps) (settleFull rest o p ps)
-    unfolding settleFull if_then_else_ joined listOf
-    moves-settleFull none p ps = moves-settleNext p ps
-    moves-settleFull (some o) p ps =
-        by (joins o p) (λ h. rw h (becomes-fresh o _ _ ps (joins-left o p h))) (λ h. rw h (m .left (o ∷ []) ps _ (moves-settleNext p ps)))
-
-    pub moves-settle : (o : Option Page) (p : Page) (ps : List Page) → R (listOf o ++ ps) (settle rest o p ps)
-    unfolding settle if_then_else_
-    moves-settle o p ps = by (isEmpty (p .tuples)) (λ h. rw h (m .same _)) (λ h. rw h (moves-settleFull o p ps))
+  pub moves-settle : (rest : List Page) → ((ps : List Page) → R ps (rest ++ ps)) → (o : Option Page) (p : Page) (ps : List Page) → R (listOf o ++ ps) (settle rest o p ps)
+  unfolding listOf joined
+  moves-settle rest r o p ps =
+      settle-cases (R (listOf o ++ ps)) rest o p ps (λ h. m .same _)
+      (λ h q e j. subst (λ z. R (listOf z ++ ps) (joined q p ∷ ps)) (sym e) (becomes-fresh q (q .table) (q .tuples ++ p .tuples) ps (j .left)))
+      (λ h q qs e j. subst (λ z. R (listOf o ++ z) (listOf o ++ joined p q ∷ qs)) (sym e)
+      (m .left (listOf o) (q ∷ qs) (joined p q ∷ qs) (becomes-fresh q (p .table) (p .tuples ++ q .tuples) qs (j .right))))
+      (λ h. m .left (listOf o) ps _ (r ps))
 
   -- ---- removing and committing a tuple
 

@@ -1,11 +1,11 @@
 -- The rows of the pages, held and live, as two images of one list of entries; and what each rule on pages does to them.
 use Rattle.basics.proofs.Kit.{_≡_, refl, sym, ap, _∙_, subst, _≢_, Bool, true, false, some, none, Option, List, [], _∷_, _++_, append-assoc, append-nil, map, ℕ, _≤_, _<_, eqb, length, arith}
-use Rattle.basics.specs.Basics.{if_then_else_, isEmpty, any}
-use Rattle.basics.proofs.Facts.{by, lie, and-true, AllOf}
+use Rattle.basics.specs.Basics.{if_then_else_, any}
+use Rattle.basics.proofs.Facts.{by, lie, AllOf}
 use Rattle.block_forms.specs.Tuple.{Owner, committed, Tuple}
 use Rattle.image_rows.specs.Rows.{Row, rowsOf, number}
 use Rattle.model.specs.State.{Held, Page}
-use Rattle.model.specs.Rules.{isRemoving, applied, live, fresh, joins, joined, settleNext, settle, settleFull, listOf, asCommitted, isCommitting, around, withoutPending, splitAll}
+use Rattle.model.specs.Rules.{isRemoving, applied, live, fresh, joined, settle, listOf, asCommitted, isCommitting, around, withoutPending, splitAll}
 use Rattle.model.specs.Rules.{thawOn, thaw, isPending, isFrozen, commitNow, removeNow, pendRemove, withPending, isAdding, pendCommit, withTuples, freeze}
 use Rattle.model.specs.Sight.{rows, held}
 use Rattle.basics.proofs.Elements.{eqb-true, nothing-left, has-some, here, Pairs, all-map, off-any, pairs-parts}
@@ -13,6 +13,7 @@ use Rattle.model.proofs.Splits.{together, Small, split-all}
 use Rattle.model.proofs.ByNumber.{commit, isNumber, edit, hasNumber, remove, removeOn, commitOn, isRow, takenLater-is}
 use Rattle.model.proofs.Sound.{PageOk, small, live-withoutPending}
 use Rattle.model.proofs.Shown.{bare}
+use Rattle.model.proofs.RuleCases.{settle-cases}
 
 -- a tuple as it stands on its page, with its table
 abbrev pub Entry : Type 0
@@ -86,40 +87,23 @@ entries-fresh t (ts ∷ tss) = rw (entries-fresh t tss, table-append t ts (toget
 
 -- ---- settling leaves the entries
 
-pub joins-table : (p q : Page) → joins p q ≡ true → p .table ≡ q .table
-unfolding joins
-joins-table p q e = by (p .frozen) (λ h. lie (rw (h, joins) at e))
-    (λ h. by (q .frozen) (λ k. lie (rw (h, k, joins) at e)) (λ k. eqb-true (p .table) (q .table) (and-true (eqb (p .table) (q .table)) _ (rw (h, k, joins) at e) .0)))
-
 entries-joined : (p q : Page) (ps : List Page) → p .table ≡ q .table → entries (joined p q ∷ ps) ≡ entries (p ∷ q ∷ ps)
 unfolding entries joined fresh
 entries-joined p q ps e = rw (← e, table-append (p .table), append-assoc)
 
-entries-settleNext : (rest : List Page) (p : Page) (ps : List Page) → entries rest ≡ entries (p ∷ [])
-    → entries (settleNext rest p ps) ≡ entries (p ∷ ps)
-unfolding settleNext if_then_else_
-entries-settleNext rest p [] r = r
-entries-settleNext rest p (q ∷ qs) r =
-    by (joins p q) (λ h. rw h (entries-joined p q qs (joins-table p q h)))
-    (λ h. rw h (entries-append rest (q ∷ qs) ∙ ap (λ z. z ++ entries (q ∷ qs)) r ∙ sym (entries-append (p ∷ []) (q ∷ qs))))
-
-entries-settleFull : (rest : List Page) (o : Option Page) (p : Page) (ps : List Page) → entries rest ≡ entries (p ∷ [])
-    → entries (settleFull rest o p ps) ≡ entries (listOf o ++ p ∷ ps)
-unfolding settleFull listOf if_then_else_
-entries-settleFull rest none p ps r = entries-settleNext rest p ps r
-entries-settleFull rest (some o) p ps r =
-    by (joins o p) (λ h. rw h (entries-joined o p ps (joins-table o p h)))
-    (λ h. rw h (entries-append (o ∷ []) (settleNext rest p ps) ∙ ap (λ z. entries (o ∷ []) ++ z) (entries-settleNext rest p ps r)
-    ∙ sym (entries-append (o ∷ []) (p ∷ ps))))
-
 pub entries-settle : (rest : List Page) (o : Option Page) (p : Page) (ps : List Page) → (0 < length (p .tuples) → entries rest ≡ entries (p ∷ []))
     → entries (settle rest o p ps) ≡ entries (listOf o ++ p ∷ ps)
-unfolding settle if_then_else_
+unfolding listOf
 entries-settle rest o p ps r =
-    by (isEmpty (p .tuples))
-    (λ h. rw h (entries-append (listOf o) ps ∙ ap (λ z. entries (listOf o) ++ z) (empty-page (nothing-left (p .tuples) h)) ∙ sym (entries-append (listOf o) (p ∷ ps))))
-    (λ h. rw h (entries-settleFull rest o p ps (r (has-some (p .tuples) h))))
+    settle-cases (λ z. entries z ≡ entries (listOf o ++ p ∷ ps)) rest o p ps
+    (λ h. behind ps (p ∷ ps) (empty-page (nothing-left (p .tuples) h)))
+    (λ h q e j. entries-joined q p ps (j .table) ∙ ap (λ z. entries (listOf z ++ p ∷ ps)) (sym e))
+    (λ h q qs e j. behind (joined p q ∷ qs) (p ∷ ps) (entries-joined p q qs (j .table) ∙ ap (λ z. entries (p ∷ z)) (sym e)))
+    (λ h. behind (rest ++ ps) (p ∷ ps) (entries-append rest ps ∙ ap (λ z. z ++ entries ps) (r (has-some (p .tuples) h)) ∙ sym (entries-append (p ∷ []) ps)))
   where
+    behind : (a b : List Page) → entries a ≡ entries b → entries (listOf o ++ a) ≡ entries (listOf o ++ b)
+    behind a b e = entries-append (listOf o) a ∙ ap (λ z. entries (listOf o) ++ z) e ∙ sym (entries-append (listOf o) b)
+
     empty-page : p .tuples ≡ [] → entries ps ≡ entries (p ∷ ps)
     empty-page e = unfold entries withTable in rw e
 

@@ -1,18 +1,18 @@
 -- Every page that is not frozen is not empty, fits its block and has nothing pending; and every tuple has at most 53 bytes.
-use Rattle.block_forms.specs.Limits.{joinSum, recordSpace, mostRecord}
-use Rattle.basics.proofs.Kit.{_≡_, refl, sym, ap, _∙_, subst, true, false, _&&_, not, some, none, Option, List, [], _∷_, _++_, map, ℕ, suc, _+_, _*_, _≤_, _<_, zero, _-_, min, leb, eqb, ltb}
+use Rattle.block_forms.specs.Limits.{recordSpace, mostRecord}
+use Rattle.basics.proofs.Kit.{_≡_, refl, sym, ap, _∙_, subst, true, false, some, none, Option, List, [], _∷_, _++_, map, ℕ, suc, _+_, _*_, _≤_, _<_, zero, _-_, min, leb, eqb, ltb}
 use Rattle.basics.proofs.Kit.{length, take, drop, length-append, length-take, length-drop, take-append-drop, length-map, arith}
 use Rattle.basics.specs.Basics.{sum, if_then_else_, isEmpty, any}
-use Rattle.basics.proofs.Facts.{AllOf, lie, by, never, by-option, and-true}
+use Rattle.basics.proofs.Facts.{AllOf, lie, by, never, by-option}
 use Rattle.block_forms.specs.Tuple.{Tuple, size, ownerSize}
 use Rattle.model.specs.State.{Held, nothing, Page, adding, Pending, removing, committing}
-use Rattle.model.specs.Rules.{heldSize, shown, fresh, withTuples, lead, splitOnce, fits, half, after, entering, withoutPending, grown, place, placeAfter, placeFront, joins, joined}
-use Rattle.model.specs.Rules.{settle, settleNext, settleFull, listOf, asCommitted, withPending, commitNow, removeNow, pendRemove, isAdding, pendCommit, isRemoving, around, applied}
+use Rattle.model.specs.Rules.{heldSize, shown, fresh, withTuples, lead, splitOnce, fits, half, after, entering, withoutPending, grown, place, placeAfter, placeFront, joined}
+use Rattle.model.specs.Rules.{settle, listOf, asCommitted, withPending, commitNow, removeNow, pendRemove, isAdding, pendCommit, isRemoving, around, applied}
 use Rattle.model.specs.Rules.{isCommitting, live, splitAll, isPending, thawOn, thaw, isFrozen, editAt, pendRemoveAt, removeRowOn, committedAt, commitRowOn, removeRow, commitRow}
 use Rattle.model.specs.Transactions.{PlaceOp, commitPlace, removePlace, carryOut}
-use Rattle.basics.proofs.Elements.{all-map, leb-true, leb-false, all-take, all-drop, some-eq, all-append, not-true, has-some, all-parts, sum-append}
+use Rattle.basics.proofs.Elements.{all-map, leb-true, leb-false, all-take, all-drop, some-eq, all-append, has-some, all-parts, sum-append}
 use Rattle.model.proofs.Splits.{Small, half-between, after-all, together, split-all}
-use Rattle.model.proofs.RuleCases.{after-cases, all-row}
+use Rattle.model.proofs.RuleCases.{after-cases, all-row, settle-cases, Joinable}
 use Rattle.model.proofs.Shown.{bare, after-shown, entering-adding, shown-pendCommit, shown-takenAt, shown-withoutPending}
 
 -- a tuple of a page that is not frozen: small, nothing pending
@@ -147,45 +147,22 @@ module _ (t : ℕ) (x : Tuple) (sx : size x ≤ mostRecord) where
 
 -- ---- joining
 
--- pages that join are not frozen, and their sizes sum to at most 336
-joins-in : (p q : Page) → joins p q ≡ true
-    → (p .frozen ≡ false) × (q .frozen ≡ false) × (sum heldSize (p .tuples) + sum heldSize (q .tuples) ≤ joinSum)
-unfolding joins
-joins-in p q e =
-    let a = and-true (not (p .frozen)) (not (q .frozen) && (eqb (p .table) (q .table) && leb (sum heldSize (p .tuples) + sum heldSize (q .tuples)) joinSum)) e in
-    let b = and-true (not (q .frozen)) (eqb (p .table) (q .table) && leb (sum heldSize (p .tuples) + sum heldSize (q .tuples)) joinSum) (a .1) in
-    let c = and-true (eqb (p .table) (q .table)) (leb (sum heldSize (p .tuples) + sum heldSize (q .tuples)) joinSum) (b .1) in
-    (not-true _ (a .0), not-true _ (b .0), leb-true _ joinSum (c .1))
-
-joined-ok : (p q : Page) → joins p q ≡ true → AllOf NothingPending (p .tuples) → 0 < length (p .tuples) → AllOf NothingPending (q .tuples) → PageOk (joined p q)
+joined-ok : (p q : Page) → Joinable p q → AllOf NothingPending (p .tuples) → 0 < length (p .tuples) → AllOf NothingPending (q .tuples) → PageOk (joined p q)
 unfolding joined
 joined-ok p q e a h b =
-    let k = joins-in p q e in
+    let k = e .few in
     let s = sum-append heldSize (p .tuples) (q .tuples) in
     let l = length-append (p .tuples) (q .tuples) in
     fresh-ok (p .table) (p .tuples ++ q .tuples) (all-append NothingPending (p .tuples) (q .tuples) a b, omega arith, omega arith)
 
-settleNext-ok : (rest : List Page) (p : Page) (ps : List Page) → AllOf PageOk rest → AllOf NothingPending (p .tuples) → 0 < length (p .tuples) → AllOf PageOk ps
-    → AllOf PageOk (settleNext rest p ps)
-unfolding settleNext if_then_else_
-settleNext-ok rest p [] r c l a = r
-settleNext-ok rest p (q ∷ qs) r c l a =
-    by (joins p q) (λ h. rw h (joined-ok p q h c l (a .0 .1 (joins-in p q h .1) .0), a .1)) (λ h. rw h (all-append PageOk rest (q ∷ qs) r a))
-
-settleFull-ok : (rest : List Page) (o : Option Page) (p : Page) (ps : List Page) → AllOf PageOk rest → AllOf PageOk (listOf o)
-    → AllOf NothingPending (p .tuples) → 0 < length (p .tuples) → AllOf PageOk ps
-    → AllOf PageOk (settleFull rest o p ps)
-unfolding settleFull if_then_else_ listOf
-settleFull-ok rest none p ps r l c n a = settleNext-ok rest p ps r c n a
-settleFull-ok rest (some o) p ps r l c n a =
-    by (joins o p) (λ h. let f = l .0 .1 (joins-in o p h .0) in rw h (joined-ok o p h (f .0) (f .2) c, a)) (λ h. rw h (l .0, settleNext-ok rest p ps r c n a))
-
 settle-ok : (rest : List Page) (o : Option Page) (p : Page) (ps : List Page) → (0 < length (p .tuples) → AllOf PageOk rest) → AllOf PageOk (listOf o)
     → AllOf NothingPending (p .tuples) → AllOf PageOk ps → AllOf PageOk (settle rest o p ps)
-unfolding settle if_then_else_
+unfolding listOf
 settle-ok rest o p ps r l c a =
-    by (isEmpty (p .tuples)) (λ h. rw h (all-append PageOk (listOf o) ps l a))
-    (λ h. let n = has-some (p .tuples) h in rw h (settleFull-ok rest o p ps (r n) l c n a))
+    settle-cases (AllOf PageOk) rest o p ps (λ h. all-append PageOk (listOf o) ps l a)
+    (λ h q e j. let f = subst (λ z. AllOf PageOk (listOf z)) e l .0 .1 (j .left) in (joined-ok q p j (f .0) (f .2) c, a))
+    (λ h q qs e j. let k = subst (AllOf PageOk) e a in all-append PageOk (listOf o) _ l (joined-ok p q j c (has-some (p .tuples) h) (k .0 .1 (j .right) .0), k .1))
+    (λ h. all-append PageOk (listOf o) _ l (all-append PageOk rest ps (r (has-some (p .tuples) h)) a))
 
 -- ---- removing and committing
 
