@@ -8,12 +8,12 @@ use Rattle.model.specs.Sight.{held, rows}
 use Rattle.model.specs.Places.{Placed, rowOf, placed, allPlaced, runs, allRuns, liveOf, ownPlaced, removePlaces, planRuns, closePlan, abortPlan}
 use Rattle.model.specs.Transactions.{committedPages, abortedPages}
 use Rattle.basics.proofs.Elements.{Pairs, all-map, all-mem, all-keep}
-use Rattle.model.proofs.ByNumber.{perform, removeAll, planRows}
+use Rattle.model.proofs.ByNumber.{removeAll, planRows}
 use Rattle.model.proofs.Sound.{PageOk}
-use Rattle.model.proofs.Rows.{Entry, Sub, entries, asRow, held-plain, rows-live, pairs-plain, Differ}
+use Rattle.model.proofs.Rows.{Entry, Sub, entries, asRow, held-plain, rows-live, pairs-plain, Differ, numberOf}
 use Rattle.model.proofs.Placing.{Before}
 use Rattle.model.proofs.RowAfter.{With, gather, rowAfter, perform-rows}
-use Rattle.model.proofs.Places.{tagged-entries, numberOf, numbers}
+use Rattle.model.proofs.Places.{tagged-entries, numbers, perform}
 use Rattle.model.proofs.Carry.{numbered, Rising, carry-out}
 use Rattle.model.proofs.Runs.{rowsIn, rows-placed, flat, Grouped, Risen, group-all}
 use Rattle.model.proofs.Plans.{Between, between-placed, between-live, between-keep, rising-removes, rising-runs, named-placed, named-live, numbered-removes, keep-map, numbered-runs}

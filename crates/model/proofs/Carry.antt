@@ -7,9 +7,9 @@ use Rattle.model.specs.State.{Page}
 use Rattle.model.specs.Sight.{held}
 use Rattle.model.specs.Places.{PlaceOp, commitPlace, removePlace, carryOut, removeRow, commitRow}
 use Rattle.basics.proofs.Elements.{Pairs, pairs-parts, pairs-append, all-map, eqb-self, eqb-true}
-use Rattle.model.proofs.ByNumber.{remove, commit, Op, toCommit, toRemove, perform, placeIn}
-use Rattle.model.proofs.Rows.{entries, held-plain, asRow}
-use Rattle.model.proofs.Places.{numberOf, numbers, remove-place, commit-place, Less, remove-numbers, commit-numbers}
+use Rattle.model.proofs.ByNumber.{Op, toCommit, toRemove, placeIn}
+use Rattle.model.proofs.Rows.{entries, held-plain, asRow, numberOf}
+use Rattle.model.proofs.Places.{numbers, Less, remove-numbers, commit-numbers, remove, commit, perform}
 use Rattle.basics.proofs.Parts.{removeAt-seam}
 
 -- operations in two parts
@@ -78,7 +78,7 @@ module _ (ns : List ℕ) where
 
     now-less : Less (length (t .front)) (numbers (remove (getD ns i 0) ps)) (numbers ps)
     now-less = subst (λ z. Less z (numbers (remove (getD ns i 0) ps)) (numbers ps)) now-place
-        (rw (remove-place (getD ns i 0) ps) (remove-numbers (placeIn (getD ns i 0) (numbers ps)) ps))
+        (remove-numbers (placeIn (getD ns i 0) (numbers ps)) ps)
 
     now-removed : Tail ns (suc i) (numbers (remove (getD ns i 0) ps)) × Pairs (λ a b. a ≢ b) (numbers (remove (getD ns i 0) ps))
     now-removed = ⊎-elim
@@ -96,14 +96,14 @@ module _ (ns : List ℕ) where
   carry (commitPlace i ∷ os) k ps r t d =
       let n = getD ns i 0 in
       let t′ = tail-more ns k i (numbers ps) t (r .0) in
-      let e : commitRow (i - (length ns - length (held ps))) ps ≡ commit n ps = ap (λ z. commitRow z ps) (now-at i (r .1) ps t′ d) ∙ sym (commit-place n ps) in
-      let same : numbers (commit n ps) ≡ numbers ps = ap numbers (commit-place n ps) ∙ commit-numbers (placeIn n (numbers ps)) ps in
+      let e : commitRow (i - (length ns - length (held ps))) ps ≡ commit n ps = ap (λ z. commitRow z ps) (now-at i (r .1) ps t′ d) in
+      let same : numbers (commit n ps) ≡ numbers ps = commit-numbers (placeIn n (numbers ps)) ps in
       ap (carryOut (length ns) os) e
       ∙ carry os k (commit n ps) (r .2) (subst (Tail ns k) (sym same) t) (subst (Pairs (λ a b. a ≢ b)) (sym same) d)
   carry (removePlace i ∷ os) k ps r t d =
       let n = getD ns i 0 in
       let t′ = tail-more ns k i (numbers ps) t (r .0) in
-      let e : removeRow (i - (length ns - length (held ps))) ps ≡ remove n ps = ap (λ z. removeRow z ps) (now-at i (r .1) ps t′ d) ∙ sym (remove-place n ps) in
+      let e : removeRow (i - (length ns - length (held ps))) ps ≡ remove n ps = ap (λ z. removeRow z ps) (now-at i (r .1) ps t′ d) in
       let g = now-removed i (r .1) ps t′ d in
       ap (carryOut (length ns) os) e ∙ carry os (suc i) (remove n ps) (r .2) (g .0) (g .1)
 

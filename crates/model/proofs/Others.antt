@@ -7,8 +7,8 @@ use Rattle.model.specs.State.{Held, Page}
 use Rattle.model.specs.Rules.{removeNow, pendRemove, commitNow, pendCommit, isAdding, isRemoving}
 use Rattle.model.specs.Places.{editAt, pendRemoveAt, removeRow, commitRow, OnlyRow, OthersStay}
 use Rattle.basics.proofs.Elements.{leb-true, leb-false}
-use Rattle.model.proofs.Rows.{Entry, withTable, entries, table-append}
-use Rattle.model.proofs.Places.{tagged-entries, entriesAt, removedOn, committedOn, entries-removeRow, entries-commitRow, numberOf, commit-numbers}
+use Rattle.model.proofs.Rows.{Entry, withTable, entries, table-append, table-length, numberOf}
+use Rattle.model.proofs.Places.{tagged-entries, entriesAt, removedOn, committedOn, entries-removeRow, entries-commitRow, commit-numbers}
 
 -- ---- one element alone
 
@@ -59,11 +59,6 @@ module _ (i : ℕ) (before after : List Entry) (h : i < length before) (o : Only
       ∙ drop-at (o .here) (drop (i + 1) before) (length (o .here)) refl
 
 -- ---- one tuple of a page
-
-pub table-length : (t : ℕ) (hs : List Held) → length (withTable t hs) ≡ length hs
-unfolding withTable
-table-length t [] = refl
-table-length t (h ∷ hs) = ap suc (table-length t hs)
 
 edit-only : (g : Held → List Held) → ((h : Held) → length (g h) ≤ 1) → (t j : ℕ) (hs : List Held) → j < length hs
     → OnlyRow j (withTable t hs) (withTable t (editAt g j hs))

@@ -1,17 +1,22 @@
--- An operation by number is the one at that number's place; and what operations by place do to all tuples held.
+-- What operations by place do to all tuples held; and operations by number, which are those at the number's place.
 use Rattle.basics.proofs.Kit.{_≡_, refl, sym, ap, _∙_, ap₂, ⊎-elim, _⊎_, inl, inr, true, false, some, none, Option, List, [], _∷_, _++_, append-assoc, append-nil, map, ℕ, suc, _+_, _≤_, _<_}
-use Rattle.basics.proofs.Kit.{zero, _-_, eqb, ltb, length, take, drop, length-map, take-append-add, take-append-le, take-append-seam, drop-append-add, drop-append-le, arith}
-use Rattle.basics.specs.Basics.{if_then_else_, any, isEmpty}
+use Rattle.basics.proofs.Kit.{zero, _-_, ltb, length, length-map, arith, subst, zero-add}
+use Rattle.basics.specs.Basics.{if_then_else_, isEmpty}
 use Rattle.basics.proofs.Lists.{map-append}
-use Rattle.basics.proofs.Facts.{by, lie}
+use Rattle.basics.proofs.Facts.{by, AllOf}
 use Rattle.model.specs.State.{Held, Page}
-use Rattle.model.specs.Rules.{fresh, listOf, withTuples, around, removeNow, pendRemove, commitNow, pendCommit, isAdding, isRemoving, withPending, asCommitted}
+use Rattle.model.specs.Rules.{fresh, listOf, withTuples, removeNow, pendRemove, commitNow, pendCommit, isAdding, isRemoving, withPending, asCommitted}
 use Rattle.model.specs.Places.{tagged, atRow, editAt, pendRemoveAt, removeRowOn, committedAt, commitRowOn, removeRow, commitRow}
 use Rattle.basics.specs.Lists.{removeAt}
 use Rattle.basics.proofs.Elements.{le-true, lt-false, leb-true, leb-false}
-use Rattle.model.proofs.ByNumber.{isNumber, hasNumber, remove, commit, removeOn, commitOn, placeIn, numbersOn, removeOn-place, commitOn-place}
-use Rattle.model.proofs.Rows.{Entry, withTable, entries, entries-append, entries-settle, entries-page}
+use Rattle.model.proofs.ByNumber.{placeIn, numbersOn, Op, toCommit, toRemove}
+use Rattle.model.proofs.Rows.{Entry, withTable, entries, entries-append, entries-settle, entries-page, numberOf, editEntry, Edits, Amends, edit-amends, away, kept-row, removed-edits}
+use Rattle.model.proofs.Rows.{pendRemove-edits, kept-edits, pendCommit-edits, table-append, table-length}
+use Rattle.model.proofs.Sound.{PageOk}
+use Rattle.model.proofs.Shown.{takenAt-is}
 use Rattle.basics.proofs.Parts.{removeAt-suc, removeAt-left, removeAt-right}
+use Rattle.basics.proofs.Kit.{suc-add}
+use Rattle.image_rows.specs.Rows.{Row}
 
 -- ---- all tuples, with their tables
 
@@ -27,9 +32,6 @@ tagged-entries (p ∷ ps) = ap₂ (λ a b. a ++ b) (tagged-page (p .table) (p .t
 
 -- ---- numbers
 
-abbrev pub numberOf : Entry → ℕ
-numberOf e = e .1 .tuple .number
-
 -- the numbers of all tuples held
 abbrev pub numbers : List Page → List ℕ
 numbers ps = map numberOf (entries ps)
@@ -43,21 +45,6 @@ numbers-cons : (p : Page) (ps : List Page) → numbers (p ∷ ps) ≡ numbersOn 
 unfolding entries
 numbers-cons p ps = map-append numberOf (withTable (p .table) (p .tuples)) (entries ps) ∙ ap (λ z. z ++ numbers ps) (numbers-table (p .table) (p .tuples))
 
-module _ (n : ℕ) where
-  place-here : (hs : List Held) (ys : List ℕ) → any (isNumber n) hs ≡ true
-      → (placeIn n (numbersOn hs ++ ys) ≡ placeIn n (numbersOn hs)) × (placeIn n (numbersOn hs) < length hs)
-  unfolding any isNumber placeIn if_then_else_
-  place-here [] ys a = lie a
-  place-here (h ∷ hs) ys a =
-      by (eqb (h .tuple .number) n) (λ e. rw e (refl, omega arith))
-      (λ e. let r = place-here hs ys (rw (e, any) at a) in rw e (ap suc (r .0), omega (arith, r .1)))
-
-  place-past : (hs : List Held) (ys : List ℕ) → any (isNumber n) hs ≡ false → placeIn n (numbersOn hs ++ ys) ≡ length hs + placeIn n ys
-  unfolding any isNumber placeIn if_then_else_
-  place-past [] ys a = omega arith
-  place-past (h ∷ hs) ys a =
-      by (eqb (h .tuple .number) n) (λ e. lie (sym (rw (e, any) at a))) (λ e. let r = place-past hs ys (rw (e, any) at a) in rw e (omega arith))
-
 -- ---- the page of a row
 
 module _ (f : ℕ → Option Page → Page → List Page → List Page) (i : ℕ) (o : Option Page) (p : Page) (ps : List Page) where
@@ -68,32 +55,6 @@ module _ (f : ℕ → Option Page → Page → List Page → List Page) (i : ℕ
   pub row-past : length (p .tuples) ≤ i → atRow f i o (p ∷ ps) ≡ listOf o ++ atRow f (i - length (p .tuples)) (some p) ps
   unfolding atRow
   row-past h = rw (lt-false i (length (p .tuples)) h, atRow)
-
--- done to the first page that has number n: done at the place of n
-around-place : (n : ℕ) (F : Option Page → Page → List Page → List Page) (f : ℕ → Option Page → Page → List Page → List Page)
-    → ((o : Option Page) (p : Page) (ps : List Page) → F o p ps ≡ f (placeIn n (numbersOn (p .tuples))) o p ps)
-    → (o : Option Page) (ps : List Page) → around (hasNumber n) F o ps ≡ atRow f (placeIn n (numbers ps)) o ps
-unfolding around hasNumber
-around-place n F f same o [] = unfold atRow in refl
-around-place n F f same o (p ∷ ps) =
-    by (any (isNumber n) (p .tuples))
-    (λ h. let r = place-here n (p .tuples) (numbers ps) h in
-    let e : placeIn n (numbers (p ∷ ps)) ≡ placeIn n (numbersOn (p .tuples)) = ap (placeIn n) (numbers-cons p ps) ∙ r .0 in
-    rw (h, around) (same o p ps ∙ sym (row-here f (placeIn n (numbersOn (p .tuples))) o p ps (r .1)) ∙ ap (λ z. atRow f z o (p ∷ ps)) (sym e)))
-    (λ h. let e : placeIn n (numbers (p ∷ ps)) ≡ length (p .tuples) + placeIn n (numbers ps) = ap (placeIn n) (numbers-cons p ps)
-    ∙ place-past n (p .tuples) (numbers ps) h in
-    let d : length (p .tuples) + placeIn n (numbers ps) - length (p .tuples) ≡ placeIn n (numbers ps) = omega arith in
-    rw (h, around) (ap (λ z. listOf o ++ z) (around-place n F f same (some p) ps ∙ ap (λ z. atRow f z (some p) ps) (sym d))
-    ∙ sym (row-past f (length (p .tuples) + placeIn n (numbers ps)) o p ps (omega arith)) ∙ ap (λ z. atRow f z o (p ∷ ps)) (sym e)))
-
--- for any pages
-pub remove-place : (n : ℕ) (ps : List Page) → remove n ps ≡ removeRow (placeIn n (numbers ps)) ps
-unfolding remove removeRow
-remove-place n ps = around-place n (removeOn n) removeRowOn (removeOn-place n) none ps
-
-pub commit-place : (n : ℕ) (ps : List Page) → commit n ps ≡ commitRow (placeIn n (numbers ps)) ps
-unfolding commit commitRow
-commit-place n ps = around-place n (commitOn n) commitRowOn (commitOn-place n) none ps
 
 -- ---- all tuples after an operation by place
 
@@ -231,3 +192,84 @@ remove-numbers i ps = rw (entries-removeRow i ps) (numbers-less removedOn remove
 
 pub commit-numbers : (i : ℕ) (ps : List Page) → numbers (commitRow i ps) ≡ numbers ps
 commit-numbers i ps = rw (entries-commitRow i ps) (numbers-same committedOn committed-same i ps)
+
+-- ---- operations by number
+
+-- the tuple of number n is removed
+abbrev pub remove : ℕ → List Page → List Page
+remove n ps = removeRow (placeIn n (numbers ps)) ps
+
+-- the tuple of number n is committed
+abbrev pub commit : ℕ → List Page → List Page
+commit n ps = commitRow (placeIn n (numbers ps)) ps
+
+-- the operations, one after another
+unfoldable pub perform : List Op → List Page → List Page
+perform [] ps = ps
+perform (toCommit n ∷ os) ps = perform os (commit n ps)
+perform (toRemove n ∷ os) ps = perform os (remove n ps)
+
+edit-here : (g : Held → List Held) (t j : ℕ) (hs : List Held) (es : List Entry) → j < length hs → withTable t (editAt g j hs) ++ es ≡ editEntry g j (withTable t hs ++ es)
+unfolding editAt editEntry withTable
+edit-here g t j [] es l = absurd (omega arith)
+edit-here g t zero (h ∷ hs) es l = rw (table-append t (g h) hs, append-assoc (withTable t (g h)) (withTable t hs) es)
+edit-here g t (suc j) (h ∷ hs) es l = ap (λ z. (t, h) ∷ z) (edit-here g t j hs es (omega arith))
+
+edit-past : (g : Held → List Held) (c : List Entry) (i : ℕ) (es : List Entry) → c ++ editEntry g i es ≡ editEntry g (length c + i) (c ++ es)
+unfolding editEntry
+edit-past g [] i es = ap (λ k. editEntry g k es) (sym (zero-add i))
+edit-past g (x ∷ c) i es = ap (λ z. x ∷ z) (edit-past g c i es) ∙ ap (λ k. editEntry g k (x ∷ (c ++ es))) (sym (suc-add (length c) i))
+
+-- a is b with an edit that makes G of the live row, at place i
+record Edited (G : Row → List Row) (i : ℕ) (a b : List Entry) : Type 0 where
+  by-edit : Held → List Held
+  edits : Edits by-edit G
+  is : a ≡ editEntry by-edit i b
+
+-- the same of the tuples of one page
+record EditedOn (G : Row → List Row) (j : ℕ) (a b : List Held) : Type 0 where
+  by-edit : Held → List Held
+  edits : Edits by-edit G
+  is : a ≡ editAt by-edit j b
+
+-- what is done to one page is done to all tuples
+edited : (G : Row → List Row) (E : ℕ → Page → List Held) → ((j : ℕ) (p : Page) → PageOk p → EditedOn G j (E j p) (p .tuples)) → (g : Held → List Held) → Edits g G
+    → (i : ℕ) (ps : List Page) → AllOf PageOk ps → Edited G i (entriesAt E i ps) (entries ps)
+unfolding entriesAt entries editEntry
+edited G E on g d i [] a = record { by-edit = g; edits = d; is = refl }
+edited G E on g d i (p ∷ ps) a =
+    let c = withTable (p .table) (p .tuples) in
+    by (ltb i (length (p .tuples)))
+    (λ h. let k = on i p (a .0) in rw (h, entriesAt) (record {
+      by-edit = k .by-edit;
+      edits = k .edits;
+      is = ap (λ z. withTable (p .table) z ++ entries ps) (k .is) ∙ edit-here (k .by-edit) (p .table) i (p .tuples) (entries ps) (leb-true (suc i) (length (p .tuples)) h);
+    }))
+    (λ h. let j = i - length (p .tuples) in let k = edited G E on g d j ps (a .1) in
+    let e : length c + j ≡ i = omega (arith, table-length (p .table) (p .tuples), leb-false (suc i) (length (p .tuples)) h) in rw (h, entriesAt) (record {
+      by-edit = k .by-edit;
+      edits = k .edits;
+      is = ap (λ z. c ++ z) (k .is) ∙ edit-past (k .by-edit) c j (entries ps) ∙ ap (λ z. editEntry (k .by-edit) z (c ++ entries ps)) e;
+    }))
+
+edited-amends : (G : Row → List Row) (n : ℕ) (a b : List Entry) → Edited G (placeIn n (map numberOf b)) a b → Amends G n a b
+edited-amends G n a b k = subst (λ z. Amends G n z b) (sym (k .is)) (edit-amends (k .by-edit) G (k .edits) n b)
+
+removed-on : (j : ℕ) (p : Page) → PageOk p → EditedOn away j (removedOn j p) (p .tuples)
+unfolding removedOn if_then_else_
+removed-on j p ok =
+    by (p .frozen) (λ h. record { by-edit = pendRemove; edits = pendRemove-edits; is = rw h (takenAt-is j (p .tuples) (ok .2 h .1)) })
+    (λ h. record { by-edit = removeNow; edits = removed-edits; is = rw h })
+
+committed-on : (j : ℕ) (p : Page) → EditedOn kept-row j (committedOn j p) (p .tuples)
+unfolding committedOn if_then_else_
+committed-on j p =
+    by (p .frozen) (λ h. record { by-edit = pendCommit; edits = pendCommit-edits; is = rw h }) (λ h. record { by-edit = commitNow; edits = kept-edits; is = rw h })
+
+pub amends-remove : (n : ℕ) (ps : List Page) → AllOf PageOk ps → Amends away n (entries (remove n ps)) (entries ps)
+amends-remove n ps a = rw (entries-removeRow (placeIn n (numbers ps)) ps)
+    (edited-amends away n _ (entries ps) (edited away removedOn removed-on removeNow removed-edits (placeIn n (numbers ps)) ps a))
+
+pub amends-commit : (n : ℕ) (ps : List Page) → AllOf PageOk ps → Amends kept-row n (entries (commit n ps)) (entries ps)
+amends-commit n ps a = rw (entries-commitRow (placeIn n (numbers ps)) ps)
+    (edited-amends kept-row n _ (entries ps) (edited kept-row committedOn (λ j p ok. committed-on j p) commitNow kept-edits (placeIn n (numbers ps)) ps a))

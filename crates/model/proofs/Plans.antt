@@ -11,9 +11,8 @@ use Rattle.model.specs.Places.{PlaceOp, commitPlace, removePlace, Placed
 use Rattle.basics.proofs.Elements.{Pairs, all-at, Mem, here, there, mem-all, all-mem, all-map, all-parts, all-keep, any-off, last-off, last-any, last-skip, last-some, last-here, last-mem}
 use Rattle.basics.proofs.Elements.{eqb-self, eqb-true, and-no, and-yes}
 use Rattle.model.proofs.ByNumber.{Op, toCommit, toRemove, removeAll, isRow, planKey, ownAt, planRows, plan-skip, plan-take}
-use Rattle.model.proofs.Rows.{Entry, applied-is}
+use Rattle.model.proofs.Rows.{Entry, applied-is, numberOf}
 use Rattle.model.proofs.RowAfter.{With}
-use Rattle.model.proofs.Places.{numberOf}
 use Rattle.model.proofs.Carry.{numbered, Rising}
 use Rattle.model.proofs.Runs.{rowsIn, rows-append, flat, Grouped}
 

@@ -8,11 +8,11 @@ use Rattle.model.specs.Rules.{asCommitted}
 use Rattle.model.specs.Sight.{rows, held}
 use Rattle.basics.proofs.Elements.{Pairs, Mem, here, all-map, there, mem-all, eqb-self, eqb-true, all-keep, all-mem, all-append, mem-keep, any-off, last-off, last-any, last-skip}
 use Rattle.basics.proofs.Elements.{last-some, last-here}
-use Rattle.model.proofs.ByNumber.{remove, commit, Op, toCommit, isRow, toRemove, perform, removeAll, planKey, ownAt, planRows, placeIn, plan-skip, plan-take}
+use Rattle.model.proofs.ByNumber.{Op, toCommit, isRow, toRemove, removeAll, planKey, ownAt, planRows, placeIn, plan-skip, plan-take}
 use Rattle.model.proofs.Sound.{PageOk, removeRow-ok, commitRow-ok}
-use Rattle.model.proofs.Rows.{amend, away, kept-row, Alike, Differ, Entry, Sub, plain, liveRows, entries, sub-refl, amends-commit, sub-pairs, sub-trans, pairs-plain, amends-remove}
+use Rattle.model.proofs.Rows.{amend, away, kept-row, Alike, Differ, Entry, Sub, plain, liveRows, entries, sub-refl, sub-pairs, sub-trans, pairs-plain}
 use Rattle.model.proofs.Rows.{held-plain, rows-live}
-use Rattle.model.proofs.Places.{numbers, remove-place, commit-place}
+use Rattle.model.proofs.Places.{numbers, remove, commit, perform, amends-remove, amends-commit}
 
 -- ---- a list of operations on the rows
 
@@ -54,11 +54,11 @@ unfolding perform
 perform-entries [] ps a d = (sub-refl (plain (entries ps)), sym (gather-nil (liveRows (entries ps))))
 perform-entries (toCommit n ∷ os) ps a d =
     let m = amends-commit n ps a in
-    let r = perform-entries os (commit n ps) (subst (AllOf PageOk) (sym (commit-place n ps)) (commitRow-ok (placeIn n (numbers ps)) ps a)) (sub-pairs Differ differ-alike (m .0) d) in
+    let r = perform-entries os (commit n ps) (commitRow-ok (placeIn n (numbers ps)) ps a) (sub-pairs Differ differ-alike (m .0) d) in
     (sub-trans (r .0) (m .0), r .1 ∙ ap (gather (rowAfter os)) (m .1 (pairs-plain Differ (entries ps) d)) ∙ gather-commits n os (liveRows (entries ps)))
 perform-entries (toRemove n ∷ os) ps a d =
     let m = amends-remove n ps a in
-    let r = perform-entries os (remove n ps) (subst (AllOf PageOk) (sym (remove-place n ps)) (removeRow-ok (placeIn n (numbers ps)) ps a)) (sub-pairs Differ differ-alike (m .0) d) in
+    let r = perform-entries os (remove n ps) (removeRow-ok (placeIn n (numbers ps)) ps a) (sub-pairs Differ differ-alike (m .0) d) in
     (sub-trans (r .0) (m .0), r .1 ∙ ap (gather (rowAfter os)) (m .1 (pairs-plain Differ (entries ps) d)) ∙ gather-removes n os (liveRows (entries ps)))
 
 pub perform-rows : (os : List Op) (ps : List Page) → AllOf PageOk ps → Pairs Differ (held ps)

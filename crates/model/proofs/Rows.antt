@@ -1,16 +1,17 @@
 -- The rows of the pages, held and live, as two images of one list of entries; and what each rule on pages does to them.
 use Rattle.basics.proofs.Kit.{_≡_, refl, sym, ap, _∙_, subst, _≢_, Bool, true, false, some, none, Option, List, [], _∷_, _++_, append-assoc, append-nil, map, ℕ, _≤_, _<_, eqb, length, arith}
 use Rattle.basics.specs.Basics.{if_then_else_, any}
-use Rattle.basics.proofs.Facts.{by, lie, AllOf}
+use Rattle.basics.proofs.Facts.{by, AllOf}
 use Rattle.block_forms.specs.Tuple.{Owner, committed, Tuple}
 use Rattle.image_rows.specs.Rows.{Row, rowsOf, number}
 use Rattle.model.specs.State.{Held, Page}
 use Rattle.model.specs.Rules.{isRemoving, applied, live, fresh, joined, settle, listOf, asCommitted, isCommitting, around, withoutPending, splitAll}
-use Rattle.model.specs.Rules.{thawOn, thaw, isPending, isFrozen, commitNow, removeNow, pendRemove, withPending, isAdding, pendCommit, withTuples, freeze}
+use Rattle.model.specs.Rules.{thawOn, thaw, isPending, isFrozen, commitNow, removeNow, pendRemove, withPending, isAdding, pendCommit, freeze}
 use Rattle.model.specs.Sight.{rows, held}
-use Rattle.basics.proofs.Elements.{eqb-true, nothing-left, has-some, here, Pairs, all-map, off-any, pairs-parts}
+use Rattle.basics.proofs.Elements.{eqb-true, nothing-left, has-some, here, Pairs, all-map}
+use Rattle.basics.proofs.Kit.{zero, suc}
 use Rattle.model.proofs.Splits.{together, Small, split-all}
-use Rattle.model.proofs.ByNumber.{commit, isNumber, edit, hasNumber, remove, removeOn, commitOn, isRow, takenLater-is}
+use Rattle.model.proofs.ByNumber.{isRow, placeIn}
 use Rattle.model.proofs.Sound.{PageOk, small, live-withoutPending}
 use Rattle.model.proofs.Shown.{bare}
 use Rattle.model.proofs.RuleCases.{settle-cases}
@@ -45,6 +46,11 @@ pub table-append : (t : ℕ) (a b : List Held) → withTable t (a ++ b) ≡ with
 unfolding withTable
 table-append t [] b = refl
 table-append t (x ∷ a) b = rw (table-append t a b)
+
+pub table-length : (t : ℕ) (hs : List Held) → length (withTable t hs) ≡ length hs
+unfolding withTable
+table-length t [] = refl
+table-length t (h ∷ hs) = ap suc (table-length t hs)
 
 pub entries-append : (a b : List Page) → entries (a ++ b) ≡ entries a ++ entries b
 unfolding entries
@@ -272,6 +278,10 @@ Differ a b = a .1 .number ≢ b .1 .number
 abbrev pub Apart : Entry → Entry → Type 0
 Apart a b = Differ (asRow a) (asRow b)
 
+-- the tuple of number n
+unfoldable isNumber : ℕ → Held → Bool
+isNumber n h = eqb (h .tuple .number) n
+
 -- a live row is its tuple but for the owner
 pub applied-is : (h : Held) → applied h ≡ record { key = h .tuple .key; number = h .tuple .number; owner = applied h .owner; mark = h .tuple .mark; payload = h .tuple .payload }
 unfolding applied asCommitted if_then_else_
@@ -294,50 +304,44 @@ unfolding isNumber
 differ-off n r rs h a = all-map _ _ (λ s d. by (eqb (s .1 .tuple .number) n) (λ k. absurd (d (eqb-true _ n h ∙ sym (eqb-true _ n k)))) (λ k. k)) rs a
 
 -- what is done to a tuple on its page, g, and what that does to its live row, G
-record Edits (g : Held → List Held) (G : Row → List Row) : Type 0 where
+pub record Edits (g : Held → List Held) (G : Row → List Row) : Type 0 where
   dead : (t : ℕ) (x : Held) → isRemoving (x .pending) ≡ true → liveRows (withTable t (g x)) ≡ []
   alive : (t : ℕ) (x : Held) → isRemoving (x .pending) ≡ false → liveRows (withTable t (g x)) ≡ G (t, applied x)
   among : (t : ℕ) (x : Held) → Sub (plain (withTable t (g x))) (asRow (t, x) ∷ [])
 
-module _ (g : Held → List Held) (G : Row → List Row) (E : Edits g G) (n t : ℕ) where
-  edit-sub : (ts : List Held) → Sub (plain (withTable t (edit g n ts))) (plain (withTable t ts))
-  unfolding edit withTable if_then_else_
-  edit-sub [] = empty
-  edit-sub (x ∷ xs) =
-      by (isNumber n x) (λ h. rw (h, table-append t (g x) xs, plain-append (withTable t (g x))) (sub-append (E .among t x) (sub-refl (plain (withTable t xs)))))
-      (λ h. rw h (take (refl, refl, refl, refl, still) (edit-sub xs)))
+-- g on the tuple at place i of all
+unfoldable pub editEntry : (Held → List Held) → ℕ → List Entry → List Entry
+editEntry g i [] = []
+editEntry g zero (e ∷ es) = withTable (e .0) (g (e .1)) ++ es
+editEntry g (suc i) (e ∷ es) = e ∷ editEntry g i es
 
-  edit-live : (ts : List Held) (rest : List Entry) → any (isNumber n) ts ≡ true → Pairs Apart (withTable t ts ++ rest)
-      → liveRows (withTable t (edit g n ts) ++ rest) ≡ amend G n (liveRows (withTable t ts ++ rest))
-  unfolding edit withTable liveRows amend any if_then_else_
-  edit-live [] rest e d = lie e
-  edit-live (x ∷ xs) rest e d =
-      by (isNumber n x)
-      (λ h. let off = amend-off G n (withTable t xs ++ rest) (differ-off n (t, x) (withTable t xs ++ rest) h (d .0)) in
-      by (isRemoving (x .pending))
-      (λ k. rw (h, k, off, table-append t (g x) xs, append-assoc (withTable t (g x)) (withTable t xs) rest, live-append (withTable t (g x)), E .dead t x k))
-      (λ k. rw (
-        h,
-        k,
-        applied-number n t x,
-        h,
-        off,
-        table-append t (g x) xs,
-        append-assoc (withTable t (g x)) (withTable t xs) rest,
-        live-append (withTable t (g x)),
-        E .alive t x k,
-      )))
-      (λ h. let r = edit-live xs rest (rw (h, any) at e) (d .1) in
-      by (isRemoving (x .pending)) (λ k. rw (h, k) r) (λ k. rw (h, k, applied-number n t x, h) (ap (λ z. (t, applied x) ∷ z) r)))
+abbrev pub numberOf : Entry → ℕ
+numberOf e = e .1 .tuple .number
 
 -- what an operation on the tuple of number n does to the rows
 abbrev pub Amends : (Row → List Row) → ℕ → List Entry → List Entry → Type 0
 Amends G n a b = Sub (plain a) (plain b) × (Pairs Apart b → liveRows a ≡ amend G n (liveRows b))
 
-amend-append : (G : Row → List Row) (n : ℕ) (a b : List Row) → amend G n (a ++ b) ≡ amend G n a ++ amend G n b
-unfolding amend if_then_else_
-amend-append G n [] b = refl
-amend-append G n (r ∷ a) b = by (isRow n r) (λ h. rw (h, amend-append G n a b, append-assoc)) (λ h. rw (h, amend-append G n a b))
+module _ (g : Held → List Held) (G : Row → List Row) (E : Edits g G) where
+  edit-sub : (i : ℕ) (es : List Entry) → Sub (plain (editEntry g i es)) (plain es)
+  unfolding editEntry
+  edit-sub i [] = empty
+  edit-sub zero (e ∷ es) = rw (plain-append (withTable (e .0) (g (e .1))) es) (sub-append (E .among (e .0) (e .1)) (sub-refl (plain es)))
+  edit-sub (suc i) (e ∷ es) = take (refl, refl, refl, refl, still) (edit-sub i es)
+
+  edit-live : (n : ℕ) (es : List Entry) → Pairs Apart es → liveRows (editEntry g (placeIn n (map numberOf es)) es) ≡ amend G n (liveRows es)
+  unfolding editEntry placeIn liveRows amend isNumber if_then_else_
+  edit-live n [] d = refl
+  edit-live n (e ∷ es) d =
+      by (eqb (numberOf e) n)
+      (λ h. let off = amend-off G n es (differ-off n e es h (d .0)) in
+      by (isRemoving (e .1 .pending)) (λ k. rw (h, k, off, live-append (withTable (e .0) (g (e .1))) es, E .dead (e .0) (e .1) k))
+      (λ k. rw (h, k, applied-number n (e .0) (e .1), h, off, live-append (withTable (e .0) (g (e .1))) es, E .alive (e .0) (e .1) k)))
+      (λ h. let r = edit-live n es (d .1) in
+      by (isRemoving (e .1 .pending)) (λ k. rw (h, k) r) (λ k. rw (h, k, applied-number n (e .0) (e .1), h) (ap (λ z. (e .0, applied (e .1)) ∷ z) r)))
+
+  pub edit-amends : (n : ℕ) (es : List Entry) → Amends G n (editEntry g (placeIn n (map numberOf es)) es) es
+  edit-amends n es = (edit-sub (placeIn n (map numberOf es)) es, edit-live n es)
 
 pub all-table : (P : Entry → Type 0) (Q : Held → Type 0) (t : ℕ) → ((x : Held) → Q x → P (t, x)) → (ts : List Held) → AllOf Q ts
     → AllOf P (withTable t ts)
@@ -345,43 +349,11 @@ unfolding withTable
 all-table P Q t f [] a = tt
 all-table P Q t f (x ∷ xs) a = (f x (a .0), all-table P Q t f xs (a .1))
 
-hasNumber-off : (n : ℕ) (p : Page) → hasNumber n p ≡ false → AllOf (λ r. isNumber n (r .1) ≡ false) (withTable (p .table) (p .tuples))
-unfolding hasNumber
-hasNumber-off n p h = all-table (λ r. isNumber n (r .1) ≡ false) (λ x. isNumber n x ≡ false) (p .table) (λ x k. k) (p .tuples) (off-any (isNumber n) (p .tuples) h)
-
-amends-past : (G : Row → List Row) (n : ℕ) (c a b : List Entry) → AllOf (λ r. isNumber n (r .1) ≡ false) c → Amends G n a b
-    → Amends G n (c ++ a) (c ++ b)
-amends-past G n c a b h s = (
-  rw (plain-append c a, plain-append c b) (sub-append (sub-refl (plain c)) (s .0)),
-  λ d. live-append c a ∙ ap (λ z. liveRows c ++ z) (s .1 (pairs-parts Apart c b d .1)) ∙ ap (λ z. z ++ amend G n (liveRows b)) (sym (amend-off G n c h))
-      ∙ sym (amend-append G n (liveRows c) (liveRows b)) ∙ ap (amend G n) (sym (live-append c b)),
-)
-
-amends-list : (G : Row → List Row) (n : ℕ) (qs : List Page) (a b : List Entry) → AllOf (λ q. hasNumber n q ≡ false) qs → Amends G n a b
-    → Amends G n (entries qs ++ a) (entries qs ++ b)
-unfolding entries
-amends-list G n [] a b off r = r
-amends-list G n (q ∷ qs) a b off r =
-    let c = withTable (q .table) (q .tuples) in
-    rw (append-assoc c (entries qs) a, append-assoc c (entries qs) b)
-    (amends-past G n c (entries qs ++ a) (entries qs ++ b) (hasNumber-off n q (off .0)) (amends-list G n qs a b (off .1) r))
-
-amends-here : (g : Held → List Held) (G : Row → List Row) → Edits g G → (n : ℕ) (o : Option Page) (p : Page) (ps : List Page)
-    → AllOf (λ q. hasNumber n q ≡ false) (listOf o) → hasNumber n p ≡ true
-    → Amends G n (entries (listOf o) ++ (withTable (p .table) (edit g n (p .tuples)) ++ entries ps)) (entries (listOf o ++ p ∷ ps))
-unfolding hasNumber
-amends-here g G E n o p ps off h =
-    rw (entries-page o p ps) (amends-list G n (listOf o) _ _ off (
-      rw (plain-append (withTable (p .table) (edit g n (p .tuples))), plain-append (withTable (p .table) (p .tuples)))
-          (sub-append (edit-sub g G E n (p .table) (p .tuples)) (sub-refl (plain (entries ps)))),
-      λ d. edit-live g G E n (p .table) (p .tuples) (entries ps) h d,
-    ))
-
-removed-edits : Edits removeNow away
+pub removed-edits : Edits removeNow away
 unfolding removeNow away withTable liveRows
 removed-edits = record { dead = λ t x h. refl; alive = λ t x h. refl; among = λ t x. skip empty }
 
-pendRemove-edits : Edits pendRemove away
+pub pendRemove-edits : Edits pendRemove away
 unfolding pendRemove away withTable liveRows if_then_else_ withPending isRemoving
 pendRemove-edits = record {
   dead = λ t x h. by (isAdding (x .pending)) (λ k. rw k) (λ k. rw k);
@@ -389,7 +361,7 @@ pendRemove-edits = record {
   among = λ t x. by (isAdding (x .pending)) (λ k. rw k (skip empty)) (λ k. rw k (take (refl, refl, refl, refl, still) empty));
 }
 
-kept-edits : Edits commitNow kept-row
+pub kept-edits : Edits commitNow kept-row
 unfolding commitNow kept-row withTable liveRows if_then_else_ asCommitted applied withPending
 kept-edits = record {
   dead = λ t x h. rw h;
@@ -397,7 +369,7 @@ kept-edits = record {
   among = λ t x. take (refl, refl, refl, refl, settled) empty;
 }
 
-pendCommit-edits : Edits pendCommit kept-row
+pub pendCommit-edits : Edits pendCommit kept-row
 unfolding pendCommit commitNow kept-row withTable liveRows if_then_else_ asCommitted applied withPending isRemoving isCommitting
 pendCommit-edits = record {
   dead = λ t x h. by (isAdding (x .pending)) (λ k. rw (k, h)) (λ k. rw (k, h, h));
@@ -406,56 +378,6 @@ pendCommit-edits = record {
   among = λ t x. by (isAdding (x .pending)) (λ k. rw k (take (refl, refl, refl, refl, settled) empty))
       (λ k. by (isRemoving (x .pending)) (λ m. rw (k, m) (take (refl, refl, refl, refl, still) empty)) (λ m. rw (k, m) (take (refl, refl, refl, refl, still) empty)));
 }
-
--- (equations of lists first: `rw` by a field rewrites the whole record)
-entries-remove-frozen : (n : ℕ) (o : Option Page) (p : Page) (ps : List Page) → p .frozen ≡ true → PageOk p
-    → entries (removeOn n o p ps) ≡ entries (listOf o) ++ (withTable (p .table) (edit pendRemove n (p .tuples)) ++ entries ps)
-unfolding removeOn if_then_else_ withTuples
-entries-remove-frozen n o p ps f ok = rw (f, entries-page o _ ps, takenLater-is n (p .tuples) (ok .2 f .1))
-
-entries-remove-free : (n : ℕ) (o : Option Page) (p : Page) (ps : List Page) → p .frozen ≡ false
-    → entries (removeOn n o p ps) ≡ entries (listOf o) ++ (withTable (p .table) (edit removeNow n (p .tuples)) ++ entries ps)
-unfolding removeOn if_then_else_ fresh
-entries-remove-free n o p ps f = let q = fresh (p .table) (edit removeNow n (p .tuples)) in rw (f, entries-settle (q ∷ []) o q ps (λ m. refl), entries-page o q ps)
-
-entries-commit-frozen : (n : ℕ) (o : Option Page) (p : Page) (ps : List Page) → p .frozen ≡ true
-    → entries (commitOn n o p ps) ≡ entries (listOf o) ++ (withTable (p .table) (edit pendCommit n (p .tuples)) ++ entries ps)
-unfolding commitOn if_then_else_ withTuples
-entries-commit-frozen n o p ps f = rw (f, entries-page o _ ps)
-
-entries-commit-free : (n : ℕ) (o : Option Page) (p : Page) (ps : List Page) → p .frozen ≡ false
-    → entries (commitOn n o p ps) ≡ entries (listOf o) ++ (withTable (p .table) (edit commitNow n (p .tuples)) ++ entries ps)
-unfolding commitOn if_then_else_ fresh
-entries-commit-free n o p ps f = rw (f, entries-page o _ ps)
-
-amends-removeOn : (n : ℕ) (o : Option Page) (p : Page) (ps : List Page) → AllOf (λ q. hasNumber n q ≡ false) (listOf o) → hasNumber n p ≡ true → PageOk p
-    → Amends away n (entries (removeOn n o p ps)) (entries (listOf o ++ p ∷ ps))
-amends-removeOn n o p ps off h ok =
-    by (p .frozen)
-    (λ f. subst (λ z. Amends away n z (entries (listOf o ++ p ∷ ps))) (sym (entries-remove-frozen n o p ps f ok)) (amends-here pendRemove away pendRemove-edits n o p ps off h))
-    (λ f. subst (λ z. Amends away n z (entries (listOf o ++ p ∷ ps))) (sym (entries-remove-free n o p ps f)) (amends-here removeNow away removed-edits n o p ps off h))
-
-amends-commitOn : (n : ℕ) (o : Option Page) (p : Page) (ps : List Page) → AllOf (λ q. hasNumber n q ≡ false) (listOf o) → hasNumber n p ≡ true
-    → Amends kept-row n (entries (commitOn n o p ps)) (entries (listOf o ++ p ∷ ps))
-amends-commitOn n o p ps off h =
-    by (p .frozen)
-    (λ f. subst (λ z. Amends kept-row n z (entries (listOf o ++ p ∷ ps))) (sym (entries-commit-frozen n o p ps f))
-    (amends-here pendCommit kept-row pendCommit-edits n o p ps off h))
-    (λ f. subst (λ z. Amends kept-row n z (entries (listOf o ++ p ∷ ps))) (sym (entries-commit-free n o p ps f)) (amends-here commitNow kept-row kept-edits n o p ps off h))
-
-amends-none : (G : Row → List Row) (n : ℕ) → Amends G n [] []
-unfolding liveRows amend
-amends-none G n = (empty, λ d. refl)
-
-pub amends-remove : (n : ℕ) (ps : List Page) → AllOf PageOk ps → Amends away n (entries (remove n ps)) (entries ps)
-unfolding remove listOf
-amends-remove n ps a = around-held (Amends away n) (hasNumber n) (removeOn n) (amends-none away n)
-    (λ p h a b s. amends-past away n (withTable (p .table) (p .tuples)) a b (hasNumber-off n p h) s) (λ o p ps h k ok. amends-removeOn n o p ps h k (ok .0)) none ps tt a
-
-pub amends-commit : (n : ℕ) (ps : List Page) → AllOf PageOk ps → Amends kept-row n (entries (commit n ps)) (entries ps)
-unfolding commit listOf
-amends-commit n ps a = around-held (Amends kept-row n) (hasNumber n) (commitOn n) (amends-none kept-row n)
-    (λ p h a b s. amends-past kept-row n (withTable (p .table) (p .tuples)) a b (hasNumber-off n p h) s) (λ o p ps h k ok. amends-commitOn n o p ps h k) none ps tt a
 
 -- ---- freezing and thawing change no row
 
