@@ -10,13 +10,12 @@ use Rattle.model.specs.Sight.{held}
 use Rattle.model.specs.Places.{PlaceOp, commitPlace, removePlace, carryOut, removeRow, commitRow, tagged, placed, liveOf, ownPlaced, removePlaces, allPlaced, abortPlan}
 use Rattle.memory_rows.specs.Rows.{isLiveOwn}
 use Rattle.engine_close.specs.Close.{isLive, rowFrom, isOwnRow, NextOwn, entryPlace, removedLive, abortedFrom, Behind}
-use Rattle.model.proofs.Rows.{entries, held-plain, asRow}
-use Rattle.model.proofs.Places.{tagged-entries}
+use Rattle.model.proofs.Rows.{held-plain, asRow}
 use Rattle.model.proofs.Others.{others-stay, only-count, only-behind}
 use Rattle.model.proofs.Carry.{carry-append}
 
 pub held-length : (ps : List Page) → length (held ps) ≡ length (tagged ps)
-held-length ps = ap length (held-plain ps) ∙ length-map (entries ps) asRow ∙ sym (ap length (tagged-entries ps))
+held-length ps = ap length (held-plain ps) ∙ length-map (tagged ps) asRow
 
 -- the place now of what was at a place at the start
 place-now : (n i : ℕ) (ps : List Page) → entryPlace n (tagged ps) i - (n - length (held ps)) ≡ i

@@ -6,14 +6,14 @@ use Rattle.image_rows.specs.Rows.{Row, isOwn}
 use Rattle.model.specs.State.{Page}
 use Rattle.model.specs.Sight.{held, rows}
 use Rattle.model.specs.Places.{Placed, rowOf, placed, allPlaced, runs, allRuns, liveOf, ownPlaced, removePlaces, planRuns, closePlan, abortPlan}
-use Rattle.model.specs.Transactions.{committedPages, abortedPages}
+use Rattle.model.specs.Transactions.{committedPages, abortedPages, tagged}
 use Rattle.basics.proofs.Elements.{Pairs, all-map, all-mem, all-keep}
 use Rattle.model.proofs.ByNumber.{removeAll, planRows}
 use Rattle.model.proofs.Sound.{PageOk}
-use Rattle.model.proofs.Rows.{Entry, Sub, entries, asRow, held-plain, rows-live, pairs-plain, Differ, numberOf}
+use Rattle.model.proofs.Rows.{Entry, Sub, asRow, held-plain, rows-live, pairs-plain, Differ, numberOf}
 use Rattle.model.proofs.Placing.{Before}
 use Rattle.model.proofs.RowAfter.{With, gather, rowAfter, perform-rows}
-use Rattle.model.proofs.Places.{tagged-entries, numbers, perform}
+use Rattle.model.proofs.Places.{numbers, perform}
 use Rattle.model.proofs.Carry.{numbered, Rising, carry-out}
 use Rattle.model.proofs.Runs.{rowsIn, rows-placed, flat, Grouped, Risen, group-all}
 use Rattle.model.proofs.Plans.{Between, between-placed, between-live, between-keep, rising-removes, rising-runs, named-placed, named-live, numbered-removes, keep-map, numbered-runs}
@@ -39,22 +39,22 @@ risen-placed i (e ∷ es) p = (before-placed (asRow e) (suc i) es (p .0), risen-
 -- of pages whose tuples rise and have distinct numbers
 module _ (ps : List Page) (rising : Pairs Before (held ps)) (differ : Pairs Differ (held ps)) where
   all-distinct : Pairs (λ a b. a ≢ b) (numbers ps)
-  all-distinct = pairs-mapped (λ a b. a ≢ b) numberOf (entries ps) (pairs-plain Differ (entries ps) (subst (Pairs Differ) (held-plain ps) differ))
+  all-distinct = pairs-mapped (λ a b. a ≢ b) numberOf (tagged ps) (pairs-plain Differ (tagged ps) (subst (Pairs Differ) (held-plain ps) differ))
 
-  all-placed : allPlaced ps ≡ placed 0 (entries ps)
+  all-placed : allPlaced ps ≡ placed 0 (tagged ps)
   unfolding allPlaced
-  all-placed = ap (placed 0) (tagged-entries ps)
+  all-placed = refl
 
   all-rows : rowsIn (allPlaced ps) ≡ rows ps
-  all-rows = ap rowsIn all-placed ∙ rows-placed 0 (entries ps) ∙ sym (rows-live ps)
+  all-rows = ap rowsIn all-placed ∙ rows-placed 0 (tagged ps) ∙ sym (rows-live ps)
 
   all-named : AllOf (λ x. (x .0 < length (numbers ps)) × (getD (numbers ps) (x .0) 0 ≡ rowOf x .1 .number)) (allPlaced ps)
-  all-named = subst (AllOf _) (sym all-placed) (named-placed [] (entries ps))
+  all-named = subst (AllOf _) (sym all-placed) (named-placed [] (tagged ps))
 
   pub all-grouped : Grouped (rows ps) (allRuns ps) × (flat (allRuns ps) ≡ allPlaced ps)
   unfolding allRuns
   all-grouped =
-      let g = group-all (allPlaced ps) (subst Risen (sym all-placed) (risen-placed 0 (entries ps) (pairs-plain Before (entries ps) (subst (Pairs Before) (held-plain ps) rising)))) in
+      let g = group-all (allPlaced ps) (subst Risen (sym all-placed) (risen-placed 0 (tagged ps) (pairs-plain Before (tagged ps) (subst (Pairs Before) (held-plain ps) rising)))) in
       (subst (λ ev. Grouped ev (runs [] (allPlaced ps))) all-rows (g .0), g .1)
 
   close-numbered : (tx : ℕ) → map (numbered (numbers ps)) (closePlan tx ps) ≡ planRows tx (rows ps) (rows ps)
@@ -66,9 +66,9 @@ module _ (ps : List Page) (rising : Pairs Before (held ps)) (differ : Pairs Diff
   close-rising : (tx : ℕ) → Rising (length (numbers ps)) 0 (closePlan tx ps)
   unfolding closePlan allRuns
   close-rising tx =
-      let l = length-map (entries ps) numberOf in
+      let l = length-map (tagged ps) numberOf in
       subst (λ z. Rising (length (numbers ps)) 0 (planRuns tx (runs [] z))) (sym all-placed)
-      (rising-runs (length (numbers ps)) tx 0 0 [] (entries ps) (omega arith) (omega arith))
+      (rising-runs (length (numbers ps)) tx 0 0 [] (tagged ps) (omega arith) (omega arith))
 
   abort-numbered : (tx : ℕ) → map (numbered (numbers ps)) (abortPlan tx ps) ≡ removeAll (keep (isOwn tx) (rows ps))
   unfolding abortPlan ownPlaced
@@ -81,12 +81,12 @@ module _ (ps : List Page) (rising : Pairs Before (held ps)) (differ : Pairs Diff
   abort-rising : (tx : ℕ) → Rising (length (numbers ps)) 0 (abortPlan tx ps)
   unfolding abortPlan
   abort-rising tx =
-      let l = length-map (entries ps) numberOf in
-      let m = 0 + length (entries ps) in
+      let l = length-map (tagged ps) numberOf in
+      let m = 0 + length (tagged ps) in
       let own = keep (ownPlaced tx) (liveOf (allPlaced ps)) in
       subst (Rising (length (numbers ps)) 0) (append-nil (removePlaces own))
       (rising-removes (length (numbers ps)) 0 m own [] (omega arith)
-      (between-keep (ownPlaced tx) 0 m (liveOf (allPlaced ps)) (between-live 0 m (allPlaced ps) (subst (λ z. Between 0 m z) (sym all-placed) (between-placed 0 (entries ps))))) tt)
+      (between-keep (ownPlaced tx) 0 m (liveOf (allPlaced ps)) (between-live 0 m (allPlaced ps) (subst (λ z. Between 0 m z) (sym all-placed) (between-placed 0 (tagged ps))))) tt)
 
   -- commit and abort by place are those by number
   pub commit-by-place : (tx : ℕ) → committedPages tx ps ≡ perform (planRows tx (rows ps) (rows ps)) ps

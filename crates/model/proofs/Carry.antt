@@ -6,9 +6,10 @@ use Rattle.basics.proofs.Facts.{by, AllOf}
 use Rattle.model.specs.State.{Page}
 use Rattle.model.specs.Sight.{held}
 use Rattle.model.specs.Places.{PlaceOp, commitPlace, removePlace, carryOut, removeRow, commitRow}
+use Rattle.model.specs.Transactions.{tagged}
 use Rattle.basics.proofs.Elements.{Pairs, pairs-parts, pairs-append, all-map, eqb-self, eqb-true}
 use Rattle.model.proofs.ByNumber.{Op, toCommit, toRemove, placeIn}
-use Rattle.model.proofs.Rows.{entries, held-plain, asRow, numberOf}
+use Rattle.model.proofs.Rows.{held-plain, asRow, numberOf}
 use Rattle.model.proofs.Places.{numbers, Less, remove-numbers, commit-numbers, remove, commit, perform}
 use Rattle.basics.proofs.Parts.{removeAt-seam}
 
@@ -55,7 +56,7 @@ place-seam n [] b h = rw (eqb-self n)
 place-seam n (x ∷ a) b h = by (eqb x n) (λ e. absurd (h .0 (eqb-true x n e))) (λ e. rw (e, place-seam n a b (h .1)))
 
 held-numbers : (ps : List Page) → length (held ps) ≡ length (numbers ps)
-held-numbers ps = ap length (held-plain ps) ∙ length-map (entries ps) asRow ∙ sym (length-map (entries ps) numberOf)
+held-numbers ps = ap length (held-plain ps) ∙ length-map (tagged ps) asRow ∙ sym (length-map (tagged ps) numberOf)
 
 module _ (ns : List ℕ) where
   -- where the tuple of place i stands now

@@ -1,6 +1,6 @@
 -- What an operation at a row does, on any pages: to its page, and to the list of all tuples.
 use Rattle.basics.proofs.Kit.{_≡_, refl, sym, ap, _∙_, ap₂, Bool, true, false, some, none, Option, List, [], _∷_, _++_, append-assoc, map, ℕ, suc, _+_, _≤_, _<_, zero, _-_, length, take}
-use Rattle.basics.proofs.Kit.{drop, getD, set, length-append, take-append-drop, length-set, length-map, set-getD, drop-nil, set-append-left, arith}
+use Rattle.basics.proofs.Kit.{drop, getD, set, length-append, take-append-drop, length-set, length-map, set-getD, drop-nil, arith}
 use Rattle.basics.specs.Basics.{if_then_else_, isEmpty}
 use Rattle.basics.proofs.Facts.{by, lie}
 use Rattle.model.specs.State.{Pending, nothing, adding, committing, removing, Held, Page}
@@ -9,10 +9,10 @@ use Rattle.model.specs.Places.{editAt, pendRemoveAt, removeRowOn, commit
 use Rattle.basics.specs.Lists.{removeAt}
 use Rattle.model.specs.Places.{LastStays, RemovedStays, committedTuple, CommittedRow}
 use Rattle.basics.proofs.Elements.{nonempty, le-true, lt-false}
-use Rattle.model.proofs.Rows.{withTable, entries, entries-append}
-use Rattle.model.proofs.Places.{tagged-page, tagged-entries, row-here, row-past, entriesAt, removedOn, committedOn, entries-removeRow}
-use Rattle.basics.proofs.Parts.{removeAt-suc, removeAt-left, removeAt-right}
-use Rattle.model.proofs.Places.{entries-commitRow}
+use Rattle.model.proofs.Rows.{withTable, tagged-append}
+use Rattle.model.proofs.Places.{row-here, row-past, entriesAt, removedOn, committedOn, tagged-removeRow}
+use Rattle.basics.proofs.Parts.{removeAt-suc}
+use Rattle.model.proofs.Places.{tagged-commitRow}
 use Rattle.basics.proofs.Parts.{remove-middle, set-middle, map-set, map-remove, removed-length}
 
 -- ---- the page of a row
@@ -48,7 +48,7 @@ row-by-page f (q ∷ qs) i (suc k) j p o prev =
 -- ---- all tuples
 
 module _ (E : ℕ → Page → List Held) where
-  changed-here : (i : ℕ) (p : Page) (ps : List Page) → i < length (p .tuples) → entriesAt E i (p ∷ ps) ≡ withTable (p .table) (E i p) ++ entries ps
+  changed-here : (i : ℕ) (p : Page) (ps : List Page) → i < length (p .tuples) → entriesAt E i (p ∷ ps) ≡ withTable (p .table) (E i p) ++ tagged ps
   unfolding entriesAt
   changed-here i p ps h = rw (le-true (suc i) (length (p .tuples)) h, entriesAt)
 
@@ -65,16 +65,12 @@ module _ (E : ℕ → Page → List Held) where
   changed-on (q ∷ qs) i zero j p o =
       let w = on-first q qs i j p o in
       changed-here i q qs (omega (arith, o .inside, w .1, ap (λ z. length (z .tuples)) (w .0)))
-      ∙ ap₂ (λ z n. withTable (z .table) (E n z) ++ entries qs) (w .0) (w .1)
-      ∙ sym (ap₂ (λ a b. a ++ b) (tagged-page (p .table) (E j p)) (tagged-entries qs))
+      ∙ ap₂ (λ z n. withTable (z .table) (E n z) ++ tagged qs) (w .0) (w .1)
   changed-on (q ∷ qs) i (suc k) j p o =
       let w = on-later q qs i k j p o in
       changed-past i q qs (w .0)
-      ∙ ap₂ (λ a b. a ++ b) (sym (tagged-page (q .table) (q .tuples))) (changed-on qs (i - length (q .tuples)) k j p (w .1))
+      ∙ ap (λ b. withTable (q .table) (q .tuples) ++ b) (changed-on qs (i - length (q .tuples)) k j p (w .1))
       ∙ sym (append-assoc (map (λ h. (q .table, h)) (q .tuples)) (tagged (take k qs)) _)
-
-tagged-append : (a b : List Page) → tagged (a ++ b) ≡ tagged a ++ tagged b
-tagged-append a b = tagged-entries (a ++ b) ∙ entries-append a b ∙ sym (ap₂ (λ x y. x ++ y) (tagged-entries a) (tagged-entries b))
 
 tagged-on : (ps : List Page) (i k j : ℕ) (p : Page) → RowOn ps i k j p
     → tagged ps ≡ tagged (take k ps) ++ (map (λ h. (p .table, h)) (p .tuples) ++ tagged (drop (suc k) ps))
@@ -163,11 +159,11 @@ module _ (ps : List Page) (i k j : ℕ) (p : Page) (o : RowOn ps i k j p) where
 
   all-removed : tagged (removeRow i ps) ≡ tagged (take k ps) ++ (map tag (removedOn j p) ++ tagged (drop (suc k) ps))
   unfolding tag
-  all-removed = tagged-entries (removeRow i ps) ∙ entries-removeRow i ps ∙ changed-on removedOn ps i k j p o
+  all-removed = tagged-removeRow i ps ∙ changed-on removedOn ps i k j p o
 
   all-committed : tagged (commitRow i ps) ≡ tagged (take k ps) ++ (map tag (committedOn j p) ++ tagged (drop (suc k) ps))
   unfolding tag
-  all-committed = tagged-entries (commitRow i ps) ∙ entries-commitRow i ps ∙ changed-on committedOn ps i k j p o
+  all-committed = tagged-commitRow i ps ∙ changed-on committedOn ps i k j p o
 
   inside-tagged : j < length (map tag (p .tuples))
   inside-tagged = omega (arith, o .inside, length-map (p .tuples) tag)

@@ -10,7 +10,7 @@ use Rattle.image.specs.Stages.{directoriesFor}
 use Rattle.model.specs.State.{Store, Outcome, Page, Held, idle, running, nothing, Checkpoint}
 use Rattle.model.specs.Rules.{place, heldSize, isPending, freeze, isFrozen}
 use Rattle.model.specs.Sight.{rows, held, isForeign, versions}
-use Rattle.model.specs.Transactions.{gives, changed, openNumbers, withOpen, newTuple, withWrite, afterWrite, withTuple, without, committedPages, abortedPages, closing, PlaceOp}
+use Rattle.model.specs.Transactions.{gives, changed, openNumbers, withOpen, newTuple, withWrite, afterWrite, withTuple, without, committedPages, abortedPages, closing, PlaceOp, tagged}
 use Rattle.model.specs.Transactions.{carryOut, closePlan, abortPlan}
 use Rattle.model.specs.Checkpoint.{withProgress, beginCall, storePage, made, allocate, storeDirectory, storeHeader, stepAt, stepOf}
 use Rattle.model.specs.Calls.{TransactionCall, transact, Call, transacts, begins, steps, runs, call, others}
@@ -22,7 +22,7 @@ use Rattle.model.proofs.Effects.{unless-keeps, Accepts, Does, refuses, 
 use Rattle.model.proofs.NoStores.{step-keeps, run-keeps}
 use Rattle.model.proofs.BlockUse.{below-most, idle-of}
 use Rattle.model.proofs.Sound.{place-ok, PageOk, bare-size, thaw-ok, carry-ok}
-use Rattle.model.proofs.Rows.{Sub, rows-live, held-plain, live-sub, entries, sub-all, Differ, sub-pairs, held-freeze, rows-freeze, thaw-rows}
+use Rattle.model.proofs.Rows.{Sub, rows-live, held-plain, live-sub, sub-all, Differ, sub-pairs, held-freeze, rows-freeze, thaw-rows}
 use Rattle.model.proofs.Placing.{Before, Put, place-put}
 use Rattle.model.proofs.RowAfter.{differ-alike, gather, rowAfter, commit-rows, abort-rows}
 use Rattle.model.proofs.Valid.{Opened, LiveOk, Valid, before-alike, HeldOk, held-insert, live-insert, Counted, held-sub}
@@ -65,7 +65,7 @@ open-valid tx s l v =
 -- ---- insert, replace, delete
 
 pub rows-sub : (ps : List Page) → Sub (rows ps) (held ps)
-rows-sub ps = rw (rows-live ps, held-plain ps) (live-sub (entries ps))
+rows-sub ps = rw (rows-live ps, held-plain ps) (live-sub (tagged ps))
 
 rows-known : (s : Store) → Valid s → AllOf (λ r. r .1 .number < s .next) (rows (s .pages))
 rows-known s v = sub-all _ _ (λ a b e h. omega (arith, e .2, h .0)) (rows-sub (s .pages)) (v .has .known)

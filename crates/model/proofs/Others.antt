@@ -5,10 +5,11 @@ use Rattle.basics.specs.Basics.{if_then_else_, isEmpty}
 use Rattle.basics.proofs.Facts.{by}
 use Rattle.model.specs.State.{Held, Page}
 use Rattle.model.specs.Rules.{removeNow, pendRemove, commitNow, pendCommit, isAdding, isRemoving}
-use Rattle.model.specs.Places.{editAt, pendRemoveAt, removeRow, commitRow, OnlyRow, OthersStay}
+use Rattle.model.specs.Places.{editAt, pendRemoveAt, commitRow, OnlyRow, OthersStay}
+use Rattle.model.specs.Transactions.{tagged}
 use Rattle.basics.proofs.Elements.{leb-true, leb-false}
-use Rattle.model.proofs.Rows.{Entry, withTable, entries, table-append, table-length, numberOf}
-use Rattle.model.proofs.Places.{tagged-entries, entriesAt, removedOn, committedOn, entries-removeRow, entries-commitRow, commit-numbers}
+use Rattle.model.proofs.Rows.{Entry, withTable, table-append, table-length, numberOf}
+use Rattle.model.proofs.Places.{entriesAt, removedOn, committedOn, tagged-removeRow, tagged-commitRow, commit-numbers}
 
 -- ---- one element alone
 
@@ -62,7 +63,7 @@ module _ (i : ℕ) (before after : List Entry) (h : i < length before) (o : Only
 
 edit-only : (g : Held → List Held) → ((h : Held) → length (g h) ≤ 1) → (t j : ℕ) (hs : List Held) → j < length hs
     → OnlyRow j (withTable t hs) (withTable t (editAt g j hs))
-unfolding editAt withTable
+unfolding editAt
 edit-only g f t j [] l = absurd (omega arith)
 edit-only g f t zero (h ∷ hs) l = record { here = withTable t (g h); few = omega (arith, f h, table-length t (g h)); is = table-append t (g h) hs }
 edit-only g f t (suc j) (h ∷ hs) l =
@@ -73,16 +74,16 @@ edit-only g f t (suc j) (h ∷ hs) l =
 
 only-at : (E : ℕ → Page → List Held)
     → ((j : ℕ) (p : Page) → j < length (p .tuples) → OnlyRow j (withTable (p .table) (p .tuples)) (withTable (p .table) (E j p)))
-    → (i : ℕ) (ps : List Page) → OnlyRow i (entries ps) (entriesAt E i ps)
-unfolding entriesAt entries
+    → (i : ℕ) (ps : List Page) → OnlyRow i (tagged ps) (entriesAt E i ps)
+unfolding entriesAt tagged
 only-at E f i [] = only-self i []
 only-at E f i (p ∷ ps) =
     let l = table-length (p .table) (p .tuples) in
     by (ltb i (length (p .tuples)))
     (λ h. let k = leb-true (suc i) (length (p .tuples)) h in
-    rw (h, entriesAt) (only-left i (withTable (p .table) (E i p)) (withTable (p .table) (p .tuples)) (entries ps) (omega arith) (f i p k)))
+    rw (h, entriesAt) (only-left i (withTable (p .table) (E i p)) (withTable (p .table) (p .tuples)) (tagged ps) (omega arith) (f i p k)))
     (λ h. let k = leb-false (suc i) (length (p .tuples)) h in
-    rw (h, entriesAt) (only-right i (withTable (p .table) (p .tuples)) (entriesAt E (i - length (p .tuples)) ps) (entries ps) (omega arith)
+    rw (h, entriesAt) (only-right i (withTable (p .table) (p .tuples)) (entriesAt E (i - length (p .tuples)) ps) (tagged ps) (omega arith)
     (rw l (only-at E f (i - length (p .tuples)) ps))))
 
 later-few : (h : Held) → length (pendRemove h) ≤ 1
@@ -116,8 +117,8 @@ committed-only j p l =
 
 pub others-stay : OthersStay
 others-stay i ps = (
-  rw (tagged-entries ps, tagged-entries (removeRow i ps), entries-removeRow i ps) (only-at removedOn removed-only i ps),
-  rw (tagged-entries ps, tagged-entries (commitRow i ps), entries-commitRow i ps) (only-at committedOn committed-only i ps),
-  ap length (tagged-entries (commitRow i ps)) ∙ sym (length-map (entries (commitRow i ps)) numberOf) ∙ ap length (commit-numbers i ps)
-      ∙ length-map (entries ps) numberOf ∙ ap length (sym (tagged-entries ps)),
+  rw (tagged-removeRow i ps) (only-at removedOn removed-only i ps),
+  rw (tagged-commitRow i ps) (only-at committedOn committed-only i ps),
+  sym (length-map (tagged (commitRow i ps)) numberOf) ∙ ap length (commit-numbers i ps)
+      ∙ length-map (tagged ps) numberOf,
 )

@@ -1,5 +1,5 @@
 -- What operations by place do to all tuples held; and operations by number, which are those at the number's place.
-use Rattle.basics.proofs.Kit.{_≡_, refl, sym, ap, _∙_, ap₂, ⊎-elim, _⊎_, inl, inr, true, false, some, none, Option, List, [], _∷_, _++_, append-assoc, append-nil, map, ℕ, suc, _+_, _≤_, _<_}
+use Rattle.basics.proofs.Kit.{_≡_, refl, sym, ap, _∙_, ⊎-elim, _⊎_, inl, inr, true, false, some, none, Option, List, [], _∷_, _++_, append-assoc, append-nil, map, ℕ, suc, _+_, _≤_, _<_}
 use Rattle.basics.proofs.Kit.{zero, _-_, ltb, length, length-map, arith, subst, zero-add}
 use Rattle.basics.specs.Basics.{if_then_else_, isEmpty}
 use Rattle.basics.proofs.Lists.{map-append}
@@ -10,7 +10,7 @@ use Rattle.model.specs.Places.{tagged, atRow, editAt, pendRemoveAt, remo
 use Rattle.basics.specs.Lists.{removeAt}
 use Rattle.basics.proofs.Elements.{le-true, lt-false, leb-true, leb-false}
 use Rattle.model.proofs.ByNumber.{placeIn, numbersOn, Op, toCommit, toRemove}
-use Rattle.model.proofs.Rows.{Entry, withTable, entries, entries-append, entries-settle, entries-page, numberOf, editEntry, Edits, Amends, edit-amends, away, kept-row, removed-edits}
+use Rattle.model.proofs.Rows.{Entry, withTable, tagged-append, tagged-settle, tagged-page, numberOf, editEntry, Edits, Amends, edit-amends, away, kept-row, removed-edits}
 use Rattle.model.proofs.Rows.{pendRemove-edits, kept-edits, pendCommit-edits, table-append, table-length}
 use Rattle.model.proofs.Sound.{PageOk}
 use Rattle.model.proofs.Shown.{takenAt-is}
@@ -18,32 +18,19 @@ use Rattle.basics.proofs.Parts.{removeAt-suc, removeAt-left, removeAt-right}
 use Rattle.basics.proofs.Kit.{suc-add}
 use Rattle.image_rows.specs.Rows.{Row}
 
--- ---- all tuples, with their tables
-
-pub tagged-page : (t : ℕ) (hs : List Held) → map (λ h. (t, h)) hs ≡ withTable t hs
-unfolding withTable
-tagged-page t [] = refl
-tagged-page t (h ∷ hs) = ap (λ z. (t, h) ∷ z) (tagged-page t hs)
-
-pub tagged-entries : (ps : List Page) → tagged ps ≡ entries ps
-unfolding tagged entries
-tagged-entries [] = refl
-tagged-entries (p ∷ ps) = ap₂ (λ a b. a ++ b) (tagged-page (p .table) (p .tuples)) (tagged-entries ps)
-
 -- ---- numbers
 
 -- the numbers of all tuples held
 abbrev pub numbers : List Page → List ℕ
-numbers ps = map numberOf (entries ps)
+numbers ps = map numberOf (tagged ps)
 
 numbers-table : (t : ℕ) (hs : List Held) → map numberOf (withTable t hs) ≡ numbersOn hs
-unfolding withTable
 numbers-table t [] = refl
 numbers-table t (h ∷ hs) = ap (λ z. h .tuple .number ∷ z) (numbers-table t hs)
 
 numbers-cons : (p : Page) (ps : List Page) → numbers (p ∷ ps) ≡ numbersOn (p .tuples) ++ numbers ps
-unfolding entries
-numbers-cons p ps = map-append numberOf (withTable (p .table) (p .tuples)) (entries ps) ∙ ap (λ z. z ++ numbers ps) (numbers-table (p .table) (p .tuples))
+unfolding tagged
+numbers-cons p ps = map-append numberOf (withTable (p .table) (p .tuples)) (tagged ps) ∙ ap (λ z. z ++ numbers ps) (numbers-table (p .table) (p .tuples))
 
 -- ---- the page of a row
 
@@ -83,22 +70,22 @@ unfoldable pub entriesAt : (ℕ → Page → List Held) → ℕ → List Page �
 entriesAt E i [] = []
 entriesAt E i (p ∷ ps) =
     elim (ltb i (length (p .tuples))) [
-      | true ↦ withTable (p .table) (E i p) ++ entries ps
+      | true ↦ withTable (p .table) (E i p) ++ tagged ps
       | false ↦ withTable (p .table) (p .tuples) ++ entriesAt E (i - length (p .tuples)) ps
     ]
 
 row-entries : (f : ℕ → Option Page → Page → List Page → List Page) (E : ℕ → Page → List Held)
-    → ((j : ℕ) (o : Option Page) (p : Page) (ps : List Page) → entries (f j o p ps) ≡ entries (listOf o) ++ (withTable (p .table) (E j p) ++ entries ps))
-    → (i : ℕ) (o : Option Page) (ps : List Page) → entries (atRow f i o ps) ≡ entries (listOf o) ++ entriesAt E i ps
+    → ((j : ℕ) (o : Option Page) (p : Page) (ps : List Page) → tagged (f j o p ps) ≡ tagged (listOf o) ++ (withTable (p .table) (E j p) ++ tagged ps))
+    → (i : ℕ) (o : Option Page) (ps : List Page) → tagged (atRow f i o ps) ≡ tagged (listOf o) ++ entriesAt E i ps
 unfolding atRow entriesAt
-row-entries f E does i o [] = sym (append-nil (entries (listOf o)))
+row-entries f E does i o [] = sym (append-nil (tagged (listOf o)))
 row-entries f E does i o (p ∷ ps) =
     by (ltb i (length (p .tuples))) (λ h. rw (h, atRow, entriesAt) (does i o p ps))
-    (λ h. rw (h, atRow, entriesAt) (entries-append (listOf o) (atRow f (i - length (p .tuples)) (some p) ps)
-    ∙ ap (λ z. entries (listOf o) ++ z) (row-entries f E does (i - length (p .tuples)) (some p) ps ∙ ap (λ z. z ++ entriesAt E (i - length (p .tuples)) ps) (alone p))))
+    (λ h. rw (h, atRow, entriesAt) (tagged-append (listOf o) (atRow f (i - length (p .tuples)) (some p) ps)
+    ∙ ap (λ z. tagged (listOf o) ++ z) (row-entries f E does (i - length (p .tuples)) (some p) ps ∙ ap (λ z. z ++ entriesAt E (i - length (p .tuples)) ps) (alone p))))
   where
-    alone : (p : Page) → entries (listOf (some p)) ≡ withTable (p .table) (p .tuples)
-    alone p = unfold entries listOf in append-nil (withTable (p .table) (p .tuples))
+    alone : (p : Page) → tagged (listOf (some p)) ≡ withTable (p .table) (p .tuples)
+    alone p = unfold tagged listOf in append-nil (withTable (p .table) (p .tuples))
 
 less-left : (i : ℕ) (a b c : List ℕ) → i < length b → Less i a b → Less i (a ++ c) (b ++ c)
 less-left i a b c h = ⊎-elim (λ e. inl (ap (λ z. z ++ c) e)) (λ e. inr (ap (λ z. z ++ c) e ∙ sym (removeAt-left i b c h)))
@@ -113,10 +100,10 @@ module _ (E : ℕ → Page → List Held) where
   -- no number changes
   numbers-same : ((j : ℕ) (p : Page) → numbersOn (E j p) ≡ numbersOn (p .tuples)) → (i : ℕ) (ps : List Page) → map numberOf (entriesAt E i ps) ≡ numbers ps
   unfolding entriesAt
-  numbers-same k i [] = unfold entries in refl
+  numbers-same k i [] = unfold tagged in refl
   numbers-same k i (p ∷ ps) =
       by (ltb i (length (p .tuples)))
-      (λ h. rw (h, entriesAt) (numbers-page (p .table) (E i p) (entries ps) ∙ ap (λ z. z ++ numbers ps) (k i p) ∙ sym (numbers-cons p ps)))
+      (λ h. rw (h, entriesAt) (numbers-page (p .table) (E i p) (tagged ps) ∙ ap (λ z. z ++ numbers ps) (k i p) ∙ sym (numbers-cons p ps)))
       (λ h. rw (h, entriesAt) (numbers-page (p .table) (p .tuples) (entriesAt E (i - length (p .tuples)) ps)
       ∙ ap (λ z. numbersOn (p .tuples) ++ z) (numbers-same k (i - length (p .tuples)) ps) ∙ sym (numbers-cons p ps)))
 
@@ -124,11 +111,11 @@ module _ (E : ℕ → Page → List Held) where
   numbers-less : ((j : ℕ) (p : Page) → Less j (numbersOn (E j p)) (numbersOn (p .tuples))) → (i : ℕ) (ps : List Page)
       → Less i (map numberOf (entriesAt E i ps)) (numbers ps)
   unfolding entriesAt
-  numbers-less k i [] = inl (unfold entries in refl)
+  numbers-less k i [] = inl (unfold tagged in refl)
   numbers-less k i (p ∷ ps) =
       let len : length (numbersOn (p .tuples)) ≡ length (p .tuples) = length-map (p .tuples) _ in
       by (ltb i (length (p .tuples)))
-      (λ h. rw (h, entriesAt, numbers-page (p .table) (E i p) (entries ps), numbers-cons p ps)
+      (λ h. rw (h, entriesAt, numbers-page (p .table) (E i p) (tagged ps), numbers-cons p ps)
       (less-left i (numbersOn (E i p)) (numbersOn (p .tuples)) (numbers ps) (omega (arith, leb-true (suc i) (length (p .tuples)) h)) (k i p)))
       (λ h. rw (h, entriesAt, numbers-page (p .table) (p .tuples) (entriesAt E (i - length (p .tuples)) ps), numbers-cons p ps)
       (less-right i (numbersOn (p .tuples)) _ (numbers ps) (omega (arith, leb-false (suc i) (length (p .tuples)) h))
@@ -142,26 +129,26 @@ removedOn j p = if p .frozen then pendRemoveAt j (p .tuples) else editAt removeN
 unfoldable pub committedOn : ℕ → Page → List Held
 committedOn j p = if p .frozen then editAt pendCommit j (p .tuples) else editAt commitNow j (p .tuples)
 
-entries-removeRowOn : (j : ℕ) (o : Option Page) (p : Page) (ps : List Page)
-    → entries (removeRowOn j o p ps) ≡ entries (listOf o) ++ (withTable (p .table) (removedOn j p) ++ entries ps)
+tagged-removeRowOn : (j : ℕ) (o : Option Page) (p : Page) (ps : List Page)
+    → tagged (removeRowOn j o p ps) ≡ tagged (listOf o) ++ (withTable (p .table) (removedOn j p) ++ tagged ps)
 unfolding removeRowOn removedOn if_then_else_ withTuples fresh
-entries-removeRowOn j o p ps =
+tagged-removeRowOn j o p ps =
     let q = fresh (p .table) (editAt removeNow j (p .tuples)) in
-    by (p .frozen) (λ h. rw (h, entries-page o _ ps)) (λ h. rw (h, entries-settle (q ∷ []) o q ps (λ m. refl), entries-page o q ps))
+    by (p .frozen) (λ h. rw (h, tagged-page o _ ps)) (λ h. rw (h, tagged-settle (q ∷ []) o q ps (λ m. refl), tagged-page o q ps))
 
-entries-commitRowOn : (j : ℕ) (o : Option Page) (p : Page) (ps : List Page)
-    → entries (commitRowOn j o p ps) ≡ entries (listOf o) ++ (withTable (p .table) (committedOn j p) ++ entries ps)
+tagged-commitRowOn : (j : ℕ) (o : Option Page) (p : Page) (ps : List Page)
+    → tagged (commitRowOn j o p ps) ≡ tagged (listOf o) ++ (withTable (p .table) (committedOn j p) ++ tagged ps)
 unfolding commitRowOn committedAt committedOn if_then_else_ withTuples fresh
-entries-commitRowOn j o p ps = by (p .frozen) (λ h. rw (h, entries-page o _ ps)) (λ h. rw (h, entries-page o _ ps))
+tagged-commitRowOn j o p ps = by (p .frozen) (λ h. rw (h, tagged-page o _ ps)) (λ h. rw (h, tagged-page o _ ps))
 
 -- all tuples after the removal, and after the commit, of row i: for any pages
-pub entries-removeRow : (i : ℕ) (ps : List Page) → entries (removeRow i ps) ≡ entriesAt removedOn i ps
+pub tagged-removeRow : (i : ℕ) (ps : List Page) → tagged (removeRow i ps) ≡ entriesAt removedOn i ps
 unfolding removeRow
-entries-removeRow i ps = row-entries removeRowOn removedOn entries-removeRowOn i none ps ∙ (unfold listOf entries in refl)
+tagged-removeRow i ps = row-entries removeRowOn removedOn tagged-removeRowOn i none ps ∙ (unfold listOf tagged in refl)
 
-pub entries-commitRow : (i : ℕ) (ps : List Page) → entries (commitRow i ps) ≡ entriesAt committedOn i ps
+pub tagged-commitRow : (i : ℕ) (ps : List Page) → tagged (commitRow i ps) ≡ entriesAt committedOn i ps
 unfolding commitRow
-entries-commitRow i ps = row-entries commitRowOn committedOn entries-commitRowOn i none ps ∙ (unfold listOf entries in refl)
+tagged-commitRow i ps = row-entries commitRowOn committedOn tagged-commitRowOn i none ps ∙ (unfold listOf tagged in refl)
 
 later-number : (h : Held) → (numbersOn (pendRemove h) ≡ h .tuple .number ∷ []) ⊎ (pendRemove h ≡ [])
 unfolding pendRemove if_then_else_ withPending
@@ -188,10 +175,10 @@ unfolding committedOn if_then_else_
 committed-same j p = by (p .frozen) (λ h. rw h (edit-same pendCommit pendCommit-number j (p .tuples))) (λ h. rw h (edit-same commitNow kept-number j (p .tuples)))
 
 pub remove-numbers : (i : ℕ) (ps : List Page) → Less i (numbers (removeRow i ps)) (numbers ps)
-remove-numbers i ps = rw (entries-removeRow i ps) (numbers-less removedOn removed-less i ps)
+remove-numbers i ps = rw (tagged-removeRow i ps) (numbers-less removedOn removed-less i ps)
 
 pub commit-numbers : (i : ℕ) (ps : List Page) → numbers (commitRow i ps) ≡ numbers ps
-commit-numbers i ps = rw (entries-commitRow i ps) (numbers-same committedOn committed-same i ps)
+commit-numbers i ps = rw (tagged-commitRow i ps) (numbers-same committedOn committed-same i ps)
 
 -- ---- operations by number
 
@@ -210,7 +197,7 @@ perform (toCommit n ∷ os) ps = perform os (commit n ps)
 perform (toRemove n ∷ os) ps = perform os (remove n ps)
 
 edit-here : (g : Held → List Held) (t j : ℕ) (hs : List Held) (es : List Entry) → j < length hs → withTable t (editAt g j hs) ++ es ≡ editEntry g j (withTable t hs ++ es)
-unfolding editAt editEntry withTable
+unfolding editAt editEntry
 edit-here g t j [] es l = absurd (omega arith)
 edit-here g t zero (h ∷ hs) es l = rw (table-append t (g h) hs, append-assoc (withTable t (g h)) (withTable t hs) es)
 edit-here g t (suc j) (h ∷ hs) es l = ap (λ z. (t, h) ∷ z) (edit-here g t j hs es (omega arith))
@@ -234,8 +221,8 @@ record EditedOn (G : Row → List Row) (j : ℕ) (a b : List Held) : Type 0 wher
 
 -- what is done to one page is done to all tuples
 edited : (G : Row → List Row) (E : ℕ → Page → List Held) → ((j : ℕ) (p : Page) → PageOk p → EditedOn G j (E j p) (p .tuples)) → (g : Held → List Held) → Edits g G
-    → (i : ℕ) (ps : List Page) → AllOf PageOk ps → Edited G i (entriesAt E i ps) (entries ps)
-unfolding entriesAt entries editEntry
+    → (i : ℕ) (ps : List Page) → AllOf PageOk ps → Edited G i (entriesAt E i ps) (tagged ps)
+unfolding entriesAt tagged editEntry
 edited G E on g d i [] a = record { by-edit = g; edits = d; is = refl }
 edited G E on g d i (p ∷ ps) a =
     let c = withTable (p .table) (p .tuples) in
@@ -243,13 +230,13 @@ edited G E on g d i (p ∷ ps) a =
     (λ h. let k = on i p (a .0) in rw (h, entriesAt) (record {
       by-edit = k .by-edit;
       edits = k .edits;
-      is = ap (λ z. withTable (p .table) z ++ entries ps) (k .is) ∙ edit-here (k .by-edit) (p .table) i (p .tuples) (entries ps) (leb-true (suc i) (length (p .tuples)) h);
+      is = ap (λ z. withTable (p .table) z ++ tagged ps) (k .is) ∙ edit-here (k .by-edit) (p .table) i (p .tuples) (tagged ps) (leb-true (suc i) (length (p .tuples)) h);
     }))
     (λ h. let j = i - length (p .tuples) in let k = edited G E on g d j ps (a .1) in
     let e : length c + j ≡ i = omega (arith, table-length (p .table) (p .tuples), leb-false (suc i) (length (p .tuples)) h) in rw (h, entriesAt) (record {
       by-edit = k .by-edit;
       edits = k .edits;
-      is = ap (λ z. c ++ z) (k .is) ∙ edit-past (k .by-edit) c j (entries ps) ∙ ap (λ z. editEntry (k .by-edit) z (c ++ entries ps)) e;
+      is = ap (λ z. c ++ z) (k .is) ∙ edit-past (k .by-edit) c j (tagged ps) ∙ ap (λ z. editEntry (k .by-edit) z (c ++ tagged ps)) e;
     }))
 
 edited-amends : (G : Row → List Row) (n : ℕ) (a b : List Entry) → Edited G (placeIn n (map numberOf b)) a b → Amends G n a b
@@ -266,10 +253,10 @@ unfolding committedOn if_then_else_
 committed-on j p =
     by (p .frozen) (λ h. record { by-edit = pendCommit; edits = pendCommit-edits; is = rw h }) (λ h. record { by-edit = commitNow; edits = kept-edits; is = rw h })
 
-pub amends-remove : (n : ℕ) (ps : List Page) → AllOf PageOk ps → Amends away n (entries (remove n ps)) (entries ps)
-amends-remove n ps a = rw (entries-removeRow (placeIn n (numbers ps)) ps)
-    (edited-amends away n _ (entries ps) (edited away removedOn removed-on removeNow removed-edits (placeIn n (numbers ps)) ps a))
+pub amends-remove : (n : ℕ) (ps : List Page) → AllOf PageOk ps → Amends away n (tagged (remove n ps)) (tagged ps)
+amends-remove n ps a = rw (tagged-removeRow (placeIn n (numbers ps)) ps)
+    (edited-amends away n _ (tagged ps) (edited away removedOn removed-on removeNow removed-edits (placeIn n (numbers ps)) ps a))
 
-pub amends-commit : (n : ℕ) (ps : List Page) → AllOf PageOk ps → Amends kept-row n (entries (commit n ps)) (entries ps)
-amends-commit n ps a = rw (entries-commitRow (placeIn n (numbers ps)) ps)
-    (edited-amends kept-row n _ (entries ps) (edited kept-row committedOn (λ j p ok. committed-on j p) commitNow kept-edits (placeIn n (numbers ps)) ps a))
+pub amends-commit : (n : ℕ) (ps : List Page) → AllOf PageOk ps → Amends kept-row n (tagged (commit n ps)) (tagged ps)
+amends-commit n ps a = rw (tagged-commitRow (placeIn n (numbers ps)) ps)
+    (edited-amends kept-row n _ (tagged ps) (edited kept-row committedOn (λ j p ok. committed-on j p) commitNow kept-edits (placeIn n (numbers ps)) ps a))

@@ -6,11 +6,12 @@ use Rattle.image_rows.specs.Rows.{Row, number, isAt, isOwn}
 use Rattle.model.specs.State.{Page}
 use Rattle.model.specs.Rules.{asCommitted}
 use Rattle.model.specs.Sight.{rows, held}
+use Rattle.model.specs.Transactions.{tagged}
 use Rattle.basics.proofs.Elements.{Pairs, Mem, here, all-map, there, mem-all, eqb-self, eqb-true, all-keep, all-mem, all-append, mem-keep, any-off, last-off, last-any, last-skip}
 use Rattle.basics.proofs.Elements.{last-some, last-here}
 use Rattle.model.proofs.ByNumber.{Op, toCommit, isRow, toRemove, removeAll, planKey, ownAt, planRows, placeIn, plan-skip, plan-take}
 use Rattle.model.proofs.Sound.{PageOk, removeRow-ok, commitRow-ok}
-use Rattle.model.proofs.Rows.{amend, away, kept-row, Alike, Differ, Entry, Sub, plain, liveRows, entries, sub-refl, sub-pairs, sub-trans, pairs-plain}
+use Rattle.model.proofs.Rows.{amend, away, kept-row, Alike, Differ, Entry, Sub, plain, liveRows, sub-refl, sub-pairs, sub-trans, pairs-plain}
 use Rattle.model.proofs.Rows.{held-plain, rows-live}
 use Rattle.model.proofs.Places.{numbers, remove, commit, perform, amends-remove, amends-commit}
 
@@ -44,22 +45,22 @@ gather-commits n os (r ∷ rs) = by (isRow n r) (λ h. rw (h, gather-commits n o
 pub differ-alike : (a b c d : Row) → Alike a b → Alike c d → Differ b d → Differ a c
 differ-alike a b c d e f h k = h (sym (e .2) ∙ k ∙ f .2)
 
--- the operations os on the entries b give a
+-- the operations os on the tagged b give a
 abbrev Performed : List Op → List Entry → List Entry → Type 0
 Performed os a b = Sub (plain a) (plain b) × (liveRows a ≡ gather (rowAfter os) (liveRows b))
 
-perform-entries : (os : List Op) (ps : List Page) → AllOf PageOk ps → Pairs Differ (plain (entries ps))
-    → Performed os (entries (perform os ps)) (entries ps)
+perform-entries : (os : List Op) (ps : List Page) → AllOf PageOk ps → Pairs Differ (plain (tagged ps))
+    → Performed os (tagged (perform os ps)) (tagged ps)
 unfolding perform
-perform-entries [] ps a d = (sub-refl (plain (entries ps)), sym (gather-nil (liveRows (entries ps))))
+perform-entries [] ps a d = (sub-refl (plain (tagged ps)), sym (gather-nil (liveRows (tagged ps))))
 perform-entries (toCommit n ∷ os) ps a d =
     let m = amends-commit n ps a in
     let r = perform-entries os (commit n ps) (commitRow-ok (placeIn n (numbers ps)) ps a) (sub-pairs Differ differ-alike (m .0) d) in
-    (sub-trans (r .0) (m .0), r .1 ∙ ap (gather (rowAfter os)) (m .1 (pairs-plain Differ (entries ps) d)) ∙ gather-commits n os (liveRows (entries ps)))
+    (sub-trans (r .0) (m .0), r .1 ∙ ap (gather (rowAfter os)) (m .1 (pairs-plain Differ (tagged ps) d)) ∙ gather-commits n os (liveRows (tagged ps)))
 perform-entries (toRemove n ∷ os) ps a d =
     let m = amends-remove n ps a in
     let r = perform-entries os (remove n ps) (removeRow-ok (placeIn n (numbers ps)) ps a) (sub-pairs Differ differ-alike (m .0) d) in
-    (sub-trans (r .0) (m .0), r .1 ∙ ap (gather (rowAfter os)) (m .1 (pairs-plain Differ (entries ps) d)) ∙ gather-removes n os (liveRows (entries ps)))
+    (sub-trans (r .0) (m .0), r .1 ∙ ap (gather (rowAfter os)) (m .1 (pairs-plain Differ (tagged ps) d)) ∙ gather-removes n os (liveRows (tagged ps)))
 
 pub perform-rows : (os : List Op) (ps : List Page) → AllOf PageOk ps → Pairs Differ (held ps)
     → Sub (held (perform os ps)) (held ps) × (rows (perform os ps) ≡ gather (rowAfter os) (rows ps))

@@ -8,8 +8,10 @@ use Rattle.model.specs.State.{Held, Page}
 use Rattle.model.specs.Rules.{isRemoving, applied, live, fresh, joined, settle, listOf, asCommitted, isCommitting, around, withoutPending, splitAll}
 use Rattle.model.specs.Rules.{thawOn, thaw, isPending, isFrozen, commitNow, removeNow, pendRemove, withPending, isAdding, pendCommit, freeze}
 use Rattle.model.specs.Sight.{rows, held}
-use Rattle.basics.proofs.Elements.{eqb-true, nothing-left, has-some, here, Pairs, all-map}
-use Rattle.basics.proofs.Kit.{zero, suc}
+use Rattle.model.specs.Transactions.{tagged}
+use Rattle.basics.proofs.Elements.{eqb-true, nothing-left, has-some, Pairs, all-map}
+use Rattle.basics.proofs.Kit.{zero, suc, length-map}
+use Rattle.basics.proofs.Lists.{map-append}
 use Rattle.model.proofs.Splits.{together, Small, split-all}
 use Rattle.model.proofs.ByNumber.{isRow, placeIn}
 use Rattle.model.proofs.Sound.{PageOk, small, live-withoutPending}
@@ -20,13 +22,9 @@ use Rattle.model.proofs.RuleCases.{settle-cases}
 abbrev pub Entry : Type 0
 Entry = ℕ × Held
 
-unfoldable pub withTable : ℕ → List Held → List Entry
-withTable t [] = []
-withTable t (x ∷ xs) = (t, x) ∷ withTable t xs
-
-unfoldable pub entries : List Page → List Entry
-entries [] = []
-entries (p ∷ ps) = withTable (p .table) (p .tuples) ++ entries ps
+-- the tuples of a page of table t; those of all pages are `tagged`
+abbrev pub withTable : ℕ → List Held → List Entry
+withTable t hs = map (λ h. (t, h)) hs
 
 -- held: the tuples as they are
 abbrev pub asRow : Entry → Row
@@ -43,19 +41,15 @@ liveRows (e ∷ es) = if isRemoving (e .1 .pending) then liveRows es else (e .0,
 -- ---- appending
 
 pub table-append : (t : ℕ) (a b : List Held) → withTable t (a ++ b) ≡ withTable t a ++ withTable t b
-unfolding withTable
-table-append t [] b = refl
-table-append t (x ∷ a) b = rw (table-append t a b)
+table-append t a b = map-append _ a b
 
 pub table-length : (t : ℕ) (hs : List Held) → length (withTable t hs) ≡ length hs
-unfolding withTable
-table-length t [] = refl
-table-length t (h ∷ hs) = ap suc (table-length t hs)
+table-length t hs = length-map hs _
 
-pub entries-append : (a b : List Page) → entries (a ++ b) ≡ entries a ++ entries b
-unfolding entries
-entries-append [] b = refl
-entries-append (p ∷ a) b = rw (entries-append a b, append-assoc)
+pub tagged-append : (a b : List Page) → tagged (a ++ b) ≡ tagged a ++ tagged b
+unfolding tagged
+tagged-append [] b = refl
+tagged-append (p ∷ a) b = rw (tagged-append a b, append-assoc)
 
 pub live-append : (a b : List Entry) → liveRows (a ++ b) ≡ liveRows a ++ liveRows b
 unfolding liveRows if_then_else_
@@ -63,55 +57,54 @@ live-append [] b = refl
 live-append (r ∷ a) b = by (isRemoving (r .1 .pending)) (λ h. rw (h, live-append a b)) (λ h. rw (h, live-append a b))
 
 pub plain-append : (a b : List Entry) → plain (a ++ b) ≡ plain a ++ plain b
-plain-append [] b = refl
-plain-append (e ∷ a) b = rw (plain-append a b)
+plain-append a b = map-append asRow a b
 
 plain-rows : (t : ℕ) (ts : List Held) → plain (withTable t ts) ≡ rowsOf t (bare ts)
-unfolding withTable rowsOf
+unfolding rowsOf
 plain-rows t [] = refl
 plain-rows t (x ∷ xs) = rw (plain-rows t xs)
 
 live-rows : (t : ℕ) (ts : List Held) → liveRows (withTable t ts) ≡ rowsOf t (live ts)
-unfolding liveRows withTable rowsOf live if_then_else_
+unfolding liveRows rowsOf live if_then_else_
 live-rows t [] = refl
 live-rows t (x ∷ xs) = by (isRemoving (x .pending)) (λ h. rw (h, live-rows t xs)) (λ h. rw (h, live-rows t xs))
 
-pub held-plain : (ps : List Page) → held ps ≡ plain (entries ps)
-unfolding held entries
+pub held-plain : (ps : List Page) → held ps ≡ plain (tagged ps)
+unfolding held tagged
 held-plain [] = refl
 held-plain (p ∷ ps) = rw (held-plain ps, plain-append (withTable (p .table) (p .tuples)), plain-rows (p .table) (p .tuples))
 
-pub rows-live : (ps : List Page) → rows ps ≡ liveRows (entries ps)
-unfolding rows entries liveRows
+pub rows-live : (ps : List Page) → rows ps ≡ liveRows (tagged ps)
+unfolding rows tagged liveRows
 rows-live [] = refl
 rows-live (p ∷ ps) = rw (rows-live ps, live-append (withTable (p .table) (p .tuples)), live-rows (p .table) (p .tuples))
 
-pub entries-fresh : (t : ℕ) (tss : List (List Held)) → entries (map (fresh t) tss) ≡ withTable t (together tss)
-unfolding entries together fresh withTable
-entries-fresh t [] = refl
-entries-fresh t (ts ∷ tss) = rw (entries-fresh t tss, table-append t ts (together tss))
+pub tagged-fresh : (t : ℕ) (tss : List (List Held)) → tagged (map (fresh t) tss) ≡ withTable t (together tss)
+unfolding tagged together fresh
+tagged-fresh t [] = refl
+tagged-fresh t (ts ∷ tss) = rw (tagged-fresh t tss, table-append t ts (together tss))
 
--- ---- settling leaves the entries
+-- ---- settling leaves the tagged
 
-entries-joined : (p q : Page) (ps : List Page) → p .table ≡ q .table → entries (joined p q ∷ ps) ≡ entries (p ∷ q ∷ ps)
-unfolding entries joined fresh
-entries-joined p q ps e = rw (← e, table-append (p .table), append-assoc)
+tagged-joined : (p q : Page) (ps : List Page) → p .table ≡ q .table → tagged (joined p q ∷ ps) ≡ tagged (p ∷ q ∷ ps)
+unfolding tagged joined fresh
+tagged-joined p q ps e = rw (← e, table-append (p .table), append-assoc)
 
-pub entries-settle : (rest : List Page) (o : Option Page) (p : Page) (ps : List Page) → (0 < length (p .tuples) → entries rest ≡ entries (p ∷ []))
-    → entries (settle rest o p ps) ≡ entries (listOf o ++ p ∷ ps)
+pub tagged-settle : (rest : List Page) (o : Option Page) (p : Page) (ps : List Page) → (0 < length (p .tuples) → tagged rest ≡ tagged (p ∷ []))
+    → tagged (settle rest o p ps) ≡ tagged (listOf o ++ p ∷ ps)
 unfolding listOf
-entries-settle rest o p ps r =
-    settle-cases (λ z. entries z ≡ entries (listOf o ++ p ∷ ps)) rest o p ps
+tagged-settle rest o p ps r =
+    settle-cases (λ z. tagged z ≡ tagged (listOf o ++ p ∷ ps)) rest o p ps
     (λ h. behind ps (p ∷ ps) (empty-page (nothing-left (p .tuples) h)))
-    (λ h q e j. entries-joined q p ps (j .table) ∙ ap (λ z. entries (listOf z ++ p ∷ ps)) (sym e))
-    (λ h q qs e j. behind (joined p q ∷ qs) (p ∷ ps) (entries-joined p q qs (j .table) ∙ ap (λ z. entries (p ∷ z)) (sym e)))
-    (λ h. behind (rest ++ ps) (p ∷ ps) (entries-append rest ps ∙ ap (λ z. z ++ entries ps) (r (has-some (p .tuples) h)) ∙ sym (entries-append (p ∷ []) ps)))
+    (λ h q e j. tagged-joined q p ps (j .table) ∙ ap (λ z. tagged (listOf z ++ p ∷ ps)) (sym e))
+    (λ h q qs e j. behind (joined p q ∷ qs) (p ∷ ps) (tagged-joined p q qs (j .table) ∙ ap (λ z. tagged (p ∷ z)) (sym e)))
+    (λ h. behind (rest ++ ps) (p ∷ ps) (tagged-append rest ps ∙ ap (λ z. z ++ tagged ps) (r (has-some (p .tuples) h)) ∙ sym (tagged-append (p ∷ []) ps)))
   where
-    behind : (a b : List Page) → entries a ≡ entries b → entries (listOf o ++ a) ≡ entries (listOf o ++ b)
-    behind a b e = entries-append (listOf o) a ∙ ap (λ z. entries (listOf o) ++ z) e ∙ sym (entries-append (listOf o) b)
+    behind : (a b : List Page) → tagged a ≡ tagged b → tagged (listOf o ++ a) ≡ tagged (listOf o ++ b)
+    behind a b e = tagged-append (listOf o) a ∙ ap (λ z. tagged (listOf o) ++ z) e ∙ sym (tagged-append (listOf o) b)
 
-    empty-page : p .tuples ≡ [] → entries ps ≡ entries (p ∷ ps)
-    empty-page e = unfold entries withTable in rw e
+    empty-page : p .tuples ≡ [] → tagged ps ≡ tagged (p ∷ ps)
+    empty-page e = unfold tagged in rw e
 
 -- ---- a sublist, whose rows keep all but that they may be committed since
 
@@ -173,33 +166,10 @@ live-sub (e ∷ es) = by (isRemoving (e .1 .pending)) (λ h. rw h (skip (live-su
     go true h = rw h (refl, refl, refl, refl, settled)
     go false h = rw h (refl, refl, refl, refl, still)
 
--- ---- what is done at one page, to all entries
-
-module _ (P : List Entry → List Entry → Type 0) (hit : Page → Bool) (f : Option Page → Page → List Page → List Page)
-    (none-held : P [] [])
-    (past : (p : Page) → hit p ≡ false → (a b : List Entry) → P a b
-    → P (withTable (p .table) (p .tuples) ++ a) (withTable (p .table) (p .tuples) ++ b))
-    (here : (o : Option Page) (p : Page) (ps : List Page) → AllOf (λ q. hit q ≡ false) (listOf o) → hit p ≡ true → AllOf PageOk (p ∷ ps)
-    → P (entries (f o p ps)) (entries (listOf o ++ p ∷ ps))) where
-  past-list : (qs : List Page) → AllOf (λ q. hit q ≡ false) qs → (a b : List Entry) → P a b → P (entries qs ++ a) (entries qs ++ b)
-  unfolding entries
-  past-list [] h a b r = r
-  past-list (q ∷ qs) h a b r =
-      let c = withTable (q .table) (q .tuples) in
-      rw (append-assoc c (entries qs) a, append-assoc c (entries qs) b) (past q (h .0) (entries qs ++ a) (entries qs ++ b) (past-list qs (h .1) a b r))
-
-  around-held : (o : Option Page) (ps : List Page) → AllOf (λ q. hit q ≡ false) (listOf o) → AllOf PageOk ps
-      → P (entries (around hit f o ps)) (entries (listOf o ++ ps))
-  unfolding around listOf
-  around-held o [] h k = rw (append-nil (listOf o)) (subst (λ z. P z z) (append-nil (entries (listOf o))) (past-list (listOf o) h [] [] none-held))
-  around-held o (p ∷ ps) h k =
-      by (hit p) (λ e. rw (e, around) (here o p ps h e k))
-      (λ e. rw (e, around, entries-append (listOf o), entries-append (listOf o)) (past-list (listOf o) h _ _ (around-held (some p) ps (e, tt) (k .1))))
-
 -- ---- thawing: the live rows stay
 
 withoutPending-plain : (t : ℕ) (xs : List Tuple) → (plain (withTable t (map withoutPending xs)) ≡ rowsOf t xs) × (liveRows (withTable t (map withoutPending xs)) ≡ rowsOf t xs)
-unfolding liveRows withTable rowsOf withoutPending if_then_else_ applied isRemoving isCommitting
+unfolding liveRows rowsOf withoutPending if_then_else_ applied isRemoving isCommitting
 withoutPending-plain t [] = (refl, refl)
 withoutPending-plain t (x ∷ xs) = let r = withoutPending-plain t xs in (rw (r .0), rw (r .1))
 
@@ -217,27 +187,27 @@ still-append a b c d s t = (
 still-refl : (a : List Entry) → Still a a
 still-refl a = (sub-refl (plain a), refl)
 
-entries-parts : (t : ℕ) (ts : List Held) → AllOf Small ts → 0 < length ts → entries (map (fresh t) (splitAll ts)) ≡ entries (fresh t ts ∷ [])
-entries-parts t ts s l = entries-fresh t (splitAll ts) ∙ ap (withTable t) (split-all ts l s .1) ∙ (unfold entries fresh in sym (append-nil (withTable t ts)))
+tagged-parts : (t : ℕ) (ts : List Held) → AllOf Small ts → 0 < length ts → tagged (map (fresh t) (splitAll ts)) ≡ tagged (fresh t ts ∷ [])
+tagged-parts t ts s l = tagged-fresh t (splitAll ts) ∙ ap (withTable t) (split-all ts l s .1) ∙ (unfold tagged fresh in sym (append-nil (withTable t ts)))
 
 still-mid : (o : Option Page) (p : Page) (ps : List Page) (X : List Entry) → Still X (withTable (p .table) (p .tuples))
-    → Still (entries (listOf o) ++ (X ++ entries ps)) (entries (listOf o ++ p ∷ ps))
-unfolding entries
-still-mid o p ps X s = rw (entries-append (listOf o) (p ∷ ps))
-    (still-append (entries (listOf o)) (entries (listOf o)) _ _ (still-refl (entries (listOf o)))
-    (still-append X (withTable (p .table) (p .tuples)) (entries ps) (entries ps) s (still-refl (entries ps))))
+    → Still (tagged (listOf o) ++ (X ++ tagged ps)) (tagged (listOf o ++ p ∷ ps))
+unfolding tagged
+still-mid o p ps X s = rw (tagged-append (listOf o) (p ∷ ps))
+    (still-append (tagged (listOf o)) (tagged (listOf o)) _ _ (still-refl (tagged (listOf o)))
+    (still-append X (withTable (p .table) (p .tuples)) (tagged ps) (tagged ps) s (still-refl (tagged ps))))
 
 still-applied : (t : ℕ) (ts : List Held) → Still (withTable t (map withoutPending (live ts))) (withTable t ts)
 still-applied t ts =
     let c = withoutPending-plain t (live ts) in
     (subst (λ z. Sub z (plain (withTable t ts))) (live-rows t ts ∙ sym (c .0)) (live-sub (withTable t ts)), c .1 ∙ sym (live-rows t ts))
 
-pub entries-page : (o : Option Page) (p : Page) (ps : List Page)
-    → entries (listOf o ++ p ∷ ps) ≡ entries (listOf o) ++ (withTable (p .table) (p .tuples) ++ entries ps)
-unfolding entries
-entries-page o p ps = entries-append (listOf o) (p ∷ ps)
+pub tagged-page : (o : Option Page) (p : Page) (ps : List Page)
+    → tagged (listOf o ++ p ∷ ps) ≡ tagged (listOf o) ++ (withTable (p .table) (p .tuples) ++ tagged ps)
+unfolding tagged
+tagged-page o p ps = tagged-append (listOf o) (p ∷ ps)
 
-still-thawOn : (b : ℕ) (o : Option Page) (p : Page) (ps : List Page) → PageOk p → Still (entries (thawOn b o p ps)) (entries (listOf o ++ p ∷ ps))
+still-thawOn : (b : ℕ) (o : Option Page) (p : Page) (ps : List Page) → PageOk p → Still (tagged (thawOn b o p ps)) (tagged (listOf o ++ p ∷ ps))
 unfolding thawOn if_then_else_ fresh
 still-thawOn b o p ps ok =
     let ts = map withoutPending (live (p .tuples)) in
@@ -245,19 +215,26 @@ still-thawOn b o p ps ok =
     by (any (λ x. isPending (x .pending)) (p .tuples))
     (λ h. rw (
       h,
-      entries-settle (map (fresh (p .table)) (splitAll ts)) o q ps
-          (entries-parts (p .table) ts (small ts (live-withoutPending (p .tuples) (ok .0)))),
-      entries-page o q ps,
+      tagged-settle (map (fresh (p .table)) (splitAll ts)) o q ps
+          (tagged-parts (p .table) ts (small ts (live-withoutPending (p .tuples) (ok .0)))),
+      tagged-page o q ps,
     )
     (still-mid o p ps (withTable (p .table) ts) (still-applied (p .table) (p .tuples))))
-    (λ h. rw (h, entries-page o (record { table = p .table; block = b; frozen = false; tuples = p .tuples }) ps)
+    (λ h. rw (h, tagged-page o (record { table = p .table; block = b; frozen = false; tuples = p .tuples }) ps)
     (still-mid o p ps (withTable (p .table) (p .tuples)) (still-refl (withTable (p .table) (p .tuples)))))
 
+still-around : (b : ℕ) (o : Option Page) (ps : List Page) → AllOf PageOk ps → Still (tagged (around isFrozen (thawOn b) o ps)) (tagged (listOf o ++ ps))
+unfolding around listOf
+still-around b o [] k = rw (append-nil (listOf o)) (still-refl (tagged (listOf o)))
+still-around b o (p ∷ ps) k =
+    by (isFrozen p) (λ e. rw (e, around) (still-thawOn b o p ps (k .0)))
+    (λ e. let c = tagged (listOf o) in
+    rw (e, around, tagged-append (listOf o), tagged-append (listOf o)) (still-append c c _ _ (still-refl c) (still-around b (some p) ps (k .1))))
+
 -- a step of the checkpoint changes nothing that a transaction sees
-still-thaw : (b : ℕ) (ps : List Page) → AllOf PageOk ps → Still (entries (thaw b ps)) (entries ps)
-unfolding thaw listOf liveRows entries
-still-thaw b ps a = around-held Still isFrozen (thawOn b) (empty, refl)
-    (λ p h a b s. let c = withTable (p .table) (p .tuples) in still-append c c a b (still-refl c) s) (λ o p ps h k ok. still-thawOn b o p ps (ok .0)) none ps tt a
+still-thaw : (b : ℕ) (ps : List Page) → AllOf PageOk ps → Still (tagged (thaw b ps)) (tagged ps)
+unfolding thaw listOf
+still-thaw b ps a = still-around b none ps a
 
 -- ---- removing and committing: the live row of that number is taken away, or committed
 
@@ -274,7 +251,7 @@ kept-row r = (r .0, asCommitted (r .1)) ∷ []
 abbrev pub Differ : Row → Row → Type 0
 Differ a b = a .1 .number ≢ b .1 .number
 
--- the entries of two rows that differ
+-- the tagged of two rows that differ
 abbrev pub Apart : Entry → Entry → Type 0
 Apart a b = Differ (asRow a) (asRow b)
 
@@ -345,16 +322,15 @@ module _ (g : Held → List Held) (G : Row → List Row) (E : Edits g G) where
 
 pub all-table : (P : Entry → Type 0) (Q : Held → Type 0) (t : ℕ) → ((x : Held) → Q x → P (t, x)) → (ts : List Held) → AllOf Q ts
     → AllOf P (withTable t ts)
-unfolding withTable
 all-table P Q t f [] a = tt
 all-table P Q t f (x ∷ xs) a = (f x (a .0), all-table P Q t f xs (a .1))
 
 pub removed-edits : Edits removeNow away
-unfolding removeNow away withTable liveRows
+unfolding removeNow away liveRows
 removed-edits = record { dead = λ t x h. refl; alive = λ t x h. refl; among = λ t x. skip empty }
 
 pub pendRemove-edits : Edits pendRemove away
-unfolding pendRemove away withTable liveRows if_then_else_ withPending isRemoving
+unfolding pendRemove away liveRows if_then_else_ withPending isRemoving
 pendRemove-edits = record {
   dead = λ t x h. by (isAdding (x .pending)) (λ k. rw k) (λ k. rw k);
   alive = λ t x h. by (isAdding (x .pending)) (λ k. rw k) (λ k. rw k);
@@ -362,7 +338,7 @@ pendRemove-edits = record {
 }
 
 pub kept-edits : Edits commitNow kept-row
-unfolding commitNow kept-row withTable liveRows if_then_else_ asCommitted applied withPending
+unfolding commitNow kept-row liveRows if_then_else_ asCommitted applied withPending
 kept-edits = record {
   dead = λ t x h. rw h;
   alive = λ t x h. by (isCommitting (x .pending)) (λ k. rw (h, k)) (λ k. rw (h, k));
@@ -370,7 +346,7 @@ kept-edits = record {
 }
 
 pub pendCommit-edits : Edits pendCommit kept-row
-unfolding pendCommit commitNow kept-row withTable liveRows if_then_else_ asCommitted applied withPending isRemoving isCommitting
+unfolding pendCommit commitNow kept-row liveRows if_then_else_ asCommitted applied withPending isRemoving isCommitting
 pendCommit-edits = record {
   dead = λ t x h. by (isAdding (x .pending)) (λ k. rw (k, h)) (λ k. rw (k, h, h));
   alive = λ t x h. by (isAdding (x .pending)) (λ k. by (isCommitting (x .pending)) (λ m. rw (k, h, m)) (λ m. rw (k, h, m)))
@@ -396,7 +372,7 @@ thaw-rows b ps a =
     let r = still-thaw b ps a in
     (rw (held-plain ps, held-plain (thaw b ps)) (r .0), rows-live (thaw b ps) ∙ r .1 ∙ sym (rows-live ps))
 
--- ---- pairs of rows and of entries
+-- ---- pairs of rows and of tagged
 
 pub pairs-plain : (R : Row → Row → Type 0) (es : List Entry) → Pairs R (plain es) → Pairs (λ a b. R (asRow a) (asRow b)) es
 pairs-plain R [] p = tt
