@@ -3,6 +3,7 @@
 -- have distinct numbers the plan by number is the plan by place.
 use Rattle.basics.proofs.Kit.{_≡_, Bool, true, false, _&&_, not, List, [], _∷_, _++_, map, ℕ, suc, eqb}
 use Rattle.basics.specs.Basics.{if_then_else_, any, keep}
+use Rattle.basics.specs.Lists.{firstIndex}
 use Rattle.image_rows.specs.Rows.{Row, number, isOwn, isAt}
 use Rattle.model.specs.State.{Held}
 
@@ -54,6 +55,5 @@ abbrev pub numbersOn : List Held → List ℕ
 numbersOn hs = map (λ h. h .tuple .number) hs
 
 -- the place of the first n, the length if there is none
-unfoldable pub placeIn : ℕ → List ℕ → ℕ
-placeIn n [] = 0
-placeIn n (x ∷ xs) = if eqb x n then 0 else suc (placeIn n xs)
+abbrev pub placeIn : ℕ → List ℕ → ℕ
+placeIn n xs = firstIndex (λ x. eqb x n) xs

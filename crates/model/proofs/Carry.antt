@@ -12,6 +12,7 @@ use Rattle.model.proofs.ByNumber.{Op, toCommit, toRemove, placeIn}
 use Rattle.model.proofs.Rows.{held-plain, asRow, numberOf}
 use Rattle.model.proofs.Places.{numbers, Less, remove-numbers, commit-numbers, remove, commit, perform}
 use Rattle.basics.proofs.Parts.{removeAt-seam}
+use Rattle.basics.specs.Lists.{firstIndex}
 
 -- operations in two parts
 pub carry-append : (n : ℕ) (a b : List PlaceOp) (ps : List Page) → carryOut n (a ++ b) ps ≡ carryOut n b (carryOut n a ps)
@@ -51,7 +52,7 @@ tail-more ns k j ms t h =
     }
 
 place-seam : (n : ℕ) (a b : List ℕ) → AllOf (λ x. x ≢ n) a → placeIn n (a ++ n ∷ b) ≡ length a
-unfolding placeIn if_then_else_
+unfolding firstIndex if_then_else_
 place-seam n [] b h = rw (eqb-self n)
 place-seam n (x ∷ a) b h = by (eqb x n) (λ e. absurd (h .0 (eqb-true x n e))) (λ e. rw (e, place-seam n a b (h .1)))
 

@@ -12,6 +12,7 @@ use Rattle.model.specs.Transactions.{tagged}
 use Rattle.basics.proofs.Elements.{eqb-true, nothing-left, has-some, Pairs, all-map}
 use Rattle.basics.proofs.Kit.{zero, suc, length-map}
 use Rattle.basics.proofs.Lists.{map-append}
+use Rattle.basics.specs.Lists.{firstIndex}
 use Rattle.model.proofs.Splits.{together, Small, split-all}
 use Rattle.model.proofs.ByNumber.{isRow, placeIn}
 use Rattle.model.proofs.Sound.{PageOk, small, live-withoutPending}
@@ -307,7 +308,7 @@ module _ (g : Held → List Held) (G : Row → List Row) (E : Edits g G) where
   edit-sub (suc i) (e ∷ es) = take (refl, refl, refl, refl, still) (edit-sub i es)
 
   edit-live : (n : ℕ) (es : List Entry) → Pairs Apart es → liveRows (editEntry g (placeIn n (map numberOf es)) es) ≡ amend G n (liveRows es)
-  unfolding editEntry placeIn liveRows amend isNumber if_then_else_
+  unfolding editEntry firstIndex liveRows amend isNumber if_then_else_
   edit-live n [] d = refl
   edit-live n (e ∷ es) d =
       by (eqb (numberOf e) n)
