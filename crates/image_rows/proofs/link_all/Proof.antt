@@ -12,7 +12,7 @@ abbrev μ-loop : tie.MeasureT-loop
 μ-loop keys count heads₀ links₀ i₀ heads links i = count - i
 
 loop-holds : tie.Need-loop-holds Inv-loop μ-loop
-loop-holds c = let s = c .before .before .before in (linking-start (s .args .keys .now) (s .args .count) (s .pre .0 .1), refl)
+loop-holds c = let s = c .before .before .before in (linking-start (s .args .keys .now) (s .args .count) (s .pre .empty), refl)
 
 cast-find : tie.Need-cast-find Inv-loop μ-loop
 cast-find c = let p2 = c .before .before in let p = p2 .before .before .before .loop in omega (arith, table-chain (p .inv .0 .table) _ (p2 .bucket .ensures .0) .rows)

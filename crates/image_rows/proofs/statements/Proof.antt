@@ -6,7 +6,7 @@ use Rattle.image_rows.proofs.statements.Statement.{statement}
 use Rattle.image_rows.proofs.statements.Tie as tie
 
 link-all-requires : tie.Need-link-all-requires
-link-all-requires c κs = ((omega arith, empty-table _ _), (omega arith, omega arith))
+link-all-requires c κs = record { few = omega arith; rows = omega arith; linked = omega arith; empty = empty-table _ _ }
 
 returns : tie.Need-returns
 returns c =
