@@ -38,13 +38,13 @@ loop-holds c =
 block-at-requires : tie.Need-block-at-requires Inv-loop μ-loop
 block-at-requires c κs =
     let p3 = c .before .before .before in let p11 = p3 .before .before .before .before .before .before .before .before in
-    let a = p11 .args in let p = p3 .loop in omega (arith, within (a .image .now) (a .entries .now) (p .i) (p11 .pre .0) (omega arith), c .wide2 .ensures)
+    let a = p11 .args in let p = p3 .loop in omega (arith, within (a .image .now) (a .entries .now) (p .i) (p11 .pre .inside) (omega arith), c .wide2 .ensures)
 
 add-rows-requires : tie.Need-add-rows-requires Inv-loop μ-loop
 add-rows-requires c κs =
     let p5 = c .before .before .before .before .before in let p10 = p5 .before .before .before .before .before in
     let p14 = p10 .before .before .before .before in let p22 = p14 .before .before .before .before .before .before .before .before in
-    let g = found p5 in let k = p22 .pre .1 in let p = p14 .loop in let l = p .inv .1 in let r = p .inv .0 .room in let m = g .room-left in (
+    let g = found p5 in let k = p22 .pre in let p = p14 .loop in let l = p .inv .1 in let r = p .inv .0 .room in let m = g .room-left in (
       omega (arith, p10 .block-at),
       record { places = omega (arith, k, l, r, m); numbers = omega (arith, k, l, r, m); owners = omega (arith, k, l, r, m); marks = omega (arith, k, l, r, m) },
     )
@@ -54,7 +54,7 @@ add-to c =
     let p15 = c .before .before .before .before .before .before .before .before .before .before .before .before .before .before .before in
     let p24 = p15 .before .before .before .before .before .before .before .before .before in
     let p32 = p24 .before .before .before .before .before .before .before .before in
-    let g = found p15 in omega (arith, g .room-left, p24 .loop .inv .0 .room, p32 .pre .1, p32 .good, c .wide3 .ensures)
+    let g = found p15 in omega (arith, g .room-left, p24 .loop .inv .0 .room, p32 .pre .few, p32 .good, c .wide3 .ensures)
 
 same-length : tie.Need-same-length Inv-loop μ-loop
 same-length c = c .before .before .before .before .before .before .before .before .loop .inv .1 .0
@@ -104,7 +104,7 @@ loop-again c =
 columns-ok-requires : tie.Need-columns-ok-requires Inv-loop μ-loop
 columns-ok-requires c κs = let s = c .before .before .before .before .before .before .before .before .before .before .before .before .before in
     let p = c .before .before .before .before .before .loop in
-    let r = p .inv .0 .room in let l = p .inv .1 in let h = s .pre .1 in
+    let r = p .inv .0 .room in let l = p .inv .1 in let h = s .pre in
     (omega (arith, r, h), record { places = omega (arith, r, l, h); numbers = omega (arith, r, l, h); owners = omega (arith, r, l, h); marks = omega (arith, r, l, h) })
 
 same-length-5 : tie.Need-same-length-5 Inv-loop μ-loop
