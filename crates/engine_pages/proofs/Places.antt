@@ -56,15 +56,6 @@ now-becomes {m} {m'} {R} {E} b c e =
 
 -- ---- what is known of a page
 
-pub few-rows : {m : List ℕ} → Room m → length (flatOf m .rows) ≤ 1024
-few-rows {m} r = let k : Known m = known m r in omega arith
-
-pub few-pages : {m : List ℕ} → Room m → length (flatOf m .entries) ≤ 2048
-few-pages {m} r = let k : Known m = known m r in omega arith
-
-pub long : {m : List ℕ} → Room m → 1024 ≤ length m
-long {m} r = let k : Known m = known m r in omega arith
-
 -- what stands after a change of rows
 pub still-there : {m m1 : List ℕ} {f : Flat} (p : ℕ) → Becomes m m1 f → p < length (f .entries) → p < length (flatOf m1 .entries)
 still-there p b h = omega (arith, ap (λ (x : Flat). length (x .entries)) (b .flat))

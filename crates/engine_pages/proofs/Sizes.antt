@@ -13,7 +13,7 @@ use Rattle.memory_layout.specs.Flat.{flatOf, capacityOf, rowIn, noRow}
 use Rattle.memory_layout.specs.Views.{lengthOf, stateOf}
 use Rattle.memory_rows.proofs.Fields.{size-is, owner-most}
 use Rattle.memory_layout.specs.Elements.{rowsFrom, RowRange}
-use Rattle.engine_pages.proofs.Places.{few-rows}
+use Rattle.memory_layout.proofs.Laws.{few-rows}
 use Rattle.basics.proofs.Tabs.{all-by, tab-part}
 
 -- ---- no row is large

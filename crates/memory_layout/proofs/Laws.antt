@@ -141,6 +141,20 @@ known m r =
       directories-are = directories-length m;
     }
 
+module _ {m : List ℕ} (r : Room m) where
+  pub few-rows : length (flatOf m .rows) ≤ 1024
+  few-rows = omega (arith, known m r)
+
+  pub few-pages : length (flatOf m .entries) ≤ 2048
+  few-pages = omega (arith, known m r)
+
+  pub few-named : length (flatOf m .named) ≤ 1024
+  few-named = omega (arith, known m r)
+
+  -- the head is there
+  pub room-long : 1024 ≤ length m
+  room-long = omega (arith, known m r)
+
 -- ---- the whole test: room, and no page is empty
 
 -- what the passes over the tables and the pages found

@@ -3,7 +3,7 @@ use Rattle.engine_pages.proofs.Places.{now-held}
 use Rattle.model.specs.Places.{removeRow}
 use Rattle.engine_pages.specs.Pages.{pagesOf}
 use Rattle.engine_close.proofs.Closing.{turned, one-removed}
-use Rattle.engine_close.proofs.Memory.{row-on, few-rows}
+use Rattle.engine_close.proofs.Memory.{row-on, few-tagged}
 use Rattle.memory_layout.proofs.Laws.{holds-room}
 use Rattle.basics.proofs.Kit.{_-_, needs, arith}
 use Rattle.engine_close.proofs.remove_row.Statement.{statement}
@@ -21,7 +21,7 @@ remove-at-requires c κs = let p6 = c .before .before .before .before .before .b
 
 add-result : tie.Need-add-result
 add-result c = let st = c .before .before .before .before .before .before .before .before .before in
-    omega (arith, st .pre .1, few-rows (st .args .m .now) (holds-room _ (st .pre .0)))
+    omega (arith, st .pre .1, few-tagged (st .args .m .now) (holds-room _ (st .pre .0)))
 
 row-count-requires-2 : tie.Need-row-count-requires-2
 row-count-requires-2 c κs = let p3 = c .before .before .before in let st = p3 .before .before .before .before .before .before .before in
@@ -30,7 +30,7 @@ row-count-requires-2 c κs = let p3 = c .before .before .before in let st = p3 .
 add-result-2 : tie.Need-add-result-2
 add-result-2 c = let p4 = c .before .before .before .before in let st = p4 .before .before .before .before .before .before .before in
     let g = one-removed (st .pre .1) (turned (removeRow (st .args .i) (pagesOf (st .args .m .now))) (p4 .remove-at .ensures)) in
-    omega (arith, st .pre .1, few-rows (st .args .m .now) (holds-room _ (st .pre .0)), c .row-count2 .ensures, g .1)
+    omega (arith, st .pre .1, few-tagged (st .args .m .now) (holds-room _ (st .pre .0)), c .row-count2 .ensures, g .1)
 
 sub-result : tie.Need-sub-result
 sub-result c = let p4 = c .before .before .before .before in let p8 = p4 .before .before .before .before in let st = p8 .before .before .before in

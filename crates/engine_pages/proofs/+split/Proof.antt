@@ -1,6 +1,7 @@
 -- `engine_pages::split` meets its contract, by recursion on the number of rows, fewer in each part: by `split-whole` if it is not split, else `split-parts`.
 use Rattle.engine_pages.specs.Pages.{entryOf}
-use Rattle.engine_pages.proofs.Places.{few-pages, room}
+use Rattle.engine_pages.proofs.Places.{room}
+use Rattle.memory_layout.proofs.Laws.{few-pages}
 use Rattle.engine_pages.proofs.Parts.{split-whole, second-at, second-dirty, second-less, first-at, first-dirty, first-less, split-parts}
 use Rattle.basics.proofs.Kit.{ℕ, _<_, needs, arith}
 use borrow.Fn.Kinds.{In}

@@ -1,5 +1,6 @@
 -- `engine_pages::apply_pending_rows` meets its contract. The invariant: the operations of all rows but the last `left` are applied, and row i is the next.
-use Rattle.engine_pages.proofs.Places.{start-there, few-rows}
+use Rattle.engine_pages.proofs.Places.{start-there}
+use Rattle.memory_layout.proofs.Laws.{few-rows}
 use Rattle.engine_pages.proofs.Applying.{ApplyInv, apply-start, apply-may, apply-next, apply-end, one-most}
 use Rattle.basics.proofs.Kit.{arith}
 use Rattle.engine_pages.proofs.apply_pending_rows.Statement.{statement}

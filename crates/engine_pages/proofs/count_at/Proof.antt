@@ -1,5 +1,6 @@
 -- `engine_pages::count_at` meets its contract: page p + 1 starts with the row behind the last one of page p (`ends-at`).
-use Rattle.engine_pages.proofs.Places.{start-there, next-there, few-pages, room, ends-at}
+use Rattle.engine_pages.proofs.Places.{start-there, next-there, room, ends-at}
+use Rattle.memory_layout.proofs.Laws.{few-pages}
 use Rattle.basics.proofs.Kit.{arith}
 use Rattle.engine_pages.proofs.count_at.Statement.{statement}
 use Rattle.engine_pages.proofs.count_at.Tie as tie

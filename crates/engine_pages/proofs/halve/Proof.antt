@@ -2,7 +2,8 @@
 use Rattle.basics.proofs.Kit.{sym, _∙_, _≤_, _<_, leb-true, leb-false, needs, arith}
 use Rattle.block_forms.specs.Limits.{recordSpace}
 use Rattle.engine_pages.specs.Pages.{entryOf}
-use Rattle.engine_pages.proofs.Places.{start-there, next-there, few-pages, few-rows, room, page-span, page-end, few, spacious}
+use Rattle.engine_pages.proofs.Places.{start-there, next-there, room, page-span, page-end, few, spacious}
+use Rattle.memory_layout.proofs.Laws.{few-pages, few-rows}
 use Rattle.engine_pages.proofs.Splitting.{halved-whole, between, halved-parts}
 use Rattle.engine_pages.proofs.halve.Statement.{statement}
 use Rattle.engine_pages.proofs.halve.Tie as tie

@@ -1,5 +1,6 @@
 -- `engine_pages::joinable` meets its contract: each early return is for a test that fails; at the last one only the sizes decide (`by-sizes`).
-use Rattle.engine_pages.proofs.Places.{page-in, start-there, few-pages, room}
+use Rattle.engine_pages.proofs.Places.{page-in, start-there, room}
+use Rattle.memory_layout.proofs.Laws.{few-pages}
 use Rattle.engine_pages.proofs.Joining.{next-at, both-span, apart-frozen, apart-next, apart-tables, by-sizes}
 use Rattle.basics.proofs.Kit.{arith}
 use Rattle.engine_pages.proofs.joinable.Statement.{statement}

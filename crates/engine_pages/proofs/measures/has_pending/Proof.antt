@@ -3,7 +3,8 @@ use Rattle.basics.proofs.Kit.{ap, _∙_, _-_, arith}
 use Rattle.memory_bytes.proofs.Scans.{AnyFrom, any-starts, any-next, any-ends}
 use Rattle.memory_layout.specs.Flat.{flatOf, rowIn}
 use Rattle.engine_pages.proofs.Sizes.{rows-by}
-use Rattle.engine_pages.proofs.Places.{few-pages, few-rows, room, start-there, next-there, page-span, tuples-are}
+use Rattle.engine_pages.proofs.Places.{room, start-there, next-there, page-span, tuples-are}
+use Rattle.memory_layout.proofs.Laws.{few-pages, few-rows}
 use Rattle.engine_pages.specs.Pending.{hasPending}
 use Rattle.memory_layout.specs.Elements.{RowRange}
 use Rattle.basics.specs.Basics.{any}
