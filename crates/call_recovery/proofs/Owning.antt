@@ -12,9 +12,7 @@ use Rattle.model.specs.State.{Held, Active}
 use Rattle.model.specs.Recover.{reopened}
 use Rattle.basics.proofs.Elements.{all-at, many-append, many-length, any-many}
 use Rattle.memory_layout.specs.Flat.{Flat, flatOf, noRow, rowIn, Room, Becomes, withOpens}
-use Rattle.memory_layout.specs.Views.{countsOf}
-use Rattle.memory_layout.specs.declared.Counts as layout
-use Rattle.memory_layout.proofs.Laws.{rows-length, known, becomes-none, becomes-then}
+use Rattle.memory_layout.proofs.Laws.{becomes-none, becomes-then}
 use Rattle.call_recovery.specs.Reopening.{AllOwners, ownRow, ownRows, Sized, Counts, noted, openedBy, opened}
 use Rattle.call_recovery.proofs.Adding.{becomes-as}
 
@@ -62,13 +60,6 @@ noted-by {o} {t} {s} {k} xs e q v h =
 pub no-counts : Counts [] (replicate 4096 0)
 unfolding howMany
 no-counts = record { size = length-replicate {A = ℕ} 4096 0; each = λ t h. getD-replicate 4096 t 0 0 h }
-
-pub rows-few : (m : List ℕ) → Room m → length (flatOf m .rows) ≤ 1024
-rows-few m r = let k = known m r in omega (arith, k .rows-are, k .rows, k .most)
-
-pub row-count : (m : List ℕ) {n : ℕ} {c : layout.Counts} → c ≡ countsOf m → n ≡ c .rows → n ≡ length (flatOf m .rows)
-unfolding countsOf
-row-count m {n} {c} e q = q ∙ ap (λ (x : layout.Counts). x .rows) e ∙ sym (rows-length m)
 
 -- ---- rows in turn
 

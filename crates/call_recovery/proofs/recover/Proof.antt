@@ -47,10 +47,13 @@ array-share-prefix-entries c = omega (arith, prepared c .count, length-take (c .
 lay-out-requires : tie.Need-lay-out-requires
 lay-out-requires c κs =
     let p2 = c .before .before in let p7 = p2 .before .before .before .before .before in let p8 = p7 .before in let p9 = p8 .before in
-    let r = prepared p2 in (
-      (passed p9, omega (arith, p8 .wide .ensures, p7 .if1 .left)),
-      (r .passed ∙ ap holds (sym (r .there)), ap blocksIn (r .there) ∙ r .blocks),
-    )
+    let r = prepared p2 in
+    record {
+      header = passed p9;
+      memory = omega (arith, p8 .wide .ensures, p7 .if1 .left);
+      pages = r .passed ∙ ap holds (sym (r .there));
+      blocks = ap blocksIn (r .there) ∙ r .blocks;
+    }
 
 returns-3 : tie.Need-returns-3
 returns-3 c =
