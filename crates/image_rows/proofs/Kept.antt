@@ -1,11 +1,10 @@
 -- Rows that are changed but for what a test looks at: the test answers the same. So the tests read columns with the others missing, and rows
 -- without payloads.
-use Rattle.basics.proofs.Kit.{_≡_, refl, sym, ap, _∙_, Bool, false, _&&_, List, [], _∷_, map, ℕ, suc, _≤_, zero, leb, ltb, length, take, getD}
+use Rattle.basics.proofs.Kit.{_≡_, refl, sym, ap, _∙_, Bool, false, _&&_, List, [], _∷_, map, ℕ, _≤_, leb, ltb, length, take, getD}
 use Rattle.basics.specs.Basics.{if_then_else_, all, every, paired, howMany, distinct}
 use Rattle.block_forms.specs.Tuple.{Owner, committed, tentative}
 use Rattle.image_rows.specs.Rows.{Row, number, isBy, isOwn, follows, startsWell, isBelow, earlierBy, statementIs, statementOk, transactions, openLimit}
 use Rattle.image_rows.specs.Columns.{codedOwner, coded, rowAt, rowsIn, columnsOk}
-use Rattle.basics.specs.Lists.{tab}
 use Rattle.basics.proofs.Ands.{and-yes, and-assoc}
 use Rattle.basics.proofs.Tabs.{take-tab, tab-self}
 use Rattle.basics.proofs.Tabs.{map-tab}
