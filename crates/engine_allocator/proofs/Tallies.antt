@@ -1,8 +1,8 @@
 -- Counts and searches of blocks, turn by turn, and what they say of the store.
-use Rattle.basics.proofs.Kit.{_≡_, refl, sym, ap, _∙_, Bool, true, false, not, some, none, Option, List, [], _∷_, _++_, ℕ, suc, _+_, _≤_, _<_, zero, _-_, add-one, length, take, drop}
+use Rattle.basics.proofs.Kit.{_≡_, refl, sym, ap, _∙_, Bool, true, false, not, some, none, Option, List, [], _∷_, _++_, ℕ, suc, _+_, _≤_, _<_, zero, _-_, length, take, drop}
 use Rattle.basics.proofs.Kit.{arith}
 use Rattle.basics.specs.Basics.{if_then_else_, howMany, first, from}
-use Rattle.basics.proofs.Facts.{by, never}
+use Rattle.basics.proofs.Facts.{by}
 use Rattle.image.specs.Stages.{directoriesFor}
 use Rattle.model.specs.State.{Held, Page}
 use Rattle.model.specs.Rules.{isDirty, isFrozen}
@@ -13,7 +13,7 @@ use Rattle.memory_layout.specs.Flat.{Flat, flatOf, Room}
 use Rattle.memory_layout.specs.Store.{pageOf, nest, pagesIn, holdsStore, storeOf}
 use Rattle.memory_layout.specs.declared.Entry.{Entry}
 use Rattle.memory_layout.specs.declared.Head.{Head}
-use Rattle.memory_layout.proofs.Laws.{Known, known, filled, holds-room}
+use Rattle.memory_layout.proofs.Laws.{Known, known, sizes, filled, holds-room}
 use Rattle.memory_layout.proofs.Nest.{counted-length}
 use Rattle.memory_layout.proofs.Exchange.{pages-count}
 use Rattle.memory_pages.specs.Pages.{frozenEntry, dirtyEntry}
@@ -41,29 +41,7 @@ pub free-is : (f : Flat) → freeCount (storeOf f) ≡ howMany (λ b. not (f .us
 unfolding freeCount isFree storeOf
 free-is f = refl
 
--- ---- the numbers of a memory with room, for omega
-
-pub record Sizes (m : List ℕ) : Type 0 where
-  pub long : 1024 ≤ length m
-  pub few : 2 ≤ flatOf m .head .blocks
-  pub many : flatOf m .head .blocks ≤ 4096
-  pub taken : flatOf m .head .taken < flatOf m .head .blocks
-  pub pages : length (flatOf m .entries) ≤ 2048
-  pub named : length (flatOf m .named) ≤ 1024
-  pub directories : length (flatOf m .directories) ≤ 4
-
-pub sizes : {m : List ℕ} → Room m → Sizes m
-sizes {m} r =
-    let k : Known m = known m r in
-    record {
-      long = omega arith;
-      few = r .range .few;
-      many = r .range .many;
-      taken = r .range .taken;
-      pages = omega arith;
-      named = omega arith;
-      directories = omega arith;
-    }
+-- ---- how many pages
 
 -- where every page has a row, there are at most as many as the capacity
 pub pages-few : (m : List ℕ) → holdsStore m ≡ true → length (flatOf m .entries) ≤ flatOf m .head .capacity

@@ -11,7 +11,7 @@ use Rattle.memory_layout.specs.Store.{pageOf, nest, total, startOf, holdsStore}
 use Rattle.memory_layout.specs.declared.Entry.{Entry}
 use Rattle.memory_layout.specs.Views.{countsOf}
 use Rattle.memory_layout.specs.declared.Counts.{Counts}
-use Rattle.memory_layout.proofs.Laws.{filled, rows-read, few-rows}
+use Rattle.memory_layout.proofs.Laws.{filled, rows-read, sizes}
 use Rattle.memory_layout.proofs.Exchange.{start-next}
 use Rattle.basics.proofs.Tabs.{lt-or-ge}
 use Rattle.memory_pages.specs.Pages.{TableFrom, OnPages, PageOf}
@@ -36,7 +36,7 @@ module _ (m : List ℕ) (room : Room m) where
 
   -- there are few
   pub few-tagged : length (taggedOf m) ≤ 1024
-  few-tagged = omega (arith, tagged-length, few-rows room)
+  few-tagged = omega (arith, tagged-length, sizes room .rows)
 
 -- ---- tables
 

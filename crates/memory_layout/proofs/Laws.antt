@@ -141,19 +141,30 @@ known m r =
       directories-are = directories-length m;
     }
 
-module _ {m : List ℕ} (r : Room m) where
-  pub few-rows : length (flatOf m .rows) ≤ 1024
-  few-rows = omega (arith, known m r)
+-- the same, of the lists
+pub record Sizes (m : List ℕ) : Type 0 where
+  pub long : 1024 ≤ length m
+  pub few : 2 ≤ flatOf m .head .blocks
+  pub many : flatOf m .head .blocks ≤ 4096
+  pub taken : flatOf m .head .taken < flatOf m .head .blocks
+  pub rows : length (flatOf m .rows) ≤ 1024
+  pub pages : length (flatOf m .entries) ≤ 2048
+  pub named : length (flatOf m .named) ≤ 1024
+  pub directories : length (flatOf m .directories) ≤ 4
 
-  pub few-pages : length (flatOf m .entries) ≤ 2048
-  few-pages = omega (arith, known m r)
-
-  pub few-named : length (flatOf m .named) ≤ 1024
-  few-named = omega (arith, known m r)
-
-  -- the head is there
-  pub room-long : 1024 ≤ length m
-  room-long = omega (arith, known m r)
+pub sizes : {m : List ℕ} → Room m → Sizes m
+sizes {m} r =
+    let k : Known m = known m r in
+    record {
+      long = omega arith;
+      few = r .range .few;
+      many = r .range .many;
+      taken = r .range .taken;
+      rows = omega arith;
+      pages = omega arith;
+      named = omega arith;
+      directories = omega arith;
+    }
 
 -- ---- the whole test: room, and no page is empty
 

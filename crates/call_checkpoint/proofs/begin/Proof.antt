@@ -3,12 +3,11 @@ use Rattle.basics.proofs.Kit.{_≡_, sym, ap, _∙_, true, false, List, ℕ, _+
 use Rattle.memory_layout.specs.declared.Head.{Head}
 use Rattle.memory_layout.specs.Store.{holdsStore, storeOf}
 use Rattle.memory_layout.specs.Flat.{flatOf}
-use Rattle.memory_layout.proofs.Laws.{holds-room}
+use Rattle.memory_layout.proofs.Laws.{holds-room, sizes}
 use Rattle.model.specs.Checkpoint.{isRunning, freeCount, begun, beginCall}
 use Rattle.model.specs.Transactions.{gives}
 use Rattle.model.specs.State.{Store}
 use Rattle.call_contracts.proofs.Answering.{answers-4, answers-refused, answers-count}
-use Rattle.engine_allocator.proofs.Tallies.{sizes}
 use Rattle.call_checkpoint.proofs.Beginning.{begin-17, begin-19, begin-20, begin-done}
 use Rattle.call_checkpoint.proofs.begin.Statement.{statement}
 use Rattle.model.specs.State as model

@@ -2,8 +2,7 @@
 use Rattle.basics.proofs.Kit.{_≡_, sym, _∙_, _-_, length, needs, arith}
 use Rattle.memory_layout.specs.Flat.{flatOf}
 use Rattle.call_checkpoint.specs.Counting.{NamedBefore}
-use Rattle.memory_layout.proofs.Laws.{named-read}
-use Rattle.engine_allocator.proofs.Tallies.{sizes}
+use Rattle.memory_layout.proofs.Laws.{named-read, sizes}
 use Rattle.call_checkpoint.proofs.Leaving.{named-hit, named-miss, named-end}
 use Rattle.call_checkpoint.proofs.first_unnamed.Statement.{statement}
 use Rattle.call_checkpoint.proofs.first_unnamed.Tie as tie

@@ -3,8 +3,7 @@ use Rattle.basics.proofs.Kit.{_≡_, sym, ap, _∙_, true, List, ℕ, _*_, not-
 use Rattle.memory_layout.specs.declared.Head.{Head}
 use Rattle.memory_layout.specs.Flat.{flatOf}
 use Rattle.memory_layout.specs.Store.{holdsStore}
-use Rattle.memory_layout.proofs.Laws.{holds-room}
-use Rattle.engine_allocator.proofs.Tallies.{sizes}
+use Rattle.memory_layout.proofs.Laws.{holds-room, sizes}
 use Rattle.call_checkpoint.proofs.Stepping.{refusal-4, refusal-5, refusal-18, refusal-none}
 use Rattle.call_checkpoint.proofs.step_refusal.Statement.{statement}
 use Rattle.call_checkpoint.proofs.step_refusal.Tie as tie

@@ -2,11 +2,10 @@
 use Rattle.basics.proofs.Kit.{ap, _+_, length-take, length-drop, needs, arith}
 use Rattle.model.specs.Checkpoint.{withProgress}
 use Rattle.memory_layout.specs.declared.Head.{Head}
-use Rattle.memory_layout.proofs.Laws.{directories-read, holds-room}
+use Rattle.memory_layout.proofs.Laws.{directories-read, holds-room, sizes}
 use Rattle.image.specs.Stages.{directoriesFor}
 use Rattle.call_checkpoint.proofs.Allotting.{taken-now}
 use Rattle.call_checkpoint.proofs.Stepping.{back-is, directory-does}
-use Rattle.engine_allocator.proofs.Tallies.{sizes}
 use Rattle.call_checkpoint.proofs.Running.{running-is}
 use Rattle.call_checkpoint.proofs.store_directory.Statement.{statement}
 use Rattle.call_checkpoint.proofs.store_directory.Tie as tie

@@ -1,9 +1,8 @@
 -- `call_checkpoint::store_header` meets its contract: the part of the image that is lent is block 0 (`front-is`), and image and store are the model's (`header-does`).
 use Rattle.basics.proofs.Kit.{length-take, needs, arith}
-use Rattle.memory_layout.proofs.Laws.{holds-room}
+use Rattle.memory_layout.proofs.Laws.{holds-room, sizes}
 use Rattle.call_checkpoint.proofs.Allotting.{none-left}
 use Rattle.call_checkpoint.proofs.Stepping.{front-is, header-does}
-use Rattle.engine_allocator.proofs.Tallies.{sizes}
 use Rattle.call_checkpoint.proofs.Running.{running-is}
 use Rattle.call_checkpoint.proofs.store_header.Statement.{statement}
 use Rattle.call_checkpoint.proofs.store_header.Tie as tie

@@ -2,9 +2,8 @@
 use Rattle.basics.proofs.Kit.{ap, _+_, length-take, length-drop, needs, arith}
 use Rattle.model.specs.Checkpoint.{withProgress}
 use Rattle.memory_layout.specs.declared.Head.{Head}
-use Rattle.memory_layout.proofs.Laws.{holds-room}
+use Rattle.memory_layout.proofs.Laws.{holds-room, sizes}
 use Rattle.engine_pages.proofs.Places.{page-in, start-there, next-there, page-span}
-use Rattle.engine_allocator.proofs.Tallies.{sizes}
 use Rattle.call_checkpoint.proofs.Running.{running-is}
 use Rattle.call_checkpoint.proofs.Stepping.{back-is, page-does}
 use Rattle.call_checkpoint.proofs.Allotting.{taken-now}

@@ -1,8 +1,7 @@
 -- `call_checkpoint::write_block` meets its contract: a frozen page comes first, and without one it is the directory's turn (`found-none`).
 use Rattle.basics.proofs.Kit.{needs, arith}
-use Rattle.memory_layout.proofs.Laws.{pages-read, holds-room}
+use Rattle.memory_layout.proofs.Laws.{pages-read, holds-room, sizes}
 use Rattle.engine_pages.specs.Pages.{There}
-use Rattle.engine_allocator.proofs.Tallies.{sizes}
 use Rattle.call_checkpoint.proofs.Stepping.{found-none}
 use Rattle.call_checkpoint.proofs.write_block.Statement.{statement}
 use Rattle.call_checkpoint.proofs.write_block.Tie as tie

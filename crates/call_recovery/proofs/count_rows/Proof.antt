@@ -2,7 +2,7 @@
 use Rattle.call_recovery.proofs.Owning.{owner-fits, counts-turn, counts-end, counts-small}
 use Rattle.call_recovery.specs.Reopening.{ownRows, Counts}
 use Rattle.memory_layout.specs.Flat.{flatOf}
-use Rattle.memory_layout.proofs.Laws.{rows-read, few-rows}
+use Rattle.memory_layout.proofs.Laws.{rows-read, sizes}
 use Rattle.basics.proofs.Kit.{_≡_, sym, _∙_, _<_, _-_, length, take, arith}
 use Rattle.call_recovery.proofs.count_rows.Statement.{statement}
 use Rattle.call_recovery.proofs.count_rows.Tie as tie
@@ -30,7 +30,7 @@ note-requires c κs =
     let l = p3 .loop in
     let m = p8 .args .m .now in
     let h : l .i < length (flatOf m .rows) = omega (arith, l .inv .0, p2 .loop-test) in
-    (counts-small (flatOf m) (l .i) (few-rows (p8 .pre .room)) (l .inv .1), owner-fits (flatOf m) (l .i) h (p8 .pre .owners) (c .owner-at .ensures))
+    (counts-small (flatOf m) (l .i) (sizes (p8 .pre .room) .rows) (l .inv .1), owner-fits (flatOf m) _ h (p8 .pre .owners) (c .owner-at .ensures))
 
 loop-again : tie.Need-loop-again Inv-loop μ-loop
 loop-again c =
@@ -39,7 +39,7 @@ loop-again c =
     let l = p6 .loop in
     let m = p11 .args .m .now in
     let h : l .i < length (flatOf m .rows) = omega (arith, l .inv .0, p5 .loop-test) in
-    (l .inv .0, counts-turn (flatOf m) (l .i) h (p11 .pre .owners) (p3 .owner-at .ensures) (l .inv .1) (p2 .note .ensures))
+    (l .inv .0, counts-turn (flatOf m) _ h (p11 .pre .owners) (p3 .owner-at .ensures) (l .inv .1) (p2 .note .ensures))
 
 same-length : tie.Need-same-length Inv-loop μ-loop
 same-length c =
@@ -48,8 +48,7 @@ same-length c =
 
 returns : tie.Need-returns Inv-loop μ-loop
 returns c =
-    let p1 = c .before in let p6 = p1 .before .before .before .before .before in
-    counts-end (flatOf (p6 .args .m .now)) (p1 .loop .i) (omega (arith, p1 .loop .inv .0, c .loop-test)) (p1 .loop .inv .1)
+    let p1 = c .before in counts-end (flatOf _) (p1 .loop .i) (omega (arith, p1 .loop .inv .0, c .loop-test)) (p1 .loop .inv .1)
 
 pub count-rows-spec : {M : Type 1} → statement M
 count-rows-spec = tie.close (tie.spec Inv-loop μ-loop get-counts-requires (λ c κs. omega arith) loop-holds owner-at-requires note-requires (λ c. omega arith)

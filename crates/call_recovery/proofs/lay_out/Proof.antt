@@ -24,10 +24,10 @@ inUse w = take (w .wide .result) (numbersOf (w .before .before .before .before .
 known : (w : tie.After-wide) → let a = w .before .before .before .before .args in Sure (a .image .now) (a .h) (a .entries .now) (pages w)
 known w =
     let p = w .before .before .before .before in
-    sure (p .args .image .now) (p .args .h) (p .args .entries .now) _ (p .pre .header) (p .pre .pages) (p .pre .blocks)
+    sure _ _ _ _ (p .pre .header) (p .pre .pages) (p .pre .blocks)
 
 in-directory : (w : tie.After-wide) → inUse w ≡ directoryBlocks (w .before .before .before .before .args .h)
-in-directory w = used (w .before .before .before .before .args .h) (w .wide .ensures) (λ (l : List ℕ). l)
+in-directory w = used _ (w .wide .ensures) (λ (l : List ℕ). l)
 
 -- the place behind the first call
 abbrev start : tie.After-mark-blocks2 → tie.After-wide

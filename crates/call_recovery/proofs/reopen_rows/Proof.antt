@@ -3,7 +3,7 @@ use Rattle.call_recovery.proofs.Owning.{counts-sized, own-length, owner
 use Rattle.call_recovery.proofs.Owning.{Reopened, reopened-start, same-rows, same-owner, reopened-turn, reopened-room, reopened-end}
 use Rattle.call_recovery.specs.Reopening.{ownRows, Counts}
 use Rattle.memory_layout.specs.Flat.{flatOf}
-use Rattle.memory_layout.proofs.Laws.{rows-read, few-rows}
+use Rattle.memory_layout.proofs.Laws.{rows-read, sizes}
 use Rattle.basics.proofs.Kit.{_≡_, sym, _∙_, _+_, _<_, _-_, length, take, arith}
 use Rattle.call_recovery.proofs.reopen_rows.Statement.{statement}
 use Rattle.call_recovery.proofs.reopen_rows.Tie as tie
@@ -36,7 +36,7 @@ note-requires c κs =
     let m = p11 .args .m .now in
     let pre = p11 .pre .may in
     let h : l .i < length (flatOf m .rows) = omega (arith, l .inv .0, p3 .loop-test) in
-    (counts-small (flatOf m) (l .i) (few-rows (pre .room)) (l .inv .1 .1), owner-fits (flatOf m) (l .i) h (pre .owners) (same-owner (l .inv .1 .0) (p1 .owner-at .ensures)))
+    (counts-small (flatOf m) (l .i) (sizes (pre .room) .rows) (l .inv .1 .1), owner-fits (flatOf m) _ h (pre .owners) (same-owner (l .inv .1 .0) (p1 .owner-at .ensures)))
 
 reopen-last-requires : tie.Need-reopen-last-requires Inv-loop μ-loop
 reopen-last-requires c κs =
@@ -45,13 +45,13 @@ reopen-last-requires c κs =
     let l = p9 .loop in
     let m = p16 .args .m .now in
     let pre = p16 .pre .may in
-    let few = few-rows (pre .room) in
+    let few = sizes (pre .room) .rows in
     let h : l .i < length (flatOf m .rows) = omega (arith, l .inv .0, p8 .loop-test) in
     let e = same-owner (l .inv .1 .0) (p6 .owner-at .ensures) in
-    let k = counts-turn (flatOf m) (l .i) h (pre .owners) e (l .inv .1 .1) (p4 .note .ensures) in
+    let k = counts-turn (flatOf m) _ h (pre .owners) e (l .inv .1 .1) (p4 .note .ensures) in
     record {
       room = l .inv .1 .0 .becomes .room;
-      owner = owner-fits (flatOf m) (l .i) h (pre .owners) e;
+      owner = owner-fits (flatOf m) _ h (pre .owners) e;
       counted = counts-sized (p16 .pre .counted) (omega (arith, own-length (flatOf m)));
       passing = counts-small (flatOf m) (l .i + 1) few k;
       opens = reopened-room (l .inv .1 .0) h (pre .owners) e (p16 .pre .counted) k (pre .opens);
@@ -66,7 +66,7 @@ loop-again c =
     let pre = p19 .pre .may in
     let h : l .i < length (flatOf m .rows) = omega (arith, l .inv .0, p11 .loop-test) in
     let e = same-owner (l .inv .1 .0) (p9 .owner-at .ensures) in
-    let k = counts-turn (flatOf m) (l .i) h (pre .owners) e (l .inv .1 .1) (p7 .note .ensures) in
+    let k = counts-turn (flatOf m) _ h (pre .owners) e (l .inv .1 .1) (p7 .note .ensures) in
     (l .inv .0, (reopened-turn (l .inv .1 .0) h (pre .owners) e (p19 .pre .counted) k (p2 .reopen-last .ensures), k))
 
 same-length-2 : tie.Need-same-length-2 Inv-loop μ-loop

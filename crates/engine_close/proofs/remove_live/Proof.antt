@@ -14,7 +14,7 @@ returns c = let p2 = c .before .before in let p4 = p2 .before .before in let p5 
     live-removed (p8 .pre .1) (p2 .remove-row .ensures) (sym (p5 .is-live .ensures) ∙ p4 .if1 .taken)
 
 add-result : tie.Need-add-result
-add-result c = let st = c .before .before .before .before in omega (arith, st .pre .1, few-tagged (st .args .m .now) (holds-room _ (st .pre .0)))
+add-result c = let st = c .before .before .before .before in omega (arith, st .pre .1, few-tagged _ (holds-room _ (st .pre .0)))
 
 returns-2 : tie.Need-returns-2
 returns-2 c = let p4 = c .before .before .before .before in

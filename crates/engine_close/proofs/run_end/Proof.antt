@@ -18,10 +18,10 @@ first-row-requires : tie.Need-first-row-requires Inv-loop μ-loop
 first-row-requires c κs = let p = c .before .pre in (p .room, omega (arith, p .below))
 
 key-at-requires : tie.Need-key-at-requires Inv-loop μ-loop
-key-at-requires c κs = let st = c .before .before in let p = st .pre in (p .room, omega (arith, p .inside, tagged-length (st .args .m .now) (p .room)))
+key-at-requires c κs = let st = c .before .before in let p = st .pre in (p .room, omega (arith, p .inside, tagged-length _ (p .room)))
 
 add-r : tie.Need-add-r Inv-loop μ-loop
-add-r c = let st = c .before .before .before in let p = st .pre in omega (arith, p .inside, few-tagged (st .args .m .now) (p .room))
+add-r c = let st = c .before .before .before in let p = st .pre in omega (arith, p .inside, few-tagged _ (p .room))
 
 loop-holds : tie.Need-loop-holds Inv-loop μ-loop
 loop-holds c = let st = c .before .before .before in let p = st .pre in
@@ -29,7 +29,7 @@ loop-holds c = let st = c .before .before .before in let p = st .pre in
 
 key-at-requires-2 : tie.Need-key-at-requires-2 Inv-loop μ-loop
 key-at-requires-2 c κs = let p3 = c .before .before .before in let st = p3 .before .before in let p = st .pre in
-    (p .room, omega (arith, p3 .first-row .ensures .most, c .loop-test .taken, tagged-length (st .args .m .now) (p .room)))
+    (p .room, omega (arith, p3 .first-row .ensures .most, c .loop-test .taken, tagged-length _ (p .room)))
 
 returns : tie.Need-returns Inv-loop μ-loop
 returns c = let p2 = c .before .before in let p3 = p2 .before in let p4 = p3 .before in let p5 = p4 .before in
@@ -39,7 +39,7 @@ returns c = let p2 = c .before .before in let p3 = p2 .before in let p4 = p3 .be
 
 add-r-2 : tie.Need-add-r-2 Inv-loop μ-loop
 add-r-2 c = let p2 = c .before .before in let p5 = p2 .before .before .before in let st = p5 .before .before in
-    omega (arith, p5 .first-row .ensures .most, p2 .loop-test .taken, few-tagged (st .args .m .now) (st .pre .room))
+    omega (arith, p5 .first-row .ensures .most, p2 .loop-test .taken, few-tagged _ (st .pre .room))
 
 loop-less : tie.Need-loop-less Inv-loop μ-loop
 loop-less c = omega (arith, c .before .before .loop-test .taken)

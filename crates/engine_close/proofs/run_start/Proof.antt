@@ -16,7 +16,7 @@ first-row-requires : tie.Need-first-row-requires Inv-loop μ-loop
 first-row-requires c κs = let p = c .before .pre .0 in (p .room, omega (arith, p .below))
 
 key-at-requires : tie.Need-key-at-requires Inv-loop μ-loop
-key-at-requires c κs = let st = c .before .before .before in let p = st .pre .0 in (p .room, omega (arith, p .inside, tagged-length (st .args .m .now) (p .room)))
+key-at-requires c κs = let st = c .before .before .before in let p = st .pre .0 in (p .room, omega (arith, p .inside, tagged-length _ (p .room)))
 
 loop-holds : tie.Need-loop-holds Inv-loop μ-loop
 loop-holds c = let p2 = c .before .before in let st = p2 .before .before in
@@ -26,12 +26,12 @@ loop-holds c = let p2 = c .before .before in let st = p2 .before .before in
 
 key-at-requires-2 : tie.Need-key-at-requires-2 Inv-loop μ-loop
 key-at-requires-2 c κs = let st = c .before .before .before .before .before .before in let p = st .pre .0 in
-    (p .room, omega (arith, p .inside, tagged-length (st .args .m .now) (p .room)))
+    (p .room, omega (arith, p .inside, tagged-length _ (p .room)))
 
 returns : tie.Need-returns Inv-loop μ-loop
 returns c = let p3 = c .before .before .before in let p4 = p3 .before in let p5 = p4 .before in let p6 = p5 .before in
     let st = p6 .before .before in let l = p3 .loop in
-    back-ends (st .pre .0) (p6 .first-row .ensures) (l .inv .1 .1) (st .args .from)
+    back-ends (st .pre .0) (p6 .first-row .ensures) (l .inv .1 .1) _
     (omega (arith, p5 .later .ensures .first, l .inv .0)) (l .inv .1 .0) (λ q. c .if1 .taken (c .before .key-at2 .ensures ∙ q ∙ sym (p4 .key-at .ensures)))
 
 loop-again : tie.Need-loop-again Inv-loop μ-loop
@@ -48,7 +48,7 @@ loop-again c = let p2 = c .before .before in let p3 = p2 .before in let p4 = p3 
 returns-2 : tie.Need-returns-2 Inv-loop μ-loop
 returns-2 c = let p3 = c .before .before .before in let p4 = p3 .before in let st = p4 .before .before in
     let l = c .before .loop in let v = p3 .later in
-    back-stops (st .pre .0) (p4 .first-row .ensures) (l .inv .1 .1) (st .args .from)
+    back-stops (st .pre .0) (p4 .first-row .ensures) (l .inv .1 .1) _
     (omega (arith, v .ensures .first, l .inv .0)) (l .inv .1 .0) (λ x. omega (arith, v .ensures .which (omega (arith, l .inv .0)), c .loop-test .left, l .inv .0))
 
 pub run-start-spec : {M : Type 1} → statement M
