@@ -25,7 +25,7 @@ long : (c : tie.Else2) → began (holds c) .args .len ≡ 512 * flatOf (memory (
 long c = c .if2 .left ∙ ap (λ (h : Head). 512 * h .blocks) (c .before .before .get-head .ensures)
 
 returns : tie.Need-returns
-returns c = let a = c .before .before .before .args in refusal-4 (a .len) (a .m .now) (sym (c .before .holds-store .ensures) ∙ not-true _ (c .if1 .taken))
+returns c = refusal-4 _ _ (sym (c .before .holds-store .ensures) ∙ not-true _ (c .if1 .taken))
 
 get-head-requires : tie.Need-get-head-requires
 get-head-requires c κs = sizes (holds-room _ (has-store c)) .long

@@ -59,7 +59,7 @@ returns c =
     let k = c .before .before .keep-directory .ensures in (
       directory-does (st .pre .0 .ready .runs) (st .pre .0 .none-frozen) _ _ _ (st .pre .0 .short) (b .allocate .ensures .0) (directories-read _ (n .get-counts .ensures))
           (ap (λ (x : Head). x .level + 1) (g .get-head .ensures)) (w .write-directory .ensures)
-          (back-is (st .args .image .now) _ (b .allocate .result)) k,
+          (back-is _ _ _) k,
       taken-now k,
     )
 

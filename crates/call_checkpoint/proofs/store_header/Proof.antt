@@ -22,7 +22,7 @@ returns c =
     let w = c .before .before .before .before .before .before in
     let st = w .before .before .before .before .before in
     let k = c .before .before .keep-header .ensures in
-    (header-does (st .pre .ready .runs) (st .pre .none-frozen) (st .pre .complete) (w .write-header .ensures) (front-is (st .args .image .now) _) k, none-left k)
+    (header-does (st .pre .ready .runs) (st .pre .none-frozen) (st .pre .complete) (w .write-header .ensures) (front-is _ _) k, none-left k)
 
 pub store-header-spec : {M : Type 1} → statement M
 store-header-spec = tie.close (tie.spec (λ c. search needs) (λ c. search needs) part-write-header-end write-header-requires (λ c κs. search needs)

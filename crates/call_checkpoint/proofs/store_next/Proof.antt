@@ -25,7 +25,7 @@ blocks-left-requires : tie.Need-blocks-left-requires
 blocks-left-requires c κs =
     let f = c .before .before in
     let st = f .before .before .before .before in
-    (holds-room _ (st .pre .runs .has-store), frozen-from (st .args .m .now) (f .first-frozen .ensures) (c .count-frozen .ensures))
+    (holds-room _ (st .pre .runs .has-store), frozen-from _ (f .first-frozen .ensures) (c .count-frozen .ensures))
 
 store-header-requires : tie.Need-store-header-requires
 store-header-requires c κs =

@@ -67,9 +67,9 @@ returns c =
     let g = t .before .before in
     let st = g .before .before .before .before in
     let k = c .before .before .keep-page .ensures in (
-      page-does (st .pre .0 .ready .runs) (st .args .p) _ _ _ _ _ (st .pre .0 .first-frozen) (b .allocate .ensures .0) (t .table-of .ensures .0) (s .start-of .ensures .0)
+      page-does (st .pre .0 .ready .runs) _ _ _ _ _ _ (st .pre .0 .first-frozen) (b .allocate .ensures .0) (t .table-of .ensures .0) (s .start-of .ensures .0)
           (e .start-of2 .ensures .0) (ap (λ (x : Head). x .level + 1) (g .get-head .ensures))
-          (w .write-page .ensures) (back-is (st .args .image .now) _ (b .allocate .result)) k,
+          (w .write-page .ensures) (back-is _ _ _) k,
       taken-now k,
     )
 
