@@ -1,5 +1,5 @@
 -- Run: steps in turn.
-use Rattle.basics.proofs.Kit.{_≡_, refl, sym, ap, _∙_, subst, true, false, some, List, [], _∷_, _++_, ℕ, suc, _+_, _*_, _≤_, _<_, _-_, min, length, eq-eqb, ne-eqb, arith}
+use Rattle.basics.proofs.Kit.{_≡_, refl, sym, ap, _∙_, subst, true, false, some, List, [], _∷_, _++_, ℕ, suc, _*_, _≤_, _<_, _-_, min, length, eq-eqb, ne-eqb, arith}
 use Rattle.basics.specs.Basics.{if_then_else_}
 use Rattle.model.specs.State.{Store, Write, Outcome}
 use Rattle.model.specs.Transactions.{gives, unless}

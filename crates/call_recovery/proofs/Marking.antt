@@ -1,5 +1,5 @@
 -- Blocks that are in use too: none, one, and one list after another.
-use Rattle.basics.proofs.Kit.{_≡_, refl, sym, ap, _∙_, Bool, true, false, _||_, List, [], _∷_, _++_, ℕ, eqb}
+use Rattle.basics.proofs.Kit.{_≡_, refl, sym, ap, _∙_, Bool, false, _||_, List, [], _∷_, _++_, ℕ, eqb}
 use Rattle.basics.specs.Basics.{any, isIn}
 use Rattle.basics.proofs.Searches.{any-cons, or-none}
 use Rattle.basics.proofs.Elements.{in-append, eqb-swap}

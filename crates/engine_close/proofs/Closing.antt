@@ -1,6 +1,6 @@
 -- The functions that change the memory, one after another: what each leaves of the pages and of what is left to do.
-use Rattle.basics.proofs.Kit.{_≡_, refl, sym, ap, _∙_, subst, ap₂, true, false, List, [], _∷_, _++_, ℕ, suc, _+_, _≤_, _<_, zero, _-_, add-one, length, take, drop, length-take, length-drop}
-use Rattle.basics.proofs.Kit.{drop-drop, take-add, drop-cons, take-nil, arith}
+use Rattle.basics.proofs.Kit.{_≡_, refl, sym, ap, _∙_, subst, ap₂, true, false, List, _∷_, _++_, ℕ, suc, _+_, _≤_, _<_, _-_, add-one, length, take, drop, length-take, length-drop}
+use Rattle.basics.proofs.Kit.{drop-drop, take-add, drop-cons, arith}
 use Rattle.basics.specs.Basics.{if_then_else_}
 use Rattle.block_forms.specs.Tuple.{Tuple}
 use Rattle.model.specs.State.{Held, Page}

@@ -11,7 +11,7 @@ returns : tie.Need-returns
 returns c = not-on (flatOf _) (ap (λ (h : Head). h .running) (sym (c .before .before .get-head .ensures)) ∙ not-true _ (c .if1 .taken))
 
 returns-2 : tie.Need-returns-2
-returns-2 c = let f = flatOf _ in
+returns-2 c = let f = flatOf (c .before .before .before .before .before .args .m .now) in
     let e = c .before .before .before .get-head .ensures in
     let on : f .head .running ≡ true = ap (λ (h : Head). h .running) (sym e) ∙ not-false _ (c .before .if1 .left) in
     by (ltb (c .before .before .before .get-head .result .level) 4294967295)

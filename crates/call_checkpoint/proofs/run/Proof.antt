@@ -21,7 +21,7 @@ began c = c .before .before .before .before .before
 
 -- the tests are passed
 ready : (c : tie.Else1 Inv-loop μ-loop) → Ready (began c .args .image .now) (began c .args .m .now)
-ready c = let p = began c .args in passed-ready _ _ _ (c .before .step-refusal .ensures) (c .if1 .left)
+ready c = passed-ready _ _ _ (c .before .step-refusal .ensures) (c .if1 .left)
 
 returns : tie.Need-returns Inv-loop μ-loop
 returns c = let p = c .before .before .before .before .before .args in
@@ -40,7 +40,6 @@ add-smaller c = record { fits = omega (arith, c .blocks-left .ensures .1) }
 
 loop-holds : tie.Need-loop-holds Inv-loop μ-loop
 loop-holds c = let passed = c .before .before .before .before in
-    let p = began passed .args in
     repeats-start _ _ _ (ready passed) (omega (arith, c .smaller .ensures, c .before .blocks-left .ensures .0, left-is (flatOf _) (ready passed .runs .on)))
 
 loop-less : tie.Need-loop-less Inv-loop μ-loop
@@ -59,7 +58,6 @@ same-length-3 c = c .before .loop .inv .size
 
 returns-2 : tie.Need-returns-2 Inv-loop μ-loop
 returns-2 c = let passed = c .before .before .before .before .before .before in
-    let p = began passed .args in
     let l = ap (λ (n : ℕ). n + 1) (c .before .before .before .blocks-left .ensures .0) ∙ left-is (flatOf _) (ready passed .runs .on) in
     repeats-end (c .before .loop .inv) (c .loop-test .left) _ (ready passed) (c .before .before .smaller .ensures ∙ ap (min _) l) _ (omega arith)
 

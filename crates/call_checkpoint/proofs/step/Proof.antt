@@ -11,7 +11,7 @@ began c = c .before .before .before .before .before
 
 -- the tests are passed
 ready : (c : tie.Else1) → Ready (began c .args .image .now) (began c .args .m .now)
-ready c = let p = began c .args in passed-ready _ _ _ (c .before .step-refusal .ensures) (c .if1 .left)
+ready c = passed-ready _ _ _ (c .before .step-refusal .ensures) (c .if1 .left)
 
 returns : tie.Need-returns
 returns c = let p = c .before .before .before .before .before .args in
@@ -23,7 +23,6 @@ store-next-requires c κs = ready (c .before .before)
 
 returns-2 : tie.Need-returns-2
 returns-2 c = let passed = c .before .before .before .before .before .before .before in
-    let p = began passed .args in
     let d = c .before .before .before .before .store-next .ensures in
     step-done _ _ _ _ _ (ready passed) (d .0) (d .1)
 

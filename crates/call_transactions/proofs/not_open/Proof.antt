@@ -19,8 +19,7 @@ returns : tie.Need-returns
 returns c = sym (refusal-4 _ (notOpen _) (sym (c .before .holds-store .ensures) ∙ not-true _ (c .if1 .taken)))
 
 returns-2 : tie.Need-returns-2
-returns-2 c = let a = start (c .before) .args in
-    sym (refusal-in _ (notOpen _) (has-store (c .before)) ∙ stop-6 _ (flatOf _) (c .if2 .taken))
+returns-2 c = sym (refusal-in _ (notOpen _) (has-store (c .before)) ∙ stop-6 _ (flatOf _) (c .if2 .taken))
 
 open-count-requires : tie.Need-open-count-requires
 open-count-requires c κs = holds-room _ (has-store (c .before))

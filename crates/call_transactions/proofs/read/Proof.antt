@@ -15,7 +15,7 @@ start c = c .before .before .before .before
 
 -- the transaction is open: the memory holds a store, and the call goes on
 has-store : (c : tie.Else1) → holdsStore (start c .args .m .now) ≡ true
-has-store c = let a = start c .args in passed-held _ (notOpen _) _ (c .before .not-open .ensures) (c .if1 .left)
+has-store c = passed-held _ (notOpen _) _ (c .before .not-open .ensures) (c .if1 .left)
 
 opened : (c : tie.Else1) → let a = start c .args in
     readCall (a .transaction) (a .table) (a .key) (length (a .reply .now)) (storeOf (flatOf (a .m .now)))

@@ -2,7 +2,7 @@
 use Rattle.engine_close.specs.Close.{isOwnRow, taggedOf}
 use Rattle.engine_close.proofs.Own.{NotLater, own-is, not-later-more}
 use Rattle.engine_close.proofs.Memory.{tagged-length}
-use Rattle.basics.proofs.Kit.{_≡_, sym, ap, _∙_, _≤_, _<_, _-_, arith}
+use Rattle.basics.proofs.Kit.{_≡_, sym, ap, _∙_, _≤_, _<_, arith}
 use Rattle.engine_close.proofs.newest_own.Statement.{statement}
 use Rattle.engine_close.proofs.newest_own.Tie as tie
 

@@ -5,7 +5,7 @@ use Rattle.engine_pages.specs.Pages.{pagesOf}
 use Rattle.engine_close.proofs.Closing.{turned, one-removed}
 use Rattle.engine_close.proofs.Memory.{row-on, few-tagged}
 use Rattle.memory_layout.proofs.Laws.{holds-room}
-use Rattle.basics.proofs.Kit.{_-_, needs, arith}
+use Rattle.basics.proofs.Kit.{needs, arith}
 use Rattle.engine_close.proofs.remove_row.Statement.{statement}
 use Rattle.engine_close.proofs.remove_row.Tie as tie
 

@@ -1,7 +1,7 @@
 -- `engine_close::run_start` meets its contract. The invariant: the rows from row r up to row i have the table and key of row i.
 use Rattle.engine_close.proofs.RunBounds.{Back, first-low, back-more, back-ends, back-stops}
 use Rattle.engine_close.proofs.Memory.{tagged-length}
-use Rattle.basics.proofs.Kit.{sym, _∙_, ⊎-elim, _≤_, _-_, needs, arith}
+use Rattle.basics.proofs.Kit.{sym, _∙_, ⊎-elim, _≤_, needs, arith}
 use Rattle.basics.proofs.Tabs.{lt-or-ge}
 use Rattle.engine_close.proofs.run_start.Statement.{statement}
 use Rattle.engine_close.proofs.run_start.Tie as tie
