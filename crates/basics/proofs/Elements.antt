@@ -1,5 +1,5 @@
 -- General lemmas: tests, properties of all elements and of all pairs, members, and the searches on lists.
-use Rattle.basics.proofs.Kit.{_≡_, refl, sym, ap, _∙_, subst, Bool, true, false, _&&_, not, _||_, some, none, List, [], _∷_, _++_, map, ℕ}
+use Rattle.basics.proofs.Kit.{_≡_, refl, sym, ap, _∙_, subst, Bool, true, false, _&&_, _||_, some, none, List, [], _∷_, _++_, map, ℕ}
 use Rattle.basics.proofs.Kit.{suc, _+_, _≤_, _<_, zero, leb, eqb, ltb, T}
 use Rattle.basics.proofs.Kit.{eqb-refl, le→leb, length, take, drop, getD, arith}
 use Rattle.basics.specs.Basics.{if_then_else_, every, all, keep, isEmpty, first, last, any, howMany, isIn}
@@ -196,6 +196,10 @@ module _ {A : Type 0} where
   unfolding isEmpty
   nothing-left [] h = refl
   nothing-left (x ∷ xs) h = lie h
+
+  pub length-zero : (xs : List A) → length xs ≡ 0 → xs ≡ []
+  length-zero [] e = refl
+  length-zero (x ∷ xs) e = absurd (omega arith)
 
   pub length-insert : (a : List A) (x : A) (b : List A) → length (a ++ x ∷ b) ≡ suc (length (a ++ b))
   length-insert [] x b = refl

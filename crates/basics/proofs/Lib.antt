@@ -1,6 +1,7 @@
 pub mod Ands
 pub mod Facts
 pub mod Kit
+pub mod Numbers
 pub mod Tabs
 pub mod Elements
 pub mod Lists

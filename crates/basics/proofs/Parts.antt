@@ -52,11 +52,6 @@ map-remove f (y ∷ ys) zero h = refl
 map-remove f (y ∷ ys) (suc j) h =
     ap (map f) (removeAt-suc j y ys) ∙ ap (λ l. f y ∷ l) (map-remove f ys j (omega arith)) ∙ sym (removeAt-suc j (f y) (map f ys))
 
-pub removed-length : {A : Type 0} (xs : List A) (j : ℕ) → j < length xs → suc (length (removeAt j xs)) ≡ length xs
-removed-length [] j h = absurd (omega arith)
-removed-length (x ∷ xs) zero h = refl
-removed-length (x ∷ xs) (suc j) h = let r = removed-length xs j (omega arith) in let e = ap length (removeAt-suc j x xs) in omega arith
-
 pub drop-take : {A : Type 0} (n k : ℕ) (l : List A) → drop n (take (n + k) l) ≡ take k (drop n l)
 drop-take zero k l = ap (λ (z : ℕ). take z l) (zero-add k)
 drop-take (suc n) k [] = rw (take-nil, drop-nil, take-nil)

@@ -1,7 +1,7 @@
 -- Searches in lists by index, and one turn of each loop that searches a list.
 use Rattle.basics.proofs.Kit.{_≡_, refl, sym, ap, _∙_, ⊎-elim, Bool, true, false, _&&_, _||_, cond, or-assoc, List, [], _∷_, _++_, ℕ, suc, _+_, _≤_, _<_, zero, _-_}
 use Rattle.basics.proofs.Kit.{zero-add, suc-add, length, arith}
-use Rattle.basics.specs.Basics.{any, all, howMany, paired, if_then_else_}
+use Rattle.basics.specs.Basics.{any, all, howMany, paired, from, if_then_else_}
 use Rattle.basics.specs.Lists.{tab, firstIndex, lastIndex}
 use Rattle.basics.proofs.Ands.{and-yes, and-assoc}
 use Rattle.basics.proofs.Tabs.{tab-add, length-tab, lt-or-ge}
@@ -237,6 +237,15 @@ module _ {A : Type 0} (f : A → Bool) (g : ℕ → A) where
       ∙ ⊎-elim (λ (l : a < k). rw (any-tab (suc a) n k (omega arith) (omega arith) t) (or-right (f (g a)) true refl))
       (λ (l : k ≤ a). let e : k ≡ a = omega arith in rw (ap (λ (z : ℕ). f (g z)) (sym e) ∙ t)) (lt-or-ge a k)
 
+  -- none passes, by index
+  pub none-tab : (a n : ℕ) → ((k : ℕ) → a ≤ k → k < a + n → f (g k) ≡ false) → any f (tab g a n) ≡ false
+  unfolding any
+  none-tab a zero h = refl
+  none-tab a (suc n) h = any-cons f (g a) (tab g (suc a) n) ∙ rw (h a (omega arith) (omega arith)) (none-tab (suc a) n (λ k p q. h k (omega arith) (omega arith)))
+
+  pub tab-none-at : (a n : ℕ) → any f (tab g a n) ≡ false → (k : ℕ) → a ≤ k → k < a + n → f (g k) ≡ false
+  tab-none-at a n e k p q = by (f (g k)) (λ t. lie (sym e ∙ any-tab a n k p q t)) (λ t. t)
+
   pub tab-any : {X : Type 0} (a n : ℕ) → any f (tab g a n) ≡ true → ((k : ℕ) → k < a + n → f (g k) ≡ true → X) → X
   unfolding any
   tab-any a zero e w = lie e
@@ -245,3 +254,9 @@ module _ {A : Type 0} (f : A → Bool) (g : ℕ → A) where
       by (f (g a))
       (λ u. w a (omega arith) u)
       (λ u. tab-any (suc a) n (rw u at z) (λ k l. w k (omega arith)))
+
+-- numbers in a row, by index
+pub from-tab : (a n : ℕ) → from a n ≡ tab (λ k. k) a n
+unfolding from
+from-tab a zero = refl
+from-tab a (suc n) = ap (λ l. a ∷ l) (from-tab (suc a) n)

@@ -16,7 +16,9 @@ use Rattle.memory_rows.specs.Rows.{committedRow}
 use Rattle.memory_pages.specs.Pages.{dirty, withBlock, withCount, fewerRows, MayLose}
 use Rattle.engine_pages.specs.Pages.{PagesNow, pagesOf, pageAt, tuplesAt, entryOf, firstRow, There, swapped}
 use Rattle.engine_pages.specs.Pending.{applyPending, appliedAll, AppliesOne, Applies, Applied}
-use Rattle.engine_pages.proofs.Places.{now-becomes, counted, full, room, page-end, pos-of, still-there}
+use Rattle.engine_pages.proofs.Places.{now-becomes, counted, full, room, page-end, still-there}
+use Rattle.basics.proofs.Numbers.{pos-of}
+use Rattle.basics.proofs.Elements.{length-zero}
 use Rattle.engine_pages.proofs.Rows.{page-fresh}
 use Rattle.engine_pages.proofs.Removing.{becomes-to}
 use Rattle.basics.proofs.Parts.{remove-set}
@@ -274,10 +276,6 @@ module _ {m : List ℕ} {p : ℕ} (a : There m p) where
     pub left-empty : r ≡ 0 → entryOf m1 p .count ≡ 0
     left-empty z = ap (λ (f : Flat). entryIn f p .count) (o .becomes .flat) ∙ ap (λ (e : Entry). e .count) (getD-set-same (flatOf m .entries) p less noEntry (a .inside)) ∙ z
 
-    nil : (xs : List Held) → length xs ≡ 0 → xs ≡ []
-    nil [] e = refl
-    nil (y ∷ ys) e = absurd (omega arith)
-
     pub left-none : {m2 : List ℕ} → r ≡ 0 → Becomes m1 m2 (withEntries (flatOf m1) (removeAt p (flatOf m1 .entries))) → Applied m m2 p 0
     unfolding swapped nest total sum
     left-none {m2} z v =
@@ -286,7 +284,7 @@ module _ {m : List ℕ} {p : ℕ} (a : There m p) where
         let t : PagesNow m m2 (swapped p [] (pagesOf m)) =
         now-becomes (becomes-to (withRows (flatOf m) R) (becomes-then m m1 m2 _ (λ (y : Flat). withEntries y (removeAt p (y .entries))) (o .becomes) v) (remove-set (flatOf m .entries) p less))
         (counted-exchange (flatOf m .entries) [] p 1 (counted m (a .has-store)) tt)
-        (ap (λ (ws : List Held). nest (removeAt p (flatOf m .entries)) (take (firstRow m p) rs ++ (ws ++ drop (firstRow m p + entryOf m p .count) rs))) (nil hs (sym (o .count) ∙ z))
+        (ap (λ (ws : List Held). nest (removeAt p (flatOf m .entries)) (take (firstRow m p) rs ++ (ws ++ drop (firstRow m p + entryOf m p .count) rs))) (length-zero hs (sym (o .count) ∙ z))
         ∙ for-page (flatOf m) (full a) p (a .inside) [] [] refl) in
         subst (λ (k : ℕ). Applied m m2 p k) z (record { count = o .count; none-left = λ q. t; some-left = λ q. absurd (q z) })
 

@@ -7,7 +7,7 @@ use Rattle.block_forms.specs.Limits.{joinSum}
 use Rattle.model.specs.State.{Held, Page}
 use Rattle.model.specs.Rules.{heldSize, joins, joined, fresh, settle, settleFull}
 use Rattle.model.specs.Places.{onPage}
-use Rattle.basics.proofs.Elements.{nonempty}
+use Rattle.basics.proofs.Elements.{nonempty, length-zero}
 use Rattle.model.proofs.Rows.{joins-table}
 use Rattle.memory_layout.specs.Flat.{flatOf, Room, Becomes, withEntries}
 use Rattle.memory_layout.proofs.Exchange.{sum-append, counted-exchange, pages-joined}
@@ -16,14 +16,10 @@ use Rattle.engine_pages.specs.Pages.{PagesNow, pagesOf, pageAt, tuplesAt
 use Rattle.memory_layout.specs.Elements.{rowsFrom, RowRange}
 use Rattle.engine_pages.specs.Changes.{Tries, settledAt, settledNext, settledBy}
 use Rattle.engine_pages.proofs.Places.{now-becomes, counted, full, has-row, now-to, now-stay, now-pages, swap-same}
-use Rattle.engine_pages.proofs.Places.{from-page, ends-at, page-end, room, pos-of, tuples-are, page-table, page-frozen}
+use Rattle.engine_pages.proofs.Places.{from-page, ends-at, page-end, room, tuples-are, page-table, page-frozen}
+use Rattle.basics.proofs.Numbers.{pos-of}
 use Rattle.engine_pages.proofs.Rows.{page-fresh}
 use Rattle.engine_pages.proofs.Around.{on-swap, on-changed, settle-full, settle-empty, before-none, before-joins, before-apart}
-
-pub empty-none : (xs : List Held) → length xs ≡ 0 → isEmpty xs ≡ true
-unfolding isEmpty
-empty-none [] e = refl
-empty-none (x ∷ xs) e = absurd (omega arith)
 
 module _ (p q : Page) where
   pub joins-frozen : p .frozen ≡ true → joins p q ≡ false
@@ -131,8 +127,8 @@ tries-done {m} {m'} {p} a r t =
 module _ {m : List ℕ} {p : ℕ} (a : There m p) (t : ℕ) (hs : List Held) (rest : List Page) where
   -- nothing is left
   pub settled-none : length hs ≡ 0 → swapped p [] (pagesOf m) ≡ settledBy p rest (fresh t hs) (pagesOf m)
-  unfolding settledBy fresh
-  settled-none e = sym (on-swap a _ [] (λ prev qs. settle-empty rest prev (fresh t hs) qs (empty-none hs e)))
+  unfolding settledBy fresh isEmpty
+  settled-none e = sym (on-swap a _ [] (λ prev qs. settle-empty rest prev (fresh t hs) qs (ap isEmpty (length-zero hs e))))
 
   -- the changed page stands, and is joined as it may be
   pub settled-by : 0 < length hs → {m1 : List ℕ} → PagesNow m m1 (swapped p (fresh t hs ∷ []) (pagesOf m)) → settledAt p (pagesOf m1) rest ≡ settledBy p rest (fresh t hs) (pagesOf m)

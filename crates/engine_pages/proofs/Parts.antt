@@ -11,7 +11,8 @@ use Rattle.model.proofs.Splits.{Small, half-between}
 use Rattle.basics.proofs.Elements.{all-take, all-drop}
 use Rattle.engine_pages.specs.Pages.{PagesNow, pagesOf, pageAt, tuplesAt, entryOf, There, swapped}
 use Rattle.engine_pages.specs.Changes.{Dirty, Halved}
-use Rattle.engine_pages.proofs.Places.{now-to, now-then, now-pages, swap-first, swap-second, first-there, first-page, second-there, second-page, many, pos-of}
+use Rattle.engine_pages.proofs.Places.{now-to, now-then, now-pages, swap-first, swap-second, first-there, first-page, second-there, second-page, many}
+use Rattle.basics.proofs.Numbers.{pos-of}
 use Rattle.engine_pages.proofs.Splitting.{once-whole, once-parts, dirty-fresh, tuples-small}
 
 -- ---- how deep is enough

@@ -1,7 +1,6 @@
 -- Pages by place: what stands where after pages were exchanged, and one change after another.
-use Rattle.basics.proofs.Kit.{_≡_, refl, sym, ap, _∙_, ⊎-elim, true, some, List, [], _∷_, _++_, append-assoc, append-nil, ℕ, suc, _+_, _*_, _≤_, _<_, _-_, length, take, drop, getD}
+use Rattle.basics.proofs.Kit.{_≡_, refl, sym, ap, _∙_, true, some, List, [], _∷_, _++_, append-assoc, append-nil, ℕ, suc, _+_, _*_, _≤_, _<_, _-_, length, take, drop, getD}
 use Rattle.basics.proofs.Kit.{length-append, take-append-drop, take-at, drop-at, length-take-le, arith}
-use Rattle.basics.proofs.Tabs.{lt-or-ge}
 use Rattle.model.specs.State.{Held, Page, Store}
 use Rattle.model.specs.Transactions.{changed}
 use Rattle.memory_layout.specs.Flat.{Flat, flatOf, rowIn, noRow, Room, Becomes, withRows, withEntries}
@@ -146,12 +145,6 @@ module _ {m : List ℕ} {p i : ℕ} (g : RowOn m p i) where
   tuple-is =
       let z : firstRow m p + (i - firstRow m p) ≡ i = omega (arith, g .least) in
       tuple-at (flatOf m) (full (g .there)) p (i - firstRow m p) noRow (omega (arith, g .least, g .most)) ∙ ap (rowIn (flatOf m)) z
-
-pub less-than : {a b : ℕ} → a ≤ b → (a ≡ b → ⊥) → a < b
-less-than {a} {b} l n = ⊎-elim (λ x. x) (λ x. absurd (n (omega arith))) (lt-or-ge a b)
-
-pub pos-of : (n : ℕ) → (n ≡ 0 → ⊥) → 0 < n
-pos-of n h = less-than (omega arith) (λ z. h (sym z))
 
 -- where the pages are xs, q and more, q stands behind xs
 module _ (m : List ℕ) (h : holdsStore m ≡ true) (xs : List Page) (q : Page) (ys : List Page) (e : pagesOf m ≡ xs ++ q ∷ ys) (p : ℕ) (ep : p ≡ length xs) where

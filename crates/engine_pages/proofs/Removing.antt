@@ -1,6 +1,6 @@
 -- A removal, on a frozen page and on another.
-use Rattle.basics.proofs.Kit.{_≡_, refl, sym, ap, _∙_, subst, Bool, true, false, List, [], _∷_, _++_, ℕ, suc, _+_, _≤_, _<_, _-_, length, take, drop, getD, set, length-set}
-use Rattle.basics.proofs.Kit.{getD-set-same, set-set, take-set-le, drop-set-lt, arith}
+use Rattle.basics.proofs.Kit.{_≡_, refl, sym, ap, _∙_, subst, Bool, true, false, List, [], _∷_, _++_, ℕ, suc, _<_, _-_, length, take, drop, getD, set, length-set}
+use Rattle.basics.proofs.Kit.{getD-set-same, set-set, arith}
 use Rattle.basics.specs.Basics.{if_then_else_, isEmpty}
 use Rattle.model.specs.State.{removing, Held, Page}
 use Rattle.model.specs.Rules.{isAdding, removeNow, pendRemove, withPending, withTuples, fresh, settle}
@@ -14,19 +14,17 @@ use Rattle.memory_layout.proofs.Laws.{becomes-then}
 use Rattle.memory_layout.proofs.Nest.{Counted}
 use Rattle.memory_layout.proofs.Exchange.{counted-set, counted-exchange, row-removed, row-dropped}
 use Rattle.basics.proofs.Parts.{length-remove}
+use Rattle.basics.proofs.Elements.{length-zero}
 use Rattle.memory_pages.specs.Pages.{dirty, withBlock, withCount, fewerRows, MayLose}
 use Rattle.engine_pages.specs.Pages.{PagesNow, pagesOf, pageAt, tuplesAt, entryOf, firstRow, There, RowOn, swapped}
 use Rattle.engine_pages.specs.Changes.{Tries, settledAt, settledBy}
-use Rattle.engine_pages.proofs.Places.{less-than, now-to, now-then, now-stay, now-becomes, counted, full, room, many}
+use Rattle.engine_pages.proofs.Places.{now-to, now-then, now-stay, now-becomes, counted, full, room, many}
 use Rattle.engine_pages.proofs.Places.{has-row, swap-same, row-in, row-inside, tuple-is, first-there, first-page, still-there}
 use Rattle.engine_pages.proofs.Around.{on-swap, on-same}
 use Rattle.engine_pages.proofs.Rows.{at-row, row-now, page-fresh}
 use Rattle.engine_pages.proofs.Committing.{with-same}
-use Rattle.engine_pages.proofs.Joining.{empty-none, tries-done, settled-none, settled-by}
+use Rattle.engine_pages.proofs.Joining.{tries-done, settled-none, settled-by}
 use Rattle.basics.proofs.Parts.{remove-set}
-
-pub more : (k : ℕ) → 1 ≤ k → (k ≡ 1 → ⊥) → 1 < k
-more k l h = less-than l (λ z. h (sym z))
 
 -- ---- tuple j of a frozen page
 
@@ -37,10 +35,9 @@ module _ (j : ℕ) (hs : List Held) (lt : j < length hs) where
 
   -- the last one stays
   taken-last : isAdding (getD hs j noRow .pending) ≡ true → length hs ≡ 1 → pendRemoveAt j hs ≡ hs
-  unfolding pendRemoveAt if_then_else_
+  unfolding pendRemoveAt if_then_else_ isEmpty
   taken-last e l =
-      ap (λ (z : List Held). if isEmpty z then hs else z) (later-none e)
-      ∙ ap (λ (b : Bool). if b then hs else removeAt j hs) (empty-none (removeAt j hs) (length-remove j hs lt ∙ omega arith))
+      ap (λ (z : List Held). if isEmpty z then hs else z) (later-none e ∙ length-zero (removeAt j hs) (length-remove j hs lt ∙ omega arith))
 
   taken-away : isAdding (getD hs j noRow .pending) ≡ true → 1 < length hs → pendRemoveAt j hs ≡ removeAt j hs
   taken-away e l = taken-is j hs (removeAt j hs) (later-none e) (omega (arith, length-remove j hs lt))

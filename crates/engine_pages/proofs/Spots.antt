@@ -1,7 +1,7 @@
 -- The place of a tuple among the rows of its table is where the model puts it.
-use Rattle.basics.proofs.Kit.{_≡_, refl, sym, ap, _∙_, ⊎-elim, Bool, true, false, none, List, [], _∷_, _++_, ℕ, suc, _+_, _≤_, _<_, zero, _-_, add-one, eqb, length, take, drop, getD}
+use Rattle.basics.proofs.Kit.{_≡_, refl, sym, ap, _∙_, ⊎-elim, true, false, none, List, [], _∷_, _++_, ℕ, suc, _+_, _≤_, _<_, zero, _-_, add-one, eqb, length, take, drop, getD}
 use Rattle.basics.proofs.Kit.{length-drop, take-add, getD-drop, length-take-le, getD-take, eqb-true, eqb-false, arith}
-use Rattle.basics.proofs.Facts.{by, lie}
+use Rattle.basics.proofs.Facts.{by}
 use Rattle.block_forms.specs.Tuple.{Tuple}
 use Rattle.model.specs.State.{Held}
 use Rattle.model.specs.Rules.{placeAfter, placeFront, place, fresh, withoutPending}
@@ -20,7 +20,7 @@ use Rattle.memory_layout.proofs.Laws.{holds-room, filled}
 use Rattle.memory_rows.specs.declared.Row.{Row}
 use Rattle.engine_pages.specs.Pages.{pagesOf, pageAt, firstRow, swapped}
 use Rattle.engine_pages.specs.Spots.{tupleBy, placedOn, GrowAt, AddAt, PlaceAt}
-use Rattle.engine_pages.proofs.Places.{less-than}
+use Rattle.basics.proofs.Numbers.{less-than}
 use Rattle.engine_pages.proofs.Placing.{other-table, no-key, place-on, place-front, front-turn, front-on, front-new, front-last}
 use Rattle.basics.proofs.Found.{last-is}
 

@@ -11,7 +11,8 @@ use Rattle.memory_pages.specs.Pages.{withBlock}
 use Rattle.engine_pages.specs.Pages.{PagesNow, pagesOf, pageAt, tuplesAt, entryOf, There, swapped}
 use Rattle.engine_pages.specs.Changes.{Dirty, Tries, settledAt, settledBy}
 use Rattle.engine_pages.specs.Pending.{hasPending, appliedAll, Applied, FirstFrozen}
-use Rattle.engine_pages.proofs.Places.{now-to, now-then, first-there, first-page, pos-of}
+use Rattle.basics.proofs.Numbers.{pos-of}
+use Rattle.engine_pages.proofs.Places.{now-to, now-then, first-there, first-page}
 use Rattle.engine_pages.proofs.Around.{on-swap, on-same, around-first}
 use Rattle.engine_pages.proofs.Rows.{page-now}
 use Rattle.engine_pages.proofs.Splitting.{dirty-fresh}

@@ -1,5 +1,5 @@
 -- A fresh store: over any old content, zeros in the head but for three numbers, and no block in use.
-use Rattle.basics.proofs.Kit.{_≡_, refl, ap, _∙_, true, not, some, List, ℕ, _+_, _*_, _≤_, _<_, _-_, eqb, length, getD, length-replicate, replicate, le-ltb, arith}
+use Rattle.basics.proofs.Kit.{_≡_, refl, ap, _∙_, true, not, some, List, ℕ, _+_, _*_, _≤_, _<_, eqb, length, getD, length-replicate, replicate, le-ltb, arith}
 use Rattle.basics.specs.Basics.{if_then_else_, all}
 use Rattle.model.specs.Recover.{freshStore}
 use Rattle.memory_bytes.specs.Bytes.{le2, le4, bytes4, Apart, Wrote}

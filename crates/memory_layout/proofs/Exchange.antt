@@ -1,13 +1,13 @@
 -- Pages as runs of the rows: where each starts and what it holds; what becomes of the pages where rows and entries change together.
-use Rattle.basics.proofs.Kit.{_≡_, refl, sym, ap, _∙_, List, [], _∷_, _++_, ℕ, suc, _+_, _≤_, _<_, zero, _-_, add-one, length, take, drop, getD, set, length-append, length-drop}
-use Rattle.basics.proofs.Kit.{take-append-drop, length-set, drop-of-length-le, set-split, drop-drop, take-add, take-all, take-suc, getD-drop, length-take-le, getD-take, arith}
+use Rattle.basics.proofs.Kit.{_≡_, refl, sym, ap, _∙_, List, [], _∷_, _++_, ℕ, suc, _+_, _≤_, _<_, zero, _-_, add-one, length, take, drop, getD, set, length-drop}
+use Rattle.basics.proofs.Kit.{length-set, drop-of-length-le, set-split, drop-drop, take-add, take-all, take-suc, getD-drop, length-take-le, getD-take, arith}
 use Rattle.basics.specs.Basics.{sum}
 use Rattle.model.specs.State.{Held, Page}
 use Rattle.basics.specs.Lists.{insertAt, removeAt}
-use Rattle.memory_layout.specs.Flat.{Flat, entryIn, noEntry, noRow, rowIn}
+use Rattle.memory_layout.specs.Flat.{Flat, entryIn, noEntry}
 use Rattle.memory_layout.specs.Store.{pageOf, nest, pagesIn, pageIn, total, startOf}
 use Rattle.memory_layout.specs.declared.Entry.{Entry}
-use Rattle.memory_layout.proofs.Nest.{Counted, counted-length, total-append, total-split, counted-at, counted-append, counted-take, counted-drop, nest-at, length-nest, nest-replace}
+use Rattle.memory_layout.proofs.Nest.{Counted, counted-length, total-append, total-split, counted-append, counted-take, counted-drop, nest-at, length-nest, nest-replace}
 use Rattle.basics.proofs.Parts.{insert-within, remove-within, set-within}
 use Rattle.basics.proofs.Parts.{length-insert, length-remove, cut-rows}
 

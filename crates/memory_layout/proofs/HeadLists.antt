@@ -1,10 +1,10 @@
 -- Each change of a list in the head, or of the directory entries, from the bytes written.
-use Rattle.basics.proofs.Kit.{_≡_, refl, sym, ap, _∙_, Bool, true, false, not, List, [], _∷_, _++_, ℕ, suc, _+_, _*_, _%_, _≤_, _<_, _/_, _-_, zero-add, eqb, length, getD, set, eq-eqb}
+use Rattle.basics.proofs.Kit.{_≡_, refl, sym, ap, _∙_, Bool, true, false, not, List, [], _∷_, _++_, ℕ, suc, _+_, _*_, _%_, _≤_, _<_, _/_, _-_, eqb, length, getD, set, eq-eqb}
 use Rattle.basics.proofs.Kit.{ne-eqb, arith}
 use Rattle.basics.specs.Basics.{if_then_else_}
 use Rattle.memory_bytes.specs.Bytes.{le2, le4, bytes2, bytes4, Apart, Wrote, Lowered}
 use Rattle.basics.specs.Lists.{tab, removeAt}
-use Rattle.basics.proofs.Tabs.{getD-tab, tab-add, tab-set, tab-remove}
+use Rattle.basics.proofs.Tabs.{tab-at, tab-set, tab-remove}
 use Rattle.basics.proofs.Searches.{tab-next, tab-none}
 use Rattle.memory_bytes.proofs.Bytes.{le2-below, le2-above, le4-below, le4-above, le2-wrote, le4-wrote, le4-lowered}
 use Rattle.model.specs.Transactions.{isFor}
@@ -13,7 +13,6 @@ use Rattle.memory_layout.specs.Flat.{flatOf, capacityOf, opensOf, namedO
 use Rattle.memory_layout.specs.Opens.{activeOf, OpenFits, findOpen, oneIf}
 use Rattle.memory_layout.specs.declared.Head.{Head}
 use Rattle.memory_layout.specs.declared.Open.{Open}
-use Rattle.memory_layout.proofs.Frame.{tab-cong}
 use Rattle.memory_layout.proofs.Laws.{Known, known, opens-length, named-length, directories-length}
 use Rattle.memory_layout.proofs.Changes.{same-below, same-above, apart-then, becomes-head, becomes-opens, becomes-named, becomes-directories}
 use Rattle.basics.proofs.Tabs.{tab-push}
@@ -55,12 +54,8 @@ module _ {m m1 m2 m3 m4 m5 m6 m7 : List ℕ} {x : ℕ} (h : Head) (room : Room m
       let f6 : le4 m7 24 ≡ h .begun = k7 24 (omega arith) ∙ le4-wrote _ bb w6 in
       let f7 : le4 m7 28 ≡ h .taken = le4-wrote _ (omega (arith, rep .many, rep .taken)) w7 in
       let running : not (eqb (le4 m7 20) 0) ≡ h .running = ap (λ (z : ℕ). not (eqb z 0)) f5 ∙ one-back (h .running) in
-      becomes-head m m7 room (a7 .size) (same-below 0 4 a7 (omega arith)) (same-above 32 (length m) a7 (omega arith)) rep
+      becomes-head m m7 room (a7 .size) (same-below 0 4 a7 (omega arith)) (λ b p. a7 .above b p) rep
       (λ i. record { capacity = f1 i; blocks = f2 i; level = f3 i; next = f4 i; running = running i; begun = f6 i; taken = f7 i })
-
--- an element by its index
-element : {A : Type 0} (f : ℕ → A) (n i : ℕ) (d : A) → i < n → getD (tab f 0 n) i d ≡ f i
-element f n i d h = getD-tab f 0 n i d h ∙ ap f (zero-add i)
 
 -- ---- open transactions
 
@@ -83,7 +78,7 @@ pub open-at : (m : List ℕ) (i x : ℕ) → Room m → i < length (opensOf m) �
     → activeOf (record { transaction = x / 1048576; written = x % 1048576 }) ≡ getD (opensOf m) i noOpen
 unfolding opensOf openAt
 open-at m i x room h e =
-    ap (λ (w : ℕ). record { transaction = w / 1048576; written = w % 1048576 }) e ∙ sym (element (openAt m) (le4 m 36) i noOpen (omega (arith, opens-length m)))
+    ap (λ (w : ℕ). record { transaction = w / 1048576; written = w % 1048576 }) e ∙ sym (tab-at (openAt m) (le4 m 36) i noOpen (omega (arith, opens-length m)))
 
 module _ {m m' : List ℕ} (room : Room m) (i : ℕ) where
   pub open-set : (o : Open) → i < length (opensOf m) → OpenFits o → Wrote m m' (128 + i * 4) (bytes4 (o .transaction * 1048576 + o .written))
@@ -93,7 +88,7 @@ module _ {m m' : List ℕ} (room : Room m) (i : ℕ) where
       let k : Known m = known m room in
       let n : le4 m' 36 ≡ le4 m 36 = le4-below (w .apart) 36 (omega arith) in
       becomes-opens m m' room (w .apart .size) (same-below 0 36 (w .apart) (omega arith)) (same-below 40 88 (w .apart) (omega arith))
-      (same-above 384 (length m) (w .apart) (omega arith)) (omega arith)
+      (λ b p. w .apart .above b (omega arith)) (omega arith)
       (ap (tab (openAt m') 0) n
       ∙ tab-set (openAt m) (openAt m') (le4 m 36) i (activeOf o) (omega arith)
       (λ j b. open-by m m' j j (le4-below (w .apart) (128 + j * 4) (omega arith)))
@@ -112,7 +107,7 @@ module _ {m m' : List ℕ} (room : Room m) (i : ℕ) where
         becomes-opens m m2 room (v .apart .size ∙ w .apart .size)
         (λ b p q. v .apart .below b (omega arith) ∙ w .apart .below b (omega arith))
         (λ b p q. v .apart .above b (omega arith) ∙ w .apart .below b (omega arith))
-        (λ b p q. v .apart .above b (omega arith) ∙ w .apart .above b (omega arith))
+        (λ b p. v .apart .above b (omega arith) ∙ w .apart .above b (omega arith))
         (omega arith)
         (ap (tab (openAt m2) 0) c
         ∙ tab-push (openAt m) (openAt m2) (le4 m 36) (activeOf o) (open-new m2 (le4 m 36) o f new)
@@ -127,7 +122,7 @@ module _ {m m' : List ℕ} (room : Room m) (i : ℕ) where
         becomes-opens m m2 room (v .apart .size ∙ w .apart .size)
         (λ b p q. v .apart .below b (omega arith) ∙ w .apart .below b (omega arith))
         (λ b p q. v .apart .above b (omega arith) ∙ w .apart .below b (omega arith))
-        (λ b p q. v .apart .above b (omega arith) ∙ w .apart .above b (omega arith))
+        (λ b p. v .apart .above b (omega arith) ∙ w .apart .above b (omega arith))
         (omega arith)
         (ap (tab (openAt m2) 0) c
         ∙ tab-remove (openAt m) (openAt m2) (le4 m 36) i (omega arith)
@@ -162,7 +157,7 @@ named-new m c i b h e = omega arith
 
 pub named-at : (m : List ℕ) (i x : ℕ) → Room m → i < length (namedOf m) → x ≡ le2 m (1024 + capacityOf m * 87 + i * 2) → x % 4096 ≡ getD (namedOf m) i 0
 unfolding namedOf namedBlock
-named-at m i x room h e = ap (λ (w : ℕ). w % 4096) e ∙ sym (element (namedBlock m (capacityOf m)) (le4 m 40) i 0 (omega (arith, named-length m)))
+named-at m i x room h e = ap (λ (w : ℕ). w % 4096) e ∙ sym (tab-at (namedBlock m (capacityOf m)) (le4 m 40) i 0 (omega (arith, named-length m)))
 
 module _ {m m' : List ℕ} (room : Room m) {a : ℕ} (b : ℕ) (small : b < 4096) where
   pub named-set : (i : ℕ) → i < length (namedOf m) → a ≡ 1024 + capacityOf m * 87 + i * 2 → Wrote m m' a (bytes2 b) → Becomes m m' (withNamed (flatOf m) (set (namedOf m) i b))
@@ -173,7 +168,7 @@ module _ {m m' : List ℕ} (room : Room m) {a : ℕ} (b : ℕ) (small : b < 4096
       let n : le4 m' 40 ≡ le4 m 40 = le4-below (w .apart) 40 (omega arith) in
       let new : le2 m' (1024 + c * 87 + i * 2) ≡ b = ap (le2 m') (sym e) ∙ le2-wrote b (omega arith) w in
       becomes-named m m' room (w .apart .size) (same-below 0 40 (w .apart) (omega arith)) (same-below 44 (980 + c * 87) (w .apart) (omega arith)) (omega arith)
-      ((λ x. tab (namedBlock m' (le4-below (w .apart) 4 (omega arith) x)) 0 (n x))
+      (ap (tab (namedBlock m' c) 0) n
       ∙ tab-set (namedBlock m c) (namedBlock m' c) (le4 m 40) i b (omega arith)
       (λ j l. named-by m m' c j (le2-below (w .apart) (1024 + c * 87 + j * 2) (omega arith)))
       (named-new m' c i b small new)
@@ -186,7 +181,6 @@ module _ {m m' : List ℕ} (room : Room m) {a : ℕ} (b : ℕ) (small : b < 4096
       let k : Known m = known m room in
       let c : ℕ = capacityOf m in
       let l : ℕ = le4 m 40 in
-      let cap : le4 m2 4 ≡ c = le4-below (v .apart) 4 (omega arith) ∙ le4-below (w .apart) 4 (omega arith) in
       let count : le4 m2 40 ≡ l + 1 = le4-wrote (n + 1) (omega arith) v ∙ ap (λ (z : ℕ). z + 1) en in
       let place : 1024 + c * 87 + l * 2 ≡ a = omega arith in
       let new : le2 m2 (1024 + c * 87 + l * 2) ≡ b = ap (le2 m2) place ∙ le2-above (v .apart) a (omega arith) ∙ le2-wrote b (omega arith) w in
@@ -194,7 +188,7 @@ module _ {m m' : List ℕ} (room : Room m) {a : ℕ} (b : ℕ) (small : b < 4096
       (λ x p q. v .apart .below x (omega arith) ∙ w .apart .below x (omega arith))
       (λ x p q. v .apart .above x (omega arith) ∙ w .apart .below x (omega arith))
       (omega arith)
-      ((λ x. tab (namedBlock m2 (cap x)) 0 (count x))
+      (ap (tab (namedBlock m2 c) 0) count
       ∙ tab-push (namedBlock m c) (namedBlock m2 c) l b (named-new m2 c l b small new)
       (λ j r. named-by m m2 c j (le2-above (v .apart) (1024 + c * 87 + j * 2) (omega arith) ∙ le2-below (w .apart) (1024 + c * 87 + j * 2) (omega arith))))
 
@@ -203,7 +197,7 @@ unfolding namedOf
 named-clear {m} {m'} room w =
     let n : le4 m' 40 ≡ 0 = le4-wrote 0 (omega arith) w in
     becomes-named m m' room (w .apart .size) (same-below 0 40 (w .apart) (omega arith)) (same-above 44 (980 + capacityOf m * 87) (w .apart) (omega arith)) (omega arith)
-    (ap (tab (namedBlock m' (le4 m' 4)) 0) n)
+    (ap (tab (namedBlock m' (capacityOf m)) 0) n)
 
 -- ---- directory blocks written
 
@@ -217,7 +211,7 @@ directory-new m i b h e = omega arith
 
 pub directory-at : (m : List ℕ) (i x : ℕ) → Room m → i < length (directoriesOf m) → x ≡ le4 m (96 + i * 4) → x % 4096 ≡ getD (directoriesOf m) i 0
 unfolding directoriesOf directoryAt
-directory-at m i x room h e = ap (λ (w : ℕ). w % 4096) e ∙ sym (element (directoryAt m) (le4 m 44) i 0 (omega (arith, directories-length m)))
+directory-at m i x room h e = ap (λ (w : ℕ). w % 4096) e ∙ sym (tab-at (directoryAt m) (le4 m 44) i 0 (omega (arith, directories-length m)))
 
 pub directory-push : {m m' m2 : List ℕ} {n : ℕ} (b : ℕ) → Room m → n ≡ le4 m 44 → length (directoriesOf m) < 4 → b < 4096 → Wrote m m' (96 + n * 4) (bytes4 b)
     → Wrote m' m2 44 (bytes4 (n + 1)) → Becomes m m2 (withDirectories (flatOf m) (directoriesOf m ++ b ∷ []))
@@ -231,7 +225,7 @@ directory-push {m} {m'} {m2} {n} b room e h small w v =
     becomes-directories m m2 room (v .apart .size ∙ w .apart .size)
     (λ x p q. v .apart .below x (omega arith) ∙ w .apart .below x (omega arith))
     (λ x p q. v .apart .above x (omega arith) ∙ w .apart .below x (omega arith))
-    (λ x p q. v .apart .above x (omega arith) ∙ w .apart .above x (omega arith))
+    (λ x p. v .apart .above x (omega arith) ∙ w .apart .above x (omega arith))
     (omega arith)
     (ap (tab (directoryAt m2) 0) count
     ∙ tab-push (directoryAt m) (directoryAt m2) l b (directory-new m2 l b small new)
@@ -242,4 +236,4 @@ unfolding directoriesOf
 directories-clear {m} {m'} room w =
     let n : le4 m' 44 ≡ 0 = le4-wrote 0 (omega arith) w in
     becomes-directories m m' room (w .apart .size) (same-below 0 44 (w .apart) (omega arith)) (same-above 48 48 (w .apart) (omega arith))
-    (same-above 112 (length m) (w .apart) (omega arith)) (omega arith) (ap (tab (directoryAt m') 0) n)
+    (λ b p. w .apart .above b (omega arith)) (omega arith) (ap (tab (directoryAt m') 0) n)

@@ -1,6 +1,6 @@
 -- What the flat lists of any memory with room are known to have: how long each is, where each page starts; and from the flat lists to
 -- the store that the memory holds.
-use Rattle.basics.proofs.Kit.{_≡_, refl, sym, ap, _∙_, true, false, some, none, List, ℕ, suc, _+_, _*_, _≤_, _<_, zero, _-_, zero-le, add-one, add-zero, zero-add, eqb, length, take, le-leb}
+use Rattle.basics.proofs.Kit.{_≡_, refl, sym, ap, _∙_, true, false, some, none, List, ℕ, suc, _+_, _*_, _≤_, _<_, zero, _-_, add-one, add-zero, zero-add, eqb, length, take, le-leb}
 use Rattle.basics.proofs.Kit.{leb-true, lt-ltb, le-ltb, eqb-true, eq-eqb, ltb-true, arith}
 use Rattle.basics.specs.Basics.{if_then_else_, all, from, sum}
 use Rattle.basics.proofs.Facts.{by, never, and-true}
@@ -162,9 +162,9 @@ passed m h =
     record {
       sign = eqb-true _ _ (t2 .0);
       range = range-in _ _ _ (t3 .0);
-      tables = λ t b. all-from (endRises m) 0 7 (t4 .0) t zero-le (rw zero-add b);
+      tables = λ t b. all-from (endRises m) 7 (t4 .0) t b;
       begins = eqb-true _ _ (t5 .0);
-      rises = λ p b. ltb-true _ _ (all-from (startRises m) 0 (pageCount m) (t5 .1) p zero-le (rw zero-add b));
+      rises = λ p b. ltb-true _ _ (all-from (startRises m) (pageCount m) (t5 .1) p b);
     }
 
 pub holds-room : (m : List ℕ) → holdsStore m ≡ true → Room m
@@ -191,12 +191,12 @@ unfolding holdsStore tablesRise startsRise hasRows entriesOf entryAt
 held-again m r h =
     let c : ℕ = capacityOf m in
     let k : Known m = known m r in
-    let tables : tablesRise m ≡ true = from-all (endRises m) 0 7 (λ t a b. le-leb _ _ (rw add-one at (r .tables t (omega arith)))) in
+    let tables : tablesRise m ≡ true = from-all (endRises m) 7 (λ t b. le-leb _ _ (rw add-one at (r .tables t b))) in
     let first : eqb (startAt m c 0) 0 ≡ true = eq-eqb _ _ (r .begins) in
     let rise : all (startRises m) (from 0 (pageCount m)) ≡ true =
-    from-all (startRises m) 0 (pageCount m)
-    (λ p a b.
-    let l : 1 ≤ startAt m c (suc p) - startAt m c p = leb-true _ _ (tab-all hasRows (entryAt m c) 0 (pageCount m) h p a b) in
+    from-all (startRises m) (pageCount m)
+    (λ p b.
+    let l : 1 ≤ startAt m c (suc p) - startAt m c p = leb-true _ _ (tab-all hasRows (entryAt m c) 0 (pageCount m) h p (omega arith) (omega arith)) in
     lt-ltb (startAt m c p) (startAt m c (suc p)) (omega arith)) in
     every-cons _ _ (le-leb 1024 (length m) (omega arith))
     ∙ every-cons _ _ (eq-eqb _ _ (r .sign))

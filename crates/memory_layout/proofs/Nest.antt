@@ -1,11 +1,10 @@
 -- Nested pages over flat rows: in parts, and with entries and their rows exchanged.
-use Rattle.basics.proofs.Kit.{_≡_, refl, sym, ap, _∙_, true, List, [], _∷_, _++_, append-assoc, ℕ, suc, _+_, _≤_, _<_, zero, _-_, zero-add, suc-add, length, take, drop, getD, set}
-use Rattle.basics.proofs.Kit.{length-drop, take-append-drop, set-split, drop-drop, take-add, take-append-le, drop-append-le, length-take-le, take-nil, take-take, drop-nil, le-leb, leb-true}
+use Rattle.basics.proofs.Kit.{_≡_, refl, sym, ap, _∙_, true, List, [], _∷_, _++_, ℕ, suc, _+_, _≤_, _<_, zero, zero-add, length, take, drop, getD}
+use Rattle.basics.proofs.Kit.{length-drop, take-append-drop, drop-drop, take-append-le, drop-append-le, length-take-le, take-take, le-leb, leb-true}
 use Rattle.basics.proofs.Kit.{arith}
 use Rattle.basics.specs.Basics.{all, sum}
 use Rattle.basics.proofs.Facts.{AllOf, and-true}
 use Rattle.model.specs.State.{Held, Page}
-use Rattle.basics.specs.Lists.{insertAt, removeAt}
 use Rattle.memory_layout.specs.Store.{pageOf, nest, total, hasRows}
 use Rattle.memory_layout.specs.declared.Entry.{Entry}
 use Rattle.basics.proofs.Parts.{drop-take}

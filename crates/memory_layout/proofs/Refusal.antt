@@ -1,13 +1,11 @@
 -- The tests that decide whether the memory holds a store, and what they mean.
-use Rattle.basics.proofs.Kit.{_≡_, refl, sym, ap, _∙_, ⊎-elim, Bool, true, false, _&&_, List, [], _∷_, ℕ, suc, _+_, _*_, _≤_, _<_, zero, _-_, add-one, add-zero, zero-add, leb, eqb, ltb}
+use Rattle.basics.proofs.Kit.{_≡_, refl, sym, ap, _∙_, Bool, true, false, _&&_, List, [], _∷_, ℕ, suc, _+_, _*_, _≤_, _<_, zero, _-_, add-one, add-zero, zero-add, leb, eqb, ltb}
 use Rattle.basics.proofs.Kit.{length, le-leb, leb-true, lt-ltb, le-ltb, lt-leb, eq-eqb, ne-eqb, ltb-true, arith}
 use Rattle.basics.specs.Basics.{if_then_else_, every, all, paired, from}
-use Rattle.basics.proofs.Facts.{and-true}
 use Rattle.basics.proofs.Ands.{and-yes, and-no, and-assoc}
 use Rattle.model.specs.Recover.{memoryFor}
 use Rattle.memory_bytes.specs.Bytes.{le2, le4, column2}
 use Rattle.basics.specs.Lists.{tab}
-use Rattle.basics.proofs.Tabs.{lt-or-ge}
 use Rattle.memory_layout.specs.Places.{signature}
 use Rattle.memory_layout.specs.Views.{headOf, countsOf, tableEnd, pageCount, startAt}
 use Rattle.memory_layout.specs.Flat.{InRange, capacityOf}
@@ -15,34 +13,37 @@ use Rattle.memory_layout.specs.Store.{inRange, tablesRise, startsRise, S
 use Rattle.memory_layout.specs.declared.Head.{Head}
 use Rattle.memory_layout.specs.declared.Counts.{Counts}
 use Rattle.basics.proofs.Elements.{every-true, every-cons, every-stop, every-one}
+use Rattle.basics.proofs.Searches.{tab-all, all-tab, from-tab}
+use Rattle.basics.proofs.Firsts.{from-turn, from-end}
 
 -- ---- lists of tests
 
--- a test of numbers in a row, or of a list by index, number by number
+-- a test of numbers in a row, number by number
 module _ (f : ℕ → Bool) where
-  pub all-from : (a n : ℕ) → all f (from a n) ≡ true → (k : ℕ) → a ≤ k → k < a + n → f k ≡ true
-  unfolding all from
-  all-from a zero h k p q = absurd (omega arith)
-  all-from a (suc n) h k p q =
-      let t = and-true (f a) (all f (from (suc a) n)) h in
-      ⊎-elim (λ (l : a < k). all-from (suc a) n (t .1) k (omega arith) (omega arith)) (λ (g : k ≤ a). let e : k ≡ a = omega arith in ap f e ∙ t .0) (lt-or-ge a k)
+  pub all-from : (n : ℕ) → all f (from 0 n) ≡ true → (k : ℕ) → k < n → f k ≡ true
+  all-from n h k b = tab-all f (λ j. j) 0 n (ap (all f) (sym (from-tab 0 n)) ∙ h) k (omega arith) (omega arith)
 
-  pub from-all : (a n : ℕ) → ((k : ℕ) → a ≤ k → k < a + n → f k ≡ true) → all f (from a n) ≡ true
-  unfolding all from
-  from-all a zero h = refl
-  from-all a (suc n) h = rw (h a (omega arith) (omega arith), from-all (suc a) n (λ k p q. h k (omega arith) (omega arith)))
+  pub from-all : (n : ℕ) → ((k : ℕ) → k < n → f k ≡ true) → all f (from 0 n) ≡ true
+  from-all n h = ap (all f) (from-tab 0 n) ∙ all-tab f (λ j. j) 0 n (λ k p q. h k (omega arith))
 
   -- turn by turn
   pub all-turn : (t n : ℕ) → t < n → all f (from t (n - t)) ≡ (f t && all f (from (t + 1) (n - (t + 1))))
-  unfolding all from
-  all-turn t n h =
-      let e : n - t ≡ suc (n - (t + 1)) = omega arith in
-      let e2 : suc t ≡ t + 1 = omega arith in
-      ap (λ (z : ℕ). all f (from t z)) e ∙ ap (λ (z : ℕ). f t && all f (from z (n - (t + 1)))) e2
+  unfolding all
+  all-turn t n h = ap (all f) (from-turn t n h)
 
   pub all-end : (t n : ℕ) → n ≤ t → all f (from t (n - t)) ≡ true
-  unfolding all from
-  all-end t n h = let e : n - t ≡ 0 = omega arith in ap (λ (z : ℕ). all f (from t z)) e
+  unfolding all
+  all-end t n h = ap (all f) (from-end t n h)
+
+-- tests joined from the left
+abbrev pub joined : Bool → List Bool → Bool
+joined b [] = b
+joined b (c ∷ cs) = joined (b && c) cs
+
+pub joined-every : (b : Bool) (bs : List Bool) → joined b bs ≡ every (b ∷ bs)
+unfolding every
+joined-every b [] = sym (and-yes b)
+joined-every b (c ∷ cs) = joined-every (b && c) cs ∙ and-assoc b c (every cs)
 
 -- ---- the head's numbers
 
@@ -89,12 +90,6 @@ in-range size h n g =
     ∙ every-cons _ _ (le-leb _ _ (g .named))
     ∙ every-one _
     ∙ le-leb _ _ (g .directories)
-
--- eleven tests joined from the left
-pub joined : (a b c d e f g h i j k : Bool) → ((((((((((a && b) && c) && d) && e) && f) && g) && h) && i) && j) && k)
-    ≡ every (a ∷ b ∷ c ∷ d ∷ e ∷ f ∷ g ∷ h ∷ i ∷ j ∷ k ∷ [])
-unfolding every
-joined a b c d e f g h i j k = simp (and-assoc, and-yes)
 
 -- ---- the pass over the tables, turn by turn: a and b are the ends of tables t and t + 1
 

@@ -1,8 +1,8 @@
 -- A row put in or taken out: the pages behind its page start one row later or earlier.
-use Rattle.basics.proofs.Kit.{_≡_, sym, ap, _∙_, ⊎-elim, List, _∷_, _++_, ℕ, suc, _+_, _*_, _%_, _≤_, _<_, _-_, add-one, length, take, drop, set, length-append, length-drop, set-split}
-use Rattle.basics.proofs.Kit.{length-take-le, arith}
+use Rattle.basics.proofs.Kit.{_≡_, sym, ap, _∙_, ⊎-elim, List, _∷_, _++_, ℕ, suc, _+_, _*_, _%_, _≤_, _<_, _-_, add-one, length, take, drop, set, set-split}
+use Rattle.basics.proofs.Kit.{arith}
 use Rattle.memory_bytes.specs.Bytes.{le2, Added}
-use Rattle.basics.specs.Lists.{tab, removeAt}
+use Rattle.basics.specs.Lists.{tab}
 use Rattle.memory_bytes.proofs.Bytes.{le2-cong, le4-cong, le2-below, le2-above, le4-below}
 use Rattle.basics.proofs.Tabs.{lt-or-ge}
 use Rattle.model.specs.State.{Held}
@@ -10,12 +10,12 @@ use Rattle.memory_layout.specs.Places.{startsAt, blocksAt}
 use Rattle.memory_layout.specs.Views.{rowCount, pageCount, tableEnd, startAt, blockWord, rowAt, entryAt}
 use Rattle.memory_layout.specs.Flat.{flatOf, capacityOf, rowsOf, entriesOf, entryIn, Room, Becomes, withRows, withEntries}
 use Rattle.memory_layout.specs.declared.Entry.{Entry}
-use Rattle.memory_layout.proofs.Frame.{Same, same-table, same-rows}
+use Rattle.memory_layout.proofs.Frame.{same-table, same-rows}
 use Rattle.memory_layout.proofs.Laws.{entries-length}
 use Rattle.memory_rows.specs.Rows.{RowsOnly}
 use Rattle.memory_pages.specs.Pages.{withCount, moreRows, fewerRows}
 use Rattle.memory_pages.proofs.Ranges.{ranges, entry-count, start-stored, start-behind, start-step, starts-rise, start-most}
-use Rattle.memory_pages.proofs.Parts.{becomes}
+use Rattle.memory_layout.proofs.Changes.{same-below, becomes-rest}
 use Rattle.basics.proofs.Tabs.{splice}
 use Rattle.memory_pages.proofs.Entries.{entry-same, entry-counted}
 
@@ -99,31 +99,26 @@ module _ {m m1 m2 : List ℕ} {hs : List Held} {p s n d q : ℕ} (room : Room m)
         let l : length list ≡ np = entries-length m in
         let e7 : pageCount m2 ≡ np = row-end 7 (omega arith) in
         let c1 : capacityOf m1 ≡ c = le4-cong m m1 4 4 (λ j b. r .before (4 + j) (omega arith)) in
-        let low : (b k : ℕ) → b + k ≤ startsAt c → Same m1 m2 b k = λ b k q z u v. a .apart .below z (omega arith) in
-        let fr : rowCount m1 ≤ c = omega (arith, r .count) in
-        becomes room (record {
-          rest = record {
-            size = a .apart .size ∙ r .size;
-            head = λ b u v. a .apart .below b (omega arith) ∙ r .before b (omega arith);
-            counts = λ b u v. a .apart .below b (omega arith) ∙ r .head b (omega arith) (omega arith);
-            lists = λ b u v. a .apart .below b (omega arith) ∙ r .head b (omega arith) (omega arith);
-            named = λ b u. a .apart .above b (omega arith) ∙ r .behind b (omega arith);
-          };
-          rows =
-              ap (tab (rowAt m2 c) 0) (row-count ∙ sym (r .count))
-              ∙ same-rows m1 m2 c (rowCount m1) (g .least) (low 1024 (c * 72) (omega arith)) (low (1024 + c * 72) (rowCount m1 * 4) (omega arith))
-              (low (1024 + c * 76) (rowCount m1 * 2) (omega arith))
-              (low (1024 + c * 78) (rowCount m1) (omega arith))
-              ∙ ap (λ (z : ℕ). tab (rowAt m1 z) 0 (rowCount m1)) (sym c1)
-              ∙ r .rows;
+        becomes-rest m m2 room
+        (record {
+          size = a .apart .size ∙ r .size;
+          head = λ b u v. a .apart .below b (omega arith) ∙ r .before b (omega arith);
+          counts = λ b u v. a .apart .below b (omega arith) ∙ r .head b (omega arith) (omega arith);
+          lists = λ b u v. a .apart .below b (omega arith) ∙ r .head b (omega arith) (omega arith);
+          named = λ b u. a .apart .above b (omega arith) ∙ r .behind b (omega arith);
+        })
+        (omega (arith, row-count), ap (tab (rowAt m2 c) 0) (row-count ∙ sym (r .count))
+        ∙ same-rows m1 m2 c (rowCount m1) (g .least) (omega (arith, r .count)) (same-below 1024 (c * 79) (a .apart) (omega arith))
+        ∙ ap (λ (z : ℕ). tab (rowAt m1 z) 0 (rowCount m1)) (sym c1)
+        ∙ r .rows)
+        (record {
           entries =
               splice (entryAt m c) (entryAt m2 c) np (pageCount m2) p 1 (suc p) (omega arith) (omega arith) (omega arith)
               (λ j z. row-entry j (omega (arith, row-low j (omega arith), row-low (suc j) (omega arith))))
               (λ j z. ap (λ (z : ℕ). entryAt m2 c (z + j)) (add-one p) ∙ row-entry (suc p + j) (omega (arith, high (suc p + j) (omega arith), high (suc (suc p + j)) (omega arith))))
               ∙ ap (λ (e : Entry). take p list ++ e ∷ drop (suc p) list) row-here
               ∙ sym (set-split list p (withCount (entryIn (flatOf m) p) k) (omega arith));
-          few-rows = omega (arith, row-count);
-          few-pages = omega (arith, g .pages);
+          few = omega (arith, g .pages);
           tables = λ t z. omega (arith, room .tables t z, row-end t (omega arith), row-end (t + 1) (omega arith));
           begins = row-low 0 (omega arith) ∙ room .begins;
           rises = λ j z. row-rises j;

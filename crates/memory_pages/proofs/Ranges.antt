@@ -1,8 +1,8 @@
 -- What a memory with room is known to have, as numbers of its bytes, and an entry by its place.
-use Rattle.basics.proofs.Kit.{_≡_, refl, ap, _∙_, ⊎-elim, List, ℕ, suc, _+_, _*_, _%_, _≤_, _<_, zero, _/_, _-_, add-zero, zero-add, eqb, length, lt-ltb, le-ltb, arith}
+use Rattle.basics.proofs.Kit.{_≡_, refl, ap, ⊎-elim, List, ℕ, suc, _+_, _*_, _%_, _≤_, _<_, zero, _/_, _-_, add-zero, eqb, length, lt-ltb, le-ltb, arith}
 use Rattle.basics.specs.Basics.{if_then_else_}
 use Rattle.memory_bytes.specs.Bytes.{le2}
-use Rattle.basics.proofs.Tabs.{lt-or-ge, getD-tab}
+use Rattle.basics.proofs.Tabs.{lt-or-ge, tab-at}
 use Rattle.memory_layout.specs.Places.{startsAt}
 use Rattle.memory_layout.specs.Views.{headOf, countsOf, rowCount, pageCount, tableAt, startAt, blockWord, entryAt}
 use Rattle.memory_layout.specs.Flat.{flatOf, capacityOf, entriesOf, entryIn, noEntry, Room}
@@ -26,7 +26,7 @@ ranges room =
 module _ (m : List ℕ) (p : ℕ) (h : p < pageCount m) where
   pub entry-at : entryIn (flatOf m) p ≡ entryAt m (capacityOf m) p
   unfolding entriesOf
-  entry-at = getD-tab (entryAt m (capacityOf m)) 0 (pageCount m) p noEntry h ∙ ap (entryAt m (capacityOf m)) (zero-add p)
+  entry-at = tab-at (entryAt m (capacityOf m)) (pageCount m) p noEntry h
 
   pub entry-table : entryIn (flatOf m) p .table ≡ tableAt m p
   unfolding entryAt

@@ -1,12 +1,12 @@
 -- Cells of the columns after the moves and stores of an insert or a remove.
-use Rattle.basics.proofs.Kit.{_≡_, sym, ap, _∙_, ⊎-elim, List, [], _∷_, ℕ, _+_, _*_, _≤_, _<_, _-_, length, getD, arith}
+use Rattle.basics.proofs.Kit.{_≡_, sym, ap, _∙_, ⊎-elim, List, [], _∷_, ℕ, _+_, _*_, _≤_, _<_, length, getD, arith}
 use Rattle.memory_bytes.specs.Bytes.{le2, le4, bytes, bytes2, bytes4, Apart, Raised, Lowered, Wrote}
 use Rattle.memory_bytes.proofs.Bytes.{le2-below, le2-above, le4-below, le4-above, le2-raised, le4-raised, le2-lowered, le4-lowered, le2-wrote, le4-wrote, bytes-wrote}
 use Rattle.basics.proofs.Tabs.{lt-or-ge}
 use Rattle.memory_layout.specs.Places.{keysAt, refsAt, statesAt, startsAt}
 use Rattle.memory_layout.specs.Views.{keyOf, refOf, stateOf, slotPlace}
 use Rattle.memory_rows.specs.Cells.{SameCells, ColumnsOnly, RowsRaised, RowsLowered, CellsPut, SlotFilled}
-use Rattle.memory_rows.proofs.Exchange.{apart}
+use Rattle.basics.proofs.Numbers.{less-than}
 
 -- ---- cells that stay
 
@@ -84,7 +84,7 @@ module _ {m m1 m2 m3 : List ℕ} {c i k r s key ref state : ℕ} (ek : k ≡ key
         others = λ j b ne. ⊎-elim
             (λ p. by j j b b (le4-below (w4 .apart) (keysAt c + j * 4) (omega arith)) (le2-below (w2 .apart) (refsAt c + j * 2) (omega arith))
             (w1 .apart .below (statesAt c + j) (omega arith)))
-            (λ p. let q : i < j = apart i j p ne in
+            (λ p. let q : i < j = less-than p (λ z. ne (sym z)) in
             by j j b b (le4-above (w4 .apart) (keysAt c + j * 4) (omega arith)) (le2-above (w2 .apart) (refsAt c + j * 2) (omega arith))
             (w1 .apart .above (statesAt c + j) (omega arith)))
             (lt-or-ge j i);

@@ -1,6 +1,6 @@
 -- What an operation at a row does, on any pages: to its page, and to the list of all tuples.
 use Rattle.basics.proofs.Kit.{_≡_, refl, sym, ap, _∙_, ap₂, Bool, true, false, some, none, Option, List, [], _∷_, _++_, append-assoc, map, ℕ, suc, _+_, _≤_, _<_, zero, _-_, length, take}
-use Rattle.basics.proofs.Kit.{drop, getD, set, length-append, take-append-drop, length-set, length-map, set-getD, drop-nil, set-append-left, arith}
+use Rattle.basics.proofs.Kit.{drop, getD, set, length-append, take-append-drop, length-set, length-map, set-getD, drop-nil, arith}
 use Rattle.basics.specs.Basics.{if_then_else_, isEmpty}
 use Rattle.basics.proofs.Facts.{by, lie}
 use Rattle.model.specs.State.{Pending, nothing, adding, committing, removing, Held, Page}
@@ -8,12 +8,12 @@ use Rattle.model.specs.Rules.{listOf, fresh, withTuples, settle, removeN
 use Rattle.model.specs.Places.{editAt, pendRemoveAt, removeRowOn, committedAt, commitRowOn, removeRow, commitRow, onPage, tagged, RowOn, RowByPage, RemovedNow, RemovedLater}
 use Rattle.basics.specs.Lists.{removeAt}
 use Rattle.model.specs.Places.{LastStays, RemovedStays, committedTuple, CommittedRow}
-use Rattle.basics.proofs.Elements.{nonempty, le-true, lt-false}
+use Rattle.basics.proofs.Elements.{nonempty, length-zero, le-true, lt-false}
 use Rattle.model.proofs.Rows.{withTable, entries, entries-append}
 use Rattle.model.proofs.Places.{tagged-page, tagged-entries, row-here, row-past, entriesAt, removedOn, committedOn, entries-removeRow}
-use Rattle.basics.proofs.Parts.{removeAt-suc, removeAt-left, removeAt-right}
+use Rattle.basics.proofs.Parts.{removeAt-suc}
 use Rattle.model.proofs.Places.{entries-commitRow}
-use Rattle.basics.proofs.Parts.{remove-middle, set-middle, map-set, map-remove, removed-length}
+use Rattle.basics.proofs.Parts.{remove-middle, set-middle, map-set, map-remove, length-remove}
 
 -- ---- the page of a row
 
@@ -114,7 +114,7 @@ module _ (p : Page) (j : ℕ) (d : Held) (inside : j < length (p .tuples)) where
     where
       frozen : p .frozen ≡ true → (isAdding (getD (p .tuples) j d .pending) ≡ true) × (1 < length (p .tuples)) → removedOn j p ≡ removeAt j (p .tuples)
       frozen h a = unfold removedOn if_then_else_ in ap (λ b. if b then pendRemoveAt j (p .tuples) else editAt removeNow j (p .tuples)) h
-          ∙ taken-is j (p .tuples) (removeAt j (p .tuples)) (later-removed (a .0)) (omega (arith, a .1, removed-length (p .tuples) j inside))
+          ∙ taken-is j (p .tuples) (removeAt j (p .tuples)) (later-removed (a .0)) (omega (arith, a .1, length-remove j (p .tuples) inside))
 
       thawed : p .frozen ≡ false → removedOn j p ≡ removeAt j (p .tuples)
       thawed h = unfold removedOn if_then_else_ removeNow in ap (λ b. if b then pendRemoveAt j (p .tuples) else editAt removeNow j (p .tuples)) h
@@ -128,11 +128,7 @@ module _ (p : Page) (j : ℕ) (d : Held) (inside : j < length (p .tuples)) where
       (omega (arith, length-set (p .tuples) j (withPending removing (getD (p .tuples) j d))))
 
   page-last : isAdding (getD (p .tuples) j d .pending) ≡ true → length (p .tuples) ≡ 1 → pendRemoveAt j (p .tuples) ≡ p .tuples
-  page-last a l = taken-not j (p .tuples) (later-removed a ∙ none-left (removeAt j (p .tuples)) (omega (arith, removed-length (p .tuples) j inside)))
-    where
-      none-left : (hs : List Held) → length hs ≡ 0 → hs ≡ []
-      none-left [] e = refl
-      none-left (h ∷ hs) e = absurd (omega arith)
+  page-last a l = taken-not j (p .tuples) (later-removed a ∙ length-zero (removeAt j (p .tuples)) (omega (arith, length-remove j (p .tuples) inside)))
 
   page-committed : committedOn j p ≡ set (p .tuples) j (committedTuple (p .frozen) (getD (p .tuples) j d))
   page-committed = by (p .frozen) (λ h. frozen h) (λ h. thawed h)

@@ -2,7 +2,7 @@
 use Rattle.engine_close.specs.Close.{taggedOf, rowFrom}
 use Rattle.engine_close.proofs.Memory.{table-is}
 use Rattle.engine_close.proofs.Next.{none-left, one-aborted, one-closed}
-use Rattle.engine_pages.proofs.Places.{less-than}
+use Rattle.basics.proofs.Numbers.{less-than}
 use Rattle.memory_layout.specs.Flat.{Room}
 use Rattle.memory_layout.proofs.Laws.{holds-room}
 use Rattle.basics.proofs.Kit.{_≡_, sym, _∙_, _<_, length, not-true, not-false, needs, arith}
