@@ -8,7 +8,7 @@ pub use Rattle.basics.proofs.Kit.{not-true, not-false}
 -- ---- tests
 
 pub use borrow.Author.Tests.{eqb-true, leb-true, leb-false}
-pub use Rattle.basics.proofs.Ands.{and-no, and-yes}
+pub use Rattle.basics.proofs.Ands.{and-no, and-yes, and-assoc}
 
 T-true : (b : Bool) → T b → b ≡ true
 T-true true t = refl
@@ -408,6 +408,16 @@ every-stop b bs e = rw e
 pub every-one : (b : Bool) → every (b ∷ []) ≡ b
 unfolding every
 every-one b = and-yes b
+
+-- tests joined from the left
+abbrev pub joined : Bool → List Bool → Bool
+joined b [] = b
+joined b (c ∷ cs) = joined (b && c) cs
+
+pub joined-every : (b : Bool) (bs : List Bool) → joined b bs ≡ every (b ∷ bs)
+unfolding every
+joined-every b [] = sym (and-yes b)
+joined-every b (c ∷ cs) = joined-every (b && c) cs ∙ and-assoc b c (every cs)
 
 pub or-move : (p q u : Bool) → ((p || q) || u) ≡ (q || (p || u))
 or-move true true u = refl

@@ -1,8 +1,8 @@
 -- Counts and searches of blocks, turn by turn, and what they say of the store.
-use Rattle.basics.proofs.Kit.{_≡_, refl, sym, ap, _∙_, Bool, true, false, not, some, none, Option, List, [], _∷_, _++_, ℕ, suc, _+_, _≤_, _<_, zero, _-_, add-one, length, take, drop}
+use Rattle.basics.proofs.Kit.{_≡_, refl, sym, ap, _∙_, Bool, true, false, not, some, none, Option, List, [], _∷_, _++_, ℕ, suc, _+_, _≤_, _<_, zero, _-_, length, take, drop}
 use Rattle.basics.proofs.Kit.{arith}
 use Rattle.basics.specs.Basics.{if_then_else_, howMany, first, from}
-use Rattle.basics.proofs.Facts.{by, never}
+use Rattle.basics.proofs.Facts.{by}
 use Rattle.image.specs.Stages.{directoriesFor}
 use Rattle.model.specs.State.{Held, Page}
 use Rattle.model.specs.Rules.{isDirty, isFrozen}
@@ -156,6 +156,13 @@ unfolding orElse
 or-last n none = refl
 or-last n (some b) = refl
 
+-- the two searches, from the block after the one last taken on and from block 1 up to it
+abbrev pub upward : Flat → ℕ
+upward f = freeFrom (f .used) (f .head .taken + 1) (f .head .blocks)
+
+abbrev pub around : Flat → ℕ
+around f = freeFrom (f .used) 1 (f .head .taken + 1)
+
 module _ (f : Flat) (low : f .head .taken < f .head .blocks) where
   alloc-is : allocate (storeOf f)
       ≡ orElse (f .head .blocks - 1) (first (λ b. not (f .used b)) (from (f .head .taken + 1) (f .head .blocks - (f .head .taken + 1)) ++ from 1 (f .head .taken + 1 - 1)))
@@ -165,34 +172,27 @@ module _ (f : Flat) (low : f .head .taken < f .head .blocks) where
       let n : ℕ = f .head .blocks in
       let e : suc t ≡ t + 1 = omega arith in
       let d : t ≡ t + 1 - 1 = omega arith in
-      or-last n _
-      ∙ ap (λ (z : ℕ). orElse (n - 1) (first (λ b. not (f .used b)) (from z (n - z) ++ from 1 t))) e
-      ∙ ap (λ (z : ℕ). orElse (n - 1) (first (λ b. not (f .used b)) (from (t + 1) (n - (t + 1)) ++ from 1 z))) d
+      or-last n _ ∙ (λ i. orElse (n - 1) (first (λ b. not (f .used b)) (from (e i) (n - e i) ++ from 1 (d i))))
 
-  pub alloc-up : freeFrom (f .used) (f .head .taken + 1) (f .head .blocks) < f .head .blocks
-      → freeFrom (f .used) (f .head .taken + 1) (f .head .blocks) ≡ allocate (storeOf f)
+  pub alloc-up : upward f < f .head .blocks → upward f ≡ allocate (storeOf f)
   unfolding orElse
-  alloc-up h =
-      sym (alloc-is ∙ ap (orElse (f .head .blocks - 1))
-      (first-some _ _ _ _ (found-free (f .used) (f .head .taken + 1) (f .head .blocks) (omega arith) h)))
+  alloc-up h = sym (alloc-is ∙ ap (orElse (f .head .blocks - 1)) (first-some _ _ _ _ (found-free (f .used) (f .head .taken + 1) (f .head .blocks) (omega arith) h)))
 
-  module _ (h : f .head .blocks ≤ freeFrom (f .used) (f .head .taken + 1) (f .head .blocks)) where
+  module _ (h : f .head .blocks ≤ upward f) where
     rest-is : allocate (storeOf f) ≡ orElse (f .head .blocks - 1) (first (λ b. not (f .used b)) (from 1 (f .head .taken + 1 - 1)))
-    rest-is =
-        alloc-is ∙ ap (orElse (f .head .blocks - 1)) (first-skip _ _ _ (no-free (f .used) (f .head .taken + 1) (f .head .blocks) (omega arith) h))
+    rest-is = alloc-is ∙ ap (orElse (f .head .blocks - 1)) (first-skip _ _ _ (no-free (f .used) (f .head .taken + 1) (f .head .blocks) (omega arith) h))
 
-    pub alloc-round : freeFrom (f .used) 1 (f .head .taken + 1) < f .head .taken + 1 → freeFrom (f .used) 1 (f .head .taken + 1) ≡ allocate (storeOf f)
+    pub alloc-round : around f < f .head .taken + 1 → around f ≡ allocate (storeOf f)
     unfolding orElse
     alloc-round k = sym (rest-is ∙ ap (orElse (f .head .blocks - 1)) (found-free (f .used) 1 (f .head .taken + 1) (omega arith) k))
 
-    pub alloc-none : f .head .taken + 1 ≤ freeFrom (f .used) 1 (f .head .taken + 1) → f .head .blocks - 1 ≡ allocate (storeOf f)
+    pub alloc-none : f .head .taken + 1 ≤ around f → f .head .blocks - 1 ≡ allocate (storeOf f)
     unfolding orElse
     alloc-none k = sym (rest-is ∙ ap (orElse (f .head .blocks - 1)) (no-free (f .used) 1 (f .head .taken + 1) (omega arith) k))
 
--- the two searches, from the block after the one last taken and from block 1
 module _ (f : Flat) {a r : ℕ} where
-  pub up-from : {h : Head} → h ≡ f .head → r ≡ freeFrom (f .used) a (h .blocks) → a ≡ f .head .taken + 1 → r ≡ freeFrom (f .used) (f .head .taken + 1) (f .head .blocks)
-  up-from e q ea = q ∙ ap (λ (h : Head). freeFrom (f .used) a (h .blocks)) e ∙ ap (λ (k : ℕ). freeFrom (f .used) k (f .head .blocks)) ea
+  pub up-from : {h : Head} → h ≡ f .head → r ≡ freeFrom (f .used) a (h .blocks) → a ≡ f .head .taken + 1 → r ≡ upward f
+  up-from e q ea = q ∙ (λ i. freeFrom (f .used) (ea i) (e i .blocks))
 
-  pub round-from : {z : ℕ} → r ≡ freeFrom (f .used) a z → a ≡ 1 → z ≡ f .head .taken + 1 → r ≡ freeFrom (f .used) 1 (f .head .taken + 1)
-  round-from {z} w ea ez = w ∙ ap (λ (k : ℕ). freeFrom (f .used) k z) ea ∙ ap (freeFrom (f .used) 1) ez
+  pub round-from : {z : ℕ} → r ≡ freeFrom (f .used) a z → a ≡ 1 → z ≡ f .head .taken + 1 → r ≡ around f
+  round-from w ea ez = w ∙ (λ i. freeFrom (f .used) (ea i) (ez i))

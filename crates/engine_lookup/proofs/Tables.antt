@@ -1,6 +1,6 @@
 -- The versions of a key are among the rows of its table, one run of all rows.
-use Rattle.basics.proofs.Kit.{_≡_, refl, sym, ap, _∙_, List, [], _∷_, _++_, ℕ, suc, _+_, _≤_, _<_, zero, _-_, length, take, drop, getD, length-drop, drop-drop, take-add, getD-drop}
-use Rattle.basics.proofs.Kit.{length-take-le, getD-take, ext-getD, ne-eqb, arith}
+use Rattle.basics.proofs.Kit.{_≡_, refl, sym, ap, _∙_, List, [], _∷_, _++_, ℕ, suc, _+_, _≤_, _<_, zero, _-_, length, take, drop, getD, drop-drop, take-add}
+use Rattle.basics.proofs.Kit.{ne-eqb, arith}
 use Rattle.basics.specs.Basics.{if_then_else_, keep, sum}
 use Rattle.basics.proofs.Facts.{by}
 use Rattle.block_forms.specs.Tuple.{Tuple}
@@ -11,7 +11,7 @@ use Rattle.model.specs.Sight.{rows, versions}
 use Rattle.basics.proofs.Elements.{keep-append}
 use Rattle.memory_bytes.specs.Columns.{upTo}
 use Rattle.basics.specs.Lists.{tab, lastIndex}
-use Rattle.basics.proofs.Tabs.{length-tab, getD-tab}
+use Rattle.basics.proofs.Tabs.{tab-part}
 use Rattle.memory_layout.specs.Flat.{Flat, flatOf, rowIn, noRow, noEntry, Room}
 use Rattle.memory_layout.specs.Store.{pageOf, nest, pagesIn, total, startOf}
 use Rattle.memory_layout.specs.Views.{pageCount}
@@ -135,14 +135,6 @@ table-versions f t k s u =
       above = λ p h l e. omega (arith, u .above p h l);
     })
 
--- rows by place
-pub run-rows : (f : Flat) (s n : ℕ) → s + n ≤ length (f .rows) → take n (drop s (f .rows)) ≡ tab (rowIn f) s n
-run-rows f s n h =
-    let ld : length (drop s (f .rows)) ≡ length (f .rows) - s = length-drop s (f .rows) in
-    let lt : length (take n (drop s (f .rows))) ≡ n = length-take-le n (drop s (f .rows)) (omega arith) in
-    ext-getD noRow (take n (drop s (f .rows))) (tab (rowIn f) s n) (lt ∙ sym (length-tab (rowIn f) s n))
-    (λ i b. getD-take n (drop s (f .rows)) i noRow (omega arith) ∙ getD-drop s (f .rows) i noRow ∙ sym (getD-tab (rowIn f) s n i noRow (omega arith)))
-
 -- the range from the start of its pages to that of the next table's
 pub table-range : {m : List ℕ} → Room m → {t a b x y : ℕ} → TableFrom (flatOf m) t a → TableFrom (flatOf m) (t + 1) b → x ≡ startOf (flatOf m) a
     → y ≡ startOf (flatOf m) b → y ≤ length (flatOf m .rows) → TableRange (flatOf m) t (record { start = x; end = y })
@@ -161,7 +153,7 @@ module _ {m : List ℕ} (room : Room m) (t tx k : ℕ) (h : t < 8) {r : Range} (
   unfolding tableRows
   rows-of =
       let f : Flat = flatOf m in
-      (λ i. take (sym (g .end) i - sym (g .start) i) (drop (sym (g .start) i) (f .rows))) ∙ run-rows f (r .start) (r .end - r .start) (omega (arith, g .order, g .inside))
+      (λ i. take (sym (g .end) i - sym (g .start) i) (drop (sym (g .start) i) (f .rows))) ∙ sym (tab-part (f .rows) noRow (r .start) (r .end - r .start) (omega (arith, g .order, g .inside)))
 
   -- all rows of the table show all versions
   pub table-shown : {l : Visibility} → l ≡ notes tx k (r .start) (tab (rowIn (flatOf m)) (r .start) (r .end - r .start)) blank

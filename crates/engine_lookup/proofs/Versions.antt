@@ -1,15 +1,17 @@
 -- The rows noted one after another show the versions of a key among them.
-use Rattle.basics.proofs.Kit.{_≡_, refl, sym, ap, _∙_, Bool, true, false, _&&_, not, some, none, List, [], _∷_, _++_, append-assoc, append-nil, ℕ, suc, _+_, _≤_, _<_, zero, eqb, length}
+use Rattle.basics.proofs.Kit.{_≡_, refl, sym, ap, _∙_, Bool, true, false, _&&_, _||_, not, some, none, List, [], _∷_, _++_, append-assoc, append-nil, ℕ, suc, _+_, _≤_, _<_, zero, eqb, length}
 use Rattle.basics.proofs.Kit.{eq-eqb, ne-eqb, arith}
 use Rattle.basics.specs.Basics.{if_then_else_, any, first, last, isEmpty, keep}
-use Rattle.basics.proofs.Facts.{by, never}
+use Rattle.basics.proofs.Facts.{by, by-option}
+use Rattle.basics.proofs.Searches.{any-append, any-one, or-none}
+use Rattle.basics.proofs.Firsts.{first-hit, first-past, first-some, first-skip}
 use Rattle.block_forms.specs.Tuple.{Tuple, Owner, committed, tentative, isTentative}
 use Rattle.image_rows.specs.Rows.{Row, rowsOf, isBy, isOwn, isAt}
 use Rattle.model.specs.State.{Held}
 use Rattle.model.specs.Rules.{isRemoving, applied, live}
 use Rattle.model.specs.Sight.{isForeign}
 use Rattle.model.proofs.Rows.{applied-is}
-use Rattle.basics.proofs.Elements.{keep-cons, keep-past}
+use Rattle.basics.proofs.Elements.{keep-cons, keep-past, or-right}
 use Rattle.basics.specs.Lists.{tab}
 use Rattle.memory_layout.specs.Flat.{Flat, rowIn}
 use Rattle.engine_lookup.specs.Lookup.{isCommitted, version, versionAt, Shows, blank, noteCommitted, noteTentative, noteOwner, note, notes}
@@ -20,14 +22,10 @@ use Rattle.engine_lookup.proofs.Iterations.{notes-on, notes-here}
 
 module _ {A : Type 0} (f : A → Bool) (x : A) where
   pub any-last-no : f x ≡ false → (xs : List A) → any f (xs ++ x ∷ []) ≡ any f xs
-  unfolding any
-  any-last-no e [] = rw (e, any)
-  any-last-no e (y ∷ xs) = by (f y) (λ h. rw (h, any)) (λ h. rw (h, any) (any-last-no e xs))
+  any-last-no e xs = any-append f xs (x ∷ []) ∙ ap (λ (b : Bool). any f xs || b) (any-one f x ∙ e) ∙ or-none (any f xs)
 
   pub any-last-yes : f x ≡ true → (xs : List A) → any f (xs ++ x ∷ []) ≡ true
-  unfolding any
-  any-last-yes e [] = rw (e, any)
-  any-last-yes e (y ∷ xs) = by (f y) (λ h. rw (h, any)) (λ h. rw (h, any) (any-last-yes e xs))
+  any-last-yes e xs = any-append f xs (x ∷ []) ∙ or-right (any f xs) _ (any-one f x ∙ e)
 
   last-new : f x ≡ true → (xs : List A) → last f (xs ++ x ∷ []) ≡ some x
   unfolding last if_then_else_
@@ -39,20 +37,12 @@ module _ {A : Type 0} (f : A → Bool) (x : A) where
   last-old e [] = rw e
   last-old e (y ∷ xs) = rw (last-old e xs)
 
+  first-new : f x ≡ true → (xs : List A) → first f xs ≡ none → first f (xs ++ x ∷ []) ≡ some x
+  first-new e xs n = first-skip f xs (x ∷ []) n ∙ first-hit f x [] e
+
   first-old : f x ≡ false → (xs : List A) → first f (xs ++ x ∷ []) ≡ first f xs
   unfolding first
-  first-old e [] = rw (e, first)
-  first-old e (y ∷ xs) = by (f y) (λ h. rw (h, first)) (λ h. rw (h, first) (first-old e xs))
-
-  first-new : f x ≡ true → (xs : List A) → first f xs ≡ none → first f (xs ++ x ∷ []) ≡ some x
-  unfolding first
-  first-new e [] n = rw (e, first)
-  first-new e (y ∷ xs) n = by (f y) (λ h. never (sym (rw (h, first) at n))) (λ h. rw (h, first) (first-new e xs (rw (h, first) at n)))
-
-  first-stays : (xs : List A) (z : A) → first f xs ≡ some z → first f (xs ++ x ∷ []) ≡ some z
-  unfolding first
-  first-stays [] z n = never n
-  first-stays (y ∷ xs) z n = by (f y) (λ h. rw (h, first) (rw (h, first) at n)) (λ h. rw (h, first) (first-stays xs z (rw (h, first) at n)))
+  first-old e xs = by-option (first f xs) (λ n. first-skip f xs (x ∷ []) n ∙ first-past f x [] e ∙ sym n) (λ z n. first-some f xs (x ∷ []) z n ∙ sym n)
 
   filled-last : (xs : List A) → isEmpty (xs ++ x ∷ []) ≡ false
   unfolding isEmpty
@@ -78,7 +68,7 @@ committed-place : (f : Flat) (t i h : ℕ) (vs : List Row) → isCommitted (vers
     → versionAt f t (if eqb h 0 then suc i else h) ≡ first isCommitted (vs ++ version f t i ∷ [])
 unfolding versionAt if_then_else_
 committed-place f t i zero vs e q = sym (first-new isCommitted (version f t i) e vs (sym q))
-committed-place f t i (suc h) vs e q = rw (ne-eqb (suc h) 0 (λ z. omega arith)) (sym (first-stays isCommitted (version f t i) vs (version f t h) (sym q)))
+committed-place f t i (suc h) vs e q = rw (ne-eqb (suc h) 0 (λ z. omega arith)) (sym (first-some isCommitted vs (version f t i ∷ []) (version f t h) (sym q)))
 
 committed-inside : (i h n : ℕ) → i < n → h ≤ n → (if eqb h 0 then suc i else h) ≤ n
 unfolding if_then_else_

@@ -4,22 +4,22 @@ use Rattle.basics.proofs.Kit.{set, length-append, length-drop, take-append-drop
 use Rattle.basics.proofs.Kit.{set-getD, set-set, getD-append-seam, arith}
 use Rattle.basics.specs.Basics.{if_then_else_, sum}
 use Rattle.basics.proofs.Facts.{by}
-use Rattle.model.specs.State.{nothing, Held, Page}
-use Rattle.model.specs.Rules.{isRemoving, isCommitting, withPending, withoutPending, applied, live, fresh}
+use Rattle.model.specs.State.{nothing, Held}
+use Rattle.model.specs.Rules.{isRemoving, isCommitting, withPending, withoutPending, applied, live}
 use Rattle.basics.specs.Lists.{removeAt}
 use Rattle.memory_layout.specs.Flat.{Flat, flatOf, entryIn, rowIn, noRow, noEntry, Room, Becomes, withRows, withEntries}
 use Rattle.memory_layout.specs.Store.{nest, total, pageOf, pageIn}
 use Rattle.memory_layout.specs.declared.Entry.{Entry}
 use Rattle.memory_layout.proofs.Laws.{becomes-then}
-use Rattle.memory_layout.proofs.Exchange.{counted-set, counted-exchange, for-page, page-set}
+use Rattle.memory_layout.proofs.Exchange.{counted-exchange, for-page, page-set}
 use Rattle.memory_rows.specs.Rows.{committedRow}
 use Rattle.memory_pages.specs.Pages.{dirty, withBlock, withCount, fewerRows, MayLose}
-use Rattle.engine_pages.specs.Pages.{PagesNow, pagesOf, pageAt, tuplesAt, entryOf, firstRow, There, swapped}
+use Rattle.engine_pages.specs.Pages.{PagesNow, pagesOf, tuplesAt, entryOf, firstRow, There, swapped}
 use Rattle.engine_pages.specs.Pending.{applyPending, appliedAll, AppliesOne, Applies, Applied}
 use Rattle.engine_pages.proofs.Places.{now-becomes, counted, full, room, page-end, still-there}
 use Rattle.basics.proofs.Numbers.{pos-of}
 use Rattle.basics.proofs.Elements.{length-zero}
-use Rattle.engine_pages.proofs.Rows.{page-fresh}
+use Rattle.engine_pages.proofs.Rows.{now-dirty}
 use Rattle.engine_pages.proofs.Removing.{becomes-to}
 use Rattle.basics.proofs.Parts.{remove-set}
 
@@ -289,16 +289,6 @@ module _ {m : List ℕ} {p : ℕ} (a : There m p) where
         subst (λ (k : ℕ). Applied m m2 p k) z (record { count = o .count; none-left = λ q. t; some-left = λ q. absurd (q z) })
 
     pub left-some : {m2 : List ℕ} → (r ≡ 0 → ⊥) → Becomes m1 m2 (withEntries (flatOf m1) (set (flatOf m1 .entries) p (withBlock (entryOf m1 p) 0 false))) → Applied m m2 p r
-    unfolding swapped
-    left-some {m2} nz v =
-        let rs : List Held = flatOf m .rows in
-        let R : List Held = take (firstRow m p) rs ++ (hs ++ drop (firstRow m p + entryOf m p .count) rs) in
-        let e : Entry = dirty (entryOf m p .table) r in
-        let es : set (set (flatOf m .entries) p less) p (withBlock (getD (set (flatOf m .entries) p less) p noEntry) 0 false) ≡ set (flatOf m .entries) p e =
-        set-set (flatOf m .entries) p less _ ∙ ap (λ (y : Entry). set (flatOf m .entries) p (withBlock y 0 false)) (getD-set-same (flatOf m .entries) p less noEntry (a .inside)) in
-        let t : PagesNow m m2 (swapped p (fresh (pageAt m p .table) hs ∷ []) (pagesOf m)) =
-        now-becomes (becomes-to (withRows (flatOf m) R) (becomes-then m m1 m2 _ (λ (y : Flat). withEntries y (set (y .entries) p (withBlock (entryIn y p) 0 false))) (o .becomes) v) es)
-        (counted-set (flatOf m .entries) p e (counted m (a .has-store)) (pos-of r nz))
-        (page-set (flatOf m) (full a) p (a .inside) e hs R (o .count) refl
-        ∙ ap (λ (z : Page). take p (pagesOf m) ++ z ∷ drop (suc p) (pagesOf m)) (page-fresh m p r hs)) in
+    left-some nz v =
+        let t = now-dirty a r hs (o .becomes) v (pos-of r nz) (page-set (flatOf m) (full a) p (a .inside) (dirty (entryOf m p .table) r) hs _ (o .count) refl) in
         record { count = o .count; none-left = λ q. absurd (nz q); some-left = λ q. t }

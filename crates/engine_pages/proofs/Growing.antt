@@ -1,12 +1,12 @@
 -- A row goes on a page, or on a new page.
 use Rattle.basics.proofs.Kit.{_≡_, refl, sym, ap, _∙_, subst, true, false, List, [], _∷_, _++_, map, ℕ, suc, _+_, _*_, _<_, _-_, length, take, drop, getD, set, length-set, length-take-le}
-use Rattle.basics.proofs.Kit.{getD-append-seam, getD-set-same, set-at, set-set, arith}
+use Rattle.basics.proofs.Kit.{getD-append-seam, set-at, arith}
 use Rattle.basics.specs.Basics.{if_then_else_}
 use Rattle.block_forms.specs.Tuple.{Tuple}
 use Rattle.model.specs.State.{adding, Held, Page}
 use Rattle.model.specs.Rules.{splitOnce, fresh, withoutPending, grown, entering, withPending, withTuples}
 use Rattle.basics.specs.Lists.{insertAt}
-use Rattle.memory_layout.specs.Flat.{Flat, flatOf, entryIn, rowIn, noRow, noEntry, Becomes, withRows, withEntries}
+use Rattle.memory_layout.specs.Flat.{Flat, flatOf, rowIn, noRow, noEntry, Becomes, withRows, withEntries}
 use Rattle.memory_layout.specs.Views.{headOf}
 use Rattle.memory_layout.specs.Store.{nest, total}
 use Rattle.memory_layout.specs.declared.Entry.{Entry}
@@ -22,7 +22,7 @@ use Rattle.engine_pages.specs.Pages.{PagesNow, pagesOf, pageAt, tuplesAt
 use Rattle.engine_pages.specs.Changes.{Dirty, Halved}
 use Rattle.engine_pages.specs.Spots.{tupleBy, placedOn, NewTuple, GrowAt, AddAt}
 use Rattle.engine_pages.proofs.Places.{now-to, now-again, now-becomes, counted, full, page-end, first-there, first-page, still-there}
-use Rattle.engine_pages.proofs.Rows.{page-fresh}
+use Rattle.engine_pages.proofs.Rows.{now-dirty}
 use Rattle.engine_pages.proofs.Splitting.{dirty-fresh, fresh-page}
 use Rattle.engine_pages.proofs.Removing.{becomes-to, page-less}
 
@@ -100,18 +100,12 @@ module _ {m : List ℕ} {p at : ℕ} {row : Row} {xs : List ℕ} (g : GrowAt m p
       new = fresh (pageAt m p .table) (insertAt (at - firstRow m p) (withoutPending (tupleBy row xs)) (tuplesAt m p))
 
       came : PagesNow m m2 (swapped p (new ∷ []) (pagesOf m))
-      unfolding swapped
       came =
           let h : Held = heldBy row xs in
-          let e : Entry = dirty (entryOf m p .table) (entryOf m p .count + 1) in
-          let es : set (set (flatOf m .entries) p more) p (withBlock (getD (set (flatOf m .entries) p more) p noEntry) 0 false) ≡ set (flatOf m .entries) p e =
-          set-set (flatOf m .entries) p more _ ∙ ap (λ (y : Entry). set (flatOf m .entries) p (withBlock y 0 false)) (getD-set-same (flatOf m .entries) p more noEntry (g .inside)) in
-          now-becomes (becomes-to (withRows (flatOf m) (insertAt at h (flatOf m .rows)))
-          (becomes-then m m1 m2 _ (λ (y : Flat). withEntries y (set (y .entries) p (withBlock (entryIn y p) 0 false))) u v) es)
-          (counted-set (flatOf m .entries) p e (counted m (g .tuple .has-store)) (omega arith))
-          (row-inserted (flatOf m) (full grow-there) p (g .inside) at (g .least) e h (g .most) refl
-          ∙ ap (λ (z : Page). take p (pagesOf m) ++ z ∷ drop (suc p) (pagesOf m))
-          (page-fresh m p _ _ ∙ ap (λ (z : Held). fresh (pageAt m p .table) (insertAt j z (tuplesAt m p))) (held-withoutPending (g .tuple))))
+          let n : ℕ = entryOf m p .count + 1 in
+          now-to (now-dirty grow-there n (insertAt j h (tuplesAt m p)) u v (omega arith)
+          (row-inserted (flatOf m) (full grow-there) p (g .inside) at (g .least) (dirty (entryOf m p .table) n) h (g .most) refl))
+          (ap (λ (z : Held). swapped p (fresh (pageAt m p .table) (insertAt j z (tuplesAt m p)) ∷ []) (pagesOf m)) (held-withoutPending (g .tuple)))
 
       pub grew-there : There m2 p
       grew-there = first-there grow-there new [] came

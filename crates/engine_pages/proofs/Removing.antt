@@ -1,6 +1,6 @@
 -- A removal, on a frozen page and on another.
 use Rattle.basics.proofs.Kit.{_≡_, refl, sym, ap, _∙_, subst, Bool, true, false, List, [], _∷_, _++_, ℕ, suc, _<_, _-_, length, take, drop, getD, set, length-set}
-use Rattle.basics.proofs.Kit.{getD-set-same, set-set, arith}
+use Rattle.basics.proofs.Kit.{getD-set-same, arith}
 use Rattle.basics.specs.Basics.{if_then_else_, isEmpty}
 use Rattle.model.specs.State.{removing, Held, Page}
 use Rattle.model.specs.Rules.{isAdding, removeNow, pendRemove, withPending, withTuples, fresh, settle}
@@ -15,13 +15,14 @@ use Rattle.memory_layout.proofs.Nest.{Counted}
 use Rattle.memory_layout.proofs.Exchange.{counted-set, counted-exchange, row-removed, row-dropped}
 use Rattle.basics.proofs.Parts.{length-remove}
 use Rattle.basics.proofs.Elements.{length-zero}
+use Rattle.basics.proofs.Numbers.{less-than}
 use Rattle.memory_pages.specs.Pages.{dirty, withBlock, withCount, fewerRows, MayLose}
 use Rattle.engine_pages.specs.Pages.{PagesNow, pagesOf, pageAt, tuplesAt, entryOf, firstRow, There, RowOn, swapped}
 use Rattle.engine_pages.specs.Changes.{Tries, settledAt, settledBy}
 use Rattle.engine_pages.proofs.Places.{now-to, now-then, now-stay, now-becomes, counted, full, room, many}
 use Rattle.engine_pages.proofs.Places.{has-row, swap-same, row-in, row-inside, tuple-is, first-there, first-page, still-there}
 use Rattle.engine_pages.proofs.Around.{on-swap, on-same}
-use Rattle.engine_pages.proofs.Rows.{at-row, row-now, page-fresh}
+use Rattle.engine_pages.proofs.Rows.{at-row, row-now, now-dirty}
 use Rattle.engine_pages.proofs.Committing.{with-same}
 use Rattle.engine_pages.proofs.Joining.{tries-done, settled-none, settled-by}
 use Rattle.basics.proofs.Parts.{remove-set}
@@ -102,7 +103,7 @@ module _ {m : List ℕ} {p i : ℕ} (g : RowOn m p i) where
         → PagesNow m m' noted
     unfolding swapped
     later-away l u =
-        let k : 1 < entryOf m p .count = more _ (has-row a) (λ z. l (en ∙ z)) in
+        let k : 1 < entryOf m p .count = less-than (has-row a) (λ z. l (en ∙ sym z)) in
         let e : Entry = withCount (entryOf m p) (entryOf m p .count - 1) in
         later (removeAt j hs) (taken-away j hs (row-inside g) (adding-is eb ∙ h) (omega (arith, many a)))
         (now-becomes u (counted-set (flatOf m .entries) p e (counted m (a .has-store)) (omega arith))
@@ -146,16 +147,9 @@ module _ {m : List ℕ} {p i : ℕ} (g : RowOn m p i) where
 
     module _ (l : 1 < entryOf m p .count) {m2 : List ℕ} (v : Becomes m1 m2 (withEntries (flatOf m1) (set (flatOf m1 .entries) p (withBlock (entryOf m1 p) 0 false)))) where
       came : PagesNow m m2 (swapped p (fresh (pageAt m p .table) (removeAt (i - firstRow m p) (tuplesAt m p)) ∷ []) (pagesOf m))
-      unfolding swapped
       came =
-          let e : Entry = dirty (entryOf m p .table) (entryOf m p .count - 1) in
-          let es : set (set (flatOf m .entries) p less) p (withBlock (getD (set (flatOf m .entries) p less) p noEntry) 0 false) ≡ set (flatOf m .entries) p e =
-          set-set (flatOf m .entries) p less _ ∙ ap (λ (y : Entry). set (flatOf m .entries) p (withBlock y 0 false)) (getD-set-same (flatOf m .entries) p less noEntry (a .inside)) in
-          now-becomes (becomes-to (withRows (flatOf m) (removeAt i (flatOf m .rows)))
-          (becomes-then m m1 m2 _ (λ (y : Flat). withEntries y (set (y .entries) p (withBlock (entryIn y p) 0 false))) u v) es)
-          (counted-set (flatOf m .entries) p e (counted m (a .has-store)) (omega arith))
-          (row-removed (flatOf m) (full a) p (a .inside) i (g .least) (g .most) e (omega arith)
-          ∙ ap (λ (z : Page). take p (pagesOf m) ++ z ∷ drop (suc p) (pagesOf m)) (page-fresh m p _ _))
+          let n : ℕ = entryOf m p .count - 1 in
+          now-dirty a n left u v (omega arith) (row-removed (flatOf m) (full a) p (a .inside) i (g .least) (g .most) (dirty (entryOf m p .table) n) (omega arith))
 
       pub now-there : There m2 p
       now-there = first-there a new [] came

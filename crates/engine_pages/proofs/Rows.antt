@@ -1,6 +1,6 @@
 -- A row of a page changed, put in or taken out: what it does to the pages; and the row's place in the model's list of all tuples.
-use Rattle.basics.proofs.Kit.{_≡_, refl, sym, ap, _∙_, ap₂, Bool, false, none, Option, List, [], _∷_, _++_, map, ℕ, suc, _+_, _-_, length, take, drop, set}
-use Rattle.basics.proofs.Kit.{take-append-drop, length-drop, length-map, length-take-le, set-getD, arith}
+use Rattle.basics.proofs.Kit.{_≡_, refl, sym, ap, _∙_, ap₂, Bool, false, none, Option, List, [], _∷_, _++_, map, ℕ, suc, _-_, length, take, drop, set}
+use Rattle.basics.proofs.Kit.{subst, _<_, getD, set-set, getD-set-same, take-append-drop, length-drop, length-map, length-take-le, set-getD, arith}
 use Rattle.basics.specs.Basics.{sum}
 use Rattle.basics.proofs.Lists.{map-append}
 use Rattle.model.specs.State.{Held, Page}
@@ -13,7 +13,7 @@ use Rattle.memory_layout.specs.declared.Entry.{Entry}
 use Rattle.memory_layout.proofs.Laws.{becomes-then}
 use Rattle.memory_layout.proofs.Nest.{take-nest}
 use Rattle.memory_layout.proofs.Exchange.{start-le, counted-set, row-changed, entry-set}
-use Rattle.memory_pages.specs.Pages.{dirty, withBlock}
+use Rattle.memory_pages.specs.Pages.{dirty, withBlock, withCount}
 use Rattle.engine_pages.specs.Pages.{PagesNow, pagesOf, pageAt, tuplesAt, entryOf, firstRow, There, RowOn, swapped}
 use Rattle.engine_pages.proofs.Places.{now-becomes, counted, full, has-row, from-page, row-inside}
 
@@ -73,6 +73,25 @@ page-with m p hs = refl
 pub page-fresh : (m : List ℕ) (p n : ℕ) (hs : List Held) → pageOf (dirty (entryOf m p .table) n) hs ≡ fresh (pageAt m p .table) hs
 unfolding pageIn pageOf fresh
 page-fresh m p n hs = refl
+
+-- the page has other rows and another count, then no block
+pub now-dirty : {m m1 m2 : List ℕ} {p : ℕ} {R : List Held} → There m p → (n : ℕ) (hs : List Held)
+    → Becomes m m1 (withEntries (withRows (flatOf m) R) (set (flatOf m .entries) p (withCount (entryOf m p) n)))
+    → Becomes m1 m2 (withEntries (flatOf m1) (set (flatOf m1 .entries) p (withBlock (entryOf m1 p) 0 false))) → 0 < n
+    → nest (set (flatOf m .entries) p (dirty (entryOf m p .table) n)) R ≡ take p (pagesOf m) ++ pageOf (dirty (entryOf m p .table) n) hs ∷ drop (suc p) (pagesOf m)
+    → PagesNow m m2 (swapped p (fresh (pageAt m p .table) hs ∷ []) (pagesOf m))
+unfolding swapped
+now-dirty {m} {m1} {m2} {p} {R} a n hs u v h e =
+    let es : List Entry = flatOf m .entries in
+    let c : Entry = withCount (entryOf m p) n in
+    let d : Entry = dirty (entryOf m p .table) n in
+    let q : set (set es p c) p (withBlock (getD (set es p c) p noEntry) 0 false) ≡ set es p d =
+    set-set es p c _ ∙ ap (λ (y : Entry). set es p (withBlock y 0 false)) (getD-set-same es p c noEntry (a .inside)) in
+    now-becomes
+    (subst (λ (z : List Entry). Becomes m m2 (withEntries (withRows (flatOf m) R) z)) q
+    (becomes-then m m1 m2 _ (λ (y : Flat). withEntries y (set (y .entries) p (withBlock (entryIn y p) 0 false))) u v))
+    (counted-set es p d (counted m (a .has-store)) h)
+    (e ∙ ap (λ (z : Page). take p (pagesOf m) ++ z ∷ drop (suc p) (pagesOf m)) (page-fresh m p n hs))
 
 module _ {m : List ℕ} {p i : ℕ} (g : RowOn m p i) (x : Held) {m1 : List ℕ} (u : Becomes m m1 (withRows (flatOf m) (set (flatOf m .rows) i x))) where
   abbrev f : Flat

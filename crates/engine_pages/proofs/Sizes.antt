@@ -1,5 +1,5 @@
 -- Rows from s up to e, turn by turn: their sizes, and tests over them.
-use Rattle.basics.proofs.Kit.{_≡_, refl, sym, ap, _∙_, List, [], _∷_, ℕ, zero, suc, _+_, _*_, _≤_, _<_, _-_, add-one, ltb, length, take, drop, getD, drop-cons}
+use Rattle.basics.proofs.Kit.{_≡_, refl, sym, ap, _∙_, List, [], _∷_, ℕ, suc, _+_, _*_, _≤_, _<_, _-_, add-one, ltb, length, take, drop, drop-cons}
 use Rattle.basics.proofs.Kit.{le-leb, lt-leb, arith}
 use Rattle.basics.specs.Basics.{if_then_else_, sum}
 use Rattle.basics.specs.Lists.{tab}

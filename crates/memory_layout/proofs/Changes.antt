@@ -113,20 +113,26 @@ module _ (m m' : List ℕ) (room : Room m) where
       let r : rowCount m ≤ c = room .range .rows in
       (omega arith, ap (tab (rowAt m' c) 0) e ∙ same-rows m m' c (rowCount m) (room .range .least) r t)
 
+  -- where the pages end and start as they did
+  pub pages-are : {es : List Entry} → ((k : ℕ) → k < 8 → tableEnd m' k ≡ tableEnd m k) → ((p : ℕ) → startAt m' (capacityOf m) p ≡ startAt m (capacityOf m) p)
+      → tab (entryAt m' (capacityOf m)) 0 (pageCount m') ≡ es → PagesAre m m' es
+  unfolding headOf countsOf
+  pages-are ends start e =
+      record {
+        entries = e;
+        few = omega (arith, room .range .pages, ends 7 (omega arith));
+        tables = λ k b. omega (arith, room .tables k b, ends k (omega arith), ends (k + 1) (omega arith));
+        begins = start 0 ∙ room .begins;
+        rises = λ p b. omega (arith, start p, start (p + 1), room .rises p (omega (arith, ends 7 (omega arith))));
+      }
+
   pub kept-pages : Same m m' 32 4 → Same m m' 64 16 → Same m m' (1024 + capacityOf m * 79) (capacityOf m * 8) → PagesAre m m' (entriesOf m)
   unfolding entriesOf headOf countsOf
   kept-pages s t u =
       let c : ℕ = capacityOf m in
       let ends : (k : ℕ) → k < 8 → tableEnd m' k ≡ tableEnd m k = λ k b. within2 m m' 64 16 (64 + k * 2) t (omega arith) (omega arith) in
       let most : pageCount m ≤ 2 * c = room .range .pages in
-      let start : (p : ℕ) → startAt m' c p ≡ startAt m c p = λ p. same-start m m' c p (ends 7 (omega arith)) (same4 m m' 32 s) most (λ b x y. u b x (omega arith)) in
-      record {
-        entries = same-entries m m' c s t most u;
-        few = omega (arith, ends 7 (omega arith));
-        tables = λ k b. omega (arith, room .tables k b, ends k (omega arith), ends (k + 1) (omega arith));
-        begins = start 0 ∙ room .begins;
-        rises = λ p b. omega (arith, start p, start (p + 1), room .rises p (omega (arith, ends 7 (omega arith))));
-      }
+      pages-are ends (λ p. same-start m m' c p (ends 7 (omega arith)) (same4 m m' 32 s) most (λ b x y. u b x (omega arith))) (same-entries m m' c s t most u)
 
   kept-named : Same m m' 40 4 → Behind m m' (1024 + capacityOf m * 87) → (le4 m' 40 ≤ capacityOf m) × (tab (namedBlock m' (capacityOf m)) 0 (le4 m' 40) ≡ namedOf m)
   unfolding countsOf headOf namedOf

@@ -35,16 +35,6 @@ module _ (f : ℕ → Bool) where
   unfolding all
   all-end t n h = ap (all f) (from-end t n h)
 
--- tests joined from the left
-abbrev pub joined : Bool → List Bool → Bool
-joined b [] = b
-joined b (c ∷ cs) = joined (b && c) cs
-
-pub joined-every : (b : Bool) (bs : List Bool) → joined b bs ≡ every (b ∷ bs)
-unfolding every
-joined-every b [] = sym (and-yes b)
-joined-every b (c ∷ cs) = joined-every (b && c) cs ∙ and-assoc b c (every cs)
-
 -- ---- the head's numbers
 
 pub range-in : (size : ℕ) (h : Head) (n : Counts) → inRange size h n ≡ true → InRange size h n

@@ -11,6 +11,7 @@ use Rattle.memory_layout.specs.Flat.{flatOf, capacityOf, entriesOf, entryIn, Ro
 use Rattle.memory_layout.specs.declared.Entry.{Entry}
 use Rattle.memory_layout.proofs.Frame.{same-table, same-start}
 use Rattle.memory_layout.proofs.Laws.{entries-length}
+use Rattle.memory_layout.proofs.Changes.{pages-are}
 use Rattle.memory_pages.specs.Columns.{Opened, Closed}
 use Rattle.memory_pages.specs.Pages.{dirty, withBlock, withCount, wordOf}
 use Rattle.memory_pages.proofs.Ranges.{ranges, entry-table, entry-count, start-step, starts-rise}
@@ -74,18 +75,13 @@ module _ {m m' : List ℕ} {p b a w : ℕ} (z : Bool) (room : Room m) (h : p < p
       let r = ranges room in
       let en : pageCount m' ≡ n = block-end 7 (omega arith) in
       let l : length es ≡ n = entries-length m in
-      entries-become room (in-columns (s .apart) (omega arith) (omega arith)) (record {
-        entries =
-            splice (entryAt m c) (entryAt m' c) n (pageCount m') p 1 (suc p) (omega arith) (omega arith) (omega arith)
-            (λ j k. block-entry j (le2-below (s .apart) (blocksAt c + j * 2) (omega arith)))
-            (λ j k. ap (λ (x : ℕ). entryAt m' c (x + j)) (add-one p) ∙ block-entry (suc p + j) (le2-above (s .apart) (blocksAt c + (suc p + j) * 2) (omega arith)))
-            ∙ ap (λ (e : Entry). take p es ++ e ∷ drop (suc p) es) block-here
-            ∙ sym (set-split es p (withBlock (entryIn (flatOf m) p) b z) (omega arith));
-        few = omega (arith, en);
-        tables = λ t k. omega (arith, room .tables t k, block-end t (omega arith), block-end (t + 1) (omega arith));
-        begins = block-start 0 ∙ room .begins;
-        rises = λ j k. omega (arith, block-start j, block-start (j + 1), start-step room j);
-      })
+      entries-become room (in-columns (s .apart) (omega arith) (omega arith))
+      (pages-are m m' room block-end block-start
+      (splice (entryAt m c) (entryAt m' c) n (pageCount m') p 1 (suc p) (omega arith) (omega arith) (omega arith)
+      (λ j k. block-entry j (le2-below (s .apart) (blocksAt c + j * 2) (omega arith)))
+      (λ j k. ap (λ (x : ℕ). entryAt m' c (x + j)) (add-one p) ∙ block-entry (suc p + j) (le2-above (s .apart) (blocksAt c + (suc p + j) * 2) (omega arith)))
+      ∙ ap (λ (e : Entry). take p es ++ e ∷ drop (suc p) es) block-here
+      ∙ sym (set-split es p (withBlock (entryIn (flatOf m) p) b z) (omega arith))))
 
 -- ---- a page more
 

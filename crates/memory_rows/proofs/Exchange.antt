@@ -1,5 +1,5 @@
 -- One row exchanged by a change of its columns: another state, another pending operation.
-use Rattle.basics.proofs.Kit.{_≡_, refl, sym, ap, _∙_, ⊎-elim, Bool, List, [], _∷_, ℕ, _+_, _*_, _%_, _≤_, _<_, _/_, min, leb, eqb, ltb, length, getD, le-ltb, arith}
+use Rattle.basics.proofs.Kit.{_≡_, refl, sym, ap, _∙_, ⊎-elim, Bool, List, [], _∷_, ℕ, _+_, _*_, _%_, _≤_, _<_, _/_, min, leb, ltb, length, getD, le-ltb, arith}
 use Rattle.basics.specs.Basics.{if_then_else_}
 use Rattle.block_forms.specs.Limits.{payloadLimit, committedValue, statementLimit}
 use Rattle.block_forms.specs.Tuple.{committed, tentative}
@@ -13,7 +13,7 @@ use Rattle.basics.proofs.Numbers.{lt-or-ge, less-than}
 use Rattle.basics.proofs.Tabs.{tab-set}
 use Rattle.memory_layout.specs.Places.{keysAt, refsAt, statesAt, startsAt}
 use Rattle.block_forms.specs.Decode.{readOwner, readMark}
-use Rattle.memory_layout.specs.Views.{rowCount, pendingOf, lengthOf, slotOf, slotPlace, keyOf, refOf, stateOf, heldOf, rowAt}
+use Rattle.memory_layout.specs.Views.{rowCount, pendingBy, pendingOf, lengthOf, slotOf, slotPlace, keyOf, refOf, stateOf, heldOf, rowAt}
 use Rattle.memory_layout.specs.Flat.{flatOf, capacityOf, rowsOf, rowIn, Room, Becomes}
 use Rattle.memory_layout.proofs.Laws.{rows-length}
 use Rattle.memory_layout.proofs.Frame.{Same, same4, same-held, moved-row, slot-below}
@@ -110,16 +110,12 @@ module _ {m m' : List ℕ} (room : Room m) (i : ℕ) (h : i < length (rowsOf m))
 
 -- ---- pending
 
-by-code : ℕ → model.Pending
-unfolding if_then_else_
-by-code k = if eqb k 0 then model.nothing else if eqb k 1 then model.adding else if eqb k 2 then model.committing else model.removing
-
 pub code-is : (p : Pending) (s : ℕ) → s < 1024 → pendingOf (s + codeOf p * 1024) ≡ pendingIs p
-unfolding pendingOf by-code if_then_else_
-code-is Nothing s h = let e : (s + 0 * 1024) / 1024 % 4 ≡ 0 = omega arith in ap by-code e
-code-is Adding s h = let e : (s + 1 * 1024) / 1024 % 4 ≡ 1 = omega arith in ap by-code e
-code-is Committing s h = let e : (s + 2 * 1024) / 1024 % 4 ≡ 2 = omega arith in ap by-code e
-code-is Removing s h = let e : (s + 3 * 1024) / 1024 % 4 ≡ 3 = omega arith in ap by-code e
+unfolding pendingOf pendingBy if_then_else_
+code-is Nothing s h = let e : (s + 0 * 1024) / 1024 % 4 ≡ 0 = omega arith in ap pendingBy e
+code-is Adding s h = let e : (s + 1 * 1024) / 1024 % 4 ≡ 1 = omega arith in ap pendingBy e
+code-is Committing s h = let e : (s + 2 * 1024) / 1024 % 4 ≡ 2 = omega arith in ap pendingBy e
+code-is Removing s h = let e : (s + 3 * 1024) / 1024 % 4 ≡ 3 = omega arith in ap pendingBy e
 
 pub slot-by : (c r t : ℕ) → r % 1024 ≡ t % 1024 → slotOf c r ≡ slotOf c t
 unfolding slotOf

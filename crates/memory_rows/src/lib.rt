@@ -33,7 +33,7 @@ ghost use Rattle.image_rows.specs.Rows.{isBy};
 ghost use Rattle.model.specs.Rules.{heldSize, withPending, isAdding, isCommitting, isRemoving, isPending};
 ghost use Rattle.memory_bytes.specs.Columns.{equals, upTo, Covers};
 ghost use Rattle.basics.specs.Lists.{tab, insertAt, removeAt, firstIndex, lastIndex};
-ghost use Rattle.memory_layout.specs.Views.{lengthOf, pendingOf};
+ghost use Rattle.memory_layout.specs.Views.{lengthOf, pendingBy};
 ghost use Rattle.memory_layout.specs.Flat.{flatOf, rowIn, Room, Becomes};
 ghost use Rattle.memory_layout.specs.Elements.{RowRange};
 ghost use Rattle.block_forms.specs.Bytes.{ownerIs};
@@ -45,6 +45,12 @@ const SLOT_SIZE: usize = 72;
 
 // A slot's number has ten bits; the bits above them are the pending operation.
 const SLOT_LIMIT: u16 = 1024;
+
+// Pending operations by their numbers.
+const NOTHING: u16 = 0;
+const ADDING: u16 = 1;
+const COMMITTING: u16 = 2;
+const REMOVING: u16 = 3;
 
 // A row's state is the ninth byte of its record; from this number on it means committed.
 const COMMITTED: u8 = block_forms::COMMITTED;
@@ -103,75 +109,57 @@ pub fn mark_at(m: &[u8], i: usize) -> bool
     block_forms::mark_of(state_at(m, i))
 }
 
-fn pending_of(r: u16) -> Pending
-    ensures { λ p. ⌜ pendingIs p ≡ pendingOf r ⌝ }
+// The number of the row's pending operation.
+fn code_at(m: &[u8], i: usize) -> u16
+    requires { ⌜ Room (now m) × (i < length (flatOf (now m) .rows)) ⌝ }
+    ensures { λ r. ⌜ (pendingBy r ≡ rowIn (flatOf (now (m .entry))) i .pending) × (r < 4) ⌝ }
 {
-    let p = r / SLOT_LIMIT % 4;
-    if p == 0 {
-        return Pending::Nothing;
-    }
-    if p == 1 {
-        return Pending::Adding;
-    }
-    if p == 2 {
-        return Pending::Committing;
-    }
-    Pending::Removing
+    ref_at(m, i) / SLOT_LIMIT % 4
 }
 
 pub fn pending_at(m: &[u8], i: usize) -> Pending
     requires { ⌜ Room (now m) × (i < length (flatOf (now m) .rows)) ⌝ }
     ensures { λ r. ⌜ pendingIs r ≡ rowIn (flatOf (now (m .entry))) i .pending ⌝ }
 {
-    pending_of(ref_at(m, i))
+    let p = code_at(m, i);
+    if p == NOTHING {
+        return Pending::Nothing;
+    }
+    if p == ADDING {
+        return Pending::Adding;
+    }
+    if p == COMMITTING {
+        return Pending::Committing;
+    }
+    Pending::Removing
 }
 
 pub fn is_adding(m: &[u8], i: usize) -> bool
     requires { ⌜ Room (now m) × (i < length (flatOf (now m) .rows)) ⌝ }
     ensures { λ r. ⌜ r ≡ isAdding (rowIn (flatOf (now (m .entry))) i .pending) ⌝ }
 {
-    match pending_at(m, i) {
-        Pending::Nothing => false,
-        Pending::Adding => true,
-        Pending::Committing => false,
-        Pending::Removing => false,
-    }
+    code_at(m, i) == ADDING
 }
 
 pub fn is_committing(m: &[u8], i: usize) -> bool
     requires { ⌜ Room (now m) × (i < length (flatOf (now m) .rows)) ⌝ }
     ensures { λ r. ⌜ r ≡ isCommitting (rowIn (flatOf (now (m .entry))) i .pending) ⌝ }
 {
-    match pending_at(m, i) {
-        Pending::Nothing => false,
-        Pending::Adding => false,
-        Pending::Committing => true,
-        Pending::Removing => false,
-    }
+    code_at(m, i) == COMMITTING
 }
 
 pub fn is_removing(m: &[u8], i: usize) -> bool
     requires { ⌜ Room (now m) × (i < length (flatOf (now m) .rows)) ⌝ }
     ensures { λ r. ⌜ r ≡ isRemoving (rowIn (flatOf (now (m .entry))) i .pending) ⌝ }
 {
-    match pending_at(m, i) {
-        Pending::Nothing => false,
-        Pending::Adding => false,
-        Pending::Committing => false,
-        Pending::Removing => true,
-    }
+    code_at(m, i) == REMOVING
 }
 
 pub fn is_pending(m: &[u8], i: usize) -> bool
     requires { ⌜ Room (now m) × (i < length (flatOf (now m) .rows)) ⌝ }
     ensures { λ r. ⌜ r ≡ isPending (rowIn (flatOf (now (m .entry))) i .pending) ⌝ }
 {
-    match pending_at(m, i) {
-        Pending::Nothing => false,
-        Pending::Adding => true,
-        Pending::Committing => true,
-        Pending::Removing => true,
-    }
+    code_at(m, i) > NOTHING
 }
 
 // The payload's length: the low six bits, and never above the limit.
@@ -283,10 +271,10 @@ fn pending_code(p: Pending) -> u16
     ensures { λ r. ⌜ (r ≡ codeOf p) × (r < 4) ⌝ }
 {
     match p {
-        Pending::Nothing => 0,
-        Pending::Adding => 1,
-        Pending::Committing => 2,
-        Pending::Removing => 3,
+        Pending::Nothing => NOTHING,
+        Pending::Adding => ADDING,
+        Pending::Committing => COMMITTING,
+        Pending::Removing => REMOVING,
     }
 }
 

@@ -1,6 +1,6 @@
 -- `memory_layout::in_range` meets its contract: the eleven tests, joined from the left, are the definition's list of tests.
 use Rattle.basics.proofs.Kit.{[], _∷_, needs}
-use Rattle.memory_layout.proofs.Refusal.{joined-every}
+use Rattle.basics.proofs.Elements.{joined-every}
 use Rattle.memory_layout.specs.Store.{inRange}
 use Rattle.model.specs.Recover.{memoryFor}
 use Rattle.memory_layout.proofs.ranges.in_range.Statement.{statement}
