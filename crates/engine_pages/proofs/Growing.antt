@@ -14,17 +14,17 @@ use Rattle.memory_layout.proofs.Laws.{holds-room, filled, becomes-then}
 use Rattle.memory_layout.proofs.Nest.{Counted, counted-length}
 use Rattle.memory_layout.proofs.Exchange.{start-le, counted-set, counted-exchange, row-inserted, page-added}
 use Rattle.basics.proofs.Parts.{length-insert}
-use Rattle.memory_rows.specs.Rows.{heldBy, pendingIs, NewRow}
+use Rattle.memory_rows.specs.Rows.{heldBy, pendingIs, NewRow, withRow}
 use Rattle.memory_rows.specs.declared.Pending.{Pending}
 use Rattle.memory_rows.specs.declared.Row.{Row}
-use Rattle.memory_pages.specs.Pages.{dirty, withBlock, withCount, moreRows}
+use Rattle.memory_pages.specs.Pages.{dirty, withCount, moreRows, EntriesBecome, RowsBecome, setBlock}
 use Rattle.engine_pages.specs.Pages.{PagesNow, pagesOf, pageAt, tuplesAt, entryOf, firstRow, There, swapped}
 use Rattle.engine_pages.specs.Changes.{Dirty, Halved}
 use Rattle.engine_pages.specs.Spots.{tupleBy, placedOn, NewTuple, GrowAt, AddAt}
 use Rattle.engine_pages.proofs.Places.{now-to, now-again, now-becomes, counted, full, page-end, first-there, first-page, still-there}
-use Rattle.engine_pages.proofs.Rows.{now-dirty}
+use Rattle.engine_pages.proofs.Rows.{becomes-to, now-dirty}
 use Rattle.engine_pages.proofs.Splitting.{dirty-fresh, fresh-page}
-use Rattle.engine_pages.proofs.Removing.{becomes-to, page-less}
+use Rattle.engine_pages.proofs.Removing.{page-less}
 
 grown-frozen : (q : Page) (x : Tuple) (j : ℕ) → q .frozen ≡ true
     → placedOn x j q ≡ withTuples q (insertAt j (record { tuple = x; pending = adding }) (q .tuples)) ∷ []
@@ -75,7 +75,7 @@ module _ {m : List ℕ} {p at : ℕ} {row : Row} {xs : List ℕ} (g : GrowAt m p
 
     -- a pending add
     pub grew-frozen : pageAt m p .frozen ≡ true → {m2 : List ℕ}
-        → Becomes m1 m2 (withRows (flatOf m1) (set (flatOf m1 .rows) at (withPending adding (rowIn (flatOf m1) at))))
+        → Becomes m1 m2 (withRow (flatOf m1) at (withPending adding (rowIn (flatOf m1) at)))
         → PagesNow m m2 (swapped p (placedOn (tupleBy row xs) (at - firstRow m p) (pageAt m p)) (pagesOf m))
     unfolding swapped withPending
     grew-frozen e {m2} v =
@@ -89,13 +89,13 @@ module _ {m : List ℕ} {p at : ℕ} {row : Row} {xs : List ℕ} (g : GrowAt m p
         ap (λ (y : Held). set (insertAt at old rs) at (withPending adding y)) gd ∙ set-at (take at rs) old (drop at rs) h at la in
         let w : Becomes m m2 (after h) =
         subst (λ (z : List Held). Becomes m m2 (withEntries (withRows (flatOf m) z) (moreRows p (flatOf m .entries)))) er
-        (becomes-then m m1 m2 _ (λ (y : Flat). withRows y (set (y .rows) at (withPending adding (rowIn y at)))) u v) in
+        (becomes-then m m1 m2 _ (λ (y : Flat). withRow y at (withPending adding (rowIn y at))) u v) in
         now-to (now-becomes w (counted-set (flatOf m .entries) p more (counted m (g .tuple .has-store)) (omega arith))
         (row-inserted (flatOf m) (full grow-there) p (g .inside) at (g .least) more h (g .most) refl
         ∙ ap (λ (z : Page). take p (pagesOf m) ++ z ∷ drop (suc p) (pagesOf m)) (page-less m p _ _)))
         (ap (λ (z : List Page). swapped p z (pagesOf m)) (sym (grown-frozen (pageAt m p) x j e)))
 
-    module _ {m2 : List ℕ} (v : Becomes m1 m2 (withEntries (flatOf m1) (set (flatOf m1 .entries) p (withBlock (entryOf m1 p) 0 false)))) where
+    module _ {m2 : List ℕ} (v : EntriesBecome m1 m2 (setBlock p 0 false)) where
       abbrev new : Page
       new = fresh (pageAt m p .table) (insertAt (at - firstRow m p) (withoutPending (tupleBy row xs)) (tuplesAt m p))
 
@@ -154,7 +154,7 @@ module _ {m : List ℕ} {t p : ℕ} {row : Row} {xs : List ℕ} (g : AddAt m t p
         }
 
     pub added : {at : ℕ} → at ≡ firstRow m p → {m2 : List ℕ}
-        → Becomes m1 m2 (withEntries (withRows (flatOf m1) (insertAt at (heldBy row xs) (flatOf m1 .rows))) (moreRows p (flatOf m1 .entries)))
+        → RowsBecome m1 m2 (insertAt at (heldBy row xs)) (moreRows p)
         → PagesNow m m2 (take p (pagesOf m) ++ fresh t (withoutPending (tupleBy row xs) ∷ []) ∷ drop p (pagesOf m))
     added {at} ea {m2} v =
         let es : List Entry = flatOf m .entries in

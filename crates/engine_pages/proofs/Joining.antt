@@ -9,9 +9,9 @@ use Rattle.model.specs.Rules.{heldSize, joins, joined, fresh, settle, settleFul
 use Rattle.model.specs.Places.{onPage}
 use Rattle.basics.proofs.Elements.{nonempty, length-zero}
 use Rattle.model.proofs.Rows.{joins-table}
-use Rattle.memory_layout.specs.Flat.{flatOf, Room, Becomes, withEntries}
+use Rattle.memory_layout.specs.Flat.{flatOf, Room}
 use Rattle.memory_layout.proofs.Exchange.{sum-append, counted-exchange, pages-joined}
-use Rattle.memory_pages.specs.Pages.{dirty, joinEntries, MayJoin}
+use Rattle.memory_pages.specs.Pages.{dirty, joinEntries, MayJoin, EntriesBecome}
 use Rattle.engine_pages.specs.Pages.{PagesNow, pagesOf, pageAt, tuplesAt, entryOf, firstRow, There, swapped}
 use Rattle.memory_layout.specs.Elements.{rowsFrom, RowRange}
 use Rattle.engine_pages.specs.Changes.{Tries, settledAt, settledNext, settledBy}
@@ -103,7 +103,7 @@ module _ {m : List ℕ} {p : ℕ} (a : There m p) (lt : p + 1 < length (flatOf m
   pub may-join : Room m × MayJoin (flatOf m) p
   may-join = (room a, record { place = lt; table = sym (page-table (next-at a lt)) ∙ sym (joins-table _ _ j) ∙ page-table a })
 
-  pub joined-now : {m' : List ℕ} → Becomes m m' (withEntries (flatOf m) (joinEntries p (flatOf m .entries)))
+  pub joined-now : {m' : List ℕ} → EntriesBecome m m' (joinEntries p)
       → PagesNow m m' (take p (pagesOf m) ++ joined (pageAt m p) (pageAt m (p + 1)) ∷ drop (p + 2) (pagesOf m))
   unfolding joined
   joined-now b =

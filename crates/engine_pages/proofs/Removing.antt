@@ -1,5 +1,5 @@
 -- A removal, on a frozen page and on another.
-use Rattle.basics.proofs.Kit.{_≡_, refl, sym, ap, _∙_, subst, Bool, true, false, List, [], _∷_, _++_, ℕ, suc, _<_, _-_, length, take, drop, getD, set, length-set}
+use Rattle.basics.proofs.Kit.{_≡_, refl, sym, ap, _∙_, Bool, true, false, List, [], _∷_, _++_, ℕ, suc, _<_, _-_, length, take, drop, getD, set, length-set}
 use Rattle.basics.proofs.Kit.{getD-set-same, arith}
 use Rattle.basics.specs.Basics.{if_then_else_, isEmpty}
 use Rattle.model.specs.State.{removing, Held, Page}
@@ -7,25 +7,23 @@ use Rattle.model.specs.Rules.{isAdding, removeNow, pendRemove, withPending, wit
 use Rattle.model.specs.Places.{editAt, pendRemoveAt, removeRowOn, removeRow}
 use Rattle.model.proofs.Flat.{edit-none, edit-one, taken-is}
 use Rattle.basics.specs.Lists.{removeAt}
-use Rattle.memory_layout.specs.Flat.{Flat, flatOf, entryIn, rowIn, noRow, noEntry, Room, Becomes, withRows, withEntries}
-use Rattle.memory_layout.specs.Store.{nest, pageOf, pageIn}
+use Rattle.memory_layout.specs.Flat.{Flat, flatOf, entryIn, rowIn, noRow, noEntry, Room, Becomes}
+use Rattle.memory_rows.specs.Rows.{withRow}
+use Rattle.memory_layout.specs.Store.{pageOf, pageIn}
 use Rattle.memory_layout.specs.declared.Entry.{Entry}
-use Rattle.memory_layout.proofs.Laws.{becomes-then}
-use Rattle.memory_layout.proofs.Nest.{Counted}
-use Rattle.memory_layout.proofs.Exchange.{counted-set, counted-exchange, row-removed, row-dropped}
+use Rattle.memory_layout.proofs.Exchange.{counted-set, row-removed, row-dropped}
 use Rattle.basics.proofs.Parts.{length-remove}
 use Rattle.basics.proofs.Elements.{length-zero}
 use Rattle.basics.proofs.Numbers.{less-than}
-use Rattle.memory_pages.specs.Pages.{dirty, withBlock, withCount, fewerRows, MayLose}
+use Rattle.memory_pages.specs.Pages.{dirty, withCount, fewerRows, MayLose, EntriesBecome, RowsBecome, setBlock}
 use Rattle.engine_pages.specs.Pages.{PagesNow, pagesOf, pageAt, tuplesAt, entryOf, firstRow, There, RowOn, swapped}
 use Rattle.engine_pages.specs.Changes.{Tries, settledAt, settledBy}
 use Rattle.engine_pages.proofs.Places.{now-to, now-then, now-stay, now-becomes, counted, full, room, many}
 use Rattle.engine_pages.proofs.Places.{has-row, swap-same, row-in, row-inside, tuple-is, first-there, first-page, still-there}
 use Rattle.engine_pages.proofs.Around.{on-swap, on-same}
-use Rattle.engine_pages.proofs.Rows.{at-row, row-now, now-dirty}
+use Rattle.engine_pages.proofs.Rows.{at-row, row-now, now-dirty, now-dropped}
 use Rattle.engine_pages.proofs.Committing.{with-same}
 use Rattle.engine_pages.proofs.Joining.{tries-done, settled-none, settled-by}
-use Rattle.basics.proofs.Parts.{remove-set}
 
 -- ---- tuple j of a frozen page
 
@@ -52,10 +50,6 @@ module _ (j : ℕ) (hs : List Held) (lt : j < length hs) where
 pub page-less : (m : List ℕ) (p n : ℕ) (hs : List Held) → pageOf (withCount (entryOf m p) n) hs ≡ withTuples (pageAt m p) hs
 unfolding pageIn pageOf withTuples
 page-less m p n hs = refl
-
--- the same entries, written otherwise
-pub becomes-to : {m m' : List ℕ} (f : Flat) {E F : List Entry} → Becomes m m' (withEntries f E) → E ≡ F → Becomes m m' (withEntries f F)
-becomes-to {m} {m'} f b e = subst (λ (z : List Entry). Becomes m m' (withEntries f z)) e b
 
 -- ---- on the memory
 
@@ -88,7 +82,7 @@ module _ {m : List ℕ} {p i : ℕ} (g : RowOn m p i) where
   later left e u = now-to u (ap (λ (z : List Held). swapped p (withTuples (pageAt m p) z ∷ []) (pagesOf m)) (sym e))
 
   pub later-noted : {b : Bool} → b ≡ isAdding (rowIn (flatOf m) i .pending) → b ≡ false → {m' : List ℕ}
-      → Becomes m m' (withRows (flatOf m) (set (flatOf m .rows) i (withPending removing (rowIn (flatOf m) i)))) → PagesNow m m' noted
+      → Becomes m m' (withRow (flatOf m) i (withPending removing (rowIn (flatOf m) i))) → PagesNow m m' noted
   later-noted eb h u =
       let x : Held = withPending removing (rowIn (flatOf m) i) in
       later (set hs j x) (taken-noted j hs (row-inside g) x (adding-is eb ∙ h) (ap (withPending removing) (sym (tuple-is g)))) (row-now g x u)
@@ -99,7 +93,7 @@ module _ {m : List ℕ} {p i : ℕ} (g : RowOn m p i) where
         later hs (taken-last j hs (row-inside g) (adding-is eb ∙ h) (many a ∙ sym en ∙ l))
         (now-to (now-stay m (a .has-store)) (sym (ap (λ (z : Page). swapped p (z ∷ []) (pagesOf m)) (with-same (pageAt m p)) ∙ swap-same a)))
 
-    pub later-away : (n ≡ 1 → ⊥) → {m' : List ℕ} → Becomes m m' (withEntries (withRows (flatOf m) (removeAt i (flatOf m .rows))) (fewerRows p (flatOf m .entries)))
+    pub later-away : (n ≡ 1 → ⊥) → {m' : List ℕ} → RowsBecome m m' (removeAt i) (fewerRows p)
         → PagesNow m m' noted
     unfolding swapped
     later-away l u =
@@ -121,7 +115,7 @@ module _ {m : List ℕ} {p i : ℕ} (g : RowOn m p i) where
   left-long : length (removeAt (i - firstRow m p) (tuplesAt m p)) ≡ entryOf m p .count - 1
   left-long = length-remove j hs (row-inside g) ∙ ap (λ (z : ℕ). z - 1) (many a)
 
-  module _ {m1 : List ℕ} (u : Becomes m m1 (withEntries (withRows (flatOf m) (removeAt i (flatOf m .rows))) (fewerRows p (flatOf m .entries)))) where
+  module _ {m1 : List ℕ} (u : RowsBecome m m1 (removeAt i) (fewerRows p)) where
     abbrev less : Entry
     less = withCount (entryOf m p) (entryOf m p .count - 1)
 
@@ -135,17 +129,14 @@ module _ {m : List ℕ} {p i : ℕ} (g : RowOn m p i) where
     less-empty l = ap (λ (y : Entry). y .count) entry-then ∙ omega arith
 
     -- the only row: the page goes
-    pub now-none : entryOf m p .count ≡ 1 → {m2 : List ℕ} → Becomes m1 m2 (withEntries (flatOf m1) (removeAt p (flatOf m1 .entries)))
+    pub now-none : entryOf m p .count ≡ 1 → {m2 : List ℕ} → EntriesBecome m1 m2 (removeAt p)
         → PagesNow m m2 (settledBy p (new ∷ []) new (pagesOf m))
     unfolding swapped
-    now-none l {m2} v =
-        now-to (now-becomes (becomes-then m m1 m2 _ (λ (y : Flat). withEntries y (removeAt p (y .entries))) u v)
-        (subst Counted (sym (remove-set (flatOf m .entries) p less)) (counted-exchange (flatOf m .entries) [] p 1 (counted m (a .has-store)) tt))
-        (ap (λ (z : List Entry). nest z (removeAt i (flatOf m .rows))) (remove-set (flatOf m .entries) p less)
-        ∙ row-dropped (flatOf m) (full a) p (a .inside) i (g .least) (g .most) l))
+    now-none l v =
+        now-to (now-dropped a (entryOf m p .count - 1) u v (row-dropped (flatOf m) (full a) p (a .inside) i (g .least) (g .most) l))
         (settled-none a t left (new ∷ []) (left-long ∙ omega arith))
 
-    module _ (l : 1 < entryOf m p .count) {m2 : List ℕ} (v : Becomes m1 m2 (withEntries (flatOf m1) (set (flatOf m1 .entries) p (withBlock (entryOf m1 p) 0 false)))) where
+    module _ (l : 1 < entryOf m p .count) {m2 : List ℕ} (v : EntriesBecome m1 m2 (setBlock p 0 false)) where
       came : PagesNow m m2 (swapped p (fresh (pageAt m p .table) (removeAt (i - firstRow m p) (tuplesAt m p)) ∷ []) (pagesOf m))
       came =
           let n : ℕ = entryOf m p .count - 1 in

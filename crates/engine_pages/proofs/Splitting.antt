@@ -6,10 +6,10 @@ use Rattle.block_forms.specs.Limits.{recordSpace}
 use Rattle.model.specs.State.{Held, Page}
 use Rattle.model.specs.Rules.{heldSize, lead, half, fits, splitOnce, fresh}
 use Rattle.model.proofs.Splits.{Small, half-between}
-use Rattle.memory_layout.specs.Flat.{flatOf, Becomes, withEntries}
+use Rattle.memory_layout.specs.Flat.{flatOf}
 use Rattle.memory_layout.specs.Store.{pageOf}
 use Rattle.memory_layout.proofs.Exchange.{page-split, counted-exchange}
-use Rattle.memory_pages.specs.Pages.{dirty, splitEntry}
+use Rattle.memory_pages.specs.Pages.{dirty, splitEntry, EntriesBecome}
 use Rattle.engine_pages.specs.Pages.{pagesOf, pageAt, tuplesAt, entryOf, firstRow, There, swapped}
 use Rattle.memory_layout.specs.Elements.{rowsFrom}
 use Rattle.engine_pages.specs.Changes.{Dirty, Halved}
@@ -65,7 +65,7 @@ module _ {m : List ℕ} {p : ℕ} (a : There m p) {s e w : ℕ} (es : s ≡ firs
         let b1 = b .1 in
         (omega (arith, half-is), omega (arith, half-is, many a))
 
-    pub halved-parts : {m' : List ℕ} → Becomes m m' (withEntries (flatOf m) (splitEntry p k (flatOf m .entries))) → Halved m m' p k
+    pub halved-parts : {m' : List ℕ} → EntriesBecome m m' (splitEntry p k) → Halved m m' p k
     unfolding fits swapped pageOf fresh
     halved-parts b =
         let f : fits (tuplesAt m p) ≡ false = lt-leb (sum heldSize (tuplesAt m p)) recordSpace (omega (arith, size-is)) in

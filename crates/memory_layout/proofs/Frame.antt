@@ -1,12 +1,12 @@
 -- What a change of some bytes leaves of what the memory holds: each list is as it was if its bytes are.
-use Rattle.basics.proofs.Kit.{_≡_, refl, ap, _∙_, fun-ext, Bool, true, false, _&&_, not, List, ℕ, suc, _+_, _*_, _%_, _^_, _≤_, _<_, _/_, _-_, min-le-right, leb, eqb, ltb, getD}
-use Rattle.basics.proofs.Kit.{ltb-true, arith}
+use Rattle.basics.proofs.Kit.{_≡_, refl, sym, ap, _∙_, fun-ext, Bool, true, false, _&&_, not, List, ℕ, suc, _+_, _*_, _%_, _^_, _≤_, _<_, _/_, _-_, min-le-right, leb, eqb, ltb, getD}
+use Rattle.basics.proofs.Kit.{⊎-elim, lt-ltb, le-ltb, ltb-true, arith}
 use Rattle.basics.specs.Basics.{if_then_else_}
 use Rattle.basics.specs.Basics.{from}
 use Rattle.memory_bytes.specs.Bytes.{le2, le4, bytes}
 use Rattle.basics.specs.Lists.{tab}
 use Rattle.memory_bytes.proofs.Bytes.{le2-cong, le4-cong, bytes-cong}
-use Rattle.basics.proofs.Tabs.{tab-same}
+use Rattle.basics.proofs.Tabs.{lt-or-ge, tab-same}
 use Rattle.basics.proofs.Elements.{all-map, many-ext}
 use Rattle.basics.proofs.Firsts.{all-from}
 use Rattle.memory_layout.specs.Places.{startsAt}
@@ -22,6 +22,15 @@ Same m m' a n = (b : ℕ) → a ≤ b → b < a + n → getD m' b 0 ≡ getD m b
 -- all bytes from a on are the same in both
 abbrev pub Behind : List ℕ → List ℕ → ℕ → Type 0
 Behind m m' a = (b : ℕ) → a ≤ b → getD m' b 0 ≡ getD m b 0
+
+-- a page's start is stored, and behind the last page it is the number of rows
+pub start-stored : (m : List ℕ) (c p : ℕ) → p < pageCount m → startAt m c p ≡ le2 m (startsAt c + p * 2)
+unfolding startAt if_then_else_
+start-stored m c p h = rw (lt-ltb p (pageCount m) h)
+
+pub start-behind : (m : List ℕ) (c p : ℕ) → pageCount m ≤ p → startAt m c p ≡ rowCount m
+unfolding startAt if_then_else_
+start-behind m c p h = rw (le-ltb p (pageCount m) h)
 
 module _ (m m' : List ℕ) where
   -- a number in bytes that are the same
@@ -147,14 +156,10 @@ module _ (m m' : List ℕ) where
 
     pub same-start : (p : ℕ) → pageCount m' ≡ pageCount m → rowCount m' ≡ rowCount m → pageCount m ≤ 2 * c → Same m m' (1024 + c * 79) (c * 4)
         → startAt m' c p ≡ startAt m c p
-    unfolding startAt if_then_else_
-    same-start p ep er h s = ap (λ (k : ℕ). if ltb p k then le2 m' (startsAt c + p * 2) else rowCount m') ep ∙ by-test (ltb p (pageCount m)) refl
-      where
-        by-test : (t : Bool) → ltb p (pageCount m) ≡ t → (if t then le2 m' (startsAt c + p * 2) else rowCount m') ≡ (if t then le2 m (startsAt c + p * 2) else rowCount m)
-        by-test true e =
-            let l : p < pageCount m = ltb-true p (pageCount m) e in
-            within2 (1024 + c * 79) (c * 4) (1024 + c * 79 + p * 2) s (omega arith) (omega arith)
-        by-test false e = er
+    same-start p ep er h s = ⊎-elim
+        (λ l. start-stored m' c p (omega arith) ∙ within2 (1024 + c * 79) (c * 4) (1024 + c * 79 + p * 2) s (omega arith) (omega arith) ∙ sym (start-stored m c p l))
+        (λ l. start-behind m' c p (omega arith) ∙ er ∙ sym (start-behind m c p l))
+        (lt-or-ge p (pageCount m))
 
     pub same-entries : Same m m' 32 4 → Same m m' 64 16 → pageCount m ≤ 2 * c → Same m m' (1024 + c * 79) (c * 8)
         → tab (entryAt m' c) 0 (pageCount m') ≡ tab (entryAt m c) 0 (pageCount m)

@@ -1,7 +1,7 @@
 -- What the flat lists of any memory with room are known to have: how long each is, where each page starts; and from the flat lists to
 -- the store that the memory holds.
 use Rattle.basics.proofs.Kit.{_≡_, refl, sym, ap, _∙_, true, false, some, none, List, ℕ, suc, _+_, _*_, _≤_, _<_, zero, _-_, add-one, add-zero, zero-add, eqb, length, take, le-leb}
-use Rattle.basics.proofs.Kit.{leb-true, lt-ltb, le-ltb, eqb-true, eq-eqb, ltb-true, arith}
+use Rattle.basics.proofs.Kit.{leb-true, lt-ltb, eqb-true, eq-eqb, ltb-true, arith}
 use Rattle.basics.specs.Basics.{if_then_else_, all, from, sum}
 use Rattle.basics.proofs.Facts.{by, never, and-true}
 use Rattle.model.specs.State.{Store}
@@ -13,8 +13,9 @@ use Rattle.memory_layout.specs.Views.{headOf, countsOf, rowCount, openCo
 use Rattle.memory_layout.specs.declared.Counts.{Counts}
 use Rattle.memory_layout.specs.Flat.{Flat, flatOf, capacityOf, opensOf, rowsOf, entriesOf, namedOf, directoriesOf, Room, InRange, Becomes}
 use Rattle.memory_layout.specs.Store.{total, startOf, tablesRise, startsRise, holdsStore, hasRows, pagesIn, storeOf, storeIn}
+use Rattle.memory_layout.proofs.Frame.{start-behind}
 use Rattle.memory_layout.proofs.Refusal.{all-from, from-all, range-in, in-range, endRises, startRises}
-use Rattle.basics.proofs.Elements.{every-true, every-cons, every-one}
+use Rattle.basics.proofs.Elements.{every-all, every-cons, every-one}
 use Rattle.basics.proofs.Searches.{all-tab, tab-all}
 
 -- ---- how long each list is
@@ -82,8 +83,7 @@ total-run m c i (suc k) h =
 
 -- behind the last page
 pub start-last : (m : List ℕ) (c : ℕ) → startAt m c (pageCount m) ≡ rowCount m
-unfolding startAt if_then_else_
-start-last m c = rw (le-ltb (pageCount m) (pageCount m) (omega arith))
+start-last m c = start-behind m c (pageCount m) (omega arith)
 
 module _ (m : List ℕ) (room : Room m) where
   -- the start that the memory says of page p is what the counts of the pages before it make
@@ -154,17 +154,14 @@ record Passed (m : List ℕ) : Type 0 where
 passed : (m : List ℕ) → holdsStore m ≡ true → Passed m
 unfolding holdsStore tablesRise startsRise
 passed m h =
-    let t1 = every-true _ _ h in
-    let t2 = every-true _ _ (t1 .1) in
-    let t3 = every-true _ _ (t2 .1) in
-    let t4 = every-true _ _ (t3 .1) in
-    let t5 = and-true (eqb (startAt m (capacityOf m) 0) 0) (all (startRises m) (from 0 (pageCount m))) (sym (every-one _) ∙ t4 .1) in
+    let s = every-all _ h in
+    let r = and-true (eqb (startAt m (capacityOf m) 0) 0) (all (startRises m) (from 0 (pageCount m))) (s .1 .1 .1 .1 .0) in
     record {
-      sign = eqb-true _ _ (t2 .0);
-      range = range-in _ _ _ (t3 .0);
-      tables = λ t b. all-from (endRises m) 7 (t4 .0) t b;
-      begins = eqb-true _ _ (t5 .0);
-      rises = λ p b. ltb-true _ _ (all-from (startRises m) (pageCount m) (t5 .1) p b);
+      sign = eqb-true _ _ (s .1 .0);
+      range = range-in _ _ _ (s .1 .1 .0);
+      tables = λ t b. all-from (endRises m) 7 (s .1 .1 .1 .0) t b;
+      begins = eqb-true _ _ (r .0);
+      rises = λ p b. ltb-true _ _ (all-from (startRises m) (pageCount m) (r .1) p b);
     }
 
 pub holds-room : (m : List ℕ) → holdsStore m ≡ true → Room m

@@ -12,7 +12,7 @@ use Rattle.memory_layout.specs.Flat.{InRange, capacityOf}
 use Rattle.memory_layout.specs.Store.{inRange, tablesRise, startsRise, StartsAt, holdsStore}
 use Rattle.memory_layout.specs.declared.Head.{Head}
 use Rattle.memory_layout.specs.declared.Counts.{Counts}
-use Rattle.basics.proofs.Elements.{every-true, every-cons, every-stop, every-one}
+use Rattle.basics.proofs.Elements.{every-all, every-cons, every-stop, every-one}
 use Rattle.basics.proofs.Searches.{tab-all, all-tab, from-tab}
 use Rattle.basics.proofs.Firsts.{from-turn, from-end}
 
@@ -40,29 +40,19 @@ module _ (f : ℕ → Bool) where
 pub range-in : (size : ℕ) (h : Head) (n : Counts) → inRange size h n ≡ true → InRange size h n
 unfolding inRange memoryFor
 range-in size h n e =
-    let t1 = every-true _ _ e in
-    let t2 = every-true _ _ (t1 .1) in
-    let t3 = every-true _ _ (t2 .1) in
-    let t4 = every-true _ _ (t3 .1) in
-    let t5 = every-true _ _ (t4 .1) in
-    let t6 = every-true _ _ (t5 .1) in
-    let t7 = every-true _ _ (t6 .1) in
-    let t8 = every-true _ _ (t7 .1) in
-    let t9 = every-true _ _ (t8 .1) in
-    let t10 = every-true _ _ (t9 .1) in
-    let t11 = every-true _ _ (t10 .1) in
+    let t = every-all _ e in
     record {
-      least = leb-true _ _ (t1 .0);
-      most = leb-true _ _ (t2 .0);
-      long = leb-true _ _ (t3 .0);
-      few = leb-true _ _ (t4 .0);
-      many = leb-true _ _ (t5 .0);
-      taken = ltb-true _ _ (t6 .0);
-      rows = leb-true _ _ (t7 .0);
-      pages = leb-true _ _ (t8 .0);
-      opens = leb-true _ _ (t9 .0);
-      named = leb-true _ _ (t10 .0);
-      directories = leb-true _ _ (t11 .0);
+      least = leb-true _ _ (t .0);
+      most = leb-true _ _ (t .1 .0);
+      long = leb-true _ _ (t .1 .1 .0);
+      few = leb-true _ _ (t .1 .1 .1 .0);
+      many = leb-true _ _ (t .1 .1 .1 .1 .0);
+      taken = ltb-true _ _ (t .1 .1 .1 .1 .1 .0);
+      rows = leb-true _ _ (t .1 .1 .1 .1 .1 .1 .0);
+      pages = leb-true _ _ (t .1 .1 .1 .1 .1 .1 .1 .0);
+      opens = leb-true _ _ (t .1 .1 .1 .1 .1 .1 .1 .1 .0);
+      named = leb-true _ _ (t .1 .1 .1 .1 .1 .1 .1 .1 .1 .0);
+      directories = leb-true _ _ (t .1 .1 .1 .1 .1 .1 .1 .1 .1 .1 .0);
     }
 
 pub in-range : (size : ℕ) (h : Head) (n : Counts) → InRange size h n → inRange size h n ≡ true

@@ -1,6 +1,6 @@
 -- What the memory holds after each change of the pages.
-use Rattle.basics.proofs.Kit.{_≡_, sym, ap, _∙_, subst, ⊎-elim, Bool, true, false, List, _∷_, _++_, ℕ, suc, _+_, _*_, _%_, _≤_, _<_, _/_, _-_, add-one, eqb, length, take, drop, set}
-use Rattle.basics.proofs.Kit.{set-split, eq-eqb, ne-eqb, arith}
+use Rattle.basics.proofs.Kit.{_≡_, sym, ap, _∙_, subst, ⊎-elim, Bool, true, false, List, _∷_, _++_, ℕ, suc, _+_, _*_, _%_, _≤_, _<_, _/_, _-_, eqb, take, drop, set}
+use Rattle.basics.proofs.Kit.{eq-eqb, ne-eqb, arith}
 use Rattle.memory_bytes.specs.Bytes.{le2, bytes2, Wrote}
 use Rattle.basics.specs.Lists.{tab, insertAt, removeAt}
 use Rattle.memory_bytes.proofs.Bytes.{le2-below, le2-above, le4-below, le2-wrote}
@@ -10,14 +10,13 @@ use Rattle.memory_layout.specs.Views.{pageCount, tableEnd, tableAt, startAt, bl
 use Rattle.memory_layout.specs.Flat.{flatOf, capacityOf, entriesOf, entryIn, Room, Becomes, withEntries}
 use Rattle.memory_layout.specs.declared.Entry.{Entry}
 use Rattle.memory_layout.proofs.Frame.{same-table, same-start}
-use Rattle.memory_layout.proofs.Laws.{entries-length}
 use Rattle.memory_layout.proofs.Changes.{pages-are}
 use Rattle.memory_pages.specs.Columns.{Opened, Closed}
 use Rattle.memory_pages.specs.Pages.{dirty, withBlock, withCount, wordOf}
 use Rattle.memory_pages.proofs.Ranges.{ranges, entry-table, entry-count, start-step, starts-rise}
 use Rattle.memory_pages.proofs.Tables.{TableIs, table-is}
 use Rattle.memory_pages.proofs.Columns.{in-columns, entries-become}
-use Rattle.basics.proofs.Tabs.{splice}
+use Rattle.basics.proofs.Tabs.{splice, tab-set}
 use Rattle.memory_pages.proofs.Entries.{entry-is, entry-same, entry-counted, Stands, stands-behind}
 use Rattle.memory_pages.proofs.Entries.{opens, closes, more-tables, more-before, more-here, more-same, more-start, more-low, more-entry, open-rises}
 
@@ -70,18 +69,14 @@ module _ {m m' : List ℕ} {p b a w : ℕ} (z : Bool) (room : Room m) (h : p < p
   unfolding entriesOf
   block-set =
       let c : ℕ = capacityOf m in
-      let n : ℕ = pageCount m in
-      let es : List Entry = tab (entryAt m c) 0 n in
       let r = ranges room in
-      let en : pageCount m' ≡ n = block-end 7 (omega arith) in
-      let l : length es ≡ n = entries-length m in
       entries-become room (in-columns (s .apart) (omega arith) (omega arith))
       (pages-are m m' room block-end block-start
-      (splice (entryAt m c) (entryAt m' c) n (pageCount m') p 1 (suc p) (omega arith) (omega arith) (omega arith)
+      (ap (tab (entryAt m' c) 0) (block-end 7 (omega arith))
+      ∙ tab-set (entryAt m c) (entryAt m' c) (pageCount m) p (withBlock (entryIn (flatOf m) p) b z) h
       (λ j k. block-entry j (le2-below (s .apart) (blocksAt c + j * 2) (omega arith)))
-      (λ j k. ap (λ (x : ℕ). entryAt m' c (x + j)) (add-one p) ∙ block-entry (suc p + j) (le2-above (s .apart) (blocksAt c + (suc p + j) * 2) (omega arith)))
-      ∙ ap (λ (e : Entry). take p es ++ e ∷ drop (suc p) es) block-here
-      ∙ sym (set-split es p (withBlock (entryIn (flatOf m) p) b z) (omega arith))))
+      block-here
+      (λ j k l. block-entry j (le2-above (s .apart) (blocksAt c + j * 2) (omega arith)))))
 
 -- ---- a page more
 

@@ -1,5 +1,5 @@
 -- What the bytes of the pages say after a number was put into a column or taken out, and after a page was opened or closed.
-use Rattle.basics.proofs.Kit.{_≡_, sym, ap, _∙_, subst, ⊎-elim, List, ℕ, suc, _+_, _*_, _≤_, _<_, arith}
+use Rattle.basics.proofs.Kit.{_≡_, sym, ap, _∙_, subst, ⊎-elim, List, ℕ, suc, _+_, _*_, _≤_, _<_, getD, arith}
 use Rattle.memory_bytes.specs.Bytes.{le2, bytes2, column2, Apart, Raised, Lowered, Wrote, Added}
 use Rattle.memory_bytes.proofs.Bytes.{le2-below, le2-above, le2-raised, le2-lowered, le2-wrote, le4-cong}
 use Rattle.basics.proofs.Tabs.{lt-or-ge}
@@ -49,25 +49,16 @@ then-only s t =
       above = λ b h. t .above b h ∙ s .above b h;
     }
 
+only-from : {c a n : ℕ} {m m' : List ℕ} → Apart m m' a n → 64 ≤ a → a + n ≤ 1024 + c * 87 → ((b : ℕ) → 80 ≤ b → b < 1024 + c * 79 → getD m' b 0 ≡ getD m b 0) → PagesOnly c m m'
+only-from s h k between = record { size = s .size; below = λ b q. s .below b (omega arith); between = between; above = λ b q. s .above b (omega arith) }
+
 -- a change in the two columns
 pub in-columns : {c a n : ℕ} {m m' : List ℕ} → Apart m m' a n → 1024 + c * 79 ≤ a → a + n ≤ 1024 + c * 87 → PagesOnly c m m'
-in-columns s h k =
-    record {
-      size = s .size;
-      below = λ b q. s .below b (omega arith);
-      between = λ b p q. s .below b (omega arith);
-      above = λ b q. s .above b (omega arith);
-    }
+in-columns s h k = only-from s (omega arith) k (λ b p q. s .below b (omega arith))
 
 -- a change in the ends of the tables
 pub in-ends : {c a n : ℕ} {m m' : List ℕ} → Apart m m' a n → 64 ≤ a → a + n ≤ 80 → PagesOnly c m m'
-in-ends s h k =
-    record {
-      size = s .size;
-      below = λ b q. s .below b (omega arith);
-      between = λ b p q. s .above b (omega arith);
-      above = λ b q. s .above b (omega arith);
-    }
+in-ends s h k = only-from s h (omega arith) (λ b p q. s .above b (omega arith))
 
 -- the number of rows is as it was
 pub same-row-count : {c : ℕ} {m m' : List ℕ} → PagesOnly c m m' → rowCount m' ≡ rowCount m
