@@ -4,7 +4,7 @@ use Rattle.basics.proofs.Kit.{zero-add, suc-add, length, arith}
 use Rattle.basics.specs.Basics.{any, all, howMany, paired, from, if_then_else_}
 use Rattle.basics.specs.Lists.{tab, firstIndex, lastIndex}
 use Rattle.basics.proofs.Ands.{and-yes, and-assoc}
-use Rattle.basics.proofs.Tabs.{tab-add, length-tab, lt-or-ge}
+use Rattle.basics.proofs.Tabs.{tab-add, tab-cong, length-tab, lt-or-ge}
 use Rattle.basics.proofs.Facts.{by, lie, and-true}
 use Rattle.basics.proofs.Elements.{or-right}
 pub use Rattle.basics.proofs.Elements.{any-cons}
@@ -254,6 +254,17 @@ module _ {A : Type 0} (f : A → Bool) (g : ℕ → A) where
       by (f (g a))
       (λ u. w a (omega arith) u)
       (λ u. tab-any (suc a) n (rw u at z) (λ k l. w k (omega arith)))
+
+-- two tests that agree, each on a list of its own
+any-bools : {A : Type 0} (f : A → Bool) (g : ℕ → A) (i n : ℕ) → any f (tab g i n) ≡ any (λ b. b) (tab (λ k. f (g k)) i n)
+unfolding any
+any-bools f g i zero = refl
+any-bools f g i (suc n) =
+    any-cons f (g i) (tab g (suc i) n) ∙ ap (λ b. f (g i) || b) (any-bools f g (suc i) n) ∙ sym (any-cons (λ b. b) (f (g i)) (tab (λ k. f (g k)) (suc i) n))
+
+pub any-same : {A B : Type 0} (f : A → Bool) (g : ℕ → A) (t : B → Bool) (h : ℕ → B) (i j n : ℕ) → ((k : ℕ) → k < n → f (g (i + k)) ≡ t (h (j + k)))
+    → any f (tab g i n) ≡ any t (tab h j n)
+any-same f g t h i j n e = any-bools f g i n ∙ ap (any (λ b. b)) (tab-cong (λ k. f (g k)) (λ k. t (h k)) i j n e) ∙ sym (any-bools t h j n)
 
 -- numbers in a row, by index
 pub from-tab : (a n : ℕ) → from a n ≡ tab (λ k. k) a n

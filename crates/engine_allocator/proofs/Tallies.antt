@@ -108,8 +108,7 @@ module _ (f : Flat) where
   pub needed-is : howMany dirtyEntry (f .entries) + directoriesFor (length (f .entries)) ≡ blocksNeeded (pagesIn f)
   unfolding blocksNeeded
   needed-is =
-      ap (λ (n : ℕ). n + directoriesFor (length (f .entries))) (sym (many-nest isDirty dirtyEntry dirty-entry (f .entries) (f .rows)))
-      ∙ ap (λ (n : ℕ). howMany isDirty (pagesIn f) + directoriesFor n) (sym (pages-count f))
+      λ i. sym (many-nest isDirty dirtyEntry dirty-entry (f .entries) (f .rows)) i + directoriesFor (sym (pages-count f) i)
 
   pub dirty-few : howMany dirtyEntry (f .entries) ≤ length (f .entries)
   dirty-few = many-length dirtyEntry (f .entries)

@@ -22,10 +22,10 @@ use Rattle.memory_pages.specs.Pages.{TableFrom}
 use Rattle.memory_pages.specs.Spots.{tablePage, tableRow, tableRows, keyUpTo, placeIn}
 use Rattle.memory_pages.proofs.Ranges.{starts-rise}
 use Rattle.memory_pages.proofs.Spots.{row-from, pages-rise, table-first}
-use Rattle.engine_lookup.specs.Lookup.{Shows, blank, notes, TableRange}
+use Rattle.engine_lookup.specs.Lookup.{Shows, blank, TableRange}
 use Rattle.engine_lookup.specs.declared.Visibility.{Visibility}
 use Rattle.engine_lookup.specs.declared.Range.{Range}
-use Rattle.engine_lookup.proofs.Iterations.{notes-covered}
+use Rattle.engine_lookup.proofs.Iterations.{along, notes-covered}
 use Rattle.engine_lookup.proofs.Versions.{versionsOn, shows-rows}
 use Rattle.engine_lookup.proofs.Searches.{place-covers, last-keys}
 use Rattle.image_page.proofs.Walk.{rows-append}
@@ -118,8 +118,7 @@ module _ (t k : ℕ) (d : Entry) where
         here = λ p h l. o .here (suc p) (omega arith) (omega arith);
         above = λ p h l. o .above (suc p) (omega arith) (omega arith);
       })
-      ∙ ap (λ (v : List Held). versionsOn t k (take (x - y) v)) (drop-drop y n hs)
-      ∙ ap (λ (v : ℕ). versionsOn t k (take v (drop (n + y) hs))) z
+      ∙ (λ i. versionsOn t k (take (z i) (drop-drop y n hs i)))
 
 -- ---- the rows of a table
 
@@ -156,7 +155,7 @@ module _ {m : List ℕ} (room : Room m) (t tx k : ℕ) (h : t < 8) {r : Range} (
       (λ i. take (sym (g .end) i - sym (g .start) i) (drop (sym (g .start) i) (f .rows))) ∙ sym (tab-part (f .rows) noRow (r .start) (r .end - r .start) (omega (arith, g .order, g .inside)))
 
   -- all rows of the table show all versions
-  pub table-shown : {l : Visibility} → l ≡ notes tx k (r .start) (tab (rowIn (flatOf m)) (r .start) (r .end - r .start)) blank
+  pub table-shown : {l : Visibility} → l ≡ along (flatOf m) tx k (r .start) (r .end - r .start) blank
       → Shows (flatOf m) t tx (versions t k (pagesIn (flatOf m))) l
   table-shown {l} e =
       let f : Flat = flatOf m in
@@ -167,7 +166,7 @@ module _ {m : List ℕ} (room : Room m) (t tx k : ℕ) (h : t < 8) {r : Range} (
 
   -- the same of one at the rows before the place alone
   module _ {at : ℕ} (q : at ≡ r .start + lastIndex (upTo k) (tab (keyIn (flatOf m)) (r .start) (r .end - r .start))) where
-    pub spot-shown : {l : Visibility} → l ≡ notes tx k (r .start) (tab (rowIn (flatOf m)) (r .start) (at - r .start)) blank
+    pub spot-shown : {l : Visibility} → l ≡ along (flatOf m) tx k (r .start) (at - r .start) blank
         → Shows (flatOf m) t tx (versions t k (pagesIn (flatOf m))) l
     spot-shown e = table-shown (e ∙ notes-covered (flatOf m) tx blank (place-covers (flatOf m) k (r .start) (r .end) (g .order) q))
 

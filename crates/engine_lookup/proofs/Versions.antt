@@ -16,7 +16,7 @@ use Rattle.basics.specs.Lists.{tab}
 use Rattle.memory_layout.specs.Flat.{Flat, rowIn}
 use Rattle.engine_lookup.specs.Lookup.{isCommitted, version, versionAt, Shows, blank, noteCommitted, noteTentative, noteOwner, note, notes}
 use Rattle.engine_lookup.specs.declared.Visibility.{Visibility}
-use Rattle.engine_lookup.proofs.Iterations.{notes-on, notes-here}
+use Rattle.engine_lookup.proofs.Iterations.{along, notes-on, notes-here}
 
 -- ---- one element more at the end
 
@@ -153,7 +153,7 @@ unfolding version
 version-is f t i = refl
 
 pub shows-run : (f : Flat) (t tx k n i : ℕ) (vs : List Row) (l : Visibility) → i + n ≤ length (f .rows) → Shows f t tx vs l
-    → Shows f t tx (vs ++ versionsOn t k (tab (rowIn f) i n)) (notes tx k i (tab (rowIn f) i n) l)
+    → Shows f t tx (vs ++ versionsOn t k (tab (rowIn f) i n)) (along f tx k i n l)
 unfolding notes live rowsOf keep
 shows-run f t tx k zero i vs l b s = shows-same f t tx vs _ l l (append-nil vs) refl s
 shows-run f t tx k (suc n) i vs l b s =
@@ -180,5 +180,5 @@ unfolding any isEmpty last first versionAt
 shows-none f t tx = record { others = refl; there = refl; last-own = refl; first-committed = refl; own-in = omega arith; committed-in = omega arith }
 
 pub shows-rows : (f : Flat) (t tx k n i : ℕ) → i + n ≤ length (f .rows)
-    → Shows f t tx (versionsOn t k (tab (rowIn f) i n)) (notes tx k i (tab (rowIn f) i n) blank)
+    → Shows f t tx (versionsOn t k (tab (rowIn f) i n)) (along f tx k i n blank)
 shows-rows f t tx k n i h = shows-run f t tx k n i [] blank h (shows-none f t tx)

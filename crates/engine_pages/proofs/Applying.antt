@@ -228,8 +228,7 @@ module _ {m : List ℕ} {p : ℕ} (a : There m p) where
         (λ j. tk j ++ (oc j ++ dr j))
         ∙ append-assoc A B (y ++ D)
         ∙ ap (λ (z : List Held). A ++ z) (sym (append-assoc B y D))
-        ∙ ap (λ (z : List Held). A ++ (z ++ D)) (sym take-more)
-        ∙ ap (λ (z : ℕ). A ++ (appliedAll (take (n - (left - 1)) (drop s rs)) ++ drop z rs)) sd in
+        ∙ (λ j. A ++ (sym take-more j ++ drop (sd j) rs)) in
         let il : s ≤ i = omega (arith, inv .place) in
         let c : i - s + left - 1 + r ≡ i + r - s + (left - 1) = omega arith in
         let old : Entry = withCount (entryOf m p) (i - s + left) in

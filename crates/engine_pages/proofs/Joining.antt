@@ -71,8 +71,7 @@ module _ {m : List ℕ} {p : ℕ} (a : There m p) (lt : p + 1 < length (flatOf m
       ap (λ (z : ℕ). sum heldSize (take z (drop s rs))) n
       ∙ ap (sum heldSize) (take-add x y (drop s rs) ∙ ap (λ (z : List Held). take x (drop s rs) ++ take y z) (drop-drop x s rs ∙ ap (λ (z : ℕ). drop z rs) sx))
       ∙ sum-append heldSize (take x (drop s rs)) (take y (drop f1 rs))
-      ∙ ap (λ (z : List Held). sum heldSize z + sum heldSize (take y (drop f1 rs))) (ap (λ (z : ℕ). take z (drop s rs)) (sym nu) ∙ u)
-      ∙ ap (λ (z : List Held). sum heldSize (tuplesAt m p) + sum heldSize z) (ap (λ (z : ℕ). take z (drop f1 rs)) (sym nv) ∙ v)
+      ∙ (λ i. sum heldSize ((ap (λ (z : ℕ). take z (drop s rs)) (sym nu) ∙ u) i) + sum heldSize ((ap (λ (z : ℕ). take z (drop f1 rs)) (sym nv) ∙ v) i))
 
   -- ---- by what was read
 

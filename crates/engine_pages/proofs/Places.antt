@@ -164,8 +164,7 @@ pub swap-at : (p : ℕ) (xs : List Page) (q : Page) (ys rs : List Page) → leng
 unfolding swapped
 swap-at p xs q ys rs l =
     let k : length (xs ++ q ∷ []) ≡ suc p = length-append xs (q ∷ []) ∙ omega arith in
-    ap (λ (z : List Page). z ++ (rs ++ drop (suc p) (xs ++ q ∷ ys))) (take-at xs (q ∷ ys) p l)
-    ∙ ap (λ (z : List Page). xs ++ (rs ++ z)) (ap (drop (suc p)) (sym (append-assoc xs (q ∷ []) ys)) ∙ drop-at (xs ++ q ∷ []) ys (suc p) k)
+    (λ i. take-at xs (q ∷ ys) p l i ++ (rs ++ (ap (drop (suc p)) (sym (append-assoc xs (q ∷ []) ys)) ∙ drop-at (xs ++ q ∷ []) ys (suc p) k) i))
 
 module _ {m : List ℕ} {p : ℕ} (a : There m p) where
   -- what is exchanged again

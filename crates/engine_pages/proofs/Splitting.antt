@@ -77,8 +77,7 @@ module _ {m : List ℕ} {p : ℕ} (a : There m p) {s e w : ℕ} (es : s ≡ firs
           pages = now-becomes b (counted-exchange (flatOf m .entries) (dirty t k ∷ dirty t (c - k) ∷ []) p 1 (counted m (a .has-store)) (l, (omega arith, tt)))
               (page-split (flatOf m) (full a) p (a .inside) (dirty t k) (dirty t (c - k)) (omega arith)
               ∙ ap (λ (z : List Page). swapped p z (pagesOf m))
-              (ap (λ (x : ℕ). fresh x (take k (tuplesAt m p)) ∷ fresh x (drop k (tuplesAt m p)) ∷ []) (sym (page-table a))
-              ∙ ap (λ (z : ℕ). fresh (pageAt m p .table) (take z (tuplesAt m p)) ∷ fresh (pageAt m p .table) (drop z (tuplesAt m p)) ∷ []) half-is
+              ((λ i. fresh (sym (page-table a) i) (take (half-is i) (tuplesAt m p)) ∷ fresh (sym (page-table a) i) (drop (half-is i) (tuplesAt m p)) ∷ [])
               ∙ sym (once-parts (pageAt m p .table) (tuplesAt m p) f)));
           whole = λ z. absurd (omega arith);
           parts = λ z. (f, (half-is, omega (arith, many a)));

@@ -13,7 +13,7 @@ use Rattle.memory_layout.specs.Store.{total, startOf, pageIn, pagesIn, pageOf}
 use Rattle.memory_layout.proofs.Nest.{total-append}
 use Rattle.memory_layout.proofs.Exchange.{start-le, start-next, page-at, page-long, pages-end, tuple-at}
 use Rattle.memory_pages.specs.Pages.{TableFrom, OnPages, PageOf}
-use Rattle.memory_pages.specs.Spots.{tableRow, tableRows, keyUpTo, placeIn}
+use Rattle.memory_pages.specs.Spots.{tableRows, keyUpTo, placeIn}
 use Rattle.memory_pages.proofs.Spots.{row-from, pages-rise}
 use Rattle.memory_layout.specs.Flat.{Room}
 use Rattle.memory_layout.proofs.Laws.{holds-room, filled}
@@ -101,8 +101,9 @@ module _ (f : Flat) (full : total (f .entries) ≡ length (f .rows)) (t k : ℕ)
       at-is : at ≡ startOf f a + lastIndex (keyUpTo k) (take (startOf f b - startOf f a) (drop (startOf f a) (f .rows)))
       unfolding placeIn tableRows
       at-is =
-          ea ∙ ap (λ (z : ℕ). z + lastIndex (keyUpTo k) (take (tableRow f (t + 1) - z) (drop z (f .rows)))) (sym (row-from fa refl))
-          ∙ ap (λ (z : ℕ). s + lastIndex (keyUpTo k) (take (z - s) (drop s (f .rows)))) (sym (row-from fb refl))
+          let x = sym (row-from fa refl) in
+          let y = sym (row-from fb refl) in
+          ea ∙ (λ i. x i + lastIndex (keyUpTo k) (take (y i - x i) (drop (x i) (f .rows))))
 
       pub at-least : startOf f a ≤ at
       at-least = omega (arith, at-is)

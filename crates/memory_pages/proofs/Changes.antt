@@ -1,5 +1,5 @@
 -- What the memory holds after each change of the pages.
-use Rattle.basics.proofs.Kit.{_≡_, sym, ap, _∙_, subst, ⊎-elim, Bool, true, false, List, _∷_, _++_, ℕ, suc, _+_, _*_, _%_, _≤_, _<_, _/_, _-_, eqb, take, drop, set}
+use Rattle.basics.proofs.Kit.{_≡_, sym, ap, _∙_, subst, ⊎-elim, Bool, true, false, List, _∷_, _++_, ℕ, suc, _+_, _*_, _%_, _≤_, _<_, _/_, _-_, eqb, take, drop}
 use Rattle.basics.proofs.Kit.{eq-eqb, ne-eqb, arith}
 use Rattle.memory_bytes.specs.Bytes.{le2, bytes2, Wrote}
 use Rattle.basics.specs.Lists.{tab, insertAt, removeAt}
@@ -12,7 +12,7 @@ use Rattle.memory_layout.specs.declared.Entry.{Entry}
 use Rattle.memory_layout.proofs.Frame.{same-table, same-start}
 use Rattle.memory_layout.proofs.Changes.{pages-are}
 use Rattle.memory_pages.specs.Columns.{Opened, Closed}
-use Rattle.memory_pages.specs.Pages.{dirty, withBlock, withCount, wordOf}
+use Rattle.memory_pages.specs.Pages.{dirty, withBlock, withCount, wordOf, EntriesBecome, setBlock}
 use Rattle.memory_pages.proofs.Ranges.{ranges, entry-table, entry-count, start-step, starts-rise}
 use Rattle.memory_pages.proofs.Tables.{TableIs, table-is}
 use Rattle.memory_pages.proofs.Columns.{in-columns, entries-become}
@@ -65,7 +65,7 @@ module _ {m m' : List ℕ} {p b a w : ℕ} (z : Bool) (room : Room m) (h : p < p
       (omega (arith, block-start p, block-start (suc p), entry-count m p h)) e
       ∙ (λ i. record { table = entryIn (flatOf m) p .table; frozen = word-frozen b z fits i; count = entryIn (flatOf m) p .count; block = word-block b z fits i })
 
-  pub block-set : Becomes m m' (withEntries (flatOf m) (set (flatOf m .entries) p (withBlock (entryIn (flatOf m) p) b z)))
+  pub block-set : EntriesBecome m m' (setBlock p b z)
   unfolding entriesOf
   block-set =
       let c : ℕ = capacityOf m in
@@ -160,7 +160,7 @@ module _ {m m' : List ℕ} {p t : ℕ} (room : Room m) (h : p < pageCount m) (et
       (lt-or-ge j p)
 
   module _ (none : entryIn (flatOf m) p .count ≡ 0) where
-    pub page-removed : Becomes m m' (withEntries (flatOf m) (removeAt p (flatOf m .entries)))
+    pub page-removed : EntriesBecome m m' (removeAt p)
     unfolding entriesOf
     page-removed =
         let c : ℕ = capacityOf m in

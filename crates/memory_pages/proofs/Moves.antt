@@ -106,11 +106,13 @@ module _ {m m1 m2 : List ℕ} {hs : List Held} {p s n d q : ℕ} (room : Room m)
           counts = λ b u v. a .apart .below b (omega arith) ∙ r .head b (omega arith) (omega arith);
           lists = λ b u v. a .apart .below b (omega arith) ∙ r .head b (omega arith) (omega arith);
           named = λ b u. a .apart .above b (omega arith) ∙ r .behind b (omega arith);
-        })
-        (omega (arith, row-count), ap (tab (rowAt m2 c) 0) (row-count ∙ sym (r .count))
-        ∙ same-rows m1 m2 c (rowCount m1) (g .least) (omega (arith, r .count)) (same-below 1024 (c * 79) (a .apart) (omega arith))
-        ∙ ap (λ (z : ℕ). tab (rowAt m1 z) 0 (rowCount m1)) (sym c1)
-        ∙ r .rows)
+        }) (
+          omega (arith, row-count),
+          ap (tab (rowAt m2 c) 0) (row-count ∙ sym (r .count))
+              ∙ same-rows m1 m2 c (rowCount m1) (g .least) (omega (arith, r .count)) (same-below 1024 (c * 79) (a .apart) (omega arith))
+              ∙ ap (λ (z : ℕ). tab (rowAt m1 z) 0 (rowCount m1)) (sym c1)
+              ∙ r .rows,
+        )
         (record {
           entries =
               ap (tab (entryAt m2 c) 0) e7

@@ -52,10 +52,12 @@ module _ {m m' : List ℕ} (room : Room m) (i : ℕ) (h : i < length (rowsOf m))
         counts = same-below 36 28 s (omega arith);
         lists = same-below 80 944 s (omega arith);
         named = λ b p. s .above b (omega arith);
-      })
-      (omega (arith, z .rows), ap (tab (rowAt m' c) 0) en
-      ∙ tab-set (rowAt m c) (rowAt m' c) (rowCount m) i x l (λ j b. other j (omega arith) (λ q. omega arith)) e
-      (λ j a b. other j (omega (arith, z .rows, count)) (λ q. omega arith)))
+      }) (
+        omega (arith, z .rows),
+        ap (tab (rowAt m' c) 0) en
+            ∙ tab-set (rowAt m c) (rowAt m' c) (rowCount m) i x l (λ j b. other j (omega arith) (λ q. omega arith)) e
+            (λ j a b. other j (omega (arith, z .rows, count)) (λ q. omega arith)),
+      )
       (kept-pages m m' room (same-below 32 4 s (omega arith)) (same-below 64 16 s (omega arith)) (same-above (1024 + c * 79) (c * 8) s (omega arith)))
 
 -- ---- committed

@@ -1,26 +1,16 @@
 -- Which slots are taken, and that one is free as long as there are fewer rows than slots.
-use Rattle.basics.proofs.Kit.{_≡_, refl, sym, ap, _∙_, Bool, true, false, _||_, List, [], _∷_, ℕ, suc, _%_, _≤_, _<_, zero, _-_, zero-le, eqb, ltb, length, eqb-true, ne-eqb, ltb-false}
+use Rattle.basics.proofs.Kit.{_≡_, refl, sym, ap, _∙_, Bool, true, false, List, [], _∷_, ℕ, suc, _+_, _%_, _≤_, _<_, zero, zero-le, eqb, ltb, length, eqb-true, ne-eqb, ltb-false}
 use Rattle.basics.proofs.Kit.{arith}
 use Rattle.basics.specs.Basics.{if_then_else_, any}
 use Rattle.memory_bytes.specs.Bytes.{column2}
 use Rattle.memory_bytes.specs.Columns.{equals, names}
 use Rattle.basics.specs.Lists.{tab}
 use Rattle.basics.proofs.Tabs.{length-tab}
-use Rattle.basics.proofs.Searches.{any-cons}
+use Rattle.basics.proofs.Searches.{any-same}
 use Rattle.memory_layout.specs.Places.{refsAt}
 use Rattle.memory_layout.specs.Views.{slotOf, refOf}
 use Rattle.memory_layout.specs.Flat.{rowsOf}
 use Rattle.memory_rows.specs.Cells.{slotIn, slotAt, isTaken}
-
--- ---- two tests that agree
-
-any-cong : (f f' : ℕ → Bool) (g g' : ℕ → ℕ) (i n : ℕ) → ((j : ℕ) → f (g j) ≡ f' (g' j)) → any f (tab g i n) ≡ any f' (tab g' i n)
-unfolding any
-any-cong f f' g g' i zero h = refl
-any-cong f f' g g' i (suc n) h =
-    any-cons f (g i) (tab g (suc i) n)
-    ∙ (λ y. h i y || any-cong f f' g g' (suc i) n h y)
-    ∙ sym (any-cons f' (g' i) (tab g' (suc i) n))
 
 -- a slot that is not 0 is named by its own number only
 same-slot : (c r s : ℕ) → 0 < s → s < c → eqb (r % 1024) s ≡ eqb (slotOf c r) s
@@ -34,7 +24,7 @@ same-slot c r s h k = by-test (ltb (r % 1024) c) refl
 pub named-taken : (m : List ℕ) (c n s : ℕ) → 0 < s → s < c → any (names s) (tab (column2 m (refsAt c)) 0 n) ≡ any (equals s) (tab (slotIn m c) 0 n)
 unfolding slotIn
 named-taken m c n s h k =
-    any-cong (names s) (equals s) (column2 m (refsAt c)) (slotIn m c) 0 n (λ j. same-slot c (refOf m c j) s h k)
+    any-same (names s) (column2 m (refsAt c)) (equals s) (slotIn m c) 0 0 n (λ j l. same-slot c (refOf m c (0 + j)) s h k)
 
 -- ---- more numbers than elements
 

@@ -48,8 +48,11 @@ const SLOT_LIMIT: u16 = 1024;
 
 // Pending operations by their numbers.
 const NOTHING: u16 = 0;
+
 const ADDING: u16 = 1;
+
 const COMMITTING: u16 = 2;
+
 const REMOVING: u16 = 3;
 
 // A row's state is the ninth byte of its record; from this number on it means committed.

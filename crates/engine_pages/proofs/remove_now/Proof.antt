@@ -10,7 +10,8 @@ use Rattle.engine_pages.proofs.remove_now.Tie as tie
 -- another row is left
 two : (c : tie.Else1) → 1 < entryOf ((c .before .before .before .before .before .before .before .before) .args .m .now)
     ((c .before .before .before .before .before .before .before .before) .args .p) .count
-two c = less-than (has-row ((c .before .before .before .before .before .before .before .before) .pre .there)) (λ z. c .if1 .left ((c .before .before .before .before .before) .count-at .ensures ∙ sym z))
+two c = let p = c .before .before .before .before .before in
+    less-than (has-row (p .before .before .before .pre .there)) (λ z. c .if1 .left (p .count-at .ensures ∙ sym z))
 
 remove-row-requires : tie.Need-remove-row-requires
 remove-row-requires c κs = let b4 = c .before .before .before .before in may-lose (b4 .pre)
