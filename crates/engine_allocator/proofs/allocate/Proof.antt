@@ -56,7 +56,7 @@ returns-3 : tie.Need-returns-3
 returns-3 c = let p = c .before .before .before .before .before .before .before in
     let r = p .pre .0 .range in
     let k = round (c .before) in
-    (omega (arith, k .blocks, alloc-none _ (r .taken) (k .none) (omega (arith, k .is, c .if2 .left, p .pre .1))), omega (arith, k .blocks, r .few))
+    (omega (arith, k .blocks, alloc-none (flatOf (p .args .m .now)) (r .taken) (k .none) (omega (arith, k .is, c .if2 .left, p .pre .1))), omega (arith, k .blocks, r .few))
 
 pub allocate-spec : {M : Type 1} → statement M
 allocate-spec = tie.close (tie.spec (λ c κs. search needs) (search needs) (search needs) first-free-requires returns (search needs) first-free-requires-2 returns-2 sub-result
