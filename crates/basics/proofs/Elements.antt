@@ -1,5 +1,5 @@
 -- General lemmas: tests, properties of all elements and of all pairs, members, and the searches on lists.
-use Rattle.basics.proofs.Kit.{_≡_, refl, sym, ap, _∙_, subst, Bool, true, false, _&&_, _||_, some, none, List, [], _∷_, _++_, map, ℕ, ne-eqb}
+use Rattle.basics.proofs.Kit.{_≡_, refl, sym, ap, _∙_, subst, Bool, true, false, _&&_, _||_, some, none, List, [], _∷_, _++_, map, ℕ, ne-eqb, le-leb, not}
 use Rattle.basics.proofs.Kit.{suc, _+_, _≤_, _<_, zero, leb, eqb, ltb, T}
 use Rattle.basics.proofs.Kit.{eqb-refl, le→leb, length, take, drop, getD, arith}
 use Rattle.basics.specs.Basics.{if_then_else_, every, all, keep, isEmpty, first, last, any, howMany, isIn, sum}
@@ -8,7 +8,7 @@ pub use Rattle.basics.proofs.Kit.{not-true, not-false}
 -- ---- tests
 
 pub use borrow.Author.Tests.{eqb-true, leb-true, leb-false}
-pub use Rattle.basics.proofs.Ands.{and-no, and-yes}
+pub use Rattle.basics.proofs.Ands.{and-no, and-yes, and-assoc}
 
 T-true : (b : Bool) → T b → b ≡ true
 T-true true t = refl
@@ -196,6 +196,10 @@ module _ {A : Type 0} where
   unfolding isEmpty
   nothing-left [] h = refl
   nothing-left (x ∷ xs) h = lie h
+
+  pub length-zero : (xs : List A) → length xs ≡ 0 → xs ≡ []
+  length-zero [] e = refl
+  length-zero (x ∷ xs) e = absurd (omega arith)
 
   pub length-insert : (a : List A) (x : A) (b : List A) → length (a ++ x ∷ b) ≡ suc (length (a ++ b))
   length-insert [] x b = refl
@@ -394,10 +398,6 @@ many-length f (x ∷ xs) = let k = many-length f xs in by (f x) (λ h. rw h (ome
 
 -- ---- tests in a list
 
-pub every-true : (b : Bool) (bs : List Bool) → every (b ∷ bs) ≡ true → (b ≡ true) × (every bs ≡ true)
-unfolding every
-every-true b bs e = and-true b (every bs) e
-
 pub every-cons : (b : Bool) (bs : List Bool) → b ≡ true → every (b ∷ bs) ≡ every bs
 unfolding every
 every-cons b bs e = rw e
@@ -409,6 +409,16 @@ every-stop b bs e = rw e
 pub every-one : (b : Bool) → every (b ∷ []) ≡ b
 unfolding every
 every-one b = and-yes b
+
+-- tests joined from the left
+abbrev pub joined : Bool → List Bool → Bool
+joined b [] = b
+joined b (c ∷ cs) = joined (b && c) cs
+
+pub joined-every : (b : Bool) (bs : List Bool) → joined b bs ≡ every (b ∷ bs)
+unfolding every
+joined-every b [] = sym (and-yes b)
+joined-every b (c ∷ cs) = joined-every (b && c) cs ∙ and-assoc b c (every cs)
 
 pub or-move : (p q u : Bool) → ((p || q) || u) ≡ (q || (p || u))
 or-move true true u = refl
@@ -424,3 +434,8 @@ pub sum-append : {A : Type 0} (g : A → ℕ) (xs ys : List A) → sum g (xs ++ 
 unfolding sum
 sum-append g [] ys = omega arith
 sum-append g (x ∷ xs) ys = let e = sum-append g xs ys in omega arith
+
+pub any-there : {A : Type 0} (ts : List A) → not (isEmpty ts) ≡ leb 1 (length ts)
+unfolding isEmpty
+any-there [] = refl
+any-there (x ∷ ts) = sym (le-leb 1 (suc (length ts)) (omega arith))

@@ -1,10 +1,11 @@
 -- Cases on a test or an option; a property of every element; what a test that came out true or false says.
 use mathlib.Core.Path.{_≡_, refl, sym}
-use Prim.Native.Nat.{ℕ}
+use Prim.Native.Nat.{ℕ, _≤_}
 use native.Mathlib.Omega.{arith}
 use mathlib.Core.Bool.{Bool, true, false, _&&_, _||_}
 use mathlib.Core.Option.{Option, none, some}
 pub use Rattle.basics.specs.Basics.{AllOf}
+use Rattle.basics.specs.Basics.{oneIf}
 
 -- a test is true or false
 pub by {ℓ} : {X : Type ℓ} (b : Bool) → (b ≡ true → X) → (b ≡ false → X) → X
@@ -33,3 +34,7 @@ and-true false b e = lie e
 pub or-else : (a b : Bool) → (a || b) ≡ true → a ≡ false → b ≡ true
 or-else true b h e = lie (sym e)
 or-else false b h e = h
+
+pub one-most : (b : Bool) → oneIf b ≤ 1
+one-most true = omega arith
+one-most false = omega arith

@@ -1,20 +1,12 @@
 -- What is known of the element that a search finds, and of those that it passes.
 use Rattle.basics.proofs.Kit.{_≡_, sym, ap, _∙_, Bool, true, false, cond, List, [], _∷_, ℕ, suc, _≤_, _<_, zero, zero-le, suc-le-suc, le-of-suc-le-suc, not-suc-le-zero, length, getD, arith}
-use Rattle.basics.specs.Basics.{any}
 use Rattle.basics.proofs.Facts.{by}
 use Rattle.basics.specs.Lists.{firstIndex, lastIndex}
-use Rattle.basics.proofs.Searches.{any-cons, or-split}
 use Rattle.basics.proofs.Kit.{⊎-elim, _-_}
 use Rattle.basics.proofs.Tabs.{lt-or-ge}
 use Rattle.basics.proofs.Facts.{lie}
 
 module _ {A : Type 0} (f : A → Bool) (d : A) where
-  -- where none passes, element k does not
-  pub any-none : (xs : List A) (k : ℕ) → any f xs ≡ false → k < length xs → f (getD xs k d) ≡ false
-  any-none [] k h b = absurd (not-suc-le-zero b)
-  any-none (x ∷ xs) zero h b = or-split (f x) (any f xs) (sym (any-cons f x xs) ∙ h) .0
-  any-none (x ∷ xs) (suc k) h b = any-none xs k (or-split (f x) (any f xs) (sym (any-cons f x xs) ∙ h) .1) (le-of-suc-le-suc b)
-
   pub first-most : (xs : List A) → firstIndex f xs ≤ length xs
   unfolding firstIndex
   first-most [] = zero-le

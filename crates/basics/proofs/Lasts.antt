@@ -1,19 +1,17 @@
 -- Tests and searches of a list with one element more at its end, and of what is kept of a list.
-use Rattle.basics.proofs.Kit.{_≡_, refl, sym, Bool, true, false, some, none, List, [], _∷_, _++_, _&&_, ap, ap₂, Option, _∙_}
+use Rattle.basics.proofs.Kit.{_≡_, refl, sym, Bool, true, false, some, none, List, [], _∷_, _++_, _&&_, ap, ap₂, Option, _∙_, _||_}
 use Rattle.basics.specs.Basics.{if_then_else_, any, first, last, isEmpty, keep, AllOf}
-use Rattle.basics.proofs.Facts.{by, never, by-option}
-use Rattle.basics.proofs.Elements.{and-yes, and-no, keep-cons, keep-past}
+use Rattle.basics.proofs.Facts.{by, by-option}
+use Rattle.basics.proofs.Elements.{and-yes, and-no, keep-cons, keep-past, or-right}
+use Rattle.basics.proofs.Searches.{any-append, any-one, or-none}
+use Rattle.basics.proofs.Firsts.{first-hit, first-past, first-some, first-skip}
 
 module _ {A : Type 0} (f : A → Bool) (x : A) where
   pub any-last-no : f x ≡ false → (xs : List A) → any f (xs ++ x ∷ []) ≡ any f xs
-  unfolding any
-  any-last-no e [] = rw (e, any)
-  any-last-no e (y ∷ xs) = by (f y) (λ h. rw (h, any)) (λ h. rw (h, any) (any-last-no e xs))
+  any-last-no e xs = any-append f xs (x ∷ []) ∙ ap (λ (b : Bool). any f xs || b) (any-one f x ∙ e) ∙ or-none (any f xs)
 
   pub any-last-yes : f x ≡ true → (xs : List A) → any f (xs ++ x ∷ []) ≡ true
-  unfolding any
-  any-last-yes e [] = rw (e, any)
-  any-last-yes e (y ∷ xs) = by (f y) (λ h. rw (h, any)) (λ h. rw (h, any) (any-last-yes e xs))
+  any-last-yes e xs = any-append f xs (x ∷ []) ∙ or-right (any f xs) _ (any-one f x ∙ e)
 
   pub last-new : f x ≡ true → (xs : List A) → last f (xs ++ x ∷ []) ≡ some x
   unfolding last if_then_else_
@@ -27,18 +25,10 @@ module _ {A : Type 0} (f : A → Bool) (x : A) where
 
   pub first-old : f x ≡ false → (xs : List A) → first f (xs ++ x ∷ []) ≡ first f xs
   unfolding first
-  first-old e [] = rw (e, first)
-  first-old e (y ∷ xs) = by (f y) (λ h. rw (h, first)) (λ h. rw (h, first) (first-old e xs))
+  first-old e xs = by-option (first f xs) (λ n. first-skip f xs (x ∷ []) n ∙ first-past f x [] e ∙ sym n) (λ z n. first-some f xs (x ∷ []) z n ∙ sym n)
 
   pub first-new : f x ≡ true → (xs : List A) → first f xs ≡ none → first f (xs ++ x ∷ []) ≡ some x
-  unfolding first
-  first-new e [] n = rw (e, first)
-  first-new e (y ∷ xs) n = by (f y) (λ h. never (sym (rw (h, first) at n))) (λ h. rw (h, first) (first-new e xs (rw (h, first) at n)))
-
-  pub first-stays : (xs : List A) (z : A) → first f xs ≡ some z → first f (xs ++ x ∷ []) ≡ some z
-  unfolding first
-  first-stays [] z n = never n
-  first-stays (y ∷ xs) z n = by (f y) (λ h. rw (h, first) (rw (h, first) at n)) (λ h. rw (h, first) (first-stays xs z (rw (h, first) at n)))
+  first-new e xs n = first-skip f xs (x ∷ []) n ∙ first-hit f x [] e
 
   pub filled-last : (xs : List A) → isEmpty (xs ++ x ∷ []) ≡ false
   unfolding isEmpty
@@ -72,10 +62,10 @@ last-cons : {A : Type 0} (f : A → Bool) (x : A) (xs : List A) → last f (x �
 unfolding last orOther
 last-cons f x xs = by-option (last f xs) (λ n. rw (n, last)) (λ y n. rw (n, last))
 
-or-none : {A : Type 0} (o : Option A) → orOther o none ≡ o
+other-none : {A : Type 0} (o : Option A) → orOther o none ≡ o
 unfolding orOther
-or-none none = refl
-or-none (some y) = refl
+other-none none = refl
+other-none (some y) = refl
 
 -- a search among those that pass a first test
 pub last-both : {A : Type 0} (f g : A → Bool) (xs : List A) → last (λ r. f r && g r) xs ≡ last f (keep g xs)
@@ -87,5 +77,5 @@ last-both f g (x ∷ xs) =
     by (g x)
     (λ h. last-cons (λ r. f r && g r) x xs ∙ ap₂ orOther ih (ap pick (ap (λ z. f x && z) h ∙ and-yes (f x))) ∙ sym (last-cons f x (keep g xs))
     ∙ ap (last f) (sym (keep-cons g x xs h)))
-    (λ h. last-cons (λ r. f r && g r) x xs ∙ ap₂ orOther ih (ap pick (ap (λ z. f x && z) h ∙ and-no (f x))) ∙ or-none (last f (keep g xs))
+    (λ h. last-cons (λ r. f r && g r) x xs ∙ ap₂ orOther ih (ap pick (ap (λ z. f x && z) h ∙ and-no (f x))) ∙ other-none (last f (keep g xs))
     ∙ ap (last f) (sym (keep-past g x xs h)))

@@ -1,6 +1,7 @@
 pub mod Ands
 pub mod Facts
 pub mod Kit
+pub mod Numbers
 pub mod Tabs
 pub mod Elements
 pub mod Lists
@@ -13,3 +14,4 @@ pub mod Firsts
 pub mod Members
 pub mod Lasts
 pub mod Maps
+pub mod Froms

@@ -1,9 +1,10 @@
 -- A function or a test over every element: of lists joined, at an index, weakened; a list that may be missing behind another.
 use Rattle.basics.proofs.Kit.{_≡_, refl, sym, ap, Bool, true, _&&_, some, none, Option, Option·map, List, [], _∷_, _++_, append-assoc, map, ℕ, suc, _<_, length, getD}
-use Rattle.basics.specs.Basics.{AllOf, all}
+use Rattle.basics.specs.Basics.{AllOf, all, paired}
 use Rattle.basics.proofs.Ands.{and-assoc}
 use Rattle.basics.proofs.Elements.{all-at, all-map, all-true, all-split}
 use Rattle.basics.proofs.Kit.{arith}
+use Rattle.basics.proofs.Facts.{and-true}
 
 pub map-append : {A B : Type 0} (g : A → B) (xs ys : List A) → map g (xs ++ ys) ≡ map g xs ++ map g ys
 map-append g [] ys = refl
@@ -40,3 +41,11 @@ module _ {A : Type 0} where
 pub some-one : {A : Type 0} (Q : Type 0) (P : A → Type 0) (xs : List A) → 0 < length xs → AllOf P xs → ((x : A) → P x → Q) → Q
 some-one Q P [] l a f = absurd (omega arith)
 some-one Q P (x ∷ xs) l a f = f x (a .0)
+
+pub paired-tail : {A : Type 0} (f : A → A → Bool) (r s : A) (rs : List A) → paired f (r ∷ s ∷ rs) ≡ true → (f r s ≡ true) × (paired f (s ∷ rs) ≡ true)
+unfolding paired
+paired-tail f r s rs h = and-true (f r s) (paired f (s ∷ rs)) h
+
+pub paired-next : {A : Type 0} (f : A → A → Bool) (r : A) (rs : List A) → paired f (r ∷ rs) ≡ true → paired f rs ≡ true
+paired-next f r [] h = unfold paired in refl
+paired-next f r (s ∷ rs) h = paired-tail f r s rs h .1

@@ -52,11 +52,6 @@ map-remove f (y ∷ ys) zero h = refl
 map-remove f (y ∷ ys) (suc j) h =
     ap (map f) (removeAt-suc j y ys) ∙ ap (λ l. f y ∷ l) (map-remove f ys j (omega arith)) ∙ sym (removeAt-suc j (f y) (map f ys))
 
-pub removed-length : {A : Type 0} (xs : List A) (j : ℕ) → j < length xs → suc (length (removeAt j xs)) ≡ length xs
-removed-length [] j h = absurd (omega arith)
-removed-length (x ∷ xs) zero h = refl
-removed-length (x ∷ xs) (suc j) h = let r = removed-length xs j (omega arith) in let e = ap length (removeAt-suc j x xs) in omega arith
-
 pub drop-take : {A : Type 0} (n k : ℕ) (l : List A) → drop n (take (n + k) l) ≡ take k (drop n l)
 drop-take zero k l = ap (λ (z : ℕ). take z l) (zero-add k)
 drop-take (suc n) k [] = rw (take-nil, drop-nil, take-nil)
@@ -172,3 +167,28 @@ pub front : {A : Type 0} (p q : List A) (n k : ℕ) → n + k ≤ length p → t
 front p q n k h =
     let few : n ≤ length p = omega arith in
     rw (drop-append-le n p q few) (take-append-le k (drop n p) q (rw (length-drop n p) (omega arith)))
+
+pub take-snoc : {A : Type 0} (ps : List A) (p : ℕ) (q : A) → drop p ps ≡ q ∷ drop (suc p) ps → take (suc p) ps ≡ take p ps ++ q ∷ []
+take-snoc [] zero q e = absurd (let l = ap length e in omega arith)
+take-snoc [] (suc p) q e = absurd (let l = ap length e in omega arith)
+take-snoc (r ∷ rs) zero q e = ap (λ z. z ∷ []) (cons-head r q _ _ e)
+take-snoc (r ∷ rs) (suc p) q e = ap (λ z. r ∷ z) (take-snoc rs p q e)
+
+pub drop-none : {A : Type 0} (k : ℕ) (p : A) (qs : List A) → drop k [] ≡ p ∷ qs → ⊥
+drop-none k p qs e = let l = ap length (sym (drop-nil k) ∙ e) in omega arith
+
+-- elements before place k, in two lists that are equal up to it
+pub same-before : {A : Type 0} (xs ys : List A) (a k : ℕ) → a ≤ k → take k ys ≡ take k xs → take (k - a) (drop a ys) ≡ take (k - a) (drop a xs)
+same-before {A} xs ys a k l e = sym (part ys) ∙ ap (drop a) e ∙ part xs
+  where
+    part : (zs : List A) → drop a (take k zs) ≡ take (k - a) (drop a zs)
+    part zs = let z : a + (k - a) ≡ k = omega arith in ap (λ n. drop a (take n zs)) (sym z) ∙ drop-take a (k - a) zs
+
+-- the elements from a on: those up to e, and the others
+pub parts : {A : Type 0} (xs : List A) (a e : ℕ) → a ≤ e → drop a xs ≡ take (e - a) (drop a xs) ++ drop e xs
+parts xs a e h =
+    let z : a + (e - a) ≡ e = omega arith in
+    sym (take-append-drop (e - a) (drop a xs)) ∙ ap (λ y. take (e - a) (drop a xs) ++ y) (drop-drop (e - a) a xs ∙ ap (λ n. drop n xs) z)
+
+pub last-index : {A : Type 0} (xs : List A) (y : A) → length (xs ++ y ∷ []) - 1 ≡ length xs
+last-index xs y = omega (arith, length-append xs (y ∷ []))

@@ -1,10 +1,10 @@
 -- Searches in lists by index, and one turn of each loop that searches a list.
 use Rattle.basics.proofs.Kit.{_≡_, refl, sym, ap, _∙_, ⊎-elim, Bool, true, false, _&&_, _||_, cond, or-assoc, List, [], _∷_, _++_, ℕ, suc, _+_, _≤_, _<_, zero, _-_}
 use Rattle.basics.proofs.Kit.{zero-add, suc-add, length, arith}
-use Rattle.basics.specs.Basics.{any, all, howMany, paired, if_then_else_}
+use Rattle.basics.specs.Basics.{any, all, howMany, paired, from, if_then_else_}
 use Rattle.basics.specs.Lists.{tab, firstIndex, lastIndex}
 use Rattle.basics.proofs.Ands.{and-yes, and-assoc}
-use Rattle.basics.proofs.Tabs.{tab-add, length-tab, lt-or-ge}
+use Rattle.basics.proofs.Tabs.{tab-add, tab-cong, length-tab, lt-or-ge}
 use Rattle.basics.proofs.Facts.{by, lie, and-true}
 use Rattle.basics.proofs.Elements.{or-right}
 pub use Rattle.basics.proofs.Elements.{any-cons}
@@ -237,6 +237,15 @@ module _ {A : Type 0} (f : A → Bool) (g : ℕ → A) where
       ∙ ⊎-elim (λ (l : a < k). rw (any-tab (suc a) n k (omega arith) (omega arith) t) (or-right (f (g a)) true refl))
       (λ (l : k ≤ a). let e : k ≡ a = omega arith in rw (ap (λ (z : ℕ). f (g z)) (sym e) ∙ t)) (lt-or-ge a k)
 
+  -- none passes, by index
+  pub none-tab : (a n : ℕ) → ((k : ℕ) → a ≤ k → k < a + n → f (g k) ≡ false) → any f (tab g a n) ≡ false
+  unfolding any
+  none-tab a zero h = refl
+  none-tab a (suc n) h = any-cons f (g a) (tab g (suc a) n) ∙ rw (h a (omega arith) (omega arith)) (none-tab (suc a) n (λ k p q. h k (omega arith) (omega arith)))
+
+  pub tab-none-at : (a n : ℕ) → any f (tab g a n) ≡ false → (k : ℕ) → a ≤ k → k < a + n → f (g k) ≡ false
+  tab-none-at a n e k p q = by (f (g k)) (λ t. lie (sym e ∙ any-tab a n k p q t)) (λ t. t)
+
   pub tab-any : {X : Type 0} (a n : ℕ) → any f (tab g a n) ≡ true → ((k : ℕ) → k < a + n → f (g k) ≡ true → X) → X
   unfolding any
   tab-any a zero e w = lie e
@@ -245,3 +254,20 @@ module _ {A : Type 0} (f : A → Bool) (g : ℕ → A) where
       by (f (g a))
       (λ u. w a (omega arith) u)
       (λ u. tab-any (suc a) n (rw u at z) (λ k l. w k (omega arith)))
+
+-- two tests that agree, each on a list of its own
+any-bools : {A : Type 0} (f : A → Bool) (g : ℕ → A) (i n : ℕ) → any f (tab g i n) ≡ any (λ b. b) (tab (λ k. f (g k)) i n)
+unfolding any
+any-bools f g i zero = refl
+any-bools f g i (suc n) =
+    any-cons f (g i) (tab g (suc i) n) ∙ ap (λ b. f (g i) || b) (any-bools f g (suc i) n) ∙ sym (any-cons (λ b. b) (f (g i)) (tab (λ k. f (g k)) (suc i) n))
+
+pub any-same : {A B : Type 0} (f : A → Bool) (g : ℕ → A) (t : B → Bool) (h : ℕ → B) (i j n : ℕ) → ((k : ℕ) → k < n → f (g (i + k)) ≡ t (h (j + k)))
+    → any f (tab g i n) ≡ any t (tab h j n)
+any-same f g t h i j n e = any-bools f g i n ∙ ap (any (λ b. b)) (tab-cong (λ k. f (g k)) (λ k. t (h k)) i j n e) ∙ sym (any-bools t h j n)
+
+-- numbers in a row, by index
+pub from-tab : (a n : ℕ) → from a n ≡ tab (λ k. k) a n
+unfolding from
+from-tab a zero = refl
+from-tab a (suc n) = ap (λ l. a ∷ l) (from-tab (suc a) n)

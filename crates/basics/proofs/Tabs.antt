@@ -1,16 +1,11 @@
 -- Laws of lists by index (`tab`): length, parts, elements, one element more, less or changed.
 use Rattle.basics.proofs.Kit.{sym, take, drop, drop-cons}
-use Rattle.basics.proofs.Kit.{_≡_, refl, ap, _∙_, ⊎-elim, _⊎_, inl, inr, List, _∷_, _++_, ℕ, suc, _+_, _≤_, _<_, zero, _-_, zero-le, suc-le-suc, add-zero, zero-add, suc-add}
+use Rattle.basics.proofs.Kit.{_≡_, refl, ap, _∙_, List, _∷_, _++_, ℕ, suc, _+_, _≤_, _<_, zero, _-_, suc-le-suc, add-zero, zero-add, suc-add}
 use Rattle.basics.proofs.Kit.{le-of-suc-le-suc, not-suc-le-zero, zero-lt-suc, length, take, drop, getD, set, set-split, ext-getD, arith}
 use Rattle.basics.proofs.Kit.{[], map}
 use Rattle.basics.specs.Lists.{tab, insertAt, removeAt}
 use Rattle.basics.specs.Basics.{AllOf}
-
--- either way round
-pub lt-or-ge : (a b : ℕ) → (a < b) ⊎ (b ≤ a)
-lt-or-ge a zero = inr zero-le
-lt-or-ge zero (suc b) = inl (suc-le-suc zero-le)
-lt-or-ge (suc a) (suc b) = ⊎-elim (λ p. inl (suc-le-suc p)) (λ q. inr (suc-le-suc q)) (lt-or-ge a b)
+pub use Rattle.basics.proofs.Numbers.{lt-or-ge}
 
 pub length-tab : {A : Type 0} (f : ℕ → A) (i n : ℕ) → length (tab f i n) ≡ n
 length-tab f i zero = refl
@@ -26,10 +21,21 @@ tab-cong f g i j (suc n) h =
     (λ k b. ap f (omega arith) ∙ h (suc k) (suc-le-suc b) ∙ ap g (omega arith)) in
     cc
 
+-- the same places, each between its bounds
+pub tab-same : {A : Type 0} (f g : ℕ → A) (i n : ℕ) → ((k : ℕ) → i ≤ k → k < i + n → f k ≡ g k) → tab f i n ≡ tab g i n
+tab-same f g i n h = tab-cong f g i i n (λ k l. h (i + k) (omega arith) (omega arith))
+
 pub getD-tab : {A : Type 0} (f : ℕ → A) (i n k : ℕ) (d : A) → k < n → getD (tab f i n) k d ≡ f (i + k)
 getD-tab f i zero k d h = absurd (not-suc-le-zero h)
 getD-tab f i (suc n) zero d h = rw add-zero
 getD-tab f i (suc n) (suc k) d h = getD-tab f (suc i) n k d (le-of-suc-le-suc h) ∙ ap f (omega arith)
+
+pub tab-at : {A : Type 0} (f : ℕ → A) (n k : ℕ) (d : A) → k < n → getD (tab f 0 n) k d ≡ f k
+tab-at f n k d h = getD-tab f 0 n k d h ∙ ap f (zero-add k)
+
+-- by the place of the element
+pub tab-within : {A : Type 0} (f : ℕ → A) (i n k : ℕ) (d : A) → i ≤ k → k < i + n → getD (tab f i n) (k - i) d ≡ f k
+tab-within f i n k d l h = let e : i + (k - i) ≡ k = omega arith in getD-tab f i n (k - i) d (omega arith) ∙ ap f e
 
 pub tab-add : {A : Type 0} (f : ℕ → A) (i k n : ℕ) → tab f i (k + n) ≡ tab f i k ++ tab f (i + k) n
 tab-add f i zero n = rw (zero-add, add-zero)
@@ -96,8 +102,7 @@ tab-set f g n at x h below here above =
 pub tab-self : (xs : List ℕ) → tab (λ k. getD xs k 0) 0 (length xs) ≡ xs
 tab-self xs =
     ext-getD 0 (tab (λ k. getD xs k 0) 0 (length xs)) xs (length-tab (λ k. getD xs k 0) 0 (length xs))
-    (λ i h. getD-tab (λ k. getD xs k 0) 0 (length xs) i 0 (omega (arith, length-tab (λ k. getD xs k 0) 0 (length xs)))
-    ∙ ap (λ (z : ℕ). getD xs z 0) (zero-add i))
+    (λ i h. tab-at (λ k. getD xs k 0) (length xs) i 0 (omega (arith, length-tab (λ k. getD xs k 0) 0 (length xs))))
 
 -- one more element
 pub tab-push : {A : Type 0} (f g : ℕ → A) (n : ℕ) (x : A) → g n ≡ x → ((j : ℕ) → j < n → g j ≡ f j) → tab g 0 (n + 1) ≡ tab f 0 n ++ x ∷ []

@@ -1,6 +1,6 @@
 -- A choice, and the searches and tests on lists that the definitions above use.
 use Prim.Native.Nat.{ℕ, zero, suc, _+_}
-use mathlib.Core.Bool.{Bool, true, false, not, _&&_}
+use mathlib.Core.Bool.{Bool, true, false, not, _&&_, cond}
 use mathlib.Core.Option.{Option, none, some}
 use mathlib.Core.List.{List, [], _∷_}
 use lib.Dec.{eqb}
@@ -65,8 +65,7 @@ module _ {A : Type 0} where
 
 -- 1 for true, 0 for false
 abbrev pub oneIf : Bool → ℕ
-oneIf true = 1
-oneIf false = 0
+oneIf b = cond b 1 0
 
 -- every element has the property
 abbrev pub AllOf : {A : Type 0} → (A → Type 0) → List A → Type 0

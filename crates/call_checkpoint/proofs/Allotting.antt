@@ -4,14 +4,14 @@ use Rattle.basics.proofs.Kit.{_≡_, refl, sym, ap, _∙_, true, List, ℕ, suc
 use Rattle.model.specs.State.{Store, Outcome}
 use Rattle.model.specs.Checkpoint.{withProgress, isRunning, left, leftOf, headerStored, stepAt, stepCall}
 use Rattle.model.specs.Calls.{accepted}
-use Rattle.model.proofs.Laws.{one-less}
+use Rattle.model.proofs.Laws.{one-less, step-at}
 use Rattle.memory_layout.specs.Flat.{flatOf}
 use Rattle.memory_layout.specs.Store.{storeOf, HoldsNow}
 use Rattle.memory_layout.proofs.Laws.{taken-is, in-sound}
 use Rattle.engine_allocator.specs.Blocks.{allocatorIn}
 use Rattle.call_checkpoint.specs.Keeping.{afterStore, RunningIn, Steps}
 use Rattle.call_checkpoint.proofs.Running.{left-runs, left-is}
-use Rattle.call_checkpoint.proofs.Stepping.{step-at, answer-of}
+use Rattle.call_checkpoint.proofs.Stepping.{answer-of}
 use Rattle.model.specs.State as model
 
 accepts : (a : model.Answer) (n : ℕ) → a ≡ model.count n → accepted a ≡ true

@@ -8,12 +8,12 @@ use Rattle.basics.proofs.Iterations.{drop-turn}
 use Rattle.model.specs.State.{Page, idle, running, Store}
 use Rattle.model.specs.Rules.{isFrozen, thaw}
 use Rattle.model.specs.Transactions.{changed}
-use Rattle.model.specs.Checkpoint.{withProgress, isRunning, usedToo, fill, pageStored, directoryStored, headerStored}
+use Rattle.model.specs.Checkpoint.{withProgress, isRunning, fill, pageStored, directoryStored, headerStored, usedAnd}
 use Rattle.basics.proofs.Elements.{any-cons, all-split, eqb-swap}
 use Rattle.basics.proofs.Tabs.{getD-tab}
 use Rattle.basics.specs.Lists.{firstIndex}
 use Rattle.memory_layout.specs.Views.{namedCount, directoryCount, namedBlock, directoryAt}
-use Rattle.memory_layout.specs.Flat.{Flat, flatOf, capacityOf, namedOf, directoriesOf, usedAnd, Room, Becomes, withHead, withNamed, withDirectories, withUsed}
+use Rattle.memory_layout.specs.Flat.{Flat, flatOf, capacityOf, namedOf, directoriesOf, Room, Becomes, withHead, withNamed, withDirectories, withUsed}
 use Rattle.memory_layout.specs.Store.{pagesIn, checkpointOf, storeOf, HoldsNow}
 use Rattle.memory_layout.specs.declared.Head.{Head}
 use Rattle.memory_layout.proofs.Laws.{store-pages, named-length, directories-length, holds-counted, becomes-store, becomes-then}
@@ -128,8 +128,8 @@ still-runs f g on er el = running-is g (still f g on er el) .0
 -- ---- after a page's store
 
 page-store : (f : Flat) (b : ℕ) (ns : List ℕ) (ps : List Page) → withPages (storeOf (withNamed (taking b f) ns)) ps
-    ≡ withProgress (storeOf f) (storeOf f .level) ps (usedToo (storeOf f) b) b (storeOf (withNamed (taking b f) ns) .checkpoint)
-unfolding withPages changed withProgress storeOf usedToo
+    ≡ withProgress (storeOf f) (storeOf f .level) ps (usedAnd b (storeOf f .used)) b (storeOf (withNamed (taking b f) ns) .checkpoint)
+unfolding withPages changed withProgress storeOf
 page-store f b ns ps = refl
 
 -- the flat lists before the page is thawed
@@ -141,8 +141,8 @@ page-kept : (f : Flat) (b : ℕ) → isRunning (storeOf f .checkpoint) ≡ true
 page-kept f b on =
     let s : Store = storeOf f in
     page-store f b (fill b (f .named)) (thaw b (pagesIn f))
-    ∙ ap (λ (ps : List Page). withProgress s (s .level) (thaw b ps) (usedToo s b) b (storeOf (placed b f) .checkpoint)) (sym (store-pages f))
-    ∙ ap (withProgress s (s .level) (thaw b (s .pages)) (usedToo s b) b) (still-runs f (placed b f) on refl refl)
+    ∙ ap (λ (ps : List Page). withProgress s (s .level) (thaw b ps) (usedAnd b (s .used)) b (storeOf (placed b f) .checkpoint)) (sym (store-pages f))
+    ∙ ap (withProgress s (s .level) (thaw b (s .pages)) (usedAnd b (s .used)) b) (still-runs f (placed b f) on refl refl)
 
 module _ {m m1 m2 : List ℕ} (b : ℕ) (r : RunningIn m) (x : Becomes m m1 (taking b (flatOf m))) (y : Fills m1 m2 b) where
   page-flat : Becomes m m2 (placed b (flatOf m))
@@ -172,8 +172,8 @@ module _ {m m1 m2 : List ℕ} (b : ℕ) (r : RunningIn m) (x : Becomes m m1 (tak
 -- ---- after a directory block's store
 
 store-is-directory : (f : Flat) (b : ℕ) → storeOf (withDirectories (taking b f) (f .directories ++ b ∷ []))
-    ≡ withProgress (storeOf f) (storeOf f .level) (storeOf f .pages) (usedToo (storeOf f) b) b (storeOf (withDirectories (taking b f) (f .directories ++ b ∷ [])) .checkpoint)
-unfolding withProgress storeOf usedToo
+    ≡ withProgress (storeOf f) (storeOf f .level) (storeOf f .pages) (usedAnd b (storeOf f .used)) b (storeOf (withDirectories (taking b f) (f .directories ++ b ∷ [])) .checkpoint)
+unfolding withProgress storeOf
 store-is-directory f b = refl
 
 directory-kept : (f : Flat) (b : ℕ) → isRunning (storeOf f .checkpoint) ≡ true
@@ -181,7 +181,7 @@ directory-kept : (f : Flat) (b : ℕ) → isRunning (storeOf f .checkpoint) ≡ 
 directory-kept f b on =
     let s : Store = storeOf f in
     let g : Flat = withDirectories (taking b f) (f .directories ++ b ∷ []) in
-    store-is-directory f b ∙ ap (withProgress s (s .level) (s .pages) (usedToo s b) b) (still-runs f g on refl refl)
+    store-is-directory f b ∙ ap (withProgress s (s .level) (s .pages) (usedAnd b (s .used)) b) (still-runs f g on refl refl)
 
 pub directory-holds : {m m1 m2 : List ℕ} (b : ℕ) → RunningIn m → Becomes m m1 (taking b (flatOf m))
     → Becomes m1 m2 (withDirectories (flatOf m1) (flatOf m1 .directories ++ b ∷ [])) → HoldsNow m m2 (afterStore (directoryStored b) (flatOf m))

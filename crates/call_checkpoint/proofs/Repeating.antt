@@ -1,12 +1,12 @@
 -- Run: steps in turn.
 use Rattle.block_forms.specs.Limits.{blockSize}
-use Rattle.basics.proofs.Kit.{_≡_, refl, sym, ap, _∙_, subst, true, false, some, List, [], _∷_, _++_, ℕ, suc, _+_, _*_, _≤_, _<_, _-_, min, length, eq-eqb, ne-eqb, arith}
+use Rattle.basics.proofs.Kit.{_≡_, refl, sym, ap, _∙_, subst, true, false, some, List, [], _∷_, _++_, ℕ, suc, _*_, _≤_, _<_, _-_, min, length, eq-eqb, ne-eqb, arith}
 use Rattle.basics.specs.Basics.{if_then_else_}
 use Rattle.model.specs.State.{Store, Write, Outcome}
 use Rattle.model.specs.Transactions.{gives, unless}
 use Rattle.model.specs.Checkpoint.{isRunning, left, stepAt, badImage, stepCall, inTurn, runCall}
 use Rattle.model.specs.Recover.{imageAfter}
-use Rattle.model.proofs.Laws.{step-size}
+use Rattle.model.proofs.Laws.{step-size, step-at}
 use Rattle.memory_layout.specs.Flat.{flatOf}
 use Rattle.memory_layout.specs.Store.{holdsStore, storeOf, HoldsNow}
 use Rattle.memory_layout.proofs.Laws.{Sound, blocks-is, in-some, in-sound}
@@ -17,7 +17,7 @@ use Rattle.call_contracts.proofs.Answering.{stores-count}
 use Rattle.call_checkpoint.specs.Keeping.{Ready}
 use Rattle.call_checkpoint.proofs.Running.{left-runs}
 use Rattle.call_checkpoint.proofs.Allotting.{lowers}
-use Rattle.call_checkpoint.proofs.Stepping.{step-at, answer-of}
+use Rattle.call_checkpoint.proofs.Stepping.{answer-of}
 use Rattle.model.specs.State as model
 
 image-append : (ws vs : List Write) (img : List ℕ) → imageAfter (ws ++ vs) img ≡ imageAfter vs (imageAfter ws img)

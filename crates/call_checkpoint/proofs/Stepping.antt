@@ -1,7 +1,7 @@
 -- A step: which store it makes, its tests, and what it answers.
 use Rattle.block_forms.specs.Limits.{blockSize}
-use Rattle.basics.proofs.Kit.{_≡_, refl, sym, ap, _∙_, subst, Bool, true, false, some, none, Option, List, [], _∷_, _++_, ℕ, suc, _+_, _*_, _≤_, _<_, _-_, add-one, eqb, ltb}
-use Rattle.basics.proofs.Kit.{length, take, drop, drop-drop, drop-of-length-le, lt-ltb, le-ltb, eqb-true, eq-eqb, ne-eqb, eqb-false, arith}
+use Rattle.basics.proofs.Kit.{_≡_, refl, sym, ap, _∙_, subst, Bool, true, false, some, none, Option, List, [], _∷_, _++_, ℕ, suc, _+_, _*_, _≤_, _<_, _-_, add-one, eqb, ltb, length, take}
+use Rattle.basics.proofs.Kit.{drop, drop-drop, drop-of-length-le, lt-ltb, le-ltb, eqb-true, ne-eqb, eqb-false, arith}
 use Rattle.basics.specs.Basics.{if_then_else_, howMany, first}
 use Rattle.basics.proofs.Facts.{by, lie}
 use Rattle.block_forms.specs.Block.{Block, header, page, directory, encodeBlock}
@@ -12,6 +12,7 @@ use Rattle.model.specs.Transactions.{gives, unless}
 use Rattle.model.specs.Checkpoint.{allocate, isRunning, left, made, storable, pageStored, storePage, directoryStored, storeDirectory, headerFor, headerStored, storeHeader, blockEntries}
 use Rattle.model.specs.Checkpoint.{stepOf, stepAt, badImage, stepCall}
 use Rattle.model.specs.Recover.{putBlock, imageAfter}
+use Rattle.model.proofs.Laws.{step-at}
 use Rattle.basics.specs.Lists.{firstIndex}
 use Rattle.memory_layout.specs.Flat.{flatOf}
 use Rattle.memory_layout.specs.Store.{pageOf, nest, holdsStore, storeOf, storeIn, HoldsNow}
@@ -25,7 +26,7 @@ use Rattle.engine_pages.specs.Pending.{FirstFrozen}
 use Rattle.engine_pages.proofs.Places.{from-page, page-table, tuples-are}
 use Rattle.call_contracts.specs.Shape.{Stores}
 use Rattle.call_contracts.specs.declared.Answer.the-variants.{Count, Refused}
-use Rattle.call_contracts.proofs.Answering.{stores-4, stores-refused, stores-count}
+use Rattle.call_contracts.proofs.Answering.{passed-4, stores-4, stores-refused, stores-count}
 use Rattle.call_checkpoint.specs.Keeping.{afterStore, RunningIn, Ready, NoneFrozen, Effect, Steps, refusalNumber, stepRefusal}
 use Rattle.engine_allocator.proofs.Tallies.{frozen-many}
 use Rattle.call_checkpoint.proofs.Running.{running-is}
@@ -172,13 +173,8 @@ module _ (len : ℕ) (s : Store) where
   unfolding stepCall badImage unless if_then_else_
   step-5 h = rw (ne-eqb len (blockSize * s .blocks) h)
 
-  module _ (e : len ≡ blockSize * s .blocks) where
-    pub step-at : stepCall len s ≡ stepAt (s .checkpoint) s
-    unfolding stepCall badImage unless if_then_else_
-    step-at = rw (eq-eqb len (blockSize * s .blocks) e)
-
-    pub step-18 : isRunning (s .checkpoint) ≡ false → stepCall len s ≡ gives (model.refused 18) s
-    step-18 h = step-at ∙ idle-step (s .checkpoint) s h
+  pub step-18 : len ≡ blockSize * s .blocks → isRunning (s .checkpoint) ≡ false → stepCall len s ≡ gives (model.refused 18) s
+  step-18 e h = step-at len s e ∙ idle-step (s .checkpoint) s h
 
 answer-at : (o : Option Page) (n : ℕ) (es ds : List ℕ) (s : Store) → stepOf o n es ds s .answer ≡ model.count (left (stepOf o n es ds s .store))
 unfolding stepOf storePage storeDirectory storeHeader made if_then_else_
@@ -215,22 +211,6 @@ module _ (len : ℕ) (m : List ℕ) where
 
   -- a call with these tests: each of them refuses
   module _ (v : ℕ) (ev : v ≡ stepRefusal len (storeIn m)) where
-    passed-held : v ≡ 0 → holdsStore m ≡ true
-    passed-held z = by (holdsStore m) (λ h. h) (λ h. absurd (omega (arith, refusal-4 h)))
-
-    passed-long : v ≡ 0 → len ≡ blockSize * flatOf m .head .blocks
-    passed-long z =
-        by (eqb len (blockSize * flatOf m .head .blocks)) (λ h. eqb-true len _ h)
-        (λ h. absurd (omega (arith, refusal-5 (passed-held z) (eqb-false len _ h))))
-
-    passed-runs : v ≡ 0 → RunningIn m
-    passed-runs z =
-        let held : holdsStore m ≡ true = passed-held z in
-        record {
-          has-store = held;
-          on = by (isRunning (storeOf (flatOf m) .checkpoint)) (λ h. h) (λ h. absurd (omega (arith, refusal-18 held (passed-long z) h)));
-        }
-
     pub stopped : (call : Store → Outcome)
         → ((s : Store) → (len ≡ blockSize * s .blocks → ⊥) → call s ≡ gives (model.refused 5) s)
         → ((s : Store) → len ≡ blockSize * s .blocks → isRunning (s .checkpoint) ≡ false → call s ≡ gives (model.refused 18) s)
@@ -250,7 +230,13 @@ module _ (len : ℕ) (m : List ℕ) where
         (λ h. rw (ev ∙ sym (refusal-4 h)) (stores-4 call m img h))
 
 pub passed-ready : (img m : List ℕ) (v : ℕ) → v ≡ stepRefusal (length img) (storeIn m) → v ≡ 0 → Ready img m
-passed-ready img m v ev z = record { runs = passed-runs (length img) m v ev z; long = passed-long (length img) m v ev z }
+passed-ready img m v ev z =
+    let n = length img in
+    let held = passed-4 m (λ h. ev ∙ sym (refusal-4 n m h)) z in
+    let long : n ≡ blockSize * flatOf m .head .blocks =
+    by (eqb n (blockSize * flatOf m .head .blocks)) (λ h. eqb-true n _ h) (λ h. absurd (omega (arith, refusal-5 n m held (eqb-false n _ h)))) in
+    let on = by (isRunning (storeOf (flatOf m) .checkpoint)) (λ h. h) (λ h. absurd (omega (arith, refusal-18 n m held long h))) in
+    record { runs = record { has-store = held; on = on }; long = long }
 
 pub step-done : (img m img' m' : List ℕ) (k : ℕ) → Ready img m → Steps img m img' m' → k ≡ left (storeOf (flatOf m')) → Stores (stepCall (length img)) img m (Count k) img' m'
 step-done img m img' m' k r d e =

@@ -11,9 +11,9 @@ use Rattle.basics.specs.Lists.{firstIndex}
 use Rattle.image.specs.Stages.{directoriesFor}
 use Rattle.model.specs.State.{Answer, refused, done, count, filled, Store, Outcome}
 use Rattle.model.specs.Rules.{isFrozen}
-use Rattle.model.specs.Checkpoint.{isRunning, stepAt, stepCall}
+use Rattle.model.specs.Checkpoint.{isRunning, stepAt, stepCall, usedAnd}
 use Rattle.model.specs.Recover.{imageAfter}
-use Rattle.memory_layout.specs.Flat.{Flat, flatOf, usedAnd, Becomes, withHead, withUsed}
+use Rattle.memory_layout.specs.Flat.{Flat, flatOf, Becomes, withHead, withUsed}
 use Rattle.memory_layout.specs.Store.{holdsStore, storeOf, HoldsNow}
 use Rattle.engine_pages.specs.Pages.{pagesOf}
 use Rattle.engine_pages.specs.Pending.{FirstFrozen}

@@ -1,6 +1,7 @@
 -- The lemmas that close every return of every call: without a store, refused, accepted.
 use Rattle.basics.proofs.Kit.{_≡_, refl, ap, _∙_, subst, Bool, true, false, some, none, Option, List, [], _∷_, _++_, ℕ, _*_, ltb, length, drop, length-map, arith}
 use Rattle.basics.specs.Basics.{if_then_else_}
+use Rattle.basics.proofs.Facts.{by}
 use Rattle.model.specs.State.{Active, Store, Write, Outcome}
 use Rattle.model.specs.Transactions.{_when_, gives, unless, openNumbers, listing, listCall}
 use Rattle.model.specs.Recover.{imageAfter}
@@ -11,6 +12,10 @@ use Rattle.call_contracts.specs.Shape.{Answers, AnswersAt, Replies, Repl
 use Rattle.call_contracts.specs.declared.Answer.{Answer}
 use Rattle.call_contracts.specs.declared.Answer.the-variants.{Done, Count, Filled, Refused}
 use Rattle.model.specs.State as model
+
+-- where the tests that refuse a memory without a store by 4 have passed, there is one
+pub passed-4 : (m : List ℕ) {v : ℕ} → (holdsStore m ≡ false → v ≡ 4) → v ≡ 0 → holdsStore m ≡ true
+passed-4 m f z = by (holdsStore m) (λ h. h) (λ h. absurd (omega (arith, f h)))
 
 module _ (call : Store → Outcome) (m : List ℕ) where
   pub answers-4 : holdsStore m ≡ false → Answers call m (Refused 4) m

@@ -17,12 +17,12 @@ use Rattle.memory_layout.specs.declared.Entry.{Entry}
 use Rattle.memory_layout.proofs.Laws.{becomes-none, becomes-then}
 use Rattle.memory_rows.specs.Cells.{InOrder}
 use Rattle.memory_pages.specs.Pages.{withCount, entryOf, moreRows, moreLast, behind, RowsBecome}
-use Rattle.basics.proofs.Parts.{last-set}
+use Rattle.basics.proofs.Parts.{last-set, last-index}
 use Rattle.call_recovery.specs.Loading.{tuplesIn, lastMore, Fills, RowsFit}
 
 -- the same lists, said otherwise
-pub becomes-as : (m m' : List ℕ) (f g : Flat) → f ≡ g → Becomes m m' f → Becomes m m' g
-becomes-as m m' f g e b = record { size = b .size; room = b .room; flat = b .flat ∙ e }
+pub becomes-as : {m m' : List ℕ} {f g : Flat} → f ≡ g → Becomes m m' f → Becomes m m' g
+becomes-as e b = record { size = b .size; room = b .room; flat = b .flat ∙ e }
 
 -- ---- the tuples of a page
 
@@ -32,9 +32,6 @@ page-walk xs none e h = lie h
 page-walk xs (some p) e h = walk-start xs e
 
 -- ---- the last page
-
-last-index : (xs : List Entry) (y : Entry) → length (xs ++ y ∷ []) - 1 ≡ length xs
-last-index xs y = omega (arith, length-append xs (y ∷ []))
 
 pub last-more : (xs : List Entry) (y : Entry) (k : ℕ) → lastMore k (xs ++ y ∷ []) ≡ xs ++ withCount y (y .count + k) ∷ []
 unfolding lastMore
@@ -91,32 +88,32 @@ last-some k es =
 pub fills-none : (m : List ℕ) → Room m → InOrder m → 1 ≤ length (flatOf m .entries) → Fills [] m m
 fills-none m r o s =
     record {
-      becomes = becomes-as m m _ _ (sym (λ i. withEntries (withRows (flatOf m) (append-nil (flatOf m .rows) i)) (last-none (flatOf m .entries) s i))) (becomes-none m r);
+      becomes = becomes-as (sym (λ i. withEntries (withRows (flatOf m) (append-nil (flatOf m .rows) i)) (last-none (flatOf m .entries) s i))) (becomes-none m r);
       order = o;
     }
 
-module _ (m m1 : List ℕ) (hs : List Held) (a : Fills hs m m1) where
+module _ {m m1 : List ℕ} {hs : List Held} (a : Fills hs m m1) where
   fills-count : length (flatOf m1 .rows) ≡ length (flatOf m .rows) + length hs
   fills-count = ap (λ (f : Flat). length (f .rows)) (a .becomes .flat) ∙ length-append (flatOf m .rows) hs
 
   fills-page : 1 ≤ length (flatOf m1 .entries)
   fills-page = omega (arith, ap (λ (f : Flat). length (f .entries)) (a .becomes .flat), last-some (length hs) (flatOf m .entries))
 
-  fills-more : (m2 : List ℕ) (h : Held) → 1 ≤ length (flatOf m .entries) → RowsBecome m1 m2 (behind h) moreLast × InOrder m2 → Fills (hs ++ h ∷ []) m m2
-  fills-more m2 h s b =
+  fills-more : {m2 : List ℕ} (h : Held) → 1 ≤ length (flatOf m .entries) → RowsBecome m1 m2 (behind h) moreLast × InOrder m2 → Fills (hs ++ h ∷ []) m m2
+  fills-more {m2} h s b =
       let es : List Entry = flatOf m .entries in
       let F : Flat → Flat = λ f. withEntries (withRows f (behind h (f .rows))) (moreLast (f .entries)) in
       let c = becomes-then m m1 m2 (withEntries (withRows (flatOf m) (flatOf m .rows ++ hs)) (lastMore (length hs) es)) F (a .becomes) (b .0) in
       let e : moreLast (lastMore (length hs) es) ≡ lastMore (length (hs ++ h ∷ [])) es =
       last-next es s (length hs) ∙ ap (λ (k : ℕ). lastMore k es) (sym (length-append hs (h ∷ []))) in
       record {
-        becomes = becomes-as m m2 _ _ (λ i. withEntries (withRows (flatOf m) (append-assoc (flatOf m .rows) hs (h ∷ []) i)) (e i)) c;
+        becomes = becomes-as (λ i. withEntries (withRows (flatOf m) (append-assoc (flatOf m .rows) hs (h ∷ []) i)) (e i)) c;
         order = b .1;
       }
 
 -- the same row, said otherwise
-pub row-as : {m m' : List ℕ} (h g : Held) → h ≡ g → RowsBecome m m' (behind h) moreLast × InOrder m' → RowsBecome m m' (behind g) moreLast × InOrder m'
-row-as {m} {m'} h g e b = (becomes-as m m' _ _ (λ i. withEntries (withRows (flatOf m) (behind (e i) (flatOf m .rows))) (moreLast (flatOf m .entries))) (b .0), b .1)
+pub row-as : {m m' : List ℕ} {h g : Held} → h ≡ g → RowsBecome m m' (behind h) moreLast × InOrder m' → RowsBecome m m' (behind g) moreLast × InOrder m'
+row-as {m} e b = (becomes-as (λ i. withEntries (withRows (flatOf m) (behind (e i) (flatOf m .rows))) (moreLast (flatOf m .entries))) (b .0), b .1)
 
 -- the first i + 1 tuples
 withoutPending-next : (i : ℕ) (ts : List Tuple) (x : Tuple) → take (i + 1) ts ≡ take i ts ++ x ∷ []
@@ -128,14 +125,14 @@ withoutPending-all i ts h = ap (map withoutPending) (take-all i ts h)
 
 pub fills-turn : {m m1 m2 : List ℕ} (i : ℕ) (ts : List Tuple) (x : Tuple) → take (i + 1) ts ≡ take i ts ++ x ∷ [] → Fills (map withoutPending (take i ts)) m m1
     → 1 ≤ length (flatOf m .entries) → RowsBecome m1 m2 (behind (withoutPending x)) moreLast × InOrder m2 → Fills (map withoutPending (take (i + 1) ts)) m m2
-fills-turn {m} {m1} {m2} i ts x e a s b = subst (λ (hs : List Held). Fills hs m m2) (withoutPending-next i ts x e) (fills-more m m1 (map withoutPending (take i ts)) a m2 (withoutPending x) s b)
+fills-turn {m} {m1} {m2} i ts x e a s b = subst (λ (hs : List Held). Fills hs m m2) (withoutPending-next i ts x e) (fills-more a (withoutPending x) s b)
 
 -- where the first i of n tuples are rows, there is room for one more
-pub row-room : (m m1 : List ℕ) (n i : ℕ) (ts : List Tuple) → length ts ≡ n → Fills (map withoutPending (take i ts)) m m1
+pub row-room : {m m1 : List ℕ} {n : ℕ} (i : ℕ) (ts : List Tuple) → length ts ≡ n → Fills (map withoutPending (take i ts)) m m1
     → length (flatOf m .rows) + n ≤ flatOf m .head .capacity → i < n
     → RowsFit 1 m1
-row-room m m1 n i ts l a k h =
+row-room {m} {m1} i ts l a k h =
     let c : length (map withoutPending (take i ts)) ≡ i = length-map (take i ts) withoutPending ∙ length-take-le i ts (omega arith) in
     let q : flatOf m1 .head .capacity ≡ flatOf m .head .capacity = ap (λ (f : Flat). f .head .capacity) (a .becomes .flat) in
-    let n = fills-count m m1 (map withoutPending (take i ts)) a in
-    record { room = a .becomes .room; order = a .order; page = fills-page m m1 (map withoutPending (take i ts)) a; rows = omega arith }
+    let n = fills-count a in
+    record { room = a .becomes .room; order = a .order; page = fills-page a; rows = omega arith }

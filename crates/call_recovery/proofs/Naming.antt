@@ -10,14 +10,15 @@ use Rattle.block_forms.specs.Block.{PageBlock, asPage}
 use Rattle.block_reader.specs.Answers.{isPage}
 use Rattle.image.specs.View.{View}
 use Rattle.image.specs.Stages.{blockOk, StoredPage}
-use Rattle.memory_layout.specs.Flat.{Flat, flatOf, Room, Becomes, withUsed, usedAnd}
+use Rattle.memory_layout.specs.Flat.{Flat, flatOf, Room, Becomes, withUsed}
 use Rattle.memory_layout.specs.declared.Entry.{Entry}
 use Rattle.memory_layout.proofs.Laws.{becomes-none, becomes-then}
 use Rattle.memory_rows.specs.Cells.{InOrder}
 use Rattle.call_recovery.specs.Loading.{pageAt, pagesAt, blocksIn, heldsOf, entryFor, usedBy, TablesRise, Loads, RoomFor}
 use Rattle.call_recovery.proofs.Adding.{becomes-as}
 use Rattle.call_recovery.proofs.Marking.{used-none, used-one, used-then}
-use Rattle.call_recovery.proofs.Paging.{helds-append, loads-none, loads-then, rise-split}
+use Rattle.call_recovery.proofs.Paging.{helds-append, loads-none, loads-as, loads-then, rise-split}
+use Rattle.model.specs.Checkpoint.{usedAnd}
 
 -- ---- block numbers
 
@@ -82,28 +83,21 @@ module _ (v : View) where
         ∙ ap (λ (z : List ℕ). pagesAt v (take i es) ++ pagesAt v z) (drop-turn es i h ∙ ap (λ (k : ℕ). k ∷ drop (i + 1) es) (sym q))
 
     -- one page more
-    pub loading-turn : (m m1 m2 : List ℕ) → Loads (pagesAt v (take i es)) m m1 → Loads (pageAt e (asPage (v e))) m1 m2 → Loads (pagesAt v (take (i + 1) es)) m m2
-    loading-turn m m1 m2 a b =
-        subst (λ (ps : List StoredPage). Loads ps m m2) pages-next (loads-then m m1 m2 (pagesAt v (take i es)) (pageAt e (asPage (v e))) a b)
+    pub loading-turn : {m m1 m2 : List ℕ} → Loads (pagesAt v (take i es)) m m1 → Loads (pageAt e (asPage (v e))) m1 m2 → Loads (pagesAt v (take (i + 1) es)) m m2
+    loading-turn a b = loads-as pages-next (loads-then a b)
 
     -- and room for it
-    pub loading-room : (m m1 : List ℕ) → Loads (pagesAt v (take i es)) m m1 → RoomFor (pagesAt v es) (flatOf m) → RoomFor (pageAt e (asPage (v e))) (flatOf m1)
-    loading-room m m1 a r =
+    pub loading-room : {m m1 : List ℕ} → Loads (pagesAt v (take i es)) m m1 → RoomFor (pagesAt v es) (flatOf m) → RoomFor (pageAt e (asPage (v e))) (flatOf m1)
+    loading-room {m} {m1} a r =
         let ps : List StoredPage = pagesAt v (take i es) in
         let p : List StoredPage = pageAt e (asPage (v e)) in
         let qs : List StoredPage = pagesAt v (drop (i + 1) es) in
         let s : pagesAt v es ≡ ps ++ (p ++ qs) = pages-split in
-        let n1 : length (pagesAt v es) ≡ length ps + length (p ++ qs) = ap length s ∙ length-append ps (p ++ qs) in
-        let n2 : length (p ++ qs) ≡ length p + length qs = length-append p qs in
-        let h1 : length (heldsOf (pagesAt v es)) ≡ length (heldsOf ps) + length (heldsOf (p ++ qs)) =
-        ap (λ (z : List StoredPage). length (heldsOf z)) s ∙ ap length (helds-append ps (p ++ qs)) ∙ length-append (heldsOf ps) (heldsOf (p ++ qs)) in
-        let h2 : length (heldsOf (p ++ qs)) ≡ length (heldsOf p) + length (heldsOf qs) = ap length (helds-append p qs) ∙ length-append (heldsOf p) (heldsOf qs) in
-        let c : flatOf m1 .head .capacity ≡ flatOf m .head .capacity = ap (λ (f : Flat). f .head .capacity) (a .becomes .flat) in
-        let k1 : length (flatOf m1 .rows) ≡ length (flatOf m .rows) + length (heldsOf ps) =
-        ap (λ (f : Flat). length (f .rows)) (a .becomes .flat) ∙ length-append (flatOf m .rows) (heldsOf ps) in
-        let k2 : length (flatOf m1 .entries) ≡ length (flatOf m .entries) + length ps =
-        ap (λ (f : Flat). length (f .entries)) (a .becomes .flat) ∙ length-append (flatOf m .entries) _
-        ∙ ap (λ (k : ℕ). length (flatOf m .entries) + k) (length-map ps _) in
+        let n = simp length-append at (ap length s) in
+        let hn = simp (helds-append, length-append) at (ap (λ (z : List StoredPage). length (heldsOf z)) s) in
+        let c = ap (λ (f : Flat). f .head .capacity) (a .becomes .flat) in
+        let k1 = simp length-append at (ap (λ (f : Flat). length (f .rows)) (a .becomes .flat)) in
+        let k2 = simp (length-append, length-map) at (ap (λ (f : Flat). length (f .entries)) (a .becomes .flat)) in
         let t = rise-split (flatOf m .entries) ps (p ++ qs) (subst (TablesRise (flatOf m .entries)) s (r .tables)) in
         let u = rise-split (flatOf m .entries ++ map entryFor ps) p qs (t .1) in
         let g : flatOf m1 .entries ≡ flatOf m .entries ++ map entryFor ps = ap (λ (f : Flat). f .entries) (a .becomes .flat) in
@@ -115,10 +109,10 @@ module _ (v : View) where
 
   pub loading-start : (m es : List ℕ) → Room m → InOrder m → Loads (pagesAt v (take 0 es)) m m
   unfolding pagesAt
-  loading-start m es r o = loads-none m [] r o refl
+  loading-start m es r o = loads-none r o refl
 
-  pub loading-end : (m m1 es : List ℕ) (i : ℕ) → length es ≤ i → Loads (pagesAt v (take i es)) m m1 → Loads (pagesAt v es) m m1
-  loading-end m m1 es i h a = subst (λ (z : List ℕ). Loads (pagesAt v z) m m1) (take-all i es h) a
+  pub loading-end : {m m1 : List ℕ} (es : List ℕ) (i : ℕ) → length es ≤ i → Loads (pagesAt v (take i es)) m m1 → Loads (pagesAt v es) m m1
+  loading-end {m} {m1} es i h a = subst (λ (z : List ℕ). Loads (pagesAt v z) m m1) (take-all i es h) a
 
 -- ---- blocks in use
 
@@ -127,11 +121,11 @@ abbrev pub Marked : List ℕ → List ℕ → List ℕ → Type 0
 Marked bs m m1 = Becomes m m1 (withUsed (flatOf m) (usedBy bs (flatOf m .used)))
 
 pub marking-start : (m bs : List ℕ) → Room m → Marked (take 0 bs) m m
-marking-start m bs r = becomes-as m m _ _ (sym (λ i. withUsed (flatOf m) (used-none (flatOf m .used) i))) (becomes-none m r)
+marking-start m bs r = becomes-as (sym (λ i. withUsed (flatOf m) (used-none (flatOf m .used) i))) (becomes-none m r)
 
-pub marking-turn : (m m1 m2 bs : List ℕ) (i b : ℕ) → i < length bs → b ≡ getD bs i 0 → Marked (take i bs) m m1
+pub marking-turn : {m m1 m2 : List ℕ} (bs : List ℕ) (i : ℕ) {b : ℕ} → i < length bs → b ≡ getD bs i 0 → Marked (take i bs) m m1
     → Becomes m1 m2 (withUsed (flatOf m1) (usedAnd b (flatOf m1 .used))) → Marked (take (i + 1) bs) m m2
-marking-turn m m1 m2 bs i b h q a c =
+marking-turn {m} {m1} {m2} bs i {b} h q a c =
     let U : Flat → Flat = λ f. withUsed f (usedAnd b (f .used)) in
     let u : ℕ → Bool = flatOf m .used in
     let d = becomes-then m m1 m2 (withUsed (flatOf m) (usedBy (take i bs) u)) U a c in
@@ -139,7 +133,7 @@ marking-turn m m1 m2 bs i b h q a c =
     ap (λ (k : ℕ). take i bs ++ k ∷ []) q ∙ sym (take-suc bs i 0 h) ∙ ap (λ (k : ℕ). take k bs) (sym (add-one i)) in
     let e : usedAnd b (usedBy (take i bs) u) ≡ usedBy (take (i + 1) bs) u =
     used-one b (usedBy (take i bs) u) ∙ used-then (take i bs) (b ∷ []) u ∙ ap (λ (z : List ℕ). usedBy z u) t in
-    becomes-as m m2 _ _ (λ k. withUsed (flatOf m) (e k)) d
+    becomes-as (λ k. withUsed (flatOf m) (e k)) d
 
-pub marking-end : (m m1 bs : List ℕ) (i : ℕ) → length bs ≤ i → Marked (take i bs) m m1 → Marked bs m m1
-marking-end m m1 bs i h a = subst (λ (z : List ℕ). Marked z m m1) (take-all i bs h) a
+pub marking-end : {m m1 : List ℕ} (bs : List ℕ) (i : ℕ) → length bs ≤ i → Marked (take i bs) m m1 → Marked bs m m1
+marking-end {m} {m1} bs i h a = subst (λ (z : List ℕ). Marked z m m1) (take-all i bs h) a

@@ -14,9 +14,7 @@ use Rattle.model.specs.State.{Held, Active}
 use Rattle.model.specs.Recover.{reopened}
 use Rattle.basics.proofs.Elements.{all-at, many-append, many-length, any-many}
 use Rattle.memory_layout.specs.Flat.{Flat, flatOf, noRow, rowIn, Room, Becomes, withOpens}
-use Rattle.memory_layout.specs.Views.{countsOf}
-use Rattle.memory_layout.specs.declared.Counts as layout
-use Rattle.memory_layout.proofs.Laws.{rows-length, known, becomes-none, becomes-then}
+use Rattle.memory_layout.proofs.Laws.{becomes-none, becomes-then}
 use Rattle.call_recovery.specs.Reopening.{AllOwners, ownRow, ownRows, Sized, Counts, noted, openedBy, opened}
 use Rattle.call_recovery.proofs.Adding.{becomes-as}
 
@@ -30,17 +28,17 @@ unfolding howMany if_then_else_
 own-one t r true h = rw h
 own-one t r false h = rw h
 
-own-more : (t : ℕ) (rs : List Row) (r : Row) (b : Bool) → isOwn t r ≡ b → howMany (isOwn t) (rs ++ r ∷ []) ≡ howMany (isOwn t) rs + cond b 1 0
-own-more t rs r b h = many-append (isOwn t) rs (r ∷ []) ∙ ap (λ (k : ℕ). howMany (isOwn t) rs + k) (own-one t r b h)
+own-more : (t : ℕ) (rs : List Row) (r : Row) {b : Bool} → isOwn t r ≡ b → howMany (isOwn t) (rs ++ r ∷ []) ≡ howMany (isOwn t) rs + cond b 1 0
+own-more t rs r {b} h = many-append (isOwn t) rs (r ∷ []) ∙ ap (λ (k : ℕ). howMany (isOwn t) rs + k) (own-one t r b h)
 
-own-by : (t : ℕ) (r : Row) (o : Owner) → r .1 .owner ≡ o → isOwn t r ≡ isBy t o
+own-by : (t : ℕ) (r : Row) {o : Owner} → r .1 .owner ≡ o → isOwn t r ≡ isBy t o
 unfolding isOwn
-own-by t r o e = ap (isBy t) e
+own-by t r e = ap (isBy t) e
 
-noted-counts : (o : Owner) (r : Row) (rs : List Row) (xs : List ℕ) → OwnerFits o → r .1 .owner ≡ o → Counts rs xs → Counts (rs ++ r ∷ []) (noted o xs)
+noted-counts : (o : Owner) (r : Row) {rs : List Row} {xs : List ℕ} → OwnerFits o → r .1 .owner ≡ o → Counts rs xs → Counts (rs ++ r ∷ []) (noted o xs)
 unfolding noted isBy
-noted-counts committed r rs xs f e k = record { size = k .size; each = λ t l. omega (arith, k .each t l, own-more t rs r false (own-by t r committed e)) }
-noted-counts (tentative u s) r rs xs f e k =
+noted-counts committed r {rs} f e k = record { size = k .size; each = λ t l. omega (arith, k .each t l, own-more t rs r (own-by t r e)) }
+noted-counts (tentative u s) r {rs} {xs} f e k =
     let v : ℕ = getD xs u 0 + 1 in
     record {
       size = length-set xs u v ∙ k .size;
@@ -50,10 +48,10 @@ noted-counts (tentative u s) r rs xs f e k =
           let q : u ≡ t = eqb-true u t h in
           let a : getD (set xs u v) t 0 ≡ v = ap (λ (z : ℕ). getD (set xs u v) z 0) (sym q) ∙ getD-set-same xs u v 0 (omega (arith, k .size)) in
           let b : getD xs u 0 ≡ getD xs t 0 = ap (λ (z : ℕ). getD xs z 0) q in
-          omega (arith, k .each t l, own-more t rs r true (own-by t r (tentative u s) e ∙ h)))
+          omega (arith, k .each t l, own-more t rs r (own-by t r e ∙ h)))
           (λ h.
           let a : getD (set xs u v) t 0 ≡ getD xs t 0 = getD-set-other xs u t v 0 (λ z. eqb-false u t h (sym z)) in
-          omega (arith, k .each t l, own-more t rs r false (own-by t r (tentative u s) e ∙ h)));
+          omega (arith, k .each t l, own-more t rs r (own-by t r e ∙ h)));
     }
 
 pub noted-by : {o : Owner} {t s k : ℕ} (xs : List ℕ) → o ≡ tentative t s → k ≡ t → (v : ℕ) → v ≡ getD xs k 0 + 1 → set xs k v ≡ noted o xs
@@ -64,13 +62,6 @@ noted-by {o} {t} {s} {k} xs e q v h =
 pub no-counts : Counts [] (replicate transactionLimit 0)
 unfolding howMany
 no-counts = record { size = length-replicate {A = ℕ} transactionLimit 0; each = λ t h. getD-replicate transactionLimit t 0 0 h }
-
-pub rows-few : (m : List ℕ) → Room m → length (flatOf m .rows) ≤ capacityLimit
-rows-few m r = let k = known m r in omega (arith, k .rows-are, k .rows, k .most)
-
-pub row-count : (m : List ℕ) {n : ℕ} {c : layout.Counts} → c ≡ countsOf m → n ≡ c .rows → n ≡ length (flatOf m .rows)
-unfolding countsOf
-row-count m {n} {c} e q = q ∙ ap (λ (x : layout.Counts). x .rows) e ∙ sym (rows-length m)
 
 -- ---- rows in turn
 
@@ -103,7 +94,7 @@ module _ (f : Flat) where
         → Counts (take (i + 1) (ownRows f)) ys
     counts-turn {o} {xs} {ys} a e k q =
         let rs : List Row = take i (ownRows f) in
-        let c = noted-counts o (ownRow (rowIn f i)) rs xs (owner-fits a e) (sym e) k in
+        let c = noted-counts o (ownRow (rowIn f i)) (owner-fits a e) (sym e) k in
         subst (λ (z : List Row). Counts z ys) (sym own-next) (subst (Counts (rs ++ ownRow (rowIn f i) ∷ [])) (sym q) c)
 
   pub counts-end : (i : ℕ) {xs : List ℕ} → length (f .rows) ≤ i → Counts (take i (ownRows f)) xs → Counts (ownRows f) xs
@@ -116,10 +107,10 @@ module _ (f : Flat) where
 -- ---- what is opened at a row
 
 -- once all are passed, none comes after
-last-opened : (o : Owner) (all ps rs : List Row) (xs ys : List ℕ) → OwnerFits o → Counts all xs → Counts ps ys → all ≡ ps ++ rs → openedBy o xs ys ≡ opened all o rs
+last-opened : (o : Owner) {all ps : List Row} (rs : List Row) {xs ys : List ℕ} → OwnerFits o → Counts all xs → Counts ps ys → all ≡ ps ++ rs → openedBy o xs ys ≡ opened all o rs
 unfolding openedBy opened reopened if_then_else_
-last-opened committed all ps rs xs ys f a b e = refl
-last-opened (tentative t s) all ps rs xs ys f a b e =
+last-opened committed rs f a b e = refl
+last-opened (tentative t s) {all} {ps} rs {xs} {ys} f a b e =
     let n : howMany (isOwn t) all ≡ howMany (isOwn t) ps + howMany (isOwn t) rs = ap (howMany (isOwn t)) e ∙ many-append (isOwn t) ps rs in
     let x = a .each t (f .0) in
     let y = b .each t (f .0) in
@@ -147,14 +138,14 @@ unfolding openedBy
 opened-settled cs ps e = ap (λ (x : Owner). openedBy x cs ps) e
 
 -- nothing is opened
-pub opens-none : (m : List ℕ) (xs : List Active) → Room m → xs ≡ [] → Becomes m m (withOpens (flatOf m) (flatOf m .opens ++ xs))
-opens-none m xs r e =
-    becomes-as m m _ _ (sym (λ i. withOpens (flatOf m) ((ap (λ (z : List Active). flatOf m .opens ++ z) e ∙ append-nil (flatOf m .opens)) i))) (becomes-none m r)
+pub opens-none : {m : List ℕ} {xs : List Active} → Room m → xs ≡ [] → Becomes m m (withOpens (flatOf m) (flatOf m .opens ++ xs))
+opens-none {m} r e =
+    becomes-as (sym (λ i. withOpens (flatOf m) ((ap (λ (z : List Active). flatOf m .opens ++ z) e ∙ append-nil (flatOf m .opens)) i))) (becomes-none m r)
 
 -- one is
-pub opens-one : (m m1 : List ℕ) (xs : List Active) (x : Active) → xs ≡ x ∷ [] → Becomes m m1 (withOpens (flatOf m) (flatOf m .opens ++ x ∷ []))
+pub opens-one : {m m1 : List ℕ} {xs : List Active} {x : Active} → xs ≡ x ∷ [] → Becomes m m1 (withOpens (flatOf m) (flatOf m .opens ++ x ∷ []))
     → Becomes m m1 (withOpens (flatOf m) (flatOf m .opens ++ xs))
-opens-one m m1 xs x e b = becomes-as m m1 _ _ (sym (λ i. withOpens (flatOf m) (flatOf m .opens ++ e i))) b
+opens-one {m} e b = becomes-as (sym (λ i. withOpens (flatOf m) (flatOf m .opens ++ e i))) b
 
 -- one transaction more, if it is not there yet
 words-by : (all rs : List Row) (o : Owner) → map (reopened all) (addOwner o (transactions rs)) ≡ opened all o rs ++ map (reopened all) (transactions rs)
@@ -166,9 +157,9 @@ words-by all rs (tentative t s) = by (any (isOwn t) rs) (λ h. rw (in-transactio
 abbrev words : List Row → List Row → List Active
 words all rs = map (reopened all) (transactions rs)
 
-words-next : (all rs l : List Row) (r : Row) → l ≡ r ∷ rs → words all l ≡ opened all (r .1 .owner) rs ++ words all rs
+words-next : (all : List Row) {rs l : List Row} {r : Row} → l ≡ r ∷ rs → words all l ≡ opened all (r .1 .owner) rs ++ words all rs
 unfolding transactions
-words-next all rs l r e = ap (words all) e ∙ words-by all rs (r .1 .owner)
+words-next all {rs} {r = r} e = ap (words all) e ∙ words-by all rs (r .1 .owner)
 
 -- ---- all rows
 
@@ -192,8 +183,8 @@ module _ {m m1 : List ℕ} {i : ℕ} {o : Owner} {cs ps : List ℕ} (a : Reopene
   left =
       let rs : List Row = ownRows (flatOf m) in
       let x : openedBy o cs ps ≡ opened rs o (drop (i + 1) rs) =
-      last-opened o rs (take (i + 1) rs) (drop (i + 1) rs) cs ps (owner-fits (flatOf m) i h own e) c p (sym (take-append-drop (i + 1) rs)) in
-      words-next rs (drop (i + 1) rs) (drop i rs) (ownRow (rowIn (flatOf m) i)) (own-turn (flatOf m) i h)
+      last-opened o (drop (i + 1) rs) (owner-fits (flatOf m) i h own e) c p (sym (take-append-drop (i + 1) rs)) in
+      words-next rs (own-turn (flatOf m) i h)
       ∙ ap (λ (z : List Active). z ++ words rs (drop (i + 1) rs)) (ap (λ (y : Owner). opened rs y (drop (i + 1) rs)) (sym e) ∙ sym x)
 
   pub reopened-turn : {m2 : List ℕ} → Becomes m1 m2 (withOpens (flatOf m1) (flatOf m1 .opens ++ openedBy o cs ps)) → Reopened m m2 (i + 1)
@@ -204,7 +195,7 @@ module _ {m m1 : List ℕ} {i : ℕ} {o : Owner} {cs ps : List ℕ} (a : Reopene
       let O : Flat → Flat = λ f. withOpens f (f .opens ++ xs) in
       let d = becomes-then m m1 m2 (withOpens (flatOf m) (flatOf m1 .opens)) O (a .becomes) b in
       record {
-        becomes = becomes-as m m2 _ _ (sym (λ k. withOpens (flatOf m) (q k))) d;
+        becomes = becomes-as (sym (λ k. withOpens (flatOf m) (q k))) d;
         rest = ap (λ (z : List Active). z ++ ws) q ∙ append-assoc (flatOf m1 .opens) xs ws ∙ ap (λ (z : List Active). flatOf m1 .opens ++ z) (sym left) ∙ a .rest;
       }
 
@@ -227,4 +218,4 @@ reopened-end {m} {m1} {i} a h =
     let rs : List Row = ownRows (flatOf m) in
     let z : words rs (drop i rs) ≡ [] = ap (words rs) (drop-of-length-le rs {i = i} (omega (arith, own-length (flatOf m)))) in
     let e = sym (append-nil (flatOf m1 .opens)) ∙ ap (λ (x : List Active). flatOf m1 .opens ++ x) (sym z) ∙ a .rest in
-    becomes-as m m1 _ _ (λ k. withOpens (flatOf m) (e k)) (a .becomes)
+    becomes-as (λ k. withOpens (flatOf m) (e k)) (a .becomes)

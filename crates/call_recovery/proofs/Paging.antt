@@ -38,9 +38,9 @@ here e b q = let p = is-page b q in rw (p .is) (record { is = refl; count = p .c
 pub table-small : (xs : List ℕ) {t n l : ℕ} → IsPage t n l ≡ reading (decodeBlock xs) → t < 8
 table-small xs q = page-read xs (is-page (decodeBlock xs) q .is) .range .table
 
-pub seen-here : (img bs : List ℕ) (e : ℕ) → bs ≡ blockAt img e → decodeBlock bs ≡ view img e
+pub seen-here : (img : List ℕ) {bs : List ℕ} (e : ℕ) → bs ≡ blockAt img e → decodeBlock bs ≡ view img e
 unfolding view
-seen-here img bs e q = ap decodeBlock q
+seen-here img e q = ap decodeBlock q
 
 -- ---- room
 
@@ -49,9 +49,9 @@ pub record OneFits (e t n : ℕ) (f : Flat) : Type 0 where
   pub may : MayAppend f t e
   pub rows : length (f .rows) + n ≤ f .head .capacity
 
-pub one-fits : (e t n : ℕ) (o : Option PageBlock) (f : Flat) → e < blockLimit → t < 8 → 1 ≤ f .head .capacity → Here e t n o → RoomFor (pageAt e o) f → OneFits e t n f
+pub one-fits : {e t n : ℕ} {o : Option PageBlock} {f : Flat} → e < blockLimit → t < 8 → 1 ≤ f .head .capacity → Here e t n o → RoomFor (pageAt e o) f → OneFits e t n f
 unfolding heldsOf TablesRise
-one-fits e t n o f he ht hc h r =
+one-fits {e} {t} {n} {o} {f} he ht hc h r =
     let ts : List Tuple = tuplesIn o in
     let q : RoomFor (record { block = e; table = t; tuples = ts } ∷ []) f = subst (λ (ps : List StoredPage). RoomFor ps f) (h .stored) r in
     let k : length (map withoutPending ts ++ []) ≡ n = ap length (append-nil (map withoutPending ts)) ∙ length-map ts withoutPending ∙ h .count in
@@ -66,9 +66,9 @@ one-fits e t n o f he ht hc h r =
     }
 
 -- behind the new page, which has no row
-pub page-room : (m m1 : List ℕ) (e t n : ℕ) → EntriesBecome m m1 (behind (clean t e 0)) × InOrder m1 → OneFits e t n (flatOf m)
+pub page-room : {m m1 : List ℕ} {e t n : ℕ} → EntriesBecome m m1 (behind (clean t e 0)) × InOrder m1 → OneFits e t n (flatOf m)
     → RowsFit n m1
-page-room m m1 e t n a o =
+page-room {m} {m1} {e} {t} a o =
     let l : length (flatOf m1 .entries) ≡ length (flatOf m .entries) + 1 =
     ap (λ (f : Flat). length (f .entries)) (a .0 .flat) ∙ length-append (flatOf m .entries) (clean t e 0 ∷ []) in
     let r : length (flatOf m1 .rows) ≡ length (flatOf m .rows) = ap (λ (f : Flat). length (f .rows)) (a .0 .flat) in
@@ -77,17 +77,17 @@ page-room m m1 e t n a o =
 
 -- ---- pages loaded
 
-pub loads-none : (m : List ℕ) (ps : List StoredPage) → Room m → InOrder m → ps ≡ [] → Loads ps m m
+pub loads-none : {m : List ℕ} {ps : List StoredPage} → Room m → InOrder m → ps ≡ [] → Loads ps m m
 unfolding heldsOf
-loads-none m ps r o e = rw e (record {
-  becomes = becomes-as m m _ _ (sym (λ i. withEntries (withRows (flatOf m) (append-nil (flatOf m .rows) i)) (append-nil (flatOf m .entries) i))) (becomes-none m r);
+loads-none {m} r o e = rw e (record {
+  becomes = becomes-as (sym (λ i. withEntries (withRows (flatOf m) (append-nil (flatOf m .rows) i)) (append-nil (flatOf m .entries) i))) (becomes-none m r);
   order = o;
 })
 
 -- the page's entry, then its rows
-pub loads-one : (m m1 m2 : List ℕ) (p : StoredPage) → EntriesBecome m m1 (behind (clean (p .table) (p .block) 0)) → Fills (map withoutPending (p .tuples)) m1 m2 → Loads (p ∷ []) m m2
+pub loads-one : {m m1 m2 : List ℕ} (p : StoredPage) → EntriesBecome m m1 (behind (clean (p .table) (p .block) 0)) → Fills (map withoutPending (p .tuples)) m1 m2 → Loads (p ∷ []) m m2
 unfolding heldsOf entryFor
-loads-one m m1 m2 p a b =
+loads-one {m} {m1} {m2} p a b =
     let hs : List Held = map withoutPending (p .tuples) in
     let es : List Entry = flatOf m .entries in
     let d : Entry = clean (p .table) (p .block) 0 in
@@ -97,7 +97,7 @@ loads-one m m1 m2 p a b =
     let e : lastMore (length hs) (es ++ d ∷ []) ≡ es ++ entryFor p ∷ [] =
     last-more es d (length hs) ∙ (λ i. es ++ clean (p .table) (p .block) (n i) ∷ []) in
     record {
-      becomes = becomes-as m m2 _ _ (λ i. withEntries (withRows (flatOf m) (flatOf m .rows ++ sym (append-nil hs) i)) (e i)) c;
+      becomes = becomes-as (λ i. withEntries (withRows (flatOf m) (flatOf m .rows ++ sym (append-nil hs) i)) (e i)) c;
       order = b .order;
     }
 
@@ -111,15 +111,15 @@ pub loads-as : {m m1 : List ℕ} {ps qs : List StoredPage} → ps ≡ qs → Loa
 loads-as {m} {m1} e a = subst (λ (z : List StoredPage). Loads z m m1) e a
 
 -- pages, then further pages
-pub loads-then : (m m1 m2 : List ℕ) (ps qs : List StoredPage) → Loads ps m m1 → Loads qs m1 m2 → Loads (ps ++ qs) m m2
-loads-then m m1 m2 ps qs a b =
+pub loads-then : {m m1 m2 : List ℕ} {ps qs : List StoredPage} → Loads ps m m1 → Loads qs m1 m2 → Loads (ps ++ qs) m m2
+loads-then {m} {m1} {m2} {ps} {qs} a b =
     let F : Flat → Flat = λ f. withPages f qs in
     let c = becomes-then m m1 m2 (withPages (flatOf m) ps) F (a .becomes) (b .becomes) in
     let er : (flatOf m .rows ++ heldsOf ps) ++ heldsOf qs ≡ flatOf m .rows ++ heldsOf (ps ++ qs) =
     append-assoc (flatOf m .rows) (heldsOf ps) (heldsOf qs) ∙ ap (λ (z : List Held). flatOf m .rows ++ z) (sym (helds-append ps qs)) in
     let ee : (flatOf m .entries ++ map entryFor ps) ++ map entryFor qs ≡ flatOf m .entries ++ map entryFor (ps ++ qs) =
     append-assoc (flatOf m .entries) (map entryFor ps) (map entryFor qs) ∙ ap (λ (z : List Entry). flatOf m .entries ++ z) (sym (map-append entryFor ps qs)) in
-    record { becomes = becomes-as m m2 _ _ (λ i. withEntries (withRows (flatOf m) (er i)) (ee i)) c; order = b .order }
+    record { becomes = becomes-as (λ i. withEntries (withRows (flatOf m) (er i)) (ee i)) c; order = b .order }
 
 -- the tables of some pages, and of those behind them
 pub rise-split : (es : List Entry) (ps qs : List StoredPage) → TablesRise es (ps ++ qs) → TablesRise es ps × TablesRise (es ++ map entryFor ps) qs

@@ -6,16 +6,19 @@ use mathlib.Core.Option.{Option, none, some}
 use mathlib.Core.List.{List, [], _∷_, _++_, map}
 use lib.ListN.{length, take}
 use lib.Dec.{leb}
+use Rattle.model.specs.Recover.{memoryFor}
 use Rattle.basics.specs.Basics.{all, isIn}
 use Rattle.block_forms.specs.Limits.{payloadLimit, blockSize, blockLimit}
 use Rattle.block_forms.specs.Tuple.{Tuple, OwnerFits}
 use Rattle.block_forms.specs.Block.{PageBlock, asPage}
 use Rattle.block_forms.specs.Decode.{decodeBlock}
 use Rattle.block_forms.specs.Bytes.{ownerIs}
+use Rattle.block_forms.specs.declared.Header.{Header}
 use Rattle.block_forms.specs.declared.Record.{Record}
 use Rattle.block_reader.specs.Answers.{isPage}
 use Rattle.image.specs.View.{View, view, blockCount}
-use Rattle.image.specs.Stages.{StoredPage, storedPage, blockOk}
+use Rattle.image.specs.Stages.{holds, StoredPage, storedPage, blockOk}
+use Rattle.image.specs.Whole.{headerStage, pagesStage}
 use Rattle.model.specs.State.{Held}
 use Rattle.model.specs.Rules.{withoutPending}
 use Rattle.memory_layout.specs.Flat.{Flat, flatOf, Room, Becomes, withRows, withEntries}
@@ -134,3 +137,10 @@ pub record PagesFit (ps : List StoredPage) (m : List ℕ) : Type 0 where
   pub room : Room m
   pub order : InOrder m
   pub fit : RoomFor ps (flatOf m)
+
+-- the image's tests passed with this header and pages in the blocks es, and there is memory enough
+pub record MayLayOut (img : List ℕ) (h : Header) (es m : List ℕ) : Type 0 where
+  pub header : headerStage img ≡ holds h
+  pub memory : memoryFor (h .capacity) ≤ length m
+  pub pages : pagesStage (view img) h ≡ holds (pagesAt (view img) es)
+  pub blocks : blocksIn (pagesAt (view img) es) ≡ es

@@ -54,11 +54,23 @@ opened all (tentative t s) rs = if any (isOwn t) rs then [] else reopened all t 
 
 -- ---- what the functions ask
 
+-- the rows of each transaction may be counted: owners are in their ranges, and the counts are zeros
+pub record MayCount (m counts : List ℕ) : Type 0 where
+  pub room : Room m
+  pub owners : AllOwners (flatOf m .rows)
+  pub none : Counts [] counts
+
 -- the transactions of all rows may be opened
 pub record MayOpen (m : List ℕ) : Type 0 where
   pub room : Room m
   pub owners : AllOwners (flatOf m .rows)
   pub opens : length (flatOf m .opens) + length (transactions (ownRows (flatOf m))) ≤ openLimit
+
+-- the same, and the rows of each transaction are counted, while none is passed
+pub record MayOpenAll (m counts passed : List ℕ) : Type 0 where
+  pub may : MayOpen m
+  pub counted : Counts (ownRows (flatOf m)) counts
+  pub none : Counts [] passed
 
 -- an owner's transaction may be opened, if all its tuples are passed
 pub record MayOpenOne (m : List ℕ) (o : Owner) (counts passed : List ℕ) : Type 0 where

@@ -10,9 +10,7 @@ use memory_rows::Pending;
 use memory_rows::Row;
 ghost use mathlib.Core.Path.{_≡_};
 ghost use mathlib.Core.Bool.{true};
-ghost use mathlib.Core.List.{[], _++_, map};
-ghost use Prim.Native.Nat.{_+_, _*_, _≤_, _<_};
-ghost use lib.ListN.{length};
+ghost use mathlib.Core.List.{_++_, map};
 ghost use Rattle.basics.specs.Basics.{all};
 ghost use Rattle.block_forms.specs.Limits.{blockLimit};
 ghost use Rattle.block_forms.specs.Tuple.{OwnerFits};
@@ -21,17 +19,16 @@ ghost use Rattle.block_forms.specs.Decode.{decodeBlock};
 ghost use Rattle.block_forms.specs.Bytes.{tupleOf, payloadIn, ownerIs};
 ghost use Rattle.image_rows.specs.Rows.{transactions};
 ghost use Rattle.image.specs.View.{view};
-ghost use Rattle.image.specs.Stages.{holds, blockOk};
-ghost use Rattle.image.specs.Whole.{headerStage, pagesStage};
+ghost use Rattle.image.specs.Stages.{blockOk};
 ghost use Rattle.model.specs.Rules.{withoutPending};
-ghost use Rattle.model.specs.Recover.{recoveredStore, reopened, memoryFor};
+ghost use Rattle.model.specs.Recover.{recoveredStore, reopened};
 ghost use Rattle.memory_layout.specs.Flat.{flatOf, Room, Becomes, withOpens, withUsed};
 ghost use Rattle.memory_layout.specs.Store.{HoldsNow};
 ghost use Rattle.memory_rows.specs.Cells.{InOrder};
 ghost use Rattle.memory_pages.specs.Pages.{RowsBecome, behind, moreLast};
 ghost use Rattle.call_contracts.specs.Shape.{Recovered};
-ghost use Rattle.call_recovery.specs.Loading.{pageAt, pagesAt, tuplesIn, blocksIn, usedBy, rowFor, Fills, Loads, Loadable, RowsFit, PageBytes, PageIn, PagesIn, PagesFit};
-ghost use Rattle.call_recovery.specs.Reopening.{AllOwners, ownRows, Counts, Sized, noted, openedBy, MayOpen, MayOpenOne};
+ghost use Rattle.call_recovery.specs.Loading.{pageAt, pagesAt, tuplesIn, usedBy, rowFor, Fills, Loads, Loadable, RowsFit, PageBytes, PageIn, PagesIn, PagesFit, MayLayOut};
+ghost use Rattle.call_recovery.specs.Reopening.{ownRows, Counts, Sized, noted, openedBy, MayCount, MayOpen, MayOpenAll, MayOpenOne};
 
 // How many transactions there may be.
 const TRANSACTIONS: usize = block_forms::TRANSACTIONS;
@@ -159,8 +156,7 @@ fn note(counts: &mut [u32], o: Owner)
 
 // How many tuples each transaction has.
 fn count_rows(m: &[u8], counts: &mut [u32])
-    requires { ⌜ Room (now m) × AllOwners (flatOf (now m) .rows) ⌝ }
-    requires { ⌜ Counts [] (now counts) ⌝ }
+    requires { ⌜ MayCount (now m) (now counts) ⌝ }
     ensures { λ _. ⌜ Counts (ownRows (flatOf (now (m .entry)))) (now (counts .exit)) ⌝ }
 {
     let n = wide(memory_layout::get_counts(m).rows);
@@ -197,8 +193,7 @@ fn reopen_last(m: &mut [u8], o: Owner, counts: &[u32], passed: &[u32])
 
 // The transactions of all rows, each once, in the order of their last rows.
 fn reopen_rows(m: &mut [u8], counts: &[u32], passed: &mut [u32])
-    requires { ⌜ MayOpen (now m) ⌝ }
-    requires { ⌜ Counts (ownRows (flatOf (now m))) (now counts) × Counts [] (now passed) ⌝ }
+    requires { ⌜ MayOpenAll (now m) (now counts) (now passed) ⌝ }
     ensures { λ _. ⌜ Becomes (now (m .entry)) (now (m .exit)) (withOpens (flatOf (now (m .entry))) (flatOf (now (m .entry)) .opens ++ map (reopened (ownRows (flatOf (now (m .entry))))) (transactions (ownRows (flatOf (now (m .entry))))))) ⌝ }
 {
     let n = wide(memory_layout::get_counts(m).rows);
@@ -226,8 +221,7 @@ fn reopen(m: &mut [u8])
 
 // Lays the store out over any old content: entries are the blocks of the pages that passed the tests.
 fn lay_out(image: &[u8], h: Header, entries: &[u32], m: &mut [u8])
-    requires { ⌜ (headerStage (now image) ≡ holds h) × (memoryFor (h .capacity) ≤ length (now m)) ⌝ }
-    requires { ⌜ (pagesStage (view (now image)) h ≡ holds (pagesAt (view (now image)) (now entries))) × (blocksIn (pagesAt (view (now image)) (now entries)) ≡ now entries) ⌝ }
+    requires { ⌜ MayLayOut (now image) h (now entries) (now m) ⌝ }
     ensures { λ _. ⌜ HoldsNow (now (m .entry)) (now (m .exit)) (recoveredStore h (pagesAt (view (now (image .entry))) (now (entries .entry)))) ⌝ }
 {
     let used = wide(h.directories);
@@ -255,7 +249,9 @@ pub fn recover(image: &[u8], m: &mut [u8]) -> Answer
 {
     match image::test_header(image) {
         image::HeaderTest::Passed(h) => {
-            if m.len() < memory_layout::ROW_SPACE * wide(h.capacity) + memory_layout::HEAD_SIZE {
+            if m.len()
+                < memory_layout::ROW_SPACE * wide(h.capacity) + memory_layout::places::HEAD_SIZE
+            {
                 return Answer::Refused(3);
             }
             let t = image::test_pages(image, h);

@@ -1,6 +1,6 @@
 -- The listing of open transactions, two bytes after the other.
-use Rattle.basics.proofs.Kit.{_≡_, refl, sym, ap, _∙_, List, [], _∷_, _++_, append-assoc, ℕ, suc, _+_, _*_, _%_, _≤_, _<_, _/_, add-one, length, take, drop, getD, set, length-append}
-use Rattle.basics.proofs.Kit.{length-map, drop-cons, take-all, take-suc, length-take-le, set-at, lt-ltb, le-ltb, arith}
+use Rattle.basics.proofs.Kit.{_≡_, refl, sym, ap, _∙_, List, [], _∷_, _++_, ℕ, _+_, _*_, _%_, _≤_, _<_, _/_, add-one, length, take, drop, getD, set}
+use Rattle.basics.proofs.Kit.{length-map, take-all, take-suc, length-take-le, lt-ltb, le-ltb, arith}
 use Rattle.basics.proofs.Lists.{map-append}
 use Rattle.model.specs.State.{Active}
 use Rattle.model.specs.Transactions.{gives, openNumbers, listing, listCall}

@@ -1,6 +1,6 @@
 -- A transaction's entry among the open ones: what is found there, written and taken out.
 use Rattle.block_forms.specs.Limits.{statementLimit}
-use Rattle.basics.proofs.Kit.{_≡_, refl, sym, ap, _∙_, true, false, not, List, [], _∷_, _++_, ℕ, suc, _+_, _≤_, _<_, length, take, drop, getD, set, eqb-true, eq-eqb, ne-eqb, eqb-false}
+use Rattle.basics.proofs.Kit.{_≡_, refl, sym, ap, _∙_, true, false, not, List, [], _∷_, ℕ, suc, _+_, _≤_, _<_, length, getD, set, eqb-true, eq-eqb, ne-eqb, eqb-false}
 use Rattle.basics.proofs.Kit.{arith}
 use Rattle.basics.specs.Basics.{if_then_else_, any, isIn, keep}
 use Rattle.basics.proofs.Facts.{by}
@@ -9,6 +9,8 @@ use Rattle.model.specs.Transactions.{isFor, openNumbers, writtenBy, oneMore, wi
 use Rattle.basics.proofs.Elements.{in-here, keep-cons, keep-past, in-past}
 use Rattle.basics.specs.Lists.{removeAt, tab}
 use Rattle.basics.proofs.Tabs.{getD-tab}
+use Rattle.basics.proofs.Parts.{removeAt-suc}
+use Rattle.basics.proofs.Firsts.{index-hit, index-pass}
 use Rattle.memory_layout.specs.Views.{openAt, openCount}
 use Rattle.memory_layout.specs.Flat.{flatOf, opensOf, noOpen}
 use Rattle.memory_layout.specs.Opens.{findOpen}
@@ -19,8 +21,7 @@ use Rattle.memory_layout.proofs.Laws.{opens-length}
 module _ (tx : ℕ) (o : Active) (os : List Active) where
   module _ (e : isFor tx o ≡ true) where
     find-here : findOpen tx (o ∷ os) ≡ 0
-    unfolding findOpen if_then_else_
-    find-here = rw e
+    find-here = index-hit (isFor tx) o os e
 
     numbers-here : isIn tx (openNumbers (o ∷ os)) ≡ true
     unfolding openNumbers isFor
@@ -40,8 +41,7 @@ module _ (tx : ℕ) (o : Active) (os : List Active) where
 
   module _ (e : isFor tx o ≡ false) where
     find-on : findOpen tx (o ∷ os) ≡ suc (findOpen tx os)
-    unfolding findOpen if_then_else_
-    find-on = rw e
+    find-on = index-pass (isFor tx) o os e
 
     numbers-on : isIn tx (openNumbers (o ∷ os)) ≡ isIn tx (openNumbers os)
     unfolding openNumbers isFor
@@ -100,15 +100,12 @@ wrote-is tx (o ∷ os) h =
 
 -- ---- the entry taken out
 
-remove-on : (o : Active) (os : List Active) (i : ℕ) → removeAt (suc i) (o ∷ os) ≡ o ∷ removeAt i os
-remove-on o os i = let e : suc i + 1 ≡ suc (i + 1) = omega arith in ap (λ (z : ℕ). o ∷ take i os ++ drop z (o ∷ os)) e
-
 pub without-found : (tx : ℕ) (os : List Active) → findOpen tx os < length os → without tx (removeAt (findOpen tx os) os) ≡ without tx os
 without-found tx [] h = absurd (omega arith)
 without-found tx (o ∷ os) h =
     by (isFor tx o)
     (λ e. ap (λ (i : ℕ). without tx (removeAt i (o ∷ os))) (find-here tx o os e) ∙ sym (without-here tx o os e))
-    (λ e. ap (λ (i : ℕ). without tx (removeAt i (o ∷ os))) (find-on tx o os e) ∙ ap (without tx) (remove-on o os (findOpen tx os))
+    (λ e. ap (λ (i : ℕ). without tx (removeAt i (o ∷ os))) (find-on tx o os e) ∙ ap (without tx) (removeAt-suc (findOpen tx os) o os)
     ∙ without-on tx o (removeAt (findOpen tx os) os) e
     ∙ ap (λ (z : List Active). o ∷ z) (without-found tx os (omega (arith, find-on tx o os e))) ∙ sym (without-on tx o os e))
 

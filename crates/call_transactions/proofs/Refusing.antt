@@ -13,7 +13,7 @@ use Rattle.call_transactions.proofs.Opens.{found-open, not-found-open}
 use Rattle.call_contracts.specs.Shape.{Answers, Replies}
 use Rattle.call_transactions.specs.Refusals.{firstRefusal, refusalIn}
 use Rattle.call_contracts.specs.declared.Answer.the-variants.{Refused}
-use Rattle.call_contracts.proofs.Answering.{answers-4, answers-refused, replies-4, replies-refused}
+use Rattle.call_contracts.proofs.Answering.{passed-4, answers-4, answers-refused, replies-4, replies-refused}
 use Rattle.model.specs.State as model
 
 -- ---- one test after the other
@@ -87,7 +87,7 @@ module _ (m : List ℕ) (tests : Store → List Test) where
 
   module _ (v : ℕ) (e : v ≡ refusalIn (storeIn m) tests) where
     pub passed-held : v ≡ 0 → holdsStore m ≡ true
-    passed-held z = by (holdsStore m) (λ h. h) (λ h. absurd (omega (arith, e, refusal-4 h)))
+    passed-held z = passed-4 m (λ h. e ∙ refusal-4 h) z
 
     pub passed-tests : v ≡ 0 → firstRefusal (tests (storeOf (flatOf m))) ≡ 0
     passed-tests z = sym (refusal-in (passed-held z)) ∙ sym e ∙ z

@@ -69,7 +69,7 @@ fn make_refusal(len: usize, room: usize, capacity: u64) -> u64
         return 2;
     }
     let n = capacity as usize;
-    if room < memory_layout::ROW_SPACE * n + memory_layout::HEAD_SIZE {
+    if room < memory_layout::ROW_SPACE * n + memory_layout::places::HEAD_SIZE {
         return 3;
     }
     0

@@ -1,10 +1,6 @@
 -- Counts and searches of blocks, turn by turn, and what they say of the store.
-use Rattle.memory_layout.specs.Places.{headSize}
-use Rattle.block_forms.specs.Limits.{blockLimit}
-use Rattle.basics.proofs.Kit.{_≡_, refl, sym, ap, _∙_, Bool, true, false, not, some, none, Option, List, [], _∷_, _++_, ℕ, suc, _+_, _≤_, _<_, zero, _-_, length, take, drop}
-use Rattle.basics.proofs.Kit.{arith}
-use Rattle.basics.specs.Basics.{if_then_else_, howMany, first, from, oneIf}
-use Rattle.basics.proofs.Facts.{by}
+use Rattle.basics.proofs.Kit.{_≡_, refl, sym, ap, _∙_, Bool, true, false, not, some, none, Option, List, [], _∷_, _++_, ℕ, suc, _+_, _≤_, _<_, zero, _-_, length, take, drop, arith}
+use Rattle.basics.specs.Basics.{howMany, first, from}
 use Rattle.image.specs.Stages.{directoriesFor, capacityLimit}
 use Rattle.model.specs.State.{Held, Page}
 use Rattle.model.specs.Rules.{isDirty, isFrozen}
@@ -15,7 +11,7 @@ use Rattle.memory_layout.specs.Flat.{Flat, flatOf, Room}
 use Rattle.memory_layout.specs.Store.{pageOf, nest, pagesIn, holdsStore, storeOf}
 use Rattle.memory_layout.specs.declared.Entry.{Entry}
 use Rattle.memory_layout.specs.declared.Head.{Head}
-use Rattle.memory_layout.proofs.Laws.{Known, known, filled, holds-room}
+use Rattle.memory_layout.proofs.Laws.{Known, known, sizes, filled, holds-room}
 use Rattle.memory_layout.proofs.Nest.{counted-length}
 use Rattle.memory_layout.proofs.Exchange.{pages-count}
 use Rattle.memory_pages.specs.Pages.{frozenEntry, dirtyEntry}
@@ -26,45 +22,11 @@ use Rattle.basics.proofs.Firsts.{first-hit, first-past, first-some, first-skip,
 
 -- ---- counts
 
-one-more : {A : Type 0} (f : A → Bool) (x : A) (xs : List A) → howMany f (x ∷ xs) ≡ oneIf (f x) + howMany f xs
-unfolding howMany if_then_else_
-one-more f x xs = by (f x) (λ e. rw e (omega arith)) (λ e. rw e (omega arith))
-
-module _ (f : ℕ → Bool) (b n : ℕ) where
-  pub tally-turn : b < n → howMany f (from b (n - b)) ≡ oneIf (f b) + howMany f (from (b + 1) (n - (b + 1)))
-  tally-turn h = ap (howMany f) (from-turn b n h) ∙ one-more f b (from (b + 1) (n - (b + 1)))
-
-  pub tally-end : n ≤ b → howMany f (from b (n - b)) ≡ 0
-  unfolding howMany
-  tally-end h = ap (howMany f) (from-end b n h)
-
 pub free-is : (f : Flat) → freeCount (storeOf f) ≡ howMany (λ b. not (f .used b)) (from 1 (f .head .blocks - 1))
 unfolding freeCount isFree storeOf
 free-is f = refl
 
--- ---- the numbers of a memory with room, for omega
-
-pub record Sizes (m : List ℕ) : Type 0 where
-  pub long : headSize ≤ length m
-  pub few : 2 ≤ flatOf m .head .blocks
-  pub many : flatOf m .head .blocks ≤ blockLimit
-  pub taken : flatOf m .head .taken < flatOf m .head .blocks
-  pub pages : length (flatOf m .entries) ≤ 2048
-  pub named : length (flatOf m .named) ≤ capacityLimit
-  pub directories : length (flatOf m .directories) ≤ 4
-
-pub sizes : {m : List ℕ} → Room m → Sizes m
-sizes {m} r =
-    let k : Known m = known m r in
-    record {
-      long = omega arith;
-      few = r .range .few;
-      many = r .range .many;
-      taken = r .range .taken;
-      pages = omega arith;
-      named = omega arith;
-      directories = omega arith;
-    }
+-- ---- how many pages
 
 -- where every page has a row, there are at most as many as the capacity
 pub pages-few : (m : List ℕ) → holdsStore m ≡ true → length (flatOf m .entries) ≤ flatOf m .head .capacity
@@ -109,8 +71,7 @@ module _ (f : Flat) where
   pub needed-is : howMany dirtyEntry (f .entries) + directoriesFor (length (f .entries)) ≡ blocksNeeded (pagesIn f)
   unfolding blocksNeeded
   needed-is =
-      ap (λ (n : ℕ). n + directoriesFor (length (f .entries))) (sym (many-nest isDirty dirtyEntry dirty-entry (f .entries) (f .rows)))
-      ∙ ap (λ (n : ℕ). howMany isDirty (pagesIn f) + directoriesFor n) (sym (pages-count f))
+      λ i. sym (many-nest isDirty dirtyEntry dirty-entry (f .entries) (f .rows)) i + directoriesFor (sym (pages-count f) i)
 
   pub dirty-few : howMany dirtyEntry (f .entries) ≤ length (f .entries)
   dirty-few = many-length dirtyEntry (f .entries)
@@ -157,6 +118,13 @@ unfolding orElse
 or-last n none = refl
 or-last n (some b) = refl
 
+-- the two searches, from the block after the one last taken on and from block 1 up to it
+abbrev pub upward : Flat → ℕ
+upward f = freeFrom (f .used) (f .head .taken + 1) (f .head .blocks)
+
+abbrev pub around : Flat → ℕ
+around f = freeFrom (f .used) 1 (f .head .taken + 1)
+
 module _ (f : Flat) (low : f .head .taken < f .head .blocks) where
   alloc-is : allocate (storeOf f)
       ≡ orElse (f .head .blocks - 1) (first (λ b. not (f .used b)) (from (f .head .taken + 1) (f .head .blocks - (f .head .taken + 1)) ++ from 1 (f .head .taken + 1 - 1)))
@@ -166,34 +134,27 @@ module _ (f : Flat) (low : f .head .taken < f .head .blocks) where
       let n : ℕ = f .head .blocks in
       let e : suc t ≡ t + 1 = omega arith in
       let d : t ≡ t + 1 - 1 = omega arith in
-      or-last n _
-      ∙ ap (λ (z : ℕ). orElse (n - 1) (first (λ b. not (f .used b)) (from z (n - z) ++ from 1 t))) e
-      ∙ ap (λ (z : ℕ). orElse (n - 1) (first (λ b. not (f .used b)) (from (t + 1) (n - (t + 1)) ++ from 1 z))) d
+      or-last n _ ∙ (λ i. orElse (n - 1) (first (λ b. not (f .used b)) (from (e i) (n - e i) ++ from 1 (d i))))
 
-  pub alloc-up : freeFrom (f .used) (f .head .taken + 1) (f .head .blocks) < f .head .blocks
-      → freeFrom (f .used) (f .head .taken + 1) (f .head .blocks) ≡ allocate (storeOf f)
+  pub alloc-up : upward f < f .head .blocks → upward f ≡ allocate (storeOf f)
   unfolding orElse
-  alloc-up h =
-      sym (alloc-is ∙ ap (orElse (f .head .blocks - 1))
-      (first-some _ _ _ _ (found-free (f .used) (f .head .taken + 1) (f .head .blocks) (omega arith) h)))
+  alloc-up h = sym (alloc-is ∙ ap (orElse (f .head .blocks - 1)) (first-some _ _ _ _ (found-free (f .used) (f .head .taken + 1) (f .head .blocks) (omega arith) h)))
 
-  module _ (h : f .head .blocks ≤ freeFrom (f .used) (f .head .taken + 1) (f .head .blocks)) where
+  module _ (h : f .head .blocks ≤ upward f) where
     rest-is : allocate (storeOf f) ≡ orElse (f .head .blocks - 1) (first (λ b. not (f .used b)) (from 1 (f .head .taken + 1 - 1)))
-    rest-is =
-        alloc-is ∙ ap (orElse (f .head .blocks - 1)) (first-skip _ _ _ (no-free (f .used) (f .head .taken + 1) (f .head .blocks) (omega arith) h))
+    rest-is = alloc-is ∙ ap (orElse (f .head .blocks - 1)) (first-skip _ _ _ (no-free (f .used) (f .head .taken + 1) (f .head .blocks) (omega arith) h))
 
-    pub alloc-round : freeFrom (f .used) 1 (f .head .taken + 1) < f .head .taken + 1 → freeFrom (f .used) 1 (f .head .taken + 1) ≡ allocate (storeOf f)
+    pub alloc-round : around f < f .head .taken + 1 → around f ≡ allocate (storeOf f)
     unfolding orElse
     alloc-round k = sym (rest-is ∙ ap (orElse (f .head .blocks - 1)) (found-free (f .used) 1 (f .head .taken + 1) (omega arith) k))
 
-    pub alloc-none : f .head .taken + 1 ≤ freeFrom (f .used) 1 (f .head .taken + 1) → f .head .blocks - 1 ≡ allocate (storeOf f)
+    pub alloc-none : f .head .taken + 1 ≤ around f → f .head .blocks - 1 ≡ allocate (storeOf f)
     unfolding orElse
     alloc-none k = sym (rest-is ∙ ap (orElse (f .head .blocks - 1)) (no-free (f .used) 1 (f .head .taken + 1) (omega arith) k))
 
--- the two searches, from the block after the one last taken and from block 1
 module _ (f : Flat) {a r : ℕ} where
-  pub up-from : {h : Head} → h ≡ f .head → r ≡ freeFrom (f .used) a (h .blocks) → a ≡ f .head .taken + 1 → r ≡ freeFrom (f .used) (f .head .taken + 1) (f .head .blocks)
-  up-from e q ea = q ∙ ap (λ (h : Head). freeFrom (f .used) a (h .blocks)) e ∙ ap (λ (k : ℕ). freeFrom (f .used) k (f .head .blocks)) ea
+  pub up-from : {h : Head} → h ≡ f .head → r ≡ freeFrom (f .used) a (h .blocks) → a ≡ f .head .taken + 1 → r ≡ upward f
+  up-from e q ea = q ∙ (λ i. freeFrom (f .used) (ea i) (e i .blocks))
 
-  pub round-from : {z : ℕ} → r ≡ freeFrom (f .used) a z → a ≡ 1 → z ≡ f .head .taken + 1 → r ≡ freeFrom (f .used) 1 (f .head .taken + 1)
-  round-from {z} w ea ez = w ∙ ap (λ (k : ℕ). freeFrom (f .used) k z) ea ∙ ap (freeFrom (f .used) 1) ez
+  pub round-from : {z : ℕ} → r ≡ freeFrom (f .used) a z → a ≡ 1 → z ≡ f .head .taken + 1 → r ≡ around f
+  round-from w ea ez = w ∙ (λ i. freeFrom (f .used) (ea i) (ez i))

@@ -1,6 +1,6 @@
 -- The functions that change the memory, one after another: what each leaves of the pages and of what is left to do.
-use Rattle.basics.proofs.Kit.{_≡_, refl, sym, ap, _∙_, subst, ap₂, true, false, List, [], _∷_, _++_, ℕ, suc, _+_, _≤_, _<_, zero, _-_, add-one, length, take, drop, length-take, length-drop}
-use Rattle.basics.proofs.Kit.{drop-drop, take-add, drop-cons, take-nil, arith}
+use Rattle.basics.proofs.Kit.{_≡_, refl, sym, ap, _∙_, subst, ap₂, true, false, List, _∷_, _++_, ℕ, suc, _+_, _≤_, _<_, _-_, add-one, length, take, drop, length-take, length-drop}
+use Rattle.basics.proofs.Kit.{drop-drop, take-add, drop-cons, arith}
 use Rattle.basics.specs.Basics.{if_then_else_}
 use Rattle.block_forms.specs.Tuple.{Tuple}
 use Rattle.model.specs.State.{Held, Page}
@@ -16,7 +16,7 @@ use Rattle.model.proofs.Carry.{carry-append}
 use Rattle.engine_close.proofs.Removals.{carry-commit, removed-behind, removed-least, removed-most, behind-fewer, behind-place, behind-more}
 use Rattle.engine_close.proofs.Removals.{behind-then, behind-at, picks, removing, none-left, pass-row, hit-row, removing-then, live-removing}
 use Rattle.engine_close.proofs.RunPlans.{other-picks}
-use Rattle.basics.proofs.Parts.{drop-take}
+use Rattle.basics.proofs.Parts.{same-before}
 
 -- ---- pages now
 
@@ -118,13 +118,6 @@ split-run xs a e k l h m =
     let z : a + (k - a) ≡ k = omega arith in
     ap (λ n. take n (drop a xs)) s ∙ take-add (k - a) (suc (e - suc k)) (drop a xs)
     ∙ ap (λ y. take (k - a) (drop a xs) ++ take (suc (e - suc k)) y) (drop-drop (k - a) a xs ∙ ap (λ n. drop n xs) z ∙ drop-cons xs k _ (omega arith))
-
--- rows before row k, in two lists that are equal up to it
-same-before : (xs ys : List (ℕ × Held)) (a k : ℕ) → a ≤ k → take k ys ≡ take k xs → take (k - a) (drop a ys) ≡ take (k - a) (drop a xs)
-same-before xs ys a k l e = sym (part ys) ∙ ap (drop a) e ∙ part xs
-  where
-    part : (zs : List (ℕ × Held)) → drop a (take k zs) ≡ take (k - a) (drop a zs)
-    part zs = let z : a + (k - a) ≡ k = omega arith in ap (λ n. drop a (take n zs)) (sym z) ∙ drop-take a (k - a) zs
 
 newest-marked : (n a e k : ℕ) (ps : List Page) → rowFrom (tagged ps) k .1 .tuple .mark ≡ true → closedRun n a e k ps ≡ removedLive n a (e - a) ps
 unfolding closedRun planNewest removedLive if_then_else_

@@ -12,7 +12,7 @@ use Rattle.memory_layout.specs.Store.{pageOf, nest, total, startOf, holdsStore}
 use Rattle.memory_layout.specs.declared.Entry.{Entry}
 use Rattle.memory_layout.specs.Views.{countsOf}
 use Rattle.memory_layout.specs.declared.Counts.{Counts}
-use Rattle.memory_layout.proofs.Laws.{filled, rows-read, known}
+use Rattle.memory_layout.proofs.Laws.{filled, rows-read, sizes}
 use Rattle.memory_layout.proofs.Exchange.{start-next}
 use Rattle.basics.proofs.Tabs.{lt-or-ge}
 use Rattle.memory_pages.specs.Pages.{TableFrom, OnPages, PageOf}
@@ -36,8 +36,8 @@ module _ (m : List ℕ) (room : Room m) where
   rows-counted e = rows-read m e ∙ sym tagged-length
 
   -- there are few
-  pub few-rows : length (taggedOf m) ≤ capacityLimit
-  few-rows = let k = known m room in omega (arith, tagged-length, k .rows-are, k .rows, k .most)
+  pub few-tagged : length (taggedOf m) ≤ capacityLimit
+  few-tagged = omega (arith, tagged-length, sizes room .rows)
 
 -- ---- tables
 

@@ -1,6 +1,6 @@
 -- A commit and an abort, step by step: what is left to do from a row on.
 use Rattle.basics.proofs.Kit.{_≡_, refl, sym, ap, _∙_, subst, ap₂, ⊎-elim, Bool, true, false, some, List, [], _∷_, _++_, ℕ, suc, _+_, _≤_, _<_, _-_, length, take, drop}
-use Rattle.basics.proofs.Kit.{length-take, length-drop, take-append-drop, drop-of-length-le, drop-drop, drop-cons, getD-drop, getD-take, arith}
+use Rattle.basics.proofs.Kit.{length-take, length-drop, drop-of-length-le, drop-cons, getD-drop, getD-take, arith}
 use Rattle.basics.specs.Basics.{last}
 use Rattle.basics.proofs.Facts.{AllOf}
 use Rattle.model.specs.State.{Held, Page}
@@ -18,6 +18,7 @@ use Rattle.engine_close.proofs.Removals.{held-length, behind-fewer, beh
 use Rattle.engine_close.proofs.RunPlans.{same-as, same-self, same-not, plan-none, plan-past, Ends, plan-first, newest-is}
 use Rattle.engine_pages.specs.Pages.{PagesNow, pagesOf}
 use Rattle.basics.proofs.Tabs.{all-by}
+use Rattle.basics.proofs.Parts.{parts}
 use Rattle.engine_pages.proofs.Places.{now-held, now-pages, now-then, now-to, now-stay}
 use Rattle.engine_close.proofs.Closing.{now-self, row-next, row-behind, split-run}
 
@@ -34,12 +35,6 @@ all-behind : (P : ℕ × Held → Type 0) (xs : List (ℕ × Held)) (a : ℕ) �
 all-behind P xs a h =
     let d = length-drop a xs in
     all-by P (drop a xs) (0, noRow) (λ j b. subst P (sym (getD-drop a xs j (0, noRow))) (h (a + j) (omega arith) (omega arith)))
-
--- the rows from a on: those up to e, and the others
-parts : (xs : List (ℕ × Held)) (a e : ℕ) → a ≤ e → drop a xs ≡ take (e - a) (drop a xs) ++ drop e xs
-parts xs a e h =
-    let z : a + (e - a) ≡ e = omega arith in
-    sym (take-append-drop (e - a) (drop a xs)) ∙ ap (λ y. take (e - a) (drop a xs) ++ y) (drop-drop (e - a) a xs ∙ ap (λ n. drop n xs) z)
 
 run-plan : (tx : ℕ) (run : List Placed) → planRun tx run ≡ planNewest (last (ownPlaced tx) (liveOf run)) (liveOf run)
 unfolding planRun

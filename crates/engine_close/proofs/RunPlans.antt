@@ -1,5 +1,5 @@
 -- The plan of a commit, run by run: rows without an own one among them are passed over, and a run is split off at its end.
-use Rattle.basics.proofs.Kit.{_≡_, refl, sym, ap, _∙_, ap₂, true, false, not, some, none, List, [], _∷_, _++_, append-assoc, append-nil, ℕ, suc, _+_, _<_, _-_, eqb, length, eq-eqb, ne-eqb}
+use Rattle.basics.proofs.Kit.{_≡_, refl, sym, ap, _∙_, ap₂, true, false, not, some, none, List, [], _∷_, _++_, append-assoc, append-nil, ℕ, suc, _+_, _<_, eqb, length, eq-eqb, ne-eqb}
 use Rattle.basics.proofs.Kit.{arith}
 use Rattle.basics.specs.Basics.{if_then_else_, keep, last}
 use Rattle.basics.proofs.Facts.{by, lie, AllOf}

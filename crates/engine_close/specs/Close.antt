@@ -12,7 +12,7 @@ use Rattle.model.specs.State.{Held, Page}
 use Rattle.model.specs.Rules.{isRemoving, applied}
 use Rattle.model.specs.Places.{tagged, placed, runs, liveOf, ownPlaced, removePlaces, planNewest, planRuns, carryOut, removeRow}
 use Rattle.model.specs.Transactions.{committedPages, abortedPages}
-use Rattle.memory_layout.specs.Flat.{noRow}
+use Rattle.memory_layout.specs.Flat.{noRow, Room}
 use Rattle.memory_layout.specs.Store.{holdsStore}
 use Rattle.memory_rows.specs.Rows.{isLiveOwn}
 use Rattle.engine_pages.specs.Pages.{PagesNow, pagesOf}
@@ -50,10 +50,12 @@ pub record OwnPart (xs : List (ℕ × Held)) (tx i e : ℕ) : Type 0 where
   pub inside : e ≤ length xs
   pub own : isOwnRow tx xs i ≡ true
 
--- row i is there, and row `from` does not come after it
-pub record RowSince (xs : List (ℕ × Held)) (from i : ℕ) : Type 0 where
-  pub order : from ≤ i
-  pub inside : i < length xs
+-- row i is there, and t is its table
+pub record RowOfTable (m : List ℕ) (i t : ℕ) : Type 0 where
+  pub room : Room m
+  pub inside : i < length (taggedOf m)
+  pub table : t ≡ rowFrom (taggedOf m) i .0
+  pub below : t < 8
 
 -- r is the larger of a and b
 pub record Larger (a b r : ℕ) : Type 0 where

@@ -9,7 +9,7 @@ ghost use Rattle.memory_layout.specs.Flat.{flatOf, Room};
 ghost use Rattle.memory_layout.specs.Store.{storeOf, holdsStore, HoldsNow};
 ghost use Rattle.memory_pages.specs.Pages.{PageOf};
 ghost use Rattle.engine_pages.specs.Pages.{withPages, PagesNow, pagesOf};
-ghost use Rattle.engine_close.specs.Close.{taggedOf, rowFrom, isLive, Part, OwnPart, RowSince, Larger, NextOwn, RowsFrom, RunFrom, RunTo, NewestOwn};
+ghost use Rattle.engine_close.specs.Close.{taggedOf, rowFrom, isLive, Part, OwnPart, RowOfTable, Larger, NextOwn, RowsFrom, RunFrom, RunTo, NewestOwn};
 ghost use Rattle.engine_close.specs.Close.{leftFrom, closedPages, RowRemoved, LiveRemoved, Within, RunClosed, NextDone};
 
 // Rows that are looked at together.
@@ -147,8 +147,7 @@ fn later(a: usize, b: usize) -> usize
 
 // The first row of the run of row i, which is of table t; row `from`, if the run begins before it.
 fn run_start(m: &[u8], from: usize, i: usize, t: usize) -> usize
-    requires { ⌜ Room (now m) × RowSince (taggedOf (now m)) from i ⌝ }
-    requires { ⌜ (t ≡ rowFrom (taggedOf (now m)) i .0) × (t < 8) ⌝ }
+    requires { ⌜ RowOfTable (now m) i t × (from ≤ i) ⌝ }
     ensures { λ r. ⌜ RunFrom (taggedOf (now (m .entry))) from i r ⌝ }
 {
     let low = later(from, first_row(m, t));
@@ -165,8 +164,7 @@ fn run_start(m: &[u8], from: usize, i: usize, t: usize) -> usize
 
 // The row behind the run of row i, which is of table t.
 fn run_end(m: &[u8], i: usize, t: usize) -> usize
-    requires { ⌜ Room (now m) × (i < length (taggedOf (now m))) ⌝ }
-    requires { ⌜ (t ≡ rowFrom (taggedOf (now m)) i .0) × (t < 8) ⌝ }
+    requires { ⌜ RowOfTable (now m) i t ⌝ }
     ensures { λ r. ⌜ RunTo (taggedOf (now (m .entry))) i r ⌝ }
 {
     let end = first_row(m, t + 1);

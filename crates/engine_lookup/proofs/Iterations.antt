@@ -10,6 +10,10 @@ use Rattle.memory_rows.specs.Rows.{keyIn}
 use Rattle.engine_lookup.specs.Lookup.{note, notes, blank}
 use Rattle.engine_lookup.specs.declared.Visibility.{Visibility}
 
+-- the n rows from row i on, noted one after another
+abbrev pub along : Flat → ℕ → ℕ → ℕ → ℕ → Visibility → Visibility
+along f tx k i n l = notes tx k i (tab (rowIn f) i n) l
+
 module _ (tx k i : ℕ) (h : Held) (hs : List Held) (l : Visibility) where
   pub notes-on : eqb (h .tuple .key) k ≡ false → notes tx k i (h ∷ hs) l ≡ notes tx k (suc i) hs l
   unfolding notes if_then_else_
@@ -30,35 +34,35 @@ module _ (f : Flat) (tx k i e : ℕ) (l : Visibility) where
   step h l1 q =
       ap (λ (z : List Held). notes tx k i z l) (tab-next (rowIn f) i e h) ∙ q ∙ ap (λ (z : ℕ). notes tx k z (rest (i + 1)) l1) (sym (add-one i))
 
-  pub turn-here : i < e → rowIn f i .tuple .key ≡ k → notes tx k i (tab (rowIn f) i (e - i)) l ≡ notes tx k (i + 1) (tab (rowIn f) (i + 1) (e - (i + 1))) (note tx i (rowIn f i) l)
+  pub turn-here : i < e → rowIn f i .tuple .key ≡ k → along f tx k i (e - i) l ≡ along f tx k (i + 1) (e - (i + 1)) (note tx i (rowIn f i) l)
   turn-here h q = step h _ (notes-here tx k i (rowIn f i) (rest (i + 1)) l (eq-eqb _ _ q))
 
-  pub turn-on : i < e → (rowIn f i .tuple .key ≡ k → ⊥) → notes tx k i (tab (rowIn f) i (e - i)) l ≡ notes tx k (i + 1) (tab (rowIn f) (i + 1) (e - (i + 1))) l
+  pub turn-on : i < e → (rowIn f i .tuple .key ≡ k → ⊥) → along f tx k i (e - i) l ≡ along f tx k (i + 1) (e - (i + 1)) l
   turn-on h q = step h _ (notes-on tx k i (rowIn f i) (rest (i + 1)) l (ne-eqb _ _ q))
 
-  pub turn-end : e ≤ i → notes tx k i (tab (rowIn f) i (e - i)) l ≡ l
+  pub turn-end : e ≤ i → along f tx k i (e - i) l ≡ l
   unfolding notes
   turn-end h = ap (λ (z : List Held). notes tx k i z l) (tab-none (rowIn f) i e h)
 
 -- ---- in parts
 
 module _ (f : Flat) (tx k : ℕ) where
-  notes-parts : (i a n : ℕ) (l : Visibility) → notes tx k i (tab (rowIn f) i (a + n)) l ≡ notes tx k (i + a) (tab (rowIn f) (i + a) n) (notes tx k i (tab (rowIn f) i a) l)
+  notes-parts : (i a n : ℕ) (l : Visibility) → along f tx k i (a + n) l ≡ along f tx k (i + a) n (along f tx k i a l)
   unfolding notes
   notes-parts i zero n l =
       let e : 0 + n ≡ n = omega arith in
       let q : i + 0 ≡ i = omega arith in
-      ap (λ (z : ℕ). notes tx k i (tab (rowIn f) i z) l) e ∙ sym (ap (λ (z : ℕ). notes tx k z (tab (rowIn f) z n) l) q)
+      ap (λ (z : ℕ). along f tx k i z l) e ∙ sym (ap (λ (z : ℕ). along f tx k z n l) q)
   notes-parts i (suc a) n l =
       let e : suc a + n ≡ suc (a + n) = omega arith in
       let q : suc i + a ≡ i + suc a = omega arith in
       let l1 : Visibility = if eqb (rowIn f i .tuple .key) k then note tx i (rowIn f i) l else l in
-      ap (λ (z : ℕ). notes tx k i (tab (rowIn f) i z) l) e
+      ap (λ (z : ℕ). along f tx k i z l) e
       ∙ notes-parts (suc i) a n l1
-      ∙ ap (λ (z : ℕ). notes tx k z (tab (rowIn f) z n) (notes tx k (suc i) (tab (rowIn f) (suc i) a) l1)) q
+      ∙ ap (λ (z : ℕ). along f tx k z n (along f tx k (suc i) a l1)) q
 
   -- rows of other keys change nothing
-  notes-past : (i n : ℕ) (l : Visibility) → ((j : ℕ) → i ≤ j → j < i + n → eqb (rowIn f j .tuple .key) k ≡ false) → notes tx k i (tab (rowIn f) i n) l ≡ l
+  notes-past : (i n : ℕ) (l : Visibility) → ((j : ℕ) → i ≤ j → j < i + n → eqb (rowIn f j .tuple .key) k ≡ false) → along f tx k i n l ≡ l
   unfolding notes
   notes-past i zero l h = refl
   notes-past i (suc n) l h =
@@ -67,23 +71,21 @@ module _ (f : Flat) (tx k : ℕ) where
 
 -- the rows between which all with the key stand are enough
 pub notes-covered : (f : Flat) (tx : ℕ) {k s e a b : ℕ} (l : Visibility) → Covers (keyIn f) k s e a b
-    → notes tx k a (tab (rowIn f) a (b - a)) l ≡ notes tx k s (tab (rowIn f) s (e - s)) l
+    → along f tx k a (b - a) l ≡ along f tx k s (e - s) l
 notes-covered f tx {k} {s} {e} {a} {b} l c =
     let n1 : e - s ≡ (a - s) + (e - a) = omega (arith, c .low, c .order, c .high) in
     let n2 : e - a ≡ (b - a) + (e - b) = omega (arith, c .low, c .order, c .high) in
     let p1 : s + (a - s) ≡ a = omega (arith, c .low) in
     let p2 : a + (b - a) ≡ b = omega (arith, c .order) in
-    let l1 : Visibility = notes tx k a (tab (rowIn f) a (b - a)) l in
-    sym (ap (λ (z : ℕ). notes tx k s (tab (rowIn f) s z) l) n1
+    let l1 : Visibility = along f tx k a (b - a) l in
+    sym (ap (λ (z : ℕ). along f tx k s z l) n1
     ∙ notes-parts f tx k s (a - s) (e - a) l
-    ∙ ap (λ (z : ℕ). notes tx k z (tab (rowIn f) z (e - a)) (notes tx k s (tab (rowIn f) s (a - s)) l)) p1
-    ∙ ap (λ (z : Visibility). notes tx k a (tab (rowIn f) a (e - a)) z) (notes-past f tx k s (a - s) l (λ j x y. c .before j x (omega arith)))
-    ∙ ap (λ (z : ℕ). notes tx k a (tab (rowIn f) a z) l) n2
+    ∙ (λ i. along f tx k (p1 i) (n2 i) (notes-past f tx k s (a - s) l (λ j x y. c .before j x (omega arith)) i))
     ∙ notes-parts f tx k a (b - a) (e - b) l
-    ∙ ap (λ (z : ℕ). notes tx k z (tab (rowIn f) z (e - b)) l1) p2
+    ∙ ap (λ (z : ℕ). along f tx k z (e - b) l1) p2
     ∙ notes-past f tx k b (e - b) l1 (λ j x y. c .behind j x (omega (arith, c .high))))
 
 -- so starting there, with nothing seen, shows what all rows show
-pub range-noted : (f : Flat) (tx : ℕ) {k s e a b : ℕ} {l none : Visibility} → l ≡ notes tx k a (tab (rowIn f) a (b - a)) none → none ≡ blank → Covers (keyIn f) k s e a b
-    → l ≡ notes tx k s (tab (rowIn f) s (e - s)) blank
-range-noted f tx {k} {s} {e} {none = none} p q c = p ∙ notes-covered f tx none c ∙ ap (notes tx k s (tab (rowIn f) s (e - s))) q
+pub range-noted : (f : Flat) (tx : ℕ) {k s e a b : ℕ} {l none : Visibility} → l ≡ along f tx k a (b - a) none → none ≡ blank → Covers (keyIn f) k s e a b
+    → l ≡ along f tx k s (e - s) blank
+range-noted f tx {k} {s} {e} {none = none} p q c = p ∙ notes-covered f tx none c ∙ ap (along f tx k s (e - s)) q

@@ -1,6 +1,5 @@
 -- One row noted, by what the code finds there.
-use Rattle.image.specs.Stages.{capacityLimit}
-use Rattle.basics.proofs.Kit.{_≡_, refl, sym, ap, _∙_, ⊎-elim, Bool, true, false, List, [], _∷_, ℕ, _+_, _<_, add-one, length, eq-eqb, ne-eqb, arith}
+use Rattle.basics.proofs.Kit.{_≡_, refl, sym, ap, _∙_, ⊎-elim, Bool, true, false, [], _∷_, ℕ, _+_, add-one, eq-eqb, ne-eqb, arith}
 use types.Run.{OneOf}
 use denote.Enum.Declared.{tagOf}
 use Rattle.basics.specs.Basics.{if_then_else_}
@@ -8,8 +7,6 @@ use Rattle.block_forms.specs.Tuple.{Owner, Tuple, committed}
 use Rattle.model.specs.State as model
 use Rattle.model.specs.State.{Held}
 use Rattle.model.specs.Rules.{isRemoving, isCommitting, applied, asCommitted}
-use Rattle.memory_layout.specs.Flat.{flatOf, Room}
-use Rattle.memory_layout.proofs.Laws.{Known, known}
 use Rattle.memory_rows.specs.Rows.{pendingIs}
 use Rattle.memory_rows.specs.declared.Pending.{Pending}
 use Rattle.memory_rows.specs.declared.Pending.the-variants.{Nothing, Adding, Committing, Removing}
@@ -71,7 +68,3 @@ module _ (tx i : ℕ) (h : Held) (l : Visibility) where
         others Adding k = refl
         others Committing k = absurd (⊎-elim (λ z. omega arith) (λ z. omega arith) k)
         others Removing k = absurd (⊎-elim (λ z. omega arith) (λ z. omega arith) k)
-
--- there are at most 1,024 rows
-pub row-below : {m : List ℕ} {i : ℕ} → Room m → i < length (flatOf m .rows) → i < capacityLimit
-row-below {m} r h = let k : Known m = known m r in omega arith

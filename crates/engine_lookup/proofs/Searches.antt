@@ -4,7 +4,7 @@ use Rattle.memory_bytes.specs.Columns.{upTo, Covers}
 use Rattle.basics.specs.Lists.{tab, lastIndex}
 use Rattle.basics.proofs.Tabs.{length-tab}
 use Rattle.basics.proofs.Found.{last-most, last-behind}
-use Rattle.memory_bytes.proofs.Spans.{test-at}
+use Rattle.basics.proofs.Tabs.{tab-within}
 use Rattle.memory_layout.specs.Flat.{Flat, rowIn}
 use Rattle.memory_rows.specs.Rows.{keyIn}
 use Rattle.memory_pages.specs.Spots.{keyUpTo}
@@ -27,7 +27,7 @@ module _ (f : Flat) (k : ℕ) where
           before = λ j x y. absurd (omega arith);
           behind = λ j x y.
               let q : leb (keyIn f j) k ≡ false =
-              sym (test-at (keyIn f) (upTo k) s (e - s) j (omega arith) (omega arith))
+              ap (upTo k) (sym (tab-within (keyIn f) s (e - s) j 0 (omega arith) (omega arith)))
               ∙ last-behind (upTo k) 0 (tab (keyIn f) s (e - s)) (j - s) (omega arith) (omega arith) in
               ne-eqb (keyIn f j) k (λ z. omega (arith, leb-false (keyIn f j) k q));
         }

@@ -1,6 +1,6 @@
 -- The versions of a key are among the rows of its table, one run of all rows.
-use Rattle.basics.proofs.Kit.{_≡_, refl, sym, ap, _∙_, List, [], _∷_, _++_, ℕ, suc, _+_, _≤_, _<_, zero, _-_, length, take, drop, getD, length-drop, drop-drop, take-add, getD-drop}
-use Rattle.basics.proofs.Kit.{length-take-le, getD-take, ext-getD, ne-eqb, arith}
+use Rattle.basics.proofs.Kit.{_≡_, refl, sym, ap, _∙_, List, [], _∷_, _++_, ℕ, suc, _+_, _≤_, _<_, zero, _-_, length, take, drop, getD, drop-drop, take-add}
+use Rattle.basics.proofs.Kit.{ne-eqb, arith}
 use Rattle.basics.specs.Basics.{if_then_else_, keep, sum}
 use Rattle.basics.proofs.Facts.{by}
 use Rattle.block_forms.specs.Tuple.{Tuple}
@@ -11,7 +11,7 @@ use Rattle.model.specs.Sight.{rows, versions}
 use Rattle.basics.proofs.Elements.{keep-append}
 use Rattle.memory_bytes.specs.Columns.{upTo}
 use Rattle.basics.specs.Lists.{tab, lastIndex}
-use Rattle.basics.proofs.Tabs.{length-tab, getD-tab}
+use Rattle.basics.proofs.Tabs.{tab-part}
 use Rattle.memory_layout.specs.Flat.{Flat, flatOf, rowIn, noRow, noEntry, Room}
 use Rattle.memory_layout.specs.Store.{pageOf, nest, pagesIn, total, startOf}
 use Rattle.memory_layout.specs.Views.{pageCount}
@@ -22,10 +22,10 @@ use Rattle.memory_pages.specs.Pages.{TableFrom}
 use Rattle.memory_pages.specs.Spots.{tablePage, tableRow, tableRows, keyUpTo, placeIn}
 use Rattle.memory_pages.proofs.Ranges.{starts-rise}
 use Rattle.memory_pages.proofs.Spots.{row-from, pages-rise, table-first}
-use Rattle.engine_lookup.specs.Lookup.{Shows, blank, notes, TableRange}
+use Rattle.engine_lookup.specs.Lookup.{Shows, blank, TableRange}
 use Rattle.engine_lookup.specs.declared.Visibility.{Visibility}
 use Rattle.engine_lookup.specs.declared.Range.{Range}
-use Rattle.engine_lookup.proofs.Iterations.{notes-covered}
+use Rattle.engine_lookup.proofs.Iterations.{along, notes-covered}
 use Rattle.engine_lookup.proofs.Versions.{versionsOn, shows-rows}
 use Rattle.engine_lookup.proofs.Searches.{place-covers, last-keys}
 use Rattle.image_page.proofs.Walk.{rows-append}
@@ -118,8 +118,7 @@ module _ (t k : ℕ) (d : Entry) where
         here = λ p h l. o .here (suc p) (omega arith) (omega arith);
         above = λ p h l. o .above (suc p) (omega arith) (omega arith);
       })
-      ∙ ap (λ (v : List Held). versionsOn t k (take (x - y) v)) (drop-drop y n hs)
-      ∙ ap (λ (v : ℕ). versionsOn t k (take v (drop (n + y) hs))) z
+      ∙ (λ i. versionsOn t k (take (z i) (drop-drop y n hs i)))
 
 -- ---- the rows of a table
 
@@ -134,14 +133,6 @@ table-versions f t k s u =
       here = λ p h l. omega (arith, s .above p h (omega (arith, u .most)), u .below p l);
       above = λ p h l e. omega (arith, u .above p h l);
     })
-
--- rows by place
-pub run-rows : (f : Flat) (s n : ℕ) → s + n ≤ length (f .rows) → take n (drop s (f .rows)) ≡ tab (rowIn f) s n
-run-rows f s n h =
-    let ld : length (drop s (f .rows)) ≡ length (f .rows) - s = length-drop s (f .rows) in
-    let lt : length (take n (drop s (f .rows))) ≡ n = length-take-le n (drop s (f .rows)) (omega arith) in
-    ext-getD noRow (take n (drop s (f .rows))) (tab (rowIn f) s n) (lt ∙ sym (length-tab (rowIn f) s n))
-    (λ i b. getD-take n (drop s (f .rows)) i noRow (omega arith) ∙ getD-drop s (f .rows) i noRow ∙ sym (getD-tab (rowIn f) s n i noRow (omega arith)))
 
 -- the range from the start of its pages to that of the next table's
 pub table-range : {m : List ℕ} → Room m → {t a b x y : ℕ} → TableFrom (flatOf m) t a → TableFrom (flatOf m) (t + 1) b → x ≡ startOf (flatOf m) a
@@ -161,10 +152,10 @@ module _ {m : List ℕ} (room : Room m) (t tx k : ℕ) (h : t < 8) {r : Range} (
   unfolding tableRows
   rows-of =
       let f : Flat = flatOf m in
-      (λ i. take (sym (g .end) i - sym (g .start) i) (drop (sym (g .start) i) (f .rows))) ∙ run-rows f (r .start) (r .end - r .start) (omega (arith, g .order, g .inside))
+      (λ i. take (sym (g .end) i - sym (g .start) i) (drop (sym (g .start) i) (f .rows))) ∙ sym (tab-part (f .rows) noRow (r .start) (r .end - r .start) (omega (arith, g .order, g .inside)))
 
   -- all rows of the table show all versions
-  pub table-shown : {l : Visibility} → l ≡ notes tx k (r .start) (tab (rowIn (flatOf m)) (r .start) (r .end - r .start)) blank
+  pub table-shown : {l : Visibility} → l ≡ along (flatOf m) tx k (r .start) (r .end - r .start) blank
       → Shows (flatOf m) t tx (versions t k (pagesIn (flatOf m))) l
   table-shown {l} e =
       let f : Flat = flatOf m in
@@ -175,7 +166,7 @@ module _ {m : List ℕ} (room : Room m) (t tx k : ℕ) (h : t < 8) {r : Range} (
 
   -- the same of one at the rows before the place alone
   module _ {at : ℕ} (q : at ≡ r .start + lastIndex (upTo k) (tab (keyIn (flatOf m)) (r .start) (r .end - r .start))) where
-    pub spot-shown : {l : Visibility} → l ≡ notes tx k (r .start) (tab (rowIn (flatOf m)) (r .start) (at - r .start)) blank
+    pub spot-shown : {l : Visibility} → l ≡ along (flatOf m) tx k (r .start) (at - r .start) blank
         → Shows (flatOf m) t tx (versions t k (pagesIn (flatOf m))) l
     spot-shown e = table-shown (e ∙ notes-covered (flatOf m) tx blank (place-covers (flatOf m) k (r .start) (r .end) (g .order) q))
 

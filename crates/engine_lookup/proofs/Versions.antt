@@ -1,8 +1,8 @@
 -- The rows noted one after another show the versions of a key among them.
-use Rattle.basics.proofs.Kit.{_≡_, refl, sym, ap, _∙_, true, false, _&&_, not, List, [], _∷_, _++_, append-assoc, append-nil, ℕ, suc, _+_, _≤_, _<_, zero, eqb, length}
-use Rattle.basics.proofs.Kit.{eq-eqb, ne-eqb, arith}
+use Rattle.basics.proofs.Kit.{_≡_, refl, sym, ap, _∙_, true, false, _&&_, not, List, [], _∷_, _++_, append-assoc, append-nil, ℕ, suc, _+_, _≤_, _<_, zero, eqb, length, eq-eqb, ne-eqb, arith}
 use Rattle.basics.specs.Basics.{if_then_else_, any, first, last, isEmpty, keep}
 use Rattle.basics.proofs.Facts.{by}
+use Rattle.basics.proofs.Firsts.{first-some}
 use Rattle.block_forms.specs.Tuple.{Tuple, Owner, committed, tentative, isTentative}
 use Rattle.image_rows.specs.Rows.{Row, rowsOf, isBy, isOwn, isAt}
 use Rattle.model.specs.State.{Held}
@@ -11,11 +11,11 @@ use Rattle.model.specs.Sight.{isForeign}
 use Rattle.model.proofs.Rows.{applied-is}
 use Rattle.basics.proofs.Elements.{keep-cons, keep-past}
 use Rattle.basics.specs.Lists.{tab}
-use Rattle.basics.proofs.Lasts.{any-last-no, any-last-yes, last-new, last-old, first-old, first-new, first-stays, filled-last}
+use Rattle.basics.proofs.Lasts.{any-last-no, any-last-yes, last-new, last-old, first-old, first-new, filled-last}
 use Rattle.memory_layout.specs.Flat.{Flat, rowIn}
 use Rattle.engine_lookup.specs.Lookup.{isCommitted, version, versionAt, Shows, blank, noteCommitted, noteTentative, noteOwner, note, notes}
 use Rattle.engine_lookup.specs.declared.Visibility.{Visibility}
-use Rattle.engine_lookup.proofs.Iterations.{notes-on, notes-here}
+use Rattle.engine_lookup.proofs.Iterations.{along, notes-on, notes-here}
 
 -- ---- one version more
 
@@ -36,7 +36,7 @@ committed-place : (f : Flat) (t i h : ℕ) (vs : List Row) → isCommitted (vers
     → versionAt f t (if eqb h 0 then suc i else h) ≡ first isCommitted (vs ++ version f t i ∷ [])
 unfolding versionAt if_then_else_
 committed-place f t i zero vs e q = sym (first-new isCommitted (version f t i) e vs (sym q))
-committed-place f t i (suc h) vs e q = rw (ne-eqb (suc h) 0 (λ z. omega arith)) (sym (first-stays isCommitted (version f t i) vs (version f t h) (sym q)))
+committed-place f t i (suc h) vs e q = rw (ne-eqb (suc h) 0 (λ z. omega arith)) (sym (first-some isCommitted vs (version f t i ∷ []) (version f t h) (sym q)))
 
 committed-inside : (i h n : ℕ) → i < n → h ≤ n → (if eqb h 0 then suc i else h) ≤ n
 unfolding if_then_else_
@@ -121,7 +121,7 @@ unfolding version
 version-is f t i = refl
 
 pub shows-run : (f : Flat) (t tx k n i : ℕ) (vs : List Row) (l : Visibility) → i + n ≤ length (f .rows) → Shows f t tx vs l
-    → Shows f t tx (vs ++ versionsOn t k (tab (rowIn f) i n)) (notes tx k i (tab (rowIn f) i n) l)
+    → Shows f t tx (vs ++ versionsOn t k (tab (rowIn f) i n)) (along f tx k i n l)
 unfolding notes live rowsOf keep
 shows-run f t tx k zero i vs l b s = shows-same f t tx vs _ l l (append-nil vs) refl s
 shows-run f t tx k (suc n) i vs l b s =
@@ -148,5 +148,5 @@ unfolding any isEmpty last first versionAt
 shows-none f t tx = record { others = refl; there = refl; last-own = refl; first-committed = refl; own-in = omega arith; committed-in = omega arith }
 
 pub shows-rows : (f : Flat) (t tx k n i : ℕ) → i + n ≤ length (f .rows)
-    → Shows f t tx (versionsOn t k (tab (rowIn f) i n)) (notes tx k i (tab (rowIn f) i n) blank)
+    → Shows f t tx (versionsOn t k (tab (rowIn f) i n)) (along f tx k i n blank)
 shows-rows f t tx k n i h = shows-run f t tx k n i [] blank h (shows-none f t tx)

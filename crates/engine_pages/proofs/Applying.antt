@@ -4,22 +4,22 @@ use Rattle.basics.proofs.Kit.{set, length-append, length-drop, take-append-drop
 use Rattle.basics.proofs.Kit.{set-getD, set-set, getD-append-seam, arith}
 use Rattle.basics.specs.Basics.{if_then_else_, sum}
 use Rattle.basics.proofs.Facts.{by}
-use Rattle.model.specs.State.{nothing, Held, Page}
-use Rattle.model.specs.Rules.{isRemoving, isCommitting, withPending, withoutPending, applied, live, fresh}
+use Rattle.model.specs.State.{nothing, Held}
+use Rattle.model.specs.Rules.{isRemoving, isCommitting, withPending, withoutPending, applied, live}
 use Rattle.basics.specs.Lists.{removeAt}
 use Rattle.memory_layout.specs.Flat.{Flat, flatOf, entryIn, rowIn, noRow, noEntry, Room, Becomes, withRows, withEntries}
 use Rattle.memory_layout.specs.Store.{nest, total, pageOf, pageIn}
 use Rattle.memory_layout.specs.declared.Entry.{Entry}
 use Rattle.memory_layout.proofs.Laws.{becomes-then}
-use Rattle.memory_layout.proofs.Exchange.{counted-set, counted-exchange, for-page, page-set}
-use Rattle.memory_rows.specs.Rows.{committedRow}
-use Rattle.memory_pages.specs.Pages.{dirty, withBlock, withCount, fewerRows, MayLose}
-use Rattle.engine_pages.specs.Pages.{PagesNow, pagesOf, pageAt, tuplesAt, entryOf, firstRow, There, swapped}
+use Rattle.memory_layout.proofs.Exchange.{for-page, page-set}
+use Rattle.memory_rows.specs.Rows.{committedRow, withRow}
+use Rattle.memory_pages.specs.Pages.{dirty, withCount, fewerRows, MayLose, EntriesBecome, RowsBecome, setBlock}
+use Rattle.engine_pages.specs.Pages.{PagesNow, pagesOf, tuplesAt, entryOf, firstRow, There, swapped}
 use Rattle.engine_pages.specs.Pending.{applyPending, appliedAll, AppliesOne, Applies, Applied}
-use Rattle.engine_pages.proofs.Places.{now-becomes, counted, full, room, page-end, pos-of, still-there}
-use Rattle.engine_pages.proofs.Rows.{page-fresh}
-use Rattle.engine_pages.proofs.Removing.{becomes-to}
-use Rattle.basics.proofs.Parts.{remove-set}
+use Rattle.engine_pages.proofs.Places.{full, room, page-end, still-there}
+use Rattle.basics.proofs.Numbers.{pos-of}
+use Rattle.basics.proofs.Elements.{length-zero}
+use Rattle.engine_pages.proofs.Rows.{now-dirty, now-dropped}
 
 -- ---- tuples
 
@@ -56,28 +56,28 @@ kept-other h e = rw e
 
 module _ (m : List ℕ) (i : ℕ) where
   -- a row committed is still there
-  pub still-row : i < length (flatOf m .rows) → {m1 : List ℕ} → Becomes m m1 (withRows (flatOf m) (set (flatOf m .rows) i (committedRow (rowIn (flatOf m) i)))) → i < length (flatOf m1 .rows)
+  pub still-row : i < length (flatOf m .rows) → {m1 : List ℕ} → Becomes m m1 (withRow (flatOf m) i (committedRow (rowIn (flatOf m) i))) → i < length (flatOf m1 .rows)
   still-row lt u = omega (arith, ap (λ (f : Flat). length (f .rows)) (u .flat), length-set (flatOf m .rows) i (committedRow (rowIn (flatOf m) i)))
 
   pub kept-both : i < length (flatOf m .rows) → {m1 m2 : List ℕ} → isCommitting (rowIn (flatOf m) i .pending) ≡ true
-      → Becomes m m1 (withRows (flatOf m) (set (flatOf m .rows) i (committedRow (rowIn (flatOf m) i))))
-      → Becomes m1 m2 (withRows (flatOf m1) (set (flatOf m1 .rows) i (withPending nothing (rowIn (flatOf m1) i))))
-      → Becomes m m2 (withRows (flatOf m) (set (flatOf m .rows) i (withoutPending (applied (rowIn (flatOf m) i)))))
+      → Becomes m m1 (withRow (flatOf m) i (committedRow (rowIn (flatOf m) i)))
+      → Becomes m1 m2 (withRow (flatOf m1) i (withPending nothing (rowIn (flatOf m1) i)))
+      → Becomes m m2 (withRow (flatOf m) i (withoutPending (applied (rowIn (flatOf m) i))))
   kept-both lt {m1} {m2} e u v =
       let rs : List Held = flatOf m .rows in
       let h : Held = rowIn (flatOf m) i in
       let es : set (set rs i (committedRow h)) i (withPending nothing (getD (set rs i (committedRow h)) i noRow)) ≡ set rs i (withoutPending (applied h)) =
       set-set rs i (committedRow h) _ ∙ ap (λ (z : Held). set rs i (withPending nothing z)) (getD-set-same rs i (committedRow h) noRow lt) ∙ ap (set rs i) (kept-committing h e) in
       subst (λ (z : List Held). Becomes m m2 (withRows (flatOf m) z)) es
-      (becomes-then m m1 m2 _ (λ (y : Flat). withRows y (set (y .rows) i (withPending nothing (rowIn y i)))) u v)
+      (becomes-then m m1 m2 _ (λ (y : Flat). withRow y i (withPending nothing (rowIn y i))) u v)
 
-  pub kept-one : {m' : List ℕ} → isCommitting (rowIn (flatOf m) i .pending) ≡ false → Becomes m m' (withRows (flatOf m) (set (flatOf m .rows) i (withPending nothing (rowIn (flatOf m) i))))
-      → Becomes m m' (withRows (flatOf m) (set (flatOf m .rows) i (withoutPending (applied (rowIn (flatOf m) i)))))
-  kept-one {m'} e u = subst (λ (z : Held). Becomes m m' (withRows (flatOf m) (set (flatOf m .rows) i z))) (kept-other (rowIn (flatOf m) i) e) u
+  pub kept-one : {m' : List ℕ} → isCommitting (rowIn (flatOf m) i .pending) ≡ false → Becomes m m' (withRow (flatOf m) i (withPending nothing (rowIn (flatOf m) i)))
+      → Becomes m m' (withRow (flatOf m) i (withoutPending (applied (rowIn (flatOf m) i))))
+  kept-one {m'} e u = subst (λ (z : Held). Becomes m m' (withRow (flatOf m) i z)) (kept-other (rowIn (flatOf m) i) e) u
 
 module _ {m m' : List ℕ} {p i : ℕ} (g : Room m × MayLose (flatOf m) p i) where
   pub row-removed : isRemoving (rowIn (flatOf m) i .pending) ≡ true
-      → Becomes m m' (withEntries (withRows (flatOf m) (removeAt i (flatOf m .rows))) (fewerRows p (flatOf m .entries))) → AppliesOne m m' p i 0
+      → RowsBecome m m' (removeAt i) (fewerRows p) → AppliesOne m m' p i 0
   row-removed e u =
       let a : applyPending (rowIn (flatOf m) i) ≡ [] = applied-removed (rowIn (flatOf m) i) e in
       let z : entryOf m p .count - 1 ≡ entryOf m p .count - 1 + 0 = omega arith in
@@ -89,7 +89,7 @@ module _ {m m' : List ℕ} {p i : ℕ} (g : Room m × MayLose (flatOf m) p i) wh
             (sym a) u);
       }
 
-  pub row-kept : isRemoving (rowIn (flatOf m) i .pending) ≡ false → Becomes m m' (withRows (flatOf m) (set (flatOf m .rows) i (withoutPending (applied (rowIn (flatOf m) i))))) → AppliesOne m m' p i 1
+  pub row-kept : isRemoving (rowIn (flatOf m) i .pending) ≡ false → Becomes m m' (withRow (flatOf m) i (withoutPending (applied (rowIn (flatOf m) i)))) → AppliesOne m m' p i 1
   row-kept e u =
       let es : List Entry = flatOf m .entries in
       let rs : List Held = flatOf m .rows in
@@ -228,8 +228,7 @@ module _ {m : List ℕ} {p : ℕ} (a : There m p) where
         (λ j. tk j ++ (oc j ++ dr j))
         ∙ append-assoc A B (y ++ D)
         ∙ ap (λ (z : List Held). A ++ z) (sym (append-assoc B y D))
-        ∙ ap (λ (z : List Held). A ++ (z ++ D)) (sym take-more)
-        ∙ ap (λ (z : ℕ). A ++ (appliedAll (take (n - (left - 1)) (drop s rs)) ++ drop z rs)) sd in
+        ∙ (λ j. A ++ (sym take-more j ++ drop (sd j) rs)) in
         let il : s ≤ i = omega (arith, inv .place) in
         let c : i - s + left - 1 + r ≡ i + r - s + (left - 1) = omega arith in
         let old : Entry = withCount (entryOf m p) (i - s + left) in
@@ -274,33 +273,17 @@ module _ {m : List ℕ} {p : ℕ} (a : There m p) where
     pub left-empty : r ≡ 0 → entryOf m1 p .count ≡ 0
     left-empty z = ap (λ (f : Flat). entryIn f p .count) (o .becomes .flat) ∙ ap (λ (e : Entry). e .count) (getD-set-same (flatOf m .entries) p less noEntry (a .inside)) ∙ z
 
-    nil : (xs : List Held) → length xs ≡ 0 → xs ≡ []
-    nil [] e = refl
-    nil (y ∷ ys) e = absurd (omega arith)
-
-    pub left-none : {m2 : List ℕ} → r ≡ 0 → Becomes m1 m2 (withEntries (flatOf m1) (removeAt p (flatOf m1 .entries))) → Applied m m2 p 0
+    pub left-none : {m2 : List ℕ} → r ≡ 0 → EntriesBecome m1 m2 (removeAt p) → Applied m m2 p 0
     unfolding swapped nest total sum
     left-none {m2} z v =
         let rs : List Held = flatOf m .rows in
-        let R : List Held = take (firstRow m p) rs ++ (hs ++ drop (firstRow m p + entryOf m p .count) rs) in
         let t : PagesNow m m2 (swapped p [] (pagesOf m)) =
-        now-becomes (becomes-to (withRows (flatOf m) R) (becomes-then m m1 m2 _ (λ (y : Flat). withEntries y (removeAt p (y .entries))) (o .becomes) v) (remove-set (flatOf m .entries) p less))
-        (counted-exchange (flatOf m .entries) [] p 1 (counted m (a .has-store)) tt)
-        (ap (λ (ws : List Held). nest (removeAt p (flatOf m .entries)) (take (firstRow m p) rs ++ (ws ++ drop (firstRow m p + entryOf m p .count) rs))) (nil hs (sym (o .count) ∙ z))
+        now-dropped a r (o .becomes) v
+        (ap (λ (ws : List Held). nest (removeAt p (flatOf m .entries)) (take (firstRow m p) rs ++ (ws ++ drop (firstRow m p + entryOf m p .count) rs))) (length-zero hs (sym (o .count) ∙ z))
         ∙ for-page (flatOf m) (full a) p (a .inside) [] [] refl) in
         subst (λ (k : ℕ). Applied m m2 p k) z (record { count = o .count; none-left = λ q. t; some-left = λ q. absurd (q z) })
 
-    pub left-some : {m2 : List ℕ} → (r ≡ 0 → ⊥) → Becomes m1 m2 (withEntries (flatOf m1) (set (flatOf m1 .entries) p (withBlock (entryOf m1 p) 0 false))) → Applied m m2 p r
-    unfolding swapped
-    left-some {m2} nz v =
-        let rs : List Held = flatOf m .rows in
-        let R : List Held = take (firstRow m p) rs ++ (hs ++ drop (firstRow m p + entryOf m p .count) rs) in
-        let e : Entry = dirty (entryOf m p .table) r in
-        let es : set (set (flatOf m .entries) p less) p (withBlock (getD (set (flatOf m .entries) p less) p noEntry) 0 false) ≡ set (flatOf m .entries) p e =
-        set-set (flatOf m .entries) p less _ ∙ ap (λ (y : Entry). set (flatOf m .entries) p (withBlock y 0 false)) (getD-set-same (flatOf m .entries) p less noEntry (a .inside)) in
-        let t : PagesNow m m2 (swapped p (fresh (pageAt m p .table) hs ∷ []) (pagesOf m)) =
-        now-becomes (becomes-to (withRows (flatOf m) R) (becomes-then m m1 m2 _ (λ (y : Flat). withEntries y (set (y .entries) p (withBlock (entryIn y p) 0 false))) (o .becomes) v) es)
-        (counted-set (flatOf m .entries) p e (counted m (a .has-store)) (pos-of r nz))
-        (page-set (flatOf m) (full a) p (a .inside) e hs R (o .count) refl
-        ∙ ap (λ (z : Page). take p (pagesOf m) ++ z ∷ drop (suc p) (pagesOf m)) (page-fresh m p r hs)) in
+    pub left-some : {m2 : List ℕ} → (r ≡ 0 → ⊥) → EntriesBecome m1 m2 (setBlock p 0 false) → Applied m m2 p r
+    left-some nz v =
+        let t = now-dirty a r hs (o .becomes) v (pos-of r nz) (page-set (flatOf m) (full a) p (a .inside) (dirty (entryOf m p .table) r) hs _ (o .count) refl) in
         record { count = o .count; none-left = λ q. absurd (nz q); some-left = λ q. t }

@@ -1,5 +1,5 @@
 -- The model's walk to the first page that passes a test, by place; pages joined there.
-use Rattle.basics.proofs.Kit.{_≡_, refl, sym, ap, _∙_, subst, Bool, true, false, cond, some, none, Option, List, [], _∷_, _++_, append-nil, ℕ, suc, _+_, _≤_, _<_, zero, add-one, length}
+use Rattle.basics.proofs.Kit.{_≡_, refl, sym, ap, _∙_, subst, Bool, true, false, some, none, Option, List, [], _∷_, _++_, append-nil, ℕ, suc, _+_, _≤_, _<_, zero, add-one, length}
 use Rattle.basics.proofs.Kit.{take, drop, drop-of-length-le, drop-nil, arith}
 use Rattle.basics.specs.Basics.{if_then_else_, isEmpty}
 use Rattle.basics.proofs.Facts.{by}

@@ -5,10 +5,10 @@ use Rattle.model.specs.State.{committing, Held, Page}
 use Rattle.model.specs.Rules.{isAdding, isRemoving, commitNow, pendCommit, withPending, withTuples, fresh}
 use Rattle.model.specs.Places.{editAt, committedAt, commitRowOn, commitRow}
 use Rattle.model.proofs.Flat.{edit-one}
-use Rattle.memory_layout.specs.Flat.{flatOf, rowIn, noRow, Becomes, withRows, withEntries}
-use Rattle.memory_rows.specs.Rows.{committedRow}
-use Rattle.memory_pages.specs.Pages.{withBlock}
-use Rattle.engine_pages.specs.Pages.{PagesNow, pagesOf, pageAt, tuplesAt, entryOf, firstRow, RowOn, swapped}
+use Rattle.memory_layout.specs.Flat.{flatOf, rowIn, noRow, Becomes}
+use Rattle.memory_rows.specs.Rows.{committedRow, withRow}
+use Rattle.memory_pages.specs.Pages.{EntriesBecome, setBlock}
+use Rattle.engine_pages.specs.Pages.{PagesNow, pagesOf, pageAt, tuplesAt, firstRow, RowOn, swapped}
 use Rattle.engine_pages.proofs.Places.{now-to, now-stay, swap-same, tuple-is}
 use Rattle.engine_pages.proofs.Around.{on-swap}
 use Rattle.engine_pages.proofs.Rows.{at-row, row-now, row-dirty}
@@ -76,17 +76,17 @@ module _ {m : List ℕ} {p i : ℕ} (g : RowOn m p i) where
         (ap (set hs j) (sym (tuple-is g)) ∙ set-getD hs j noRow) ∙ ap (λ (z : Page). swapped p (z ∷ []) (pagesOf m)) (with-same (pageAt m p)) ∙ swap-same (g .there))))
 
     pub commit-adding : isAdding (rowIn (flatOf m) i .pending) ≡ true → {m' : List ℕ}
-        → Becomes m m' (withRows (flatOf m) (set (flatOf m .rows) i (committedRow (rowIn (flatOf m) i))))
+        → Becomes m m' (withRow (flatOf m) i (committedRow (rowIn (flatOf m) i)))
         → PagesNow m m' (swapped p (committedAt (i - firstRow m p) (pageAt m p) ∷ []) (pagesOf m))
     commit-adding ea u = noted (committedRow h) (later-adding h ea) (row-now g (committedRow h) u)
 
     pub commit-noted : isAdding (rowIn (flatOf m) i .pending) ≡ false → isRemoving (rowIn (flatOf m) i .pending) ≡ false → {m' : List ℕ}
-        → Becomes m m' (withRows (flatOf m) (set (flatOf m .rows) i (withPending committing (rowIn (flatOf m) i))))
+        → Becomes m m' (withRow (flatOf m) i (withPending committing (rowIn (flatOf m) i)))
         → PagesNow m m' (swapped p (committedAt (i - firstRow m p) (pageAt m p) ∷ []) (pagesOf m))
     commit-noted ea er u = noted (withPending committing h) (later-noted h ea er) (row-now g (withPending committing h) u)
 
-  pub commit-now : pageAt m p .frozen ≡ false → {m1 m2 : List ℕ} → Becomes m m1 (withRows (flatOf m) (set (flatOf m .rows) i (committedRow (rowIn (flatOf m) i))))
-      → Becomes m1 m2 (withEntries (flatOf m1) (set (flatOf m1 .entries) p (withBlock (entryOf m1 p) 0 false)))
+  pub commit-now : pageAt m p .frozen ≡ false → {m1 m2 : List ℕ} → Becomes m m1 (withRow (flatOf m) i (committedRow (rowIn (flatOf m) i)))
+      → EntriesBecome m1 m2 (setBlock p 0 false)
       → PagesNow m m2 (swapped p (committedAt (i - firstRow m p) (pageAt m p) ∷ []) (pagesOf m))
   commit-now fz u v =
       now-to (row-dirty g (committedRow h) u v) (ap (λ (z : Page). swapped p (z ∷ []) (pagesOf m))

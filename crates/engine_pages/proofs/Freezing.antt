@@ -1,31 +1,25 @@
 -- Freezing, page by page.
-use Rattle.basics.proofs.Kit.{_≡_, sym, ap, _∙_, true, List, [], _∷_, _++_, append-assoc, append-nil, map, ℕ, suc, _+_, _≤_, _<_, zero, add-one, eqb, length, take, drop, set}
+use Rattle.basics.proofs.Kit.{_≡_, sym, ap, _∙_, true, List, [], _∷_, _++_, append-assoc, append-nil, map, ℕ, suc, _+_, _≤_, _<_, add-one, eqb, length, take, drop}
 use Rattle.basics.proofs.Kit.{drop-of-length-le, length-map, take-all, arith}
 use Rattle.basics.proofs.Lists.{map-append}
 use Rattle.model.specs.State.{Page}
 use Rattle.model.specs.Rules.{isDirty, freeze}
-use Rattle.memory_layout.specs.Flat.{flatOf, Becomes, withEntries}
+use Rattle.memory_layout.specs.Flat.{flatOf}
 use Rattle.memory_layout.specs.Store.{pageOf, pageIn, holdsStore}
 use Rattle.memory_layout.proofs.Exchange.{pages-count}
-use Rattle.memory_pages.specs.Pages.{withBlock}
+use Rattle.memory_pages.specs.Pages.{EntriesBecome, setBlock}
 use Rattle.engine_pages.specs.Pages.{PagesNow, pagesOf, pageAt, tuplesAt, entryOf, There, swapped}
 use Rattle.engine_pages.proofs.Places.{now-to, now-stay, now-then, now-pages, now-held, from-page, before-long, there-here, page-here, swap-at}
-use Rattle.basics.proofs.Parts.{cons-head}
+use Rattle.basics.proofs.Parts.{take-snoc}
 use Rattle.engine_pages.proofs.Rows.{page-now}
 
 -- the page is frozen where its block is 0
 pub frozen-now : {m m' : List ℕ} {p : ℕ} → There m p → (b : ℕ) → b ≡ entryOf m p .block
-    → Becomes m m' (withEntries (flatOf m) (set (flatOf m .entries) p (withBlock (entryOf m p) b (eqb b 0)))) → PagesNow m m' (swapped p (freeze (pageAt m p) ∷ []) (pagesOf m))
+    → EntriesBecome m m' (setBlock p b (eqb b 0)) → PagesNow m m' (swapped p (freeze (pageAt m p) ∷ []) (pagesOf m))
 unfolding pageOf pageIn freeze isDirty
 frozen-now {m} {m'} {p} a b eb u =
     now-to (page-now a b (eqb b 0) u)
     (ap (λ (z : ℕ). swapped p (record { table = entryOf m p .table; block = z; frozen = eqb z 0; tuples = tuplesAt m p } ∷ []) (pagesOf m)) eb)
-
-pub take-snoc : (ps : List Page) (p : ℕ) (q : Page) → drop p ps ≡ q ∷ drop (suc p) ps → take (suc p) ps ≡ take p ps ++ q ∷ []
-take-snoc [] zero q e = absurd (let l = ap length e in omega arith)
-take-snoc [] (suc p) q e = absurd (let l = ap length e in omega arith)
-take-snoc (r ∷ rs) zero q e = ap (λ (z : Page). z ∷ []) (cons-head r q _ _ e)
-take-snoc (r ∷ rs) (suc p) q e = ap (λ (z : List Page). r ∷ z) (take-snoc rs p q e)
 
 -- the first p pages are frozen
 abbrev pub FreezeInv : List ℕ → List ℕ → ℕ → Type 0

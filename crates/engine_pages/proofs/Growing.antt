@@ -1,12 +1,12 @@
 -- A row goes on a page, or on a new page.
 use Rattle.basics.proofs.Kit.{_≡_, refl, sym, ap, _∙_, subst, true, false, List, [], _∷_, _++_, map, ℕ, suc, _+_, _*_, _<_, _-_, length, take, drop, getD, set, length-set, length-take-le}
-use Rattle.basics.proofs.Kit.{getD-append-seam, getD-set-same, set-at, set-set, arith}
+use Rattle.basics.proofs.Kit.{getD-append-seam, set-at, arith}
 use Rattle.basics.specs.Basics.{if_then_else_}
 use Rattle.block_forms.specs.Tuple.{Tuple}
 use Rattle.model.specs.State.{adding, Held, Page}
 use Rattle.model.specs.Rules.{splitOnce, fresh, withoutPending, grown, entering, withPending, withTuples}
 use Rattle.basics.specs.Lists.{insertAt}
-use Rattle.memory_layout.specs.Flat.{Flat, flatOf, entryIn, rowIn, noRow, noEntry, Becomes, withRows, withEntries}
+use Rattle.memory_layout.specs.Flat.{Flat, flatOf, rowIn, noRow, noEntry, Becomes, withRows, withEntries}
 use Rattle.memory_layout.specs.Views.{headOf}
 use Rattle.memory_layout.specs.Store.{nest, total}
 use Rattle.memory_layout.specs.declared.Entry.{Entry}
@@ -14,17 +14,17 @@ use Rattle.memory_layout.proofs.Laws.{holds-room, filled, becomes-then}
 use Rattle.memory_layout.proofs.Nest.{Counted, counted-length}
 use Rattle.memory_layout.proofs.Exchange.{start-le, counted-set, counted-exchange, row-inserted, page-added}
 use Rattle.basics.proofs.Parts.{length-insert}
-use Rattle.memory_rows.specs.Rows.{heldBy, pendingIs, NewRow}
+use Rattle.memory_rows.specs.Rows.{heldBy, pendingIs, NewRow, withRow}
 use Rattle.memory_rows.specs.declared.Pending.{Pending}
 use Rattle.memory_rows.specs.declared.Row.{Row}
-use Rattle.memory_pages.specs.Pages.{dirty, withBlock, withCount, moreRows}
+use Rattle.memory_pages.specs.Pages.{dirty, withCount, moreRows, EntriesBecome, RowsBecome, setBlock}
 use Rattle.engine_pages.specs.Pages.{PagesNow, pagesOf, pageAt, tuplesAt, entryOf, firstRow, There, swapped}
 use Rattle.engine_pages.specs.Changes.{Dirty, Halved}
 use Rattle.engine_pages.specs.Spots.{tupleBy, placedOn, NewTuple, GrowAt, AddAt}
 use Rattle.engine_pages.proofs.Places.{now-to, now-again, now-becomes, counted, full, page-end, first-there, first-page, still-there}
-use Rattle.engine_pages.proofs.Rows.{page-fresh}
+use Rattle.engine_pages.proofs.Rows.{becomes-to, now-dirty}
 use Rattle.engine_pages.proofs.Splitting.{dirty-fresh, fresh-page}
-use Rattle.engine_pages.proofs.Removing.{becomes-to, page-less}
+use Rattle.engine_pages.proofs.Removing.{page-less}
 
 grown-frozen : (q : Page) (x : Tuple) (j : ℕ) → q .frozen ≡ true
     → placedOn x j q ≡ withTuples q (insertAt j (record { tuple = x; pending = adding }) (q .tuples)) ∷ []
@@ -75,7 +75,7 @@ module _ {m : List ℕ} {p at : ℕ} {row : Row} {xs : List ℕ} (g : GrowAt m p
 
     -- a pending add
     pub grew-frozen : pageAt m p .frozen ≡ true → {m2 : List ℕ}
-        → Becomes m1 m2 (withRows (flatOf m1) (set (flatOf m1 .rows) at (withPending adding (rowIn (flatOf m1) at))))
+        → Becomes m1 m2 (withRow (flatOf m1) at (withPending adding (rowIn (flatOf m1) at)))
         → PagesNow m m2 (swapped p (placedOn (tupleBy row xs) (at - firstRow m p) (pageAt m p)) (pagesOf m))
     unfolding swapped withPending
     grew-frozen e {m2} v =
@@ -89,29 +89,23 @@ module _ {m : List ℕ} {p at : ℕ} {row : Row} {xs : List ℕ} (g : GrowAt m p
         ap (λ (y : Held). set (insertAt at old rs) at (withPending adding y)) gd ∙ set-at (take at rs) old (drop at rs) h at la in
         let w : Becomes m m2 (after h) =
         subst (λ (z : List Held). Becomes m m2 (withEntries (withRows (flatOf m) z) (moreRows p (flatOf m .entries)))) er
-        (becomes-then m m1 m2 _ (λ (y : Flat). withRows y (set (y .rows) at (withPending adding (rowIn y at)))) u v) in
+        (becomes-then m m1 m2 _ (λ (y : Flat). withRow y at (withPending adding (rowIn y at))) u v) in
         now-to (now-becomes w (counted-set (flatOf m .entries) p more (counted m (g .tuple .has-store)) (omega arith))
         (row-inserted (flatOf m) (full grow-there) p (g .inside) at (g .least) more h (g .most) refl
         ∙ ap (λ (z : Page). take p (pagesOf m) ++ z ∷ drop (suc p) (pagesOf m)) (page-less m p _ _)))
         (ap (λ (z : List Page). swapped p z (pagesOf m)) (sym (grown-frozen (pageAt m p) x j e)))
 
-    module _ {m2 : List ℕ} (v : Becomes m1 m2 (withEntries (flatOf m1) (set (flatOf m1 .entries) p (withBlock (entryOf m1 p) 0 false)))) where
+    module _ {m2 : List ℕ} (v : EntriesBecome m1 m2 (setBlock p 0 false)) where
       abbrev new : Page
       new = fresh (pageAt m p .table) (insertAt (at - firstRow m p) (withoutPending (tupleBy row xs)) (tuplesAt m p))
 
       came : PagesNow m m2 (swapped p (new ∷ []) (pagesOf m))
-      unfolding swapped
       came =
           let h : Held = heldBy row xs in
-          let e : Entry = dirty (entryOf m p .table) (entryOf m p .count + 1) in
-          let es : set (set (flatOf m .entries) p more) p (withBlock (getD (set (flatOf m .entries) p more) p noEntry) 0 false) ≡ set (flatOf m .entries) p e =
-          set-set (flatOf m .entries) p more _ ∙ ap (λ (y : Entry). set (flatOf m .entries) p (withBlock y 0 false)) (getD-set-same (flatOf m .entries) p more noEntry (g .inside)) in
-          now-becomes (becomes-to (withRows (flatOf m) (insertAt at h (flatOf m .rows)))
-          (becomes-then m m1 m2 _ (λ (y : Flat). withEntries y (set (y .entries) p (withBlock (entryIn y p) 0 false))) u v) es)
-          (counted-set (flatOf m .entries) p e (counted m (g .tuple .has-store)) (omega arith))
-          (row-inserted (flatOf m) (full grow-there) p (g .inside) at (g .least) e h (g .most) refl
-          ∙ ap (λ (z : Page). take p (pagesOf m) ++ z ∷ drop (suc p) (pagesOf m))
-          (page-fresh m p _ _ ∙ ap (λ (z : Held). fresh (pageAt m p .table) (insertAt j z (tuplesAt m p))) (held-withoutPending (g .tuple))))
+          let n : ℕ = entryOf m p .count + 1 in
+          now-to (now-dirty grow-there n (insertAt j h (tuplesAt m p)) u v (omega arith)
+          (row-inserted (flatOf m) (full grow-there) p (g .inside) at (g .least) (dirty (entryOf m p .table) n) h (g .most) refl))
+          (ap (λ (z : Held). swapped p (fresh (pageAt m p .table) (insertAt j z (tuplesAt m p)) ∷ []) (pagesOf m)) (held-withoutPending (g .tuple)))
 
       pub grew-there : There m2 p
       grew-there = first-there grow-there new [] came
@@ -160,7 +154,7 @@ module _ {m : List ℕ} {t p : ℕ} {row : Row} {xs : List ℕ} (g : AddAt m t p
         }
 
     pub added : {at : ℕ} → at ≡ firstRow m p → {m2 : List ℕ}
-        → Becomes m1 m2 (withEntries (withRows (flatOf m1) (insertAt at (heldBy row xs) (flatOf m1 .rows))) (moreRows p (flatOf m1 .entries)))
+        → RowsBecome m1 m2 (insertAt at (heldBy row xs)) (moreRows p)
         → PagesNow m m2 (take p (pagesOf m) ++ fresh t (withoutPending (tupleBy row xs) ∷ []) ∷ drop p (pagesOf m))
     added {at} ea {m2} v =
         let es : List Entry = flatOf m .entries in

@@ -8,22 +8,18 @@ use Rattle.model.specs.State.{Held, Page}
 use Rattle.model.specs.Rules.{heldSize, joins, joined, fresh, settle, settleFull}
 use Rattle.model.specs.Places.{onPage}
 use Rattle.model.proofs.RuleCases.{joinable}
-use Rattle.basics.proofs.Elements.{nonempty, sum-append}
-use Rattle.memory_layout.specs.Flat.{flatOf, Room, Becomes, withEntries}
+use Rattle.basics.proofs.Elements.{nonempty, sum-append, length-zero}
+use Rattle.memory_layout.specs.Flat.{flatOf, Room}
 use Rattle.memory_layout.proofs.Exchange.{counted-exchange, pages-joined}
-use Rattle.memory_pages.specs.Pages.{dirty, joinEntries, MayJoin}
+use Rattle.memory_pages.specs.Pages.{dirty, joinEntries, MayJoin, EntriesBecome}
 use Rattle.engine_pages.specs.Pages.{PagesNow, pagesOf, pageAt, tuplesAt, entryOf, firstRow, There, swapped}
 use Rattle.memory_layout.specs.Elements.{rowsFrom, RowRange}
 use Rattle.engine_pages.specs.Changes.{Tries, settledAt, settledNext, settledBy}
 use Rattle.engine_pages.proofs.Places.{now-becomes, counted, full, has-row, now-to, now-stay, now-pages, swap-same}
-use Rattle.engine_pages.proofs.Places.{from-page, ends-at, page-end, room, pos-of, tuples-are, page-table, page-frozen}
+use Rattle.engine_pages.proofs.Places.{from-page, ends-at, page-end, room, tuples-are, page-table, page-frozen}
+use Rattle.basics.proofs.Numbers.{pos-of}
 use Rattle.engine_pages.proofs.Rows.{page-fresh}
 use Rattle.engine_pages.proofs.Around.{on-swap, on-changed, settle-full, settle-empty, before-none, before-joins, before-apart}
-
-pub empty-none : (xs : List Held) → length xs ≡ 0 → isEmpty xs ≡ true
-unfolding isEmpty
-empty-none [] e = refl
-empty-none (x ∷ xs) e = absurd (omega arith)
 
 module _ (p q : Page) where
   pub joins-frozen : p .frozen ≡ true → joins p q ≡ false
@@ -75,8 +71,7 @@ module _ {m : List ℕ} {p : ℕ} (a : There m p) (lt : p + 1 < length (flatOf m
       ap (λ (z : ℕ). sum heldSize (take z (drop s rs))) n
       ∙ ap (sum heldSize) (take-add x y (drop s rs) ∙ ap (λ (z : List Held). take x (drop s rs) ++ take y z) (drop-drop x s rs ∙ ap (λ (z : ℕ). drop z rs) sx))
       ∙ sum-append heldSize (take x (drop s rs)) (take y (drop f1 rs))
-      ∙ ap (λ (z : List Held). sum heldSize z + sum heldSize (take y (drop f1 rs))) (ap (λ (z : ℕ). take z (drop s rs)) (sym nu) ∙ u)
-      ∙ ap (λ (z : List Held). sum heldSize (tuplesAt m p) + sum heldSize z) (ap (λ (z : ℕ). take z (drop f1 rs)) (sym nv) ∙ v)
+      ∙ (λ i. sum heldSize ((ap (λ (z : ℕ). take z (drop s rs)) (sym nu) ∙ u) i) + sum heldSize ((ap (λ (z : ℕ). take z (drop f1 rs)) (sym nv) ∙ v) i))
 
   -- ---- by what was read
 
@@ -107,7 +102,7 @@ module _ {m : List ℕ} {p : ℕ} (a : There m p) (lt : p + 1 < length (flatOf m
   pub may-join : Room m × MayJoin (flatOf m) p
   may-join = (room a, record { place = lt; table = sym (page-table (next-at a lt)) ∙ sym (joinable _ _ j .table) ∙ page-table a })
 
-  pub joined-now : {m' : List ℕ} → Becomes m m' (withEntries (flatOf m) (joinEntries p (flatOf m .entries)))
+  pub joined-now : {m' : List ℕ} → EntriesBecome m m' (joinEntries p)
       → PagesNow m m' (take p (pagesOf m) ++ joined (pageAt m p) (pageAt m (p + 1)) ∷ drop (p + 2) (pagesOf m))
   unfolding joined
   joined-now b =
@@ -131,8 +126,8 @@ tries-done {m} {m'} {p} a r t =
 module _ {m : List ℕ} {p : ℕ} (a : There m p) (t : ℕ) (hs : List Held) (rest : List Page) where
   -- nothing is left
   pub settled-none : length hs ≡ 0 → swapped p [] (pagesOf m) ≡ settledBy p rest (fresh t hs) (pagesOf m)
-  unfolding settledBy fresh
-  settled-none e = sym (on-swap a _ [] (λ prev qs. settle-empty rest prev (fresh t hs) qs (empty-none hs e)))
+  unfolding settledBy fresh isEmpty
+  settled-none e = sym (on-swap a _ [] (λ prev qs. settle-empty rest prev (fresh t hs) qs (ap isEmpty (length-zero hs e))))
 
   -- the changed page stands, and is joined as it may be
   pub settled-by : 0 < length hs → {m1 : List ℕ} → PagesNow m m1 (swapped p (fresh t hs ∷ []) (pagesOf m)) → settledAt p (pagesOf m1) rest ≡ settledBy p rest (fresh t hs) (pagesOf m)

@@ -11,7 +11,8 @@ use Rattle.model.proofs.Splits.{Small, half-between}
 use Rattle.basics.proofs.Elements.{all-take, all-drop}
 use Rattle.engine_pages.specs.Pages.{PagesNow, pagesOf, pageAt, tuplesAt, entryOf, There, swapped}
 use Rattle.engine_pages.specs.Changes.{Dirty, Halved}
-use Rattle.engine_pages.proofs.Places.{now-to, now-then, now-pages, swap-first, swap-second, first-there, first-page, second-there, second-page, many, pos-of}
+use Rattle.engine_pages.proofs.Places.{now-to, now-then, now-pages, swap-first, swap-second, first-there, first-page, second-there, second-page, many}
+use Rattle.basics.proofs.Numbers.{pos-of}
 use Rattle.engine_pages.proofs.Splitting.{once-whole, once-parts, dirty-fresh, tuples-small}
 
 -- ---- how deep is enough
@@ -47,8 +48,7 @@ deep-same (suc d) (suc e) hs ld le s =
     let lt : length (take k hs) ≡ k = length-take-le k hs (omega arith) in
     let lr : length (drop k hs) ≡ length hs - k = length-drop k hs in
     deep-parts d hs t
-    ∙ ap (λ (z : List (List Held)). z ++ splitDeep d (drop k hs)) (deep-same d e (take k hs) (omega arith) (omega arith) (all-take Small k hs s))
-    ∙ ap (λ (z : List (List Held)). splitDeep e (take k hs) ++ z) (deep-same d e (drop k hs) (omega arith) (omega arith) (all-drop Small k hs s))
+    ∙ (λ i. deep-same d e (take k hs) (omega arith) (omega arith) (all-take Small k hs s) i ++ deep-same d e (drop k hs) (omega arith) (omega arith) (all-drop Small k hs s) i)
     ∙ sym (deep-parts e hs t))
 
 pub all-whole : (hs : List Held) → fits hs ≡ true → splitAll hs ≡ hs ∷ []
@@ -68,8 +68,8 @@ all-parts hs t s =
     let lt : length (take k hs) ≡ k = length-take-le k hs (omega arith) in
     let lr : length (drop k hs) ≡ length hs - k = length-drop k hs in
     ap (λ (z : ℕ). splitDeep z hs) en ∙ deep-parts n hs t
-    ∙ ap (λ (z : List (List Held)). z ++ splitDeep n (drop k hs)) (deep-same n (length (take k hs)) (take k hs) (omega arith) (omega arith) (all-take Small k hs s))
-    ∙ ap (λ (z : List (List Held)). splitDeep (length (take k hs)) (take k hs) ++ z) (deep-same n (length (drop k hs)) (drop k hs) (omega arith) (omega arith) (all-drop Small k hs s))
+    ∙ (λ i. deep-same n (length (take k hs)) (take k hs) (omega arith) (omega arith) (all-take Small k hs s) i
+    ++ deep-same n (length (drop k hs)) (drop k hs) (omega arith) (omega arith) (all-drop Small k hs s) i)
 
 -- ---- on the memory
 

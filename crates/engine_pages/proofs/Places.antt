@@ -1,10 +1,7 @@
 -- Pages by place: what stands where after pages were exchanged, and one change after another.
-use Rattle.memory_layout.specs.Places.{headSize}
-use Rattle.image.specs.Stages.{capacityLimit}
 use Rattle.block_forms.specs.Limits.{blockLimit}
-use Rattle.basics.proofs.Kit.{_≡_, refl, sym, ap, _∙_, ⊎-elim, true, some, List, [], _∷_, _++_, append-assoc, append-nil, ℕ, suc, _+_, _*_, _≤_, _<_, _-_, length, take, drop, getD}
+use Rattle.basics.proofs.Kit.{_≡_, refl, sym, ap, _∙_, true, some, List, [], _∷_, _++_, append-assoc, append-nil, ℕ, suc, _+_, _*_, _≤_, _<_, _-_, length, take, drop, getD}
 use Rattle.basics.proofs.Kit.{length-append, take-append-drop, take-at, drop-at, length-take-le, arith}
-use Rattle.basics.proofs.Tabs.{lt-or-ge}
 use Rattle.model.specs.State.{Held, Page, Store}
 use Rattle.model.specs.Transactions.{changed}
 use Rattle.memory_layout.specs.Flat.{Flat, flatOf, rowIn, noRow, Room, Becomes, withRows, withEntries}
@@ -58,15 +55,6 @@ now-becomes {m} {m'} {R} {E} b c e =
     record { size = b .size; store = becomes-store b (counted-all E c) ∙ ap (λ (z : List Page). some (withPages (storeOf (flatOf m)) z)) e }
 
 -- ---- what is known of a page
-
-pub few-rows : {m : List ℕ} → Room m → length (flatOf m .rows) ≤ capacityLimit
-few-rows {m} r = let k : Known m = known m r in omega arith
-
-pub few-pages : {m : List ℕ} → Room m → length (flatOf m .entries) ≤ 2048
-few-pages {m} r = let k : Known m = known m r in omega arith
-
-pub long : {m : List ℕ} → Room m → headSize ≤ length m
-long {m} r = let k : Known m = known m r in omega arith
 
 -- what stands after a change of rows
 pub still-there : {m m1 : List ℕ} {f : Flat} (p : ℕ) → Becomes m m1 f → p < length (f .entries) → p < length (flatOf m1 .entries)
@@ -150,12 +138,6 @@ module _ {m : List ℕ} {p i : ℕ} (g : RowOn m p i) where
       let z : firstRow m p + (i - firstRow m p) ≡ i = omega (arith, g .least) in
       tuple-at (flatOf m) (full (g .there)) p (i - firstRow m p) noRow (omega (arith, g .least, g .most)) ∙ ap (rowIn (flatOf m)) z
 
-pub less-than : {a b : ℕ} → a ≤ b → (a ≡ b → ⊥) → a < b
-less-than {a} {b} l n = ⊎-elim (λ x. x) (λ x. absurd (n (omega arith))) (lt-or-ge a b)
-
-pub pos-of : (n : ℕ) → (n ≡ 0 → ⊥) → 0 < n
-pos-of n h = less-than (omega arith) (λ z. h (sym z))
-
 -- where the pages are xs, q and more, q stands behind xs
 module _ (m : List ℕ) (h : holdsStore m ≡ true) (xs : List Page) (q : Page) (ys : List Page) (e : pagesOf m ≡ xs ++ q ∷ ys) (p : ℕ) (ep : p ≡ length xs) where
   pub there-here : There m p
@@ -174,8 +156,7 @@ pub swap-at : (p : ℕ) (xs : List Page) (q : Page) (ys rs : List Page) → leng
 unfolding swapped
 swap-at p xs q ys rs l =
     let k : length (xs ++ q ∷ []) ≡ suc p = length-append xs (q ∷ []) ∙ omega arith in
-    ap (λ (z : List Page). z ++ (rs ++ drop (suc p) (xs ++ q ∷ ys))) (take-at xs (q ∷ ys) p l)
-    ∙ ap (λ (z : List Page). xs ++ (rs ++ z)) (ap (drop (suc p)) (sym (append-assoc xs (q ∷ []) ys)) ∙ drop-at (xs ++ q ∷ []) ys (suc p) k)
+    (λ i. take-at xs (q ∷ ys) p l i ++ (rs ++ (ap (drop (suc p)) (sym (append-assoc xs (q ∷ []) ys)) ∙ drop-at (xs ++ q ∷ []) ys (suc p) k) i))
 
 module _ {m : List ℕ} {p : ℕ} (a : There m p) where
   -- what is exchanged again

@@ -6,10 +6,10 @@ use Rattle.block_forms.specs.Tuple.{Tuple}
 use Rattle.model.specs.State.{Held, Page}
 use Rattle.model.specs.Rules.{after, grown, entering, fresh, withoutPending, placeAfter, placeFront, place}
 use Rattle.basics.specs.Lists.{insertAt, lastIndex}
+use Rattle.basics.proofs.Parts.{take-snoc}
 use Rattle.memory_pages.specs.Spots.{keyUpTo}
 use Rattle.engine_pages.specs.Pages.{swapped}
 use Rattle.engine_pages.specs.Spots.{placedOn}
-use Rattle.engine_pages.proofs.Freezing.{take-snoc}
 
 -- ---- within a page
 
@@ -72,9 +72,7 @@ module _ (t k : ℕ) (x : Tuple) (ek : x .key ≡ k) (p : Page) (ps : List Page)
   no-key e z =
       let z1 : lastIndex (keyUpTo (entering p x .tuple .key)) (p .tuples) ≡ 0 = ap (λ (q : ℕ). lastIndex (keyUpTo q) (p .tuples)) (entering-key p x ∙ ek) ∙ z in
       place-cons t x p ps
-      ∙ ap (placeStep (eqb (p .table) t) p ps (after (entering p x) (p .tuples))) n
-      ∙ ap (λ (b : Bool). placeStep b p ps (after (entering p x) (p .tuples)) none) (eq-eqb _ _ e)
-      ∙ ap (λ (a : Option (List Held)). placeStep true p ps a none) (after-none (entering p x) (p .tuples) z1)
+      ∙ (λ i. placeStep (eq-eqb _ _ e i) p ps (after-none (entering p x) (p .tuples) z1 i) (n i))
 
   pub on-page : (j : ℕ) → p .table ≡ t → lastIndex (keyUpTo k) (p .tuples) ≡ j → 0 < j → placeAfter t x (p ∷ ps) ≡ some (placedOn x j p ++ ps)
   unfolding placeStep if_then_else_ placedOn
@@ -82,9 +80,7 @@ module _ (t k : ℕ) (x : Tuple) (ek : x .key ≡ k) (p : Page) (ps : List Page)
   on-page (suc j) e z h =
       let z1 : lastIndex (keyUpTo (entering p x .tuple .key)) (p .tuples) ≡ suc j = ap (λ (q : ℕ). lastIndex (keyUpTo q) (p .tuples)) (entering-key p x ∙ ek) ∙ z in
       place-cons t x p ps
-      ∙ ap (placeStep (eqb (p .table) t) p ps (after (entering p x) (p .tuples))) n
-      ∙ ap (λ (b : Bool). placeStep b p ps (after (entering p x) (p .tuples)) none) (eq-eqb _ _ e)
-      ∙ ap (λ (a : Option (List Held)). placeStep true p ps a none) (after-some (entering p x) (p .tuples) j z1)
+      ∙ (λ i. placeStep (eq-eqb _ _ e i) p ps (after-some (entering p x) (p .tuples) j z1 i) (n i))
 
 pub behind : (t : ℕ) (x : Tuple) (ps qs rs : List Page) → placeAfter t x qs ≡ some rs → placeAfter t x (ps ++ qs) ≡ some (ps ++ rs)
 unfolding placeStep

@@ -1,63 +1,34 @@
 -- A removal, on a frozen page and on another.
-use Rattle.basics.proofs.Kit.{_≡_, refl, sym, ap, _∙_, subst, Bool, true, false, List, [], _∷_, _++_, ℕ, suc, _+_, _≤_, _<_, _-_, length, take, drop, getD, set, length-set}
-use Rattle.basics.proofs.Kit.{getD-set-same, set-set, take-set-le, drop-set-lt, arith}
-use Rattle.basics.specs.Basics.{if_then_else_, isEmpty}
+use Rattle.basics.proofs.Kit.{_≡_, refl, sym, ap, _∙_, Bool, true, false, List, [], _∷_, _++_, ℕ, suc, _<_, _-_, length, take, drop, getD, set, length-set}
+use Rattle.basics.proofs.Kit.{getD-set-same, arith}
+use Rattle.basics.specs.Basics.{if_then_else_}
 use Rattle.model.specs.State.{removing, Held, Page}
-use Rattle.model.specs.Rules.{isAdding, removeNow, pendRemove, withPending, withTuples, fresh, settle}
+use Rattle.model.specs.Rules.{isAdding, removeNow, withPending, withTuples, fresh, settle}
 use Rattle.model.specs.Places.{editAt, pendRemoveAt, removeRowOn, removeRow}
-use Rattle.model.proofs.Flat.{edit-none, edit-one, taken-is}
+use Rattle.model.proofs.Flat.{taken-last, taken-away, taken-noted, edit-none}
 use Rattle.basics.specs.Lists.{removeAt}
-use Rattle.memory_layout.specs.Flat.{Flat, flatOf, entryIn, rowIn, noRow, noEntry, Room, Becomes, withRows, withEntries}
-use Rattle.memory_layout.specs.Store.{nest, pageOf, pageIn}
+use Rattle.memory_layout.specs.Flat.{Flat, flatOf, entryIn, rowIn, noRow, noEntry, Room, Becomes}
+use Rattle.memory_rows.specs.Rows.{withRow}
+use Rattle.memory_layout.specs.Store.{pageOf, pageIn}
 use Rattle.memory_layout.specs.declared.Entry.{Entry}
-use Rattle.memory_layout.proofs.Laws.{becomes-then}
-use Rattle.memory_layout.proofs.Nest.{Counted}
-use Rattle.memory_layout.proofs.Exchange.{counted-set, counted-exchange, row-removed, row-dropped}
+use Rattle.memory_layout.proofs.Exchange.{counted-set, row-removed, row-dropped}
 use Rattle.basics.proofs.Parts.{length-remove}
-use Rattle.memory_pages.specs.Pages.{dirty, withBlock, withCount, fewerRows, MayLose}
+use Rattle.basics.proofs.Numbers.{less-than}
+use Rattle.memory_pages.specs.Pages.{dirty, withCount, fewerRows, MayLose, EntriesBecome, RowsBecome, setBlock}
 use Rattle.engine_pages.specs.Pages.{PagesNow, pagesOf, pageAt, tuplesAt, entryOf, firstRow, There, RowOn, swapped}
 use Rattle.engine_pages.specs.Changes.{Tries, settledAt, settledBy}
-use Rattle.engine_pages.proofs.Places.{less-than, now-to, now-then, now-stay, now-becomes, counted, full, room, many}
+use Rattle.engine_pages.proofs.Places.{now-to, now-then, now-stay, now-becomes, counted, full, room, many}
 use Rattle.engine_pages.proofs.Places.{has-row, swap-same, row-in, row-inside, tuple-is, first-there, first-page, still-there}
 use Rattle.engine_pages.proofs.Around.{on-swap, on-same}
-use Rattle.engine_pages.proofs.Rows.{at-row, row-now, page-fresh}
+use Rattle.engine_pages.proofs.Rows.{at-row, row-now, now-dirty, now-dropped}
 use Rattle.engine_pages.proofs.Committing.{with-same}
-use Rattle.engine_pages.proofs.Joining.{empty-none, tries-done, settled-none, settled-by}
-use Rattle.basics.proofs.Parts.{remove-set}
-
-pub more : (k : ℕ) → 1 ≤ k → (k ≡ 1 → ⊥) → 1 < k
-more k l h = less-than l (λ z. h (sym z))
-
--- ---- tuple j of a frozen page
-
-module _ (j : ℕ) (hs : List Held) (lt : j < length hs) where
-  later-none : isAdding (getD hs j noRow .pending) ≡ true → editAt pendRemove j hs ≡ removeAt j hs
-  unfolding pendRemove if_then_else_
-  later-none e = edit-none pendRemove noRow hs j lt (rw e)
-
-  -- the last one stays
-  taken-last : isAdding (getD hs j noRow .pending) ≡ true → length hs ≡ 1 → pendRemoveAt j hs ≡ hs
-  unfolding pendRemoveAt if_then_else_
-  taken-last e l =
-      ap (λ (z : List Held). if isEmpty z then hs else z) (later-none e)
-      ∙ ap (λ (b : Bool). if b then hs else removeAt j hs) (empty-none (removeAt j hs) (length-remove j hs lt ∙ omega arith))
-
-  taken-away : isAdding (getD hs j noRow .pending) ≡ true → 1 < length hs → pendRemoveAt j hs ≡ removeAt j hs
-  taken-away e l = taken-is j hs (removeAt j hs) (later-none e) (omega (arith, length-remove j hs lt))
-
-  taken-noted : (x : Held) → isAdding (getD hs j noRow .pending) ≡ false → x ≡ withPending removing (getD hs j noRow) → pendRemoveAt j hs ≡ set hs j x
-  unfolding pendRemove if_then_else_
-  taken-noted x e ex = taken-is j hs (set hs j x) (edit-one pendRemove noRow x hs j (rw (e, ex) refl)) (omega (arith, length-set hs j x))
+use Rattle.engine_pages.proofs.Joining.{tries-done, settled-none, settled-by}
 
 -- ---- entries
 
 pub page-less : (m : List ℕ) (p n : ℕ) (hs : List Held) → pageOf (withCount (entryOf m p) n) hs ≡ withTuples (pageAt m p) hs
 unfolding pageIn pageOf withTuples
 page-less m p n hs = refl
-
--- the same entries, written otherwise
-pub becomes-to : {m m' : List ℕ} (f : Flat) {E F : List Entry} → Becomes m m' (withEntries f E) → E ≡ F → Becomes m m' (withEntries f F)
-becomes-to {m} {m'} f b e = subst (λ (z : List Entry). Becomes m m' (withEntries f z)) e b
 
 -- ---- on the memory
 
@@ -90,24 +61,24 @@ module _ {m : List ℕ} {p i : ℕ} (g : RowOn m p i) where
   later left e u = now-to u (ap (λ (z : List Held). swapped p (withTuples (pageAt m p) z ∷ []) (pagesOf m)) (sym e))
 
   pub later-noted : {b : Bool} → b ≡ isAdding (rowIn (flatOf m) i .pending) → b ≡ false → {m' : List ℕ}
-      → Becomes m m' (withRows (flatOf m) (set (flatOf m .rows) i (withPending removing (rowIn (flatOf m) i)))) → PagesNow m m' noted
+      → Becomes m m' (withRow (flatOf m) i (withPending removing (rowIn (flatOf m) i))) → PagesNow m m' noted
   later-noted eb h u =
       let x : Held = withPending removing (rowIn (flatOf m) i) in
-      later (set hs j x) (taken-noted j hs (row-inside g) x (adding-is eb ∙ h) (ap (withPending removing) (sym (tuple-is g)))) (row-now g x u)
+      later (set hs j x) (taken-noted j hs noRow (row-inside g) x (adding-is eb ∙ h) (ap (withPending removing) (sym (tuple-is g)))) (row-now g x u)
 
   module _ {b : Bool} (eb : b ≡ isAdding (rowIn (flatOf m) i .pending)) (h : b ≡ true) {n : ℕ} (en : n ≡ entryOf m p .count) where
     pub later-last : n ≡ 1 → PagesNow m m noted
     later-last l =
-        later hs (taken-last j hs (row-inside g) (adding-is eb ∙ h) (many a ∙ sym en ∙ l))
+        later hs (taken-last j hs noRow (row-inside g) (adding-is eb ∙ h) (many a ∙ sym en ∙ l))
         (now-to (now-stay m (a .has-store)) (sym (ap (λ (z : Page). swapped p (z ∷ []) (pagesOf m)) (with-same (pageAt m p)) ∙ swap-same a)))
 
-    pub later-away : (n ≡ 1 → ⊥) → {m' : List ℕ} → Becomes m m' (withEntries (withRows (flatOf m) (removeAt i (flatOf m .rows))) (fewerRows p (flatOf m .entries)))
+    pub later-away : (n ≡ 1 → ⊥) → {m' : List ℕ} → RowsBecome m m' (removeAt i) (fewerRows p)
         → PagesNow m m' noted
     unfolding swapped
     later-away l u =
-        let k : 1 < entryOf m p .count = more _ (has-row a) (λ z. l (en ∙ z)) in
+        let k : 1 < entryOf m p .count = less-than (has-row a) (λ z. l (en ∙ sym z)) in
         let e : Entry = withCount (entryOf m p) (entryOf m p .count - 1) in
-        later (removeAt j hs) (taken-away j hs (row-inside g) (adding-is eb ∙ h) (omega (arith, many a)))
+        later (removeAt j hs) (taken-away j hs noRow (row-inside g) (adding-is eb ∙ h) (omega (arith, many a)))
         (now-becomes u (counted-set (flatOf m .entries) p e (counted m (a .has-store)) (omega arith))
         (row-removed (flatOf m) (full a) p (a .inside) i (g .least) (g .most) e (omega arith)
         ∙ ap (λ (z : Page). take p (pagesOf m) ++ z ∷ drop (suc p) (pagesOf m)) (page-less m p _ _)))
@@ -123,7 +94,7 @@ module _ {m : List ℕ} {p i : ℕ} (g : RowOn m p i) where
   left-long : length (removeAt (i - firstRow m p) (tuplesAt m p)) ≡ entryOf m p .count - 1
   left-long = length-remove j hs (row-inside g) ∙ ap (λ (z : ℕ). z - 1) (many a)
 
-  module _ {m1 : List ℕ} (u : Becomes m m1 (withEntries (withRows (flatOf m) (removeAt i (flatOf m .rows))) (fewerRows p (flatOf m .entries)))) where
+  module _ {m1 : List ℕ} (u : RowsBecome m m1 (removeAt i) (fewerRows p)) where
     abbrev less : Entry
     less = withCount (entryOf m p) (entryOf m p .count - 1)
 
@@ -137,28 +108,18 @@ module _ {m : List ℕ} {p i : ℕ} (g : RowOn m p i) where
     less-empty l = ap (λ (y : Entry). y .count) entry-then ∙ omega arith
 
     -- the only row: the page goes
-    pub now-none : entryOf m p .count ≡ 1 → {m2 : List ℕ} → Becomes m1 m2 (withEntries (flatOf m1) (removeAt p (flatOf m1 .entries)))
+    pub now-none : entryOf m p .count ≡ 1 → {m2 : List ℕ} → EntriesBecome m1 m2 (removeAt p)
         → PagesNow m m2 (settledBy p (new ∷ []) new (pagesOf m))
     unfolding swapped
-    now-none l {m2} v =
-        now-to (now-becomes (becomes-then m m1 m2 _ (λ (y : Flat). withEntries y (removeAt p (y .entries))) u v)
-        (subst Counted (sym (remove-set (flatOf m .entries) p less)) (counted-exchange (flatOf m .entries) [] p 1 (counted m (a .has-store)) tt))
-        (ap (λ (z : List Entry). nest z (removeAt i (flatOf m .rows))) (remove-set (flatOf m .entries) p less)
-        ∙ row-dropped (flatOf m) (full a) p (a .inside) i (g .least) (g .most) l))
+    now-none l v =
+        now-to (now-dropped a (entryOf m p .count - 1) u v (row-dropped (flatOf m) (full a) p (a .inside) i (g .least) (g .most) l))
         (settled-none a t left (new ∷ []) (left-long ∙ omega arith))
 
-    module _ (l : 1 < entryOf m p .count) {m2 : List ℕ} (v : Becomes m1 m2 (withEntries (flatOf m1) (set (flatOf m1 .entries) p (withBlock (entryOf m1 p) 0 false)))) where
+    module _ (l : 1 < entryOf m p .count) {m2 : List ℕ} (v : EntriesBecome m1 m2 (setBlock p 0 false)) where
       came : PagesNow m m2 (swapped p (fresh (pageAt m p .table) (removeAt (i - firstRow m p) (tuplesAt m p)) ∷ []) (pagesOf m))
-      unfolding swapped
       came =
-          let e : Entry = dirty (entryOf m p .table) (entryOf m p .count - 1) in
-          let es : set (set (flatOf m .entries) p less) p (withBlock (getD (set (flatOf m .entries) p less) p noEntry) 0 false) ≡ set (flatOf m .entries) p e =
-          set-set (flatOf m .entries) p less _ ∙ ap (λ (y : Entry). set (flatOf m .entries) p (withBlock y 0 false)) (getD-set-same (flatOf m .entries) p less noEntry (a .inside)) in
-          now-becomes (becomes-to (withRows (flatOf m) (removeAt i (flatOf m .rows)))
-          (becomes-then m m1 m2 _ (λ (y : Flat). withEntries y (set (y .entries) p (withBlock (entryIn y p) 0 false))) u v) es)
-          (counted-set (flatOf m .entries) p e (counted m (a .has-store)) (omega arith))
-          (row-removed (flatOf m) (full a) p (a .inside) i (g .least) (g .most) e (omega arith)
-          ∙ ap (λ (z : Page). take p (pagesOf m) ++ z ∷ drop (suc p) (pagesOf m)) (page-fresh m p _ _))
+          let n : ℕ = entryOf m p .count - 1 in
+          now-dirty a n left u v (omega arith) (row-removed (flatOf m) (full a) p (a .inside) i (g .least) (g .most) (dirty (entryOf m p .table) n) (omega arith))
 
       pub now-there : There m2 p
       now-there = first-there a new [] came

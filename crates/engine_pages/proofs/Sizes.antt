@@ -1,6 +1,6 @@
 -- Rows from s up to e, turn by turn: their sizes, and tests over them.
 use Rattle.image.specs.Stages.{capacityLimit}
-use Rattle.basics.proofs.Kit.{_≡_, refl, sym, ap, _∙_, List, [], _∷_, ℕ, zero, suc, _+_, _*_, _≤_, _<_, _-_, add-one, ltb, length, take, drop, getD, drop-cons}
+use Rattle.basics.proofs.Kit.{_≡_, refl, sym, ap, _∙_, List, [], _∷_, ℕ, suc, _+_, _*_, _≤_, _<_, _-_, add-one, ltb, length, take, drop, drop-cons}
 use Rattle.basics.proofs.Kit.{le-leb, lt-leb, arith}
 use Rattle.basics.specs.Basics.{if_then_else_, sum}
 use Rattle.basics.specs.Lists.{tab}
@@ -14,7 +14,7 @@ use Rattle.memory_layout.specs.Flat.{flatOf, capacityOf, rowIn, noRow}
 use Rattle.memory_layout.specs.Views.{lengthOf, stateOf}
 use Rattle.memory_rows.proofs.Fields.{size-is, owner-most}
 use Rattle.memory_layout.specs.Elements.{rowsFrom, RowRange}
-use Rattle.engine_pages.proofs.Places.{few-rows}
+use Rattle.memory_layout.proofs.Laws.{sizes}
 use Rattle.basics.proofs.Tabs.{all-by, tab-part}
 
 -- ---- no row is large
@@ -81,4 +81,4 @@ pub record Turn (m : List ℕ) (s e i all w : ℕ) : Type 0 where
 
 pub turn : {m : List ℕ} {s e i all w : ℕ} → RowRange m s e → s ≤ i → i < e → all ≤ mostRecord * (i - s) → (w ≡ heldSize (rowIn (flatOf m) i)) × (w ≤ mostRecord) → Turn m s e i all w
 turn g least inside light es =
-    record { least = least; inside = inside; most = g .inside; few = omega (arith, g .inside, few-rows (g .room)); light = light; small = es .1; size = es .0 }
+    record { least = least; inside = inside; most = g .inside; few = omega (arith, g .inside, sizes (g .room) .rows); light = light; small = es .1; size = es .0 }

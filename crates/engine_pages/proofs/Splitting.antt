@@ -6,10 +6,10 @@ use Rattle.block_forms.specs.Limits.{recordSpace}
 use Rattle.model.specs.State.{Held, Page}
 use Rattle.model.specs.Rules.{heldSize, lead, half, fits, splitOnce, fresh}
 use Rattle.model.proofs.Splits.{Small, half-between}
-use Rattle.memory_layout.specs.Flat.{flatOf, Becomes, withEntries}
+use Rattle.memory_layout.specs.Flat.{flatOf}
 use Rattle.memory_layout.specs.Store.{pageOf}
 use Rattle.memory_layout.proofs.Exchange.{page-split, counted-exchange}
-use Rattle.memory_pages.specs.Pages.{dirty, splitEntry}
+use Rattle.memory_pages.specs.Pages.{dirty, splitEntry, EntriesBecome}
 use Rattle.engine_pages.specs.Pages.{pagesOf, pageAt, tuplesAt, entryOf, firstRow, There, swapped}
 use Rattle.memory_layout.specs.Elements.{rowsFrom}
 use Rattle.engine_pages.specs.Changes.{Dirty, Halved}
@@ -65,7 +65,7 @@ module _ {m : List ℕ} {p : ℕ} (a : There m p) {s e w : ℕ} (es : s ≡ firs
         let b1 = b .1 in
         (omega (arith, half-is), omega (arith, half-is, many a))
 
-    pub halved-parts : {m' : List ℕ} → Becomes m m' (withEntries (flatOf m) (splitEntry p k (flatOf m .entries))) → Halved m m' p k
+    pub halved-parts : {m' : List ℕ} → EntriesBecome m m' (splitEntry p k) → Halved m m' p k
     unfolding fits swapped pageOf fresh
     halved-parts b =
         let f : fits (tuplesAt m p) ≡ false = lt-leb (sum heldSize (tuplesAt m p)) recordSpace (omega (arith, size-is)) in
@@ -77,8 +77,7 @@ module _ {m : List ℕ} {p : ℕ} (a : There m p) {s e w : ℕ} (es : s ≡ firs
           pages = now-becomes b (counted-exchange (flatOf m .entries) (dirty t k ∷ dirty t (c - k) ∷ []) p 1 (counted m (a .has-store)) (l, (omega arith, tt)))
               (page-split (flatOf m) (full a) p (a .inside) (dirty t k) (dirty t (c - k)) (omega arith)
               ∙ ap (λ (z : List Page). swapped p z (pagesOf m))
-              (ap (λ (x : ℕ). fresh x (take k (tuplesAt m p)) ∷ fresh x (drop k (tuplesAt m p)) ∷ []) (sym (page-table a))
-              ∙ ap (λ (z : ℕ). fresh (pageAt m p .table) (take z (tuplesAt m p)) ∷ fresh (pageAt m p .table) (drop z (tuplesAt m p)) ∷ []) half-is
+              ((λ i. fresh (sym (page-table a) i) (take (half-is i) (tuplesAt m p)) ∷ fresh (sym (page-table a) i) (drop (half-is i) (tuplesAt m p)) ∷ [])
               ∙ sym (once-parts (pageAt m p .table) (tuplesAt m p) f)));
           whole = λ z. absurd (omega arith);
           parts = λ z. (f, (half-is, omega (arith, many a)));

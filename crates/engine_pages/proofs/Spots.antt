@@ -1,7 +1,7 @@
 -- The place of a tuple among the rows of its table is where the model puts it.
-use Rattle.basics.proofs.Kit.{_≡_, refl, sym, ap, _∙_, ⊎-elim, Bool, true, false, none, List, [], _∷_, _++_, ℕ, suc, _+_, _≤_, _<_, zero, _-_, add-one, eqb, length, take, drop, getD}
+use Rattle.basics.proofs.Kit.{_≡_, refl, sym, ap, _∙_, ⊎-elim, true, false, none, List, [], _∷_, _++_, ℕ, suc, _+_, _≤_, _<_, zero, _-_, add-one, eqb, length, take, drop, getD}
 use Rattle.basics.proofs.Kit.{length-drop, take-add, getD-drop, length-take-le, getD-take, eqb-true, eqb-false, arith}
-use Rattle.basics.proofs.Facts.{by, lie}
+use Rattle.basics.proofs.Facts.{by}
 use Rattle.block_forms.specs.Tuple.{Tuple}
 use Rattle.model.specs.State.{Held}
 use Rattle.model.specs.Rules.{placeAfter, placeFront, place, fresh, withoutPending}
@@ -13,14 +13,14 @@ use Rattle.memory_layout.specs.Store.{total, startOf, pageIn, pagesIn, pageOf}
 use Rattle.memory_layout.proofs.Nest.{total-append}
 use Rattle.memory_layout.proofs.Exchange.{start-le, start-next, page-at, page-long, pages-end, tuple-at}
 use Rattle.memory_pages.specs.Pages.{TableFrom, OnPages, PageOf}
-use Rattle.memory_pages.specs.Spots.{tableRow, tableRows, keyUpTo, placeIn}
+use Rattle.memory_pages.specs.Spots.{tableRows, keyUpTo, placeIn}
 use Rattle.memory_pages.proofs.Spots.{row-from, pages-rise}
 use Rattle.memory_layout.specs.Flat.{Room}
 use Rattle.memory_layout.proofs.Laws.{holds-room, filled}
 use Rattle.memory_rows.specs.declared.Row.{Row}
 use Rattle.engine_pages.specs.Pages.{pagesOf, pageAt, firstRow, swapped}
 use Rattle.engine_pages.specs.Spots.{tupleBy, placedOn, GrowAt, AddAt, PlaceAt}
-use Rattle.engine_pages.proofs.Places.{less-than}
+use Rattle.basics.proofs.Numbers.{less-than}
 use Rattle.engine_pages.proofs.Placing.{other-table, no-key, place-on, place-front, front-turn, front-on, front-new, front-last}
 use Rattle.basics.proofs.Found.{last-is}
 
@@ -101,8 +101,9 @@ module _ (f : Flat) (full : total (f .entries) ≡ length (f .rows)) (t k : ℕ)
       at-is : at ≡ startOf f a + lastIndex (keyUpTo k) (take (startOf f b - startOf f a) (drop (startOf f a) (f .rows)))
       unfolding placeIn tableRows
       at-is =
-          ea ∙ ap (λ (z : ℕ). z + lastIndex (keyUpTo k) (take (tableRow f (t + 1) - z) (drop z (f .rows)))) (sym (row-from fa refl))
-          ∙ ap (λ (z : ℕ). s + lastIndex (keyUpTo k) (take (z - s) (drop s (f .rows)))) (sym (row-from fb refl))
+          let x = sym (row-from fa refl) in
+          let y = sym (row-from fb refl) in
+          ea ∙ (λ i. x i + lastIndex (keyUpTo k) (take (y i - x i) (drop (x i) (f .rows))))
 
       pub at-least : startOf f a ≤ at
       at-least = omega (arith, at-is)

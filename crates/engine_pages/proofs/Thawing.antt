@@ -1,17 +1,18 @@
 -- Thawing the first frozen page: the model's rule by place.
-use Rattle.basics.proofs.Kit.{_≡_, refl, sym, ap, _∙_, subst, Bool, true, false, none, Option, List, [], _∷_, _++_, map, ℕ, set, arith}
+use Rattle.basics.proofs.Kit.{_≡_, refl, sym, ap, _∙_, subst, Bool, true, false, none, Option, List, [], _∷_, _++_, map, ℕ, arith}
 use Rattle.basics.specs.Basics.{if_then_else_, any}
 use Rattle.model.specs.State.{Held, Page}
 use Rattle.model.specs.Rules.{isFrozen, fresh, listOf, splitAll, settle, thawOn, thaw}
 use Rattle.model.specs.Places.{onPage}
-use Rattle.memory_layout.specs.Flat.{flatOf, Becomes, withEntries}
+use Rattle.memory_layout.specs.Flat.{flatOf}
 use Rattle.memory_layout.specs.Store.{pageOf, pageIn}
 use Rattle.memory_layout.proofs.Exchange.{pages-count}
-use Rattle.memory_pages.specs.Pages.{withBlock}
+use Rattle.memory_pages.specs.Pages.{withBlock, EntriesBecome, setBlock}
 use Rattle.engine_pages.specs.Pages.{PagesNow, pagesOf, pageAt, tuplesAt, entryOf, There, swapped}
 use Rattle.engine_pages.specs.Changes.{Dirty, Tries, settledAt, settledBy}
 use Rattle.engine_pages.specs.Pending.{hasPending, appliedAll, Applied, FirstFrozen}
-use Rattle.engine_pages.proofs.Places.{now-to, now-then, first-there, first-page, pos-of}
+use Rattle.basics.proofs.Numbers.{pos-of}
+use Rattle.engine_pages.proofs.Places.{now-to, now-then, first-there, first-page}
 use Rattle.engine_pages.proofs.Around.{on-swap, on-same, around-first}
 use Rattle.engine_pages.proofs.Rows.{page-now}
 use Rattle.engine_pages.proofs.Splitting.{dirty-fresh}
@@ -48,7 +49,7 @@ module _ {m : List ℕ} {p : ℕ} (first : FirstFrozen m p) (b : ℕ) where
 
   -- nothing was pending
   pub thawed-clean : any hasPending (tuplesAt m p) ≡ false → {m' : List ℕ}
-      → Becomes m m' (withEntries (flatOf m) (set (flatOf m .entries) p (withBlock (entryOf m p) b false))) → PagesNow m m' (thaw b (pagesOf m))
+      → EntriesBecome m m' (setBlock p b false) → PagesNow m m' (thaw b (pagesOf m))
   thawed-clean w u =
       let q : Page = record { table = pageAt m p .table; block = b; frozen = false; tuples = tuplesAt m p } in
       now-to (page-now a b false u)

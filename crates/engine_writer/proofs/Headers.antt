@@ -1,19 +1,13 @@
 -- Counts and header, from what the memory holds.
-use Rattle.image.specs.Stages.{capacityLimit}
-use Rattle.basics.proofs.Kit.{_≡_, ap, List, ℕ, suc, _+_, _≤_, length, getD, arith}
+use Rattle.basics.proofs.Kit.{_≡_, ap, List, ℕ, suc, _+_, getD, arith}
 use Rattle.model.specs.Checkpoint.{headerFor}
 use Rattle.memory_layout.specs.Views.{headOf, countsOf}
-use Rattle.memory_layout.specs.Flat.{flatOf, Room}
+use Rattle.memory_layout.specs.Flat.{flatOf}
 use Rattle.memory_layout.specs.Store.{storeOf}
 use Rattle.memory_layout.specs.declared.Head.{Head}
 use Rattle.memory_layout.specs.declared.Counts.{Counts}
 use Rattle.engine_writer.specs.Written.{nextHeader}
-use Rattle.memory_layout.proofs.Laws.{named-length, named-read, directories-read}
-
--- there are at most as many directory entries as rows
-pub named-few : (m : List ℕ) → Room m → length (flatOf m .named) ≤ capacityLimit
-unfolding countsOf
-named-few m r = omega (arith, named-length m, r .range .named, r .range .most)
+use Rattle.memory_layout.proofs.Laws.{named-read, directories-read}
 
 module _ (m : List ℕ) {c : Counts} (ec : c ≡ countsOf m) where
   -- the header, field by field

@@ -135,7 +135,15 @@ fn measure(m: &[u8], s: usize, e: usize) -> Shown
 }
 
 // The page of what these rows show, in a block of zeros: its head, then record after record.
-fn fill_page(block: &mut [u8; block_forms::BLOCK_SIZE], m: &[u8], table: u8, s: usize, e: usize, level: u32, w: Shown)
+fn fill_page(
+    block: &mut [u8; block_forms::BLOCK_SIZE],
+    m: &[u8],
+    table: u8,
+    s: usize,
+    e: usize,
+    level: u32,
+    w: Shown,
+)
     requires { ⌜ Fillable (now block) (now m) table s e w ⌝ }
     ensures { λ _. ⌜ now (block .exit) ≡ encodeBlock (page table level (shown (rowsFrom (now (m .entry)) s e))) ⌝ }
 {

@@ -53,10 +53,10 @@ pub record Goods (l room t n : ℕ) (o : Option PageBlock) : Type 0 where
 no-good {ℓ} : {X : Type ℓ} {t n : ℕ} → Bad ≡ Good t n → X
 no-good e = clash cc
 
-pub goods : (l room t n : ℕ) (o : Option PageBlock) → goodPage l room o ≡ Good t n → Goods l room t n o
+pub goods : (l room : ℕ) (o : Option PageBlock) {t n : ℕ} → goodPage l room o ≡ Good t n → Goods l room t n o
 unfolding goodPage if_then_else_ every
-goods l room t n none e = no-good e
-goods l room t n (some p) e =
+goods l room none e = no-good e
+goods l room (some p) {t} {n} e =
     by (pageOk l p && (leb (length (p .tuples)) room && (all markOk (rowsOf (p .table) (p .tuples)) && true)))
     (λ h.
     let g : Good (p .table) (length (p .tuples)) ≡ Good t n = rw h at e in
@@ -156,71 +156,59 @@ unfolding accepts if_then_else_
 accepted true x = refl
 accepted false x = refl
 
-module _ (v : View) (h : Header) (es : List ℕ) where
-  -- the pages of the first i entries, with their rows
-  pub record Collecting (i to : ℕ) (columns : List Row) : Type 0 where
-    pub done : List StoredPage
-    pub room : to ≤ h .capacity
-    pub count : length (rowsOfPages done) ≡ to
-    pub rows : columns ≡ map bare (rowsOfPages done)
-    pub marks : all markOk (rowsOfPages done) ≡ true
-    pub rest : readPages v (h .level) es ≡ Option·map (λ ps. done ++ ps) (readPages v (h .level) (drop i es))
+-- the pages of the first i entries, with their rows
+pub record Collecting (v : View) (h : Header) (es : List ℕ) (i to : ℕ) (columns : List Row) : Type 0 where
+  pub done : List StoredPage
+  pub room : to ≤ h .capacity
+  pub count : length (rowsOfPages done) ≡ to
+  pub rows : columns ≡ map bare (rowsOfPages done)
+  pub marks : all markOk (rowsOfPages done) ≡ true
+  pub rest : readPages v (h .level) es ≡ Option·map (λ ps. done ++ ps) (readPages v (h .level) (drop i es))
 
-  pub collecting-start : (ps ns os ms : List ℕ) → Collecting 0 0 (rowsIn ps ns os ms 0)
-  unfolding rowsIn rowsOfPages all
-  collecting-start ps ns os ms =
-      record { done = []; room = omega arith; count = refl; rows = refl; marks = refl; rest = sym (behind-none (readPages v (h .level) es)) }
+pub collecting-start : (v : View) (h : Header) (es ps ns os ms : List ℕ) → Collecting v h es 0 0 (rowsIn ps ns os ms 0)
+unfolding rowsIn rowsOfPages all
+collecting-start v h es ps ns os ms =
+    record { done = []; room = omega arith; count = refl; rows = refl; marks = refl; rest = sym (behind-none (readPages v (h .level) es)) }
 
-  module _ (i to : ℕ) (columns : List Row) (a : Collecting i to columns) where
-    next : i < length es → readPages v (h .level) (drop i es) ≡ addPage (h .level) (getD es i 0) (asPage (v (getD es i 0))) (readPages v (h .level) (drop (i + 1) es))
-    unfolding readPages
-    next l = ap (readPages v (h .level)) (drop-turn es i l)
+module _ {v : View} {h : Header} {es : List ℕ} {i to : ℕ} {columns : List Row} (a : Collecting v h es i to columns) where
+  next : i < length es → readPages v (h .level) (drop i es) ≡ addPage (h .level) (getD es i 0) (asPage (v (getD es i 0))) (readPages v (h .level) (drop (i + 1) es))
+  unfolding readPages
+  next l = ap (readPages v (h .level)) (drop-turn es i l)
 
-    pub collecting-turn : (t n : ℕ) (more : List Row) → i < length es → (g : Goods (h .level) (h .capacity - to) t n (asPage (v (getD es i 0))))
-        → more ≡ columns ++ map bare (rowsOf t (g .tuples)) → Collecting (i + 1) (to + n) more
-    collecting-turn t n more l g m =
-        let e = getD es i 0 in
-        let p : StoredPage = record { block = getD es i 0; table = t; tuples = g .tuples } in
-        let d : List StoredPage = a .done ++ (p ∷ []) in
-        let rs : rowsOfPages d ≡ rowsOfPages (a .done) ++ rowsOf t (g .tuples) = one-more (a .done) p in
-        let o = readPages v (h .level) (drop (i + 1) es) in
-        let q = next l ∙ page-added (h .level) (h .capacity - to) t n e (asPage (v e)) g o in
-        let len : length (rowsOfPages d) ≡ to + n =
-        ap length rs ∙ length-append (rowsOfPages (a .done)) (rowsOf t (g .tuples)) ∙ omega (arith, a .count, length-rows t (g .tuples), g .count) in
-        record {
-          done = d;
-          room = omega (arith, a .room, g .room-left);
-          count = len;
-          rows = m ∙ rw (a .rows, rs, map-append bare (rowsOfPages (a .done)) (rowsOf t (g .tuples)));
-          marks = ap (all markOk) rs ∙ rw (all-join markOk (rowsOfPages (a .done)) (rowsOf t (g .tuples)), a .marks, g .marks);
-          rest = a .rest ∙ ap (Option·map (λ ps. a .done ++ ps)) q ∙ behind-two (a .done) (p ∷ []) o;
-        }
+  pub collecting-turn : {t n : ℕ} {more : List Row} → i < length es → (g : Goods (h .level) (h .capacity - to) t n (asPage (v (getD es i 0))))
+      → more ≡ columns ++ map bare (rowsOf t (g .tuples)) → Collecting v h es (i + 1) (to + n) more
+  collecting-turn {t} {n} l g m =
+      let p : StoredPage = record { block = getD es i 0; table = t; tuples = g .tuples } in
+      let rs = one-more (a .done) p in
+      let q = next l ∙ page-added (h .level) (h .capacity - to) t n (getD es i 0) _ g _ in
+      record {
+        done = a .done ++ (p ∷ []);
+        room = omega (arith, a .room, g .room-left);
+        count = ap length rs ∙ length-append (rowsOfPages (a .done)) (rowsOf t (g .tuples)) ∙ omega (arith, a .count, length-rows t (g .tuples), g .count);
+        rows = m ∙ rw (a .rows, rs, map-append);
+        marks = ap (all markOk) rs ∙ rw (all-join, a .marks, g .marks);
+        rest = a .rest ∙ ap (Option·map (λ ps. a .done ++ ps)) q ∙ behind-two (a .done) (p ∷ []) (readPages v (h .level) (drop (i + 1) es));
+      }
 
-    -- all pages are read
-    pub collecting-end : length es ≤ i → columnsOk (h .next) columns ≡ accepts (pageTest v h es)
-    unfolding pageTest testedPages readPages accepts if_then_else_
-    collecting-end l =
-        let q : readPages v (h .level) es ≡ some (a .done) = a .rest ∙ rw (drop-end es i l) (ap some (append-nil (a .done))) in
-        let r : length (rowsOfPages (a .done)) ≤ h .capacity = omega (arith, a .count, a .room) in
-        let t = rows-tests (h .capacity) (h .next) (rowsOfPages (a .done)) in
-        let c : columnsOk (h .next) columns ≡ columnsOk (h .next) (rowsOfPages (a .done)) = ap (columnsOk (h .next)) (a .rows) ∙ columns-bare (h .next)
-        (rowsOfPages (a .done)) in
-        c ∙ sym (rw (q, t, le-leb (length (rowsOfPages (a .done))) (h .capacity) r, a .marks, and-yes) (accepted (columnsOk (h .next) (rowsOfPages (a .done))) (a .done)))
+  -- all pages are read
+  pub collecting-end : length es ≤ i → columnsOk (h .next) columns ≡ accepts (pageTest v h es)
+  unfolding pageTest testedPages readPages accepts if_then_else_
+  collecting-end l =
+      let rs = rowsOfPages (a .done) in
+      let q : readPages v (h .level) es ≡ some (a .done) = a .rest ∙ rw (drop-end es i l) (ap some (append-nil (a .done))) in
+      ap (columnsOk (h .next)) (a .rows) ∙ columns-bare (h .next) rs
+      ∙ sym (rw (q, rows-tests (h .capacity) (h .next) rs, le-leb (length rs) (h .capacity) (omega (arith, a .count, a .room)), a .marks, and-yes) (accepted _ (a .done)))
 
-  -- no page list that passes
-  pub refused : ((ps : List StoredPage) → readPages v (h .level) es ≡ some ps → rowsOk (h .capacity) (h .next) (rowsOfPages ps) ≡ false) → false ≡ accepts (pageTest v h es)
+  pub collecting-bad : i < length es → goodPage (h .level) (h .capacity - to) (asPage (v (getD es i 0))) ≡ Bad → false ≡ accepts (pageTest v h es)
   unfolding pageTest testedPages accepts if_then_else_
-  refused f = by-option (readPages v (h .level) es) (λ q. rw q) (λ ps q. rw (q, f ps q))
-
-  pub collecting-bad : (i to : ℕ) (columns : List Row) → Collecting i to columns → i < length es
-      → goodPage (h .level) (h .capacity - to) (asPage (v (getD es i 0))) ≡ Bad → false ≡ accepts (pageTest v h es)
-  collecting-bad i to columns a l bad =
-      let e = getD es i 0 in
-      let o = readPages v (h .level) (drop (i + 1) es) in
+  collecting-bad l bad =
       let f : length (rowsOfPages (a .done)) + (h .capacity - to) ≡ h .capacity = omega (arith, a .count, a .room) in
-      refused (λ ps q.
-      bad-page (h .level) (h .capacity - to) (h .capacity) (h .next) e (a .done) f (asPage (v e)) bad o ps
-      (ap (Option·map (λ qs. a .done ++ qs)) (sym (next i to columns a l)) ∙ sym (a .rest) ∙ q))
+      by-option (readPages v (h .level) es) (λ q. rw q)
+      (λ ps q. rw (
+        q,
+        bad-page (h .level) (h .capacity - to) (h .capacity) (h .next) (getD es i 0) (a .done) f _ bad _ ps
+            (ap (Option·map (λ qs. a .done ++ qs)) (sym (next l)) ∙ sym (a .rest) ∙ q),
+      ))
 
 -- ---- the block that the code holds
 
@@ -231,13 +219,13 @@ whole-copy m xs k l h =
     let q : length m ≤ 0 + length (take blockSize (drop (blockSize * k) xs)) = omega arith in
     rw (drop-of-length-le m q) (append-nil (take blockSize (drop (blockSize * k) xs)))
 
-module _ (xs es : List ℕ) (i x : ℕ) (bs : List ℕ) (b : bs ≡ blockAt xs x) (e : x ≡ getD es i 0) where
+module _ (xs es : List ℕ) (i : ℕ) {x : ℕ} {bs : List ℕ} (b : bs ≡ blockAt xs x) (e : x ≡ getD es i 0) where
   pub seen : decodeBlock bs ≡ view xs (getD es i 0)
   unfolding view
   seen = rw (b, e)
 
-  pub page-here : (l cap w to : ℕ) (r : GoodPage) → w ≡ cap → r ≡ goodPage l (w - to) (asPage (decodeBlock bs)) → goodPage l (cap - to) (asPage (view xs (getD es i 0))) ≡ r
-  page-here l cap w to r c q = rw (← seen, ← c) (sym q)
+  pub page-here : (l to : ℕ) {cap w : ℕ} {r : GoodPage} → w ≡ cap → r ≡ goodPage l (w - to) (asPage (decodeBlock bs)) → goodPage l (cap - to) (asPage (view xs (getD es i 0))) ≡ r
+  page-here l to c q = rw (← seen, ← c) (sym q)
 
-  pub tuples-here : (l room t n : ℕ) (g : Goods l room t n (asPage (view xs (getD es i 0)))) → pageTuples n bs ≡ some (g .tuples)
-  tuples-here l room t n g = rw (← g .count) (walk-start bs (ap asPage seen ∙ g .is) .read)
+  pub tuples-here : {l room t n : ℕ} (g : Goods l room t n (asPage (view xs (getD es i 0)))) → pageTuples n bs ≡ some (g .tuples)
+  tuples-here g = rw (← g .count) (walk-start bs (ap asPage seen ∙ g .is) .read)

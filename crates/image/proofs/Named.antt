@@ -1,6 +1,6 @@
 -- The entries of directory blocks, one block after another.
 use Rattle.basics.proofs.Kit.{_≡_, refl, sym, ap, _∙_, subst, Bool, true, false, _&&_, some, none, Option, Option·map, List, [], _++_, append-nil, ℕ, _+_, _≤_}
-use Rattle.basics.proofs.Kit.{_<_, _-_, min, add-one, eqb, length, take, drop, getD, set, length-append, length-take, take-suc, eqb-true, eq-eqb, ne-eqb, arith}
+use Rattle.basics.proofs.Kit.{_<_, _-_, min, eqb, length, take, drop, getD, length-append, eqb-true, eq-eqb, ne-eqb, arith}
 use Rattle.basics.specs.Basics.{if_then_else_}
 use Rattle.basics.proofs.Facts.{by, never, lie, and-true}
 use Rattle.basics.proofs.Elements.{some-eq}
@@ -14,7 +14,7 @@ use Rattle.block_reader.specs.Answers.{reading}
 use Rattle.block_reader.specs.declared.Reading.the-variants.{IsDirectory}
 use Rattle.block_reader.proofs.Answering.{is-directory}
 use Rattle.block_forms.proofs.Laws.{decode-entries}
-use Rattle.basics.proofs.Overs.{set-next, over-then}
+use Rattle.basics.proofs.Overs.{over-then}
 use Rattle.basics.proofs.Ands.{and-no}
 use Rattle.basics.proofs.Iterations.{drop-turn, drop-end}
 use Rattle.image.specs.View.{View}
@@ -85,67 +85,61 @@ filled-not (some es) at out out′ r t f = lie (sym t ∙ f .0)
 
 -- ---- the turns
 
-module _ (v : View) (l pages : ℕ) (ds out₀ : List ℕ) where
-  -- the entries of the first i blocks
-  pub record Gathering (i at : ℕ) (out : List ℕ) : Type 0 where
-    pub done : List ℕ
-    pub count : length done ≡ at
-    pub room : at ≤ pages
-    pub put : out ≡ over out₀ 0 done
-    pub rest : readDirectories v l pages ds ≡ Option·map (λ es. done ++ es) (readDirectories v l (pages - at) (drop i ds))
+-- the entries of the first i blocks
+pub record Gathering (v : View) (l pages : ℕ) (ds out₀ : List ℕ) (i at : ℕ) (out : List ℕ) : Type 0 where
+  pub done : List ℕ
+  pub count : length done ≡ at
+  pub room : at ≤ pages
+  pub put : out ≡ over out₀ 0 done
+  pub rest : readDirectories v l pages ds ≡ Option·map (λ es. done ++ es) (readDirectories v l (pages - at) (drop i ds))
 
-  pub gathering-start : Gathering 0 0 out₀
-  gathering-start = record {
-    done = [];
-    count = refl;
-    room = omega arith;
-    put = sym (over-nil out₀ 0);
-    rest = let z : pages - 0 ≡ pages = omega arith in rw z (sym (behind-none (readDirectories v l pages ds)));
-  }
+pub gathering-start : (v : View) (l pages : ℕ) (ds out₀ : List ℕ) → Gathering v l pages ds out₀ 0 0 out₀
+gathering-start v l pages ds out₀ = record {
+  done = [];
+  count = refl;
+  room = omega arith;
+  put = sym (over-nil out₀ 0);
+  rest = let z : pages - 0 ≡ pages = omega arith in rw z (sym (behind-none (readDirectories v l pages ds)));
+}
 
-  module _ (i at : ℕ) (out : List ℕ) (a : Gathering i at out) where
-    next : i < length ds → readDirectories v l (pages - at) (drop i ds)
-        ≡ addEntries (entriesDue l (pages - at) (asDirectory (v (getD ds i 0)))) (readDirectories v l (pages - at - entriesPerBlock) (drop (i + 1) ds))
+module _ {v : View} {l pages : ℕ} {ds out₀ : List ℕ} {i at : ℕ} {out : List ℕ} (a : Gathering v l pages ds out₀ i at out) where
+  -- one block more: the code holds d
+  module _ (h : i < length ds) {d : Block} (e : d ≡ v (getD ds i 0)) (out′ : List ℕ) where
+    next : readDirectories v l (pages - at) (drop i ds)
+        ≡ addEntries (entriesDue l (pages - at) (asDirectory d)) (readDirectories v l (pages - at - entriesPerBlock) (drop (i + 1) ds))
     unfolding readDirectories
-    next h = ap (readDirectories v l (pages - at)) (drop-turn ds i h)
+    next = ap (readDirectories v l (pages - at)) (drop-turn ds i h) ∙ rw e
 
-    pub gathering-turn : (out′ : List ℕ) (r : Bool) → i < length ds → pages ≤ length out₀ → r ≡ true
-        → Filled (entriesDue l (pages - at) (asDirectory (v (getD ds i 0)))) at out r out′ → Gathering (i + 1) (at + min entriesPerBlock (pages - at)) out′
+    pub gathering-turn : {r : Bool} → pages ≤ length out₀ → r ≡ true → Filled (entriesDue l (pages - at) (asDirectory d)) at out r out′
+        → Gathering v l pages ds out₀ (i + 1) (at + min entriesPerBlock (pages - at)) out′
     unfolding addEntries
-    gathering-turn out′ r h m t f =
-        let o = entriesDue l (pages - at) (asDirectory (v (getD ds i 0))) in
-        let p = filled-yes o at out out′ r t f in
-        let n = due-count l (pages - at) (asDirectory (v (getD ds i 0))) (p .some-are) in
+    gathering-turn {r} m t f =
+        let p = filled-yes (entriesDue l (pages - at) (asDirectory d)) at out out′ r t f in
+        let n = due-count l (pages - at) (asDirectory d) (p .some-are) in
         let ro = a .room in
         let y : at ≡ 0 + at = omega arith in
         let z : pages - at - entriesPerBlock ≡ pages - (at + min entriesPerBlock (pages - at)) = omega arith in
-        let q : readDirectories v l (pages - at) (drop i ds) ≡ Option·map (λ es. p .entries ++ es)
-        (readDirectories v l (pages - (at + min entriesPerBlock (pages - at))) (drop (i + 1) ds))
-        = next h ∙ ap (λ (x : Option (List ℕ)). addEntries x (readDirectories v l (pages - at - entriesPerBlock) (drop (i + 1) ds))) (p .some-are) ∙ rw z in
+        let more = readDirectories v l (pages - (at + min entriesPerBlock (pages - at))) (drop (i + 1) ds) in
+        let q : readDirectories v l (pages - at) (drop i ds) ≡ Option·map (λ es. p .entries ++ es) more
+        = next ∙ ap (λ (x : Option (List ℕ)). addEntries x (readDirectories v l (pages - at - entriesPerBlock) (drop (i + 1) ds))) (p .some-are) ∙ rw z in
         record {
           done = a .done ++ p .entries;
           count = length-append (a .done) (p .entries) ∙ omega (arith, a .count);
           room = omega arith;
           put = p .put ∙ ap (λ (o : List ℕ). over o at (p .entries)) (a .put) ∙ ap (λ (k : ℕ). over (over out₀ 0 (a .done)) k (p .entries)) y
               ∙ over-then out₀ (a .done) (p .entries) 0 at (sym (a .count)) (omega (arith, a .count));
-          rest = a .rest ∙ ap (Option·map (λ es. a .done ++ es)) q ∙ behind-two (a .done) (p .entries)
-              (readDirectories v l (pages - (at + min entriesPerBlock (pages - at))) (drop (i + 1) ds));
+          rest = a .rest ∙ ap (Option·map (λ es. a .done ++ es)) q ∙ behind-two (a .done) (p .entries) more;
         }
 
-    pub gathering-stop : (out′ out″ : List ℕ) (r : Bool) → i < length ds → r ≡ false
-        → Filled (entriesDue l (pages - at) (asDirectory (v (getD ds i 0)))) at out r out′ → Filled (readDirectories v l pages ds) 0 out₀ false out″
+    pub gathering-stop : {r : Bool} (out″ : List ℕ) → r ≡ false → Filled (entriesDue l (pages - at) (asDirectory d)) at out r out′
+        → Filled (readDirectories v l pages ds) 0 out₀ false out″
     unfolding addEntries
-    gathering-stop out′ out″ r h t f =
-        let e = filled-not (entriesDue l (pages - at) (asDirectory (v (getD ds i 0)))) at out out′ r t f in
-        not-put (readDirectories v l pages ds) 0 out₀ out″ (a .rest ∙ rw (next h, e))
+    gathering-stop {r} out″ t f =
+        let e = filled-not (entriesDue l (pages - at) (asDirectory d)) at out out′ r t f in
+        not-put (readDirectories v l pages ds) 0 out₀ out″ (a .rest ∙ rw (next, e))
 
-    pub gathering-end : length ds ≤ i → Filled (readDirectories v l pages ds) 0 out₀ true out
-    unfolding readDirectories
-    gathering-end h =
-        let q : readDirectories v l pages ds ≡ some (a .done) = a .rest ∙ rw (drop-end ds i h) (ap some (append-nil (a .done))) in
-        rw q (refl, a .put)
-
--- the block that the code holds is the one that is named
-pub filled-there : (b d : Block) → b ≡ d → (l p at : ℕ) (out out′ : List ℕ) (r : Bool)
-    → Filled (entriesDue l p (asDirectory b)) at out r out′ → Filled (entriesDue l p (asDirectory d)) at out r out′
-filled-there b d e l p at out out′ r f = subst (λ (x : Block). Filled (entriesDue l p (asDirectory x)) at out r out′) e f
+  pub gathering-end : length ds ≤ i → Filled (readDirectories v l pages ds) 0 out₀ true out
+  unfolding readDirectories
+  gathering-end h =
+      let q : readDirectories v l pages ds ≡ some (a .done) = a .rest ∙ rw (drop-end ds i h) (ap some (append-nil (a .done))) in
+      rw q (refl, a .put)

@@ -198,26 +198,31 @@ none-many : length noEntries ≡ capacityLimit
 unfolding noEntries
 none-many = length-replicate {A = ℕ} capacityLimit 0
 
-module _ (xs : List ℕ) (h : Header) (pages used : ℕ) where
-  -- the counts that the code works with
-  pub record Begun : Type 0 where
-    pub passed : Passing xs h
-    pub pages-are : pages ≡ h .pages
-    pub used-are : used ≡ h .directories
+-- the counts that the code works with
+pub record Begun (xs : List ℕ) (h : Header) (pages used : ℕ) : Type 0 where
+  pub passed : Passing xs h
+  pub pages-are : pages ≡ h .pages
+  pub used-are : used ≡ h .directories
 
-  module _ (b : Begun) where
+-- the entries that were read
+pub record Got (xs : List ℕ) (h : Header) (pages used : ℕ) (out : List ℕ) : Type 0 where
+  pub begun : Begun xs h pages used
+  pub entries : List ℕ
+  pub read : entriesRead (view xs) h ≡ some entries
+  pub out-are : out ≡ over noEntries 0 entries
+  pub front : take pages out ≡ entries
+
+module _ {xs : List ℕ} {h : Header} {pages used : ℕ} where
+  module _ (b : Begun xs h pages used) where
     pub four : used ≤ 4
     four = omega (arith, b .used-are, b .passed .counts .four)
 
-    pub fits : pages ≤ capacityLimit
-    fits = omega (arith, b .pages-are, b .passed .counts .pages, b .passed .counts .high)
-
-    pub within-none : (l : List ℕ) → l ≡ noEntries → pages ≤ length l
-    within-none l e = omega (arith, fits, ap length e, none-many)
+    pub within-none : {l : List ℕ} → l ≡ noEntries → pages ≤ length l
+    within-none e = omega (arith, b .pages-are, b .passed .counts .pages, b .passed .counts .high, ap length e, none-many)
 
     pub named : all (blockOk (blockCount xs)) (take used (numbersOf h)) ≡ true
     unfolding directoryBlocks
-    named = ap (λ (k : ℕ). all (blockOk (blockCount xs)) (take k (numbersOf h))) (b .used-are) ∙ b .passed .directories
+    named = rw (b .used-are) (b .passed .directories)
 
     read-are : readDirectories (view xs) (h .level) pages (take used (numbersOf h)) ≡ entriesRead (view xs) h
     unfolding directoryBlocks
@@ -228,57 +233,48 @@ module _ (xs : List ℕ) (h : Header) (pages used : ℕ) where
     unfolding directoriesFor
     enough = simp length-take (omega (arith, four, b .used-are, b .pages-are, b .passed .counts .directories))
 
-    module _ (none out : List ℕ) (e : none ≡ noEntries) (r : Bool)
+    module _ {none : List ℕ} (e : none ≡ noEntries) (out : List ℕ) (r : Bool)
         (f : Filled (readDirectories (view xs) (h .level) pages (take used (numbersOf h))) 0 none r out) where
       pub not-read : r ≡ false → pagesStage (view xs) h ≡ refuses 23
       not-read t = bad-directory (view xs) h (sym read-are ∙ filled-not _ 0 none out r t f)
 
-      -- the entries that were read
-      pub record Got : Type 0 where
-        pub entries : List ℕ
-        pub read : entriesRead (view xs) h ≡ some entries
-        pub out-are : out ≡ over noEntries 0 entries
-        pub front : take pages out ≡ entries
-
-      pub got : r ≡ true → Got
+      pub got : r ≡ true → Got xs h pages used out
       unfolding over
       got t =
           let q = filled-yes (readDirectories (view xs) (h .level) pages (take used (numbersOf h))) 0 none out r t f in
           let n = entries-count (view xs) (h .level) (take used (numbersOf h)) pages (q .entries) enough (q .some-are) in
           let o : out ≡ over noEntries 0 (q .entries) = q .put ∙ ap (λ (l : List ℕ). over l 0 (q .entries)) e in
           record {
+            begun = b;
             entries = q .entries;
             read = sym read-are ∙ q .some-are;
             out-are = o;
             front = ap (take pages) o ∙ take-at (q .entries) (drop (0 + length (q .entries)) noEntries) pages n;
           }
 
-      module _ (g : Got) (k : Bool) (ok : k ≡ entriesOk (h .blocks) (take used (numbersOf h)) (take pages out)) where
-        ok-are : k ≡ entriesOk (h .blocks) (directoryBlocks h) (g .entries)
-        unfolding directoryBlocks
-        ok-are = ok ∙ rw (b .used-are, g .front)
+  module _ {out : List ℕ} (g : Got xs h pages used out) {k : Bool} (ok : k ≡ entriesOk (h .blocks) (take used (numbersOf h)) (take pages out)) where
+    ok-are : {b : Bool} → k ≡ b → entriesOk (h .blocks) (directoryBlocks h) (g .entries) ≡ b
+    unfolding directoryBlocks
+    ok-are t = rw (← g .begun .used-are, ← g .front) (sym ok ∙ t)
 
-        pub not-ok : k ≡ false → pagesStage (view xs) h ≡ refuses 23
-        not-ok t = bad-entries (view xs) h (g .entries) (g .read) (sym ok-are ∙ t)
+    pub not-ok : k ≡ false → pagesStage (view xs) h ≡ refuses 23
+    not-ok t = bad-entries (view xs) h (g .entries) (g .read) (ok-are t)
 
-        module _ (t : k ≡ true) where
-          -- every entry is a block of the image
-          pub in-image : all (blockOk (blockCount xs)) (take pages out) ≡ true
-          unfolding entriesOk every
-          in-image = rw (g .front, ← b .passed .counts .blocks) (and-true (all (blockOk (h .blocks)) (g .entries)) _ (sym ok-are ∙ t) .0)
+    module _ (t : k ≡ true) where
+      -- every entry is a block of the image
+      pub in-image : all (blockOk (blockCount xs)) (take pages out) ≡ true
+      unfolding entriesOk every
+      in-image = rw (g .front, ← g .begun .passed .counts .blocks) (and-true (all (blockOk (h .blocks)) (g .entries)) _ (ok-are t) .0)
 
-          module _ (m : Bool) (pages-ok : m ≡ accepts (pageTest (view xs) h (take pages out))) where
-            test-are : accepts (pageTest (view xs) h (g .entries)) ≡ m
-            test-are = sym (pages-ok ∙ rw (g .front))
+      module _ {m : Bool} (pages-ok : m ≡ accepts (pageTest (view xs) h (take pages out))) where
+        test-are : accepts (pageTest (view xs) h (g .entries)) ≡ m
+        test-are = sym (pages-ok ∙ rw (g .front))
 
-            pub wrong-pages : m ≡ false → pagesStage (view xs) h ≡ refuses 24
-            wrong-pages q = bad-pages (view xs) h (g .entries) (g .read) (sym ok-are ∙ t) (test-are ∙ q)
+        pub wrong-pages : m ≡ false → pagesStage (view xs) h ≡ refuses 24
+        wrong-pages q = bad-pages (view xs) h (g .entries) (g .read) (ok-are t) (test-are ∙ q)
 
-            pub right-pages : m ≡ true → record { refusal = 0; entries = out } ≡ pagesAnswer (pagesStage (view xs) h)
-            right-pages q =
-                let a = all-good (view xs) h (g .entries) (g .read) (sym ok-are ∙ t) (test-are ∙ q) in
-                let o = g .out-are in
-                (λ i. record { refusal = 0; entries = o i }) ∙ sym a
+        pub right-pages : m ≡ true → record { refusal = 0; entries = out } ≡ pagesAnswer (pagesStage (view xs) h)
+        right-pages q = rw (g .out-are) (sym (all-good (view xs) h (g .entries) (g .read) (ok-are t) (test-are ∙ q)))
 
 -- ---- all together
 

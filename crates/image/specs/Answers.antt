@@ -1,13 +1,16 @@
 -- What the functions of the tests answer.
-use Prim.Native.Nat.{ℕ}
+use Prim.Native.Nat.{ℕ, _≤_}
 use mathlib.Core.Path.{_≡_}
 use mathlib.Core.Bool.{Bool, true, false}
 use mathlib.Core.Option.{Option, none, some}
 use mathlib.Core.List.{List, map}
+use Rattle.basics.specs.Basics.{all}
 use Rattle.basics.specs.Lists.{over}
 use Rattle.block_forms.specs.Spell.{zeros}
 use Rattle.block_forms.specs.declared.Header.{Header}
-use Rattle.image.specs.Stages.{Stage, refuses, holds, capacityLimit, StoredPage}
+use Rattle.image_rows.specs.Columns.{ColumnsHold}
+use Rattle.image.specs.View.{blockCount}
+use Rattle.image.specs.Stages.{Stage, refuses, holds, capacityLimit, blockOk, StoredPage}
 use Rattle.image.specs.Whole.{Contents}
 use Rattle.image.specs.declared.HeaderTest.{HeaderTest}
 use Rattle.image.specs.declared.HeaderTest.the-variants.{Passed, Refused}
@@ -20,6 +23,12 @@ use Rattle.image.specs.declared.ImageTest.{ImageTest}
 abbrev pub Filled : Option (List ℕ) → ℕ → List ℕ → Bool → List ℕ → Type 0
 Filled none at out r out′ = r ≡ false
 Filled (some es) at out r out′ = (r ≡ true) × (out′ ≡ over out at es)
+
+-- the pages named may be tested: their blocks stand in the image, and the columns have room for every tuple
+pub record Testable (img es : List ℕ) (capacity : ℕ) (ps ns os ms : List ℕ) : Type 0 where
+  pub inside : all (blockOk (blockCount img)) es ≡ true
+  pub few : capacity ≤ capacityLimit
+  pub columns : ColumnsHold ps ns os ms capacity
 
 -- the stage passed
 unfoldable pub accepts : {A : Type 0} → Stage A → Bool

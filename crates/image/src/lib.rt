@@ -8,11 +8,10 @@ ghost use Rattle.basics.specs.Lists.{over};
 ghost use Rattle.block_forms.specs.Limits.{blockSize, entriesPerBlock};
 ghost use Rattle.block_forms.specs.Block.{asDirectory};
 ghost use Rattle.block_forms.specs.Decode.{decodeBlock};
-ghost use Rattle.image_rows.specs.Columns.{ColumnsHold};
 ghost use Rattle.image.specs.View.{view, blockAt, blockCount};
 ghost use Rattle.image.specs.Stages.{refuses, holds, capacityLimit, blockOk, entriesDue, readDirectories, pageTest};
 ghost use Rattle.image.specs.Whole.{headerStage, pagesStage, readImage};
-ghost use Rattle.image.specs.Answers.{Filled, accepts, noEntries, headerAnswer, pagesAnswer, imageAnswer};
+ghost use Rattle.image.specs.Answers.{Filled, Testable, accepts, noEntries, headerAnswer, pagesAnswer, imageAnswer};
 
 // A header, or the refusal's number.
 pub enum HeaderTest {
@@ -73,9 +72,7 @@ fn test_rows(
     owners: &mut [u64],
     marks: &mut [u8],
 ) -> bool
-    requires { ⌜ all (blockOk (blockCount (now image))) (now entries) ≡ true ⌝ }
-    requires { ⌜ h .capacity ≤ capacityLimit ⌝ }
-    requires { ⌜ ColumnsHold (now places) (now numbers) (now owners) (now marks) (h .capacity) ⌝ }
+    requires { ⌜ Testable (now image) (now entries) (h .capacity) (now places) (now numbers) (now owners) (now marks) ⌝ }
     ensures { λ r. ⌜ r ≡ accepts (pageTest (view (now (image .entry))) h (now (entries .entry))) ⌝ }
 {
     let level = h.level;

@@ -1,6 +1,6 @@
 -- What a page that was read says of its bytes, and what its tests make of it.
-use Rattle.basics.proofs.Kit.{_≡_, refl, sym, _∙_, subst, true, false, not, some, List, [], _∷_, ℕ, suc, leb, length, le-leb, arith}
-use Rattle.basics.specs.Basics.{if_then_else_, all, every, isEmpty}
+use Rattle.basics.proofs.Kit.{_≡_, sym, _∙_, subst, true, false, some, List, [], _∷_, ℕ, leb, length}
+use Rattle.basics.specs.Basics.{if_then_else_, all, every}
 use Rattle.block_forms.specs.Tuple.{Tuple}
 use Rattle.block_forms.specs.Block.{asPage}
 use Rattle.block_forms.specs.Decode.{pageTuples, decodeBlock}
@@ -10,6 +10,7 @@ use Rattle.block_reader.proofs.Answering.{is-page}
 use Rattle.block_reader.proofs.Walk.{walk-start}
 use Rattle.image_rows.specs.Rows.{rowsOf, markOk}
 use Rattle.basics.proofs.Ands.{and-assoc}
+use Rattle.basics.proofs.Elements.{any-there}
 use Rattle.image_page.specs.Page.{pageOk, goodPage}
 use Rattle.image_page.specs.declared.GoodPage.the-variants.{Good, Bad}
 
@@ -24,11 +25,6 @@ pub passed : (xs : List ℕ) {t n k : ℕ} → IsPage t n k ≡ reading (decodeB
 passed xs e =
     let p = is-page (decodeBlock xs) e in
     record { tuples = p .tuples; is = p .is; count = p .count; read = subst (λ m. pageTuples m xs ≡ some (p .tuples)) (p .count) (walk-start xs (p .is) .read) }
-
-any-there : (ts : List Tuple) → not (isEmpty ts) ≡ leb 1 (length ts)
-unfolding isEmpty
-any-there [] = refl
-any-there (x ∷ ts) = sym (le-leb 1 (suc (length ts)) (omega arith))
 
 module _ (l room : ℕ) {t n k : ℕ} {xs : List ℕ} (p : Passed t n k xs) where
   -- the tests of a page in the order of the code

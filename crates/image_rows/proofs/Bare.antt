@@ -1,7 +1,7 @@
 -- Rows without their payloads: what columns hold of rows, and the tests on them.
-use Rattle.basics.proofs.Kit.{_≡_, refl, Bool, _&&_, List, [], _∷_, map, ℕ, leb, length}
-use Rattle.basics.specs.Basics.{all, every, paired, distinct}
-use Rattle.image_rows.specs.Rows.{Row, number, isAt, isLower, follows, startsWell, isBelow, statementOk, transactions, openLimit, markOk, rowsOk}
+use Rattle.basics.proofs.Kit.{_≡_, refl, _&&_, List, [], _∷_, map, ℕ, leb, length}
+use Rattle.basics.specs.Basics.{all, every, paired}
+use Rattle.image_rows.specs.Rows.{Row, number, isAt, isLower, follows, startsWell, markOk, rowsOk}
 use Rattle.image_rows.specs.Columns.{bare, columnsOk}
 use Rattle.basics.proofs.Ands.{and-assoc, and-comm, and-swap}
 use Rattle.basics.proofs.Maps.{paired-kept}
@@ -33,12 +33,6 @@ columns-bare next rs =
 
 -- ---- all tests, in the order of the code
 
-order : (p s d b l t m k : Bool) → every (p ∷ s ∷ d ∷ b ∷ l ∷ t ∷ m ∷ k ∷ []) ≡ (every (p ∷ s ∷ d ∷ b ∷ t ∷ k ∷ []) && (l && m))
-unfolding every
-order p s d b l t m k = simp (and-assoc, and-comm, and-swap)
-
 pub rows-tests : (cap next : ℕ) (rs : List Row) → rowsOk cap next rs ≡ (columnsOk next rs && (leb (length rs) cap && all markOk rs))
-unfolding rowsOk columnsOk
-rows-tests cap next rs =
-    order (paired follows rs) (startsWell rs) (distinct (map number rs)) (all (isBelow next) rs) (leb (length rs) cap)
-    (leb (length (transactions rs)) openLimit) (all markOk rs) (all (statementOk rs) rs)
+unfolding rowsOk columnsOk every
+rows-tests cap next rs = simp (and-assoc, and-comm, and-swap)

@@ -1,11 +1,10 @@
 -- The transactions of a list of rows: those that have a row.
-use Rattle.basics.proofs.Kit.{_≡_, refl, sym, ap, _∙_, Bool, true, _||_, List, [], _∷_, ℕ, eqb, eqb-true}
+use Rattle.basics.proofs.Kit.{_≡_, refl, sym, ap, _∙_, Bool, _||_, List, [], _∷_, ℕ}
 use Rattle.basics.specs.Basics.{if_then_else_, any, isIn}
 use Rattle.basics.proofs.Facts.{by}
 use Rattle.block_forms.specs.Tuple.{Owner, committed, tentative}
 use Rattle.image_rows.specs.Rows.{Row, isBy, isOwn, addOwner, transactions}
 use Rattle.basics.proofs.Searches.{any-cons}
-use Rattle.basics.proofs.Elements.{eqb-swap}
 use Rattle.basics.proofs.Members.{in-cons, or-in}
 
 in-added : (t : ℕ) (o : Owner) (ts : List ℕ) → isIn t (addOwner o ts) ≡ (isBy t o || isIn t ts)

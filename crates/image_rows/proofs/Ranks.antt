@@ -2,11 +2,11 @@
 -- how many rows its transaction wrote before; and the other way round.
 use Rattle.basics.proofs.Kit.{_≡_, refl, sym, ap, _∙_, Bool, true, _&&_, not, List, ℕ, suc, _+_, _%_, _≤_, _<_, zero, _/_, _-_, eqb, ltb, getD, lt-ltb, le-ltb, eqb-true, eq-eqb, ne-eqb}
 use Rattle.basics.proofs.Kit.{eqb-false, not-true, arith}
-use Rattle.basics.proofs.Facts.{by, and-true}
+use Rattle.basics.proofs.Facts.{by, and-true, one-most}
 use Rattle.basics.specs.Basics.{oneIf}
 use Rattle.basics.proofs.Members.{compared}
 use Rattle.block_forms.specs.Limits.{statementLimit}
-use Rattle.image_rows.proofs.Totals.{total, bit-most, bit-true, bit-suc, bit-none, bit-below, total-le, total-same, total-sum, total-none, total-some}
+use Rattle.image_rows.proofs.Totals.{total, bit-true, bit-suc, bit-none, bit-below, total-le, total-same, total-sum, total-none, total-some}
 use Rattle.image_rows.proofs.Totals.{total-find, total-one}
 
 -- transaction and statement of a code
@@ -104,7 +104,7 @@ module _ (os ns : List ℕ) (n : ℕ) where
     numbered-most : (t m : ℕ) → numbered t m ≤ 1
     unfolding numbered
     numbered-most t m =
-        total-one _ n (λ k. bit-most (own t (getD os k 0) && eqb (getD ns k 0) m))
+        total-one _ n (λ k. one-most (own t (getD os k 0) && eqb (getD ns k 0) m))
         (λ j k l h a b. apart j k l h (at j a ∙ sym (at k b)))
       where
         at : (k : ℕ) → 1 ≤ oneIf (own t (getD os k 0) && eqb (getD ns k 0) m) → getD ns k 0 ≡ m
@@ -184,7 +184,7 @@ module _ (os ns : List ℕ) (n : ℕ) where
     placed-most : (t c : ℕ) → placed t c ≤ 1
     unfolding placed
     placed-most t c =
-        total-one _ n (λ k. bit-most (own t (getD os k 0) && eqb (stOf (getD os k 0)) c)) (λ j k l h a b.
+        total-one _ n (λ k. one-most (own t (getD os k 0) && eqb (stOf (getD os k 0)) c)) (λ j k l h a b.
         let x = at j a in let y = at k b in y .0 (ordered .once j k l h (same-code (getD os j 0) (getD os k 0) (x .0) (y .0) (x .1 .0 ∙ sym (y .1 .0)) (x .1 .1 ∙ sym (y .1 .1)))))
       where
         at : (k : ℕ) → 1 ≤ oneIf (own t (getD os k 0) && eqb (stOf (getD os k 0)) c) → (getD os k 0 ≡ 0 → ⊥) × ((txOf (getD os k 0) ≡ t) × (stOf (getD os k 0) ≡ c))

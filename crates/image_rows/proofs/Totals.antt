@@ -11,10 +11,6 @@ unfoldable pub total : (ℕ → ℕ) → ℕ → ℕ
 total w zero = 0
 total w (suc n) = w n + total w n
 
-pub bit-most : (b : Bool) → oneIf b ≤ 1
-bit-most true = omega arith
-bit-most false = omega arith
-
 pub bit-true : (b : Bool) → 1 ≤ oneIf b → b ≡ true
 bit-true true h = refl
 bit-true false h = absurd (omega arith)

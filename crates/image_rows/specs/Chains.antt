@@ -42,6 +42,13 @@ pub record Table (xs heads links : List ℕ) (n : ℕ) : Type 0 where
   pub head : (b : ℕ) → b ≤ bucketCount → getD heads b 0 ≡ lastBy (inBucket b) xs n
   pub chain : Chained xs links n
 
+-- a hash table of n rows may be made: they are not too many, keys and links have room for them, and no row is linked yet
+pub record Linkable (xs heads links : List ℕ) (n : ℕ) : Type 0 where
+  pub few : n ≤ rowLimit
+  pub rows : n ≤ length xs
+  pub linked : n ≤ length links
+  pub empty : Table xs heads links 0
+
 -- row i is one of the first n, and the hash table is theirs
 pub record TableRow (ns xs heads links : List ℕ) (n i : ℕ) : Type 0 where
   pub inside : i < n

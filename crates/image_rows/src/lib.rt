@@ -8,7 +8,7 @@ ghost use lib.Dec.{eqb};
 ghost use Rattle.basics.specs.Basics.{all, paired, isIn, distinct};
 ghost use Rattle.image_rows.specs.Rows.{statementOk, follows, startsWell, isBelow};
 ghost use Rattle.image_rows.specs.Columns.{coded, rowsIn, columnsOk, ColumnsHold, OwnersHold};
-ghost use Rattle.image_rows.specs.Chains.{rowLimit, bucketCount, lastBy, bucketOf, Chain, Table, TableRow, keysOnce, isNext, statementsRise, isStart, starts};
+ghost use Rattle.image_rows.specs.Chains.{rowLimit, bucketCount, lastBy, bucketOf, Chain, Table, Linkable, TableRow, keysOnce, isNext, statementsRise, isStart, starts};
 
 // The rows of an image, at most.
 pub const ROWS: usize = 1024;
@@ -65,8 +65,7 @@ fn find(keys: &[u64], links: &[u16], head: usize, x: u64) -> usize
 
 // Every key but 0 is there once. If so, the hash table of all rows is made.
 fn link_all(keys: &[u64], count: usize, heads: &mut [u16], links: &mut [u16]) -> bool
-    requires { ⌜ (count ≤ rowLimit) × (Table (now keys) (now heads) (now links) 0) ⌝ }
-    requires { ⌜ (count ≤ length (now keys)) × (count ≤ length (now links)) ⌝ }
+    requires { ⌜ Linkable (now keys) (now heads) (now links) count ⌝ }
     ensures once { λ r. ⌜ r ≡ keysOnce (now (keys .entry)) count ⌝ }
     ensures made { λ r. ⌜ (r ≡ true → Table (now (keys .entry)) (now (heads .exit)) (now (links .exit)) count) ⌝ }
 {

@@ -1,6 +1,6 @@
 -- Numbers and bytes read before and after a change of other bytes, and behind one that moved or wrote them.
 use Rattle.basics.proofs.Kit.{_≡_, sym, ap, _∙_, ⊎-elim, List, _∷_, _++_, append-nil, ℕ, _+_, _%_, _≤_, _<_, _/_, _-_, add-zero, zero-add, length, drop, getD, length-append, length-drop}
-use Rattle.basics.proofs.Kit.{drop-of-length-le, List·getD-append, getD-drop, getD-append-add, ext-getD, arith}
+use Rattle.basics.proofs.Kit.{subst, replicate, length-replicate, drop-of-length-le, List·getD-append, getD-drop, getD-append-add, ext-getD, arith}
 use Rattle.memory_bytes.specs.Bytes.{le2, le4, bytes, bytes2, bytes4, Apart, Raised, Lowered, Wrote}
 use Rattle.basics.proofs.Tabs.{lt-or-ge, tab-cong, tab-self, length-tab, getD-tab}
 
@@ -97,8 +97,14 @@ module _ {m m' : List ℕ} {a : ℕ} where
       omega (arith, first-wrote s, s .here 1 (omega arith), s .here 2 (omega arith), s .here 3 (omega arith))
 
 -- a block copied out over as many bytes is the bytes that were there
-pub copied-whole : (m xs : List ℕ) (a n : ℕ) {ys : List ℕ} → length xs ≡ n → ys ≡ bytes m a n ++ drop n xs → ys ≡ bytes m a n
-copied-whole m xs a n l e = let h : length xs ≤ n = omega arith in e ∙ ap (λ (z : List ℕ). bytes m a n ++ z) (drop-of-length-le xs h) ∙ append-nil (bytes m a n)
+pub copied-whole : (m : List ℕ) (a n : ℕ) {ys : List ℕ} → ys ≡ bytes m a n ++ drop n (replicate n 0) → ys ≡ bytes m a n
+copied-whole m a n e =
+    let h : length (replicate {A = ℕ} n 0) ≤ n = omega (arith, length-replicate {A = ℕ} n 0) in
+    e ∙ ap (λ (z : List ℕ). bytes m a n ++ z) (drop-of-length-le (replicate n 0) h) ∙ append-nil (bytes m a n)
+
+-- and is written as such
+pub copied-over : (a n : ℕ) {m m' ys : List ℕ} {to : ℕ} → ys ≡ bytes m a n ++ drop n (replicate n 0) → Wrote m m' to ys → Wrote m m' to (bytes m a n)
+copied-over a n {m} {m'} {to = to} e w = subst (Wrote m m' to) (copied-whole m a n e) w
 
 -- written from the first byte on
 pub front-wrote : {m m' xs : List ℕ} → Wrote m m' 0 xs → length xs ≤ length m → m' ≡ xs ++ drop (length xs) m

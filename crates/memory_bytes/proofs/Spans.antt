@@ -1,27 +1,12 @@
 -- Where the numbers that are a key stand: what the searches find of them, and one turn of each loop that looks for the span of them.
-use Rattle.basics.proofs.Kit.{_≡_, refl, sym, ap, _∙_, ⊎-elim, Bool, true, false, _&&_, cond, List, ℕ, suc, _+_, _*_, _≤_, _<_, zero, _-_, eqb, getD, eqb-true, ne-eqb, eqb-false, arith}
+use Rattle.basics.proofs.Kit.{_≡_, refl, sym, ap, _∙_, ⊎-elim, Bool, true, false, _&&_, cond, List, ℕ, _+_, _*_, _≤_, _<_, _-_, eqb, eqb-true, ne-eqb, eqb-false, arith}
 use Rattle.basics.specs.Basics.{any}
 use Rattle.memory_bytes.specs.Columns.{equals, Covers, Grouped}
 use Rattle.basics.specs.Lists.{tab, firstIndex, lastIndex}
 use Rattle.memory_bytes.specs.Bytes.{le4, column4}
-use Rattle.basics.proofs.Tabs.{lt-or-ge, length-tab, getD-tab}
-use Rattle.basics.proofs.Searches.{any-cons}
-use Rattle.basics.proofs.Found.{any-none, first-most, first-before, last-most, last-behind}
-
--- ---- a test of the numbers of a column, by index
-
-module _ (g : ℕ → ℕ) (f : ℕ → Bool) where
-  pub test-at : (s n j : ℕ) → s ≤ j → j < s + n → f (getD (tab g s n) (j - s) 0) ≡ f (g j)
-  test-at s n j a b = let e : s + (j - s) ≡ j = omega arith in ap f (getD-tab g s n (j - s) 0 (omega arith) ∙ ap g e)
-
-  -- where none of a group passes, no number of it does, and back
-  none-at : (s n : ℕ) → any f (tab g s n) ≡ false → (j : ℕ) → s ≤ j → j < s + n → f (g j) ≡ false
-  none-at s n h j a b = sym (test-at s n j a b) ∙ any-none f 0 (tab g s n) (j - s) h (omega (arith, length-tab g s n))
-
-  none-all : (s n : ℕ) → ((j : ℕ) → s ≤ j → j < s + n → f (g j) ≡ false) → any f (tab g s n) ≡ false
-  unfolding any
-  none-all s zero h = refl
-  none-all s (suc n) h = any-cons f (g s) (tab g (suc s) n) ∙ rw (h s (omega arith) (omega arith)) (none-all (suc s) n (λ j a b. h j (omega arith) (omega arith)))
+use Rattle.basics.proofs.Tabs.{lt-or-ge, length-tab, tab-within}
+use Rattle.basics.proofs.Searches.{none-tab, tab-none-at}
+use Rattle.basics.proofs.Found.{first-most, first-before, last-most, last-behind}
 
 -- ---- the first one that is the key, or the end; from it to the last one all of them stand
 
@@ -39,8 +24,8 @@ found-covers g key s e a b h ea eb =
       low = omega arith;
       order = omega arith;
       high = omega arith;
-      before = λ j x y. sym (test-at g (equals key) s (e - s) j x (omega arith)) ∙ first-before (equals key) 0 (tab g s (e - s)) (j - s) (omega arith);
-      behind = λ j x y. sym (test-at g (equals key) a (e - a) j (omega arith) (omega arith))
+      before = λ j x y. ap (equals key) (sym (tab-within g s (e - s) j 0 x (omega arith))) ∙ first-before (equals key) 0 (tab g s (e - s)) (j - s) (omega arith);
+      behind = λ j x y. ap (equals key) (sym (tab-within g a (e - a) j 0 (omega arith) (omega arith)))
           ∙ last-behind (equals key) 0 (tab g a (e - a)) (j - a) (omega arith) (omega arith);
     }
 
@@ -130,7 +115,7 @@ module _ {g : ℕ → ℕ} {key s : ℕ} where
         }
     turn-by false z q w =
         let h = p .high in
-        let none : (j : ℕ) → k ≤ j → j < e → equals key (g j) ≡ false = λ j x y. none-at g (equals key) t 16 (sym q) j (omega arith) (omega arith) in
+        let none : (j : ℕ) → k ≤ j → j < e → equals key (g j) ≡ false = λ j x y. tab-none-at (equals key) g t 16 (sym q) j (omega arith) (omega arith) in
         record {
           found = p .found;
           high = omega arith;
@@ -173,7 +158,7 @@ module _ (m : List ℕ) (base key : ℕ) {s e lo hi : ℕ} (p : Grouped (column4
         low = omega arith;
         order = ⊎-elim
             (λ (u : hi - 16 + b < lo + a).
-            let none = none-all (column4 m base) (equals key) lo 16
+            let none = none-tab (equals key) (column4 m base) lo 16
             (λ j x y. ⊎-elim (λ (v : j < lo + a). before j (omega arith) v) (λ (v : lo + a ≤ j). behind j (omega arith) (omega arith)) (lt-or-ge j (lo + a))) in
             let z : _≡_ {A = ℕ} 0 1 = ap (λ (t : Bool). cond t 0 1) (sym (f .1 .1) ∙ none) in absurd (omega arith))
             (λ (u : lo + a ≤ hi - 16 + b). u)

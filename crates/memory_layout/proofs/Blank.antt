@@ -1,7 +1,7 @@
 -- A fresh store: over any old content, zeros in the head but for three numbers, and no block in use.
 use Rattle.image.specs.Stages.{capacityLimit}
 use Rattle.block_forms.specs.Limits.{blockLimit}
-use Rattle.basics.proofs.Kit.{_≡_, refl, ap, _∙_, true, not, some, List, ℕ, _+_, _*_, _≤_, _<_, _-_, eqb, length, getD, length-replicate, replicate, le-ltb, arith}
+use Rattle.basics.proofs.Kit.{subst, _≡_, refl, ap, _∙_, true, not, some, List, ℕ, _+_, _*_, _≤_, _<_, eqb, length, getD, length-replicate, replicate, le-ltb, arith}
 use Rattle.basics.specs.Basics.{if_then_else_, all}
 use Rattle.model.specs.Recover.{freshStore}
 use Rattle.memory_bytes.specs.Bytes.{le2, le4, bytes4, Apart, Wrote}
@@ -12,6 +12,7 @@ use Rattle.memory_layout.specs.Views.{headOf, countsOf, tableEnd, pageCo
 use Rattle.memory_layout.specs.Flat.{capacityOf, opensOf, rowsOf, entriesOf, namedOf, directoriesOf, Becomes}
 use Rattle.memory_layout.specs.Store.{nest, checkpointOf, storeOf, storeIn, hasRows, FreshFits, freshFlat}
 use Rattle.memory_layout.proofs.Laws.{becomes-store}
+use Rattle.memory_layout.proofs.Changes.{apart-then}
 use Rattle.memory_layout.proofs.Marks.{clear-used, zeros-at}
 
 -- ---- the slots' names: the first i of n are written
@@ -20,12 +21,7 @@ pub names-start : (m : List ℕ) (a : ℕ) → Apart m m a 0
 names-start m a = record { size = refl; below = λ b h. refl; above = λ b h. refl }
 
 pub names-turn : {m m1 m2 : List ℕ} {a : ℕ} (i : ℕ) → Apart m m1 a (i * 2) → Apart m1 m2 (a + i * 2) 2 → Apart m m2 a ((i + 1) * 2)
-names-turn i s w =
-    record {
-      size = w .size ∙ s .size;
-      below = λ b h. w .below b (omega arith) ∙ s .below b h;
-      above = λ b h. w .above b (omega arith) ∙ s .above b (omega arith);
-    }
+names-turn {m} {m2 = m2} {a = a} i s w = let e : i * 2 + 2 ≡ (i + 1) * 2 = omega arith in subst (Apart m m2 a) e (apart-then 2 s w)
 
 -- ---- the head
 

@@ -119,7 +119,7 @@ module _ (f : Flat) (full : total (f .entries) ≡ length (f .rows)) (p : ℕ) (
   page-set e ws R l eR =
       let eE : set (f .entries) p e ≡ take p (f .entries) ++ (e ∷ [] ++ drop (p + 1) (f .entries)) =
       set-split (f .entries) p e h ∙ ap (λ (k : ℕ). take p (f .entries) ++ e ∷ drop k (f .entries)) (sym (add-one p)) in
-      ap (λ (z : List Entry). nest z R) eE ∙ ap (nest (take p (f .entries) ++ (e ∷ [] ++ drop (p + 1) (f .entries)))) eR
+      (λ i. nest (eE i) (eR i))
       ∙ for-page (e ∷ []) ws (omega arith) ∙ ap (λ (z : List Page). take p (pagesIn f) ++ (z ++ drop (suc p) (pagesIn f))) (nest-one e ws l)
 
   -- its entry changed
@@ -163,8 +163,7 @@ module _ (f : Flat) (full : total (f .entries) ≡ length (f .rows)) (p : ℕ) (
       row-dropped one =
           let e : i ≡ startOf f p = omega arith in
           let z : i + 1 ≡ startOf f p + entryIn f p .count = omega arith in
-          ap (λ (k : ℕ). nest (removeAt p (f .entries)) (take k (f .rows) ++ drop (i + 1) (f .rows))) e
-          ∙ ap (λ (k : ℕ). nest (removeAt p (f .entries)) (take s (f .rows) ++ drop k (f .rows))) z ∙ for-page [] [] refl
+          (λ j. nest (removeAt p (f .entries)) (take (e j) (f .rows) ++ drop (z j) (f .rows))) ∙ for-page [] [] refl
 
   -- cut after its first d .count rows
   pub page-split : (d e : Entry) → d .count + e .count ≡ entryIn f p .count
@@ -208,8 +207,6 @@ module _ (f : Flat) (full : total (f .entries) ≡ length (f .rows)) (p : ℕ) w
       let s : ℕ = startOf f p in
       let sz : s ≡ s + 0 = omega arith in
       let pz : p ≡ p + 0 = omega arith in
-      ap (λ (k : ℕ). nest (take p (f .entries) ++ e ∷ drop k (f .entries)) (insertAt s x (f .rows))) pz
-      ∙ ap (λ (k : ℕ). nest (take p (f .entries) ++ e ∷ drop (p + 0) (f .entries)) (take s (f .rows) ++ x ∷ drop k (f .rows))) sz
+      (λ i. nest (take p (f .entries) ++ e ∷ drop (pz i) (f .entries)) (take s (f .rows) ++ x ∷ drop (sz i) (f .rows)))
       ∙ exchange f full p 0 s 0 (e ∷ []) (x ∷ []) refl (sym sz ∙ ap (startOf f) pz) (omega arith)
-      ∙ ap (λ (z : List Page). take p (pagesIn f) ++ (z ++ drop (p + 0) (pagesIn f))) (nest-one e (x ∷ []) l)
-      ∙ ap (λ (k : ℕ). take p (pagesIn f) ++ pageOf e (x ∷ []) ∷ drop k (pagesIn f)) (sym pz)
+      ∙ (λ i. take p (pagesIn f) ++ (nest-one e (x ∷ []) l i ++ drop (sym pz i) (pagesIn f)))

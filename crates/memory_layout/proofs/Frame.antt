@@ -2,14 +2,16 @@
 use Rattle.memory_bytes.specs.Columns.{slotLimit}
 use Rattle.image_rows.specs.Rows.{openLimit}
 use Rattle.block_forms.specs.Limits.{blockLimit, markValue, payloadLimit, statementLimit}
-use Rattle.basics.proofs.Kit.{_≡_, refl, ap, _∙_, fun-ext, Bool, true, false, _&&_, not, List, _∷_, ℕ, suc, _+_, _*_, _%_, _^_, _≤_, _<_, zero, _/_, _-_, min-le-right, leb, eqb, ltb, getD}
-use Rattle.basics.proofs.Kit.{ltb-true, arith}
+use Rattle.basics.proofs.Kit.{_≡_, refl, sym, ap, _∙_, fun-ext, Bool, true, false, _&&_, not, List, ℕ, suc, _+_, _*_, _%_, _^_, _≤_, _<_, _/_, _-_, min-le-right, leb, eqb, ltb, getD}
+use Rattle.basics.proofs.Kit.{⊎-elim, lt-ltb, le-ltb, ltb-true, arith}
 use Rattle.basics.specs.Basics.{if_then_else_}
-use Rattle.basics.specs.Basics.{howMany, from}
+use Rattle.basics.specs.Basics.{from}
 use Rattle.memory_bytes.specs.Bytes.{le2, le4, bytes}
 use Rattle.basics.specs.Lists.{tab}
 use Rattle.memory_bytes.proofs.Bytes.{le2-cong, le4-cong, bytes-cong}
-use Rattle.basics.proofs.Tabs as tabs
+use Rattle.basics.proofs.Tabs.{lt-or-ge, tab-same}
+use Rattle.basics.proofs.Elements.{all-map, many-ext}
+use Rattle.basics.proofs.Firsts.{all-from}
 use Rattle.memory_layout.specs.Places.{startsAt, blocksAt, directoriesAt, headSize, keysAt, namedAt, opensAt, refsAt, slotSize, statesAt, tablesAt, usedAt, usedSize}
 use Rattle.block_forms.specs.Decode.{readOwner, readMark}
 use Rattle.memory_layout.specs.Views.{headOf, rowCount, pageCount, tableEnd, openAt, directoryAt, isUsed, slotOf, slotPlace, heldOf, rowAt, keyOf, refOf, stateOf, startAt, tableAt}
@@ -20,18 +22,18 @@ use Rattle.memory_layout.specs.Flat.{opensOf, directoriesOf}
 abbrev pub Same : List ℕ → List ℕ → ℕ → ℕ → Type 0
 Same m m' a n = (b : ℕ) → a ≤ b → b < a + n → getD m' b 0 ≡ getD m b 0
 
--- lists by index are equal if their elements are
-pub tab-cong : {A : Type 0} (f g : ℕ → A) (i n : ℕ) → ((k : ℕ) → i ≤ k → k < i + n → f k ≡ g k) → tab f i n ≡ tab g i n
-tab-cong f g i n h = tabs.tab-cong f g i i n (λ k l. h (i + k) (omega arith) (omega arith))
+-- all bytes from a on are the same in both
+abbrev pub Behind : List ℕ → List ℕ → ℕ → Type 0
+Behind m m' a = (b : ℕ) → a ≤ b → getD m' b 0 ≡ getD m b 0
 
--- as many pass two tests that agree
-pub count-cong : (f g : ℕ → Bool) (a n : ℕ) → ((t : ℕ) → a ≤ t → t < a + n → f t ≡ g t) → howMany f (from a n) ≡ howMany g (from a n)
-unfolding howMany from
-count-cong f g a zero h = refl
-count-cong f g a (suc n) h =
-    let r : howMany f (from (suc a) n) ≡ howMany g (from (suc a) n) = count-cong f g (suc a) n (λ t p q. h t (omega arith) (omega arith)) in
-    let e : f a ≡ g a = h a (omega arith) (omega arith) in
-    λ i. if e i then suc (r i) else r i
+-- a page's start is stored, and behind the last page it is the number of rows
+pub start-stored : (m : List ℕ) (c p : ℕ) → p < pageCount m → startAt m c p ≡ le2 m (startsAt c + p * 2)
+unfolding startAt if_then_else_
+start-stored m c p h = rw (lt-ltb p (pageCount m) h)
+
+pub start-behind : (m : List ℕ) (c p : ℕ) → pageCount m ≤ p → startAt m c p ≡ rowCount m
+unfolding startAt if_then_else_
+start-behind m c p h = rw (le-ltb p (pageCount m) h)
 
 module _ (m m' : List ℕ) where
   -- a number in bytes that are the same
@@ -72,14 +74,14 @@ module _ (m m' : List ℕ) where
   unfolding opensOf openAt
   same-opens s t h =
       ap (tab (openAt m') 0) (same4 36 s)
-      ∙ tab-cong (openAt m') (openAt m) 0 (openCount m)
+      ∙ tab-same (openAt m') (openAt m) 0 (openCount m)
       (λ k p q. ap (λ (w : ℕ). record { transaction = w / statementLimit; written = w % statementLimit }) (within4 opensAt (openLimit * 4) (opensAt + k * 4) t (omega arith) (omega arith)))
 
   pub same-directories : Same m m' 44 4 → Same m m' directoriesAt 16 → directoryCount m ≤ 4 → directoriesOf m' ≡ directoriesOf m
   unfolding directoriesOf directoryAt
   same-directories s t h =
       ap (tab (directoryAt m') 0) (same4 44 s)
-      ∙ tab-cong (directoryAt m') (directoryAt m) 0 (directoryCount m)
+      ∙ tab-same (directoryAt m') (directoryAt m) 0 (directoryCount m)
       (λ k p q. ap (λ (w : ℕ). w % blockLimit) (within4 directoriesAt 16 (directoriesAt + k * 4) t (omega arith) (omega arith)))
 
   pub same-used : Same m m' usedAt usedSize → isUsed m' ≡ isUsed m
@@ -96,17 +98,17 @@ module _ (m m' : List ℕ) where
   pub same-table : (p : ℕ) → ((t : ℕ) → t < 8 → tableEnd m' t ≡ tableEnd m t) → tableAt m' p ≡ tableAt m p
   unfolding tableAt
   same-table p e =
-      count-cong (λ t. leb (tableEnd m' t) p) (λ t. leb (tableEnd m t) p) 0 7 (λ t a b. ap (λ (z : ℕ). leb z p) (e t (omega arith)))
+      many-ext _ _ (from 0 7) (all-map _ _ (λ t h. ap (λ (z : ℕ). leb z p) (e t (omega arith))) (from 0 7) (all-from 0 7))
 
   -- ---- columns, for a capacity c
 
   module _ (c : ℕ) where
-    pub same-named : Same m m' 40 4 → Same m m' (namedAt c) (namedCount m * 2) → tab (namedBlock m' c) 0 (namedCount m') ≡ tab (namedBlock m c) 0 (namedCount m)
+    pub same-named : Same m m' 40 4 → Behind m m' (namedAt c) → tab (namedBlock m' c) 0 (namedCount m') ≡ tab (namedBlock m c) 0 (namedCount m)
     unfolding namedBlock
     same-named s t =
         ap (tab (namedBlock m' c) 0) (same4 40 s)
-        ∙ tab-cong (namedBlock m' c) (namedBlock m c) 0 (namedCount m)
-        (λ k p q. ap (λ (w : ℕ). w % blockLimit) (within2 (namedAt c) (namedCount m * 2) (namedAt c + k * 2) t (omega arith) (omega arith)))
+        ∙ tab-same (namedBlock m' c) (namedBlock m c) 0 (namedCount m)
+        (λ k p q. ap (λ (w : ℕ). w % blockLimit) (same2 (namedAt c + k * 2) (λ b x y. t b (omega arith))))
 
     -- a slot that is named is one of c
     pub slot-below : (r : ℕ) → 1 ≤ c → slotOf c r < c
@@ -141,45 +143,41 @@ module _ (m m' : List ℕ) where
         (λ x. heldOf m' (slotPlace (slotOf c (er x))) (ek x) (es x) (er x))
         ∙ same-held (slotPlace (slotOf c (refOf m c i))) (keyOf m c i) (stateOf m c i) (refOf m c i) t
 
-    -- the rows are the same if all slots and the first n cells of each column are
-    pub same-rows : (n : ℕ) → 1 ≤ c → Same m m' headSize (c * slotSize) → Same m m' (keysAt c) (n * 4) → Same m m' (refsAt c) (n * 2) → Same m m' (statesAt c) n
-        → tab (rowAt m' c) 0 n ≡ tab (rowAt m c) 0 n
-    same-rows n h ss sk sr st =
-        tab-cong (rowAt m' c) (rowAt m c) 0 n
+    -- the rows are the same if all slots and the columns of the rows are
+    pub same-rows : (n : ℕ) → 1 ≤ c → n ≤ c → Same m m' headSize (c * 79) → tab (rowAt m' c) 0 n ≡ tab (rowAt m c) 0 n
+    same-rows n h l s =
+        tab-same (rowAt m' c) (rowAt m c) 0 n
         (λ k p q.
         let b : slotOf c (refOf m c k) < c = slot-below (refOf m c k) h in
         moved-row k k
-        (within4 (keysAt c) (n * 4) (keysAt c + k * 4) sk (omega arith) (omega arith))
-        (within2 (refsAt c) (n * 2) (refsAt c + k * 2) sr (omega arith) (omega arith))
-        (st (statesAt c + k) (omega arith) (omega arith))
-        (within headSize (c * slotSize) (slotPlace (slotOf c (refOf m c k))) slotSize ss (omega arith) (omega arith)))
+        (within4 headSize (c * 79) (keysAt c + k * 4) s (omega arith) (omega arith))
+        (within2 headSize (c * 79) (refsAt c + k * 2) s (omega arith) (omega arith))
+        (s (statesAt c + k) (omega arith) (omega arith))
+        (within headSize (c * 79) (slotPlace (slotOf c (refOf m c k))) slotSize s (omega arith) (omega arith)))
 
     -- ---- pages
 
-    pub same-start : (n p : ℕ) → pageCount m' ≡ pageCount m → rowCount m' ≡ rowCount m → pageCount m ≤ n → Same m m' (startsAt c) (n * 2)
+    pub same-start : (p : ℕ) → pageCount m' ≡ pageCount m → rowCount m' ≡ rowCount m → pageCount m ≤ 2 * c → Same m m' (startsAt c) (c * 4)
         → startAt m' c p ≡ startAt m c p
-    unfolding startAt if_then_else_
-    same-start n p ep er h s = ap (λ (k : ℕ). if ltb p k then le2 m' (startsAt c + p * 2) else rowCount m') ep ∙ by-test (ltb p (pageCount m)) refl
-      where
-        by-test : (t : Bool) → ltb p (pageCount m) ≡ t → (if t then le2 m' (startsAt c + p * 2) else rowCount m') ≡ (if t then le2 m (startsAt c + p * 2) else rowCount m)
-        by-test true e =
-            let l : p < pageCount m = ltb-true p (pageCount m) e in
-            within2 (startsAt c) (n * 2) (startsAt c + p * 2) s (omega arith) (omega arith)
-        by-test false e = er
+    same-start p ep er h s = ⊎-elim
+        (λ l. start-stored m' c p (omega arith) ∙ within2 (startsAt c) (c * 4) (startsAt c + p * 2) s (omega arith) (omega arith) ∙ sym (start-stored m c p l))
+        (λ l. start-behind m' c p (omega arith) ∙ er ∙ sym (start-behind m c p l))
+        (lt-or-ge p (pageCount m))
 
-    pub same-entries : (n : ℕ) → Same m m' 32 4 → Same m m' tablesAt 16 → pageCount m ≤ n → Same m m' (startsAt c) (n * 2) → Same m m' (blocksAt c) (n * 2)
+    pub same-entries : Same m m' 32 4 → Same m m' tablesAt 16 → pageCount m ≤ 2 * c → Same m m' (startsAt c) (c * 8)
         → tab (entryAt m' c) 0 (pageCount m') ≡ tab (entryAt m c) 0 (pageCount m)
     unfolding entryAt tableAt
-    same-entries n sr st h ss sb =
+    same-entries sr st h s =
         let ep : pageCount m' ≡ pageCount m = within2 tablesAt 16 78 st (omega arith) (omega arith) in
         let er : rowCount m' ≡ rowCount m = same4 32 sr in
         let ends : (t : ℕ) → t < 8 → tableEnd m' t ≡ tableEnd m t = λ t b. within2 tablesAt 16 (64 + t * 2) st (omega arith) (omega arith) in
+        let start : (p : ℕ) → startAt m' c p ≡ startAt m c p = λ p. same-start p ep er h (λ b x y. s b x (omega arith)) in
         ap (tab (entryAt m' c) 0) ep
-        ∙ tab-cong (entryAt m' c) (entryAt m c) 0 (pageCount m)
-        (λ p a b. let w : blockWord m' c p ≡ blockWord m c p = within2 (blocksAt c) (n * 2) (blocksAt c + p * 2) sb (omega arith) (omega arith) in
+        ∙ tab-same (entryAt m' c) (entryAt m c) 0 (pageCount m)
+        (λ p a b. let w : blockWord m' c p ≡ blockWord m c p = within2 (startsAt c) (c * 8) (blocksAt c + p * 2) s (omega arith) (omega arith) in
         λ i. record {
           table = same-table p ends i;
           frozen = eqb (w i / blockLimit % 2) 1;
-          count = same-start n (suc p) ep er h ss i - same-start n p ep er h ss i;
+          count = start (suc p) i - start p i;
           block = w i % blockLimit;
         })

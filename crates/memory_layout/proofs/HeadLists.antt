@@ -1,12 +1,12 @@
 -- Each change of a list in the head, or of the directory entries, from the bytes written.
 use Rattle.image_rows.specs.Rows.{openLimit}
 use Rattle.block_forms.specs.Limits.{blockLimit, statementLimit}
-use Rattle.basics.proofs.Kit.{_≡_, refl, sym, ap, _∙_, Bool, true, false, not, List, [], _∷_, _++_, ℕ, suc, _+_, _*_, _%_, _≤_, _<_, _/_, _-_, zero-add, eqb, length, getD, set, eq-eqb}
+use Rattle.basics.proofs.Kit.{_≡_, refl, sym, ap, _∙_, Bool, true, false, not, List, [], _∷_, _++_, ℕ, suc, _+_, _*_, _%_, _≤_, _<_, _/_, _-_, eqb, length, getD, set, eq-eqb}
 use Rattle.basics.proofs.Kit.{ne-eqb, arith}
-use Rattle.basics.specs.Basics.{if_then_else_, oneIf}
+use Rattle.basics.specs.Basics.{oneIf}
 use Rattle.memory_bytes.specs.Bytes.{le2, le4, bytes2, bytes4, Apart, Wrote, Lowered}
-use Rattle.basics.specs.Lists.{tab, removeAt}
-use Rattle.basics.proofs.Tabs.{getD-tab, tab-set, tab-remove}
+use Rattle.basics.specs.Lists.{tab, removeAt, firstIndex}
+use Rattle.basics.proofs.Tabs.{tab-set, tab-remove, tab-at}
 use Rattle.basics.proofs.Searches.{tab-next, tab-none}
 use Rattle.memory_bytes.proofs.Bytes.{le2-below, le2-above, le4-below, le4-above, le2-wrote, le4-wrote, le4-lowered}
 use Rattle.model.specs.Transactions.{isFor}
@@ -18,16 +18,14 @@ use Rattle.memory_layout.specs.declared.Open.{Open}
 use Rattle.memory_layout.proofs.Laws.{Known, known, opens-length, named-length, directories-length}
 use Rattle.memory_layout.proofs.Changes.{same-below, same-above, apart-then, becomes-head, becomes-opens, becomes-named, becomes-directories}
 use Rattle.basics.proofs.Tabs.{tab-push}
+use Rattle.basics.proofs.Facts.{one-most}
+use Rattle.basics.proofs.Firsts.{index-hit, index-pass}
 use Rattle.memory_layout.specs.Places.{directoriesAt, namedAt, opensAt}
 
 -- a truth value as a number
 one-back : (b : Bool) → not (eqb (oneIf b) 0) ≡ b
 one-back true = refl
 one-back false = refl
-
-one-small : (b : Bool) → oneIf b ≤ 1
-one-small true = omega arith
-one-small false = omega arith
 
 -- ---- the head
 
@@ -53,16 +51,12 @@ module _ {m m1 m2 m3 m4 m5 m6 m7 : List ℕ} {x : ℕ} (h : Head) (room : Room m
       let f2 : le4 m7 8 ≡ h .blocks = above5 8 (omega arith) ∙ k4 8 (omega arith) ∙ k3 8 (omega arith) ∙ le4-wrote _ (omega (arith, rep .many)) w2 in
       let f3 : le4 m7 12 ≡ h .level = above5 12 (omega arith) ∙ k4 12 (omega arith) ∙ le4-wrote _ lb w3 in
       let f4 : le4 m7 16 ≡ h .next = above5 16 (omega arith) ∙ le4-wrote _ nb w4 in
-      let f5 : le4 m7 20 ≡ oneIf (h .running) = k7 20 (omega arith) ∙ k6 20 (omega arith) ∙ le4-wrote x (omega (arith, one-small (h .running))) w5 ∙ one in
+      let f5 : le4 m7 20 ≡ oneIf (h .running) = k7 20 (omega arith) ∙ k6 20 (omega arith) ∙ le4-wrote x (omega (arith, one-most (h .running))) w5 ∙ one in
       let f6 : le4 m7 24 ≡ h .begun = k7 24 (omega arith) ∙ le4-wrote _ bb w6 in
       let f7 : le4 m7 28 ≡ h .taken = le4-wrote _ (omega (arith, rep .many, rep .taken)) w7 in
       let running : not (eqb (le4 m7 20) 0) ≡ h .running = ap (λ (z : ℕ). not (eqb z 0)) f5 ∙ one-back (h .running) in
-      becomes-head m m7 room (a7 .size) (same-below 0 4 a7 (omega arith)) (same-above 32 (length m) a7 (omega arith)) rep
+      becomes-head m m7 room (a7 .size) (same-below 0 4 a7 (omega arith)) (λ b p. a7 .above b p) rep
       (λ i. record { capacity = f1 i; blocks = f2 i; level = f3 i; next = f4 i; running = running i; begun = f6 i; taken = f7 i })
-
--- an element by its index
-element : {A : Type 0} (f : ℕ → A) (n i : ℕ) (d : A) → i < n → getD (tab f 0 n) i d ≡ f i
-element f n i d h = getD-tab f 0 n i d h ∙ ap f (zero-add i)
 
 -- ---- open transactions
 
@@ -85,7 +79,7 @@ pub open-at : (m : List ℕ) (i x : ℕ) → Room m → i < length (opensOf m) �
     → activeOf (record { transaction = x / statementLimit; written = x % statementLimit }) ≡ getD (opensOf m) i noOpen
 unfolding opensOf openAt
 open-at m i x room h e =
-    ap (λ (w : ℕ). record { transaction = w / statementLimit; written = w % statementLimit }) e ∙ sym (element (openAt m) (openCount m) i noOpen (omega (arith, opens-length m)))
+    ap (λ (w : ℕ). record { transaction = w / statementLimit; written = w % statementLimit }) e ∙ sym (tab-at (openAt m) (openCount m) i noOpen (omega (arith, opens-length m)))
 
 module _ {m m' : List ℕ} (room : Room m) (i : ℕ) where
   pub open-set : (o : Open) → i < length (opensOf m) → OpenFits o → Wrote m m' (opensAt + i * 4) (bytes4 (o .transaction * statementLimit + o .written))
@@ -95,7 +89,7 @@ module _ {m m' : List ℕ} (room : Room m) (i : ℕ) where
       let k : Known m = known m room in
       let n : openCount m' ≡ openCount m = le4-below (w .apart) 36 (omega arith) in
       becomes-opens m m' room (w .apart .size) (same-below 0 36 (w .apart) (omega arith)) (same-below 40 88 (w .apart) (omega arith))
-      (same-above 384 (length m) (w .apart) (omega arith)) (omega arith)
+      (λ b p. w .apart .above b (omega arith)) (omega arith)
       (ap (tab (openAt m') 0) n
       ∙ tab-set (openAt m) (openAt m') (openCount m) i (activeOf o) (omega arith)
       (λ j b. open-by m m' j j (le4-below (w .apart) (opensAt + j * 4) (omega arith)))
@@ -114,7 +108,7 @@ module _ {m m' : List ℕ} (room : Room m) (i : ℕ) where
         becomes-opens m m2 room (v .apart .size ∙ w .apart .size)
         (λ b p q. v .apart .below b (omega arith) ∙ w .apart .below b (omega arith))
         (λ b p q. v .apart .above b (omega arith) ∙ w .apart .below b (omega arith))
-        (λ b p q. v .apart .above b (omega arith) ∙ w .apart .above b (omega arith))
+        (λ b p. v .apart .above b (omega arith) ∙ w .apart .above b (omega arith))
         (omega arith)
         (ap (tab (openAt m2) 0) c
         ∙ tab-push (openAt m) (openAt m2) (openCount m) (activeOf o) (open-new m2 (openCount m) o f new)
@@ -129,7 +123,7 @@ module _ {m m' : List ℕ} (room : Room m) (i : ℕ) where
         becomes-opens m m2 room (v .apart .size ∙ w .apart .size)
         (λ b p q. v .apart .below b (omega arith) ∙ w .apart .below b (omega arith))
         (λ b p q. v .apart .above b (omega arith) ∙ w .apart .below b (omega arith))
-        (λ b p q. v .apart .above b (omega arith) ∙ w .apart .above b (omega arith))
+        (λ b p. v .apart .above b (omega arith) ∙ w .apart .above b (omega arith))
         (omega arith)
         (ap (tab (openAt m2) 0) c
         ∙ tab-remove (openAt m) (openAt m2) (openCount m) i (omega arith)
@@ -140,16 +134,18 @@ module _ {m m' : List ℕ} (room : Room m) (i : ℕ) where
 -- a search from entry i on, turn by turn: x is the number that stands there
 module _ (m : List ℕ) (tx i n : ℕ) where
   pub find-here : {x : ℕ} → i < n → x ≡ le4 m (opensAt + i * 4) → x / statementLimit ≡ tx → findOpen tx (tab (openAt m) i (n - i)) ≡ 0
-  unfolding findOpen isFor openAt if_then_else_
-  find-here h e t = ap (findOpen tx) (tab-next (openAt m) i n h) ∙ rw (eq-eqb (le4 m (opensAt + i * 4) / statementLimit) tx (omega arith))
+  unfolding isFor openAt
+  find-here h e t = ap (findOpen tx) (tab-next (openAt m) i n h) ∙ index-hit (isFor tx) _ _ (eq-eqb (le4 m (opensAt + i * 4) / statementLimit) tx (omega arith))
 
   pub find-turn : {x : ℕ} → i < n → x ≡ le4 m (opensAt + i * 4) → (x / statementLimit ≡ tx → ⊥)
       → findOpen tx (tab (openAt m) i (n - i)) ≡ suc (findOpen tx (tab (openAt m) (i + 1) (n - (i + 1))))
-  unfolding findOpen isFor openAt if_then_else_
-  find-turn {x} h e t = ap (findOpen tx) (tab-next (openAt m) i n h) ∙ rw (ne-eqb (le4 m (opensAt + i * 4) / statementLimit) tx (λ z. t (ap (λ (y : ℕ). y / statementLimit) e ∙ z)))
+  unfolding isFor openAt
+  find-turn {x} h e t =
+      ap (findOpen tx) (tab-next (openAt m) i n h)
+      ∙ index-pass (isFor tx) _ _ (ne-eqb (le4 m (opensAt + i * 4) / statementLimit) tx (λ z. t (ap (λ (y : ℕ). y / statementLimit) e ∙ z)))
 
   pub find-end : n ≤ i → findOpen tx (tab (openAt m) i (n - i)) ≡ 0
-  unfolding findOpen
+  unfolding firstIndex
   find-end h = ap (findOpen tx) (tab-none (openAt m) i n h)
 
 -- ---- directory entries
@@ -164,7 +160,7 @@ named-new m c i b h e = omega arith
 
 pub named-at : (m : List ℕ) (i x : ℕ) → Room m → i < length (namedOf m) → x ≡ le2 m (namedAt (capacityOf m) + i * 2) → x % blockLimit ≡ getD (namedOf m) i 0
 unfolding namedOf namedBlock
-named-at m i x room h e = ap (λ (w : ℕ). w % blockLimit) e ∙ sym (element (namedBlock m (capacityOf m)) (namedCount m) i 0 (omega (arith, named-length m)))
+named-at m i x room h e = ap (λ (w : ℕ). w % blockLimit) e ∙ sym (tab-at (namedBlock m (capacityOf m)) (namedCount m) i 0 (omega (arith, named-length m)))
 
 module _ {m m' : List ℕ} (room : Room m) {a : ℕ} (b : ℕ) (small : b < blockLimit) where
   pub named-set : (i : ℕ) → i < length (namedOf m) → a ≡ namedAt (capacityOf m) + i * 2 → Wrote m m' a (bytes2 b) → Becomes m m' (withNamed (flatOf m) (set (namedOf m) i b))
@@ -175,7 +171,7 @@ module _ {m m' : List ℕ} (room : Room m) {a : ℕ} (b : ℕ) (small : b < bloc
       let n : namedCount m' ≡ namedCount m = le4-below (w .apart) 40 (omega arith) in
       let new : le2 m' (namedAt c + i * 2) ≡ b = ap (le2 m') (sym e) ∙ le2-wrote b (omega arith) w in
       becomes-named m m' room (w .apart .size) (same-below 0 40 (w .apart) (omega arith)) (same-below 44 (namedAt c - 44) (w .apart) (omega arith)) (omega arith)
-      ((λ x. tab (namedBlock m' (le4-below (w .apart) 4 (omega arith) x)) 0 (n x))
+      (ap (tab (namedBlock m' c) 0) n
       ∙ tab-set (namedBlock m c) (namedBlock m' c) (namedCount m) i b (omega arith)
       (λ j l. named-by m m' c j (le2-below (w .apart) (namedAt c + j * 2) (omega arith)))
       (named-new m' c i b small new)
@@ -188,7 +184,6 @@ module _ {m m' : List ℕ} (room : Room m) {a : ℕ} (b : ℕ) (small : b < bloc
       let k : Known m = known m room in
       let c : ℕ = capacityOf m in
       let l : ℕ = namedCount m in
-      let cap : capacityOf m2 ≡ c = le4-below (v .apart) 4 (omega arith) ∙ le4-below (w .apart) 4 (omega arith) in
       let count : namedCount m2 ≡ l + 1 = le4-wrote (n + 1) (omega arith) v ∙ ap (λ (z : ℕ). z + 1) en in
       let place : namedAt c + l * 2 ≡ a = omega arith in
       let new : le2 m2 (namedAt c + l * 2) ≡ b = ap (le2 m2) place ∙ le2-above (v .apart) a (omega arith) ∙ le2-wrote b (omega arith) w in
@@ -196,7 +191,7 @@ module _ {m m' : List ℕ} (room : Room m) {a : ℕ} (b : ℕ) (small : b < bloc
       (λ x p q. v .apart .below x (omega arith) ∙ w .apart .below x (omega arith))
       (λ x p q. v .apart .above x (omega arith) ∙ w .apart .below x (omega arith))
       (omega arith)
-      ((λ x. tab (namedBlock m2 (cap x)) 0 (count x))
+      (ap (tab (namedBlock m2 c) 0) count
       ∙ tab-push (namedBlock m c) (namedBlock m2 c) l b (named-new m2 c l b small new)
       (λ j r. named-by m m2 c j (le2-above (v .apart) (namedAt c + j * 2) (omega arith) ∙ le2-below (w .apart) (namedAt c + j * 2) (omega arith))))
 
@@ -205,7 +200,7 @@ unfolding namedOf
 named-clear {m} {m'} room w =
     let n : namedCount m' ≡ 0 = le4-wrote 0 (omega arith) w in
     becomes-named m m' room (w .apart .size) (same-below 0 40 (w .apart) (omega arith)) (same-above 44 (namedAt (capacityOf m) - 44) (w .apart) (omega arith)) (omega arith)
-    (ap (tab (namedBlock m' (capacityOf m')) 0) n)
+    (ap (tab (namedBlock m' (capacityOf m)) 0) n)
 
 -- ---- directory blocks written
 
@@ -219,7 +214,7 @@ directory-new m i b h e = omega arith
 
 pub directory-at : (m : List ℕ) (i x : ℕ) → Room m → i < length (directoriesOf m) → x ≡ le4 m (directoriesAt + i * 4) → x % blockLimit ≡ getD (directoriesOf m) i 0
 unfolding directoriesOf directoryAt
-directory-at m i x room h e = ap (λ (w : ℕ). w % blockLimit) e ∙ sym (element (directoryAt m) (directoryCount m) i 0 (omega (arith, directories-length m)))
+directory-at m i x room h e = ap (λ (w : ℕ). w % blockLimit) e ∙ sym (tab-at (directoryAt m) (directoryCount m) i 0 (omega (arith, directories-length m)))
 
 pub directory-push : {m m' m2 : List ℕ} {n : ℕ} (b : ℕ) → Room m → n ≡ directoryCount m → length (directoriesOf m) < 4 → b < blockLimit → Wrote m m' (directoriesAt + n * 4) (bytes4 b)
     → Wrote m' m2 44 (bytes4 (n + 1)) → Becomes m m2 (withDirectories (flatOf m) (directoriesOf m ++ b ∷ []))
@@ -233,7 +228,7 @@ directory-push {m} {m'} {m2} {n} b room e h small w v =
     becomes-directories m m2 room (v .apart .size ∙ w .apart .size)
     (λ x p q. v .apart .below x (omega arith) ∙ w .apart .below x (omega arith))
     (λ x p q. v .apart .above x (omega arith) ∙ w .apart .below x (omega arith))
-    (λ x p q. v .apart .above x (omega arith) ∙ w .apart .above x (omega arith))
+    (λ x p. v .apart .above x (omega arith) ∙ w .apart .above x (omega arith))
     (omega arith)
     (ap (tab (directoryAt m2) 0) count
     ∙ tab-push (directoryAt m) (directoryAt m2) l b (directory-new m2 l b small new)
@@ -244,4 +239,4 @@ unfolding directoriesOf
 directories-clear {m} {m'} room w =
     let n : directoryCount m' ≡ 0 = le4-wrote 0 (omega arith) w in
     becomes-directories m m' room (w .apart .size) (same-below 0 44 (w .apart) (omega arith)) (same-above 48 48 (w .apart) (omega arith))
-    (same-above 112 (length m) (w .apart) (omega arith)) (omega arith) (ap (tab (directoryAt m') 0) n)
+    (λ b p. w .apart .above b (omega arith)) (omega arith) (ap (tab (directoryAt m') 0) n)

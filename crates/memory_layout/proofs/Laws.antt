@@ -3,8 +3,9 @@
 use Rattle.image_rows.specs.Rows.{openLimit}
 use Rattle.model.specs.Recover.{memoryFor}
 use Rattle.image.specs.Stages.{capacityLimit}
-use Rattle.basics.proofs.Kit.{_≡_, refl, sym, ap, _∙_, true, false, some, none, List, ℕ, suc, _+_, _*_, _≤_, _<_, zero, _-_, zero-le, add-one, add-zero, zero-add, eqb, length, take, le-leb}
-use Rattle.basics.proofs.Kit.{leb-true, lt-ltb, le-ltb, eqb-true, eq-eqb, ltb-true, arith}
+use Rattle.basics.proofs.Kit.{_≡_, refl, sym, ap, _∙_, true, false, some, none, List, ℕ, suc, _+_, _*_, _≤_, _<_, zero, _-_, add-one, add-zero, zero-add, eqb, length, take, le-leb, leb-true}
+use Rattle.basics.proofs.Kit.{lt-ltb, eqb-true, eq-eqb, ltb-true, arith}
+use Rattle.block_forms.specs.Limits.{blockLimit}
 use Rattle.basics.specs.Basics.{if_then_else_, all, from, sum}
 use Rattle.basics.proofs.Facts.{by, never, and-true}
 use Rattle.model.specs.State.{Store}
@@ -16,9 +17,11 @@ use Rattle.memory_layout.specs.Views.{headOf, countsOf, rowCount, openCo
 use Rattle.memory_layout.specs.declared.Counts.{Counts}
 use Rattle.memory_layout.specs.Flat.{Flat, flatOf, capacityOf, opensOf, rowsOf, entriesOf, namedOf, directoriesOf, Room, InRange, Becomes}
 use Rattle.memory_layout.specs.Store.{total, startOf, tablesRise, startsRise, holdsStore, hasRows, pagesIn, storeOf, storeIn}
-use Rattle.memory_layout.proofs.Refusal.{all-from, from-all, range-in, in-range, endRises, startRises}
-use Rattle.basics.proofs.Elements.{every-true, every-cons, every-one}
+use Rattle.memory_layout.proofs.Frame.{start-behind}
+use Rattle.memory_layout.proofs.Refusal.{range-in, in-range, endRises, startRises}
+use Rattle.basics.proofs.Elements.{every-all, every-cons, every-one}
 use Rattle.basics.proofs.Searches.{all-tab, tab-all}
+use Rattle.basics.proofs.Froms.{all-from, from-all}
 
 -- ---- how long each list is
 
@@ -85,8 +88,7 @@ total-run m c i (suc k) h =
 
 -- behind the last page
 pub start-last : (m : List ℕ) (c : ℕ) → startAt m c (pageCount m) ≡ rowCount m
-unfolding startAt if_then_else_
-start-last m c = rw (le-ltb (pageCount m) (pageCount m) (omega arith))
+start-last m c = start-behind m c (pageCount m) (omega arith)
 
 module _ (m : List ℕ) (room : Room m) where
   -- the start that the memory says of page p is what the counts of the pages before it make
@@ -144,6 +146,31 @@ known m r =
       directories-are = directories-length m;
     }
 
+-- the same, of the lists
+pub record Sizes (m : List ℕ) : Type 0 where
+  pub long : headSize ≤ length m
+  pub few : 2 ≤ flatOf m .head .blocks
+  pub many : flatOf m .head .blocks ≤ blockLimit
+  pub taken : flatOf m .head .taken < flatOf m .head .blocks
+  pub rows : length (flatOf m .rows) ≤ headSize
+  pub pages : length (flatOf m .entries) ≤ 2048
+  pub named : length (flatOf m .named) ≤ headSize
+  pub directories : length (flatOf m .directories) ≤ 4
+
+pub sizes : {m : List ℕ} → Room m → Sizes m
+sizes {m} r =
+    let k : Known m = known m r in
+    record {
+      long = omega arith;
+      few = r .range .few;
+      many = r .range .many;
+      taken = r .range .taken;
+      rows = omega arith;
+      pages = omega arith;
+      named = omega arith;
+      directories = omega arith;
+    }
+
 -- ---- the whole test: room, and no page is empty
 
 -- what the passes over the tables and the pages found
@@ -157,17 +184,14 @@ record Passed (m : List ℕ) : Type 0 where
 passed : (m : List ℕ) → holdsStore m ≡ true → Passed m
 unfolding holdsStore tablesRise startsRise
 passed m h =
-    let t1 = every-true _ _ h in
-    let t2 = every-true _ _ (t1 .1) in
-    let t3 = every-true _ _ (t2 .1) in
-    let t4 = every-true _ _ (t3 .1) in
-    let t5 = and-true (eqb (startAt m (capacityOf m) 0) 0) (all (startRises m) (from 0 (pageCount m))) (sym (every-one _) ∙ t4 .1) in
+    let s = every-all _ h in
+    let r = and-true (eqb (startAt m (capacityOf m) 0) 0) (all (startRises m) (from 0 (pageCount m))) (s .1 .1 .1 .1 .0) in
     record {
-      sign = eqb-true _ _ (t2 .0);
-      range = range-in _ _ _ (t3 .0);
-      tables = λ t b. all-from (endRises m) 0 7 (t4 .0) t zero-le (rw zero-add b);
-      begins = eqb-true _ _ (t5 .0);
-      rises = λ p b. ltb-true _ _ (all-from (startRises m) 0 (pageCount m) (t5 .1) p zero-le (rw zero-add b));
+      sign = eqb-true _ _ (s .1 .0);
+      range = range-in _ _ _ (s .1 .1 .0);
+      tables = λ t b. all-from (endRises m) 7 (s .1 .1 .1 .0) t b;
+      begins = eqb-true _ _ (r .0);
+      rises = λ p b. ltb-true _ _ (all-from (startRises m) (pageCount m) (r .1) p b);
     }
 
 pub holds-room : (m : List ℕ) → holdsStore m ≡ true → Room m
@@ -194,12 +218,12 @@ unfolding holdsStore tablesRise startsRise hasRows entriesOf entryAt
 held-again m r h =
     let c : ℕ = capacityOf m in
     let k : Known m = known m r in
-    let tables : tablesRise m ≡ true = from-all (endRises m) 0 7 (λ t a b. le-leb _ _ (rw add-one at (r .tables t (omega arith)))) in
+    let tables : tablesRise m ≡ true = from-all (endRises m) 7 (λ t b. le-leb _ _ (rw add-one at (r .tables t b))) in
     let first : eqb (startAt m c 0) 0 ≡ true = eq-eqb _ _ (r .begins) in
     let rise : all (startRises m) (from 0 (pageCount m)) ≡ true =
-    from-all (startRises m) 0 (pageCount m)
-    (λ p a b.
-    let l : 1 ≤ startAt m c (suc p) - startAt m c p = leb-true _ _ (tab-all hasRows (entryAt m c) 0 (pageCount m) h p a b) in
+    from-all (startRises m) (pageCount m)
+    (λ p b.
+    let l : 1 ≤ startAt m c (suc p) - startAt m c p = leb-true _ _ (tab-all hasRows (entryAt m c) 0 (pageCount m) h p (omega arith) (omega arith)) in
     lt-ltb (startAt m c p) (startAt m c (suc p)) (omega arith)) in
     every-cons _ _ (le-leb headSize (length m) (omega arith))
     ∙ every-cons _ _ (eq-eqb _ _ (r .sign))

@@ -7,10 +7,11 @@ use Rattle.basics.proofs.Facts.{by}
 use Rattle.memory_bytes.specs.Bytes.{Wrote}
 use Rattle.basics.proofs.Tabs.{lt-or-ge}
 use Rattle.memory_layout.specs.Views.{isUsed}
-use Rattle.memory_layout.specs.Flat.{flatOf, Room, Becomes, withUsed, usedAnd}
+use Rattle.memory_layout.specs.Flat.{flatOf, Room, Becomes, withUsed}
 use Rattle.memory_layout.proofs.Laws.{Known, known}
-use Rattle.memory_layout.proofs.Changes.{same-below, same-above, becomes-used}
+use Rattle.memory_layout.proofs.Changes.{same-below, becomes-used}
 use Rattle.memory_layout.specs.Places.{headSize, usedAt, usedSize}
+use Rattle.model.specs.Checkpoint.{usedAnd}
 
 -- ---- one bit
 
@@ -94,7 +95,7 @@ mark-becomes m b v room h e =
     let k : Known m = known m room in
     let a : ℕ = usedAt + b / 8 in
     becomes-used m (set m a v) room (length-set m a v)
-    (λ x p q. getD-set-other m a x v 0 (λ z. omega arith)) (λ x p q. getD-set-other m a x v 0 (λ z. omega arith))
+    (λ x p q. getD-set-other m a x v 0 (λ z. omega arith)) (λ x p. getD-set-other m a x v 0 (λ z. omega arith))
     (ap (λ (z : ℕ). isUsed (set m a z)) e ∙ marked-used m b h (omega arith))
 
 -- a byte of zeros has no bit
@@ -116,5 +117,5 @@ zeros-at {m} {m'} {a} n w b p q =
 pub clear-becomes : {m m' : List ℕ} → Room m → Wrote m m' usedAt (replicate usedSize 0) → Becomes m m' (withUsed (flatOf m) (λ c. false))
 clear-becomes {m} {m'} room w =
     let l : length (replicate {A = ℕ} usedSize 0) ≡ usedSize = length-replicate {A = ℕ} usedSize 0 in
-    becomes-used m m' room (w .apart .size) (same-below 0 usedAt (w .apart) (omega arith)) (same-above headSize (length m) (w .apart) (omega arith))
+    becomes-used m m' room (w .apart .size) (same-below 0 usedAt (w .apart) (omega arith)) (λ b p. w .apart .above b (omega arith))
     (clear-used m' (λ b p q. zeros-at usedSize w b p (omega arith)))

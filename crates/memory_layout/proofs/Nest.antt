@@ -1,11 +1,10 @@
 -- Nested pages over flat rows: in parts, and with entries and their rows exchanged.
-use Rattle.basics.proofs.Kit.{_≡_, refl, sym, ap, _∙_, true, List, [], _∷_, _++_, append-assoc, ℕ, suc, _+_, _≤_, _<_, zero, _-_, zero-add, suc-add, length, take, drop, getD, set}
-use Rattle.basics.proofs.Kit.{length-drop, take-append-drop, set-split, drop-drop, take-add, take-append-le, drop-append-le, length-take-le, take-nil, take-take, drop-nil, le-leb, leb-true}
+use Rattle.basics.proofs.Kit.{_≡_, refl, sym, ap, _∙_, true, List, [], _∷_, _++_, ℕ, suc, _+_, _≤_, _<_, zero, zero-add, length, take, drop, getD}
+use Rattle.basics.proofs.Kit.{length-drop, take-append-drop, drop-drop, take-append-le, drop-append-le, length-take-le, take-take, le-leb, leb-true}
 use Rattle.basics.proofs.Kit.{arith}
 use Rattle.basics.specs.Basics.{all, sum}
 use Rattle.basics.proofs.Facts.{AllOf, and-true}
 use Rattle.model.specs.State.{Held, Page}
-use Rattle.basics.specs.Lists.{insertAt, removeAt}
 use Rattle.memory_layout.specs.Store.{pageOf, nest, total, hasRows}
 use Rattle.memory_layout.specs.declared.Entry.{Entry}
 use Rattle.basics.proofs.Parts.{drop-take}
@@ -69,8 +68,7 @@ nest-append (e ∷ es) fs us vs h =
     let ld : length (drop (e .count) us) ≡ total es = simp length-drop (omega arith) in
     let a : take (e .count) (us ++ vs) ≡ take (e .count) us = take-append-le (e .count) us vs l in
     let b : drop (e .count) (us ++ vs) ≡ drop (e .count) us ++ vs = drop-append-le (e .count) us vs l in
-    ap (λ (z : List Held). pageOf e z ∷ nest (es ++ fs) (drop (e .count) (us ++ vs))) a
-    ∙ ap (λ (z : List Held). pageOf e (take (e .count) us) ∷ nest (es ++ fs) z) b
+    (λ i. pageOf e (a i) ∷ nest (es ++ fs) (b i))
     ∙ ap (λ (z : List Page). pageOf e (take (e .count) us) ∷ z) (nest-append es fs (drop (e .count) us) vs ld)
 
 pub length-nest : (es : List Entry) (ts : List Held) → length (nest es ts) ≡ length es
@@ -88,8 +86,7 @@ take-nest (suc i) (e ∷ es) ts =
     let a : take n (take (n + k) ts) ≡ take n ts = take-take n (n + k) ts (omega arith) in
     let b : drop n (take (n + k) ts) ≡ take k (drop n ts) = drop-take n k ts in
     ap (λ (z : List Page). pageOf e (take n ts) ∷ z) (take-nest i es (drop n ts))
-    ∙ ap (λ (z : List Held). pageOf e (take n ts) ∷ nest (take i es) z) (sym b)
-    ∙ ap (λ (z : List Held). pageOf e z ∷ nest (take i es) (drop n (take (n + k) ts))) (sym a)
+    ∙ (λ j. pageOf e (sym a j) ∷ nest (take i es) (sym b j))
 
 pub drop-nest : (i : ℕ) (es : List Entry) (ts : List Held) → drop i (nest es ts) ≡ nest (drop i es) (drop (total (take i es)) ts)
 unfolding nest total sum
@@ -116,9 +113,5 @@ pub nest-replace : (es : List Entry) (ts : List Held) (i r : ℕ) (s c : ℕ) (m
 nest-replace es ts i r s c ms ws es1 es2 l lw =
     nest-append (take i es) (ms ++ drop (i + r) es) (take s ts) (ws ++ drop (s + c) ts) (length-take-le s ts l ∙ es1)
     ∙ ap (λ (z : List Page). nest (take i es) (take s ts) ++ z) (nest-append ms (drop (i + r) es) ws (drop (s + c) ts) lw)
-    ∙ ap (λ (z : List Page). z ++ (nest ms ws ++ nest (drop (i + r) es) (drop (s + c) ts)))
-    (ap (λ (z : ℕ). nest (take i es) (take z ts)) es1 ∙ sym (take-nest i es ts))
-    ∙ ap (λ (z : List Page). take i (nest es ts) ++ (nest ms ws ++ z))
-    (ap (λ (z : ℕ). nest (drop (i + r) es) (drop z ts)) es2 ∙ sym (drop-nest (i + r) es ts))
-
--- ---- one element put in, taken out or changed among c elements from s on
+    ∙ (λ j. (ap (λ (z : ℕ). nest (take i es) (take z ts)) es1 ∙ sym (take-nest i es ts)) j
+    ++ (nest ms ws ++ (ap (λ (z : ℕ). nest (drop (i + r) es) (drop z ts)) es2 ∙ sym (drop-nest (i + r) es ts)) j))

@@ -1,77 +1,37 @@
 -- The tests that decide whether the memory holds a store, and what they mean.
-use Rattle.basics.proofs.Kit.{_≡_, refl, sym, ap, _∙_, ⊎-elim, Bool, true, false, _&&_, List, [], _∷_, ℕ, suc, _+_, _*_, _≤_, _<_, zero, _-_, add-one, add-zero, zero-add, leb, eqb, ltb}
+use Rattle.basics.proofs.Kit.{_≡_, sym, ap, _∙_, Bool, true, false, _&&_, List, [], _∷_, ℕ, suc, _+_, _*_, _≤_, _<_, _-_, add-one, add-zero, zero-add, leb, eqb, ltb}
 use Rattle.basics.proofs.Kit.{length, le-leb, leb-true, lt-ltb, le-ltb, lt-leb, eq-eqb, ne-eqb, ltb-true, arith}
 use Rattle.basics.specs.Basics.{if_then_else_, every, all, paired, from}
-use Rattle.basics.proofs.Facts.{and-true}
 use Rattle.basics.proofs.Ands.{and-yes, and-no, and-assoc}
-use Rattle.model.specs.Recover.{memoryFor}
 use Rattle.memory_bytes.specs.Bytes.{le2, le4, column2}
 use Rattle.basics.specs.Lists.{tab}
-use Rattle.basics.proofs.Tabs.{lt-or-ge}
 use Rattle.memory_layout.specs.Places.{signature, headSize, startsAt}
 use Rattle.memory_layout.specs.Views.{headOf, countsOf, tableEnd, pageCount, startAt}
 use Rattle.memory_layout.specs.Flat.{InRange, capacityOf}
 use Rattle.memory_layout.specs.Store.{inRange, tablesRise, startsRise, StartsAt, holdsStore}
 use Rattle.memory_layout.specs.declared.Head.{Head}
 use Rattle.memory_layout.specs.declared.Counts.{Counts}
-use Rattle.basics.proofs.Elements.{every-true, every-cons, every-stop, every-one}
-
--- ---- lists of tests
-
--- a test of numbers in a row, or of a list by index, number by number
-module _ (f : ℕ → Bool) where
-  pub all-from : (a n : ℕ) → all f (from a n) ≡ true → (k : ℕ) → a ≤ k → k < a + n → f k ≡ true
-  unfolding all from
-  all-from a zero h k p q = absurd (omega arith)
-  all-from a (suc n) h k p q =
-      let t = and-true (f a) (all f (from (suc a) n)) h in
-      ⊎-elim (λ (l : a < k). all-from (suc a) n (t .1) k (omega arith) (omega arith)) (λ (g : k ≤ a). let e : k ≡ a = omega arith in ap f e ∙ t .0) (lt-or-ge a k)
-
-  pub from-all : (a n : ℕ) → ((k : ℕ) → a ≤ k → k < a + n → f k ≡ true) → all f (from a n) ≡ true
-  unfolding all from
-  from-all a zero h = refl
-  from-all a (suc n) h = rw (h a (omega arith) (omega arith), from-all (suc a) n (λ k p q. h k (omega arith) (omega arith)))
-
-  -- turn by turn
-  pub all-turn : (t n : ℕ) → t < n → all f (from t (n - t)) ≡ (f t && all f (from (t + 1) (n - (t + 1))))
-  unfolding all from
-  all-turn t n h =
-      let e : n - t ≡ suc (n - (t + 1)) = omega arith in
-      let e2 : suc t ≡ t + 1 = omega arith in
-      ap (λ (z : ℕ). all f (from t z)) e ∙ ap (λ (z : ℕ). f t && all f (from z (n - (t + 1)))) e2
-
-  pub all-end : (t n : ℕ) → n ≤ t → all f (from t (n - t)) ≡ true
-  unfolding all from
-  all-end t n h = let e : n - t ≡ 0 = omega arith in ap (λ (z : ℕ). all f (from t z)) e
+use Rattle.basics.proofs.Elements.{every-all, every-cons, every-stop, every-one}
+use Rattle.basics.proofs.Froms.{all-turn, paired-all, all-same, all-snoc}
 
 -- ---- the head's numbers
 
 pub range-in : (size : ℕ) (h : Head) (n : Counts) → inRange size h n ≡ true → InRange size h n
 unfolding inRange
 range-in size h n e =
-    let t1 = every-true _ _ e in
-    let t2 = every-true _ _ (t1 .1) in
-    let t3 = every-true _ _ (t2 .1) in
-    let t4 = every-true _ _ (t3 .1) in
-    let t5 = every-true _ _ (t4 .1) in
-    let t6 = every-true _ _ (t5 .1) in
-    let t7 = every-true _ _ (t6 .1) in
-    let t8 = every-true _ _ (t7 .1) in
-    let t9 = every-true _ _ (t8 .1) in
-    let t10 = every-true _ _ (t9 .1) in
-    let t11 = every-true _ _ (t10 .1) in
+    let t = every-all _ e in
     record {
-      least = leb-true _ _ (t1 .0);
-      most = leb-true _ _ (t2 .0);
-      long = leb-true _ _ (t3 .0);
-      few = leb-true _ _ (t4 .0);
-      many = leb-true _ _ (t5 .0);
-      taken = ltb-true _ _ (t6 .0);
-      rows = leb-true _ _ (t7 .0);
-      pages = leb-true _ _ (t8 .0);
-      opens = leb-true _ _ (t9 .0);
-      named = leb-true _ _ (t10 .0);
-      directories = leb-true _ _ (t11 .0);
+      least = leb-true _ _ (t .0);
+      most = leb-true _ _ (t .1 .0);
+      long = leb-true _ _ (t .1 .1 .0);
+      few = leb-true _ _ (t .1 .1 .1 .0);
+      many = leb-true _ _ (t .1 .1 .1 .1 .0);
+      taken = ltb-true _ _ (t .1 .1 .1 .1 .1 .0);
+      rows = leb-true _ _ (t .1 .1 .1 .1 .1 .1 .0);
+      pages = leb-true _ _ (t .1 .1 .1 .1 .1 .1 .1 .0);
+      opens = leb-true _ _ (t .1 .1 .1 .1 .1 .1 .1 .1 .0);
+      named = leb-true _ _ (t .1 .1 .1 .1 .1 .1 .1 .1 .1 .0);
+      directories = leb-true _ _ (t .1 .1 .1 .1 .1 .1 .1 .1 .1 .1 .0);
     }
 
 pub in-range : (size : ℕ) (h : Head) (n : Counts) → InRange size h n → inRange size h n ≡ true
@@ -89,12 +49,6 @@ in-range size h n g =
     ∙ every-cons _ _ (le-leb _ _ (g .named))
     ∙ every-one _
     ∙ le-leb _ _ (g .directories)
-
--- eleven tests joined from the left
-pub joined : (a b c d e f g h i j k : Bool) → ((((((((((a && b) && c) && d) && e) && f) && g) && h) && i) && j) && k)
-    ≡ every (a ∷ b ∷ c ∷ d ∷ e ∷ f ∷ g ∷ h ∷ i ∷ j ∷ k ∷ [])
-unfolding every
-joined a b c d e f g h i j k = simp (and-assoc, and-yes)
 
 -- ---- the pass over the tables, turn by turn: a and b are the ends of tables t and t + 1
 
@@ -115,27 +69,6 @@ tables-turn m t a b rise h ea eb inv =
     ∙ sym (and-assoc rise (leb a b) rest)
 
 -- ---- the pass over the pages
-
-pub paired-all : (f : ℕ → ℕ → Bool) (g : ℕ → ℕ) (i k : ℕ) → paired f (tab g i (suc k)) ≡ all (λ p. f (g p) (g (suc p))) (from i k)
-unfolding paired all from
-paired-all f g i zero = refl
-paired-all f g i (suc k) = ap (λ (z : Bool). f (g i) (g (suc i)) && z) (paired-all f g (suc i) k)
-
-all-same : (f g : ℕ → Bool) (i k : ℕ) → ((p : ℕ) → i ≤ p → p < i + k → f p ≡ g p) → all f (from i k) ≡ all g (from i k)
-unfolding all from
-all-same f g i zero h = refl
-all-same f g i (suc k) h =
-    let e : f i ≡ g i = h i (omega arith) (omega arith) in
-    let r : all f (from (suc i) k) ≡ all g (from (suc i) k) = all-same f g (suc i) k (λ p a b. h p (omega arith) (omega arith)) in
-    λ j. e j && r j
-
-all-snoc : (f : ℕ → Bool) (i k : ℕ) → all f (from i (suc k)) ≡ (all f (from i k) && f (i + k))
-unfolding all from
-all-snoc f i zero = and-yes (f i) ∙ ap f (sym (add-zero i))
-all-snoc f i (suc k) =
-    let e : suc i + k ≡ i + suc k = omega arith in
-    ap (λ (z : Bool). f i && z) (all-snoc f (suc i) k ∙ ap (λ (z : ℕ). all f (from (suc i) k) && f z) e)
-    ∙ sym (and-assoc (f i) (all f (from (suc i) k)) (f (i + suc k)))
 
 module _ {m : List ℕ} {c pages rows : ℕ} (at : StartsAt m c pages rows) where
   -- a page's start, by its two bytes

@@ -1,10 +1,9 @@
 -- All that the memory holds, as flat lists of typed values: what every function that changes the memory says of it.
 use Prim.Native.Nat.{ℕ, _+_, _*_, _≤_, _<_}
 use mathlib.Core.Path.{_≡_}
-use mathlib.Core.Bool.{Bool, false, _||_}
-use mathlib.Core.List.{List, [], _∷_, _++_}
-use lib.ListN.{length, take, drop, getD}
-use lib.Dec.{eqb}
+use mathlib.Core.Bool.{Bool, false}
+use mathlib.Core.List.{List, []}
+use lib.ListN.{length, getD}
 use Rattle.image_rows.specs.Rows.{openLimit}
 use Rattle.model.specs.Recover.{memoryFor}
 use Rattle.image.specs.Stages.{capacityLimit}
@@ -149,7 +148,3 @@ rowIn f i = getD (f .rows) i noRow
 -- page entry p
 abbrev pub entryIn : Flat → ℕ → Entry
 entryIn f p = getD (f .entries) p noEntry
-
--- block b is in use too
-abbrev pub usedAnd : ℕ → (ℕ → Bool) → ℕ → Bool
-usedAnd b u c = eqb b c || u c

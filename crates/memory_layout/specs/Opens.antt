@@ -1,8 +1,8 @@
 -- Open transactions as values of the code, and a transaction's place among them.
-use Prim.Native.Nat.{ℕ, suc, _<_}
-use mathlib.Core.List.{List, [], _∷_}
+use Prim.Native.Nat.{ℕ, _<_}
+use mathlib.Core.List.{List}
 use Rattle.block_forms.specs.Limits.{statementLimit, transactionLimit}
-use Rattle.basics.specs.Basics.{if_then_else_}
+use Rattle.basics.specs.Lists.{firstIndex}
 use Rattle.model.specs.State.{Active}
 use Rattle.model.specs.Transactions.{isFor}
 use Rattle.memory_layout.specs.declared.Open.{Open}
@@ -17,6 +17,5 @@ pub record OpenFits (o : Open) : Type 0 where
   pub written : o .written < statementLimit
 
 -- the place of the first entry of the transaction; how many entries there are, if it has none
-unfoldable pub findOpen : ℕ → List Active → ℕ
-findOpen tx [] = 0
-findOpen tx (o ∷ os) = if isFor tx o then 0 else suc (findOpen tx os)
+abbrev pub findOpen : ℕ → List Active → ℕ
+findOpen tx os = firstIndex (isFor tx) os

@@ -62,10 +62,6 @@ startsAt c = headSize + c * (slotSize + 7)
 abbrev pub blocksAt : ℕ → ℕ
 blocksAt c = headSize + c * (slotSize + 11)
 
--- directory entries of the running checkpoint, two bytes each
+-- directory entries of the running checkpoint, two bytes each; room for two a row
 abbrev pub namedAt : ℕ → ℕ
 namedAt c = headSize + c * (slotSize + 15)
-
--- the bytes that a row uses in the slots and the columns together
-abbrev pub rowBytes : ℕ
-rowBytes = slotSize + 17

@@ -76,13 +76,13 @@ isUsed m b = ltb b blockLimit && eqb (getD m (usedAt + b / 8) 0 / 2 ^ (b % 8) % 
 unfoldable pub slotOf : ℕ → ℕ → ℕ
 slotOf c r = if ltb (r % slotLimit) c then r % slotLimit else 0
 
+-- a pending operation by its number
+unfoldable pub pendingBy : ℕ → Pending
+pendingBy k = if eqb k 0 then nothing else if eqb k 1 then adding else if eqb k 2 then committing else removing
+
 -- the pending operation in a number of two bytes
 unfoldable pub pendingOf : ℕ → Pending
-pendingOf r =
-    if eqb (r / slotLimit % 4) 0 then nothing
-    else if eqb (r / slotLimit % 4) 1 then adding
-    else if eqb (r / slotLimit % 4) 2 then committing
-    else removing
+pendingOf r = pendingBy (r / slotLimit % 4)
 
 -- the payload's length by a state's low six bits, and never above the limit
 unfoldable pub lengthOf : ℕ → ℕ

@@ -1,6 +1,7 @@
 // The layout of the working memory: a head of 1,024 bytes, then columns whose places go by the capacity. docs/LAYOUT.md says what
 // stands where. This crate has the test of refusal 4, the head and the lists that stand in it; rows and pages have crates of their own.
 // Each function that changes the memory promises one equation on the flat lists that it holds.
+pub mod places;
 mod ranges;
 
 use ranges::in_range;
@@ -17,72 +18,16 @@ ghost use lib.ListN.{length, getD, set};
 ghost use Rattle.image.specs.Stages.{capacityLimit};
 ghost use Rattle.block_forms.specs.Limits.{blockLimit};
 ghost use Rattle.model.specs.Recover.{freshStore, memoryFor};
+ghost use Rattle.model.specs.Checkpoint.{usedAnd};
 ghost use Rattle.memory_bytes.specs.Bytes.{Apart};
 ghost use Rattle.basics.specs.Lists.{removeAt};
 ghost use Rattle.basics.specs.Basics.{oneIf};
 ghost use Rattle.memory_layout.specs.Views.{headOf, countsOf};
-ghost use Rattle.memory_layout.specs.Flat.{flatOf, Room, Replaces, Becomes, withHead, withOpens, withNamed, withDirectories, withUsed, noOpen, usedAnd};
+ghost use Rattle.memory_layout.specs.Flat.{flatOf, Room, Replaces, Becomes, withHead, withOpens, withNamed, withDirectories, withUsed, noOpen};
 ghost use Rattle.memory_layout.specs.Opens.{activeOf, findOpen};
 ghost use Rattle.memory_layout.specs.Elements.{OpenAt, OpenMore, NamedAt, NamedMore, DirectoryMore};
 ghost use Rattle.memory_layout.specs.Store.{holdsStore, FreshFits, freshFlat, storeIn};
 ghost use Rattle.memory_layout.specs.Places.{headSize, namedAt, refsAt};
-
-// What a memory that holds a store begins with: V, O, Z and the layout's version.
-const SIGNATURE: u32 = 56250198;
-
-// Where the head's numbers stand, four bytes each.
-pub const CAPACITY: usize = 4;
-
-const BLOCKS: usize = 8;
-
-const LEVEL: usize = 12;
-
-const NEXT: usize = 16;
-
-const RUNNING: usize = 20;
-
-const BEGUN: usize = 24;
-
-const TAKEN: usize = 28;
-
-pub const ROW_COUNT: usize = 32;
-
-const OPEN_COUNT: usize = 36;
-
-const NAMED_COUNT: usize = 40;
-
-const DIRECTORY_COUNT: usize = 44;
-
-// Where the head's lists stand, and how long the head is.
-pub const TABLE_ENDS: usize = 64;
-
-pub const PAGE_COUNT: usize = 78;
-
-const DIRECTORIES: usize = 96;
-
-const OPENS: usize = 128;
-
-const USED: usize = 512;
-
-const USED_SIZE: usize = block_forms::BLOCK_LIMIT / 8;
-
-pub const HEAD_SIZE: usize = 1024;
-
-// A slot has number, owner and payload of a row.
-pub const SLOT_SIZE: usize = 72;
-
-// Bytes a row before each column: keys, slots and states of the rows, first rows and blocks of the pages, directory entries.
-pub const KEYS: usize = SLOT_SIZE;
-
-pub const REFS: usize = KEYS + 4;
-
-pub const STATES: usize = REFS + 2;
-
-pub const STARTS: usize = STATES + 1;
-
-pub const PAGE_BLOCKS: usize = STARTS + 4;
-
-const NAMED: usize = PAGE_BLOCKS + 4;
 
 // An open transaction is stored as its number times this, plus how many tuples it has written.
 const STATEMENTS: u32 = block_forms::STATEMENTS;
@@ -143,13 +88,13 @@ pub fn get_head(m: &[u8]) -> Head
     ensures { λ r. ⌜ r ≡ headOf (now (m .entry)) ⌝ }
 {
     Head {
-        capacity: memory_bytes::get4(m, CAPACITY),
-        blocks: memory_bytes::get4(m, BLOCKS),
-        level: memory_bytes::get4(m, LEVEL),
-        next: memory_bytes::get4(m, NEXT),
-        running: memory_bytes::get4(m, RUNNING) != 0,
-        begun: memory_bytes::get4(m, BEGUN),
-        taken: memory_bytes::get4(m, TAKEN),
+        capacity: memory_bytes::get4(m, places::CAPACITY),
+        blocks: memory_bytes::get4(m, places::BLOCKS),
+        level: memory_bytes::get4(m, places::LEVEL),
+        next: memory_bytes::get4(m, places::NEXT),
+        running: memory_bytes::get4(m, places::RUNNING) != 0,
+        begun: memory_bytes::get4(m, places::BEGUN),
+        taken: memory_bytes::get4(m, places::TAKEN),
     }
 }
 
@@ -158,11 +103,11 @@ pub fn get_counts(m: &[u8]) -> Counts
     ensures { λ r. ⌜ r ≡ countsOf (now (m .entry)) ⌝ }
 {
     Counts {
-        rows: memory_bytes::get4(m, ROW_COUNT),
-        pages: memory_bytes::get2(m, PAGE_COUNT),
-        opens: memory_bytes::get4(m, OPEN_COUNT),
-        named: memory_bytes::get4(m, NAMED_COUNT),
-        directories: memory_bytes::get4(m, DIRECTORY_COUNT),
+        rows: memory_bytes::get4(m, places::ROW_COUNT),
+        pages: memory_bytes::get2(m, places::PAGE_COUNT),
+        opens: memory_bytes::get4(m, places::OPEN_COUNT),
+        named: memory_bytes::get4(m, places::NAMED_COUNT),
+        directories: memory_bytes::get4(m, places::DIRECTORY_COUNT),
     }
 }
 
@@ -180,13 +125,13 @@ pub fn put_head(m: &mut [u8], h: Head)
     requires { ⌜ Room (now m) × Replaces (flatOf (now m) .head) h ⌝ }
     ensures { λ _. ⌜ Becomes (now (m .entry)) (now (m .exit)) (withHead (flatOf (now (m .entry))) h) ⌝ }
 {
-    memory_bytes::put4(m, CAPACITY, h.capacity);
-    memory_bytes::put4(m, BLOCKS, h.blocks);
-    memory_bytes::put4(m, LEVEL, h.level);
-    memory_bytes::put4(m, NEXT, h.next);
-    memory_bytes::put4(m, RUNNING, one_if(h.running));
-    memory_bytes::put4(m, BEGUN, h.begun);
-    memory_bytes::put4(m, TAKEN, h.taken);
+    memory_bytes::put4(m, places::CAPACITY, h.capacity);
+    memory_bytes::put4(m, places::BLOCKS, h.blocks);
+    memory_bytes::put4(m, places::LEVEL, h.level);
+    memory_bytes::put4(m, places::NEXT, h.next);
+    memory_bytes::put4(m, places::RUNNING, one_if(h.running));
+    memory_bytes::put4(m, places::BEGUN, h.begun);
+    memory_bytes::put4(m, places::TAKEN, h.taken);
 }
 
 // ---- open transactions, in the order in which they opened
@@ -195,7 +140,7 @@ pub fn get_open(m: &[u8], i: usize) -> Open
     requires { ⌜ Room (now m) × (i < length (flatOf (now m) .opens)) ⌝ }
     ensures { λ r. ⌜ activeOf r ≡ getD (flatOf (now (m .entry)) .opens) i noOpen ⌝ }
 {
-    let w = memory_bytes::get4(m, OPENS + i * 4);
+    let w = memory_bytes::get4(m, places::OPENS + i * 4);
     Open {
         transaction: w / STATEMENTS,
         written: w % STATEMENTS,
@@ -207,10 +152,10 @@ pub fn find_open(m: &[u8], transaction: u64) -> usize
     requires { ⌜ Room (now m) ⌝ }
     ensures { λ r. ⌜ r ≡ findOpen transaction (flatOf (now (m .entry)) .opens) ⌝ }
 {
-    let n = memory_bytes::get4(m, OPEN_COUNT) as usize;
+    let n = memory_bytes::get4(m, places::OPEN_COUNT) as usize;
     let mut i = 0;
     while i < n {
-        let t = (memory_bytes::get4(m, OPENS + i * 4) / STATEMENTS) as u64;
+        let t = (memory_bytes::get4(m, places::OPENS + i * 4) / STATEMENTS) as u64;
         if t == transaction {
             return i;
         }
@@ -223,27 +168,35 @@ pub fn put_open(m: &mut [u8], i: usize, o: Open)
     requires { ⌜ Room (now m) × OpenAt (flatOf (now m)) i o ⌝ }
     ensures { λ _. ⌜ Becomes (now (m .entry)) (now (m .exit)) (withOpens (flatOf (now (m .entry))) (set (flatOf (now (m .entry)) .opens) i (activeOf o))) ⌝ }
 {
-    memory_bytes::put4(m, OPENS + i * 4, o.transaction * STATEMENTS + o.written);
+    memory_bytes::put4(
+        m,
+        places::OPENS + i * 4,
+        o.transaction * STATEMENTS + o.written,
+    );
 }
 
 pub fn push_open(m: &mut [u8], o: Open)
     requires { ⌜ Room (now m) × OpenMore (flatOf (now m)) o ⌝ }
     ensures { λ _. ⌜ Becomes (now (m .entry)) (now (m .exit)) (withOpens (flatOf (now (m .entry))) (flatOf (now (m .entry)) .opens ++ activeOf o ∷ [])) ⌝ }
 {
-    let n = memory_bytes::get4(m, OPEN_COUNT);
+    let n = memory_bytes::get4(m, places::OPEN_COUNT);
     let i = n as usize;
-    memory_bytes::put4(m, OPENS + i * 4, o.transaction * STATEMENTS + o.written);
-    memory_bytes::put4(m, OPEN_COUNT, n + 1);
+    memory_bytes::put4(
+        m,
+        places::OPENS + i * 4,
+        o.transaction * STATEMENTS + o.written,
+    );
+    memory_bytes::put4(m, places::OPEN_COUNT, n + 1);
 }
 
 pub fn remove_open(m: &mut [u8], i: usize)
     requires { ⌜ Room (now m) × (i < length (flatOf (now m) .opens)) ⌝ }
     ensures { λ _. ⌜ Becomes (now (m .entry)) (now (m .exit)) (withOpens (flatOf (now (m .entry))) (removeAt i (flatOf (now (m .entry)) .opens))) ⌝ }
 {
-    let n = memory_bytes::get4(m, OPEN_COUNT);
+    let n = memory_bytes::get4(m, places::OPEN_COUNT);
     let e = n as usize;
-    memory_bytes::lower(m, OPENS + i * 4, OPENS + e * 4, 4);
-    memory_bytes::put4(m, OPEN_COUNT, n - 1);
+    memory_bytes::lower(m, places::OPENS + i * 4, places::OPENS + e * 4, 4);
+    memory_bytes::put4(m, places::OPEN_COUNT, n - 1);
 }
 
 // ---- directory entries
@@ -252,8 +205,8 @@ fn named_place(m: &[u8], i: usize) -> usize
     requires { ⌜ Room (now m) × (i < capacityLimit) ⌝ }
     ensures { λ r. ⌜ r ≡ namedAt (headOf (now (m .entry)) .capacity) + i * 2 ⌝ }
 {
-    let c = memory_bytes::get4(m, CAPACITY) as usize;
-    HEAD_SIZE + c * NAMED + i * 2
+    let c = memory_bytes::get4(m, places::CAPACITY) as usize;
+    places::HEAD_SIZE + c * places::NAMED + i * 2
 }
 
 pub fn get_named(m: &[u8], i: usize) -> u16
@@ -275,17 +228,17 @@ pub fn push_named(m: &mut [u8], b: u16)
     requires { ⌜ Room (now m) × NamedMore (flatOf (now m)) b ⌝ }
     ensures { λ _. ⌜ Becomes (now (m .entry)) (now (m .exit)) (withNamed (flatOf (now (m .entry))) (flatOf (now (m .entry)) .named ++ b ∷ [])) ⌝ }
 {
-    let n = memory_bytes::get4(m, NAMED_COUNT);
+    let n = memory_bytes::get4(m, places::NAMED_COUNT);
     let a = named_place(m, n as usize);
     memory_bytes::put2(m, a, b);
-    memory_bytes::put4(m, NAMED_COUNT, n + 1);
+    memory_bytes::put4(m, places::NAMED_COUNT, n + 1);
 }
 
 pub fn clear_named(m: &mut [u8])
     requires { ⌜ Room (now m) ⌝ }
     ensures { λ _. ⌜ Becomes (now (m .entry)) (now (m .exit)) (withNamed (flatOf (now (m .entry))) []) ⌝ }
 {
-    memory_bytes::put4(m, NAMED_COUNT, 0);
+    memory_bytes::put4(m, places::NAMED_COUNT, 0);
 }
 
 // ---- directory blocks written
@@ -294,24 +247,24 @@ pub fn get_directory(m: &[u8], i: usize) -> u32
     requires { ⌜ Room (now m) × (i < length (flatOf (now m) .directories)) ⌝ }
     ensures { λ r. ⌜ r ≡ getD (flatOf (now (m .entry)) .directories) i 0 ⌝ }
 {
-    memory_bytes::get4(m, DIRECTORIES + i * 4) % BLOCK_LIMIT
+    memory_bytes::get4(m, places::DIRECTORIES + i * 4) % BLOCK_LIMIT
 }
 
 pub fn push_directory(m: &mut [u8], b: u32)
     requires { ⌜ Room (now m) × DirectoryMore (flatOf (now m)) b ⌝ }
     ensures { λ _. ⌜ Becomes (now (m .entry)) (now (m .exit)) (withDirectories (flatOf (now (m .entry))) (flatOf (now (m .entry)) .directories ++ b ∷ [])) ⌝ }
 {
-    let n = memory_bytes::get4(m, DIRECTORY_COUNT);
+    let n = memory_bytes::get4(m, places::DIRECTORY_COUNT);
     let i = n as usize;
-    memory_bytes::put4(m, DIRECTORIES + i * 4, b);
-    memory_bytes::put4(m, DIRECTORY_COUNT, n + 1);
+    memory_bytes::put4(m, places::DIRECTORIES + i * 4, b);
+    memory_bytes::put4(m, places::DIRECTORY_COUNT, n + 1);
 }
 
 pub fn clear_directories(m: &mut [u8])
     requires { ⌜ Room (now m) ⌝ }
     ensures { λ _. ⌜ Becomes (now (m .entry)) (now (m .exit)) (withDirectories (flatOf (now (m .entry))) []) ⌝ }
 {
-    memory_bytes::put4(m, DIRECTORY_COUNT, 0);
+    memory_bytes::put4(m, places::DIRECTORY_COUNT, 0);
 }
 
 // ---- blocks in use
@@ -336,14 +289,14 @@ pub fn is_used(m: &[u8], b: usize) -> bool
     requires { ⌜ (b < blockLimit) × (headSize ≤ length (now m)) ⌝ }
     ensures { λ r. ⌜ r ≡ flatOf (now (m .entry)) .used b ⌝ }
 {
-    bit(m[USED + b / 8], b % 8)
+    bit(m[places::USED + b / 8], b % 8)
 }
 
 pub fn mark_used(m: &mut [u8], b: usize)
     requires { ⌜ Room (now m) × (b < blockLimit) ⌝ }
     ensures { λ _. ⌜ Becomes (now (m .entry)) (now (m .exit)) (withUsed (flatOf (now (m .entry))) (usedAnd b (flatOf (now (m .entry)) .used))) ⌝ }
 {
-    let a = USED + b / 8;
+    let a = places::USED + b / 8;
     m[a] = with_bit(m[a], b % 8);
 }
 
@@ -351,7 +304,7 @@ pub fn clear_used(m: &mut [u8])
     requires { ⌜ Room (now m) ⌝ }
     ensures { λ _. ⌜ Becomes (now (m .entry)) (now (m .exit)) (withUsed (flatOf (now (m .entry))) (λ c. false)) ⌝ }
 {
-    memory_bytes::clear(m, USED, USED_SIZE);
+    memory_bytes::clear(m, places::USED, places::USED_SIZE);
 }
 
 // ---- refusal 4
@@ -360,10 +313,10 @@ pub fn clear_used(m: &mut [u8])
 pub fn holds_store(m: &[u8]) -> bool
     ensures { λ r. ⌜ r ≡ holdsStore (now (m .entry)) ⌝ }
 {
-    if m.len() < HEAD_SIZE {
+    if m.len() < places::HEAD_SIZE {
         return false;
     }
-    if memory_bytes::get4(m, 0) != SIGNATURE {
+    if memory_bytes::get4(m, 0) != places::SIGNATURE {
         return false;
     }
     let h = get_head(m);
@@ -386,7 +339,7 @@ fn name_slots(m: &mut [u8], n: usize)
 {
     let mut i: usize = 0;
     while i < n {
-        memory_bytes::put2(m, HEAD_SIZE + n * REFS + i * 2, i as u16);
+        memory_bytes::put2(m, places::HEAD_SIZE + n * places::REFS + i * 2, i as u16);
         i += 1;
     }
 }
@@ -396,10 +349,10 @@ pub fn fresh(m: &mut [u8], blocks: u32, n: u32)
     requires { ⌜ FreshFits (length (now m)) blocks n ⌝ }
     ensures { λ _. ⌜ Becomes (now (m .entry)) (now (m .exit)) (freshFlat blocks n) × (storeIn (now (m .exit)) ≡ some (freshStore blocks n)) ⌝ }
 {
-    memory_bytes::clear(m, 0, OPENS);
-    memory_bytes::put4(m, 0, SIGNATURE);
-    memory_bytes::put4(m, CAPACITY, n);
-    memory_bytes::put4(m, BLOCKS, blocks);
-    memory_bytes::clear(m, USED, USED_SIZE);
+    memory_bytes::clear(m, 0, places::OPENS);
+    memory_bytes::put4(m, 0, places::SIGNATURE);
+    memory_bytes::put4(m, places::CAPACITY, n);
+    memory_bytes::put4(m, places::BLOCKS, blocks);
+    memory_bytes::clear(m, places::USED, places::USED_SIZE);
     name_slots(m, n as usize);
 }

@@ -1,6 +1,6 @@
 -- A page and a row behind all others: no row and no other page is moved.
 use Rattle.block_forms.specs.Limits.{blockLimit}
-use Rattle.basics.proofs.Kit.{_≡_, refl, sym, ap, _∙_, false, List, [], _∷_, _++_, ℕ, _+_, _*_, _≤_, _<_, _-_, add-zero, length, getD, set, arith, getD-append-seam}
+use Rattle.basics.proofs.Kit.{_≡_, sym, ap, _∙_, false, List, [], _∷_, _++_, ℕ, _+_, _*_, _≤_, _<_, add-zero, length, getD, set, arith, getD-append-seam}
 use Rattle.memory_bytes.specs.Bytes.{bytes2, Wrote}
 use Rattle.basics.specs.Lists.{insertAt}
 use Rattle.memory_bytes.proofs.Bytes.{le2-cong, le4-cong}

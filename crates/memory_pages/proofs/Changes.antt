@@ -1,26 +1,25 @@
 -- What the memory holds after each change of the pages.
 use Rattle.block_forms.specs.Limits.{blockLimit}
-use Rattle.basics.proofs.Kit.{_≡_, sym, ap, _∙_, subst, ⊎-elim, Bool, true, false, List, _∷_, _++_, ℕ, suc, _+_, _*_, _%_, _≤_, _<_, _/_, _-_, add-one, eqb, length, take, drop, set}
-use Rattle.basics.proofs.Kit.{set-split, eq-eqb, ne-eqb, arith}
+use Rattle.basics.proofs.Kit.{_≡_, sym, ap, _∙_, subst, ⊎-elim, Bool, true, false, List, _∷_, _++_, ℕ, suc, _+_, _*_, _%_, _≤_, _<_, _/_, _-_, eqb, take, drop}
+use Rattle.basics.proofs.Kit.{eq-eqb, ne-eqb, arith}
 use Rattle.memory_bytes.specs.Bytes.{le2, bytes2, Wrote}
 use Rattle.basics.specs.Lists.{tab, insertAt, removeAt}
-use Rattle.memory_bytes.proofs.Bytes.{le2-below, le2-above, le2-wrote}
+use Rattle.memory_bytes.proofs.Bytes.{le2-below, le2-above, le4-below, le2-wrote}
 use Rattle.basics.proofs.Tabs.{lt-or-ge}
-use Rattle.memory_layout.specs.Places.{startsAt, blocksAt}
+use Rattle.memory_layout.specs.Places.{blocksAt}
 use Rattle.memory_layout.specs.Views.{pageCount, tableEnd, tableAt, startAt, blockWord, entryAt}
 use Rattle.memory_layout.specs.Flat.{flatOf, capacityOf, entriesOf, entryIn, Room, Becomes, withEntries}
 use Rattle.memory_layout.specs.declared.Entry.{Entry}
-use Rattle.memory_layout.proofs.Frame.{same-table}
-use Rattle.memory_layout.proofs.Laws.{entries-length}
+use Rattle.memory_layout.proofs.Frame.{same-table, same-start}
+use Rattle.memory_layout.proofs.Changes.{pages-are}
 use Rattle.memory_pages.specs.Columns.{Opened, Closed}
-use Rattle.memory_pages.specs.Pages.{dirty, withBlock, withCount, wordOf}
-use Rattle.memory_pages.proofs.Ranges.{ranges, entry-table, entry-count, start-stored, start-behind, start-step, starts-rise}
+use Rattle.memory_pages.specs.Pages.{dirty, withBlock, withCount, wordOf, EntriesBecome, setBlock}
+use Rattle.memory_pages.proofs.Ranges.{ranges, entry-table, entry-count, start-step, starts-rise}
 use Rattle.memory_pages.proofs.Tables.{TableIs, table-is}
-use Rattle.memory_pages.proofs.Columns.{in-columns, same-row-count}
-use Rattle.memory_pages.proofs.Parts.{entries-become}
-use Rattle.basics.proofs.Tabs.{splice}
+use Rattle.memory_pages.proofs.Columns.{in-columns, entries-become}
+use Rattle.basics.proofs.Tabs.{splice, tab-set}
 use Rattle.memory_pages.proofs.Entries.{entry-is, entry-same, entry-counted, Stands, stands-behind}
-use Rattle.memory_pages.proofs.Entries.{opens, closes, more-tables, more-before, more-here, more-same, more-entry, open-rises}
+use Rattle.memory_pages.proofs.Entries.{opens, closes, more-tables, more-before, more-here, more-same, more-start, more-low, more-entry, open-rises}
 
 -- one change of the pages after another
 pub then-entries : {m m1 m2 : List ℕ} {es ds : List Entry} → Becomes m m1 (withEntries (flatOf m) es) → Becomes m1 m2 (withEntries (flatOf m1) ds)
@@ -52,16 +51,7 @@ module _ {m m' : List ℕ} {p b a w : ℕ} (z : Bool) (room : Room m) (h : p < p
 
   block-start : (j : ℕ) → startAt m' (capacityOf m) j ≡ startAt m (capacityOf m) j
   block-start j =
-      let c : ℕ = capacityOf m in
-      let n = block-end 7 (omega arith) in
-      ⊎-elim
-      (λ k. start-stored m' c j (omega arith)
-      ∙ le2-below (s .apart) (startsAt c + j * 2) (omega (arith, ranges room))
-      ∙ sym (start-stored m c j k))
-      (λ k. start-behind m' c j (omega arith)
-      ∙ same-row-count (in-columns {c = c} (s .apart) (omega arith) (omega (arith, ranges room)))
-      ∙ sym (start-behind m c j k))
-      (lt-or-ge j (pageCount m))
+      same-start m m' (capacityOf m) j (block-end 7 (omega arith)) (le4-below (s .apart) 32 (omega arith)) (ranges room .pages) (λ k p q. s .apart .below k (omega arith))
 
   block-entry : (j : ℕ) → blockWord m' (capacityOf m) j ≡ blockWord m (capacityOf m) j → entryAt m' (capacityOf m) j ≡ entryAt m (capacityOf m) j
   block-entry j e =
@@ -76,39 +66,23 @@ module _ {m m' : List ℕ} {p b a w : ℕ} (z : Bool) (room : Room m) (h : p < p
       (omega (arith, block-start p, block-start (suc p), entry-count m p h)) e
       ∙ (λ i. record { table = entryIn (flatOf m) p .table; frozen = word-frozen b z fits i; count = entryIn (flatOf m) p .count; block = word-block b z fits i })
 
-  pub block-set : Becomes m m' (withEntries (flatOf m) (set (flatOf m .entries) p (withBlock (entryIn (flatOf m) p) b z)))
+  pub block-set : EntriesBecome m m' (setBlock p b z)
   unfolding entriesOf
   block-set =
       let c : ℕ = capacityOf m in
-      let n : ℕ = pageCount m in
-      let es : List Entry = tab (entryAt m c) 0 n in
       let r = ranges room in
-      let en : pageCount m' ≡ n = block-end 7 (omega arith) in
-      let l : length es ≡ n = entries-length m in
-      entries-become room (record {
-        only = in-columns (s .apart) (omega arith) (omega arith);
-        entries =
-            splice (entryAt m c) (entryAt m' c) n (pageCount m') p 1 (suc p) (omega arith) (omega arith) (omega arith)
-            (λ j k. block-entry j (le2-below (s .apart) (blocksAt c + j * 2) (omega arith)))
-            (λ j k. ap (λ (x : ℕ). entryAt m' c (x + j)) (add-one p) ∙ block-entry (suc p + j) (le2-above (s .apart) (blocksAt c + (suc p + j) * 2) (omega arith)))
-            ∙ ap (λ (e : Entry). take p es ++ e ∷ drop (suc p) es) block-here
-            ∙ sym (set-split es p (withBlock (entryIn (flatOf m) p) b z) (omega arith));
-        few = omega (arith, en);
-        tables = λ t k. omega (arith, room .tables t k, block-end t (omega arith), block-end (t + 1) (omega arith));
-        begins = block-start 0 ∙ room .begins;
-        rises = λ j k. omega (arith, block-start j, block-start (j + 1), start-step room j);
-      })
+      entries-become room (in-columns (s .apart) (omega arith) (omega arith))
+      (pages-are m m' room block-end block-start
+      (ap (tab (entryAt m' c) 0) (block-end 7 (omega arith))
+      ∙ tab-set (entryAt m c) (entryAt m' c) (pageCount m) p (withBlock (entryIn (flatOf m) p) b z) h
+      (λ j k. block-entry j (le2-below (s .apart) (blocksAt c + j * 2) (omega arith)))
+      block-here
+      (λ j k l. block-entry j (le2-above (s .apart) (blocksAt c + j * 2) (omega arith)))))
 
 -- ---- a page more
 
 module _ {m m' : List ℕ} {p t x : ℕ} (room : Room m) (s : Stands m p t) (space : pageCount m < 2 * capacityOf m) (top : p ≤ pageCount m)
     (ex : x ≡ startAt m (capacityOf m) p) (o : Opened m m' p t x) where
-  insert-start : (j : ℕ) → j ≤ p → startAt m' (capacityOf m) j ≡ startAt m (capacityOf m) j
-  insert-start j h = ⊎-elim
-      (λ k. o .starts-before j k)
-      (λ k. let e : j ≡ p = omega arith in ap (startAt m' (capacityOf m)) e ∙ o .start ∙ ex ∙ ap (startAt m (capacityOf m)) (sym e))
-      (lt-or-ge j p)
-
   pub page-inserted : Becomes m m' (withEntries (flatOf m) (insertAt p (dirty t 0) (flatOf m .entries)))
   unfolding entriesOf
   page-inserted =
@@ -117,17 +91,17 @@ module _ {m m' : List ℕ} {p t x : ℕ} (room : Room m) (s : Stands m p t) (spa
       let es : List Entry = tab (entryAt m c) 0 n in
       let en : pageCount m' ≡ n + 1 = o .ends-from 7 (omega (arith, s .table)) (omega arith) in
       let w = opens room s o in
-      entries-become room (record {
-        only = o .only;
+      let here : startAt m' c p ≡ startAt m c p = o .start ∙ ex in
+      entries-become room (o .only) (record {
         entries =
             splice (entryAt m c) (entryAt m' c) n (pageCount m') p 1 p (omega arith) top (omega arith)
-            (λ j k. entry-same m m' c j j (more-before w j k) (omega (arith, insert-start j (omega arith), insert-start (suc j) k)) (o .words-before j k))
+            (more-low w here)
             (λ j k. let e : p + 1 + j ≡ suc (p + j) = omega arith in ap (entryAt m' c) e ∙ more-entry w (p + j) (omega arith) (omega arith))
             ∙ ap (λ (e : Entry). take p es ++ e ∷ drop p es)
             (entry-is m' c p (more-here w) (omega (arith, o .starts-from p (omega arith), o .start)) (o .word));
         few = omega arith;
         tables = more-tables w;
-        begins = insert-start 0 (omega arith) ∙ room .begins;
+        begins = more-start w here 0 (omega arith) ∙ room .begins;
         rises = λ j k. open-rises room o (λ q l. omega (arith, starts-rise room q p (omega arith))) (omega arith) j;
       })
 
@@ -154,8 +128,7 @@ module _ {m m' : List ℕ} {p t x : ℕ} (k : ℕ) (room : Room m) (h : p < page
       entry-counted m m' p h (more-before w p (omega arith)) (omega (arith, o .starts-before p (omega arith), o .start)) (o .words-before p (omega arith)) in
       let second : entryAt m' c (suc p) ≡ dirty t (entryIn (flatOf m) p .count - k) =
       entry-is m' c (suc p) (more-here w) (omega (arith, o .starts-from (suc p) (omega arith), o .start)) (o .word) in
-      entries-become room (record {
-        only = o .only;
+      entries-become room (o .only) (record {
         entries =
             splice (entryAt m c) (entryAt m' c) n (pageCount m') p 2 (suc p) (omega arith) (omega arith) (omega arith)
             (λ j l. more-same w j (omega arith))
@@ -188,34 +161,25 @@ module _ {m m' : List ℕ} {p t : ℕ} (room : Room m) (h : p < pageCount m) (et
       (lt-or-ge j p)
 
   module _ (none : entryIn (flatOf m) p .count ≡ 0) where
-    remove-start : (j : ℕ) → j ≤ p → startAt m' (capacityOf m) j ≡ startAt m (capacityOf m) j
-    remove-start j k = ⊎-elim
-        (λ l. o .starts-before j l)
-        (λ l.
-        let e : j ≡ p = omega arith in
-        let step = starts-rise room p (suc p) (omega arith) in
-        omega (arith, o .starts-from j l, entry-count m p h, ap (startAt m (capacityOf m)) e, ap (λ (z : ℕ). startAt m (capacityOf m) (suc z)) e))
-        (lt-or-ge j p)
-
-    pub page-removed : Becomes m m' (withEntries (flatOf m) (removeAt p (flatOf m .entries)))
+    pub page-removed : EntriesBecome m m' (removeAt p)
     unfolding entriesOf
     page-removed =
         let c : ℕ = capacityOf m in
         let n : ℕ = pageCount m in
         let w = closes room close-is h o in
         let en = close-pages in
-        entries-become room (record {
-          only = o .only;
+        let here : startAt m c p ≡ startAt m' c p = omega (arith, o .starts-from p (omega arith), entry-count m p h, starts-rise room p (suc p) (omega arith)) in
+        entries-become room (o .only) (record {
           entries =
               splice (entryAt m c) (entryAt m' c) n (pageCount m') p 0 (p + 1) (omega arith) (omega arith) (omega arith)
-              (λ j k. entry-same m m' c j j (sym (more-before w j k)) (omega (arith, remove-start j (omega arith), remove-start (suc j) k)) (o .words-before j k))
+              (λ j k. sym (more-low w here j k))
               (λ j k.
               let e : p + 0 + j ≡ p + j = omega arith in
               let e2 : suc (p + j) ≡ p + 1 + j = omega arith in
               ap (entryAt m' c) e ∙ sym (more-entry w (p + j) (omega arith) (omega arith)) ∙ ap (entryAt m c) e2);
           few = omega (arith, ranges room);
           tables = w .rise;
-          begins = remove-start 0 (omega arith) ∙ room .begins;
+          begins = sym (more-start w here 0 (omega arith)) ∙ room .begins;
           rises = λ j k. close-rises j;
         })
 
@@ -239,8 +203,7 @@ module _ {m m' : List ℕ} {p t : ℕ} (room : Room m) (h : suc p < pageCount m)
       omega (arith, o .starts-before p (omega arith), o .starts-from (suc p) (omega arith), entry-count m p hp, entry-count m (suc p) h) in
       let first : entryAt m' c p ≡ withCount (entryIn (flatOf m) p) count =
       entry-counted m m' p hp (sym (more-before w p (omega arith))) both (o .words-before p (omega arith)) in
-      entries-become room (record {
-        only = o .only;
+      entries-become room (o .only) (record {
         entries =
             splice (entryAt m c) (entryAt m' c) n (pageCount m') p 1 (p + 2) (omega arith) (omega arith) (omega arith)
             (λ j k. sym (more-same w j (omega arith)))

@@ -1,11 +1,7 @@
 -- A count of the pages, turn by turn.
 use Rattle.basics.proofs.Kit.{_≡_, sym, ap, _∙_, Bool, cond, List, _∷_, ℕ, _+_, _≤_, _<_, add-one, length, drop, getD, drop-of-length-le, drop-cons, arith}
-use Rattle.basics.specs.Basics.{if_then_else_, howMany}
-use Rattle.basics.proofs.Facts.{by}
-
-one-more : {A : Type 0} (f : A → Bool) (x : A) (xs : List A) → howMany f (x ∷ xs) ≡ cond (f x) 1 0 + howMany f xs
-unfolding howMany if_then_else_
-one-more f x xs = by (f x) (λ e. rw e (omega arith)) (λ e. rw e (omega arith))
+use Rattle.basics.specs.Basics.{howMany}
+use Rattle.basics.proofs.Froms.{many-cons}
 
 -- k of those before place p pass, and w do in all
 pub record Counted {A : Type 0} (f : A → Bool) (xs : List A) (w k p : ℕ) : Type 0 where
@@ -21,7 +17,7 @@ module _ {A : Type 0} (f : A → Bool) (xs : List A) where
     pub counted-turn : (d : A) {r : ℕ} → p < length xs → r ≡ cond (f (getD xs p d)) 1 0 → r ≤ 1 → Counted f xs w (k + r) (p + 1)
     counted-turn d h e l =
         let t : howMany f (drop p xs) ≡ cond (f (getD xs p d)) 1 0 + howMany f (drop (p + 1) xs) =
-        ap (howMany f) (drop-cons xs p d h ∙ ap (λ (z : ℕ). getD xs p d ∷ drop z xs) (sym (add-one p))) ∙ one-more f (getD xs p d) (drop (p + 1) xs) in
+        ap (howMany f) (drop-cons xs p d h ∙ ap (λ (z : ℕ). getD xs p d ∷ drop z xs) (sym (add-one p))) ∙ many-cons f (getD xs p d) (drop (p + 1) xs) in
         record { inside = omega arith; few = omega (arith, c .few); rest = omega (arith, c .rest) }
 
     pub counted-end : length xs ≤ p → k ≡ w

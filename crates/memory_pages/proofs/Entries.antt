@@ -175,6 +175,14 @@ module _ {a b : List ℕ} {c p t : ℕ} (o : More a b c p t) where
   more-same j h =
       entry-same a b c j j (more-before j (omega arith)) (omega (arith, o .starts-before j (omega arith), o .starts-before (suc j) h)) (o .words-before j (omega arith))
 
+  -- pages before it, if the page before it ends where it did
+  module _ (e : startAt b c p ≡ startAt a c p) where
+    pub more-start : (j : ℕ) → j ≤ p → startAt b c j ≡ startAt a c j
+    more-start j h = ⊎-elim (λ k. o .starts-before j k) (λ k. let q : j ≡ p = omega arith in ap (startAt b c) q ∙ e ∙ ap (startAt a c) (sym q)) (lt-or-ge j p)
+
+    pub more-low : (j : ℕ) → j < p → entryAt b c j ≡ entryAt a c j
+    more-low j h = entry-same a b c j j (more-before j h) (omega (arith, more-start j (omega arith), more-start (suc j) h)) (o .words-before j h)
+
   -- pages behind it
   pub more-entry : (j : ℕ) → p ≤ j → j < pageCount a → entryAt b c (suc j) ≡ entryAt a c j
   more-entry j h k = entry-same a b c j (suc j) (more-from j h) (omega (arith, o .starts-from j h, o .starts-from (suc j) (omega arith))) (o .words-from j h k)

@@ -7,7 +7,7 @@ use Rattle.memory_layout.specs.Store.{total}
 use Rattle.memory_layout.specs.declared.Entry.{Entry}
 use Rattle.memory_layout.proofs.Laws.{entries-length, starts}
 use Rattle.memory_pages.specs.Columns.{Opened, Closed, MayOpen, MayClose}
-use Rattle.memory_pages.specs.Pages.{dirty, withBlock, withCount, splitEntry, joinEntries, MaySplit, MayJoin}
+use Rattle.memory_pages.specs.Pages.{dirty, withBlock, withCount, splitEntry, joinEntries, MaySplit, MayJoin, EntriesBecome, setBlock}
 use Rattle.memory_pages.proofs.Ranges.{entry-table, head-capacity}
 use Rattle.memory_pages.proofs.Tables.{TableIs, table-is}
 use Rattle.memory_pages.proofs.Entries.{ends-behind}
@@ -19,7 +19,7 @@ d m p = withBlock (entryIn (flatOf m) p) 0 false
 
 -- page p has left its block; all else is as it was
 abbrev Left : List ℕ → List ℕ → ℕ → Type 0
-Left m m1 p = Becomes m m1 (withEntries (flatOf m) (set (flatOf m .entries) p (withBlock (entryIn (flatOf m) p) 0 false)))
+Left m m1 p = EntriesBecome m m1 (setBlock p 0 false)
 
 module _ {m m1 : List ℕ} {p : ℕ} (room : Room m) (h : p < pageCount m) (s : Left m m1 p) where
   left-entries : flatOf m1 .entries ≡ set (flatOf m .entries) p (d m p)
@@ -63,7 +63,7 @@ module _ {m m1 : List ℕ} {p : ℕ} (k : ℕ) (room : Room m) (may : MaySplit (
       record { table = b; place = omega arith; space = omega (arith, left-capacity room g s, may .space, entries-length m, head-capacity m) }
 
   pub split-done : {m2 : List ℕ} {t x : ℕ} → t ≡ entryIn (flatOf m) p .table → x ≡ startAt m (capacityOf m) p + k → Opened m1 m2 (p + 1) t x
-      → Becomes m m2 (withEntries (flatOf m) (splitEntry p k (flatOf m .entries)))
+      → EntriesBecome m m2 (splitEntry p k)
   split-done {m2} {t} {x} et ex o =
       let g = split-place in
       let n : pageCount m1 ≡ pageCount m = left-pages room g s in
@@ -100,7 +100,7 @@ module _ {m m1 : List ℕ} {p : ℕ} (room : Room m) (may : MayJoin (flatOf m) p
       record { table = omega (arith, is .most); place = omega (arith, join-place); behind = ends-behind is (omega (arith, join-place)) }
 
   pub join-done : {m2 : List ℕ} {t : ℕ} → t ≡ entryIn (flatOf m) p .table → Closed m1 m2 (p + 1) t
-      → Becomes m m2 (withEntries (flatOf m) (joinEntries p (flatOf m .entries)))
+      → EntriesBecome m m2 (joinEntries p)
   join-done {m2} {t} et o =
       let g : p < pageCount m = omega (arith, join-place) in
       let n : pageCount m1 ≡ pageCount m = left-pages room g s in

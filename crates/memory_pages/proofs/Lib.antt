@@ -2,7 +2,6 @@ pub mod Ranges
 pub mod Tables
 pub mod Finding
 pub mod Columns
-pub mod Parts
 pub mod Entries
 pub mod Changes
 pub mod Halves

@@ -1,22 +1,20 @@
 -- A row put in or taken out: the pages behind its page start one row later or earlier.
-use Rattle.basics.proofs.Kit.{_≡_, sym, ap, _∙_, ⊎-elim, List, _∷_, _++_, ℕ, suc, _+_, _*_, _%_, _≤_, _<_, _-_, add-one, length, take, drop, set, length-append, length-drop, set-split}
-use Rattle.basics.proofs.Kit.{length-take-le, arith}
+use Rattle.basics.proofs.Kit.{_≡_, sym, ap, _∙_, ⊎-elim, List, ℕ, suc, _+_, _*_, _%_, _≤_, _<_, _-_, length, set}
+use Rattle.basics.proofs.Kit.{arith}
 use Rattle.memory_bytes.specs.Bytes.{le2, Added}
-use Rattle.basics.specs.Lists.{tab, removeAt}
+use Rattle.basics.specs.Lists.{tab}
 use Rattle.memory_bytes.proofs.Bytes.{le2-cong, le4-cong, le2-below, le2-above, le4-below}
 use Rattle.basics.proofs.Tabs.{lt-or-ge}
 use Rattle.model.specs.State.{Held}
-use Rattle.memory_layout.specs.Places.{startsAt, blocksAt, headSize, keysAt, refsAt, slotSize, statesAt}
+use Rattle.memory_layout.specs.Places.{startsAt, blocksAt, headSize}
 use Rattle.memory_layout.specs.Views.{rowCount, pageCount, tableEnd, startAt, blockWord, rowAt, entryAt}
 use Rattle.memory_layout.specs.Flat.{flatOf, capacityOf, rowsOf, entriesOf, entryIn, Room, Becomes, withRows, withEntries}
-use Rattle.memory_layout.specs.declared.Entry.{Entry}
-use Rattle.memory_layout.proofs.Frame.{Same, same-table, same-rows}
-use Rattle.memory_layout.proofs.Laws.{entries-length}
+use Rattle.memory_layout.proofs.Frame.{same-table, same-rows}
 use Rattle.memory_rows.specs.Rows.{RowsOnly}
 use Rattle.memory_pages.specs.Pages.{withCount, moreRows, fewerRows}
 use Rattle.memory_pages.proofs.Ranges.{ranges, entry-count, start-stored, start-behind, start-step, starts-rise, start-most}
-use Rattle.memory_pages.proofs.Parts.{becomes}
-use Rattle.basics.proofs.Tabs.{splice}
+use Rattle.memory_layout.proofs.Changes.{same-below, becomes-rest}
+use Rattle.basics.proofs.Tabs.{tab-set}
 use Rattle.memory_pages.proofs.Entries.{entry-same, entry-counted}
 
 -- ---- the pages' part
@@ -59,9 +57,14 @@ module _ {m m1 m2 : List ℕ} {hs : List Held} {p s n d q : ℕ} (room : Room m)
       let c : ℕ = capacityOf m in
       le2-above (a .apart) (blocksAt c + j * 2) (omega (arith, ranges room)) ∙ row-column (blocksAt c + j * 2) (omega arith)
 
-  -- each of them by b more and a less; page p has k rows
-  module _ (x y k : ℕ) (high : (j : ℕ) → p < j → startAt m2 (capacityOf m) j + x ≡ startAt m (capacityOf m) j + y)
-      (ek : k + x ≡ entryIn (flatOf m) p .count + y) (few : length hs ≤ capacityOf m) where
+  -- each of them by y more and x less, as there are rows; page p has k rows
+  module _ (x y k : ℕ) (stored : (j : ℕ) → p < j → j < pageCount m → startAt m2 (capacityOf m) j + x ≡ startAt m (capacityOf m) j + y)
+      (el : length hs + x ≡ rowCount m + y) (ek : k + x ≡ entryIn (flatOf m) p .count + y) (few : length hs ≤ capacityOf m) where
+    high : (j : ℕ) → p < j → startAt m2 (capacityOf m) j + x ≡ startAt m (capacityOf m) j + y
+    high j l = ⊎-elim (stored j l)
+        (λ b. omega (arith, start-behind m (capacityOf m) j b, start-behind m2 (capacityOf m) j (omega (arith, row-end 7 (omega arith))), row-count))
+        (lt-or-ge j (pageCount m))
+
     row-entry : (j : ℕ) → startAt m2 (capacityOf m) (suc j) - startAt m2 (capacityOf m) j ≡ startAt m (capacityOf m) (suc j) - startAt m (capacityOf m) j
         → entryAt m2 (capacityOf m) j ≡ entryAt m (capacityOf m) j
     row-entry j e = entry-same m m2 (capacityOf m) j j (same-table m m2 j row-end) e (row-word j)
@@ -93,37 +96,31 @@ module _ {m m1 m2 : List ℕ} {hs : List Held} {p s n d q : ℕ} (room : Room m)
     unfolding entriesOf rowsOf
     rows-changed =
         let c : ℕ = capacityOf m in
-        let np : ℕ = pageCount m in
-        let list : List Entry = tab (entryAt m c) 0 np in
         let g = ranges room in
-        let l : length list ≡ np = entries-length m in
-        let e7 : pageCount m2 ≡ np = row-end 7 (omega arith) in
+        let e7 : pageCount m2 ≡ pageCount m = row-end 7 (omega arith) in
         let c1 : capacityOf m1 ≡ c = le4-cong m m1 4 4 (λ j b. r .before (4 + j) (omega arith)) in
-        let low : (b k : ℕ) → b + k ≤ startsAt c → Same m1 m2 b k = λ b k q z u v. a .apart .below z (omega arith) in
-        let fr : rowCount m1 ≤ c = omega (arith, r .count) in
-        becomes room (record {
-          rest = record {
-            size = a .apart .size ∙ r .size;
-            head = λ b u v. a .apart .below b (omega arith) ∙ r .before b (omega arith);
-            counts = λ b u v. a .apart .below b (omega arith) ∙ r .head b (omega arith) (omega arith);
-            lists = λ b u v. a .apart .below b (omega arith) ∙ r .head b (omega arith) (omega arith);
-            named = λ b u. a .apart .above b (omega arith) ∙ r .behind b (omega arith);
-          };
-          rows =
-              ap (tab (rowAt m2 c) 0) (row-count ∙ sym (r .count))
-              ∙ same-rows m1 m2 c (rowCount m1) (g .least) (low headSize (c * slotSize) (omega arith)) (low (keysAt c) (rowCount m1 * 4) (omega arith))
-              (low (refsAt c) (rowCount m1 * 2) (omega arith))
-              (low (statesAt c) (rowCount m1) (omega arith))
+        becomes-rest m m2 room
+        (record {
+          size = a .apart .size ∙ r .size;
+          head = λ b u v. a .apart .below b (omega arith) ∙ r .before b (omega arith);
+          counts = λ b u v. a .apart .below b (omega arith) ∙ r .head b (omega arith) (omega arith);
+          lists = λ b u v. a .apart .below b (omega arith) ∙ r .head b (omega arith) (omega arith);
+          named = λ b u. a .apart .above b (omega arith) ∙ r .behind b (omega arith);
+        }) (
+          omega (arith, row-count),
+          ap (tab (rowAt m2 c) 0) (row-count ∙ sym (r .count))
+              ∙ same-rows m1 m2 c (rowCount m1) (g .least) (omega (arith, r .count)) (same-below headSize (c * 79) (a .apart) (omega arith))
               ∙ ap (λ (z : ℕ). tab (rowAt m1 z) 0 (rowCount m1)) (sym c1)
-              ∙ r .rows;
+              ∙ r .rows,
+        )
+        (record {
           entries =
-              splice (entryAt m c) (entryAt m2 c) np (pageCount m2) p 1 (suc p) (omega arith) (omega arith) (omega arith)
+              ap (tab (entryAt m2 c) 0) e7
+              ∙ tab-set (entryAt m c) (entryAt m2 c) (pageCount m) p (withCount (entryIn (flatOf m) p) k) h
               (λ j z. row-entry j (omega (arith, row-low j (omega arith), row-low (suc j) (omega arith))))
-              (λ j z. ap (λ (z : ℕ). entryAt m2 c (z + j)) (add-one p) ∙ row-entry (suc p + j) (omega (arith, high (suc p + j) (omega arith), high (suc (suc p + j)) (omega arith))))
-              ∙ ap (λ (e : Entry). take p list ++ e ∷ drop (suc p) list) row-here
-              ∙ sym (set-split list p (withCount (entryIn (flatOf m) p) k) (omega arith));
-          few-rows = omega (arith, row-count);
-          few-pages = omega (arith, g .pages);
+              row-here
+              (λ j y z. row-entry j (omega (arith, high j y, high (suc j) (omega arith))));
+          few = omega (arith, g .pages);
           tables = λ t z. omega (arith, room .tables t z, row-end t (omega arith), row-end (t + 1) (omega arith));
           begins = row-low 0 (omega arith) ∙ room .begins;
           rises = λ j z. row-rises j;
@@ -134,25 +131,14 @@ pub row-inserted : {m m1 m2 : List ℕ} {hs : List Held} {p s n q : ℕ} → Roo
     → Added m1 m2 s q n 1 → q ≡ p + 1 → length hs ≡ rowCount m + 1 → rowCount m < capacityOf m
     → Becomes m m2 (withEntries (withRows (flatOf m) hs) (moreRows p (flatOf m .entries)))
 row-inserted {m} {m1} {m2} {hs} {p} {s} {n} {q} room h r es en a eq el space =
-    let c : ℕ = capacityOf m in
     rows-changed room h r es en a eq 0 1 (entryIn (flatOf m) p .count + 1)
-    (λ j k. ⊎-elim
-    (λ b. omega (arith, row-high room h r es en a eq j k b, start-most room j, ranges room))
-    (λ b. omega (arith, start-behind m c j b, start-behind m2 c j (omega (arith, row-end room h r es en a eq 7 (omega arith))), row-count room h r es en a eq))
-    (lt-or-ge j (pageCount m)))
-    (omega arith)
-    (omega arith)
+    (λ j k b. omega (arith, row-high room h r es en a eq j k b, start-most room j, ranges room)) (omega arith) (omega arith) (omega arith)
 
 -- one row less
 pub row-removed : {m m1 m2 : List ℕ} {hs : List Held} {p s n q : ℕ} → Room m → p < pageCount m → RowsOnly m m1 hs → s ≡ startsAt (capacityOf m) → n ≡ pageCount m
     → Added m1 m2 s q n 65535 → q ≡ p + 1 → length hs + 1 ≡ rowCount m → 1 ≤ entryIn (flatOf m) p .count
     → Becomes m m2 (withEntries (withRows (flatOf m) hs) (fewerRows p (flatOf m .entries)))
 row-removed {m} {m1} {m2} {hs} {p} {s} {n} {q} room h r es en a eq el some =
-    let c : ℕ = capacityOf m in
     rows-changed room h r es en a eq 1 0 (entryIn (flatOf m) p .count - 1)
-    (λ j k. ⊎-elim
-    (λ b. omega (arith, row-high room h r es en a eq j k b, starts-rise room (suc p) j k, entry-count m p h, start-most room j, ranges room))
-    (λ b. omega (arith, start-behind m c j b, start-behind m2 c j (omega (arith, row-end room h r es en a eq 7 (omega arith))), row-count room h r es en a eq))
-    (lt-or-ge j (pageCount m)))
-    (omega arith)
-    (omega (arith, ranges room))
+    (λ j k b. omega (arith, row-high room h r es en a eq j k b, starts-rise room (suc p) j k, entry-count m p h, start-most room j, ranges room))
+    (omega arith) (omega arith) (omega (arith, ranges room))

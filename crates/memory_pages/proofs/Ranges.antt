@@ -1,35 +1,22 @@
 -- What a memory with room is known to have, as numbers of its bytes, and an entry by its place.
-use Rattle.model.specs.Recover.{memoryFor}
-use Rattle.image.specs.Stages.{capacityLimit}
 use Rattle.block_forms.specs.Limits.{blockLimit}
-use Rattle.basics.proofs.Kit.{_≡_, refl, ap, _∙_, ⊎-elim, List, ℕ, suc, _+_, _*_, _%_, _≤_, _<_, zero, _/_, _-_, add-zero, zero-add, eqb, length, lt-ltb, le-ltb, arith}
-use Rattle.basics.specs.Basics.{if_then_else_}
-use Rattle.memory_bytes.specs.Bytes.{le2}
-use Rattle.basics.proofs.Tabs.{lt-or-ge, getD-tab}
-use Rattle.memory_layout.specs.Places.{startsAt}
-use Rattle.memory_layout.specs.Views.{headOf, countsOf, rowCount, pageCount, tableAt, startAt, blockWord, entryAt}
+use Rattle.basics.proofs.Kit.{_≡_, refl, ap, ⊎-elim, List, ℕ, suc, _+_, _%_, _≤_, _<_, zero, _/_, _-_, add-zero, eqb, arith}
+use Rattle.basics.proofs.Tabs.{lt-or-ge, tab-at}
+use Rattle.memory_layout.specs.Views.{headOf, rowCount, pageCount, tableAt, startAt, blockWord, entryAt}
 use Rattle.memory_layout.specs.Flat.{flatOf, capacityOf, entriesOf, entryIn, noEntry, Room}
 use Rattle.memory_layout.specs.declared.Entry.{Entry}
+use Rattle.memory_layout.proofs.Laws.{Known, known}
+pub use Rattle.memory_layout.proofs.Frame.{start-stored, start-behind}
 
-pub record Ranges (m : List ℕ) : Type 0 where
-  pub least : 1 ≤ capacityOf m
-  pub most : capacityOf m ≤ capacityLimit
-  pub long : memoryFor (capacityOf m) ≤ length m
-  pub rows : rowCount m ≤ capacityOf m
-  pub pages : pageCount m ≤ 2 * capacityOf m
-
-pub ranges : {m : List ℕ} → Room m → Ranges m
-unfolding headOf countsOf
-ranges room =
-    let r = room .range in
-    record { least = r .least; most = r .most; long = r .long; rows = r .rows; pages = r .pages }
+pub ranges : {m : List ℕ} → Room m → Known m
+ranges {m} room = known m room
 
 -- ---- an entry by its place
 
 module _ (m : List ℕ) (p : ℕ) (h : p < pageCount m) where
   pub entry-at : entryIn (flatOf m) p ≡ entryAt m (capacityOf m) p
   unfolding entriesOf
-  entry-at = getD-tab (entryAt m (capacityOf m)) 0 (pageCount m) p noEntry h ∙ ap (entryAt m (capacityOf m)) (zero-add p)
+  entry-at = tab-at (entryAt m (capacityOf m)) (pageCount m) p noEntry h
 
   pub entry-table : entryIn (flatOf m) p .table ≡ tableAt m p
   unfolding entryAt
@@ -48,14 +35,6 @@ module _ (m : List ℕ) (p : ℕ) (h : p < pageCount m) where
   entry-block = ap (λ (e : Entry). e .block) entry-at
 
 -- ---- a page's start
-
-pub start-stored : (m : List ℕ) (c p : ℕ) → p < pageCount m → startAt m c p ≡ le2 m (startsAt c + p * 2)
-unfolding startAt if_then_else_
-start-stored m c p h = rw (lt-ltb p (pageCount m) h)
-
-pub start-behind : (m : List ℕ) (c p : ℕ) → pageCount m ≤ p → startAt m c p ≡ rowCount m
-unfolding startAt if_then_else_
-start-behind m c p h = rw (le-ltb p (pageCount m) h)
 
 -- a step from number to number, many steps
 pub rising : (E : ℕ → ℕ) (a k : ℕ) → ((t : ℕ) → a ≤ t → t < a + k → E t ≤ E (t + 1)) → E a ≤ E (a + k)

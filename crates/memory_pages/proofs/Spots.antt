@@ -1,9 +1,6 @@
 -- The pages and rows of a table are one run.
-use Rattle.basics.proofs.Kit.{_≡_, refl, sym, ap, _∙_, subst, ⊎-elim, Bool, true, false, List, ℕ, suc, _+_, _≤_, _<_, zero, add-one, leb, length, getD, le-leb, lt-leb, arith}
-use Rattle.basics.proofs.Facts.{lie}
-use Rattle.basics.specs.Lists.{firstIndex}
+use Rattle.basics.proofs.Kit.{_≡_, refl, sym, ap, _∙_, subst, ⊎-elim, List, ℕ, suc, _+_, _≤_, zero, add-one, leb, le-leb, lt-leb, arith}
 use Rattle.basics.proofs.Tabs.{lt-or-ge}
-use Rattle.basics.proofs.Found.{first-most, first-at, first-before}
 use Rattle.memory_layout.specs.Views.{tableEnd}
 use Rattle.memory_layout.specs.Flat.{Flat, flatOf, entryIn, noEntry, Room}
 use Rattle.memory_layout.specs.Store.{startOf}

@@ -1,13 +1,13 @@
 // The page entries of the working memory: two columns, first rows and blocks, and the ends of the tables in the head. A page's table and
 // how many rows it has are not stored: they follow from the ends and the first rows. docs/LAYOUT.md says what stands where.
 // Each function that changes the memory promises one equation on the flat lists that it holds.
-use memory_layout::CAPACITY;
-use memory_layout::HEAD_SIZE;
-use memory_layout::PAGE_BLOCKS;
-use memory_layout::PAGE_COUNT;
-use memory_layout::ROW_COUNT;
-use memory_layout::STARTS;
-use memory_layout::TABLE_ENDS;
+use memory_layout::places::CAPACITY;
+use memory_layout::places::HEAD_SIZE;
+use memory_layout::places::PAGE_BLOCKS;
+use memory_layout::places::PAGE_COUNT;
+use memory_layout::places::ROW_COUNT;
+use memory_layout::places::STARTS;
+use memory_layout::places::TABLE_ENDS;
 use memory_rows::Row;
 ghost use mathlib.Core.Path.{_≡_};
 ghost use Prim.Native.Nat.{_+_, _*_, _≤_, _<_};

@@ -1,9 +1,9 @@
 -- What the head's numbers give, and a row by its bytes.
-use Rattle.basics.proofs.Kit.{_≡_, refl, sym, ap, _∙_, List, ℕ, _+_, _*_, _≤_, _<_, _-_, zero-add, length, arith}
+use Rattle.basics.proofs.Kit.{_≡_, refl, sym, ap, _∙_, List, ℕ, _+_, _*_, _≤_, _<_, _-_, length, arith}
 use Rattle.memory_bytes.specs.Columns.{equals, Covers}
 use Rattle.basics.specs.Lists.{tab}
 use Rattle.memory_bytes.specs.Bytes.{le4, bytes, column4}
-use Rattle.basics.proofs.Tabs.{getD-tab, tab-cong}
+use Rattle.basics.proofs.Tabs.{tab-at, tab-same}
 use Rattle.model.specs.State.{Held}
 use Rattle.memory_layout.specs.Places.{keysAt}
 use Rattle.block_forms.specs.Decode.{readOwner, readMark}
@@ -22,8 +22,7 @@ module _ (m : List ℕ) where
   pub row-is : (i : ℕ) → i < length (rowsOf m) → rowIn (flatOf m) i ≡ rowAt m (capacityOf m) i
   unfolding rowsOf
   row-is i h =
-      getD-tab (rowAt m (capacityOf m)) 0 (rowCount m) i noRow (omega (arith, rows-length m))
-      ∙ ap (rowAt m (capacityOf m)) (zero-add i)
+      tab-at (rowAt m (capacityOf m)) (rowCount m) i noRow (omega (arith, rows-length m))
 
   -- ---- the fields of row i
 
@@ -57,7 +56,7 @@ module _ (m : List ℕ) where
   column-key q j h = ap (λ (z : ℕ). le4 m (z + j * 4)) q ∙ sym (key-is j h)
 
   keys-are : (s e : ℕ) → e ≤ length (rowsOf m) → (a : ℕ) → a ≡ keysAt (capacityOf m) → tab (column4 m a) s (e - s) ≡ tab (keyIn (flatOf m)) s (e - s)
-  keys-are s e h a q = tab-cong (column4 m a) (keyIn (flatOf m)) s s (e - s) (λ k b. column-key q (s + k) (omega arith))
+  keys-are s e h a q = tab-same (column4 m a) (keyIn (flatOf m)) s (e - s) (λ k p b. column-key q k (omega arith))
 
   -- what a search in the column answers is over the rows
   pub over-keys : (f : List ℕ → ℕ) (s e : ℕ) → e ≤ length (rowsOf m) → {a r : ℕ} → a ≡ keysAt (capacityOf m) → r ≡ s + f (tab (column4 m a) s (e - s))

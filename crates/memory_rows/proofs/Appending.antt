@@ -1,14 +1,12 @@
 -- A row behind all others, in the slot of its own index.
 use Rattle.block_forms.specs.Limits.{payloadLimit}
-use Rattle.basics.proofs.Kit.{_≡_, refl, sym, ap, _∙_, subst, ⊎-elim, false, _||_, List, [], _∷_, _++_, ℕ, suc, _+_, _*_, _≤_, _<_, zero, length, drop, length-append, drop-length}
-use Rattle.basics.proofs.Kit.{take-length, ne-eqb, arith}
-use Rattle.basics.specs.Basics.{any}
+use Rattle.basics.proofs.Kit.{_≡_, refl, sym, ap, _∙_, subst, ⊎-elim, false, List, [], _∷_, _++_, ℕ, _+_, _*_, _≤_, _<_, length, length-append}
+use Rattle.basics.proofs.Kit.{ne-eqb, arith}
 use Rattle.block_forms.specs.Bytes.{ownerIs, flagsOf, ownerWord}
 use Rattle.memory_bytes.specs.Bytes.{bytes4, Wrote}
 use Rattle.memory_bytes.specs.Columns.{equals, slotLimit}
-use Rattle.basics.specs.Lists.{tab, insertAt}
 use Rattle.basics.proofs.Tabs.{lt-or-ge}
-use Rattle.basics.proofs.Searches.{any-cons}
+use Rattle.basics.proofs.Searches.{none-tab}
 use Rattle.memory_layout.specs.Views.{slotOf, refOf}
 use Rattle.memory_layout.specs.Flat.{capacityOf, rowsOf}
 use Rattle.memory_layout.proofs.Frame.{same4}
@@ -28,16 +26,9 @@ raised-none m c n =
       moved = λ j h k. absurd (omega arith);
     }
 
-none-equal : (f : ℕ → ℕ) (s i k : ℕ) → ((j : ℕ) → i ≤ j → j < i + k → f j ≡ s → ⊥) → any (equals s) (tab f i k) ≡ false
-unfolding any
-none-equal f s i zero h = refl
-none-equal f s i (suc k) h =
-    any-cons (equals s) (f i) (tab f (suc i) k)
-    ∙ (λ y. ne-eqb (f i) s (h i (omega arith) (omega arith)) y || none-equal f s (suc i) k (λ j p q. h j (omega arith) (omega arith)) y)
-
 -- while every row is in the slot of its own index, the next slot is free
 order-free : {m : List ℕ} {n : ℕ} → InOrder m → n ≡ length (rowsOf m) → isTaken m n ≡ false
-order-free {m} {n} o e = none-equal (slotAt m) n 0 (length (rowsOf m)) (λ j p q z. omega (arith, o .slot j (omega arith)))
+order-free {m} {n} o e = none-tab (equals n) (slotAt m) 0 (length (rowsOf m)) (λ j p q. ne-eqb (slotAt m j) n (λ z. omega (arith, o .slot j (omega arith))))
 
 module _ {m m1 m3 m4 : List ℕ} {c n w r st : ℕ} (row : Row) {xs : List ℕ} (z : Capacity m c) (en : n ≡ length (rowsOf m)) (full : n < c)
     (own : RowFits row) (fit : length xs ≤ payloadLimit) (o : InOrder m)

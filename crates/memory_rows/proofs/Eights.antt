@@ -1,12 +1,12 @@
 -- Rows moved by eights: what a block of them becomes, and the turns of the two loops.
 use Rattle.basics.proofs.Kit.{_≡_, refl, ap, _∙_, subst, ⊎-elim, List, ℕ, _+_, _*_, _≤_, _<_, _-_, length, getD, arith}
-use Rattle.memory_bytes.specs.Bytes.{le2, le4, bytes, Apart, Wrote}
-use Rattle.memory_bytes.proofs.Bytes.{length-bytes, getD-bytes, le2-cong, le4-cong, le2-below, le2-above, le4-below, le4-above, bytes-above}
+use Rattle.memory_bytes.specs.Bytes.{bytes, Apart, Wrote}
+use Rattle.memory_bytes.proofs.Bytes.{length-bytes, getD-bytes, le2-cong, le4-cong, le2-below, le4-below, bytes-above}
 use Rattle.basics.proofs.Tabs.{lt-or-ge}
-use Rattle.memory_layout.specs.Places.{keysAt, refsAt, statesAt, startsAt}
+use Rattle.memory_layout.specs.Places.{keysAt, refsAt, statesAt}
 use Rattle.memory_rows.specs.Cells.{SameCells, ColumnsOnly, ColumnsFit, EightFits, EightOf, EightPut, RowsRaised, RowsLowered}
 use Rattle.memory_rows.specs.declared.Eight.{Eight}
-use Rattle.memory_rows.proofs.Moving.{cells-then, columns-only, cells-by}
+use Rattle.memory_rows.proofs.Moving.{cells-then, three}
 
 -- ---- a block written
 
@@ -27,9 +27,9 @@ module _ {m₀ m m1 m2 m3 : List ℕ} {c i k a4 a2 a1 : ℕ} (e4 : a4 ≡ keysAt
     (w1 : Copied m₀ m2 m3 (statesAt c + i) (a1 + k) 8) where
   eight-put : EightPut m₀ m m3 c i k
   eight-put =
-      let by = cells-by c (w4 .apart) (w2 .apart) (w1 .apart) (omega arith) (omega arith) (omega arith) (omega arith) (omega arith) (omega arith) in
+      let t = three c k (k + 8) (w4 .apart) (w2 .apart) (w1 .apart) (omega arith) (omega arith) (omega arith) (omega arith) (omega arith) (omega arith) (omega arith) in
       record {
-        only = columns-only c (w4 .apart) (w2 .apart) (w1 .apart) (omega arith) (omega arith) (omega arith) (omega arith) (omega arith) (omega arith);
+        only = t .only;
         here = λ j n f h q. record {
           key = le4-below (w1 .apart) (keysAt c + n * 4) (omega arith) ∙ le4-below (w2 .apart) (keysAt c + n * 4) (omega arith)
               ∙ le4-cong m₀ m1 (keysAt c + j * 4) (keysAt c + n * 4) (λ u p. ap (λ (z : ℕ). getD m1 z 0) (omega arith)
@@ -39,10 +39,8 @@ module _ {m₀ m m1 m2 m3 : List ℕ} {c i k a4 a2 a1 : ℕ} (e4 : a4 ≡ keysAt
               ∙ w2 .byte ((j - i) * 2 + u) (omega arith) ∙ ap (λ (z : ℕ). getD m₀ z 0) (omega arith));
           state = ap (λ (z : ℕ). getD m3 z 0) (omega arith) ∙ w1 .byte (j - i) (omega arith) ∙ ap (λ (z : ℕ). getD m₀ z 0) (omega arith);
         };
-        before = λ j h. by j j (omega arith) (omega arith) (le4-below (w4 .apart) (keysAt c + j * 4) (omega arith)) (le2-below (w2 .apart) (refsAt c + j * 2) (omega arith))
-            (w1 .apart .below (statesAt c + j) (omega arith));
-        behind = λ j h b. by j j b b (le4-above (w4 .apart) (keysAt c + j * 4) (omega arith)) (le2-above (w2 .apart) (refsAt c + j * 2) (omega arith))
-            (w1 .apart .above (statesAt c + j) (omega arith));
+        before = t .before;
+        behind = t .behind;
       }
 
 -- rows that were taken are whole

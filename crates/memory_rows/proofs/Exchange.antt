@@ -1,6 +1,6 @@
 -- One row exchanged by a change of its columns: another state, another pending operation.
 use Rattle.memory_bytes.specs.Columns.{slotLimit}
-use Rattle.basics.proofs.Kit.{_≡_, refl, sym, ap, _∙_, ⊎-elim, Bool, List, [], _∷_, ℕ, _+_, _*_, _%_, _≤_, _<_, _/_, min, leb, eqb, ltb, length, getD, le-ltb, arith}
+use Rattle.basics.proofs.Kit.{_≡_, refl, sym, ap, _∙_, ⊎-elim, Bool, List, [], _∷_, ℕ, _+_, _*_, _%_, _≤_, _<_, _/_, min, leb, ltb, length, getD, le-ltb, arith}
 use Rattle.basics.specs.Basics.{if_then_else_}
 use Rattle.block_forms.specs.Limits.{payloadLimit, committedValue, statementLimit, markValue}
 use Rattle.block_forms.specs.Tuple.{committed, tentative}
@@ -10,10 +10,11 @@ use Rattle.model.specs.Rules.{asCommitted, withPending}
 use Rattle.memory_bytes.specs.Bytes.{le2, le4, bytes, bytes2, Apart, Wrote}
 use Rattle.basics.specs.Lists.{tab}
 use Rattle.memory_bytes.proofs.Bytes.{le2-below, le2-above, le4-below, le2-wrote}
-use Rattle.basics.proofs.Tabs.{lt-or-ge, tab-set}
+use Rattle.basics.proofs.Numbers.{lt-or-ge, less-than}
+use Rattle.basics.proofs.Tabs.{tab-set}
 use Rattle.memory_layout.specs.Places.{keysAt, refsAt, statesAt, startsAt, slotSize}
 use Rattle.block_forms.specs.Decode.{readOwner, readMark}
-use Rattle.memory_layout.specs.Views.{rowCount, pendingOf, lengthOf, slotOf, slotPlace, keyOf, refOf, stateOf, heldOf, rowAt}
+use Rattle.memory_layout.specs.Views.{rowCount, pendingBy, pendingOf, lengthOf, slotOf, slotPlace, keyOf, refOf, stateOf, heldOf, rowAt}
 use Rattle.memory_layout.specs.Flat.{flatOf, capacityOf, rowsOf, rowIn, Room, Becomes}
 use Rattle.memory_layout.proofs.Laws.{rows-length}
 use Rattle.memory_layout.proofs.Frame.{Same, same4, same-held, moved-row, slot-below}
@@ -22,11 +23,7 @@ use Rattle.memory_rows.specs.Cells.{codeOf}
 use Rattle.memory_rows.specs.declared.Pending.{Pending}
 use Rattle.memory_rows.specs.declared.Pending.the-variants.{Nothing, Adding, Committing, Removing}
 use Rattle.memory_rows.proofs.Access.{sized, row-is}
-use Rattle.memory_rows.proofs.Kept.{becomes-rows}
-
--- another number is above one that it is not below
-pub apart : (i j : ℕ) → i ≤ j → (j ≡ i → ⊥) → i < j
-apart i j h ne = ⊎-elim (λ p. p) (λ p. absurd (ne (omega arith))) (lt-or-ge i j)
+use Rattle.memory_layout.proofs.Changes.{same-below, same-above, kept-pages, becomes-rest}
 
 module _ {m m' : List ℕ} (room : Room m) (i : ℕ) (h : i < length (rowsOf m)) {a n : ℕ} (s : Apart m m' a n)
     (from : keysAt (capacityOf m) ≤ a) (to : a + n ≤ startsAt (capacityOf m)) where
@@ -44,16 +41,25 @@ module _ {m m' : List ℕ} (room : Room m) (i : ℕ) (h : i < length (rowsOf m))
   exchanged {x} ks rs ss e =
       let c : ℕ = capacityOf m in
       let z = sized m room in
-      let ec : capacityOf m' ≡ c = same4 m m' 4 (λ b p q. s .below b (omega arith)) in
       let en : rowCount m' ≡ rowCount m = same4 m m' 32 (λ b p q. s .below b (omega arith)) in
       let count : length (rowsOf m) ≡ rowCount m = rows-length m in
       let l : i < rowCount m = omega arith in
       let other : (j : ℕ) → j < c → (j ≡ i → ⊥) → rowAt m' c j ≡ rowAt m c j =
       λ j b ne. moved-row m m' c j j (ks j b ne) (rs j b ne) (ss j b ne) (slot-same (refOf m c j)) in
-      becomes-rows m m' room (s .size) (λ b p. s .below b (omega arith)) (λ b p. s .above b (omega arith))
-      ((λ y. tab (rowAt m' (ec y)) 0 (en y))
-      ∙ tab-set (rowAt m c) (rowAt m' c) (rowCount m) i x l (λ j b. other j (omega arith) (λ q. omega arith)) e
-      (λ j a b. other j (omega (arith, z .rows, count)) (λ q. omega arith)))
+      becomes-rest m m' room
+      (record {
+        size = s .size;
+        head = same-below 0 32 s (omega arith);
+        counts = same-below 36 28 s (omega arith);
+        lists = same-below 80 944 s (omega arith);
+        named = λ b p. s .above b (omega arith);
+      }) (
+        omega (arith, z .rows),
+        ap (tab (rowAt m' c) 0) en
+            ∙ tab-set (rowAt m c) (rowAt m' c) (rowCount m) i x l (λ j b. other j (omega arith) (λ q. omega arith)) e
+            (λ j a b. other j (omega (arith, z .rows, count)) (λ q. omega arith)),
+      )
+      (kept-pages m m' room (same-below 32 4 s (omega arith)) (same-below 64 16 s (omega arith)) (same-above (startsAt c) (c * 8) s (omega arith)))
 
 -- ---- committed
 
@@ -99,7 +105,7 @@ module _ {m m' : List ℕ} (room : Room m) (i : ℕ) (h : i < length (rowsOf m))
       ap (λ (y : ℕ). getD m' y 0) (omega arith) ∙ w .here 0 (omega arith) ∙ ev ∙ ap (λ (y : ℕ). getD m y 0 % committedValue + committedValue) e in
       let p : ℕ = slotPlace (slotOf c (refOf m c i)) in
       exchanged room i h s (omega arith) (omega arith) (λ j b ne. ks j b) (λ j b ne. rs j b)
-      (λ j b ne. ⊎-elim (λ q. s .below (statesAt c + j) (omega arith)) (λ q. s .above (statesAt c + j) (omega (arith, apart i j q ne))) (lt-or-ge j i))
+      (λ j b ne. ⊎-elim (λ q. s .below (statesAt c + j) (omega arith)) (λ q. s .above (statesAt c + j) (omega (arith, less-than q (λ z. ne (sym z))))) (lt-or-ge j i))
       ((λ y. heldOf m' (slotPlace (slotOf c (rs i l y))) (ks i l y) (new y) (rs i l y))
       ∙ same-held m m' c p (keyOf m c i) (stateOf m c i % committedValue + committedValue) (refOf m c i) (slot-same room i h s (omega arith) (omega arith) (refOf m c i))
       ∙ committed-is m p (keyOf m c i) (stateOf m c i) (refOf m c i)
@@ -107,16 +113,12 @@ module _ {m m' : List ℕ} (room : Room m) (i : ℕ) (h : i < length (rowsOf m))
 
 -- ---- pending
 
-by-code : ℕ → model.Pending
-unfolding if_then_else_
-by-code k = if eqb k 0 then model.nothing else if eqb k 1 then model.adding else if eqb k 2 then model.committing else model.removing
-
 pub code-is : (p : Pending) (s : ℕ) → s < slotLimit → pendingOf (s + codeOf p * slotLimit) ≡ pendingIs p
-unfolding pendingOf by-code if_then_else_
-code-is Nothing s h = let e : (s + 0 * slotLimit) / slotLimit % 4 ≡ 0 = omega arith in ap by-code e
-code-is Adding s h = let e : (s + 1 * slotLimit) / slotLimit % 4 ≡ 1 = omega arith in ap by-code e
-code-is Committing s h = let e : (s + 2 * slotLimit) / slotLimit % 4 ≡ 2 = omega arith in ap by-code e
-code-is Removing s h = let e : (s + 3 * slotLimit) / slotLimit % 4 ≡ 3 = omega arith in ap by-code e
+unfolding pendingOf pendingBy if_then_else_
+code-is Nothing s h = let e : (s + 0 * slotLimit) / slotLimit % 4 ≡ 0 = omega arith in ap pendingBy e
+code-is Adding s h = let e : (s + 1 * slotLimit) / slotLimit % 4 ≡ 1 = omega arith in ap pendingBy e
+code-is Committing s h = let e : (s + 2 * slotLimit) / slotLimit % 4 ≡ 2 = omega arith in ap pendingBy e
+code-is Removing s h = let e : (s + 3 * slotLimit) / slotLimit % 4 ≡ 3 = omega arith in ap pendingBy e
 
 pub slot-by : (c r t : ℕ) → r % slotLimit ≡ t % slotLimit → slotOf c r ≡ slotOf c t
 unfolding slotOf
@@ -149,7 +151,7 @@ module _ {m m' : List ℕ} (room : Room m) (i : ℕ) (h : i < length (rowsOf m))
       let new : refOf m' c i ≡ u = ap (le2 m') (sym e) ∙ le2-wrote v (omega arith) w ∙ eu in
       let t : slotOf c u ≡ slotOf c r = slot-by c u r (omega arith) in
       exchanged room i h s (omega arith) (omega arith) (λ j b ne. ks j b)
-      (λ j b ne. ⊎-elim (λ q. le2-below s (refsAt c + j * 2) (omega arith)) (λ q. le2-above s (refsAt c + j * 2) (omega (arith, apart i j q ne))) (lt-or-ge j i))
+      (λ j b ne. ⊎-elim (λ q. le2-below s (refsAt c + j * 2) (omega arith)) (λ q. le2-above s (refsAt c + j * 2) (omega (arith, less-than q (λ z. ne (sym z))))) (lt-or-ge j i))
       (λ j b ne. ss j b)
       ((λ y. heldOf m' (slotPlace (slotOf c (new y))) (ks i l y) (ss i l y) (new y))
       ∙ (λ y. heldOf m' (slotPlace (t y)) (keyOf m c i) (stateOf m c i) u)

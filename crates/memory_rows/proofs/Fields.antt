@@ -1,17 +1,17 @@
 -- Numbers of a row's columns as the model's values.
-use Rattle.basics.proofs.Kit.{_≡_, refl, sym, ap, _∙_, Bool, true, false, _&&_, List, ℕ, _+_, _≤_, _<_, ltb, length, arith}
+use Rattle.basics.proofs.Kit.{_≡_, refl, sym, ap, _∙_, Bool, true, false, _&&_, List, ℕ, _+_, _≤_, _<_, zero, suc, eqb, ltb, length, arith}
 use Rattle.basics.specs.Basics.{if_then_else_}
 use Rattle.block_forms.specs.Limits.{recordHead, ownerWidth, committedValue}
 use Rattle.block_forms.specs.Tuple.{Tuple, size, ownerSize, recordSize}
 use Rattle.image_rows.specs.Rows.{isBy}
 use Rattle.model.specs.State.{Pending, nothing, adding, committing, removing, Held}
-use Rattle.model.specs.Rules.{heldSize, isRemoving, isCommitting, applied, asCommitted}
+use Rattle.model.specs.Rules.{heldSize, isAdding, isPending, isRemoving, isCommitting, applied, asCommitted}
 use Rattle.block_forms.proofs.ReadTuples.{owner-size}
 use Rattle.memory_bytes.specs.Bytes.{le4}
 use Rattle.memory_bytes.proofs.Bytes.{length-bytes}
-use Rattle.memory_layout.specs.Views.{lengthOf, stateOf, slotPlace}
+use Rattle.memory_layout.specs.Views.{lengthOf, pendingBy, stateOf, slotPlace}
 use Rattle.memory_layout.specs.Flat.{flatOf, rowsOf, capacityOf, rowIn}
-use Rattle.memory_rows.specs.Rows.{isLiveOwn, pendingIs}
+use Rattle.memory_rows.specs.Rows.{isLiveOwn}
 use Rattle.memory_rows.specs.declared.Pending as code
 use Rattle.memory_rows.specs.Cells.{keepsOwner, slotAt}
 use Rattle.memory_rows.proofs.Access.{owner-is, payload-is}
@@ -50,6 +50,17 @@ owner-most false = omega arith
 
 -- ---- pending operations
 
--- what a test says of the operation, by the value that was read
-pub told : (f : Pending → Bool) {r c : code.Pending} {q : Pending} → r ≡ c → pendingIs r ≡ q → f (pendingIs c) ≡ f q
-told f e k = ap (λ z. f (pendingIs z)) (sym e) ∙ ap f k
+-- each test of an operation, by its number
+pub record Tests (k : ℕ) : Type 0 where
+  pub adding : eqb k 1 ≡ isAdding (pendingBy k)
+  pub committing : eqb k 2 ≡ isCommitting (pendingBy k)
+  pub removing : eqb k 3 ≡ isRemoving (pendingBy k)
+  pub pending : ltb 0 k ≡ isPending (pendingBy k)
+
+pub tests : (k : ℕ) → k < 4 → Tests k
+unfolding pendingBy isAdding isCommitting isRemoving isPending if_then_else_
+tests zero h = record { adding = refl; committing = refl; removing = refl; pending = refl }
+tests (suc zero) h = record { adding = refl; committing = refl; removing = refl; pending = refl }
+tests (suc (suc zero)) h = record { adding = refl; committing = refl; removing = refl; pending = refl }
+tests (suc (suc (suc zero))) h = record { adding = refl; committing = refl; removing = refl; pending = refl }
+tests (suc (suc (suc (suc k)))) h = absurd (omega arith)

@@ -1,5 +1,5 @@
 -- A row is put in or taken out: the rows are then the old list with one element more or less.
-use Rattle.basics.proofs.Kit.{_≡_, sym, ap, _∙_, ⊎-elim, Bool, true, false, List, ℕ, suc, _+_, _*_, _%_, _≤_, _<_, _-_, min, zero-add, min-eq-left, eqb, ltb, length, getD, lt-ltb, eq-eqb}
+use Rattle.basics.proofs.Kit.{_≡_, sym, ap, _∙_, ⊎-elim, Bool, true, false, List, ℕ, suc, _+_, _*_, _%_, _≤_, _<_, _-_, min, min-eq-left, eqb, ltb, length, getD, lt-ltb, eq-eqb}
 use Rattle.basics.proofs.Kit.{arith}
 use Rattle.basics.specs.Basics.{if_then_else_}
 use Rattle.block_forms.specs.Limits.{payloadLimit}
@@ -8,8 +8,9 @@ use Rattle.memory_bytes.specs.Bytes.{le4, bytes, bytes2, bytes4, Wrote}
 use Rattle.memory_bytes.specs.Columns.{equals, slotLimit}
 use Rattle.basics.specs.Lists.{tab, insertAt, removeAt}
 use Rattle.memory_bytes.proofs.Bytes.{le2-below, le4-below, le4-wrote}
-use Rattle.basics.proofs.Tabs.{lt-or-ge, length-tab, getD-tab, tab-insert, tab-remove}
-use Rattle.basics.proofs.Found.{any-none}
+use Rattle.basics.proofs.Tabs.{lt-or-ge, tab-insert, tab-remove}
+use Rattle.basics.proofs.Numbers.{less-than}
+use Rattle.basics.proofs.Searches.{tab-none-at}
 use Rattle.memory_layout.specs.Places.{keysAt, refsAt, statesAt, startsAt, headSize, slotSize}
 use Rattle.block_forms.specs.Decode.{readOwner}
 use Rattle.memory_layout.specs.Views.{rowCount, lengthOf, slotOf, slotPlace, keyOf, refOf, stateOf, heldOf, rowAt}
@@ -21,7 +22,7 @@ use Rattle.block_forms.proofs.ReadBack.{flags-length, flags-mark, flags-owner}
 use Rattle.memory_rows.specs.Rows.{heldBy, RowFits, RowsOnly}
 use Rattle.memory_rows.specs.Cells.{codeOf, Capacity, slotIn, slotAt, isTaken, SameCells, RowsRaised, RowsLowered, CellsPut, SlotFilled}
 use Rattle.memory_rows.specs.declared.Row.{Row}
-use Rattle.memory_rows.proofs.Exchange.{apart, code-is}
+use Rattle.memory_rows.proofs.Exchange.{code-is}
 use Rattle.memory_rows.proofs.Moving.{cells-then, cells-stay}
 
 -- ---- what was stored is read
@@ -48,16 +49,15 @@ module _ {m m1 m2 m3 m4 : List ℕ} {c i n s w r st : ℕ} (row : Row) {xs : Lis
   other-slot : (t : ℕ) → t < c → (t ≡ s → ⊥) → Same m m4 (slotPlace t) slotSize
   other-slot t l ne b p q =
       after-fill b (omega arith) (omega arith)
-      ∙ ⊎-elim (λ r. fill .apart .below b (omega arith)) (λ r. fill .apart .above b (omega (arith, apart s t r ne))) (lt-or-ge t s)
+      ∙ ⊎-elim (λ r. fill .apart .below b (omega arith)) (λ r. fill .apart .above b (omega (arith, less-than r (λ e. ne (sym e))))) (lt-or-ge t s)
 
   not-taken : (j : ℕ) → j < n → slotOf c (refOf m c j) ≡ s → ⊥
   unfolding slotIn
   not-taken j h e =
       let l : ℕ = length (rowsOf m) in
-      let k : eqb (getD (tab (slotAt m) 0 l) j 0) s ≡ false = any-none (equals s) 0 (tab (slotAt m) 0 l) j free (omega (arith, length-tab (slotAt m) 0 l)) in
+      let k : eqb (slotAt m j) s ≡ false = tab-none-at (equals s) (slotAt m) 0 l free j (omega arith) (omega arith) in
       let y : _≡_ {A = Bool} true false =
-      sym (eq-eqb (slotOf c (refOf m c j)) s e) ∙ (λ x. eqb (slotOf (z .is x) (refOf m (z .is x) j)) s)
-      ∙ ap (λ (x : ℕ). eqb x s) (sym (getD-tab (slotAt m) 0 l j 0 (omega arith) ∙ ap (slotAt m) (zero-add j))) ∙ k in
+      sym (eq-eqb (slotOf c (refOf m c j)) s e) ∙ (λ x. eqb (slotOf (z .is x) (refOf m (z .is x) j)) s) ∙ k in
       let x : _≡_ {A = ℕ} 0 1 = cc in omega arith
 
   row-from : (j k : ℕ) → j < n → SameCells m m4 c j k → rowAt m4 c k ≡ rowAt m c j

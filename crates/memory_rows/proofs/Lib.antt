@@ -1,6 +1,5 @@
 pub mod Access
 pub mod Fields
-pub mod Kept
 pub mod Exchange
 pub mod FreeSlots
 pub mod Moving

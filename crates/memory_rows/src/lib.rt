@@ -33,7 +33,7 @@ ghost use Rattle.image_rows.specs.Rows.{isBy};
 ghost use Rattle.model.specs.Rules.{heldSize, withPending, isAdding, isCommitting, isRemoving, isPending};
 ghost use Rattle.memory_bytes.specs.Columns.{equals, upTo, Covers};
 ghost use Rattle.basics.specs.Lists.{tab, insertAt, removeAt, firstIndex, lastIndex};
-ghost use Rattle.memory_layout.specs.Views.{lengthOf, pendingOf};
+ghost use Rattle.memory_layout.specs.Views.{lengthOf, pendingBy};
 ghost use Rattle.memory_layout.specs.Flat.{flatOf, rowIn, Room, Becomes};
 ghost use Rattle.memory_layout.specs.Elements.{RowRange};
 ghost use Rattle.block_forms.specs.Bytes.{ownerIs};
@@ -42,6 +42,15 @@ ghost use Rattle.memory_rows.specs.Cells.{codeOf, keepsOwner, InOrder};
 
 // A row's two bytes are its slot, plus this times its pending operation.
 const SLOT_LIMIT: u16 = memory_bytes::SLOT_LIMIT;
+
+// Pending operations by their numbers.
+const NOTHING: u16 = 0;
+
+const ADDING: u16 = 1;
+
+const COMMITTING: u16 = 2;
+
+const REMOVING: u16 = 3;
 
 // A row's state is the ninth byte of its record; from this number on it means committed.
 const COMMITTED: u8 = block_forms::COMMITTED;
@@ -100,75 +109,57 @@ pub fn mark_at(m: &[u8], i: usize) -> bool
     block_forms::mark_of(state_at(m, i))
 }
 
-fn pending_of(r: u16) -> Pending
-    ensures { λ p. ⌜ pendingIs p ≡ pendingOf r ⌝ }
+// The number of the row's pending operation.
+fn code_at(m: &[u8], i: usize) -> u16
+    requires { ⌜ Room (now m) × (i < length (flatOf (now m) .rows)) ⌝ }
+    ensures { λ r. ⌜ (pendingBy r ≡ rowIn (flatOf (now (m .entry))) i .pending) × (r < 4) ⌝ }
 {
-    let p = r / SLOT_LIMIT % 4;
-    if p == 0 {
-        return Pending::Nothing;
-    }
-    if p == 1 {
-        return Pending::Adding;
-    }
-    if p == 2 {
-        return Pending::Committing;
-    }
-    Pending::Removing
+    ref_at(m, i) / SLOT_LIMIT % 4
 }
 
 pub fn pending_at(m: &[u8], i: usize) -> Pending
     requires { ⌜ Room (now m) × (i < length (flatOf (now m) .rows)) ⌝ }
     ensures { λ r. ⌜ pendingIs r ≡ rowIn (flatOf (now (m .entry))) i .pending ⌝ }
 {
-    pending_of(ref_at(m, i))
+    let p = code_at(m, i);
+    if p == NOTHING {
+        return Pending::Nothing;
+    }
+    if p == ADDING {
+        return Pending::Adding;
+    }
+    if p == COMMITTING {
+        return Pending::Committing;
+    }
+    Pending::Removing
 }
 
 pub fn is_adding(m: &[u8], i: usize) -> bool
     requires { ⌜ Room (now m) × (i < length (flatOf (now m) .rows)) ⌝ }
     ensures { λ r. ⌜ r ≡ isAdding (rowIn (flatOf (now (m .entry))) i .pending) ⌝ }
 {
-    match pending_at(m, i) {
-        Pending::Nothing => false,
-        Pending::Adding => true,
-        Pending::Committing => false,
-        Pending::Removing => false,
-    }
+    code_at(m, i) == ADDING
 }
 
 pub fn is_committing(m: &[u8], i: usize) -> bool
     requires { ⌜ Room (now m) × (i < length (flatOf (now m) .rows)) ⌝ }
     ensures { λ r. ⌜ r ≡ isCommitting (rowIn (flatOf (now (m .entry))) i .pending) ⌝ }
 {
-    match pending_at(m, i) {
-        Pending::Nothing => false,
-        Pending::Adding => false,
-        Pending::Committing => true,
-        Pending::Removing => false,
-    }
+    code_at(m, i) == COMMITTING
 }
 
 pub fn is_removing(m: &[u8], i: usize) -> bool
     requires { ⌜ Room (now m) × (i < length (flatOf (now m) .rows)) ⌝ }
     ensures { λ r. ⌜ r ≡ isRemoving (rowIn (flatOf (now (m .entry))) i .pending) ⌝ }
 {
-    match pending_at(m, i) {
-        Pending::Nothing => false,
-        Pending::Adding => false,
-        Pending::Committing => false,
-        Pending::Removing => true,
-    }
+    code_at(m, i) == REMOVING
 }
 
 pub fn is_pending(m: &[u8], i: usize) -> bool
     requires { ⌜ Room (now m) × (i < length (flatOf (now m) .rows)) ⌝ }
     ensures { λ r. ⌜ r ≡ isPending (rowIn (flatOf (now (m .entry))) i .pending) ⌝ }
 {
-    match pending_at(m, i) {
-        Pending::Nothing => false,
-        Pending::Adding => true,
-        Pending::Committing => true,
-        Pending::Removing => true,
-    }
+    code_at(m, i) > NOTHING
 }
 
 // The payload's length: the low six bits, and never above the limit.
@@ -280,10 +271,10 @@ fn pending_code(p: Pending) -> u16
     ensures { λ r. ⌜ (r ≡ codeOf p) × (r < 4) ⌝ }
 {
     match p {
-        Pending::Nothing => 0,
-        Pending::Adding => 1,
-        Pending::Committing => 2,
-        Pending::Removing => 3,
+        Pending::Nothing => NOTHING,
+        Pending::Adding => ADDING,
+        Pending::Committing => COMMITTING,
+        Pending::Removing => REMOVING,
     }
 }
 
@@ -355,7 +346,7 @@ pub fn insert_row(m: &mut [u8], i: usize, row: Row, payload: &[u8])
     fill_slot(m, s as usize, row.number, block_forms::word_of(o), payload);
     raise_rows(m, c, i, n);
     put_cells(m, c, i, row.key, r, state);
-    memory_bytes::put4(m, memory_layout::ROW_COUNT, (n + 1) as u32);
+    memory_bytes::put4(m, memory_layout::places::ROW_COUNT, (n + 1) as u32);
 }
 
 // The row, with its payload, becomes the last one, in the slot of its own index, which is free since every other row is in that of its own index.
@@ -371,7 +362,7 @@ pub fn append_row(m: &mut [u8], row: Row, payload: &[u8])
     let r = n as u16 + pending_code(p) * SLOT_LIMIT;
     fill_slot(m, n, row.number, block_forms::word_of(o), payload);
     put_cells(m, c, n, row.key, r, state);
-    memory_bytes::put4(m, memory_layout::ROW_COUNT, (n + 1) as u32);
+    memory_bytes::put4(m, memory_layout::places::ROW_COUNT, (n + 1) as u32);
 }
 
 // Row i is taken out; its slot is noted behind the rows as one that may be free.
@@ -384,5 +375,5 @@ pub fn remove_row(m: &mut [u8], i: usize)
     let s = ref_at(m, i) % SLOT_LIMIT;
     lower_rows(m, c, i, n);
     memory_bytes::put2(m, refs_at(c) + (n - 1) * 2, s);
-    memory_bytes::put4(m, memory_layout::ROW_COUNT, (n - 1) as u32);
+    memory_bytes::put4(m, memory_layout::places::ROW_COUNT, (n - 1) as u32);
 }

@@ -1,12 +1,12 @@
 // Where the parts of a row stand: its key, reference and state in the columns, its number, owner and payload in a slot.
 use super::SLOT_LIMIT;
-use memory_layout::CAPACITY;
-use memory_layout::HEAD_SIZE;
-use memory_layout::KEYS;
-use memory_layout::REFS;
-use memory_layout::ROW_COUNT;
-use memory_layout::SLOT_SIZE;
-use memory_layout::STATES;
+use memory_layout::places::CAPACITY;
+use memory_layout::places::HEAD_SIZE;
+use memory_layout::places::KEYS;
+use memory_layout::places::REFS;
+use memory_layout::places::ROW_COUNT;
+use memory_layout::places::SLOT_SIZE;
+use memory_layout::places::STATES;
 ghost use mathlib.Core.Path.{_≡_};
 ghost use Prim.Native.Nat.{_+_, _*_, _-_, _≤_, _<_};
 ghost use lib.ListN.{length};

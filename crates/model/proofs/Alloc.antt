@@ -1,9 +1,9 @@
 -- The block that a store takes: in range, free, and there while enough are free.
 use Rattle.basics.proofs.Kit.{_≡_, refl, ap, Bool, true, false, not, _++_, ℕ, suc, _+_, _≤_, _<_, zero, _-_, eqb, arith}
 use Rattle.basics.specs.Basics.{from, first, howMany, if_then_else_}
-use Rattle.basics.proofs.Facts.{AllOf, by, by-option}
+use Rattle.basics.proofs.Facts.{by, by-option}
 use Rattle.model.specs.State.{Store}
-use Rattle.model.specs.Checkpoint.{allocate, freeCount, isFree, usedToo}
+use Rattle.model.specs.Checkpoint.{allocate, freeCount, isFree, usedAnd}
 use Rattle.basics.proofs.Elements.{all-map, first-none, many-append, first-all, all-append, not-true, first-passes, eqb-self, or-right, eqb-true}
 use Rattle.basics.proofs.Firsts.{from-append, all-from}
 
@@ -36,16 +36,13 @@ allocate-fresh s t h =
 
 -- ---- one block more in use is one block less free
 
-pub used-new : (s : Store) (b : ℕ) → usedToo s b b ≡ true
-unfolding usedToo
+pub used-new : (s : Store) (b : ℕ) → usedAnd b (s .used) b ≡ true
 used-new s b = rw (eqb-self b)
 
-pub used-old : (s : Store) (b c : ℕ) → s .used c ≡ true → usedToo s b c ≡ true
-unfolding usedToo
+pub used-old : (s : Store) (b c : ℕ) → s .used c ≡ true → usedAnd b (s .used) c ≡ true
 used-old s b c h = or-right (eqb b c) (s .used c) h
 
-used-other : (s : Store) (b c : ℕ) → eqb b c ≡ false → usedToo s b c ≡ s .used c
-unfolding usedToo
+used-other : (s : Store) (b c : ℕ) → eqb b c ≡ false → usedAnd b (s .used) c ≡ s .used c
 used-other s b c h = rw h
 
 module _ (s : Store) (b : ℕ) where
@@ -53,7 +50,7 @@ module _ (s : Store) (b : ℕ) where
   free c = not (s .used c)
 
   abbrev freeLater : ℕ → Bool
-  freeLater c = not (usedToo s b c)
+  freeLater c = not (usedAnd b (s .used) c)
 
   count-above : (a k : ℕ) → b < a → howMany freeLater (from a k) ≡ howMany free (from a k)
   unfolding howMany from
@@ -69,7 +66,7 @@ module _ (s : Store) (b : ℕ) where
       by (eqb b a)
       (λ e. let q = eqb-true b a e in
       let c = count-above (suc a) k (omega arith) in
-      by (s .used a) (λ i. by (usedToo s b a) (λ j. rw (i, j) (omega arith)) (λ j. rw (i, j) (omega arith)))
-      (λ i. by (usedToo s b a) (λ j. rw (i, j) (omega arith)) (λ j. rw (i, j) (omega arith))))
+      by (s .used a) (λ i. by (usedAnd b (s .used) a) (λ j. rw (j, i) (omega arith)) (λ j. rw (j, i) (omega arith)))
+      (λ i. by (usedAnd b (s .used) a) (λ j. rw (j, i) (omega arith)) (λ j. rw (j, i) (omega arith))))
       (λ e. let c = count-one (suc a) k in
       by (s .used a) (λ i. rw (used-other s b a e, i) c) (λ i. rw (used-other s b a e, i) (omega arith)))

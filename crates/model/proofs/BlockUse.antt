@@ -8,8 +8,9 @@ use Rattle.image.specs.Stages.{isZero, directoriesFor, capacityLimit}
 use Rattle.model.specs.State.{Page, Store, Checkpoint, idle, running, Held, Active}
 use Rattle.model.specs.Rules.{isDirty, fresh, freeze, isFrozen}
 use Rattle.model.specs.Transactions.{changed, gives}
-use Rattle.model.specs.Checkpoint.{fill, freeCount, isFree, isRunning, beginCall, withProgress, blocksNeeded, usedToo, storePage, made, allocate, storeDirectory, storeHeader, stepAt, stepOf}
+use Rattle.model.specs.Checkpoint.{fill, freeCount, isFree, isRunning, beginCall, withProgress, blocksNeeded, storePage, made, allocate, storeDirectory, storeHeader, stepAt, stepOf}
 use Rattle.model.specs.Calls.{TransactionCall, transact, Call, transacts, begins, steps, runs, call}
+use Rattle.model.specs.Checkpoint.{usedAnd}
 use Rattle.basics.proofs.Elements.{eqb-true, not-zero, pos-not-zero, in-head, in-weak, leb-false, leb-true, eqb-self, many-append, in-all}
 use Rattle.basics.proofs.Elements.{all-map, eqb-sym, all-append, all-two, in-append}
 use Rattle.basics.proofs.Members.{test-other, fails-not-in, one-many, not-in-many}
@@ -279,9 +280,8 @@ begin-use s few b =
 
 -- the block taken is in use, and those before it still
 pub within-more : (s : Store) (i : ℕ) → (0 < i) × (i < s .blocks) → ((c : ℕ) → s .used c ≡ true → (0 < c) × (c < s .blocks)) → (c : ℕ)
-    → usedToo s i c ≡ true
+    → usedAnd i (s .used) c ≡ true
     → (0 < c) × (c < s .blocks)
-unfolding usedToo
 within-more s i a f c h = by (eqb i c) (λ k. subst (λ z. (0 < z) × (z < s .blocks)) (eqb-true i c k) a) (λ k. f c (rw k at h))
 
 -- what counted at most one, and none of the block taken, counts at most one

@@ -1,6 +1,6 @@
 -- What an operation at a row does, on any pages: to its page, and to the list of all tuples.
 use Rattle.basics.proofs.Kit.{_≡_, refl, sym, ap, _∙_, ap₂, Bool, true, false, some, none, Option, List, [], _∷_, _++_, append-assoc, map, ℕ, suc, _+_, _≤_, _<_, zero, _-_, length, take}
-use Rattle.basics.proofs.Kit.{drop, getD, set, length-append, take-append-drop, length-set, length-map, set-getD, drop-nil, arith}
+use Rattle.basics.proofs.Kit.{drop, getD, set, length-append, take-append-drop, length-set, length-map, set-getD, arith}
 use Rattle.basics.specs.Basics.{if_then_else_, isEmpty}
 use Rattle.basics.proofs.Facts.{by, lie}
 use Rattle.model.specs.State.{Pending, nothing, adding, committing, removing, Held, Page}
@@ -8,17 +8,12 @@ use Rattle.model.specs.Rules.{listOf, fresh, withTuples, settle, removeN
 use Rattle.model.specs.Places.{editAt, pendRemoveAt, removeRowOn, committedAt, commitRowOn, removeRow, commitRow, onPage, tagged, RowOn, RowByPage, RemovedNow, RemovedLater}
 use Rattle.basics.specs.Lists.{removeAt}
 use Rattle.model.specs.Places.{LastStays, RemovedStays, committedTuple, CommittedRow}
-use Rattle.basics.proofs.Elements.{nonempty, le-true, lt-false}
+use Rattle.basics.proofs.Elements.{nonempty, le-true, lt-false, length-zero}
 use Rattle.model.proofs.Rows.{withTable, tagged-append}
-use Rattle.model.proofs.Places.{row-here, row-past, entriesAt, removedOn, committedOn, tagged-removeRow}
-use Rattle.basics.proofs.Parts.{removeAt-suc}
-use Rattle.model.proofs.Places.{tagged-commitRow}
-use Rattle.basics.proofs.Parts.{remove-middle, set-middle, map-set, map-remove, removed-length}
+use Rattle.model.proofs.Places.{row-here, row-past, entriesAt, removedOn, committedOn, tagged-removeRow, tagged-commitRow}
+use Rattle.basics.proofs.Parts.{removeAt-suc, remove-middle, set-middle, map-set, map-remove, length-remove, drop-none}
 
 -- ---- the page of a row
-
-no-page : (k : ℕ) (p : Page) (qs : List Page) → drop k [] ≡ p ∷ qs → ⊥
-no-page k p qs e = let l = ap length (sym (drop-nil k) ∙ e) in omega arith
 
 -- the first page is passed
 tagged-length : (q : Page) (qs : List Page) → length (tagged (q ∷ qs)) ≡ length (q .tuples) + length (tagged qs)
@@ -37,7 +32,7 @@ on-later q qs i k j p o =
 
 pub row-by-page : RowByPage
 unfolding onPage
-row-by-page f [] i k j p o prev = absurd (no-page k p (drop (suc k) []) (o .page))
+row-by-page f [] i k j p o prev = absurd (drop-none k p (drop (suc k) []) (o .page))
 row-by-page f (q ∷ qs) i zero j p o prev =
     let w = on-first q qs i j p o in
     row-here f i prev q qs (omega (arith, o .inside, w .1, ap (λ z. length (z .tuples)) (w .0))) ∙ ap (λ z. f z prev q qs) (w .1)
@@ -61,7 +56,7 @@ module _ (E : ℕ → Page → List Held) where
   changed-on : (ps : List Page) (i k j : ℕ) (p : Page) → RowOn ps i k j p
       → entriesAt E i ps ≡ tagged (take k ps) ++ (map (λ h. (p .table, h)) (E j p) ++ tagged (drop (suc k) ps))
   unfolding tagged
-  changed-on [] i k j p o = absurd (no-page k p (drop (suc k) []) (o .page))
+  changed-on [] i k j p o = absurd (drop-none k p (drop (suc k) []) (o .page))
   changed-on (q ∷ qs) i zero j p o =
       let w = on-first q qs i j p o in
       changed-here i q qs (omega (arith, o .inside, w .1, ap (λ z. length (z .tuples)) (w .0)))
@@ -92,43 +87,45 @@ module _ (g : Held → List Held) (d : Held) where
   edit-one x (y ∷ ys) zero e = ap (λ z. z ++ ys) e
   edit-one x (y ∷ ys) (suc j) e = ap (λ z. y ∷ z) (edit-one x ys j e)
 
-pub taken-is : (j : ℕ) (hs left : List Held) → editAt pendRemove j hs ≡ left → 0 < length left → pendRemoveAt j hs ≡ left
+taken-is : (j : ℕ) (hs left : List Held) → editAt pendRemove j hs ≡ left → 0 < length left → pendRemoveAt j hs ≡ left
 unfolding pendRemoveAt if_then_else_
 taken-is j hs left e l = ap (λ z. if isEmpty z then hs else z) e ∙ ap (λ b. if b then hs else left) (nonempty left l)
 
-taken-not : (j : ℕ) (hs : List Held) → editAt pendRemove j hs ≡ [] → pendRemoveAt j hs ≡ hs
-unfolding pendRemoveAt if_then_else_ isEmpty
-taken-not j hs e = ap (λ z. if isEmpty z then hs else z) e
+-- the removal of tuple j on a frozen page
+module _ (j : ℕ) (hs : List Held) (d : Held) (inside : j < length hs) where
+  later-none : isAdding (getD hs j d .pending) ≡ true → editAt pendRemove j hs ≡ removeAt j hs
+  unfolding pendRemove if_then_else_
+  later-none e = edit-none pendRemove d hs j inside (rw e)
+
+  -- the last one stays
+  pub taken-last : isAdding (getD hs j d .pending) ≡ true → length hs ≡ 1 → pendRemoveAt j hs ≡ hs
+  unfolding pendRemoveAt if_then_else_ isEmpty
+  taken-last e l = ap (λ z. if isEmpty z then hs else z) (later-none e ∙ length-zero (removeAt j hs) (length-remove j hs inside ∙ omega arith))
+
+  pub taken-away : isAdding (getD hs j d .pending) ≡ true → 1 < length hs → pendRemoveAt j hs ≡ removeAt j hs
+  taken-away e l = taken-is j hs (removeAt j hs) (later-none e) (omega (arith, length-remove j hs inside))
+
+  pub taken-noted : (x : Held) → isAdding (getD hs j d .pending) ≡ false → x ≡ withPending removing (getD hs j d) → pendRemoveAt j hs ≡ set hs j x
+  unfolding pendRemove if_then_else_
+  taken-noted x e ex = taken-is j hs (set hs j x) (edit-one pendRemove d x hs j (rw (e, ex) refl)) (omega (arith, length-set hs j x))
 
 module _ (p : Page) (j : ℕ) (d : Held) (inside : j < length (p .tuples)) where
-  later-removed : isAdding (getD (p .tuples) j d .pending) ≡ true → editAt pendRemove j (p .tuples) ≡ removeAt j (p .tuples)
-  unfolding pendRemove if_then_else_
-  later-removed a = edit-none pendRemove d (p .tuples) j inside (rw a)
-
   page-removed : (p .frozen ≡ true → (isAdding (getD (p .tuples) j d .pending) ≡ true) × (1 < length (p .tuples))) → removedOn j p ≡ removeAt j (p .tuples)
   page-removed f = by (p .frozen) (λ h. frozen h (f h)) (λ h. thawed h)
     where
       frozen : p .frozen ≡ true → (isAdding (getD (p .tuples) j d .pending) ≡ true) × (1 < length (p .tuples)) → removedOn j p ≡ removeAt j (p .tuples)
       frozen h a = unfold removedOn if_then_else_ in ap (λ b. if b then pendRemoveAt j (p .tuples) else editAt removeNow j (p .tuples)) h
-          ∙ taken-is j (p .tuples) (removeAt j (p .tuples)) (later-removed (a .0)) (omega (arith, a .1, removed-length (p .tuples) j inside))
+          ∙ taken-away j (p .tuples) d inside (a .0) (a .1)
 
       thawed : p .frozen ≡ false → removedOn j p ≡ removeAt j (p .tuples)
       thawed h = unfold removedOn if_then_else_ removeNow in ap (λ b. if b then pendRemoveAt j (p .tuples) else editAt removeNow j (p .tuples)) h
           ∙ edit-none removeNow d (p .tuples) j inside refl
 
   page-noted : p .frozen ≡ true → isAdding (getD (p .tuples) j d .pending) ≡ false → removedOn j p ≡ set (p .tuples) j (withPending removing (getD (p .tuples) j d))
-  unfolding removedOn if_then_else_ pendRemove
+  unfolding removedOn if_then_else_
   page-noted h a =
       ap (λ b. if b then pendRemoveAt j (p .tuples) else editAt removeNow j (p .tuples)) h
-      ∙ taken-is j (p .tuples) _ (edit-one pendRemove d (withPending removing (getD (p .tuples) j d)) (p .tuples) j (rw a))
-      (omega (arith, length-set (p .tuples) j (withPending removing (getD (p .tuples) j d))))
-
-  page-last : isAdding (getD (p .tuples) j d .pending) ≡ true → length (p .tuples) ≡ 1 → pendRemoveAt j (p .tuples) ≡ p .tuples
-  page-last a l = taken-not j (p .tuples) (later-removed a ∙ none-left (removeAt j (p .tuples)) (omega (arith, removed-length (p .tuples) j inside)))
-    where
-      none-left : (hs : List Held) → length hs ≡ 0 → hs ≡ []
-      none-left [] e = refl
-      none-left (h ∷ hs) e = absurd (omega arith)
+      ∙ taken-noted j (p .tuples) d inside _ a refl
 
   page-committed : committedOn j p ≡ set (p .tuples) j (committedTuple (p .frozen) (getD (p .tuples) j d))
   page-committed = by (p .frozen) (λ h. frozen h) (λ h. thawed h)
@@ -201,7 +198,7 @@ committed-row ps i k j p d o =
 on-same : (f : Option Page → Page → List Page → List Page) (ps : List Page) (k : ℕ) (p : Page) → drop k ps ≡ p ∷ drop (suc k) ps
     → ((o : Option Page) (qs : List Page) → f o p qs ≡ listOf o ++ p ∷ qs) → (prev : Option Page) → onPage f k prev ps ≡ listOf prev ++ ps
 unfolding onPage listOf
-on-same f [] k p e h prev = absurd (no-page k p (drop (suc k) []) e)
+on-same f [] k p e h prev = absurd (drop-none k p (drop (suc k) []) e)
 on-same f (q ∷ qs) zero p e h prev = let w : q ≡ p = cc in ap (λ z. f prev z qs) w ∙ h prev qs ∙ ap (λ z. listOf prev ++ z ∷ qs) (sym w)
 on-same f (q ∷ qs) (suc k) p e h prev = ap (λ z. listOf prev ++ z) (on-same f qs k p e h (some q))
 
@@ -214,7 +211,7 @@ last-stays ps i k j p d o f a l =
     stays r qs = unfold removeRowOn if_then_else_ withTuples in
         ap (λ b. if b then listOf r ++ withTuples p (pendRemoveAt j (p .tuples)) ∷ qs
         else settle (fresh (p .table) (editAt removeNow j (p .tuples)) ∷ []) r (fresh (p .table) (editAt removeNow j (p .tuples))) qs) f
-        ∙ ap (λ hs. listOf r ++ withTuples p hs ∷ qs) (page-last p j d (o .inside) a l)
+        ∙ ap (λ hs. listOf r ++ withTuples p hs ∷ qs) (taken-last j (p .tuples) d (o .inside) a l)
 
 removing-kept : (h : Held) → isRemoving (h .pending) ≡ true → pendCommit h ≡ h ∷ []
 unfolding pendCommit if_then_else_

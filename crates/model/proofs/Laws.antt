@@ -93,20 +93,21 @@ pub step-size : (s : Store) → stepAt (s .checkpoint) s .store .blocks ≡ s .b
 unfolding withProgress
 step-size s = step-frame (λ z. z .blocks ≡ s .blocks) s refl (λ l ps u b c. refl)
 
-step-is : (len : ℕ) (s : Store) → len ≡ blockSize * s .blocks → call (steps len) s ≡ stepAt (s .checkpoint) s
-unfolding call stepCall unless badImage if_then_else_
-step-is len s e = rw (e, eqb-self (blockSize * s .blocks))
+-- a step on an image of the store's length
+pub step-at : (len : ℕ) (s : Store) → len ≡ blockSize * s .blocks → stepCall len s ≡ stepAt (s .checkpoint) s
+unfolding stepCall unless badImage if_then_else_
+step-at len s e = rw (e, eqb-self (blockSize * s .blocks))
 
 turn-steps : (len k : ℕ) (s : Store) → len ≡ blockSize * s .blocks
     → (inTurn k s .store ≡ afterCalls (times k (steps len)) s) × (inTurn k s .writes ≡ writesOf (times k (steps len)) s)
-unfolding inTurn times afterCalls writesOf gives
+unfolding inTurn times afterCalls writesOf gives call
 turn-steps len zero s e = (refl, refl)
 turn-steps len (suc k) s e =
     let o = stepAt (s .checkpoint) s in
     let r = turn-steps len k (o .store) (e ∙ ap (λ z. blockSize * z) (sym (step-size s))) in
     subst (λ z. (inTurn k (o .store) .store ≡ afterCalls (times k (steps len)) (z .store)) × (o .writes ++ inTurn k
     (o .store) .writes ≡ z .writes ++ writesOf (times k (steps len)) (z .store)))
-    (sym (step-is len s e)) (r .0, ap (λ z. o .writes ++ z) (r .1))
+    (sym (step-at len s e)) (r .0, ap (λ z. o .writes ++ z) (r .1))
 
 -- while enough are left, each step makes its store
 turn-count : (k : ℕ) (s : Store) → k ≤ left s → (length (inTurn k s .writes) ≡ k) × (left s ≡ k + left (inTurn k s .store))

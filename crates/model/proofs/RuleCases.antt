@@ -68,4 +68,3 @@ pub settle-cases : (S : List Page → Type 0) (rest : List Page) (o : Option Pag
     → (isEmpty (p .tuples) ≡ false → S (listOf o ++ (rest ++ ps))) → S (settle rest o p ps)
 unfolding settle if_then_else_
 settle-cases S rest o p ps e l r s = by (isEmpty (p .tuples)) (λ h. rw h (e h)) (λ h. rw h (full-cases S rest o p ps (l h) (r h) (s h)))
-

@@ -13,7 +13,7 @@ use Rattle.image.specs.View.{View}
 use Rattle.model.specs.State.{Store, Outcome, Write, Page}
 use Rattle.model.specs.Rules.{shown, isDirty, isFrozen, withoutPending}
 use Rattle.model.specs.Sight.{held}
-use Rattle.model.specs.Checkpoint.{storable, storePage, made, withProgress, allocate, fill, usedToo, storeDirectory, headerFor, storeHeader, blockEntries}
+use Rattle.model.specs.Checkpoint.{storable, storePage, made, withProgress, allocate, fill, storeDirectory, headerFor, storeHeader, blockEntries, usedAnd}
 use Rattle.model.specs.Recover.{loaded, recoveredStore}
 use Rattle.model.specs.CrashRecovery.{content}
 use Rattle.model.specs.Checkpoints.{contentOf}
@@ -107,7 +107,7 @@ page-step n img s b b₀ n₀ es ds p bk r inv run small₀ e =
     (λ h. g)
     (rw (pos-not-zero i (fr .pos)) (record {
       blocks = inv .blocks;
-      good = good-more n img′ (s .used) (usedToo s i) b₀ (used-old s i) (g x);
+      good = good-more n img′ (s .used) (usedAnd i (s .used)) b₀ (used-old s i) (g x);
       phase = record {
         base = run .base;
         stored = rw images-thaw st;
@@ -152,7 +152,7 @@ directory-step n img s b b₀ n₀ es ds bk r inv run e lt =
     (λ h. g)
     (rw (pos-not-zero i (fr .pos)) (record {
       blocks = inv .blocks;
-      good = good-more n img′ (s .used) (usedToo s i) b₀ (used-old s i) (g x);
+      good = good-more n img′ (s .used) (usedAnd i (s .used)) b₀ (used-old s i) (g x);
       phase = record {
         base = run .base;
         stored = stored-put i x off (run .stored);

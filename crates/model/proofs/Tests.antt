@@ -5,6 +5,7 @@ use Rattle.basics.proofs.Facts.{by, and-true, lie, AllOf}
 use Rattle.block_forms.specs.Tuple.{Owner, committed, tentative}
 use Rattle.image_rows.specs.Rows.{Row, isLower, follows, number, ownerAfter, startsWell, isAt}
 use Rattle.basics.proofs.Elements.{leb-true, eqb-true, not-true, all-map, Pairs, keep-cons, keep-past, leb-false, eqb-self, and-both, le-true, keep-none}
+use Rattle.basics.proofs.Lists.{paired-tail, paired-next}
 use Rattle.model.proofs.Rows.{Differ}
 use Rattle.model.proofs.Placing.{Before}
 use Rattle.model.proofs.RowAfter.{With, at-split, at-join}
@@ -69,26 +70,18 @@ chain-trans a b c h k f g w = let m = between a b c h k w in owner-trans (a .1 .
 abbrev Ordered : Row → Row → Type 0
 Ordered a b = Before a b × Chain a b
 
-paired-tail : (r s : Row) (rs : List Row) → paired follows (r ∷ s ∷ rs) ≡ true → (follows r s ≡ true) × (paired follows (s ∷ rs) ≡ true)
-unfolding paired
-paired-tail r s rs h = and-true (follows r s) (paired follows (s ∷ rs)) h
-
 paired-all : (r : Row) (rs : List Row) → paired follows (r ∷ rs) ≡ true → AllOf (Ordered r) rs
 paired-all r [] h = tt
 paired-all r (s ∷ rs) h =
-    let q = paired-tail r s rs h in
+    let q = paired-tail follows r s rs h in
     let f = follows-split r s (q .0) in
     ((f .0, f .1), all-map (Ordered s) (Ordered r) (λ c k. (before-trans r s c (f .0) (k .0), chain-trans r s c (f .0) (k .0) (f .1) (k .1))) rs (paired-all s rs (q .1)))
-
-paired-next : (r : Row) (rs : List Row) → paired follows (r ∷ rs) ≡ true → paired follows rs ≡ true
-paired-next r [] h = unfold paired in refl
-paired-next r (s ∷ rs) h = paired-tail r s rs h .1
 
 pub paired-pairs : (rs : List Row) → paired follows rs ≡ true → Pairs Before rs × Pairs Chain rs
 paired-pairs [] h = (tt, tt)
 paired-pairs (r ∷ rs) h =
     let a = paired-all r rs h in
-    let q = paired-pairs rs (paired-next r rs h) in
+    let q = paired-pairs rs (paired-next follows r rs h) in
     ((all-map (Ordered r) (Before r) (λ s k. k .0) rs a, q .0), (all-map (Ordered r) (Chain r) (λ s k. k .1) rs a, q .1))
 
 starts-head : (r : Row) (rs : List Row) → r .1 .mark ≡ false → startsWell (r ∷ rs) ≡ true
@@ -103,7 +96,7 @@ head-starts r rs h = not-true (r .1 .mark) h
 heads-behind : (t k : ℕ) (r : Row) (rs : List Row) → paired follows (r ∷ rs) ≡ true → isAt t k r ≡ false → startsWell (keep (isAt t k) rs) ≡ true
 heads-behind t k r [] h n = unfold keep startsWell in refl
 heads-behind t k r (s ∷ rs) h n =
-    let q = paired-tail r s rs h in
+    let q = paired-tail follows r s rs h in
     by (isAt t k s)
     (λ e. let c = at-split t k s e in
     let w : With s r ≡ false = ap₂ (λ a b. isAt a b r) (c .0) (c .1) ∙ n in

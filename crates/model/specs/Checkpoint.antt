@@ -37,9 +37,9 @@ allocate s =
 unfoldable pub freeCount : Store → ℕ
 freeCount s = howMany (isFree s) (from 1 (s .blocks - 1))
 
--- block b is in use too
-unfoldable pub usedToo : Store → ℕ → ℕ → Bool
-usedToo s b c = eqb b c || s .used c
+-- the blocks u, and block b too
+abbrev pub usedAnd : ℕ → (ℕ → Bool) → ℕ → Bool
+usedAnd b u c = eqb b c || u c
 
 -- ---- begin
 
@@ -92,7 +92,7 @@ storable ts = if leb (sizes ts) recordSpace then ts else []
 
 -- the store after a page's store in block b: the page is thawed, and the directory will name b
 abbrev pub pageStored : ℕ → ℕ → List ℕ → List ℕ → Store → Store
-pageStored b n es ds s = withProgress s (s .level) (thaw b (s .pages)) (usedToo s b) b (running n (fill b es) ds)
+pageStored b n es ds s = withProgress s (s .level) (thaw b (s .pages)) (usedAnd b (s .used)) b (running n (fill b es) ds)
 
 -- a page's store
 unfoldable pub storePage : ℕ → List ℕ → List ℕ → Page → Store → Outcome
@@ -102,7 +102,7 @@ storePage n es ds p s =
 
 -- the store after the store of a directory block in block b
 abbrev pub directoryStored : ℕ → ℕ → List ℕ → List ℕ → Store → Store
-directoryStored b n es ds s = withProgress s (s .level) (s .pages) (usedToo s b) b (running n es (ds ++ b ∷ []))
+directoryStored b n es ds s = withProgress s (s .level) (s .pages) (usedAnd b (s .used)) b (running n es (ds ++ b ∷ []))
 
 -- the entries of directory block k
 abbrev pub blockEntries : ℕ → List ℕ → List ℕ

@@ -3,12 +3,11 @@ use Rattle.basics.proofs.Kit.{_≡_, sym, ap, _∙_, true, false, List, ℕ, _+
 use Rattle.memory_layout.specs.declared.Head.{Head}
 use Rattle.memory_layout.specs.Store.{holdsStore, storeOf}
 use Rattle.memory_layout.specs.Flat.{flatOf}
-use Rattle.memory_layout.proofs.Laws.{holds-room}
+use Rattle.memory_layout.proofs.Laws.{holds-room, sizes}
 use Rattle.model.specs.Checkpoint.{isRunning, freeCount, begun, beginCall}
 use Rattle.model.specs.Transactions.{gives}
 use Rattle.model.specs.State.{Store}
 use Rattle.call_contracts.proofs.Answering.{answers-4, answers-refused, answers-count}
-use Rattle.engine_allocator.proofs.Tallies.{sizes}
 use Rattle.call_checkpoint.proofs.Beginning.{begin-17, begin-19, begin-20, begin-done}
 use Rattle.call_checkpoint.proofs.begin.Statement.{statement}
 use Rattle.model.specs.State as model
@@ -40,7 +39,7 @@ low : (c : tie.Else3) → flatOf (memory (holds (rests c))) .head .level ≡ 429
 low c z = c .if3 .left (level-is c ∙ z)
 
 returns : tie.Need-returns
-returns c = answers-4 beginCall (c .before .before .before .before .args .m .now) (sym (c .before .holds-store .ensures) ∙ not-true _ (c .if1 .taken))
+returns c = answers-4 beginCall _ (sym (c .before .holds-store .ensures) ∙ not-true _ (c .if1 .taken))
 
 is-running-requires : tie.Need-is-running-requires
 is-running-requires c κs = sizes (holds-room _ (has-store (c .before))) .long
@@ -70,7 +69,7 @@ returns-4 c =
     let n = c .before .before .before .blocks-needed in
     let e = c .before .before .before .before .before in
     let m = memory (holds (rests e)) in
-    let few = leb-false (n .result) (freeCount (storeOf (flatOf m))) (sym (c .before .enough-free .ensures) ∙ not-true _ (c .if4 .taken)) in
+    let few = leb-false _ (freeCount (storeOf (flatOf m))) (sym (c .before .enough-free .ensures) ∙ not-true _ (c .if4 .taken)) in
     answers-refused beginCall m 20 (has-store (holds (rests e))) (begin-20 (flatOf m) (idle (rests e)) (low e) (omega (arith, few, n .ensures .0)))
 
 start-requires : tie.Need-start-requires
@@ -83,7 +82,7 @@ returns-5 c =
     let e = q .before .before .before .before .before in
     let m = memory (holds (rests e)) in
     let s : Store = storeOf (flatOf m) in
-    let enough = leb-true (n .result) (freeCount s) (sym (q .before .enough-free .ensures) ∙ not-false _ (q .if4 .left)) in
+    let enough = leb-true _ (freeCount s) (sym (q .before .enough-free .ensures) ∙ not-false _ (q .if4 .left)) in
     answers-count beginCall m _ _ (begun s) (has-store (holds (rests e)))
     (begin-done (flatOf m) (idle (rests e)) (low e) (omega (arith, enough, n .ensures .0)) ∙ ap (λ (z : ℕ). gives (model.count (z + 1)) (begun s)) (sym (n .ensures .0)))
     (c .before .before .start .ensures)

@@ -10,7 +10,7 @@ get-named-requires : tie.Need-get-named-requires
 get-named-requires c κs =
     let k = c .before .before in
     let st = k .before .before in
-    (st .pre .0, omega (arith, c .if1 .taken, named-read (st .args .m .now) (k .get-counts .ensures)))
+    (st .pre .0, omega (arith, c .if1 .taken, named-read _ (k .get-counts .ensures)))
 
 returns : tie.Need-returns
 returns c =

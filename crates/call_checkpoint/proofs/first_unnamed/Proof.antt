@@ -2,8 +2,7 @@
 use Rattle.basics.proofs.Kit.{_≡_, sym, _∙_, _-_, length, needs, arith}
 use Rattle.memory_layout.specs.Flat.{flatOf}
 use Rattle.call_checkpoint.specs.Counting.{NamedBefore}
-use Rattle.memory_layout.proofs.Laws.{named-read}
-use Rattle.engine_allocator.proofs.Tallies.{sizes}
+use Rattle.memory_layout.proofs.Laws.{named-read, sizes}
 use Rattle.call_checkpoint.proofs.Leaving.{named-hit, named-miss, named-end}
 use Rattle.call_checkpoint.proofs.first_unnamed.Statement.{statement}
 use Rattle.call_checkpoint.proofs.first_unnamed.Tie as tie
@@ -18,10 +17,10 @@ get-counts-requires : tie.Need-get-counts-requires Inv-loop μ-loop
 get-counts-requires c κs = sizes (c .before .pre) .long
 
 named-fours-requires : tie.Need-named-fours-requires Inv-loop μ-loop
-named-fours-requires c κs = let st = c .before .before .before in (st .pre, named-read (st .args .m .now) (c .before .get-counts .ensures))
+named-fours-requires c κs = let st = c .before .before .before in (st .pre, named-read _ (c .before .get-counts .ensures))
 
 loop-holds : tie.Need-loop-holds Inv-loop μ-loop
-loop-holds c = (named-read (c .before .before .before .before .args .m .now) (c .before .before .get-counts .ensures), c .named-fours .ensures)
+loop-holds c = (named-read _ (c .before .before .get-counts .ensures), c .named-fours .ensures)
 
 get-named-requires : tie.Need-get-named-requires Inv-loop μ-loop
 get-named-requires c κs = (c .before .before .before .before .before .before .pre, omega (arith, c .before .loop .inv .0, c .loop-test .taken))

@@ -3,7 +3,7 @@ use Rattle.basics.proofs.Kit.{needs, arith}
 use Rattle.basics.specs.Basics.{all}
 use Rattle.basics.proofs.Ands.{and-yes, and-assoc}
 use Rattle.call_checkpoint.specs.Counting.{isNamed, fourNamed}
-use Rattle.engine_allocator.proofs.Tallies.{sizes}
+use Rattle.memory_layout.proofs.Laws.{sizes}
 use Rattle.call_checkpoint.proofs.four_named.Statement.{statement}
 use Rattle.call_checkpoint.proofs.four_named.Tie as tie
 

@@ -8,7 +8,7 @@ use Rattle.call_checkpoint.proofs.is_running.Statement.{statement}
 use Rattle.call_checkpoint.proofs.is_running.Tie as tie
 
 returns : tie.Need-returns
-returns c = not-on (flatOf (c .before .before .before .before .args .m .now)) (ap (λ (h : Head). h .running) (sym (c .before .before .get-head .ensures)) ∙ not-true _ (c .if1 .taken))
+returns c = not-on (flatOf _) (ap (λ (h : Head). h .running) (sym (c .before .before .get-head .ensures)) ∙ not-true _ (c .if1 .taken))
 
 returns-2 : tie.Need-returns-2
 returns-2 c = let f = flatOf (c .before .before .before .before .before .args .m .now) in

@@ -24,7 +24,7 @@ returns : tie.Need-returns
 returns c =
     let t = c .before .before .before .before .before .before in
     let st = t .before .before .before in
-    directory-holds (st .args .b) (st .pre .0 .runs) (t .take-block .ensures) (c .before .before .push-directory .ensures)
+    directory-holds _ (st .pre .0 .runs) (t .take-block .ensures) (c .before .before .push-directory .ensures)
 
 pub keep-directory-spec : {M : Type 1} → statement M
 keep-directory-spec = tie.close (tie.spec take-block-requires push-directory-requires (search needs) returns)

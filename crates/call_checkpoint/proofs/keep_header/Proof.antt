@@ -20,14 +20,14 @@ put-head-requires : tie.Need-put-head-requires
 put-head-requires c κs =
     let g = c .before .before .get-head in
     let r = c .before .before .before .before .before .before .mark-named .ensures .becomes .room in
-    (r, head-replaces _ (g .result) _ r (g .ensures) refl refl (taken-low _ (g .result) r (g .ensures)))
+    (r, head-replaces _ _ _ r (g .ensures) refl refl (taken-low _ _ r (g .ensures)))
 
 returns : tie.Need-returns
 returns c =
     let g = c .before .before .before .before .before .get-head in
     let k = c .before .before .before .before .before .before .before .before .before in
     let u = k .before .before .before .before in
-    header-holds (u .before .before .before .pre) (u .clear-used .ensures) (k .mark-named .ensures) (g .result) (g .ensures) _ (c .before .before .put-head .ensures)
+    header-holds (u .before .before .before .pre) (u .clear-used .ensures) (k .mark-named .ensures) _ (g .ensures) _ (c .before .before .put-head .ensures)
 
 pub keep-header-spec : {M : Type 1} → statement M
 keep-header-spec = tie.close (tie.spec clear-used-requires (λ c κs. search needs) (λ c κs. search needs) add-h put-head-requires (search needs) returns)

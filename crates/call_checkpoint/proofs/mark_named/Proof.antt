@@ -2,8 +2,7 @@
 use Rattle.basics.proofs.Kit.{ap, _∙_, List, ℕ, _-_, length, getD, needs, arith}
 use Rattle.memory_layout.specs.Flat.{flatOf}
 use Rattle.call_checkpoint.specs.Counting.{namedIn}
-use Rattle.memory_layout.proofs.Laws.{named-read, directories-read}
-use Rattle.engine_allocator.proofs.Tallies.{sizes}
+use Rattle.memory_layout.proofs.Laws.{named-read, directories-read, sizes}
 use Rattle.call_checkpoint.proofs.Leaving.{Marking, marking-start, marking-turn, marking-same, marking-end, named-count}
 use Rattle.call_checkpoint.proofs.mark_named.Statement.{statement}
 use Rattle.call_checkpoint.proofs.mark_named.Tie as tie

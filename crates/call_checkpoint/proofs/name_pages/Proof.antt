@@ -1,7 +1,6 @@
 -- `call_checkpoint::name_pages` meets its contract. The invariant: the list has the blocks of the first p pages (`Naming`).
 use Rattle.basics.proofs.Kit.{_-_, needs, arith}
-use Rattle.memory_layout.proofs.Laws.{pages-read, holds-room}
-use Rattle.engine_allocator.proofs.Tallies.{sizes}
+use Rattle.memory_layout.proofs.Laws.{pages-read, holds-room, sizes}
 use Rattle.call_checkpoint.proofs.Beginning.{Naming, naming-start, naming-in, naming-room, naming-low, naming-turn, naming-end}
 use Rattle.call_checkpoint.proofs.name_pages.Statement.{statement}
 use Rattle.call_checkpoint.proofs.name_pages.Tie as tie

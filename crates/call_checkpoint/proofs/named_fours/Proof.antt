@@ -2,7 +2,7 @@
 use Rattle.basics.proofs.Kit.{sym, _∙_, _-_, not-false, arith}
 use Rattle.memory_layout.specs.Flat.{flatOf}
 use Rattle.call_checkpoint.specs.Counting.{NamedBefore}
-use Rattle.engine_allocator.proofs.Tallies.{sizes}
+use Rattle.memory_layout.proofs.Laws.{sizes}
 use Rattle.call_checkpoint.proofs.Leaving.{named-start, named-four}
 use Rattle.call_checkpoint.proofs.named_fours.Statement.{statement}
 use Rattle.call_checkpoint.proofs.named_fours.Tie as tie

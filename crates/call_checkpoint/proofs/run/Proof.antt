@@ -21,12 +21,12 @@ began c = c .before .before .before .before .before
 
 -- the tests are passed
 ready : (c : tie.Else1 Inv-loop μ-loop) → Ready (began c .args .image .now) (began c .args .m .now)
-ready c = let p = began c .args in passed-ready (p .image .now) (p .m .now) _ (c .before .step-refusal .ensures) (c .if1 .left)
+ready c = passed-ready _ _ _ (c .before .step-refusal .ensures) (c .if1 .left)
 
 returns : tie.Need-returns Inv-loop μ-loop
 returns c = let p = c .before .before .before .before .before .args in
     let img : List ℕ = p .image .now in
-    stopped (length img) (p .m .now) _ (c .before .step-refusal .ensures) (runCall (p .limit) (length img)) (run-5 (p .limit) (length img)) (run-18 (p .limit) (length img)) img (c .if1 .taken)
+    stopped (length img) _ _ (c .before .step-refusal .ensures) (runCall _ (length img)) (run-5 _ (length img)) (run-18 _ (length img)) img (c .if1 .taken)
 
 count-frozen-requires : tie.Need-count-frozen-requires Inv-loop μ-loop
 count-frozen-requires c κs = (holds-room _ (ready (c .before) .runs .has-store), omega arith)
@@ -40,8 +40,7 @@ add-smaller c = record { fits = omega (arith, c .blocks-left .ensures .1) }
 
 loop-holds : tie.Need-loop-holds Inv-loop μ-loop
 loop-holds c = let passed = c .before .before .before .before in
-    let p = began passed .args in
-    repeats-start (p .image .now) (p .m .now) _ (ready passed) (omega (arith, c .smaller .ensures, c .before .blocks-left .ensures .0, left-is (flatOf (p .m .now)) (ready passed .runs .on)))
+    repeats-start _ _ _ (ready passed) (omega (arith, c .smaller .ensures, c .before .blocks-left .ensures .0, left-is (flatOf _) (ready passed .runs .on)))
 
 loop-less : tie.Need-loop-less Inv-loop μ-loop
 loop-less c = omega (arith, c .before .before .before .before .before .before .before .loop-test .taken)
@@ -59,9 +58,8 @@ same-length-3 c = c .before .loop .inv .size
 
 returns-2 : tie.Need-returns-2 Inv-loop μ-loop
 returns-2 c = let passed = c .before .before .before .before .before .before in
-    let p = began passed .args in
-    let l = ap (λ (n : ℕ). n + 1) (c .before .before .before .blocks-left .ensures .0) ∙ left-is (flatOf (p .m .now)) (ready passed .runs .on) in
-    repeats-end (c .before .loop .inv) (c .loop-test .left) (p .limit) (ready passed) (c .before .before .smaller .ensures ∙ ap (min (p .limit)) l) _ (omega arith)
+    let l = ap (λ (n : ℕ). n + 1) (c .before .before .before .blocks-left .ensures .0) ∙ left-is (flatOf _) (ready passed .runs .on) in
+    repeats-end (c .before .loop .inv) (c .loop-test .left) _ (ready passed) (c .before .before .smaller .ensures ∙ ap (min _) l) _ (omega arith)
 
 pub run-spec : {M : Type 1} → statement M
 run-spec = tie.close (tie.spec Inv-loop μ-loop (λ c κs. search needs) (search needs) returns count-frozen-requires blocks-left-requires add-smaller (λ c κs. search needs) loop-holds

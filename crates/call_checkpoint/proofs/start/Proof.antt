@@ -19,7 +19,7 @@ put-head-requires : tie.Need-put-head-requires
 put-head-requires c κs =
     let g = c .before .get-head in
     let r = c .before .before .before .before .before .clear-directories .ensures .room in
-    (r, head-replaces _ (g .result) _ r (g .ensures) refl refl (taken-low _ (g .result) r (g .ensures)))
+    (r, head-replaces _ _ _ r (g .ensures) refl refl (taken-low _ _ r (g .ensures)))
 
 freeze-requires : tie.Need-freeze-requires
 freeze-requires c κs =
@@ -27,7 +27,7 @@ freeze-requires c κs =
     let d = c .before .before .before .before .before .before .before .before .before in
     let l = d .before .before .before .before in
     let n = l .before .before .before .before in
-    begin-held (n .before .before .before .pre .0) (n .clear-named .ensures) (l .name-pages .ensures) (d .clear-directories .ensures) (g .result) (g .ensures)
+    begin-held (n .before .before .before .pre .0) (n .clear-named .ensures) (l .name-pages .ensures) (d .clear-directories .ensures) _ (g .ensures)
     (c .before .before .before .put-head .ensures)
 
 returns : tie.Need-returns
@@ -37,7 +37,7 @@ returns c =
     let l = d .before .before .before .before in
     let n = l .before .before .before .before in
     let st = n .before .before .before in
-    begin-holds (st .pre .0) (n .clear-named .ensures) (l .name-pages .ensures) (d .clear-directories .ensures) (g .result) (g .ensures)
+    begin-holds (st .pre .0) (n .clear-named .ensures) (l .name-pages .ensures) (d .clear-directories .ensures) _ (g .ensures)
     (c .before .before .before .before .before .before .put-head .ensures) (st .pre .1) (c .before .before .freeze .ensures)
 
 pub start-spec : {M : Type 1} → statement M

@@ -11,21 +11,20 @@ began c = c .before .before .before .before .before
 
 -- the tests are passed
 ready : (c : tie.Else1) → Ready (began c .args .image .now) (began c .args .m .now)
-ready c = let p = began c .args in passed-ready (p .image .now) (p .m .now) _ (c .before .step-refusal .ensures) (c .if1 .left)
+ready c = passed-ready _ _ _ (c .before .step-refusal .ensures) (c .if1 .left)
 
 returns : tie.Need-returns
 returns c = let p = c .before .before .before .before .before .args in
     let img : List ℕ = p .image .now in
-    stopped (length img) (p .m .now) _ (c .before .step-refusal .ensures) (stepCall (length img)) (step-5 (length img)) (step-18 (length img)) img (c .if1 .taken)
+    stopped (length img) _ _ (c .before .step-refusal .ensures) (stepCall (length img)) (step-5 (length img)) (step-18 (length img)) img (c .if1 .taken)
 
 store-next-requires : tie.Need-store-next-requires
 store-next-requires c κs = ready (c .before .before)
 
 returns-2 : tie.Need-returns-2
 returns-2 c = let passed = c .before .before .before .before .before .before .before in
-    let p = began passed .args in
     let d = c .before .before .before .before .store-next .ensures in
-    step-done (p .image .now) (p .m .now) _ _ _ (ready passed) (d .0) (d .1)
+    step-done _ _ _ _ _ (ready passed) (d .0) (d .1)
 
 pub step-spec : {M : Type 1} → statement M
 step-spec = tie.close (tie.spec (λ c κs. search needs) (λ c. search needs) returns store-next-requires (λ c. search needs) (λ c. search needs) returns-2)

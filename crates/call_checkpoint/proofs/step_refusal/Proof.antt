@@ -4,8 +4,7 @@ use Rattle.basics.proofs.Kit.{_≡_, sym, ap, _∙_, true, List, ℕ, _*_, not-
 use Rattle.memory_layout.specs.declared.Head.{Head}
 use Rattle.memory_layout.specs.Flat.{flatOf}
 use Rattle.memory_layout.specs.Store.{holdsStore}
-use Rattle.memory_layout.proofs.Laws.{holds-room}
-use Rattle.engine_allocator.proofs.Tallies.{sizes}
+use Rattle.memory_layout.proofs.Laws.{holds-room, sizes}
 use Rattle.call_checkpoint.proofs.Stepping.{refusal-4, refusal-5, refusal-18, refusal-none}
 use Rattle.call_checkpoint.proofs.step_refusal.Statement.{statement}
 use Rattle.call_checkpoint.proofs.step_refusal.Tie as tie
@@ -27,7 +26,7 @@ long : (c : tie.Else2) → began (holds c) .args .len ≡ blockSize * flatOf (me
 long c = c .if2 .left ∙ ap (λ (h : Head). blockSize * h .blocks) (c .before .before .get-head .ensures)
 
 returns : tie.Need-returns
-returns c = let a = c .before .before .before .args in refusal-4 (a .len) (a .m .now) (sym (c .before .holds-store .ensures) ∙ not-true _ (c .if1 .taken))
+returns c = refusal-4 _ _ (sym (c .before .holds-store .ensures) ∙ not-true _ (c .if1 .taken))
 
 get-head-requires : tie.Need-get-head-requires
 get-head-requires c κs = sizes (holds-room _ (has-store c)) .long

@@ -2,11 +2,10 @@
 use Rattle.basics.proofs.Kit.{ap, _+_, length-take, length-drop, needs, arith}
 use Rattle.model.specs.Checkpoint.{withProgress}
 use Rattle.memory_layout.specs.declared.Head.{Head}
-use Rattle.memory_layout.proofs.Laws.{directories-read, holds-room}
+use Rattle.memory_layout.proofs.Laws.{directories-read, holds-room, sizes}
 use Rattle.image.specs.Stages.{directoriesFor}
 use Rattle.call_checkpoint.proofs.Allotting.{taken-now}
 use Rattle.call_checkpoint.proofs.Stepping.{back-is, directory-does}
-use Rattle.engine_allocator.proofs.Tallies.{sizes}
 use Rattle.call_checkpoint.proofs.Running.{running-is}
 use Rattle.call_checkpoint.proofs.store_directory.Statement.{statement}
 use Rattle.call_checkpoint.proofs.store_directory.Tie as tie
@@ -60,7 +59,7 @@ returns c =
     let k = c .before .before .keep-directory .ensures in (
       directory-does (st .pre .0 .ready .runs) (st .pre .0 .none-frozen) _ _ _ (st .pre .0 .short) (b .allocate .ensures .0) (directories-read _ (n .get-counts .ensures))
           (ap (λ (x : Head). x .level + 1) (g .get-head .ensures)) (w .write-directory .ensures)
-          (back-is (st .args .image .now) _ (b .allocate .result)) k,
+          (back-is _ _ _) k,
       taken-now k,
     )
 

@@ -1,10 +1,9 @@
 -- `call_checkpoint::store_header` meets its contract: the part of the image that is lent is block 0 (`front-is`), and image and store are the model's (`header-does`).
 use Rattle.block_forms.specs.Limits.{blockSize}
 use Rattle.basics.proofs.Kit.{length-take, needs, arith}
-use Rattle.memory_layout.proofs.Laws.{holds-room}
+use Rattle.memory_layout.proofs.Laws.{holds-room, sizes}
 use Rattle.call_checkpoint.proofs.Allotting.{none-left}
 use Rattle.call_checkpoint.proofs.Stepping.{front-is, header-does}
-use Rattle.engine_allocator.proofs.Tallies.{sizes}
 use Rattle.call_checkpoint.proofs.Running.{running-is}
 use Rattle.call_checkpoint.proofs.store_header.Statement.{statement}
 use Rattle.call_checkpoint.proofs.store_header.Tie as tie
@@ -24,7 +23,7 @@ returns c =
     let w = c .before .before .before .before .before .before in
     let st = w .before .before .before .before .before in
     let k = c .before .before .keep-header .ensures in
-    (header-does (st .pre .ready .runs) (st .pre .none-frozen) (st .pre .complete) (w .write-header .ensures) (front-is (st .args .image .now) _) k, none-left k)
+    (header-does (st .pre .ready .runs) (st .pre .none-frozen) (st .pre .complete) (w .write-header .ensures) (front-is _ _) k, none-left k)
 
 pub store-header-spec : {M : Type 1} → statement M
 store-header-spec = tie.close (tie.spec (λ c. search needs) (λ c. search needs) part-write-header-end write-header-requires (λ c κs. search needs)

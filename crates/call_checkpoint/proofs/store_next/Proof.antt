@@ -2,11 +2,10 @@
 use Rattle.basics.proofs.Kit.{_≡_, sym, ap, needs, arith}
 use Rattle.memory_layout.specs.declared.Head.{Head}
 use Rattle.memory_layout.specs.Flat.{flatOf, noEntry}
-use Rattle.memory_layout.proofs.Laws.{holds-room}
+use Rattle.memory_layout.proofs.Laws.{holds-room, sizes}
 use Rattle.basics.proofs.Found.{first-most}
 use Rattle.memory_pages.specs.Pages.{frozenEntry}
 use Rattle.engine_allocator.specs.Blocks.{allocatorIn}
-use Rattle.engine_allocator.proofs.Tallies.{sizes}
 use Rattle.call_checkpoint.specs.Keeping.{BlockLeft}
 use Rattle.call_checkpoint.proofs.Stepping.{found-first, frozen-from}
 use Rattle.call_checkpoint.proofs.Allotting.{header-left, block-less}
@@ -26,7 +25,7 @@ blocks-left-requires : tie.Need-blocks-left-requires
 blocks-left-requires c κs =
     let f = c .before .before in
     let st = f .before .before .before .before in
-    (holds-room _ (st .pre .runs .has-store), frozen-from (st .args .m .now) (f .first-frozen .ensures) (c .count-frozen .ensures))
+    (holds-room _ (st .pre .runs .has-store), frozen-from _ (f .first-frozen .ensures) (c .count-frozen .ensures))
 
 store-header-requires : tie.Need-store-header-requires
 store-header-requires c κs =

@@ -2,9 +2,8 @@
 use Rattle.basics.proofs.Kit.{ap, _+_, length-take, length-drop, needs, arith}
 use Rattle.model.specs.Checkpoint.{withProgress}
 use Rattle.memory_layout.specs.declared.Head.{Head}
-use Rattle.memory_layout.proofs.Laws.{holds-room}
+use Rattle.memory_layout.proofs.Laws.{holds-room, sizes}
 use Rattle.engine_pages.proofs.Places.{page-in, start-there, next-there, page-span}
-use Rattle.engine_allocator.proofs.Tallies.{sizes}
 use Rattle.call_checkpoint.proofs.Running.{running-is}
 use Rattle.call_checkpoint.proofs.Stepping.{back-is, page-does}
 use Rattle.call_checkpoint.proofs.Allotting.{taken-now}
@@ -68,9 +67,9 @@ returns c =
     let g = t .before .before in
     let st = g .before .before .before .before in
     let k = c .before .before .keep-page .ensures in (
-      page-does (st .pre .0 .ready .runs) (st .args .p) _ _ _ _ _ (st .pre .0 .first-frozen) (b .allocate .ensures .0) (t .table-of .ensures .0) (s .start-of .ensures .0)
+      page-does (st .pre .0 .ready .runs) _ _ _ _ _ _ (st .pre .0 .first-frozen) (b .allocate .ensures .0) (t .table-of .ensures .0) (s .start-of .ensures .0)
           (e .start-of2 .ensures .0) (ap (λ (x : Head). x .level + 1) (g .get-head .ensures))
-          (w .write-page .ensures) (back-is (st .args .image .now) _ (b .allocate .result)) k,
+          (w .write-page .ensures) (back-is _ _ _) k,
       taken-now k,
     )
 

@@ -10,13 +10,13 @@ put-head-requires : tie.Need-put-head-requires
 put-head-requires c κs =
     let g = c .before .get-head in
     let p = c .before .before .before .before .pre in
-    (p .0, head-replaces _ (g .result) _ (p .0) (g .ensures) refl refl (omega (arith, p .1, ap (λ (h : Head). h .blocks) (g .ensures))))
+    (p .0, head-replaces _ _ _ (p .0) (g .ensures) refl refl (omega (arith, p .1, ap (λ (h : Head). h .blocks) (g .ensures))))
 
 returns : tie.Need-returns
 returns c =
     let h = c .before .before .before .before .before .before in
     let g = h .before .before in
-    took (g .before .before .before .args .b) (g .get-head .result) (g .get-head .ensures) (h .put-head .ensures) (c .before .before .mark-used .ensures)
+    took _ _ (g .get-head .ensures) (h .put-head .ensures) (c .before .before .mark-used .ensures)
 
 pub take-block-spec : {M : Type 1} → statement M
 take-block-spec = tie.close (tie.spec (λ c κs. search needs) put-head-requires (λ c κs. search needs) (search needs) returns)

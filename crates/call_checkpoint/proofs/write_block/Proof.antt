@@ -1,8 +1,7 @@
 -- `call_checkpoint::write_block` meets its contract: a frozen page comes first, and without one it is the directory's turn (`found-none`).
 use Rattle.basics.proofs.Kit.{needs, arith}
-use Rattle.memory_layout.proofs.Laws.{pages-read, holds-room}
+use Rattle.memory_layout.proofs.Laws.{pages-read, holds-room, sizes}
 use Rattle.engine_pages.specs.Pages.{There}
-use Rattle.engine_allocator.proofs.Tallies.{sizes}
 use Rattle.call_checkpoint.proofs.Stepping.{found-none}
 use Rattle.call_checkpoint.proofs.write_block.Statement.{statement}
 use Rattle.call_checkpoint.proofs.write_block.Tie as tie
@@ -16,8 +15,8 @@ store-page-requires c κs =
     let k = found .before .before in
     let st = k .before .before .before .before in
     let p = st .pre .0 in
-    let n = pages-read (st .args .m .now) (k .get-counts .ensures) in
-    let there : There (st .args .m .now) (st .args .p) = record { has-store = p .ready .runs .has-store; inside = omega (arith, found .if1 .taken, n) } in
+    let n = pages-read _ (k .get-counts .ensures) in
+    let there : There _ (st .args .p) = record { has-store = p .ready .runs .has-store; inside = omega (arith, found .if1 .taken, n) } in
     (record { ready = p .ready; first-frozen = record { there = there; first = p .next } }, st .pre .1)
 
 store-directory-requires : tie.Need-store-directory-requires
@@ -26,7 +25,7 @@ store-directory-requires c κs =
     let k = missed .before .before in
     let st = k .before .before .before .before in
     let p = st .pre .0 in
-    let none = found-none (st .args .m .now) (p .next) (omega (arith, missed .if1 .left, pages-read (st .args .m .now) (k .get-counts .ensures))) in
+    let none = found-none _ (p .next) (omega (arith, missed .if1 .left, pages-read _ (k .get-counts .ensures))) in
     (record { ready = p .ready; none-frozen = none; short = omega (arith, p .some-left, none) }, st .pre .1)
 
 pub write-block-spec : {M : Type 1} → statement M

@@ -25,10 +25,10 @@ inUse w = take (w .wide .result) (numbersOf (w .before .before .before .before .
 known : (w : tie.After-wide) → let a = w .before .before .before .before .args in Sure (a .image .now) (a .h) (a .entries .now) (pages w)
 known w =
     let p = w .before .before .before .before in
-    sure (p .args .image .now) (p .args .h) (p .args .entries .now) _ (p .pre .0 .0) (p .pre .1 .0) (p .pre .1 .1)
+    sure _ _ _ _ (p .pre .header) (p .pre .pages) (p .pre .blocks)
 
 in-directory : (w : tie.After-wide) → inUse w ≡ directoryBlocks (w .before .before .before .before .args .h)
-in-directory w = used (w .before .before .before .before .args .h) (w .wide .ensures) (λ (l : List ℕ). l)
+in-directory w = used _ (w .wide .ensures) (λ (l : List ℕ). l)
 
 -- the place behind the first call
 abbrev start : tie.After-mark-blocks2 → tie.After-wide
@@ -47,7 +47,7 @@ fresh-requires c κs =
     let p1 = c .before in let p5 = p1 .before .before .before .before in
     let k = known p1 in
     let n = k .whole .passed .counts in
-    record { least = n .low; most = n .high; long = p5 .pre .0 .1; few = omega (arith, n .blocks, k .whole .few); many = omega (arith, n .blocks, k .whole .many) }
+    record { least = n .low; most = n .high; long = p5 .pre .memory; few = omega (arith, n .blocks, k .whole .few); many = omega (arith, n .blocks, k .whole .many) }
 
 load-pages-requires : tie.Need-load-pages-requires
 load-pages-requires c κs =
@@ -56,7 +56,7 @@ load-pages-requires c κs =
     let a = p9 .args in
     let ps = pagesAt (view (a .image .now)) (a .entries .now) in
     let f = p3 .fresh .ensures .0 in (
-      record { named = k .named; few = k .whole .many; pages = p9 .pre .1 .1 },
+      record { named = k .named; few = k .whole .many; pages = p9 .pre .blocks },
       record { room = f .room; order = order-none (a .h) ps (k .pages) f; fit = pages-room (a .h) ps (k .pages) f (k .rows) (k .follow) },
     )
 
@@ -103,7 +103,7 @@ returns : tie.Need-returns
 returns c =
     let p2 = c .before .before in let p6 = p2 .before .before .before .before in let p = p6 .before .before .before .before in
     let w = start p in let s = w .before .before .before .before in let a = s .args in
-    laid-out (a .h) (pages w) (known w .pages) (a .entries .now) (inUse w) (laid p) (p6 .reopen .ensures) (sym (s .pre .1 .1)) (in-directory w) (p2 .put-head .ensures)
+    laid-out (a .h) (pages w) (known w .pages) (a .entries .now) (inUse w) (laid p) (p6 .reopen .ensures) (sym (s .pre .blocks)) (in-directory w) (p2 .put-head .ensures)
 
 pub lay-out-spec : {M : Type 1} → statement M
 lay-out-spec = tie.close (tie.spec (λ c κs. search needs) fresh-requires load-pages-requires mark-blocks-requires array-share-prefix-directories

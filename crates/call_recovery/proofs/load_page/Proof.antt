@@ -16,9 +16,8 @@ found : (c : tie.After-known-told)
     → let g = c .before .table .given .0 in
     Here (c .before .before .before .before .before .before .before .before .args .e) (g .0) (g .1 .0) (asPage (decodeBlock (c .before .before .before .before .before .block-at .result)))
 found c =
-    let p1 = c .before in let p3 = p1 .before .before in let p5 = p3 .before .before in let p8 = p5 .before .before .before in
-    let g = p1 .table .given in
-    here (p8 .args .e) (decodeBlock (p5 .block-at .result)) (sym (g .1) ∙ p3 .known-page .ensures)
+    let p1 = c .before in let p3 = p1 .before .before in let g = p1 .table .given in
+    here _ (decodeBlock _) (sym (g .1) ∙ p3 .known-page .ensures)
 
 -- there is room for it
 fits : (c : tie.After-known-told)
@@ -29,15 +28,13 @@ fits c =
     let p1 = c .before in let p3 = p1 .before .before in let p5 = p3 .before .before in let p8 = p5 .before .before .before in
     let a = p8 .args in
     let g = p1 .table .given in
-    let q = seen-here (a .image .now) (p5 .block-at .result) (a .e) (p5 .block-at .ensures) in
-    one-fits (a .e) _ _ _ (flatOf (a .m .now)) (p8 .pre .0 .low) (table-small _ (sym (g .1) ∙ p3 .known-page .ensures))
+    let q = seen-here _ _ (p5 .block-at .ensures) in
+    one-fits (p8 .pre .0 .low) (table-small _ (sym (g .1) ∙ p3 .known-page .ensures))
     (p8 .pre .1 .room .range .least) (found c) (subst (λ (b : Block). RoomFor (pageAt (a .e) (asPage b)) (flatOf (a .m .now))) (sym q) (p8 .pre .1 .fit))
 
 known-page-requires : tie.Need-known-page-requires
 known-page-requires c κs =
-    let p2 = c .before .before in
-    let a = c .before .before .before .before .args in
-    ap isPage (seen-here (a .image .now) _ (a .e) (c .before .block-at .ensures)) ∙ c .before .before .before .before .pre .0 .page
+    ap isPage (seen-here _ _ (c .before .block-at .ensures)) ∙ c .before .before .before .before .pre .0 .page
 
 append-page-requires : tie.Need-append-page-requires
 append-page-requires c κs =
@@ -48,15 +45,15 @@ load-rows-requires : tie.Need-load-rows-requires
 load-rows-requires c κs =
     let p4 = c .before .before .before .before in let p6 = p4 .before .before in
     let h = found p6 in
-    (record { size = omega arith; page = h .is; count = h .count }, page-room _ _ _ _ _ (p4 .append-page .ensures) (fits p6))
+    (record { size = omega arith; page = h .is; count = h .count }, page-room (p4 .append-page .ensures) (fits p6))
 
 returns : tie.Need-returns
 unfolding pageAt
 returns c =
     let p1 = c .before in let p3 = p1 .before .before in let p6 = p3 .before .before .before in
     let a = p6 .args in
-    let e = ap (λ (b : Block). pageAt (a .e) (asPage b)) (sym (seen-here (a .image .now) _ (a .e) (p3 .block-at .ensures))) in
-    loads-none _ _ (p6 .pre .1 .room) (p6 .pre .1 .order) (e ∙ ap (pageAt (a .e)) (no-page _ (p1 .known-page .ensures) (c .match .keys2)))
+    let e = ap (λ (b : Block). pageAt (a .e) (asPage b)) (sym (seen-here _ _ (p3 .block-at .ensures))) in
+    loads-none (p6 .pre .1 .room) (p6 .pre .1 .order) (e ∙ ap (pageAt _) (no-page _ (p1 .known-page .ensures) (c .match .keys2)))
 
 returns-2 : tie.Need-returns-2
 returns-2 c =
@@ -64,10 +61,10 @@ returns-2 c =
     let p14 = p10 .before .before .before .before in let p17 = p14 .before .before .before in
     let a = p17 .args in
     let h = found p9 in
-    let ts = tuplesIn (asPage (decodeBlock (p14 .block-at .result))) in
+    let ts = tuplesIn (asPage (decodeBlock _)) in
     let p : StoredPage = record { block = a .e; table = p10 .table .given .0 .0; tuples = ts } in
-    let l = loads-one _ _ _ p (p7 .append-page .ensures .0) (p2 .load-rows .ensures) in
-    loads-as (sym (h .stored) ∙ ap (λ (b : Block). pageAt (a .e) (asPage b)) (seen-here (a .image .now) _ (a .e) (p14 .block-at .ensures))) l
+    let l = loads-one p (p7 .append-page .ensures .0) (p2 .load-rows .ensures) in
+    loads-as (sym (h .stored) ∙ ap (λ (b : Block). pageAt (a .e) (asPage b)) (seen-here _ _ (p14 .block-at .ensures))) l
 
 pub load-page-spec : {M : Type 1} → statement M
 load-page-spec = tie.close (tie.spec (λ c κs. search needs) known-page-requires (search needs) (λ c. omega (arith, fits (c .before) .may .table)) (search needs)

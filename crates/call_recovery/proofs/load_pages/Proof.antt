@@ -15,7 +15,7 @@ abbrev μ-loop : tie.MeasureT-loop
 μ-loop image entries m₀ i₀ m i = length entries - i
 
 loop-holds : tie.Need-loop-holds Inv-loop μ-loop
-loop-holds c = let s = c .before .before .before in (omega arith, loading-start (view (s .args .image .now)) (s .args .m .now) (s .args .entries .now) (s .pre .1 .room) (s .pre .1 .order))
+loop-holds c = let s = c .before .before .before in (omega arith, loading-start (view _) _ (s .args .entries .now) (s .pre .1 .room) (s .pre .1 .order))
 
 load-page-requires : tie.Need-load-page-requires Inv-loop μ-loop
 load-page-requires c κs =
@@ -26,14 +26,14 @@ load-page-requires c κs =
     let h : l .i < length (a .entries .now) = omega (arith, p3 .loop-test) in
     let w = p1 .wide .ensures in (
       record {
-        inside = omega (arith, within (a .image .now) (a .entries .now) (l .i) (pre .0 .named) h, w);
-        low = omega (arith, named-below _ (a .entries .now) (l .i) (pre .0 .named) h, w, pre .0 .few);
+        inside = omega (arith, within _ _ _ (pre .0 .named) h, w);
+        low = omega (arith, named-below _ _ _ (pre .0 .named) h, w, pre .0 .few);
         page = ap (λ (z : ℕ). isPage (view (a .image .now) z)) w ∙ all-pages (view (a .image .now)) (a .entries .now) (l .i) (pre .0 .pages) h;
       },
       record {
         room = l .inv .1 .becomes .room;
         order = l .inv .1 .order;
-        fit = loading-room (view (a .image .now)) (a .entries .now) (l .i) _ h w (a .m .now) (l .m) (l .inv .1) (pre .1 .fit);
+        fit = loading-room (view (a .image .now)) (a .entries .now) (l .i) _ h w (l .inv .1) (pre .1 .fit);
       },
     )
 
@@ -44,14 +44,12 @@ loop-again c =
     let a = p11 .args in
     let l = p7 .loop in
     let h : l .i < length (a .entries .now) = omega (arith, p6 .loop-test) in
-    (omega arith, loading-turn (view (a .image .now)) (a .entries .now) (l .i) _ h (p4 .wide .ensures) (a .m .now) (l .m) _ (l .inv .1) (p2 .load-page .ensures))
+    (omega arith, loading-turn (view _) _ _ _ h (p4 .wide .ensures) (l .inv .1) (p2 .load-page .ensures))
 
 returns : tie.Need-returns Inv-loop μ-loop
 returns c =
-    let p1 = c .before in let p5 = p1 .before .before .before .before in
-    let a = p5 .args in
-    let l = p1 .loop in
-    loading-end (view (a .image .now)) (a .m .now) (l .m) (a .entries .now) (l .i) (omega (arith, c .loop-test)) (l .inv .1)
+    let p1 = c .before in let l = p1 .loop in
+    loading-end (view _) _ (l .i) (omega (arith, c .loop-test)) (l .inv .1)
 
 pub load-pages-spec : {M : Type 1} → statement M
 load-pages-spec = tie.close (tie.spec Inv-loop μ-loop loop-holds (λ c. omega arith) (λ c. omega arith) (λ c κs. omega arith) load-page-requires (λ c. omega arith)

@@ -32,7 +32,7 @@ returns c =
     let bs : List ℕ = drop (r .start) (p9 .args .block .now) in
     let n : ℕ = r .start + r .len - r .start in
     let k : n ≡ r .len = omega arith in
-    row-as _ _ (ap (λ (s : Row). heldBy s (take n bs)) (p5 .row-of .ensures) ∙ ap (λ (j : ℕ). withoutPending (tupleOf r (take j bs))) k) (p2 .append-row .ensures)
+    row-as (ap (λ (s : Row). heldBy s (take n bs)) (p5 .row-of .ensures) ∙ ap (λ (j : ℕ). withoutPending (tupleOf r (take j bs))) k) (p2 .append-row .ensures)
 
 pub load-row-spec : {M : Type 1} → statement M
 load-row-spec = tie.close (tie.spec (search needs) (λ c κs. search needs) (search needs) (search needs) (search needs) append-row-requires (search needs) returns)

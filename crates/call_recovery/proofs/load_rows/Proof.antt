@@ -25,7 +25,7 @@ loop-holds c =
     let p2 = c .before .before in
     let bs = p2 .args .block .now in
     let r = p2 .pre .1 in
-    (omega arith, (page-walk bs (asPage (decodeBlock bs)) refl (p2 .pre .0 .page), fills-none (p2 .args .m .now) (r .room) (r .order) (r .page)))
+    (omega arith, (page-walk bs (asPage (decodeBlock bs)) refl (p2 .pre .0 .page), fills-none _ (r .room) (r .order) (r .page)))
 
 next-requires : tie.Need-next-requires Inv-loop μ-loop
 next-requires c κs = c .before .before .before .before .pre .0 .size
@@ -39,8 +39,8 @@ load-row-requires c κs =
     let pre = p9 .pre in
     let h : l .i < p9 .args .count = omega (arith, p5 .loop-test) in
     let f = walk-found (l .inv .1 .0) (omega (arith, pre .0 .count)) (sym (p2 .r .given .1) ∙ p4 .next .ensures) in
-    let fits = found-fits xs (l .at) (all-bytes xs (λ j. omega (arith, p8 .shared-slice-known .given j))) (f .found) in
-    (record { limit = f .found .limit; inside = f .found .inside; owner = fits }, row-room _ _ (p9 .args .count) (l .i) _ (pre .0 .count) (l .inv .1 .1) (pre .1 .rows) h)
+    let fits = found-fits xs _ (all-bytes xs (λ j. omega (arith, p8 .shared-slice-known .given j))) (f .found) in
+    (record { limit = f .found .limit; inside = f .found .inside; owner = fits }, row-room _ _ (pre .0 .count) (l .inv .1 .1) (pre .1 .rows) h)
 
 same-length : tie.Need-same-length Inv-loop μ-loop
 same-length c = c .before .before .before .before .loop .inv .1 .1 .becomes .size
@@ -70,7 +70,7 @@ returns-2 : tie.Need-returns-2 Inv-loop μ-loop
 returns-2 c =
     let p1 = c .before in let p4 = p1 .before .before .before in
     let l = p1 .loop in
-    let ts : List Tuple = tuplesIn (asPage (decodeBlock (p4 .args .block .now))) in
+    let ts : List Tuple = tuplesIn (asPage (decodeBlock _)) in
     subst (λ (hs : List Held). Fills hs (p4 .args .m .now) (l .m)) (withoutPending-all (l .i) ts (omega (arith, p4 .pre .0 .count, c .loop-test))) (l .inv .1 .1)
 
 pub load-rows-spec : {M : Type 1} → statement M

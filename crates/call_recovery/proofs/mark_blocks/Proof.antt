@@ -12,7 +12,7 @@ abbrev μ-loop : tie.MeasureT-loop
 μ-loop bs m₀ i₀ m i = length bs - i
 
 loop-holds : tie.Need-loop-holds Inv-loop μ-loop
-loop-holds c = let s = c .before .before in (omega arith, marking-start (s .args .m .now) (s .args .bs .now) (s .pre .1))
+loop-holds c = let s = c .before .before in (omega arith, marking-start _ (s .args .bs .now) (s .pre .1))
 
 mark-used-requires : tie.Need-mark-used-requires Inv-loop μ-loop
 mark-used-requires c κs =
@@ -20,7 +20,7 @@ mark-used-requires c κs =
     let bs = p7 .args .bs .now in
     let l = p4 .loop in
     let h : l .i < length bs = omega (arith, p3 .loop-test) in
-    (l .inv .1 .room, omega (arith, named-below blockLimit bs (l .i) (p7 .pre .0) h, c .wide .ensures))
+    (l .inv .1 .room, omega (arith, named-below blockLimit bs _ (p7 .pre .0) h, c .wide .ensures))
 
 loop-again : tie.Need-loop-again Inv-loop μ-loop
 loop-again c =
@@ -29,10 +29,10 @@ loop-again c =
     let a = p10 .args in
     let l = p7 .loop in
     let h : l .i < length (a .bs .now) = omega (arith, p6 .loop-test) in
-    (omega arith, marking-turn (a .m .now) (l .m) _ (a .bs .now) (l .i) _ h (p3 .wide .ensures) (l .inv .1) (p2 .mark-used .ensures))
+    (omega arith, marking-turn _ _ h (p3 .wide .ensures) (l .inv .1) (p2 .mark-used .ensures))
 
 returns : tie.Need-returns Inv-loop μ-loop
-returns c = let s = c .before .before .before .before in let a = s .args in let p = c .before .loop in marking-end (a .m .now) (p .m) (a .bs .now) (p .i) (omega (arith, c .loop-test)) (p .inv .1)
+returns c = let p = c .before .loop in marking-end _ (p .i) (omega (arith, c .loop-test)) (p .inv .1)
 
 pub mark-blocks-spec : {M : Type 1} → statement M
 mark-blocks-spec = tie.close (tie.spec Inv-loop μ-loop loop-holds (λ c. omega arith) (λ c. omega arith) (λ c κs. omega arith) mark-used-requires (λ c. omega arith)

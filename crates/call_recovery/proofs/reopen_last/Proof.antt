@@ -28,7 +28,7 @@ push-open-requires c κs =
     let w = p4 .wide .ensures in
     let g = p6 .o .given in
     let a = p11 .args in
-    let e = opened-last (g .0 .0) (g .0 .1 .0) (p4 .wide .result) (a .counts .now) (a .passed .now) (ap ownerIs (g .1)) w (p1 .if1 .taken) in
+    let e = opened-last (g .0 .0) (g .0 .1 .0) _ (a .counts .now) (a .passed .now) (ap ownerIs (g .1)) w (p1 .if1 .taken) in
     let l = small p4 in (
       pre .room,
       record {
@@ -38,17 +38,17 @@ push-open-requires c κs =
     )
 
 returns : tie.Need-returns
-returns c = let p5 = c .before .before .before .before .before in opens-none _ _ (p5 .pre .room) (opened-settled _ _ (ap ownerIs (c .enum-told .given .1)))
+returns c = let p5 = c .before .before .before .before .before in opens-none (p5 .pre .room) (opened-settled _ _ (ap ownerIs (c .enum-told .given .1)))
 
 returns-2 : tie.Need-returns-2
 returns-2 c =
     let p2 = c .before .before in let p4 = p2 .before .before in let p7 = p4 .before .before .before in let p9 = p7 .before .before in
-    opens-one _ _ _ _ (opened-last _ _ _ _ _ (ap ownerIs (p9 .o .given .1)) (p7 .wide .ensures) (p4 .if1 .taken)) (p2 .push-open .ensures)
+    opens-one (opened-last _ _ _ _ _ (ap ownerIs (p9 .o .given .1)) (p7 .wide .ensures) (p4 .if1 .taken)) (p2 .push-open .ensures)
 
 returns-3 : tie.Need-returns-3
 returns-3 c =
     let p3 = c .before .before .before in let p5 = p3 .before .before in let p10 = p5 .before .before .before .before .before in
-    opens-none _ _ (p10 .pre .room) (opened-other _ _ _ _ _ (ap ownerIs (p5 .o .given .1)) (p3 .wide .ensures) (c .if1 .left))
+    opens-none (p10 .pre .room) (opened-other _ _ _ _ _ (ap ownerIs (p5 .o .given .1)) (p3 .wide .ensures) (c .if1 .left))
 
 pub reopen-last-spec : {M : Type 1} → statement M
 reopen-last-spec = tie.close (tie.spec (search needs) (search needs) (λ c κs. search needs) (search needs) shared-slice-read-written (search needs) shared-slice-read-if1

@@ -20,7 +20,7 @@ find-open-requires c κs = c .before .before .before .before .pre
 
 loop-holds : tie.Need-loop-holds Inv-loop μ-loop
 loop-holds c = let st = c .before .before .before .before .before in
-    (c .before .before .open-count .ensures, (c .find-open .ensures, (refl, closed-start (st .args .transaction) (st .pre))))
+    (c .before .before .open-count .ensures, (c .find-open .ensures, (refl, closed-start _ (st .pre))))
 
 remove-open-requires : tie.Need-remove-open-requires Inv-loop μ-loop
 remove-open-requires c κs = let l = c .before .before .loop in

@@ -25,9 +25,8 @@ put-open-requires c κs = let h = c .before .before .before in let st = h .befor
 
 returns : tie.Need-returns
 returns c = let o = c .before .before .before .before .before .before .before .before in let h = o .before .before .before .before in
-    let st = h .before .before .before in
     let more = o .one-more .ensures .0 ∙ ap oneMore (o .before .get-open .ensures) in
-    counted (st .args .i) (h .get-head .ensures) more (c .before .before .before .before .before .before .put-head .ensures) (c .before .before .put-open .ensures)
+    counted _ (h .get-head .ensures) more (c .before .before .before .before .before .before .put-head .ensures) (c .before .before .put-open .ensures)
 
 pub count-write-spec : {M : Type 1} → statement M
 count-write-spec = tie.close (tie.spec (λ c κs. search needs) add-h (λ c κs. search needs) one-more-requires put-head-requires put-open-requires (search needs) returns)

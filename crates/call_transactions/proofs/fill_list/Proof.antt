@@ -13,7 +13,7 @@ abbrev μ-loop : tie.MeasureT-loop
 μ-loop m n reply₀ i₀ reply i = n - i
 
 loop-holds : tie.Need-loop-holds Inv-loop μ-loop
-loop-holds c = let st = c .before .before in (omega arith, (refl, list-none (flatOf (st .args .m .now) .opens) (st .args .reply .now)))
+loop-holds c = let st = c .before .before in (omega arith, (refl, list-none (flatOf (st .args .m .now) .opens) _))
 
 get-open-requires : tie.Need-get-open-requires Inv-loop μ-loop
 get-open-requires c κs = let st = c .before .before .before .before in (st .pre .room, omega (arith, st .pre .count, c .loop-test .taken))
@@ -53,7 +53,7 @@ same-length c = c .before .loop .inv .1 .0
 
 returns : tie.Need-returns Inv-loop μ-loop
 returns c = let l = c .before in let st = l .before .before .before in
-    list-end (flatOf (st .args .m .now) .opens) (st .args .reply .now) (st .args .n) (l .loop .i) (st .pre .count) (c .loop-test .left) (l .loop .inv .0) _ (l .loop .inv .1 .1)
+    list-end (flatOf _ .opens) _ _ (l .loop .i) (st .pre .count) (c .loop-test .left) (l .loop .inv .0) _ (l .loop .inv .1 .1)
 
 pub fill-list-spec : {M : Type 1} → statement M
 fill-list-spec = tie.close (tie.spec Inv-loop μ-loop loop-holds get-open-requires (λ c. omega arith) mul-reply slice-write-reply (λ c. omega arith) mul-reply-2 add-reply

@@ -16,8 +16,7 @@ has-store : (c : tie.Else1) → holdsStore (start c .args .m .now) ≡ true
 has-store c = sym (c .before .holds-store .ensures) ∙ not-false _ (c .if1 .left)
 
 returns : tie.Need-returns
-returns c = let a = c .before .before .before .before .args in
-    replies-lists _ _ _ _ (replies-4 _ (a .m .now) (a .reply .now) (sym (c .before .holds-store .ensures) ∙ not-true _ (c .if1 .taken)))
+returns c = replies-lists _ _ _ _ (replies-4 _ _ _ (sym (c .before .holds-store .ensures) ∙ not-true _ (c .if1 .taken)))
 
 open-count-requires : tie.Need-open-count-requires
 open-count-requires c κs = holds-room _ (has-store c)
@@ -27,8 +26,8 @@ mul-if2 c = omega (arith, c .open-count .ensures, known _ (holds-room _ (has-sto
 
 returns-2 : tie.Need-returns-2
 returns-2 c = let e1 = c .before .before in let a = start e1 .args in
-    replies-lists _ _ _ _ (replies-refused _ (a .m .now) (a .reply .now) 21 (has-store e1)
-    (list-21 (length (a .reply .now)) (flatOf (a .m .now)) (omega (arith, c .before .open-count .ensures, c .if2 .taken))))
+    replies-lists _ _ _ _ (replies-refused _ _ _ 21 (has-store e1)
+    (list-21 (length (a .reply .now)) (flatOf _) (omega (arith, c .before .open-count .ensures, c .if2 .taken))))
 
 fill-list-requires : tie.Need-fill-list-requires
 fill-list-requires c κs =
@@ -43,7 +42,7 @@ returns-3 c = let e1 = c .before .before .before .before .before .before in let 
     let q = list-done (length p) f (omega (arith, en, c .before .before .before .before .if2 .left)) in
     let lb : 2 * c .before .before .before .before .before .open-count .result ≡ length (listed (f .opens)) = ap (λ (z : ℕ). 2 * z) en ∙ sym (length-listed (f .opens)) in
     let filled = c .before .before .fill-list .ensures ∙ ap (λ (z : ℕ). listed (f .opens) ++ drop z p) lb in
-    replies-lists (a .m .now) _ p _ (rw en (replies-filled _ (a .m .now) p _ (listed (f .opens)) _ (has-store e1) q filled))
+    replies-lists _ _ p _ (rw en (replies-filled _ _ p _ (listed (f .opens)) _ (has-store e1) q filled))
 
 pub list-spec : {M : Type 1} → statement M
 list-spec = tie.close (tie.spec (λ c κs. search needs) returns open-count-requires mul-if2 returns-2 fill-list-requires (search needs) returns-3)

@@ -15,7 +15,7 @@ fits c = let a = began c .args in make-fits (length (a .image .now)) (length (a 
 
 returns : tie.Need-returns
 returns c = let a = c .before .before .before .before .args in
-    made-refused (a .capacity) (a .image .now) (a .m .now) _
+    made-refused _ (a .image .now) (a .m .now) _
     (make-refused (length (a .image .now)) (length (a .m .now)) (a .capacity) _ (c .before .make-refusal .ensures) (c .if1 .taken))
 
 cast-b : tie.Need-cast-b

@@ -7,13 +7,13 @@ use Rattle.call_transactions.proofs.make_refusal.Statement.{statement}
 use Rattle.call_transactions.proofs.make_refusal.Tie as tie
 
 returns : tie.Need-returns
-returns c = let a = c .before .args in refusal-given (a .len) (a .room) (a .capacity) (make-odd _ _ _ (c .if1 .taken))
+returns c = let a = c .before .args in refusal-given _ (a .room) _ (make-odd _ _ _ (c .if1 .taken))
 
 returns-2 : tie.Need-returns-2
-returns-2 c = let a = c .before .before .args in refusal-given (a .len) (a .room) (a .capacity) (make-few _ _ _ (c .if2 .taken))
+returns-2 c = let a = c .before .before .args in refusal-given _ (a .room) _ (make-few _ _ _ (c .if2 .taken))
 
 returns-3 : tie.Need-returns-3
-returns-3 c = let a = c .before .before .before .args in refusal-given (a .len) (a .room) (a .capacity) (make-many _ _ _ (c .if3 .taken))
+returns-3 c = let a = c .before .before .before .args in refusal-given _ (a .room) _ (make-many _ _ _ (c .if3 .taken))
 
 returns-4 : tie.Need-returns-4
 returns-4 c = let b3 = c .before .before .before in let a = b3 .before .args in

@@ -16,12 +16,10 @@ has-store : (c : tie.Else1) → holdsStore (start c .args .m .now) ≡ true
 has-store c = sym (c .before .holds-store .ensures) ∙ not-false _ (c .if1 .left)
 
 returns : tie.Need-returns
-returns c = let a = c .before .before .before .args in
-    sym (refusal-4 (a .m .now) (notOpen (a .transaction)) (sym (c .before .holds-store .ensures) ∙ not-true _ (c .if1 .taken)))
+returns c = sym (refusal-4 _ (notOpen _) (sym (c .before .holds-store .ensures) ∙ not-true _ (c .if1 .taken)))
 
 returns-2 : tie.Need-returns-2
-returns-2 c = let a = start (c .before) .args in
-    sym (refusal-in (a .m .now) (notOpen (a .transaction)) (has-store (c .before)) ∙ stop-6 (a .transaction) (flatOf (a .m .now)) (c .if2 .taken))
+returns-2 c = sym (refusal-in _ (notOpen _) (has-store (c .before)) ∙ stop-6 _ (flatOf _) (c .if2 .taken))
 
 open-count-requires : tie.Need-open-count-requires
 open-count-requires c κs = holds-room _ (has-store (c .before))
@@ -31,12 +29,12 @@ find-open-requires c κs = holds-room _ (has-store (c .before .before))
 
 returns-3 : tie.Need-returns-3
 returns-3 c = let e2 = c .before .before .before in let a = start (e2 .before) .args in
-    sym (refusal-in (a .m .now) (notOpen (a .transaction)) (has-store (e2 .before)) ∙ stop-7 (a .transaction) (flatOf (a .m .now)) (e2 .if2 .left)
+    sym (refusal-in _ (notOpen (a .transaction)) (has-store (e2 .before)) ∙ stop-7 (a .transaction) (flatOf _) (e2 .if2 .left)
     (omega (arith, c .before .before .open-count .ensures, c .before .find-open .ensures, c .if3 .taken)))
 
 returns-4 : tie.Need-returns-4
 returns-4 c = let e2 = c .before .before .before in let a = start (e2 .before) .args in
-    sym (refusal-in (a .m .now) (notOpen (a .transaction)) (has-store (e2 .before)) ∙ none-7 (a .transaction) (flatOf (a .m .now)) (e2 .if2 .left)
+    sym (refusal-in _ (notOpen (a .transaction)) (has-store (e2 .before)) ∙ none-7 (a .transaction) (flatOf _) (e2 .if2 .left)
     (omega (arith, c .before .before .open-count .ensures, c .before .find-open .ensures, c .if3 .left)))
 
 pub not-open-spec : {M : Type 1} → statement M

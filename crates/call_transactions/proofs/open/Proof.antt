@@ -17,11 +17,11 @@ has-store : (c : tie.Else1) → holdsStore (start c .args .m .now) ≡ true
 has-store c = sym (c .before .holds-store .ensures) ∙ not-false _ (c .if1 .left)
 
 returns : tie.Need-returns
-returns c = answers-4 _ (c .before .before .before .before .args .m .now) (sym (c .before .holds-store .ensures) ∙ not-true _ (c .if1 .taken))
+returns c = answers-4 _ _ (sym (c .before .holds-store .ensures) ∙ not-true _ (c .if1 .taken))
 
 returns-2 : tie.Need-returns-2
 returns-2 c = let e1 = c .before in let a = start e1 .args in
-    answers-refused _ (a .m .now) 6 (has-store e1) (open-6 (a .transaction) (flatOf (a .m .now)) (c .if2 .taken))
+    answers-refused _ _ 6 (has-store e1) (open-6 (a .transaction) (flatOf _) (c .if2 .taken))
 
 open-count-requires : tie.Need-open-count-requires
 open-count-requires c κs = holds-room _ (has-store (c .before .before))
@@ -31,14 +31,14 @@ find-open-requires c κs = holds-room _ (has-store (c .before .before .before .b
 
 returns-3 : tie.Need-returns-3
 returns-3 c = let e2 = c .before .before .before .before .before in let a = start (e2 .before) .args in
-    answers-refused _ (a .m .now) 8 (has-store (e2 .before))
-    (open-8 (a .transaction) (flatOf (a .m .now)) (e2 .if2 .left) (omega (arith, c .before .before .before .open-count .ensures, c .before .find-open .ensures, c .if3 .taken)))
+    answers-refused _ _ 8 (has-store (e2 .before))
+    (open-8 (a .transaction) (flatOf _) (e2 .if2 .left) (omega (arith, c .before .before .before .open-count .ensures, c .before .find-open .ensures, c .if3 .taken)))
 
 returns-4 : tie.Need-returns-4
 returns-4 c = let e2 = c .before .before .before .before .before .before in let a = start (e2 .before) .args in
     let en = c .before .before .before .before .open-count .ensures in
-    answers-refused _ (a .m .now) 9 (has-store (e2 .before))
-    (open-9 (a .transaction) (flatOf (a .m .now)) (e2 .if2 .left) (omega (arith, en, c .before .before .find-open .ensures, c .before .if3 .left)) (omega (arith, en, c .if4 .taken)))
+    answers-refused _ _ 9 (has-store (e2 .before))
+    (open-9 (a .transaction) (flatOf _) (e2 .if2 .left) (omega (arith, en, c .before .before .find-open .ensures, c .before .if3 .left)) (omega (arith, en, c .if4 .taken)))
 
 push-open-requires : tie.Need-push-open-requires
 push-open-requires c κs = let e2 = c .before .before .before .before .before .before .before in (
@@ -55,9 +55,9 @@ returns-5 c = let e2 = c .before .before .before .before .before .before .before
     let looked = c .before .before .before .before .before in let en = looked .before .before .before .open-count .ensures in
     let few : length (f .opens) < 64 = omega (arith, en, c .before .before .before .before .if4 .left) in
     let new : length (f .opens) ≤ findOpen (a .transaction) (f .opens) = omega (arith, en, looked .before .find-open .ensures, looked .if3 .left) in
-    answers-done _ (a .m .now) _ _ (has-store (e2 .before))
+    answers-done _ _ _ _ (has-store (e2 .before))
     (open-done (a .transaction) f (e2 .if2 .left) new few)
-    (opens-hold (a .m .now) _ _ (has-store (e2 .before)) (c .before .before .push-open .ensures))
+    (opens-hold _ _ _ (has-store (e2 .before)) (c .before .before .push-open .ensures))
 
 pub open-spec : {M : Type 1} → statement M
 open-spec = tie.close (tie.spec (λ c κs. search needs) (search needs) returns (search needs) returns-2 open-count-requires find-open-requires (search needs) returns-3

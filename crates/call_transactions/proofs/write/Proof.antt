@@ -13,8 +13,7 @@ passed : (c : tie.Else1) → let a = start c .args in Called (a .m .now) (a .tra
 passed c = called (c .before .call-refusal .ensures) (c .if1 .left)
 
 returns : tie.Need-returns
-returns c = let a = c .before .before .before .before .before .args in
-    call-refused (a .new) (a .mark) (a .transaction) (a .table) (a .key) (a .payload .now) (a .m .now) _ (c .before .call-refusal .ensures) (c .if1 .taken)
+returns c = call-refused _ _ _ _ _ _ _ _ (c .before .call-refusal .ensures) (c .if1 .taken)
 
 cast-t : tie.Need-cast-t
 cast-t c = omega (arith, passed c .table)
@@ -27,7 +26,7 @@ key-refusal-requires c κs = (passed (c .before .before .before) .there, c .befo
 
 returns-2 : tie.Need-returns-2
 returns-2 c = let k = c .before in let s = k .before .before in let e1 = s .before .before in let a = start e1 .args in
-    key-refused (a .new) (a .mark) (a .transaction) (a .table) (a .key) (a .payload .now) (a .m .now) _ (e1 .before .call-refusal .ensures) (e1 .if1 .left)
+    key-refused (a .new) (a .mark) (a .transaction) (a .table) (a .key) _ _ _ (e1 .before .call-refusal .ensures) (e1 .if1 .left)
     _ (s .find-place .ensures .visibility) _ (k .key-refusal .ensures) (c .if2 .taken)
 
 accept-requires : tie.Need-accept-requires
@@ -36,7 +35,7 @@ accept-requires c κs = let k = c .before .before in let s = k .before .before i
 
 returns-3 : tie.Need-returns-3
 returns-3 c = let k = c .before .before .before .before .before in let s = k .before .before in let e1 = s .before .before in let a = start e1 .args in
-    write-done (a .new) (a .mark) (a .transaction) (a .table) (a .key) (a .payload .now) (a .m .now) _ (e1 .before .call-refusal .ensures) (e1 .if1 .left)
+    write-done (a .new) (a .mark) (a .transaction) (a .table) (a .key) _ _ _ (e1 .before .call-refusal .ensures) (e1 .if1 .left)
     _ (s .find-place .ensures .visibility) _ (k .key-refusal .ensures) (c .before .before .before .before .if2 .left) _ (c .before .before .accept .ensures)
 
 pub write-spec : {M : Type 1} → statement M

@@ -2,8 +2,8 @@
 use Rattle.basics.proofs.Kit.{ap, needs, arith}
 use Rattle.image.specs.Stages.{directoriesFor}
 use Rattle.memory_layout.specs.Flat.{flatOf}
-use Rattle.memory_layout.proofs.Laws.{pages-read, holds-room}
-use Rattle.engine_allocator.proofs.Tallies.{sizes, pages-most, dirty-few, needed-is}
+use Rattle.memory_layout.proofs.Laws.{pages-read, holds-room, sizes}
+use Rattle.engine_allocator.proofs.Tallies.{pages-most, dirty-few, needed-is}
 use Rattle.engine_allocator.proofs.blocks_needed.Statement.{statement}
 use Rattle.engine_allocator.proofs.blocks_needed.Tie as tie
 

@@ -1,8 +1,7 @@
 -- `engine_allocator::directories_left` meets its contract: the difference of the two counts, 0 where it would be negative.
 use Rattle.basics.proofs.Kit.{ap, needs, arith}
 use Rattle.image.specs.Stages.{directoriesFor}
-use Rattle.memory_layout.proofs.Laws.{named-read, directories-read}
-use Rattle.engine_allocator.proofs.Tallies.{sizes}
+use Rattle.memory_layout.proofs.Laws.{named-read, directories-read, sizes}
 use Rattle.engine_allocator.proofs.directories_left.Statement.{statement}
 use Rattle.engine_allocator.proofs.directories_left.Tie as tie
 

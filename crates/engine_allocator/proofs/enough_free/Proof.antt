@@ -4,8 +4,9 @@ use Rattle.memory_layout.specs.declared.Head.{Head}
 use Rattle.memory_layout.specs.Flat.{Flat, flatOf}
 use Rattle.memory_layout.specs.Store.{storeOf}
 use Rattle.basics.specs.Basics.{howMany, from, oneIf}
+use Rattle.basics.proofs.Froms.{tally-turn, tally-end}
 use Rattle.model.specs.Checkpoint.{freeCount}
-use Rattle.engine_allocator.proofs.Tallies.{tally-turn, tally-end, free-is}
+use Rattle.engine_allocator.proofs.Tallies.{free-is}
 use Rattle.engine_allocator.proofs.enough_free.Statement.{statement}
 use Rattle.engine_allocator.proofs.enough_free.Tie as tie
 

@@ -1,11 +1,11 @@
 -- `engine_close::close_next` meets its contract: without an own row by `none-left`; else an abort by `one-aborted` from `remove_row`, a commit by `one-closed` from the run's bounds and `close_run`.
-use Rattle.engine_close.specs.Close.{taggedOf, rowFrom}
+use Rattle.engine_close.specs.Close.{taggedOf, RowOfTable}
 use Rattle.engine_close.proofs.Memory.{table-is}
 use Rattle.engine_close.proofs.Next.{none-left, one-aborted, one-closed}
-use Rattle.engine_pages.proofs.Places.{less-than}
+use Rattle.basics.proofs.Numbers.{less-than}
 use Rattle.memory_layout.specs.Flat.{Room}
 use Rattle.memory_layout.proofs.Laws.{holds-room}
-use Rattle.basics.proofs.Kit.{_≡_, sym, _∙_, _<_, length, not-true, not-false, needs, arith}
+use Rattle.basics.proofs.Kit.{sym, _∙_, _<_, length, not-true, not-false, needs, arith}
 use Rattle.engine_close.proofs.close_next.Statement.{statement}
 use Rattle.engine_close.proofs.close_next.Tie as tie
 
@@ -41,16 +41,15 @@ table-of-requires c κs = let p2 = c .before .before in (row-there (p2 .before .
 -- the table of its page is its table
 table-there : (c : tie.After-table-of) →
     let p8 = c .before .before .before .before .before .before .before .before in
-    (c .table-of .result ≡ rowFrom (taggedOf (p8 .before .before .before .args .m .now)) (p8 .next-own .result) .0) × (c .table-of .result < 8)
-table-there c = let p3 = c .before .before .before in
-    (c .table-of .ensures .0 ∙ sym (table-is _ (row-there (p3 .before .before) .0) (p3 .page-of .ensures)), c .table-of .ensures .1)
+    RowOfTable (p8 .before .before .before .args .m .now) (p8 .next-own .result) (c .table-of .result)
+table-there c = let p3 = c .before .before .before in let h = row-there (p3 .before .before) in let t = c .table-of .ensures in
+    record { room = h .0; inside = h .1; table = t .0 ∙ sym (table-is _ (h .0) (p3 .page-of .ensures)); below = t .1 }
 
 run-start-requires : tie.Need-run-start-requires
-run-start-requires c κs = let e1 = c .before .before .before .before .before .before in let h = row-there e1 in
-    ((h .0, record { order = e1 .before .before .before .next-own .ensures .low; inside = h .1 }), table-there (c .before))
+run-start-requires c κs = (table-there (c .before), c .before .before .before .before .before .before .before .before .before .next-own .ensures .low)
 
 run-end-requires : tie.Need-run-end-requires
-run-end-requires c κs = let p3 = c .before .before .before in (row-there (p3 .before .before .before .before .before), table-there p3)
+run-end-requires c κs = table-there (c .before .before .before)
 
 newest-own-requires : tie.Need-newest-own-requires
 newest-own-requires c κs = let e1 = c .before .before .before .before .before .before .before .before .before .before in

@@ -36,7 +36,7 @@ same-length c = c .before .before .before .loop .inv .now .size
 
 returns : tie.Need-returns Inv-loop μ-loop
 returns c = let p3 = c .before .before .before in let p5 = p3 .before .before in
-    holds-now (all-done (p5 .args .keep) (p5 .args .transaction) (p3 .loop .inv) (omega (arith, c .if1 .left, c .before .row-count .ensures)))
+    holds-now (all-done (p5 .args .keep) _ (p3 .loop .inv) (omega (arith, c .if1 .left, c .before .row-count .ensures)))
 
 pub close-rows-spec : {M : Type 1} → statement M
 close-rows-spec = tie.close (tie.spec Inv-loop μ-loop loop-holds row-count-requires close-next-requires loop-less loop-again same-length returns)

@@ -9,11 +9,11 @@ use Rattle.engine_close.proofs.close_run.Statement.{statement}
 use Rattle.engine_close.proofs.close_run.Tie as tie
 
 mark-at-requires : tie.Need-mark-at-requires
-mark-at-requires c κs = let st = c .before .before in let r = holds-room _ (st .pre .has-store) in (r, omega (arith, st .pre .high, st .pre .most, tagged-length (st .args .m .now) r))
+mark-at-requires c κs = let st = c .before .before in let r = holds-room _ (st .pre .has-store) in (r, omega (arith, st .pre .high, st .pre .most, tagged-length _ r))
 
 returns : tie.Need-returns
 returns c = let p2 = c .before .before in let p4 = p2 .before .before in let p5 = p4 .before in let st = p5 .before .before .before in let m = st .args .m .now in
-    let k = ap (λ (h : Held). h .tuple .mark) (row-is m (holds-room _ (st .pre .has-store)) (st .args .k)) ∙ sym (p5 .mark-at .ensures) in
+    let k = ap (λ (h : Held). h .tuple .mark) (row-is m (holds-room _ (st .pre .has-store)) _) ∙ sym (p5 .mark-at .ensures) in
     run-marked (st .pre) (k ∙ p4 .if1 .taken) (p2 .remove-rows .ensures)
 
 remove-rows-requires-2 : tie.Need-remove-rows-requires-2
@@ -29,7 +29,7 @@ returns-2 : tie.Need-returns-2
 returns-2 c = let p2 = c .before .before in let p6 = p2 .before .before .before .before in let p10 = p6 .before .before .before .before in
     let p12 = p10 .before .before in let p13 = p12 .before in let st = p13 .before .before .before in
     let m = st .args .m .now in
-    let k = ap (λ (h : Held). h .tuple .mark) (row-is m (holds-room _ (st .pre .has-store)) (st .args .k)) ∙ sym (p13 .mark-at .ensures) in
+    let k = ap (λ (h : Held). h .tuple .mark) (row-is m (holds-room _ (st .pre .has-store)) _) ∙ sym (p13 .mark-at .ensures) in
     run-kept (st .pre) (p10 .commit-row .ensures) (p6 .remove-rows2 .ensures) (k ∙ p12 .if1 .left) (p2 .remove-rows3 .ensures)
 
 pub close-run-spec : {M : Type 1} → statement M

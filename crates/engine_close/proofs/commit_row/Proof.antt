@@ -16,8 +16,7 @@ commit-at-requires c κs = let p4 = c .before .before .before .before in
     row-on (p4 .pre .0) (c .before .page-near .ensures)
 
 returns : tie.Need-returns
-returns c = let p2 = c .before .before in let st = p2 .before .before .before .before .before in
-    turned (commitRow (st .args .i) (pagesOf (st .args .m .now))) (p2 .commit-at .ensures)
+returns c = let p2 = c .before .before in turned (commitRow _ (pagesOf _)) (p2 .commit-at .ensures)
 
 pub commit-row-spec : {M : Type 1} → statement M
 commit-row-spec = tie.close (tie.spec page-near-requires commit-at-requires (search needs) returns)

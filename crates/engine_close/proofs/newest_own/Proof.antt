@@ -2,7 +2,7 @@
 use Rattle.engine_close.specs.Close.{isOwnRow, taggedOf}
 use Rattle.engine_close.proofs.Own.{NotLater, own-is, not-later-more}
 use Rattle.engine_close.proofs.Memory.{tagged-length}
-use Rattle.basics.proofs.Kit.{_≡_, sym, ap, _∙_, _≤_, _<_, _-_, arith}
+use Rattle.basics.proofs.Kit.{_≡_, sym, ap, _∙_, _≤_, _<_, arith}
 use Rattle.engine_close.proofs.newest_own.Statement.{statement}
 use Rattle.engine_close.proofs.newest_own.Tie as tie
 
@@ -16,7 +16,7 @@ loop-holds : tie.Need-loop-holds Inv-loop μ-loop
 loop-holds c = (omega arith, (omega arith, λ j x y. absurd (omega arith)))
 
 owns-requires : tie.Need-owns-requires Inv-loop μ-loop
-owns-requires c κs = let st = c .before .before .before in (st .pre .0, omega (arith, st .pre .1 .inside, tagged-length (st .args .m .now) (st .pre .0)))
+owns-requires c κs = let st = c .before .before .before in (st .pre .0, omega (arith, st .pre .1 .inside, tagged-length _ (st .pre .0)))
 
 returns : tie.Need-returns Inv-loop μ-loop
 returns c = let p3 = c .before .before .before in let st = p3 .before .before in
@@ -24,13 +24,13 @@ returns c = let p3 = c .before .before .before in let st = p3 .before .before in
     record {
       low = l .inv .0;
       high = l .inv .1 .0;
-      own = own-is m (st .pre .0) (st .args .transaction) (l .r) ∙ sym (c .before .owns .ensures) ∙ c .if1 .taken;
+      own = own-is m (st .pre .0) _ _ ∙ sym (c .before .owns .ensures) ∙ c .if1 .taken;
       later = l .inv .1 .1;
     }
 
 loop-again : tie.Need-loop-again Inv-loop μ-loop
 loop-again c = let p3 = c .before .before .before in let st = p3 .before .before in let l = p3 .loop in
-    (omega arith, (omega arith, not-later-more (st .args .m .now) (st .pre .0) (st .args .transaction) (l .inv .1 .1) (sym (c .before .owns .ensures) ∙ c .if1 .left)))
+    (omega arith, (omega arith, not-later-more _ (st .pre .0) _ (l .inv .1 .1) (sym (c .before .owns .ensures) ∙ c .if1 .left)))
 
 returns-2 : tie.Need-returns-2 Inv-loop μ-loop
 returns-2 c = let l = c .before .loop in let st = c .before .before .before in
@@ -38,7 +38,7 @@ returns-2 c = let l = c .before .loop in let st = c .before .before .before in
     record {
       low = l .inv .0;
       high = l .inv .1 .0;
-      own = ap (isOwnRow (st .args .transaction) (taggedOf (st .args .m .now))) q ∙ st .pre .1 .own;
+      own = ap (isOwnRow _ (taggedOf _)) q ∙ st .pre .1 .own;
       later = l .inv .1 .1;
     }
 

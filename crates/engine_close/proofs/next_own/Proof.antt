@@ -1,6 +1,6 @@
 -- `engine_close::next_own` meets its contract. The invariant: no row from row i up to row g is an own row.
 use Rattle.engine_close.proofs.Own.{NotOwn, not-own-then}
-use Rattle.engine_close.proofs.Memory.{few-rows}
+use Rattle.engine_close.proofs.Memory.{few-tagged}
 use Rattle.basics.proofs.Kit.{_≤_, _-_, arith}
 use Rattle.engine_close.proofs.next_own.Statement.{statement}
 use Rattle.engine_close.proofs.next_own.Tie as tie
@@ -18,7 +18,7 @@ loop-holds : tie.Need-loop-holds Inv-loop μ-loop
 loop-holds c = let st = c .before .before in (omega arith, (omega (arith, c .row-count .ensures, st .pre .1), λ j x y. absurd (omega arith)))
 
 add-loop : tie.Need-add-loop Inv-loop μ-loop
-add-loop c = let st = c .before .before .before in omega (arith, c .before .row-count .ensures, few-rows (st .args .m .now) (st .pre .0), c .loop .inv .1 .0)
+add-loop c = let st = c .before .before .before in omega (arith, c .before .row-count .ensures, few-tagged _ (st .pre .0), c .loop .inv .1 .0)
 
 own-in-group-requires : tie.Need-own-in-group-requires Inv-loop μ-loop
 own-in-group-requires c κs = let p2 = c .before .before in let p4 = p2 .before .before in
@@ -26,7 +26,7 @@ own-in-group-requires c κs = let p2 = c .before .before in let p4 = p2 .before 
 
 add-if1 : tie.Need-add-if1 Inv-loop μ-loop
 add-if1 c = let p2 = c .before .before in let p3 = p2 .before in let st = p3 .before .before in
-    omega (arith, p3 .row-count .ensures, few-rows (st .args .m .now) (st .pre .0), p2 .loop .inv .1 .0)
+    omega (arith, p3 .row-count .ensures, few-tagged _ (st .pre .0), p2 .loop .inv .1 .0)
 
 returns : tie.Need-returns Inv-loop μ-loop
 returns c = let p2 = c .before .before in let p3 = p2 .before in let p4 = p3 .before in let st = p4 .before .before in
@@ -34,7 +34,7 @@ returns c = let p2 = c .before .before in let p3 = p2 .before in let p4 = p3 .be
     record {
       low = omega (arith, l .0, o .low);
       most = omega (arith, o .most, p2 .loop-test .taken, p4 .row-count .ensures);
-      passed = not-own-then (st .args .m .now) (st .pre .0) (st .args .transaction) (l .1 .1) (o .passed);
+      passed = not-own-then _ (st .pre .0) _ (l .1 .1) (o .passed);
       found = λ x. o .found (c .if1 .taken);
     }
 
@@ -45,7 +45,7 @@ loop-again : tie.Need-loop-again Inv-loop μ-loop
 loop-again c = let p2 = c .before .before in let p3 = p2 .before in let st = p3 .before .before .before in
     let l = p3 .loop .inv in let o = c .before .own-in-group .ensures in (
       omega (arith, l .0, o .low),
-      (omega (arith, o .most, p2 .loop-test .taken), not-own-then (st .args .m .now) (st .pre .0) (st .args .transaction) (l .1 .1) (o .passed)),
+      (omega (arith, o .most, p2 .loop-test .taken), not-own-then _ (st .pre .0) _ (l .1 .1) (o .passed)),
     )
 
 own-in-requires : tie.Need-own-in-requires Inv-loop μ-loop
@@ -58,7 +58,7 @@ returns-2 c = let p2 = c .before .before in let p3 = p2 .before in let st = p3 .
     record {
       low = omega (arith, l .0, o .low);
       most = omega (arith, o .most, n);
-      passed = not-own-then (st .args .m .now) (st .pre .0) (st .args .transaction) (l .1 .1) (o .passed);
+      passed = not-own-then _ (st .pre .0) _ (l .1 .1) (o .passed);
       found = λ x. o .found (omega (arith, n));
     }
 

@@ -15,7 +15,7 @@ loop-holds : tie.Need-loop-holds Inv-loop μ-loop
 loop-holds c = (omega arith, (omega (arith, c .before .pre .1 .order), λ j x y. absurd (omega arith)))
 
 owns-requires : tie.Need-owns-requires Inv-loop μ-loop
-owns-requires c κs = let st = c .before .before .before in (st .pre .0, omega (arith, st .pre .1 .inside, tagged-length (st .args .m .now) (st .pre .0)))
+owns-requires c κs = let st = c .before .before .before in (st .pre .0, omega (arith, st .pre .1 .inside, tagged-length _ (st .pre .0)))
 
 returns : tie.Need-returns Inv-loop μ-loop
 returns c = let p3 = c .before .before .before in let st = p3 .before .before in
@@ -24,12 +24,12 @@ returns c = let p3 = c .before .before .before in let st = p3 .before .before in
       low = l .inv .0;
       most = l .inv .1 .0;
       passed = l .inv .1 .1;
-      found = λ x. own-is m (st .pre .0) (st .args .transaction) (l .r) ∙ sym (c .before .owns .ensures) ∙ c .if1 .taken;
+      found = λ x. own-is m (st .pre .0) _ _ ∙ sym (c .before .owns .ensures) ∙ c .if1 .taken;
     }
 
 loop-again : tie.Need-loop-again Inv-loop μ-loop
 loop-again c = let p3 = c .before .before .before in let st = p3 .before .before in let l = p3 .loop in
-    (omega arith, (omega arith, not-own-more (st .args .m .now) (st .pre .0) (st .args .transaction) (l .inv .1 .1) (sym (c .before .owns .ensures) ∙ c .if1 .left)))
+    (omega arith, (omega arith, not-own-more _ (st .pre .0) _ (l .inv .1 .1) (sym (c .before .owns .ensures) ∙ c .if1 .left)))
 
 returns-2 : tie.Need-returns-2 Inv-loop μ-loop
 returns-2 c = let l = c .before .loop in

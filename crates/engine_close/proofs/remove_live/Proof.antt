@@ -1,6 +1,6 @@
 -- `engine_close::remove_live` meets its contract: a live row is removed (`live-removed`), one pending removal is passed over (`live-passed`).
 use Rattle.engine_close.proofs.Closing.{live-removed, live-passed}
-use Rattle.engine_close.proofs.Memory.{few-rows}
+use Rattle.engine_close.proofs.Memory.{few-tagged}
 use Rattle.memory_layout.proofs.Laws.{holds-room}
 use Rattle.basics.proofs.Kit.{sym, _∙_, needs, arith}
 use Rattle.engine_close.proofs.remove_live.Statement.{statement}
@@ -14,7 +14,7 @@ returns c = let p2 = c .before .before in let p4 = p2 .before .before in let p5 
     live-removed (p8 .pre .1) (p2 .remove-row .ensures) (sym (p5 .is-live .ensures) ∙ p4 .if1 .taken)
 
 add-result : tie.Need-add-result
-add-result c = let st = c .before .before .before .before in omega (arith, st .pre .1, few-rows (st .args .m .now) (holds-room _ (st .pre .0)))
+add-result c = let st = c .before .before .before .before in omega (arith, st .pre .1, few-tagged _ (holds-room _ (st .pre .0)))
 
 returns-2 : tie.Need-returns-2
 returns-2 c = let p4 = c .before .before .before .before in

@@ -5,7 +5,7 @@ use Rattle.engine_close.proofs.row_count.Statement.{statement}
 use Rattle.engine_close.proofs.row_count.Tie as tie
 
 returns : tie.Need-returns
-returns c = let st = c .before .before .before in rows-counted (st .args .m .now) (st .pre) (c .before .get-counts .ensures)
+returns c = let st = c .before .before .before in rows-counted _ (st .pre) (c .before .get-counts .ensures)
 
 pub row-count-spec : {M : Type 1} → statement M
 row-count-spec = tie.close (tie.spec (λ c κs. search needs) (search needs) returns)

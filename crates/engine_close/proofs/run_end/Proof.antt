@@ -1,6 +1,6 @@
 -- `engine_close::run_end` meets its contract. The invariant: the rows behind row i, up to row r, have its table and key.
 use Rattle.engine_close.proofs.RunBounds.{Onward, end-high, onward-more, onward-ends, onward-stops}
-use Rattle.engine_close.proofs.Memory.{tagged-length, few-rows}
+use Rattle.engine_close.proofs.Memory.{tagged-length, few-tagged}
 use Rattle.basics.proofs.Kit.{sym, _∙_, _≤_, _<_, _-_, arith}
 use Rattle.engine_close.proofs.run_end.Statement.{statement}
 use Rattle.engine_close.proofs.run_end.Tie as tie
@@ -12,34 +12,34 @@ abbrev μ-loop : tie.MeasureT-loop
 μ-loop m i t end key r₀ r = end - r
 
 add-first-row : tie.Need-add-first-row Inv-loop μ-loop
-add-first-row c = omega (arith, c .before .pre .1 .1)
+add-first-row c = omega (arith, c .before .pre .below)
 
 first-row-requires : tie.Need-first-row-requires Inv-loop μ-loop
-first-row-requires c κs = let p = c .before .pre in (p .0 .0, omega (arith, p .1 .1))
+first-row-requires c κs = let p = c .before .pre in (p .room, omega (arith, p .below))
 
 key-at-requires : tie.Need-key-at-requires Inv-loop μ-loop
-key-at-requires c κs = let st = c .before .before in let p = st .pre .0 in (p .0, omega (arith, p .1, tagged-length (st .args .m .now) (p .0)))
+key-at-requires c κs = let st = c .before .before in let p = st .pre in (p .room, omega (arith, p .inside, tagged-length _ (p .room)))
 
 add-r : tie.Need-add-r Inv-loop μ-loop
-add-r c = let st = c .before .before .before in let p = st .pre .0 in omega (arith, p .1, few-rows (st .args .m .now) (p .0))
+add-r c = let st = c .before .before .before in let p = st .pre in omega (arith, p .inside, few-tagged _ (p .room))
 
 loop-holds : tie.Need-loop-holds Inv-loop μ-loop
 loop-holds c = let st = c .before .before .before in let p = st .pre in
-    (omega arith, (omega (arith, end-high (p .0 .0) (p .0 .1) (p .1) (c .before .first-row .ensures)), λ j x y. absurd (omega arith)))
+    (omega arith, (omega (arith, end-high p (c .before .first-row .ensures)), λ j x y. absurd (omega arith)))
 
 key-at-requires-2 : tie.Need-key-at-requires-2 Inv-loop μ-loop
-key-at-requires-2 c κs = let p3 = c .before .before .before in let st = p3 .before .before in let p = st .pre .0 in
-    (p .0, omega (arith, p3 .first-row .ensures .most, c .loop-test .taken, tagged-length (st .args .m .now) (p .0)))
+key-at-requires-2 c κs = let p3 = c .before .before .before in let st = p3 .before .before in let p = st .pre in
+    (p .room, omega (arith, p3 .first-row .ensures .most, c .loop-test .taken, tagged-length _ (p .room)))
 
 returns : tie.Need-returns Inv-loop μ-loop
 returns c = let p2 = c .before .before in let p3 = p2 .before in let p4 = p3 .before in let p5 = p4 .before in
     let p = p5 .before .before .pre in let l = p3 .loop in
-    onward-ends (p .0 .0) (p .0 .1) (p .1) (p5 .first-row .ensures) (l .inv .1 .1)
+    onward-ends p (p5 .first-row .ensures) (l .inv .1 .1)
     (l .inv .0) (p2 .loop-test .taken) (λ q. c .if1 .taken (c .before .key-at2 .ensures ∙ q ∙ sym (p4 .key-at .ensures)))
 
 add-r-2 : tie.Need-add-r-2 Inv-loop μ-loop
 add-r-2 c = let p2 = c .before .before in let p5 = p2 .before .before .before in let st = p5 .before .before in
-    omega (arith, p5 .first-row .ensures .most, p2 .loop-test .taken, few-rows (st .args .m .now) (st .pre .0 .0))
+    omega (arith, p5 .first-row .ensures .most, p2 .loop-test .taken, few-tagged _ (st .pre .room))
 
 loop-less : tie.Need-loop-less Inv-loop μ-loop
 loop-less c = omega (arith, c .before .before .loop-test .taken)
@@ -50,14 +50,14 @@ loop-again c = let p2 = c .before .before in let p3 = p2 .before in let p4 = p3 
       omega (arith, l .inv .0),
       (
         omega (arith, p2 .loop-test .taken),
-        onward-more (p .0 .0) (p .0 .1) (p .1) (p5 .first-row .ensures) (l .inv .1 .1)
+        onward-more p (p5 .first-row .ensures) (l .inv .1 .1)
             (l .inv .0) (p2 .loop-test .taken) (sym (c .before .key-at2 .ensures) ∙ c .if1 .left ∙ p4 .key-at .ensures),
       ),
     )
 
 returns-2 : tie.Need-returns-2 Inv-loop μ-loop
 returns-2 c = let p3 = c .before .before .before in let p = p3 .before .before .pre in let l = c .before .loop in
-    onward-stops (p .0 .0) (p .0 .1) (p .1) (p3 .first-row .ensures) (l .inv .1 .1)
+    onward-stops p (p3 .first-row .ensures) (l .inv .1 .1)
     (l .inv .0) (omega (arith, c .loop-test .left, l .inv .1 .0))
 
 pub run-end-spec : {M : Type 1} → statement M

@@ -1,17 +1,18 @@
 -- `engine_lookup::note_row` meets its contract: one case for each pending operation.
-use Rattle.basics.proofs.Kit.{ap, _∙_, needs}
+use Rattle.basics.proofs.Kit.{ap, _∙_, needs, arith}
 use Rattle.block_forms.specs.Tuple as tuples
 use Rattle.memory_layout.specs.Flat.{flatOf, rowIn}
 use Rattle.engine_lookup.specs.Lookup.{noteOwner}
-use Rattle.engine_lookup.proofs.Notes.{note-removed, note-committing, note-other, row-below}
+use Rattle.engine_lookup.proofs.Notes.{note-removed, note-committing, note-other}
+use Rattle.memory_layout.proofs.Laws.{sizes}
 use Rattle.engine_lookup.proofs.note_row.Statement.{statement}
 use Rattle.engine_lookup.proofs.note_row.Tie as tie
 
 note-committed-requires : tie.Need-note-committed-requires
-note-committed-requires c κs = let st = c .before .before .before .before in row-below (st .pre .0) (st .pre .1)
+note-committed-requires c κs = let st = c .before .before .before .before in omega (arith, st .pre .1, sizes (st .pre .0) .rows)
 
 note-owner-requires : tie.Need-note-owner-requires
-note-owner-requires c κs = let st = c .before .before .before .before in row-below (st .pre .0) (st .pre .1)
+note-owner-requires c κs = let st = c .before .before .before .before in omega (arith, st .pre .1, sizes (st .pre .0) .rows)
 
 returns : tie.Need-returns
 returns c = let g = c .before .before in let a = g .before .before .args in

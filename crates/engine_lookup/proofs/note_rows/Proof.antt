@@ -1,15 +1,13 @@
 -- `engine_lookup::note_rows` meets its contract. The invariant: the answer is what the rows from i on make of what is noted so far.
 use Rattle.basics.proofs.Kit.{_≡_, refl, sym, ap, _∙_, ⊎-elim, _+_, _<_, _-_, arith}
-use Rattle.memory_layout.specs.Flat.{Flat, flatOf, rowIn}
-use Rattle.basics.specs.Lists.{tab}
-use Rattle.engine_lookup.specs.Lookup.{notes}
-use Rattle.engine_lookup.proofs.Iterations.{turn-here, turn-on, turn-end}
+use Rattle.memory_layout.specs.Flat.{Flat, flatOf}
+use Rattle.engine_lookup.proofs.Iterations.{along, turn-here, turn-on, turn-end}
 use Rattle.engine_lookup.proofs.note_rows.Statement.{statement}
 use Rattle.engine_lookup.proofs.note_rows.Tie as tie
 
 abbrev Inv-loop : tie.InvT-loop
 Inv-loop m from to transaction key l₀ i₀ l i =
-    notes transaction key i (tab (rowIn (flatOf m)) i (to - i)) l ≡ notes transaction key from (tab (rowIn (flatOf m)) from (to - from)) l₀
+    along (flatOf m) transaction key i (to - i) l ≡ along (flatOf m) transaction key from (to - from) l₀
 
 abbrev μ-loop : tie.MeasureT-loop
 μ-loop m from to transaction key l₀ i₀ l i = to - i
@@ -32,7 +30,7 @@ loop-again c = let a = c .before .before .before .before .before .args in
     let f : Flat = flatOf (a .m .now) in
     let g = c .before .before .before .loop in
     let lt : g .i < a .to = c .before .before .loop-test .taken in
-    let on = notes (a .transaction) (a .key) (g .i + 1) (tab (rowIn f) (g .i + 1) (a .to - (g .i + 1))) in
+    let on = along f (a .transaction) (a .key) (g .i + 1) (a .to - (g .i + 1)) in
     ⊎-elim
     (λ w. ap on (w .2 ∙ w .1 .ensures) ∙ sym (turn-here f (a .transaction) (a .key) (g .i) (a .to) (g .l) lt (sym (c .before .key-at .ensures) ∙ w .0 .taken)) ∙ g .inv)
     (λ w. ap on (w .1) ∙ sym (turn-on f (a .transaction) (a .key) (g .i) (a .to) (g .l) lt (λ q. w .0 .left (c .before .key-at .ensures ∙ q))) ∙ g .inv)

@@ -1,5 +1,6 @@
 -- `engine_pages::apply_pending_rows` meets its contract. The invariant: the operations of all rows but the last `left` are applied, and row i is the next.
-use Rattle.engine_pages.proofs.Places.{start-there, few-rows}
+use Rattle.engine_pages.proofs.Places.{start-there}
+use Rattle.memory_layout.proofs.Laws.{sizes}
 use Rattle.engine_pages.proofs.Applying.{ApplyInv, apply-start, apply-may, apply-next, apply-end, one-most}
 use Rattle.basics.proofs.Kit.{arith}
 use Rattle.engine_pages.proofs.apply_pending_rows.Statement.{statement}
@@ -28,7 +29,7 @@ apply-pending-row-requires c κs = let b1 = c .before in let b2 = b1 .before in 
 add-i : tie.Need-add-i Inv-loop μ-loop
 add-i c = let b2 = c .before .before in let b4 = b2 .before .before in let b5 = b4 .before in let b11 = b5 .before .before .before .before .before .before in
     let g = apply-may (b11 .pre) (b4 .loop-test .taken) (b5 .loop .inv) in
-    omega (arith, one-most (b2 .apply-pending-row .result) (b2 .apply-pending-row .ensures), g .1 .row, few-rows (g .0))
+    omega (arith, one-most (b2 .apply-pending-row .result) (b2 .apply-pending-row .ensures), g .1 .row, sizes (g .0) .rows)
 
 sub-left : tie.Need-sub-left Inv-loop μ-loop
 sub-left c = let b4 = c .before .before .before .before in omega (arith, b4 .loop-test .taken)

@@ -1,5 +1,6 @@
 -- `engine_pages::count_at` meets its contract: page p + 1 starts with the row behind the last one of page p (`ends-at`).
-use Rattle.engine_pages.proofs.Places.{start-there, next-there, few-pages, room, ends-at}
+use Rattle.engine_pages.proofs.Places.{start-there, next-there, room, ends-at}
+use Rattle.memory_layout.proofs.Laws.{sizes}
 use Rattle.basics.proofs.Kit.{arith}
 use Rattle.engine_pages.proofs.count_at.Statement.{statement}
 use Rattle.engine_pages.proofs.count_at.Tie as tie
@@ -8,7 +9,7 @@ start-of-requires : tie.Need-start-of-requires
 start-of-requires c κs = let b1 = c .before in start-there (b1 .pre)
 
 add-start-of : tie.Need-add-start-of
-add-start-of c = let b2 = c .before .before in let a = b2 .pre in omega (arith, a .inside, few-pages (room a))
+add-start-of c = let b2 = c .before .before in let a = b2 .pre in omega (arith, a .inside, sizes (room a) .pages)
 
 start-of-requires-2 : tie.Need-start-of-requires-2
 start-of-requires-2 c κs = let b2 = c .before .before in next-there (b2 .pre)

@@ -1,8 +1,8 @@
 -- `engine_pages::freeze` meets its contract. The invariant: the first p pages are frozen where they were dirty, and the others are as at entry.
 use Rattle.memory_layout.specs.Flat.{flatOf}
-use Rattle.memory_layout.proofs.Laws.{holds-room, pages-read}
+use Rattle.memory_layout.proofs.Laws.{holds-room, pages-read, sizes}
 use Rattle.basics.proofs.Kit.{_<_, _-_, length, needs, arith}
-use Rattle.engine_pages.proofs.Places.{few-pages, long, holds-now}
+use Rattle.engine_pages.proofs.Places.{holds-now}
 use Rattle.engine_pages.proofs.Freezing.{FreezeInv, freeze-start, freeze-there, freeze-next, freeze-end}
 use Rattle.engine_pages.proofs.freeze.Statement.{statement}
 use Rattle.engine_pages.proofs.freeze.Tie as tie
@@ -23,7 +23,7 @@ freeze-page-requires c κs =
 
 add-p : tie.Need-add-p Inv-loop μ-loop
 add-p c = let b4 = c .before .before .before .before in let b10 = b4 .before .before .before .before .before .before in
-    omega (arith, inside b4, few-pages (holds-room _ (b10 .pre)))
+    omega (arith, inside b4, sizes (holds-room _ (b10 .pre)) .pages)
 
 loop-again : tie.Need-loop-again Inv-loop μ-loop
 loop-again c =
@@ -36,6 +36,6 @@ returns c =
     holds-now (freeze-end (b1 .loop .p) (b1 .loop .inv) (omega (arith, pages-read (b6 .args .m .now) (b3 .get-counts .ensures), c .loop-test .left)))
 
 pub freeze-spec : {M : Type 1} → statement M
-freeze-spec = tie.close (tie.spec Inv-loop μ-loop (λ c κs. long (holds-room _ (c .before .before .pre))) (search needs)
+freeze-spec = tie.close (tie.spec Inv-loop μ-loop (λ c κs. sizes (holds-room _ (c .before .before .pre)) .long) (search needs)
     (λ c. let b4 = c .before .before .before .before in freeze-start (b4 .args .m .now) (b4 .pre)) freeze-page-requires add-p
     (λ c. omega (arith, c .before .before .before .before .loop-test .taken)) loop-again (λ c. c .before .loop .inv .1 .size) returns)

@@ -2,7 +2,8 @@
 use Rattle.basics.proofs.Kit.{sym, _∙_, _≤_, _<_, leb-true, leb-false, needs, arith}
 use Rattle.block_forms.specs.Limits.{recordSpace}
 use Rattle.engine_pages.specs.Pages.{entryOf}
-use Rattle.engine_pages.proofs.Places.{start-there, next-there, few-pages, few-rows, room, page-span, page-end, few, spacious}
+use Rattle.engine_pages.proofs.Places.{start-there, next-there, room, page-span, page-end, few, spacious}
+use Rattle.memory_layout.proofs.Laws.{sizes}
 use Rattle.engine_pages.proofs.Splitting.{halved-whole, between, halved-parts}
 use Rattle.engine_pages.proofs.halve.Statement.{statement}
 use Rattle.engine_pages.proofs.halve.Tie as tie
@@ -18,7 +19,7 @@ start-of-requires : tie.Need-start-of-requires
 start-of-requires c κs = let b2 = c .before .before in start-there (b2 .pre .0)
 
 add-start-of : tie.Need-add-start-of
-add-start-of c = let b4 = c .before .before .before .before in let a = b4 .pre .0 in omega (arith, a .inside, few-pages (room a))
+add-start-of c = let b4 = c .before .before .before .before in let a = b4 .pre .0 in omega (arith, a .inside, sizes (room a) .pages)
 
 start-of-requires-2 : tie.Need-start-of-requires-2
 start-of-requires-2 c κs = let b4 = c .before .before .before .before in next-there (b4 .pre .0)
@@ -38,7 +39,7 @@ half-requires c κs = let b4 = c .before .before .before .before .before in let 
 
 cast-split-page : tie.Need-cast-split-page
 cast-split-page c = let b1 = c .before in let b11 = b1 .before .before .before .before .before .before .before .before .before .before .before in
-    let a = b11 .pre .0 in omega (arith, cuts b1 .1, page-end a, few-rows (room a))
+    let a = b11 .pre .0 in omega (arith, cuts b1 .1, page-end a, sizes (room a) .rows)
 
 split-page-requires : tie.Need-split-page-requires
 split-page-requires c κs = let b1 = c .before in let b11 = b1 .before .before .before .before .before .before .before .before .before .before .before in

@@ -1,8 +1,8 @@
 -- `engine_pages::join_after` meets its contract: nothing changes without a successor or if the two may not join; else they are joined (`next-joins`).
 use Rattle.basics.proofs.Kit.{sym, _∙_, _+_, _<_, length, not-true, not-false, needs, arith}
 use Rattle.memory_layout.specs.Flat.{flatOf}
-use Rattle.memory_layout.proofs.Laws.{pages-read}
-use Rattle.engine_pages.proofs.Places.{now-to, few-pages, room, long}
+use Rattle.memory_layout.proofs.Laws.{pages-read, sizes}
+use Rattle.engine_pages.proofs.Places.{now-to, room}
 use Rattle.engine_pages.proofs.Around.{next-none, next-joins, next-apart}
 use Rattle.engine_pages.proofs.Joining.{tried, not-tried, next-at, may-join, joined-now}
 use Rattle.engine_pages.proofs.join_after.Statement.{statement}
@@ -13,7 +13,7 @@ inside : (c : tie.Else1) → (c .before .before .before .before .before) .args .
 inside c = omega (arith, pages-read ((c .before .before .before .before .before) .args .m .now) ((c .before .before) .get-counts .ensures), c .if1 .left)
 
 add-if1 : tie.Need-add-if1
-add-if1 c = let b4 = c .before .before .before .before in let a = b4 .pre in omega (arith, a .inside, few-pages (room a))
+add-if1 c = let b4 = c .before .before .before .before in let a = b4 .pre in omega (arith, a .inside, sizes (room a) .pages)
 
 returns : tie.Need-returns
 returns c = let b2 = c .before .before in let b5 = b2 .before .before .before in
@@ -37,5 +37,5 @@ returns-3 c = let b2 = c .before .before in let b4 = b2 .before .before in let b
     tried (λ rest. now-to (joined-now a lt j (b2 .join-pages .ensures)) (sym (next-joins a (next-at a lt) j rest)))
 
 pub join-after-spec : {M : Type 1} → statement M
-join-after-spec = tie.close (tie.spec (λ c κs. long (room (c .before .before .pre))) (search needs) add-if1 (search needs) returns joinable-requires (search needs) returns-2 join-pages-requires
+join-after-spec = tie.close (tie.spec (λ c κs. sizes (room (c .before .before .pre)) .long) (search needs) add-if1 (search needs) returns joinable-requires (search needs) returns-2 join-pages-requires
     (search needs) returns-3)

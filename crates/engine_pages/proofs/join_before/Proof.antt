@@ -1,6 +1,7 @@
 -- `engine_pages::join_before` meets its contract: nothing changes without a predecessor or if the two may not join; else they are joined (`prev-joins`).
 use Rattle.basics.proofs.Kit.{sym, _∙_, not-true, not-false, needs, arith}
-use Rattle.engine_pages.proofs.Places.{pos-of, now-to}
+use Rattle.basics.proofs.Numbers.{pos-of}
+use Rattle.engine_pages.proofs.Places.{now-to}
 use Rattle.engine_pages.proofs.Joining.{tried, not-tried, first-apart, prev-at, prev-inside, prev-joins, prev-apart, may-join, joined-now}
 use Rattle.engine_pages.proofs.join_before.Statement.{statement}
 use Rattle.engine_pages.proofs.join_before.Tie as tie

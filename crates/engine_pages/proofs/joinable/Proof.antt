@@ -1,5 +1,6 @@
 -- `engine_pages::joinable` meets its contract: each early return is for a test that fails; at the last one only the sizes decide (`by-sizes`).
-use Rattle.engine_pages.proofs.Places.{page-in, start-there, few-pages, room}
+use Rattle.engine_pages.proofs.Places.{page-in, start-there, room}
+use Rattle.memory_layout.proofs.Laws.{sizes}
 use Rattle.engine_pages.proofs.Joining.{next-at, both-span, apart-frozen, apart-next, apart-tables, by-sizes}
 use Rattle.basics.proofs.Kit.{arith}
 use Rattle.engine_pages.proofs.joinable.Statement.{statement}
@@ -13,7 +14,7 @@ returns c = let b1 = c .before in let b3 = b1 .before .before in
     apart-frozen (b3 .pre .0) (b3 .pre .1) (b1 .frozen-at .ensures) (c .if1 .taken)
 
 add-frozen-at : tie.Need-add-frozen-at
-add-frozen-at c = let b3 = c .before .before .before in let g = b3 .pre in omega (arith, g .1, few-pages (room (g .0)))
+add-frozen-at c = let b3 = c .before .before .before in let g = b3 .pre in omega (arith, g .1, sizes (room (g .0)) .pages)
 
 frozen-at-requires-2 : tie.Need-frozen-at-requires-2
 frozen-at-requires-2 c κs = let g = c .before .before .before .pre in (room (g .0), omega (arith, g .1))
@@ -26,7 +27,7 @@ table-of-requires : tie.Need-table-of-requires
 table-of-requires c κs = let b5 = c .before .before .before .before .before in page-in (b5 .pre .0)
 
 add-table-of : tie.Need-add-table-of
-add-table-of c = let b6 = c .before .before .before .before .before .before in let g = b6 .pre in omega (arith, g .1, few-pages (room (g .0)))
+add-table-of c = let b6 = c .before .before .before .before .before .before in let g = b6 .pre in omega (arith, g .1, sizes (room (g .0)) .pages)
 
 table-of-requires-2 : tie.Need-table-of-requires-2
 table-of-requires-2 c κs = let b6 = c .before .before .before .before .before .before in let g = b6 .pre in page-in (next-at (g .0) (g .1))
@@ -41,7 +42,7 @@ start-of-requires c κs = let b8 = c .before .before .before .before .before .be
 
 add-start-of : tie.Need-add-start-of
 add-start-of c = let b9 = c .before .before .before .before .before .before .before .before .before in
-    let g = b9 .pre in omega (arith, g .1, few-pages (room (g .0)))
+    let g = b9 .pre in omega (arith, g .1, sizes (room (g .0)) .pages)
 
 start-of-requires-2 : tie.Need-start-of-requires-2
 start-of-requires-2 c κs = let b9 = c .before .before .before .before .before .before .before .before .before in

@@ -1,15 +1,17 @@
 -- `engine_pages::remove_now` meets its contract: an empty page is dropped (`now-none`), another is joined as it may be (`now-joined`).
 use Rattle.basics.proofs.Kit.{sym, _∙_, _<_, needs, arith}
+use Rattle.basics.proofs.Numbers.{less-than}
 use Rattle.engine_pages.specs.Pages.{entryOf}
 use Rattle.engine_pages.proofs.Places.{has-row}
-use Rattle.engine_pages.proofs.Removing.{more, may-lose, less-there, less-empty, now-none, now-there, now-joined}
+use Rattle.engine_pages.proofs.Removing.{may-lose, less-there, less-empty, now-none, now-there, now-joined}
 use Rattle.engine_pages.proofs.remove_now.Statement.{statement}
 use Rattle.engine_pages.proofs.remove_now.Tie as tie
 
 -- another row is left
 two : (c : tie.Else1) → 1 < entryOf ((c .before .before .before .before .before .before .before .before) .args .m .now)
     ((c .before .before .before .before .before .before .before .before) .args .p) .count
-two c = more _ (has-row ((c .before .before .before .before .before .before .before .before) .pre .there)) (λ z. c .if1 .left ((c .before .before .before .before .before) .count-at .ensures ∙ z))
+two c = let p = c .before .before .before .before .before in
+    less-than (has-row (p .before .before .before .pre .there)) (λ z. c .if1 .left (p .count-at .ensures ∙ sym z))
 
 remove-row-requires : tie.Need-remove-row-requires
 remove-row-requires c κs = let b4 = c .before .before .before .before in may-lose (b4 .pre)

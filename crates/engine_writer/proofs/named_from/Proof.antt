@@ -1,5 +1,5 @@
 -- `engine_writer::named_from` meets its contract. The invariant: the first i numbers are those from entry `first` on.
-use Rattle.engine_writer.proofs.Headers.{named-few}
+use Rattle.memory_layout.proofs.Laws.{sizes}
 use Rattle.basics.proofs.Parts.{entries-turn}
 use Rattle.memory_layout.specs.Flat.{flatOf}
 use Rattle.block_forms.specs.Limits.{entriesPerBlock}
@@ -17,7 +17,7 @@ loop-holds : tie.Need-loop-holds Inv-loop μ-loop
 loop-holds c = (refl, (omega arith, refl))
 
 add-get-named : tie.Need-add-get-named Inv-loop μ-loop
-add-get-named c = let s = c .before .before .before in omega (arith, s .pre .1 .inside, named-few (s .args .m .now) (s .pre .0))
+add-get-named c = let s = c .before .before .before in omega (arith, s .pre .1 .inside, sizes (s .pre .0) .named)
 
 get-named-requires : tie.Need-get-named-requires Inv-loop μ-loop
 get-named-requires c κs = let s = c .before .before .before in (s .pre .0, omega (arith, s .pre .1 .inside))

@@ -4,7 +4,7 @@ use Rattle.block_forms.specs.Limits.{entriesPerBlock}
 use Rattle.block_forms.specs.Block.{directory, encodeBlock}
 use Rattle.memory_layout.specs.Flat.{flatOf}
 use Rattle.engine_writer.proofs.Numbered.{Run, run-full, run-last}
-use Rattle.engine_writer.proofs.Headers.{named-few}
+use Rattle.memory_layout.proofs.Laws.{sizes}
 use Rattle.memory_layout.proofs.Laws.{named-read}
 use Rattle.engine_writer.proofs.write_directory.Statement.{statement}
 use Rattle.engine_writer.proofs.write_directory.Tie as tie
@@ -15,7 +15,7 @@ use Rattle.engine_writer.proofs.named_from.Reads as named-from-reads
 use Rattle.memory_layout.proofs.get_counts.Reads as get-counts-reads
 
 mul-first : tie.Need-mul-first
-mul-first c = let s = c .before .before .before in omega (arith, s .pre .1 .start, named-few (s .args .m .now) (s .pre .0))
+mul-first c = let s = c .before .before .before in omega (arith, s .pre .1 .start, sizes (s .pre .0) .named)
 
 sub-count : tie.Need-sub-count
 sub-count c = let s = c .before .before .before .before in omega (arith, s .pre .1 .start, named-read (s .args .m .now) (c .before .get-counts .ensures))

@@ -8,7 +8,7 @@ use Rattle.image.proofs.add_entries.Tie as tie
 
 -- the directory that was read
 found : (c : tie.After-count) → let g = c .count .given .0 in Read (g .0) (g .1 .0) (c .before .before .before .before .args .block .now)
-found c = read (c .before .before .before .before .args .block .now) (sym (c .count .given .1) ∙ c .before .before .read-block .ensures)
+found c = read _ (sym (c .count .given .1) ∙ c .before .before .read-block .ensures)
 
 returns : tie.Need-returns
 returns c =
@@ -31,7 +31,7 @@ returns-4 : tie.Need-returns-4
 unfolding entriesDue
 returns-4 c =
     let a = c .before .before .before .args in
-    not-put _ (a .at) (a .out .now) _ (ap (entriesDue (a .level) (a .left)) (no-directory _ (c .before .read-block .ensures) (c .match .keys2)))
+    not-put _ _ _ _ (ap (entriesDue _ (a .left)) (no-directory _ (c .before .read-block .ensures) (c .match .keys2)))
 
 pub add-entries-spec : {M : Type 1} → statement M
 add-entries-spec = tie.close (tie.spec (λ c κs. search needs) (search needs) returns (λ c κs. search needs) returns-2 (λ c κs. search needs) (search needs)

@@ -9,7 +9,7 @@ use Rattle.image.proofs.block_at.Tie as tie
 returns : tie.Need-returns
 returns c =
     let p4 = c .before .before .before .before in
-    let a = p4 .args in c .before .copy .ensures ∙ whole-copy (zeros blockSize) (a .image .now) (a .e) refl (p4 .pre)
+    c .before .copy .ensures ∙ whole-copy (zeros blockSize) _ _ refl (p4 .pre)
 
 pub block-at-spec : {M : Type 1} → statement M
 block-at-spec = tie.close (tie.spec (search needs) (search needs) (λ c κs. search needs) returns)

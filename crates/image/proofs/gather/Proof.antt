@@ -1,6 +1,6 @@
 -- `image::gather` meets its contract. The invariant: out begins with the entries of the first i directory blocks; those of the others are still to be read.
 use Rattle.basics.proofs.Kit.{_≡_, refl, _∙_, _-_, length, not-true, not-false, arith}
-use Rattle.image.proofs.Named.{Gathering, filled-there, gathering-start, gathering-turn, gathering-stop, gathering-end}
+use Rattle.image.proofs.Named.{Gathering, gathering-start, gathering-turn, gathering-stop, gathering-end}
 use Rattle.image.proofs.Collect.{within, seen}
 use Rattle.image.specs.View.{view}
 use Rattle.image.proofs.gather.Statement.{statement}
@@ -14,13 +14,12 @@ abbrev μ-loop : tie.MeasureT-loop
 
 loop-holds : tie.Need-loop-holds Inv-loop μ-loop
 loop-holds c =
-    let p3 = c .before .before .before in
-    let a = p3 .args in (gathering-start (view (a .image .now)) (a .level) (a .pages) (a .directories .now) (a .out .now), refl)
+    (gathering-start (view _) _ _ _ _, refl)
 
 block-at-requires : tie.Need-block-at-requires Inv-loop μ-loop
 block-at-requires c κs =
     let p3 = c .before .before .before in let p7 = p3 .before .before .before .before in
-    let a = p7 .args in let p = p3 .loop in omega (arith, within (a .image .now) (a .directories .now) (p .i) (p7 .pre .0) (omega (arith, c .before .before .loop-test .taken)), c .wide .ensures)
+    let p = p3 .loop in omega (arith, within _ _ (p .i) (p7 .pre .0) (omega (arith, c .before .before .loop-test .taken)), c .wide .ensures)
 
 same-length : tie.Need-same-length Inv-loop μ-loop
 same-length c = c .before .before .before .add-entries .kept .1 .1 .1 .0 ∙ c .before .before .before .before .before .before .before .before .before .before .loop .inv .1
@@ -28,12 +27,9 @@ same-length c = c .before .before .before .add-entries .kept .1 .1 .1 .0 ∙ c .
 returns : tie.Need-returns Inv-loop μ-loop
 returns c =
     let p3 = c .before .before .before in let p6 = p3 .before .before .before in let p7 = p6 .before in let p9 = p7 .before .before in
-    let p10 = p9 .before in let p14 = p10 .before .before .before .before in
-    let a = p14 .args in let p = p10 .loop in
-    let e = seen (a .image .now) (a .directories .now) (p .i) _ _ (p6 .block-at .ensures) (p7 .wide .ensures) in
-    let f = filled-there _ _ e (a .level) (a .pages - p .at) (p .at) (p .out) _ _ (p3 .add-entries .ensures) in
-    gathering-stop (view (a .image .now)) (a .level) (a .pages) (a .directories .now) (a .out .now) (p .i) (p .at) (p .out) (p .inv .0) _ _ _
-    (omega (arith, p9 .loop-test)) (not-true _ (c .if1 .taken)) f
+    let p10 = p9 .before in let a = p10 .before .before .before .before .args in let p = p10 .loop in
+    let e = seen _ (a .directories .now) (p .i) (p6 .block-at .ensures) (p7 .wide .ensures) in
+    gathering-stop (p .inv .0) (omega (arith, p9 .loop-test)) e _ _ (not-true _ (c .if1 .taken)) (p3 .add-entries .ensures)
 
 add-i : tie.Need-add-i Inv-loop μ-loop
 add-i c = let s = c .before .before .before .before .before .before .before .before .before .before .before .before .before .before .before in
@@ -45,20 +41,12 @@ loop-less c = omega (arith, c .before .before .before .before .before .before .b
 loop-again : tie.Need-loop-again Inv-loop μ-loop
 loop-again c =
     let p4 = c .before .before .before .before in let p7 = p4 .before .before .before in let p8 = p7 .before in let p10 = p8 .before .before in
-    let p11 = p10 .before in let p15 = p11 .before .before .before .before in
-    let a = p15 .args in let p = p11 .loop in
-    let e = seen (a .image .now) (a .directories .now) (p .i) _ _ (p7 .block-at .ensures) (p8 .wide .ensures) in
-    let f = filled-there _ _ e (a .level) (a .pages - p .at) (p .at) (p .out) _ _ (p4 .add-entries .ensures) in
-    let t = gathering-turn (view (a .image .now)) (a .level) (a .pages) (a .directories .now) (a .out .now) (p .i) (p .at) (p .out) (p .inv .0) _ _
-    (omega (arith, p10 .loop-test)) (p15 .pre .1) (not-false _ (c .before .if1 .left)) f in
+    let p11 = p10 .before in let p15 = p11 .before .before .before .before in let a = p15 .args in let p = p11 .loop in
+    let e = seen _ (a .directories .now) (p .i) (p7 .block-at .ensures) (p8 .wide .ensures) in
+    let t = gathering-turn (p .inv .0) (omega (arith, p10 .loop-test)) e _ (p15 .pre .1) (not-false _ (c .before .if1 .left)) (p4 .add-entries .ensures) in
     (rw (c .due .ensures) t, p4 .add-entries .kept .1 .1 .1 .0 ∙ p .inv .1)
-
-returns-2 : tie.Need-returns-2 Inv-loop μ-loop
-returns-2 c =
-    let p5 = c .before .before .before .before .before in
-    let a = p5 .args in let p = c .before .loop in
-    gathering-end (view (a .image .now)) (a .level) (a .pages) (a .directories .now) (a .out .now) (p .i) (p .at) (p .out) (p .inv .0) (omega (arith, c .loop-test))
 
 pub gather-spec : {M : Type 1} → statement M
 gather-spec = tie.close (tie.spec Inv-loop μ-loop loop-holds (λ c. omega arith) (λ c. omega arith) (λ c κs. omega arith) block-at-requires (λ c. omega arith)
-    (λ c κs. omega arith) same-length returns (λ c κs. omega arith) (λ c. omega arith) add-i loop-less loop-again (λ c. c .before .loop .inv .1) returns-2)
+    (λ c κs. omega arith) same-length returns (λ c κs. omega arith) (λ c. omega arith) add-i loop-less loop-again (λ c. c .before .loop .inv .1)
+    (λ c. gathering-end (c .before .loop .inv .0) (omega (arith, c .loop-test))))

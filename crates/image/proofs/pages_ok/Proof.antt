@@ -6,7 +6,7 @@ use Rattle.image.proofs.pages_ok.Tie as tie
 test-rows-requires : tie.Need-test-rows-requires
 test-rows-requires c κs =
     let p6 = c .before .before .before .before .before .before in
-    let p = p6 .pre in (p .0, (p .1, record { places = p .1; numbers = p .1; owners = p .1; marks = p .1 }))
+    let p = p6 .pre in record { inside = p .0; few = p .1; columns = record { places = p .1; numbers = p .1; owners = p .1; marks = p .1 } }
 
 returns : tie.Need-returns
 returns c =

@@ -14,8 +14,7 @@ abbrev μ-loop : tie.MeasureT-loop
 
 loop-holds : tie.Need-loop-holds Inv-loop μ-loop
 loop-holds c =
-    let p2 = c .before .before in
-    let a = p2 .args in (omega arith, (refl, sym (over-nil (a .out .now) (a .at))))
+    (omega arith, (refl, sym (over-nil _ _)))
 
 loop-again : tie.Need-loop-again Inv-loop μ-loop
 loop-again c =
@@ -23,8 +22,8 @@ loop-again c =
     let a = p6 .args in let p = p3 .loop in (
       omega arith,
       (
-        length-set (p .out) (a .at + p .i) (c .number .result) ∙ p .inv .1 .0,
-        ap (λ (o : List ℕ). set o (a .at + p .i) (c .number .result)) (p .inv .1 .1) ∙ put-turn (a .out .now) (a .entries .now) (a .at) (p .i) (c .number .result)
+        length-set (p .out) (a .at + p .i) _ ∙ p .inv .1 .0,
+        ap (λ (o : List ℕ). set o (a .at + p .i) (c .number .result)) (p .inv .1 .1) ∙ put-turn _ _ _ (p .i) _
             (omega arith) (omega arith) (c .number .ensures),
       ),
     )

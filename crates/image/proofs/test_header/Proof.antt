@@ -10,18 +10,15 @@ use Rattle.image.proofs.test_header.Tie as tie
 
 returns : tie.Need-returns
 returns c =
-    let p2 = c .before .before in
-    not-whole (p2 .args .image .now) (c .if1 .taken)
+    not-whole _ (c .if1 .taken)
 
 returns-2 : tie.Need-returns-2
 returns-2 c =
-    let p3 = c .before .before .before in
-    too-few (p3 .args .image .now) (c .if2 .taken)
+    too-few _ (c .if2 .taken)
 
 returns-3 : tie.Need-returns-3
 returns-3 c =
-    let p4 = c .before .before .before .before in
-    too-many (p4 .args .image .now) (c .if3 .taken)
+    too-many _ (c .if3 .taken)
 
 returns-4 : tie.Need-returns-4
 returns-4 c =
@@ -29,7 +26,7 @@ returns-4 c =
     let p10 = p9 .before in let p12 = p10 .before .before in
     let x = p12 .args .image .now in let g = p3 .h .given in
     let e = by-block x (p10 .if1 .left) (p9 .if2 .left) (p8 .if3 .left) _ (p7 .block-at .ensures) in
-    header-yes (length x / blockSize) (decodeBlock (p7 .block-at .result)) (sym (g .1) ∙ p5 .read-block .ensures)
+    header-yes (length x / blockSize) (decodeBlock _) (sym (g .1) ∙ p5 .read-block .ensures)
     (sym (c .before .head-ok .ensures) ∙ c .if4 .taken) ∙ ap headerAnswer e
 
 returns-5 : tie.Need-returns-5
@@ -38,7 +35,7 @@ returns-5 c =
     let p10 = p9 .before in let p12 = p10 .before .before in
     let x = p12 .args .image .now in let g = p3 .h .given in
     let e = by-block x (p10 .if1 .left) (p9 .if2 .left) (p8 .if3 .left) _ (p7 .block-at .ensures) in
-    header-no (length x / blockSize) (decodeBlock (p7 .block-at .result)) (sym (g .1) ∙ p5 .read-block .ensures)
+    header-no (length x / blockSize) (decodeBlock _) (sym (g .1) ∙ p5 .read-block .ensures)
     (sym (c .before .head-ok .ensures) ∙ c .if4 .left) ∙ ap headerAnswer e
 
 returns-6 : tie.Need-returns-6
@@ -46,7 +43,7 @@ returns-6 c =
     let p3 = c .before .before .before in let p4 = p3 .before in let p5 = p4 .before in let p6 = p5 .before in let p8 = p6 .before .before in
     let x = p8 .args .image .now in
     let e = by-block x (p6 .if1 .left) (p5 .if2 .left) (p4 .if3 .left) _ (p3 .block-at .ensures) in
-    other-header (length x / blockSize) (decodeBlock (p3 .block-at .result)) (no-header _ (c .before .read-block .ensures) (c .match .keys2)) ∙ ap headerAnswer e
+    other-header (length x / blockSize) (decodeBlock _) (no-header _ (c .before .read-block .ensures) (c .match .keys2)) ∙ ap headerAnswer e
 
 pub test-header-spec : {M : Type 1} → statement M
 test-header-spec = tie.close (tie.spec returns returns-2 returns-3 (λ c κs. search needs) (λ c κs. search needs) (search needs) (search needs) (λ c κs. search needs) returns-4

@@ -6,8 +6,7 @@ use Rattle.image.proofs.test_image.Tie as tie
 
 test-pages-requires : tie.Need-test-pages-requires
 test-pages-requires c κs =
-    let p3 = c .before .before .before in let p5 = p3 .before .before in
-    let g = c .before .h .given in passed-is (p5 .args .image .now) (g .0 .0) (sym (g .1) ∙ p3 .test-header .ensures)
+    let p3 = c .before .before .before in let g = c .before .h .given in passed-is _ (g .0 .0) (sym (g .1) ∙ p3 .test-header .ensures)
 
 returns : tie.Need-returns
 returns c =
@@ -25,8 +24,7 @@ returns-2 c =
 
 returns-3 : tie.Need-returns-3
 returns-3 c =
-    let p2 = c .before .before in let p4 = p2 .before .before in let p6 = p4 .before .before in
-    let g = p2 .n .given in c .refused-image2 .ensures ∙ image-refused (p6 .args .image .now) (g .0 .0) (sym (g .1) ∙ p4 .test-header .ensures)
+    let p2 = c .before .before in let p4 = p2 .before .before in let g = p2 .n .given in c .refused-image2 .ensures ∙ image-refused _ (g .0 .0) (sym (g .1) ∙ p4 .test-header .ensures)
 
 pub test-image-spec : {M : Type 1} → statement M
 test-image-spec = tie.close (tie.spec (λ c κs. search needs) (search needs) test-pages-requires (λ c κs. search needs) returns (search needs) (λ c κs. search needs) returns-2

@@ -17,27 +17,26 @@ abbrev μ-loop : tie.MeasureT-loop
 
 loop-holds : tie.Need-loop-holds Inv-loop μ-loop
 unfolding rowsIn
-loop-holds c = ap (all (isBelow (c .args .next))) (sym (tab-whole (rowAt [] (c .args .numbers .now) [] []) (c .args .count)))
+loop-holds c = ap (all (isBelow _)) (sym (tab-whole (rowAt [] _ [] []) (c .args .count)))
 
 returns : tie.Need-returns Inv-loop μ-loop
 unfolding rowAt coded isBelow number
 returns c =
     let p3 = c .before .before .before in let p4 = p3 .before in
     let s = p4 in let p = p3 .loop in
-    sym (p .inv ∙ all-not (isBelow (s .args .next)) (tab-next (rowAt [] (s .args .numbers .now) [] []) (p .i) (s .args .count) (omega arith)) (le-ltb _ _ (c .if1 .taken)))
+    sym (p .inv ∙ all-not (isBelow _) (tab-next (rowAt [] (s .args .numbers .now) [] []) (p .i) _ (omega arith)) (le-ltb _ _ (c .if1 .taken)))
 
 loop-again : tie.Need-loop-again Inv-loop μ-loop
 unfolding rowAt coded isBelow number
 loop-again c =
     let p3 = c .before .before .before in let p4 = p3 .before in
     let s = p4 in let p = p3 .loop in
-    p .inv ∙ all-yes (isBelow (s .args .next)) (tab-next (rowAt [] (s .args .numbers .now) [] []) (p .i) (s .args .count) (omega arith)) (lt-ltb _ _ (c .if1 .left))
+    p .inv ∙ all-yes (isBelow _) (tab-next (rowAt [] (s .args .numbers .now) [] []) (p .i) _ (omega arith)) (lt-ltb _ _ (c .if1 .left))
 
 returns-2 : tie.Need-returns-2 Inv-loop μ-loop
 returns-2 c =
-    let p2 = c .before .before in
-    let s = p2 in let p = c .before .loop in
-    sym (p .inv ∙ all-end (isBelow (s .args .next)) (tab-none (rowAt [] (s .args .numbers .now) [] []) (p .i) (s .args .count) (omega arith)))
+    let p = c .before .loop in
+    sym (p .inv ∙ all-end (isBelow _) (tab-none (rowAt [] _ [] []) (p .i) _ (omega arith)))
 
 pub below-spec : {M : Type 1} → statement M
 below-spec = tie.close (tie.spec Inv-loop μ-loop loop-holds (λ c. omega arith) (λ c. omega arith) returns (λ c. omega arith) (λ c. omega arith) loop-again returns-2)

@@ -6,12 +6,11 @@ use Rattle.image_rows.proofs.distinct.Statement.{statement}
 use Rattle.image_rows.proofs.distinct.Tie as tie
 
 link-all-requires : tie.Need-link-all-requires
-link-all-requires c κs = ((omega arith, empty-table _ _), (omega arith, omega arith))
+link-all-requires c κs = record { few = omega arith; rows = omega arith; linked = omega arith; empty = empty-table _ _ }
 
 returns : tie.Need-returns
 returns c =
-    let p2 = c .before .before in let p7 = p2 .before .before .before .before .before in let s = p7 .before .before .before in
-    p2 .link-all .ensures .0 ∙ keys-distinct (p7 .to-keys .last .1 .0) (s .args .s .now) (p7 .to-keys .ensures)
+    let p2 = c .before .before in let p7 = p2 .before .before .before .before .before in p2 .link-all .ensures .0 ∙ keys-distinct (p7 .to-keys .last .1 .0) _ (p7 .to-keys .ensures)
 
 pub distinct-spec : {M : Type 1} → statement M
 distinct-spec = tie.close (tie.spec (search needs) (λ c κs. search needs) (search needs) (search needs) (search needs) link-all-requires returns)

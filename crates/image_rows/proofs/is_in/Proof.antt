@@ -14,22 +14,19 @@ abbrev μ-loop : tie.MeasureT-loop
 returns : tie.Need-returns Inv-loop μ-loop
 unfolding isIn
 returns c =
-    let p3 = c .before .before .before in let p4 = p3 .before in
-    let s = p4 in let p = p3 .loop in
-    sym (p .inv ∙ any-yes (eqb (s .args .x)) (drop-turn (s .args .s .now) (p .i) (omega arith)) (eq-eqb _ _ (c .if1 .taken)))
+    let p3 = c .before .before .before in let p = p3 .loop in
+    sym (p .inv ∙ any-yes (eqb _) (drop-turn _ (p .i) (omega arith)) (eq-eqb _ _ (c .if1 .taken)))
 
 loop-again : tie.Need-loop-again Inv-loop μ-loop
 unfolding isIn
 loop-again c =
-    let p3 = c .before .before .before in let p4 = p3 .before in
-    let s = p4 in let p = p3 .loop in
-    p .inv ∙ any-not (eqb (s .args .x)) (drop-turn (s .args .s .now) (p .i) (omega arith)) (ne-eqb _ _ (c .if1 .left))
+    let p3 = c .before .before .before in let p = p3 .loop in
+    p .inv ∙ any-not (eqb _) (drop-turn _ (p .i) (omega arith)) (ne-eqb _ _ (c .if1 .left))
 
 returns-2 : tie.Need-returns-2 Inv-loop μ-loop
 unfolding isIn
 returns-2 c =
-    let p2 = c .before .before in
-    let s = p2 in let p = c .before .loop in sym (p .inv ∙ any-end (eqb (s .args .x)) (drop-end (s .args .s .now) (p .i) (omega arith)))
+    let p = c .before .loop in sym (p .inv ∙ any-end (eqb _) (drop-end _ (p .i) (omega arith)))
 
 pub is-in-spec : {M : Type 1} → statement M
 is-in-spec = tie.close (tie.spec Inv-loop μ-loop (λ c. refl) (λ c. omega arith) (λ c. omega arith) returns (λ c. omega arith) (λ c. omega arith) loop-again returns-2)

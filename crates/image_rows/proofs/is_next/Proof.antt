@@ -14,14 +14,14 @@ found : (c : lts.After-find (bucket-reads.Asked, bucket-reads.Learnt, find-reads
     let a = c .before .before .before .before .before .before .before .before .before .before .args in
     c .find .result ≡ lastBy (eqb (getD (a .owners .now) (a .i) 0 - 1)) (a .owners .now) (a .count)
 found c = let p2 = c .before .before in let s = p2 .before .before .before .before .before .before .before .before in
-    table-finds (s .pre .table) (getD (s .args .owners .now) (s .args .i) 0 - 1) (p2 .bucket .ensures .0) (c .find .ensures)
+    table-finds (s .pre .table) (getD (s .args .owners .now) _ 0 - 1) (p2 .bucket .ensures .0) (c .find .ensures)
 
 returns : tie.Need-returns
-returns c = let a = c .before .before .before .before .before .before .args in next-first (a .numbers .now) (a .owners .now) (a .count) (a .i) (omega arith)
+returns c = next-first _ _ _ _ (omega arith)
 
 returns-2 : tie.Need-returns-2
 returns-2 c =
-    let a = c .before .before .before .before .before .before .before .args in next-first (a .numbers .now) (a .owners .now) (a .count) (a .i) (c .if2 .taken)
+    next-first _ _ _ _ (c .if2 .taken)
 
 cast-find : tie.Need-cast-find
 cast-find c =
@@ -33,7 +33,7 @@ find-requires c κs = table-chain (c .before .before .before .before .before .be
 returns-3 : tie.Need-returns-3
 returns-3 c =
     let p4 = c .before .before .before .before in let a = p4 .before .before .before .before .before .before .before .args in
-    next-none (a .numbers .now) (a .owners .now) (a .count) (a .i) (p4 .if2 .left) (found (c .before)) (c .if3 .taken)
+    next-none (a .numbers .now) _ (a .count) (a .i) (p4 .if2 .left) (found (c .before)) (c .if3 .taken)
 
 mul-result : tie.Need-mul-result
 mul-result c =
@@ -48,7 +48,7 @@ shared-slice-read-result c =
 returns-4 : tie.Need-returns-4
 returns-4 c =
     let p2 = c .before .before in let p6 = p2 .before .before .before .before in let a = p6 .before .before .before .before .before .before .before .args in
-    next-found (a .numbers .now) (a .owners .now) (a .count) (a .i) (p6 .if2 .left) (found (p2 .before)) (p2 .if3 .left)
+    next-found (a .numbers .now) _ (a .count) (a .i) (p6 .if2 .left) (found (p2 .before)) (p2 .if3 .left)
 
 pub is-next-spec : {M : Type 1} → statement M
 is-next-spec = tie.close (tie.spec (search needs) (search needs) returns (search needs) returns-2 (search needs) (λ c κs. search needs) (search needs) (search needs) cast-find

@@ -12,7 +12,7 @@ abbrev μ-loop : tie.MeasureT-loop
 μ-loop keys count heads₀ links₀ i₀ heads links i = count - i
 
 loop-holds : tie.Need-loop-holds Inv-loop μ-loop
-loop-holds c = let s = c .before .before .before in (linking-start (s .args .keys .now) (s .args .count) (s .pre .0 .1), refl)
+loop-holds c = let s = c .before .before .before in (linking-start _ _ (s .pre .empty), refl)
 
 cast-find : tie.Need-cast-find Inv-loop μ-loop
 cast-find c = let p2 = c .before .before in let p = p2 .before .before .before .loop in omega (arith, table-chain (p .inv .0 .table) _ (p2 .bucket .ensures .0) .rows)
@@ -23,17 +23,17 @@ find-requires c κs = let p2 = c .before .before in let p = p2 .before .before .
 returns : tie.Need-returns Inv-loop μ-loop
 returns c =
     let p4 = c .before .before .before .before in let p7 = p4 .before .before .before in let a = p7 .before .before .before .before .args in
-    (linking-stop (a .keys .now) (a .count) (p7 .loop .inv .0) (omega arith) (p4 .bucket .ensures .0) (c .before .find .ensures) (c .if1 .taken), λ t. lie t)
+    (linking-stop _ (a .count) (p7 .loop .inv .0) (omega arith) (p4 .bucket .ensures .0) (c .before .find .ensures) (c .if1 .taken), λ t. lie t)
 
 loop-again : tie.Need-loop-again Inv-loop μ-loop
 loop-again c =
     let p4 = c .before .before .before .before in let p7 = p4 .before .before .before in let a = p7 .before .before .before .before .args in
-    let f = linking-turn (a .keys .now) (a .count) (p7 .loop .inv .0) (omega arith) (p4 .bucket .ensures .0) (c .before .find .ensures) (c .if1 .left) in
+    let f = linking-turn _ (a .count) (p7 .loop .inv .0) (omega arith) (p4 .bucket .ensures .0) (c .before .find .ensures) (c .if1 .left) in
     (f (omega arith) (omega arith), simp length-set (p7 .loop .inv .1))
 
 returns-2 : tie.Need-returns-2 Inv-loop μ-loop
 returns-2 c =
-    let a = c .before .before .before .before .before .args in linking-end (a .keys .now) (a .count) (c .before .loop .inv .0) (omega arith)
+    linking-end _ _ (c .before .loop .inv .0) (omega arith)
 
 pub link-all-spec : {M : Type 1} → statement M
 link-all-spec = tie.close (tie.spec Inv-loop μ-loop loop-holds (λ c. omega arith) (λ c. omega arith) (λ c κs. omega arith) (λ c. omega arith) (λ c. omega arith) cast-find

@@ -19,24 +19,20 @@ abbrev μ-loop : tie.MeasureT-loop
 
 returns : tie.Need-returns Inv-loop μ-loop
 returns c =
-    let p5 = c .before .before .before .before .before in
-    let a = p5 .args in sym (rising-none (a .places .now) (a .numbers .now) (a .owners .now) (a .marks .now) (a .count) (c .if1 .taken))
+    sym (rising-none _ _ _ _ _ (c .if1 .taken))
 
 returns-2 : tie.Need-returns-2 Inv-loop μ-loop
 returns-2 c =
-    let p7 = c .before .before .before .before .before .before .before in
-    let a = p7 .args in sym (rising-marked (a .places .now) (a .numbers .now) (a .owners .now) (a .marks .now) (a .count) (omega arith) (c .if2 .taken))
+    sym (rising-marked _ _ _ _ _ (omega arith) (c .if2 .taken))
 
 loop-holds : tie.Need-loop-holds Inv-loop μ-loop
 loop-holds c =
-    let p7 = c .before .before .before .before .before .before .before in
-    let a = p7 .args in (omega arith, (omega arith, rising-first (a .places .now) (a .numbers .now) (a .owners .now) (a .marks .now) (a .count) (omega arith) (c .if2 .left)))
+    (omega arith, (omega arith, rising-first _ _ _ _ _ (omega arith) (c .if2 .left)))
 
 returns-3 : tie.Need-returns-3 Inv-loop μ-loop
 returns-3 c =
-    let p9 = c .before .before .before .before .before .before .before .before .before in let p10 = p9 .before in let p18 = p10 .before .before .before .before .before .before .before .before in
-    let a = p18 .args in let p = p10 .loop in
-    rising-stop (a .places .now) (a .numbers .now) (a .owners .now) (a .marks .now) (p .i) (a .count) (p .inv .0) (omega (arith, p9 .loop-test)) (p .inv .1 .1)
+    let p9 = c .before .before .before .before .before .before .before .before .before in let p10 = p9 .before in let p = p10 .loop in
+    rising-stop _ _ _ _ (p .i) _ (p .inv .0) (omega (arith, p9 .loop-test)) (p .inv .1 .1)
     (c .before .follows .ensures) (c .if3 .taken)
 
 loop-less : tie.Need-loop-less Inv-loop μ-loop
@@ -44,17 +40,15 @@ loop-less c = omega (arith, c .before .before .before .before .before .before .b
 
 loop-again : tie.Need-loop-again Inv-loop μ-loop
 loop-again c =
-    let p9 = c .before .before .before .before .before .before .before .before .before in let p10 = p9 .before in let p18 = p10 .before .before .before .before .before .before .before .before in
-    let a = p18 .args in let p = p10 .loop in
-    let t = rising-turn (a .places .now) (a .numbers .now) (a .owners .now) (a .marks .now) (p .i) (a .count) (p .inv .0) (omega (arith, p9 .loop-test)) (p .inv .1 .1)
+    let p9 = c .before .before .before .before .before .before .before .before .before in let p10 = p9 .before in let p = p10 .loop in
+    let t = rising-turn _ _ _ _ (p .i) _ (p .inv .0) (omega (arith, p9 .loop-test)) (p .inv .1 .1)
     (c .before .follows .ensures) (c .if3 .left) in
     (omega arith, (omega (arith, p9 .loop-test), t))
 
 returns-4 : tie.Need-returns-4 Inv-loop μ-loop
 returns-4 c =
-    let p9 = c .before .before .before .before .before .before .before .before .before in
-    let a = p9 .args in let p = c .before .loop in
-    sym (p .inv .1 .1 ∙ pair-end follows (rowAt (a .places .now) (a .numbers .now) (a .owners .now) (a .marks .now)) (p .i) (a .count) (p .inv .0) (omega arith))
+    let p = c .before .loop in
+    sym (p .inv .1 .1 ∙ pair-end follows (rowAt _ _ _ _) (p .i) _ (p .inv .0) (omega arith))
 
 pub rising-spec : {M : Type 1} → statement M
 rising-spec = tie.close (tie.spec Inv-loop μ-loop returns (λ c. omega arith) returns-2 loop-holds (λ c. omega arith) (λ c. omega arith) (λ c. omega arith) (λ c. omega arith)

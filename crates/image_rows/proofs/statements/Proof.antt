@@ -6,12 +6,12 @@ use Rattle.image_rows.proofs.statements.Statement.{statement}
 use Rattle.image_rows.proofs.statements.Tie as tie
 
 link-all-requires : tie.Need-link-all-requires
-link-all-requires c κs = ((omega arith, empty-table _ _), (omega arith, omega arith))
+link-all-requires c κs = record { few = omega arith; rows = omega arith; linked = omega arith; empty = empty-table _ _ }
 
 returns : tie.Need-returns
 returns c =
     let p3 = c .before .before .before in let s = p3 .before .before .before .before .before in let a = s .args in
-    sym (sym (statements-tests (a .owners .now) (a .numbers .now) (a .count) (s .pre .0 .numbers) (s .pre .1))
+    sym (sym (statements-tests _ _ (a .count) (s .pre .0 .numbers) (s .pre .1))
     ∙ rw (sym (p3 .link-all .ensures .0) ∙ not-true _ (c .if1 .taken)))
 
 statements-rise-requires : tie.Need-statements-rise-requires
@@ -22,7 +22,7 @@ statements-rise-requires c κs =
 returns-2 : tie.Need-returns-2
 returns-2 c =
     let p3 = c .before .before .before in let p6 = p3 .before .before .before in let s = p6 .before .before .before .before .before in let a = s .args in
-    c .statements-rise .ensures ∙ sym (sym (statements-tests (a .owners .now) (a .numbers .now) (a .count) (s .pre .0 .numbers) (s .pre .1))
+    c .statements-rise .ensures ∙ sym (sym (statements-tests _ _ (a .count) (s .pre .0 .numbers) (s .pre .1))
     ∙ rw (sym (p6 .link-all .ensures .0) ∙ not-false _ (p3 .if1 .left)))
 
 pub statements-spec : {M : Type 1} → statement M

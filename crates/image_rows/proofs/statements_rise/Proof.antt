@@ -16,7 +16,7 @@ abbrev μ-loop : tie.MeasureT-loop
 
 loop-holds : tie.Need-loop-holds Inv-loop μ-loop
 unfolding statementsRise
-loop-holds c = let a = c .before .before .before .before .args in ap (all (isNext (a .numbers .now) (a .owners .now) (a .count))) (sym (tab-whole (λ j. j) (a .count)))
+loop-holds c = let a = c .before .before .before .before .args in ap (all (isNext _ _ _)) (sym (tab-whole (λ j. j) (a .count)))
 
 is-next-requires : tie.Need-is-next-requires Inv-loop μ-loop
 is-next-requires c κs = record { inside = omega arith; numbers = omega arith; table = c .before .before .before .before .before .before .pre .1 }
@@ -24,15 +24,15 @@ is-next-requires c κs = record { inside = omega arith; numbers = omega arith; t
 returns : tie.Need-returns Inv-loop μ-loop
 returns c = let p = c .before .before .before .loop in let a = c .before .before .before .before .before .before .before .before .args in
     let t = tab-next (λ j. j) (p .i) (a .count) (omega arith) in
-    sym (p .inv ∙ all-not (isNext (a .numbers .now) (a .owners .now) (a .count)) t (sym (c .before .is-next .ensures) ∙ not-true _ (c .if1 .taken)))
+    sym (p .inv ∙ all-not (isNext _ _ (a .count)) t (sym (c .before .is-next .ensures) ∙ not-true _ (c .if1 .taken)))
 
 loop-again : tie.Need-loop-again Inv-loop μ-loop
 loop-again c = let p = c .before .before .before .loop in let a = c .before .before .before .before .before .before .before .before .args in
-    p .inv ∙ all-yes (isNext (a .numbers .now) (a .owners .now) (a .count)) (tab-next (λ j. j) (p .i) (a .count) (omega arith)) (sym (c .before .is-next .ensures) ∙ not-false _ (c .if1 .left))
+    p .inv ∙ all-yes (isNext _ _ (a .count)) (tab-next (λ j. j) _ (a .count) (omega arith)) (sym (c .before .is-next .ensures) ∙ not-false _ (c .if1 .left))
 
 returns-2 : tie.Need-returns-2 Inv-loop μ-loop
 returns-2 c = let p = c .before .loop in let a = c .before .before .before .before .before .before .args in
-    sym (p .inv ∙ all-end (isNext (a .numbers .now) (a .owners .now) (a .count)) (tab-none (λ j. j) (p .i) (a .count) (omega arith)))
+    sym (p .inv ∙ all-end (isNext _ _ (a .count)) (tab-none (λ j. j) _ (a .count) (omega arith)))
 
 pub statements-rise-spec : {M : Type 1} → statement M
 statements-rise-spec = tie.close (tie.spec Inv-loop μ-loop loop-holds is-next-requires returns (λ c. omega arith) (λ c. omega arith) loop-again returns-2)

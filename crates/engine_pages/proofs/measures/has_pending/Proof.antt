@@ -3,7 +3,8 @@ use Rattle.basics.proofs.Kit.{ap, _∙_, _-_, arith}
 use Rattle.memory_bytes.proofs.Scans.{AnyFrom, any-starts, any-next, any-ends}
 use Rattle.memory_layout.specs.Flat.{flatOf, rowIn}
 use Rattle.engine_pages.proofs.Sizes.{rows-by}
-use Rattle.engine_pages.proofs.Places.{few-pages, few-rows, room, start-there, next-there, page-span, tuples-are}
+use Rattle.engine_pages.proofs.Places.{room, start-there, next-there, page-span, tuples-are}
+use Rattle.memory_layout.proofs.Laws.{sizes}
 use Rattle.engine_pages.specs.Pending.{hasPending}
 use Rattle.memory_layout.specs.Elements.{RowRange}
 use Rattle.basics.specs.Basics.{any}
@@ -17,7 +18,7 @@ abbrev μ-loop : tie.MeasureT-loop
 μ-loop m p e hit₀ i₀ hit i = e - i
 
 add-start-of : tie.Need-add-start-of Inv-loop μ-loop
-add-start-of c = let a = c .before .pre in omega (arith, a .inside, few-pages (room a))
+add-start-of c = let a = c .before .pre in omega (arith, a .inside, sizes (room a) .pages)
 
 -- the rows of the page
 spanned : (c : tie.After-start-of2 Inv-loop μ-loop) → RowRange (c .before .before .before .args .m .now) (c .start-of2 .result) (c .before .start-of .result)
@@ -27,7 +28,7 @@ is-pending-requires : tie.Need-is-pending-requires Inv-loop μ-loop
 is-pending-requires c κs = let g = spanned (c .before .before) in (g .room, omega (arith, g .inside, c .loop-test .taken))
 
 add-i : tie.Need-add-i Inv-loop μ-loop
-add-i c = let g = spanned (c .before .before .before) in omega (arith, c .before .loop-test .taken, g .inside, few-rows (g .room))
+add-i c = let g = spanned (c .before .before .before) in omega (arith, c .before .loop-test .taken, g .inside, sizes (g .room) .rows)
 
 returns : tie.Need-returns Inv-loop μ-loop
 returns c = let s = c .before .before in

@@ -2,8 +2,9 @@
 use Rattle.basics.proofs.Kit.{_≡_, refl, sym, ap, _∙_, Bool, _&&_, _≤_, _-_, arith}
 use Rattle.basics.proofs.Ands.{and-yes}
 use Rattle.basics.specs.Basics.{all, from}
+use Rattle.basics.proofs.Froms.{all-end}
 use Rattle.memory_layout.specs.Store.{tablesRise}
-use Rattle.memory_layout.proofs.Refusal.{endRises, tables-turn, all-end}
+use Rattle.memory_layout.proofs.Refusal.{endRises, tables-turn}
 use Rattle.memory_layout.proofs.ranges.tables_rise.Statement.{statement}
 use Rattle.memory_layout.proofs.ranges.tables_rise.Tie as tie
 
