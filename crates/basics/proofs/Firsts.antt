@@ -26,9 +26,9 @@ module _ {A : Type 0} (f : A → Bool) where
   first-skip (x ∷ xs) ys e =
       by (f x) (λ h. never (sym e ∙ first-hit x xs h)) (λ h. first-past x (xs ++ ys) h ∙ first-skip xs ys (sym (first-past x xs h) ∙ e))
 
-pub from-turn : (b n : ℕ) → b < n → from b (n - b) ≡ b ∷ from (b + 1) (n - (b + 1))
+pub from-iteration : (b n : ℕ) → b < n → from b (n - b) ≡ b ∷ from (b + 1) (n - (b + 1))
 unfolding from
-from-turn b n h =
+from-iteration b n h =
     let e : n - b ≡ suc (n - (b + 1)) = omega arith in
     ap (from b) e ∙ ap (λ (z : ℕ). b ∷ from z (n - (b + 1))) (sym (add-one b))
 

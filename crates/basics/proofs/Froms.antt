@@ -5,7 +5,7 @@ use Rattle.basics.specs.Lists.{tab}
 use Rattle.basics.proofs.Ands.{and-yes, and-assoc}
 use Rattle.basics.proofs.Facts.{by}
 use Rattle.basics.proofs.Searches.{tab-all, all-tab, from-tab}
-use Rattle.basics.proofs.Firsts.{from-turn, from-end}
+use Rattle.basics.proofs.Firsts.{from-iteration, from-end}
 use Rattle.basics.proofs.Members.{pigeon}
 
 -- a test of numbers in a row, number by number
@@ -17,9 +17,9 @@ module _ (f : ℕ → Bool) where
   from-all n h = ap (all f) (from-tab 0 n) ∙ all-tab f (λ j. j) 0 n (λ k p q. h k (omega arith))
 
   -- turn by turn
-  pub all-turn : (t n : ℕ) → t < n → all f (from t (n - t)) ≡ (f t && all f (from (t + 1) (n - (t + 1))))
+  pub all-iteration : (t n : ℕ) → t < n → all f (from t (n - t)) ≡ (f t && all f (from (t + 1) (n - (t + 1))))
   unfolding all
-  all-turn t n h = ap (all f) (from-turn t n h)
+  all-iteration t n h = ap (all f) (from-iteration t n h)
 
   pub all-end : (t n : ℕ) → n ≤ t → all f (from t (n - t)) ≡ true
   unfolding all
@@ -53,8 +53,8 @@ unfolding howMany if_then_else_
 many-cons f x xs = by (f x) (λ e. rw e (omega arith)) (λ e. rw e (omega arith))
 
 module _ (f : ℕ → Bool) (b n : ℕ) where
-  pub tally-turn : b < n → howMany f (from b (n - b)) ≡ oneIf (f b) + howMany f (from (b + 1) (n - (b + 1)))
-  tally-turn h = ap (howMany f) (from-turn b n h) ∙ many-cons f b (from (b + 1) (n - (b + 1)))
+  pub tally-iteration : b < n → howMany f (from b (n - b)) ≡ oneIf (f b) + howMany f (from (b + 1) (n - (b + 1)))
+  tally-iteration h = ap (howMany f) (from-iteration b n h) ∙ many-cons f b (from (b + 1) (n - (b + 1)))
 
   pub tally-end : n ≤ b → howMany f (from b (n - b)) ≡ 0
   unfolding howMany

@@ -6,8 +6,8 @@ use Rattle.basics.proofs.Searches.{tab-next}
 
 -- ---- heads
 
-pub drop-turn : (s : List ℕ) (i : ℕ) → i < length s → drop i s ≡ getD s i 0 ∷ drop (i + 1) s
-drop-turn s i h = rw (add-one i) (drop-cons s i 0 h)
+pub drop-iteration : (s : List ℕ) (i : ℕ) → i < length s → drop i s ≡ getD s i 0 ∷ drop (i + 1) s
+drop-iteration s i h = rw (add-one i) (drop-cons s i 0 h)
 
 pub drop-end : (s : List ℕ) (i : ℕ) → length s ≤ i → drop i s ≡ []
 drop-end s i h = drop-of-length-le s h
@@ -74,8 +74,8 @@ module _ {A : Type 0} (f : A → A → Bool) (g : ℕ → A) (i n : ℕ) (low : 
       let e : i - 1 + 1 ≡ i = omega arith in
       tab-next g (i - 1) n (omega arith) ∙ rw e (ap (λ (l : List A). g (i - 1) ∷ l) (tab-next g i n h))
 
-  pub pair-turn : i < n → f (g (i - 1)) (g i) ≡ true → paired f (tab g (i - 1) (n - (i - 1))) ≡ paired f (tab g i (n - i))
-  pair-turn h t = pair-yes f (two h) t ∙ ap (paired f) (sym (tab-next g i n h))
+  pub pair-iteration : i < n → f (g (i - 1)) (g i) ≡ true → paired f (tab g (i - 1) (n - (i - 1))) ≡ paired f (tab g i (n - i))
+  pair-iteration h t = pair-yes f (two h) t ∙ ap (paired f) (sym (tab-next g i n h))
 
   pub pair-stop : i < n → f (g (i - 1)) (g i) ≡ false → paired f (tab g (i - 1) (n - (i - 1))) ≡ false
   pair-stop h t = pair-not f (two h) t

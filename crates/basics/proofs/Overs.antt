@@ -75,9 +75,9 @@ put-four m at a b c d h =
       set-next m (a ∷ b ∷ c ∷ []) at 3 d refl (omega arith),
     )
 
-pub copy-turn : (m s : List ℕ) (at start i : ℕ) → at + i < length m → start + i < length s
+pub copy-iteration : (m s : List ℕ) (at start i : ℕ) → at + i < length m → start + i < length s
     → set (over m at (take i (drop start s))) (at + i) (getD s (start + i) 0) ≡ over m at (take (i + 1) (drop start s))
-copy-turn m s at start i h k =
+copy-iteration m s at start i h k =
     let d : i < length (drop start s) = rw (length-drop start s) (omega arith) in
     let l : length (take i (drop start s)) ≡ i = simp length-take (omega arith) in
     rw (← getD-drop start s i 0, set-next m (take i (drop start s)) at i (getD (drop start s) i 0) (sym l) (omega arith), add-one i)
@@ -99,8 +99,8 @@ pub length-part : (n k : ℕ) (s : List ℕ) → k + n ≤ length s → length (
 length-part n k s h = simp (length-take, length-drop) (omega arith)
 
 -- one entry more
-pub put-turn : (m s : List ℕ) (at i v : ℕ) → at + i < length m → i < length s → v ≡ getD s i 0
+pub put-iteration : (m s : List ℕ) (at i v : ℕ) → at + i < length m → i < length s → v ≡ getD s i 0
     → set (over m at (take i s)) (at + i) v ≡ over m at (take (i + 1) s)
-put-turn m s at i v hm hs e =
+put-iteration m s at i v hm hs e =
     let l : i ≡ length (take i s) = simp length-take (omega arith) in
     set-next m (take i s) at i v l (omega arith) ∙ ap (over m at) (rw (e, add-one i) (sym (take-suc s i 0 hs)))

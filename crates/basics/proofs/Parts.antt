@@ -139,9 +139,9 @@ last-set [] x y = refl
 last-set (z ∷ xs) x y = ap (λ (l : List _). z ∷ l) (last-set xs x y)
 
 -- one element more of a part of ns
-pub entries-turn : (ns out : List ℕ) (first i v : ℕ) → i < length out → first + i < length ns → v ≡ getD ns (first + i) 0
+pub entries-iteration : (ns out : List ℕ) (first i v : ℕ) → i < length out → first + i < length ns → v ≡ getD ns (first + i) 0
     → take i out ≡ take i (drop first ns) → take (i + 1) (set out i v) ≡ take (i + 1) (drop first ns)
-entries-turn ns out first i v h k e t =
+entries-iteration ns out first i v h k e t =
     let l : i < length (drop first ns) = simp length-drop (omega arith) in
     let x : v ≡ getD (drop first ns) i 0 = e ∙ sym (getD-drop first ns i 0) in
     rw (add-one i, take-suc-set out i v h, t, x) (sym (take-suc (drop first ns) i 0 l))

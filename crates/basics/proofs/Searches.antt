@@ -93,9 +93,9 @@ module _ {A : Type 0} (f : A → Bool) where
 
 module _ {A : Type 0} (f : A → Bool) (g : ℕ → A) (i n : ℕ) where
   -- one more was tested
-  pub any-turn : i < n → (hit : Bool) {w : Bool} {r : A} → w ≡ (hit || any f (tab g i (n - i))) → r ≡ g i
+  pub any-iteration : i < n → (hit : Bool) {w : Bool} {r : A} → w ≡ (hit || any f (tab g i (n - i))) → r ≡ g i
       → w ≡ ((hit || f r) || any f (tab g (i + 1) (n - (i + 1))))
-  any-turn h hit {w} {r} p e =
+  any-iteration h hit {w} {r} p e =
       let rest : Bool = any f (tab g (i + 1) (n - (i + 1))) in
       p
       ∙ ap (λ (z : List A). hit || any f z) (tab-next g i n h)
@@ -178,8 +178,8 @@ one-most false e = omega arith
 -- ---- a count: w is the answer, k of those below i pass
 
 module _ {A : Type 0} (f : A → Bool) (g : ℕ → A) (i n k : ℕ) {w : ℕ} (p : w ≡ k + howMany f (tab g i (n - i))) where
-  pub count-turn : {r : A} {v : ℕ} → i < n → r ≡ g i → v ≡ cond (f r) 1 0 → w ≡ k + v + howMany f (tab g (i + 1) (n - (i + 1)))
-  count-turn {r} {v} h e q =
+  pub count-iteration : {r : A} {v : ℕ} → i < n → r ≡ g i → v ≡ cond (f r) 1 0 → w ≡ k + v + howMany f (tab g (i + 1) (n - (i + 1)))
+  count-iteration {r} {v} h e q =
       let rest : List A = tab g (i + 1) (n - (i + 1)) in
       let z : howMany f (tab g i (n - i)) ≡ cond (f (g i)) 1 0 + howMany f rest =
       ap (howMany f) (tab-next g i n h) ∙ count-cons f (g i) rest in
@@ -193,9 +193,9 @@ module _ {A : Type 0} (f : A → Bool) (g : ℕ → A) (i n k : ℕ) {w : ℕ} (
 -- ---- neighbours: w is the answer, ok that of the pairs below i
 
 module _ {A : Type 0} (f : A → A → Bool) (g : ℕ → A) (i n : ℕ) (ok : Bool) {w : Bool} (p : w ≡ (ok && paired f (tab g i (n - i + 1)))) where
-  pub paired-turn : {x y : A} → i < n → x ≡ g i → y ≡ g (i + 1) → w ≡ ((ok && f x y) && paired f (tab g (i + 1) (n - (i + 1) + 1)))
+  pub paired-iteration : {x y : A} → i < n → x ≡ g i → y ≡ g (i + 1) → w ≡ ((ok && f x y) && paired f (tab g (i + 1) (n - (i + 1) + 1)))
   unfolding paired
-  paired-turn {x} {y} h e1 e2 =
+  paired-iteration {x} {y} h e1 e2 =
       let q : n - i + 1 ≡ suc (suc (n - (i + 1))) = omega arith in
       let q2 : n - (i + 1) + 1 ≡ suc (n - (i + 1)) = omega arith in
       let q3 : suc i ≡ i + 1 = omega arith in

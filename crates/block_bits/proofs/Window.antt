@@ -12,9 +12,9 @@ next i = omega arith
 
 -- ---- a turn of the load
 
-pub load-turn : (s : List ℕ) (p i acc : ℕ) → p + i < length s → getD s (p + i) 0 < 256 → acc ≡ field (bitsIn s) (8 * p) (8 * i)
+pub load-iteration : (s : List ℕ) (p i acc : ℕ) → p + i < length s → getD s (p + i) 0 < 256 → acc ≡ field (bitsIn s) (8 * p) (8 * i)
     → acc * 256 + getD s (p + i) 0 ≡ field (bitsIn s) (8 * p) (8 * (i + 1))
-load-turn s p i acc h l a =
+load-iteration s p i acc h l a =
     let f : 8 * (p + i) ≡ 8 * p + 8 * i = omega arith in
     rw (a, ← next i, field-add s (8 * p) (8 * i) 8 (omega arith)) (ap (λ (b : ℕ). field (bitsIn s) (8 * p) (8 * i) * 256 + b) (rw f at (byte-field s (p + i) h l)))
 
@@ -26,23 +26,23 @@ load-fits i acc b k h l = lt-of-lt-of-le (load-lt i acc b h l) (pow-mono {j = 64
 
 -- ---- a turn of the store
 
-bits-turn : (n i x : ℕ) → i < n → bitsOf (8 * (i + 1)) (x / 2 ^ (8 * n - 8 * (i + 1))) ≡ bitsOf (8 * i) (x / 2 ^ (8 * n - 8 * i)) ++ bitsOf 8 (x / 2 ^ (8 * n - 8 * i - 8))
-bits-turn n i x h =
+bits-iteration : (n i x : ℕ) → i < n → bitsOf (8 * (i + 1)) (x / 2 ^ (8 * n - 8 * (i + 1))) ≡ bitsOf (8 * i) (x / 2 ^ (8 * n - 8 * i)) ++ bitsOf 8 (x / 2 ^ (8 * n - 8 * i - 8))
+bits-iteration n i x h =
     let e : 8 * n - 8 * (i + 1) ≡ 8 * n - 8 * i - 8 = omega arith in
     let f : 8 * n - 8 * i - 8 + 8 ≡ 8 * n - 8 * i = omega arith in
     rw (e, ← next i, bitsOf-add (8 * i) 8 (x / 2 ^ (8 * n - 8 * i - 8)), shr-shr x (8 * n - 8 * i - 8) 8, f)
 
-pub store-turn : (s d : List ℕ) (p n i x b : ℕ) → i < n → p + n ≤ length s → length d ≡ length s
+pub store-iteration : (s d : List ℕ) (p n i x b : ℕ) → i < n → p + n ≤ length s → length d ≡ length s
     → bitsIn d ≡ over (bitsIn s) (8 * p) (bitsOf (8 * i) (x / 2 ^ (8 * n - 8 * i))) → b ≡ x / 2 ^ (8 * n - 8 * i - 8) % 256
     → bitsIn (set d (p + i) b) ≡ over (bitsIn s) (8 * p) (bitsOf (8 * (i + 1)) (x / 2 ^ (8 * n - 8 * (i + 1))))
-store-turn s d p n i x b h l e inv eb =
+store-iteration s d p n i x b h l e inv eb =
     let y : ℕ = x / 2 ^ (8 * n - 8 * i - 8) in
     let xs : List ℕ = bitsOf (8 * i) (x / 2 ^ (8 * n - 8 * i)) in
     let lx : length xs ≡ 8 * i = length-bitsOf (8 * i) (x / 2 ^ (8 * n - 8 * i)) in
     let lB : length (bitsIn s) ≡ 8 * length s = length-bitsIn s in
     let f : 8 * (p + i) ≡ 8 * p + length xs = omega arith in
     byte-over d (p + i) y b (omega arith) eb ∙ rw (inv, f) (over-over (bitsIn s) xs (bitsOf 8 y) (8 * p) (omega arith))
-    ∙ ap (over (bitsIn s) (8 * p)) (sym (bits-turn n i x h))
+    ∙ ap (over (bitsIn s) (8 * p)) (sym (bits-iteration n i x h))
 
 pub store-end : (B : List ℕ) (p n i x : ℕ) → i ≤ n → n ≤ i → over B (8 * p) (bitsOf (8 * i) (x / 2 ^ (8 * n - 8 * i))) ≡ over B (8 * p) (bitsOf (8 * n) x)
 store-end B p n i x a b =

@@ -35,8 +35,8 @@ module _ {xs copy : List ℕ} {t l n b at i : ℕ} (k : length xs ≡ blockSize)
   pub again-length : length copy ≡ blockSize
   again-length = ap length (a .made) ∙ part-length t l n b (a .done) (omega (arith, a .place, a .passed .room))
 
-  pub again-turn : i < n → {r : Record} {c : Cursor} → Found-is xs at r c → {copy′ : List ℕ} {at′ : ℕ} → Appended copy copy′ at r xs at′ → Again xs copy′ t l n b at′ (i + 1)
-  again-turn h {r} {c} g {at′ = at′} put =
+  pub again-iteration : i < n → {r : Record} {c : Cursor} → Found-is xs at r c → {copy′ : List ℕ} {at′ : ℕ} → Appended copy copy′ at r xs at′ → Again xs copy′ t l n b at′ (i + 1)
+  again-iteration h {r} {c} g {at′ = at′} put =
       let q : at′ ≡ c .at = omega (arith, put .place, g .takes, g .next) in
       record {
         done = a .done ++ (tupleOf r (payloadIn xs r) ∷ []);
@@ -50,7 +50,7 @@ module _ {xs copy : List ℕ} {t l n b at i : ℕ} (k : length xs ≡ blockSize)
     again-end = passed-end (a .passed) h
 
     again-count : length (a .done) ≡ n
-    again-count = omega (arith, a .passed .count, a .passed .turn)
+    again-count = omega (arith, a .passed .count, a .passed .most)
 
     module _ (bytes : AllBytes xs) (et : t ≡ field (bitsIn xs) 4 3) (el : l ≡ field (bitsIn xs) 22 32) where
       fit : PageFits t l (a .done)

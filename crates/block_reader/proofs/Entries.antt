@@ -10,6 +10,6 @@ entries-snoc xs at (suc n) =
     let e : at + 12 + 12 * n ≡ at + 12 * suc n = omega arith in
     ap (λ (l : List ℕ). field (bitsIn xs) at 12 ∷ l) (entries-snoc xs (at + 12) n ∙ ap (λ (k : ℕ). readEntries xs (at + 12) n ++ (field (bitsIn xs) k 12 ∷ [])) e)
 
-pub entries-turn : (xs out : List ℕ) (i v : ℕ) → i < length out → take i out ≡ readEntries xs 64 i → v ≡ field (bitsIn xs) (64 + 12 * i) 12
+pub entries-iteration : (xs out : List ℕ) (i v : ℕ) → i < length out → take i out ≡ readEntries xs 64 i → v ≡ field (bitsIn xs) (64 + 12 * i) 12
     → take (i + 1) (set out i v) ≡ readEntries xs 64 (i + 1)
-entries-turn xs out i v h e q = rw (add-one i, take-suc-set out i v h, e, q) (sym (entries-snoc xs 64 i))
+entries-iteration xs out i v h e q = rw (add-one i, take-suc-set out i v h, e, q) (sym (entries-snoc xs 64 i))

@@ -5,9 +5,9 @@ use Rattle.basics.proofs.Ands.{and-yes, and-assoc}
 
 -- what is known of the two lists so far, and what is left to compare
 module _ (a b : List ℕ) (i : ℕ) (ok : Bool) (known : same a b ≡ (ok && same (drop i a) (drop i b))) where
-  pub same-turn : i < length a → i < length b → same a b ≡ ((ok && eqb (getD a i 0) (getD b i 0)) && same (drop (i + 1) a) (drop (i + 1) b))
+  pub same-iteration : i < length a → i < length b → same a b ≡ ((ok && eqb (getD a i 0) (getD b i 0)) && same (drop (i + 1) a) (drop (i + 1) b))
   unfolding same
-  same-turn ha hb =
+  same-iteration ha hb =
       let e : same (drop i a) (drop i b) ≡ (eqb (getD a i 0) (getD b i 0) && same (drop (i + 1) a) (drop (i + 1) b)) =
       rw (drop-cons a i 0 ha, drop-cons b i 0 hb, add-one i) in
       known ∙ ap (λ (z : Bool). ok && z) e ∙ sym (and-assoc ok (eqb (getD a i 0) (getD b i 0)) (same (drop (i + 1) a) (drop (i + 1) b)))

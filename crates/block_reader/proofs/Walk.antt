@@ -26,7 +26,7 @@ read-count (suc n) xs ts e = let s = split n xs ts e in ap length (s .is) ∙ ap
 
 -- i of n tuples are read, those of done, and the cursor is at at
 pub record Passed (xs : List ℕ) (n at i : ℕ) (done : List Tuple) : Type 0 where
-  pub turn : i ≤ n
+  pub most : i ≤ n
   pub room : at ≤ length xs
   pub count : length done ≡ i
   pub rest : pageTuples n xs ≡ Option·map (λ ts. done ++ ts) (readTuples (n - i) (drop at xs))
@@ -34,7 +34,7 @@ pub record Passed (xs : List ℕ) (n at i : ℕ) (done : List Tuple) : Type 0 wh
 pub passed-start : (xs : List ℕ) (n : ℕ) → length xs ≡ blockSize → Passed xs n pageHeadSize 0 []
 passed-start xs n k =
     let z : n - 0 ≡ n = omega arith in
-    record { turn = omega arith; room = omega arith; count = refl; rest = rw z (sym (behind-none (pageTuples n xs))) }
+    record { most = omega arith; room = omega arith; count = refl; rest = rw z (sym (behind-none (pageTuples n xs))) }
 
 module _ {xs : List ℕ} {n at i : ℕ} {done : List Tuple} (p : Passed xs n at i done) where
   -- a record is missing
@@ -53,7 +53,7 @@ module _ {xs : List ℕ} {n at i : ℕ} {done : List Tuple} (p : Passed xs n at 
       let next : pageTuples n xs ≡ Option·map (λ ts. (done ++ (readTuple (drop at xs) ∷ [])) ++ ts) (readTuples (n - (i + 1)) (drop (at + recordLength (drop at xs)) xs)) =
       p .rest ∙ rw (e, f .is-whole, behind-two done (x ∷ []) (readTuples (n - (i + 1)) (drop (recordLength (drop at xs)) (drop at xs))), drop-drop (recordLength (drop at xs)) at xs) in
       record {
-        turn = omega arith;
+        most = omega arith;
         room = f .ends;
         count = length-append done (tupleOf r (payloadIn xs r) ∷ []) ∙ omega (arith, p .count);
         rest = rw (f .tuple, f .next) next;
@@ -62,7 +62,7 @@ module _ {xs : List ℕ} {n at i : ℕ} {done : List Tuple} (p : Passed xs n at 
   pub passed-end : n ≤ i → pageTuples n xs ≡ some done
   unfolding readTuples
   passed-end h =
-      let u = p .turn in
+      let u = p .most in
       let e : n - i ≡ 0 = omega arith in
       p .rest ∙ rw e (ap some (append-nil done))
 

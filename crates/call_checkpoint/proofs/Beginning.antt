@@ -60,9 +60,9 @@ module _ {m m' : List ℕ} {n p : ℕ} (c : Naming m m' n p) where
     pub naming-low : {b : ℕ} → b ≡ entryIn (flatOf m') p .block → b < blockLimit
     naming-low e = omega (arith, entry-block m' p (omega (arith, entries-length m', naming-in)))
 
-    pub naming-turn : {b : ℕ} → b ≡ entryIn (flatOf m') p .block → {m2 : List ℕ} → Becomes m' m2 (withNamed (flatOf m') (flatOf m' .named ++ b ∷ []))
+    pub naming-iteration : {b : ℕ} → b ≡ entryIn (flatOf m') p .block → {m2 : List ℕ} → Becomes m' m2 (withNamed (flatOf m') (flatOf m' .named ++ b ∷ []))
         → Naming m m2 n (p + 1)
-    naming-turn {b} q u =
+    naming-iteration {b} q u =
         let es : List Entry = flatOf m .entries in
         let q2 : b ≡ getD es p noEntry .block = q ∙ ap (λ (f : Flat). getD (f .entries) p noEntry .block) flat-is in
         let k : take (p + 1) es ≡ take p es ++ getD es p noEntry ∷ [] = ap (λ (z : ℕ). take z es) (add-one p) ∙ take-suc es p noEntry (omega (arith, c .whole)) in

@@ -4,7 +4,7 @@ use Rattle.basics.proofs.Kit.{_≡_, refl, sym, ap, _∙_, subst, fun-ext, Bool
 use Rattle.basics.proofs.Kit.{getD, set, length-append, drop-of-length-le, List·getD-append, getD-append-add, eqb-true, eq-eqb, ne-eqb, eqb-false, not-true, arith}
 use Rattle.basics.specs.Basics.{if_then_else_, any, isIn}
 use Rattle.basics.proofs.Facts.{by}
-use Rattle.basics.proofs.Iterations.{drop-turn}
+use Rattle.basics.proofs.Iterations.{drop-iteration}
 use Rattle.model.specs.State.{Page, idle, running, Store}
 use Rattle.model.specs.Rules.{isFrozen, thaw}
 use Rattle.model.specs.Transactions.{changed}
@@ -54,27 +54,27 @@ named-start ws = record { inside = omega arith; rest = omega arith }
 
 module _ {ws : List ℕ} {i : ℕ} (k : NamedBefore ws i) where
   pub named-hit : i < length ws → getD ws i 0 ≡ 0 → i ≡ firstZero ws
-  named-hit h e = omega (arith, k .rest, ap firstZero (drop-turn ws i h) ∙ zero-here _ _ e)
+  named-hit h e = omega (arith, k .rest, ap firstZero (drop-iteration ws i h) ∙ zero-here _ _ e)
 
   pub named-miss : i < length ws → (getD ws i 0 ≡ 0 → ⊥) → NamedBefore ws (i + 1)
-  named-miss h e = record { inside = omega arith; rest = omega (arith, k .rest, ap firstZero (drop-turn ws i h) ∙ zero-on _ _ e) }
+  named-miss h e = record { inside = omega arith; rest = omega (arith, k .rest, ap firstZero (drop-iteration ws i h) ∙ zero-on _ _ e) }
 
   pub named-end : length ws ≤ i → length ws ≡ firstZero ws
   unfolding firstZero
   named-end h = omega (arith, k .inside, k .rest, ap firstZero (drop-of-length-le ws {i = i} h))
 
-  named-turn : (j : ℕ) → j ≡ i + 1 → i < length ws → isNamed ws i ≡ true → NamedBefore ws j
+  named-iteration : (j : ℕ) → j ≡ i + 1 → i < length ws → isNamed ws i ≡ true → NamedBefore ws j
   unfolding isNamed
-  named-turn j q h e = subst (NamedBefore ws) (sym q) (named-miss h (eqb-false _ 0 (not-true _ e)))
+  named-iteration j q h e = subst (NamedBefore ws) (sym q) (named-miss h (eqb-false _ 0 (not-true _ e)))
 
 pub named-four : {ws : List ℕ} {i : ℕ} → NamedBefore ws i → i + 4 ≤ length ws → fourNamed ws i ≡ true → NamedBefore ws (i + 4)
 unfolding fourNamed
 named-four {ws} {i} k h e =
     let t = all-split (isNamed ws) _ e in
-    let k1 = named-turn k (i + 1) refl (omega arith) (t .0) in
-    let k2 = named-turn k1 (i + 2) (omega arith) (omega arith) (t .1 .0) in
-    let k3 = named-turn k2 (i + 3) (omega arith) (omega arith) (t .1 .1 .0) in
-    named-turn k3 (i + 4) (omega arith) (omega arith) (t .1 .1 .1 .0)
+    let k1 = named-iteration k (i + 1) refl (omega arith) (t .0) in
+    let k2 = named-iteration k1 (i + 2) (omega arith) (omega arith) (t .1 .0) in
+    let k3 = named-iteration k2 (i + 3) (omega arith) (omega arith) (t .1 .1 .0) in
+    named-iteration k3 (i + 4) (omega arith) (omega arith) (t .1 .1 .1 .0)
 
 fill-at : (b : ℕ) (es : List ℕ) → firstZero es < length es → set es (firstZero es) b ≡ fill b es
 unfolding fill if_then_else_
@@ -209,11 +209,11 @@ marking-start m bs n r e =
     record { whole = e; inside = omega arith; becomes = record { size = refl; room = r; flat = refl }; used = λ c. refl }
 
 module _ {m m' : List ℕ} {bs : List ℕ} {n i : ℕ} (k : Marking m m' bs n i) where
-  pub marking-turn : i < n → (b : ℕ) → b ≡ getD bs i 0 → (m2 : List ℕ) → Becomes m' m2 (withUsed (flatOf m') (usedAnd b (flatOf m' .used)))
+  pub marking-iteration : i < n → (b : ℕ) → b ≡ getD bs i 0 → (m2 : List ℕ) → Becomes m' m2 (withUsed (flatOf m') (usedAnd b (flatOf m' .used)))
       → Marking m m2 bs n (i + 1)
-  marking-turn h b e m2 x =
+  marking-iteration h b e m2 x =
       let q : flatOf m2 .used ≡ usedAnd b (flatOf m' .used) = ap (λ (f : Flat). f .used) (x .flat) in
-      let d : b ∷ drop (i + 1) bs ≡ drop i bs = ap (λ (z : ℕ). z ∷ drop (i + 1) bs) e ∙ sym (drop-turn bs i (omega (arith, k .whole))) in
+      let d : b ∷ drop (i + 1) bs ≡ drop i bs = ap (λ (z : ℕ). z ∷ drop (i + 1) bs) e ∙ sym (drop-iteration bs i (omega (arith, k .whole))) in
       record {
         whole = k .whole;
         inside = omega arith;

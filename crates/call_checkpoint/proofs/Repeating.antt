@@ -65,15 +65,15 @@ stored-by : (call : Store → Outcome) (o : Outcome) (img m : List ℕ) (r : Ans
 unfolding Stores StoresAt
 stored-by call o img m r img' m' h e t = subst (λ (z : Outcome). StoredBy z img m r img' m') e (rw (in-some m h) at t)
 
-turn-next : (n : ℕ) (s : Store) → (inTurn (suc n) s .store ≡ inTurn n (stepAt (s .checkpoint) s .store) .store)
+inTurn-next : (n : ℕ) (s : Store) → (inTurn (suc n) s .store ≡ inTurn n (stepAt (s .checkpoint) s .store) .store)
     × (inTurn (suc n) s .writes ≡ stepAt (s .checkpoint) s .writes ++ inTurn n (stepAt (s .checkpoint) s .store) .writes)
 unfolding inTurn
-turn-next n s = (refl, refl)
+inTurn-next n s = (refl, refl)
 
 module _ {img₀ m₀ : List ℕ} {k : ℕ} {img m : List ℕ} {n : ℕ} (c : Repeats img₀ m₀ k img m n) where
   module _ (h : 0 < n) (r : Answer) (img' m' : List ℕ) (w : length img' ≡ length img) (t : Stores (stepCall (length img)) img m r img' m') where
-    pub repeats-turn : Repeats img₀ m₀ k img' m' (n - 1)
-    repeats-turn =
+    pub repeats-iteration : Repeats img₀ m₀ k img' m' (n - 1)
+    repeats-iteration =
         let s : Store = storeOf (flatOf m) in
         let o : Outcome = stepAt (s .checkpoint) s in
         let e : length img ≡ blockSize * s .blocks = c .long ∙ ap (λ (z : ℕ). blockSize * z) (sym (blocks-is (flatOf m))) in
@@ -85,7 +85,7 @@ module _ {img₀ m₀ : List ℕ} {k : ℕ} {img m : List ℕ} {n : ℕ} (c : Re
         let u : Sound m' (o .store) = in-sound m' (o .store) (l .store) in
         let less : left s ≡ suc (left (o .store)) = lowers s on in
         let j : n ≡ suc (n - 1) = omega arith in
-        let x = turn-next (n - 1) s in
+        let x = inTurn-next (n - 1) s in
         record {
           size = l .size ∙ c .size;
           wide = w ∙ c .wide;

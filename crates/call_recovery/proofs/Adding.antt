@@ -123,9 +123,9 @@ withoutPending-next i ts x e = sym (ap (map withoutPending) e ∙ map-append wit
 pub withoutPending-all : (i : ℕ) (ts : List Tuple) → length ts ≤ i → map withoutPending (take i ts) ≡ map withoutPending ts
 withoutPending-all i ts h = ap (map withoutPending) (take-all i ts h)
 
-pub fills-turn : {m m1 m2 : List ℕ} (i : ℕ) (ts : List Tuple) (x : Tuple) → take (i + 1) ts ≡ take i ts ++ x ∷ [] → Fills (map withoutPending (take i ts)) m m1
+pub fills-iteration : {m m1 m2 : List ℕ} (i : ℕ) (ts : List Tuple) (x : Tuple) → take (i + 1) ts ≡ take i ts ++ x ∷ [] → Fills (map withoutPending (take i ts)) m m1
     → 1 ≤ length (flatOf m .entries) → RowsBecome m1 m2 (behind (withoutPending x)) moreLast × InOrder m2 → Fills (map withoutPending (take (i + 1) ts)) m m2
-fills-turn {m} {m1} {m2} i ts x e a s b = subst (λ (hs : List Held). Fills hs m m2) (withoutPending-next i ts x e) (fills-more a (withoutPending x) s b)
+fills-iteration {m} {m1} {m2} i ts x e a s b = subst (λ (hs : List Held). Fills hs m m2) (withoutPending-next i ts x e) (fills-more a (withoutPending x) s b)
 
 -- where the first i of n tuples are rows, there is room for one more
 pub row-room : {m m1 : List ℕ} {n : ℕ} (i : ℕ) (ts : List Tuple) → length ts ≡ n → Fills (map withoutPending (take i ts)) m m1

@@ -5,7 +5,7 @@ use Rattle.basics.proofs.Kit.{getD, length-append, take-append-drop, length-map
 use Rattle.basics.specs.Basics.{all, isSome}
 use Rattle.basics.proofs.Facts.{and-true}
 use Rattle.basics.proofs.Lists.{all-get, all-weak}
-use Rattle.basics.proofs.Iterations.{drop-turn}
+use Rattle.basics.proofs.Iterations.{drop-iteration}
 use Rattle.block_forms.specs.Block.{PageBlock, asPage}
 use Rattle.block_reader.specs.Answers.{isPage}
 use Rattle.image.specs.View.{View}
@@ -80,11 +80,11 @@ module _ (v : View) where
     pages-split =
         ap (pagesAt v) (sym (take-append-drop i es))
         ∙ pages-append (take i es) (drop i es)
-        ∙ ap (λ (z : List ℕ). pagesAt v (take i es) ++ pagesAt v z) (drop-turn es i h ∙ ap (λ (k : ℕ). k ∷ drop (i + 1) es) (sym q))
+        ∙ ap (λ (z : List ℕ). pagesAt v (take i es) ++ pagesAt v z) (drop-iteration es i h ∙ ap (λ (k : ℕ). k ∷ drop (i + 1) es) (sym q))
 
     -- one page more
-    pub loading-turn : {m m1 m2 : List ℕ} → Loads (pagesAt v (take i es)) m m1 → Loads (pageAt e (asPage (v e))) m1 m2 → Loads (pagesAt v (take (i + 1) es)) m m2
-    loading-turn a b = loads-as pages-next (loads-then a b)
+    pub loading-iteration : {m m1 m2 : List ℕ} → Loads (pagesAt v (take i es)) m m1 → Loads (pageAt e (asPage (v e))) m1 m2 → Loads (pagesAt v (take (i + 1) es)) m m2
+    loading-iteration a b = loads-as pages-next (loads-then a b)
 
     -- and room for it
     pub loading-room : {m m1 : List ℕ} → Loads (pagesAt v (take i es)) m m1 → RoomFor (pagesAt v es) (flatOf m) → RoomFor (pageAt e (asPage (v e))) (flatOf m1)
@@ -123,9 +123,9 @@ Marked bs m m1 = Becomes m m1 (withUsed (flatOf m) (usedBy bs (flatOf m .used)))
 pub marking-start : (m bs : List ℕ) → Room m → Marked (take 0 bs) m m
 marking-start m bs r = becomes-as (sym (λ i. withUsed (flatOf m) (used-none (flatOf m .used) i))) (becomes-none m r)
 
-pub marking-turn : {m m1 m2 : List ℕ} (bs : List ℕ) (i : ℕ) {b : ℕ} → i < length bs → b ≡ getD bs i 0 → Marked (take i bs) m m1
+pub marking-iteration : {m m1 m2 : List ℕ} (bs : List ℕ) (i : ℕ) {b : ℕ} → i < length bs → b ≡ getD bs i 0 → Marked (take i bs) m m1
     → Becomes m1 m2 (withUsed (flatOf m1) (usedAnd b (flatOf m1 .used))) → Marked (take (i + 1) bs) m m2
-marking-turn {m} {m1} {m2} bs i {b} h q a c =
+marking-iteration {m} {m1} {m2} bs i {b} h q a c =
     let U : Flat → Flat = λ f. withUsed f (usedAnd b (f .used)) in
     let u : ℕ → Bool = flatOf m .used in
     let d = becomes-then m m1 m2 (withUsed (flatOf m) (usedBy (take i bs) u)) U a c in

@@ -78,9 +78,9 @@ module _ (f : Flat) where
         ∙ take-suc (map ownRow (f .rows)) i (ownRow noRow) (omega (arith, length-map (f .rows) ownRow))
         ∙ ap (λ (r : Row). take i (map ownRow (f .rows)) ++ r ∷ []) (List·getD-map ownRow (f .rows) i noRow)
 
-    own-turn : drop i (ownRows f) ≡ ownRow (rowIn f i) ∷ drop (i + 1) (ownRows f)
+    own-iteration : drop i (ownRows f) ≡ ownRow (rowIn f i) ∷ drop (i + 1) (ownRows f)
     unfolding ownRows
-    own-turn =
+    own-iteration =
         drop-cons (map ownRow (f .rows)) i (ownRow noRow) (omega (arith, length-map (f .rows) ownRow))
         ∙ ap (λ (r : Row). r ∷ drop (suc i) (map ownRow (f .rows))) (List·getD-map ownRow (f .rows) i noRow)
         ∙ ap (λ (k : ℕ). ownRow (rowIn f i) ∷ drop k (map ownRow (f .rows))) (sym (add-one i))
@@ -90,9 +90,9 @@ module _ (f : Flat) where
     owner-fits a e = subst OwnerFits (sym e) (all-at (λ (x : Held). OwnerFits (x .tuple .owner)) noRow (f .rows) i h a)
 
     -- one row more is counted
-    pub counts-turn : {o : Owner} {xs ys : List ℕ} → AllOwners (f .rows) → o ≡ rowIn f i .tuple .owner → Counts (take i (ownRows f)) xs → ys ≡ noted o xs
+    pub counts-iteration : {o : Owner} {xs ys : List ℕ} → AllOwners (f .rows) → o ≡ rowIn f i .tuple .owner → Counts (take i (ownRows f)) xs → ys ≡ noted o xs
         → Counts (take (i + 1) (ownRows f)) ys
-    counts-turn {o} {xs} {ys} a e k q =
+    counts-iteration {o} {xs} {ys} a e k q =
         let rs : List Row = take i (ownRows f) in
         let c = noted-counts o (ownRow (rowIn f i)) (owner-fits a e) (sym e) k in
         subst (λ (z : List Row). Counts z ys) (sym own-next) (subst (Counts (rs ++ ownRow (rowIn f i) ∷ [])) (sym q) c)
@@ -184,11 +184,11 @@ module _ {m m1 : List ℕ} {i : ℕ} {o : Owner} {cs ps : List ℕ} (a : Reopene
       let rs : List Row = ownRows (flatOf m) in
       let x : openedBy o cs ps ≡ opened rs o (drop (i + 1) rs) =
       last-opened o (drop (i + 1) rs) (owner-fits (flatOf m) i h own e) c p (sym (take-append-drop (i + 1) rs)) in
-      words-next rs (own-turn (flatOf m) i h)
+      words-next rs (own-iteration (flatOf m) i h)
       ∙ ap (λ (z : List Active). z ++ words rs (drop (i + 1) rs)) (ap (λ (y : Owner). opened rs y (drop (i + 1) rs)) (sym e) ∙ sym x)
 
-  pub reopened-turn : {m2 : List ℕ} → Becomes m1 m2 (withOpens (flatOf m1) (flatOf m1 .opens ++ openedBy o cs ps)) → Reopened m m2 (i + 1)
-  reopened-turn {m2} b =
+  pub reopened-iteration : {m2 : List ℕ} → Becomes m1 m2 (withOpens (flatOf m1) (flatOf m1 .opens ++ openedBy o cs ps)) → Reopened m m2 (i + 1)
+  reopened-iteration {m2} b =
       let xs : List Active = openedBy o cs ps in
       let ws : List Active = words (ownRows (flatOf m)) (drop (i + 1) (ownRows (flatOf m))) in
       let q : flatOf m2 .opens ≡ flatOf m1 .opens ++ xs = ap (λ (f : Flat). f .opens) (b .flat) in

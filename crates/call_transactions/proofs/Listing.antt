@@ -39,9 +39,9 @@ unfolding listing openNumbers
 list-none os p = refl
 
 module _ (os : List Active) (p : List ℕ) where
-  pub list-turn : (i : ℕ) → i < length os → 2 * length os ≤ length p → (q : List ℕ) (t : ℕ) → t ≡ getD os i noOpen .transaction → q ≡ listedTo os i p
+  pub list-iteration : (i : ℕ) → i < length os → 2 * length os ≤ length p → (q : List ℕ) (t : ℕ) → t ≡ getD os i noOpen .transaction → q ≡ listedTo os i p
       → set (set q (2 * i) (t / 256 % 256)) (2 * i + 1) (t % 256) ≡ listedTo os (i + 1) p
-  list-turn i h fits q t et e =
+  list-iteration i h fits q t et e =
       let o : Active = getD os i noOpen in
       let l : length (listed (take i os)) ≡ 2 * i = length-listed (take i os) ∙ ap (λ (z : ℕ). 2 * z) (length-take-le i os (omega arith)) in
       let one : take i os ++ o ∷ [] ≡ take (i + 1) os = sym (take-suc os i noOpen h) ∙ ap (λ (z : ℕ). take z os) (sym (add-one i)) in

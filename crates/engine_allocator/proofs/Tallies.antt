@@ -18,7 +18,7 @@ use Rattle.memory_pages.specs.Pages.{frozenEntry, dirtyEntry}
 use Rattle.engine_pages.specs.Pages.{pagesOf}
 use Rattle.engine_pages.proofs.Places.{counted}
 use Rattle.engine_allocator.specs.Blocks.{orElse, freeFrom}
-use Rattle.basics.proofs.Firsts.{first-hit, first-past, first-some, first-skip, from-turn, from-end, from-low}
+use Rattle.basics.proofs.Firsts.{first-hit, first-past, first-some, first-skip, from-iteration, from-end, from-low}
 
 -- ---- counts
 
@@ -81,11 +81,11 @@ module _ (f : Flat) where
 module _ (used : ℕ → Bool) (a e : ℕ) where
   pub free-hit : a < e → used a ≡ false → freeFrom used a e ≡ a
   unfolding freeFrom orElse
-  free-hit h u = ap (λ (l : List ℕ). orElse e (first (λ b. not (used b)) l)) (from-turn a e h) ∙ ap (orElse e) (first-hit _ a _ (ap not u))
+  free-hit h u = ap (λ (l : List ℕ). orElse e (first (λ b. not (used b)) l)) (from-iteration a e h) ∙ ap (orElse e) (first-hit _ a _ (ap not u))
 
   pub free-miss : a < e → used a ≡ true → freeFrom used a e ≡ freeFrom used (a + 1) e
   unfolding freeFrom
-  free-miss h u = ap (λ (l : List ℕ). orElse e (first (λ b. not (used b)) l)) (from-turn a e h) ∙ ap (orElse e) (first-past _ a _ (ap not u))
+  free-miss h u = ap (λ (l : List ℕ). orElse e (first (λ b. not (used b)) l)) (from-iteration a e h) ∙ ap (orElse e) (first-past _ a _ (ap not u))
 
   pub free-end : e ≤ a → freeFrom used a e ≡ e
   unfolding freeFrom orElse first

@@ -34,15 +34,15 @@ module _ (f : Flat) (tx k i e : ℕ) (l : Visibility) where
   step h l1 q =
       ap (λ (z : List Held). notes tx k i z l) (tab-next (rowIn f) i e h) ∙ q ∙ ap (λ (z : ℕ). notes tx k z (rest (i + 1)) l1) (sym (add-one i))
 
-  pub turn-here : i < e → rowIn f i .tuple .key ≡ k → along f tx k i (e - i) l ≡ along f tx k (i + 1) (e - (i + 1)) (note tx i (rowIn f i) l)
-  turn-here h q = step h _ (notes-here tx k i (rowIn f i) (rest (i + 1)) l (eq-eqb _ _ q))
+  pub iteration-here : i < e → rowIn f i .tuple .key ≡ k → along f tx k i (e - i) l ≡ along f tx k (i + 1) (e - (i + 1)) (note tx i (rowIn f i) l)
+  iteration-here h q = step h _ (notes-here tx k i (rowIn f i) (rest (i + 1)) l (eq-eqb _ _ q))
 
-  pub turn-on : i < e → (rowIn f i .tuple .key ≡ k → ⊥) → along f tx k i (e - i) l ≡ along f tx k (i + 1) (e - (i + 1)) l
-  turn-on h q = step h _ (notes-on tx k i (rowIn f i) (rest (i + 1)) l (ne-eqb _ _ q))
+  pub iteration-on : i < e → (rowIn f i .tuple .key ≡ k → ⊥) → along f tx k i (e - i) l ≡ along f tx k (i + 1) (e - (i + 1)) l
+  iteration-on h q = step h _ (notes-on tx k i (rowIn f i) (rest (i + 1)) l (ne-eqb _ _ q))
 
-  pub turn-end : e ≤ i → along f tx k i (e - i) l ≡ l
+  pub iteration-end : e ≤ i → along f tx k i (e - i) l ≡ l
   unfolding notes
-  turn-end h = ap (λ (z : List Held). notes tx k i z l) (tab-none (rowIn f) i e h)
+  iteration-end h = ap (λ (z : List Held). notes tx k i z l) (tab-none (rowIn f) i e h)
 
 -- ---- in parts
 

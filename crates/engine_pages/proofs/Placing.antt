@@ -131,8 +131,8 @@ module _ (t : ℕ) (x : Tuple) (q : Page) (qs : List Page) where
 
 module _ (t : ℕ) (x : Tuple) (ps : List Page) (i : ℕ) (q : Page) (ed : drop i ps ≡ q ∷ drop (suc i) ps)
     (inv : placeFront t x ps ≡ take i ps ++ placeFront t x (drop i ps)) where
-  pub front-turn : q .table < t → placeFront t x ps ≡ take (suc i) ps ++ placeFront t x (drop (suc i) ps)
-  front-turn h =
+  pub front-iteration : q .table < t → placeFront t x ps ≡ take (suc i) ps ++ placeFront t x (drop (suc i) ps)
+  front-iteration h =
       inv ∙ ap (λ (z : List Page). take i ps ++ z) (ap (placeFront t x) ed ∙ front-lower t x q (drop (suc i) ps) h)
       ∙ sym (append-assoc (take i ps) (q ∷ []) (placeFront t x (drop (suc i) ps)))
       ∙ ap (λ (z : List Page). z ++ placeFront t x (drop (suc i) ps)) (sym (take-snoc ps i q ed))

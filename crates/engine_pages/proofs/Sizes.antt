@@ -70,7 +70,7 @@ module _ (m : List ℕ) (i e : ℕ) where
     lead-end h = ap (lead w a) (rows-none h)
 
 -- a turn of a loop over the rows from s up to e: it is at row i, of size w, and the rows before it have size all
-pub record Turn (m : List ℕ) (s e i all w : ℕ) : Type 0 where
+pub record Iteration (m : List ℕ) (s e i all w : ℕ) : Type 0 where
   pub least : s ≤ i
   pub inside : i < e
   pub most : e ≤ length (flatOf m .rows)
@@ -79,6 +79,6 @@ pub record Turn (m : List ℕ) (s e i all w : ℕ) : Type 0 where
   pub small : w ≤ mostRecord
   pub size : w ≡ heldSize (rowIn (flatOf m) i)
 
-pub turn : {m : List ℕ} {s e i all w : ℕ} → RowRange m s e → s ≤ i → i < e → all ≤ mostRecord * (i - s) → (w ≡ heldSize (rowIn (flatOf m) i)) × (w ≤ mostRecord) → Turn m s e i all w
-turn g least inside light es =
+pub iteration : {m : List ℕ} {s e i all w : ℕ} → RowRange m s e → s ≤ i → i < e → all ≤ mostRecord * (i - s) → (w ≡ heldSize (rowIn (flatOf m) i)) × (w ≤ mostRecord) → Iteration m s e i all w
+iteration g least inside light es =
     record { least = least; inside = inside; most = g .inside; few = omega (arith, g .inside, sizes (g .room) .rows); light = light; small = es .1; size = es .0 }

@@ -21,7 +21,7 @@ use Rattle.memory_rows.specs.declared.Row.{Row}
 use Rattle.engine_pages.specs.Pages.{pagesOf, pageAt, firstRow, swapped}
 use Rattle.engine_pages.specs.Spots.{tupleBy, placedOn, GrowAt, AddAt, PlaceAt}
 use Rattle.basics.proofs.Numbers.{less-than}
-use Rattle.engine_pages.proofs.Placing.{other-table, no-key, place-on, place-front, front-turn, front-on, front-new, front-last}
+use Rattle.engine_pages.proofs.Placing.{other-table, no-key, place-on, place-front, front-iteration, front-on, front-new, front-last}
 use Rattle.basics.proofs.Found.{last-is}
 
 start-rise : (f : Flat) (p q : ℕ) → p ≤ q → startOf f p ≤ startOf f q
@@ -54,7 +54,7 @@ module _ (f : Flat) (full : total (f .entries) ≡ length (f .rows)) (t k : ℕ)
       → placeFront t x (pagesIn f) ≡ take i (pagesIn f) ++ placeFront t x (drop i (pagesIn f))
   passed zero l h = refl
   passed (suc i) l h =
-      front-turn t x (pagesIn f) i (pageIn f i) (page-at f i (omega arith)) (passed i (omega arith) (λ p b. h p (omega arith)))
+      front-iteration t x (pagesIn f) i (pageIn f i) (page-at f i (omega arith)) (passed i (omega arith) (λ p b. h p (omega arith)))
       (omega (arith, page-entry f i, h i (omega arith)))
 
   module _ {a b : ℕ} (fa : TableFrom f t a) (fb : TableFrom f (t + 1) b) where

@@ -16,7 +16,7 @@ use Rattle.block_reader.proofs.Walk.{walk-start}
 use Rattle.image_rows.specs.Rows.{Row, rowsOf, markOk, rowsOk}
 use Rattle.image_rows.specs.Columns.{bare, rowsIn, columnsOk}
 use Rattle.basics.proofs.Ands.{and-yes, and-no}
-use Rattle.basics.proofs.Iterations.{drop-turn, drop-end}
+use Rattle.basics.proofs.Iterations.{drop-iteration, drop-end}
 use Rattle.image_rows.proofs.Bare.{columns-bare, rows-tests}
 use Rattle.image_page.specs.Page.{goodPage}
 use Rattle.image_page.specs.declared.GoodPage.{GoodPage}
@@ -173,11 +173,11 @@ collecting-start v h es ps ns os ms =
 module _ {v : View} {h : Header} {es : List ℕ} {i to : ℕ} {columns : List Row} (a : Collecting v h es i to columns) where
   next : i < length es → readPages v (h .level) (drop i es) ≡ addPage (h .level) (getD es i 0) (asPage (v (getD es i 0))) (readPages v (h .level) (drop (i + 1) es))
   unfolding readPages
-  next l = ap (readPages v (h .level)) (drop-turn es i l)
+  next l = ap (readPages v (h .level)) (drop-iteration es i l)
 
-  pub collecting-turn : {t n : ℕ} {more : List Row} → i < length es → (g : Goods (h .level) (h .capacity - to) t n (asPage (v (getD es i 0))))
+  pub collecting-iteration : {t n : ℕ} {more : List Row} → i < length es → (g : Goods (h .level) (h .capacity - to) t n (asPage (v (getD es i 0))))
       → more ≡ columns ++ map bare (rowsOf t (g .tuples)) → Collecting v h es (i + 1) (to + n) more
-  collecting-turn {t} {n} l g m =
+  collecting-iteration {t} {n} l g m =
       let p : StoredPage = record { block = getD es i 0; table = t; tuples = g .tuples } in
       let rs = one-more (a .done) p in
       let q = next l ∙ page-added (h .level) (h .capacity - to) t n (getD es i 0) _ g _ in

@@ -16,7 +16,7 @@ use Rattle.block_reader.proofs.Answering.{is-directory}
 use Rattle.block_forms.proofs.Laws.{decode-entries}
 use Rattle.basics.proofs.Overs.{over-then}
 use Rattle.basics.proofs.Ands.{and-no}
-use Rattle.basics.proofs.Iterations.{drop-turn, drop-end}
+use Rattle.basics.proofs.Iterations.{drop-iteration, drop-end}
 use Rattle.image.specs.View.{View}
 use Rattle.image.specs.Stages.{entriesDue, addEntries, readDirectories}
 use Rattle.image.specs.Answers.{Filled}
@@ -108,12 +108,12 @@ module _ {v : View} {l pages : ℕ} {ds out₀ : List ℕ} {i at : ℕ} {out : L
     next : readDirectories v l (pages - at) (drop i ds)
         ≡ addEntries (entriesDue l (pages - at) (asDirectory d)) (readDirectories v l (pages - at - entriesPerBlock) (drop (i + 1) ds))
     unfolding readDirectories
-    next = ap (readDirectories v l (pages - at)) (drop-turn ds i h) ∙ rw e
+    next = ap (readDirectories v l (pages - at)) (drop-iteration ds i h) ∙ rw e
 
-    pub gathering-turn : {r : Bool} → pages ≤ length out₀ → r ≡ true → Filled (entriesDue l (pages - at) (asDirectory d)) at out r out′
+    pub gathering-iteration : {r : Bool} → pages ≤ length out₀ → r ≡ true → Filled (entriesDue l (pages - at) (asDirectory d)) at out r out′
         → Gathering v l pages ds out₀ (i + 1) (at + min entriesPerBlock (pages - at)) out′
     unfolding addEntries
-    gathering-turn {r} m t f =
+    gathering-iteration {r} m t f =
         let p = filled-yes (entriesDue l (pages - at) (asDirectory d)) at out out′ r t f in
         let n = due-count l (pages - at) (asDirectory d) (p .some-are) in
         let ro = a .room in

@@ -139,30 +139,30 @@ module _ {xs heads links : List ℕ} {n : ℕ} (t : Table xs heads links n) {b :
 
   -- one more row
   module _ (own : x ≡ getD xs n 0) (room : n < length xs) (spare : n < length links) where
-    turn-head : (d : ℕ) → d ≤ bucketCount → getD (set heads b (n + 1)) d 0 ≡ lastBy (inBucket d) xs (n + 1)
+    iteration-head : (d : ℕ) → d ≤ bucketCount → getD (set heads b (n + 1)) d 0 ≡ lastBy (inBucket d) xs (n + 1)
     unfolding inBucket
-    turn-head d l =
+    iteration-head d l =
         by (eqb d b)
         (λ u. let z = eqb-true d b u in
         rw z (getD-set-same heads b (n + 1) 0 (omega (arith, t .buckets)) ∙ sym (last-yes (inBucket b) xs n (eq-eqb _ _ (ap bucketOf (sym own) ∙ sym e)))))
         (λ u. let z = eqb-false d b u in
         getD-set-other heads b d (n + 1) 0 z ∙ t .head d l ∙ sym (last-not (inBucket d) xs n (ne-eqb _ _ (λ q. z (sym q ∙ ap bucketOf (sym own) ∙ sym e)))))
 
-    turn-chain : (k : ℕ) → k < n + 1 → getD (set links n (getD heads b 0)) k 0 ≡ lastBy (inBucket (bucketOf (getD xs k 0))) xs k
+    iteration-chain : (k : ℕ) → k < n + 1 → getD (set links n (getD heads b 0)) k 0 ≡ lastBy (inBucket (bucketOf (getD xs k 0))) xs k
     unfolding Chained
-    turn-chain k l =
+    iteration-chain k l =
         by (eqb k n)
         (λ u. let z = eqb-true k n u in rw z (getD-set-same links n (getD heads b 0) 0 spare ∙ at-head ∙ ap (λ y. lastBy (inBucket (bucketOf y)) xs n) own))
         (λ u. let z = eqb-false k n u in getD-set-other links n k (getD heads b 0) 0 z ∙ t .chain k (omega arith))
 
-    pub table-turn : Table xs (set heads b (n + 1)) (set links n (getD heads b 0)) (n + 1)
+    pub table-iteration : Table xs (set heads b (n + 1)) (set links n (getD heads b 0)) (n + 1)
     unfolding Chained
-    table-turn = record {
+    table-iteration = record {
       rows = omega arith;
       buckets = length-set heads b (n + 1) ∙ t .buckets;
       linked = rw (length-set links n (getD heads b 0)) (omega arith);
-      head = turn-head;
-      chain = turn-chain;
+      head = iteration-head;
+      chain = iteration-chain;
     }
 
 -- a key's row is new if it is no key, or is not found before
@@ -204,10 +204,10 @@ module _ (xs : List ℕ) (n : ℕ) {heads links : List ℕ} where
     linking-stop t =
         sym (w .left ∙ all-not (isNew xs) (tab-next (λ j. j) i n h) (new-not xs i refl (table-finds (w .table) (getD xs i 0) e f) t))
 
-    pub linking-turn : (ltb 0 (getD xs i 0) && ltb 0 r) ≡ false → i < length xs → i < length links
+    pub linking-iteration : (ltb 0 (getD xs i 0) && ltb 0 r) ≡ false → i < length xs → i < length links
         → Linking xs n (set heads b (i + 1)) (set links i (getD heads b 0)) (i + 1)
-    linking-turn t room spare = record {
-      table = table-turn (w .table) (getD xs i 0) e refl room spare;
+    linking-iteration t room spare = record {
+      table = table-iteration (w .table) (getD xs i 0) e refl room spare;
       far = omega arith;
       left = w .left ∙ all-yes (isNew xs) (tab-next (λ j. j) i n h) (new-yes xs i refl (table-finds (w .table) (getD xs i 0) e f) t);
     }

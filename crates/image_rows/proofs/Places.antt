@@ -8,7 +8,7 @@ use Rattle.image_rows.specs.Rows.{isAt, isLower, ownerAfter, follows, st
 use Rattle.image_rows.specs.Columns.{coded, codedOwner, rowAt, rowsIn}
 use Rattle.basics.specs.Lists.{tab}
 use Rattle.basics.proofs.Ands.{and-yes, and-no}
-use Rattle.basics.proofs.Iterations.{tab-whole, pair-turn, pair-stop}
+use Rattle.basics.proofs.Iterations.{tab-whole, pair-iteration, pair-stop}
 
 abbrev B : ℕ
 B = 4294967296
@@ -105,5 +105,5 @@ module _ (ps ns os ms : List ℕ) (i n : ℕ) (low : 1 ≤ i) (h : i < n) {whole
   pub rising-stop : not t ≡ true → false ≡ whole
   rising-stop k = sym (w ∙ pair-stop follows (rowAt ps ns os ms) i n low h (sym tested ∙ not-true t k))
 
-  pub rising-turn : not t ≡ false → whole ≡ paired follows (tab (rowAt ps ns os ms) (i + 1 - 1) (n - (i + 1 - 1)))
-  rising-turn k = let z : i + 1 - 1 ≡ i = omega arith in w ∙ rw z (pair-turn follows (rowAt ps ns os ms) i n low h (sym tested ∙ not-false t k))
+  pub rising-iteration : not t ≡ false → whole ≡ paired follows (tab (rowAt ps ns os ms) (i + 1 - 1) (n - (i + 1 - 1)))
+  rising-iteration k = let z : i + 1 - 1 ≡ i = omega arith in w ∙ rw z (pair-iteration follows (rowAt ps ns os ms) i n low h (sym tested ∙ not-false t k))

@@ -16,9 +16,9 @@ pub record Raising (m m' : List ℕ) (hi w k : ℕ) : Type 0 where
 pub raise-start : (m : List ℕ) (hi w : ℕ) → Raising m m hi w hi
 raise-start m hi w = record { size = refl; done = λ b p q. absurd (omega arith); left = λ b p. refl; above = λ b p. refl }
 
-pub raise-turn : {m m' : List ℕ} {hi w k : ℕ} → Raising m m' hi w k → 0 < k → k ≤ hi → hi + w ≤ length m
+pub raise-iteration : {m m' : List ℕ} {hi w k : ℕ} → Raising m m' hi w k → 0 < k → k ≤ hi → hi + w ≤ length m
     → Raising m (set m' (k - 1 + w) (getD m' (k - 1) 0)) hi w (k - 1)
-raise-turn {m} {m'} {hi} {w} {k} s h1 h2 h3 =
+raise-iteration {m} {m'} {hi} {w} {k} s h1 h2 h3 =
     let v : ℕ = getD m' (k - 1) 0 in
     let at : ℕ = k - 1 + w in
     let l : length m' ≡ length m = s .size in
@@ -56,9 +56,9 @@ pub record Lowering (m m' : List ℕ) (lo w k : ℕ) : Type 0 where
 pub lower-start : (m : List ℕ) (lo w : ℕ) → Lowering m m lo w lo
 lower-start m lo w = record { size = refl; below = λ b p. refl; done = λ b p q. absurd (omega arith); left = λ b p. refl }
 
-pub lower-turn : {m m' : List ℕ} {lo w k : ℕ} → Lowering m m' lo w k → lo ≤ k → k < length m
+pub lower-iteration : {m m' : List ℕ} {lo w k : ℕ} → Lowering m m' lo w k → lo ≤ k → k < length m
     → Lowering m (set m' k (getD m' (k + w) 0)) lo w (k + 1)
-lower-turn {m} {m'} {lo} {w} {k} s h1 h2 =
+lower-iteration {m} {m'} {lo} {w} {k} s h1 h2 =
     let v : ℕ = getD m' (k + w) 0 in
     let l : length m' ≡ length m = s .size in
     record {
@@ -94,9 +94,9 @@ pub record Writing (m m' : List ℕ) (a : ℕ) (xs : List ℕ) (j : ℕ) : Type 
 pub write-start : (m : List ℕ) (a : ℕ) (xs : List ℕ) → Writing m m a xs 0
 write-start m a xs = record { size = refl; done = λ k p. absurd (omega arith); below = λ b p. refl; above = λ b p. refl }
 
-pub write-turn : {m m' : List ℕ} {a : ℕ} {xs : List ℕ} {j v : ℕ} → Writing m m' a xs j → a + j < length m → v ≡ getD xs j 0
+pub write-iteration : {m m' : List ℕ} {a : ℕ} {xs : List ℕ} {j v : ℕ} → Writing m m' a xs j → a + j < length m → v ≡ getD xs j 0
     → Writing m (set m' (a + j) v) a xs (j + 1)
-write-turn {m} {m'} {a} {xs} {j} {v} s h w =
+write-iteration {m} {m'} {a} {xs} {j} {v} s h w =
     let l : length m' ≡ length m = s .size in
     record {
       size = length-set m' (a + j) v ∙ l;
@@ -115,7 +115,7 @@ write-turn {m} {m'} {a} {xs} {j} {v} s h w =
 
 -- written from the first byte on
 pub write-front : {m m' xs : List ℕ} {j v : ℕ} → Writing m m' 0 xs j → j < length m → v ≡ getD xs j 0 → Writing m (set m' j v) 0 xs (j + 1)
-write-front {m} {m'} {xs} {j} {v} s h w = subst (λ (z : ℕ). Writing m (set m' z v) 0 xs (j + 1)) (zero-add j) (write-turn s (omega arith) w)
+write-front {m} {m'} {xs} {j} {v} s h w = subst (λ (z : ℕ). Writing m (set m' z v) 0 xs (j + 1)) (zero-add j) (write-iteration s (omega arith) w)
 
 pub write-end : {m m' : List ℕ} {a : ℕ} {xs : List ℕ} {j : ℕ} → Writing m m' a xs j → j ≡ length xs → Wrote m m' a xs
 write-end s e =
@@ -128,27 +128,27 @@ write-end s e =
 
 module _ (m : List ℕ) (a v : ℕ) (xs : List ℕ) where
   pub write-first : a < length m → Writing m (set m a v) a (v ∷ xs) 1
-  write-first h = subst (λ (z : ℕ). Writing m (set m z v) a (v ∷ xs) 1) (add-zero a) (write-turn (write-start m a (v ∷ xs)) (omega arith) refl)
+  write-first h = subst (λ (z : ℕ). Writing m (set m z v) a (v ∷ xs) 1) (add-zero a) (write-iteration (write-start m a (v ∷ xs)) (omega arith) refl)
 
 pub wrote2 : (m : List ℕ) (a x y : ℕ) → a + 2 ≤ length m → Wrote m (set (set m a x) (a + 1) y) a (x ∷ y ∷ [])
-wrote2 m a x y h = write-end (write-turn (write-first m a x (y ∷ []) (omega arith)) (omega arith) refl) refl
+wrote2 m a x y h = write-end (write-iteration (write-first m a x (y ∷ []) (omega arith)) (omega arith) refl) refl
 
 pub wrote4 : (m : List ℕ) (a x y z w : ℕ) → a + 4 ≤ length m
     → Wrote m (set (set (set (set m a x) (a + 1) y) (a + 2) z) (a + 3) w) a (x ∷ y ∷ z ∷ w ∷ [])
 wrote4 m a x y z w h =
     let s1 = write-first m a x (y ∷ z ∷ w ∷ []) (omega arith) in
-    let s2 = write-turn s1 (omega arith) refl in
-    let s3 = write-turn s2 (omega arith) refl in
-    write-end (write-turn s3 (omega arith) refl) refl
+    let s2 = write-iteration s1 (omega arith) refl in
+    let s3 = write-iteration s2 (omega arith) refl in
+    write-end (write-iteration s3 (omega arith) refl) refl
 
 -- ---- numbers of two bytes are d more: those below j are
 
 pub add-start : (m : List ℕ) (base s d : ℕ) → Added m m base s s d
 add-start m base s d = record { apart = record { size = refl; below = λ b p. refl; above = λ b p. refl }; each = λ i p q. absurd (omega arith) }
 
-pub add-turn : {m m' m'' : List ℕ} {base s d : ℕ} (j x : ℕ) {y : ℕ} → Added m m' base s j d → s ≤ j → y ≡ le2 m' (base + j * 2)
+pub add-iteration : {m m' m'' : List ℕ} {base s d : ℕ} (j x : ℕ) {y : ℕ} → Added m m' base s j d → s ≤ j → y ≡ le2 m' (base + j * 2)
     → x ≡ (y + d) % 65536 → Wrote m' m'' (base + j * 2) (bytes2 x) → Added m m'' base s (j + 1) d
-add-turn {m} {m'} {m''} {base} {s} {d} j x {y} p h read sum w =
+add-iteration {m} {m'} {m''} {base} {s} {d} j x {y} p h read sum w =
     record {
       apart =
           record {

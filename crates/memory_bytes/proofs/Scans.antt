@@ -4,7 +4,7 @@ use Rattle.basics.specs.Basics.{any}
 use Rattle.basics.specs.Lists.{tab}
 use Rattle.memory_bytes.specs.Bytes.{le2, le4, column2, column4}
 use Rattle.basics.proofs.Tabs.{tab-cong}
-use Rattle.basics.proofs.Searches.{any-turn, any-end}
+use Rattle.basics.proofs.Searches.{any-iteration, any-end}
 
 -- ---- all numbers from a up to n are tested
 
@@ -18,12 +18,12 @@ module _ {A : Type 0} {f : A → Bool} {g : ℕ → A} {a n : ℕ} where
   any-starts h = record { most = h; same = refl }
 
   module _ {hit : Bool} {j : ℕ} (p : AnyFrom f g a n hit j) where
-    pub any-turns : {r : A} → j < n → r ≡ g j → AnyFrom f g a n (hit || f r) (j + 1)
-    any-turns h e = record { most = omega arith; same = any-turn f g j n h hit (p .same) e }
+    pub any-iterates : {r : A} → j < n → r ≡ g j → AnyFrom f g a n (hit || f r) (j + 1)
+    any-iterates h e = record { most = omega arith; same = any-iteration f g j n h hit (p .same) e }
 
     -- where the test's answer was read
     pub any-next : {b : Bool} → j < n → b ≡ f (g j) → AnyFrom f g a n (hit || b) (j + 1)
-    any-next h e = subst (λ z. AnyFrom f g a n (hit || z) (j + 1)) (sym e) (any-turns h refl)
+    any-next h e = subst (λ z. AnyFrom f g a n (hit || z) (j + 1)) (sym e) (any-iterates h refl)
 
     pub any-ends : n ≤ j → hit ≡ any f (tab g a (n - a))
     any-ends h = any-end f g j n h hit (p .same)

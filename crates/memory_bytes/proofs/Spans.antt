@@ -95,8 +95,8 @@ module _ {g : ℕ → ℕ} {key s : ℕ} where
 
   -- the group from t on, which may overlap the one before it
   module _ {k e t a b : ℕ} (p : Grouped g key s k a b) (low : s ≤ t) (on : t ≤ k) (all : k ≤ e) (top : t + 16 ≡ e) where
-    turn-by : (h z : Bool) → h ≡ any (equals key) (tab g t 16) → z ≡ eqb b s → Grouped g key s e (cond (h && z) t a) (cond h e b)
-    turn-by true true q w =
+    iteration-by : (h z : Bool) → h ≡ any (equals key) (tab g t 16) → z ≡ eqb b s → Grouped g key s e (cond (h && z) t a) (cond h e b)
+    iteration-by true true q w =
         let is : b ≡ s = eqb-true b s (sym w) in
         record {
           found = λ n. (low, (omega arith, sym q));
@@ -104,7 +104,7 @@ module _ {g : ℕ → ℕ} {key s : ℕ} where
           before = λ j x y z. p .behind j x (omega arith) (omega arith);
           behind = λ j x y z. absurd (omega arith);
         }
-    turn-by true false q w =
+    iteration-by true false q w =
         let f = p .found (eqb-false b s (sym w)) in
         let h = p .high in
         record {
@@ -113,7 +113,7 @@ module _ {g : ℕ → ℕ} {key s : ℕ} where
           before = λ j x y z. p .before j x y (omega arith);
           behind = λ j x y z. absurd (omega arith);
         }
-    turn-by false z q w =
+    iteration-by false z q w =
         let h = p .high in
         let none : (j : ℕ) → k ≤ j → j < e → equals key (g j) ≡ false = λ j x y. tab-none-at (equals key) g t 16 (sym q) j (omega arith) (omega arith) in
         record {
@@ -123,8 +123,8 @@ module _ {g : ℕ → ℕ} {key s : ℕ} where
           behind = λ j x y v. ⊎-elim (λ (u : j < k). p .behind j x y u) (λ (u : k ≤ j). none j u v) (lt-or-ge j k);
         }
 
-    pub grouped-turn : {h : Bool} {a' b' v : ℕ} → h ≡ any (equals key) (tab g t 16) → a' ≡ cond (h && eqb b s) t a → b' ≡ cond h v b → v ≡ e → Grouped g key s e a' b'
-    grouped-turn {h} q x y w = rw (x, y, w) (turn-by h (eqb b s) q refl)
+    pub grouped-iteration : {h : Bool} {a' b' v : ℕ} → h ≡ any (equals key) (tab g t 16) → a' ≡ cond (h && eqb b s) t a → b' ≡ cond h v b → v ≡ e → Grouped g key s e a' b'
+    grouped-iteration {h} q x y w = rw (x, y, w) (iteration-by h (eqb b s) q refl)
 
 -- ---- the two groups looked at number by number
 

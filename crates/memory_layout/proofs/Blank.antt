@@ -20,8 +20,8 @@ use Rattle.memory_layout.proofs.Marks.{clear-used, zeros-at}
 pub names-start : (m : List ℕ) (a : ℕ) → Apart m m a 0
 names-start m a = record { size = refl; below = λ b h. refl; above = λ b h. refl }
 
-pub names-turn : {m m1 m2 : List ℕ} {a : ℕ} (i : ℕ) → Apart m m1 a (i * 2) → Apart m1 m2 (a + i * 2) 2 → Apart m m2 a ((i + 1) * 2)
-names-turn {m} {m2 = m2} {a = a} i s w = let e : i * 2 + 2 ≡ (i + 1) * 2 = omega arith in subst (Apart m m2 a) e (apart-then 2 s w)
+pub names-iteration : {m m1 m2 : List ℕ} {a : ℕ} (i : ℕ) → Apart m m1 a (i * 2) → Apart m1 m2 (a + i * 2) 2 → Apart m m2 a ((i + 1) * 2)
+names-iteration {m} {m2 = m2} {a = a} i s w = let e : i * 2 + 2 ≡ (i + 1) * 2 = omega arith in subst (Apart m m2 a) e (apart-then 2 s w)
 
 -- ---- the head
 

@@ -137,10 +137,10 @@ module _ (m : List ℕ) (tx i n : ℕ) where
   unfolding isFor openAt
   find-here h e t = ap (findOpen tx) (tab-next (openAt m) i n h) ∙ index-hit (isFor tx) _ _ (eq-eqb (le4 m (opensAt + i * 4) / statementLimit) tx (omega arith))
 
-  pub find-turn : {x : ℕ} → i < n → x ≡ le4 m (opensAt + i * 4) → (x / statementLimit ≡ tx → ⊥)
+  pub find-iteration : {x : ℕ} → i < n → x ≡ le4 m (opensAt + i * 4) → (x / statementLimit ≡ tx → ⊥)
       → findOpen tx (tab (openAt m) i (n - i)) ≡ suc (findOpen tx (tab (openAt m) (i + 1) (n - (i + 1))))
   unfolding isFor openAt
-  find-turn {x} h e t =
+  find-iteration {x} h e t =
       ap (findOpen tx) (tab-next (openAt m) i n h)
       ∙ index-pass (isFor tx) _ _ (ne-eqb (le4 m (opensAt + i * 4) / statementLimit) tx (λ z. t (ap (λ (y : ℕ). y / statementLimit) e ∙ z)))
 

@@ -12,7 +12,7 @@ use Rattle.memory_layout.specs.Store.{inRange, tablesRise, startsRise, S
 use Rattle.memory_layout.specs.declared.Head.{Head}
 use Rattle.memory_layout.specs.declared.Counts.{Counts}
 use Rattle.basics.proofs.Elements.{every-all, every-cons, every-stop, every-one}
-use Rattle.basics.proofs.Froms.{all-turn, paired-all, all-same, all-snoc}
+use Rattle.basics.proofs.Froms.{all-iteration, paired-all, all-same, all-snoc}
 
 -- ---- the head's numbers
 
@@ -59,13 +59,13 @@ endRises m t = leb (tableEnd m t) (tableEnd m (suc t))
 abbrev pub startRises : List ℕ → ℕ → Bool
 startRises m p = ltb (startAt m (capacityOf m) p) (startAt m (capacityOf m) (suc p))
 
-pub tables-turn : (m : List ℕ) (t a b : ℕ) (rise : Bool) → t < 7 → a ≡ le2 m (64 + t * 2) → b ≡ le2 m (64 + t * 2 + 2)
+pub tables-iteration : (m : List ℕ) (t a b : ℕ) (rise : Bool) → t < 7 → a ≡ le2 m (64 + t * 2) → b ≡ le2 m (64 + t * 2 + 2)
     → tablesRise m ≡ (rise && all (endRises m) (from t (7 - t))) → tablesRise m ≡ ((rise && leb a b) && all (endRises m) (from (t + 1) (7 - (t + 1))))
-tables-turn m t a b rise h ea eb inv =
+tables-iteration m t a b rise h ea eb inv =
     let e : 64 + t * 2 + 2 ≡ 64 + suc t * 2 = omega arith in
     let rest : Bool = all (endRises m) (from (t + 1) (7 - (t + 1))) in
     inv
-    ∙ ap (λ (z : Bool). rise && z) (all-turn (endRises m) t 7 h ∙ (λ i. leb (sym ea i) (sym (eb ∙ ap (le2 m) e) i) && rest))
+    ∙ ap (λ (z : Bool). rise && z) (all-iteration (endRises m) t 7 h ∙ (λ i. leb (sym ea i) (sym (eb ∙ ap (le2 m) e) i) && rest))
     ∙ sym (and-assoc rise (leb a b) rest)
 
 -- ---- the pass over the pages

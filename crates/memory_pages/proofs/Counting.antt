@@ -14,8 +14,8 @@ module _ {A : Type 0} (f : A → Bool) (xs : List A) where
   counted-start p h = record { inside = h; few = omega arith; rest = omega arith }
 
   module _ {w k p : ℕ} (c : Counted f xs w k p) where
-    pub counted-turn : (d : A) {r : ℕ} → p < length xs → r ≡ cond (f (getD xs p d)) 1 0 → r ≤ 1 → Counted f xs w (k + r) (p + 1)
-    counted-turn d h e l =
+    pub counted-iteration : (d : A) {r : ℕ} → p < length xs → r ≡ cond (f (getD xs p d)) 1 0 → r ≤ 1 → Counted f xs w (k + r) (p + 1)
+    counted-iteration d h e l =
         let t : howMany f (drop p xs) ≡ cond (f (getD xs p d)) 1 0 + howMany f (drop (p + 1) xs) =
         ap (howMany f) (drop-cons xs p d h ∙ ap (λ (z : ℕ). getD xs p d ∷ drop z xs) (sym (add-one p))) ∙ many-cons f (getD xs p d) (drop (p + 1) xs) in
         record { inside = omega arith; few = omega (arith, c .few); rest = omega (arith, c .rest) }

@@ -110,9 +110,9 @@ raising-start m c i n top a b d =
       moved = λ j h g. absurd (omega arith);
     }
 
-pub raising-turn : {m m1 m2 : List ℕ} {c i n top k : ℕ} → Raising m m1 c i n top k → n < c → i + 8 < k → EightPut m1 m1 m2 c (k - 8) (k - 8 + 1)
+pub raising-iteration : {m m1 m2 : List ℕ} {c i n top k : ℕ} → Raising m m1 c i n top k → n < c → i + 8 < k → EightPut m1 m1 m2 c (k - 8) (k - 8 + 1)
     → Raising m m2 c i n top (k - 8)
-raising-turn {m} {m1} {m2} {c} {i} {n} {top} {k} s l h p =
+raising-iteration {m} {m1} {m2} {c} {i} {n} {top} {k} s l h p =
     let low = s .low in
     let high = s .high in
     let most = s .most in
@@ -172,9 +172,9 @@ lowering-start m c i n low a b d =
       moved = λ j h g. absurd (omega arith);
     }
 
-pub lowering-turn : {m m1 m2 : List ℕ} {c i n low k : ℕ} → Lowering m m1 c i n low k → n ≤ c → k + 9 < n → EightPut m1 m1 m2 c (k + 1) k
+pub lowering-iteration : {m m1 m2 : List ℕ} {c i n low k : ℕ} → Lowering m m1 c i n low k → n ≤ c → k + 9 < n → EightPut m1 m1 m2 c (k + 1) k
     → Lowering m m2 c i n low (k + 8)
-lowering-turn {m} {m1} {m2} {c} {i} {n} {low} {k} s l h p =
+lowering-iteration {m} {m1} {m2} {c} {i} {n} {low} {k} s l h p =
     let least = s .least in
     let high = s .high in
     record {

@@ -42,13 +42,13 @@ unfolding stepAt gives
 capacity-at idle s = (refl, tt)
 capacity-at (running n es ds) s = capacity-of (first isFrozen (s .pages)) n es ds s
 
-capacity-turn : (cap k : ℕ) (s : Store) → s .capacity ≡ cap → Capacity cap (inTurn k s .store) (inTurn k s .writes)
+capacity-iteration : (cap k : ℕ) (s : Store) → s .capacity ≡ cap → Capacity cap (inTurn k s .store) (inTurn k s .writes)
 unfolding inTurn gives
-capacity-turn cap zero s e = (e, tt)
-capacity-turn cap (suc k) s e =
+capacity-iteration cap zero s e = (e, tt)
+capacity-iteration cap (suc k) s e =
     let o = stepAt (s .checkpoint) s in
     let a = subst (λ z. Capacity z (o .store) (o .writes)) e (capacity-at (s .checkpoint) s) in
-    let b = capacity-turn cap k (o .store) (a .0) in
+    let b = capacity-iteration cap k (o .store) (a .0) in
     (b .0, all-append _ (o .writes) (inTurn k (o .store) .writes) (a .1) (b .1))
 
 -- the headers that a call stores
@@ -57,7 +57,7 @@ unfolding call stepCall runCall isStep
 capacity-call (transacts c) s = subst (AllOf (λ w. Apt (s .capacity) (w .what))) (sym (call-leaves (transacts c) s .image refl)) tt
 capacity-call begins s = subst (AllOf (λ w. Apt (s .capacity) (w .what))) (sym (call-leaves begins s .image refl)) tt
 capacity-call (steps len) s = unless-out (λ t. AllOf (λ w. Apt (s .capacity) (w .what))) _ s _ tt (capacity-at (s .checkpoint) s .1)
-capacity-call (runs limit len) s = unless-out (λ t. AllOf (λ w. Apt (s .capacity) (w .what))) _ s _ tt (capacity-turn (s .capacity) (min limit (left s)) s refl .1)
+capacity-call (runs limit len) s = unless-out (λ t. AllOf (λ w. Apt (s .capacity) (w .what))) _ s _ tt (capacity-iteration (s .capacity) (min limit (left s)) s refl .1)
 
 log-apt : (cap : ℕ) (past base : List Call) (s : Store) (cs : List Call) → s .capacity ≡ cap → AllOf (λ w. Apt cap (w .write .what)) (log past base s cs)
 unfolding log tag

@@ -151,15 +151,15 @@ module _ (n : ℕ) (s₀ : Store) (Okay : Call → Type 0) (Valid : Store → Ty
       (r (put img (w .at) (w .what)) (if eqb (w .at) 0 then base else base₀)
       (subst (λ z. Inv n (put img (w .at) (w .what)) (o .store) (afterCalls base s₀) z) (landed-after (eqb (w .at) 0) base base₀ s₀) i)))
 
-  turn-goes : (k : ℕ) (img : View) (s : Store) (base base₀ : List Call) (rest : List Logged) → Valid s → Now img s base base₀
+  inTurn-goes : (k : ℕ) (img : View) (s : Store) (base base₀ : List Call) (rest : List Logged) → Valid s → Now img s base base₀
       → ((img′ : View) (base₀′ : List Call) → Now img′ (inTurn k s .store) base base₀′ → Goes img′ base₀′ rest)
       → Goes img base₀ (map (tag base) (inTurn k s .writes) ++ rest)
   unfolding inTurn gives
-  turn-goes zero img s base base₀ rest v inv r = r img base₀ inv
-  turn-goes (suc k) img s base base₀ rest v inv r =
+  inTurn-goes zero img s base base₀ rest v inv r = r img base₀ inv
+  inTurn-goes (suc k) img s base base₀ rest v inv r =
       let o = stepAt (s .checkpoint) s in
       step-goes img s base base₀ o (inTurn k (o .store) .writes) rest v inv (step-inv n img s (afterCalls base s₀) (afterCalls base₀ s₀) (block-use s v) (small s v) inv)
-      (λ img′ base₀′ i. turn-goes k img′ (o .store) base base₀′ rest (steps-keep s v) i r)
+      (λ img′ base₀′ i. inTurn-goes k img′ (o .store) base base₀′ rest (steps-keep s v) i r)
 
   -- what comes after a call: the store t, from which the rest of the calls is made
   abbrev Rest : List Call → List Call → Store → List Call → Type 0
@@ -185,7 +185,7 @@ module _ (n : ℕ) (s₀ : Store) (Okay : Call → Type 0) (Valid : Store → Ty
       unless-out (λ t ws. Rest past′ base t cs → Goes img base₀ (map (tag base) ws ++ log past′ base t cs))
       (badImage len s ∷ 18 when not (isRunning (s .checkpoint)) ∷ []) s
       (record { answer = count k; store = inTurn k s .store; writes = inTurn k s .writes })
-      (λ r. r img base₀ inv) (λ r. turn-goes k img s base base₀ _ v inv r) r
+      (λ r. r img base₀ inv) (λ r. inTurn-goes k img s base base₀ _ v inv r) r
 
   without-stores : (c : TransactionCall) (img : View) (s : Store) (past base base₀ : List Call) (cs : List Call)
       → Now img s base base₀ → Rest (past ++ transacts c ∷ []) base (transact c s .store) cs → Goes img base₀ (log past base s (transacts c ∷ cs))

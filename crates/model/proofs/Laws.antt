@@ -98,25 +98,25 @@ pub step-at : (len : ℕ) (s : Store) → len ≡ blockSize * s .blocks → step
 unfolding stepCall unless badImage if_then_else_
 step-at len s e = rw (e, eqb-self (blockSize * s .blocks))
 
-turn-steps : (len k : ℕ) (s : Store) → len ≡ blockSize * s .blocks
+inTurn-steps : (len k : ℕ) (s : Store) → len ≡ blockSize * s .blocks
     → (inTurn k s .store ≡ afterCalls (times k (steps len)) s) × (inTurn k s .writes ≡ writesOf (times k (steps len)) s)
 unfolding inTurn times afterCalls writesOf gives call
-turn-steps len zero s e = (refl, refl)
-turn-steps len (suc k) s e =
+inTurn-steps len zero s e = (refl, refl)
+inTurn-steps len (suc k) s e =
     let o = stepAt (s .checkpoint) s in
-    let r = turn-steps len k (o .store) (e ∙ ap (λ z. blockSize * z) (sym (step-size s))) in
+    let r = inTurn-steps len k (o .store) (e ∙ ap (λ z. blockSize * z) (sym (step-size s))) in
     subst (λ z. (inTurn k (o .store) .store ≡ afterCalls (times k (steps len)) (z .store)) × (o .writes ++ inTurn k
     (o .store) .writes ≡ z .writes ++ writesOf (times k (steps len)) (z .store)))
     (sym (step-at len s e)) (r .0, ap (λ z. o .writes ++ z) (r .1))
 
 -- while enough are left, each step makes its store
-turn-count : (k : ℕ) (s : Store) → k ≤ left s → (length (inTurn k s .writes) ≡ k) × (left s ≡ k + left (inTurn k s .store))
+inTurn-count : (k : ℕ) (s : Store) → k ≤ left s → (length (inTurn k s .writes) ≡ k) × (left s ≡ k + left (inTurn k s .store))
 unfolding inTurn gives
-turn-count zero s h = (refl, omega arith)
-turn-count (suc k) s h =
+inTurn-count zero s h = (refl, omega arith)
+inTurn-count (suc k) s h =
     let o = stepAt (s .checkpoint) s in
     let q = stepped (s .checkpoint) refl in
-    let r = turn-count k (o .store) (omega (arith, q .1)) in
+    let r = inTurn-count k (o .store) (omega (arith, q .1)) in
     (length-append (o .writes) (inTurn k (o .store) .writes) ∙ omega (arith, q .0, r .0), omega (arith, q .1, r .1))
   where
     stepped : (c : Checkpoint) → s .checkpoint ≡ c → Stepped s (stepAt c s)
@@ -131,7 +131,7 @@ unfolding runCall badImage
 run-is-steps limit len s h k e =
     unless-accepted (Ran k)
     _ s _ (λ p q. subst (λ j. Ran k (record { answer = count j; store = inTurn j s .store; writes = inTurn j s .writes })) e
-    (let r = turn-steps len k s (eqb-true len (blockSize * s .blocks) (not-false _ (p .0))) in let n = turn-count k s (omega arith) in (refl, r .0, r .1, n .0, n .1))) h
+    (let r = inTurn-steps len k s (eqb-true len (blockSize * s .blocks) (not-false _ (p .0))) in let n = inTurn-count k s (omega arith) in (refl, r .0, r .1, n .0, n .1))) h
   where
     Ran : ℕ → Outcome → Type 0
     Ran k o = (o .answer ≡ count k) × (o .store ≡ afterCalls (times k (steps len)) s) × (o .writes ≡ writesOf (times k (steps len)) s)

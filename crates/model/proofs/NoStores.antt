@@ -86,10 +86,10 @@ step-frame P s p f = go (s .checkpoint)
 
 -- what every step keeps is kept by step and run
 module _ (P : Store → Type 0) (keeps : (s : Store) → P s → P (stepAt (s .checkpoint) s .store)) where
-  turn-keeps : (k : ℕ) (s : Store) → P s → P (inTurn k s .store)
+  inTurn-keeps : (k : ℕ) (s : Store) → P s → P (inTurn k s .store)
   unfolding inTurn gives
-  turn-keeps zero s p = p
-  turn-keeps (suc k) s p = turn-keeps k (stepAt (s .checkpoint) s .store) (keeps s p)
+  inTurn-keeps zero s p = p
+  inTurn-keeps (suc k) s p = inTurn-keeps k (stepAt (s .checkpoint) s .store) (keeps s p)
 
   pub step-keeps : (len : ℕ) (s : Store) → P s → P (stepCall len s .store)
   unfolding stepCall
@@ -97,7 +97,7 @@ module _ (P : Store → Type 0) (keeps : (s : Store) → P s → P (stepAt (s .c
 
   pub run-keeps : (limit len : ℕ) (s : Store) → P s → P (runCall limit len s .store)
   unfolding runCall
-  run-keeps limit len s p = unless-keeps P _ s _ p (λ q. turn-keeps (min limit (left s)) s p)
+  run-keeps limit len s p = unless-keeps P _ s _ p (λ q. inTurn-keeps (min limit (left s)) s p)
 
 -- ---- what a call leaves
 

@@ -1,7 +1,7 @@
 -- `block_bits::load` meets its contract. The invariant: acc is the number in the first i of the n bytes.
 use Rattle.basics.proofs.Kit.{_≡_, refl, _+_, _*_, _^_, _≤_, _<_, _-_, lit<, getD, arith}
 use Rattle.block_bits.specs.Bits.{field, number, bitsIn}
-use Rattle.block_bits.proofs.Window.{load-turn, load-lt, load-fits}
+use Rattle.block_bits.proofs.Window.{load-iteration, load-lt, load-fits}
 use Rattle.block_bits.proofs.load.Statement.{statement}
 use Rattle.block_bits.proofs.load.Tie as tie
 
@@ -32,7 +32,7 @@ loop-again c =
     let w = c .wide in
     let small : getD (a .block .now) (a .p + l .i) 0 < 256 = omega (arith, w .ensures .0, w .ensures .1) in (
       omega arith,
-      rw (w .ensures .0) (load-turn (a .block .now) (a .p) (l .i) (l .acc) (omega arith) small (l .inv .1)),
+      rw (w .ensures .0) (load-iteration (a .block .now) (a .p) (l .i) (l .acc) (omega arith) small (l .inv .1)),
       load-lt (l .i) (l .acc) (w .result) (l .inv .2) (w .ensures .1),
     )
 

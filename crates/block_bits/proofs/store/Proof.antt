@@ -3,7 +3,7 @@ use Rattle.basics.proofs.Kit.{_≡_, refl, sym, _∙_, _+_, _*_, _^_, _≤_, _/
 use Rattle.block_bits.specs.Bits.{bitsOf, bitsIn}
 use Rattle.basics.specs.Lists.{over}
 use Rattle.basics.proofs.Overs.{over-nil}
-use Rattle.block_bits.proofs.Window.{store-turn, store-end}
+use Rattle.block_bits.proofs.Window.{store-iteration, store-end}
 use Rattle.block_bits.proofs.store.Statement.{statement}
 use Rattle.block_bits.proofs.store.Tie as tie
 
@@ -23,7 +23,7 @@ loop-again c =
     let a = c .before .before .before .before .before .args in (
       omega arith,
       length-set (l .block) (a .p + l .i) (c .byte .result) ∙ l .inv .1,
-      store-turn (a .block .now) (l .block) (a .p) (a .n) (l .i) (a .x) (c .byte .result) (omega arith) (omega arith) (l .inv .1) (l .inv .2)
+      store-iteration (a .block .now) (l .block) (a .p) (a .n) (l .i) (a .x) (c .byte .result) (omega arith) (omega arith) (l .inv .1) (l .inv .2)
           (rw (← c .before .shr .ensures) (c .byte .ensures)),
     )
 

@@ -2,7 +2,7 @@
 use Rattle.basics.proofs.Kit.{_≡_, refl, sym, _∙_, _≤_, _-_, length, take, drop, length-set, arith}
 use Rattle.basics.specs.Lists.{over}
 use Rattle.basics.proofs.Overs.{over-nil}
-use Rattle.basics.proofs.Overs.{copy-turn}
+use Rattle.basics.proofs.Overs.{copy-iteration}
 use Rattle.block_forms.proofs.copy.Statement.{statement}
 use Rattle.block_forms.proofs.copy.Tie as tie
 
@@ -18,7 +18,7 @@ loop-holds c = (omega arith, (refl, sym (over-nil (c .args .block .now) (c .args
 loop-again : tie.Need-loop-again Inv-loop μ-loop
 loop-again c = let s = c .before .before .before in
     let p = c .before .before .loop in
-    (omega arith, (simp length-set (omega arith), rw (p .inv .1 .1) (copy-turn (s .args .block .now) (s .args .from .now) (s .args .at) (s .args .start) (p .i) (omega arith) (omega arith))))
+    (omega arith, (simp length-set (omega arith), rw (p .inv .1 .1) (copy-iteration (s .args .block .now) (s .args .from .now) (s .args .at) (s .args .start) (p .i) (omega arith) (omega arith))))
 
 returns : tie.Need-returns Inv-loop μ-loop
 returns c = let p = c .before .loop in

@@ -2,7 +2,7 @@
 use Rattle.basics.proofs.Kit.{_≡_, refl, _≤_, _-_, length, take, length-set, arith}
 use Rattle.block_forms.specs.Limits.{entriesPerBlock}
 use Rattle.block_forms.specs.Decode.{readEntries}
-use Rattle.block_reader.proofs.Entries.{entries-turn}
+use Rattle.block_reader.proofs.Entries.{entries-iteration}
 use Rattle.block_reader.proofs.read_entries.Statement.{statement}
 use Rattle.block_reader.proofs.read_entries.Tie as tie
 
@@ -19,7 +19,7 @@ loop-holds c = (omega arith, (refl, refl))
 loop-again : tie.Need-loop-again Inv-loop μ-loop
 loop-again c = let s = c .before .before .before .before in
     let p = c .before .before .before .loop in
-    (omega arith, (simp length-set (omega arith), entries-turn (s .args .block .now) (p .out) (p .i) (c .get-bits .result) (omega arith) (p .inv .1 .1) (c .get-bits .ensures .0)))
+    (omega arith, (simp length-set (omega arith), entries-iteration (s .args .block .now) (p .out) (p .i) (c .get-bits .result) (omega arith) (p .inv .1 .1) (c .get-bits .ensures .0)))
 
 returns : tie.Need-returns Inv-loop μ-loop
 returns c = let p = c .before .loop in

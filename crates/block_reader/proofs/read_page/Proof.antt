@@ -5,7 +5,7 @@ use Rattle.block_forms.specs.Block.{Block, page, encodeBlock}
 use Rattle.block_forms.specs.Tuple.{AllBytes}
 use Rattle.block_forms.specs.Numbers.{same}
 use Rattle.block_reader.proofs.Answering.{page-none, page-yes, page-no}
-use Rattle.block_reader.proofs.Again.{Again, again-start, again-length, again-turn, again-spells, again-other}
+use Rattle.block_reader.proofs.Again.{Again, again-start, again-length, again-iteration, again-spells, again-other}
 use Rattle.block_reader.proofs.Walk.{passed-bad, passed-end}
 use Rattle.block_reader.proofs.Records.{Found-is, found-is, found-appends}
 use Rattle.block_forms.proofs.Spelled.{all-bytes}
@@ -84,7 +84,7 @@ returns c =
 loop-again : tie.Need-loop-again Inv-loop μ-loop
 loop-again c =
     let f = c .before .before .before in let p = f .before .before .before .before in
-    let more = again-turn (whole p) (p .loop .inv .1) (omega (arith, f .before .before .before .loop-test)) (found f) (c .append .ensures) in
+    let more = again-iteration (whole p) (p .loop .inv .1) (omega (arith, f .before .before .before .loop-test)) (found f) (c .append .ensures) in
     (again-length (whole p) more, more)
 
 returns-2 : tie.Need-returns-2 Inv-loop μ-loop
@@ -106,7 +106,7 @@ returns-3 c =
     let n = p .before .before .before .before .before .get-bits2 .ensures .0 in
     let l = p .before .before .before .get-bits4 .ensures .0 in
     let e = c .before .before .before .before .loop-test in
-    sym (page-yes (block p) t n l (passed-end (a .passed) (omega (arith, e))) (omega (arith, e, a .passed .count, a .passed .turn)) (sym (spells (c .before)) ∙ c .if2 .taken))
+    sym (page-yes (block p) t n l (passed-end (a .passed) (omega (arith, e))) (omega (arith, e, a .passed .count, a .passed .most)) (sym (spells (c .before)) ∙ c .if2 .taken))
 
 returns-4 : tie.Need-returns-4 Inv-loop μ-loop
 returns-4 c =

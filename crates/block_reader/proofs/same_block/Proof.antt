@@ -2,7 +2,7 @@
 use Rattle.block_forms.specs.Limits.{blockSize}
 use Rattle.basics.proofs.Kit.{_≡_, refl, _&&_, _≤_, _-_, drop, arith}
 use Rattle.block_forms.specs.Numbers.{same}
-use Rattle.block_reader.proofs.Same.{same-turn, same-end}
+use Rattle.block_reader.proofs.Same.{same-iteration, same-end}
 use Rattle.block_reader.proofs.same_block.Statement.{statement}
 use Rattle.block_reader.proofs.same_block.Tie as tie
 
@@ -15,7 +15,7 @@ abbrev μ-loop : tie.MeasureT-loop
 loop-again : tie.Need-loop-again Inv-loop μ-loop
 loop-again c = let s = c .before .before .before .before in
     let p = c .before .before .before .loop in
-    (omega arith, same-turn (s .args .a .now) (s .args .b .now) (p .i) (p .ok) (p .inv .1) (omega arith) (omega arith))
+    (omega arith, same-iteration (s .args .a .now) (s .args .b .now) (p .i) (p .ok) (p .inv .1) (omega arith) (omega arith))
 
 returns : tie.Need-returns Inv-loop μ-loop
 returns c = let s = c .before .before in

@@ -3,7 +3,7 @@ use Rattle.basics.proofs.Kit.{ap, _∙_, List, ℕ, _-_, length, getD, needs, a
 use Rattle.memory_layout.specs.Flat.{flatOf}
 use Rattle.call_checkpoint.specs.Counting.{namedIn}
 use Rattle.memory_layout.proofs.Laws.{named-read, directories-read, sizes}
-use Rattle.call_checkpoint.proofs.Leaving.{Marking, marking-start, marking-turn, marking-same, marking-end, named-count}
+use Rattle.call_checkpoint.proofs.Leaving.{Marking, marking-start, marking-iteration, marking-same, marking-end, named-count}
 use Rattle.call_checkpoint.proofs.mark_named.Statement.{statement}
 use Rattle.call_checkpoint.proofs.mark_named.Tie as tie
 
@@ -43,7 +43,7 @@ loop-again c =
     let i = c .before .before .before .before .before .before in
     let l = i .before .loop in
     let e = c .before .before .before .before .block-named .ensures .0 ∙ ap (λ (bs : List ℕ). getD bs (l .i) 0) (marking-same (l .inv)) in
-    marking-turn (l .inv) (i .loop-test .taken) _ e _ (c .before .before .mark-used .ensures)
+    marking-iteration (l .inv) (i .loop-test .taken) _ e _ (c .before .before .mark-used .ensures)
 
 same-length : tie.Need-same-length Inv-loop μ-loop
 same-length c = c .before .loop .inv .becomes .size

@@ -1,7 +1,7 @@
 -- `call_checkpoint::name_pages` meets its contract. The invariant: the list has the blocks of the first p pages (`Naming`).
 use Rattle.basics.proofs.Kit.{_-_, needs, arith}
 use Rattle.memory_layout.proofs.Laws.{pages-read, holds-room, sizes}
-use Rattle.call_checkpoint.proofs.Beginning.{Naming, naming-start, naming-in, naming-room, naming-low, naming-turn, naming-end}
+use Rattle.call_checkpoint.proofs.Beginning.{Naming, naming-start, naming-in, naming-room, naming-low, naming-iteration, naming-end}
 use Rattle.call_checkpoint.proofs.name_pages.Statement.{statement}
 use Rattle.call_checkpoint.proofs.name_pages.Tie as tie
 
@@ -45,7 +45,7 @@ loop-less c = omega (arith, c .before .before .before .before .before .before .l
 loop-again : tie.Need-loop-again Inv-loop μ-loop
 loop-again c =
     let i = c .before .before .before .before .before .before in
-    naming-turn (i .before .loop .inv) (i .loop-test .taken) (c .before .before .before .before .block-at .ensures) (c .before .before .push-named .ensures)
+    naming-iteration (i .before .loop .inv) (i .loop-test .taken) (c .before .before .before .before .block-at .ensures) (c .before .before .push-named .ensures)
 
 same-length : tie.Need-same-length Inv-loop μ-loop
 same-length c = c .before .loop .inv .becomes .size

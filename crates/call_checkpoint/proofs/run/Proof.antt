@@ -6,7 +6,7 @@ use Rattle.memory_layout.proofs.Laws.{holds-room}
 use Rattle.call_checkpoint.specs.Keeping.{Ready}
 use Rattle.call_checkpoint.proofs.Running.{left-is}
 use Rattle.call_checkpoint.proofs.Stepping.{frozen-all, stopped, passed-ready}
-use Rattle.call_checkpoint.proofs.Repeating.{run-5, run-18, Repeats, repeats-start, repeats-turn, repeats-end}
+use Rattle.call_checkpoint.proofs.Repeating.{run-5, run-18, Repeats, repeats-start, repeats-iteration, repeats-end}
 use Rattle.call_checkpoint.proofs.run.Statement.{statement}
 use Rattle.call_checkpoint.proofs.run.Tie as tie
 
@@ -48,7 +48,7 @@ loop-less c = omega (arith, c .before .before .before .before .before .before .b
 loop-again : tie.Need-loop-again Inv-loop μ-loop
 loop-again c =
     let i = c .before .before .before .before .before .before .before in
-    repeats-turn (i .before .loop .inv) (i .loop-test .taken) _ _ _ (search needs) (c .before .before .before .before .step .ensures)
+    repeats-iteration (i .before .loop .inv) (i .loop-test .taken) _ _ _ (search needs) (c .before .before .before .before .step .ensures)
 
 same-length-2 : tie.Need-same-length-2 Inv-loop μ-loop
 same-length-2 c = c .before .loop .inv .wide

@@ -1,5 +1,5 @@
 -- `call_recovery::count_rows` meets its contract. The invariant: the counts are those of the first i rows.
-use Rattle.call_recovery.proofs.Owning.{owner-fits, counts-turn, counts-end, counts-small}
+use Rattle.call_recovery.proofs.Owning.{owner-fits, counts-iteration, counts-end, counts-small}
 use Rattle.call_recovery.specs.Reopening.{ownRows, Counts}
 use Rattle.memory_layout.specs.Flat.{flatOf}
 use Rattle.memory_layout.proofs.Laws.{rows-read, sizes}
@@ -39,7 +39,7 @@ loop-again c =
     let l = p6 .loop in
     let m = p11 .args .m .now in
     let h : l .i < length (flatOf m .rows) = omega (arith, l .inv .0, p5 .loop-test) in
-    (l .inv .0, counts-turn (flatOf m) _ h (p11 .pre .owners) (p3 .owner-at .ensures) (l .inv .1) (p2 .note .ensures))
+    (l .inv .0, counts-iteration (flatOf m) _ h (p11 .pre .owners) (p3 .owner-at .ensures) (l .inv .1) (p2 .note .ensures))
 
 same-length : tie.Need-same-length Inv-loop μ-loop
 same-length c =

@@ -1,5 +1,5 @@
 -- `call_recovery::load_pages` meets its contract. The invariant: the pages in the first i blocks are loaded.
-use Rattle.call_recovery.proofs.Naming.{named-below, all-pages, loading-start, loading-turn, loading-room, loading-end}
+use Rattle.call_recovery.proofs.Naming.{named-below, all-pages, loading-start, loading-iteration, loading-room, loading-end}
 use Rattle.call_recovery.specs.Loading.{pagesAt, Loads}
 use Rattle.image.proofs.Collect.{within}
 use Rattle.image.specs.View.{view}
@@ -44,7 +44,7 @@ loop-again c =
     let a = p11 .args in
     let l = p7 .loop in
     let h : l .i < length (a .entries .now) = omega (arith, p6 .loop-test) in
-    (omega arith, loading-turn (view _) _ _ _ h (p4 .wide .ensures) (l .inv .1) (p2 .load-page .ensures))
+    (omega arith, loading-iteration (view _) _ _ _ h (p4 .wide .ensures) (l .inv .1) (p2 .load-page .ensures))
 
 returns : tie.Need-returns Inv-loop μ-loop
 returns c =

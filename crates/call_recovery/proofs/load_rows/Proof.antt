@@ -1,5 +1,5 @@
 -- `call_recovery::load_rows` meets its contract. The invariant: the first i tuples of the page are loaded, and the cursor stands at the next record (`Walk`).
-use Rattle.call_recovery.proofs.Adding.{page-walk, fills-none, fills-turn, row-room, withoutPending-all}
+use Rattle.call_recovery.proofs.Adding.{page-walk, fills-none, fills-iteration, row-room, withoutPending-all}
 use Rattle.call_recovery.specs.Loading.{tuplesIn, Fills}
 use Rattle.model.specs.State.{Held}
 use Rattle.model.specs.Rules.{withoutPending}
@@ -64,7 +64,7 @@ loop-again c =
     let ts : List Tuple = tuplesIn (asPage (decodeBlock (p12 .args .block .now))) in
     let h : l .i < length ts = omega (arith, pre .0 .count, p8 .loop-test) in
     let f = walk-found (l .inv .1 .0) h (sym (p5 .r .given .1) ∙ p7 .next .ensures) in
-    (omega (arith, p8 .loop-test), (f .walk, fills-turn (l .i) ts _ (f .done) (l .inv .1 .1) (pre .1 .page) (p2 .load-row .ensures)))
+    (omega (arith, p8 .loop-test), (f .walk, fills-iteration (l .i) ts _ (f .done) (l .inv .1 .1) (pre .1 .page) (p2 .load-row .ensures)))
 
 returns-2 : tie.Need-returns-2 Inv-loop μ-loop
 returns-2 c =

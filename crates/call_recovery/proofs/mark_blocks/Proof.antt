@@ -1,6 +1,6 @@
 -- `call_recovery::mark_blocks` meets its contract. The invariant: the first i blocks are in use, and all others as at entry (`Marked`).
 use Rattle.block_forms.specs.Limits.{blockLimit}
-use Rattle.call_recovery.proofs.Naming.{named-below, Marked, marking-start, marking-turn, marking-end}
+use Rattle.call_recovery.proofs.Naming.{named-below, Marked, marking-start, marking-iteration, marking-end}
 use Rattle.basics.proofs.Kit.{_≤_, _<_, _-_, length, take, arith}
 use Rattle.call_recovery.proofs.mark_blocks.Statement.{statement}
 use Rattle.call_recovery.proofs.mark_blocks.Tie as tie
@@ -29,7 +29,7 @@ loop-again c =
     let a = p10 .args in
     let l = p7 .loop in
     let h : l .i < length (a .bs .now) = omega (arith, p6 .loop-test) in
-    (omega arith, marking-turn _ _ h (p3 .wide .ensures) (l .inv .1) (p2 .mark-used .ensures))
+    (omega arith, marking-iteration _ _ h (p3 .wide .ensures) (l .inv .1) (p2 .mark-used .ensures))
 
 returns : tie.Need-returns Inv-loop μ-loop
 returns c = let p = c .before .loop in marking-end _ (p .i) (omega (arith, c .loop-test)) (p .inv .1)

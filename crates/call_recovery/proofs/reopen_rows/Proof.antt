@@ -1,6 +1,6 @@
 -- `call_recovery::reopen_rows` meets its contract. The invariant: the transactions whose last row is among the first i rows are open, in that order (`Reopened`).
-use Rattle.call_recovery.proofs.Owning.{counts-sized, own-length, owner-fits, counts-turn, counts-small}
-use Rattle.call_recovery.proofs.Owning.{Reopened, reopened-start, same-rows, same-owner, reopened-turn, reopened-room, reopened-end}
+use Rattle.call_recovery.proofs.Owning.{counts-sized, own-length, owner-fits, counts-iteration, counts-small}
+use Rattle.call_recovery.proofs.Owning.{Reopened, reopened-start, same-rows, same-owner, reopened-iteration, reopened-room, reopened-end}
 use Rattle.call_recovery.specs.Reopening.{ownRows, Counts}
 use Rattle.memory_layout.specs.Flat.{flatOf}
 use Rattle.memory_layout.proofs.Laws.{rows-read, sizes}
@@ -48,7 +48,7 @@ reopen-last-requires c κs =
     let few = sizes (pre .room) .rows in
     let h : l .i < length (flatOf m .rows) = omega (arith, l .inv .0, p8 .loop-test) in
     let e = same-owner (l .inv .1 .0) (p6 .owner-at .ensures) in
-    let k = counts-turn (flatOf m) _ h (pre .owners) e (l .inv .1 .1) (p4 .note .ensures) in
+    let k = counts-iteration (flatOf m) _ h (pre .owners) e (l .inv .1 .1) (p4 .note .ensures) in
     record {
       room = l .inv .1 .0 .becomes .room;
       owner = owner-fits (flatOf m) _ h (pre .owners) e;
@@ -66,8 +66,8 @@ loop-again c =
     let pre = p19 .pre .may in
     let h : l .i < length (flatOf m .rows) = omega (arith, l .inv .0, p11 .loop-test) in
     let e = same-owner (l .inv .1 .0) (p9 .owner-at .ensures) in
-    let k = counts-turn (flatOf m) _ h (pre .owners) e (l .inv .1 .1) (p7 .note .ensures) in
-    (l .inv .0, (reopened-turn (l .inv .1 .0) h (pre .owners) e (p19 .pre .counted) k (p2 .reopen-last .ensures), k))
+    let k = counts-iteration (flatOf m) _ h (pre .owners) e (l .inv .1 .1) (p7 .note .ensures) in
+    (l .inv .0, (reopened-iteration (l .inv .1 .0) h (pre .owners) e (p19 .pre .counted) k (p2 .reopen-last .ensures), k))
 
 same-length-2 : tie.Need-same-length-2 Inv-loop μ-loop
 same-length-2 c =

@@ -2,7 +2,7 @@
 use Rattle.basics.proofs.Kit.{_≡_, refl, ap, List, ℕ, _*_, _≤_, _<_, _-_, length, length-set, arith}
 use Rattle.model.specs.State.{Active}
 use Rattle.memory_layout.specs.Flat.{flatOf}
-use Rattle.call_transactions.proofs.Listing.{listedTo, list-none, list-turn, list-end}
+use Rattle.call_transactions.proofs.Listing.{listedTo, list-none, list-iteration, list-end}
 use Rattle.call_transactions.proofs.fill_list.Statement.{statement}
 use Rattle.call_transactions.proofs.fill_list.Tie as tie
 
@@ -46,7 +46,7 @@ loop-again c = let l = c .before .before in let st = l .before .before .before i
     let p : List ℕ = st .args .reply .now in
     let lt : l .loop .i < length os = omega (arith, st .pre .count, c .before .loop-test .taken) in
     let fits : 2 * length os ≤ length p = omega (arith, st .pre .count, st .pre .long) in
-    (omega (arith, c .before .loop-test .taken), (simp length-set (l .loop .inv .1 .0), list-turn os p (l .loop .i) lt fits (l .loop .reply) _ t (l .loop .inv .1 .1)))
+    (omega (arith, c .before .loop-test .taken), (simp length-set (l .loop .inv .1 .0), list-iteration os p (l .loop .i) lt fits (l .loop .reply) _ t (l .loop .inv .1 .1)))
 
 same-length : tie.Need-same-length Inv-loop μ-loop
 same-length c = c .before .loop .inv .1 .0

@@ -4,7 +4,7 @@ use Rattle.memory_layout.specs.declared.Head.{Head}
 use Rattle.memory_layout.specs.Flat.{Flat, flatOf}
 use Rattle.memory_layout.specs.Store.{storeOf}
 use Rattle.basics.specs.Basics.{howMany, from, oneIf}
-use Rattle.basics.proofs.Froms.{tally-turn, tally-end}
+use Rattle.basics.proofs.Froms.{tally-iteration, tally-end}
 use Rattle.model.specs.Checkpoint.{freeCount}
 use Rattle.engine_allocator.proofs.Tallies.{free-is}
 use Rattle.engine_allocator.proofs.enough_free.Statement.{statement}
@@ -73,7 +73,7 @@ loop-again c =
       least = omega arith;
       inside = omega arith;
       few = omega (arith, k .few, c .one-if .ensures .1);
-      rest = omega (arith, k .rest, c .one-if .ensures .0, u, tally-turn (λ b. not (f .used b)) (l .loop .b) _ in-loop);
+      rest = omega (arith, k .rest, c .one-if .ensures .0, u, tally-iteration (λ b. not (f .used b)) (l .loop .b) _ in-loop);
     }
 
 returns-2 : tie.Need-returns-2 Inv-loop μ-loop

@@ -1,6 +1,6 @@
 -- `engine_writer::named_from` meets its contract. The invariant: the first i numbers are those from entry `first` on.
 use Rattle.memory_layout.proofs.Laws.{sizes}
-use Rattle.basics.proofs.Parts.{entries-turn}
+use Rattle.basics.proofs.Parts.{entries-iteration}
 use Rattle.memory_layout.specs.Flat.{flatOf}
 use Rattle.block_forms.specs.Limits.{entriesPerBlock}
 use Rattle.basics.proofs.Kit.{_≡_, refl, _≤_, _-_, length, take, drop, length-set, arith}
@@ -24,7 +24,7 @@ get-named-requires c κs = let s = c .before .before .before in (s .pre .0, omeg
 
 loop-again : tie.Need-loop-again Inv-loop μ-loop
 loop-again c = let s = c .before .before .before .before in let p = c .before .before .loop in let ns = flatOf (s .args .m .now) .named in
-    (simp length-set (p .inv .0), (omega arith, entries-turn ns (p .entries) (s .args .first) (p .i) (c .get-named .result) (omega arith) (omega arith) (c .get-named .ensures) (p .inv .1 .1)))
+    (simp length-set (p .inv .0), (omega arith, entries-iteration ns (p .entries) (s .args .first) (p .i) (c .get-named .result) (omega arith) (omega arith) (c .get-named .ensures) (p .inv .1 .1)))
 
 returns : tie.Need-returns Inv-loop μ-loop
 returns c = let p = c .before .loop in

@@ -1,6 +1,6 @@
 -- `image::gather` meets its contract. The invariant: out begins with the entries of the first i directory blocks; those of the others are still to be read.
 use Rattle.basics.proofs.Kit.{_≡_, refl, _∙_, _-_, length, not-true, not-false, arith}
-use Rattle.image.proofs.Named.{Gathering, gathering-start, gathering-turn, gathering-stop, gathering-end}
+use Rattle.image.proofs.Named.{Gathering, gathering-start, gathering-iteration, gathering-stop, gathering-end}
 use Rattle.image.proofs.Collect.{within, seen}
 use Rattle.image.specs.View.{view}
 use Rattle.image.proofs.gather.Statement.{statement}
@@ -43,7 +43,7 @@ loop-again c =
     let p4 = c .before .before .before .before in let p7 = p4 .before .before .before in let p8 = p7 .before in let p10 = p8 .before .before in
     let p11 = p10 .before in let p15 = p11 .before .before .before .before in let a = p15 .args in let p = p11 .loop in
     let e = seen _ (a .directories .now) (p .i) (p7 .block-at .ensures) (p8 .wide .ensures) in
-    let t = gathering-turn (p .inv .0) (omega (arith, p10 .loop-test)) e _ (p15 .pre .1) (not-false _ (c .before .if1 .left)) (p4 .add-entries .ensures) in
+    let t = gathering-iteration (p .inv .0) (omega (arith, p10 .loop-test)) e _ (p15 .pre .1) (not-false _ (c .before .if1 .left)) (p4 .add-entries .ensures) in
     (rw (c .due .ensures) t, p4 .add-entries .kept .1 .1 .1 .0 ∙ p .inv .1)
 
 pub gather-spec : {M : Type 1} → statement M

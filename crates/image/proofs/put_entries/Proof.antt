@@ -1,6 +1,6 @@
 -- `image::put_entries` meets its contract. The invariant: out is as at entry but for the first i entries, which are put from the place on.
 use Rattle.basics.proofs.Kit.{_≡_, refl, sym, ap, _∙_, List, ℕ, _+_, _≤_, _-_, length, take, set, length-set, arith}
-use Rattle.basics.proofs.Overs.{put-turn}
+use Rattle.basics.proofs.Overs.{put-iteration}
 use Rattle.basics.proofs.Overs.{over-nil}
 use Rattle.basics.specs.Lists.{over}
 use Rattle.image.proofs.put_entries.Statement.{statement}
@@ -23,7 +23,7 @@ loop-again c =
       omega arith,
       (
         length-set (p .out) (a .at + p .i) _ ∙ p .inv .1 .0,
-        ap (λ (o : List ℕ). set o (a .at + p .i) (c .number .result)) (p .inv .1 .1) ∙ put-turn _ _ _ (p .i) _
+        ap (λ (o : List ℕ). set o (a .at + p .i) (c .number .result)) (p .inv .1 .1) ∙ put-iteration _ _ _ (p .i) _
             (omega arith) (omega arith) (c .number .ensures),
       ),
     )

@@ -1,6 +1,6 @@
 -- `image::test_rows` meets its contract. The invariant: the columns have the rows of the first i pages, without payloads, and their delete marks are right.
 use Rattle.basics.proofs.Kit.{_≡_, refl, _∙_, _-_, length, getD, needs, arith}
-use Rattle.image.proofs.Collect.{Collecting, within, Goods, goods, page-here, tuples-here, collecting-start, collecting-turn, collecting-end, collecting-bad}
+use Rattle.image.proofs.Collect.{Collecting, within, Goods, goods, page-here, tuples-here, collecting-start, collecting-iteration, collecting-end, collecting-bad}
 use Rattle.block_forms.specs.Block.{asPage}
 use Rattle.image.specs.View.{view}
 use Rattle.image_rows.specs.Columns.{rowsIn}
@@ -77,7 +77,7 @@ loop-again c =
     let p24 = p23 .before in let a = p24 .before .before .before .before .before .before .before .before .args in
     let p = p24 .loop in let g = found p15 in let l = p .inv .1 in let d = p9 .add-rows .kept .1 .1 .1 in
     let r = tuples-here (a .image .now) (a .entries .now) _ (p20 .block-at .ensures) (p21 .wide2 .ensures) g in
-    let t = collecting-turn (p .inv .0) (omega (arith, p23 .loop-test)) g (p9 .add-rows .ensures (g .tuples) r) in
+    let t = collecting-iteration (p .inv .0) (omega (arith, p23 .loop-test)) g (p9 .add-rows .ensures (g .tuples) r) in
     (rw (c .wide3 .ensures) t, (d .0 ∙ l .0, (d .1 .0 ∙ l .1 .0, (d .1 .1 .0 ∙ l .1 .1 .0, d .1 .1 .1 .0 ∙ l .1 .1 .1))))
 
 columns-ok-requires : tie.Need-columns-ok-requires Inv-loop μ-loop

@@ -1,6 +1,6 @@
 -- `image_rows::is_in` meets its contract. The invariant: x stands in s from the place `from` on exactly if it stands there from index i on.
 use Rattle.basics.proofs.Kit.{_≡_, refl, sym, _∙_, _-_, eqb, length, drop, eq-eqb, ne-eqb, arith}
-use Rattle.basics.proofs.Iterations.{drop-turn, drop-end, any-yes, any-not, any-end}
+use Rattle.basics.proofs.Iterations.{drop-iteration, drop-end, any-yes, any-not, any-end}
 use Rattle.basics.specs.Basics.{isIn}
 use Rattle.image_rows.proofs.is_in.Statement.{statement}
 use Rattle.image_rows.proofs.is_in.Tie as tie
@@ -15,13 +15,13 @@ returns : tie.Need-returns Inv-loop μ-loop
 unfolding isIn
 returns c =
     let p3 = c .before .before .before in let p = p3 .loop in
-    sym (p .inv ∙ any-yes (eqb _) (drop-turn _ (p .i) (omega arith)) (eq-eqb _ _ (c .if1 .taken)))
+    sym (p .inv ∙ any-yes (eqb _) (drop-iteration _ (p .i) (omega arith)) (eq-eqb _ _ (c .if1 .taken)))
 
 loop-again : tie.Need-loop-again Inv-loop μ-loop
 unfolding isIn
 loop-again c =
     let p3 = c .before .before .before in let p = p3 .loop in
-    p .inv ∙ any-not (eqb _) (drop-turn _ (p .i) (omega arith)) (ne-eqb _ _ (c .if1 .left))
+    p .inv ∙ any-not (eqb _) (drop-iteration _ (p .i) (omega arith)) (ne-eqb _ _ (c .if1 .left))
 
 returns-2 : tie.Need-returns-2 Inv-loop μ-loop
 unfolding isIn

@@ -1,7 +1,7 @@
 -- `image_rows::link_all` meets its contract. The invariant: the table is that of the first i rows, and the answer is whether each key from row i on is new.
 use Rattle.basics.proofs.Kit.{_≡_, refl, _-_, length, length-set, arith}
 use Rattle.basics.proofs.Facts.{lie}
-use Rattle.image_rows.proofs.Chains.{table-chain, Linking, linking-start, linking-end, linking-stop, linking-turn}
+use Rattle.image_rows.proofs.Chains.{table-chain, Linking, linking-start, linking-end, linking-stop, linking-iteration}
 use Rattle.image_rows.proofs.link_all.Statement.{statement}
 use Rattle.image_rows.proofs.link_all.Tie as tie
 
@@ -28,7 +28,7 @@ returns c =
 loop-again : tie.Need-loop-again Inv-loop μ-loop
 loop-again c =
     let p4 = c .before .before .before .before in let p7 = p4 .before .before .before in let a = p7 .before .before .before .before .args in
-    let f = linking-turn _ (a .count) (p7 .loop .inv .0) (omega arith) (p4 .bucket .ensures .0) (c .before .find .ensures) (c .if1 .left) in
+    let f = linking-iteration _ (a .count) (p7 .loop .inv .0) (omega arith) (p4 .bucket .ensures .0) (c .before .find .ensures) (c .if1 .left) in
     (f (omega arith) (omega arith), simp length-set (p7 .loop .inv .1))
 
 returns-2 : tie.Need-returns-2 Inv-loop μ-loop

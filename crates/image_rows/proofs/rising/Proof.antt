@@ -1,6 +1,6 @@
 -- `image_rows::rising` meets its contract. The invariant: the answer is whether, from row i - 1 on, each row may be followed by the next one.
 use Rattle.basics.proofs.Kit.{_≡_, sym, _∙_, _&&_, _≤_, _-_, arith}
-use Rattle.image_rows.proofs.Places.{rising-none, rising-first, rising-marked, rising-stop, rising-turn}
+use Rattle.image_rows.proofs.Places.{rising-none, rising-first, rising-marked, rising-stop, rising-iteration}
 use Rattle.basics.proofs.Iterations.{pair-end}
 use Rattle.image_rows.specs.Columns.{rowAt, rowsIn}
 use Rattle.basics.specs.Lists.{tab}
@@ -41,7 +41,7 @@ loop-less c = omega (arith, c .before .before .before .before .before .before .b
 loop-again : tie.Need-loop-again Inv-loop μ-loop
 loop-again c =
     let p9 = c .before .before .before .before .before .before .before .before .before in let p10 = p9 .before in let p = p10 .loop in
-    let t = rising-turn _ _ _ _ (p .i) _ (p .inv .0) (omega (arith, p9 .loop-test)) (p .inv .1 .1)
+    let t = rising-iteration _ _ _ _ (p .i) _ (p .inv .0) (omega (arith, p9 .loop-test)) (p .inv .1 .1)
     (c .before .follows .ensures) (c .if3 .left) in
     (omega arith, (omega (arith, p9 .loop-test), t))
 

@@ -1,5 +1,5 @@
 -- `memory_bytes::add_each2` meets its contract. The invariant: the numbers from s up to j are d more, modulo 65,536, and no other byte differs.
-use Rattle.memory_bytes.proofs.Moves.{add-start, add-turn, add-end}
+use Rattle.memory_bytes.proofs.Moves.{add-start, add-iteration, add-end}
 use Rattle.memory_bytes.specs.Bytes.{Added}
 use Rattle.basics.proofs.Kit.{refl, _≤_, _-_, needs, arith}
 use Rattle.memory_bytes.proofs.add_each2.Statement.{statement}
@@ -26,7 +26,7 @@ loop-again c = let l = c .before .before .before .before .before .before .before
       omega arith,
       (
         omega arith,
-        add-turn (l .loop .j) (sum .plus2 .result) (l .loop .inv .1 .1) (omega arith) (sum .before .get2 .ensures) (sum .plus2 .ensures) (c .before .before .put2 .ensures),
+        add-iteration (l .loop .j) (sum .plus2 .result) (l .loop .inv .1 .1) (omega arith) (sum .before .get2 .ensures) (sum .plus2 .ensures) (c .before .before .put2 .ensures),
       ),
     )
 

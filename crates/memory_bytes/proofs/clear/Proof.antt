@@ -1,5 +1,5 @@
 -- `memory_bytes::clear` meets its contract. The invariant: the first j of the n bytes are zero, and no other byte differs.
-use Rattle.memory_bytes.proofs.Moves.{Writing, write-start, write-turn, write-end}
+use Rattle.memory_bytes.proofs.Moves.{Writing, write-start, write-iteration, write-end}
 use Rattle.basics.proofs.Kit.{sym, ℕ, _≤_, _-_, length-replicate, replicate, getD-replicate, arith}
 use Rattle.memory_bytes.proofs.clear.Statement.{statement}
 use Rattle.memory_bytes.proofs.clear.Tie as tie
@@ -18,7 +18,7 @@ slice-write-m c = omega (arith, c .before .loop .inv .1 .size)
 
 loop-again : tie.Need-loop-again Inv-loop μ-loop
 loop-again c = let l = c .before in let n = l .before .args .n in
-    (omega arith, write-turn (l .loop .inv .1) (omega arith) (sym (getD-replicate n (l .loop .j) 0 0 (omega arith))))
+    (omega arith, write-iteration (l .loop .inv .1) (omega arith) (sym (getD-replicate n (l .loop .j) 0 0 (omega arith))))
 
 same-length : tie.Need-same-length Inv-loop μ-loop
 same-length c = c .before .loop .inv .1 .size

@@ -1,5 +1,5 @@
 -- `memory_bytes::count_up_to2` meets its contract. The invariant: the answer is k plus the count from j on, and k is at most j - s, so it fits 16 bits.
-use Rattle.basics.proofs.Searches.{count-turn, count-end, one-most}
+use Rattle.basics.proofs.Searches.{count-iteration, count-end, one-most}
 use Rattle.memory_bytes.specs.Columns.{upTo}
 use Rattle.basics.specs.Lists.{tab}
 use Rattle.memory_bytes.specs.Bytes.{column2}
@@ -25,7 +25,7 @@ loop-again c = let l = c .before .before .before in let a = l .before .before .a
         omega arith,
         (
           omega arith,
-          count-turn (upTo (a .x)) (column2 (a .m .now) (a .base)) (l .loop .j) (a .e) (l .loop .k) (l .loop .inv .1 .1 .1) (omega arith) (c .before .get2 .ensures) (c .one-if .ensures),
+          count-iteration (upTo (a .x)) (column2 (a .m .now) (a .base)) (l .loop .j) (a .e) (l .loop .k) (l .loop .inv .1 .1 .1) (omega arith) (c .before .get2 .ensures) (c .one-if .ensures),
         ),
       ),
     )

@@ -1,5 +1,5 @@
 -- `memory_bytes::lower` meets its contract. The invariant: the bytes from lo up to k are those w further up at entry, and all others are as at entry.
-use Rattle.memory_bytes.proofs.Moves.{Lowering, lower-start, lower-turn, lower-end}
+use Rattle.memory_bytes.proofs.Moves.{Lowering, lower-start, lower-iteration, lower-end}
 use Rattle.basics.proofs.Kit.{_≤_, _-_, arith}
 use Rattle.memory_bytes.proofs.lower.Statement.{statement}
 use Rattle.memory_bytes.proofs.lower.Tie as tie
@@ -20,7 +20,7 @@ slice-write-m : tie.Need-slice-write-m Inv-loop μ-loop
 slice-write-m c = omega (arith, c .before .before .loop .inv .1 .1 .size)
 
 loop-again : tie.Need-loop-again Inv-loop μ-loop
-loop-again c = let l = c .before .before in (omega arith, (omega arith, lower-turn (l .loop .inv .1 .1) (omega arith) (omega arith)))
+loop-again c = let l = c .before .before in (omega arith, (omega arith, lower-iteration (l .loop .inv .1 .1) (omega arith) (omega arith)))
 
 same-length : tie.Need-same-length Inv-loop μ-loop
 same-length c = c .before .loop .inv .1 .1 .size

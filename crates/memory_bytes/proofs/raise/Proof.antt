@@ -1,5 +1,5 @@
 -- `memory_bytes::raise` meets its contract. The invariant: the bytes from k up to hi are w further up; those below k + w and from hi + w on are as at entry.
-use Rattle.memory_bytes.proofs.Moves.{Raising, raise-start, raise-turn, raise-end}
+use Rattle.memory_bytes.proofs.Moves.{Raising, raise-start, raise-iteration, raise-end}
 use Rattle.basics.proofs.Kit.{_≤_, arith}
 use Rattle.memory_bytes.proofs.raise.Statement.{statement}
 use Rattle.memory_bytes.proofs.raise.Tie as tie
@@ -20,7 +20,7 @@ slice-write-m : tie.Need-slice-write-m Inv-loop μ-loop
 slice-write-m c = omega (arith, c .before .before .loop .inv .1 .1 .size)
 
 loop-again : tie.Need-loop-again Inv-loop μ-loop
-loop-again c = let l = c .before .before in (omega arith, (omega arith, raise-turn (l .loop .inv .1 .1) (omega arith) (omega arith) (omega arith)))
+loop-again c = let l = c .before .before in (omega arith, (omega arith, raise-iteration (l .loop .inv .1 .1) (omega arith) (omega arith) (omega arith)))
 
 same-length : tie.Need-same-length Inv-loop μ-loop
 same-length c = c .before .loop .inv .1 .1 .size

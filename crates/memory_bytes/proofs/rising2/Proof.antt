@@ -1,5 +1,5 @@
 -- `memory_bytes::rising2` meets its contract. The invariant: the answer is whether ok is true and each number from j on is below the next one.
-use Rattle.basics.proofs.Searches.{paired-start, paired-turn, paired-end}
+use Rattle.basics.proofs.Searches.{paired-start, paired-iteration, paired-end}
 use Rattle.basics.specs.Lists.{tab}
 use Rattle.memory_bytes.specs.Bytes.{column2, le2}
 use Rattle.basics.specs.Basics.{paired}
@@ -20,7 +20,7 @@ loop-again : tie.Need-loop-again Inv-loop μ-loop
 loop-again c = let l = c .before .before .before in let a = l .before .before .args in
     let next : c .get22 .result ≡ column2 (a .m .now) (a .base) (l .loop .j + 1) = c .get22 .ensures ∙ ap (le2 (a .m .now)) (omega arith) in (
       omega arith,
-      paired-turn ltb (column2 (a .m .now) (a .base)) (l .loop .j) (a .n) (l .loop .ok) (l .loop .inv .1) (omega arith) (c .before .get2 .ensures) next,
+      paired-iteration ltb (column2 (a .m .now) (a .base)) (l .loop .j) (a .n) (l .loop .ok) (l .loop .inv .1) (omega arith) (c .before .get2 .ensures) next,
     )
 
 returns : tie.Need-returns Inv-loop μ-loop

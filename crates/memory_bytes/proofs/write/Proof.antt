@@ -1,5 +1,5 @@
 -- `memory_bytes::write` meets its contract. The invariant: the first j bytes of src are written from a on, and no other byte differs.
-use Rattle.memory_bytes.proofs.Moves.{Writing, write-start, write-turn, write-end}
+use Rattle.memory_bytes.proofs.Moves.{Writing, write-start, write-iteration, write-end}
 use Rattle.basics.proofs.Kit.{refl, _≤_, _-_, length, arith}
 use Rattle.memory_bytes.proofs.write.Statement.{statement}
 use Rattle.memory_bytes.proofs.write.Tie as tie
@@ -17,7 +17,7 @@ slice-write-m : tie.Need-slice-write-m Inv-loop μ-loop
 slice-write-m c = omega (arith, c .before .before .loop .inv .1 .size)
 
 loop-again : tie.Need-loop-again Inv-loop μ-loop
-loop-again c = let l = c .before .before in (omega arith, write-turn (l .loop .inv .1) (omega arith) refl)
+loop-again c = let l = c .before .before in (omega arith, write-iteration (l .loop .inv .1) (omega arith) refl)
 
 same-length : tie.Need-same-length Inv-loop μ-loop
 same-length c = c .before .loop .inv .1 .size

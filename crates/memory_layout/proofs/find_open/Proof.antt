@@ -6,7 +6,7 @@ use Rattle.memory_layout.specs.Views.{openAt, openCount}
 use Rattle.memory_layout.specs.Flat.{opensOf}
 use Rattle.memory_layout.specs.Opens.{findOpen}
 use Rattle.memory_layout.proofs.Laws.{known}
-use Rattle.memory_layout.proofs.HeadLists.{find-here, find-turn, find-end}
+use Rattle.memory_layout.proofs.HeadLists.{find-here, find-iteration, find-end}
 use Rattle.memory_layout.proofs.find_open.Statement.{statement}
 use Rattle.memory_layout.proofs.find_open.Tie as tie
 
@@ -45,7 +45,7 @@ loop-again c = let l = c .before .before .before in
       l .loop .inv .0,
       (
         omega arith,
-        omega (arith, l .loop .inv .1 .1, find-turn (st .args .m .now) (st .args .transaction) (l .loop .i) (l .before .get4 .result) (omega arith) (c .before .get42 .ensures) (c .if1 .left)),
+        omega (arith, l .loop .inv .1 .1, find-iteration (st .args .m .now) (st .args .transaction) (l .loop .i) (l .before .get4 .result) (omega arith) (c .before .get42 .ensures) (c .if1 .left)),
       ),
     )
 

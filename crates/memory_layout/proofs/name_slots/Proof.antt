@@ -1,7 +1,7 @@
 -- `memory_layout::name_slots` meets its contract. The invariant: only the bytes of the first i slot numbers may differ from those at entry.
 use Rattle.basics.proofs.Kit.{_+_, _*_, _≤_, _-_, arith}
 use Rattle.memory_bytes.specs.Bytes.{Apart}
-use Rattle.memory_layout.proofs.Blank.{names-start, names-turn}
+use Rattle.memory_layout.proofs.Blank.{names-start, names-iteration}
 use Rattle.memory_layout.proofs.name_slots.Statement.{statement}
 use Rattle.memory_layout.proofs.name_slots.Tie as tie
 use Rattle.memory_layout.specs.Places.{refsAt}
@@ -20,7 +20,7 @@ put2-requires c κs = omega (arith, c .before .before .loop .inv .1 .size)
 
 loop-again : tie.Need-loop-again Inv-loop μ-loop
 loop-again c = let w = c .before .before in let l = w .before .before .before in
-    (omega arith, names-turn (l .loop .i) (l .loop .inv .1) (w .put2 .ensures .apart))
+    (omega arith, names-iteration (l .loop .i) (l .loop .inv .1) (w .put2 .ensures .apart))
 
 same-length : tie.Need-same-length Inv-loop μ-loop
 same-length c = c .before .loop .inv .1 .size

@@ -2,7 +2,7 @@
 use Rattle.basics.proofs.Kit.{_-_, arith}
 use Rattle.memory_pages.specs.Pages.{frozenWord}
 use Rattle.memory_bytes.specs.Bytes.{column2}
-use Rattle.memory_bytes.proofs.Scans.{AnyFrom, any-starts, any-turns, any-ends}
+use Rattle.memory_bytes.proofs.Scans.{AnyFrom, any-starts, any-iterates, any-ends}
 use Rattle.memory_pages.proofs.any_frozen.Statement.{statement}
 use Rattle.memory_pages.proofs.any_frozen.Tie as tie
 
@@ -14,4 +14,4 @@ abbrev μ-loop : tie.MeasureT-loop
 
 pub any-frozen-spec : {M : Type 1} → statement M
 any-frozen-spec = tie.close (tie.spec Inv-loop μ-loop (λ c. any-starts (omega arith)) (λ c. omega arith) (λ c. omega arith) (λ c κs. omega arith) (λ c. omega arith) (λ c. omega arith)
-    (λ c. any-turns (c .before .before .loop .inv) (omega arith) (c .get2 .ensures)) (λ c. any-ends (c .before .loop .inv) (omega arith)))
+    (λ c. any-iterates (c .before .before .loop .inv) (omega arith) (c .get2 .ensures)) (λ c. any-ends (c .before .loop .inv) (omega arith)))

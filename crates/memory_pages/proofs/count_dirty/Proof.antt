@@ -6,7 +6,7 @@ use Rattle.memory_layout.specs.Flat.{flatOf, noEntry}
 use Rattle.memory_layout.proofs.Laws.{entries-length}
 use Rattle.memory_pages.specs.Pages.{dirtyEntry}
 use Rattle.memory_pages.proofs.Ranges.{ranges}
-use Rattle.memory_pages.proofs.Counting.{Counted, counted-start, counted-turn, counted-end}
+use Rattle.memory_pages.proofs.Counting.{Counted, counted-start, counted-iteration, counted-end}
 use Rattle.memory_pages.proofs.count_dirty.Statement.{statement}
 use Rattle.memory_pages.proofs.count_dirty.Tie as tie
 
@@ -31,7 +31,7 @@ loop-again : tie.Need-loop-again Inv-loop μ-loop
 loop-again c = let l = c .before .before .before in let st = l .before .before .before in
     let e = c .one-if .ensures ∙ ap (λ (z : ℕ). cond (eqb z 0) 1 0) (c .before .block-at .ensures) in
     let few = one-most (eqb (c .before .block-at .result) 0) (c .one-if .ensures) in
-    (l .loop .inv .0, counted-turn dirtyEntry (flatOf (st .args .m .now) .entries) (l .loop .inv .1) noEntry (omega (arith, l .loop .inv .0)) e few)
+    (l .loop .inv .0, counted-iteration dirtyEntry (flatOf (st .args .m .now) .entries) (l .loop .inv .1) noEntry (omega (arith, l .loop .inv .0)) e few)
 
 returns : tie.Need-returns Inv-loop μ-loop
 returns c = let l = c .before in

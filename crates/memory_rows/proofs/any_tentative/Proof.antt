@@ -2,7 +2,7 @@
 use Rattle.memory_rows.proofs.Groups.{unset, group-is}
 use Rattle.memory_rows.proofs.Access.{sized}
 use Rattle.memory_bytes.specs.Bytes.{column1}
-use Rattle.memory_bytes.proofs.Scans.{AnyFrom, any-starts, any-turns, any-ends}
+use Rattle.memory_bytes.proofs.Scans.{AnyFrom, any-starts, any-iterates, any-ends}
 use Rattle.basics.proofs.Kit.{refl, sym, _∙_, _-_, arith}
 use Rattle.memory_rows.proofs.any_tentative.Statement.{statement}
 use Rattle.memory_rows.proofs.any_tentative.Tie as tie
@@ -27,4 +27,4 @@ returns c = let l = c .before in let a = l .before .state-place in let st = l .b
 
 pub any-tentative-spec : {M : Type 1} → statement M
 any-tentative-spec = tie.close (tie.spec Inv-loop μ-loop (λ c κs. (c .before .pre .0, omega (arith, c .before .pre .1))) (λ c. any-starts (omega arith)) add-hit
-    shared-slice-read-hit (λ c. omega arith) (λ c. omega arith) (λ c. any-turns (c .before .before .loop .inv) (omega arith) refl) returns)
+    shared-slice-read-hit (λ c. omega arith) (λ c. omega arith) (λ c. any-iterates (c .before .before .loop .inv) (omega arith) refl) returns)

@@ -4,7 +4,7 @@ use Rattle.basics.proofs.Ands.{and-yes}
 use Rattle.basics.specs.Basics.{all, from}
 use Rattle.basics.proofs.Froms.{all-end}
 use Rattle.memory_layout.specs.Store.{tablesRise}
-use Rattle.memory_layout.proofs.Refusal.{endRises, tables-turn}
+use Rattle.memory_layout.proofs.Refusal.{endRises, tables-iteration}
 use Rattle.memory_layout.proofs.ranges.tables_rise.Statement.{statement}
 use Rattle.memory_layout.proofs.ranges.tables_rise.Tie as tie
 
@@ -21,7 +21,7 @@ loop-holds c = (omega arith, refl)
 loop-again : tie.Need-loop-again Inv-loop μ-loop
 loop-again c = let l = c .before .before .before in (
   omega arith,
-  tables-turn (l .before .before .args .m .now) (l .loop .t) (c .before .get2 .result) (c .get22 .result) (l .loop .rise) (omega arith)
+  tables-iteration (l .before .before .args .m .now) (l .loop .t) (c .before .get2 .result) (c .get22 .result) (l .loop .rise) (omega arith)
       (c .before .get2 .ensures) (c .get22 .ensures) (l .loop .inv .1),
 )
 

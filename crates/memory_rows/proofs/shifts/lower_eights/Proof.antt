@@ -1,6 +1,6 @@
 -- `memory_rows::shifts::lower_eights` meets its contract. The invariant (`Lowering`): the blocks below row k have moved, the others stand as they were.
 use Rattle.basics.proofs.Kit.{_+_, _-_, arith}
-use Rattle.memory_rows.proofs.Eights.{taken-fits, fit-then, Lowering, lowering-start, lowering-turn, lowering-end}
+use Rattle.memory_rows.proofs.Eights.{taken-fits, fit-then, Lowering, lowering-start, lowering-iteration, lowering-end}
 use Rattle.memory_rows.proofs.shifts.lower_eights.Statement.{statement}
 use Rattle.memory_rows.proofs.shifts.lower_eights.Tie as tie
 
@@ -16,7 +16,7 @@ copy-eight-requires c κs = let q = c .before .before .loop .inv in let p = c .b
 
 loop-again : tie.Need-loop-again Inv μ
 loop-again c = let p2 = c .before .before in let p4 = p2 .before .before in let p5 = p4 .before in
-    lowering-turn (p5 .loop .inv) (p5 .before .before .before .before .before .before .pre .0 .space) (omega (arith, p4 .loop-test .taken)) (p2 .copy-eight .ensures)
+    lowering-iteration (p5 .loop .inv) (p5 .before .before .before .before .before .before .pre .0 .space) (omega (arith, p4 .loop-test .taken)) (p2 .copy-eight .ensures)
 
 give-eight-requires : tie.Need-give-eight-requires Inv μ
 give-eight-requires c κs = let p2 = c .before .before in let p5 = p2 .before .before .before in let s = p5 .before .before .before in

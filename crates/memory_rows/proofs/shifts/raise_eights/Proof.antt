@@ -1,6 +1,6 @@
 -- `memory_rows::shifts::raise_eights` meets its contract. The invariant (`Raising`): the blocks from row k on have moved, the others stand as they were.
 use Rattle.basics.proofs.Kit.{_-_, arith}
-use Rattle.memory_rows.proofs.Eights.{taken-fits, fit-then, Raising, raising-start, raising-turn, raising-end}
+use Rattle.memory_rows.proofs.Eights.{taken-fits, fit-then, Raising, raising-start, raising-iteration, raising-end}
 use Rattle.memory_rows.proofs.shifts.raise_eights.Statement.{statement}
 use Rattle.memory_rows.proofs.shifts.raise_eights.Tie as tie
 
@@ -16,7 +16,7 @@ copy-eight-requires c κs = let q = c .before .before .loop .inv in let p = c .b
 
 loop-again : tie.Need-loop-again Inv μ
 loop-again c = let p2 = c .before .before in let p4 = p2 .before .before in let p5 = p4 .before in
-    raising-turn (p5 .loop .inv) (p5 .before .before .before .before .before .before .pre .0 .space) (omega (arith, p4 .loop-test .taken)) (p2 .copy-eight .ensures)
+    raising-iteration (p5 .loop .inv) (p5 .before .before .before .before .before .before .pre .0 .space) (omega (arith, p4 .loop-test .taken)) (p2 .copy-eight .ensures)
 
 give-eight-requires : tie.Need-give-eight-requires Inv μ
 give-eight-requires c κs = let p2 = c .before .before in let p5 = p2 .before .before .before in let s = p5 .before .before .before in

@@ -1,7 +1,7 @@
 -- `memory_rows::slots::zero_taken` meets its contract. The invariant (`AnyFrom`): the answer is hit, or whether one of the rows from i on is in slot 0.
 use Rattle.memory_rows.specs.Cells.{slotIn}
 use Rattle.memory_layout.specs.Views.{slotOf}
-use Rattle.memory_bytes.proofs.Scans.{AnyFrom, any-starts, any-turns, any-ends}
+use Rattle.memory_bytes.proofs.Scans.{AnyFrom, any-starts, any-iterates, any-ends}
 use Rattle.basics.proofs.Searches.{any-start}
 use Rattle.memory_bytes.specs.Columns.{equals}
 use Rattle.basics.proofs.Kit.{sym, ap, _∙_, ℕ, _+_, _*_, _-_, arith}
@@ -19,7 +19,7 @@ loop-again : tie.Need-loop-again Inv-loop μ-loop
 unfolding slotIn
 loop-again c = let l = c .before .before .before in let a = l .before .before .before .args in
     let e = c .before .get2 .ensures ∙ ap (λ (z : ℕ). le2 (a .m .now) (z + l .loop .i * 2)) (l .before .refs-at .ensures) in
-    any-turns (l .loop .inv) (omega arith) (c .slot-of .ensures .0 ∙ ap (slotOf (a .c)) e)
+    any-iterates (l .loop .inv) (omega arith) (c .slot-of .ensures .0 ∙ ap (slotOf (a .c)) e)
 
 returns : tie.Need-returns Inv-loop μ-loop
 returns c = let l = c .before in let a = l .before .before .before .args in
