@@ -20,8 +20,8 @@ use Rattle.basics.proofs.Parts.{same-before}
 
 -- ---- pages now
 
-pub turned : {m m' : List ℕ} (ps : List Page) → HoldsNow m m' (withPages (storeOf (flatOf m)) ps) → PagesNow m m' ps
-turned ps u = record { size = u .size; store = u .store }
+pub now-by-store : {m m' : List ℕ} (ps : List Page) → HoldsNow m m' (withPages (storeOf (flatOf m)) ps) → PagesNow m m' ps
+now-by-store ps u = record { size = u .size; store = u .store }
 
 module _ {m m' : List ℕ} {ps : List Page} (u : PagesNow m m' ps) where
   pub now-self : PagesNow m m' (pagesOf m')

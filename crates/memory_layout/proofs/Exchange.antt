@@ -11,8 +11,6 @@ use Rattle.memory_layout.proofs.Nest.{Counted, counted-length, total-ap
 use Rattle.basics.proofs.Parts.{insert-within, remove-within, set-within}
 use Rattle.basics.proofs.Parts.{length-insert, length-remove, cut-rows}
 
--- ---- lengths
-
 -- ---- entries that have rows
 
 pub counted-set : (es : List Entry) (p : ℕ) (e : Entry) → Counted es → 1 ≤ e .count → Counted (set es p e)

@@ -75,5 +75,3 @@ module _ {m m1 : List ℕ} {n t x b : ℕ} (room : Room m) (en : n ≡ pageCount
         (λ b h. w .apart .below b (omega arith) ∙ o .only .below b (omega arith))
         (λ b h k. w .apart .below b (omega arith) ∙ o .only .between b (omega arith) (omega arith))
         (ap (λ (f : Flat). length (f .rows)) (page-appended .flat)) i
-
--- ---- a row

@@ -87,8 +87,6 @@ keep-other t k x (r ∷ rs) n =
     (λ m. ap (keep f) (insert-past x r rs h) ∙ keep-past f r (insertRow x rs) m ∙ ih ∙ sym (keep-past f r rs m)))
     (λ h. ap (keep f) (insert-here x r rs h) ∙ keep-past f x (r ∷ rs) n)
 
--- ---- searches
-
 -- ---- sight goes by the rows
 
 seen-rows : (u t k : ℕ) (s z : Store) → rows (z .pages) ≡ rows (s .pages) → seen u t k z ≡ seen u t k s

@@ -1,5 +1,5 @@
 -- `engine_close::commit_row` meets its contract, by that of `commit_at` for the page that `page_near` finds.
-use Rattle.engine_close.proofs.Closing.{turned}
+use Rattle.engine_close.proofs.Closing.{now-by-store}
 use Rattle.engine_pages.specs.Pages.{pagesOf}
 use Rattle.model.specs.Places.{commitRow}
 use Rattle.engine_close.proofs.Memory.{row-on}
@@ -16,7 +16,7 @@ commit-at-requires c κs = let p4 = c .before .before .before .before in
     row-on (p4 .pre .0) (c .before .page-near .ensures)
 
 returns : tie.Need-returns
-returns c = let p2 = c .before .before in turned (commitRow _ (pagesOf _)) (p2 .commit-at .ensures)
+returns c = let p2 = c .before .before in now-by-store (commitRow _ (pagesOf _)) (p2 .commit-at .ensures)
 
 pub commit-row-spec : {M : Type 1} → statement M
 commit-row-spec = tie.close (tie.spec page-near-requires commit-at-requires (search needs) returns)

@@ -2,7 +2,7 @@
 use Rattle.engine_pages.proofs.Places.{now-held}
 use Rattle.model.specs.Places.{removeRow}
 use Rattle.engine_pages.specs.Pages.{pagesOf}
-use Rattle.engine_close.proofs.Closing.{turned, one-removed}
+use Rattle.engine_close.proofs.Closing.{now-by-store, one-removed}
 use Rattle.engine_close.proofs.Memory.{row-on, few-tagged}
 use Rattle.memory_layout.proofs.Laws.{holds-room}
 use Rattle.basics.proofs.Kit.{needs, arith}
@@ -24,21 +24,21 @@ add-result c = let st = c .before .before .before .before .before .before .befor
     omega (arith, st .pre .1, few-tagged _ (holds-room _ (st .pre .0)))
 
 row-count-requires-2 : tie.Need-row-count-requires-2
-row-count-requires-2 c κs = let p3 = c .before .before .before in holds-room _ (now-held (turned (removeRow _ (pagesOf _)) (p3 .remove-at .ensures)))
+row-count-requires-2 c κs = let p3 = c .before .before .before in holds-room _ (now-held (now-by-store (removeRow _ (pagesOf _)) (p3 .remove-at .ensures)))
 
 add-result-2 : tie.Need-add-result-2
 add-result-2 c = let p4 = c .before .before .before .before in let st = p4 .before .before .before .before .before .before .before in
-    let g = one-removed (st .pre .1) (turned (removeRow _ (pagesOf _)) (p4 .remove-at .ensures)) in
+    let g = one-removed (st .pre .1) (now-by-store (removeRow _ (pagesOf _)) (p4 .remove-at .ensures)) in
     omega (arith, st .pre .1, few-tagged _ (holds-room _ (st .pre .0)), c .row-count2 .ensures, g .1)
 
 sub-result : tie.Need-sub-result
 sub-result c = let p4 = c .before .before .before .before in let p8 = p4 .before .before .before .before in let st = p8 .before .before .before in
-    let g = one-removed (st .pre .1) (turned (removeRow _ (pagesOf _)) (p4 .remove-at .ensures)) in
+    let g = one-removed (st .pre .1) (now-by-store (removeRow _ (pagesOf _)) (p4 .remove-at .ensures)) in
     omega (arith, st .pre .1, p8 .row-count .ensures, c .row-count2 .ensures, g .0)
 
 returns : tie.Need-returns
 returns c = let p4 = c .before .before .before .before in let p8 = p4 .before .before .before .before in let st = p8 .before .before .before in
-    let u = turned (removeRow _ (pagesOf _)) (p4 .remove-at .ensures) in let g = one-removed (st .pre .1) u in
+    let u = now-by-store (removeRow _ (pagesOf _)) (p4 .remove-at .ensures) in let g = one-removed (st .pre .1) u in
     record { pages = u; next = omega (arith, st .pre .1, p8 .row-count .ensures, c .row-count2 .ensures, g .0) }
 
 pub remove-row-spec : {M : Type 1} → statement M
