@@ -53,6 +53,11 @@ first-keep f g (x ∷ xs) a =
     let ih = first-keep f g xs (a .1) in
     by (g x) (λ h. by (f x) (λ k. rw (h, k, first)) (λ k. rw (h, k, first) ih)) (λ h. rw (h, a .0 h, first) ih)
 
+pub keep-keep : {A : Type 0} (f g : A → Bool) (xs : List A) → AllOf (λ r. g r ≡ false → f r ≡ false) xs → keep f (keep g xs) ≡ keep f xs
+unfolding keep if_then_else_
+keep-keep f g [] a = refl
+keep-keep f g (x ∷ xs) a = let ih = keep-keep f g xs (a .1) in by (g x) (λ h. rw (h, ih)) (λ h. rw (h, a .0 h) ih)
+
 -- the first of two, if there is one
 orOther : {A : Type 0} → Option A → Option A → Option A
 orOther (some y) o = some y

@@ -2,7 +2,7 @@
 use Rattle.basics.proofs.Kit.{_≡_, refl, sym, ap, Bool, true, _&&_, some, none, Option, Option·map, List, [], _∷_, _++_, append-assoc, map, ℕ, suc, _<_, length, getD}
 use Rattle.basics.specs.Basics.{AllOf, all, paired}
 use Rattle.basics.proofs.Ands.{and-assoc}
-use Rattle.basics.proofs.Elements.{all-at, all-map, all-true, all-split}
+use Rattle.basics.proofs.Elements.{Pairs, all-at, all-map, all-true, all-split}
 use Rattle.basics.proofs.Kit.{arith}
 use Rattle.basics.proofs.Facts.{and-true}
 
@@ -49,3 +49,9 @@ paired-tail f r s rs h = and-true (f r s) (paired f (s ∷ rs)) h
 pub paired-next : {A : Type 0} (f : A → A → Bool) (r : A) (rs : List A) → paired f (r ∷ rs) ≡ true → paired f rs ≡ true
 paired-next f r [] h = unfold paired in refl
 paired-next f r (s ∷ rs) h = paired-tail f r s rs h .1
+
+pub paired-true : {A : Type 0} (f : A → A → Bool) (xs : List A) → Pairs (λ a b. f a b ≡ true) xs → paired f xs ≡ true
+unfolding paired
+paired-true f [] p = refl
+paired-true f (x ∷ []) p = refl
+paired-true f (x ∷ y ∷ ys) p = rw (p .0 .0, paired-true f (y ∷ ys) (p .1))

@@ -1,7 +1,7 @@
 -- Laws of `over`, at lists of any length.
 use Rattle.basics.proofs.Kit.{_≡_, refl, sym, _∙_, List, [], _++_, append-assoc, ℕ, _+_, _≤_, add-zero, add-assoc, length, take, drop, length-append, length-take, length-drop}
 use Rattle.basics.proofs.Kit.{take-append-drop, take-at, drop-append-seam, drop-drop, take-append-add, take-append-le, take-append-seam, drop-append-add, drop-append-le, drop-at, arith}
-use Rattle.basics.proofs.Kit.{ap, _∷_, append-nil, _<_, add-one, getD, set, drop-of-length-le, set-split, take-all, take-suc, getD-drop}
+use Rattle.basics.proofs.Kit.{ap, _∷_, append-nil, _<_, zero-add, add-one, getD, set, drop-of-length-le, set-split, take-all, take-suc, getD-drop}
 use Rattle.basics.specs.Lists.{over}
 
 over-def : (s : List ℕ) (at : ℕ) (xs : List ℕ) → over s at xs ≡ take at s ++ (xs ++ drop (at + length xs) s)
@@ -11,6 +11,11 @@ over-def s at xs = refl
 pub over-nil : (s : List ℕ) (at : ℕ) → over s at [] ≡ s
 unfolding over
 over-nil s at = rw (add-zero at) (take-append-drop at s)
+
+-- over the first elements
+pub over-front : (s xs : List ℕ) → over s 0 xs ≡ xs ++ drop (length xs) s
+unfolding over
+over-front s xs = ap (λ n. xs ++ drop n s) (zero-add (length xs))
 
 pub length-over : (s xs : List ℕ) (at : ℕ) → at + length xs ≤ length s → length (over s at xs) ≡ length s
 unfolding over

@@ -1,5 +1,5 @@
 -- Laws of lists by index (`tab`): length, parts, elements, one element more, less or changed.
-use Rattle.basics.proofs.Kit.{sym, take, drop, drop-cons}
+use Rattle.basics.proofs.Kit.{sym, subst, drop-cons, length-take, length-drop, getD-take, getD-drop}
 use Rattle.basics.proofs.Kit.{_≡_, refl, ap, _∙_, List, _∷_, _++_, ℕ, suc, _+_, _≤_, _<_, zero, _-_, suc-le-suc, add-zero, zero-add, suc-add}
 use Rattle.basics.proofs.Kit.{le-of-suc-le-suc, not-suc-le-zero, zero-lt-suc, length, take, drop, getD, set, set-split, ext-getD, arith}
 use Rattle.basics.proofs.Kit.{[], map}
@@ -119,6 +119,23 @@ map-tab f u i (suc n) = ap (λ (l : List _). f (u i) ∷ l) (map-tab f u (suc i)
 pub all-by : {A : Type 0} (P : A → Type 0) (xs : List A) (d : A) → ((i : ℕ) → i < length xs → P (getD xs i d)) → AllOf P xs
 all-by P [] d h = tt
 all-by P (x ∷ xs) d h = (h 0 (omega arith), all-by P xs d (λ i l. h (suc i) (omega arith)))
+
+-- every element of a list by index
+pub all-tab : {A : Type 0} (P : A → Type 0) (f : ℕ → A) (i n : ℕ) → ((j : ℕ) → i ≤ j → j < i + n → P (f j)) → AllOf P (tab f i n)
+all-tab P f i zero h = tt
+all-tab P f i (suc n) h = (h i (omega arith) (omega arith), all-tab P f (suc i) n (λ j x y. h j (omega arith) (omega arith)))
+
+-- every element from a on, up to e or up to the end, by its index
+module _ {A : Type 0} (P : A → Type 0) (xs : List A) (d : A) (a : ℕ) where
+  pub all-between : (e : ℕ) → ((j : ℕ) → a ≤ j → j < e → j < length xs → P (getD xs j d)) → AllOf P (take (e - a) (drop a xs))
+  all-between e h =
+      let l = length-take (e - a) (drop a xs) in
+      let n = length-drop a xs in
+      all-by P (take (e - a) (drop a xs)) d
+      (λ j b. subst P (sym (getD-take (e - a) (drop a xs) j d (omega arith) ∙ getD-drop a xs j d)) (h (a + j) (omega arith) (omega arith) (omega arith)))
+
+  pub all-behind : ((j : ℕ) → a ≤ j → j < length xs → P (getD xs j d)) → AllOf P (drop a xs)
+  all-behind h = let n = length-drop a xs in all-by P (drop a xs) d (λ j b. subst P (sym (getD-drop a xs j d)) (h (a + j) (omega arith) (omega arith)))
 
 -- the elements by index
 pub tab-part : {A : Type 0} (xs : List A) (d : A) (i n : ℕ) → i + n ≤ length xs → tab (λ k. getD xs k d) i n ≡ take n (drop i xs)

@@ -1,40 +1,24 @@
 -- A commit and an abort, step by step: what is left to do from a row on.
-use Rattle.basics.proofs.Kit.{_≡_, refl, sym, ap, _∙_, subst, ap₂, ⊎-elim, Bool, true, false, some, List, [], _∷_, _++_, ℕ, suc, _+_, _≤_, _<_, _-_, length, take, drop}
-use Rattle.basics.proofs.Kit.{length-take, length-drop, drop-of-length-le, drop-cons, getD-drop, getD-take, arith}
+use Rattle.basics.proofs.Kit.{_≡_, refl, sym, ap, _∙_, ap₂, ⊎-elim, Bool, true, false, some, List, [], ℕ, suc, _+_, _≤_, _<_, _-_, length, take, drop}
+use Rattle.basics.proofs.Kit.{length-take, length-drop, arith}
 use Rattle.basics.specs.Basics.{last}
-use Rattle.basics.proofs.Facts.{AllOf}
 use Rattle.model.specs.State.{Held, Page}
 use Rattle.model.specs.Sight.{held}
 use Rattle.model.specs.Rules.{applied}
-use Rattle.model.specs.Places.{tagged, placed, carryOut, runs, liveOf, planNewest, planRun, planRuns, allPlaced, allRuns, closePlan, ownPlaced, Placed}
-use Rattle.basics.proofs.Tabs.{lt-or-ge}
+use Rattle.model.specs.Places.{tagged, placed, sameKey, carryOut, runs, liveOf, planNewest, planRun, planRuns, allPlaced, allRuns, closePlan, ownPlaced, Placed}
+use Rattle.basics.proofs.Tabs.{lt-or-ge, all-between}
 use Rattle.memory_layout.specs.Flat.{noRow}
 use Rattle.memory_layout.specs.Store.{holdsStore}
 use Rattle.memory_rows.specs.Rows.{isLiveOwn}
-use Rattle.engine_close.specs.Close.{taggedOf, sameKey, rowFrom, isOwnRow, NextOwn, RunFrom, RunTo, NewestOwn, entryPlace, closedRun, closedFrom, abortedFrom, leftFrom, closedPages}
+use Rattle.engine_close.specs.Close.{taggedOf, rowFrom, isOwnRow, NextOwn, RunFrom, RunTo, NewestOwn, entryPlace, closedRun, closedFrom, abortedFrom, leftFrom, closedPages}
 use Rattle.engine_close.specs.Close.{RowRemoved, RunClosed, NextDone}
 use Rattle.model.proofs.Carry.{carry-append}
 use Rattle.engine_close.proofs.Removals.{held-length, behind-fewer, behind-place, behind-left, abort-next, abort-one, abort-ends, abort-starts}
-use Rattle.engine_close.proofs.RunPlans.{same-as, same-self, same-not, plan-none, plan-past, Ends, plan-first, newest-is}
+use Rattle.engine_close.proofs.RunBounds.{WholeRun, whole-run}
+use Rattle.engine_close.proofs.RunPlans.{plan-none, plan-skip, plan-first, newest-is}
 use Rattle.engine_pages.specs.Pages.{PagesNow, pagesOf}
-use Rattle.basics.proofs.Tabs.{all-by}
-use Rattle.basics.proofs.Parts.{parts}
 use Rattle.engine_pages.proofs.Places.{now-held, now-pages, now-then, now-to, now-stay}
 use Rattle.engine_close.proofs.Closing.{now-self, row-next, row-behind, split-run}
-
--- what holds of each row from a up to e
-all-between : (P : ℕ × Held → Type 0) (xs : List (ℕ × Held)) (a e : ℕ) → ((j : ℕ) → a ≤ j → j < e → j < length xs → P (rowFrom xs j))
-    → AllOf P (take (e - a) (drop a xs))
-all-between P xs a e h =
-    let l = length-take (e - a) (drop a xs) in
-    let d = length-drop a xs in
-    all-by P (take (e - a) (drop a xs)) (0, noRow)
-    (λ j b. subst P (sym (getD-take (e - a) (drop a xs) j (0, noRow) (omega arith) ∙ getD-drop a xs j (0, noRow))) (h (a + j) (omega arith) (omega arith) (omega arith)))
-
-all-behind : (P : ℕ × Held → Type 0) (xs : List (ℕ × Held)) (a : ℕ) → ((j : ℕ) → a ≤ j → j < length xs → P (rowFrom xs j)) → AllOf P (drop a xs)
-all-behind P xs a h =
-    let d = length-drop a xs in
-    all-by P (drop a xs) (0, noRow) (λ j b. subst P (sym (getD-drop a xs j (0, noRow))) (h (a + j) (omega arith) (omega arith)))
 
 run-plan : (tx : ℕ) (run : List Placed) → planRun tx run ≡ planNewest (last (ownPlaced tx) (liveOf run)) (liveOf run)
 unfolding planRun
@@ -60,8 +44,7 @@ module _ (tx : ℕ) where
     -- no own row is left
     pub close-none : (i : ℕ) → ((j : ℕ) → i ≤ j → j < length (tagged ps) → isOwnRow tx (tagged ps) j ≡ false) → closedFrom tx n i ps ≡ ps
     unfolding closedFrom isOwnRow
-    close-none i h =
-        ap (λ os. carryOut n os ps) (plan-none tx [] (entryPlace n (tagged ps) i) (drop i (tagged ps)) tt (all-behind _ (tagged ps) i h)) ∙ carry-none n ps
+    close-none i h = ap (λ os. carryOut n os ps) (plan-none tx (tagged ps) (0, noRow) (entryPlace n (tagged ps) i) i h) ∙ carry-none n ps
 
     -- rows that are not own, before a run
     pub close-skip : (i a : ℕ) → i < a → a < length (tagged ps) → ((j : ℕ) → i ≤ j → j < a → isOwnRow tx (tagged ps) j ≡ false)
@@ -69,18 +52,7 @@ module _ (tx : ℕ) where
     unfolding closedFrom isOwnRow
     close-skip i a l u h s =
         let xs = tagged ps in
-        let b = a - 1 in
-        let z : suc b ≡ a = omega arith in
-        let ws = take (b - i) (drop i xs) in
-        let t = length-take (b - i) (drop i xs) in
-        let d = length-drop i xs in
-        let e : drop i xs ≡ ws ++ rowFrom xs b ∷ rowFrom xs a ∷ drop (suc a) xs = parts xs i b (omega arith)
-        ∙ ap (λ y. ws ++ y) (drop-cons xs b _ (omega arith) ∙ ap (λ y. rowFrom xs b ∷ y) (ap (λ k. drop k xs) z ∙ drop-cons xs a _ u)) in
-        let q : entryPlace n xs a ≡ entryPlace n xs i + suc (length ws) = omega arith in
-        ap (λ y. carryOut n (planRuns tx (runs [] (placed (entryPlace n xs i) y))) ps) e
-        ∙ ap (λ os. carryOut n os ps) (plan-past tx [] (entryPlace n xs i) (entryPlace n xs a) ws (rowFrom xs b) (rowFrom xs a) (drop (suc a) xs) tt
-        (all-between _ xs i b (λ j x y v. h j x (omega arith))) (h b (omega arith) (omega arith)) s q)
-        ∙ ap (λ y. carryOut n (planRuns tx (runs [] (placed (entryPlace n xs a) y))) ps) (sym (drop-cons xs a _ u))
+        ap (λ os. carryOut n os ps) (plan-skip tx xs (0, noRow) (entryPlace n xs i) (entryPlace n xs a) i a l u h s (omega arith))
 
     -- a run from row a up to row e, whose newest own row is k
     pub close-first : (a e k : ℕ) → a ≤ k → k < e → e ≤ length (tagged ps) → ((j : ℕ) → a ≤ j → j < e → sameKey (rowFrom (tagged ps) a) (rowFrom (tagged ps) j) ≡ true)
@@ -90,25 +62,11 @@ module _ (tx : ℕ) where
     unfolding closedFrom closedRun isOwnRow
     close-first a e k l u m s o w v =
         let xs = tagged ps in
-        let x = rowFrom xs a in
-        let rest = take (e - suc a) (drop (suc a) xs) in
-        let r = length-take (e - suc a) (drop (suc a) xs) in
-        let d = length-drop (suc a) xs in
-        let f : take (e - a) (drop a xs) ≡ x ∷ rest = first xs a e (omega arith) (omega arith) in
-        let j : entryPlace n xs e ≡ entryPlace n xs a + suc (length rest) = omega arith in
         let later = planRuns tx (runs [] (placed (entryPlace n xs e) (drop e xs))) in
-        ap (λ y. carryOut n (planRuns tx (runs [] (placed (entryPlace n xs a) y))) ps) (parts xs a e (omega arith) ∙ ap (λ y. y ++ drop e xs) f)
-        ∙ ap (λ os. carryOut n os ps) (plan-first tx (entryPlace n xs a) (entryPlace n xs e) x rest (drop e xs)
-        (all-between _ xs (suc a) e (λ j y z q. s j (omega arith) z)) (ends xs x e o) j)
-        ∙ carry-append n (planRun tx (placed (entryPlace n xs a) (x ∷ rest))) later ps
-        ∙ ap (λ os. carryOut n later (carryOut n os ps)) (ap (λ y. planRun tx (placed (entryPlace n xs a) y)) (sym f) ∙ run-is n xs a e k l u m w v)
+        ap (λ os. carryOut n os ps) (plan-first tx xs (0, noRow) (entryPlace n xs a) (entryPlace n xs e) a e (omega arith) m (λ j x y. s j (omega arith) y) o (omega arith))
+        ∙ carry-append n (planRun tx (placed (entryPlace n xs a) (take (e - a) (drop a xs)))) later ps
+        ∙ ap (λ os. carryOut n later (carryOut n os ps)) (run-is n xs a e k l u m w v)
       where
-        first : (xs : List (ℕ × Held)) (a e : ℕ) → a < e → a < length xs → take (e - a) (drop a xs) ≡ rowFrom xs a ∷ take (e - suc a) (drop (suc a) xs)
-        first xs a e h g = let z : e - a ≡ suc (e - suc a) = omega arith in ap (λ y. take y (drop a xs)) z ∙ ap (take (suc (e - suc a))) (drop-cons xs a _ g)
-
-        ends : (xs : List (ℕ × Held)) (x : ℕ × Held) (e : ℕ) → (e < length xs → sameKey x (rowFrom xs e) ≡ false) → Ends tx x (drop e xs)
-        ends xs x e o = ⊎-elim (λ h. subst (Ends tx x) (sym (drop-cons xs e _ h)) (o h)) (λ h. subst (Ends tx x) (sym (drop-of-length-le xs h)) tt) (lt-or-ge e (length xs))
-
         run-is : (n : ℕ) (xs : List (ℕ × Held)) (a e k : ℕ) → a ≤ k → k < e → e ≤ length xs → isLiveOwn tx (rowFrom xs k .1) ≡ true
             → ((j : ℕ) → k < j → j < e → isLiveOwn tx (rowFrom xs j .1) ≡ false)
             → planRun tx (placed (entryPlace n xs a) (take (e - a) (drop a xs)))
@@ -122,7 +80,7 @@ module _ (tx : ℕ) where
             run-plan tx (placed (entryPlace n xs a) y)
             ∙ ap (λ o. planNewest o (liveOf (placed (entryPlace n xs a) y)))
             (ap (λ q. last (ownPlaced tx) (liveOf (placed (entryPlace n xs a) q))) (split-run xs a e k l u m)
-            ∙ newest-is tx (entryPlace n xs a) (entryPlace n xs k) ws (rowFrom xs k) (take (e - suc k) (drop (suc k) xs)) w (all-between _ xs (suc k) e (λ j b g q. v j b g)) z)
+            ∙ newest-is tx (entryPlace n xs a) (entryPlace n xs k) ws (rowFrom xs k) (take (e - suc k) (drop (suc k) xs)) w (all-between _ xs (0, noRow) (suc k) e (λ j b g q. v j b g)) z)
 
 -- ---- one step
 
@@ -152,25 +110,13 @@ one-aborted keep {m} {m'} {tx} {i} {own} {r} e o h u =
 -- the run of the next own row is closed
 module _ {m m' : List ℕ} {tx i own a e k r : ℕ} (o : NextOwn (taggedOf m) tx i (length (taggedOf m)) own) (f : RunFrom (taggedOf m) i own a) (t : RunTo (taggedOf m) own e)
     (w : NewestOwn (taggedOf m) tx own e k) (u : RunClosed m m' a e k r) where
-  abbrev row : ℕ → ℕ × Held
-  row j = rowFrom (taggedOf m) j
-
-  own-same : (j : ℕ) → j ≡ own → sameKey (row own) (row j) ≡ true
-  own-same j e = subst (λ q. sameKey (row own) (row q) ≡ true) (sym e) (same-self (row own))
-
-  own-first : sameKey (row own) (row a) ≡ true
-  own-first = ⊎-elim (λ x. f .same a (omega arith) x) (λ x. own-same a (omega (arith, f .high))) (lt-or-ge a own)
-
-  all-same : (j : ℕ) → a ≤ j → j < e → sameKey (row a) (row j) ≡ true
-  all-same j x y =
-      same-as (row own) (row a) (row j) own-first
-      ∙ ⊎-elim (λ l. f .same j x l) (λ l. ⊎-elim (λ g. t .same j g y) (λ g. own-same j (omega arith)) (lt-or-ge own j)) (lt-or-ge j own)
+  run : WholeRun (taggedOf m) i a e
+  run = whole-run f t
 
   to-run : (n : ℕ) → closedFrom tx n i (pagesOf m) ≡ closedFrom tx n a (pagesOf m)
   to-run n =
       ⊎-elim
-      (λ x. close-skip tx n (pagesOf m) i a x (omega (arith, f .high, t .low, t .most)) (λ j y z. o .passed j y (omega (arith, f .high)))
-      (same-not (row own) (row (a - 1)) (row a) (f .first x) own-first))
+      (λ x. close-skip tx n (pagesOf m) i a x (omega (arith, run .some, t .most)) (λ j y z. o .passed j y (omega (arith, f .high))) (run .before x))
       (λ x. let z : i ≡ a = omega (arith, f .low) in ap (λ j. closedFrom tx n j (pagesOf m)) z) (lt-or-ge i a)
 
   pub one-closed : (keep : Bool) → keep ≡ true → NextDone (leftFrom keep tx) m m' i r
@@ -181,8 +127,7 @@ module _ {m m' : List ℕ} {tx i own a e k r : ℕ} (o : NextOwn (taggedOf m) tx
         most = b .most;
         fewer = behind-fewer b (t .most);
         further = omega (arith, behind-left b (t .most), o .low, t .low);
-        same = λ n l. rw q (to-run n ∙ close-first tx n (pagesOf m) a e k (omega (arith, f .high, w .low)) (w .high) (t .most) all-same
-            (λ x. same-as (row own) (row a) (row e) own-first ∙ t .last x) (w .own) (w .later)
+        same = λ n l. rw q (to-run n ∙ close-first tx n (pagesOf m) a e k (omega (arith, f .high, w .low)) (w .high) (t .most) (run .same) (run .behind) (w .own) (w .later)
             ∙ ap (carryOut n (planRuns tx (runs [] (placed (entryPlace n (taggedOf m) e) (drop e (taggedOf m)))))) (sym (now-pages (u .pages n l)))
             ∙ ap₂ (λ p y. carryOut n (planRuns tx (runs [] (placed p y))) (pagesOf m')) (sym (behind-place b (t .most) n l)) (sym (b .rows))
             ∙ sym (closed-is tx n r (pagesOf m')));

@@ -1,8 +1,9 @@
--- Where a run begins and ends: rows of one table are neighbours, so that within its bounds the keys alone are compared.
-use Rattle.basics.proofs.Kit.{_≡_, refl, sym, ap, _∙_, ⊎-elim, true, false, List, ℕ, _+_, _≤_, _<_, _-_, length, arith}
+-- Where a run begins and ends: rows of one table are neighbours, so that within its bounds the keys alone are compared. And the whole run.
+use Rattle.basics.proofs.Kit.{_≡_, refl, sym, ap, _∙_, subst, ⊎-elim, true, false, List, ℕ, _+_, _≤_, _<_, _-_, length, arith}
 use Rattle.basics.proofs.Facts.{by}
 use Rattle.model.specs.State.{Held}
 use Rattle.model.proofs.RowAfter.{at-split, at-join}
+use Rattle.model.proofs.RunParts.{same-as, same-self, same-not}
 use Rattle.basics.proofs.Tabs.{lt-or-ge}
 use Rattle.memory_layout.specs.Views.{tableEnd}
 use Rattle.memory_layout.specs.Flat.{flatOf, rowIn, Room}
@@ -10,7 +11,8 @@ use Rattle.memory_layout.specs.Store.{startOf}
 use Rattle.memory_layout.proofs.Laws.{filled}
 use Rattle.memory_layout.proofs.Nest.{total-split}
 use Rattle.memory_pages.proofs.Tables.{from-end}
-use Rattle.engine_close.specs.Close.{taggedOf, rowFrom, sameKey, RowOfTable, RowsFrom, RunFrom, RunTo}
+use Rattle.model.specs.Places.{sameKey}
+use Rattle.engine_close.specs.Close.{taggedOf, rowFrom, RowOfTable, RowsFrom, RunFrom, RunTo}
 use Rattle.engine_close.proofs.Memory.{row-is, rows-from}
 
 -- rows r up to i are of the table and key of row i
@@ -33,7 +35,6 @@ module _ {m : List ℕ} {i t : ℕ} (row : RowOfTable m i t) where
   module _ (j : ℕ) where
     key-same : rowFrom (taggedOf m) j .0 ≡ rowFrom (taggedOf m) i .0 → rowIn (flatOf m) j .tuple .key ≡ rowIn (flatOf m) i .tuple .key
         → sameKey (rowFrom (taggedOf m) i) (rowFrom (taggedOf m) j) ≡ true
-    unfolding sameKey
     key-same a k = at-join _ _ _ a (ap (λ (x : Held). x .tuple .key) (row-is m (row .room) j) ∙ k ∙ sym (ap (λ (x : Held). x .tuple .key) (row-is m (row .room) i)))
 
     key-other : (rowIn (flatOf m) j .tuple .key ≡ rowIn (flatOf m) i .tuple .key → ⊥) → sameKey (rowFrom (taggedOf m) i) (rowFrom (taggedOf m) j) ≡ false
@@ -42,13 +43,13 @@ module _ {m : List ℕ} {i t : ℕ} (row : RowOfTable m i t) where
         (λ s. absurd (k (sym (ap (λ (x : Held). x .tuple .key) (row-is m (row .room) j)) ∙ split s ∙ ap (λ (x : Held). x .tuple .key) (row-is m (row .room) i)))) (λ s. s)
       where
         split : sameKey (rowFrom (taggedOf m) i) (rowFrom (taggedOf m) j) ≡ true → rowFrom (taggedOf m) j .1 .tuple .key ≡ rowFrom (taggedOf m) i .1 .tuple .key
-        split s = unfold sameKey in at-split _ _ _ s .1
+        split s = at-split _ _ _ s .1
 
     table-other : (rowFrom (taggedOf m) j .0 ≡ rowFrom (taggedOf m) i .0 → ⊥) → sameKey (rowFrom (taggedOf m) i) (rowFrom (taggedOf m) j) ≡ false
     table-other k = by (sameKey (rowFrom (taggedOf m) i) (rowFrom (taggedOf m) j)) (λ s. absurd (k (split s))) (λ s. s)
       where
         split : sameKey (rowFrom (taggedOf m) i) (rowFrom (taggedOf m) j) ≡ true → rowFrom (taggedOf m) j .0 ≡ rowFrom (taggedOf m) i .0
-        split s = unfold sameKey in at-split _ _ _ s .0
+        split s = at-split _ _ _ s .0
 
   -- ---- back
 
@@ -94,3 +95,36 @@ module _ {m : List ℕ} {i t : ℕ} (row : RowOfTable m i t) where
       pub onward-stops : i < r → r ≡ end → RunTo (taggedOf m) i r
       onward-stops l q =
           record { low = l; most = omega (arith, f .most); same = s; last = λ x. table-other r (λ z. omega (arith, f .above r (omega arith) x)) }
+
+-- ---- the whole run of a row
+
+-- it goes from row a up to row e, and a is not before row `from`
+pub record WholeRun (xs : List (ℕ × Held)) (from a e : ℕ) : Type 0 where
+  pub low : from ≤ a
+  pub some : a < e
+  pub most : e ≤ length xs
+  pub before : from < a → sameKey (rowFrom xs (a - 1)) (rowFrom xs a) ≡ false
+  pub same : (j : ℕ) → a ≤ j → j < e → sameKey (rowFrom xs a) (rowFrom xs j) ≡ true
+  pub behind : e < length xs → sameKey (rowFrom xs a) (rowFrom xs e) ≡ false
+
+module _ {xs : List (ℕ × Held)} {from i a e : ℕ} (f : RunFrom xs from i a) (t : RunTo xs i e) where
+  abbrev row : ℕ → ℕ × Held
+  row j = rowFrom xs j
+
+  same-here : (j : ℕ) → j ≡ i → sameKey (row i) (row j) ≡ true
+  same-here j q = subst (λ z. sameKey (row i) (row z) ≡ true) (sym q) (same-self (row i))
+
+  same-first : sameKey (row i) (row a) ≡ true
+  same-first = ⊎-elim (λ x. f .same a (omega arith) x) (λ x. same-here a (omega (arith, f .high))) (lt-or-ge a i)
+
+  pub whole-run : WholeRun xs from a e
+  whole-run =
+      record {
+        low = f .low;
+        some = omega (arith, f .high, t .low);
+        most = t .most;
+        before = λ x. same-not (row i) (row (a - 1)) (row a) (f .first x) same-first;
+        same = λ j x y. same-as (row i) (row a) (row j) same-first
+            ∙ ⊎-elim (λ l. f .same j x l) (λ l. ⊎-elim (λ g. t .same j g y) (λ g. same-here j (omega arith)) (lt-or-ge i j)) (lt-or-ge j i);
+        behind = λ x. same-as (row i) (row a) (row e) same-first ∙ t .last x;
+      }

@@ -7,10 +7,9 @@ use mathlib.Core.Option.{some}
 use mathlib.Core.List.{List, []}
 use lib.ListN.{length, take, drop, getD}
 use Rattle.basics.specs.Basics.{keep}
-use Rattle.image_rows.specs.Rows.{isAt}
 use Rattle.model.specs.State.{Held, Page}
 use Rattle.model.specs.Rules.{isRemoving, applied}
-use Rattle.model.specs.Places.{tagged, placed, runs, liveOf, ownPlaced, removePlaces, planNewest, planRuns, carryOut, removeRow}
+use Rattle.model.specs.Places.{tagged, placed, sameKey, runs, liveOf, ownPlaced, removePlaces, planNewest, planRuns, carryOut, removeRow}
 use Rattle.model.specs.Transactions.{committedPages, abortedPages}
 use Rattle.memory_layout.specs.Flat.{noRow, Room}
 use Rattle.memory_layout.specs.Store.{holdsStore}
@@ -30,10 +29,6 @@ isLive h = not (isRemoving (h .pending))
 -- element i: a row with its table
 abbrev pub rowFrom : List (ℕ × Held) → ℕ → ℕ × Held
 rowFrom xs i = getD xs i (0, noRow)
-
--- x is of the table and key of y
-unfoldable pub sameKey : ℕ × Held → ℕ × Held → Bool
-sameKey y x = isAt (y .0) (y .1 .tuple .key) (x .0, x .1 .tuple)
 
 -- row i is live and the transaction's own
 unfoldable pub isOwnRow : ℕ → List (ℕ × Held) → ℕ → Bool

@@ -58,7 +58,7 @@ fn page_near(m: &[u8], near: usize, i: usize) -> usize
 }
 
 // The first row of table t or of a later one, or how many rows there are.
-fn first_row(m: &[u8], t: usize) -> usize
+pub fn first_row(m: &[u8], t: usize) -> usize
     requires { ⌜ Room (now m) × (t ≤ 8) ⌝ }
     ensures { λ r. ⌜ RowsFrom (taggedOf (now (m .entry))) t r ⌝ }
 {
@@ -146,7 +146,7 @@ fn later(a: usize, b: usize) -> usize
 }
 
 // The first row of the run of row i, which is of table t; row `from`, if the run begins before it.
-fn run_start(m: &[u8], from: usize, i: usize, t: usize) -> usize
+pub fn run_start(m: &[u8], from: usize, i: usize, t: usize) -> usize
     requires { ⌜ RowOfTable (now m) i t × (from ≤ i) ⌝ }
     ensures { λ r. ⌜ RunFrom (taggedOf (now (m .entry))) from i r ⌝ }
 {
@@ -163,7 +163,7 @@ fn run_start(m: &[u8], from: usize, i: usize, t: usize) -> usize
 }
 
 // The row behind the run of row i, which is of table t.
-fn run_end(m: &[u8], i: usize, t: usize) -> usize
+pub fn run_end(m: &[u8], i: usize, t: usize) -> usize
     requires { ⌜ RowOfTable (now m) i t ⌝ }
     ensures { λ r. ⌜ RunTo (taggedOf (now (m .entry))) i r ⌝ }
 {

@@ -36,38 +36,42 @@ unfolding placed
 risen-placed i [] p = tt
 risen-placed i (e ∷ es) p = (before-placed (asRow e) (suc i) es (p .0), risen-placed (suc i) es (p .1))
 
+all-placed : (ps : List Page) → allPlaced ps ≡ placed 0 (tagged ps)
+unfolding allPlaced
+all-placed ps = refl
+
+pub all-rows : (ps : List Page) → rowsIn (allPlaced ps) ≡ rows ps
+all-rows ps = ap rowsIn (all-placed ps) ∙ rows-placed 0 (tagged ps) ∙ sym (rows-live ps)
+
+pub all-risen : (ps : List Page) → Pairs Before (held ps) → Risen (allPlaced ps)
+all-risen ps rising =
+    subst Risen (sym (all-placed ps)) (risen-placed 0 (tagged ps) (pairs-plain Before (tagged ps) (subst (Pairs Before) (held-plain ps) rising)))
+
 -- of pages whose tuples rise and have distinct numbers
 module _ (ps : List Page) (rising : Pairs Before (held ps)) (differ : Pairs Differ (held ps)) where
   all-distinct : Pairs (λ a b. a ≢ b) (numbers ps)
   all-distinct = pairs-mapped (λ a b. a ≢ b) numberOf (tagged ps) (pairs-plain Differ (tagged ps) (subst (Pairs Differ) (held-plain ps) differ))
 
-  all-placed : allPlaced ps ≡ placed 0 (tagged ps)
-  unfolding allPlaced
-  all-placed = refl
-
-  all-rows : rowsIn (allPlaced ps) ≡ rows ps
-  all-rows = ap rowsIn all-placed ∙ rows-placed 0 (tagged ps) ∙ sym (rows-live ps)
-
   all-named : AllOf (λ x. (x .0 < length (numbers ps)) × (getD (numbers ps) (x .0) 0 ≡ rowOf x .1 .number)) (allPlaced ps)
-  all-named = subst (AllOf _) (sym all-placed) (named-placed [] (tagged ps))
+  all-named = subst (AllOf _) (sym (all-placed ps)) (named-placed [] (tagged ps))
 
   pub all-grouped : Grouped (rows ps) (allRuns ps) × (flat (allRuns ps) ≡ allPlaced ps)
   unfolding allRuns
   all-grouped =
-      let g = group-all (allPlaced ps) (subst Risen (sym all-placed) (risen-placed 0 (tagged ps) (pairs-plain Before (tagged ps) (subst (Pairs Before) (held-plain ps) rising)))) in
-      (subst (λ ev. Grouped ev (runs [] (allPlaced ps))) all-rows (g .0), g .1)
+      let g = group-all (allPlaced ps) (all-risen ps rising) in
+      (subst (λ ev. Grouped ev (runs [] (allPlaced ps))) (all-rows ps) (g .0), g .1)
 
   close-numbered : (tx : ℕ) → map (numbered (numbers ps)) (closePlan tx ps) ≡ planRows tx (rows ps) (rows ps)
   unfolding closePlan
   close-numbered tx =
       numbered-runs tx (rows ps) (numbers ps) all-distinct (allRuns ps) (all-grouped .0) (subst (AllOf _) (sym (all-grouped .1)) all-named)
-      ∙ ap (planRows tx (rows ps)) (ap rowsIn (all-grouped .1) ∙ all-rows)
+      ∙ ap (planRows tx (rows ps)) (ap rowsIn (all-grouped .1) ∙ all-rows ps)
 
   close-rising : (tx : ℕ) → Rising (length (numbers ps)) 0 (closePlan tx ps)
   unfolding closePlan allRuns
   close-rising tx =
       let l = length-map (tagged ps) numberOf in
-      subst (λ z. Rising (length (numbers ps)) 0 (planRuns tx (runs [] z))) (sym all-placed)
+      subst (λ z. Rising (length (numbers ps)) 0 (planRuns tx (runs [] z))) (sym (all-placed ps))
       (rising-runs (length (numbers ps)) tx 0 0 [] (tagged ps) (omega arith) (omega arith))
 
   abort-numbered : (tx : ℕ) → map (numbered (numbers ps)) (abortPlan tx ps) ≡ removeAll (keep (isOwn tx) (rows ps))
@@ -76,7 +80,7 @@ module _ (ps : List Page) (rising : Pairs Before (held ps)) (differ : Pairs Diff
       let vs = liveOf (allPlaced ps) in
       let own = keep (ownPlaced tx) vs in
       numbered-removes (numbers ps) own (all-map _ _ (λ y q. q .1) own (all-keep _ (ownPlaced tx) vs (named-live (numbers ps) (allPlaced ps) all-named)))
-      ∙ ap removeAll (keep-map (ownPlaced tx) (isOwn tx) vs (all-mem _ vs (λ y m. refl)) ∙ ap (keep (isOwn tx)) all-rows)
+      ∙ ap removeAll (keep-map (ownPlaced tx) (isOwn tx) vs (all-mem _ vs (λ y m. refl)) ∙ ap (keep (isOwn tx)) (all-rows ps))
 
   abort-rising : (tx : ℕ) → Rising (length (numbers ps)) 0 (abortPlan tx ps)
   unfolding abortPlan
@@ -86,7 +90,7 @@ module _ (ps : List Page) (rising : Pairs Before (held ps)) (differ : Pairs Diff
       let own = keep (ownPlaced tx) (liveOf (allPlaced ps)) in
       subst (Rising (length (numbers ps)) 0) (append-nil (removePlaces own))
       (rising-removes (length (numbers ps)) 0 m own [] (omega arith)
-      (between-keep (ownPlaced tx) 0 m (liveOf (allPlaced ps)) (between-live 0 m (allPlaced ps) (subst (λ z. Between 0 m z) (sym all-placed) (between-placed 0 (tagged ps))))) tt)
+      (between-keep (ownPlaced tx) 0 m (liveOf (allPlaced ps)) (between-live 0 m (allPlaced ps) (subst (λ z. Between 0 m z) (sym (all-placed ps)) (between-placed 0 (tagged ps))))) tt)
 
   -- commit and abort by place are those by number
   pub commit-by-place : (tx : ℕ) → committedPages tx ps ≡ perform (planRows tx (rows ps) (rows ps)) ps

@@ -26,6 +26,7 @@ pub mod Places
 pub mod RowAfter
 pub mod Carry
 pub mod Runs
+pub mod RunParts
 pub mod Plans
 pub mod ByPlace
 pub mod Valid
@@ -44,6 +45,7 @@ pub mod Bytes
 pub mod Starts
 pub mod Laws
 pub mod Sees
+pub mod Crossings
 pub mod Line
 pub mod Reread
 pub mod Cases
@@ -53,3 +55,4 @@ pub mod Flat
 pub mod Others
 pub mod PlaceCases
 pub mod Cuts
+pub mod CrossingCases

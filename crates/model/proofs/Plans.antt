@@ -7,7 +7,7 @@ use Rattle.basics.proofs.Facts.{by, lie, by-option, AllOf}
 use Rattle.block_forms.specs.Tuple.{Tuple}
 use Rattle.image_rows.specs.Rows.{Row, number, isOwn, isAt}
 use Rattle.model.specs.Rules.{isRemoving}
-use Rattle.model.specs.Places.{PlaceOp, commitPlace, removePlace, Placed, rowOf, placed, continues, runs, liveOf, ownPlaced, removePlaces, planNewest, planRun, planRuns}
+use Rattle.model.specs.Places.{PlaceOp, commitPlace, removePlace, Placed, rowOf, placed, continues, runs, liveOf, ownPlaced, removePlaces, eachRun, planNewest, planRun, planRuns}
 use Rattle.basics.proofs.Elements.{Pairs, all-at, Mem, here, there, mem-all, all-mem, all-map, all-parts, all-keep, any-off, last-off, last-any, last-skip, last-some, last-here, last-mem}
 use Rattle.basics.proofs.Elements.{eqb-self, eqb-true, and-no, and-yes}
 use Rattle.model.proofs.ByNumber.{Op, toCommit, toRemove, removeAll, isRow, planKey, ownAt, planRows, plan-skip, plan-take}
@@ -89,12 +89,12 @@ module _ (n : ℕ) where
 
   pub rising-runs : (tx k i : ℕ) (run : List Placed) (es : List Entry) → Between k i run → i + length es ≤ n
       → Rising n k (planRuns tx (runs run (placed i es)))
-  unfolding runs placed planRuns
+  unfolding runs placed eachRun
   rising-runs tx k i run [] b h = rising-run tx k i run [] (omega arith) b tt
   rising-runs tx k i run (e ∷ es) b h =
       by (continues run (i, e))
       (λ c. rw (c, runs) (rising-runs tx k (suc i) (run ++ (i, e) ∷ []) es (between-snoc k i run e b) (omega arith)))
-      (λ c. rw (c, runs, planRuns) (rising-run tx k i run _ (omega arith) b (rising-runs tx i (suc i) ((i, e) ∷ []) es (omega arith, omega arith) (omega arith))))
+      (λ c. rw (c, runs, eachRun) (rising-run tx k i run _ (omega arith) b (rising-runs tx i (suc i) ((i, e) ∷ []) es (omega arith, omega arith) (omega arith))))
 
 -- ---- numbers and places
 
@@ -210,7 +210,8 @@ module _ (tx : ℕ) (ev : List Row) where
       plan-skip tx ev x (L ++ Y) (ap (λ b. isOwn tx x && b) e ∙ and-no (isOwn tx x)) ∙ ih
       ∙ ap (λ w. newest w vs ++ planRows tx ev Y) (n ∙ sym (last-some (isOwn tx) x L z n)))
 
-rows-all : (P : ℕ → ℕ → Type 0) (xs : List Placed) → AllOf (λ x. P (rowOf x .0) (rowOf x .1 .key)) xs → AllOf (λ r. P (r .0) (r .1 .key)) (rowsIn xs)
+-- a property of the tables and keys of tuples is one of their live rows
+pub rows-all : (P : ℕ → ℕ → Type 0) (xs : List Placed) → AllOf (λ x. P (rowOf x .0) (rowOf x .1 .key)) xs → AllOf (λ r. P (r .0) (r .1 .key)) (rowsIn xs)
 unfolding liveOf if_then_else_
 rows-all P [] a = tt
 rows-all P (x ∷ xs) a =
@@ -221,23 +222,26 @@ pairs-of : (R : Row → Row → Type 0) (L : List Row) → AllOf (λ r. AllOf (R
 pairs-of R [] a = tt
 pairs-of R (x ∷ L) a = (a .0 .1, pairs-of R L (all-map _ _ (λ r h. h .1) L (a .1)))
 
+-- rows that are all those at the key of each of them are of one key
+pub kept-with : (ev vs : List Row) → AllOf (λ r. vs ≡ keep (With r) ev) vs → AllOf (λ r. AllOf (λ q. With r q ≡ true) vs) vs
+kept-with ev vs v = all-map _ _ (λ r e. subst (AllOf (λ q. With r q ≡ true)) (sym e) (kept r)) vs v
+  where
+    kept : (r : Row) → AllOf (λ q. With r q ≡ true) (keep (With r) ev)
+    kept r = all-map (λ q. (With r q ≡ true) × Unit {0}) (λ q. With r q ≡ true) (λ q h. h .0) (keep (With r) ev) (all-keep (λ q. Unit {0}) (With r) ev (all-mem _ ev (λ q m. tt)))
+
 pub numbered-runs : (tx : ℕ) (ev : List Row) (ns : List ℕ) → Pairs (λ a b. a ≢ b) ns → (rs : List (List Placed)) → Grouped ev rs
     → AllOf (λ x. Named ns (x .0) (rowOf x .1 .number)) (flat rs) → map (numbered ns) (planRuns tx rs) ≡ planRows tx ev (rowsIn (flat rs))
-unfolding planRuns planRun flat
+unfolding eachRun planRun flat
 numbered-runs tx ev ns d [] g a = unfold liveOf planRows in refl
 numbered-runs tx ev ns d (run ∷ rs) g a =
     let vs = rowsIn run in
     let o = last (ownPlaced tx) (liveOf run) in
     let q = all-parts (λ x. Named ns (x .0) (rowOf x .1 .number)) run (flat rs) a in
     let v = rows-all (λ t k. vs ≡ keep (isAt t k) ev) run (g .0) in
-    let s : AllOf (λ r. AllOf (λ q. With r q ≡ true) vs) vs = all-map _ _ (λ r e. subst (AllOf (λ q. With r q ≡ true)) (sym e) (kept r)) vs v in
     map-append (numbered ns) (planRun tx run) (planRuns tx rs)
     ∙ ap₂ (λ x y. x ++ y)
     (numbered-newest ns d o (liveOf run) (named-live ns run (q .0)) (λ x e. last-mem (ownPlaced tx) (liveOf run) x e .0) ∙ ap (λ z. newest z vs) (sym (last-map tx (liveOf run))))
     (numbered-runs tx ev ns d rs (g .2) (q .1))
-    ∙ sym (plan-run tx ev vs vs (rowsIn (flat rs)) v (pairs-of (λ r q. With r q ≡ true) vs s)
+    ∙ sym (plan-run tx ev vs vs (rowsIn (flat rs)) v (pairs-of (λ r q. With r q ≡ true) vs (kept-with ev vs v))
     (rows-all (λ t k. AllOf (λ q. isAt t k q ≡ false) (rowsIn (flat rs))) run (g .1)))
     ∙ ap (planRows tx ev) (sym (rows-append run (flat rs)))
-  where
-    kept : (r : Row) → AllOf (λ q. With r q ≡ true) (keep (With r) ev)
-    kept r = all-map (λ q. (With r q ≡ true) × Unit {0}) (λ q. With r q ≡ true) (λ q h. h .0) (keep (With r) ev) (all-keep (λ q. Unit {0}) (With r) ev (all-mem _ ev (λ q m. tt)))

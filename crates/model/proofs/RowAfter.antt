@@ -126,9 +126,13 @@ With x r = isAt (x .0) (x .1 .key) r
 pub with-self : (x : Row) → With x x ≡ true
 with-self x = at-join (x .0) (x .1 .key) x refl refl
 
+-- at a key: whether another is at the same key is whether it is at this one
+pub at-as : (t k : ℕ) (x r : Row) → isAt t k x ≡ true → With x r ≡ isAt t k r
+at-as t k x r h = let s = at-split t k x h in ap₂ (λ t k. isAt t k r) (s .0) (s .1)
+
 -- of one key with y: the same as y to every other
 pub with-as : (y x r : Row) → With y x ≡ true → With x r ≡ With y r
-with-as y x r h = let s = at-split (y .0) (y .1 .key) x h in ap₂ (λ t k. isAt t k r) (s .0) (s .1)
+with-as y x r h = at-as (y .0) (y .1 .key) x r h
 
 pub with-sym : (x r : Row) → With x r ≡ false → With r x ≡ false
 with-sym x r h = by (With r x) (λ k. let s = at-split (r .0) (r .1 .key) x k in lie (sym h ∙ at-join (x .0) (x .1 .key) r (sym (s .0)) (sym (s .1)))) (λ k. k)

@@ -65,7 +65,7 @@ unfolding rowsOf
 plain-rows t [] = refl
 plain-rows t (x ∷ xs) = rw (plain-rows t xs)
 
-live-rows : (t : ℕ) (ts : List Held) → liveRows (withTable t ts) ≡ rowsOf t (live ts)
+pub live-rows : (t : ℕ) (ts : List Held) → liveRows (withTable t ts) ≡ rowsOf t (live ts)
 unfolding liveRows rowsOf live if_then_else_
 live-rows t [] = refl
 live-rows t (x ∷ xs) = by (isRemoving (x .pending)) (λ h. rw (h, live-rows t xs)) (λ h. rw (h, live-rows t xs))

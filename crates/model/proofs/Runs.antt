@@ -6,16 +6,13 @@ use Rattle.basics.proofs.Facts.{by, lie, AllOf}
 use Rattle.image_rows.specs.Rows.{Row, isAt}
 use Rattle.model.specs.Rules.{isRemoving, applied}
 use Rattle.model.specs.Places.{Placed, rowOf, placed, continues, runs, liveOf}
+pub use Rattle.model.specs.Transactions.{rowsIn}
 use Rattle.basics.proofs.Elements.{Pairs, all-mem, all-map, all-two, all-append, all-parts, pairs-parts, keep-append, keep-all, keep-none}
 use Rattle.model.proofs.Rows.{Entry, liveRows, applied-is}
 use Rattle.model.proofs.Placing.{Before}
 use Rattle.model.proofs.RowAfter.{With, with-self, with-as, with-sym, at-split, at-join}
 
 -- ---- the live rows of placed tuples
-
--- their live rows, in order
-abbrev pub rowsIn : List Placed → List Row
-rowsIn xs = map (λ y. y .1) (liveOf xs)
 
 live-append : (a b : List Placed) → liveOf (a ++ b) ≡ liveOf a ++ liveOf b
 unfolding liveOf if_then_else_

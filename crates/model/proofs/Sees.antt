@@ -197,7 +197,7 @@ seen-kept : (u : ℕ) (r : Row) → seenOf u (kept-row r) ≡ some (r .0, asComm
 unfolding seenOf kept-row last first isOwn isBy asCommitted isTentative if_then_else_
 seen-kept u r = refl
 
-seen-none : (u : ℕ) → seenOf u [] ≡ none
+pub seen-none : (u : ℕ) → seenOf u [] ≡ none
 unfolding seenOf last first
 seen-none u = refl
 

@@ -14,7 +14,7 @@ use Rattle.model.specs.Checkpoint.{freeCount}
 use Rattle.model.specs.Calls.{Call, Typed, call}
 use Rattle.model.specs.WellFormed.{isBefore, settledOk, frozenOk, pageWell, dirtyOr, ownerIn, CheckpointWell, heldOk, openOk, WellFormed}
 use Rattle.basics.proofs.Elements.{leb-false, eqb-self, le-true, leb-true, Pairs, all-map, all-two, all-append, any-off, nonempty, and-both, in-all, not-zero, all-true, every-all}
-use Rattle.basics.proofs.Elements.{off-any, not-true, has-some, all-split, pos-not-zero}
+use Rattle.basics.proofs.Elements.{off-any, not-true, has-some, all-split, pos-not-zero, pairs-map}
 use Rattle.model.proofs.Owners.{numbers-length}
 use Rattle.model.proofs.Splits.{Small}
 use Rattle.model.proofs.Frozen.{images}
@@ -30,7 +30,7 @@ use Rattle.model.proofs.WriteCounts.{keeps-count}
 use Rattle.model.proofs.Listed.{Listed, keeps-listed}
 use Rattle.model.proofs.Range.{keeps-fits, page-rows}
 use Rattle.model.proofs.Shown.{bare}
-use Rattle.basics.proofs.Lists.{some-one}
+use Rattle.basics.proofs.Lists.{some-one, paired-true}
 
 pub record Sound (s : Store) : Type 0 where
   pub valid : Valid s
@@ -73,10 +73,7 @@ true-before r q h =
     (omega (arith, s .0), λ u. (omega (arith, s .1), λ w. l)))
 
 rising-paired : (rs : List Row) → Pairs Before rs → paired isBefore rs ≡ true
-unfolding paired
-rising-paired [] p = refl
-rising-paired (r ∷ []) p = refl
-rising-paired (r ∷ q ∷ rs) p = rw (before-true r q (p .0 .0), rising-paired (q ∷ rs) (p .1))
+rising-paired rs p = paired-true isBefore rs (pairs-map Before _ rs (λ r q m n b. before-true r q b) p)
 
 paired-rising : (rs : List Row) → paired isBefore rs ≡ true → Pairs Before rs
 unfolding paired

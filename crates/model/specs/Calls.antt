@@ -8,11 +8,12 @@ use Rattle.basics.specs.Basics.{if_then_else_, isIn, keep}
 use Rattle.block_forms.specs.Tuple.{AllBytes}
 use Rattle.model.specs.State.{Store, Answer, refused, done, count, filled, Outcome}
 use Rattle.model.specs.Transactions.{openCall, commitCall, abortCall, insertCall, replaceCall, deleteCall, readCall, listCall}
+use Rattle.model.specs.Crossing.{crossingCall}
 use Rattle.model.specs.Checkpoint.{beginCall, stepCall, runCall}
 
 -- ---- the calls of transactions
 
--- with transaction, table, key, payload; the length of the reply (read, list)
+-- with transaction, table, key, payload; first and end of the interval (crossing); the length of the reply (read, list, crossing)
 pub data TransactionCall : Type 0 where
   opens : ℕ → TransactionCall
   inserts : ℕ → ℕ → ℕ → List ℕ → TransactionCall
@@ -22,6 +23,7 @@ pub data TransactionCall : Type 0 where
   aborts : ℕ → TransactionCall
   reads : ℕ → ℕ → ℕ → ℕ → TransactionCall
   lists : ℕ → TransactionCall
+  crossings : ℕ → ℕ → ℕ → ℕ → ℕ → TransactionCall
 
 -- what each does to a store
 unfoldable pub transact : TransactionCall → Store → Outcome
@@ -33,6 +35,7 @@ transact (commits tx) s = commitCall tx s
 transact (aborts tx) s = abortCall tx s
 transact (reads tx t k room) s = readCall tx t k room s
 transact (lists room) s = listCall room s
+transact (crossings tx t first end room) s = crossingCall tx t first end room s
 
 -- what an accepted call is for the transactions: nothing, or one opens, writes a tuple, commits, aborts
 pub data Effect : Type 0 where
@@ -49,6 +52,7 @@ effect (commits tx) = commitOf tx
 effect (aborts tx) = abortOf tx
 effect (reads tx t k room) = noEffect
 effect (lists room) = noEffect
+effect (crossings tx t first end room) = noEffect
 
 -- a key has 32 bits, and a payload is bytes
 abbrev pub TypedTuple : ℕ → List ℕ → Type 0
@@ -64,6 +68,7 @@ TypedCall (commits tx) = Unit {0}
 TypedCall (aborts tx) = Unit {0}
 TypedCall (reads tx t k room) = Unit {0}
 TypedCall (lists room) = Unit {0}
+TypedCall (crossings tx t first end room) = Unit {0}
 
 -- ---- all calls
 

@@ -2,6 +2,7 @@ pub mod State
 pub mod Rules
 pub mod Sight
 pub mod Transactions
+pub mod Crossing
 pub mod Checkpoint
 pub mod Calls
 pub mod Recover
@@ -12,3 +13,4 @@ pub mod Places
 pub mod PlaceCases
 pub mod Seen
 pub mod Cases
+pub mod CrossingCases

@@ -13,8 +13,8 @@ use Rattle.model.specs.WellFormed.{WellFormed}
 use Rattle.basics.specs.Lists.{removeAt}
 -- the definitions by place, passed on for crates that name them here
 unfoldable pub use Rattle.model.specs.Rules.{editAt, pendRemoveAt, removeRowOn, committedAt, commitRowOn, atRow, removeRow, commitRow}
-pub use Rattle.model.specs.Transactions.{Placed, rowOf, PlaceOp, commitPlace, removePlace}
-unfoldable pub use Rattle.model.specs.Transactions.{tagged, placed, allPlaced, continues, runs, allRuns, liveOf, ownPlaced, removePlaces, planNewest, planRun, planRuns, closePlan, abortPlan, carryOut}
+pub use Rattle.model.specs.Transactions.{Placed, rowOf, sameKey, planRuns, PlaceOp, commitPlace, removePlace}
+unfoldable pub use Rattle.model.specs.Transactions.{tagged, placed, allPlaced, continues, runs, allRuns, eachRun, liveOf, ownPlaced, removePlaces, planNewest, planRun, closePlan, abortPlan, carryOut}
 
 -- ---- laws of any pages
 

@@ -5,13 +5,14 @@ use mathlib.Core.Bool.{Bool, true, false}
 use mathlib.Core.Option.{Option, none, some}
 use mathlib.Core.List.{List, []}
 use lib.ListN.{length}
-use lib.Dec.{eqb}
-use Rattle.basics.specs.Basics.{if_then_else_, last, isIn}
+use lib.Dec.{eqb, ltb}
+use Rattle.basics.specs.Basics.{if_then_else_, paired, last, isIn}
 use Rattle.image_rows.specs.Rows.{Row, isOwn}
 use Rattle.model.specs.State.{Store, refused, filled}
 use Rattle.model.specs.Rules.{asCommitted}
 use Rattle.model.specs.Sight.{rows, versions, seen}
 use Rattle.model.specs.Transactions.{openNumbers, insertCall, replaceCall, deleteCall, commitCall, readCall}
+use Rattle.model.specs.Crossing.{crosses, crossingKeys}
 use Rattle.model.specs.Calls.{TransactionCall, transact, Effect, noEffect, startOf, writeOf, commitOf, abortOf, effect, Call, begins, steps, runs, call, effectOf, accepted}
 use Rattle.model.specs.WellFormed.{WellFormed}
 
@@ -60,13 +61,27 @@ SeenAfterCommit =
     → ((r : Row) → last (isOwn tx) (versions t k (s .pages)) ≡ some r → seen u t k (commitCall tx s .store) ≡ remains r)
     × (last (isOwn tx) (versions t k (s .pages)) ≡ none → seen u t k (commitCall tx s .store) ≡ seen u t k s)
 
+-- ---- crossing
+
+-- a version is seen, and it crosses
+unfoldable pub seenCrosses : ℕ → ℕ → Option Row → Bool
+seenCrosses first end none = false
+seenCrosses first end (some r) = crosses first end (r .1)
+
+-- the keys rise strictly, and a key is among them exactly if the version of it that the transaction sees crosses
+abbrev pub CrossingKeys : Type 0
+CrossingKeys =
+    (s : Store) → WellFormed s → (tx t first end : ℕ)
+    → (paired ltb (crossingKeys tx t first end (s .pages)) ≡ true)
+    × ((k : ℕ) → isIn k (crossingKeys tx t first end (s .pages)) ≡ seenCrosses first end (seen tx t k s))
+
 -- ---- calls that change nothing that is seen
 
 -- a refused call changes nothing and stores nothing
 abbrev pub RefusedKeeps : Type 0
 RefusedKeeps = (c : Call) (s : Store) → accepted (call c s .answer) ≡ false → (call c s .store ≡ s) × (call c s .writes ≡ [])
 
--- read and list, which have no effect, change nothing and store nothing
+-- read, list and crossing, which have no effect, change nothing and store nothing
 abbrev pub ReadsOnly : Type 0
 ReadsOnly = (c : TransactionCall) (s : Store) → effect c ≡ noEffect → (transact c s .store ≡ s) × (transact c s .writes ≡ [])
 

@@ -189,10 +189,14 @@ placed i (x ∷ xs) = (i, x) ∷ placed (suc i) xs
 unfoldable pub allPlaced : List Page → List Placed
 allPlaced ps = placed 0 (tagged ps)
 
+-- x is of the table and key of y
+abbrev pub sameKey : ℕ × Held → ℕ × Held → Bool
+sameKey y x = isAt (y .0) (y .1 .tuple .key) (x .0, x .1 .tuple)
+
 -- x is of the run's table and key; an empty run takes any
 unfoldable pub continues : List Placed → Placed → Bool
 continues [] x = true
-continues (y ∷ ys) x = isAt (rowOf y .0) (rowOf y .1 .key) (rowOf x)
+continues (y ∷ ys) x = sameKey (y .1) (x .1)
 
 -- runs of neighbours of one table and key, those pending add or removal too; run is the one so far
 unfoldable pub runs : List Placed → List Placed → List (List Placed)
@@ -203,10 +207,19 @@ runs run (x ∷ xs) = elim (continues run x) [ true ↦ runs (run ++ x ∷ []) x
 unfoldable pub allRuns : List Page → List (List Placed)
 allRuns ps = runs [] (allPlaced ps)
 
+-- what f gives of each run, one after another
+unfoldable pub eachRun : {X : Type 0} → (List Placed → List X) → List (List Placed) → List X
+eachRun f [] = []
+eachRun f (run ∷ rs) = f run ++ eachRun f rs
+
 -- the live rows with their places: pending operations taken as done
 unfoldable pub liveOf : List Placed → List (ℕ × Row)
 liveOf [] = []
 liveOf (x ∷ xs) = if isRemoving (x .1 .1 .pending) then liveOf xs else (x .0, (x .1 .0, applied (x .1 .1))) ∷ liveOf xs
+
+-- the same without their places
+abbrev pub rowsIn : List Placed → List Row
+rowsIn xs = map (λ y. y .1) (liveOf xs)
 
 -- ---- plans of operations on tuples by their places at entry
 
@@ -235,9 +248,8 @@ unfoldable pub planRun : ℕ → List Placed → List PlaceOp
 planRun tx run = planNewest (last (ownPlaced tx) (liveOf run)) (liveOf run)
 
 -- the operations of a commit, run by run
-unfoldable pub planRuns : ℕ → List (List Placed) → List PlaceOp
-planRuns tx [] = []
-planRuns tx (run ∷ rs) = planRun tx run ++ planRuns tx rs
+abbrev pub planRuns : ℕ → List (List Placed) → List PlaceOp
+planRuns tx rs = eachRun (planRun tx) rs
 
 -- the operations of a commit
 unfoldable pub closePlan : ℕ → List Page → List PlaceOp
@@ -283,5 +295,5 @@ writeRules = 0
 
 -- unfolds what commit and abort plan and carry out: `unfolding placeRules`
 unfoldable pub placeRules : ℕ
-unfolding tagged placed allPlaced continues runs allRuns liveOf ownPlaced removePlaces planNewest planRun planRuns closePlan abortPlan carryOut
+unfolding tagged placed allPlaced continues runs allRuns eachRun liveOf ownPlaced removePlaces planNewest planRun closePlan abortPlan carryOut
 placeRules = 0
