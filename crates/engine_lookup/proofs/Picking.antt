@@ -91,11 +91,12 @@ module _ (f : Flat) (l : Visibility) where
     unfolding if_then_else_
     pick-own e = sym (picked-own ∙ rw e)
 
--- a key's version that is seen, from what there is of the key
+-- the version that is seen of any versions, from what there is of them
+pub picked-sees : {f : Flat} {t tx : ℕ} {vs : List Row} {l : Visibility} {r : Seen} → Shows f t tx vs l → r ≡ picked f l → Sees f t r (seenOf tx vs)
+picked-sees {f} {t} {tx} {vs} {l} s e =
+    record { means = ap (seenAt f t) e ∙ picked-seen f t tx vs l s; inside = rw e (picked-inside f t tx vs l s) }
+
+-- the same of the versions of a key
 pub visibility-sees : (f : Flat) (t tx k : ℕ) (l : Visibility) (r : Seen) → Shows f t tx (versions t k (pagesIn f)) l → r ≡ picked f l → Sees f t r (seen tx t k (storeOf f))
 unfolding seen storeOf
-visibility-sees f t tx k l r s e =
-    record {
-      means = ap (seenAt f t) e ∙ picked-seen f t tx (versions t k (pagesIn f)) l s;
-      inside = rw e (picked-inside f t tx (versions t k (pagesIn f)) l s);
-    }
+visibility-sees f t tx k l r s e = picked-sees s e

@@ -122,7 +122,7 @@ pub fn note_rows(
 }
 
 // Nothing is seen yet.
-fn no_version() -> Visibility
+pub fn no_version() -> Visibility
     ensures { λ r. ⌜ r ≡ blank ⌝ }
 {
     Visibility {

@@ -1,49 +1,16 @@
--- Whatever bytes the memory has, its tuples are in the ranges of a block.
-use Rattle.block_forms.specs.Limits.{markValue, payloadLimit}
-use Rattle.basics.proofs.Kit.{_≡_, List, ℕ, suc, _+_, _*_, _%_, _≤_, _<_, zero, _-_, min-le-right, length, getD, arith}
+-- All that a run of rows shows is in the ranges of a block.
+use Rattle.basics.proofs.Kit.{_≡_, List, ℕ, suc, _+_, _≤_, zero, _-_, length, getD, arith}
 use mir.Syntax.{w8}
 use mir.Val as val
 use Rattle.basics.specs.Basics.{if_then_else_}
 use Rattle.basics.proofs.Facts.{by}
-use Rattle.block_forms.specs.Tuple.{AllBytes, Fits, AllFit}
+use Rattle.block_forms.specs.Tuple.{AllFit}
 use Rattle.model.specs.Rules.{isAdding, shown}
-use Rattle.block_forms.proofs.ReadTuples.{owner-fits}
-use Rattle.memory_bytes.specs.Bytes.{le4, bytes}
-use Rattle.memory_bytes.proofs.Bytes.{length-bytes}
-use Rattle.memory_layout.specs.Places.{keysAt}
-use Rattle.memory_layout.specs.Views.{lengthOf, heldOf, rowAt, keyOf, stateOf, refOf, slotOf, slotPlace}
-use Rattle.memory_layout.specs.Flat.{flatOf, rowsOf, capacityOf, rowIn}
-use Rattle.memory_rows.proofs.Access.{row-is}
+use Rattle.memory_layout.specs.Flat.{flatOf, rowsOf, rowIn}
+use Rattle.memory_rows.proofs.Fitting.{tuple-fits}
 use Rattle.engine_writer.proofs.Showing.{run, run-next}
 
 module _ (m : List ℕ) (small : (k : ℕ) → val.Fits w8 (getD m k 0)) where
-  word-small : (a : ℕ) → le4 m a < 4294967296
-  unfolding le4
-  word-small a = omega (arith, small a, small (a + 1), small (a + 2), small (a + 3))
-
-  all-bytes : (a n : ℕ) → AllBytes (bytes m a n)
-  unfolding bytes
-  all-bytes a zero = tt
-  all-bytes a (suc n) = (omega (arith, small a), all-bytes (suc a) n)
-
-  held-fits : (a k s r : ℕ) → k < 4294967296 → Fits (heldOf m a k s r .tuple)
-  unfolding heldOf lengthOf
-  held-fits a k s r h =
-      record {
-        key = h;
-        number = word-small a;
-        owner = owner-fits s (le4 m (a + 4)) (word-small (a + 4));
-        payload = omega (arith, length-bytes m (a + 8) (lengthOf s), min-le-right (s % markValue) payloadLimit);
-        bytes = all-bytes (a + 8) (lengthOf s);
-      }
-
-  pub tuple-fits : (i : ℕ) → i < length (rowsOf m) → Fits (rowIn (flatOf m) i .tuple)
-  unfolding rowAt
-  tuple-fits i h =
-      let c : ℕ = capacityOf m in
-      rw (row-is m i h) (held-fits (slotPlace (slotOf c (refOf m c i))) (keyOf m c i) (stateOf m c i) (refOf m c i) (word-small (keysAt c + i * 4)))
-
-  -- all that a run of rows shows
   pub shown-fits : (i n : ℕ) → i + n ≤ length (rowsOf m) → AllFit (shown (run (rowsOf m) i (i + n)))
   unfolding shown if_then_else_
   shown-fits i zero h = let k : i + zero - i ≡ 0 = omega arith in rw k tt
@@ -52,4 +19,4 @@ module _ (m : List ℕ) (small : (k : ℕ) → val.Fits w8 (getD m k 0)) where
       let e : i + 1 + n ≡ i + suc n = omega arith in
       let more = rw e at (shown-fits (i + 1) n (omega arith)) in
       rw (run-next (rowsOf m) i (i + suc n) (omega arith) h)
-      (by (isAdding (r .pending)) (λ a. rw a more) (λ a. rw a (tuple-fits i (omega arith), more)))
+      (by (isAdding (r .pending)) (λ a. rw a more) (λ a. rw a (tuple-fits m small i (omega arith), more)))

@@ -1,9 +1,9 @@
 -- Tests on the numbers of a column, and what searches by groups find.
-use Prim.Native.Nat.{ℕ, zero, suc, _+_, _*_, _%_, _≤_, _<_}
+use Prim.Native.Nat.{ℕ, _+_, _*_, _%_, _≤_, _<_}
 use mathlib.Core.Path.{_≡_}
-use mathlib.Core.Bool.{Bool, true, false, cond}
-use mathlib.Core.List.{List, [], _∷_, _++_}
-use lib.ListN.{length, take, drop}
+use mathlib.Core.Bool.{Bool, true, false}
+use mathlib.Core.List.{List}
+use lib.ListN.{length}
 use lib.Dec.{eqb, leb}
 use Rattle.basics.specs.Basics.{any}
 use Rattle.basics.specs.Lists.{tab}
@@ -15,6 +15,10 @@ equals key x = eqb x key
 -- x is not above the key
 abbrev pub upTo : ℕ → ℕ → Bool
 upTo key x = leb x key
+
+-- x is not below the key
+abbrev pub atLeast : ℕ → ℕ → Bool
+atLeast key x = leb key x
 
 -- a slot's number has ten bits; a row's pending operation stands above them
 abbrev pub slotLimit : ℕ

@@ -4,8 +4,8 @@ use super::get4;
 ghost use mathlib.Core.Path.{_≡_};
 ghost use Prim.Native.Nat.{_+_, _*_, _-_, _≤_};
 ghost use lib.ListN.{length};
-ghost use Rattle.memory_bytes.specs.Bytes.{bytes, column4};
-ghost use Rattle.memory_bytes.specs.Columns.{equals, upTo, Covers, Grouped};
+ghost use Rattle.memory_bytes.specs.Bytes.{column4};
+ghost use Rattle.memory_bytes.specs.Columns.{equals, upTo, atLeast, Covers, Grouped};
 ghost use Rattle.basics.specs.Lists.{tab, firstIndex, lastIndex};
 ghost use Rattle.basics.specs.Basics.{any};
 ghost use mathlib.Core.Bool.{cond};
@@ -38,6 +38,20 @@ pub fn any_up_to(m: &[u8], at: usize, key: u32) -> bool
     hit
 }
 
+// Whether one of the 16 numbers of four bytes from byte at on is not below key.
+pub fn any_from(m: &[u8], at: usize, key: u32) -> bool
+    requires { ⌜ at + 64 ≤ length (now m) ⌝ }
+    ensures { λ r. ⌜ r ≡ any (atLeast key) (tab (column4 (now (m .entry)) at) 0 16) ⌝ }
+{
+    let mut hit = false;
+    let mut j: usize = 0;
+    while j < 16 {
+        hit = hit | (key <= get4(m, at + j * 4));
+        j += 1;
+    }
+    hit
+}
+
 // The first index from i on, below n, whose number of four bytes from base on is key, or n.
 pub fn find_equal(m: &[u8], base: usize, i: usize, n: usize, key: u32) -> usize
     requires { ⌜ (i ≤ n) × (base + n * 4 ≤ length (now m)) ⌝ }
@@ -52,6 +66,27 @@ pub fn find_equal(m: &[u8], base: usize, i: usize, n: usize, key: u32) -> usize
     }
     while k < n {
         if get4(m, base + k * 4) == key {
+            return k;
+        }
+        k += 1;
+    }
+    n
+}
+
+// The first index from i on, below n, whose number of four bytes from base on is not below key, or n.
+pub fn first_from(m: &[u8], base: usize, i: usize, n: usize, key: u32) -> usize
+    requires { ⌜ (i ≤ n) × (base + n * 4 ≤ length (now m)) ⌝ }
+    ensures { λ r. ⌜ r ≡ i + firstIndex (atLeast key) (tab (column4 (now (m .entry)) base) i (n - i)) ⌝ }
+{
+    let mut k = i;
+    while k + 16 <= n {
+        if any_from(m, base + k * 4, key) {
+            break;
+        }
+        k += 16;
+    }
+    while k < n {
+        if key <= get4(m, base + k * 4) {
             return k;
         }
         k += 1;

@@ -1,4 +1,5 @@
 pub mod Access
+pub mod Fitting
 pub mod Fields
 pub mod Exchange
 pub mod FreeSlots

@@ -31,7 +31,7 @@ ghost use Rattle.basics.specs.Basics.{any};
 ghost use Rattle.block_forms.specs.Limits.{payloadLimit, mostRecord};
 ghost use Rattle.image_rows.specs.Rows.{isBy};
 ghost use Rattle.model.specs.Rules.{heldSize, withPending, isAdding, isCommitting, isRemoving, isPending};
-ghost use Rattle.memory_bytes.specs.Columns.{equals, upTo, Covers};
+ghost use Rattle.memory_bytes.specs.Columns.{equals, upTo, atLeast, Covers};
 ghost use Rattle.basics.specs.Lists.{tab, insertAt, removeAt, firstIndex, lastIndex};
 ghost use Rattle.memory_layout.specs.Views.{lengthOf, pendingBy};
 ghost use Rattle.memory_layout.specs.Flat.{flatOf, rowIn, Room, Becomes};
@@ -296,6 +296,14 @@ pub fn last_up_to(m: &[u8], s: usize, e: usize, key: u32) -> usize
     ensures { λ r. ⌜ r ≡ s + lastIndex (upTo key) (tab (keyIn (flatOf (now (m .entry)))) s (e - s)) ⌝ }
 {
     memory_bytes::search::last_up_to(m, keys_at(capacity(m)), s, e, key)
+}
+
+// The first row whose key is not below this key, or e if there is none.
+pub fn first_from(m: &[u8], s: usize, e: usize, key: u32) -> usize
+    requires { ⌜ RowRange (now m) s e ⌝ }
+    ensures { λ r. ⌜ r ≡ s + firstIndex (atLeast key) (tab (keyIn (flatOf (now (m .entry)))) s (e - s)) ⌝ }
+{
+    memory_bytes::search::first_from(m, keys_at(capacity(m)), s, e, key)
 }
 
 // The first row with the key, or e if there is none.

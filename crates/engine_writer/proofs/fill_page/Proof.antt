@@ -7,7 +7,8 @@ use Rattle.model.specs.Rules.{shown}
 use Rattle.model.specs.State.{Held}
 use Rattle.memory_layout.specs.Flat.{flatOf, noRow}
 use Rattle.engine_writer.proofs.Showing.{run, shown-none, shown-more, shown-same, shown-within}
-use Rattle.engine_writer.proofs.Fitting.{tuple-fits, shown-fits}
+use Rattle.memory_rows.proofs.Fitting.{tuple-fits}
+use Rattle.engine_writer.proofs.Fitting.{shown-fits}
 use Rattle.engine_writer.proofs.Writing.{Filling, filling-start, filling-same, filling-more, filling-end, spells-appends, few-fit}
 use Rattle.engine_writer.proofs.fill_page.Statement.{statement}
 use Rattle.engine_writer.proofs.fill_page.Tie as tie
