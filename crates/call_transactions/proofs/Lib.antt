@@ -2,6 +2,7 @@ pub mod Opens
 pub mod Refusing
 pub mod Opening
 pub mod Reading
+pub mod Intervals
 pub mod Making
 pub mod Listing
 pub mod Testing

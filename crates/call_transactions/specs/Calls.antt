@@ -1,14 +1,16 @@
 -- What the functions below a write need and leave; commit and abort as one call.
 use mathlib.Core.Path.{_≡_}
 use mathlib.Core.Bool.{Bool, true, false}
-use mathlib.Core.List.{List}
+use mathlib.Core.List.{List, [], _∷_}
 use Prim.Native.Nat.{ℕ, _+_, _*_, _≤_, _<_}
 use lib.ListN.{length, getD, set}
+use lib.Dec.{ltb}
 use Rattle.block_forms.specs.Limits.{payloadLimit, mostTransaction, statementLimit, transactionLimit}
 use Rattle.block_forms.specs.Tuple.{tentative}
-use Rattle.model.specs.State.{Active, Store, Outcome}
+use Rattle.model.specs.State.{Active, Store, filled, Outcome}
 use Rattle.model.specs.Rules.{place}
-use Rattle.model.specs.Transactions.{oneMore, commitCall, abortCall}
+use Rattle.model.specs.Transactions.{_when_, gives, unless, oneMore, commitCall, abortCall}
+use Rattle.model.specs.Crossing.{crossingKeys, keyBytes}
 use Rattle.memory_layout.specs.Flat.{Flat, flatOf, Room, withHead, withOpens, noOpen}
 use Rattle.memory_layout.specs.Store.{holdsStore}
 use Rattle.memory_layout.specs.Opens.{findOpen}
@@ -28,6 +30,12 @@ pub record ListInto (m : List ℕ) (n : ℕ) (reply : List ℕ) : Type 0 where
   pub room : Room m
   pub count : n ≡ length (flatOf m .opens)
   pub long : 2 * n ≤ length reply
+
+-- what crossing does once its other tests are passed: 21 reply too short; else how many keys there are, and the keys
+unfoldable pub keysReply : ℕ → ℕ → ℕ → ℕ → ℕ → Store → Outcome
+keysReply tx t first end room s =
+    let ks = crossingKeys tx t first end (s .pages) in
+    unless (21 when ltb room (4 * length ks) ∷ []) s (gives (filled (length ks) (keyBytes ks)) s)
 
 -- open transaction i may write: there is a number left
 pub record WriterAt (m : List ℕ) (i : ℕ) : Type 0 where

@@ -8,16 +8,19 @@ use memory_layout::Open;
 use memory_rows::Pending;
 use memory_rows::Row;
 
+mod keys;
 mod refusals;
 
+use keys::reply_crossing;
 use refusals::call_refusal;
 use refusals::key_refusal;
 ghost use mathlib.Core.Path.{_≡_};
 ghost use mathlib.Core.Bool.{true};
 ghost use mathlib.Core.List.{_++_};
-ghost use Prim.Native.Nat.{_*_, _≤_, _<_};
+ghost use Prim.Native.Nat.{_*_, _<_};
 ghost use lib.ListN.{length, drop};
 ghost use Rattle.model.specs.Transactions.{openNumbers, notOpen, oneMore, afterWrite, writeCall, listing, without, openCall, insertCall, replaceCall, deleteCall, commitCall, abortCall, readCall};
+ghost use Rattle.model.specs.Crossing.{crossingCall};
 ghost use Rattle.model.specs.Recover.{make};
 ghost use Rattle.memory_layout.specs.Flat.{flatOf, Room, Becomes, withOpens};
 ghost use Rattle.memory_layout.specs.Store.{storeIn, storeOf, HoldsNow};
@@ -154,7 +157,7 @@ pub fn open(m: &mut [u8], transaction: u64) -> Answer
     Answer::Done
 }
 
-// ---- read, list
+// ---- read, crossing, list
 
 pub fn read(m: &[u8], transaction: u64, table: u64, key: u32, reply: &mut [u8]) -> Answer
     ensures { λ r. ⌜ Replies (readCall transaction table key (length (now (reply .entry)))) (now (m .entry)) r (now (reply .entry)) (now (reply .exit)) ⌝ }
@@ -177,6 +180,30 @@ pub fn read(m: &[u8], transaction: u64, table: u64, key: u32, reply: &mut [u8]) 
     }
     memory_rows::copy_payload(m, i, reply);
     Answer::Filled(len)
+}
+
+// The keys of the bookings of the table that the transaction sees and that cross the interval, over the first bytes of the reply.
+pub fn crossing(
+    m: &[u8],
+    transaction: u64,
+    table: u64,
+    first: u64,
+    end: u64,
+    reply: &mut [u8],
+) -> Answer
+    ensures { λ r. ⌜ Replies (crossingCall transaction table first end (length (now (reply .entry)))) (now (m .entry)) r (now (reply .entry)) (now (reply .exit)) ⌝ }
+{
+    let v = not_open(m, transaction);
+    if v != 0 {
+        return Answer::Refused(v);
+    }
+    if TABLE_LIMIT < table {
+        return Answer::Refused(10);
+    }
+    if end <= first {
+        return Answer::Refused(25);
+    }
+    reply_crossing(m, table as u8, transaction, first, end, reply)
 }
 
 // The numbers of the open transactions, over the first bytes of the reply, high byte first.

@@ -4,7 +4,7 @@ use Rattle.basics.proofs.Kit.{_≡_, refl, sym, ap, _∙_, false, some, List, [
 use Rattle.basics.specs.Basics.{if_then_else_}
 use Rattle.basics.proofs.Facts.{by}
 use Rattle.model.specs.State.{Store, Write, Answer, refused, done, count, filled, Outcome}
-use Rattle.model.specs.Calls.{reads, lists, effect, Call, transacts, begins, steps, runs, call, accepted, isStep, Typed, AllTyped}
+use Rattle.model.specs.Calls.{reads, lists, crossings, effect, Call, transacts, begins, steps, runs, call, accepted, isStep, Typed, AllTyped}
 use Rattle.model.specs.Transactions.{gives, unless}
 use Rattle.model.specs.Checkpoint.{badImage, stepCall, runCall}
 use Rattle.model.specs.Recover.{imageAfter}
@@ -14,7 +14,7 @@ use Rattle.model.proofs.Laws.{refused-keeps, reads-only}
 use Rattle.memory_layout.specs.Store.{storeIn}
 use Rattle.call_contracts.specs.Shape.{MemoryAfter, Afterwards, Answers, AnswersAt, StoredBy, Stores, StoresAt}
 use Rattle.call_contracts.specs.declared.Answer.{Answer as Answered}
-use Rattle.store.specs.CrashRecovery.{Executes, transacting, reading, listing, beginning, stepping, running, stepping-elsewhere, running-elsewhere, ExecutesAll, ends, next}
+use Rattle.store.specs.CrashRecovery.{Executes, transacting, reading, crossing, listing, beginning, stepping, running, stepping-elsewhere, running-elsewhere, ExecutesAll, ends, next}
 
 -- the memory after a call: the store of its outcome, also when it is refused
 leaves : (a : Answer) (t s : Store) (m m′ : List ℕ) → MemoryAfter a t m m′ → storeIn m ≡ some s → (accepted a ≡ false → t ≡ s) → storeIn m′ ≡ some t
@@ -67,6 +67,8 @@ module _ (s : Store) (img m : List ℕ) (e : storeIn m ≡ some s) where
   does c img′ m′ l (transacting {c = d} r h ty a) = without-stores (transacts d) m′ refl (answered (transacts d) s m e r m′ a)
   does c img′ m′ l (reading {tx = tx} {t = t} {k = k} p p′ r a) =
       let d = reads tx t k (length p) in without-stores (transacts d) m refl (e ∙ ap some (sym (reads-only d s refl .0)))
+  does c img′ m′ l (crossing {tx = tx} {t = t} {first = first} {end = end} p p′ r a) =
+      let d = crossings tx t first end (length p) in without-stores (transacts d) m refl (e ∙ ap some (sym (reads-only d s refl .0)))
   does c img′ m′ l (listing p p′ r a) = let d = lists (length p) in without-stores (transacts d) m refl (e ∙ ap some (sym (reads-only d s refl .0)))
   does c img′ m′ l (beginning r a) = without-stores begins m′ refl (answered begins s m e r m′ a)
   does c img′ m′ l (stepping r a) = stored (steps (length img)) s m e img r img′ m′ a
@@ -79,6 +81,7 @@ module _ (s : Store) (img m : List ℕ) (e : storeIn m ≡ some s) where
 typed : {c : Call} {img m img′ m′ : List ℕ} → Executes c img m img′ m′ → Typed c
 typed (transacting r h ty a) = ty
 typed (reading p p′ r a) = tt
+typed (crossing p p′ r a) = tt
 typed (listing p p′ r a) = tt
 typed (beginning r a) = tt
 typed (stepping r a) = tt

@@ -8,8 +8,9 @@ use Rattle.block_forms.specs.Tuple.{AllBytes}
 use Rattle.image.specs.Stages.{holds}
 use Rattle.model.specs.State.{Store}
 use Rattle.model.specs.Transactions.{readCall}
+use Rattle.model.specs.Crossing.{crossingCall}
 use Rattle.model.specs.Checkpoint.{beginCall, stepCall, runCall}
-use Rattle.model.specs.Calls.{TransactionCall, reads, lists, transact, noEffect, effect, TypedCall, Call, transacts, begins, steps, runs, afterCalls}
+use Rattle.model.specs.Calls.{TransactionCall, reads, lists, crossings, transact, noEffect, effect, TypedCall, Call, transacts, begins, steps, runs, afterCalls}
 use Rattle.model.specs.Recover.{memoryFor, imageAfter, make, recover}
 use Rattle.model.specs.CrashRecovery.{log, Cut, Same}
 use Rattle.memory_layout.specs.Store.{storeIn}
@@ -38,6 +39,8 @@ pub data Executes : Call → List ℕ → List ℕ → List ℕ → List ℕ →
       → Executes (transacts c) img m img m′
   reading : {tx t k : ℕ} {img m : List ℕ} (p p′ : List ℕ) (r : Answer) → Replies (readCall tx t k (length p)) m r p p′
       → Executes (transacts (reads tx t k (length p))) img m img m
+  crossing : {tx t first end : ℕ} {img m : List ℕ} (p p′ : List ℕ) (r : Answer) → Replies (crossingCall tx t first end (length p)) m r p p′
+      → Executes (transacts (crossings tx t first end (length p))) img m img m
   listing : {img m : List ℕ} (p p′ : List ℕ) (r : Answer) → Lists m r p p′ → Executes (transacts (lists (length p))) img m img m
   beginning : {img m m′ : List ℕ} (r : Answer) → Answers beginCall m r m′ → Executes begins img m img m′
   stepping : {img m img′ m′ : List ℕ} (r : Answer) → Stores (stepCall (length img)) img m r img′ m′ → Executes (steps (length img)) img m img′ m′

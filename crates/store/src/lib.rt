@@ -5,6 +5,7 @@ ghost use mathlib.Core.Path.{_≡_};
 ghost use lib.IntN.{pos};
 ghost use lib.ListN.{length};
 ghost use Rattle.model.specs.Transactions.{openCall, insertCall, replaceCall, deleteCall, commitCall, abortCall, readCall};
+ghost use Rattle.model.specs.Crossing.{crossingCall};
 ghost use Rattle.model.specs.Checkpoint.{beginCall, stepCall, runCall};
 ghost use Rattle.call_contracts.specs.Shape.{Answers, Replies, Lists, Stores, Made, Recovered};
 ghost use Rattle.store.specs.Code.{clamped, code, Coded};
@@ -70,6 +71,20 @@ pub fn read(m: &[u8], transaction: u64, table: u64, key: u32, reply: &mut [u8]) 
     ensures { λ r. ⌜ Replies (readCall transaction table key (length (now (reply .entry)))) (now (m .entry)) r (now (reply .entry)) (now (reply .exit)) ⌝ }
 {
     call_transactions::read(m, transaction, table, key, reply)
+}
+
+// The keys of the bookings that cross the interval from minute `first` up to, not including, minute `end`, over the first bytes of the reply.
+pub fn crossing(
+    m: &[u8],
+    transaction: u64,
+    table: u64,
+    first: u64,
+    end: u64,
+    reply: &mut [u8],
+) -> Answer
+    ensures { λ r. ⌜ Replies (crossingCall transaction table first end (length (now (reply .entry)))) (now (m .entry)) r (now (reply .entry)) (now (reply .exit)) ⌝ }
+{
+    call_transactions::crossing(m, transaction, table, first, end, reply)
 }
 
 // The open transactions, over the first bytes of the reply.
@@ -203,6 +218,20 @@ pub extern "C" fn vodzanu_read(
     ensures { λ r. ⌜ Coded r (λ a. Replies (readCall transaction table key (length (now (reply .entry)))) (now (memory .entry)) a (now (reply .entry)) (now (reply .exit))) ⌝ }
 {
     code(read(memory, transaction, table, key, reply))
+}
+
+#[no_mangle]
+pub extern "C" fn vodzanu_crossing(
+    memory: &[u8],
+    transaction: u64,
+    table: u64,
+    first: u64,
+    end: u64,
+    reply: &mut [u8],
+) -> i64
+    ensures { λ r. ⌜ Coded r (λ a. Replies (crossingCall transaction table first end (length (now (reply .entry)))) (now (memory .entry)) a (now (reply .entry)) (now (reply .exit))) ⌝ }
+{
+    code(crossing(memory, transaction, table, first, end, reply))
 }
 
 #[no_mangle]
