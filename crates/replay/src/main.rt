@@ -4,8 +4,8 @@ use call_contracts::Answer;
 use libc::STDIN_FILENO;
 use replay_script::Call;
 use replay_script::Extent;
+use replay_script::Interval;
 use replay_script::Target;
-ghost use Prim.Native.Nat.{_<_};
 
 // Room for an answer, a script and an image.
 const REPLY_SIZE: usize = 4096;
@@ -47,134 +47,20 @@ fn lend(s: &mut [u8], n: u64) -> &mut [u8] {
 
 // ---- answers
 
-fn say_line(before: &[u8], n: u64) {
-    replay_script::say(before);
-    replay_script::say_number(n);
-    replay_script::say(b"\n");
-}
-
 fn say_answer(a: Answer) {
     match a {
         Answer::Done => replay_script::say(b"done\n"),
-        Answer::Count(n) => say_line(b"", n),
-        Answer::Filled(n) => say_line(b"", n as u64),
-        Answer::Refused(n) => say_line(b"refused ", n),
+        Answer::Count(n) => replay_text::say_line(b"", n),
+        Answer::Filled(n) => replay_text::say_line(b"", n as u64),
+        Answer::Refused(n) => replay_text::say_line(b"refused ", n),
     }
-}
-
-fn say_payload(reply: &[u8], n: usize) {
-    replay_script::say_number(n as u64);
-    replay_script::say(b" ");
-    replay_script::say_bytes(reply, n);
-    replay_script::say(b"\n");
-}
-
-fn mark(marks: &mut [u8], high: u8, low: u8) {
-    let t = high as usize * 256 + low as usize;
-    if t < marks.len() {
-        marks[t] = 1;
-    }
-}
-
-// Marks the first n transactions of a listing.
-fn mark_all(marks: &mut [u8], reply: &[u8], n: usize) {
-    for i in 0..reply.len() / 2 {
-        if i < n {
-            mark(marks, reply[2 * i], reply[2 * i + 1]);
-        }
-    }
-}
-
-fn say_marked(marks: &[u8]) {
-    for t in 0..marks.len() {
-        if marks[t] == 1 {
-            replay_script::say(b" ");
-            replay_script::say_number(t as u64);
-        }
-    }
-}
-
-// A listing may come in any order; it is printed rising.
-fn say_listing(reply: &[u8], n: usize) {
-    let mut marks = [0u8; block_forms::TRANSACTIONS];
-    mark_all(&mut marks, reply, n);
-    replay_script::say_number(n as u64);
-    say_marked(&marks);
-    replay_script::say(b"\n");
-}
-
-// ---- blocks of the image
-
-fn set_all(s: &mut [u8], byte: u8) {
-    for i in 0..s.len() {
-        s[i] = byte;
-    }
-}
-
-// How many bytes there are up to the last that is not zero.
-fn used(s: &[u8]) -> usize {
-    let mut n = 0;
-    for i in 0..s.len() {
-        if s[i] != 0 {
-            n = i + 1;
-        }
-    }
-    n
-}
-
-// The answer to a line that is no call, or that names a block beyond the image.
-fn bad_line() {
-    replay_script::say(b"bad line\n");
-}
-
-fn fill(image: &mut [u8], block: u64, byte: u8) {
-    if (image.len() / block_forms::BLOCK_SIZE) as u64 <= block {
-        return bad_line();
-    }
-    let from = block as usize * block_forms::BLOCK_SIZE;
-    let to = from + block_forms::BLOCK_SIZE;
-    set_all(&mut image[from..to], byte);
-    replay_script::say(b"filled\n");
-}
-
-fn say_block(block: u64, s: &[u8]) {
-    replay_script::say(b"block ");
-    replay_script::say_number(block);
-    replay_script::say(b" ");
-    replay_script::say_bytes(s, used(s));
-    replay_script::say(b"\n");
-}
-
-fn show(image: &[u8], block: u64) {
-    if (image.len() / block_forms::BLOCK_SIZE) as u64 <= block {
-        return bad_line();
-    }
-    let from = block as usize * block_forms::BLOCK_SIZE;
-    let to = from + block_forms::BLOCK_SIZE;
-    say_block(block, &image[from..to]);
-}
-
-// The digest with one byte more: a remainder by the largest prime of 32 bits.
-fn digest_with(d: u64, byte: u8) -> u64
-    requires { ⌜ d < 4294967291 ⌝ }
-    ensures { λ r. ⌜ r < 4294967291 ⌝ }
-{
-    (31 * d + byte as u64) % 4294967291
-}
-
-fn digest(s: &[u8]) -> u64 {
-    let mut d: u64 = 0;
-    for i in 0..s.len() {
-        d = digest_with(d, s[i]);
-    }
-    d
 }
 
 // ---- calls
 
 fn clear(image: &mut [u8], memory: &mut [u8]) -> Lent {
-    set_all(image, 0);
-    set_all(memory, 0);
+    replay_text::set_all(image, 0);
+    replay_text::set_all(memory, 0);
     replay_script::say(b"cleared\n");
     both(0, 0)
 }
@@ -219,7 +105,17 @@ fn read(m: &[u8], t: Target, room: u64) {
     let mut reply = [0u8; REPLY_SIZE];
     let a = store::read(m, t.transaction, t.table, t.key, lend(&mut reply, room));
     match a {
-        Answer::Filled(len) => say_payload(&reply, len),
+        Answer::Filled(len) => replay_text::say_payload(&reply, len),
+        _ => say_answer(a),
+    }
+}
+
+fn crossing(m: &[u8], i: Interval, room: u64) {
+    let mut reply = [0u8; REPLY_SIZE];
+    let to = lend(&mut reply, room);
+    let a = store::crossing(m, i.transaction, i.table, i.first, i.end, to);
+    match a {
+        Answer::Filled(count) => replay_text::say_crossing(&reply, count),
         _ => say_answer(a),
     }
 }
@@ -228,7 +124,7 @@ fn list(m: &[u8], room: u64) {
     let mut reply = [0u8; REPLY_SIZE];
     let a = store::list(m, lend(&mut reply, room));
     match a {
-        Answer::Filled(count) => say_listing(&reply, count),
+        Answer::Filled(count) => replay_text::say_listing(&reply, count),
         _ => say_answer(a),
     }
 }
@@ -242,9 +138,10 @@ fn on_memory(m: &mut [u8], call: Call, payload: &[u8]) {
         Call::Replace(t, len) => replace(m, t, first(payload, len)),
         Call::Delete(t) => delete(m, t),
         Call::Read(t, room) => read(m, t, room),
+        Call::Crossing(i, room) => crossing(m, i, room),
         Call::List(room) => list(m, room),
         Call::Begin => say_answer(store::begin(m)),
-        _ => bad_line(),
+        _ => replay_text::bad_line(),
     }
 }
 
@@ -268,9 +165,12 @@ fn on_image(image: &mut [u8], memory: &mut [u8], lent: Lent, call: Call, payload
     match call {
         Call::Step(e) => step(image, lend(memory, lent.memory), extent(e, lent)),
         Call::Run(limit, e) => run(image, lend(memory, lent.memory), extent(e, lent), limit),
-        Call::Fill(block, byte) => fill(image, block, byte),
-        Call::Show(block) => show(image, block),
-        Call::Digest => say_line(b"digest ", digest(first(image, lent.image))),
+        Call::Fill(block, byte) => replay_text::fill(image, block, byte),
+        Call::Show(block) => replay_text::show(image, block),
+        Call::Digest => replay_text::say_line(
+            b"digest ",
+            replay_text::digest(first(image, lent.image)),
+        ),
         _ => on_memory(lend(memory, lent.memory), call, payload),
     }
 }

@@ -1,7 +1,14 @@
 // Scripts of calls, one call a line: a line's words and the call that they make, and words printed. Words stand between single spaces,
 // so two spaces in a row have an empty word between them, and an empty word is neither a number nor a payload.
+mod words;
+
 use libc::STDOUT_FILENO;
-ghost use Prim.Native.Nat.{_+_, _<_, _≤_};
+use words::arguments;
+use words::named;
+use words::number_at;
+use words::payload_of;
+use words::word;
+ghost use Prim.Native.Nat.{_≤_};
 ghost use lib.ListN.{length};
 
 // ---- what a line says
@@ -23,13 +30,21 @@ enum Aim {
     Bad,
 }
 
+// The minutes of a table, from first up to, not including, end, that a call asks about.
+pub struct Interval {
+    pub transaction: u64,
+    pub table: u64,
+    pub first: u64,
+    pub end: u64,
+}
+
 // How much of the image a call that stores blocks has: what is lent already, or so many bytes of it.
 pub enum Extent {
     Lent,
     Bytes(u64),
 }
 
-// Insert and replace have their payload's length, read and list the room for their reply. Clear, fill, show and digest are no calls of
+// Insert and replace have their payload's length; read, crossing and list the room for their reply. Clear, fill, show and digest are no calls of
 // the store's: they write and show what is lent to it.
 pub enum Call {
     Make {
@@ -48,6 +63,7 @@ pub enum Call {
     Replace(Target, u64),
     Delete(Target),
     Read(Target, u64),
+    Crossing(Interval, u64),
     List(u64),
     Begin,
     Step(Extent),
@@ -59,7 +75,7 @@ pub enum Call {
     Bad,
 }
 
-// ---- words
+// ---- lines
 
 // The place of the first byte b from a place on; the end if there is none.
 pub fn until(s: &[u8], from: usize, b: u8) -> usize
@@ -67,129 +83,6 @@ pub fn until(s: &[u8], from: usize, b: u8) -> usize
     ensures { λ r. ⌜ (from ≤ r) × (r ≤ length (now (s .entry))) ⌝ }
 {
     bytes::scan::find(s, from, s.len(), b)
-}
-
-// The place after the next space; the end if there is none.
-fn past_space(line: &[u8], from: usize) -> usize
-    requires { ⌜ from ≤ length (now line) ⌝ }
-    ensures { λ r. ⌜ r ≤ length (now (line .entry)) ⌝ }
-{
-    let i = until(line, from, b' ');
-    if i < line.len() {
-        return i + 1;
-    }
-    i
-}
-
-// Word k, counted from 0; an empty one beyond the last.
-fn word(line: &[u8], k: usize) -> &[u8] {
-    let mut from = 0;
-    for _ in 0..k {
-        from = past_space(line, from);
-    }
-    let to = until(line, from, b' ');
-    &line[from..to]
-}
-
-// How many words follow the first.
-fn arguments(line: &[u8]) -> usize {
-    let mut n = 0;
-    for i in 0..line.len() {
-        if line[i] == b' ' {
-            n += 1;
-        }
-    }
-    n
-}
-
-fn same(a: &[u8], b: &[u8]) -> bool {
-    if a.len() != b.len() {
-        return false;
-    }
-    for i in 0..a.len() {
-        if a[i] != b[i] {
-            return false;
-        }
-    }
-    true
-}
-
-fn named(line: &[u8], name: &[u8]) -> bool {
-    same(word(line, 0), name)
-}
-
-// ---- numbers and payloads
-
-// The value of a hexadecimal digit of either case; 16 for any other byte.
-fn digit(b: u8) -> u64
-    ensures { λ r. ⌜ r ≤ 16 ⌝ }
-{
-    match b {
-        48..=57 => b as u64 - 48,
-        65..=70 => b as u64 - 55,
-        97..=102 => b as u64 - 87,
-        _ => 16,
-    }
-}
-
-// A word of decimal digits whose number has at most 64 bits.
-fn decimal(s: &[u8]) -> Number {
-    if s.len() == 0 {
-        return Number::Bad;
-    }
-    let mut n: u64 = 0;
-    for i in 0..s.len() {
-        let d = digit(s[i]);
-        if 9 < d {
-            return Number::Bad;
-        }
-        if (18446744073709551615 - d) / 10 < n {
-            return Number::Bad;
-        }
-        n = 10 * n + d;
-    }
-    Number::Is(n)
-}
-
-fn number_at(line: &[u8], k: usize) -> Number {
-    decimal(word(line, k))
-}
-
-// The byte that digits i and i + 1 of a word spell; 256 if they spell none.
-fn byte_at(s: &[u8], i: usize) -> u64
-    requires { ⌜ i + 1 < length (now s) ⌝ }
-    ensures { λ r. ⌜ r ≤ 256 ⌝ }
-{
-    let high = digit(s[i]);
-    let low = digit(s[i + 1]);
-    if 15 < high {
-        return 256;
-    }
-    if 15 < low {
-        return 256;
-    }
-    16 * high + low
-}
-
-// How many bytes a word of hexadecimal digits spells, none by a dash. Those for which there is room go into out.
-fn payload_of(s: &[u8], out: &mut [u8]) -> Number {
-    if same(s, b"-") {
-        return Number::Is(0);
-    }
-    let n = s.len() / 2;
-    if n == 0 || s.len() % 2 != 0 {
-        return Number::Bad;
-    }
-    for i in 0..n {
-        let b = byte_at(s, 2 * i);
-        if 255 < b {
-            return Number::Bad;
-        }
-        if i < out.len() {
-            out[i] = b as u8;
-        }
-    }
-    Number::Is(n as u64)
 }
 
 // ---- calls
@@ -247,6 +140,31 @@ fn read_call(line: &[u8]) -> Call {
         return Call::Bad;
     };
     Call::Read(t, room)
+}
+
+fn crossing_call(line: &[u8]) -> Call {
+    let Number::Is(transaction) = number_at(line, 1) else {
+        return Call::Bad;
+    };
+    let Number::Is(table) = number_at(line, 2) else {
+        return Call::Bad;
+    };
+    let Number::Is(first) = number_at(line, 3) else {
+        return Call::Bad;
+    };
+    let Number::Is(end) = number_at(line, 4) else {
+        return Call::Bad;
+    };
+    let Number::Is(room) = number_at(line, 5) else {
+        return Call::Bad;
+    };
+    let asked = Interval {
+        transaction: transaction,
+        table: table,
+        first: first,
+        end: end,
+    };
+    Call::Crossing(asked, room)
 }
 
 fn write_call(line: &[u8], payload: &mut [u8], new: bool) -> Call {
@@ -360,6 +278,13 @@ fn call_with_four(line: &[u8], payload: &mut [u8]) -> Call {
     Call::Bad
 }
 
+fn call_with_five(line: &[u8]) -> Call {
+    if named(line, b"crossing") {
+        return crossing_call(line);
+    }
+    Call::Bad
+}
+
 // The call of a line, its payload's bytes at the front of payload.
 pub fn call_of(line: &[u8], payload: &mut [u8]) -> Call {
     match arguments(line) {
@@ -368,6 +293,7 @@ pub fn call_of(line: &[u8], payload: &mut [u8]) -> Call {
         2 => call_with_two(line),
         3 => call_with_three(line),
         4 => call_with_four(line, payload),
+        5 => call_with_five(line),
         _ => Call::Bad,
     }
 }

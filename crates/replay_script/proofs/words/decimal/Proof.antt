@@ -3,8 +3,8 @@ use lib.ListN.{length}
 use native.Mathlib.Omega.{arith}
 use mathlib.Core.Path.{_≡_}
 use Prim.Native.Nat.{_≤_, _-_}
-use Rattle.replay_script.proofs.decimal.Statement.{statement}
-use Rattle.replay_script.proofs.decimal.Tie as tie
+use Rattle.replay_script.proofs.words.decimal.Statement.{statement}
+use Rattle.replay_script.proofs.words.decimal.Tie as tie
 
 abbrev Inv-loop : tie.InvT-loop
 Inv-loop s n₀ i₀ i-end n i = (i-end ≡ length s) × (i ≤ i-end)

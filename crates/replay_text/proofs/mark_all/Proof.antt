@@ -1,7 +1,7 @@
 -- `mark_all` is safe and ends: two bytes of the listing for each turn, and the marks keep their length.
 use Rattle.basics.proofs.Kit.{_≡_, ap, _∙_, ⊎-elim, _≤_, _/_, _-_, length, arith}
-use Rattle.replay.proofs.mark_all.Statement.{statement}
-use Rattle.replay.proofs.mark_all.Tie as tie
+use Rattle.replay_text.proofs.mark_all.Statement.{statement}
+use Rattle.replay_text.proofs.mark_all.Tie as tie
 
 abbrev Inv-loop : tie.InvT-loop
 Inv-loop marks₀ reply n i₀ i-end marks i = (i-end ≡ length reply / 2) × (i ≤ i-end) × (length marks ≡ length marks₀)

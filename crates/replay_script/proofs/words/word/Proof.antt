@@ -2,8 +2,8 @@
 use lib.ListN.{length}
 use native.Mathlib.Omega.{arith}
 use Prim.Native.Nat.{_≤_, _-_}
-use Rattle.replay_script.proofs.word.Statement.{statement}
-use Rattle.replay_script.proofs.word.Tie as tie
+use Rattle.replay_script.proofs.words.word.Statement.{statement}
+use Rattle.replay_script.proofs.words.word.Tie as tie
 
 abbrev Inv-loop : tie.InvT-loop
 Inv-loop line k from₀ counter₀ from counter = (counter ≤ k) × (from ≤ length line)

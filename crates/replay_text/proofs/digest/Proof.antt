@@ -1,7 +1,7 @@
 -- `digest` is safe and ends: a digest is a remainder, to which one byte more can be added.
 use Rattle.basics.proofs.Kit.{_≡_, _≤_, _<_, _-_, length, arith}
-use Rattle.replay.proofs.digest.Statement.{statement}
-use Rattle.replay.proofs.digest.Tie as tie
+use Rattle.replay_text.proofs.digest.Statement.{statement}
+use Rattle.replay_text.proofs.digest.Tie as tie
 
 abbrev Inv-loop : tie.InvT-loop
 Inv-loop s d₀ i₀ i-end d i = (i-end ≡ length s) × (i ≤ i-end) × (d < 4294967291)

@@ -1,7 +1,7 @@
 -- `set_all` is safe and ends: the slice keeps its length.
 use Rattle.basics.proofs.Kit.{_≡_, _≤_, _-_, length, length-set, arith}
-use Rattle.replay.proofs.set_all.Statement.{statement}
-use Rattle.replay.proofs.set_all.Tie as tie
+use Rattle.replay_text.proofs.set_all.Statement.{statement}
+use Rattle.replay_text.proofs.set_all.Tie as tie
 
 abbrev Inv-loop : tie.InvT-loop
 Inv-loop s₀ byte i₀ i-end s i = (i-end ≡ length s₀) × (i ≤ i-end) × (length s ≡ length s₀)

@@ -1,7 +1,7 @@
 -- `used` is safe and ends: at most one turn for each byte.
 use Rattle.basics.proofs.Kit.{_≡_, _≤_, _-_, length, arith}
-use Rattle.replay.proofs.used.Statement.{statement}
-use Rattle.replay.proofs.used.Tie as tie
+use Rattle.replay_text.proofs.used.Statement.{statement}
+use Rattle.replay_text.proofs.used.Tie as tie
 
 abbrev Inv-loop : tie.InvT-loop
 Inv-loop s n₀ i₀ i-end n i = (i-end ≡ length s) × (i ≤ i-end)

@@ -4,8 +4,8 @@ use native.Mathlib.Omega.{arith}
 use mathlib.Core.Logic.{⊎-elim}
 use mathlib.Core.Path.{_≡_, ap, _∙_}
 use Prim.Native.Nat.{_≤_, _-_, _*_}
-use Rattle.replay_script.proofs.payload_of.Statement.{statement}
-use Rattle.replay_script.proofs.payload_of.Tie as tie
+use Rattle.replay_script.proofs.words.payload_of.Statement.{statement}
+use Rattle.replay_script.proofs.words.payload_of.Tie as tie
 
 abbrev Inv-loop : tie.InvT-loop
 Inv-loop s out₀ n i₀ out i = (i ≤ n) × (2 * n ≤ length s) × (length out ≡ length out₀)

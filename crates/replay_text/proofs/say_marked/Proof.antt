@@ -1,7 +1,7 @@
 -- `say_marked` is safe and ends: at most one turn for each mark.
 use Rattle.basics.proofs.Kit.{_≡_, _≤_, _-_, length, arith}
-use Rattle.replay.proofs.say_marked.Statement.{statement}
-use Rattle.replay.proofs.say_marked.Tie as tie
+use Rattle.replay_text.proofs.say_marked.Statement.{statement}
+use Rattle.replay_text.proofs.say_marked.Tie as tie
 
 abbrev Inv-loop : tie.InvT-loop
 Inv-loop marks t₀ t3 t-end t = (t-end ≡ length marks) × (t ≤ t-end)

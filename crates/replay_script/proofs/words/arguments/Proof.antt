@@ -4,8 +4,8 @@ use lib.ListN.{length}
 use native.Mathlib.Omega.{arith}
 use mathlib.Core.Path.{_≡_}
 use Prim.Native.Nat.{_≤_, _-_}
-use Rattle.replay_script.proofs.arguments.Statement.{statement}
-use Rattle.replay_script.proofs.arguments.Tie as tie
+use Rattle.replay_script.proofs.words.arguments.Statement.{statement}
+use Rattle.replay_script.proofs.words.arguments.Tie as tie
 
 abbrev Inv-loop : tie.InvT-loop
 Inv-loop line n₀ i₀ i-end n i = (i-end ≡ length line) × (i ≤ i-end) × (n ≤ i)

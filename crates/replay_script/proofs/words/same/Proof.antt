@@ -3,8 +3,8 @@ use lib.ListN.{length}
 use native.Mathlib.Omega.{arith}
 use mathlib.Core.Path.{_≡_}
 use Prim.Native.Nat.{_≤_, _-_}
-use Rattle.replay_script.proofs.same.Statement.{statement}
-use Rattle.replay_script.proofs.same.Tie as tie
+use Rattle.replay_script.proofs.words.same.Statement.{statement}
+use Rattle.replay_script.proofs.words.same.Tie as tie
 
 abbrev Inv-loop : tie.InvT-loop
 Inv-loop a b i₀ i-end i = (i-end ≡ length a) × (i-end ≡ length b) × (i ≤ i-end)
