@@ -64,6 +64,7 @@ extern struct sqlite3 *db;
 extern int page_size;
 struct sqlite3 *new_database(void);
 
+void crossing_table(void);
 void checkpoint_tables(void);
 
 #endif

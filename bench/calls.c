@@ -1,5 +1,5 @@
 /* What a user does, on our store, LMDB and SQLite in turn in one process: transactions of five calls, aborts, commits of many rows, then
- * checkpoints and recovery (checkpoint.c). Prints markdown. `bench/run.sh` builds and runs it.
+ * bookings that cross an interval (crossing.c), checkpoints and recovery (checkpoint.c). Prints markdown. `bench/run.sh` builds and runs it.
  * A figure is the least of the rounds' means, in nanoseconds, less the time of reading the clock. Every answer is checked. */
 #include <string.h>
 #include "bench.h"
@@ -165,6 +165,7 @@ int main(void) {
     printf("\n## Commits\n\nNanoseconds; a store of N = 1,024 with 512 rows, some of them replaced in one transaction.\n\n");
     printf("| Payload | Tables | | Ours | LMDB | SQLite | / LMDB | / SQLite |\n|---|---|---|---|---|---|---|---|\n");
     for_each_shape(CAPACITY_LIMIT, commits);
+    crossing_table();
     checkpoint_tables();
     return 0;
 }

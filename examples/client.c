@@ -1,5 +1,6 @@
-/* A mission's client: makes a store in a file, books windows of a dish, checkpoints to the file while booking goes on, loses power inside a
- * block store of the next checkpoint, and recovers from the file. What it prints is examples/client.out; how it is built: README.md. */
+/* A mission's client: makes a store in a file, books windows of a dish, checkpoints to the file while booking goes on, asks which windows
+ * touch a stretch of time, loses power inside a block store of the next checkpoint, and recovers from the file. What it prints is
+ * examples/client.out; how it is built: README.md. */
 #define _POSIX_C_SOURCE 200809L /* pwrite, fdatasync */
 #include <fcntl.h>
 #include <stdio.h>
@@ -26,8 +27,16 @@ static int64_t must(const char *call, int64_t answer) {
     return answer;
 }
 
-static void book(unsigned mission, uint32_t window, const char *text) {
-    int64_t answer = vodzanu_insert(memory, sizeof memory, mission, DISH, window, (const uint8_t *)text, strlen(text));
+/* A window's key is its start minute; its payload is its length in minutes, two bytes, high byte first, and a text, cut if it is too long. */
+static void book(unsigned mission, uint32_t window, unsigned minutes, const char *text) {
+    uint8_t payload[VODZANU_PAYLOAD_LIMIT];
+    size_t len = strlen(text);
+    int64_t answer;
+    if (len > sizeof payload - 2) len = sizeof payload - 2;
+    payload[0] = (uint8_t)(minutes / 256);
+    payload[1] = (uint8_t)(minutes % 256);
+    memcpy(payload + 2, text, len);
+    answer = vodzanu_insert(memory, sizeof memory, mission, DISH, window, payload, 2 + len);
     if (answer == -VODZANU_CONFLICT || answer == -VODZANU_KEY_EXISTS) {
         printf("mission %u: window %u is taken\n", mission, (unsigned)window);
         return;
@@ -43,7 +52,18 @@ static void show(uint32_t window) {
         return;
     }
     must("read", n);
-    printf("window %u: %.*s\n", (unsigned)window, (int)n, (const char *)reply);
+    printf("window %u, %d minutes: %.*s\n", (unsigned)window, 256 * reply[0] + reply[1], (int)n - 2, (const char *)reply + 2);
+}
+
+static uint32_t key_of(const uint8_t *b) { return (uint32_t)b[0] << 24 | (uint32_t)b[1] << 16 | (uint32_t)b[2] << 8 | b[3]; }
+
+/* The windows that share a minute with the time from minute `first` up to, not including, minute `end`. */
+static void show_crossing(unsigned first, unsigned end) {
+    uint8_t reply[4 * CAPACITY]; /* room for all */
+    int64_t i, n = must("crossing", vodzanu_crossing(memory, sizeof memory, MISSION, DISH, first, end, reply, sizeof reply));
+    printf("minute %u up to %u: %s", first, end, n > 0 ? "windows" : "free");
+    for (i = 0; i < n; i++) printf(" %u", (unsigned)key_of(reply + 4 * i));
+    printf("\n");
 }
 
 static void show_open(void) {
@@ -113,16 +133,18 @@ int main(int argc, char **argv) {
 
     must("open", vodzanu_open(memory, sizeof memory, MISSION));
     must("open", vodzanu_open(memory, sizeof memory, OTHER_MISSION));
-    book(MISSION, 100, "pass 1, antenna north");
-    book(OTHER_MISSION, 100, "the same pass");
+    book(MISSION, 100, 20, "pass 1, antenna north");
+    book(OTHER_MISSION, 100, 20, "the same pass");
 
     left = must("begin", vodzanu_begin(memory, sizeof memory));
     printf("checkpoint: %d block stores\n", (int)left);
     left = must("step", vodzanu_step(image, sizeof image, memory, sizeof memory));
-    book(MISSION, 101, "pass 2, booked while the checkpoint runs");
+    book(MISSION, 130, 15, "pass 2, booked during the checkpoint");
     finish_checkpoint(left);
     show(100);
-    show(101);
+    show(130);
+    show_crossing(119, 131); /* the last minute of one window, the first of the other */
+    show_crossing(120, 130); /* what is between them */
 
     must("begin", vodzanu_begin(memory, sizeof memory));
     lose_power();
@@ -133,7 +155,8 @@ int main(int argc, char **argv) {
     must("recover", vodzanu_recover(image, sizeof image, memory, sizeof memory));
     show_open(); /* the mission that had written; the other one has to open again */
     show(100);   /* written before the checkpoint that landed began */
-    show(101);   /* written after it began */
+    show(130);   /* written after it began */
+    show_crossing(119, 131);
     must_file("close", close(file) == 0);
     return 0;
 }

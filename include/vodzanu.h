@@ -9,7 +9,7 @@
  * - Image and memory go from call to call as the last call left them; between calls they may be moved as a whole. Payload and reply
  *   are needed only until the call returns.
  * - The library has no state of its own, allocates nothing and makes no system call, so calls on different stores may run in parallel.
- *   On one store only vodzanu_read and vodzanu_list may, with each other.
+ *   On one store only vodzanu_read, vodzanu_crossing and vodzanu_list may, with each other.
  *
  * Nothing else is asked: any bytes, numbers and lengths may be passed, and every call ends.
  *
@@ -96,7 +96,8 @@ enum vodzanu_refusal {
     VODZANU_REPLY_SHORT = 21,        /* the reply is too short */
     VODZANU_BAD_HEADER = 22,         /* block 0 is not a header of this image */
     VODZANU_BAD_DIRECTORY = 23,      /* a block that the header names is not its directory */
-    VODZANU_BAD_PAGE = 24            /* a block that the directory names is not a page, or the pages do not fit together */
+    VODZANU_BAD_PAGE = 24,           /* a block that the directory names is not a page, or the pages do not fit together */
+    VODZANU_INTERVAL_EMPTY = 25      /* the interval's end is not above its start */
 };
 
 /* ---- make and recover */
@@ -148,6 +149,15 @@ int64_t vodzanu_abort(uint8_t *memory, size_t memory_len, uint64_t transaction);
  * Answers the payload's length, 0 to 40. Refuses: 4, 6, 7, 10, 14, 21. */
 int64_t vodzanu_read(const uint8_t *memory, size_t memory_len, uint64_t transaction, uint64_t table, uint32_t key,
                      uint8_t *reply, size_t reply_len);
+
+/* Puts the keys of the bookings that share a minute with an interval over the first bytes of the reply, four bytes each, high byte first,
+ * rising; the reply's other bytes stay. The interval goes from minute `first` up to, not including, minute `end`. A booking is a tuple of
+ * the table, in the version that the transaction sees: its key is its start minute, the first two bytes of its payload, high byte first,
+ * are its length in minutes, and it runs up to, not including, key + length, which may pass 32 bits. A shorter payload, or length 0,
+ * crosses nothing.
+ * Answers how many keys there are. A reply of 4 * capacity bytes is always long enough. Refuses: 4, 6, 7, 10, 25, 21. */
+int64_t vodzanu_crossing(const uint8_t *memory, size_t memory_len, uint64_t transaction, uint64_t table, uint64_t first, uint64_t end,
+                         uint8_t *reply, size_t reply_len);
 
 /* Puts the numbers of the open transactions over the first bytes of the reply, two bytes each, high byte first, in any order, each once;
  * the reply's other bytes stay.
