@@ -15,3 +15,4 @@ pub mod Members
 pub mod Lasts
 pub mod Maps
 pub mod Froms
+pub mod Sorted

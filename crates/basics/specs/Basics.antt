@@ -3,7 +3,7 @@ use Prim.Native.Nat.{ℕ, zero, suc, _+_}
 use mathlib.Core.Bool.{Bool, true, false, not, _&&_, cond}
 use mathlib.Core.Option.{Option, none, some}
 use mathlib.Core.List.{List, [], _∷_}
-use lib.Dec.{eqb}
+use lib.Dec.{eqb, leb}
 
 infixr 5 if_then_else_
 -- both branches are computed: where one of them is a recursive call that must wait, write `elim test [ true ↦ .. | false ↦ .. ]`
@@ -91,7 +91,17 @@ unfoldable pub from : ℕ → ℕ → List ℕ
 from n zero = []
 from n (suc k) = n ∷ from (suc n) k
 
+-- x before the first number that is not below it
+unfoldable pub inserted : ℕ → List ℕ → List ℕ
+inserted x [] = x ∷ []
+inserted x (y ∷ ys) = if leb x y then x ∷ y ∷ ys else y ∷ inserted x ys
+
+-- the numbers by rising size, each as often as it stands
+unfoldable pub sorted : List ℕ → List ℕ
+sorted [] = []
+sorted (x ∷ xs) = inserted x (sorted xs)
+
 -- opens all of this module: `unfolding basics`
 unfoldable pub basics : ℕ
-unfolding if_then_else_ any all paired keep howMany first last isEmpty isSome sum every isIn distinct from
+unfolding if_then_else_ any all paired keep howMany first last isEmpty isSome sum every isIn distinct from inserted sorted
 basics = 0

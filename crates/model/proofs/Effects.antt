@@ -7,8 +7,8 @@ use Rattle.image_rows.specs.Rows.{Row, openLimit}
 use Rattle.model.specs.State.{Store, Write, Outcome, Answer, refused, done}
 use Rattle.model.specs.Sight.{held, isForeign, versions, seenOf, seen}
 use Rattle.model.specs.Transactions.{unless, Test, gives, _when_, openNumbers, withOpen, openCall, notOpen, noTable, tooLong, full, argumentTests, keyTest, keyTests, tupleTests}
-use Rattle.model.specs.Transactions.{writeTests, withTuple, writeCall, readSeen, readCall, listCall, committedPages, abortedPages, closing, commitCall, abortCall}
-use Rattle.model.specs.Crossing.{crossingCall}
+use Rattle.model.specs.Transactions.{writeTests, withTuple, writeCall, replied, readSeen, readCall, listCall, committedPages, abortedPages, closing, commitCall, abortCall}
+use Rattle.model.specs.Crossing.{keysReply, crossingCall}
 use Rattle.model.specs.Calls.{TransactionCall, opens, inserts, replaces, deletes, commits, aborts, reads, lists, crossings, transact, noEffect, startOf, writeOf, commitOf, abortOf, effect}
 use Rattle.model.specs.Calls.{TypedTuple, TypedCall, accepted}
 use Rattle.basics.proofs.Elements.{leb-false, not-false}
@@ -118,13 +118,17 @@ module _ (c : TransactionCall) (s : Store) (tx t k : ℕ) (bs : List ℕ) (typed
   unfolding writeCall
   writing new m e q = does-unless c s _ _ (λ p. writes tx t k bs m e (shown new m q p))
 
+replying : (c : TransactionCall) (s : Store) (room n : ℕ) (bs : List ℕ) → effect c ≡ noEffect → Does c s (replied room n bs s)
+unfolding replied accepted
+replying c s room n bs e = does-unless c s _ _ (λ p. answers _ e refl)
+
 reading : (c : TransactionCall) (s : Store) (room : ℕ) (o : Option Row) → effect c ≡ noEffect → Does c s (readSeen room o s)
-unfolding readSeen accepted
+unfolding readSeen
 reading c s room none e = refuses 14
-reading c s room (some r) e = does-unless c s _ _ (λ p. answers _ e refl)
+reading c s room (some r) e = replying c s room _ _ e
 
 pub does : (c : TransactionCall) (s : Store) → Does c s (transact c s)
-unfolding transact openCall commitCall abortCall readCall listCall crossingCall effect isEmpty accepted
+unfolding transact openCall commitCall abortCall readCall listCall keysReply crossingCall effect isEmpty
 does (opens tx) s =
     does-unless _ s _ _ (λ p. starts tx refl (omega (arith, leb-false transactionLimit tx (p .0))) (p .1 .0) (leb-false openLimit (length (s .active)) (p .1 .1 .0)))
 does (inserts tx t k bs) s = writing (inserts tx t k bs) s tx t k bs (λ h. h) true false refl tt
@@ -133,5 +137,5 @@ does (deletes tx t k) s = writing (deletes tx t k) s tx t k [] (λ h. h) false t
 does (commits tx) s = does-unless _ s _ _ (λ p. finishes tx refl)
 does (aborts tx) s = does-unless _ s _ _ (λ p. undoes tx refl)
 does (reads tx t k room) s = does-unless _ s _ _ (λ p. reading (reads tx t k room) s room (seen tx t k s) refl)
-does (lists room) s = does-unless _ s _ _ (λ p. answers _ refl refl)
-does (crossings tx t first end room) s = does-unless _ s _ _ (λ p. answers _ refl refl)
+does (lists room) s = replying (lists room) s room _ _ refl
+does (crossings tx t first end room) s = does-unless _ s _ _ (λ p. replying (crossings tx t first end room) s room _ _ refl)

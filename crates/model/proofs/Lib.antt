@@ -46,6 +46,7 @@ pub mod Starts
 pub mod Laws
 pub mod Sees
 pub mod Crossings
+pub mod Listings
 pub mod Line
 pub mod Reread
 pub mod Cases
@@ -56,3 +57,4 @@ pub mod Others
 pub mod PlaceCases
 pub mod Cuts
 pub mod CrossingCases
+pub mod ListCases

@@ -10,7 +10,7 @@ use Rattle.model.specs.State.{Store, Outcome, filled, refused}
 use Rattle.model.specs.Rules.{asCommitted}
 use Rattle.model.specs.Sight.{seen, rows, versions, seenOf}
 use Rattle.model.specs.Transactions.{unless, Test, gives, _when_, changed, openNumbers, withOpen, notOpen, noTable, tooLong, argumentTests, writeTests, newTuple, withWrite, afterWrite}
-use Rattle.model.specs.Transactions.{withTuple, writeCall, readSeen, readCall, without, abortedPages, commitCall}
+use Rattle.model.specs.Transactions.{withTuple, writeCall, replied, readSeen, readCall, without, abortedPages, commitCall}
 use Rattle.model.specs.Checkpoint.{beginCall, stepCall, runCall}
 use Rattle.model.specs.Calls.{TransactionCall, transact, effect, Call, transacts, begins, steps, runs, call, effectOf, isTransaction}
 use Rattle.model.specs.Seen.{remains, WriterReads, WriterMisses, RowsStay, SeenAfterCommit, mayShow, SeenAsBefore}
@@ -234,7 +234,7 @@ answer-unless [] s z o q e = e
 answer-unless ((n when b) ∷ ts) s z o q e = by b (λ h. rw h) (λ h. rw h (answer-unless ts s z o q e))
 
 answer-seen : (room : ℕ) (o : Option Row) (s z : Store) → readSeen room o z .answer ≡ readSeen room o s .answer
-unfolding readSeen gives
+unfolding readSeen replied gives
 answer-seen room none s z = refl
 answer-seen room (some r) s z = answer-unless _ z s _ _ refl
 
@@ -248,7 +248,7 @@ same-read u t k room s z o e =
 
 module _ (u t k room : ℕ) (z : Store) (few : ltb mostTransaction u ≡ false) (o : isIn u (openNumbers (z .active)) ≡ true) (tb : ltb 7 t ≡ false) where
   reads-some : (r : Row) → seen u t k z ≡ some r → length (r .1 .payload) ≤ room → readCall u t k room z .answer ≡ filled (length (r .1 .payload)) (r .1 .payload)
-  unfolding readCall notOpen noTable unless if_then_else_ readSeen gives
+  unfolding readCall notOpen noTable unless if_then_else_ readSeen replied gives
   reads-some r e l = rw (few, o, tb, e) (rw (lt-false room (length (r .1 .payload)) l))
 
   reads-none : seen u t k z ≡ none → readCall u t k room z .answer ≡ refused 14

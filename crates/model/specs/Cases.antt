@@ -21,7 +21,7 @@ use Rattle.image.specs.Whole.{headerStage, pagesBelow, pagesStage}
 use Rattle.model.specs.State.{Held, Page, idle, Store, Write, storedBytes, Answer, refused, done, count, filled}
 use Rattle.model.specs.Rules.{heldSize, fresh, withoutPending, joins, rules}
 use Rattle.model.specs.Sight.{held, rows, isForeign, versions, seenOf, seen}
-use Rattle.model.specs.Transactions.{gives, unless, changed, openCall, readSeen, readCall, listing, listCall, openNumbers, isFor, writtenBy, without, commitCall, abortCall, writeRules, placeRules}
+use Rattle.model.specs.Transactions.{gives, unless, changed, openCall, replied, readSeen, readCall, listing, listCall, openNumbers, isFor, writtenBy, without, commitCall, abortCall, writeRules, placeRules}
 use Rattle.model.specs.Checkpoint.{withProgress as storedStore, isFree, allocate, freeCount, isRunning, blocksNeeded, beginCall, leftOf, left, made, fill, storable, storePage, storeDirectory, headerFor, storeHeader, stepOf, stepAt, badImage, stepCall, inTurn, runCall}
 use Rattle.model.specs.Calls.{transact, effect, Call, transacts, begins, steps, runs, call, isBegin, effectOf, others, withWriter, writers, accepted, afterCalls, hadWritten}
 use Rattle.model.specs.Recover.{memoryFor, putBlock, imageAfter, freshStore, make, madeImage, loaded, reopened, recoveredStore, recoverPages, recoverBelow, recover}
@@ -349,5 +349,5 @@ pub record Cuts : Type 0 where
 
 -- unfolds all definitions that the cases compute with: `unfolding cases`
 unfoldable pub cases : ℕ
-unfolding basics bitsOf numberOf bitsIn field num4 same isTentative ownerSize size spell bytesOf filledUp blockOf committedBit ownerFields payloadFields recordFields recordsFields entryFields encodeBlock kind spelledBy readHeader headerIn readOwner readMark readTuple recordLength isRecord readTuples pageTable pageCount pageLevel pageSpelled pageIn readEntries directoryCount directoryLevel directoryIn decodeBlock rowRules blockAt blockCount view wholeBlocks blockOk isZero directoriesFor directoryBlocks unusedNumbers countsOk headerOk headerTest entriesDue addEntries readDirectories entriesOk testedEntries directoryTest pageOk addPage readPages rowsOfPages testedPages pageTest headerStage pagesBelow pagesStage rules held rows isForeign versions seenOf seen gives unless changed openCall readSeen readCall listing listCall writeRules placeRules openNumbers isFor writtenBy without others commitCall abortCall storedStore isFree allocate freeCount isRunning blocksNeeded beginCall leftOf left made fill storable storePage storeDirectory headerFor storeHeader stepOf stepAt badImage stepCall inTurn runCall transact effect call isBegin effectOf withWriter writers accepted afterCalls hadWritten putBlock freshStore make madeImage loaded reopened recoveredStore recoverPages recoverBelow recover tag log isHeader landed imageWith content answers writes shape many after5 tuple samplePage joining cleanPage clean booking bookingBytes spelled firstSpells committedAll reading imageAfter shapeOf recoveredAfter places splitMeanwhile commitMeanwhile committedLate threeTimes oneAgain bothFrozen refusedCalls lastStore refusalOf ownerNumbers tupleNumbers heldNumbers pageNumbers agrees recoversTo tears cutHere cutEverywhere script scriptLog
+unfolding basics bitsOf numberOf bitsIn field num4 same isTentative ownerSize size spell bytesOf filledUp blockOf committedBit ownerFields payloadFields recordFields recordsFields entryFields encodeBlock kind spelledBy readHeader headerIn readOwner readMark readTuple recordLength isRecord readTuples pageTable pageCount pageLevel pageSpelled pageIn readEntries directoryCount directoryLevel directoryIn decodeBlock rowRules blockAt blockCount view wholeBlocks blockOk isZero directoriesFor directoryBlocks unusedNumbers countsOk headerOk headerTest entriesDue addEntries readDirectories entriesOk testedEntries directoryTest pageOk addPage readPages rowsOfPages testedPages pageTest headerStage pagesBelow pagesStage rules held rows isForeign versions seenOf seen gives unless changed openCall replied readSeen readCall listing listCall writeRules placeRules openNumbers isFor writtenBy without others commitCall abortCall storedStore isFree allocate freeCount isRunning blocksNeeded beginCall leftOf left made fill storable storePage storeDirectory headerFor storeHeader stepOf stepAt badImage stepCall inTurn runCall transact effect call isBegin effectOf withWriter writers accepted afterCalls hadWritten putBlock freshStore make madeImage loaded reopened recoveredStore recoverPages recoverBelow recover tag log isHeader landed imageWith content answers writes shape many after5 tuple samplePage joining cleanPage clean booking bookingBytes spelled firstSpells committedAll reading imageAfter shapeOf recoveredAfter places splitMeanwhile commitMeanwhile committedLate threeTimes oneAgain bothFrozen refusedCalls lastStore refusalOf ownerNumbers tupleNumbers heldNumbers pageNumbers agrees recoversTo tears cutHere cutEverywhere script scriptLog
 cases = 0

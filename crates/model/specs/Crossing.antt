@@ -8,9 +8,9 @@ use lib.Dec.{leb, ltb, eqb}
 use Rattle.basics.specs.Basics.{if_then_else_, every, keep}
 use Rattle.block_forms.specs.Tuple.{Tuple}
 use Rattle.image_rows.specs.Rows.{Row}
-use Rattle.model.specs.State.{Page, Store, filled, Outcome}
+use Rattle.model.specs.State.{Page, Store, Outcome}
 use Rattle.model.specs.Sight.{seenOf}
-use Rattle.model.specs.Transactions.{Test, _when_, gives, unless, notOpen, noTable, Placed, allRuns, eachRun, rowsIn}
+use Rattle.model.specs.Transactions.{Test, _when_, unless, replied, notOpen, noTable, Placed, allRuns, eachRun, rowsIn}
 
 -- ---- bookings
 
@@ -56,13 +56,15 @@ unfoldable pub keyBytes : List ℕ → List ℕ
 keyBytes [] = []
 keyBytes (k ∷ ks) = k / 16777216 % 256 ∷ k / 65536 % 256 ∷ k / 256 % 256 ∷ k % 256 ∷ keyBytes ks
 
--- crossing: how many there are and their keys; 21 reply too short
+-- how many keys there are, and the keys
+unfoldable pub keysReply : ℕ → ℕ → ℕ → ℕ → ℕ → Store → Outcome
+keysReply tx t first end room s = let ks = crossingKeys tx t first end (s .pages) in replied room (length ks) (keyBytes ks) s
+
+-- crossing: the keys of the bookings that cross
 unfoldable pub crossingCall : ℕ → ℕ → ℕ → ℕ → ℕ → Store → Outcome
-crossingCall tx t first end room s =
-    let ks = crossingKeys tx t first end (s .pages) in
-    unless (notOpen tx s ++ (noTable t ∷ noInterval first end ∷ 21 when ltb room (4 * length ks) ∷ [])) s (gives (filled (length ks) (keyBytes ks)) s)
+crossingCall tx t first end room s = unless (notOpen tx s ++ (noTable t ∷ noInterval first end ∷ [])) s (keysReply tx t first end room s)
 
 -- unfolds the definitions of crossing: `unfolding crossingRules`
 unfoldable pub crossingRules : ℕ
-unfolding minutes crosses rowsOfTable keyIf keyOfRun crossingKeys noInterval keyBytes crossingCall
+unfolding minutes crosses rowsOfTable keyIf keyOfRun crossingKeys noInterval keyBytes keysReply crossingCall
 crossingRules = 0

@@ -14,3 +14,4 @@ pub mod PlaceCases
 pub mod Seen
 pub mod Cases
 pub mod CrossingCases
+pub mod ListCases

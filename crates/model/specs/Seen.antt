@@ -5,8 +5,8 @@ use mathlib.Core.Bool.{Bool, true, false}
 use mathlib.Core.Option.{Option, none, some}
 use mathlib.Core.List.{List, []}
 use lib.ListN.{length}
-use lib.Dec.{eqb, ltb}
-use Rattle.basics.specs.Basics.{if_then_else_, paired, last, isIn}
+use lib.Dec.{eqb, leb, ltb}
+use Rattle.basics.specs.Basics.{if_then_else_, paired, howMany, last, isIn, sorted}
 use Rattle.image_rows.specs.Rows.{Row, isOwn}
 use Rattle.model.specs.State.{Store, refused, filled}
 use Rattle.model.specs.Rules.{asCommitted}
@@ -60,6 +60,22 @@ SeenAfterCommit =
     (s : Store) → WellFormed s → (tx : ℕ) → accepted (commitCall tx s .answer) ≡ true → (u t k : ℕ)
     → ((r : Row) → last (isOwn tx) (versions t k (s .pages)) ≡ some r → seen u t k (commitCall tx s .store) ≡ remains r)
     × (last (isOwn tx) (versions t k (s .pages)) ≡ none → seen u t k (commitCall tx s .store) ≡ seen u t k s)
+
+-- ---- list
+
+-- the listing rises strictly, and a transaction is in it exactly if it is open
+abbrev pub ListedOnce : Type 0
+ListedOnce =
+    (s : Store) → WellFormed s
+    → (paired ltb (sorted (openNumbers (s .active))) ≡ true)
+    × ((tx : ℕ) → isIn tx (sorted (openNumbers (s .active))) ≡ isIn tx (openNumbers (s .active)))
+
+-- on any store it does not fall, and a number is in it as often as it is among the open transactions
+abbrev pub ListedSorted : Type 0
+ListedSorted =
+    (s : Store)
+    → (paired leb (sorted (openNumbers (s .active))) ≡ true)
+    × ((tx : ℕ) → howMany (eqb tx) (sorted (openNumbers (s .active))) ≡ howMany (eqb tx) (openNumbers (s .active)))
 
 -- ---- crossing
 

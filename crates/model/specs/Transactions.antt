@@ -1,11 +1,11 @@
 -- Open, insert, replace, delete, read, list, commit, abort: each with its refusals in the order in which they are tested.
-use Prim.Native.Nat.{ℕ, suc, _-_, _*_, _/_, _%_, min}
+use Prim.Native.Nat.{ℕ, suc, _-_, _/_, _%_, min}
 use mathlib.Core.Bool.{Bool, true, false, not}
 use mathlib.Core.Option.{Option, none, some}
 use mathlib.Core.List.{List, [], _∷_, _++_, map}
 use lib.ListN.{length}
 use lib.Dec.{leb, ltb, eqb}
-use Rattle.basics.specs.Basics.{if_then_else_, any, keep, last, isEmpty, isSome, isIn}
+use Rattle.basics.specs.Basics.{if_then_else_, any, keep, last, isEmpty, isSome, isIn, sorted}
 use Rattle.block_forms.specs.Limits.{payloadLimit, mostNumber, mostStatement, mostTransaction}
 use Rattle.block_forms.specs.Tuple.{Tuple, tentative}
 use Rattle.image_rows.specs.Rows.{Row, isOwn, isAt, openLimit}
@@ -145,11 +145,14 @@ deleteCall tx t k = writeCall false true tx t k []
 
 -- ---- read, list
 
--- 14 key not seen; 21 reply too short
+-- the bytes bs over the first of a reply of room bytes, with the count n; 21 reply too short
+unfoldable pub replied : ℕ → ℕ → List ℕ → Store → Outcome
+replied room n bs s = unless (21 when ltb room (length bs) ∷ []) s (gives (filled n bs) s)
+
+-- 14 key not seen; else its payload
 unfoldable pub readSeen : ℕ → Option Row → Store → Outcome
 readSeen room none s = gives (refused 14) s
-readSeen room (some r) s =
-    unless (21 when ltb room (length (r .1 .payload)) ∷ []) s (gives (filled (length (r .1 .payload)) (r .1 .payload)) s)
+readSeen room (some r) s = replied room (length (r .1 .payload)) (r .1 .payload) s
 
 -- read: the payload of the version that is seen
 unfoldable pub readCall : ℕ → ℕ → ℕ → ℕ → Store → Outcome
@@ -160,10 +163,9 @@ unfoldable pub listing : List ℕ → List ℕ
 listing [] = []
 listing (tx ∷ txs) = tx / 256 % 256 ∷ tx % 256 ∷ listing txs
 
--- list: the open transactions
+-- list: the open transactions by rising number
 unfoldable pub listCall : ℕ → Store → Outcome
-listCall room s =
-    unless (21 when ltb room (2 * length (s .active)) ∷ []) s (gives (filled (length (s .active)) (listing (openNumbers (s .active)))) s)
+listCall room s = replied room (length (s .active)) (listing (sorted (openNumbers (s .active)))) s
 
 -- ---- runs: all tuples held, numbered from 0 in order, those of one key together
 
