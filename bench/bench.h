@@ -65,6 +65,7 @@ extern int page_size;
 struct sqlite3 *new_database(void);
 
 void crossing_table(void);
+void list_table(void);
 void checkpoint_tables(void);
 
 #endif

@@ -166,6 +166,7 @@ int main(void) {
     printf("| Payload | Tables | | Ours | LMDB | SQLite | / LMDB | / SQLite |\n|---|---|---|---|---|---|---|---|\n");
     for_each_shape(CAPACITY_LIMIT, commits);
     crossing_table();
+    list_table();
     checkpoint_tables();
     return 0;
 }

@@ -159,8 +159,8 @@ int64_t vodzanu_read(const uint8_t *memory, size_t memory_len, uint64_t transact
 int64_t vodzanu_crossing(const uint8_t *memory, size_t memory_len, uint64_t transaction, uint64_t table, uint64_t first, uint64_t end,
                          uint8_t *reply, size_t reply_len);
 
-/* Puts the numbers of the open transactions over the first bytes of the reply, two bytes each, high byte first, in any order, each once;
- * the reply's other bytes stay.
+/* Puts the numbers of the open transactions over the first bytes of the reply, two bytes each, high byte first, by rising
+ * number, each once; the reply's other bytes stay.
  * Answers how many are open, 0 to 64. Refuses: 4, 21. */
 int64_t vodzanu_list(const uint8_t *memory, size_t memory_len, uint8_t *reply, size_t reply_len);
 

@@ -15,4 +15,5 @@ pub mod Members
 pub mod Lasts
 pub mod Maps
 pub mod Froms
+pub mod Counting
 pub mod Sorted

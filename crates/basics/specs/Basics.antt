@@ -3,7 +3,7 @@ use Prim.Native.Nat.{ℕ, zero, suc, _+_}
 use mathlib.Core.Bool.{Bool, true, false, not, _&&_, cond}
 use mathlib.Core.Option.{Option, none, some}
 use mathlib.Core.List.{List, [], _∷_}
-use lib.Dec.{eqb, leb}
+use lib.Dec.{eqb, leb, ltb}
 
 infixr 5 if_then_else_
 -- both branches are computed: where one of them is a recursive call that must wait, write `elim test [ true ↦ .. | false ↦ .. ]`
@@ -100,6 +100,10 @@ inserted x (y ∷ ys) = if leb x y then x ∷ y ∷ ys else y ∷ inserted x ys
 unfoldable pub sorted : List ℕ → List ℕ
 sorted [] = []
 sorted (x ∷ xs) = inserted x (sorted xs)
+
+-- the place of x among them: how many are below it
+abbrev pub rankIn : List ℕ → ℕ → ℕ
+rankIn xs x = howMany (λ y. ltb y x) xs
 
 -- opens all of this module: `unfolding basics`
 unfoldable pub basics : ℕ

@@ -1,15 +1,14 @@
 -- The lemmas that close every return of every call: without a store, refused, accepted.
-use Rattle.basics.proofs.Kit.{_≡_, refl, ap, _∙_, subst, Bool, true, false, some, none, Option, List, [], _∷_, _++_, ℕ, _*_, ltb, length, drop, length-map, arith}
+use Rattle.basics.proofs.Kit.{_≡_, refl, _∙_, true, false, List, _++_, ℕ, _≤_, _<_, length, drop, lt-ltb, le-ltb, arith}
 use Rattle.basics.specs.Basics.{if_then_else_}
 use Rattle.basics.proofs.Facts.{by}
-use Rattle.model.specs.State.{Active, Store, Write, Outcome}
-use Rattle.model.specs.Transactions.{_when_, gives, unless, openNumbers, listing, listCall}
+use Rattle.model.specs.State.{Store, Write, Outcome}
+use Rattle.model.specs.Transactions.{gives, unless, replied}
 use Rattle.model.specs.Recover.{imageAfter}
 use Rattle.memory_layout.specs.Flat.{flatOf}
-use Rattle.memory_layout.specs.Store.{holdsStore, storeOf, storeIn, HoldsNow}
+use Rattle.memory_layout.specs.Store.{holdsStore, storeOf, HoldsNow}
 use Rattle.memory_layout.proofs.Laws.{in-none, in-some}
-use Rattle.call_contracts.specs.Shape.{Answers, AnswersAt, Replies, RepliesAt, Stores, StoresAt, Told, ListedIf, Lists, ListsAt}
-use Rattle.call_contracts.specs.declared.Answer.{Answer}
+use Rattle.call_contracts.specs.Shape.{Answers, AnswersAt, Replies, RepliesAt, Stores, StoresAt}
 use Rattle.call_contracts.specs.declared.Answer.the-variants.{Done, Count, Filled, Refused}
 use Rattle.model.specs.State as model
 
@@ -65,42 +64,12 @@ module _ (call : Store → Outcome) (m : List ℕ) where
     unfolding Replies RepliesAt gives
     replies-filled n bs p' h e q = rw (in-some m h, e) (record { answer = refl; reply = q })
 
--- ---- the listing, in any order
+    -- a call that puts the bytes bs into the reply, with the count n
+    module _ (n : ℕ) (bs : List ℕ) (h : holdsStore m ≡ true) (e : call (storeOf (flatOf m)) ≡ replied (length p) n bs (storeOf (flatOf m))) where
+      pub replies-21 : length p < length bs → Replies call m (Refused 21) p p
+      unfolding replied unless if_then_else_
+      replies-21 l = replies-refused 21 h (e ∙ rw (lt-ltb (length p) (length bs) l))
 
-pub length-listing : (xs : List ℕ) → length (listing xs) ≡ 2 * length xs
-unfolding listing
-length-listing [] = refl
-length-listing (x ∷ xs) = omega (arith, length-listing xs)
-
--- the outcome of a list by its only test
-listBy : Bool → Store → Outcome
-listBy true s = gives (model.refused 21) s
-listBy false s = gives (model.filled (length (s .active)) (listing (openNumbers (s .active)))) s
-
-by-test : (b : Bool) (s : Store) → unless (21 when b ∷ []) s (listBy false s) ≡ listBy b s
-unfolding unless if_then_else_ listBy
-by-test true s = refl
-by-test false s = refl
-
-list-by : (room : ℕ) (s : Store) → listCall room s ≡ listBy (ltb room (2 * length (s .active))) s
-unfolding listCall listBy
-list-by room s = by-test (ltb room (2 * length (s .active))) s
-
-told-listed : (b : Bool) (s : Store) (r : Answer) (p p' : List ℕ) → Told (listBy b s) r p p' → ListedIf b s r p p'
-unfolding ListedIf gives openNumbers listing listBy
-told-listed true s r p p' t = (t .answer, t .reply)
-told-listed false s r p p' t =
-    let xs : List ℕ = openNumbers (s .active) in
-    let l : length (listing xs) ≡ 2 * length (s .active) = length-listing xs ∙ ap (λ (z : ℕ). 2 * z) (length-map (s .active) (λ (o : Active). o .transaction)) in
-    (xs, record { each = λ t. refl; answer = t .answer; reply = t .reply ∙ ap (λ (z : ℕ). listing xs ++ drop z p) l })
-
-replies-lists-at : (o : Option Store) (r : Answer) (p p' : List ℕ) → RepliesAt o (listCall (length p)) r p p' → ListsAt o r p p'
-unfolding RepliesAt ListsAt
-replies-lists-at none r p p' t = t
-replies-lists-at (some s) r p p' t =
-    told-listed (ltb (length p) (2 * length (s .active))) s r p p' (subst (λ (o : Outcome). Told o r p p') (list-by (length p) s) t)
-
--- the list in the order of the store is one in some order
-pub replies-lists : (m : List ℕ) (r : Answer) (p p' : List ℕ) → Replies (listCall (length p)) m r p p' → Lists m r p p'
-unfolding Replies Lists
-replies-lists m r p p' t = replies-lists-at (storeIn m) r p p' t
+      pub replies-with : length bs ≤ length p → (p' : List ℕ) → p' ≡ bs ++ drop (length bs) p → Replies call m (Filled n) p p'
+      unfolding replied unless if_then_else_
+      replies-with l p' q = replies-filled n bs p' h (e ∙ rw (le-ltb (length p) (length bs) l)) q

@@ -2,14 +2,10 @@
 use mathlib.Core.Path.{_≡_}
 use mathlib.Core.Option.{Option, none, some}
 use mathlib.Core.List.{List, [], _++_}
-use Prim.Native.Nat.{ℕ, _*_}
-use mathlib.Core.Bool.{Bool, true, false}
+use Prim.Native.Nat.{ℕ}
 use lib.ListN.{length, drop}
-use lib.Dec.{eqb, ltb}
-use Rattle.basics.specs.Basics.{howMany}
 use Rattle.image.specs.Stages.{Stage, refuses, holds}
 use Rattle.model.specs.State.{Store, Outcome}
-use Rattle.model.specs.Transactions.{openNumbers, listing}
 use Rattle.model.specs.Recover.{imageAfter, make, madeImage, recover}
 use Rattle.memory_layout.specs.Store.{storeIn, HoldsNow}
 use Rattle.call_contracts.specs.declared.Answer.{Answer}
@@ -68,30 +64,6 @@ RepliesAt (some s) call r p p' = Told (call s) r p p'
 -- the call on the memory m answers r and makes p' of the reply p
 unfoldable pub Replies : (Store → Outcome) → List ℕ → Answer → List ℕ → List ℕ → Type 0
 Replies call m r p p' = RepliesAt (storeIn m) call r p p'
-
--- the order of a listing is open: xs has each number as often as ys
-abbrev pub SameIn : List ℕ → List ℕ → Type 0
-SameIn xs ys = (t : ℕ) → howMany (eqb t) xs ≡ howMany (eqb t) ys
-
--- the numbers of the open transactions, in the order of xs, over the first bytes of the reply
-pub record ListedBy (s : Store) (xs : List ℕ) (r : Answer) (p p' : List ℕ) : Type 0 where
-  pub each : SameIn xs (openNumbers (s .active))
-  pub answer : meaning r (listing xs) ≡ model.filled (length (s .active)) (listing xs)
-  pub reply : p' ≡ listing xs ++ drop (2 * length (s .active)) p
-
--- 21 reply too short
-unfoldable pub ListedIf : Bool → Store → Answer → List ℕ → List ℕ → Type 0
-ListedIf true s r p p' = (meaning r [] ≡ model.refused 21) × (p' ≡ p)
-ListedIf false s r p p' = (xs : List ℕ) × ListedBy s xs r p p'
-
--- without a store: 4, and the reply stays
-unfoldable pub ListsAt : Option Store → Answer → List ℕ → List ℕ → Type 0
-ListsAt none r p p' = (meaning r [] ≡ model.refused 4) × (p' ≡ p)
-ListsAt (some s) r p p' = ListedIf (ltb (length p) (2 * length (s .active))) s r p p'
-
--- the list of the memory m answers r and makes p' of the reply p
-unfoldable pub Lists : List ℕ → Answer → List ℕ → List ℕ → Type 0
-Lists m r p p' = ListsAt (storeIn m) r p p'
 
 -- ---- calls that store blocks in the image
 

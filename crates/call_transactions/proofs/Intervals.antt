@@ -1,8 +1,8 @@
 -- Crossing: what it answers, test by test, and the keys found as the reply's first bytes.
 use Rattle.basics.proofs.Kit.{_≡_, sym, ap, _∙_, true, List, [], _∷_, _++_, ℕ, _+_, _*_, _≤_, _<_, leb, ltb, length, take, drop, lt-ltb, le-ltb, le-leb, lt-leb, take-append-seam, length-append, arith}
 use Rattle.model.specs.State.{Store, Outcome}
-use Rattle.model.specs.Transactions.{_when_, gives, unless, notOpen, noTable}
-use Rattle.model.specs.Crossing.{crossingKeys, noInterval, keyBytes, crossingCall}
+use Rattle.model.specs.Transactions.{gives, unless, replied, notOpen, noTable}
+use Rattle.model.specs.Crossing.{crossingKeys, noInterval, keyBytes, keysReply, crossingCall}
 use Rattle.memory_bytes.specs.Bytes.{bytes}
 use Rattle.memory_layout.specs.Flat.{Flat, flatOf}
 use Rattle.memory_layout.specs.Store.{holdsStore, storeOf, pagesIn}
@@ -12,7 +12,6 @@ use Rattle.call_contracts.specs.declared.Answer.{Answer}
 use Rattle.basics.proofs.Tabs.{tab-part}
 use Rattle.engine_crossing.specs.Crossing.{KeysFound}
 use Rattle.engine_crossing.proofs.Progress.{length-keys}
-use Rattle.call_transactions.specs.Calls.{keysReply}
 use Rattle.call_transactions.proofs.Refusing.{refused-here, passed-on, unless-none, unless-append}
 use Rattle.model.specs.State as model
 
@@ -25,9 +24,8 @@ abbrev pub crossAfter : ℕ → ℕ → ℕ → ℕ → ℕ → Store → Outcom
 crossAfter tx t first end room s = unless (noTable t ∷ noInterval first end ∷ []) s (keysReply tx t first end room s)
 
 pub cross-tests : (tx t first end room : ℕ) (s : Store) → crossingCall tx t first end room s ≡ unless (notOpen tx s) s (crossAfter tx t first end room s)
-unfolding crossingCall keysReply
-cross-tests tx t first end room s =
-    unless-append (notOpen tx s) _ s _ ∙ ap (unless (notOpen tx s) s) (unless-append (noTable t ∷ noInterval first end ∷ []) _ s _)
+unfolding crossingCall
+cross-tests tx t first end room s = unless-append (notOpen tx s) _ s _
 
 module _ (tx t first end room : ℕ) (s : Store) where
   pub cross-10 : 7 < t → crossAfter tx t first end room s ≡ gives (model.refused 10) s
@@ -49,23 +47,17 @@ pub replies-same : (call other : Store → Outcome) (m : List ℕ) (r : Answer) 
 unfolding Replies RepliesAt
 replies-same call other m r p p' h e k = let t = rw (in-some m h) at k in rw (in-some m h, e) t
 
--- ---- the last test
+-- ---- the reply
 
-module _ (f : Flat) (tx t first end room : ℕ) {n : ℕ} (e : n ≡ length (keysOf tx t first end f)) where
-  pub keys-21 : room < 4 * n → keysReply tx t first end room (storeOf f) ≡ gives (model.refused 21) (storeOf f)
-  unfolding keysReply storeOf
-  keys-21 l = refused-here 21 _ [] _ _ (lt-ltb room (4 * length (keysOf tx t first end f)) (omega (arith, e, l)))
-
-  pub keys-done : 4 * n ≤ room → keysReply tx t first end room (storeOf f) ≡ gives (model.filled n (keyBytes (keysOf tx t first end f))) (storeOf f)
-  unfolding keysReply storeOf
-  keys-done l =
-      passed-on 21 _ [] _ _ (le-ltb room (4 * length (keysOf tx t first end f)) (omega (arith, e, l))) ∙ unless-none _ _
-      ∙ ap (λ k. gives (model.filled k (keyBytes (keysOf tx t first end f))) (storeOf f)) (sym e)
+pub keys-reply : (f : Flat) (tx t first end room : ℕ) {n : ℕ} → n ≡ length (keysOf tx t first end f)
+    → keysReply tx t first end room (storeOf f) ≡ replied room n (keyBytes (keysOf tx t first end f)) (storeOf f)
+unfolding keysReply storeOf
+keys-reply f tx t first end room e = ap (λ k. replied room k (keyBytes (keysOf tx t first end f)) (storeOf f)) (sym e)
 
 -- ---- the keys copied
 
 module _ {f : Flat} {tx t first end n : ℕ} {out out' : List ℕ} (k : KeysFound f tx t first end n out out') where
-  keys-long : 4 * n ≡ length (keyBytes (keysOf tx t first end f))
+  pub keys-long : 4 * n ≡ length (keyBytes (keysOf tx t first end f))
   keys-long = ap (λ z. 4 * z) (k .count) ∙ sym (length-keys (keysOf tx t first end f))
 
   -- the first bytes of what was found are the keys

@@ -4,7 +4,6 @@ pub mod Opening
 pub mod Reading
 pub mod Intervals
 pub mod Making
-pub mod Listing
 pub mod Testing
 pub mod Called
 pub mod Writing

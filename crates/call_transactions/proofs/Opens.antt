@@ -116,10 +116,3 @@ without-none tx (o ∷ os) h =
     by (isFor tx o)
     (λ e. absurd (omega (arith, find-here tx o os e)))
     (λ e. without-on tx o os e ∙ ap (λ (z : List Active). o ∷ z) (without-none tx os (omega (arith, find-on tx o os e))))
-
--- a count has 20 bits
-pub written-small : (m : List ℕ) (i : ℕ) → i < length (flatOf m .opens) → getD (flatOf m .opens) i noOpen .written < statementLimit
-unfolding opensOf openAt
-written-small m i h =
-    let e : getD (tab (openAt m) 0 (openCount m)) i noOpen ≡ openAt m (0 + i) = getD-tab (openAt m) 0 (openCount m) i noOpen (omega (arith, opens-length m)) in
-    omega (arith, ap (λ (x : Active). x .written) e)

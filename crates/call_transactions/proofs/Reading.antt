@@ -6,7 +6,7 @@ use Rattle.image_rows.specs.Rows.{Row}
 use Rattle.model.specs.State.{Held, Store, Outcome}
 use Rattle.model.specs.Rules.{isCommitting, asCommitted, applied}
 use Rattle.model.specs.Sight.{seen}
-use Rattle.model.specs.Transactions.{_when_, gives, unless, notOpen, noTable, readSeen, readCall}
+use Rattle.model.specs.Transactions.{_when_, gives, unless, notOpen, noTable, replied, readSeen, readCall}
 use Rattle.memory_layout.specs.Flat.{Flat, rowIn}
 use Rattle.memory_layout.specs.Store.{storeOf}
 use Rattle.engine_lookup.specs.Lookup.{version, seenAt, Sees, Inside}
@@ -53,17 +53,8 @@ module _ (tx t k room : ℕ) (f : Flat) where
       abbrev bytes : List ℕ
       bytes = rowIn f i .tuple .payload
 
-      at-version : readAfter tx t k room (storeOf f) ≡ unless (21 when ltb room (length bytes) ∷ []) (storeOf f) (gives (model.filled (length bytes) bytes) (storeOf f))
+      pub read-at : readAfter tx t k room (storeOf f) ≡ replied room (length bytes) bytes (storeOf f)
       unfolding seenAt readSeen
-      at-version =
+      read-at =
           seen-only ∙ ap (λ (z : Seen). readSeen room (seenAt f t z) (storeOf f)) e
-          ∙ ap (λ (z : List ℕ). unless (21 when ltb room (length z) ∷ []) (storeOf f) (gives (model.filled (length z) z) (storeOf f))) (version-payload f t i)
-
-      pub read-21 : room < length (rowIn f i .tuple .payload) → readAfter tx t k room (storeOf f) ≡ gives (model.refused 21) (storeOf f)
-      read-21 l = at-version ∙ refused-here 21 (ltb room (length bytes)) [] _ _ (lt-ltb _ _ l)
-
-      pub read-done : (n : ℕ) → n ≡ length (rowIn f i .tuple .payload) → n ≤ room
-          → readAfter tx t k room (storeOf f) ≡ gives (model.filled n (rowIn f i .tuple .payload)) (storeOf f)
-      read-done n q l =
-          let b : length bytes ≤ room = omega (arith, q, l) in
-          at-version ∙ passed-on 21 (ltb room (length bytes)) [] _ _ (le-ltb room (length bytes) b) ∙ unless-none _ _ ∙ ap (λ (z : ℕ). gives (model.filled z bytes) (storeOf f)) (sym q)
+          ∙ ap (λ (z : List ℕ). replied room (length z) z (storeOf f)) (version-payload f t i)

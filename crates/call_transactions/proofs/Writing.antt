@@ -18,7 +18,7 @@ use Rattle.memory_pages.specs.Spots.{tablePage, tableRow, tableRows, placeIn}
 use Rattle.engine_pages.specs.Pages.{withPages}
 use Rattle.engine_pages.specs.Spots.{tupleBy, PlaceAt}
 use Rattle.call_transactions.specs.Calls.{openIn, WriterAt, NextRow, nextHead, afterCount, AcceptAt}
-use Rattle.call_transactions.proofs.Opens.{found-is, count-is, wrote-is, written-small}
+use Rattle.call_transactions.proofs.Opens.{found-is, count-is, wrote-is}
 
 -- ---- one more
 
@@ -34,14 +34,6 @@ module _ (o : Open) where
   more-full f h =
       let e : o .written ≡ min (suc (o .written)) mostStatement = omega (arith, f .written) in
       ap (λ (z : ℕ). record { transaction = o .transaction; written = z }) e
-
--- the entry that the code reads has its bits
-pub read-fits : {m : List ℕ} {i : ℕ} {o : Open} → WriterAt m i → activeOf o ≡ openIn (flatOf m) i → OpenFits o
-read-fits w e =
-    record {
-      transaction = omega (arith, w .transaction, ap (λ (x : Active). x .transaction) e);
-      written = omega (arith, w .written, ap (λ (x : Active). x .written) e);
-    }
 
 -- ---- the counters
 
@@ -71,16 +63,7 @@ module _ {m m1 m2 : List ℕ} (i : ℕ) where
 
 -- the transaction is open, and a number is left
 pub writer-at : {m : List ℕ} {tx t at k : ℕ} {bs : List ℕ} {i : ℕ} → AcceptAt m tx t at k bs → i ≡ findOpen tx (flatOf m .opens) → WriterAt m i
-writer-at {m} {tx} {i = i} g e =
-    let inside : i < length (flatOf m .opens) = omega (arith, g .opened, e) in
-    let is : openIn (flatOf m) i .transaction ≡ tx = ap (λ (z : ℕ). openIn (flatOf m) z .transaction) e ∙ found-is tx (flatOf m .opens) (g .opened) in
-    record {
-      room = holds-room m (g .has-store);
-      inside = inside;
-      transaction = omega (arith, is, g .transaction);
-      written = written-small m i inside;
-      next = g .next;
-    }
+writer-at {m} g e = record { room = holds-room m (g .has-store); inside = omega (arith, g .opened, e); next = g .next }
 
 same-place : (f : Flat) (i t k : ℕ) → placeIn (afterCount f i) t k ≡ placeIn f t k
 unfolding placeIn tableRows tableRow tablePage

@@ -25,24 +25,10 @@ use Rattle.memory_pages.specs.Spots.{placeIn}
 abbrev pub openIn : Flat → ℕ → Active
 openIn f i = getD (f .opens) i noOpen
 
--- there are n open transactions, and the reply is long enough for their numbers
-pub record ListInto (m : List ℕ) (n : ℕ) (reply : List ℕ) : Type 0 where
-  pub room : Room m
-  pub count : n ≡ length (flatOf m .opens)
-  pub long : 2 * n ≤ length reply
-
--- what crossing does once its other tests are passed: 21 reply too short; else how many keys there are, and the keys
-unfoldable pub keysReply : ℕ → ℕ → ℕ → ℕ → ℕ → Store → Outcome
-keysReply tx t first end room s =
-    let ks = crossingKeys tx t first end (s .pages) in
-    unless (21 when ltb room (4 * length ks) ∷ []) s (gives (filled (length ks) (keyBytes ks)) s)
-
 -- open transaction i may write: there is a number left
 pub record WriterAt (m : List ℕ) (i : ℕ) : Type 0 where
   pub room : Room m
   pub inside : i < length (flatOf m .opens)
-  pub transaction : openIn (flatOf m) i .transaction < transactionLimit
-  pub written : openIn (flatOf m) i .written < statementLimit
   pub next : flatOf m .head .next ≡ 4294967295 → ⊥
 
 -- the row that open transaction i writes next

@@ -1,9 +1,9 @@
 // The reply of crossing. The keys are found into a buffer first, so that a reply which is too short is not written.
 use call_contracts::Answer;
 ghost use lib.ListN.{length};
+ghost use Rattle.model.specs.Crossing.{keysReply};
 ghost use Rattle.call_contracts.specs.Shape.{Replies};
 ghost use Rattle.engine_crossing.specs.Crossing.{KeysAsked, RoomForKeys};
-ghost use Rattle.call_transactions.specs.Calls.{keysReply};
 
 // The bytes of as many keys as a store holds tuples.
 const KEYS_SIZE: usize = 4 * memory_layout::CAPACITY_LIMIT as usize;

@@ -16,19 +16,17 @@ use refusals::call_refusal;
 use refusals::key_refusal;
 ghost use mathlib.Core.Path.{_≡_};
 ghost use mathlib.Core.Bool.{true};
-ghost use mathlib.Core.List.{_++_};
-ghost use Prim.Native.Nat.{_*_, _<_};
-ghost use lib.ListN.{length, drop};
-ghost use Rattle.model.specs.Transactions.{openNumbers, notOpen, oneMore, afterWrite, writeCall, listing, without, openCall, insertCall, replaceCall, deleteCall, commitCall, abortCall, readCall};
+ghost use lib.ListN.{length};
+ghost use Rattle.model.specs.Transactions.{notOpen, oneMore, afterWrite, writeCall, without, openCall, insertCall, replaceCall, deleteCall, commitCall, abortCall, readCall, listCall};
 ghost use Rattle.model.specs.Crossing.{crossingCall};
 ghost use Rattle.model.specs.Recover.{make};
 ghost use Rattle.memory_layout.specs.Flat.{flatOf, Room, Becomes, withOpens};
 ghost use Rattle.memory_layout.specs.Store.{storeIn, storeOf, HoldsNow};
 ghost use Rattle.memory_layout.specs.Opens.{activeOf, OpenFits};
-ghost use Rattle.call_contracts.specs.Shape.{Answers, Replies, Lists, Made};
+ghost use Rattle.call_contracts.specs.Shape.{Answers, Replies, Made};
 ghost use Rattle.call_transactions.specs.Refusals.{refusalIn};
 ghost use Rattle.image.specs.Stages.{refusalOf};
-ghost use Rattle.call_transactions.specs.Calls.{ListInto, WriterAt, NextRow, afterCount, AcceptAt, endCall};
+ghost use Rattle.call_transactions.specs.Calls.{WriterAt, NextRow, afterCount, AcceptAt, endCall};
 
 const BLOCK_SIZE: usize = block_forms::BLOCK_SIZE;
 
@@ -206,23 +204,9 @@ pub fn crossing(
     reply_crossing(m, table as u8, transaction, first, end, reply)
 }
 
-// The numbers of the open transactions, over the first bytes of the reply, high byte first.
-fn fill_list(m: &[u8], n: usize, reply: &mut [u8])
-    requires { ⌜ ListInto (now m) n (now reply) ⌝ }
-    ensures { λ _. ⌜ now (reply .exit) ≡ listing (openNumbers (flatOf (now (m .entry)) .opens)) ++ drop (2 * n) (now (reply .entry)) ⌝ }
-{
-    let mut i: usize = 0;
-    while i < n {
-        let o = memory_layout::get_open(m, i);
-        let t = o.transaction;
-        reply[2 * i] = (t / 256 % 256) as u8;
-        reply[2 * i + 1] = (t % 256) as u8;
-        i += 1;
-    }
-}
-
+// The open transactions by rising number, two bytes each, over the first bytes of the reply.
 pub fn list(m: &[u8], reply: &mut [u8]) -> Answer
-    ensures { λ r. ⌜ Lists (now (m .entry)) r (now (reply .entry)) (now (reply .exit)) ⌝ }
+    ensures { λ r. ⌜ Replies (listCall (length (now (reply .entry)))) (now (m .entry)) r (now (reply .entry)) (now (reply .exit)) ⌝ }
 {
     if !memory_layout::holds_store(m) {
         return Answer::Refused(4);
@@ -231,7 +215,7 @@ pub fn list(m: &[u8], reply: &mut [u8]) -> Answer
     if reply.len() < 2 * n {
         return Answer::Refused(21);
     }
-    fill_list(m, n, reply);
+    engine_opens::fill_list(m, n, reply);
     Answer::Filled(n)
 }
 

@@ -24,7 +24,7 @@ ghost use Rattle.basics.specs.Lists.{removeAt};
 ghost use Rattle.basics.specs.Basics.{oneIf};
 ghost use Rattle.memory_layout.specs.Views.{headOf, countsOf};
 ghost use Rattle.memory_layout.specs.Flat.{flatOf, Room, Replaces, Becomes, withHead, withOpens, withNamed, withDirectories, withUsed, noOpen};
-ghost use Rattle.memory_layout.specs.Opens.{activeOf, findOpen};
+ghost use Rattle.memory_layout.specs.Opens.{activeOf, findOpen, OpenFits};
 ghost use Rattle.memory_layout.specs.Elements.{OpenAt, OpenMore, NamedAt, NamedMore, DirectoryMore};
 ghost use Rattle.memory_layout.specs.Store.{holdsStore, FreshFits, freshFlat, storeIn};
 ghost use Rattle.memory_layout.specs.Places.{headSize, namedAt, refsAt};
@@ -138,7 +138,7 @@ pub fn put_head(m: &mut [u8], h: Head)
 
 pub fn get_open(m: &[u8], i: usize) -> Open
     requires { ⌜ Room (now m) × (i < length (flatOf (now m) .opens)) ⌝ }
-    ensures { λ r. ⌜ activeOf r ≡ getD (flatOf (now (m .entry)) .opens) i noOpen ⌝ }
+    ensures { λ r. ⌜ (activeOf r ≡ getD (flatOf (now (m .entry)) .opens) i noOpen) × OpenFits r ⌝ }
 {
     let w = memory_bytes::get4(m, places::OPENS + i * 4);
     Open {

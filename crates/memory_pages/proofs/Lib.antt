@@ -8,5 +8,4 @@ pub mod Halves
 pub mod Moves
 pub mod Appending
 pub mod Spots
-pub mod Counting
 pub mod Frozen

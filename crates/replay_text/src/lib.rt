@@ -17,37 +17,29 @@ pub fn say_payload(reply: &[u8], n: usize) {
     replay_script::say(b"\n");
 }
 
-fn mark(marks: &mut [u8], high: u8, low: u8) {
-    let t = high as usize * 256 + low as usize;
-    if t < marks.len() {
-        marks[t] = 1;
-    }
+fn say_next(n: u64) {
+    replay_script::say(b" ");
+    replay_script::say_number(n);
 }
 
-// Marks the first n transactions of a listing.
-fn mark_all(marks: &mut [u8], reply: &[u8], n: usize) {
+// The transaction of two bytes, high byte first.
+fn transaction_of(high: u8, low: u8) -> u64 {
+    high as u64 * 256 + low as u64
+}
+
+// The first n transactions of a reply.
+fn say_transactions(reply: &[u8], n: usize) {
     for i in 0..reply.len() / 2 {
         if i < n {
-            mark(marks, reply[2 * i], reply[2 * i + 1]);
+            say_next(transaction_of(reply[2 * i], reply[2 * i + 1]));
         }
     }
 }
 
-fn say_marked(marks: &[u8]) {
-    for t in 0..marks.len() {
-        if marks[t] == 1 {
-            replay_script::say(b" ");
-            replay_script::say_number(t as u64);
-        }
-    }
-}
-
-// A listing may come in any order; it is printed rising.
+// The open transactions, in the order of the reply.
 pub fn say_listing(reply: &[u8], n: usize) {
-    let mut marks = [0u8; block_forms::TRANSACTIONS];
-    mark_all(&mut marks, reply, n);
     replay_script::say_number(n as u64);
-    say_marked(&marks);
+    say_transactions(reply, n);
     replay_script::say(b"\n");
 }
 
@@ -58,17 +50,12 @@ fn key_of(a: u8, b: u8, c: u8, d: u8) -> u64 {
     upper * 65536 + lower
 }
 
-fn say_key(key: u64) {
-    replay_script::say(b" ");
-    replay_script::say_number(key);
-}
-
 // The first n keys of a reply.
 fn say_keys(reply: &[u8], n: usize) {
     for i in 0..reply.len() / 4 {
         if i < n {
             let k = 4 * i;
-            say_key(key_of(reply[k], reply[k + 1], reply[k + 2], reply[k + 3]));
+            say_next(key_of(reply[k], reply[k + 1], reply[k + 2], reply[k + 3]));
         }
     }
 }

@@ -7,14 +7,14 @@ use lib.ListN.{length}
 use Rattle.block_forms.specs.Tuple.{AllBytes}
 use Rattle.image.specs.Stages.{holds}
 use Rattle.model.specs.State.{Store}
-use Rattle.model.specs.Transactions.{readCall}
+use Rattle.model.specs.Transactions.{readCall, listCall}
 use Rattle.model.specs.Crossing.{crossingCall}
 use Rattle.model.specs.Checkpoint.{beginCall, stepCall, runCall}
 use Rattle.model.specs.Calls.{TransactionCall, reads, lists, crossings, transact, noEffect, effect, TypedCall, Call, transacts, begins, steps, runs, afterCalls}
 use Rattle.model.specs.Recover.{memoryFor, imageAfter, make, recover}
 use Rattle.model.specs.CrashRecovery.{log, Cut, Same}
 use Rattle.memory_layout.specs.Store.{storeIn}
-use Rattle.call_contracts.specs.Shape.{Answers, Replies, Lists, Stores, Made, Recovered}
+use Rattle.call_contracts.specs.Shape.{Answers, Replies, Stores, Made, Recovered}
 use Rattle.call_contracts.specs.declared.Answer.{Answer}
 use Rattle.call_contracts.specs.declared.Answer.the-variants.{Done}
 
@@ -41,7 +41,7 @@ pub data Executes : Call → List ℕ → List ℕ → List ℕ → List ℕ →
       → Executes (transacts (reads tx t k (length p))) img m img m
   crossing : {tx t first end : ℕ} {img m : List ℕ} (p p′ : List ℕ) (r : Answer) → Replies (crossingCall tx t first end (length p)) m r p p′
       → Executes (transacts (crossings tx t first end (length p))) img m img m
-  listing : {img m : List ℕ} (p p′ : List ℕ) (r : Answer) → Lists m r p p′ → Executes (transacts (lists (length p))) img m img m
+  listing : {img m : List ℕ} (p p′ : List ℕ) (r : Answer) → Replies (listCall (length p)) m r p p′ → Executes (transacts (lists (length p))) img m img m
   beginning : {img m m′ : List ℕ} (r : Answer) → Answers beginCall m r m′ → Executes begins img m img m′
   stepping : {img m img′ m′ : List ℕ} (r : Answer) → Stores (stepCall (length img)) img m r img′ m′ → Executes (steps (length img)) img m img′ m′
   running : {limit : ℕ} {img m img′ m′ : List ℕ} (r : Answer) → Stores (runCall limit (length img)) img m r img′ m′ → Executes (runs limit (length img)) img m img′ m′

@@ -4,10 +4,10 @@ use call_contracts::Answer;
 ghost use mathlib.Core.Path.{_≡_};
 ghost use lib.IntN.{pos};
 ghost use lib.ListN.{length};
-ghost use Rattle.model.specs.Transactions.{openCall, insertCall, replaceCall, deleteCall, commitCall, abortCall, readCall};
+ghost use Rattle.model.specs.Transactions.{openCall, insertCall, replaceCall, deleteCall, commitCall, abortCall, readCall, listCall};
 ghost use Rattle.model.specs.Crossing.{crossingCall};
 ghost use Rattle.model.specs.Checkpoint.{beginCall, stepCall, runCall};
-ghost use Rattle.call_contracts.specs.Shape.{Answers, Replies, Lists, Stores, Made, Recovered};
+ghost use Rattle.call_contracts.specs.Shape.{Answers, Replies, Stores, Made, Recovered};
 ghost use Rattle.store.specs.Code.{clamped, code, Coded};
 
 // An empty store, in image and memory.
@@ -87,9 +87,9 @@ pub fn crossing(
     call_transactions::crossing(m, transaction, table, first, end, reply)
 }
 
-// The open transactions, over the first bytes of the reply.
+// The open transactions by rising number, over the first bytes of the reply.
 pub fn list(m: &[u8], reply: &mut [u8]) -> Answer
-    ensures { λ r. ⌜ Lists (now (m .entry)) r (now (reply .entry)) (now (reply .exit)) ⌝ }
+    ensures { λ r. ⌜ Replies (listCall (length (now (reply .entry)))) (now (m .entry)) r (now (reply .entry)) (now (reply .exit)) ⌝ }
 {
     call_transactions::list(m, reply)
 }
@@ -236,7 +236,7 @@ pub extern "C" fn vodzanu_crossing(
 
 #[no_mangle]
 pub extern "C" fn vodzanu_list(memory: &[u8], reply: &mut [u8]) -> i64
-    ensures { λ r. ⌜ Coded r (λ a. Lists (now (memory .entry)) a (now (reply .entry)) (now (reply .exit))) ⌝ }
+    ensures { λ r. ⌜ Coded r (λ a. Replies (listCall (length (now (reply .entry)))) (now (memory .entry)) a (now (reply .entry)) (now (reply .exit))) ⌝ }
 {
     code(list(memory, reply))
 }

@@ -2,7 +2,7 @@
 use Rattle.basics.proofs.Kit.{_≡_, sym, ap, _∙_, needs, arith}
 use Rattle.memory_layout.specs.declared.Head.{Head}
 use Rattle.model.specs.Transactions.{oneMore}
-use Rattle.call_transactions.proofs.Writing.{read-fits, next-replaces, same-opens, counted}
+use Rattle.call_transactions.proofs.Writing.{next-replaces, same-opens, counted}
 use Rattle.call_transactions.proofs.count_write.Statement.{statement}
 use Rattle.call_transactions.proofs.count_write.Tie as tie
 
@@ -13,7 +13,7 @@ add-h c = let st = c .before .before .before .before in
     omega (arith, ne)
 
 one-more-requires : tie.Need-one-more-requires
-one-more-requires c κs = read-fits (c .before .before .before .before .before .before .pre) (c .get-open .ensures)
+one-more-requires c κs = c .get-open .ensures .1
 
 put-head-requires : tie.Need-put-head-requires
 put-head-requires c κs = let h = c .before .before .before .before .before in let st = h .before .before .before in
@@ -25,7 +25,7 @@ put-open-requires c κs = let h = c .before .before .before in let st = h .befor
 
 returns : tie.Need-returns
 returns c = let o = c .before .before .before .before .before .before .before .before in let h = o .before .before .before .before in
-    let more = o .one-more .ensures .0 ∙ ap oneMore (o .before .get-open .ensures) in
+    let more = o .one-more .ensures .0 ∙ ap oneMore (o .before .get-open .ensures .0) in
     counted _ (h .get-head .ensures) more (c .before .before .before .before .before .before .put-head .ensures) (c .before .before .put-open .ensures)
 
 pub count-write-spec : {M : Type 1} → statement M

@@ -1,11 +1,11 @@
--- `call_transactions::read` meets its contract: one case for each test (`read-10`, `read-14`, `read-21`), and the payload copied (`read-done`).
+-- `call_transactions::read` meets its contract: one case for each test (`read-10`, `read-14`), and then the payload as reply (`read-at`).
 use Rattle.basics.proofs.Kit.{_≡_, ap, _∙_, true, List, _++_, ℕ, length, drop, needs, arith}
 use Rattle.model.specs.Transactions.{notOpen, readCall}
 use Rattle.memory_layout.specs.Flat.{flatOf, rowIn}
 use Rattle.memory_layout.specs.Store.{holdsStore, storeOf}
 use Rattle.memory_layout.proofs.Laws.{holds-room}
-use Rattle.call_contracts.proofs.Answering.{replies-refused, replies-filled}
-use Rattle.call_transactions.proofs.Reading.{readAfter, read-tests, read-10, read-14, seen-in, read-21, read-done}
+use Rattle.call_contracts.proofs.Answering.{replies-refused, replies-21, replies-with}
+use Rattle.call_transactions.proofs.Reading.{readAfter, read-tests, read-10, read-14, seen-in, read-at}
 use Rattle.call_transactions.proofs.Refusing.{passed-held, call-after, replies-stopped, open-numbered}
 use Rattle.call_transactions.proofs.read.Statement.{statement}
 use Rattle.call_transactions.proofs.read.Tie as tie
@@ -49,9 +49,9 @@ payload-at-requires c κs = let s = c .before .before .before in let e1 = s .bef
 
 returns-4 : tie.Need-returns-4
 returns-4 c = let s = c .before .before .before .before .before in let e1 = s .before .before in let a = start e1 .args in let hd = c .before .payload-at .ensures in
-    replies-refused _ (a .m .now) (a .reply .now) 21 (has-store e1)
-    (opened e1 ∙ read-21 (a .transaction) (a .table) (a .key) (length (a .reply .now)) (flatOf _) (s .before .if2 .left) _ (s .seen-by .ensures) _ (c .before .before .before .i .given .1)
-    (omega (arith, hd .count, c .if3 .taken)))
+    replies-21 _ (a .m .now) (a .reply .now) _ _ (has-store e1)
+    (opened e1 ∙ read-at (a .transaction) (a .table) (a .key) (length (a .reply .now)) (flatOf _) (s .before .if2 .left) _ (s .seen-by .ensures) _ (c .before .before .before .i .given .1))
+    (omega (arith, hd .count, c .if3 .taken))
 
 copy-payload-requires : tie.Need-copy-payload-requires
 copy-payload-requires c κs = let s = c .before .before .before .before .before .before in let e1 = s .before .before in let a = start e1 .args in
@@ -60,15 +60,15 @@ copy-payload-requires c κs = let s = c .before .before .before .before .before 
     record { room = holds-room _ (has-store e1); inside = inside; long = omega (arith, hd .count, c .before .if3 .left) }
 
 returns-5 : tie.Need-returns-5
-returns-5 c = let s = c .before .before .before .before .before .before .before .before .before in let e1 = s .before .before in let a = start e1 .args in
+returns-5 c = let p5 = c .before .before .before .before .before in let i = p5 .before .before .i .given in let s = p5 .before .before .before .before in
+    let e1 = s .before .before in let a = start e1 .args in
     let p : List ℕ = a .reply .now in
-    let hd = c .before .before .before .before .before .payload-at .ensures in let cp = c .before .before .copy-payload .ensures in
-    let bs : List ℕ = rowIn (flatOf (a .m .now)) (c .before .before .before .before .before .before .before .i .given .0 .0) .tuple .payload in
-    replies-filled _ (a .m .now) p _ bs _ (has-store e1)
-    (opened e1 ∙ read-done (a .transaction) (a .table) (a .key) (length p) (flatOf (a .m .now)) (s .before .if2 .left) _ (s .seen-by .ensures) _
-    (c .before .before .before .before .before .before .before .i .given .1) _ (hd .count)
-    (omega (arith, c .before .before .before .before .if3 .left)))
-    (cp .first ∙ ap (λ (z : ℕ). bs ++ drop z p) (cp .count))
+    let hd = p5 .payload-at .ensures in let cp = c .before .before .copy-payload .ensures in
+    let bs : List ℕ = rowIn (flatOf (a .m .now)) (i .0 .0) .tuple .payload in
+    rw (hd .count) (replies-with _ (a .m .now) p _ bs (has-store e1)
+    (opened e1 ∙ read-at (a .transaction) (a .table) (a .key) (length p) (flatOf (a .m .now)) (s .before .if2 .left) _ (s .seen-by .ensures) _ (i .1))
+    (omega (arith, hd .count, c .before .before .before .before .if3 .left)) _
+    (cp .first ∙ ap (λ (z : ℕ). bs ++ drop z p) (cp .count)))
 
 pub read-spec : {M : Type 1} → statement M
 read-spec = tie.close (tie.spec (λ c κs. search needs) returns returns-2 (search needs) seen-by-requires (search needs) (search needs) returns-3 payload-at-requires returns-4

@@ -15,7 +15,7 @@ get4-requires : tie.Need-get4-requires
 get4-requires c κs = omega (arith, known _ (c .before .pre .0))
 
 returns : tie.Need-returns
-returns c = let st = c .before .before in open-at _ _ _ (st .pre .0) (st .pre .1) (c .get4 .ensures)
+returns c = let st = c .before .before in (open-at _ _ _ (st .pre .0) (st .pre .1) (c .get4 .ensures), record { transaction = omega arith; written = omega arith })
 
 pub get-open-spec : {M : Type 1} → statement M
 get-open-spec = tie.close (tie.spec mul-get4 add-get4 get4-requires returns)

@@ -6,7 +6,7 @@ use Rattle.memory_layout.specs.Flat.{flatOf, noEntry}
 use Rattle.memory_layout.proofs.Laws.{entries-length}
 use Rattle.memory_pages.specs.Pages.{dirtyEntry}
 use Rattle.memory_pages.proofs.Ranges.{ranges}
-use Rattle.memory_pages.proofs.Counting.{Counted, counted-start, counted-iteration, counted-end}
+use Rattle.basics.proofs.Counting.{Counted, counted-start, counted-iteration, counted-end}
 use Rattle.memory_pages.proofs.count_dirty.Statement.{statement}
 use Rattle.memory_pages.proofs.count_dirty.Tie as tie
 

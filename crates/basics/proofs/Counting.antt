@@ -1,7 +1,7 @@
--- A count of the pages, turn by turn.
+-- A count of the elements that pass a test, turn by turn.
 use Rattle.basics.proofs.Kit.{_≡_, sym, ap, _∙_, Bool, cond, List, _∷_, ℕ, _+_, _≤_, _<_, add-one, length, drop, getD, drop-of-length-le, drop-cons, arith}
 use Rattle.basics.specs.Basics.{howMany}
 use Rattle.basics.proofs.Froms.{many-cons}
 
 -- k of those before place p pass, and w do in all
 pub record Counted {A : Type 0} (f : A → Bool) (xs : List A) (w k p : ℕ) : Type 0 where
