@@ -1,20 +1,16 @@
 -- A transaction's entry among the open ones: what is found there, written and taken out.
-use Rattle.block_forms.specs.Limits.{statementLimit}
-use Rattle.basics.proofs.Kit.{_≡_, refl, sym, ap, _∙_, true, false, not, List, [], _∷_, ℕ, suc, _+_, _≤_, _<_, length, getD, set, eqb-true, eq-eqb, ne-eqb, eqb-false}
+use Rattle.basics.proofs.Kit.{_≡_, refl, sym, ap, _∙_, true, false, not, List, [], _∷_, ℕ, suc, _≤_, _<_, length, getD, set, eqb-true, eq-eqb, ne-eqb, eqb-false}
 use Rattle.basics.proofs.Kit.{arith}
 use Rattle.basics.specs.Basics.{if_then_else_, any, isIn, keep}
 use Rattle.basics.proofs.Facts.{by}
 use Rattle.model.specs.State.{Active}
 use Rattle.model.specs.Transactions.{isFor, openNumbers, writtenBy, oneMore, withWrite, without}
 use Rattle.basics.proofs.Elements.{in-here, keep-cons, keep-past, in-past}
-use Rattle.basics.specs.Lists.{removeAt, tab}
-use Rattle.basics.proofs.Tabs.{getD-tab}
+use Rattle.basics.specs.Lists.{removeAt}
 use Rattle.basics.proofs.Parts.{removeAt-suc}
 use Rattle.basics.proofs.Firsts.{index-hit, index-pass}
-use Rattle.memory_layout.specs.Views.{openAt, openCount}
-use Rattle.memory_layout.specs.Flat.{flatOf, opensOf, noOpen}
+use Rattle.memory_layout.specs.Flat.{noOpen}
 use Rattle.memory_layout.specs.Opens.{findOpen}
-use Rattle.memory_layout.proofs.Laws.{opens-length}
 
 -- ---- one entry
 

@@ -1,12 +1,12 @@
 -- Read: what it answers by the version that is seen.
-use Rattle.basics.proofs.Kit.{_≡_, sym, ap, _∙_, Option, List, [], _∷_, ℕ, _≤_, _<_, ltb, length, lt-ltb, le-ltb, arith}
+use Rattle.basics.proofs.Kit.{_≡_, sym, ap, _∙_, Option, List, [], _∷_, ℕ, _≤_, _<_, ltb, length, lt-ltb, le-ltb}
 use Rattle.basics.specs.Basics.{if_then_else_}
 use Rattle.basics.proofs.Facts.{by}
 use Rattle.image_rows.specs.Rows.{Row}
 use Rattle.model.specs.State.{Held, Store, Outcome}
 use Rattle.model.specs.Rules.{isCommitting, asCommitted, applied}
 use Rattle.model.specs.Sight.{seen}
-use Rattle.model.specs.Transactions.{_when_, gives, unless, notOpen, noTable, replied, readSeen, readCall}
+use Rattle.model.specs.Transactions.{gives, unless, notOpen, noTable, replied, readSeen, readCall}
 use Rattle.memory_layout.specs.Flat.{Flat, rowIn}
 use Rattle.memory_layout.specs.Store.{storeOf}
 use Rattle.engine_lookup.specs.Lookup.{version, seenAt, Sees, Inside}

@@ -1,16 +1,14 @@
 -- What the functions below a write need and leave; commit and abort as one call.
 use mathlib.Core.Path.{_≡_}
 use mathlib.Core.Bool.{Bool, true, false}
-use mathlib.Core.List.{List, [], _∷_}
-use Prim.Native.Nat.{ℕ, _+_, _*_, _≤_, _<_}
+use mathlib.Core.List.{List}
+use Prim.Native.Nat.{ℕ, _+_, _≤_, _<_}
 use lib.ListN.{length, getD, set}
-use lib.Dec.{ltb}
-use Rattle.block_forms.specs.Limits.{payloadLimit, mostTransaction, statementLimit, transactionLimit}
+use Rattle.block_forms.specs.Limits.{payloadLimit, mostTransaction}
 use Rattle.block_forms.specs.Tuple.{tentative}
-use Rattle.model.specs.State.{Active, Store, filled, Outcome}
+use Rattle.model.specs.State.{Active, Store, Outcome}
 use Rattle.model.specs.Rules.{place}
-use Rattle.model.specs.Transactions.{_when_, gives, unless, oneMore, commitCall, abortCall}
-use Rattle.model.specs.Crossing.{crossingKeys, keyBytes}
+use Rattle.model.specs.Transactions.{oneMore, commitCall, abortCall}
 use Rattle.memory_layout.specs.Flat.{Flat, flatOf, Room, withHead, withOpens, noOpen}
 use Rattle.memory_layout.specs.Store.{holdsStore}
 use Rattle.memory_layout.specs.Opens.{findOpen}

@@ -7,7 +7,7 @@ use Rattle.memory_layout.specs.Flat.{Flat, flatOf}
 use Rattle.memory_layout.specs.Store.{holdsStore, storeOf}
 use Rattle.memory_layout.proofs.Laws.{known, holds-room}
 use Rattle.engine_opens.proofs.Listing.{length-listing}
-use Rattle.engine_opens.proofs.Ranks.{length-numbers}
+use Rattle.engine_opens.proofs.Opened.{length-numbers}
 use Rattle.call_contracts.proofs.Answering.{replies-4, replies-21, replies-with}
 use Rattle.call_transactions.proofs.list.Statement.{statement}
 use Rattle.call_transactions.proofs.list.Tie as tie
