@@ -1,5 +1,6 @@
 -- One turn of each search and test along a list, whose head is known; and the lists' heads: what is left of a list, and a list by its index.
-use Rattle.basics.proofs.Kit.{_≡_, refl, sym, ap, _∙_, Bool, true, false, _&&_, List, [], _∷_, ℕ, zero, suc, _+_, _≤_, _<_, _-_, add-one, length, drop, getD, drop-of-length-le, drop-cons, arith}
+use Rattle.basics.proofs.Kit.{_≡_, refl, sym, ap, _∙_, Bool, true, false, _&&_, List, [], _∷_, ℕ, zero, suc, _+_, _≤_, _<_, _-_}
+use Rattle.basics.proofs.Kit.{add-one, length, drop, getD, drop-of-length-le, drop-cons, arith}
 use Rattle.basics.specs.Basics.{if_then_else_, any, all, paired, howMany}
 use Rattle.basics.specs.Lists.{tab}
 use Rattle.basics.proofs.Searches.{tab-next}

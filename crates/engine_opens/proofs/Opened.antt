@@ -1,11 +1,12 @@
 -- The numbers of open transactions, and whether numbers are in order.
-use Rattle.basics.proofs.Kit.{_≡_, sym, ap, _∙_, Bool, true, _&&_, List, [], _∷_, ℕ, _+_, _-_, _≤_, _<_, leb, length, getD, length-map, List·getD-map, leb-true, eqb, eqb-true, eqb-false, set, getD-set-same, getD-set-other, arith}
+use Rattle.basics.proofs.Kit.{_≡_, sym, ap, _∙_, Bool, true, _&&_, List, [], _∷_, ℕ, _+_, _-_, _≤_, _<_}
+use Rattle.basics.proofs.Kit.{leb, length, getD, length-map, List·getD-map, leb-true, eqb, eqb-true, eqb-false, set, getD-set-same, getD-set-other, arith}
 use Rattle.basics.specs.Basics.{paired, sorted}
 use Rattle.basics.specs.Lists.{tab}
 use Rattle.basics.proofs.Facts.{by}
 use Rattle.basics.proofs.Numbers.{less-than}
 use Rattle.basics.proofs.Ands.{and-assoc, and-yes}
-use Rattle.basics.proofs.Elements.{Pairs, all-map}
+use Rattle.basics.proofs.Elements.{all-map}
 use Rattle.basics.proofs.Lists.{paired-tail}
 use Rattle.basics.proofs.Tabs.{tab-self}
 use Rattle.basics.proofs.Iterations.{pair-and, pair-end}
