@@ -53,8 +53,9 @@ module _ (tx t k room : ℕ) (f : Flat) where
       abbrev bytes : List ℕ
       bytes = rowIn f i .tuple .payload
 
-      pub read-at : readAfter tx t k room (storeOf f) ≡ replied room (length bytes) bytes (storeOf f)
+      -- the payload as reply
+      pub read-at : {n : ℕ} → n ≡ length bytes → readAfter tx t k room (storeOf f) ≡ replied room n bytes (storeOf f)
       unfolding seenAt readSeen
-      read-at =
+      read-at q =
           seen-only ∙ ap (λ (z : Seen). readSeen room (seenAt f t z) (storeOf f)) e
-          ∙ ap (λ (z : List ℕ). replied room (length z) z (storeOf f)) (version-payload f t i)
+          ∙ ap (λ (z : List ℕ). replied room (length z) z (storeOf f)) (version-payload f t i) ∙ ap (λ (z : ℕ). replied room z bytes (storeOf f)) (sym q)

@@ -50,7 +50,7 @@ payload-at-requires c κs = let s = c .before .before .before in let e1 = s .bef
 returns-4 : tie.Need-returns-4
 returns-4 c = let s = c .before .before .before .before .before in let e1 = s .before .before in let a = start e1 .args in let hd = c .before .payload-at .ensures in
     replies-21 _ (a .m .now) (a .reply .now) _ _ (has-store e1)
-    (opened e1 ∙ read-at (a .transaction) (a .table) (a .key) (length (a .reply .now)) (flatOf _) (s .before .if2 .left) _ (s .seen-by .ensures) _ (c .before .before .before .i .given .1))
+    (opened e1 ∙ read-at (a .transaction) (a .table) (a .key) (length (a .reply .now)) (flatOf _) (s .before .if2 .left) _ (s .seen-by .ensures) _ (c .before .before .before .i .given .1) (hd .count))
     (omega (arith, hd .count, c .if3 .taken))
 
 copy-payload-requires : tie.Need-copy-payload-requires
@@ -65,10 +65,9 @@ returns-5 c = let p5 = c .before .before .before .before .before in let i = p5 .
     let p : List ℕ = a .reply .now in
     let hd = p5 .payload-at .ensures in let cp = c .before .before .copy-payload .ensures in
     let bs : List ℕ = rowIn (flatOf (a .m .now)) (i .0 .0) .tuple .payload in
-    rw (hd .count) (replies-with _ (a .m .now) p _ bs (has-store e1)
-    (opened e1 ∙ read-at (a .transaction) (a .table) (a .key) (length p) (flatOf (a .m .now)) (s .before .if2 .left) _ (s .seen-by .ensures) _ (i .1))
-    (omega (arith, hd .count, c .before .before .before .before .if3 .left)) _
-    (cp .first ∙ ap (λ (z : ℕ). bs ++ drop z p) (cp .count)))
+    replies-with _ (a .m .now) p _ bs (has-store e1)
+    (opened e1 ∙ read-at (a .transaction) (a .table) (a .key) (length p) (flatOf (a .m .now)) (s .before .if2 .left) _ (s .seen-by .ensures) _ (i .1) (hd .count))
+    (omega (arith, hd .count, c .before .before .before .before .if3 .left)) _ (cp .first ∙ ap (λ (z : ℕ). bs ++ drop z p) (cp .count))
 
 pub read-spec : {M : Type 1} → statement M
 read-spec = tie.close (tie.spec (λ c κs. search needs) returns returns-2 (search needs) seen-by-requires (search needs) (search needs) returns-3 payload-at-requires returns-4
