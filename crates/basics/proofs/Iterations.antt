@@ -1,6 +1,5 @@
 -- One turn of each search and test along a list, whose head is known; and the lists' heads: what is left of a list, and a list by its index.
-use Rattle.basics.proofs.Kit.{_≡_, refl, sym, ap, _∙_, Bool, true, false, _&&_, List, [], _∷_, ℕ, zero, suc, _+_, _≤_, _<_, _-_}
-use Rattle.basics.proofs.Kit.{add-one, length, drop, getD, drop-of-length-le, drop-cons, arith}
+use Rattle.basics.proofs.Kit.{_≡_, sym, ap, _∙_, Bool, true, false, List, [], _∷_, ℕ, suc, _+_, _≤_, _<_, _-_, add-one, length, drop, getD, drop-of-length-le, drop-cons, arith}
 use Rattle.basics.specs.Basics.{if_then_else_, any, all, paired, howMany}
 use Rattle.basics.specs.Lists.{tab}
 use Rattle.basics.proofs.Searches.{tab-next}
@@ -44,6 +43,15 @@ module _ {A : Type 0} (f : A → Bool) {x : A} {xs l : List A} (e : l ≡ x ∷ 
   unfolding howMany if_then_else_
   count-not t = rw (e, t)
 
+module _ {A : Type 0} (f : A → A → Bool) {x y : A} {xs l : List A} (e : l ≡ x ∷ y ∷ xs) where
+  pub pair-yes : f x y ≡ true → paired f l ≡ paired f (y ∷ xs)
+  unfolding paired
+  pair-yes t = rw (e, t)
+
+  pub pair-not : f x y ≡ false → paired f l ≡ false
+  unfolding paired
+  pair-not t = rw (e, t)
+
 -- ---- ends
 
 module _ {A : Type 0} (f : A → Bool) {l : List A} (e : l ≡ []) where
@@ -66,23 +74,12 @@ module _ {A : Type 0} (f : A → A → Bool) (g : ℕ → A) (i n : ℕ) (low : 
       let e : i - 1 + 1 ≡ i = omega arith in
       tab-next g (i - 1) n (omega arith) ∙ rw e (ap (λ (l : List A). g (i - 1) ∷ l) (tab-next g i n h))
 
-  -- the pair at i, and those behind it
-  pub pair-and : i < n → paired f (tab g (i - 1) (n - (i - 1))) ≡ (f (g (i - 1)) (g i) && paired f (tab g i (n - i)))
-  unfolding paired
-  pair-and h = ap (paired f) (two h) ∙ ap (λ (l : List A). f (g (i - 1)) (g i) && paired f l) (sym (tab-next g i n h))
-
   pub pair-iteration : i < n → f (g (i - 1)) (g i) ≡ true → paired f (tab g (i - 1) (n - (i - 1))) ≡ paired f (tab g i (n - i))
-  pair-iteration h t = pair-and h ∙ rw t
+  pair-iteration h t = pair-yes f (two h) t ∙ ap (paired f) (sym (tab-next g i n h))
 
   pub pair-stop : i < n → f (g (i - 1)) (g i) ≡ false → paired f (tab g (i - 1) (n - (i - 1))) ≡ false
-  pair-stop h t = pair-and h ∙ rw t
+  pair-stop h t = pair-not f (two h) t
 
-  -- one number, or none, has no neighbour
-  pair-none : (j k : ℕ) → k ≤ 1 → paired f (tab g j k) ≡ true
+  pub pair-end : n ≡ i → paired f (tab g (i - 1) (n - (i - 1))) ≡ true
   unfolding paired
-  pair-none j zero h = refl
-  pair-none j (suc zero) h = refl
-  pair-none j (suc (suc k)) h = absurd (omega (arith, h))
-
-  pub pair-end : n ≤ i → paired f (tab g (i - 1) (n - (i - 1))) ≡ true
-  pair-end h = pair-none (i - 1) (n - (i - 1)) (omega (arith, h))
+  pair-end e = let m : n - (i - 1) ≡ 1 = omega arith in rw m

@@ -4,6 +4,9 @@ use Rattle.basics.proofs.Kit.{set, length-append, length-drop, length-t
 use Rattle.basics.proofs.Kit.{take-append-seam, drop-append-add, drop-append-le, drop-length, take-nil, take-length, take-set-le, drop-set-lt, take-take, drop-nil, set-append-left, arith}
 use Rattle.basics.specs.Lists.{insertAt, removeAt}
 use Rattle.basics.proofs.Kit.{_*_, getD, take-suc-set, take-suc, getD-drop, add-one, drop-cons, set-at}
+use Rattle.basics.proofs.Kit.{subst, eqb, eqb-true, eqb-false, getD-set-same, getD-set-other}
+use Rattle.basics.proofs.Facts.{by}
+use Rattle.basics.proofs.Numbers.{less-than}
 
 module _ {A : Type 0} where
   pub removeAt-suc : (i : ℕ) (x : A) (xs : List A) → removeAt (suc i) (x ∷ xs) ≡ x ∷ removeAt i xs
@@ -192,3 +195,10 @@ parts xs a e h =
 
 pub last-index : {A : Type 0} (xs : List A) (y : A) → length (xs ++ y ∷ []) - 1 ≡ length xs
 last-index xs y = omega (arith, length-append xs (y ∷ []))
+
+-- a list put index by index: what holds of the first i elements holds of one more
+pub put-next : (P : ℕ → ℕ → Type 0) (out : List ℕ) (i : ℕ) {x : ℕ} → i < length out → P i x → ((j : ℕ) → j < i → P j (getD out j 0)) → (j : ℕ) → j < i + 1 → P j (getD (set out i x) j 0)
+put-next P out i {x} h here before j b =
+    by (eqb j i)
+    (λ t. subst (λ (z : ℕ). P z (getD (set out i x) z 0)) (sym (eqb-true j i t)) (subst (P i) (sym (getD-set-same out i x 0 h)) here))
+    (λ t. let n = eqb-false j i t in subst (P j) (sym (getD-set-other out i j x 0 n)) (before j (less-than (omega (arith, b)) n)))

@@ -192,27 +192,29 @@ module _ {A : Type 0} (f : A → Bool) (g : ℕ → A) (i n k : ℕ) {w : ℕ} (
 
 -- ---- neighbours: w is the answer, ok that of the pairs below i
 
-module _ {A : Type 0} (f : A → A → Bool) (g : ℕ → A) (i n : ℕ) (ok : Bool) {w : Bool} (p : w ≡ (ok && paired f (tab g i (n - i + 1)))) where
-  pub paired-iteration : {x y : A} → i < n → x ≡ g i → y ≡ g (i + 1) → w ≡ ((ok && f x y) && paired f (tab g (i + 1) (n - (i + 1) + 1)))
+module _ {A : Type 0} (f : A → A → Bool) (g : ℕ → A) (i n : ℕ) (ok : Bool) {w : Bool} (p : w ≡ (ok && paired f (tab g i (n - i)))) where
+  pub paired-iteration : {x y : A} → i + 1 < n → x ≡ g i → y ≡ g (i + 1) → w ≡ ((ok && f x y) && paired f (tab g (i + 1) (n - (i + 1))))
   unfolding paired
   paired-iteration {x} {y} h e1 e2 =
-      let q : n - i + 1 ≡ suc (suc (n - (i + 1))) = omega arith in
-      let q2 : n - (i + 1) + 1 ≡ suc (n - (i + 1)) = omega arith in
-      let q3 : suc i ≡ i + 1 = omega arith in
-      let a : tab g (i + 1) (n - (i + 1) + 1) ≡ tab g (i + 1) (suc (n - (i + 1))) = ap (tab g (i + 1)) q2 in
-      p ∙ ap (λ (k : ℕ). ok && paired f (tab g i k)) q
-      ∙ ap (λ (k : ℕ). ok && (f (g i) (g k) && paired f (tab g k (suc (n - (i + 1)))))) q3
-      ∙ ap (λ (z : List A). ok && (f (g i) (g (i + 1)) && paired f z)) (sym a)
-      ∙ ap (λ (z : A). ok && (f z (g (i + 1)) && paired f (tab g (i + 1) (n - (i + 1) + 1)))) (sym e1)
-      ∙ ap (λ (z : A). ok && (f x z && paired f (tab g (i + 1) (n - (i + 1) + 1)))) (sym e2)
-      ∙ sym (and-assoc ok (f x y) (paired f (tab g (i + 1) (n - (i + 1) + 1))))
+      let rest = tab g (i + 1) (n - (i + 1)) in
+      let two : rest ≡ g (i + 1) ∷ tab g (i + 1 + 1) (n - (i + 1 + 1)) = tab-next g (i + 1) n h in
+      p ∙ ap (λ (l : List A). ok && paired f l) (tab-next g i n (omega arith))
+      ∙ ap (λ (l : List A). ok && paired f (g i ∷ l)) two ∙ ap (λ (l : List A). ok && (f (g i) (g (i + 1)) && paired f l)) (sym two)
+      ∙ ap (λ (z : A). ok && (f z (g (i + 1)) && paired f rest)) (sym e1) ∙ ap (λ (z : A). ok && (f x z && paired f rest)) (sym e2)
+      ∙ sym (and-assoc ok (f x y) (paired f rest))
 
-  pub paired-end : n ≤ i → ok ≡ w
+  -- one number, or none, has no neighbour
+  paired-none : (k : ℕ) → k ≤ 1 → paired f (tab g i k) ≡ true
   unfolding paired
-  paired-end h = let q : n - i + 1 ≡ 1 = omega arith in sym (p ∙ ap (λ (k : ℕ). ok && paired f (tab g i k)) q ∙ and-yes ok)
+  paired-none zero h = refl
+  paired-none (suc zero) h = refl
+  paired-none (suc (suc k)) h = absurd (omega (arith, h))
 
-pub paired-start : {A : Type 0} (f : A → A → Bool) (g : ℕ → A) (n : ℕ) → paired f (tab g 0 (n + 1)) ≡ paired f (tab g 0 (n - 0 + 1))
-paired-start f g n = let e : n + 1 ≡ n - 0 + 1 = omega arith in ap (λ (z : ℕ). paired f (tab g 0 z)) e
+  pub paired-end : n ≤ i + 1 → ok ≡ w
+  paired-end h = sym (p ∙ ap (λ (z : Bool). ok && z) (paired-none (n - i) (omega (arith, h))) ∙ and-yes ok)
+
+pub paired-start : {A : Type 0} (f : A → A → Bool) (g : ℕ → A) (n : ℕ) → paired f (tab g 0 n) ≡ paired f (tab g 0 (n - 0))
+paired-start f g n = let e : n ≡ n - 0 = omega arith in ap (λ (z : ℕ). paired f (tab g 0 z)) e
 
 -- ---- tests by index
 

@@ -105,6 +105,10 @@ tab-self xs =
     (λ i h. tab-at (λ k. getD xs k 0) (length xs) i 0 (omega (arith, length-tab (λ k. getD xs k 0) 0 (length xs))))
 
 -- one more element
+-- a list that has g at each of its indices
+pub tab-is : (g : ℕ → ℕ) (xs : List ℕ) (n : ℕ) → length xs ≡ n → ((j : ℕ) → j < n → getD xs j 0 ≡ g j) → xs ≡ tab g 0 n
+tab-is g xs n l h = sym (tab-self xs) ∙ ap (tab (λ k. getD xs k 0) 0) l ∙ tab-same _ g 0 n (λ k a b. h k (omega (arith, b)))
+
 pub tab-push : {A : Type 0} (f g : ℕ → A) (n : ℕ) (x : A) → g n ≡ x → ((j : ℕ) → j < n → g j ≡ f j) → tab g 0 (n + 1) ≡ tab f 0 n ++ x ∷ []
 tab-push f g n x here other =
     let a : tab g 0 n ≡ tab f 0 n = tab-cong g f 0 0 n (λ k q. other (0 + k) (omega arith)) in
