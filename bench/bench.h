@@ -66,6 +66,7 @@ struct sqlite3 *new_database(void);
 
 void crossing_table(void);
 void list_table(void);
+void split_table(void);
 void checkpoint_tables(void);
 
 #endif

@@ -1,5 +1,5 @@
 /* What a user does, on our store, LMDB and SQLite in turn in one process: transactions of five calls, aborts, commits of many rows, then
- * bookings that cross an interval (crossing.c), checkpoints and recovery (checkpoint.c). Prints markdown. `bench/run.sh` builds and runs it.
+ * bookings that cross an interval (crossing.c), listings (list.c), splits (split.c), checkpoints and recovery (checkpoint.c). Prints markdown. `bench/run.sh` builds and runs it.
  * A figure is the least of the rounds' means, in nanoseconds, less the time of reading the clock. Every answer is checked. */
 #include <string.h>
 #include "bench.h"
@@ -167,6 +167,7 @@ int main(void) {
     for_each_shape(CAPACITY_LIMIT, commits);
     crossing_table();
     list_table();
+    split_table();
     checkpoint_tables();
     return 0;
 }

@@ -1,6 +1,6 @@
--- A function or a test over every element: of lists joined, at an index, weakened; a list that may be missing behind another.
-use Rattle.basics.proofs.Kit.{_≡_, refl, sym, ap, Bool, true, _&&_, some, none, Option, Option·map, List, [], _∷_, _++_, append-assoc, map, ℕ, suc, _<_, length, getD}
-use Rattle.basics.specs.Basics.{AllOf, all, paired}
+-- A function or a test over every element: of lists joined, at an index, weakened; sums over first elements; a list that may be missing behind another.
+use Rattle.basics.proofs.Kit.{_≡_, refl, sym, ap, Bool, true, _&&_, some, none, Option, Option·map, List, [], _∷_, _++_, append-assoc, map, ℕ, zero, suc, _+_, _≤_, _<_, length, getD, take}
+use Rattle.basics.specs.Basics.{AllOf, all, paired, sum}
 use Rattle.basics.proofs.Ands.{and-assoc}
 use Rattle.basics.proofs.Elements.{Pairs, all-at, all-map, all-true, all-split}
 use Rattle.basics.proofs.Kit.{arith}
@@ -27,6 +27,22 @@ module _ {A : Type 0} where
   unfolding all
   all-join f [] ys = refl
   all-join f (x ∷ xs) ys = rw (all-join f xs ys, and-assoc)
+
+-- the sum over the first k elements: with the next, and over more of them
+module _ {A : Type 0} (f : A → ℕ) where
+  pub sum-take-next : (xs : List A) (k : ℕ) → sum f (take (suc k) xs) ≡ sum f (take k xs) + getD (map f xs) k 0
+  unfolding sum
+  sum-take-next [] zero = refl
+  sum-take-next [] (suc k) = refl
+  sum-take-next (x ∷ xs) zero = omega arith
+  sum-take-next (x ∷ xs) (suc k) = omega (arith, sum-take-next xs k)
+
+  pub sum-take-more : (xs : List A) (j k : ℕ) → j ≤ k → sum f (take j xs) ≤ sum f (take k xs)
+  unfolding sum
+  sum-take-more xs zero k h = omega arith
+  sum-take-more xs (suc j) zero h = absurd (omega arith)
+  sum-take-more [] (suc j) (suc k) h = omega arith
+  sum-take-more (x ∷ xs) (suc j) (suc k) h = omega (arith, sum-take-more xs j k (omega arith))
 
 -- a list that may be missing, behind another
 module _ {A : Type 0} where

@@ -1,6 +1,7 @@
 pub mod Views
 pub mod Owners
 pub mod Splits
+pub mod Dividing
 pub mod RuleCases
 pub mod Shown
 pub mod Moves

@@ -1,5 +1,6 @@
 pub mod State
 pub mod Rules
+pub mod Dividing
 pub mod Sight
 pub mod Transactions
 pub mod Crossing
