@@ -1,8 +1,8 @@
 -- A function or a test over every element: of lists joined, at an index, weakened; sums over first elements; a list that may be missing behind another.
-use Rattle.basics.proofs.Kit.{_≡_, refl, sym, ap, Bool, true, _&&_, some, none, Option, Option·map, List, [], _∷_, _++_, append-assoc, map, ℕ, zero, suc, _+_, _≤_, _<_, length, getD, take}
+use Rattle.basics.proofs.Kit.{_≡_, refl, sym, ap, _∙_, Bool, true, _&&_, some, none, Option, Option·map, List, [], _∷_, _++_, append-assoc, map, ℕ, zero, suc, _+_, _≤_, _<_, length, getD, take, drop, take-append-drop}
 use Rattle.basics.specs.Basics.{AllOf, all, paired, sum}
 use Rattle.basics.proofs.Ands.{and-assoc}
-use Rattle.basics.proofs.Elements.{Pairs, all-at, all-map, all-true, all-split}
+use Rattle.basics.proofs.Elements.{Pairs, all-at, all-map, all-true, all-split, sum-append}
 use Rattle.basics.proofs.Kit.{arith}
 use Rattle.basics.proofs.Facts.{and-true}
 
@@ -28,7 +28,7 @@ module _ {A : Type 0} where
   all-join f [] ys = refl
   all-join f (x ∷ xs) ys = rw (all-join f xs ys, and-assoc)
 
--- the sum over the first k elements: with the next, and over more of them
+-- the sum over the first k elements: with the next, with all others, and over more of them
 module _ {A : Type 0} (f : A → ℕ) where
   pub sum-take-next : (xs : List A) (k : ℕ) → sum f (take (suc k) xs) ≡ sum f (take k xs) + getD (map f xs) k 0
   unfolding sum
@@ -36,6 +36,9 @@ module _ {A : Type 0} (f : A → ℕ) where
   sum-take-next [] (suc k) = refl
   sum-take-next (x ∷ xs) zero = omega arith
   sum-take-next (x ∷ xs) (suc k) = omega (arith, sum-take-next xs k)
+
+  pub sum-parts : (k : ℕ) (xs : List A) → sum f (take k xs) + sum f (drop k xs) ≡ sum f xs
+  sum-parts k xs = sym (sum-append f (take k xs) (drop k xs)) ∙ ap (sum f) (take-append-drop k xs)
 
   pub sum-take-more : (xs : List A) (j k : ℕ) → j ≤ k → sum f (take j xs) ≤ sum f (take k xs)
   unfolding sum

@@ -19,7 +19,7 @@ use Rattle.memory_rows.specs.declared.Pending.{Pending}
 use Rattle.memory_rows.specs.declared.Row.{Row}
 use Rattle.memory_pages.specs.Pages.{dirty, withCount, moreRows, EntriesBecome, RowsBecome, setBlock}
 use Rattle.engine_pages.specs.Pages.{PagesNow, pagesOf, pageAt, tuplesAt, entryOf, firstRow, There, swapped}
-use Rattle.engine_pages.specs.Changes.{Dirty, Halved}
+use Rattle.engine_pages.specs.Changes.{Dirty}
 use Rattle.engine_pages.specs.Spots.{tupleBy, placedOn, NewTuple, GrowAt, AddAt}
 use Rattle.engine_pages.proofs.Places.{now-to, now-again, now-becomes, counted, full, page-end, first-there, first-page, still-there}
 use Rattle.engine_pages.proofs.Rows.{becomes-to, now-dirty}
@@ -116,11 +116,11 @@ module _ {m : List ℕ} {p at : ℕ} {row : Row} {xs : List ℕ} (g : GrowAt m p
       pub grew-dirty : Dirty (pageAt m2 p)
       grew-dirty = dirty-fresh (pageAt m2 p) _ _ grew-page
 
-      pub grew : pageAt m p .frozen ≡ false → {m3 : List ℕ} {r : ℕ} → Halved m2 m3 p r
+      pub grew : pageAt m p .frozen ≡ false → {m3 : List ℕ} → PagesNow m2 m3 (swapped p (map (fresh (pageAt m2 p .table)) (splitOnce (tuplesAt m2 p))) (pagesOf m2))
           → PagesNow m m3 (swapped p (placedOn (tupleBy row xs) (at - firstRow m p) (pageAt m p)) (pagesOf m))
       unfolding fresh
-      grew z {m3} {r} h =
-          now-to (now-again grow-there new _ came (h .pages))
+      grew z h =
+          now-to (now-again grow-there new _ came h)
           (ap (λ (y : List Page). swapped p y (pagesOf m))
           (ap (λ (y : Page). map (fresh (y .table)) (splitOnce (y .tuples))) grew-page ∙ sym (grown-split (pageAt m p) x j z)))
 

@@ -1,5 +1,4 @@
 pub mod Places
-pub mod Sizes
 pub mod Around
 pub mod Rows
 pub mod Splitting

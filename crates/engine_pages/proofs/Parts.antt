@@ -1,34 +1,24 @@
 -- A page split, and its parts again.
-use Rattle.basics.proofs.Kit.{_≡_, refl, sym, ap, _∙_, true, false, List, [], _∷_, _++_, map, ℕ, suc, _+_, _≤_, _<_, zero, _-_, length, take, drop, length-drop, length-take-le, leb-false}
+use Rattle.basics.proofs.Kit.{_≡_, refl, sym, ap, _∙_, true, false, List, [], _∷_, _++_, map, ℕ, suc, _+_, _≤_, _<_, zero, _-_, length, take, drop, length-drop, length-take-le}
 use Rattle.basics.proofs.Kit.{arith}
 use Rattle.basics.specs.Basics.{sum}
 use Rattle.basics.proofs.Facts.{AllOf, by}
-use Rattle.basics.proofs.Lists.{map-append}
+use Rattle.basics.proofs.Lists.{map-append, sum-parts}
 use Rattle.block_forms.specs.Limits.{recordSpace}
 use Rattle.model.specs.State.{Held, Page}
 use Rattle.model.specs.Rules.{heldSize, fits, half, splitDeep, splitAll, fresh}
 use Rattle.model.proofs.Splits.{Small, half-between}
 use Rattle.basics.proofs.Elements.{all-take, all-drop}
 use Rattle.engine_pages.specs.Pages.{PagesNow, pagesOf, pageAt, tuplesAt, entryOf, There, swapped}
-use Rattle.engine_pages.specs.Changes.{Dirty, Halved}
+use Rattle.engine_pages.specs.Changes.{TooLarge, Halved, OfSize}
 use Rattle.engine_pages.proofs.Places.{now-to, now-then, now-pages, swap-first, swap-second, first-there, first-page, second-there, second-page, many}
-use Rattle.basics.proofs.Numbers.{pos-of}
-use Rattle.engine_pages.proofs.Splitting.{once-whole, once-parts, dirty-fresh, tuples-small}
+use Rattle.engine_pages.proofs.Splitting.{deep-fits, once-parts, dirty-fresh, big, tuples-small}
 
 -- ---- how deep is enough
-
-deep-fits : (d : ℕ) (hs : List Held) → fits hs ≡ true → splitDeep d hs ≡ hs ∷ []
-unfolding splitDeep
-deep-fits zero hs e = refl
-deep-fits (suc d) hs e = rw (e, splitDeep) refl
 
 deep-parts : (d : ℕ) (hs : List Held) → fits hs ≡ false → splitDeep (suc d) hs ≡ splitDeep d (take (half hs) hs) ++ splitDeep d (drop (half hs) hs)
 unfolding splitDeep
 deep-parts d hs e = rw (e, splitDeep) refl
-
-big : (hs : List Held) → fits hs ≡ false → recordSpace < sum heldSize hs
-unfolding fits
-big hs e = leb-false (sum heldSize hs) recordSpace e
 
 big-some : (hs : List Held) → recordSpace < sum heldSize hs → 0 < length hs
 unfolding sum
@@ -51,10 +41,6 @@ deep-same (suc d) (suc e) hs ld le s =
     ∙ (λ i. deep-same d e (take k hs) (omega arith) (omega arith) (all-take Small k hs s) i ++ deep-same d e (drop k hs) (omega arith) (omega arith) (all-drop Small k hs s) i)
     ∙ sym (deep-parts e hs t))
 
-pub all-whole : (hs : List Held) → fits hs ≡ true → splitAll hs ≡ hs ∷ []
-unfolding splitAll
-all-whole hs e = deep-fits (length hs) hs e
-
 -- each part is split as a whole
 pub all-parts : (hs : List Held) → fits hs ≡ false → AllOf Small hs → splitAll hs ≡ splitAll (take (half hs) hs) ++ splitAll (drop (half hs) hs)
 unfolding splitAll
@@ -73,88 +59,91 @@ all-parts hs t s =
 
 -- ---- on the memory
 
-module _ {m m1 : List ℕ} {p : ℕ} (a : There m p) {k : ℕ} (h : Halved m m1 p k) where
+module _ {m m1 : List ℕ} {p : ℕ} (b : TooLarge m p) {r : ℕ} (h : Halved m m1 p r) where
   abbrev t : ℕ
   t = pageAt m p .table
 
   abbrev hs : List Held
   hs = tuplesAt m p
 
-  pub split-whole : k ≡ 0 → PagesNow m m1 (swapped p (map (fresh (pageAt m p .table)) (splitAll (tuplesAt m p))) (pagesOf m))
-  split-whole z =
-      now-to (h .pages) (ap (λ (x : List Page). swapped p x (pagesOf m)) (once-whole t hs (h .whole z) ∙ ap (map (fresh t)) (sym (all-whole hs (h .whole z)))))
+  abbrev k : ℕ
+  k = half (tuplesAt m p)
 
-  module _ (ne : k ≡ 0 → ⊥) where
-    abbrev q : Page
-    q = fresh (pageAt m p .table) (take k (tuplesAt m p))
+  abbrev first : Page
+  first = fresh (pageAt m p .table) (take (half (tuplesAt m p)) (tuplesAt m p))
 
-    abbrev r : Page
-    r = fresh (pageAt m p .table) (drop k (tuplesAt m p))
+  abbrev second : Page
+  second = fresh (pageAt m p .table) (drop (half (tuplesAt m p)) (tuplesAt m p))
 
-    k-is : k ≡ half (tuplesAt m p)
-    k-is = h .parts ne .1 .0
+  between : (0 < half (tuplesAt m p)) × (half (tuplesAt m p) < length (tuplesAt m p))
+  between = half-between hs (tuples-small (b .there)) (big hs (b .large))
 
-    two : PagesNow m m1 (swapped p (fresh (pageAt m p .table) (take k (tuplesAt m p)) ∷ fresh (pageAt m p .table) (drop k (tuplesAt m p)) ∷ []) (pagesOf m))
-    two =
-        now-to (h .pages) (ap (λ (x : List Page). swapped p x (pagesOf m))
-        (once-parts t hs (h .parts ne .0) ∙ ap (λ (z : ℕ). fresh t (take z hs) ∷ fresh t (drop z hs) ∷ []) (sym k-is)))
+  two : PagesNow m m1 (swapped p (fresh (pageAt m p .table) (take (half (tuplesAt m p)) (tuplesAt m p)) ∷ fresh (pageAt m p .table) (drop (half (tuplesAt m p)) (tuplesAt m p)) ∷ []) (pagesOf m))
+  two = now-to (h .pages) (ap (λ (x : List Page). swapped p x (pagesOf m)) (once-parts t hs (b .large)))
 
-    first-long : length (take k (tuplesAt m p)) ≡ k
-    first-long = length-take-le k hs (omega (arith, h .parts ne .1 .1))
+  second-at : There m1 (p + 1)
+  second-at = second-there (b .there) first second [] two
 
-    pub second-at : There m1 (p + 1)
-    second-at = second-there a q r [] two
+  second-is : pageAt m1 (p + 1) ≡ fresh (pageAt m p .table) (drop (half (tuplesAt m p)) (tuplesAt m p))
+  second-is = second-page (b .there) first second [] two
 
-    second-is : pageAt m1 (p + 1) ≡ fresh (pageAt m p .table) (drop k (tuplesAt m p))
-    second-is = second-page a q r [] two
+  -- the first part is not larger than the whole
+  pub first-most : r ≤ sum heldSize (tuplesAt m p)
+  first-most = omega (arith, h .first, sum-parts heldSize k hs)
 
-    pub second-dirty : Dirty (pageAt m1 (p + 1))
-    second-dirty = dirty-fresh (pageAt m1 (p + 1)) _ _ second-is
+  -- the later part has what is left of the size
+  pub second-sized : {w v : ℕ} → w ≡ sum heldSize (tuplesAt m p) → v ≡ w - r → OfSize m1 (p + 1) v
+  unfolding fresh
+  second-sized ew ev =
+      let e : sum heldSize (tuplesAt m1 (p + 1)) ≡ sum heldSize (drop k hs) = ap (λ (z : Page). sum heldSize (z .tuples)) second-is in
+      record { there = second-at; dirty = dirty-fresh (pageAt m1 (p + 1)) _ _ second-is; is = omega (arith, h .first, sum-parts heldSize k hs) }
 
-    -- the later part is shorter
-    pub second-less : entryOf m1 (p + 1) .count < entryOf m p .count
+  -- and is shorter
+  pub second-less : entryOf m1 (p + 1) .count < entryOf m p .count
+  unfolding fresh
+  second-less =
+      let e : length (tuplesAt m1 (p + 1)) ≡ length (drop k hs) = ap (λ (z : Page). length (z .tuples)) second-is in
+      omega (arith, many second-at, many (b .there), length-drop k hs, between .0, between .1)
+
+  module _ {m2 : List ℕ} (u : PagesNow m1 m2 (swapped (p + 1) (map (fresh (pageAt m1 (p + 1) .table)) (splitAll (tuplesAt m1 (p + 1)))) (pagesOf m1))) where
+    abbrev later : List Page
+    later = map (fresh (pageAt m p .table)) (splitAll (drop (half (tuplesAt m p)) (tuplesAt m p)))
+
+    then : PagesNow m m2 (swapped p (fresh (pageAt m p .table) (take (half (tuplesAt m p)) (tuplesAt m p)) ∷ map (fresh (pageAt m p .table)) (splitAll (drop (half (tuplesAt m p)) (tuplesAt m p))))
+        (pagesOf m))
     unfolding fresh
-    second-less =
-        let e : length (tuplesAt m1 (p + 1)) ≡ length (drop k hs) = ap (λ (z : Page). length (z .tuples)) second-is in
-        let h1 = h .parts ne .1 .1 in
-        omega (arith, many second-at, many a, length-drop k hs, pos-of k ne)
+    then =
+        now-to (now-then two u)
+        (ap (λ (z : Page). swapped (p + 1) (map (fresh (z .table)) (splitAll (z .tuples))) (pagesOf m1)) second-is
+        ∙ ap (swapped (p + 1) later) (now-pages two) ∙ swap-second (b .there) first second later)
 
-    module _ {m2 : List ℕ} (u : PagesNow m1 m2 (swapped (p + 1) (map (fresh (pageAt m1 (p + 1) .table)) (splitAll (tuplesAt m1 (p + 1)))) (pagesOf m1))) where
-      abbrev later : List Page
-      later = map (fresh (pageAt m p .table)) (splitAll (drop k (tuplesAt m p)))
+    first-at : There m2 p
+    first-at = first-there (b .there) first later then
 
-      then : PagesNow m m2 (swapped p (fresh (pageAt m p .table) (take k (tuplesAt m p)) ∷ map (fresh (pageAt m p .table)) (splitAll (drop k (tuplesAt m p)))) (pagesOf m))
-      unfolding fresh
-      then =
-          now-to (now-then two u)
-          (ap (λ (z : Page). swapped (p + 1) (map (fresh (z .table)) (splitAll (z .tuples))) (pagesOf m1)) second-is
-          ∙ ap (swapped (p + 1) later) (now-pages two) ∙ swap-second a q r later)
+    first-is : pageAt m2 p ≡ fresh (pageAt m p .table) (take (half (tuplesAt m p)) (tuplesAt m p))
+    first-is = first-page (b .there) first later then
 
-      pub first-at : There m2 p
-      first-at = first-there a q later then
+    pub first-sized : {v : ℕ} → v ≡ r → OfSize m2 p v
+    unfolding fresh
+    first-sized ev = record {
+      there = first-at;
+      dirty = dirty-fresh (pageAt m2 p) _ _ first-is;
+      is = ev ∙ h .first ∙ sym (ap (λ (z : Page). sum heldSize (z .tuples)) first-is);
+    }
 
-      first-is : pageAt m2 p ≡ fresh (pageAt m p .table) (take k (tuplesAt m p))
-      first-is = first-page a q later then
+    pub first-less : entryOf m2 p .count < entryOf m p .count
+    unfolding fresh
+    first-less =
+        let e : length (tuplesAt m2 p) ≡ length (take k hs) = ap (λ (z : Page). length (z .tuples)) first-is in
+        omega (arith, many first-at, many (b .there), length-take-le k hs (omega (arith, between .1)), between .1)
 
-      pub first-dirty : Dirty (pageAt m2 p)
-      first-dirty = dirty-fresh (pageAt m2 p) _ _ first-is
-
-      pub first-less : entryOf m2 p .count < entryOf m p .count
-      unfolding fresh
-      first-less =
-          let e : length (tuplesAt m2 p) ≡ length (take k hs) = ap (λ (z : Page). length (z .tuples)) first-is in
-          let h1 = h .parts ne .1 .1 in
-          omega (arith, many first-at, many a, first-long)
-
-      pub split-parts : {m3 : List ℕ} → PagesNow m2 m3 (swapped p (map (fresh (pageAt m2 p .table)) (splitAll (tuplesAt m2 p))) (pagesOf m2))
-          → PagesNow m m3 (swapped p (map (fresh (pageAt m p .table)) (splitAll (tuplesAt m p))) (pagesOf m))
-      unfolding fresh
-      split-parts v =
-          let s : AllOf Small hs = tuples-small a in
-          let f : List Page = map (fresh t) (splitAll (take k hs)) in
-          now-to (now-then then v)
-          (ap (λ (z : Page). swapped p (map (fresh (z .table)) (splitAll (z .tuples))) (pagesOf m2)) first-is
-          ∙ ap (swapped p f) (now-pages then) ∙ swap-first a q later f
-          ∙ ap (λ (x : List Page). swapped p x (pagesOf m))
-          (sym (map-append (fresh t) (splitAll (take k hs)) (splitAll (drop k hs)))
-          ∙ ap (map (fresh t)) (ap (λ (z : ℕ). splitAll (take z hs) ++ splitAll (drop z hs)) k-is ∙ sym (all-parts hs (h .parts ne .0) s))))
+    pub split-parts : {m3 : List ℕ} → PagesNow m2 m3 (swapped p (map (fresh (pageAt m2 p .table)) (splitAll (tuplesAt m2 p))) (pagesOf m2))
+        → PagesNow m m3 (swapped p (map (fresh (pageAt m p .table)) (splitAll (tuplesAt m p))) (pagesOf m))
+    unfolding fresh
+    split-parts v =
+        let f : List Page = map (fresh t) (splitAll (take k hs)) in
+        now-to (now-then then v)
+        (ap (λ (z : Page). swapped p (map (fresh (z .table)) (splitAll (z .tuples))) (pagesOf m2)) first-is
+        ∙ ap (swapped p f) (now-pages then) ∙ swap-first (b .there) first later f
+        ∙ ap (λ (x : List Page). swapped p x (pagesOf m))
+        (sym (map-append (fresh t) (splitAll (take k hs)) (splitAll (drop k hs))) ∙ ap (map (fresh t)) (sym (all-parts hs (b .large) (tuples-small (b .there))))))

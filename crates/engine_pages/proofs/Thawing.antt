@@ -1,15 +1,15 @@
 -- Thawing the first frozen page: the model's rule by place.
 use Rattle.basics.proofs.Kit.{_≡_, refl, sym, ap, _∙_, subst, Bool, true, false, none, Option, List, [], _∷_, _++_, map, ℕ, arith}
-use Rattle.basics.specs.Basics.{if_then_else_, any}
+use Rattle.basics.specs.Basics.{if_then_else_, any, sum}
 use Rattle.model.specs.State.{Held, Page}
-use Rattle.model.specs.Rules.{isFrozen, fresh, listOf, splitAll, settle, thawOn, thaw}
+use Rattle.model.specs.Rules.{heldSize, isFrozen, fresh, listOf, splitAll, settle, thawOn, thaw}
 use Rattle.model.specs.Places.{onPage}
 use Rattle.memory_layout.specs.Flat.{flatOf}
 use Rattle.memory_layout.specs.Store.{pageOf, pageIn}
 use Rattle.memory_layout.proofs.Exchange.{pages-count}
 use Rattle.memory_pages.specs.Pages.{withBlock, EntriesBecome, setBlock}
 use Rattle.engine_pages.specs.Pages.{PagesNow, pagesOf, pageAt, tuplesAt, entryOf, There, swapped}
-use Rattle.engine_pages.specs.Changes.{Dirty, Tries, settledAt, settledBy}
+use Rattle.engine_pages.specs.Changes.{OfSize, Tries, settledAt, settledBy}
 use Rattle.engine_pages.specs.Pending.{hasPending, appliedAll, Applied, FirstFrozen}
 use Rattle.basics.proofs.Numbers.{pos-of}
 use Rattle.engine_pages.proofs.Places.{now-to, now-then, first-there, first-page}
@@ -98,8 +98,8 @@ module _ {m : List ℕ} {p : ℕ} (first : FirstFrozen m p) (b : ℕ) where
           pub apart-at : There m2 p
           apart-at = subst (λ (z : List ℕ). There z p) (sym same) left-at
 
-          pub apart-dirty : Dirty (pageAt m2 p)
-          apart-dirty = dirty-fresh (pageAt m2 p) t hs (ap (λ (z : List ℕ). pageAt z p) same ∙ left-page)
+          pub apart-sized : {w : ℕ} → w ≡ sum heldSize (tuplesAt m2 p) → OfSize m2 p w
+          apart-sized ew = record { there = apart-at; dirty = dirty-fresh (pageAt m2 p) t hs (ap (λ (z : List ℕ). pageAt z p) same ∙ left-page); is = ew }
 
           pub thawed-split : {m3 : List ℕ} → PagesNow m2 m3 (swapped p (map (fresh (pageAt m2 p .table)) (splitAll (tuplesAt m2 p))) (pagesOf m2)) → PagesNow m m3 (thaw b (pagesOf m))
           unfolding fresh

@@ -1,25 +1,37 @@
 -- What the functions that split a page, or join two, need and promise.
-use Prim.Native.Nat.{ℕ, _-_, _<_}
+use Prim.Native.Nat.{ℕ, _-_}
 use mathlib.Core.Path.{_≡_}
 use mathlib.Core.Bool.{Bool, true, false}
 use mathlib.Core.Option.{none}
 use mathlib.Core.List.{List, [], _∷_, _++_, map}
-use lib.ListN.{length}
+use lib.ListN.{take}
 use Rattle.model.specs.State.{Page}
-use Rattle.model.specs.Rules.{fresh, listOf, fits, half, splitOnce, settleFull, settleNext, settle}
+use Rattle.model.specs.Rules.{heldSize, fresh, listOf, fits, half, splitOnce, settleFull, settleNext, settle}
 use Rattle.model.specs.Places.{onPage}
+use Rattle.basics.specs.Basics.{sum}
 use Rattle.basics.specs.Lists.{removeAt}
-use Rattle.engine_pages.specs.Pages.{PagesNow, pagesOf, pageAt, tuplesAt, firstRow, swapped}
+use Rattle.engine_pages.specs.Pages.{PagesNow, pagesOf, pageAt, tuplesAt, firstRow, There, swapped}
 
 -- made or changed: dirty and not frozen
 abbrev pub Dirty : Page → Type 0
 Dirty q = q ≡ fresh (q .table) (q .tuples)
 
--- page p is split if it is above 504 bytes, after r tuples; else r is 0
+-- page p is dirty, and its tuples are above 504 bytes
+pub record TooLarge (m : List ℕ) (p : ℕ) : Type 0 where
+  pub there : There m p
+  pub dirty : Dirty (pageAt m p)
+  pub large : fits (tuplesAt m p) ≡ false
+
+-- page p is split in two; r is the size of the first part
 pub record Halved (m m' : List ℕ) (p r : ℕ) : Type 0 where
   pub pages : PagesNow m m' (swapped p (map (fresh (pageAt m p .table)) (splitOnce (tuplesAt m p))) (pagesOf m))
-  pub whole : r ≡ 0 → fits (tuplesAt m p) ≡ true
-  pub parts : (r ≡ 0 → ⊥) → (fits (tuplesAt m p) ≡ false) × ((r ≡ half (tuplesAt m p)) × (r < length (tuplesAt m p)))
+  pub first : r ≡ sum heldSize (take (half (tuplesAt m p)) (tuplesAt m p))
+
+-- page p is dirty, and that is the size of its tuples
+pub record OfSize (m : List ℕ) (p size : ℕ) : Type 0 where
+  pub there : There m p
+  pub dirty : Dirty (pageAt m p)
+  pub is : size ≡ sum heldSize (tuplesAt m p)
 
 -- the pages after page p is joined with its predecessor, else with its successor, if it may be, or else replaced by the pages of rest
 unfoldable pub settledAt : ℕ → List Page → List Page → List Page

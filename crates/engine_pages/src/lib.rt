@@ -3,29 +3,22 @@
 use block_forms::PageLayout;
 use memory_rows::Pending;
 use memory_rows::Row;
-
-mod measures;
-
-use measures::half;
-use measures::has_pending;
-use measures::rows_size;
-use measures::small_enough;
 ghost use mathlib.Core.Path.{_≡_};
 ghost use mathlib.Core.Bool.{true, false};
 ghost use mathlib.Core.List.{_∷_, [], _++_, map};
 ghost use Prim.Native.Nat.{_+_, _-_, _<_};
 ghost use lib.ListN.{length, take, drop};
 ghost use Rattle.block_forms.specs.Limits.{blockLimit};
-ghost use Rattle.basics.specs.Basics.{any};
-ghost use Rattle.model.specs.Rules.{fresh, withTuples, joins, splitAll, freeze, withoutPending, applied, thaw, place};
+ghost use Rattle.basics.specs.Basics.{any, sum};
+ghost use Rattle.model.specs.Rules.{heldSize, fresh, withTuples, joins, splitOnce, splitAll, freeze, withoutPending, applied, thaw, place};
 ghost use Rattle.model.specs.Places.{pendRemoveAt, removeRow, committedAt, commitRow};
 ghost use Rattle.memory_layout.specs.Flat.{flatOf, rowIn, Room, Becomes};
 ghost use Rattle.memory_rows.specs.Rows.{withRow};
 ghost use Rattle.memory_pages.specs.Pages.{MayLose};
 ghost use Rattle.memory_layout.specs.Store.{holdsStore, storeOf, HoldsNow};
 ghost use Rattle.engine_pages.specs.Pages.{withPages, PagesNow, pagesOf, pageAt, tuplesAt, entryOf, firstRow, There, RowOn, swapped};
-ghost use Rattle.engine_pages.specs.Changes.{Dirty, Halved, Tries, settledAt, settledNext, settledBy, lessOne};
-ghost use Rattle.engine_pages.specs.Pending.{AppliesOne, Applies, Applied, FirstFrozen};
+ghost use Rattle.engine_pages.specs.Changes.{Dirty, TooLarge, Halved, OfSize, Tries, settledAt, settledNext, settledBy, lessOne};
+ghost use Rattle.engine_pages.specs.Pending.{hasPending, AppliesOne, Applies, Applied, FirstFrozen};
 ghost use Rattle.engine_pages.specs.Spots.{tupleBy, placedOn, GrowAt, AddAt, PlaceAt};
 
 // ---- joining
@@ -48,7 +41,7 @@ fn joinable(m: &[u8], p: usize) -> bool
     }
     let s = memory_pages::start_of(m, p);
     let e = memory_pages::start_of(m, p + 2);
-    small_enough(m, s, e)
+    engine_sizes::small_enough(m, s, e)
 }
 
 // Page p joins its predecessor, if it may; whether it did.
@@ -96,35 +89,51 @@ fn join(m: &mut [u8], p: usize) -> bool
 
 // ---- splitting
 
-// Page p is split if its rows have no room in a block; the answer is after how many rows, 0 if it is not split.
+// The size of the rows of page p.
+fn page_size(m: &[u8], p: usize) -> usize
+    requires { ⌜ There (now m) p ⌝ }
+    ensures { λ r. ⌜ r ≡ sum heldSize (tuplesAt (now (m .entry)) p) ⌝ }
+{
+    let s = memory_pages::start_of(m, p);
+    let e = memory_pages::start_of(m, p + 1);
+    engine_sizes::rows_size(m, s, e)
+}
+
+// Page p, too large for a block, is split in two; the size of the first part.
 fn halve(m: &mut [u8], p: usize) -> usize
-    requires { ⌜ There (now m) p × Dirty (pageAt (now m) p) ⌝ }
+    requires { ⌜ TooLarge (now m) p ⌝ }
     ensures { λ r. ⌜ Halved (now (m .entry)) (now (m .exit)) p r ⌝ }
 {
     let s = memory_pages::start_of(m, p);
     let e = memory_pages::start_of(m, p + 1);
-    let w = rows_size(m, s, e);
-    if PageLayout::fits(w) {
-        return 0;
-    }
-    let k = half(m, s, e, w);
-    memory_pages::split_page(m, p, k as u16);
-    k
+    let first = engine_sizes::first_part(m, s, e);
+    memory_pages::split_page(m, p, first.count as u16);
+    first.size
 }
 
-// Page p is split until every part has room in a block; of two parts the later one is split first.
-fn split(m: &mut [u8], p: usize)
+// Page p is split in two if its rows have no room in a block. Their size is asked for first, since most pages that grow are not split.
+fn split_once(m: &mut [u8], p: usize)
     requires { ⌜ There (now m) p × Dirty (pageAt (now m) p) ⌝ }
-    ensures { λ _. ⌜ PagesNow (now (m .entry)) (now (m .exit)) (swapped p (map (fresh (pageAt (now (m .entry)) p .table)) (splitAll (tuplesAt (now (m .entry)) p))) (pagesOf (now (m .entry)))) ⌝ }
+    ensures { λ _. ⌜ PagesNow (now (m .entry)) (now (m .exit)) (swapped p (map (fresh (pageAt (now (m .entry)) p .table)) (splitOnce (tuplesAt (now (m .entry)) p))) (pagesOf (now (m .entry)))) ⌝ }
 {
-    let k = halve(m, p);
-    if k == 0 {
+    let size = page_size(m, p);
+    if PageLayout::fits(size) {
         return;
     }
-    let first = p;
-    let second = p + 1;
-    split(m, second);
-    split(m, first);
+    halve(m, p);
+}
+
+// Page p, of that size, is split until every part has room in a block; of two parts the later one is split first.
+fn split(m: &mut [u8], p: usize, size: usize)
+    requires { ⌜ OfSize (now m) p size ⌝ }
+    ensures { λ _. ⌜ PagesNow (now (m .entry)) (now (m .exit)) (swapped p (map (fresh (pageAt (now (m .entry)) p .table)) (splitAll (tuplesAt (now (m .entry)) p))) (pagesOf (now (m .entry)))) ⌝ }
+{
+    if PageLayout::fits(size) {
+        return;
+    }
+    let first = halve(m, p);
+    split(m, p + 1, size - first);
+    split(m, p, first);
 }
 
 // ---- committing
@@ -239,6 +248,21 @@ pub fn freeze(m: &mut [u8])
 
 // ---- thawing
 
+// Whether a row of page p has a pending operation. All rows are looked at, without a branch, since nearly no row has one.
+fn has_pending(m: &[u8], p: usize) -> bool
+    requires { ⌜ There (now m) p ⌝ }
+    ensures { λ r. ⌜ r ≡ any hasPending (tuplesAt (now (m .entry)) p) ⌝ }
+{
+    let e = memory_pages::start_of(m, p + 1);
+    let mut hit = false;
+    let mut i = memory_pages::start_of(m, p);
+    while i < e {
+        hit = hit | memory_rows::is_pending(m, i);
+        i += 1;
+    }
+    hit
+}
+
 // The pending operation of row i, which is no removal, is applied.
 fn apply_kept(m: &mut [u8], i: usize)
     requires { ⌜ Room (now m) × (i < length (flatOf (now m) .rows)) ⌝ }
@@ -311,7 +335,8 @@ pub fn thaw(m: &mut [u8], p: usize, b: u16)
     if join(m, p) {
         return;
     }
-    split(m, p);
+    let size = page_size(m, p);
+    split(m, p, size);
 }
 
 // ---- placing
@@ -328,7 +353,7 @@ fn grow(m: &mut [u8], p: usize, at: usize, row: Row, payload: &[u8])
         return;
     }
     memory_pages::set_page(m, p, 0, false);
-    halve(m, p);
+    split_once(m, p);
 }
 
 // A row goes on a new page of the table before page p.

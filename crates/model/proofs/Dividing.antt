@@ -71,15 +71,14 @@ meet-half hs (suc n) i k l r e =
 -- at the start nothing is taken
 pub ends-first-part : EndsFirstPart
 unfolding dividing sum
-ends-first-part h hs =
-    let ts : List Held = h ∷ hs in
-    let q : sizeTo ts (length ts) ≡ sum heldSize ts = ap (sum heldSize) (take-length ts) in
-    meet-half ts _ 0 (length ts) 0 0 record {
-      between = omega (arith, length-map ts heldSize);
+ends-first-part hs p =
+    let q : sizeTo hs (length hs) ≡ sum heldSize hs = ap (sum heldSize) (take-length hs) in
+    meet-half hs _ 0 (length hs) 0 0 record {
+      between = omega (arith, length-map hs heldSize);
       inside = omega arith;
       left = refl;
       right = omega arith;
-      below = λ p. absurd (omega arith);
+      below = λ z. absurd (omega arith);
       reached = omega arith;
     }
 

@@ -1,7 +1,7 @@
 -- Every page that is not frozen is not empty, fits its block and has nothing pending; and every tuple has at most 53 bytes.
 use Rattle.block_forms.specs.Limits.{recordSpace, mostRecord}
 use Rattle.basics.proofs.Kit.{_≡_, refl, sym, ap, _∙_, subst, true, false, some, none, Option, List, [], _∷_, _++_, map, ℕ, suc, _+_, _*_, _≤_, _<_, zero, _-_, min, leb, eqb, ltb}
-use Rattle.basics.proofs.Kit.{length, take, drop, length-append, length-take, length-drop, take-append-drop, length-map, arith}
+use Rattle.basics.proofs.Kit.{length, take, drop, length-append, length-take, length-drop, length-map, arith}
 use Rattle.basics.specs.Basics.{sum, if_then_else_, isEmpty, any}
 use Rattle.basics.proofs.Facts.{AllOf, lie, by, never, by-option}
 use Rattle.block_forms.specs.Tuple.{Tuple, size, ownerSize}
@@ -11,6 +11,7 @@ use Rattle.model.specs.Rules.{settle, listOf, asCommitted, withPending, 
 use Rattle.model.specs.Rules.{isCommitting, live, splitAll, isPending, thawOn, thaw, isFrozen, editAt, pendRemoveAt, removeRowOn, committedAt, commitRowOn, removeRow, commitRow}
 use Rattle.model.specs.Transactions.{PlaceOp, commitPlace, removePlace, carryOut}
 use Rattle.basics.proofs.Elements.{all-map, leb-true, leb-false, all-take, all-drop, some-eq, all-append, has-some, all-parts, sum-append}
+use Rattle.basics.proofs.Lists.{sum-parts}
 use Rattle.model.proofs.Splits.{Small, half-between, after-all, together, split-all}
 use Rattle.model.proofs.RuleCases.{after-cases, all-row, settle-cases, Joinable}
 use Rattle.model.proofs.Shown.{bare, after-shown, entering-adding, shown-pendCommit, shown-takenAt, shown-withoutPending}
@@ -69,8 +70,7 @@ split-once ts c p l =
     let k = half ts in
     let m = half-between ts (small ts c) big in
     let z = lead-size (sum heldSize ts) 0 ts (omega arith) (omega arith) (small ts c) in
-    let q : sum heldSize (take k ts) + sum heldSize (drop k ts) ≡ sum heldSize ts = sym (sum-append heldSize (take k ts) (drop k ts))
-    ∙ ap (sum heldSize) (take-append-drop k ts) in
+    let q = sum-parts heldSize k ts in
     let lt : length (take k ts) ≡ min k (length ts) = length-take k ts in
     let ld : length (drop k ts) ≡ length ts - k = length-drop k ts in
     rw h ((all-take _ k ts c, omega arith, omega arith), ((all-drop _ k ts c, omega arith, omega arith), tt)))

@@ -1,5 +1,5 @@
 -- The dividing tuple of a split, found from both ends: the walk over sizes, and the law that it ends the first part of the splitting rule.
-use Prim.Native.Nat.{ℕ, zero, suc, _+_, _-_}
+use Prim.Native.Nat.{ℕ, zero, suc, _+_, _-_, _<_}
 use mathlib.Core.Path.{_≡_}
 use mathlib.Core.Bool.{true, false}
 use mathlib.Core.List.{List, [], _∷_, _++_, map}
@@ -24,7 +24,7 @@ dividing ws = meet ws (length ws - 1) 0 0 0
 
 -- of any tuples, at least one, the dividing tuple ends the first part of the splitting rule
 abbrev pub EndsFirstPart : Type 0
-EndsFirstPart = (h : Held) (hs : List Held) → half (h ∷ hs) ≡ suc (dividing (map heldSize (h ∷ hs)))
+EndsFirstPart = (hs : List Held) → 0 < length hs → half hs ≡ suc (dividing (map heldSize hs))
 
 -- where the ends meet, in worked cases
 pub record DividingCases : Type 0 where

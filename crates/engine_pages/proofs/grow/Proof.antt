@@ -24,15 +24,15 @@ set-page-requires : tie.Need-set-page-requires
 set-page-requires c κs = let b4 = c .before .before .before .before in let b10 = b4 .before .before .before .before .before .before in
     let u = b4 .insert-row .ensures in (u .room, record { place = more-there (b10 .pre) u; block = omega arith })
 
-halve-requires : tie.Need-halve-requires
-halve-requires c κs = let b3 = c .before .before .before in let b8 = b3 .before .before .before .before .before in
+split-once-requires : tie.Need-split-once-requires
+split-once-requires c κs = let b3 = c .before .before .before in let b8 = b3 .before .before .before .before .before in
     let b14 = b8 .before .before .before .before .before .before in let g = b14 .pre in let u = b8 .insert-row .ensures in let v = b3 .set-page .ensures in
     (grew-there g u v, grew-dirty g u v)
 
 returns-2 : tie.Need-returns-2
 returns-2 c = let b2 = c .before .before in let b6 = b2 .before .before .before .before in let b8 = b6 .before .before in let b11 = b8 .before .before .before in
     let b13 = b11 .before .before in let b17 = b13 .before .before .before .before in let g = b17 .pre in
-    grew g (b11 .insert-row .ensures) (b6 .set-page .ensures) (page-frozen (grow-there g) ∙ sym (b13 .frozen-at .ensures) ∙ b8 .if1 .left) (b2 .halve .ensures)
+    grew g (b11 .insert-row .ensures) (b6 .set-page .ensures) (page-frozen (grow-there g) ∙ sym (b13 .frozen-at .ensures) ∙ b8 .if1 .left) (b2 .split-once .ensures)
 
 pub grow-spec : {M : Type 1} → statement M
-grow-spec = tie.close (tie.spec frozen-at-requires insert-row-requires set-pending-requires (search needs) returns set-page-requires halve-requires (search needs) returns-2)
+grow-spec = tie.close (tie.spec frozen-at-requires insert-row-requires set-pending-requires (search needs) returns set-page-requires split-once-requires (search needs) returns-2)

@@ -1,7 +1,7 @@
 -- `engine_pages::thaw` meets its contract, in its four cases: `thawed-clean`, `thawed-none`, `thawed-joined`, `thawed-split`.
 use Rattle.basics.proofs.Kit.{sym, _∙_, not-true, not-false, needs}
 use Rattle.engine_pages.proofs.Places.{room, holds-now}
-use Rattle.engine_pages.proofs.Thawing.{thawed-clean, thawed-none, left-at, thawed-joined, apart-at, apart-dirty, thawed-split}
+use Rattle.engine_pages.proofs.Thawing.{thawed-clean, thawed-none, left-at, thawed-joined, apart-at, apart-sized, thawed-split}
 use Rattle.engine_pages.proofs.thaw.Statement.{statement}
 use Rattle.engine_pages.proofs.thaw.Tie as tie
 
@@ -34,19 +34,23 @@ returns-3 c = let b3 = c .before .before .before in let b5 = b3 .before .before 
     holds-now (thawed-joined (b14 .pre .0) (b14 .args .b) (sym (b11 .has-pending .ensures) ∙ not-false _ (b10 .if1 .left)) (b8 .apply-pending .ensures) (b5 .if2 .left) (b3 .join .ensures)
     (c .if3 .taken))
 
+page-size-requires : tie.Need-page-size-requires
+page-size-requires c κs = let i3 = c .before in let j = i3 .before .before .before in let i2 = j .before .before in let a = i2 .before .before .before in
+    let i1 = a .before .before in let h = i1 .before in let st = h .before .before .before in
+    apart-at (st .pre .0) (st .args .b) (sym (h .has-pending .ensures) ∙ not-false _ (i1 .if1 .left)) (a .apply-pending .ensures) (i2 .if2 .left) (j .join .ensures) (i3 .if3 .left)
+
 split-requires : tie.Need-split-requires
-split-requires c κs = let b1 = c .before in let b4 = b1 .before .before .before in let b6 = b4 .before .before in let b9 = b6 .before .before .before in
-    let b11 = b9 .before .before in let b12 = b11 .before in let b15 = b12 .before .before .before in let g = b15 .pre .0 in
-    let w = sym (b12 .has-pending .ensures) ∙ not-false _ (b11 .if1 .left) in
-    let o = b9 .apply-pending .ensures in let nz = b6 .if2 .left in
-    (apart-at g (b15 .args .b) w o nz (b4 .join .ensures) (b1 .if3 .left), apart-dirty g (b15 .args .b) w o nz (b4 .join .ensures) (b1 .if3 .left))
+split-requires c κs = let w = c .before in let i3 = w .before .before in let j = i3 .before .before .before in let i2 = j .before .before in let a = i2 .before .before .before in
+    let i1 = a .before .before in let h = i1 .before in let st = h .before .before .before in
+    apart-sized (st .pre .0) (st .args .b) (sym (h .has-pending .ensures) ∙ not-false _ (i1 .if1 .left)) (a .apply-pending .ensures) (i2 .if2 .left) (j .join .ensures) (i3 .if3 .left)
+    (w .page-size .ensures)
 
 returns-4 : tie.Need-returns-4
-returns-4 c = let b2 = c .before .before in let b4 = b2 .before .before in let b7 = b4 .before .before .before in let b9 = b7 .before .before in
-    let b12 = b9 .before .before .before in let b14 = b12 .before .before in let b15 = b14 .before in let b18 = b15 .before .before .before in
-    holds-now (thawed-split (b18 .pre .0) (b18 .args .b) (sym (b15 .has-pending .ensures) ∙ not-false _ (b14 .if1 .left)) (b12 .apply-pending .ensures) (b9 .if2 .left) (b7 .join .ensures)
-    (b4 .if3 .left) (b2 .split .ensures))
+returns-4 c = let s = c .before .before in let i3 = s .before .before .before .before in let j = i3 .before .before .before in let i2 = j .before .before in
+    let a = i2 .before .before .before in let i1 = a .before .before in let h = i1 .before in let st = h .before .before .before in
+    holds-now (thawed-split (st .pre .0) (st .args .b) (sym (h .has-pending .ensures) ∙ not-false _ (i1 .if1 .left)) (a .apply-pending .ensures) (i2 .if2 .left) (j .join .ensures)
+    (i3 .if3 .left) (s .split .ensures))
 
 pub thaw-spec : {M : Type 1} → statement M
 thaw-spec = tie.close (tie.spec has-pending-requires set-page-requires (search needs) returns apply-pending-requires (search needs) returns-2 join-requires (search needs)
-    returns-3 split-requires (search needs) returns-4)
+    returns-3 page-size-requires split-requires (search needs) returns-4)

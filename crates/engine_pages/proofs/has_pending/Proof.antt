@@ -1,15 +1,15 @@
--- `engine_pages::measures::has_pending` meets its contract. The invariant (`AnyFrom`): the answer is hit, or whether one of the page's rows from row i on has a pending operation.
+-- `engine_pages::has_pending` meets its contract. The invariant (`AnyFrom`): the answer is hit, or whether one of the page's rows from row i on has a pending operation.
 use Rattle.basics.proofs.Kit.{ap, _∙_, _-_, arith}
 use Rattle.memory_bytes.proofs.Scans.{AnyFrom, any-starts, any-next, any-ends}
 use Rattle.memory_layout.specs.Flat.{flatOf, rowIn}
-use Rattle.engine_pages.proofs.Sizes.{rows-by}
+use Rattle.engine_sizes.proofs.Sizes.{rows-by}
 use Rattle.engine_pages.proofs.Places.{room, start-there, next-there, page-span, tuples-are}
 use Rattle.memory_layout.proofs.Laws.{sizes}
 use Rattle.engine_pages.specs.Pending.{hasPending}
 use Rattle.memory_layout.specs.Elements.{RowRange}
 use Rattle.basics.specs.Basics.{any}
-use Rattle.engine_pages.proofs.measures.has_pending.Statement.{statement}
-use Rattle.engine_pages.proofs.measures.has_pending.Tie as tie
+use Rattle.engine_pages.proofs.has_pending.Statement.{statement}
+use Rattle.engine_pages.proofs.has_pending.Tie as tie
 
 abbrev Inv-loop : tie.InvT-loop
 Inv-loop m p e hit₀ i₀ hit i = AnyFrom hasPending (rowIn (flatOf m)) i₀ e hit i

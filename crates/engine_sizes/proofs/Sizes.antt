@@ -1,21 +1,19 @@
--- Rows from s up to e, turn by turn: their sizes, and tests over them.
-use Rattle.image.specs.Stages.{capacityLimit}
+-- Rows from s up to e, turn by turn: their sizes.
 use Rattle.basics.proofs.Kit.{_≡_, refl, sym, ap, _∙_, List, [], _∷_, ℕ, suc, _+_, _*_, _≤_, _<_, _-_, add-one, ltb, length, take, drop, drop-cons}
-use Rattle.basics.proofs.Kit.{le-leb, lt-leb, arith}
-use Rattle.basics.specs.Basics.{if_then_else_, sum}
+use Rattle.basics.proofs.Kit.{map, getD, arith}
+use Rattle.basics.specs.Basics.{sum}
 use Rattle.basics.specs.Lists.{tab}
 use Rattle.basics.proofs.Facts.{AllOf}
 use Rattle.block_forms.specs.Limits.{payloadLimit, mostRecord, committedValue}
 use Rattle.model.specs.State.{Held}
-use Rattle.model.specs.Rules.{heldSize, lead}
+use Rattle.model.specs.Rules.{heldSize}
 use Rattle.model.proofs.Splits.{Small}
 use Rattle.basics.proofs.Elements.{all-take, all-drop}
 use Rattle.memory_layout.specs.Flat.{flatOf, capacityOf, rowIn, noRow}
 use Rattle.memory_layout.specs.Views.{lengthOf, stateOf}
 use Rattle.memory_rows.proofs.Fields.{size-is, owner-most}
 use Rattle.memory_layout.specs.Elements.{rowsFrom, RowRange}
-use Rattle.memory_layout.proofs.Laws.{sizes}
-use Rattle.basics.proofs.Tabs.{all-by, tab-part}
+use Rattle.basics.proofs.Tabs.{all-by, tab-part, length-tab, tab-within, map-tab}
 
 -- ---- no row is large
 
@@ -36,6 +34,16 @@ rows-small m s e = all-take Small (e - s) _ (all-drop Small s (flatOf m .rows) (
 pub rows-by : {m : List ℕ} {s e : ℕ} → RowRange m s e → tab (rowIn (flatOf m)) s (e - s) ≡ rowsFrom m s e
 rows-by {m} {s} {e} g = tab-part (flatOf m .rows) noRow s (e - s) (omega (arith, g .order, g .inside))
 
+pub rows-length : {m : List ℕ} {s e : ℕ} → RowRange m s e → length (rowsFrom m s e) ≡ e - s
+rows-length {m} {s} {e} g = ap length (sym (rows-by g)) ∙ length-tab (rowIn (flatOf m)) s (e - s)
+
+-- the size of row i, among their sizes
+pub row-size : {m : List ℕ} {s e : ℕ} → RowRange m s e → (i : ℕ) → s ≤ i → i < e → getD (map heldSize (rowsFrom m s e)) (i - s) 0 ≡ heldSize (rowIn (flatOf m) i)
+row-size {m} {s} {e} g i l h =
+    let f : ℕ → ℕ = λ k. heldSize (rowIn (flatOf m) k) in
+    ap (λ (z : List Held). getD (map heldSize z) (i - s) 0) (sym (rows-by g))
+    ∙ ap (λ (z : List ℕ). getD z (i - s) 0) (sym (map-tab heldSize (rowIn (flatOf m)) s (e - s))) ∙ tab-within f s (e - s) i 0 l (omega arith)
+
 module _ (m : List ℕ) (i e : ℕ) where
   pub rows-next : i < e → e ≤ length (flatOf m .rows) → rowsFrom m i e ≡ rowIn (flatOf m) i ∷ rowsFrom m (i + 1) e
   rows-next h l =
@@ -54,31 +62,3 @@ module _ (m : List ℕ) (i e : ℕ) where
   pub sum-none : e ≤ i → sum heldSize (rowsFrom m i e) ≡ 0
   unfolding sum
   sum-none h = ap (sum heldSize) (rows-none h)
-
-  module _ (w a : ℕ) where
-    pub lead-stop : i < e → e ≤ length (flatOf m .rows) → w ≤ 2 * (a + heldSize (rowIn (flatOf m) i)) → lead w a (rowsFrom m i e) ≡ 1
-    unfolding lead if_then_else_
-    lead-stop h l k = ap (lead w a) (rows-next h l) ∙ (simp (le-leb _ _ k))
-
-    pub lead-go : i < e → e ≤ length (flatOf m .rows) → 2 * (a + heldSize (rowIn (flatOf m) i)) < w
-        → lead w a (rowsFrom m i e) ≡ suc (lead w (a + heldSize (rowIn (flatOf m) i)) (rowsFrom m (i + 1) e))
-    unfolding lead if_then_else_
-    lead-go h l k = ap (lead w a) (rows-next h l) ∙ (simp (lt-leb _ _ k))
-
-    pub lead-end : e ≤ i → lead w a (rowsFrom m i e) ≡ 0
-    unfolding lead
-    lead-end h = ap (lead w a) (rows-none h)
-
--- a turn of a loop over the rows from s up to e: it is at row i, of size w, and the rows before it have size all
-pub record Iteration (m : List ℕ) (s e i all w : ℕ) : Type 0 where
-  pub least : s ≤ i
-  pub inside : i < e
-  pub most : e ≤ length (flatOf m .rows)
-  pub few : e ≤ capacityLimit
-  pub light : all ≤ mostRecord * (i - s)
-  pub small : w ≤ mostRecord
-  pub size : w ≡ heldSize (rowIn (flatOf m) i)
-
-pub iteration : {m : List ℕ} {s e i all w : ℕ} → RowRange m s e → s ≤ i → i < e → all ≤ mostRecord * (i - s) → (w ≡ heldSize (rowIn (flatOf m) i)) × (w ≤ mostRecord) → Iteration m s e i all w
-iteration g least inside light es =
-    record { least = least; inside = inside; most = g .inside; few = omega (arith, g .inside, sizes (g .room) .rows); light = light; small = es .1; size = es .0 }

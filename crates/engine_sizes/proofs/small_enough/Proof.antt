@@ -1,12 +1,12 @@
--- `engine_pages::measures::small_enough` meets its contract. The invariant: the sum is `all` plus the sizes of the rows from i on; `all` is not too large.
+-- `engine_sizes::small_enough` meets its contract. The invariant: the sum is `all` plus the sizes of the rows from i on; `all` is not too large.
 use Rattle.basics.proofs.Kit.{_≡_, sym, _∙_, _+_, _≤_, _-_, not-true, not-false, le-leb, lt-leb, leb-true, leb-false, arith}
 use Rattle.basics.specs.Basics.{sum}
 use Rattle.block_forms.specs.Limits.{joinSum}
 use Rattle.model.specs.Rules.{heldSize}
 use Rattle.memory_layout.specs.Elements.{rowsFrom}
-use Rattle.engine_pages.proofs.Sizes.{sum-next, sum-none}
-use Rattle.engine_pages.proofs.measures.small_enough.Statement.{statement}
-use Rattle.engine_pages.proofs.measures.small_enough.Tie as tie
+use Rattle.engine_sizes.proofs.Sizes.{sum-next, sum-none}
+use Rattle.engine_sizes.proofs.small_enough.Statement.{statement}
+use Rattle.engine_sizes.proofs.small_enough.Tie as tie
 
 abbrev Inv-loop : tie.InvT-loop
 Inv-loop m s e all₀ i₀ all i = (i ≤ e) × ((all ≤ joinSum) × (sum heldSize (rowsFrom m s e) ≡ all + sum heldSize (rowsFrom m i e)))
