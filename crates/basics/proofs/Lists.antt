@@ -1,9 +1,9 @@
 -- A function or a test over every element: of lists joined, at an index, weakened; sums over first elements; a list that may be missing behind another.
-use Rattle.basics.proofs.Kit.{_≡_, refl, sym, ap, _∙_, Bool, true, _&&_, some, none, Option, Option·map, List, [], _∷_, _++_, append-assoc, map, ℕ, zero, suc, _+_, _≤_, _<_, length, getD, take, drop, take-append-drop}
+use Rattle.basics.proofs.Kit.{_≡_, refl, sym, ap, _∙_, Bool, true, _&&_, some, none, Option, Option·map, List, [], _∷_, _++_, append-assoc, map, ℕ, zero, suc, _+_, _≤_, _<_}
 use Rattle.basics.specs.Basics.{AllOf, all, paired, sum}
 use Rattle.basics.proofs.Ands.{and-assoc}
 use Rattle.basics.proofs.Elements.{Pairs, all-at, all-map, all-true, all-split, sum-append}
-use Rattle.basics.proofs.Kit.{arith}
+use Rattle.basics.proofs.Kit.{length, getD, take, drop, take-append-drop, arith}
 use Rattle.basics.proofs.Facts.{and-true}
 
 pub map-append : {A B : Type 0} (g : A → B) (xs ys : List A) → map g (xs ++ ys) ≡ map g xs ++ map g ys

@@ -1,5 +1,5 @@
 -- A page split, and its parts again.
-use Rattle.basics.proofs.Kit.{_≡_, refl, sym, ap, _∙_, true, false, List, [], _∷_, _++_, map, ℕ, suc, _+_, _≤_, _<_, zero, _-_, length, take, drop, length-drop, length-take-le}
+use Rattle.basics.proofs.Kit.{_≡_, refl, sym, ap, _∙_, false, List, [], _∷_, _++_, map, ℕ, suc, _+_, _≤_, _<_, zero, _-_, length, take, drop, length-drop, length-take-le}
 use Rattle.basics.proofs.Kit.{arith}
 use Rattle.basics.specs.Basics.{sum}
 use Rattle.basics.proofs.Facts.{AllOf, by}
@@ -12,7 +12,7 @@ use Rattle.basics.proofs.Elements.{all-take, all-drop}
 use Rattle.engine_pages.specs.Pages.{PagesNow, pagesOf, pageAt, tuplesAt, entryOf, There, swapped}
 use Rattle.engine_pages.specs.Changes.{TooLarge, Halved, OfSize}
 use Rattle.engine_pages.proofs.Places.{now-to, now-then, now-pages, swap-first, swap-second, first-there, first-page, second-there, second-page, many}
-use Rattle.engine_pages.proofs.Splitting.{deep-fits, once-parts, dirty-fresh, big, tuples-small}
+use Rattle.engine_pages.proofs.Splitting.{deep-fits, once-parts, dirty-fresh, big, tuples-small, both-parts}
 
 -- ---- how deep is enough
 
@@ -75,9 +75,6 @@ module _ {m m1 : List ℕ} {p : ℕ} (b : TooLarge m p) {r : ℕ} (h : Halved m 
   abbrev second : Page
   second = fresh (pageAt m p .table) (drop (half (tuplesAt m p)) (tuplesAt m p))
 
-  between : (0 < half (tuplesAt m p)) × (half (tuplesAt m p) < length (tuplesAt m p))
-  between = half-between hs (tuples-small (b .there)) (big hs (b .large))
-
   two : PagesNow m m1 (swapped p (fresh (pageAt m p .table) (take (half (tuplesAt m p)) (tuplesAt m p)) ∷ fresh (pageAt m p .table) (drop (half (tuplesAt m p)) (tuplesAt m p)) ∷ []) (pagesOf m))
   two = now-to (h .pages) (ap (λ (x : List Page). swapped p x (pagesOf m)) (once-parts t hs (b .large)))
 
@@ -103,7 +100,7 @@ module _ {m m1 : List ℕ} {p : ℕ} (b : TooLarge m p) {r : ℕ} (h : Halved m 
   unfolding fresh
   second-less =
       let e : length (tuplesAt m1 (p + 1)) ≡ length (drop k hs) = ap (λ (z : Page). length (z .tuples)) second-is in
-      omega (arith, many second-at, many (b .there), length-drop k hs, between .0, between .1)
+      omega (arith, many second-at, many (b .there), length-drop k hs, both-parts b .0, both-parts b .1)
 
   module _ {m2 : List ℕ} (u : PagesNow m1 m2 (swapped (p + 1) (map (fresh (pageAt m1 (p + 1) .table)) (splitAll (tuplesAt m1 (p + 1)))) (pagesOf m1))) where
     abbrev later : List Page
@@ -135,7 +132,7 @@ module _ {m m1 : List ℕ} {p : ℕ} (b : TooLarge m p) {r : ℕ} (h : Halved m 
     unfolding fresh
     first-less =
         let e : length (tuplesAt m2 p) ≡ length (take k hs) = ap (λ (z : Page). length (z .tuples)) first-is in
-        omega (arith, many first-at, many (b .there), length-take-le k hs (omega (arith, between .1)), between .1)
+        omega (arith, many first-at, many (b .there), length-take-le k hs (omega (arith, both-parts b .1)), both-parts b .1)
 
     pub split-parts : {m3 : List ℕ} → PagesNow m2 m3 (swapped p (map (fresh (pageAt m2 p .table)) (splitAll (tuplesAt m2 p))) (pagesOf m2))
         → PagesNow m m3 (swapped p (map (fresh (pageAt m p .table)) (splitAll (tuplesAt m p))) (pagesOf m))

@@ -52,6 +52,10 @@ big hs e = leb-false (sum heldSize hs) recordSpace e
 pub tuples-small : {m : List ℕ} {p : ℕ} → There m p → AllOf Small (tuplesAt m p)
 tuples-small {m} {p} a = subst (AllOf Small) (tuples-are a refl refl) (rows-small m (firstRow m p) (firstRow m (p + 1)))
 
+-- both parts of a page that is too large have a tuple
+pub both-parts : {m : List ℕ} {p : ℕ} → TooLarge m p → (0 < half (tuplesAt m p)) × (half (tuplesAt m p) < length (tuplesAt m p))
+both-parts {m} {p} b = half-between (tuplesAt m p) (tuples-small (b .there)) (big (tuplesAt m p) (b .large))
+
 -- its size by its rows
 pub page-sum : {m : List ℕ} {p s e w : ℕ} → There m p → s ≡ firstRow m p → e ≡ firstRow m (p + 1) → w ≡ sum heldSize (rowsFrom m s e) → w ≡ sum heldSize (tuplesAt m p)
 page-sum a es ee ew = ew ∙ ap (sum heldSize) (tuples-are a es ee)
@@ -86,11 +90,8 @@ module _ {m : List ℕ} {p : ℕ} (b : TooLarge m p) {s e : ℕ} (es : s ≡ fir
   half-is : r .count ≡ half (tuplesAt m p)
   half-is = f .count ∙ ap half (tuples-are a es ee)
 
-  -- both parts have a row
   pub between : (1 ≤ r .count) × (r .count < entryOf m p .count)
-  between =
-      let h = half-between (tuplesAt m p) (tuples-small a) (big (tuplesAt m p) (b .large)) in
-      (omega (arith, half-is, h .0), omega (arith, half-is, many a, h .1))
+  between = (omega (arith, half-is, both-parts b .0), omega (arith, half-is, many a, both-parts b .1))
 
   pub halved : {m' : List ℕ} → EntriesBecome m m' (splitEntry p (r .count)) → Halved m m' p (r .size)
   unfolding swapped pageOf fresh

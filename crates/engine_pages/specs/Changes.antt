@@ -3,7 +3,7 @@ use Prim.Native.Nat.{ℕ, _-_}
 use mathlib.Core.Path.{_≡_}
 use mathlib.Core.Bool.{Bool, true, false}
 use mathlib.Core.Option.{none}
-use mathlib.Core.List.{List, [], _∷_, _++_, map}
+use mathlib.Core.List.{List, _++_, map}
 use lib.ListN.{take}
 use Rattle.model.specs.State.{Page}
 use Rattle.model.specs.Rules.{heldSize, fresh, listOf, fits, half, splitOnce, settleFull, settleNext, settle}

@@ -1,5 +1,5 @@
 -- Rows from s up to e, turn by turn: their sizes.
-use Rattle.basics.proofs.Kit.{_≡_, refl, sym, ap, _∙_, List, [], _∷_, ℕ, suc, _+_, _*_, _≤_, _<_, _-_, add-one, ltb, length, take, drop, drop-cons}
+use Rattle.basics.proofs.Kit.{_≡_, refl, sym, ap, _∙_, List, [], _∷_, ℕ, suc, _+_, _≤_, _<_, _-_, add-one, ltb, length, take, drop, drop-cons}
 use Rattle.basics.proofs.Kit.{map, getD, arith}
 use Rattle.basics.specs.Basics.{sum}
 use Rattle.basics.specs.Lists.{tab}

@@ -1,46 +1,56 @@
 -- The walk from both ends over tuples, turn by turn: where the ends are, and what each side has with the tuple that is next for it.
-use Rattle.basics.proofs.Kit.{_≡_, refl, sym, ap, _∙_, subst, List, map, ℕ, suc, _+_, _*_, _-_, _≤_, _<_, length, length-map, getD, take, arith}
+use Rattle.basics.proofs.Kit.{_≡_, sym, ap, _∙_, subst, List, map, ℕ, suc, _+_, _*_, _-_, _≤_, _<_, length, length-map, getD, take, arith}
 use Rattle.basics.specs.Basics.{sum}
 use Rattle.basics.proofs.Lists.{sum-take-next}
 use Rattle.block_forms.specs.Limits.{mostRecord}
+use Rattle.image.specs.Stages.{capacityLimit}
 use Rattle.model.specs.State.{Held}
 use Rattle.model.specs.Rules.{heldSize, half}
 use Rattle.model.specs.Dividing.{meet, dividing}
 use Rattle.model.proofs.Dividing.{meet-left, meet-right, ends-first-part}
+use Rattle.memory_layout.specs.Flat.{flatOf, rowIn, Room}
+use Rattle.memory_layout.specs.Elements.{rowsFrom, RowRange}
+use Rattle.memory_layout.proofs.Laws.{sizes}
+use Rattle.engine_sizes.specs.Parts.{IsFirstPart}
+use Rattle.engine_sizes.specs.declared.FirstPart.{FirstPart}
+use Rattle.engine_sizes.proofs.Sizes.{rows-length, row-size}
 
--- the left side has taken l, up to place a, and the right side r, down to behind place b
+-- ---- over tuples
+
+-- The ends are at places a and b: the left side took l, all before a, and the right side r, all behind b; left and right have the next in them.
 pub record Walked (hs : List Held) (a b left right : ℕ) : Type 0 where
-  pub l : ℕ
-  pub r : ℕ
-  pub order : a ≤ b
-  pub inside : b < length hs
-  pub left-next : left ≡ l + getD (map heldSize hs) a 0
-  pub right-next : right ≡ r + getD (map heldSize hs) b 0
-  pub left-light : left ≤ mostRecord * suc a
-  pub right-light : right ≤ mostRecord * (length hs - b)
-  pub taken : l ≡ sum heldSize (take a hs)
-  pub ahead : dividing (map heldSize hs) ≡ meet (map heldSize hs) (b - a) a l r
+  l : ℕ
+  r : ℕ
+  order : a ≤ b
+  inside : b < length hs
+  left-next : left ≡ l + getD (map heldSize hs) a 0
+  right-next : right ≡ r + getD (map heldSize hs) b 0
+  left-light : left ≤ mostRecord * suc a
+  right-light : right ≤ mostRecord * (length hs - b)
+  taken : l ≡ sum heldSize (take a hs)
+  ahead : dividing (map heldSize hs) ≡ meet (map heldSize hs) (b - a) a l r
 
 module _ (hs : List Held) where
+  -- their sizes
   abbrev ws : List ℕ
   ws = map heldSize hs
 
-  pub walk-start : {a b left right : ℕ} → 0 < length hs → a ≡ 0 → b ≡ length hs - 1 → (left ≡ getD (map heldSize hs) a 0) × (left ≤ mostRecord)
-      → (right ≡ getD (map heldSize hs) b 0) × (right ≤ mostRecord) → Walked hs a b left right
+  starts : {a b left right : ℕ} → 0 < length hs → a ≡ 0 → b ≡ length hs - 1 → left ≡ getD ws a 0 → left ≤ mostRecord
+      → right ≡ getD ws b 0 → right ≤ mostRecord → Walked hs a b left right
   unfolding dividing sum
-  walk-start {a} {b} p ea eb x y =
-      let en : length (map heldSize hs) - 1 ≡ b - a = omega (arith, length-map hs heldSize) in
+  starts {a} {b} p ea eb x x1 y y1 =
+      let en : length ws - 1 ≡ b - a = omega (arith, length-map hs heldSize) in
       record {
         l = 0;
         r = 0;
         order = omega arith;
         inside = omega arith;
-        left-next = omega (arith, x .0);
-        right-next = omega (arith, y .0);
-        left-light = omega (arith, x .1);
-        right-light = omega (arith, y .1);
+        left-next = omega (arith, x);
+        right-next = omega (arith, y);
+        left-light = omega (arith, x1);
+        right-light = omega (arith, y1);
         taken = ap (λ (z : ℕ). sum heldSize (take z hs)) (sym ea);
-        ahead = λ i. meet (map heldSize hs) (en i) (sym ea i) 0 0;
+        ahead = λ i. meet ws (en i) (sym ea i) 0 0;
       }
 
   module _ {a b left right : ℕ} (w : Walked hs a b left right) where
@@ -49,12 +59,12 @@ module _ (hs : List Held) where
     so-far = omega (arith, w .left-next, w .taken, sum-take-next heldSize hs a)
 
     -- the left side takes its next
-    left-takes : a < b → left < right → {v : ℕ} → v ≡ getD (map heldSize hs) (suc a) 0 → v ≤ mostRecord → Walked hs (suc a) b (left + v) right
+    left-takes : a < b → left < right → {v : ℕ} → v ≡ getD ws (suc a) 0 → v ≤ mostRecord → Walked hs (suc a) b (left + v) right
     left-takes h c e k =
         let n : ℕ = b - suc a in
         let en : b - a ≡ suc n = omega arith in
         let eb : suc (a + n) ≡ b = omega arith in
-        let g = ap (λ (z : ℕ). getD (map heldSize hs) z 0) eb in
+        let g = ap (λ (z : ℕ). getD ws z 0) eb in
         record {
           l = left;
           r = w .r;
@@ -65,18 +75,18 @@ module _ (hs : List Held) where
           left-light = omega (arith, w .left-light);
           right-light = w .right-light;
           taken = so-far;
-          ahead = w .ahead ∙ ap (λ (z : ℕ). meet (map heldSize hs) z a (w .l) (w .r)) en
-              ∙ meet-left (map heldSize hs) n a (w .l) (w .r) (omega (arith, g, w .left-next, w .right-next))
-              ∙ ap (λ (z : ℕ). meet (map heldSize hs) n (suc a) z (w .r)) (sym (w .left-next));
+          ahead = w .ahead ∙ ap (λ (z : ℕ). meet ws z a (w .l) (w .r)) en
+              ∙ meet-left ws n a (w .l) (w .r) (omega (arith, g, w .left-next, w .right-next))
+              ∙ ap (λ (z : ℕ). meet ws n (suc a) z (w .r)) (sym (w .left-next));
         }
 
     -- the right side takes its next
-    right-takes : a < b → right ≤ left → {c v : ℕ} → b ≡ suc c → v ≡ getD (map heldSize hs) c 0 → v ≤ mostRecord → Walked hs a c left (right + v)
+    right-takes : a < b → right ≤ left → {c v : ℕ} → b ≡ suc c → v ≡ getD ws c 0 → v ≤ mostRecord → Walked hs a c left (right + v)
     right-takes h d {c} eb e k =
         let n : ℕ = c - a in
         let en : b - a ≡ suc n = omega arith in
         let es : suc (a + n) ≡ b = omega arith in
-        let g = ap (λ (z : ℕ). getD (map heldSize hs) z 0) es in
+        let g = ap (λ (z : ℕ). getD ws z 0) es in
         record {
           l = w .l;
           r = right;
@@ -87,24 +97,86 @@ module _ (hs : List Held) where
           left-light = w .left-light;
           right-light = omega (arith, w .right-light, w .inside);
           taken = w .taken;
-          ahead = w .ahead ∙ ap (λ (z : ℕ). meet (map heldSize hs) z a (w .l) (w .r)) en
-              ∙ meet-right (map heldSize hs) n a (w .l) (w .r) (omega (arith, g, w .left-next, w .right-next))
-              ∙ ap (meet (map heldSize hs) n a (w .l)) (omega (arith, g, w .right-next));
+          ahead = w .ahead ∙ ap (λ (z : ℕ). meet ws z a (w .l) (w .r)) en
+              ∙ meet-right ws n a (w .l) (w .r) (omega (arith, g, w .left-next, w .right-next))
+              ∙ ap (meet ws n a (w .l)) (omega (arith, g, w .right-next));
         }
 
-    pub walk-left : a < b → left < right → {a' v : ℕ} → a' ≡ suc a → v ≡ getD (map heldSize hs) a' 0 → v ≤ mostRecord → Walked hs a' b (left + v) right
-    walk-left h c {a'} {v} ea e k =
-        subst (λ (z : ℕ). Walked hs z b (left + v) right) (sym ea) (left-takes h c (e ∙ ap (λ (z : ℕ). getD (map heldSize hs) z 0) ea) k)
-
-    pub walk-right : a < b → right ≤ left → {c v : ℕ} → b ≡ suc c → v ≡ getD (map heldSize hs) c 0 → v ≤ mostRecord → Walked hs a c left (right + v)
-    walk-right = right-takes
-
     -- one tuple is left between the ends
-    pub walk-end : b ≤ a → suc a ≡ half hs
+    ends-met : b ≤ a → suc a ≡ half hs
     unfolding meet
-    walk-end h =
+    ends-met h =
         let en : b - a ≡ 0 = omega arith in
-        sym (ends-first-part hs (omega (arith, w .inside)) ∙ ap suc (w .ahead ∙ ap (λ (z : ℕ). meet (map heldSize hs) z a (w .l) (w .r)) en))
+        sym (ends-first-part hs (omega (arith, w .inside)) ∙ ap suc (w .ahead ∙ ap (λ (z : ℕ). meet ws z a (w .l) (w .r)) en))
 
-    pub walk-size : b ≤ a → left ≡ sum heldSize (take (half hs) hs)
-    walk-size h = so-far ∙ ap (λ (z : ℕ). sum heldSize (take z hs)) (walk-end h)
+-- ---- over rows
+
+-- the ends are at rows i and j, of those from s up to e
+pub record Between (m : List ℕ) (s e i j left right : ℕ) : Type 0 where
+  pub least : s ≤ i
+  pub order : i ≤ j
+  pub most : j < e
+  pub walked : Walked (rowsFrom m s e) (i - s) (j - s) left right
+
+-- the size of row k
+abbrev pub SizeAt : List ℕ → ℕ → ℕ → Type 0
+SizeAt m k v = (v ≡ heldSize (rowIn (flatOf m) k)) × (v ≤ mostRecord)
+
+module _ {m : List ℕ} {s e : ℕ} (g : RowRange m s e) where
+  -- it is its size among theirs
+  among : (k : ℕ) {v : ℕ} → s ≤ k → k < e → SizeAt m k v → v ≡ getD (map heldSize (rowsFrom m s e)) (k - s) 0
+  among k l h x = x .0 ∙ sym (row-size g k l h)
+
+  pub walk-start : s < e → {left right : ℕ} → SizeAt m s left → SizeAt m (e - 1) right → Between m s e s (e - 1) left right
+  walk-start h x y = record {
+    least = omega arith;
+    order = omega arith;
+    most = omega arith;
+    walked = starts (rowsFrom m s e) (omega (arith, rows-length g)) (omega arith) (omega (arith, rows-length g)) (among s (omega arith) h x) (x .1)
+        (among (e - 1) (omega arith) (omega arith) y) (y .1);
+  }
+
+  module _ {i j left right : ℕ} (b : Between m s e i j left right) where
+    -- a row that an end may be at
+    pub row-there : {k : ℕ} → i ≤ k → k ≤ j → Room m × (k < length (flatOf m .rows))
+    row-there l h = (g .room, omega (arith, g .inside, b .most))
+
+    -- no number is large
+    pub few : i < capacityLimit
+    few = omega (arith, b .order, b .most, g .inside, sizes (g .room) .rows)
+
+    pub light : (left ≤ mostRecord * capacityLimit) × (right ≤ mostRecord * capacityLimit)
+    light = let w = b .walked in let n = sizes (g .room) .rows in let k = rows-length g in let f = few in
+        (omega (arith, w .left-light), omega (arith, w .right-light, g .inside))
+
+    pub walk-left : i < j → left < right → {v : ℕ} → SizeAt m (i + 1) v → Between m s e (i + 1) j (left + v) right
+    walk-left h c {v} x =
+        let l = b .least in let n = b .most in
+        let q : suc (i - s) ≡ i + 1 - s = omega arith in
+        let t = ap (λ (z : ℕ). getD (map heldSize (rowsFrom m s e)) z 0) q in
+        record {
+          least = omega arith;
+          order = omega arith;
+          most = n;
+          walked = subst (λ (z : ℕ). Walked (rowsFrom m s e) z (j - s) (left + v) right) q
+              (left-takes (rowsFrom m s e) (b .walked) (omega arith) c (among (i + 1) (omega arith) (omega arith) x ∙ sym t) (x .1));
+        }
+
+    pub walk-right : i < j → right ≤ left → {v : ℕ} → SizeAt m (j - 1) v → Between m s e i (j - 1) left (right + v)
+    walk-right h c x =
+        let l = b .least in let n = b .most in
+        record {
+          least = l;
+          order = omega arith;
+          most = omega arith;
+          walked = right-takes (rowsFrom m s e) (b .walked) (omega arith) c (omega arith) (among (j - 1) (omega arith) (omega arith) x) (x .1);
+        }
+
+    -- where they meet
+    pub walk-end : j ≤ i → {r : FirstPart} → r .count ≡ i + 1 - s → r .size ≡ left → IsFirstPart r (rowsFrom m s e)
+    walk-end h ec es =
+        let q = ends-met (rowsFrom m s e) (b .walked) (omega arith) in
+        record {
+          count = omega (arith, q, b .least);
+          size = es ∙ so-far (rowsFrom m s e) (b .walked) ∙ ap (λ (z : ℕ). sum heldSize (take z (rowsFrom m s e))) q;
+        }

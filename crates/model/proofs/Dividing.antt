@@ -1,5 +1,5 @@
 -- The walk from both ends stops at the tuple that ends the first part of a split (`ends-first-part`).
-use Rattle.basics.proofs.Kit.{_≡_, refl, sym, ap, _∙_, true, false, List, [], _∷_, map, ℕ, zero, suc, _+_, _*_, _≤_, _<_, ltb, length, length-map, getD, take, take-length}
+use Rattle.basics.proofs.Kit.{_≡_, refl, sym, ap, _∙_, List, [], _∷_, map, ℕ, zero, suc, _+_, _*_, _≤_, _<_, ltb, length, length-map, getD, take, take-length}
 use Rattle.basics.proofs.Kit.{le-leb, lt-leb, lt-ltb, le-ltb, ltb-true, ltb-false, arith}
 use Rattle.basics.specs.Basics.{if_then_else_, sum}
 use Rattle.basics.proofs.Facts.{by}

@@ -1,6 +1,6 @@
 -- Every page that is not frozen is not empty, fits its block and has nothing pending; and every tuple has at most 53 bytes.
 use Rattle.block_forms.specs.Limits.{recordSpace, mostRecord}
-use Rattle.basics.proofs.Kit.{_≡_, refl, sym, ap, _∙_, subst, true, false, some, none, Option, List, [], _∷_, _++_, map, ℕ, suc, _+_, _*_, _≤_, _<_, zero, _-_, min, leb, eqb, ltb}
+use Rattle.basics.proofs.Kit.{_≡_, refl, sym, _∙_, subst, true, false, some, none, Option, List, [], _∷_, _++_, map, ℕ, suc, _+_, _*_, _≤_, _<_, zero, _-_, min, leb, eqb, ltb}
 use Rattle.basics.proofs.Kit.{length, take, drop, length-append, length-take, length-drop, length-map, arith}
 use Rattle.basics.specs.Basics.{sum, if_then_else_, isEmpty, any}
 use Rattle.basics.proofs.Facts.{AllOf, lie, by, never, by-option}

@@ -32,7 +32,9 @@ split-returns : (t : ℕ) → split-lts.Need-returns (fits-reads.Asked, fits-rea
 split-returns t c = let f = c .before in stays-all (f .before .before .pre .1) (f .fits2 .ensures) (c .if1 .taken)
 
 -- page p is too large
-large : (t : ℕ) → (c : split-lts.Else1 (fits-reads.Asked, fits-reads.Learnt, halve-reads.Asked, halve-reads.Learnt, split-below t, split.Post) (split-at t) split.Post) → let s = c .before .before .before in TooLarge (s .args .m .now) (s .args .p)
+large : (t : ℕ)
+    → (c : split-lts.Else1 (fits-reads.Asked, fits-reads.Learnt, halve-reads.Asked, halve-reads.Learnt, split-below t, split.Post) (split-at t) split.Post)
+    → let s = c .before .before .before in TooLarge (s .args .m .now) (s .args .p)
 large t c = let f = c .before in too-large (f .before .before .pre .1) (f .fits2 .ensures) (c .if1 .left)
 
 split-halve-requires : (t : ℕ) → split-lts.Need-halve-requires (fits-reads.Asked, fits-reads.Learnt, halve-reads.Asked, halve-reads.Learnt, split-below t, split.Post) (split-at t) split.Post
@@ -61,5 +63,6 @@ split-returns-2 t c = let v = c .before .before in let u = v .before .before .be
     split-parts (large t (h .before .before)) (h .halve .ensures) (u .split .ensures) (v .split2 .ensures)
 
 pub +split-spec : {M : Type 1} → statement M
-+split-spec = close μ-split λ t. split-lts.spec (fits-reads.Asked, fits-reads.Learnt, halve-reads.Asked, halve-reads.Learnt, split-below t, split.Post) (split-at t) split.Post (split-fits-requires t) (split-returns t) (split-halve-requires t) (split-add-split t)
-    (split-sub-split t) (split-split-requires t) (split-split-requires-2 t) (split-same-length t) (split-returns-2 t)
++split-spec = close μ-split λ t. split-lts.spec (fits-reads.Asked, fits-reads.Learnt, halve-reads.Asked, halve-reads.Learnt, split-below t, split.Post) (split-at t) split.Post
+    (split-fits-requires t) (split-returns t) (split-halve-requires t) (split-add-split t) (split-sub-split t) (split-split-requires t) (split-split-requires-2 t)
+    (split-same-length t) (split-returns-2 t)
