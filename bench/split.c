@@ -1,4 +1,4 @@
-/* Pages that split: an insert that splits its page beside the one before it, which does not, and a step that thaws a page into three.
+/* Pages that split: inserts that split their page beside inserts that do not, and a step that thaws a page into three.
  * A figure is the least of the rounds; in each the call is made on several stores that are equal. */
 #include <string.h>
 #include "bench.h"
@@ -80,14 +80,17 @@ static double time_calls(int64_t (*call)(uint8_t *), int64_t answer, int64_t pag
     return figure;
 }
 
+static void inserts(const char *page, int64_t pages) {
+    printf("| %s | one more is inserted | %lld | %.0f |\n", page, (long long)pages, time_calls(add, 0, pages));
+}
+
 void split_table(void) {
-    double before;
-    printf("\n## Splits\n\nNanoseconds; a store of N = %d with one page. An insert that splits it, beside one into a page with a tuple less, which does not.\n\n", CAPACITY);
-    printf("| Page | Splits | Does not |\n|---|---|---|\n");
-    page_of_nines(54), before = time_calls(add, 0, 1), page_of_nines(56);
-    printf("| 56 tuples of 9 bytes, and one more | %.0f | %.0f |\n", time_calls(add, 0, 2), before);
-    page_of_largest(8), before = time_calls(add, 0, 1), page_of_largest(9);
-    printf("| 10 tuples of 53, the last inserted | %.0f | %.0f |\n", time_calls(add, 0, 2), before);
+    printf("\n## Splits\n\nNanoseconds a call; a store of N = %d with one page, which the call leaves as one page or splits.\n\n", CAPACITY);
+    printf("| Page | Call | Pages then | ns |\n|---|---|---|---|\n");
+    page_of_nines(54), inserts("54 tuples of 9 bytes", 1);
+    page_of_nines(56), inserts("56 tuples of 9 bytes", 2);
+    page_of_largest(8), inserts("8 tuples of 53 bytes", 1);
+    page_of_largest(9), inserts("9 tuples of 53 bytes", 2);
     frozen_page();
-    printf("| 19 tuples of 53, thawed into 5, 5 and 9 by a step | %.0f | |\n", time_calls(step, 2, 3));
+    printf("| 9 tuples of 53 bytes, 10 more pending | a step stores and thaws it | 3 | %.0f |\n", time_calls(step, 2, 3));
 }

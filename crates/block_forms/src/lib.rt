@@ -69,6 +69,8 @@ impl PageLayout {
     pub const RECORD_HEAD: usize = 9;
     // The same and the owner's word.
     const TENTATIVE_HEAD: usize = PageLayout::RECORD_HEAD + 4;
+    // The largest record: tentative, with the longest payload.
+    pub const MOST_RECORD: usize = PageLayout::TENTATIVE_HEAD + PageLayout::PAYLOAD_LIMIT;
 
     // 9 bytes plus the payload, plus 4 if tentative.
     pub fn record_size(len: usize, tentative: bool) -> usize

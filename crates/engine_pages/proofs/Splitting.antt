@@ -12,7 +12,7 @@ use Rattle.memory_layout.proofs.Exchange.{page-split, counted-exchange}
 use Rattle.memory_pages.specs.Pages.{dirty, splitEntry, EntriesBecome}
 use Rattle.engine_pages.specs.Pages.{PagesNow, pagesOf, pageAt, tuplesAt, entryOf, firstRow, There, swapped}
 use Rattle.memory_layout.specs.Elements.{rowsFrom}
-use Rattle.engine_pages.specs.Changes.{Dirty, TooLarge, Halved, OfSize}
+use Rattle.engine_pages.specs.Changes.{Dirty, TooLarge, Halved}
 use Rattle.engine_pages.proofs.Places.{now-to, now-stay, now-becomes, counted, full, swap-same, many, tuples-are, page-table}
 use Rattle.engine_sizes.specs.Parts.{IsFirstPart}
 use Rattle.engine_sizes.specs.declared.FirstPart.{FirstPart}
@@ -60,19 +60,20 @@ both-parts {m} {p} b = half-between (tuplesAt m p) (tuples-small (b .there)) (bi
 pub page-sum : {m : List ℕ} {p s e w : ℕ} → There m p → s ≡ firstRow m p → e ≡ firstRow m (p + 1) → w ≡ sum heldSize (rowsFrom m s e) → w ≡ sum heldSize (tuplesAt m p)
 page-sum a es ee ew = ew ∙ ap (sum heldSize) (tuples-are a es ee)
 
--- a dirty page of a size that was tested: it is too large, or it stays
-module _ {m : List ℕ} {p w : ℕ} (o : OfSize m p w) {b : Bool} (eb : b ≡ leb w recordSpace) where
-  tested : fits (tuplesAt m p) ≡ b
-  unfolding fits
-  tested = sym (eb ∙ ap (λ (z : ℕ). leb z recordSpace) (o .is))
+-- whether its tuples fit a block, by their size
+pub fits-by : {m : List ℕ} {p w : ℕ} {b : Bool} → There m p → w ≡ sum heldSize (tuplesAt m p) → b ≡ leb w recordSpace → fits (tuplesAt m p) ≡ b
+unfolding fits
+fits-by a ew eb = sym (eb ∙ ap (λ (z : ℕ). leb z recordSpace) ew)
 
+-- a dirty page that was tested: it is too large, or it stays
+module _ {m : List ℕ} {p : ℕ} (a : There m p) (d : Dirty (pageAt m p)) {b : Bool} (tested : fits (tuplesAt m p) ≡ b) where
   pub too-large : b ≡ false → TooLarge m p
-  too-large e = record { there = o .there; dirty = o .dirty; large = tested ∙ e }
+  too-large e = record { there = a; dirty = d; large = tested ∙ e }
 
   stays : b ≡ true → {hss : List (List Held)} → (fits (tuplesAt m p) ≡ true → hss ≡ tuplesAt m p ∷ []) → PagesNow m m (swapped p (map (fresh (pageAt m p .table)) hss) (pagesOf m))
   stays e f =
-      now-to (now-stay m (o .there .has-store))
-      (sym (ap (λ (z : List Page). swapped p z (pagesOf m)) (ap (map (fresh (pageAt m p .table))) (f (tested ∙ e)) ∙ ap (λ (z : Page). z ∷ []) (sym (o .dirty))) ∙ swap-same (o .there)))
+      now-to (now-stay m (a .has-store))
+      (sym (ap (λ (z : List Page). swapped p z (pagesOf m)) (ap (map (fresh (pageAt m p .table))) (f (tested ∙ e)) ∙ ap (λ (z : Page). z ∷ []) (sym d)) ∙ swap-same a))
 
   pub stays-once : b ≡ true → PagesNow m m (swapped p (map (fresh (pageAt m p .table)) (splitOnce (tuplesAt m p))) (pagesOf m))
   stays-once e = stays e (once-whole (tuplesAt m p))

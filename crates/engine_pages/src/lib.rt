@@ -89,16 +89,6 @@ fn join(m: &mut [u8], p: usize) -> bool
 
 // ---- splitting
 
-// The size of the rows of page p.
-fn page_size(m: &[u8], p: usize) -> usize
-    requires { ⌜ There (now m) p ⌝ }
-    ensures { λ r. ⌜ r ≡ sum heldSize (tuplesAt (now (m .entry)) p) ⌝ }
-{
-    let s = memory_pages::start_of(m, p);
-    let e = memory_pages::start_of(m, p + 1);
-    engine_sizes::rows_size(m, s, e)
-}
-
 // Page p, too large for a block, is split in two; the size of the first part.
 fn halve(m: &mut [u8], p: usize) -> usize
     requires { ⌜ TooLarge (now m) p ⌝ }
@@ -111,13 +101,14 @@ fn halve(m: &mut [u8], p: usize) -> usize
     first.size
 }
 
-// Page p is split in two if its rows have no room in a block. Their size is asked for first, since most pages that grow are not split.
+// Page p is split in two if its rows have no room in a block. That is tested first, since most pages that grow are not split.
 fn split_once(m: &mut [u8], p: usize)
     requires { ⌜ There (now m) p × Dirty (pageAt (now m) p) ⌝ }
     ensures { λ _. ⌜ PagesNow (now (m .entry)) (now (m .exit)) (swapped p (map (fresh (pageAt (now (m .entry)) p .table)) (splitOnce (tuplesAt (now (m .entry)) p))) (pagesOf (now (m .entry)))) ⌝ }
 {
-    let size = page_size(m, p);
-    if PageLayout::fits(size) {
+    let s = memory_pages::start_of(m, p);
+    let e = memory_pages::start_of(m, p + 1);
+    if engine_sizes::fit_block(m, s, e) {
         return;
     }
     halve(m, p);
@@ -303,6 +294,16 @@ fn apply_pending_rows(m: &mut [u8], p: usize) -> usize
         left -= 1;
     }
     i - s
+}
+
+// The size of the rows of page p.
+fn page_size(m: &[u8], p: usize) -> usize
+    requires { ⌜ There (now m) p ⌝ }
+    ensures { λ r. ⌜ r ≡ sum heldSize (tuplesAt (now (m .entry)) p) ⌝ }
+{
+    let s = memory_pages::start_of(m, p);
+    let e = memory_pages::start_of(m, p + 1);
+    engine_sizes::rows_size(m, s, e)
 }
 
 // The pending operations of page p are applied, and it is dropped if it is empty then; how many rows are left.

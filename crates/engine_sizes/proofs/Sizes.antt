@@ -1,5 +1,5 @@
 -- Rows from s up to e, turn by turn: their sizes.
-use Rattle.basics.proofs.Kit.{_≡_, refl, sym, ap, _∙_, List, [], _∷_, ℕ, suc, _+_, _≤_, _<_, _-_, add-one, ltb, length, take, drop, drop-cons}
+use Rattle.basics.proofs.Kit.{_≡_, refl, sym, ap, _∙_, List, [], _∷_, ℕ, suc, _+_, _*_, _≤_, _<_, _-_, add-one, ltb, length, take, drop, drop-cons}
 use Rattle.basics.proofs.Kit.{map, getD, arith}
 use Rattle.basics.specs.Basics.{sum}
 use Rattle.basics.specs.Lists.{tab}
@@ -29,6 +29,11 @@ row-small m i h =
 pub rows-small : (m : List ℕ) (s e : ℕ) → AllOf Small (rowsFrom m s e)
 rows-small m s e = all-take Small (e - s) _ (all-drop Small s (flatOf m .rows) (all-by Small (flatOf m .rows) noRow (row-small m)))
 
+small-sum : (hs : List Held) → AllOf Small hs → sum heldSize hs ≤ mostRecord * length hs
+unfolding sum
+small-sum [] a = omega arith
+small-sum (h ∷ hs) a = omega (arith, a .0, small-sum hs (a .1))
+
 -- ---- turn by turn
 
 pub rows-by : {m : List ℕ} {s e : ℕ} → RowRange m s e → tab (rowIn (flatOf m)) s (e - s) ≡ rowsFrom m s e
@@ -36,6 +41,10 @@ rows-by {m} {s} {e} g = tab-part (flatOf m .rows) noRow s (e - s) (omega (arith,
 
 pub rows-length : {m : List ℕ} {s e : ℕ} → RowRange m s e → length (rowsFrom m s e) ≡ e - s
 rows-length {m} {s} {e} g = ap length (sym (rows-by g)) ∙ length-tab (rowIn (flatOf m)) s (e - s)
+
+-- they are no larger than as many of the largest
+pub rows-most : {m : List ℕ} {s e : ℕ} → RowRange m s e → sum heldSize (rowsFrom m s e) ≤ mostRecord * (e - s)
+rows-most {m} {s} {e} g = omega (arith, small-sum (rowsFrom m s e) (rows-small m s e), rows-length g)
 
 -- the size of row i, among their sizes
 pub row-size : {m : List ℕ} {s e : ℕ} → RowRange m s e → (i : ℕ) → s ≤ i → i < e → getD (map heldSize (rowsFrom m s e)) (i - s) 0 ≡ heldSize (rowIn (flatOf m) i)

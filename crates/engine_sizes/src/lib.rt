@@ -1,10 +1,11 @@
-// Sizes of rows: all together, whether two pages are small enough for one, and where a page that is too large is divided.
+// Sizes of rows: all together, whether they have room in a block, whether two pages are small enough for one, and where a page that is too
+// large is divided.
 use block_forms::PageLayout;
 ghost use mathlib.Core.Path.{_≡_};
 ghost use Prim.Native.Nat.{_<_};
 ghost use lib.Dec.{leb};
 ghost use Rattle.basics.specs.Basics.{sum};
-ghost use Rattle.block_forms.specs.Limits.{joinSum};
+ghost use Rattle.block_forms.specs.Limits.{recordSpace, joinSum};
 ghost use Rattle.model.specs.Rules.{heldSize};
 ghost use Rattle.memory_layout.specs.Elements.{rowsFrom, RowRange};
 ghost use Rattle.engine_sizes.specs.Parts.{IsFirstPart};
@@ -21,6 +22,21 @@ pub fn rows_size(m: &[u8], s: usize, e: usize) -> usize
         i += 1;
     }
     all as usize
+}
+
+// So many rows have room in a block whatever their sizes.
+const SURELY_FIT: usize = PageLayout::RECORD_SPACE / PageLayout::MOST_RECORD;
+
+// Whether the rows from s up to e have room in a block. Where they are few, they are not looked at.
+pub fn fit_block(m: &[u8], s: usize, e: usize) -> bool
+    requires { ⌜ RowRange (now m) s e ⌝ }
+    ensures { λ r. ⌜ r ≡ leb (sum heldSize (rowsFrom (now (m .entry)) s e)) recordSpace ⌝ }
+{
+    if e - s <= SURELY_FIT {
+        return true;
+    }
+    let size = rows_size(m, s, e);
+    PageLayout::fits(size)
 }
 
 // Whether the rows from s up to e, those of two pages, are small enough for one page. Adding stops as soon as the sum is too large.

@@ -6,7 +6,7 @@ use Rattle.memory_layout.proofs.Laws.{sizes}
 use Rattle.engine_pages.specs.Pages.{entryOf}
 use Rattle.engine_pages.specs.Changes.{TooLarge}
 use Rattle.engine_pages.proofs.Places.{room}
-use Rattle.engine_pages.proofs.Splitting.{too-large, stays-all}
+use Rattle.engine_pages.proofs.Splitting.{fits-by, too-large, stays-all}
 use Rattle.engine_pages.proofs.Parts.{first-most, second-sized, second-less, first-sized, first-less, split-parts}
 use Rattle.engine_pages.proofs.split.Reads as split
 use Rattle.engine_pages.proofs.split.Kinds as split-kinds
@@ -29,13 +29,13 @@ split-fits-requires : (t : ℕ) → split-lts.Need-fits-requires (fits-reads.Ask
 split-fits-requires t c κs = search needs
 
 split-returns : (t : ℕ) → split-lts.Need-returns (fits-reads.Asked, fits-reads.Learnt, halve-reads.Asked, halve-reads.Learnt, split-below t, split.Post) (split-at t) split.Post
-split-returns t c = let f = c .before in stays-all (f .before .before .pre .1) (f .fits2 .ensures) (c .if1 .taken)
+split-returns t c = let f = c .before in let o = f .before .before .pre .1 in stays-all (o .there) (o .dirty) (fits-by (o .there) (o .is) (f .fits2 .ensures)) (c .if1 .taken)
 
 -- page p is too large
 large : (t : ℕ)
     → (c : split-lts.Else1 (fits-reads.Asked, fits-reads.Learnt, halve-reads.Asked, halve-reads.Learnt, split-below t, split.Post) (split-at t) split.Post)
     → let s = c .before .before .before in TooLarge (s .args .m .now) (s .args .p)
-large t c = let f = c .before in too-large (f .before .before .pre .1) (f .fits2 .ensures) (c .if1 .left)
+large t c = let f = c .before in let o = f .before .before .pre .1 in too-large (o .there) (o .dirty) (fits-by (o .there) (o .is) (f .fits2 .ensures)) (c .if1 .left)
 
 split-halve-requires : (t : ℕ) → split-lts.Need-halve-requires (fits-reads.Asked, fits-reads.Learnt, halve-reads.Asked, halve-reads.Learnt, split-below t, split.Post) (split-at t) split.Post
 split-halve-requires t c κs = large t (c .before)
