@@ -70,18 +70,18 @@ module _ {m m1 : List ℕ} {p : ℕ} (b : TooLarge m p) {r : ℕ} (h : Halved m 
   k = half (tuplesAt m p)
 
   abbrev first : Page
-  first = fresh (pageAt m p .table) (take (half (tuplesAt m p)) (tuplesAt m p))
+  first = fresh t (take k hs)
 
   abbrev second : Page
-  second = fresh (pageAt m p .table) (drop (half (tuplesAt m p)) (tuplesAt m p))
+  second = fresh t (drop k hs)
 
-  two : PagesNow m m1 (swapped p (fresh (pageAt m p .table) (take (half (tuplesAt m p)) (tuplesAt m p)) ∷ fresh (pageAt m p .table) (drop (half (tuplesAt m p)) (tuplesAt m p)) ∷ []) (pagesOf m))
+  two : PagesNow m m1 (swapped p (first ∷ second ∷ []) (pagesOf m))
   two = now-to (h .pages) (ap (λ (x : List Page). swapped p x (pagesOf m)) (once-parts t hs (b .large)))
 
   second-at : There m1 (p + 1)
   second-at = second-there (b .there) first second [] two
 
-  second-is : pageAt m1 (p + 1) ≡ fresh (pageAt m p .table) (drop (half (tuplesAt m p)) (tuplesAt m p))
+  second-is : pageAt m1 (p + 1) ≡ second
   second-is = second-page (b .there) first second [] two
 
   -- the first part is not larger than the whole
@@ -104,10 +104,9 @@ module _ {m m1 : List ℕ} {p : ℕ} (b : TooLarge m p) {r : ℕ} (h : Halved m 
 
   module _ {m2 : List ℕ} (u : PagesNow m1 m2 (swapped (p + 1) (map (fresh (pageAt m1 (p + 1) .table)) (splitAll (tuplesAt m1 (p + 1)))) (pagesOf m1))) where
     abbrev later : List Page
-    later = map (fresh (pageAt m p .table)) (splitAll (drop (half (tuplesAt m p)) (tuplesAt m p)))
+    later = map (fresh t) (splitAll (drop k hs))
 
-    then : PagesNow m m2 (swapped p (fresh (pageAt m p .table) (take (half (tuplesAt m p)) (tuplesAt m p)) ∷ map (fresh (pageAt m p .table)) (splitAll (drop (half (tuplesAt m p)) (tuplesAt m p))))
-        (pagesOf m))
+    then : PagesNow m m2 (swapped p (first ∷ later) (pagesOf m))
     unfolding fresh
     then =
         now-to (now-then two u)
@@ -117,7 +116,7 @@ module _ {m m1 : List ℕ} {p : ℕ} (b : TooLarge m p) {r : ℕ} (h : Halved m 
     first-at : There m2 p
     first-at = first-there (b .there) first later then
 
-    first-is : pageAt m2 p ≡ fresh (pageAt m p .table) (take (half (tuplesAt m p)) (tuplesAt m p))
+    first-is : pageAt m2 p ≡ first
     first-is = first-page (b .there) first later then
 
     pub first-sized : {v : ℕ} → v ≡ r → OfSize m2 p v

@@ -21,7 +21,7 @@ length-most : (s : ℕ) → lengthOf s ≤ payloadLimit
 unfolding lengthOf
 length-most s = omega arith
 
-pub row-small : (m : List ℕ) (i : ℕ) → i < length (flatOf m .rows) → heldSize (rowIn (flatOf m) i) ≤ mostRecord
+row-small : (m : List ℕ) (i : ℕ) → i < length (flatOf m .rows) → heldSize (rowIn (flatOf m) i) ≤ mostRecord
 row-small m i h =
     let s : ℕ = stateOf m (capacityOf m) i in
     omega (arith, size-is m i h s refl, length-most s, owner-most (ltb s committedValue))
@@ -39,12 +39,12 @@ small-sum (h ∷ hs) a = omega (arith, a .0, small-sum hs (a .1))
 pub rows-by : {m : List ℕ} {s e : ℕ} → RowRange m s e → tab (rowIn (flatOf m)) s (e - s) ≡ rowsFrom m s e
 rows-by {m} {s} {e} g = tab-part (flatOf m .rows) noRow s (e - s) (omega (arith, g .order, g .inside))
 
-pub rows-length : {m : List ℕ} {s e : ℕ} → RowRange m s e → length (rowsFrom m s e) ≡ e - s
-rows-length {m} {s} {e} g = ap length (sym (rows-by g)) ∙ length-tab (rowIn (flatOf m)) s (e - s)
+pub range-length : {m : List ℕ} {s e : ℕ} → RowRange m s e → length (rowsFrom m s e) ≡ e - s
+range-length {m} {s} {e} g = ap length (sym (rows-by g)) ∙ length-tab (rowIn (flatOf m)) s (e - s)
 
 -- they are no larger than as many of the largest
 pub rows-most : {m : List ℕ} {s e : ℕ} → RowRange m s e → sum heldSize (rowsFrom m s e) ≤ mostRecord * (e - s)
-rows-most {m} {s} {e} g = omega (arith, small-sum (rowsFrom m s e) (rows-small m s e), rows-length g)
+rows-most {m} {s} {e} g = omega (arith, small-sum (rowsFrom m s e) (rows-small m s e), range-length g)
 
 -- the size of row i, among their sizes
 pub row-size : {m : List ℕ} {s e : ℕ} → RowRange m s e → (i : ℕ) → s ≤ i → i < e → getD (map heldSize (rowsFrom m s e)) (i - s) 0 ≡ heldSize (rowIn (flatOf m) i)
@@ -54,14 +54,14 @@ row-size {m} {s} {e} g i l h =
     ∙ ap (λ (z : List ℕ). getD z (i - s) 0) (sym (map-tab heldSize (rowIn (flatOf m)) s (e - s))) ∙ tab-within f s (e - s) i 0 l (omega arith)
 
 module _ (m : List ℕ) (i e : ℕ) where
-  pub rows-next : i < e → e ≤ length (flatOf m .rows) → rowsFrom m i e ≡ rowIn (flatOf m) i ∷ rowsFrom m (i + 1) e
+  rows-next : i < e → e ≤ length (flatOf m .rows) → rowsFrom m i e ≡ rowIn (flatOf m) i ∷ rowsFrom m (i + 1) e
   rows-next h l =
       let rs : List Held = flatOf m .rows in
       let z : e - i ≡ suc (e - (i + 1)) = omega arith in
       ap (λ (n : ℕ). take n (drop i rs)) z ∙ ap (take (suc (e - (i + 1)))) (drop-cons rs i noRow (omega arith))
       ∙ ap (λ (n : ℕ). rowIn (flatOf m) i ∷ take (e - (i + 1)) (drop n rs)) (sym (add-one i))
 
-  pub rows-none : e ≤ i → rowsFrom m i e ≡ []
+  rows-none : e ≤ i → rowsFrom m i e ≡ []
   rows-none h = let z : e - i ≡ 0 = omega arith in ap (λ (n : ℕ). take n (drop i (flatOf m .rows))) z
 
   pub sum-next : i < e → e ≤ length (flatOf m .rows) → sum heldSize (rowsFrom m i e) ≡ heldSize (rowIn (flatOf m) i) + sum heldSize (rowsFrom m (i + 1) e)

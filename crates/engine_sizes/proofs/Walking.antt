@@ -13,7 +13,7 @@ use Rattle.memory_layout.specs.Elements.{rowsFrom, RowRange}
 use Rattle.memory_layout.proofs.Laws.{sizes}
 use Rattle.engine_sizes.specs.Parts.{IsFirstPart}
 use Rattle.engine_sizes.specs.declared.FirstPart.{FirstPart}
-use Rattle.engine_sizes.proofs.Sizes.{rows-length, row-size}
+use Rattle.engine_sizes.proofs.Sizes.{range-length, row-size}
 
 -- ---- over tuples
 
@@ -132,7 +132,7 @@ module _ {m : List ℕ} {s e : ℕ} (g : RowRange m s e) where
     least = omega arith;
     order = omega arith;
     most = omega arith;
-    walked = starts (rowsFrom m s e) (omega (arith, rows-length g)) (omega arith) (omega (arith, rows-length g)) (among s (omega arith) h x) (x .1)
+    walked = starts (rowsFrom m s e) (omega (arith, range-length g)) (omega arith) (omega (arith, range-length g)) (among s (omega arith) h x) (x .1)
         (among (e - 1) (omega arith) (omega arith) y) (y .1);
   }
 
@@ -146,7 +146,7 @@ module _ {m : List ℕ} {s e : ℕ} (g : RowRange m s e) where
     few = omega (arith, b .order, b .most, g .inside, sizes (g .room) .rows)
 
     pub light : (left ≤ mostRecord * capacityLimit) × (right ≤ mostRecord * capacityLimit)
-    light = let w = b .walked in let n = sizes (g .room) .rows in let k = rows-length g in let f = few in
+    light = let w = b .walked in let n = sizes (g .room) .rows in let k = range-length g in let f = few in
         (omega (arith, w .left-light), omega (arith, w .right-light, g .inside))
 
     pub walk-left : i < j → left < right → {v : ℕ} → SizeAt m (i + 1) v → Between m s e (i + 1) j (left + v) right
