@@ -1,7 +1,7 @@
 -- The walk from both ends over tuples, turn by turn: where the ends are, and what each side has with the tuple that is next for it.
-use Rattle.basics.proofs.Kit.{_≡_, sym, ap, _∙_, subst, List, map, ℕ, suc, _+_, _*_, _-_, _≤_, _<_, length, length-map, getD, take, arith}
+use Rattle.basics.proofs.Kit.{_≡_, sym, ap, _∙_, subst, List, map, ℕ, suc, _+_, _*_, _-_, _≤_, _<_, length, length-map, getD, take, take-length, arith}
 use Rattle.basics.specs.Basics.{sum}
-use Rattle.basics.proofs.Lists.{sum-take-next}
+use Rattle.basics.proofs.Lists.{sum-take-next, sum-parts}
 use Rattle.block_forms.specs.Limits.{mostRecord}
 use Rattle.image.specs.Stages.{capacityLimit}
 use Rattle.model.specs.State.{Held}
@@ -13,7 +13,7 @@ use Rattle.memory_layout.specs.Elements.{rowsFrom, RowRange}
 use Rattle.memory_layout.proofs.Laws.{sizes}
 use Rattle.engine_sizes.specs.Parts.{IsFirstPart}
 use Rattle.engine_sizes.specs.declared.FirstPart.{FirstPart}
-use Rattle.engine_sizes.proofs.Sizes.{range-length, row-size}
+use Rattle.engine_sizes.proofs.Sizes.{range-length, rows-most, row-size}
 
 -- ---- over tuples
 
@@ -25,9 +25,8 @@ pub record Walked (hs : List Held) (a b left right : ℕ) : Type 0 where
   inside : b < length hs
   left-next : left ≡ l + getD (map heldSize hs) a 0
   right-next : right ≡ r + getD (map heldSize hs) b 0
-  left-light : left ≤ mostRecord * suc a
-  right-light : right ≤ mostRecord * (length hs - b)
-  taken : l ≡ sum heldSize (take a hs)
+  left-took : l ≡ sum heldSize (take a hs)
+  right-took : r + sum heldSize (take (suc b) hs) ≡ sum heldSize hs
   ahead : dividing (map heldSize hs) ≡ meet (map heldSize hs) (b - a) a l r
 
 module _ (hs : List Held) where
@@ -35,11 +34,11 @@ module _ (hs : List Held) where
   abbrev ws : List ℕ
   ws = map heldSize hs
 
-  starts : {a b left right : ℕ} → 0 < length hs → a ≡ 0 → b ≡ length hs - 1 → left ≡ getD ws a 0 → left ≤ mostRecord
-      → right ≡ getD ws b 0 → right ≤ mostRecord → Walked hs a b left right
+  starts : {a b left right : ℕ} → 0 < length hs → a ≡ 0 → b ≡ length hs - 1 → left ≡ getD ws a 0 → right ≡ getD ws b 0 → Walked hs a b left right
   unfolding dividing sum
-  starts {a} {b} p ea eb x x1 y y1 =
+  starts {a} {b} p ea eb x y =
       let en : length ws - 1 ≡ b - a = omega (arith, length-map hs heldSize) in
+      let el : suc b ≡ length hs = omega arith in
       record {
         l = 0;
         r = 0;
@@ -47,20 +46,26 @@ module _ (hs : List Held) where
         inside = omega arith;
         left-next = omega (arith, x);
         right-next = omega (arith, y);
-        left-light = omega (arith, x1);
-        right-light = omega (arith, y1);
-        taken = ap (λ (z : ℕ). sum heldSize (take z hs)) (sym ea);
+        left-took = ap (λ (z : ℕ). sum heldSize (take z hs)) (sym ea);
+        right-took = omega (arith, ap (λ (z : ℕ). sum heldSize (take z hs)) el, ap (sum heldSize) (take-length hs));
         ahead = λ i. meet ws (en i) (sym ea i) 0 0;
       }
 
   module _ {a b left right : ℕ} (w : Walked hs a b left right) where
     -- what the left side has with its next is the size of the tuples so far
     so-far : left ≡ sum heldSize (take (suc a) hs)
-    so-far = omega (arith, w .left-next, w .taken, sum-take-next heldSize hs a)
+    so-far = omega (arith, w .left-next, w .left-took, sum-take-next heldSize hs a)
+
+    -- no side has more than all
+    left-most : left ≤ sum heldSize hs
+    left-most = omega (arith, so-far, sum-parts heldSize (suc a) hs)
+
+    right-most : right ≤ sum heldSize hs
+    right-most = omega (arith, w .right-next, w .right-took, sum-take-next heldSize hs b)
 
     -- the left side takes its next
-    left-takes : a < b → left < right → {v : ℕ} → v ≡ getD ws (suc a) 0 → v ≤ mostRecord → Walked hs (suc a) b (left + v) right
-    left-takes h c e k =
+    left-takes : a < b → left < right → {v : ℕ} → v ≡ getD ws (suc a) 0 → Walked hs (suc a) b (left + v) right
+    left-takes h c e =
         let n : ℕ = b - suc a in
         let en : b - a ≡ suc n = omega arith in
         let eb : suc (a + n) ≡ b = omega arith in
@@ -72,17 +77,16 @@ module _ (hs : List Held) where
           inside = w .inside;
           left-next = omega arith;
           right-next = w .right-next;
-          left-light = omega (arith, w .left-light);
-          right-light = w .right-light;
-          taken = so-far;
+          left-took = so-far;
+          right-took = w .right-took;
           ahead = w .ahead ∙ ap (λ (z : ℕ). meet ws z a (w .l) (w .r)) en
               ∙ meet-left ws n a (w .l) (w .r) (omega (arith, g, w .left-next, w .right-next))
               ∙ ap (λ (z : ℕ). meet ws n (suc a) z (w .r)) (sym (w .left-next));
         }
 
     -- the right side takes its next
-    right-takes : a < b → right ≤ left → {c v : ℕ} → b ≡ suc c → v ≡ getD ws c 0 → v ≤ mostRecord → Walked hs a c left (right + v)
-    right-takes h d {c} eb e k =
+    right-takes : a < b → right ≤ left → {c v : ℕ} → b ≡ suc c → v ≡ getD ws c 0 → Walked hs a c left (right + v)
+    right-takes h d {c} eb e =
         let n : ℕ = c - a in
         let en : b - a ≡ suc n = omega arith in
         let es : suc (a + n) ≡ b = omega arith in
@@ -94,9 +98,8 @@ module _ (hs : List Held) where
           inside = omega (arith, w .inside);
           left-next = w .left-next;
           right-next = omega arith;
-          left-light = w .left-light;
-          right-light = omega (arith, w .right-light, w .inside);
-          taken = w .taken;
+          left-took = w .left-took;
+          right-took = omega (arith, w .right-next, w .right-took, sum-take-next heldSize hs b, ap (λ (z : ℕ). sum heldSize (take z hs)) eb);
           ahead = w .ahead ∙ ap (λ (z : ℕ). meet ws z a (w .l) (w .r)) en
               ∙ meet-right ws n a (w .l) (w .r) (omega (arith, g, w .left-next, w .right-next))
               ∙ ap (meet ws n a (w .l)) (omega (arith, g, w .right-next));
@@ -118,22 +121,18 @@ pub record Between (m : List ℕ) (s e i j left right : ℕ) : Type 0 where
   pub most : j < e
   pub walked : Walked (rowsFrom m s e) (i - s) (j - s) left right
 
--- the size of row k
-abbrev pub SizeAt : List ℕ → ℕ → ℕ → Type 0
-SizeAt m k v = (v ≡ heldSize (rowIn (flatOf m) k)) × (v ≤ mostRecord)
-
 module _ {m : List ℕ} {s e : ℕ} (g : RowRange m s e) where
-  -- it is its size among theirs
-  among : (k : ℕ) {v : ℕ} → s ≤ k → k < e → SizeAt m k v → v ≡ getD (map heldSize (rowsFrom m s e)) (k - s) 0
-  among k l h x = x .0 ∙ sym (row-size g k l h)
+  -- the size of row k is its size among theirs
+  among : (k : ℕ) {v : ℕ} → s ≤ k → k < e → v ≡ heldSize (rowIn (flatOf m) k) → v ≡ getD (map heldSize (rowsFrom m s e)) (k - s) 0
+  among k l h x = x ∙ sym (row-size g k l h)
 
-  pub walk-start : s < e → {left right : ℕ} → SizeAt m s left → SizeAt m (e - 1) right → Between m s e s (e - 1) left right
+  pub walk-start : s < e → {left right : ℕ} → left ≡ heldSize (rowIn (flatOf m) s) → right ≡ heldSize (rowIn (flatOf m) (e - 1)) → Between m s e s (e - 1) left right
   walk-start h x y = record {
     least = omega arith;
     order = omega arith;
     most = omega arith;
-    walked = starts (rowsFrom m s e) (omega (arith, range-length g)) (omega arith) (omega (arith, range-length g)) (among s (omega arith) h x) (x .1)
-        (among (e - 1) (omega arith) (omega arith) y) (y .1);
+    walked = starts (rowsFrom m s e) (omega (arith, range-length g)) (omega arith) (omega (arith, range-length g)) (among s (omega arith) h x)
+        (among (e - 1) (omega arith) (omega arith) y);
   }
 
   module _ {i j left right : ℕ} (b : Between m s e i j left right) where
@@ -146,10 +145,10 @@ module _ {m : List ℕ} {s e : ℕ} (g : RowRange m s e) where
     few = omega (arith, b .order, b .most, g .inside, sizes (g .room) .rows)
 
     pub light : (left ≤ mostRecord * capacityLimit) × (right ≤ mostRecord * capacityLimit)
-    light = let w = b .walked in let n = sizes (g .room) .rows in let k = range-length g in let f = few in
-        (omega (arith, w .left-light), omega (arith, w .right-light, g .inside))
+    light = let n = sizes (g .room) .rows in let k = rows-most g in
+        (omega (arith, left-most (rowsFrom m s e) (b .walked), g .inside), omega (arith, right-most (rowsFrom m s e) (b .walked), g .inside))
 
-    pub walk-left : i < j → left < right → {v : ℕ} → SizeAt m (i + 1) v → Between m s e (i + 1) j (left + v) right
+    pub walk-left : i < j → left < right → {v : ℕ} → v ≡ heldSize (rowIn (flatOf m) (i + 1)) → Between m s e (i + 1) j (left + v) right
     walk-left h c {v} x =
         let l = b .least in let n = b .most in
         let q : suc (i - s) ≡ i + 1 - s = omega arith in
@@ -159,17 +158,17 @@ module _ {m : List ℕ} {s e : ℕ} (g : RowRange m s e) where
           order = omega arith;
           most = n;
           walked = subst (λ (z : ℕ). Walked (rowsFrom m s e) z (j - s) (left + v) right) q
-              (left-takes (rowsFrom m s e) (b .walked) (omega arith) c (among (i + 1) (omega arith) (omega arith) x ∙ sym t) (x .1));
+              (left-takes (rowsFrom m s e) (b .walked) (omega arith) c (among (i + 1) (omega arith) (omega arith) x ∙ sym t));
         }
 
-    pub walk-right : i < j → right ≤ left → {v : ℕ} → SizeAt m (j - 1) v → Between m s e i (j - 1) left (right + v)
+    pub walk-right : i < j → right ≤ left → {v : ℕ} → v ≡ heldSize (rowIn (flatOf m) (j - 1)) → Between m s e i (j - 1) left (right + v)
     walk-right h c x =
         let l = b .least in let n = b .most in
         record {
           least = l;
           order = omega arith;
           most = omega arith;
-          walked = right-takes (rowsFrom m s e) (b .walked) (omega arith) c (omega arith) (among (j - 1) (omega arith) (omega arith) x) (x .1);
+          walked = right-takes (rowsFrom m s e) (b .walked) (omega arith) c (omega arith) (among (j - 1) (omega arith) (omega arith) x);
         }
 
     -- where they meet
