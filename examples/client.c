@@ -157,6 +157,13 @@ int main(int argc, char **argv) {
     show(100);   /* written before the checkpoint that landed began */
     show(130);   /* written after it began */
     show_crossing(119, 131);
+
+    must("delete", vodzanu_delete(memory, sizeof memory, MISSION, DISH, 100));
+    show(100);
+    book(MISSION, 100, 25, "pass 1, antenna south"); /* withdrawn and booked again in one change */
+    must("commit", vodzanu_commit(memory, sizeof memory, MISSION));
+    must("open", vodzanu_open(memory, sizeof memory, MISSION));
+    show(100);
     must_file("close", close(file) == 0);
     return 0;
 }

@@ -85,7 +85,7 @@ enum vodzanu_refusal {
     VODZANU_TABLE_RANGE = 10,        /* the table is above 7 */
     VODZANU_PAYLOAD_LONG = 11,       /* the payload has more than 40 bytes */
     VODZANU_CONFLICT = 12,           /* another open transaction has written this key */
-    VODZANU_KEY_EXISTS = 13,         /* the key has a tuple; the transaction's own delete mark is one until it commits */
+    VODZANU_KEY_EXISTS = 13,         /* the transaction sees the key already */
     VODZANU_NOT_FOUND = 14,          /* the transaction does not see the key */
     VODZANU_FULL = 15,               /* as many tuples as the capacity are held; those that a checkpoint keeps for its store count */
     VODZANU_NUMBERS_EXHAUSTED = 16,  /* the store's counter of tuples is at its end, 4,294,967,295 */
@@ -119,8 +119,9 @@ int64_t vodzanu_recover(const uint8_t *image, size_t image_len, uint8_t *memory,
  * Answers 0. Refuses: 4, 6, 8, 9. */
 int64_t vodzanu_open(uint8_t *memory, size_t memory_len, uint64_t transaction);
 
-/* Adds a tuple of a key that has none. The transaction sees it at once, others when it is committed; until then others that write the
- * key are refused with 12. Also a key that the transaction itself has deleted is refused, with 13, until it has committed.
+/* Adds a tuple of a key that the transaction does not see: one that has no tuple, or one that the transaction itself has deleted, also
+ * before its commit. The transaction sees it at once, others when it is committed; until then others that write the key are refused
+ * with 12.
  * Answers 0. Refuses: 4, 6, 7, 10, 11, 12, 13, 15, 16. */
 int64_t vodzanu_insert(uint8_t *memory, size_t memory_len, uint64_t transaction, uint64_t table, uint32_t key,
                        const uint8_t *payload, size_t payload_len);

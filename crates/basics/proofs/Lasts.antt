@@ -1,8 +1,8 @@
 -- Tests and searches of a list with one element more at its end, and of what is kept of a list.
-use Rattle.basics.proofs.Kit.{_≡_, refl, sym, Bool, true, false, some, none, List, [], _∷_, _++_, _&&_, ap, ap₂, Option, _∙_, _||_}
-use Rattle.basics.specs.Basics.{if_then_else_, any, first, last, isEmpty, keep, AllOf}
+use Rattle.basics.proofs.Kit.{_≡_, refl, sym, Bool, true, false, some, none, List, [], _∷_, _++_, _&&_, not, ap, ap₂, Option, _∙_, _||_}
+use Rattle.basics.specs.Basics.{if_then_else_, any, first, last, keep, AllOf}
 use Rattle.basics.proofs.Facts.{by, by-option}
-use Rattle.basics.proofs.Elements.{and-yes, and-no, keep-cons, keep-past, or-right}
+use Rattle.basics.proofs.Elements.{and-yes, and-no, keep-cons, keep-past, last-skip, or-right}
 use Rattle.basics.proofs.Searches.{any-append, any-one, or-none}
 use Rattle.basics.proofs.Firsts.{first-hit, first-past, first-some, first-skip}
 
@@ -30,12 +30,16 @@ module _ {A : Type 0} (f : A → Bool) (x : A) where
   pub first-new : f x ≡ true → (xs : List A) → first f xs ≡ none → first f (xs ++ x ∷ []) ≡ some x
   first-new e xs n = first-skip f xs (x ∷ []) n ∙ first-hit f x [] e
 
-  pub filled-last : (xs : List A) → isEmpty (xs ++ x ∷ []) ≡ false
-  unfolding isEmpty
-  filled-last [] = refl
-  filled-last (y ∷ xs) = refl
-
 -- ---- searches of what is kept of a list
+
+-- all that is looked for is left out
+pub last-gone : {A : Type 0} (f : A → Bool) (xs : List A) → last f (keep (λ x. not (f x)) xs) ≡ none
+last-gone f [] = unfold last keep in refl
+last-gone f (x ∷ xs) =
+    let g : _ → Bool = λ y. not (f y) in
+    by (f x)
+    (λ h. ap (last f) (keep-past g x xs (ap not h)) ∙ last-gone f xs)
+    (λ h. ap (last f) (keep-cons g x xs (ap not h)) ∙ last-skip f x (keep g xs) h ∙ last-gone f xs)
 
 -- what is looked for is not among those left out
 pub last-keep : {A : Type 0} (f g : A → Bool) (xs : List A) → AllOf (λ r. g r ≡ false → f r ≡ false) xs → last f (keep g xs) ≡ last f xs

@@ -1,7 +1,7 @@
 -- The tests of insert, replace and delete: those that look at no tuple, and those by what there is of the key; what is known once none holds.
 use Rattle.basics.proofs.Kit.{_≡_, refl, sym, ap, _∙_, ⊎-elim, Bool, true, false, not, List, [], _∷_, _++_, ℕ, _≤_, _<_, leb, eqb, ltb, length, le-leb, lt-ltb, le-ltb, lt-leb}
 use Rattle.basics.proofs.Kit.{eq-eqb, ne-eqb, eqb-false, ltb-false, arith}
-use Rattle.basics.specs.Basics.{any, isSome, isIn}
+use Rattle.basics.specs.Basics.{isSome, isIn}
 use Rattle.basics.proofs.Facts.{by, lie}
 use Rattle.block_forms.specs.Limits.{payloadLimit, mostTransaction}
 use Rattle.model.specs.State.{Store}
@@ -108,37 +108,27 @@ module _ (f : Flat) (l : Visibility) where
   unfolding foundTests keyTests
   key-12 new e = sym (stop-here 12 _ _ e)
 
-  -- behind 12, where the key is to be new or not
-  abbrev behind : Bool → List Test
-  behind new = keyTest new (l .any) (known (picked f l)) ∷ full (storeOf f)
-
-  module _ (e12 : l .foreign ≡ false) where
-    past-12 : (new : Bool) → firstRefusal (foundTests new f l) ≡ firstRefusal (behind new)
+  -- behind 12, by the version that is seen
+  module _ (e12 : l .foreign ≡ false) {r : Seen} (er : r ≡ picked f l) where
+    by-sight : (new : Bool) → firstRefusal (foundTests new f l) ≡ firstRefusal (keyTest new (known r) ∷ full (storeOf f))
     unfolding foundTests keyTests
-    past-12 new = go-on 12 _ _ e12
+    by-sight new = go-on 12 _ _ e12 ∙ ap (λ (z : Seen). firstRefusal (keyTest new (known z) ∷ full (storeOf f))) (sym er)
 
-    pub key-13 : (new : Bool) → new ≡ true → l .any ≡ true → 13 ≡ firstRefusal (foundTests new f l)
+    pub key-13 : {i : ℕ} → r ≡ At i → (new : Bool) → new ≡ true → 13 ≡ firstRefusal (foundTests new f l)
+    unfolding keyTest known
+    key-13 q true en = sym (by-sight true ∙ stop-here 13 (known r) _ (ap known q))
+    key-13 q false en = lie en
+
+    pub key-14 : r ≡ Nothing → (new : Bool) → not new ≡ true → 14 ≡ firstRefusal (foundTests new f l)
+    unfolding keyTest known
+    key-14 q true en = lie en
+    key-14 q false en = sym (by-sight false ∙ stop-here 14 (not (known r)) _ (ap (λ (z : Seen). not (known z)) q))
+
+    -- the key is not seen and is to be new, or is seen and is not to be
+    pub key-passed : (new : Bool) → known r ≡ not new → firstRefusal (full (storeOf f)) ≡ firstRefusal (foundTests new f l)
     unfolding keyTest
-    key-13 new en e = sym (past-12 new ∙ ap (λ (b : Bool). firstRefusal (behind b)) en ∙ stop-here 13 _ _ e)
-
-    pub key-new : (new : Bool) → new ≡ true → l .any ≡ false → firstRefusal (full (storeOf f)) ≡ firstRefusal (foundTests new f l)
-    unfolding keyTest
-    key-new new en e = sym (past-12 new ∙ ap (λ (b : Bool). firstRefusal (behind b)) en ∙ go-on 13 _ _ e)
-
-    module _ (new : Bool) (en : new ≡ false) (r : Seen) (er : r ≡ picked f l) where
-      by-sight : firstRefusal (foundTests new f l) ≡ firstRefusal (14 when not (known r) ∷ full (storeOf f))
-      unfolding keyTest
-      by-sight =
-          past-12 new ∙ ap (λ (b : Bool). firstRefusal (behind b)) en
-          ∙ ap (λ (z : Seen). firstRefusal (14 when not (known z) ∷ full (storeOf f))) (sym er)
-
-      pub key-14 : r ≡ Nothing → 14 ≡ firstRefusal (foundTests new f l)
-      unfolding known
-      key-14 q = sym (by-sight ∙ stop-here 14 (not (known r)) _ (ap (λ (z : Seen). not (known z)) q))
-
-      pub key-seen : (i : ℕ) → r ≡ At i → firstRefusal (full (storeOf f)) ≡ firstRefusal (foundTests new f l)
-      unfolding known
-      key-seen i q = sym (by-sight ∙ go-on 14 (not (known r)) _ (ap (λ (z : Seen). not (known z)) q))
+    key-passed true q = sym (by-sight true ∙ go-on 13 (known r) _ q)
+    key-passed false q = sym (by-sight false ∙ go-on 14 (not (known r)) _ (ap not q))
 
 -- ---- by the model's words
 
@@ -152,7 +142,7 @@ module _ (f : Flat) (t tx k : ℕ) (l : Visibility) (shown : Shows f t tx (versi
   unfolding foundTests tupleTests storeOf
   key-tests-are new =
       let sees = known-is f t (picked f l) ∙ ap isSome (visibility-sees f t tx k l (picked f l) shown refl .means) in
-      λ i. keyTests new (shown .others i) (shown .there i) (sees i) (storeOf f)
+      λ i. keyTests new (shown .others i) (sees i) (storeOf f)
 
 pub later-numbered : (new : Bool) (tx t k : ℕ) (s : Store) → Numbered (tupleTests new tx t k s)
 unfolding tupleTests keyTests keyTest full

@@ -30,4 +30,4 @@ known Nothing = false
 
 -- the model's tests of a write by what the search has found of its key
 unfoldable pub foundTests : Bool → Flat → Visibility → List Test
-foundTests new f l = keyTests new (l .foreign) (l .any) (known (picked f l)) (storeOf f)
+foundTests new f l = keyTests new (l .foreign) (known (picked f l)) (storeOf f)

@@ -47,7 +47,8 @@ pub fn full_refusal(m: &[u8]) -> u64
     0
 }
 
-// By what there is of the key: 12 a tentative tuple of another transaction; 13 a tuple, if the key is to be new, else 14 none is seen; 15, 16; else 0.
+// By what there is of the key: 12 a tentative tuple of another transaction; 13 it is seen and is to be new; 14 it is not seen and is not to be
+// new; 15, 16; else 0.
 pub fn key_refusal(m: &[u8], new: bool, visibility: Visibility) -> u64
     requires { ⌜ (holdsStore (now m) ≡ true) × (visibility .own ≤ length (flatOf (now m) .rows)) ⌝ }
     ensures { λ r. ⌜ r ≡ firstRefusal (foundTests new (flatOf (now (m .entry))) visibility) ⌝ }
@@ -55,14 +56,17 @@ pub fn key_refusal(m: &[u8], new: bool, visibility: Visibility) -> u64
     if visibility.foreign {
         return 12;
     }
-    if new {
-        if visibility.any {
-            return 13;
+    match engine_lookup::pick(m, visibility) {
+        Seen::At(_) => {
+            if new {
+                return 13;
+            }
         }
-        return full_refusal(m);
+        Seen::Nothing => {
+            if !new {
+                return 14;
+            }
+        }
     }
-    let Seen::At(_) = engine_lookup::pick(m, visibility) else {
-        return 14;
-    };
     full_refusal(m)
 }

@@ -16,19 +16,19 @@ use Rattle.engine_lookup.specs.declared.Visibility.{Visibility}
 
 -- the committed version that counts is the first
 module _ (i : ℕ) (l : Visibility) where
-  pub first-committed : l .committed ≡ 0 → record { foreign = l .foreign; any = true; own = l .own; committed = i + 1 } ≡ noteCommitted i l
+  pub first-committed : l .committed ≡ 0 → record { foreign = l .foreign; own = l .own; committed = i + 1 } ≡ noteCommitted i l
   unfolding noteCommitted if_then_else_
   first-committed e = rw (eq-eqb (l .committed) 0 e, add-one i)
 
-  pub later-committed : (l .committed ≡ 0 → ⊥) → record { foreign = l .foreign; any = true; own = l .own; committed = l .committed } ≡ noteCommitted i l
+  pub later-committed : (l .committed ≡ 0 → ⊥) → record { foreign = l .foreign; own = l .own; committed = l .committed } ≡ noteCommitted i l
   unfolding noteCommitted if_then_else_
   later-committed e = rw (ne-eqb (l .committed) 0 e)
 
-  pub own-tentative : (b : Bool) → b ≡ true → record { foreign = l .foreign; any = true; own = i + 1; committed = l .committed } ≡ noteTentative i b l
+  pub own-tentative : (b : Bool) → b ≡ true → record { foreign = l .foreign; own = i + 1; committed = l .committed } ≡ noteTentative i b l
   unfolding noteTentative
   own-tentative b e = rw (e, noteTentative, add-one i)
 
-  pub foreign-tentative : (b : Bool) → b ≡ false → record { foreign = true; any = true; own = l .own; committed = l .committed } ≡ noteTentative i b l
+  pub foreign-tentative : (b : Bool) → b ≡ false → record { foreign = true; own = l .own; committed = l .committed } ≡ noteTentative i b l
   unfolding noteTentative
   foreign-tentative b e = rw (e, noteTentative)
 

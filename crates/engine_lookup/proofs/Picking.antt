@@ -4,11 +4,11 @@ use Rattle.basics.specs.Basics.{if_then_else_, first, last}
 use Rattle.basics.proofs.Facts.{by}
 use Rattle.block_forms.specs.Tuple.{Tuple}
 use Rattle.image_rows.specs.Rows.{Row, isOwn}
-use Rattle.model.specs.Sight.{versions, seenOf, seen}
+use Rattle.model.specs.Sight.{isCommitted, versions, seenOf, seen}
 use Rattle.model.proofs.Rows.{applied-is}
 use Rattle.memory_layout.specs.Flat.{Flat, rowIn}
 use Rattle.memory_layout.specs.Store.{pagesIn, storeOf}
-use Rattle.engine_lookup.specs.Lookup.{isCommitted, version, versionAt, Shows, seenAt, Inside, placeOf, pickedAt, picked, Sees}
+use Rattle.engine_lookup.specs.Lookup.{version, versionAt, Shows, seenAt, Inside, placeOf, pickedAt, picked, Sees}
 use Rattle.engine_lookup.specs.declared.Visibility.{Visibility}
 use Rattle.engine_lookup.specs.declared.Seen.{Seen}
 use Rattle.engine_lookup.specs.declared.Seen.the-variants.{At, Nothing}

@@ -1,19 +1,19 @@
 -- The rows noted one after another show the versions of a key among them.
 use Rattle.basics.proofs.Kit.{_≡_, refl, sym, ap, _∙_, true, false, _&&_, not, List, [], _∷_, _++_, append-assoc, append-nil, ℕ, suc, _+_, _≤_, _<_, zero, eqb, length, eq-eqb, ne-eqb, arith}
-use Rattle.basics.specs.Basics.{if_then_else_, any, first, last, isEmpty, keep}
+use Rattle.basics.specs.Basics.{if_then_else_, any, first, last, keep}
 use Rattle.basics.proofs.Facts.{by}
 use Rattle.basics.proofs.Firsts.{first-some}
 use Rattle.block_forms.specs.Tuple.{Tuple, Owner, committed, tentative, isTentative}
 use Rattle.image_rows.specs.Rows.{Row, rowsOf, isBy, isOwn, isAt}
 use Rattle.model.specs.State.{Held}
 use Rattle.model.specs.Rules.{isRemoving, applied, live}
-use Rattle.model.specs.Sight.{isForeign}
+use Rattle.model.specs.Sight.{isForeign, isCommitted}
 use Rattle.model.proofs.Rows.{applied-is}
 use Rattle.basics.proofs.Elements.{keep-cons, keep-past}
 use Rattle.basics.specs.Lists.{tab}
-use Rattle.basics.proofs.Lasts.{any-last-no, any-last-yes, last-new, last-old, first-old, first-new, filled-last}
+use Rattle.basics.proofs.Lasts.{any-last-no, any-last-yes, last-new, last-old, first-old, first-new}
 use Rattle.memory_layout.specs.Flat.{Flat, rowIn}
-use Rattle.engine_lookup.specs.Lookup.{isCommitted, version, versionAt, Shows, blank, noteCommitted, noteTentative, noteOwner, note, notes}
+use Rattle.engine_lookup.specs.Lookup.{version, versionAt, Shows, blank, noteCommitted, noteTentative, noteOwner, note, notes}
 use Rattle.engine_lookup.specs.declared.Visibility.{Visibility}
 use Rattle.engine_lookup.proofs.Iterations.{along, notes-on, notes-here}
 
@@ -50,7 +50,6 @@ shows-one f t tx i committed vs l eo h s =
     let x : Row = version f t i in
     record {
       others = s .others ∙ sym (any-last-no (isForeign tx) x (foreign-is f t tx i committed eo) vs);
-      there = sym (ap not (filled-last (isOwn tx) x vs));
       last-own = s .last-own ∙ sym (last-old (isOwn tx) x (own-is f t tx i committed eo) vs);
       first-committed = committed-place f t i (l .committed) vs (committed-is f t tx i committed eo) (s .first-committed);
       own-in = s .own-in;
@@ -62,7 +61,6 @@ shows-one f t tx i (tentative u w) vs l eo h s =
     by (eqb u tx)
     (λ e. rw e (record {
       others = s .others ∙ sym (any-last-no (isForeign tx) x (foreign-is f t tx i (tentative u w) eo ∙ ap not e) vs);
-      there = sym (ap not (filled-last (isOwn tx) x vs));
       last-own = sym (last-new (isOwn tx) x (own-is f t tx i (tentative u w) eo ∙ e) vs);
       first-committed = s .first-committed ∙ st;
       own-in = h;
@@ -70,7 +68,6 @@ shows-one f t tx i (tentative u w) vs l eo h s =
     }))
     (λ e. rw e (record {
       others = sym (any-last-yes (isForeign tx) x (foreign-is f t tx i (tentative u w) eo ∙ ap not e) vs);
-      there = sym (ap not (filled-last (isOwn tx) x vs));
       last-own = s .last-own ∙ sym (last-old (isOwn tx) x (own-is f t tx i (tentative u w) eo ∙ e) vs);
       first-committed = s .first-committed ∙ st;
       own-in = s .own-in;
@@ -144,8 +141,8 @@ shows-run f t tx k (suc n) i vs l b s =
 
 -- nothing looked at, nothing seen
 shows-none : (f : Flat) (t tx : ℕ) → Shows f t tx [] blank
-unfolding any isEmpty last first versionAt
-shows-none f t tx = record { others = refl; there = refl; last-own = refl; first-committed = refl; own-in = omega arith; committed-in = omega arith }
+unfolding any last first versionAt
+shows-none f t tx = record { others = refl; last-own = refl; first-committed = refl; own-in = omega arith; committed-in = omega arith }
 
 pub shows-rows : (f : Flat) (t tx k n i : ℕ) → i + n ≤ length (f .rows)
     → Shows f t tx (versionsOn t k (tab (rowIn f) i n)) (along f tx k i n blank)

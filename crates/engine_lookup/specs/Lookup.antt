@@ -1,17 +1,17 @@
 -- What a transaction finds of a key, by the places of rows.
 use mathlib.Core.Path.{_≡_}
-use mathlib.Core.Bool.{Bool, true, false, not}
+use mathlib.Core.Bool.{Bool, true, false}
 use mathlib.Core.Option.{Option, none, some}
 use mathlib.Core.List.{List, [], _∷_}
 use Prim.Native.Nat.{ℕ, zero, suc, _+_, _≤_, _<_}
 use lib.ListN.{length}
 use lib.Dec.{eqb}
-use Rattle.basics.specs.Basics.{if_then_else_, any, first, last, isEmpty}
-use Rattle.block_forms.specs.Tuple.{Owner, committed, tentative, isTentative}
+use Rattle.basics.specs.Basics.{if_then_else_, any, first, last}
+use Rattle.block_forms.specs.Tuple.{Owner, committed, tentative}
 use Rattle.image_rows.specs.Rows.{Row, isOwn}
 use Rattle.model.specs.State.{Held}
 use Rattle.model.specs.Rules.{isRemoving, applied}
-use Rattle.model.specs.Sight.{versions, isForeign}
+use Rattle.model.specs.Sight.{isForeign, isCommitted, versions}
 use Rattle.memory_layout.specs.Flat.{Flat, rowIn}
 use Rattle.memory_layout.specs.Store.{pagesIn}
 use Rattle.memory_pages.specs.Spots.{tableRow, placeIn}
@@ -20,10 +20,6 @@ use Rattle.engine_lookup.specs.declared.Seen.{Seen}
 use Rattle.engine_lookup.specs.declared.Seen.the-variants.{At, Nothing}
 use Rattle.engine_lookup.specs.declared.Spot.{Spot}
 use Rattle.engine_lookup.specs.declared.Range.{Range}
-
--- a committed version
-abbrev pub isCommitted : Row → Bool
-isCommitted r = not (isTentative (r .1 .owner))
 
 -- row i as a version of table t, its pending operation taken as done
 unfoldable pub version : Flat → ℕ → ℕ → Row
@@ -37,7 +33,6 @@ versionAt f t (suc i) = some (version f t i)
 -- l is what there is of a key of table t with the versions vs
 pub record Shows (f : Flat) (t tx : ℕ) (vs : List Row) (l : Visibility) : Type 0 where
   pub others : l .foreign ≡ any (isForeign tx) vs
-  pub there : l .any ≡ not (isEmpty vs)
   pub last-own : versionAt f t (l .own) ≡ last (isOwn tx) vs
   pub first-committed : versionAt f t (l .committed) ≡ first isCommitted vs
   pub own-in : l .own ≤ length (f .rows)
@@ -47,17 +42,16 @@ pub record Shows (f : Flat) (t tx : ℕ) (vs : List Row) (l : Visibility) : Type
 
 -- nothing seen yet
 abbrev pub blank : Visibility
-blank = record { foreign = false; any = false; own = 0; committed = 0 }
+blank = record { foreign = false; own = 0; committed = 0 }
 
 -- a committed version more, at row i
 unfoldable pub noteCommitted : ℕ → Visibility → Visibility
-noteCommitted i l =
-    record { foreign = l .foreign; any = true; own = l .own; committed = if eqb (l .committed) 0 then suc i else l .committed }
+noteCommitted i l = record { foreign = l .foreign; own = l .own; committed = if eqb (l .committed) 0 then suc i else l .committed }
 
 -- a tentative version more, the transaction's own or not
 unfoldable pub noteTentative : ℕ → Bool → Visibility → Visibility
-noteTentative i true l = record { foreign = l .foreign; any = true; own = suc i; committed = l .committed }
-noteTentative i false l = record { foreign = true; any = true; own = l .own; committed = l .committed }
+noteTentative i true l = record { foreign = l .foreign; own = suc i; committed = l .committed }
+noteTentative i false l = record { foreign = true; own = l .own; committed = l .committed }
 
 -- one version more, at row i, of this owner
 unfoldable pub noteOwner : ℕ → ℕ → Owner → Visibility → Visibility

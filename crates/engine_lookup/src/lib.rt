@@ -15,11 +15,10 @@ ghost use Rattle.memory_layout.specs.Store.{holdsStore, pagesIn, storeOf};
 ghost use Rattle.block_forms.specs.Bytes.{ownerIs};
 ghost use Rattle.engine_lookup.specs.Lookup.{Shows, blank, noteCommitted, noteTentative, noteOwner, note, notes, picked, Sees, TableRange, Spots};
 
-// What there is of a key. foreign: a version of another open transaction; any: any version; own: 1 + the row of the last own
-// version, 0 if there is none; committed: 1 + the row of the first committed version, 0 if there is none.
+// What there is of a key. foreign: a version of another open transaction; own: 1 + the row of the last own version, 0 if there is
+// none; committed: 1 + the row of the first committed version, 0 if there is none.
 pub struct Visibility {
     pub foreign: bool,
-    pub any: bool,
     pub own: usize,
     pub committed: usize,
 }
@@ -50,7 +49,6 @@ fn note_committed(i: usize, visibility: Visibility) -> Visibility
     ensures { λ r. ⌜ r ≡ noteCommitted i visibility ⌝ }
 {
     let mut l = visibility;
-    l.any = true;
     if l.committed == 0 {
         l.committed = i + 1;
     }
@@ -63,7 +61,6 @@ fn note_tentative(i: usize, own: bool, visibility: Visibility) -> Visibility
     ensures { λ r. ⌜ r ≡ noteTentative i own visibility ⌝ }
 {
     let mut l = visibility;
-    l.any = true;
     if own {
         l.own = i + 1;
         return l;
@@ -127,7 +124,6 @@ pub fn no_version() -> Visibility
 {
     Visibility {
         foreign: false,
-        any: false,
         own: 0,
         committed: 0,
     }
@@ -201,17 +197,17 @@ pub fn pick(m: &[u8], visibility: Visibility) -> Seen
 {
     let own = visibility.own;
     let committed = visibility.committed;
-    if own == 0 {
-        if committed == 0 {
+    if own != 0 {
+        let i = own - 1;
+        if memory_rows::mark_at(m, i) {
             return Seen::Nothing;
         }
-        return Seen::At(committed - 1);
+        return Seen::At(i);
     }
-    let i = own - 1;
-    if memory_rows::mark_at(m, i) {
+    if committed == 0 {
         return Seen::Nothing;
     }
-    Seen::At(i)
+    Seen::At(committed - 1)
 }
 
 // The version of a key that the transaction sees.

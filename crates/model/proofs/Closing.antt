@@ -228,22 +228,27 @@ module _ (tx : ℕ) (os : List ℕ) (rs : List Row) (L : LiveOk os rs) (D : Pair
     λ h. lie (sym n ∙ ap (λ z. eqb z tx) (sym (eqb-true tx u (sym (ap₂ ownerAfter f e) ∙ h))) ∙ eqb-self tx),
   )
 
+  owner-same : (u s v : ℕ) → tentative u s ≡ tentative tx v → eqb u tx ≡ true
+  owner-same u s v h = let z : u ≡ tx = cc in ap (λ w. eqb w tx) z ∙ eqb-self tx
+
+  -- so an own row and one of another transaction are not at one key
+  pub not-beside : (r x : Row) (u s : ℕ) → Mem r rs → r .1 .owner ≡ tentative u s → eqb u tx ≡ false → Mem x rs → isOwn tx x ≡ true → isAt (r .0) (r .1 .key) x ≡ true → ⊥
+  not-beside r x u s m e n i o a =
+      let w = own-owner tx x o in
+      let at = at-split (r .0) (r .1 .key) x a in
+      let c = clash (r .1 .owner) (x .1 .owner) u s (w .0) e (w .1) n in
+      mem-pairs Chain m i (L .chain)
+      (λ q. lie (sym n ∙ owner-same u s (w .0) (sym e ∙ ap (λ z. z .1 .owner) q ∙ w .1)))
+      (λ k. c .0 (k (at-join (x .0) (x .1 .key) r (sym (at .0)) (sym (at .1)))))
+      (λ k. c .1 (k a))
+
   pub commit-stays : (r : Row) (u s : ℕ) → Mem r rs → r .1 .owner ≡ tentative u s → eqb u tx ≡ false → afterCommit tx rs r ≡ r ∷ []
   unfolding afterCommit
   commit-stays r u s m e n =
       by-option (newest r) (λ o. ap (λ z. byNewest z r) o ∙ (unfold byNewest in refl))
       (λ x o. let q = last-mem (ownAt tx (r .0) (r .1 .key)) rs x o in
       let b = own-both tx (r .0) (r .1 .key) x (q .1) in
-      let w = own-owner tx x (b .0) in
-      let s′ = at-split (r .0) (r .1 .key) x (b .1) in
-      let c = clash (r .1 .owner) (x .1 .owner) u s (w .0) e (w .1) n in
-      absurd (mem-pairs Chain m (q .0) (L .chain)
-      (λ i. lie (sym n ∙ owners u s (w .0) (sym e ∙ ap (λ z. z .1 .owner) i ∙ w .1)))
-      (λ k. c .0 (k (at-join (x .0) (x .1 .key) r (sym (s′ .0)) (sym (s′ .1)))))
-      (λ k. c .1 (k (b .1)))))
-    where
-      owners : (u s v : ℕ) → tentative u s ≡ tentative tx v → eqb u tx ≡ true
-      owners u s v h = let z : u ≡ tx = cc in ap (λ w. eqb w tx) z ∙ eqb-self tx
+      absurd (not-beside r x u s m e n (q .0) (b .0) (b .1)))
 
   commit-apart : (r q : Row) → Mem r rs → Mem q rs → Chain r q × Differ r q → AllOf (λ a. AllOf (Chain a) (afterCommit tx rs q)) (afterCommit tx rs r)
   unfolding afterCommit number

@@ -1,5 +1,5 @@
 -- What a transaction call does: it is refused, only answers, opens, writes, commits or aborts. A proof about all of them has one case for each of these.
-use Rattle.basics.proofs.Kit.{_≡_, refl, sym, subst, Bool, true, false, not, _||_, some, none, Option, List, [], _∷_, ℕ, suc, _≤_, _<_, eqb, length, arith}
+use Rattle.basics.proofs.Kit.{_≡_, refl, sym, subst, Bool, true, false, not, _||_, some, none, Option, List, [], _∷_, _++_, ℕ, suc, _≤_, _<_, eqb, length, arith}
 use Rattle.basics.specs.Basics.{if_then_else_, any, isEmpty, isSome, isIn, first, last}
 use Rattle.basics.proofs.Facts.{by, lie}
 use Rattle.block_forms.specs.Limits.{payloadLimit, mostNumber, mostTransaction, transactionLimit}
@@ -40,6 +40,12 @@ unless-accepted P [] s o f h = f tt h
 unless-accepted P ((n when b) ∷ ts) s o f h =
     by b (λ k. lie (rw k at h))
     (λ k. subst (λ z. P (if z then gives (refused n) s else unless ts s o)) (sym k) (unless-accepted P ts s o (λ p. f (k, p)) (rw k at h)))
+
+-- a test that does not hold can be left out
+pub unless-skip : (ts us : List Test) (n : ℕ) (b : Bool) (s : Store) (o : Outcome) → b ≡ false → unless (ts ++ (n when b) ∷ us) s o ≡ unless (ts ++ us) s o
+unfolding unless if_then_else_
+unless-skip [] us n b s o e = rw e
+unless-skip ((i when c) ∷ ts) us n b s o e = by c (λ h. rw h) (λ h. rw h (unless-skip ts us n b s o e))
 
 -- ---- the forms
 

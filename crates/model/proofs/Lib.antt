@@ -46,6 +46,7 @@ pub mod Bytes
 pub mod Starts
 pub mod Laws
 pub mod Sees
+pub mod Versions
 pub mod Crossings
 pub mod Listings
 pub mod Line
@@ -59,3 +60,4 @@ pub mod PlaceCases
 pub mod Cuts
 pub mod CrossingCases
 pub mod ListCases
+pub mod RebookCases

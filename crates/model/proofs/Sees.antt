@@ -8,18 +8,18 @@ use Rattle.block_forms.specs.Tuple.{isTentative, Owner, committed, tentative}
 use Rattle.image_rows.specs.Rows.{Row, isAt, isOwn, isBy, number}
 use Rattle.model.specs.State.{Store, Outcome, filled, refused}
 use Rattle.model.specs.Rules.{asCommitted}
-use Rattle.model.specs.Sight.{seen, rows, versions, seenOf}
+use Rattle.model.specs.Sight.{seen, rows, isCommitted, versions, seenOf}
 use Rattle.model.specs.Transactions.{unless, Test, gives, _when_, changed, openNumbers, withOpen, notOpen, noTable, tooLong, argumentTests, writeTests, newTuple, withWrite, afterWrite}
-use Rattle.model.specs.Transactions.{withTuple, writeCall, replied, readSeen, readCall, without, abortedPages, commitCall}
+use Rattle.model.specs.Transactions.{withTuple, writeCall, replied, readSeen, readCall, without, abortedPages, commitCall, abortCall}
 use Rattle.model.specs.Checkpoint.{beginCall, stepCall, runCall}
 use Rattle.model.specs.Calls.{TransactionCall, transact, effect, Call, transacts, begins, steps, runs, call, effectOf, isTransaction}
-use Rattle.model.specs.Seen.{remains, WriterReads, WriterMisses, RowsStay, SeenAfterCommit, mayShow, SeenAsBefore}
+use Rattle.model.specs.Seen.{remains, WriterReads, WriterMisses, OtherKeysStay, RowsStay, SeenAfterCommit, SeenAfterAbort, mayShow, SeenAsBefore}
 use Rattle.basics.proofs.Elements.{leb-false, eqb-self, here, Pairs, keep-cons, keep-past, all-map, keep-none, eqb-true, all-mem, not-false, Mem, there, mem-all}
 use Rattle.basics.proofs.Elements.{last-mem, pairs-keep, lt-false, eqb-sym, in-append}
-use Rattle.basics.proofs.Lasts.{last-new, last-old, first-old, last-keep, first-keep, last-both}
+use Rattle.basics.proofs.Lasts.{last-new, last-old, first-old, last-gone, last-keep, first-keep, last-both}
 use Rattle.model.proofs.ByNumber.{isRow, ownAt}
 use Rattle.model.proofs.Owners.{numbers-write, numbers-without, in-others, numbers-append}
-use Rattle.model.proofs.Effects.{unless-accepted, Does, refuses, answers, starts, writes, finishes, undoes, does}
+use Rattle.model.proofs.Effects.{unless-out, unless-accepted, Does, refuses, answers, starts, writes, finishes, undoes, does}
 use Rattle.model.proofs.NoStores.{call-leaves}
 use Rattle.model.proofs.Rows.{kept-row, Differ}
 use Rattle.model.proofs.Placing.{Above, Before}
@@ -98,7 +98,7 @@ seen-snoc : (u : ℕ) (vs : List Row) (x : Row) → isOwn u x ≡ false → isTe
 unfolding seenOf
 seen-snoc u vs x n o =
     let a = last-old (isOwn u) x n vs in
-    let b = first-old (λ r. not (isTentative (r .1 .owner))) x (ap not o) vs in
+    let b = first-old isCommitted x (ap not o) vs in
     by-option (last (isOwn u) vs) (λ e. rw (a, e, seenOf) b) (λ y e. rw (a, e, seenOf))
 
 -- nor is one that is gone
@@ -107,7 +107,7 @@ seen-keep : (u : ℕ) (g : Row → Bool) (vs : List Row) → AllOf (λ r. g r �
 unfolding seenOf
 seen-keep u g vs n =
     let a = last-keep (isOwn u) g vs (all-map _ _ (λ r f h. f h .0) vs n) in
-    let b = first-keep (λ r. not (isTentative (r .1 .owner))) g vs (all-map _ _ (λ r f h. ap not (f h .1)) vs n) in
+    let b = first-keep isCommitted g vs (all-map _ _ (λ r f h. ap not (f h .1)) vs n) in
     by-option (last (isOwn u) vs) (λ e. rw (a, e, seenOf) b) (λ y e. rw (a, e, seenOf))
 
 -- ---- writing
@@ -148,20 +148,41 @@ unfolding gather afterAbort keep if_then_else_
 abort-keeps tx [] = refl
 abort-keeps tx (r ∷ rs) = by (isOwn tx r) (λ h. rw (h, abort-keeps tx rs)) (λ h. rw (h, abort-keeps tx rs))
 
-own-one : (u tx : ℕ) (o : Owner) → eqb tx u ≡ false → isBy tx o ≡ true → (isBy u o ≡ false) × (isTentative o ≡ true)
+own-tentative : (tx : ℕ) (o : Owner) → isBy tx o ≡ true → isTentative o ≡ true
 unfolding isBy isTentative
-own-one u tx committed d h = lie h
-own-one u tx (tentative w n) d h = (ap (λ z. eqb z u) (eqb-true w tx h) ∙ d, refl)
+own-tentative tx committed h = lie h
+own-tentative tx (tentative w n) h = refl
 
-aborted-sight : (tx : ℕ) (s : Store) → Valid s → (u : ℕ) → eqb tx u ≡ false → (t k : ℕ) → (z : Store) → rows (z .pages) ≡ gather (afterAbort tx) (rows (s .pages))
-    → seen u t k z ≡ seen u t k s
-unfolding seen versions isOwn
-aborted-sight tx s v u d t k z e =
-    let rs = rows (s .pages) in
-    let vs = keep (isAt t k) rs in
-    ap (λ q. seenOf u (keep (isAt t k) q)) e
-    ∙ ap (seenOf u) (abort-at tx (openNumbers (s .active)) rs (v .sees) (rows-differ s v) t k ∙ abort-keeps tx vs)
-    ∙ seen-keep u (λ r. not (isBy tx (r .1 .owner))) vs (all-mem _ vs (λ r i h. own-one u tx (r .1 .owner) d (not-false _ h)))
+own-one : (u tx : ℕ) (o : Owner) → eqb tx u ≡ false → isBy tx o ≡ true → (isBy u o ≡ false) × (isTentative o ≡ true)
+unfolding isBy
+own-one u tx committed d h = lie h
+own-one u tx (tentative w n) d h = (ap (λ z. eqb z u) (eqb-true w tx h) ∙ d, own-tentative tx (tentative w n) h)
+
+module _ (tx : ℕ) (s z : Store) (v : Valid s) (e : rows (z .pages) ≡ gather (afterAbort tx) (rows (s .pages))) (t k : ℕ) where
+  abbrev stays : Row → Bool
+  stays r = not (isOwn tx r)
+
+  -- the versions after the abort
+  at-aborted : versions t k (z .pages) ≡ keep stays (versions t k (s .pages))
+  unfolding versions
+  at-aborted =
+      let rs = rows (s .pages) in
+      ap (keep (isAt t k)) e ∙ abort-at tx (openNumbers (s .active)) rs (v .sees) (rows-differ s v) t k ∙ abort-keeps tx (keep (isAt t k) rs)
+
+  aborted-others : (u : ℕ) → eqb tx u ≡ false → seen u t k z ≡ seen u t k s
+  unfolding seen isOwn
+  aborted-others u d =
+      let vs = versions t k (s .pages) in
+      ap (seenOf u) at-aborted ∙ seen-keep u stays vs (all-mem _ vs (λ r i h. own-one u tx (r .1 .owner) d (not-false _ h)))
+
+  -- tx has no version left
+  aborted-own : seen tx t k z ≡ first isCommitted (versions t k (s .pages))
+  unfolding seen seenOf isOwn
+  aborted-own =
+      let vs = versions t k (s .pages) in
+      let gone = last-gone (isOwn tx) vs in
+      let same = first-keep isCommitted stays vs (all-mem _ vs (λ r i h. ap not (own-tentative tx (r .1 .owner) (not-false _ h)))) in
+      ap (seenOf tx) at-aborted ∙ rw (gone, seenOf) same
 
 -- ---- commit
 
@@ -286,6 +307,12 @@ unfolding writeCall writeTests argumentTests notOpen noTable tooLong
 writer-misses s w tx t k room h =
     unless-accepted (λ o. readCall tx t k room (o .store) .answer ≡ refused 14) _ s _ (λ p q. wrote-mark s (sound s w .valid) tx t k room (p .0) (p .1 .0) (p .1 .1 .0)) h
 
+pub other-keys-stay : OtherKeysStay
+unfolding writeCall seen x newTuple isAt
+other-keys-stay s w new m tx t k bs u t′ k′ d =
+    unless-out (λ z ws. seenOf u (versions t′ k′ (z .pages)) ≡ seenOf u (versions t′ k′ (s .pages))) _ s _ refl
+    (ap (seenOf u) (off-written s (sound s w .valid) tx t k bs m t′ k′ d))
+
 pub rows-stay : RowsStay
 unfolding call
 rows-stay s w = let v = sound s w .valid in (begin-rows s, λ len. stepCall-rows len s v, λ limit len. run-rows limit len s v)
@@ -297,6 +324,13 @@ seen-after-commit s w tx h u t k =
     unless-accepted (λ o. ((r : Row) → last (isOwn tx) (versions t k (s .pages)) ≡ some r → seen u t k (o .store) ≡ remains r) × (last (isOwn tx)
     (versions t k (s .pages)) ≡ none → seen u t k (o .store) ≡ seen u t k s))
     _ s _ (λ p q. unfold gives changed in (committed-key tx s _ v (committed-rows tx s v) u t k, committed-other tx s _ v (committed-rows tx s v) u t k)) h
+
+pub seen-after-abort : SeenAfterAbort
+unfolding abortCall
+seen-after-abort s w tx h t k =
+    let v = sound s w .valid in
+    unless-accepted (λ o. seen tx t k (o .store) ≡ first isCommitted (versions t k (s .pages))) _ s _
+    (λ p q. unfold gives changed in aborted-own tx s _ v (aborted-rows tx s v) t k) h
 
 -- ---- all calls that show nothing
 
@@ -313,7 +347,7 @@ module _ (s : Store) (v : Valid s) (u t k : ℕ) where
       → Unmoved u t k s (changed s (s .next) (abortedPages tx (s .pages)) (without tx (s .active)))
   unfolding changed
   unmoved-aborted tx d = (
-    aborted-sight tx s v u d t k _ (aborted-rows tx s v),
+    aborted-others tx s _ v (aborted-rows tx s v) t k u d,
     λ h. ap (isIn u) (numbers-without tx (s .active)) ∙ in-others tx u (openNumbers (s .active)) (eqb-sym tx u d) h,
   )
 

@@ -121,7 +121,7 @@ before-lower r s h w =
     by (ltb (r .1 .key) (s .1 .key)) (λ l. rw (k, l, e, eqb-self (s .0)))
     (λ l. let f : r .1 .key ≡ s .1 .key = omega (arith, h′ .0, leb-false (suc (r .1 .key)) (s .1 .key) l) in lie (sym w ∙ at-join (s .0) (s .1 .key) r e f)))
 
-follows-join : (r s : Row) → Before r s → Chain r s → First r s → follows r s ≡ true
+pub follows-join : (r s : Row) → Before r s → Chain r s → First r s → follows r s ≡ true
 unfolding follows if_then_else_
 follows-join r s b c f =
     by (With s r)

@@ -271,7 +271,7 @@ pub record Refusals : Type 0 where
       ≡ refused 6 ∷ done ∷ refused 8 ∷ done
       ∷ refused 6 ∷ refused 7 ∷ refused 10 ∷ refused 11 ∷ done
       ∷ refused 12 ∷ refused 12 ∷ refused 13 ∷ refused 14 ∷ refused 21 ∷ refused 14
-      ∷ done ∷ refused 14 ∷ refused 13 ∷ refused 15 ∷ refused 21 ∷ refused 7 ∷ refused 6
+      ∷ done ∷ refused 14 ∷ refused 15 ∷ refused 15 ∷ refused 21 ∷ refused 7 ∷ refused 6
       ∷ refused 18 ∷ refused 18 ∷ count 3 ∷ refused 17 ∷ refused 5 ∷ refused 5 ∷ []
   -- 64 are open: no other, and one of them is open already
   pub crowded : answers (map opens (from 0 64) ++ (opens 64 ∷ opens 0 ∷ [])) (freshStore 16 2) ≡ replicate 64 done ++ (refused 9 ∷ refused 8 ∷ [])

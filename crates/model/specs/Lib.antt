@@ -16,3 +16,4 @@ pub mod Seen
 pub mod Cases
 pub mod CrossingCases
 pub mod ListCases
+pub mod RebookCases

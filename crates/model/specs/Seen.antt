@@ -1,17 +1,17 @@
 -- What a transaction sees after each call, on well-formed stores.
 use Prim.Native.Nat.{ℕ, _≤_}
 use mathlib.Core.Path.{_≡_}
-use mathlib.Core.Bool.{Bool, true, false}
+use mathlib.Core.Bool.{Bool, true, false, _&&_}
 use mathlib.Core.Option.{Option, none, some}
-use mathlib.Core.List.{List, []}
+use mathlib.Core.List.{List, [], _++_}
 use lib.ListN.{length}
 use lib.Dec.{eqb, leb, ltb}
-use Rattle.basics.specs.Basics.{if_then_else_, paired, howMany, last, isIn, sorted}
+use Rattle.basics.specs.Basics.{if_then_else_, paired, howMany, first, last, isIn, sorted}
 use Rattle.image_rows.specs.Rows.{Row, isOwn}
 use Rattle.model.specs.State.{Store, refused, filled}
 use Rattle.model.specs.Rules.{asCommitted}
-use Rattle.model.specs.Sight.{rows, versions, seen}
-use Rattle.model.specs.Transactions.{openNumbers, insertCall, replaceCall, deleteCall, commitCall, readCall}
+use Rattle.model.specs.Sight.{rows, isCommitted, versions, seen}
+use Rattle.model.specs.Transactions.{unless, openNumbers, full, argumentTests, withTuple, writeCall, insertCall, replaceCall, deleteCall, readCall, commitCall, abortCall}
 use Rattle.model.specs.Crossing.{crosses, crossingKeys}
 use Rattle.model.specs.Calls.{TransactionCall, transact, Effect, noEffect, startOf, writeOf, commitOf, abortOf, effect, Call, begins, steps, runs, call, effectOf, accepted}
 use Rattle.model.specs.WellFormed.{WellFormed}
@@ -30,6 +30,18 @@ abbrev pub WriterMisses : Type 0
 WriterMisses =
     (s : Store) → WellFormed s → (tx t k room : ℕ) → accepted (deleteCall tx t k s .answer) ≡ true
     → readCall tx t k room (deleteCall tx t k s .store) .answer ≡ refused 14
+
+-- a transaction whose newest version of a key is a delete mark can insert the key again: neither 12 nor 13 is met
+abbrev pub InsertsDeleted : Type 0
+InsertsDeleted =
+    (s : Store) → WellFormed s → (tx t k : ℕ) (bs : List ℕ) (r : Row) → last (isOwn tx) (versions t k (s .pages)) ≡ some r → r .1 .mark ≡ true
+    → insertCall tx t k bs s ≡ unless (argumentTests tx t (length bs) s ++ full s) s (withTuple tx t k bs false s)
+
+-- a write of one key leaves what everybody sees of all others
+abbrev pub OtherKeysStay : Type 0
+OtherKeysStay =
+    (s : Store) → WellFormed s → (new m : Bool) (tx t k : ℕ) (bs : List ℕ) (u t′ k′ : ℕ) → (eqb t t′ && eqb k k′) ≡ false
+    → seen u t′ k′ (writeCall new m tx t k bs s .store) ≡ seen u t′ k′ s
 
 -- ---- the others
 
@@ -60,6 +72,14 @@ SeenAfterCommit =
     (s : Store) → WellFormed s → (tx : ℕ) → accepted (commitCall tx s .answer) ≡ true → (u t k : ℕ)
     → ((r : Row) → last (isOwn tx) (versions t k (s .pages)) ≡ some r → seen u t k (commitCall tx s .store) ≡ remains r)
     × (last (isOwn tx) (versions t k (s .pages)) ≡ none → seen u t k (commitCall tx s .store) ≡ seen u t k s)
+
+-- ---- abort
+
+-- after an accepted abort tx, should it open again, sees the committed version of every key. (The others see what they saw.)
+abbrev pub SeenAfterAbort : Type 0
+SeenAfterAbort =
+    (s : Store) → WellFormed s → (tx : ℕ) → accepted (abortCall tx s .answer) ≡ true → (t k : ℕ)
+    → seen tx t k (abortCall tx s .store) ≡ first isCommitted (versions t k (s .pages))
 
 -- ---- list
 

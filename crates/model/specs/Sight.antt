@@ -23,13 +23,17 @@ rows (p ∷ ps) = rowsOf (p .table) (live (p .tuples)) ++ rows ps
 unfoldable pub isForeign : ℕ → Row → Bool
 isForeign tx r = isTentative (r .1 .owner) && not (isBy tx (r .1 .owner))
 
+-- a committed tuple
+abbrev pub isCommitted : Row → Bool
+isCommitted r = not (isTentative (r .1 .owner))
+
 -- the versions of a key
 unfoldable pub versions : ℕ → ℕ → List Page → List Row
 versions t k ps = keep (isAt t k) (rows ps)
 
 -- of the versions of a key, the one that transaction tx sees: its own newest (a delete mark means absent), else the committed one
 unfoldable pub seenOf : ℕ → List Row → Option Row
-seenOf tx vs = elim (last (isOwn tx) vs) [ some r ↦ if r .1 .mark then none else some r | none ↦ first (λ r. not (isTentative (r .1 .owner))) vs ]
+seenOf tx vs = elim (last (isOwn tx) vs) [ some r ↦ if r .1 .mark then none else some r | none ↦ first isCommitted vs ]
 
 -- the version of a key that transaction tx sees
 unfoldable pub seen : ℕ → ℕ → ℕ → Store → Option Row

@@ -5,7 +5,7 @@ use mathlib.Core.Option.{Option, none, some}
 use mathlib.Core.List.{List, [], _∷_, _++_, map}
 use lib.ListN.{length}
 use lib.Dec.{leb, ltb, eqb}
-use Rattle.basics.specs.Basics.{if_then_else_, any, keep, last, isEmpty, isSome, isIn, sorted}
+use Rattle.basics.specs.Basics.{if_then_else_, any, keep, last, isSome, isIn, sorted}
 use Rattle.block_forms.specs.Limits.{payloadLimit, mostNumber, mostStatement, mostTransaction}
 use Rattle.block_forms.specs.Tuple.{Tuple, tentative}
 use Rattle.image_rows.specs.Rows.{Row, isOwn, isAt, openLimit}
@@ -96,19 +96,18 @@ full s = 15 when leb (s .capacity) (length (held (s .pages))) ∷ 16 when eqb (s
 unfoldable pub argumentTests : ℕ → ℕ → ℕ → Store → List Test
 argumentTests tx t n s = notOpen tx s ++ (noTable t ∷ tooLong n ∷ [])
 
--- 13 for a key that is to be new: a tuple of it not removed exists, own delete marks included; 14 for another: it is not seen
-unfoldable pub keyTest : Bool → Bool → Bool → Test
-keyTest true there sees = 13 when there
-keyTest false there sees = 14 when not sees
+-- 13 for a key that is to be new: the transaction sees it; 14 for another: it does not
+unfoldable pub keyTest : Bool → Bool → Test
+keyTest true sees = 13 when sees
+keyTest false sees = 14 when not sees
 
 -- the tests by what there is of a key: 12 another open transaction has a tentative tuple of it; 13 or 14; 15; 16
-unfoldable pub keyTests : Bool → Bool → Bool → Bool → Store → List Test
-keyTests new foreign there sees s = 12 when foreign ∷ keyTest new there sees ∷ full s
+unfoldable pub keyTests : Bool → Bool → Bool → Store → List Test
+keyTests new foreign sees s = 12 when foreign ∷ keyTest new sees ∷ full s
 
 -- the tests of a write that look at the tuples
 unfoldable pub tupleTests : Bool → ℕ → ℕ → ℕ → Store → List Test
-tupleTests new tx t k s =
-    let vs = versions t k (s .pages) in keyTests new (any (isForeign tx) vs) (not (isEmpty vs)) (isSome (seen tx t k s)) s
+tupleTests new tx t k s = keyTests new (any (isForeign tx) (versions t k (s .pages))) (isSome (seen tx t k s)) s
 
 -- the tests of insert, replace and delete. (A delete has a payload of 0 bytes, for which 11 never holds.)
 unfoldable pub writeTests : Bool → ℕ → ℕ → ℕ → ℕ → Store → List Test
@@ -131,7 +130,7 @@ withTuple tx t k bs m s = gives done (afterWrite tx t k bs m s)
 unfoldable pub writeCall : Bool → Bool → ℕ → ℕ → ℕ → List ℕ → Store → Outcome
 writeCall new m tx t k bs s = unless (writeTests new tx t k (length bs) s) s (withTuple tx t k bs m s)
 
--- insert: a tuple of a key of which there is none
+-- insert: a tuple of a key that is not seen
 abbrev pub insertCall : ℕ → ℕ → ℕ → List ℕ → Store → Outcome
 insertCall tx t k bs = writeCall true false tx t k bs
 

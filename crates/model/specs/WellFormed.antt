@@ -9,11 +9,11 @@ use lib.Dec.{leb, ltb, eqb}
 use Rattle.basics.specs.Basics.{if_then_else_, any, all, every, paired, howMany, isEmpty, isIn, distinct}
 use Rattle.block_forms.specs.Limits.{recordSpace, mostNumber, blockLimit, mostTransaction}
 use Rattle.block_forms.specs.Tuple.{Owner, committed, tentative, AllFit, sizes}
-use Rattle.image_rows.specs.Rows.{Row, number, isOwn, isAt, isLower, isBelow, rowsOk, openLimit}
+use Rattle.image_rows.specs.Rows.{Row, number, isOwn, isAt, isLower, follows, startsWell, isBelow, rowsOk, openLimit}
 use Rattle.image.specs.Stages.{holds, capacityLimit, directoriesFor, isZero}
 use Rattle.model.specs.State.{Held, Page, Checkpoint, idle, running, Store, Write, count}
 use Rattle.model.specs.Rules.{fits, splitAll, withoutPending, isPending, pendRemove, editAt, pendRemoveAt, isDirty, shown, live, isFrozen}
-use Rattle.model.specs.Sight.{held, rows}
+use Rattle.model.specs.Sight.{held, rows, versions}
 use Rattle.model.specs.Transactions.{openNumbers, writtenBy, withWrite, PlaceOp, carryOut}
 use Rattle.model.specs.Checkpoint.{allocate, freeCount, left, storable, beginCall, stepCall, runCall}
 use Rattle.model.specs.Calls.{Call, steps, call, Typed, AllTyped, accepted, afterCalls}
@@ -159,6 +159,12 @@ abbrev pub ListOrder : Type 0
 ListOrder =
     (s : Store) → WellFormed s → (before between behind : List Row) (r q : Row)
     → held (s .pages) ≡ before ++ r ∷ (between ++ q ∷ behind) → isBefore r q ≡ true
+
+-- of the versions of a key the first is no delete mark, and each may follow the one before it: its number is higher, and it is tentative, of the
+-- same transaction as all others that are. Behind the first, delete marks may stand anywhere
+abbrev pub VersionOrder : Type 0
+VersionOrder =
+    (s : Store) → WellFormed s → (t k : ℕ) → (startsWell (versions t k (s .pages)) ≡ true) × (paired follows (versions t k (s .pages)) ≡ true)
 
 -- begin answers F + ⌈P/336⌉ + 1, with F the pages that it has frozen, and so many stores are left
 abbrev pub BeginAnswers : Type 0

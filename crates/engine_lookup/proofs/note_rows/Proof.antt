@@ -29,7 +29,7 @@ loop-again : tie.Need-loop-again Inv-loop μ-loop
 loop-again c = let a = c .before .before .before .before .before .args in
     let f : Flat = flatOf (a .m .now) in
     let g = c .before .before .before .loop in
-    let lt : g .i < a .to = c .before .before .loop-test .taken in
+    let lt : g .i < a .to = omega (arith, c .before .before .loop-test .taken) in
     let on = along f (a .transaction) (a .key) (g .i + 1) (a .to - (g .i + 1)) in
     ⊎-elim
     (λ w. ap on (w .2 ∙ w .1 .ensures) ∙ sym (iteration-here f (a .transaction) (a .key) (g .i) (a .to) (g .l) lt (sym (c .before .key-at .ensures) ∙ w .0 .taken)) ∙ g .inv)
