@@ -44,8 +44,8 @@ struct row {
 void spell(struct row *row, unsigned i, unsigned generation); /* keys are scattered, and differ by `i` */
 void check_reply(const struct row *row);                      /* the payload was read */
 
-/* The calls of an engine; an abort is measured with inserts. */
-enum kind { INSERT, READ, REPLACE, DELETE, CALLS, ABORT = CALLS, KINDS };
+/* The calls of an engine. An abort is measured with inserts; to rebook is a delete and an insert of the same key. */
+enum kind { INSERT, READ, REPLACE, DELETE, CALLS, ABORT = CALLS, REBOOK, KINDS };
 
 /* A store behind the same few functions. Each does its work, or ends the program. */
 struct engine {

@@ -5,12 +5,11 @@ use mathlib.Core.Bool.{false}
 use mathlib.Core.List.{List, [], _∷_, map}
 use lib.ListN.{length}
 use Rattle.basics.specs.Basics.{from}
-use Rattle.image.specs.Stages.{Stage, refuses, holds}
 use Rattle.model.specs.State.{idle, Store, Answer, refused, filled}
 use Rattle.model.specs.Transactions.{listing}
 use Rattle.model.specs.Calls.{Call, begins, runs, call, afterCalls}
 use Rattle.model.specs.Recover.{freshStore}
-use Rattle.model.specs.Cases.{opens, inserts, commits, aborts, lists, recoveredAfter, cases}
+use Rattle.model.specs.Cases.{opens, inserts, commits, aborts, lists, recoveredAfter, answersIn, cases}
 
 -- what list is answered, with a reply of that length, after these calls on an empty store
 unfoldable pub listedAfter : ℕ → List Call → Answer
@@ -19,11 +18,6 @@ listedAfter room cs = call (lists room) (afterCalls cs (freshStore 16 8)) .answe
 -- these numbers
 unfoldable pub numbers : List ℕ → Answer
 numbers txs = filled (length txs) (listing txs)
-
--- what it is answered, with a reply of that length, after a recovery
-unfoldable pub listedIn : ℕ → Stage Store → Answer
-listedIn room (refuses n) = refused n
-listedIn room (holds s) = call (lists room) s .answer
 
 -- 7 and 5 write in this order, and 9 does not; checkpoint
 unfoldable pub sevenThenFive : List Call
@@ -62,12 +56,12 @@ pub record ListCases : Type 0 where
   pub long-enough : listedAfter 4 (opens 7 ∷ opens 5 ∷ []) ≡ numbers (5 ∷ 7 ∷ [])
   pub too-short : listedAfter 3 (opens 7 ∷ opens 5 ∷ []) ≡ refused 21
   -- after a recovery those that had written, in the same order
-  pub recovered : listedIn 4 (recoveredAfter sevenThenFive) ≡ numbers (5 ∷ 7 ∷ [])
+  pub recovered : answersIn (recoveredAfter sevenThenFive) (lists 4 ∷ []) ≡ numbers (5 ∷ 7 ∷ []) ∷ []
   -- a number that stands twice is listed twice
   pub open-twice : call (lists 6) openTwice .answer ≡ numbers (5 ∷ 7 ∷ 7 ∷ [])
   pub twice-too-short : call (lists 5) openTwice .answer ≡ refused 21
 
 -- unfolds all definitions that these cases compute with: `unfolding listCases`
 unfoldable pub listCases : ℕ
-unfolding cases listedAfter numbers listedIn sevenThenFive openTwice
+unfolding cases listedAfter numbers sevenThenFive openTwice
 listCases = 0

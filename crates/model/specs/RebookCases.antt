@@ -14,7 +14,7 @@ use Rattle.model.specs.Sight.{held}
 use Rattle.model.specs.Calls.{Call, begins, steps, runs, afterCalls}
 use Rattle.model.specs.Recover.{freshStore, madeImage}
 use Rattle.model.specs.CrashRecovery.{log}
-use Rattle.model.specs.Cases.{opens, inserts, deletes, commits, aborts, reads, lists, answers, writes, recoveredAfter, cutEverywhere, cases}
+use Rattle.model.specs.Cases.{opens, inserts, deletes, commits, aborts, reads, lists, answers, writes, recoveredAfter, answersIn, cutEverywhere, cases}
 
 -- ---- runs on key 7 of table 0
 
@@ -45,11 +45,6 @@ answered cs = answers cs (freshStore 16 64)
 -- the tuples held after it
 unfoldable pub heldAfter : List Call → List Row
 heldAfter cs = held (afterCalls cs (freshStore 16 64) .pages)
-
--- the answers of a list of calls after a recovery
-unfoldable pub answersIn : Stage Store → List Call → List Answer
-answersIn (refuses n) cs = refused n ∷ []
-answersIn (holds s) cs = answers cs s
 
 -- the tuples held after a recovery and a list of calls
 unfoldable pub heldIn : Stage Store → List Call → List Row
@@ -116,5 +111,5 @@ pub record RebookCases : Type 0 where
 
 -- unfolds all definitions that these cases compute with: `unfolding rebookCases`
 unfoldable pub rebookCases : ℕ
-unfolding cases version answered heldAfter answersIn heldIn rebooked cutLater rebookedFrozen threeVersions
+unfolding cases version answered heldAfter heldIn rebooked cutLater rebookedFrozen threeVersions
 rebookCases = 0
