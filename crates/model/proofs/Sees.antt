@@ -13,7 +13,7 @@ use Rattle.model.specs.Transactions.{unless, Test, gives, _when_, change
 use Rattle.model.specs.Transactions.{withTuple, writeCall, replied, readSeen, readCall, without, abortedPages, commitCall, abortCall}
 use Rattle.model.specs.Checkpoint.{beginCall, stepCall, runCall}
 use Rattle.model.specs.Calls.{TransactionCall, transact, effect, Call, transacts, begins, steps, runs, call, effectOf, isTransaction}
-use Rattle.model.specs.Seen.{remains, WriterReads, WriterMisses, OtherKeysStay, RowsStay, SeenAfterCommit, SeenAfterAbort, mayShow, SeenAsBefore}
+use Rattle.model.specs.Seen.{remains, NewestWritten, WriterReads, WriterMisses, OtherKeysStay, RowsStay, SeenAfterCommit, SeenAfterAbort, mayShow, SeenAsBefore}
 use Rattle.basics.proofs.Elements.{leb-false, eqb-self, here, Pairs, keep-cons, keep-past, all-map, keep-none, eqb-true, all-mem, not-false, Mem, there, mem-all}
 use Rattle.basics.proofs.Elements.{last-mem, pairs-keep, lt-false, eqb-sym, in-append}
 use Rattle.basics.proofs.Lasts.{last-new, last-old, first-old, last-gone, last-keep, first-keep, last-both}
@@ -124,10 +124,14 @@ module _ (s : Store) (v : Valid s) (tx t k : ℕ) (bs : List ℕ) (m : Bool) whe
   unfolding versions x
   off-written t′ k′ h = ap (keep (isAt t′ k′)) (written-rows s v tx t k bs m) ∙ keep-other t′ k′ (t, newTuple tx k bs m s) (rows (s .pages)) h
 
+  own-written : last (isOwn tx) (versions t k (withTuple tx t k bs m s .store .pages)) ≡ some x
+  unfolding x newTuple isOwn isBy
+  own-written = ap (last (isOwn tx)) at-written ∙ last-new (isOwn tx) x (eqb-self tx) (versions t k (s .pages))
+
   -- its own newest version; a delete mark means absent
   sees-own : seen tx t k (withTuple tx t k bs m s .store) ≡ (if m then none else some (t, newTuple tx k bs m s))
-  unfolding seen seenOf x newTuple isOwn isBy
-  sees-own = rw (at-written, last-new (isOwn tx) x (eqb-self tx) (versions t k (s .pages)), seenOf)
+  unfolding seen seenOf x newTuple
+  sees-own = rw (own-written, seenOf)
 
   sees-others : (u : ℕ) → eqb tx u ≡ false → (t′ k′ : ℕ) → seen u t′ k′ (withTuple tx t k bs m s .store) ≡ seen u t′ k′ s
   unfolding seen x newTuple
@@ -291,6 +295,11 @@ module _ (s : Store) (v : Valid s) (tx t k room : ℕ) (few : ltb mostTransactio
   wrote-mark : readCall tx t k room (withTuple tx t k [] true s .store) .answer ≡ refused 14
   unfolding withTuple afterWrite gives changed if_then_else_
   wrote-mark = reads-none tx t k room (withTuple tx t k [] true s .store) few (still-listed tx tx s (not-false _ o)) tb (sees-own s v tx t k [] true)
+
+pub newest-written : NewestWritten
+unfolding writeCall x
+newest-written s w new m tx t k bs h =
+    unless-accepted (λ o. last (isOwn tx) (versions t k (o .store .pages)) ≡ some (t, newTuple tx k bs m s)) _ s _ (λ p q. own-written s (sound s w .valid) tx t k bs m) h
 
 pub writer-reads : WriterReads
 unfolding writeCall writeTests argumentTests notOpen noTable tooLong

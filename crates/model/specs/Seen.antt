@@ -11,12 +11,18 @@ use Rattle.image_rows.specs.Rows.{Row, isOwn}
 use Rattle.model.specs.State.{Store, refused, filled}
 use Rattle.model.specs.Rules.{asCommitted}
 use Rattle.model.specs.Sight.{rows, isCommitted, versions, seen}
-use Rattle.model.specs.Transactions.{unless, openNumbers, full, argumentTests, withTuple, writeCall, insertCall, replaceCall, deleteCall, readCall, commitCall, abortCall}
+use Rattle.model.specs.Transactions.{unless, openNumbers, full, argumentTests, newTuple, withTuple, writeCall, insertCall, replaceCall, deleteCall, readCall, commitCall, abortCall}
 use Rattle.model.specs.Crossing.{crosses, crossingKeys}
 use Rattle.model.specs.Calls.{TransactionCall, transact, Effect, noEffect, startOf, writeOf, commitOf, abortOf, effect, Call, begins, steps, runs, call, effectOf, accepted}
 use Rattle.model.specs.WellFormed.{WellFormed}
 
 -- ---- the writer
+
+-- after an accepted write its tuple is the writer's newest version of the key
+abbrev pub NewestWritten : Type 0
+NewestWritten =
+    (s : Store) → WellFormed s → (new m : Bool) (tx t k : ℕ) (bs : List ℕ) → accepted (writeCall new m tx t k bs s .answer) ≡ true
+    → last (isOwn tx) (versions t k (writeCall new m tx t k bs s .store .pages)) ≡ some (t, newTuple tx k bs m s)
 
 -- after an accepted insert or replace the writer reads that payload
 abbrev pub WriterReads : Type 0
