@@ -132,7 +132,8 @@ int64_t vodzanu_insert(uint8_t *memory, size_t memory_len, uint64_t transaction,
 int64_t vodzanu_replace(uint8_t *memory, size_t memory_len, uint64_t transaction, uint64_t table, uint32_t key,
                         const uint8_t *payload, size_t payload_len);
 
-/* Adds a delete mark for a key that the transaction sees: the key is gone for this transaction now, for others when it is committed.
+/* Adds a delete mark for a key that the transaction sees: the key is gone for this transaction now and, unless the transaction inserts
+ * it again, for others when it is committed.
  * Answers 0. Refuses: 4, 6, 7, 10, 12, 14, 15, 16. */
 int64_t vodzanu_delete(uint8_t *memory, size_t memory_len, uint64_t transaction, uint64_t table, uint32_t key);
 

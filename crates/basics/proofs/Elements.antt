@@ -151,6 +151,10 @@ module _ {A : Type 0} where
   all-keep P f [] a = tt
   all-keep P f (r ∷ rs) a = by (f r) (λ h. rw h ((h, a .0), all-keep P f rs (a .1))) (λ h. rw h (all-keep P f rs (a .1)))
 
+  -- what is kept passes the test, and is of the list
+  pub kept-mem : (f : A → Bool) (rs : List A) → AllOf (λ r. (f r ≡ true) × Mem r rs) (keep f rs)
+  kept-mem f rs = all-keep (λ r. Mem r rs) f rs (all-mem _ rs (λ r m. m))
+
   -- of two members: they are one, or either stands first
   pub mem-pairs : (R : A → A → Type 0) {X : Type 0} {a b : A} {rs : List A} → Mem a rs → Mem b rs → Pairs R rs → (a ≡ b → X) → (R a b → X)
       → (R b a → X) → X

@@ -323,7 +323,7 @@ pub fn replace(m: &mut [u8], transaction: u64, table: u64, key: u32, payload: &[
     write(m, false, transaction, table, key, false, payload)
 }
 
-// A delete mark with empty payload: the key is gone for this transaction now, for all others at its commit.
+// A delete mark with empty payload: the key is gone for this transaction now and, unless it inserts it again, for all others at its commit.
 pub fn delete(m: &mut [u8], transaction: u64, table: u64, key: u32) -> Answer
     ensures { λ r. ⌜ Answers (deleteCall transaction table key) (now (m .entry)) r (now (m .exit)) ⌝ }
 {

@@ -7,11 +7,11 @@ use Rattle.image_rows.specs.Rows.{Row, isOwn, isBy, earlierBy, statementIs, mar
 use Rattle.model.specs.Rules.{asCommitted}
 use Rattle.model.specs.Calls.{others}
 use Rattle.basics.proofs.Elements.{all-append, all-map, Pairs, pairs-append, many-append, eqb-true, keep-append, keep-all, keep-cons, keep-none, keep-past, Mem, many-none, all-mem}
-use Rattle.basics.proofs.Elements.{mem-all, and-yes, last-off, last-mem, eqb-self, mem-pairs, some-eq, all-keep, pairs-map, pairs-both, pairs-keep}
+use Rattle.basics.proofs.Elements.{mem-all, and-yes, last-off, last-mem, eqb-self, mem-pairs, some-eq, kept-mem, pairs-map, pairs-both, pairs-keep}
 use Rattle.model.proofs.ByNumber.{isRow, ownAt}
 use Rattle.model.proofs.Owners.{in-others}
 use Rattle.model.proofs.Rows.{kept-row, Differ}
-use Rattle.model.proofs.RowAfter.{gather, With, byNewest, at-join, afterCommit, at-split, row-number, gather-ext, afterAbort}
+use Rattle.model.proofs.RowAfter.{gather, With, byNewest, at-join, afterCommit, at-split, at-as, row-number, gather-ext, afterAbort}
 use Rattle.model.proofs.Valid.{LiveOk, Opened, Chain}
 
 -- ---- what comes of a row r
@@ -266,8 +266,7 @@ module _ (tx : ℕ) (os : List ℕ) (rs : List Row) (L : LiveOk os rs) (D : Pair
       (commit-comes q mq)) (afterCommit tx rs r) (commit-comes r mr))
 
   at-key : (t k : ℕ) → AllOf (λ r. isAt t k r ≡ true) (keep (isAt t k) rs)
-  at-key t k = all-map (λ r. (isAt t k r ≡ true) × Mem r rs) (λ r. isAt t k r ≡ true) (λ r q. q .0) (keep (isAt t k) rs)
-      (all-keep (λ r. Mem r rs) (isAt t k) rs (all-mem _ rs (λ r m. m)))
+  at-key t k = all-map (λ r. (isAt t k r ≡ true) × Mem r rs) (λ r. isAt t k r ≡ true) (λ r q. q .0) (keep (isAt t k) rs) (kept-mem (isAt t k) rs)
 
   -- the rows at a key, by the newest own one
   pub commit-at : (t k : ℕ) → keep (isAt t k) (gather (afterCommit tx rs) rs) ≡ gather (byNewest (last (ownAt tx t k) rs)) (keep (isAt t k) rs)
@@ -344,9 +343,7 @@ module _ (tx : ℕ) (os : List ℕ) (rs : List Row) (L : LiveOk os rs) (D : Pair
           go : (xs : List Row) → AllOf (λ r. isAt t k r ≡ true) xs → AllOf (Chain r) xs → AllOf (λ q. afterAbort tx q ≡ []) xs
           go [] b c = tt
           go (q ∷ xs) b c =
-              let s = at-split t k q (b .0) in
-              let s′ = at-split t k r (a .0) in
-              (abort-own q (own-next r q (c .0 (at-join (q .0) (q .1 .key) r (s′ .0 ∙ sym (s .0)) (s′ .1 ∙ sym (s .1)))) o), go xs (b .1) (c .1))
+              (abort-own q (own-next r q (c .0 (at-as t k q r (b .0) ∙ a .0)) o), go xs (b .1) (c .1))
 
   pub abort-at : (t k : ℕ) → keep (isAt t k) (gather (afterAbort tx) rs) ≡ gather (afterAbort tx) (keep (isAt t k) rs)
   abort-at t k = keep-came tx os rs L (afterAbort tx) abort-comes abort-stays t k

@@ -4,7 +4,8 @@
 use Rattle.basics.proofs.Kit.{_≡_, refl, sym, ap, _∙_, subst, ap₂, Bool, true, false, _&&_, _||_, some, Option, none, List, [], _∷_, _++_, append-nil, ℕ, _≤_, _<_, suc, eqb, ltb, arith}
 use Rattle.basics.specs.Basics.{if_then_else_, keep, any, last, isIn}
 use Rattle.basics.proofs.Facts.{by, lie, never, by-option, AllOf}
-use Rattle.basics.proofs.Elements.{Pairs, all-map, all-two, all-parts, all-append, all-mem, all-keep, mem-all, pairs-parts, pairs-append, pairs-map, pairs-keep, keep-append, keep-all, keep-none}
+use Rattle.basics.proofs.Elements.{Pairs, all-map, all-two, all-parts, all-append, all-mem, all-keep, kept-mem, mem-all, pairs-parts, pairs-append, pairs-map, pairs-keep}
+use Rattle.basics.proofs.Elements.{keep-append, keep-all, keep-none}
 use Rattle.basics.proofs.Elements.{some-eq, first-all, last-mem, any-off, eqb-true, le-true, in-append, in-head}
 use Rattle.basics.proofs.Lists.{paired-true}
 use Rattle.basics.proofs.Lasts.{keep-keep}
@@ -50,7 +51,7 @@ InTable t rs = keep (λ r. eqb (r .0) t) rs
 
 in-table : (t : ℕ) (rs : List Row) → AllOf (λ r. r .0 ≡ t) (InTable t rs)
 in-table t rs =
-    all-map (λ r. (eqb (r .0) t ≡ true) × Unit {0}) _ (λ r q. eqb-true (r .0) t (q .0)) (InTable t rs) (all-keep _ (λ r. eqb (r .0) t) rs (all-mem _ rs (λ r m. tt)))
+    all-map _ _ (λ r q. eqb-true (r .0) t (q .0)) (InTable t rs) (kept-mem (λ r. eqb (r .0) t) rs)
 
 table-follows : (t : ℕ) (rs : List Row) → Pairs Before rs → Pairs Follows (InTable t rs)
 table-follows t rs p =

@@ -8,7 +8,7 @@ use Rattle.block_forms.specs.Tuple.{Tuple}
 use Rattle.image_rows.specs.Rows.{Row, number, isOwn, isAt}
 use Rattle.model.specs.Rules.{isRemoving}
 use Rattle.model.specs.Places.{PlaceOp, commitPlace, removePlace, Placed, rowOf, placed, continues, runs, liveOf, ownPlaced, removePlaces, eachRun, planNewest, planRun, planRuns}
-use Rattle.basics.proofs.Elements.{Pairs, all-at, Mem, here, there, mem-all, all-mem, all-map, all-parts, all-keep, any-off, last-off, last-any, last-skip, last-some, last-here, last-mem}
+use Rattle.basics.proofs.Elements.{Pairs, all-at, Mem, here, there, mem-all, all-map, all-parts, all-keep, kept-mem, any-off, last-off, last-any, last-skip, last-some, last-here, last-mem}
 use Rattle.basics.proofs.Elements.{eqb-self, eqb-true, and-no, and-yes}
 use Rattle.model.proofs.ByNumber.{Op, toCommit, toRemove, removeAll, isRow, planKey, ownAt, planRows, plan-skip, plan-take}
 use Rattle.model.proofs.Rows.{Entry, applied-is, numberOf}
@@ -227,7 +227,7 @@ pub kept-with : (ev vs : List Row) → AllOf (λ r. vs ≡ keep (With r) ev) vs 
 kept-with ev vs v = all-map _ _ (λ r e. subst (AllOf (λ q. With r q ≡ true)) (sym e) (kept r)) vs v
   where
     kept : (r : Row) → AllOf (λ q. With r q ≡ true) (keep (With r) ev)
-    kept r = all-map (λ q. (With r q ≡ true) × Unit {0}) (λ q. With r q ≡ true) (λ q h. h .0) (keep (With r) ev) (all-keep (λ q. Unit {0}) (With r) ev (all-mem _ ev (λ q m. tt)))
+    kept r = all-map (λ q. (With r q ≡ true) × Mem q ev) (λ q. With r q ≡ true) (λ q h. h .0) (keep (With r) ev) (kept-mem (With r) ev)
 
 pub numbered-runs : (tx : ℕ) (ev : List Row) (ns : List ℕ) → Pairs (λ a b. a ≢ b) ns → (rs : List (List Placed)) → Grouped ev rs
     → AllOf (λ x. Named ns (x .0) (rowOf x .1 .number)) (flat rs) → map (numbered ns) (planRuns tx rs) ≡ planRows tx ev (rowsIn (flat rs))

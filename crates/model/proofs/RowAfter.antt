@@ -7,7 +7,7 @@ use Rattle.model.specs.State.{Page}
 use Rattle.model.specs.Rules.{asCommitted}
 use Rattle.model.specs.Sight.{rows, held}
 use Rattle.model.specs.Transactions.{tagged}
-use Rattle.basics.proofs.Elements.{Pairs, Mem, here, all-map, there, mem-all, eqb-self, eqb-true, all-keep, all-mem, all-append, mem-keep, any-off, last-off, last-any, last-skip}
+use Rattle.basics.proofs.Elements.{Pairs, Mem, here, all-map, there, mem-all, eqb-self, eqb-true, all-keep, kept-mem, all-mem, all-append, mem-keep, any-off, last-off, last-any, last-skip}
 use Rattle.basics.proofs.Elements.{last-some, last-here}
 use Rattle.model.proofs.ByNumber.{Op, toCommit, isRow, toRemove, removeAll, planKey, ownAt, planRows, placeIn, plan-skip, plan-take}
 use Rattle.model.proofs.Sound.{PageOk, removeRow-ok, commitRow-ok}
@@ -160,7 +160,7 @@ module _ (tx : ℕ) (all : List Row) (d : Pairs Differ all) where
       let miss : (y : Row) → Mem y all → With x y ≡ true → isRow (number y) r ≡ false = λ y my k. row-false (number y) r
       (λ e. lie (sym h ∙ ap (With x) (sym (mem-all _ my only (sym e))) ∙ k)) in
       let all-off = all-map _ (λ y. isRow (number y) r ≡ false) (λ y q. miss y (q .1) (q .0)) (keep (With x) all)
-      (all-keep (λ y. Mem y all) (With x) all (all-mem _ all (λ y m. m))) in
+      (kept-mem (With x) all) in
       let others = keep (λ y. not (isRow (number x) y)) (keep (With x) all) in
       let others-off = all-map (λ y. (not (isRow (number x) y) ≡ true) × (isRow (number y) r ≡ false)) (λ y. isRow (number y) r ≡ false) (λ y q. q .1) others
       (all-keep (λ y. isRow (number y) r ≡ false) (λ y. not (isRow (number x) y)) (keep (With x) all) all-off) in
@@ -199,7 +199,7 @@ module _ (tx : ℕ) (all : List Row) (d : Pairs Differ all) where
       all-map (λ y. (not (eqb (number y) (number x)) ≡ true) × Mem y vs) (λ y. eqb (number x) (number y) ≡ false)
       (λ y q. by (eqb (number x) (number y)) (λ k. lie
       (sym (ap (λ z. not (eqb z (x .1 .number))) (sym (eqb-true _ _ k)) ∙ ap not (eqb-self (x .1 .number))) ∙ q .0)) (λ k. k))
-      (keep (λ y. not (isRow (number x) y)) vs) (all-keep (λ y. Mem y vs) (λ y. not (isRow (number x) y)) vs (all-mem _ vs (λ y m. m)))
+      (keep (λ y. not (isRow (number x) y)) vs) (kept-mem (λ y. not (isRow (number x) y)) vs)
 
   off-settled : (x : Row) (os : List Op) → AllOf (Off x) os → AllOf (Off (x .0, asCommitted (x .1))) os
   unfolding isRow number asCommitted
@@ -295,7 +295,7 @@ module _ (tx : ℕ) (all : List Row) (d : Pairs Differ all) where
       (λ o. off-after (removeAll (keep (isOwn tx) all)) r
       (off-removeAll r (keep (isOwn tx) all) (all-map (λ y. (isOwn tx y ≡ true) × Mem y all) (λ y. isRow (number y) r ≡ false)
       (λ y q. row-false (number y) r (λ e. lie (sym o ∙ ap (isOwn tx) (sym (mem-all (λ y. y .1 .number ≡ r .1 .number → y ≡ r) (q .1) (mem-only mr d) (sym e))) ∙ q .0)))
-      (keep (isOwn tx) all) (all-keep (λ y. Mem y all) (isOwn tx) all (all-mem _ all (λ y m. m))))) ∙ (unfold if_then_else_ in rw o))
+      (keep (isOwn tx) all) (kept-mem (isOwn tx) all))) ∙ (unfold if_then_else_ in rw o))
 
 pub gather-ext : (F G : Row → List Row) (rs : List Row) → AllOf (λ r. F r ≡ G r) rs → gather F rs ≡ gather G rs
 unfolding gather

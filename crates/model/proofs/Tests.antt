@@ -8,7 +8,7 @@ use Rattle.basics.proofs.Elements.{leb-true, eqb-true, not-true, all-map, Pairs
 use Rattle.basics.proofs.Lists.{paired-tail, paired-next}
 use Rattle.model.proofs.Rows.{Differ}
 use Rattle.model.proofs.Placing.{Before}
-use Rattle.model.proofs.RowAfter.{With, at-split, at-join}
+use Rattle.model.proofs.RowAfter.{With, at-split, at-join, at-as}
 use Rattle.model.proofs.Valid.{Chain}
 
 -- ---- the order: neighbours, and all pairs
@@ -137,8 +137,8 @@ Beyond r rs = (t k : ℕ) → isAt t k r ≡ false → startsWell (keep (isAt t 
 passed : (t k : ℕ) (r s q : Row) → isAt t k s ≡ false → isAt t k r ≡ true → Before r s → Before s q → isAt t k q ≡ false
 passed t k r s q n e h l =
     by (isAt t k q)
-    (λ d. let u = at-split t k r e in let v = at-split t k q d in
-    let m = between r s q h l (at-join (q .0) (q .1 .key) r (u .0 ∙ sym (v .0)) (u .1 ∙ sym (v .1))) in
+    (λ d. let u = at-split t k r e in
+    let m = between r s q h l (at-as t k q r d ∙ e) in
     let w = at-split (s .0) (s .1 .key) r (m .0) in
     lie (sym n ∙ at-join t k s (sym (w .0) ∙ u .0) (sym (w .1) ∙ u .1)))
     (λ d. d)

@@ -9,22 +9,16 @@ use Rattle.model.specs.Sight.{rows, isForeign, versions, seenOf, seen}
 use Rattle.model.specs.Transactions.{openNumbers, full, argumentTests, keyTest, keyTests, tupleTests, writeTests, writeCall}
 use Rattle.model.specs.WellFormed.{VersionOrder}
 use Rattle.model.specs.Seen.{InsertsDeleted}
-use Rattle.basics.proofs.Elements.{Mem, all-mem, mem-all, all-map, all-keep, any-off, last-mem, pairs-map, pairs-both, pairs-keep}
+use Rattle.basics.proofs.Elements.{Mem, mem-all, all-map, kept-mem, any-off, last-mem, pairs-map, pairs-both, pairs-keep}
 use Rattle.basics.proofs.Lists.{paired-true}
 use Rattle.model.proofs.Effects.{unless-skip}
 use Rattle.model.proofs.Placing.{Before}
-use Rattle.model.proofs.RowAfter.{at-join, at-split}
+use Rattle.model.proofs.RowAfter.{at-as}
 use Rattle.model.proofs.Valid.{Valid, Chain}
 use Rattle.model.proofs.Closing.{not-beside}
 use Rattle.model.proofs.Keeps.{rows-rising, rows-differ}
 use Rattle.model.proofs.Tests.{follows-join}
 use Rattle.model.proofs.Well.{sound}
-
--- two rows at a key are at one key
-at-one : (t k : ℕ) (r q : Row) → isAt t k r ≡ true → isAt t k q ≡ true → isAt (r .0) (r .1 .key) q ≡ true
-at-one t k r q a b =
-    let ra = at-split t k r a in let qa = at-split t k q b in
-    at-join (r .0) (r .1 .key) q (qa .0 ∙ sym (ra .0)) (qa .1 ∙ sym (ra .1))
 
 module _ (s : Store) (v : Valid s) (t k : ℕ) where
   abbrev rs : List Row
@@ -33,13 +27,13 @@ module _ (s : Store) (v : Valid s) (t k : ℕ) where
   -- the versions are rows at the key
   at-key : AllOf (λ q. (isAt t k q ≡ true) × Mem q rs) (versions t k (s .pages))
   unfolding versions
-  at-key = all-keep (λ q. Mem q rs) (isAt t k) rs (all-mem _ rs (λ q m. m))
+  at-key = kept-mem (isAt t k) rs
 
   version-at : {q : Row} → Mem q (versions t k (s .pages)) → (isAt t k q ≡ true) × Mem q rs
   version-at m = mem-all (λ q. (isAt t k q ≡ true) × Mem q rs) m at-key
 
   each-follows : (r q : Row) → Mem r (versions t k (s .pages)) → Mem q (versions t k (s .pages)) → Before r q × Chain r q → follows r q ≡ true
-  each-follows r q mr mq h = follows-join r q (h .0) (h .1) (λ w. lie (sym w ∙ at-one t k q r (version-at mq .0) (version-at mr .0)))
+  each-follows r q mr mq h = follows-join r q (h .0) (h .1) (λ w. lie (sym w ∙ at-as t k q r (version-at mq .0) ∙ version-at mr .0))
 
   module _ (tx : ℕ) (r : Row) (newest : last (isOwn tx) (versions t k (s .pages)) ≡ some r) where
     -- beside an own version there is none of another transaction
@@ -50,7 +44,7 @@ module _ (s : Store) (v : Valid s) (t k : ℕ) where
         let own = last-mem (isOwn tx) (versions t k (s .pages)) r newest in
         let ra = version-at (own .0) in
         by (eqb u tx) (λ h. ap not h)
-        (λ h. absurd (not-beside tx (openNumbers (s .active)) rs (v .sees) (rows-differ s v) q r u n (m .1) e h (ra .1) (own .1) (at-one t k q r (m .0) (ra .0))))
+        (λ h. absurd (not-beside tx (openNumbers (s .active)) rs (v .sees) (rows-differ s v) q r u n (m .1) e h (ra .1) (own .1) (at-as t k q r (m .0) ∙ ra .0)))
 
     none-foreign : any (isForeign tx) (versions t k (s .pages)) ≡ false
     unfolding isForeign

@@ -31,7 +31,7 @@ pub fn open(m: &mut [u8], transaction: u64) -> Answer
     call_transactions::open(m, transaction)
 }
 
-// A tuple of a new key.
+// A tuple of a key that the transaction does not see.
 pub fn insert(m: &mut [u8], transaction: u64, table: u64, key: u32, payload: &[u8]) -> Answer
     ensures { λ r. ⌜ Answers (insertCall transaction table key (now (payload .entry))) (now (m .entry)) r (now (m .exit)) ⌝ }
 {
@@ -45,7 +45,7 @@ pub fn replace(m: &mut [u8], transaction: u64, table: u64, key: u32, payload: &[
     call_transactions::replace(m, transaction, table, key, payload)
 }
 
-// Adds a delete mark for the key: gone for this transaction now, for all others at its commit.
+// Adds a delete mark for the key: gone for this transaction now and, unless it inserts the key again, for all others at its commit.
 pub fn delete(m: &mut [u8], transaction: u64, table: u64, key: u32) -> Answer
     ensures { λ r. ⌜ Answers (deleteCall transaction table key) (now (m .entry)) r (now (m .exit)) ⌝ }
 {
