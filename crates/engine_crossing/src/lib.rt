@@ -5,7 +5,8 @@ use engine_lookup::Seen;
 ghost use mathlib.Core.Path.{_≡_};
 ghost use Prim.Native.Nat.{_-_, _≤_, _<_, min};
 ghost use lib.ListN.{length};
-ghost use Rattle.model.specs.Crossing.{minutes, crosses};
+ghost use Rattle.calendar.specs.Calendar.{minutes};
+ghost use Rattle.model.specs.Crossing.{crosses};
 ghost use Rattle.memory_layout.specs.Flat.{flatOf, rowIn, Room};
 ghost use Rattle.engine_crossing.specs.Crossing.{longest, mostKey, NextCrossing, OneKey, RunSeen, RoomForKey, KeyAdded, RunAdded, KeysAsked, RoomForKeys, KeysFound};
 
@@ -22,11 +23,9 @@ fn minutes_at(m: &[u8], i: usize) -> u64
     ensures { λ r. ⌜ (r ≡ minutes (rowIn (flatOf (now (m .entry))) i .tuple .payload)) × (r ≤ longest) ⌝ }
 {
     let p = memory_rows::payload_at(m, i);
-    if p.len < 2 {
-        return 0;
-    }
     let a = p.start;
-    m[a] as u64 * 256 + m[a + 1] as u64
+    let e = a + p.len;
+    calendar::minutes(&m[a..e]) as u64
 }
 
 // Whether the booking in row i crosses the interval, whoever sees it.

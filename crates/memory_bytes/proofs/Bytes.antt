@@ -1,7 +1,8 @@
 -- Numbers and bytes read before and after a change of other bytes, and behind one that moved or wrote them.
-use Rattle.basics.proofs.Kit.{_≡_, sym, ap, _∙_, ⊎-elim, List, _∷_, _++_, append-nil, ℕ, _+_, _%_, _≤_, _<_, _/_, _-_, add-zero, zero-add, length, drop, getD, length-append, length-drop}
-use Rattle.basics.proofs.Kit.{subst, replicate, length-replicate, drop-of-length-le, List·getD-append, getD-drop, getD-append-add, ext-getD, arith}
+use Rattle.basics.proofs.Kit.{_≡_, sym, ap, _∙_, ⊎-elim, List, _∷_, _++_, append-nil, ℕ, _+_, _%_, _≤_, _<_, _/_, _-_, add-zero, zero-add, length, take, drop, getD, length-append, length-drop}
+use Rattle.basics.proofs.Kit.{subst, replicate, length-replicate, drop-of-length-le, List·getD-append, getD-drop, getD-take, getD-append-add, ext-getD, arith}
 use Rattle.memory_bytes.specs.Bytes.{le2, le4, bytes, bytes2, bytes4, Apart, Raised, Lowered, Wrote}
+use Rattle.basics.proofs.Overs.{length-part}
 use Rattle.basics.proofs.Tabs.{lt-or-ge, tab-cong, tab-self, length-tab, getD-tab}
 
 pub length-bytes : (m : List ℕ) (a n : ℕ) → length (bytes m a n) ≡ n
@@ -11,6 +12,13 @@ length-bytes m a n = length-tab (λ k. getD m k 0) a n
 pub getD-bytes : (m : List ℕ) (a n k : ℕ) → k < n → getD (bytes m a n) k 0 ≡ getD m (a + k) 0
 unfolding bytes
 getD-bytes m a n k h = getD-tab (λ j. getD m j 0) a n k 0 h
+
+-- a part of the memory, by its bytes
+pub part-bytes : (m : List ℕ) (a n : ℕ) → a + n ≤ length m → take n (drop a m) ≡ bytes m a n
+part-bytes m a n h =
+    let l : length (take n (drop a m)) ≡ n = length-part n a m h in
+    ext-getD 0 (take n (drop a m)) (bytes m a n) (l ∙ sym (length-bytes m a n))
+    (λ k b. let s : k < n = omega arith in getD-take n (drop a m) k 0 s ∙ getD-drop a m k 0 ∙ sym (getD-bytes m a n k s))
 
 -- ---- equal bytes, equal readings
 

@@ -1,11 +1,12 @@
 -- Bookings that cross an interval of minutes: the keys of those that a transaction sees in a table.
-use Prim.Native.Nat.{ℕ, _+_, _*_, _/_, _%_}
+use Prim.Native.Nat.{ℕ, _+_, _/_, _%_}
 use mathlib.Core.Bool.{Bool}
 use mathlib.Core.Option.{Option, none, some}
 use mathlib.Core.List.{List, [], _∷_, _++_}
 use lib.ListN.{length}
 use lib.Dec.{leb, ltb, eqb}
 use Rattle.basics.specs.Basics.{if_then_else_, every, keep}
+use Rattle.calendar.specs.Calendar.{minutes}
 use Rattle.block_forms.specs.Tuple.{Tuple}
 use Rattle.image_rows.specs.Rows.{Row}
 use Rattle.model.specs.State.{Page, Store, Outcome}
@@ -13,12 +14,6 @@ use Rattle.model.specs.Sight.{seenOf}
 use Rattle.model.specs.Transactions.{Test, _when_, unless, replied, notOpen, noTable, Placed, allRuns, eachRun, rowsIn}
 
 -- ---- bookings
-
--- a booking's length in minutes: the first two bytes of its payload, high byte first; a shorter payload has none
-unfoldable pub minutes : List ℕ → ℕ
-minutes [] = 0
-minutes (b ∷ []) = 0
-minutes (b ∷ c ∷ bs) = 256 * b + c
 
 -- The booking runs from its key up to, not including, key + length, which may pass 32 bits: it shares a minute with the interval from first
 -- up to, not including, end. One of length 0 shares none.
