@@ -8,8 +8,9 @@ use Rattle.model.specs.State.{Store, Write, Outcome, Answer, refused, do
 use Rattle.model.specs.Sight.{held, isForeign, versions, seenOf, seen}
 use Rattle.model.specs.Transactions.{unless, Test, gives, _when_, openNumbers, withOpen, openCall, notOpen, noTable, tooLong, full, argumentTests, keyTest, keyTests, tupleTests}
 use Rattle.model.specs.Transactions.{writeTests, withTuple, writeCall, replied, readSeen, readCall, listCall, committedPages, abortedPages, closing, commitCall, abortCall}
+use Rattle.model.specs.Checked.{insertCheckedCall}
 use Rattle.model.specs.Crossing.{keysReply, crossingCall}
-use Rattle.model.specs.Calls.{TransactionCall, opens, inserts, replaces, deletes, commits, aborts, reads, lists, crossings, transact, noEffect, startOf, writeOf, commitOf, abortOf, effect}
+use Rattle.model.specs.Calls.{TransactionCall, opens, inserts, insertsChecked, replaces, deletes, commits, aborts, reads, lists, crossings, transact, noEffect, startOf, writeOf, commitOf, abortOf, effect}
 use Rattle.model.specs.Calls.{TypedTuple, TypedCall, accepted}
 use Rattle.basics.proofs.Elements.{leb-false, not-false}
 
@@ -134,10 +135,11 @@ reading c s room none e = refuses 14
 reading c s room (some r) e = replying c s room _ _ e
 
 pub does : (c : TransactionCall) (s : Store) → Does c s (transact c s)
-unfolding transact openCall commitCall abortCall readCall listCall keysReply crossingCall effect isEmpty
+unfolding transact openCall insertCheckedCall commitCall abortCall readCall listCall keysReply crossingCall effect isEmpty
 does (opens tx) s =
     does-unless _ s _ _ (λ p. starts tx refl (omega (arith, leb-false transactionLimit tx (p .0))) (p .1 .0) (leb-false openLimit (length (s .active)) (p .1 .1 .0)))
 does (inserts tx t k bs) s = writing (inserts tx t k bs) s tx t k bs (λ h. h) true false refl tt
+does (insertsChecked tx t k bs hours) s = does-unless _ s _ _ (λ p. writing (insertsChecked tx t k bs hours) s tx t k bs (λ h. h) true false refl tt)
 does (replaces tx t k bs) s = writing (replaces tx t k bs) s tx t k bs (λ h. h) false false refl tt
 does (deletes tx t k) s = writing (deletes tx t k) s tx t k [] (λ h. h) false true refl (refl, refl)
 does (commits tx) s = does-unless _ s _ _ (λ p. finishes tx refl)

@@ -61,3 +61,4 @@ pub mod Cuts
 pub mod CrossingCases
 pub mod ListCases
 pub mod RebookCases
+pub mod CheckedCases

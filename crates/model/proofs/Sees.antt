@@ -1,21 +1,24 @@
 -- What a transaction sees after each call.
 use Rattle.block_forms.specs.Limits.{mostTransaction}
-use Rattle.basics.proofs.Kit.{_≡_, refl, sym, ap, _∙_, ap₂, Bool, true, false, not, some, none, Option, List, [], _∷_, _++_, append-nil, ℕ, suc, _≤_, eqb, ltb}
+use Rattle.basics.proofs.Kit.{_≡_, refl, sym, ap, _∙_, ap₂, Bool, true, false, not, some, none, Option, List, [], _∷_, _++_, append-nil, ℕ, suc, _+_, _≤_, _<_, eqb, ltb}
 use Rattle.basics.proofs.Kit.{length, arith}
 use Rattle.basics.specs.Basics.{if_then_else_, keep, last, first, isIn}
 use Rattle.basics.proofs.Facts.{by, lie, AllOf, by-option}
 use Rattle.block_forms.specs.Tuple.{isTentative, Owner, committed, tentative}
+use Rattle.calendar.specs.Calendar.{minutes, rowsOf, isOpen}
+use Rattle.calendar.proofs.Edges.{open-each}
 use Rattle.image_rows.specs.Rows.{Row, isAt, isOwn, isBy, number}
 use Rattle.model.specs.State.{Store, Outcome, filled, refused}
 use Rattle.model.specs.Rules.{asCommitted}
 use Rattle.model.specs.Sight.{seen, rows, isCommitted, versions, seenOf}
 use Rattle.model.specs.Transactions.{unless, Test, gives, _when_, changed, openNumbers, withOpen, notOpen, noTable, tooLong, argumentTests, writeTests, newTuple, withWrite, afterWrite}
-use Rattle.model.specs.Transactions.{withTuple, writeCall, replied, readSeen, readCall, without, abortedPages, commitCall, abortCall}
+use Rattle.model.specs.Transactions.{withTuple, writeCall, insertCall, replied, readSeen, readCall, without, abortedPages, commitCall, abortCall}
+use Rattle.model.specs.Checked.{noCalendar, noLength, someClosed, hoursTests, insertCheckedCall}
 use Rattle.model.specs.Checkpoint.{beginCall, stepCall, runCall}
 use Rattle.model.specs.Calls.{TransactionCall, transact, effect, Call, transacts, begins, steps, runs, call, effectOf, isTransaction}
-use Rattle.model.specs.Seen.{remains, NewestWritten, WriterReads, WriterMisses, OtherKeysStay, RowsStay, SeenAfterCommit, SeenAfterAbort, mayShow, SeenAsBefore}
+use Rattle.model.specs.Seen.{remains, NewestWritten, WriterReads, CheckedInserts, WriterMisses, OtherKeysStay, RowsStay, SeenAfterCommit, SeenAfterAbort, mayShow, SeenAsBefore}
 use Rattle.basics.proofs.Elements.{leb-false, eqb-self, here, Pairs, keep-cons, keep-past, all-map, keep-none, eqb-true, all-mem, not-false, Mem, there, mem-all}
-use Rattle.basics.proofs.Elements.{last-mem, pairs-keep, lt-false, eqb-sym, in-append}
+use Rattle.basics.proofs.Elements.{last-mem, pairs-keep, lt-false, eqb-sym, in-append, not-zero}
 use Rattle.basics.proofs.Lasts.{last-new, last-old, first-old, last-gone, last-keep, first-keep, last-both}
 use Rattle.model.proofs.ByNumber.{isRow, ownAt}
 use Rattle.model.proofs.Owners.{numbers-write, numbers-without, in-others, numbers-append}
@@ -310,6 +313,13 @@ writer-reads s w tx t k bs room l =
       unless-accepted P _ s _
           (λ p q. wrote-reads s v tx t k room (p .0) (p .1 .0) (p .1 .1 .0) bs l),
     )
+
+pub checked-inserts : CheckedInserts
+unfolding insertCheckedCall hoursTests noTable noCalendar noLength someClosed
+checked-inserts tx t k bs hours s h =
+    unless-accepted
+    (λ o. (o ≡ insertCall tx t k bs s) × (0 < minutes bs) × ((u : ℕ) → k ≤ u → u < k + minutes bs → isOpen (rowsOf hours) u ≡ true)) _ s _
+    (λ p q. (refl, not-zero _ (p .1 .1 .0), open-each (rowsOf hours) k (minutes bs) (not-false _ (p .1 .1 .1 .0)))) h
 
 pub writer-misses : WriterMisses
 unfolding writeCall writeTests argumentTests notOpen noTable tooLong

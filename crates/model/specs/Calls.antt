@@ -8,15 +8,17 @@ use Rattle.basics.specs.Basics.{if_then_else_, isIn, keep}
 use Rattle.block_forms.specs.Tuple.{AllBytes}
 use Rattle.model.specs.State.{Store, Answer, refused, done, count, filled, Outcome}
 use Rattle.model.specs.Transactions.{openCall, commitCall, abortCall, insertCall, replaceCall, deleteCall, readCall, listCall}
+use Rattle.model.specs.Checked.{insertCheckedCall}
 use Rattle.model.specs.Crossing.{crossingCall}
 use Rattle.model.specs.Checkpoint.{beginCall, stepCall, runCall}
 
 -- ---- the calls of transactions
 
--- with transaction, table, key, payload; first and end of the interval (crossing); the length of the reply (read, list, crossing)
+-- with transaction, table, key, payload; the dish's calendar (checked insert); first and end of the interval (crossing); the length of the reply (read, list, crossing)
 pub data TransactionCall : Type 0 where
   opens : ℕ → TransactionCall
   inserts : ℕ → ℕ → ℕ → List ℕ → TransactionCall
+  insertsChecked : ℕ → ℕ → ℕ → List ℕ → List ℕ → TransactionCall
   replaces : ℕ → ℕ → ℕ → List ℕ → TransactionCall
   deletes : ℕ → ℕ → ℕ → TransactionCall
   commits : ℕ → TransactionCall
@@ -29,6 +31,7 @@ pub data TransactionCall : Type 0 where
 unfoldable pub transact : TransactionCall → Store → Outcome
 transact (opens tx) s = openCall tx s
 transact (inserts tx t k bs) s = insertCall tx t k bs s
+transact (insertsChecked tx t k bs hours) s = insertCheckedCall tx t k bs hours s
 transact (replaces tx t k bs) s = replaceCall tx t k bs s
 transact (deletes tx t k) s = deleteCall tx t k s
 transact (commits tx) s = commitCall tx s
@@ -46,6 +49,7 @@ pub data Effect : Type 0 where
 unfoldable pub effect : TransactionCall → Effect
 effect (opens tx) = startOf tx
 effect (inserts tx t k bs) = writeOf tx
+effect (insertsChecked tx t k bs hours) = writeOf tx
 effect (replaces tx t k bs) = writeOf tx
 effect (deletes tx t k) = writeOf tx
 effect (commits tx) = commitOf tx
@@ -62,6 +66,7 @@ TypedTuple k bs = (k < 4294967296) × AllBytes bs
 abbrev pub TypedCall : TransactionCall → Type 0
 TypedCall (opens tx) = Unit {0}
 TypedCall (inserts tx t k bs) = TypedTuple k bs
+TypedCall (insertsChecked tx t k bs hours) = TypedTuple k bs
 TypedCall (replaces tx t k bs) = TypedTuple k bs
 TypedCall (deletes tx t k) = TypedTuple k []
 TypedCall (commits tx) = Unit {0}

@@ -3,6 +3,7 @@ pub mod Rules
 pub mod Dividing
 pub mod Sight
 pub mod Transactions
+pub mod Checked
 pub mod Crossing
 pub mod Checkpoint
 pub mod Calls
@@ -17,3 +18,4 @@ pub mod Cases
 pub mod CrossingCases
 pub mod ListCases
 pub mod RebookCases
+pub mod CheckedCases

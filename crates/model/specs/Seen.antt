@@ -1,5 +1,5 @@
 -- What a transaction sees after each call, on well-formed stores.
-use Prim.Native.Nat.{ℕ, _≤_}
+use Prim.Native.Nat.{ℕ, _+_, _≤_, _<_}
 use mathlib.Core.Path.{_≡_}
 use mathlib.Core.Bool.{Bool, true, false, _&&_}
 use mathlib.Core.Option.{Option, none, some}
@@ -7,11 +7,13 @@ use mathlib.Core.List.{List, [], _++_}
 use lib.ListN.{length}
 use lib.Dec.{eqb, leb, ltb}
 use Rattle.basics.specs.Basics.{if_then_else_, paired, howMany, first, last, isIn, sorted}
+use Rattle.calendar.specs.Calendar.{minutes, rowsOf, isOpen}
 use Rattle.image_rows.specs.Rows.{Row, isOwn}
 use Rattle.model.specs.State.{Store, refused, filled}
 use Rattle.model.specs.Rules.{asCommitted}
 use Rattle.model.specs.Sight.{rows, isCommitted, versions, seen}
 use Rattle.model.specs.Transactions.{unless, openNumbers, full, argumentTests, newTuple, withTuple, writeCall, insertCall, replaceCall, deleteCall, readCall, commitCall, abortCall}
+use Rattle.model.specs.Checked.{insertCheckedCall}
 use Rattle.model.specs.Crossing.{crosses, crossingKeys}
 use Rattle.model.specs.Calls.{TransactionCall, transact, Effect, noEffect, startOf, writeOf, commitOf, abortOf, effect, Call, begins, steps, runs, call, effectOf, accepted}
 use Rattle.model.specs.WellFormed.{WellFormed}
@@ -30,6 +32,14 @@ WriterReads =
     (s : Store) → WellFormed s → (tx t k : ℕ) (bs : List ℕ) (room : ℕ) → length bs ≤ room
     → (accepted (insertCall tx t k bs s .answer) ≡ true → readCall tx t k room (insertCall tx t k bs s .store) .answer ≡ filled (length bs) bs)
     × (accepted (replaceCall tx t k bs s .answer) ≡ true → readCall tx t k room (replaceCall tx t k bs s .store) .answer ≡ filled (length bs) bs)
+
+-- an accepted checked insert is that insert, of a booking with a minute or more, every one of which is open
+abbrev pub CheckedInserts : Type 0
+CheckedInserts =
+    (tx t k : ℕ) (bs hours : List ℕ) (s : Store) → accepted (insertCheckedCall tx t k bs hours s .answer) ≡ true
+    → (insertCheckedCall tx t k bs hours s ≡ insertCall tx t k bs s)
+    × (0 < minutes bs)
+    × ((u : ℕ) → k ≤ u → u < k + minutes bs → isOpen (rowsOf hours) u ≡ true)
 
 -- after an accepted delete the key is not seen
 abbrev pub WriterMisses : Type 0
