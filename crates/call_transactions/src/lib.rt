@@ -38,7 +38,7 @@ const CAPACITY_LIMIT: u64 = memory_layout::CAPACITY_LIMIT as u64;
 // The largest number of a transaction and of a table, and how many transactions may be open.
 const TRANSACTION_LIMIT: u64 = block_forms::TRANSACTIONS as u64 - 1;
 
-const TABLE_LIMIT: u64 = 7;
+pub const TABLE_LIMIT: u64 = 7;
 
 const OPEN_LIMIT: usize = memory_layout::OPEN_LIMIT as usize;
 

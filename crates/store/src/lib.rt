@@ -5,6 +5,7 @@ ghost use mathlib.Core.Path.{_≡_};
 ghost use lib.IntN.{pos};
 ghost use lib.ListN.{length};
 ghost use Rattle.model.specs.Transactions.{openCall, insertCall, replaceCall, deleteCall, commitCall, abortCall, readCall, listCall};
+ghost use Rattle.model.specs.Checked.{insertCheckedCall};
 ghost use Rattle.model.specs.Crossing.{crossingCall};
 ghost use Rattle.model.specs.Checkpoint.{beginCall, stepCall, runCall};
 ghost use Rattle.call_contracts.specs.Shape.{Answers, Replies, Stores, Made, Recovered};
@@ -36,6 +37,20 @@ pub fn insert(m: &mut [u8], transaction: u64, table: u64, key: u32, payload: &[u
     ensures { λ r. ⌜ Answers (insertCall transaction table key (now (payload .entry))) (now (m .entry)) r (now (m .exit)) ⌝ }
 {
     call_transactions::insert(m, transaction, table, key, payload)
+}
+
+// The same, for a booking whose dish is open for every minute of it; `hours` is the dish's weekly calendar, four bytes a row.
+pub fn insert_checked(
+    m: &mut [u8],
+    transaction: u64,
+    table: u64,
+    key: u32,
+    payload: &[u8],
+    hours: &[u8],
+) -> Answer
+    ensures { λ r. ⌜ Answers (insertCheckedCall transaction table key (now (payload .entry)) (now (hours .entry))) (now (m .entry)) r (now (m .exit)) ⌝ }
+{
+    call_checked::insert_checked(m, transaction, table, key, payload, hours)
 }
 
 // Another payload for a key.
@@ -171,6 +186,20 @@ pub extern "C" fn vodzanu_insert(
     ensures { λ r. ⌜ Coded r (λ a. Answers (insertCall transaction table key (now (payload .entry))) (now (memory .entry)) a (now (memory .exit))) ⌝ }
 {
     code(insert(memory, transaction, table, key, payload))
+}
+
+#[no_mangle]
+pub extern "C" fn vodzanu_insert_checked(
+    memory: &mut [u8],
+    transaction: u64,
+    table: u64,
+    key: u32,
+    payload: &[u8],
+    hours: &[u8],
+) -> i64
+    ensures { λ r. ⌜ Coded r (λ a. Answers (insertCheckedCall transaction table key (now (payload .entry)) (now (hours .entry))) (now (memory .entry)) a (now (memory .exit))) ⌝ }
+{
+    code(insert_checked(memory, transaction, table, key, payload, hours))
 }
 
 #[no_mangle]
