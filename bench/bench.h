@@ -67,6 +67,7 @@ struct sqlite3 *new_database(void);
 void crossing_table(void);
 void list_table(void);
 void split_table(void);
+void hours_tables(void);
 void checkpoint_tables(void);
 
 #endif

@@ -1,6 +1,6 @@
 /* A mission's client: makes a store in a file, books windows of a dish, checkpoints to the file while booking goes on, asks which windows
- * touch a stretch of time, loses power inside a block store of the next checkpoint, and recovers from the file. What it prints is
- * examples/client.out; how it is built: README.md. */
+ * touch a stretch of time, loses power inside a block store of the next checkpoint, recovers from the file, and books windows of a dish
+ * that has opening hours. What it prints is examples/client.out; how it is built: README.md. */
 #define _POSIX_C_SOURCE 200809L /* pwrite, fdatasync */
 #include <fcntl.h>
 #include <stdio.h>
@@ -9,7 +9,8 @@
 #include <unistd.h>
 #include "vodzanu.h"
 
-enum { BLOCKS = 64, CAPACITY = 128, DISH = 3, MISSION = 7, OTHER_MISSION = 8 };
+enum { BLOCKS = 64, CAPACITY = 128, DISH = 3, DAY_DISH = 4, MISSION = 7, OTHER_MISSION = 8 };
+enum { HOUR = 60, DAY = 24 * HOUR, WEDNESDAY = 2 * DAY, FRIDAY = 4 * DAY, SUNDAY = 6 * DAY, WEEKDAYS = 5 }; /* minutes; minute 0 is a Monday's */
 
 static uint8_t image[BLOCKS * VODZANU_BLOCK];   /* lent to the calls */
 static uint8_t on_disk[BLOCKS * VODZANU_BLOCK]; /* what the file has, to find the blocks that changed */
@@ -27,21 +28,46 @@ static int64_t must(const char *call, int64_t answer) {
     return answer;
 }
 
-/* A window's key is its start minute; its payload is its length in minutes, two bytes, high byte first, and a text, cut if it is too long. */
+/* Two bytes, high byte first. */
+static void put_two(uint8_t *to, unsigned n) {
+    to[0] = (uint8_t)(n / 256);
+    to[1] = (uint8_t)(n % 256);
+}
+
+/* A window's payload: its length in minutes, two bytes, and a text, cut if it is too long. Answers how many bytes it has. */
+static size_t put_payload(uint8_t *payload, unsigned minutes, const char *text) {
+    size_t len = strlen(text);
+    if (len > VODZANU_PAYLOAD_LIMIT - 2) len = VODZANU_PAYLOAD_LIMIT - 2;
+    put_two(payload, minutes);
+    memcpy(payload + 2, text, len);
+    return 2 + len;
+}
+
+/* A window's key is its start minute. */
 static void book(unsigned mission, uint32_t window, unsigned minutes, const char *text) {
     uint8_t payload[VODZANU_PAYLOAD_LIMIT];
-    size_t len = strlen(text);
-    int64_t answer;
-    if (len > sizeof payload - 2) len = sizeof payload - 2;
-    payload[0] = (uint8_t)(minutes / 256);
-    payload[1] = (uint8_t)(minutes % 256);
-    memcpy(payload + 2, text, len);
-    answer = vodzanu_insert(memory, sizeof memory, mission, DISH, window, payload, 2 + len);
+    size_t len = put_payload(payload, minutes, text);
+    int64_t answer = vodzanu_insert(memory, sizeof memory, mission, DISH, window, payload, len);
     if (answer == -VODZANU_CONFLICT || answer == -VODZANU_KEY_EXISTS) {
         printf("mission %u: window %u is taken\n", mission, (unsigned)window);
         return;
     }
     must("insert", answer);
+}
+
+/* Books a window of the dish that is open on weekdays from 06:00 to 22:00: a row a day, its first minute and how many it has. */
+static void book_in_hours(uint32_t window, unsigned minutes, const char *text) {
+    uint8_t payload[VODZANU_PAYLOAD_LIMIT], hours[WEEKDAYS * VODZANU_HOURS_ROW];
+    size_t len = put_payload(payload, minutes, text);
+    int64_t answer;
+    unsigned day;
+    for (day = 0; day < WEEKDAYS; day++) {
+        put_two(hours + day * VODZANU_HOURS_ROW, day * DAY + 6 * HOUR);
+        put_two(hours + day * VODZANU_HOURS_ROW + 2, 16 * HOUR);
+    }
+    answer = vodzanu_insert_checked(memory, sizeof memory, MISSION, DAY_DISH, window, payload, len, hours, sizeof hours);
+    if (answer != -VODZANU_CLOSED) must("insert_checked", answer);
+    printf("dish %d, window %u, %u minutes: %s\n", DAY_DISH, (unsigned)window, minutes, answer == 0 ? "booked" : "closed");
 }
 
 static void show(uint32_t window) {
@@ -164,6 +190,10 @@ int main(int argc, char **argv) {
     must("commit", vodzanu_commit(memory, sizeof memory, MISSION));
     must("open", vodzanu_open(memory, sizeof memory, MISSION));
     show(100);
+
+    book_in_hours(WEDNESDAY + 9 * HOUR, 45, "pass 3");
+    book_in_hours(FRIDAY + 21 * HOUR, 90, "pass 4, past 22:00");
+    book_in_hours(SUNDAY + 9 * HOUR, 45, "pass 5, on a Sunday");
     must_file("close", close(file) == 0);
     return 0;
 }

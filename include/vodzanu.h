@@ -5,9 +5,9 @@
  * WHAT A CALLER MUST SEE TO
  *
  * - Every pointer is valid for the length that follows it, and is not null, also where that length is 0. No alignment is asked.
- * - The buffers of one call (image, memory, payload, reply) do not overlap.
- * - Image and memory go from call to call as the last call left them; between calls they may be moved as a whole. Payload and reply
- *   are needed only until the call returns.
+ * - The buffers of one call (image, memory, payload, hours, reply) do not overlap.
+ * - Image and memory go from call to call as the last call left them; between calls they may be moved as a whole. Payload, hours and
+ *   reply are needed only until the call returns.
  * - The library has no state of its own, allocates nothing and makes no system call, so calls on different stores may run in parallel.
  *   On one store only vodzanu_read, vodzanu_crossing and vodzanu_list may, with each other.
  *
@@ -63,6 +63,9 @@ extern "C" {
 #define VODZANU_MOST_CAPACITY 1024    /* tuples that a store can hold; the least capacity is 1 */
 #define VODZANU_PAYLOAD_LIMIT 40      /* bytes of a payload; a reply of so many is long enough for every read */
 #define VODZANU_TABLES 8              /* tables of a store, numbered from 0 */
+#define VODZANU_WEEK 10080            /* minutes of a week; minute 0 of the keys is a Monday's 00:00 UTC */
+#define VODZANU_HOURS_ROW 4           /* bytes of a row of opening hours */
+#define VODZANU_MOST_HOURS 32         /* rows of a dish's opening hours */
 #define VODZANU_OPEN_LIMIT 64         /* open transactions; a reply of twice so many bytes is long enough for every list */
 #define VODZANU_MOST_TRANSACTION 4095 /* the largest number of a transaction; the least is 0 */
 
@@ -97,7 +100,10 @@ enum vodzanu_refusal {
     VODZANU_BAD_HEADER = 22,         /* block 0 is not a header of this image */
     VODZANU_BAD_DIRECTORY = 23,      /* a block that the header names is not its directory */
     VODZANU_BAD_PAGE = 24,           /* a block that the directory names is not a page, or the pages do not fit together */
-    VODZANU_INTERVAL_EMPTY = 25      /* the interval's end is not above its start */
+    VODZANU_INTERVAL_EMPTY = 25,     /* the interval's end is not above its start */
+    VODZANU_BAD_HOURS = 26,          /* the opening hours have more than 32 rows, a row out of range, or a last row of fewer than four bytes */
+    VODZANU_BOOKING_EMPTY = 27,      /* the payload has fewer than two bytes, or they give length 0 */
+    VODZANU_CLOSED = 28              /* some minute of the booking is in no row of the opening hours */
 };
 
 /* ---- make and recover */
@@ -125,6 +131,16 @@ int64_t vodzanu_open(uint8_t *memory, size_t memory_len, uint64_t transaction);
  * Answers 0. Refuses: 4, 6, 7, 10, 11, 12, 13, 15, 16. */
 int64_t vodzanu_insert(uint8_t *memory, size_t memory_len, uint64_t transaction, uint64_t table, uint32_t key,
                        const uint8_t *payload, size_t payload_len);
+
+/* Adds a booking only if the dish is open at every minute of it; it is then a vodzanu_insert like any other. A table is one dish. The
+ * booking runs from minute `key` up to, not including, key + length, where the first two bytes of the payload, high byte first, are the
+ * length in minutes; its end may pass 32 bits. `hours` is the dish's week, four bytes a row: the row's first minute, 0 to 10,079 from Monday
+ * 00:00 UTC, and how many minutes it has, 1 to 10,080, two bytes each, high byte first. A row may run past Sunday into Monday; rows may
+ * stand in any order and overlap. At most 32 rows; a dish without rows is closed. The hours are read for this call alone: they are not
+ * kept, and no other call minds them.
+ * Answers 0. Refuses: 4, 10, 26, 27, 28, 6, 7, 11, 12, 13, 15, 16. */
+int64_t vodzanu_insert_checked(uint8_t *memory, size_t memory_len, uint64_t transaction, uint64_t table, uint32_t key,
+                               const uint8_t *payload, size_t payload_len, const uint8_t *hours, size_t hours_len);
 
 /* Adds a newer version of a key that the transaction sees; the older ones go when it is committed. Each version takes the room of a
  * tuple until then, and so does the mark of a delete: keep some of the capacity for changes.

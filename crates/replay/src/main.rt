@@ -93,6 +93,10 @@ fn insert(m: &mut [u8], t: Target, payload: &[u8]) {
     say_answer(store::insert(m, t.transaction, t.table, t.key, payload));
 }
 
+fn checked(m: &mut [u8], t: Target, payload: &[u8], hours: &[u8]) {
+    say_answer(store::insert_checked(m, t.transaction, t.table, t.key, payload, hours));
+}
+
 fn replace(m: &mut [u8], t: Target, payload: &[u8]) {
     say_answer(store::replace(m, t.transaction, t.table, t.key, payload));
 }
@@ -129,12 +133,18 @@ fn list(m: &[u8], room: u64) {
     }
 }
 
-fn on_memory(m: &mut [u8], call: Call, payload: &[u8]) {
+fn on_memory(m: &mut [u8], call: Call, payload: &[u8], hours: &[u8]) {
     match call {
         Call::Open(t) => say_answer(store::open(m, t)),
         Call::Commit(t) => say_answer(store::commit(m, t)),
         Call::Abort(t) => say_answer(store::abort(m, t)),
         Call::Insert(t, len) => insert(m, t, first(payload, len)),
+        Call::Checked(t, len, hours_len) => checked(
+            m,
+            t,
+            first(payload, len),
+            first(hours, hours_len),
+        ),
         Call::Replace(t, len) => replace(m, t, first(payload, len)),
         Call::Delete(t) => delete(m, t),
         Call::Read(t, room) => read(m, t, room),
@@ -161,7 +171,14 @@ fn run(image: &mut [u8], m: &mut [u8], len: u64, limit: u64) {
     say_answer(store::run(lend(image, len), m, limit));
 }
 
-fn on_image(image: &mut [u8], memory: &mut [u8], lent: Lent, call: Call, payload: &[u8]) {
+fn on_image(
+    image: &mut [u8],
+    memory: &mut [u8],
+    lent: Lent,
+    call: Call,
+    payload: &[u8],
+    hours: &[u8],
+) {
     match call {
         Call::Step(e) => step(image, lend(memory, lent.memory), extent(e, lent)),
         Call::Run(limit, e) => run(image, lend(memory, lent.memory), extent(e, lent), limit),
@@ -171,14 +188,16 @@ fn on_image(image: &mut [u8], memory: &mut [u8], lent: Lent, call: Call, payload
             b"digest ",
             replay_text::digest(first(image, lent.image)),
         ),
-        _ => on_memory(lend(memory, lent.memory), call, payload),
+        _ => on_memory(lend(memory, lent.memory), call, payload, hours),
     }
 }
 
 // Replays one line, and answers what is lent to the next call.
 fn replay_line(line: &[u8], image: &mut [u8], memory: &mut [u8], lent: Lent) -> Lent {
+    // Room for more than any call accepts: of longer ones the first bytes meet the same refusal.
     let mut payload = [0u8; 64];
-    let call = replay_script::call_of(line, &mut payload);
+    let mut hours = [0u8; 160];
+    let call = replay_script::call_of(line, &mut payload, &mut hours);
     match call {
         Call::Make {
             bytes,
@@ -188,7 +207,7 @@ fn replay_line(line: &[u8], image: &mut [u8], memory: &mut [u8], lent: Lent) -> 
         Call::Recover { bytes, room } => recover(image, memory, lent, both(bytes, room)),
         Call::Clear => clear(image, memory),
         _ => {
-            on_image(image, memory, lent, call, &payload);
+            on_image(image, memory, lent, call, &payload, &hours);
             lent
         }
     }

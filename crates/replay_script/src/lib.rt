@@ -1,12 +1,12 @@
 // Scripts of calls, one call a line: a line's words and the call that they make, and words printed. Words stand between single spaces,
-// so two spaces in a row have an empty word between them, and an empty word is neither a number nor a payload.
+// so two spaces in a row have an empty word between them, and an empty word is neither a number nor bytes.
 mod words;
 
 use libc::STDOUT_FILENO;
 use words::arguments;
+use words::bytes_of;
 use words::named;
 use words::number_at;
-use words::payload_of;
 use words::word;
 ghost use Prim.Native.Nat.{_≤_};
 ghost use lib.ListN.{length};
@@ -44,8 +44,8 @@ pub enum Extent {
     Bytes(u64),
 }
 
-// Insert and replace have their payload's length; read, crossing and list the room for their reply. Clear, fill, show and digest are no calls of
-// the store's: they write and show what is lent to it.
+// Insert and replace have their payload's length, a checked insert also that of the opening hours; read, crossing and list the room for their
+// reply. Clear, fill, show and digest are no calls of the store's: they write and show what is lent to it.
 pub enum Call {
     Make {
         bytes: u64,
@@ -60,6 +60,7 @@ pub enum Call {
     Commit(u64),
     Abort(u64),
     Insert(Target, u64),
+    Checked(Target, u64, u64),
     Replace(Target, u64),
     Delete(Target),
     Read(Target, u64),
@@ -171,13 +172,26 @@ fn write_call(line: &[u8], payload: &mut [u8], new: bool) -> Call {
     let Aim::At(t) = aim_of(line) else {
         return Call::Bad;
     };
-    let Number::Is(len) = payload_of(word(line, 4), payload) else {
+    let Number::Is(len) = bytes_of(word(line, 4), payload) else {
         return Call::Bad;
     };
     if new {
         return Call::Insert(t, len);
     }
     Call::Replace(t, len)
+}
+
+fn checked_call(line: &[u8], payload: &mut [u8], hours: &mut [u8]) -> Call {
+    let Aim::At(t) = aim_of(line) else {
+        return Call::Bad;
+    };
+    let Number::Is(len) = bytes_of(word(line, 4), payload) else {
+        return Call::Bad;
+    };
+    let Number::Is(hours_len) = bytes_of(word(line, 5), hours) else {
+        return Call::Bad;
+    };
+    Call::Checked(t, len, hours_len)
 }
 
 fn fill_call(block: u64, byte: u64) -> Call {
@@ -278,22 +292,25 @@ fn call_with_four(line: &[u8], payload: &mut [u8]) -> Call {
     Call::Bad
 }
 
-fn call_with_five(line: &[u8]) -> Call {
+fn call_with_five(line: &[u8], payload: &mut [u8], hours: &mut [u8]) -> Call {
+    if named(line, b"checked") {
+        return checked_call(line, payload, hours);
+    }
     if named(line, b"crossing") {
         return crossing_call(line);
     }
     Call::Bad
 }
 
-// The call of a line, its payload's bytes at the front of payload.
-pub fn call_of(line: &[u8], payload: &mut [u8]) -> Call {
+// The call of a line, its payload's bytes at the front of payload and its opening hours' at the front of hours.
+pub fn call_of(line: &[u8], payload: &mut [u8], hours: &mut [u8]) -> Call {
     match arguments(line) {
         0 => call_alone(line),
         1 => call_with_one(line),
         2 => call_with_two(line),
         3 => call_with_three(line),
         4 => call_with_four(line, payload),
-        5 => call_with_five(line),
+        5 => call_with_five(line, payload, hours),
         _ => Call::Bad,
     }
 }

@@ -1,4 +1,4 @@
-// The words of a line: what stands between its spaces, and the numbers and payloads that they spell.
+// The words of a line: what stands between its spaces, and the numbers and bytes that they spell.
 use super::Number;
 use super::until;
 ghost use Prim.Native.Nat.{_+_, _<_, _≤_};
@@ -55,7 +55,7 @@ pub fn named(line: &[u8], name: &[u8]) -> bool {
     same(word(line, 0), name)
 }
 
-// ---- numbers and payloads
+// ---- numbers and bytes
 
 // The value of a hexadecimal digit of either case; 16 for any other byte.
 fn digit(b: u8) -> u64
@@ -109,7 +109,7 @@ fn byte_at(s: &[u8], i: usize) -> u64
 }
 
 // How many bytes a word of hexadecimal digits spells, none by a dash. Those for which there is room go into out.
-pub fn payload_of(s: &[u8], out: &mut [u8]) -> Number {
+pub fn bytes_of(s: &[u8], out: &mut [u8]) -> Number {
     if same(s, b"-") {
         return Number::Is(0);
     }

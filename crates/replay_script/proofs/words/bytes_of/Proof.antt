@@ -1,11 +1,11 @@
--- `payload_of` is safe and ends: the word has two digits for each byte, and the lent buffer keeps its length.
+-- `bytes_of` is safe and ends: the word has two digits for each byte, and the lent buffer keeps its length.
 use lib.ListN.{length, length-set}
 use native.Mathlib.Omega.{arith}
 use mathlib.Core.Logic.{⊎-elim}
 use mathlib.Core.Path.{_≡_, ap, _∙_}
 use Prim.Native.Nat.{_≤_, _-_, _*_}
-use Rattle.replay_script.proofs.words.payload_of.Statement.{statement}
-use Rattle.replay_script.proofs.words.payload_of.Tie as tie
+use Rattle.replay_script.proofs.words.bytes_of.Statement.{statement}
+use Rattle.replay_script.proofs.words.bytes_of.Tie as tie
 
 abbrev Inv-loop : tie.InvT-loop
 Inv-loop s out₀ n i₀ out i = (i ≤ n) × (2 * n ≤ length s) × (length out ≡ length out₀)
@@ -30,6 +30,6 @@ loop-again c =
 returns-4 : tie.Need-returns-4 Inv-loop μ-loop
 returns-4 c = tt
 
-pub payload-of-spec : {M : Type 1} → statement M
-payload-of-spec = tie.close (tie.spec Inv-loop μ-loop (λ c. omega arith) (λ c κs. omega arith) returns returns-2 (λ c. omega arith) (λ c. omega arith) (λ c κs. omega arith)
+pub bytes-of-spec : {M : Type 1} → statement M
+bytes-of-spec = tie.close (tie.spec Inv-loop μ-loop (λ c. omega arith) (λ c κs. omega arith) returns returns-2 (λ c. omega arith) (λ c. omega arith) (λ c κs. omega arith)
     (λ c. omega arith) returns-3 (λ c. omega arith) (λ c. omega arith) (λ c. omega arith) (λ c. omega arith) loop-again (λ c. omega arith) returns-4)
