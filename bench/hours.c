@@ -78,7 +78,7 @@ static void measure(const char *rows, unsigned minutes) {
     put_two(row.payload, minutes);
     must(check() == 0, "an open dish");
     double with = time_calls(checked, ROUNDS), without = time_calls(plain, ROUNDS), each = time_calls(walk, WALK_ROUNDS);
-    printf("| %s | %u | %.0f | %.0f | %.0f | %.0f | %.4f |\n", rows, minutes, with, without, with - without, each, (with - without) / each);
+    printf("| %s | %u | %.0f | %.0f | %.0f | %.0f | %.1f |\n", rows, minutes, with, without, with - without, each, each / (with - without));
 }
 
 static void measure_both(const char *rows) {
@@ -144,7 +144,7 @@ static void inserts(unsigned capacity) {
 void hours_tables(void) {
     printf("\n## Opening hours\n\nNanoseconds; a dish that is open throughout. Checked and plain inserts of a transaction above 4,095, on a store of N = 1: refused with 6,\n");
     printf("a checked one behind the tests of the hours, which are the difference. The last columns: every minute tried with the rows in turn, in C.\n\n");
-    printf("| Rows | Minutes booked | Checked | Plain | Difference | Each minute | Difference / each minute |\n|---|---|---|---|---|---|---|\n");
+    printf("| Rows | Minutes booked | Checked | Plain | Difference | Each minute | Each minute / difference |\n|---|---|---|---|---|---|---|\n");
     decisions();
     printf("\nNanoseconds an insert, as under 'Calls': one table, payloads of 40 bytes, bookings of 30 minutes.\n\n");
     printf("| N | Plain | Checked, one row | 5 rows | 32 rows |\n|---|---|---|---|---|\n");

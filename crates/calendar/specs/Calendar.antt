@@ -22,10 +22,11 @@ minutes (b ∷ c ∷ bs) = 256 * b + c
 abbrev pub week : ℕ
 week = 10080
 
--- the most rows of a calendar, and the bytes of a row
+-- the most rows of a calendar
 abbrev pub rowLimit : ℕ
 rowLimit = 32
 
+-- the bytes of a row
 abbrev pub rowSize : ℕ
 rowSize = 4
 

@@ -1,5 +1,5 @@
-// The weekly calendar of a dish: rows of opening hours, four bytes each. Whether a booking is open throughout is told at few minutes: its first
-// one, and those just behind a row. Where all of these that it has are open, so is every minute between them.
+// Bookings, and the weekly calendar of a dish: rows of opening hours, four bytes each. Whether a booking is open throughout is told at few minutes:
+// its first one, and those just behind a row. Where those of them that it has are open, so is every minute between them.
 ghost use mathlib.Core.Path.{_≡_};
 ghost use mathlib.Core.Bool.{true};
 ghost use mathlib.Core.List.{_∷_};
@@ -139,8 +139,8 @@ fn edge_open(hours: &[u8], first: u32, length: u32, edge: u32) -> bool
     is_open(hours, edge)
 }
 
-// Whether every minute of a booking that starts at minute `key`, counted from a Monday midnight, and lasts `length` minutes is open. It is looked
-// at no more minutes than there are rows and one, however long it is.
+// Whether every minute of a booking that starts at minute `key`, counted from a Monday midnight, and lasts `length` minutes is open. However
+// long it is, no more minutes are looked at than there are rows, and one.
 pub fn open_throughout(hours: &[u8], key: u32, length: u32) -> bool
     requires { ⌜ isCalendar (now hours) ≡ true ⌝ }
     ensures { λ r. ⌜ r ≡ openThroughout (rowsOf (now (hours .entry))) key length ⌝ }

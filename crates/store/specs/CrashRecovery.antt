@@ -34,7 +34,7 @@ pub record Starts : Type 0 where
 
 -- `Executes c img m img′ m′`: the call c, with the image img and the memory m, leaves img′ and m′, as the contract of its function says
 pub data Executes : Call → List ℕ → List ℕ → List ℕ → List ℕ → Type 0 where
-  -- open, insert, replace, delete, commit, abort: all calls of transactions but those that only answer
+  -- open, insert (checked or not), replace, delete, commit, abort: all calls of transactions but those that only answer
   transacting : {c : TransactionCall} {img m m′ : List ℕ} (r : Answer) → (effect c ≡ noEffect → ⊥) → TypedCall c → Answers (transact c) m r m′
       → Executes (transacts c) img m img m′
   reading : {tx t k : ℕ} {img m : List ℕ} (p p′ : List ℕ) (r : Answer) → Replies (readCall tx t k (length p)) m r p p′
