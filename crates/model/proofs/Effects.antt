@@ -10,8 +10,8 @@ use Rattle.model.specs.Transactions.{unless, Test, gives, _when_, openNu
 use Rattle.model.specs.Transactions.{writeTests, withTuple, writeCall, replied, readSeen, readCall, listCall, committedPages, abortedPages, closing, commitCall, abortCall}
 use Rattle.model.specs.Checked.{insertCheckedCall}
 use Rattle.model.specs.Crossing.{keysReply, crossingCall}
-use Rattle.model.specs.Calls.{TransactionCall, opens, inserts, insertsChecked, replaces, deletes, commits, aborts, reads, lists, crossings, transact, noEffect, startOf, writeOf, commitOf, abortOf, effect}
-use Rattle.model.specs.Calls.{TypedTuple, TypedCall, accepted}
+use Rattle.model.specs.Calls.{TransactionCall, opens, inserts, insertsChecked, replaces, deletes, commits, aborts, reads, lists, crossings, transact}
+use Rattle.model.specs.Calls.{noEffect, startOf, writeOf, commitOf, abortOf, effect, TypedTuple, TypedCall, accepted}
 use Rattle.basics.proofs.Elements.{leb-false, not-false}
 
 -- ---- refused or not
