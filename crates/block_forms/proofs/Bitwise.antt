@@ -44,7 +44,7 @@ unfolding ownerBytes ownerWord ownerFields spell bitsIn
 owner-bits committed f = refl
 owner-bits (tentative t s) f = be4-bits (t * statementLimit + s) ∙ bitsOf-digits 12 20 t s (f .1) ∙ rw (append-nil (bitsOf 20 s))
 
-payload-bits : (p : List ℕ) → bitsIn p ≡ spell (payloadFields p)
+pub payload-bits : (p : List ℕ) → bitsIn p ≡ spell (payloadFields p)
 unfolding payloadFields spell bitsIn
 payload-bits [] = refl
 payload-bits (b ∷ p) = rw (payload-bits p)

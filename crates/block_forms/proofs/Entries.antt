@@ -23,12 +23,12 @@ dir-whole l es s k b e =
     let a : spell (directoryFields l es) ≡ spell (headFields l (length es)) ++ spell (entryFields es) = spell-append (headFields l (length es)) (entryFields es) in
     block-is (directoryFields l es) s k (all-bytes s b) (e ∙ ap padded (sym a))
 
-spell-entries-snoc : (es : List ℕ) (e : ℕ) → spell (entryFields (es ++ (e ∷ []))) ≡ spell (entryFields es) ++ bitsOf 12 e
+pub spell-entries-snoc : (es : List ℕ) (e : ℕ) → spell (entryFields (es ++ (e ∷ []))) ≡ spell (entryFields es) ++ bitsOf 12 e
 unfolding spell entryFields
 spell-entries-snoc [] e = append-nil (bitsOf 12 e)
 spell-entries-snoc (x ∷ es) e = rw (spell-entries-snoc es e) (sym (append-assoc (bitsOf 12 x) (spell (entryFields es)) (bitsOf 12 e)))
 
-length-entries : (es : List ℕ) → length (spell (entryFields es)) ≡ 12 * length es
+pub length-entries : (es : List ℕ) → length (spell (entryFields es)) ≡ 12 * length es
 unfolding spell entryFields
 length-entries [] = refl
 length-entries (x ∷ es) = rw (length-append (bitsOf 12 x) (spell (entryFields es)), length-bitsOf 12 x, length-entries es) (omega arith)

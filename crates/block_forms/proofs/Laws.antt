@@ -81,22 +81,22 @@ module _ (h : Header) (fit : Fit (headerFields h)) where
 
 -- ---- the directory
 
-values-entries : (es : List ℕ) → values (entryFields es) ≡ es
+pub values-entries : (es : List ℕ) → values (entryFields es) ≡ es
 unfolding entryFields
 values-entries [] = refl
 values-entries (e ∷ es) = ap (λ (l : List ℕ). e ∷ l) (values-entries es)
 
-total-entries : (es : List ℕ) → total (entryFields es) ≡ 12 * length es
+pub total-entries : (es : List ℕ) → total (entryFields es) ≡ 12 * length es
 unfolding entryFields
 total-entries [] = refl
 total-entries (e ∷ es) = omega (arith, total-entries es)
 
-fit-entries : (es : List ℕ) → EntriesFit es → Fit (entryFields es)
+pub fit-entries : (es : List ℕ) → EntriesFit es → Fit (entryFields es)
 unfolding entryFields
 fit-entries [] f = tt
 fit-entries (e ∷ es) f = (f .0, fit-entries es (f .1))
 
-entries-all : (es xs : List ℕ) (at : ℕ) → readEntries xs at (length es) ≡ getAll (bitsIn xs) at (widths (entryFields es))
+pub entries-all : (es xs : List ℕ) (at : ℕ) → readEntries xs at (length es) ≡ getAll (bitsIn xs) at (widths (entryFields es))
 unfolding readEntries entryFields
 entries-all [] xs at = refl
 entries-all (e ∷ es) xs at = ap (λ (l : List ℕ). field (bitsIn xs) at 12 ∷ l) (entries-all es xs (at + 12))
@@ -179,12 +179,12 @@ decode-encode (directory l es) r =
 
 -- ---- one spelling, and what is read is in range
 
-entries-fit : (xs : List ℕ) (at n : ℕ) → EntriesFit (readEntries xs at n)
+pub entries-fit : (xs : List ℕ) (at n : ℕ) → EntriesFit (readEntries xs at n)
 unfolding readEntries
 entries-fit xs at zero = tt
 entries-fit xs at (suc n) = (field-lt xs at 12, entries-fit xs (at + 12) n)
 
-entries-count : (xs : List ℕ) (at n : ℕ) → length (readEntries xs at n) ≡ n
+pub entries-count : (xs : List ℕ) (at n : ℕ) → length (readEntries xs at n) ≡ n
 unfolding readEntries
 entries-count xs at zero = refl
 entries-count xs at (suc n) = ap suc (entries-count xs (at + 12) n)

@@ -69,7 +69,7 @@ unfolding spell
 length-spell [] = refl
 length-spell (f ∷ fs) = rw (length-append (bitsOf (f .0) (f .1)) (spell fs), length-bitsOf (f .0) (f .1), length-spell fs)
 
-spell-bits : (fs : List (ℕ × ℕ)) → Bits (spell fs)
+pub spell-bits : (fs : List (ℕ × ℕ)) → Bits (spell fs)
 unfolding spell
 spell-bits [] = tt
 spell-bits (f ∷ fs) = all-append Bit (bitsOf (f .0) (f .1)) (spell fs) (bits-of (f .0) (f .1)) (spell-bits fs)

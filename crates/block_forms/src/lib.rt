@@ -106,7 +106,7 @@ fn low(x: u32) -> u8
 }
 
 // Four bytes, high byte first.
-fn put4(block: &mut [u8], at: usize, v: u32)
+pub fn put4(block: &mut [u8], at: usize, v: u32)
     requires { ⌜ at + 4 ≤ length (now block) ⌝ }
     ensures { λ _. ⌜ now (block .exit) ≡ over (now (block .entry)) at (be4 v) ⌝ }
 {

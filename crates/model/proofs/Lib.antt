@@ -49,7 +49,9 @@ pub mod Sees
 pub mod Versions
 pub mod Crossings
 pub mod Listings
+pub mod Agree
 pub mod Line
+pub mod Landed
 pub mod Reread
 pub mod Cases
 pub mod Traps

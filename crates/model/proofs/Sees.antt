@@ -92,7 +92,7 @@ keep-other t k x (r ∷ rs) n =
 
 -- ---- sight goes by the rows
 
-seen-rows : (u t k : ℕ) (s z : Store) → rows (z .pages) ≡ rows (s .pages) → seen u t k z ≡ seen u t k s
+pub seen-rows : (u t k : ℕ) (s z : Store) → rows (z .pages) ≡ rows (s .pages) → seen u t k z ≡ seen u t k s
 unfolding seen versions
 seen-rows u t k s z e = ap (λ rs. seenOf u (keep (isAt t k) rs)) e
 
@@ -256,7 +256,7 @@ module _ (tx : ℕ) (s z : Store) (v : Valid s) (e : rows (z .pages) ≡ gather 
 
 -- ---- reading
 
-answer-unless : (ts : List Test) (s z : Store) (o q : Outcome) → o .answer ≡ q .answer → unless ts s o .answer ≡ unless ts z q .answer
+pub answer-unless : (ts : List Test) (s z : Store) (o q : Outcome) → o .answer ≡ q .answer → unless ts s o .answer ≡ unless ts z q .answer
 unfolding unless if_then_else_ gives
 answer-unless [] s z o q e = e
 answer-unless ((n when b) ∷ ts) s z o q e = by b (λ h. rw h) (λ h. rw h (answer-unless ts s z o q e))
@@ -267,7 +267,7 @@ answer-seen room none s z = refl
 answer-seen room (some r) s z = answer-unless _ z s _ _ refl
 
 -- who sees the same reads the same
-same-read : (u t k room : ℕ) (s z : Store) → isIn u (openNumbers (z .active)) ≡ isIn u (openNumbers (s .active)) → seen u t k z ≡ seen u t k s
+pub same-read : (u t k room : ℕ) (s z : Store) → isIn u (openNumbers (z .active)) ≡ isIn u (openNumbers (s .active)) → seen u t k z ≡ seen u t k s
     → readCall u t k room z .answer ≡ readCall u t k room s .answer
 unfolding readCall notOpen
 same-read u t k room s z o e =

@@ -14,6 +14,7 @@ pub mod WellFormed
 pub mod Places
 pub mod PlaceCases
 pub mod Seen
+pub mod Agree
 pub mod Cases
 pub mod CrossingCases
 pub mod ListCases

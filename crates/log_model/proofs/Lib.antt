@@ -1,0 +1,10 @@
+pub mod Repeating
+pub mod Opening
+pub mod Marks
+pub mod Appending
+pub mod Fitting
+pub mod Stores
+pub mod Lives
+pub mod Cuts
+pub mod Dead
+pub mod Histories

@@ -1,0 +1,4 @@
+pub mod Spelling
+pub mod Bytewise
+pub mod Laws
+pub mod Logs

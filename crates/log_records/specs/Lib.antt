@@ -1,0 +1,4 @@
+pub mod Records
+pub mod Laws
+pub mod Bytes
+pub mod Entries
