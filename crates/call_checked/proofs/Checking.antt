@@ -1,15 +1,16 @@
 -- The tests of the calendar one after the other, and the call that comes behind them.
-use Rattle.basics.proofs.Kit.{_≡_, sym, ap, _∙_, subst, fun-ext, true, false, not, List, [], _∷_, ℕ, _≤_, _<_, eqb, ltb, lt-ltb, le-ltb, eq-eqb, ne-eqb, arith}
+use Rattle.basics.proofs.Kit.{_≡_, sym, ap, _∙_, subst, fun-ext, Bool, true, false, not, List, [], _∷_, ℕ, _≤_, _<_, eqb, ltb, lt-ltb, le-ltb, eq-eqb, ne-eqb, arith}
 use Rattle.calendar.specs.Calendar.{minutes, rowsOf, isCalendar, openThroughout}
 use Rattle.model.specs.State.{Store, Outcome}
 use Rattle.model.specs.Transactions.{noTable, gives, insertCall}
+use Rattle.model.specs.Calls.{withRoom}
 use Rattle.model.specs.Checked.{noCalendar, noLength, someClosed, hoursTests, insertCheckedCall}
 use Rattle.memory_layout.specs.Flat.{flatOf}
 use Rattle.memory_layout.specs.Store.{holdsStore, storeOf}
 use Rattle.call_contracts.specs.Shape.{Answers}
 use Rattle.call_contracts.specs.declared.Answer.{Answer}
 use Rattle.call_contracts.specs.declared.Answer.the-variants.{Refused}
-use Rattle.call_contracts.proofs.Answering.{answers-refused}
+use Rattle.call_contracts.proofs.Answering.{answers-refused, room-refused}
 use Rattle.call_transactions.specs.Refusals.{firstRefusal}
 use Rattle.call_transactions.proofs.Refusing.{stop-here, go-on, refusal-none, Numbered, unless-stop, unless-pass}
 use Rattle.model.specs.State as model
@@ -60,14 +61,17 @@ module _ (t k : ℕ) (bs hours : List ℕ) where
 
   module _ (tx : ℕ) (m : List ℕ) {v : ℕ} (ev : v ≡ firstRefusal (hoursTests t k bs hours)) where
     -- no test holds: it is the insert
-    pub is-insert : v ≡ 0 → (r : Answer) (m' : List ℕ) → Answers (insertCall tx t k bs) m r m' → Answers (insertCheckedCall tx t k bs hours) m r m'
+    pub is-insert : (room : Bool) → v ≡ 0 → (r : Answer) (m' : List ℕ) → Answers (withRoom room (insertCall tx t k bs)) m r m'
+        → Answers (withRoom room (insertCheckedCall tx t k bs hours)) m r m'
     unfolding insertCheckedCall
-    is-insert z r m' a =
-        subst (λ (call : Store → Outcome). Answers call m r m') (fun-ext (λ s. sym (unless-pass (hoursTests t k bs hours) s (insertCall tx t k bs s) numbered (sym ev ∙ z)))) a
+    is-insert room z r m' a =
+        subst (λ (call : Store → Outcome). Answers (withRoom room call) m r m')
+        (fun-ext (λ s. sym (unless-pass (hoursTests t k bs hours) s (insertCall tx t k bs s) numbered (sym ev ∙ z)))) a
 
     -- one holds: it is refused
-    pub refused : (v ≡ 0 → ⊥) → holdsStore m ≡ true → Answers (insertCheckedCall tx t k bs hours) m (Refused v) m
+    pub refused : (room : Bool) → (v ≡ 0 → ⊥) → holdsStore m ≡ true → Answers (withRoom room (insertCheckedCall tx t k bs hours)) m (Refused v) m
     unfolding insertCheckedCall
-    refused nz h =
+    refused room nz h =
         let s = storeOf (flatOf m) in
-        answers-refused _ m v h (unless-stop (hoursTests t k bs hours) s _ (λ z. nz (ev ∙ z)) ∙ ap (λ n. gives (model.refused n) s) (sym ev))
+        room-refused room (insertCheckedCall tx t k bs hours) m v m
+        (answers-refused _ m v h (unless-stop (hoursTests t k bs hours) s _ (λ z. nz (ev ∙ z)) ∙ ap (λ n. gives (model.refused n) s) (sym ev)))

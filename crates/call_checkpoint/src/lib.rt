@@ -9,6 +9,7 @@ ghost use Prim.Native.Nat.{_+_, _≤_, _<_, min};
 ghost use lib.ListN.{length, getD};
 ghost use Rattle.memory_layout.specs.Places.{headSize};
 ghost use Rattle.block_forms.specs.Limits.{blockLimit};
+ghost use Rattle.model.specs.Calls.{withRoom};
 ghost use Rattle.model.specs.Checkpoint.{isRunning, begun, beginCall, fill, left, pageStored, directoryStored, headerStored, stepCall, runCall};
 ghost use Rattle.memory_layout.specs.Flat.{flatOf, Room, Becomes, withNamed};
 ghost use Rattle.memory_layout.specs.Store.{holdsStore, storeOf, storeIn, HoldsNow};
@@ -67,9 +68,9 @@ fn start(m: &mut [u8])
     engine_pages::freeze(m);
 }
 
-// Freezes every dirty page and fixes the list of all pages; answers how many stores are left.
-pub fn begin(m: &mut [u8]) -> Answer
-    ensures { λ r. ⌜ Answers beginCall (now (m .entry)) r (now (m .exit)) ⌝ }
+// Freezes every dirty page and fixes the list of all pages, if there is room for the mark of it; answers how many stores are left.
+pub fn begin_if(m: &mut [u8], room: bool) -> Answer
+    ensures { λ r. ⌜ Answers (withRoom room beginCall) (now (m .entry)) r (now (m .exit)) ⌝ }
 {
     if !memory_layout::holds_store(m) {
         return Answer::Refused(4);
@@ -85,9 +86,18 @@ pub fn begin(m: &mut [u8]) -> Answer
     if !engine_allocator::enough_free(m, need) {
         return Answer::Refused(20);
     }
+    if !room {
+        return Answer::Refused(29);
+    }
     start(m);
     let n = need as u64;
     Answer::Count(n + 1)
+}
+
+pub fn begin(m: &mut [u8]) -> Answer
+    ensures { λ r. ⌜ Answers beginCall (now (m .entry)) r (now (m .exit)) ⌝ }
+{
+    begin_if(m, true)
 }
 
 // ---- what a store leaves in the memory

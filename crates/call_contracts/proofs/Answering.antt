@@ -1,14 +1,16 @@
 -- The lemmas that close every return of every call: without a store, refused, accepted.
-use Rattle.basics.proofs.Kit.{_≡_, refl, _∙_, true, false, List, _++_, ℕ, _≤_, _<_, length, drop, lt-ltb, le-ltb, arith}
+use Rattle.basics.proofs.Kit.{_≡_, refl, sym, ap, _∙_, subst, Bool, true, false, some, none, Option, List, _++_, ℕ, _≤_, _<_, length, drop, lt-ltb, le-ltb, arith}
 use Rattle.basics.specs.Basics.{if_then_else_}
 use Rattle.basics.proofs.Facts.{by}
 use Rattle.model.specs.State.{Store, Write, Outcome}
 use Rattle.model.specs.Transactions.{gives, unless, replied}
+use Rattle.model.specs.Calls.{accepted, withRoom}
 use Rattle.model.specs.Recover.{imageAfter}
 use Rattle.memory_layout.specs.Flat.{flatOf}
-use Rattle.memory_layout.specs.Store.{holdsStore, storeOf, HoldsNow}
+use Rattle.memory_layout.specs.Store.{holdsStore, storeOf, storeIn, HoldsNow}
 use Rattle.memory_layout.proofs.Laws.{in-none, in-some}
-use Rattle.call_contracts.specs.Shape.{Answers, AnswersAt, Replies, RepliesAt, Stores, StoresAt}
+use Rattle.call_contracts.specs.Shape.{Afterwards, Answers, AnswersAt, Replies, RepliesAt, Stores, StoresAt}
+use Rattle.call_contracts.specs.declared.Answer.{Answer}
 use Rattle.call_contracts.specs.declared.Answer.the-variants.{Done, Count, Filled, Refused}
 use Rattle.model.specs.State as model
 
@@ -73,3 +75,38 @@ module _ (call : Store → Outcome) (m : List ℕ) where
       pub replies-with : length bs ≤ length p → (p' : List ℕ) → p' ≡ bs ++ drop (length bs) p → Replies call m (Filled n) p p'
       unfolding replied unless if_then_else_
       replies-with l p' q = replies-filled n bs p' h (e ∙ rw (le-ltb (length p) (length bs) l)) q
+
+-- ---- calls that may lack room for a record
+
+-- 29 is given only in the place of an accepted answer
+refused-stays : (room : Bool) (call : Store → Outcome) (s : Store) → accepted (call s .answer) ≡ false → withRoom room call s ≡ call s
+unfolding if_then_else_
+refused-stays true call s h = refl
+refused-stays false call s h = rw h
+
+module _ (room : Bool) (call : Store → Outcome) (m : List ℕ) where
+  pub room-refused : (n : ℕ) (m' : List ℕ) → Answers call m (Refused n) m' → Answers (withRoom room call) m (Refused n) m'
+  unfolding Answers AnswersAt
+  room-refused n m' a = go (storeIn m) a
+    where
+      go : (o : Option Store) → AnswersAt o call m (Refused n) m' → AnswersAt o (withRoom room call) m (Refused n) m'
+      go none a = a
+      go (some s) a = subst (λ o. Afterwards o m (Refused n) m') (sym (refused-stays room call s (unfold accepted in ap accepted (sym (a .answer))))) a
+
+  pub room-kept : room ≡ true → (r : Answer) (m' : List ℕ) → Answers call m r m' → Answers (withRoom room call) m r m'
+  room-kept h r m' a = subst (λ b. Answers (withRoom b call) m r m') (sym h) a
+
+  module _ (h : room ≡ false) (k : holdsStore m ≡ true) (z : Store) where
+    no-room : (a : model.Answer) → accepted a ≡ true → call (storeOf (flatOf m)) ≡ gives a z → Answers (withRoom room call) m (Refused 29) m
+    unfolding gives if_then_else_
+    no-room a t e =
+        let q : accepted (call (storeOf (flatOf m)) .answer) ≡ true = ap (λ (o : Outcome). accepted (o .answer)) e ∙ t in
+        answers-refused (withRoom room call) m 29 k (ap (λ (b : Bool). withRoom b call (storeOf (flatOf m))) h ∙ rw q)
+
+    pub no-room-done : call (storeOf (flatOf m)) ≡ gives model.done z → Answers (withRoom room call) m (Refused 29) m
+    unfolding accepted
+    no-room-done e = no-room model.done refl e
+
+    pub no-room-count : (n : ℕ) → call (storeOf (flatOf m)) ≡ gives (model.count n) z → Answers (withRoom room call) m (Refused 29) m
+    unfolding accepted
+    no-room-count n e = no-room (model.count n) refl e

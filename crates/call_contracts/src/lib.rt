@@ -7,3 +7,9 @@ pub enum Answer {
     Filled(usize),
     Refused(u64),
 }
+
+// What a logged call answers: the call's answer, and where the log then ends.
+pub struct Logged {
+    pub answer: Answer,
+    pub end: u64,
+}

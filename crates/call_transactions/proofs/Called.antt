@@ -3,12 +3,13 @@ use Rattle.basics.proofs.Kit.{_≡_, refl, sym, ap, _∙_, subst, fun-ext, Bool
 use Rattle.model.specs.State.{Store, Outcome}
 use Rattle.model.specs.Sight.{versions}
 use Rattle.model.specs.Transactions.{gives, unless, argumentTests, tupleTests, writeTests, afterWrite, withTuple, writeCall, deleteCall}
+use Rattle.model.specs.Calls.{withRoom}
 use Rattle.memory_layout.specs.Flat.{flatOf}
 use Rattle.memory_layout.specs.Store.{holdsStore, storeOf, storeIn, pagesIn, HoldsNow}
 use Rattle.call_contracts.specs.Shape.{Answers}
 use Rattle.call_contracts.specs.declared.Answer.{Answer}
 use Rattle.call_contracts.specs.declared.Answer.the-variants.{Done, Refused}
-use Rattle.call_contracts.proofs.Answering.{answers-refused, answers-done}
+use Rattle.call_contracts.proofs.Answering.{answers-refused, answers-done, no-room-done}
 use Rattle.engine_lookup.specs.Lookup.{Shows}
 use Rattle.engine_lookup.specs.declared.Visibility.{Visibility}
 use Rattle.call_transactions.specs.Refusals.{firstRefusal, refusalIn, foundTests}
@@ -64,6 +65,12 @@ module _ (new mark : Bool) (tx t k : ℕ) (bs m : List ℕ) (v : ℕ) (ev : v �
     key-refused nz =
         answers-refused call m w there
         (call-is ∙ unless-stop (tupleTests new tx t k S) S _ (λ q. nz (sym later-is ∙ q)) ∙ ap (λ (j : ℕ). gives (model.refused j) S) later-is)
+
+    -- but there is no room for the record
+    pub write-29 : (room : Bool) → room ≡ false → w ≡ 0 → Answers (withRoom room (writeCall new mark tx t k bs)) m (Refused 29) m
+    unfolding withTuple
+    write-29 room h e =
+        no-room-done room call m h there _ (call-is ∙ unless-pass (tupleTests new tx t k S) S _ (later-numbered new tx t k S) (later-is ∙ e))
 
     pub write-done : w ≡ 0 → (m' : List ℕ) → HoldsNow m m' (afterWrite tx t k bs mark (storeOf (flatOf m))) → Answers (writeCall new mark tx t k bs) m Done m'
     write-done e m' p =

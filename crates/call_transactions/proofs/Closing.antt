@@ -3,13 +3,14 @@ use Rattle.basics.proofs.Kit.{_≡_, refl, sym, ap, _∙_, Bool, true, false, s
 use Rattle.model.specs.State.{Page, Active, Store, Outcome}
 use Rattle.model.specs.Transactions.{unless, changed, notOpen, without, closing, commitCall, abortCall}
 use Rattle.basics.specs.Lists.{removeAt}
+use Rattle.model.specs.Calls.{withRoom}
 use Rattle.memory_layout.specs.Flat.{Flat, flatOf, Room, Becomes, withOpens}
 use Rattle.memory_layout.specs.Store.{storeOf, storeIn, pagesIn, HoldsNow}
 use Rattle.memory_layout.specs.Opens.{findOpen}
 use Rattle.memory_layout.proofs.Laws.{Sound, in-sound, store-pages}
 use Rattle.call_contracts.specs.Shape.{Answers}
 use Rattle.call_contracts.specs.declared.Answer.the-variants.{Done, Refused}
-use Rattle.call_contracts.proofs.Answering.{answers-done}
+use Rattle.call_contracts.proofs.Answering.{answers-done, no-room-done}
 use Rattle.engine_pages.specs.Pages.{withPages}
 use Rattle.engine_close.specs.Close.{closedPages}
 use Rattle.call_transactions.specs.Refusals.{refusalIn}
@@ -77,6 +78,11 @@ module _ (m : List ℕ) (tx v : ℕ) (ev : v ≡ refusalIn (storeIn m) (notOpen 
 
   pub end-refused : (v ≡ 0 → ⊥) → Answers (endCall keep tx) m (Refused v) m
   end-refused nz = answers-stopped m (notOpen tx) v ev (endCall keep tx) ended (is-end keep tx) nz
+
+  -- but there is no room for the record
+  pub end-29 : (room : Bool) → room ≡ false → v ≡ 0 → Answers (withRoom room (endCall keep tx)) m (Refused 29) m
+  end-29 room h z =
+      no-room-done room (endCall keep tx) m h (passed-held m (notOpen tx) v ev z) _ (call-after m (notOpen tx) v ev (endCall keep tx) ended (is-end keep tx) (open-numbered tx) z)
 
   pub end-done : v ≡ 0 → (m1 m2 : List ℕ) → HoldsNow m m1 (withPages (storeOf (flatOf m)) (closedPages keep tx (pagesIn (flatOf m))))
       → Becomes m1 m2 (withOpens (flatOf m1) (without tx (flatOf m1 .opens))) → Answers (endCall keep tx) m Done m2

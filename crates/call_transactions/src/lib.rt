@@ -19,6 +19,7 @@ ghost use mathlib.Core.Bool.{true};
 ghost use lib.ListN.{length};
 ghost use Rattle.model.specs.Transactions.{notOpen, oneMore, afterWrite, writeCall, without, openCall, insertCall, replaceCall, deleteCall, commitCall, abortCall, readCall, listCall};
 ghost use Rattle.model.specs.Crossing.{crossingCall};
+ghost use Rattle.model.specs.Calls.{withRoom};
 ghost use Rattle.model.specs.Recover.{make};
 ghost use Rattle.memory_layout.specs.Flat.{flatOf, Room, Becomes, withOpens};
 ghost use Rattle.memory_layout.specs.Store.{storeIn, storeOf, HoldsNow};
@@ -131,8 +132,9 @@ fn not_open(m: &[u8], transaction: u64) -> u64
     0
 }
 
-pub fn open(m: &mut [u8], transaction: u64) -> Answer
-    ensures { λ r. ⌜ Answers (openCall transaction) (now (m .entry)) r (now (m .exit)) ⌝ }
+// A transaction opens, if there is room for the record of it.
+pub fn open_if(m: &mut [u8], room: bool, transaction: u64) -> Answer
+    ensures { λ r. ⌜ Answers (withRoom room (openCall transaction)) (now (m .entry)) r (now (m .exit)) ⌝ }
 {
     if !memory_layout::holds_store(m) {
         return Answer::Refused(4);
@@ -147,12 +149,21 @@ pub fn open(m: &mut [u8], transaction: u64) -> Answer
     if OPEN_LIMIT <= n {
         return Answer::Refused(9);
     }
+    if !room {
+        return Answer::Refused(29);
+    }
     let o = Open {
         transaction: transaction as u32,
         written: 0,
     };
     memory_layout::push_open(m, o);
     Answer::Done
+}
+
+pub fn open(m: &mut [u8], transaction: u64) -> Answer
+    ensures { λ r. ⌜ Answers (openCall transaction) (now (m .entry)) r (now (m .exit)) ⌝ }
+{
+    open_if(m, true, transaction)
 }
 
 // ---- read, crossing, list
@@ -285,9 +296,11 @@ fn accept(
     engine_pages::place(m, table, at, row, payload);
 }
 
-// One tentative tuple more, unless a test holds. One search for the key serves the tests and gives the tuple's place.
-fn write(
+// One tentative tuple more, unless a test holds, the last of which is that there is room for the record of it. One search for the key serves the
+// tests and gives the tuple's place.
+pub fn write_if(
     m: &mut [u8],
+    room: bool,
     new: bool,
     transaction: u64,
     table: u64,
@@ -295,7 +308,7 @@ fn write(
     mark: bool,
     payload: &[u8],
 ) -> Answer
-    ensures { λ r. ⌜ Answers (writeCall new mark transaction table key (now (payload .entry))) (now (m .entry)) r (now (m .exit)) ⌝ }
+    ensures { λ r. ⌜ Answers (withRoom room (writeCall new mark transaction table key (now (payload .entry)))) (now (m .entry)) r (now (m .exit)) ⌝ }
 {
     let v = call_refusal(m, transaction, table, payload.len());
     if v != 0 {
@@ -307,6 +320,9 @@ fn write(
     if w != 0 {
         return Answer::Refused(w);
     }
+    if !room {
+        return Answer::Refused(29);
+    }
     accept(m, transaction, t, s.at, key, mark, payload);
     Answer::Done
 }
@@ -314,20 +330,20 @@ fn write(
 pub fn insert(m: &mut [u8], transaction: u64, table: u64, key: u32, payload: &[u8]) -> Answer
     ensures { λ r. ⌜ Answers (insertCall transaction table key (now (payload .entry))) (now (m .entry)) r (now (m .exit)) ⌝ }
 {
-    write(m, true, transaction, table, key, false, payload)
+    write_if(m, true, true, transaction, table, key, false, payload)
 }
 
 pub fn replace(m: &mut [u8], transaction: u64, table: u64, key: u32, payload: &[u8]) -> Answer
     ensures { λ r. ⌜ Answers (replaceCall transaction table key (now (payload .entry))) (now (m .entry)) r (now (m .exit)) ⌝ }
 {
-    write(m, false, transaction, table, key, false, payload)
+    write_if(m, true, false, transaction, table, key, false, payload)
 }
 
 // A delete mark with empty payload: the key is gone for this transaction now and, unless it inserts it again, for all others at its commit.
 pub fn delete(m: &mut [u8], transaction: u64, table: u64, key: u32) -> Answer
     ensures { λ r. ⌜ Answers (deleteCall transaction table key) (now (m .entry)) r (now (m .exit)) ⌝ }
 {
-    write(m, false, transaction, table, key, true, b"")
+    write_if(m, true, false, transaction, table, key, true, b"")
 }
 
 // ---- commit, abort
@@ -346,13 +362,16 @@ fn close(m: &mut [u8], transaction: u64)
     }
 }
 
-// Keeps what the transaction wrote or takes it back, and closes it.
-fn end(m: &mut [u8], transaction: u64, keep: bool) -> Answer
-    ensures { λ r. ⌜ Answers (endCall keep transaction) (now (m .entry)) r (now (m .exit)) ⌝ }
+// Keeps what the transaction wrote or takes it back, and closes it, if there is room for the record of it.
+pub fn end_if(m: &mut [u8], room: bool, transaction: u64, keep: bool) -> Answer
+    ensures { λ r. ⌜ Answers (withRoom room (endCall keep transaction)) (now (m .entry)) r (now (m .exit)) ⌝ }
 {
     let v = not_open(m, transaction);
     if v != 0 {
         return Answer::Refused(v);
+    }
+    if !room {
+        return Answer::Refused(29);
     }
     engine_close::close_rows(m, transaction, keep);
     close(m, transaction);
@@ -363,12 +382,12 @@ fn end(m: &mut [u8], transaction: u64, keep: bool) -> Answer
 pub fn commit(m: &mut [u8], transaction: u64) -> Answer
     ensures { λ r. ⌜ Answers (commitCall transaction) (now (m .entry)) r (now (m .exit)) ⌝ }
 {
-    end(m, transaction, true)
+    end_if(m, true, transaction, true)
 }
 
 // Takes back what the transaction wrote, and closes it.
 pub fn abort(m: &mut [u8], transaction: u64) -> Answer
     ensures { λ r. ⌜ Answers (abortCall transaction) (now (m .entry)) r (now (m .exit)) ⌝ }
 {
-    end(m, transaction, false)
+    end_if(m, true, transaction, false)
 }

@@ -1,5 +1,5 @@
 -- A record byte by byte: its bytes are its fields, most significant bit first.
-use Rattle.basics.proofs.Kit.{_≡_, refl, sym, ap, _∙_, List, [], _∷_, _++_, append-assoc, append-nil, ℕ, _+_, _*_, _%_, _/_, _≤_, _<_, length, getD, arith}
+use Rattle.basics.proofs.Kit.{_≡_, refl, sym, ap, _∙_, List, [], _∷_, _++_, append-assoc, ℕ, _+_, _*_, _%_, _/_, _<_, length, getD, arith}
 use Rattle.basics.proofs.Elements.{all-append}
 use Rattle.block_bits.specs.Bits.{bitsOf, bitsIn}
 use Rattle.block_bits.proofs.Numbers.{bitsOf-add, bitsOf-mod, bitsOf-digits}
@@ -97,7 +97,7 @@ delete-bytes tx t k p =
     encoded-is (deletedBy tx t k) (placeBytes 4 tx t 0 k) (place-all 4 tx t 0 k [] (omega arith) p (omega arith) tt)
     (place-bits 4 tx t 0 k [] p (omega arith) ∙ rw zero (simp append-assoc))
 
-entry-all : (txs : List ℕ) → AllBytes (entryBytes txs)
+pub entry-all : (txs : List ℕ) → AllBytes (entryBytes txs)
 unfolding entryBytes
 entry-all txs = bytes-of-bits ((3 * length txs + 1) / 2) (spell (lastFields txs)) (spell-bits (lastFields txs))
 

@@ -1,49 +1,59 @@
 -- One reading and one spelling of a record (`decode-encode`, `encode-decode`), and its bytes (`record-bytes`).
-use Rattle.basics.proofs.Kit.{_≡_, refl, sym, ap, _∙_, true, false, some, none, _&&_, List, [], _∷_, _++_, append-nil, ℕ, _+_, _*_, _%_, _/_, _≤_, _<_, subst, length, take, drop, getD, leb, eqb, arith}
-use Rattle.basics.proofs.Kit.{length-take, length-drop, take-append-seam, take-append-drop, drop-append-seam, List·getD-append, leb-true, le-leb}
-use Rattle.basics.specs.Basics.{if_then_else_, AllOf}
+use Rattle.basics.proofs.Kit.{_≡_, refl, sym, ap, _∙_, true, some, _&&_, List, [], _∷_, _++_, append-nil, ℕ, _+_, _*_, _%_, _<_, subst, length, take, drop, eqb, arith}
+use Rattle.basics.proofs.Kit.{take-append-seam, take-append-drop, leb-true, le-leb}
+use Rattle.basics.specs.Basics.{if_then_else_}
 use Rattle.basics.proofs.Facts.{by, by-option, never, and-true}
 use Rattle.basics.proofs.Elements.{some-eq, all-take, all-drop}
 use Rattle.block_bits.specs.Bits.{bitsIn, field}
 use Rattle.block_bits.specs.Fields.{getAll, widths, values}
-use Rattle.block_bits.proofs.Blocks.{field-lt, field-add, byte-field}
-use Rattle.block_forms.specs.Limits.{payloadLimit}
+use Rattle.block_bits.proofs.Blocks.{field-lt}
+use Rattle.block_forms.specs.Limits.{payloadLimit, transactionLimit}
 use Rattle.block_forms.specs.Numbers.{be4, same}
 use Rattle.block_forms.specs.Tuple.{Byte, AllBytes}
 use Rattle.block_forms.specs.Block.{payloadFields, entryFields}
 use Rattle.block_forms.specs.Decode.{kind, readEntries}
 use Rattle.block_forms.proofs.Same.{same-eq, same-refl}
-use Rattle.block_forms.proofs.Spelled.{bytes-at}
-use Rattle.block_forms.proofs.Laws.{values-entries, fit-entries, entries-all, entries-fit, entries-count}
+use Rattle.block_forms.proofs.Laws.{values-entries, fit-entries, entries-all, entries-fit}
 use Rattle.image_rows.specs.Rows.{openLimit}
 use Rattle.log_records.specs.Records.{LogRecord, openedBy, committedBy, abortedBy, insertedBy, replacedBy, deletedBy, markOf, RecordFits, PlaceFits, PayloadFits, MarkFits}
-use Rattle.log_records.specs.Records.{shortFields, tupleFields, deleteFields, markFields, logFields, logSize, encodeRecord}
+use Rattle.log_records.specs.Records.{shortFields, tupleFields, deleteFields, markFields, logFields, encodeRecord}
 use Rattle.log_records.specs.Records.{transactionIn, tableIn, keyIn, payloadIn, fieldsRead, withinLimits, startsWith, recordSpelled, decodeRecord}
-use Rattle.log_records.specs.Bytes.{placeBytes}
 use Rattle.log_records.specs.Laws.{RecordBytes, DecodeOfEncode, Read, EncodeOfDecode}
 use Rattle.log_records.proofs.Spelling.{two-bytes, length-encoded, bytes-encoded, fields-back}
 use Rattle.log_records.proofs.Bytewise.{tuple-bytes, kind-first, kind-pos}
 
 -- ---- what is spelled is read back
 
-payload-back : (r : LogRecord) (n tx t k : ℕ) (bs rest : List ℕ) → encodeRecord r ≡ placeBytes n tx t (length bs) k ++ bs
-    → field (bitsIn (encodeRecord r ++ rest)) 19 6 ≡ length bs → payloadIn (encodeRecord r ++ rest) ≡ bs
-unfolding payloadIn be4
-payload-back r n tx t k bs rest e l = rw (l, e) (take-append-seam bs rest)
+-- kind and transaction
+short-back : (r : LogRecord) (n tx : ℕ) → logFields r ≡ shortFields n tx → n < 16 → tx < transactionLimit → (rest : List ℕ)
+    → (kind (encodeRecord r ++ rest) ≡ n) × (transactionIn (encodeRecord r ++ rest) ≡ tx)
+unfolding kind transactionIn shortFields
+short-back r n tx e hn h rest = let got = fields-back r (shortFields n tx) [] e (hn, (h, tt)) rest in (cc, cc)
 
--- the fields in front of a payload
-abbrev frontFields : ℕ → ℕ → ℕ → ℕ → ℕ → List (ℕ × ℕ)
-frontFields n tx t len k = (4, n) ∷ (12, tx) ∷ (3, t) ∷ (6, len) ∷ (7, 0) ∷ (32, k) ∷ []
+-- what is read of bytes that start with an insert's or a replace's
+record TupleBack (xs : List ℕ) (n tx t k : ℕ) (bs : List ℕ) : Type 0 where
+  kind-is : kind xs ≡ n
+  transaction-is : transactionIn xs ≡ tx
+  table-is : tableIn xs ≡ t
+  key-is : keyIn xs ≡ k
+  payload-is : payloadIn xs ≡ bs
 
-front-back : (r : LogRecord) (n tx t k : ℕ) (bs rest : List ℕ) → logFields r ≡ tupleFields n tx t k bs → n < 16 → PlaceFits tx t k → PayloadFits bs
-    → getAll (bitsIn (encodeRecord r ++ rest)) 0 (widths (frontFields n tx t (length bs) k)) ≡ values (frontFields n tx t (length bs) k)
-unfolding tupleFields
-front-back r n tx t k bs rest e hn p q =
-    fields-back r (frontFields n tx t (length bs) k) (payloadFields bs) e
-    (hn, (p .transaction, (p .table, (omega (arith, q .limit), (omega arith, (p .key, tt)))))) rest
+tuple-back : (r : LogRecord) (n tx t k : ℕ) (bs rest : List ℕ) → logFields r ≡ tupleFields n tx t k bs → n < 16 → PlaceFits tx t k → PayloadFits bs
+    → TupleBack (encodeRecord r ++ rest) n tx t k bs
+unfolding kind transactionIn tableIn keyIn payloadIn tupleFields be4
+tuple-back r n tx t k bs rest e hn p q =
+    let front : List (ℕ × ℕ) = (4, n) ∷ (12, tx) ∷ (3, t) ∷ (6, length bs) ∷ (7, 0) ∷ (32, k) ∷ [] in
+    let got = fields-back r front (payloadFields bs) e (hn, (p .transaction, (p .table, (omega (arith, q .limit), (omega arith, (p .key, tt)))))) rest in
+    let len : field (bitsIn (encodeRecord r ++ rest)) 19 6 ≡ length bs = cc in record {
+      kind-is = cc;
+      transaction-is = cc;
+      table-is = cc;
+      key-is = cc;
+      payload-is = rw (len, tuple-bytes r n tx t k bs e hn p q) (take-append-seam bs rest);
+    }
 
 -- a mark's fields in front of its last zero bits
-abbrev markFront : ℕ → List ℕ → List (ℕ × ℕ)
+abbrev pub markFront : ℕ → List ℕ → List (ℕ × ℕ)
 markFront l txs = (4, 7) ∷ (7, length txs) ∷ (5, 0) ∷ (32, l) ∷ entryFields txs
 
 mark-back : (l : ℕ) (txs rest : List ℕ) → MarkFits l txs
@@ -53,65 +63,39 @@ mark-back l txs rest f =
     fields-back (markOf l txs) (markFront l txs) ((4 * (length txs % 2), 0) ∷ []) refl
     (omega arith, (omega (arith, f .count), (omega arith, (f .level, fit-entries txs (f .transactions))))) rest
 
+-- its transactions
+pub mark-entries : (l : ℕ) (txs rest : List ℕ) → MarkFits l txs → readEntries (encodeRecord (markOf l txs) ++ rest) 48 (length txs) ≡ txs
+mark-entries l txs rest f =
+    let e = mark-back l txs rest f in
+    let got : getAll (bitsIn (encodeRecord (markOf l txs) ++ rest)) 48 (widths (entryFields txs)) ≡ values (entryFields txs) = cc in
+    entries-all txs (encodeRecord (markOf l txs) ++ rest) 48 ∙ got ∙ values-entries txs
+
 fields-read : (r : LogRecord) → RecordFits r → (rest : List ℕ) → fieldsRead (encodeRecord r ++ rest) ≡ some r
-unfolding fieldsRead kind transactionIn tableIn keyIn if_then_else_ logFields shortFields deleteFields
-fields-read (openedBy tx) f rest =
-    let e = fields-back (openedBy tx) (shortFields 1 tx) [] refl (omega arith, (f, tt)) rest in
-    let B = bitsIn (encodeRecord (openedBy tx) ++ rest) in
-    let a : field B 0 4 ≡ 1 = cc in
-    let b : field B 4 12 ≡ tx = cc in
-    rw (a, b)
-fields-read (committedBy tx) f rest =
-    let e = fields-back (committedBy tx) (shortFields 5 tx) [] refl (omega arith, (f, tt)) rest in
-    let B = bitsIn (encodeRecord (committedBy tx) ++ rest) in
-    let a : field B 0 4 ≡ 5 = cc in
-    let b : field B 4 12 ≡ tx = cc in
-    rw (a, b)
-fields-read (abortedBy tx) f rest =
-    let e = fields-back (abortedBy tx) (shortFields 6 tx) [] refl (omega arith, (f, tt)) rest in
-    let B = bitsIn (encodeRecord (abortedBy tx) ++ rest) in
-    let a : field B 0 4 ≡ 6 = cc in
-    let b : field B 4 12 ≡ tx = cc in
-    rw (a, b)
+unfolding fieldsRead kind transactionIn tableIn keyIn if_then_else_ logFields deleteFields
+fields-read (openedBy tx) f rest = let e = short-back (openedBy tx) 1 tx refl (omega arith) f rest in rw (e .0, e .1)
+fields-read (committedBy tx) f rest = let e = short-back (committedBy tx) 5 tx refl (omega arith) f rest in rw (e .0, e .1)
+fields-read (abortedBy tx) f rest = let e = short-back (abortedBy tx) 6 tx refl (omega arith) f rest in rw (e .0, e .1)
 fields-read (insertedBy tx t k bs) f rest =
-    let r = insertedBy tx t k bs in
-    let B = bitsIn (encodeRecord (insertedBy tx t k bs) ++ rest) in
-    let e = front-back r 2 tx t k bs rest refl (omega arith) (f .0) (f .1) in
-    let p = payload-back r 2 tx t k bs rest (tuple-bytes r 2 tx t k bs refl (omega arith) (f .0) (f .1)) (cc) in
-    let a : field B 0 4 ≡ 2 = cc in
-    let b : field B 4 12 ≡ tx = cc in
-    let c : field B 16 3 ≡ t = cc in
-    let d : field B 32 32 ≡ k = cc in
-    rw (a, b, c, d, p)
+    let e = tuple-back (insertedBy tx t k bs) 2 tx t k bs rest refl (omega arith) (f .0) (f .1) in
+    rw (e .kind-is, e .transaction-is, e .table-is, e .key-is, e .payload-is)
 fields-read (replacedBy tx t k bs) f rest =
-    let r = replacedBy tx t k bs in
-    let B = bitsIn (encodeRecord (replacedBy tx t k bs) ++ rest) in
-    let e = front-back r 3 tx t k bs rest refl (omega arith) (f .0) (f .1) in
-    let p = payload-back r 3 tx t k bs rest (tuple-bytes r 3 tx t k bs refl (omega arith) (f .0) (f .1)) (cc) in
-    let a : field B 0 4 ≡ 3 = cc in
-    let b : field B 4 12 ≡ tx = cc in
-    let c : field B 16 3 ≡ t = cc in
-    let d : field B 32 32 ≡ k = cc in
-    rw (a, b, c, d, p)
+    let e = tuple-back (replacedBy tx t k bs) 3 tx t k bs rest refl (omega arith) (f .0) (f .1) in
+    rw (e .kind-is, e .transaction-is, e .table-is, e .key-is, e .payload-is)
 fields-read (deletedBy tx t k) f rest =
-    let r = deletedBy tx t k in
     let B = bitsIn (encodeRecord (deletedBy tx t k) ++ rest) in
-    let e = fields-back r (deleteFields tx t k) [] refl (omega arith, (f .transaction, (f .table, (omega arith, (f .key, tt))))) rest in
+    let e = fields-back (deletedBy tx t k) (deleteFields tx t k) [] refl (omega arith, (f .transaction, (f .table, (omega arith, (f .key, tt))))) rest in
     let a : field B 0 4 ≡ 4 = cc in
     let b : field B 4 12 ≡ tx = cc in
     let c : field B 16 3 ≡ t = cc in
     let d : field B 32 32 ≡ k = cc in
     rw (a, b, c, d)
 fields-read (markOf l txs) f rest =
-    let xs = encodeRecord (markOf l txs) ++ rest in
     let B = bitsIn (encodeRecord (markOf l txs) ++ rest) in
     let e = mark-back l txs rest f in
     let a : field B 0 4 ≡ 7 = cc in
     let b : field B 4 7 ≡ length txs = cc in
     let c : field B 16 32 ≡ l = cc in
-    let d : getAll B 48 (widths (entryFields txs)) ≡ values (entryFields txs) = cc in
-    let g : readEntries (encodeRecord (markOf l txs) ++ rest) 48 (length txs) ≡ txs = entries-all txs xs 48 ∙ d ∙ values-entries txs in
-    rw (a, b, c, g)
+    rw (a, b, c, mark-entries l txs rest f)
 
 within : (r : LogRecord) → RecordFits r → withinLimits r ≡ true
 unfolding withinLimits

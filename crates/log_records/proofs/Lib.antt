@@ -2,3 +2,9 @@ pub mod Spelling
 pub mod Bytewise
 pub mod Laws
 pub mod Logs
+pub mod Stores
+pub mod Changes
+pub mod Fronts
+pub mod Marks
+pub mod Walks
+pub mod Cases

@@ -1,13 +1,13 @@
 -- A log, record by record: its front (`log-next`, `log-ended`, `log-none`; `log-split`, `log-empty` from what was read), and the laws of whole logs.
 use Rattle.basics.proofs.Kit.{_≡_, refl, sym, ap, _∙_, true, false, some, none, Option, List, [], _∷_, _++_, append-assoc, ℕ, zero, suc, _+_, _≤_, _<_, length, drop, getD, arith}
-use Rattle.basics.proofs.Kit.{length-drop, length-append, drop-at, append-nil}
-use Rattle.basics.specs.Basics.{if_then_else_, AllOf}
+use Rattle.basics.proofs.Kit.{length-drop, length-append, drop-at}
+use Rattle.basics.specs.Basics.{if_then_else_, sum}
 use Rattle.basics.proofs.Facts.{by, by-option, never, clash}
 use Rattle.basics.proofs.Elements.{all-drop, pos-not-zero}
-use Rattle.block_forms.specs.Tuple.{Byte, AllBytes}
+use Rattle.block_forms.specs.Tuple.{Byte}
 use Rattle.block_forms.specs.Spell.{zeros}
-use Rattle.log_records.specs.Records.{LogRecord, RecordFits, logSize, encodeRecord, encodeRecords, decodeRecord, ended, followedBy, readRecords, readLog}
-use Rattle.log_records.specs.Laws.{Read, LogOfRecords, ReadLog, RecordsOfLog, ZerosAppended}
+use Rattle.log_records.specs.Records.{LogRecord, RecordFits, logSize, encodeRecord, encodeRecords, decodeRecord, ended, followedBy, readRecords, readLog, endOf}
+use Rattle.log_records.specs.Laws.{Read, LogOfRecords, RecordsOfLog, ZerosAppended}
 use Rattle.log_records.proofs.Spelling.{two-bytes, length-encoded}
 use Rattle.log_records.proofs.Bytewise.{kind-first, kind-pos}
 use Rattle.log_records.proofs.Laws.{decode-encode, encode-decode}
@@ -110,6 +110,16 @@ log-of-records (r ∷ rs) f rest h =
     let R = encodeRecords rs ++ rest in
     rw (append-assoc (encodeRecord r) (encodeRecords rs) rest, log-next (encodeRecord r ++ R) r (record-going r (f .0) R) (decode-encode r (f .0) R))
     (rw (drop-at (encodeRecord r) R (logSize r) (length-encoded r), log-of-records rs (f .1) rest h))
+
+pub length-records : (rs : List LogRecord) → length (encodeRecords rs) ≡ endOf rs
+unfolding encodeRecords endOf sum
+length-records [] = refl
+length-records (r ∷ rs) = rw (length-append (encodeRecord r) (encodeRecords rs), length-encoded r) (ap (λ n. logSize r + n) (length-records rs))
+
+pub records-append : (rs qs : List LogRecord) → encodeRecords (rs ++ qs) ≡ encodeRecords rs ++ encodeRecords qs
+unfolding encodeRecords
+records-append [] qs = refl
+records-append (r ∷ rs) qs = rw (records-append rs qs) (sym (append-assoc (encodeRecord r) (encodeRecords rs) (encodeRecords qs)))
 
 -- what is behind a record that was read
 pub read-behind : (xs : List ℕ) (r : LogRecord) (d : Read xs r) → drop (logSize r) xs ≡ d .rest

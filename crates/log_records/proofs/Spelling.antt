@@ -1,10 +1,10 @@
 -- A record's bytes: how many they are, and that their bits are the record's fields.
-use Rattle.basics.proofs.Kit.{_≡_, refl, sym, ap, _∙_, List, [], _∷_, _++_, ℕ, _+_, _*_, _%_, _/_, _≤_, _<_, append-assoc, length, arith}
-use Rattle.block_bits.specs.Bits.{bitsIn}
+use Rattle.basics.proofs.Kit.{_≡_, refl, _∙_, List, [], _∷_, _++_, ℕ, _+_, _*_, _%_, _/_, _<_, append-assoc, append-nil, _^_, length, arith}
+use Rattle.block_bits.specs.Bits.{bitsOf, bitsIn, field}
 use Rattle.block_bits.specs.Fields.{getAll, widths, values, total, Fit}
 use Rattle.block_bits.proofs.Blocks.{bitsIn-append}
 use Rattle.block_forms.specs.Tuple.{AllBytes}
-use Rattle.block_forms.specs.Spell.{spell, bytesOf}
+use Rattle.block_forms.specs.Spell.{spell}
 use Rattle.block_forms.specs.Block.{payloadFields, entryFields}
 use Rattle.block_forms.proofs.Spelled.{length-spell, spell-bits, bits-bytes, length-bytesOf, bytes-of-bits, spell-append, get-spelled}
 use Rattle.block_forms.proofs.Laws.{total-entries}
@@ -95,3 +95,13 @@ pub fields-back : (r : LogRecord) (fs gs : List (ℕ × ℕ)) → logFields r �
 fields-back r fs gs e fit rest =
     rw (bitsIn-append (encodeRecord r) rest, bits-encoded r, e, spell-append fs gs, append-assoc (spell fs) (spell gs) (bitsIn rest))
     (get-spelled fs [] (spell gs ++ bitsIn rest) fit)
+
+-- one field of a record that was written, behind the fields ps
+pub field-back : (r : LogRecord) (ps gs : List (ℕ × ℕ)) (w v : ℕ) → logFields r ≡ ps ++ (w, v) ∷ gs → v < 2 ^ w → (rest : List ℕ)
+    → field (bitsIn (encodeRecord r ++ rest)) (total ps) w ≡ v
+unfolding spell
+field-back r ps gs w v e h rest =
+    let got = get-spelled ((w, v) ∷ []) (spell ps) (spell gs ++ bitsIn rest) (h, tt) in
+    let all : bitsIn (encodeRecord r ++ rest) ≡ spell ps ++ ((bitsOf w v ++ []) ++ (spell gs ++ bitsIn rest)) =
+    rw (bitsIn-append (encodeRecord r) rest, bits-encoded r, e, spell-append ps ((w, v) ∷ gs), append-nil (bitsOf w v)) (simp append-assoc) in
+    rw (all, ← length-spell ps) (cc)

@@ -1,18 +1,22 @@
 -- Records as values of the code, and what the code asks for.
-use Prim.Native.Nat.{ℕ, _+_, _*_, _/_, _≤_, _<_}
+use Prim.Native.Nat.{ℕ, _+_, _*_, _/_, _≤_, _<_, _-_}
 use mathlib.Core.Path.{_≡_}
-use mathlib.Core.Bool.{true, false}
+use mathlib.Core.Bool.{Bool, true, false}
+use mathlib.Core.Logic.{_⊎_}
 use mathlib.Core.Option.{Option, none, some}
 use mathlib.Core.List.{List}
-use lib.ListN.{length}
+use lib.ListN.{length, getD}
+use lib.Dec.{eqb}
 use Rattle.basics.specs.Basics.{if_then_else_}
 use Rattle.block_forms.specs.Limits.{payloadLimit, transactionLimit, mostNumber}
-use Rattle.log_records.specs.Records.{LogRecord, openedBy, committedBy, abortedBy, insertedBy, replacedBy, deletedBy, markOf, RecordFits, decodeRecord, ended, endOf}
+use Rattle.image_rows.specs.Rows.{openLimit}
+use Rattle.log_records.specs.Records.{LogRecord, openedBy, committedBy, abortedBy, insertedBy, replacedBy, deletedBy, markOf, RecordFits, decodeRecord, ended, endOf, fromMark}
 use Rattle.log_records.specs.declared.Change.{Change}
 use Rattle.log_records.specs.declared.Change.the-variants.{Open, Insert, Replace, Delete, Commit, Abort}
 use Rattle.log_records.specs.declared.Entry.{Entry}
 use Rattle.log_records.specs.declared.Entry.the-variants.{End, Malformed, Call, Mark}
 use Rattle.log_records.specs.declared.LogEnd.{LogEnd}
+use Rattle.log_records.specs.declared.MarkPlace.{MarkPlace}
 
 -- ---- values of the code and of the specification
 
@@ -128,3 +132,56 @@ pub record TuplePart (part : List ℕ) (n tx t len : ℕ) : Type 0 where
   pub table : t < 8
   pub limit : len ≤ payloadLimit
   pub size : length part ≡ 7 + len
+
+-- a mark
+pub record MarkPart (part : List ℕ) (l : ℕ) (txs : List ℕ) : Type 0 where
+  pub fits : RecordFits (markOf l txs)
+  pub size : length part + 1 ≡ markSize (length txs)
+
+-- a mark's transactions
+pub record EntriesPart (part txs : List ℕ) : Type 0 where
+  pub count : length txs ≤ openLimit
+  pub size : length part ≡ (3 * length txs + 1) / 2
+
+-- ---- what each part of the reading asks for: bytes whose first one has the kind that it is for
+
+-- open, commit or abort
+pub record ShortFront (xs : List ℕ) (n : ℕ) : Type 0 where
+  pub first : getD xs 0 0 / 16 ≡ n
+  pub short : (n ≡ 1) ⊎ ((n ≡ 5) ⊎ (n ≡ 6))
+
+-- insert or replace
+pub record TupleFront (xs : List ℕ) (n : ℕ) : Type 0 where
+  pub first : getD xs 0 0 / 16 ≡ n
+  pub least : 2 ≤ n
+  pub most : n ≤ 3
+
+-- a mark's transaction i stands in the log whose mark is at byte at
+pub record MarkAt (log : List ℕ) (at i : ℕ) : Type 0 where
+  pub few : i < openLimit
+  pub inside : 8 * at + (48 + 12 * (i + 1)) ≤ 8 * length log
+
+-- ---- whole logs
+
+-- the log ends there
+unfoldable pub isEnd : Entry → Bool
+isEnd End = true
+isEnd Malformed = false
+isEnd (Call c) = false
+isEnd (Mark l n) = false
+
+-- a mark of level l stands there
+unfoldable pub markIn : ℕ → Entry → Bool
+markIn l End = false
+markIn l Malformed = false
+markIn l (Call c) = false
+markIn l (Mark m n) = eqb m l
+
+-- no mark
+abbrev pub noPlace : MarkPlace
+noPlace = record { found = false; at = 0 }
+
+-- the place of the last mark of level l in a log with these records, if there is one
+unfoldable pub lastMark : ℕ → Option (List LogRecord) → MarkPlace
+lastMark l none = noPlace
+lastMark l (some rs) = elim (fromMark l rs) [ none ↦ noPlace | some qs ↦ record { found = true; at = endOf rs - endOf qs } ]

@@ -32,7 +32,7 @@ pub record PlaceFits (tx t k : ℕ) : Type 0 where
   pub table : t < 8
   pub key : k < 4294967296
 
--- a payload is at most 40 bytes
+-- a payload is within the limit
 pub record PayloadFits (bs : List ℕ) : Type 0 where
   pub limit : length bs ≤ payloadLimit
   pub bytes : AllBytes bs
@@ -124,7 +124,7 @@ fieldsRead xs =
     else if eqb (kind xs) 7 then some (markOf (field (bitsIn xs) 16 32) (readEntries xs 48 (field (bitsIn xs) 4 7)))
     else none
 
--- a payload of at most 40 bytes, at most 64 transactions
+-- a payload and the count of open transactions are within their limits
 unfoldable pub withinLimits : LogRecord → Bool
 withinLimits (openedBy tx) = true
 withinLimits (committedBy tx) = true

@@ -7,7 +7,7 @@ use lib.Dec.{eqb}
 use Rattle.basics.specs.Basics.{if_then_else_, isIn, keep}
 use Rattle.block_forms.specs.Tuple.{AllBytes}
 use Rattle.model.specs.State.{Store, Answer, refused, done, count, filled, Outcome}
-use Rattle.model.specs.Transactions.{openCall, commitCall, abortCall, insertCall, replaceCall, deleteCall, readCall, listCall}
+use Rattle.model.specs.Transactions.{gives, openCall, commitCall, abortCall, insertCall, replaceCall, deleteCall, readCall, listCall}
 use Rattle.model.specs.Checked.{insertCheckedCall}
 use Rattle.model.specs.Crossing.{crossingCall}
 use Rattle.model.specs.Checkpoint.{beginCall, stepCall, runCall}
@@ -123,6 +123,11 @@ accepted (refused n) = false
 accepted done = true
 accepted (count n) = true
 accepted (filled n bs) = true
+
+-- the call, where there is room for its record in a log; else 29, after all its other tests
+abbrev pub withRoom : Bool → (Store → Outcome) → Store → Outcome
+withRoom true f s = f s
+withRoom false f s = if accepted (f s .answer) then gives (refused 29) s else f s
 
 -- the store after a list of calls
 unfoldable pub afterCalls : List Call → Store → Store

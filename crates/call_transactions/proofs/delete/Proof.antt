@@ -5,7 +5,7 @@ use Rattle.call_transactions.proofs.delete.Statement.{statement}
 use Rattle.call_transactions.proofs.delete.Tie as tie
 
 returns : tie.Need-returns
-returns c = delete-is _ _ _ _ _ _ _ (c .before .before .write .ensures) (omega arith)
+returns c = delete-is _ _ _ _ _ _ _ (c .before .before .write-if .ensures) (omega arith)
 
 pub delete-spec : {M : Type 1} → statement M
 delete-spec = tie.close (tie.spec (search needs) (λ c κs. search needs) (search needs) returns)
