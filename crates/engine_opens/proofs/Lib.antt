@@ -1,3 +1,4 @@
 pub mod Ranks
 pub mod Opened
+pub mod Unwritten
 pub mod Listing
