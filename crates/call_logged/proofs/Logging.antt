@@ -25,145 +25,109 @@ use Rattle.call_contracts.specs.Logged.{LoggedAfter, LogsAt, Logs}
 use Rattle.call_contracts.specs.declared.Answer.{Answer}
 use Rattle.call_contracts.specs.declared.Answer.the-variants.{Done, Count, Filled, Refused}
 use Rattle.call_contracts.specs.declared.Logged.{Logged}
-use Rattle.call_logged.specs.Appending.{Ready, Appended}
+use Rattle.call_logged.specs.Appending.{taken, Ready, Appended}
 use Rattle.model.specs.State as model
 
 -- ---- answers
 
--- an accepted logged call of transactions is done
-answer-done : (c : TransactionCall) (r : LogRecord) (s : Store) → recordOf c ≡ some r → accepted (transact c s .answer) ≡ true → transact c s .answer ≡ model.done
-unfolding recordOf transact openCall insertCheckedCall writeCall withTuple commitCall abortCall gives
-answer-done (opens tx) r s h a = unless-accepted (λ o. o .answer ≡ model.done) _ s _ (λ p q. refl) a
-answer-done (inserts tx t k bs) r s h a = unless-accepted (λ o. o .answer ≡ model.done) _ s _ (λ p q. refl) a
-answer-done (insertsChecked tx t k bs hours) r s h a =
-    unless-accepted (λ o. o .answer ≡ model.done) _ s _ (λ p q. unless-accepted (λ o. o .answer ≡ model.done) _ s _ (λ p q. refl) q) a
-answer-done (replaces tx t k bs) r s h a = unless-accepted (λ o. o .answer ≡ model.done) _ s _ (λ p q. refl) a
-answer-done (deletes tx t k) r s h a = unless-accepted (λ o. o .answer ≡ model.done) _ s _ (λ p q. refl) a
-answer-done (commits tx) r s h a = unless-accepted (λ o. o .answer ≡ model.done) _ s _ (λ p q. refl) a
-answer-done (aborts tx) r s h a = unless-accepted (λ o. o .answer ≡ model.done) _ s _ (λ p q. refl) a
-answer-done (reads tx t k room) r s h a = never h
-answer-done (lists room) r s h a = never h
-answer-done (crossings tx t first end room) r s h a = never h
+-- an answer is no refusal exactly if the model's is none
+taken-means : (a : Answer) (bs : List ℕ) (o : model.Answer) → meaning a bs ≡ o → taken a ≡ accepted o
+unfolding taken accepted
+taken-means Done bs o e = ap accepted e
+taken-means (Count n) bs o e = ap accepted e
+taken-means (Filled n) bs o e = ap accepted e
+taken-means (Refused n) bs o e = ap accepted e
 
--- only `done` means done
-isDone : model.Answer → Bool
-isDone (model.refused n) = false
-isDone model.done = true
-isDone (model.count n) = false
-isDone (model.filled n bs) = false
-
-means-done : (a : Answer) (bs : List ℕ) → meaning a bs ≡ model.done → a ≡ Done
-unfolding isDone
-means-done Done bs e = refl
-means-done (Count n) bs e = lie (ap isDone e)
-means-done (Filled n) bs e = lie (ap isDone e)
-means-done (Refused n) bs e = lie (ap isDone e)
-
-refused-not : (a : Answer) (bs : List ℕ) (o : model.Answer) → meaning a bs ≡ o → accepted o ≡ false → a ≡ Done → ⊥
-unfolding accepted
-refused-not a bs o e n d = lie (sym n ∙ ap accepted (sym e) ∙ ap (λ x. accepted (meaning x bs)) d)
-
--- another answer is not `done`
-pub count-not : {a : Answer} {n : ℕ} → a ≡ Count n → a ≡ Done → ⊥
-unfolding isDone
-count-not {n = n} e d = lie (ap (λ x. isDone (meaning x [])) (sym e ∙ d))
-
-pub filled-not : {a : Answer} {n : ℕ} → a ≡ Filled n → a ≡ Done → ⊥
-unfolding isDone
-filled-not e d = lie (ap (λ x. isDone (meaning x [])) (sym e ∙ d))
-
-pub refused-is-not : {a : Answer} {n : ℕ} → a ≡ Refused n → a ≡ Done → ⊥
-unfolding isDone
-refused-is-not e d = lie (ap (λ x. isDone (meaning x [])) (sym e ∙ d))
-
--- it is handed on, and nothing is appended
-pub handed-on : (a : Answer) (r : LogRecord) (log : List ℕ) (e : ℕ) (res : Logged) → (a ≡ Done → ⊥) → res .answer ≡ a → res .end ≡ e → Appended a r log e res log
-handed-on a r log e res n h k = record { answer = h; done = λ d. absurd (n d); other = λ q. (refl, k) }
+-- with room or without: accepted only if there is room
+room-taken : (call : Store → Outcome) (s : Store) (b : Bool) → accepted (withRoom b call s .answer) ≡ true → (b ≡ true) × (accepted (call s .answer) ≡ true)
+unfolding accepted if_then_else_ gives
+room-taken call s true q = (refl, q)
+room-taken call s false q = by (accepted (call s .answer)) (λ k. lie (rw k at q)) (λ k. lie (sym k ∙ (rw k at q)))
 
 -- ---- the contract
 
-module _ (c : TransactionCall) (r : LogRecord) (h : recordOf c ≡ some r) (ty : TypedCall c) (m log : List ℕ) (e : ℕ) (room : Bool)
-    (er : room ≡ leb (e + logSize r) (length log)) (a : Answer) (m' : List ℕ) where
-  fits : room ≡ true → e + logSize r ≤ length log
-  fits q = leb-true (e + logSize r) (length log) (sym er ∙ q)
+-- the store that the memory holds, of a call that was accepted: there was room
+pub record Taken (call : Store → Outcome) (m : List ℕ) (room : Bool) : Type 0 where
+  pub store : Store
+  pub is : storeIn m ≡ some store
+  pub room-is : room ≡ true
+  pub accepts : accepted (call store .answer) ≡ true
 
-  -- room or not, by what the log has
-  no-fit : room ≡ false → ltb (length log) (e + logSize r) ≡ true
-  no-fit q = lt-ltb (length log) (e + logSize r) (leb-false (e + logSize r) (length log) (sym er ∙ q))
+pub was-taken : (call : Store → Outcome) (m : List ℕ) (room : Bool) (a : Answer) (m' : List ℕ) → Answers (withRoom room call) m a m' → taken a ≡ true → Taken call m room
+unfolding Answers AnswersAt
+was-taken call m room a m' ans d = go (storeIn m) refl ans
+  where
+    go : (o : Option Store) → storeIn m ≡ o → AnswersAt o (withRoom room call) m a m' → Taken call m room
+    go none e x = lie (unfold accepted in sym (taken-means a [] (model.refused 4) (x .0)) ∙ d)
+    go (some s) e x =
+        let k = room-taken call s room (sym (taken-means a _ (withRoom room call s .answer) (x .answer)) ∙ d) in
+        record { store = s; is = e; room-is = k .0; accepts = k .1 }
 
-  fit : room ≡ true → ltb (length log) (e + logSize r) ≡ false
-  fit q = le-ltb (length log) (e + logSize r) (fits q)
+module _ (call : Store → Outcome) (rec : Store → LogRecord) (m log : List ℕ) (e : ℕ) (room : Bool) (a : Answer) (m' : List ℕ) (res : Logged) (log' : List ℕ) where
+  -- what a logged call gives on the store s, by what was appended
+  module _ (s : Store) (er : room ≡ leb (e + logSize (rec s)) (length log)) (p : Appended a (rec s) log e res log') where
+    abbrev O : LoggedOutcome
+    O = logging (rec s) (call s) s log e
 
-  room-done : (s : Store) (b : Bool) → withRoom b (transact c) s .answer ≡ model.done → (b ≡ true) × (accepted (transact c s .answer) ≡ true)
-  unfolding accepted if_then_else_ gives isDone
-  room-done s true q = (refl, ap accepted q)
-  room-done s false q =
-      by (accepted (transact c s .answer)) (λ k. lie (ap isDone (rw k at q))) (λ k. lie (sym k ∙ ap accepted (rw k at q)))
-
-  pub was-done : Answers (withRoom room (transact c)) m a m' → a ≡ Done → RecordFits r × (e + logSize r ≤ length log)
-  unfolding Answers AnswersAt
-  was-done ans d = go (storeIn m) ans
-    where
-      go : (o : Option Store) → AnswersAt o (withRoom room (transact c)) m a m' → RecordFits r × (e + logSize r ≤ length log)
-      go none x = lie (unfold isDone in sym (ap isDone (sym (ap (λ y. meaning y []) d) ∙ x .0)))
-      go (some s) x =
-          let k = room-done s room (sym (x .answer) ∙ ap (λ y. meaning y (bytesOf (withRoom room (transact c) s .answer))) d) in
-          (call-fits c s r ty h (k .1), fits (k .0))
-
-  module _ (res : Logged) (log' : List ℕ) (p : Appended a r log e res log') where
-    -- what a logged call gives on the store s
-    abbrev O : Store → LoggedOutcome
-    O s = logging r (transact c s) s log e
+    same-answer : (o : Outcome) → meaning a (bytesOf (o .answer)) ≡ o .answer → meaning (res .answer) (bytesOf (o .answer)) ≡ o .answer
+    same-answer o x = ap (λ z. meaning z (bytesOf (o .answer))) (p .answer) ∙ x
 
     -- refused by a test of its own
-    stays : (s : Store) → accepted (transact c s .answer) ≡ false → Afterwards (withRoom room (transact c) s) m a m' → LoggedAfter (O s) m res m' log'
+    stays : accepted (call s .answer) ≡ false → Afterwards (withRoom room call s) m a m' → LoggedAfter O m res m' log'
     unfolding logging unlogged if_then_else_
-    stays s n x =
-        let same = same-outcome room in
-        let y = subst (λ o. Afterwards o m a m') same x in
-        let q = p .other (refused-not a _ (transact c s .answer) (y .answer) n) in
-        rw n (record { answer = ap (λ z. meaning z (bytesOf (transact c s .answer))) (p .answer) ∙ y .answer; memory = y .memory; log = q .0; end = q .1 })
+    stays n x =
+        let y = subst (λ o. Afterwards o m a m') (same-outcome room) x in
+        let q = p .other (taken-means a _ (call s .answer) (y .answer) ∙ n) in
+        rw n (record { answer = same-answer (call s) (y .answer); memory = y .memory; log = q .0; end = q .1 })
       where
-        same-outcome : (b : Bool) → withRoom b (transact c) s ≡ transact c s
+        same-outcome : (b : Bool) → withRoom b call s ≡ call s
         same-outcome true = refl
         same-outcome false = rw n
 
     -- accepted, but there is no room
-    full : (s : Store) → accepted (transact c s .answer) ≡ true → room ≡ false → Afterwards (withRoom room (transact c) s) m a m' → LoggedAfter (O s) m res m' log'
+    full : accepted (call s .answer) ≡ true → room ≡ false → Afterwards (withRoom room call s) m a m' → LoggedAfter O m res m' log'
     unfolding logging appending unlogged if_then_else_
-    full s n q x =
+    full n q x =
         let o = gives (model.refused 29) s in
-        let y = subst (λ z. Afterwards z m a m') (ap (λ b. withRoom b (transact c) s) q ∙ refuses) x in
-        let k = p .other (refused-not a _ (o .answer) (y .answer) no) in
-        rw (n, no-fit q) (record { answer = ap (λ z. meaning z (bytesOf (o .answer))) (p .answer) ∙ y .answer; memory = y .memory; log = k .0; end = k .1 })
+        let y = subst (λ z. Afterwards z m a m') (ap (λ b. withRoom b call s) q ∙ refuses) x in
+        let k = p .other (taken-means a _ (o .answer) (y .answer) ∙ no) in
+        let f = lt-ltb (length log) (e + logSize (rec s)) (leb-false (e + logSize (rec s)) (length log) (sym er ∙ q)) in
+        rw (n, f) (record { answer = same-answer o (y .answer); memory = y .memory; log = k .0; end = k .1 })
       where
-        refuses : withRoom false (transact c) s ≡ gives (model.refused 29) s
+        refuses : withRoom false call s ≡ gives (model.refused 29) s
         refuses = rw n
 
         no : accepted (gives (model.refused 29) s .answer) ≡ false
         no = unfold accepted gives in refl
 
     -- accepted, with room
-    appends : (s : Store) → accepted (transact c s .answer) ≡ true → room ≡ true → Afterwards (withRoom room (transact c) s) m a m' → LoggedAfter (O s) m res m' log'
+    appends : accepted (call s .answer) ≡ true → room ≡ true → Afterwards (withRoom room call s) m a m' → LoggedAfter O m res m' log'
     unfolding logging appending if_then_else_
-    appends s n q x =
-        let y = subst (λ b. Afterwards (withRoom b (transact c) s) m a m') q x in
-        let d = means-done a _ (y .answer ∙ answer-done c r s h n) in
-        let k = p .done d in
-        rw (n, fit q) (record { answer = ap (λ z. meaning z (bytesOf (transact c s .answer))) (p .answer) ∙ y .answer; memory = y .memory; log = k .0; end = k .1 })
+    appends n q x =
+        let y = subst (λ b. Afterwards (withRoom b call s) m a m') q x in
+        let k = p .done (taken-means a _ (call s .answer) (y .answer) ∙ n) in
+        let f = le-ltb (length log) (e + logSize (rec s)) (leb-true (e + logSize (rec s)) (length log) (sym er ∙ q)) in
+        rw (n, f) (record { answer = same-answer (call s) (y .answer); memory = y .memory; log = k .0; end = k .1 })
 
-    pub logs : Answers (withRoom room (transact c)) m a m' → Logs (transact c) (λ s. r) m log e res m' log'
-    unfolding Answers AnswersAt Logs LogsAt
-    logs ans = go (storeIn m) ans
-      where
-        go : (o : Option Store) → AnswersAt o (withRoom room (transact c)) m a m' → LogsAt o (λ s. logging r (transact c s) s log e) m log e res m' log'
-        go none x =
-            let k = p .other (refused-not a [] (model.refused 4) (x .0) (unfold accepted in refl)) in
-            (ap (λ z. meaning z []) (p .answer) ∙ x .0, k .1, x .1, k .0)
-        go (some s) x =
-            by (accepted (transact c s .answer))
-            (λ n. by room (λ q. appends s n q x) (λ q. full s n q x))
-            (λ n. stays s n x)
+  pub logs : Answers (withRoom room call) m a m' → ((s : Store) → storeIn m ≡ some s → (room ≡ leb (e + logSize (rec s)) (length log)) × Appended a (rec s) log e res log')
+      → (storeIn m ≡ none → (r : LogRecord) × Appended a r log e res log') → Logs call rec m log e res m' log'
+  unfolding Answers AnswersAt Logs LogsAt
+  logs ans some-case none-case = go (storeIn m) refl ans
+    where
+      go : (o : Option Store) → storeIn m ≡ o → AnswersAt o (withRoom room call) m a m' → LogsAt o (λ s. logging (rec s) (call s) s log e) m log e res m' log'
+      go none h x =
+          let p = none-case h .1 in
+          let k = p .other (taken-means a [] (model.refused 4) (x .0) ∙ (unfold accepted in refl)) in
+          (ap (λ z. meaning z []) (p .answer) ∙ x .0, k .1, x .1, k .0)
+      go (some s) h x =
+          let c = some-case s h in
+          by (accepted (call s .answer))
+          (λ n. by room (λ q. appends s (c .0) (c .1) n q x) (λ q. full s (c .0) (c .1) n q x))
+          (λ n. stays s (c .0) (c .1) n x)
+
+-- a refusal is handed on, and nothing is appended
+pub handed-on : (a : Answer) (r : LogRecord) (log : List ℕ) (e : ℕ) (res : Logged) → taken a ≡ false → res .answer ≡ a → res .end ≡ e → Appended a r log e res log
+handed-on a r log e res n h k = record { answer = h; done = λ d. lie (sym n ∙ d); other = λ q. (refl, k) }
 
 -- ---- the change that the code appends
 
@@ -180,8 +144,10 @@ module _ (c : TransactionCall) (r : LogRecord) (ch : Change) (bs : List ℕ) (n 
   er′ : room ≡ leb (e + logSize r) (length log)
   er′ = er ∙ ap (λ k. leb (e + k) (length log)) (sym (w .size))
 
-  in-range : a ≡ Done → RecordFits r × (e + logSize r ≤ length log)
-  in-range d = was-done c r (w .logged) (w .typed) m log e room er′ a m' ans d
+  in-range : taken a ≡ true → RecordFits r × (e + logSize r ≤ length log)
+  in-range d =
+      let k = was-taken (transact c) m room a m' ans d in
+      (call-fits c (k .store) r (w .typed) (w .logged) (k .accepts), leb-true (e + logSize r) (length log) (sym er′ ∙ k .room-is))
 
   pub ready : Ready a log e ch bs
   ready d =
@@ -191,13 +157,14 @@ module _ (c : TransactionCall) (r : LogRecord) (ch : Change) (bs : List ℕ) (n 
       record { fits = subst RecordFits (sym q) (k .0); told = t; room = subst (λ i. e + i ≤ length log) (ap logSize (sym q) ∙ size-of-change ch bs t) (k .1) }
 
   pub logged-by : (res : Logged) (log' : List ℕ) → Appended a (changeIs ch bs) log e res log' → Logs (transact c) (λ s. r) m log e res m' log'
-  logged-by res log' p =
-      logs c r (w .logged) (w .typed) m log e room er′ a m' res log'
-      (record {
+  logged-by res log' p = logs (transact c) (λ s. r) m log e room a m' res log' ans (λ s h. (er′, appended)) (λ h. (r, appended))
+    where
+      appended : Appended a r log e res log'
+      appended = record {
         answer = p .answer;
         done = λ d. subst (λ x. (log' ≡ over log e (encodeRecord x)) × (res .end ≡ e + logSize x)) (w .is (in-range d .0)) (p .done d);
         other = p .other;
-      }) ans
+      }
 
 -- ---- each of them
 

@@ -8,10 +8,12 @@ ghost use Prim.Native.Nat.{_+_};
 ghost use lib.Dec.{leb};
 ghost use Rattle.model.specs.Transactions.{openCall, insertCall, replaceCall, deleteCall, commitCall, abortCall};
 ghost use Rattle.model.specs.Checked.{insertCheckedCall};
-ghost use Rattle.log_records.specs.Records.{openedBy, committedBy, abortedBy, insertedBy, replacedBy, deletedBy};
+ghost use Rattle.model.specs.Checkpoint.{beginCall};
+ghost use Rattle.log_records.specs.Records.{openedBy, committedBy, abortedBy, insertedBy, replacedBy, deletedBy, markOf};
+ghost use Rattle.log_model.specs.Logged.{markFor};
 ghost use Rattle.log_records.specs.Entries.{changeIs};
 ghost use Rattle.call_contracts.specs.Logged.{Logs};
-ghost use Rattle.call_logged.specs.Appending.{Ready, Appended};
+ghost use Rattle.call_logged.specs.Appending.{taken, Ready, ReadyMark, Appended};
 
 // A transaction has 12 bits, and there are eight tables: all that an accepted call lets through.
 const TRANSACTIONS: u64 = block_forms::TRANSACTIONS as u64;
@@ -22,6 +24,20 @@ const TABLES: u64 = call_transactions::TABLE_LIMIT + 1;
 const SHORT: usize = 2;
 
 const PLACE: usize = 8;
+
+const OPEN_LIMIT: usize = memory_layout::OPEN_LIMIT as usize;
+
+// Whether the call was not refused.
+fn taken(a: Answer) -> bool
+    ensures { λ r. ⌜ r ≡ taken a ⌝ }
+{
+    match a {
+        Answer::Done => true,
+        Answer::Count(_) => true,
+        Answer::Filled(_) => true,
+        Answer::Refused(_) => false,
+    }
+}
 
 // Whether head + more bytes fit a log of len bytes, from its end on.
 fn has_room(len: usize, end: u64, head: usize, more: usize) -> bool
@@ -37,32 +53,22 @@ fn has_room(len: usize, end: u64, head: usize, more: usize) -> bool
     end <= (rest - more) as u64
 }
 
-// Appends the record of a call that was done, and hands its answer on.
-fn append_done(a: Answer, log: &mut [u8], end: u64, c: Change, payload: &[u8]) -> Logged
+// Appends the record of a call that was accepted, and hands its answer on.
+fn append_taken(a: Answer, log: &mut [u8], end: u64, c: Change, payload: &[u8]) -> Logged
     requires { ⌜ Ready a (now log) end c (now payload) ⌝ }
     ensures { λ r. ⌜ Appended a (changeIs c (now (payload .entry))) (now (log .entry)) end r (now (log .exit)) ⌝ }
 {
-    match a {
-        Answer::Done => {
-            let size = log_records::change_size(c) as u64;
-            log_records::append(log, end as usize, c, payload);
-            Logged {
-                answer: Answer::Done,
-                end: end + size,
-            }
-        }
-        Answer::Count(n) => Logged {
-            answer: Answer::Count(n),
+    if !taken(a) {
+        return Logged {
+            answer: a,
             end: end,
-        },
-        Answer::Filled(n) => Logged {
-            answer: Answer::Filled(n),
-            end: end,
-        },
-        Answer::Refused(n) => Logged {
-            answer: Answer::Refused(n),
-            end: end,
-        },
+        };
+    }
+    let size = log_records::change_size(c) as u64;
+    log_records::append(log, end as usize, c, payload);
+    Logged {
+        answer: a,
+        end: end + size,
     }
 }
 
@@ -74,7 +80,7 @@ pub fn logged_open(m: &mut [u8], log: &mut [u8], end: u64, transaction: u64) -> 
     let c = Change::Open {
         transaction: (transaction % TRANSACTIONS) as u32,
     };
-    append_done(a, log, end, c, b"")
+    append_taken(a, log, end, c, b"")
 }
 
 pub fn logged_insert(
@@ -96,7 +102,7 @@ pub fn logged_insert(
         key: key,
         len: payload.len(),
     };
-    append_done(a, log, end, c, payload)
+    append_taken(a, log, end, c, payload)
 }
 
 // The record of a checked insert is that of the insert.
@@ -120,7 +126,7 @@ pub fn logged_insert_checked(
         key: key,
         len: payload.len(),
     };
-    append_done(a, log, end, c, payload)
+    append_taken(a, log, end, c, payload)
 }
 
 pub fn logged_replace(
@@ -142,7 +148,7 @@ pub fn logged_replace(
         key: key,
         len: payload.len(),
     };
-    append_done(a, log, end, c, payload)
+    append_taken(a, log, end, c, payload)
 }
 
 pub fn logged_delete(
@@ -162,7 +168,7 @@ pub fn logged_delete(
         table: (table % TABLES) as u32,
         key: key,
     };
-    append_done(a, log, end, c, b"")
+    append_taken(a, log, end, c, b"")
 }
 
 pub fn logged_commit(m: &mut [u8], log: &mut [u8], end: u64, transaction: u64) -> Logged
@@ -173,7 +179,7 @@ pub fn logged_commit(m: &mut [u8], log: &mut [u8], end: u64, transaction: u64) -
     let c = Change::Commit {
         transaction: (transaction % TRANSACTIONS) as u32,
     };
-    append_done(a, log, end, c, b"")
+    append_taken(a, log, end, c, b"")
 }
 
 pub fn logged_abort(m: &mut [u8], log: &mut [u8], end: u64, transaction: u64) -> Logged
@@ -184,5 +190,44 @@ pub fn logged_abort(m: &mut [u8], log: &mut [u8], end: u64, transaction: u64) ->
     let c = Change::Abort {
         transaction: (transaction % TRANSACTIONS) as u32,
     };
-    append_done(a, log, end, c, b"")
+    append_taken(a, log, end, c, b"")
+}
+
+// ---- begin
+
+// Appends the mark of a begin that was accepted at this level, and hands its answer on.
+fn append_begun(a: Answer, log: &mut [u8], end: u64, level: u32, transactions: &[u32]) -> Logged
+    requires { ⌜ ReadyMark a (now log) end (level + 1) (now transactions) ⌝ }
+    ensures { λ r. ⌜ Appended a (markOf (level + 1) (now (transactions .entry))) (now (log .entry)) end r (now (log .exit)) ⌝ }
+{
+    if !taken(a) {
+        return Logged {
+            answer: a,
+            end: end,
+        };
+    }
+    let size = log_records::mark_size(transactions.len()) as u64;
+    log_records::append_mark(log, end as usize, level + 1, transactions);
+    Logged {
+        answer: a,
+        end: end + size,
+    }
+}
+
+// The mark has the level of the checkpoint begun and the transactions open without writes.
+pub fn logged_begin(m: &mut [u8], log: &mut [u8], end: u64) -> Logged
+    ensures { λ r. ⌜ Logs beginCall markFor (now (m .entry)) (now (log .entry)) end r (now (m .exit)) (now (log .exit)) ⌝ }
+{
+    if !memory_layout::holds_store(m) {
+        return Logged {
+            answer: Answer::Refused(4),
+            end: end,
+        };
+    }
+    let h = memory_layout::get_head(m);
+    let mut numbers = [0u32; OPEN_LIMIT];
+    let n = engine_opens::sort_unwritten(m, &mut numbers);
+    let room = has_room(log.len(), end, log_records::mark_size(n), 0);
+    let a = call_checkpoint::begin_if(m, room);
+    append_begun(a, log, end, h.level, &numbers[..n])
 }
