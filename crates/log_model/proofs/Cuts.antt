@@ -14,7 +14,8 @@ use Rattle.model.specs.Transactions.{openNumbers}
 use Rattle.model.specs.Checkpoint.{isRunning}
 use Rattle.model.specs.Calls.{Call, call, afterCalls}
 use Rattle.model.specs.Recover.{memoryFor, freshStore, recover}
-use Rattle.model.specs.CrashRecovery.{Start, Logged, log, isHeader, Cut, content}
+use Rattle.model.specs.CrashRecovery.{Start, Logged, log, isHeader, imageWith, Cut, content}
+use Rattle.model.specs.Checkpoints.{afterStores}
 use Rattle.model.specs.WellFormed.{WellFormed}
 use Rattle.model.proofs.NoStores.{call-leaves}
 use Rattle.model.proofs.BlockUse.{idle-of}
@@ -23,10 +24,11 @@ use Rattle.model.proofs.Inv.{listed, listed-held}
 use Rattle.model.proofs.Start.{start-idle, start-active}
 use Rattle.model.proofs.Whole.{ready}
 use Rattle.model.proofs.Well.{sound}
-use Rattle.model.proofs.Bytes.{accepted-recovery, make-accepted}
-use Rattle.model.proofs.Views.{recoverView}
+use Rattle.model.proofs.Bytes.{accepted-recovery, make-accepted, view-sane}
+use Rattle.model.proofs.Views.{recoverView, WriteOk}
+use Rattle.model.proofs.Claim.{writes-ok}
 use Rattle.model.proofs.Starts.{recovered-well, made-well}
-use Rattle.model.proofs.Line.{crash-recovery, started}
+use Rattle.model.proofs.Line.{crash-recovery, started, length-after}
 use Rattle.model.proofs.Landed.{recovered-header}
 use Rattle.log_records.specs.Records.{LogRecord}
 use Rattle.log_model.proofs.Marks.{Marked}
@@ -113,3 +115,22 @@ module _ (s₀ : Store) (img : List ℕ) (s : Store) (rs : List LogRecord) (r : 
         capacity = q .0;
         marked = subst (λ n. Marked s₀ rs (rows (b .pages)) n (b .level)) (sym (k .2 .next)) (subst (λ x. Marked s₀ rs x (z .next) (b .level)) (sym same) (q .3));
       }
+
+-- ---- the length of the image
+
+stores-length : (n : ℕ) (img : List ℕ) (ws : List Logged) → length img ≡ blockSize * n → AllOf (WriteOk n) ws → length (afterStores img ws) ≡ blockSize * n
+unfolding afterStores
+stores-length n img [] e ok = e
+stores-length n img (w ∷ ws) e ok = stores-length n (imageWith img w) ws (length-after n img w e (ok .0)) (ok .1)
+
+calls-blocks : (cs : List Call) (s : Store) → afterCalls cs s .blocks ≡ s .blocks
+unfolding afterCalls
+calls-blocks [] s = refl
+calls-blocks (c ∷ cs) s = calls-blocks cs (call c s .store) ∙ call-leaves c s .blocks
+
+pub run-length : (s₀ : Store) (img : List ℕ) (s : Store) (rs : List LogRecord) → Run s₀ img s rs → length img ≡ blockSize * s .blocks
+run-length s₀ img s rs r =
+    let a = started (r .first) (r .store) (r .start) in
+    let ok = writes-ok (view (r .first)) (view-sane (r .first)) (r .store) (a .least) (a .most) (a .seen) (r .calls) (r .typed) in
+    ap length (sym (r .image)) ∙ stores-length (r .store .blocks) (r .first) (log [] [] (r .store) (r .calls)) (a .long) ok
+    ∙ ap (λ n. blockSize * n) (sym (ap (λ z. z .blocks) (sym (r .after)) ∙ calls-blocks (r .calls) (r .store)))

@@ -1,5 +1,5 @@
 -- The promise over histories: what holds in a life and while power is off, kept by every event.
-use Rattle.basics.proofs.Kit.{_≡_, refl, sym, ap, _∙_, subst, ap₂, Bool, true, false, _&&_, _||_, some, none, Option, List, [], _∷_, _++_, append-assoc, append-nil, map, ℕ, zero, suc, _+_, _-_, _/_, _≤_, _<_, min, take, eqb, ltb, length, length-append, arith, _⊎_, inl, inr, ⊎-elim}
+use Rattle.basics.proofs.Kit.{_≡_, refl, sym, ap, _∙_, subst, ap₂, Bool, true, false, _&&_, _||_, some, none, Option, List, [], _∷_, _++_, append-assoc, append-nil, map, ℕ, zero, suc, _+_, _-_, _*_, _/_, _≤_, _<_, min, take, eqb, ltb, length, length-append, arith, _⊎_, inl, inr, ⊎-elim}
 use Rattle.basics.specs.Basics.{if_then_else_, any, isIn, sorted, sum}
 use Rattle.basics.specs.Lists.{over}
 use Rattle.basics.proofs.Facts.{by, lie, never, AllOf, and-true}
@@ -41,7 +41,7 @@ use Rattle.log_model.proofs.Appending.{length-records, end-append, one-
 use Rattle.log_model.proofs.Fitting.{call-fits, call-repeats, mark-fits}
 use Rattle.log_model.proofs.Stores.{put-bytes, cut-bytes, cut-stores, baseAfter, baseWith, steps-idle}
 use Rattle.log_model.proofs.Lives.{Point, Run, run-step, step-cut, run-transact, run-begin, more-log}
-use Rattle.log_model.proofs.Cuts.{Back, back-of, idle-back}
+use Rattle.log_model.proofs.Cuts.{Back, back-of, idle-back, run-length}
 use Rattle.log_model.proofs.Dead.{Dead, dead-read, Rolled, rolled, end-of, repeated-well, restored}
 
 -- ---- a life
@@ -548,3 +548,7 @@ pub records-of-cut : RecordsOfCut
 records-of-cut s₀ img log s e rs g c ty img′ log′ k =
     let x = failed s₀ img log s e rs (keeps g) c ty img′ log′ k in
     ⊎-elim (λ q. inl (dead-read (x .2) ∙ ap some q)) (λ q. inr (dead-read (x .2) ∙ ap some q)) (x .1)
+
+-- the image of a life has the store's blocks
+pub history-length : {s₀ : Store} {img log : List ℕ} {s : Store} {e : ℕ} {rs : List LogRecord} → History s₀ img log (running s e rs) → length img ≡ blockSize * s .blocks
+history-length {s₀} {img} {log} {s} {e} {rs} g = run-length s₀ img s rs (keeps g .run)

@@ -17,7 +17,7 @@ use Rattle.call_contracts.specs.declared.Answer.{Answer as Answered}
 use Rattle.store.specs.CrashRecovery.{Executes, transacting, reading, crossing, listing, beginning, stepping, running, stepping-elsewhere, running-elsewhere, ExecutesAll, ends, next}
 
 -- the memory after a call: the store of its outcome, also when it is refused
-leaves : (a : Answer) (t s : Store) (m m′ : List ℕ) → MemoryAfter a t m m′ → storeIn m ≡ some s → (accepted a ≡ false → t ≡ s) → storeIn m′ ≡ some t
+pub leaves : (a : Answer) (t s : Store) (m m′ : List ℕ) → MemoryAfter a t m m′ → storeIn m ≡ some s → (accepted a ≡ false → t ≡ s) → storeIn m′ ≡ some t
 unfolding accepted
 leaves (refused n) t s m m′ l e h = ap storeIn l ∙ e ∙ ap some (sym (h refl))
 leaves done t s m m′ l e h = l .store
@@ -38,7 +38,7 @@ module _ (c : Call) (s : Store) (m : List ℕ) (e : storeIn m ≡ some s) where
       let k : StoredBy o img m r img′ m′ = rw e at a in (leaves (o .answer) (o .store) s m m′ (k .memory) e (λ h. refused-keeps c s h .0), k .image)
 
 -- no block store, no change of the image
-still : (ws : List Write) (img : List ℕ) → ws ≡ [] → img ≡ imageAfter ws img
+pub still : (ws : List Write) (img : List ℕ) → ws ≡ [] → img ≡ imageAfter ws img
 unfolding imageAfter
 still ws img e = rw e refl
 
@@ -78,7 +78,7 @@ module _ (s : Store) (img m : List ℕ) (e : storeIn m ≡ some s) where
       (stored (runs limit (length p)) s m e p r p′ m′ a .0, still _ img (bad-run (length p) img s l h limit))
 
 -- the arguments are numbers and bytes of their types
-typed : {c : Call} {img m img′ m′ : List ℕ} → Executes c img m img′ m′ → Typed c
+pub typed : {c : Call} {img m img′ m′ : List ℕ} → Executes c img m img′ m′ → Typed c
 typed (transacting r h ty a) = ty
 typed (reading p p′ r a) = tt
 typed (crossing p p′ r a) = tt
