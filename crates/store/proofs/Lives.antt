@@ -31,7 +31,7 @@ use Rattle.call_contracts.specs.declared.Logged.{Logged}
 use Rattle.store.specs.CrashRecovery.{Executes}
 use Rattle.store.specs.NothingLost as lost
 use Rattle.store.specs.NothingLost.{Acts, logging as logs, marking, acting, Lives, starts, goes-on, stops, restarts, stops-again, BroughtBack, RestartPromise, NothingLost, AlwaysAStore}
-use Rattle.store.proofs.Follows.{does, typed, leaves, still}
+use Rattle.store.proofs.Follows.{does, typed, leaves, still, codeOf, means-done, means-refused, logged-keeps, logged-stores}
 use Rattle.model.specs.State as model
 
 -- what a life has: a history of the rules, whose store the memory holds
@@ -41,62 +41,7 @@ record Follows (s₀ : Store) (img log m : List ℕ) (e : ℕ) : Type 0 where
   pub has : storeIn m ≡ some store
   pub is : History s₀ img log (history.running store e records)
 
--- ---- answers
-
--- what an answer that means this is
-abbrev codeOf : model.Answer → ℕ × ℕ
-codeOf (model.refused n) = (0, n)
-codeOf model.done = (1, 0)
-codeOf (model.count n) = (2, n)
-codeOf (model.filled n bs) = (3, n)
-
-means-done : (a : Answer) → meaning a [] ≡ model.done → a ≡ Done
-means-done Done e = refl
-means-done (Count n) e = absurd (differ (ap (λ x. codeOf x .0) e))
-  where
-    differ : _≡_ {A = ℕ} 2 1 → ⊥
-    differ k = omega (arith, k)
-means-done (Filled n) e = absurd (differ (ap (λ x. codeOf x .0) e))
-  where
-    differ : _≡_ {A = ℕ} 3 1 → ⊥
-    differ k = omega (arith, k)
-means-done (Refused n) e = absurd (differ (ap (λ x. codeOf x .0) e))
-  where
-    differ : _≡_ {A = ℕ} 0 1 → ⊥
-    differ k = omega (arith, k)
-
-means-refused : (a : Answer) (n : ℕ) → meaning a [] ≡ model.refused n → a ≡ Refused n
-means-refused Done n e = absurd (differ (ap (λ x. codeOf x .0) e))
-  where
-    differ : _≡_ {A = ℕ} 1 0 → ⊥
-    differ k = omega (arith, k)
-means-refused (Count m) n e = absurd (differ (ap (λ x. codeOf x .0) e))
-  where
-    differ : _≡_ {A = ℕ} 2 0 → ⊥
-    differ k = omega (arith, k)
-means-refused (Filled m) n e = absurd (differ (ap (λ x. codeOf x .0) e))
-  where
-    differ : _≡_ {A = ℕ} 3 0 → ⊥
-    differ k = omega (arith, k)
-means-refused (Refused m) n e = ap Refused (ap (λ x. codeOf x .1) e)
-
 -- ---- one call
-
--- a refused logged call leaves the store, and none stores a block
-module _ (x : LogRecord) (o : Outcome) (s : Store) (log : List ℕ) (e : ℕ) (keeps : accepted (o .answer) ≡ false → o .store ≡ s) (none-stored : o .writes ≡ []) where
-  abbrev L : LoggedOutcome
-  L = logging x o s log e
-
-  logged-keeps : accepted (L .outcome .answer) ≡ false → L .outcome .store ≡ s
-  unfolding logging appending unlogged gives if_then_else_
-  logged-keeps h =
-      by (accepted (o .answer))
-      (λ a. by (ltb (length log) (e + logSize x)) (λ k. rw (a, k)) (λ k. lie (sym (rw (a, k) at h) ∙ a)))
-      (λ a. rw a (keeps a))
-
-  logged-stores : L .outcome .writes ≡ []
-  unfolding logging appending unlogged gives if_then_else_
-  logged-stores = by (accepted (o .answer)) (λ a. by (ltb (length log) (e + logSize x)) (λ k. rw (a, k)) (λ k. rw (a, k) none-stored)) (λ a. rw a none-stored)
 
 module _ (s₀ : Store) (img log m : List ℕ) (e : ℕ) (f : Follows s₀ img log m e) where
   abbrev s : Store
