@@ -10,7 +10,7 @@ use Rattle.block_forms.specs.Decode.{readOwner, readMark, readTuple, rec
 use Rattle.block_forms.specs.Bytes.{flagsOf, ownerWord, ownerBytes, recordBytes, records}
 use Rattle.block_forms.proofs.Tuples.{length-record}
 
-pub four : (v : ℕ) → v < 4294967296 → v / 16777216 % 256 * 16777216 + v / 65536 % 256 * 65536 + v / 256 % 256 * 256 + v % 256 ≡ v
+four : (v : ℕ) → v < 4294967296 → v / 16777216 % 256 * 16777216 + v / 65536 % 256 * 65536 + v / 256 % 256 * 256 + v % 256 ≡ v
 four v h =
     let a : v / 65536 ≡ v / 256 / 256 = omega arith in
     let b : v / 16777216 ≡ v / 65536 / 256 = omega arith in

@@ -10,19 +10,10 @@ use Rattle.block_forms.specs.Spell.{zeros}
 use Rattle.block_forms.proofs.Spelled.{length-zeros, zeros-add}
 use Rattle.log_records.specs.Records.{LogRecord, RecordFits, logSize, encodeRecord, encodeRecords, ended, endOf}
 use Rattle.log_records.proofs.Spelling.{two-bytes, length-encoded}
+pub use Rattle.log_records.proofs.Logs.{length-records, records-append}
 use Rattle.log_model.specs.Disk.{DiskStore, blockStore, logStore, recordStores, recordsStores, forwardStores, Mixed, none, more, Cuts, stop, torn-block, torn-log, whole-block, whole-log}
 
 -- ---- records one after another
-
-pub length-records : (rs : List LogRecord) → length (encodeRecords rs) ≡ endOf rs
-unfolding encodeRecords endOf sum
-length-records [] = refl
-length-records (r ∷ rs) = length-append (encodeRecord r) (encodeRecords rs) ∙ ap₂ (λ a b. a + b) (length-encoded r) (length-records rs)
-
-pub records-append : (a b : List LogRecord) → encodeRecords (a ++ b) ≡ encodeRecords a ++ encodeRecords b
-unfolding encodeRecords
-records-append [] b = refl
-records-append (r ∷ a) b = rw (records-append a b) (sym (append-assoc (encodeRecord r) (encodeRecords a) (encodeRecords b)))
 
 pub end-append : (a b : List LogRecord) → endOf (a ++ b) ≡ endOf a + endOf b
 unfolding endOf sum

@@ -84,6 +84,7 @@ small-change (Delete tx t k) bs f e = tt
 small-change (Commit tx) bs f e = tt
 small-change (Abort tx) bs f e = tt
 
+-- a change's record has two bytes at least
 pub change-two : (c : Change) → 1 < changeSize c
 unfolding changeSize
 change-two (Open tx) = omega arith

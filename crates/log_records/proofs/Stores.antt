@@ -8,6 +8,7 @@ use Rattle.block_forms.specs.Spell.{zeros}
 use Rattle.block_forms.proofs.Spelled.{length-zeros, zeros-add}
 use Rattle.log_records.specs.Bytes.{placeRest}
 
+-- one byte, which is all that is lent
 pub one-set : (m : List ℕ) (v : ℕ) → length m ≡ 1 → set m 0 v ≡ v ∷ []
 one-set [] v h = absurd (omega arith)
 one-set (x ∷ []) v h = refl

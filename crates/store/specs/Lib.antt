@@ -1,3 +1,2 @@
 pub mod CrashRecovery
 pub mod Code
-pub mod NothingLost
