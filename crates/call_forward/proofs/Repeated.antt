@@ -106,11 +106,11 @@ module _ {m₀ : List ℕ} {qs₀ : List LogRecord} {m : List ℕ} {r : LogRecor
       let k = now-is m m' _ (o .memory) in
       ap (λ b. b && allAccepted qs (storeNow m')) (o .answer) ∙ ap (λ z. accepted (repeat r (storeNow m) .answer) && allAccepted qs z) (k .1) ∙ l .answer
 
-  pub left-next : {m' : List ℕ} → OneRepeated r m true m' → Left m₀ qs₀ m' qs
-  left-next o = record { stored = stored-next (l .stored) o; answer = first-answer o }
+  pub left-next : {ok : Bool} {m' : List ℕ} → OneRepeated r m ok m' → ok ≡ true → Left m₀ qs₀ m' qs
+  left-next {ok} {m'} o e = record { stored = stored-next (l .stored) o; answer = sym (ap (λ b. b && allAccepted qs (storeNow m')) e) ∙ first-answer o }
 
-  pub left-stop : {m' : List ℕ} → OneRepeated r m false m' → AllRepeated qs₀ m₀ false m'
-  left-stop o = record { answer = first-answer o; memory = λ e. lie e }
+  pub left-stop : {ok : Bool} {m' : List ℕ} → OneRepeated r m ok m' → ok ≡ false → AllRepeated qs₀ m₀ false m'
+  left-stop {ok} {m'} o e = record { answer = sym (ap (λ b. b && allAccepted qs (storeNow m')) e) ∙ first-answer o; memory = λ k. lie k }
 
 pub left-end : {m₀ : List ℕ} {qs₀ : List LogRecord} {m : List ℕ} → Left m₀ qs₀ m [] → AllRepeated qs₀ m₀ true m
 unfolding allAccepted

@@ -100,10 +100,11 @@ pub record AbortsFit (log : List ℕ) (e : ℕ) (txs : List ℕ) : Type 0 where
   pub low : AllOf (λ tx. tx < transactionLimit) txs
   pub room : e + 2 * length txs ≤ length log
 
--- a memory that holds a store, the aborts of whose open transactions have room in the log from byte e on
-pub record MayAbort (m log : List ℕ) (e : ℕ) : Type 0 where
+-- a memory that holds a store, the aborts of whose n open transactions have room in the log from byte e on
+pub record MayAbort (m log : List ℕ) (e n : ℕ) : Type 0 where
   pub has-store : holdsStore m ≡ true
-  pub room : e + 2 * length (flatOf m .opens) ≤ length log
+  pub count : n ≡ length (flatOf m .opens)
+  pub room : e + 2 * n ≤ length log
 
 -- what is open was aborted, and the aborts stand in the log from byte e on, with zeros behind them
 pub record Aborted (m log : List ℕ) (e : ℕ) (m' log' : List ℕ) : Type 0 where

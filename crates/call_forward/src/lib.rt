@@ -102,3 +102,187 @@ fn repeat(s: &mut [u8], c: Change, payload: &[u8]) -> bool
         Change::Abort { transaction: tx } => is_accepted(call_transactions::abort(s, wide(tx))),
     }
 }
+
+// What stands in a log; what is no call is passed over.
+fn repeat_entry(s: &mut [u8], e: Entry, payload: &[u8]) -> bool
+    requires { ⌜ holdsStore (now s) ≡ true ⌝ }
+    ensures { λ r. ⌜ OneRepeated (entryIs e (now (payload .entry))) (now (s .entry)) r (now (s .exit)) ⌝ }
+{
+    match e {
+        Entry::End => true,
+        Entry::Malformed => true,
+        Entry::Call(c) => repeat(s, c, payload),
+        Entry::Mark { level: _, count: _ } => true,
+    }
+}
+
+// The records of a log from byte `at` on, up to the first that is refused.
+fn repeat_from(s: &mut [u8], log: &[u8], at: usize) -> bool
+    requires { ⌜ MayRepeat (now s) (now log) at ⌝ }
+    ensures { λ r. ⌜ AllRepeated (recordsIn (readLog (drop at (now (log .entry))))) (now (s .entry)) r (now (s .exit)) ⌝ }
+{
+    let mut p = at;
+    loop {
+        let e = log_records::entry_at(log, p);
+        let size = log_records::entry_size(e);
+        if size == 0 {
+            return true;
+        }
+        let from = p + smaller(PLACE, size);
+        let next = p + size;
+        if !repeat_entry(s, e, &log[from..next]) {
+            return false;
+        }
+        p = next;
+    }
+}
+
+// The opens of the n transactions that the mark at byte `at` of the log carries.
+fn open_marked(s: &mut [u8], log: &[u8], at: usize, n: usize) -> bool
+    requires { ⌜ MayOpen (now s) (now log) at n ⌝ }
+    ensures { λ r. ⌜ AllRepeated (map openedBy (markedBy (now (log .entry)) at n)) (now (s .entry)) r (now (s .exit)) ⌝ }
+{
+    let mut i: usize = 0;
+    while i < n {
+        let c = Change::Open {
+            transaction: log_records::mark_transaction(log, at, i),
+        };
+        if !repeat(s, c, b"") {
+            return false;
+        }
+        i += 1;
+    }
+    true
+}
+
+// The opens of the mark at byte `at` of the log, and the records behind it.
+fn repeat_marked(s: &mut [u8], log: &[u8], at: usize) -> bool
+    requires { ⌜ MayRepeatMarked (now s) (now log) at ⌝ }
+    ensures { λ r. ⌜ AllRepeated (recordsIn (behindMark (readLog (drop at (now (log .entry)))))) (now (s .entry)) r (now (s .exit)) ⌝ }
+{
+    let Entry::Mark { level: _, count: n } = log_records::entry_at(log, at) else {
+        return false;
+    };
+    if !open_marked(s, log, at, n) {
+        return false;
+    }
+    repeat_from(s, log, at + log_records::mark_size(n))
+}
+
+// What is to be repeated of a whole log: at level 0 all of it, else from the last mark of the level on. 30 no such mark; 31 a record is refused; else 0.
+fn repeat_since(s: &mut [u8], log: &[u8]) -> u64
+    requires { ⌜ MayRepeat (now s) (now log) 0 ⌝ }
+    ensures { λ r. ⌜ SinceBy (toRepeat (storeNow (now (s .entry)) .level) (recordsIn (readLog (now (log .entry))))) (now (s .entry)) r (now (s .exit)) ⌝ }
+{
+    let level = memory_layout::get_head(s).level;
+    if level == 0 {
+        if repeat_from(s, log, 0) {
+            return 0;
+        }
+        return 31;
+    }
+    let mark = log_records::last_mark(log, level);
+    if !mark.found {
+        return 30;
+    }
+    if repeat_marked(s, log, mark.at) {
+        return 0;
+    }
+    31
+}
+
+// ---- aborts
+
+// How many transactions are open.
+fn open_count(m: &[u8]) -> usize
+    requires { ⌜ Room (now m) ⌝ }
+    ensures { λ r. ⌜ r ≡ length (flatOf (now (m .entry)) .opens) ⌝ }
+{
+    let c = memory_layout::get_counts(m);
+    c.opens as usize
+}
+
+// Aborts each of these transactions.
+fn abort_each(s: &mut [u8], numbers: &[u32])
+    requires { ⌜ holdsStore (now s) ≡ true ⌝ }
+    ensures { λ _. ⌜ HoldsNow (now (s .entry)) (now (s .exit)) (repeatAll (map abortedBy (now (numbers .entry))) (storeNow (now (s .entry)))) ⌝ }
+{
+    let mut i: usize = 0;
+    while i < numbers.len() {
+        let c = Change::Abort {
+            transaction: numbers[i],
+        };
+        repeat(s, c, b"");
+        i += 1;
+    }
+}
+
+// Writes the aborts of these transactions to the log, from its end on.
+fn log_aborts(log: &mut [u8], end: usize, numbers: &[u32])
+    requires { ⌜ AbortsFit (now log) end (now numbers) ⌝ }
+    ensures { λ _. ⌜ now (log .exit) ≡ over (now (log .entry)) end (encodeRecords (map abortedBy (now (numbers .entry)))) ⌝ }
+{
+    let mut i: usize = 0;
+    while i < numbers.len() {
+        let c = Change::Abort {
+            transaction: numbers[i],
+        };
+        log_records::append(log, end + ABORT_SIZE * i, c, b"");
+        i += 1;
+    }
+}
+
+// Aborts what is open, by rising number, and writes the aborts to the log, from its end on, with zeros behind them.
+fn abort_open(s: &mut [u8], log: &mut [u8], end: usize, n: usize)
+    requires { ⌜ MayAbort (now s) (now log) end n ⌝ }
+    ensures { λ _. ⌜ Aborted (now (s .entry)) (now (log .entry)) end (now (s .exit)) (now (log .exit)) ⌝ }
+{
+    let mut numbers = [0u32; OPEN_LIMIT];
+    engine_opens::sort_open(s, &mut numbers[..n]);
+    abort_each(s, &numbers[..n]);
+    log_records::clear(&mut log[end..]);
+    log_aborts(log, end, &numbers[..n]);
+}
+
+// ---- roll-forward
+
+// All of roll-forward, in one memory.
+fn restore(image: &[u8], s: &mut [u8], log: &mut [u8]) -> Logged
+    ensures { λ r. ⌜ RestoredBy (forwardBelow (now (log .entry)) (recover (length (now (s .entry))) (now (image .entry)))) (now (s .entry)) (now (log .entry)) r (now (s .exit)) (now (log .exit)) ⌝ }
+{
+    let a = call_recovery::recover(image, s);
+    if !is_accepted(a) {
+        return Logged { answer: a, end: 0 };
+    }
+    let whole = log_records::check_log(log);
+    if !whole.whole {
+        return refused(31);
+    }
+    let v = repeat_since(s, log);
+    if v != 0 {
+        return refused(v);
+    }
+    let n = open_count(s);
+    let end = whole.end + ABORT_SIZE * n;
+    if log.len() < end {
+        return refused(29);
+    }
+    abort_open(s, log, whole.end, n);
+    Logged {
+        answer: Answer::Done,
+        end: big(end),
+    }
+}
+
+// The second memory is lent only as far as the first one is long, so that a refusal for want of memory comes in recovery's own order.
+pub fn roll_forward(image: &[u8], m: &mut [u8], second: &mut [u8], log: &mut [u8]) -> Logged
+    ensures { λ r. ⌜ Forwards (now (image .entry)) (now (m .entry)) (length (now (second .entry))) (now (log .entry)) r (now (m .exit)) (now (log .exit)) ⌝ }
+{
+    let n = smaller(m.len(), second.len());
+    let r = restore(image, &mut second[..n], log);
+    let a = r.answer;
+    if is_accepted(a) {
+        block_forms::copy(m, 0, second, 0, n);
+    }
+    r
+}
