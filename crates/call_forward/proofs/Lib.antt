@@ -1,3 +1,4 @@
 pub mod Repeated
 pub mod Walking
 pub mod Listed
+pub mod Marked

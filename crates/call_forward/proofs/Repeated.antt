@@ -77,7 +77,7 @@ pub stored-start : (m : List ℕ) (qs : List LogRecord) → holdsStore m ≡ tru
 stored-start m qs h = record { size = refl; has-store = h; store = refl }
 
 -- the store in a memory left by a repeated record
-now-is : (m m' : List ℕ) (z : Store) → HoldsNow m m' z → (holdsStore m' ≡ true) × (storeNow m' ≡ z)
+pub now-is : (m m' : List ℕ) (z : Store) → HoldsNow m m' z → (holdsStore m' ≡ true) × (storeNow m' ≡ z)
 now-is m m' z h = let s = in-sound m' z (h .store) in (s .has-store, s .means)
 
 module _ {m₀ : List ℕ} {qs₀ : List LogRecord} {m : List ℕ} {r : LogRecord} {qs : List LogRecord} where

@@ -81,7 +81,7 @@ pub record Turn (log : List ℕ) (p size : ℕ) (e : Entry) (qs : List LogRecord
   pub payload : (k n : ℕ) → k ≡ p + min 8 size → n ≡ p + size - k → HasPayload what (take n (drop k log))
 
 -- a record that is read is what stands there
-entry-read : (xs : List ℕ) (r : LogRecord) → ended xs ≡ false → decodeRecord xs ≡ some r → entryIn xs ≡ entryAs r
+pub entry-read : (xs : List ℕ) (r : LogRecord) → ended xs ≡ false → decodeRecord xs ≡ some r → entryIn xs ≡ entryAs r
 unfolding entryIn entryOf if_then_else_
 entry-read xs r h d = rw (h, d)
 

@@ -79,6 +79,13 @@ pub record MayOpen (m log : List ℕ) (at n : ℕ) : Type 0 where
   pub few : n ≤ openLimit
   pub inside : 8 * at + (48 + 12 * n) ≤ 8 * length log
 
+-- how many transactions the mark that stands there carries
+unfoldable pub countIn : Entry → ℕ
+countIn End = 0
+countIn Malformed = 0
+countIn (Call c) = 0
+countIn (Mark l n) = n
+
 -- a memory that holds a store, and a mark and records behind it at byte `at` of a log
 pub record MayRepeatMarked (m log : List ℕ) (at : ℕ) : Type 0 where
   pub has-store : holdsStore m ≡ true

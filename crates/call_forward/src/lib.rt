@@ -20,7 +20,7 @@ ghost use Rattle.memory_layout.specs.Flat.{flatOf, Room};
 ghost use Rattle.memory_layout.specs.Store.{holdsStore, HoldsNow};
 ghost use Rattle.call_contracts.specs.Logged.{Forwards};
 ghost use Rattle.call_contracts.specs.declared.Answer.the-variants.{Refused};
-ghost use Rattle.call_forward.specs.Rolling.{isAccepted, storeNow, entryIs, OneRepeated, AllRepeated, recordsIn, MayRepeat, markedBy, MayOpen, MayRepeatMarked, SinceBy, AbortsFit, MayAbort, Aborted, RestoredBy};
+ghost use Rattle.call_forward.specs.Rolling.{isAccepted, storeNow, entryIs, OneRepeated, AllRepeated, recordsIn, MayRepeat, markedBy, MayOpen, countIn, MayRepeatMarked, SinceBy, AbortsFit, MayAbort, Aborted, RestoredBy};
 
 // At most this many transactions are open.
 const OPEN_LIMIT: usize = memory_layout::OPEN_LIMIT as usize;
@@ -155,14 +155,24 @@ fn open_marked(s: &mut [u8], log: &[u8], at: usize, n: usize) -> bool
     true
 }
 
+// How many transactions a mark carries.
+fn mark_count(e: Entry) -> usize
+    ensures { λ r. ⌜ r ≡ countIn e ⌝ }
+{
+    match e {
+        Entry::End => 0,
+        Entry::Malformed => 0,
+        Entry::Call(_) => 0,
+        Entry::Mark { level: _, count: n } => n,
+    }
+}
+
 // The opens of the mark at byte `at` of the log, and the records behind it.
 fn repeat_marked(s: &mut [u8], log: &[u8], at: usize) -> bool
     requires { ⌜ MayRepeatMarked (now s) (now log) at ⌝ }
     ensures { λ r. ⌜ AllRepeated (recordsIn (behindMark (readLog (drop at (now (log .entry)))))) (now (s .entry)) r (now (s .exit)) ⌝ }
 {
-    let Entry::Mark { level: _, count: n } = log_records::entry_at(log, at) else {
-        return false;
-    };
+    let n = mark_count(log_records::entry_at(log, at));
     if !open_marked(s, log, at, n) {
         return false;
     }
@@ -232,16 +242,25 @@ fn log_aborts(log: &mut [u8], end: usize, numbers: &[u32])
     }
 }
 
-// Aborts what is open, by rising number, and writes the aborts to the log, from its end on, with zeros behind them.
+// Aborts what is open, by rising number, and writes the aborts to the log, from its end on, with zeros behind them; each open transaction has a
+// place among the numbers.
+fn abort_listed(s: &mut [u8], log: &mut [u8], end: usize, numbers: &mut [u32])
+    requires { ⌜ MayAbort (now s) (now log) end (length (now numbers)) ⌝ }
+    ensures { λ _. ⌜ Aborted (now (s .entry)) (now (log .entry)) end (now (s .exit)) (now (log .exit)) ⌝ }
+{
+    engine_opens::sort_open(s, numbers);
+    abort_each(s, numbers);
+    log_records::clear(&mut log[end..]);
+    log_aborts(log, end, numbers);
+}
+
+// The same, with room for the numbers of n open transactions.
 fn abort_open(s: &mut [u8], log: &mut [u8], end: usize, n: usize)
     requires { ⌜ MayAbort (now s) (now log) end n ⌝ }
     ensures { λ _. ⌜ Aborted (now (s .entry)) (now (log .entry)) end (now (s .exit)) (now (log .exit)) ⌝ }
 {
     let mut numbers = [0u32; OPEN_LIMIT];
-    engine_opens::sort_open(s, &mut numbers[..n]);
-    abort_each(s, &numbers[..n]);
-    log_records::clear(&mut log[end..]);
-    log_aborts(log, end, &numbers[..n]);
+    abort_listed(s, log, end, &mut numbers[..n]);
 }
 
 // ---- roll-forward

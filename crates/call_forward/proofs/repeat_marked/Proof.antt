@@ -1,69 +1,50 @@
-use borrow.Author.Needs.{needs}
+-- `call_forward::repeat_marked` meets its contract: the mark's opens, then the records behind it.
+use Rattle.basics.proofs.Kit.{_≡_, sym, _∙_, not-true, not-false, ℕ, _≤_, length, needs, arith}
+use Rattle.block_forms.specs.Tuple.{AllBytes}
+use Rattle.block_forms.proofs.Spelled.{all-bytes}
+use Rattle.call_forward.proofs.Marked.{MarkHere, mark-here, marked-stop, marked-may, marked-then}
 use Rattle.call_forward.proofs.repeat_marked.Statement.{statement}
 use Rattle.call_forward.proofs.repeat_marked.Tie as tie
-use Rattle.call_forward.proofs.repeat_marked.Reads as reads
-use Rattle.call_forward.proofs.repeat_marked.Lts as lts
-use Rattle.call_forward.proofs.open_marked.Reads as open-marked-reads
-use Rattle.call_forward.proofs.repeat_from.Reads as repeat-from-reads
-use Rattle.log_records.proofs.entry_at.Reads as entry-at-reads
-use Rattle.log_records.proofs.mark_size.Reads as mark-size-reads
 
--- src/lib.rt:163:46
-entry-at-requires : tie.Need-entry-at-requires
-entry-at-requires c κs = search needs
+-- every element is a byte
+bytes : (p : tie.After-shared-slice-known) → AllBytes (p .before .before .args .log .now)
+bytes p = all-bytes (p .before .before .args .log .now) (λ j. omega (arith, p .shared-slice-known .given j))
 
--- src/lib.rt:163:40
-enum-known-n : tie.Need-enum-known-n
-enum-known-n c = search needs
+-- the mark that stands there
+here : (c : tie.After-mark-count) → let s = c .before .before .before .before in
+    MarkHere (s .args .s .now) (s .args .log .now) (s .args .at) (c .mark-count .result) (s .pre .transactions) (s .pre .records)
+here c =
+    let p = c .before in let p1 = p .before in let s = p1 .before .before in
+    mark-here (s .args .s .now) (s .args .log .now) (s .args .at) (bytes p1) (s .pre) (p .entry-at .ensures) (c .mark-count .ensures)
 
--- src/lib.rt:164:9
 returns : tie.Need-returns
-returns c = ?
+returns c =
+    let p3 = c .before .before .before in let p5 = p3 .before .before in let s = p5 .before .before .before .before in
+    marked-stop (s .args .s .now) (s .args .log .now) (s .args .at) _ _ _ (here p5) (p3 .open-marked .ensures) (not-true _ (c .if1 .taken))
 
--- src/lib.rt:166:9
-open-marked-requires : tie.Need-open-marked-requires
-open-marked-requires c κs = ?
-
--- src/lib.rt:167:9
-same-length : tie.Need-same-length
-same-length c = search needs
-
--- src/lib.rt:167:9
-returns-2 : tie.Need-returns-2
-returns-2 c = ?
-
--- src/lib.rt:169:30
 mark-size-requires : tie.Need-mark-size-requires
-mark-size-requires c κs = ?
+mark-size-requires c κs =
+    let p6 = c .before .before .before .before .before .before in
+    omega (arith, here p6 .opens .few)
 
--- src/lib.rt:169:25
 add-repeat-from : tie.Need-add-repeat-from
-add-repeat-from c = ?
+add-repeat-from c =
+    let p7 = c .before .before .before .before .before .before .before in
+    omega (arith, here p7 .inside, c .mark-size .ensures)
 
--- src/lib.rt:169:5
 repeat-from-requires : tie.Need-repeat-from-requires
-repeat-from-requires c κs = ?
+repeat-from-requires c κs =
+    let p2 = c .before .before in let p5 = p2 .before .before .before in let p7 = p5 .before .before in let s = p7 .before .before .before .before in
+    marked-may (s .args .s .now) (s .args .log .now) (s .args .at) _ _ _ (here p7) (p5 .open-marked .ensures) (not-false _ (p2 .if1 .left)) _ (c .mark-size .ensures)
 
--- src/lib.rt:159:1
-same-length-2 : tie.Need-same-length-2
-same-length-2 c = search needs
-
--- src/lib.rt:159:1
-returns-3 : tie.Need-returns-3
-returns-3 c = ?
+returns-2 : tie.Need-returns-2
+returns-2 c =
+    let p2 = c .before .before in let p3 = p2 .before in let p5 = p3 .before .before in let p8 = p5 .before .before .before in let p10 = p8 .before .before in
+    let s = p10 .before .before .before .before in
+    marked-then (s .args .s .now) (s .args .log .now) (s .args .at) _ _ _ (here p10) (p8 .open-marked .ensures) (not-false _ (p5 .if1 .left)) _ (p3 .mark-size .ensures)
+    (p2 .repeat-from .ensures)
 
 pub repeat-marked-spec : {M : Type 1} → statement M
 repeat-marked-spec =
     tie.close
-    (tie.spec
-    entry-at-requires
-    enum-known-n
-    returns
-    open-marked-requires
-    same-length
-    returns-2
-    mark-size-requires
-    add-repeat-from
-    repeat-from-requires
-    same-length-2
-    returns-3)
+    (tie.spec (λ c κs. search needs) (λ c κs. search needs) (λ c κs. here (c .before) .opens) (search needs) returns mark-size-requires add-repeat-from repeat-from-requires (search needs) returns-2)
