@@ -38,7 +38,7 @@ module _ (s₀ txs s : List ℕ) (i : ℕ) (a : Aborting s₀ txs s i) where
 
 -- ---- aborts, in a log
 
-end-aborts : (txs : List ℕ) → endOf (map abortedBy txs) ≡ 2 * length txs
+pub end-aborts : (txs : List ℕ) → endOf (map abortedBy txs) ≡ 2 * length txs
 unfolding endOf sum logSize logFields shortFields
 end-aborts [] = refl
 end-aborts (tx ∷ txs) = omega (arith, end-aborts txs)

@@ -19,7 +19,7 @@ use Rattle.model.specs.State as model
 
 -- ---- one record
 
-accepts : (r : Answer) (bs : List ℕ) → isAccepted r ≡ accepted (meaning r bs)
+pub accepts : (r : Answer) (bs : List ℕ) → isAccepted r ≡ accepted (meaning r bs)
 unfolding isAccepted accepted
 accepts Done bs = refl
 accepts (Count n) bs = refl

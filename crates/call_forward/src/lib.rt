@@ -282,14 +282,13 @@ fn restore(image: &[u8], s: &mut [u8], log: &mut [u8]) -> Logged
         return refused(v);
     }
     let n = open_count(s);
-    let end = whole.end + ABORT_SIZE * n;
-    if log.len() < end {
+    if log.len() - whole.end < ABORT_SIZE * n {
         return refused(29);
     }
     abort_open(s, log, whole.end, n);
     Logged {
         answer: Answer::Done,
-        end: big(end),
+        end: big(whole.end + ABORT_SIZE * n),
     }
 }
 

@@ -1,69 +1,38 @@
-use borrow.Author.Needs.{needs}
+-- `call_forward::abort_listed` meets its contract: the numbers sorted, each aborted, and the aborts over zeros.
+use Rattle.basics.proofs.Kit.{_≡_, refl, _∙_, _++_, ℕ, _<_, _-_, length, take, drop, getD, needs, arith}
+use Rattle.memory_layout.proofs.Laws.{holds-room}
+use Rattle.log_model.specs.RollForward.{zeroedFrom}
+use Rattle.call_forward.proofs.Ending.{cleared, aborts-fit, all-aborted}
 use Rattle.call_forward.proofs.abort_listed.Statement.{statement}
 use Rattle.call_forward.proofs.abort_listed.Tie as tie
-use Rattle.call_forward.proofs.abort_listed.Reads as reads
-use Rattle.call_forward.proofs.abort_listed.Lts as lts
-use Rattle.call_forward.proofs.abort_each.Reads as abort-each-reads
-use Rattle.call_forward.proofs.log_aborts.Reads as log-aborts-reads
-use Rattle.engine_opens.proofs.sort_open.Reads as sort-open-reads
-use Rattle.log_records.proofs.clear.Reads as clear-reads
 
--- src/lib.rt:251:5
 sort-open-requires : tie.Need-sort-open-requires
-sort-open-requires c κs = ?
+sort-open-requires c κs =
+    let s = c .before .before .before .before .before in
+    record { room = holds-room _ (s .pre .has-store); count = s .pre .count }
 
--- src/lib.rt:252:5
-abort-each-requires : tie.Need-abort-each-requires
-abort-each-requires c κs = search needs
+abbrev began : tie.After-clear → tie.Start
+began c = c .before .before .before .before .before .before .before .before .before .before .before .before .before .before .before
 
--- src/lib.rt:253:24
-sub-clear : tie.Need-sub-clear
-sub-clear c = search needs
+-- the log, zeroed from its end on
+zeroed : (c : tie.After-clear) → let s = began c in let log = s .args .log .now in
+    take (s .args .end) log ++ (c .clear .last .0 ++ drop (length log - s .args .end) (drop (s .args .end) log)) ≡ zeroedFrom (s .args .end) log
+zeroed c = let s = began c in cleared (s .args .log .now) (c .clear .last .0) (s .args .end) _ (omega (arith, s .pre .room)) refl (c .clear .ensures)
 
--- src/lib.rt:253:24
-part-clear-start : tie.Need-part-clear-start
-part-clear-start c = search needs
-
--- src/lib.rt:253:24
-part-clear-end : tie.Need-part-clear-end
-part-clear-end c = search needs
-
--- src/lib.rt:253:5
-clear-requires : tie.Need-clear-requires
-clear-requires c κs = search needs
-
--- src/lib.rt:254:5
 log-aborts-requires : tie.Need-log-aborts-requires
-log-aborts-requires c κs = ?
+log-aborts-requires c κs =
+    let p4 = c .before .before .before .before in let p13 = p4 .before .before .before .before .before .before .before .before .before in
+    let p18 = p13 .before .before .before .before .before in let s = began p4 in
+    aborts-fit (s .args .s .now) (s .args .log .now) (s .args .end) _ (s .pre) _ (p13 .sort-open .ensures) _ (zeroed p4) (λ j. omega (arith, p18 .slice-known .given j))
 
--- src/lib.rt:247:1
-same-length : tie.Need-same-length
-same-length c = search needs
-
--- src/lib.rt:247:1
-same-length-2 : tie.Need-same-length-2
-same-length-2 c = search needs
-
--- src/lib.rt:247:1
-same-length-3 : tie.Need-same-length-3
-same-length-3 c = search needs
-
--- src/lib.rt:247:1
 returns : tie.Need-returns
-returns c = ?
+returns c =
+    let p2 = c .before .before in let p7 = p2 .before .before .before .before .before in let p11 = p7 .before .before .before .before in
+    let p16 = p11 .before .before .before .before .before in let s = began p7 in
+    all-aborted (s .args .s .now) (s .args .log .now) (s .args .end) _ (s .pre) _ (p16 .sort-open .ensures) _ (zeroed p7) _ _ (p11 .abort-each .ensures) (p2 .log-aborts .ensures)
 
 pub abort-listed-spec : {M : Type 1} → statement M
 abort-listed-spec =
     tie.close
-    (tie.spec
-    sort-open-requires
-    abort-each-requires
-    sub-clear
-    part-clear-start
-    part-clear-end
-    clear-requires
-    log-aborts-requires
-    same-length
-    same-length-2
-    same-length-3
-    returns)
+    (tie.spec sort-open-requires (λ c κs. search needs) (search needs) (search needs) (search needs) (λ c κs. search needs) log-aborts-requires (search needs) (search needs)
+    (search needs) returns)
