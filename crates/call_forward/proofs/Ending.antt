@@ -43,12 +43,11 @@ module _ (m : List ℕ) (b : (j : ℕ) → getD m j 0 < 256) where
 
 -- ---- the log
 
--- bytes of zeros in the place of all behind e
-pub cleared : (log zs : List ℕ) (e k : ℕ) → e ≤ length log → k ≡ length log - e → zs ≡ zeros (length (take k (drop e log))) → take e log ++ (zs ++ drop k (drop e log)) ≡ zeroedFrom e log
+-- n zeros in the place of all bytes behind e
+pub cleared : (log zs : List ℕ) (e n : ℕ) → e ≤ length log → zs ≡ zeros n → n ≡ length log - e → take e log ++ (zs ++ drop (length log - e) (drop e log)) ≡ zeroedFrom e log
 unfolding zeroedFrom
-cleared log zs e k h q z =
-    let l : length (take k (drop e log)) ≡ length log - e = length-part k e log (omega arith) ∙ q in
-    let long : length (drop e log) ≤ k = omega (arith, length-drop e log) in
+cleared log zs e n h z l =
+    let long : length (drop e log) ≤ length log - e = omega (arith, length-drop e log) in
     ap (λ v. take e log ++ (zs ++ v)) (drop-of-length-le (drop e log) long) ∙ ap (λ v. take e log ++ v) (append-nil zs ∙ z ∙ ap zeros l)
 
 length-cleared : (log : List ℕ) (e : ℕ) → e ≤ length log → length (zeroedFrom e log) ≡ length log

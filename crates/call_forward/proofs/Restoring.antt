@@ -158,8 +158,7 @@ module _ (log s s1 s2 : List ℕ) (st : Stage Store) (b : Began st s s1) (e : �
         pub restored : (s3 log3 : List ℕ) → Aborted s2 log e s3 log3 → {v : ℕ} → v ≡ e + 2 * n → RestoredBy (forwardBelow log st) s log (record { answer = Done; end = v }) s3 log3
         unfolding RestoredBy withAborts
         restored s3 log3 a {v} q =
-            subst (λ y. RestoredBy y s log (record { answer = Done; end = v }) s3 log3) (sym ended)
-            (
+            subst (λ y. RestoredBy y s log (record { answer = Done; end = v }) s3 log3) (sym ended) (
               refl,
               q ∙ sym ends,
               record { size = a .memory .size ∙ went .2; store = a .memory .store },

@@ -232,8 +232,9 @@ fn log_aborts(log: &mut [u8], end: usize, numbers: &[u32])
     requires { ⌜ AbortsFit (now log) end (now numbers) ⌝ }
     ensures { λ _. ⌜ now (log .exit) ≡ over (now (log .entry)) end (encodeRecords (map abortedBy (now (numbers .entry)))) ⌝ }
 {
+    let count = numbers.len();
     let mut i: usize = 0;
-    while i < numbers.len() {
+    while i < count {
         let c = Change::Abort {
             transaction: numbers[i],
         };
@@ -250,7 +251,8 @@ fn abort_listed(s: &mut [u8], log: &mut [u8], end: usize, numbers: &mut [u32])
 {
     engine_opens::sort_open(s, numbers);
     abort_each(s, numbers);
-    log_records::clear(&mut log[end..]);
+    let len = log.len();
+    log_records::clear(&mut log[end..len]);
     log_aborts(log, end, numbers);
 }
 

@@ -1,5 +1,5 @@
 -- `call_forward::abort_listed` meets its contract: the numbers sorted, each aborted, and the aborts over zeros.
-use Rattle.basics.proofs.Kit.{_≡_, refl, _∙_, _++_, ℕ, _<_, _-_, length, take, drop, getD, needs, arith}
+use Rattle.basics.proofs.Kit.{_≡_, _++_, _-_, length, take, drop, length-take, length-drop, needs, arith}
 use Rattle.memory_layout.proofs.Laws.{holds-room}
 use Rattle.log_model.specs.RollForward.{zeroedFrom}
 use Rattle.call_forward.proofs.Ending.{cleared, aborts-fit, all-aborted}
@@ -17,7 +17,12 @@ began c = c .before .before .before .before .before .before .before .before .bef
 -- the log, zeroed from its end on
 zeroed : (c : tie.After-clear) → let s = began c in let log = s .args .log .now in
     take (s .args .end) log ++ (c .clear .last .0 ++ drop (length log - s .args .end) (drop (s .args .end) log)) ≡ zeroedFrom (s .args .end) log
-zeroed c = let s = began c in cleared (s .args .log .now) (c .clear .last .0) (s .args .end) _ (omega (arith, s .pre .room)) refl (c .clear .ensures)
+zeroed c =
+    let s = began c in
+    let log = s .args .log .now in
+    let e = s .args .end in
+    cleared log (c .clear .last .0) e (length (take (length log - e) (drop e log))) (omega (arith, s .pre .room)) (c .clear .ensures)
+    (simp (length-take, length-drop) (omega (arith, s .pre .room)))
 
 log-aborts-requires : tie.Need-log-aborts-requires
 log-aborts-requires c κs =

@@ -16,7 +16,7 @@ loop-holds c = let s = c .before .before in opening-start (s .args .s .now) (s .
 mark-transaction-requires : tie.Need-mark-transaction-requires Inv-loop μ-loop
 mark-transaction-requires c κs =
     let l = c .before in let s = l .before .before .before in
-    opening-mark (s .args .s .now) (s .args .log .now) (s .args .at) (s .args .n) (l .loop .i) (s .pre) (c .loop-test .taken)
+    opening-mark (s .args .s .now) (s .args .log .now) (s .args .at) (s .args .n) (l .loop .i) (s .pre) (omega (arith, c .loop-test .taken))
 
 repeat-requires : tie.Need-repeat-requires Inv-loop μ-loop
 repeat-requires c κs = c .before .before .before .before .loop .inv .1 .stored .has-store
@@ -29,7 +29,7 @@ same-length c =
 returns : tie.Need-returns Inv-loop μ-loop
 returns c =
     let p3 = c .before .before .before in let p6 = p3 .before .before .before in let t = p6 .before in let l = t .before in let s = l .before .before .before in
-    opening-stop (s .args .s .now) (s .args .log .now) (s .args .at) (s .args .n) (l .loop .s) (l .loop .i) (l .loop .inv) (t .loop-test .taken) _ (p6 .mark-transaction .ensures)
+    opening-stop (s .args .s .now) (s .args .log .now) (s .args .at) (s .args .n) (l .loop .s) (l .loop .i) (l .loop .inv) (omega (arith, t .loop-test .taken)) _ (p6 .mark-transaction .ensures)
     (p3 .repeat .ensures) (not-true _ (c .if1 .taken))
 
 add-i : tie.Need-add-i Inv-loop μ-loop
@@ -43,13 +43,13 @@ loop-less c = let t = c .before .before .before .before .before .before .before 
 loop-again : tie.Need-loop-again Inv-loop μ-loop
 loop-again c =
     let p3 = c .before .before .before in let p6 = p3 .before .before .before in let t = p6 .before in let l = t .before in let s = l .before .before .before in
-    opening-next (s .args .s .now) (s .args .log .now) (s .args .at) (s .args .n) (l .loop .s) (l .loop .i) (l .loop .inv) (t .loop-test .taken) _ (p6 .mark-transaction .ensures)
+    opening-next (s .args .s .now) (s .args .log .now) (s .args .at) (s .args .n) (l .loop .s) (l .loop .i) (l .loop .inv) (omega (arith, t .loop-test .taken)) _ (p6 .mark-transaction .ensures)
     (p3 .repeat .ensures) (not-false _ (c .if1 .left))
 
 returns-2 : tie.Need-returns-2 Inv-loop μ-loop
 returns-2 c =
     let l = c .before in let s = l .before .before .before in
-    opening-end (s .args .s .now) (s .args .log .now) (s .args .at) (s .args .n) (l .loop .s) (l .loop .i) (l .loop .inv) (c .loop-test .left)
+    opening-end (s .args .s .now) (s .args .log .now) (s .args .at) (s .args .n) (l .loop .s) (l .loop .i) (l .loop .inv) (omega (arith, c .loop-test .left))
 
 pub open-marked-spec : {M : Type 1} → statement M
 open-marked-spec =

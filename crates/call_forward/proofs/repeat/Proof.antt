@@ -49,32 +49,32 @@ module _ (m : List ℕ) (h : holdsStore m ≡ true) (r : Answer) {ok : Bool} {m'
 
 returns : tie.Need-returns
 returns c =
-    let p3 = c .before .before .before in let p4 = p3 .before in let p7 = p4 .before .before .before in let s = p7 .before .before .before .before in 
+    let p3 = c .before .before .before in let p4 = p3 .before in let p7 = p4 .before .before .before in let s = p7 .before .before .before .before in
     of _ (p7 .c .given .1) (open-is (s .args .s .now) (s .pre) _ _ (c .is-accepted .ensures) _ _ (p4 .wide .ensures) (p3 .«open» .ensures))
 
 returns-2 : tie.Need-returns-2
 returns-2 c =
-    let p3 = c .before .before .before in let p4 = p3 .before in let p5 = p4 .before in let p8 = p5 .before .before .before in let s = p8 .before .before .before .before in 
+    let p3 = c .before .before .before in let p4 = p3 .before in let p5 = p4 .before in let p8 = p5 .before .before .before in let s = p8 .before .before .before .before in
     of _ (p8 .c2 .given .1) (insert-is (s .args .s .now) (s .pre) _ _ (c .is-accepted2 .ensures) _ _ _ _ _ _ (p5 .wide2 .ensures) (p4 .wide3 .ensures) (p3 .insert .ensures))
 
 returns-3 : tie.Need-returns-3
 returns-3 c =
-    let p3 = c .before .before .before in let p4 = p3 .before in let p5 = p4 .before in let p8 = p5 .before .before .before in let s = p8 .before .before .before .before in 
+    let p3 = c .before .before .before in let p4 = p3 .before in let p5 = p4 .before in let p8 = p5 .before .before .before in let s = p8 .before .before .before .before in
     of _ (p8 .c3 .given .1) (replace-is (s .args .s .now) (s .pre) _ _ (c .is-accepted3 .ensures) _ _ _ _ _ _ (p5 .wide4 .ensures) (p4 .wide5 .ensures) (p3 .replace .ensures))
 
 returns-4 : tie.Need-returns-4
 returns-4 c =
-    let p3 = c .before .before .before in let p4 = p3 .before in let p5 = p4 .before in let p8 = p5 .before .before .before in let s = p8 .before .before .before .before in 
+    let p3 = c .before .before .before in let p4 = p3 .before in let p5 = p4 .before in let p8 = p5 .before .before .before in let s = p8 .before .before .before .before in
     of _ (p8 .c4 .given .1) (delete-is (s .args .s .now) (s .pre) _ _ (c .is-accepted4 .ensures) _ _ _ _ _ (p5 .wide6 .ensures) (p4 .wide7 .ensures) (p3 .delete .ensures))
 
 returns-5 : tie.Need-returns-5
 returns-5 c =
-    let p3 = c .before .before .before in let p4 = p3 .before in let p7 = p4 .before .before .before in let s = p7 .before .before .before .before in 
+    let p3 = c .before .before .before in let p4 = p3 .before in let p7 = p4 .before .before .before in let s = p7 .before .before .before .before in
     of _ (p7 .c5 .given .1) (commit-is (s .args .s .now) (s .pre) _ _ (c .is-accepted5 .ensures) _ _ (p4 .wide8 .ensures) (p3 .commit .ensures))
 
 returns-6 : tie.Need-returns-6
 returns-6 c =
-    let p3 = c .before .before .before in let p4 = p3 .before in let p7 = p4 .before .before .before in let s = p7 .before .before .before .before in 
+    let p3 = c .before .before .before in let p4 = p3 .before in let p7 = p4 .before .before .before in let s = p7 .before .before .before .before in
     of _ (p7 .c6 .given .1) (abort-is (s .args .s .now) (s .pre) _ _ (c .is-accepted6 .ensures) _ _ (p4 .wide9 .ensures) (p3 .abort .ensures))
 
 pub repeat-spec : {M : Type 1} → statement M
