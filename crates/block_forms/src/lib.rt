@@ -10,7 +10,7 @@ ghost use Rattle.block_forms.specs.Decode.{read_owner, read_mark};
 ghost use Rattle.block_forms.specs.Bytes.{owner_is, owner_as, flags_of, owner_word, Appendable, Appended, PageStart, part_page};
 
 // A header block's fields.
-#[derive(Drop)]
+#[derive(Clone, Copy)]
 pub struct Header {
     pub blocks: u32,
     pub capacity: u32,
@@ -25,14 +25,14 @@ pub struct Header {
 }
 
 // Who owns a tuple: the committed mark, or its transaction and statement.
-#[derive(Drop)]
+#[derive(Clone, Copy)]
 pub enum Owner {
     Committed,
     Tentative { transaction: u32, statement: u32 },
 }
 
 // A tuple whose payload stands in a block or in any other slice, from start on.
-#[derive(Drop)]
+#[derive(Clone, Copy)]
 pub struct Record {
     pub key: u32,
     pub number: u32,
@@ -52,7 +52,7 @@ pub const BLOCK_LIMIT: usize = 4096;
 pub const ENTRIES_PER_BLOCK: usize = 336;
 
 // The layout of a page: its numbers, and what a record takes of it.
-#[derive(Drop)]
+#[derive(Clone, Copy)]
 pub struct PageLayout {}
 
 impl PageLayout {

@@ -12,20 +12,20 @@ use block_forms::{Header, PageLayout, Record};
 const LAST_RECORD: usize = block_forms::BLOCK_SIZE - PageLayout::RECORD_HEAD;
 
 // A place in a page's block, before a record.
-#[derive(Drop)]
+#[derive(Clone, Copy)]
 pub struct Cursor {
     pub at: usize,
 }
 
 // What stands at a cursor.
-#[derive(Drop)]
+#[derive(Clone, Copy)]
 pub enum Next {
     Found(Record, Cursor),
     Bad,
 }
 
 // What a block is. A page's tuples and a directory's entries stay in the block.
-#[derive(Drop)]
+#[derive(Clone, Copy)]
 pub enum Reading {
     IsHeader(Header),
     IsPage { table: u32, count: u32, level: u32 },

@@ -11,7 +11,7 @@ const ROW_LIMIT: usize = 32;
 const ROW_SIZE: usize = 4;
 
 // A row: open from minute `start` of the week on, for `length` minutes, past Sunday into Monday if they reach so far.
-#[derive(Drop)]
+#[derive(Clone, Copy)]
 pub struct Hours {
     pub start: u32,
     pub length: u32,

@@ -3,7 +3,7 @@ ghost use Rattle.std.specs.Prelude.{◌≡◌};
 ghost use Rattle.call_contracts.specs.Shape.{is_accepted};
 
 // Done; a count; how many a filled reply has; a refusal's number.
-#[derive(Drop)]
+#[derive(Clone, Copy)]
 pub enum Answer {
     Done,
     Count(u64),
@@ -23,7 +23,7 @@ pub fn is_accepted(a: Answer) -> bool
 }
 
 // What a logged call answers: the call's answer, and where the log then ends.
-#[derive(Drop)]
+#[derive(Clone, Copy)]
 pub struct Logged {
     pub answer: Answer,
     pub end: u64,

@@ -11,7 +11,7 @@ ghost use Rattle.engine_allocator.specs.Blocks.{BlockRange, free_from, allocator
 
 // The block last taken, after which the next search starts, and how many blocks the running checkpoint has still to take: one for
 // each frozen page and for each directory block to come. The header takes none.
-#[derive(Drop)]
+#[derive(Clone, Copy)]
 pub struct Allocator {
     pub taken: u32,
     pub left: u64,

@@ -15,7 +15,7 @@ use memory_rows::Pending;
 
 // What there is of a key. foreign: a version of another open transaction; own: 1 + the row of the last own version, 0 if there is
 // none; committed: 1 + the row of the first committed version, 0 if there is none.
-#[derive(Drop)]
+#[derive(Clone, Copy)]
 pub struct Visibility {
     pub foreign: bool,
     pub own: usize,
@@ -23,21 +23,21 @@ pub struct Visibility {
 }
 
 // The row of the version that is seen.
-#[derive(Drop)]
+#[derive(Clone, Copy)]
 pub enum Seen {
     At(usize),
     Nothing,
 }
 
 // What there is of a key, and the row before which a new tuple with this key goes.
-#[derive(Drop)]
+#[derive(Clone, Copy)]
 pub struct Spot {
     pub visibility: Visibility,
     pub at: usize,
 }
 
 // The rows from start up to, not including, end.
-#[derive(Drop)]
+#[derive(Clone, Copy)]
 struct Range {
     start: usize,
     end: usize,

@@ -57,7 +57,7 @@ pub fn small_enough(m: &[u8], s: usize, e: usize) -> bool
 }
 
 // The first part of rows that are split: how many they are, and their size.
-#[derive(Drop)]
+#[derive(Clone, Copy)]
 pub struct FirstPart {
     pub count: usize,
     pub size: usize,

@@ -103,7 +103,7 @@ fn record_at(m: &[u8], i: usize) -> block_forms::Record
 }
 
 // What a page shows: how many tuples, and how many bytes their records take.
-#[derive(Drop)]
+#[derive(Clone, Copy)]
 struct Shown {
     count: u32,
     bytes: usize,

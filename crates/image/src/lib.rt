@@ -11,7 +11,7 @@ ghost use Rattle.image.specs.Whole.{header_stage, pages_stage, read_image};
 ghost use Rattle.image.specs.Answers.{Filled, Testable, accepts, no_entries, header_answer, pages_answer, image_answer};
 
 // A header, or the refusal's number.
-#[derive(Drop)]
+#[derive(Clone, Copy)]
 pub enum HeaderTest {
     Passed(block_forms::Header),
     Refused(u64),

@@ -15,7 +15,7 @@ use block_forms::{Owner, PageLayout, Record};
 use block_reader::{Cursor, Next, Reading};
 
 // A page that may stand in an image.
-#[derive(Drop)]
+#[derive(Clone, Copy)]
 pub enum GoodPage {
     Good { table: u32, count: u32 },
     Bad,

@@ -14,7 +14,7 @@ ghost use Rattle.log_records.specs.Entries.{ChangePart, ShortPart, PlacePart, Tu
 use block_forms::PageLayout;
 
 // What a call changed. The payload of an insert or a replace, of len bytes, stands beside it.
-#[derive(Drop)]
+#[derive(Clone, Copy)]
 pub enum Change {
     Open {
         transaction: u32,
@@ -45,7 +45,7 @@ pub enum Change {
 }
 
 // What stands somewhere in a log: its end, bytes that are no record, a call's record, or a mark with a count of transactions.
-#[derive(Drop)]
+#[derive(Clone, Copy)]
 pub enum Entry {
     End,
     Malformed,
@@ -54,14 +54,14 @@ pub enum Entry {
 }
 
 // Whether a log is whole, and where its records end.
-#[derive(Drop)]
+#[derive(Clone, Copy)]
 pub struct LogEnd {
     pub whole: bool,
     pub end: usize,
 }
 
 // Whether a mark was found, and where it stands.
-#[derive(Drop)]
+#[derive(Clone, Copy)]
 pub struct MarkPlace {
     pub found: bool,
     pub at: usize,

@@ -12,7 +12,7 @@ ghost use Rattle.basics.specs.Basics.{any, how_many, paired};
 pub const SLOT_LIMIT: u16 = 1024;
 
 // The indices from first up to, not including, last.
-#[derive(Drop)]
+#[derive(Clone, Copy)]
 pub struct Span {
     pub first: usize,
     pub last: usize,

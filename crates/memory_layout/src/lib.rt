@@ -42,7 +42,7 @@ const DIRECTORY_LIMIT: u32 = 4;
 const ENTRY_BLOCKS: u16 = block_forms::BLOCK_LIMIT as u16;
 
 // The numbers of the head that are no counts. begun: the next number at begin; taken: the block last taken.
-#[derive(Drop)]
+#[derive(Clone, Copy)]
 pub struct Head {
     pub capacity: u32,
     pub blocks: u32,
@@ -54,7 +54,7 @@ pub struct Head {
 }
 
 // How many rows, pages, open transactions, directory entries and directory blocks written there are.
-#[derive(Drop)]
+#[derive(Clone, Copy)]
 pub struct Counts {
     pub rows: u32,
     pub pages: u16,
@@ -64,7 +64,7 @@ pub struct Counts {
 }
 
 // A page: its table, how many rows it has, its block, 0 if it is dirty.
-#[derive(Drop)]
+#[derive(Clone, Copy)]
 pub struct Entry {
     pub table: u8,
     pub frozen: bool,
@@ -73,7 +73,7 @@ pub struct Entry {
 }
 
 // An open transaction, and how many tuples it has written.
-#[derive(Drop)]
+#[derive(Clone, Copy)]
 pub struct Open {
     pub transaction: u32,
     pub written: u32,

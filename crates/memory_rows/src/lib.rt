@@ -43,7 +43,7 @@ const REMOVING: u16 = 3;
 const COMMITTED: u8 = block_forms::COMMITTED;
 
 // What a checkpoint will do to a row of a frozen page.
-#[derive(Drop)]
+#[derive(Clone, Copy)]
 pub enum Pending {
     Nothing,
     Adding,
@@ -52,7 +52,7 @@ pub enum Pending {
 }
 
 // A row but for its payload.
-#[derive(Drop)]
+#[derive(Clone, Copy)]
 pub struct Row {
     pub key: u32,
     pub number: u32,
@@ -62,7 +62,7 @@ pub struct Row {
 }
 
 // A part of the memory.
-#[derive(Drop)]
+#[derive(Clone, Copy)]
 pub struct Part {
     pub start: usize,
     pub len: usize,

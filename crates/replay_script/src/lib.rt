@@ -14,28 +14,28 @@ pub const HOURS_ROOM: usize = 160;
 
 // ---- what a line says
 
-#[derive(Drop)]
+#[derive(Clone, Copy)]
 pub enum Number {
     Is(u64),
     Bad,
 }
 
 // The tuple that a call is about.
-#[derive(Drop)]
+#[derive(Clone, Copy)]
 pub struct Target {
     pub transaction: u64,
     pub table: u64,
     pub key: u32,
 }
 
-#[derive(Drop)]
+#[derive(Clone, Copy)]
 enum Aim {
     At(Target),
     Bad,
 }
 
 // The minutes of a table, from first up to, not including, end, that a call asks about.
-#[derive(Drop)]
+#[derive(Clone, Copy)]
 pub struct Interval {
     pub transaction: u64,
     pub table: u64,
@@ -44,14 +44,14 @@ pub struct Interval {
 }
 
 // How much of the image a call that stores blocks has: what is lent already, or so many bytes of it.
-#[derive(Drop)]
+#[derive(Clone, Copy)]
 pub enum Extent {
     Lent,
     Bytes(u64),
 }
 
 // What a line lends to the lines after it: image and memory of a call that fills the memory, or nothing. Any other line leaves what is lent.
-#[derive(Drop)]
+#[derive(Clone, Copy)]
 pub enum Start {
     Make {
         bytes: u64,
@@ -73,7 +73,7 @@ pub enum Start {
 
 // Insert and replace have their payload's length, a checked insert also that of the opening hours; read, crossing and list the room for their
 // reply. Fill, show and digest are no calls of the store's: they write and show what is lent to it.
-#[derive(Drop)]
+#[derive(Clone, Copy)]
 pub enum Call {
     Open(u64),
     Commit(u64),

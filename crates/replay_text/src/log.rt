@@ -5,7 +5,7 @@ use replay_script::words::{arguments, bytes_of, named, number_at, word};
 
 // What a line does with the log: a new one of so many bytes; the end that the next logged call takes; a place and how many bytes are overwritten, or
 // printed, from there on; its digest; or the logged call that the rest of the line says.
-#[derive(Drop)]
+#[derive(Clone, Copy)]
 pub enum Line {
     Start(u64),
     End(u64),

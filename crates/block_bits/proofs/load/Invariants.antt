@@ -1,0 +1,10 @@
+use Rattle.basics.proofs.Kit.{◌≡◌, refl, ◌+◌, ◌*◌, ◌^◌, ◌≤◌, ◌<◌, ◌-◌, lit<, get_or, arith}
+use Rattle.block_bits.specs.Bits.{field, number, bits_in}
+use Rattle.block_bits.proofs.Window.{load_iteration, load_lt, load_fits}
+use Rattle.block_bits.proofs.load.Given as goal
+
+abbrev pub invariant-loop-i : goal.invariant-loop-i
+invariant-loop-i l = (l.i ≤ l.n) × (l.acc ≡ field (bits_in l.block) (8 * l.p) (8 * l.i)) × (l.acc < 2 ^ (8 * l.i))
+
+abbrev pub decreases-loop-i : goal.decreases-loop-i
+decreases-loop-i l = l.n - l.i

@@ -1,0 +1,12 @@
+use Rattle.basics.proofs.Kit.{◌≡◌, ap, ℕ, ◌≤◌, ◌<◌, ◌-◌, length, take, get_or, arith}
+use Rattle.block_bits.specs.Bits.{bits_in}
+use Rattle.block_forms.specs.Limits.{entries_per_block, block_size}
+use Rattle.block_forms.specs.Spell.{padded}
+use Rattle.block_forms.proofs.Entries.{dir_bits, head_filled, entry_filled, dir_done}
+use Rattle.block_forms.proofs.spell_directory.Given as goal
+
+abbrev pub invariant-loop-i : goal.invariant-loop-i
+invariant-loop-i l = (l.i ≤ l.count) × ((length l.block ≡ block_size) × (((j : ℕ) → get_or l.block j 0 < 256) × (bits_in l.block ≡ padded (dir_bits l.level l.count (take l.i l.entries)))))
+
+abbrev pub decreases-loop-i : goal.decreases-loop-i
+decreases-loop-i l = l.count - l.i

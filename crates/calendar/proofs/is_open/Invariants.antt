@@ -1,0 +1,13 @@
+use Rattle.basics.proofs.Kit.{sym, ◌∙◌, length, ◌-◌, arith}
+use Rattle.basics.specs.Basics.{any, all}
+use Rattle.basics.proofs.Iterations.{any_yes, any_not, all_yes}
+use Rattle.calendar.specs.Calendar.{in_range, covers}
+use Rattle.calendar.proofs.Edges.{open_here}
+use Rattle.calendar.proofs.Rows.{parts, Walk, walk_start, walk_next, walk_end, row_ranged}
+use Rattle.calendar.proofs.is_open.Given as goal
+
+abbrev pub invariant-loop-at : goal.invariant-loop-at
+invariant-loop-at l = Walk (any (covers l.minute)) l.hours l.at × Walk (all in_range) l.hours l.at
+
+abbrev pub decreases-loop-at : goal.decreases-loop-at
+decreases-loop-at l = length l.hours - l.at

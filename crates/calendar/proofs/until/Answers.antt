@@ -1,0 +1,12 @@
+-- `calendar::until` meets its contract: where b is before a, a week is added.
+use Rattle.basics.proofs.Kit.{rules, arith}
+use Rattle.calendar.specs.Calendar.{until}
+use Rattle.calendar.proofs.until.Goals as goal
+
+pub returns-then-b-a : goal.returns-then-b-a
+unfolding until
+returns-then-b-a c = omega arith
+
+pub returns : goal.returns
+unfolding until
+returns c = omega arith

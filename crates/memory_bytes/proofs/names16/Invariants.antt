@@ -1,0 +1,14 @@
+use Rattle.memory_bytes.proofs.Scans.{any_group2}
+use Rattle.basics.proofs.Searches.{any_start, any_hit, any_pass}
+use Rattle.memory_bytes.specs.Columns.{names}
+use Rattle.basics.specs.Lists.{tab}
+use Rattle.memory_bytes.specs.Bytes.{column2}
+use Rattle.basics.specs.Basics.{any}
+use Rattle.basics.proofs.Kit.{◌≡◌, sym, ◌∙◌, ◌≤◌, ◌-◌, arith}
+use Rattle.memory_bytes.proofs.names16.Given as goal
+
+abbrev pub invariant-loop-i : goal.invariant-loop-i
+invariant-loop-i l = (l.i ≤ l.n) × (any (names l.s) (tab (column2 l.m l.base) 0 l.n) ≡ any (names l.s) (tab (column2 l.m l.base) l.i (l.n - l.i)))
+
+abbrev pub decreases-loop-i : goal.decreases-loop-i
+decreases-loop-i l = l.n - l.i

@@ -1,0 +1,11 @@
+use Rattle.memory_bytes.proofs.Scans.{AnyFrom, any_starts, any_iterates, any_ends}
+use Rattle.memory_bytes.specs.Columns.{at_least}
+use Rattle.memory_bytes.specs.Bytes.{column4}
+use Rattle.basics.proofs.Kit.{◌-◌, arith}
+use Rattle.memory_bytes.proofs.search.any_from.Given as goal
+
+abbrev pub invariant-loop-j : goal.invariant-loop-j
+invariant-loop-j l = AnyFrom (at_least l.key) (column4 l.m l.at) 0 16 l.hit l.j
+
+abbrev pub decreases-loop-j : goal.decreases-loop-j
+decreases-loop-j l = 16 - l.j

@@ -1,0 +1,19 @@
+use Rattle.memory_bytes.proofs.Scans.{any_group4}
+use Rattle.basics.proofs.Searches.{first_skip, first_pass, first_hit, first_end}
+use Rattle.memory_bytes.specs.Columns.{equals}
+use Rattle.basics.specs.Lists.{tab, first_index}
+use Rattle.memory_bytes.specs.Bytes.{column4}
+use Rattle.basics.proofs.Kit.{◌≡◌, refl, ◌+◌, ◌≤◌, ◌-◌, eq-eqb, ne_eqb, arith}
+use Rattle.memory_bytes.proofs.search.find_equal.Given as goal
+
+abbrev pub invariant-loop-k : goal.invariant-loop-k
+invariant-loop-k l = (l.k ≤ l.n) × (l.i + first_index (equals l.key) (tab (column4 l.m l.base) l.i (l.n - l.i)) ≡ l.k + first_index (equals l.key) (tab (column4 l.m l.base) l.k (l.n - l.k)))
+
+abbrev pub decreases-loop-k : goal.decreases-loop-k
+decreases-loop-k l = l.n - l.k
+
+abbrev pub invariant-loop-k-2 : goal.invariant-loop-k-2
+invariant-loop-k-2 l = (l.k ≤ l.n) × (l.i + first_index (equals l.key) (tab (column4 l.m l.base) l.i (l.n - l.i)) ≡ l.k + first_index (equals l.key) (tab (column4 l.m l.base) l.k (l.n - l.k)))
+
+abbrev pub decreases-loop-k-2 : goal.decreases-loop-k-2
+decreases-loop-k-2 l = l.n - l.k

@@ -1,0 +1,12 @@
+use Rattle.basics.proofs.Kit.{refl, sym, ◌≤◌, ◌-◌, arith}
+use Rattle.memory_bytes.proofs.Scans.{any_group4}
+use Rattle.memory_bytes.proofs.Spans.{grouped_none, grouped_iteration}
+use Rattle.memory_bytes.specs.Bytes.{column4}
+use Rattle.memory_bytes.specs.Columns.{equals, Grouped}
+use Rattle.memory_bytes.proofs.search.groups_equal.Given as goal
+
+abbrev pub invariant-loop-k : goal.invariant-loop-k
+invariant-loop-k l = (l.s ≤ l.k) × ((l.k ≤ l.e) × Grouped (column4 l.m l.base) l.key l.s l.k l.lo l.hi)
+
+abbrev pub decreases-loop-k : goal.decreases-loop-k
+decreases-loop-k l = l.e - l.k
