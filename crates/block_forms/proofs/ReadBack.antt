@@ -29,12 +29,12 @@ module _ (o : Owner) (m : Bool) (n : ℕ) (h : n ≤ payload_limit) where
 
   pub flags_mark : read_mark (flags_of o m n) ≡ m
   unfolding read_mark flags_of committed_bit
-  flags_mark = elim o [
-    | committed ↦ elim m [
+  flags_mark = elim o as (λ o. read_mark (flags_of o m n) ≡ m) [
+    | committed ↦ elim m as (λ m. read_mark (flags_of committed m n) ≡ m) [
       | true ↦ le-leb mark_value ((committed_value + (mark_value + n)) % committed_value) (omega arith)
       | false ↦ lt-leb mark_value ((committed_value + (0 + n)) % committed_value) (omega arith)
     ]
-    | tentative t s ↦ elim m [ true ↦ le-leb mark_value ((0 + (mark_value + n)) % committed_value) (omega arith) | false ↦ lt-leb mark_value ((0 + (0 + n)) % committed_value) (omega arith) ]
+    | tentative t s ↦ elim m as (λ m. read_mark (flags_of (tentative t s) m n) ≡ m) [ true ↦ le-leb mark_value ((0 + (mark_value + n)) % committed_value) (omega arith) | false ↦ lt-leb mark_value ((0 + (0 + n)) % committed_value) (omega arith) ]
   ]
 
 flags_committed : (m : Bool) (n : ℕ) → ltb (flags_of committed m n) committed_value ≡ false

@@ -97,7 +97,8 @@ get_spelled (f ∷ fs) p q fit =
     let v : number (take f.0 (drop (length p) (p ++ (X ++ (S ++ q))))) ≡ f.1 =
     rw (drop-append_seam p (X ++ (S ++ q)), take_at X (S ++ q) f.0 (length_bits_of f.0 f.1), number_bits_of f.0 f.1) (mod-eq_of_lt fit.0) in
     let r : get_all (p ++ (X ++ (S ++ q))) (length p + f.0) (widths fs) ≡ values fs = rw (b, ← l) (get_spelled fs (p ++ X) q fit.1) in
-    rw a (λ i. v i ∷ r i)
+    let w : get_all (p ++ (X ++ (S ++ q))) (length p) (widths (f ∷ fs)) ≡ values (f ∷ fs) = λ i. v i ∷ r i in
+    ap (λ (z : List ℕ). get_all (p ++ z) (length p) (widths (f ∷ fs))) a ∙ w
 
 pub length_filled : (d : List ℕ) → length d ≤ block_bits → length (padded d) ≡ block_bits
 unfolding padded
