@@ -19,28 +19,28 @@ put1-requires c = omega (arith, size_nine c.args.r, c.requires.room, c.put1-arg-
 
 pub overflow_add-end : goal.overflow_add-end
 unfolding if◌then◌else◌
-overflow_add-end c = omega (arith, size_committed c.args.r c.enum_told-1.given.1, c.requires.room, c.record_size.ensures)
+overflow_add-end c = omega (arith, size_committed c.args.r c.in-Committed.is, c.requires.room, c.record_size.ensures)
 
 pub copy-requires : goal.copy-requires
 unfolding if◌then◌else◌
-copy-requires c = (omega (arith, size_committed c.args.r c.enum_told-1.given.1, c.requires.room, c.record_size.ensures, c.copy-arg-1), omega (arith, c.requires.inside))
+copy-requires c = (omega (arith, size_committed c.args.r c.in-Committed.is, c.requires.room, c.record_size.ensures, c.copy-arg-1), omega (arith, c.requires.inside))
 
 pub put4-requires-in-Tentative : goal.put4-requires-in-Tentative
-put4-requires-in-Tentative c = omega (arith, size_tentative c.args.r c.enum_told-in-Tentative-1.given.1, c.requires.room, c.put4-arg-in-Tentative-1)
+put4-requires-in-Tentative c = omega (arith, size_tentative c.args.r c.in-Tentative.is, c.requires.room, c.put4-arg-in-Tentative-1)
 
 pub overflow_add-end-in-Tentative : goal.overflow_add-end-in-Tentative
 unfolding if◌then◌else◌
-overflow_add-end-in-Tentative c = omega (arith, size_tentative c.args.r c.enum_told-in-Tentative-1.given.1, c.requires.room, c.record_size-in-Tentative.ensures)
+overflow_add-end-in-Tentative c = omega (arith, size_tentative c.args.r c.in-Tentative.is, c.requires.room, c.record_size-in-Tentative.ensures)
 
 pub copy-requires-in-Tentative : goal.copy-requires-in-Tentative
 unfolding if◌then◌else◌
-copy-requires-in-Tentative c = (omega (arith, size_tentative c.args.r c.enum_told-in-Tentative-1.given.1, c.requires.room, c.record_size-in-Tentative.ensures, c.copy-arg-in-Tentative-1), omega (arith, c.requires.inside))
+copy-requires-in-Tentative c = (omega (arith, size_tentative c.args.r c.in-Tentative.is, c.requires.room, c.record_size-in-Tentative.ensures, c.copy-arg-in-Tentative-1), omega (arith, c.requires.inside))
 
 pub returns-in-Committed : goal.returns-in-Committed
 unfolding if◌then◌else◌
 returns-in-Committed c = let z = c.record_size.ensures in
     let r = c.args.r in
-    let o = c.enum_told-1.given.1 in
+    let o = c.in-Committed.is in
     let room = c.requires.room in
     let g = size_committed r o in
     let P : List ℕ = payload_in c.args.from.now r in
@@ -54,7 +54,7 @@ pub returns-in-Tentative : goal.returns-in-Tentative
 unfolding if◌then◌else◌
 returns-in-Tentative c = let z = c.record_size-in-Tentative.ensures in
     let r = c.args.r in
-    let o = c.enum_told-in-Tentative-1.given.1 in
+    let o = c.in-Tentative.is in
     let room = c.requires.room in
     let g = size_tentative r o in
     let P : List ℕ = payload_in c.args.from.now r in

@@ -12,34 +12,24 @@ loop-i-init c = let head = head_filled c.args.level c.args.count (ap bits_in c.r
       omega arith,
       (
         omega (arith, c.put_bits-4.auto, c.put_bits-3.auto, c.put_bits-2.auto, c.put_bits.auto, c.requires.size),
-        (λ j. omega (arith, c.slice_known-5-1.given j), head),
+        (λ j. omega (arith, c.type_inv.block j), head),
       ),
     )
 
--- what was asked of the count, from the loop on
-few : (p : goal.At-loop-i) → p.args.count ≤ entries_per_block
-few p = p.requires.few
-
-there : (p : goal.At-loop-i) → let a = p.args in a.count ≤ length a.entries.now
-there p = p.requires.there
-
 pub overflow_mul-i : goal.overflow_mul-i
-overflow_mul-i c = omega (arith, c.loop-i-test.true, few c.before.before)
+overflow_mul-i c = omega (arith, c.loop-i-test.true, c.requires.few)
 
 pub overflow_add-i : goal.overflow_add-i
-overflow_add-i c = omega (arith, c.loop-i-test.true, few c.before.before)
+overflow_add-i c = omega (arith, c.loop-i-test.true, c.requires.few)
 
 pub offset_bounds-entries-i : goal.offset_bounds-entries-i
-offset_bounds-entries-i c = omega (arith, c.loop-i-test.true, few c.before.before)
+offset_bounds-entries-i c = omega (arith, c.loop-i-test.true, c.requires.few)
 
 pub bounds-entries-i : goal.bounds-entries-i
-bounds-entries-i c = omega (arith, c.loop-i-test.true, there c.before.before.before)
+bounds-entries-i c = omega (arith, c.loop-i-test.true, c.requires.there)
 
 pub put_bits-requires-in-loop-i : goal.put_bits-requires-in-loop-i
-put_bits-requires-in-loop-i c = omega (arith, c.loop-i-test.true, c.loop-i.invariant.1.0, few c.before.before.before.before)
-
-pub overflow_add-i : goal.overflow_add-i
-overflow_add-i c = omega (arith, c.loop-i-test.true, few c.before.before)
+put_bits-requires-in-loop-i c = omega (arith, c.loop-i-test.true, c.loop-i.invariant.1.0, c.requires.few)
 
 pub loop-i-smaller : goal.loop-i-smaller
 loop-i-smaller c = omega (arith, c.loop-i-test.true)
@@ -47,9 +37,9 @@ loop-i-smaller c = omega (arith, c.loop-i-test.true)
 pub loop-i-preserved : goal.loop-i-preserved
 loop-i-preserved c = let p = c.loop-i in
     let a = c.args in
-    let more = entry_filled a.level a.count a.entries.now p.i (omega (arith, there c.before.before.before.before.before.before.before, c.loop-i-test)) (omega (arith, few c.before.before.before.before.before.before.before, c.loop-i-test)) p.invariant.1.1.1
+    let more = entry_filled a.level a.count a.entries.now p.i (omega (arith, c.requires.there, c.loop-i-test)) (omega (arith, c.requires.few, c.loop-i-test)) p.invariant.1.1.1
     c.big.ensures c.put_bits-in-loop-i.ensures in
-    (omega (arith, c.loop-i-test.true), (omega (arith, c.put_bits-in-loop-i.auto, p.invariant.1.0), (λ j. omega (arith, c.slice_known-in-loop-i-1.given j), more)))
+    (omega (arith, c.loop-i-test.true), (omega (arith, c.put_bits-in-loop-i.auto, p.invariant.1.0), (λ j. omega (arith, c.type_inv.block j), more)))
 
 pub shape_of-block : goal.shape_of-block
 shape_of-block c = omega (arith, c.requires.size)
@@ -57,4 +47,4 @@ shape_of-block c = omega (arith, c.requires.size)
 pub returns : goal.returns
 returns c = let p = c.loop-i in let a = c.args in
     let e : p.i ≡ a.count = omega arith in
-    dir_done a.level a.count a.entries.now p.block (there c.before) p.invariant.1.0 p.invariant.1.1.0 (rw e at p.invariant.1.1.1)
+    dir_done a.level a.count a.entries.now p.block (c.requires.there) p.invariant.1.0 p.invariant.1.1.0 (rw e at p.invariant.1.1.1)

@@ -6,15 +6,15 @@ use Rattle.block_forms.specs.declared.Owner.{Owner}
 use Rattle.block_forms.proofs.word_of.Goals as goal
 
 pub overflow_mul-result : goal.overflow_mul-result
-overflow_mul-result c = omega (arith, subst (λ (o : Owner). OwnerFits (owner_is o)) c.owner-1.given.1 c.requires)
+overflow_mul-result c = omega (arith, subst (λ (o : Owner). OwnerFits (owner_is o)) c.in-Tentative.is c.requires)
 
 pub overflow_add-result : goal.overflow_add-result
-overflow_add-result c = omega (arith, subst (λ (o : Owner). OwnerFits (owner_is o)) c.owner-1.given.1 c.requires)
+overflow_add-result c = omega (arith, subst (λ (o : Owner). OwnerFits (owner_is o)) c.in-Tentative.is c.requires)
 
 pub returns-in-Committed : goal.returns-in-Committed
 unfolding owner_word
-returns-in-Committed c = sym (ap (λ (o : Owner). owner_word (owner_is o)) c.enum_told-1.given.1)
+returns-in-Committed c = sym (ap (λ (o : Owner). owner_word (owner_is o)) c.in-Committed.is)
 
 pub returns-in-Tentative : goal.returns-in-Tentative
 unfolding owner_word
-returns-in-Tentative c = sym (ap (λ (o : Owner). owner_word (owner_is o)) c.owner-1.given.1)
+returns-in-Tentative c = sym (ap (λ (o : Owner). owner_word (owner_is o)) c.in-Tentative.is)
