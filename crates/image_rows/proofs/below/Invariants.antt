@@ -1,0 +1,14 @@
+use Rattle.basics.proofs.Kit.{◌≡◌, sym, ap, ◌∙◌, [], ◌-◌, lt-ltb, le-ltb, arith}
+use Rattle.basics.proofs.Iterations.{tab_whole, all_yes, all_not, all_end}
+use Rattle.basics.proofs.Searches.{tab_next, tab_none}
+use Rattle.image_rows.specs.Columns.{coded, row_at, rows_in}
+use Rattle.basics.specs.Lists.{tab}
+use Rattle.image_rows.specs.Rows.{is_below, number}
+use Rattle.basics.specs.Basics.{all}
+use Rattle.image_rows.proofs.below.Given as goal
+
+abbrev pub invariant-loop-i : goal.invariant-loop-i
+invariant-loop-i l = all (is_below l.next) (rows_in [] l.numbers [] [] l.count) ≡ all (is_below l.next) (tab (row_at [] l.numbers [] []) l.i (l.count - l.i))
+
+abbrev pub decreases-loop-i : goal.decreases-loop-i
+decreases-loop-i l = l.count - l.i

@@ -1,0 +1,10 @@
+use Rattle.basics.proofs.Kit.{◌≡◌, refl, sym, ◌∙◌, ◌-◌, eqb, length, drop, eq-eqb, ne_eqb, arith}
+use Rattle.basics.proofs.Iterations.{drop_iteration, drop_end, any_yes, any_not, any_end}
+use Rattle.basics.specs.Basics.{is_in}
+use Rattle.image_rows.proofs.is_in.Given as goal
+
+abbrev pub invariant-loop-i : goal.invariant-loop-i
+invariant-loop-i l = is_in l.x (drop l.from l.s) ≡ is_in l.x (drop l.i l.s)
+
+abbrev pub decreases-loop-i : goal.decreases-loop-i
+decreases-loop-i l = length l.s - l.i

@@ -1,0 +1,16 @@
+use Rattle.basics.proofs.Kit.{◌≡◌, sym, ◌∙◌, ◌&&◌, ◌≤◌, ◌-◌, arith}
+use Rattle.image_rows.proofs.Places.{rising_none, rising_first, rising_marked, rising_stop, rising_iteration}
+use Rattle.basics.proofs.Iterations.{pair_end}
+use Rattle.image_rows.specs.Columns.{row_at, rows_in}
+use Rattle.basics.specs.Lists.{tab}
+use Rattle.image_rows.specs.Rows.{follows, starts_well}
+use Rattle.basics.specs.Basics.{paired}
+use Rattle.image_rows.proofs.rising.Given as goal
+
+abbrev pub invariant-loop-i : goal.invariant-loop-i
+invariant-loop-i l = (1 ≤ l.i) × ((l.i ≤ l.count) ×
+    ((paired follows (rows_in l.places l.numbers l.owners l.marks l.count) && starts_well (rows_in l.places l.numbers l.owners l.marks l.count)) ≡ paired follows
+    (tab (row_at l.places l.numbers l.owners l.marks) (l.i - 1) (l.count - (l.i - 1)))))
+
+abbrev pub decreases-loop-i : goal.decreases-loop-i
+decreases-loop-i l = l.count - l.i

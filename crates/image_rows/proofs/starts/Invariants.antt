@@ -1,0 +1,13 @@
+use Rattle.basics.proofs.Iterations.{tab_whole, count_yes, count_not, count_end}
+use Rattle.basics.proofs.Searches.{tab_next, tab_none}
+use Rattle.basics.specs.Basics.{how_many}
+use Rattle.image_rows.specs.Chains.{is_start, starts}
+use Rattle.basics.specs.Lists.{tab}
+use Rattle.basics.proofs.Kit.{◌≡◌, sym, ◌∙◌, ⊎_elim, ◌+◌, ◌≤◌, ◌-◌, get_or, arith}
+use Rattle.image_rows.proofs.starts.Given as goal
+
+abbrev pub invariant-loop-i : goal.invariant-loop-i
+invariant-loop-i l = (l.i ≤ l.count) × ((l.k ≤ l.i) × (l.k + how_many is_start (tab (λ j. get_or l.owners j 0) l.i (l.count - l.i)) ≡ starts l.owners l.count))
+
+abbrev pub decreases-loop-i : goal.decreases-loop-i
+decreases-loop-i l = l.count - l.i
