@@ -11,19 +11,9 @@ use Rattle.block_reader.proofs.Records.{Found-is, found_is, found_appends}
 use Rattle.block_forms.proofs.Spelled.{all_bytes}
 use Rattle.block_reader.proofs.read_page.Goals as goal
 
--- the record that is found
-found : (c : goal.After-copy-in-Found-1) → Found-is ((c.args.block.now)) c.loop-i.at c.in-Found.r c.in-Found.field-1
-found c = let block : List ℕ = c.args.block.now in
-    let whole : length ((c.args.block.now)) ≡ block_size = c.requires in
-    found_is (block) c.loop-i.at (omega (arith, whole, c.loop-i.invariant.1.passed.room)) (sym c.in-Found.is ∙ c.next.ensures)
-
--- the page that was read
-abbrev again : (p : goal.After-copy-2-1) → Block
-again p = page p.get_bits-table.result p.get_bits-level.result p.loop-i.invariant.1.done
-
 pub begin_page-requires : goal.begin_page-requires
 begin_page-requires c = let block : List ℕ = c.args.block.now in
-    let bytes : AllBytes ((c.args.block.now)) = all_bytes (block c) (λ j. omega (arith, c.type_inv.block j)) in
+    let bytes : AllBytes ((c.args.block.now)) = all_bytes (block) (λ j. omega (arith, c.type_inv.block j)) in
     record {
       zero = refl;
       table = omega (arith, c.get_bits-table.ensures.1);
@@ -39,8 +29,9 @@ loop-i-init c = let a = again_start c.args.block.now c.get_bits-table.result c.g
 pub append-at-requires : goal.append-at-requires
 append-at-requires c = let block : List ℕ = c.args.block.now in
     let whole : length ((c.args.block.now)) ≡ block_size = c.requires in
-    let bytes : AllBytes ((c.args.block.now)) = all_bytes (block c) (λ j. omega (arith, c.type_inv.block j)) in
-    found_appends (block) c.loop-i.at (whole) (bytes) (found c)
+    let bytes : AllBytes ((c.args.block.now)) = all_bytes (block) (λ j. omega (arith, c.type_inv.block j)) in
+    let found : Found-is ((c.args.block.now)) c.loop-i.at c.in-Found.r c.in-Found.field-1 = found_is (block) c.loop-i.at (omega (arith, whole, c.loop-i.invariant.1.passed.room)) (sym c.in-Found.is ∙ c.next.ensures) in
+    found_appends (block) c.loop-i.at (whole) (bytes) (found)
 
 pub returns-in-Bad : goal.returns-in-Bad
 returns-in-Bad c = let block : List ℕ = c.args.block.now in
@@ -52,13 +43,14 @@ returns-in-Bad c = let block : List ℕ = c.args.block.now in
 pub loop-i-preserved : goal.loop-i-preserved
 loop-i-preserved c = let block : List ℕ = c.args.block.now in
     let whole : length ((c.args.block.now)) ≡ block_size = c.requires in
-    let more = again_iteration (whole) c.loop-i.invariant.1 (omega (arith, c.loop-i-test)) (found c.before) c.append-at.ensures in
+    let found : Found-is ((c.args.block.now)) c.loop-i.at c.in-Found.r c.in-Found.field-1 = found_is (block) c.loop-i.at (omega (arith, whole, c.loop-i.invariant.1.passed.room)) (sym c.in-Found.is ∙ c.next.ensures) in
+    let more = again_iteration (whole) c.loop-i.invariant.1 (omega (arith, c.loop-i-test)) (found) c.append-at.ensures in
     (again_length (whole) more, more)
 
 pub returns-then-at-bytes : goal.returns-then-at-bytes
 returns-then-at-bytes c = let block : List ℕ = c.args.block.now in
     let whole : length ((c.args.block.now)) ≡ block_size = c.requires in
-    let bytes : AllBytes ((c.args.block.now)) = all_bytes (block c) (λ j. omega (arith, c.type_inv.block j)) in
+    let bytes : AllBytes ((c.args.block.now)) = all_bytes (block) (λ j. omega (arith, c.type_inv.block j)) in
     let a = c.loop-i.invariant.1 in
     let t = c.get_bits-table.ensures.0 in
     let n = c.get_bits-count.ensures.0 in
@@ -70,8 +62,9 @@ returns-then-at-bytes c = let block : List ℕ = c.args.block.now in
 pub returns-then-same_block : goal.returns-then-same_block
 returns-then-same_block c = let block : List ℕ = c.args.block.now in
     let whole : length ((c.args.block.now)) ≡ block_size = c.requires in
-    let bytes : AllBytes ((c.args.block.now)) = all_bytes (block c) (λ j. omega (arith, c.type_inv.block j)) in
-    let spells : c.same_block.result ≡ same (encode_block (again c.before.before.before.before)) ((c.args.block.now)) = let t = c.get_bits-table.ensures.0 in let l = c.get_bits-level.ensures.0 in c.same_block.ensures ∙ ap (λ (k : List ℕ). same k (block)) (again_spells (whole) c.loop-i.invariant.1 (omega (arith, c.loop-i-test)) (bytes) t l (omega (arith, c.if-at-bytes.false))) in
+    let bytes : AllBytes ((c.args.block.now)) = all_bytes (block) (λ j. omega (arith, c.type_inv.block j)) in
+    let again : Block = page c.get_bits-table.result c.get_bits-level.result c.loop-i.invariant.1.done in
+    let spells : c.same_block.result ≡ same (encode_block ((page c.get_bits-table.result c.get_bits-level.result c.loop-i.invariant.1.done))) ((c.args.block.now)) = let t = c.get_bits-table.ensures.0 in let l = c.get_bits-level.ensures.0 in c.same_block.ensures ∙ ap (λ (k : List ℕ). same k (block)) (again_spells (whole) c.loop-i.invariant.1 (omega (arith, c.loop-i-test)) (bytes) t l (omega (arith, c.if-at-bytes.false))) in
     let a = c.loop-i.invariant.1 in
     let t = c.get_bits-table.ensures.0 in
     let n = c.get_bits-count.ensures.0 in
@@ -82,8 +75,9 @@ returns-then-same_block c = let block : List ℕ = c.args.block.now in
 pub returns : goal.returns
 returns c = let block : List ℕ = c.args.block.now in
     let whole : length ((c.args.block.now)) ≡ block_size = c.requires in
-    let bytes : AllBytes ((c.args.block.now)) = all_bytes (block c) (λ j. omega (arith, c.type_inv.block j)) in
-    let spells : c.same_block.result ≡ same (encode_block (again c.before.before.before.before)) ((c.args.block.now)) = let t = c.get_bits-table.ensures.0 in let l = c.get_bits-level.ensures.0 in c.same_block.ensures ∙ ap (λ (k : List ℕ). same k (block)) (again_spells (whole) c.loop-i.invariant.1 (omega (arith, c.loop-i-test)) (bytes) t l (omega (arith, c.if-at-bytes.false))) in
+    let bytes : AllBytes ((c.args.block.now)) = all_bytes (block) (λ j. omega (arith, c.type_inv.block j)) in
+    let again : Block = page c.get_bits-table.result c.get_bits-level.result c.loop-i.invariant.1.done in
+    let spells : c.same_block.result ≡ same (encode_block ((page c.get_bits-table.result c.get_bits-level.result c.loop-i.invariant.1.done))) ((c.args.block.now)) = let t = c.get_bits-table.ensures.0 in let l = c.get_bits-level.ensures.0 in c.same_block.ensures ∙ ap (λ (k : List ℕ). same k (block)) (again_spells (whole) c.loop-i.invariant.1 (omega (arith, c.loop-i-test)) (bytes) t l (omega (arith, c.if-at-bytes.false))) in
     let t = c.get_bits-table.ensures.0 in
     let n = c.get_bits-count.ensures.0 in
     let l = c.get_bits-level.ensures.0 in
