@@ -20,7 +20,7 @@ put_behind-first-requires c = record {
     }
 
 pub slice_bounds-put_first-end : goal.slice_bounds-put_first-end
-slice_bounds-put_first-end c = simp (length-append, length-take, length-drop) (omega (arith, c.put_behind-first.auto, c.change_size.ensures, change_two c.args.c, c.requires.room))
+slice_bounds-put_first-end c = simp (length-append, length-take, length-drop) (omega (arith, c.put_behind-first.auto.part, c.change_size.ensures, change_two c.args.c, c.requires.room))
 
 pub returns : goal.returns
 returns c = let a = c.args in

@@ -23,7 +23,7 @@ put_mark_behind-first-requires c = record {
 
 pub slice_bounds-put_first-end : goal.slice_bounds-put_first-end
 unfolding mark_size
-slice_bounds-put_first-end c = simp (length-append, length-take, length-drop) (omega (arith, c.put_mark_behind-first.auto, c.mark_size.ensures, c.requires.room))
+slice_bounds-put_first-end c = simp (length-append, length-take, length-drop) (omega (arith, c.put_mark_behind-first.auto.part, c.mark_size.ensures, c.requires.room))
 
 pub returns : goal.returns
 returns c = let a = c.args in

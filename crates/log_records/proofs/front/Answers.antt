@@ -4,6 +4,7 @@ use Rattle.block_forms.specs.Tuple.{AllBytes}
 use Rattle.block_forms.proofs.Spelled.{all_bytes}
 use Rattle.log_records.proofs.Fronts.{five_six, other_none, front_end, front_going}
 use Rattle.log_records.proofs.front.Goals as goal
+use Rattle.log_records.proofs.front.Goals.{in-1-1, in_default+else-kind-lt1+else-kind-lt4+then-kind-lt7}
 
 pub returns-then-xs-eq0 : goal.returns-then-xs-eq0
 returns-then-xs-eq0 c = sym (front_end c.args.xs.now (inl (omega arith)))
@@ -14,7 +15,7 @@ returns-then-first-eq0 c = sym (front_end c.args.xs.now (inr (omega arith)))
 pub short_front-requires : goal.short_front-requires
 short_front-requires c = record {
   first = refl;
-  short = ⊎_elim (λ w. inl (omega arith)) (λ w. inr (five_six _ (omega arith) (omega arith))) c.in-1-1.branch;
+  short = elim c.in-1-1.branch [ in-1-1 w ↦ inl (omega arith) | in_default+else-kind-lt1+else-kind-lt4+then-kind-lt7 w ↦ inr (five_six _ (omega arith) (omega arith)) ];
 }
 
 pub returns-in-4 : goal.returns-in-4

@@ -8,10 +8,6 @@ use Rattle.log_records.specs.Entries.{mark_size}
 use Rattle.log_records.proofs.Marks.{MarkFront, mark_none, mark_some}
 use Rattle.log_records.proofs.mark_front.Goals as goal
 
--- the count that is read
-count_is : (p : goal.After-word) → p.word.result % 16 * 8 + p.word-second.result / 32 ≡ count_of p.args.xs.now
-count_is p = ap₂ (λ x y. x % 16 * 8 + y / 32) p.word.ensures.0 p.word-second.ensures.0
-
 pub returns-then-xs-lt-MARK_HEAD : goal.returns-then-xs-lt-MARK_HEAD
 unfolding mark_size
 returns-then-xs-lt-MARK_HEAD c = let bytes : AllBytes c.args.xs.now = all_bytes c.args.xs.now (λ j. omega (arith, c.type_inv.xs j)) in
@@ -23,11 +19,13 @@ returns-then-second-ne0 c = let bytes : AllBytes c.args.xs.now = all_bytes c.arg
 
 pub returns-then-count-gt-OPEN_LIMIT : goal.returns-then-count-gt-OPEN_LIMIT
 returns-then-count-gt-OPEN_LIMIT c = let bytes : AllBytes c.args.xs.now = all_bytes c.args.xs.now (λ j. omega (arith, c.type_inv.xs j)) in
-    let n = count_is c.before in sym (mark_none c.args.xs.now (bytes) c.requires (λ f. omega (arith, f.limit)))
+    let count_is : c.word.result % 16 * 8 + c.word-second.result / 32 ≡ count_of c.args.xs.now = ap₂ (λ x y. x % 16 * 8 + y / 32) c.word.ensures.0 c.word-second.ensures.0 in
+    let n = count_is in sym (mark_none c.args.xs.now (bytes) c.requires (λ f. omega (arith, f.limit)))
 
 pub returns-then-xs-mark_size : goal.returns-then-xs-mark_size
 returns-then-xs-mark_size c = let bytes : AllBytes c.args.xs.now = all_bytes c.args.xs.now (λ j. omega (arith, c.type_inv.xs j)) in
-    let size = c.mark_size.ensures ∙ ap mark_size (count_is c.before.before.before) in sym (mark_none c.args.xs.now (bytes) c.requires (λ f. omega (arith, f.whole)))
+    let count_is : c.word.result % 16 * 8 + c.word-second.result / 32 ≡ count_of c.args.xs.now = ap₂ (λ x y. x % 16 * 8 + y / 32) c.word.ensures.0 c.word-second.ensures.0 in
+    let size = c.mark_size.ensures ∙ ap mark_size (count_is) in sym (mark_none c.args.xs.now (bytes) c.requires (λ f. omega (arith, f.whole)))
 
 pub get_bits-requires : goal.get_bits-requires
 unfolding mark_size
@@ -36,13 +34,15 @@ get_bits-requires c = let size = c.mark_size.ensures in
 
 pub returns-then-get_bits-ne0 : goal.returns-then-get_bits-ne0
 returns-then-get_bits-ne0 c = let bytes : AllBytes c.args.xs.now = all_bytes c.args.xs.now (λ j. omega (arith, c.type_inv.xs j)) in
-    let last_is : let xs = c.args.xs.now in c.get_bits.result ≡ field (bits_in xs) (48 + 12 * count_of xs) (4 * (count_of xs % 2)) = c.get_bits.ensures.0 ∙ ap (λ k. field (bits_in c.args.xs.now) (48 + 12 * k) (4 * (k % 2))) (count_is c.before.before.before.before) in
+    let count_is : c.word.result % 16 * 8 + c.word-second.result / 32 ≡ count_of c.args.xs.now = ap₂ (λ x y. x % 16 * 8 + y / 32) c.word.ensures.0 c.word-second.ensures.0 in
+    let last_is : let xs = c.args.xs.now in c.get_bits.result ≡ field (bits_in xs) (48 + 12 * count_of xs) (4 * (count_of xs % 2)) = c.get_bits.ensures.0 ∙ ap (λ k. field (bits_in c.args.xs.now) (48 + 12 * k) (4 * (k % 2))) (count_is) in
     let last = last_is in sym (mark_none c.args.xs.now (bytes) c.requires (λ f. omega (arith, f.last)))
 
 pub returns : goal.returns
 returns c = let bytes : AllBytes c.args.xs.now = all_bytes c.args.xs.now (λ j. omega (arith, c.type_inv.xs j)) in
-    let last_is : let xs = c.args.xs.now in c.get_bits.result ≡ field (bits_in xs) (48 + 12 * count_of xs) (4 * (count_of xs % 2)) = c.get_bits.ensures.0 ∙ ap (λ k. field (bits_in c.args.xs.now) (48 + 12 * k) (4 * (k % 2))) (count_is c.before.before.before.before) in
-    let n = count_is c.before.before.before.before.before.before in
+    let count_is : c.word.result % 16 * 8 + c.word-second.result / 32 ≡ count_of c.args.xs.now = ap₂ (λ x y. x % 16 * 8 + y / 32) c.word.ensures.0 c.word-second.ensures.0 in
+    let last_is : let xs = c.args.xs.now in c.get_bits.result ≡ field (bits_in xs) (48 + 12 * count_of xs) (4 * (count_of xs % 2)) = c.get_bits.ensures.0 ∙ ap (λ k. field (bits_in c.args.xs.now) (48 + 12 * k) (4 * (k % 2))) (count_is) in
+    let n = count_is in
     let size = c.mark_size.ensures ∙ ap mark_size n in
     let last = last_is in
     let f : MarkFront c.args.xs.now = record {

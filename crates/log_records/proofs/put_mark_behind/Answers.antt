@@ -15,22 +15,22 @@ put4-requires c = simp length-set (omega (arith, c.requires.size))
 
 pub slice_bounds-put_transactions-count : goal.slice_bounds-put_transactions-count
 unfolding mark_size
-slice_bounds-put_transactions-count c = omega (arith, simp length-set at c.put4.auto, c.requires.size)
+slice_bounds-put_transactions-count c = omega (arith, simp length-set at c.put4.auto.block, c.requires.size)
 
 pub slice_bounds-put_transactions-start : goal.slice_bounds-put_transactions-start
 unfolding mark_size
-slice_bounds-put_transactions-start c = omega (arith, simp length-set at c.put4.auto, c.requires.size)
+slice_bounds-put_transactions-start c = omega (arith, simp length-set at c.put4.auto.block, c.requires.size)
 
 pub put_transactions-requires : goal.put_transactions-requires
 unfolding mark_size
 put_transactions-requires c = record {
       count = c.requires.fits.count;
-      size = simp (length-take, length-drop) (omega (arith, simp length-set at c.put4.auto, c.requires.size));
+      size = simp (length-take, length-drop) (omega (arith, simp length-set at c.put4.auto.block, c.requires.size));
     }
 
 pub shape_of-part : goal.shape_of-part
 unfolding mark_size
-shape_of-part c = simp (length-append, length-take, length-drop) (omega (arith, simp length-set at c.put4.auto, c.put_transactions.auto, c.requires.size))
+shape_of-part c = simp (length-append, length-take, length-drop) (omega (arith, simp length-set at c.put4.auto.block, c.put_transactions.auto.part, c.requires.size))
 
 pub returns : goal.returns
 unfolding mark_size

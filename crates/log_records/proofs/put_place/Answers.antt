@@ -17,4 +17,4 @@ pub put4-requires : goal.put4-requires
 put4-requires c = simp length-set (omega (arith, c.requires.size))
 
 pub shape_of-part : goal.shape_of-part
-shape_of-part c = omega (arith, simp length-set at c.put4.auto)
+shape_of-part c = omega (arith, simp length-set at c.put4.auto.block)

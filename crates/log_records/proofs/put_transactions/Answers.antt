@@ -30,13 +30,13 @@ loop-i-preserved c = let p = c.loop-i in
     let room = length_bits_in P in
     let more = entry_put (bits_in P) c.args.transactions.now p.i (omega (arith, c.loop-i-test.true)) (omega (arith, c.requires.size)) p.invariant.2 c.wide.ensures
     c.put_bits.ensures in
-    (omega (arith, c.loop-i-test.true), omega (arith, c.put_bits.auto, p.invariant.1), more)
+    (omega (arith, c.loop-i-test.true), omega (arith, c.put_bits.auto.block, p.invariant.1), more)
 
 pub put_bits-requires-2 : goal.put_bits-requires-2
 put_bits-requires-2 c = record { word = omega arith; within = omega (arith, c.loop-i.invariant.1, c.requires.size); small = omega (arith, c.requires.count) }
 
 pub shape_of-part : goal.shape_of-part
-shape_of-part c = omega (arith, c.put_bits-2.auto, c.loop-i.invariant.1)
+shape_of-part c = omega (arith, c.put_bits-2.auto.block, c.loop-i.invariant.1)
 
 pub returns : goal.returns
 returns c = let p = c.loop-i in

@@ -6,10 +6,6 @@ use Rattle.log_records.specs.Bytes.{length_of}
 use Rattle.log_records.proofs.Fronts.{PlaceFront, tuple_none, insert_some, replace_some}
 use Rattle.log_records.proofs.tuple_front.Goals as goal
 
--- the length that is read
-len_is : (p : goal.Else-fourth-ne0) → p.word-third.result % 32 * 2 + p.word-fourth.result / 128 ≡ length_of p.args.xs.now
-len_is p = ap₂ (λ x y. x % 32 * 2 + y / 128) p.word-third.ensures.0 p.word-fourth.ensures.0
-
 pub returns-then-xs-lt-PLACE : goal.returns-then-xs-lt-PLACE
 returns-then-xs-lt-PLACE c = let bytes : AllBytes c.args.xs.now = all_bytes c.args.xs.now (λ j. omega (arith, c.type_inv.xs j)) in
     sym (tuple_none c.args.xs.now (bytes) c.args.kind c.requires.first c.requires.least c.requires.most (λ f. omega (arith, f.whole)))
@@ -20,20 +16,24 @@ returns-then-fourth-ne0 c = let bytes : AllBytes c.args.xs.now = all_bytes c.arg
 
 pub returns-then-len-gt-PAYLOAD_LIMIT : goal.returns-then-len-gt-PAYLOAD_LIMIT
 returns-then-len-gt-PAYLOAD_LIMIT c = let bytes : AllBytes c.args.xs.now = all_bytes c.args.xs.now (λ j. omega (arith, c.type_inv.xs j)) in
-    let len = len_is c.before in sym (tuple_none c.args.xs.now (bytes) c.args.kind c.requires.first c.requires.least c.requires.most (λ f. omega (arith, f.limit)))
+    let len_is : c.word-third.result % 32 * 2 + c.word-fourth.result / 128 ≡ length_of c.args.xs.now = ap₂ (λ x y. x % 32 * 2 + y / 128) c.word-third.ensures.0 c.word-fourth.ensures.0 in
+    let len = len_is in sym (tuple_none c.args.xs.now (bytes) c.args.kind c.requires.first c.requires.least c.requires.most (λ f. omega (arith, f.limit)))
 
 pub returns-then-xs-len : goal.returns-then-xs-len
 returns-then-xs-len c = let bytes : AllBytes c.args.xs.now = all_bytes c.args.xs.now (λ j. omega (arith, c.type_inv.xs j)) in
-    let len = len_is c.before.before in sym (tuple_none c.args.xs.now (bytes) c.args.kind c.requires.first c.requires.least c.requires.most (λ f. omega (arith, f.whole)))
+    let len_is : c.word-third.result % 32 * 2 + c.word-fourth.result / 128 ≡ length_of c.args.xs.now = ap₂ (λ x y. x % 32 * 2 + y / 128) c.word-third.ensures.0 c.word-fourth.ensures.0 in
+    let len = len_is in sym (tuple_none c.args.xs.now (bytes) c.args.kind c.requires.first c.requires.least c.requires.most (λ f. omega (arith, f.whole)))
 
 pub returns-then-kind-eq-INSERT : goal.returns-then-kind-eq-INSERT
 returns-then-kind-eq-INSERT c = let bytes : AllBytes c.args.xs.now = all_bytes c.args.xs.now (λ j. omega (arith, c.type_inv.xs j)) in
-    let known : PlaceFront c.args.xs.now = let len = len_is c.before.before.before.before.before in record { whole = omega (arith, c.if-xs-len.false); zero = omega (arith, c.if-fourth-ne0.false, c.word-fourth.ensures.0); limit = omega (arith, c.if-len-gt-PAYLOAD_LIMIT.false) } in
+    let len_is : c.word-third.result % 32 * 2 + c.word-fourth.result / 128 ≡ length_of c.args.xs.now = ap₂ (λ x y. x % 32 * 2 + y / 128) c.word-third.ensures.0 c.word-fourth.ensures.0 in
+    let known : PlaceFront c.args.xs.now = let len = len_is in record { whole = omega (arith, c.if-xs-len.false); zero = omega (arith, c.if-fourth-ne0.false, c.word-fourth.ensures.0); limit = omega (arith, c.if-len-gt-PAYLOAD_LIMIT.false) } in
     sym (insert_some c.args.xs.now (bytes) (known) (omega (arith, c.requires.first, c.requires.least, c.requires.most, c.if-kind-eq-INSERT)) c.transaction_of-tx.ensures
-    (ap (λ z. z / 32) c.word-third.ensures.0) c.four_bytes-key.ensures (len_is c.before.before.before.before.before))
+    (ap (λ z. z / 32) c.word-third.ensures.0) c.four_bytes-key.ensures (len_is))
 
 pub returns : goal.returns
 returns c = let bytes : AllBytes c.args.xs.now = all_bytes c.args.xs.now (λ j. omega (arith, c.type_inv.xs j)) in
-    let known : PlaceFront c.args.xs.now = let len = len_is c.before.before.before.before.before in record { whole = omega (arith, c.if-xs-len.false); zero = omega (arith, c.if-fourth-ne0.false, c.word-fourth.ensures.0); limit = omega (arith, c.if-len-gt-PAYLOAD_LIMIT.false) } in
+    let len_is : c.word-third.result % 32 * 2 + c.word-fourth.result / 128 ≡ length_of c.args.xs.now = ap₂ (λ x y. x % 32 * 2 + y / 128) c.word-third.ensures.0 c.word-fourth.ensures.0 in
+    let known : PlaceFront c.args.xs.now = let len = len_is in record { whole = omega (arith, c.if-xs-len.false); zero = omega (arith, c.if-fourth-ne0.false, c.word-fourth.ensures.0); limit = omega (arith, c.if-len-gt-PAYLOAD_LIMIT.false) } in
     sym (replace_some c.args.xs.now (bytes) (known) (omega (arith, c.requires.first, c.requires.least, c.requires.most, c.if-kind-eq-INSERT)) c.transaction_of-tx.ensures
-    (ap (λ z. z / 32) c.word-third.ensures.0) c.four_bytes-key.ensures (len_is c.before.before.before.before.before))
+    (ap (λ z. z / 32) c.word-third.ensures.0) c.four_bytes-key.ensures (len_is))
