@@ -5,6 +5,7 @@ use Rattle.image_page.specs.Page.{good_page}
 use Rattle.image_page.proofs.Decoded.{Passed, passed, good_not, good_yes}
 use Rattle.basics.proofs.Ands.{and_no}
 use Rattle.basics.specs.Basics.{every}
+use borrow.Enum.Refused.{opened}
 use Rattle.image_page.proofs.good_page.Goals as goal
 
 pub returns-then-count-lt1 : goal.returns-then-count-lt1
@@ -44,4 +45,4 @@ returns-else-not-marks_ok c = let found : Passed c.in-IsPage.table c.in-IsPage.c
 
 pub returns-in_default : goal.returns-in_default
 unfolding good_page
-returns-in_default c = rw (no_page _ c.read_block.ensures c.in_default-own.keys2)
+returns-in_default c = rw (no_page _ c.read_block.ensures (opened c.in_default.in_default-own.keys2))
