@@ -17,6 +17,6 @@ list_cases_hold = record {
   long_enough = refl;
   too_short = refl;
   recovered = refl;
-  open_twice = refl;
+  twice_listed = refl;
   twice_too_short = refl;
 }

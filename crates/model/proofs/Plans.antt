@@ -32,8 +32,8 @@ module _ {X : Type 0} where
   between_end k m [] b = b
   between_end k m (v ∷ vs) b = let r = between_end (suc v.0) m vs b.1 in omega (arith, b.0)
 
-  between_mem : (k m : ℕ) {v : ℕ × X} {vs : List (ℕ × X)} → Mem v vs → Between k m vs → (k ≤ v.0) × (v.0 < m)
-  between_mem k m {v} (here {rs}) b = let r = between_end (suc v.0) m rs b.1 in (b.0, omega arith)
+  between_mem : {v : ℕ × X} (k m : ℕ) {vs : List (ℕ × X)} → Mem v vs → Between k m vs → (k ≤ v.0) × (v.0 < m)
+  between_mem {v} k m (here {rs}) b = let r = between_end (suc v.0) m rs b.1 in (b.0, omega arith)
   between_mem k m (there {y} i) b = let r = between_mem (suc y.0) m i b.1 in (omega (arith, b.0, r.0), r.1)
 
   pub between_keep : (f : ℕ × X → Bool) (k m : ℕ) (vs : List (ℕ × X)) → Between k m vs → Between k m (keep f vs)

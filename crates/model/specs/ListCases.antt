@@ -54,7 +54,7 @@ pub record ListCases : Type 0 where
   -- after a recovery those that had written, in the same order
   pub recovered : answers_in (recovered_after seven_then_five) (lists 4 ∷ []) ≡ numbers (5 ∷ 7 ∷ []) ∷ []
   -- a number that stands twice is listed twice
-  pub open_twice : (call (lists 6) open_twice).answer ≡ numbers (5 ∷ 7 ∷ 7 ∷ [])
+  pub twice_listed : (call (lists 6) open_twice).answer ≡ numbers (5 ∷ 7 ∷ 7 ∷ [])
   pub twice_too_short : (call (lists 5) open_twice).answer ≡ refused 21
 
 -- unfolds all definitions that these cases compute with: `unfolding list_cases`
