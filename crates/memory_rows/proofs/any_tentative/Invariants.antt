@@ -1,0 +1,12 @@
+use Rattle.memory_rows.proofs.Groups.{unset, group_is}
+use Rattle.memory_rows.proofs.Access.{sized}
+use Rattle.memory_bytes.specs.Bytes.{column1}
+use Rattle.memory_bytes.proofs.Scans.{AnyFrom, any_starts, any_iterates, any_ends}
+use Rattle.basics.proofs.Kit.{refl, sym, ◌∙◌, ◌-◌, arith}
+use Rattle.memory_rows.proofs.any_tentative.Given as goal
+
+abbrev pub invariant-loop-j : goal.invariant-loop-j
+invariant-loop-j l = AnyFrom unset (column1 l.m l.a) 0 16 l.hit l.j
+
+abbrev pub decreases-loop-j : goal.decreases-loop-j
+decreases-loop-j l = 16 - l.j
