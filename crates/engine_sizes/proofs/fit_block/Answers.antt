@@ -12,7 +12,7 @@ returns-then-e-s-le-SURELY_FIT c = let a = c.args in
     sym (le-leb (sum held_size (rows_from a.m.now a.s a.e)) record_space (omega (arith, rows_most c.requires, c.if-e-s-le-SURELY_FIT.true)))
 
 pub returns : goal.returns
-returns c = c.fits2.ensures ∙ ap (λ (z : ℕ). leb z record_space) c.rows_size-size.ensures
+returns c = c.fits.ensures ∙ ap (λ (z : ℕ). leb z record_space) c.rows_size-size.ensures
 
 pub overflow_sub-e : goal.overflow_sub-e
 overflow_sub-e c = omega (arith, c.requires.order)

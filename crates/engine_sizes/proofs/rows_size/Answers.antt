@@ -17,11 +17,6 @@ pub loop-i-preserved : goal.loop-i-preserved
 loop-i-preserved c = let l = c.loop-i in let a = c.args in let t = c.loop-i-test.true in
     (omega arith, omega (arith, l.invariant.1, c.size_at.ensures.0, sum_next a.m.now l.i a.e t c.requires.inside))
 
--- no number is large
-bounded : (c : goal.At-loop-i) → (c.loop-i.i ≤ capacity_limit) × (c.loop-i.all ≤ most_record * capacity_limit)
-bounded c = let g = c.requires in let n = (sizes g.room).rows in
-    (omega (arith, c.loop-i.invariant.0, g.inside), omega (arith, c.loop-i.invariant.1, rows_most g, g.inside))
-
 pub returns : goal.returns
 returns c = let l = c.loop-i in let a = c.args in omega (arith, l.invariant.1, sum_none a.m.now l.i a.e c.loop-i-test.false)
 
@@ -32,13 +27,16 @@ pub overflow_cast-all : goal.overflow_cast-all
 overflow_cast-all c = omega (arith, c.size_at.ensures.1)
 
 pub overflow_add-all : goal.overflow_add-all
-overflow_add-all c = omega (arith, bounded c.before.before, c.size_at.ensures.1)
+overflow_add-all c = let bounded : (c.loop-i.i ≤ capacity_limit) × (c.loop-i.all ≤ most_record * capacity_limit) = let g = c.requires in let n = (sizes g.room).rows in (omega (arith, c.loop-i.invariant.0, g.inside), omega (arith, c.loop-i.invariant.1, rows_most g, g.inside)) in
+    omega (arith, bounded, c.size_at.ensures.1)
 
 pub overflow_add-i : goal.overflow_add-i
-overflow_add-i c = omega (arith, bounded c.before.before)
+overflow_add-i c = let bounded : (c.loop-i.i ≤ capacity_limit) × (c.loop-i.all ≤ most_record * capacity_limit) = let g = c.requires in let n = (sizes g.room).rows in (omega (arith, c.loop-i.invariant.0, g.inside), omega (arith, c.loop-i.invariant.1, rows_most g, g.inside)) in
+    omega (arith, bounded)
 
 pub loop-i-smaller : goal.loop-i-smaller
 loop-i-smaller c = omega (arith, c.loop-i-test.true)
 
 pub overflow_cast-result : goal.overflow_cast-result
-overflow_cast-result c = omega (arith, bounded c.before)
+overflow_cast-result c = let bounded : (c.loop-i.i ≤ capacity_limit) × (c.loop-i.all ≤ most_record * capacity_limit) = let g = c.requires in let n = (sizes g.room).rows in (omega (arith, c.loop-i.invariant.0, g.inside), omega (arith, c.loop-i.invariant.1, rows_most g, g.inside)) in
+    omega (arith, bounded)
