@@ -1,0 +1,11 @@
+use Rattle.engine_pages.proofs.Places.{start_there}
+use Rattle.memory_layout.proofs.Laws.{sizes}
+use Rattle.engine_pages.proofs.Applying.{ApplyInv, apply_start, apply_may, apply_next, apply_end, one_most}
+use Rattle.basics.proofs.Kit.{arith}
+use Rattle.engine_pages.proofs.apply_pending_rows.Given as goal
+
+abbrev pub invariant-loop-left : goal.invariant-loop-left
+invariant-loop-left l = ApplyInv l.initial.m l.m l.p l.left l.i
+
+abbrev pub decreases-loop-left : goal.decreases-loop-left
+decreases-loop-left l = l.left
