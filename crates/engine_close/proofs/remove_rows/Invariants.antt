@@ -1,0 +1,10 @@
+use Rattle.engine_pages.proofs.Places.{now_held}
+use Rattle.engine_close.proofs.Closing.{LiveLeft, left_starts, left_there, left_next, left_ends}
+use Rattle.basics.proofs.Kit.{arith}
+use Rattle.engine_close.proofs.remove_rows.Given as goal
+
+abbrev pub invariant-loop-left : goal.invariant-loop-left
+invariant-loop-left l = LiveLeft l.initial.m l.m l.i l.k l.r l.left
+
+abbrev pub decreases-loop-left : goal.decreases-loop-left
+decreases-loop-left l = l.left

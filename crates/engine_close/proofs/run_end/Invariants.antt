@@ -1,0 +1,10 @@
+use Rattle.engine_close.proofs.RunBounds.{Onward, end_high, onward_more, onward_ends, onward_stops}
+use Rattle.engine_close.proofs.Memory.{tagged_length, few_tagged}
+use Rattle.basics.proofs.Kit.{sym, ◌∙◌, ◌≤◌, ◌<◌, ◌-◌, arith}
+use Rattle.engine_close.proofs.run_end.Given as goal
+
+abbrev pub invariant-loop-r : goal.invariant-loop-r
+invariant-loop-r l = (l.i < l.r) × ((l.r ≤ l.end) × Onward l.m l.i l.r)
+
+abbrev pub decreases-loop-r : goal.decreases-loop-r
+decreases-loop-r l = l.end - l.r
