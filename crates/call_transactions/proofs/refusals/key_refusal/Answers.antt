@@ -1,0 +1,31 @@
+-- `call_transactions::refusals::key_refusal` meets its contract: one case for each test (`key_12` to `key_14`), and those that go on to `full_refusal`.
+use Rattle.basics.proofs.Kit.{◌∙◌, ap, ⊎_elim, not, sym, rules}
+use Rattle.memory_layout.specs.Flat.{flat_of}
+use Rattle.memory_layout.proofs.Laws.{holds_room}
+use Rattle.call_transactions.specs.Refusals.{known}
+use Rattle.call_transactions.proofs.Testing.{key_12, key_13, key_14, key_passed}
+use Rattle.call_transactions.proofs.refusals.key_refusal.Goals as goal
+use Rattle.call_transactions.proofs.refusals.key_refusal.Goals.{in-At+else-new, in-Nothing+else-not-new}
+
+pub returns-then-visibility : goal.returns-then-visibility
+returns-then-visibility c = key_12 (flat_of _) _ _ c.if-visibility.true
+
+pub pick-requires : goal.pick-requires
+pick-requires c = (holds_room _ c.requires.0, c.requires.1)
+
+pub returns-then-new : goal.returns-then-new
+returns-then-new c = let a = c.args in
+    key_13 (flat_of _) a.visibility c.if-visibility.false c.pick.ensures c.in-At.is a.new c.if-new.true
+
+pub returns-then-not-new : goal.returns-then-not-new
+returns-then-not-new c = let a = c.args in
+    key_14 (flat_of _) a.visibility c.if-visibility.false c.pick.ensures c.in-Nothing.is a.new (ap not c.if-not-new.true)
+
+pub returns : goal.returns
+unfolding known
+returns c = let a = c.args in
+    c.full_refusal.ensures ∙ key_passed (flat_of _) a.visibility c.if-visibility.false c.pick.ensures a.new
+    (elim c.match-pick.branch [
+      | in-At+else-new w ↦ ap known w.in-At.is ∙ sym (ap not w.if-new.false)
+      | in-Nothing+else-not-new w ↦ ap known w.in-Nothing.is ∙ sym (ap not w.if-not-new.false)
+    ])
