@@ -1,6 +1,8 @@
 // The lister: prints what the image on standard input holds, or the refusal's number.
-use libc::STDIN_FILENO;
+#![tactic(auto)]
 
-fn main() {
-    lister_text::print(STDIN_FILENO);
+use std::io;
+
+fn main(rt: HostRuntime) -> io::Result<()> {
+    lister_text::print(rt.alloc(), rt.reader(), &mut io::writer(&rt))
 }

@@ -1,16 +1,20 @@
 // Lists the images 00.img to 58.img of its folder, one after another.
-fn list_file(path: &[u8]) {
-    let fd = os::open_read(path);
-    if fd < 0 {
-        os::fail(path);
-        return;
+#![tactic(auto)]
+
+use std::rt::Files;
+use std::{fs, io};
+
+fn list_file(rt: &(impl Files + Print + Eprint + AllocGlobal), path: &str) -> io::Result<()> {
+    match fs::open(rt, path) {
+        Ok(file) => lister_text::print(rt.alloc(), file, &mut io::writer(rt)),
+        Err(e) => eprintln!(rt; "{path}: {e}"),
     }
-    lister_text::print(fd);
-    libc::close(fd);
 }
 
-fn main() {
+fn main(rt: HostRuntime) -> io::Result<()> {
     for i in 0..59u8 {
-        list_file(&[b'0' + i / 10, b'0' + i % 10, b'.', b'i', b'm', b'g']);
+        let path = format!(in rt.alloc(); "{i:02}.img")?;
+        list_file(&rt, path.as_str())?;
     }
+    Ok(())
 }

@@ -1,13 +1,17 @@
 // Replays the script on standard input: calls, one a line, on one image, one memory and one log, and prints what each answers. A script may also
 // overwrite a block of the image or bytes of the log, as a cut store does, and have blocks of the one, bytes of the other and digests printed.
+#![tactic(auto)]
+
 use call_contracts::Answer;
-use libc::STDIN_FILENO;
 use replay_log::Log;
 use replay_memory::{first, lend};
 use replay_script::Start;
+use std::alloc::Global;
+use std::io;
+use std::io::{BufWriter, Read, Write};
 
 // Room for a script; for an image of one block more than a store may have; for a memory of more than the largest store; and for a log.
-const SCRIPT_SIZE: usize = 1048576;
+const SCRIPT_SIZE: u64 = 1048576;
 
 const IMAGE_SIZE: usize = (block_forms::BLOCK_LIMIT + 1) * block_forms::BLOCK_SIZE;
 
@@ -17,7 +21,7 @@ const LOG_SIZE: usize = 65536;
 
 // How many bytes of image and memory are lent to a call: those of the last accepted make, recovery or roll-forward. How many bytes the log has,
 // and the end that the next logged call takes.
-#[derive(Drop)]
+#[derive(Clone, Copy)]
 struct Lent {
     image: u64,
     memory: u64,
@@ -52,92 +56,129 @@ fn lent_after(a: Answer, lent: Lent, asked: Lent) -> Lent {
 
 // ---- calls
 
-fn clear(image: &mut [u8], memory: &mut [u8], log: &mut [u8]) -> Lent {
+fn clear(
+    out: &mut impl Write,
+    image: &mut [u8],
+    memory: &mut [u8],
+    log: &mut [u8],
+) -> io::Result<Lent> {
     replay_text::set_all(image, 0);
     replay_text::set_all(memory, 0);
     replay_text::set_all(log, 0);
-    replay_script::say(b"cleared\n");
-    nothing()
+    replay_script::say(out, b"cleared\n")?;
+    Ok(nothing())
 }
 
-fn make(image: &mut [u8], memory: &mut [u8], lent: Lent, asked: Lent, capacity: u64) -> Lent {
+fn make(
+    out: &mut impl Write,
+    image: &mut [u8],
+    memory: &mut [u8],
+    lent: Lent,
+    asked: Lent,
+    capacity: u64,
+) -> io::Result<Lent> {
     let a = replay_image::make(
+        out,
         lend(image, asked.image),
         lend(memory, asked.memory),
         capacity,
-    );
-    lent_after(a, lent, asked)
+    )?;
+    Ok(lent_after(a, lent, asked))
 }
 
-fn recover(image: &[u8], memory: &mut [u8], lent: Lent, asked: Lent) -> Lent {
-    let a = replay_image::recover(first(image, asked.image), lend(memory, asked.memory));
-    lent_after(a, lent, asked)
+fn recover(
+    out: &mut impl Write,
+    image: &[u8],
+    memory: &mut [u8],
+    lent: Lent,
+    asked: Lent,
+) -> io::Result<Lent> {
+    let a = replay_image::recover(out, first(image, asked.image), lend(memory, asked.memory))?;
+    Ok(lent_after(a, lent, asked))
 }
 
 fn roll(
+    out: &mut impl Write,
     image: &[u8],
     memory: &mut [u8],
     second: &mut [u8],
     log: &mut [u8],
     lent: Lent,
     asked: Lent,
-) -> Lent {
+) -> io::Result<Lent> {
     let r = replay_log::roll(
+        out,
         first(image, asked.image),
         lend(memory, asked.memory),
         second,
         lend(log, lent.log),
         lent.end,
-    );
+    )?;
     let a = r.answer;
     let mut l = lent_after(a, lent, asked);
     l.end = r.end;
-    l
+    Ok(l)
 }
 
 // ---- lines
 
-fn on_log(line: &[u8], memory: &mut [u8], log: &mut [u8], lent: Lent) -> Lent {
+fn on_log(
+    out: &mut impl Write,
+    line: &[u8],
+    memory: &mut [u8],
+    log: &mut [u8],
+    lent: Lent,
+) -> io::Result<Lent> {
     let before = Log {
         len: lent.log,
         end: lent.end,
     };
-    let after = replay_log::replay_line(line, lend(memory, lent.memory), log, before);
+    let after = replay_log::replay_line(out, line, lend(memory, lent.memory), log, before)?;
     let mut l = lent;
     l.log = after.len;
     l.end = after.end;
-    l
+    Ok(l)
 }
 
-fn on_image(line: &[u8], image: &mut [u8], memory: &mut [u8], lent: Lent) -> Lent {
-    replay_image::replay_line(line, image, lent.image, lend(memory, lent.memory));
-    lent
+fn on_image(
+    out: &mut impl Write,
+    line: &[u8],
+    image: &mut [u8],
+    memory: &mut [u8],
+    lent: Lent,
+) -> io::Result<Lent> {
+    replay_image::replay_line(out, line, image, lent.image, lend(memory, lent.memory))?;
+    Ok(lent)
 }
 
 // Replays one line, and answers what is lent to the next.
 fn replay_line(
+    out: &mut impl Write,
     line: &[u8],
     image: &mut [u8],
     memory: &mut [u8],
     second: &mut [u8],
     log: &mut [u8],
     lent: Lent,
-) -> Lent {
+) -> io::Result<Lent> {
     if replay_text::log::about_log(line) {
-        return on_log(line, memory, log, lent);
+        return on_log(out, line, memory, log, lent);
     }
     match replay_script::start_of(line) {
         Start::Make {
             bytes,
             capacity,
             room,
-        } => make(image, memory, lent, asked(lent, bytes, room), capacity),
-        Start::Recover { bytes, room } => recover(image, memory, lent, asked(lent, bytes, room)),
+        } => make(out, image, memory, lent, asked(lent, bytes, room), capacity),
+        Start::Recover { bytes, room } => {
+            recover(out, image, memory, lent, asked(lent, bytes, room))
+        }
         Start::Roll {
             bytes,
             room,
             second: len,
         } => roll(
+            out,
             image,
             memory,
             lend(second, len),
@@ -145,32 +186,42 @@ fn replay_line(
             lent,
             asked(lent, bytes, room),
         ),
-        Start::Clear => clear(image, memory, log),
-        Start::Other => on_image(line, image, memory, lent),
+        Start::Clear => clear(out, image, memory, log),
+        Start::Other => on_image(out, line, image, memory, lent),
     }
 }
 
-fn replay_all(text: &[u8], image: &mut [u8], memory: &mut [u8], second: &mut [u8], log: &mut [u8]) {
+fn replay_all(
+    out: &mut impl Write,
+    text: &[u8],
+    image: &mut [u8],
+    memory: &mut [u8],
+    second: &mut [u8],
+    log: &mut [u8],
+) -> io::Result<()> {
     let mut lent = nothing();
     let mut from = 0;
     while from < text.len() {
         let to = replay_script::until(text, from, b'\n');
-        lent = replay_line(&text[from..to], image, memory, second, log, lent);
+        lent = replay_line(out, &text[from..to], image, memory, second, log, lent)?;
         from = to + 1;
     }
+    Ok(())
 }
 
-// Reads the script, and makes room for what a roll-forward takes: a second memory, and a log.
-fn replay_input(text: &mut [u8], image: &mut [u8], memory: &mut [u8]) {
-    let mut second = [0u8; MEMORY_SIZE];
-    let mut log = [0u8; LOG_SIZE];
-    let n = io::read_full(STDIN_FILENO, text);
-    replay_all(&text[..n], image, memory, &mut second, &mut log);
+// Reads a script, and replays it on areas of zeros: an image, a memory, a second memory for a roll-forward, and a log.
+fn replay_input(alloc: Global, input: impl Read + Drop, out: &mut impl Write) -> io::Result<()> {
+    let mut text = Vec::new(alloc);
+    input.take(SCRIPT_SIZE).read_to_end(&mut text)?;
+    let mut image = vec![in alloc; 0; IMAGE_SIZE]?;
+    let mut memory = vec![in alloc; 0; MEMORY_SIZE]?;
+    let mut second = vec![in alloc; 0; MEMORY_SIZE]?;
+    let mut log = vec![in alloc; 0; LOG_SIZE]?;
+    replay_all(out, &text, &mut image, &mut memory, &mut second, &mut log)
 }
 
-fn main() {
-    let mut text = [0u8; SCRIPT_SIZE];
-    let mut image = [0u8; IMAGE_SIZE];
-    let mut memory = [0u8; MEMORY_SIZE];
-    replay_input(&mut text, &mut image, &mut memory);
+fn main(rt: HostRuntime) -> io::Result<()> {
+    let mut out = BufWriter::new(rt.alloc(), io::writer(&rt))?;
+    replay_input(rt.alloc(), rt.reader(), &mut out)?;
+    out.flush()
 }

@@ -1,10 +1,14 @@
 // Scripts of calls, one call a line: a line's words and the call that they make, and words printed. Words stand between single spaces,
 // so two spaces in a row have an empty word between them, and an empty word is neither a number nor bytes.
+#![tactic(auto)]
+
 pub mod words;
 
-ghost use Rattle.std.specs.Prelude.{◌≤◌, length};
+ghost use Rattle.std.specs.Prelude.{◌≤◌, length, decimal, OnOk};
+ghost use Rattle.std.specs.Io.KnownBytes.{Appends};
 
-use libc::STDOUT_FILENO;
+use std::io;
+use std::io::Write;
 use words::{arguments, bytes_of, named, number_at, rest, word};
 
 // Room for more bytes of a payload, and of opening hours, than any call accepts: of longer ones the first bytes meet the same refusal.
@@ -101,7 +105,10 @@ pub fn until(s: &[u8], from: usize, b: u8) -> usize
     requires { from ≤ length s.now }
     ensures { (from ≤ result) × (result ≤ length s.now) }
 {
-    bytes::scan::find(s, from, s.len(), b)
+    match s[from..].iter().position(|x| *x == b) {
+        Some(i) => from + i,
+        None => s.len(),
+    }
 }
 
 // ---- what is lent
@@ -368,26 +375,29 @@ pub fn call_behind(line: &[u8], payload: &mut [u8], hours: &mut [u8]) -> Call {
 
 // ---- printing
 
-pub fn say(s: &[u8]) {
-    io::write_all(STDOUT_FILENO, s);
+pub fn say<W: Write>(out: &mut W, s: &[u8]) -> io::Result<()>
+    ensures { OnOk result (Appends (W.contents out.old) (W.contents out.new) s.now) }
+{
+    out.write_all(s)
 }
 
-pub fn say_number(n: u64) {
-    io::print_decimal(STDOUT_FILENO, n);
+pub fn say_number<W: Write>(out: &mut W, n: u64) -> io::Result<()>
+    ensures { OnOk result (Appends (W.contents out.old) (W.contents out.new) (decimal n)) }
+{
+    write!(out, "{n}")
 }
 
-fn say_byte(b: u8) {
-    io::print_hex(STDOUT_FILENO, b as u64, 2);
+fn say_byte(out: &mut impl Write, b: u8) -> io::Result<()> {
+    write!(out, "{b:02x}")
 }
 
 // The first n bytes in hexadecimal, a dash for none.
-pub fn say_bytes(s: &[u8], n: usize) {
+pub fn say_bytes(out: &mut impl Write, s: &[u8], n: usize) -> io::Result<()> {
     if n == 0 {
-        say(b"-");
+        return say(out, b"-");
     }
-    for i in 0..s.len() {
-        if i < n {
-            say_byte(s[i]);
-        }
+    for b in s.iter().take(n) {
+        say_byte(out, *b)?;
     }
+    Ok(())
 }

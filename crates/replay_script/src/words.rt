@@ -35,25 +35,11 @@ pub fn rest(line: &[u8]) -> &[u8] {
 
 // How many words follow the first.
 pub fn arguments(line: &[u8]) -> usize {
-    let mut n = 0;
-    for i in 0..line.len() {
-        if line[i] == b' ' {
-            n += 1;
-        }
-    }
-    n
+    line.iter().filter(|b| **b == b' ').count()
 }
 
 fn same(a: &[u8], b: &[u8]) -> bool {
-    if a.len() != b.len() {
-        return false;
-    }
-    for i in 0..a.len() {
-        if a[i] != b[i] {
-            return false;
-        }
-    }
-    true
+    a == b
 }
 
 pub fn named(line: &[u8], name: &[u8]) -> bool {

@@ -1,27 +1,32 @@
 // What a replayed script has printed, but for the answers of the calls themselves: replies as numbers and bytes, blocks of the image, and
 // digests. And a block overwritten, as a cut store does.
+#![tactic(auto)]
+
 pub mod log;
 
-ghost use Rattle.std.specs.Prelude.{◌<◌};
+ghost use Rattle.std.specs.Prelude.{◌<◌, ◌++◌, decimal, codes, OnOk};
+ghost use Rattle.std.specs.Io.KnownBytes.{Appends};
+
+use std::io;
+use std::io::Write;
 
 // ---- replies
 
-pub fn say_line(before: &[u8], n: u64) {
-    replay_script::say(before);
-    replay_script::say_number(n);
-    replay_script::say(b"\n");
+pub fn say_line<W: Write>(out: &mut W, before: &[u8], n: u64) -> io::Result<()>
+    ensures { OnOk result (Appends (W.contents out.old) (W.contents out.new) (before.now ++ decimal n ++ codes "\n")) }
+{
+    replay_script::say(out, before)?;
+    writeln!(out, "{n}")
 }
 
-pub fn say_payload(reply: &[u8], n: usize) {
-    replay_script::say_number(n as u64);
-    replay_script::say(b" ");
-    replay_script::say_bytes(reply, n);
-    replay_script::say(b"\n");
+pub fn say_payload(out: &mut impl Write, reply: &[u8], n: usize) -> io::Result<()> {
+    write!(out, "{n} ")?;
+    replay_script::say_bytes(out, reply, n)?;
+    replay_script::say(out, b"\n")
 }
 
-fn say_next(n: u64) {
-    replay_script::say(b" ");
-    replay_script::say_number(n);
+fn say_next(out: &mut impl Write, n: u64) -> io::Result<()> {
+    write!(out, " {n}")
 }
 
 // The transaction of two bytes, high byte first.
@@ -30,19 +35,20 @@ fn transaction_of(high: u8, low: u8) -> u64 {
 }
 
 // The first n transactions of a reply.
-fn say_transactions(reply: &[u8], n: usize) {
+fn say_transactions(out: &mut impl Write, reply: &[u8], n: usize) -> io::Result<()> {
     for i in 0..reply.len() / 2 {
         if i < n {
-            say_next(transaction_of(reply[2 * i], reply[2 * i + 1]));
+            say_next(out, transaction_of(reply[2 * i], reply[2 * i + 1]))?;
         }
     }
+    Ok(())
 }
 
 // The open transactions, in the order of the reply.
-pub fn say_listing(reply: &[u8], n: usize) {
-    replay_script::say_number(n as u64);
-    say_transactions(reply, n);
-    replay_script::say(b"\n");
+pub fn say_listing(out: &mut impl Write, reply: &[u8], n: usize) -> io::Result<()> {
+    write!(out, "{n}")?;
+    say_transactions(out, reply, n)?;
+    replay_script::say(out, b"\n")
 }
 
 // The key of four bytes, high byte first.
@@ -53,27 +59,31 @@ fn key_of(a: u8, b: u8, c: u8, d: u8) -> u64 {
 }
 
 // The first n keys of a reply.
-fn say_keys(reply: &[u8], n: usize) {
+fn say_keys(out: &mut impl Write, reply: &[u8], n: usize) -> io::Result<()> {
     for i in 0..reply.len() / 4 {
         if i < n {
             let k = 4 * i;
-            say_next(key_of(reply[k], reply[k + 1], reply[k + 2], reply[k + 3]));
+            say_next(
+                out,
+                key_of(reply[k], reply[k + 1], reply[k + 2], reply[k + 3]),
+            )?;
         }
     }
+    Ok(())
 }
 
 // The bookings that cross an interval, in the order of the reply.
-pub fn say_crossing(reply: &[u8], n: usize) {
-    replay_script::say_number(n as u64);
-    say_keys(reply, n);
-    replay_script::say(b"\n");
+pub fn say_crossing(out: &mut impl Write, reply: &[u8], n: usize) -> io::Result<()> {
+    write!(out, "{n}")?;
+    say_keys(out, reply, n)?;
+    replay_script::say(out, b"\n")
 }
 
 // ---- blocks of the image
 
 pub fn set_all(s: &mut [u8], byte: u8) {
-    for i in 0..s.len() {
-        s[i] = byte;
+    for x in s.iter_mut() {
+        *x = byte;
     }
 }
 
@@ -89,35 +99,35 @@ fn used(s: &[u8]) -> usize {
 }
 
 // The answer to a line that is no call, or that names a block beyond the image or bytes beyond the log.
-pub fn bad_line() {
-    replay_script::say(b"bad line\n");
+pub fn bad_line<W: Write>(out: &mut W) -> io::Result<()>
+    ensures { OnOk result (Appends (W.contents out.old) (W.contents out.new) (codes "bad line\n")) }
+{
+    replay_script::say(out, b"bad line\n")
 }
 
-pub fn fill(image: &mut [u8], block: u64, byte: u8) {
+pub fn fill(out: &mut impl Write, image: &mut [u8], block: u64, byte: u8) -> io::Result<()> {
     if (image.len() / block_forms::BLOCK_SIZE) as u64 <= block {
-        return bad_line();
+        return bad_line(out);
     }
     let from = block as usize * block_forms::BLOCK_SIZE;
     let to = from + block_forms::BLOCK_SIZE;
     set_all(&mut image[from..to], byte);
-    replay_script::say(b"filled\n");
+    replay_script::say(out, b"filled\n")
 }
 
-fn say_block(block: u64, s: &[u8]) {
-    replay_script::say(b"block ");
-    replay_script::say_number(block);
-    replay_script::say(b" ");
-    replay_script::say_bytes(s, used(s));
-    replay_script::say(b"\n");
+fn say_block(out: &mut impl Write, block: u64, s: &[u8]) -> io::Result<()> {
+    write!(out, "block {block} ")?;
+    replay_script::say_bytes(out, s, used(s))?;
+    replay_script::say(out, b"\n")
 }
 
-pub fn show(image: &[u8], block: u64) {
+pub fn show(out: &mut impl Write, image: &[u8], block: u64) -> io::Result<()> {
     if (image.len() / block_forms::BLOCK_SIZE) as u64 <= block {
-        return bad_line();
+        return bad_line(out);
     }
     let from = block as usize * block_forms::BLOCK_SIZE;
     let to = from + block_forms::BLOCK_SIZE;
-    say_block(block, &image[from..to]);
+    say_block(out, block, &image[from..to])
 }
 
 // The digest with one byte more: a remainder by the largest prime of 32 bits.
@@ -130,12 +140,12 @@ fn digest_with(d: u64, byte: u8) -> u64
 
 fn digest(s: &[u8]) -> u64 {
     let mut d: u64 = 0;
-    for i in 0..s.len() {
-        d = digest_with(d, s[i]);
+    for b in s {
+        d = digest_with(d, *b);
     }
     d
 }
 
-pub fn say_digest(s: &[u8]) {
-    say_line(b"digest ", digest(s));
+pub fn say_digest(out: &mut impl Write, s: &[u8]) -> io::Result<()> {
+    say_line(out, b"digest ", digest(s))
 }

@@ -2,6 +2,8 @@
 use super::bad_line;
 use replay_script::Number;
 use replay_script::words::{arguments, bytes_of, named, number_at, word};
+use std::io;
+use std::io::Write;
 
 // What a line does with the log: a new one of so many bytes; the end that the next logged call takes; a place and how many bytes are overwritten, or
 // printed, from there on; its digest; or the logged call that the rest of the line says.
@@ -90,23 +92,29 @@ pub fn line_of(line: &[u8]) -> Line {
 // ---- bytes
 
 // The bytes that the line's last word spells, over the log's from a place on.
-pub fn tear(log: &mut [u8], line: &[u8], at: u64, count: u64) {
+pub fn tear(
+    out: &mut impl Write,
+    log: &mut [u8],
+    line: &[u8],
+    at: u64,
+    count: u64,
+) -> io::Result<()> {
     let len = log.len() as u64;
     if len < at || len - at < count {
-        return bad_line();
+        return bad_line(out);
     }
     let from = at as usize;
     bytes_of(word(line, 2), &mut log[from..]);
-    replay_script::say(b"torn\n");
+    replay_script::say(out, b"torn\n")
 }
 
-pub fn show_bytes(log: &[u8], at: u64, count: u64) {
+pub fn show_bytes(out: &mut impl Write, log: &[u8], at: u64, count: u64) -> io::Result<()> {
     let len = log.len() as u64;
     if count == 0 || len < at || len - at < count {
-        return bad_line();
+        return bad_line(out);
     }
     let from = at as usize;
-    replay_script::say(b"bytes ");
-    replay_script::say_bytes(&log[from..], count as usize);
-    replay_script::say(b"\n");
+    replay_script::say(out, b"bytes ")?;
+    replay_script::say_bytes(out, &log[from..], count as usize)?;
+    replay_script::say(out, b"\n")
 }
