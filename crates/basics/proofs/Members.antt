@@ -4,7 +4,7 @@ use Rattle.basics.specs.Basics.{AllOf, any, is_in, distinct, how_many, keep, if�
 use Rattle.basics.proofs.Facts.{by, lie, and_true}
 use Rattle.basics.proofs.Elements.{any_cons, eqb_swap, in_here, in_past, any_many, eqb_self, many_append, all_in, in_all, eqb_sym, not_in, in_append, in_one, in_keep, not_in_all}
 use Rattle.basics.proofs.Iterations.{any_end, any_not, any_yes}
-use Rattle.basics.proofs.Kit.{◌++◌, append-nil, append_assoc, subst, ap₂, ◌≤◌, ◌+◌, leb-true, leb-false, ltb, ltb-true, ltb-false, eqb-false}
+use Rattle.basics.proofs.Kit.{◌++◌, append-nil, append_assoc, subst, ap₂, ◌≤◌, leb-true, leb-false, ltb, ltb-true, ltb-false, eqb-false}
 use Rattle.basics.proofs.Elements.{all_two, keep_length, or_right}
 
 pub in_none : (x : ℕ) (s : List ℕ) → ((k : ℕ) → k < length s → x ≡ get_or s k 0 → ⊥) → is_in x s ≡ false

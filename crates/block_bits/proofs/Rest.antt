@@ -1,5 +1,5 @@
 -- A turn of a loop over fields: what is left of them from index i on.
-use Rattle.basics.proofs.Kit.{◌≡◌, ap, List, [], ◌∷◌, ℕ, ◌+◌, ◌≤◌, ◌<◌, add-one, length, drop, get_or, drop_of_length-le, arith}
+use Rattle.basics.proofs.Kit.{◌≡◌, ap, List, ℕ, ◌+◌, ◌≤◌, ◌<◌, length, drop, get_or, drop_of_length-le}
 use Rattle.block_bits.specs.Bits.{bits_of}
 use Rattle.basics.specs.Lists.{over}
 use Rattle.basics.proofs.Iterations.{drop_iteration}

@@ -1,5 +1,7 @@
 // Bit fields in a block of bytes, most significant bit first. A field is read and written by way of its window: the whole
 // bytes that it is in, as one number.
+#![tactic(auto)]
+
 ghost use Rattle.std.specs.Prelude.{◌≡◌, ◌+◌, ◌*◌, ◌/◌, ◌%◌, ◌^◌, ◌<◌, ◌≤◌, length};
 ghost use Rattle.block_bits.specs.Bits.{bits_of, bits_in, field, mixed, Middle, Inside};
 ghost use Rattle.basics.specs.Lists.{over};

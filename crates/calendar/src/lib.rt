@@ -1,5 +1,7 @@
 // Bookings, and the weekly calendar of a dish: rows of opening hours, four bytes each. Whether a booking is open throughout is told at few minutes:
 // its first one, and those just behind a row. Where those of them that it has are open, so is every minute between them.
+#![tactic(auto)]
+
 ghost use Rattle.std.specs.Prelude.{◌≡◌, true, ◌∷◌, ◌+◌, ◌*◌, ◌<◌, ◌≤◌, length, drop, get_or};
 ghost use Rattle.calendar.specs.Calendar.{minutes, week, row_size, rows_of, in_range, is_calendar, until, covers, is_open, open_throughout, end_of, EdgeAsked, edge_open};
 

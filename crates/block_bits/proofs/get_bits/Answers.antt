@@ -1,5 +1,5 @@
 -- `block_bits::get_bits` meets its contract: the field is a part of the number in its window (`window_get`).
-use Rattle.basics.proofs.Kit.{ℕ, ◌+◌, ◌*◌, ◌%◌, ◌/◌, ◌-◌, mod-lt, pow_pos, rules, arith}
+use Rattle.basics.proofs.Kit.{ℕ, ◌+◌, ◌*◌, ◌%◌, ◌/◌, ◌-◌, mod-lt, pow_pos, arith}
 use Rattle.block_bits.proofs.Window.{window_get}
 use Rattle.block_bits.proofs.get_bits.Goals as goal
 

@@ -1,6 +1,6 @@
 -- `block_bits::load` meets its contract. The invariant: acc is the number in the first i of the n bytes.
-use Rattle.basics.proofs.Kit.{◌≡◌, refl, ◌+◌, ◌*◌, ◌^◌, ◌≤◌, ◌<◌, ◌-◌, lit<, get_or, arith}
-use Rattle.block_bits.specs.Bits.{field, number, bits_in}
+use Rattle.basics.proofs.Kit.{◌≡◌, refl, ◌+◌, ◌<◌, lit<, get_or, arith}
+use Rattle.block_bits.specs.Bits.{field, number}
 use Rattle.block_bits.proofs.Window.{load_iteration, load_lt, load_fits}
 use Rattle.block_bits.proofs.load.Goals as goal
 

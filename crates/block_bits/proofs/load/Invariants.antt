@@ -1,6 +1,5 @@
-use Rattle.basics.proofs.Kit.{◌≡◌, refl, ◌+◌, ◌*◌, ◌^◌, ◌≤◌, ◌<◌, ◌-◌, lit<, get_or, arith}
-use Rattle.block_bits.specs.Bits.{field, number, bits_in}
-use Rattle.block_bits.proofs.Window.{load_iteration, load_lt, load_fits}
+use Rattle.basics.proofs.Kit.{◌≡◌, ◌*◌, ◌^◌, ◌≤◌, ◌<◌, ◌-◌}
+use Rattle.block_bits.specs.Bits.{field, bits_in}
 use Rattle.block_bits.proofs.load.Given as goal
 
 abbrev pub invariant-loop-i : goal.invariant-loop-i

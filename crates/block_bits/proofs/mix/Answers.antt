@@ -13,9 +13,9 @@ overflow_add-high c = let a = c.args in
 
 pub shl-requires-2 : goal.shl-requires-2
 shl-requires-2 c = let a = c.args in (
-      search rules,
-      rw (c.low.ensures, c.shl.ensures, c.shr.ensures) (omega (arith, (window_fits a.r a.k a.t a.old a.x c.requires.size c.requires.fits).1)),
-    )
+  search rules,
+  rw (c.low.ensures, c.shl.ensures, c.shr.ensures) (omega (arith, (window_fits a.r a.k a.t a.old a.x c.requires.size c.requires.fits).1)),
+)
 
 pub overflow_add-result : goal.overflow_add-result
 overflow_add-result c = let a = c.args in

@@ -1,5 +1,5 @@
 -- `block_bits::put_bits` meets its contract: the window is stored with the field exchanged in it (`window_put`).
-use Rattle.basics.proofs.Kit.{◌≡◌, subst, ℕ, ◌+◌, ◌*◌, ◌%◌, ◌^◌, ◌<◌, ◌/◌, ◌-◌, rules, arith}
+use Rattle.basics.proofs.Kit.{◌≡◌, subst, ℕ, ◌+◌, ◌*◌, ◌%◌, ◌^◌, ◌<◌, ◌/◌, ◌-◌, arith}
 use Rattle.block_bits.specs.Bits.{bits_in}
 use Rattle.block_bits.proofs.Window.{window_put}
 use Rattle.block_bits.proofs.put_bits.Goals as goal

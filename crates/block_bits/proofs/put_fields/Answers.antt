@@ -1,7 +1,6 @@
 -- `block_bits::put_fields` meets its contract. The invariant: the fields that are left, put over the block as it is, give the answer.
-use Rattle.basics.proofs.Kit.{◌≡◌, refl, sym, ◌∙◌, ◌+◌, ◌≤◌, ◌<◌, ◌-◌, length, drop, arith}
+use Rattle.basics.proofs.Kit.{refl, sym, ◌∙◌, ◌<◌, length, arith}
 use Rattle.block_bits.specs.Bits.{bits_in}
-use Rattle.block_bits.specs.Fields.{put_all, fields_of, sum, Words}
 use Rattle.block_bits.proofs.Rest.{sum_rest, words_rest, put_rest, put_none}
 use Rattle.block_bits.proofs.put_fields.Goals as goal
 

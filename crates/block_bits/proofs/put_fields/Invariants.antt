@@ -1,7 +1,6 @@
-use Rattle.basics.proofs.Kit.{◌≡◌, refl, sym, ◌∙◌, ◌+◌, ◌≤◌, ◌<◌, ◌-◌, length, drop, arith}
+use Rattle.basics.proofs.Kit.{◌≡◌, ◌+◌, ◌≤◌, ◌-◌, length, drop}
 use Rattle.block_bits.specs.Bits.{bits_in}
 use Rattle.block_bits.specs.Fields.{put_all, fields_of, sum, Words}
-use Rattle.block_bits.proofs.Rest.{sum_rest, words_rest, put_rest, put_none}
 use Rattle.block_bits.proofs.put_fields.Given as goal
 
 abbrev pub invariant-loop-i : goal.invariant-loop-i

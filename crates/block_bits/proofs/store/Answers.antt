@@ -1,7 +1,6 @@
 -- `block_bits::store` meets its contract. The invariant: the first i of the n bytes of x are put, and no other bit differs.
-use Rattle.basics.proofs.Kit.{◌≡◌, refl, sym, ◌∙◌, ◌+◌, ◌*◌, ◌^◌, ◌≤◌, ◌/◌, ◌-◌, length, length-set, arith}
+use Rattle.basics.proofs.Kit.{refl, sym, ◌∙◌, ◌+◌, ◌*◌, length-set, arith}
 use Rattle.block_bits.specs.Bits.{bits_of, bits_in}
-use Rattle.basics.specs.Lists.{over}
 use Rattle.basics.proofs.Overs.{over_nil}
 use Rattle.block_bits.proofs.Window.{store_iteration, store_end}
 use Rattle.block_bits.proofs.store.Goals as goal

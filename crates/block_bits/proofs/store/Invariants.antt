@@ -1,8 +1,6 @@
-use Rattle.basics.proofs.Kit.{◌≡◌, refl, sym, ◌∙◌, ◌+◌, ◌*◌, ◌^◌, ◌≤◌, ◌/◌, ◌-◌, length, length-set, arith}
+use Rattle.basics.proofs.Kit.{◌≡◌, ◌*◌, ◌^◌, ◌≤◌, ◌/◌, ◌-◌, length}
 use Rattle.block_bits.specs.Bits.{bits_of, bits_in}
 use Rattle.basics.specs.Lists.{over}
-use Rattle.basics.proofs.Overs.{over_nil}
-use Rattle.block_bits.proofs.Window.{store_iteration, store_end}
 use Rattle.block_bits.proofs.store.Given as goal
 
 abbrev pub invariant-loop-i : goal.invariant-loop-i

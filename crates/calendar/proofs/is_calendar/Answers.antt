@@ -1,9 +1,8 @@
 -- `calendar::is_calendar` meets its contract: its two tests of the length, then a walk along the rows.
-use Rattle.basics.proofs.Kit.{sym, ◌∙◌, length, ◌-◌, ◌*◌, ◌≤◌, ◌≡◌, ◌%◌, not-true, not-false, rules, arith}
+use Rattle.basics.proofs.Kit.{sym, ◌∙◌, arith}
 use Rattle.basics.specs.Basics.{all}
 use Rattle.basics.proofs.Iterations.{all_yes, all_not}
-use Rattle.calendar.specs.Calendar.{row_limit, row_size, in_range}
-use Rattle.calendar.proofs.Rows.{too_many, not_whole, by_rows, Walk, walk_start, walk_next, walk_end}
+use Rattle.calendar.proofs.Rows.{too_many, not_whole, by_rows, walk_start, walk_next, walk_end}
 use Rattle.calendar.proofs.is_calendar.Goals as goal
 
 pub returns-then-n : goal.returns-then-n

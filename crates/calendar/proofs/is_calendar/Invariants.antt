@@ -1,8 +1,7 @@
-use Rattle.basics.proofs.Kit.{sym, ◌∙◌, length, ◌-◌, ◌*◌, ◌≤◌, ◌≡◌, ◌%◌, not-true, not-false, rules, arith}
+use Rattle.basics.proofs.Kit.{length, ◌-◌, ◌*◌, ◌≤◌, ◌≡◌, ◌%◌}
 use Rattle.basics.specs.Basics.{all}
-use Rattle.basics.proofs.Iterations.{all_yes, all_not}
 use Rattle.calendar.specs.Calendar.{row_limit, row_size, in_range}
-use Rattle.calendar.proofs.Rows.{too_many, not_whole, by_rows, Walk, walk_start, walk_next, walk_end}
+use Rattle.calendar.proofs.Rows.{Walk}
 use Rattle.calendar.proofs.is_calendar.Given as goal
 
 abbrev pub invariant-loop-at : goal.invariant-loop-at

@@ -1,10 +1,9 @@
 -- `calendar::is_open` meets its contract: a walk along the rows, which ends at one that covers the minute.
-use Rattle.basics.proofs.Kit.{sym, ◌∙◌, length, ◌-◌, arith}
-use Rattle.basics.specs.Basics.{any, all}
+use Rattle.basics.proofs.Kit.{sym, ◌∙◌, arith}
+use Rattle.basics.specs.Basics.{any}
 use Rattle.basics.proofs.Iterations.{any_yes, any_not, all_yes}
-use Rattle.calendar.specs.Calendar.{in_range, covers}
 use Rattle.calendar.proofs.Edges.{open_here}
-use Rattle.calendar.proofs.Rows.{parts, Walk, walk_start, walk_next, walk_end, row_ranged}
+use Rattle.calendar.proofs.Rows.{parts, walk_start, walk_next, walk_end, row_ranged}
 use Rattle.calendar.proofs.is_open.Goals as goal
 
 pub loop-at-init : goal.loop-at-init

@@ -1,9 +1,7 @@
-use Rattle.basics.proofs.Kit.{sym, ◌∙◌, length, ◌-◌, arith}
+use Rattle.basics.proofs.Kit.{length, ◌-◌}
 use Rattle.basics.specs.Basics.{any, all}
-use Rattle.basics.proofs.Iterations.{any_yes, any_not, all_yes}
 use Rattle.calendar.specs.Calendar.{in_range, covers}
-use Rattle.calendar.proofs.Edges.{open_here}
-use Rattle.calendar.proofs.Rows.{parts, Walk, walk_start, walk_next, walk_end, row_ranged}
+use Rattle.calendar.proofs.Rows.{Walk}
 use Rattle.calendar.proofs.is_open.Given as goal
 
 abbrev pub invariant-loop-at : goal.invariant-loop-at

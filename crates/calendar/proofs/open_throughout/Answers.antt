@@ -1,10 +1,10 @@
 -- `calendar::open_throughout` meets its contract: the first minute and those just behind rows tell it (`closed_first`, `by_ends`).
-use Rattle.basics.proofs.Kit.{◌≡◌, sym, ap, ◌∙◌, true, ◌%◌, length, ◌-◌, mod-lt, subst, ◌<◌, not-true, not-false, arith}
+use Rattle.basics.proofs.Kit.{sym, ap, ◌∙◌, mod-lt, subst, ◌<◌, arith}
 use Rattle.basics.specs.Basics.{all}
 use Rattle.basics.proofs.Iterations.{all_yes, all_not}
-use Rattle.calendar.specs.Calendar.{week, rows_of, in_range, end_of, edge_open}
+use Rattle.calendar.specs.Calendar.{week, edge_open}
 use Rattle.calendar.proofs.Edges.{end_below, closed_first, by_ends}
-use Rattle.calendar.proofs.Rows.{parts, Walk, walk_start, walk_next, walk_end, row_ranged}
+use Rattle.calendar.proofs.Rows.{parts, walk_start, walk_next, walk_end, row_ranged}
 use Rattle.calendar.proofs.open_throughout.Goals as goal
 
 pub edge_open-requires : goal.edge_open-requires

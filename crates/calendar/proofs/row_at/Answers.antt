@@ -1,6 +1,5 @@
 -- `calendar::row_at` meets its contract: four bytes are a row (`row_read`).
 use Rattle.calendar.proofs.Rows.{row_read}
-use Rattle.basics.proofs.Kit.{rules}
 use Rattle.calendar.proofs.row_at.Goals as goal
 
 pub returns : goal.returns

@@ -1,5 +1,5 @@
 -- `calendar::two_bytes` meets its contract: two bytes are below 65,536.
-use Rattle.basics.proofs.Kit.{◌+◌, rules, arith}
+use Rattle.basics.proofs.Kit.{◌+◌, arith}
 use Rattle.calendar.proofs.two_bytes.Goals as goal
 
 pub overflow_cast-result : goal.overflow_cast-result

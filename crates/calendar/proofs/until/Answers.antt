@@ -1,5 +1,5 @@
 -- `calendar::until` meets its contract: where b is before a, a week is added.
-use Rattle.basics.proofs.Kit.{rules, arith}
+use Rattle.basics.proofs.Kit.{arith}
 use Rattle.calendar.specs.Calendar.{until}
 use Rattle.calendar.proofs.until.Goals as goal
 
