@@ -16,100 +16,71 @@ pub returns-then-not-holds_store : goal.returns-then-not-holds_store
 returns-then-not-holds_store c = room_refused c.args.room begin_call _ 4 _ (answers_4 begin_call _ (sym c.holds_store.ensures ∙ c.if-not-holds_store.true))
 
 pub is_running-requires : goal.is_running-requires
-is_running-requires c = let began : goal.Start = c.before.before.before.before in
-    let memory : List ℕ = (began).args.m.now in
-    let has_store : holds_store ((((c.before.before.before.before)).args.m.now)) ≡ true = sym c.holds_store.ensures ∙ c.if-not-holds_store.false in
-    (sizes (holds_room _ (has_store))).long
+is_running-requires c = let memory : List ℕ = c.args.m.now in
+    let has_store : holds_store ((c.args.m.now)) ≡ true = sym c.holds_store.ensures ∙ c.if-not-holds_store.false in
+    (sizes (holds_room _ has_store)).long
 
 pub returns-then-is_running : goal.returns-then-is_running
-returns-then-is_running c = let began : goal.Start = c.before.before.before.before in
-    let memory : List ℕ = (began).args.m.now in
-    let has_store : holds_store ((((c.before.before.before.before)).args.m.now)) ≡ true = sym c.holds_store.ensures ∙ c.if-not-holds_store.false in
-    room_refused (began).args.room begin_call _ 17 _
-    (answers_refused begin_call (memory) 17 (has_store) (begin_17 (flat_of (memory)) (sym c.is_running.ensures ∙ c.if-is_running.true)))
+returns-then-is_running c = let memory : List ℕ = c.args.m.now in
+    let has_store : holds_store ((c.args.m.now)) ≡ true = sym c.holds_store.ensures ∙ c.if-not-holds_store.false in
+    room_refused c.args.room begin_call _ 17 _
+    (answers_refused begin_call memory 17 has_store (begin_17 (flat_of memory) (sym c.is_running.ensures ∙ c.if-is_running.true)))
 
 pub get_head-h-requires : goal.get_head-h-requires
-get_head-h-requires c = let began : goal.Start = c.before.before.before.before in
-    let memory : List ℕ = (began).args.m.now in
-    let has_store : holds_store ((((c.before.before.before.before)).args.m.now)) ≡ true = sym c.holds_store.ensures ∙ c.if-not-holds_store.false in
-    let holds : goal.Else-not-holds_store = c.before.before.before in
-    (sizes (holds_room _ (has_store (holds)))).long
+get_head-h-requires c = let memory : List ℕ = c.args.m.now in
+    let has_store : holds_store ((c.args.m.now)) ≡ true = sym c.holds_store.ensures ∙ c.if-not-holds_store.false in
+    (sizes (holds_room _ has_store)).long
 
 pub returns-then-h : goal.returns-then-h
-returns-then-h c = let began : goal.Start = c.before.before.before.before in
-    let memory : List ℕ = (began).args.m.now in
-    let has_store : holds_store ((((c.before.before.before.before)).args.m.now)) ≡ true = sym c.holds_store.ensures ∙ c.if-not-holds_store.false in
-    let holds : goal.Else-not-holds_store = c.before.before.before in
-    let idle : is_running (store_of (flat_of (memory ()))).checkpoint ≡ false = sym c.is_running.ensures ∙ c.if-is_running.false in
-    let m = memory (holds) in
-    room_refused (began (holds)).args.room begin_call _ 19 _
-    (answers_refused begin_call m 19 (has_store (holds)) (begin_19 (flat_of m) (idle) (ap (λ (h : Head). h.level) (sym c.get_head-h.ensures) ∙ c.if-h.true)))
+returns-then-h c = let memory : List ℕ = c.args.m.now in
+    let has_store : holds_store ((c.args.m.now)) ≡ true = sym c.holds_store.ensures ∙ c.if-not-holds_store.false in
+    let idle : is_running (store_of (flat_of ((c.args.m.now)))).checkpoint ≡ false = sym c.is_running.ensures ∙ c.if-is_running.false in
+    let m = memory in
+    room_refused c.args.room begin_call _ 19 _
+    (answers_refused begin_call m 19 has_store (begin_19 (flat_of m) idle (ap (λ (h : Head). h.level) (sym c.get_head-h.ensures) ∙ c.if-h.true)))
 
 pub blocks_needed-need-requires : goal.blocks_needed-need-requires
-blocks_needed-need-requires c = let began : goal.Start = c.before.before.before.before in
-    let memory : List ℕ = (began).args.m.now in
-    let has_store : holds_store ((((c.before.before.before.before)).args.m.now)) ≡ true = sym c.holds_store.ensures ∙ c.if-not-holds_store.false in
-    let holds : goal.Else-not-holds_store = c.before.before.before in
-    let rests : goal.Else-is_running = c.before.before.before.before in
-    has_store (holds (rests))
+blocks_needed-need-requires c = let memory : List ℕ = c.args.m.now in
+    let has_store : holds_store ((c.args.m.now)) ≡ true = sym c.holds_store.ensures ∙ c.if-not-holds_store.false in
+    has_store
 
 pub enough_free-requires : goal.enough_free-requires
-enough_free-requires c = let began : goal.Start = c.before.before.before.before in
-    let memory : List ℕ = (began).args.m.now in
-    let has_store : holds_store ((((c.before.before.before.before)).args.m.now)) ≡ true = sym c.holds_store.ensures ∙ c.if-not-holds_store.false in
-    let holds : goal.Else-not-holds_store = c.before.before.before in
-    let rests : goal.Else-is_running = c.before.before.before.before in
-    holds_room _ (has_store (holds (rests)))
+enough_free-requires c = let memory : List ℕ = c.args.m.now in
+    let has_store : holds_store ((c.args.m.now)) ≡ true = sym c.holds_store.ensures ∙ c.if-not-holds_store.false in
+    holds_room _ has_store
 
 pub returns-then-not-enough_free : goal.returns-then-not-enough_free
-returns-then-not-enough_free c = let began : goal.Start = c.before.before.before.before in
-    let memory : List ℕ = (began).args.m.now in
-    let has_store : holds_store ((((c.before.before.before.before)).args.m.now)) ≡ true = sym c.holds_store.ensures ∙ c.if-not-holds_store.false in
-    let holds : goal.Else-not-holds_store = c.before.before.before in
-    let idle : is_running (store_of (flat_of (memory ()))).checkpoint ≡ false = sym c.is_running.ensures ∙ c.if-is_running.false in
-    let rests : goal.Else-is_running = c.before.before.before.before in
-    let level_is : c.get_head-h.result.level ≡ (flat_of (memory (holds ()))).head.level = ap (λ (h : Head). h.level) c.get_head-h.ensures in
-    let low : (flat_of (memory (holds ()))).head.level ≡ 4294967295 → ⊥ = λ z. c.if-h.false (level_is ∙ z) in
+returns-then-not-enough_free c = let memory : List ℕ = c.args.m.now in
+    let has_store : holds_store ((c.args.m.now)) ≡ true = sym c.holds_store.ensures ∙ c.if-not-holds_store.false in
+    let idle : is_running (store_of (flat_of ((c.args.m.now)))).checkpoint ≡ false = sym c.is_running.ensures ∙ c.if-is_running.false in
+    let level_is : c.get_head-h.result.level ≡ (flat_of ((c.args.m.now))).head.level = ap (λ (h : Head). h.level) c.get_head-h.ensures in
+    let low : (flat_of ((c.args.m.now))).head.level ≡ 4294967295 → ⊥ = λ z. c.if-h.false (level_is ∙ z) in
     let n = c.blocks_needed-need in
-    let m = memory (holds (rests)) in
+    let m = memory in
     let few = leb-false _ (free_count (store_of (flat_of m))) (sym c.enough_free.ensures ∙ c.if-not-enough_free.true) in
-    room_refused (began (holds (rests))).args.room begin_call _ 20 _
-    (answers_refused begin_call m 20 (has_store (holds (rests))) (begin_20 (flat_of m) (idle (rests)) (low) (omega (arith, few, n.ensures.0))))
+    room_refused c.args.room begin_call _ 20 _
+    (answers_refused begin_call m 20 has_store (begin_20 (flat_of m) idle low (omega (arith, few, n.ensures.0))))
 
 pub returns-then-not-room : goal.returns-then-not-room
-returns-then-not-room c = let began : goal.Start = c.before.before.before.before in
-    let memory : List ℕ = (began).args.m.now in
-    let has_store : holds_store ((((c.before.before.before.before)).args.m.now)) ≡ true = sym c.holds_store.ensures ∙ c.if-not-holds_store.false in
-    let holds : goal.Else-not-holds_store = c.before.before.before in
-    let idle : is_running (store_of (flat_of (memory ()))).checkpoint ≡ false = sym c.is_running.ensures ∙ c.if-is_running.false in
-    let rests : goal.Else-is_running = c.before.before.before.before in
-    let level_is : c.get_head-h.result.level ≡ (flat_of (memory (holds ()))).head.level = ap (λ (h : Head). h.level) c.get_head-h.ensures in
-    let low : (flat_of (memory (holds ()))).head.level ≡ 4294967295 → ⊥ = λ z. c.if-h.false (level_is ∙ z) in
-    let leveled : goal.Else-h = c.before.before.before.before.before in
-    let begins : let s = store_of (flat_of (memory (holds (rests ())))) in begin_call s ≡ gives (model.count (c.blocks_needed-need.result + 1)) (begun s) = let n = c.blocks_needed-need in let e = leveled in let m = memory (holds (rests e)) in let s : Store = store_of (flat_of m) in let enough = leb-true _ (free_count s) (sym c.enough_free.ensures ∙ c.if-not-enough_free.false) in begin_done (flat_of m) (idle (rests e)) (low e) (omega (arith, enough, n.ensures.0)) ∙ ap (λ (z : ℕ). gives (model.count (z + 1)) (begun s)) (sym n.ensures.0) in
-    let h = holds (rests (leveled)) in
-    no_room_count (began h).args.room begin_call _ (c.if-not-room.true) (has_store h) _ _ (begins)
+returns-then-not-room c = let memory : List ℕ = c.args.m.now in
+    let has_store : holds_store ((c.args.m.now)) ≡ true = sym c.holds_store.ensures ∙ c.if-not-holds_store.false in
+    let idle : is_running (store_of (flat_of ((c.args.m.now)))).checkpoint ≡ false = sym c.is_running.ensures ∙ c.if-is_running.false in
+    let level_is : c.get_head-h.result.level ≡ (flat_of ((c.args.m.now))).head.level = ap (λ (h : Head). h.level) c.get_head-h.ensures in
+    let low : (flat_of ((c.args.m.now))).head.level ≡ 4294967295 → ⊥ = λ z. c.if-h.false (level_is ∙ z) in
+    let begins : let s = store_of (flat_of ((c.args.m.now))) in begin_call s ≡ gives (model.count (c.blocks_needed-need.result + 1)) (begun s) = let n = c.blocks_needed-need in let m = memory in let s : Store = store_of (flat_of m) in let enough = leb-true _ (free_count s) (sym c.enough_free.ensures ∙ c.if-not-enough_free.false) in begin_done (flat_of m) idle low (omega (arith, enough, n.ensures.0)) ∙ ap (λ (z : ℕ). gives (model.count (z + 1)) (begun s)) (sym n.ensures.0) in
+    no_room_count c.args.room begin_call _ (c.if-not-room.true) has_store _ _ begins
 
 pub start-requires : goal.start-requires
-start-requires c = let began : goal.Start = c.before.before.before.before in
-    let memory : List ℕ = (began).args.m.now in
-    let has_store : holds_store ((((c.before.before.before.before)).args.m.now)) ≡ true = sym c.holds_store.ensures ∙ c.if-not-holds_store.false in
-    let holds : goal.Else-not-holds_store = c.before.before.before in
-    let rests : goal.Else-is_running = c.before.before.before.before in
-    let level_is : c.get_head-h.result.level ≡ (flat_of (memory (holds ()))).head.level = ap (λ (h : Head). h.level) c.get_head-h.ensures in
-    let leveled : goal.Else-h = c.before.before.before.before.before in
-    let e = leveled in (has_store (holds (rests e)), omega (arith, level_is e, e.if3.left))
+start-requires c = let memory : List ℕ = c.args.m.now in
+    let has_store : holds_store ((c.args.m.now)) ≡ true = sym c.holds_store.ensures ∙ c.if-not-holds_store.false in
+    let level_is : c.get_head-h.result.level ≡ (flat_of ((c.args.m.now))).head.level = ap (λ (h : Head). h.level) c.get_head-h.ensures in
+    (has_store, omega (arith, level_is, c.if-h.false))
 
 pub returns : goal.returns
-returns c = let began : goal.Start = c.before.before.before.before in
-    let memory : List ℕ = (began).args.m.now in
-    let has_store : holds_store ((((c.before.before.before.before)).args.m.now)) ≡ true = sym c.holds_store.ensures ∙ c.if-not-holds_store.false in
-    let holds : goal.Else-not-holds_store = c.before.before.before in
-    let idle : is_running (store_of (flat_of (memory ()))).checkpoint ≡ false = sym c.is_running.ensures ∙ c.if-is_running.false in
-    let rests : goal.Else-is_running = c.before.before.before.before in
-    let level_is : c.get_head-h.result.level ≡ (flat_of (memory (holds ()))).head.level = ap (λ (h : Head). h.level) c.get_head-h.ensures in
-    let low : (flat_of (memory (holds ()))).head.level ≡ 4294967295 → ⊥ = λ z. c.if-h.false (level_is ∙ z) in
-    let leveled : goal.Else-h = c.before.before.before.before.before in
-    let begins : let s = store_of (flat_of (memory (holds (rests ())))) in begin_call s ≡ gives (model.count (c.blocks_needed-need.result + 1)) (begun s) = let n = c.blocks_needed-need in let e = leveled in let m = memory (holds (rests e)) in let s : Store = store_of (flat_of m) in let enough = leb-true _ (free_count s) (sym c.enough_free.ensures ∙ c.if-not-enough_free.false) in begin_done (flat_of m) (idle (rests e)) (low e) (omega (arith, enough, n.ensures.0)) ∙ ap (λ (z : ℕ). gives (model.count (z + 1)) (begun s)) (sym n.ensures.0) in
-    let h = holds (rests (leveled)) in
-    room_kept (began h).args.room begin_call _ (c.if-not-room.false) _ _ (answers_count begin_call _ _ _ _ (has_store h) (begins) c.start.ensures)
+returns c = let memory : List ℕ = c.args.m.now in
+    let has_store : holds_store ((c.args.m.now)) ≡ true = sym c.holds_store.ensures ∙ c.if-not-holds_store.false in
+    let idle : is_running (store_of (flat_of ((c.args.m.now)))).checkpoint ≡ false = sym c.is_running.ensures ∙ c.if-is_running.false in
+    let level_is : c.get_head-h.result.level ≡ (flat_of ((c.args.m.now))).head.level = ap (λ (h : Head). h.level) c.get_head-h.ensures in
+    let low : (flat_of ((c.args.m.now))).head.level ≡ 4294967295 → ⊥ = λ z. c.if-h.false (level_is ∙ z) in
+    let begins : let s = store_of (flat_of ((c.args.m.now))) in begin_call s ≡ gives (model.count (c.blocks_needed-need.result + 1)) (begun s) = let n = c.blocks_needed-need in let m = memory in let s : Store = store_of (flat_of m) in let enough = leb-true _ (free_count s) (sym c.enough_free.ensures ∙ c.if-not-enough_free.false) in begin_done (flat_of m) idle low (omega (arith, enough, n.ensures.0)) ∙ ap (λ (z : ℕ). gives (model.count (z + 1)) (begun s)) (sym n.ensures.0) in
+    room_kept c.args.room begin_call _ (c.if-not-room.false) _ _ (answers_count begin_call _ _ _ _ has_store begins c.start.ensures)

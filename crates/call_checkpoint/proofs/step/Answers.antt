@@ -11,12 +11,10 @@ returns-then-v-ne0 c = let p = c.args in
     stopped (length img) _ _ c.step_refusal-v.ensures (step_call (length img)) (step_5 (length img)) (step_18 (length img)) img c.if-v-ne0.true
 
 pub store_next-n-requires : goal.store_next-n-requires
-store_next-n-requires c = let began : goal.Start = c.before.before.before.before.before in
-    let ready : Ready ((c.before.before.before.before.before)).args.image.now ((c.before.before.before.before.before)).args.m.now = passed_ready _ _ _ c.step_refusal-v.ensures c.if-v-ne0.false in
+store_next-n-requires c = let ready : Ready c.args.image.now c.args.m.now = passed_ready _ _ _ c.step_refusal-v.ensures c.if-v-ne0.false in
     ready
 
 pub returns : goal.returns
-returns c = let began : goal.Start = c.before.before.before.before.before in
-    let ready : Ready ((c.before.before.before.before.before)).args.image.now ((c.before.before.before.before.before)).args.m.now = passed_ready _ _ _ c.step_refusal-v.ensures c.if-v-ne0.false in
+returns c = let ready : Ready c.args.image.now c.args.m.now = passed_ready _ _ _ c.step_refusal-v.ensures c.if-v-ne0.false in
     let d = c.store_next-n.ensures in
-    step_done _ _ _ _ _ (ready) d.0 d.1
+    step_done _ _ _ _ _ ready d.0 d.1

@@ -12,38 +12,28 @@ pub returns-then-not-holds_store : goal.returns-then-not-holds_store
 returns-then-not-holds_store c = refusal_4 _ _ (sym c.holds_store.ensures ∙ c.if-not-holds_store.true)
 
 pub get_head-h-requires : goal.get_head-h-requires
-get_head-h-requires c = let began : goal.Start = c.before.before.before in
-    let memory : List ℕ = (began).args.m.now in
-    let has_store : holds_store ((((c.before.before.before)).args.m.now)) ≡ true = sym c.holds_store.ensures ∙ c.if-not-holds_store.false in
-    (sizes (holds_room _ (has_store))).long
+get_head-h-requires c = let memory : List ℕ = c.args.m.now in
+    let has_store : holds_store ((c.args.m.now)) ≡ true = sym c.holds_store.ensures ∙ c.if-not-holds_store.false in
+    (sizes (holds_room _ has_store)).long
 
 pub returns-then-len-n : goal.returns-then-len-n
-returns-then-len-n c = let began : goal.Start = c.before.before.before in
-    let memory : List ℕ = (began).args.m.now in
-    let has_store : holds_store ((((c.before.before.before)).args.m.now)) ≡ true = sym c.holds_store.ensures ∙ c.if-not-holds_store.false in
-    refusal_5 (began).args.len (memory) (has_store) (λ q. c.if-len-n.true (q ∙ ap (λ (h : Head). block_size * h.blocks) (sym c.get_head-h.ensures)))
+returns-then-len-n c = let memory : List ℕ = c.args.m.now in
+    let has_store : holds_store ((c.args.m.now)) ≡ true = sym c.holds_store.ensures ∙ c.if-not-holds_store.false in
+    refusal_5 c.args.len memory has_store (λ q. c.if-len-n.true (q ∙ ap (λ (h : Head). block_size * h.blocks) (sym c.get_head-h.ensures)))
 
 pub is_running-requires : goal.is_running-requires
-is_running-requires c = let began : goal.Start = c.before.before.before in
-    let memory : List ℕ = (began).args.m.now in
-    let has_store : holds_store ((((c.before.before.before)).args.m.now)) ≡ true = sym c.holds_store.ensures ∙ c.if-not-holds_store.false in
-    let holds : goal.Else-not-holds_store = c.before.before.before in
-    (sizes (holds_room _ (has_store (holds)))).long
+is_running-requires c = let memory : List ℕ = c.args.m.now in
+    let has_store : holds_store ((c.args.m.now)) ≡ true = sym c.holds_store.ensures ∙ c.if-not-holds_store.false in
+    (sizes (holds_room _ has_store)).long
 
 pub returns-then-not-is_running : goal.returns-then-not-is_running
-returns-then-not-is_running c = let began : goal.Start = c.before.before.before in
-    let memory : List ℕ = (began).args.m.now in
-    let has_store : holds_store ((((c.before.before.before)).args.m.now)) ≡ true = sym c.holds_store.ensures ∙ c.if-not-holds_store.false in
-    let holds : goal.Else-not-holds_store = c.before.before.before in
-    let long : (began ()).args.len ≡ block_size * (flat_of (memory ())).head.blocks = c.if-len-n.false ∙ ap (λ (h : Head). block_size * h.blocks) c.get_head-h.ensures in
-    let h = holds in
-    refusal_18 (began h).args.len (memory h) (has_store h) (long) (sym c.is_running.ensures ∙ c.if-not-is_running.true)
+returns-then-not-is_running c = let memory : List ℕ = c.args.m.now in
+    let has_store : holds_store ((c.args.m.now)) ≡ true = sym c.holds_store.ensures ∙ c.if-not-holds_store.false in
+    let long : c.args.len ≡ block_size * (flat_of ((c.args.m.now))).head.blocks = c.if-len-n.false ∙ ap (λ (h : Head). block_size * h.blocks) c.get_head-h.ensures in
+    refusal_18 c.args.len memory has_store long (sym c.is_running.ensures ∙ c.if-not-is_running.true)
 
 pub returns : goal.returns
-returns c = let began : goal.Start = c.before.before.before in
-    let memory : List ℕ = (began).args.m.now in
-    let has_store : holds_store ((((c.before.before.before)).args.m.now)) ≡ true = sym c.holds_store.ensures ∙ c.if-not-holds_store.false in
-    let holds : goal.Else-not-holds_store = c.before.before.before in
-    let long : (began ()).args.len ≡ block_size * (flat_of (memory ())).head.blocks = c.if-len-n.false ∙ ap (λ (h : Head). block_size * h.blocks) c.get_head-h.ensures in
-    let h = holds in
-    refusal_none (began h).args.len (memory h) (has_store h) (long) (sym c.is_running.ensures ∙ c.if-not-is_running.false)
+returns c = let memory : List ℕ = c.args.m.now in
+    let has_store : holds_store ((c.args.m.now)) ≡ true = sym c.holds_store.ensures ∙ c.if-not-holds_store.false in
+    let long : c.args.len ≡ block_size * (flat_of ((c.args.m.now))).head.blocks = c.if-len-n.false ∙ ap (λ (h : Head). block_size * h.blocks) c.get_head-h.ensures in
+    refusal_none c.args.len memory has_store long (sym c.is_running.ensures ∙ c.if-not-is_running.false)

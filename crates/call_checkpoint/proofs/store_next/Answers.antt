@@ -32,25 +32,22 @@ pub get_head-h-requires : goal.get_head-h-requires
 get_head-h-requires c = (sizes (holds_room _ c.requires.runs.has_store)).long
 
 pub lend_allocator-requires : goal.lend_allocator-requires
-lend_allocator-requires c = let began : goal.Start = c.before.before.before.before.before.before.before.before in
-    let left_is : c.blocks_left-n.result ≡ (allocator_in ((c.before.before.before.before.before.before.before.before)).args.m.now).left = c.blocks_left-n.ensures.0 in
-    let block : BlockLeft ((c.before.before.before.before.before.before.before.before)).args.image.now ((c.before.before.before.before.before.before.before.before)).args.m.now c.first_frozen-p.result = let f = c.first_frozen-p in record { ready = (began).requires; next = found_first (began).args.m.now f.ensures; some_left = omega (arith, c.if-n-eq0.false, left_is) } in
+lend_allocator-requires c = let left_is : c.blocks_left-n.result ≡ (allocator_in c.args.m.now).left = c.blocks_left-n.ensures.0 in
+    let block : BlockLeft c.args.image.now c.args.m.now c.first_frozen-p.result = let f = c.first_frozen-p in record { ready = c.requires; next = found_first c.args.m.now f.ensures; some_left = omega (arith, c.if-n-eq0.false, left_is) } in
     let t = ap (λ (x : Head). x.taken) c.get_head-h.ensures in
     let l = left_is in
     (block, λ i. record { taken = t i; left = l i })
 
 pub overflow_add-result : goal.overflow_add-result
-overflow_add-result c = let began : goal.Start = c.before.before.before.before.before.before.before.before in
-    let left_is : c.blocks_left-n.result ≡ (allocator_in ((c.before.before.before.before.before.before.before.before)).args.m.now).left = c.blocks_left-n.ensures.0 in
-    let block : BlockLeft ((c.before.before.before.before.before.before.before.before)).args.image.now ((c.before.before.before.before.before.before.before.before)).args.m.now c.first_frozen-p.result = let f = c.first_frozen-p in record { ready = (began).requires; next = found_first (began).args.m.now f.ensures; some_left = omega (arith, c.if-n-eq0.false, left_is) } in
+overflow_add-result c = let left_is : c.blocks_left-n.result ≡ (allocator_in c.args.m.now).left = c.blocks_left-n.ensures.0 in
+    let block : BlockLeft c.args.image.now c.args.m.now c.first_frozen-p.result = let f = c.first_frozen-p in record { ready = c.requires; next = found_first c.args.m.now f.ensures; some_left = omega (arith, c.if-n-eq0.false, left_is) } in
     let b = block in
     let less = block_less b.ready.runs b.some_left c.lend_allocator.ensures.0 in
     record { fits = omega (arith, c.lend_allocator.ensures.1, less, left_is, c.blocks_left-n.ensures.1) }
 
 pub returns : goal.returns
-returns c = let began : goal.Start = c.before.before.before.before.before.before.before.before in
-    let left_is : c.blocks_left-n.result ≡ (allocator_in ((c.before.before.before.before.before.before.before.before)).args.m.now).left = c.blocks_left-n.ensures.0 in
-    let block : BlockLeft ((c.before.before.before.before.before.before.before.before)).args.image.now ((c.before.before.before.before.before.before.before.before)).args.m.now c.first_frozen-p.result = let f = c.first_frozen-p in record { ready = (began).requires; next = found_first (began).args.m.now f.ensures; some_left = omega (arith, c.if-n-eq0.false, left_is) } in
+returns c = let left_is : c.blocks_left-n.result ≡ (allocator_in c.args.m.now).left = c.blocks_left-n.ensures.0 in
+    let block : BlockLeft c.args.image.now c.args.m.now c.first_frozen-p.result = let f = c.first_frozen-p in record { ready = c.requires; next = found_first c.args.m.now f.ensures; some_left = omega (arith, c.if-n-eq0.false, left_is) } in
     let b = block in
     let e = c.lend_allocator.ensures in
     (e.0, omega (arith, e.1, header_left b.ready.runs b.some_left e.0))
