@@ -1,5 +1,5 @@
 -- `call_forward::repeat` meets its contract, change by change.
-use Rattle.basics.proofs.Kit.{◌≡◌, refl, sym, subst, Bool, true, List, ℕ, needs}
+use Rattle.basics.proofs.Kit.{◌≡◌, refl, sym, subst, Bool, true, List, ℕ, rules}
 use Rattle.model.specs.Transactions.{open_call, insert_call, replace_call, delete_call, commit_call, abort_call}
 use Rattle.model.specs.Calls.{transact, opens, inserts, replaces, deletes, commits, aborts}
 use Rattle.log_records.specs.Records.{opened_by, committedBy, abortedBy, insertedBy, replacedBy, deleted_by}
@@ -12,8 +12,7 @@ use Rattle.call_contracts.specs.Shape.{is_accepted, Answers}
 use Rattle.call_contracts.specs.declared.Answer.{Answer}
 use Rattle.call_forward.specs.Rolling.{OneRepeated}
 use Rattle.call_forward.proofs.Repeated.{one_repeated}
-use Rattle.call_forward.proofs.repeat.Statement.{statement}
-use Rattle.call_forward.proofs.repeat.Tie as tie
+use Rattle.call_forward.proofs.repeat.Goals as goal
 
 -- the change that it is
 of : {m m' : List ℕ} (bs : List ℕ) {ok : Bool} {c d : Change} → c ≡ d → OneRepeated (change_is d bs) m ok m' → OneRepeated (change_is c bs) m ok m'
@@ -50,76 +49,20 @@ module _ (m : List ℕ) (h : holds_store m ≡ true) (r : Answer) {ok : Bool} {m
   unfolding change_is call_of transact
   abort_is tx u e a = one_repeated (abortedBy tx) (aborts tx) refl (abort_call tx) (λ z. refl) m h r (subst (λ n. Answers (abort_call n) m r m') e a) k
 
-returns : tie.Need-returns
-returns c =
-    let p3 = c.before.before.before in let p4 = p3.before in let p7 = p4.before.before.before in let s = p7.before.before.before.before in
-    of _ p7.c.given.1 (open_is s.args.s.now s.requires _ _ c.is-accepted.ensures _ _ p4.wide.ensures p3.«open».ensures)
+pub returns-in-Open : goal.returns-in-Open
+returns-in-Open c = of _ c.in-Open.is (open_is c.args.s.now c.requires _ _ c.is_accepted.ensures _ _ c.wide.ensures c.«open».ensures)
 
-returns-2 : tie.Need-returns-2
-returns-2 c =
-    let p3 = c.before.before.before in let p4 = p3.before in let p5 = p4.before in let p8 = p5.before.before.before in let s = p8.before.before.before.before in
-    of _ p8.c2.given.1 (insert_is s.args.s.now s.requires _ _ c.is-accepted2.ensures _ _ _ _ _ _ p5.wide2.ensures p4.wide3.ensures p3.insert.ensures)
+pub returns-in-Insert : goal.returns-in-Insert
+returns-in-Insert c = of _ c.in-Insert.is (insert_is c.args.s.now c.requires _ _ c.is_accepted-in-Insert.ensures _ _ _ _ _ _ c.wide-in-Insert.ensures c.wide-in-Insert-2.ensures c.insert.ensures)
 
-returns-3 : tie.Need-returns-3
-returns-3 c =
-    let p3 = c.before.before.before in let p4 = p3.before in let p5 = p4.before in let p8 = p5.before.before.before in let s = p8.before.before.before.before in
-    of _ p8.c3.given.1 (replace_is s.args.s.now s.requires _ _ c.is-accepted3.ensures _ _ _ _ _ _ p5.wide4.ensures p4.wide5.ensures p3.replace.ensures)
+pub returns-in-Replace : goal.returns-in-Replace
+returns-in-Replace c = of _ c.in-Replace.is (replace_is c.args.s.now c.requires _ _ c.is_accepted-in-Replace.ensures _ _ _ _ _ _ c.wide-in-Replace.ensures c.wide-in-Replace-2.ensures c.replace.ensures)
 
-returns-4 : tie.Need-returns-4
-returns-4 c =
-    let p3 = c.before.before.before in let p4 = p3.before in let p5 = p4.before in let p8 = p5.before.before.before in let s = p8.before.before.before.before in
-    of _ p8.c4.given.1 (delete_is s.args.s.now s.requires _ _ c.is-accepted4.ensures _ _ _ _ _ p5.wide6.ensures p4.wide7.ensures p3.delete.ensures)
+pub returns-in-Delete : goal.returns-in-Delete
+returns-in-Delete c = of _ c.in-Delete.is (delete_is c.args.s.now c.requires _ _ c.is_accepted-in-Delete.ensures _ _ _ _ _ c.wide-in-Delete.ensures c.wide-in-Delete-2.ensures c.delete.ensures)
 
-returns-5 : tie.Need-returns-5
-returns-5 c =
-    let p3 = c.before.before.before in let p4 = p3.before in let p7 = p4.before.before.before in let s = p7.before.before.before.before in
-    of _ p7.c5.given.1 (commit_is s.args.s.now s.requires _ _ c.is-accepted5.ensures _ _ p4.wide8.ensures p3.commit.ensures)
+pub returns-in-Commit : goal.returns-in-Commit
+returns-in-Commit c = of _ c.in-Commit.is (commit_is c.args.s.now c.requires _ _ c.is_accepted-in-Commit.ensures _ _ c.wide-in-Commit.ensures c.commit.ensures)
 
-returns-6 : tie.Need-returns-6
-returns-6 c =
-    let p3 = c.before.before.before in let p4 = p3.before in let p7 = p4.before.before.before in let s = p7.before.before.before.before in
-    of _ p7.c6.given.1 (abort_is s.args.s.now s.requires _ _ c.is-accepted6.ensures _ _ p4.wide9.ensures p3.abort.ensures)
-
-pub repeat-spec : {M : Type 1} → statement M
-repeat-spec =
-    tie.close
-    (tie.spec
-    (search needs)
-    (λ c κs. search needs)
-    (λ c κs. search needs)
-    (λ c κs. search needs)
-    (search needs)
-    (λ c κs. search needs)
-    (λ c κs. search needs)
-    (λ c κs. search needs)
-    (λ c κs. search needs)
-    (search needs)
-    (λ c κs. search needs)
-    (λ c κs. search needs)
-    (λ c κs. search needs)
-    (λ c κs. search needs)
-    (search needs)
-    (λ c κs. search needs)
-    (λ c κs. search needs)
-    (λ c κs. search needs)
-    (λ c κs. search needs)
-    (search needs)
-    (λ c κs. search needs)
-    (λ c κs. search needs)
-    (λ c κs. search needs)
-    (search needs)
-    (λ c κs. search needs)
-    (λ c κs. search needs)
-    (λ c κs. search needs)
-    (search needs)
-    returns
-    (search needs)
-    returns-2
-    (search needs)
-    returns-3
-    (search needs)
-    returns-4
-    (search needs)
-    returns-5
-    (search needs)
-    returns-6)
+pub returns-in-Abort : goal.returns-in-Abort
+returns-in-Abort c = of _ c.in-Abort.is (abort_is c.args.s.now c.requires _ _ c.is_accepted-in-Abort.ensures _ _ c.wide-in-Abort.ensures c.abort.ensures)
