@@ -26,39 +26,43 @@ sort_unwritten-n-requires c = let has_store : holds_store c.args.m.now ≡ true 
     record { room = holds_room _ has_store; size = refl }
 
 pub slice_bounds-append_begun-end : goal.slice_bounds-append_begun-end
-slice_bounds-append_begun-end c = let put : let p = c.sort_unwritten-n in length (take p.result p.new.out) ≡ p.result = let p = c.sort_unwritten-n in length-take-le p.result p.new.out (omega (arith, p.ensures.0.few, c.numbers-2-1.given)) in
-    sym put
+slice_bounds-append_begun-end c = let p = c.sort_unwritten-n in
+    sym (length-take-le p.result p.new.out (omega (arith, p.ensures.0.few, c.numbers-2-1.given)))
+
+plain : (n : ℕ) → n + 0 ≡ n
+plain n = omega arith
 
 pub append_begun-requires : goal.append_begun-requires
-append_begun-requires c d = let has_store : holds_store c.args.m.now ≡ true = sym c.holds_store.ensures ∙ c.if-not-holds_store.false in
-    let put : let p = c.sort_unwritten-n in length (take p.result p.new.out) ≡ p.result = let p = c.sort_unwritten-n in length-take-le p.result p.new.out (omega (arith, p.ensures.0.few, c.numbers-2-1.given)) in
-    let listed : List ℕ = let p = c.sort_unwritten-n in take p.result p.last.1.0 in
-    let first : goal.Else-not-holds_store = c.before.before.before.before.before.before.before.before.before.before in
-    let args : List ℕ = (start first).args.m.now in
-    let mark_bytes_lem : c.mark_size.result ≡ log_size (mark_of (c.get_head-h.result.level + 1) ((let p = c.sort_unwritten-n in take p.result p.last.1.0))) = c.mark_size.ensures ∙ ap mark_size (sym put) ∙ sym (mark_size_lem (c.get_head-h.result.level + 1) listed) in
-    let has_room_for : c.has_room-room.result ≡ leb ((start ((c.before.before.before.before.before.before.before.before.before.before))).args.end + log_size (mark_of (c.get_head-h.result.level + 1) ((let p = c.sort_unwritten-n in take p.result p.last.1.0)))) (length (start ((c.before.before.before.before.before.before.before.before.before.before))).args.log.now) = c.has_room-room.ensures ∙ ap (λ n. leb ((start first).args.end + n) (length (start first).args.log.now)) (plain c.mark_size.result ∙ mark_bytes_lem) where plain : (n : ℕ) → n + 0 ≡ n plain n = omega arith in
-    let h = c.get_head-h in
-    let w = was_taken begin_call args _ _ _ c.begin_if-a.ensures d in
-    let few : length listed ≤ open_limit = omega (arith, put, c.sort_unwritten-n.ensures.0.few) in
+append_begun-requires c d =
+    let has_store : holds_store c.args.m.now ≡ true = sym c.holds_store.ensures ∙ c.if-not-holds_store.false in
+    let p = c.sort_unwritten-n in
+    let listed : List ℕ = take p.result p.new.out in
+    let put : length listed ≡ p.result = length-take-le p.result p.new.out (omega (arith, p.ensures.0.few, c.numbers-2-1.given)) in
+    let r = mark_of (c.get_head-h.result.level + 1) listed in
+    let bytes : c.mark_size.result ≡ log_size r = c.mark_size.ensures ∙ ap mark_size (sym put) ∙ sym (mark_size_lem (c.get_head-h.result.level + 1) listed) in
+    let fit : c.has_room-room.result ≡ leb (c.args.end + log_size r) (length c.args.log.now) =
+    c.has_room-room.ensures ∙ ap (λ n. leb (c.args.end + n) (length c.args.log.now)) (plain c.mark_size.result ∙ bytes) in
+    let w = was_taken begin_call c.args.m.now _ _ _ c.begin_if-a.ensures d in
+    let few : length listed ≤ open_limit = omega (arith, put, p.ensures.0.few) in
     record {
-      fits = fits args (has_store first) h.result h.ensures listed c.sort_unwritten-n.ensures.0.are w.store w.is w.accepts
-          (omega arith) few c.sort_unwritten-n.ensures.1;
-      room = subst (λ i. (start first).args.end + i ≤ length (start first).args.log.now) (mark_size_lem (h.result.level + 1) listed)
-          (leb-true _ _ (sym has_room_for ∙ w.room_is));
+      fits = fits c.args.m.now has_store c.get_head-h.result c.get_head-h.ensures listed p.ensures.0.are w.store w.is w.accepts (omega arith) few p.ensures.1;
+      room = subst (λ i. c.args.end + i ≤ length c.args.log.now) (mark_size_lem (c.get_head-h.result.level + 1) listed) (leb-true _ _ (sym fit ∙ w.room_is));
     }
 
 pub returns : goal.returns
-returns c = let has_store : holds_store c.args.m.now ≡ true = sym c.holds_store.ensures ∙ c.if-not-holds_store.false in
-    let put : let p = c.sort_unwritten-n in length (take p.result p.new.out) ≡ p.result = let p = c.sort_unwritten-n in length-take-le p.result p.new.out (omega (arith, p.ensures.0.few, c.numbers-2-1.given)) in
-    let listed : List ℕ = let p = c.sort_unwritten-n in take p.result p.last.1.0 in
-    let first : goal.Else-not-holds_store = c.before.before.before.before.before.before.before.before.before.before in
-    let args : List ℕ = (start first).args.m.now in
-    let mark_bytes_lem : c.mark_size.result ≡ log_size (mark_of (c.get_head-h.result.level + 1) ((let p = c.sort_unwritten-n in take p.result p.last.1.0))) = c.mark_size.ensures ∙ ap mark_size (sym put) ∙ sym (mark_size_lem (c.get_head-h.result.level + 1) listed) in
-    let is_mark : (c : goal.After-begin_if-a) (s : Store) → store_in (((start ((c.before.before.before.before.before.before.before.before.before.before))).args.m.now)) ≡ some s → mark_of (c.get_head-h.result.level + 1) ((let p = c.sort_unwritten-n in take p.result p.last.1.0)) ≡ mark_for s = λ s e. mark_is _ (has_store first) _ c.get_head-h.ensures _ c.sort_unwritten-n.ensures.0.are s e in
-    let has_room_for : c.has_room-room.result ≡ leb ((start ((c.before.before.before.before.before.before.before.before.before.before))).args.end + log_size (mark_of (c.get_head-h.result.level + 1) ((let p = c.sort_unwritten-n in take p.result p.last.1.0)))) (length (start ((c.before.before.before.before.before.before.before.before.before.before))).args.log.now) = c.has_room-room.ensures ∙ ap (λ n. leb ((start first).args.end + n) (length (start first).args.log.now)) (plain c.mark_size.result ∙ mark_bytes_lem) where plain : (n : ℕ) → n + 0 ≡ n plain n = omega arith in
+returns c =
+    let has_store : holds_store c.args.m.now ≡ true = sym c.holds_store.ensures ∙ c.if-not-holds_store.false in
+    let p = c.sort_unwritten-n in
+    let listed : List ℕ = take p.result p.new.out in
+    let put : length listed ≡ p.result = length-take-le p.result p.new.out (omega (arith, p.ensures.0.few, c.numbers-2-1.given)) in
     let r = mark_of (c.get_head-h.result.level + 1) listed in
-    logs begin_call mark_for args _ _ _ _ _ _ _ c.begin_if-a.ensures
-    (λ s e. subst (λ x. (c.has_room-room.result ≡ leb ((start first).args.end + log_size x) (length (start first).args.log.now))
-    × Appended c.begin_if-a.result x (start first).args.log.now (start first).args.end c.append_begun.result c.append_begun.new.log)
-    (is_mark s e) (has_room_for, c.append_begun.ensures))
+    let bytes : c.mark_size.result ≡ log_size r = c.mark_size.ensures ∙ ap mark_size (sym put) ∙ sym (mark_size_lem (c.get_head-h.result.level + 1) listed) in
+    let fit : c.has_room-room.result ≡ leb (c.args.end + log_size r) (length c.args.log.now) =
+    c.has_room-room.ensures ∙ ap (λ n. leb (c.args.end + n) (length c.args.log.now)) (plain c.mark_size.result ∙ bytes) in
+    let is_mark : (s : Store) → store_in c.args.m.now ≡ some s → r ≡ mark_for s =
+    λ s e. mark_is _ has_store _ c.get_head-h.ensures _ p.ensures.0.are s e in
+    logs begin_call mark_for c.args.m.now _ _ _ _ _ _ _ c.begin_if-a.ensures
+    (λ s e. subst (λ x. (c.has_room-room.result ≡ leb (c.args.end + log_size x) (length c.args.log.now))
+    × Appended c.begin_if-a.result x c.args.log.now c.args.end c.append_begun.result c.append_begun.new.log)
+    (is_mark s e) (fit, c.append_begun.ensures))
     (λ e. (r, c.append_begun.ensures))
